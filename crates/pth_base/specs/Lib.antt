@@ -1,0 +1,5 @@
+pub mod Program
+pub mod Table
+pub mod Naming
+pub mod Faults
+pub mod InMemory

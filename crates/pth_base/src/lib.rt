@@ -1,0 +1,25 @@
+//! The types and traits that every part of the thread machine speaks of.
+#![tactic(auto)]
+
+pub mod act;
+pub mod answer;
+pub mod attr;
+pub mod bytes;
+pub mod call;
+pub mod errno;
+pub mod event;
+pub mod files;
+pub mod ids;
+pub mod mark;
+pub mod marks;
+pub mod memory;
+pub mod name;
+pub mod outcome;
+pub mod program;
+pub mod query;
+pub mod refusal;
+pub mod sink;
+pub mod source;
+#[cfg(test)]
+mod tests;
+pub mod thread;
