@@ -19,9 +19,11 @@ fn calls_and_answers_are_copied(rt: HostRuntime) -> Result<(), Fail> {
     assert!(rt;
         matches!(&write, Call::Write { f: 4, bytes } if bytes.as_slice() == b"abc".as_slice())
     );
+    let name = "worker";
+    assert!(rt; name.is_ascii());
     let set = Call::AttrSet {
         a: 1,
-        v: AttrValue::Name(Name::cut("worker")),
+        v: AttrValue::Name(Name::cut(name)),
     }
     .copy()?;
     assert!(rt;
@@ -58,9 +60,13 @@ fn calls_and_answers_are_copied(rt: HostRuntime) -> Result<(), Fail> {
 
 #[test]
 fn a_name_is_cut_at_forty_bytes(rt: HostRuntime) {
-    assert_eq!(rt; Name::cut("main").copy().as_str(), "main");
+    let short = "main";
+    assert!(rt; short.is_ascii());
+    assert_eq!(rt; Name::cut(short).copy().as_str(), short);
+    let long = "0123456789.0123456789.0123456789.0123456789";
+    assert!(rt; long.is_ascii());
     assert_eq!(rt;
-        Name::cut("0123456789.0123456789.0123456789.0123456789").as_str(),
+        Name::cut(long).as_str(),
         "0123456789.0123456789.0123456789.0123456"
     );
 }
