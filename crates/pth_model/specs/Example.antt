@@ -1,0 +1,44 @@
+-- One run, computed by the definitions alone: main spawns a thread, yields to it and exits.
+use Rattle.std.specs.Prelude.{ℕ, zero, suc, ◌+◌, pos, ℤ, false, List, [], ◌∷◌, None}
+use Rattle.pth_base.specs.Program.{Functions}
+use Rattle.pth_base.specs.declared.answer.Answer.TheVariants.{Int}
+use Rattle.pth_base.specs.declared.call.Call.{Call}
+use Rattle.pth_base.specs.declared.call.Call.TheVariants.{Spawn, Yield, Exit}
+use Rattle.pth_base.specs.declared.mark.Mark.{Mark}
+use Rattle.pth_base.specs.declared.mark.Mark.TheVariants.{Dispatch, Answered, Ended}
+use Rattle.pth_model.specs.Told.{tid}
+
+-- where a thread stands: its body, and how many lines it has gone
+pub record Place : Type 0 where
+  pub body : ℕ
+  pub gone : ℕ
+
+-- main's lines, and those of the other body
+abbrev pub call_at : ℕ → ℕ → Call
+call_at zero zero = Spawn (pos 1) (pos 9) (pos 0)
+call_at zero (suc zero) = Yield (pos 0)
+call_at zero (suc (suc n)) = Exit (pos 0)
+call_at (suc b) n = Exit (pos 9)
+
+-- the program, whose shared value is nothing of note
+abbrev pub two_bodies : ℕ → Functions Place ℕ
+two_bodies p = record {
+  shared = 0;
+  bodies = 2;
+  start = λ body arg. record { body = body; gone = 0 };
+  step = λ s h answer. record { call = call_at s.body s.gone; state = record s { gone = s.gone + 1 }; shared = h };
+  check = λ check arg h. false;
+  act = λ handler arg index h. record { act = None; shared = h };
+}
+
+-- what its run tells: three turns, the child's end, and main's
+abbrev pub its_marks : List Mark
+its_marks =
+    Dispatch 1 0 (tid 1) (pos 0) 0 0
+    ∷ Answered (tid 1) (Spawn (pos 1) (pos 9) (pos 0)) (Int (pos 2))
+    ∷ Answered (tid 1) (Yield (pos 0)) (Int (pos 1))
+    ∷ Dispatch 2 1 (tid 2) (pos 1) 0 0
+    ∷ Ended (tid 2) (pos 9)
+    ∷ Dispatch 3 2 (tid 1) (pos 1) 0 0
+    ∷ Ended (tid 1) (pos 0)
+    ∷ []

@@ -1,0 +1,13 @@
+pub mod Core
+pub mod Standing
+pub mod State
+pub mod Changes
+pub mod Told
+pub mod Family
+pub mod Rows
+pub mod Ending
+pub mod Waits
+pub mod Pass
+pub mod Part
+pub mod Run
+pub mod Example

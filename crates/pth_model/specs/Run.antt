@@ -1,0 +1,25 @@
+-- Runs.
+use Rattle.std.specs.Prelude.{ℕ, zero, suc, Bool, true, false, nat_le}
+use Rattle.pth_base.specs.Program.{Functions}
+use Rattle.pth_model.specs.State.{State, Given, start}
+use Rattle.pth_model.specs.Told.{Told, still, followed}
+use Rattle.pth_model.specs.Part.{Part, Move, Take, Step, Close, Halt, next_part, part}
+
+-- a run to this number of steps goes no further: a next step would begin, or an outcome ended it
+abbrev pub stops_by : ℕ → ℕ → Part → Bool
+stops_by to steps (Step t) = nat_le to steps
+stops_by to steps Halt = true
+stops_by to steps p = false
+
+module _ {P S H : Type 0} where
+  -- the state and the marks after so many parts
+  unfoldable pub parts : (P → Functions S H) → State P S H → ℕ → Told P S H
+  parts f s zero = still s
+  parts f s (suc i) = followed (parts f s i) (part f (parts f s i).state)
+
+  -- the run of what is given, after so many parts
+  abbrev pub run : (P → Functions S H) → Given P → ℕ → Told P S H
+  run f g i = parts f (start f g) i
+
+  unfoldable pub stops : ℕ → State P S H → Bool
+  stops to s = stops_by to s.rest.scheduler.steps (next_part s)

@@ -1,0 +1,13 @@
+//! A run that the definitions alone compute.
+
+ghost use Rattle.std.specs.Prelude.{◌≡◌, pos};
+ghost use Rattle.pth_base.specs.declared.outcome.Outcome.TheVariants.{Ended};
+ghost use Rattle.pth_model.specs.Example.{two_bodies, its_marks};
+ghost use Rattle.pth_model.specs.Run.{run};
+
+/// By the definitions, a main that spawns a thread, yields to it and exits gives exactly these marks, and the run ends
+/// with main's value after nine parts.
+pub fn two_bodies_run()
+    ensures marks { (run two_bodies (record { program = 0 }) 9).marks ≡ its_marks }
+    ensures outcome { (run two_bodies (record { program = 0 }) 9).state.rest.scheduler.outcome ≡ Ended (pos 0) }
+{}

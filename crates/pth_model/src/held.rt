@@ -1,0 +1,25 @@
+//! A call that suspended its thread.
+
+use pth_base::call::Call;
+use pth_base::ids::Micros;
+
+/// Whether a suspended `pth_cond_await` takes its mutex back, and with which outcome.
+#[derive(Clone, Copy, Debug, PartialEq, Eq)]
+pub enum Retake {
+    No,
+    One,
+    Intr,
+    Cancelled,
+}
+
+/// A suspended call: since when, the moment it waits for, the bytes that it wrote so far, the round of its arrival at a
+/// barrier, and whether it takes its mutex back.
+#[derive(Drop)]
+pub struct Held {
+    pub call: Call,
+    pub begin: Micros,
+    pub moment: Micros,
+    pub written: usize,
+    pub round: u64,
+    pub retake: Retake,
+}

@@ -1,0 +1,7 @@
+//! The threads in the system: a record of each by its slot, and an index from numbers to slots.
+#![tactic(auto)]
+
+pub mod entry;
+#[cfg(test)]
+mod tests;
+pub mod threads;

@@ -1,0 +1,5 @@
+pub mod Slots
+pub mod Standing
+pub mod Places
+pub mod Sound
+pub mod Views

@@ -1,0 +1,32 @@
+-- The slot of a thread in the system.
+use Rattle.std.proofs.Common.{◌≡◌, ◌≢◌, ◌<◌, ℕ, IsSome, Option, Some, None, refl, sym, ◌∙◌, ap}
+use Rattle.pth_threads.specs.Threads.{slot_of, tid_at}
+use Rattle.pth_world.specs.World.{WorldOf}
+use Rattle.pth_world.specs.Standing.{IsSound, IsKnown}
+
+pub some_is : {v w : ℕ} → Some v ≡ Some w → v ≡ w
+some_is h = cc
+
+pub none_some : {w : ℕ} → None ≡ Some w → ⊥
+none_some h = cc
+
+pub is_some_at : {A : Type 0} (o : Option A) (u : A) → o ≡ Some u → IsSome o
+is_some_at o u e = rw e
+
+module _ {P S H : Type 0} (w : WorldOf P S H) (t u : ℕ) (sound : IsSound w) (e : slot_of w.threads t ≡ Some u) where
+  pub name_is : tid_at w.threads u ≡ t
+  name_is = sound.tied.tid t u e
+
+  pub used : tid_at w.threads u ≢ 0
+  used zero = none_some (sym sound.tied.zero ∙ ap (slot_of w.threads) (sym zero ∙ name_is) ∙ e)
+
+  pub low : u < 4096
+  low = sound.tied.low u used
+
+  -- another slot has another thread
+  pub other_slot : (v : ℕ) → tid_at w.threads v ≢ t → v ≢ u
+  other_slot v apart same = apart (ap (tid_at w.threads) same ∙ name_is)
+
+  -- an unused slot is another
+  pub not_unused : (v : ℕ) → tid_at w.threads v ≡ 0 → v ≢ u
+  not_unused v zero same = used (ap (tid_at w.threads) (sym same) ∙ zero)

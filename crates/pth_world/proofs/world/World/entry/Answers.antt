@@ -1,0 +1,9 @@
+use Rattle.std.proofs.Common.{◌≡◌, ◌∙◌, sym, ap}
+use Rattle.pth_world.proofs.Standing.{entry_is, not_known}
+use Rattle.pth_world.proofs.world.World.entry.Goals as goal
+
+pub returns-in-Some-clause-entry : goal.returns-in-Some-clause-entry
+returns-in-Some-clause-entry g c s st = sym (entry_is _ c.args.t.0 c.in-Some.slot.0 c.requires (rw c.threads.ensures at c.in-Some.ensures.slot) s st ∙ (rw c.threads-in-Some.ensures at c.get.ensures.entry))
+
+pub returns-in-None-clause-entry : goal.returns-in-None-clause-entry
+returns-in-None-clause-entry g c s st = not_known _ c.args.t.0 s (rw c.threads.ensures at c.in-None.ensures.slot) st

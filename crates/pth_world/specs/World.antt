@@ -1,0 +1,22 @@
+-- What contracts see of a world: its parts, those of threads by slot.
+use Rattle.std.specs.Prelude.{ℕ, Bool, List, Option}
+use Rattle.pth_base.specs.declared.ids.Tid.{Tid}
+use Rattle.pth_threads.specs.Threads.{ThreadsOf}
+use Rattle.pth_queue.specs.Queues.{QueuesOf}
+use Rattle.pth_model.specs.declared.continuation.Continuation.{Continuation}
+
+-- the number of a thread
+abbrev pub number_of : Tid → ℕ
+number_of t = t.0
+
+pub record WorldOf (P S H : Type 0) : Type 0 where
+  pub program : P
+  pub shared : H
+  pub threads : ThreadsOf
+  pub queues : QueuesOf
+  pub going : List (Option (Continuation S))
+  pub running : Option ℕ
+  pub named : Option ℕ
+  pub favour_new : Bool
+  pub time : ℕ
+  pub clock : ℕ
