@@ -1,5 +1,5 @@
 -- How often a slot stands in a list of rows.
-use Rattle.std.proofs.Common.{◌≡◌, ◌≢◌, ℕ, zero, suc, ◌+◌, ◌<◌, ◌==◌, ◌≤◌, Bool, true, false, not, cond, if◌then◌else◌, ◌||◌, int_lt, List, [], ◌∷◌, length, map, count_by, All, refl, sym, ◌∙◌, ap, inl, inr, arith}
+use Rattle.std.proofs.Common.{◌≡◌, ◌≢◌, ℕ, zero, suc, ◌+◌, ◌<◌, ◌==◌, ◌≤◌, Bool, true, false, not, cond, if◌then◌else◌, ◌||◌, int_lt, List, [], ◌∷◌, length, count_by, All, refl, sym, ◌∙◌, ap, arith}
 use Rattle.std.proofs.lemmas.List.Elements.{All-nil, All-cons, All-head, All-tail}
 use Rattle.pth_base.proofs.Tables.{same_fails}
 use Rattle.std.proofs.lemmas.List.Sums.{sum_by-cons}
@@ -76,3 +76,25 @@ fewer zero (x ∷ xs) all once = absurd (let h : x.who < 0 = All-head (λ r. r.w
 fewer (suc n) xs all once =
     let k : length (delete n xs) ≤ n = fewer n (delete n xs) (low n xs all) (λ s. omega (arith, count-delete_le s n xs, once s)) in
     omega (arith, length-delete n xs, once n)
+
+gone_by : (s : ℕ) (x : Row) (xs : List Row) (b : Bool) → (x.who == s) ≡ b → count_by (is_of s) (delete s xs) ≡ 0 → count_by (is_of s) (cond (not b) (x ∷ delete s xs) (delete s xs)) ≡ 0
+gone_by s x xs true test h = h
+gone_by s x xs false test h = count-cons s x (delete s xs) ∙ rw (test, h)
+
+pub count-delete : (s : ℕ) (xs : List Row) → count_by (is_of s) (delete s xs) ≡ 0
+count-delete s [] = refl
+count-delete s (x ∷ xs) = gone_by s x xs (x.who == s) refl (count-delete s xs)
+
+held_by : (s : ℕ) (xs : List Row) (b : Bool) → holds s xs ≡ b → 1 ≤ count_by (is_of s) xs → b ≡ true
+held_by s xs true h counted = refl
+held_by s xs false h counted = absurd (omega (arith, count-absent s xs h))
+
+pub holds-count : (s : ℕ) (xs : List Row) → 1 ≤ count_by (is_of s) xs → holds s xs ≡ true
+holds-count s xs counted = held_by s xs (holds s xs) refl counted
+
+missed_by : (s : ℕ) (xs : List Row) (b : Bool) → holds s xs ≡ b → count_by (is_of s) xs ≡ 0 → b ≡ false
+missed_by s xs true h none = absurd (let k : 1 ≤ count_by (is_of s) xs = count-present s xs h in omega arith)
+missed_by s xs false h none = refl
+
+pub holds-none : (s : ℕ) (xs : List Row) → count_by (is_of s) xs ≡ 0 → holds s xs ≡ false
+holds-none s xs none = missed_by s xs (holds s xs) refl none

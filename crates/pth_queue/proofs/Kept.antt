@@ -1,12 +1,12 @@
 -- The lines behind a set of queues keep what a set keeps.
-use Rattle.std.proofs.Common.{◌≡◌, ℕ, ◌+◌, ◌<◌, ◌≤◌, ◌^◌, max, ℤ, pos, ◌<ℤ◌, List, length, All, count_by, Option, Some, None, Result, Ok, Err, OnErr, vec_len, vec_capacity, refl, sym, ◌∙◌, ap, subst, arith}
+use Rattle.std.proofs.Common.{◌≡◌, ℕ, ◌<◌, ◌≤◌, ◌^◌, max, ℤ, pos, ◌<ℤ◌, List, length, All, count_by, Some, Result, Ok, Err, OnErr, vec_len, vec_capacity, refl, sym, ◌∙◌, ap, subst, arith}
 use Rattle.pth_queue.specs.declared.queue.Queue.{Queue}
 use Rattle.pth_queue.specs.declared.queue.Queue.TheVariants.{New, Ready, Waiting, Suspended, Dead}
 use Rattle.pth_queue.specs.declared.row.Row.{Row}
 use Rattle.pth_queue.specs.declared.line.Line.{Line}
 use Rattle.pth_queue.specs.declared.lines.Lines.{Lines}
 use Rattle.pth_queue.specs.Rows.{is_of, insert, delete, increase, head_of, place_in}
-use Rattle.pth_queue.specs.Queues.{QueuesOf, rows_of, with_rows, queue_of, IsNowhere, without, entered, Heads, IsRank, CanRise, IsOrdered, IsOrderly}
+use Rattle.pth_queue.specs.Queues.{QueuesOf, rows_of, with_rows, queue_of, IsNowhere, without, Heads, IsRank, CanRise, IsOrderly}
 use Rattle.pth_queue.specs.Lines.{line_of, with_line, queues_of, IsRoomy, IsKept}
 use Rattle.pth_queue.proofs.Counts.{count-present}
 use Rattle.pth_queue.proofs.Orders.{all_can_rise}

@@ -5,3 +5,4 @@ pub mod Sets
 pub mod Kept
 pub mod Names
 pub mod NamedQueues
+pub mod Standing

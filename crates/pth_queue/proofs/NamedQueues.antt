@@ -1,11 +1,11 @@
 -- The five queues under other names.
-use Rattle.std.proofs.Common.{◌≡◌, ◌≢◌, ℕ, ℤ, Bool, if◌then◌else◌, List, map, Option, Some, None, option_map, option_and_then, refl, sym, ◌∙◌, ap}
+use Rattle.std.proofs.Common.{◌≡◌, ◌≢◌, ℕ, ℤ, List, map, Option, Some, None, option_map, option_and_then, refl, sym, ◌∙◌, ap}
 use Rattle.pth_base.specs.Table.{put}
 use Rattle.pth_base.specs.Naming.{IsTied}
 use Rattle.pth_queue.specs.declared.queue.Queue.{Queue}
 use Rattle.pth_queue.specs.declared.queue.Queue.TheVariants.{New, Ready, Waiting, Suspended, Dead}
 use Rattle.pth_queue.specs.declared.row.Row.{Row}
-use Rattle.pth_queue.specs.Rows.{insert, delete, increase, holds, after_in, place_in, named_row, IsQueued}
+use Rattle.pth_queue.specs.Rows.{insert, increase, after_in, place_in, named_row, IsQueued}
 use Rattle.pth_queue.specs.Queues.{QueuesOf, rows_of, with_rows, queue_of, without, entered, after_of, place_of, named_queues, AllQueued}
 use Rattle.pth_queue.proofs.Names.{insert_named, delete_named, increase_named, holds_named, after_named, place_named, IsQueued-insert, IsQueued-delete, IsQueued-increase, named_added, IsQueued-added, named_dropped, IsQueued-dropped}
 

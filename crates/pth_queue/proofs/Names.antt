@@ -1,5 +1,5 @@
 -- A queue does not depend on the names in its rows: here by slot, there by thread.
-use Rattle.std.proofs.Common.{◌≡◌, ◌≢◌, ℕ, ◌+◌, ◌==◌, Bool, true, false, not, cond, if◌then◌else◌, ◌||◌, int_lt, ℤ, List, [], ◌∷◌, map, Option, Some, None, option_map, refl, sym, ◌∙◌, ap}
+use Rattle.std.proofs.Common.{◌≡◌, ◌≢◌, ℕ, ◌==◌, Bool, true, false, not, cond, if◌then◌else◌, ◌||◌, int_lt, ℤ, List, [], ◌∷◌, map, Option, Some, option_map, refl, sym, ◌∙◌, ap}
 use Rattle.pth_base.specs.Table.{put}
 use Rattle.pth_base.specs.Naming.{IsTied}
 use Rattle.pth_base.proofs.Tables.{put_other, same_fails}

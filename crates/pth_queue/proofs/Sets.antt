@@ -1,6 +1,6 @@
 -- The five queues: what a change of one leaves of all.
-use Rattle.std.proofs.Common.{◌≡◌, ℕ, zero, suc, ◌+◌, ◌<◌, ◌≤◌, ◌==◌, Bool, true, false, ◌||◌, cond, if◌then◌else◌, not, ℤ, pos, List, [], ◌∷◌, length, All, count_by, Option, Some, None, option_map, refl, sym, ◌∙◌, ap, subst, arith}
-use Rattle.std.proofs.lemmas.List.Elements.{All-cons, All-nil}
+use Rattle.std.proofs.Common.{◌≡◌, ℕ, suc, ◌+◌, ◌<◌, ◌≤◌, ◌==◌, Bool, true, false, cond, if◌then◌else◌, not, ℤ, pos, List, [], ◌∷◌, length, count_by, Option, Some, None, option_map, refl, sym, ap, subst, arith}
+use Rattle.std.proofs.lemmas.List.Elements.{All-cons}
 use Rattle.pth_base.proofs.Tables.{same_means, same_fails}
 use Rattle.pth_queue.specs.declared.queue.Queue.{Queue}
 use Rattle.pth_queue.specs.declared.queue.Queue.TheVariants.{New, Ready, Waiting, Suspended, Dead}
@@ -9,7 +9,7 @@ use Rattle.pth_queue.specs.Rows.{is_of, insert, delete, increase, holds, head_of
 use Rattle.pth_queue.specs.Queues.{QueuesOf, rows_of, with_rows, queue_of, IsNowhere, without, entered, Heads, IsRank, CanRise, times, IsOrdered, IsOrderly}
 use Rattle.pth_queue.proofs.Counts.{count-cons, count-insert, count-increase, count-delete_le, count-absent, delete-none, fewer}
 use Rattle.pth_queue.proofs.Places.{placed, moved}
-use Rattle.pth_queue.proofs.Orders.{IsOrdered-insert, IsOrdered-delete, IsOrdered-increase, IsOrdered-grown, IsOrdered-nil}
+use Rattle.pth_queue.proofs.Orders.{IsOrdered-insert, IsOrdered-delete, IsOrdered-increase, IsOrdered-grown}
 
 -- other rows in one queue
 pub each_with : (P : List Row → Type 0) (q : Queue) (rows : List Row) (qs : QueuesOf) → P rows → ((p : Queue) → P (rows_of p qs)) → (p : Queue) → P (rows_of p (with_rows q rows qs))

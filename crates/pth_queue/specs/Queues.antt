@@ -74,12 +74,12 @@ place_of s qs = option_and_then (λ q. option_map (λ p. (q, p.0, p.1)) (place_i
 abbrev pub Heads : ℕ → List Row → List Row → Type 0
 Heads s rows later = (rank : ℤ) × (rows ≡ record { rank = rank; who = s } ∷ later)
 
--- a rank that a queue takes
+-- a rank that a queue takes: from -2^40 to 2^40
 pub record IsRank (rank : ℤ) : Type 0 where
   pub low : neg_ℤ (pos (2 ^ 40)) ≤ℤ rank
   pub high : rank ≤ℤ pos (2 ^ 40)
 
--- one more of every rank is a rank still
+-- every rank may rise by one, since the greatest may
 abbrev pub CanRise : List Row → Type 0
 CanRise [] = Unit {0}
 CanRise (x ∷ xs) = x.rank <ℤ pos (2 ^ 40)

@@ -6,3 +6,5 @@ mod lines;
 pub mod queue;
 pub mod queue_set;
 pub mod row;
+#[cfg(test)]
+mod tests;

@@ -58,8 +58,8 @@ impl Line {
         }
     }
 
-    #[tactic(auto, using(crate::proofs::Places::insert_edits))]
     /// How many rows stand before the row of `who`: all of them where there is none.
+    #[tactic(auto, using(crate::proofs::Places::insert_edits))]
     pub fn place(&self, who: u32) -> usize
         ensures value { result ≡ rows_before (is_of who) self.now.rows.items }
         ensures within { result ≤ vec_len self.now.rows }

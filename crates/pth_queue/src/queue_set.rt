@@ -108,14 +108,14 @@ impl QueueSet {
         Some(slot)
     }
 
-    /// The rank at which a thread enters in front of all others, 5 where the queue is empty (`pth_pqueue_favorite_prio`).
+    /// The rank at which a thread enters in front of all others (`pth_pqueue_favorite_prio`).
     pub fn favour_top(&self, q: Queue) -> i64
         ensures { result ≡ favour_top (rows_of q self.now) }
     {
         self.lines.line(q).favour_top()
     }
 
-    /// Raises every rank in a queue by one (`pth_pqueue_increase`).
+    /// Raises every rank in a queue by one (`pth_pqueue_increase`). The head's, and so each, is below 2^40 before.
     pub fn increase(&mut self, q: Queue)
         requires { CanRise (rows_of q self.old) }
         ensures { self.new ≡ with_rows q (increase (rows_of q self.old)) self.old }
