@@ -60,13 +60,9 @@ module _ {P S H : Type 0} (s : State P S H) where
     going = put s.rest.threads.going (s.rest.threads.made + 1) (Some (record { state = (f s.rest.program).start body arg; owed = answer.None; held = None }));
   })
 
-  -- t is in the system no longer
+  -- t is in the system no longer, once it stands in no queue
   unfoldable pub without_thread : ℕ → State P S H
-  without_thread t = with_threads (record s.rest.threads {
-    known = put s.rest.threads.known t None;
-    going = put s.rest.threads.going t None;
-    standing = λ q. left_by t (s.rest.threads.standing q);
-  })
+  without_thread t = with_threads (record s.rest.threads { known = put s.rest.threads.known t None; going = put s.rest.threads.going t None })
 
   abbrev pub running_is : Option ℕ → State P S H
   running_is t = with_scheduler (record s.rest.scheduler { running = t })

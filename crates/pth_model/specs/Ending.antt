@@ -22,9 +22,13 @@ module _ {P S H : Type 0} where
       let a = with_change (with_change (with_change (without_entry s t) t (change.State state.Dead)) t (change.Suspended false)) t (change.Value value) in
       with_entry a t queue.Dead (pos 0) false
 
+  -- the thread is gone
+  unfoldable pub gone : State P S H → ℕ → State P S H
+  gone s t = without_thread (without_entry s t) t
+
   abbrev pub gone_by : State P S H → ℕ → ℤ → Option Entry → State P S H
   gone_by s t value None = s
-  gone_by s t value (Some e) = if e.joinable then dead s t value else without_thread s t
+  gone_by s t value (Some e) = if e.joinable then dead s t value else gone s t
 
   -- its wait is undone
   abbrev pub unheld : State P S H → ℕ → State P S H

@@ -3,3 +3,4 @@ pub mod Standing
 pub mod Places
 pub mod Sound
 pub mod Views
+pub mod Wholes

@@ -5,7 +5,7 @@ use Rattle.pth_base.proofs.Tables.{same_self, not_same, same_means}
 use Rattle.pth_queue.specs.declared.row.Row.{Row}
 use Rattle.pth_queue.specs.declared.queue.Queue.{Queue}
 use Rattle.pth_queue.specs.declared.queue.Queue.TheVariants.{New, Ready, Waiting, Suspended, Dead}
-use Rattle.pth_queue.specs.Rows.{is_of, insert, delete, increase, holds}
+use Rattle.pth_queue.specs.Rows.{is_of, insert, delete, increase, holds, IsQueued}
 use Rattle.pth_queue.specs.Queues.{QueuesOf, rows_of, with_rows, queue_of, without, entered, IsNowhere}
 
 or_swap : (a b c : Bool) → (a || (b || c)) ≡ (b || (a || c))
@@ -119,3 +119,11 @@ room-with Ready rows x = refl
 room-with Waiting rows x = refl
 room-with Suspended rows x = refl
 room-with Dead rows x = refl
+
+-- a slot that is not used stands nowhere
+pub unused-holds : (f : ℕ → ℕ) (u : ℕ) (xs : List Row) → IsQueued f xs → f u ≡ 0 → holds u xs ≡ false
+unused-holds f u [] q zero = refl
+unused-holds f u (x ∷ xs) q zero = rw (not_same x.who u (λ same. q.0 (ap f same ∙ zero)), unused-holds f u xs q.1 zero) refl
+
+pub unused-nowhere : (f : ℕ → ℕ) (u : ℕ) (x : QueuesOf) → ((q : Queue) → IsQueued f (rows_of q x)) → f u ≡ 0 → IsNowhere u x
+unused-nowhere f u x queued zero = queue-nowhere u x (λ q. unused-holds f u (rows_of q x) (queued q) zero)

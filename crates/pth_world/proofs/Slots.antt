@@ -1,8 +1,9 @@
 -- The slot of a thread in the system.
-use Rattle.std.proofs.Common.{◌≡◌, ◌≢◌, ◌<◌, ℕ, IsSome, Option, Some, None, refl, sym, ◌∙◌, ap}
+use Rattle.std.proofs.lemmas.Int.{ints, fits_signed_from_abs}
+use Rattle.std.proofs.Common.{ℤ, SFits, w64, arith, ◌≡◌, ◌≢◌, ◌<◌, ℕ, IsSome, Option, Some, None, refl, sym, ◌∙◌, ap}
 use Rattle.pth_threads.specs.Threads.{slot_of, tid_at}
 use Rattle.pth_world.specs.World.{WorldOf}
-use Rattle.pth_world.specs.Standing.{IsSound, IsKnown}
+use Rattle.pth_world.specs.Standing.{IsSound, IsKnown, IsPrio}
 
 pub some_is : {v w : ℕ} → Some v ≡ Some w → v ≡ w
 some_is h = cc
@@ -12,6 +13,10 @@ none_some h = cc
 
 pub is_some_at : {A : Type 0} (o : Option A) (u : A) → o ≡ Some u → IsSome o
 is_some_at o u e = rw e
+
+-- a base priority is a number of 64 bits
+pub prio_fits : (z : ℤ) → IsPrio z → SFits w64 z
+prio_fits z h = fits_signed_from_abs w64 z (let low = h.low in let high = h.high in grind (arith, ints))
 
 module _ {P S H : Type 0} (w : WorldOf P S H) (t u : ℕ) (sound : IsSound w) (e : slot_of w.threads t ≡ Some u) where
   pub name_is : tid_at w.threads u ≡ t

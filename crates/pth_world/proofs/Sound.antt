@@ -8,7 +8,7 @@ use Rattle.pth_queue.specs.declared.row.Row.{Row}
 use Rattle.pth_queue.specs.declared.queue.Queue.{Queue}
 use Rattle.pth_queue.specs.declared.queue.Queue.TheVariants as queue
 use Rattle.pth_queue.specs.Rows.{IsQueued, insert, delete, increase}
-use Rattle.pth_queue.specs.Queues.{QueuesOf, rows_of, with_rows, without, entered}
+use Rattle.pth_queue.specs.Queues.{QueuesOf, rows_of, with_rows, without, entered, IsNowhere}
 use Rattle.pth_queue.proofs.Names.{IsQueued-insert, IsQueued-delete, IsQueued-increase, IsQueued-added, IsQueued-dropped}
 use Rattle.pth_threads.specs.Threads.{ThreadsOf, slot_of, tid_at, entry_at, tid_of, count, changed, made_of, Changes, Adds, Removes}
 use Rattle.pth_threads.specs.declared.entry.Change.{Change}
@@ -20,12 +20,12 @@ use Rattle.pth_model.specs.State.{number_known}
 use Rattle.pth_model.proofs.Known.{number-new, number-gone, number-change}
 use Rattle.pth_model.proofs.Queues.{rows_here, rows_other, rows_without, is_queue_same}
 use Rattle.pth_model.specs.Standing.{is_queue}
-use Rattle.std.proofs.lemmas.Bool.{cases_Bool}
+use Rattle.std.proofs.lemmas.Bool.{cases_Bool, cases_lt}
 use Rattle.std.proofs.Common.{inl, inr, true, false}
 use Rattle.pth_world.specs.World.{WorldOf}
 use Rattle.pth_world.specs.Standing.{IsSound, IsBare, IsPrio, KeepsPrio}
 use Rattle.pth_world.proofs.Slots.{name_is, used, low, not_unused, is_some_at, none_some, some_is}
-use Rattle.pth_world.proofs.Places.{room-with}
+use Rattle.pth_world.proofs.Places.{room-with, delete-none, nowhere-holds}
 
 changed_prio : (c : Change) (e : Entry) → KeepsPrio c → IsPrio e.prio → IsPrio (changed c e).prio
 unfolding changed
@@ -79,6 +79,10 @@ recorded_dropped {A} f g u r v = let Q : ℕ → Type 0 = λ n. n ≢ 0 → IsSo
 recorded_added : {A : Type 0} (f : ℕ → ℕ) (g : ℕ → Option A) (u t : ℕ) (x : A) → IsRecorded f g → IsRecorded (put f u t) (put g u (Some x))
 recorded_added {A} f g u t x r v = let Q : Option A → Type 0 = λ o. put f u t v ≢ 0 → IsSome o in put_by Q g u (Some x) v (λ same some. refl) (λ apart some. r v (λ zero. some (put_other f u t v apart ∙ zero)))
 
+some_entry : (o : Option Entry) → tid_of o ≢ 0 → (d : Entry) × (o ≡ Some d)
+some_entry (Some d) some = (d, refl)
+some_entry None some = absurd (some refl)
+
 no_next : (n : ℕ) → n + 1 ≡ 0 → ⊥
 no_next n h = omega arith
 
@@ -124,27 +128,34 @@ module _ {P S H : Type 0} (w : WorldOf P S H) (sound : IsSound w) where
     pub leave_sound : (y : QueuesOf) → y ≡ without u w.queues → IsSound (record w { queues = y })
     leave_sound y is = rw is (queues_sound (without u w.queues) refl (λ q. rw (rows_without q u w.queues) (IsQueued-delete f u (rows_of q w.queues) (sound.queued q))))
 
-    pub drop_sound : (x : ThreadsOf) (y : List (Option (Continuation S))) (z : QueuesOf) (d : Entry) → entry_at w.threads u ≡ Some d → t ≤ w.threads.made → Removes w.threads x u → table None y ≡ put (table None w.going) u None → length y ≡ 4096 → z ≡ without u w.queues → IsSound (record w { threads = x; going = y; queues = z })
-    drop_sound x y z d there most gone none long out = record {
+    -- its record
+    pub its_entry : (d : Entry) × (entry_at w.threads u ≡ Some d)
+    unfolding tid_at
+    its_entry = some_entry (entry_at w.threads u) (used w t u sound e)
+
+    most : t ≤ w.threads.made
+    most = elim (cases_lt w.threads.made t) [ inl above ↦ absurd (none_some (sym (sound.fresh t above) ∙ e)) | inr low ↦ low ]
+
+    pub drop_sound : (x : ThreadsOf) (y : List (Option (Continuation S))) → IsNowhere u w.queues → Removes w.threads x u → table None y ≡ put (table None w.going) u None → length y ≡ 4096 → IsSound (record w { threads = x; going = y })
+    drop_sound x y nowhere gone none long = record {
       tied = gone.tied;
       fresh = λ v above. rw gone.slots (let Q : Option ℕ → Type 0 = λ o. o ≡ None in put_by Q (slot_of w.threads) (tid_at w.threads u) None v (λ same. refl) (λ apart. sound.fresh v (subst (λ (n : ℕ). n < v) gone.made above)));
       empty = rw gone.tids (bare_is None (put f u 0) (entry_at x) (put (entry_at w.threads) u None) gone.entries (bare_dropped None f (entry_at w.threads) u sound.empty));
       bare = rw gone.tids (bare_is None (put f u 0) (table None y) (put (table None w.going) u None) none (bare_dropped None f (table None w.going) u sound.bare));
       recorded = rw gone.tids (recorded_is (put f u 0) (table None y) (put (table None w.going) u None) none (recorded_dropped f (table None w.going) u sound.recorded));
-      queued = λ q. rw (gone.tids, out, rows_without q u w.queues) (IsQueued-dropped f u (rows_of q w.queues) (sound.queued q));
-      room = ap (λ (k : QueuesOf). k.room) out ∙ sound.room;
+      queued = λ q. rw gone.tids (subst (IsQueued (put f u 0)) (delete-none u (rows_of q w.queues) (nowhere-holds u w.queues nowhere q)) (IsQueued-dropped f u (rows_of q w.queues) (sound.queued q)));
+      room = sound.room;
       long = long;
       prios = λ v k h. (let Q : Option Entry → Type 0 = λ o. o ≡ Some k → IsPrio k.prio in put_by Q (entry_at w.threads) u None v (λ same no. absurd (cc no)) (λ apart. sound.prios v k)) (ap (λ (o : ℕ → Option Entry). o v) (sym gone.entries) ∙ h);
-      present = let known : seen None (slot_of w.threads) (entry_at w.threads) t ≡ Some d = seen_at None (slot_of w.threads) (entry_at w.threads) t u e ∙ there in
-          let named : tid_at w.threads u ≡ t = name_is w t u sound e in
-          let some : 0 < t = above_zero t (λ zero. used w t u sound e (named ∙ zero)) in
-          let less = number-gone (seen None (slot_of w.threads) (entry_at w.threads)) w.threads.made t d known some most in
-          rw (gone.slots, gone.entries, named, seen_drop None (slot_of w.threads) f (entry_at w.threads) t u sound.tied None e) (subst (λ (n : ℕ). number_known (put (seen None (slot_of w.threads) (entry_at w.threads)) t None) n ≡ count x) (sym gone.made) (same_after (less ∙ sound.present ∙ sym gone.count)));
+      present = let known : seen None (slot_of w.threads) (entry_at w.threads) t ≡ Some its_entry.0 = seen_at None (slot_of w.threads) (entry_at w.threads) t u e ∙ its_entry.1 in
+        let named : tid_at w.threads u ≡ t = name_is w t u sound e in
+        let some : 0 < t = above_zero t (λ zero. used w t u sound e (named ∙ zero)) in
+        let less = number-gone (seen None (slot_of w.threads) (entry_at w.threads)) w.threads.made t its_entry.0 known some most in
+        rw (gone.slots, gone.entries, named, seen_drop None (slot_of w.threads) f (entry_at w.threads) t u sound.tied None e) (subst (λ (n : ℕ). number_known (put (seen None (slot_of w.threads) (entry_at w.threads)) t None) n ≡ count x) (sym gone.made) (same_after (less ∙ sound.present ∙ sym gone.count)));
     }
       where
         above_zero : (n : ℕ) → n ≢ 0 → 0 < n
         above_zero n h = omega arith
-
         same_after : {m n : ℕ} → m + 1 ≡ n + 1 → m ≡ n
         same_after h = omega arith
 

@@ -11,7 +11,7 @@ use Rattle.pth_queue.specs.declared.row.Row.{Row}
 use Rattle.pth_queue.specs.declared.queue.Queue.{Queue}
 use Rattle.pth_queue.specs.declared.queue.Queue.TheVariants as queue
 use Rattle.pth_queue.specs.Rows.{named_row, IsQueued, insert, delete, increase}
-use Rattle.pth_queue.specs.Queues.{QueuesOf, rows_of, with_rows, without, entered}
+use Rattle.pth_queue.specs.Queues.{QueuesOf, rows_of, with_rows, without, entered, IsNowhere}
 use Rattle.pth_queue.proofs.Names.{insert_named, delete_named, increase_named, named_added, named_dropped}
 use Rattle.pth_threads.specs.Threads.{ThreadsOf, slot_of, tid_at, entry_at, changed, made_of, Changes, Adds, Removes}
 use Rattle.pth_threads.specs.declared.entry.Change.{Change}
@@ -25,6 +25,7 @@ use Rattle.pth_model.proofs.Queues.{is_queue_same, rows_here, rows_other, rows_w
 use Rattle.pth_world.specs.World.{WorldOf}
 use Rattle.pth_world.specs.Standing.{StandsFor, StandsForThreads, StandsForScheduler, IsSound}
 use Rattle.pth_world.proofs.Slots.{name_is, used}
+use Rattle.pth_world.proofs.Places.{delete-none, nowhere-holds}
 
 module _ {P S H : Type 0} (w : WorldOf P S H) where
   abbrev f : ℕ → ℕ
@@ -133,22 +134,21 @@ module _ {P S H : Type 0} (w : WorldOf P S H) where
     pub entry_is : (s : State P S H) → StandsFor w s → s.rest.threads.known t ≡ entry_at w.threads u
     entry_is s st = ap (λ (k : ℕ → Option Entry). k t) st.threads.known ∙ seen_at None g (entry_at w.threads) t u e
 
-    -- the thread is gone
-    pub drop_stands : (x : ThreadsOf) (y : List (Option (Continuation S))) (z : QueuesOf) (s : State P S H) → Removes w.threads x u → table None y ≡ put (table None w.going) u None → z ≡ without u w.queues → StandsFor w s → StandsFor (record w { threads = x; going = y; queues = z }) (without_thread s t)
-    unfolding without_thread without_entry
-    drop_stands x y z s gone none out st = record {
+    -- the thread is gone, once it stands nowhere
+    pub drop_stands : (x : ThreadsOf) (y : List (Option (Continuation S))) (s : State P S H) → IsNowhere u w.queues → Removes w.threads x u → table None y ≡ put (table None w.going) u None → StandsFor w s → StandsFor (record w { threads = x; going = y }) (without_thread s t)
+    unfolding without_thread
+    drop_stands x y s nowhere gone none st = record {
       program = st.program;
       shared = st.shared;
       threads = record {
         made = st.threads.made ∙ sym gone.made;
         known = rw (st.threads.known, gone.slots, gone.entries, name_is w t u sound e) (sym (seen_drop None g f (entry_at w.threads) t u sound.tied None e));
         going = rw (st.threads.going, gone.slots, none, name_is w t u sound e) (sym (seen_drop None g f (table None w.going) t u sound.tied None e));
-        standing = λ q. rw (out, gone.tids) (
-            queue-leave s t q
-            ∙ ap (delete t) (st.threads.standing q)
-            ∙ sym (delete_named g f t u (rows_of q w.queues) sound.tied e (sound.queued q))
-            ∙ sym (named_dropped f u (rows_of q w.queues))
-            ∙ ap (map (named_row (put f u 0))) (sym (rows_without q u w.queues)));
+        standing = λ q. rw gone.tids (
+          st.threads.standing q
+          ∙ ap (map (named_row f)) (sym (delete-none u (rows_of q w.queues) (nowhere-holds u w.queues nowhere q)))
+          ∙ sym (named_dropped f u (rows_of q w.queues))
+          ∙ ap (map (named_row (put f u 0))) (delete-none u (rows_of q w.queues) (nowhere-holds u w.queues nowhere q)));
       };
       scheduler = record { running = st.scheduler.running; named = st.scheduler.named; favour_new = st.scheduler.favour_new; time = st.scheduler.time; clock = st.scheduler.clock };
     }
@@ -157,6 +157,10 @@ module _ {P S H : Type 0} (w : WorldOf P S H) where
   pub not_known : (t : ℕ) (s : State P S H) → slot_of w.threads t ≡ None → StandsFor w s → None ≡ s.rest.threads.known t
   unfolding seen
   not_known t s none st = sym (ap (λ (k : ℕ → Option Entry). k t) st.threads.known ∙ ap (by_slot None (entry_at w.threads)) none)
+
+  pub no_going : (t : ℕ) (s : State P S H) → slot_of w.threads t ≡ None → StandsFor w s → None ≡ s.rest.threads.going t
+  unfolding seen
+  no_going t s none st = sym (ap (λ (k : ℕ → Option (Continuation S)). k t) st.threads.going ∙ ap (by_slot None (table None w.going)) none)
 
   -- the ready queue is raised
   raise_rows : (s : State P S H) → StandsFor w s → (q : Queue) → queue (raised s) q ≡ map (named_row f) (rows_of q (with_rows queue.Ready (increase w.queues.ready) w.queues))

@@ -8,7 +8,7 @@ use Rattle.pth_queue.specs.declared.queue.Queue.{Queue}
 use Rattle.pth_queue.specs.declared.queue.Queue.TheVariants as queue
 use Rattle.pth_queue.specs.Rows.{increase}
 use Rattle.pth_queue.specs.Queues.{QueuesOf, queue_of, with_rows, without, entered, IsNowhere}
-use Rattle.pth_threads.specs.Threads.{ThreadsOf, slot_of, tid_at, entry_at, changed, Changes}
+use Rattle.pth_threads.specs.Threads.{ThreadsOf, slot_of, tid_at, entry_at, changed, Changes, Removes}
 use Rattle.pth_threads.specs.declared.entry.Change.{Change}
 use Rattle.pth_threads.specs.declared.entry.Entry.{Entry}
 use Rattle.pth_model.specs.declared.continuation.Continuation.{Continuation}
@@ -73,3 +73,10 @@ module _ {P S H : Type 0} (w : WorldOf P S H) (sound : IsSound w) (t u : ℕ) (e
 -- a raise moves nobody
 pub raise_views : {P S H : Type 0} (w : WorldOf P S H) (y : QueuesOf) → y ≡ with_rows queue.Ready (increase w.queues.ready) w.queues → (u : ℕ) → view (record w { queues = y }) u ≡ view w u
 raise_views w y is u = ap (λ (q : Option Queue). record (view w u) { place = q }) (ap (queue_of u) is ∙ queue-raised u w.queues)
+
+-- a thread that is gone leaves the others as they were
+pub drop_views : {P S H : Type 0} (w : WorldOf P S H) (x : ThreadsOf) (y : List (Option (Continuation S))) (u : ℕ) → Removes w.threads x u → table None y ≡ put (table None w.going) u None → (i : ℕ) → i ≢ u → view (record w { threads = x; going = y }) i ≡ view w i
+drop_views {S = S} w x y u gone none i apart =
+    let entry : entry_at x i ≡ entry_at w.threads i = ap (λ (k : ℕ → Option Entry). k i) gone.entries ∙ put_other (entry_at w.threads) u None i apart in
+    let held : held_by (table None y i) ≡ held_by (table None w.going i) = ap held_by (ap (λ (k : ℕ → Option (Continuation S)). k i) none ∙ put_other (table None w.going) u None i apart) in
+    rw (entry, held) refl

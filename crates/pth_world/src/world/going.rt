@@ -68,4 +68,47 @@ impl<P: Program> World<P> {
         let slot = self.slot(t);
         self.going_mut().take_owed(slot)
     }
+
+    /// The call that suspends a thread; none where no call does.
+    pub fn held(&self, t: Tid) -> Option<&Held>
+        requires { IsSound self.now }
+        ensures { (s : State P P.State P.Shared) → StandsFor self.now s → option_copied result ≡ held_of s t.0 }
+    {
+        match self.threads().find(t) {
+            Some(slot) => match self.going().get(slot) {
+                Some(c) => c.held.as_ref(),
+                None => None,
+            },
+            None => None,
+        }
+    }
+
+    // The program's step at this state.
+    fn step(&mut self, state: &mut P::State, answer: &Answer) -> Result<Call, OutOfMemory>
+        ensures step { IfOk result (λ call. record { call = call; state = state.new; shared = self.new.shared } ≡ (P.functions self.old.program).step state.old self.old.shared answer.now) }
+        ensures same { OnOk result (self.new ≡ record self.old { shared = self.new.shared }) }
+    {
+        self.program
+            .step(self.alloc, state, &mut self.shared, answer)
+    }
+
+    /// The program's step for a thread, with the answer of its last call: its next call. After an error the world may only
+    /// be dropped.
+    pub fn next_call(&mut self, t: Tid, answer: &Answer) -> Result<Call, OutOfMemory>
+        requires sound { IsSound self.old }
+        requires known { IsKnown self.old t.0 }
+        ensures call { IfOk result (λ call. (s : State P P.State P.Shared) → StandsFor self.old s → call ≡ (called P.functions s t.0 answer.now).call) }
+        ensures stands { OnOk result ((s : State P P.State P.Shared) → StandsFor self.old s → StandsFor self.new (called P.functions s t.0 answer.now).state) }
+        ensures sound { OnOk result (IsSound self.new) }
+        ensures touches { OnOk result (Touches self.old self.new t.0 same_view) }
+        ensures same { OnOk result (self.new ≡ record self.old { going = self.new.going; shared = self.new.shared }) }
+    {
+        let slot = self.slot(t);
+        let Some(mut c) = self.going_mut().take(slot) else {
+            unreachable!()
+        };
+        let call = self.step(&mut c.state, answer)?;
+        self.going_mut().set(slot, Some(c));
+        Ok(call)
+    }
 }

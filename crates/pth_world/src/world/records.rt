@@ -2,10 +2,13 @@
 
 ghost use Rattle.std.specs.Prelude.{◌≡◌, ◌≢◌, ◌<◌, ◌+◌, ◌↔◌, ℕ, Bool, false, Option, Some, None, IfSome, IfOk, OnOk, OnErr, IsErrOf, option_copied, pos};
 ghost use Rattle.pth_queue.specs.declared.queue.Queue.TheVariants as queue;
-ghost use Rattle.pth_threads.specs.Threads.{slot_of, count, IsCountable};
+ghost use Rattle.pth_queue.specs.Queues.{IsNowhere, IsRank, entered};
+ghost use Rattle.pth_base.specs.declared.thread.ThreadState.TheVariants as state;
+ghost use Rattle.pth_threads.specs.declared.entry.Change.TheVariants as change;
+ghost use Rattle.pth_threads.specs.Threads.{slot_of, tid_at, count, IsCountable, IsSame, Removes};
 ghost use Rattle.pth_model.specs.State.{State, start, present};
-ghost use Rattle.pth_model.specs.Changes.{with_change, with_entry, with_thread, without_thread};
-ghost use Rattle.pth_world.specs.Standing.{StandsFor, IsSound, IsKnown, IsPrio, KeepsPrio, Whole, Touches, SameThreads, changes};
+ghost use Rattle.pth_model.specs.Changes.{with_change, with_entry, with_thread, without_entry, without_thread};
+ghost use Rattle.pth_world.specs.Standing.{StandsFor, IsSound, IsKnown, IsPrio, KeepsPrio, Whole, Touches, SameThreads, changes, places, view};
 
 use crate::continuations::Continuations;
 use crate::world::World;
@@ -40,5 +43,82 @@ impl<P: Program> World<P> {
     {
         let slot = self.slot(t);
         self.threads_mut().change(slot, c);
+    }
+
+    /// Takes a thread out of the system, with its place and all that it goes on with.
+    pub fn drop_thread(&mut self, t: Tid)
+        requires sound { IsSound self.old }
+        requires known { IsKnown self.old t.0 }
+        ensures stands { (s : State P P.State P.Shared) → StandsFor self.old s → StandsFor self.new (without_thread (without_entry s t.0) t.0) }
+        ensures sound { IsSound self.new }
+        ensures others { (u : ℕ) → tid_at self.old.threads u ≢ t.0 → view self.new u ≡ view self.old u }
+        ensures threads { IfSome (slot_of self.old.threads t.0) (λ u. Removes self.old.threads self.new.threads u) }
+        ensures same { self.new ≡ record self.old { threads = self.new.threads; queues = self.new.queues; going = self.new.going } }
+    {
+        let slot = self.slot(t);
+        self.take_out(t);
+        self.going_mut().set(slot, None);
+        self.threads_mut().remove(slot);
+    }
+
+    // The first state of a thread.
+    fn start(&self, body: BodyId, arg: i64) -> Result<P::State, OutOfMemory>
+        requires { body.0 < (P.functions self.now.program).bodies }
+        ensures { IfOk result (λ state. state ≡ (P.functions self.now.program).start body.0 arg) }
+    {
+        self.program.start(self.alloc, body, arg)
+    }
+
+    /// A new thread of this body, with this argument and these values, which enters the new queue at its base priority.
+    /// A refused call changes nothing.
+    pub fn spawn(&mut self, body: BodyId, arg: i64, of: NewThread) -> Result<Tid, AddErr>
+        requires whole { Whole self.old }
+        requires bodies { body.0 < (P.functions self.old.program).bodies }
+        requires prio { IsPrio of.prio }
+        requires few { self.old.threads.made < 2147483648 }
+        ensures tid { IfOk result (λ t. t.0 ≡ self.old.threads.made + 1) }
+        ensures made { OnOk result (self.new.threads.made ≡ self.old.threads.made + 1) }
+        ensures stands { IfOk result (λ t. (s : State P P.State P.Shared) → StandsFor self.old s → StandsFor self.new (with_entry (with_thread s P.functions body.0 arg of) t.0 queue.New of.prio false)) }
+        ensures whole { OnOk result (Whole self.new) }
+        ensures others { OnOk result ((t : ℕ) → IsKnown self.old t → IsKnown self.new t) }
+        ensures same { OnOk result (self.new ≡ record self.old { threads = self.new.threads; queues = self.new.queues; going = self.new.going }) }
+        ensures too_many { IsErrOf result AddErr.TooMany ↔ (count self.old.threads ≡ 4096) }
+        ensures refused { OnErr result ((s : State P P.State P.Shared) → StandsFor self.old s → StandsFor self.new s) }
+        ensures whole_still { OnErr result (Whole self.new) }
+        ensures still { OnErr result (self.new ≡ record self.old { threads = self.new.threads } × IsSame self.old.threads self.new.threads) }
+    {
+        if self.threads().count() == MOST {
+            return Err(AddErr::TooMany);
+        }
+        let state = self.start(body, arg)?;
+        let prio = of.prio;
+        let (t, slot) = self.threads_mut().add(of)?;
+        self.going_mut().set(
+            slot,
+            Some(Continuation {
+                state,
+                owed: Answer::None,
+                held: None,
+            }),
+        );
+        self.queues_mut().insert(Queue::New, prio, slot);
+        Ok(t)
+    }
+
+    /// Makes a thread ready, and puts it into the ready queue at a rank.
+    pub fn put_ready(&mut self, t: Tid, rank: i64)
+        requires sound { IsSound self.old }
+        requires known { IsKnown self.old t.0 }
+        requires nowhere { IfSome (slot_of self.old.threads t.0) (λ u. IsNowhere u self.old.queues) }
+        requires rank { IsRank rank }
+        ensures stands { (s : State P P.State P.Shared) (top : Bool) → StandsFor self.old s → StandsFor self.new (with_entry (with_change s t.0 (change.State state.Ready)) t.0 queue.Ready rank top) }
+        ensures sound { IsSound self.new }
+        ensures touches { Touches self.old self.new t.0 (λ v. places (Some queue.Ready) (changes (change.State state.Ready) v)) }
+        ensures threads { SameThreads self.old self.new }
+        ensures queues { IfSome (slot_of self.old.threads t.0) (λ u. self.new.queues ≡ entered queue.Ready rank u self.old.queues) }
+        ensures same { self.new ≡ record self.old { threads = self.new.threads; queues = self.new.queues } }
+    {
+        self.change(t, Change::State(ThreadState::Ready));
+        self.put_in(t, Queue::Ready, rank);
     }
 }
