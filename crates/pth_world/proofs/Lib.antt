@@ -4,3 +4,4 @@ pub mod Places
 pub mod Sound
 pub mod Views
 pub mod Wholes
+pub mod Starts

@@ -148,14 +148,15 @@ module _ {P S H : Type 0} (w : WorldOf P S H) (sound : IsSound w) where
       long = long;
       prios = λ v k h. (let Q : Option Entry → Type 0 = λ o. o ≡ Some k → IsPrio k.prio in put_by Q (entry_at w.threads) u None v (λ same no. absurd (cc no)) (λ apart. sound.prios v k)) (ap (λ (o : ℕ → Option Entry). o v) (sym gone.entries) ∙ h);
       present = let known : seen None (slot_of w.threads) (entry_at w.threads) t ≡ Some its_entry.0 = seen_at None (slot_of w.threads) (entry_at w.threads) t u e ∙ its_entry.1 in
-        let named : tid_at w.threads u ≡ t = name_is w t u sound e in
-        let some : 0 < t = above_zero t (λ zero. used w t u sound e (named ∙ zero)) in
-        let less = number-gone (seen None (slot_of w.threads) (entry_at w.threads)) w.threads.made t its_entry.0 known some most in
-        rw (gone.slots, gone.entries, named, seen_drop None (slot_of w.threads) f (entry_at w.threads) t u sound.tied None e) (subst (λ (n : ℕ). number_known (put (seen None (slot_of w.threads) (entry_at w.threads)) t None) n ≡ count x) (sym gone.made) (same_after (less ∙ sound.present ∙ sym gone.count)));
+          let named : tid_at w.threads u ≡ t = name_is w t u sound e in
+          let some : 0 < t = above_zero t (λ zero. used w t u sound e (named ∙ zero)) in
+          let less = number-gone (seen None (slot_of w.threads) (entry_at w.threads)) w.threads.made t its_entry.0 known some most in
+          rw (gone.slots, gone.entries, named, seen_drop None (slot_of w.threads) f (entry_at w.threads) t u sound.tied None e) (subst (λ (n : ℕ). number_known (put (seen None (slot_of w.threads) (entry_at w.threads)) t None) n ≡ count x) (sym gone.made) (same_after (less ∙ sound.present ∙ sym gone.count)));
     }
       where
         above_zero : (n : ℕ) → n ≢ 0 → 0 < n
         above_zero n h = omega arith
+
         same_after : {m n : ℕ} → m + 1 ≡ n + 1 → m ≡ n
         same_after h = omega arith
 

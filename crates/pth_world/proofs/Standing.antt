@@ -145,10 +145,10 @@ module _ {P S H : Type 0} (w : WorldOf P S H) where
         known = rw (st.threads.known, gone.slots, gone.entries, name_is w t u sound e) (sym (seen_drop None g f (entry_at w.threads) t u sound.tied None e));
         going = rw (st.threads.going, gone.slots, none, name_is w t u sound e) (sym (seen_drop None g f (table None w.going) t u sound.tied None e));
         standing = λ q. rw gone.tids (
-          st.threads.standing q
-          ∙ ap (map (named_row f)) (sym (delete-none u (rows_of q w.queues) (nowhere-holds u w.queues nowhere q)))
-          ∙ sym (named_dropped f u (rows_of q w.queues))
-          ∙ ap (map (named_row (put f u 0))) (delete-none u (rows_of q w.queues) (nowhere-holds u w.queues nowhere q)));
+            st.threads.standing q
+            ∙ ap (map (named_row f)) (sym (delete-none u (rows_of q w.queues) (nowhere-holds u w.queues nowhere q)))
+            ∙ sym (named_dropped f u (rows_of q w.queues))
+            ∙ ap (map (named_row (put f u 0))) (delete-none u (rows_of q w.queues) (nowhere-holds u w.queues nowhere q)));
       };
       scheduler = record { running = st.scheduler.running; named = st.scheduler.named; favour_new = st.scheduler.favour_new; time = st.scheduler.time; clock = st.scheduler.clock };
     }

@@ -1,13 +1,18 @@
 -- What contracts see of a world: its parts, those of threads by slot.
-use Rattle.std.specs.Prelude.{ℕ, Bool, List, Option}
+use Rattle.std.specs.Prelude.{ℕ, pos, codes, Bool, true, List, Option}
 use Rattle.pth_base.specs.declared.ids.Tid.{Tid}
 use Rattle.pth_threads.specs.Threads.{ThreadsOf}
+use Rattle.pth_threads.specs.declared.entry.NewThread.{NewThread}
 use Rattle.pth_queue.specs.Queues.{QueuesOf}
 use Rattle.pth_model.specs.declared.continuation.Continuation.{Continuation}
 
 -- the number of a thread
 abbrev pub number_of : Tid → ℕ
 number_of t = t.0
+
+-- what the main thread is given
+abbrev pub first_thread : NewThread
+first_thread = record { prio = pos 0; name = codes "main"; joinable = true; cancel = 1 }
 
 pub record WorldOf (P S H : Type 0) : Type 0 where
   pub program : P

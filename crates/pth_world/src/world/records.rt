@@ -8,6 +8,7 @@ ghost use Rattle.pth_threads.specs.declared.entry.Change.TheVariants as change;
 ghost use Rattle.pth_threads.specs.Threads.{slot_of, tid_at, count, IsCountable, IsSame, Removes};
 ghost use Rattle.pth_model.specs.State.{State, start, present};
 ghost use Rattle.pth_model.specs.Changes.{with_change, with_entry, with_thread, without_entry, without_thread};
+ghost use Rattle.pth_world.specs.World.{first_thread};
 ghost use Rattle.pth_world.specs.Standing.{StandsFor, IsSound, IsKnown, IsPrio, KeepsPrio, Whole, Touches, SameThreads, changes, places, view};
 
 use crate::continuations::Continuations;
@@ -28,7 +29,62 @@ use std::alloc::Global;
 /// How many threads there may be at once.
 const MOST: u32 = 4096;
 
+// What the main thread is given.
+fn main_thread() -> NewThread
+    ensures { result ≡ first_thread }
+{
+    NewThread {
+        prio: 0,
+        name: Name::cut("main"),
+        joinable: true,
+        cancel: 1,
+    }
+}
+
 impl<P: Program> World<P> {
+    /// The main thread alone, ready at rank 0 (`pth_init`).
+    pub fn new(alloc: Global, program: P) -> Result<World<P>, OutOfMemory>
+        ensures stands { IfOk result (λ w. StandsFor w (start P.functions (record { program = program }))) }
+        ensures whole { IfOk result (λ w. Whole w) }
+        ensures one { IfOk result (λ w. w.threads.made ≡ 1) }
+    {
+        let shared = program.shared(alloc)?;
+        let _some = program.bodies();
+        let state = program.start(alloc, BodyId(0), 0)?;
+        let mut queues = QueueSet::new(alloc);
+        queues.reserve(MOST)?;
+        let mut threads = Threads::new(alloc);
+        let (_main, slot) = match threads.add(main_thread()) {
+            Ok(added) => added,
+            Err(AddErr::OutOfMemory) => return Err(OutOfMemory),
+            Err(AddErr::TooMany) => unreachable!(),
+        };
+        threads.change(slot, Change::State(ThreadState::Ready));
+        queues.insert(Queue::Ready, 0, slot);
+        let mut going = Continuations::new(alloc)?;
+        going.set(
+            slot,
+            Some(Continuation {
+                state,
+                owed: Answer::None,
+                held: None,
+            }),
+        );
+        Ok(World {
+            alloc,
+            program,
+            shared,
+            threads,
+            queues,
+            going,
+            running: None,
+            named: None,
+            favour_new: true,
+            time: 0,
+            clock: 1,
+        })
+    }
+
     /// Sets one field of a thread's record. A changed priority counts from the next entry into a queue.
     pub fn change(&mut self, t: Tid, c: Change)
         requires sound { IsSound self.old }
