@@ -1,5 +1,5 @@
 -- One part of a run: time moves, a thread is taken, it makes a step, or its turn is closed.
-use Rattle.std.specs.Prelude.{ℕ, suc, ◌+◌, ◌^◌, ◌==◌, ◌&&◌, min, ℤ, pos, Bool, true, false, List, [], ◌∷◌, reverse, Option, Some, None, is_some, if◌then◌else◌}
+use Rattle.std.specs.Prelude.{ℕ, suc, ◌+◌, ◌^◌, ◌==◌, ◌&&◌, min, ℤ, pos, Bool, true, false, List, [], ◌∷◌, reverse, Option, Some, None, if◌then◌else◌}
 use Rattle.pth_base.specs.Program.{Functions}
 use Rattle.pth_base.specs.declared.answer.Answer.{Answer}
 use Rattle.pth_base.specs.declared.answer.Answer.TheVariants as answer
@@ -96,13 +96,20 @@ module _ {P S H : Type 0} where
   all_readied [] s = s
   all_readied (t ∷ ts) s = all_readied ts (new_readied s t)
 
-  -- t runs
+  -- t runs: it stands nowhere, its dispatches are one more, and nobody is named
+  unfoldable pub runs : State P S H → ℕ → State P S H
+  runs s t =
+      let a = with_change (without_entry s t) t (change.State state.Running) in
+      let b = with_change a t (change.Dispatches (min (dispatches_by (s.rest.threads.known t) + 1) last_count)) in
+      naming (running_is b (Some t)) None
+
+  abbrev pub turned : State P S H → State P S H
+  turned s = with_scheduler s (record s.rest.scheduler { turns = s.rest.scheduler.turns + 1 })
+
   unfoldable pub dispatched : State P S H → ℕ → Told P S H
   dispatched s t =
-      let a = without_entry s t in
-      let b = with_change (with_change a t (change.State state.Running)) t (change.Dispatches (min (dispatches_by (s.rest.threads.known t) + 1) last_count)) in
       tells (Dispatch (s.rest.scheduler.turns + 1) s.rest.scheduler.now (tid t) (rank_by (place_in t (queue s queue.Ready))) 0 0)
-      (with_scheduler b (record s.rest.scheduler { running = Some t; named = None; turns = s.rest.scheduler.turns + 1 }))
+      (turned (runs s t))
 
   abbrev pub dispatched_by : State P S H → Option ℕ → Told P S H
   dispatched_by s None = still s
@@ -157,19 +164,22 @@ module _ {P S H : Type 0} where
   unfoldable pub put_waiting : State P S H → ℕ → State P S H
   put_waiting s t = with_entry (with_change s t (change.State state.Waiting)) t queue.Waiting (prio_of s t) false
 
-  -- by: does it still run, and does a call suspend it
-  abbrev pub placed_by : State P S H → ℕ → Bool → Option Held → State P S H
-  placed_by s t false h = s
-  placed_by s t true (Some h) = put_waiting s t
-  placed_by s t true None = put_back s t
+  -- one that has ended is not put back; else by: does a call suspend it
+  abbrev pub placed_by : State P S H → ℕ → Option ℕ → Option Held → State P S H
+  placed_by s t None h = s
+  placed_by s t (Some r) (Some h) = put_waiting s t
+  placed_by s t (Some r) None = put_back s t
 
+  -- the thread that gave up control is put back, unless it has ended
   unfoldable pub placed : State P S H → ℕ → State P S H
-  placed s t = placed_by s t (is_some s.rest.scheduler.running) (held_of s t)
+  placed s t = running_is (placed_by s t s.rest.scheduler.running (held_of s t)) None
+
+  -- the turn is over, and time goes on
+  abbrev pub closing : State P S H → State P S H
+  closing s = with_scheduler s (record s.rest.scheduler { gave = None; now = min (s.rest.scheduler.now + s.rest.scheduler.clock) last_moment })
 
   unfoldable pub closed : State P S H → ℕ → Told P S H
-  closed s t =
-      let a = placed (raised s) t in
-      pass (with_scheduler a (record a.rest.scheduler { running = None; gave = None; now = min (a.rest.scheduler.now + a.rest.scheduler.clock) last_moment }))
+  closed s t = pass (closing (placed (raised s) t))
 
   -- nothing is new or ready; a suspended thread stands in no queue of its state
   abbrev pub is_idle : State P S H → Bool

@@ -5,3 +5,5 @@ pub mod Sound
 pub mod Views
 pub mod Wholes
 pub mod Starts
+pub mod Moves
+pub mod Schedules

@@ -177,7 +177,7 @@ module _ {P S H : Type 0} (f : P → Functions S H) (program : P) (t0 t1 t2 : Th
   view_main = view_by _ _ (record { entry = Some main_entry; place = Some queue.Ready; held = None }) entry_main (ap (queue_of u) enters ∙ queue-entered u (pos 0) (record no_queues { room = 4096 }) queue.Ready nowhere) _ (ap held_by (ap (λ (k : ℕ → Option (Continuation S)). k u) has ∙ put_here (table None y0) u _))
 
   fits_main : FitsEntry None (Some main_entry) (Some queue.Ready) None
-  fits_main = record { placed = refl; runs = λ is. absurd (cc is); named = λ is. absurd (cc is); calls = tt }
+  fits_main = record { placed = refl; runs = λ is. absurd (cc is); named = λ is. absurd (cc is); awake = λ is. absurd (cc is); calls = tt }
 
   fits_at : (i : ℕ) (b : Bool) → (i == u) ≡ b → Fits None (view w3 i)
   fits_at i true is = subst (λ (k : View). Fits None k) (sym (ap (view w3) (same_means i u is) ∙ view_main)) fits_main

@@ -103,7 +103,7 @@ module _ {P S H : Type 0} (w : WorldOf P S H) (whole : Whole w) (x : ThreadsOf) 
 
   fits_new : FitsEntry w.running (Some (made_of of t)) (Some queue.New) None
   unfolding made_of
-  fits_new = record { placed = refl; runs = λ is. absurd (not_new is); named = λ is. absurd (cc is); calls = tt }
+  fits_new = record { placed = refl; runs = λ is. absurd (not_new is); named = λ is. absurd (cc is); awake = λ is. absurd (cc is); calls = tt }
 
   fits_at : (i : ℕ) (b : Bool) → (i == u) ≡ b → Fits w.running (view (record w { threads = x; going = y; queues = z }) i)
   fits_at i true is = subst (λ (k : View). Fits w.running k) (sym (ap (view (record w { threads = x; going = y; queues = z })) (same_means i u is) ∙ view_new)) fits_new

@@ -105,12 +105,19 @@ abbrev pub MaySuspend : ℕ → Call → Type 0
 MaySuspend t (call.Exit v) = t ≡ 1
 MaySuspend t c = ⊥
 
+-- only a new, ready or waiting thread may be suspended
+abbrev pub CanSuspend : ThreadState → Type 0
+CanSuspend state.Running = ⊥
+CanSuspend state.Dead = ⊥
+CanSuspend s = Unit {0}
+
 -- what holds of each thread in the system: it stands in exactly the queue of its state, the thread that runs is the one
 -- that is running, and its suspended call is one that may suspend it
 pub record IsFitting (running : Option ℕ) (e : Entry) (place : Option Queue) (held : Option Held) : Type 0 where
   pub placed : place ≡ place_for e.state e.suspended
   pub runs : running ≡ Some e.tid.0 → e.state ≡ state.Running
   pub named : e.state ≡ state.Running → running ≡ Some e.tid.0
+  pub awake : e.suspended ≡ true → CanSuspend e.state
   pub calls : IfSome held (λ h. MaySuspend e.tid.0 h.call)
 
 abbrev pub FitsEntry : Option ℕ → Option Entry → Option Queue → Option Held → Type 0
@@ -159,3 +166,25 @@ pub record SameThreads {P S H : Type 0} (old new : WorldOf P S H) : Type 0 where
   pub slots : slot_of new.threads ≡ slot_of old.threads
   pub tids : tid_at new.threads ≡ tid_at old.threads
   pub made : new.threads.made ≡ old.threads.made
+
+-- nobody but t runs
+abbrev pub IsAbout : Option ℕ → ℕ → Type 0
+IsAbout running t = (r : ℕ) → running ≡ Some r → r ≡ t
+
+-- the thread is in the system and stands in this queue
+abbrev pub IsIn : {P S H : Type 0} → Queue → WorldOf P S H → ℕ → Type 0
+IsIn q w t = IfSome (slot_of w.threads t) (λ u. queue_of u w.queues ≡ Some q)
+
+-- the queues in which a thread waits to be ready
+pub data IsBefore : Queue → Type 0 where
+  Newly : IsBefore queue.New
+  Waiting : IsBefore queue.Waiting
+
+-- what a change of threads leaves as it was
+pub record KeepsScheduler {P S H : Type 0} (old new : WorldOf P S H) : Type 0 where
+  pub program : new.program ≡ old.program
+  pub running : new.running ≡ old.running
+  pub named : new.named ≡ old.named
+  pub favour_new : new.favour_new ≡ old.favour_new
+  pub time : new.time ≡ old.time
+  pub clock : new.clock ≡ old.clock

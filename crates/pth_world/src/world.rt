@@ -7,9 +7,13 @@ ghost use Rattle.pth_threads.specs.contracts.threads.Threads.{the_row as threads
 ghost use Rattle.pth_threads.specs.Threads.{slot_of, tid_at};
 ghost use Rattle.pth_world.specs.contracts.continuations.Continuations.{the_row as continuations_row};
 ghost use Rattle.pth_world.specs.contracts.world.World.{the_row};
-ghost use Rattle.pth_world.specs.Standing.{IsKnown};
+ghost use Rattle.pth_model.specs.State.{State};
+ghost use Rattle.pth_model.specs.Changes.{running_is, naming};
+ghost use Rattle.pth_model.specs.Part.{at_moment};
+ghost use Rattle.pth_world.specs.Standing.{StandsFor, IsSound, Whole, IsKnown};
 
 mod going;
+mod moves;
 mod places;
 mod reads;
 mod records;
@@ -131,7 +135,9 @@ impl<P: Program> World<P> {
 
     /// Sets the thread that runs.
     pub fn set_running(&mut self, t: Option<Tid>)
-        ensures { self.new ≡ record self.old { running = option_map number_of t } }
+        ensures same { self.new ≡ record self.old { running = option_map number_of t } }
+        ensures stands { (s : State P P.State P.Shared) → StandsFor self.old s → StandsFor self.new (running_is s (option_map number_of t)) }
+        ensures sound { IsSound self.old → IsSound self.new }
     {
         self.running = t;
     }
@@ -145,7 +151,10 @@ impl<P: Program> World<P> {
 
     /// Names the thread that is taken next.
     pub fn name_next(&mut self, t: Option<Tid>)
-        ensures { self.new ≡ record self.old { named = option_map number_of t } }
+        ensures same { self.new ≡ record self.old { named = option_map number_of t } }
+        ensures stands { (s : State P P.State P.Shared) → StandsFor self.old s → StandsFor self.new (naming s (option_map number_of t)) }
+        ensures sound { IsSound self.old → IsSound self.new }
+        ensures whole { Whole self.old → Whole self.new }
     {
         self.named = t;
     }
@@ -180,7 +189,9 @@ impl<P: Program> World<P> {
 
     /// Sets the moment.
     pub fn set_time(&mut self, time: Micros)
-        ensures { self.new ≡ record self.old { time = time } }
+        ensures same { self.new ≡ record self.old { time = time } }
+        ensures stands { (s : State P P.State P.Shared) → StandsFor self.old s → StandsFor self.new (at_moment s time) }
+        ensures whole { Whole self.old → Whole self.new }
     {
         self.time = time;
     }

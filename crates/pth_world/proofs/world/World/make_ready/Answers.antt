@@ -1,0 +1,14 @@
+use Rattle.std.proofs.Common.{ap, rules, SFits, w64, to_z-of_z}
+use Rattle.pth_model.specs.Pass.{readied}
+use Rattle.pth_world.specs.World.{WorldOf}
+use Rattle.pth_world.proofs.Moves.{make_ready_whole}
+use Rattle.pth_world.proofs.world.World.make_ready.Goals as goal
+
+pub returns-clause-stands : goal.returns-clause-stands
+unfolding readied
+returns-clause-stands g c s top st =
+    let f : SFits w64 c.args.rank = search rules in
+    (rw to_z-of_z at c.put_ready.ensures.stands) _ top (c.take_out.ensures.stands s st)
+
+pub returns-clause-whole : goal.returns-clause-whole
+returns-clause-whole g c = make_ready_whole c.args.self.now c.take_out.new.self c.put_ready.new.self c.args.t.0 c.args.from c.requires.whole c.requires.known c.requires.before c.requires.stands c.take_out.ensures.touches c.take_out.ensures.same c.put_ready.ensures.touches c.put_ready.ensures.threads (ap (λ (k : WorldOf _ _ _). k.running) c.put_ready.ensures.same) c.put_ready.ensures.sound

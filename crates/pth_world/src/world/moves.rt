@@ -1,0 +1,115 @@
+//! The moves of a thread between its states, each with its queue.
+
+ghost use Rattle.std.specs.Prelude.{◌≡◌, ◌≢◌, ◌+◌, ℕ, ℤ, Bool, Option, Some, None, IfSome, min, false};
+ghost use Rattle.pth_base.specs.declared.thread.ThreadState.TheVariants as state;
+ghost use Rattle.pth_queue.specs.Queues.{IsRank, entered, without};
+ghost use Rattle.pth_queue.specs.declared.queue.Queue.TheVariants as queue;
+ghost use Rattle.pth_threads.specs.Threads.{slot_of};
+ghost use Rattle.pth_threads.specs.declared.entry.Change.TheVariants as change;
+ghost use Rattle.pth_model.specs.State.{State};
+ghost use Rattle.pth_model.specs.Changes.{running_is};
+ghost use Rattle.pth_model.specs.Pass.{readied, prio_of};
+ghost use Rattle.pth_model.specs.Part.{put_back, put_waiting, runs, last_count};
+ghost use Rattle.pth_world.specs.Standing.{StandsFor, Whole, IsSound, IsPrio, IsKnown, IsIn, IsBefore, SameThreads, KeepsScheduler};
+
+use crate::world::World;
+use pth_base::ids::Tid;
+use pth_base::program::Program;
+use pth_base::thread::ThreadState;
+use pth_queue::queue::Queue;
+use pth_threads::entry::Change;
+
+/// Where a count of dispatches stands still.
+const LAST_COUNT: u64 = 9_223_372_036_854_775_807;
+
+impl<P: Program> World<P> {
+    /// A thread that is new or waits is ready, at a rank.
+    pub fn make_ready(&mut self, t: Tid, from: Queue, rank: i64)
+        requires whole { Whole self.old }
+        requires known { IsKnown self.old t.0 }
+        requires before { IsBefore from }
+        requires stands { IsIn from self.old t.0 }
+        requires rank { IsRank rank }
+        ensures stands { (s : State P P.State P.Shared) (top : Bool) → StandsFor self.old s → StandsFor self.new (readied s t.0 rank top) }
+        ensures whole { Whole self.new }
+        ensures threads { SameThreads self.old self.new }
+        ensures scheduler { KeepsScheduler self.old self.new }
+        ensures queues { IfSome (slot_of self.old.threads t.0) (λ u. self.new.queues ≡ entered queue.Ready rank u (without u self.old.queues)) }
+    {
+        let _ = from;
+        self.take_out(t);
+        self.put_ready(t, rank);
+    }
+
+    /// A ready thread is dispatched: it runs, its dispatches are one more, and nobody is named any longer.
+    pub fn dispatch(&mut self, t: Tid)
+        requires whole { Whole self.old }
+        requires known { IsKnown self.old t.0 }
+        requires stands { IsIn queue.Ready self.old t.0 }
+        requires nobody { self.old.running ≡ None }
+        ensures stands { (s : State P P.State P.Shared) → StandsFor self.old s → StandsFor self.new (runs s t.0) }
+        ensures whole { Whole self.new }
+        ensures threads { SameThreads self.old self.new }
+        ensures queues { IfSome (slot_of self.old.threads t.0) (λ u. self.new.queues ≡ without u self.old.queues) }
+        ensures same { self.new ≡ record self.old { threads = self.new.threads; queues = self.new.queues; running = Some t.0; named = None } }
+    {
+        self.take_out(t);
+        let dispatches = match self.entry(t) {
+            Some(entry) => entry.dispatches,
+            None => unreachable!(),
+        };
+        self.change(t, Change::State(ThreadState::Running));
+        self.change(t, Change::Dispatches(one_more(dispatches)));
+        self.set_running(Some(t));
+        self.name_next(None);
+    }
+
+    // The base priority of a thread.
+    fn prio(&self, t: Tid) -> i64
+        requires sound { IsSound self.now }
+        requires known { IsKnown self.now t.0 }
+        ensures prio { (s : State P P.State P.Shared) → StandsFor self.now s → result ≡ prio_of s t.0 }
+        ensures low { IsPrio result }
+    {
+        let slot = self.slot(t);
+        self.threads().get(slot).prio
+    }
+
+    /// The thread that runs is ready again, at its base priority.
+    pub fn put_back(&mut self, t: Tid)
+        requires whole { Whole self.old }
+        requires runs { self.old.running ≡ Some t.0 }
+        ensures stands { (s : State P P.State P.Shared) → StandsFor self.old s → StandsFor self.new (running_is (put_back s t.0) None) }
+        ensures whole { Whole self.new }
+        ensures threads { SameThreads self.old self.new }
+        ensures queues { IfSome (slot_of self.old.threads t.0) (λ u. (prio : ℤ) × IsPrio prio × (self.new.queues ≡ entered queue.Ready prio u self.old.queues)) }
+        ensures same { self.new ≡ record self.old { threads = self.new.threads; queues = self.new.queues; running = None } }
+    {
+        let prio = self.prio(t);
+        self.set_running(None);
+        self.put_ready(t, prio);
+    }
+
+    /// The thread that runs waits, at its base priority.
+    pub fn put_waiting(&mut self, t: Tid)
+        requires whole { Whole self.old }
+        requires runs { self.old.running ≡ Some t.0 }
+        ensures stands { (s : State P P.State P.Shared) → StandsFor self.old s → StandsFor self.new (running_is (put_waiting s t.0) None) }
+        ensures whole { Whole self.new }
+        ensures threads { SameThreads self.old self.new }
+        ensures queues { IfSome (slot_of self.old.threads t.0) (λ u. (prio : ℤ) × IsPrio prio × (self.new.queues ≡ entered queue.Waiting prio u self.old.queues)) }
+        ensures same { self.new ≡ record self.old { threads = self.new.threads; queues = self.new.queues; running = None } }
+    {
+        let prio = self.prio(t);
+        self.set_running(None);
+        self.change(t, Change::State(ThreadState::Waiting));
+        self.put_in(t, Queue::Waiting, prio);
+    }
+}
+
+// One more, up to where a count of dispatches stands still.
+fn one_more(n: u64) -> u64
+    ensures { result ≡ min (n + 1) last_count }
+{
+    n.saturating_add(1).min(LAST_COUNT)
+}
