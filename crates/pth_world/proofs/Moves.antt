@@ -1,17 +1,17 @@
 -- Moves of a thread between its states keep a world whole.
-use Rattle.std.proofs.Common.{◌≡◌, ◌≢◌, ◌==◌, ℕ, Bool, true, false, IsSome, IfSome, Option, Some, None, option_map, ◌⊎◌, inl, inr, refl, sym, ◌∙◌, ap, subst}
+use Rattle.std.proofs.Common.{◌≡◌, ◌≢◌, ◌==◌, ℕ, ℤ, Bool, true, false, IsSome, IfSome, Option, Some, None, option_map, ◌⊎◌, inl, inr, refl, sym, ◌∙◌, ap, subst}
 use Rattle.pth_base.specs.declared.thread.ThreadState.{ThreadState}
 use Rattle.pth_base.specs.declared.thread.ThreadState.TheVariants as state
-use Rattle.pth_base.proofs.Tables.{same_means, same_fails}
+use Rattle.pth_base.proofs.Tables.{put_here, same_means, same_fails}
 use Rattle.pth_queue.specs.declared.queue.Queue.{Queue}
 use Rattle.pth_queue.specs.declared.queue.Queue.TheVariants as queue
 use Rattle.pth_queue.specs.Queues.{queue_of, IsNowhere}
-use Rattle.pth_threads.specs.Threads.{slot_of, tid_at, tid_of, entry_at, changed}
+use Rattle.pth_threads.specs.Threads.{slot_of, tid_at, tid_of, entry_at, changed, Removes}
 use Rattle.pth_threads.specs.declared.entry.Entry.{Entry}
 use Rattle.pth_threads.specs.declared.entry.Change.TheVariants as change
 use Rattle.pth_model.specs.declared.held.Held.{Held}
 use Rattle.pth_world.specs.World.{WorldOf}
-use Rattle.pth_world.specs.Standing.{IsSound, IsKnown, View, view, Touches, Fits, FitsEntry, IsFitting, Whole, IsRunner, IsIn, IsBefore, SameThreads, Newly, Waiting, IsAbout, CanSuspend, changes, places, same_view, place_for, queue_for}
+use Rattle.pth_world.specs.Standing.{IsSound, IsKnown, View, view, Touches, Fits, FitsEntry, IsFitting, Whole, IsRunner, IsIn, IsBefore, SameThreads, Newly, Waiting, IsAbout, CanSuspend, MaySuspend, changes, places, holding, same_view, place_for, queue_for}
 use Rattle.pth_world.proofs.Slots.{name_is, used, some_is, none_some}
 
 -- one change of a thread after another
@@ -214,8 +214,8 @@ runs_whole w v t n whole known stands nobody runs sound slots touches =
     let own : FitsEntry (Some t) (option_map (changed (change.Dispatches n)) (option_map (changed (change.State state.Running)) (entry_at w.threads slot.0))) None (view w slot.0).held
     = runs_by t n (entry_at w.threads slot.0) _ _ (is_in w queue.Ready t slot.0 stands slot.1) (name_is w t slot.0 whole.sound slot.1) (subst (λ (r : Option ℕ). Fits r (view w slot.0)) nobody (whole.fits slot.0)) in
     whole_from w v t slot.0 _ whole slot.1 touches (fits_same (Some t) v.running _ runs own)
-      (λ i apart f. rerun_others w v.running t (about_none t w.running nobody) (about_some t v.running runs) i apart f)
-      sound (subst (λ (o : Option ℕ). IfSome o (IsKnown v)) (sym runs) (rw slots known))
+    (λ i apart f. rerun_others w v.running t (about_none t w.running nobody) (about_some t v.running runs) i apart f)
+    sound (subst (λ (o : Option ℕ). IfSome o (IsKnown v)) (sym runs) (rw slots known))
 
 pub run_alone : {P S H : Type 0} (w m : WorldOf P S H) (r : Option ℕ) → m ≡ record w { running = r } → SameThreads w m
 run_alone w m r same = record { slots = ap (λ (k : WorldOf _ _ _). slot_of k.threads) same; tids = ap (λ (k : WorldOf _ _ _). tid_at k.threads) same; made = ap (λ (k : WorldOf _ _ _). k.threads.made) same }
@@ -231,3 +231,61 @@ runner_nowhere w t whole is =
 -- a thread that stood nowhere stands nowhere in the same queues
 pub nowhere_after : {P S H : Type 0} (w m : WorldOf P S H) (t : ℕ) → SameThreads w m → m.queues ≡ w.queues → IfSome (slot_of w.threads t) (λ u. IsNowhere u w.queues) → IfSome (slot_of m.threads t) (λ u. IsNowhere u m.queues)
 nowhere_after w m t same queues h = rw (same.slots, queues) h
+
+-- a change of what a thread goes on with, which leaves it fitting
+pub going_whole : {P S H : Type 0} (w v : WorldOf P S H) (t u : ℕ) (g : View → View) → Whole w → slot_of w.threads t ≡ Some u → Touches w v t g → IsSound v → slot_of v.threads ≡ slot_of w.threads → v.running ≡ w.running → ((r : Option ℕ) → Fits r (view w u) → Fits r (g (view w u))) → Whole v
+going_whole w v t u g whole e touches sound slots running fits =
+    whole_from w v t u g whole e touches (fits_same w.running v.running (g (view w u)) running (fits w.running (whole.fits u)))
+    (λ i apart f. fits_same w.running v.running (view w i) running f)
+    sound (runner_kept w v slots running whole.runner)
+
+held_by_entry : (r : Option ℕ) (o : Option Entry) (p : Option Queue) (h k : Option Held) → ((e : Entry) → o ≡ Some e → IfSome k (λ c. MaySuspend e.tid.0 c.call)) → FitsEntry r o p h → FitsEntry r o p k
+held_by_entry r None p h k calls f = tt
+held_by_entry r (Some e) p h k calls f = record { placed = f.placed; runs = f.runs; named = f.named; awake = f.awake; calls = calls e refl }
+
+-- no call suspends it
+pub unheld_fits : (r : Option ℕ) (v : View) → Fits r v → Fits r (holding None v)
+unheld_fits r v f = held_by_entry r v.entry v.place v.held None (λ e is. tt) f
+
+tid_of_some : (o : Option Entry) (e : Entry) → o ≡ Some e → tid_of o ≡ e.tid.0
+tid_of_some o e is = ap tid_of is
+
+-- a call that may suspend it does
+pub held_fits : {P S H : Type 0} (w : WorldOf P S H) (t u : ℕ) → IsSound w → slot_of w.threads t ≡ Some u → (h : Held) → MaySuspend t h.call → (r : Option ℕ) → Fits r (view w u) → Fits r (holding (Some h) (view w u))
+unfolding tid_at
+held_fits w t u sound e h may r f = held_by_entry r (entry_at w.threads u) _ _ (Some h) (λ d is. subst (λ (n : ℕ). MaySuspend n h.call) (sym (name_is w t u sound e) ∙ tid_of_some (entry_at w.threads u) d is) may) f
+
+-- it is dead
+dead_by : (n : ℤ) (r : Option ℕ) (o : Option Entry) (p : Option Queue) (h : Option Held) → FitsEntry r o p h → FitsEntry None (option_map (changed (change.Value n)) (option_map (changed (change.Suspended false)) (option_map (changed (change.State state.Dead)) o))) (Some queue.Dead) h
+unfolding changed
+dead_by n r None p h f = tt
+dead_by n r (Some e) p h f = record { placed = refl; runs = λ is. absurd (cc is); named = λ is. absurd (cc is); awake = λ is. absurd (cc is); calls = f.calls }
+
+pub dead_whole : {P S H : Type 0} (w v : WorldOf P S H) (t : ℕ) (n : ℤ) (whole : Whole w) (is : w.running ≡ Some t) (rests : v.running ≡ None) (sound : IsSound v) → Touches w v t (λ k. places (Some queue.Dead) (changes (change.Value n) (changes (change.Suspended false) (changes (change.State state.Dead) (places None k))))) → Whole v
+dead_whole w v t n whole is rests sound touches =
+    let slot = known_slot (slot_of w.threads t) (runner_known w t whole is) in
+    whole_from w v t slot.0 _ whole slot.1 touches
+    (fits_same None v.running _ rests (dead_by n w.running (view w slot.0).entry (view w slot.0).place (view w slot.0).held (whole.fits slot.0)))
+    (λ i apart f. rerun_others w v.running t (about_some t w.running is) (about_none t v.running rests) i apart f)
+    sound (subst (λ (o : Option ℕ). IfSome o (IsKnown v)) (sym rests) tt)
+
+-- it is gone
+module _ {P S H : Type 0} (w m v : WorldOf P S H) (t u : ℕ) (whole : Whole w) (is : w.running ≡ Some t) (e : slot_of w.threads t ≡ Some u) (others : (i : ℕ) → tid_at w.threads i ≢ t → view m i ≡ view w i) (gone : Removes w.threads m.threads u) (rests : v ≡ record m { running = None }) where
+  running_v : v.running ≡ None
+  running_v = ap (λ (k : WorldOf P S H). k.running) rests
+
+  view_v : (i : ℕ) → view v i ≡ view m i
+  view_v i = ap (λ (k : WorldOf P S H). view k i) rests
+
+  none_at : entry_at m.threads u ≡ None
+  none_at = ap (λ (k : ℕ → Option Entry). k u) gone.entries ∙ put_here (entry_at w.threads) u None
+
+  gone_fits : (i : ℕ) (b : Bool) → (tid_at w.threads i == t) ≡ b → Fits v.running (view v i)
+  gone_fits i true same =
+      let at : i ≡ u = some_is (sym (whole.sound.tied.slot i (λ zero. used w t u whole.sound e (name_is w t u whole.sound e ∙ sym (same_means _ t same) ∙ zero))) ∙ ap (slot_of w.threads) (same_means _ t same) ∙ e) in
+      let none : entry_at m.threads i ≡ None = ap (entry_at m.threads) at ∙ none_at in
+      subst (λ (k : View). Fits v.running k) (sym (view_v i)) (subst (λ (o : Option Entry). FitsEntry v.running o (view m i).place (view m i).held) (sym none) tt)
+  gone_fits i false apart = subst (λ (k : View). Fits v.running k) (sym (view_v i ∙ others i (same_fails _ t apart))) (rerun_others w v.running t (about_some t w.running is) (about_none t v.running running_v) i (same_fails _ t apart) (whole.fits i))
+
+  pub gone_whole : IsSound v → Whole v
+  gone_whole sound = record { sound = sound; fits = λ i. gone_fits i (tid_at w.threads i == t) refl; runner = subst (λ (o : Option ℕ). IfSome o (IsKnown v)) (sym running_v) tt }

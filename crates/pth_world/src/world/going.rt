@@ -4,7 +4,7 @@ ghost use Rattle.std.specs.Prelude.{◌≡◌, ℕ, Option, Some, None, IfOk, On
 ghost use Rattle.pth_base.specs.declared.answer.Answer.{Answer as AnswerOf};
 ghost use Rattle.pth_model.specs.State.{State};
 ghost use Rattle.pth_model.specs.Changes.{with_going, with_held, with_owed, held_of, owed_to, called};
-ghost use Rattle.pth_world.specs.Standing.{StandsFor, IsSound, IsKnown, Touches, holding, same_view};
+ghost use Rattle.pth_world.specs.Standing.{StandsFor, IsSound, IsKnown, Whole, Touches, MaySuspend, holding, same_view};
 
 use crate::world::World;
 use pth_base::answer::Answer;
@@ -22,6 +22,7 @@ impl<P: Program> World<P> {
         ensures stands { (s : State P P.State P.Shared) → StandsFor self.old s → StandsFor self.new (with_going s t.0 (with_held (Some h))) }
         ensures sound { IsSound self.new }
         ensures touches { Touches self.old self.new t.0 (holding (Some h)) }
+        ensures whole { Whole self.old → MaySuspend t.0 h.call → Whole self.new }
         ensures same { self.new ≡ record self.old { going = self.new.going } }
     {
         let slot = self.slot(t);
@@ -36,6 +37,7 @@ impl<P: Program> World<P> {
         ensures stands { (s : State P P.State P.Shared) → StandsFor self.old s → StandsFor self.new (with_going s t.0 (with_held None)) }
         ensures sound { IsSound self.new }
         ensures touches { Touches self.old self.new t.0 (holding None) }
+        ensures whole { Whole self.old → Whole self.new }
         ensures same { self.new ≡ record self.old { going = self.new.going } }
     {
         let slot = self.slot(t);
@@ -49,6 +51,7 @@ impl<P: Program> World<P> {
         ensures stands { (s : State P P.State P.Shared) → StandsFor self.old s → StandsFor self.new (with_going s t.0 (with_owed a)) }
         ensures sound { IsSound self.new }
         ensures touches { Touches self.old self.new t.0 same_view }
+        ensures whole { Whole self.old → Whole self.new }
         ensures same { self.new ≡ record self.old { going = self.new.going } }
     {
         let slot = self.slot(t);
@@ -63,6 +66,7 @@ impl<P: Program> World<P> {
         ensures stands { (s : State P P.State P.Shared) → StandsFor self.old s → StandsFor self.new (with_going s t.0 (with_owed AnswerOf.None)) }
         ensures sound { IsSound self.new }
         ensures touches { Touches self.old self.new t.0 same_view }
+        ensures whole { Whole self.old → Whole self.new }
         ensures same { self.new ≡ record self.old { going = self.new.going } }
     {
         let slot = self.slot(t);
@@ -101,6 +105,7 @@ impl<P: Program> World<P> {
         ensures stands { OnOk result ((s : State P P.State P.Shared) → StandsFor self.old s → StandsFor self.new (called P.functions s t.0 answer.now).state) }
         ensures sound { OnOk result (IsSound self.new) }
         ensures touches { OnOk result (Touches self.old self.new t.0 same_view) }
+        ensures whole { OnOk result (Whole self.old → Whole self.new) }
         ensures same { OnOk result (self.new ≡ record self.old { going = self.new.going; shared = self.new.shared }) }
     {
         let slot = self.slot(t);

@@ -1,6 +1,6 @@
 //! The moves of a thread between its states, each with its queue.
 
-ghost use Rattle.std.specs.Prelude.{◌≡◌, ◌≢◌, ◌+◌, ℕ, ℤ, Bool, Option, Some, None, IfSome, min, false};
+ghost use Rattle.std.specs.Prelude.{◌≡◌, ◌≢◌, ◌+◌, ℕ, ℤ, pos, Bool, Option, Some, None, IfSome, min, false};
 ghost use Rattle.pth_base.specs.declared.thread.ThreadState.TheVariants as state;
 ghost use Rattle.pth_queue.specs.Queues.{IsRank, entered, without};
 ghost use Rattle.pth_queue.specs.declared.queue.Queue.TheVariants as queue;
@@ -8,6 +8,7 @@ ghost use Rattle.pth_threads.specs.Threads.{slot_of};
 ghost use Rattle.pth_threads.specs.declared.entry.Change.TheVariants as change;
 ghost use Rattle.pth_model.specs.State.{State};
 ghost use Rattle.pth_model.specs.Changes.{running_is};
+ghost use Rattle.pth_model.specs.Ending.{dead, gone};
 ghost use Rattle.pth_model.specs.Pass.{readied, prio_of};
 ghost use Rattle.pth_model.specs.Part.{put_back, put_waiting, runs, last_count};
 ghost use Rattle.pth_world.specs.Standing.{StandsFor, Whole, IsSound, IsPrio, IsKnown, IsIn, IsBefore, SameThreads, KeepsScheduler};
@@ -104,6 +105,38 @@ impl<P: Program> World<P> {
         self.set_running(None);
         self.change(t, Change::State(ThreadState::Waiting));
         self.put_in(t, Queue::Waiting, prio);
+    }
+
+    /// The thread that runs is dead, and keeps a value until it is joined.
+    pub fn make_dead(&mut self, t: Tid, value: i64)
+        requires whole { Whole self.old }
+        requires runs { self.old.running ≡ Some t.0 }
+        ensures stands { (s : State P P.State P.Shared) → StandsFor self.old s → StandsFor self.new (running_is (dead s t.0 value) None) }
+        ensures whole { Whole self.new }
+        ensures threads { SameThreads self.old self.new }
+        ensures queues { IfSome (slot_of self.old.threads t.0) (λ u. self.new.queues ≡ entered queue.Dead (pos 0) u (without u self.old.queues)) }
+        ensures same { self.new ≡ record self.old { threads = self.new.threads; queues = self.new.queues; running = None } }
+    {
+        self.take_out(t);
+        self.change(t, Change::State(ThreadState::Dead));
+        self.change(t, Change::Suspended(false));
+        self.change(t, Change::Value(value));
+        self.put_in(t, Queue::Dead, 0);
+        self.set_running(None);
+    }
+
+    /// The thread that runs is gone.
+    pub fn make_gone(&mut self, t: Tid)
+        requires whole { Whole self.old }
+        requires runs { self.old.running ≡ Some t.0 }
+        ensures stands { (s : State P P.State P.Shared) → StandsFor self.old s → StandsFor self.new (running_is (gone s t.0) None) }
+        ensures whole { Whole self.new }
+        ensures made { self.new.threads.made ≡ self.old.threads.made }
+        ensures queues { IfSome (slot_of self.old.threads t.0) (λ u. self.new.queues ≡ without u self.old.queues) }
+        ensures same { self.new ≡ record self.old { threads = self.new.threads; queues = self.new.queues; going = self.new.going; running = None } }
+    {
+        self.drop_thread(t);
+        self.set_running(None);
     }
 }
 

@@ -2,7 +2,7 @@
 
 ghost use Rattle.std.specs.Prelude.{◌≡◌, ◌≢◌, ◌<◌, ◌+◌, ◌↔◌, ℕ, Bool, false, Option, Some, None, IfSome, IfOk, OnOk, OnErr, IsErrOf, option_copied, pos};
 ghost use Rattle.pth_queue.specs.declared.queue.Queue.TheVariants as queue;
-ghost use Rattle.pth_queue.specs.Queues.{IsNowhere, IsRank, entered};
+ghost use Rattle.pth_queue.specs.Queues.{IsNowhere, IsRank, entered, without};
 ghost use Rattle.pth_base.specs.declared.thread.ThreadState.TheVariants as state;
 ghost use Rattle.pth_threads.specs.declared.entry.Change.TheVariants as change;
 ghost use Rattle.pth_threads.specs.Threads.{slot_of, tid_at, count, IsCountable, IsSame, Removes};
@@ -109,6 +109,7 @@ impl<P: Program> World<P> {
         ensures sound { IsSound self.new }
         ensures others { (u : ℕ) → tid_at self.old.threads u ≢ t.0 → view self.new u ≡ view self.old u }
         ensures threads { IfSome (slot_of self.old.threads t.0) (λ u. Removes self.old.threads self.new.threads u) }
+        ensures queues { IfSome (slot_of self.old.threads t.0) (λ u. self.new.queues ≡ without u self.old.queues) }
         ensures same { self.new ≡ record self.old { threads = self.new.threads; queues = self.new.queues; going = self.new.going } }
     {
         let slot = self.slot(t);

@@ -1,4 +1,5 @@
-use Rattle.std.proofs.Common.{◌∙◌, sym, ap, Some, None}
+use Rattle.std.proofs.Common.{◌∙◌, refl, sym, ap, Some, None}
+use Rattle.pth_world.proofs.Moves.{going_whole, held_fits, unheld_fits}
 use Rattle.pth_base.specs.declared.answer.Answer.TheVariants as answer
 use Rattle.pth_model.specs.Changes.{with_held, with_owed, held_by, owed_by}
 use Rattle.pth_world.proofs.Slots.{used}
@@ -15,3 +16,6 @@ returns-clause-sound g c = going_sound _ c.requires.sound c.args.t.0 c.slot-slot
 
 pub returns-clause-touches : goal.returns-clause-touches
 returns-clause-touches g c = held_touches _ c.requires.sound c.args.t.0 c.slot-slot.result.0 c.slot-slot.ensures.slot _ (Some c.args.h) (rw c.going_mut.ensures.value at c.hold.ensures.set)
+
+pub returns-clause-whole : goal.returns-clause-whole
+returns-clause-whole g c whole may = going_whole c.args.self.now _ c.args.t.0 c.slot-slot.result.0 _ whole c.slot-slot.ensures.slot (held_touches _ c.requires.sound c.args.t.0 c.slot-slot.result.0 c.slot-slot.ensures.slot _ (Some c.args.h) (rw c.going_mut.ensures.value at c.hold.ensures.set)) (going_sound _ c.requires.sound c.args.t.0 c.slot-slot.result.0 c.slot-slot.ensures.slot _ _ (rw c.going_mut.ensures.value at c.hold.ensures.set) (some_kept (with_held (Some c.args.h)) _ (c.requires.sound.recorded c.slot-slot.result.0 (used _ c.args.t.0 c.slot-slot.result.0 c.requires.sound c.slot-slot.ensures.slot))) c.hold.ensures.long) refl refl (held_fits c.args.self.now c.args.t.0 c.slot-slot.result.0 c.requires.sound c.slot-slot.ensures.slot c.args.h may)

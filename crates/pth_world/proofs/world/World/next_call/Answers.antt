@@ -1,7 +1,8 @@
-use Rattle.std.proofs.Common.{◌≡◌, ◌∙◌, sym, ap, subst}
+use Rattle.std.proofs.Common.{◌≡◌, ◌∙◌, refl, sym, ap, subst}
 use Rattle.pth_model.specs.Changes.{called}
 use Rattle.pth_world.specs.World.{WorldOf}
-use Rattle.pth_world.specs.Standing.{StandsFor, IsSound, Touches, same_view}
+use Rattle.pth_world.specs.Standing.{StandsFor, IsSound, Whole, Touches, same_view}
+use Rattle.pth_world.proofs.Moves.{going_whole}
 use Rattle.pth_world.proofs.Wholes.{next_call_is, next_stands, next_sound, next_touches}
 use Rattle.pth_world.proofs.world.World.next_call.Goals as goal
 
@@ -36,3 +37,12 @@ returns-clause-touches g c =
     let out = rw c.going_mut.ensures.value at c.take.ensures.set in
     let back = rw (c.going_mut-2.ensures.value, ap (λ (k : WorldOf _ _ _). k.going) same) at c.set.ensures.set in
     subst (λ (k : WorldOf _ _ _). Touches c.args.self.now (record k { going = c.set.new.self }) c.args.t.0 same_view) (sym same) (next_touches c.args.self.now c.args.t.0 c.slot-slot.result.0 c.requires.sound c.slot-slot.ensures.slot g.P.Program.functions c.in-Some.c c.args.answer.now c.in_ok-call.call c.step.new.state c.step.new.self.shared c.take.new.self c.set.new.self had c.in_ok-call.ensures.step out back)
+
+pub returns-clause-whole : goal.returns-clause-whole
+returns-clause-whole g c whole =
+    let same = c.in_ok-call.ensures.same in
+    let had = rw c.going_mut.ensures.value at c.in-Some.ensures.value in
+    let out = rw c.going_mut.ensures.value at c.take.ensures.set in
+    let back = rw (c.going_mut-2.ensures.value, ap (λ (k : WorldOf _ _ _). k.going) same) at c.set.ensures.set in
+    subst (λ (k : WorldOf _ _ _). Whole (record k { going = c.set.new.self })) (sym same)
+    (going_whole c.args.self.now _ c.args.t.0 c.slot-slot.result.0 same_view whole c.slot-slot.ensures.slot (next_touches c.args.self.now c.args.t.0 c.slot-slot.result.0 c.requires.sound c.slot-slot.ensures.slot g.P.Program.functions c.in-Some.c c.args.answer.now c.in_ok-call.call c.step.new.state c.step.new.self.shared c.take.new.self c.set.new.self had c.in_ok-call.ensures.step out back) (next_sound c.args.self.now c.args.t.0 c.slot-slot.result.0 c.requires.sound c.slot-slot.ensures.slot g.P.Program.functions c.in-Some.c c.args.answer.now c.in_ok-call.call c.step.new.state c.step.new.self.shared c.take.new.self c.set.new.self had c.in_ok-call.ensures.step out back c.set.ensures.long) refl refl (λ r f. f))
