@@ -63,6 +63,9 @@ fn a_name_is_cut_at_forty_bytes(rt: HostRuntime) {
     let short = "main";
     assert!(rt; short.is_ascii());
     assert_eq!(rt; Name::cut(short).copy().as_str(), short);
+    let suffix = ".child";
+    assert!(rt; suffix.is_ascii());
+    assert_eq!(rt; Name::cut(short).with_suffix(suffix).as_str(), "main.child");
     let long = "0123456789.0123456789.0123456789.0123456789";
     assert!(rt; long.is_ascii());
     assert_eq!(rt;
