@@ -7,3 +7,4 @@ pub mod Wholes
 pub mod Starts
 pub mod Moves
 pub mod Schedules
+pub mod Leading

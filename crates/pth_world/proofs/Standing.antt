@@ -13,13 +13,13 @@ use Rattle.pth_queue.specs.declared.queue.Queue.TheVariants as queue
 use Rattle.pth_queue.specs.Rows.{named_row, IsQueued, insert, delete, increase}
 use Rattle.pth_queue.specs.Queues.{QueuesOf, rows_of, with_rows, without, entered, IsNowhere}
 use Rattle.pth_queue.proofs.Names.{insert_named, delete_named, increase_named, named_added, named_dropped}
-use Rattle.pth_threads.specs.Threads.{ThreadsOf, slot_of, tid_at, entry_at, changed, made_of, Changes, Adds, Removes}
+use Rattle.pth_threads.specs.Threads.{ThreadsOf, slot_of, tid_at, entry_at, count, changed, made_of, Changes, Adds, Removes}
 use Rattle.pth_threads.specs.declared.entry.Change.{Change}
 use Rattle.pth_threads.specs.declared.entry.Entry.{Entry}
 use Rattle.pth_threads.specs.declared.entry.NewThread.{NewThread}
 use Rattle.pth_model.specs.declared.continuation.Continuation.{Continuation}
 use Rattle.pth_model.specs.Standing.{is_queue, raises_of}
-use Rattle.pth_model.specs.State.{State, queue}
+use Rattle.pth_model.specs.State.{State, queue, present}
 use Rattle.pth_model.specs.Changes.{with_change, with_going, with_entry, without_entry, raised, with_thread, without_thread, called, called_from, called_by}
 use Rattle.pth_model.proofs.Queues.{is_queue_same, rows_here, rows_other, rows_without, queue-enter, queue-enter_other, queue-leave, queue-raise, queue-raise_other}
 use Rattle.pth_world.specs.World.{WorldOf}
@@ -194,3 +194,7 @@ module _ {P S H : Type 0} (w : WorldOf P S H) where
       };
       scheduler = record { running = st.scheduler.running; named = st.scheduler.named; favour_new = st.scheduler.favour_new; time = st.scheduler.time; clock = st.scheduler.clock };
     })
+
+-- how many threads are in the system
+pub present_is : {P S H : Type 0} (w : WorldOf P S H) (s : State P S H) → IsSound w → StandsFor w s → present s ≡ count w.threads
+present_is w s sound st = rw (st.threads.known, st.threads.made) sound.present

@@ -1,6 +1,6 @@
 //! The records of threads: changes, new threads, and threads that are gone.
 
-ghost use Rattle.std.specs.Prelude.{◌≡◌, ◌≢◌, ◌<◌, ◌+◌, ◌↔◌, ℕ, Bool, false, Option, Some, None, IfSome, IfOk, OnOk, OnErr, IsErrOf, option_copied, pos};
+ghost use Rattle.std.specs.Prelude.{◌≡◌, ◌≢◌, ◌<◌, ◌+◌, ◌↔◌, ℕ, Bool, false, Option, Some, None, IfSome, IfOk, OnOk, OnErr, IsErrOf, option_copied, nat_lt, pos};
 ghost use Rattle.pth_queue.specs.declared.queue.Queue.TheVariants as queue;
 ghost use Rattle.pth_queue.specs.Queues.{IsNowhere, IsRank, entered, without};
 ghost use Rattle.pth_base.specs.declared.thread.ThreadState.TheVariants as state;
@@ -8,6 +8,7 @@ ghost use Rattle.pth_threads.specs.declared.entry.Change.TheVariants as change;
 ghost use Rattle.pth_threads.specs.Threads.{slot_of, tid_at, count, IsCountable, IsSame, Removes};
 ghost use Rattle.pth_model.specs.State.{State, start, present};
 ghost use Rattle.pth_model.specs.Changes.{with_change, with_entry, with_thread, without_entry, without_thread};
+ghost use Rattle.pth_model.specs.Rows.{thread_limit};
 ghost use Rattle.pth_world.specs.World.{first_thread};
 ghost use Rattle.pth_world.specs.Standing.{StandsFor, IsSound, IsKnown, IsPrio, KeepsPrio, Whole, Touches, SameThreads, changes, places, view};
 
@@ -124,6 +125,15 @@ impl<P: Program> World<P> {
         ensures { IfOk result (λ state. state ≡ (P.functions self.now.program).start body.0 arg) }
     {
         self.program.start(self.alloc, body, arg)
+    }
+
+    /// Whether another thread can be made: at most 4096 are in the system, dead ones too.
+    pub fn has_room(&self) -> bool
+        requires { IsSound self.now }
+        ensures count { result ≡ nat_lt (count self.now.threads) thread_limit }
+        ensures room { (s : State P P.State P.Shared) → StandsFor self.now s → result ≡ nat_lt (present s) thread_limit }
+    {
+        self.threads().count() < MOST
     }
 
     /// A new thread of this body, with this argument and these values, which enters the new queue at its base priority.

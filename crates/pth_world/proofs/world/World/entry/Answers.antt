@@ -7,3 +7,6 @@ returns-in-Some-clause-entry g c s st = sym (entry_is _ c.args.t.0 c.in-Some.slo
 
 pub returns-in-None-clause-entry : goal.returns-in-None-clause-entry
 returns-in-None-clause-entry g c s st = not_known _ c.args.t.0 s (rw c.threads.ensures at c.in-None.ensures.slot) st
+
+pub returns-in-Some-clause-prio : goal.returns-in-Some-clause-prio
+returns-in-Some-clause-prio g c = c.requires.prios c.in-Some.slot.0 c.get.result.now (rw c.threads-in-Some.ensures at c.get.ensures.entry)

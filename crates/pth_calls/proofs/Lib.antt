@@ -1,0 +1,2 @@
+pub mod Spawning
+pub mod Answering

@@ -1,0 +1,26 @@
+-- How one thing that is told leads to another.
+use Rattle.std.proofs.Common.{◌≡◌, List, [], ◌∷◌, ◌++◌, refl, sym, ◌∙◌, ap, append_assoc, append-nil}
+use Rattle.pth_base.specs.declared.mark.Mark.{Mark}
+use Rattle.pth_model.specs.Told.{Told, followed}
+use Rattle.pth_world.specs.World.{WorldOf}
+use Rattle.pth_world.specs.Leading.{Leads, IsCut}
+
+pub cut_none : (old marks : List Mark) → IsCut old old marks
+cut_none old marks = record { first = []; rest = marks; new_is = sym (append-nil old); all_is = refl }
+
+pub cut_all : (old new marks : List Mark) → new ≡ old ++ marks → IsCut old new marks
+cut_all old new marks told = record { first = marks; rest = []; new_is = told; all_is = append-nil marks }
+
+pub leads_then : {P S H : Type 0} (v w : WorldOf P S H) (old mid new : List Mark) (one two : Told P S H) → Leads v old mid one → Leads w mid new two → Leads w old new (followed one two)
+leads_then v w old mid new one two f g = record { stands = g.stands; tells = g.tells ∙ ap (λ m. m ++ two.marks) f.tells ∙ append_assoc old one.marks two.marks }
+
+pub cut_first : (old new one two : List Mark) → IsCut old new one → IsCut old new (one ++ two)
+cut_first old new one two c = record { first = c.first; rest = c.rest ++ two; new_is = c.new_is; all_is = sym (append_assoc c.first c.rest two) ∙ ap (λ m. m ++ two) c.all_is }
+
+pub cut_then : (old mid new one two : List Mark) → mid ≡ old ++ one → IsCut mid new two → IsCut old new (one ++ two)
+cut_then old mid new one two e c = record {
+  first = one ++ c.first;
+  rest = c.rest;
+  new_is = c.new_is ∙ ap (λ m. m ++ c.first) e ∙ append_assoc old one c.first;
+  all_is = append_assoc one c.first c.rest ∙ ap (λ m. one ++ m) c.all_is;
+}
