@@ -7,4 +7,5 @@ pub mod Wholes
 pub mod Starts
 pub mod Moves
 pub mod Schedules
+pub mod QueueReads
 pub mod Leading

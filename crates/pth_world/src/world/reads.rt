@@ -1,13 +1,21 @@
 //! Reads of threads by their numbers.
 
-ghost use Rattle.std.specs.Prelude.{◌≡◌, ℕ, Option, Some, None, IsSome, IfSome, option_copied};
-ghost use Rattle.pth_model.specs.State.{State};
-ghost use Rattle.pth_model.specs.Changes.{held_of};
-ghost use Rattle.pth_world.specs.Standing.{StandsFor, IsSound, IsKnown, IsPrio};
+ghost use Rattle.std.specs.Prelude.{◌≡◌, ◌≢◌, ℕ, ◌+◌, ◌^◌, pos, neg_ℤ, ◌≤ℤ◌, true, List, ◌∷◌, ◌++◌, Option, Some, None, IsSome, IfSome, option_map, option_copied};
+ghost use Rattle.pth_queue.specs.declared.queue.Queue.TheVariants as queue;
+ghost use Rattle.pth_queue.specs.declared.row.Row.{Row};
+ghost use Rattle.pth_queue.specs.Rows.{holds, head_of, last_of, place_in, favour_top};
+ghost use Rattle.pth_queue.specs.Queues.{IsOrderly, rows_of};
+ghost use Rattle.pth_threads.specs.Threads.{tid_at};
+ghost use Rattle.pth_model.specs.State.{State, queue};
+ghost use Rattle.pth_model.specs.Part.{is_empty, rank_by};
+ghost use Rattle.pth_model.specs.Waits.{only, is_alone};
+ghost use Rattle.pth_world.specs.World.{number_of};
+ghost use Rattle.pth_world.specs.Standing.{StandsFor, IsSound, IsKnown, IsIn, IsPrio};
 
 use crate::world::World;
-use pth_base::ids::Tid;
+use pth_base::ids::{Slot, Tid};
 use pth_base::program::Program;
+use pth_queue::queue::Queue;
 use pth_threads::entry::Entry;
 
 impl<P: Program> World<P> {
@@ -23,5 +31,126 @@ impl<P: Program> World<P> {
             Some(slot) => Some(self.threads().get(slot)),
             None => None,
         }
+    }
+
+    // The queues are in order. Their set says so where a slot is looked for: the head of the first queue that has one,
+    // which it finds at once.
+    fn in_order(&self)
+        ensures { IsOrderly self.now.queues }
+    {
+        let queues = self.queues();
+        let head = queues
+            .head(Queue::New)
+            .or(queues.head(Queue::Ready))
+            .or(queues.head(Queue::Waiting));
+        let _place = queues.queue_of(head.unwrap_or(Slot(0)));
+    }
+
+    // The thread whose slot stands in a queue.
+    fn thread_at(&self, slot: Option<Slot>, q: Queue) -> Option<Tid>
+        requires sound { IsSound self.now }
+        requires holds { IfSome slot (λ u. holds u.0 (rows_of q self.now.queues) ≡ true) }
+        ensures tid { option_map number_of result ≡ option_map (λ u. tid_at self.now.threads u.0) slot }
+        ensures known { IfSome result (λ t. IsKnown self.now t.0) }
+        ensures stands { IfSome result (λ t. IsIn q self.now t.0) }
+    {
+        match slot {
+            Some(slot) => {
+                self.in_order();
+                Some(self.threads().get(slot).tid)
+            }
+            None => None,
+        }
+    }
+
+    /// The first thread of a queue (`pth_pqueue_head`).
+    pub fn first(&self, q: Queue) -> Option<Tid>
+        requires sound { IsSound self.now }
+        ensures first { (s : State P P.State P.Shared) → StandsFor self.now s → option_map number_of result ≡ head_of (queue s q) }
+        ensures known { IfSome result (λ t. IsKnown self.now t.0) }
+        ensures stands { IfSome result (λ t. IsIn q self.now t.0) }
+    {
+        self.thread_at(self.queues().head(q), q)
+    }
+
+    /// The last thread of a queue (`pth_pqueue_tail`).
+    pub fn last(&self, q: Queue) -> Option<Tid>
+        requires sound { IsSound self.now }
+        ensures last { (s : State P P.State P.Shared) → StandsFor self.now s → option_map number_of result ≡ last_of (queue s q) }
+        ensures known { IfSome result (λ t. IsKnown self.now t.0) }
+        ensures stands { IfSome result (λ t. IsIn q self.now t.0) }
+    {
+        self.thread_at(self.queues().tail(q), q)
+    }
+
+    /// The rank at which a thread enters the ready queue in front of all others (`pth_pqueue_favorite_prio`).
+    pub fn top(&self) -> i64
+        requires sound { IsSound self.now }
+        ensures top { (s : State P P.State P.Shared) → StandsFor self.now s → result ≡ favour_top (queue s queue.Ready) }
+        ensures value { result ≡ favour_top self.now.queues.ready }
+        ensures low { neg_ℤ (pos (2 ^ 40)) ≤ℤ result }
+        ensures high { result ≤ℤ pos (2 ^ 40 + 1) }
+    {
+        self.in_order();
+        self.queues().favour_top(Queue::Ready)
+    }
+
+    /// Whether no thread stands in a queue.
+    pub fn is_empty(&self, q: Queue) -> bool
+        requires { IsSound self.now }
+        ensures { (s : State P P.State P.Shared) → StandsFor self.now s → result ≡ is_empty (queue s q) }
+    {
+        self.queues().head(q).is_none()
+    }
+
+    /// The rank of a ready thread.
+    pub fn ready_rank(&self, t: Tid) -> i64
+        requires sound { IsSound self.now }
+        requires known { IsKnown self.now t.0 }
+        requires stands { IsIn queue.Ready self.now t.0 }
+        ensures { (s : State P P.State P.Shared) → StandsFor self.now s → result ≡ rank_by (place_in t.0 (queue s queue.Ready)) }
+    {
+        let slot = self.slot(t);
+        match self.queues().place_of(slot) {
+            Some((_queue, rank, _before)) => rank,
+            None => unreachable!(),
+        }
+    }
+
+    /// The thread that follows one in its queue; none after the last (`pth_pqueue_walk`).
+    pub fn after(&self, t: Tid, q: Queue) -> Option<Tid>
+        requires sound { IsSound self.now }
+        requires known { IsKnown self.now t.0 }
+        requires stands { IsIn q self.now t.0 }
+        ensures after { (s : State P P.State P.Shared) (front back : List Row) (r : Row) → StandsFor self.now s → queue s q ≡ front ++ r ∷ back → r.who ≡ t.0 → option_map number_of result ≡ head_of back }
+        ensures known { IfSome result (λ t. IsKnown self.now t.0) }
+        ensures stands { IfSome result (λ t. IsIn q self.now t.0) }
+    {
+        self.in_order();
+        let slot = self.slot(t);
+        self.thread_at(self.queues().after(slot), q)
+    }
+
+    // Whether no other thread than t stands in a queue.
+    fn is_only(&self, t: Tid, q: Queue) -> bool
+        requires { IsSound self.now }
+        ensures { (s : State P P.State P.Shared) → StandsFor self.now s → result ≡ only t.0 (queue s q) }
+    {
+        self.in_order();
+        match (self.first(q), self.last(q)) {
+            (Some(first), Some(last)) => first.0 == t.0 && last.0 == t.0,
+            _ => true,
+        }
+    }
+
+    /// Whether no other thread than t is new, ready, waiting or suspended.
+    pub fn is_alone(&self, t: Tid) -> bool
+        requires { IsSound self.now }
+        ensures { (s : State P P.State P.Shared) → StandsFor self.now s → result ≡ is_alone s t.0 }
+    {
+        self.is_only(t, Queue::New)
+            && self.is_only(t, Queue::Ready)
+            && self.is_only(t, Queue::Waiting)
+            && self.is_only(t, Queue::Suspended)
     }
 }

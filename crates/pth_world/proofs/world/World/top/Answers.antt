@@ -1,0 +1,14 @@
+use Rattle.std.proofs.Common.{rules, SFits, w64, to_z-of_z}
+use Rattle.pth_queue.specs.declared.queue.Queue.TheVariants.{Ready}
+use Rattle.pth_world.proofs.QueueReads.{top_bounds}
+use Rattle.pth_world.proofs.world.World.top.Goals as goal
+
+pub returns-clause-low : goal.returns-clause-low
+returns-clause-low g c =
+    let f : SFits w64 c.favour_top.result = search rules in
+    rw (to_z-of_z, c.favour_top.ensures, c.queues.ensures) (top_bounds _ _ (c.in_order.ensures.each Ready)).0
+
+pub returns-clause-high : goal.returns-clause-high
+returns-clause-high g c =
+    let f : SFits w64 c.favour_top.result = search rules in
+    rw (to_z-of_z, c.favour_top.ensures, c.queues.ensures) (top_bounds _ _ (c.in_order.ensures.each Ready)).1
