@@ -21,12 +21,7 @@ use pth_base::program::Program;
 use pth_world::world::World;
 
 /// Tells what a call is answered.
-pub fn tell(
-    t: Tid,
-    call: &Call,
-    answer: &Answer,
-    marks: &mut Marks,
-) -> Result<(), OutOfMemory>
+pub fn tell(t: Tid, call: &Call, answer: &Answer, marks: &mut Marks) -> Result<(), OutOfMemory>
     ensures ok { OnOk result (marks.new ≡ marks.old ++ Answered t call.now answer.now ∷ []) }
     ensures err { OnErr result (marks.new ≡ marks.old) }
 {

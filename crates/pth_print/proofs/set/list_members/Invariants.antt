@@ -1,0 +1,9 @@
+use Rattle.std.proofs.Common.{◌≡◌, ◌≤◌, take}
+use Rattle.pth_print.specs.Sets.{members_below}
+use Rattle.pth_print.proofs.set.list_members.Given as goal
+
+abbrev pub invariant-loop-f : goal.invariant-loop-f
+invariant-loop-f l = record {
+  within : l.count ≤ l.f;
+  listed : take l.count l.members ≡ members_below l.set.0 l.f;
+}

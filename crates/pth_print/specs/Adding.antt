@@ -1,0 +1,14 @@
+-- What a call that adds to a text leaves.
+use Rattle.std.specs.Prelude.{◌≡◌, ℕ, List, ◌++◌, Result, OnOk, OnErr}
+
+-- a beginning of a text was added, and no more
+pub record IsCut (old new text : List ℕ) : Type 0 where
+  pub first : List ℕ
+  pub rest : List ℕ
+  pub new_is : new ≡ old ++ first
+  pub text_is : first ++ rest ≡ text
+
+-- the text was added, or an error came and a beginning of it was added
+pub record Adds {T E : Type 0} (old new : List ℕ) (result : Result T E) (text : List ℕ) : Type 0 where
+  pub ok : OnOk result (new ≡ old ++ text)
+  pub err : OnErr result (IsCut old new text)

@@ -1,0 +1,204 @@
+//! Marks as lines.
+
+ghost use Rattle.std.specs.Prelude.{◌≡◌, [], ◌∷◌, ◌++◌, OnOk, OnErr, codes};
+ghost use Rattle.pth_print.specs.Adding.{Adds, IsCut};
+ghost use Rattle.pth_print.specs.Words.{spaced, joined};
+ghost use Rattle.pth_print.specs.Word.{thread};
+ghost use Rattle.pth_print.specs.Calls.{call_words};
+ghost use Rattle.pth_print.specs.Answers.{answer_words};
+ghost use Rattle.pth_print.specs.Lines.{acted_words, mark_words, mark_line};
+
+use crate::answer::add_answer_after;
+use crate::call::add_call;
+use crate::word::Word::{Cell, Natural, Number, Plain, Thread};
+use crate::word::{add_line, add_word, add_words};
+use pth_base::act::Act;
+use pth_base::answer::Answer;
+use pth_base::call::Call;
+use pth_base::ids::Tid;
+use pth_base::mark::Mark;
+use pth_base::memory::OutOfMemory;
+use pth_text::text::Text;
+
+/// Adds a thread and a call.
+fn add_call_of(tid: Tid, call: &Call, out: &mut Text) -> Result<(), OutOfMemory>
+    ensures { Adds out.old out.new result (thread tid.0 ++ spaced (call_words call.now)) }
+{
+    add_word(&Thread(tid), out)?;
+    add_call(call, out)
+}
+
+/// Adds a thread, its call and what became of it.
+fn add_call_and(tid: Tid, call: &Call, word: &[u8], out: &mut Text) -> Result<(), OutOfMemory>
+    ensures { Adds out.old out.new result (joined (thread tid.0 ∷ (call_words call.now ++ word.now ∷ []))) }
+{
+    add_call_of(tid, call, out)?;
+    add_words(&[Plain(word)], out)
+}
+
+/// Adds a thread, its call and the answer.
+fn add_answered(tid: Tid, call: &Call, answer: &Answer, out: &mut Text) -> Result<(), OutOfMemory>
+    ensures { Adds out.old out.new result (joined (thread tid.0 ∷ (call_words call.now ++ codes "=" ∷ answer_words answer.now))) }
+{
+    add_call_of(tid, call, out)?;
+    add_answer_after(&[Plain(b"=")], answer, out)
+}
+
+/// Adds a handler's act and its answer.
+fn add_act(act: &Act, answer: &Answer, out: &mut Text) -> Result<(), OutOfMemory>
+    ensures { Adds out.old out.new result (spaced (acted_words act.now answer.now)) }
+{
+    match act {
+        Act::Note(v) => add_words(&[Plain(b"note"), Number(v)], out),
+        Act::Set(cell, v) => add_words(&[Plain(b"set"), Cell(*cell), Number(v)], out),
+        Act::Release(m) => {
+            add_answer_after(&[Plain(b"release"), Number(m), Plain(b"=")], answer, out)
+        }
+        Act::Notify(c, v) => add_answer_after(
+            &[Plain(b"notify"), Number(c), Number(v), Plain(b"=")],
+            answer,
+            out,
+        ),
+        Act::Put(p, v) => add_answer_after(
+            &[Plain(b"put"), Number(p), Number(v), Plain(b"=")],
+            answer,
+            out,
+        ),
+        Act::SetKey(k, v) => add_answer_after(
+            &[Plain(b"setkey"), Number(k), Number(v), Plain(b"=")],
+            answer,
+            out,
+        ),
+    }
+}
+
+/// Adds the thread that runs a handler, with an act of the handler.
+fn add_acted(tid: Tid, act: &Act, answer: &Answer, out: &mut Text) -> Result<(), OutOfMemory>
+    ensures { Adds out.old out.new result (joined (thread tid.0 ∷ codes "act" ∷ acted_words act.now answer.now)) }
+{
+    add_line(&Thread(tid), &[Plain(b"act")], out)?;
+    add_act(act, answer, out)
+}
+
+/// Adds the words of a mark, with single spaces between them.
+fn add_mark(mark: &Mark, audit: bool, out: &mut Text) -> Result<(), OutOfMemory>
+    ensures { Adds out.old out.new result (joined (mark_words audit mark.now)) }
+{
+    match mark {
+        Mark::Dispatch {
+            turn,
+            at,
+            tid,
+            rank,
+            waited,
+            allowed,
+        } if audit => add_line(
+            &Plain(b"turn"),
+            &[
+                Natural(*turn),
+                Plain(b"at"),
+                Natural(*at),
+                Thread(*tid),
+                Plain(b"rank"),
+                Number(rank),
+                Plain(b"waited"),
+                Natural(*waited),
+                Plain(b"allowed"),
+                Natural(*allowed),
+            ],
+            out,
+        ),
+        Mark::Dispatch {
+            turn,
+            at,
+            tid,
+            rank,
+            ..
+        } => add_line(
+            &Plain(b"turn"),
+            &[
+                Natural(*turn),
+                Plain(b"at"),
+                Natural(*at),
+                Thread(*tid),
+                Plain(b"rank"),
+                Number(rank),
+            ],
+            out,
+        ),
+        Mark::Answered { tid, call, answer } => add_answered(*tid, call, answer, out),
+        Mark::Waits { tid, call } => add_call_and(*tid, call, b"waits", out),
+        Mark::Retakes { tid, call } => add_call_and(*tid, call, b"retakes", out),
+        Mark::Canceled {
+            tid,
+            call: Some(call),
+        } => add_call_and(*tid, call, b"canceled", out),
+        Mark::Canceled { tid, call: None } => add_line(&Thread(*tid), &[Plain(b"canceled")], out),
+        Mark::Took { tid, mutex } => add_line(
+            &Thread(*tid),
+            &[Plain(b"takes"), Plain(b"mutex"), Natural(u64::from(*mutex))],
+            out,
+        ),
+        Mark::Withdrew { tid, barrier } => add_line(
+            &Thread(*tid),
+            &[Plain(b"withdraws"), Natural(u64::from(*barrier))],
+            out,
+        ),
+        Mark::Handler { tid, handler, arg } => add_line(
+            &Thread(*tid),
+            &[
+                Plain(b"handler"),
+                Natural(u64::from(handler.0)),
+                Plain(b"arg"),
+                Number(arg),
+            ],
+            out,
+        ),
+        Mark::Destructor { tid, key, arg } => add_line(
+            &Thread(*tid),
+            &[
+                Plain(b"destructor"),
+                Natural(u64::from(*key)),
+                Plain(b"arg"),
+                Number(arg),
+            ],
+            out,
+        ),
+        Mark::Acted { tid, act, answer } => { add_acted(*tid, act, answer, out) }
+        Mark::GaveMutex { tid, mutex } => add_line(
+            &Thread(*tid),
+            &[Plain(b"gives"), Plain(b"mutex"), Natural(u64::from(*mutex))],
+            out,
+        ),
+        Mark::GaveLock { tid, lock } => add_line(
+            &Thread(*tid),
+            &[Plain(b"gives"), Plain(b"rwlock"), Natural(u64::from(*lock))],
+            out,
+        ),
+        Mark::Ended { tid, value } => add_line(
+            &Thread(*tid),
+            &[Plain(b"ends"), Number(value)],
+            out,
+        ),
+        Mark::Noted { tid, value } => add_line(
+            &Thread(*tid),
+            &[Plain(b"note"), Number(value)],
+            out,
+        ),
+        Mark::Woke { tid, rank } => add_line(
+            &Plain(b"wake"),
+            &[Thread(*tid), Plain(b"rank"), Number(rank)],
+            out,
+        ),
+        Mark::Moved { at } => add_line(&Plain(b"idle"), &[Plain(b"to"), Natural(*at)], out),
+    }
+}
+
+/// Adds the line of a mark. With `audit` a dispatch tells how long the thread has waited, and how long it may wait.
+pub fn mark_line(m: &Mark, audit: bool, out: &mut Text) -> Result<(), OutOfMemory>
+    ensures ok { OnOk result (out.new ≡ out.old ++ mark_line audit m.now) }
+    ensures err { OnErr result (IsCut out.old out.new (mark_line audit m.now)) }
+{
+    add_mark(m, audit, out)?;
+    out.push(b"\n")
+}

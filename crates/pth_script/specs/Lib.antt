@@ -1,0 +1,4 @@
+pub mod Script
+pub mod Lines
+pub mod FirstForm
+pub mod Reading

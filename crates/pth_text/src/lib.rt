@@ -1,0 +1,8 @@
+//! Text that grows, and what single words and lines of a text are.
+#![tactic(auto)]
+
+pub mod line;
+pub mod number;
+#[cfg(test)]
+mod tests;
+pub mod text;

@@ -1,0 +1,226 @@
+//! Calls that may suspend their thread.
+
+ghost use Rattle.std.specs.Prelude.{◌≡◌, ◌<◌, ◌≤◌, ◌+◌, ◌==◌, ◌&&◌, ℕ, not, true, Some, IfOk, OnOk, OnErr};
+ghost use Rattle.pth_base.specs.declared.call.Call.TheVariants.{Exit, Yield};
+ghost use Rattle.pth_model.specs.State.{State};
+ghost use Rattle.pth_model.specs.Waits.{main, is_alone, begun, exit_again, resumed, wakes as wakes_now, suspends as may_suspend};
+ghost use Rattle.pth_world.specs.Standing.{StandsFor, IsSound, Whole};
+ghost use Rattle.pth_world.specs.Leading.{Leads, IsCut};
+ghost use Rattle.pth_waits.specs.Running.{runs_after};
+
+use crate::ending::end_thread;
+use pth_base::answer::Answer;
+use pth_base::call::Call;
+use pth_base::errno::Errno;
+use pth_base::ids::Tid;
+use pth_base::mark::Mark;
+use pth_base::marks::Marks;
+use pth_base::memory::OutOfMemory;
+use pth_base::program::Program;
+use pth_calls::calls::{begin_plain, tell};
+use pth_model::held::{Held, Retake};
+use pth_model::next::Next;
+use pth_world::world::World;
+
+// The main thread's number.
+const MAIN: u32 = 1;
+
+// Whether a call may suspend its thread, or end it or its turn.
+fn suspends(call: &Call) -> bool
+    ensures { result ≡ may_suspend call.now }
+{
+    matches!(
+        call,
+        Call::Exit(_)
+            | Call::Yield(_)
+            | Call::Join(_)
+            | Call::CancelPoint
+            | Call::Kill
+            | Call::Wait(_)
+            | Call::Nap(_)
+            | Call::Usleep(_)
+            | Call::Sleep(_)
+            | Call::MutexAcquire { .. }
+            | Call::RwAcquire { .. }
+            | Call::CondAwait { .. }
+            | Call::BarrierReach(_)
+            | Call::Read { .. }
+            | Call::ReadEv { .. }
+            | Call::Write { .. }
+            | Call::WriteEv { .. }
+            | Call::Accept(_)
+            | Call::AcceptEv { .. }
+            | Call::Connect(_)
+            | Call::ConnectEv { .. }
+            | Call::Select { .. }
+            | Call::SelectEv { .. }
+    )
+}
+
+// `pth_yield`: it gives up control. That a yield to a thread is built is told by its answer.
+fn begin_yield<P: Program>(
+    w: &mut World<P>,
+    t: Tid,
+    call: &Call,
+    to: i64,
+    marks: &mut Marks,
+) -> Result<Next, OutOfMemory>
+    requires whole { Whole w.old }
+    requires call { call.now ≡ Yield to }
+    ensures next { IfOk result (λ n. (s : State P P.State P.Shared) → StandsFor w.old s → n ≡ (begun P.functions s t.0 call.now).next) }
+    ensures ok { OnOk result ((s : State P P.State P.Shared) → StandsFor w.old s → Leads w.new marks.old marks.new (begun P.functions s t.0 call.now).told) }
+    ensures err { OnErr result ((s : State P P.State P.Shared) → StandsFor w.old s → IsCut marks.old marks.new (begun P.functions s t.0 call.now).told.marks) }
+    ensures same { OnOk result (w.new ≡ w.old) }
+    ensures runs { IfOk result (λ n. runs_after t.0 n ≡ Some t.0) }
+{
+    if to != 0 {
+        let answer = Answer::Fail(Errno::EINVAL);
+        tell(t, call, &answer, marks)?;
+        return Ok(Next::Done(answer));
+    }
+    let answer = Answer::Int(1);
+    tell(t, call, &answer, marks)?;
+    Ok(Next::Yields(answer))
+}
+
+// Whether the exit of a thread waits: that of the main thread does, as long as it is not alone.
+fn must_wait<P: Program>(w: &World<P>, t: Tid) -> bool
+    requires { IsSound w.now }
+    ensures waits { (s : State P P.State P.Shared) → StandsFor w.now s → result ≡ ((t.0 == main) && not (is_alone s t.0)) }
+    ensures main { result ≡ true → t.0 ≡ main }
+{
+    t.0 == MAIN && !w.is_alone(t)
+}
+
+// `pth_exit`: the main thread waits until it is alone, and every other thread ends.
+fn begin_exit<P: Program>(
+    w: &mut World<P>,
+    t: Tid,
+    call: &Call,
+    value: i64,
+    marks: &mut Marks,
+) -> Result<Next, OutOfMemory>
+    requires whole { Whole w.old }
+    requires runs { w.old.running ≡ Some t.0 }
+    requires call { call.now ≡ Exit value }
+    ensures next { IfOk result (λ n. (s : State P P.State P.Shared) → StandsFor w.old s → n ≡ (begun P.functions s t.0 call.now).next) }
+    ensures ok { OnOk result ((s : State P P.State P.Shared) → StandsFor w.old s → Leads w.new marks.old marks.new (begun P.functions s t.0 call.now).told) }
+    ensures err { OnErr result ((s : State P P.State P.Shared) → StandsFor w.old s → IsCut marks.old marks.new (begun P.functions s t.0 call.now).told.marks) }
+    ensures whole { OnOk result (Whole w.new) }
+    ensures made { OnOk result (w.new.threads.made ≡ w.old.threads.made) }
+    ensures runs { IfOk result (λ n. w.new.running ≡ runs_after t.0 n) }
+{
+    if !must_wait(w, t) {
+        end_thread(w, t, value, marks)?;
+        return Ok(Next::Ended(value));
+    }
+    let begin = w.time();
+    w.hold(
+        t,
+        Held {
+            call: call.copy()?,
+            begin,
+            moment: 0,
+            written: 0,
+            round: 0,
+            retake: Retake::No,
+        },
+    );
+    marks.push(Mark::Waits {
+        tid: t,
+        call: call.copy()?,
+    })?;
+    Ok(Next::Waits)
+}
+
+/// Begins a call of the thread that runs, and tells of it. After an error the world may only be dropped.
+pub fn begin<P: Program>(
+    w: &mut World<P>,
+    t: Tid,
+    call: &Call,
+    marks: &mut Marks,
+) -> Result<Next, OutOfMemory>
+    requires whole { Whole w.old }
+    requires runs { w.old.running ≡ Some t.0 }
+    requires few { w.old.threads.made < 2147483648 }
+    ensures next { IfOk result (λ n. (s : State P P.State P.Shared) → StandsFor w.old s → n ≡ (begun P.functions s t.0 call.now).next) }
+    ensures ok { OnOk result ((s : State P P.State P.Shared) → StandsFor w.old s → Leads w.new marks.old marks.new (begun P.functions s t.0 call.now).told) }
+    ensures err { OnErr result ((s : State P P.State P.Shared) → StandsFor w.old s → IsCut marks.old marks.new (begun P.functions s t.0 call.now).told.marks) }
+    ensures whole { OnOk result (Whole w.new) }
+    ensures made { OnOk result (w.new.threads.made ≤ w.old.threads.made + 1) }
+    ensures runs { IfOk result (λ n. w.new.running ≡ runs_after t.0 n) }
+{
+    match call {
+        Call::Exit(value) => begin_exit(w, t, call, *value, marks),
+        Call::Yield(to) => begin_yield(w, t, call, *to, marks),
+        _ if suspends(call) => {
+            let answer = Answer::Fail(Errno::EINVAL);
+            tell(t, call, &answer, marks)?;
+            Ok(Next::Done(answer))
+        }
+        _ => Ok(Next::Done(begin_plain(w, t, call, marks)?)),
+    }
+}
+
+/// Whether the suspended call of a thread has what it waits for.
+pub fn wakes<P: Program>(w: &World<P>, t: Tid) -> bool
+    requires { IsSound w.now }
+    ensures { (s : State P P.State P.Shared) → StandsFor w.now s → result ≡ wakes_now s t.0 }
+{
+    match w.held(t) {
+        Some(held) => match held.call {
+            Call::Exit(_) => w.is_alone(t),
+            _ => false,
+        },
+        None => false,
+    }
+}
+
+// The main thread's exit, tried again.
+fn resume_exit<P: Program>(
+    w: &mut World<P>,
+    t: Tid,
+    value: i64,
+    marks: &mut Marks,
+) -> Result<Next, OutOfMemory>
+    requires whole { Whole w.old }
+    requires runs { w.old.running ≡ Some t.0 }
+    ensures next { IfOk result (λ n. (s : State P P.State P.Shared) → StandsFor w.old s → n ≡ (exit_again s t.0 (Exit value) value (is_alone s t.0)).next) }
+    ensures ok { OnOk result ((s : State P P.State P.Shared) → StandsFor w.old s → Leads w.new marks.old marks.new (exit_again s t.0 (Exit value) value (is_alone s t.0)).told) }
+    ensures err { OnErr result ((s : State P P.State P.Shared) → StandsFor w.old s → IsCut marks.old marks.new (exit_again s t.0 (Exit value) value (is_alone s t.0)).told.marks) }
+    ensures whole { OnOk result (Whole w.new) }
+    ensures made { OnOk result (w.new.threads.made ≡ w.old.threads.made) }
+    ensures runs { IfOk result (λ n. w.new.running ≡ runs_after t.0 n) }
+{
+    if w.is_alone(t) {
+        end_thread(w, t, value, marks)?;
+        return Ok(Next::Ended(value));
+    }
+    marks.push(Mark::Waits {
+        tid: t,
+        call: Call::Exit(value),
+    })?;
+    Ok(Next::Waits)
+}
+
+/// Tries the suspended call of the thread that runs again. After an error the world may only be dropped.
+pub fn resume<P: Program>(w: &mut World<P>, t: Tid, marks: &mut Marks) -> Result<Next, OutOfMemory>
+    requires whole { Whole w.old }
+    requires runs { w.old.running ≡ Some t.0 }
+    ensures next { IfOk result (λ n. (s : State P P.State P.Shared) → StandsFor w.old s → n ≡ (resumed s t.0).next) }
+    ensures ok { OnOk result ((s : State P P.State P.Shared) → StandsFor w.old s → Leads w.new marks.old marks.new (resumed s t.0).told) }
+    ensures err { OnErr result ((s : State P P.State P.Shared) → StandsFor w.old s → IsCut marks.old marks.new (resumed s t.0).told.marks) }
+    ensures whole { OnOk result (Whole w.new) }
+    ensures made { OnOk result (w.new.threads.made ≡ w.old.threads.made) }
+    ensures runs { IfOk result (λ n. w.new.running ≡ runs_after t.0 n) }
+{
+    let call = match w.held(t) {
+        Some(held) => held.call.copy()?,
+        None => return Ok(Next::Waits),
+    };
+    if let Call::Exit(value) = call {
+        return resume_exit(w, t, value, marks);
+    }
+    marks.push(Mark::Waits { tid: t, call })?;
+    Ok(Next::Waits)
+}
