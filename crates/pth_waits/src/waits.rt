@@ -108,6 +108,7 @@ fn begin_exit<P: Program>(
     ensures err { OnErr result ((s : State P P.State P.Shared) → StandsFor w.old s → IsCut marks.old marks.new (begun P.functions s t.0 call.now).told.marks) }
     ensures whole { OnOk result (Whole w.new) }
     ensures made { OnOk result (w.new.threads.made ≡ w.old.threads.made) }
+    ensures named { OnOk result (w.new.named ≡ w.old.named) }
     ensures runs { IfOk result (λ n. w.new.running ≡ runs_after t.0 n) }
 {
     if !must_wait(w, t) {
@@ -148,6 +149,7 @@ pub fn begin<P: Program>(
     ensures err { OnErr result ((s : State P P.State P.Shared) → StandsFor w.old s → IsCut marks.old marks.new (begun P.functions s t.0 call.now).told.marks) }
     ensures whole { OnOk result (Whole w.new) }
     ensures made { OnOk result (w.new.threads.made ≤ w.old.threads.made + 1) }
+    ensures named { OnOk result (w.new.named ≡ w.old.named) }
     ensures runs { IfOk result (λ n. w.new.running ≡ runs_after t.0 n) }
 {
     match call {
@@ -190,6 +192,7 @@ fn resume_exit<P: Program>(
     ensures err { OnErr result ((s : State P P.State P.Shared) → StandsFor w.old s → IsCut marks.old marks.new (exit_again s t.0 (Exit value) value (is_alone s t.0)).told.marks) }
     ensures whole { OnOk result (Whole w.new) }
     ensures made { OnOk result (w.new.threads.made ≡ w.old.threads.made) }
+    ensures named { OnOk result (w.new.named ≡ w.old.named) }
     ensures runs { IfOk result (λ n. w.new.running ≡ runs_after t.0 n) }
 {
     if w.is_alone(t) {
@@ -212,6 +215,7 @@ pub fn resume<P: Program>(w: &mut World<P>, t: Tid, marks: &mut Marks) -> Result
     ensures err { OnErr result ((s : State P P.State P.Shared) → StandsFor w.old s → IsCut marks.old marks.new (resumed s t.0).told.marks) }
     ensures whole { OnOk result (Whole w.new) }
     ensures made { OnOk result (w.new.threads.made ≡ w.old.threads.made) }
+    ensures named { OnOk result (w.new.named ≡ w.old.named) }
     ensures runs { IfOk result (λ n. w.new.running ≡ runs_after t.0 n) }
 {
     let call = match w.held(t) {

@@ -7,7 +7,7 @@ ghost use Rattle.pth_queue.specs.declared.queue.Queue.TheVariants as queue;
 ghost use Rattle.pth_threads.specs.Threads.{slot_of};
 ghost use Rattle.pth_model.specs.State.{State};
 ghost use Rattle.pth_model.specs.Changes.{with_entry, without_entry, raised};
-ghost use Rattle.pth_world.specs.Standing.{StandsFor, IsSound, IsKnown, Touches, places, view};
+ghost use Rattle.pth_world.specs.Standing.{StandsFor, IsSound, Whole, IsKnown, Touches, places, view};
 
 use crate::world::World;
 use pth_base::ids::Tid;
@@ -57,6 +57,7 @@ impl<P: Program> World<P> {
         ensures stands { (s : State P P.State P.Shared) → StandsFor self.old s → StandsFor self.new (raised s) }
         ensures sound { IsSound self.new }
         ensures views { (u : ℕ) → view self.new u ≡ view self.old u }
+        ensures whole { Whole self.old → Whole self.new }
         ensures same { self.new ≡ record self.old { queues = with_rows queue.Ready (increase self.old.queues.ready) self.old.queues } }
     {
         self.queues_mut().increase(Queue::Ready);

@@ -10,11 +10,12 @@ ghost use Rattle.pth_model.specs.State.{State, queue};
 ghost use Rattle.pth_model.specs.Part.{is_empty, rank_by};
 ghost use Rattle.pth_model.specs.Waits.{only, is_alone};
 ghost use Rattle.pth_world.specs.World.{number_of};
-ghost use Rattle.pth_world.specs.Standing.{StandsFor, IsSound, IsKnown, IsIn, IsPrio};
+ghost use Rattle.pth_world.specs.Standing.{StandsFor, IsSound, Whole, IsKnown, IsIn, IsPrio};
 
 use crate::world::World;
 use pth_base::ids::{Slot, Tid};
 use pth_base::program::Program;
+use pth_base::thread::ThreadState;
 use pth_queue::queue::Queue;
 use pth_threads::entry::Entry;
 
@@ -30,6 +31,24 @@ impl<P: Program> World<P> {
         match self.threads().find(t) {
             Some(slot) => Some(self.threads().get(slot)),
             None => None,
+        }
+    }
+
+    /// Whether a thread waits, and is not suspended.
+    pub fn is_waiting(&self, t: Tid) -> bool
+        requires { Whole self.now }
+        ensures known { result ≡ true → IsKnown self.now t.0 }
+        ensures stands { result ≡ true → IsIn queue.Waiting self.now t.0 }
+    {
+        match self.threads().find(t) {
+            Some(slot) => {
+                let entry = self.threads().get(slot);
+                match entry.state {
+                    ThreadState::Waiting => !entry.suspended,
+                    _ => false,
+                }
+            }
+            None => false,
         }
     }
 

@@ -16,6 +16,7 @@ returns-in_err-begin_plain-in_default-2 g c =
       err = λ s st. rw (begins_plain g.P.Program.functions s c.args.t.0 c.args.call.now c.in_default-2.not-Exit c.in_default-2.not-Yield) (c.in_err-begin_plain-in_default-2.ensures.err s st);
       whole = search rules;
       made = search rules;
+      named = search rules;
       runs = search rules;
     })
 
@@ -29,6 +30,7 @@ returns-in_ok-tell-in_default g c =
       err = search rules;
       whole = c.requires.whole;
       made = search rules;
+      named = refl;
       runs = c.requires.runs;
     }
 
@@ -39,5 +41,6 @@ returns-in_ok-begin_plain-in_default-2 g c = record {
   err = search rules;
   whole = c.in_ok-begin_plain-in_default-2.ensures.whole;
   made = c.in_ok-begin_plain-in_default-2.ensures.made;
+  named = ap (λ (k : WorldOf _ _ _). k.named) c.in_ok-begin_plain-in_default-2.ensures.same;
   runs = ap (λ (k : WorldOf _ _ _). k.running) c.in_ok-begin_plain-in_default-2.ensures.same ∙ c.requires.runs;
 }

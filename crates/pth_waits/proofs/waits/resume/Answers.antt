@@ -40,5 +40,6 @@ returns g c = record {
   err = search rules;
   whole = c.requires.whole;
   made = refl;
+  named = refl;
   runs = c.requires.runs;
 }

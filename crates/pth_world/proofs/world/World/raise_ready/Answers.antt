@@ -1,4 +1,5 @@
-use Rattle.std.proofs.Common.{◌∙◌, ap}
+use Rattle.std.proofs.Common.{◌∙◌, ap, subst, sym}
+use Rattle.pth_world.specs.Standing.{View, Fits}
 use Rattle.pth_world.proofs.Standing.{raise_stands}
 use Rattle.pth_world.proofs.Sound.{raise_sound}
 use Rattle.pth_world.proofs.Views.{raise_views}
@@ -12,3 +13,10 @@ returns-clause-sound g c = raise_sound _ c.requires.sound _ (rw c.queues_mut.ens
 
 pub returns-clause-views : goal.returns-clause-views
 returns-clause-views g c u = raise_views c.args.self.now _ (rw c.queues_mut.ensures.value at c.increase.ensures) u
+
+pub returns-clause-whole : goal.returns-clause-whole
+returns-clause-whole g c whole = record {
+  sound = returns-clause-sound g c;
+  fits = λ u. subst (λ (k : View). Fits c.args.self.now.running k) (sym (returns-clause-views g c u)) (whole.fits u);
+  runner = whole.runner;
+}
