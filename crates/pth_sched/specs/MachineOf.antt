@@ -1,0 +1,46 @@
+-- What contracts see of a machine, and what holds of it between two parts of a run.
+use Rattle.std.specs.Prelude.{◌≡◌, ◌≤◌, ◌<◌, ◌+◌, ◌*◌, ◌-◌, nat_le, ℕ, Bool, true, false, Option, Some, None, IfSome}
+use Rattle.pth_base.specs.declared.outcome.Outcome.{Outcome}
+use Rattle.pth_base.specs.declared.outcome.Outcome.TheVariants as outcome
+use Rattle.pth_world.specs.World.{WorldOf}
+use Rattle.pth_world.specs.Standing.{Whole}
+
+-- a world with the turn that it is in
+pub record MachineOf (P S H : Type 0) : Type 0 where
+  pub world : WorldOf P S H
+  -- the thread that gave up control and is not yet put back
+  pub gave : Option ℕ
+  pub turns : ℕ
+  pub steps : ℕ
+  pub outcome : Outcome
+
+-- each step makes at most one thread, and each turn but the last has at least one step
+pub record IsGoing {P S H : Type 0} (m : MachineOf P S H) : Type 0 where
+  pub whole : Whole m.world
+  pub named : m.world.named ≡ None
+  pub made : m.world.threads.made ≤ m.steps + 1
+  pub turns : m.turns ≤ m.steps + 1
+  pub over : IfSome m.gave (λ t. m.turns ≤ m.steps)
+  pub between : m.world.running ≡ None → m.turns ≤ m.steps
+
+-- how far a run to a number of steps is from its end
+abbrev pub left_by : Option ℕ → Option ℕ → ℕ
+left_by (Some t) r = 2
+left_by None None = 1
+left_by None (Some r) = 0
+
+abbrev pub left_while : ℕ → ℕ → ℕ → Outcome → ℕ
+left_while to steps part outcome.Running = 3 * (to - steps) + part + 1
+left_while to steps part o = 0
+
+abbrev pub left : {P S H : Type 0} → ℕ → MachineOf P S H → ℕ
+left to m = left_while to m.steps (left_by m.gave m.world.running) m.outcome
+
+-- whether a run to this number of steps goes no further: a next step would begin, or an outcome ended it
+abbrev pub stops_by : ℕ → ℕ → Option ℕ → Option ℕ → Outcome → Bool
+stops_by to steps None (Some r) outcome.Running = nat_le to steps
+stops_by to steps g r outcome.Running = false
+stops_by to steps g r o = true
+
+abbrev pub stops : {P S H : Type 0} → ℕ → MachineOf P S H → Bool
+stops to m = stops_by to m.steps m.gave m.world.running m.outcome

@@ -1,0 +1,7 @@
+//! Turns: which thread runs next, its steps, and what happens between turns.
+#![tactic(auto)]
+
+pub mod machine;
+mod passes;
+mod schedule;
+mod turns;

@@ -1,0 +1,124 @@
+//! A machine that runs a program.
+
+ghost use Rattle.std.specs.Prelude.{◌≡◌, ◌≢◌, ◌≤◌, ◌+◌, IfOk};
+
+use crate::schedule::Schedule;
+use pth_base::ids::{Micros, Tid};
+use pth_base::marks::Marks;
+use pth_base::memory::OutOfMemory;
+use pth_base::outcome::Outcome;
+use pth_base::program::Program;
+use pth_base::thread::ThreadState;
+use pth_world::world::World;
+use std::alloc::Global;
+use std::marker::Model;
+
+/// A program that runs, in pieces of as many steps as are asked for.
+#[derive(Drop)]
+pub struct Machine<P: Program> {
+    schedule: Schedule<P>,
+    failed: bool,
+}
+
+impl<P: Program> Model for Machine<P> {
+    ghost use Rattle.std.specs.Prelude.{◌≡◌, false, if◌then◌else◌};
+    ghost use Rattle.pth_base.specs.declared.outcome.Outcome.TheVariants.{OutOfMemory};
+    ghost use Rattle.pth_sched.specs.MachineOf.{MachineOf, IsGoing};
+
+    ghost Value = { MachineOf P P.State P.Shared };
+
+    ghost view = { λ m. record m.schedule { outcome = if m.failed then OutOfMemory else m.schedule.outcome } };
+
+    ghost invariant = { λ m. (m.failed ≡ false → IsGoing m.schedule) };
+}
+
+impl<P: Program> Machine<P> {
+    /// The main thread alone, ready (`pth_init`).
+    pub fn new(alloc: Global, program: P) -> Result<Machine<P>, OutOfMemory>
+        ensures steps { IfOk result (λ m. m.steps ≡ 0) }
+        ensures outcome { IfOk result (λ m. m.outcome ≡ Outcome.Running) }
+    {
+        let schedule = Schedule::new(alloc, program)?;
+        Ok(Machine {
+            schedule,
+            failed: false,
+        })
+    }
+
+    // How the run stands.
+    fn outcome(&self) -> Outcome
+        ensures { result ≡ self.now.outcome }
+    {
+        if self.failed {
+            Outcome::OutOfMemory
+        } else {
+            self.schedule.outcome()
+        }
+    }
+
+    /// Makes the next `n` steps, and goes on by the parts after them that are no steps. Fewer steps are made where the run
+    /// ends before. After an outcome that ends the run it answers the same again, and tells nothing.
+    pub fn advance(&mut self, n: u64, marks: &mut Marks) -> Outcome
+        requires few { self.old.steps + n ≤ 1000000000 }
+        ensures steps { self.new.steps ≤ self.old.steps + n }
+        ensures running { result ≡ Outcome.Running → self.new.steps ≡ self.old.steps + n }
+        ensures outcome { result ≡ self.new.outcome }
+        ensures again { self.old.outcome ≢ Outcome.Running → (result ≡ self.old.outcome) × (marks.new ≡ marks.old) }
+    {
+        match self.outcome() {
+            Outcome::Running => {}
+            outcome => return outcome,
+        }
+        let to = self.schedule.steps() + n;
+        match self.schedule.advance(to, marks) {
+            Ok(()) => self.schedule.outcome(),
+            Err(OutOfMemory) => {
+                self.failed = true;
+                Outcome::OutOfMemory
+            }
+        }
+    }
+
+    /// How many steps were made.
+    pub fn steps(&self) -> u64
+        ensures { result ≡ self.now.steps }
+    {
+        self.schedule.steps()
+    }
+
+    /// How many turns began.
+    pub fn turns(&self) -> u64
+        ensures { result ≡ self.now.turns }
+    {
+        self.schedule.turns()
+    }
+
+    /// How many threads were made so far.
+    pub fn made(&self) -> u32
+        ensures { result ≡ self.now.world.threads.made }
+    {
+        self.schedule.world().threads().made()
+    }
+
+    /// The moment, in microseconds.
+    pub fn now(&self) -> Micros
+        ensures { result ≡ self.now.world.time }
+    {
+        self.schedule.world().time()
+    }
+
+    /// The numbers of the threads in the system that are not dead, the oldest first.
+    pub fn live(&self, alloc: Global) -> Result<Vec<Tid>, OutOfMemory> {
+        let mut live = Vec::new(alloc);
+        let threads = self.schedule.world().threads();
+        for t in threads.tids(alloc)? {
+            if let Some(slot) = threads.find(t) {
+                match threads.get(slot).state {
+                    ThreadState::Dead => {}
+                    _ => live.push(t)?,
+                }
+            }
+        }
+        Ok(live)
+    }
+}

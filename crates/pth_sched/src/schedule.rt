@@ -1,0 +1,249 @@
+//! The parts of a run: a thread is taken, it makes a step, its turn is closed, and time moves.
+
+ghost use Rattle.std.specs.Prelude.{◌≡◌, ◌≤◌, ◌+◌, ◌<◌, ℕ, true, false, Some, None, IsSome, IfSome, IfOk, OnOk, OnErr};
+ghost use Rattle.pth_world.specs.Standing.{Whole};
+ghost use Rattle.pth_waits.specs.Running.{runs_after};
+ghost use Rattle.pth_sched.specs.MachineOf.{IsGoing, left, stops};
+
+use crate::passes::pass;
+use crate::turns::{go_on, next, place, raise, ready_new};
+use pth_base::ids::{Micros, Tid};
+use pth_base::mark::Mark;
+use pth_base::marks::Marks;
+use pth_base::memory::OutOfMemory;
+use pth_base::outcome::Outcome;
+use pth_base::program::Program;
+use pth_model::next::Next;
+use pth_queue::queue::Queue;
+use pth_world::world::World;
+use std::alloc::Global;
+use std::marker::Model;
+
+// The main thread's number.
+const MAIN: u32 = 1;
+
+// Where moments stand still.
+const LAST_MOMENT: Micros = 1_000_000_000_000_000_000;
+
+/// A world with the turn that it is in.
+#[derive(Drop)]
+pub struct Schedule<P: Program> {
+    alloc: Global,
+    world: World<P>,
+    gave: Option<Tid>,
+    turns: u64,
+    steps: u64,
+    outcome: Outcome,
+}
+
+impl<P: Program> Model for Schedule<P> {
+    ghost use Rattle.std.specs.Prelude.{option_map};
+    ghost use Rattle.pth_world.specs.World.{number_of};
+    ghost use Rattle.pth_sched.specs.MachineOf.{MachineOf};
+
+    ghost Value = { MachineOf P P.State P.Shared };
+
+    ghost view = { λ m. record {
+      world = m.world;
+      gave = option_map number_of m.gave;
+      turns = m.turns;
+      steps = m.steps;
+      outcome = m.outcome;
+    } };
+}
+
+impl<P: Program> Schedule<P> {
+    /// The main thread alone, ready (`pth_init`).
+    pub fn new(alloc: Global, program: P) -> Result<Schedule<P>, OutOfMemory>
+        ensures going { IfOk result (λ m. IsGoing m) }
+        ensures steps { IfOk result (λ m. m.steps ≡ 0) }
+        ensures outcome { IfOk result (λ m. m.outcome ≡ Outcome.Running) }
+    {
+        let world = World::new(alloc, program)?;
+        Ok(Schedule {
+            alloc,
+            world,
+            gave: None,
+            turns: 0,
+            steps: 0,
+            outcome: Outcome::Running,
+        })
+    }
+
+    /// How many steps were made.
+    pub fn steps(&self) -> u64
+        ensures { result ≡ self.now.steps }
+    {
+        self.steps
+    }
+
+    /// How many turns began.
+    pub fn turns(&self) -> u64
+        ensures { result ≡ self.now.turns }
+    {
+        self.turns
+    }
+
+    /// How the run stands.
+    pub fn outcome(&self) -> Outcome
+        ensures { result ≡ self.now.outcome }
+    {
+        self.outcome
+    }
+
+    /// The program with its threads.
+    pub fn world(&self) -> &World<P>
+        ensures { result.now ≡ self.now.world }
+    {
+        &self.world
+    }
+
+    // The new threads become ready, and one thread is dispatched.
+    fn take(&mut self, marks: &mut Marks) -> Result<(), OutOfMemory>
+        requires going { IsGoing self.old }
+        requires few { self.old.steps ≤ 1000000000 }
+        requires nobody { self.old.world.running ≡ None }
+        requires over { self.old.gave ≡ None }
+        ensures going { OnOk result (IsGoing self.new) }
+        ensures steps { self.new.steps ≡ self.old.steps }
+        ensures gave { OnOk result (self.new.gave ≡ None) }
+        ensures runs { OnOk result (self.new.outcome ≡ Outcome.Running → IsSome self.new.world.running) }
+    {
+        ready_new(&mut self.world)?;
+        let Some(t) = next(&self.world) else {
+            self.outcome = Outcome::Stalled;
+            return Ok(());
+        };
+        let rank = self.world.ready_rank(t);
+        self.world.dispatch(t);
+        self.turns += 1;
+        marks.push(Mark::Dispatch {
+            turn: self.turns,
+            at: self.world.time(),
+            tid: t,
+            rank,
+            waited: 0,
+            allowed: 0,
+        })
+    }
+
+    // What a call of thread t leads to.
+    fn settle(&mut self, t: Tid, next: Next)
+        requires whole { Whole self.old.world }
+        requires runs { self.old.world.running ≡ runs_after t.0 next }
+        ensures whole { Whole self.new.world }
+        ensures named { self.new.world.named ≡ self.old.world.named }
+        ensures threads { self.new.world.threads ≡ self.old.world.threads }
+        ensures running { self.new.world.running ≡ self.old.world.running }
+        ensures gives { self.new.world.running ≡ None → IsSome self.new.gave }
+        ensures same { self.new ≡ record self.old { world = self.new.world; gave = self.new.gave; outcome = self.new.outcome } }
+    {
+        match next {
+            Next::Done(answer) => self.world.owe(t, answer),
+            Next::Yields(answer) => {
+                self.world.owe(t, answer);
+                self.gave = Some(t);
+            }
+            Next::Waits => self.gave = Some(t),
+            Next::Ended(value) => {
+                if t.0 == MAIN {
+                    self.outcome = Outcome::Ended(value);
+                }
+                self.gave = Some(t);
+            }
+            Next::Killed => self.outcome = Outcome::Killed,
+        }
+    }
+
+    // The thread that runs makes a step.
+    fn step(&mut self, t: Tid, marks: &mut Marks) -> Result<(), OutOfMemory>
+        requires going { IsGoing self.old }
+        requires few { self.old.steps ≤ 1000000000 }
+        requires runs { self.old.world.running ≡ Some t.0 }
+        ensures going { OnOk result (IsGoing self.new) }
+        ensures steps { OnOk result (self.new.steps ≡ self.old.steps + 1) }
+        ensures still { OnErr result (self.new.steps ≡ self.old.steps) }
+    {
+        let next = go_on(&mut self.world, t, marks)?;
+        self.steps += 1;
+        self.settle(t, next);
+        Ok(())
+    }
+
+    // The turn is over: the ready threads rise, the one that gave up control is put back, time goes on, and a pass is made.
+    fn close(&mut self, marks: &mut Marks) -> Result<(), OutOfMemory>
+        requires going { IsGoing self.old }
+        requires over { IsSome self.old.gave }
+        ensures going { OnOk result (IsGoing self.new) }
+        ensures steps { self.new.steps ≡ self.old.steps }
+        ensures gave { OnOk result (self.new.gave ≡ None) }
+        ensures running { OnOk result (self.new.world.running ≡ None) }
+        ensures outcome { OnOk result (self.new.outcome ≡ self.old.outcome) }
+    {
+        raise(&mut self.world)?;
+        place(&mut self.world);
+        self.gave = None;
+        let time = self.world.time().saturating_add(self.world.clock());
+        self.world.set_time(time.min(LAST_MOMENT));
+        pass(self.alloc, &mut self.world, marks)
+    }
+
+    // Whether nothing is new or ready.
+    fn is_idle(&self) -> bool
+        requires { IsGoing self.now }
+    {
+        self.world.is_empty(Queue::New) && self.world.is_empty(Queue::Ready)
+    }
+
+    // One part of the run.
+    fn part(&mut self, marks: &mut Marks) -> Result<(), OutOfMemory>
+        requires going { IsGoing self.old }
+        requires few { self.old.steps ≤ 1000000000 }
+        ensures going { OnOk result (IsGoing self.new) }
+        ensures less { OnOk result ((to : ℕ) → stops to self.old ≡ false → left to self.new < left to self.old) }
+        ensures within { (to : ℕ) → stops to self.old ≡ false → self.old.steps ≤ to → self.new.steps ≤ to }
+    {
+        match self.outcome {
+            Outcome::Running => {}
+            _ => return Ok(()),
+        }
+        if self.gave.is_some() {
+            return self.close(marks);
+        }
+        if let Some(t) = self.world.running() {
+            return self.step(t, marks);
+        }
+        if self.is_idle() {
+            self.outcome = Outcome::Stalled;
+            return Ok(());
+        }
+        self.take(marks)
+    }
+
+    // Whether a run to this number of steps goes no further: a next step would begin, or an outcome ended it.
+    fn stops(&self, to: u64) -> bool
+        ensures { result ≡ stops to self.now }
+    {
+        match self.outcome {
+            Outcome::Running => {}
+            _ => return true,
+        }
+        self.gave.is_none() && self.world.running().is_some() && to <= self.steps
+    }
+
+    /// Goes on to this number of steps in all, and by the parts after them that are no steps. After an error the schedule
+    /// may only be dropped.
+    pub fn advance(&mut self, to: u64, marks: &mut Marks) -> Result<(), OutOfMemory>
+        requires going { IsGoing self.old }
+        requires more { self.old.steps ≤ to }
+        requires few { to ≤ 1000000000 }
+        ensures going { OnOk result (IsGoing self.new) }
+        ensures within { self.new.steps ≤ to }
+        ensures stops { OnOk result (stops to self.new ≡ true) }
+    {
+        while !self.stops(to) {
+            self.part(marks)?;
+        }
+        Ok(())
+    }
+}
