@@ -1,0 +1,6 @@
+pub mod Clauses
+pub mod Driving
+pub mod Pieces
+pub mod Reading
+pub mod Results
+pub mod Runs

@@ -1,0 +1,66 @@
+-- What reading up to a number of bytes gives, where the bytes are told.
+use Rattle.std.proofs.Common.{◌≡◌, ◌∙◌, ◌+◌, ◌≤◌, ℕ, List, [], ◌++◌, length, take, drop, Option, Some, None, Result, Ok, Err, IfOk, IfSome, IsErrAnd, IsErrOf, MatchResult, ap, sym, refl, subst, arith, inl, inr, append-nil}
+use Rattle.std.proofs.lemmas.List.{take_all}
+use Rattle.std.proofs.Math.ListN.{drop_of_length-le}
+use Rattle.std.proofs.lemmas.Bool.{cases_order}
+use Rattle.std.proofs.Math.Seq.{take-append_seam, drop-append_seam}
+use Rattle.pth_base.specs.Faults.{Rose}
+use Rattle.pth_print.specs.declared.fault_line.Fault.{Fault}
+use Rattle.pth_print.specs.declared.fault_line.Fault.TheVariants as fault
+use Rattle.pth_script.specs.FirstForm.{IsAccepted}
+use Rattle.pth_script.specs.declared.script.Line.{Line}
+use Rattle.pth_player.specs.Faults.{fault_of_read, fault_of_script}
+use Rattle.pth_player.specs.Output.{IsRefused, cut, limit}
+use Rattle.pth_player.specs.Play.{ReadsScript}
+use Rattle.pth_player.specs.Streams.{TakesUpTo}
+use Rattle.pth_script.specs.declared.read.ReadErr.{ReadErr}
+use Rattle.pth_script.specs.declared.read.ReadErr.TheVariants as script
+use Rattle.pth_player.specs.declared.streams.ReadFault.{ReadFault}
+use Rattle.pth_player.specs.declared.streams.ReadFault.TheVariants as read
+use Rattle.pth_player.proofs.Results.{err_and, told}
+
+all_of : (cap : ℕ) (xs ys bytes : List ℕ) → xs ≡ bytes ++ ys → ys ≡ [] → length bytes ≤ cap → (bytes ≡ take cap xs) × (Some ys ≡ Some (drop cap xs))
+all_of cap xs ys bytes e end bound =
+    let same : xs ≡ bytes = e ∙ ap (λ (l : List ℕ). bytes ++ l) end ∙ append-nil bytes in
+    let front : take cap bytes ≡ bytes = take_all cap bytes bound in
+    let back : drop cap bytes ≡ [] = drop_of_length-le bytes bound in
+    (sym (ap (take cap) same ∙ front), ap Some (end ∙ sym (ap (drop cap) same ∙ back)))
+
+front_of : (cap : ℕ) (xs ys bytes : List ℕ) → xs ≡ bytes ++ ys → length bytes ≡ cap → (bytes ≡ take cap xs) × (Some ys ≡ Some (drop cap xs))
+front_of cap xs ys bytes e n =
+    let front : take (length bytes) (bytes ++ ys) ≡ bytes = take-append_seam bytes ys in
+    let back : drop (length bytes) (bytes ++ ys) ≡ ys = drop-append_seam bytes ys in
+    (sym (rw (← n, e) front), ap Some (sym (rw (← n, e) back)))
+
+pub takes_is : (cap : ℕ) (old new : Option (List ℕ)) (bytes : List ℕ) → TakesUpTo cap old new bytes
+    → IfSome old (λ xs. (bytes ≡ take cap xs) × (new ≡ Some (drop cap xs)))
+takes_is cap None new bytes t = tt
+takes_is cap (Some xs) None bytes t = absurd t.taken
+takes_is cap (Some xs) (Some ys) bytes t = elim (cases_order (length bytes) cap) [
+  | inl same ↦ front_of cap xs ys bytes t.taken same
+  | inr h ↦ elim h [
+    | inl short ↦ all_of cap xs ys bytes t.taken (t.whole short) t.bound
+    | inr long ↦ let b = t.bound in absurd (omega arith)
+  ]
+]
+
+-- up to the byte after the limit
+takes_cut : (old new : Option (List ℕ)) (bytes : List ℕ) → TakesUpTo 16777217 old new bytes → IfSome old (λ xs. (bytes ≡ cut xs) × (new ≡ Some (drop (limit + 1) xs)))
+unfolding limit
+takes_cut old new bytes t = takes_is 16777217 old new bytes t
+
+module _ (old new : Option (List ℕ)) (before now : ℕ) (bytes seen : List ℕ) (s : Result (List (List Line)) Fault) where
+  -- what is answered of the bytes is answered of the input
+  pub read_is : (r : Result (List (List Line)) ReadErr) → TakesUpTo 16777217 old new bytes → seen ≡ bytes → IfOk r (λ bodies. IsAccepted bodies seen)
+      → (IsErrOf r script.Refused → IsRefused seen) → MatchResult r (λ x. s ≡ Ok x) (λ e. IsErrAnd s (λ f. f ≡ fault_of_script e)) → ReadsScript old new before now s
+  read_is (Ok bodies) t same ok refused m = subst (ReadsScript old new before now) (sym m)
+      (told _ _ old (λ xs h. (h.1, subst (IsAccepted bodies) (same ∙ h.0) ok)) (takes_cut old new bytes t))
+  read_is (Err script.Refused) t same ok refused m = subst (ReadsScript old new before now) (sym (err_and s fault.Input m))
+      (told _ _ old (λ xs h. (h.1, subst IsRefused (same ∙ h.0) (refused refl))) (takes_cut old new bytes t))
+  read_is (Err script.OutOfMemory) t same ok refused m = subst (ReadsScript old new before now) (sym (err_and s fault.OutOfMemory m)) tt
+
+-- an input that is not read to its end
+pub unread_is : (old new : Option (List ℕ)) (before now : ℕ) (e : ReadFault) (s : Result (List (List Line)) Fault) → (e ≡ read.Failed → Rose before now)
+    → IsErrAnd s (λ f. f ≡ fault_of_read e) → ReadsScript old new before now s
+unread_is old new before now read.Failed s rose m = subst (ReadsScript old new before now) (sym (err_and s fault.ReadFault m)) (rose refl)
+unread_is old new before now read.OutOfMemory s rose m = subst (ReadsScript old new before now) (sym (err_and s fault.OutOfMemory m)) tt

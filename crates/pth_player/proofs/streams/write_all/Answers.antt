@@ -1,0 +1,16 @@
+use Rattle.std.proofs.Common.{arith}
+use Rattle.pth_player.proofs.Pieces.{append_rest, is_not_empty, part_at, rest_within}
+use Rattle.pth_player.proofs.Results.{on_err}
+use Rattle.pth_player.proofs.streams.write_all.Goals as goal
+
+pub returns-in_err-at-clause-part : goal.returns-in_err-at-clause-part
+returns-in_err-at-clause-part g c =
+    on_err c.from_residual.result (part_at _ _ _ c.args.bytes.now c.loop-at.at c.loop-at-test.true c.loop-at.invariant.written c.in_err-at.ensures.bytes)
+
+pub loop-at-preserved : goal.loop-at-preserved
+loop-at-preserved g c = record {
+  within = rest_within _ _ _ c.loop-at.invariant.within c.in_ok-at.ensures.bound;
+  written = append_rest _ _ _ _ _ _ c.loop-at.invariant.written c.in_ok-at.ensures.bytes;
+  later = let h = c.write.ensures.cause.later in omega (arith, h);
+  empty = λ none. absurd (is_not_empty _ _ c.loop-at-test.true none);
+}

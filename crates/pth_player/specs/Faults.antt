@@ -1,0 +1,21 @@
+-- The fault that an error of a part is.
+use Rattle.pth_base.specs.declared.sink.SinkErr.{SinkErr}
+use Rattle.pth_base.specs.declared.sink.SinkErr.TheVariants as sink
+use Rattle.pth_print.specs.declared.fault_line.Fault.{Fault}
+use Rattle.pth_print.specs.declared.fault_line.Fault.TheVariants as fault
+use Rattle.pth_script.specs.declared.read.ReadErr.{ReadErr}
+use Rattle.pth_script.specs.declared.read.ReadErr.TheVariants as script
+use Rattle.pth_player.specs.declared.streams.ReadFault.{ReadFault}
+use Rattle.pth_player.specs.declared.streams.ReadFault.TheVariants as read
+
+abbrev pub fault_of_read : ReadFault → Fault
+fault_of_read read.Failed = fault.ReadFault
+fault_of_read read.OutOfMemory = fault.OutOfMemory
+
+abbrev pub fault_of_script : ReadErr → Fault
+fault_of_script script.Refused = fault.Input
+fault_of_script script.OutOfMemory = fault.OutOfMemory
+
+abbrev pub fault_of_sink : SinkErr → Fault
+fault_of_sink sink.Failed = fault.WriteFault
+fault_of_sink sink.OutOfMemory = fault.OutOfMemory

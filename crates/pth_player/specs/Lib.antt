@@ -1,0 +1,5 @@
+pub mod Streams
+pub mod Transcript
+pub mod Output
+pub mod Play
+pub mod Faults

@@ -1,0 +1,23 @@
+-- What reading to the end and writing a piece do, where the bytes are told.
+use Rattle.std.specs.Prelude.{◌≡◌, ◌≢◌, ◌<◌, ◌≤◌, ◌++◌, ℕ, List, [], length, Option}
+use Rattle.std.specs.Io.KnownBytes.{Appends, Consumes, IsAtEnd}
+
+-- `bytes` was taken from the front, as many as `cap` or all there was
+pub record TakesUpTo (cap : ℕ) (old new : Option (List ℕ)) (bytes : List ℕ) : Type 0 where
+  pub taken : Consumes old new bytes
+  pub bound : length bytes ≤ cap
+  pub whole : length bytes < cap → IsAtEnd new
+
+-- the beginning of a text was appended, and the rest is left
+pub record Toward (old new : Option (List ℕ)) (text rest : List ℕ) : Type 0 where
+  pub first : List ℕ
+  pub appended : Appends old new first
+  pub whole : first ++ rest ≡ text
+
+-- a beginning of the text was appended
+abbrev pub AppendsPrefix : Option (List ℕ) → Option (List ℕ) → List ℕ → Type 0
+AppendsPrefix old new text = (rest : List ℕ) × Toward old new text rest
+
+-- a beginning of the text was appended, and not the whole
+abbrev pub AppendsPart : Option (List ℕ) → Option (List ℕ) → List ℕ → Type 0
+AppendsPart old new text = (rest : List ℕ) × (rest ≢ []) × Toward old new text rest

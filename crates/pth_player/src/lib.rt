@@ -1,0 +1,14 @@
+//! The program as one call, over the objects that it is handed.
+#![tactic(auto)]
+
+mod drive;
+mod report;
+mod run;
+mod streams;
+mod top;
+
+pub use report::report_fault;
+pub use top::play;
+
+#[cfg(test)]
+mod tests;
