@@ -24,8 +24,8 @@ invariant_of-result c =
     let first : c.push_str.new.self.bytes ≡ c.as_str-start.result.now = c.push_str.ensures.bytes ∙ ap (λ x. x ++ c.as_str-start.result.now) c.new-name.ensures in
     let whole = both c.push_str.new.self.bytes c.push_str-2.new.self.bytes c.as_str-start.result.now (take c.min-n.result c.args.suffix.now) first (c.push_str-2.ensures.bytes ∙ ap (λ x. c.push_str.new.self.bytes ++ x) front) in
     subst (λ l. IsAscii l) (sym whole)
-        (IsAscii-append c.as_str-start.result.now (take c.min-n.result c.args.suffix.now) c.as_str-start.ensures.ascii
-            (IsAscii-take c.args.suffix.now c.min-n.result c.requires))
+    (IsAscii-append c.as_str-start.result.now (take c.min-n.result c.args.suffix.now) c.as_str-start.ensures.ascii
+    (IsAscii-take c.args.suffix.now c.min-n.result c.requires))
 
 pub returns : goal.returns
 returns c =
