@@ -5,43 +5,117 @@ use pth_base::source::SureSource;
 use std::test::Fail;
 
 #[test]
-fn a_thread_is_spawned_and_ends(rt: HostRuntime) -> Result<(), Fail> {
+fn scripts_are_run(rt: HostRuntime) -> Result<(), Fail> {
     let alloc = rt.alloc();
     let words = Vec::new(alloc);
-    let script = b"pth 1\nthread 0\nspawn 1 9 0\nyield 0\nexit 0\nend\nthread 1\nexit 9\nend\n";
-    let mut input = SureSource::new(alloc, script)?;
-    let mut files = SureFiles::new(alloc, b"")?;
-    let mut out = SureSink::new(alloc);
-    let mut err = SureSink::new(alloc);
-    assert_eq!(rt;
-        play(alloc, &words, &mut input, &mut files, &mut out, &mut err),
-        0
-    );
-    assert_eq!(rt;
-        out.as_slice(),
-        b"turn 1 at 0 t1 rank 0\nt1 spawn 1 9 0 = 2\nt1 yield 0 = 1\nturn 2 at 1 t2 rank 1\nt2 ends 9\nturn 3 at 2 t1 rank 1\nt1 ends 0\nended 0\n".as_slice()
-    );
-    assert!(rt; err.as_slice().is_empty());
-    Ok(())
-}
-
-#[test]
-fn main_ends_at_once(rt: HostRuntime) -> Result<(), Fail> {
-    let alloc = rt.alloc();
-    let words = Vec::new(alloc);
-    let mut input = SureSource::new(alloc, b"pth 1\nthread 0\nexit 0\nend\n")?;
-    let mut files = SureFiles::new(alloc, b"")?;
-    let mut out = SureSink::new(alloc);
-    let mut err = SureSink::new(alloc);
-    assert_eq!(rt;
-        play(alloc, &words, &mut input, &mut files, &mut out, &mut err),
-        0
-    );
-    assert_eq!(rt;
-        out.as_slice(),
-        b"turn 1 at 0 t1 rank 0\nt1 ends 0\nended 0\n".as_slice()
-    );
-    assert!(rt; err.as_slice().is_empty());
+    for (script, transcript) in [
+        // spawn, yield and exit
+        (
+            "pth 1\nthread 0\nspawn 1 9 0\nyield 0\nexit 0\nend\nthread 1\nexit 9\nend\n",
+            "turn 1 at 0 t1 rank 0\nt1 spawn 1 9 0 = 2\nt1 yield 0 = 1\nturn 2 at 1 t2 rank 1\nt2 ends 9\nturn 3 at 2 t1 rank 1\nt1 ends 0\nended 0\n",
+        ),
+        // main alone
+        (
+            "pth 1\nthread 0\nexit 0\nend\n",
+            "turn 1 at 0 t1 rank 0\nt1 ends 0\nended 0\n",
+        ),
+        // bodies without lines
+        (
+            "pth 1\nthread 0\nend\nthread 1\nend\n",
+            "turn 1 at 0 t1 rank 0\nt1 ends 0\nended 0\n",
+        ),
+        // a child without lines
+        (
+            "pth 1\nthread 0\nspawn 1 0 0\nend\nthread 1\nend\n",
+            "turn 1 at 0 t1 rank 0\nt1 spawn 1 0 0 = 2\nt1 exit 0 waits\nturn 2 at 1 t2 rank 5\nt2 ends 0\nwake t1 rank 1\nturn 3 at 2 t1 rank 1\nt1 ends 0\nended 0\n",
+        ),
+        // main waits with its value
+        (
+            "pth 1\nthread 0\nspawn 1 0 0\nexit 7\nend\nthread 1\nyield 0\nexit 3\nend\n",
+            "turn 1 at 0 t1 rank 0\nt1 spawn 1 0 0 = 2\nt1 exit 7 waits\nturn 2 at 1 t2 rank 5\nt2 yield 0 = 1\nturn 3 at 2 t2 rank 0\nt2 ends 3\nwake t1 rank 1\nturn 4 at 3 t1 rank 1\nt1 ends 7\nended 7\n",
+        ),
+        // bodies that are not there
+        (
+            "pth 1\nthread 0\nspawn 7 0 0\nspawn 1 0 0\nspawn -1 0 0\nspawn 4294967296 0 0\nspawn 9223372036854775807 0 0\nspawn -9223372036854775808 0 0\nexit 0\nend\n",
+            "turn 1 at 0 t1 rank 0\nt1 spawn 7 0 0 = EINVAL\nt1 spawn 1 0 0 = EINVAL\nt1 spawn -1 0 0 = EINVAL\nt1 spawn 4294967296 0 0 = EINVAL\nt1 spawn 9223372036854775807 0 0 = EINVAL\nt1 spawn -9223372036854775808 0 0 = EINVAL\nt1 ends 0\nended 0\n",
+        ),
+        // a refused spawn takes no number
+        (
+            "pth 1\nthread 0\nspawn 9 0 0\nspawn 1 0 0\nspawn 2 0 0\nexit 0\nend\nthread 1\nend\n",
+            "turn 1 at 0 t1 rank 0\nt1 spawn 9 0 0 = EINVAL\nt1 spawn 1 0 0 = 2\nt1 spawn 2 0 0 = EINVAL\nt1 exit 0 waits\nturn 2 at 1 t2 rank 5\nt2 ends 0\nwake t1 rank 1\nturn 3 at 2 t1 rank 1\nt1 ends 0\nended 0\n",
+        ),
+        // three new threads with equal ranks
+        (
+            "pth 1\nthread 0\nspawn 1 1 0\nspawn 1 2 0\nspawn 1 3 0\nyield 0\nexit 0\nend\nthread 1\nyield 0\nexit 0\nend\n",
+            "turn 1 at 0 t1 rank 0\nt1 spawn 1 1 0 = 2\nt1 spawn 1 2 0 = 3\nt1 spawn 1 3 0 = 4\nt1 yield 0 = 1\nturn 2 at 1 t2 rank 3\nt2 yield 0 = 1\nturn 3 at 2 t3 rank 3\nt3 yield 0 = 1\nturn 4 at 3 t4 rank 3\nt4 yield 0 = 1\nturn 5 at 4 t1 rank 3\nt1 exit 0 waits\nturn 6 at 5 t2 rank 3\nt2 ends 0\nturn 7 at 6 t3 rank 3\nt3 ends 0\nturn 8 at 7 t4 rank 3\nt4 ends 0\nwake t1 rank 1\nturn 9 at 8 t1 rank 1\nt1 ends 0\nended 0\n",
+        ),
+        // a child that spawns
+        (
+            "pth 1\nthread 0\nspawn 1 0 0\nyield 0\nyield 0\nexit 0\nend\nthread 1\nspawn 2 5 0\nyield 0\nexit 1\nend\nthread 2\nexit 2\nend\n",
+            "turn 1 at 0 t1 rank 0\nt1 spawn 1 0 0 = 2\nt1 yield 0 = 1\nturn 2 at 1 t2 rank 1\nt2 spawn 2 5 0 = 3\nt2 yield 0 = 1\nturn 3 at 2 t3 rank 2\nt3 ends 2\nturn 4 at 3 t1 rank 2\nt1 yield 0 = 1\nturn 5 at 4 t2 rank 2\nt2 ends 1\nturn 6 at 5 t1 rank 1\nt1 ends 0\nended 0\n",
+        ),
+        // main waits for its child's child
+        (
+            "pth 1\nthread 0\nspawn 1 0 0\nexit 0\nend\nthread 1\nspawn 2 0 0\nexit 1\nend\nthread 2\nexit 2\nend\n",
+            "turn 1 at 0 t1 rank 0\nt1 spawn 1 0 0 = 2\nt1 exit 0 waits\nturn 2 at 1 t2 rank 5\nt2 spawn 2 0 0 = 3\nt2 ends 1\nturn 3 at 2 t3 rank 5\nt3 ends 2\nwake t1 rank 1\nturn 4 at 3 t1 rank 1\nt1 ends 0\nended 0\n",
+        ),
+        // two children take turns
+        (
+            "pth 1\nthread 0\nspawn 1 1 0\nspawn 1 2 0\nexit 0\nend\nthread 1\nyield 0\nyield 0\nexit 0\nend\n",
+            "turn 1 at 0 t1 rank 0\nt1 spawn 1 1 0 = 2\nt1 spawn 1 2 0 = 3\nt1 exit 0 waits\nturn 2 at 1 t2 rank 6\nt2 yield 0 = 1\nturn 3 at 2 t3 rank 6\nt3 yield 0 = 1\nturn 4 at 3 t2 rank 1\nt2 yield 0 = 1\nturn 5 at 4 t3 rank 1\nt3 yield 0 = 1\nturn 6 at 5 t2 rank 1\nt2 ends 0\nturn 7 at 6 t3 rank 1\nt3 ends 0\nwake t1 rank 1\nturn 8 at 7 t1 rank 1\nt1 ends 0\nended 0\n",
+        ),
+        // the least and the greatest value
+        (
+            "pth 1\nthread 0\nspawn 1 9223372036854775807 0\nspawn 2 -9223372036854775808 0\nyield 0\nexit -9223372036854775808\nend\nthread 1\nexit 9223372036854775807\nend\nthread 2\nexit -9223372036854775808\nend\n",
+            "turn 1 at 0 t1 rank 0\nt1 spawn 1 9223372036854775807 0 = 2\nt1 spawn 2 -9223372036854775808 0 = 3\nt1 yield 0 = 1\nturn 2 at 1 t2 rank 2\nt2 ends 9223372036854775807\nturn 3 at 2 t3 rank 2\nt3 ends -9223372036854775808\nturn 4 at 3 t1 rank 2\nt1 ends -9223372036854775808\nended -9223372036854775808\n",
+        ),
+        // main waits with the greatest value
+        (
+            "pth 1\nthread 0\nspawn 1 0 0\nexit 9223372036854775807\nend\nthread 1\nend\n",
+            "turn 1 at 0 t1 rank 0\nt1 spawn 1 0 0 = 2\nt1 exit 9223372036854775807 waits\nturn 2 at 1 t2 rank 5\nt2 ends 0\nwake t1 rank 1\nturn 3 at 2 t1 rank 1\nt1 ends 9223372036854775807\nended 9223372036854775807\n",
+        ),
+        // a waiting thread rises by one a turn
+        (
+            "pth 1\nthread 0\nspawn 1 0 0\nyield 0\nexit 0\nend\nthread 1\nspawn 2 0 0\nend\nthread 2\nspawn 3 0 0\nend\nthread 3\nspawn 4 0 0\nend\nthread 4\nend\n",
+            "turn 1 at 0 t1 rank 0\nt1 spawn 1 0 0 = 2\nt1 yield 0 = 1\nturn 2 at 1 t2 rank 1\nt2 spawn 2 0 0 = 3\nt2 ends 0\nturn 3 at 2 t3 rank 2\nt3 spawn 3 0 0 = 4\nt3 ends 0\nturn 4 at 3 t4 rank 3\nt4 spawn 4 0 0 = 5\nt4 ends 0\nturn 5 at 4 t5 rank 4\nt5 ends 0\nturn 6 at 5 t1 rank 4\nt1 ends 0\nended 0\n",
+        ),
+        // main spawns in every turn
+        (
+            "pth 1\nthread 0\nspawn 1 1 0\nyield 0\nspawn 1 2 0\nyield 0\nspawn 1 3 0\nyield 0\nexit 5\nend\nthread 1\nyield 0\nexit 0\nend\n",
+            "turn 1 at 0 t1 rank 0\nt1 spawn 1 1 0 = 2\nt1 yield 0 = 1\nturn 2 at 1 t2 rank 1\nt2 yield 0 = 1\nturn 3 at 2 t1 rank 1\nt1 spawn 1 2 0 = 3\nt1 yield 0 = 1\nturn 4 at 3 t3 rank 2\nt3 yield 0 = 1\nturn 5 at 4 t2 rank 2\nt2 ends 0\nturn 6 at 5 t1 rank 2\nt1 spawn 1 3 0 = 4\nt1 yield 0 = 1\nturn 7 at 6 t4 rank 3\nt4 yield 0 = 1\nturn 8 at 7 t3 rank 3\nt3 ends 0\nturn 9 at 8 t1 rank 2\nt1 exit 5 waits\nturn 10 at 9 t4 rank 2\nt4 ends 0\nwake t1 rank 1\nturn 11 at 10 t1 rank 1\nt1 ends 5\nended 5\n",
+        ),
+        // a child ends before another runs
+        (
+            "pth 1\nthread 0\nspawn 1 0 0\nspawn 2 0 0\nexit 0\nend\nthread 1\nexit 1\nend\nthread 2\nexit 2\nend\n",
+            "turn 1 at 0 t1 rank 0\nt1 spawn 1 0 0 = 2\nt1 spawn 2 0 0 = 3\nt1 exit 0 waits\nturn 2 at 1 t2 rank 6\nt2 ends 1\nturn 3 at 2 t3 rank 6\nt3 ends 2\nwake t1 rank 1\nturn 4 at 3 t1 rank 1\nt1 ends 0\nended 0\n",
+        ),
+        // lines after an exit do not run
+        (
+            "pth 1\nthread 0\nexit 3\nspawn 1 0 0\nexit 4\nend\nthread 1\nend\n",
+            "turn 1 at 0 t1 rank 0\nt1 ends 3\nended 3\n",
+        ),
+        // main yields alone
+        (
+            "pth 1\nthread 0\nyield 0\nyield 0\nexit 1\nend\n",
+            "turn 1 at 0 t1 rank 0\nt1 yield 0 = 1\nturn 2 at 1 t1 rank 0\nt1 yield 0 = 1\nturn 3 at 2 t1 rank 0\nt1 ends 1\nended 1\n",
+        ),
+        // new threads go before aged ones
+        (
+            "pth 1\nthread 0\nspawn 1 0 0\nspawn 1 0 0\nyield 0\nexit 0\nend\nthread 1\nyield 0\nspawn 2 0 0\nyield 0\nexit 0\nend\nthread 2\nexit 6\nend\n",
+            "turn 1 at 0 t1 rank 0\nt1 spawn 1 0 0 = 2\nt1 spawn 1 0 0 = 3\nt1 yield 0 = 1\nturn 2 at 1 t2 rank 2\nt2 yield 0 = 1\nturn 3 at 2 t3 rank 2\nt3 yield 0 = 1\nturn 4 at 3 t1 rank 2\nt1 exit 0 waits\nturn 5 at 4 t2 rank 2\nt2 spawn 2 0 0 = 4\nt2 yield 0 = 1\nturn 6 at 5 t4 rank 3\nt4 ends 6\nturn 7 at 6 t3 rank 3\nt3 spawn 2 0 0 = 5\nt3 yield 0 = 1\nturn 8 at 7 t5 rank 3\nt5 ends 6\nturn 9 at 8 t2 rank 3\nt2 ends 0\nturn 10 at 9 t3 rank 2\nt3 ends 0\nwake t1 rank 1\nturn 11 at 10 t1 rank 1\nt1 ends 0\nended 0\n",
+        ),
+    ] {
+        let mut input = SureSource::new(alloc, script.as_bytes())?;
+        let mut files = SureFiles::new(alloc, b"")?;
+        let mut out = SureSink::new(alloc);
+        let mut err = SureSink::new(alloc);
+        assert_eq!(rt;
+            play(alloc, &words, &mut input, &mut files, &mut out, &mut err),
+            0
+        );
+        assert_eq!(rt; out.as_slice(), transcript.as_bytes());
+        assert!(rt; err.as_slice().is_empty());
+    }
     Ok(())
 }
 
