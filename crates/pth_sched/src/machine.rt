@@ -94,10 +94,10 @@ impl<P: Program> Machine<P> {
     }
 
     /// How many threads were made so far.
-    pub fn made(&self) -> u32
+    pub fn made(&self) -> u64
         ensures { result ≡ self.now.world.threads.made }
     {
-        self.schedule.world().threads().made()
+        u64::from(self.schedule.world().threads().made())
     }
 
     /// The moment, in microseconds.
@@ -105,6 +105,13 @@ impl<P: Program> Machine<P> {
         ensures { result ≡ self.now.world.time }
     {
         self.schedule.world().time()
+    }
+
+    /// The program with its threads.
+    pub fn world(&self) -> &World<P>
+        ensures { result.now ≡ self.now.world }
+    {
+        self.schedule.world()
     }
 
     /// The numbers of the threads in the system that are not dead, the oldest first.
