@@ -1,5 +1,5 @@
 -- A thread is spawned as its row says.
-use Rattle.std.proofs.Common.{◌≡◌, ◌+◌, ℕ, ℤ, Bool, false, Option, Some, None}
+use Rattle.std.proofs.Common.{◌≡◌, ◌+◌, ℕ, ℤ, false, Option, Some}
 use Rattle.pth_base.specs.Program.{Functions}
 use Rattle.pth_queue.specs.declared.queue.Queue.TheVariants as queue
 use Rattle.pth_threads.specs.declared.entry.Entry.{Entry}

@@ -1,5 +1,5 @@
 -- How many threads are in the system.
-use Rattle.std.proofs.Common.{◌≡◌, ◌≢◌, ℕ, zero, suc, ◌+◌, ◌<◌, ◌≤◌, Bool, true, false, if◌then◌else◌, Option, Some, None, is_some, option_map, refl, sym, ◌∙◌, ap, ap₂, arith, inl, inr, add-one}
+use Rattle.std.proofs.Common.{◌≡◌, ℕ, zero, suc, ◌+◌, ◌<◌, ◌≤◌, Bool, if◌then◌else◌, Option, Some, None, is_some, option_map, refl, sym, ◌∙◌, ap, ap₂, arith, inl, inr, add-one}
 use Rattle.std.proofs.lemmas.Bool.{cases_lt}
 use Rattle.pth_base.specs.Table.{put}
 use Rattle.pth_base.proofs.Tables.{put_here, put_other, put_by}

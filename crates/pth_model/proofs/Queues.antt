@@ -1,12 +1,12 @@
 -- The five queues of a state, after one change.
-use Rattle.std.proofs.Common.{◌≡◌, ℕ, ◌+◌, Bool, true, false, if◌then◌else◌, ℤ, pos, ◌+ℤ◌, ◌-ℤ◌, List, [], ◌∷◌, refl, sym, ◌∙◌, ap, arith}
+use Rattle.std.proofs.Common.{◌≡◌, ℕ, Bool, true, false, ℤ, pos, ◌+ℤ◌, ◌-ℤ◌, List, refl, ◌∙◌, ap, arith}
 use Rattle.std.proofs.lemmas.Int.{ints}
 use Rattle.pth_queue.specs.declared.row.Row.{Row}
 use Rattle.pth_queue.specs.declared.queue.Queue.{Queue}
 use Rattle.pth_queue.specs.declared.queue.Queue.TheVariants.{New, Ready, Waiting, Suspended, Dead}
 use Rattle.pth_queue.specs.Rows.{insert, delete, increase}
 use Rattle.pth_queue.specs.Queues.{QueuesOf, rows_of, with_rows, without}
-use Rattle.pth_model.specs.Standing.{Standing, is_queue, raises_of, shown, left_by}
+use Rattle.pth_model.specs.Standing.{is_queue, raises_of}
 use Rattle.pth_model.specs.State.{State, queue}
 use Rattle.pth_model.specs.Changes.{with_entry, without_entry, raised}
 use Rattle.pth_model.proofs.Orders.{shown-enter, shown-left, shown-raise}

@@ -1,23 +1,18 @@
 -- The changes of which the calls and the parts of a run are made: one thing of the state each.
-use Rattle.std.specs.Prelude.{ℕ, suc, ◌+◌, ℤ, pos, Bool, true, false, List, ◌∷◌, Option, Some, None, option_map, if◌then◌else◌}
+use Rattle.std.specs.Prelude.{ℕ, ◌+◌, ℤ, Bool, ◌∷◌, Option, Some, None, option_map, if◌then◌else◌}
 use Rattle.pth_base.specs.Program.{Functions, Stepped}
 use Rattle.pth_base.specs.Table.{put}
 use Rattle.pth_base.specs.declared.answer.Answer.{Answer}
 use Rattle.pth_base.specs.declared.answer.Answer.TheVariants as answer
 use Rattle.pth_base.specs.declared.call.Call.{Call}
 use Rattle.pth_base.specs.declared.call.Call.TheVariants as call
-use Rattle.pth_base.specs.declared.thread.ThreadState.{ThreadState}
-use Rattle.pth_base.specs.declared.thread.ThreadState.TheVariants as state
 use Rattle.pth_queue.specs.declared.queue.Queue.{Queue}
-use Rattle.pth_queue.specs.declared.queue.Queue.TheVariants as queue
-use Rattle.pth_threads.specs.declared.entry.Entry.{Entry}
 use Rattle.pth_threads.specs.declared.entry.NewThread.{NewThread}
 use Rattle.pth_threads.specs.declared.entry.Change.{Change}
-use Rattle.pth_threads.specs.declared.entry.Change.TheVariants as change
 use Rattle.pth_threads.specs.Threads.{changed, made_of}
 use Rattle.pth_model.specs.declared.continuation.Continuation.{Continuation}
 use Rattle.pth_model.specs.declared.held.Held.{Held}
-use Rattle.pth_model.specs.Standing.{Standing, is_queue, left_by, raises_of}
+use Rattle.pth_model.specs.Standing.{is_queue, left_by, raises_of}
 use Rattle.pth_model.specs.State.{State, Threads, Scheduler}
 
 module _ {P S H : Type 0} (s : State P S H) where

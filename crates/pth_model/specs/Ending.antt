@@ -1,5 +1,5 @@
 -- How a thread ends (pth_exit, and the end of its body).
-use Rattle.std.specs.Prelude.{ℕ, ◌==◌, ℤ, pos, Bool, true, false, Option, Some, None, if◌then◌else◌}
+use Rattle.std.specs.Prelude.{ℕ, ◌==◌, ℤ, pos, false, Option, Some, None, if◌then◌else◌}
 use Rattle.pth_base.specs.declared.mark.Mark.TheVariants.{Ended}
 use Rattle.pth_base.specs.declared.thread.ThreadState.TheVariants as state
 use Rattle.pth_queue.specs.declared.queue.Queue.TheVariants as queue

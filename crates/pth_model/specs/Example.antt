@@ -1,5 +1,5 @@
 -- One run, computed by the definitions alone: main spawns a thread, yields to it and exits.
-use Rattle.std.specs.Prelude.{ℕ, zero, suc, ◌+◌, pos, ℤ, false, List, [], ◌∷◌, None}
+use Rattle.std.specs.Prelude.{ℕ, zero, suc, ◌+◌, pos, false, List, [], ◌∷◌, None}
 use Rattle.pth_base.specs.Program.{Functions}
 use Rattle.pth_base.specs.declared.answer.Answer.TheVariants.{Int}
 use Rattle.pth_base.specs.declared.call.Call.{Call}

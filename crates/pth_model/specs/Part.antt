@@ -1,5 +1,5 @@
 -- One part of a run: time moves, a thread is taken, it makes a step, or its turn is closed.
-use Rattle.std.specs.Prelude.{ℕ, suc, ◌+◌, ◌^◌, ◌==◌, ◌&&◌, min, ℤ, pos, Bool, true, false, List, [], ◌∷◌, reverse, Option, Some, None, if◌then◌else◌}
+use Rattle.std.specs.Prelude.{ℕ, ◌+◌, ◌==◌, ◌&&◌, min, ℤ, pos, Bool, true, false, List, [], ◌∷◌, reverse, Option, Some, None, if◌then◌else◌}
 use Rattle.pth_base.specs.Program.{Functions}
 use Rattle.pth_base.specs.declared.answer.Answer.{Answer}
 use Rattle.pth_base.specs.declared.answer.Answer.TheVariants as answer
@@ -15,7 +15,7 @@ use Rattle.pth_threads.specs.declared.entry.Change.TheVariants as change
 use Rattle.pth_model.specs.declared.held.Held.{Held}
 use Rattle.pth_model.specs.declared.next.Next.{Next}
 use Rattle.pth_model.specs.declared.next.Next.TheVariants as next
-use Rattle.pth_model.specs.State.{State, Scheduler, queue}
+use Rattle.pth_model.specs.State.{State, queue}
 use Rattle.pth_model.specs.Changes.{with_change, with_going, with_entry, without_entry, with_owed, with_scheduler, raised, running_is, naming, owed_to, held_of, called}
 use Rattle.pth_model.specs.Told.{Told, Went, still, tells, followed, tid}
 use Rattle.pth_model.specs.Waits.{begun, resumed, main}

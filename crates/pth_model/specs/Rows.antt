@@ -1,5 +1,5 @@
 -- The rows of the call table: what each call answers, and what it changes.
-use Rattle.std.specs.Prelude.{ℕ, ◌+◌, ◌++◌, ◌==◌, nat_lt, take, codes, ℤ, pos, negsuc, Bool, true, false, List, [], ◌∷◌, Option, Some, None, if◌then◌else◌}
+use Rattle.std.specs.Prelude.{ℕ, ◌+◌, ◌++◌, ◌==◌, nat_lt, take, codes, ℤ, pos, negsuc, Bool, true, false, [], Option, Some, None, if◌then◌else◌}
 use Rattle.pth_base.specs.Program.{Functions}
 use Rattle.pth_base.specs.declared.answer.Answer.{Answer}
 use Rattle.pth_base.specs.declared.answer.Answer.TheVariants as answer
@@ -9,11 +9,9 @@ use Rattle.pth_base.specs.declared.mark.Mark.TheVariants.{Answered, Noted}
 use Rattle.pth_queue.specs.declared.queue.Queue.TheVariants as queue
 use Rattle.pth_threads.specs.declared.entry.Entry.{Entry}
 use Rattle.pth_threads.specs.declared.entry.NewThread.{NewThread}
-use Rattle.pth_model.specs.declared.next.Next.{Next}
-use Rattle.pth_model.specs.declared.next.Next.TheVariants.{Done, Yields}
 use Rattle.pth_model.specs.State.{State, present}
 use Rattle.pth_model.specs.Changes.{with_entry, with_thread}
-use Rattle.pth_model.specs.Told.{Told, Went, still, tells, tid}
+use Rattle.pth_model.specs.Told.{Told, still, tells, tid}
 use Rattle.pth_model.specs.Family.{Family, Threads, Ends, Plains, Notes, Unbuilt, ThreadCall, Spawn, Yield, split}
 
 -- pth_spawn: a child has its spawner's priority, joinability and cancel state, and a name made of its spawner's

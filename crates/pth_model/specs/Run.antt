@@ -3,7 +3,7 @@ use Rattle.std.specs.Prelude.{ℕ, zero, suc, Bool, true, false, nat_le}
 use Rattle.pth_base.specs.Program.{Functions}
 use Rattle.pth_model.specs.State.{State, Given, start}
 use Rattle.pth_model.specs.Told.{Told, still, followed}
-use Rattle.pth_model.specs.Part.{Part, Move, Take, Step, Close, Halt, next_part, part}
+use Rattle.pth_model.specs.Part.{Part, Step, Halt, next_part, part}
 
 -- a run to this number of steps goes no further: a next step would begin, or an outcome ended it
 abbrev pub stops_by : ℕ → ℕ → Part → Bool

@@ -1,5 +1,5 @@
 -- Calls that may suspend their thread, and how a suspended call is tried again.
-use Rattle.std.specs.Prelude.{ℕ, ◌==◌, ◌&&◌, ◌||◌, not, ℤ, pos, Bool, true, false, List, [], ◌∷◌, Option, Some, None, if◌then◌else◌}
+use Rattle.std.specs.Prelude.{ℕ, ◌==◌, ◌&&◌, not, ℤ, Bool, true, false, List, [], ◌∷◌, Option, Some, None}
 use Rattle.pth_base.specs.Program.{Functions}
 use Rattle.pth_base.specs.declared.answer.Answer.{Answer}
 use Rattle.pth_base.specs.declared.answer.Answer.TheVariants as answer
@@ -14,9 +14,9 @@ use Rattle.pth_model.specs.declared.next.Next.{Next}
 use Rattle.pth_model.specs.declared.next.Next.TheVariants as next
 use Rattle.pth_model.specs.State.{State, queue}
 use Rattle.pth_model.specs.Changes.{with_going, with_held, held_of}
-use Rattle.pth_model.specs.Told.{Told, Went, tells, tid}
-use Rattle.pth_model.specs.Family.{Family, Threads, Ends, Plains, Notes, Unbuilt, ThreadCall, Spawn, Yield, EndCall, Exit, split}
-use Rattle.pth_model.specs.Rows.{answer_of, answered, plain_row, is_zero}
+use Rattle.pth_model.specs.Told.{Went, tells, tid}
+use Rattle.pth_model.specs.Family.{Family, Threads, Ends, Yield, Exit, split}
+use Rattle.pth_model.specs.Rows.{answer_of, answered, plain_row}
 use Rattle.pth_model.specs.Ending.{ending}
 
 -- the main thread's number

@@ -1,8 +1,7 @@
 -- What the parts of a run keep.
-use Rattle.std.proofs.Common.{◌≡◌, ◌∙◌, ◌+◌, ◌<◌, ◌≤◌, ℕ, ℤ, length, refl, sym, ap, subst, arith, Option, Some, None, IsSome, IfSome}
+use Rattle.std.proofs.Common.{◌≡◌, ◌∙◌, ◌<◌, ℕ, ℤ, length, refl, sym, arith, Option, Some, None, IsSome, IfSome}
 use Rattle.pth_base.specs.Program.{Functions}
 use Rattle.pth_queue.specs.declared.queue.Queue.TheVariants as queue
-use Rattle.pth_queue.specs.Rows.{is_of, delete}
 use Rattle.pth_queue.specs.Queues.{QueuesOf, queue_of, without, entered}
 use Rattle.pth_queue.proofs.Counts.{length-delete, count-present}
 use Rattle.pth_queue.proofs.Sets.{holds-queue_of}

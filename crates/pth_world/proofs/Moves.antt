@@ -1,5 +1,5 @@
 -- Moves of a thread between its states keep a world whole.
-use Rattle.std.proofs.Common.{◌≡◌, ◌≢◌, ◌==◌, ℕ, ℤ, Bool, true, false, IsSome, IfSome, Option, Some, None, option_map, ◌⊎◌, inl, inr, refl, sym, ◌∙◌, ap, subst}
+use Rattle.std.proofs.Common.{◌≡◌, ◌≢◌, ◌==◌, ℕ, ℤ, Bool, true, false, IsSome, IfSome, Option, Some, None, option_map, refl, sym, ◌∙◌, ap, subst}
 use Rattle.pth_base.specs.declared.thread.ThreadState.{ThreadState}
 use Rattle.pth_base.specs.declared.thread.ThreadState.TheVariants as state
 use Rattle.pth_base.proofs.Tables.{put_here, same_means, same_fails}
@@ -11,8 +11,8 @@ use Rattle.pth_threads.specs.declared.entry.Entry.{Entry}
 use Rattle.pth_threads.specs.declared.entry.Change.TheVariants as change
 use Rattle.pth_model.specs.declared.held.Held.{Held}
 use Rattle.pth_world.specs.World.{WorldOf}
-use Rattle.pth_world.specs.Standing.{IsSound, IsKnown, View, view, Touches, Fits, FitsEntry, IsFitting, Whole, IsRunner, IsIn, IsBefore, SameThreads, Newly, Waiting, IsAbout, CanSuspend, MaySuspend, changes, places, holding, same_view, place_for, queue_for}
-use Rattle.pth_world.proofs.Slots.{name_is, used, some_is, none_some}
+use Rattle.pth_world.specs.Standing.{IsSound, IsKnown, View, view, Touches, Fits, FitsEntry, Whole, IsRunner, IsIn, IsBefore, SameThreads, Newly, Waiting, IsAbout, CanSuspend, MaySuspend, changes, places, holding, same_view, place_for}
+use Rattle.pth_world.proofs.Slots.{name_is, used, some_is}
 
 -- one change of a thread after another
 pub touches_then : {P S H : Type 0} (u v w : WorldOf P S H) (t : ℕ) (f g : View → View) → slot_of v.threads ≡ slot_of u.threads → tid_at v.threads ≡ tid_at u.threads → Touches u v t f → Touches v w t g → Touches u w t (λ k. g (f k))

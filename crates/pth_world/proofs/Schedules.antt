@@ -4,7 +4,7 @@ use Rattle.pth_model.specs.State.{State}
 use Rattle.pth_model.specs.Changes.{running_is, naming}
 use Rattle.pth_model.specs.Part.{at_moment}
 use Rattle.pth_world.specs.World.{WorldOf}
-use Rattle.pth_world.specs.Standing.{StandsFor, StandsForThreads, IsSound, Whole}
+use Rattle.pth_world.specs.Standing.{StandsFor, IsSound, Whole}
 
 module _ {P S H : Type 0} (w : WorldOf P S H) where
   pub running_stands : (t : Option ℕ) (s : State P S H) → StandsFor w s → StandsFor (record w { running = t }) (running_is s t)

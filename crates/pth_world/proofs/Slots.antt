@@ -1,9 +1,9 @@
 -- The slot of a thread in the system.
 use Rattle.std.proofs.lemmas.Int.{ints, fits_signed_from_abs}
-use Rattle.std.proofs.Common.{ℤ, SFits, w64, arith, ◌≡◌, ◌≢◌, ◌<◌, ℕ, IsSome, Option, Some, None, refl, sym, ◌∙◌, ap}
+use Rattle.std.proofs.Common.{ℤ, SFits, w64, arith, ◌≡◌, ◌≢◌, ◌<◌, ℕ, IsSome, Option, Some, None, sym, ◌∙◌, ap}
 use Rattle.pth_threads.specs.Threads.{slot_of, tid_at}
 use Rattle.pth_world.specs.World.{WorldOf}
-use Rattle.pth_world.specs.Standing.{IsSound, IsKnown, IsPrio}
+use Rattle.pth_world.specs.Standing.{IsSound, IsPrio}
 
 pub some_is : {v w : ℕ} → Some v ≡ Some w → v ≡ w
 some_is h = cc

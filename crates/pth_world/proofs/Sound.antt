@@ -1,13 +1,13 @@
 -- Every change of a world keeps what is sound.
 use Rattle.std.proofs.Common.{◌≡◌, ◌≢◌, ◌<◌, ◌≤◌, ◌+◌, ℕ, ℤ, List, length, IsSome, Option, Some, None, option_map, refl, sym, ◌∙◌, ap, subst, arith}
 use Rattle.pth_base.specs.Table.{put, table}
-use Rattle.pth_base.specs.Naming.{IsTied, seen}
+use Rattle.pth_base.specs.Naming.{seen}
 use Rattle.pth_base.proofs.Tables.{put_here, put_other, put_by}
 use Rattle.pth_base.proofs.Namings.{seen_put, seen_at, seen_add, seen_drop}
 use Rattle.pth_queue.specs.declared.row.Row.{Row}
 use Rattle.pth_queue.specs.declared.queue.Queue.{Queue}
 use Rattle.pth_queue.specs.declared.queue.Queue.TheVariants as queue
-use Rattle.pth_queue.specs.Rows.{IsQueued, insert, delete, increase}
+use Rattle.pth_queue.specs.Rows.{IsQueued, increase}
 use Rattle.pth_queue.specs.Queues.{QueuesOf, rows_of, with_rows, without, entered, IsNowhere}
 use Rattle.pth_queue.proofs.Names.{IsQueued-insert, IsQueued-delete, IsQueued-increase, IsQueued-added, IsQueued-dropped}
 use Rattle.pth_threads.specs.Threads.{ThreadsOf, slot_of, tid_at, entry_at, tid_of, count, changed, made_of, Changes, Adds, Removes}
@@ -21,10 +21,10 @@ use Rattle.pth_model.proofs.Known.{number-new, number-gone, number-change}
 use Rattle.pth_model.proofs.Queues.{rows_here, rows_other, rows_without, is_queue_same}
 use Rattle.pth_model.specs.Standing.{is_queue}
 use Rattle.std.proofs.lemmas.Bool.{cases_Bool, cases_lt}
-use Rattle.std.proofs.Common.{inl, inr, true, false}
+use Rattle.std.proofs.Common.{inl, inr}
 use Rattle.pth_world.specs.World.{WorldOf}
 use Rattle.pth_world.specs.Standing.{IsSound, IsBare, IsPrio, KeepsPrio}
-use Rattle.pth_world.proofs.Slots.{name_is, used, low, not_unused, is_some_at, none_some, some_is}
+use Rattle.pth_world.proofs.Slots.{name_is, used, low, not_unused, none_some}
 use Rattle.pth_world.proofs.Places.{room-with, delete-none, nowhere-holds}
 
 changed_prio : (c : Change) (e : Entry) → KeepsPrio c → IsPrio e.prio → IsPrio (changed c e).prio

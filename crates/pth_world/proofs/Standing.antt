@@ -1,30 +1,29 @@
 -- How a change of one part of a world is a change of the state.
-use Rattle.std.proofs.Common.{◌≡◌, ◌≢◌, ℕ, ℤ, ◌==◌, ◌+◌, Bool, true, false, List, map, Option, Some, None, option_map, refl, sym, ◌∙◌, ap, subst, inl, inr}
+use Rattle.std.proofs.Common.{◌≡◌, ℕ, ℤ, ◌+◌, Bool, false, List, map, Option, Some, None, option_map, refl, sym, ◌∙◌, ap, subst, inl, inr}
 use Rattle.std.proofs.lemmas.Bool.{cases_Bool}
 use Rattle.pth_base.specs.Program.{Functions}
 use Rattle.pth_base.specs.Table.{put, table}
-use Rattle.pth_base.specs.Naming.{IsTied, by_slot, seen}
+use Rattle.pth_base.specs.Naming.{by_slot, seen}
 use Rattle.pth_base.specs.declared.answer.Answer.{Answer}
 use Rattle.pth_base.specs.declared.answer.Answer.TheVariants as answer
-use Rattle.pth_base.proofs.Namings.{seen_put, seen_at, seen_add, seen_bare, seen_drop}
-use Rattle.pth_queue.specs.declared.row.Row.{Row}
+use Rattle.pth_base.proofs.Namings.{seen_put, seen_at, seen_add, seen_drop}
 use Rattle.pth_queue.specs.declared.queue.Queue.{Queue}
 use Rattle.pth_queue.specs.declared.queue.Queue.TheVariants as queue
-use Rattle.pth_queue.specs.Rows.{named_row, IsQueued, insert, delete, increase}
+use Rattle.pth_queue.specs.Rows.{named_row, insert, delete, increase}
 use Rattle.pth_queue.specs.Queues.{QueuesOf, rows_of, with_rows, without, entered, IsNowhere}
 use Rattle.pth_queue.proofs.Names.{insert_named, delete_named, increase_named, named_added, named_dropped}
-use Rattle.pth_threads.specs.Threads.{ThreadsOf, slot_of, tid_at, entry_at, count, changed, made_of, Changes, Adds, Removes}
+use Rattle.pth_threads.specs.Threads.{ThreadsOf, slot_of, tid_at, entry_at, count, made_of, Changes, Adds, Removes}
 use Rattle.pth_threads.specs.declared.entry.Change.{Change}
 use Rattle.pth_threads.specs.declared.entry.Entry.{Entry}
 use Rattle.pth_threads.specs.declared.entry.NewThread.{NewThread}
 use Rattle.pth_model.specs.declared.continuation.Continuation.{Continuation}
-use Rattle.pth_model.specs.Standing.{is_queue, raises_of}
+use Rattle.pth_model.specs.Standing.{is_queue}
 use Rattle.pth_model.specs.State.{State, queue, present}
-use Rattle.pth_model.specs.Changes.{with_change, with_going, with_entry, without_entry, raised, with_thread, without_thread, called, called_from, called_by}
+use Rattle.pth_model.specs.Changes.{with_change, with_going, with_entry, without_entry, raised, with_thread, without_thread, called}
 use Rattle.pth_model.proofs.Queues.{is_queue_same, rows_here, rows_other, rows_without, queue-enter, queue-enter_other, queue-leave, queue-raise, queue-raise_other}
 use Rattle.pth_world.specs.World.{WorldOf}
-use Rattle.pth_world.specs.Standing.{StandsFor, StandsForThreads, StandsForScheduler, IsSound}
-use Rattle.pth_world.proofs.Slots.{name_is, used}
+use Rattle.pth_world.specs.Standing.{StandsFor, IsSound}
+use Rattle.pth_world.proofs.Slots.{name_is}
 use Rattle.pth_world.proofs.Places.{delete-none, nowhere-holds}
 
 module _ {P S H : Type 0} (w : WorldOf P S H) where

@@ -1,9 +1,9 @@
 -- A world with main alone stands for the state from which a run starts.
 use Rattle.std.proofs.lemmas.Int.{ints}
-use Rattle.std.proofs.Common.{arith, ◌≡◌, ◌≢◌, ◌<◌, ◌+◌, ◌==◌, ℕ, pos, Bool, true, false, List, [], length, map, max, IsSome, Option, Some, None, option_map, refl, sym, ◌∙◌, ap, subst}
+use Rattle.std.proofs.Common.{arith, ◌≡◌, ◌≢◌, ◌+◌, ◌==◌, ℕ, pos, Bool, true, false, List, [], length, map, Option, Some, None, option_map, refl, sym, ◌∙◌, ap, subst}
 use Rattle.pth_base.specs.Program.{Functions}
 use Rattle.pth_base.specs.Table.{put, table}
-use Rattle.pth_base.specs.Naming.{IsTied, seen}
+use Rattle.pth_base.specs.Naming.{seen}
 use Rattle.pth_base.specs.declared.answer.Answer.TheVariants as answer
 use Rattle.pth_base.specs.declared.thread.ThreadState.TheVariants as state
 use Rattle.pth_base.proofs.Tables.{put_here, put_other, same_means, same_fails}
@@ -16,12 +16,11 @@ use Rattle.pth_threads.specs.Threads.{ThreadsOf, slot_of, tid_at, entry_at, coun
 use Rattle.pth_threads.specs.declared.entry.Change.TheVariants as change
 use Rattle.pth_threads.specs.declared.entry.Entry.{Entry}
 use Rattle.pth_model.specs.declared.continuation.Continuation.{Continuation}
-use Rattle.pth_model.specs.Standing.{shown}
-use Rattle.pth_model.specs.State.{State, queue, number_known, Given, start, main_entry}
+use Rattle.pth_model.specs.State.{State, queue, number_known, start, main_entry}
 use Rattle.pth_model.specs.Changes.{with_change, with_entry, with_thread, held_by}
 use Rattle.pth_model.proofs.Orders.{shown-none}
 use Rattle.pth_world.specs.World.{WorldOf, first_thread}
-use Rattle.pth_world.specs.Standing.{StandsFor, IsSound, IsPrio, View, view, Fits, FitsEntry, IsFitting, Whole}
+use Rattle.pth_world.specs.Standing.{StandsFor, IsSound, IsPrio, View, view, Fits, FitsEntry, Whole}
 use Rattle.pth_world.proofs.Slots.{none_some}
 use Rattle.pth_world.proofs.Standing.{add_stands, change_stands, enter_stands}
 use Rattle.pth_world.proofs.Sound.{add_sound, change_sound, enter_sound}

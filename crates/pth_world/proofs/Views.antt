@@ -1,23 +1,22 @@
 -- What a change of one thread leaves at each slot.
-use Rattle.std.proofs.Common.{◌≡◌, ◌≢◌, ℕ, ℤ, List, IsSome, IfSome, Option, Some, None, option_map, refl, sym, ◌∙◌, ap, subst}
+use Rattle.std.proofs.Common.{◌≡◌, ◌≢◌, ℕ, ℤ, List, IsSome, Option, Some, None, option_map, refl, sym, ◌∙◌, ap, subst}
 use Rattle.pth_base.specs.Table.{put, table}
 use Rattle.pth_base.specs.declared.answer.Answer.{Answer}
-use Rattle.pth_base.specs.declared.thread.ThreadState.TheVariants as state
 use Rattle.pth_base.proofs.Tables.{put_here, put_other}
 use Rattle.pth_queue.specs.declared.queue.Queue.{Queue}
 use Rattle.pth_queue.specs.declared.queue.Queue.TheVariants as queue
 use Rattle.pth_queue.specs.Rows.{increase}
 use Rattle.pth_queue.specs.Queues.{QueuesOf, queue_of, with_rows, without, entered, IsNowhere}
-use Rattle.pth_threads.specs.Threads.{ThreadsOf, slot_of, tid_at, entry_at, changed, Changes, Removes}
+use Rattle.pth_threads.specs.Threads.{ThreadsOf, slot_of, entry_at, Changes, Removes}
 use Rattle.pth_threads.specs.declared.entry.Change.{Change}
 use Rattle.pth_threads.specs.declared.entry.Entry.{Entry}
 use Rattle.pth_model.specs.declared.continuation.Continuation.{Continuation}
 use Rattle.pth_model.specs.declared.held.Held.{Held}
 use Rattle.pth_model.specs.Changes.{held_by, with_owed, with_held}
 use Rattle.pth_world.specs.World.{WorldOf}
-use Rattle.pth_world.specs.Standing.{IsSound, IsKnown, View, view, Touches, Fits, FitsEntry, IsFitting, Whole, WholeBut, IsRunner, changes, places, holding, same_view}
-use Rattle.pth_world.proofs.Slots.{name_is, used, other_slot, some_is}
-use Rattle.pth_world.proofs.Places.{queue-entered, queue-entered_other, queue-without, queue-without_other, queue-raised, without-nowhere}
+use Rattle.pth_world.specs.Standing.{IsSound, View, view, Touches, changes, places, holding, same_view}
+use Rattle.pth_world.proofs.Slots.{used, other_slot, some_is}
+use Rattle.pth_world.proofs.Places.{queue-entered, queue-entered_other, queue-without, queue-without_other, queue-raised}
 
 held_owed : {S : Type 0} (a : Answer) (o : Option (Continuation S)) → held_by (option_map (with_owed a) o) ≡ held_by o
 held_owed a (Some c) = refl

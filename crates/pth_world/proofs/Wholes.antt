@@ -1,19 +1,16 @@
 -- Worlds that are whole, and new threads, calls and ends of threads as changes of the state.
-use Rattle.std.proofs.Common.{◌≡◌, ◌≢◌, ◌<◌, ◌≤◌, ◌+◌, ◌==◌, ℕ, ℤ, Bool, true, false, List, length, IsSome, IfSome, Option, Some, None, option_map, refl, sym, ◌∙◌, ap, subst, inl, inr, arith, Result, Ok, Err, OnErr}
-use Rattle.std.proofs.lemmas.Bool.{cases_Bool}
+use Rattle.std.proofs.Common.{◌≡◌, ◌≢◌, ◌+◌, ◌==◌, ℕ, ℤ, Bool, true, false, List, length, IsSome, IfSome, Option, Some, None, refl, sym, ◌∙◌, ap, subst, Result, Ok, Err, OnErr}
 use Rattle.pth_base.specs.Program.{Functions, Stepped}
 use Rattle.pth_base.specs.Table.{put, table}
-use Rattle.pth_base.specs.Naming.{IsTied, seen}
 use Rattle.pth_base.specs.declared.answer.Answer.{Answer}
 use Rattle.pth_base.specs.declared.answer.Answer.TheVariants as answer
 use Rattle.pth_base.specs.declared.call.Call.{Call}
-use Rattle.pth_base.specs.declared.thread.ThreadState.TheVariants as state
 use Rattle.pth_base.proofs.Tables.{put_here, put_other, put_by, same_means, same_fails}
 use Rattle.pth_base.proofs.Lists.{put_twice}
 use Rattle.pth_queue.specs.declared.queue.Queue.{Queue}
 use Rattle.pth_queue.specs.declared.queue.Queue.TheVariants as queue
 use Rattle.pth_queue.specs.Queues.{QueuesOf, queue_of, entered, IsNowhere}
-use Rattle.pth_threads.specs.Threads.{ThreadsOf, slot_of, tid_at, entry_at, made_of, Adds, Removes, IsSame}
+use Rattle.pth_threads.specs.Threads.{ThreadsOf, slot_of, tid_at, entry_at, made_of, Adds, IsSame}
 use Rattle.pth_threads.specs.declared.entry.Entry.{Entry}
 use Rattle.pth_threads.specs.declared.entry.NewThread.{NewThread}
 use Rattle.pth_model.specs.declared.continuation.Continuation.{Continuation}
@@ -21,8 +18,7 @@ use Rattle.pth_model.specs.declared.held.Held.{Held}
 use Rattle.pth_model.specs.State.{State}
 use Rattle.pth_model.specs.Changes.{with_entry, with_thread, called, held_by}
 use Rattle.pth_world.specs.World.{WorldOf}
-use Rattle.pth_world.specs.Standing.{StandsFor, IsSound, IsKnown, IsPrio, View, view, Touches, Fits, FitsEntry, IsFitting, Whole, WholeBut, IsRunner, same_view}
-use Rattle.pth_world.proofs.Slots.{name_is, used, is_some_at, none_some, some_is}
+use Rattle.pth_world.specs.Standing.{StandsFor, IsSound, IsKnown, IsPrio, View, view, Touches, Fits, FitsEntry, Whole, same_view}
 use Rattle.pth_world.proofs.Standing.{add_stands, enter_stands, called_stands, called_call}
 use Rattle.pth_world.proofs.Sound.{add_sound, enter_sound, going_sound}
 use Rattle.pth_world.proofs.Places.{queue-entered, queue-entered_other, unused-nowhere}

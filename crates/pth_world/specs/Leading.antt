@@ -1,7 +1,6 @@
 -- What a piece of code did: the world stands for the state that is led to, and what is told was appended.
 use Rattle.std.specs.Prelude.{◌≡◌, List, ◌++◌}
 use Rattle.pth_base.specs.declared.mark.Mark.{Mark}
-use Rattle.pth_model.specs.State.{State}
 use Rattle.pth_model.specs.Told.{Told}
 use Rattle.pth_world.specs.World.{WorldOf}
 use Rattle.pth_world.specs.Standing.{StandsFor}

@@ -1,20 +1,19 @@
 -- A world stands for a part of the machine's state, and what holds of every world.
-use Rattle.std.specs.Prelude.{◌≡◌, ◌≢◌, ◌<◌, ◌≤◌, ◌↔◌, ℕ, ℤ, pos, neg_ℤ, ◌≤ℤ◌, Bool, true, false, List, length, map, Option, Some, None, option_map, IsSome, IfSome}
-use Rattle.pth_base.specs.Table.{put, table}
+use Rattle.std.specs.Prelude.{◌≡◌, ◌≢◌, ◌<◌, ℕ, ℤ, pos, neg_ℤ, ◌≤ℤ◌, Bool, true, false, length, map, Option, Some, None, option_map, IsSome, IfSome}
+use Rattle.pth_base.specs.Table.{table}
 use Rattle.pth_base.specs.Naming.{IsTied, seen}
 use Rattle.pth_base.specs.declared.call.Call.{Call}
 use Rattle.pth_base.specs.declared.call.Call.TheVariants as call
 use Rattle.pth_base.specs.declared.thread.ThreadState.{ThreadState}
 use Rattle.pth_base.specs.declared.thread.ThreadState.TheVariants as state
 use Rattle.pth_queue.specs.Rows.{named_row, IsQueued}
-use Rattle.pth_queue.specs.Queues.{QueuesOf, rows_of, queue_of}
+use Rattle.pth_queue.specs.Queues.{rows_of, queue_of}
 use Rattle.pth_queue.specs.declared.queue.Queue.{Queue}
 use Rattle.pth_queue.specs.declared.queue.Queue.TheVariants as queue
-use Rattle.pth_threads.specs.Threads.{ThreadsOf, slot_of, tid_at, entry_at, count, changed}
+use Rattle.pth_threads.specs.Threads.{slot_of, tid_at, entry_at, count, changed}
 use Rattle.pth_threads.specs.declared.entry.Change.{Change}
 use Rattle.pth_threads.specs.declared.entry.Change.TheVariants as change
 use Rattle.pth_threads.specs.declared.entry.Entry.{Entry}
-use Rattle.pth_model.specs.declared.continuation.Continuation.{Continuation}
 use Rattle.pth_model.specs.declared.held.Held.{Held}
 use Rattle.pth_model.specs.State.{State, queue, number_known}
 use Rattle.pth_model.specs.Changes.{held_by}

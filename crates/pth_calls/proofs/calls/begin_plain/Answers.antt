@@ -1,4 +1,4 @@
-use Rattle.std.proofs.Common.{◌≡◌, ◌∙◌, ℕ, ℤ, Option, Some, None, refl, sym, ap, rules}
+use Rattle.std.proofs.Common.{refl, rules}
 use Rattle.pth_model.specs.Rows.{answer_of, plain_row}
 use Rattle.pth_calls.proofs.Answering.{unbuilt, spawn_leads, unbuilt_leads}
 use Rattle.pth_calls.proofs.calls.begin_plain.Goals as goal

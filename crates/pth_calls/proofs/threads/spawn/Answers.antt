@@ -1,4 +1,4 @@
-use Rattle.std.proofs.Common.{◌≡◌, ◌∙◌, ◌+◌, ℕ, ℤ, Option, Some, None, sym, ap, rules, SFits, w64, to_z-of_z}
+use Rattle.std.proofs.Common.{◌≡◌, ◌∙◌, ◌+◌, Some, sym, ap, rules, SFits, w64, to_z-of_z}
 use Rattle.pth_model.specs.Rows.{body_of}
 use Rattle.pth_calls.proofs.Spawning.{spawned_stands}
 use Rattle.pth_calls.proofs.threads.spawn.Goals as goal

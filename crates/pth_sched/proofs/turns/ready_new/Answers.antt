@@ -1,6 +1,5 @@
-use Rattle.std.proofs.Common.{rules, ◌≡◌, ◌∙◌, ap, sym, refl, arith}
 use Rattle.pth_world.specs.Standing.{Newly}
-use Rattle.pth_sched.proofs.Keeping.{new_shorter, scheduler_first, scheduler_then}
+use Rattle.pth_sched.proofs.Keeping.{new_shorter}
 use Rattle.pth_sched.proofs.turns.ready_new.Goals as goal
 
 pub make_ready-requires-clause-before : goal.make_ready-requires-clause-before

@@ -1,4 +1,4 @@
-use Rattle.std.proofs.Common.{◌≡◌, ◌∙◌, Some, SFits, w64, to_z-of_z, sym, ap, rules}
+use Rattle.std.proofs.Common.{◌≡◌, ◌∙◌, Some, SFits, w64, to_z-of_z, rules}
 use Rattle.pth_model.specs.Ending.{unheld}
 use Rattle.pth_waits.proofs.Ends.{end_leads}
 use Rattle.pth_waits.proofs.ending.end_thread.Goals as goal

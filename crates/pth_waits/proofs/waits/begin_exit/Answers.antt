@@ -1,4 +1,4 @@
-use Rattle.std.proofs.Common.{◌≡◌, ◌∙◌, ◌==◌, ◌&&◌, not, true, false, SFits, w64, to_z-of_z, refl, sym, ap, ap₂, ℕ, rules}
+use Rattle.std.proofs.Common.{◌≡◌, ◌∙◌, ◌==◌, ◌&&◌, not, true, false, SFits, w64, to_z-of_z, refl, sym, ap₂, ℕ, rules}
 use Rattle.std.proofs.lemmas.Result.{err_from_is_err_and}
 use Rattle.pth_base.specs.declared.call.Call.{Call}
 use Rattle.pth_model.specs.Waits.{main, is_alone}

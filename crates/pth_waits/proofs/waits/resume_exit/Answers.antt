@@ -1,4 +1,4 @@
-use Rattle.std.proofs.Common.{◌≡◌, ◌∙◌, true, SFits, w64, to_z-of_z, refl, sym, ap, rules}
+use Rattle.std.proofs.Common.{◌≡◌, true, SFits, w64, to_z-of_z, rules}
 use Rattle.std.proofs.lemmas.Result.{err_from_is_err_and}
 use Rattle.pth_model.specs.Waits.{is_alone}
 use Rattle.pth_waits.proofs.waits.resume_exit.Goals as goal

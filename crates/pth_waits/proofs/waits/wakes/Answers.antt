@@ -1,4 +1,4 @@
-use Rattle.std.proofs.Common.{◌≡◌, ◌∙◌, Some, None, refl, sym, ap, rules}
+use Rattle.std.proofs.Common.{◌≡◌, Some, None, refl, sym, rules}
 use Rattle.pth_model.specs.Changes.{held_of}
 use Rattle.pth_model.specs.Waits.{wakes}
 use Rattle.pth_waits.proofs.Begins.{never_wakes}

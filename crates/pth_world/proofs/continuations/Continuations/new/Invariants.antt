@@ -1,4 +1,4 @@
-use Rattle.std.proofs.Common.{◌≡◌, ◌≤◌, ◌-◌, Option, None, vec_len}
+use Rattle.std.proofs.Common.{◌≡◌, ◌≤◌, ◌-◌, None, vec_len}
 use Rattle.pth_base.specs.Table.{table}
 use Rattle.pth_world.proofs.continuations.Continuations.new.Given as goal
 

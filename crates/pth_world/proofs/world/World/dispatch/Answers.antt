@@ -1,12 +1,10 @@
-use Rattle.std.proofs.Common.{◌≡◌, ◌∙◌, refl, sym, ap, Some, None}
+use Rattle.std.proofs.Common.{◌∙◌, ap, Some, None}
 use Rattle.pth_base.specs.declared.thread.ThreadState.TheVariants as state
-use Rattle.pth_threads.specs.Threads.{slot_of}
 use Rattle.pth_threads.specs.declared.entry.Change.TheVariants as change
-use Rattle.pth_threads.specs.declared.entry.Entry.{Entry}
-use Rattle.pth_model.specs.Changes.{with_change, without_entry, running_is, naming}
+use Rattle.pth_model.specs.Changes.{without_entry}
 use Rattle.pth_model.specs.Part.{runs, dispatches_by}
 use Rattle.pth_world.specs.World.{WorldOf}
-use Rattle.pth_world.specs.Standing.{places, changes, same_view, SameThreads}
+use Rattle.pth_world.specs.Standing.{places, changes, same_view}
 use Rattle.pth_world.proofs.Moves.{runs_whole, two_touches, same_twice, queues_alone, run_touches, run_alone, name_touches, name_alone}
 use Rattle.pth_world.proofs.world.World.dispatch.Goals as goal
 

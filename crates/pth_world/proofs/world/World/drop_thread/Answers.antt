@@ -1,4 +1,4 @@
-use Rattle.std.proofs.Common.{◌≡◌, ◌∙◌, sym, ap, subst}
+use Rattle.std.proofs.Common.{◌∙◌, ap}
 use Rattle.pth_threads.specs.Threads.{slot_of}
 use Rattle.pth_model.specs.Changes.{without_entry}
 use Rattle.pth_world.specs.World.{WorldOf}

@@ -1,4 +1,4 @@
-use Rattle.std.proofs.Common.{◌≡◌, ◌∙◌, sym, ap}
+use Rattle.std.proofs.Common.{◌∙◌, sym}
 use Rattle.pth_world.proofs.Standing.{entry_is, not_known}
 use Rattle.pth_world.proofs.world.World.entry.Goals as goal
 

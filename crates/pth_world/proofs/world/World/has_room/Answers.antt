@@ -1,5 +1,4 @@
-use Rattle.std.proofs.Common.{◌≡◌, ◌∙◌, ℕ, sym, ap, nat_lt, rules}
-use Rattle.pth_model.specs.Rows.{thread_limit}
+use Rattle.std.proofs.Common.{rules}
 use Rattle.pth_world.proofs.Standing.{present_is}
 use Rattle.pth_world.proofs.world.World.has_room.Goals as goal
 

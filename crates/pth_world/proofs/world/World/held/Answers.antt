@@ -1,4 +1,4 @@
-use Rattle.std.proofs.Common.{◌≡◌, ◌∙◌, sym, ap}
+use Rattle.std.proofs.Common.{◌∙◌, sym, ap}
 use Rattle.pth_model.specs.Changes.{held_by}
 use Rattle.pth_world.proofs.Standing.{going_is, no_going}
 use Rattle.pth_world.proofs.world.World.held.Goals as goal

@@ -1,4 +1,4 @@
-use Rattle.std.proofs.Common.{◌≡◌, ◌∙◌, refl, sym, ap, Some, None, false, rules, SFits, w64, to_z-of_z}
+use Rattle.std.proofs.Common.{ap, Some, None, false, rules, SFits, w64, to_z-of_z}
 use Rattle.pth_base.specs.declared.thread.ThreadState.TheVariants as state
 use Rattle.pth_queue.specs.declared.queue.Queue.TheVariants as queue
 use Rattle.pth_threads.specs.declared.entry.Change.TheVariants as change

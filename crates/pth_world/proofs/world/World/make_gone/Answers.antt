@@ -1,5 +1,4 @@
-use Rattle.std.proofs.Common.{◌≡◌, ◌∙◌, refl, sym, ap, subst, IfSome}
-use Rattle.pth_threads.specs.Threads.{slot_of, Removes}
+use Rattle.pth_threads.specs.Threads.{slot_of}
 use Rattle.pth_model.specs.Ending.{gone}
 use Rattle.pth_world.proofs.Moves.{gone_whole, known_slot, runner_known}
 use Rattle.pth_world.proofs.world.World.make_gone.Goals as goal

@@ -1,4 +1,3 @@
-use Rattle.std.proofs.Common.{◌+◌}
 use Rattle.pth_world.proofs.Starts.{added_used, start_stands, start_whole}
 use Rattle.pth_world.proofs.world.World.new.Goals as goal
 

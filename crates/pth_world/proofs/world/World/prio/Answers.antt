@@ -1,5 +1,4 @@
-use Rattle.std.proofs.Common.{◌≡◌, ◌∙◌, sym, ap, rules, SFits, w64, to_z-of_z}
-use Rattle.pth_threads.specs.declared.entry.Entry.{Entry}
+use Rattle.std.proofs.Common.{◌∙◌, sym, ap, SFits, w64, to_z-of_z}
 use Rattle.pth_model.specs.Pass.{prio_by}
 use Rattle.pth_world.specs.Standing.{IsPrio}
 use Rattle.pth_world.proofs.Slots.{prio_fits}

@@ -1,12 +1,10 @@
-use Rattle.std.proofs.Common.{◌≡◌, ◌∙◌, refl, sym, ap, None, false, SFits, w64, to_z-of_z, subst, IfSome}
-use Rattle.pth_threads.specs.Threads.{slot_of}
-use Rattle.pth_queue.specs.Queues.{queue_of}
+use Rattle.std.proofs.Common.{◌∙◌, ap, None, false, SFits, w64, to_z-of_z}
 use Rattle.pth_base.specs.declared.thread.ThreadState.TheVariants as state
 use Rattle.pth_threads.specs.declared.entry.Change.TheVariants as change
 use Rattle.pth_model.specs.Changes.{with_change, with_entry, running_is}
 use Rattle.pth_model.specs.Part.{put_waiting}
 use Rattle.pth_world.specs.World.{WorldOf}
-use Rattle.pth_world.specs.Standing.{places, changes, same_view}
+use Rattle.pth_world.specs.Standing.{changes, same_view}
 use Rattle.pth_world.proofs.Slots.{prio_fits}
 use Rattle.pth_world.proofs.Moves.{runner_nowhere, waits_whole, two_touches, same_twice, run_touches, run_alone, nowhere_after}
 use Rattle.pth_world.proofs.world.World.put_waiting.Goals as goal

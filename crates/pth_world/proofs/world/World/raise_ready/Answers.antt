@@ -1,4 +1,4 @@
-use Rattle.std.proofs.Common.{◌∙◌, ap, subst, sym}
+use Rattle.std.proofs.Common.{subst, sym}
 use Rattle.pth_world.specs.Standing.{View, Fits}
 use Rattle.pth_world.proofs.Standing.{raise_stands}
 use Rattle.pth_world.proofs.Sound.{raise_sound}

@@ -1,5 +1,4 @@
-use Rattle.std.proofs.Common.{◌≡◌, ◌∙◌, refl, sym, ap, subst, Some, None, rules, SFits, w64, to_z-of_z}
-use Rattle.pth_queue.specs.Queues.{IsNowhere}
+use Rattle.std.proofs.Common.{refl, rules, SFits, w64, to_z-of_z}
 use Rattle.pth_world.proofs.Slots.{prio_fits}
 use Rattle.pth_world.proofs.Places.{unused-nowhere}
 use Rattle.pth_world.proofs.Wholes.{same_whole, spawn_stands, spawn_whole, spawn_others, on_err}

@@ -1,11 +1,10 @@
-use Rattle.std.proofs.Common.{◌∙◌, refl, sym, ap, Some, None}
-use Rattle.pth_world.proofs.Moves.{going_whole, held_fits, unheld_fits}
-use Rattle.pth_base.specs.declared.answer.Answer.TheVariants as answer
-use Rattle.pth_model.specs.Changes.{with_held, with_owed, held_by, owed_by}
+use Rattle.std.proofs.Common.{◌∙◌, refl, sym, ap, None}
+use Rattle.pth_world.proofs.Moves.{going_whole, unheld_fits}
+use Rattle.pth_model.specs.Changes.{with_held, held_by}
 use Rattle.pth_world.proofs.Slots.{used}
 use Rattle.pth_world.proofs.Standing.{going_stands, going_is}
 use Rattle.pth_world.proofs.Sound.{going_sound, some_kept}
-use Rattle.pth_world.proofs.Views.{held_touches, owed_touches}
+use Rattle.pth_world.proofs.Views.{held_touches}
 use Rattle.pth_world.proofs.world.World.take_held.Goals as goal
 
 pub returns-clause-held : goal.returns-clause-held

@@ -1,4 +1,4 @@
-use Rattle.std.proofs.Common.{◌∙◌, sym, ap, IfSome}
+use Rattle.std.proofs.Common.{sym}
 use Rattle.pth_world.proofs.Standing.{leave_stands}
 use Rattle.pth_world.proofs.Sound.{leave_sound}
 use Rattle.pth_world.proofs.Views.{leave_touches}
