@@ -10,4 +10,5 @@ pub mod Waits
 pub mod Pass
 pub mod Part
 pub mod Run
+pub mod Living
 pub mod Example

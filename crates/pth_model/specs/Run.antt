@@ -1,6 +1,7 @@
 -- Runs.
-use Rattle.std.specs.Prelude.{ℕ, zero, suc, Bool, true, false, nat_le}
+use Rattle.std.specs.Prelude.{◌≡◌, ◌<◌, ◌≤◌, ◌++◌, ℕ, zero, suc, Bool, true, false, nat_le, List}
 use Rattle.pth_base.specs.Program.{Functions}
+use Rattle.pth_base.specs.declared.mark.Mark.{Mark}
 use Rattle.pth_model.specs.State.{State, Given, start}
 use Rattle.pth_model.specs.Told.{Told, still, followed}
 use Rattle.pth_model.specs.Part.{Part, Step, Halt, next_part, part}
@@ -23,3 +24,13 @@ module _ {P S H : Type 0} where
 
   unfoldable pub stops : ℕ → State P S H → Bool
   stops to s = stops_by to s.rest.scheduler.steps (next_part s)
+
+  -- from part i a run to this number of steps goes on to part j: there it stops, and nowhere between
+  pub record GoesTo (f : P → Functions S H) (g : Given P) (to i j : ℕ) : Type 0 where
+    pub later : i ≤ j
+    pub here : stops to (run f g j).state ≡ true
+    pub first : (k : ℕ) → i ≤ k → k < j → stops to (run f g k).state ≡ false
+
+  -- these marks are what a run tells from part i to part j
+  abbrev pub IsBetween : (P → Functions S H) → Given P → (i j : ℕ) → List Mark → Type 0
+  IsBetween f g i j marks = (run f g j).marks ≡ (run f g i).marks ++ marks

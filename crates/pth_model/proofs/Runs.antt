@@ -1,0 +1,65 @@
+-- How runs go on.
+use Rattle.std.proofs.Common.{◌≡◌, ℕ, ◌+◌, ◌≤◌, List, [], ◌++◌, true, false, refl, sym, ap, ◌∙◌, arith, append_assoc, append-nil, add-one, inl, inr}
+use Rattle.std.proofs.lemmas.Bool.{cases_lt}
+use Rattle.std.proofs.lemmas.Bool.Decides.{nat_tests}
+use Rattle.pth_base.specs.Program.{Functions}
+use Rattle.pth_base.specs.declared.mark.Mark.{Mark}
+use Rattle.pth_model.specs.State.{State, Given, start}
+use Rattle.pth_model.specs.Told.{Told, followed}
+use Rattle.pth_model.specs.Part.{Part, Move, Take, Step, Close, Halt, next_part, part}
+use Rattle.pth_model.specs.Run.{parts, run, stops, stops_by, GoesTo, IsBetween}
+
+module _ {P S H : Type 0} (f : P → Functions S H) where
+  -- one part more
+  pub parts-more : (s : State P S H) (i : ℕ) → parts f s (i + 1) ≡ followed (parts f s i) (part f (parts f s i).state)
+  unfolding parts
+  parts-more s i = rw add-one refl
+
+  module _ (g : Given P) where
+    pub between-none : (i : ℕ) → IsBetween f g i i []
+    between-none i = sym (append-nil (run f g i).marks)
+
+    -- what the next part tells comes after what was told
+    pub between-more : (i j : ℕ) (told : List Mark) → IsBetween f g i j told → IsBetween f g i (j + 1) (told ++ (part f (run f g j).state).marks)
+    between-more i j told b = ap (λ (r : Told P S H). r.marks) (parts-more (start f g) j) ∙ ap (λ (m : List Mark). m ++ (part f (run f g j).state).marks) b ∙ append_assoc (run f g i).marks told (part f (run f g j).state).marks
+
+    pub between-then : (i j k : ℕ) (one two : List Mark) → IsBetween f g i j one → IsBetween f g j k two → IsBetween f g i k (one ++ two)
+    between-then i j k one two a b = b ∙ ap (λ (m : List Mark). m ++ two) a ∙ append_assoc (run f g i).marks one two
+
+-- a run that goes on to fewer steps goes on to more
+later_by : (to far steps : ℕ) (p : Part) → to ≤ far → stops_by to steps p ≡ false → stops_by far steps p ≡ false
+later_by to far steps Move le h = refl
+later_by to far steps Take le h = refl
+later_by to far steps (Step t) le h = grind (arith, nat_tests)
+later_by to far steps (Close t) le h = refl
+later_by to far steps Halt le h = h
+
+module _ {P S H : Type 0} where
+  pub stops-later : (to far : ℕ) (s : State P S H) → to ≤ far → stops to s ≡ false → stops far s ≡ false
+  unfolding stops
+  stops-later to far s le h = later_by to far s.rest.scheduler.steps (next_part s) le h
+
+  module _ (f : P → Functions S H) (g : Given P) where
+    -- a run to fewer steps, and then to more, is one to more
+    pub goes-then : (to far i j k : ℕ) → to ≤ far → GoesTo f g to i j → GoesTo f g far j k → GoesTo f g far i k
+    goes-then to far i j k le a b = record {
+      later = omega (arith, a.later, b.later);
+      here = b.here;
+      first = λ n from below. elim (cases_lt n j) [
+        | inl early ↦ stops-later to far (run f g n).state le (a.first n from early)
+        | inr late ↦ b.first n (omega (arith, late)) below
+      ];
+    }
+
+    true_false : true ≡ false → ⊥
+    true_false h = cc
+
+    -- it stops at one part alone
+    pub goes-once : (to i j k : ℕ) → GoesTo f g to i j → GoesTo f g to i k → j ≡ k
+    goes-once to i j k a b = elim (cases_lt j k) [
+      | inl low ↦ absurd (true_false (sym a.here ∙ b.first j a.later low))
+      | inr high ↦ elim (cases_lt k j) [
+        | inl low ↦ absurd (true_false (sym b.here ∙ a.first k b.later low))
+        | inr same ↦ omega (arith, high, same)
+      ]
+    ]
