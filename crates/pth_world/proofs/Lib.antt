@@ -8,4 +8,6 @@ pub mod Starts
 pub mod Moves
 pub mod Schedules
 pub mod QueueReads
+pub mod Walks
+pub mod Ranks
 pub mod Leading

@@ -5,7 +5,7 @@ use Rattle.pth_base.specs.declared.thread.ThreadState.TheVariants as state
 use Rattle.pth_base.proofs.Tables.{put_here, same_means, same_fails}
 use Rattle.pth_queue.specs.declared.queue.Queue.{Queue}
 use Rattle.pth_queue.specs.declared.queue.Queue.TheVariants as queue
-use Rattle.pth_queue.specs.Queues.{queue_of, IsNowhere}
+use Rattle.pth_queue.specs.Queues.{queue_of, without, IsNowhere}
 use Rattle.pth_threads.specs.Threads.{slot_of, tid_at, tid_of, entry_at, changed, Removes}
 use Rattle.pth_threads.specs.declared.entry.Entry.{Entry}
 use Rattle.pth_threads.specs.declared.entry.Change.TheVariants as change
@@ -13,6 +13,7 @@ use Rattle.pth_model.specs.declared.held.Held.{Held}
 use Rattle.pth_world.specs.World.{WorldOf}
 use Rattle.pth_world.specs.Standing.{IsSound, IsKnown, View, view, Touches, Fits, FitsEntry, Whole, IsRunner, IsIn, IsBefore, SameThreads, Newly, Waiting, IsAbout, CanSuspend, MaySuspend, changes, places, holding, same_view, place_for}
 use Rattle.pth_world.proofs.Slots.{name_is, used, some_is}
+use Rattle.pth_world.proofs.Places.{queue-without}
 
 -- one change of a thread after another
 pub touches_then : {P S H : Type 0} (u v w : WorldOf P S H) (t : ℕ) (f g : View → View) → slot_of v.threads ≡ slot_of u.threads → tid_at v.threads ≡ tid_at u.threads → Touches u v t f → Touches v w t g → Touches u w t (λ k. g (f k))
@@ -231,6 +232,10 @@ runner_nowhere w t whole is =
 -- a thread that stood nowhere stands nowhere in the same queues
 pub nowhere_after : {P S H : Type 0} (w m : WorldOf P S H) (t : ℕ) → SameThreads w m → m.queues ≡ w.queues → IfSome (slot_of w.threads t) (λ u. IsNowhere u w.queues) → IfSome (slot_of m.threads t) (λ u. IsNowhere u m.queues)
 nowhere_after w m t same queues h = rw (same.slots, queues) h
+
+-- a thread that left its queue stands nowhere
+pub left_nowhere : {P S H : Type 0} (w m : WorldOf P S H) (t : ℕ) → SameThreads w m → IfSome (slot_of w.threads t) (λ u. m.queues ≡ without u w.queues) → IfSome (slot_of m.threads t) (λ u. IsNowhere u m.queues)
+left_nowhere w m t same h = rw same.slots (if_some (λ u. m.queues ≡ without u w.queues) (λ u. IsNowhere u m.queues) (slot_of w.threads t) (λ u is. ap (queue_of u) is ∙ queue-without u w.queues) h)
 
 -- a change of what a thread goes on with, which leaves it fitting
 pub going_whole : {P S H : Type 0} (w v : WorldOf P S H) (t u : ℕ) (g : View → View) → Whole w → slot_of w.threads t ≡ Some u → Touches w v t g → IsSound v → slot_of v.threads ≡ slot_of w.threads → v.running ≡ w.running → ((r : Option ℕ) → Fits r (view w u) → Fits r (g (view w u))) → Whole v

@@ -1,11 +1,13 @@
 -- Where a slot stands after a change of the queues.
-use Rattle.std.proofs.Common.{◌≡◌, ◌≢◌, ℕ, ◌==◌, Bool, true, false, not, cond, ◌||◌, if◌then◌else◌, ℤ, List, [], ◌∷◌, Option, Some, None, refl, sym, ◌∙◌, ap}
+use Rattle.std.proofs.Common.{◌≡◌, ◌≢◌, ℕ, ◌==◌, Bool, true, false, not, cond, ◌||◌, if◌then◌else◌, ℤ, List, [], ◌∷◌, Option, Some, None, refl, sym, ◌∙◌, ap, subst}
 use Rattle.pth_base.proofs.Tables.{same_self, not_same, same_means}
 use Rattle.pth_queue.specs.declared.row.Row.{Row}
 use Rattle.pth_queue.specs.declared.queue.Queue.{Queue}
 use Rattle.pth_queue.specs.declared.queue.Queue.TheVariants.{New, Ready, Waiting, Suspended, Dead}
 use Rattle.pth_queue.specs.Rows.{is_of, insert, delete, increase, holds, IsQueued}
-use Rattle.pth_queue.specs.Queues.{QueuesOf, rows_of, with_rows, queue_of, without, entered, IsNowhere}
+use Rattle.pth_queue.specs.Queues.{QueuesOf, rows_of, with_rows, queue_of, without, entered, IsNowhere, IsOrderly}
+use Rattle.pth_queue.proofs.Counts.{count-present}
+use Rattle.pth_queue.proofs.Sets.{holds-queue_of, deleted_is, IsOrderly-deleted}
 
 or_swap : (a b c : Bool) → (a || (b || c)) ≡ (b || (a || c))
 or_swap true true c = refl
@@ -111,6 +113,14 @@ queue-raised v x = rw (holds-increase v x.ready) refl
 -- who stands nowhere leaves nothing behind
 pub without-nowhere : (u : ℕ) (x : QueuesOf) → IsNowhere u x → without u x ≡ x
 without-nowhere u x h = rw (delete-none u x.new (nowhere-holds u x h New), delete-none u x.ready (nowhere-holds u x h Ready), delete-none u x.waiting (nowhere-holds u x h Waiting), delete-none u x.suspended (nowhere-holds u x h Suspended), delete-none u x.dead (nowhere-holds u x h Dead)) refl
+
+-- a slot is taken out of queues in order
+pub orderly-without : (u : ℕ) (x : QueuesOf) → IsOrderly x → IsOrderly (without u x)
+orderly-without u x o = by_place (queue_of u x) refl
+  where
+    by_place : (p : Option Queue) → queue_of u x ≡ p → IsOrderly (without u x)
+    by_place None h = subst IsOrderly (sym (without-nowhere u x h)) o
+    by_place (Some q) h = subst IsOrderly (deleted_is q u x o (count-present u (rows_of q x) (holds-queue_of q u x h))) (IsOrderly-deleted q u x o)
 
 pub room-with : (q : Queue) (rows : List Row) (x : QueuesOf) → (with_rows q rows x).room ≡ x.room
 room-with New rows x = refl

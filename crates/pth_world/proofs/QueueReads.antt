@@ -8,7 +8,7 @@ use Rattle.pth_base.specs.declared.ids.Tid.{Tid}
 use Rattle.pth_base.proofs.Namings.{named_test}
 use Rattle.pth_base.proofs.Tables.{not_same, same_self}
 use Rattle.pth_queue.specs.declared.queue.Queue.{Queue}
-use Rattle.pth_queue.specs.Queues.{QueuesOf, queue_of, rows_of, IsOrdered, IsOrderly, IsRank, after_of, place_of}
+use Rattle.pth_queue.specs.Queues.{QueuesOf, queue_of, rows_of, IsOrdered, IsRank, after_of, place_of}
 use Rattle.pth_queue.specs.declared.row.Row.{Row}
 use Rattle.pth_queue.specs.Rows.{is_of, holds, head_of, last_of, after_in, place_in, favour_top, named_row, IsQueued}
 use Rattle.pth_queue.specs.declared.queue.Queue.TheVariants as queue_is
@@ -24,6 +24,10 @@ use Rattle.pth_model.specs.Waits.{only, is_alone}
 use Rattle.pth_world.specs.World.{WorldOf, number_of}
 use Rattle.pth_world.specs.Standing.{IsSound, StandsFor}
 use Rattle.pth_world.proofs.Places.{unused-holds}
+
+-- the number of a slot
+abbrev pub slot_number : Slot → ℕ
+slot_number u = u.0
 
 true_false : true ≡ false → ⊥
 true_false h = cc
@@ -93,12 +97,15 @@ count-unknown g f t (x ∷ xs) tied none q =
     omega (arith, count-cons t (named_row f x) (map (named_row f) xs), count-unknown g f t xs tied none q.1)
 
 -- a thread stands once in a queue
-pub once_thread : {P S H : Type 0} (w : WorldOf P S H) (s : State P S H) (t : ℕ) (q : Queue) → IsSound w → IsOrderly w.queues → StandsFor w s → count_by (is_of t) (queue s q) ≤ 1
-once_thread w s t q sound o st = rw (st.threads.standing q) (by_slot (slot_of w.threads t) refl)
+pub once_named : {P S H : Type 0} (w : WorldOf P S H) (t : ℕ) (q : Queue) → IsSound w → count_by (is_of t) (map (named_row (tid_at w.threads)) (rows_of q w.queues)) ≤ 1
+once_named w t q sound = by_slot (slot_of w.threads t) refl
   where
     by_slot : (p : Option ℕ) → slot_of w.threads t ≡ p → count_by (is_of t) (map (named_row (tid_at w.threads)) (rows_of q w.queues)) ≤ 1
     by_slot None e = rw (count-unknown (slot_of w.threads) (tid_at w.threads) t (rows_of q w.queues) sound.tied e (sound.queued q)) (omega arith)
-    by_slot (Some u) e = rw (count-named (slot_of w.threads) (tid_at w.threads) t u (rows_of q w.queues) sound.tied e (sound.queued q)) (once_in q u w.queues o)
+    by_slot (Some u) e = rw (count-named (slot_of w.threads) (tid_at w.threads) t u (rows_of q w.queues) sound.tied e (sound.queued q)) (once_in q u w.queues sound.orderly)
+
+pub once_thread : {P S H : Type 0} (w : WorldOf P S H) (s : State P S H) (t : ℕ) (q : Queue) → IsSound w → StandsFor w s → count_by (is_of t) (queue s q) ≤ 1
+once_thread w s t q sound st = rw (st.threads.standing q) (once_named w t q sound)
 
 after_by : (u v : ℕ) (x : Row) (xs : List Row) (b : Bool) → (head_of xs ≡ Some v → holds v xs ≡ true) → (after_in u xs ≡ Some v → holds v xs ≡ true) → (if b then head_of xs else after_in u xs) ≡ Some v → holds v xs ≡ true
 after_by u v x xs true head more h = head h
@@ -127,14 +134,14 @@ after-row t (x ∷ front) back r same once =
 pub after_of-in : (u : ℕ) (q : Queue) (x : QueuesOf) → queue_of u x ≡ Some q → after_of u x ≡ after_in u (rows_of q x)
 after_of-in u q x h = rw h
 
-pub after_is : {P S H : Type 0} (w : WorldOf P S H) (s : State P S H) (t u : ℕ) (q : Queue) (o : Option Slot) (front back : List Row) (r : Row) → IsSound w → IsOrderly w.queues → slot_of w.threads t ≡ Some u → queue_of u w.queues ≡ Some q →
+pub after_is : {P S H : Type 0} (w : WorldOf P S H) (s : State P S H) (t u : ℕ) (q : Queue) (o : Option Slot) (front back : List Row) (r : Row) → IsSound w → slot_of w.threads t ≡ Some u → queue_of u w.queues ≡ Some q →
     option_map (λ (v : Slot). v.0) o ≡ after_of u w.queues → StandsFor w s → queue s q ≡ front ++ r ∷ back → r.who ≡ t → option_map (λ (v : Slot). tid_at w.threads v.0) o ≡ head_of back
-after_is w s t u q o front back r sound orderly e stands h st is same =
+after_is w s t u q o front back r sound e stands h st is same =
     names (tid_at w.threads) o
     ∙ ap (option_map (tid_at w.threads)) (h ∙ after_of-in u q w.queues stands)
     ∙ sym (after_named (slot_of w.threads) (tid_at w.threads) t u (rows_of q w.queues) sound.tied e (sound.queued q))
     ∙ ap (after_in t) (sym (st.threads.standing q) ∙ is)
-    ∙ after-row t front back r same (subst (λ (l : List Row). count_by (is_of t) l ≤ 1) is (once_thread w s t q sound orderly st))
+    ∙ after-row t front back r same (subst (λ (l : List Row). count_by (is_of t) l ≤ 1) is (once_thread w s t q sound st))
 
 inside : {A : Type 0} {x y : A} → Some x ≡ Some y → x ≡ y
 inside h = cc

@@ -1,6 +1,7 @@
 -- The slot of a thread in the system.
 use Rattle.std.proofs.lemmas.Int.{ints, fits_signed_from_abs}
 use Rattle.std.proofs.Common.{ℤ, SFits, w64, arith, ◌≡◌, ◌≢◌, ◌<◌, ℕ, IsSome, Option, Some, None, sym, ◌∙◌, ap}
+use Rattle.pth_queue.specs.Queues.{IsRank}
 use Rattle.pth_threads.specs.Threads.{slot_of, tid_at}
 use Rattle.pth_world.specs.World.{WorldOf}
 use Rattle.pth_world.specs.Standing.{IsSound, IsPrio}
@@ -17,6 +18,10 @@ is_some_at o u e = rw e
 -- a base priority is a number of 64 bits
 pub prio_fits : (z : ℤ) → IsPrio z → SFits w64 z
 prio_fits z h = fits_signed_from_abs w64 z (let low = h.low in let high = h.high in grind (arith, ints))
+
+-- and a rank that a queue takes
+pub prio_rank : (z : ℤ) → IsPrio z → IsRank z
+prio_rank z h = let low = h.low in let high = h.high in record { low = grind (arith, ints); high = grind (arith, ints) }
 
 module _ {P S H : Type 0} (w : WorldOf P S H) (t u : ℕ) (sound : IsSound w) (e : slot_of w.threads t ≡ Some u) where
   pub name_is : tid_at w.threads u ≡ t

@@ -8,8 +8,9 @@ use Rattle.pth_queue.specs.declared.row.Row.{Row}
 use Rattle.pth_queue.specs.declared.queue.Queue.{Queue}
 use Rattle.pth_queue.specs.declared.queue.Queue.TheVariants as queue
 use Rattle.pth_queue.specs.Rows.{IsQueued, increase}
-use Rattle.pth_queue.specs.Queues.{QueuesOf, rows_of, with_rows, without, entered, IsNowhere}
+use Rattle.pth_queue.specs.Queues.{QueuesOf, rows_of, with_rows, without, entered, IsNowhere, IsRank, CanRise, IsOrderly}
 use Rattle.pth_queue.proofs.Names.{IsQueued-insert, IsQueued-delete, IsQueued-increase, IsQueued-added, IsQueued-dropped}
+use Rattle.pth_queue.proofs.Sets.{IsOrderly-entered, IsOrderly-increased}
 use Rattle.pth_threads.specs.Threads.{ThreadsOf, slot_of, tid_at, entry_at, tid_of, count, changed, made_of, Changes, Adds, Removes}
 use Rattle.pth_threads.specs.declared.entry.Change.{Change}
 use Rattle.pth_threads.specs.declared.entry.Change.TheVariants as change
@@ -25,7 +26,7 @@ use Rattle.std.proofs.Common.{inl, inr}
 use Rattle.pth_world.specs.World.{WorldOf}
 use Rattle.pth_world.specs.Standing.{IsSound, IsBare, IsPrio, KeepsPrio}
 use Rattle.pth_world.proofs.Slots.{name_is, used, low, not_unused, none_some}
-use Rattle.pth_world.proofs.Places.{room-with, delete-none, nowhere-holds}
+use Rattle.pth_world.proofs.Places.{room-with, delete-none, nowhere-holds, orderly-without}
 
 changed_prio : (c : Change) (e : Entry) → KeepsPrio c → IsPrio e.prio → IsPrio (changed c e).prio
 unfolding changed
@@ -100,6 +101,7 @@ module _ {P S H : Type 0} (w : WorldOf P S H) (sound : IsSound w) where
       recorded = rw ch.tids sound.recorded;
       queued = λ q. rw ch.tids (sound.queued q);
       room = sound.room;
+      orderly = sound.orderly;
       long = sound.long;
       prios = λ v d h. (let Q : Option Entry → Type 0 = λ o. o ≡ Some d → IsPrio d.prio in put_by Q (entry_at w.threads) u (option_map (changed c) (entry_at w.threads u)) v (λ same. changed_by c (entry_at w.threads u) d keeps (sound.prios u)) (λ apart. sound.prios v d)) (ap (λ (k : ℕ → Option Entry). k v) (sym ch.entries) ∙ h);
       present = rw (ch.slots, ch.entries, ch.count, ch.made, seen_put None (slot_of w.threads) f (entry_at w.threads) t u (option_map (changed c) (entry_at w.threads u)) sound.tied e, ← seen_at None (slot_of w.threads) (entry_at w.threads) t u e) (number-change (seen None (slot_of w.threads) (entry_at w.threads)) w.threads.made t (changed c) ∙ sound.present);
@@ -114,19 +116,23 @@ module _ {P S H : Type 0} (w : WorldOf P S H) (sound : IsSound w) where
       recorded = λ v there. (let Q : Option (Continuation S) → Type 0 = λ a. IsSome a in subst Q (ap (λ (k : ℕ → Option (Continuation S)). k v) (sym is)) (put_by Q (table None w.going) u o v (λ same. some) (λ apart. sound.recorded v there)));
       queued = sound.queued;
       room = sound.room;
+      orderly = sound.orderly;
       long = long;
       prios = sound.prios;
       present = sound.present;
     }
 
-    queues_sound : (y : QueuesOf) → y.room ≡ w.queues.room → ((q : Queue) → IsQueued f (rows_of q y)) → IsSound (record w { queues = y })
-    queues_sound y room queued = record { tied = sound.tied; fresh = sound.fresh; empty = sound.empty; bare = sound.bare; recorded = sound.recorded; queued = queued; room = room ∙ sound.room; long = sound.long; prios = sound.prios; present = sound.present }
+    queues_sound : (y : QueuesOf) → y.room ≡ w.queues.room → IsOrderly y → ((q : Queue) → IsQueued f (rows_of q y)) → IsSound (record w { queues = y })
+    queues_sound y room orderly queued = record { tied = sound.tied; fresh = sound.fresh; empty = sound.empty; bare = sound.bare; recorded = sound.recorded; queued = queued; room = room ∙ sound.room; orderly = orderly; long = sound.long; prios = sound.prios; present = sound.present }
 
-    pub enter_sound : (y : QueuesOf) (q : Queue) (rank : ℤ) → y ≡ entered q rank u w.queues → IsSound (record w { queues = y })
-    enter_sound y q rank is = rw is (queues_sound (entered q rank u w.queues) (room-with q _ w.queues) (λ p. rows_kept (IsQueued f) q p _ w.queues (IsQueued-insert f (record { rank = rank; who = u }) (rows_of q w.queues) (used w t u sound e) (sound.queued q)) sound.queued))
+    in_room : u < w.queues.room
+    in_room = subst (λ (n : ℕ). u < n) (sym sound.room) (low w t u sound e)
+
+    pub enter_sound : (y : QueuesOf) (q : Queue) (rank : ℤ) → IsNowhere u w.queues → IsRank rank → y ≡ entered q rank u w.queues → IsSound (record w { queues = y })
+    enter_sound y q rank nowhere fits is = rw is (queues_sound (entered q rank u w.queues) (room-with q _ w.queues) (IsOrderly-entered q rank u w.queues sound.orderly in_room nowhere fits) (λ p. rows_kept (IsQueued f) q p _ w.queues (IsQueued-insert f (record { rank = rank; who = u }) (rows_of q w.queues) (used w t u sound e) (sound.queued q)) sound.queued))
 
     pub leave_sound : (y : QueuesOf) → y ≡ without u w.queues → IsSound (record w { queues = y })
-    leave_sound y is = rw is (queues_sound (without u w.queues) refl (λ q. rw (rows_without q u w.queues) (IsQueued-delete f u (rows_of q w.queues) (sound.queued q))))
+    leave_sound y is = rw is (queues_sound (without u w.queues) refl (orderly-without u w.queues sound.orderly) (λ q. rw (rows_without q u w.queues) (IsQueued-delete f u (rows_of q w.queues) (sound.queued q))))
 
     -- its record
     pub its_entry : (d : Entry) × (entry_at w.threads u ≡ Some d)
@@ -145,6 +151,7 @@ module _ {P S H : Type 0} (w : WorldOf P S H) (sound : IsSound w) where
       recorded = rw gone.tids (recorded_is (put f u 0) (table None y) (put (table None w.going) u None) none (recorded_dropped f (table None w.going) u sound.recorded));
       queued = λ q. rw gone.tids (subst (IsQueued (put f u 0)) (delete-none u (rows_of q w.queues) (nowhere-holds u w.queues nowhere q)) (IsQueued-dropped f u (rows_of q w.queues) (sound.queued q)));
       room = sound.room;
+      orderly = sound.orderly;
       long = long;
       prios = λ v k h. (let Q : Option Entry → Type 0 = λ o. o ≡ Some k → IsPrio k.prio in put_by Q (entry_at w.threads) u None v (λ same no. absurd (cc no)) (λ apart. sound.prios v k)) (ap (λ (o : ℕ → Option Entry). o v) (sym gone.entries) ∙ h);
       present = let known : seen None (slot_of w.threads) (entry_at w.threads) t ≡ Some its_entry.0 = seen_at None (slot_of w.threads) (entry_at w.threads) t u e ∙ its_entry.1 in
@@ -160,8 +167,8 @@ module _ {P S H : Type 0} (w : WorldOf P S H) (sound : IsSound w) where
         same_after : {m n : ℕ} → m + 1 ≡ n + 1 → m ≡ n
         same_after h = omega arith
 
-  pub raise_sound : (y : QueuesOf) → y ≡ with_rows queue.Ready (increase w.queues.ready) w.queues → IsSound (record w { queues = y })
-  raise_sound y is = rw is (record { tied = sound.tied; fresh = sound.fresh; empty = sound.empty; bare = sound.bare; recorded = sound.recorded; queued = λ p. rows_kept (IsQueued f) queue.Ready p _ w.queues (IsQueued-increase f w.queues.ready (sound.queued queue.Ready)) sound.queued; room = sound.room; long = sound.long; prios = sound.prios; present = sound.present })
+  pub raise_sound : (y : QueuesOf) → CanRise w.queues.ready → y ≡ with_rows queue.Ready (increase w.queues.ready) w.queues → IsSound (record w { queues = y })
+  raise_sound y rise is = rw is (record { tied = sound.tied; fresh = sound.fresh; empty = sound.empty; bare = sound.bare; recorded = sound.recorded; queued = λ p. rows_kept (IsQueued f) queue.Ready p _ w.queues (IsQueued-increase f w.queues.ready (sound.queued queue.Ready)) sound.queued; room = sound.room; orderly = IsOrderly-increased queue.Ready w.queues sound.orderly rise; long = sound.long; prios = sound.prios; present = sound.present })
 
   pub add_sound : (x : ThreadsOf) (y : List (Option (Continuation S))) (u : ℕ) (of : NewThread) (c : Continuation S) → IsPrio of.prio → Adds w.threads x u (made_of of (w.threads.made + 1)) → table None y ≡ put (table None w.going) u (Some c) → length y ≡ 4096 → IsSound (record w { threads = x; going = y })
   unfolding made_of
@@ -173,6 +180,7 @@ module _ {P S H : Type 0} (w : WorldOf P S H) (sound : IsSound w) where
     recorded = rw adds.tids (recorded_is (put f u (w.threads.made + 1)) (table None y) (put (table None w.going) u (Some c)) has (recorded_added f (table None w.going) u (w.threads.made + 1) c sound.recorded));
     queued = λ q. rw adds.tids (IsQueued-added f u (w.threads.made + 1) (rows_of q w.queues) adds.unused (sound.queued q));
     room = sound.room;
+    orderly = sound.orderly;
     long = long;
     prios = λ v k h. (let Q : Option Entry → Type 0 = λ o. o ≡ Some k → IsPrio k.prio in put_by Q (entry_at w.threads) u (Some _) v (λ same is. subst (λ (d : Entry). IsPrio d.prio) (is_entry is) prio) (λ apart. sound.prios v k)) (ap (λ (o : ℕ → Option Entry). o v) (sym adds.entries) ∙ h);
     present = rw (adds.slots, adds.entries, adds.count, adds.made, seen_add None (slot_of w.threads) f (entry_at w.threads) (w.threads.made + 1) u sound.tied (Some (made_of of (w.threads.made + 1))) adds.unused) (number-new (seen None (slot_of w.threads) (entry_at w.threads)) w.threads.made (made_of of (w.threads.made + 1)) ∙ ap (λ (n : ℕ). n + 1) sound.present);

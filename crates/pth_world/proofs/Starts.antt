@@ -11,7 +11,8 @@ use Rattle.pth_base.proofs.Lists.{put_twice}
 use Rattle.pth_queue.specs.declared.queue.Queue.{Queue}
 use Rattle.pth_queue.specs.declared.queue.Queue.TheVariants as queue
 use Rattle.pth_queue.specs.Rows.{named_row, IsQueued}
-use Rattle.pth_queue.specs.Queues.{QueuesOf, no_queues, rows_of, queue_of, entered}
+use Rattle.pth_queue.specs.Queues.{QueuesOf, no_queues, rows_of, queue_of, entered, IsOrdered, IsOrderly}
+use Rattle.pth_queue.proofs.Orders.{IsOrdered-nil}
 use Rattle.pth_threads.specs.Threads.{ThreadsOf, slot_of, tid_at, entry_at, count, changed, made_of, Adds, Changes}
 use Rattle.pth_threads.specs.declared.entry.Change.TheVariants as change
 use Rattle.pth_threads.specs.declared.entry.Entry.{Entry}
@@ -21,7 +22,7 @@ use Rattle.pth_model.specs.Changes.{with_change, with_entry, with_thread, held_b
 use Rattle.pth_model.proofs.Orders.{shown-none}
 use Rattle.pth_world.specs.World.{WorldOf, first_thread}
 use Rattle.pth_world.specs.Standing.{StandsFor, IsSound, IsPrio, View, view, Fits, FitsEntry, Whole}
-use Rattle.pth_world.proofs.Slots.{none_some}
+use Rattle.pth_world.proofs.Slots.{none_some, prio_rank}
 use Rattle.pth_world.proofs.Standing.{add_stands, change_stands, enter_stands}
 use Rattle.pth_world.proofs.Sound.{add_sound, change_sound, enter_sound}
 use Rattle.pth_world.proofs.Places.{queue-entered}
@@ -56,6 +57,16 @@ module _ {P S H : Type 0} (f : P → Functions S H) (program : P) (t0 t1 t2 : Th
   no_prio : (v : ℕ) (e : Entry) → entry_at t0 v ≡ Some e → IsPrio e.prio
   no_prio v e h = absurd (cc (sym (ap (λ (k : ℕ → Option Entry). k v) entries) ∙ h))
 
+  none_orderly : IsOrderly (record no_queues { room = 4096 })
+  none_orderly = record { each = none_ordered; once = λ v. omega arith; few = omega arith }
+    where
+      none_ordered : (q : Queue) → IsOrdered 4096 (rows_of q (record no_queues { room = 4096 }))
+      none_ordered queue.New = IsOrdered-nil 4096
+      none_ordered queue.Ready = IsOrdered-nil 4096
+      none_ordered queue.Waiting = IsOrdered-nil 4096
+      none_ordered queue.Suspended = IsOrdered-nil 4096
+      none_ordered queue.Dead = IsOrdered-nil 4096
+
   sound0 : IsSound w0
   unfolding number_known
   sound0 = record {
@@ -66,6 +77,7 @@ module _ {P S H : Type 0} (f : P → Functions S H) (program : P) (t0 t1 t2 : Th
     recorded = λ v some. absurd (some (ap (λ (k : ℕ → ℕ). k v) tids));
     queued = none_queued;
     room = refl;
+    orderly = none_orderly;
     long = long0;
     prios = no_prio;
     present = ap (number_known (seen None (slot_of t0) (entry_at t0))) none_made ∙ sym no_count;
@@ -183,4 +195,4 @@ module _ {P S H : Type 0} (f : P → Functions S H) (program : P) (t0 t1 t2 : Th
   fits_at i false is = subst (λ (o : Option Entry). FitsEntry None o (view w3 i).place (view w3 i).held) (sym (entry_other i (same_fails i u is))) tt
 
   pub start_whole : Whole w3
-  start_whole = record { sound = enter_sound w2 sound2 1 u slot2 z queue.Ready (pos 0) enters; fits = λ i. fits_at i (i == u) refl; runner = tt }
+  start_whole = record { sound = enter_sound w2 sound2 1 u slot2 z queue.Ready (pos 0) nowhere (prio_rank (pos 0) zero_prio) enters; fits = λ i. fits_at i (i == u) refl; runner = tt }

@@ -19,10 +19,13 @@ use Rattle.pth_model.specs.State.{State}
 use Rattle.pth_model.specs.Changes.{with_entry, with_thread, called, held_by}
 use Rattle.pth_world.specs.World.{WorldOf}
 use Rattle.pth_world.specs.Standing.{StandsFor, IsSound, IsKnown, IsPrio, View, view, Touches, Fits, FitsEntry, Whole, same_view}
+use Rattle.pth_world.proofs.Slots.{prio_rank}
 use Rattle.pth_world.proofs.Standing.{add_stands, enter_stands, called_stands, called_call}
 use Rattle.pth_world.proofs.Sound.{add_sound, enter_sound, going_sound}
 use Rattle.pth_world.proofs.Places.{queue-entered, queue-entered_other, unused-nowhere}
 use Rattle.pth_world.proofs.Views.{called_touches}
+use Rattle.pth_world.specs.Ranks.{KeepsRanks}
+use Rattle.pth_world.proofs.Ranks.{ranks_new}
 
 -- what holds holds where a call fails
 pub on_err : {A E Q : Type 0} (r : Result A E) → Q → OnErr r Q
@@ -47,7 +50,7 @@ module _ {P S H : Type 0} (w : WorldOf P S H) (t u : ℕ) (sound : IsSound w) (e
       subst (λ (k : H). StandsFor (record w { going = z; shared = k }) (called h s t a).state) (sym (ap (λ (k : Stepped S H). k.shared) steps)) (called_stands w t u sound e h z x a s (sym had) is st)
 
   pub next_sound : length z ≡ 4096 → IsSound (record w { going = z; shared = shared })
-  next_sound long = let k = going_sound w sound t u e z (Some (record x { state = after })) goes refl long in record { tied = k.tied; fresh = k.fresh; empty = k.empty; bare = k.bare; recorded = k.recorded; queued = k.queued; room = k.room; long = k.long; prios = k.prios; present = k.present }
+  next_sound long = let k = going_sound w sound t u e z (Some (record x { state = after })) goes refl long in record { tied = k.tied; fresh = k.fresh; empty = k.empty; bare = k.bare; recorded = k.recorded; queued = k.queued; room = k.room; orderly = k.orderly; long = k.long; prios = k.prios; present = k.present }
 
   pub next_touches : Touches w (record w { going = z; shared = shared }) t same_view
   next_touches = called_touches w sound t u e z x (record x { state = after }) shared (sym had) refl goes
@@ -74,7 +77,7 @@ module _ {P S H : Type 0} (w : WorldOf P S H) (whole : Whole w) (x : ThreadsOf) 
   spawn_stands h body arg s is st = enter_stands v t u sound slot z queue.New of.prio false (with_thread s h body arg of) enters (add_stands w x y u of whole.sound adds h body arg s (has ∙ ap (λ (k : Continuation S). put (table None w.going) u (Some k)) is) st)
 
   all_sound : IsSound (record w { threads = x; going = y; queues = z })
-  all_sound = enter_sound v sound t u slot z queue.New of.prio enters
+  all_sound = enter_sound v sound t u slot z queue.New of.prio spawn_nowhere (prio_rank of.prio prio) enters
 
   view_by : (a : Option Entry) (b : Option Queue) (d : Option Held) (k : View) → a ≡ k.entry → b ≡ k.place → d ≡ k.held → record { entry = a; place = b; held = d } ≡ k
   view_by a b d k p q r = rw (p, q, r) refl
@@ -84,6 +87,13 @@ module _ {P S H : Type 0} (w : WorldOf P S H) (whole : Whole w) (x : ThreadsOf) 
 
   view_old : (i : ℕ) → i ≢ u → view (record w { threads = x; going = y; queues = z }) i ≡ view w i
   view_old i apart = view_by _ _ _ (view w i) (ap (λ (k : ℕ → Option Entry). k i) adds.entries ∙ put_other (entry_at w.threads) u _ i apart) (ap (queue_of i) enters ∙ queue-entered_other u of.prio w.queues i queue.New apart) (ap held_by (ap (λ (k : ℕ → Option (Continuation S)). k i) has ∙ put_other (table None w.going) u (Some c) i apart))
+
+  pub spawn_queues : IfSome (slot_of x t) (λ i. z ≡ entered queue.New of.prio i w.queues)
+  spawn_queues = rw slot enters
+
+  pub spawn_ranks : KeepsRanks w (record w { threads = x; going = y; queues = z })
+  unfolding made_of
+  spawn_ranks = ranks_new w (record w { threads = x; going = y; queues = z }) u of.prio enters adds.made
 
   -- the one that runs was there before
   not_new : w.running ≡ Some t → ⊥
@@ -132,6 +142,7 @@ module _ {P S H : Type 0} (w : WorldOf P S H) (x : ThreadsOf) (same : IsSame w.t
     recorded = rw same.tids sound.recorded;
     queued = λ q. rw same.tids (sound.queued q);
     room = sound.room;
+    orderly = sound.orderly;
     long = sound.long;
     prios = rw same.entries sound.prios;
     present = rw (same.slots, same.entries, same.count, same.made) sound.present;

@@ -1,3 +1,5 @@
 pub mod World
 pub mod Standing
 pub mod Leading
+pub mod Walks
+pub mod Ranks

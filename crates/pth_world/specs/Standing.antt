@@ -7,7 +7,7 @@ use Rattle.pth_base.specs.declared.call.Call.TheVariants as call
 use Rattle.pth_base.specs.declared.thread.ThreadState.{ThreadState}
 use Rattle.pth_base.specs.declared.thread.ThreadState.TheVariants as state
 use Rattle.pth_queue.specs.Rows.{named_row, IsQueued}
-use Rattle.pth_queue.specs.Queues.{rows_of, queue_of}
+use Rattle.pth_queue.specs.Queues.{rows_of, queue_of, IsOrderly}
 use Rattle.pth_queue.specs.declared.queue.Queue.{Queue}
 use Rattle.pth_queue.specs.declared.queue.Queue.TheVariants as queue
 use Rattle.pth_threads.specs.Threads.{slot_of, tid_at, entry_at, count, changed}
@@ -68,6 +68,8 @@ pub record IsSound {P S H : Type 0} (w : WorldOf P S H) : Type 0 where
   pub recorded : (u : ℕ) → tid_at w.threads u ≢ 0 → IsSome (table None w.going u)
   pub queued : (q : Queue) → IsQueued (tid_at w.threads) (rows_of q w.queues)
   pub room : w.queues.room ≡ 4096
+  -- each queue is in order, and no slot stands in two
+  pub orderly : IsOrderly w.queues
   pub long : length w.going ≡ 4096
   pub prios : (u : ℕ) (e : Entry) → entry_at w.threads u ≡ Some e → IsPrio e.prio
   -- the threads are counted by slot as by number

@@ -166,13 +166,6 @@ impl<P: Program> World<P> {
         self.favour_new
     }
 
-    /// Sets whether new threads are favoured.
-    pub fn set_favour(&mut self, on: bool)
-        ensures { self.new ≡ record self.old { favour_new = on } }
-    {
-        self.favour_new = on;
-    }
-
     /// The moment, in microseconds.
     pub fn time(&self) -> Micros
         ensures { result ≡ self.now.time }

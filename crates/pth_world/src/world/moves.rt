@@ -1,6 +1,6 @@
 //! The moves of a thread between its states, each with its queue.
 
-ghost use Rattle.std.specs.Prelude.{◌≡◌, ◌≢◌, ◌+◌, ℕ, ℤ, pos, Bool, Option, Some, None, IfSome, min, false};
+ghost use Rattle.std.specs.Prelude.{◌≡◌, ◌≢◌, ◌+◌, ℕ, ℤ, pos, ◌≤ℤ◌, Bool, Option, Some, None, IfSome, min, false};
 ghost use Rattle.pth_base.specs.declared.thread.ThreadState.TheVariants as state;
 ghost use Rattle.pth_queue.specs.Queues.{IsRank, entered, without};
 ghost use Rattle.pth_queue.specs.declared.queue.Queue.TheVariants as queue;
@@ -11,6 +11,7 @@ ghost use Rattle.pth_model.specs.Changes.{running_is};
 ghost use Rattle.pth_model.specs.Ending.{dead, gone};
 ghost use Rattle.pth_model.specs.Pass.{readied, prio_of};
 ghost use Rattle.pth_model.specs.Part.{put_back, put_waiting, runs, last_count};
+ghost use Rattle.pth_world.specs.Ranks.{greatest_return, KeepsRanks};
 ghost use Rattle.pth_world.specs.Standing.{StandsFor, Whole, IsSound, IsPrio, IsKnown, IsIn, IsBefore, SameThreads, KeepsScheduler};
 
 use crate::world::World;
@@ -36,6 +37,7 @@ impl<P: Program> World<P> {
         ensures threads { SameThreads self.old self.new }
         ensures scheduler { KeepsScheduler self.old self.new }
         ensures queues { IfSome (slot_of self.old.threads t.0) (λ u. self.new.queues ≡ entered queue.Ready rank u (without u self.old.queues)) }
+        ensures ranks { rank ≤ℤ pos greatest_return → KeepsRanks self.old self.new }
     {
         let _ = from;
         self.take_out(t);
@@ -52,6 +54,7 @@ impl<P: Program> World<P> {
         ensures whole { Whole self.new }
         ensures threads { SameThreads self.old self.new }
         ensures queues { IfSome (slot_of self.old.threads t.0) (λ u. self.new.queues ≡ without u self.old.queues) }
+        ensures ranks { KeepsRanks self.old self.new }
         ensures same { self.new ≡ record self.old { threads = self.new.threads; queues = self.new.queues; running = Some t.0; named = None } }
     {
         self.take_out(t);
@@ -84,6 +87,7 @@ impl<P: Program> World<P> {
         ensures whole { Whole self.new }
         ensures threads { SameThreads self.old self.new }
         ensures queues { IfSome (slot_of self.old.threads t.0) (λ u. (prio : ℤ) × IsPrio prio × (self.new.queues ≡ entered queue.Ready prio u self.old.queues)) }
+        ensures ranks { KeepsRanks self.old self.new }
         ensures same { self.new ≡ record self.old { threads = self.new.threads; queues = self.new.queues; running = None } }
     {
         let prio = self.prio(t);
@@ -99,6 +103,7 @@ impl<P: Program> World<P> {
         ensures whole { Whole self.new }
         ensures threads { SameThreads self.old self.new }
         ensures queues { IfSome (slot_of self.old.threads t.0) (λ u. (prio : ℤ) × IsPrio prio × (self.new.queues ≡ entered queue.Waiting prio u self.old.queues)) }
+        ensures ranks { KeepsRanks self.old self.new }
         ensures same { self.new ≡ record self.old { threads = self.new.threads; queues = self.new.queues; running = None } }
     {
         let prio = self.prio(t);
@@ -115,6 +120,7 @@ impl<P: Program> World<P> {
         ensures whole { Whole self.new }
         ensures threads { SameThreads self.old self.new }
         ensures queues { IfSome (slot_of self.old.threads t.0) (λ u. self.new.queues ≡ entered queue.Dead (pos 0) u (without u self.old.queues)) }
+        ensures ranks { KeepsRanks self.old self.new }
         ensures same { self.new ≡ record self.old { threads = self.new.threads; queues = self.new.queues; running = None } }
     {
         self.take_out(t);
@@ -133,6 +139,7 @@ impl<P: Program> World<P> {
         ensures whole { Whole self.new }
         ensures made { self.new.threads.made ≡ self.old.threads.made }
         ensures queues { IfSome (slot_of self.old.threads t.0) (λ u. self.new.queues ≡ without u self.old.queues) }
+        ensures ranks { KeepsRanks self.old self.new }
         ensures same { self.new ≡ record self.old { threads = self.new.threads; queues = self.new.queues; going = self.new.going; running = None } }
     {
         self.drop_thread(t);

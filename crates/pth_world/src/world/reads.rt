@@ -1,21 +1,21 @@
 //! Reads of threads by their numbers.
 
-ghost use Rattle.std.specs.Prelude.{◌≡◌, ◌≢◌, ℕ, ◌+◌, ◌^◌, pos, neg_ℤ, ◌≤ℤ◌, true, List, ◌∷◌, ◌++◌, Option, Some, None, IsSome, IfSome, option_map, option_copied};
+ghost use Rattle.std.specs.Prelude.{◌≡◌, ◌≢◌, ℕ, ◌+◌, ◌^◌, ◌<◌, pos, neg_ℤ, ◌≤ℤ◌, true, List, [], ◌∷◌, ◌++◌, Option, Some, None, IsSome, IfSome, option_map, option_copied};
 ghost use Rattle.pth_queue.specs.declared.queue.Queue.TheVariants as queue;
 ghost use Rattle.pth_queue.specs.declared.row.Row.{Row};
 ghost use Rattle.pth_queue.specs.Rows.{holds, head_of, last_of, place_in, favour_top};
-ghost use Rattle.pth_queue.specs.Queues.{IsOrderly, rows_of};
+ghost use Rattle.pth_queue.specs.Queues.{rows_of};
 ghost use Rattle.pth_threads.specs.Threads.{tid_at};
 ghost use Rattle.pth_model.specs.State.{State, queue};
 ghost use Rattle.pth_model.specs.Part.{is_empty, rank_by};
 ghost use Rattle.pth_model.specs.Waits.{only, is_alone};
 ghost use Rattle.pth_world.specs.World.{number_of};
+ghost use Rattle.pth_world.specs.Walks.{behind};
 ghost use Rattle.pth_world.specs.Standing.{StandsFor, IsSound, Whole, IsKnown, IsIn, IsPrio};
 
 use crate::world::World;
 use pth_base::ids::{Slot, Tid};
 use pth_base::program::Program;
-use pth_base::thread::ThreadState;
 use pth_queue::queue::Queue;
 use pth_threads::entry::Entry;
 
@@ -34,37 +34,6 @@ impl<P: Program> World<P> {
         }
     }
 
-    /// Whether a thread waits, and is not suspended.
-    pub fn is_waiting(&self, t: Tid) -> bool
-        requires { Whole self.now }
-        ensures known { result ≡ true → IsKnown self.now t.0 }
-        ensures stands { result ≡ true → IsIn queue.Waiting self.now t.0 }
-    {
-        match self.threads().find(t) {
-            Some(slot) => {
-                let entry = self.threads().get(slot);
-                match entry.state {
-                    ThreadState::Waiting => !entry.suspended,
-                    _ => false,
-                }
-            }
-            None => false,
-        }
-    }
-
-    // The queues are in order. Their set says so where a slot is looked for: the head of the first queue that has one,
-    // which it finds at once.
-    fn in_order(&self)
-        ensures { IsOrderly self.now.queues }
-    {
-        let queues = self.queues();
-        let head = queues
-            .head(Queue::New)
-            .or(queues.head(Queue::Ready))
-            .or(queues.head(Queue::Waiting));
-        let _place = queues.queue_of(head.unwrap_or(Slot(0)));
-    }
-
     // The thread whose slot stands in a queue.
     fn thread_at(&self, slot: Option<Slot>, q: Queue) -> Option<Tid>
         requires sound { IsSound self.now }
@@ -74,10 +43,7 @@ impl<P: Program> World<P> {
         ensures stands { IfSome result (λ t. IsIn q self.now t.0) }
     {
         match slot {
-            Some(slot) => {
-                self.in_order();
-                Some(self.threads().get(slot).tid)
-            }
+            Some(slot) => Some(self.threads().get(slot).tid),
             None => None,
         }
     }
@@ -85,6 +51,7 @@ impl<P: Program> World<P> {
     /// The first thread of a queue (`pth_pqueue_head`).
     pub fn first(&self, q: Queue) -> Option<Tid>
         requires sound { IsSound self.now }
+        ensures none { result ≡ None → rows_of q self.now.queues ≡ [] }
         ensures first { (s : State P P.State P.Shared) → StandsFor self.now s → option_map number_of result ≡ head_of (queue s q) }
         ensures known { IfSome result (λ t. IsKnown self.now t.0) }
         ensures stands { IfSome result (λ t. IsIn q self.now t.0) }
@@ -95,6 +62,7 @@ impl<P: Program> World<P> {
     /// The last thread of a queue (`pth_pqueue_tail`).
     pub fn last(&self, q: Queue) -> Option<Tid>
         requires sound { IsSound self.now }
+        ensures none { result ≡ None → rows_of q self.now.queues ≡ [] }
         ensures last { (s : State P P.State P.Shared) → StandsFor self.now s → option_map number_of result ≡ last_of (queue s q) }
         ensures known { IfSome result (λ t. IsKnown self.now t.0) }
         ensures stands { IfSome result (λ t. IsIn q self.now t.0) }
@@ -110,7 +78,6 @@ impl<P: Program> World<P> {
         ensures low { neg_ℤ (pos (2 ^ 40)) ≤ℤ result }
         ensures high { result ≤ℤ pos (2 ^ 40 + 1) }
     {
-        self.in_order();
         self.queues().favour_top(Queue::Ready)
     }
 
@@ -136,16 +103,16 @@ impl<P: Program> World<P> {
         }
     }
 
-    /// The thread that follows one in its queue; none after the last (`pth_pqueue_walk`).
+    /// The thread that follows one in its queue; none after the last (`pth_pqueue_walk`). Fewer threads stand behind it.
     pub fn after(&self, t: Tid, q: Queue) -> Option<Tid>
         requires sound { IsSound self.now }
         requires known { IsKnown self.now t.0 }
         requires stands { IsIn q self.now t.0 }
+        ensures less { IfSome result (λ u. behind self.now q u.0 < behind self.now q t.0) }
         ensures after { (s : State P P.State P.Shared) (front back : List Row) (r : Row) → StandsFor self.now s → queue s q ≡ front ++ r ∷ back → r.who ≡ t.0 → option_map number_of result ≡ head_of back }
         ensures known { IfSome result (λ t. IsKnown self.now t.0) }
         ensures stands { IfSome result (λ t. IsIn q self.now t.0) }
     {
-        self.in_order();
         let slot = self.slot(t);
         self.thread_at(self.queues().after(slot), q)
     }
@@ -155,7 +122,6 @@ impl<P: Program> World<P> {
         requires { IsSound self.now }
         ensures { (s : State P P.State P.Shared) → StandsFor self.now s → result ≡ only t.0 (queue s q) }
     {
-        self.in_order();
         match (self.first(q), self.last(q)) {
             (Some(first), Some(last)) => first.0 == t.0 && last.0 == t.0,
             _ => true,

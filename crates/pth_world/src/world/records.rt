@@ -10,6 +10,7 @@ ghost use Rattle.pth_model.specs.State.{State, start, present};
 ghost use Rattle.pth_model.specs.Changes.{with_change, with_entry, with_thread, without_entry, without_thread};
 ghost use Rattle.pth_model.specs.Rows.{thread_limit};
 ghost use Rattle.pth_world.specs.World.{first_thread};
+ghost use Rattle.pth_world.specs.Ranks.{KeepsRanks};
 ghost use Rattle.pth_world.specs.Standing.{StandsFor, IsSound, IsKnown, IsPrio, KeepsPrio, Whole, Touches, SameThreads, changes, places, view};
 
 use crate::continuations::Continuations;
@@ -145,6 +146,8 @@ impl<P: Program> World<P> {
         requires few { self.old.threads.made < 2147483648 }
         ensures tid { IfOk result (λ t. t.0 ≡ self.old.threads.made + 1) }
         ensures made { OnOk result (self.new.threads.made ≡ self.old.threads.made + 1) }
+        ensures queues { IfOk result (λ t. IfSome (slot_of self.new.threads t.0) (λ u. self.new.queues ≡ entered queue.New of.prio u self.old.queues)) }
+        ensures ranks { OnOk result (KeepsRanks self.old self.new) }
         ensures stands { IfOk result (λ t. (s : State P P.State P.Shared) → StandsFor self.old s → StandsFor self.new (with_entry (with_thread s P.functions body.0 arg of) t.0 queue.New of.prio false)) }
         ensures whole { OnOk result (Whole self.new) }
         ensures others { OnOk result ((t : ℕ) → IsKnown self.old t → IsKnown self.new t) }

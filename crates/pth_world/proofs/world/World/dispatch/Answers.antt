@@ -1,4 +1,4 @@
-use Rattle.std.proofs.Common.{◌∙◌, ap, Some, None}
+use Rattle.std.proofs.Common.{◌∙◌, ap, Some, None, rules}
 use Rattle.pth_base.specs.declared.thread.ThreadState.TheVariants as state
 use Rattle.pth_threads.specs.declared.entry.Change.TheVariants as change
 use Rattle.pth_model.specs.Changes.{without_entry}
@@ -6,6 +6,7 @@ use Rattle.pth_model.specs.Part.{runs, dispatches_by}
 use Rattle.pth_world.specs.World.{WorldOf}
 use Rattle.pth_world.specs.Standing.{places, changes, same_view}
 use Rattle.pth_world.proofs.Moves.{runs_whole, two_touches, same_twice, queues_alone, run_touches, run_alone, name_touches, name_alone}
+use Rattle.pth_world.proofs.Ranks.{ranks_left}
 use Rattle.pth_world.proofs.world.World.dispatch.Goals as goal
 
 pub returns-clause-stands : goal.returns-clause-stands
@@ -36,3 +37,6 @@ pub returns-clause-queues : goal.returns-clause-queues
 returns-clause-queues g c =
     let queues = ap (λ (k : WorldOf _ _ _). k.queues) c.name_next.ensures.same ∙ ap (λ (k : WorldOf _ _ _). k.queues) c.set_running.ensures.same ∙ ap (λ (k : WorldOf _ _ _). k.queues) c.change-2.ensures.same ∙ ap (λ (k : WorldOf _ _ _). k.queues) c.change.ensures.same in
     rw queues c.take_out.ensures.queues
+
+pub returns-clause-ranks : goal.returns-clause-ranks
+returns-clause-ranks g c = ranks_left c.args.self.now c.name_next.new.self c.args.t.0 c.requires.known search rules (returns-clause-queues g c)

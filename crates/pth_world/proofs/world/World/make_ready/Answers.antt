@@ -1,8 +1,12 @@
 use Rattle.std.proofs.Common.{ap, rules, SFits, w64, to_z-of_z}
 use Rattle.pth_model.specs.Pass.{readied}
 use Rattle.pth_world.specs.World.{WorldOf}
-use Rattle.pth_world.proofs.Moves.{make_ready_whole}
+use Rattle.pth_world.proofs.Moves.{make_ready_whole, queues_alone, left_nowhere}
+use Rattle.pth_world.proofs.Ranks.{ranks_ready}
 use Rattle.pth_world.proofs.world.World.make_ready.Goals as goal
+
+pub put_ready-requires-clause-nowhere : goal.put_ready-requires-clause-nowhere
+put_ready-requires-clause-nowhere g c = left_nowhere c.args.self.now c.take_out.new.self c.args.t.0 (queues_alone _ _ c.take_out.ensures.same) c.take_out.ensures.queues
 
 pub returns-clause-stands : goal.returns-clause-stands
 unfolding readied
@@ -12,3 +16,6 @@ returns-clause-stands g c s top st =
 
 pub returns-clause-whole : goal.returns-clause-whole
 returns-clause-whole g c = make_ready_whole c.args.self.now c.take_out.new.self c.put_ready.new.self c.args.t.0 c.args.from c.requires.whole c.requires.known c.requires.before c.requires.stands c.take_out.ensures.touches c.take_out.ensures.same c.put_ready.ensures.touches c.put_ready.ensures.threads (ap (λ (k : WorldOf _ _ _). k.running) c.put_ready.ensures.same) c.put_ready.ensures.sound
+
+pub returns-clause-ranks : goal.returns-clause-ranks
+returns-clause-ranks g c low = ranks_ready c.args.self.now c.put_ready.new.self c.args.t.0 c.requires.known search rules c.args.rank low search rules

@@ -12,7 +12,7 @@ returns-clause-stands g c s top st =
 pub returns-clause-sound : goal.returns-clause-sound
 returns-clause-sound g c =
     let f : SFits w64 c.args.rank = search rules in
-    enter_sound _ c.requires.sound c.args.t.0 c.slot-slot.result.0 c.slot-slot.ensures.slot _ c.args.q c.args.rank (rw (c.queues_mut.ensures.value, to_z-of_z) at c.insert.ensures)
+    enter_sound _ c.requires.sound c.args.t.0 c.slot-slot.result.0 c.slot-slot.ensures.slot _ c.args.q c.args.rank (rw c.slot-slot.ensures.slot at c.requires.nowhere) c.requires.rank (rw (c.queues_mut.ensures.value, to_z-of_z) at c.insert.ensures)
 
 pub returns-clause-touches : goal.returns-clause-touches
 returns-clause-touches g c =

@@ -9,7 +9,7 @@ pub returns-clause-stands : goal.returns-clause-stands
 returns-clause-stands g c s st = raise_stands _ _ s (rw c.queues_mut.ensures.value at c.increase.ensures) st
 
 pub returns-clause-sound : goal.returns-clause-sound
-returns-clause-sound g c = raise_sound _ c.requires.sound _ (rw c.queues_mut.ensures.value at c.increase.ensures)
+returns-clause-sound g c = raise_sound _ c.requires.sound _ c.requires.rise (rw c.queues_mut.ensures.value at c.increase.ensures)
 
 pub returns-clause-views : goal.returns-clause-views
 returns-clause-views g c u = raise_views c.args.self.now _ (rw c.queues_mut.ensures.value at c.increase.ensures) u

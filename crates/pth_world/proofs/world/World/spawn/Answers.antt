@@ -1,7 +1,7 @@
 use Rattle.std.proofs.Common.{refl, rules, SFits, w64, to_z-of_z}
 use Rattle.pth_world.proofs.Slots.{prio_fits}
 use Rattle.pth_world.proofs.Places.{unused-nowhere}
-use Rattle.pth_world.proofs.Wholes.{same_whole, spawn_stands, spawn_whole, spawn_others, on_err}
+use Rattle.pth_world.proofs.Wholes.{same_whole, spawn_stands, spawn_whole, spawn_others, spawn_queues, spawn_ranks, on_err}
 use Rattle.pth_threads.specs.Threads.{tid_at}
 use Rattle.pth_world.proofs.world.World.spawn.Goals as goal
 
@@ -41,3 +41,21 @@ returns-clause-others g c =
     let prio : SFits w64 c.args.of.prio = prio_fits _ c.requires.prio in
     let enters = rw (c.queues_mut.ensures.value, to_z-of_z) at c.insert.ensures in
     spawn_others c.args.self.now c.requires.whole c.add.new.self c.set.new.self c.insert.new.self c.in_ok-t.slot.0 c.args.of c.requires.prio _ refl adds has c.set.ensures.long enters
+
+pub returns-clause-queues : goal.returns-clause-queues
+returns-clause-queues g c =
+    let tid = rw c.threads_mut.ensures.value at c.in_ok-t.ensures.tid in
+    let adds = rw (c.threads_mut.ensures.value, tid) at c.in_ok-t.ensures.ok in
+    let has = rw c.going_mut.ensures.value at c.set.ensures.set in
+    let prio : SFits w64 c.args.of.prio = prio_fits _ c.requires.prio in
+    let enters = rw (c.queues_mut.ensures.value, to_z-of_z) at c.insert.ensures in
+    rw tid (spawn_queues c.args.self.now c.requires.whole c.add.new.self c.set.new.self c.insert.new.self c.in_ok-t.slot.0 c.args.of c.requires.prio _ refl adds has c.set.ensures.long enters)
+
+pub returns-clause-ranks : goal.returns-clause-ranks
+returns-clause-ranks g c =
+    let tid = rw c.threads_mut.ensures.value at c.in_ok-t.ensures.tid in
+    let adds = rw (c.threads_mut.ensures.value, tid) at c.in_ok-t.ensures.ok in
+    let has = rw c.going_mut.ensures.value at c.set.ensures.set in
+    let prio : SFits w64 c.args.of.prio = prio_fits _ c.requires.prio in
+    let enters = rw (c.queues_mut.ensures.value, to_z-of_z) at c.insert.ensures in
+    spawn_ranks c.args.self.now c.requires.whole c.add.new.self c.set.new.self c.insert.new.self c.in_ok-t.slot.0 c.args.of c.requires.prio _ refl adds has c.set.ensures.long enters

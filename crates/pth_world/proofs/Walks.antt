@@ -1,0 +1,88 @@
+-- Walks over a queue come nearer to its end.
+use Rattle.std.proofs.Common.{◌≡◌, ◌≢◌, ℕ, ◌+◌, ◌<◌, ◌≤◌, ◌==◌, Bool, true, false, not, cond, if◌then◌else◌, List, [], ◌∷◌, map, length, count_by, Option, Some, None, IfSome, option_map, refl, sym, ◌∙◌, ap, subst, arith}
+use Rattle.pth_base.specs.declared.ids.Slot.{Slot}
+use Rattle.pth_base.specs.declared.ids.Tid.{Tid}
+use Rattle.pth_base.proofs.Tables.{same_self, not_same, same_means}
+use Rattle.pth_queue.specs.declared.row.Row.{Row}
+use Rattle.pth_queue.specs.declared.queue.Queue.{Queue}
+use Rattle.pth_queue.specs.Rows.{is_of, delete, holds, head_of, after_in, named_row}
+use Rattle.pth_queue.specs.Queues.{queue_of, rows_of, after_of}
+use Rattle.pth_queue.proofs.Counts.{count-cons, count-present}
+use Rattle.pth_queue.proofs.Names.{after_named, delete_named}
+use Rattle.pth_queue.proofs.Sets.{count-head}
+use Rattle.pth_threads.specs.Threads.{slot_of, tid_at}
+use Rattle.pth_world.specs.World.{WorldOf, number_of}
+use Rattle.pth_world.specs.Standing.{IsSound}
+use Rattle.pth_world.specs.Walks.{rows_behind, behind}
+use Rattle.pth_world.proofs.QueueReads.{holds-after, after_of-in, once_named}
+
+-- where no thread is answered, no slot was
+pub no_slot : (f : ℕ → ℕ) (o : Option Tid) (p : Option Slot) → option_map number_of o ≡ option_map (λ (u : Slot). f u.0) p → o ≡ None → p ≡ None
+no_slot f o None e none = refl
+no_slot f o (Some u) e none = absurd (cc (sym e ∙ ap (option_map number_of) none))
+
+own : (t : ℕ) (xs : List Row) → head_of xs ≡ Some t → rows_behind t xs + 1 ≡ length xs
+own t [] head = cc
+own t (x ∷ xs) head =
+    let same : x.who ≡ t = cc in
+    rw (same, same_self t) (omega arith)
+
+other_by : (t : ℕ) (x : Row) (xs : List Row) (b : Bool) → cond {A = ℕ} b 1 0 + count_by (is_of t) xs ≤ 1 → 1 ≤ count_by (is_of t) xs → (if b then length xs else rows_behind t xs) ≡ rows_behind t xs
+other_by t x xs true once there = absurd (omega arith)
+other_by t x xs false once there = refl
+
+-- one that stands further on, and nowhere else
+other : (t : ℕ) (x : Row) (xs : List Row) → count_by (is_of t) (x ∷ xs) ≤ 1 → 1 ≤ count_by (is_of t) xs → rows_behind t (x ∷ xs) ≡ rows_behind t xs
+other t x xs once there = other_by t x xs (is_of t x) (omega (arith, count-cons t x xs)) there
+
+less_by : (t r : ℕ) (x : Row) (xs : List Row) (b : Bool) → count_by (is_of r) (x ∷ xs) ≤ 1 → (after_in t xs ≡ Some r → rows_behind r xs < rows_behind t xs) → (if b then head_of xs else after_in t xs) ≡ Some r → rows_behind r (x ∷ xs) < (if b then length xs else rows_behind t xs)
+less_by t r x xs true once more h = rw (other r x xs once (count-head r xs h)) (let e = own r xs h in omega arith)
+less_by t r x xs false once more h = rw (other r x xs once (count-present r xs (holds-after t r xs h))) (more h)
+
+-- fewer rows stand behind the one that follows
+pub less-after : (t r : ℕ) (xs : List Row) → count_by (is_of r) xs ≤ 1 → after_in t xs ≡ Some r → rows_behind r xs < rows_behind t xs
+less-after t r [] once h = cc
+less-after t r (x ∷ xs) once h = less_by t r x xs (is_of t x) once (less-after t r xs (omega (arith, count-cons r x xs))) h
+
+names : (f : ℕ → ℕ) (p : Option Slot) → option_map (λ (u : Slot). f u.0) p ≡ option_map f (option_map (λ (u : Slot). u.0) p)
+names f None = refl
+names f (Some u) = refl
+
+-- and so behind the thread that a world answers
+pub behind-after : {P S H : Type 0} (w : WorldOf P S H) (t u : ℕ) (q : Queue) (o : Option Tid) (p : Option Slot) → IsSound w → slot_of w.threads t ≡ Some u → queue_of u w.queues ≡ Some q →
+    option_map (λ (v : Slot). v.0) p ≡ after_of u w.queues → option_map number_of o ≡ option_map (λ (v : Slot). tid_at w.threads v.0) p → IfSome o (λ (r : Tid). behind w q r.0 < behind w q t)
+behind-after w t u q None p sound e stands h is = tt
+behind-after w t u q (Some r) p sound e stands h is = less-after t r.0 (map (named_row (tid_at w.threads)) (rows_of q w.queues)) (once_named w r.0 q sound)
+    (after_named (slot_of w.threads) (tid_at w.threads) t u (rows_of q w.queues) sound.tied e (sound.queued q)
+    ∙ ap (option_map (tid_at w.threads)) (sym (after_of-in u q w.queues stands) ∙ sym h)
+    ∙ sym (names (tid_at w.threads) p)
+    ∙ sym is)
+
+-- the same threads in the same order
+pub behind-same : {P S H : Type 0} (w v : WorldOf P S H) (q : Queue) (r : ℕ) → tid_at v.threads ≡ tid_at w.threads → rows_of q v.queues ≡ rows_of q w.queues → behind v q r ≡ behind w q r
+behind-same w v q r tids rows = rw (tids, rows) refl
+
+shorter : (t : ℕ) (xs : List Row) → length (delete t xs) ≤ length xs
+shorter t [] = omega arith
+shorter t (x ∷ xs) = by_name (is_of t x) (shorter t xs)
+  where
+    by_name : (b : Bool) → length (delete t xs) ≤ length xs → length (cond (not b) (x ∷ delete t xs) (delete t xs)) ≤ length (x ∷ xs)
+    by_name true h = omega arith
+    by_name false h = omega arith
+
+deleted_by : (t r : ℕ) (x : Row) (xs : List Row) (b : Bool) → r ≢ t → (x.who == t) ≡ b → rows_behind r (delete t xs) ≤ rows_behind r xs → rows_behind r (cond (not b) (x ∷ delete t xs) (delete t xs)) ≤ rows_behind r (x ∷ xs)
+deleted_by t r x xs true apart test h = rw (not_same x.who r (λ same. apart (sym same ∙ same_means x.who t test))) h
+deleted_by t r x xs false apart test h = by_name (is_of r x) h
+  where
+    by_name : (b : Bool) → rows_behind r (delete t xs) ≤ rows_behind r xs → (if b then length (delete t xs) else rows_behind r (delete t xs)) ≤ (if b then length xs else rows_behind r xs)
+    by_name true h = shorter t xs
+    by_name false h = h
+
+-- no more rows stand behind a row when another is taken out
+behind-deleted : (t r : ℕ) (xs : List Row) → r ≢ t → rows_behind r (delete t xs) ≤ rows_behind r xs
+behind-deleted t r [] apart = omega arith
+behind-deleted t r (x ∷ xs) apart = deleted_by t r x xs (x.who == t) apart refl (behind-deleted t r xs apart)
+
+-- and behind a thread when another leaves its queue
+pub behind-left : {P S H : Type 0} (w v : WorldOf P S H) (t u : ℕ) (q : Queue) (r : ℕ) → IsSound w → slot_of w.threads t ≡ Some u → tid_at v.threads ≡ tid_at w.threads → rows_of q v.queues ≡ delete u (rows_of q w.queues) → r ≢ t → behind v q r ≤ behind w q r
+behind-left w v t u q r sound e tids rows apart = rw (tids, rows, delete_named (slot_of w.threads) (tid_at w.threads) t u (rows_of q w.queues) sound.tied e (sound.queued q)) (behind-deleted t r (map (named_row (tid_at w.threads)) (rows_of q w.queues)) apart)
