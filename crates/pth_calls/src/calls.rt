@@ -6,6 +6,7 @@ ghost use Rattle.pth_model.specs.State.{State};
 ghost use Rattle.pth_model.specs.Family.{split};
 ghost use Rattle.pth_model.specs.Rows.{answer_of, plain_row};
 ghost use Rattle.pth_model.specs.Waits.{suspends};
+ghost use Rattle.pth_world.specs.Ranks.{KeepsRanks};
 ghost use Rattle.pth_world.specs.Standing.{StandsFor, Whole, IsKnown};
 ghost use Rattle.pth_world.specs.Leading.{Leads, IsCut};
 
@@ -50,6 +51,7 @@ pub fn begin_plain<P: Program>(
     ensures known { OnOk result ((u : ℕ) → IsKnown w.old u → IsKnown w.new u) }
     ensures made { OnOk result (w.new.threads.made ≤ w.old.threads.made + 1) }
     ensures same { OnOk result (w.new ≡ record w.old { threads = w.new.threads; queues = w.new.queues; going = w.new.going }) }
+    ensures ranks { OnOk result (KeepsRanks w.old w.new) }
 {
     match call {
         Call::Plain => Ok(Answer::None),

@@ -4,6 +4,7 @@ ghost use Rattle.std.specs.Prelude.{◌≡◌, ◌<◌, ◌≤◌, ◌+◌, ℕ,
 ghost use Rattle.pth_model.specs.State.{State};
 ghost use Rattle.pth_model.specs.Family.{Spawn};
 ghost use Rattle.pth_model.specs.Rows.{body_of as body_by, child_of as child_by_entry, spawn_answer, thread_after};
+ghost use Rattle.pth_world.specs.Ranks.{KeepsRanks};
 ghost use Rattle.pth_world.specs.Standing.{StandsFor, Whole, IsKnown};
 
 use pth_base::answer::Answer;
@@ -53,6 +54,7 @@ pub fn spawn<P: Program>(
     ensures known { OnOk result ((u : ℕ) → IsKnown w.old u → IsKnown w.new u) }
     ensures made { OnOk result (w.new.threads.made ≤ w.old.threads.made + 1) }
     ensures same { OnOk result (w.new ≡ record w.old { threads = w.new.threads; queues = w.new.queues; going = w.new.going }) }
+    ensures ranks { OnOk result (KeepsRanks w.old w.new) }
 {
     let Some(body) = body_of(w.bodies(), number) else {
         return Ok(Answer::Fail(Errno::EINVAL));

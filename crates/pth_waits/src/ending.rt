@@ -4,6 +4,7 @@ ghost use Rattle.std.specs.Prelude.{◌≡◌, ℕ, None, Some, OnOk, OnErr, if�
 ghost use Rattle.pth_model.specs.State.{State};
 ghost use Rattle.pth_model.specs.Changes.{running_is};
 ghost use Rattle.pth_model.specs.Ending.{ending, dead, gone};
+ghost use Rattle.pth_world.specs.Ranks.{KeepsRanks};
 ghost use Rattle.pth_world.specs.Standing.{StandsFor, Whole};
 ghost use Rattle.pth_world.specs.Leading.{Leads, IsCut};
 
@@ -22,6 +23,7 @@ fn leave<P: Program>(w: &mut World<P>, t: Tid, joinable: bool, value: i64)
     ensures whole { Whole w.new }
     ensures made { w.new.threads.made ≡ w.old.threads.made }
     ensures same { w.new ≡ record w.old { threads = w.new.threads; queues = w.new.queues; going = w.new.going; running = None } }
+    ensures ranks { KeepsRanks w.old w.new }
 {
     if joinable {
         w.make_dead(t, value);
@@ -45,6 +47,7 @@ pub fn end_thread<P: Program>(
     ensures whole { OnOk result (Whole w.new) }
     ensures made { OnOk result (w.new.threads.made ≡ w.old.threads.made) }
     ensures same { OnOk result (w.new ≡ record w.old { threads = w.new.threads; queues = w.new.queues; going = w.new.going; running = None }) }
+    ensures ranks { OnOk result (KeepsRanks w.old w.new) }
 {
     w.take_held(t);
     let joinable = match w.entry(t) {

@@ -4,6 +4,7 @@ ghost use Rattle.std.specs.Prelude.{◌≡◌, ◌<◌, ◌≤◌, ◌+◌, ◌=
 ghost use Rattle.pth_base.specs.declared.call.Call.TheVariants.{Exit, Yield};
 ghost use Rattle.pth_model.specs.State.{State};
 ghost use Rattle.pth_model.specs.Waits.{main, is_alone, begun, exit_again, resumed, wakes as wakes_now, suspends as may_suspend};
+ghost use Rattle.pth_world.specs.Ranks.{KeepsRanks};
 ghost use Rattle.pth_world.specs.Standing.{StandsFor, IsSound, Whole};
 ghost use Rattle.pth_world.specs.Leading.{Leads, IsCut};
 ghost use Rattle.pth_waits.specs.Running.{runs_after};
@@ -110,6 +111,7 @@ fn begin_exit<P: Program>(
     ensures made { OnOk result (w.new.threads.made ≡ w.old.threads.made) }
     ensures named { OnOk result (w.new.named ≡ w.old.named) }
     ensures runs { IfOk result (λ n. w.new.running ≡ runs_after t.0 n) }
+    ensures ranks { OnOk result (KeepsRanks w.old w.new) }
 {
     if !must_wait(w, t) {
         end_thread(w, t, value, marks)?;
@@ -151,6 +153,7 @@ pub fn begin<P: Program>(
     ensures made { OnOk result (w.new.threads.made ≤ w.old.threads.made + 1) }
     ensures named { OnOk result (w.new.named ≡ w.old.named) }
     ensures runs { IfOk result (λ n. w.new.running ≡ runs_after t.0 n) }
+    ensures ranks { OnOk result (KeepsRanks w.old w.new) }
 {
     match call {
         Call::Exit(value) => begin_exit(w, t, call, *value, marks),
@@ -194,6 +197,7 @@ fn resume_exit<P: Program>(
     ensures made { OnOk result (w.new.threads.made ≡ w.old.threads.made) }
     ensures named { OnOk result (w.new.named ≡ w.old.named) }
     ensures runs { IfOk result (λ n. w.new.running ≡ runs_after t.0 n) }
+    ensures ranks { OnOk result (KeepsRanks w.old w.new) }
 {
     if w.is_alone(t) {
         end_thread(w, t, value, marks)?;
@@ -217,6 +221,7 @@ pub fn resume<P: Program>(w: &mut World<P>, t: Tid, marks: &mut Marks) -> Result
     ensures made { OnOk result (w.new.threads.made ≡ w.old.threads.made) }
     ensures named { OnOk result (w.new.named ≡ w.old.named) }
     ensures runs { IfOk result (λ n. w.new.running ≡ runs_after t.0 n) }
+    ensures ranks { OnOk result (KeepsRanks w.old w.new) }
 {
     let call = match w.held(t) {
         Some(held) => held.call.copy()?,

@@ -1,5 +1,6 @@
 use Rattle.std.proofs.Common.{refl, rules}
 use Rattle.pth_model.specs.Rows.{answer_of, plain_row}
+use Rattle.pth_world.proofs.Ranks.{ranks_none}
 use Rattle.pth_calls.proofs.Answering.{unbuilt, spawn_leads, unbuilt_leads}
 use Rattle.pth_calls.proofs.calls.begin_plain.Goals as goal
 
@@ -39,4 +40,5 @@ returns-in_ok-tell-in_default g c =
       known = λ u known. known;
       made = search rules;
       same = refl;
+      ranks = ranks_none c.args.w.now;
     }

@@ -4,6 +4,7 @@ use Rattle.pth_model.specs.declared.next.Next.TheVariants.{Done}
 use Rattle.pth_world.specs.World.{WorldOf}
 use Rattle.pth_model.specs.Rows.{answer_of}
 use Rattle.pth_calls.proofs.Answering.{unbuilt_leads}
+use Rattle.pth_world.proofs.Ranks.{ranks_none}
 use Rattle.pth_waits.proofs.Begins.{begins_plain, unbuilt}
 use Rattle.pth_waits.proofs.waits.begin.Goals as goal
 
@@ -18,6 +19,7 @@ returns-in_err-begin_plain-in_default-2 g c =
       made = search rules;
       named = search rules;
       runs = search rules;
+      ranks = search rules;
     })
 
 pub returns-in_ok-tell-in_default : goal.returns-in_ok-tell-in_default
@@ -32,6 +34,7 @@ returns-in_ok-tell-in_default g c =
       made = search rules;
       named = refl;
       runs = c.requires.runs;
+      ranks = ranks_none c.args.w.now;
     }
 
 pub returns-in_ok-begin_plain-in_default-2 : goal.returns-in_ok-begin_plain-in_default-2
@@ -43,4 +46,5 @@ returns-in_ok-begin_plain-in_default-2 g c = record {
   made = c.in_ok-begin_plain-in_default-2.ensures.made;
   named = ap (λ (k : WorldOf _ _ _). k.named) c.in_ok-begin_plain-in_default-2.ensures.same;
   runs = ap (λ (k : WorldOf _ _ _). k.running) c.in_ok-begin_plain-in_default-2.ensures.same ∙ c.requires.runs;
+  ranks = c.in_ok-begin_plain-in_default-2.ensures.ranks;
 }

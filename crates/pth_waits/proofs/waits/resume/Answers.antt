@@ -3,6 +3,7 @@ use Rattle.pth_model.specs.Changes.{held_of}
 use Rattle.std.proofs.lemmas.Result.{IfOk-weaker, on_ok_weaker, on_err_weaker}
 use Rattle.pth_model.specs.Told.{Went}
 use Rattle.pth_model.specs.Waits.{resumed}
+use Rattle.pth_world.proofs.Ranks.{ranks_none}
 use Rattle.pth_waits.proofs.Begins.{resumed_exit, resumed_still}
 use Rattle.pth_waits.proofs.waits.resume.Goals as goal
 
@@ -42,4 +43,5 @@ returns g c = record {
   made = refl;
   named = refl;
   runs = c.requires.runs;
+  ranks = ranks_none c.args.w.now;
 }
