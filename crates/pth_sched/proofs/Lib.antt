@@ -1,1 +1,9 @@
+pub mod Following
 pub mod Keeping
+pub mod Listing
+pub mod Living
+pub mod Parts
+pub mod Readying
+pub mod Roofs
+pub mod Showing
+pub mod Waking

@@ -1,1 +1,3 @@
 pub mod MachineOf
+pub mod Passing
+pub mod Running

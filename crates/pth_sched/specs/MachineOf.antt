@@ -1,9 +1,10 @@
 -- What contracts see of a machine, and what holds of it between two parts of a run.
-use Rattle.std.specs.Prelude.{◌≡◌, ◌≤◌, ◌+◌, ◌*◌, ◌-◌, nat_le, ℕ, Bool, true, false, Option, Some, None, IfSome}
+use Rattle.std.specs.Prelude.{◌≡◌, ◌≤◌, ◌+◌, ◌*◌, ◌-◌, nat_le, ℕ, Bool, true, false, Option, Some, None, IfSome, length}
 use Rattle.pth_base.specs.declared.outcome.Outcome.{Outcome}
 use Rattle.pth_base.specs.declared.outcome.Outcome.TheVariants as outcome
 use Rattle.pth_world.specs.World.{WorldOf}
 use Rattle.pth_world.specs.Standing.{Whole}
+use Rattle.pth_world.specs.Ranks.{IsUnder, greatest_return}
 
 -- a world with the turn that it is in
 pub record MachineOf (P S H : Type 0) : Type 0 where
@@ -21,7 +22,22 @@ pub record IsGoing {P S H : Type 0} (m : MachineOf P S H) : Type 0 where
   pub made : m.world.threads.made ≤ m.steps + 1
   pub turns : m.turns ≤ m.steps + 1
   pub over : IfSome m.gave (λ t. m.turns ≤ m.steps)
+  -- nobody runs but the thread that gave up control
+  pub own : IfSome m.gave (λ t. IfSome m.world.running (λ r. r ≡ t))
   pub between : m.world.running ≡ None → m.turns ≤ m.steps
+
+-- whether a turn has begun and is not over
+abbrev pub open_by : Option ℕ → Option ℕ → ℕ
+open_by None None = 0
+open_by g r = 1
+
+-- No rank of the ready queue is above a roof. A turn that is over lifts it by one, and so does each new thread that becomes
+-- ready: so it is bounded by the turns that began and the threads that were made.
+pub record IsRoofed {P S H : Type 0} (m : MachineOf P S H) : Type 0 where
+  pub roof : ℕ
+  pub low : greatest_return ≤ roof
+  pub under : IsUnder roof m.world.queues.ready
+  pub few : roof + length m.world.queues.new + open_by m.gave m.world.running ≤ greatest_return + m.world.threads.made + m.turns
 
 -- how far a run to a number of steps is from its end
 abbrev pub left_by : Option ℕ → Option ℕ → ℕ

@@ -1,14 +1,18 @@
 //! A machine that runs a program.
 
-ghost use Rattle.std.specs.Prelude.{◌≡◌, ◌≢◌, ◌≤◌, ◌+◌, IfOk};
+ghost use Rattle.std.specs.Prelude.{◌≡◌, ◌≢◌, ◌≤◌, ◌+◌, ◌↔◌, ℕ, map, IfOk};
+ghost use Rattle.pth_model.specs.State.{State, Given};
+ghost use Rattle.pth_model.specs.Living.{live as live_threads};
+ghost use Rattle.pth_threads.specs.Threads.{number};
+ghost use Rattle.pth_sched.specs.Running.{Stands, StandsAt, GoesOn, BreaksOff, IsAtStep};
 
+use crate::live::live;
 use crate::schedule::Schedule;
 use pth_base::ids::{Micros, Tid};
 use pth_base::marks::Marks;
 use pth_base::memory::OutOfMemory;
 use pth_base::outcome::Outcome;
 use pth_base::program::Program;
-use pth_base::thread::ThreadState;
 use pth_world::world::World;
 use std::alloc::Global;
 use std::marker::Model;
@@ -23,18 +27,20 @@ pub struct Machine<P: Program> {
 impl<P: Program> Model for Machine<P> {
     ghost use Rattle.std.specs.Prelude.{◌≡◌, false, if◌then◌else◌};
     ghost use Rattle.pth_base.specs.declared.outcome.Outcome.TheVariants.{OutOfMemory};
-    ghost use Rattle.pth_sched.specs.MachineOf.{MachineOf, IsGoing};
+    ghost use Rattle.pth_sched.specs.MachineOf.{MachineOf};
+    ghost use Rattle.pth_sched.specs.Running.{Keeps};
 
     ghost Value = { MachineOf P P.State P.Shared };
 
     ghost view = { λ m. record m.schedule { outcome = if m.failed then OutOfMemory else m.schedule.outcome } };
 
-    ghost invariant = { λ m. (m.failed ≡ false → IsGoing m.schedule) };
+    ghost invariant = { λ m. (m.failed ≡ false → Keeps m.schedule) };
 }
 
 impl<P: Program> Machine<P> {
     /// The main thread alone, ready (`pth_init`).
     pub fn new(alloc: Global, program: P) -> Result<Machine<P>, OutOfMemory>
+        ensures stands { IfOk result (λ m. StandsAt P.functions (record { program = program }) 0 m) }
         ensures steps { IfOk result (λ m. m.steps ≡ 0) }
         ensures outcome { IfOk result (λ m. m.outcome ≡ Outcome.Running) }
     {
@@ -60,8 +66,10 @@ impl<P: Program> Machine<P> {
     /// ends before. After an outcome that ends the run it answers the same again, and tells nothing.
     pub fn advance(&mut self, n: u64, marks: &mut Marks) -> Outcome
         requires few { self.old.steps + n ≤ 1000000000 }
+        ensures goes_on { result ≢ Outcome.OutOfMemory → (g : Given P) (i : ℕ) → StandsAt P.functions g i self.old → GoesOn P.functions g (self.old.steps + n) i self.new marks.old marks.new }
+        ensures breaks_off { result ≡ Outcome.OutOfMemory → (g : Given P) (i : ℕ) → StandsAt P.functions g i self.old → BreaksOff P.functions g (self.old.steps + n) i marks.old marks.new }
+        ensures running { (result ≡ Outcome.Running) ↔ ((self.new.steps ≡ self.old.steps + n) × IsAtStep self.new) }
         ensures steps { self.new.steps ≤ self.old.steps + n }
-        ensures running { result ≡ Outcome.Running → self.new.steps ≡ self.old.steps + n }
         ensures outcome { result ≡ self.new.outcome }
         ensures again { self.old.outcome ≢ Outcome.Running → (result ≡ self.old.outcome) × (marks.new ≡ marks.old) }
     {
@@ -114,18 +122,13 @@ impl<P: Program> Machine<P> {
         self.schedule.world()
     }
 
-    /// The numbers of the threads in the system that are not dead, the oldest first.
-    pub fn live(&self, alloc: Global) -> Result<Vec<Tid>, OutOfMemory> {
-        let mut live = Vec::new(alloc);
-        let threads = self.schedule.world().threads();
-        for t in threads.tids(alloc)? {
-            if let Some(slot) = threads.find(t) {
-                match threads.get(slot).state {
-                    ThreadState::Dead => {}
-                    _ => live.push(t)?,
-                }
-            }
+    /// The numbers of the threads in the system that are not dead, the oldest first; none after want of memory.
+    pub fn live(&self, alloc: Global) -> Result<Vec<Tid>, OutOfMemory>
+        ensures { IfOk result (λ v. (s : State P P.State P.Shared) → Stands self.now s → map number v.items ≡ live_threads s) }
+    {
+        if self.failed {
+            return Ok(Vec::new(alloc));
         }
-        Ok(live)
+        live(self.schedule.world(), alloc)
     }
 }

@@ -1,7 +1,15 @@
 //! Passes over the waiting threads.
 
-ghost use Rattle.std.specs.Prelude.{◌≡◌, OnOk};
-ghost use Rattle.pth_world.specs.Standing.{Whole, KeepsScheduler};
+ghost use Rattle.std.specs.Prelude.{◌≡◌, ◌≢◌, ℕ, pos, neg_ℤ, ◌+ℤ◌, ◌≤ℤ◌, List, [], ◌∷◌, ◌++◌, map, if◌then◌else◌, OnOk, OnErr};
+ghost use Rattle.pth_queue.specs.declared.queue.Queue.TheVariants as queue;
+ghost use Rattle.pth_threads.specs.Threads.{number};
+ghost use Rattle.pth_model.specs.State.{State};
+ghost use Rattle.pth_model.specs.Waits.{wakes as wakes_now};
+ghost use Rattle.pth_model.specs.Pass.{pass, prio_of, to_wake, woken, all_woken};
+ghost use Rattle.pth_world.specs.Standing.{StandsFor, IsSound, Whole, IsKnown, IsIn, KeepsScheduler};
+ghost use Rattle.pth_world.specs.Ranks.{KeepsRanks, greatest_return};
+ghost use Rattle.pth_world.specs.Leading.{Leads, IsCut};
+ghost use Rattle.pth_sched.specs.Passing.{HasState, IsWaiting, WaitOnce};
 
 use pth_base::ids::Tid;
 use pth_base::mark::Mark;
@@ -11,58 +19,100 @@ use pth_base::program::Program;
 use pth_queue::queue::Queue;
 use pth_waits::waits::wakes;
 use pth_world::world::World;
-use std::alloc::Global;
 
-// The waiting threads, in their order, whose calls have what they wait for.
-fn to_wake<P: Program>(alloc: Global, w: &World<P>) -> Result<Vec<Tid>, OutOfMemory>
-    requires { Whole w.now }
+// Lists a waiting thread where its call has what it waits for.
+fn list_one<P: Program>(w: &World<P>, t: Tid, list: &mut Vec<Tid>) -> Result<(), OutOfMemory>
+    requires { IsSound w.now }
+    ensures { OnOk result ((s : State P P.State P.Shared) → StandsFor w.now s → map number list.new.items ≡ map number list.old.items ++ (if wakes_now s t.0 then t.0 ∷ [] else [])) }
 {
-    let mut woken = Vec::new(alloc);
-    let mut next = w.first(Queue::Waiting);
-    for _ in 0..w.threads().count() {
-        let Some(t) = next else {
-            break;
-        };
-        if wakes(w, t) {
-            woken.push(t)?;
-        }
-        next = w.after(t, Queue::Waiting);
+    if wakes(w, t) {
+        list.push(t)?;
     }
-    Ok(woken)
-}
-
-// A waiting thread is ready, one rank above its base priority.
-fn wake<P: Program>(w: &mut World<P>, t: Tid, marks: &mut Marks) -> Result<(), OutOfMemory>
-    requires whole { Whole w.old }
-    ensures whole { OnOk result (Whole w.new) }
-    ensures scheduler { OnOk result (KeepsScheduler w.old w.new) }
-    ensures made { OnOk result (w.new.threads.made ≡ w.old.threads.made) }
-{
-    if !w.is_waiting(t) {
-        return Ok(());
-    }
-    let rank = match w.entry(t) {
-        Some(entry) => entry.prio + 1,
-        None => return Ok(()),
-    };
-    w.make_ready(t, Queue::Waiting, rank);
-    marks.push(Mark::Woke { tid: t, rank })?;
     Ok(())
 }
 
-/// A pass over the waiting threads: which of them wake is told by the state as it begins.
-pub fn pass<P: Program>(
-    alloc: Global,
+// Lists the waiting threads, in their order, whose calls have what they wait for.
+fn list_to_wake<P: Program>(w: &World<P>, list: &mut Vec<Tid>) -> Result<(), OutOfMemory>
+    requires { Whole w.now }
+    ensures { OnOk result ((s : State P P.State P.Shared) → StandsFor w.now s → map number list.new.items ≡ to_wake s) }
+{
+    list.clear();
+    let mut next = w.first(Queue::Waiting);
+    while let Some(t) = next {
+        list_one(w, t, list)?;
+        next = w.after(t, Queue::Waiting);
+    }
+    Ok(())
+}
+
+// The rank at which a woken thread is ready: one above its base priority.
+fn woken_rank<P: Program>(w: &World<P>, t: Tid) -> i64
+    requires sound { IsSound w.now }
+    requires known { IsKnown w.now t.0 }
+    ensures rank { (s : State P P.State P.Shared) → StandsFor w.now s → result ≡ prio_of s t.0 +ℤ pos 1 }
+    ensures low { neg_ℤ (pos 20) ≤ℤ result }
+    ensures high { result ≤ℤ pos greatest_return }
+{
+    match w.entry(t) {
+        Some(entry) => entry.prio + 1,
+        None => unreachable!(),
+    }
+}
+
+// A waiting thread is ready.
+fn wake<P: Program>(w: &mut World<P>, t: Tid, marks: &mut Marks) -> Result<(), OutOfMemory>
+    requires whole { Whole w.old }
+    requires waits { IsWaiting w.old t.0 }
+    ensures ok { OnOk result ((s : State P P.State P.Shared) → StandsFor w.old s → Leads w.new marks.old marks.new (woken s t.0)) }
+    ensures err { OnErr result ((s : State P P.State P.Shared) → StandsFor w.old s → IsCut marks.old marks.new (woken s t.0).marks) }
+    ensures whole { Whole w.new }
+    ensures scheduler { KeepsScheduler w.old w.new }
+    ensures made { w.new.threads.made ≡ w.old.threads.made }
+    ensures others { (u : ℕ) → u ≢ t.0 → IsWaiting w.old u → IsWaiting w.new u }
+    ensures ranks { KeepsRanks w.old w.new }
+{
+    let rank = woken_rank(w, t);
+    w.make_ready(t, Queue::Waiting, rank);
+    marks.push(Mark::Woke { tid: t, rank })
+}
+
+// These threads, which wait, are woken in this order.
+fn wake_all<P: Program>(
     w: &mut World<P>,
+    list: &[Tid],
     marks: &mut Marks,
 ) -> Result<(), OutOfMemory>
     requires whole { Whole w.old }
+    requires wait { WaitOnce w.old (map number list.now) }
+    ensures ok { OnOk result ((s : State P P.State P.Shared) → StandsFor w.old s → Leads w.new marks.old marks.new (all_woken (map number list.now) s)) }
+    ensures err { OnErr result ((s : State P P.State P.Shared) → StandsFor w.old s → IsCut marks.old marks.new (all_woken (map number list.now) s).marks) }
     ensures whole { OnOk result (Whole w.new) }
     ensures scheduler { OnOk result (KeepsScheduler w.old w.new) }
     ensures made { OnOk result (w.new.threads.made ≡ w.old.threads.made) }
+    ensures ranks { OnOk result (KeepsRanks w.old w.new) }
 {
-    for t in to_wake(alloc, w)? {
-        wake(w, t, marks)?;
+    for t in list {
+        wake(w, *t, marks)?;
     }
     Ok(())
+}
+
+/// A pass over the waiting threads: which of them wake is told by the state as it begins. `list` is where they are kept
+/// meanwhile.
+pub fn pass<P: Program>(
+    w: &mut World<P>,
+    list: &mut Vec<Tid>,
+    marks: &mut Marks,
+) -> Result<(), OutOfMemory>
+    requires whole { Whole w.old }
+    requires state { HasState w.old }
+    ensures ok { OnOk result ((s : State P P.State P.Shared) → StandsFor w.old s → Leads w.new marks.old marks.new (pass s)) }
+    ensures err { OnErr result ((s : State P P.State P.Shared) → StandsFor w.old s → IsCut marks.old marks.new (pass s).marks) }
+    ensures whole { OnOk result (Whole w.new) }
+    ensures scheduler { OnOk result (KeepsScheduler w.old w.new) }
+    ensures made { OnOk result (w.new.threads.made ≡ w.old.threads.made) }
+    ensures ranks { OnOk result (KeepsRanks w.old w.new) }
+{
+    list_to_wake(w, list)?;
+    wake_all(w, list.as_slice(), marks)
 }

@@ -1,13 +1,18 @@
 //! The parts of a run: a thread is taken, it makes a step, its turn is closed, and time moves.
 
-ghost use Rattle.std.specs.Prelude.{◌≡◌, ◌≤◌, ◌+◌, ◌<◌, ℕ, true, false, Some, None, IsSome, IfSome, IfOk, OnOk, OnErr};
+ghost use Rattle.std.specs.Prelude.{◌≡◌, ◌≢◌, ◌≤◌, ◌+◌, ◌<◌, ℕ, [], true, false, Some, None, IsSome, IfSome, IfOk, OnOk, OnErr, length};
+ghost use Rattle.pth_model.specs.State.{State, Given};
+ghost use Rattle.pth_model.specs.Part.{is_idle, settled, taken, stepped, closed, part};
+ghost use Rattle.pth_model.specs.Run.{stops as run_stops};
 ghost use Rattle.pth_world.specs.Standing.{Whole};
+ghost use Rattle.pth_world.specs.Leading.{IsCut};
 ghost use Rattle.pth_waits.specs.Running.{runs_after};
-ghost use Rattle.pth_sched.specs.MachineOf.{IsGoing, left, stops};
+ghost use Rattle.pth_sched.specs.MachineOf.{IsGoing, IsRoofed, left, stops};
+ghost use Rattle.pth_sched.specs.Running.{Stands, StandsAt, IsShown, Keeps, Makes, GoesOn, BreaksOff};
 
 use crate::passes::pass;
-use crate::turns::{go_on, next, place, raise, ready_new};
-use pth_base::ids::{Micros, Tid};
+use crate::turns::{end_turn, go_on, next, ready_new};
+use pth_base::ids::Tid;
 use pth_base::mark::Mark;
 use pth_base::marks::Marks;
 use pth_base::memory::OutOfMemory;
@@ -22,13 +27,13 @@ use std::marker::Model;
 // The main thread's number.
 const MAIN: u32 = 1;
 
-// Where moments stand still.
-const LAST_MOMENT: Micros = 1_000_000_000_000_000_000;
+// At most so many threads are in the system, and so at most so many are woken in one pass.
+const MOST: usize = 4096;
 
-/// A world with the turn that it is in.
+/// A world with the turn that it is in, and room for the threads that a pass wakes.
 #[derive(Drop)]
 pub struct Schedule<P: Program> {
-    alloc: Global,
+    waking: Vec<Tid>,
     world: World<P>,
     gave: Option<Tid>,
     turns: u64,
@@ -55,13 +60,16 @@ impl<P: Program> Model for Schedule<P> {
 impl<P: Program> Schedule<P> {
     /// The main thread alone, ready (`pth_init`).
     pub fn new(alloc: Global, program: P) -> Result<Schedule<P>, OutOfMemory>
+        ensures stands { IfOk result (λ m. StandsAt P.functions (record { program = program }) 0 m) }
         ensures going { IfOk result (λ m. IsGoing m) }
+        ensures ranks { IfOk result (λ m. IsRoofed m) }
         ensures steps { IfOk result (λ m. m.steps ≡ 0) }
         ensures outcome { IfOk result (λ m. m.outcome ≡ Outcome.Running) }
     {
+        let waking = Vec::with_capacity(alloc, MOST)?;
         let world = World::new(alloc, program)?;
         Ok(Schedule {
-            alloc,
+            waking,
             world,
             gave: None,
             turns: 0,
@@ -101,19 +109,21 @@ impl<P: Program> Schedule<P> {
     // The new threads become ready, and one thread is dispatched.
     fn take(&mut self, marks: &mut Marks) -> Result<(), OutOfMemory>
         requires going { IsGoing self.old }
+        requires ranks { IsRoofed self.old }
         requires few { self.old.steps ≤ 1000000000 }
         requires nobody { self.old.world.running ≡ None }
         requires over { self.old.gave ≡ None }
+        requires some { 0 < length self.old.world.queues.ready + length self.old.world.queues.new }
+        ensures ok { OnOk result ((s : State P P.State P.Shared) → Stands self.old s → Makes self.new marks.old marks.new (taken s)) }
+        ensures err { OnErr result ((s : State P P.State P.Shared) → Stands self.old s → IsCut marks.old marks.new (taken s).marks) }
         ensures going { OnOk result (IsGoing self.new) }
+        ensures ranks { OnOk result (IsRoofed self.new) }
         ensures steps { self.new.steps ≡ self.old.steps }
         ensures gave { OnOk result (self.new.gave ≡ None) }
-        ensures runs { OnOk result (self.new.outcome ≡ Outcome.Running → IsSome self.new.world.running) }
+        ensures runs { OnOk result (IsSome self.new.world.running) }
     {
-        ready_new(&mut self.world)?;
-        let Some(t) = next(&self.world) else {
-            self.outcome = Outcome::Stalled;
-            return Ok(());
-        };
+        ready_new(&mut self.world);
+        let t = next(&self.world);
         let rank = self.world.ready_rank(t);
         self.world.dispatch(t);
         self.turns += 1;
@@ -131,11 +141,14 @@ impl<P: Program> Schedule<P> {
     fn settle(&mut self, t: Tid, next: Next)
         requires whole { Whole self.old.world }
         requires runs { self.old.world.running ≡ runs_after t.0 next }
+        ensures stands { (s : State P P.State P.Shared) → Stands self.old s → Stands self.new (settled s t.0 next) }
         ensures whole { Whole self.new.world }
         ensures named { self.new.world.named ≡ self.old.world.named }
         ensures threads { self.new.world.threads ≡ self.old.world.threads }
+        ensures queues { self.new.world.queues ≡ self.old.world.queues }
         ensures running { self.new.world.running ≡ self.old.world.running }
         ensures gives { self.new.world.running ≡ None → IsSome self.new.gave }
+        ensures own { self.old.gave ≡ None → IfSome self.new.gave (λ u. u ≡ t.0) }
         ensures same { self.new ≡ record self.old { world = self.new.world; gave = self.new.gave; outcome = self.new.outcome } }
     {
         match next {
@@ -158,9 +171,14 @@ impl<P: Program> Schedule<P> {
     // The thread that runs makes a step.
     fn step(&mut self, t: Tid, marks: &mut Marks) -> Result<(), OutOfMemory>
         requires going { IsGoing self.old }
+        requires ranks { IsRoofed self.old }
         requires few { self.old.steps ≤ 1000000000 }
         requires runs { self.old.world.running ≡ Some t.0 }
+        requires over { self.old.gave ≡ None }
+        ensures ok { OnOk result ((s : State P P.State P.Shared) → Stands self.old s → Makes self.new marks.old marks.new (stepped P.functions s t.0)) }
+        ensures err { OnErr result ((s : State P P.State P.Shared) → Stands self.old s → IsCut marks.old marks.new (stepped P.functions s t.0).marks) }
         ensures going { OnOk result (IsGoing self.new) }
+        ensures ranks { OnOk result (IsRoofed self.new) }
         ensures steps { OnOk result (self.new.steps ≡ self.old.steps + 1) }
         ensures still { OnErr result (self.new.steps ≡ self.old.steps) }
     {
@@ -170,36 +188,45 @@ impl<P: Program> Schedule<P> {
         Ok(())
     }
 
-    // The turn is over: the ready threads rise, the one that gave up control is put back, time goes on, and a pass is made.
-    fn close(&mut self, marks: &mut Marks) -> Result<(), OutOfMemory>
+    // The turn of thread t is over: the ready threads rise, t is put back unless it has ended, time goes on, and a pass is
+    // made.
+    fn close(&mut self, t: Tid, marks: &mut Marks) -> Result<(), OutOfMemory>
         requires going { IsGoing self.old }
-        requires over { IsSome self.old.gave }
+        requires ranks { IsRoofed self.old }
+        requires few { self.old.steps ≤ 1000000000 }
+        requires over { self.old.gave ≡ Some t.0 }
+        requires shown { IsShown self.old }
+        ensures ok { OnOk result ((s : State P P.State P.Shared) → Stands self.old s → Makes self.new marks.old marks.new (closed s t.0)) }
+        ensures err { OnErr result ((s : State P P.State P.Shared) → Stands self.old s → IsCut marks.old marks.new (closed s t.0).marks) }
         ensures going { OnOk result (IsGoing self.new) }
+        ensures ranks { OnOk result (IsRoofed self.new) }
         ensures steps { self.new.steps ≡ self.old.steps }
         ensures gave { OnOk result (self.new.gave ≡ None) }
         ensures running { OnOk result (self.new.world.running ≡ None) }
         ensures outcome { OnOk result (self.new.outcome ≡ self.old.outcome) }
     {
-        raise(&mut self.world)?;
-        place(&mut self.world);
+        end_turn(&mut self.world, t);
         self.gave = None;
-        let time = self.world.time().saturating_add(self.world.clock());
-        self.world.set_time(time.min(LAST_MOMENT));
-        pass(self.alloc, &mut self.world, marks)
+        pass(&mut self.world, &mut self.waking, marks)
     }
 
     // Whether nothing is new or ready.
     fn is_idle(&self) -> bool
         requires { IsGoing self.now }
+        ensures idle { (s : State P P.State P.Shared) → Stands self.now s → result ≡ is_idle s }
+        ensures some { result ≡ false → 0 < length self.now.world.queues.ready + length self.now.world.queues.new }
     {
         self.world.is_empty(Queue::New) && self.world.is_empty(Queue::Ready)
     }
 
     // One part of the run.
     fn part(&mut self, marks: &mut Marks) -> Result<(), OutOfMemory>
-        requires going { IsGoing self.old }
+        requires keeps { Keeps self.old }
         requires few { self.old.steps ≤ 1000000000 }
+        ensures ok { OnOk result ((s : State P P.State P.Shared) → Stands self.old s → Makes self.new marks.old marks.new (part P.functions s)) }
+        ensures err { OnErr result ((s : State P P.State P.Shared) → Stands self.old s → IsCut marks.old marks.new (part P.functions s).marks) }
         ensures going { OnOk result (IsGoing self.new) }
+        ensures ranks { OnOk result (IsRoofed self.new) }
         ensures less { OnOk result ((to : ℕ) → stops to self.old ≡ false → left to self.new < left to self.old) }
         ensures within { (to : ℕ) → stops to self.old ≡ false → self.old.steps ≤ to → self.new.steps ≤ to }
     {
@@ -207,8 +234,8 @@ impl<P: Program> Schedule<P> {
             Outcome::Running => {}
             _ => return Ok(()),
         }
-        if self.gave.is_some() {
-            return self.close(marks);
+        if let Some(t) = self.gave {
+            return self.close(t, marks);
         }
         if let Some(t) = self.world.running() {
             return self.step(t, marks);
@@ -222,7 +249,8 @@ impl<P: Program> Schedule<P> {
 
     // Whether a run to this number of steps goes no further: a next step would begin, or an outcome ended it.
     fn stops(&self, to: u64) -> bool
-        ensures { result ≡ stops to self.now }
+        ensures stops { result ≡ stops to self.now }
+        ensures run { (s : State P P.State P.Shared) → Stands self.now s → result ≡ run_stops to s }
     {
         match self.outcome {
             Outcome::Running => {}
@@ -234,10 +262,12 @@ impl<P: Program> Schedule<P> {
     /// Goes on to this number of steps in all, and by the parts after them that are no steps. After an error the schedule
     /// may only be dropped.
     pub fn advance(&mut self, to: u64, marks: &mut Marks) -> Result<(), OutOfMemory>
-        requires going { IsGoing self.old }
+        requires keeps { Keeps self.old }
         requires more { self.old.steps ≤ to }
         requires few { to ≤ 1000000000 }
-        ensures going { OnOk result (IsGoing self.new) }
+        ensures goes_on { OnOk result ((g : Given P) (i : ℕ) → StandsAt P.functions g i self.old → GoesOn P.functions g to i self.new marks.old marks.new) }
+        ensures breaks_off { OnErr result ((g : Given P) (i : ℕ) → StandsAt P.functions g i self.old → BreaksOff P.functions g to i marks.old marks.new) }
+        ensures keeps { OnOk result (Keeps self.new) }
         ensures within { self.new.steps ≤ to }
         ensures stops { OnOk result (stops to self.new ≡ true) }
     {

@@ -1,11 +1,19 @@
 //! What the parts of a turn do to the world.
 
-ghost use Rattle.std.specs.Prelude.{◌≡◌, ◌≤◌, ◌+◌, ◌<◌, Some, None, IfSome, IfOk, OnOk};
+ghost use Rattle.std.specs.Prelude.{◌≡◌, ◌≢◌, ◌≤◌, ◌+◌, ◌^◌, ◌<◌, ℕ, pos, neg_ℤ, ◌≤ℤ◌, [], Some, None, IfSome, IfOk, OnOk, OnErr, length, reverse};
+ghost use Rattle.pth_queue.specs.Queues.{CanRise};
 ghost use Rattle.pth_queue.specs.declared.queue.Queue.TheVariants as queue;
-ghost use Rattle.pth_world.specs.Standing.{Whole, IsKnown, IsIn, KeepsScheduler};
+ghost use Rattle.pth_model.specs.State.{State, queue as rows};
+ghost use Rattle.pth_model.specs.Changes.{held_of, raised};
+ghost use Rattle.pth_model.specs.Pass.{who_in};
+ghost use Rattle.pth_model.specs.Part.{all_readied, closing, new_rank, next_by, placed, went_by};
+ghost use Rattle.pth_world.specs.Standing.{StandsFor, IsSound, Whole, IsKnown, IsIn, KeepsScheduler};
+ghost use Rattle.pth_world.specs.Ranks.{IsUnder, KeepsRanks, greatest_return};
+ghost use Rattle.pth_world.specs.Leading.{Leads, IsCut};
 ghost use Rattle.pth_waits.specs.Running.{runs_after};
+ghost use Rattle.pth_sched.specs.Passing.{HasRoom};
 
-use pth_base::ids::Tid;
+use pth_base::ids::{Micros, Tid};
 use pth_base::marks::Marks;
 use pth_base::memory::OutOfMemory;
 use pth_base::program::Program;
@@ -14,48 +22,67 @@ use pth_queue::queue::Queue;
 use pth_waits::waits::{begin, resume};
 use pth_world::world::World;
 
-// The greatest rank that a queue takes.
-const LAST_RANK: i64 = 1 << 40;
+// Where moments stand still.
+const LAST_MOMENT: Micros = 1_000_000_000_000_000_000;
+
+// The rank at which a new thread becomes ready: in front of all others where new threads are favoured
+// (`PTH_CTRL_FAVOURNEW`), and else 0.
+fn new_rank<P: Program>(w: &World<P>) -> i64
+    requires { IsSound w.now }
+    ensures rank { (s : State P P.State P.Shared) → StandsFor w.now s → result ≡ new_rank s }
+    ensures under { (roof : ℕ) → greatest_return ≤ roof → IsUnder roof w.now.queues.ready → result ≤ℤ pos (roof + 1) }
+    ensures low { neg_ℤ (pos (2 ^ 40)) ≤ℤ result }
+{
+    if w.favour() { w.top() } else { 0 }
+}
 
 /// The new threads become ready, the last of them first.
-pub fn ready_new<P: Program>(w: &mut World<P>) -> Result<(), OutOfMemory>
+pub fn ready_new<P: Program>(w: &mut World<P>)
     requires whole { Whole w.old }
-    ensures whole { OnOk result (Whole w.new) }
-    ensures scheduler { OnOk result (KeepsScheduler w.old w.new) }
-    ensures made { OnOk result (w.new.threads.made ≡ w.old.threads.made) }
+    requires room { HasRoom w.old.queues }
+    ensures stands { (s : State P P.State P.Shared) → StandsFor w.old s → StandsFor w.new (all_readied (reverse (who_in (rows s queue.New))) s) }
+    ensures whole { Whole w.new }
+    ensures scheduler { KeepsScheduler w.old w.new }
+    ensures made { w.new.threads.made ≡ w.old.threads.made }
+    ensures none { w.new.queues.new ≡ [] }
+    ensures ranks { (roof : ℕ) → greatest_return ≤ roof → IsUnder roof w.old.queues.ready → IsUnder (roof + length w.old.queues.new) w.new.queues.ready }
+    ensures some { 0 < length w.old.queues.ready + length w.old.queues.new → 0 < length w.new.queues.ready }
 {
     while let Some(t) = w.last(Queue::New) {
-        let rank = if w.favour() { w.top() } else { 0 };
-        if rank > LAST_RANK {
-            return Err(OutOfMemory);
-        }
+        let rank = new_rank(w);
         w.make_ready(t, Queue::New, rank);
     }
-    Ok(())
 }
 
 /// The thread that the last yield named, else the head of the ready queue.
-pub fn next<P: Program>(w: &World<P>) -> Option<Tid>
+pub fn next<P: Program>(w: &World<P>) -> Tid
     requires whole { Whole w.now }
     requires named { w.now.named ≡ None }
-    ensures known { IfSome result (λ t. IsKnown w.now t.0) }
-    ensures ready { IfSome result (λ t. IsIn queue.Ready w.now t.0) }
+    requires some { 0 < length w.now.queues.ready }
+    ensures next { (s : State P P.State P.Shared) → StandsFor w.now s → Some result.0 ≡ next_by s.rest.scheduler.named (rows s queue.Ready) }
+    ensures known { IsKnown w.now result.0 }
+    ensures ready { IsIn queue.Ready w.now result.0 }
 {
-    match w.named() {
-        Some(t) => Some(t),
-        None => w.first(Queue::Ready),
+    match w.named().or(w.first(Queue::Ready)) {
+        Some(t) => t,
+        None => unreachable!(),
     }
 }
 
-/// The thread that runs tries its suspended call again, or begins the program's next call.
+/// The thread that runs tries its suspended call again, or begins the program's next call. After an error the world may
+/// only be dropped.
 pub fn go_on<P: Program>(w: &mut World<P>, t: Tid, marks: &mut Marks) -> Result<Next, OutOfMemory>
     requires whole { Whole w.old }
     requires runs { w.old.running ≡ Some t.0 }
     requires few { w.old.threads.made < 2147483648 }
+    ensures next { IfOk result (λ n. (s : State P P.State P.Shared) → StandsFor w.old s → n ≡ (went_by P.functions s t.0 (held_of s t.0)).next) }
+    ensures ok { OnOk result ((s : State P P.State P.Shared) → StandsFor w.old s → Leads w.new marks.old marks.new (went_by P.functions s t.0 (held_of s t.0)).told) }
+    ensures err { OnErr result ((s : State P P.State P.Shared) → StandsFor w.old s → IsCut marks.old marks.new (went_by P.functions s t.0 (held_of s t.0)).told.marks) }
     ensures whole { OnOk result (Whole w.new) }
     ensures named { OnOk result (w.new.named ≡ w.old.named) }
     ensures made { OnOk result (w.new.threads.made ≤ w.old.threads.made + 1) }
     ensures runs { IfOk result (λ n. w.new.running ≡ runs_after t.0 n) }
+    ensures ranks { OnOk result (KeepsRanks w.old w.new) }
 {
     if w.held(t).is_some() {
         return resume(w, t, marks);
@@ -65,33 +92,51 @@ pub fn go_on<P: Program>(w: &mut World<P>, t: Tid, marks: &mut Marks) -> Result<
     begin(w, t, &call, marks)
 }
 
-/// Every ready thread rises by one rank.
-pub fn raise<P: Program>(w: &mut World<P>) -> Result<(), OutOfMemory>
+// The thread that gave up control is put back, unless it has ended.
+fn place<P: Program>(w: &mut World<P>, t: Tid)
     requires whole { Whole w.old }
-    ensures whole { OnOk result (Whole w.new) }
-    ensures same { OnOk result (w.new ≡ record w.old { queues = w.new.queues }) }
-{
-    if w.top() > LAST_RANK {
-        return Err(OutOfMemory);
-    }
-    w.raise_ready();
-    Ok(())
-}
-
-/// The thread that gave up control is put back, unless it has ended.
-pub fn place<P: Program>(w: &mut World<P>)
-    requires whole { Whole w.old }
+    requires own { IfSome w.old.running (λ r. r ≡ t.0) }
+    ensures stands { (s : State P P.State P.Shared) → StandsFor w.old s → StandsFor w.new (placed s t.0) }
     ensures whole { Whole w.new }
     ensures running { w.new.running ≡ None }
     ensures named { w.new.named ≡ w.old.named }
     ensures made { w.new.threads.made ≡ w.old.threads.made }
+    ensures ranks { KeepsRanks w.old w.new }
 {
-    let Some(t) = w.running() else {
+    if w.running().is_none() {
         return;
-    };
+    }
     if w.held(t).is_some() {
         w.put_waiting(t);
     } else {
         w.put_back(t);
     }
+}
+
+// Time goes on by what a turn takes.
+fn tick<P: Program>(w: &mut World<P>)
+    ensures stands { (s : State P P.State P.Shared) → StandsFor w.old s → StandsFor w.new (closing s) }
+    ensures whole { Whole w.old → Whole w.new }
+    ensures same { w.new ≡ record w.old { time = w.new.time } }
+{
+    let time = w.time().saturating_add(w.clock());
+    w.set_time(time.min(LAST_MOMENT));
+}
+
+/// The turn of thread t is over: the ready threads rise, t is put back unless it has ended, and time goes on.
+pub fn end_turn<P: Program>(w: &mut World<P>, t: Tid)
+    requires whole { Whole w.old }
+    requires own { IfSome w.old.running (λ r. r ≡ t.0) }
+    requires rise { CanRise w.old.queues.ready }
+    ensures stands { (s : State P P.State P.Shared) → StandsFor w.old s → StandsFor w.new (closing (placed (raised s) t.0)) }
+    ensures whole { Whole w.new }
+    ensures running { w.new.running ≡ None }
+    ensures named { w.new.named ≡ w.old.named }
+    ensures made { w.new.threads.made ≡ w.old.threads.made }
+    ensures ranks { (roof : ℕ) → greatest_return ≤ roof → IsUnder roof w.old.queues.ready → IsUnder (roof + 1) w.new.queues.ready }
+    ensures fresh { length w.new.queues.new ≤ length w.old.queues.new }
+{
+    w.raise_ready();
+    place(w, t);
+    tick(w);
 }

@@ -84,7 +84,8 @@ impl<P: Program> World<P> {
     /// Whether no thread stands in a queue.
     pub fn is_empty(&self, q: Queue) -> bool
         requires { IsSound self.now }
-        ensures { (s : State P P.State P.Shared) → StandsFor self.now s → result ≡ is_empty (queue s q) }
+        ensures empty { (s : State P P.State P.Shared) → StandsFor self.now s → result ≡ is_empty (queue s q) }
+        ensures rows { result ≡ is_empty (rows_of q self.now.queues) }
     {
         self.queues().head(q).is_none()
     }

@@ -1,10 +1,14 @@
-use Rattle.std.proofs.Common.{◌≤◌}
-use Rattle.pth_sched.specs.MachineOf.{IsGoing, left}
+use Rattle.std.proofs.Common.{◌≤◌, ℕ}
+use Rattle.pth_model.specs.State.{Given}
+use Rattle.pth_sched.specs.MachineOf.{left}
+use Rattle.pth_sched.specs.Running.{Keeps, StandsAt}
+use Rattle.pth_sched.proofs.Following.{Reaches}
 use Rattle.pth_sched.proofs.schedule.Schedule.advance.Given as goal
 
 abbrev pub invariant-loop-self : goal.invariant-loop-self
 invariant-loop-self g l = record {
-  going : IsGoing l.self;
+  reaches : (x : Given g.row.P.Denot) (i : ℕ) → StandsAt g.P.Program.functions x i l.fn.self → Reaches g.P.Program.functions x l.to i l.self l.fn.marks l.marks;
+  keeps : Keeps l.self;
   within : l.self.steps ≤ l.to;
 }
 

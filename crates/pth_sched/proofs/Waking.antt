@@ -1,0 +1,155 @@
+-- Threads are woken one after another.
+use Rattle.std.proofs.Common.{◌≡◌, ◌≢◌, ℕ, ◌==◌, ◌+◌, ◌≤◌, ℤ, pos, ◌+ℤ◌, Bool, true, false, cond, ◌||◌, List, [], ◌∷◌, ◌++◌, map, filter, count_by, Option, Some, None, IsSome, IfSome, refl, sym, ◌∙◌, ap, subst, arith, append_assoc, append-nil}
+use Rattle.pth_base.proofs.Tables.{same_self}
+use Rattle.pth_base.specs.declared.mark.Mark.{Mark}
+use Rattle.pth_base.specs.declared.mark.Mark.TheVariants.{Woke}
+use Rattle.pth_queue.specs.declared.row.Row.{Row}
+use Rattle.pth_queue.specs.declared.queue.Queue.TheVariants.{Ready, Waiting}
+use Rattle.pth_queue.specs.Rows.{is_of, holds, named_row, IsQueued}
+use Rattle.pth_queue.specs.Queues.{queue_of, without, entered}
+use Rattle.pth_queue.proofs.Counts.{count-cons}
+use Rattle.pth_queue.proofs.Standing.{queue_of-holds}
+use Rattle.pth_threads.specs.Threads.{slot_of, tid_at}
+use Rattle.pth_model.specs.State.{State}
+use Rattle.pth_model.specs.Told.{Told, tid}
+use Rattle.pth_model.specs.Waits.{wakes}
+use Rattle.pth_model.specs.Pass.{who_in, prio_of, readied, woken, all_woken, to_wake, pass}
+use Rattle.pth_world.specs.World.{WorldOf}
+use Rattle.pth_world.specs.Standing.{StandsFor, IsSound, IsKnown, SameThreads}
+use Rattle.pth_world.specs.Leading.{Leads, IsCut}
+use Rattle.pth_world.proofs.Places.{queue-entered_other, queue-without_other}
+use Rattle.pth_world.proofs.QueueReads.{once_thread, stands_at}
+use Rattle.pth_sched.specs.Passing.{IsWaiting, IsNotIn, WaitOnce}
+
+-- ---- one thread
+
+module _ {P S H : Type 0} where
+  pub woken_leads : (v : WorldOf P S H) (s : State P S H) (t : ℕ) (rank : ℤ) (old new : List Mark) → rank ≡ prio_of s t +ℤ pos 1 → StandsFor v (readied s t rank false) → new ≡ old ++ Woke (tid t) rank ∷ [] → Leads v old new (woken s t)
+  unfolding woken
+  woken_leads v s t rank old new is st told = record {
+    stands = subst (λ (r : ℤ). StandsFor v (readied s t r false)) is st;
+    tells = subst (λ (r : ℤ). new ≡ old ++ Woke (tid t) r ∷ []) is told;
+  }
+
+  -- another thread that waits goes on waiting
+  pub waits_still : (w v : WorldOf P S H) (t u : ℕ) (rank : ℤ) → IsSound w → IsKnown w t → SameThreads w v → IfSome (slot_of w.threads t) (λ x. v.queues ≡ entered Ready rank x (without x w.queues)) → u ≢ t → IsWaiting w u → IsWaiting v u
+  waits_still w v t u rank sound known same queues apart waits =
+      subst (λ (f : ℕ → Option ℕ). IsSome (f u) × IfSome (f u) (λ y. queue_of y v.queues ≡ Some Waiting)) (sym same.slots)
+      (by_slots (slot_of w.threads t) (slot_of w.threads u) refl refl known queues waits)
+    where
+      by_slots : (o p : Option ℕ) → slot_of w.threads t ≡ o → slot_of w.threads u ≡ p → IsSome o → IfSome o (λ x. v.queues ≡ entered Ready rank x (without x w.queues)) → IsSome p × IfSome p (λ y. queue_of y w.queues ≡ Some Waiting) → IsSome p × IfSome p (λ y. queue_of y v.queues ≡ Some Waiting)
+      by_slots None p e f some h k = absurd (cc some)
+      by_slots (Some x) None e f some h k = absurd (cc k.0)
+      by_slots (Some x) (Some y) e f some h k =
+          let other : y ≢ x = λ is. apart (sym (sound.tied.tid u y f) ∙ ap (tid_at w.threads) is ∙ sound.tied.tid t x e) in
+          (k.0, ap (queue_of y) h ∙ queue-entered_other x rank (without x w.queues) y Ready other ∙ queue-without_other x y w.queues other ∙ k.1)
+
+  -- and so do others, none of which is this one
+  pub wait_once : (w v : WorldOf P S H) (t : ℕ) (ts : List ℕ) → ((u : ℕ) → u ≢ t → IsWaiting w u → IsWaiting v u) → IsNotIn t ts → WaitOnce w ts → WaitOnce v ts
+  wait_once w v t [] still apart once = tt
+  wait_once w v t (u ∷ us) still apart once = (still u apart.0 once.0, once.1, wait_once w v t us still apart.1 once.2)
+
+-- ---- which threads a pass wakes
+
+zero_of : (b : Bool) (n : ℕ) → cond {A = ℕ} b 1 0 + n ≡ 0 → b ≡ false
+zero_of true n h = absurd (omega arith)
+zero_of false n h = refl
+
+not_in_by : (p : Bool) (t u : ℕ) (us : List ℕ) → u ≢ t → IsNotIn t us → IsNotIn t (cond p (u ∷ us) us)
+not_in_by true t u us apart h = (apart, h)
+not_in_by false t u us apart h = h
+
+-- whose row does not stand in a queue is not listed
+not_in : (p : ℕ → Bool) (t : ℕ) (rows : List Row) → count_by (is_of t) rows ≡ 0 → IsNotIn t (filter p (who_in rows))
+not_in p t [] none = tt
+not_in p t (x ∷ rows) none =
+    let other : is_of t x ≡ false = zero_of (is_of t x) (count_by (is_of t) rows) (sym (count-cons t x rows) ∙ none) in
+    not_in_by (p x.who) t x.who (filter p (who_in rows)) (λ same. absurd (cc (sym other ∙ ap (λ (n : ℕ). n == t) same ∙ same_self t))) (not_in p t rows (omega (arith, count-cons t x rows)))
+
+module _ {P S H : Type 0} (w : WorldOf P S H) (sound : IsSound w) where
+  one_waits : (x : ℕ) → tid_at w.threads x ≢ 0 → queue_of x w.queues ≡ Some Waiting → IsWaiting w (tid_at w.threads x)
+  one_waits x used stands = (subst (λ (o : Option ℕ). IsSome o) (sym (sound.tied.slot x used)) refl, stands_at w sound x (tid_at w.threads x) Waiting used refl stands)
+
+  once_by : (b : Bool) (t : ℕ) (ts : List ℕ) → IsWaiting w t → IsNotIn t ts → WaitOnce w ts → WaitOnce w (cond b (t ∷ ts) ts)
+  once_by true t ts waits apart once = (waits, apart, once)
+  once_by false t ts waits apart once = once
+
+  rows_once : (p : ℕ → Bool) (xs : List Row) → IsQueued (tid_at w.threads) xs → ((x : ℕ) → holds x xs ≡ true → queue_of x w.queues ≡ Some Waiting) → ((t : ℕ) → count_by (is_of t) (map (named_row (tid_at w.threads)) xs) ≤ 1)
+      → WaitOnce w (filter p (who_in (map (named_row (tid_at w.threads)) xs)))
+  rows_once p [] used stands once = tt
+  rows_once p (x ∷ xs) used stands once =
+      let t = tid_at w.threads x.who in
+      let rest = map (named_row (tid_at w.threads)) xs in
+      let own : cond {A = ℕ} (is_of t (named_row (tid_at w.threads) x)) 1 0 ≡ 1 = ap (λ (b : Bool). cond {A = ℕ} b 1 0) (same_self t) in
+      let count = count-cons t (named_row (tid_at w.threads) x) rest in
+      let none : count_by (is_of t) rest ≡ 0 = (let o = once t in omega arith) in
+      once_by (p t) t (filter p (who_in rest)) (one_waits x.who used.0 (stands x.who (rw (same_self x.who) refl))) (not_in p t rest none)
+      (rows_once p xs used.1 (λ y h. stands y (rw h (or_true (is_of y x)))) (λ u. (let o = once u in omega (arith, count-cons u (named_row (tid_at w.threads) x) rest))))
+    where
+      or_true : (b : Bool) → (b || true) ≡ true
+      or_true true = refl
+      or_true false = refl
+
+  -- they wait, and none is listed twice
+  pub to_wake_once : (s : State P S H) → StandsFor w s → WaitOnce w (to_wake s)
+  unfolding to_wake
+  to_wake_once s st =
+      let rows = st.threads.standing Waiting in
+      subst (λ (l : List Row). WaitOnce w (filter (wakes s) (who_in l))) (sym rows)
+      (rows_once (wakes s) w.queues.waiting (sound.queued Waiting) (λ x h. queue_of-holds Waiting x w.queues sound.orderly h) (λ t. subst (λ (l : List Row). count_by (is_of t) l ≤ 1) rows (once_thread w s t Waiting sound st)))
+
+-- ---- all of them
+
+module _ {P S H : Type 0} where
+  -- the world stands for a state from which the threads that are left are still to be woken
+  pub record Wakes (w : WorldOf P S H) (ts : List ℕ) (old new : List Mark) (all : Told P S H) : Type 0 where
+    pub state : State P S H
+    pub stands : StandsFor w state
+    pub told : List Mark
+    pub appended : new ≡ old ++ told
+    pub same_state : (all_woken ts state).state ≡ all.state
+    pub same_marks : told ++ (all_woken ts state).marks ≡ all.marks
+
+  pub wakes_first : (w : WorldOf P S H) (ts : List ℕ) (old : List Mark) (s : State P S H) → StandsFor w s → Wakes w ts old old (all_woken ts s)
+  wakes_first w ts old s st = record { state = s; stands = st; told = []; appended = sym (append-nil old); same_state = refl; same_marks = refl }
+
+  pub wakes_next : (w v : WorldOf P S H) (t : ℕ) (ts : List ℕ) (old mid new : List Mark) (all : Told P S H) → Wakes w (t ∷ ts) old mid all → ((s : State P S H) → StandsFor w s → Leads v mid new (woken s t)) → Wakes v ts old new all
+  unfolding all_woken
+  wakes_next w v t ts old mid new all k leads =
+      let l = leads k.state k.stands in
+      record {
+        state = (woken k.state t).state;
+        stands = l.stands;
+        told = k.told ++ (woken k.state t).marks;
+        appended = l.tells ∙ ap (λ (m : List Mark). m ++ (woken k.state t).marks) k.appended ∙ append_assoc old k.told (woken k.state t).marks;
+        same_state = k.same_state;
+        same_marks = append_assoc k.told (woken k.state t).marks (all_woken ts (woken k.state t).state).marks ∙ k.same_marks;
+      }
+
+  pub wakes_all : (w : WorldOf P S H) (old new : List Mark) (all : Told P S H) → Wakes w [] old new all → Leads w old new all
+  unfolding all_woken
+  wakes_all w old new all k = record {
+    stands = subst (StandsFor w) k.same_state k.stands;
+    tells = k.appended ∙ ap (λ (m : List Mark). old ++ m) (sym (append-nil k.told) ∙ k.same_marks);
+  }
+
+  pub wakes_cut : (w : WorldOf P S H) (t : ℕ) (ts : List ℕ) (old mid new : List Mark) (all : Told P S H) → Wakes w (t ∷ ts) old mid all → ((s : State P S H) → StandsFor w s → IsCut mid new (woken s t).marks) → IsCut old new all.marks
+  unfolding all_woken
+  wakes_cut w t ts old mid new all k cuts =
+      let c = cuts k.state k.stands in
+      let later = (all_woken ts (woken k.state t).state).marks in
+      record {
+        first = k.told ++ c.first;
+        rest = c.rest ++ later;
+        new_is = c.new_is ∙ ap (λ (m : List Mark). m ++ c.first) k.appended ∙ append_assoc old k.told c.first;
+        all_is = append_assoc k.told c.first (c.rest ++ later) ∙ ap (λ (m : List Mark). k.told ++ m) (sym (append_assoc c.first c.rest later) ∙ ap (λ (m : List Mark). m ++ later) c.all_is) ∙ k.same_marks;
+      }
+
+  -- a pass wakes those that it listed
+  pub pass_leads : (w : WorldOf P S H) (s : State P S H) (ts : List ℕ) (old new : List Mark) → ts ≡ to_wake s → Leads w old new (all_woken ts s) → Leads w old new (pass s)
+  unfolding pass
+  pass_leads w s ts old new is leads = subst (λ (l : List ℕ). Leads w old new (all_woken l s)) is leads
+
+  pub pass_cut : (s : State P S H) (ts : List ℕ) (old new : List Mark) → ts ≡ to_wake s → IsCut old new (all_woken ts s).marks → IsCut old new (pass s).marks
+  unfolding pass
+  pass_cut s ts old new is cut = subst (λ (l : List ℕ). IsCut old new (all_woken l s).marks) is cut

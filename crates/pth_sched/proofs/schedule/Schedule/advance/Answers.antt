@@ -1,0 +1,30 @@
+use Rattle.std.proofs.Common.{sym}
+use Rattle.std.proofs.lemmas.Result.{err_from_is_err_and}
+use Rattle.pth_sched.proofs.Following.{reach-none, reach-more, reach-stop, reach-cut}
+use Rattle.pth_sched.proofs.schedule.Schedule.advance.Goals as goal
+
+pub loop-self-init : goal.loop-self-init
+loop-self-init g c = record {
+  reaches = λ x i st. reach-none _ x _ i _ _ st;
+  keeps = c.requires.keeps;
+  within = c.requires.more;
+}
+
+pub loop-self-preserved : goal.loop-self-preserved
+loop-self-preserved g c =
+    let before = c.loop-self.invariant in
+    let state = before.keeps.shown.state in
+    let made = c.in_ok-part.ensures.ok state before.keeps.shown.shown in
+    record {
+      reaches = λ x i st. reach-more _ x _ i _ _ _ _ _ (before.reaches x i st) (λ s k. sym (c.loop-self-test.ensures.run s k)) c.in_ok-part.ensures.ok;
+      keeps = record { going = c.in_ok-part.ensures.going; ranks = c.in_ok-part.ensures.ranks; shown = record { state = _; shown = made.stands } };
+      within = c.in_ok-part.ensures.within c.args.to (sym c.loop-self-test.ensures.stops) before.within;
+    }
+
+pub returns-clause-goes_on : goal.returns-clause-goes_on
+returns-clause-goes_on g c = λ x i st. reach-stop _ x _ i _ _ _ (c.loop-self.invariant.reaches x i st) (λ s k. sym (c.loop-self-test.ensures.run s k))
+
+pub returns-in_err-part-clause-breaks_off : goal.returns-in_err-part-clause-breaks_off
+returns-in_err-part-clause-breaks_off g c =
+    let p = err_from_is_err_and c.from_residual.result c.from_residual.ensures.1 in
+    rw p.1 (λ x i st. reach-cut _ x _ i _ _ _ _ (c.loop-self.invariant.reaches x i st) (λ s k. sym (c.loop-self-test.ensures.run s k)) c.in_err-part.ensures.err)

@@ -1,0 +1,23 @@
+use Rattle.std.proofs.Common.{◌≡◌, ◌∙◌, None, ap, refl, sym, subst, rules, SFits, w64, to_z-of_z}
+use Rattle.std.proofs.lemmas.Result.{on_ok_weaker}
+use Rattle.pth_sched.specs.MachineOf.{IsRoofed}
+use Rattle.pth_sched.specs.Running.{Stands}
+use Rattle.pth_sched.proofs.Parts.{take_makes}
+use Rattle.pth_sched.proofs.Roofs.{take_roofed}
+use Rattle.pth_sched.proofs.schedule.Schedule.take.Goals as goal
+
+pub returns-clause-ok : goal.returns-clause-ok
+returns-clause-ok g c =
+    let fits : SFits w64 c.ready_rank-rank.result = search rules in
+    let told = simp to_z-of_z at c.push.ensures.ok in
+    on_ok_weaker c.push.result (λ tells s st.
+    let inside = subst (λ m. Stands m s) (sym c.self.view_is) st in
+    let ready = c.ready_new.ensures.stands s inside.world in
+    take_makes _ s inside c.next-t.result.0 c.ready_rank-rank.result c.ready_new.new.w c.dispatch.new.self _ _ _ ready (c.next-t.ensures.next _ ready) (c.ready_rank-rank.ensures _ ready) (c.time.ensures ∙ ap (λ w. w.time) c.dispatch.ensures.same) (c.dispatch.ensures.stands _ ready) tells) told
+
+pub returns-clause-ranks : goal.returns-clause-ranks
+returns-clause-ranks g c =
+    let inside = subst (λ m. IsRoofed m) (sym c.self.view_is) c.requires.ranks in
+    let nobody = subst (λ m. m.world.running ≡ None) (sym c.self.view_is) c.requires.nobody in
+    let gave = subst (λ m. m.gave ≡ None) (sym c.self.view_is) c.requires.over in
+    on_ok_weaker c.push.result (λ tells. take_roofed _ _ c.ready_new.new.w inside gave nobody (c.ready_new.ensures.ranks inside.roof inside.low inside.under) c.ready_new.ensures.none c.ready_new.ensures.made c.dispatch.ensures.ranks c.dispatch.ensures.threads.made refl) c.push.ensures.ok

@@ -1,0 +1,33 @@
+-- What the parts of a turn need of a world.
+use Rattle.std.specs.Prelude.{◌≢◌, ℕ, ◌+◌, ◌^◌, ◌≤◌, List, [], ◌∷◌, length}
+use Rattle.pth_queue.specs.Queues.{QueuesOf}
+use Rattle.pth_queue.specs.declared.queue.Queue.TheVariants.{Waiting}
+use Rattle.pth_model.specs.State.{State}
+use Rattle.pth_world.specs.World.{WorldOf}
+use Rattle.pth_world.specs.Standing.{StandsFor, IsKnown, IsIn}
+use Rattle.pth_world.specs.Ranks.{IsUnder, greatest_return}
+
+-- the world stands for some state
+pub record HasState {P S H : Type 0} (w : WorldOf P S H) : Type 0 where
+  pub state : State P S H
+  pub stands : StandsFor w state
+
+-- the thread is in the system, and stands in the waiting queue
+abbrev pub IsWaiting : {P S H : Type 0} → WorldOf P S H → ℕ → Type 0
+IsWaiting w t = IsKnown w t × IsIn Waiting w t
+
+abbrev pub IsNotIn : ℕ → List ℕ → Type 0
+IsNotIn t [] = Unit {0}
+IsNotIn t (u ∷ us) = (u ≢ t) × IsNotIn t us
+
+-- these threads wait, and none is listed twice
+abbrev pub WaitOnce : {P S H : Type 0} → WorldOf P S H → List ℕ → Type 0
+WaitOnce w [] = Unit {0}
+WaitOnce w (t ∷ ts) = IsWaiting w t × IsNotIn t ts × WaitOnce w ts
+
+-- the new threads can become ready one by one, each one rank above all others
+pub record HasRoom (qs : QueuesOf) : Type 0 where
+  pub roof : ℕ
+  pub low : greatest_return ≤ roof
+  pub under : IsUnder roof qs.ready
+  pub few : roof + length qs.new ≤ 2 ^ 40
