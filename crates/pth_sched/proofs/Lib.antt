@@ -1,3 +1,5 @@
+pub mod Cutting
+pub mod Endings
 pub mod Following
 pub mod Keeping
 pub mod Listing

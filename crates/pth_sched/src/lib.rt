@@ -1,6 +1,7 @@
 //! Turns: which thread runs next, its steps, and what happens between turns.
 #![tactic(auto)]
 
+pub mod laws;
 mod live;
 pub mod machine;
 mod passes;

@@ -1,0 +1,8 @@
+use Rattle.pth_sched.proofs.Endings.{ends_step, ends_alone}
+use Rattle.pth_sched.proofs.laws.main_ends_last.Goals as goal
+
+pub returns-clause-step : goal.returns-clause-step
+returns-clause-step p c = λ g i v on e. ends_step p.P.Program.functions g i v on e
+
+pub returns-clause-alone : goal.returns-clause-alone
+returns-clause-alone p c = λ g i v on e. ends_alone p.P.Program.functions g i v on e
