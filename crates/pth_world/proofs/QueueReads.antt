@@ -53,7 +53,8 @@ pub in_queue : (o : Option Slot) (p : Option ℕ) (xs : List Row) → option_map
 in_queue None p xs e h = tt
 in_queue (Some u) p xs e h = h u.0 (sym e)
 
-names : (f : ℕ → ℕ) (o : Option Slot) → option_map (λ (u : Slot). f u.0) o ≡ option_map f (option_map (λ (u : Slot). u.0) o)
+-- names after numbers of slots
+pub names : (f : ℕ → ℕ) (o : Option Slot) → option_map (λ (u : Slot). f u.0) o ≡ option_map f (option_map (λ (u : Slot). u.0) o)
 names f None = refl
 names f (Some u) = refl
 

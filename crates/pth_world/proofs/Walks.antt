@@ -1,20 +1,26 @@
 -- Walks over a queue come nearer to its end.
-use Rattle.std.proofs.Common.{◌≡◌, ◌≢◌, ℕ, ◌+◌, ◌<◌, ◌≤◌, ◌==◌, Bool, true, false, not, cond, if◌then◌else◌, List, [], ◌∷◌, map, length, count_by, Option, Some, None, IfSome, option_map, refl, sym, ◌∙◌, ap, subst, arith}
+use Rattle.std.proofs.Common.{◌≡◌, ◌≢◌, ℕ, ◌+◌, ◌<◌, ◌≤◌, ◌==◌, Bool, true, false, not, cond, if◌then◌else◌, ℤ, List, [], ◌∷◌, map, length, count_by, Option, Some, None, IfSome, option_map, refl, sym, ◌∙◌, ap, subst, arith}
 use Rattle.pth_base.specs.declared.ids.Slot.{Slot}
 use Rattle.pth_base.specs.declared.ids.Tid.{Tid}
 use Rattle.pth_base.proofs.Tables.{same_self, not_same, same_means}
 use Rattle.pth_queue.specs.declared.row.Row.{Row}
 use Rattle.pth_queue.specs.declared.queue.Queue.{Queue}
-use Rattle.pth_queue.specs.Rows.{is_of, delete, holds, head_of, after_in, named_row}
-use Rattle.pth_queue.specs.Queues.{queue_of, rows_of, after_of}
-use Rattle.pth_queue.proofs.Counts.{count-cons, count-present}
+use Rattle.pth_queue.specs.declared.queue.Queue.TheVariants as queue
+use Rattle.pth_queue.specs.Rows.{is_of, delete, head_of, after_in, named_row}
+use Rattle.pth_queue.specs.Queues.{queue_of, rows_of, after_of, entered, without}
+use Rattle.pth_queue.proofs.Counts.{count-cons, count-present, length-delete}
 use Rattle.pth_queue.proofs.Names.{after_named, delete_named}
 use Rattle.pth_queue.proofs.Sets.{count-head}
 use Rattle.pth_threads.specs.Threads.{slot_of, tid_at}
 use Rattle.pth_world.specs.World.{WorldOf, number_of}
-use Rattle.pth_world.specs.Standing.{IsSound}
+use Rattle.pth_world.specs.Standing.{IsSound, IsKnown, IsIn, SameThreads}
 use Rattle.pth_world.specs.Walks.{rows_behind, behind}
-use Rattle.pth_world.proofs.QueueReads.{holds-after, after_of-in, once_named}
+use Rattle.pth_model.specs.Standing.{is_queue}
+use Rattle.pth_model.proofs.Queues.{rows_other, rows_without}
+use Rattle.pth_world.proofs.Slots.{name_is}
+use Rattle.pth_world.proofs.Places.{queue-entered_other, queue-without_other}
+use Rattle.pth_world.proofs.Moves.{known_slot}
+use Rattle.pth_world.proofs.QueueReads.{holds-after, names, after_of-in, once_named}
 
 -- where no thread is answered, no slot was
 pub no_slot : (f : ℕ → ℕ) (o : Option Tid) (p : Option Slot) → option_map number_of o ≡ option_map (λ (u : Slot). f u.0) p → o ≡ None → p ≡ None
@@ -44,10 +50,6 @@ pub less-after : (t r : ℕ) (xs : List Row) → count_by (is_of r) xs ≤ 1 →
 less-after t r [] once h = cc
 less-after t r (x ∷ xs) once h = less_by t r x xs (is_of t x) once (less-after t r xs (omega (arith, count-cons r x xs))) h
 
-names : (f : ℕ → ℕ) (p : Option Slot) → option_map (λ (u : Slot). f u.0) p ≡ option_map f (option_map (λ (u : Slot). u.0) p)
-names f None = refl
-names f (Some u) = refl
-
 -- and so behind the thread that a world answers
 pub behind-after : {P S H : Type 0} (w : WorldOf P S H) (t u : ℕ) (q : Queue) (o : Option Tid) (p : Option Slot) → IsSound w → slot_of w.threads t ≡ Some u → queue_of u w.queues ≡ Some q →
     option_map (λ (v : Slot). v.0) p ≡ after_of u w.queues → option_map number_of o ≡ option_map (λ (v : Slot). tid_at w.threads v.0) p → IfSome o (λ (r : Tid). behind w q r.0 < behind w q t)
@@ -62,20 +64,12 @@ behind-after w t u q (Some r) p sound e stands h is = less-after t r.0 (map (nam
 pub behind-same : {P S H : Type 0} (w v : WorldOf P S H) (q : Queue) (r : ℕ) → tid_at v.threads ≡ tid_at w.threads → rows_of q v.queues ≡ rows_of q w.queues → behind v q r ≡ behind w q r
 behind-same w v q r tids rows = rw (tids, rows) refl
 
-shorter : (t : ℕ) (xs : List Row) → length (delete t xs) ≤ length xs
-shorter t [] = omega arith
-shorter t (x ∷ xs) = by_name (is_of t x) (shorter t xs)
-  where
-    by_name : (b : Bool) → length (delete t xs) ≤ length xs → length (cond (not b) (x ∷ delete t xs) (delete t xs)) ≤ length (x ∷ xs)
-    by_name true h = omega arith
-    by_name false h = omega arith
-
 deleted_by : (t r : ℕ) (x : Row) (xs : List Row) (b : Bool) → r ≢ t → (x.who == t) ≡ b → rows_behind r (delete t xs) ≤ rows_behind r xs → rows_behind r (cond (not b) (x ∷ delete t xs) (delete t xs)) ≤ rows_behind r (x ∷ xs)
 deleted_by t r x xs true apart test h = rw (not_same x.who r (λ same. apart (sym same ∙ same_means x.who t test))) h
 deleted_by t r x xs false apart test h = by_name (is_of r x) h
   where
     by_name : (b : Bool) → rows_behind r (delete t xs) ≤ rows_behind r xs → (if b then length (delete t xs) else rows_behind r (delete t xs)) ≤ (if b then length xs else rows_behind r xs)
-    by_name true h = shorter t xs
+    by_name true h = omega (arith, length-delete t xs)
     by_name false h = h
 
 -- no more rows stand behind a row when another is taken out
@@ -86,3 +80,24 @@ behind-deleted t r (x ∷ xs) apart = deleted_by t r x xs (x.who == t) apart ref
 -- and behind a thread when another leaves its queue
 pub behind-left : {P S H : Type 0} (w v : WorldOf P S H) (t u : ℕ) (q : Queue) (r : ℕ) → IsSound w → slot_of w.threads t ≡ Some u → tid_at v.threads ≡ tid_at w.threads → rows_of q v.queues ≡ delete u (rows_of q w.queues) → r ≢ t → behind v q r ≤ behind w q r
 behind-left w v t u q r sound e tids rows apart = rw (tids, rows, delete_named (slot_of w.threads) (tid_at w.threads) t u (rows_of q w.queues) sound.tied e (sound.queued q)) (behind-deleted t r (map (named_row (tid_at w.threads)) (rows_of q w.queues)) apart)
+
+-- the same when a thread is ready that stood in that queue or another
+module _ {P S H : Type 0} (w v : WorldOf P S H) (t r : ℕ) (q : Queue) (rank : ℤ) (sound : IsSound w) (known : IsKnown w t) (same : SameThreads w v) (queues : IfSome (slot_of w.threads t) (λ u. v.queues ≡ entered queue.Ready rank u (without u w.queues))) (apart : r ≢ t) where
+  slot : (u : ℕ) × (slot_of w.threads t ≡ Some u)
+  slot = known_slot (slot_of w.threads t) known
+
+  queues_are : v.queues ≡ entered queue.Ready rank slot.0 (without slot.0 w.queues)
+  queues_are = subst (λ (o : Option ℕ). IfSome o (λ u. v.queues ≡ entered queue.Ready rank u (without u w.queues))) slot.1 queues
+
+  pub behind-readied : is_queue q queue.Ready ≡ false → behind v q r ≤ behind w q r
+  behind-readied other = behind-left w v t slot.0 q r sound slot.1 same.tids (ap (rows_of q) queues_are ∙ rows_other q queue.Ready _ (without slot.0 w.queues) other ∙ rows_without q slot.0 w.queues) apart
+
+  -- who stands in a queue still does
+  pub in-readied : IsIn q w r → IsIn q v r
+  in-readied h = rw same.slots (by_slot (slot_of w.threads r) refl h)
+    where
+      by_slot : (o : Option ℕ) → slot_of w.threads r ≡ o → IfSome o (λ i. queue_of i w.queues ≡ Some q) → IfSome o (λ i. queue_of i v.queues ≡ Some q)
+      by_slot None e h = tt
+      by_slot (Some i) e h =
+          let away : i ≢ slot.0 = λ k. apart (sym (name_is w r i sound e) ∙ ap (tid_at w.threads) k ∙ name_is w t slot.0 sound slot.1) in
+          ap (queue_of i) queues_are ∙ queue-entered_other slot.0 rank (without slot.0 w.queues) i queue.Ready away ∙ queue-without_other slot.0 i w.queues away ∙ h
