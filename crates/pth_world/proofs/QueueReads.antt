@@ -105,6 +105,7 @@ once_named w t q sound = by_slot (slot_of w.threads t) refl
     by_slot None e = rw (count-unknown (slot_of w.threads) (tid_at w.threads) t (rows_of q w.queues) sound.tied e (sound.queued q)) (omega arith)
     by_slot (Some u) e = rw (count-named (slot_of w.threads) (tid_at w.threads) t u (rows_of q w.queues) sound.tied e (sound.queued q)) (once_in q u w.queues sound.orderly)
 
+-- and so in the queue of a state
 pub once_thread : {P S H : Type 0} (w : WorldOf P S H) (s : State P S H) (t : ℕ) (q : Queue) → IsSound w → StandsFor w s → count_by (is_of t) (queue s q) ≤ 1
 once_thread w s t q sound st = rw (st.threads.standing q) (once_named w t q sound)
 

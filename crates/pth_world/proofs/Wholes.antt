@@ -88,9 +88,11 @@ module _ {P S H : Type 0} (w : WorldOf P S H) (whole : Whole w) (x : ThreadsOf) 
   view_old : (i : ℕ) → i ≢ u → view (record w { threads = x; going = y; queues = z }) i ≡ view w i
   view_old i apart = view_by _ _ _ (view w i) (ap (λ (k : ℕ → Option Entry). k i) adds.entries ∙ put_other (entry_at w.threads) u _ i apart) (ap (queue_of i) enters ∙ queue-entered_other u of.prio w.queues i queue.New apart) (ap held_by (ap (λ (k : ℕ → Option (Continuation S)). k i) has ∙ put_other (table None w.going) u (Some c) i apart))
 
+  -- it stands in the new queue
   pub spawn_queues : IfSome (slot_of x t) (λ i. z ≡ entered queue.New of.prio i w.queues)
   spawn_queues = rw slot enters
 
+  -- and no ready thread is lifted
   pub spawn_ranks : KeepsRanks w (record w { threads = x; going = y; queues = z })
   unfolding made_of
   spawn_ranks = ranks_new w (record w { threads = x; going = y; queues = z }) u of.prio enters adds.made
