@@ -1,17 +1,21 @@
 -- The clauses of the top call, from what was done and how the call ends.
-use Rattle.std.proofs.Common.{◌≡◌, ◌≢◌, ◌∙◌, ◌⊎◌, ◌<◌, ℕ, List, [], Option, Result, Ok, Err, sym, refl, subst, arith, inl, inr}
+use Rattle.std.proofs.Common.{◌≡◌, ◌≢◌, ◌∙◌, ◌⊎◌, ◌<◌, ℕ, List, [], ◌∷◌, Option, Result, Ok, Err, IfSome, sym, refl, subst, arith, inl, inr}
 use Rattle.std.specs.Io.KnownBytes.{Appends}
 use Rattle.pth_base.specs.declared.outcome.Outcome.{Outcome}
 use Rattle.pth_base.specs.declared.outcome.Outcome.TheVariants as outcomes
+use Rattle.pth_base.specs.declared.sink.SinkErr.{SinkErr}
+use Rattle.pth_base.specs.declared.sink.SinkErr.TheVariants as sink
 use Rattle.pth_print.specs.Lines.{fault_line, fault_status}
 use Rattle.pth_print.specs.declared.fault_line.Fault.{Fault}
 use Rattle.pth_print.specs.declared.fault_line.Fault.TheVariants as fault
-use Rattle.pth_player.specs.Output.{outcome_status, step_limit}
-use Rattle.pth_player.specs.Play.{Ends, HasLine, IsFaultStatus, IsRunStatus, IsSomeTranscript, Ran, Reports, Scene, TellsFault, WritesLine, WritesTranscript}
+use Rattle.pth_script.specs.FirstForm.{IsAccepted}
+use Rattle.pth_script.specs.declared.script.Line.{Line}
+use Rattle.pth_player.specs.Output.{Output, IsRefused, IsSoFar, IsTheOutput, cut, outcome_status, refusal}
+use Rattle.pth_player.specs.Play.{AreHeld, DrivesScript, Ends, HasLine, HoldsNoScript, IsFaultStatus, IsOutputStatus, IsRunStatus, Ran, RefusesInput, Reports, Scene, TellsFault, WritesLine, WritesOutput, content}
 use Rattle.pth_player.specs.Streams.{AppendsPart, AppendsPrefix}
-use Rattle.pth_player.specs.Transcript.{IsTranscript}
-use Rattle.pth_player.proofs.Driving.{nothing_yet}
+use Rattle.pth_player.proofs.Outputs.{refused_output, script_output, words_output}
 use Rattle.pth_player.proofs.Pieces.{all_of, none_after, part_is_prefix}
+use Rattle.pth_player.proofs.Results.{always, told}
 
 -- a fault other than this one has this status only where memory ran out
 not_status : (f : Fault) (status : ℕ) (old new : Option (List ℕ)) (b n : ℕ) → Reports f status old new b n → (k : ℕ) → k ≢ fault_status f → k ≢ 7 → status ≡ k → ⊥
@@ -38,6 +42,9 @@ not_fault outcomes.OutOfMemory status e h = grind arith
 not_seven : (status : ℕ) → IsFaultStatus status → status ≢ 7
 not_seven status h = λ e. grind arith
 
+not_whole : (status : ℕ) → (status ≡ 4) ⊎ ((status ≡ 5) ⊎ (status ≡ 7)) → IsOutputStatus status → ⊥
+not_whole status is h = grind arith
+
 module _ (words : List (List ℕ)) (old new : Scene) (status : ℕ) (w x : Option (List ℕ)) (b n : ℕ) where
   abbrev Nothing : Type 0
   Nothing = (status ≡ 2) ⊎ ((status ≡ 3) ⊎ (status ≡ 4))
@@ -45,32 +52,51 @@ module _ (words : List (List ℕ)) (old new : Scene) (status : ℕ) (w x : Optio
   other : (f : Fault) → Reports f status w x b n → (k : ℕ) → k ≢ fault_status f → k ≢ 7 → status ≡ k → ⊥
   other f = not_status f status w x b n
 
-  whole : (r : Result Outcome Fault) → Ran words old new r → Ends r status w x b n → IsRunStatus status
-      → (o : Outcome) × (text : List ℕ) × (status ≡ outcome_status o) × IsTranscript step_limit o text × Appends old.written new.written text
-  whole (Ok o) ran ends h = (o, ran.3.0, ends.0, ran.3.1, ran.3.2)
-  whole (Err f) ran ends h = absurd (not_run f status w x b n ends h)
+  abbrev WholeOf : List (List ℕ) → Type 0
+  WholeOf ws = (bytes : List ℕ) × AreHeld (content ws old) bytes × (out : Output) × IsTheOutput ws bytes out × (status ≡ out.status) × Appends old.written new.written out.text
 
-  part : (r : Result Outcome Fault) → Ran words old new r → Ends r status w x b n → status ≡ 5
-      → (text : List ℕ) × IsSomeTranscript text × AppendsPart old.written new.written text
+  whole_words : (ws : List (List ℕ)) → ws ≢ [] → status ≡ 2 → Appends old.written new.written [] → WholeOf ws
+  whole_words [] some is app = absurd (some refl)
+  whole_words (y ∷ ys) some is app = ([], refl, refusal fault.Words, words_output y ys [], is, app)
+
+  whole : (r : Result Outcome Fault) → Ran words old new r → Ends r status w x b n → IsOutputStatus status → WholeOf words
+  whole (Ok o) ran ends h =
+      let d = ran.2 in
+      (d.0, d.1, d.4.0, script_output words d.0 d.2 d.4.0 ran.0 d.3 d.4.1, ends.0 ∙ sym d.4.2, d.4.3)
+  whole (Err fault.Words) ran ends h = elim ends [ inl k ↦ whole_words words ran.0 k.0 ran.2 | inr k ↦ absurd (not_whole status (inr (inr k.0)) h) ]
+  whole (Err fault.Input) ran ends h = elim ends [
+    | inl k ↦ (ran.2.0, ran.2.1, refusal fault.Input, refused_output words ran.2.0 ran.0 ran.2.2, k.0, ran.3)
+    | inr k ↦ absurd (not_whole status (inr (inr k.0)) h)
+  ]
+  whole (Err fault.ReadFault) ran ends h = elim ends [ inl k ↦ absurd (not_whole status (inl k.0) h) | inr k ↦ absurd (not_whole status (inr (inr k.0)) h) ]
+  whole (Err fault.WriteFault) ran ends h = elim ends [ inl k ↦ absurd (not_whole status (inr (inl k.0)) h) | inr k ↦ absurd (not_whole status (inr (inr k.0)) h) ]
+  whole (Err fault.OutOfMemory) ran ends h = elim ends [ inl k ↦ absurd (not_whole status (inr (inr k.0)) h) | inr k ↦ absurd (not_whole status (inr (inr k.0)) h) ]
+
+  abbrev Part : Type 0
+  Part = (bytes : List ℕ) × AreHeld (content words old) bytes × (text : List ℕ) × IsSoFar words bytes text × AppendsPart old.written new.written text
+
+  part : (r : Result Outcome Fault) → Ran words old new r → Ends r status w x b n → status ≡ 5 → Part
   part (Ok o) ran ends e = absurd (not_outcome o status 5 ends.0 (omega arith) (omega arith) e)
   part (Err fault.Words) ran ends e = absurd (other fault.Words ends 5 (λ h. omega arith) (λ h. omega arith) e)
   part (Err fault.Input) ran ends e = absurd (other fault.Input ends 5 (λ h. omega arith) (λ h. omega arith) e)
   part (Err fault.ReadFault) ran ends e = absurd (other fault.ReadFault ends 5 (λ h. omega arith) (λ h. omega arith) e)
-  part (Err fault.WriteFault) ran ends e = ran.3
+  part (Err fault.WriteFault) ran ends e = let d = ran.2 in (d.0, d.1, d.4.0, (ran.0, d.2, d.3.0, d.4.1), d.4.2)
   part (Err fault.OutOfMemory) ran ends e = absurd (other fault.OutOfMemory ends 5 (λ h. omega arith) (λ h. omega arith) e)
 
-  -- nothing is a beginning of every transcript
-  none : Appends old.written new.written [] → (text : List ℕ) × IsSomeTranscript text × AppendsPrefix old.written new.written text
-  none h = let t = nothing_yet step_limit old.written in (t.0, t.1, none_after old.written new.written t.0 h)
+  abbrev Beginning : Type 0
+  Beginning = (bytes : List ℕ) × AreHeld (content words old) bytes × (text : List ℕ) × IsSoFar words bytes text × AppendsPrefix old.written new.written text
 
-  beginning : (r : Result Outcome Fault) → Ran words old new r → Ends r status w x b n → status ≡ 7
-      → (text : List ℕ) × IsSomeTranscript text × AppendsPrefix old.written new.written text
-  beginning (Ok o) ran ends e = (ran.3.0, (o, ran.3.1), all_of old.written new.written ran.3.0 ran.3.2)
-  beginning (Err fault.Words) ran ends e = none ran.2
-  beginning (Err fault.Input) ran ends e = none ran.3
-  beginning (Err fault.ReadFault) ran ends e = none ran.2
-  beginning (Err fault.WriteFault) ran ends e = (ran.3.0, ran.3.1, part_is_prefix old.written new.written ran.3.0 ran.3.2)
-  beginning (Err fault.OutOfMemory) ran ends e = ran.1
+  beginning : (r : Result Outcome Fault) → Ran words old new r → Ends r status w x b n → status ≡ 7 → Appends old.written new.written [] ⊎ Beginning
+  beginning (Ok o) ran ends e =
+      let d = ran.2 in
+      inr (d.0, d.1, d.4.0.text, (ran.0, d.2, d.3.0, inl (d.4.0, d.4.1, refl)), all_of old.written new.written d.4.0.text d.4.3)
+  beginning (Err fault.Words) ran ends e = inl ran.2
+  beginning (Err fault.Input) ran ends e = inl ran.3
+  beginning (Err fault.ReadFault) ran ends e = inl ran.2
+  beginning (Err fault.WriteFault) ran ends e =
+      let d = ran.2 in
+      inr (d.0, d.1, d.4.0, (ran.0, d.2, d.3.0, d.4.1), part_is_prefix old.written new.written d.4.0 d.4.2)
+  beginning (Err fault.OutOfMemory) ran ends e = elim ran.1 [ inl none ↦ inl none | inr d ↦ inr (d.0, d.1, d.4.0, (ran.0, d.2, d.3.0, d.4.1), d.4.2) ]
 
   nothing : (r : Result Outcome Fault) → Ran words old new r → Ends r status w x b n → Nothing → Appends old.written new.written []
   nothing (Ok o) ran ends h = absurd (not_fault o status ends.0 (elim h [ inl two ↦ inl two | inr k ↦ elim k [ inl three ↦ inr (inl three) | inr four ↦ inr (inr (inl four)) ] ]))
@@ -80,8 +106,43 @@ module _ (words : List (List ℕ)) (old new : Scene) (status : ℕ) (w x : Optio
   nothing (Err fault.WriteFault) ran ends h = grind arith
   nothing (Err fault.OutOfMemory) ran ends h = grind arith
 
-  pub writes_transcript : (r : Result Outcome Fault) → Ran words old new r → Ends r status w x b n → WritesTranscript old new status
-  writes_transcript r ran ends = record { whole = whole r ran ends; part = part r ran ends; beginning = beginning r ran ends; nothing = nothing r ran ends }
+  pub writes_output : (r : Result Outcome Fault) → Ran words old new r → Ends r status w x b n → WritesOutput words old new status
+  writes_output r ran ends = record { whole = whole r ran ends; part = part r ran ends; beginning = beginning r ran ends; nothing = nothing r ran ends }
+
+  -- ---- the input that is refused
+
+  not_refused : (bytes : List ℕ) (o : Option (List ℕ)) (bodies : List (List Line)) → AreHeld o bytes → IsAccepted bodies (cut bytes)
+      → IfSome o (λ xs. IsRefused (cut xs) → ⊥)
+  not_refused bytes o bodies held accepted = told (λ xs. bytes ≡ xs) (λ xs. IsRefused (cut xs) → ⊥) o (λ xs e refused. refused bodies (subst (λ ys. IsAccepted bodies (cut ys)) e accepted)) held
+
+  abbrev Refusal : Type 0
+  Refusal = (status ≡ 3) ⊎ ((status ≡ 4) ⊎ (status ≡ 7))
+
+  refused_with : Refusal → IfSome (content words old) (λ bytes. IsRefused (cut bytes) → Refusal)
+  refused_with h = always (λ bytes. IsRefused (cut bytes) → Refusal) (content words old) (λ bytes refused. h)
+
+  accepted_with : (r : Result Outcome SinkErr) → DrivesScript words old new r → IfSome (content words old) (λ bytes. IsRefused (cut bytes) → Refusal)
+  accepted_with r d = told (λ xs. IsRefused (cut xs) → ⊥) (λ xs. IsRefused (cut xs) → Refusal) (content words old) (λ xs no refused. absurd (no refused))
+      (not_refused d.0 (content words old) d.2 d.1 d.3.0)
+
+  refuses : (r : Result Outcome Fault) → Ran words old new r → Ends r status w x b n → words ≡ [] → IfSome (content words old) (λ bytes. IsRefused (cut bytes) → Refusal)
+  refuses (Ok o) ran ends none = accepted_with (Ok o) ran.2
+  refuses (Err fault.Words) ran ends none = absurd (ran.0 none)
+  refuses (Err fault.Input) ran ends none = refused_with (elim ends [ inl k ↦ inl k.0 | inr k ↦ inr (inr k.0) ])
+  refuses (Err fault.ReadFault) ran ends none = refused_with (elim ends [ inl k ↦ inr (inl k.0) | inr k ↦ inr (inr k.0) ])
+  refuses (Err fault.WriteFault) ran ends none = accepted_with (Err sink.Failed) ran.2
+  refuses (Err fault.OutOfMemory) ran ends none = refused_with (elim ends [ inl k ↦ inr (inr k.0) | inr k ↦ inr (inr k.0) ])
+
+  refused_only : (r : Result Outcome Fault) → Ran words old new r → Ends r status w x b n → status ≡ 3 → (words ≡ []) × HoldsNoScript words old
+  refused_only (Ok o) ran ends e = absurd (not_outcome o status 3 ends.0 (omega arith) (omega arith) e)
+  refused_only (Err fault.Words) ran ends e = absurd (other fault.Words ends 3 (λ h. omega arith) (λ h. omega arith) e)
+  refused_only (Err fault.Input) ran ends e = (ran.0, ran.2)
+  refused_only (Err fault.ReadFault) ran ends e = absurd (other fault.ReadFault ends 3 (λ h. omega arith) (λ h. omega arith) e)
+  refused_only (Err fault.WriteFault) ran ends e = absurd (other fault.WriteFault ends 3 (λ h. omega arith) (λ h. omega arith) e)
+  refused_only (Err fault.OutOfMemory) ran ends e = absurd (other fault.OutOfMemory ends 3 (λ h. omega arith) (λ h. omega arith) e)
+
+  pub refuses_input : (r : Result Outcome Fault) → Ran words old new r → Ends r status w x b n → RefusesInput words old status
+  refuses_input r ran ends = record { only = refused_only r ran ends; always = refuses r ran ends }
 
 -- ---- what `err` received
 

@@ -1,17 +1,29 @@
--- What a drive has written.
-use Rattle.std.proofs.Common.{◌≡◌, ◌≢◌, ◌∙◌, ◌+◌, ◌-◌, ◌≤◌, ℕ, List, [], ◌++◌, Option, Result, Ok, Err, IsErr, IsErrAnd, ap, sym, refl, subst, append_assoc, append-nil, arith, min, false}
+-- What a drive has written of a run.
+use Rattle.std.proofs.Common.{◌≡◌, ◌≢◌, ◌∙◌, ◌+◌, ◌-◌, ◌⊎◌, ◌<◌, ◌≤◌, ℕ, List, [], ◌++◌, Option, Result, Ok, Err, IsErr, IsErrAnd, ap, ap₂, sym, refl, subst, append-nil, arith, inl, inr, map, min, true, false}
+use Rattle.std.proofs.lemmas.Bool.{cases_lt}
 use Rattle.std.proofs.lemmas.Grind.{flat_map-append}
-use Rattle.std.proofs.KnownBytes.{Appends-trans}
+use Rattle.std.proofs.KnownBytes.{Appends-nil, Appends-trans}
 use Rattle.std.specs.Io.KnownBytes.{Appends}
 use Rattle.pth_base.specs.Faults.{Rose}
+use Rattle.pth_base.specs.Program.{Functions}
+use Rattle.pth_base.specs.declared.ids.Tid.{Tid}
 use Rattle.pth_base.specs.declared.mark.Mark.{Mark}
 use Rattle.pth_base.specs.declared.outcome.Outcome.{Outcome}
 use Rattle.pth_base.specs.declared.outcome.Outcome.TheVariants as outcomes
 use Rattle.pth_base.specs.declared.sink.SinkErr.{SinkErr}
 use Rattle.pth_base.specs.declared.sink.SinkErr.TheVariants as sink
+use Rattle.pth_model.specs.State.{State, Given, start}
+use Rattle.pth_model.specs.Part.{Part, next_part, unless_ended}
+use Rattle.pth_model.specs.Run.{parts, run, stops, stops_by}
+use Rattle.pth_model.specs.Living.{live}
+use Rattle.pth_model.proofs.Runs.{stops-later}
 use Rattle.pth_print.specs.Lines.{mark_line, end_line}
-use Rattle.pth_player.specs.Streams.{AppendsPrefix}
-use Rattle.pth_player.specs.Transcript.{AppendsLines, Drives, IsTranscript, WritesPiece, lines_of}
+use Rattle.pth_sched.specs.MachineOf.{MachineOf}
+use Rattle.pth_sched.specs.Running.{Stands, StandsAt, GoesOn}
+use Rattle.pth_threads.specs.Threads.{number}
+use Rattle.pth_player.specs.Drive.{Drives}
+use Rattle.pth_player.specs.Output.{Output, IsRunOutput, IsRunSoFar, outcome_status, told_output}
+use Rattle.pth_player.specs.Transcript.{WritesPiece, lines_of}
 use Rattle.pth_player.proofs.Results.{err_is}
 use Rattle.pth_player.proofs.Pieces.{none_of, part_then, prefix_then}
 
@@ -21,104 +33,209 @@ rose_later a b c le rose = omega arith
 lines_more : (xs ys : List Mark) → lines_of (xs ++ ys) ≡ lines_of xs ++ lines_of ys
 lines_more xs ys = flat_map-append (mark_line false) xs ys
 
--- the lines of some marks, those of others, and the line of an outcome
-more_lines : (steps : ℕ) (o : Outcome) (live : List ℕ) (xs ys : List Mark) → o ≢ outcomes.OutOfMemory
-    → IsTranscript steps o (lines_of xs ++ (lines_of ys ++ end_line o steps live))
-more_lines steps o live xs ys h = record {
-  marks = xs ++ ys;
-  live = live;
-  told = h;
-  text_is = sym (append_assoc (lines_of xs) (lines_of ys) (end_line o steps live)) ∙ ap (λ l. l ++ end_line o steps live) (sym (lines_more xs ys));
-}
+ended_by : (to steps : ℕ) (o : Outcome) (p : Part) → o ≢ outcomes.Running → stops_by to steps (unless_ended o p) ≡ true
+ended_by to steps outcomes.Running p h = absurd (h refl)
+ended_by to steps (outcomes.Ended v) p h = refl
+ended_by to steps outcomes.Killed p h = refl
+ended_by to steps outcomes.Stalled p h = refl
+ended_by to steps outcomes.OutOfMemory p h = refl
 
-last_line : (steps : ℕ) (o : Outcome) (live : List ℕ) (xs : List Mark) → o ≢ outcomes.OutOfMemory → IsTranscript steps o (lines_of xs ++ (end_line o steps live ++ []))
-last_line steps o live xs h = record {
-  marks = xs;
-  live = live;
-  told = h;
-  text_is = ap (λ l. lines_of xs ++ l) (append-nil (end_line o steps live));
-}
+-- the run goes no further after an outcome that ends it
+ended_stops : {P S H : Type 0} (to : ℕ) (s : State P S H) → s.rest.scheduler.outcome ≢ outcomes.Running → stops to s ≡ true
+unfolding stops next_part
+ended_stops to s h = ended_by to s.rest.scheduler.steps s.rest.scheduler.outcome _ h
 
-killed : outcomes.Killed ≢ outcomes.OutOfMemory
-killed e = cc
+-- no step is made and nothing is told before the first part
+none_made : {P S H : Type 0} (f : P → Functions S H) (g : Given P) → (run f g 0).state.rest.scheduler.steps ≡ 0
+unfolding parts start
+none_made f g = refl
 
--- the lines of more marks
-pub onward : (a b c : Option (List ℕ)) (f g : ℕ) (ys : List Mark) (x : Unit {0}) → AppendsLines a b → WritesPiece b c f g (lines_of ys) (Ok x) → AppendsLines a c
-onward a b c f g ys x p w = (p.0 ++ ys, subst (Appends a c) (sym (lines_more p.0 ys)) (Appends-trans a b c (lines_of p.0) (lines_of ys) p.1 w.1))
+none_told : {P S H : Type 0} (f : P → Functions S H) (g : Given P) → (run f g 0).marks ≡ []
+unfolding parts
+none_told f g = refl
 
--- memory ran out after some lines
-pub cut_by_memory : (steps : ℕ) (a b : Option (List ℕ)) (f g : ℕ) (r : Result Outcome SinkErr) → AppendsLines a b → IsErr r → IsErrAnd r (λ e. e ≡ sink.OutOfMemory)
-    → Drives steps a b f g r
-cut_by_memory steps a b f g r p h k = subst (Drives steps a b f g) (sym (err_is r sink.OutOfMemory h k)) (
-  outcomes.Killed,
-  lines_of p.0 ++ (end_line outcomes.Killed steps [] ++ []),
-  last_line steps outcomes.Killed [] p.0 killed,
-  prefix_then a b b (lines_of p.0) (end_line outcomes.Killed steps []) [] p.1 (none_of b (end_line outcomes.Killed steps [])),
-)
+no_steps_of : {P S H : Type 0} (f : P → Functions S H) (g : Given P) (m : MachineOf P S H) → StandsAt f g 0 m → m.steps ≡ 0
+no_steps_of f g m stands = sym stands.steps ∙ none_made f g
 
-module _ (steps : ℕ) (a b c : Option (List ℕ)) (f g h : ℕ) where
-  cut_in_lines_by : (ys : List Mark) (x : SinkErr) → AppendsLines a b → f ≤ g → WritesPiece b c g h (lines_of ys) (Err x) → Drives steps a c f h (Err x)
-  cut_in_lines_by ys sink.Failed p le w = (
-    outcomes.Killed,
-    lines_of p.0 ++ (lines_of ys ++ end_line outcomes.Killed steps []),
-    more_lines steps outcomes.Killed [] p.0 ys killed,
-    part_then a b c (lines_of p.0) (lines_of ys) (end_line outcomes.Killed steps []) p.1 w.1.0,
-    rose_later f g h le w.1.1,
-  )
-  cut_in_lines_by ys sink.OutOfMemory p le w = (
-    outcomes.Killed,
-    lines_of p.0 ++ (lines_of ys ++ end_line outcomes.Killed steps []),
-    more_lines steps outcomes.Killed [] p.0 ys killed,
-    prefix_then a b c (lines_of p.0) (lines_of ys) (end_line outcomes.Killed steps []) p.1 w.1,
-  )
+within : (first made left n total : ℕ) → first ≡ 0 → made + left ≡ first + total → n ≡ min left 1000 → made + n ≤ total
+within first made left n total none h most = omega arith
 
-  -- the lines of more marks were not written whole
-  pub cut_in_lines : (ys : List Mark) (x : SinkErr) (r : Result Outcome SinkErr) → AppendsLines a b → f ≤ g → WritesPiece b c g h (lines_of ys) (Err x) → IsErr r → IsErrAnd r (λ e. e ≡ x)
-      → Drives steps a c f h r
-  cut_in_lines ys x r p le w k e = subst (Drives steps a c f h) (sym (err_is r x k e)) (cut_in_lines_by ys x p le w)
+spent : (first made left n total : ℕ) → first ≡ 0 → made + left ≡ first + total → n ≡ min left 1000 → left - n ≡ 0 → made + n ≡ total
+spent first made left n total none h most e = omega arith
 
-  cut_in_end_by : (o : Outcome) (live : List ℕ) (x : SinkErr) → o ≢ outcomes.OutOfMemory → AppendsLines a b → f ≤ g → WritesPiece b c g h (end_line o steps live) (Err x)
-      → Drives steps a c f h (Err x)
-  cut_in_end_by o live sink.Failed k p le w = (
-    o,
-    lines_of p.0 ++ (end_line o steps live ++ []),
-    last_line steps o live p.0 k,
-    part_then a b c (lines_of p.0) (end_line o steps live) [] p.1 w.1.0,
-    rose_later f g h le w.1.1,
-  )
-  cut_in_end_by o live sink.OutOfMemory k p le w = (
-    o,
-    lines_of p.0 ++ (end_line o steps live ++ []),
-    last_line steps o live p.0 k,
-    prefix_then a b c (lines_of p.0) (end_line o steps live) [] p.1 w.1,
+module _ {P S H : Type 0} (f : P → Functions S H) (g : Given P) (steps : ℕ) where
+  -- The machine stands at a part of the run, before which the run does not stop. What was told up to there was written but
+  -- for some last marks.
+  pub record Underway (m : MachineOf P S H) (old new : Option (List ℕ)) (pending : List Mark) : Type 0 where
+    pub at : ℕ
+    pub stands : StandsAt f g at m
+    pub going : (k : ℕ) → k < at → stops steps (run f g k).state ≡ false
+    pub done : List Mark
+    pub written : Appends old new (lines_of done)
+    pub all : (run f g at).marks ≡ done ++ pending
+
+  -- and a run to so many steps stops there
+  abbrev pub Stopped : ℕ → MachineOf P S H → Option (List ℕ) → Option (List ℕ) → List Mark → Type 0
+  Stopped to m old new pending = (u : Underway m old new pending) × (stops to (run f g u.at).state ≡ true)
+
+  -- nothing was written yet
+  pub begins : (m : MachineOf P S H) (a : Option (List ℕ)) → StandsAt f g 0 m → Underway m a a []
+  begins m a stands = record {
+    at = 0;
+    stands = stands;
+    going = λ k low. absurd (omega arith);
+    done = [];
+    written = Appends-nil a;
+    all = none_told f g;
+  }
+
+  -- the lines of the last marks were written
+  wrote : (m : MachineOf P S H) (to : ℕ) (a b c : Option (List ℕ)) (pending : List Mark) → Appends b c (lines_of pending) → Stopped to m a b pending → Stopped to m a c []
+  wrote m to a b c pending w s = (
+    record {
+      at = s.0.at;
+      stands = s.0.stands;
+      going = s.0.going;
+      done = s.0.done ++ pending;
+      written = subst (Appends a c) (sym (lines_more s.0.done pending)) (Appends-trans a b c (lines_of s.0.done) (lines_of pending) s.0.written w);
+      all = s.0.all ∙ sym (append-nil (s.0.done ++ pending));
+    },
+    s.1,
   )
 
-  -- the last line was not written whole
-  pub cut_in_end : (o : Outcome) (live : List ℕ) (x : SinkErr) (r : Result Outcome SinkErr) → o ≢ outcomes.OutOfMemory → AppendsLines a b → f ≤ g → WritesPiece b c g h (end_line o steps live) (Err x)
-      → IsErr r → IsErrAnd r (λ e. e ≡ x) → Drives steps a c f h r
-  cut_in_end o live x r k p le w is e = subst (Drives steps a c f h) (sym (err_is r x is e)) (cut_in_end_by o live x k p le w)
+  module _ (m : MachineOf P S H) (a b : Option (List ℕ)) where
+    -- the machine goes on, and what it tells is not yet written
+    goes_on : (n : ℕ) (k : MachineOf P S H) (clear marks : List Mark) → m.steps + n ≤ steps → clear ≡ [] → (u : Underway m a b [])
+        → GoesOn f g (m.steps + n) u.at k clear marks → Stopped (m.steps + n) k a b marks
+    goes_on n k clear marks le none u go = (
+      record {
+        at = go.part;
+        stands = go.stands;
+        going = λ i low. elim (cases_lt i u.at) [
+          | inl early ↦ u.going i early
+          | inr late ↦ stops-later (m.steps + n) steps (run f g i).state le (go.goes.first i (omega (arith, late)) low)
+        ];
+        done = u.done;
+        written = u.written;
+        all = go.between ∙ ap (λ (l : List Mark). l ++ go.told) (u.all ∙ append-nil u.done)
+            ∙ ap (λ (l : List Mark). u.done ++ l) (sym (go.appended ∙ ap (λ (l : List Mark). l ++ go.told) none));
+      },
+      go.goes.here,
+    )
 
--- all was written
-pub finished : (steps : ℕ) (a b c : Option (List ℕ)) (f g h : ℕ) (o : Outcome) (live : List ℕ) (x : Unit {0}) → o ≢ outcomes.OutOfMemory → AppendsLines a b
-    → WritesPiece b c g h (end_line o steps live) (Ok x) → Drives steps a c f h (Ok o)
-finished steps a b c f g h o live x k p w = (
-  lines_of p.0 ++ end_line o steps live,
-  record { marks = p.0; live = live; told = k; text_is = refl },
-  Appends-trans a b c (lines_of p.0) (end_line o steps live) p.1 w.1,
-)
+    -- after the next piece, whose marks are `seen` and not yet written
+    pub piece : (first k : MachineOf P S H) (left n : ℕ) (clear marks seen : List Mark) → StandsAt f g 0 first → m.steps + left ≡ first.steps + steps → n ≡ min left 1000
+        → clear ≡ [] → seen ≡ marks → (u : Underway m a b []) → GoesOn f g (m.steps + n) u.at k clear marks → Stopped (m.steps + n) k a b seen
+    piece first k left n clear marks seen stands made most none is u go =
+        subst (Stopped (m.steps + n) k a b) (sym is) (goes_on n k clear marks (within first.steps m.steps left n steps (no_steps_of f g first stands) made most) none u go)
+
+    -- and where its lines were written
+    pub onward : (first k : MachineOf P S H) (left n : ℕ) (clear marks seen : List Mark) (c : Option (List ℕ)) → StandsAt f g 0 first → m.steps + left ≡ first.steps + steps
+        → n ≡ min left 1000 → clear ≡ [] → seen ≡ marks → (u : Underway m a b []) → GoesOn f g (m.steps + n) u.at k clear marks → Appends b c (lines_of seen)
+        → Stopped (m.steps + n) k a c []
+    onward first k left n clear marks seen c stands made most none is u go w =
+        wrote k (m.steps + n) a b c seen w (piece first k left n clear marks seen stands made most none is u go)
+
+    -- the run stops there for good
+    pub at_end : (first : MachineOf P S H) (before left n : ℕ) (o : Outcome) (pending : List Mark) → StandsAt f g 0 first → before + left ≡ first.steps + steps → n ≡ min left 1000
+        → o ≡ m.outcome → (left - n ≡ 0) ⊎ (o ≢ outcomes.Running) → Stopped (before + n) m a b pending → Stopped steps m a b pending
+    at_end first before left n o pending stands made most is over s = (
+      s.0,
+      elim over [
+        | inl none ↦ subst (λ (to : ℕ). stops to (run f g s.0.at).state ≡ true) (spent first.steps before left n steps (no_steps_of f g first stands) made most none) s.1
+        | inr halts ↦ ended_stops steps (run f g s.0.at).state (λ e. halts (is ∙ sym s.0.stands.outcome ∙ e))
+      ],
+    )
+
+    lines_all : (pending : List Mark) (u : Underway m a b pending) → lines_of u.done ++ lines_of pending ≡ lines_of (run f g u.at).marks
+    lines_all pending u = sym (ap lines_of u.all ∙ lines_more u.done pending)
+
+    so_far : (pending : List Mark) (u : Underway m a b pending) → IsRunSoFar f g steps (lines_of u.done ++ (lines_of pending ++ []))
+    so_far pending u = (u.at, u.going, ap (λ (l : List ℕ). lines_of u.done ++ l) (append-nil (lines_of pending)) ∙ lines_all pending u)
+
+    -- memory ended before the last marks were written
+    pub cut_by_memory : (pending : List Mark) (i j : ℕ) (r : Result Outcome SinkErr) → Underway m a b pending → IsErr r → IsErrAnd r (λ e. e ≡ sink.OutOfMemory)
+        → Drives f g steps a b i j r
+    cut_by_memory pending i j r u h k = subst (Drives f g steps a b i j) (sym (err_is r sink.OutOfMemory h k)) (
+      lines_of u.done ++ (lines_of pending ++ []),
+      inr (so_far pending u),
+      prefix_then a b b (lines_of u.done) (lines_of pending) [] u.written (none_of b (lines_of pending)),
+    )
+
+    module _ (c : Option (List ℕ)) (i j k : ℕ) where
+      cut_in_lines_by : (pending : List Mark) (x : SinkErr) → Underway m a b pending → i ≤ j → WritesPiece b c j k (lines_of pending) (Err x) → Drives f g steps a c i k (Err x)
+      cut_in_lines_by pending sink.Failed u le w = (
+        lines_of u.done ++ (lines_of pending ++ []),
+        inr (so_far pending u),
+        part_then a b c (lines_of u.done) (lines_of pending) [] u.written w.1.0,
+        rose_later i j k le w.1.1,
+      )
+      cut_in_lines_by pending sink.OutOfMemory u le w = (
+        lines_of u.done ++ (lines_of pending ++ []),
+        inr (so_far pending u),
+        prefix_then a b c (lines_of u.done) (lines_of pending) [] u.written w.1,
+      )
+
+      -- the lines of the last marks were not written whole
+      pub cut_in_lines : (pending : List Mark) (x : SinkErr) (r : Result Outcome SinkErr) → Underway m a b pending → i ≤ j → WritesPiece b c j k (lines_of pending) (Err x)
+          → IsErr r → IsErrAnd r (λ e. e ≡ x) → Drives f g steps a c i k r
+      cut_in_lines pending x r u le w is e = subst (Drives f g steps a c i k) (sym (err_is r x is e)) (cut_in_lines_by pending x u le w)
+
+      -- at the end, where `seen` are the threads that are not dead
+      module _ (o : Outcome) (seen threads : List Tid) (s : Stopped steps m a b []) (is : o ≡ m.outcome) (same : seen ≡ threads)
+          (all : (t : State P S H) → Stands m t → map number threads ≡ live t) where
+        abbrev names : List ℕ
+        names = map number seen
+
+        abbrev out : Output
+        out = told_output steps (run f g s.0.at)
+
+        out_is : IsRunOutput f g steps out
+        out_is = (s.0.at, record { later = omega arith; here = s.1; first = λ n from low. s.0.going n low }, refl)
+
+        last : o ≡ (run f g s.0.at).state.rest.scheduler.outcome
+        last = is ∙ sym s.0.stands.outcome
+
+        names_are : names ≡ live (run f g s.0.at).state
+        names_are = ap (map number) same ∙ all (run f g s.0.at).state s.0.stands
+
+        text_is : lines_of s.0.done ++ end_line o steps names ≡ out.text
+        text_is = ap₂ (λ (x y : List ℕ). x ++ y) (sym (append-nil (lines_of s.0.done)) ∙ lines_all [] s.0) (ap₂ (λ (p : Outcome) (l : List ℕ). end_line p steps l) last names_are)
+
+        cut_is : lines_of s.0.done ++ (end_line o steps names ++ []) ≡ out.text
+        cut_is = ap (λ (l : List ℕ). lines_of s.0.done ++ l) (append-nil (end_line o steps names)) ∙ text_is
+
+        cut_in_end_by : (x : SinkErr) → i ≤ j → WritesPiece b c j k (end_line o steps names) (Err x) → Drives f g steps a c i k (Err x)
+        cut_in_end_by sink.Failed le w = (
+          lines_of s.0.done ++ (end_line o steps names ++ []),
+          inl (out, out_is, cut_is),
+          part_then a b c (lines_of s.0.done) (end_line o steps names) [] s.0.written w.1.0,
+          rose_later i j k le w.1.1,
+        )
+        cut_in_end_by sink.OutOfMemory le w = (
+          lines_of s.0.done ++ (end_line o steps names ++ []),
+          inl (out, out_is, cut_is),
+          prefix_then a b c (lines_of s.0.done) (end_line o steps names) [] s.0.written w.1,
+        )
+
+        -- the last line was not written whole
+        pub cut_in_end : (x : SinkErr) (r : Result Outcome SinkErr) → i ≤ j → WritesPiece b c j k (end_line o steps names) (Err x) → IsErr r → IsErrAnd r (λ e. e ≡ x)
+            → Drives f g steps a c i k r
+        cut_in_end x r le w h e = subst (Drives f g steps a c i k) (sym (err_is r x h e)) (cut_in_end_by x le w)
+
+        -- all was written
+        pub finished : (x : Unit {0}) → WritesPiece b c j k (end_line o steps names) (Ok x) → Drives f g steps a c i k (Ok o)
+        finished x w = (
+          out,
+          out_is,
+          ap outcome_status (sym last),
+          subst (Appends a c) text_is (Appends-trans a b c (lines_of s.0.done) (end_line o steps names) s.0.written w.1),
+        )
 
 -- memory ran out before a piece was written
 pub cut_before : (a : Option (List ℕ)) (f : ℕ) (text : List ℕ) (r : Result (Unit {0}) SinkErr) → IsErr r → IsErrAnd r (λ e. e ≡ sink.OutOfMemory) → WritesPiece a a f f text r
 cut_before a f text r h k = subst (WritesPiece a a f f text) (sym (err_is r sink.OutOfMemory h k)) (omega arith, none_of a text)
 
--- the steps that are left are few enough
-pub few_left : (made now left n : ℕ) → now ≤ made + n → made + left ≤ 1000000000 → n ≡ min left 1000 → now + (left - n) ≤ 1000000000
-few_left made now left n a b e = omega arith
-
--- nothing was written of a transcript
-pub nothing_yet : (steps : ℕ) (a : Option (List ℕ)) → (text : List ℕ) × ((o : Outcome) × IsTranscript steps o text) × AppendsPrefix a a text
-nothing_yet steps a = (
-  end_line outcomes.Killed steps [],
-  (outcomes.Killed, record { marks = []; live = []; told = killed; text_is = refl }),
-  none_of a (end_line outcomes.Killed steps []),
-)
+-- as many steps as were asked for are made, and are left
+pub still_left : (made now left n total : ℕ) → now ≡ made + n → made + left ≡ total → n ≡ min left 1000 → now + (left - n) ≡ total
+still_left made now left n total a b e = omega arith

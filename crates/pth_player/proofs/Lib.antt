@@ -1,5 +1,6 @@
 pub mod Clauses
 pub mod Driving
+pub mod Outputs
 pub mod Pieces
 pub mod Reading
 pub mod Results

@@ -10,8 +10,8 @@ use Rattle.pth_print.specs.declared.fault_line.Fault.TheVariants as fault
 use Rattle.pth_script.specs.FirstForm.{IsAccepted}
 use Rattle.pth_script.specs.declared.script.Line.{Line}
 use Rattle.pth_player.specs.Faults.{fault_of_read, fault_of_script}
-use Rattle.pth_player.specs.Output.{IsRefused, cut, limit}
-use Rattle.pth_player.specs.Play.{ReadsScript}
+use Rattle.pth_player.specs.Output.{IsRefused, IsTheScript, cut, limit}
+use Rattle.pth_player.specs.Play.{AreHeld, LosesRead, ReadsScript}
 use Rattle.pth_player.specs.Streams.{TakesUpTo}
 use Rattle.pth_script.specs.declared.read.ReadErr.{ReadErr}
 use Rattle.pth_script.specs.declared.read.ReadErr.TheVariants as script
@@ -45,19 +45,28 @@ takes_is cap (Some xs) (Some ys) bytes t = elim (cases_order (length bytes) cap)
 ]
 
 -- up to the byte after the limit
-takes_cut : (old new : Option (List ℕ)) (bytes : List ℕ) → TakesUpTo 16777217 old new bytes → IfSome old (λ xs. (bytes ≡ cut xs) × (new ≡ Some (drop (limit + 1) xs)))
+loses : (old new : Option (List ℕ)) (bytes : List ℕ) → TakesUpTo 16777217 old new bytes → LosesRead old new
 unfolding limit
-takes_cut old new bytes t = takes_is 16777217 old new bytes t
+loses old new bytes t = told _ _ old (λ xs p. p.1) (takes_is 16777217 old new bytes t)
+
+-- what was read is the content as far as it is read
+held_is : (old new : Option (List ℕ)) (bytes : List ℕ) → TakesUpTo 16777217 old new bytes → (held : List ℕ) × AreHeld old held × (bytes ≡ cut held)
+unfolding limit
+held_is None new bytes t = (bytes, tt, sym (take_all 16777217 bytes t.bound))
+held_is (Some xs) new bytes t = (xs, refl, (takes_is 16777217 (Some xs) new bytes t).0)
 
 module _ (old new : Option (List ℕ)) (before now : ℕ) (bytes seen : List ℕ) (s : Result (List (List Line)) Fault) where
+  read_by : (r : Result (List (List Line)) ReadErr) → (held : List ℕ) × AreHeld old held × (bytes ≡ cut held) → LosesRead old new → seen ≡ bytes → IfOk r (λ bodies. IsAccepted bodies seen)
+      → ((other : List (List Line)) → IsAccepted other seen → IfOk r (λ bodies. bodies ≡ other)) → (IsErrOf r script.Refused → IsRefused seen) → MatchResult r (λ x. s ≡ Ok x) (λ e. IsErrAnd s (λ f. f ≡ fault_of_script e)) → ReadsScript old new before now s
+  read_by (Ok bodies) h lost same ok only refused m = subst (ReadsScript old new before now) (sym m) (lost, (h.0, h.1, subst (IsTheScript bodies) (same ∙ h.2) (ok, λ other accepted. sym (only other accepted))))
+  read_by (Err script.Refused) h lost same ok only refused m = subst (ReadsScript old new before now) (sym (err_and s fault.Input m))
+      (lost, (h.0, h.1, subst IsRefused (same ∙ h.2) (refused refl)))
+  read_by (Err script.OutOfMemory) h lost same ok only refused m = subst (ReadsScript old new before now) (sym (err_and s fault.OutOfMemory m)) tt
+
   -- what is answered of the bytes is answered of the input
   pub read_is : (r : Result (List (List Line)) ReadErr) → TakesUpTo 16777217 old new bytes → seen ≡ bytes → IfOk r (λ bodies. IsAccepted bodies seen)
-      → (IsErrOf r script.Refused → IsRefused seen) → MatchResult r (λ x. s ≡ Ok x) (λ e. IsErrAnd s (λ f. f ≡ fault_of_script e)) → ReadsScript old new before now s
-  read_is (Ok bodies) t same ok refused m = subst (ReadsScript old new before now) (sym m)
-      (told _ _ old (λ xs h. (h.1, subst (IsAccepted bodies) (same ∙ h.0) ok)) (takes_cut old new bytes t))
-  read_is (Err script.Refused) t same ok refused m = subst (ReadsScript old new before now) (sym (err_and s fault.Input m))
-      (told _ _ old (λ xs h. (h.1, subst IsRefused (same ∙ h.0) (refused refl))) (takes_cut old new bytes t))
-  read_is (Err script.OutOfMemory) t same ok refused m = subst (ReadsScript old new before now) (sym (err_and s fault.OutOfMemory m)) tt
+      → ((other : List (List Line)) → IsAccepted other seen → IfOk r (λ bodies. bodies ≡ other)) → (IsErrOf r script.Refused → IsRefused seen) → MatchResult r (λ x. s ≡ Ok x) (λ e. IsErrAnd s (λ f. f ≡ fault_of_script e)) → ReadsScript old new before now s
+  read_is r t = read_by r (held_is old new bytes t) (loses old new bytes t)
 
 -- an input that is not read to its end
 pub unread_is : (old new : Option (List ℕ)) (before now : ℕ) (e : ReadFault) (s : Result (List (List Line)) Fault) → (e ≡ read.Failed → Rose before now)

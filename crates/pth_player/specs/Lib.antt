@@ -1,5 +1,6 @@
 pub mod Streams
 pub mod Transcript
 pub mod Output
+pub mod Drive
 pub mod Play
 pub mod Faults

@@ -3,14 +3,16 @@ use Rattle.std.specs.Prelude.{◌≡◌, ◌≢◌, ◌⊎◌, ◌+◌, ℕ, Lis
 use Rattle.std.specs.Io.KnownBytes.{Appends, Keeps}
 use Rattle.pth_base.specs.Faults.{Rose}
 use Rattle.pth_base.specs.declared.outcome.Outcome.{Outcome}
+use Rattle.pth_base.specs.declared.sink.SinkErr.{SinkErr}
+use Rattle.pth_base.specs.declared.sink.SinkErr.TheVariants as sink
 use Rattle.pth_print.specs.Lines.{fault_line, fault_status}
 use Rattle.pth_print.specs.declared.fault_line.Fault.{Fault}
 use Rattle.pth_print.specs.declared.fault_line.Fault.TheVariants as fault
-use Rattle.pth_script.specs.FirstForm.{IsAccepted}
+use Rattle.pth_script.specs.Script.{functions_of}
 use Rattle.pth_script.specs.declared.script.Line.{Line}
 use Rattle.pth_player.specs.Streams.{AppendsPart, AppendsPrefix}
-use Rattle.pth_player.specs.Transcript.{IsTranscript}
-use Rattle.pth_player.specs.Output.{IsRefused, cut, limit, outcome_status, step_limit}
+use Rattle.pth_player.specs.Output.{Output, IsTheOutput, IsRefused, IsSoFar, IsTheScript, cut, given_script, limit, outcome_status, step_limit}
+use Rattle.pth_player.specs.Drive.{Drives}
 
 -- what the input and the files tell at a moment
 pub record Inputs : Type 0 where
@@ -69,37 +71,40 @@ ObjectRead the_input old new = IfSome old.left (λ xs. new.left ≡ Some (drop (
 
 -- ---- the parts of the call
 
+-- these are the bytes that the object read holds, where that is told, and some bytes where it is not
+abbrev pub AreHeld : Option (List ℕ) → List ℕ → Type 0
+AreHeld held bytes = IfSome held (λ xs. bytes ≡ xs)
+
+-- what was read is lost, where that is told: all, or as much as the limit and a byte
+abbrev pub LosesRead : Option (List ℕ) → Option (List ℕ) → Type 0
+LosesRead old new = IfSome old (λ xs. new ≡ Some (drop (limit + 1) xs))
+
 -- a script was read of the input, or why not
 abbrev pub ReadsScript : Option (List ℕ) → Option (List ℕ) → ℕ → ℕ → Result (List (List Line)) Fault → Type 0
-ReadsScript old new before now (Ok bodies) = IfSome old (λ xs. (new ≡ Some (drop (limit + 1) xs)) × IsAccepted bodies (cut xs))
-ReadsScript old new before now (Err fault.Input) = IfSome old (λ xs. (new ≡ Some (drop (limit + 1) xs)) × IsRefused (cut xs))
+ReadsScript old new before now (Ok bodies) = LosesRead old new × ((bytes : List ℕ) × AreHeld old bytes × IsTheScript bodies (cut bytes))
+ReadsScript old new before now (Err fault.Input) = LosesRead old new × ((bytes : List ℕ) × AreHeld old bytes × IsRefused (cut bytes))
 ReadsScript old new before now (Err fault.ReadFault) = Rose before now
 ReadsScript old new before now (Err fault.OutOfMemory) = Unit {0}
 ReadsScript old new before now (Err fault.Words) = ⊥
 ReadsScript old new before now (Err fault.WriteFault) = ⊥
 
--- the content is a script's text
-abbrev pub HoldsScript : List (List ℕ) → Scene → Type 0
-HoldsScript words s = IfSome (content words s) (λ bytes. (bodies : List (List Line)) × IsAccepted bodies (cut bytes))
-
 -- the content is no script's text
 abbrev pub HoldsNoScript : List (List ℕ) → Scene → Type 0
-HoldsNoScript words s = IfSome (content words s) (λ bytes. IsRefused (cut bytes))
+HoldsNoScript words s = (bytes : List ℕ) × AreHeld (content words s) bytes × IsRefused (cut bytes)
 
--- the text is a transcript with some outcome
-abbrev pub IsSomeTranscript : List ℕ → Type 0
-IsSomeTranscript text = (o : Outcome) × IsTranscript step_limit o text
+-- the content is a script's text, and its machine was driven with this result
+abbrev pub DrivesScript : List (List ℕ) → Scene → Scene → Result Outcome SinkErr → Type 0
+DrivesScript words old new r = (bytes : List ℕ) × AreHeld (content words old) bytes × (bodies : List (List Line)) × IsTheScript bodies (cut bytes)
+    × Drives functions_of (given_script bodies) step_limit old.written new.written old.out_faults new.out_faults r
 
 -- what was done but for the line of a fault
 abbrev pub Ran : List (List ℕ) → Scene → Scene → Result Outcome Fault → Type 0
-Ran words old new (Ok o) = (words ≡ []) × ObjectRead (object_of words) old.ins new.ins × HoldsScript words old
-    × ((text : List ℕ) × IsTranscript step_limit o text × Appends old.written new.written text)
+Ran words old new (Ok o) = (words ≡ []) × ObjectRead (object_of words) old.ins new.ins × DrivesScript words old new (Ok o)
 Ran words old new (Err fault.Words) = (words ≢ []) × ObjectRead (object_of words) old.ins new.ins × Appends old.written new.written []
 Ran words old new (Err fault.Input) = (words ≡ []) × ObjectRead (object_of words) old.ins new.ins × HoldsNoScript words old × Appends old.written new.written []
 Ran words old new (Err fault.ReadFault) = (words ≡ []) × ObjectRose (object_of words) old.ins new.ins × Appends old.written new.written []
-Ran words old new (Err fault.WriteFault) = (words ≡ []) × ObjectRead (object_of words) old.ins new.ins × HoldsScript words old
-    × ((text : List ℕ) × IsSomeTranscript text × AppendsPart old.written new.written text) × Rose old.out_faults new.out_faults
-Ran words old new (Err fault.OutOfMemory) = (words ≡ []) × ((text : List ℕ) × IsSomeTranscript text × AppendsPrefix old.written new.written text)
+Ran words old new (Err fault.WriteFault) = (words ≡ []) × ObjectRead (object_of words) old.ins new.ins × DrivesScript words old new (Err sink.Failed)
+Ran words old new (Err fault.OutOfMemory) = (words ≡ []) × (Appends old.written new.written [] ⊎ DrivesScript words old new (Err sink.OutOfMemory))
 
 -- the fault is reported by its status and its line, or memory ran out for the line
 abbrev pub Reports : Fault → ℕ → Option (List ℕ) → Option (List ℕ) → ℕ → ℕ → Type 0
@@ -117,6 +122,10 @@ Ends (Err f) status old new before now = Reports f status old new before now
 -- the status of a run that was written whole
 abbrev pub IsRunStatus : ℕ → Type 0
 IsRunStatus status = (status ≡ 0) ⊎ ((status ≡ 1) ⊎ (status ≡ 6))
+
+-- the status of an output: that of a run, of refused words or of a refused input
+abbrev pub IsOutputStatus : ℕ → Type 0
+IsOutputStatus status = IsRunStatus status ⊎ ((status ≡ 2) ⊎ (status ≡ 3))
 
 -- the status of a fault other than want of memory
 abbrev pub IsFaultStatus : ℕ → Type 0
@@ -141,12 +150,17 @@ pub record Faults (words : List (List ℕ)) (old new : Scene) (status : ℕ) : T
   pub read : status ≡ 4 → (words ≡ []) × ObjectRose (object_of words) old.ins new.ins
   pub write : status ≡ 5 → Rose old.out_faults new.out_faults
 
--- what was appended: a transcript with an outcome of this status, a part of one, a beginning, or nothing
-pub record WritesTranscript (old new : Scene) (status : ℕ) : Type 0 where
-  pub whole : IsRunStatus status
-      → (o : Outcome) × (text : List ℕ) × (status ≡ outcome_status o) × IsTranscript step_limit o text × Appends old.written new.written text
-  pub part : status ≡ 5 → (text : List ℕ) × IsSomeTranscript text × AppendsPart old.written new.written text
-  pub beginning : status ≡ 7 → (text : List ℕ) × IsSomeTranscript text × AppendsPrefix old.written new.written text
+-- What was appended, by the status, where `bytes` are what the object read holds.
+pub record WritesOutput (words : List (List ℕ)) (old new : Scene) (status : ℕ) : Type 0 where
+  -- 0, 1, 2, 3, 6: the status is that of the output for the words and the bytes, and its whole text was appended
+  pub whole : IsOutputStatus status
+      → (bytes : List ℕ) × AreHeld (content words old) bytes × (out : Output) × IsTheOutput words bytes out × (status ≡ out.status) × Appends old.written new.written out.text
+  -- 5: a beginning of the output's text or of the run's lines so far, and not the whole
+  pub part : status ≡ 5
+      → (bytes : List ℕ) × AreHeld (content words old) bytes × (text : List ℕ) × IsSoFar words bytes text × AppendsPart old.written new.written text
+  -- 7: nothing, or a beginning of such a text
+  pub beginning : status ≡ 7 → Appends old.written new.written []
+      ⊎ ((bytes : List ℕ) × AreHeld (content words old) bytes × (text : List ℕ) × IsSoFar words bytes text × AppendsPrefix old.written new.written text)
   pub nothing : (status ≡ 2) ⊎ ((status ≡ 3) ⊎ (status ≡ 4)) → Appends old.written new.written []
 
 -- the line of a fault with this status

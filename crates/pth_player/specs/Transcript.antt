@@ -1,10 +1,9 @@
 -- The text of a run, and what is written of it.
-use Rattle.std.specs.Prelude.{◌≡◌, ◌≢◌, ◌≤◌, ◌++◌, ℕ, List, Option, Result, Ok, Err, false, flat_map}
+use Rattle.std.specs.Prelude.{◌≤◌, ◌++◌, ℕ, List, Option, Result, Ok, Err, false, flat_map}
 use Rattle.std.specs.Io.KnownBytes.{Appends}
 use Rattle.pth_base.specs.Faults.{Rose}
 use Rattle.pth_base.specs.declared.mark.Mark.{Mark}
 use Rattle.pth_base.specs.declared.outcome.Outcome.{Outcome}
-use Rattle.pth_base.specs.declared.outcome.Outcome.TheVariants as outcomes
 use Rattle.pth_base.specs.declared.sink.SinkErr.{SinkErr}
 use Rattle.pth_base.specs.declared.sink.SinkErr.TheVariants as sink
 use Rattle.pth_print.specs.Lines.{mark_line, end_line}
@@ -18,13 +17,6 @@ lines_of marks = flat_map (mark_line false) marks
 abbrev pub transcript : List Mark → Outcome → ℕ → List ℕ → List ℕ
 transcript marks outcome steps live = lines_of marks ++ end_line outcome steps live
 
--- the text is a transcript with this outcome
-pub record IsTranscript (steps : ℕ) (outcome : Outcome) (text : List ℕ) : Type 0 where
-  pub marks : List Mark
-  pub live : List ℕ
-  pub told : outcome ≢ outcomes.OutOfMemory
-  pub text_is : text ≡ transcript marks outcome steps live
-
 -- the piece was written whole, or not the whole of it where the sink failed, or a beginning where memory ran out
 abbrev pub PieceBy : Option (List ℕ) → Option (List ℕ) → ℕ → ℕ → List ℕ → Result (Unit {0}) SinkErr → Type 0
 PieceBy old new before now piece (Ok x) = Appends old new piece
@@ -34,13 +26,3 @@ PieceBy old new before now piece (Err sink.OutOfMemory) = AppendsPrefix old new 
 -- a piece was written by this result, and the count of faults did not fall
 abbrev pub WritesPiece : Option (List ℕ) → Option (List ℕ) → ℕ → ℕ → List ℕ → Result (Unit {0}) SinkErr → Type 0
 WritesPiece old new before now piece r = (before ≤ now) × PieceBy old new before now piece r
-
--- a transcript with the outcome was written, or not the whole of one where the sink failed, or a beginning of one
-abbrev pub Drives : ℕ → Option (List ℕ) → Option (List ℕ) → ℕ → ℕ → Result Outcome SinkErr → Type 0
-Drives steps old new before now (Ok o) = (text : List ℕ) × IsTranscript steps o text × Appends old new text
-Drives steps old new before now (Err sink.Failed) = (o : Outcome) × (text : List ℕ) × IsTranscript steps o text × AppendsPart old new text × Rose before now
-Drives steps old new before now (Err sink.OutOfMemory) = (o : Outcome) × (text : List ℕ) × IsTranscript steps o text × AppendsPrefix old new text
-
--- the lines of some marks were appended
-abbrev pub AppendsLines : Option (List ℕ) → Option (List ℕ) → Type 0
-AppendsLines old new = (marks : List Mark) × Appends old new (lines_of marks)

@@ -1,8 +1,11 @@
 //! A machine run for a number of steps, and its transcript written piece by piece.
 
-ghost use Rattle.std.specs.Prelude.{◌≡◌, ◌≢◌, ◌≤◌, ◌+◌, ◌++◌, ◌⊎◌, IsTrue, OnOk, OnErr, map, false};
+ghost use Rattle.std.specs.Prelude.{◌≡◌, ◌≢◌, ◌≤◌, ◌+◌, ◌++◌, ◌⊎◌, IsFalse, IsTrue, OnOk, map, false};
+ghost use Rattle.pth_model.specs.State.{Given};
 ghost use Rattle.pth_print.specs.Lines.{end_line as line_of_outcome};
-ghost use Rattle.pth_player.specs.Transcript.{lines_of, Drives, WritesPiece};
+ghost use Rattle.pth_sched.specs.Running.{StandsAt};
+ghost use Rattle.pth_player.specs.Drive.{Drives};
+ghost use Rattle.pth_player.specs.Transcript.{lines_of, WritesPiece};
 
 use crate::streams::write_all;
 use pth_base::ids::Tid;
@@ -60,6 +63,7 @@ fn write_end<O: Sink>(
 fn is_over(left: u64, outcome: Outcome) -> bool
     ensures over { IsTrue result → (left ≡ 0) ⊎ (outcome ≢ Outcome.Running) }
     ensures last { left ≡ 0 → IsTrue result }
+    ensures going { IsFalse result → outcome ≡ Outcome.Running }
 {
     match outcome {
         Outcome::Running => left == 0,
@@ -68,6 +72,9 @@ fn is_over(left: u64, outcome: Outcome) -> bool
 }
 
 /// Makes the machine's next `steps` steps, fewer where its run ends before, and writes its transcript.
+///
+/// A machine that stands at the start of a run writes what that run tells to so many steps and the line of its outcome,
+/// and nothing else. Where the sink fails or memory ends, a beginning of that is written.
 pub fn drive<P: Program, O: Sink>(
     alloc: Global,
     machine: &mut Machine<P>,
@@ -75,7 +82,7 @@ pub fn drive<P: Program, O: Sink>(
     out: &mut O,
 ) -> Result<Outcome, SinkErr>
     requires few { machine.old.steps + steps ≤ 1000000000 }
-    ensures written { Drives steps (O.written out.old) (O.written out.new) (O.faults out.old) (O.faults out.new) result }
+    ensures written { (g : Given P) → StandsAt P.functions g 0 machine.old → Drives P.functions g steps (O.written out.old) (O.written out.new) (O.faults out.old) (O.faults out.new) result }
 {
     let mut marks = Marks::new(alloc);
     let mut text = Text::new(alloc);

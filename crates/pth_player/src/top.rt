@@ -1,7 +1,7 @@
 //! The top call.
 
 ghost use Rattle.std.specs.Prelude.{◌≡◌, ◌≤◌, map, string_bytes};
-ghost use Rattle.pth_player.specs.Play.{inputs, scene, Ends, Faults, ReadsWhole, RefusesInput, RefusesWords, TellsFault, WritesTranscript};
+ghost use Rattle.pth_player.specs.Play.{inputs, scene, Ends, Faults, ReadsWhole, RefusesInput, RefusesWords, TellsFault, WritesOutput};
 
 use crate::report::report_fault;
 use crate::run::run;
@@ -31,6 +31,10 @@ fn finish<E: Sink>(alloc: Global, ran: Result<Outcome, Fault>, err: &mut E) -> u
 ///
 /// The script is read from `input`, the transcript is written to `out`, and the line of a fault to `err`. `files` is not
 /// used: words are refused, so none names a file.
+///
+/// `IsOutput` says what the output is for words and an input: what the script's run tells and the line of its outcome,
+/// with a status, or a refusal. With status 0, 1, 2, 3 and 6 exactly the text of this output was written, and the status
+/// is the output's.
 pub fn play<S: Source, F: Files, O: Sink, E: Sink>(
     alloc: Global,
     words: &Vec<String>,
@@ -58,8 +62,9 @@ pub fn play<S: Source, F: Files, O: Sink, E: Sink>(
         (scene (inputs (S.left input.old) (S.faults input.old) (F.left files.old) (F.held files.old) (F.faults files.old)) (O.written out.old) (O.faults out.old))
         (scene (inputs (S.left input.new) (S.faults input.new) (F.left files.new) (F.held files.new) (F.faults files.new)) (O.written out.new) (O.faults out.new)) result }
 
-    // A transcript was written, a part of one with status 5, a beginning with status 7, and nothing with 2, 3 and 4.
-    ensures writes_transcript { WritesTranscript
+    // The status and what was written are those of the output for the words and the bytes of the input. Where the sink
+    // failed (5) or memory ended (7), a beginning was written.
+    ensures writes_output { WritesOutput (map string_bytes words.now.items)
         (scene (inputs (S.left input.old) (S.faults input.old) (F.left files.old) (F.held files.old) (F.faults files.old)) (O.written out.old) (O.faults out.old))
         (scene (inputs (S.left input.new) (S.faults input.new) (F.left files.new) (F.held files.new) (F.faults files.new)) (O.written out.new) (O.faults out.new)) result }
 

@@ -1,37 +1,64 @@
-use Rattle.std.proofs.Common.{Err, le_trans, refl}
+use Rattle.std.proofs.Common.{Err, arith, le_trans, refl}
 use Rattle.pth_base.specs.declared.sink.SinkErr.TheVariants as sink
-use Rattle.pth_player.proofs.Driving.{cut_by_memory, cut_in_end, cut_in_lines, few_left, finished, onward}
+use Rattle.pth_player.proofs.Driving.{at_end, begins, cut_by_memory, cut_in_end, cut_in_lines, finished, onward, piece, still_left}
 use Rattle.pth_player.proofs.drive.drive.Goals as goal
 
+pub pieces-init : goal.pieces-init
+pieces-init g c = record { way = λ given stands. begins _ _ _ _ _ stands; later = omega arith; made = refl }
+
 pub returns-in-OutOfMemory : goal.returns-in-OutOfMemory
-returns-in-OutOfMemory g c = record { written = cut_by_memory _ _ _ (g.O.Sink.faults c.args.out.now) (g.O.Sink.faults c.pieces.out) (Err sink.OutOfMemory) c.pieces.invariant.written refl refl }
+returns-in-OutOfMemory g c = record {
+  written = λ given stands.
+      cut_by_memory _ _ _ _ _ _ _ (g.O.Sink.faults c.args.out.now) (g.O.Sink.faults c.pieces.out) (Err sink.OutOfMemory) (c.pieces.invariant.way given stands) refl refl;
+}
 
 pub returns-in_err-write_marks : goal.returns-in_err-write_marks
 returns-in_err-write_marks g c = record {
-  written = cut_in_lines _ _ _ _ _ _ _ _ _ _ c.pieces.invariant.written c.pieces.invariant.later c.in_err-write_marks.ensures c.from_residual.ensures.0 c.from_residual.ensures.1;
+  written = λ given stands.
+      let u = c.pieces.invariant.way given stands in
+      let go = c.advance-outcome.ensures.goes_on c.in_default.not-OutOfMemory given u.at u.stands in
+      let s = piece _ _ _ c.pieces.machine _ _ c.args.machine.now _ _ _ _ _ _ stands c.pieces.invariant.made c.min-n.ensures c.clear.ensures c.as_slice.ensures u go in
+      cut_in_lines _ _ _ _ _ _ _ _ _ _ _ _ _ s.0 c.pieces.invariant.later c.in_err-write_marks.ensures c.from_residual.ensures.0 c.from_residual.ensures.1;
 }
 
 pub returns-in_err-live : goal.returns-in_err-live
-returns-in_err-live g c =
-    let told = onward _ _ _ _ _ _ _ c.pieces.invariant.written c.in_ok-write_marks.ensures in
-    record { written = cut_by_memory _ _ _ (g.O.Sink.faults c.args.out.now) (g.O.Sink.faults c.write_marks.new.out) _ told c.from_residual-in_err-live.ensures.0 c.from_residual-in_err-live.ensures.1 }
+returns-in_err-live g c = record {
+  written = λ given stands.
+      let u = c.pieces.invariant.way given stands in
+      let go = c.advance-outcome.ensures.goes_on c.in_default.not-OutOfMemory given u.at u.stands in
+      let s = onward _ _ _ c.pieces.machine _ _ c.args.machine.now _ _ _ _ _ _ _ stands c.pieces.invariant.made c.min-n.ensures c.clear.ensures c.as_slice.ensures u go c.in_ok-write_marks.ensures.1 in
+      cut_by_memory _ _ _ _ _ _ _ (g.O.Sink.faults c.args.out.now) (g.O.Sink.faults c.write_marks.new.out) _ s.0 c.from_residual-in_err-live.ensures.0 c.from_residual-in_err-live.ensures.1;
+}
 
 pub returns-in_err-write_end : goal.returns-in_err-write_end
-returns-in_err-write_end g c =
-    let told = onward _ _ _ _ _ _ _ c.pieces.invariant.written c.in_ok-write_marks.ensures in
-    let later = le_trans c.pieces.invariant.later c.in_ok-write_marks.ensures.0 in
-    record {
-      written = cut_in_end _ _ _ _ _ _ _ _ _ _ _ c.in_default.not-OutOfMemory told later c.in_err-write_end.ensures c.from_residual-in_err-write_end.ensures.0 c.from_residual-in_err-write_end.ensures.1;
-    }
+returns-in_err-write_end g c = record {
+  written = λ given stands.
+      let u = c.pieces.invariant.way given stands in
+      let go = c.advance-outcome.ensures.goes_on c.in_default.not-OutOfMemory given u.at u.stands in
+      let s = onward _ _ _ c.pieces.machine _ _ c.args.machine.now _ _ _ _ _ _ _ stands c.pieces.invariant.made c.min-n.ensures c.clear.ensures c.as_slice.ensures u go c.in_ok-write_marks.ensures.1 in
+      let last = at_end _ _ _ _ _ _ _ _ _ _ _ _ stands c.pieces.invariant.made c.min-n.ensures c.advance-outcome.ensures.outcome (c.is_over.ensures.over c.if-is_over.true) s in
+      let later = le_trans c.pieces.invariant.later c.in_ok-write_marks.ensures.0 in
+      cut_in_end _ _ _ _ _ _ _ _ _ _ _ _ _ last c.advance-outcome.ensures.outcome c.deref.ensures.value c.in_ok-live.ensures _ _ later c.in_err-write_end.ensures c.from_residual-in_err-write_end.ensures.0
+      c.from_residual-in_err-write_end.ensures.1;
+}
 
 pub returns-then-is_over : goal.returns-then-is_over
-returns-then-is_over g c =
-    let told = onward _ _ _ _ _ _ _ c.pieces.invariant.written c.in_ok-write_marks.ensures in
-    record { written = finished _ _ _ _ (g.O.Sink.faults c.args.out.now) _ _ _ _ _ c.in_default.not-OutOfMemory told c.in_ok-write_end.ensures }
+returns-then-is_over g c = record {
+  written = λ given stands.
+      let u = c.pieces.invariant.way given stands in
+      let go = c.advance-outcome.ensures.goes_on c.in_default.not-OutOfMemory given u.at u.stands in
+      let s = onward _ _ _ c.pieces.machine _ _ c.args.machine.now _ _ _ _ _ _ _ stands c.pieces.invariant.made c.min-n.ensures c.clear.ensures c.as_slice.ensures u go c.in_ok-write_marks.ensures.1 in
+      let last = at_end _ _ _ _ _ _ _ _ _ _ _ _ stands c.pieces.invariant.made c.min-n.ensures c.advance-outcome.ensures.outcome (c.is_over.ensures.over c.if-is_over.true) s in
+      finished _ _ _ _ _ _ _ (g.O.Sink.faults c.args.out.now) _ _ _ _ _ last c.advance-outcome.ensures.outcome c.deref.ensures.value c.in_ok-live.ensures _ c.in_ok-write_end.ensures;
+}
 
 pub pieces-preserved : goal.pieces-preserved
 pieces-preserved g c = record {
-  written = onward _ _ _ _ _ _ _ c.pieces.invariant.written c.in_ok-write_marks.ensures;
+  way = λ given stands.
+      let u = c.pieces.invariant.way given stands in
+      let go = c.advance-outcome.ensures.goes_on c.in_default.not-OutOfMemory given u.at u.stands in
+      let s = onward _ _ _ c.pieces.machine _ _ c.args.machine.now _ _ _ _ _ _ _ stands c.pieces.invariant.made c.min-n.ensures c.clear.ensures c.as_slice.ensures u go c.in_ok-write_marks.ensures.1 in
+      s.0;
   later = le_trans c.pieces.invariant.later c.in_ok-write_marks.ensures.0;
-  few = few_left _ _ _ _ c.advance-outcome.ensures.steps c.pieces.invariant.few c.min-n.ensures;
+  made = still_left _ _ _ _ _ (c.advance-outcome.ensures.running.0 (c.is_over.ensures.going c.if-is_over.false)).0 c.pieces.invariant.made c.min-n.ensures;
 }

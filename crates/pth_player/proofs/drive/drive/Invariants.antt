@@ -1,12 +1,15 @@
-use Rattle.std.proofs.Common.{◌+◌, ◌≤◌}
-use Rattle.pth_player.specs.Transcript.{AppendsLines}
+use Rattle.std.proofs.Common.{◌≡◌, ◌+◌, ◌≤◌, []}
+use Rattle.pth_model.specs.State.{Given}
+use Rattle.pth_sched.specs.Running.{StandsAt}
+use Rattle.pth_player.proofs.Driving.{Underway}
 use Rattle.pth_player.proofs.drive.drive.Given as goal
 
 abbrev pub invariant-pieces : goal.invariant-pieces
 invariant-pieces g l = record {
-  written : AppendsLines (g.O.Sink.written l.initial.out) (g.O.Sink.written l.out);
+  way : (given : Given _) → StandsAt g.P.Program.functions given 0 l.initial.machine
+      → Underway g.P.Program.functions given l.steps l.machine (g.O.Sink.written l.initial.out) (g.O.Sink.written l.out) [];
   later : g.O.Sink.faults l.initial.out ≤ g.O.Sink.faults l.out;
-  few : l.machine.steps + l.left ≤ 1000000000;
+  made : l.machine.steps + l.left ≡ l.initial.machine.steps + l.steps;
 }
 
 abbrev pub decreases-pieces : goal.decreases-pieces

@@ -1,0 +1,47 @@
+-- What the output is, and that there is one alone.
+use Rattle.std.proofs.Common.{◌≡◌, ◌∙◌, ℕ, List, [], ◌∷◌, Option, Some, IfSome, ap, sym, refl, subst, inl, inr}
+use Rattle.std.specs.Io.KnownBytes.{Appends}
+use Rattle.pth_base.specs.Program.{Functions}
+use Rattle.pth_model.specs.State.{Given}
+use Rattle.pth_model.specs.Run.{run}
+use Rattle.pth_model.proofs.Runs.{goes-once}
+use Rattle.pth_print.specs.declared.fault_line.Fault.TheVariants as fault
+use Rattle.pth_script.specs.Script.{functions_of}
+use Rattle.pth_script.specs.declared.script.Line.{Line}
+use Rattle.pth_player.specs.Output.{Output, IsOutput, IsRefused, IsRunOutput, IsTheOutput, IsTheScript, cut, given_script, refusal, step_limit, told_output}
+use Rattle.pth_player.specs.Play.{IsOutputStatus, Scene, WritesOutput, content}
+
+run_once : {P S H : Type 0} (f : P → Functions S H) (g : Given P) (steps : ℕ) (one two : Output) → IsRunOutput f g steps one → IsRunOutput f g steps two → one ≡ two
+run_once f g steps one two a b = a.2 ∙ ap (λ (k : ℕ). told_output steps (run f g k)) (goes-once f g steps 0 a.0 b.0 a.1 b.1) ∙ sym b.2
+
+-- that of words, which are refused
+pub words_output : (word : List ℕ) (words : List (List ℕ)) (bytes : List ℕ) → IsTheOutput (word ∷ words) bytes (refusal fault.Words)
+words_output word words bytes = (refl, λ other o. o)
+
+-- that of an input that is no script
+pub refused_output : (words : List (List ℕ)) (bytes : List ℕ) → words ≡ [] → IsRefused (cut bytes) → IsTheOutput words bytes (refusal fault.Input)
+refused_output words bytes none refused = subst (λ (ws : List (List ℕ)). IsTheOutput ws bytes (refusal fault.Input)) (sym none) (
+  inr (refused, refl),
+  λ other o. elim o [ inl i ↦ absurd (refused i.0 i.1) | inr k ↦ k.1 ],
+)
+
+-- that of a script
+pub script_output : (words : List (List ℕ)) (bytes : List ℕ) (bodies : List (List Line)) (out : Output) → words ≡ [] → IsTheScript bodies (cut bytes)
+    → IsRunOutput functions_of (given_script bodies) step_limit out → IsTheOutput words bytes out
+script_output words bytes bodies out none script is = subst (λ (ws : List (List ℕ)). IsTheOutput ws bytes out) (sym none) (
+  inl (bodies, script.0, is),
+  λ other o. elim o [
+    | inl i ↦ run_once functions_of (given_script bodies) step_limit other out
+        (subst (λ (bs : List (List Line)). IsRunOutput functions_of (given_script bs) step_limit other) (script.1 i.0 i.1) i.2) is
+    | inr k ↦ absurd (k.0 bodies script.0)
+  ],
+)
+
+-- where the content is told, and for every output that it has: this is the status, and this text was appended
+pub exactly : (words : List (List ℕ)) (old new : Scene) (status : ℕ) (bytes : List ℕ) (out : Output) → WritesOutput words old new status → content words old ≡ Some bytes
+    → IsOutput words bytes out → IsOutputStatus status → (status ≡ out.status) × Appends old.written new.written out.text
+exactly words old new status bytes out writes held is s =
+    let h = writes.whole s in
+    let same : h.0 ≡ bytes = subst (λ (o : Option (List ℕ)). IfSome o (λ xs. h.0 ≡ xs)) held h.1 in
+    let one : out ≡ h.2 = h.3.1 out (subst (λ (b : List ℕ). IsOutput words b out) (sym same) is) in
+    (h.4 ∙ ap (λ (o : Output). o.status) (sym one), subst (λ (o : Output). Appends old.written new.written o.text) (sym one) h.5)
