@@ -2,7 +2,7 @@
 //! the work is the machine's own.
 #![tactic(auto)]
 
-ghost use Rattle.std.specs.Prelude.{◌≡◌};
+ghost use Rattle.std.specs.Prelude.{◌≡◌, ◌≤◌};
 
 use pth_base::marks::Marks;
 use pth_base::outcome::Outcome;
@@ -13,20 +13,21 @@ use std::alloc::Global;
 use std::io::Read;
 use std::process::ExitCode;
 
-// Steps are made in pieces of so many, and there are at most so many pieces.
+// Steps are made in pieces of so many, up to so many in all.
 const PIECE: u64 = 1000;
-const PIECES: u64 = 1000;
+
+const MOST: u64 = 1_000_000;
 
 /// Makes the steps of a run up to its end, or a million of them.
 fn run_to_end<P: Program>(alloc: Global, machine: &mut Machine<P>)
-    requires { machine.old.steps ≡ 0 }
+    ensures { machine.new.outcome ≡ Outcome.Running → 1000000 ≤ machine.new.steps }
 {
     let mut marks = Marks::new(alloc);
-    for _piece in 0..PIECES {
+    while machine.steps() < MOST {
         marks.clear();
         match machine.advance(PIECE, &mut marks) {
             Outcome::Running => {}
-            _ => break,
+            _ => return,
         }
     }
 }
