@@ -47,10 +47,10 @@ module _ {P S H : Type 0} where
     joins n to far i j k le runs a b = elim (is_running (run f g j).state.rest.scheduler.outcome) [
       | inl on ↦ goes-then f g n far i j k le a (subst (λ (x : ℕ). GoesTo f g x j k) (runs on) b)
       | inr ended ↦ subst (λ (x : ℕ). GoesTo f g far i x) (sym (stays_at to j k (stops_any to (run f g j).state ended) b)) (record {
-          later = a.later;
-          here = stops_any far (run f g j).state ended;
-          first = λ l from below. stops-later n far (run f g l).state le (a.first l from below);
-        })
+        later = a.later;
+        here = stops_any far (run f g j).state ended;
+        first = λ l from below. stops-later n far (run f g l).state le (a.first l from below);
+      })
     ]
 
     -- n steps and then k steps are n + k steps

@@ -115,6 +115,7 @@ module _ {P S H : Type 0} where
     where
       kept : outcome_of (all_new s) ≡ Running
       kept = ap (λ (x : Turn). x.outcome) (turn-all_readied (reverse (who_in (queue s queues.New))) s) ∙ on
+
       by_next : (o : Option ℕ) → outcome_of (dispatched_by (all_new s) o).state ≡ Ended v → EndsMain s
       by_next None h = absurd (running_ended v (sym kept ∙ h))
       by_next (Some t) h = absurd (running_ended v (sym kept ∙ sym (ap (λ (x : Turn). x.outcome) (turn-runs (all_new s) t)) ∙ h))
