@@ -107,7 +107,7 @@ fn place<P: Program>(w: &mut World<P>, t: Tid)
         return;
     }
     if w.held(t).is_some() {
-        w.put_waiting(t);
+        w.make_waiting(t);
     } else {
         w.put_back(t);
     }

@@ -10,7 +10,8 @@ ghost use Rattle.pth_world.specs.contracts.world.World.{the_row};
 ghost use Rattle.pth_model.specs.State.{State};
 ghost use Rattle.pth_model.specs.Changes.{running_is, naming};
 ghost use Rattle.pth_model.specs.Part.{at_moment};
-ghost use Rattle.pth_world.specs.Standing.{StandsFor, IsSound, Whole, IsKnown};
+ghost use Rattle.pth_model.specs.Pass.{prio_of};
+ghost use Rattle.pth_world.specs.Standing.{StandsFor, IsSound, IsPrio, Whole, IsKnown};
 
 mod going;
 mod moves;
@@ -117,6 +118,17 @@ impl<P: Program> World<P> {
             Some(slot) => slot,
             None => unreachable!(),
         }
+    }
+
+    // The base priority of a thread.
+    fn prio(&self, t: Tid) -> i64
+        requires sound { IsSound self.now }
+        requires known { IsKnown self.now t.0 }
+        ensures prio { (s : State P P.State P.Shared) → StandsFor self.now s → result ≡ prio_of s t.0 }
+        ensures low { IsPrio result }
+    {
+        let slot = self.slot(t);
+        self.threads().get(slot).prio
     }
 
     /// How many bodies the program has.

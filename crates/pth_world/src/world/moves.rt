@@ -9,10 +9,10 @@ ghost use Rattle.pth_threads.specs.declared.entry.Change.TheVariants as change;
 ghost use Rattle.pth_model.specs.State.{State};
 ghost use Rattle.pth_model.specs.Changes.{running_is};
 ghost use Rattle.pth_model.specs.Ending.{dead, gone};
-ghost use Rattle.pth_model.specs.Pass.{readied, prio_of};
+ghost use Rattle.pth_model.specs.Pass.{readied};
 ghost use Rattle.pth_model.specs.Part.{put_back, put_waiting, runs, last_count};
 ghost use Rattle.pth_world.specs.Ranks.{greatest_return, KeepsRanks};
-ghost use Rattle.pth_world.specs.Standing.{StandsFor, Whole, IsSound, IsPrio, IsKnown, IsIn, IsBefore, SameThreads, KeepsScheduler};
+ghost use Rattle.pth_world.specs.Standing.{StandsFor, Whole, IsPrio, IsKnown, IsIn, IsBefore, SameThreads, KeepsScheduler};
 
 use crate::world::World;
 use pth_base::ids::Tid;
@@ -68,17 +68,6 @@ impl<P: Program> World<P> {
         self.name_next(None);
     }
 
-    // The base priority of a thread.
-    fn prio(&self, t: Tid) -> i64
-        requires sound { IsSound self.now }
-        requires known { IsKnown self.now t.0 }
-        ensures prio { (s : State P P.State P.Shared) → StandsFor self.now s → result ≡ prio_of s t.0 }
-        ensures low { IsPrio result }
-    {
-        let slot = self.slot(t);
-        self.threads().get(slot).prio
-    }
-
     /// The thread that runs is ready again, at its base priority.
     pub fn put_back(&mut self, t: Tid)
         requires whole { Whole self.old }
@@ -96,7 +85,7 @@ impl<P: Program> World<P> {
     }
 
     /// The thread that runs waits, at its base priority.
-    pub fn put_waiting(&mut self, t: Tid)
+    pub fn make_waiting(&mut self, t: Tid)
         requires whole { Whole self.old }
         requires runs { self.old.running ≡ Some t.0 }
         ensures stands { (s : State P P.State P.Shared) → StandsFor self.old s → StandsFor self.new (running_is (put_waiting s t.0) None) }
@@ -106,10 +95,8 @@ impl<P: Program> World<P> {
         ensures ranks { KeepsRanks self.old self.new }
         ensures same { self.new ≡ record self.old { threads = self.new.threads; queues = self.new.queues; running = None } }
     {
-        let prio = self.prio(t);
         self.set_running(None);
-        self.change(t, Change::State(ThreadState::Waiting));
-        self.put_in(t, Queue::Waiting, prio);
+        self.put_waiting(t);
     }
 
     /// The thread that runs is dead, and keeps a value until it is joined.

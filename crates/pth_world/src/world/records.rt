@@ -1,6 +1,6 @@
 //! The records of threads: changes, new threads, and threads that are gone.
 
-ghost use Rattle.std.specs.Prelude.{◌≡◌, ◌≢◌, ◌<◌, ◌+◌, ◌↔◌, ℕ, Bool, false, Option, Some, None, IfSome, IfOk, OnOk, OnErr, IsErrOf, option_copied, nat_lt, pos};
+ghost use Rattle.std.specs.Prelude.{◌≡◌, ◌≢◌, ◌<◌, ◌+◌, ◌↔◌, ℕ, ℤ, Bool, false, Option, Some, None, IfSome, IfOk, OnOk, OnErr, IsErrOf, option_copied, nat_lt, pos};
 ghost use Rattle.pth_queue.specs.declared.queue.Queue.TheVariants as queue;
 ghost use Rattle.pth_queue.specs.Queues.{IsNowhere, IsRank, entered, without};
 ghost use Rattle.pth_base.specs.declared.thread.ThreadState.TheVariants as state;
@@ -8,6 +8,7 @@ ghost use Rattle.pth_threads.specs.declared.entry.Change.TheVariants as change;
 ghost use Rattle.pth_threads.specs.Threads.{slot_of, tid_at, count, IsCountable, IsSame, Removes};
 ghost use Rattle.pth_model.specs.State.{State, start, present};
 ghost use Rattle.pth_model.specs.Changes.{with_change, with_entry, with_thread, without_entry, without_thread};
+ghost use Rattle.pth_model.specs.Part.{put_waiting};
 ghost use Rattle.pth_model.specs.Rows.{thread_limit};
 ghost use Rattle.pth_world.specs.World.{first_thread};
 ghost use Rattle.pth_world.specs.Ranks.{KeepsRanks};
@@ -190,5 +191,22 @@ impl<P: Program> World<P> {
     {
         self.change(t, Change::State(ThreadState::Ready));
         self.put_in(t, Queue::Ready, rank);
+    }
+
+    /// Makes a thread wait, and puts it into the waiting queue at its base priority.
+    pub fn put_waiting(&mut self, t: Tid)
+        requires sound { IsSound self.old }
+        requires known { IsKnown self.old t.0 }
+        requires nowhere { IfSome (slot_of self.old.threads t.0) (λ u. IsNowhere u self.old.queues) }
+        ensures stands { (s : State P P.State P.Shared) → StandsFor self.old s → StandsFor self.new (put_waiting s t.0) }
+        ensures sound { IsSound self.new }
+        ensures touches { Touches self.old self.new t.0 (λ v. places (Some queue.Waiting) (changes (change.State state.Waiting) v)) }
+        ensures threads { SameThreads self.old self.new }
+        ensures queues { IfSome (slot_of self.old.threads t.0) (λ u. (prio : ℤ) × IsPrio prio × (self.new.queues ≡ entered queue.Waiting prio u self.old.queues)) }
+        ensures same { self.new ≡ record self.old { threads = self.new.threads; queues = self.new.queues } }
+    {
+        let prio = self.prio(t);
+        self.change(t, Change::State(ThreadState::Waiting));
+        self.put_in(t, Queue::Waiting, prio);
     }
 }

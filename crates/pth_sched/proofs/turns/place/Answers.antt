@@ -13,7 +13,7 @@ returns-then-is_some-clause-stands g c =
     let runs : IsSome c.args.w.now.running = search rules in
     λ s st.
     let held : is_some (held_of s c.args.t.0) ≡ true = (rw (← c.held.ensures s st) (search rules)) in
-    placed_waiting c.args.w.now _ s c.args.t.0 runs held st (c.put_waiting.ensures.stands s st)
+    placed_waiting c.args.w.now _ s c.args.t.0 runs held st (c.make_waiting.ensures.stands s st)
 
 pub returns-else-is_some-clause-stands : goal.returns-else-is_some-clause-stands
 returns-else-is_some-clause-stands g c =
