@@ -7,19 +7,22 @@ ghost use Rattle.pth_model.specs.State.{State, queue as rows};
 ghost use Rattle.pth_model.specs.Changes.{held_of, raised};
 ghost use Rattle.pth_model.specs.Pass.{who_in};
 ghost use Rattle.pth_model.specs.Part.{all_readied, closing, new_rank, next_by, placed, went_by};
+ghost use Rattle.pth_model.specs.Waits.{begun};
 ghost use Rattle.pth_world.specs.Standing.{StandsFor, IsSound, Whole, IsKnown, IsIn, KeepsScheduler};
 ghost use Rattle.pth_world.specs.Ranks.{IsUnder, KeepsRanks, greatest_return};
 ghost use Rattle.pth_world.specs.Leading.{Leads, IsCut};
 ghost use Rattle.pth_waits.specs.Running.{runs_after};
 ghost use Rattle.pth_sched.specs.Passing.{HasRoom};
 
+use pth_base::call::Call;
 use pth_base::ids::{Micros, Tid};
 use pth_base::marks::Marks;
 use pth_base::memory::OutOfMemory;
 use pth_base::program::Program;
+use pth_calls::calls::begin_plain;
 use pth_model::next::Next;
 use pth_queue::queue::Queue;
-use pth_waits::waits::{begin, resume};
+use pth_waits::waits::{begin, resume, suspends};
 use pth_world::world::World;
 
 // Where moments stand still.
@@ -69,6 +72,31 @@ pub fn next<P: Program>(w: &World<P>) -> Tid
     }
 }
 
+// Begins a call of the thread that runs, and tells of it. After an error the world may only be dropped.
+fn begin_call<P: Program>(
+    w: &mut World<P>,
+    t: Tid,
+    call: Call,
+    marks: &mut Marks,
+) -> Result<Next, OutOfMemory>
+    requires whole { Whole w.old }
+    requires runs { w.old.running ≡ Some t.0 }
+    requires few { w.old.threads.made < 2147483648 }
+    ensures next { IfOk result (λ n. (s : State P P.State P.Shared) → StandsFor w.old s → n ≡ (begun P.functions s t.0 call).next) }
+    ensures ok { OnOk result ((s : State P P.State P.Shared) → StandsFor w.old s → Leads w.new marks.old marks.new (begun P.functions s t.0 call).told) }
+    ensures err { OnErr result ((s : State P P.State P.Shared) → StandsFor w.old s → IsCut marks.old marks.new (begun P.functions s t.0 call).told.marks) }
+    ensures whole { OnOk result (Whole w.new) }
+    ensures made { OnOk result (w.new.threads.made ≤ w.old.threads.made + 1) }
+    ensures named { OnOk result (w.new.named ≡ w.old.named) }
+    ensures runs { IfOk result (λ n. w.new.running ≡ runs_after t.0 n) }
+    ensures ranks { OnOk result (KeepsRanks w.old w.new) }
+{
+    if suspends(&call) {
+        return begin(w, t, call, marks);
+    }
+    Ok(Next::Done(begin_plain(w, t, &call, marks)?))
+}
+
 /// The thread that runs tries its suspended call again, or begins the program's next call. After an error the world may
 /// only be dropped.
 pub fn go_on<P: Program>(w: &mut World<P>, t: Tid, marks: &mut Marks) -> Result<Next, OutOfMemory>
@@ -89,7 +117,7 @@ pub fn go_on<P: Program>(w: &mut World<P>, t: Tid, marks: &mut Marks) -> Result<
     }
     let answer = w.take_owed(t);
     let call = w.next_call(t, &answer)?;
-    begin(w, t, &call, marks)
+    begin_call(w, t, call, marks)
 }
 
 // The thread that gave up control is put back, unless it has ended.

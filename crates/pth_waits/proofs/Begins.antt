@@ -27,13 +27,14 @@ module _ {P S H : Type 0} (f : P → Functions S H) (s : State P S H) (t : ℕ) 
 abbrev pub held_at : Call → ℕ → Held
 held_at c m = record { call = c; begin = m; moment = 0; written = 0; round = 0; retake = No }
 
--- every other call goes on at once
+-- a call that is neither an exit nor a yield is its row, and goes on at once
 pub begins_plain : {P S H : Type 0} (f : P → Functions S H) (s : State P S H) (t : ℕ) (c : Call) → ((v : ℤ) → c ≢ call.Exit v) → ((u : ℤ) → c ≢ call.Yield u) → begun f s t c ≡ record { told = plain_row f s t c; next = Done (answer_of f s t (split c)) }
 unfolding begun
 begins_plain f s t (call.Exit v) no_exit no_yield = absurd (no_exit v refl)
 begins_plain f s t (call.Yield u) no_exit no_yield = absurd (no_yield u refl)
 begins_plain f s t c no_exit no_yield = refl
 
+-- a call that may suspend its thread and is neither an exit nor a yield is not built
 pub unbuilt : (c : Call) → suspends c ≡ true → ((v : ℤ) → c ≢ call.Exit v) → ((u : ℤ) → c ≢ call.Yield u) → split c ≡ Unbuilt
 unbuilt (call.Exit v) waits no_exit no_yield = absurd (no_exit v refl)
 unbuilt (call.Yield u) waits no_exit no_yield = absurd (no_yield u refl)
@@ -42,11 +43,15 @@ unbuilt call.Plain waits no_exit no_yield = cc
 unbuilt (call.Note v) waits no_exit no_yield = cc
 unbuilt c waits no_exit no_yield = refl
 
-pub goes_on-exit : (c : Call) (v : ℤ) → suspends c ≡ false → c ≢ call.Exit v
+goes_on-exit : (c : Call) (v : ℤ) → suspends c ≡ false → c ≢ call.Exit v
 goes_on-exit c v goes is = cc
 
-pub goes_on-yield : (c : Call) (u : ℤ) → suspends c ≡ false → c ≢ call.Yield u
+goes_on-yield : (c : Call) (u : ℤ) → suspends c ≡ false → c ≢ call.Yield u
 goes_on-yield c u goes is = cc
+
+-- a call that does not suspend its thread is its row, and goes on at once
+pub goes_on : {P S H : Type 0} (f : P → Functions S H) (s : State P S H) (t : ℕ) (c : Call) → suspends c ≡ false → begun f s t c ≡ record { told = plain_row f s t c; next = Done (answer_of f s t (split c)) }
+goes_on f s t c goes = begins_plain f s t c (λ v. goes_on-exit c v goes) (λ u. goes_on-yield c u goes)
 
 module _ {P S H : Type 0} (s : State P S H) (t : ℕ) where
   pub never_wakes : (c : Call) → ((v : ℤ) → c ≢ call.Exit v) → wakes_by s t (split c) ≡ false

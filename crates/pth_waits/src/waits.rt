@@ -1,6 +1,6 @@
 //! Calls that may suspend their thread.
 
-ghost use Rattle.std.specs.Prelude.{◌≡◌, ◌<◌, ◌≤◌, ◌+◌, ◌==◌, ◌&&◌, ℕ, not, true, Some, IfOk, OnOk, OnErr};
+ghost use Rattle.std.specs.Prelude.{◌≡◌, ◌==◌, ◌&&◌, not, true, Some, IfOk, OnOk, OnErr};
 ghost use Rattle.pth_base.specs.declared.call.Call.TheVariants.{Exit, Yield};
 ghost use Rattle.pth_model.specs.State.{State};
 ghost use Rattle.pth_model.specs.Waits.{main, is_alone, begun, exit_again, resumed, wakes as wakes_now, suspends as may_suspend};
@@ -18,7 +18,7 @@ use pth_base::mark::Mark;
 use pth_base::marks::Marks;
 use pth_base::memory::OutOfMemory;
 use pth_base::program::Program;
-use pth_calls::calls::{begin_plain, tell};
+use pth_calls::calls::tell;
 use pth_model::held::{Held, Retake};
 use pth_model::next::Next;
 use pth_world::world::World;
@@ -26,8 +26,8 @@ use pth_world::world::World;
 // The main thread's number.
 const MAIN: u32 = 1;
 
-// Whether a call may suspend its thread, or end it or its turn.
-fn suspends(call: &Call) -> bool
+/// Whether a call may suspend its thread, or end it or its turn.
+pub fn suspends(call: &Call) -> bool
     ensures { result ≡ may_suspend call.now }
 {
     matches!(
@@ -97,16 +97,16 @@ fn must_wait<P: Program>(w: &World<P>, t: Tid) -> bool
 fn begin_exit<P: Program>(
     w: &mut World<P>,
     t: Tid,
-    call: &Call,
+    call: Call,
     value: i64,
     marks: &mut Marks,
 ) -> Result<Next, OutOfMemory>
     requires whole { Whole w.old }
     requires runs { w.old.running ≡ Some t.0 }
-    requires call { call.now ≡ Exit value }
-    ensures next { IfOk result (λ n. (s : State P P.State P.Shared) → StandsFor w.old s → n ≡ (begun P.functions s t.0 call.now).next) }
-    ensures ok { OnOk result ((s : State P P.State P.Shared) → StandsFor w.old s → Leads w.new marks.old marks.new (begun P.functions s t.0 call.now).told) }
-    ensures err { OnErr result ((s : State P P.State P.Shared) → StandsFor w.old s → IsCut marks.old marks.new (begun P.functions s t.0 call.now).told.marks) }
+    requires call { call ≡ Exit value }
+    ensures next { IfOk result (λ n. (s : State P P.State P.Shared) → StandsFor w.old s → n ≡ (begun P.functions s t.0 call).next) }
+    ensures ok { OnOk result ((s : State P P.State P.Shared) → StandsFor w.old s → Leads w.new marks.old marks.new (begun P.functions s t.0 call).told) }
+    ensures err { OnErr result ((s : State P P.State P.Shared) → StandsFor w.old s → IsCut marks.old marks.new (begun P.functions s t.0 call).told.marks) }
     ensures whole { OnOk result (Whole w.new) }
     ensures made { OnOk result (w.new.threads.made ≡ w.old.threads.made) }
     ensures named { OnOk result (w.new.named ≡ w.old.named) }
@@ -117,11 +117,15 @@ fn begin_exit<P: Program>(
         end_thread(w, t, value, marks)?;
         return Ok(Next::Ended(value));
     }
+    let mark = Mark::Waits {
+        tid: t,
+        call: call.copy()?,
+    };
     let begin = w.time();
     w.hold(
         t,
         Held {
-            call: call.copy()?,
+            call,
             begin,
             moment: 0,
             written: 0,
@@ -129,41 +133,38 @@ fn begin_exit<P: Program>(
             retake: Retake::No,
         },
     );
-    marks.push(Mark::Waits {
-        tid: t,
-        call: call.copy()?,
-    })?;
+    marks.push(mark)?;
     Ok(Next::Waits)
 }
 
-/// Begins a call of the thread that runs, and tells of it. After an error the world may only be dropped.
+/// Begins a call that may suspend the thread that runs, or end it or its turn, and tells of it. After an error the world
+/// may only be dropped.
 pub fn begin<P: Program>(
     w: &mut World<P>,
     t: Tid,
-    call: &Call,
+    call: Call,
     marks: &mut Marks,
 ) -> Result<Next, OutOfMemory>
     requires whole { Whole w.old }
     requires runs { w.old.running ≡ Some t.0 }
-    requires few { w.old.threads.made < 2147483648 }
-    ensures next { IfOk result (λ n. (s : State P P.State P.Shared) → StandsFor w.old s → n ≡ (begun P.functions s t.0 call.now).next) }
-    ensures ok { OnOk result ((s : State P P.State P.Shared) → StandsFor w.old s → Leads w.new marks.old marks.new (begun P.functions s t.0 call.now).told) }
-    ensures err { OnErr result ((s : State P P.State P.Shared) → StandsFor w.old s → IsCut marks.old marks.new (begun P.functions s t.0 call.now).told.marks) }
+    requires suspends { may_suspend call ≡ true }
+    ensures next { IfOk result (λ n. (s : State P P.State P.Shared) → StandsFor w.old s → n ≡ (begun P.functions s t.0 call).next) }
+    ensures ok { OnOk result ((s : State P P.State P.Shared) → StandsFor w.old s → Leads w.new marks.old marks.new (begun P.functions s t.0 call).told) }
+    ensures err { OnErr result ((s : State P P.State P.Shared) → StandsFor w.old s → IsCut marks.old marks.new (begun P.functions s t.0 call).told.marks) }
     ensures whole { OnOk result (Whole w.new) }
-    ensures made { OnOk result (w.new.threads.made ≤ w.old.threads.made + 1) }
+    ensures made { OnOk result (w.new.threads.made ≡ w.old.threads.made) }
     ensures named { OnOk result (w.new.named ≡ w.old.named) }
     ensures runs { IfOk result (λ n. w.new.running ≡ runs_after t.0 n) }
     ensures ranks { OnOk result (KeepsRanks w.old w.new) }
 {
     match call {
-        Call::Exit(value) => begin_exit(w, t, call, *value, marks),
-        Call::Yield(to) => begin_yield(w, t, call, *to, marks),
-        _ if suspends(call) => {
+        Call::Exit(value) => begin_exit(w, t, call, value, marks),
+        Call::Yield(to) => begin_yield(w, t, &call, to, marks),
+        _ => {
             let answer = Answer::Fail(Errno::EINVAL);
-            tell(t, call, &answer, marks)?;
+            tell(t, &call, &answer, marks)?;
             Ok(Next::Done(answer))
         }
-        _ => Ok(Next::Done(begin_plain(w, t, call, marks)?)),
     }
 }
 
