@@ -89,28 +89,32 @@ impl<P: Program> Machine<P> {
 
     /// How many steps were made.
     pub fn steps(&self) -> u64
-        ensures { result ≡ self.now.steps }
+        ensures value { result ≡ self.now.steps }
+        ensures state { (s : State P P.State P.Shared) → Stands self.now s → result ≡ s.rest.scheduler.steps }
     {
         self.schedule.steps()
     }
 
     /// How many turns began.
     pub fn turns(&self) -> u64
-        ensures { result ≡ self.now.turns }
+        ensures value { result ≡ self.now.turns }
+        ensures state { (s : State P P.State P.Shared) → Stands self.now s → result ≡ s.rest.scheduler.turns }
     {
         self.schedule.turns()
     }
 
     /// How many threads were made so far.
     pub fn made(&self) -> u64
-        ensures { result ≡ self.now.world.threads.made }
+        ensures value { result ≡ self.now.world.threads.made }
+        ensures state { (s : State P P.State P.Shared) → Stands self.now s → result ≡ s.rest.threads.made }
     {
         u64::from(self.schedule.world().threads().made())
     }
 
     /// The moment, in microseconds.
     pub fn now(&self) -> Micros
-        ensures { result ≡ self.now.world.time }
+        ensures value { result ≡ self.now.world.time }
+        ensures state { (s : State P P.State P.Shared) → Stands self.now s → result ≡ s.rest.scheduler.now }
     {
         self.schedule.world().time()
     }
