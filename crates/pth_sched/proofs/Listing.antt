@@ -33,9 +33,6 @@ module _ {P S H : Type 0} (s : State P S H) where
     pub next_is : next ≡ head_of back
     pub listed : list ≡ filter (wakes s) (who_in front)
 
-  pub walk_first : (next : Option ℕ) → next ≡ head_of (queue s queues.Waiting) → Walked [] next
-  walk_first next is = record { front = []; back = queue s queues.Waiting; split = refl; next_is = is; listed = refl }
-
   one_more : (front : List Row) (r : Row) → filter (wakes s) (who_in (front ++ r ∷ [])) ≡ filter (wakes s) (who_in front) ++ (if wakes s r.who then r.who ∷ [] else [])
   one_more front r = ap (filter (wakes s)) (map-append (λ (x : Row). x.who) front (r ∷ [])) ∙ kept (wakes s) (who_in front) (r.who ∷ [])
 

@@ -92,15 +92,6 @@ module _ {P S H : Type 0} (m v : MachineOf P S H) where
         omega arith;
   }
 
-  -- an outcome
-  pub end_roofed : IsRoofed m → v.world ≡ m.world → v.gave ≡ m.gave → v.turns ≡ m.turns → IsRoofed v
-  end_roofed r world gave turns = record {
-    roof = r.roof;
-    low = r.low;
-    under = subst (λ (w : WorldOf P S H). IsUnder r.roof w.queues.ready) (sym world) r.under;
-    few = rw (world, gave, turns) r.few;
-  }
-
 -- one row, at rank 0
 one_under : (f : ℕ → ℕ) (rows : List Row) (x : Row) → x.rank ≡ pos 0 → map (named_row f) rows ≡ x ∷ [] → IsUnder greatest_return rows
 one_under f [] x zero is = absurd (cc is)

@@ -17,8 +17,8 @@ use Rattle.pth_model.specs.Pass.{who_in, prio_of, readied, woken, all_woken, to_
 use Rattle.pth_world.specs.World.{WorldOf}
 use Rattle.pth_world.specs.Standing.{StandsFor, IsSound, IsKnown, SameThreads}
 use Rattle.pth_world.specs.Leading.{Leads, IsCut}
-use Rattle.pth_world.proofs.Places.{queue-entered_other, queue-without_other}
 use Rattle.pth_world.proofs.QueueReads.{once_thread, stands_at}
+use Rattle.pth_world.proofs.Walks.{in-readied}
 use Rattle.pth_sched.specs.Passing.{IsWaiting, IsNotIn, WaitOnce}
 
 -- ---- one thread
@@ -34,15 +34,7 @@ module _ {P S H : Type 0} where
   -- another thread that waits goes on waiting
   pub waits_still : (w v : WorldOf P S H) (t u : ℕ) (rank : ℤ) → IsSound w → IsKnown w t → SameThreads w v → IfSome (slot_of w.threads t) (λ x. v.queues ≡ entered Ready rank x (without x w.queues)) → u ≢ t → IsWaiting w u → IsWaiting v u
   waits_still w v t u rank sound known same queues apart waits =
-      subst (λ (f : ℕ → Option ℕ). IsSome (f u) × IfSome (f u) (λ y. queue_of y v.queues ≡ Some Waiting)) (sym same.slots)
-      (by_slots (slot_of w.threads t) (slot_of w.threads u) refl refl known queues waits)
-    where
-      by_slots : (o p : Option ℕ) → slot_of w.threads t ≡ o → slot_of w.threads u ≡ p → IsSome o → IfSome o (λ x. v.queues ≡ entered Ready rank x (without x w.queues)) → IsSome p × IfSome p (λ y. queue_of y w.queues ≡ Some Waiting) → IsSome p × IfSome p (λ y. queue_of y v.queues ≡ Some Waiting)
-      by_slots None p e f some h k = absurd (cc some)
-      by_slots (Some x) None e f some h k = absurd (cc k.0)
-      by_slots (Some x) (Some y) e f some h k =
-          let other : y ≢ x = λ is. apart (sym (sound.tied.tid u y f) ∙ ap (tid_at w.threads) is ∙ sound.tied.tid t x e) in
-          (k.0, ap (queue_of y) h ∙ queue-entered_other x rank (without x w.queues) y Ready other ∙ queue-without_other x y w.queues other ∙ k.1)
+      (subst (λ (f : ℕ → Option ℕ). IsSome (f u)) (sym same.slots) waits.0, in-readied w v t u Waiting rank sound known same queues apart waits.1)
 
   -- and so do others, none of which is this one
   pub wait_once : (w v : WorldOf P S H) (t : ℕ) (ts : List ℕ) → ((u : ℕ) → u ≢ t → IsWaiting w u → IsWaiting v u) → IsNotIn t ts → WaitOnce w ts → WaitOnce v ts

@@ -1,10 +1,12 @@
 //! Laws of every run.
 
-ghost use Rattle.std.specs.Prelude.{◌≡◌, ◌≢◌, ◌+◌, ◌∷◌, ℕ, ℤ, true, List};
+ghost use Rattle.std.specs.Prelude.{◌≡◌, ◌≢◌, ◌+◌, [], ◌∷◌, ℕ, ℤ, true, List};
 ghost use Rattle.pth_base.specs.declared.mark.Mark.{Mark as MarkOf};
+ghost use Rattle.pth_base.specs.declared.mark.Mark.TheVariants.{Ended as End};
 ghost use Rattle.pth_base.specs.declared.outcome.Outcome.TheVariants.{Running, Ended};
 ghost use Rattle.pth_model.specs.State.{Given};
-ghost use Rattle.pth_model.specs.Run.{run, GoesTo};
+ghost use Rattle.pth_model.specs.Told.{tid};
+ghost use Rattle.pth_model.specs.Run.{run, IsBetween};
 ghost use Rattle.pth_model.specs.Part.{Step, next_part};
 ghost use Rattle.pth_model.specs.Waits.{is_alone, main};
 ghost use Rattle.pth_sched.specs.MachineOf.{MachineOf};
@@ -20,9 +22,10 @@ pub fn cut_anywhere<P: Program>()
     ensures same_outcome { (g : Given P) (to i : ℕ) (t u : MachineOf P P.State P.Shared) (a b c : List MarkOf) → GoesOn P.functions g to i t a b → GoesOn P.functions g to i u a c → t.outcome ≡ u.outcome }
 {}
 
-/// The exit of the main thread ends a run, and only where no other thread is new, ready, waiting or suspended
-/// (`pth_exit`).
+/// The exit of the main thread ends a run, and only where no other thread is new, ready, waiting or suspended. The run ends
+/// with the value that is told of main's end (`pth_exit`).
 pub fn main_ends_last<P: Program>()
     ensures step { (g : Given P) (i : ℕ) (v : ℤ) → (run P.functions g i).state.rest.scheduler.outcome ≡ Running → (run P.functions g (i + 1)).state.rest.scheduler.outcome ≡ Ended v → next_part (run P.functions g i).state ≡ Step main }
     ensures alone { (g : Given P) (i : ℕ) (v : ℤ) → (run P.functions g i).state.rest.scheduler.outcome ≡ Running → (run P.functions g (i + 1)).state.rest.scheduler.outcome ≡ Ended v → is_alone (run P.functions g i).state main ≡ true }
+    ensures value { (g : Given P) (i : ℕ) (v : ℤ) → (run P.functions g i).state.rest.scheduler.outcome ≡ Running → (run P.functions g (i + 1)).state.rest.scheduler.outcome ≡ Ended v → IsBetween P.functions g i (i + 1) (End (tid main) v ∷ []) }
 {}

@@ -72,7 +72,7 @@ fn wake<P: Program>(w: &mut World<P>, t: Tid, marks: &mut Marks) -> Result<(), O
     ensures ranks { KeepsRanks w.old w.new }
 {
     let rank = woken_rank(w, t);
-    w.make_ready(t, Queue::Waiting, rank);
+    w.make_ready(t, rank);
     marks.push(Mark::Woke { tid: t, rank })
 }
 

@@ -1,4 +1,4 @@
-//! The parts of a run: a thread is taken, it makes a step, its turn is closed, and time moves.
+//! The parts of a run: a thread is taken, it makes a step, and its turn is closed.
 
 ghost use Rattle.std.specs.Prelude.{◌≡◌, ◌≢◌, ◌≤◌, ◌+◌, ◌<◌, ℕ, [], true, false, Some, None, IsSome, IfSome, IfOk, OnOk, OnErr, length};
 ghost use Rattle.pth_model.specs.State.{State, Given};

@@ -53,7 +53,7 @@ pub fn ready_new<P: Program>(w: &mut World<P>)
 {
     while let Some(t) = w.last(Queue::New) {
         let rank = new_rank(w);
-        w.make_ready(t, Queue::New, rank);
+        w.make_ready(t, rank);
     }
 }
 

@@ -8,12 +8,6 @@ use Rattle.pth_world.specs.Leading.{Leads, IsCut}
 pub cut_none : (old marks : List Mark) → IsCut old old marks
 cut_none old marks = record { first = []; rest = marks; new_is = sym (append-nil old); all_is = refl }
 
-pub cut_all : (old new marks : List Mark) → new ≡ old ++ marks → IsCut old new marks
-cut_all old new marks told = record { first = marks; rest = []; new_is = told; all_is = append-nil marks }
-
-pub leads_then : {P S H : Type 0} (v w : WorldOf P S H) (old mid new : List Mark) (one two : Told P S H) → Leads v old mid one → Leads w mid new two → Leads w old new (followed one two)
-leads_then v w old mid new one two f g = record { stands = g.stands; tells = g.tells ∙ ap (λ m. m ++ two.marks) f.tells ∙ append_assoc old one.marks two.marks }
-
 pub cut_first : (old new one two : List Mark) → IsCut old new one → IsCut old new (one ++ two)
 cut_first old new one two c = record { first = c.first; rest = c.rest ++ two; new_is = c.new_is; all_is = sym (append_assoc c.first c.rest two) ∙ ap (λ m. m ++ two) c.all_is }
 

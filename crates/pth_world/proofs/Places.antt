@@ -73,10 +73,6 @@ nowhere-holds u x h Waiting = (nowhere_by _ _ _ _ _ h).2
 nowhere-holds u x h Suspended = (nowhere_by _ _ _ _ _ h).3
 nowhere-holds u x h Dead = (nowhere_by _ _ _ _ _ h).4
 
--- the same tests, the same queue
-pub queue-same : (v : ℕ) (x y : QueuesOf) → ((q : Queue) → holds v (rows_of q y) ≡ holds v (rows_of q x)) → queue_of v y ≡ queue_of v x
-queue-same v x y same = rw (same New, same Ready, same Waiting, same Suspended, same Dead) refl
-
 pub queue-nowhere : (v : ℕ) (x : QueuesOf) → ((q : Queue) → holds v (rows_of q x) ≡ false) → queue_of v x ≡ None
 queue-nowhere v x none = rw (none New, none Ready, none Waiting, none Suspended, none Dead) refl
 

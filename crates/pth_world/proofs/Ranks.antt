@@ -52,13 +52,6 @@ ranks_none w = record { under = λ roof low h. h; fresh = omega arith }
 pub ranks_then : {P S H : Type 0} (u v w : WorldOf P S H) → KeepsRanks u v → KeepsRanks v w → KeepsRanks u w
 ranks_then u v w a b = record { under = λ roof low h. b.under roof low (a.under roof low h); fresh = (let f = a.fresh in let g = b.fresh in omega arith) }
 
--- the same queues and as many threads made
-pub ranks_same : {P S H : Type 0} (w v : WorldOf P S H) → v.queues ≡ w.queues → v.threads.made ≡ w.threads.made → KeepsRanks w v
-ranks_same w v queues made = record {
-  under = λ roof low h. subst (λ (x : QueuesOf). IsUnder roof x.ready) (sym queues) h;
-  fresh = (let n : length v.queues.new ≡ length w.queues.new = ap (λ (x : QueuesOf). length x.new) queues in omega arith);
-}
-
 -- where the queues are these, and as many threads were made
 module _ {P S H : Type 0} (w v : WorldOf P S H) (x : QueuesOf) (queues : v.queues ≡ x) (made : v.threads.made ≡ w.threads.made) where
   ranks_by : ((roof : ℕ) → greatest_return ≤ roof → IsUnder roof w.queues.ready → IsUnder roof x.ready) → length x.new ≤ length w.queues.new → KeepsRanks w v
@@ -96,10 +89,6 @@ module _ {P S H : Type 0} (w v : WorldOf P S H) (t : ℕ) (known : IsKnown w t) 
   -- a thread is ready that stood in another queue
   pub ranks_ready : (rank : ℤ) → rank ≤ℤ pos greatest_return → IfSome (slot_of w.threads t) (λ u. v.queues ≡ entered queue.Ready rank u (without u w.queues)) → KeepsRanks w v
   ranks_ready rank low h = at_slot (λ u. v.queues ≡ entered queue.Ready rank u (without u w.queues)) h (λ u is. ranks_by w v _ is made (λ roof high under. under-insert roof (record { rank = rank; who = u }) (delete u w.queues.ready) (low_rank rank roof low high) (under-delete roof u w.queues.ready under)) (length-deleted u w.queues.new))
-
-  -- a thread waits
-  pub ranks_waiting : IfSome (slot_of w.threads t) (λ u. (prio : ℤ) × IsPrio prio × (v.queues ≡ entered queue.Waiting prio u w.queues)) → KeepsRanks w v
-  ranks_waiting h = at_slot (λ u. (prio : ℤ) × IsPrio prio × (v.queues ≡ entered queue.Waiting prio u w.queues)) h (λ u is. ranks_by w v _ is.2 made (λ roof low under. under) (omega arith))
 
   -- a thread is dead
   pub ranks_dead : (rank : ℤ) → IfSome (slot_of w.threads t) (λ u. v.queues ≡ entered queue.Dead rank u (without u w.queues)) → KeepsRanks w v

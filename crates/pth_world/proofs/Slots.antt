@@ -12,9 +12,6 @@ some_is h = cc
 pub none_some : {w : ℕ} → None ≡ Some w → ⊥
 none_some h = cc
 
-pub is_some_at : {A : Type 0} (o : Option A) (u : A) → o ≡ Some u → IsSome o
-is_some_at o u e = rw e
-
 -- a base priority is a number of 64 bits
 pub prio_fits : (z : ℤ) → IsPrio z → SFits w64 z
 prio_fits z h = fits_signed_from_abs w64 z (let low = h.low in let high = h.high in grind (arith, ints))

@@ -60,28 +60,7 @@ behind-after w t u q (Some r) p sound e stands h is = less-after t r.0 (map (nam
     ∙ sym (names (tid_at w.threads) p)
     ∙ sym is)
 
--- the same threads in the same order
-pub behind-same : {P S H : Type 0} (w v : WorldOf P S H) (q : Queue) (r : ℕ) → tid_at v.threads ≡ tid_at w.threads → rows_of q v.queues ≡ rows_of q w.queues → behind v q r ≡ behind w q r
-behind-same w v q r tids rows = rw (tids, rows) refl
-
-deleted_by : (t r : ℕ) (x : Row) (xs : List Row) (b : Bool) → r ≢ t → (x.who == t) ≡ b → rows_behind r (delete t xs) ≤ rows_behind r xs → rows_behind r (cond (not b) (x ∷ delete t xs) (delete t xs)) ≤ rows_behind r (x ∷ xs)
-deleted_by t r x xs true apart test h = rw (not_same x.who r (λ same. apart (sym same ∙ same_means x.who t test))) h
-deleted_by t r x xs false apart test h = by_name (is_of r x) h
-  where
-    by_name : (b : Bool) → rows_behind r (delete t xs) ≤ rows_behind r xs → (if b then length (delete t xs) else rows_behind r (delete t xs)) ≤ (if b then length xs else rows_behind r xs)
-    by_name true h = omega (arith, length-delete t xs)
-    by_name false h = h
-
--- no more rows stand behind a row when another is taken out
-behind-deleted : (t r : ℕ) (xs : List Row) → r ≢ t → rows_behind r (delete t xs) ≤ rows_behind r xs
-behind-deleted t r [] apart = omega arith
-behind-deleted t r (x ∷ xs) apart = deleted_by t r x xs (x.who == t) apart refl (behind-deleted t r xs apart)
-
--- and behind a thread when another leaves its queue
-pub behind-left : {P S H : Type 0} (w v : WorldOf P S H) (t u : ℕ) (q : Queue) (r : ℕ) → IsSound w → slot_of w.threads t ≡ Some u → tid_at v.threads ≡ tid_at w.threads → rows_of q v.queues ≡ delete u (rows_of q w.queues) → r ≢ t → behind v q r ≤ behind w q r
-behind-left w v t u q r sound e tids rows apart = rw (tids, rows, delete_named (slot_of w.threads) (tid_at w.threads) t u (rows_of q w.queues) sound.tied e (sound.queued q)) (behind-deleted t r (map (named_row (tid_at w.threads)) (rows_of q w.queues)) apart)
-
--- the same when a thread is ready that stood in that queue or another
+-- a thread is ready that stood in a queue
 module _ {P S H : Type 0} (w v : WorldOf P S H) (t r : ℕ) (q : Queue) (rank : ℤ) (sound : IsSound w) (known : IsKnown w t) (same : SameThreads w v) (queues : IfSome (slot_of w.threads t) (λ u. v.queues ≡ entered queue.Ready rank u (without u w.queues))) (apart : r ≢ t) where
   slot : (u : ℕ) × (slot_of w.threads t ≡ Some u)
   slot = known_slot (slot_of w.threads t) known
@@ -89,10 +68,7 @@ module _ {P S H : Type 0} (w v : WorldOf P S H) (t r : ℕ) (q : Queue) (rank : 
   queues_are : v.queues ≡ entered queue.Ready rank slot.0 (without slot.0 w.queues)
   queues_are = subst (λ (o : Option ℕ). IfSome o (λ u. v.queues ≡ entered queue.Ready rank u (without u w.queues))) slot.1 queues
 
-  pub behind-readied : is_queue q queue.Ready ≡ false → behind v q r ≤ behind w q r
-  behind-readied other = behind-left w v t slot.0 q r sound slot.1 same.tids (ap (rows_of q) queues_are ∙ rows_other q queue.Ready _ (without slot.0 w.queues) other ∙ rows_without q slot.0 w.queues) apart
-
-  -- who stands in a queue still does
+  -- another that stands in a queue still does
   pub in-readied : IsIn q w r → IsIn q v r
   in-readied h = rw same.slots (by_slot (slot_of w.threads r) refl h)
     where

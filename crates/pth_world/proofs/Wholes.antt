@@ -122,19 +122,6 @@ module _ {P S H : Type 0} (w : WorldOf P S H) (whole : Whole w) (x : ThreadsOf) 
 
 -- a refused new thread
 module _ {P S H : Type 0} (w : WorldOf P S H) (x : ThreadsOf) (same : IsSame w.threads x) where
-  pub same_stands : (s : State P S H) → StandsFor w s → StandsFor (record w { threads = x }) s
-  same_stands s st = record {
-    program = st.program;
-    shared = st.shared;
-    threads = record {
-      made = st.threads.made ∙ sym same.made;
-      known = rw (same.slots, same.entries) st.threads.known;
-      going = rw same.slots st.threads.going;
-      standing = λ q. rw same.tids (st.threads.standing q);
-    };
-    scheduler = record { running = st.scheduler.running; named = st.scheduler.named; favour_new = st.scheduler.favour_new; time = st.scheduler.time; clock = st.scheduler.clock };
-  }
-
   same_sound : IsSound w → IsSound (record w { threads = x })
   same_sound sound = record {
     tied = rw (same.slots, same.tids) sound.tied;

@@ -11,8 +11,8 @@ IsUnder roof rows = All (λ r. r.rank ≤ℤ pos roof) rows
 abbrev pub greatest_return : ℕ
 greatest_return = 21
 
--- A change that lifts no ready thread: what no rank of the ready queue was above, none is above now, from the greatest
--- rank of a return up; and new threads are more by no more than the threads that were made.
+-- A change that lifts no ready thread above the others: what no rank of the ready queue was above, none is above now, from
+-- the greatest rank of a return up; and new threads are more by no more than the threads that were made.
 pub record KeepsRanks {P S H : Type 0} (w v : WorldOf P S H) : Type 0 where
   pub under : (roof : ℕ) → greatest_return ≤ roof → IsUnder roof w.queues.ready → IsUnder roof v.queues.ready
   pub fresh : length v.queues.new + w.threads.made ≤ length w.queues.new + v.threads.made

@@ -34,8 +34,9 @@ pub record StandsForScheduler {P S H : Type 0} (w : WorldOf P S H) (s : State P 
   pub time : s.rest.scheduler.now ≡ w.time
   pub clock : s.rest.scheduler.clock ≡ w.clock
 
--- The world stands for this state. It does not show turns, steps, raises, entries, who gave up control, and where in
--- the order of entries a thread stands: in place of these it shows each queue's order and ranks.
+-- The world stands for this state. It does not show the core, turns, steps, the outcome, who gave up control, raises,
+-- entries, and where in the order of entries a thread stands: in place of the last three it shows each queue's order and
+-- ranks.
 pub record StandsFor {P S H : Type 0} (w : WorldOf P S H) (s : State P S H) : Type 0 where
   pub program : s.rest.program ≡ w.program
   pub shared : s.rest.shared ≡ w.shared
@@ -138,12 +139,6 @@ pub record Whole {P S H : Type 0} (w : WorldOf P S H) : Type 0 where
   pub fits : (u : ℕ) → Fits w.running (view w u)
   pub runner : IsRunner w
 
--- the same, but for thread t: a world between two of its changes of t
-pub record WholeBut {P S H : Type 0} (w : WorldOf P S H) (t : ℕ) : Type 0 where
-  pub sound : IsSound w
-  pub fits : (u : ℕ) → tid_at w.threads u ≢ t → Fits w.running (view w u)
-  pub runner : IfSome w.running (λ r. r ≢ t → IsKnown w r)
-
 -- what a change of one thread leaves: the others have what they had, and this one what the change makes of it
 pub record Touches {P S H : Type 0} (old new : WorldOf P S H) (t : ℕ) (change : View → View) : Type 0 where
   pub own : (u : ℕ) → slot_of old.threads t ≡ Some u → view new u ≡ change (view old u)
@@ -180,6 +175,12 @@ IsIn q w t = IfSome (slot_of w.threads t) (λ u. queue_of u w.queues ≡ Some q)
 pub data IsBefore : Queue → Type 0 where
   Newly : IsBefore queue.New
   Waiting : IsBefore queue.Waiting
+
+-- the thread stands in one of these
+pub record IsBeforeReady {P S H : Type 0} (w : WorldOf P S H) (t : ℕ) : Type 0 where
+  pub queue : Queue
+  pub before : IsBefore queue
+  pub stands : IsIn queue w t
 
 -- what a change of threads leaves as it was
 pub record KeepsScheduler {P S H : Type 0} (old new : WorldOf P S H) : Type 0 where

@@ -12,7 +12,7 @@ ghost use Rattle.pth_model.specs.Ending.{dead, gone};
 ghost use Rattle.pth_model.specs.Pass.{readied};
 ghost use Rattle.pth_model.specs.Part.{put_back, put_waiting, runs, last_count};
 ghost use Rattle.pth_world.specs.Ranks.{greatest_return, KeepsRanks};
-ghost use Rattle.pth_world.specs.Standing.{StandsFor, Whole, IsPrio, IsKnown, IsIn, IsBefore, SameThreads, KeepsScheduler};
+ghost use Rattle.pth_world.specs.Standing.{StandsFor, Whole, IsPrio, IsKnown, IsIn, IsBeforeReady, SameThreads, KeepsScheduler};
 
 use crate::world::World;
 use pth_base::ids::Tid;
@@ -26,11 +26,10 @@ const LAST_COUNT: u64 = 9_223_372_036_854_775_807;
 
 impl<P: Program> World<P> {
     /// A thread that is new or waits is ready, at a rank.
-    pub fn make_ready(&mut self, t: Tid, from: Queue, rank: i64)
+    pub fn make_ready(&mut self, t: Tid, rank: i64)
         requires whole { Whole self.old }
         requires known { IsKnown self.old t.0 }
-        requires before { IsBefore from }
-        requires stands { IsIn from self.old t.0 }
+        requires before { IsBeforeReady self.old t.0 }
         requires rank { IsRank rank }
         ensures stands { (s : State P P.State P.Shared) (top : Bool) → StandsFor self.old s → StandsFor self.new (readied s t.0 rank top) }
         ensures whole { Whole self.new }
@@ -39,7 +38,6 @@ impl<P: Program> World<P> {
         ensures queues { IfSome (slot_of self.old.threads t.0) (λ u. self.new.queues ≡ entered queue.Ready rank u (without u self.old.queues)) }
         ensures ranks { rank ≤ℤ pos greatest_return → KeepsRanks self.old self.new }
     {
-        let _ = from;
         self.take_out(t);
         self.put_ready(t, rank);
     }

@@ -1,11 +1,12 @@
 use Rattle.std.proofs.Common.{false, rules, SFits, w64, to_z-of_z}
 use Rattle.std.proofs.lemmas.Result.{on_ok_weaker}
+use Rattle.pth_queue.specs.declared.queue.Queue.TheVariants as queue
 use Rattle.pth_world.specs.Standing.{Waiting}
 use Rattle.pth_sched.proofs.Waking.{woken_leads, waits_still}
 use Rattle.pth_sched.proofs.passes.wake.Goals as goal
 
 pub make_ready-requires-clause-before : goal.make_ready-requires-clause-before
-make_ready-requires-clause-before g c = Waiting
+make_ready-requires-clause-before g c = record { queue = queue.Waiting; before = Waiting; stands = c.requires.waits.1 }
 
 pub returns-clause-ok : goal.returns-clause-ok
 returns-clause-ok g c =

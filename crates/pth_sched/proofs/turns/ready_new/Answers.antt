@@ -1,4 +1,5 @@
 use Rattle.std.proofs.Common.{◌≡◌, ◌∙◌, [], refl, rules, arith, SFits, w64, to_z-of_z}
+use Rattle.pth_queue.specs.declared.queue.Queue.TheVariants as queue
 use Rattle.pth_world.specs.Standing.{Newly}
 use Rattle.pth_sched.proofs.Keeping.{new_shorter, scheduler_first, scheduler_then}
 use Rattle.pth_sched.proofs.Readying.{rank_room, room_next, rises_none, rises_next, rises_all, some_ready, new_stands, comes_next, comes_end}
@@ -16,7 +17,7 @@ loop-t-init g c = record {
 }
 
 pub make_ready-requires-clause-before : goal.make_ready-requires-clause-before
-make_ready-requires-clause-before g c = Newly
+make_ready-requires-clause-before g c = record { queue = queue.New; before = Newly; stands = c.in-Some.ensures.stands }
 
 pub make_ready-requires-clause-rank : goal.make_ready-requires-clause-rank
 make_ready-requires-clause-rank g c =
