@@ -42,6 +42,8 @@ impl<R: Read> Source for Reading<R> {
 }
 
 /// A writer that counts its errors. A write that takes nothing of a piece that is not empty is one.
+///
+/// Standard output and error keep nothing back: each write is one call of the system, so nothing is to be flushed.
 #[derive(Drop)]
 pub struct Writing<W> {
     inner: W,

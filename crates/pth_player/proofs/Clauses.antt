@@ -1,6 +1,7 @@
 -- The clauses of the top call, from what was done and how the call ends.
-use Rattle.std.proofs.Common.{◌≡◌, ◌≢◌, ◌∙◌, ◌⊎◌, ◌<◌, ℕ, List, [], ◌∷◌, Option, Result, Ok, Err, IfSome, sym, refl, subst, arith, inl, inr}
+use Rattle.std.proofs.Common.{◌≡◌, ◌≢◌, ◌∙◌, ◌⊎◌, ◌<◌, ℕ, List, [], ◌∷◌, Option, None, Result, Ok, Err, IfSome, ap, sym, refl, subst, arith, inl, inr}
 use Rattle.std.specs.Io.KnownBytes.{Appends}
+use Rattle.pth_base.specs.Faults.{Rose}
 use Rattle.pth_base.specs.declared.outcome.Outcome.{Outcome}
 use Rattle.pth_base.specs.declared.outcome.Outcome.TheVariants as outcomes
 use Rattle.pth_base.specs.declared.sink.SinkErr.{SinkErr}
@@ -9,10 +10,12 @@ use Rattle.pth_print.specs.Lines.{fault_line, fault_status}
 use Rattle.pth_print.specs.declared.fault_line.Fault.{Fault}
 use Rattle.pth_print.specs.declared.fault_line.Fault.TheVariants as fault
 use Rattle.pth_script.specs.FirstForm.{IsAccepted}
+use Rattle.pth_script.specs.Script.{functions_of}
 use Rattle.pth_script.specs.declared.script.Line.{Line}
-use Rattle.pth_player.specs.Output.{Output, IsRefused, IsSoFar, IsTheOutput, cut, outcome_status, refusal}
-use Rattle.pth_player.specs.Play.{AreHeld, DrivesScript, Ends, HasLine, HoldsNoScript, IsFaultStatus, IsOutputStatus, IsRunStatus, Ran, RefusesInput, Reports, Scene, TellsFault, WritesLine, WritesOutput, content}
+use Rattle.pth_player.specs.Output.{Output, IsRefused, IsRunText, IsSoFar, IsTheScript, cut, given_script, outcome_status, refusal, step_limit}
+use Rattle.pth_player.specs.Play.{AreHeld, Completes, DrivesScript, Ends, HasLine, HoldsNoScript, IsFaultStatus, IsOutputStatus, IsRunStatus, ObjectRose, Ran, RefusesInput, Reports, Scene, TellsFault, WritesFault, WritesLine, WritesOutput, WritesWhole, content, object_of}
 use Rattle.pth_player.specs.Streams.{AppendsPart, AppendsPrefix}
+use Rattle.pth_player.proofs.Beginnings.{output_begins}
 use Rattle.pth_player.proofs.Outputs.{refused_output, script_output, words_output}
 use Rattle.pth_player.proofs.Pieces.{all_of, none_after, part_is_prefix}
 use Rattle.pth_player.proofs.Results.{always, told}
@@ -42,6 +45,14 @@ not_fault outcomes.OutOfMemory status e h = grind arith
 not_seven : (status : ℕ) → IsFaultStatus status → status ≢ 7
 not_seven status h = λ e. grind arith
 
+-- a run's status is that of an output, but for want of memory
+outcome_or_seven : (o : Outcome) (status : ℕ) → status ≡ outcome_status o → IsOutputStatus status ⊎ (status ≡ 7)
+outcome_or_seven (outcomes.Ended v) status e = inl (inl (inl e))
+outcome_or_seven outcomes.Killed status e = inl (inl (inl e))
+outcome_or_seven outcomes.Stalled status e = inl (inl (inr (inl e)))
+outcome_or_seven outcomes.Running status e = inl (inl (inr (inr e)))
+outcome_or_seven outcomes.OutOfMemory status e = inr e
+
 not_whole : (status : ℕ) → (status ≡ 4) ⊎ ((status ≡ 5) ⊎ (status ≡ 7)) → IsOutputStatus status → ⊥
 not_whole status is h = grind arith
 
@@ -53,24 +64,32 @@ module _ (words : List (List ℕ)) (old new : Scene) (status : ℕ) (w x : Optio
   other f = not_status f status w x b n
 
   abbrev WholeOf : List (List ℕ) → Type 0
-  WholeOf ws = (bytes : List ℕ) × AreHeld (content ws old) bytes × (out : Output) × IsTheOutput ws bytes out × (status ≡ out.status) × Appends old.written new.written out.text
+  WholeOf ws = WritesWhole ws old new status w x b n
 
-  whole_words : (ws : List (List ℕ)) → ws ≢ [] → status ≡ 2 → Appends old.written new.written [] → WholeOf ws
-  whole_words [] some is app = absurd (some refl)
-  whole_words (y ∷ ys) some is app = ([], refl, refusal fault.Words, words_output y ys [], is, app)
+  whole_words : (ws : List (List ℕ)) → ws ≢ [] → status ≡ 2 → Appends old.written new.written [] → WritesLine w x b n (fault_line fault.Words) → WholeOf ws
+  whole_words [] some is app line = absurd (some refl)
+  whole_words (y ∷ ys) some is app line = ([], refl, refusal fault.Words, words_output y ys [], is, app, line)
+
+  -- a run has no fault
+  no_fault : (f : Option (List ℕ)) → f ≡ None → Appends w x [] → WritesFault w x b n f
+  no_fault f none app = subst (WritesFault w x b n) (sym none) app
 
   whole : (r : Result Outcome Fault) → Ran words old new r → Ends r status w x b n → IsOutputStatus status → WholeOf words
   whole (Ok o) ran ends h =
       let d = ran.2 in
-      (d.0, d.1, d.4.0, script_output words d.0 d.2 d.4.0 ran.0 d.3 d.4.1, ends.0 ∙ sym d.4.2, d.4.3)
-  whole (Err fault.Words) ran ends h = elim ends [ inl k ↦ whole_words words ran.0 k.0 ran.2 | inr k ↦ absurd (not_whole status (inr (inr k.0)) h) ]
+      (d.0, d.1, d.4.0, script_output words d.0 d.2 d.4.0 ran.0 d.3 d.4.1, ends.0 ∙ sym d.4.2, d.4.3, no_fault d.4.0.fault (ap (λ (o : Output). o.fault) d.4.1.2) ends.1)
+  whole (Err fault.Words) ran ends h = elim ends [ inl k ↦ whole_words words ran.0 k.0 ran.2 k.1 | inr k ↦ absurd (not_whole status (inr (inr k.0)) h) ]
   whole (Err fault.Input) ran ends h = elim ends [
-    | inl k ↦ (ran.2.0, ran.2.1, refusal fault.Input, refused_output words ran.2.0 ran.0 ran.2.2, k.0, ran.3)
+    | inl k ↦ (ran.2.0, ran.2.1, refusal fault.Input, refused_output words ran.2.0 ran.0 ran.2.2, k.0, ran.3, k.1)
     | inr k ↦ absurd (not_whole status (inr (inr k.0)) h)
   ]
   whole (Err fault.ReadFault) ran ends h = elim ends [ inl k ↦ absurd (not_whole status (inl k.0) h) | inr k ↦ absurd (not_whole status (inr (inr k.0)) h) ]
   whole (Err fault.WriteFault) ran ends h = elim ends [ inl k ↦ absurd (not_whole status (inr (inl k.0)) h) | inr k ↦ absurd (not_whole status (inr (inr k.0)) h) ]
   whole (Err fault.OutOfMemory) ran ends h = elim ends [ inl k ↦ absurd (not_whole status (inr (inr k.0)) h) | inr k ↦ absurd (not_whole status (inr (inr k.0)) h) ]
+
+  so_far : (bytes : List ℕ) (bodies : List (List Line)) (text : List ℕ) → words ≡ [] → IsTheScript bodies (cut bytes) → IsRunText functions_of (given_script bodies) step_limit text
+      → IsSoFar words bytes text
+  so_far bytes bodies text none script run = (none, bodies, script.0, run, output_begins words bytes bodies text none script run)
 
   abbrev Part : Type 0
   Part = (bytes : List ℕ) × AreHeld (content words old) bytes × (text : List ℕ) × IsSoFar words bytes text × AppendsPart old.written new.written text
@@ -80,7 +99,7 @@ module _ (words : List (List ℕ)) (old new : Scene) (status : ℕ) (w x : Optio
   part (Err fault.Words) ran ends e = absurd (other fault.Words ends 5 (λ h. omega arith) (λ h. omega arith) e)
   part (Err fault.Input) ran ends e = absurd (other fault.Input ends 5 (λ h. omega arith) (λ h. omega arith) e)
   part (Err fault.ReadFault) ran ends e = absurd (other fault.ReadFault ends 5 (λ h. omega arith) (λ h. omega arith) e)
-  part (Err fault.WriteFault) ran ends e = let d = ran.2 in (d.0, d.1, d.4.0, (ran.0, d.2, d.3.0, d.4.1), d.4.2)
+  part (Err fault.WriteFault) ran ends e = let d = ran.2 in (d.0, d.1, d.4.0, so_far d.0 d.2 d.4.0 ran.0 d.3 d.4.1, d.4.2)
   part (Err fault.OutOfMemory) ran ends e = absurd (other fault.OutOfMemory ends 5 (λ h. omega arith) (λ h. omega arith) e)
 
   abbrev Beginning : Type 0
@@ -89,14 +108,14 @@ module _ (words : List (List ℕ)) (old new : Scene) (status : ℕ) (w x : Optio
   beginning : (r : Result Outcome Fault) → Ran words old new r → Ends r status w x b n → status ≡ 7 → Appends old.written new.written [] ⊎ Beginning
   beginning (Ok o) ran ends e =
       let d = ran.2 in
-      inr (d.0, d.1, d.4.0.text, (ran.0, d.2, d.3.0, inl (d.4.0, d.4.1, refl)), all_of old.written new.written d.4.0.text d.4.3)
+      inr (d.0, d.1, d.4.0.text, so_far d.0 d.2 d.4.0.text ran.0 d.3 (inl (d.4.0, d.4.1, refl)), all_of old.written new.written d.4.0.text d.4.3)
   beginning (Err fault.Words) ran ends e = inl ran.2
   beginning (Err fault.Input) ran ends e = inl ran.3
   beginning (Err fault.ReadFault) ran ends e = inl ran.2
   beginning (Err fault.WriteFault) ran ends e =
       let d = ran.2 in
-      inr (d.0, d.1, d.4.0, (ran.0, d.2, d.3.0, d.4.1), part_is_prefix old.written new.written d.4.0 d.4.2)
-  beginning (Err fault.OutOfMemory) ran ends e = elim ran.1 [ inl none ↦ inl none | inr d ↦ inr (d.0, d.1, d.4.0, (ran.0, d.2, d.3.0, d.4.1), d.4.2) ]
+      inr (d.0, d.1, d.4.0, so_far d.0 d.2 d.4.0 ran.0 d.3 d.4.1, part_is_prefix old.written new.written d.4.0 d.4.2)
+  beginning (Err fault.OutOfMemory) ran ends e = elim ran.1 [ inl none ↦ inl none | inr d ↦ inr (d.0, d.1, d.4.0, so_far d.0 d.2 d.4.0 ran.0 d.3 d.4.1, d.4.2) ]
 
   nothing : (r : Result Outcome Fault) → Ran words old new r → Ends r status w x b n → Nothing → Appends old.written new.written []
   nothing (Ok o) ran ends h = absurd (not_fault o status ends.0 (elim h [ inl two ↦ inl two | inr k ↦ elim k [ inl three ↦ inr (inl three) | inr four ↦ inr (inr (inl four)) ] ]))
@@ -106,8 +125,20 @@ module _ (words : List (List ℕ)) (old new : Scene) (status : ℕ) (w x : Optio
   nothing (Err fault.WriteFault) ran ends h = grind arith
   nothing (Err fault.OutOfMemory) ran ends h = grind arith
 
-  pub writes_output : (r : Result Outcome Fault) → Ran words old new r → Ends r status w x b n → WritesOutput words old new status
+  pub writes_output : (r : Result Outcome Fault) → Ran words old new r → Ends r status w x b n → WritesOutput words old new status w x b n
   writes_output r ran ends = record { whole = whole r ran ends; part = part r ran ends; beginning = beginning r ran ends; nothing = nothing r ran ends }
+
+  completes_by : (r : Result Outcome Fault) → Ran words old new r → Ends r status w x b n → (ObjectRose (object_of words) old.ins new.ins → ⊥) → (Rose old.out_faults new.out_faults → ⊥)
+      → IsOutputStatus status ⊎ (status ≡ 7)
+  completes_by (Ok o) ran ends read write = outcome_or_seven o status ends.0
+  completes_by (Err fault.Words) ran ends read write = elim ends [ inl k ↦ inl (inr (inl k.0)) | inr k ↦ inr k.0 ]
+  completes_by (Err fault.Input) ran ends read write = elim ends [ inl k ↦ inl (inr (inr k.0)) | inr k ↦ inr k.0 ]
+  completes_by (Err fault.ReadFault) ran ends read write = absurd (read ran.1)
+  completes_by (Err fault.WriteFault) ran ends read write = let d = ran.2 in absurd (write d.4.3)
+  completes_by (Err fault.OutOfMemory) ran ends read write = elim ends [ inl k ↦ inr k.0 | inr k ↦ inr k.0 ]
+
+  pub completes : (r : Result Outcome Fault) → Ran words old new r → Ends r status w x b n → Completes words old new status w x b n
+  completes r ran ends read write = elim (completes_by r ran ends read write) [ inl out ↦ inl (whole r ran ends out) | inr seven ↦ inr seven ]
 
   -- ---- the input that is refused
 

@@ -1,7 +1,6 @@
 -- What a drive has written of a run.
 use Rattle.std.proofs.Common.{◌≡◌, ◌≢◌, ◌∙◌, ◌+◌, ◌-◌, ◌⊎◌, ◌<◌, ◌≤◌, ℕ, List, [], ◌++◌, Option, Result, Ok, Err, IsErr, IsErrAnd, ap, ap₂, sym, refl, subst, append-nil, arith, inl, inr, map, min, true, false}
 use Rattle.std.proofs.lemmas.Bool.{cases_lt}
-use Rattle.std.proofs.lemmas.Grind.{flat_map-append}
 use Rattle.std.proofs.KnownBytes.{Appends-nil, Appends-trans}
 use Rattle.std.specs.Io.KnownBytes.{Appends}
 use Rattle.pth_base.specs.Faults.{Rose}
@@ -17,21 +16,19 @@ use Rattle.pth_model.specs.Part.{Part, next_part, unless_ended}
 use Rattle.pth_model.specs.Run.{parts, run, stops, stops_by}
 use Rattle.pth_model.specs.Living.{live}
 use Rattle.pth_model.proofs.Runs.{stops-later}
-use Rattle.pth_print.specs.Lines.{mark_line, end_line}
+use Rattle.pth_print.specs.Lines.{end_line}
 use Rattle.pth_sched.specs.MachineOf.{MachineOf}
 use Rattle.pth_sched.specs.Running.{Stands, StandsAt, GoesOn}
 use Rattle.pth_threads.specs.Threads.{number}
 use Rattle.pth_player.specs.Drive.{Drives}
 use Rattle.pth_player.specs.Output.{Output, IsRunOutput, IsRunSoFar, outcome_status, told_output}
 use Rattle.pth_player.specs.Transcript.{WritesPiece, lines_of}
+use Rattle.pth_player.proofs.Beginnings.{lines_more}
 use Rattle.pth_player.proofs.Results.{err_is}
 use Rattle.pth_player.proofs.Pieces.{none_of, part_then, prefix_then}
 
 rose_later : (a b c : ℕ) → a ≤ b → Rose b c → Rose a c
 rose_later a b c le rose = omega arith
-
-lines_more : (xs ys : List Mark) → lines_of (xs ++ ys) ≡ lines_of xs ++ lines_of ys
-lines_more xs ys = flat_map-append (mark_line false) xs ys
 
 ended_by : (to steps : ℕ) (o : Outcome) (p : Part) → o ≢ outcomes.Running → stops_by to steps (unless_ended o p) ≡ true
 ended_by to steps outcomes.Running p h = absurd (h refl)
@@ -57,11 +54,11 @@ none_told f g = refl
 no_steps_of : {P S H : Type 0} (f : P → Functions S H) (g : Given P) (m : MachineOf P S H) → StandsAt f g 0 m → m.steps ≡ 0
 no_steps_of f g m stands = sym stands.steps ∙ none_made f g
 
-within : (first made left n total : ℕ) → first ≡ 0 → made + left ≡ first + total → n ≡ min left 1000 → made + n ≤ total
-within first made left n total none h most = omega arith
+within : (first made left n total size : ℕ) → first ≡ 0 → made + left ≡ first + total → n ≡ min left size → made + n ≤ total
+within first made left n total size none h most = omega arith
 
-spent : (first made left n total : ℕ) → first ≡ 0 → made + left ≡ first + total → n ≡ min left 1000 → left - n ≡ 0 → made + n ≡ total
-spent first made left n total none h most e = omega arith
+spent : (first made left n total size : ℕ) → first ≡ 0 → made + left ≡ first + total → n ≡ min left size → left - n ≡ 0 → made + n ≡ total
+spent first made left n total size none h most e = omega arith
 
 module _ {P S H : Type 0} (f : P → Functions S H) (g : Given P) (steps : ℕ) where
   -- The machine stands at a part of the run, before which the run does not stop. What was told up to there was written but
@@ -124,25 +121,25 @@ module _ {P S H : Type 0} (f : P → Functions S H) (g : Given P) (steps : ℕ) 
     )
 
     -- after the next piece, whose marks are `seen` and not yet written
-    pub piece : (first k : MachineOf P S H) (left n : ℕ) (clear marks seen : List Mark) → StandsAt f g 0 first → m.steps + left ≡ first.steps + steps → n ≡ min left 1000
+    pub piece : (first k : MachineOf P S H) (left n size : ℕ) (clear marks seen : List Mark) → StandsAt f g 0 first → m.steps + left ≡ first.steps + steps → n ≡ min left size
         → clear ≡ [] → seen ≡ marks → (u : Underway m a b []) → GoesOn f g (m.steps + n) u.at k clear marks → Stopped (m.steps + n) k a b seen
-    piece first k left n clear marks seen stands made most none is u go =
-        subst (Stopped (m.steps + n) k a b) (sym is) (goes_on n k clear marks (within first.steps m.steps left n steps (no_steps_of f g first stands) made most) none u go)
+    piece first k left n size clear marks seen stands made most none is u go =
+        subst (Stopped (m.steps + n) k a b) (sym is) (goes_on n k clear marks (within first.steps m.steps left n steps size (no_steps_of f g first stands) made most) none u go)
 
     -- and where its lines were written
-    pub onward : (first k : MachineOf P S H) (left n : ℕ) (clear marks seen : List Mark) (c : Option (List ℕ)) → StandsAt f g 0 first → m.steps + left ≡ first.steps + steps
-        → n ≡ min left 1000 → clear ≡ [] → seen ≡ marks → (u : Underway m a b []) → GoesOn f g (m.steps + n) u.at k clear marks → Appends b c (lines_of seen)
+    pub onward : (first k : MachineOf P S H) (left n size : ℕ) (clear marks seen : List Mark) (c : Option (List ℕ)) → StandsAt f g 0 first → m.steps + left ≡ first.steps + steps
+        → n ≡ min left size → clear ≡ [] → seen ≡ marks → (u : Underway m a b []) → GoesOn f g (m.steps + n) u.at k clear marks → Appends b c (lines_of seen)
         → Stopped (m.steps + n) k a c []
-    onward first k left n clear marks seen c stands made most none is u go w =
-        wrote k (m.steps + n) a b c seen w (piece first k left n clear marks seen stands made most none is u go)
+    onward first k left n size clear marks seen c stands made most none is u go w =
+        wrote k (m.steps + n) a b c seen w (piece first k left n size clear marks seen stands made most none is u go)
 
     -- the run stops there for good
-    pub at_end : (first : MachineOf P S H) (before left n : ℕ) (o : Outcome) (pending : List Mark) → StandsAt f g 0 first → before + left ≡ first.steps + steps → n ≡ min left 1000
+    pub at_end : (first : MachineOf P S H) (before left n size : ℕ) (o : Outcome) (pending : List Mark) → StandsAt f g 0 first → before + left ≡ first.steps + steps → n ≡ min left size
         → o ≡ m.outcome → (left - n ≡ 0) ⊎ (o ≢ outcomes.Running) → Stopped (before + n) m a b pending → Stopped steps m a b pending
-    at_end first before left n o pending stands made most is over s = (
+    at_end first before left n size o pending stands made most is over s = (
       s.0,
       elim over [
-        | inl none ↦ subst (λ (to : ℕ). stops to (run f g s.0.at).state ≡ true) (spent first.steps before left n steps (no_steps_of f g first stands) made most none) s.1
+        | inl none ↦ subst (λ (to : ℕ). stops to (run f g s.0.at).state ≡ true) (spent first.steps before left n steps size (no_steps_of f g first stands) made most none) s.1
         | inr halts ↦ ended_stops steps (run f g s.0.at).state (λ e. halts (is ∙ sym s.0.stands.outcome ∙ e))
       ],
     )
@@ -237,5 +234,5 @@ pub cut_before : (a : Option (List ℕ)) (f : ℕ) (text : List ℕ) (r : Result
 cut_before a f text r h k = subst (WritesPiece a a f f text) (sym (err_is r sink.OutOfMemory h k)) (omega arith, none_of a text)
 
 -- as many steps as were asked for are made, and are left
-pub still_left : (made now left n total : ℕ) → now ≡ made + n → made + left ≡ total → n ≡ min left 1000 → now + (left - n) ≡ total
-still_left made now left n total a b e = omega arith
+pub still_left : (made now left n total size : ℕ) → now ≡ made + n → made + left ≡ total → n ≡ min left size → now + (left - n) ≡ total
+still_left made now left n total size a b e = omega arith

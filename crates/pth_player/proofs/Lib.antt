@@ -1,3 +1,4 @@
+pub mod Beginnings
 pub mod Clauses
 pub mod Driving
 pub mod Outputs

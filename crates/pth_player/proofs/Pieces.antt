@@ -48,7 +48,7 @@ toward_then a b c one two rest after p t = record {
   whole = append_assoc one t.first (rest ++ after) ∙ ap (λ l. one ++ l) (sym (append_assoc t.first rest after) ∙ ap (λ l. l ++ after) t.whole);
 }
 
-more_is_some : (rest after : List ℕ) → rest ≢ [] → rest ++ after ≢ []
+pub more_is_some : (rest after : List ℕ) → rest ≢ [] → rest ++ after ≢ []
 more_is_some [] after h = absurd (h refl)
 more_is_some (x ∷ xs) after h = λ e. cc
 

@@ -1,5 +1,5 @@
 -- What the program writes, and its status, for words and the bytes of its input.
-use Rattle.std.specs.Prelude.{◌≡◌, ◌<◌, ◌+◌, ◌⊎◌, ℕ, false, List, [], ◌∷◌, Option, Some, None, take}
+use Rattle.std.specs.Prelude.{◌≡◌, ◌<◌, ◌+◌, ◌++◌, ◌⊎◌, ℕ, false, List, [], ◌∷◌, Option, Some, None, take}
 use Rattle.pth_base.specs.Program.{Functions}
 use Rattle.pth_base.specs.declared.outcome.Outcome.{Outcome}
 use Rattle.pth_base.specs.declared.outcome.Outcome.TheVariants as outcomes
@@ -96,7 +96,13 @@ IsOutput (word ∷ words) bytes out = out ≡ refusal fault.Words
 abbrev pub IsTheOutput : List (List ℕ) → List ℕ → Output → Type 0
 IsTheOutput words bytes out = IsOutput words bytes out × ((other : Output) → IsOutput words bytes other → other ≡ out)
 
--- for no words and an input that holds a script: the whole text of the output, or the lines of the run so far
+-- a text begins with another
+abbrev pub IsBeginning : List ℕ → List ℕ → Type 0
+IsBeginning first text = (rest : List ℕ) × (first ++ rest ≡ text)
+
+-- for no words and an input that holds a script: the whole text of the output, or the lines of the run so far; the
+-- output's text begins with it
 abbrev pub IsSoFar : List (List ℕ) → List ℕ → List ℕ → Type 0
 IsSoFar words bytes text =
     (words ≡ []) × (bodies : List (List Line)) × IsAccepted bodies (cut bytes) × IsRunText functions_of (given_script bodies) step_limit text
+    × ((out : Output) → IsOutput words bytes out → IsBeginning text out.text)

@@ -1,5 +1,5 @@
 -- The clauses of the top call.
-use Rattle.std.specs.Prelude.{◌≡◌, ◌≢◌, ◌⊎◌, ◌+◌, ℕ, List, [], ◌∷◌, Option, Some, IsSome, IfSome, drop, Result, Ok, Err}
+use Rattle.std.specs.Prelude.{◌≡◌, ◌≢◌, ◌⊎◌, ◌+◌, ℕ, List, [], ◌∷◌, Option, Some, None, IsSome, IfSome, drop, Result, Ok, Err}
 use Rattle.std.specs.Io.KnownBytes.{Appends, Keeps}
 use Rattle.pth_base.specs.Faults.{Rose}
 use Rattle.pth_base.specs.declared.outcome.Outcome.{Outcome}
@@ -150,11 +150,26 @@ pub record Faults (words : List (List ℕ)) (old new : Scene) (status : ℕ) : T
   pub read : status ≡ 4 → (words ≡ []) × ObjectRose (object_of words) old.ins new.ins
   pub write : status ≡ 5 → Rose old.out_faults new.out_faults
 
+-- the line was written whole, or the count rose and a part of it was written
+abbrev pub WritesLine : Option (List ℕ) → Option (List ℕ) → ℕ → ℕ → List ℕ → Type 0
+WritesLine old new before now line = Appends old new line ⊎ (AppendsPart old new line × Rose before now)
+
+-- the line of an output's fault was written, and nothing where it has none
+abbrev pub WritesFault : Option (List ℕ) → Option (List ℕ) → ℕ → ℕ → Option (List ℕ) → Type 0
+WritesFault old new before now None = Appends old new []
+WritesFault old new before now (Some line) = WritesLine old new before now line
+
+-- The status is that of the output for the words and the bytes that the object read holds, its whole text was appended,
+-- and the line of its fault was written to `err`.
+abbrev pub WritesWhole : List (List ℕ) → Scene → Scene → ℕ → Option (List ℕ) → Option (List ℕ) → ℕ → ℕ → Type 0
+WritesWhole words old new status err_old err_new before now =
+    (bytes : List ℕ) × AreHeld (content words old) bytes × (out : Output) × IsTheOutput words bytes out × (status ≡ out.status)
+    × Appends old.written new.written out.text × WritesFault err_old err_new before now out.fault
+
 -- What was appended, by the status, where `bytes` are what the object read holds.
-pub record WritesOutput (words : List (List ℕ)) (old new : Scene) (status : ℕ) : Type 0 where
-  -- 0, 1, 2, 3, 6: the status is that of the output for the words and the bytes, and its whole text was appended
-  pub whole : IsOutputStatus status
-      → (bytes : List ℕ) × AreHeld (content words old) bytes × (out : Output) × IsTheOutput words bytes out × (status ≡ out.status) × Appends old.written new.written out.text
+pub record WritesOutput (words : List (List ℕ)) (old new : Scene) (status : ℕ) (err_old err_new : Option (List ℕ)) (before now : ℕ) : Type 0 where
+  -- 0, 1, 2, 3, 6
+  pub whole : IsOutputStatus status → WritesWhole words old new status err_old err_new before now
   -- 5: a beginning of the output's text or of the run's lines so far, and not the whole
   pub part : status ≡ 5
       → (bytes : List ℕ) × AreHeld (content words old) bytes × (text : List ℕ) × IsSoFar words bytes text × AppendsPart old.written new.written text
@@ -163,13 +178,15 @@ pub record WritesOutput (words : List (List ℕ)) (old new : Scene) (status : �
       ⊎ ((bytes : List ℕ) × AreHeld (content words old) bytes × (text : List ℕ) × IsSoFar words bytes text × AppendsPrefix old.written new.written text)
   pub nothing : (status ≡ 2) ⊎ ((status ≡ 3) ⊎ (status ≡ 4)) → Appends old.written new.written []
 
+-- where neither the count of the object read nor that of `out` rose, the output was written whole, or memory ran out
+abbrev pub Completes : List (List ℕ) → Scene → Scene → ℕ → Option (List ℕ) → Option (List ℕ) → ℕ → ℕ → Type 0
+Completes words old new status err_old err_new before now =
+    (ObjectRose (object_of words) old.ins new.ins → ⊥) → (Rose old.out_faults new.out_faults → ⊥)
+    → WritesWhole words old new status err_old err_new before now ⊎ (status ≡ 7)
+
 -- the line of a fault with this status
 abbrev pub HasLine : ℕ → List ℕ → Type 0
 HasLine status line = (f : Fault) × (status ≡ fault_status f) × (line ≡ fault_line f)
-
--- the line was written whole, or the count rose and a part of it was written
-abbrev pub WritesLine : Option (List ℕ) → Option (List ℕ) → ℕ → ℕ → List ℕ → Type 0
-WritesLine old new before now line = Appends old new line ⊎ (AppendsPart old new line × Rose before now)
 
 -- what standard error received: nothing after a run, the line of a fault, or a beginning of some fault's line where memory ran out
 pub record TellsFault (status : ℕ) (err_old err_new : Option (List ℕ)) (before now : ℕ) : Type 0 where

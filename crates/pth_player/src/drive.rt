@@ -21,9 +21,6 @@ use pth_sched::machine::Machine;
 use pth_text::text::Text;
 use std::alloc::Global;
 
-// How many steps are made between two writes. The marks and the text of so many are kept at a time.
-const PIECE: u64 = 1000;
-
 /// Adds the lines of marks.
 fn add_lines(marks: &[Mark], text: &mut Text) -> Result<(), OutOfMemory>
     ensures { OnOk result (text.new ≡ text.old ++ lines_of marks.now) }
@@ -73,14 +70,18 @@ fn is_over(left: u64, outcome: Outcome) -> bool
 
 /// Makes the machine's next `steps` steps, fewer where its run ends before, and writes its transcript.
 ///
+/// `piece` steps are made between two writes. The marks and the text of so many are kept at a time.
+///
 /// A machine that stands at the start of a run writes what that run tells to so many steps and the line of its outcome,
 /// and nothing else. Where the sink fails or memory ends, a beginning of that is written.
 pub fn drive<P: Program, O: Sink>(
     alloc: Global,
     machine: &mut Machine<P>,
     steps: u64,
+    piece: u64,
     out: &mut O,
 ) -> Result<Outcome, SinkErr>
+    requires nonzero { 1 ≤ piece }
     requires few { machine.old.steps + steps ≤ 1000000000 }
     ensures written { (g : Given P) → StandsAt P.functions g 0 machine.old → Drives P.functions g steps (O.written out.old) (O.written out.new) (O.faults out.old) (O.faults out.new) result }
 {
@@ -88,7 +89,7 @@ pub fn drive<P: Program, O: Sink>(
     let mut text = Text::new(alloc);
     let mut left = steps;
     'pieces: loop {
-        let n = left.min(PIECE);
+        let n = left.min(piece);
         marks.clear();
         let outcome = machine.advance(n, &mut marks);
         match outcome {

@@ -23,6 +23,9 @@ const LIMIT: usize = 16_777_216;
 // A run has at most so many steps.
 const STEPS: u64 = 1_000_000;
 
+// How many steps are made between two writes.
+const PIECE: u64 = 1000;
+
 fn fault_of_read(e: ReadFault) -> Fault
     ensures { result ≡ fault_of_read e }
 {
@@ -78,5 +81,5 @@ pub fn run<S: Source, F: Files, O: Sink>(
     let Ok(mut machine) = Machine::new(alloc, script) else {
         return Err(Fault::OutOfMemory);
     };
-    drive(alloc, &mut machine, STEPS, out).map_err(fault_of_sink)
+    drive(alloc, &mut machine, STEPS, PIECE, out).map_err(fault_of_sink)
 }

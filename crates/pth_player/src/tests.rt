@@ -1,11 +1,19 @@
+mod drives;
+mod faults;
 mod rows;
 
 use crate::play;
 use pth_base::files::SureFiles;
-use pth_base::sink::{MemorySink, SureSink};
-use pth_base::source::{MemorySource, SureSource};
+use pth_base::sink::SureSink;
+use pth_base::source::SureSource;
 use std::alloc::Global;
 use std::test::Fail;
+
+// Spawn, yield and exit.
+const SCRIPT: &str = "pth 1\nthread 0\nspawn 1 9 0\nyield 0\nexit 0\nend\nthread 1\nexit 9\nend\n";
+
+const TRANSCRIPT: &str =
+    "turn 1 at 0 t1 rank 0\nt1 spawn 1 9 0 = 2\nt1 yield 0 = 1\nturn 2 at 1 t2 rank 1\nt2 ends 9\nturn 3 at 2 t1 rank 1\nt1 ends 0\nended 0\n";
 
 fn words(alloc: Global, list: &[&str]) -> Result<Vec<String>, Fail> {
     let mut words = Vec::new(alloc);
@@ -18,7 +26,12 @@ fn words(alloc: Global, list: &[&str]) -> Result<Vec<String>, Fail> {
 #[test]
 fn words_are_refused(rt: HostRuntime) -> Result<(), Fail> {
     let alloc = rt.alloc();
-    for list in [["--steps", "0"].as_slice(), &[""], &["x.pth"]] {
+    for list in [
+        ["--steps", "0"].as_slice(),
+        &["--generate", "5", "x.pth"],
+        &["x.pth"],
+        &[""],
+    ] {
         let words = words(alloc, list)?;
         let mut input = SureSource::new(alloc, b"pth 1\nthread 0\nend\n")?;
         let mut files = SureFiles::new(alloc, b"")?;
@@ -50,40 +63,5 @@ fn other_inputs_are_refused(rt: HostRuntime) -> Result<(), Fail> {
         assert!(rt; out.as_slice().is_empty());
         assert_eq!(rt; err.as_slice(), b"pth_play: input refused\n".as_slice());
     }
-    Ok(())
-}
-
-#[test]
-fn a_source_fails(rt: HostRuntime) -> Result<(), Fail> {
-    let alloc = rt.alloc();
-    let words = words(alloc, &[])?;
-    for call in [1, 2] {
-        let mut input = MemorySource::new(alloc, b"pth 1\nthread 0\nend\n", &[call])?;
-        let mut files = SureFiles::new(alloc, b"")?;
-        let mut out = SureSink::new(alloc);
-        let mut err = SureSink::new(alloc);
-        assert_eq!(rt;
-            play(alloc, &words, &mut input, &mut files, &mut out, &mut err),
-            4
-        );
-        assert!(rt; out.as_slice().is_empty());
-        assert_eq!(rt; err.as_slice(), b"pth_play: read fault\n".as_slice());
-    }
-    Ok(())
-}
-
-#[test]
-fn a_failing_error_sink_changes_no_status(rt: HostRuntime) -> Result<(), Fail> {
-    let alloc = rt.alloc();
-    let words = words(alloc, &[])?;
-    let mut input = SureSource::new(alloc, b"pth 2\n")?;
-    let mut files = SureFiles::new(alloc, b"")?;
-    let mut out = SureSink::new(alloc);
-    let mut err = MemorySink::new(alloc, 9)?;
-    assert_eq!(rt;
-        play(alloc, &words, &mut input, &mut files, &mut out, &mut err),
-        3
-    );
-    assert_eq!(rt; err.as_slice(), b"pth_play:".as_slice());
     Ok(())
 }

@@ -1,7 +1,7 @@
 //! The top call.
 
 ghost use Rattle.std.specs.Prelude.{◌≡◌, ◌≤◌, map, string_bytes};
-ghost use Rattle.pth_player.specs.Play.{inputs, scene, Ends, Faults, ReadsWhole, RefusesInput, RefusesWords, TellsFault, WritesOutput};
+ghost use Rattle.pth_player.specs.Play.{inputs, scene, Completes, Ends, Faults, ReadsWhole, RefusesInput, RefusesWords, TellsFault, WritesOutput};
 
 use crate::report::report_fault;
 use crate::run::run;
@@ -34,7 +34,8 @@ fn finish<E: Sink>(alloc: Global, ran: Result<Outcome, Fault>, err: &mut E) -> u
 ///
 /// `IsOutput` says what the output is for words and an input: what the script's run tells and the line of its outcome,
 /// with a status, or a refusal. With status 0, 1, 2, 3 and 6 exactly the text of this output was written, and the status
-/// is the output's.
+/// and the fault's line are the output's. It comes to another status only where the object read or `out` failed, or where
+/// memory ran out.
 pub fn play<S: Source, F: Files, O: Sink, E: Sink>(
     alloc: Global,
     words: &Vec<String>,
@@ -62,11 +63,18 @@ pub fn play<S: Source, F: Files, O: Sink, E: Sink>(
         (scene (inputs (S.left input.old) (S.faults input.old) (F.left files.old) (F.held files.old) (F.faults files.old)) (O.written out.old) (O.faults out.old))
         (scene (inputs (S.left input.new) (S.faults input.new) (F.left files.new) (F.held files.new) (F.faults files.new)) (O.written out.new) (O.faults out.new)) result }
 
-    // The status and what was written are those of the output for the words and the bytes of the input. Where the sink
-    // failed (5) or memory ended (7), a beginning was written.
+    // The status, what was written and the fault's line are those of the output for the words and the bytes of the input.
+    // Where the sink failed (5) or memory ended (7), a beginning was written.
     ensures writes_output { WritesOutput (map string_bytes words.now.items)
         (scene (inputs (S.left input.old) (S.faults input.old) (F.left files.old) (F.held files.old) (F.faults files.old)) (O.written out.old) (O.faults out.old))
-        (scene (inputs (S.left input.new) (S.faults input.new) (F.left files.new) (F.held files.new) (F.faults files.new)) (O.written out.new) (O.faults out.new)) result }
+        (scene (inputs (S.left input.new) (S.faults input.new) (F.left files.new) (F.held files.new) (F.faults files.new)) (O.written out.new) (O.faults out.new)) result
+        (E.written err.old) (E.written err.new) (E.faults err.old) (E.faults err.new) }
+
+    // Where neither the count of the object read nor that of `out` rose, the output was written whole, or memory ran out.
+    ensures completes { Completes (map string_bytes words.now.items)
+        (scene (inputs (S.left input.old) (S.faults input.old) (F.left files.old) (F.held files.old) (F.faults files.old)) (O.written out.old) (O.faults out.old))
+        (scene (inputs (S.left input.new) (S.faults input.new) (F.left files.new) (F.held files.new) (F.faults files.new)) (O.written out.new) (O.faults out.new)) result
+        (E.written err.old) (E.written err.new) (E.faults err.old) (E.faults err.new) }
 
     // What `err` received.
     ensures fault_line { TellsFault result (E.written err.old) (E.written err.new) (E.faults err.old) (E.faults err.new) }

@@ -1,4 +1,5 @@
 use crate::play;
+use crate::tests::{SCRIPT, TRANSCRIPT};
 use pth_base::files::SureFiles;
 use pth_base::sink::{MemorySink, SureSink};
 use pth_base::source::SureSource;
@@ -10,10 +11,7 @@ fn scripts_are_run(rt: HostRuntime) -> Result<(), Fail> {
     let words = Vec::new(alloc);
     for (script, transcript) in [
         // spawn, yield and exit
-        (
-            "pth 1\nthread 0\nspawn 1 9 0\nyield 0\nexit 0\nend\nthread 1\nexit 9\nend\n",
-            "turn 1 at 0 t1 rank 0\nt1 spawn 1 9 0 = 2\nt1 yield 0 = 1\nturn 2 at 1 t2 rank 1\nt2 ends 9\nturn 3 at 2 t1 rank 1\nt1 ends 0\nended 0\n",
-        ),
+        (SCRIPT, TRANSCRIPT),
         // main alone
         (
             "pth 1\nthread 0\nexit 0\nend\n",

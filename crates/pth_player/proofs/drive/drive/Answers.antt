@@ -17,7 +17,7 @@ returns-in_err-write_marks g c = record {
   written = λ given stands.
       let u = c.pieces.invariant.way given stands in
       let go = c.advance-outcome.ensures.goes_on c.in_default.not-OutOfMemory given u.at u.stands in
-      let s = piece _ _ _ c.pieces.machine _ _ c.args.machine.now _ _ _ _ _ _ stands c.pieces.invariant.made c.min-n.ensures c.clear.ensures c.as_slice.ensures u go in
+      let s = piece _ _ _ c.pieces.machine _ _ c.args.machine.now _ _ _ _ _ _ _ stands c.pieces.invariant.made c.min-n.ensures c.clear.ensures c.as_slice.ensures u go in
       cut_in_lines _ _ _ _ _ _ _ _ _ _ _ _ _ s.0 c.pieces.invariant.later c.in_err-write_marks.ensures c.from_residual.ensures.0 c.from_residual.ensures.1;
 }
 
@@ -26,7 +26,7 @@ returns-in_err-live g c = record {
   written = λ given stands.
       let u = c.pieces.invariant.way given stands in
       let go = c.advance-outcome.ensures.goes_on c.in_default.not-OutOfMemory given u.at u.stands in
-      let s = onward _ _ _ c.pieces.machine _ _ c.args.machine.now _ _ _ _ _ _ _ stands c.pieces.invariant.made c.min-n.ensures c.clear.ensures c.as_slice.ensures u go c.in_ok-write_marks.ensures.1 in
+      let s = onward _ _ _ c.pieces.machine _ _ c.args.machine.now _ _ _ _ _ _ _ _ stands c.pieces.invariant.made c.min-n.ensures c.clear.ensures c.as_slice.ensures u go c.in_ok-write_marks.ensures.1 in
       cut_by_memory _ _ _ _ _ _ _ (g.O.Sink.faults c.args.out.now) (g.O.Sink.faults c.write_marks.new.out) _ s.0 c.from_residual-in_err-live.ensures.0 c.from_residual-in_err-live.ensures.1;
 }
 
@@ -35,8 +35,8 @@ returns-in_err-write_end g c = record {
   written = λ given stands.
       let u = c.pieces.invariant.way given stands in
       let go = c.advance-outcome.ensures.goes_on c.in_default.not-OutOfMemory given u.at u.stands in
-      let s = onward _ _ _ c.pieces.machine _ _ c.args.machine.now _ _ _ _ _ _ _ stands c.pieces.invariant.made c.min-n.ensures c.clear.ensures c.as_slice.ensures u go c.in_ok-write_marks.ensures.1 in
-      let last = at_end _ _ _ _ _ _ _ _ _ _ _ _ stands c.pieces.invariant.made c.min-n.ensures c.advance-outcome.ensures.outcome (c.is_over.ensures.over c.if-is_over.true) s in
+      let s = onward _ _ _ c.pieces.machine _ _ c.args.machine.now _ _ _ _ _ _ _ _ stands c.pieces.invariant.made c.min-n.ensures c.clear.ensures c.as_slice.ensures u go c.in_ok-write_marks.ensures.1 in
+      let last = at_end _ _ _ _ _ _ _ _ _ _ _ _ _ stands c.pieces.invariant.made c.min-n.ensures c.advance-outcome.ensures.outcome (c.is_over.ensures.over c.if-is_over.true) s in
       let later = le_trans c.pieces.invariant.later c.in_ok-write_marks.ensures.0 in
       cut_in_end _ _ _ _ _ _ _ _ _ _ _ _ _ last c.advance-outcome.ensures.outcome c.deref.ensures.value c.in_ok-live.ensures _ _ later c.in_err-write_end.ensures c.from_residual-in_err-write_end.ensures.0
       c.from_residual-in_err-write_end.ensures.1;
@@ -47,8 +47,8 @@ returns-then-is_over g c = record {
   written = λ given stands.
       let u = c.pieces.invariant.way given stands in
       let go = c.advance-outcome.ensures.goes_on c.in_default.not-OutOfMemory given u.at u.stands in
-      let s = onward _ _ _ c.pieces.machine _ _ c.args.machine.now _ _ _ _ _ _ _ stands c.pieces.invariant.made c.min-n.ensures c.clear.ensures c.as_slice.ensures u go c.in_ok-write_marks.ensures.1 in
-      let last = at_end _ _ _ _ _ _ _ _ _ _ _ _ stands c.pieces.invariant.made c.min-n.ensures c.advance-outcome.ensures.outcome (c.is_over.ensures.over c.if-is_over.true) s in
+      let s = onward _ _ _ c.pieces.machine _ _ c.args.machine.now _ _ _ _ _ _ _ _ stands c.pieces.invariant.made c.min-n.ensures c.clear.ensures c.as_slice.ensures u go c.in_ok-write_marks.ensures.1 in
+      let last = at_end _ _ _ _ _ _ _ _ _ _ _ _ _ stands c.pieces.invariant.made c.min-n.ensures c.advance-outcome.ensures.outcome (c.is_over.ensures.over c.if-is_over.true) s in
       finished _ _ _ _ _ _ _ (g.O.Sink.faults c.args.out.now) _ _ _ _ _ last c.advance-outcome.ensures.outcome c.deref.ensures.value c.in_ok-live.ensures _ c.in_ok-write_end.ensures;
 }
 
@@ -57,8 +57,8 @@ pieces-preserved g c = record {
   way = λ given stands.
       let u = c.pieces.invariant.way given stands in
       let go = c.advance-outcome.ensures.goes_on c.in_default.not-OutOfMemory given u.at u.stands in
-      let s = onward _ _ _ c.pieces.machine _ _ c.args.machine.now _ _ _ _ _ _ _ stands c.pieces.invariant.made c.min-n.ensures c.clear.ensures c.as_slice.ensures u go c.in_ok-write_marks.ensures.1 in
+      let s = onward _ _ _ c.pieces.machine _ _ c.args.machine.now _ _ _ _ _ _ _ _ stands c.pieces.invariant.made c.min-n.ensures c.clear.ensures c.as_slice.ensures u go c.in_ok-write_marks.ensures.1 in
       s.0;
   later = le_trans c.pieces.invariant.later c.in_ok-write_marks.ensures.0;
-  made = still_left _ _ _ _ _ (c.advance-outcome.ensures.running.0 (c.is_over.ensures.going c.if-is_over.false)).0 c.pieces.invariant.made c.min-n.ensures;
+  made = still_left _ _ _ _ _ _ (c.advance-outcome.ensures.running.0 (c.is_over.ensures.going c.if-is_over.false)).0 c.pieces.invariant.made c.min-n.ensures;
 }
