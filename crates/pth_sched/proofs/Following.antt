@@ -37,7 +37,8 @@ module _ {P S H : Type 0} (f : P → Functions S H) (g : Given P) (to i : ℕ) w
     appended = sym (append-nil old);
   }
 
-  still_going : (n : ℕ) → ((k : ℕ) → i ≤ k → k < n → stops to (run f g k).state ≡ false) → stops to (run f g n).state ≡ false → (k : ℕ) → i ≤ k → k < n + 1 → stops to (run f g k).state ≡ false
+  -- the run does not stop before the next part
+  pub still_going : (n : ℕ) → ((k : ℕ) → i ≤ k → k < n → stops to (run f g k).state ≡ false) → stops to (run f g n).state ≡ false → (k : ℕ) → i ≤ k → k < n + 1 → stops to (run f g k).state ≡ false
   still_going n before here k from below = elim (cases_lt k n) [
     | inl early ↦ before k from early
     | inr late ↦ (let at : n ≡ k = omega (arith, late, below) in subst (λ (j : ℕ). stops to (run f g j).state ≡ false) at here)

@@ -8,4 +8,5 @@ pub mod Parts
 pub mod Readying
 pub mod Roofs
 pub mod Showing
+pub mod Stopping
 pub mod Waking

@@ -6,7 +6,7 @@ ghost use Rattle.pth_base.specs.declared.mark.Mark.TheVariants.{Ended as End};
 ghost use Rattle.pth_base.specs.declared.outcome.Outcome.TheVariants.{Running, Ended};
 ghost use Rattle.pth_model.specs.State.{Given};
 ghost use Rattle.pth_model.specs.Told.{tid};
-ghost use Rattle.pth_model.specs.Run.{run, IsBetween};
+ghost use Rattle.pth_model.specs.Run.{run, GoesTo, IsBetween};
 ghost use Rattle.pth_model.specs.Part.{Step, next_part};
 ghost use Rattle.pth_model.specs.Waits.{is_alone, main};
 ghost use Rattle.pth_sched.specs.MachineOf.{MachineOf};
@@ -28,4 +28,9 @@ pub fn main_ends_last<P: Program>()
     ensures step { (g : Given P) (i : ℕ) (v : ℤ) → (run P.functions g i).state.rest.scheduler.outcome ≡ Running → (run P.functions g (i + 1)).state.rest.scheduler.outcome ≡ Ended v → next_part (run P.functions g i).state ≡ Step main }
     ensures alone { (g : Given P) (i : ℕ) (v : ℤ) → (run P.functions g i).state.rest.scheduler.outcome ≡ Running → (run P.functions g (i + 1)).state.rest.scheduler.outcome ≡ Ended v → is_alone (run P.functions g i).state main ≡ true }
     ensures value { (g : Given P) (i : ℕ) (v : ℤ) → (run P.functions g i).state.rest.scheduler.outcome ≡ Running → (run P.functions g (i + 1)).state.rest.scheduler.outcome ≡ Ended v → IsBetween P.functions g i (i + 1) (End (tid main) v ∷ []) }
+{}
+
+/// Every run comes to its end, or to each number of steps that it is to have.
+pub fn every_run_stops<P: Program>()
+    ensures { (g : Given P) (to i : ℕ) → (j : ℕ) × GoesTo P.functions g to i j }
 {}
