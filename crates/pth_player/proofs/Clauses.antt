@@ -6,16 +6,16 @@ use Rattle.pth_base.specs.declared.outcome.Outcome.{Outcome}
 use Rattle.pth_base.specs.declared.outcome.Outcome.TheVariants as outcomes
 use Rattle.pth_base.specs.declared.sink.SinkErr.{SinkErr}
 use Rattle.pth_base.specs.declared.sink.SinkErr.TheVariants as sink
+use Rattle.pth_model.specs.Run.{run}
 use Rattle.pth_print.specs.Lines.{fault_line, fault_status}
 use Rattle.pth_print.specs.declared.fault_line.Fault.{Fault}
 use Rattle.pth_print.specs.declared.fault_line.Fault.TheVariants as fault
 use Rattle.pth_script.specs.FirstForm.{IsAccepted}
 use Rattle.pth_script.specs.Script.{functions_of}
 use Rattle.pth_script.specs.declared.script.Line.{Line}
-use Rattle.pth_player.specs.Output.{Output, IsRefused, IsRunText, IsSoFar, IsTheScript, cut, given_script, outcome_status, refusal, step_limit}
+use Rattle.pth_player.specs.Output.{Output, IsRefused, IsRunOutput, IsTheOutput, IsTheScript, cut, given_script, outcome_status, refusal, step_limit, told_output}
 use Rattle.pth_player.specs.Play.{AreHeld, Completes, DrivesScript, Ends, HasLine, HoldsNoScript, IsFaultStatus, IsOutputStatus, IsRunStatus, ObjectRose, Ran, RefusesInput, Reports, Scene, TellsFault, WritesFault, WritesLine, WritesOutput, WritesWhole, content, object_of}
 use Rattle.pth_player.specs.Streams.{AppendsPart, AppendsPrefix}
-use Rattle.pth_player.proofs.Beginnings.{output_begins}
 use Rattle.pth_player.proofs.Outputs.{refused_output, script_output, words_output}
 use Rattle.pth_player.proofs.Pieces.{all_of, none_after, part_is_prefix}
 use Rattle.pth_player.proofs.Results.{always, told}
@@ -70,14 +70,15 @@ module _ (words : List (List ℕ)) (old new : Scene) (status : ℕ) (w x : Optio
   whole_words [] some is app line = absurd (some refl)
   whole_words (y ∷ ys) some is app line = ([], refl, refusal fault.Words, words_output y ys [], is, app, line)
 
-  -- a run has no fault
-  no_fault : (f : Option (List ℕ)) → f ≡ None → Appends w x [] → WritesFault w x b n f
-  no_fault f none app = subst (WritesFault w x b n) (sym none) app
+  -- the output of a script that stops at this part
+  abbrev run_told : List (List Line) → ℕ → Output
+  run_told bodies parts = told_output step_limit (run functions_of (given_script bodies) parts)
 
   whole : (r : Result Outcome Fault) → Ran words old new r → Ends r status w x b n → IsOutputStatus status → WholeOf words
   whole (Ok o) ran ends h =
       let d = ran.2 in
-      (d.0, d.1, d.4.0, script_output words d.0 d.2 d.4.0 ran.0 d.3 d.4.1, ends.0 ∙ sym d.4.2, d.4.3, no_fault d.4.0.fault (ap (λ (o : Output). o.fault) d.4.1.2) ends.1)
+      let out = run_told d.2 d.4.0 in
+      (d.0, d.1, out, script_output words d.0 d.2 out ran.0 d.3 (d.4.0, d.4.1, refl), ends.0 ∙ ap outcome_status d.4.2, d.4.3, ends.1)
   whole (Err fault.Words) ran ends h = elim ends [ inl k ↦ whole_words words ran.0 k.0 ran.2 k.1 | inr k ↦ absurd (not_whole status (inr (inr k.0)) h) ]
   whole (Err fault.Input) ran ends h = elim ends [
     | inl k ↦ (ran.2.0, ran.2.1, refusal fault.Input, refused_output words ran.2.0 ran.0 ran.2.2, k.0, ran.3, k.1)
@@ -87,35 +88,32 @@ module _ (words : List (List ℕ)) (old new : Scene) (status : ℕ) (w x : Optio
   whole (Err fault.WriteFault) ran ends h = elim ends [ inl k ↦ absurd (not_whole status (inr (inl k.0)) h) | inr k ↦ absurd (not_whole status (inr (inr k.0)) h) ]
   whole (Err fault.OutOfMemory) ran ends h = elim ends [ inl k ↦ absurd (not_whole status (inr (inr k.0)) h) | inr k ↦ absurd (not_whole status (inr (inr k.0)) h) ]
 
-  so_far : (bytes : List ℕ) (bodies : List (List Line)) (text : List ℕ) → words ≡ [] → IsTheScript bodies (cut bytes) → IsRunText functions_of (given_script bodies) step_limit text
-      → IsSoFar words bytes text
-  so_far bytes bodies text none script run = (none, bodies, script.0, run, output_begins words bytes bodies text none script run)
-
   abbrev Part : Type 0
-  Part = (bytes : List ℕ) × AreHeld (content words old) bytes × (text : List ℕ) × IsSoFar words bytes text × AppendsPart old.written new.written text
+  Part = (bytes : List ℕ) × AreHeld (content words old) bytes × (out : Output) × IsTheOutput words bytes out × AppendsPart old.written new.written out.text
 
   part : (r : Result Outcome Fault) → Ran words old new r → Ends r status w x b n → status ≡ 5 → Part
   part (Ok o) ran ends e = absurd (not_outcome o status 5 ends.0 (omega arith) (omega arith) e)
   part (Err fault.Words) ran ends e = absurd (other fault.Words ends 5 (λ h. omega arith) (λ h. omega arith) e)
   part (Err fault.Input) ran ends e = absurd (other fault.Input ends 5 (λ h. omega arith) (λ h. omega arith) e)
   part (Err fault.ReadFault) ran ends e = absurd (other fault.ReadFault ends 5 (λ h. omega arith) (λ h. omega arith) e)
-  part (Err fault.WriteFault) ran ends e = let d = ran.2 in (d.0, d.1, d.4.0, so_far d.0 d.2 d.4.0 ran.0 d.3 d.4.1, d.4.2)
+  part (Err fault.WriteFault) ran ends e = let d = ran.2 in (d.0, d.1, d.4.0, script_output words d.0 d.2 d.4.0 ran.0 d.3 d.4.1, d.4.2)
   part (Err fault.OutOfMemory) ran ends e = absurd (other fault.OutOfMemory ends 5 (λ h. omega arith) (λ h. omega arith) e)
 
   abbrev Beginning : Type 0
-  Beginning = (bytes : List ℕ) × AreHeld (content words old) bytes × (text : List ℕ) × IsSoFar words bytes text × AppendsPrefix old.written new.written text
+  Beginning = (bytes : List ℕ) × AreHeld (content words old) bytes × (out : Output) × IsTheOutput words bytes out × AppendsPrefix old.written new.written out.text
 
   beginning : (r : Result Outcome Fault) → Ran words old new r → Ends r status w x b n → status ≡ 7 → Appends old.written new.written [] ⊎ Beginning
   beginning (Ok o) ran ends e =
       let d = ran.2 in
-      inr (d.0, d.1, d.4.0.text, so_far d.0 d.2 d.4.0.text ran.0 d.3 (inl (d.4.0, d.4.1, refl)), all_of old.written new.written d.4.0.text d.4.3)
+      let out = run_told d.2 d.4.0 in
+      inr (d.0, d.1, out, script_output words d.0 d.2 out ran.0 d.3 (d.4.0, d.4.1, refl), all_of old.written new.written out.text d.4.3)
   beginning (Err fault.Words) ran ends e = inl ran.2
   beginning (Err fault.Input) ran ends e = inl ran.3
   beginning (Err fault.ReadFault) ran ends e = inl ran.2
   beginning (Err fault.WriteFault) ran ends e =
       let d = ran.2 in
-      inr (d.0, d.1, d.4.0, so_far d.0 d.2 d.4.0 ran.0 d.3 d.4.1, part_is_prefix old.written new.written d.4.0 d.4.2)
-  beginning (Err fault.OutOfMemory) ran ends e = elim ran.1 [ inl none ↦ inl none | inr d ↦ inr (d.0, d.1, d.4.0, so_far d.0 d.2 d.4.0 ran.0 d.3 d.4.1, d.4.2) ]
+      inr (d.0, d.1, d.4.0, script_output words d.0 d.2 d.4.0 ran.0 d.3 d.4.1, part_is_prefix old.written new.written d.4.0.text d.4.2)
+  beginning (Err fault.OutOfMemory) ran ends e = elim ran.1 [ inl none ↦ inl none | inr d ↦ inr (d.0, d.1, d.4.0, script_output words d.0 d.2 d.4.0 ran.0 d.3 d.4.1, d.4.2) ]
 
   nothing : (r : Result Outcome Fault) → Ran words old new r → Ends r status w x b n → Nothing → Appends old.written new.written []
   nothing (Ok o) ran ends h = absurd (not_fault o status ends.0 (elim h [ inl two ↦ inl two | inr k ↦ elim k [ inl three ↦ inr (inl three) | inr four ↦ inr (inr (inl four)) ] ]))

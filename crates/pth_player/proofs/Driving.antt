@@ -1,5 +1,5 @@
 -- What a drive has written of a run.
-use Rattle.std.proofs.Common.{◌≡◌, ◌≢◌, ◌∙◌, ◌+◌, ◌-◌, ◌⊎◌, ◌<◌, ◌≤◌, ℕ, List, [], ◌++◌, Option, Result, Ok, Err, IsErr, IsErrAnd, ap, ap₂, sym, refl, subst, append-nil, arith, inl, inr, map, min, true, false}
+use Rattle.std.proofs.Common.{◌≡◌, ◌≢◌, ◌∙◌, ◌+◌, ◌-◌, ◌⊎◌, ◌<◌, ◌≤◌, ℕ, List, [], ◌++◌, Option, Result, Ok, Err, IsErr, IsErrAnd, ap, ap₂, sym, refl, subst, append-nil, append_assoc, arith, inl, inr, map, min, true, false}
 use Rattle.std.proofs.lemmas.Bool.{cases_lt}
 use Rattle.std.proofs.KnownBytes.{Appends-nil, Appends-trans}
 use Rattle.std.specs.Io.KnownBytes.{Appends}
@@ -13,19 +13,24 @@ use Rattle.pth_base.specs.declared.sink.SinkErr.{SinkErr}
 use Rattle.pth_base.specs.declared.sink.SinkErr.TheVariants as sink
 use Rattle.pth_model.specs.State.{State, Given, start}
 use Rattle.pth_model.specs.Part.{Part, next_part, unless_ended}
-use Rattle.pth_model.specs.Run.{parts, run, stops, stops_by}
+use Rattle.pth_model.specs.Run.{parts, run, stops, stops_by, GoesTo}
 use Rattle.pth_model.specs.Living.{live}
 use Rattle.pth_model.proofs.Runs.{stops-later}
 use Rattle.pth_print.specs.Lines.{end_line}
 use Rattle.pth_sched.specs.MachineOf.{MachineOf}
 use Rattle.pth_sched.specs.Running.{Stands, StandsAt, GoesOn}
+use Rattle.pth_sched.proofs.Stopping.{run_stops}
 use Rattle.pth_threads.specs.Threads.{number}
 use Rattle.pth_player.specs.Drive.{Drives}
-use Rattle.pth_player.specs.Output.{Output, IsRunOutput, IsRunSoFar, outcome_status, told_output}
+use Rattle.pth_player.specs.Output.{Output, IsRunOutput, told_output}
+use Rattle.pth_player.specs.Streams.{AppendsPart, AppendsPrefix}
 use Rattle.pth_player.specs.Transcript.{WritesPiece, lines_of}
-use Rattle.pth_player.proofs.Beginnings.{lines_more}
+use Rattle.pth_player.proofs.Beginnings.{lines_more, run_begins}
 use Rattle.pth_player.proofs.Results.{err_is}
 use Rattle.pth_player.proofs.Pieces.{none_of, part_then, prefix_then}
+
+true_false : true ≡ false → ⊥
+true_false h = cc
 
 rose_later : (a b c : ℕ) → a ≤ b → Rose b c → Rose a c
 rose_later a b c le rose = omega arith
@@ -74,6 +79,16 @@ module _ {P S H : Type 0} (f : P → Functions S H) (g : Given P) (steps : ℕ) 
   -- and a run to so many steps stops there
   abbrev pub Stopped : ℕ → MachineOf P S H → Option (List ℕ) → Option (List ℕ) → List Mark → Type 0
   Stopped to m old new pending = (u : Underway m old new pending) × (stops to (run f g u.at).state ≡ true)
+
+  -- where the run stops, and its output
+  stop : (j : ℕ) × GoesTo f g steps 0 j
+  stop = run_stops f g steps 0
+
+  abbrev whole : Output
+  whole = told_output steps (run f g stop.0)
+
+  whole_is : IsRunOutput f g steps whole
+  whole_is = (stop.0, stop.1, refl)
 
   -- nothing was written yet
   pub begins : (m : MachineOf P S H) (a : Option (List ℕ)) → StandsAt f g 0 m → Underway m a a []
@@ -147,30 +162,36 @@ module _ {P S H : Type 0} (f : P → Functions S H) (g : Given P) (steps : ℕ) 
     lines_all : (pending : List Mark) (u : Underway m a b pending) → lines_of u.done ++ lines_of pending ≡ lines_of (run f g u.at).marks
     lines_all pending u = sym (ap lines_of u.all ∙ lines_more u.done pending)
 
-    so_far : (pending : List Mark) (u : Underway m a b pending) → IsRunSoFar f g steps (lines_of u.done ++ (lines_of pending ++ []))
-    so_far pending u = (u.at, u.going, ap (λ (l : List ℕ). lines_of u.done ++ l) (append-nil (lines_of pending)) ∙ lines_all pending u)
+    -- the run's output goes on after these lines
+    goes_further : (pending : List Mark) (u : Underway m a b pending) → (rest : List ℕ) × (lines_of u.done ++ (lines_of pending ++ rest) ≡ whole.text)
+    goes_further pending u = elim (cases_lt stop.0 u.at) [
+      | inl low ↦ absurd (true_false (sym stop.1.here ∙ u.going stop.0 low))
+      | inr high ↦
+          let t = run_begins f g steps u.at stop.0 (omega (arith, high)) in
+          (t.0, sym (append_assoc (lines_of u.done) (lines_of pending) t.0) ∙ ap (λ (l : List ℕ). l ++ t.0) (lines_all pending u) ∙ t.1)
+    ]
 
     -- memory ended before the last marks were written
     pub cut_by_memory : (pending : List Mark) (i j : ℕ) (r : Result Outcome SinkErr) → Underway m a b pending → IsErr r → IsErrAnd r (λ e. e ≡ sink.OutOfMemory)
         → Drives f g steps a b i j r
     cut_by_memory pending i j r u h k = subst (Drives f g steps a b i j) (sym (err_is r sink.OutOfMemory h k)) (
-      lines_of u.done ++ (lines_of pending ++ []),
-      inr (so_far pending u),
-      prefix_then a b b (lines_of u.done) (lines_of pending) [] u.written (none_of b (lines_of pending)),
+      whole,
+      whole_is,
+      let t = goes_further pending u in subst (AppendsPrefix a b) t.1 (prefix_then a b b (lines_of u.done) (lines_of pending) t.0 u.written (none_of b (lines_of pending))),
     )
 
     module _ (c : Option (List ℕ)) (i j k : ℕ) where
       cut_in_lines_by : (pending : List Mark) (x : SinkErr) → Underway m a b pending → i ≤ j → WritesPiece b c j k (lines_of pending) (Err x) → Drives f g steps a c i k (Err x)
       cut_in_lines_by pending sink.Failed u le w = (
-        lines_of u.done ++ (lines_of pending ++ []),
-        inr (so_far pending u),
-        part_then a b c (lines_of u.done) (lines_of pending) [] u.written w.1.0,
+        whole,
+        whole_is,
+        let t = goes_further pending u in subst (AppendsPart a c) t.1 (part_then a b c (lines_of u.done) (lines_of pending) t.0 u.written w.1.0),
         rose_later i j k le w.1.1,
       )
       cut_in_lines_by pending sink.OutOfMemory u le w = (
-        lines_of u.done ++ (lines_of pending ++ []),
-        inr (so_far pending u),
-        prefix_then a b c (lines_of u.done) (lines_of pending) [] u.written w.1,
+        whole,
+        whole_is,
+        let t = goes_further pending u in subst (AppendsPrefix a c) t.1 (prefix_then a b c (lines_of u.done) (lines_of pending) t.0 u.written w.1),
       )
 
       -- the lines of the last marks were not written whole
@@ -204,15 +225,15 @@ module _ {P S H : Type 0} (f : P → Functions S H) (g : Given P) (steps : ℕ) 
 
         cut_in_end_by : (x : SinkErr) → i ≤ j → WritesPiece b c j k (end_line o steps names) (Err x) → Drives f g steps a c i k (Err x)
         cut_in_end_by sink.Failed le w = (
-          lines_of s.0.done ++ (end_line o steps names ++ []),
-          inl (out, out_is, cut_is),
-          part_then a b c (lines_of s.0.done) (end_line o steps names) [] s.0.written w.1.0,
+          out,
+          out_is,
+          subst (AppendsPart a c) cut_is (part_then a b c (lines_of s.0.done) (end_line o steps names) [] s.0.written w.1.0),
           rose_later i j k le w.1.1,
         )
         cut_in_end_by sink.OutOfMemory le w = (
-          lines_of s.0.done ++ (end_line o steps names ++ []),
-          inl (out, out_is, cut_is),
-          prefix_then a b c (lines_of s.0.done) (end_line o steps names) [] s.0.written w.1,
+          out,
+          out_is,
+          subst (AppendsPrefix a c) cut_is (prefix_then a b c (lines_of s.0.done) (end_line o steps names) [] s.0.written w.1),
         )
 
         -- the last line was not written whole
@@ -223,9 +244,9 @@ module _ {P S H : Type 0} (f : P → Functions S H) (g : Given P) (steps : ℕ) 
         -- all was written
         pub finished : (x : Unit {0}) → WritesPiece b c j k (end_line o steps names) (Ok x) → Drives f g steps a c i k (Ok o)
         finished x w = (
-          out,
-          out_is,
-          ap outcome_status (sym last),
+          s.0.at,
+          record { later = omega arith; here = s.1; first = λ n from low. s.0.going n low },
+          last,
           subst (Appends a c) text_is (Appends-trans a b c (lines_of s.0.done) (end_line o steps names) s.0.written w.1),
         )
 

@@ -8,10 +8,9 @@ use Rattle.pth_model.proofs.Runs.{goes-once}
 use Rattle.pth_print.specs.declared.fault_line.Fault.TheVariants as fault
 use Rattle.pth_script.specs.Script.{functions_of}
 use Rattle.pth_script.specs.declared.script.Line.{Line}
-use Rattle.pth_player.specs.Output.{Output, IsBeginning, IsOutput, IsRefused, IsRunOutput, IsTheOutput, IsTheScript, cut, given_script, refusal, step_limit, told_output}
+use Rattle.pth_player.specs.Output.{Output, IsOutput, IsRefused, IsRunOutput, IsTheOutput, IsTheScript, cut, given_script, refusal, step_limit, told_output}
 use Rattle.pth_player.specs.Play.{IsOutputStatus, Scene, WritesFault, WritesOutput, content}
 use Rattle.pth_player.specs.Streams.{AppendsPart}
-use Rattle.pth_player.proofs.Pieces.{more_is_some}
 
 pub run_once : {P S H : Type 0} (f : P → Functions S H) (g : Given P) (steps : ℕ) (one two : Output) → IsRunOutput f g steps one → IsRunOutput f g steps two → one ≡ two
 run_once f g steps one two a b = a.2 ∙ ap (λ (k : ℕ). told_output steps (run f g k)) (goes-once f g steps 0 a.0 b.0 a.1 b.1) ∙ sym b.2
@@ -48,17 +47,11 @@ exactly words old new status w x b n bytes out writes held is s =
     let one : out ≡ h.2 = h.3.1 out (subst (λ (b : List ℕ). IsOutput words b out) (sym same) is) in
     (h.4 ∙ ap (λ (o : Output). o.status) (sym one), subst (λ (o : Output). Appends old.written new.written o.text) (sym one) h.5, subst (λ (o : Output). WritesFault w x b n o.fault) (sym one) h.6)
 
-within : (old new : Option (List ℕ)) (text whole : List ℕ) → AppendsPart old new text → IsBeginning text whole → AppendsPart old new whole
-within old new text whole p b = (
-  p.0 ++ b.0,
-  more_is_some p.0 b.0 p.1,
-  record { first = p.2.first; appended = p.2.appended; whole = sym (append_assoc p.2.first p.0 b.0) ∙ ap (λ (l : List ℕ). l ++ b.0) p.2.whole ∙ b.1 },
-)
-
 -- and with status 5 a beginning of this text was appended, and not the whole
 pub partly : (words : List (List ℕ)) (old new : Scene) (status : ℕ) (w x : Option (List ℕ)) (b n : ℕ) (bytes : List ℕ) (out : Output) → WritesOutput words old new status w x b n
     → content words old ≡ Some bytes → IsOutput words bytes out → status ≡ 5 → AppendsPart old.written new.written out.text
 partly words old new status w x b n bytes out writes held is s =
     let h = writes.part s in
     let same : h.0 ≡ bytes = subst (λ (o : Option (List ℕ)). IfSome o (λ xs. h.0 ≡ xs)) held h.1 in
-    within old.written new.written h.2 out.text h.4 (h.3.4 out (subst (λ (b : List ℕ). IsOutput words b out) (sym same) is))
+    let one : out ≡ h.2 = h.3.1 out (subst (λ (b : List ℕ). IsOutput words b out) (sym same) is) in
+    subst (λ (o : Output). AppendsPart old.written new.written o.text) (sym one) h.4

@@ -1,11 +1,11 @@
 -- What the program writes, and its status, for words and the bytes of its input.
-use Rattle.std.specs.Prelude.{◌≡◌, ◌<◌, ◌+◌, ◌++◌, ◌⊎◌, ℕ, false, List, [], ◌∷◌, Option, Some, None, take}
+use Rattle.std.specs.Prelude.{◌≡◌, ◌+◌, ◌⊎◌, ℕ, List, [], ◌∷◌, Option, Some, None, take}
 use Rattle.pth_base.specs.Program.{Functions}
 use Rattle.pth_base.specs.declared.outcome.Outcome.{Outcome}
 use Rattle.pth_base.specs.declared.outcome.Outcome.TheVariants as outcomes
 use Rattle.pth_model.specs.State.{Given}
 use Rattle.pth_model.specs.Told.{Told}
-use Rattle.pth_model.specs.Run.{run, stops, GoesTo}
+use Rattle.pth_model.specs.Run.{run, GoesTo}
 use Rattle.pth_model.specs.Living.{live}
 use Rattle.pth_print.specs.Lines.{fault_line, fault_status}
 use Rattle.pth_print.specs.declared.fault_line.Fault.{Fault}
@@ -13,7 +13,7 @@ use Rattle.pth_print.specs.declared.fault_line.Fault.TheVariants as fault
 use Rattle.pth_script.specs.FirstForm.{IsAccepted}
 use Rattle.pth_script.specs.Script.{functions_of}
 use Rattle.pth_script.specs.declared.script.Line.{Line}
-use Rattle.pth_player.specs.Transcript.{lines_of, transcript}
+use Rattle.pth_player.specs.Transcript.{transcript}
 
 -- the bytes that an input may have; reading stops at the byte after them
 unfoldable pub limit : ℕ
@@ -68,15 +68,6 @@ module _ {P S H : Type 0} where
   abbrev pub IsRunOutput : (P → Functions S H) → Given P → ℕ → Output → Type 0
   IsRunOutput f g steps out = (parts : ℕ) × GoesTo f g steps 0 parts × (out ≡ told_output steps (run f g parts))
 
-  -- the lines of what a run tells up to some part, before which it does not stop
-  abbrev pub IsRunSoFar : (P → Functions S H) → Given P → ℕ → List ℕ → Type 0
-  IsRunSoFar f g steps text =
-      (parts : ℕ) × ((k : ℕ) → k < parts → stops steps (run f g k).state ≡ false) × (text ≡ lines_of (run f g parts).marks)
-
-  -- the whole text of a run's output, or its lines so far
-  abbrev pub IsRunText : (P → Functions S H) → Given P → ℕ → List ℕ → Type 0
-  IsRunText f g steps text = ((out : Output) × IsRunOutput f g steps out × (text ≡ out.text)) ⊎ IsRunSoFar f g steps text
-
 -- what the run of a script of these bodies is given
 abbrev pub given_script : List (List Line) → Given (List (List Line))
 given_script bodies = record { program = bodies }
@@ -95,14 +86,3 @@ IsOutput (word ∷ words) bytes out = out ≡ refusal fault.Words
 -- the output for words and an input, and there is no other
 abbrev pub IsTheOutput : List (List ℕ) → List ℕ → Output → Type 0
 IsTheOutput words bytes out = IsOutput words bytes out × ((other : Output) → IsOutput words bytes other → other ≡ out)
-
--- a text begins with another
-abbrev pub IsBeginning : List ℕ → List ℕ → Type 0
-IsBeginning first text = (rest : List ℕ) × (first ++ rest ≡ text)
-
--- for no words and an input that holds a script: the whole text of the output, or the lines of the run so far; the
--- output's text begins with it
-abbrev pub IsSoFar : List (List ℕ) → List ℕ → List ℕ → Type 0
-IsSoFar words bytes text =
-    (words ≡ []) × (bodies : List (List Line)) × IsAccepted bodies (cut bytes) × IsRunText functions_of (given_script bodies) step_limit text
-    × ((out : Output) → IsOutput words bytes out → IsBeginning text out.text)

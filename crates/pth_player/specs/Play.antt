@@ -11,7 +11,7 @@ use Rattle.pth_print.specs.declared.fault_line.Fault.TheVariants as fault
 use Rattle.pth_script.specs.Script.{functions_of}
 use Rattle.pth_script.specs.declared.script.Line.{Line}
 use Rattle.pth_player.specs.Streams.{AppendsPart, AppendsPrefix}
-use Rattle.pth_player.specs.Output.{Output, IsTheOutput, IsRefused, IsSoFar, IsTheScript, cut, given_script, limit, outcome_status, step_limit}
+use Rattle.pth_player.specs.Output.{Output, IsTheOutput, IsRefused, IsTheScript, cut, given_script, limit, outcome_status, step_limit}
 use Rattle.pth_player.specs.Drive.{Drives}
 
 -- what the input and the files tell at a moment
@@ -170,12 +170,12 @@ WritesWhole words old new status err_old err_new before now =
 pub record WritesOutput (words : List (List ℕ)) (old new : Scene) (status : ℕ) (err_old err_new : Option (List ℕ)) (before now : ℕ) : Type 0 where
   -- 0, 1, 2, 3, 6
   pub whole : IsOutputStatus status → WritesWhole words old new status err_old err_new before now
-  -- 5: a beginning of the output's text or of the run's lines so far, and not the whole
+  -- 5: a beginning of the output's text, and not the whole
   pub part : status ≡ 5
-      → (bytes : List ℕ) × AreHeld (content words old) bytes × (text : List ℕ) × IsSoFar words bytes text × AppendsPart old.written new.written text
-  -- 7: nothing, or a beginning of such a text
+      → (bytes : List ℕ) × AreHeld (content words old) bytes × (out : Output) × IsTheOutput words bytes out × AppendsPart old.written new.written out.text
+  -- 7: nothing, or a beginning of the output's text
   pub beginning : status ≡ 7 → Appends old.written new.written []
-      ⊎ ((bytes : List ℕ) × AreHeld (content words old) bytes × (text : List ℕ) × IsSoFar words bytes text × AppendsPrefix old.written new.written text)
+      ⊎ ((bytes : List ℕ) × AreHeld (content words old) bytes × (out : Output) × IsTheOutput words bytes out × AppendsPrefix old.written new.written out.text)
   pub nothing : (status ≡ 2) ⊎ ((status ≡ 3) ⊎ (status ≡ 4)) → Appends old.written new.written []
 
 -- where neither the count of the object read nor that of `out` rose, the output was written whole, or memory ran out
