@@ -86,11 +86,6 @@ module _ {A : Type 0} (d : A) (slot_of : ℕ → Option ℕ) (tid_at : ℕ → �
   unfolding seen
   seen_add x free = put_is _ _ t x (rw (put_here slot_of t (Some u)) (put_here f u x)) (λ v apart. rw (put_other slot_of t (Some u) v apart) (add_other x v (slot_of v) free refl))
 
-  -- where it has nothing yet
-  pub seen_bare : slot_of t ≡ None → f u ≡ d → seen d (put slot_of t (Some u)) f ≡ seen d slot_of f
-  unfolding seen
-  seen_bare none bare = put_is (seen d slot_of f) _ t d (rw (put_here slot_of t (Some u)) bare) (λ v apart. rw (put_other slot_of t (Some u) v apart)) ∙ put_same (seen d slot_of f) t d (rw none)
-
   -- a thread is dropped, with what its slot has
   pub seen_drop : (x : A) → slot_of t ≡ Some u → seen d (put slot_of t None) (put f u x) ≡ put (seen d slot_of f) t d
   unfolding seen

@@ -113,6 +113,8 @@ impl Files for MemoryFiles {
         ensures whole { OnOk result (self.new.rest ≡ held_under self.old name.now) }
         ensures cause { HasCause self.old.faults self.new.faults result }
         ensures fails { IsErr result ↔ Contains self.old.fails (min (self.old.calls + 1) (2 ^ 64 - 1)) ⊎ (name.now ≢ self.old.name) }
+        ensures calls { self.new.calls ≡ min (self.old.calls + 1) (2 ^ 64 - 1) }
+        ensures same { (self.new.name ≡ self.old.name) × (self.new.bytes ≡ self.old.bytes) × (self.new.fails ≡ self.old.fails) }
     {
         self.calls = self.calls.saturating_add(1);
         if self.fails.contains(&self.calls) || name != self.name.as_str() {
@@ -131,6 +133,8 @@ impl Files for MemoryFiles {
         ensures bytes { ReadConsumes self.old.rest self.new.rest result buf.new }
         ensures cause { HasCause self.old.faults self.new.faults result }
         ensures fails { IsErr result ↔ Contains self.old.fails (min (self.old.calls + 1) (2 ^ 64 - 1)) }
+        ensures calls { self.new.calls ≡ min (self.old.calls + 1) (2 ^ 64 - 1) }
+        ensures same { (self.new.name ≡ self.old.name) × (self.new.bytes ≡ self.old.bytes) × (self.new.fails ≡ self.old.fails) }
     {
         self.calls = self.calls.saturating_add(1);
         if self.fails.contains(&self.calls) {
@@ -173,6 +177,8 @@ impl SureFiles {
 }
 
 impl Files for SureFiles {
+    ghost use Rattle.pth_base.specs.Faults.{HasCause};
+
     ghost started = { λ s. is_some s.1 };
 
     ghost left = { λ s. s.1 };
@@ -181,13 +187,26 @@ impl Files for SureFiles {
 
     ghost faults = { λ _. 0 };
 
-    fn start(&mut self, name: &str) -> Result<(), Failed> {
+    fn start(&mut self, name: &str) -> Result<(), Failed>
+        ensures started { OnOk result (is_some self.new.1 ≡ true) }
+        ensures none { OnErr result (is_some self.new.1 ≡ false) }
+        ensures whole { OnOk result (self.new.1 ≡ Some self.old.0) }
+        ensures cause { HasCause 0 0 result }
+        ensures same { self.new.0 ≡ self.old.0 }
+    {
         let _ = name;
         self.at = Some(0);
         Ok(())
     }
 
-    fn read(&mut self, buf: &mut [u8]) -> Result<usize, Failed> {
+    fn read(&mut self, buf: &mut [u8]) -> Result<usize, Failed>
+        requires { is_some self.old.1 ≡ true }
+        ensures started { is_some self.new.1 ≡ true }
+        ensures bound { ReadsAtMost result buf.new }
+        ensures bytes { ReadConsumes self.old.1 self.new.1 result buf.new }
+        ensures cause { HasCause 0 0 result }
+        ensures same { self.new.0 ≡ self.old.0 }
+    {
         let at = self.at.unwrap();
         let n = fill(buf, &self.bytes[at..]);
         self.at = Some(at + n);

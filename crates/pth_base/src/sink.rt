@@ -1,6 +1,6 @@
 //! What is written to: standard output and error, and their stand-ins in memory.
 
-ghost use Rattle.std.specs.Prelude.{◌≡◌, ◌+◌, ◌<◌, ◌↔◌, ℕ, List, [], Option, Some, IfOk, IsErrOf, length};
+ghost use Rattle.std.specs.Prelude.{◌≡◌, ◌+◌, ◌<◌, ◌↔◌, ℕ, List, [], Option, Some, IfOk, IsErrOf, OnErr, length};
 ghost use Rattle.std.specs.Io.{WritesAtMost};
 ghost use Rattle.std.specs.Io.KnownBytes.{WriteAppends};
 
@@ -95,6 +95,8 @@ impl Sink for MemorySink {
         ensures cause { HasSinkCause self.old.faults self.new.faults result }
         ensures fails { IsErrOf result SinkErr.Failed ↔ (0 < length bytes.now) × (self.old.room ≡ 0) }
         ensures no_memory { IsErrOf result SinkErr.OutOfMemory → ⊥ }
+        ensures room { IfOk result (λ n. self.new.room + n ≡ self.old.room) }
+        ensures full { OnErr result (self.new.room ≡ self.old.room) }
     {
         let n = bytes.len().min(self.room);
         if n == 0 && !bytes.is_empty() {

@@ -67,9 +67,3 @@ module _ (old new : Option (List ℕ)) (before now : ℕ) (bytes seen : List ℕ
   pub read_is : (r : Result (List (List Line)) ReadErr) → TakesUpTo 16777217 old new bytes → seen ≡ bytes → IfOk r (λ bodies. IsAccepted bodies seen)
       → ((other : List (List Line)) → IsAccepted other seen → IfOk r (λ bodies. bodies ≡ other)) → (IsErrOf r script.Refused → IsRefused seen) → MatchResult r (λ x. s ≡ Ok x) (λ e. IsErrAnd s (λ f. f ≡ fault_of_script e)) → ReadsScript old new before now s
   read_is r t = read_by r (held_is old new bytes t) (loses old new bytes t)
-
--- an input that is not read to its end
-pub unread_is : (old new : Option (List ℕ)) (before now : ℕ) (e : ReadFault) (s : Result (List (List Line)) Fault) → (e ≡ read.Failed → Rose before now)
-    → IsErrAnd s (λ f. f ≡ fault_of_read e) → ReadsScript old new before now s
-unread_is old new before now read.Failed s rose m = subst (ReadsScript old new before now) (sym (err_and s fault.ReadFault m)) (rose refl)
-unread_is old new before now read.OutOfMemory s rose m = subst (ReadsScript old new before now) (sym (err_and s fault.OutOfMemory m)) tt

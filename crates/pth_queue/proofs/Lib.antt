@@ -4,5 +4,4 @@ pub mod Orders
 pub mod Sets
 pub mod Kept
 pub mod Names
-pub mod NamedQueues
 pub mod Standing

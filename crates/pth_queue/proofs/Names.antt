@@ -30,10 +30,6 @@ pub increase_named : (f : ℕ → ℕ) (xs : List Row) → map (named_row f) (in
 increase_named f [] = refl
 increase_named f (x ∷ xs) = ap (λ (l : List Row). raised (named_row f x) ∷ l) (increase_named f xs)
 
-pub favour_top_named : (f : ℕ → ℕ) (xs : List Row) → favour_top (map (named_row f) xs) ≡ favour_top xs
-favour_top_named f [] = refl
-favour_top_named f (x ∷ xs) = refl
-
 pub head_named : (f : ℕ → ℕ) (xs : List Row) → head_of (map (named_row f) xs) ≡ option_map f (head_of xs)
 head_named f [] = refl
 head_named f (x ∷ xs) = refl

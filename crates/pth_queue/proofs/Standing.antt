@@ -36,27 +36,6 @@ queue_of-holds Dead s qs o h =
     let d : holds s qs.suspended ≡ false = holds-none s qs.suspended (omega (arith, o.once s)) in
     rw (a, b, c, d, h)
 
-pub queue_of-head : (q : Queue) (s : ℕ) (qs : QueuesOf) → IsOrderly qs → head_of (rows_of q qs) ≡ Some s → queue_of s qs ≡ Some q
-queue_of-head q s qs o head = queue_of-holds q s qs o (holds-count s (rows_of q qs) (count-head s (rows_of q qs) head))
-
--- a slot is taken out of every queue
-pub IsNowhere-without : (s : ℕ) (qs : QueuesOf) → IsNowhere s (without s qs)
-IsNowhere-without s qs =
-    let a : holds s (delete s qs.new) ≡ false = holds-none s (delete s qs.new) (count-delete s qs.new) in
-    let b : holds s (delete s qs.ready) ≡ false = holds-none s (delete s qs.ready) (count-delete s qs.ready) in
-    let c : holds s (delete s qs.waiting) ≡ false = holds-none s (delete s qs.waiting) (count-delete s qs.waiting) in
-    let d : holds s (delete s qs.suspended) ≡ false = holds-none s (delete s qs.suspended) (count-delete s qs.suspended) in
-    let e : holds s (delete s qs.dead) ≡ false = holds-none s (delete s qs.dead) (count-delete s qs.dead) in
-    rw (a, b, c, d, e)
-
--- a slot stands where it was entered
-pub queue_of-entered : (q : Queue) (rank : ℤ) (s : ℕ) (qs : QueuesOf) → IsOrderly qs → s < qs.room → IsNowhere s qs → IsRank rank → queue_of s (entered q rank s qs) ≡ Some q
-queue_of-entered q rank s qs o low nowhere fits =
-    let e : Row = record { rank = rank; who = s } in
-    let counted : 1 ≤ count_by (is_of s) (insert e (rows_of q qs)) = (let one : cond {A = ℕ} (is_of s e) 1 0 ≡ 1 = ap (λ b. cond {A = ℕ} b 1 0) (same_self s) in omega (arith, count-insert s e (rows_of q qs))) in
-    queue_of-holds q s (entered q rank s qs) (IsOrderly-entered q rank s qs o low nowhere fits)
-    (ap (holds s) (rows_of-with q (insert e (rows_of q qs)) qs) ∙ holds-count s (insert e (rows_of q qs)) counted)
-
 low_by : (room s : ℕ) (x : Row) (xs : List Row) (b : Bool) → (x.who == s) ≡ b → x.who < room → (holds s xs ≡ true → s < room) → (b || holds s xs) ≡ true → s < room
 low_by room s x xs true test low more h = let same : x.who ≡ s = same_means x.who s test in omega arith
 low_by room s x xs false test low more h = more h
@@ -64,10 +43,6 @@ low_by room s x xs false test low more h = more h
 low_in : (room s : ℕ) (xs : List Row) → All (λ x. x.who < room) xs → holds s xs ≡ true → s < room
 low_in room s [] all h = cc
 low_in room s (x ∷ xs) all h = low_by room s x xs (x.who == s) refl (All-head (λ x. x.who < room) x xs all) (low_in room s xs (All-tail (λ x. x.who < room) x xs all)) h
-
--- a slot that stands in a queue is reserved
-pub room-queue_of : (q : Queue) (s : ℕ) (qs : QueuesOf) → IsOrderly qs → queue_of s qs ≡ Some q → s < qs.room
-room-queue_of q s qs o stands = low_in qs.room s (rows_of q qs) (o.each q).slots (holds-queue_of q s qs stands)
 
 -- a queue with no head is empty
 pub head_of-None : (xs : List Row) → head_of xs ≡ None → xs ≡ []

@@ -3,7 +3,7 @@ use Rattle.std.specs.Prelude.{◌≡◌, ℕ, ◌+◌, ◌^◌, ◌<◌, ◌≤�
 use Rattle.pth_queue.specs.declared.queue.Queue.{Queue}
 use Rattle.pth_queue.specs.declared.queue.Queue.TheVariants.{New, Ready, Waiting, Suspended, Dead}
 use Rattle.pth_queue.specs.declared.row.Row.{Row}
-use Rattle.pth_queue.specs.Rows.{is_of, insert, delete, holds, after_in, place_in, named_row, IsQueued}
+use Rattle.pth_queue.specs.Rows.{is_of, insert, delete, holds, after_in, place_in}
 
 -- the rows of each queue; slots below `room` may be used
 pub record QueuesOf : Type 0 where
@@ -83,25 +83,6 @@ pub record IsRank (rank : ℤ) : Type 0 where
 abbrev pub CanRise : List Row → Type 0
 CanRise [] = Unit {0}
 CanRise (x ∷ xs) = x.rank <ℤ pos (2 ^ 40)
-
--- the queues under other names
-abbrev pub named_queues : (ℕ → ℕ) → QueuesOf → QueuesOf
-named_queues name qs = record {
-  new = map (named_row name) qs.new;
-  ready = map (named_row name) qs.ready;
-  waiting = map (named_row name) qs.waiting;
-  suspended = map (named_row name) qs.suspended;
-  dead = map (named_row name) qs.dead;
-  room = qs.room;
-}
-
--- each row of each queue is of a thread
-pub record AllQueued (tid_at : ℕ → ℕ) (qs : QueuesOf) : Type 0 where
-  pub new : IsQueued tid_at qs.new
-  pub ready : IsQueued tid_at qs.ready
-  pub waiting : IsQueued tid_at qs.waiting
-  pub suspended : IsQueued tid_at qs.suspended
-  pub dead : IsQueued tid_at qs.dead
 
 -- how often this slot stands in the queues
 abbrev pub times : ℕ → QueuesOf → ℕ

@@ -22,16 +22,9 @@ opening_reads number body after text line rest small e f = first_line_is text li
 pub opening_none : (number : ℕ) (body : List Line) (after text : List ℕ) → body_text number body ++ after ≡ text → Lacks 10 text → ⊥
 opening_none number body after text e h = no_line text (opening number) (lines_text body ++ after) h (opening_first number body after text e)
 
-pub body_found : (number : ℕ) (body : List Line) (text line rest new : List ℕ) → IsFirstLine text line rest → line ≡ opening number → lines_text body ++ new ≡ rest → body_text number body ++ new ≡ text
-body_found number body text line rest new f e h =
-    sym (cut_apart (opening number) (lines_text body) new) ∙ ap (λ t. opening number ++ 10 ∷ t) h ∙ ap (λ t. t ++ 10 ∷ rest) (sym e) ∙ f.whole
-
 -- a body has a text
 body_some : (number : ℕ) (body : List Line) → 0 < length (body_text number body)
 body_some number body = omega arith
-
-pub body_shortens : (number : ℕ) (body : List Line) (new text : List ℕ) → body_text number body ++ new ≡ text → length new < length text
-body_shortens number body new text e = omega (arith, body_some number body, length-append (body_text number body) new, ap length e)
 
 -- the rest of bodies, of which some were read
 pub record BodiesGoOn (done all : List (List Line)) (rest : List ℕ) : Type 0 where

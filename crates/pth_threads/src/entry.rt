@@ -36,7 +36,7 @@ pub struct Entry {
     /// Whether a cancel was asked for that is not yet carried out (`pth_cancel`).
     pub request: bool,
     pub state: ThreadState,
-    /// Whether it stands in no queue until it is resumed (`pth_suspend`).
+    /// Whether it stands among the suspended threads until it is resumed (`pth_suspend`).
     pub suspended: bool,
     /// How often it was given the processor (`PTH_ATTR_DISPATCHES`).
     pub dispatches: u64,

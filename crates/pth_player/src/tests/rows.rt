@@ -72,7 +72,7 @@ fn scripts_are_run(rt: HostRuntime) -> Result<(), Fail> {
             "pth 1\nthread 0\nspawn 1 0 0\nexit 9223372036854775807\nend\nthread 1\nend\n",
             "turn 1 at 0 t1 rank 0\nt1 spawn 1 0 0 = 2\nt1 exit 9223372036854775807 waits\nturn 2 at 1 t2 rank 5\nt2 ends 0\nwake t1 rank 1\nturn 3 at 2 t1 rank 1\nt1 ends 9223372036854775807\nended 9223372036854775807\n",
         ),
-        // a waiting thread rises by one a turn
+        // a ready thread rises by one a turn
         (
             "pth 1\nthread 0\nspawn 1 0 0\nyield 0\nexit 0\nend\nthread 1\nspawn 2 0 0\nend\nthread 2\nspawn 3 0 0\nend\nthread 3\nspawn 4 0 0\nend\nthread 4\nend\n",
             "turn 1 at 0 t1 rank 0\nt1 spawn 1 0 0 = 2\nt1 yield 0 = 1\nturn 2 at 1 t2 rank 1\nt2 spawn 2 0 0 = 3\nt2 ends 0\nturn 3 at 2 t3 rank 2\nt3 spawn 3 0 0 = 4\nt3 ends 0\nturn 4 at 3 t4 rank 3\nt4 spawn 4 0 0 = 5\nt4 ends 0\nturn 5 at 4 t5 rank 4\nt5 ends 0\nturn 6 at 5 t1 rank 4\nt1 ends 0\nended 0\n",
