@@ -1,13 +1,7 @@
 -- Lines end with LF, which is the byte 10.
-use Rattle.std.specs.Prelude.{◌≡◌, ◌≢◌, ℕ, ◌<◌, ◌≤◌, List, length, slice_index}
+use Rattle.std.specs.Prelude.{ℕ, ◌+◌, ◌==◌, List, drop, Option, option_map}
+use Rattle.std.specs.List.{position}
 
--- the first LF at a place or later
-pub record IsLineEnd (bytes : List ℕ) (from at : ℕ) : Type 0 where
-  pub later : from ≤ at
-  pub inside : at < length bytes
-  pub is_line_end : slice_index bytes at ≡ 10
-  pub first : (k : ℕ) → from ≤ k → k < at → slice_index bytes k ≢ 10
-
--- there is no LF at a place or later
-abbrev pub HasNoLineEnd : List ℕ → ℕ → Type 0
-HasNoLineEnd bytes from = (k : ℕ) → from ≤ k → k < length bytes → slice_index bytes k ≢ 10
+-- the place of the first LF at a place or later
+abbrev pub line_end_of : List ℕ → ℕ → Option ℕ
+line_end_of bytes from = option_map (λ i. from + i) (position (λ b. b == 10) (drop from bytes))

@@ -1,12 +1,26 @@
 -- How numbers are spelled: `0`, or an optional `-`, a digit from 1 to 9 and further digits.
-use Rattle.std.specs.Prelude.{◌≡◌, ℤ, List, ℕ, FitsSigned}
-use Rattle.std.specs.Int.{w64}
-use Rattle.std.specs.Fmt.{signed_decimal}
+use Rattle.std.specs.Prelude.{ℕ, ℤ, ◌^◌, ◌==◌, nat_lt, Bool, false, not, ◌&&◌, ◌||◌, List, [], ◌∷◌, drop, codes, Option, Some, None, if◌then◌else◌}
+use Rattle.std.specs.Int.Signed.{mag}
+use Rattle.std.specs.Str.{all_ascii_digits, bytes_eq}
+use Rattle.std.specs.Str.Parse.{starts_with_minus, signed_digits_value}
 
--- the word is the spelling of a number
-abbrev pub Spells : List ℕ → ℤ → Type 0
-Spells word n = signed_decimal n ≡ word
+-- digits, of which the first is not 0
+abbrev pub is_positive : List ℕ → Bool
+is_positive [] = false
+is_positive (c ∷ cs) = not (c == 48) && all_ascii_digits (c ∷ cs)
 
--- the word is the spelling of no number of 64 bits
-abbrev pub SpellsNone : List ℕ → Type 0
-SpellsNone word = (n : ℤ) → FitsSigned w64 n → Spells word n → ⊥
+-- what follows a `-`, and the whole word where it begins with none
+abbrev pub without_minus : List ℕ → List ℕ
+without_minus word = if starts_with_minus word then drop 1 word else word
+
+-- the word spells a number, of any size
+abbrev pub is_numeral : List ℕ → Bool
+is_numeral word = bytes_eq word (codes "0") || is_positive (without_minus word)
+
+-- a number of 64 bits with a sign
+abbrev pub is_i64 : ℤ → Bool
+is_i64 n = nat_lt (mag n) (2 ^ 63)
+
+-- the number that a word spells, where it is one of 64 bits
+unfoldable pub number_of : List ℕ → Option ℤ
+number_of word = let n = signed_digits_value 10 word in if is_numeral word && is_i64 n then Some n else None

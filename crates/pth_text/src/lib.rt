@@ -1,8 +1,10 @@
 //! Text that grows, and what single words and lines of a text are.
 #![tactic(auto)]
 
+pub mod hex;
 pub mod line;
 pub mod number;
 #[cfg(test)]
 mod tests;
 pub mod text;
+pub mod words;

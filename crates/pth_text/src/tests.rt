@@ -1,6 +1,8 @@
+use crate::hex::{is_hex, read_hex};
 use crate::line::line_end;
 use crate::number::read_number;
 use crate::text::Text;
+use crate::words::words;
 use std::test::Fail;
 
 #[test]
@@ -48,13 +50,62 @@ fn numbers_have_one_spelling(rt: HostRuntime) {
         b"-0",
         b"+1",
         b"01",
+        b"010",
         b"1x",
         b" 1",
         b"9223372036854775808",
         b"-9223372036854775809",
         b"\xff",
+        b"1\0",
     ];
     for word in others {
-        assert_eq!(rt; read_number(word), None);
+        assert_eq!(rt; read_number(word), None, "of {word:?}");
     }
+}
+
+#[test]
+fn lines_are_cut_at_each_space(rt: HostRuntime) -> Result<(), Fail> {
+    for (line, wanted) in [
+        (b"".as_slice(), [b"".as_slice()].as_slice()),
+        (b"spawn", &[b"spawn"]),
+        (b"a b\tc", &[b"a", b"b\tc"]),
+        (b"a  b", &[b"a", b"", b"b"]),
+        (b" a", &[b"", b"a"]),
+        (b"a ", &[b"a", b""]),
+    ] {
+        assert_eq!(rt; words(rt.alloc(), line)?.as_slice(), wanted, "of {line:?}");
+    }
+    Ok(())
+}
+
+#[test]
+fn pairs_of_lower_case_digits_are_bytes(rt: HostRuntime) -> Result<(), Fail> {
+    for (word, bytes) in [
+        (b"00".as_slice(), Some([0].as_slice())),
+        (b"19afff", Some(&[25, 175, 255])),
+        (b"", None),
+        (b"0", None),
+        (b"00f", None),
+        (b"0A", None),
+        (b"0g", None),
+        (b"0/", None),
+        (b"0 00", None),
+    ] {
+        assert_eq!(rt; is_hex(word), bytes.is_some(), "of {word:?}");
+        let read = read_hex(rt.alloc(), word)?;
+        assert_eq!(rt; read.as_ref().map(|b| b.as_slice()), bytes, "of {word:?}");
+    }
+    Ok(())
+}
+
+#[test]
+fn a_word_has_at_most_2048_pairs(rt: HostRuntime) -> Result<(), Fail> {
+    let digits = [b'a'; 4098];
+    let longest = &digits[..4096];
+    assert!(rt; is_hex(longest));
+    let read = read_hex(rt.alloc(), longest)?.ok_or("refused")?;
+    assert_eq!(rt; read.as_slice(), [170; 2048].as_slice());
+    assert!(rt; !is_hex(&digits));
+    assert!(rt; read_hex(rt.alloc(), &digits)?.is_none());
+    Ok(())
 }
