@@ -1,0 +1,70 @@
+-- What a thread keeps of the answer of its last call.
+use Rattle.std.specs.Prelude.{ℕ, ℤ, pos, negsuc, length, Option, Some, None, ◌-◌, ◌^◌, nat_lt, if◌then◌else◌}
+use Rattle.pth_base.specs.declared.answer.Answer.{Answer}
+use Rattle.pth_base.specs.declared.answer.Answer.TheVariants as answer
+use Rattle.pth_base.specs.declared.errno.Errno.{Errno}
+use Rattle.pth_base.specs.declared.errno.Errno.TheVariants as errno
+use Rattle.pth_line.specs.Values.{View, put_register}
+use Rattle.pth_line.specs.declared.frame.Frame.{Frame}
+use Rattle.pth_line.specs.declared.frame.Owed.{Owed}
+use Rattle.pth_line.specs.declared.frame.Owed.TheVariants as owed
+use Rattle.pth_line.specs.declared.operand.Register.{Register}
+
+-- the number of an error
+abbrev pub error_number : Errno → ℤ
+error_number errno.EPERM = pos 1
+error_number errno.ENOENT = pos 2
+error_number errno.ESRCH = pos 3
+error_number errno.EINTR = pos 4
+error_number errno.EIO = pos 5
+error_number errno.EBADF = pos 9
+error_number errno.EAGAIN = pos 11
+error_number errno.EACCES = pos 13
+error_number errno.EBUSY = pos 16
+error_number errno.EEXIST = pos 17
+error_number errno.EINVAL = pos 22
+error_number errno.EDEADLK = pos 35
+error_number errno.ECONNREFUSED = pos 111
+
+-- what `err` becomes
+abbrev pub error_of : Answer → ℤ
+error_of (answer.Fail e) = error_number e
+error_of _ = pos 0
+
+-- the number that goes to a register
+abbrev pub number_of_answer : Answer → ℤ
+number_of_answer answer.None = pos 0
+number_of_answer (answer.Int n) = n
+number_of_answer (answer.Bytes b) = pos (length b)
+number_of_answer (answer.Sets count r w x) = count
+number_of_answer (answer.Text name) = pos (length name)
+number_of_answer (answer.Msg id value) = value
+number_of_answer (answer.Fail e) = negsuc 0
+
+-- the greatest number of 64 bits stands for a message's number beyond it
+abbrev pub message_number : ℕ → ℤ
+message_number id = if nat_lt id (2 ^ 63) then pos id else pos (2 ^ 63 - 1)
+
+-- the bytes that were read, or the message that was got
+abbrev pub held : Answer → Frame → Frame
+held (answer.Bytes b) f = record f { buffer = b }
+held (answer.Msg id value) f = record f { message = message_number id.0 }
+held _ f = f
+
+-- a call's answer sets `err`
+abbrev pub kept : Answer → View → View
+kept a s = record s { frame = record (held a s.frame) { error = error_of a; owed = owed.Nothing } }
+
+-- and it goes to a register where the line names one
+abbrev pub answered : Option Register → Answer → View → View
+answered None a s = kept a s
+answered (Some r) a s = put_register (kept a s) r (number_of_answer a)
+
+-- what a thread keeps of an answer, by what it awaits: nothing where it made no call
+abbrev pub heard_for : Owed → Answer → View → View
+heard_for owed.Nothing a s = s
+heard_for (owed.Answer r) a s = answered r a s
+
+-- what a thread keeps of the answer that it is handed
+unfoldable pub heard : Answer → View → View
+heard a s = heard_for s.frame.owed a s

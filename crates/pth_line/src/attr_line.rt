@@ -1,0 +1,77 @@
+//! Lines that call on attribute objects.
+
+ghost use Rattle.std.specs.Prelude.{◌≡◌};
+ghost use Rattle.pth_line.specs.Values.{view};
+
+use crate::cells::Cells;
+use crate::frame::Frame;
+use crate::operand::Operand;
+use pth_base::attr::{AttrField, AttrValue};
+use pth_base::call::Call;
+use pth_base::name::Name;
+
+/// A field of an attribute object with the value that it is set to.
+#[derive(Drop)]
+pub enum FieldLine {
+    Prio(Operand),
+    Name(Name),
+    Joinable(Operand),
+    Cancel(Operand),
+    Dispatches(Operand),
+    State(Operand),
+    Bound(Operand),
+}
+
+impl FieldLine {
+    ghost use Rattle.pth_line.specs.Calls.{field_in};
+
+    /// The field with the value's number.
+    fn value(&self, frame: &Frame, cells: &Cells) -> AttrValue
+        ensures { result ≡ field_in (view frame.now cells.now) self.now }
+    {
+        match self {
+            FieldLine::Prio(n) => AttrValue::Prio(n.number(frame, cells)),
+            FieldLine::Name(name) => AttrValue::Name(name.copy()),
+            FieldLine::Joinable(n) => AttrValue::Joinable(n.number(frame, cells)),
+            FieldLine::Cancel(n) => AttrValue::Cancel(n.number(frame, cells)),
+            FieldLine::Dispatches(n) => AttrValue::Dispatches(n.number(frame, cells)),
+            FieldLine::State(n) => AttrValue::State(n.number(frame, cells)),
+            FieldLine::Bound(n) => AttrValue::Bound(n.number(frame, cells)),
+        }
+    }
+}
+
+/// A call on attribute objects (`pth_attr_t`).
+#[derive(Drop)]
+pub enum AttrLine {
+    New,
+    Of(Operand),
+    Init(Operand),
+    Set { a: Operand, v: FieldLine },
+    Get { a: Operand, f: AttrField },
+    Destroy(Operand),
+}
+
+impl AttrLine {
+    ghost use Rattle.pth_line.specs.Calls.{attr_call};
+
+    /// The call that the line makes.
+    pub(crate) fn call(&self, frame: &Frame, cells: &Cells) -> Call
+        ensures { result ≡ attr_call (view frame.now cells.now) self.now }
+    {
+        match self {
+            AttrLine::New => Call::AttrNew,
+            AttrLine::Of(t) => Call::AttrOf(t.number(frame, cells)),
+            AttrLine::Init(a) => Call::AttrInit(a.number(frame, cells)),
+            AttrLine::Set { a, v } => Call::AttrSet {
+                a: a.number(frame, cells),
+                v: v.value(frame, cells),
+            },
+            AttrLine::Get { a, f } => Call::AttrGet {
+                a: a.number(frame, cells),
+                f: *f,
+            },
+            AttrLine::Destroy(a) => Call::AttrDestroy(a.number(frame, cells)),
+        }
+    }
+}

@@ -1,0 +1,28 @@
+//! Checks.
+
+ghost use Rattle.std.specs.Prelude.{◌≡◌};
+ghost use Rattle.pth_line.specs.Relations.{holds};
+ghost use Rattle.pth_line.specs.Values.{value_in};
+
+use crate::cells::Cells;
+use crate::operand::Value;
+use crate::relation::Relation;
+
+/// What a function event asks (`PTH_EVENT_FUNC`): whether a relation holds between two numbers.
+#[derive(Clone, Copy, Debug, PartialEq, Eq)]
+pub struct Check {
+    pub left: Value,
+    pub relation: Relation,
+    pub right: Value,
+}
+
+impl Check {
+    /// Whether the check holds with this argument.
+    pub(crate) fn holds(&self, cells: &Cells, arg: &i64) -> bool
+        ensures { result ≡ holds self.now.relation (value_in cells.now arg.now self.now.left) (value_in cells.now arg.now self.now.right) }
+    {
+        let left = self.left.number(cells, arg);
+        let right = self.right.number(cells, arg);
+        self.relation.holds(left, right)
+    }
+}

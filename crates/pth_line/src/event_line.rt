@@ -1,0 +1,108 @@
+//! Lines that make an event.
+
+ghost use Rattle.std.specs.Prelude.{◌≡◌};
+ghost use Rattle.pth_line.specs.Values.{view};
+
+use crate::cells::Cells;
+use crate::frame::Frame;
+use crate::operand::Operand;
+use pth_base::call::Call;
+use pth_base::event::EvLine;
+use pth_base::ids::FdSet;
+use pth_base::thread::ThreadState;
+
+/// A new event (`pth_event`).
+#[derive(Clone, Copy, Debug, PartialEq, Eq)]
+pub enum EventLine {
+    Fd {
+        goals: u8,
+        fd: Operand,
+    },
+    Select {
+        r: FdSet,
+        w: FdSet,
+        x: FdSet,
+    },
+    Time(Operand),
+    Msg(Operand),
+    Cond(Operand),
+    Tid {
+        state: ThreadState,
+        tid: Operand,
+    },
+    Func {
+        check: Operand,
+        arg: Operand,
+        interval: Operand,
+    },
+}
+
+impl EventLine {
+    ghost use Rattle.pth_line.specs.Calls.{event_call, chained_in};
+
+    /// The call that the line makes.
+    pub(crate) fn call(&self, frame: &Frame, cells: &Cells) -> Call
+        ensures { result ≡ event_call (view frame.now cells.now) self.now }
+    {
+        match self {
+            EventLine::Fd { goals, fd } => Call::EvFd {
+                goals: *goals,
+                fd: fd.number(frame, cells),
+            },
+            EventLine::Select { r, w, x } => Call::EvSelect {
+                r: *r,
+                w: *w,
+                x: *x,
+            },
+            EventLine::Time(m) => Call::EvTime(m.number(frame, cells)),
+            EventLine::Msg(p) => Call::EvMsg(p.number(frame, cells)),
+            EventLine::Cond(c) => Call::EvCond(c.number(frame, cells)),
+            EventLine::Tid { state, tid } => Call::EvTid {
+                state: *state,
+                tid: tid.number(frame, cells),
+            },
+            EventLine::Func {
+                check,
+                arg,
+                interval,
+            } => Call::EvFunc {
+                check: check.number(frame, cells),
+                arg: arg.number(frame, cells),
+                interval: interval.number(frame, cells),
+            },
+        }
+    }
+
+    /// The event of a line that chains it to a ring.
+    pub(crate) fn chained(&self, frame: &Frame, cells: &Cells) -> EvLine
+        ensures { result ≡ chained_in (view frame.now cells.now) self.now }
+    {
+        match self {
+            EventLine::Fd { goals, fd } => EvLine::Fd {
+                goals: *goals,
+                fd: fd.number(frame, cells),
+            },
+            EventLine::Select { r, w, x } => EvLine::Select {
+                r: *r,
+                w: *w,
+                x: *x,
+            },
+            EventLine::Time(m) => EvLine::Time(m.number(frame, cells)),
+            EventLine::Msg(p) => EvLine::Msg(p.number(frame, cells)),
+            EventLine::Cond(c) => EvLine::Cond(c.number(frame, cells)),
+            EventLine::Tid { state, tid } => EvLine::Tid {
+                state: *state,
+                tid: tid.number(frame, cells),
+            },
+            EventLine::Func {
+                check,
+                arg,
+                interval,
+            } => EvLine::Func {
+                check: check.number(frame, cells),
+                arg: arg.number(frame, cells),
+                interval: interval.number(frame, cells),
+            },
+        }
+    }
+}
