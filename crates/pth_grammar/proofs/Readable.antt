@@ -1,0 +1,253 @@
+-- A line that breaks no rule on words stands for something.
+use Rattle.std.proofs.Common.{◌≡◌, ◌==◌, ℕ, Bool, true, false, cond, not, ◌||◌, List, [], ◌∷◌, length, drop, Option, Some, None, refl, sym, ap, subst, arith}
+use Rattle.std.specs.Prelude.{is_some, option_and_then, option_map, codes}
+use Rattle.std.specs.List.{find}
+use Rattle.std.specs.Str.{bytes_eq}
+use Rattle.std.proofs.lemmas.Bool.Decides.{nat_tests}
+use Rattle.pth_grammar.specs.CallLines.{call_line}
+use Rattle.pth_grammar.specs.Forms.{call_forms, act_forms, body_forms, forms_of}
+use Rattle.pth_grammar.specs.Keywords.{call_word, keyword_of, begins}
+use Rattle.pth_grammar.specs.Lines.{line_by, answered_line, line_of, act_by, act_of, check_by, check_of, numbered}
+use Rattle.pth_grammar.specs.Shapes.{Shape, Unequal, Asks, asks, after_register, answers, shape_of, wrong, words_break, word_rules, words_fault}
+use Rattle.pth_grammar.specs.Words.{register_of}
+use Rattle.pth_grammar.specs.declared.form.Form.{Form}
+use Rattle.pth_grammar.specs.declared.form.Form.TheVariants as form
+use Rattle.pth_grammar.specs.declared.keyword.CallWord.{CallWord}
+use Rattle.pth_grammar.specs.declared.keyword.Keyword.{Keyword}
+use Rattle.pth_grammar.specs.declared.keyword.Keyword.TheVariants as key
+use Rattle.pth_grammar.specs.declared.rule.Rule.TheVariants as rule
+use Rattle.pth_grammar.specs.declared.section.Section.{Section}
+use Rattle.pth_grammar.specs.declared.section.Section.TheVariants as sec
+use Rattle.pth_grammar.proofs.CallLines.{callable}
+use Rattle.pth_grammar.proofs.RowLemmas.{AllFine, some_map, some_then, row1, row2, row4, natural, operand, register, value, shared, relation}
+
+-- ---- words that break no rule
+
+-- no word of the line breaks a rule
+abbrev IsFineShape : Shape → Type 0
+IsFineShape s = find (λ r. words_break r s) word_rules ≡ None
+
+none_of : (a b c d : Bool) → cond a (Some rule.Word) (cond b (Some rule.Count) (cond c (Some rule.Operand) (cond d (Some rule.Hex) None))) ≡ None → (a ≡ false) × (b ≡ false) × (c ≡ false) × (d ≡ false)
+none_of true b c d h = absurd (cc)
+none_of false true c d h = absurd (cc)
+none_of false false true d h = absurd (cc)
+none_of false false false true h = absurd (cc)
+none_of false false false false h = (refl, refl, refl, refl)
+
+neither : (a b : Bool) → (a || b) ≡ false → (a ≡ false) × (b ≡ false)
+neither true b h = absurd (cc)
+neither false b h = (refl, h)
+
+same_count : (a b : ℕ) → not (a == b) ≡ false → a ≡ b
+same_count a b h = grind (arith, nat_tests)
+
+all_fine_by : (fs : List Form) (ws : List (List ℕ)) → wrong rule.Word fs ws ≡ false → length fs ≡ length ws → wrong rule.Operand fs ws ≡ false → wrong rule.Hex fs ws ≡ false → AllFine fs ws
+unfolding wrong
+all_fine_by [] [] l n o h = tt
+all_fine_by [] (w ∷ ws) l n o h = absurd (omega arith)
+all_fine_by (f ∷ fs) [] l n o h = absurd (omega arith)
+all_fine_by (f ∷ fs) (w ∷ ws) l n o h =
+    let x = neither _ _ l in
+    let y = neither _ _ o in
+    let z = neither _ _ h in
+    (record { listed = x.0; formed = y.0; paired = z.0 }, all_fine_by fs ws x.1 (omega arith) y.1 z.1)
+
+all_fine : (fs : List Form) (ws : List (List ℕ)) → IsFineShape (Asks fs ws) → AllFine fs ws
+unfolding words_break
+all_fine fs ws h = let parts = none_of _ _ _ _ h in all_fine_by fs ws parts.0 (same_count (length fs) (length ws) parts.1) parts.2 parts.3
+
+-- ---- the keyword of a line
+
+-- the line may begin so, and its other words have their forms
+pub record IsBegun (s : Section) (k : Keyword) (ws : List (List ℕ)) : Type 0 where
+  pub forms : List Form
+  pub allowed : forms_of s k ws ≡ Some forms
+  pub fine : AllFine forms ws
+
+begun_by : (s : Section) (k : Keyword) (ws : List (List ℕ)) (o : Option (List Form)) → forms_of s k ws ≡ o → IsFineShape (asks ws o) → IsBegun s k ws
+unfolding words_break
+begun_by s k ws (Some fs) e h = record { forms = fs; allowed = e; fine = all_fine fs ws h }
+begun_by s k ws None e h = absurd (cc)
+
+no_register : (b : Bool) (o : Option Keyword) (k : Keyword) → cond b None o ≡ Some k → b ≡ false
+no_register true o k h = absurd (cc)
+no_register false o k h = refl
+
+no_answer : (s : Section) (w : List ℕ) → is_some (register_of w) ≡ false → answers s w ≡ false
+no_answer sec.Body w h = h
+no_answer sec.Handlers w h = refl
+no_answer sec.Handler w h = refl
+no_answer sec.Checks w h = refl
+no_answer sec.Bodies w h = refl
+
+pub begun : (s : Section) (w : List ℕ) (ws : List (List ℕ)) (k : Keyword) → words_fault s (w ∷ ws) ≡ None → begins (w ∷ ws) ≡ Some k → IsBegun s k ws
+unfolding words_fault shape_of begins
+begun s w ws k h e =
+    let plain = no_register (is_some (register_of w)) (keyword_of w) k e in
+    begun_by s k ws (forms_of s k ws) refl
+    (subst (λ o. IsFineShape (asks ws (option_and_then (λ k. forms_of s k ws) o))) e
+    (subst (λ b. IsFineShape (cond b (after_register ws) (asks ws (option_and_then (λ k. forms_of s k ws) (begins (w ∷ ws)))))) (no_answer s w plain) h))
+
+-- ---- a body's lines
+
+called_by : (o : Option CallWord) (ws : List (List ℕ)) → IsFineShape (asks ws (option_map (λ w. call_forms w ws) o)) → is_some (option_and_then (λ w. call_line w ws) o) ≡ true
+unfolding words_break
+called_by (Some k) ws h = callable k ws (all_fine _ ws h)
+called_by None ws h = absurd (cc)
+
+answered_by : (b : Bool) (d e k : List ℕ) (ws : List (List ℕ)) → is_some (register_of d) ≡ true → IsFineShape (cond b (asks ws (option_map (λ w. call_forms w ws) (call_word k))) Unequal) → is_some (answered_line (d ∷ e ∷ k ∷ ws)) ≡ true
+unfolding words_break
+answered_by true d e k ws r h = some_then (register_of d) _ r (λ x. some_map _ _ (called_by (call_word k) ws h))
+answered_by false d e k ws r h = absurd (cc)
+
+answered : (d : List ℕ) (ws : List (List ℕ)) → is_some (register_of d) ≡ true → IsFineShape (after_register ws) → is_some (answered_line (d ∷ ws)) ≡ true
+unfolding words_break
+answered d [] r h = absurd (cc)
+answered d (e ∷ []) r h = absurd (cc)
+answered d (e ∷ k ∷ ws) r h = answered_by (bytes_eq e (codes "=")) d e k ws r h
+
+plain : (k : Keyword) (ws : List (List ℕ)) → IsFineShape (asks ws (body_forms k ws)) → (k ≡ key.End → ⊥) → is_some (line_by (Some k) ws) ≡ true
+unfolding words_break
+plain key.Set ws h n = row2 register operand _ ws (all_fine _ ws h)
+plain key.Add ws h n = row2 register operand _ ws (all_fine _ ws h)
+plain key.Note ws h n = row1 operand _ ws (all_fine _ ws h)
+plain key.Label ws h n = row1 natural _ ws (all_fine _ ws h)
+plain key.Goto ws h n = row4 natural operand relation operand _ ws (all_fine _ ws h)
+plain (key.Call k) ws h n = some_map _ _ (callable k ws (all_fine _ ws h))
+plain key.End ws h n = absurd (n refl)
+plain _ ws h n = absurd (cc)
+
+keyed : (o : Option Keyword) (ws : List (List ℕ)) → IsFineShape (asks ws (option_and_then (λ k. body_forms k ws) o)) → (o ≡ Some key.End → ⊥) → is_some (line_by o ws) ≡ true
+unfolding words_break
+keyed (Some k) ws h n = plain k ws h (λ e. n (ap (λ k. Some k) e))
+keyed None ws h n = absurd (cc)
+
+body_by : (b : Bool) (w : List ℕ) (ws : List (List ℕ)) → is_some (register_of w) ≡ b → IsFineShape (cond b (after_register ws) (asks ws (option_and_then (λ k. body_forms k ws) (cond b None (keyword_of w))))) → (cond b None (keyword_of w) ≡ Some key.End → ⊥) → is_some (cond b (answered_line (w ∷ ws)) (line_by (keyword_of w) ws)) ≡ true
+body_by true w ws r h n = answered w ws r h
+body_by false w ws r h n = keyed (keyword_of w) ws h n
+
+pub body_readable : (ws : List (List ℕ)) → words_fault sec.Body ws ≡ None → (begins ws ≡ Some key.End → ⊥) → is_some (line_of ws) ≡ true
+unfolding words_fault words_break shape_of line_of begins
+body_readable [] h n = absurd (cc)
+body_readable (w ∷ ws) h n = body_by (is_some (register_of w)) w ws refl h n
+
+-- ---- a handler's acts
+
+acted : (k : Keyword) (ws : List (List ℕ)) → IsFineShape (asks ws (act_forms k)) → (k ≡ key.End → ⊥) → is_some (act_by (Some k) ws) ≡ true
+unfolding words_break
+acted key.Note ws h n = row1 value _ ws (all_fine _ ws h)
+acted key.Set ws h n = row2 shared value _ ws (all_fine _ ws h)
+acted key.Release ws h n = row1 value _ ws (all_fine _ ws h)
+acted key.Notify ws h n = row2 value value _ ws (all_fine _ ws h)
+acted key.Put ws h n = row2 value value _ ws (all_fine _ ws h)
+acted key.SetKey ws h n = row2 value value _ ws (all_fine _ ws h)
+acted key.End ws h n = absurd (n refl)
+acted _ ws h n = absurd (cc)
+
+act_by_keyword : (b : Bool) (o : Option Keyword) (ws : List (List ℕ)) → IsFineShape (asks ws (option_and_then (λ k. act_forms k) (cond b None o))) → (cond b None o ≡ Some key.End → ⊥) → is_some (act_by o ws) ≡ true
+unfolding words_break
+act_by_keyword false (Some k) ws h n = acted k ws h (λ e. n (ap (λ k. Some k) e))
+act_by_keyword false None ws h n = absurd (cc)
+act_by_keyword true o ws h n = absurd (cc)
+
+pub act_readable : (ws : List (List ℕ)) → words_fault sec.Handler ws ≡ None → (begins ws ≡ Some key.End → ⊥) → is_some (act_of ws) ≡ true
+unfolding words_fault words_break shape_of act_of begins
+act_readable [] h n = absurd (cc)
+act_readable (w ∷ ws) h n = act_by_keyword (is_some (register_of w)) (keyword_of w) ws h n
+
+-- ---- checks
+
+check_fine : (ws : List (List ℕ)) → AllFine (form.Natural ∷ form.Value ∷ form.Relation ∷ form.Value ∷ []) ws → is_some (check_by ws) ≡ true
+check_fine [] h = absurd h
+check_fine (n ∷ []) h = absurd h.1
+check_fine (n ∷ x ∷ []) h = absurd h.1.1
+check_fine (n ∷ x ∷ r ∷ []) h = absurd h.1.1.1
+check_fine (n ∷ x ∷ r ∷ y ∷ []) h = some_then _ _ (value.reads x h.1.0) (λ a. some_then _ _ (relation.reads r h.1.1.0) (λ s. some_map _ _ (value.reads y h.1.1.1.0)))
+check_fine (n ∷ x ∷ r ∷ y ∷ z ∷ ws) h = absurd h.1.1.1.1
+
+-- what follows `check`
+abbrev check_forms : List Form
+check_forms = form.Natural ∷ form.Value ∷ form.Relation ∷ form.Value ∷ []
+
+same_some : (a b : List Form) → Some a ≡ Some b → a ≡ b
+same_some a b e = cc
+
+checked : (s : Section) (ws : List (List ℕ)) (fs : List Form) → forms_of s key.Check ws ≡ Some fs → check_forms ≡ fs
+checked sec.Handlers ws fs e = same_some _ fs e
+checked sec.Checks ws fs e = same_some _ fs e
+checked sec.Handler ws fs e = absurd (cc)
+checked sec.Bodies ws fs e = absurd (cc)
+checked sec.Body ws fs e = absurd (cc)
+
+pub check_readable : (s : Section) (ws : List (List ℕ)) → words_fault s ws ≡ None → begins ws ≡ Some key.Check → is_some (check_of ws) ≡ true
+unfolding words_fault words_break shape_of check_of begins
+check_readable s [] h e = absurd (cc)
+check_readable s (w ∷ ws) h e =
+    let b = begun s w ws key.Check h e in
+    check_fine ws (subst (λ fs. AllFine fs ws) (sym (checked s ws b.forms b.allowed)) b.fine)
+
+-- ---- numbers of lines
+
+-- a number follows the word
+abbrev pub has_number : Keyword → Bool
+has_number key.Handler = true
+has_number key.Check = true
+has_number key.Thread = true
+has_number key.Label = true
+has_number key.Goto = true
+has_number _ = false
+
+number_fine : (w : List ℕ) (fs : List Form) (ws : List (List ℕ)) → AllFine (form.Natural ∷ fs) ws → is_some (numbered (w ∷ ws)) ≡ true
+unfolding numbered
+number_fine w fs [] h = absurd h
+number_fine w fs (n ∷ ws) h = natural.reads n h.0
+
+-- the forms begin with that of a number
+abbrev BeginsNatural : List Form → Type 0
+BeginsNatural fs = (gs : List Form) × (fs ≡ form.Natural ∷ gs)
+
+begins_natural : (fs gs : List Form) → Some (form.Natural ∷ gs) ≡ Some fs → BeginsNatural fs
+begins_natural fs gs e = (gs, sym (same_some _ fs e))
+
+numbers_by : (s : Section) (k : Keyword) (ws : List (List ℕ)) (fs : List Form) → has_number k ≡ true → forms_of s k ws ≡ Some fs → BeginsNatural fs
+numbers_by sec.Handlers key.Handler ws fs t e = begins_natural fs _ e
+numbers_by sec.Handlers key.Check ws fs t e = begins_natural fs _ e
+numbers_by sec.Handlers key.Thread ws fs t e = begins_natural fs _ e
+numbers_by sec.Checks key.Check ws fs t e = begins_natural fs _ e
+numbers_by sec.Checks key.Thread ws fs t e = begins_natural fs _ e
+numbers_by sec.Bodies key.Thread ws fs t e = begins_natural fs _ e
+numbers_by sec.Body key.Label ws fs t e = begins_natural fs _ e
+numbers_by sec.Body key.Goto ws fs t e = begins_natural fs _ e
+numbers_by sec.Handler key.Handler ws fs t e = absurd (cc)
+numbers_by _ _ ws fs t e = absurd (cc)
+
+pub opening_numbered : (s : Section) (ws : List (List ℕ)) (k : Keyword) → words_fault s ws ≡ None → begins ws ≡ Some k → has_number k ≡ true → is_some (numbered ws) ≡ true
+unfolding words_fault words_break shape_of begins
+opening_numbered s [] k h e t = absurd (cc)
+opening_numbered s (w ∷ ws) k h e t =
+    let b = begun s w ws k h e in
+    let n = numbers_by s k ws b.forms t b.allowed in
+    number_fine w n.0 ws (subst (λ fs. AllFine fs ws) n.1 b.fine)
+
+-- ---- lines that begin with a keyword
+
+-- the line begins with a keyword that may stand there
+pub record IsKeyed (s : Section) (ws : List (List ℕ)) : Type 0 where
+  pub keyword : Keyword
+  pub first : begins ws ≡ Some keyword
+  pub allowed : is_some (forms_of s keyword (drop 1 ws)) ≡ true
+
+keyed_by : (s : Section) (w : List ℕ) (ws : List (List ℕ)) (o : Option Keyword) → begins (w ∷ ws) ≡ o → IsFineShape (asks ws (option_and_then (λ k. forms_of s k ws) o)) → words_fault s (w ∷ ws) ≡ None → IsKeyed s (w ∷ ws)
+unfolding words_break
+keyed_by s w ws (Some k) e h f = record { keyword = k; first = e; allowed = ap (λ o. is_some o) (begun s w ws k f e).allowed }
+keyed_by s w ws None e h f = absurd (cc)
+
+-- outside a body no line begins with a register
+pub outside_keyed : (s : Section) (ws : List (List ℕ)) → (s ≡ sec.Body → ⊥) → words_fault s ws ≡ None → IsKeyed s ws
+unfolding words_fault words_break shape_of
+outside_keyed s [] n h = absurd (cc)
+outside_keyed sec.Handlers (w ∷ ws) n h = keyed_by sec.Handlers w ws (begins (w ∷ ws)) refl h h
+outside_keyed sec.Handler (w ∷ ws) n h = keyed_by sec.Handler w ws (begins (w ∷ ws)) refl h h
+outside_keyed sec.Checks (w ∷ ws) n h = keyed_by sec.Checks w ws (begins (w ∷ ws)) refl h h
+outside_keyed sec.Bodies (w ∷ ws) n h = keyed_by sec.Bodies w ws (begins (w ∷ ws)) refl h h
+outside_keyed sec.Body (w ∷ ws) n h = absurd (n refl)

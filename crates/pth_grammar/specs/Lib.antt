@@ -1,0 +1,9 @@
+pub mod Texts
+pub mod Words
+pub mod Keywords
+pub mod Forms
+pub mod Shapes
+pub mod Asked
+pub mod Reading
+pub mod CallLines
+pub mod Lines

@@ -1,0 +1,85 @@
+-- What the words of a line stand for.
+use Rattle.std.specs.Prelude.{ℕ, List, [], ◌∷◌, Option, Some, None, option_and_then, option_map, is_some, ℤ, if◌then◌else◌}
+use Rattle.pth_line.specs.declared.act_line.ActLine.{ActLine}
+use Rattle.pth_line.specs.declared.act_line.ActLine.TheVariants as act
+use Rattle.pth_line.specs.declared.check.Check.{Check}
+use Rattle.pth_line.specs.declared.line.Line.{Line}
+use Rattle.pth_line.specs.declared.line.Line.TheVariants as line
+use Rattle.pth_grammar.specs.CallLines.{call_line}
+use Rattle.pth_grammar.specs.Keywords.{keyword_of, call_word}
+use Rattle.pth_grammar.specs.Reading.{read1, read2, read4}
+use Rattle.pth_grammar.specs.Words.{natural_of, register_of, operand_of, value_of, shared_of, relation_of}
+use Rattle.pth_grammar.specs.declared.keyword.Keyword.{Keyword}
+use Rattle.pth_grammar.specs.declared.keyword.Keyword.TheVariants as key
+
+-- ---- a body's lines
+
+-- a line that makes no call; the place to which a `goto` goes is not known from its line alone
+abbrev pub plain_line : Keyword → List (List ℕ) → Option Line
+plain_line key.Set ws = read2 register_of operand_of (λ r x. line.Set r x) ws
+plain_line key.Add ws = read2 register_of operand_of (λ r x. line.Add r x) ws
+plain_line key.Note ws = read1 operand_of (λ x. line.Note x) ws
+plain_line key.Label ws = read1 natural_of (λ k. line.Label k) ws
+plain_line key.Goto ws = read4 natural_of operand_of relation_of operand_of (λ k x r y. line.Goto k 0 x r y) ws
+plain_line _ ws = None
+
+-- a line that begins with a keyword
+abbrev pub line_by : Option Keyword → List (List ℕ) → Option Line
+line_by (Some (key.Call k)) ws = option_map (λ c. line.Call None c) (call_line k ws)
+line_by (Some k) ws = plain_line k ws
+line_by None ws = None
+
+-- a register, `=` and a call line
+abbrev pub answered_line : List (List ℕ) → Option Line
+answered_line [] = None
+answered_line (d ∷ []) = None
+answered_line (d ∷ e ∷ []) = None
+answered_line (d ∷ e ∷ k ∷ ws) =
+    option_and_then (λ r. option_map (λ c. line.Call (Some r) c) (option_and_then (λ w. call_line w ws) (call_word k))) (register_of d)
+
+-- what a line of a body stands for
+unfoldable pub line_of : List (List ℕ) → Option Line
+line_of [] = None
+line_of (w ∷ ws) = if is_some (register_of w) then answered_line (w ∷ ws) else line_by (keyword_of w) ws
+
+-- ---- a handler's acts
+
+-- by the keyword that begins it
+abbrev pub act_by : Option Keyword → List (List ℕ) → Option ActLine
+act_by (Some key.Note) ws = read1 value_of (λ x. act.Note x) ws
+act_by (Some key.Set) ws = read2 shared_of value_of (λ k x. act.Set k x) ws
+act_by (Some key.Release) ws = read1 value_of (λ x. act.Release x) ws
+act_by (Some key.Notify) ws = read2 value_of value_of (λ x y. act.Notify x y) ws
+act_by (Some key.Put) ws = read2 value_of value_of (λ x y. act.Put x y) ws
+act_by (Some key.SetKey) ws = read2 value_of value_of (λ x y. act.SetKey x y) ws
+act_by _ ws = None
+
+-- what a line of a handler stands for
+unfoldable pub act_of : List (List ℕ) → Option ActLine
+act_of [] = None
+act_of (w ∷ ws) = act_by (keyword_of w) ws
+
+-- ---- checks
+
+-- without its number
+abbrev pub check_by : List (List ℕ) → Option Check
+check_by [] = None
+check_by (n ∷ []) = None
+check_by (n ∷ x ∷ []) = None
+check_by (n ∷ x ∷ r ∷ []) = None
+check_by (n ∷ x ∷ r ∷ y ∷ []) =
+    option_and_then (λ a. option_and_then (λ s. option_map (λ b. record { left = a; relation = s; right = b }) (value_of y)) (relation_of r)) (value_of x)
+check_by (n ∷ x ∷ r ∷ y ∷ z ∷ ws) = None
+
+-- what a line that begins with `check` stands for
+unfoldable pub check_of : List (List ℕ) → Option Check
+check_of [] = None
+check_of (w ∷ ws) = check_by ws
+
+-- ---- numbers of lines
+
+-- the natural number that follows the first word
+unfoldable pub numbered : List (List ℕ) → Option ℤ
+numbered [] = None
+numbered (w ∷ []) = None
+numbered (w ∷ n ∷ ws) = natural_of n

@@ -1,0 +1,26 @@
+-- Words that have their forms, one for each: what they stand for together.
+use Rattle.std.specs.Prelude.{ℕ, List, [], ◌∷◌, Option, Some, None, option_and_then, option_map}
+
+abbrev pub read0 : {R : Type 0} → R → List (List ℕ) → Option R
+read0 x [] = Some x
+read0 x _ = None
+
+abbrev pub read1 : {A R : Type 0} → (List ℕ → Option A) → (A → R) → List (List ℕ) → Option R
+read1 f build (a ∷ []) = option_map build (f a)
+read1 f build _ = None
+
+abbrev pub read2 : {A B R : Type 0} → (List ℕ → Option A) → (List ℕ → Option B) → (A → B → R) → List (List ℕ) → Option R
+read2 f g build [] = None
+read2 f g build (a ∷ ws) = option_and_then (λ x. read1 g (build x) ws) (f a)
+
+abbrev pub read3 : {A B C R : Type 0} → (List ℕ → Option A) → (List ℕ → Option B) → (List ℕ → Option C) → (A → B → C → R) → List (List ℕ) → Option R
+read3 f g h build [] = None
+read3 f g h build (a ∷ ws) = option_and_then (λ x. read2 g h (build x) ws) (f a)
+
+abbrev pub read4 : {A B C D R : Type 0} → (List ℕ → Option A) → (List ℕ → Option B) → (List ℕ → Option C) → (List ℕ → Option D) → (A → B → C → D → R) → List (List ℕ) → Option R
+read4 f g h k build [] = None
+read4 f g h k build (a ∷ ws) = option_and_then (λ x. read3 g h k (build x) ws) (f a)
+
+abbrev pub read5 : {A B C D E R : Type 0} → (List ℕ → Option A) → (List ℕ → Option B) → (List ℕ → Option C) → (List ℕ → Option D) → (List ℕ → Option E) → (A → B → C → D → E → R) → List (List ℕ) → Option R
+read5 f g h k l build [] = None
+read5 f g h k l build (a ∷ ws) = option_and_then (λ x. read4 g h k l (build x) ws) (f a)

@@ -1,0 +1,169 @@
+//! What the words of a line stand for.
+
+ghost use Rattle.std.specs.Prelude.{◌≡◌, IfOk, option_and_then, option_map};
+ghost use Rattle.pth_grammar.specs.CallLines.{call_line};
+ghost use Rattle.pth_grammar.specs.Keywords.{begins, call_word, keyword_of};
+ghost use Rattle.pth_grammar.specs.Lines.{plain_line, line_by, answered_line, line_of, act_by, act_of, check_by, check_of, numbered};
+ghost use Rattle.pth_grammar.specs.Texts.{texts};
+
+use crate::call_line::call_line;
+use crate::call_word::{call_word, keyword};
+use crate::keyword::Keyword;
+use crate::words::{natural, operand, register, relation, shared, value};
+use pth_base::memory::OutOfMemory;
+use pth_line::act_line::ActLine;
+use pth_line::check::Check;
+use pth_line::line::Line;
+use std::alloc::Global;
+
+/// The keyword that begins a line. A line that begins with a register has none.
+#[tactic(auto, unfolding(crate::specs::Keywords::begins))]
+pub fn begins(words: &[&[u8]]) -> Option<Keyword>
+    ensures { result ≡ begins (texts words.now) }
+{
+    match words {
+        [] => None,
+        [word, ..] => {
+            if register(word).is_some() {
+                None
+            } else {
+                keyword(word)
+            }
+        }
+    }
+}
+
+/// The number that is not negative and follows the first word.
+#[tactic(auto, unfolding(crate::specs::Lines::numbered))]
+pub fn numbered(words: &[&[u8]]) -> Option<i64>
+    ensures { result ≡ numbered (texts words.now) }
+{
+    match words {
+        [_, number, ..] => natural(number),
+        _ => None,
+    }
+}
+
+/// A line that makes no call.
+fn plain_line(keyword: Keyword, words: &[&[u8]]) -> Option<Line>
+    ensures { result ≡ plain_line keyword (texts words.now) }
+{
+    match (keyword, words) {
+        (Keyword::Set, [r, x]) => Some(Line::Set {
+            register: register(r)?,
+            value: operand(x)?,
+        }),
+        (Keyword::Add, [r, x]) => Some(Line::Add {
+            register: register(r)?,
+            value: operand(x)?,
+        }),
+        (Keyword::Note, [x]) => Some(Line::Note(operand(x)?)),
+        (Keyword::Label, [k]) => Some(Line::Label(natural(k)?)),
+        (Keyword::Goto, [k, x, r, y]) => Some(Line::Goto {
+            label: natural(k)?,
+            to: 0,
+            left: operand(x)?,
+            relation: relation(r)?,
+            right: operand(y)?,
+        }),
+        _ => None,
+    }
+}
+
+fn line_by(
+    alloc: Global,
+    keyword: Option<Keyword>,
+    words: &[&[u8]],
+) -> Result<Option<Line>, OutOfMemory>
+    ensures { IfOk result (λ found. found ≡ line_by keyword (texts words.now)) }
+{
+    match keyword {
+        Some(Keyword::Call(word)) => {
+            let Some(call) = call_line(alloc, word, words)? else {
+                return Ok(None);
+            };
+            Ok(Some(Line::Call { answer: None, call }))
+        }
+        Some(keyword) => Ok(plain_line(keyword, words)),
+        None => Ok(None),
+    }
+}
+
+/// A register, `=` and a call line.
+fn answered_line(alloc: Global, words: &[&[u8]]) -> Result<Option<Line>, OutOfMemory>
+    ensures { IfOk result (λ found. found ≡ answered_line (texts words.now)) }
+{
+    let [answer, _, word, operands @ ..] = words else {
+        return Ok(None);
+    };
+    let (Some(answer), Some(word)) = (register(answer), call_word(word)) else {
+        return Ok(None);
+    };
+    let Some(call) = call_line(alloc, word, operands)? else {
+        return Ok(None);
+    };
+    Ok(Some(Line::Call {
+        answer: Some(answer),
+        call,
+    }))
+}
+
+/// A line of a body. The place to which a `goto` goes is not known from the line alone, and 0 stands for it.
+#[tactic(auto, unfolding(crate::specs::Lines::line_of))]
+pub fn line(alloc: Global, words: &[&[u8]]) -> Result<Option<Line>, OutOfMemory>
+    ensures { IfOk result (λ found. found ≡ line_of (texts words.now)) }
+{
+    match words {
+        [] => Ok(None),
+        [word, operands @ ..] => {
+            if register(word).is_some() {
+                answered_line(alloc, words)
+            } else {
+                line_by(alloc, keyword(word), operands)
+            }
+        }
+    }
+}
+
+fn act_by(keyword: Option<Keyword>, words: &[&[u8]]) -> Option<ActLine>
+    ensures { result ≡ act_by keyword (texts words.now) }
+{
+    match (keyword, words) {
+        (Some(Keyword::Note), [x]) => Some(ActLine::Note(value(x)?)),
+        (Some(Keyword::Set), [k, x]) => Some(ActLine::Set {
+            cell: shared(k)?,
+            value: value(x)?,
+        }),
+        (Some(Keyword::Release), [x]) => Some(ActLine::Release(value(x)?)),
+        (Some(Keyword::Notify), [x, y]) => Some(ActLine::Notify(value(x)?, value(y)?)),
+        (Some(Keyword::Put), [x, y]) => Some(ActLine::Put(value(x)?, value(y)?)),
+        (Some(Keyword::SetKey), [x, y]) => Some(ActLine::SetKey(value(x)?, value(y)?)),
+        _ => None,
+    }
+}
+
+/// An act of a handler.
+#[tactic(auto, unfolding(crate::specs::Lines::act_of))]
+pub fn act_line(words: &[&[u8]]) -> Option<ActLine>
+    ensures { result ≡ act_of (texts words.now) }
+{
+    match words {
+        [] => None,
+        [word, operands @ ..] => act_by(keyword(word), operands),
+    }
+}
+
+/// What a line that begins with `check` stands for, without its number.
+#[tactic(auto, unfolding(crate::specs::Lines::check_of))]
+pub fn check_line(words: &[&[u8]]) -> Option<Check>
+    ensures { result ≡ check_of (texts words.now) }
+{
+    let [_, _, x, r, y] = words else {
+        return None;
+    };
+    Some(Check {
+        left: value(x)?,
+        relation: relation(r)?,
+        right: value(y)?,
+    })
+}

@@ -1,0 +1,16 @@
+//! Where a line stands.
+
+/// The part of a script in which a line stands.
+#[derive(Clone, Copy, Debug, PartialEq, Eq)]
+pub enum Section {
+    /// Between handlers, above all checks and bodies.
+    Handlers,
+    /// Within a handler.
+    Handler,
+    /// Below a check, above all bodies.
+    Checks,
+    /// Between bodies.
+    Bodies,
+    /// Within a body.
+    Body,
+}

@@ -1,0 +1,13 @@
+//! What single words stand for.
+
+mod choices;
+mod names;
+mod numbers;
+mod operands;
+mod sets;
+
+pub use choices::{direction, field, goals, mode, query, relation, state, which};
+pub use names::{maybe_name, name};
+pub use numbers::natural;
+pub use operands::{bytes, maybe_operand, operand, own, register, shared, value};
+pub use sets::set;
