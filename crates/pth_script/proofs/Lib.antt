@@ -1,3 +1,12 @@
-pub mod Spelling
-pub mod Reading
-pub mod Bodies
+pub mod Cuts
+pub mod Above
+pub mod RowRules
+pub mod Said
+pub mod Resting
+pub mod Keys
+pub mod Taking
+pub mod BodyLabels
+pub mod Taken
+pub mod Starting
+pub mod Runs
+pub mod Once

@@ -1,4 +1,9 @@
-pub mod Script
-pub mod Lines
-pub mod FirstForm
-pub mod Reading
+pub mod Rows
+pub mod Table
+pub mod Labels
+pub mod Bodies
+pub mod Seen
+pub mod Broken
+pub mod Meaning
+pub mod Drafts
+pub mod Follows

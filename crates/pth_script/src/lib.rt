@@ -1,9 +1,14 @@
 //! Scripts: their text, and the program that they are.
 #![tactic(auto)]
 
-mod body_line;
-mod lines;
+mod body;
+pub mod breach;
+mod draft;
 pub mod read;
-pub mod script;
+mod reader;
+mod rows;
 #[cfg(test)]
 mod tests;
+
+pub use pth_grammar::rule::Rule;
+pub use pth_line::script::Script;

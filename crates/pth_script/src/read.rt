@@ -1,129 +1,80 @@
 //! Scripts from their text.
 
-ghost use Rattle.std.specs.Prelude.{◌≡◌, ◌↔◌, List, IfOk, IsErrOf, IsTrue, MatchResult};
-ghost use Rattle.pth_script.specs.FirstForm.{lines_text, opening, body_text, AreBodies, IsAccepted};
-ghost use Rattle.pth_script.specs.declared.script.Line.{Line};
-ghost use Rattle.pth_script.specs.declared.read.ReadErr.TheVariants as error;
-ghost use Rattle.pth_script.specs.Reading.{IsFound, ReadsEach};
+ghost use Rattle.std.specs.Prelude.{◌≡◌, ℕ, List, []};
+ghost use Rattle.pth_script.specs.Drafts.{parts, IsKept};
+ghost use Rattle.pth_script.specs.Follows.{Answers, Reads, refused};
+ghost use Rattle.pth_script.specs.Rows.{Row};
 
-use crate::body_line::read_line;
-use crate::lines::Lines;
-use crate::script::{Body, Script};
-use pth_base::memory::OutOfMemory;
-use pth_text::text::Text;
-use std::alloc::{AllocFailed, Global};
+use crate::breach::Breach;
+use crate::draft::Draft;
+use crate::reader::{Fault, Reader};
+use crate::rows::first_row;
+use pth_grammar::rule::Rule;
+use pth_line::script::Script;
+use std::alloc::Global;
 use thiserror::Error;
 
-/// Why no script was read: the text is the spelling of none, or memory ran out.
+// An input has at most so many bytes.
+const TEXT_LIMIT: usize = 16_777_216;
+
+/// Why no script was read: a line breaks a rule or passes a limit, or memory ran out. Lines are numbered from 1, and the
+/// place after the last line counts as a line.
 #[derive(Clone, Copy, Debug, PartialEq, Eq, Error)]
 pub enum ReadErr {
     #[error("Refused")]
-    Refused,
+    Refused { line: u32, rule: Rule },
+    #[error("TooLarge")]
+    TooLarge { line: u32 },
     #[error("OutOfMemory")]
     OutOfMemory,
 }
 
-impl From<OutOfMemory> for ReadErr {
-    ghost use Rattle.pth_script.specs.declared.read.ReadErr.TheVariants as error;
-
-    ghost from_gives = { λ _ e. e ≡ error.OutOfMemory };
-
-    fn from(_e: OutOfMemory) -> ReadErr {
-        ReadErr::OutOfMemory
-    }
-}
-
-impl<T: Drop> From<AllocFailed<T>> for ReadErr {
-    ghost use Rattle.pth_script.specs.declared.read.ReadErr.TheVariants as error;
-
-    ghost from_gives = { λ _ e. e ≡ error.OutOfMemory };
-
-    fn from(_e: AllocFailed<T>) -> ReadErr {
-        ReadErr::OutOfMemory
-    }
-}
-
-/// Takes the lines of a body after its first one.
-fn read_lines(alloc: Global, lines: &mut Lines<'_>) -> Result<Body, ReadErr>
-    ensures ok { IfOk result (IsFound lines_text lines.old.rest.now lines.new.rest.now) }
-    ensures reads { ReadsEach lines_text lines.old.rest.now lines.new.rest.now result }
+/// The refusal of a line.
+fn refused(line: u32, breach: Breach) -> ReadErr
+    ensures { result ≡ refused line breach }
 {
-    let mut body = Body::new(alloc);
-    while let Some(text) = lines.next_line() {
-        if text == b"end".as_slice() {
-            return Ok(body);
-        }
-        let Some(line) = read_line(alloc, text)? else {
-            return Err(ReadErr::Refused);
-        };
-        if body.len() >= 4096 {
-            return Err(ReadErr::Refused);
-        }
-        body.push(line)?;
+    match breach {
+        Breach::Limit => ReadErr::TooLarge { line },
+        Breach::Of(rule) => ReadErr::Refused { line, rule },
     }
-    Err(ReadErr::Refused)
 }
 
-/// Whether a line opens the body with a number.
-fn is_opening(alloc: Global, number: u64, text: &[u8]) -> Result<bool, OutOfMemory>
-    ensures { IfOk result (λ opens. IsTrue opens ↔ (text.now ≡ opening number)) }
+/// The script that was read, whose last line stands above this one.
+fn finish(reader: Reader, line: u32) -> Result<Script, ReadErr>
+    requires { IsKept (parts reader.draft) }
+    ensures { (text : List ℕ) (before : List Row) → Reads reader before text line [] → Answers text result }
 {
-    let mut expected = Text::new(alloc);
-    expected.push(b"thread ")?;
-    expected.natural(number)?;
-    Ok(text == expected.as_slice())
-}
-
-/// Takes the lines of the body with a number.
-fn read_body(alloc: Global, number: u64, lines: &mut Lines<'_>) -> Result<Body, ReadErr>
-    ensures ok { IfOk result (IsFound (body_text number) lines.old.rest.now lines.new.rest.now) }
-    ensures reads { ReadsEach (body_text number) lines.old.rest.now lines.new.rest.now result }
-{
-    let Some(text) = lines.next_line() else {
-        return Err(ReadErr::Refused);
-    };
-    if !is_opening(alloc, number, text)? {
-        return Err(ReadErr::Refused);
+    if let Some(rule) = reader.end_fault() {
+        return Err(ReadErr::Refused { line, rule });
     }
-    read_lines(alloc, lines)
+    let Draft {
+        handlers,
+        checks,
+        bodies,
+        ..
+    } = reader.draft;
+    Ok(Script::new(handlers, checks, bodies))
 }
 
-/// Takes bodies to the end of the text.
-fn read_bodies(alloc: Global, lines: &mut Lines<'_>) -> Result<Vec<Body>, ReadErr>
-    ensures ok { IfOk result (λ bodies. AreBodies bodies.items lines.old.rest.now) }
-    ensures reads { (bodies : List (List Line)) → AreBodies bodies lines.old.rest.now → MatchResult result (λ found. found.items ≡ bodies) (λ e. e ≡ error.OutOfMemory) }
-{
-    let mut bodies = Vec::new(alloc);
-    'bodies: while !lines.rest.is_empty() {
-        if bodies.len() >= 256 {
-            return Err(ReadErr::Refused);
-        }
-        let body = read_body(alloc, bodies.len() as u64, lines)?;
-        bodies.push(body)?;
-    }
-    Ok(bodies)
-}
-
-/// Reads a script. A text is the spelling of one script at most: it has at most 16,777,216 bytes, the line `pth 1`, and
-/// then from 1 to 256 bodies of at most 4096 lines.
+/// Reads a script. It is refused at the least line that breaks a rule, for the first such rule.
 pub fn read(alloc: Global, bytes: &[u8]) -> Result<Script, ReadErr>
-    ensures ok { IfOk result (λ script. IsAccepted script bytes.now) }
-    ensures only { (bodies : List (List Line)) → IsAccepted bodies bytes.now → IfOk result (λ script. script ≡ bodies) }
-    ensures refused { IsErrOf result error.Refused → (bodies : List (List Line)) → ¬ (IsAccepted bodies bytes.now) }
+    ensures { Answers bytes.now result }
 {
-    if bytes.len() > 16_777_216 {
-        return Err(ReadErr::Refused);
+    let mut reader = Reader::new(alloc);
+    let mut line: u32 = 1;
+    let mut rest = bytes;
+    'lines: while !rest.is_empty() {
+        let (row, ended, after) = first_row(rest);
+        if bytes.len() - after.len() > TEXT_LIMIT {
+            return Err(ReadErr::TooLarge { line });
+        }
+        match reader.row(row, ended) {
+            Ok(()) => {}
+            Err(Fault::Broken(breach)) => return Err(refused(line, breach)),
+            Err(Fault::Memory) => return Err(ReadErr::OutOfMemory),
+        }
+        rest = after;
+        line += 1;
     }
-    let mut lines = Lines { rest: bytes };
-    let Some(first) = lines.next_line() else {
-        return Err(ReadErr::Refused);
-    };
-    if first != b"pth 1".as_slice() {
-        return Err(ReadErr::Refused);
-    }
-    let bodies = read_bodies(alloc, &mut lines)?;
-    if bodies.is_empty() {
-        return Err(ReadErr::Refused);
-    }
-    Ok(Script::new(bodies))
+    finish(reader, line)
 }

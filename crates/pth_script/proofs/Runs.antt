@@ -1,0 +1,168 @@
+-- The loop over the lines: what its end and each of its steps say of the whole text.
+use Rattle.std.proofs.Common.{◌≡◌, ◌==◌, ℕ, ◌+◌, ◌<◌, ◌≤◌, Bool, true, false, cond, List, [], ◌∷◌, ◌++◌, length, Some, None, ap, sym, subst, ◌∙◌, refl, arith, ⊎_elim, length-append, append_assoc, append-nil}
+use Rattle.std.specs.Prelude.{reverse, Err, drop, map, Result, Ok}
+use Rattle.std.proofs.lemmas.List.{length-reverse}
+use Rattle.std.proofs.lemmas.Grind.{reverse_onto}
+use Rattle.std.proofs.lemmas.Bool.{cases_lt}
+use Rattle.pth_line.specs.Script.{Sections}
+use Rattle.pth_script.specs.Rows.{Row, rows_of, onto_first, row_size, size_of}
+use Rattle.pth_script.specs.Broken.{broken, row_breaks, end_breaks, text_limit, IsRefusal, IsAccepted}
+use Rattle.pth_script.specs.Table.{first_broken}
+use Rattle.pth_script.specs.Drafts.{parts, in_handler, in_body, rest_of, Makes}
+use Rattle.pth_script.specs.Follows.{Follows, TakesRow, Reads, left_of, refused, Answers}
+use Rattle.pth_script.specs.Labels.{somes, placed}
+use Rattle.pth_script.specs.Meaning.{said, handlers_of, checks_of, bodies_of, StandsFor}
+use Rattle.pth_script.specs.Seen.{is_handler, is_thread}
+use Rattle.pth_grammar.specs.Lines.{act_of, line_of}
+use Rattle.pth_script.specs.declared.breach.Breach.{Breach}
+use Rattle.pth_script.specs.declared.breach.Breach.TheVariants.{Limit, Of}
+use Rattle.pth_script.specs.declared.read.ReadErr.{ReadErr}
+use Rattle.pth_script.specs.declared.reader.Fault.{Fault}
+use Rattle.pth_script.specs.declared.reader.Fault.TheVariants as fault
+use Rattle.pth_script.specs.declared.reader.Reader.{Reader}
+use Rattle.pth_script.proofs.Cuts.{at_row, at_end, no_rows}
+use Rattle.pth_script.proofs.Resting.{rest_none, checks_none}
+use Rattle.pth_script.proofs.RowRules.{long_row, beyond}
+
+-- ---- sizes
+
+onto_size : (b : ℕ) (rs : List Row) → size_of (onto_first b rs) ≡ size_of rs + 1
+unfolding size_of
+onto_size b [] = refl
+onto_size b (r ∷ rs) = omega arith
+
+row_more : (c : Bool) (b : ℕ) (rs : List Row) → size_of (cond c (record { bytes = []; ended = true } ∷ rs) (onto_first b rs)) ≡ size_of rs + 1
+unfolding size_of
+row_more true b rs = omega arith
+row_more false b rs = onto_size b rs
+
+-- the lines of a text have all its bytes
+pub whole_size : (bs : List ℕ) → size_of (rows_of bs) ≡ length bs
+unfolding rows_of size_of
+whole_size [] = refl
+whole_size (b ∷ bs) = omega (arith, row_more (b == 10) b (rows_of bs), whole_size bs)
+
+pub row_gone : (bytes after : List ℕ) (row : Row) → rows_of bytes ≡ row ∷ rows_of after → length bytes ≡ row_size row + length after
+unfolding size_of
+row_gone bytes after row e = omega (arith, ap size_of e, whole_size bytes, whole_size after)
+
+pub one_size : (row : Row) (before : List Row) → size_of (row ∷ before) ≡ row_size row + size_of before
+unfolding size_of
+one_size row before = refl
+
+-- ---- refusals
+
+pub broke : (e : Fault) (b : Breach) (new : Reader) (before : List Row) (row : Row) → e ≡ fault.Broken b → TakesRow (Err e) new before row → first_broken (λ b. row_breaks b before row) ≡ Some b
+broke (fault.Broken q) b new before row e h = h ∙ (cc)
+broke fault.Memory b new before row e h = absurd (cc)
+
+-- no line before this one breaks a rule
+abbrev pub AreFine : List ℕ → ℕ → Type 0
+AreFine text line = (i : ℕ) → 1 ≤ i → i < line → first_broken (broken text i) ≡ None
+
+module _ (text : List ℕ) (before : List Row) (line : ℕ) (at : length before + 1 ≡ line) (fine : AreFine text line) where
+  pub refusal : (rest : List Row) (row : Row) (b : Breach) → reverse before ++ row ∷ rest ≡ rows_of text → first_broken (λ b. row_breaks b before row) ≡ Some b → IsRefusal text line b
+  refusal rest row b e h = record {
+    from = omega arith;
+    within = omega (arith, ap length e, length-append (reverse before) (row ∷ rest), length-reverse before);
+    first = ap (λ n. first_broken (broken text n)) (sym at) ∙ at_row text before rest row e ∙ h;
+    least = fine;
+  }
+
+  pub refusal_at_end : (b : Breach) → reverse before ≡ rows_of text → first_broken (λ b. end_breaks b before) ≡ Some b → IsRefusal text line b
+  refusal_at_end b e h = record {
+    from = omega arith;
+    within = omega (arith, ap length e, length-reverse before);
+    first = ap (λ n. first_broken (broken text n)) (sym at) ∙ at_end text before e ∙ h;
+    least = fine;
+  }
+
+  pub fine_more : first_broken (broken text line) ≡ None → AreFine text (line + 1)
+  fine_more h i from below = ⊎_elim (λ (l : i < line). fine i from l) (λ (g : line ≤ i). let same : line ≡ i = omega arith in ap (λ n. first_broken (broken text n)) (sym same) ∙ h) (cases_lt i line)
+
+  pub fine_row : (rest : List Row) (row : Row) → reverse before ++ row ∷ rest ≡ rows_of text → first_broken (λ b. row_breaks b before row) ≡ None → AreFine text (line + 1)
+  fine_row rest row e h = fine_more (ap (λ n. first_broken (broken text n)) (sym at) ∙ at_row text before rest row e ∙ h)
+
+  pub accepted : reverse before ≡ rows_of text → first_broken (λ b. end_breaks b before) ≡ None → IsAccepted text
+  accepted e h i from within = fine_more (ap (λ n. first_broken (broken text n)) (sym at) ∙ at_end text before e ∙ h) i from (omega (arith, ap length e, length-reverse before))
+
+pub one_more : (before rest all : List Row) (row : Row) → reverse before ++ row ∷ rest ≡ all → reverse (row ∷ before) ++ rest ≡ all
+one_more before rest all row e = rw (reverse_onto before row [], append_assoc) e
+
+pub all_gone : (text : List ℕ) (before : List Row) → reverse before ++ rows_of [] ≡ rows_of text → reverse before ≡ rows_of text
+all_gone text before e = sym (append-nil (reverse before)) ∙ ap (λ t. reverse before ++ t) (sym no_rows) ∙ e
+
+pub nothing_left : (P : List ℕ → Type 0) (rest : List ℕ) → length rest ≡ 0 → P rest → P []
+nothing_left P [] h p = p
+nothing_left P (b ∷ bs) h p = absurd (omega arith)
+
+-- ---- steps of the reader
+
+module _ (r : Reader) (before : List Row) (text : List ℕ) (line : ℕ) (rest : List ℕ) (at : Reads r before text line rest) where
+  module _ (row : Row) (after : List ℕ) (cut : rows_of rest ≡ row ∷ rows_of after) where
+    whole : reverse before ++ row ∷ rows_of after ≡ rows_of text
+    whole = ap (λ t. reverse before ++ t) (sym cut) ∙ at.whole
+
+    pub row_size_is : size_of (row ∷ before) + length after ≡ length text
+    row_size_is = omega (arith, one_size row before, row_gone rest after row cut, at.gone)
+
+    pub breaks : (b : Breach) → first_broken (λ b. row_breaks b before row) ≡ Some b → IsRefusal text line b
+    breaks b h = refusal text before line at.at at.fine (rows_of after) row b whole h
+
+    pub passes_size : text_limit < size_of (row ∷ before) → IsRefusal text line Limit
+    passes_size h = breaks Limit (long_row before row (beyond before row h))
+
+    -- what is left makes the same, its first line and the others apart
+    pub makes_cut : Makes (parts r.draft) (left_of r (row ∷ rows_of after)) (handlers_of (said (drop 1 (rows_of text)))) (checks_of (said (drop 1 (rows_of text)))) (bodies_of (said (drop 1 (rows_of text))))
+    makes_cut = subst (λ rs. Makes (parts r.draft) (left_of r rs) (handlers_of (said (drop 1 (rows_of text)))) (checks_of (said (drop 1 (rows_of text)))) (bodies_of (said (drop 1 (rows_of text))))) cut at.makes
+
+    pub reads_on : (new : Reader) → TakesRow (Ok (tt)) new before row → Makes (parts new.draft) (left_of new (rows_of after)) (handlers_of (said (drop 1 (rows_of text)))) (checks_of (said (drop 1 (rows_of text)))) (bodies_of (said (drop 1 (rows_of text)))) → Reads new (row ∷ before) text (line + 1) after
+    reads_on new t m = record {
+      follows = t.1;
+      whole = one_more before (rows_of after) (rows_of text) row whole;
+      at = omega (arith, at.at);
+      gone = row_size_is;
+      fine = fine_row text before line at.at at.fine (rows_of after) row whole t.0;
+      makes = m;
+    }
+
+-- ---- the end
+
+not_started : (b : Bool) → said (cond b [] (drop 1 [])) ≡ []
+unfolding said
+not_started true = refl
+not_started false = refl
+
+module _ (r : Reader) (before : List Row) (text : List ℕ) (line : ℕ) (at : Reads r before text line []) where
+  pub ends_broken : (b : Breach) → first_broken (λ b. end_breaks b before) ≡ Some b → IsRefusal text line b
+  ends_broken b h = refusal_at_end text before line at.at at.fine b (all_gone text before at.whole) h
+
+  pub ends_fine : first_broken (λ b. end_breaks b before) ≡ None → IsAccepted text
+  ends_fine h = accepted text before line at.at at.fine (all_gone text before at.whole) h
+
+  none_left : left_of r (rows_of []) ≡ []
+  none_left = ap (λ rs. said (cond r.started rs (drop 1 rs))) no_rows ∙ not_started r.started
+
+  pub stands : in_handler r.draft.section ≡ false → in_body r.draft.section ≡ false → StandsFor (record { handlers = r.draft.handlers.items; checks = r.draft.checks.items; bodies = r.draft.bodies.items }) text
+  stands h b =
+      let d = parts r.draft in
+      let ls = said (drop 1 (rows_of text)) in
+      let m = subst (λ t. Makes d t (handlers_of ls) (checks_of ls) (bodies_of ls)) none_left at.makes in
+      record {
+        handlers = sym (append-nil (map somes d.handlers)) ∙ ap (λ t. map somes d.handlers ++ t) (sym (rest_none is_handler act_of (somes d.acts))) ∙ ap (λ b. map somes d.handlers ++ rest_of is_handler act_of b (somes d.acts) []) (sym h) ∙ m.handlers;
+        checks = sym (append-nil (somes d.checks)) ∙ ap (λ t. somes d.checks ++ t) (sym checks_none) ∙ m.checks;
+        bodies = sym (append-nil (map somes d.bodies)) ∙ ap (λ t. map somes d.bodies ++ map placed t) (sym (rest_none is_thread line_of (somes d.body))) ∙ ap (λ b. map somes d.bodies ++ map placed (rest_of is_thread line_of b (somes d.body) [])) (sym b) ∙ m.bodies;
+      }
+
+-- ---- answers
+
+pub refused_answers : (text : List ℕ) (line : ℕ) (b : Breach) (e : ReadErr) → e ≡ refused line b → IsRefusal text line b → Answers text (Err e)
+refused_answers text line Limit e h r = subst (λ e. Answers text (Err e)) (sym h) r
+refused_answers text line (Of q) e h r = subst (λ e. Answers text (Err e)) (sym h) r
+
+pub starts_reading : (r : Reader) (text : List ℕ) → Follows r [] → Makes (parts r.draft) (left_of r (rows_of text)) (handlers_of (said (drop 1 (rows_of text)))) (checks_of (said (drop 1 (rows_of text)))) (bodies_of (said (drop 1 (rows_of text)))) → Reads r [] text 1 text
+unfolding size_of
+starts_reading r text f m = record { follows = f; whole = refl; at = refl; gone = omega arith; fine = λ i from below. absurd (omega arith); makes = m }
+
+pub ends_reading : (r : Reader) (before : List Row) (text : List ℕ) (line : ℕ) (rest : List ℕ) → Reads r before text line rest → length rest ≡ 0 → (result : Result Sections ReadErr) → ((text : List ℕ) (before : List Row) → Reads r before text line [] → Answers text result) → Answers text result
+ends_reading r before text line rest at h result f = f text before (nothing_left (λ t. Reads r before text line t) rest h at)

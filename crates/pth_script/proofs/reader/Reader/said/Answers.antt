@@ -1,0 +1,60 @@
+use Rattle.std.proofs.Common.{◌≡◌, ◌∙◌, ◌∷◌, arith, sym, ap, subst, true, cond, not}
+use Rattle.std.specs.Prelude.{drop}
+use Rattle.std.proofs.lemmas.Grind.{common_steps}
+use Rattle.pth_text.specs.Words.{words_of}
+use Rattle.pth_grammar.specs.Texts.{texts}
+use Rattle.pth_grammar.specs.Keywords.{begins}
+use Rattle.pth_grammar.specs.Lines.{numbered}
+use Rattle.pth_script.specs.Rows.{Row, above}
+use Rattle.pth_script.specs.Broken.{is_first, said_breaks}
+use Rattle.pth_script.specs.Drafts.{parts, seen, Makes}
+use Rattle.pth_script.specs.Meaning.{said}
+use Rattle.pth_script.specs.Seen.{seen_of, past}
+use Rattle.pth_script.specs.Table.{first_broken}
+use Rattle.pth_script.proofs.Above.{seen_more}
+use Rattle.pth_script.proofs.RowRules.{said_row_rule, above_said, not_long}
+use Rattle.pth_script.proofs.Said.{said_line_of, fine_line}
+use Rattle.pth_script.proofs.reader.Reader.said.Goals as goal
+
+pub returns-in-Some : goal.returns-in-Some
+returns-in-Some c =
+    let row : Row = record { bytes = c.args.bytes.now; ended = c.args.ended } in
+    let w : texts c.as_slice-words.result.now ≡ words_of c.args.bytes.now = ap texts c.as_slice-words.ensures.value ∙ c.in_ok-words.ensures in
+    record {
+      takes = λ before f s.
+          let later : true ≡ not (is_first before) = sym c.requires.started ∙ f.started in
+          said_row_rule before row later c.requires.said (not_long before row s c.requires.short) ∙ sym (λ i. first_broken (said_breaks c.args.ended (f.seen i) (w i))) ∙ sym c.fault.ensures ∙ c.in-Some.is;
+      drafts = tt;
+    }
+
+pub take-requires-clause-fine : goal.take-requires-clause-fine
+take-requires-clause-fine c =
+    let ws = texts c.as_slice-words.result.now in
+    let d = parts c.args.self.now.draft in
+    let h = sym c.fault.ensures ∙ c.in_default.is in
+    let cut = (fine_line c.args.ended (seen d) ws h).cut in
+    let ended : c.args.ended ≡ true = grind (arith, common_steps) in
+    ap (λ b. first_broken (said_breaks b (seen d) ws)) (sym ended) ∙ h
+
+pub returns : goal.returns
+returns c =
+    let row : Row = record { bytes = c.args.bytes.now; ended = c.args.ended } in
+    let w : texts c.as_slice-words.result.now ≡ words_of c.args.bytes.now = ap texts c.as_slice-words.ensures.value ∙ c.in_ok-words.ensures in
+    let ws = texts c.as_slice-words.result.now in
+    let t = c.in_ok-take.ensures in
+    record {
+      takes = λ before f s.
+          let later : true ≡ not (is_first before) = sym c.requires.started ∙ f.started in (
+            said_row_rule before row later c.requires.said (not_long before row s c.requires.short) ∙ sym (λ i. first_broken (said_breaks c.args.ended (f.seen i) (w i))) ∙ sym c.fault.ensures ∙ c.in_default.is,
+            record {
+              started = c.requires.started;
+              seen = t.seen ∙ (λ i. past (begins (w i)) (numbered (w i)) (f.seen i)) ∙ sym (seen_more (words_of c.args.bytes.now) (above before)) ∙ ap seen_of (sym (above_said before row later c.requires.said));
+              kept = t.kept;
+            },
+          );
+      drafts = λ rest hs cs bs m.
+          let st = c.requires.started in
+          let old = subst (λ b. Makes (parts c.args.self.now.draft) (said (cond b (row ∷ rest) rest)) hs cs bs) st m in
+          let worded = subst (λ ls. Makes (parts c.args.self.now.draft) ls hs cs bs) (said_line_of row rest c.requires.said ∙ ap (λ v. v ∷ said rest) (sym w)) old in
+          subst (λ b. Makes (parts c.take.new.self) (said (cond b rest (drop 1 rest))) hs cs bs) (sym st) (t.makes (said rest) hs cs bs worded);
+    }

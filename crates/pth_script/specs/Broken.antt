@@ -1,0 +1,99 @@
+-- The rules of a text: one predicate for each, on the whole text and the number of a line.
+use Rattle.std.specs.Prelude.{◌≡◌, ℕ, ◌+◌, ◌-◌, ◌≤◌, ◌<◌, Bool, true, false, ◌||◌, ◌&&◌, not, List, [], ◌∷◌, length, Option, Some, None, ◌==◌, nat_lt, codes, if◌then◌else◌, slice_get, take, reverse}
+use Rattle.std.specs.Str.{bytes_eq}
+use Rattle.pth_text.specs.Words.{words_of}
+use Rattle.pth_grammar.specs.Keywords.{begins}
+use Rattle.pth_grammar.specs.Lines.{numbered}
+use Rattle.pth_grammar.specs.Shapes.{shape_of, words_break}
+use Rattle.pth_grammar.specs.declared.rule.Rule.TheVariants as rule
+use Rattle.pth_grammar.specs.declared.section.Section.{Section}
+use Rattle.pth_grammar.specs.declared.section.Section.TheVariants as sec
+use Rattle.pth_script.specs.Rows.{Row, rows_of, size_of, is_comment, above}
+use Rattle.pth_script.specs.Seen.{Seen, seen_of, passes_limit, misnumbered, leaves_goto}
+use Rattle.pth_script.specs.Table.{first_broken}
+use Rattle.pth_script.specs.declared.breach.Breach.{Breach}
+use Rattle.pth_script.specs.declared.breach.Breach.TheVariants.{Limit, Of}
+
+-- the bytes that an input may have, and a line without its LF
+unfoldable pub text_limit : ℕ
+text_limit = 16777216
+
+unfoldable pub line_limit : ℕ
+line_limit = 8192
+
+-- ---- a line of words
+
+-- what the words of a line break, under what was seen above it
+unfoldable pub line_breaks : Breach → Seen → List (List ℕ) → Bool
+line_breaks Limit s ws = passes_limit s.section (begins ws) s
+line_breaks (Of rule.Number) s ws = misnumbered (begins ws) (numbered ws) s
+line_breaks (Of rule.Label) s ws = leaves_goto s.section (begins ws) s
+line_breaks (Of r) s ws = words_break r (shape_of s.section ws)
+
+-- the same, with whether an LF ends the line
+unfoldable pub said_breaks : Bool → Seen → List (List ℕ) → Breach → Bool
+said_breaks ended s ws (Of rule.Cut) = not ended
+said_breaks ended s ws (Of rule.Header) = false
+said_breaks ended s ws b = line_breaks b s ws
+
+-- the text's first line has no words to look at, and no comment has
+unfoldable pub says_wrong : Breach → List Row → Row → Bool
+says_wrong b [] row = false
+says_wrong b (r ∷ rs) row = if is_comment row.bytes then false else line_breaks b (seen_of (above (r ∷ rs))) (words_of row.bytes)
+
+-- ---- a place of the text
+
+-- no line stands above
+abbrev pub is_first : List Row → Bool
+is_first [] = true
+is_first (r ∷ rs) = false
+
+-- a byte beyond the input's limit stands above or in the line, or the line is too long
+abbrev pub is_long : List Row → Row → Bool
+is_long before row = nat_lt text_limit (size_of (row ∷ before)) || nat_lt line_limit (length row.bytes)
+
+-- a line breaks a rule, below the lines that stand above it, the nearest first
+unfoldable pub row_breaks : Breach → List Row → Row → Bool
+row_breaks Limit before row = is_long before row || says_wrong Limit before row
+row_breaks (Of rule.Cut) before row = not row.ended
+row_breaks (Of rule.Header) before row = is_first before && not (bytes_eq row.bytes (codes "pth 1"))
+row_breaks b before row = says_wrong b before row
+
+-- a handler or a body is open
+abbrev pub is_open : Section → Bool
+is_open sec.Handler = true
+is_open sec.Body = true
+is_open _ = false
+
+-- and so does the place after the last line
+unfoldable pub end_breaks : Breach → List Row → Bool
+end_breaks (Of rule.Header) before = is_first before
+end_breaks (Of rule.Main) before = (seen_of (above before)).bodies == 0
+end_breaks (Of rule.End) before = is_open (seen_of (above before)).section
+end_breaks _ before = false
+
+-- a line, or the place after the last one
+abbrev pub place_breaks : Breach → List Row → Option Row → Bool
+place_breaks b before None = end_breaks b before
+place_breaks b before (Some row) = row_breaks b before row
+
+-- ---- the whole text
+
+-- the i-th line of the text breaks the rule, or the place after the last one does. Lines are numbered from 1
+unfoldable pub broken : List ℕ → ℕ → Breach → Bool
+broken text i b = place_breaks b (reverse (take (i - 1) (rows_of text))) (slice_get (rows_of text) (i - 1))
+
+-- how many places a text has
+abbrev pub places : List ℕ → ℕ
+places text = length (rows_of text) + 1
+
+-- the rule is the first that the line breaks, and no line before it breaks any
+pub record IsRefusal (text : List ℕ) (line : ℕ) (b : Breach) : Type 0 where
+  pub from : 1 ≤ line
+  pub within : line ≤ places text
+  pub first : first_broken (broken text line) ≡ Some b
+  pub least : (i : ℕ) → 1 ≤ i → i < line → first_broken (broken text i) ≡ None
+
+-- no line breaks a rule
+abbrev pub IsAccepted : List ℕ → Type 0
+IsAccepted text = (i : ℕ) → 1 ≤ i → i ≤ places text → first_broken (broken text i) ≡ None

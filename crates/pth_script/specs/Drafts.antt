@@ -1,0 +1,114 @@
+-- What a draft of a script has seen, and what becomes of it with the lines that are left.
+use Rattle.std.specs.Prelude.{◌≡◌, ◌≤◌, ℕ, ◌+◌, All, Bool, true, false, List, [], ◌∷◌, ◌++◌, length, Option, None, map, if◌then◌else◌}
+use Rattle.pth_grammar.specs.Lines.{line_of, act_of}
+use Rattle.pth_grammar.specs.declared.keyword.Keyword.{Keyword}
+use Rattle.pth_grammar.specs.declared.section.Section.{Section}
+use Rattle.pth_grammar.specs.declared.section.Section.TheVariants as sec
+use Rattle.pth_line.specs.declared.act_line.ActLine.{ActLine}
+use Rattle.pth_line.specs.declared.check.Check.{Check}
+use Rattle.pth_line.specs.declared.line.Line.{Line}
+use Rattle.pth_script.specs.Labels.{somes, labels_in, gotos_in, placed}
+use Rattle.pth_script.specs.Meaning.{until_end, blocks, checks_of}
+use Rattle.pth_grammar.specs.Keywords.{begins}
+use Rattle.pth_grammar.specs.Lines.{numbered}
+use Rattle.pth_script.specs.Seen.{Seen, past, is_handler, is_thread}
+use Rattle.pth_script.specs.Broken.{said_breaks}
+use Rattle.pth_script.specs.Table.{first_broken}
+use Rattle.pth_script.specs.declared.draft.Draft.{Draft}
+
+-- ---- what was seen
+
+-- a handler is open
+abbrev pub in_handler : Section → Bool
+in_handler sec.Handler = true
+in_handler _ = false
+
+-- a body is open
+abbrev pub in_body : Section → Bool
+in_body sec.Body = true
+in_body _ = false
+
+-- with the one that is open
+abbrev pub with_open : Bool → ℕ → ℕ
+with_open is_open n = if is_open then n + 1 else n
+
+-- the parts of a draft, as lists
+pub record Parts : Type 0 where
+  pub section : Section
+  pub handlers : List (List ActLine)
+  pub checks : List Check
+  pub bodies : List (List Line)
+  pub acts : List ActLine
+  pub body : List Line
+
+-- those of a draft in the code
+abbrev pub parts : Draft → Parts
+parts d = record {
+  section = d.section;
+  handlers = d.handlers.items;
+  checks = d.checks.items;
+  bodies = d.bodies.items;
+  acts = d.acts;
+  body = d.body;
+}
+
+-- a draft as what was seen
+abbrev pub seen : Parts → Seen
+seen d = record {
+  section = d.section;
+  handlers = with_open (in_handler d.section) (length d.handlers);
+  checks = length d.checks;
+  bodies = with_open (in_body d.section) (length d.bodies);
+  lines = length d.acts + length d.body;
+  labels = labels_in d.body;
+  gotos = gotos_in d.body;
+}
+
+-- no lines are kept of a section that is not open, and no limit is passed
+pub record IsKept (d : Parts) : Type 0 where
+  pub no_acts : in_handler d.section ≡ false → d.acts ≡ []
+  pub no_lines : in_body d.section ≡ false → d.body ≡ []
+  pub few_acts : length d.acts ≤ 64
+  pub short_handlers : All (λ (acts : List ActLine). length acts ≤ 64) d.handlers
+  pub few_handlers : with_open (in_handler d.section) (length d.handlers) ≤ 256
+  pub few_bodies : with_open (in_body d.section) (length d.bodies) ≤ 256
+
+-- nothing is open, and there is a body
+pub record IsClosable (d : Parts) : Type 0 where
+  pub handler : in_handler d.section ≡ false
+  pub body : in_body d.section ≡ false
+  pub some : 1 ≤ length d.bodies
+
+-- ---- what becomes of it
+
+-- the rest of sections, of which one may be open with some lines read
+abbrev pub rest_of : {A : Type 0} → (Option Keyword → Bool) → (List (List ℕ) → A) → Bool → List A → List (List (List ℕ)) → List (List A)
+rest_of opens read is_open lines ls = if is_open then (lines ++ until_end read ls) ∷ blocks opens read ls else blocks opens read ls
+
+-- the lines that are left make these handlers, checks and bodies of the draft
+pub record Makes (d : Parts) (ls : List (List (List ℕ))) (hs : List (List (Option ActLine))) (cs : List (Option Check)) (bs : List (List (Option Line))) : Type 0 where
+  pub handlers : map somes d.handlers ++ rest_of is_handler act_of (in_handler d.section) (somes d.acts) ls ≡ hs
+  pub checks : somes d.checks ++ checks_of ls ≡ cs
+  pub bodies : map somes d.bodies ++ map placed (rest_of is_thread line_of (in_body d.section) (somes d.body) ls) ≡ bs
+
+-- ---- one line more
+
+-- the words of a line break no rule
+abbrev pub IsFine : Parts → List (List ℕ) → Type 0
+IsFine d ws = first_broken (said_breaks true (seen d) ws) ≡ None
+
+-- the handler that was open is closed
+abbrev pub handler_closed : Parts → Parts
+handler_closed d = record d { section = sec.Handlers; handlers = d.handlers ++ d.acts ∷ []; acts = [] }
+
+-- the body that was open is closed: each `goto` goes to the line after its label
+abbrev pub IsClosed : Parts → Parts → Type 0
+IsClosed old new =
+    (body : List Line) × (somes body ≡ placed (somes old.body)) × (new ≡ record old { section = sec.Bodies; bodies = old.bodies ++ body ∷ []; body = [] })
+
+-- the draft went over a line
+pub record Takes (old new : Parts) (ws : List (List ℕ)) : Type 0 where
+  pub seen : seen new ≡ past (begins ws) (numbered ws) (seen old)
+  pub kept : IsKept new
+  pub makes : (ls : List (List (List ℕ))) (hs : List (List (Option ActLine))) (cs : List (Option Check)) (bs : List (List (Option Line)))
+      → Makes old (ws ∷ ls) hs cs bs → Makes new ls hs cs bs

@@ -1,0 +1,37 @@
+-- A text as a list of lines.
+use Rattle.std.specs.Prelude.{ℕ, ◌+◌, Bool, true, false, List, [], ◌∷◌, length, ◌==◌, if◌then◌else◌, slice_index}
+use Rattle.pth_text.specs.Words.{words_of}
+
+-- a line without its LF, and whether it has one
+pub record Row : Type 0 where
+  pub bytes : List ℕ
+  pub ended : Bool
+
+-- a byte before the first of some lines
+abbrev pub onto_first : ℕ → List Row → List Row
+onto_first b [] = record { bytes = b ∷ []; ended = false } ∷ []
+onto_first b (r ∷ rs) = record { bytes = b ∷ r.bytes; ended = r.ended } ∷ rs
+
+-- the lines of a text
+unfoldable pub rows_of : List ℕ → List Row
+rows_of [] = []
+rows_of (b ∷ bs) = if b == 10 then record { bytes = []; ended = true } ∷ rows_of bs else onto_first b (rows_of bs)
+
+-- how many bytes a line has, with its LF
+abbrev pub row_size : Row → ℕ
+row_size r = length r.bytes + (if r.ended then 1 else 0)
+
+-- how many bytes lines have
+unfoldable pub size_of : List Row → ℕ
+size_of [] = 0
+size_of (r ∷ rs) = row_size r + size_of rs
+
+-- a line that begins with `#`
+abbrev pub is_comment : List ℕ → Bool
+is_comment bytes = slice_index bytes 0 == 35
+
+-- the lines above a line, the nearest first, in words: without comments, and without the text's first line
+unfoldable pub above : List Row → List (List (List ℕ))
+above [] = []
+above (r ∷ []) = []
+above (r ∷ s ∷ rs) = if is_comment r.bytes then above (s ∷ rs) else words_of r.bytes ∷ above (s ∷ rs)

@@ -1,0 +1,131 @@
+//! A reader of lines.
+
+ghost use Rattle.std.specs.Prelude.{◌≡◌, ◌≤◌, List, [], drop, length, option_map, IsNone, true, false};
+ghost use Rattle.pth_script.specs.Broken.{end_breaks, line_limit};
+ghost use Rattle.pth_script.specs.Drafts.{parts, IsClosable, IsKept, Makes};
+ghost use Rattle.pth_script.specs.Follows.{Follows, Goes, left_of};
+ghost use Rattle.pth_script.specs.Meaning.{said, handlers_of, checks_of, bodies_of};
+ghost use Rattle.pth_script.specs.Rows.{Row, is_comment};
+ghost use Rattle.pth_script.specs.Table.{first_broken};
+ghost use Rattle.pth_script.specs.declared.breach.Breach.TheVariants.{Of};
+
+use crate::breach::Breach;
+use crate::draft::Draft;
+use crate::rows::is_comment;
+use pth_base::memory::OutOfMemory;
+use pth_grammar::rule::Rule;
+use pth_grammar::section::Section;
+use pth_text::words::words;
+use std::alloc::Global;
+
+// A line has at most so many bytes, without its LF.
+const LINE_LIMIT: usize = 8192;
+
+/// Why a line was not taken.
+#[derive(Clone, Copy, Debug, PartialEq, Eq)]
+pub enum Fault {
+    Broken(Breach),
+    Memory,
+}
+
+impl From<OutOfMemory> for Fault {
+    ghost use Rattle.pth_script.specs.declared.reader.Fault.TheVariants as fault;
+
+    ghost from_gives = { λ _ e. e ≡ fault.Memory };
+
+    fn from(_e: OutOfMemory) -> Fault {
+        Fault::Memory
+    }
+}
+
+/// What was read so far: whether the first line was, and a draft of the rest.
+#[derive(Drop)]
+pub struct Reader {
+    alloc: Global,
+    pub started: bool,
+    pub draft: Draft,
+}
+
+impl Reader {
+    /// A reader of no lines yet.
+    pub fn new(alloc: Global) -> Reader
+        ensures follows { Follows result [] }
+        ensures makes { (rows : List Row) → Makes (parts result.draft) (left_of result rows) (handlers_of (said (drop 1 rows))) (checks_of (said (drop 1 rows))) (bodies_of (said (drop 1 rows))) }
+    {
+        Reader {
+            alloc,
+            started: false,
+            draft: Draft::new(alloc),
+        }
+    }
+
+    /// Takes the text's first line.
+    fn first(&mut self, bytes: &[u8], ended: bool) -> Result<(), Fault>
+        requires started { self.old.started ≡ false }
+        requires short { length bytes.now ≤ line_limit }
+        ensures { Goes self.old self.new (record { bytes = bytes.now; ended = ended }) result }
+    {
+        if !ended {
+            return Err(Fault::Broken(Breach::Of(Rule::Cut)));
+        }
+        if bytes != b"pth 1".as_slice() {
+            return Err(Fault::Broken(Breach::Of(Rule::Header)));
+        }
+        self.started = true;
+        Ok(())
+    }
+
+    /// Takes a line of words.
+    fn said(&mut self, bytes: &[u8], ended: bool) -> Result<(), Fault>
+        requires started { self.old.started ≡ true }
+        requires short { length bytes.now ≤ line_limit }
+        requires said { is_comment bytes.now ≡ false }
+        requires kept { IsKept (parts self.old.draft) }
+        ensures { Goes self.old self.new (record { bytes = bytes.now; ended = ended }) result }
+    {
+        let words = words(self.alloc, bytes)?;
+        let words = words.as_slice();
+        if let Some(breach) = self.draft.fault(words, ended) {
+            return Err(Fault::Broken(breach));
+        }
+        self.draft.take(words)?;
+        Ok(())
+    }
+
+    /// Takes the next line of a text, without its LF.
+    pub fn row(&mut self, bytes: &[u8], ended: bool) -> Result<(), Fault>
+        requires { IsKept (parts self.old.draft) }
+        ensures { Goes self.old self.new (record { bytes = bytes.now; ended = ended }) result }
+    {
+        if bytes.len() > LINE_LIMIT {
+            return Err(Fault::Broken(Breach::Limit));
+        }
+        if !self.started {
+            return self.first(bytes, ended);
+        }
+        if is_comment(bytes) {
+            if !ended {
+                return Err(Fault::Broken(Breach::Of(Rule::Cut)));
+            }
+            return Ok(());
+        }
+        self.said(bytes, ended)
+    }
+    /// The rule that the place after the last line breaks.
+    pub fn end_fault(&self) -> Option<Rule>
+        ensures closed { IsNone result → IsClosable (parts self.now.draft) }
+        ensures first { (before : List Row) → Follows self.now before → option_map Of result ≡ first_broken (λ b. end_breaks b before) }
+    {
+        if !self.started {
+            return Some(Rule::Header);
+        }
+        if self.draft.bodies_opened() == 0 {
+            return Some(Rule::Main);
+        }
+        match self.draft.section {
+            Section::Handler => Some(Rule::End),
+            Section::Body => Some(Rule::End),
+            _ => None,
+        }
+    }
+}
