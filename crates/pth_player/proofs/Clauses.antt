@@ -1,5 +1,5 @@
 -- The clauses of the top call, from what was done and how the call ends.
-use Rattle.std.proofs.Common.{◌≡◌, ◌≢◌, ◌∙◌, ◌⊎◌, ◌<◌, ℕ, List, [], ◌∷◌, Option, None, Result, Ok, Err, IfSome, ap, sym, refl, subst, arith, inl, inr}
+use Rattle.std.proofs.Common.{◌≡◌, ◌≢◌, ◌∙◌, ◌⊎◌, ◌<◌, ℕ, List, [], ◌∷◌, Option, Result, Ok, Err, IfSome, ap, sym, refl, subst, arith, inl, inr}
 use Rattle.std.specs.Io.KnownBytes.{Appends}
 use Rattle.pth_base.specs.Faults.{Rose}
 use Rattle.pth_base.specs.declared.outcome.Outcome.{Outcome}
@@ -10,11 +10,11 @@ use Rattle.pth_model.specs.Run.{run}
 use Rattle.pth_print.specs.Lines.{fault_line, fault_status}
 use Rattle.pth_print.specs.declared.fault_line.Fault.{Fault}
 use Rattle.pth_print.specs.declared.fault_line.Fault.TheVariants as fault
-use Rattle.pth_script.specs.FirstForm.{IsAccepted}
-use Rattle.pth_script.specs.Script.{functions_of}
-use Rattle.pth_script.specs.declared.script.Line.{Line}
-use Rattle.pth_player.specs.Output.{Output, IsRefused, IsRunOutput, IsTheOutput, IsTheScript, cut, given_script, outcome_status, refusal, step_limit, told_output}
-use Rattle.pth_player.specs.Play.{AreHeld, Completes, DrivesScript, Ends, HasLine, HoldsNoScript, IsFaultStatus, IsOutputStatus, IsRunStatus, ObjectRose, Ran, RefusesInput, Reports, Scene, TellsFault, WritesFault, WritesLine, WritesOutput, WritesWhole, content, object_of}
+use Rattle.pth_line.specs.Script.{Sections, functions_of}
+use Rattle.pth_script.proofs.Once.{not_both}
+use Rattle.pth_player.specs.Faults.{input_fault}
+use Rattle.pth_player.specs.Output.{Output, IsRefused, IsTheOutput, IsTheScript, cut, given_script, outcome_status, refusal, step_limit, told_output}
+use Rattle.pth_player.specs.Play.{AreHeld, Completes, DrivesScript, Ends, HasLine, HoldsNoScript, IsFaultStatus, IsOutputStatus, IsRunStatus, ObjectRose, Ran, RefusesInput, Reports, Scene, TellsFault, WritesLine, WritesOutput, WritesWhole, content, object_of}
 use Rattle.pth_player.specs.Streams.{AppendsPart, AppendsPrefix}
 use Rattle.pth_player.proofs.Outputs.{refused_output, script_output, words_output}
 use Rattle.pth_player.proofs.Pieces.{all_of, none_after, part_is_prefix}
@@ -71,8 +71,15 @@ module _ (words : List (List ℕ)) (old new : Scene) (status : ℕ) (w x : Optio
   whole_words (y ∷ ys) some is app line = ([], refl, refusal fault.Words, words_output y ys [], is, app, line)
 
   -- the output of a script that stops at this part
-  abbrev run_told : List (List Line) → ℕ → Output
-  run_told bodies parts = told_output step_limit (run functions_of (given_script bodies) parts)
+  abbrev run_told : Sections → ℕ → Output
+  run_told script parts = told_output step_limit (run functions_of (given_script script) parts)
+
+  -- the output of a refused input
+  whole_refused : (line rule : ℕ) → Ran words old new (Err (fault.Input line rule)) → (status ≡ fault_status (fault.Input line rule)) × WritesLine w x b n (fault_line (fault.Input line rule)) → WholeOf words
+  whole_refused line rule ran k =
+      let h = ran.2 in
+      let same : fault.Input line rule ≡ input_fault line h.2.0 = ap (λ p. fault.Input line p) h.2.2 in
+      (h.0, h.1, refusal (input_fault line h.2.0), refused_output words h.0 line h.2.0 ran.0 h.2.1, k.0, ran.3, subst (λ f. WritesLine w x b n (fault_line f)) same k.1)
 
   whole : (r : Result Outcome Fault) → Ran words old new r → Ends r status w x b n → IsOutputStatus status → WholeOf words
   whole (Ok o) ran ends h =
@@ -80,8 +87,8 @@ module _ (words : List (List ℕ)) (old new : Scene) (status : ℕ) (w x : Optio
       let out = run_told d.2 d.4.0 in
       (d.0, d.1, out, script_output words d.0 d.2 out ran.0 d.3 (d.4.0, d.4.1, refl), ends.0 ∙ ap outcome_status d.4.2, d.4.3, ends.1)
   whole (Err fault.Words) ran ends h = elim ends [ inl k ↦ whole_words words ran.0 k.0 ran.2 k.1 | inr k ↦ absurd (not_whole status (inr (inr k.0)) h) ]
-  whole (Err fault.Input) ran ends h = elim ends [
-    | inl k ↦ (ran.2.0, ran.2.1, refusal fault.Input, refused_output words ran.2.0 ran.0 ran.2.2, k.0, ran.3, k.1)
+  whole (Err (fault.Input line rule)) ran ends h = elim ends [
+    | inl k ↦ whole_refused line rule ran k
     | inr k ↦ absurd (not_whole status (inr (inr k.0)) h)
   ]
   whole (Err fault.ReadFault) ran ends h = elim ends [ inl k ↦ absurd (not_whole status (inl k.0) h) | inr k ↦ absurd (not_whole status (inr (inr k.0)) h) ]
@@ -94,7 +101,7 @@ module _ (words : List (List ℕ)) (old new : Scene) (status : ℕ) (w x : Optio
   part : (r : Result Outcome Fault) → Ran words old new r → Ends r status w x b n → status ≡ 5 → Part
   part (Ok o) ran ends e = absurd (not_outcome o status 5 ends.0 (omega arith) (omega arith) e)
   part (Err fault.Words) ran ends e = absurd (other fault.Words ends 5 (λ h. omega arith) (λ h. omega arith) e)
-  part (Err fault.Input) ran ends e = absurd (other fault.Input ends 5 (λ h. omega arith) (λ h. omega arith) e)
+  part (Err (fault.Input line rule)) ran ends e = absurd (other (fault.Input line rule) ends 5 (λ h. omega arith) (λ h. omega arith) e)
   part (Err fault.ReadFault) ran ends e = absurd (other fault.ReadFault ends 5 (λ h. omega arith) (λ h. omega arith) e)
   part (Err fault.WriteFault) ran ends e = let d = ran.2 in (d.0, d.1, d.4.0, script_output words d.0 d.2 d.4.0 ran.0 d.3 d.4.1, d.4.2)
   part (Err fault.OutOfMemory) ran ends e = absurd (other fault.OutOfMemory ends 5 (λ h. omega arith) (λ h. omega arith) e)
@@ -108,7 +115,7 @@ module _ (words : List (List ℕ)) (old new : Scene) (status : ℕ) (w x : Optio
       let out = run_told d.2 d.4.0 in
       inr (d.0, d.1, out, script_output words d.0 d.2 out ran.0 d.3 (d.4.0, d.4.1, refl), all_of old.written new.written out.text d.4.3)
   beginning (Err fault.Words) ran ends e = inl ran.2
-  beginning (Err fault.Input) ran ends e = inl ran.3
+  beginning (Err (fault.Input line rule)) ran ends e = inl ran.3
   beginning (Err fault.ReadFault) ran ends e = inl ran.2
   beginning (Err fault.WriteFault) ran ends e =
       let d = ran.2 in
@@ -118,7 +125,7 @@ module _ (words : List (List ℕ)) (old new : Scene) (status : ℕ) (w x : Optio
   nothing : (r : Result Outcome Fault) → Ran words old new r → Ends r status w x b n → Nothing → Appends old.written new.written []
   nothing (Ok o) ran ends h = absurd (not_fault o status ends.0 (elim h [ inl two ↦ inl two | inr k ↦ elim k [ inl three ↦ inr (inl three) | inr four ↦ inr (inr (inl four)) ] ]))
   nothing (Err fault.Words) ran ends h = ran.2
-  nothing (Err fault.Input) ran ends h = ran.3
+  nothing (Err (fault.Input line rule)) ran ends h = ran.3
   nothing (Err fault.ReadFault) ran ends h = ran.2
   nothing (Err fault.WriteFault) ran ends h = grind arith
   nothing (Err fault.OutOfMemory) ran ends h = grind arith
@@ -130,7 +137,7 @@ module _ (words : List (List ℕ)) (old new : Scene) (status : ℕ) (w x : Optio
       → IsOutputStatus status ⊎ (status ≡ 7)
   completes_by (Ok o) ran ends read write = outcome_or_seven o status ends.0
   completes_by (Err fault.Words) ran ends read write = elim ends [ inl k ↦ inl (inr (inl k.0)) | inr k ↦ inr k.0 ]
-  completes_by (Err fault.Input) ran ends read write = elim ends [ inl k ↦ inl (inr (inr k.0)) | inr k ↦ inr k.0 ]
+  completes_by (Err (fault.Input line rule)) ran ends read write = elim ends [ inl k ↦ inl (inr (inr k.0)) | inr k ↦ inr k.0 ]
   completes_by (Err fault.ReadFault) ran ends read write = absurd (read ran.1)
   completes_by (Err fault.WriteFault) ran ends read write = let d = ran.2 in absurd (write d.4.3)
   completes_by (Err fault.OutOfMemory) ran ends read write = elim ends [ inl k ↦ inr k.0 | inr k ↦ inr k.0 ]
@@ -140,9 +147,9 @@ module _ (words : List (List ℕ)) (old new : Scene) (status : ℕ) (w x : Optio
 
   -- ---- the input that is refused
 
-  not_refused : (bytes : List ℕ) (o : Option (List ℕ)) (bodies : List (List Line)) → AreHeld o bytes → IsAccepted bodies (cut bytes)
+  not_refused : (bytes : List ℕ) (o : Option (List ℕ)) (script : Sections) → AreHeld o bytes → IsTheScript script (cut bytes)
       → IfSome o (λ xs. IsRefused (cut xs) → ⊥)
-  not_refused bytes o bodies held accepted = told (λ xs. bytes ≡ xs) (λ xs. IsRefused (cut xs) → ⊥) o (λ xs e refused. refused bodies (subst (λ ys. IsAccepted bodies (cut ys)) e accepted)) held
+  not_refused bytes o script held stands = told (λ xs. bytes ≡ xs) (λ xs. IsRefused (cut xs) → ⊥) o (λ xs e refused. not_both (cut xs) refused.0 refused.1 (subst (λ ys. IsTheScript script (cut ys)) e stands).0 refused.2) held
 
   abbrev Refusal : Type 0
   Refusal = (status ≡ 3) ⊎ ((status ≡ 4) ⊎ (status ≡ 7))
@@ -152,12 +159,12 @@ module _ (words : List (List ℕ)) (old new : Scene) (status : ℕ) (w x : Optio
 
   accepted_with : (r : Result Outcome SinkErr) → DrivesScript words old new r → IfSome (content words old) (λ bytes. IsRefused (cut bytes) → Refusal)
   accepted_with r d = told (λ xs. IsRefused (cut xs) → ⊥) (λ xs. IsRefused (cut xs) → Refusal) (content words old) (λ xs no refused. absurd (no refused))
-      (not_refused d.0 (content words old) d.2 d.1 d.3.0)
+      (not_refused d.0 (content words old) d.2 d.1 d.3)
 
   refuses : (r : Result Outcome Fault) → Ran words old new r → Ends r status w x b n → words ≡ [] → IfSome (content words old) (λ bytes. IsRefused (cut bytes) → Refusal)
   refuses (Ok o) ran ends none = accepted_with (Ok o) ran.2
   refuses (Err fault.Words) ran ends none = absurd (ran.0 none)
-  refuses (Err fault.Input) ran ends none = refused_with (elim ends [ inl k ↦ inl k.0 | inr k ↦ inr (inr k.0) ])
+  refuses (Err (fault.Input line rule)) ran ends none = refused_with (elim ends [ inl k ↦ inl k.0 | inr k ↦ inr (inr k.0) ])
   refuses (Err fault.ReadFault) ran ends none = refused_with (elim ends [ inl k ↦ inr (inl k.0) | inr k ↦ inr (inr k.0) ])
   refuses (Err fault.WriteFault) ran ends none = accepted_with (Err sink.Failed) ran.2
   refuses (Err fault.OutOfMemory) ran ends none = refused_with (elim ends [ inl k ↦ inr (inr k.0) | inr k ↦ inr (inr k.0) ])
@@ -165,7 +172,7 @@ module _ (words : List (List ℕ)) (old new : Scene) (status : ℕ) (w x : Optio
   refused_only : (r : Result Outcome Fault) → Ran words old new r → Ends r status w x b n → status ≡ 3 → (words ≡ []) × HoldsNoScript words old
   refused_only (Ok o) ran ends e = absurd (not_outcome o status 3 ends.0 (omega arith) (omega arith) e)
   refused_only (Err fault.Words) ran ends e = absurd (other fault.Words ends 3 (λ h. omega arith) (λ h. omega arith) e)
-  refused_only (Err fault.Input) ran ends e = (ran.0, ran.2)
+  refused_only (Err (fault.Input line rule)) ran ends e = (ran.0, (ran.2.0, ran.2.1, (line, ran.2.2.0, ran.2.2.1)))
   refused_only (Err fault.ReadFault) ran ends e = absurd (other fault.ReadFault ends 3 (λ h. omega arith) (λ h. omega arith) e)
   refused_only (Err fault.WriteFault) ran ends e = absurd (other fault.WriteFault ends 3 (λ h. omega arith) (λ h. omega arith) e)
   refused_only (Err fault.OutOfMemory) ran ends e = absurd (other fault.OutOfMemory ends 3 (λ h. omega arith) (λ h. omega arith) e)

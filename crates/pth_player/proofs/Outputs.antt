@@ -1,14 +1,17 @@
 -- What the output is, and that there is one alone.
-use Rattle.std.proofs.Common.{◌≡◌, ◌∙◌, ℕ, List, [], ◌∷◌, ◌++◌, Option, Some, IfSome, ap, append_assoc, sym, refl, subst, inl, inr}
+use Rattle.std.proofs.Common.{◌≡◌, ◌∙◌, ℕ, List, [], ◌∷◌, Option, Some, IfSome, ap, sym, refl, subst, inl, inr}
 use Rattle.std.specs.Io.KnownBytes.{Appends}
 use Rattle.pth_base.specs.Program.{Functions}
 use Rattle.pth_model.specs.State.{Given}
 use Rattle.pth_model.specs.Run.{run}
 use Rattle.pth_model.proofs.Runs.{goes-once}
 use Rattle.pth_print.specs.declared.fault_line.Fault.TheVariants as fault
-use Rattle.pth_script.specs.Script.{functions_of}
-use Rattle.pth_script.specs.declared.script.Line.{Line}
-use Rattle.pth_player.specs.Output.{Output, IsOutput, IsRefused, IsRunOutput, IsTheOutput, IsTheScript, cut, given_script, refusal, step_limit, told_output}
+use Rattle.pth_line.specs.Script.{Sections, functions_of}
+use Rattle.pth_script.specs.Broken.{IsRefusal}
+use Rattle.pth_script.specs.declared.breach.Breach.{Breach}
+use Rattle.pth_script.proofs.Once.{not_both, one_script, same_breach, same_line}
+use Rattle.pth_player.specs.Faults.{input_fault}
+use Rattle.pth_player.specs.Output.{Output, IsOutput, IsRunOutput, IsTheOutput, IsTheScript, cut, given_script, refusal, step_limit, told_output}
 use Rattle.pth_player.specs.Play.{IsOutputStatus, Scene, WritesFault, WritesOutput, content}
 use Rattle.pth_player.specs.Streams.{AppendsPart}
 
@@ -20,21 +23,24 @@ pub words_output : (word : List ℕ) (words : List (List ℕ)) (bytes : List ℕ
 words_output word words bytes = (refl, λ other o. o)
 
 -- that of an input that is no script
-pub refused_output : (words : List (List ℕ)) (bytes : List ℕ) → words ≡ [] → IsRefused (cut bytes) → IsTheOutput words bytes (refusal fault.Input)
-refused_output words bytes none refused = subst (λ (ws : List (List ℕ)). IsTheOutput ws bytes (refusal fault.Input)) (sym none) (
-  inr (refused, refl),
-  λ other o. elim o [ inl i ↦ absurd (refused i.0 i.1) | inr k ↦ k.1 ],
+pub refused_output : (words : List (List ℕ)) (bytes : List ℕ) (line : ℕ) (b : Breach) → words ≡ [] → IsRefusal (cut bytes) line b → IsTheOutput words bytes (refusal (input_fault line b))
+refused_output words bytes line b none refused = subst (λ (ws : List (List ℕ)). IsTheOutput ws bytes (refusal (input_fault line b))) (sym none) (
+  inr (line, b, refused, refl),
+  λ other o. elim o [
+    | inl i ↦ absurd (not_both (cut bytes) line b i.1.0 refused)
+    | inr k ↦ k.3 ∙ (λ i. refusal (input_fault (same_line (cut bytes) k.0 line k.1 b k.2 refused i) (same_breach (cut bytes) k.0 line k.1 b k.2 refused i)))
+  ],
 )
 
 -- that of a script
-pub script_output : (words : List (List ℕ)) (bytes : List ℕ) (bodies : List (List Line)) (out : Output) → words ≡ [] → IsTheScript bodies (cut bytes)
-    → IsRunOutput functions_of (given_script bodies) step_limit out → IsTheOutput words bytes out
-script_output words bytes bodies out none script is = subst (λ (ws : List (List ℕ)). IsTheOutput ws bytes out) (sym none) (
-  inl (bodies, script.0, is),
+pub script_output : (words : List (List ℕ)) (bytes : List ℕ) (script : Sections) (out : Output) → words ≡ [] → IsTheScript script (cut bytes)
+    → IsRunOutput functions_of (given_script script) step_limit out → IsTheOutput words bytes out
+script_output words bytes script out none stands is = subst (λ (ws : List (List ℕ)). IsTheOutput ws bytes out) (sym none) (
+  inl (script, stands, is),
   λ other o. elim o [
-    | inl i ↦ run_once functions_of (given_script bodies) step_limit other out
-        (subst (λ (bs : List (List Line)). IsRunOutput functions_of (given_script bs) step_limit other) (script.1 i.0 i.1) i.2) is
-    | inr k ↦ absurd (k.0 bodies script.0)
+    | inl i ↦ run_once functions_of (given_script script) step_limit other out
+        (subst (λ (s : Sections). IsRunOutput functions_of (given_script s) step_limit other) (one_script (cut bytes) i.0 script i.1.1 stands.1) i.2) is
+    | inr k ↦ absurd (not_both (cut bytes) k.0 k.1 stands.0 k.2)
   ],
 )
 

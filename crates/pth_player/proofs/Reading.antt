@@ -1,22 +1,21 @@
 -- What reading up to a number of bytes gives, where the bytes are told.
-use Rattle.std.proofs.Common.{◌≡◌, ◌∙◌, ◌+◌, ◌≤◌, ℕ, List, [], ◌++◌, length, take, drop, Option, Some, None, Result, Ok, Err, IfOk, IfSome, IsErrAnd, IsErrOf, MatchResult, ap, sym, refl, subst, arith, inl, inr, append-nil}
+use Rattle.std.proofs.Common.{◌≡◌, ◌∙◌, ◌≤◌, ℕ, List, [], ◌++◌, length, take, drop, Option, Some, None, Result, Ok, Err, IfSome, IsErrAnd, MatchResult, ap, sym, refl, subst, arith, inl, inr, append-nil}
 use Rattle.std.proofs.lemmas.List.{take_all}
 use Rattle.std.proofs.Math.ListN.{drop_of_length-le}
 use Rattle.std.proofs.lemmas.Bool.{cases_order}
 use Rattle.std.proofs.Math.Seq.{take-append_seam, drop-append_seam}
-use Rattle.pth_base.specs.Faults.{Rose}
 use Rattle.pth_print.specs.declared.fault_line.Fault.{Fault}
 use Rattle.pth_print.specs.declared.fault_line.Fault.TheVariants as fault
-use Rattle.pth_script.specs.FirstForm.{IsAccepted}
-use Rattle.pth_script.specs.declared.script.Line.{Line}
-use Rattle.pth_player.specs.Faults.{fault_of_read, fault_of_script}
-use Rattle.pth_player.specs.Output.{IsRefused, IsTheScript, cut, limit}
+use Rattle.pth_line.specs.Script.{Sections}
+use Rattle.pth_script.specs.Follows.{Answers}
+use Rattle.pth_script.specs.declared.breach.Breach.TheVariants.{Limit, Of}
+use Rattle.pth_player.specs.Faults.{fault_of_script}
+use Rattle.pth_player.specs.Output.{IsTheScript, cut, limit}
+use Rattle.pth_script.specs.Broken.{IsRefusal}
 use Rattle.pth_player.specs.Play.{AreHeld, LosesRead, ReadsScript}
 use Rattle.pth_player.specs.Streams.{TakesUpTo}
 use Rattle.pth_script.specs.declared.read.ReadErr.{ReadErr}
 use Rattle.pth_script.specs.declared.read.ReadErr.TheVariants as script
-use Rattle.pth_player.specs.declared.streams.ReadFault.{ReadFault}
-use Rattle.pth_player.specs.declared.streams.ReadFault.TheVariants as read
 use Rattle.pth_player.proofs.Results.{err_and, told}
 
 all_of : (cap : ℕ) (xs ys bytes : List ℕ) → xs ≡ bytes ++ ys → ys ≡ [] → length bytes ≤ cap → (bytes ≡ take cap xs) × (Some ys ≡ Some (drop cap xs))
@@ -55,15 +54,17 @@ unfolding limit
 held_is None new bytes t = (bytes, tt, sym (take_all 16777217 bytes t.bound))
 held_is (Some xs) new bytes t = (xs, refl, (takes_is 16777217 (Some xs) new bytes t).0)
 
-module _ (old new : Option (List ℕ)) (before now : ℕ) (bytes seen : List ℕ) (s : Result (List (List Line)) Fault) where
-  read_by : (r : Result (List (List Line)) ReadErr) → (held : List ℕ) × AreHeld old held × (bytes ≡ cut held) → LosesRead old new → seen ≡ bytes → IfOk r (λ bodies. IsAccepted bodies seen)
-      → ((other : List (List Line)) → IsAccepted other seen → IfOk r (λ bodies. bodies ≡ other)) → (IsErrOf r script.Refused → IsRefused seen) → MatchResult r (λ x. s ≡ Ok x) (λ e. IsErrAnd s (λ f. f ≡ fault_of_script e)) → ReadsScript old new before now s
-  read_by (Ok bodies) h lost same ok only refused m = subst (ReadsScript old new before now) (sym m) (lost, (h.0, h.1, subst (IsTheScript bodies) (same ∙ h.2) (ok, λ other accepted. sym (only other accepted))))
-  read_by (Err script.Refused) h lost same ok only refused m = subst (ReadsScript old new before now) (sym (err_and s fault.Input m))
-      (lost, (h.0, h.1, subst IsRefused (same ∙ h.2) (refused refl)))
-  read_by (Err script.OutOfMemory) h lost same ok only refused m = subst (ReadsScript old new before now) (sym (err_and s fault.OutOfMemory m)) tt
+module _ (old new : Option (List ℕ)) (before now : ℕ) (bytes seen : List ℕ) (s : Result Sections Fault) where
+  read_by : (r : Result Sections ReadErr) → (held : List ℕ) × AreHeld old held × (bytes ≡ cut held) → LosesRead old new → seen ≡ bytes → Answers seen r
+      → MatchResult r (λ x. s ≡ Ok x) (λ e. IsErrAnd s (λ f. f ≡ fault_of_script e)) → ReadsScript old new before now s
+  read_by (Ok script) h lost same a m = subst (ReadsScript old new before now) (sym m) (lost, (h.0, h.1, subst (IsTheScript script) (same ∙ h.2) a))
+  read_by (Err (script.Refused line r)) h lost same a m = subst (ReadsScript old new before now) (sym (err_and s (fault_of_script (script.Refused line r)) m))
+      (lost, (h.0, h.1, (Of r, subst (λ t. IsRefusal t line (Of r)) (same ∙ h.2) a, refl)))
+  read_by (Err (script.TooLarge line)) h lost same a m = subst (ReadsScript old new before now) (sym (err_and s (fault_of_script (script.TooLarge line)) m))
+      (lost, (h.0, h.1, (Limit, subst (λ t. IsRefusal t line Limit) (same ∙ h.2) a, refl)))
+  read_by (Err script.OutOfMemory) h lost same a m = subst (ReadsScript old new before now) (sym (err_and s fault.OutOfMemory m)) tt
 
   -- what is answered of the bytes is answered of the input
-  pub read_is : (r : Result (List (List Line)) ReadErr) → TakesUpTo 16777217 old new bytes → seen ≡ bytes → IfOk r (λ bodies. IsAccepted bodies seen)
-      → ((other : List (List Line)) → IsAccepted other seen → IfOk r (λ bodies. bodies ≡ other)) → (IsErrOf r script.Refused → IsRefused seen) → MatchResult r (λ x. s ≡ Ok x) (λ e. IsErrAnd s (λ f. f ≡ fault_of_script e)) → ReadsScript old new before now s
+  pub read_is : (r : Result Sections ReadErr) → TakesUpTo 16777217 old new bytes → seen ≡ bytes → Answers seen r
+      → MatchResult r (λ x. s ≡ Ok x) (λ e. IsErrAnd s (λ f. f ≡ fault_of_script e)) → ReadsScript old new before now s
   read_is r t = read_by r (held_is old new bytes t) (loses old new bytes t)

@@ -10,9 +10,11 @@ use Rattle.pth_model.specs.Living.{live}
 use Rattle.pth_print.specs.Lines.{fault_line, fault_status}
 use Rattle.pth_print.specs.declared.fault_line.Fault.{Fault}
 use Rattle.pth_print.specs.declared.fault_line.Fault.TheVariants as fault
-use Rattle.pth_script.specs.FirstForm.{IsAccepted}
-use Rattle.pth_script.specs.Script.{functions_of}
-use Rattle.pth_script.specs.declared.script.Line.{Line}
+use Rattle.pth_line.specs.Script.{Sections, functions_of}
+use Rattle.pth_script.specs.Broken.{IsAccepted, IsRefusal}
+use Rattle.pth_script.specs.Meaning.{StandsFor}
+use Rattle.pth_script.specs.declared.breach.Breach.{Breach}
+use Rattle.pth_player.specs.Faults.{input_fault}
 use Rattle.pth_player.specs.Transcript.{transcript}
 
 -- the bytes that an input may have; reading stops at the byte after them
@@ -27,13 +29,13 @@ step_limit = 1000000
 abbrev pub cut : List ℕ → List ℕ
 cut bytes = take (limit + 1) bytes
 
--- the text spells a script of these bodies, and of no others
-abbrev pub IsTheScript : List (List Line) → List ℕ → Type 0
-IsTheScript bodies text = IsAccepted bodies text × ((other : List (List Line)) → IsAccepted other text → other ≡ bodies)
+-- no line of the text breaks a rule, and it stands for this script
+abbrev pub IsTheScript : Sections → List ℕ → Type 0
+IsTheScript script text = IsAccepted text × StandsFor script text
 
--- the text is no script
+-- a line of the text breaks a rule
 abbrev pub IsRefused : List ℕ → Type 0
-IsRefused text = (bodies : List (List Line)) → IsAccepted bodies text → ⊥
+IsRefused text = (line : ℕ) × (b : Breach) × IsRefusal text line b
 
 -- what is written to standard output, the line of a fault, and the exit status
 pub record Output : Type 0 where
@@ -68,15 +70,15 @@ module _ {P S H : Type 0} where
   abbrev pub IsRunOutput : (P → Functions S H) → Given P → ℕ → Output → Type 0
   IsRunOutput f g steps out = (parts : ℕ) × GoesTo f g steps 0 parts × (out ≡ told_output steps (run f g parts))
 
--- what the run of a script of these bodies is given
-abbrev pub given_script : List (List Line) → Given (List (List Line))
-given_script bodies = record { program = bodies }
+-- what the run of a script is given
+abbrev pub given_script : Sections → Given Sections
+given_script script = record { program = script }
 
--- the output for an input: that of its script's run, or a refusal
+-- the output for an input: that of its script's run, or the refusal of the first line that breaks a rule
 abbrev pub IsInputOutput : List ℕ → Output → Type 0
 IsInputOutput text out =
-    ((bodies : List (List Line)) × IsAccepted bodies text × IsRunOutput functions_of (given_script bodies) step_limit out)
-    ⊎ (IsRefused text × (out ≡ refusal fault.Input))
+    ((script : Sections) × IsTheScript script text × IsRunOutput functions_of (given_script script) step_limit out)
+    ⊎ ((line : ℕ) × (b : Breach) × IsRefusal text line b × (out ≡ refusal (input_fault line b)))
 
 -- the output for words and an input: words are refused
 abbrev pub IsOutput : List (List ℕ) → List ℕ → Output → Type 0

@@ -5,11 +5,13 @@ use Rattle.pth_base.specs.Faults.{Rose}
 use Rattle.pth_base.specs.declared.outcome.Outcome.{Outcome}
 use Rattle.pth_base.specs.declared.sink.SinkErr.{SinkErr}
 use Rattle.pth_base.specs.declared.sink.SinkErr.TheVariants as sink
-use Rattle.pth_print.specs.Lines.{fault_line, fault_status}
+use Rattle.pth_print.specs.Lines.{IsNamed, fault_line, fault_status}
 use Rattle.pth_print.specs.declared.fault_line.Fault.{Fault}
 use Rattle.pth_print.specs.declared.fault_line.Fault.TheVariants as fault
-use Rattle.pth_script.specs.Script.{functions_of}
-use Rattle.pth_script.specs.declared.script.Line.{Line}
+use Rattle.pth_line.specs.Script.{Sections, functions_of}
+use Rattle.pth_script.specs.Broken.{IsRefusal}
+use Rattle.pth_script.specs.declared.breach.Breach.{Breach}
+use Rattle.pth_player.specs.Faults.{place_of}
 use Rattle.pth_player.specs.Streams.{AppendsPart, AppendsPrefix}
 use Rattle.pth_player.specs.Output.{Output, IsTheOutput, IsRefused, IsTheScript, cut, given_script, limit, outcome_status, step_limit}
 use Rattle.pth_player.specs.Drive.{Drives}
@@ -79,10 +81,14 @@ AreHeld held bytes = IfSome held (λ xs. bytes ≡ xs)
 abbrev pub LosesRead : Option (List ℕ) → Option (List ℕ) → Type 0
 LosesRead old new = IfSome old (λ xs. new ≡ Some (drop (limit + 1) xs))
 
+-- the text is refused at this line, for the rule at this place of their order
+abbrev pub RefusedFor : List ℕ → ℕ → ℕ → Type 0
+RefusedFor text line rule = (b : Breach) × IsRefusal text line b × (rule ≡ place_of b)
+
 -- a script was read of the input, or why not
-abbrev pub ReadsScript : Option (List ℕ) → Option (List ℕ) → ℕ → ℕ → Result (List (List Line)) Fault → Type 0
-ReadsScript old new before now (Ok bodies) = LosesRead old new × ((bytes : List ℕ) × AreHeld old bytes × IsTheScript bodies (cut bytes))
-ReadsScript old new before now (Err fault.Input) = LosesRead old new × ((bytes : List ℕ) × AreHeld old bytes × IsRefused (cut bytes))
+abbrev pub ReadsScript : Option (List ℕ) → Option (List ℕ) → ℕ → ℕ → Result Sections Fault → Type 0
+ReadsScript old new before now (Ok script) = LosesRead old new × ((bytes : List ℕ) × AreHeld old bytes × IsTheScript script (cut bytes))
+ReadsScript old new before now (Err (fault.Input line rule)) = LosesRead old new × ((bytes : List ℕ) × AreHeld old bytes × RefusedFor (cut bytes) line rule)
 ReadsScript old new before now (Err fault.ReadFault) = Rose before now
 ReadsScript old new before now (Err fault.OutOfMemory) = Unit {0}
 ReadsScript old new before now (Err fault.Words) = ⊥
@@ -92,16 +98,20 @@ ReadsScript old new before now (Err fault.WriteFault) = ⊥
 abbrev pub HoldsNoScript : List (List ℕ) → Scene → Type 0
 HoldsNoScript words s = (bytes : List ℕ) × AreHeld (content words s) bytes × IsRefused (cut bytes)
 
+-- it is refused at this line, for the rule at this place of their order
+abbrev pub HoldsRefused : List (List ℕ) → Scene → ℕ → ℕ → Type 0
+HoldsRefused words s line rule = (bytes : List ℕ) × AreHeld (content words s) bytes × RefusedFor (cut bytes) line rule
+
 -- the content is a script's text, and its machine was driven with this result
 abbrev pub DrivesScript : List (List ℕ) → Scene → Scene → Result Outcome SinkErr → Type 0
-DrivesScript words old new r = (bytes : List ℕ) × AreHeld (content words old) bytes × (bodies : List (List Line)) × IsTheScript bodies (cut bytes)
-    × Drives functions_of (given_script bodies) step_limit old.written new.written old.out_faults new.out_faults r
+DrivesScript words old new r = (bytes : List ℕ) × AreHeld (content words old) bytes × (script : Sections) × IsTheScript script (cut bytes)
+    × Drives functions_of (given_script script) step_limit old.written new.written old.out_faults new.out_faults r
 
 -- what was done but for the line of a fault
 abbrev pub Ran : List (List ℕ) → Scene → Scene → Result Outcome Fault → Type 0
 Ran words old new (Ok o) = (words ≡ []) × ObjectRead (object_of words) old.ins new.ins × DrivesScript words old new (Ok o)
 Ran words old new (Err fault.Words) = (words ≢ []) × ObjectRead (object_of words) old.ins new.ins × Appends old.written new.written []
-Ran words old new (Err fault.Input) = (words ≡ []) × ObjectRead (object_of words) old.ins new.ins × HoldsNoScript words old × Appends old.written new.written []
+Ran words old new (Err (fault.Input line rule)) = (words ≡ []) × ObjectRead (object_of words) old.ins new.ins × HoldsRefused words old line rule × Appends old.written new.written []
 Ran words old new (Err fault.ReadFault) = (words ≡ []) × ObjectRose (object_of words) old.ins new.ins × Appends old.written new.written []
 Ran words old new (Err fault.WriteFault) = (words ≡ []) × ObjectRead (object_of words) old.ins new.ins × DrivesScript words old new (Err sink.Failed)
 Ran words old new (Err fault.OutOfMemory) = (words ≡ []) × (Appends old.written new.written [] ⊎ DrivesScript words old new (Err sink.OutOfMemory))
@@ -111,6 +121,11 @@ abbrev pub Reports : Fault → ℕ → Option (List ℕ) → Option (List ℕ) �
 Reports f status old new before now =
     ((status ≡ fault_status f) × (Appends old new (fault_line f) ⊎ (AppendsPart old new (fault_line f) × Rose before now)))
     ⊎ ((status ≡ 7) × AppendsPrefix old new (fault_line f))
+
+-- a fault's rule is one of the table
+abbrev pub IsErrNamed : Result Outcome Fault → Type 0
+IsErrNamed (Ok o) = Unit {0}
+IsErrNamed (Err f) = IsNamed f
 
 -- how the call ends: a run by its status alone, a fault with its line
 abbrev pub Ends : Result Outcome Fault → ℕ → Option (List ℕ) → Option (List ℕ) → ℕ → ℕ → Type 0

@@ -1,6 +1,7 @@
 //! What is told of a fault.
 
 ghost use Rattle.pth_player.specs.Play.{Reports};
+ghost use Rattle.pth_print.specs.Lines.{IsNamed};
 
 use crate::streams::write_all;
 use pth_base::sink::{Sink, SinkErr};
@@ -10,6 +11,7 @@ use std::alloc::Global;
 
 /// Writes the fault's line, and answers its status. A sink that fails changes nothing of the status.
 pub fn report_fault<E: Sink>(alloc: Global, fault: Fault, err: &mut E) -> u8
+    requires { IsNamed fault }
     ensures { Reports fault result (E.written err.old) (E.written err.new) (E.faults err.old) (E.faults err.new) }
 {
     let mut text = Text::new(alloc);

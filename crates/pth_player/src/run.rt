@@ -1,7 +1,7 @@
 //! The words, the script and the run.
 
 ghost use Rattle.std.specs.Prelude.{◌≡◌, map, string_bytes};
-ghost use Rattle.pth_player.specs.Faults.{fault_of_read, fault_of_script, fault_of_sink};
+ghost use Rattle.pth_player.specs.Faults.{fault_of_read, fault_of_script, fault_of_sink, place_of};
 ghost use Rattle.pth_player.specs.Play.{ReadsScript, Ran, inputs, scene};
 
 use crate::drive::drive;
@@ -11,10 +11,12 @@ use pth_base::memory::OutOfMemory;
 use pth_base::outcome::Outcome;
 use pth_base::sink::{Sink, SinkErr};
 use pth_base::source::Source;
+use pth_grammar::rule::Rule;
+use pth_line::script::Script;
 use pth_print::fault_line::Fault;
 use pth_sched::machine::Machine;
+use pth_script::breach::Breach;
 use pth_script::read::{ReadErr, read};
-use pth_script::script::Script;
 use std::alloc::Global;
 
 // An input has at most so many bytes.
@@ -35,11 +37,39 @@ fn fault_of_read(e: ReadFault) -> Fault
     }
 }
 
+/// The place of what a line breaks in the order of the rules.
+fn place_of(breach: Breach) -> u8
+    ensures { result ≡ place_of breach }
+{
+    match breach {
+        Breach::Limit => 0,
+        Breach::Of(Rule::Cut) => 1,
+        Breach::Of(Rule::Header) => 2,
+        Breach::Of(Rule::Word) => 3,
+        Breach::Of(Rule::Count) => 4,
+        Breach::Of(Rule::Operand) => 5,
+        Breach::Of(Rule::Hex) => 6,
+        Breach::Of(Rule::Number) => 7,
+        Breach::Of(Rule::Label) => 8,
+        Breach::Of(Rule::Main) => 9,
+        Breach::Of(Rule::End) => 10,
+        Breach::Of(Rule::Time) => 11,
+        Breach::Of(Rule::Fd) => 12,
+    }
+}
+
 fn fault_of_script(e: ReadErr) -> Fault
     ensures { result ≡ fault_of_script e }
 {
     match e {
-        ReadErr::Refused => Fault::Input,
+        ReadErr::Refused { line, rule } => Fault::Input {
+            line,
+            rule: place_of(Breach::Of(rule)),
+        },
+        ReadErr::TooLarge { line } => Fault::Input {
+            line,
+            rule: place_of(Breach::Limit),
+        },
         ReadErr::OutOfMemory => Fault::OutOfMemory,
     }
 }

@@ -51,7 +51,28 @@ fn words_are_refused(rt: HostRuntime) -> Result<(), Fail> {
 fn other_inputs_are_refused(rt: HostRuntime) -> Result<(), Fail> {
     let alloc = rt.alloc();
     let words = words(alloc, &[])?;
-    for text in [b"".as_slice(), b"pth 1", b"pth 1\nthread 0\nend"] {
+    for (text, line) in [
+        (b"".as_slice(), b"pth_play: line 1: header\n".as_slice()),
+        (b"pth 1", b"pth_play: line 1: cut\n"),
+        (b"pth 1\n", b"pth_play: line 2: main\n"),
+        (b"pth 1\nthread 0\nend", b"pth_play: line 3: cut\n"),
+        (
+            b"pth 1\nthread 0\nnap 010\nend\n",
+            b"pth_play: line 3: operand\n",
+        ),
+        (
+            b"pth 1\nthread 0\nwrite 3 hex:616\nend\n",
+            b"pth_play: line 3: hex\n",
+        ),
+        (
+            b"pth 1\nthread 0\nexit 0\nend\nthread 256\nend\n",
+            b"pth_play: line 5: number\n",
+        ),
+        (
+            b"pth 1\nthread 0\nend\nkernel\n",
+            b"pth_play: line 4: word\n",
+        ),
+    ] {
         let mut input = SureSource::new(alloc, text)?;
         let mut files = SureFiles::new(alloc, b"")?;
         let mut out = SureSink::new(alloc);
@@ -61,7 +82,7 @@ fn other_inputs_are_refused(rt: HostRuntime) -> Result<(), Fail> {
             3
         );
         assert!(rt; out.as_slice().is_empty());
-        assert_eq!(rt; err.as_slice(), b"pth_play: input refused\n".as_slice());
+        assert_eq!(rt; err.as_slice(), line);
     }
     Ok(())
 }

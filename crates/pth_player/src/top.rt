@@ -1,7 +1,7 @@
 //! The top call.
 
 ghost use Rattle.std.specs.Prelude.{◌≡◌, ◌≤◌, map, string_bytes};
-ghost use Rattle.pth_player.specs.Play.{inputs, scene, Completes, Ends, Faults, ReadsWhole, RefusesInput, RefusesWords, TellsFault, WritesOutput};
+ghost use Rattle.pth_player.specs.Play.{inputs, scene, Completes, Ends, Faults, IsErrNamed, ReadsWhole, RefusesInput, RefusesWords, TellsFault, WritesOutput};
 
 use crate::report::report_fault;
 use crate::run::run;
@@ -14,6 +14,7 @@ use std::alloc::Global;
 
 /// The status of a run, with the line of a fault on `err`.
 fn finish<E: Sink>(alloc: Global, ran: Result<Outcome, Fault>, err: &mut E) -> u8
+    requires { IsErrNamed ran }
     ensures { Ends ran result (E.written err.old) (E.written err.new) (E.faults err.old) (E.faults err.new) }
 {
     match ran {

@@ -1,5 +1,5 @@
 -- The lines of a run.
-use Rattle.std.specs.Prelude.{ℕ, Bool, List, [], ◌∷◌, ◌++◌, Some, None, codes, decimal, map, if◌then◌else◌}
+use Rattle.std.specs.Prelude.{ℕ, ◌<◌, slice_index_or, Bool, List, [], ◌∷◌, ◌++◌, Some, None, codes, decimal, map, if◌then◌else◌}
 use Rattle.pth_base.specs.declared.act.Act.{Act}
 use Rattle.pth_base.specs.declared.act.Act.TheVariants as act
 use Rattle.pth_base.specs.declared.answer.Answer.{Answer}
@@ -65,18 +65,33 @@ end_words outcome.OutOfMemory steps live = []
 abbrev pub end_line : Outcome → ℕ → List ℕ → List ℕ
 end_line outcome steps live = joined (end_words outcome steps live) ++ codes "\n"
 
+-- the rules of a script's text in their order, of which a limit is the first
+abbrev pub rule_names : List (List ℕ)
+rule_names =
+    codes "limit" ∷ codes "cut" ∷ codes "header" ∷ codes "word" ∷ codes "count" ∷ codes "operand" ∷ codes "hex" ∷ codes "number" ∷ codes "label"
+    ∷ codes "main" ∷ codes "end" ∷ codes "time" ∷ codes "fd" ∷ []
+
+-- the rule at a place of their order, from 0
+abbrev pub rule_name : ℕ → List ℕ
+rule_name rule = slice_index_or rule_names rule []
+
 -- the line of a fault
 abbrev pub fault_line : Fault → List ℕ
 fault_line fault.Words = codes "pth_play: words refused\n"
-fault_line fault.Input = codes "pth_play: input refused\n"
+fault_line (fault.Input line rule) = codes "pth_play: line " ++ (decimal line ++ (codes ": " ++ (rule_name rule ++ codes "\n")))
 fault_line fault.ReadFault = codes "pth_play: read fault\n"
 fault_line fault.WriteFault = codes "pth_play: write fault\n"
 fault_line fault.OutOfMemory = codes "pth_play: out of memory\n"
 
+-- its rule is one of the table
+abbrev pub IsNamed : Fault → Type 0
+IsNamed (fault.Input line rule) = rule < 13
+IsNamed _ = Unit {0}
+
 -- the status of a fault
 abbrev pub fault_status : Fault → ℕ
 fault_status fault.Words = 2
-fault_status fault.Input = 3
+fault_status (fault.Input line rule) = 3
 fault_status fault.ReadFault = 4
 fault_status fault.WriteFault = 5
 fault_status fault.OutOfMemory = 7

@@ -232,7 +232,11 @@ fn outcomes_and_faults_are_lines(rt: HostRuntime) -> Result<(), Fail> {
     end_line(&Outcome::Running, 9, &[], &mut text)?;
     for fault in [
         Fault::Words,
-        Fault::Input,
+        Fault::Input { line: 1, rule: 0 },
+        Fault::Input {
+            line: 16_777_217,
+            rule: 12,
+        },
         Fault::ReadFault,
         Fault::WriteFault,
         Fault::OutOfMemory,
@@ -249,7 +253,9 @@ stalled t1 t40
 step limit 9
 pth_play: words refused
 2
-pth_play: input refused
+pth_play: line 1: limit
+3
+pth_play: line 16777217: fd
 3
 pth_play: read fault
 4
