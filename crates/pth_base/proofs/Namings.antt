@@ -1,12 +1,8 @@
 -- How changes by slot are seen by threads.
-use Rattle.std.proofs.Common.{◌≡◌, ◌≢◌, ◌<◌, ℕ, ◌==◌, Bool, true, false, Option, Some, None, refl, sym, ◌∙◌, ap, subst}
-use mathlib.Core.Path.{fun_ext}
+use Rattle.std.proofs.Common.{◌≡◌, ◌≢◌, ◌<◌, ℕ, ◌==◌, Bool, true, false, Option, Some, None, refl, sym, ◌∙◌, ap}
 use Rattle.pth_base.specs.Table.{put}
 use Rattle.pth_base.specs.Naming.{IsTied, by_slot, seen}
 use Rattle.pth_base.proofs.Tables.{put_here, put_other, put_by, put_is, same_means, same_fails}
-
-put_same : {A : Type 0} (f : ℕ → A) (k : ℕ) (x : A) → f k ≡ x → put f k x ≡ f
-put_same f k x e = sym (put_is f f k x e (λ i apart. refl))
 
 -- two threads have two slots
 pub slots_apart : (slot_of : ℕ → Option ℕ) (tid_at : ℕ → ℕ) (t v u w : ℕ) → IsTied slot_of tid_at → slot_of t ≡ Some u → slot_of v ≡ Some w → v ≢ t → w ≢ u
@@ -26,7 +22,7 @@ unfolding seen
 seen_put d slot_of tid_at f t u x tied e =
     put_is _ _ t x (rw e (put_here f u x)) (λ v apart. other_kept d slot_of tid_at f t u x v (slot_of v) tied e apart refl)
 
-none_some : {w : ℕ} → None ≡ Some w → ⊥
+pub none_some : {w : ℕ} → None ≡ Some w → ⊥
 none_some h = cc
 
 some_is : {v w : ℕ} → Some v ≡ Some w → v ≡ w

@@ -3,3 +3,4 @@ pub mod Table
 pub mod Naming
 pub mod Faults
 pub mod InMemory
+pub mod Cut

@@ -8,7 +8,8 @@ ghost use Rattle.pth_model.specs.Rows.{answer_of, plain_row};
 ghost use Rattle.pth_model.specs.Waits.{suspends};
 ghost use Rattle.pth_world.specs.Ranks.{KeepsRanks};
 ghost use Rattle.pth_world.specs.Standing.{StandsFor, Whole, IsKnown};
-ghost use Rattle.pth_world.specs.Leading.{Leads, IsCut};
+ghost use Rattle.pth_base.specs.Cut.{IsCut};
+ghost use Rattle.pth_world.specs.Leading.{Leads};
 
 use crate::threads::spawn;
 use pth_base::answer::Answer;

@@ -1,5 +1,5 @@
 -- The lines behind a set of queues keep what a set keeps.
-use Rattle.std.proofs.Common.{◌≡◌, ℕ, ◌<◌, ◌≤◌, ◌^◌, max, ℤ, pos, ◌<ℤ◌, List, length, All, count_by, Some, Result, Ok, Err, OnErr, vec_len, vec_capacity, refl, sym, ◌∙◌, ap, subst, arith}
+use Rattle.std.proofs.Common.{◌≡◌, ℕ, ◌<◌, ◌≤◌, ◌^◌, max, ℤ, pos, ◌<ℤ◌, List, length, All, count_by, Some, vec_len, vec_capacity, refl, sym, ◌∙◌, ap, subst, arith}
 use Rattle.pth_queue.specs.declared.queue.Queue.{Queue}
 use Rattle.pth_queue.specs.declared.queue.Queue.TheVariants.{New, Ready, Waiting, Suspended, Dead}
 use Rattle.pth_queue.specs.declared.row.Row.{Row}
@@ -141,7 +141,3 @@ roomy_max m room slots lines e a b = record { fresh = omega arith; ready = omega
 pub grown_view : (m room slots : ℕ) (lines after : Lines) (qs : QueuesOf) → m ≡ max room slots → queues_of room lines ≡ qs → queues_of m after ≡ queues_of m lines → queues_of m after ≡ record qs { room = max qs.room slots }
 grown_view m room slots lines after qs e view shown =
     shown ∙ ap (λ n. record (queues_of room lines) { room = n }) e ∙ ap (λ (v : QueuesOf). record v { room = max v.room slots }) view
-
-pub on_err : {T E : Type 0} (r : Result T E) (P : Type 0) → P → OnErr r P
-on_err (Ok x) P p = tt
-on_err (Err e) P p = p

@@ -1,5 +1,5 @@
 -- A run that is cut, and one that is not.
-use Rattle.std.proofs.Common.{◌≡◌, ◌≢◌, ◌⊎◌, ℕ, ◌+◌, ◌<◌, ◌≤◌, List, [], ◌++◌, Bool, true, false, refl, sym, ap, ◌∙◌, arith, subst, inl, inr}
+use Rattle.std.proofs.Common.{◌≡◌, ◌≢◌, ◌⊎◌, ℕ, ◌+◌, ◌≤◌, List, ◌++◌, true, false, refl, sym, ap, ◌∙◌, arith, subst, inl, inr}
 use Rattle.std.proofs.lemmas.Bool.{cases_lt}
 use Rattle.std.proofs.lemmas.List.{append_cancel_left, append_assoc}
 use Rattle.pth_base.specs.Program.{Functions}
@@ -7,11 +7,11 @@ use Rattle.pth_base.specs.declared.mark.Mark.{Mark}
 use Rattle.pth_base.specs.declared.outcome.Outcome.{Outcome}
 use Rattle.pth_base.specs.declared.outcome.Outcome.TheVariants.{Running, Ended, Killed, Stalled, OutOfMemory}
 use Rattle.pth_model.specs.State.{State, Given}
-use Rattle.pth_model.specs.Part.{Part, Halt, next_part, next_part_by, unless_ended, is_idle}
-use Rattle.pth_model.specs.Run.{run, stops, stops_by, GoesTo, IsBetween}
+use Rattle.pth_model.specs.Part.{Part, next_part, next_part_by, unless_ended, is_idle}
+use Rattle.pth_model.specs.Run.{run, stops, stops_by, GoesTo}
 use Rattle.pth_model.proofs.Runs.{between-then, goes-then, goes-once, stops-later}
 use Rattle.pth_sched.specs.MachineOf.{MachineOf}
-use Rattle.pth_sched.specs.Running.{Stands, GoesOn}
+use Rattle.pth_sched.specs.Running.{GoesOn}
 
 halt_by : (to steps : ℕ) (o : Outcome) (p : Part) → o ≢ Running → stops_by to steps (unless_ended o p) ≡ true
 halt_by to steps Running p ended = absurd (ended refl)

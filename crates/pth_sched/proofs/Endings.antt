@@ -1,5 +1,5 @@
 -- A run ends with main's value where main is alone.
-use Rattle.std.proofs.Common.{◌≡◌, ◌≢◌, ℕ, ◌==◌, ◌&&◌, not, ◌+◌, ℤ, Bool, true, false, reverse, Option, Some, None, refl, sym, ap, ◌∙◌, subst, List, [], ◌∷◌}
+use Rattle.std.proofs.Common.{◌≡◌, ℕ, ◌==◌, ◌&&◌, not, ◌+◌, ℤ, Bool, true, false, reverse, Option, Some, None, refl, sym, ap, ◌∙◌, subst, List, [], ◌∷◌}
 use Rattle.pth_base.proofs.Tables.{same_means}
 use Rattle.pth_base.specs.Program.{Functions}
 use Rattle.pth_base.specs.declared.answer.Answer.{Answer}
@@ -8,24 +8,24 @@ use Rattle.pth_base.specs.declared.call.Call.{Call}
 use Rattle.pth_base.specs.declared.mark.Mark.{Mark}
 use Rattle.pth_base.specs.declared.mark.Mark.TheVariants.{Ended as End}
 use Rattle.pth_base.specs.declared.outcome.Outcome.{Outcome}
-use Rattle.pth_base.specs.declared.outcome.Outcome.TheVariants.{Running, Ended, Killed, Stalled, OutOfMemory}
+use Rattle.pth_base.specs.declared.outcome.Outcome.TheVariants.{Running, Ended}
 use Rattle.pth_queue.specs.declared.queue.Queue.TheVariants as queues
 use Rattle.pth_model.specs.declared.continuation.Continuation.{Continuation}
 use Rattle.pth_model.specs.declared.held.Held.{Held}
 use Rattle.pth_model.specs.declared.next.Next.{Next}
 use Rattle.pth_model.specs.declared.next.Next.TheVariants as next
 use Rattle.pth_model.specs.State.{State, Given, start, queue}
-use Rattle.pth_model.specs.Changes.{with_going, with_owed, with_scheduler, called, called_from, held_of, owed_to, raised}
+use Rattle.pth_model.specs.Changes.{with_going, called, called_from, held_of, owed_to, raised}
 use Rattle.pth_model.specs.Told.{Told, Went, tid}
-use Rattle.pth_model.specs.Family.{Family, Threads, Ends, Plains, Notes, Unbuilt, Spawn, Yield, Exit, split}
+use Rattle.pth_model.specs.Family.{Family, Threads, Ends, Yield, Exit, split}
 use Rattle.pth_model.specs.Rows.{answer_of}
 use Rattle.pth_model.specs.Ending.{ending}
-use Rattle.pth_model.specs.Pass.{pass, moment, who_in}
+use Rattle.pth_model.specs.Pass.{who_in}
 use Rattle.pth_model.specs.Waits.{main, is_alone, begun, begun_by, exit_row, exit_by, exit_again, resumed, resumed_by, resumed_from, yield_row, yields_by}
-use Rattle.pth_model.specs.Part.{Part, Move, Take, Step, Close, Halt, next_part, next_part_by, unless_ended, part, part_by, moved, moved_by, taken, dispatched_by, dispatched, all_readied, closed, closing, placed, stepped, settles, settled, ended_by, went_by, owing, counted, is_idle, runs, next_by}
-use Rattle.pth_model.specs.Run.{run, parts, IsBetween}
+use Rattle.pth_model.specs.Part.{Part, Move, Take, Step, Close, Halt, next_part, part, part_by, moved, taken, dispatched_by, dispatched, closed, closing, placed, stepped, settled, ended_by, went_by, owing, counted, next_by}
+use Rattle.pth_model.specs.Run.{run, IsBetween}
 use Rattle.pth_model.proofs.Runs.{parts-more, between-none, between-more}
-use Rattle.pth_model.proofs.Turns.{Turn, turn_of, turn-went, turn-pass, turn-placed, turn-raised, turn-runs, turn-all_readied}
+use Rattle.pth_model.proofs.Turns.{Turn, turn-went, turn-pass, turn-placed, turn-raised, turn-runs, turn-all_readied}
 use Rattle.pth_sched.proofs.Readying.{all_new}
 
 running_ended : (v : ℤ) → Running ≡ Ended v → ⊥

@@ -9,7 +9,7 @@ use Rattle.pth_model.specs.Told.{Told}
 use Rattle.pth_model.specs.Part.{part}
 use Rattle.pth_model.specs.Run.{run, stops, IsBetween}
 use Rattle.pth_model.proofs.Runs.{parts-more, between-none, between-more}
-use Rattle.pth_world.specs.Leading.{IsCut}
+use Rattle.pth_base.specs.Cut.{IsCut}
 use Rattle.pth_sched.specs.MachineOf.{MachineOf}
 use Rattle.pth_sched.specs.Running.{Stands, StandsAt, Makes, GoesOn, BreaksOff}
 use Rattle.pth_sched.proofs.Keeping.{stops_ended}
@@ -87,7 +87,7 @@ module _ {P S H : Type 0} (f : P → Functions S H) (g : Given P) (to i : ℕ) w
           first = r.told ++ c.first;
           rest = c.rest;
           new_is = c.new_is ∙ ap (λ (x : List Mark). x ++ c.first) r.appended ∙ append_assoc old r.told c.first;
-          all_is = append_assoc r.told c.first c.rest ∙ ap (λ (x : List Mark). r.told ++ x) c.all_is;
+          whole_is = append_assoc r.told c.first c.rest ∙ ap (λ (x : List Mark). r.told ++ x) c.whole_is;
         };
       }
 

@@ -15,7 +15,8 @@ use Rattle.pth_model.specs.Part.{Part, Halt, part, next_part, next_part_by, unle
 use Rattle.pth_model.proofs.Turns.{Turn, turn_of, turn-pass, turn-placed, turn-raised, turn-runs, turn-all_readied}
 use Rattle.pth_world.specs.World.{WorldOf}
 use Rattle.pth_world.specs.Standing.{StandsFor}
-use Rattle.pth_world.specs.Leading.{Leads, IsCut}
+use Rattle.pth_base.specs.Cut.{IsCut}
+use Rattle.pth_world.specs.Leading.{Leads}
 use Rattle.pth_sched.specs.MachineOf.{MachineOf}
 use Rattle.pth_sched.specs.Running.{Stands, Makes}
 use Rattle.pth_sched.proofs.Readying.{all_new}

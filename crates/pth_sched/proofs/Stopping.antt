@@ -1,6 +1,6 @@
 -- Every run comes to a part where it stops.
-use Rattle.std.proofs.Common.{◌≡◌, ◌≢◌, ◌⊎◌, ℕ, zero, suc, ◌+◌, ◌-◌, ◌*◌, ◌<◌, ◌≤◌, ◌==◌, ◌&&◌, ℤ, pos, ◌+ℤ◌, int_lt, Bool, true, false, if◌then◌else◌, List, [], ◌∷◌, map, reverse, length, Option, Some, None, refl, sym, ap, ◌∙◌, arith, subst, inl, inr}
-use Rattle.std.proofs.lemmas.Bool.{cases_lt, cases_Bool}
+use Rattle.std.proofs.Common.{◌≡◌, ℕ, zero, suc, ◌+◌, ◌-◌, ◌*◌, ◌<◌, ◌≤◌, ◌==◌, ◌&&◌, ℤ, Bool, true, false, List, [], ◌∷◌, reverse, length, Option, Some, None, refl, sym, ap, ◌∙◌, arith, subst, inl, inr}
+use Rattle.std.proofs.lemmas.Bool.{cases_Bool}
 use Rattle.std.proofs.lemmas.Bool.Decides.{nat_tests}
 use Rattle.std.proofs.lemmas.List.{length-reverse, length-map}
 use Rattle.pth_base.specs.Program.{Functions}
@@ -8,22 +8,21 @@ use Rattle.pth_base.specs.declared.outcome.Outcome.{Outcome}
 use Rattle.pth_base.specs.declared.outcome.Outcome.TheVariants.{Running, Ended, Killed, Stalled, OutOfMemory}
 use Rattle.pth_queue.specs.declared.row.Row.{Row}
 use Rattle.pth_queue.specs.declared.queue.Queue.TheVariants as queues
-use Rattle.pth_queue.specs.Rows.{insert, delete, head_of}
+use Rattle.pth_queue.specs.Rows.{insert, head_of}
 use Rattle.pth_threads.specs.declared.entry.Change.TheVariants as change
 use Rattle.pth_base.specs.declared.thread.ThreadState.TheVariants as state
-use Rattle.pth_model.specs.declared.held.Held.{Held}
 use Rattle.pth_model.specs.declared.next.Next.{Next}
 use Rattle.pth_model.specs.declared.next.Next.TheVariants as next
 use Rattle.pth_model.specs.State.{State, Scheduler, Given, start, queue}
 use Rattle.pth_model.specs.Changes.{with_change, with_entry, without_entry, with_going, raised, held_of}
 use Rattle.pth_model.specs.Told.{Told}
-use Rattle.pth_model.specs.Pass.{who_in, readied, woken, all_woken, pass, to_wake, prio_of}
+use Rattle.pth_model.specs.Pass.{who_in, readied, woken, all_woken, pass, to_wake}
 use Rattle.pth_model.specs.Waits.{main}
-use Rattle.pth_model.specs.Part.{Part, Move, Take, Step, Close, Halt, next_part, next_part_by, unless_ended, part, part_by, moved, taken, dispatched, dispatched_by, new_readied, new_rank, all_readied, runs, turned, next_by, is_empty, is_idle, stepped, settled, ended_by, went_by, counted, closed, closing, placed}
+use Rattle.pth_model.specs.Part.{next_part, next_part_by, unless_ended, part, part_by, moved, taken, dispatched, new_readied, new_rank, all_readied, runs, next_by, is_empty, is_idle, stepped, settled, ended_by, went_by, counted, closed, closing, placed}
 use Rattle.pth_model.specs.Run.{run, stops, stops_by, GoesTo}
-use Rattle.pth_model.proofs.Queues.{queue-enter, queue-leave}
+use Rattle.pth_model.proofs.Queues.{queue-enter}
 use Rattle.pth_model.proofs.Runs.{parts-more}
-use Rattle.pth_model.proofs.Turns.{Turn, turn_of, turn-went, turn-pass, turn-placed, turn-raised, turn-runs, turn-all_readied}
+use Rattle.pth_model.proofs.Turns.{Turn, turn_of, turn-went, turn-pass, turn-placed, turn-raised, turn-all_readied}
 use Rattle.pth_world.proofs.Ranks.{length-insert}
 use Rattle.pth_sched.proofs.Following.{still_going}
 use Rattle.pth_sched.proofs.Readying.{all_new}

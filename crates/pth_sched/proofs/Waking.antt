@@ -1,5 +1,5 @@
 -- Threads are woken one after another.
-use Rattle.std.proofs.Common.{◌≡◌, ◌≢◌, ℕ, ◌==◌, ◌+◌, ◌≤◌, ℤ, pos, ◌+ℤ◌, Bool, true, false, cond, ◌||◌, List, [], ◌∷◌, ◌++◌, map, filter, count_by, Option, Some, None, IsSome, IfSome, refl, sym, ◌∙◌, ap, subst, arith, append_assoc, append-nil}
+use Rattle.std.proofs.Common.{◌≡◌, ◌≢◌, ℕ, ◌==◌, ◌+◌, ◌≤◌, ℤ, pos, ◌+ℤ◌, Bool, true, false, cond, ◌||◌, List, [], ◌∷◌, ◌++◌, map, filter, count_by, Option, Some, IsSome, IfSome, refl, sym, ◌∙◌, ap, subst, arith, append_assoc, append-nil}
 use Rattle.pth_base.proofs.Tables.{same_self}
 use Rattle.pth_base.specs.declared.mark.Mark.{Mark}
 use Rattle.pth_base.specs.declared.mark.Mark.TheVariants.{Woke}
@@ -16,7 +16,8 @@ use Rattle.pth_model.specs.Waits.{wakes}
 use Rattle.pth_model.specs.Pass.{who_in, prio_of, readied, woken, all_woken, to_wake, pass}
 use Rattle.pth_world.specs.World.{WorldOf}
 use Rattle.pth_world.specs.Standing.{StandsFor, IsSound, IsKnown, SameThreads}
-use Rattle.pth_world.specs.Leading.{Leads, IsCut}
+use Rattle.pth_base.specs.Cut.{IsCut}
+use Rattle.pth_world.specs.Leading.{Leads}
 use Rattle.pth_world.proofs.QueueReads.{once_thread, stands_at}
 use Rattle.pth_world.proofs.Walks.{in-readied}
 use Rattle.pth_sched.specs.Passing.{IsWaiting, IsNotIn, WaitOnce}
@@ -134,7 +135,7 @@ module _ {P S H : Type 0} where
         first = k.told ++ c.first;
         rest = c.rest ++ later;
         new_is = c.new_is ∙ ap (λ (m : List Mark). m ++ c.first) k.appended ∙ append_assoc old k.told c.first;
-        all_is = append_assoc k.told c.first (c.rest ++ later) ∙ ap (λ (m : List Mark). k.told ++ m) (sym (append_assoc c.first c.rest later) ∙ ap (λ (m : List Mark). m ++ later) c.all_is) ∙ k.same_marks;
+        whole_is = append_assoc k.told c.first (c.rest ++ later) ∙ ap (λ (m : List Mark). k.told ++ m) (sym (append_assoc c.first c.rest later) ∙ ap (λ (m : List Mark). m ++ later) c.whole_is) ∙ k.same_marks;
       }
 
   -- a pass wakes those that it listed

@@ -7,7 +7,7 @@ use Rattle.pth_model.specs.State.{State, Given}
 use Rattle.pth_model.specs.Told.{Told}
 use Rattle.pth_model.specs.Run.{run, stops, GoesTo, IsBetween}
 use Rattle.pth_world.specs.Standing.{StandsFor}
-use Rattle.pth_world.specs.Leading.{IsCut}
+use Rattle.pth_base.specs.Cut.{IsCut}
 use Rattle.pth_sched.specs.MachineOf.{MachineOf, IsGoing, IsRoofed}
 
 -- The machine stands for this state: its world does, it keeps the same counts, and memory has not ended. So its ready

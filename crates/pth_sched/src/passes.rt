@@ -8,7 +8,8 @@ ghost use Rattle.pth_model.specs.Waits.{wakes as wakes_now};
 ghost use Rattle.pth_model.specs.Pass.{pass, prio_of, to_wake, woken, all_woken};
 ghost use Rattle.pth_world.specs.Standing.{StandsFor, IsSound, Whole, IsKnown, IsIn, KeepsScheduler};
 ghost use Rattle.pth_world.specs.Ranks.{KeepsRanks, greatest_return};
-ghost use Rattle.pth_world.specs.Leading.{Leads, IsCut};
+ghost use Rattle.pth_base.specs.Cut.{IsCut};
+ghost use Rattle.pth_world.specs.Leading.{Leads};
 ghost use Rattle.pth_sched.specs.Passing.{HasState, IsWaiting, WaitOnce};
 
 use pth_base::ids::Tid;

@@ -5,7 +5,7 @@ ghost use Rattle.pth_model.specs.State.{State, Given};
 ghost use Rattle.pth_model.specs.Part.{is_idle, settled, taken, stepped, closed, part};
 ghost use Rattle.pth_model.specs.Run.{stops as run_stops};
 ghost use Rattle.pth_world.specs.Standing.{Whole};
-ghost use Rattle.pth_world.specs.Leading.{IsCut};
+ghost use Rattle.pth_base.specs.Cut.{IsCut};
 ghost use Rattle.pth_waits.specs.Running.{runs_after};
 ghost use Rattle.pth_sched.specs.MachineOf.{IsGoing, IsRoofed, left, stops};
 ghost use Rattle.pth_sched.specs.Running.{Stands, StandsAt, IsShown, Keeps, Makes, GoesOn, BreaksOff};

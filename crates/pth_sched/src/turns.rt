@@ -10,7 +10,8 @@ ghost use Rattle.pth_model.specs.Part.{all_readied, closing, new_rank, next_by, 
 ghost use Rattle.pth_model.specs.Waits.{begun};
 ghost use Rattle.pth_world.specs.Standing.{StandsFor, IsSound, Whole, IsKnown, IsIn, KeepsScheduler};
 ghost use Rattle.pth_world.specs.Ranks.{IsUnder, KeepsRanks, greatest_return};
-ghost use Rattle.pth_world.specs.Leading.{Leads, IsCut};
+ghost use Rattle.pth_base.specs.Cut.{IsCut};
+ghost use Rattle.pth_world.specs.Leading.{Leads};
 ghost use Rattle.pth_waits.specs.Running.{runs_after};
 ghost use Rattle.pth_sched.specs.Passing.{HasRoom};
 

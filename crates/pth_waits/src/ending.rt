@@ -6,7 +6,8 @@ ghost use Rattle.pth_model.specs.Changes.{running_is};
 ghost use Rattle.pth_model.specs.Ending.{ending, dead, gone};
 ghost use Rattle.pth_world.specs.Ranks.{KeepsRanks};
 ghost use Rattle.pth_world.specs.Standing.{StandsFor, Whole};
-ghost use Rattle.pth_world.specs.Leading.{Leads, IsCut};
+ghost use Rattle.pth_base.specs.Cut.{IsCut};
+ghost use Rattle.pth_world.specs.Leading.{Leads};
 
 use pth_base::ids::Tid;
 use pth_base::mark::Mark;

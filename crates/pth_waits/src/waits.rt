@@ -6,7 +6,8 @@ ghost use Rattle.pth_model.specs.State.{State};
 ghost use Rattle.pth_model.specs.Waits.{main, is_alone, begun, exit_again, resumed, wakes as wakes_now, suspends as may_suspend};
 ghost use Rattle.pth_world.specs.Ranks.{KeepsRanks};
 ghost use Rattle.pth_world.specs.Standing.{StandsFor, IsSound, Whole};
-ghost use Rattle.pth_world.specs.Leading.{Leads, IsCut};
+ghost use Rattle.pth_base.specs.Cut.{IsCut};
+ghost use Rattle.pth_world.specs.Leading.{Leads};
 ghost use Rattle.pth_waits.specs.Running.{runs_after};
 
 use crate::ending::end_thread;

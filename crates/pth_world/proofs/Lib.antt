@@ -10,4 +10,3 @@ pub mod Schedules
 pub mod QueueReads
 pub mod Walks
 pub mod Ranks
-pub mod Leading

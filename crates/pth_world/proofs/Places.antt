@@ -6,7 +6,7 @@ use Rattle.pth_queue.specs.declared.queue.Queue.{Queue}
 use Rattle.pth_queue.specs.declared.queue.Queue.TheVariants.{New, Ready, Waiting, Suspended, Dead}
 use Rattle.pth_queue.specs.Rows.{is_of, insert, delete, increase, holds, IsQueued}
 use Rattle.pth_queue.specs.Queues.{QueuesOf, rows_of, with_rows, queue_of, without, entered, IsNowhere, IsOrderly}
-use Rattle.pth_queue.proofs.Counts.{count-present}
+use Rattle.pth_queue.proofs.Counts.{count-present, delete-absent}
 use Rattle.pth_queue.proofs.Sets.{holds-queue_of, deleted_is, IsOrderly-deleted}
 
 or_swap : (a b c : Bool) → (a || (b || c)) ≡ (b || (a || c))
@@ -45,14 +45,6 @@ holds-delete_other u v (x ∷ xs) apart = delete_by u v x xs (delete u xs) (is_o
 pub holds-increase : (v : ℕ) (xs : List Row) → holds v (increase xs) ≡ holds v xs
 holds-increase v [] = refl
 holds-increase v (x ∷ xs) = ap (λ (b : Bool). is_of v x || b) (holds-increase v xs)
-
-pub delete-none : (u : ℕ) (xs : List Row) → holds u xs ≡ false → delete u xs ≡ xs
-delete-none u [] h = refl
-delete-none u (x ∷ xs) h = none_by u x xs (is_of u x) (holds u xs) refl refl h (delete-none u xs)
-  where
-    none_by : (u : ℕ) (x : Row) (xs : List Row) (b c : Bool) → is_of u x ≡ b → holds u xs ≡ c → (b || c) ≡ false → (holds u xs ≡ false → delete u xs ≡ xs) → cond (not b) (x ∷ delete u xs) (delete u xs) ≡ x ∷ xs
-    none_by u x xs true c e h n more = absurd (cc n)
-    none_by u x xs false c e h n more = ap (λ (l : List Row). x ∷ l) (more (h ∙ n))
 
 -- the queue by five tests
 abbrev place_by : Bool → Bool → Bool → Bool → Bool → Option Queue
@@ -108,7 +100,7 @@ queue-raised v x = rw (holds-increase v x.ready) refl
 
 -- who stands nowhere leaves nothing behind
 pub without-nowhere : (u : ℕ) (x : QueuesOf) → IsNowhere u x → without u x ≡ x
-without-nowhere u x h = rw (delete-none u x.new (nowhere-holds u x h New), delete-none u x.ready (nowhere-holds u x h Ready), delete-none u x.waiting (nowhere-holds u x h Waiting), delete-none u x.suspended (nowhere-holds u x h Suspended), delete-none u x.dead (nowhere-holds u x h Dead)) refl
+without-nowhere u x h = rw (delete-absent u x.new (nowhere-holds u x h New), delete-absent u x.ready (nowhere-holds u x h Ready), delete-absent u x.waiting (nowhere-holds u x h Waiting), delete-absent u x.suspended (nowhere-holds u x h Suspended), delete-absent u x.dead (nowhere-holds u x h Dead)) refl
 
 -- a slot is taken out of queues in order
 pub orderly-without : (u : ℕ) (x : QueuesOf) → IsOrderly x → IsOrderly (without u x)
@@ -117,13 +109,6 @@ orderly-without u x o = by_place (queue_of u x) refl
     by_place : (p : Option Queue) → queue_of u x ≡ p → IsOrderly (without u x)
     by_place None h = subst IsOrderly (sym (without-nowhere u x h)) o
     by_place (Some q) h = subst IsOrderly (deleted_is q u x o (count-present u (rows_of q x) (holds-queue_of q u x h))) (IsOrderly-deleted q u x o)
-
-pub room-with : (q : Queue) (rows : List Row) (x : QueuesOf) → (with_rows q rows x).room ≡ x.room
-room-with New rows x = refl
-room-with Ready rows x = refl
-room-with Waiting rows x = refl
-room-with Suspended rows x = refl
-room-with Dead rows x = refl
 
 -- a slot that is not used stands nowhere
 pub unused-holds : (f : ℕ → ℕ) (u : ℕ) (xs : List Row) → IsQueued f xs → f u ≡ 0 → holds u xs ≡ false

@@ -5,7 +5,7 @@ use Rattle.std.proofs.lemmas.List.Elements.{All-head}
 use Rattle.pth_base.specs.declared.ids.Slot.{Slot}
 use Rattle.pth_base.specs.Naming.{IsTied}
 use Rattle.pth_base.specs.declared.ids.Tid.{Tid}
-use Rattle.pth_base.proofs.Namings.{named_test}
+use Rattle.pth_base.proofs.Namings.{none_some, named_test}
 use Rattle.pth_base.proofs.Tables.{not_same, same_self}
 use Rattle.pth_queue.specs.declared.queue.Queue.{Queue}
 use Rattle.pth_queue.specs.Queues.{QueuesOf, queue_of, rows_of, IsOrdered, IsRank, after_of, place_of}
@@ -85,9 +85,6 @@ count-named g f t u (x ∷ xs) tied e q =
     ∙ ap (λ (b : Bool). cond {A = ℕ} b 1 0 + count_by (is_of t) (map (named_row f) xs)) (named_test g f t u x.who tied e q.0)
     ∙ ap (λ (n : ℕ). cond {A = ℕ} (is_of u x) 1 0 + n) (count-named g f t u xs tied e q.1)
     ∙ sym (count-cons u x xs)
-
-none_some : {w : ℕ} → None ≡ Some w → ⊥
-none_some h = cc
 
 -- who is not in the system stands in no queue
 count-unknown : (g : ℕ → Option ℕ) (f : ℕ → ℕ) (t : ℕ) (xs : List Row) → IsTied g f → g t ≡ None → IsQueued f xs → count_by (is_of t) (map (named_row f) xs) ≡ 0

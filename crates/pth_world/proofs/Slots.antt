@@ -1,6 +1,7 @@
 -- The slot of a thread in the system.
 use Rattle.std.proofs.lemmas.Int.{ints, fits_signed_from_abs}
-use Rattle.std.proofs.Common.{ℤ, SFits, w64, arith, ◌≡◌, ◌≢◌, ◌<◌, ℕ, IsSome, Option, Some, None, sym, ◌∙◌, ap}
+use Rattle.std.proofs.Common.{ℤ, SFits, w64, arith, ◌≡◌, ◌≢◌, ◌<◌, ℕ, Some, sym, ◌∙◌, ap}
+use Rattle.pth_base.proofs.Namings.{none_some}
 use Rattle.pth_queue.specs.Queues.{IsRank}
 use Rattle.pth_threads.specs.Threads.{slot_of, tid_at}
 use Rattle.pth_world.specs.World.{WorldOf}
@@ -8,9 +9,6 @@ use Rattle.pth_world.specs.Standing.{IsSound, IsPrio}
 
 pub some_is : {v w : ℕ} → Some v ≡ Some w → v ≡ w
 some_is h = cc
-
-pub none_some : {w : ℕ} → None ≡ Some w → ⊥
-none_some h = cc
 
 -- a base priority is a number of 64 bits
 pub prio_fits : (z : ℤ) → IsPrio z → SFits w64 z

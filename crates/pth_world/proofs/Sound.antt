@@ -1,9 +1,11 @@
 -- Every change of a world keeps what is sound.
 use Rattle.std.proofs.Common.{◌≡◌, ◌≢◌, ◌<◌, ◌≤◌, ◌+◌, ℕ, ℤ, List, length, IsSome, Option, Some, None, option_map, refl, sym, ◌∙◌, ap, subst, arith}
+use Rattle.pth_queue.proofs.Counts.{delete-absent}
+use Rattle.pth_queue.proofs.Sets.{room-with}
 use Rattle.pth_base.specs.Table.{put, table}
 use Rattle.pth_base.specs.Naming.{seen}
 use Rattle.pth_base.proofs.Tables.{put_here, put_other, put_by}
-use Rattle.pth_base.proofs.Namings.{seen_put, seen_at, seen_add, seen_drop}
+use Rattle.pth_base.proofs.Namings.{none_some, seen_put, seen_at, seen_add, seen_drop}
 use Rattle.pth_queue.specs.declared.row.Row.{Row}
 use Rattle.pth_queue.specs.declared.queue.Queue.{Queue}
 use Rattle.pth_queue.specs.declared.queue.Queue.TheVariants as queue
@@ -25,8 +27,8 @@ use Rattle.std.proofs.lemmas.Bool.{cases_Bool, cases_lt}
 use Rattle.std.proofs.Common.{inl, inr}
 use Rattle.pth_world.specs.World.{WorldOf}
 use Rattle.pth_world.specs.Standing.{IsSound, IsBare, IsPrio, KeepsPrio}
-use Rattle.pth_world.proofs.Slots.{name_is, used, low, not_unused, none_some}
-use Rattle.pth_world.proofs.Places.{room-with, delete-none, nowhere-holds, orderly-without}
+use Rattle.pth_world.proofs.Slots.{name_is, used, low, not_unused}
+use Rattle.pth_world.proofs.Places.{nowhere-holds, orderly-without}
 
 changed_prio : (c : Change) (e : Entry) → KeepsPrio c → IsPrio e.prio → IsPrio (changed c e).prio
 unfolding changed
@@ -149,7 +151,7 @@ module _ {P S H : Type 0} (w : WorldOf P S H) (sound : IsSound w) where
       empty = rw gone.tids (bare_is None (put f u 0) (entry_at x) (put (entry_at w.threads) u None) gone.entries (bare_dropped None f (entry_at w.threads) u sound.empty));
       bare = rw gone.tids (bare_is None (put f u 0) (table None y) (put (table None w.going) u None) none (bare_dropped None f (table None w.going) u sound.bare));
       recorded = rw gone.tids (recorded_is (put f u 0) (table None y) (put (table None w.going) u None) none (recorded_dropped f (table None w.going) u sound.recorded));
-      queued = λ q. rw gone.tids (subst (IsQueued (put f u 0)) (delete-none u (rows_of q w.queues) (nowhere-holds u w.queues nowhere q)) (IsQueued-dropped f u (rows_of q w.queues) (sound.queued q)));
+      queued = λ q. rw gone.tids (subst (IsQueued (put f u 0)) (delete-absent u (rows_of q w.queues) (nowhere-holds u w.queues nowhere q)) (IsQueued-dropped f u (rows_of q w.queues) (sound.queued q)));
       room = sound.room;
       orderly = sound.orderly;
       long = long;

@@ -7,6 +7,7 @@ use Rattle.pth_base.specs.Naming.{by_slot, seen}
 use Rattle.pth_base.specs.declared.answer.Answer.{Answer}
 use Rattle.pth_base.specs.declared.answer.Answer.TheVariants as answer
 use Rattle.pth_base.proofs.Namings.{seen_put, seen_at, seen_add, seen_drop}
+use Rattle.pth_queue.proofs.Counts.{delete-absent}
 use Rattle.pth_queue.specs.declared.queue.Queue.{Queue}
 use Rattle.pth_queue.specs.declared.queue.Queue.TheVariants as queue
 use Rattle.pth_queue.specs.Rows.{named_row, insert, delete, increase}
@@ -24,7 +25,7 @@ use Rattle.pth_model.proofs.Queues.{is_queue_same, rows_here, rows_other, rows_w
 use Rattle.pth_world.specs.World.{WorldOf}
 use Rattle.pth_world.specs.Standing.{StandsFor, IsSound}
 use Rattle.pth_world.proofs.Slots.{name_is}
-use Rattle.pth_world.proofs.Places.{delete-none, nowhere-holds}
+use Rattle.pth_world.proofs.Places.{nowhere-holds}
 
 module _ {P S H : Type 0} (w : WorldOf P S H) where
   abbrev f : ℕ → ℕ
@@ -145,9 +146,9 @@ module _ {P S H : Type 0} (w : WorldOf P S H) where
         going = rw (st.threads.going, gone.slots, none, name_is w t u sound e) (sym (seen_drop None g f (table None w.going) t u sound.tied None e));
         standing = λ q. rw gone.tids (
             st.threads.standing q
-            ∙ ap (map (named_row f)) (sym (delete-none u (rows_of q w.queues) (nowhere-holds u w.queues nowhere q)))
+            ∙ ap (map (named_row f)) (sym (delete-absent u (rows_of q w.queues) (nowhere-holds u w.queues nowhere q)))
             ∙ sym (named_dropped f u (rows_of q w.queues))
-            ∙ ap (map (named_row (put f u 0))) (delete-none u (rows_of q w.queues) (nowhere-holds u w.queues nowhere q)));
+            ∙ ap (map (named_row (put f u 0))) (delete-absent u (rows_of q w.queues) (nowhere-holds u w.queues nowhere q)));
       };
       scheduler = record { running = st.scheduler.running; named = st.scheduler.named; favour_new = st.scheduler.favour_new; time = st.scheduler.time; clock = st.scheduler.clock };
     }

@@ -1,6 +1,7 @@
 -- A world with main alone stands for the state from which a run starts.
 use Rattle.std.proofs.lemmas.Int.{ints}
 use Rattle.std.proofs.Common.{arith, ◌≡◌, ◌≢◌, ◌+◌, ◌==◌, ℕ, pos, Bool, true, false, List, [], length, map, Option, Some, None, option_map, refl, sym, ◌∙◌, ap, subst}
+use Rattle.pth_base.proofs.Namings.{none_some}
 use Rattle.pth_base.specs.Program.{Functions}
 use Rattle.pth_base.specs.Table.{put, table}
 use Rattle.pth_base.specs.Naming.{seen}
@@ -22,7 +23,7 @@ use Rattle.pth_model.specs.Changes.{with_change, with_entry, with_thread, held_b
 use Rattle.pth_model.proofs.Orders.{shown-none}
 use Rattle.pth_world.specs.World.{WorldOf, first_thread}
 use Rattle.pth_world.specs.Standing.{StandsFor, IsSound, IsPrio, View, view, Fits, FitsEntry, Whole}
-use Rattle.pth_world.proofs.Slots.{none_some, prio_rank}
+use Rattle.pth_world.proofs.Slots.{prio_rank}
 use Rattle.pth_world.proofs.Standing.{add_stands, change_stands, enter_stands}
 use Rattle.pth_world.proofs.Sound.{add_sound, change_sound, enter_sound}
 use Rattle.pth_world.proofs.Places.{queue-entered}

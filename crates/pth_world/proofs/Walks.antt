@@ -1,22 +1,20 @@
 -- Walks over a queue come nearer to its end.
-use Rattle.std.proofs.Common.{◌≡◌, ◌≢◌, ℕ, ◌+◌, ◌<◌, ◌≤◌, ◌==◌, Bool, true, false, not, cond, if◌then◌else◌, ℤ, List, [], ◌∷◌, map, length, count_by, Option, Some, None, IfSome, option_map, refl, sym, ◌∙◌, ap, subst, arith}
+use Rattle.std.proofs.Common.{◌≡◌, ◌≢◌, ℕ, ◌+◌, ◌<◌, ◌≤◌, Bool, true, false, cond, if◌then◌else◌, ℤ, List, [], ◌∷◌, map, length, count_by, Option, Some, None, IfSome, option_map, refl, sym, ◌∙◌, ap, subst, arith}
 use Rattle.pth_base.specs.declared.ids.Slot.{Slot}
 use Rattle.pth_base.specs.declared.ids.Tid.{Tid}
-use Rattle.pth_base.proofs.Tables.{same_self, not_same, same_means}
+use Rattle.pth_base.proofs.Tables.{same_self}
 use Rattle.pth_queue.specs.declared.row.Row.{Row}
 use Rattle.pth_queue.specs.declared.queue.Queue.{Queue}
 use Rattle.pth_queue.specs.declared.queue.Queue.TheVariants as queue
-use Rattle.pth_queue.specs.Rows.{is_of, delete, head_of, after_in, named_row}
+use Rattle.pth_queue.specs.Rows.{is_of, head_of, after_in, named_row}
 use Rattle.pth_queue.specs.Queues.{queue_of, rows_of, after_of, entered, without}
-use Rattle.pth_queue.proofs.Counts.{count-cons, count-present, length-delete}
-use Rattle.pth_queue.proofs.Names.{after_named, delete_named}
+use Rattle.pth_queue.proofs.Counts.{count-cons, count-present}
+use Rattle.pth_queue.proofs.Names.{after_named}
 use Rattle.pth_queue.proofs.Sets.{count-head}
 use Rattle.pth_threads.specs.Threads.{slot_of, tid_at}
 use Rattle.pth_world.specs.World.{WorldOf, number_of}
 use Rattle.pth_world.specs.Standing.{IsSound, IsKnown, IsIn, SameThreads}
 use Rattle.pth_world.specs.Walks.{rows_behind, behind}
-use Rattle.pth_model.specs.Standing.{is_queue}
-use Rattle.pth_model.proofs.Queues.{rows_other, rows_without}
 use Rattle.pth_world.proofs.Slots.{name_is}
 use Rattle.pth_world.proofs.Places.{queue-entered_other, queue-without_other}
 use Rattle.pth_world.proofs.Moves.{known_slot}

@@ -1,5 +1,5 @@
 -- Worlds that are whole, and new threads, calls and ends of threads as changes of the state.
-use Rattle.std.proofs.Common.{◌≡◌, ◌≢◌, ◌+◌, ◌==◌, ℕ, ℤ, Bool, true, false, List, length, IsSome, IfSome, Option, Some, None, refl, sym, ◌∙◌, ap, subst, Result, Ok, Err, OnErr}
+use Rattle.std.proofs.Common.{◌≡◌, ◌≢◌, ◌+◌, ◌==◌, ℕ, ℤ, Bool, true, false, List, length, IsSome, IfSome, Option, Some, None, refl, sym, ◌∙◌, ap, subst}
 use Rattle.pth_base.specs.Program.{Functions, Stepped}
 use Rattle.pth_base.specs.Table.{put, table}
 use Rattle.pth_base.specs.declared.answer.Answer.{Answer}
@@ -26,11 +26,6 @@ use Rattle.pth_world.proofs.Places.{queue-entered, queue-entered_other, unused-n
 use Rattle.pth_world.proofs.Views.{called_touches}
 use Rattle.pth_world.specs.Ranks.{KeepsRanks}
 use Rattle.pth_world.proofs.Ranks.{ranks_new}
-
--- what holds holds where a call fails
-pub on_err : {A E Q : Type 0} (r : Result A E) → Q → OnErr r Q
-on_err (Ok v) q = tt
-on_err (Err x) q = q
 
 if_some : (A B : ℕ → Type 0) (o : Option ℕ) → ((r : ℕ) → A r → B r) → IfSome o A → IfSome o B
 if_some A B (Some r) f h = f r h

@@ -9,10 +9,3 @@ use Rattle.pth_world.specs.Standing.{StandsFor}
 pub record Leads {P S H : Type 0} (w : WorldOf P S H) (old new : List Mark) (told : Told P S H) : Type 0 where
   pub stands : StandsFor w told.state
   pub tells : new ≡ old ++ told.marks
-
--- where memory ended, a beginning of what is told was appended
-pub record IsCut (old new marks : List Mark) : Type 0 where
-  pub first : List Mark
-  pub rest : List Mark
-  pub new_is : new ≡ old ++ first
-  pub all_is : first ++ rest ≡ marks

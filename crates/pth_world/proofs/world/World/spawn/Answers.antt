@@ -1,7 +1,8 @@
 use Rattle.std.proofs.Common.{refl, rules, SFits, w64, to_z-of_z}
 use Rattle.pth_world.proofs.Slots.{prio_fits}
 use Rattle.pth_world.proofs.Places.{unused-nowhere}
-use Rattle.pth_world.proofs.Wholes.{same_whole, spawn_stands, spawn_whole, spawn_others, spawn_queues, spawn_ranks, on_err}
+use Rattle.pth_base.proofs.Results.{on_err}
+use Rattle.pth_world.proofs.Wholes.{same_whole, spawn_stands, spawn_whole, spawn_others, spawn_queues, spawn_ranks}
 use Rattle.pth_threads.specs.Threads.{tid_at}
 use Rattle.pth_world.proofs.world.World.spawn.Goals as goal
 
