@@ -1,3 +1,4 @@
+pub mod Tables
 pub mod CallLines
 pub mod Names
 pub mod RowLemmas

@@ -7,7 +7,7 @@ use Rattle.std.proofs.lemmas.Bool.Decides.{nat_tests}
 use Rattle.pth_grammar.specs.CallLines.{call_line}
 use Rattle.pth_grammar.specs.Forms.{call_forms, act_forms, body_forms, forms_of}
 use Rattle.pth_grammar.specs.Keywords.{call_word, keyword_of, begins}
-use Rattle.pth_grammar.specs.Lines.{line_by, answered_line, line_of, act_by, act_of, check_by, check_of, numbered}
+use Rattle.pth_grammar.specs.Lines.{line_by, answered_line, line_of, act_by, act_of, check_by, check_of}
 use Rattle.pth_grammar.specs.Shapes.{Shape, Unequal, Asks, asks, after_register, answers, shape_of, wrong, words_break, word_rules, words_fault}
 use Rattle.pth_grammar.specs.Words.{register_of}
 use Rattle.pth_grammar.specs.declared.form.Form.{Form}
@@ -185,49 +185,6 @@ check_readable s [] h e = absurd (cc)
 check_readable s (w ∷ ws) h e =
     let b = begun s w ws key.Check h e in
     check_fine ws (subst (λ fs. AllFine fs ws) (sym (checked s ws b.forms b.allowed)) b.fine)
-
--- ---- numbers of lines
-
--- a number follows the word
-abbrev pub has_number : Keyword → Bool
-has_number key.Handler = true
-has_number key.Check = true
-has_number key.Thread = true
-has_number key.Label = true
-has_number key.Goto = true
-has_number _ = false
-
-number_fine : (w : List ℕ) (fs : List Form) (ws : List (List ℕ)) → AllFine (form.Natural ∷ fs) ws → is_some (numbered (w ∷ ws)) ≡ true
-unfolding numbered
-number_fine w fs [] h = absurd h
-number_fine w fs (n ∷ ws) h = natural.reads n h.0
-
--- the forms begin with that of a number
-abbrev BeginsNatural : List Form → Type 0
-BeginsNatural fs = (gs : List Form) × (fs ≡ form.Natural ∷ gs)
-
-begins_natural : (fs gs : List Form) → Some (form.Natural ∷ gs) ≡ Some fs → BeginsNatural fs
-begins_natural fs gs e = (gs, sym (same_some _ fs e))
-
-numbers_by : (s : Section) (k : Keyword) (ws : List (List ℕ)) (fs : List Form) → has_number k ≡ true → forms_of s k ws ≡ Some fs → BeginsNatural fs
-numbers_by sec.Handlers key.Handler ws fs t e = begins_natural fs _ e
-numbers_by sec.Handlers key.Check ws fs t e = begins_natural fs _ e
-numbers_by sec.Handlers key.Thread ws fs t e = begins_natural fs _ e
-numbers_by sec.Checks key.Check ws fs t e = begins_natural fs _ e
-numbers_by sec.Checks key.Thread ws fs t e = begins_natural fs _ e
-numbers_by sec.Bodies key.Thread ws fs t e = begins_natural fs _ e
-numbers_by sec.Body key.Label ws fs t e = begins_natural fs _ e
-numbers_by sec.Body key.Goto ws fs t e = begins_natural fs _ e
-numbers_by sec.Handler key.Handler ws fs t e = absurd (cc)
-numbers_by _ _ ws fs t e = absurd (cc)
-
-pub opening_numbered : (s : Section) (ws : List (List ℕ)) (k : Keyword) → words_fault s ws ≡ None → begins ws ≡ Some k → has_number k ≡ true → is_some (numbered ws) ≡ true
-unfolding words_fault words_break shape_of begins
-opening_numbered s [] k h e t = absurd (cc)
-opening_numbered s (w ∷ ws) k h e t =
-    let b = begun s w ws k h e in
-    let n = numbers_by s k ws b.forms t b.allowed in
-    number_fine w n.0 ws (subst (λ fs. AllFine fs ws) n.1 b.fine)
 
 -- ---- lines that begin with a keyword
 

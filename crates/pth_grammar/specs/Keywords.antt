@@ -1,6 +1,7 @@
 -- The words that begin lines.
 use Rattle.std.specs.Prelude.{ℕ, List, [], ◌∷◌, Option, Some, None, if◌then◌else◌, codes, option_map, is_some}
 use Rattle.std.specs.Str.{bytes_eq}
+use Rattle.pth_grammar.specs.Named.{named}
 use Rattle.pth_grammar.specs.Words.{register_of}
 use Rattle.pth_grammar.specs.declared.keyword.ThreadWord.{ThreadWord}
 use Rattle.pth_grammar.specs.declared.keyword.ThreadWord.TheVariants as threads
@@ -29,119 +30,149 @@ use Rattle.pth_grammar.specs.declared.keyword.Keyword.TheVariants as key
 
 -- ---- call lines, by what they are about
 
+abbrev pub thread_words : List (List ℕ × ThreadWord)
+thread_words =
+    (codes "spawn", threads.Spawn)
+    ∷ (codes "self", threads.SelfTid)
+    ∷ (codes "exit", threads.Exit)
+    ∷ (codes "yield", threads.Yield)
+    ∷ (codes "join", threads.Join)
+    ∷ (codes "cancel", threads.Cancel)
+    ∷ (codes "abort", threads.Abort)
+    ∷ (codes "cancel_state", threads.CancelState)
+    ∷ (codes "cancel_point", threads.CancelPoint)
+    ∷ (codes "suspend", threads.Suspend)
+    ∷ (codes "resume", threads.Resume)
+    ∷ (codes "kill", threads.Kill)
+    ∷ (codes "ctrl", threads.Ctrl)
+    ∷ (codes "once", threads.Once)
+    ∷ []
+
 unfoldable pub thread_word : List ℕ → Option ThreadWord
-thread_word w =
-    if bytes_eq w (codes "spawn") then Some threads.Spawn
-    else (if bytes_eq w (codes "self") then Some threads.SelfTid
-    else (if bytes_eq w (codes "exit") then Some threads.Exit
-    else (if bytes_eq w (codes "yield") then Some threads.Yield
-    else (if bytes_eq w (codes "join") then Some threads.Join
-    else (if bytes_eq w (codes "cancel") then Some threads.Cancel
-    else (if bytes_eq w (codes "abort") then Some threads.Abort
-    else (if bytes_eq w (codes "cancel_state") then Some threads.CancelState
-    else (if bytes_eq w (codes "cancel_point") then Some threads.CancelPoint
-    else (if bytes_eq w (codes "suspend") then Some threads.Suspend
-    else (if bytes_eq w (codes "resume") then Some threads.Resume
-    else (if bytes_eq w (codes "kill") then Some threads.Kill
-    else (if bytes_eq w (codes "ctrl") then Some threads.Ctrl
-    else (if bytes_eq w (codes "once") then Some threads.Once
-    else None)))))))))))))
+thread_word w = named thread_words w
+
+abbrev pub attr_words : List (List ℕ × AttrWord)
+attr_words =
+    (codes "attr_new", attrs.New)
+    ∷ (codes "attr_of", attrs.Of)
+    ∷ (codes "attr_init", attrs.Init)
+    ∷ (codes "attr_set", attrs.Set)
+    ∷ (codes "attr_get", attrs.Get)
+    ∷ (codes "attr_destroy", attrs.Destroy)
+    ∷ []
 
 unfoldable pub attr_word : List ℕ → Option AttrWord
-attr_word w =
-    if bytes_eq w (codes "attr_new") then Some attrs.New
-    else (if bytes_eq w (codes "attr_of") then Some attrs.Of
-    else (if bytes_eq w (codes "attr_init") then Some attrs.Init
-    else (if bytes_eq w (codes "attr_set") then Some attrs.Set
-    else (if bytes_eq w (codes "attr_get") then Some attrs.Get
-    else (if bytes_eq w (codes "attr_destroy") then Some attrs.Destroy
-    else None)))))
+attr_word w = named attr_words w
+
+abbrev pub store_words : List (List ℕ × StoreWord)
+store_words =
+    (codes "cleanup_push", stores.CleanupPush)
+    ∷ (codes "cleanup_pop", stores.CleanupPop)
+    ∷ (codes "key_create", stores.KeyCreate)
+    ∷ (codes "key_delete", stores.KeyDelete)
+    ∷ (codes "key_set", stores.KeySet)
+    ∷ (codes "key_get", stores.KeyGet)
+    ∷ []
 
 unfoldable pub store_word : List ℕ → Option StoreWord
-store_word w =
-    if bytes_eq w (codes "cleanup_push") then Some stores.CleanupPush
-    else (if bytes_eq w (codes "cleanup_pop") then Some stores.CleanupPop
-    else (if bytes_eq w (codes "key_create") then Some stores.KeyCreate
-    else (if bytes_eq w (codes "key_delete") then Some stores.KeyDelete
-    else (if bytes_eq w (codes "key_set") then Some stores.KeySet
-    else (if bytes_eq w (codes "key_get") then Some stores.KeyGet
-    else None)))))
+store_word w = named store_words w
+
+abbrev pub event_words : List (List ℕ × EventWord)
+event_words =
+    (codes "ev_fd", events.Fd)
+    ∷ (codes "ev_select", events.Select)
+    ∷ (codes "ev_time", events.Time)
+    ∷ (codes "ev_msg", events.Msg)
+    ∷ (codes "ev_cond", events.Cond)
+    ∷ (codes "ev_tid", events.Tid)
+    ∷ (codes "ev_func", events.Func)
+    ∷ []
 
 unfoldable pub event_word : List ℕ → Option EventWord
-event_word w =
-    if bytes_eq w (codes "ev_fd") then Some events.Fd
-    else (if bytes_eq w (codes "ev_select") then Some events.Select
-    else (if bytes_eq w (codes "ev_time") then Some events.Time
-    else (if bytes_eq w (codes "ev_msg") then Some events.Msg
-    else (if bytes_eq w (codes "ev_cond") then Some events.Cond
-    else (if bytes_eq w (codes "ev_tid") then Some events.Tid
-    else (if bytes_eq w (codes "ev_func") then Some events.Func
-    else None))))))
+event_word w = named event_words w
+
+abbrev pub ring_words : List (List ℕ × RingWord)
+ring_words =
+    (codes "ev_concat", rings.Concat)
+    ∷ (codes "ev_isolate", rings.Isolate)
+    ∷ (codes "ev_walk", rings.Walk)
+    ∷ (codes "ev_status", rings.Status)
+    ∷ (codes "ev_kind", rings.Kind)
+    ∷ (codes "ev_free", rings.Free)
+    ∷ (codes "wait", rings.Wait)
+    ∷ []
 
 unfoldable pub ring_word : List ℕ → Option RingWord
-ring_word w =
-    if bytes_eq w (codes "ev_concat") then Some rings.Concat
-    else (if bytes_eq w (codes "ev_isolate") then Some rings.Isolate
-    else (if bytes_eq w (codes "ev_walk") then Some rings.Walk
-    else (if bytes_eq w (codes "ev_status") then Some rings.Status
-    else (if bytes_eq w (codes "ev_kind") then Some rings.Kind
-    else (if bytes_eq w (codes "ev_free") then Some rings.Free
-    else (if bytes_eq w (codes "wait") then Some rings.Wait
-    else None))))))
+ring_word w = named ring_words w
+
+abbrev pub time_words : List (List ℕ × TimeWord)
+time_words =
+    (codes "timeout", times.Timeout)
+    ∷ (codes "nap", times.Nap)
+    ∷ (codes "usleep", times.Usleep)
+    ∷ (codes "sleep", times.Sleep)
+    ∷ []
 
 unfoldable pub time_word : List ℕ → Option TimeWord
-time_word w =
-    if bytes_eq w (codes "timeout") then Some times.Timeout
-    else (if bytes_eq w (codes "nap") then Some times.Nap
-    else (if bytes_eq w (codes "usleep") then Some times.Usleep
-    else (if bytes_eq w (codes "sleep") then Some times.Sleep
-    else None)))
+time_word w = named time_words w
+
+abbrev pub lock_words : List (List ℕ × LockWord)
+lock_words =
+    (codes "mutex_init", locks.MutexInit)
+    ∷ (codes "mutex_acquire", locks.MutexAcquire)
+    ∷ (codes "mutex_release", locks.MutexRelease)
+    ∷ (codes "rw_init", locks.RwInit)
+    ∷ (codes "rw_acquire", locks.RwAcquire)
+    ∷ (codes "rw_release", locks.RwRelease)
+    ∷ []
 
 unfoldable pub lock_word : List ℕ → Option LockWord
-lock_word w =
-    if bytes_eq w (codes "mutex_init") then Some locks.MutexInit
-    else (if bytes_eq w (codes "mutex_acquire") then Some locks.MutexAcquire
-    else (if bytes_eq w (codes "mutex_release") then Some locks.MutexRelease
-    else (if bytes_eq w (codes "rw_init") then Some locks.RwInit
-    else (if bytes_eq w (codes "rw_acquire") then Some locks.RwAcquire
-    else (if bytes_eq w (codes "rw_release") then Some locks.RwRelease
-    else None)))))
+lock_word w = named lock_words w
+
+abbrev pub condition_words : List (List ℕ × ConditionWord)
+condition_words =
+    (codes "cond_init", conditions.CondInit)
+    ∷ (codes "cond_await", conditions.CondAwait)
+    ∷ (codes "cond_notify", conditions.CondNotify)
+    ∷ (codes "barrier_init", conditions.BarrierInit)
+    ∷ (codes "barrier_reach", conditions.BarrierReach)
+    ∷ []
 
 unfoldable pub condition_word : List ℕ → Option ConditionWord
-condition_word w =
-    if bytes_eq w (codes "cond_init") then Some conditions.CondInit
-    else (if bytes_eq w (codes "cond_await") then Some conditions.CondAwait
-    else (if bytes_eq w (codes "cond_notify") then Some conditions.CondNotify
-    else (if bytes_eq w (codes "barrier_init") then Some conditions.BarrierInit
-    else (if bytes_eq w (codes "barrier_reach") then Some conditions.BarrierReach
-    else None))))
+condition_word w = named condition_words w
+
+abbrev pub port_words : List (List ℕ × PortWord)
+port_words =
+    (codes "port_create", ports.Create)
+    ∷ (codes "port_find", ports.Find)
+    ∷ (codes "port_pending", ports.Pending)
+    ∷ (codes "port_put", ports.Put)
+    ∷ (codes "port_get", ports.Get)
+    ∷ (codes "reply", ports.Reply)
+    ∷ (codes "port_destroy", ports.Destroy)
+    ∷ []
 
 unfoldable pub port_word : List ℕ → Option PortWord
-port_word w =
-    if bytes_eq w (codes "port_create") then Some ports.Create
-    else (if bytes_eq w (codes "port_find") then Some ports.Find
-    else (if bytes_eq w (codes "port_pending") then Some ports.Pending
-    else (if bytes_eq w (codes "port_put") then Some ports.Put
-    else (if bytes_eq w (codes "port_get") then Some ports.Get
-    else (if bytes_eq w (codes "reply") then Some ports.Reply
-    else (if bytes_eq w (codes "port_destroy") then Some ports.Destroy
-    else None))))))
+port_word w = named port_words w
+
+abbrev pub descriptor_words : List (List ℕ × DescriptorWord)
+descriptor_words =
+    (codes "read", descriptors.Read)
+    ∷ (codes "read_ev", descriptors.ReadEv)
+    ∷ (codes "write", descriptors.Write)
+    ∷ (codes "write_ev", descriptors.WriteEv)
+    ∷ (codes "accept", descriptors.Accept)
+    ∷ (codes "accept_ev", descriptors.AcceptEv)
+    ∷ (codes "connect", descriptors.Connect)
+    ∷ (codes "connect_ev", descriptors.ConnectEv)
+    ∷ (codes "select", descriptors.Select)
+    ∷ (codes "select_ev", descriptors.SelectEv)
+    ∷ (codes "fdmode", descriptors.Fdmode)
+    ∷ (codes "close", descriptors.Close)
+    ∷ []
 
 unfoldable pub descriptor_word : List ℕ → Option DescriptorWord
-descriptor_word w =
-    if bytes_eq w (codes "read") then Some descriptors.Read
-    else (if bytes_eq w (codes "read_ev") then Some descriptors.ReadEv
-    else (if bytes_eq w (codes "write") then Some descriptors.Write
-    else (if bytes_eq w (codes "write_ev") then Some descriptors.WriteEv
-    else (if bytes_eq w (codes "accept") then Some descriptors.Accept
-    else (if bytes_eq w (codes "accept_ev") then Some descriptors.AcceptEv
-    else (if bytes_eq w (codes "connect") then Some descriptors.Connect
-    else (if bytes_eq w (codes "connect_ev") then Some descriptors.ConnectEv
-    else (if bytes_eq w (codes "select") then Some descriptors.Select
-    else (if bytes_eq w (codes "select_ev") then Some descriptors.SelectEv
-    else (if bytes_eq w (codes "fdmode") then Some descriptors.Fdmode
-    else (if bytes_eq w (codes "close") then Some descriptors.Close
-    else None)))))))))))
+descriptor_word w = named descriptor_words w
 
 -- the first that is there
 abbrev pub or_else : {A : Type 0} → Option A → Option A → Option A
@@ -165,22 +196,25 @@ call_word w =
 -- ---- all first words
 
 -- the words of lines that make no call
+abbrev pub plain_words : List (List ℕ × Keyword)
+plain_words =
+    (codes "handler", key.Handler)
+    ∷ (codes "check", key.Check)
+    ∷ (codes "thread", key.Thread)
+    ∷ (codes "end", key.End)
+    ∷ (codes "note", key.Note)
+    ∷ (codes "set", key.Set)
+    ∷ (codes "add", key.Add)
+    ∷ (codes "label", key.Label)
+    ∷ (codes "goto", key.Goto)
+    ∷ (codes "release", key.Release)
+    ∷ (codes "notify", key.Notify)
+    ∷ (codes "put", key.Put)
+    ∷ (codes "setkey", key.SetKey)
+    ∷ []
+
 unfoldable pub plain_word : List ℕ → Option Keyword
-plain_word w =
-    if bytes_eq w (codes "handler") then Some key.Handler
-    else (if bytes_eq w (codes "check") then Some key.Check
-    else (if bytes_eq w (codes "thread") then Some key.Thread
-    else (if bytes_eq w (codes "end") then Some key.End
-    else (if bytes_eq w (codes "note") then Some key.Note
-    else (if bytes_eq w (codes "set") then Some key.Set
-    else (if bytes_eq w (codes "add") then Some key.Add
-    else (if bytes_eq w (codes "label") then Some key.Label
-    else (if bytes_eq w (codes "goto") then Some key.Goto
-    else (if bytes_eq w (codes "release") then Some key.Release
-    else (if bytes_eq w (codes "notify") then Some key.Notify
-    else (if bytes_eq w (codes "put") then Some key.Put
-    else (if bytes_eq w (codes "setkey") then Some key.SetKey
-    else None))))))))))))
+plain_word w = named plain_words w
 
 unfoldable pub keyword_of : List ℕ → Option Keyword
 keyword_of w = or_else (plain_word w) (option_map (λ k. key.Call k) (call_word w))

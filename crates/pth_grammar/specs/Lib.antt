@@ -1,4 +1,5 @@
 pub mod Texts
+pub mod Named
 pub mod Words
 pub mod Keywords
 pub mod Forms

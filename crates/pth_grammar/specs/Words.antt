@@ -2,6 +2,7 @@
 use Rattle.std.specs.Prelude.{ℕ, ◌+◌, ◌^◌, ◌==◌, ◌&&◌, ◌||◌, Bool, true, false, List, [], ◌∷◌, length, Option, Some, None, if◌then◌else◌, codes, option_and_then, option_map, is_some, ℤ, pos, negsuc, nat_lt, nat_le, drop, take, slice_index}
 use Rattle.std.specs.Str.{bytes_eq}
 use Rattle.std.specs.List.{slice_split, list_all}
+use Rattle.pth_grammar.specs.Named.{named}
 use Rattle.pth_base.specs.declared.attr.AttrField.{AttrField}
 use Rattle.pth_base.specs.declared.attr.AttrField.TheVariants as field
 use Rattle.pth_base.specs.declared.ids.FdSet.{FdSet}
@@ -113,79 +114,109 @@ bytes_of w =
     else None)
 
 -- the sum of 1 for `r`, 2 for `w` and 4 for `x`
+abbrev pub goal_words : List (List ℕ × ℕ)
+goal_words =
+    (codes "r", 1)
+    ∷ (codes "w", 2)
+    ∷ (codes "rw", 3)
+    ∷ (codes "x", 4)
+    ∷ (codes "rx", 5)
+    ∷ (codes "wx", 6)
+    ∷ (codes "rwx", 7)
+    ∷ []
+
 unfoldable pub goals_of : List ℕ → Option ℕ
-goals_of w =
-    if bytes_eq w (codes "r") then Some 1
-    else (if bytes_eq w (codes "w") then Some 2
-    else (if bytes_eq w (codes "rw") then Some 3
-    else (if bytes_eq w (codes "x") then Some 4
-    else (if bytes_eq w (codes "rx") then Some 5
-    else (if bytes_eq w (codes "wx") then Some 6
-    else (if bytes_eq w (codes "rwx") then Some 7
-    else None))))))
+goals_of w = named goal_words w
 
 -- ---- words of a list
 
 -- whether all events of a ring are meant
+abbrev pub which_words : List (List ℕ × Bool)
+which_words =
+    (codes "this", false)
+    ∷ (codes "all", true)
+    ∷ []
+
 unfoldable pub which_of : List ℕ → Option Bool
-which_of w = if bytes_eq w (codes "this") then Some false else (if bytes_eq w (codes "all") then Some true else None)
+which_of w = named which_words w
 
 -- a relation between two numbers
+abbrev pub relation_words : List (List ℕ × Relation)
+relation_words =
+    (codes "eq", rel.Eq)
+    ∷ (codes "ne", rel.Ne)
+    ∷ (codes "lt", rel.Lt)
+    ∷ (codes "le", rel.Le)
+    ∷ (codes "gt", rel.Gt)
+    ∷ (codes "ge", rel.Ge)
+    ∷ []
+
 unfoldable pub relation_of : List ℕ → Option Relation
-relation_of w =
-    if bytes_eq w (codes "eq") then Some rel.Eq
-    else (if bytes_eq w (codes "ne") then Some rel.Ne
-    else (if bytes_eq w (codes "lt") then Some rel.Lt
-    else (if bytes_eq w (codes "le") then Some rel.Le
-    else (if bytes_eq w (codes "gt") then Some rel.Gt
-    else (if bytes_eq w (codes "ge") then Some rel.Ge
-    else None)))))
+relation_of w = named relation_words w
 
 -- a field of an attribute object
+abbrev pub field_words : List (List ℕ × AttrField)
+field_words =
+    (codes "prio", field.Prio)
+    ∷ (codes "name", field.Name)
+    ∷ (codes "joinable", field.Joinable)
+    ∷ (codes "cancel", field.Cancel)
+    ∷ (codes "dispatches", field.Dispatches)
+    ∷ (codes "state", field.State)
+    ∷ (codes "bound", field.Bound)
+    ∷ []
+
 unfoldable pub field_of : List ℕ → Option AttrField
-field_of w =
-    if bytes_eq w (codes "prio") then Some field.Prio
-    else (if bytes_eq w (codes "name") then Some field.Name
-    else (if bytes_eq w (codes "joinable") then Some field.Joinable
-    else (if bytes_eq w (codes "cancel") then Some field.Cancel
-    else (if bytes_eq w (codes "dispatches") then Some field.Dispatches
-    else (if bytes_eq w (codes "state") then Some field.State
-    else (if bytes_eq w (codes "bound") then Some field.Bound
-    else None))))))
+field_of w = named field_words w
 
 -- a thread's state that an event may wait for
+abbrev pub state_words : List (List ℕ × ThreadState)
+state_words =
+    (codes "new", state.New)
+    ∷ (codes "ready", state.Ready)
+    ∷ (codes "waiting", state.Waiting)
+    ∷ (codes "dead", state.Dead)
+    ∷ []
+
 unfoldable pub state_of : List ℕ → Option ThreadState
-state_of w =
-    if bytes_eq w (codes "new") then Some state.New
-    else (if bytes_eq w (codes "ready") then Some state.Ready
-    else (if bytes_eq w (codes "waiting") then Some state.Waiting
-    else (if bytes_eq w (codes "dead") then Some state.Dead
-    else None)))
+state_of w = named state_words w
 
 -- whether a lock is taken for writing
+abbrev pub mode_words : List (List ℕ × Bool)
+mode_words =
+    (codes "rd", false)
+    ∷ (codes "rw", true)
+    ∷ []
+
 unfoldable pub mode_of : List ℕ → Option Bool
-mode_of w = if bytes_eq w (codes "rd") then Some false else (if bytes_eq w (codes "rw") then Some true else None)
+mode_of w = named mode_words w
 
 -- whether a walk goes forward, and whether it goes on to an event that occurred
+abbrev pub direction_words : List (List ℕ × Direction)
+direction_words =
+    (codes "next", record { forward = true; until_occurred = false })
+    ∷ (codes "prev", record { forward = false; until_occurred = false })
+    ∷ (codes "next_occurred", record { forward = true; until_occurred = true })
+    ∷ (codes "prev_occurred", record { forward = false; until_occurred = true })
+    ∷ []
+
 unfoldable pub direction_of : List ℕ → Option Direction
-direction_of w =
-    if bytes_eq w (codes "next") then Some (record { forward = true; until_occurred = false })
-    else (if bytes_eq w (codes "prev") then Some (record { forward = false; until_occurred = false })
-    else (if bytes_eq w (codes "next_occurred") then Some (record { forward = true; until_occurred = true })
-    else (if bytes_eq w (codes "prev_occurred") then Some (record { forward = false; until_occurred = true })
-    else None)))
+direction_of w = named direction_words w
 
 -- what the scheduler is asked
+abbrev pub query_words : List (List ℕ × QueryWord)
+query_words =
+    (codes "threads", query.Threads)
+    ∷ (codes "new", query.New)
+    ∷ (codes "ready", query.Ready)
+    ∷ (codes "running", query.Running)
+    ∷ (codes "waiting", query.Waiting)
+    ∷ (codes "suspended", query.Suspended)
+    ∷ (codes "dead", query.Dead)
+    ∷ (codes "favournew", query.Favournew)
+    ∷ (codes "prio", query.Prio)
+    ∷ (codes "name", query.Name)
+    ∷ []
+
 unfoldable pub query_of : List ℕ → Option QueryWord
-query_of w =
-    if bytes_eq w (codes "threads") then Some query.Threads
-    else (if bytes_eq w (codes "new") then Some query.New
-    else (if bytes_eq w (codes "ready") then Some query.Ready
-    else (if bytes_eq w (codes "running") then Some query.Running
-    else (if bytes_eq w (codes "waiting") then Some query.Waiting
-    else (if bytes_eq w (codes "suspended") then Some query.Suspended
-    else (if bytes_eq w (codes "dead") then Some query.Dead
-    else (if bytes_eq w (codes "favournew") then Some query.Favournew
-    else (if bytes_eq w (codes "prio") then Some query.Prio
-    else (if bytes_eq w (codes "name") then Some query.Name
-    else None)))))))))
+query_of w = named query_words w

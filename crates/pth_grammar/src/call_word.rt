@@ -7,289 +7,214 @@ use crate::keyword::{
     AttrWord, CallWord, ConditionWord, DescriptorWord, EventWord, Keyword, LockWord, PortWord,
     RingWord, StoreWord, ThreadWord, TimeWord,
 };
+use crate::named::named;
+
+static THREAD_WORDS: [(&str, ThreadWord); 14] = [
+    ("spawn", ThreadWord::Spawn),
+    ("self", ThreadWord::SelfTid),
+    ("exit", ThreadWord::Exit),
+    ("yield", ThreadWord::Yield),
+    ("join", ThreadWord::Join),
+    ("cancel", ThreadWord::Cancel),
+    ("abort", ThreadWord::Abort),
+    ("cancel_state", ThreadWord::CancelState),
+    ("cancel_point", ThreadWord::CancelPoint),
+    ("suspend", ThreadWord::Suspend),
+    ("resume", ThreadWord::Resume),
+    ("kill", ThreadWord::Kill),
+    ("ctrl", ThreadWord::Ctrl),
+    ("once", ThreadWord::Once),
+];
 
 /// The call on threads that a word names.
 #[tactic(auto, unfolding(crate::specs::Keywords::thread_word))]
 pub fn thread_word(word: &[u8]) -> Option<ThreadWord>
     ensures { result ≡ thread_word word.now }
 {
-    if word == b"spawn".as_slice() {
-        Some(ThreadWord::Spawn)
-    } else if word == b"self".as_slice() {
-        Some(ThreadWord::SelfTid)
-    } else if word == b"exit".as_slice() {
-        Some(ThreadWord::Exit)
-    } else if word == b"yield".as_slice() {
-        Some(ThreadWord::Yield)
-    } else if word == b"join".as_slice() {
-        Some(ThreadWord::Join)
-    } else if word == b"cancel".as_slice() {
-        Some(ThreadWord::Cancel)
-    } else if word == b"abort".as_slice() {
-        Some(ThreadWord::Abort)
-    } else if word == b"cancel_state".as_slice() {
-        Some(ThreadWord::CancelState)
-    } else if word == b"cancel_point".as_slice() {
-        Some(ThreadWord::CancelPoint)
-    } else if word == b"suspend".as_slice() {
-        Some(ThreadWord::Suspend)
-    } else if word == b"resume".as_slice() {
-        Some(ThreadWord::Resume)
-    } else if word == b"kill".as_slice() {
-        Some(ThreadWord::Kill)
-    } else if word == b"ctrl".as_slice() {
-        Some(ThreadWord::Ctrl)
-    } else if word == b"once".as_slice() {
-        Some(ThreadWord::Once)
-    } else {
-        None
-    }
+    named(&THREAD_WORDS, word)
 }
+
+static ATTR_WORDS: [(&str, AttrWord); 6] = [
+    ("attr_new", AttrWord::New),
+    ("attr_of", AttrWord::Of),
+    ("attr_init", AttrWord::Init),
+    ("attr_set", AttrWord::Set),
+    ("attr_get", AttrWord::Get),
+    ("attr_destroy", AttrWord::Destroy),
+];
 
 /// The call on attribute objects that a word names.
 #[tactic(auto, unfolding(crate::specs::Keywords::attr_word))]
 pub fn attr_word(word: &[u8]) -> Option<AttrWord>
     ensures { result ≡ attr_word word.now }
 {
-    if word == b"attr_new".as_slice() {
-        Some(AttrWord::New)
-    } else if word == b"attr_of".as_slice() {
-        Some(AttrWord::Of)
-    } else if word == b"attr_init".as_slice() {
-        Some(AttrWord::Init)
-    } else if word == b"attr_set".as_slice() {
-        Some(AttrWord::Set)
-    } else if word == b"attr_get".as_slice() {
-        Some(AttrWord::Get)
-    } else if word == b"attr_destroy".as_slice() {
-        Some(AttrWord::Destroy)
-    } else {
-        None
-    }
+    named(&ATTR_WORDS, word)
 }
+
+static STORE_WORDS: [(&str, StoreWord); 6] = [
+    ("cleanup_push", StoreWord::CleanupPush),
+    ("cleanup_pop", StoreWord::CleanupPop),
+    ("key_create", StoreWord::KeyCreate),
+    ("key_delete", StoreWord::KeyDelete),
+    ("key_set", StoreWord::KeySet),
+    ("key_get", StoreWord::KeyGet),
+];
 
 /// The call on cleanup handlers or keys that a word names.
 #[tactic(auto, unfolding(crate::specs::Keywords::store_word))]
 pub fn store_word(word: &[u8]) -> Option<StoreWord>
     ensures { result ≡ store_word word.now }
 {
-    if word == b"cleanup_push".as_slice() {
-        Some(StoreWord::CleanupPush)
-    } else if word == b"cleanup_pop".as_slice() {
-        Some(StoreWord::CleanupPop)
-    } else if word == b"key_create".as_slice() {
-        Some(StoreWord::KeyCreate)
-    } else if word == b"key_delete".as_slice() {
-        Some(StoreWord::KeyDelete)
-    } else if word == b"key_set".as_slice() {
-        Some(StoreWord::KeySet)
-    } else if word == b"key_get".as_slice() {
-        Some(StoreWord::KeyGet)
-    } else {
-        None
-    }
+    named(&STORE_WORDS, word)
 }
+
+static EVENT_WORDS: [(&str, EventWord); 7] = [
+    ("ev_fd", EventWord::Fd),
+    ("ev_select", EventWord::Select),
+    ("ev_time", EventWord::Time),
+    ("ev_msg", EventWord::Msg),
+    ("ev_cond", EventWord::Cond),
+    ("ev_tid", EventWord::Tid),
+    ("ev_func", EventWord::Func),
+];
 
 /// The kind of event that a word makes.
 #[tactic(auto, unfolding(crate::specs::Keywords::event_word))]
 pub fn event_word(word: &[u8]) -> Option<EventWord>
     ensures { result ≡ event_word word.now }
 {
-    if word == b"ev_fd".as_slice() {
-        Some(EventWord::Fd)
-    } else if word == b"ev_select".as_slice() {
-        Some(EventWord::Select)
-    } else if word == b"ev_time".as_slice() {
-        Some(EventWord::Time)
-    } else if word == b"ev_msg".as_slice() {
-        Some(EventWord::Msg)
-    } else if word == b"ev_cond".as_slice() {
-        Some(EventWord::Cond)
-    } else if word == b"ev_tid".as_slice() {
-        Some(EventWord::Tid)
-    } else if word == b"ev_func".as_slice() {
-        Some(EventWord::Func)
-    } else {
-        None
-    }
+    named(&EVENT_WORDS, word)
 }
+
+static RING_WORDS: [(&str, RingWord); 7] = [
+    ("ev_concat", RingWord::Concat),
+    ("ev_isolate", RingWord::Isolate),
+    ("ev_walk", RingWord::Walk),
+    ("ev_status", RingWord::Status),
+    ("ev_kind", RingWord::Kind),
+    ("ev_free", RingWord::Free),
+    ("wait", RingWord::Wait),
+];
 
 /// The call on event rings that a word names.
 #[tactic(auto, unfolding(crate::specs::Keywords::ring_word))]
 pub fn ring_word(word: &[u8]) -> Option<RingWord>
     ensures { result ≡ ring_word word.now }
 {
-    if word == b"ev_concat".as_slice() {
-        Some(RingWord::Concat)
-    } else if word == b"ev_isolate".as_slice() {
-        Some(RingWord::Isolate)
-    } else if word == b"ev_walk".as_slice() {
-        Some(RingWord::Walk)
-    } else if word == b"ev_status".as_slice() {
-        Some(RingWord::Status)
-    } else if word == b"ev_kind".as_slice() {
-        Some(RingWord::Kind)
-    } else if word == b"ev_free".as_slice() {
-        Some(RingWord::Free)
-    } else if word == b"wait".as_slice() {
-        Some(RingWord::Wait)
-    } else {
-        None
-    }
+    named(&RING_WORDS, word)
 }
+
+static TIME_WORDS: [(&str, TimeWord); 4] = [
+    ("timeout", TimeWord::Timeout),
+    ("nap", TimeWord::Nap),
+    ("usleep", TimeWord::Usleep),
+    ("sleep", TimeWord::Sleep),
+];
 
 /// The call on time that a word names.
 #[tactic(auto, unfolding(crate::specs::Keywords::time_word))]
 pub fn time_word(word: &[u8]) -> Option<TimeWord>
     ensures { result ≡ time_word word.now }
 {
-    if word == b"timeout".as_slice() {
-        Some(TimeWord::Timeout)
-    } else if word == b"nap".as_slice() {
-        Some(TimeWord::Nap)
-    } else if word == b"usleep".as_slice() {
-        Some(TimeWord::Usleep)
-    } else if word == b"sleep".as_slice() {
-        Some(TimeWord::Sleep)
-    } else {
-        None
-    }
+    named(&TIME_WORDS, word)
 }
+
+static LOCK_WORDS: [(&str, LockWord); 6] = [
+    ("mutex_init", LockWord::MutexInit),
+    ("mutex_acquire", LockWord::MutexAcquire),
+    ("mutex_release", LockWord::MutexRelease),
+    ("rw_init", LockWord::RwInit),
+    ("rw_acquire", LockWord::RwAcquire),
+    ("rw_release", LockWord::RwRelease),
+];
 
 /// The call on mutexes or read-write locks that a word names.
 #[tactic(auto, unfolding(crate::specs::Keywords::lock_word))]
 pub fn lock_word(word: &[u8]) -> Option<LockWord>
     ensures { result ≡ lock_word word.now }
 {
-    if word == b"mutex_init".as_slice() {
-        Some(LockWord::MutexInit)
-    } else if word == b"mutex_acquire".as_slice() {
-        Some(LockWord::MutexAcquire)
-    } else if word == b"mutex_release".as_slice() {
-        Some(LockWord::MutexRelease)
-    } else if word == b"rw_init".as_slice() {
-        Some(LockWord::RwInit)
-    } else if word == b"rw_acquire".as_slice() {
-        Some(LockWord::RwAcquire)
-    } else if word == b"rw_release".as_slice() {
-        Some(LockWord::RwRelease)
-    } else {
-        None
-    }
+    named(&LOCK_WORDS, word)
 }
+
+static CONDITION_WORDS: [(&str, ConditionWord); 5] = [
+    ("cond_init", ConditionWord::CondInit),
+    ("cond_await", ConditionWord::CondAwait),
+    ("cond_notify", ConditionWord::CondNotify),
+    ("barrier_init", ConditionWord::BarrierInit),
+    ("barrier_reach", ConditionWord::BarrierReach),
+];
 
 /// The call on conditions or barriers that a word names.
 #[tactic(auto, unfolding(crate::specs::Keywords::condition_word))]
 pub fn condition_word(word: &[u8]) -> Option<ConditionWord>
     ensures { result ≡ condition_word word.now }
 {
-    if word == b"cond_init".as_slice() {
-        Some(ConditionWord::CondInit)
-    } else if word == b"cond_await".as_slice() {
-        Some(ConditionWord::CondAwait)
-    } else if word == b"cond_notify".as_slice() {
-        Some(ConditionWord::CondNotify)
-    } else if word == b"barrier_init".as_slice() {
-        Some(ConditionWord::BarrierInit)
-    } else if word == b"barrier_reach".as_slice() {
-        Some(ConditionWord::BarrierReach)
-    } else {
-        None
-    }
+    named(&CONDITION_WORDS, word)
 }
+
+static PORT_WORDS: [(&str, PortWord); 7] = [
+    ("port_create", PortWord::Create),
+    ("port_find", PortWord::Find),
+    ("port_pending", PortWord::Pending),
+    ("port_put", PortWord::Put),
+    ("port_get", PortWord::Get),
+    ("reply", PortWord::Reply),
+    ("port_destroy", PortWord::Destroy),
+];
 
 /// The call on message ports that a word names.
 #[tactic(auto, unfolding(crate::specs::Keywords::port_word))]
 pub fn port_word(word: &[u8]) -> Option<PortWord>
     ensures { result ≡ port_word word.now }
 {
-    if word == b"port_create".as_slice() {
-        Some(PortWord::Create)
-    } else if word == b"port_find".as_slice() {
-        Some(PortWord::Find)
-    } else if word == b"port_pending".as_slice() {
-        Some(PortWord::Pending)
-    } else if word == b"port_put".as_slice() {
-        Some(PortWord::Put)
-    } else if word == b"port_get".as_slice() {
-        Some(PortWord::Get)
-    } else if word == b"reply".as_slice() {
-        Some(PortWord::Reply)
-    } else if word == b"port_destroy".as_slice() {
-        Some(PortWord::Destroy)
-    } else {
-        None
-    }
+    named(&PORT_WORDS, word)
 }
+
+static DESCRIPTOR_WORDS: [(&str, DescriptorWord); 12] = [
+    ("read", DescriptorWord::Read),
+    ("read_ev", DescriptorWord::ReadEv),
+    ("write", DescriptorWord::Write),
+    ("write_ev", DescriptorWord::WriteEv),
+    ("accept", DescriptorWord::Accept),
+    ("accept_ev", DescriptorWord::AcceptEv),
+    ("connect", DescriptorWord::Connect),
+    ("connect_ev", DescriptorWord::ConnectEv),
+    ("select", DescriptorWord::Select),
+    ("select_ev", DescriptorWord::SelectEv),
+    ("fdmode", DescriptorWord::Fdmode),
+    ("close", DescriptorWord::Close),
+];
 
 /// The call on descriptors that a word names.
 #[tactic(auto, unfolding(crate::specs::Keywords::descriptor_word))]
 pub fn descriptor_word(word: &[u8]) -> Option<DescriptorWord>
     ensures { result ≡ descriptor_word word.now }
 {
-    if word == b"read".as_slice() {
-        Some(DescriptorWord::Read)
-    } else if word == b"read_ev".as_slice() {
-        Some(DescriptorWord::ReadEv)
-    } else if word == b"write".as_slice() {
-        Some(DescriptorWord::Write)
-    } else if word == b"write_ev".as_slice() {
-        Some(DescriptorWord::WriteEv)
-    } else if word == b"accept".as_slice() {
-        Some(DescriptorWord::Accept)
-    } else if word == b"accept_ev".as_slice() {
-        Some(DescriptorWord::AcceptEv)
-    } else if word == b"connect".as_slice() {
-        Some(DescriptorWord::Connect)
-    } else if word == b"connect_ev".as_slice() {
-        Some(DescriptorWord::ConnectEv)
-    } else if word == b"select".as_slice() {
-        Some(DescriptorWord::Select)
-    } else if word == b"select_ev".as_slice() {
-        Some(DescriptorWord::SelectEv)
-    } else if word == b"fdmode".as_slice() {
-        Some(DescriptorWord::Fdmode)
-    } else if word == b"close".as_slice() {
-        Some(DescriptorWord::Close)
-    } else {
-        None
-    }
+    named(&DESCRIPTOR_WORDS, word)
 }
+
+static PLAIN_WORDS: [(&str, Keyword); 13] = [
+    ("handler", Keyword::Handler),
+    ("check", Keyword::Check),
+    ("thread", Keyword::Thread),
+    ("end", Keyword::End),
+    ("note", Keyword::Note),
+    ("set", Keyword::Set),
+    ("add", Keyword::Add),
+    ("label", Keyword::Label),
+    ("goto", Keyword::Goto),
+    ("release", Keyword::Release),
+    ("notify", Keyword::Notify),
+    ("put", Keyword::Put),
+    ("setkey", Keyword::SetKey),
+];
 
 /// The word of a line that makes no call.
 #[tactic(auto, unfolding(crate::specs::Keywords::plain_word))]
 pub fn plain_word(word: &[u8]) -> Option<Keyword>
     ensures { result ≡ plain_word word.now }
 {
-    if word == b"handler".as_slice() {
-        Some(Keyword::Handler)
-    } else if word == b"check".as_slice() {
-        Some(Keyword::Check)
-    } else if word == b"thread".as_slice() {
-        Some(Keyword::Thread)
-    } else if word == b"end".as_slice() {
-        Some(Keyword::End)
-    } else if word == b"note".as_slice() {
-        Some(Keyword::Note)
-    } else if word == b"set".as_slice() {
-        Some(Keyword::Set)
-    } else if word == b"add".as_slice() {
-        Some(Keyword::Add)
-    } else if word == b"label".as_slice() {
-        Some(Keyword::Label)
-    } else if word == b"goto".as_slice() {
-        Some(Keyword::Goto)
-    } else if word == b"release".as_slice() {
-        Some(Keyword::Release)
-    } else if word == b"notify".as_slice() {
-        Some(Keyword::Notify)
-    } else if word == b"put".as_slice() {
-        Some(Keyword::Put)
-    } else if word == b"setkey".as_slice() {
-        Some(Keyword::SetKey)
-    } else {
-        None
-    }
+    named(&PLAIN_WORDS, word)
 }
 
 /// The call that a word names.

@@ -13,6 +13,7 @@ mod forms;
 pub mod keyword;
 pub mod lines;
 mod lock_line;
+mod named;
 mod port_line;
 mod ring_line;
 pub mod rule;
