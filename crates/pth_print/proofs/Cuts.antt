@@ -1,32 +1,12 @@
 -- Beginnings of texts that are joined.
-use Rattle.std.proofs.Common.{◌≡◌, ◌∙◌, ℕ, ◌<◌, ◌+◌, List, [], ◌∷◌, ◌++◌, refl, sym, ap, subst, append_assoc, append-nil, take, drop, length, get_or, codes, flat_map, Result, Err}
+use Rattle.std.proofs.Common.{◌≡◌, ◌∙◌, ℕ, ◌<◌, ◌+◌, List, ◌∷◌, ◌++◌, sym, ap, subst, append_assoc, take, drop, length, get_or, codes, flat_map, Result, Err}
 use Rattle.std.proofs.lemmas.Result.{on_ok_weaker, on_err_weaker}
 use Rattle.std.proofs.lemmas.Grind.{flat_map-append}
 use Rattle.std.proofs.lemmas.List.{take-append-drop, drop_more}
-use Rattle.pth_print.specs.Adding.{IsCut, Adds}
+use Rattle.pth_base.specs.Cut.{IsCut}
+use Rattle.pth_base.proofs.Cuts.{cut_first, cut_then}
+use Rattle.pth_print.specs.Adding.{Adds}
 use Rattle.pth_print.specs.Words.{spaced, joined}
-
--- nothing was added
-pub cut_none : (old new text : List ℕ) → new ≡ old → IsCut old new text
-cut_none old new text e = record { first = []; rest = text; new_is = e ∙ sym (append-nil old); text_is = refl }
-
--- all of a first text was added, and a beginning of a second one
-pub cut_then : (old mid new one two : List ℕ) → mid ≡ old ++ one → IsCut mid new two → IsCut old new (one ++ two)
-cut_then old mid new one two e c = record {
-  first = one ++ c.first;
-  rest = c.rest;
-  new_is = c.new_is ∙ ap (λ m. m ++ c.first) e ∙ append_assoc old one c.first;
-  text_is = append_assoc one c.first c.rest ∙ ap (λ m. one ++ m) c.text_is;
-}
-
--- a beginning of a first text was added, and nothing of a second one
-pub cut_first : (old new one two : List ℕ) → IsCut old new one → IsCut old new (one ++ two)
-cut_first old new one two c = record {
-  first = c.first;
-  rest = c.rest ++ two;
-  new_is = c.new_is;
-  text_is = sym (append_assoc c.first c.rest two) ∙ ap (λ m. m ++ two) c.text_is;
-}
 
 -- texts up to one, this one, and those after it
 flat_map_at : {A : Type 0} (f : A → List ℕ) (xs : List A) (i : ℕ) (d : A) → i < length xs → flat_map f (take i xs) ++ (f (get_or xs i d) ++ flat_map f (drop (i + 1) xs)) ≡ flat_map f xs

@@ -1,12 +1,6 @@
 -- What a call that adds to a text leaves.
 use Rattle.std.specs.Prelude.{◌≡◌, ℕ, List, ◌++◌, Result, OnOk, OnErr}
-
--- a beginning of a text was added, and no more
-pub record IsCut (old new text : List ℕ) : Type 0 where
-  pub first : List ℕ
-  pub rest : List ℕ
-  pub new_is : new ≡ old ++ first
-  pub text_is : first ++ rest ≡ text
+use Rattle.pth_base.specs.Cut.{IsCut}
 
 -- the text was added, or an error came and a beginning of it was added
 pub record Adds {T E : Type 0} (old new : List ℕ) (result : Result T E) (text : List ℕ) : Type 0 where

@@ -3,8 +3,7 @@ use Rattle.std.specs.Prelude.{List, [], ℕ, ◌∷◌, codes}
 use Rattle.pth_base.specs.declared.call.Call.{Call}
 use Rattle.pth_base.specs.declared.call.Call.TheVariants.{AttrNew, AttrOf, AttrInit, AttrSet, AttrGet, AttrDestroy}
 use Rattle.pth_print.specs.Word.{number}
-use Rattle.pth_print.specs.Attrs.{attr_set_words}
-use Rattle.pth_print.specs.Attrs.{field_word}
+use Rattle.pth_print.specs.Attrs.{attr_set_words, field_word}
 use Rattle.pth_print.specs.StoreCalls.{store_call_words}
 
 -- a call on attribute objects, or one of the families after

@@ -2,8 +2,7 @@
 use Rattle.std.specs.Prelude.{List, [], ℕ, ◌∷◌, codes}
 use Rattle.pth_base.specs.declared.call.Call.{Call}
 use Rattle.pth_base.specs.declared.call.Call.TheVariants.{Read, ReadEv, Write, WriteEv, Accept, AcceptEv, Connect, ConnectEv, Select, SelectEv, Fdmode, Close}
-use Rattle.pth_print.specs.Word.{number}
-use Rattle.pth_print.specs.Word.{hex_word}
+use Rattle.pth_print.specs.Word.{number, hex_word}
 use Rattle.pth_print.specs.Sets.{set_word}
 
 -- a call on descriptors

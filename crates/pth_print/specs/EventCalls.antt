@@ -4,10 +4,7 @@ use Rattle.pth_base.specs.declared.call.Call.{Call}
 use Rattle.pth_base.specs.declared.call.Call.TheVariants.{EvFd, EvSelect, EvTime, EvMsg, EvCond, EvTid, EvFunc, Chain, EvConcat, EvIsolate, EvWalk, EvStatus, EvKind, EvFree}
 use Rattle.pth_print.specs.Word.{number}
 use Rattle.pth_print.specs.Sets.{set_word}
-use Rattle.pth_print.specs.EventLines.{goals_word}
-use Rattle.pth_print.specs.EventLines.{state_word}
-use Rattle.pth_print.specs.EventLines.{walk_word}
-use Rattle.pth_print.specs.EventLines.{chain_words}
+use Rattle.pth_print.specs.EventLines.{goals_word, state_word, walk_word, chain_words}
 use Rattle.pth_print.specs.WaitCalls.{wait_call_words}
 
 -- a call on events, or one of the families after

@@ -59,11 +59,21 @@ end_words outcome.Running steps live = codes "step" ∷ codes "limit" ∷ decima
 end_words (outcome.Ended value) steps live = codes "ended" ∷ number value ∷ []
 end_words outcome.Killed steps live = codes "killed" ∷ []
 end_words outcome.Stalled steps live = codes "stalled" ∷ map thread live
+-- no run has this outcome
 end_words outcome.OutOfMemory steps live = []
 
 -- the line of an outcome
 abbrev pub end_line : Outcome → ℕ → List ℕ → List ℕ
 end_line outcome steps live = joined (end_words outcome steps live) ++ codes "\n"
+
+-- how many threads were made, turns begun and steps made, and the moment at the end
+abbrev pub summary_words : ℕ → ℕ → ℕ → ℕ → List (List ℕ)
+summary_words threads turns steps time =
+    codes "summary" ∷ codes "threads" ∷ decimal threads ∷ codes "turns" ∷ decimal turns ∷ codes "steps" ∷ decimal steps ∷ codes "time" ∷ decimal time ∷ []
+
+-- the line that sums up a run
+abbrev pub summary_line : ℕ → ℕ → ℕ → ℕ → List ℕ
+summary_line threads turns steps time = joined (summary_words threads turns steps time) ++ codes "\n"
 
 -- the rules of a script's text in their order, of which a limit is the first
 abbrev pub rule_names : List (List ℕ)

@@ -2,7 +2,8 @@
 
 ghost use Rattle.std.specs.Prelude.{◌≡◌, ◌≢◌, ◌++◌, OnOk, OnErr, codes, flat_map, map};
 ghost use Rattle.pth_base.specs.declared.outcome.Outcome.TheVariants as outcome;
-ghost use Rattle.pth_print.specs.Adding.{Adds, IsCut};
+ghost use Rattle.pth_base.specs.Cut.{IsCut};
+ghost use Rattle.pth_print.specs.Adding.{Adds};
 ghost use Rattle.pth_print.specs.Lines.{end_words, end_line};
 ghost use Rattle.pth_print.specs.Word.{thread};
 ghost use Rattle.pth_print.specs.Words.{joined};

@@ -1,7 +1,8 @@
 //! What goes wrong in a call of the program.
 
 ghost use Rattle.std.specs.Prelude.{◌≡◌, ◌<◌, ◌++◌, OnOk, OnErr};
-ghost use Rattle.pth_print.specs.Adding.{Adds, IsCut};
+ghost use Rattle.pth_base.specs.Cut.{IsCut};
+ghost use Rattle.pth_print.specs.Adding.{Adds};
 ghost use Rattle.pth_print.specs.declared.fault_line.Fault.TheVariants as fault;
 ghost use Rattle.pth_print.specs.Lines.{IsNamed, fault_line, fault_status, rule_name};
 

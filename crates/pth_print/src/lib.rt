@@ -17,6 +17,7 @@ mod port_call;
 mod query;
 mod set;
 mod store_call;
+pub mod summary_line;
 #[cfg(test)]
 mod tests;
 mod thread_call;

@@ -1,7 +1,8 @@
 //! Marks as lines.
 
 ghost use Rattle.std.specs.Prelude.{◌≡◌, [], ◌∷◌, ◌++◌, OnOk, OnErr, codes};
-ghost use Rattle.pth_print.specs.Adding.{Adds, IsCut};
+ghost use Rattle.pth_base.specs.Cut.{IsCut};
+ghost use Rattle.pth_print.specs.Adding.{Adds};
 ghost use Rattle.pth_print.specs.Words.{spaced, joined};
 ghost use Rattle.pth_print.specs.Word.{thread};
 ghost use Rattle.pth_print.specs.Calls.{call_words};

@@ -14,6 +14,7 @@ use pth_text::text::Text;
 pub enum Word<'a> {
     /// A word as it is.
     Plain(&'a [u8]),
+    /// A number behind a reference, as calls are matched.
     Number(&'a i64),
     Natural(u64),
     Thread(Tid),

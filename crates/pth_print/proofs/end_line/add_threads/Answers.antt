@@ -1,6 +1,6 @@
 use Rattle.std.proofs.Common.{subst, append-nil}
 use Rattle.std.proofs.lemmas.Result.{err_from_is_err_and}
-use Rattle.pth_print.specs.Adding.{IsCut}
+use Rattle.pth_base.specs.Cut.{IsCut}
 use Rattle.pth_print.proofs.Cuts.{cut_at}
 use Rattle.pth_print.proofs.Threads.{spaced_thread}
 use Rattle.pth_print.proofs.end_line.add_threads.Goals as goal

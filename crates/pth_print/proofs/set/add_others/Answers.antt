@@ -1,6 +1,7 @@
 use Rattle.std.proofs.Common.{ℕ, List, ◌++◌, codes, decimal}
 use Rattle.std.proofs.lemmas.Result.{err_from_is_err_and}
-use Rattle.pth_print.proofs.Cuts.{cut_none, cut_then, cut_at}
+use Rattle.pth_base.proofs.Cuts.{cut_none, cut_then}
+use Rattle.pth_print.proofs.Cuts.{cut_at}
 use Rattle.pth_print.proofs.set.add_others.Goals as goal
 
 -- a member after a comma
