@@ -1,0 +1,3 @@
+pub mod Getters
+pub mod Parsed
+pub mod Ranges

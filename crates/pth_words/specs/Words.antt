@@ -1,0 +1,60 @@
+-- What the words of the command line ask for, by clap's definition of which words a command takes and what they say.
+use Rattle.std.specs.Prelude.{◌≡◌, ℕ, Bool, false, List, [], ◌∷◌, Option, Some, None, codes, option_map, option_and_then, unwrap_or, if◌then◌else◌, Result, Ok, Err}
+use Rattle.std.specs.Option.{option_map_or}
+use Rattle.std.specs.Str.{bytes_eq}
+use Rattle.std.specs.Str.Parse.{digits_value, true_text, without_leading_plus}
+use Rattle.clap.specs.ValueTests.{accepts}
+use Rattle.clap.specs.Words.{Kinds, Row, Text, fault_of, first_of, matches_of, one_of}
+use Rattle.clap.specs.declared.builder.value_parser.ValueParser.TheVariants as parser
+use Rattle.pth_words.specs.Command.{play}
+use Rattle.pth_words.specs.declared.choice.Choice.{Choice}
+use Rattle.pth_words.specs.declared.words.WordsErr.{WordsErr}
+use Rattle.pth_words.specs.declared.words.WordsErr.TheVariants as words
+
+-- what is asked for
+pub record Asked : Type 0 where
+  -- how many steps a run makes at most
+  pub steps : ℕ
+  -- whether a line of counts stands in place of the transcript
+  pub summary : Bool
+  -- the name that stands for the script
+  pub file : Option Text
+
+-- the number that a text is in decimal digits, below 2^64
+abbrev pub number_of : Text → Option ℕ
+number_of text = if accepts false (parser.Unsigned 0 18446744073709551615) text then Some (digits_value 10 (without_leading_plus text)) else None
+
+-- the number that stands under a name
+abbrev pub number_at : Text → List Row → Option ℕ
+number_at name rows = option_and_then number_of (one_of name rows)
+
+-- whether the flag with a name is set
+abbrev pub is_set : Text → List Row → Bool
+is_set name rows = option_map_or (λ text. bytes_eq text true_text) (one_of name rows) false
+
+-- what the rows of a parse say; the command has a default for the steps, so a number is always there
+abbrev pub asked_in : List Row → Asked
+asked_in rows = record {
+  steps = unwrap_or (number_at (codes "steps") rows) 1000000;
+  summary = is_set (codes "summary") rows;
+  file = first_of (codes "FILE") rows;
+}
+
+-- nothing where a step of the parse fails
+abbrev pub unless_refused : Kinds → Asked → Option Asked
+unless_refused [] asked = Some asked
+unless_refused (fault ∷ faults) asked = None
+
+-- what the words ask for; nothing where they are refused
+unfoldable pub asked_by : List Text → Option Asked
+asked_by words = unless_refused (fault_of play words) (asked_in (matches_of play words))
+
+-- a choice as what is asked for
+abbrev pub asked_of : Choice → Asked
+asked_of c = record { steps = c.steps; summary = c.summary; file = option_map (λ name. name.now) c.file }
+
+-- the choice is what was asked for, and `Refused` comes exactly where the words are refused, but for want of memory
+abbrev pub Answers : Option Asked → Result Choice WordsErr → Type 0
+Answers asked (Ok choice) = asked ≡ Some (asked_of choice)
+Answers asked (Err words.Refused) = asked ≡ None
+Answers asked (Err words.OutOfMemory) = Unit {0}

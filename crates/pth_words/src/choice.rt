@@ -1,0 +1,30 @@
+//! The choice that the words make.
+
+ghost use Rattle.std.specs.Prelude.{◌≡◌};
+ghost use Rattle.clap.specs.Words.{found_of, rows_of};
+ghost use Rattle.pth_words.specs.Words.{asked_in, asked_of};
+
+use clap::ArgMatches;
+
+/// What the words of the command line ask for.
+#[derive(Clone, Copy, Debug, PartialEq, Eq)]
+pub struct Choice<'a> {
+    /// How many steps the run makes at most (`--steps`): 1 to 1,000,000,000, and 1,000,000 where nothing is said.
+    pub steps: u64,
+    /// Whether a line of counts stands in place of the transcript (`--summary`).
+    pub summary: bool,
+    /// The name that stands for the script (FILE), as it was given.
+    pub file: Option<&'a str>,
+}
+
+/// The choice that a parse found.
+pub fn found<'a>(matches: &ArgMatches<'a>) -> Choice<'a>
+    ensures { asked_of result ≡ asked_in (rows_of (found_of matches.now)) }
+{
+    // The command has this number of steps as a default, so one is always found.
+    Choice {
+        steps: matches.get_one::<u64>("steps").unwrap_or(1_000_000),
+        summary: matches.get_one::<bool>("summary").unwrap_or(false),
+        file: matches.get_str("FILE"),
+    }
+}

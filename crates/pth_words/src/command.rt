@@ -1,0 +1,54 @@
+//! The command and its options.
+
+ghost use Rattle.std.specs.Prelude.{◌≡◌, IfOk, false};
+ghost use Rattle.clap.specs.Words.{app_of, rule_of};
+ghost use Rattle.pth_words.specs.Command.{bare, file, play, steps, summary};
+
+use clap::{Arg, ArgAction, Command, value_parser};
+use std::alloc::{AllocError, Global};
+
+fn steps<'a>(alloc: Global) -> Arg<'a>
+    ensures rule { rule_of result ≡ steps }
+    ensures local { result.global ≡ false }
+{
+    Arg::new(alloc, "steps")
+        .long("steps")
+        .value_parser(value_parser!(u64).range(1..=1_000_000_000))
+        .default_value("1000000")
+}
+
+fn summary<'a>(alloc: Global) -> Arg<'a>
+    ensures rule { rule_of result ≡ summary }
+    ensures local { result.global ≡ false }
+{
+    Arg::new(alloc, "summary")
+        .long("summary")
+        .action(ArgAction::SetTrue)
+}
+
+fn file<'a>(alloc: Global) -> Arg<'a>
+    ensures rule { rule_of result ≡ file }
+    ensures local { result.global ≡ false }
+{
+    Arg::new(alloc, "FILE")
+}
+
+// The command before it has options.
+fn bare<'a>(alloc: Global) -> Command<'a>
+    ensures { app_of result ≡ bare }
+{
+    Command::new(alloc, "pth_play")
+        .no_binary_name(true)
+        .disable_help_flag(true)
+}
+
+/// `pth_play [--steps N] [--summary] [FILE]`, with no flags for help and version. It is handed the words after the
+/// program's name.
+pub fn command<'a>(alloc: Global) -> Result<Command<'a>, AllocError>
+    ensures { IfOk result (λ c. app_of c ≡ play) }
+{
+    bare(alloc)
+        .arg(steps(alloc))?
+        .arg(summary(alloc))?
+        .arg(file(alloc))
+}
