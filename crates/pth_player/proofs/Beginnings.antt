@@ -1,5 +1,5 @@
 -- The lines of a run so far are a beginning of the text of its output.
-use Rattle.std.proofs.Common.{◌≡◌, ◌∙◌, ◌+◌, ◌-◌, ◌≤◌, ℕ, suc, zero, List, [], ◌++◌, false, ap, sym, subst, append_assoc, arith}
+use Rattle.std.proofs.Common.{◌≡◌, ◌∙◌, ◌+◌, ◌-◌, ◌≤◌, ℕ, suc, zero, Bool, true, false, List, [], ◌++◌, if◌then◌else◌, refl, ap, sym, subst, append_assoc, arith}
 use Rattle.std.proofs.lemmas.Grind.{flat_map-append}
 use Rattle.pth_base.specs.Program.{Functions}
 use Rattle.pth_base.specs.declared.mark.Mark.{Mark}
@@ -8,11 +8,27 @@ use Rattle.pth_model.specs.Part.{part}
 use Rattle.pth_model.specs.Run.{run, IsBetween}
 use Rattle.pth_model.proofs.Runs.{between-more, between-none}
 use Rattle.pth_print.specs.Lines.{mark_line}
-use Rattle.pth_player.specs.Output.{told_output}
-use Rattle.pth_player.specs.Transcript.{lines_of}
+use Rattle.pth_model.specs.Told.{Told}
+use Rattle.pth_words.specs.Words.{Asked}
+use Rattle.pth_player.specs.Transcript.{counts_line, ending_of, last_line, lines_of, shown_of, text_of}
 
-pub lines_more : (xs ys : List Mark) → lines_of (xs ++ ys) ≡ lines_of xs ++ lines_of ys
+lines_more : (xs ys : List Mark) → lines_of (xs ++ ys) ≡ lines_of xs ++ lines_of ys
 lines_more xs ys = flat_map-append (mark_line false) xs ys
+
+pub shown_more : (asked : Asked) (xs ys : List Mark) → shown_of asked (xs ++ ys) ≡ shown_of asked xs ++ shown_of asked ys
+shown_more asked xs ys = go asked.summary
+  where
+    go : (b : Bool) → (if b then [] else lines_of (xs ++ ys)) ≡ (if b then [] else lines_of xs) ++ (if b then [] else lines_of ys)
+    go true = refl
+    go false = lines_more xs ys
+
+in_parts : (b : Bool) (counts lines last : List ℕ) → (if b then counts else lines) ++ last ≡ (if b then [] else lines) ++ ((if b then counts else []) ++ last)
+in_parts true counts lines last = refl
+in_parts false counts lines last = refl
+
+-- the text is what is written of all marks, and what is written after them
+pub text_parts : {P S H : Type 0} (asked : Asked) (told : Told P S H) → text_of asked told ≡ shown_of asked told.marks ++ ending_of asked told.state
+text_parts asked told = in_parts asked.summary (counts_line told.state) (lines_of told.marks) (last_line asked.steps told.state)
 
 module _ {P S H : Type 0} (f : P → Functions S H) (g : Given P) where
   -- so many parts later
@@ -26,12 +42,15 @@ module _ {P S H : Type 0} (f : P → Functions S H) (g : Given P) where
   told_to : (i j : ℕ) → i ≤ j → (told : List Mark) × IsBetween f g i j told
   told_to i j le = let e : i + (j - i) ≡ j = omega arith in let t = told_from i (j - i) in (t.0, subst (λ (n : ℕ). IsBetween f g i n t.0) e t.1)
 
-  begins_by : (xs told all : List Mark) (after : List ℕ) → all ≡ xs ++ told → (rest : List ℕ) × (lines_of xs ++ rest ≡ lines_of all ++ after)
-  begins_by xs told all after e = (
-    lines_of told ++ after,
-    sym (ap (λ (l : List Mark). lines_of l ++ after) e ∙ ap (λ (l : List ℕ). l ++ after) (lines_more xs told) ∙ append_assoc (lines_of xs) (lines_of told) after),
+  begins_by : (asked : Asked) (xs told all : List Mark) (after : List ℕ) → all ≡ xs ++ told → (rest : List ℕ) × (shown_of asked xs ++ rest ≡ shown_of asked all ++ after)
+  begins_by asked xs told all after e = (
+    shown_of asked told ++ after,
+    sym (ap (λ (l : List Mark). shown_of asked l ++ after) e ∙ ap (λ (l : List ℕ). l ++ after) (shown_more asked xs told) ∙ append_assoc (shown_of asked xs) (shown_of asked told) after),
   )
 
-  -- the text of what is told at a later part begins with the lines so far
-  pub run_begins : (steps at j : ℕ) → at ≤ j → (rest : List ℕ) × (lines_of (run f g at).marks ++ rest ≡ (told_output steps (run f g j)).text)
-  run_begins steps at j le = let told = told_to at j le in begins_by (run f g at).marks told.0 (run f g j).marks _ told.1
+  -- the text of what is told at a later part begins with what is written so far
+  pub run_begins : (asked : Asked) (at j : ℕ) → at ≤ j → (rest : List ℕ) × (shown_of asked (run f g at).marks ++ rest ≡ text_of asked (run f g j))
+  run_begins asked at j le =
+      let told = told_to at j le in
+      let b = begins_by asked (run f g at).marks told.0 (run f g j).marks (ending_of asked (run f g j).state) told.1 in
+      (b.0, b.1 ∙ sym (text_parts asked (run f g j)))

@@ -1,5 +1,5 @@
 -- The clauses of the top call, from what was done and how the call ends.
-use Rattle.std.proofs.Common.{◌≡◌, ◌≢◌, ◌∙◌, ◌⊎◌, ◌<◌, ℕ, List, [], ◌∷◌, Option, Result, Ok, Err, IfSome, ap, sym, refl, subst, arith, inl, inr}
+use Rattle.std.proofs.Common.{◌≡◌, ◌≢◌, ◌∙◌, ◌⊎◌, ◌<◌, ℕ, List, [], Option, Some, None, Result, Ok, Err, IfSome, ap, sym, refl, subst, arith, inl, inr}
 use Rattle.std.specs.Io.KnownBytes.{Appends}
 use Rattle.pth_base.specs.Faults.{Rose}
 use Rattle.pth_base.specs.declared.outcome.Outcome.{Outcome}
@@ -7,14 +7,20 @@ use Rattle.pth_base.specs.declared.outcome.Outcome.TheVariants as outcomes
 use Rattle.pth_base.specs.declared.sink.SinkErr.{SinkErr}
 use Rattle.pth_base.specs.declared.sink.SinkErr.TheVariants as sink
 use Rattle.pth_model.specs.Run.{run}
-use Rattle.pth_print.specs.Lines.{fault_line, fault_status}
+use Rattle.pth_print.specs.Lines.{IsNamed, fault_line, fault_status}
 use Rattle.pth_print.specs.declared.fault_line.Fault.{Fault}
 use Rattle.pth_print.specs.declared.fault_line.Fault.TheVariants as fault
 use Rattle.pth_line.specs.Script.{Sections, functions_of}
+use Rattle.pth_grammar.specs.declared.rule.Rule.{Rule}
+use Rattle.pth_grammar.specs.declared.rule.Rule.TheVariants as rule
 use Rattle.pth_script.proofs.Once.{not_both}
-use Rattle.pth_player.specs.Faults.{input_fault}
-use Rattle.pth_player.specs.Output.{Output, IsRefused, IsTheOutput, IsTheScript, cut, given_script, outcome_status, refusal, step_limit, told_output}
-use Rattle.pth_player.specs.Play.{AreHeld, Completes, DrivesScript, Ends, HasLine, HoldsNoScript, IsFaultStatus, IsOutputStatus, IsRunStatus, ObjectRose, Ran, RefusesInput, Reports, Scene, TellsFault, WritesLine, WritesOutput, WritesWhole, content, object_of}
+use Rattle.pth_script.specs.declared.breach.Breach.{Breach}
+use Rattle.pth_script.specs.declared.breach.Breach.TheVariants.{Limit, Of}
+use Rattle.pth_words.specs.Words.{Asked}
+use Rattle.pth_player.specs.Faults.{input_fault, place_of}
+use Rattle.pth_player.specs.Objects.{AreHeld, ObjectRead, ObjectRose, OthersKept, Scene, content, cut, object_of}
+use Rattle.pth_player.specs.Output.{Output, IsRefused, IsTheOutput, IsTheScript, given_script, outcome_status, refusal, told_output}
+use Rattle.pth_player.specs.Play.{Completes, DrivesScript, Ends, Faults, HasLine, HoldsNoScript, IsErrNamed, IsFaultStatus, IsOutputStatus, IsRunStatus, IsUnwritten, Plays, Ran, RanFor, ReadsWhole, RefusesInput, RefusesWords, Reports, TellsFault, WritesLine, WritesOutput, WritesWhole}
 use Rattle.pth_player.specs.Streams.{AppendsPart, AppendsPrefix}
 use Rattle.pth_player.proofs.Outputs.{refused_output, script_output, words_output}
 use Rattle.pth_player.proofs.Pieces.{all_of, none_after, part_is_prefix}
@@ -56,158 +62,303 @@ outcome_or_seven outcomes.OutOfMemory status e = inr e
 not_whole : (status : ℕ) → (status ≡ 4) ⊎ ((status ≡ 5) ⊎ (status ≡ 7)) → IsOutputStatus status → ⊥
 not_whole status is h = grind arith
 
-module _ (words : List (List ℕ)) (old new : Scene) (status : ℕ) (w x : Option (List ℕ)) (b n : ℕ) where
+module _ (old new : Scene) (status : ℕ) (w x : Option (List ℕ)) (b n : ℕ) where
   abbrev Nothing : Type 0
   Nothing = (status ≡ 2) ⊎ ((status ≡ 3) ⊎ (status ≡ 4))
+
+  not_nothing : Nothing → status ≢ 7
+  not_nothing h e = grind arith
 
   other : (f : Fault) → Reports f status w x b n → (k : ℕ) → k ≢ fault_status f → k ≢ 7 → status ≡ k → ⊥
   other f = not_status f status w x b n
 
-  abbrev WholeOf : List (List ℕ) → Type 0
-  WholeOf ws = WritesWhole ws old new status w x b n
-
-  whole_words : (ws : List (List ℕ)) → ws ≢ [] → status ≡ 2 → Appends old.written new.written [] → WritesLine w x b n (fault_line fault.Words) → WholeOf ws
-  whole_words [] some is app line = absurd (some refl)
-  whole_words (y ∷ ys) some is app line = ([], refl, refusal fault.Words, words_output y ys [], is, app, line)
-
-  -- the output of a script that stops at this part
-  abbrev run_told : Sections → ℕ → Output
-  run_told script parts = told_output step_limit (run functions_of (given_script script) parts)
-
-  -- the output of a refused input
-  whole_refused : (line rule : ℕ) → Ran words old new (Err (fault.Input line rule)) → (status ≡ fault_status (fault.Input line rule)) × WritesLine w x b n (fault_line (fault.Input line rule)) → WholeOf words
-  whole_refused line rule ran k =
-      let h = ran.2 in
-      let same : fault.Input line rule ≡ input_fault line h.2.0 = ap (λ p. fault.Input line p) h.2.2 in
-      (h.0, h.1, refusal (input_fault line h.2.0), refused_output words h.0 line h.2.0 ran.0 h.2.1, k.0, ran.3, subst (λ f. WritesLine w x b n (fault_line f)) same k.1)
-
-  whole : (r : Result Outcome Fault) → Ran words old new r → Ends r status w x b n → IsOutputStatus status → WholeOf words
-  whole (Ok o) ran ends h =
-      let d = ran.2 in
-      let out = run_told d.2 d.4.0 in
-      (d.0, d.1, out, script_output words d.0 d.2 out ran.0 d.3 (d.4.0, d.4.1, refl), ends.0 ∙ ap outcome_status d.4.2, d.4.3, ends.1)
-  whole (Err fault.Words) ran ends h = elim ends [ inl k ↦ whole_words words ran.0 k.0 ran.2 k.1 | inr k ↦ absurd (not_whole status (inr (inr k.0)) h) ]
-  whole (Err (fault.Input line rule)) ran ends h = elim ends [
-    | inl k ↦ whole_refused line rule ran k
-    | inr k ↦ absurd (not_whole status (inr (inr k.0)) h)
-  ]
-  whole (Err fault.ReadFault) ran ends h = elim ends [ inl k ↦ absurd (not_whole status (inl k.0) h) | inr k ↦ absurd (not_whole status (inr (inr k.0)) h) ]
-  whole (Err fault.WriteFault) ran ends h = elim ends [ inl k ↦ absurd (not_whole status (inr (inl k.0)) h) | inr k ↦ absurd (not_whole status (inr (inr k.0)) h) ]
-  whole (Err fault.OutOfMemory) ran ends h = elim ends [ inl k ↦ absurd (not_whole status (inr (inr k.0)) h) | inr k ↦ absurd (not_whole status (inr (inr k.0)) h) ]
-
-  abbrev Part : Type 0
-  Part = (bytes : List ℕ) × AreHeld (content words old) bytes × (out : Output) × IsTheOutput words bytes out × AppendsPart old.written new.written out.text
-
-  part : (r : Result Outcome Fault) → Ran words old new r → Ends r status w x b n → status ≡ 5 → Part
-  part (Ok o) ran ends e = absurd (not_outcome o status 5 ends.0 (omega arith) (omega arith) e)
-  part (Err fault.Words) ran ends e = absurd (other fault.Words ends 5 (λ h. omega arith) (λ h. omega arith) e)
-  part (Err (fault.Input line rule)) ran ends e = absurd (other (fault.Input line rule) ends 5 (λ h. omega arith) (λ h. omega arith) e)
-  part (Err fault.ReadFault) ran ends e = absurd (other fault.ReadFault ends 5 (λ h. omega arith) (λ h. omega arith) e)
-  part (Err fault.WriteFault) ran ends e = let d = ran.2 in (d.0, d.1, d.4.0, script_output words d.0 d.2 d.4.0 ran.0 d.3 d.4.1, d.4.2)
-  part (Err fault.OutOfMemory) ran ends e = absurd (other fault.OutOfMemory ends 5 (λ h. omega arith) (λ h. omega arith) e)
-
-  abbrev Beginning : Type 0
-  Beginning = (bytes : List ℕ) × AreHeld (content words old) bytes × (out : Output) × IsTheOutput words bytes out × AppendsPrefix old.written new.written out.text
-
-  beginning : (r : Result Outcome Fault) → Ran words old new r → Ends r status w x b n → status ≡ 7 → Appends old.written new.written [] ⊎ Beginning
-  beginning (Ok o) ran ends e =
-      let d = ran.2 in
-      let out = run_told d.2 d.4.0 in
-      inr (d.0, d.1, out, script_output words d.0 d.2 out ran.0 d.3 (d.4.0, d.4.1, refl), all_of old.written new.written out.text d.4.3)
-  beginning (Err fault.Words) ran ends e = inl ran.2
-  beginning (Err (fault.Input line rule)) ran ends e = inl ran.3
-  beginning (Err fault.ReadFault) ran ends e = inl ran.2
-  beginning (Err fault.WriteFault) ran ends e =
-      let d = ran.2 in
-      inr (d.0, d.1, d.4.0, script_output words d.0 d.2 d.4.0 ran.0 d.3 d.4.1, part_is_prefix old.written new.written d.4.0.text d.4.2)
-  beginning (Err fault.OutOfMemory) ran ends e = elim ran.1 [ inl none ↦ inl none | inr d ↦ inr (d.0, d.1, d.4.0, script_output words d.0 d.2 d.4.0 ran.0 d.3 d.4.1, d.4.2) ]
-
-  nothing : (r : Result Outcome Fault) → Ran words old new r → Ends r status w x b n → Nothing → Appends old.written new.written []
-  nothing (Ok o) ran ends h = absurd (not_fault o status ends.0 (elim h [ inl two ↦ inl two | inr k ↦ elim k [ inl three ↦ inr (inl three) | inr four ↦ inr (inr (inl four)) ] ]))
-  nothing (Err fault.Words) ran ends h = ran.2
-  nothing (Err (fault.Input line rule)) ran ends h = ran.3
-  nothing (Err fault.ReadFault) ran ends h = ran.2
-  nothing (Err fault.WriteFault) ran ends h = grind arith
-  nothing (Err fault.OutOfMemory) ran ends h = grind arith
-
-  pub writes_output : (r : Result Outcome Fault) → Ran words old new r → Ends r status w x b n → WritesOutput words old new status w x b n
-  writes_output r ran ends = record { whole = whole r ran ends; part = part r ran ends; beginning = beginning r ran ends; nothing = nothing r ran ends }
-
-  completes_by : (r : Result Outcome Fault) → Ran words old new r → Ends r status w x b n → (ObjectRose (object_of words) old.ins new.ins → ⊥) → (Rose old.out_faults new.out_faults → ⊥)
-      → IsOutputStatus status ⊎ (status ≡ 7)
-  completes_by (Ok o) ran ends read write = outcome_or_seven o status ends.0
-  completes_by (Err fault.Words) ran ends read write = elim ends [ inl k ↦ inl (inr (inl k.0)) | inr k ↦ inr k.0 ]
-  completes_by (Err (fault.Input line rule)) ran ends read write = elim ends [ inl k ↦ inl (inr (inr k.0)) | inr k ↦ inr k.0 ]
-  completes_by (Err fault.ReadFault) ran ends read write = absurd (read ran.1)
-  completes_by (Err fault.WriteFault) ran ends read write = let d = ran.2 in absurd (write d.4.3)
-  completes_by (Err fault.OutOfMemory) ran ends read write = elim ends [ inl k ↦ inr k.0 | inr k ↦ inr k.0 ]
-
-  pub completes : (r : Result Outcome Fault) → Ran words old new r → Ends r status w x b n → Completes words old new status w x b n
-  completes r ran ends read write = elim (completes_by r ran ends read write) [ inl out ↦ inl (whole r ran ends out) | inr seven ↦ inr seven ]
-
-  -- ---- the input that is refused
-
-  not_refused : (bytes : List ℕ) (o : Option (List ℕ)) (script : Sections) → AreHeld o bytes → IsTheScript script (cut bytes)
-      → IfSome o (λ xs. IsRefused (cut xs) → ⊥)
-  not_refused bytes o script held stands = told (λ xs. bytes ≡ xs) (λ xs. IsRefused (cut xs) → ⊥) o (λ xs e refused. not_both (cut xs) refused.0 refused.1 (subst (λ ys. IsTheScript script (cut ys)) e stands).0 refused.2) held
-
   abbrev Refusal : Type 0
   Refusal = (status ≡ 3) ⊎ ((status ≡ 4) ⊎ (status ≡ 7))
 
-  refused_with : Refusal → IfSome (content words old) (λ bytes. IsRefused (cut bytes) → Refusal)
-  refused_with h = always (λ bytes. IsRefused (cut bytes) → Refusal) (content words old) (λ bytes refused. h)
+  abbrev PartOf : Option Asked → Type 0
+  PartOf asked = (bytes : List ℕ) × AreHeld (content asked old) bytes × (out : Output) × IsTheOutput asked bytes out × AppendsPart old.written new.written out.text
 
-  accepted_with : (r : Result Outcome SinkErr) → DrivesScript words old new r → IfSome (content words old) (λ bytes. IsRefused (cut bytes) → Refusal)
-  accepted_with r d = told (λ xs. IsRefused (cut xs) → ⊥) (λ xs. IsRefused (cut xs) → Refusal) (content words old) (λ xs no refused. absurd (no refused))
-      (not_refused d.0 (content words old) d.2 d.1 d.3)
+  abbrev BeginningOf : Option Asked → Type 0
+  BeginningOf asked = (bytes : List ℕ) × AreHeld (content asked old) bytes × (out : Output) × IsTheOutput asked bytes out × AppendsPrefix old.written new.written out.text
 
-  refuses : (r : Result Outcome Fault) → Ran words old new r → Ends r status w x b n → words ≡ [] → IfSome (content words old) (λ bytes. IsRefused (cut bytes) → Refusal)
-  refuses (Ok o) ran ends none = accepted_with (Ok o) ran.2
-  refuses (Err fault.Words) ran ends none = absurd (ran.0 none)
-  refuses (Err (fault.Input line rule)) ran ends none = refused_with (elim ends [ inl k ↦ inl k.0 | inr k ↦ inr (inr k.0) ])
-  refuses (Err fault.ReadFault) ran ends none = refused_with (elim ends [ inl k ↦ inr (inl k.0) | inr k ↦ inr (inr k.0) ])
-  refuses (Err fault.WriteFault) ran ends none = accepted_with (Err sink.Failed) ran.2
-  refuses (Err fault.OutOfMemory) ran ends none = refused_with (elim ends [ inl k ↦ inr (inr k.0) | inr k ↦ inr (inr k.0) ])
+  module _ (asked : Asked) where
+    abbrev Whole : Type 0
+    Whole = WritesWhole (Some asked) old new status w x b n
 
-  refused_only : (r : Result Outcome Fault) → Ran words old new r → Ends r status w x b n → status ≡ 3 → (words ≡ []) × HoldsNoScript words old
-  refused_only (Ok o) ran ends e = absurd (not_outcome o status 3 ends.0 (omega arith) (omega arith) e)
-  refused_only (Err fault.Words) ran ends e = absurd (other fault.Words ends 3 (λ h. omega arith) (λ h. omega arith) e)
-  refused_only (Err (fault.Input line rule)) ran ends e = (ran.0, (ran.2.0, ran.2.1, (line, ran.2.2.0, ran.2.2.1)))
-  refused_only (Err fault.ReadFault) ran ends e = absurd (other fault.ReadFault ends 3 (λ h. omega arith) (λ h. omega arith) e)
-  refused_only (Err fault.WriteFault) ran ends e = absurd (other fault.WriteFault ends 3 (λ h. omega arith) (λ h. omega arith) e)
-  refused_only (Err fault.OutOfMemory) ran ends e = absurd (other fault.OutOfMemory ends 3 (λ h. omega arith) (λ h. omega arith) e)
+    -- the output of a script that stops at this part
+    abbrev run_told : Sections → ℕ → Output
+    run_told script parts = told_output asked (run functions_of (given_script script) parts)
 
-  pub refuses_input : (r : Result Outcome Fault) → Ran words old new r → Ends r status w x b n → RefusesInput words old status
-  refuses_input r ran ends = record { only = refused_only r ran ends; always = refuses r ran ends }
+    -- the output of a refused input
+    whole_refused : (line rule : ℕ) → RanFor asked old new (Err (fault.Input line rule)) → (status ≡ fault_status (fault.Input line rule)) × WritesLine w x b n (fault_line (fault.Input line rule)) → Whole
+    whole_refused line rule ran k =
+        let h = ran.1 in
+        let same : fault.Input line rule ≡ input_fault line h.2.0 = ap (λ p. fault.Input line p) h.2.2 in
+        (h.0, h.1, refusal (input_fault line h.2.0), refused_output asked h.0 line h.2.0 h.2.1, k.0, ran.2.0, subst (λ f. WritesLine w x b n (fault_line f)) same k.1)
+
+    whole_for : (r : Result Outcome Fault) → RanFor asked old new r → Ends r status w x b n → IsOutputStatus status → Whole
+    whole_for (Ok o) ran ends h =
+        let d = ran.1 in
+        let out = run_told d.2 d.4.0 in
+        (d.0, d.1, out, script_output asked d.0 d.2 out d.3 (d.4.0, d.4.1, refl), ends.0 ∙ ap outcome_status d.4.2, d.4.3, ends.1.0)
+    whole_for (Err fault.Words) ran ends h = absurd ran
+    whole_for (Err (fault.Input line rule)) ran ends h = elim ends [
+      | inl k ↦ whole_refused line rule ran k
+      | inr k ↦ absurd (not_whole status (inr (inr k.0)) h)
+    ]
+    whole_for (Err fault.ReadFault) ran ends h = elim ends [ inl k ↦ absurd (not_whole status (inl k.0) h) | inr k ↦ absurd (not_whole status (inr (inr k.0)) h) ]
+    whole_for (Err fault.WriteFault) ran ends h = elim ends [ inl k ↦ absurd (not_whole status (inr (inl k.0)) h) | inr k ↦ absurd (not_whole status (inr (inr k.0)) h) ]
+    whole_for (Err fault.OutOfMemory) ran ends h = elim ends [ inl k ↦ absurd (not_whole status (inr (inr k.0)) h) | inr k ↦ absurd (not_whole status (inr (inr k.0)) h) ]
+
+    part_for : (r : Result Outcome Fault) → RanFor asked old new r → Ends r status w x b n → status ≡ 5 → PartOf (Some asked)
+    part_for (Ok o) ran ends e = absurd (not_outcome o status 5 ends.0 (omega arith) (omega arith) e)
+    part_for (Err fault.Words) ran ends e = absurd ran
+    part_for (Err (fault.Input line rule)) ran ends e = absurd (other (fault.Input line rule) ends 5 (λ h. omega arith) (λ h. omega arith) e)
+    part_for (Err fault.ReadFault) ran ends e = absurd (other fault.ReadFault ends 5 (λ h. omega arith) (λ h. omega arith) e)
+    part_for (Err fault.WriteFault) ran ends e = let d = ran.1 in (d.0, d.1, d.4.0, script_output asked d.0 d.2 d.4.0 d.3 d.4.1, d.4.2)
+    part_for (Err fault.OutOfMemory) ran ends e = absurd (other fault.OutOfMemory ends 5 (λ h. omega arith) (λ h. omega arith) e)
+
+    beginning_for : (r : Result Outcome Fault) → RanFor asked old new r → Ends r status w x b n → status ≡ 7 → Appends old.written new.written [] ⊎ BeginningOf (Some asked)
+    beginning_for (Ok o) ran ends e =
+        let d = ran.1 in
+        let out = run_told d.2 d.4.0 in
+        inr (d.0, d.1, out, script_output asked d.0 d.2 out d.3 (d.4.0, d.4.1, refl), all_of old.written new.written out.text d.4.3)
+    beginning_for (Err fault.Words) ran ends e = absurd ran
+    beginning_for (Err (fault.Input line rule)) ran ends e = inl ran.2.0
+    beginning_for (Err fault.ReadFault) ran ends e = inl ran.1.0
+    beginning_for (Err fault.WriteFault) ran ends e =
+        let d = ran.1 in
+        inr (d.0, d.1, d.4.0, script_output asked d.0 d.2 d.4.0 d.3 d.4.1, part_is_prefix old.written new.written d.4.0.text d.4.2)
+    beginning_for (Err fault.OutOfMemory) ran ends e = elim ran [ inl none ↦ inl none | inr d ↦ inr (d.0, d.1, d.4.0, script_output asked d.0 d.2 d.4.0 d.3 d.4.1, d.4.2) ]
+
+    nothing_for : (r : Result Outcome Fault) → RanFor asked old new r → Ends r status w x b n → Nothing → IsUnwritten old new
+    nothing_for (Ok o) ran ends h = absurd (not_fault o status ends.0 (elim h [ inl two ↦ inl two | inr k ↦ elim k [ inl three ↦ inr (inl three) | inr four ↦ inr (inr (inl four)) ] ]))
+    nothing_for (Err fault.Words) ran ends h = absurd ran
+    nothing_for (Err (fault.Input line rule)) ran ends h = ran.2
+    nothing_for (Err fault.ReadFault) ran ends h = ran.1
+    nothing_for (Err fault.WriteFault) ran ends h = grind arith
+    nothing_for (Err fault.OutOfMemory) ran ends h = grind arith
+
+    completes_for : (r : Result Outcome Fault) → RanFor asked old new r → Ends r status w x b n → (ObjectRose (object_of (Some asked)) old.ins new.ins → ⊥)
+        → (Rose old.out_faults new.out_faults → ⊥) → IsOutputStatus status ⊎ (status ≡ 7)
+    completes_for (Ok o) ran ends read write = outcome_or_seven o status ends.0
+    completes_for (Err fault.Words) ran ends read write = absurd ran
+    completes_for (Err (fault.Input line rule)) ran ends read write = elim ends [ inl k ↦ inl (inr (inr k.0)) | inr k ↦ inr k.0 ]
+    completes_for (Err fault.ReadFault) ran ends read write = absurd (read ran.0)
+    completes_for (Err fault.WriteFault) ran ends read write = let d = ran.1 in absurd (write d.4.3)
+    completes_for (Err fault.OutOfMemory) ran ends read write = elim ends [ inl k ↦ inr k.0 | inr k ↦ inr k.0 ]
+
+    -- ---- the input that is refused
+
+    abbrev Told : Option (List ℕ)
+    Told = content (Some asked) old
+
+    not_refused : (bytes : List ℕ) (script : Sections) → AreHeld Told bytes → IsTheScript script (cut bytes) → IfSome Told (λ xs. IsRefused (cut xs) → ⊥)
+    not_refused bytes script held stands = told (λ xs. bytes ≡ xs) (λ xs. IsRefused (cut xs) → ⊥) Told
+        (λ xs e refused. not_both (cut xs) refused.0 refused.1 (subst (λ ys. IsTheScript script (cut ys)) e stands).0 refused.2) held
+
+    refused_with : Refusal → IfSome Told (λ bytes. IsRefused (cut bytes) → Refusal)
+    refused_with h = always (λ bytes. IsRefused (cut bytes) → Refusal) Told (λ bytes refused. h)
+
+    accepted_with : (r : Result Outcome SinkErr) → DrivesScript asked old new r → IfSome Told (λ bytes. IsRefused (cut bytes) → Refusal)
+    accepted_with r d = told (λ xs. IsRefused (cut xs) → ⊥) (λ xs. IsRefused (cut xs) → Refusal) Told (λ xs no refused. absurd (no refused)) (not_refused d.0 d.2 d.1 d.3)
+
+    refuses_for : (r : Result Outcome Fault) → RanFor asked old new r → Ends r status w x b n → IfSome Told (λ bytes. IsRefused (cut bytes) → Refusal)
+    refuses_for (Ok o) ran ends = accepted_with (Ok o) ran.1
+    refuses_for (Err fault.Words) ran ends = absurd ran
+    refuses_for (Err (fault.Input line rule)) ran ends = refused_with (elim ends [ inl k ↦ inl k.0 | inr k ↦ inr (inr k.0) ])
+    refuses_for (Err fault.ReadFault) ran ends = refused_with (elim ends [ inl k ↦ inr (inl k.0) | inr k ↦ inr (inr k.0) ])
+    refuses_for (Err fault.WriteFault) ran ends = accepted_with (Err sink.Failed) ran.1
+    refuses_for (Err fault.OutOfMemory) ran ends = refused_with (elim ends [ inl k ↦ inr (inr k.0) | inr k ↦ inr (inr k.0) ])
+
+    holds_none : (r : Result Outcome Fault) → RanFor asked old new r → Ends r status w x b n → status ≡ 3 → HoldsNoScript (Some asked) old
+    holds_none (Ok o) ran ends e = absurd (not_outcome o status 3 ends.0 (omega arith) (omega arith) e)
+    holds_none (Err fault.Words) ran ends e = absurd ran
+    holds_none (Err (fault.Input line rule)) ran ends e = (ran.1.0, ran.1.1, (line, ran.1.2.0, ran.1.2.1))
+    holds_none (Err fault.ReadFault) ran ends e = absurd (other fault.ReadFault ends 3 (λ h. omega arith) (λ h. omega arith) e)
+    holds_none (Err fault.WriteFault) ran ends e = absurd (other fault.WriteFault ends 3 (λ h. omega arith) (λ h. omega arith) e)
+    holds_none (Err fault.OutOfMemory) ran ends e = absurd (other fault.OutOfMemory ends 3 (λ h. omega arith) (λ h. omega arith) e)
+
+    -- ---- the object that is read
+
+    read_for : (r : Result Outcome Fault) → RanFor asked old new r → Ends r status w x b n → status ≢ 4 → status ≢ 7 → ObjectRead (object_of (Some asked)) old.ins new.ins
+    read_for (Ok o) ran ends not4 not7 = ran.0
+    read_for (Err fault.Words) ran ends not4 not7 = absurd ran
+    read_for (Err (fault.Input line rule)) ran ends not4 not7 = ran.0
+    read_for (Err fault.ReadFault) ran ends not4 not7 = elim ends [ inl k ↦ absurd (not4 k.0) | inr k ↦ absurd (not7 k.0) ]
+    read_for (Err fault.WriteFault) ran ends not4 not7 = ran.0
+    read_for (Err fault.OutOfMemory) ran ends not4 not7 = elim ends [ inl k ↦ absurd (not7 k.0) | inr k ↦ absurd (not7 k.0) ]
+
+    fails_for : (r : Result Outcome Fault) → RanFor asked old new r → Ends r status w x b n → status ≡ 4 → ObjectRose (object_of (Some asked)) old.ins new.ins
+    fails_for (Ok o) ran ends e = absurd (not_outcome o status 4 ends.0 (omega arith) (omega arith) e)
+    fails_for (Err fault.Words) ran ends e = absurd ran
+    fails_for (Err (fault.Input line rule)) ran ends e = absurd (other (fault.Input line rule) ends 4 (λ h. omega arith) (λ h. omega arith) e)
+    fails_for (Err fault.ReadFault) ran ends e = ran.0
+    fails_for (Err fault.WriteFault) ran ends e = absurd (other fault.WriteFault ends 4 (λ h. omega arith) (λ h. omega arith) e)
+    fails_for (Err fault.OutOfMemory) ran ends e = absurd (other fault.OutOfMemory ends 4 (λ h. omega arith) (λ h. omega arith) e)
+
+    write_fails_for : (r : Result Outcome Fault) → RanFor asked old new r → Ends r status w x b n → status ≡ 5 → Rose old.out_faults new.out_faults
+    write_fails_for (Ok o) ran ends e = absurd (not_outcome o status 5 ends.0 (omega arith) (omega arith) e)
+    write_fails_for (Err fault.Words) ran ends e = absurd ran
+    write_fails_for (Err (fault.Input line rule)) ran ends e = absurd (other (fault.Input line rule) ends 5 (λ h. omega arith) (λ h. omega arith) e)
+    write_fails_for (Err fault.ReadFault) ran ends e = absurd (other fault.ReadFault ends 5 (λ h. omega arith) (λ h. omega arith) e)
+    write_fails_for (Err fault.WriteFault) ran ends e = ran.1.4.3
+    write_fails_for (Err fault.OutOfMemory) ran ends e = absurd (other fault.OutOfMemory ends 5 (λ h. omega arith) (λ h. omega arith) e)
+
+    two_for : (r : Result Outcome Fault) → RanFor asked old new r → Ends r status w x b n → status ≡ 2 → ⊥
+    two_for (Ok o) ran ends e = not_outcome o status 2 ends.0 (omega arith) (omega arith) e
+    two_for (Err fault.Words) ran ends e = ran
+    two_for (Err (fault.Input line rule)) ran ends e = other (fault.Input line rule) ends 2 (λ h. omega arith) (λ h. omega arith) e
+    two_for (Err fault.ReadFault) ran ends e = other fault.ReadFault ends 2 (λ h. omega arith) (λ h. omega arith) e
+    two_for (Err fault.WriteFault) ran ends e = other fault.WriteFault ends 2 (λ h. omega arith) (λ h. omega arith) e
+    two_for (Err fault.OutOfMemory) ran ends e = other fault.OutOfMemory ends 2 (λ h. omega arith) (λ h. omega arith) e
+
+  -- ---- words that are refused: their fault, or want of memory, with nothing written
+
+  refused_or_memory : (r : Result Outcome Fault) → Ran None old new r → Ends r status w x b n
+      → ((r ≡ Err fault.Words) × (status ≡ 2) × WritesLine w x b n (fault_line fault.Words)) ⊎ (status ≡ 7)
+  refused_or_memory (Ok o) ran ends = absurd ran
+  refused_or_memory (Err fault.Words) ran ends = elim ends [ inl k ↦ inl (refl, k.0, k.1) | inr k ↦ inr k.0 ]
+  refused_or_memory (Err (fault.Input line rule)) ran ends = absurd ran
+  refused_or_memory (Err fault.ReadFault) ran ends = absurd ran
+  refused_or_memory (Err fault.WriteFault) ran ends = absurd ran
+  refused_or_memory (Err fault.OutOfMemory) ran ends = elim ends [ inl k ↦ inr k.0 | inr k ↦ inr k.0 ]
+
+  none_written : (r : Result Outcome Fault) → Ran None old new r → Appends old.written new.written []
+  none_written (Ok o) ran = absurd ran
+  none_written (Err fault.Words) ran = ran.0
+  none_written (Err (fault.Input line rule)) ran = absurd ran
+  none_written (Err fault.ReadFault) ran = absurd ran
+  none_written (Err fault.WriteFault) ran = absurd ran
+  none_written (Err fault.OutOfMemory) ran = ran
+
+  none_unwritten : (r : Result Outcome Fault) → Ran None old new r → Ends r status w x b n → status ≢ 7 → IsUnwritten old new
+  none_unwritten (Ok o) ran ends not7 = absurd ran
+  none_unwritten (Err fault.Words) ran ends not7 = ran
+  none_unwritten (Err (fault.Input line rule)) ran ends not7 = absurd ran
+  none_unwritten (Err fault.ReadFault) ran ends not7 = absurd ran
+  none_unwritten (Err fault.WriteFault) ran ends not7 = absurd ran
+  none_unwritten (Err fault.OutOfMemory) ran ends not7 = elim ends [ inl k ↦ absurd (not7 k.0) | inr k ↦ absurd (not7 k.0) ]
+
+  not_refused_words : (r : Result Outcome Fault) → Ran None old new r → Ends r status w x b n → status ≢ 2 → status ≢ 7 → ⊥
+  not_refused_words r ran ends not2 not7 = elim (refused_or_memory r ran ends) [ inl k ↦ not2 k.1 | inr k ↦ not7 k ]
+
+  -- ---- the clauses
+
+  writes_output : (asked : Option Asked) (r : Result Outcome Fault) → Ran asked old new r → Ends r status w x b n → WritesOutput asked old new status w x b n
+  writes_output (Some asked) r ran ends = record {
+    whole = whole_for asked r ran ends;
+    part = part_for asked r ran ends;
+    beginning = beginning_for asked r ran ends;
+    nothing = nothing_for asked r ran ends;
+  }
+  writes_output None r ran ends = record {
+    whole = λ h. elim (refused_or_memory r ran ends) [
+      | inl k ↦ ([], refl, refusal fault.Words, words_output [], k.1, none_written r ran, k.2)
+      | inr k ↦ absurd (not_whole status (inr (inr k)) h)
+    ];
+    part = λ e. absurd (not_refused_words r ran ends (λ two. omega arith) (λ seven. omega arith));
+    beginning = λ e. inl (none_written r ran);
+    nothing = λ h. none_unwritten r ran ends (not_nothing h);
+  }
+
+  completes : (asked : Option Asked) (r : Result Outcome Fault) → Ran asked old new r → Ends r status w x b n → Completes asked old new status w x b n
+  completes (Some asked) r ran ends read write = elim (completes_for asked r ran ends read write) [ inl out ↦ inl (whole_for asked r ran ends out) | inr seven ↦ inr seven ]
+  completes None r ran ends read write = elim (refused_or_memory r ran ends) [ inl k ↦ inl ((writes_output None r ran ends).whole (inr (inl k.1))) | inr seven ↦ inr seven ]
+
+  reads_whole : (asked : Option Asked) (r : Result Outcome Fault) → Ran asked old new r → Ends r status w x b n → ReadsWhole asked old new status
+  reads_whole (Some asked) r ran ends not4 not7 = read_for asked r ran ends not4 not7
+  reads_whole None r ran ends not4 not7 = tt
+
+  refuses_words : (asked : Option Asked) (r : Result Outcome Fault) → Ran asked old new r → Ends r status w x b n → RefusesWords asked status
+  refuses_words (Some asked) r ran ends = record { only = λ e. absurd (two_for asked r ran ends e); always = λ e. absurd (cc) }
+  refuses_words None r ran ends = record { only = λ e. refl; always = λ e. elim (refused_or_memory r ran ends) [ inl k ↦ inl k.1 | inr seven ↦ inr seven ] }
+
+  some_is : (asked : Asked) → Some asked ≢ None
+  some_is asked e = cc
+
+  refuses_input : (asked : Option Asked) (r : Result Outcome Fault) → Ran asked old new r → Ends r status w x b n → RefusesInput asked old status
+  refuses_input (Some asked) r ran ends = record { only = λ e. (some_is asked, holds_none asked r ran ends e); always = λ some. refuses_for asked r ran ends }
+  refuses_input None r ran ends = record { only = λ e. absurd (not_refused_words r ran ends (λ two. omega arith) (λ seven. omega arith)); always = λ some. absurd (some refl) }
+
+  fails : (asked : Option Asked) (r : Result Outcome Fault) → Ran asked old new r → Ends r status w x b n → Faults asked old new status
+  fails (Some asked) r ran ends = record { read = λ e. (some_is asked, fails_for asked r ran ends e); write = write_fails_for asked r ran ends }
+  fails None r ran ends = record {
+    read = λ e. absurd (not_refused_words r ran ends (λ two. omega arith) (λ seven. omega arith));
+    write = λ e. absurd (not_refused_words r ran ends (λ two. omega arith) (λ seven. omega arith));
+  }
 
 -- ---- what `err` received
 
 module _ (status : ℕ) (w x : Option (List ℕ)) (b n : ℕ) where
-  line_of : (f : Fault) → HasLine (fault_status f) (fault_line f)
-  line_of f = (f, refl, refl)
+  line_of : (f : Fault) → IsNamed f → HasLine (fault_status f) (fault_line f)
+  line_of f named = (f, named, refl, refl)
 
-  quiet : (r : Result Outcome Fault) → Ends r status w x b n → IsRunStatus status → Appends w x []
+  quiet : (r : Result Outcome Fault) → Ends r status w x b n → IsRunStatus status → Appends w x [] × (n ≡ b)
   quiet (Ok o) ends h = ends.1
   quiet (Err f) ends h = absurd (not_run f status w x b n ends h)
 
-  loud : (r : Result Outcome Fault) → Ends r status w x b n → IsFaultStatus status → (line : List ℕ) × HasLine status line × WritesLine w x b n line
-  loud (Ok o) ends h = absurd (not_fault o status ends.0 h)
-  loud (Err f) ends h = elim ends [
-    | inl k ↦ (fault_line f, subst (λ s. HasLine s (fault_line f)) (sym k.0) (line_of f), k.1)
+  loud : (r : Result Outcome Fault) → IsErrNamed r → Ends r status w x b n → IsFaultStatus status → (line : List ℕ) × HasLine status line × WritesLine w x b n line
+  loud (Ok o) named ends h = absurd (not_fault o status ends.0 h)
+  loud (Err f) named ends h = elim ends [
+    | inl k ↦ (fault_line f, subst (λ s. HasLine s (fault_line f)) (sym k.0) (line_of f named), k.1)
     | inr k ↦ absurd (not_seven status h k.0)
   ]
 
-  memory : (r : Result Outcome Fault) → Ends r status w x b n → status ≡ 7 → (s : ℕ) × (line : List ℕ) × HasLine s line × AppendsPrefix w x line
-  memory (Ok o) ends h = (7, fault_line fault.OutOfMemory, line_of fault.OutOfMemory, none_after w x (fault_line fault.OutOfMemory) ends.1)
-  memory (Err f) ends h = (
+  memory : (r : Result Outcome Fault) → IsErrNamed r → Ends r status w x b n → status ≡ 7 → (s : ℕ) × (line : List ℕ) × HasLine s line × AppendsPrefix w x line
+  memory (Ok o) named ends h = (7, fault_line fault.OutOfMemory, line_of fault.OutOfMemory tt, none_after w x (fault_line fault.OutOfMemory) ends.1.0)
+  memory (Err f) named ends h = (
     fault_status f,
     fault_line f,
-    line_of f,
+    line_of f named,
     elim ends [
       | inl k ↦ elim k.1 [ inl p ↦ all_of w x (fault_line f) p | inr p ↦ part_is_prefix w x (fault_line f) p.0 ]
       | inr k ↦ k.1
     ],
   )
 
-  pub tells_fault : (r : Result Outcome Fault) → Ends r status w x b n → TellsFault status w x b n
-  tells_fault r ends = record { quiet = quiet r ends; loud = loud r ends; memory = memory r ends }
+  tells_fault : (r : Result Outcome Fault) → IsErrNamed r → Ends r status w x b n → TellsFault status w x b n
+  tells_fault r named ends = record { quiet = quiet r ends; loud = loud r named ends; memory = memory r named ends }
+
+-- each rule has a place of the table
+place_within : (b : Breach) → place_of b < 13
+place_within Limit = omega arith
+place_within (Of r) = by_rule r
+  where
+    by_rule : (r : Rule) → place_of (Of r) < 13
+    by_rule rule.Cut = omega arith
+    by_rule rule.Header = omega arith
+    by_rule rule.Word = omega arith
+    by_rule rule.Count = omega arith
+    by_rule rule.Operand = omega arith
+    by_rule rule.Hex = omega arith
+    by_rule rule.Number = omega arith
+    by_rule rule.Label = omega arith
+    by_rule rule.Main = omega arith
+    by_rule rule.End = omega arith
+    by_rule rule.Time = omega arith
+    by_rule rule.Fd = omega arith
+
+-- so a fault has a name for its rule
+pub named : (old new : Scene) (asked : Option Asked) (r : Result Outcome Fault) → Ran asked old new r → IsErrNamed r
+named old new asked (Ok o) ran = tt
+named old new asked (Err fault.Words) ran = tt
+named old new None (Err (fault.Input line rule)) ran = absurd ran
+named old new (Some asked) (Err (fault.Input line rule)) ran = subst (λ (k : ℕ). k < 13) (sym ran.1.2.2) (place_within ran.1.2.0)
+named old new asked (Err fault.ReadFault) ran = tt
+named old new asked (Err fault.WriteFault) ran = tt
+named old new asked (Err fault.OutOfMemory) ran = tt
+
+-- what the call did
+pub plays : (old new : Scene) (status : ℕ) (w x : Option (List ℕ)) (b n : ℕ) (asked : Option Asked) (r : Result Outcome Fault) → OthersKept (object_of asked) old.ins new.ins
+    → Ran asked old new r → Ends r status w x b n → Plays asked old new status w x b n
+plays old new status w x b n asked r others ran ends = record {
+  others_kept = others;
+  reads_whole = reads_whole old new status w x b n asked r ran ends;
+  refuses_words = refuses_words old new status w x b n asked r ran ends;
+  refuses_input = refuses_input old new status w x b n asked r ran ends;
+  faults = fails old new status w x b n asked r ran ends;
+  writes_output = writes_output old new status w x b n asked r ran ends;
+  completes = completes old new status w x b n asked r ran ends;
+  fault_line = tells_fault status w x b n r (named old new asked r ran) ends;
+}

@@ -1,5 +1,5 @@
 -- What the output is, and that there is one alone.
-use Rattle.std.proofs.Common.{◌≡◌, ◌∙◌, ℕ, List, [], ◌∷◌, Option, Some, IfSome, ap, sym, refl, subst, inl, inr}
+use Rattle.std.proofs.Common.{◌≡◌, ◌∙◌, ℕ, List, Option, Some, None, IfSome, ap, sym, refl, subst, inl, inr}
 use Rattle.std.specs.Io.KnownBytes.{Appends}
 use Rattle.pth_base.specs.Program.{Functions}
 use Rattle.pth_model.specs.State.{Given}
@@ -11,20 +11,22 @@ use Rattle.pth_script.specs.Broken.{IsRefusal}
 use Rattle.pth_script.specs.declared.breach.Breach.{Breach}
 use Rattle.pth_script.proofs.Once.{not_both, one_script, same_breach, same_line}
 use Rattle.pth_player.specs.Faults.{input_fault}
-use Rattle.pth_player.specs.Output.{Output, IsOutput, IsRunOutput, IsTheOutput, IsTheScript, cut, given_script, refusal, step_limit, told_output}
-use Rattle.pth_player.specs.Play.{IsOutputStatus, Scene, WritesFault, WritesOutput, content}
+use Rattle.pth_player.specs.Output.{Output, IsOutput, IsRunOutput, IsTheOutput, IsTheScript, given_script, refusal, told_output}
+use Rattle.pth_words.specs.Words.{Asked}
+use Rattle.pth_player.specs.Objects.{Scene, content, cut}
+use Rattle.pth_player.specs.Play.{IsOutputStatus, WritesFault, WritesOutput}
 use Rattle.pth_player.specs.Streams.{AppendsPart}
 
-pub run_once : {P S H : Type 0} (f : P → Functions S H) (g : Given P) (steps : ℕ) (one two : Output) → IsRunOutput f g steps one → IsRunOutput f g steps two → one ≡ two
-run_once f g steps one two a b = a.2 ∙ ap (λ (k : ℕ). told_output steps (run f g k)) (goes-once f g steps 0 a.0 b.0 a.1 b.1) ∙ sym b.2
+pub run_once : {P S H : Type 0} (f : P → Functions S H) (g : Given P) (asked : Asked) (one two : Output) → IsRunOutput f g asked one → IsRunOutput f g asked two → one ≡ two
+run_once f g asked one two a b = a.2 ∙ ap (λ (k : ℕ). told_output asked (run f g k)) (goes-once f g asked.steps 0 a.0 b.0 a.1 b.1) ∙ sym b.2
 
--- that of words, which are refused
-pub words_output : (word : List ℕ) (words : List (List ℕ)) (bytes : List ℕ) → IsTheOutput (word ∷ words) bytes (refusal fault.Words)
-words_output word words bytes = (refl, λ other o. o)
+-- that of words that are refused
+pub words_output : (bytes : List ℕ) → IsTheOutput None bytes (refusal fault.Words)
+words_output bytes = (refl, λ other o. o)
 
 -- that of an input that is no script
-pub refused_output : (words : List (List ℕ)) (bytes : List ℕ) (line : ℕ) (b : Breach) → words ≡ [] → IsRefusal (cut bytes) line b → IsTheOutput words bytes (refusal (input_fault line b))
-refused_output words bytes line b none refused = subst (λ (ws : List (List ℕ)). IsTheOutput ws bytes (refusal (input_fault line b))) (sym none) (
+pub refused_output : (asked : Asked) (bytes : List ℕ) (line : ℕ) (b : Breach) → IsRefusal (cut bytes) line b → IsTheOutput (Some asked) bytes (refusal (input_fault line b))
+refused_output asked bytes line b refused = (
   inr (line, b, refused, refl),
   λ other o. elim o [
     | inl i ↦ absurd (not_both (cut bytes) line b i.1.0 refused)
@@ -33,31 +35,31 @@ refused_output words bytes line b none refused = subst (λ (ws : List (List ℕ)
 )
 
 -- that of a script
-pub script_output : (words : List (List ℕ)) (bytes : List ℕ) (script : Sections) (out : Output) → words ≡ [] → IsTheScript script (cut bytes)
-    → IsRunOutput functions_of (given_script script) step_limit out → IsTheOutput words bytes out
-script_output words bytes script out none stands is = subst (λ (ws : List (List ℕ)). IsTheOutput ws bytes out) (sym none) (
+pub script_output : (asked : Asked) (bytes : List ℕ) (script : Sections) (out : Output) → IsTheScript script (cut bytes)
+    → IsRunOutput functions_of (given_script script) asked out → IsTheOutput (Some asked) bytes out
+script_output asked bytes script out stands is = (
   inl (script, stands, is),
   λ other o. elim o [
-    | inl i ↦ run_once functions_of (given_script script) step_limit other out
-        (subst (λ (s : Sections). IsRunOutput functions_of (given_script s) step_limit other) (one_script (cut bytes) i.0 script i.1.1 stands.1) i.2) is
+    | inl i ↦ run_once functions_of (given_script script) asked other out
+        (subst (λ (s : Sections). IsRunOutput functions_of (given_script s) asked other) (one_script (cut bytes) i.0 script i.1.1 stands.1) i.2) is
     | inr k ↦ absurd (not_both (cut bytes) k.0 k.1 stands.0 k.2)
   ],
 )
 
 -- where the content is told, and for every output that it has: this is the status, this text was appended, and this fault's line was written
-pub exactly : (words : List (List ℕ)) (old new : Scene) (status : ℕ) (w x : Option (List ℕ)) (b n : ℕ) (bytes : List ℕ) (out : Output) → WritesOutput words old new status w x b n → content words old ≡ Some bytes
-    → IsOutput words bytes out → IsOutputStatus status → (status ≡ out.status) × Appends old.written new.written out.text × WritesFault w x b n out.fault
-exactly words old new status w x b n bytes out writes held is s =
+pub exactly : (asked : Option Asked) (old new : Scene) (status : ℕ) (w x : Option (List ℕ)) (b n : ℕ) (bytes : List ℕ) (out : Output) → WritesOutput asked old new status w x b n
+    → content asked old ≡ Some bytes → IsOutput asked bytes out → IsOutputStatus status → (status ≡ out.status) × Appends old.written new.written out.text × WritesFault w x b n out.fault
+exactly asked old new status w x b n bytes out writes held is s =
     let h = writes.whole s in
     let same : h.0 ≡ bytes = subst (λ (o : Option (List ℕ)). IfSome o (λ xs. h.0 ≡ xs)) held h.1 in
-    let one : out ≡ h.2 = h.3.1 out (subst (λ (b : List ℕ). IsOutput words b out) (sym same) is) in
+    let one : out ≡ h.2 = h.3.1 out (subst (λ (b : List ℕ). IsOutput asked b out) (sym same) is) in
     (h.4 ∙ ap (λ (o : Output). o.status) (sym one), subst (λ (o : Output). Appends old.written new.written o.text) (sym one) h.5, subst (λ (o : Output). WritesFault w x b n o.fault) (sym one) h.6)
 
 -- and with status 5 a beginning of this text was appended, and not the whole
-pub partly : (words : List (List ℕ)) (old new : Scene) (status : ℕ) (w x : Option (List ℕ)) (b n : ℕ) (bytes : List ℕ) (out : Output) → WritesOutput words old new status w x b n
-    → content words old ≡ Some bytes → IsOutput words bytes out → status ≡ 5 → AppendsPart old.written new.written out.text
-partly words old new status w x b n bytes out writes held is s =
+pub partly : (asked : Option Asked) (old new : Scene) (status : ℕ) (w x : Option (List ℕ)) (b n : ℕ) (bytes : List ℕ) (out : Output) → WritesOutput asked old new status w x b n
+    → content asked old ≡ Some bytes → IsOutput asked bytes out → status ≡ 5 → AppendsPart old.written new.written out.text
+partly asked old new status w x b n bytes out writes held is s =
     let h = writes.part s in
     let same : h.0 ≡ bytes = subst (λ (o : Option (List ℕ)). IfSome o (λ xs. h.0 ≡ xs)) held h.1 in
-    let one : out ≡ h.2 = h.3.1 out (subst (λ (b : List ℕ). IsOutput words b out) (sym same) is) in
+    let one : out ≡ h.2 = h.3.1 out (subst (λ (b : List ℕ). IsOutput asked b out) (sym same) is) in
     subst (λ (o : Output). AppendsPart old.written new.written o.text) (sym one) h.4

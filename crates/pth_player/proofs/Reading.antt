@@ -1,5 +1,7 @@
 -- What reading up to a number of bytes gives, where the bytes are told.
-use Rattle.std.proofs.Common.{◌≡◌, ◌∙◌, ◌≤◌, ℕ, List, [], ◌++◌, length, take, drop, Option, Some, None, Result, Ok, Err, IfSome, IsErrAnd, MatchResult, ap, sym, refl, subst, arith, inl, inr, append-nil}
+use Rattle.std.proofs.Common.{◌≡◌, ◌∙◌, ◌≤◌, ℕ, List, [], ◌++◌, length, take, drop, Bool, true, false, not, codes, if◌then◌else◌, option_map, Option, Some, None, Result, Ok, Err, IfSome, IsErr, IsErrAnd, IsErrOf, Vec, Global, MatchResult, ap, sym, refl, subst, arith, inl, inr, append-nil}
+use Rattle.std.specs.Borrow.{Bor}
+use Rattle.std.specs.Str.{bytes_eq}
 use Rattle.std.proofs.lemmas.List.{take_all}
 use Rattle.std.proofs.Math.ListN.{drop_of_length-le}
 use Rattle.std.proofs.lemmas.Bool.{cases_order}
@@ -9,14 +11,17 @@ use Rattle.pth_print.specs.declared.fault_line.Fault.TheVariants as fault
 use Rattle.pth_line.specs.Script.{Sections}
 use Rattle.pth_script.specs.Follows.{Answers}
 use Rattle.pth_script.specs.declared.breach.Breach.TheVariants.{Limit, Of}
-use Rattle.pth_player.specs.Faults.{fault_of_script}
-use Rattle.pth_player.specs.Output.{IsTheScript, cut, limit}
-use Rattle.pth_script.specs.Broken.{IsRefusal}
-use Rattle.pth_player.specs.Play.{AreHeld, LosesRead, ReadsScript}
+use Rattle.pth_player.specs.Faults.{fault_of_read, fault_of_script}
+use Rattle.pth_player.specs.Objects.{AreHeld, Inputs, LosesRead, Object, ObjectRose, cut, object_named, the_file, the_input}
+use Rattle.pth_player.specs.Output.{IsTheScript}
+use Rattle.pth_script.specs.Broken.{IsRefusal, text_limit}
+use Rattle.pth_player.specs.Play.{ReadsBytes, ReadsScript}
 use Rattle.pth_player.specs.Streams.{TakesUpTo}
+use Rattle.pth_player.specs.declared.streams.ReadFault.{ReadFault}
+use Rattle.pth_player.specs.declared.streams.ReadFault.TheVariants as read
 use Rattle.pth_script.specs.declared.read.ReadErr.{ReadErr}
 use Rattle.pth_script.specs.declared.read.ReadErr.TheVariants as script
-use Rattle.pth_player.proofs.Results.{err_and, told}
+use Rattle.pth_player.proofs.Results.{err_and, err_is, ok_not_err, told}
 
 all_of : (cap : ℕ) (xs ys bytes : List ℕ) → xs ≡ bytes ++ ys → ys ≡ [] → length bytes ≤ cap → (bytes ≡ take cap xs) × (Some ys ≡ Some (drop cap xs))
 all_of cap xs ys bytes e end bound =
@@ -44,27 +49,60 @@ takes_is cap (Some xs) (Some ys) bytes t = elim (cases_order (length bytes) cap)
 ]
 
 -- up to the byte after the limit
-loses : (old new : Option (List ℕ)) (bytes : List ℕ) → TakesUpTo 16777217 old new bytes → LosesRead old new
-unfolding limit
+pub loses : (old new : Option (List ℕ)) (bytes : List ℕ) → TakesUpTo 16777217 old new bytes → LosesRead old new
+unfolding text_limit
 loses old new bytes t = told _ _ old (λ xs p. p.1) (takes_is 16777217 old new bytes t)
 
 -- what was read is the content as far as it is read
-held_is : (old new : Option (List ℕ)) (bytes : List ℕ) → TakesUpTo 16777217 old new bytes → (held : List ℕ) × AreHeld old held × (bytes ≡ cut held)
-unfolding limit
+pub held_is : (old new : Option (List ℕ)) (bytes : List ℕ) → TakesUpTo 16777217 old new bytes → (held : List ℕ) × AreHeld old held × (bytes ≡ cut held)
+unfolding text_limit
 held_is None new bytes t = (bytes, tt, sym (take_all 16777217 bytes t.bound))
 held_is (Some xs) new bytes t = (xs, refl, (takes_is 16777217 (Some xs) new bytes t).0)
 
-module _ (old new : Option (List ℕ)) (before now : ℕ) (bytes seen : List ℕ) (s : Result Sections Fault) where
-  read_by : (r : Result Sections ReadErr) → (held : List ℕ) × AreHeld old held × (bytes ≡ cut held) → LosesRead old new → seen ≡ bytes → Answers seen r
-      → MatchResult r (λ x. s ≡ Ok x) (λ e. IsErrAnd s (λ f. f ≡ fault_of_script e)) → ReadsScript old new before now s
-  read_by (Ok script) h lost same a m = subst (ReadsScript old new before now) (sym m) (lost, (h.0, h.1, subst (IsTheScript script) (same ∙ h.2) a))
-  read_by (Err (script.Refused line r)) h lost same a m = subst (ReadsScript old new before now) (sym (err_and s (fault_of_script (script.Refused line r)) m))
-      (lost, (h.0, h.1, (Of r, subst (λ t. IsRefusal t line (Of r)) (same ∙ h.2) a, refl)))
-  read_by (Err (script.TooLarge line)) h lost same a m = subst (ReadsScript old new before now) (sym (err_and s (fault_of_script (script.TooLarge line)) m))
-      (lost, (h.0, h.1, (Limit, subst (λ t. IsRefusal t line Limit) (same ∙ h.2) a, refl)))
-  read_by (Err script.OutOfMemory) h lost same a m = subst (ReadsScript old new before now) (sym (err_and s fault.OutOfMemory m)) tt
+-- the bytes that were taken of the input, and of a file
+pub input_bytes : (ins later : Inputs) (bytes : List ℕ) → TakesUpTo 16777217 ins.left later.left bytes → ReadsBytes the_input ins later bytes
+input_bytes ins later bytes t = (loses ins.left later.left bytes t, held_is ins.left later.left bytes t)
 
-  -- what is answered of the bytes is answered of the input
-  pub read_is : (r : Result Sections ReadErr) → TakesUpTo 16777217 old new bytes → seen ≡ bytes → Answers seen r
-      → MatchResult r (λ x. s ≡ Ok x) (λ e. IsErrAnd s (λ f. f ≡ fault_of_script e)) → ReadsScript old new before now s
-  read_is r t = read_by r (held_is old new bytes t) (loses old new bytes t)
+pub file_bytes : (ins later : Inputs) (name bytes : List ℕ) → TakesUpTo 16777217 (ins.held name) later.file_left bytes → ReadsBytes (the_file name) ins later bytes
+file_bytes ins later name bytes t = (loses (ins.held name) later.file_left bytes t, held_is (ins.held name) later.file_left bytes t)
+
+not_is : (b : Bool) → true ≡ not b → b ≡ false
+not_is true h = cc
+not_is false h = refl
+
+is_not : (b : Bool) → false ≡ not b → b ≡ true
+is_not true h = refl
+is_not false h = cc
+
+-- the object that a word names
+pub names_file : (o : Option (Bor (List ℕ))) (name : Bor (List ℕ)) → o ≡ Some name → true ≡ not (bytes_eq name.now (codes "-")) → object_named (option_map (λ n. n.now) o) ≡ the_file name.now
+names_file o name is other = ap (λ (x : Option (Bor (List ℕ))). object_named (option_map (λ n. n.now) x)) is ∙ ap (λ (b : Bool). if b then the_input else the_file name.now) (not_is _ other)
+
+pub names_input : (o : Option (Bor (List ℕ))) (name : Bor (List ℕ)) → o ≡ Some name → false ≡ not (bytes_eq name.now (codes "-")) → object_named (option_map (λ n. n.now) o) ≡ the_input
+names_input o name is same = ap (λ (x : Option (Bor (List ℕ))). object_named (option_map (λ n. n.now) x)) is ∙ ap (λ (b : Bool). if b then the_input else the_file name.now) (is_not _ same)
+
+pub names_none : (o : Option (Bor (List ℕ))) → ((name : Bor (List ℕ)) → o ≡ Some name → ⊥) → object_named (option_map (λ n. n.now) o) ≡ the_input
+names_none None none = refl
+names_none (Some name) none = absurd (none name refl)
+
+module _ (object : Object) (old new : Inputs) (bytes seen : List ℕ) (s : Result Sections Fault) where
+  -- what is answered of the bytes is answered of the object
+  pub read_is : (r : Result Sections ReadErr) → ReadsBytes object old new bytes → seen ≡ bytes → Answers seen r
+      → MatchResult r (λ x. s ≡ Ok x) (λ e. IsErrAnd s (λ f. f ≡ fault_of_script e)) → ReadsScript object old new s
+  read_is (Ok script) h same a m = subst (ReadsScript object old new) (sym m) (h.0, (h.1.0, h.1.1, subst (IsTheScript script) (same ∙ h.1.2) a))
+  read_is (Err (script.Refused line r)) h same a m = subst (ReadsScript object old new) (sym (err_and s (fault_of_script (script.Refused line r)) m))
+      (h.0, (h.1.0, h.1.1, (Of r, subst (λ t. IsRefusal t line (Of r)) (same ∙ h.1.2) a, refl)))
+  read_is (Err (script.TooLarge line)) h same a m = subst (ReadsScript object old new) (sym (err_and s (fault_of_script (script.TooLarge line)) m))
+      (h.0, (h.1.0, h.1.1, (Limit, subst (λ t. IsRefusal t line Limit) (same ∙ h.1.2) a, refl)))
+  read_is (Err script.OutOfMemory) h same a m = subst (ReadsScript object old new) (sym (err_and s fault.OutOfMemory m)) tt
+
+-- memory ran out while the bytes were read, or the read failed
+unread_by : (object : Object) (old new : Inputs) (r : Result (Vec ℕ Global) ReadFault) (s : Result (Vec ℕ Global) Fault) (e : Fault) → (IsErrOf r read.Failed → ObjectRose object old new)
+    → MatchResult r (λ v. s ≡ Ok v) (λ x. IsErrAnd s (λ y. y ≡ fault_of_read x)) → s ≡ Err e → ReadsScript object old new (Err e)
+unread_by object old new (Ok v) s e failed m is = absurd (ok_not_err s v e m is)
+unread_by object old new (Err read.Failed) s e failed m is = subst (λ f. ReadsScript object old new (Err f)) (sym (subst (λ t. IsErrAnd t (λ y. y ≡ fault.ReadFault)) is m)) (failed refl)
+unread_by object old new (Err read.OutOfMemory) s e failed m is = subst (λ f. ReadsScript object old new (Err f)) (sym (subst (λ t. IsErrAnd t (λ y. y ≡ fault.OutOfMemory)) is m)) tt
+
+pub unread_is : (object : Object) (old new : Inputs) (r : Result (Vec ℕ Global) ReadFault) (s : Result (Vec ℕ Global) Fault) (e : Fault) (t : Result Sections Fault) → (IsErrOf r read.Failed → ObjectRose object old new)
+    → MatchResult r (λ v. s ≡ Ok v) (λ x. IsErrAnd s (λ y. y ≡ fault_of_read x)) → s ≡ Err e → IsErr t → IsErrAnd t (λ y. y ≡ e) → ReadsScript object old new t
+unread_is object old new r s e t failed m is h k = subst (ReadsScript object old new) (sym (err_is t e h k)) (unread_by object old new r s e failed m is)

@@ -1,5 +1,5 @@
 -- From the parts of the call to what was done.
-use Rattle.std.proofs.Common.{◌≡◌, ℕ, List, [], Option, Result, Ok, Err, IsErr, IsErrAnd, MatchResult, sym, refl, subst, inl, inr}
+use Rattle.std.proofs.Common.{◌≡◌, ◌∙◌, List, ℕ, ap, Option, Some, None, Result, Ok, Err, IsErr, IsErrAnd, MatchResult, refl, sym, subst, inl, inr}
 use Rattle.std.proofs.KnownBytes.{Appends-nil, Keeps-refl}
 use Rattle.pth_base.specs.declared.outcome.Outcome.{Outcome}
 use Rattle.pth_base.specs.declared.sink.SinkErr.{SinkErr}
@@ -7,41 +7,85 @@ use Rattle.pth_base.specs.declared.sink.SinkErr.TheVariants as sink
 use Rattle.pth_print.specs.declared.fault_line.Fault.{Fault}
 use Rattle.pth_print.specs.declared.fault_line.Fault.TheVariants as fault
 use Rattle.pth_line.specs.Script.{Sections, functions_of}
-use Rattle.pth_player.specs.Faults.{fault_of_sink}
+use Rattle.pth_words.specs.Words.{Answers, Asked, asked_of}
+use Rattle.pth_words.specs.declared.choice.Choice.{Choice}
+use Rattle.pth_words.specs.declared.words.WordsErr.{WordsErr}
+use Rattle.pth_words.specs.declared.words.WordsErr.TheVariants as words
+use Rattle.pth_player.specs.Faults.{fault_of_sink, fault_of_words}
 use Rattle.pth_player.specs.Drive.{Drives}
-use Rattle.pth_player.specs.Output.{given_script, step_limit}
-use Rattle.pth_player.specs.Play.{Ran, ReadsScript, Scene, inputs, scene}
-use Rattle.pth_player.proofs.Results.{err_and, err_is}
+use Rattle.pth_player.specs.Objects.{Inputs, Object, OthersKept, Scene, nothing, object_of, scene, the_file, the_input}
+use Rattle.pth_player.specs.Output.{given_script}
+use Rattle.pth_player.specs.Play.{Ran, ReadsScript}
+use Rattle.pth_player.proofs.Results.{err_and, err_is, ok_is, ok_not_err}
 
--- what the input tells before and after, and the files, which are not read
-module _ (words : List (List ℕ)) (l m k : Option (List ℕ)) (held : List ℕ → Option (List ℕ)) (f g fs : ℕ) (w x : Option (List ℕ)) (a b : ℕ) where
+-- nothing is lost where nothing is read
+pub others_refl : (object : Object) (ins : Inputs) → OthersKept object ins ins
+others_refl nothing ins = (Keeps-refl ins.left, Keeps-refl ins.file_left)
+others_refl the_input ins = Keeps-refl ins.file_left
+others_refl (the_file name) ins = Keeps-refl ins.left
+
+module _ (asked : Option Asked) (ins : Inputs) (w : Option (List ℕ)) (a : ℕ) where
   abbrev before : Scene
-  before = scene (inputs l f k held fs) w a
+  before = scene ins w a
 
-  abbrev after : Scene
-  after = scene (inputs m g k held fs) x b
+  unasked_by : (e : WordsErr) (e2 : Fault) → e2 ≡ fault_of_words e → Answers asked (Err e) → Ran asked before before (Err e2)
+  unasked_by words.Refused e2 is h = subst (λ o. Ran o before before (Err e2)) (sym h) (subst (λ f. Ran None before before (Err f)) (sym is) (Appends-nil w, refl))
+  unasked_by words.OutOfMemory e2 is h = subst (λ f. Ran asked before before (Err f)) (sym is) (out_of_memory asked)
+    where
+      out_of_memory : (o : Option Asked) → Ran o before before (Err fault.OutOfMemory)
+      out_of_memory None = Appends-nil w
+      out_of_memory (Some x) = inl (Appends-nil w)
 
-  abbrev unwritten : Scene
-  unwritten = scene (inputs m g k held fs) w a
+  unasked_for : (q : Result Choice WordsErr) (s : Result Choice Fault) (e : Fault) → Answers asked q → MatchResult q (λ c. s ≡ Ok c) (λ x. IsErrAnd s (λ y. y ≡ fault_of_words x)) → s ≡ Err e
+      → Ran asked before before (Err e)
+  unasked_for (Ok c) s e answers m is = absurd (ok_not_err s c e m is)
+  unasked_for (Err x) s e answers m is = unasked_by x e (subst (λ t. IsErrAnd t (λ y. y ≡ fault_of_words x)) is m) answers
 
-  unread_by : (e : Fault) → ReadsScript l m f g (Err e) → Ran [] before unwritten (Err e)
-  unread_by (fault.Input line rule) h = (refl, (h.0, Keeps-refl k), h.1, Appends-nil w)
-  unread_by fault.ReadFault h = (refl, h, Appends-nil w)
-  unread_by fault.OutOfMemory h = (refl, inl (Appends-nil w))
-  unread_by fault.Words h = absurd h
-  unread_by fault.WriteFault h = absurd h
+  -- the words were refused, or memory ran out for them
+  pub unasked : (q : Result Choice WordsErr) (s : Result Choice Fault) (e : Fault) (r : Result Outcome Fault) → Answers asked q
+      → MatchResult q (λ c. s ≡ Ok c) (λ x. IsErrAnd s (λ y. y ≡ fault_of_words x)) → s ≡ Err e → IsErr r → IsErrAnd r (λ y. y ≡ e) → Ran asked before before r
+  unasked q s e r answers m is h k = subst (λ y. Ran asked before before y) (sym (err_is r e h k)) (unasked_for q s e answers m is)
 
-  -- the input was not read, or it is no script
-  pub unread : (e : Fault) (r : Result Outcome Fault) → words ≡ [] → ReadsScript l m f g (Err e) → IsErr r → IsErrAnd r (λ y. y ≡ e) → Ran words before unwritten r
-  unread e r none h is k = subst (λ y. Ran words before unwritten y) (sym (err_is r e is k)) (subst (λ y. Ran y before unwritten (Err e)) (sym none) (unread_by e h))
+  asked_for : (q : Result Choice WordsErr) (s : Result Choice Fault) (c : Choice) → Answers asked q → MatchResult q (λ c. s ≡ Ok c) (λ x. IsErrAnd s (λ y. y ≡ fault_of_words x)) → s ≡ Ok c
+      → asked ≡ Some (asked_of c)
+  asked_for (Ok d) s c answers m is = answers ∙ ap (λ (x : Choice). Some (asked_of x)) (ok_is s d c m is)
+  asked_for (Err x) s c answers m is = absurd (subst (λ t. IsErrAnd t (λ y. y ≡ fault_of_words x)) is m)
 
-  drove_by : (script : Sections) (r : Result Outcome SinkErr) (s : Result Outcome Fault) → ReadsScript l m f g (Ok script) → Drives functions_of (given_script script) step_limit w x a b r
-      → MatchResult r (λ o. s ≡ Ok o) (λ e. IsErrAnd s (λ y. y ≡ fault_of_sink e)) → Ran [] before after s
-  drove_by script (Ok o) s h d e = subst (λ y. Ran [] before after y) (sym e) (refl, (h.0, Keeps-refl k), (h.1.0, h.1.1, script, h.1.2, d))
-  drove_by script (Err sink.Failed) s h d e = subst (λ y. Ran [] before after y) (sym (err_and s fault.WriteFault e)) (refl, (h.0, Keeps-refl k), (h.1.0, h.1.1, script, h.1.2, d))
-  drove_by script (Err sink.OutOfMemory) s h d e = subst (λ y. Ran [] before after y) (sym (err_and s fault.OutOfMemory e)) (refl, inr (h.1.0, h.1.1, script, h.1.2, d))
+  -- the words ask for this
+  pub is_asked : (q : Result Choice WordsErr) (s : Result Choice Fault) (c : Choice) → Answers asked q → MatchResult q (λ c. s ≡ Ok c) (λ x. IsErrAnd s (λ y. y ≡ fault_of_words x)) → s ≡ Ok c
+      → asked ≡ Some (asked_of c)
+  is_asked = asked_for
 
-  -- the machine was driven
-  pub drove : (script : Sections) (r : Result Outcome SinkErr) (s : Result Outcome Fault) → words ≡ [] → ReadsScript l m f g (Ok script)
-      → Drives functions_of (given_script script) step_limit w x a b r → MatchResult r (λ o. s ≡ Ok o) (λ e. IsErrAnd s (λ y. y ≡ fault_of_sink e)) → Ran words before after s
-  drove script r s none h d e = subst (λ y. Ran y before after s) (sym none) (drove_by script r s h d e)
+  module _ (later : Inputs) (x : Asked) (is : asked ≡ Some x) where
+    abbrev unwritten : Scene
+    unwritten = scene later w a
+
+    unread_by : (e : Fault) → ReadsScript (object_of (Some x)) ins later (Err e) → Ran (Some x) before unwritten (Err e)
+    unread_by (fault.Input line rule) h = (h.0, h.1, (Appends-nil w, refl))
+    unread_by fault.ReadFault h = (h, (Appends-nil w, refl))
+    unread_by fault.OutOfMemory h = inl (Appends-nil w)
+    unread_by fault.Words h = absurd h
+    unread_by fault.WriteFault h = absurd h
+
+    -- the object was not read, or it holds no script
+    pub unread : (e : Fault) (r : Result Outcome Fault) → ReadsScript (object_of (Some x)) ins later (Err e) → IsErr r → IsErrAnd r (λ y. y ≡ e) → Ran asked before unwritten r
+    unread e r h some k = subst (λ y. Ran asked before unwritten y) (sym (err_is r e some k)) (subst (λ o. Ran o before unwritten (Err e)) (sym is) (unread_by e h))
+
+    -- memory ran out for the machine
+    pub unmade : Ran asked before unwritten (Err fault.OutOfMemory)
+    unmade = subst (λ o. Ran o before unwritten (Err fault.OutOfMemory)) (sym is) (inl (Appends-nil w))
+
+    module _ (z : Option (List ℕ)) (b : ℕ) where
+      abbrev after : Scene
+      after = scene later z b
+
+      drove_by : (script : Sections) (r : Result Outcome SinkErr) (s : Result Outcome Fault) → ReadsScript (object_of (Some x)) ins later (Ok script)
+          → Drives functions_of (given_script script) x w z a b r → MatchResult r (λ o. s ≡ Ok o) (λ e. IsErrAnd s (λ y. y ≡ fault_of_sink e)) → Ran (Some x) before after s
+      drove_by script (Ok o) s h d e = subst (λ y. Ran (Some x) before after y) (sym e) (h.0, (h.1.0, h.1.1, script, h.1.2, d))
+      drove_by script (Err sink.Failed) s h d e = subst (λ y. Ran (Some x) before after y) (sym (err_and s fault.WriteFault e)) (h.0, (h.1.0, h.1.1, script, h.1.2, d))
+      drove_by script (Err sink.OutOfMemory) s h d e = subst (λ y. Ran (Some x) before after y) (sym (err_and s fault.OutOfMemory e)) (inr (h.1.0, h.1.1, script, h.1.2, d))
+
+      -- the machine was driven
+      pub drove : (script : Sections) (r : Result Outcome SinkErr) (s : Result Outcome Fault) → ReadsScript (object_of (Some x)) ins later (Ok script)
+          → Drives functions_of (given_script script) x w z a b r → MatchResult r (λ o. s ≡ Ok o) (λ e. IsErrAnd s (λ y. y ≡ fault_of_sink e)) → Ran asked before after s
+      drove script r s h d e = subst (λ o. Ran o before after s) (sym is) (drove_by script r s h d e)

@@ -9,8 +9,14 @@ use Rattle.pth_script.specs.declared.breach.Breach.{Breach}
 use Rattle.pth_script.specs.declared.breach.Breach.TheVariants.{Limit, Of}
 use Rattle.pth_script.specs.declared.read.ReadErr.{ReadErr}
 use Rattle.pth_script.specs.declared.read.ReadErr.TheVariants as script
+use Rattle.pth_words.specs.declared.words.WordsErr.{WordsErr}
+use Rattle.pth_words.specs.declared.words.WordsErr.TheVariants as words
 use Rattle.pth_player.specs.declared.streams.ReadFault.{ReadFault}
 use Rattle.pth_player.specs.declared.streams.ReadFault.TheVariants as read
+
+abbrev pub fault_of_words : WordsErr → Fault
+fault_of_words words.Refused = fault.Words
+fault_of_words words.OutOfMemory = fault.OutOfMemory
 
 abbrev pub fault_of_read : ReadFault → Fault
 fault_of_read read.Failed = fault.ReadFault

@@ -1,3 +1,4 @@
+pub mod Objects
 pub mod Streams
 pub mod Transcript
 pub mod Output

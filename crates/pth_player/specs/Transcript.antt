@@ -1,21 +1,46 @@
 -- The text of a run, and what is written of it.
-use Rattle.std.specs.Prelude.{◌≤◌, ◌++◌, ℕ, List, Option, Result, Ok, Err, false, flat_map}
+use Rattle.std.specs.Prelude.{◌≤◌, ◌++◌, ℕ, List, [], Option, Result, Ok, Err, false, flat_map, if◌then◌else◌}
 use Rattle.std.specs.Io.KnownBytes.{Appends}
 use Rattle.pth_base.specs.Faults.{Rose}
 use Rattle.pth_base.specs.declared.mark.Mark.{Mark}
-use Rattle.pth_base.specs.declared.outcome.Outcome.{Outcome}
 use Rattle.pth_base.specs.declared.sink.SinkErr.{SinkErr}
 use Rattle.pth_base.specs.declared.sink.SinkErr.TheVariants as sink
-use Rattle.pth_print.specs.Lines.{mark_line, end_line}
+use Rattle.pth_model.specs.State.{State}
+use Rattle.pth_model.specs.Told.{Told}
+use Rattle.pth_model.specs.Living.{live}
+use Rattle.pth_print.specs.Lines.{mark_line, end_line, summary_line}
+use Rattle.pth_words.specs.Words.{Asked}
 use Rattle.pth_player.specs.Streams.{AppendsPart, AppendsPrefix}
 
 -- the lines of marks
 abbrev pub lines_of : List Mark → List ℕ
 lines_of marks = flat_map (mark_line false) marks
 
--- the lines of marks, and the line of an outcome after at most so many steps
-abbrev pub transcript : List Mark → Outcome → ℕ → List ℕ → List ℕ
-transcript marks outcome steps live = lines_of marks ++ end_line outcome steps live
+-- what is written of marks: their lines, and nothing for a summary
+abbrev pub shown_of : Asked → List Mark → List ℕ
+shown_of asked marks = if asked.summary then [] else lines_of marks
+
+module _ {P S H : Type 0} where
+  -- the line of counts: the threads ever made, the turns, the steps, and the moment
+  abbrev pub counts_line : State P S H → List ℕ
+  counts_line s = summary_line s.rest.threads.made s.rest.scheduler.turns s.rest.scheduler.steps s.rest.scheduler.now
+
+  -- the line of the outcome, after at most so many steps
+  abbrev pub last_line : ℕ → State P S H → List ℕ
+  last_line steps s = end_line s.rest.scheduler.outcome steps (live s)
+
+  -- The text of what a run tells: the lines of all marks and the line of the outcome. Where a summary is asked for, the
+  -- line of counts stands in place of the marks'.
+  abbrev pub text_of : Asked → Told P S H → List ℕ
+  text_of asked told = (if asked.summary then counts_line told.state else lines_of told.marks) ++ last_line asked.steps told.state
+
+  -- the line of counts where a summary is asked for
+  abbrev pub counts_of : Asked → State P S H → List ℕ
+  counts_of asked s = if asked.summary then counts_line s else []
+
+  -- what is written after all marks
+  abbrev pub ending_of : Asked → State P S H → List ℕ
+  ending_of asked s = counts_of asked s ++ last_line asked.steps s
 
 -- the piece was written whole, or not the whole of it where the sink failed, or a beginning where memory ran out
 abbrev pub PieceBy : Option (List ℕ) → Option (List ℕ) → ℕ → ℕ → List ℕ → Result (Unit {0}) SinkErr → Type 0

@@ -1,14 +1,13 @@
 //! A machine run for a number of steps, and its transcript written piece by piece.
 
-ghost use Rattle.std.specs.Prelude.{◌≡◌, ◌≢◌, ◌≤◌, ◌+◌, ◌++◌, ◌⊎◌, IsFalse, IsTrue, OnOk, map, false};
-ghost use Rattle.pth_model.specs.State.{Given};
-ghost use Rattle.pth_print.specs.Lines.{end_line as line_of_outcome};
-ghost use Rattle.pth_sched.specs.Running.{StandsAt};
+ghost use Rattle.std.specs.Prelude.{◌≡◌, ◌≢◌, ◌≤◌, ◌+◌, ◌++◌, ◌⊎◌, IsFalse, IsTrue, OnOk};
+ghost use Rattle.pth_model.specs.State.{Given, State};
+ghost use Rattle.pth_sched.specs.Running.{Stands, StandsAt};
+ghost use Rattle.pth_words.specs.Words.{asked_of};
 ghost use Rattle.pth_player.specs.Drive.{Drives};
-ghost use Rattle.pth_player.specs.Transcript.{lines_of, WritesPiece};
+ghost use Rattle.pth_player.specs.Transcript.{counts_of, ending_of, lines_of, shown_of, WritesPiece};
 
 use crate::streams::write_all;
-use pth_base::ids::Tid;
 use pth_base::mark::Mark;
 use pth_base::marks::Marks;
 use pth_base::memory::OutOfMemory;
@@ -17,8 +16,10 @@ use pth_base::program::Program;
 use pth_base::sink::{Sink, SinkErr};
 use pth_print::end_line::end_line;
 use pth_print::mark_line::mark_line;
+use pth_print::summary_line::summary_line;
 use pth_sched::machine::Machine;
 use pth_text::text::Text;
+use pth_words::choice::Choice;
 use std::alloc::Global;
 
 /// Adds the lines of marks.
@@ -31,28 +32,60 @@ fn add_lines(marks: &[Mark], text: &mut Text) -> Result<(), OutOfMemory>
     Ok(())
 }
 
-/// Writes the lines of marks. `text` is where they are made.
-fn write_marks<O: Sink>(marks: &[Mark], text: &mut Text, out: &mut O) -> Result<(), SinkErr>
-    ensures { WritesPiece (O.written out.old) (O.written out.new) (O.faults out.old) (O.faults out.new) (lines_of marks.now) result }
-{
-    text.clear();
-    add_lines(marks, text)?;
-    write_all(out, text.as_slice())
-}
-
-/// Writes the line of an outcome after at most `steps` steps. `text` is where it is made.
-fn write_end<O: Sink>(
-    outcome: Outcome,
-    steps: u64,
-    live: &[Tid],
+/// Writes the lines of marks, and nothing for a summary. `text` is where they are made.
+fn write_marks<O: Sink>(
+    marks: &[Mark],
+    choice: &Choice<'_>,
     text: &mut Text,
     out: &mut O,
 ) -> Result<(), SinkErr>
-    requires { outcome ≢ Outcome.OutOfMemory }
-    ensures { WritesPiece (O.written out.old) (O.written out.new) (O.faults out.old) (O.faults out.new) (line_of_outcome outcome steps (map (λ t. t.0) live.now)) result }
+    ensures { WritesPiece (O.written out.old) (O.written out.new) (O.faults out.old) (O.faults out.new) (shown_of (asked_of choice.now) marks.now) result }
 {
     text.clear();
-    end_line(&outcome, steps, live, text)?;
+    if !choice.summary {
+        add_lines(marks, text)?;
+    }
+    write_all(out, text.as_slice())
+}
+
+/// Adds the line of counts where a summary is asked for.
+fn add_counts<P: Program>(
+    machine: &Machine<P>,
+    choice: &Choice<'_>,
+    text: &mut Text,
+) -> Result<(), OutOfMemory>
+    ensures { OnOk result ((s : State P P.State P.Shared) → Stands machine.now s → text.new ≡ text.old ++ counts_of (asked_of choice.now) s) }
+{
+    if !choice.summary {
+        return Ok(());
+    }
+    summary_line(
+        machine.made(),
+        machine.turns(),
+        machine.steps(),
+        machine.now(),
+        text,
+    )
+}
+
+/// Writes how the run stands: the line of its outcome, for a summary after the line of counts. `text` is where they are made.
+fn write_ending<P: Program, O: Sink>(
+    alloc: Global,
+    machine: &Machine<P>,
+    outcome: Outcome,
+    choice: &Choice<'_>,
+    text: &mut Text,
+    out: &mut O,
+) -> Result<(), SinkErr>
+    requires memory { outcome ≢ Outcome.OutOfMemory }
+    requires outcome { outcome ≡ machine.now.outcome }
+    ensures { (s : State P P.State P.Shared) → Stands machine.now s
+        → WritesPiece (O.written out.old) (O.written out.new) (O.faults out.old) (O.faults out.new) (ending_of (asked_of choice.now) s) result }
+{
+    let live = machine.live(alloc)?;
+    text.clear();
+    add_counts(machine, choice, text)?;
+    end_line(&outcome, choice.steps, &live, text)?;
     write_all(out, text.as_slice())
 }
 
@@ -68,26 +101,27 @@ fn is_over(left: u64, outcome: Outcome) -> bool
     }
 }
 
-/// Makes the machine's next `steps` steps, fewer where its run ends before, and writes its transcript.
+/// Makes as many of the machine's next steps as the choice asks for, fewer where its run ends before, and writes what the
+/// choice asks for: its transcript, or a summary.
 ///
 /// `piece` steps are made between two writes. The marks and the text of so many are kept at a time.
 ///
-/// A machine that stands at the start of a run writes what that run tells to so many steps and the line of its outcome,
-/// and nothing else. Where the sink fails or memory ends, a beginning of that is written.
+/// A machine that stands at the start of a run writes the text of what that run tells to so many steps, and nothing else.
+/// Where the sink fails or memory ends, a beginning of that is written.
 pub fn drive<P: Program, O: Sink>(
     alloc: Global,
     machine: &mut Machine<P>,
-    steps: u64,
+    choice: &Choice<'_>,
     piece: u64,
     out: &mut O,
 ) -> Result<Outcome, SinkErr>
     requires nonzero { 1 ≤ piece }
-    requires few { machine.old.steps + steps ≤ 1000000000 }
-    ensures written { (g : Given P) → StandsAt P.functions g 0 machine.old → Drives P.functions g steps (O.written out.old) (O.written out.new) (O.faults out.old) (O.faults out.new) result }
+    requires few { machine.old.steps + choice.now.steps ≤ 1000000000 }
+    ensures written { (g : Given P) → StandsAt P.functions g 0 machine.old → Drives P.functions g (asked_of choice.now) (O.written out.old) (O.written out.new) (O.faults out.old) (O.faults out.new) result }
 {
     let mut marks = Marks::new(alloc);
     let mut text = Text::new(alloc);
-    let mut left = steps;
+    let mut left = choice.steps;
     'pieces: loop {
         let n = left.min(piece);
         marks.clear();
@@ -96,11 +130,10 @@ pub fn drive<P: Program, O: Sink>(
             Outcome::OutOfMemory => return Err(SinkErr::OutOfMemory),
             _ => {}
         }
-        write_marks(marks.as_slice(), &mut text, out)?;
+        write_marks(marks.as_slice(), choice, &mut text, out)?;
         left -= n;
         if is_over(left, outcome) {
-            let live = machine.live(alloc)?;
-            write_end(outcome, steps, &live, &mut text, out)?;
+            write_ending(alloc, machine, outcome, choice, &mut text, out)?;
             return Ok(outcome);
         }
     }

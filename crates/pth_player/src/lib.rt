@@ -2,8 +2,10 @@
 #![tactic(auto)]
 
 mod drive;
+mod faults;
 mod report;
 mod run;
+mod script;
 mod streams;
 mod top;
 

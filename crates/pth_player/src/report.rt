@@ -9,7 +9,8 @@ use pth_print::fault_line::{Fault, fault_line};
 use pth_text::text::Text;
 use std::alloc::Global;
 
-/// Writes the fault's line, and answers its status. A sink that fails changes nothing of the status.
+/// Writes the fault's line, and answers its status. A sink that fails changes nothing of the status. Where memory runs out for
+/// the line it is 7.
 pub fn report_fault<E: Sink>(alloc: Global, fault: Fault, err: &mut E) -> u8
     requires { IsNamed fault }
     ensures { Reports fault result (E.written err.old) (E.written err.new) (E.faults err.old) (E.faults err.new) }

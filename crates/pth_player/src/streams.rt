@@ -1,10 +1,11 @@
-//! A source read to its end, and a piece written whole.
+//! A source or a file read to its end, and a piece written whole.
 
-ghost use Rattle.std.specs.Prelude.{◌≡◌, ◌≤◌, [], IfOk, OnOk, OnErr, IsErrOf};
+ghost use Rattle.std.specs.Prelude.{◌≡◌, ◌≤◌, [], IfOk, OnOk, OnErr, IsErrOf, true};
 ghost use Rattle.std.specs.Io.KnownBytes.{Appends};
 ghost use Rattle.pth_base.specs.Faults.{HasSinkCause, Rose};
 ghost use Rattle.pth_player.specs.Streams.{TakesUpTo, AppendsPart};
 
+use pth_base::files::Files;
 use pth_base::sink::{Sink, SinkErr};
 use pth_base::source::Source;
 use std::alloc::{AllocError, Global};
@@ -46,6 +47,33 @@ pub fn read_up_to<S: Source>(
         let room = buffer.len().min(cap - bytes.len());
         let piece = &mut buffer[..room];
         let Ok(n) = source.read(piece) else {
+            return Err(ReadFault::Failed);
+        };
+        if n == 0 {
+            break;
+        }
+        bytes.extend_from_slice(&piece[..n])?;
+    }
+    Ok(bytes)
+}
+
+/// The bytes of the started file, as many as `cap` or all there are.
+pub fn read_started<F: Files>(
+    alloc: Global,
+    files: &mut F,
+    cap: usize,
+) -> Result<Vec<u8>, ReadFault>
+    requires { F.started files.old ≡ true }
+    ensures bytes { IfOk result (λ v. TakesUpTo cap (F.left files.old) (F.left files.new) v.items) }
+    ensures later { F.faults files.old ≤ F.faults files.new }
+    ensures failed { IsErrOf result ReadFault.Failed → Rose (F.faults files.old) (F.faults files.new) }
+{
+    let mut bytes = Vec::new(alloc);
+    let mut buffer = [0u8; BUFFER];
+    while bytes.len() < cap {
+        let room = buffer.len().min(cap - bytes.len());
+        let piece = &mut buffer[..room];
+        let Ok(n) = files.read(piece) else {
             return Err(ReadFault::Failed);
         };
         if n == 0 {

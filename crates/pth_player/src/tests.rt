@@ -1,3 +1,4 @@
+mod choices;
 mod drives;
 mod faults;
 mod rows;
@@ -24,31 +25,7 @@ fn words(alloc: Global, list: &[&str]) -> Result<Vec<String>, Fail> {
 }
 
 #[test]
-fn words_are_refused(rt: HostRuntime) -> Result<(), Fail> {
-    let alloc = rt.alloc();
-    for list in [
-        ["--steps", "0"].as_slice(),
-        &["--generate", "5", "x.pth"],
-        &["x.pth"],
-        &[""],
-    ] {
-        let words = words(alloc, list)?;
-        let mut input = SureSource::new(alloc, b"pth 1\nthread 0\nend\n")?;
-        let mut files = SureFiles::new(alloc, b"")?;
-        let mut out = SureSink::new(alloc);
-        let mut err = SureSink::new(alloc);
-        assert_eq!(rt;
-            play(alloc, &words, &mut input, &mut files, &mut out, &mut err),
-            2
-        );
-        assert!(rt; out.as_slice().is_empty());
-        assert_eq!(rt; err.as_slice(), b"pth_play: words refused\n".as_slice());
-    }
-    Ok(())
-}
-
-#[test]
-fn other_inputs_are_refused(rt: HostRuntime) -> Result<(), Fail> {
+fn texts_are_refused(rt: HostRuntime) -> Result<(), Fail> {
     let alloc = rt.alloc();
     let words = words(alloc, &[])?;
     for (text, line) in [
@@ -56,6 +33,15 @@ fn other_inputs_are_refused(rt: HostRuntime) -> Result<(), Fail> {
         (b"pth 1", b"pth_play: line 1: cut\n"),
         (b"pth 1\n", b"pth_play: line 2: main\n"),
         (b"pth 1\nthread 0\nend", b"pth_play: line 3: cut\n"),
+        (&[b'x'; 8193], b"pth_play: line 1: limit\n"),
+        (
+            b"pth 1\nthread 0\nnapp 1\nend\n",
+            b"pth_play: line 3: word\n",
+        ),
+        (
+            b"pth 1\nthread 0\nyield\nend\n",
+            b"pth_play: line 3: count\n",
+        ),
         (
             b"pth 1\nthread 0\nnap 010\nend\n",
             b"pth_play: line 3: operand\n",
@@ -68,6 +54,11 @@ fn other_inputs_are_refused(rt: HostRuntime) -> Result<(), Fail> {
             b"pth 1\nthread 0\nexit 0\nend\nthread 256\nend\n",
             b"pth_play: line 5: number\n",
         ),
+        (
+            b"pth 1\nthread 0\ngoto 5 0 eq 0\nend\n",
+            b"pth_play: line 4: label\n",
+        ),
+        (b"pth 1\nthread 0\nexit 0\n", b"pth_play: line 4: end\n"),
         (
             b"pth 1\nthread 0\nend\nkernel\n",
             b"pth_play: line 4: word\n",

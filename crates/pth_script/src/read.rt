@@ -14,8 +14,8 @@ use pth_line::script::Script;
 use std::alloc::Global;
 use thiserror::Error;
 
-// An input has at most so many bytes.
-const TEXT_LIMIT: usize = 16_777_216;
+/// How many bytes an input may have. What stands after one byte more need not be read.
+pub const TEXT_LIMIT: usize = 16_777_216;
 
 /// Why no script was read: a line breaks a rule or passes a limit, or memory ran out. Lines are numbered from 1, and the
 /// place after the last line counts as a line.

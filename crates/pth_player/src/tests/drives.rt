@@ -4,6 +4,7 @@ use pth_base::outcome::Outcome;
 use pth_base::sink::SureSink;
 use pth_sched::machine::Machine;
 use pth_script::read::read;
+use pth_words::choice::Choice;
 use std::test::Fail;
 
 #[test]
@@ -26,7 +27,12 @@ fn pieces_make_one_transcript(rt: HostRuntime) -> Result<(), Fail> {
         let script = read(alloc, SCRIPT.as_bytes())?;
         let mut machine = Machine::new(alloc, script)?;
         let mut out = SureSink::new(alloc);
-        let outcome = drive(alloc, &mut machine, steps, piece, &mut out)?;
+        let choice = Choice {
+            steps,
+            summary: false,
+            file: None,
+        };
+        let outcome = drive(alloc, &mut machine, &choice, piece, &mut out)?;
         assert_eq!(rt; out.as_slice(), transcript.as_bytes());
         assert_eq!(rt; matches!(outcome, Outcome::Running), steps < 4);
     }

@@ -60,7 +60,7 @@ fn a_sink_has_each_room(rt: HostRuntime) -> Result<(), Fail> {
 fn a_failing_error_sink_changes_no_status(rt: HostRuntime) -> Result<(), Fail> {
     let alloc = rt.alloc();
     for (list, text, fails, room, status) in [
-        (["x"].as_slice(), SCRIPT, [0], 1000, 2),
+        (["--x"].as_slice(), SCRIPT, [0], 1000, 2),
         (&[], "pth 2\n", [0], 1000, 3),
         (&[], SCRIPT, [1], 1000, 4),
         (&[], SCRIPT, [0], 0, 5),

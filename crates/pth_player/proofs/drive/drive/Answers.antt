@@ -21,25 +21,15 @@ returns-in_err-write_marks g c = record {
       cut_in_lines _ _ _ _ _ _ _ _ _ _ _ _ _ s.0 c.pieces.invariant.later c.in_err-write_marks.ensures c.from_residual.ensures.0 c.from_residual.ensures.1;
 }
 
-pub returns-in_err-live : goal.returns-in_err-live
-returns-in_err-live g c = record {
-  written = λ given stands.
-      let u = c.pieces.invariant.way given stands in
-      let go = c.advance-outcome.ensures.goes_on c.in_default.not-OutOfMemory given u.at u.stands in
-      let s = onward _ _ _ c.pieces.machine _ _ c.args.machine.now _ _ _ _ _ _ _ _ stands c.pieces.invariant.made c.min-n.ensures c.clear.ensures c.as_slice.ensures u go c.in_ok-write_marks.ensures.1 in
-      cut_by_memory _ _ _ _ _ _ _ (g.O.Sink.faults c.args.out.now) (g.O.Sink.faults c.write_marks.new.out) _ s.0 c.from_residual-in_err-live.ensures.0 c.from_residual-in_err-live.ensures.1;
-}
-
-pub returns-in_err-write_end : goal.returns-in_err-write_end
-returns-in_err-write_end g c = record {
+pub returns-in_err-write_ending : goal.returns-in_err-write_ending
+returns-in_err-write_ending g c = record {
   written = λ given stands.
       let u = c.pieces.invariant.way given stands in
       let go = c.advance-outcome.ensures.goes_on c.in_default.not-OutOfMemory given u.at u.stands in
       let s = onward _ _ _ c.pieces.machine _ _ c.args.machine.now _ _ _ _ _ _ _ _ stands c.pieces.invariant.made c.min-n.ensures c.clear.ensures c.as_slice.ensures u go c.in_ok-write_marks.ensures.1 in
       let last = at_end _ _ _ _ _ _ _ _ _ _ _ _ _ stands c.pieces.invariant.made c.min-n.ensures c.advance-outcome.ensures.outcome (c.is_over.ensures.over c.if-is_over.true) s in
       let later = le_trans c.pieces.invariant.later c.in_ok-write_marks.ensures.0 in
-      cut_in_end _ _ _ _ _ _ _ _ _ _ _ _ _ last c.advance-outcome.ensures.outcome c.deref.ensures.value c.in_ok-live.ensures _ _ later c.in_err-write_end.ensures c.from_residual-in_err-write_end.ensures.0
-      c.from_residual-in_err-write_end.ensures.1;
+      cut_in_end _ _ _ _ _ _ _ _ _ _ _ _ last c.advance-outcome.ensures.outcome c.write_ending.ensures _ _ later c.in_err-write_ending.was c.from_residual-in_err-write_ending.ensures.0 c.from_residual-in_err-write_ending.ensures.1;
 }
 
 pub returns-then-is_over : goal.returns-then-is_over
@@ -49,7 +39,7 @@ returns-then-is_over g c = record {
       let go = c.advance-outcome.ensures.goes_on c.in_default.not-OutOfMemory given u.at u.stands in
       let s = onward _ _ _ c.pieces.machine _ _ c.args.machine.now _ _ _ _ _ _ _ _ stands c.pieces.invariant.made c.min-n.ensures c.clear.ensures c.as_slice.ensures u go c.in_ok-write_marks.ensures.1 in
       let last = at_end _ _ _ _ _ _ _ _ _ _ _ _ _ stands c.pieces.invariant.made c.min-n.ensures c.advance-outcome.ensures.outcome (c.is_over.ensures.over c.if-is_over.true) s in
-      finished _ _ _ _ _ _ _ (g.O.Sink.faults c.args.out.now) _ _ _ _ _ last c.advance-outcome.ensures.outcome c.deref.ensures.value c.in_ok-live.ensures _ c.in_ok-write_end.ensures;
+      finished _ _ _ _ _ _ _ (g.O.Sink.faults c.args.out.now) _ _ _ _ last c.advance-outcome.ensures.outcome c.write_ending.ensures _ c.in_ok-write_ending.was;
 }
 
 pub pieces-preserved : goal.pieces-preserved

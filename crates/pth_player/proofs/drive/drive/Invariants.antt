@@ -1,15 +1,16 @@
 use Rattle.std.proofs.Common.{◌≡◌, ◌+◌, ◌≤◌, []}
 use Rattle.pth_model.specs.State.{Given}
 use Rattle.pth_sched.specs.Running.{StandsAt}
+use Rattle.pth_words.specs.Words.{asked_of}
 use Rattle.pth_player.proofs.Driving.{Underway}
 use Rattle.pth_player.proofs.drive.drive.Given as goal
 
 abbrev pub invariant-pieces : goal.invariant-pieces
 invariant-pieces g l = record {
   way : (given : Given _) → StandsAt g.P.Program.functions given 0 l.initial.machine
-      → Underway g.P.Program.functions given l.steps l.machine (g.O.Sink.written l.initial.out) (g.O.Sink.written l.out) [];
+      → Underway g.P.Program.functions given (asked_of l.choice) l.machine (g.O.Sink.written l.initial.out) (g.O.Sink.written l.out) [];
   later : g.O.Sink.faults l.initial.out ≤ g.O.Sink.faults l.out;
-  made : l.machine.steps + l.left ≡ l.initial.machine.steps + l.steps;
+  made : l.machine.steps + l.left ≡ l.initial.machine.steps + l.choice.steps;
 }
 
 abbrev pub decreases-pieces : goal.decreases-pieces

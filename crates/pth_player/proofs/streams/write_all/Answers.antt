@@ -1,6 +1,6 @@
 use Rattle.std.proofs.Common.{arith}
 use Rattle.pth_player.proofs.Pieces.{append_rest, is_not_empty, part_at, rest_within}
-use Rattle.pth_player.proofs.Results.{on_err}
+use Rattle.pth_base.proofs.Results.{on_err}
 use Rattle.pth_player.proofs.streams.write_all.Goals as goal
 
 pub returns-in_err-at-clause-part : goal.returns-in_err-at-clause-part

@@ -1,0 +1,89 @@
+-- The objects that the call is handed, and which of them it reads.
+use Rattle.std.specs.Prelude.{◌≡◌, ◌+◌, ℕ, List, [], Option, Some, None, IfSome, codes, drop, take, if◌then◌else◌}
+use Rattle.std.specs.Io.KnownBytes.{Keeps}
+use Rattle.std.specs.Str.{bytes_eq}
+use Rattle.pth_base.specs.Faults.{Rose}
+use Rattle.pth_script.specs.Broken.{text_limit}
+use Rattle.pth_words.specs.Words.{Asked}
+
+-- the bytes of an input as far as they are read: to the byte after those that it may have
+abbrev pub cut : List ℕ → List ℕ
+cut bytes = take (text_limit + 1) bytes
+
+-- what the input and the files tell at a moment
+pub record Inputs : Type 0 where
+  pub left : Option (List ℕ)
+  pub faults : ℕ
+  pub file_left : Option (List ℕ)
+  pub held : List ℕ → Option (List ℕ)
+  pub file_faults : ℕ
+
+-- and what the output tells beside them
+pub record Scene : Type 0 where
+  pub ins : Inputs
+  pub written : Option (List ℕ)
+  pub out_faults : ℕ
+
+abbrev pub inputs : Option (List ℕ) → ℕ → Option (List ℕ) → (List ℕ → Option (List ℕ)) → ℕ → Inputs
+inputs left faults file_left held file_faults = record {
+  left = left;
+  faults = faults;
+  file_left = file_left;
+  held = held;
+  file_faults = file_faults;
+}
+
+abbrev pub scene : Inputs → Option (List ℕ) → ℕ → Scene
+scene ins written out_faults = record { ins = ins; written = written; out_faults = out_faults }
+
+-- ---- the object read
+
+pub data Object : Type 0 where
+  nothing : Object
+  the_input : Object
+  the_file : List ℕ → Object
+
+-- the object under a name: the input stands under no name and under `-`
+abbrev pub object_named : Option (List ℕ) → Object
+object_named None = the_input
+object_named (Some name) = if bytes_eq name (codes "-") then the_input else the_file name
+
+-- the object that the words name; nothing is read where they are refused
+abbrev pub object_of : Option Asked → Object
+object_of None = nothing
+object_of (Some asked) = object_named asked.file
+
+-- what it holds, where that is told
+abbrev pub held_by : Object → Inputs → Option (List ℕ)
+held_by nothing s = Some []
+held_by the_input s = s.left
+held_by (the_file name) s = s.held name
+
+abbrev pub content : Option Asked → Scene → Option (List ℕ)
+content asked s = held_by (object_of asked) s.ins
+
+-- its count of faults rose
+abbrev pub ObjectRose : Object → Inputs → Inputs → Type 0
+ObjectRose nothing old new = ⊥
+ObjectRose the_input old new = Rose old.faults new.faults
+ObjectRose (the_file name) old new = Rose old.file_faults new.file_faults
+
+-- what was read of these bytes is lost, where they are told: all, or as much as the limit and a byte
+abbrev pub LosesRead : Option (List ℕ) → Option (List ℕ) → Type 0
+LosesRead old new = IfSome old (λ bytes. new ≡ Some (drop (text_limit + 1) bytes))
+
+-- what the words don't name lost nothing
+abbrev pub OthersKept : Object → Inputs → Inputs → Type 0
+OthersKept nothing old new = Keeps old.left new.left × Keeps old.file_left new.file_left
+OthersKept the_input old new = Keeps old.file_left new.file_left
+OthersKept (the_file name) old new = Keeps old.left new.left
+
+-- the object lost what was read of it
+abbrev pub ObjectRead : Object → Inputs → Inputs → Type 0
+ObjectRead nothing old new = Unit {0}
+ObjectRead the_input old new = LosesRead old.left new.left
+ObjectRead (the_file name) old new = LosesRead (old.held name) new.file_left
+
+-- these are the bytes that the object read holds, where that is told, and some bytes where it is not
+abbrev pub AreHeld : Option (List ℕ) → List ℕ → Type 0
+AreHeld held bytes = IfSome held (λ xs. bytes ≡ xs)

@@ -1,0 +1,69 @@
+//! The script that the words name, read from the input or from a file.
+
+ghost use Rattle.std.specs.Prelude.{IfOk, IsErrOf, option_map};
+ghost use Rattle.pth_base.specs.Faults.{Rose};
+ghost use Rattle.pth_player.specs.Objects.{inputs, object_named, ObjectRose, OthersKept};
+ghost use Rattle.pth_player.specs.Streams.{TakesUpTo};
+ghost use Rattle.pth_player.specs.Play.{ReadsBytes, ReadsScript};
+
+use crate::faults::{fault_of_read, fault_of_script};
+use crate::streams::{ReadFault, read_started, read_up_to};
+use pth_base::files::Files;
+use pth_base::source::Source;
+use pth_line::script::Script;
+use pth_print::fault_line::Fault;
+use pth_script::read::{TEXT_LIMIT, read};
+use std::alloc::Global;
+
+/// The bytes of a file.
+fn read_file<F: Files>(alloc: Global, name: &str, files: &mut F) -> Result<Vec<u8>, ReadFault>
+    ensures bytes { IfOk result (λ v. TakesUpTo 16777217 (F.held files.old name.now) (F.left files.new) v.items) }
+    ensures failed { IsErrOf result ReadFault.Failed → Rose (F.faults files.old) (F.faults files.new) }
+{
+    let Ok(()) = files.start(name) else {
+        return Err(ReadFault::Failed);
+    };
+    read_started(alloc, files, TEXT_LIMIT + 1)
+}
+
+/// The bytes that stand under a name, to their end or to the byte after the limit. Those of the input stand under no name
+/// and under `-`.
+fn read_bytes<S: Source, F: Files>(
+    alloc: Global,
+    name: Option<&str>,
+    input: &mut S,
+    files: &mut F,
+) -> Result<Vec<u8>, ReadFault>
+    ensures bytes { IfOk result (λ v. ReadsBytes (object_named (option_map (λ n. n.now) name.entry))
+        (inputs (S.left input.old) (S.faults input.old) (F.left files.old) (F.held files.old) (F.faults files.old))
+        (inputs (S.left input.new) (S.faults input.new) (F.left files.new) (F.held files.new) (F.faults files.new)) v.items) }
+    ensures failed { IsErrOf result ReadFault.Failed → ObjectRose (object_named (option_map (λ n. n.now) name.entry))
+        (inputs (S.left input.old) (S.faults input.old) (F.left files.old) (F.held files.old) (F.faults files.old))
+        (inputs (S.left input.new) (S.faults input.new) (F.left files.new) (F.held files.new) (F.faults files.new)) }
+    ensures others { OthersKept (object_named (option_map (λ n. n.now) name.entry))
+        (inputs (S.left input.old) (S.faults input.old) (F.left files.old) (F.held files.old) (F.faults files.old))
+        (inputs (S.left input.new) (S.faults input.new) (F.left files.new) (F.held files.new) (F.faults files.new)) }
+{
+    match name {
+        Some(name) if name != "-" => read_file(alloc, name, files),
+        _ => read_up_to(alloc, input, TEXT_LIMIT + 1),
+    }
+}
+
+/// The script that stands under a name.
+pub fn read_script<S: Source, F: Files>(
+    alloc: Global,
+    name: Option<&str>,
+    input: &mut S,
+    files: &mut F,
+) -> Result<Script, Fault>
+    ensures script { ReadsScript (object_named (option_map (λ n. n.now) name.entry))
+        (inputs (S.left input.old) (S.faults input.old) (F.left files.old) (F.held files.old) (F.faults files.old))
+        (inputs (S.left input.new) (S.faults input.new) (F.left files.new) (F.held files.new) (F.faults files.new)) result }
+    ensures others { OthersKept (object_named (option_map (λ n. n.now) name.entry))
+        (inputs (S.left input.old) (S.faults input.old) (F.left files.old) (F.held files.old) (F.faults files.old))
+        (inputs (S.left input.new) (S.faults input.new) (F.left files.new) (F.held files.new) (F.faults files.new)) }
+{
+    let bytes = read_bytes(alloc, name, input, files).map_err(fault_of_read)?;
+    read(alloc, &bytes).map_err(fault_of_script)
+}
