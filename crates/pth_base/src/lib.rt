@@ -8,7 +8,6 @@ pub mod bytes;
 pub mod call;
 pub mod errno;
 pub mod event;
-pub mod files;
 pub mod ids;
 pub mod mark;
 pub mod marks;
@@ -18,8 +17,6 @@ pub mod outcome;
 pub mod program;
 pub mod query;
 pub mod refusal;
-pub mod sink;
-pub mod source;
 #[cfg(test)]
 mod tests;
 pub mod thread;

@@ -3,11 +3,11 @@
 
 ghost use Rattle.std.specs.Prelude.{◌≡◌, ◌⊎◌, IfErr};
 
-mod adapters;
-
-use adapters::{OpenFiles, Reading, Writing};
 use pth_player::{play, report_fault};
 use pth_print::fault_line::Fault;
+use pth_streams::open_files::OpenFiles;
+use pth_streams::reading::Reading;
+use pth_streams::writing::Writing;
 use std::env;
 use std::io::ErrorKind;
 use std::process::ExitCode;

@@ -1,11 +1,11 @@
 -- The clauses of the top call, from what was done and how the call ends.
 use Rattle.std.proofs.Common.{◌≡◌, ◌≢◌, ◌∙◌, ◌⊎◌, ◌<◌, ℕ, List, [], Option, Some, None, Result, Ok, Err, IfSome, ap, sym, refl, subst, arith, inl, inr}
 use Rattle.std.specs.Io.KnownBytes.{Appends}
-use Rattle.pth_base.specs.Faults.{Rose}
+use Rattle.pth_streams.specs.Faults.{Rose}
 use Rattle.pth_base.specs.declared.outcome.Outcome.{Outcome}
 use Rattle.pth_base.specs.declared.outcome.Outcome.TheVariants as outcomes
-use Rattle.pth_base.specs.declared.sink.SinkErr.{SinkErr}
-use Rattle.pth_base.specs.declared.sink.SinkErr.TheVariants as sink
+use Rattle.pth_streams.specs.declared.sink.SinkErr.{SinkErr}
+use Rattle.pth_streams.specs.declared.sink.SinkErr.TheVariants as sink
 use Rattle.pth_model.specs.Run.{run}
 use Rattle.pth_print.specs.Lines.{IsNamed, fault_line, fault_status}
 use Rattle.pth_print.specs.declared.fault_line.Fault.{Fault}

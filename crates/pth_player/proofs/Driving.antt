@@ -3,13 +3,13 @@ use Rattle.std.proofs.Common.{◌≡◌, ◌≢◌, ◌∙◌, ◌+◌, ◌-◌,
 use Rattle.std.proofs.lemmas.Bool.{cases_lt}
 use Rattle.std.proofs.KnownBytes.{Appends-nil, Appends-trans}
 use Rattle.std.specs.Io.KnownBytes.{Appends}
-use Rattle.pth_base.specs.Faults.{HasSinkCause, Rose}
+use Rattle.pth_streams.specs.Faults.{HasSinkCause, Rose}
 use Rattle.pth_base.specs.Program.{Functions}
 use Rattle.pth_base.specs.declared.mark.Mark.{Mark}
 use Rattle.pth_base.specs.declared.outcome.Outcome.{Outcome}
 use Rattle.pth_base.specs.declared.outcome.Outcome.TheVariants as outcomes
-use Rattle.pth_base.specs.declared.sink.SinkErr.{SinkErr}
-use Rattle.pth_base.specs.declared.sink.SinkErr.TheVariants as sink
+use Rattle.pth_streams.specs.declared.sink.SinkErr.{SinkErr}
+use Rattle.pth_streams.specs.declared.sink.SinkErr.TheVariants as sink
 use Rattle.pth_model.specs.State.{State, Given, start}
 use Rattle.pth_model.specs.Part.{Part, next_part, unless_ended}
 use Rattle.pth_model.specs.Run.{parts, run, stops, stops_by, GoesTo}

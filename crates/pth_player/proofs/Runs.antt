@@ -2,8 +2,8 @@
 use Rattle.std.proofs.Common.{◌≡◌, ◌∙◌, List, ℕ, ap, Option, Some, None, Result, Ok, Err, IsErr, IsErrAnd, MatchResult, refl, sym, subst, inl, inr}
 use Rattle.std.proofs.KnownBytes.{Appends-nil, Keeps-refl}
 use Rattle.pth_base.specs.declared.outcome.Outcome.{Outcome}
-use Rattle.pth_base.specs.declared.sink.SinkErr.{SinkErr}
-use Rattle.pth_base.specs.declared.sink.SinkErr.TheVariants as sink
+use Rattle.pth_streams.specs.declared.sink.SinkErr.{SinkErr}
+use Rattle.pth_streams.specs.declared.sink.SinkErr.TheVariants as sink
 use Rattle.pth_print.specs.declared.fault_line.Fault.{Fault}
 use Rattle.pth_print.specs.declared.fault_line.Fault.TheVariants as fault
 use Rattle.pth_line.specs.Script.{Sections, functions_of}

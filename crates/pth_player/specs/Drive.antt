@@ -1,11 +1,11 @@
 -- What driving a machine writes.
 use Rattle.std.specs.Prelude.{◌≡◌, ℕ, List, Option, Result, Ok, Err}
 use Rattle.std.specs.Io.KnownBytes.{Appends}
-use Rattle.pth_base.specs.Faults.{Rose}
+use Rattle.pth_streams.specs.Faults.{Rose}
 use Rattle.pth_base.specs.Program.{Functions}
 use Rattle.pth_base.specs.declared.outcome.Outcome.{Outcome}
-use Rattle.pth_base.specs.declared.sink.SinkErr.{SinkErr}
-use Rattle.pth_base.specs.declared.sink.SinkErr.TheVariants as sink
+use Rattle.pth_streams.specs.declared.sink.SinkErr.{SinkErr}
+use Rattle.pth_streams.specs.declared.sink.SinkErr.TheVariants as sink
 use Rattle.pth_model.specs.State.{Given}
 use Rattle.pth_model.specs.Run.{run, GoesTo}
 use Rattle.pth_words.specs.Words.{Asked}

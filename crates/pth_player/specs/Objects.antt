@@ -2,7 +2,7 @@
 use Rattle.std.specs.Prelude.{◌≡◌, ◌+◌, ℕ, List, [], Option, Some, None, IfSome, codes, drop, take, if◌then◌else◌}
 use Rattle.std.specs.Io.KnownBytes.{Keeps}
 use Rattle.std.specs.Str.{bytes_eq}
-use Rattle.pth_base.specs.Faults.{Rose}
+use Rattle.pth_streams.specs.Faults.{Rose}
 use Rattle.pth_script.specs.Broken.{text_limit}
 use Rattle.pth_words.specs.Words.{Asked}
 

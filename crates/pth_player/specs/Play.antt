@@ -1,10 +1,10 @@
 -- The clauses of the top call.
 use Rattle.std.specs.Prelude.{◌≡◌, ◌≢◌, ◌⊎◌, ℕ, List, [], Option, Some, None, IfSome, Result, Ok, Err}
 use Rattle.std.specs.Io.KnownBytes.{Appends}
-use Rattle.pth_base.specs.Faults.{Rose}
+use Rattle.pth_streams.specs.Faults.{Rose}
 use Rattle.pth_base.specs.declared.outcome.Outcome.{Outcome}
-use Rattle.pth_base.specs.declared.sink.SinkErr.{SinkErr}
-use Rattle.pth_base.specs.declared.sink.SinkErr.TheVariants as sink
+use Rattle.pth_streams.specs.declared.sink.SinkErr.{SinkErr}
+use Rattle.pth_streams.specs.declared.sink.SinkErr.TheVariants as sink
 use Rattle.pth_print.specs.Lines.{IsNamed, fault_line, fault_status}
 use Rattle.pth_print.specs.declared.fault_line.Fault.{Fault}
 use Rattle.pth_print.specs.declared.fault_line.Fault.TheVariants as fault

@@ -1,10 +1,10 @@
 -- The text of a run, and what is written of it.
 use Rattle.std.specs.Prelude.{◌≤◌, ◌++◌, ℕ, List, [], Option, Result, Ok, Err, false, flat_map, if◌then◌else◌}
 use Rattle.std.specs.Io.KnownBytes.{Appends}
-use Rattle.pth_base.specs.Faults.{Rose}
+use Rattle.pth_streams.specs.Faults.{Rose}
 use Rattle.pth_base.specs.declared.mark.Mark.{Mark}
-use Rattle.pth_base.specs.declared.sink.SinkErr.{SinkErr}
-use Rattle.pth_base.specs.declared.sink.SinkErr.TheVariants as sink
+use Rattle.pth_streams.specs.declared.sink.SinkErr.{SinkErr}
+use Rattle.pth_streams.specs.declared.sink.SinkErr.TheVariants as sink
 use Rattle.pth_model.specs.State.{State}
 use Rattle.pth_model.specs.Told.{Told}
 use Rattle.pth_model.specs.Living.{live}

@@ -4,11 +4,11 @@ ghost use Rattle.std.specs.Prelude.{◌≡◌};
 ghost use Rattle.pth_player.specs.Faults.{fault_of_read, fault_of_script, fault_of_sink, fault_of_words, place_of};
 
 use crate::streams::ReadFault;
-use pth_base::sink::SinkErr;
 use pth_grammar::rule::Rule;
 use pth_print::fault_line::Fault;
 use pth_script::breach::Breach;
 use pth_script::read::ReadErr;
+use pth_streams::sink::SinkErr;
 use pth_words::words::WordsErr;
 
 pub fn fault_of_words(e: WordsErr) -> Fault

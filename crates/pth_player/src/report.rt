@@ -4,8 +4,8 @@ ghost use Rattle.pth_player.specs.Play.{Reports};
 ghost use Rattle.pth_print.specs.Lines.{IsNamed};
 
 use crate::streams::write_all;
-use pth_base::sink::{Sink, SinkErr};
 use pth_print::fault_line::{Fault, fault_line};
+use pth_streams::sink::{Sink, SinkErr};
 use pth_text::text::Text;
 use std::alloc::Global;
 

@@ -8,12 +8,12 @@ ghost use Rattle.pth_player.specs.Play.{Ran};
 use crate::drive::drive;
 use crate::faults::{fault_of_sink, fault_of_words};
 use crate::script::read_script;
-use pth_base::files::Files;
 use pth_base::outcome::Outcome;
-use pth_base::sink::Sink;
-use pth_base::source::Source;
 use pth_print::fault_line::Fault;
 use pth_sched::machine::Machine;
+use pth_streams::files::Files;
+use pth_streams::sink::Sink;
+use pth_streams::source::Source;
 use pth_words::words::read_words;
 use std::alloc::Global;
 

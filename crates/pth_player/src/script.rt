@@ -1,18 +1,18 @@
 //! The script that the words name, read from the input or from a file.
 
 ghost use Rattle.std.specs.Prelude.{IfOk, IsErrOf, option_map};
-ghost use Rattle.pth_base.specs.Faults.{Rose};
+ghost use Rattle.pth_streams.specs.Faults.{Rose};
 ghost use Rattle.pth_player.specs.Objects.{inputs, object_named, ObjectRose, OthersKept};
 ghost use Rattle.pth_player.specs.Streams.{TakesUpTo};
 ghost use Rattle.pth_player.specs.Play.{ReadsBytes, ReadsScript};
 
 use crate::faults::{fault_of_read, fault_of_script};
 use crate::streams::{ReadFault, read_started, read_up_to};
-use pth_base::files::Files;
-use pth_base::source::Source;
 use pth_line::script::Script;
 use pth_print::fault_line::Fault;
 use pth_script::read::{TEXT_LIMIT, read};
+use pth_streams::files::Files;
+use pth_streams::source::Source;
 use std::alloc::Global;
 
 /// The bytes of a file.

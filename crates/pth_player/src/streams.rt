@@ -2,12 +2,12 @@
 
 ghost use Rattle.std.specs.Prelude.{◌≡◌, ◌≤◌, [], IfOk, OnOk, OnErr, IsErrOf, true};
 ghost use Rattle.std.specs.Io.KnownBytes.{Appends};
-ghost use Rattle.pth_base.specs.Faults.{HasSinkCause, Rose};
+ghost use Rattle.pth_streams.specs.Faults.{HasSinkCause, Rose};
 ghost use Rattle.pth_player.specs.Streams.{TakesUpTo, AppendsPart};
 
-use pth_base::files::Files;
-use pth_base::sink::{Sink, SinkErr};
-use pth_base::source::Source;
+use pth_streams::files::Files;
+use pth_streams::sink::{Sink, SinkErr};
+use pth_streams::source::Source;
 use std::alloc::{AllocError, Global};
 
 // How many bytes one read asks for.

@@ -4,9 +4,9 @@ mod faults;
 mod rows;
 
 use crate::play;
-use pth_base::files::SureFiles;
-use pth_base::sink::SureSink;
-use pth_base::source::SureSource;
+use pth_streams::files::SureFiles;
+use pth_streams::sink::SureSink;
+use pth_streams::source::SureSource;
 use std::alloc::Global;
 use std::test::Fail;
 

@@ -7,11 +7,11 @@ ghost use Rattle.pth_player.specs.Play.{Ends, IsErrNamed, Plays};
 
 use crate::report::report_fault;
 use crate::run::run;
-use pth_base::files::Files;
 use pth_base::outcome::Outcome;
-use pth_base::sink::Sink;
-use pth_base::source::Source;
 use pth_print::fault_line::Fault;
+use pth_streams::files::Files;
+use pth_streams::sink::Sink;
+use pth_streams::source::Source;
 use std::alloc::Global;
 
 /// The status of a run, with the line of a fault on `err`.

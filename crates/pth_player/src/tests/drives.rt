@@ -1,9 +1,9 @@
 use crate::drive::drive;
 use crate::tests::{SCRIPT, TRANSCRIPT};
 use pth_base::outcome::Outcome;
-use pth_base::sink::SureSink;
 use pth_sched::machine::Machine;
 use pth_script::read::read;
+use pth_streams::sink::SureSink;
 use pth_words::choice::Choice;
 use std::test::Fail;
 

@@ -1,8 +1,8 @@
 use crate::play;
 use crate::tests::{SCRIPT, TRANSCRIPT, words};
-use pth_base::files::SureFiles;
-use pth_base::sink::{MemorySink, SureSink};
-use pth_base::source::{MemorySource, SureSource};
+use pth_streams::files::SureFiles;
+use pth_streams::sink::{MemorySink, SureSink};
+use pth_streams::source::{MemorySource, SureSource};
 use std::test::Fail;
 
 #[test]

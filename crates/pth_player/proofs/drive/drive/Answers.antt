@@ -1,5 +1,5 @@
 use Rattle.std.proofs.Common.{Err, arith, le_trans, refl}
-use Rattle.pth_base.specs.declared.sink.SinkErr.TheVariants as sink
+use Rattle.pth_streams.specs.declared.sink.SinkErr.TheVariants as sink
 use Rattle.pth_player.proofs.Driving.{at_end, begins, cut_by_memory, cut_in_end, cut_in_lines, finished, onward, piece, still_left}
 use Rattle.pth_player.proofs.drive.drive.Goals as goal
 

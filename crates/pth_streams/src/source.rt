@@ -4,7 +4,7 @@ ghost use Rattle.std.specs.Prelude.{◌≡◌, ◌+◌, ◌^◌, ◌-◌, ◌↔
 ghost use Rattle.std.specs.Io.{ReadsAtMost};
 ghost use Rattle.std.specs.Io.KnownBytes.{ReadConsumes};
 
-use crate::memory::OutOfMemory;
+use pth_base::memory::OutOfMemory;
 use std::alloc::Global;
 use std::marker::Model;
 
@@ -14,18 +14,18 @@ pub struct Failed;
 
 /// What is read from.
 pub trait Source {
-    ghost use Rattle.pth_base.specs.Faults.{HasCause};
+    ghost use Rattle.pth_streams.specs.Faults.{Counts};
 
     /// What is left, where it is told.
     ghost left: { Self → Option (List ℕ) };
 
-    /// How often it has failed.
+    /// How many of its calls have failed, up to the last value of a `u64`.
     ghost faults: { Self → ℕ };
 
     fn read(&mut self, buf: &mut [u8]) -> Result<usize, Failed>
         ensures bound { ReadsAtMost result buf.new }
         ensures bytes { ReadConsumes (left self.old) (left self.new) result buf.new }
-        ensures cause { HasCause (faults self.old) (faults self.new) result };
+        ensures counts { Counts (faults self.old) (faults self.new) result };
 }
 
 // Copies as many bytes as fit, and says how many.
@@ -50,7 +50,7 @@ pub struct MemorySource {
 
 impl Model for MemorySource {
     ghost use Rattle.std.specs.Prelude.{drop, ◌≤◌, length};
-    ghost use Rattle.pth_base.specs.InMemory.{Feed};
+    ghost use Rattle.pth_streams.specs.InMemory.{Feed};
 
     ghost Value = { Feed };
 
@@ -71,10 +71,17 @@ impl MemorySource {
             faults: 0,
         })
     }
+
+    /// How many reads have failed.
+    pub fn faults(&self) -> u64
+        ensures { result ≡ self.now.faults }
+    {
+        self.faults
+    }
 }
 
 impl Source for MemorySource {
-    ghost use Rattle.pth_base.specs.Faults.{HasCause};
+    ghost use Rattle.pth_streams.specs.Faults.{Counts};
 
     ghost left = { λ s. Some s.left };
 
@@ -83,7 +90,7 @@ impl Source for MemorySource {
     fn read(&mut self, buf: &mut [u8]) -> Result<usize, Failed>
         ensures bound { ReadsAtMost result buf.new }
         ensures bytes { ReadConsumes (Some self.old.left) (Some self.new.left) result buf.new }
-        ensures cause { HasCause self.old.faults self.new.faults result }
+        ensures counts { Counts self.old.faults self.new.faults result }
         ensures fails { IsErr result ↔ Contains self.old.fails (min (self.old.calls + 1) (2 ^ 64 - 1)) }
         ensures calls { self.new.calls ≡ min (self.old.calls + 1) (2 ^ 64 - 1) }
         ensures same { self.new.fails ≡ self.old.fails }

@@ -4,7 +4,7 @@ ghost use Rattle.std.specs.Prelude.{◌≡◌, ◌+◌, ◌<◌, ◌↔◌, ℕ,
 ghost use Rattle.std.specs.Io.{WritesAtMost};
 ghost use Rattle.std.specs.Io.KnownBytes.{WriteAppends};
 
-use crate::memory::OutOfMemory;
+use pth_base::memory::OutOfMemory;
 use std::alloc::Global;
 use std::marker::Model;
 use thiserror::Error;
@@ -19,7 +19,7 @@ pub enum SinkErr {
 }
 
 impl From<OutOfMemory> for SinkErr {
-    ghost use Rattle.pth_base.specs.declared.sink.SinkErr.TheVariants as sink;
+    ghost use Rattle.pth_streams.specs.declared.sink.SinkErr.TheVariants as sink;
 
     ghost from_gives = { λ _ e. e ≡ sink.OutOfMemory };
 
@@ -30,20 +30,21 @@ impl From<OutOfMemory> for SinkErr {
 
 /// What is written to.
 pub trait Sink {
-    ghost use Rattle.pth_base.specs.Faults.{HasSinkCause};
+    ghost use Rattle.pth_streams.specs.Faults.{CountsSink};
 
     /// What was written, where it is told.
     ghost written: { Self → Option (List ℕ) };
 
-    /// How often it has failed.
+    /// How many of its calls have failed, up to the last value of a `u64`.
     ghost faults: { Self → ℕ };
 
     fn write(&mut self, bytes: &[u8]) -> Result<usize, SinkErr>
         ensures bound { WritesAtMost result bytes.now }
         ensures progress { IfOk result (λ n. 0 < length bytes.now → 0 < n) }
         ensures bytes { WriteAppends (written self.old) (written self.new) result bytes.now }
-        ensures cause { HasSinkCause (faults self.old) (faults self.new) result };
+        ensures counts { CountsSink (faults self.old) (faults self.new) result };
 }
+
 /// A sink with so much room, which fails where none is left.
 #[derive(Drop)]
 pub struct MemorySink {
@@ -54,7 +55,7 @@ pub struct MemorySink {
 
 impl Model for MemorySink {
     ghost use Rattle.std.specs.Prelude.{◌+◌, ◌≤◌, length, vec_capacity};
-    ghost use Rattle.pth_base.specs.InMemory.{Paper};
+    ghost use Rattle.pth_streams.specs.InMemory.{Paper};
 
     ghost Value = { Paper };
 
@@ -79,10 +80,17 @@ impl MemorySink {
     {
         self.bytes.as_slice()
     }
+
+    /// How many writes have failed.
+    pub fn faults(&self) -> u64
+        ensures { result ≡ self.now.faults }
+    {
+        self.faults
+    }
 }
 
 impl Sink for MemorySink {
-    ghost use Rattle.pth_base.specs.Faults.{HasSinkCause};
+    ghost use Rattle.pth_streams.specs.Faults.{CountsSink};
 
     ghost written = { λ s. Some s.bytes };
 
@@ -92,7 +100,7 @@ impl Sink for MemorySink {
         ensures bound { WritesAtMost result bytes.now }
         ensures progress { IfOk result (λ n. 0 < length bytes.now → 0 < n) }
         ensures bytes { WriteAppends (Some self.old.bytes) (Some self.new.bytes) result bytes.now }
-        ensures cause { HasSinkCause self.old.faults self.new.faults result }
+        ensures counts { CountsSink self.old.faults self.new.faults result }
         ensures fails { IsErrOf result SinkErr.Failed ↔ (0 < length bytes.now) × (self.old.room ≡ 0) }
         ensures no_memory { IsErrOf result SinkErr.OutOfMemory → ⊥ }
         ensures room { IfOk result (λ n. self.new.room + n ≡ self.old.room) }

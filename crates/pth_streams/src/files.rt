@@ -4,14 +4,14 @@ ghost use Rattle.std.specs.Prelude.{◌≡◌, ◌+◌, ◌-◌, ◌^◌, ◌↔
 ghost use Rattle.std.specs.Io.{ReadsAtMost};
 ghost use Rattle.std.specs.Io.KnownBytes.{ReadConsumes};
 
-use crate::memory::OutOfMemory;
 use crate::source::{Failed, fill};
+use pth_base::memory::OutOfMemory;
 use std::alloc::Global;
 use std::marker::Model;
 
 /// Files, one started at a time.
 pub trait Files {
-    ghost use Rattle.pth_base.specs.Faults.{HasCause};
+    ghost use Rattle.pth_streams.specs.Faults.{Counts};
 
     /// Whether a file is started.
     ghost started: { Self → Bool };
@@ -22,21 +22,21 @@ pub trait Files {
     /// The bytes under a name, where they are told.
     ghost held: { Self → List ℕ → Option (List ℕ) };
 
-    /// How often they have failed.
+    /// How many of their calls have failed, up to the last value of a `u64`.
     ghost faults: { Self → ℕ };
 
     fn start(&mut self, name: &str) -> Result<(), Failed>
         ensures started { OnOk result (started self.new ≡ true) }
         ensures none { OnErr result (started self.new ≡ false) }
         ensures whole { OnOk result (left self.new ≡ held self.old name.now) }
-        ensures cause { HasCause (faults self.old) (faults self.new) result };
+        ensures counts { Counts (faults self.old) (faults self.new) result };
 
     fn read(&mut self, buf: &mut [u8]) -> Result<usize, Failed>
         requires { started self.old ≡ true }
         ensures started { started self.new ≡ true }
         ensures bound { ReadsAtMost result buf.new }
         ensures bytes { ReadConsumes (left self.old) (left self.new) result buf.new }
-        ensures cause { HasCause (faults self.old) (faults self.new) result };
+        ensures counts { Counts (faults self.old) (faults self.new) result };
 }
 
 /// One file under one name. It fails at the calls with the numbers it is given, counted from 1.
@@ -52,7 +52,7 @@ pub struct MemoryFiles {
 
 impl Model for MemoryFiles {
     ghost use Rattle.std.specs.Prelude.{drop, ◌≤◌, length, option_map, IfSome, string_bytes};
-    ghost use Rattle.pth_base.specs.InMemory.{Shelf};
+    ghost use Rattle.pth_streams.specs.InMemory.{Shelf};
 
     ghost Value = { Shelf };
 
@@ -93,11 +93,18 @@ impl MemoryFiles {
             faults: 0,
         })
     }
+
+    /// How many starts and reads have failed.
+    pub fn faults(&self) -> u64
+        ensures { result ≡ self.now.faults }
+    {
+        self.faults
+    }
 }
 
 impl Files for MemoryFiles {
-    ghost use Rattle.pth_base.specs.Faults.{HasCause};
-    ghost use Rattle.pth_base.specs.InMemory.{held_under};
+    ghost use Rattle.pth_streams.specs.Faults.{Counts};
+    ghost use Rattle.pth_streams.specs.InMemory.{held_under};
 
     ghost started = { λ s. is_some s.rest };
 
@@ -111,7 +118,7 @@ impl Files for MemoryFiles {
         ensures started { OnOk result (is_some self.new.rest ≡ true) }
         ensures none { OnErr result (is_some self.new.rest ≡ false) }
         ensures whole { OnOk result (self.new.rest ≡ held_under self.old name.now) }
-        ensures cause { HasCause self.old.faults self.new.faults result }
+        ensures counts { Counts self.old.faults self.new.faults result }
         ensures fails { IsErr result ↔ Contains self.old.fails (min (self.old.calls + 1) (2 ^ 64 - 1)) ⊎ (name.now ≢ self.old.name) }
         ensures calls { self.new.calls ≡ min (self.old.calls + 1) (2 ^ 64 - 1) }
         ensures same { (self.new.name ≡ self.old.name) × (self.new.bytes ≡ self.old.bytes) × (self.new.fails ≡ self.old.fails) }
@@ -131,7 +138,7 @@ impl Files for MemoryFiles {
         ensures started { is_some self.new.rest ≡ true }
         ensures bound { ReadsAtMost result buf.new }
         ensures bytes { ReadConsumes self.old.rest self.new.rest result buf.new }
-        ensures cause { HasCause self.old.faults self.new.faults result }
+        ensures counts { Counts self.old.faults self.new.faults result }
         ensures fails { IsErr result ↔ Contains self.old.fails (min (self.old.calls + 1) (2 ^ 64 - 1)) }
         ensures calls { self.new.calls ≡ min (self.old.calls + 1) (2 ^ 64 - 1) }
         ensures same { (self.new.name ≡ self.old.name) × (self.new.bytes ≡ self.old.bytes) × (self.new.fails ≡ self.old.fails) }
@@ -177,7 +184,7 @@ impl SureFiles {
 }
 
 impl Files for SureFiles {
-    ghost use Rattle.pth_base.specs.Faults.{HasCause};
+    ghost use Rattle.pth_streams.specs.Faults.{Counts};
 
     ghost started = { λ s. is_some s.1 };
 
@@ -191,7 +198,7 @@ impl Files for SureFiles {
         ensures started { OnOk result (is_some self.new.1 ≡ true) }
         ensures none { OnErr result (is_some self.new.1 ≡ false) }
         ensures whole { OnOk result (self.new.1 ≡ Some self.old.0) }
-        ensures cause { HasCause 0 0 result }
+        ensures counts { Counts 0 0 result }
         ensures same { self.new.0 ≡ self.old.0 }
     {
         let _ = name;
@@ -204,7 +211,7 @@ impl Files for SureFiles {
         ensures started { is_some self.new.1 ≡ true }
         ensures bound { ReadsAtMost result buf.new }
         ensures bytes { ReadConsumes self.old.1 self.new.1 result buf.new }
-        ensures cause { HasCause 0 0 result }
+        ensures counts { Counts 0 0 result }
         ensures same { self.new.0 ≡ self.old.0 }
     {
         let at = self.at.unwrap();
