@@ -7,7 +7,7 @@ use Rattle.pth_base.specs.declared.outcome.Outcome.TheVariants as outcomes
 use Rattle.pth_streams.specs.declared.sink.SinkErr.{SinkErr}
 use Rattle.pth_streams.specs.declared.sink.SinkErr.TheVariants as sink
 use Rattle.pth_model.specs.Run.{run}
-use Rattle.pth_print.specs.Lines.{IsNamed, fault_line, fault_status}
+use Rattle.pth_print.specs.Lines.{fault_line, fault_status}
 use Rattle.pth_print.specs.declared.fault_line.Fault.{Fault}
 use Rattle.pth_print.specs.declared.fault_line.Fault.TheVariants as fault
 use Rattle.pth_line.specs.Script.{Sections, functions_of}
@@ -18,12 +18,13 @@ use Rattle.pth_script.specs.declared.breach.Breach.{Breach}
 use Rattle.pth_script.specs.declared.breach.Breach.TheVariants.{Limit, Of}
 use Rattle.pth_words.specs.Words.{Asked}
 use Rattle.pth_player.specs.Faults.{input_fault, place_of}
-use Rattle.pth_player.specs.Objects.{AreHeld, ObjectRead, ObjectRose, OthersKept, Scene, content, cut, object_of}
+use Rattle.pth_player.specs.Objects.{AreHeld, ObjectRead, ObjectRose, ObjectStood, Scene, content, cut, object_of}
 use Rattle.pth_player.specs.Output.{Output, IsRefused, IsTheOutput, IsTheScript, given_script, outcome_status, refusal, told_output}
-use Rattle.pth_player.specs.Play.{Completes, DrivesScript, Ends, Faults, HasLine, HoldsNoScript, IsErrNamed, IsFaultStatus, IsOutputStatus, IsRunStatus, IsUnwritten, Plays, Ran, RanFor, ReadsWhole, RefusesInput, RefusesWords, Reports, TellsFault, WritesLine, WritesOutput, WritesWhole}
+use Rattle.pth_player.specs.Play.{Completes, DrivesScript, Ends, Faults, HoldsNoScript, IsAtHand, IsErrNamed, IsFaultStatus, IsOutputStatus, IsRunStatus, IsUnwritten, Plays, Ran, RanFor, ReadsWhole, RefusesInput, RefusesWords, Reports, TellsFault, WritesLine, WritesOutput, WritesWhole}
 use Rattle.pth_player.specs.Streams.{AppendsPart, AppendsPrefix}
 use Rattle.pth_player.proofs.Outputs.{refused_output, script_output, words_output}
 use Rattle.pth_player.proofs.Pieces.{all_of, none_after, part_is_prefix}
+use Rattle.pth_player.proofs.Reading.{read_stood}
 use Rattle.pth_player.proofs.Results.{always, told}
 
 -- a fault other than this one has this status only where memory ran out
@@ -129,7 +130,7 @@ module _ (old new : Scene) (status : ℕ) (w x : Option (List ℕ)) (b n : ℕ) 
     beginning_for (Err fault.WriteFault) ran ends e =
         let d = ran.1 in
         inr (d.0, d.1, d.4.0, script_output asked d.0 d.2 d.4.0 d.3 d.4.1, part_is_prefix old.written new.written d.4.0.text d.4.2)
-    beginning_for (Err fault.OutOfMemory) ran ends e = elim ran [ inl none ↦ inl none | inr d ↦ inr (d.0, d.1, d.4.0, script_output asked d.0 d.2 d.4.0 d.3 d.4.1, d.4.2) ]
+    beginning_for (Err fault.OutOfMemory) ran ends e = elim ran.1 [ inl none ↦ inl none.0 | inr d ↦ inr (d.0, d.1, d.4.0, script_output asked d.0 d.2 d.4.0 d.3 d.4.1, d.4.2) ]
 
     nothing_for : (r : Result Outcome Fault) → RanFor asked old new r → Ends r status w x b n → Nothing → IsUnwritten old new
     nothing_for (Ok o) ran ends h = absurd (not_fault o status ends.0 (elim h [ inl two ↦ inl two | inr k ↦ elim k [ inl three ↦ inr (inl three) | inr four ↦ inr (inr (inl four)) ] ]))
@@ -138,6 +139,24 @@ module _ (old new : Scene) (status : ℕ) (w x : Option (List ℕ)) (b n : ℕ) 
     nothing_for (Err fault.ReadFault) ran ends h = ran.1
     nothing_for (Err fault.WriteFault) ran ends h = grind arith
     nothing_for (Err fault.OutOfMemory) ran ends h = grind arith
+
+    read_counts : (r : Result Outcome Fault) → RanFor asked old new r → Ends r status w x b n
+        → ObjectStood (object_of (Some asked)) old.ins new.ins ⊎ (ObjectRose (object_of (Some asked)) old.ins new.ins × ((status ≡ 4) ⊎ (status ≡ 7)))
+    read_counts (Ok o) ran ends = inl (read_stood (object_of (Some asked)) old.ins new.ins ran.0)
+    read_counts (Err fault.Words) ran ends = absurd ran
+    read_counts (Err (fault.Input line rule)) ran ends = inl (read_stood (object_of (Some asked)) old.ins new.ins ran.0)
+    read_counts (Err fault.ReadFault) ran ends = inr (ran.0, elim ends [ inl k ↦ inl k.0 | inr k ↦ inr k.0 ])
+    read_counts (Err fault.WriteFault) ran ends = inl (read_stood (object_of (Some asked)) old.ins new.ins ran.0)
+    read_counts (Err fault.OutOfMemory) ran ends = inl ran.0
+
+    written_counts : (r : Result Outcome Fault) → RanFor asked old new r → Ends r status w x b n
+        → (new.out_faults ≡ old.out_faults) ⊎ (Rose old.out_faults new.out_faults × ((status ≡ 5) ⊎ (status ≡ 7)))
+    written_counts (Ok o) ran ends = inl ran.1.4.4
+    written_counts (Err fault.Words) ran ends = absurd ran
+    written_counts (Err (fault.Input line rule)) ran ends = inl ran.2.1
+    written_counts (Err fault.ReadFault) ran ends = inl ran.1.1
+    written_counts (Err fault.WriteFault) ran ends = inr (ran.1.4.3, elim ends [ inl k ↦ inl k.0 | inr k ↦ inr k.0 ])
+    written_counts (Err fault.OutOfMemory) ran ends = elim ran.1 [ inl none ↦ inl none.1 | inr d ↦ inl d.4.3 ]
 
     completes_for : (r : Result Outcome Fault) → RanFor asked old new r → Ends r status w x b n → (ObjectRose (object_of (Some asked)) old.ins new.ins → ⊥)
         → (Rose old.out_faults new.out_faults → ⊥) → IsOutputStatus status ⊎ (status ≡ 7)
@@ -224,21 +243,13 @@ module _ (old new : Scene) (status : ℕ) (w x : Option (List ℕ)) (b n : ℕ) 
   refused_or_memory (Err fault.WriteFault) ran ends = absurd ran
   refused_or_memory (Err fault.OutOfMemory) ran ends = elim ends [ inl k ↦ inr k.0 | inr k ↦ inr k.0 ]
 
-  none_written : (r : Result Outcome Fault) → Ran None old new r → Appends old.written new.written []
-  none_written (Ok o) ran = absurd ran
-  none_written (Err fault.Words) ran = ran.0
-  none_written (Err (fault.Input line rule)) ran = absurd ran
-  none_written (Err fault.ReadFault) ran = absurd ran
-  none_written (Err fault.WriteFault) ran = absurd ran
-  none_written (Err fault.OutOfMemory) ran = ran
-
-  none_unwritten : (r : Result Outcome Fault) → Ran None old new r → Ends r status w x b n → status ≢ 7 → IsUnwritten old new
-  none_unwritten (Ok o) ran ends not7 = absurd ran
-  none_unwritten (Err fault.Words) ran ends not7 = ran
-  none_unwritten (Err (fault.Input line rule)) ran ends not7 = absurd ran
-  none_unwritten (Err fault.ReadFault) ran ends not7 = absurd ran
-  none_unwritten (Err fault.WriteFault) ran ends not7 = absurd ran
-  none_unwritten (Err fault.OutOfMemory) ran ends not7 = elim ends [ inl k ↦ absurd (not7 k.0) | inr k ↦ absurd (not7 k.0) ]
+  none_unwritten : (r : Result Outcome Fault) → Ran None old new r → IsUnwritten old new
+  none_unwritten (Ok o) ran = absurd ran
+  none_unwritten (Err fault.Words) ran = ran
+  none_unwritten (Err (fault.Input line rule)) ran = absurd ran
+  none_unwritten (Err fault.ReadFault) ran = absurd ran
+  none_unwritten (Err fault.WriteFault) ran = absurd ran
+  none_unwritten (Err fault.OutOfMemory) ran = ran
 
   not_refused_words : (r : Result Outcome Fault) → Ran None old new r → Ends r status w x b n → status ≢ 2 → status ≢ 7 → ⊥
   not_refused_words r ran ends not2 not7 = elim (refused_or_memory r ran ends) [ inl k ↦ not2 k.1 | inr k ↦ not7 k ]
@@ -254,17 +265,25 @@ module _ (old new : Scene) (status : ℕ) (w x : Option (List ℕ)) (b n : ℕ) 
   }
   writes_output None r ran ends = record {
     whole = λ h. elim (refused_or_memory r ran ends) [
-      | inl k ↦ ([], refl, refusal fault.Words, words_output [], k.1, none_written r ran, k.2)
+      | inl k ↦ ([], refl, refusal fault.Words, words_output [], k.1, (none_unwritten r ran).0, k.2)
       | inr k ↦ absurd (not_whole status (inr (inr k)) h)
     ];
     part = λ e. absurd (not_refused_words r ran ends (λ two. omega arith) (λ seven. omega arith));
-    beginning = λ e. inl (none_written r ran);
-    nothing = λ h. none_unwritten r ran ends (not_nothing h);
+    beginning = λ e. inl (none_unwritten r ran).0;
+    nothing = λ h. none_unwritten r ran;
   }
 
   completes : (asked : Option Asked) (r : Result Outcome Fault) → Ran asked old new r → Ends r status w x b n → Completes asked old new status w x b n
-  completes (Some asked) r ran ends read write = elim (completes_for asked r ran ends read write) [ inl out ↦ inl (whole_for asked r ran ends out) | inr seven ↦ inr seven ]
-  completes None r ran ends read write = elim (refused_or_memory r ran ends) [ inl k ↦ inl ((writes_output None r ran ends).whole (inr (inl k.1))) | inr seven ↦ inr seven ]
+  completes (Some asked) r ran ends = record {
+    whole = λ read write. elim (completes_for asked r ran ends read write) [ inl out ↦ inl (whole_for asked r ran ends out) | inr seven ↦ inr seven ];
+    read = read_counts asked r ran ends;
+    written = written_counts asked r ran ends;
+  }
+  completes None r ran ends = record {
+    whole = λ read write. elim (refused_or_memory r ran ends) [ inl k ↦ inl ((writes_output None r ran ends).whole (inr (inl k.1))) | inr seven ↦ inr seven ];
+    read = inl tt;
+    written = inl (none_unwritten r ran).1;
+  }
 
   reads_whole : (asked : Option Asked) (r : Result Outcome Fault) → Ran asked old new r → Ends r status w x b n → ReadsWhole asked old new status
   reads_whole (Some asked) r ran ends not4 not7 = read_for asked r ran ends not4 not7
@@ -288,37 +307,13 @@ module _ (old new : Scene) (status : ℕ) (w x : Option (List ℕ)) (b n : ℕ) 
     write = λ e. absurd (not_refused_words r ran ends (λ two. omega arith) (λ seven. omega arith));
   }
 
--- ---- what `err` received
-
-module _ (status : ℕ) (w x : Option (List ℕ)) (b n : ℕ) where
-  line_of : (f : Fault) → IsNamed f → HasLine (fault_status f) (fault_line f)
-  line_of f named = (f, named, refl, refl)
-
-  quiet : (r : Result Outcome Fault) → Ends r status w x b n → IsRunStatus status → Appends w x [] × (n ≡ b)
-  quiet (Ok o) ends h = ends.1
-  quiet (Err f) ends h = absurd (not_run f status w x b n ends h)
-
-  loud : (r : Result Outcome Fault) → IsErrNamed r → Ends r status w x b n → IsFaultStatus status → (line : List ℕ) × HasLine status line × WritesLine w x b n line
-  loud (Ok o) named ends h = absurd (not_fault o status ends.0 h)
-  loud (Err f) named ends h = elim ends [
-    | inl k ↦ (fault_line f, subst (λ s. HasLine s (fault_line f)) (sym k.0) (line_of f named), k.1)
-    | inr k ↦ absurd (not_seven status h k.0)
-  ]
-
-  memory : (r : Result Outcome Fault) → IsErrNamed r → Ends r status w x b n → status ≡ 7 → (s : ℕ) × (line : List ℕ) × HasLine s line × AppendsPrefix w x line
-  memory (Ok o) named ends h = (7, fault_line fault.OutOfMemory, line_of fault.OutOfMemory tt, none_after w x (fault_line fault.OutOfMemory) ends.1.0)
-  memory (Err f) named ends h = (
-    fault_status f,
-    fault_line f,
-    line_of f named,
-    elim ends [
-      | inl k ↦ elim k.1 [ inl p ↦ all_of w x (fault_line f) p | inr p ↦ part_is_prefix w x (fault_line f) p.0 ]
-      | inr k ↦ k.1
-    ],
-  )
-
-  tells_fault : (r : Result Outcome Fault) → IsErrNamed r → Ends r status w x b n → TellsFault status w x b n
-  tells_fault r named ends = record { quiet = quiet r ends; loud = loud r named ends; memory = memory r named ends }
+-- a run that was written whole was written as far as memory lasted
+ran_out : (old new : Scene) (asked : Option Asked) (o : Outcome) → Ran asked old new (Ok o) → Ran asked old new (Err fault.OutOfMemory)
+ran_out old new None o ran = absurd ran
+ran_out old new (Some asked) o ran =
+    let d = ran.1 in
+    let out = told_output asked (run functions_of (given_script d.2) d.4.0) in
+    (read_stood (object_of (Some asked)) old.ins new.ins ran.0, inr (d.0, d.1, d.2, d.3, (out, (d.4.0, d.4.1, refl), all_of old.written new.written out.text d.4.3, d.4.4)))
 
 -- each rule has a place of the table
 place_within : (b : Breach) → place_of b < 13
@@ -349,16 +344,43 @@ named old new asked (Err fault.ReadFault) ran = tt
 named old new asked (Err fault.WriteFault) ran = tt
 named old new asked (Err fault.OutOfMemory) ran = tt
 
+-- ---- what `err` received
+
+module _ (old new : Scene) (asked : Option Asked) (status : ℕ) (w x : Option (List ℕ)) (b n : ℕ) where
+  at_hand : (f : Fault) → Ran asked old new (Err f) → IsAtHand asked old new f
+  at_hand f ran = record { ran = ran; named = named old new asked (Err f) ran }
+
+  quiet : (r : Result Outcome Fault) → Ends r status w x b n → IsRunStatus status → Appends w x [] × (n ≡ b)
+  quiet (Ok o) ends h = ends.1
+  quiet (Err f) ends h = absurd (not_run f status w x b n ends h)
+
+  loud : (r : Result Outcome Fault) → Ran asked old new r → Ends r status w x b n → IsFaultStatus status
+      → (f : Fault) × IsAtHand asked old new f × (status ≡ fault_status f) × WritesLine w x b n (fault_line f)
+  loud (Ok o) ran ends h = absurd (not_fault o status ends.0 h)
+  loud (Err f) ran ends h = elim ends [ inl k ↦ (f, at_hand f ran, k.0, k.1) | inr k ↦ absurd (not_seven status h k.0) ]
+
+  memory : (r : Result Outcome Fault) → Ran asked old new r → Ends r status w x b n → status ≡ 7 → (f : Fault) × IsAtHand asked old new f × AppendsPrefix w x (fault_line f)
+  memory (Ok o) ran ends h = (fault.OutOfMemory, at_hand fault.OutOfMemory (ran_out old new asked o ran), none_after w x (fault_line fault.OutOfMemory) ends.1.0)
+  memory (Err f) ran ends h = (
+    f,
+    at_hand f ran,
+    elim ends [
+      | inl k ↦ elim k.1 [ inl p ↦ all_of w x (fault_line f) p.0 | inr p ↦ part_is_prefix w x (fault_line f) p.0 ]
+      | inr k ↦ k.1.0
+    ],
+  )
+
+  tells_fault : (r : Result Outcome Fault) → Ran asked old new r → Ends r status w x b n → TellsFault asked old new status w x b n
+  tells_fault r ran ends = record { quiet = quiet r ends; loud = loud r ran ends; memory = memory r ran ends }
+
 -- what the call did
-pub plays : (old new : Scene) (status : ℕ) (w x : Option (List ℕ)) (b n : ℕ) (asked : Option Asked) (r : Result Outcome Fault) → OthersKept (object_of asked) old.ins new.ins
-    → Ran asked old new r → Ends r status w x b n → Plays asked old new status w x b n
-plays old new status w x b n asked r others ran ends = record {
-  others_kept = others;
+pub plays : (old new : Scene) (status : ℕ) (w x : Option (List ℕ)) (b n : ℕ) (asked : Option Asked) (r : Result Outcome Fault) → Ran asked old new r → Ends r status w x b n → Plays asked old new status w x b n
+plays old new status w x b n asked r ran ends = record {
   reads_whole = reads_whole old new status w x b n asked r ran ends;
   refuses_words = refuses_words old new status w x b n asked r ran ends;
   refuses_input = refuses_input old new status w x b n asked r ran ends;
   faults = fails old new status w x b n asked r ran ends;
   writes_output = writes_output old new status w x b n asked r ran ends;
   completes = completes old new status w x b n asked r ran ends;
-  fault_line = tells_fault status w x b n r (named old new asked r ran) ends;
+  fault_line = tells_fault old new asked status w x b n r ran ends;
 }

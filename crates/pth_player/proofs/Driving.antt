@@ -3,7 +3,7 @@ use Rattle.std.proofs.Common.{◌≡◌, ◌≢◌, ◌∙◌, ◌+◌, ◌-◌,
 use Rattle.std.proofs.lemmas.Bool.{cases_lt}
 use Rattle.std.proofs.KnownBytes.{Appends-nil, Appends-trans}
 use Rattle.std.specs.Io.KnownBytes.{Appends}
-use Rattle.pth_streams.specs.Faults.{HasSinkCause, Rose}
+use Rattle.pth_streams.specs.Faults.{CountsSink, Rose}
 use Rattle.pth_base.specs.Program.{Functions}
 use Rattle.pth_base.specs.declared.mark.Mark.{Mark}
 use Rattle.pth_base.specs.declared.outcome.Outcome.{Outcome}
@@ -33,8 +33,9 @@ use Rattle.pth_player.proofs.Pieces.{none_of, part_is_prefix, part_then, prefix_
 true_false : true ≡ false → ⊥
 true_false h = cc
 
-pub rose_later : (a b c : ℕ) → a ≤ b → Rose b c → Rose a c
-rose_later a b c le rose = omega arith
+-- a fault that comes after none
+rose_later : (a b c : ℕ) → b ≡ a → Rose b c → Rose a c
+rose_later a b c same rose = subst (λ (n : ℕ). Rose n c) same rose
 
 ended_by : (to steps : ℕ) (o : Outcome) (p : Part) → o ≢ outcomes.Running → stops_by to steps (unless_ended o p) ≡ true
 ended_by to steps outcomes.Running p h = absurd (h refl)
@@ -180,32 +181,34 @@ module _ {P S H : Type 0} (f : P → Functions S H) (g : Given P) (asked : Asked
     ]
 
     -- memory ended before the last marks were written
-    pub cut_by_memory : (pending : List Mark) (i j : ℕ) (r : Result Outcome SinkErr) → Underway m a b pending → IsErr r → IsErrAnd r (λ e. e ≡ sink.OutOfMemory)
+    pub cut_by_memory : (pending : List Mark) (i j : ℕ) (r : Result Outcome SinkErr) → Underway m a b pending → j ≡ i → IsErr r → IsErrAnd r (λ e. e ≡ sink.OutOfMemory)
         → Drives f g asked a b i j r
-    cut_by_memory pending i j r u h k = subst (Drives f g asked a b i j) (sym (err_is r sink.OutOfMemory h k)) (
+    cut_by_memory pending i j r u stood h k = subst (Drives f g asked a b i j) (sym (err_is r sink.OutOfMemory h k)) (
       whole,
       whole_is,
       let t = goes_further pending u in subst (AppendsPrefix a b) t.1 (prefix_then a b b (shown_of asked u.done) (shown_of asked pending) t.0 u.written (none_of b (shown_of asked pending))),
+      stood,
     )
 
     module _ (c : Option (List ℕ)) (i j k : ℕ) where
-      cut_in_lines_by : (pending : List Mark) (x : SinkErr) → Underway m a b pending → i ≤ j → WritesPiece b c j k (shown_of asked pending) (Err x) → Drives f g asked a c i k (Err x)
-      cut_in_lines_by pending sink.Failed u le w = (
+      cut_in_lines_by : (pending : List Mark) (x : SinkErr) → Underway m a b pending → j ≡ i → WritesPiece b c j k (shown_of asked pending) (Err x) → Drives f g asked a c i k (Err x)
+      cut_in_lines_by pending sink.Failed u stood w = (
         whole,
         whole_is,
-        let t = goes_further pending u in subst (AppendsPart a c) t.1 (part_then a b c (shown_of asked u.done) (shown_of asked pending) t.0 u.written w.1.0),
-        rose_later i j k le w.1.1,
+        let t = goes_further pending u in subst (AppendsPart a c) t.1 (part_then a b c (shown_of asked u.done) (shown_of asked pending) t.0 u.written w.0),
+        rose_later i j k stood w.1,
       )
-      cut_in_lines_by pending sink.OutOfMemory u le w = (
+      cut_in_lines_by pending sink.OutOfMemory u stood w = (
         whole,
         whole_is,
-        let t = goes_further pending u in subst (AppendsPrefix a c) t.1 (prefix_then a b c (shown_of asked u.done) (shown_of asked pending) t.0 u.written w.1),
+        let t = goes_further pending u in subst (AppendsPrefix a c) t.1 (prefix_then a b c (shown_of asked u.done) (shown_of asked pending) t.0 u.written w.0),
+        w.1 ∙ stood,
       )
 
       -- the lines of the last marks were not written whole
-      pub cut_in_lines : (pending : List Mark) (x : SinkErr) (r : Result Outcome SinkErr) → Underway m a b pending → i ≤ j → WritesPiece b c j k (shown_of asked pending) (Err x)
+      pub cut_in_lines : (pending : List Mark) (x : SinkErr) (r : Result Outcome SinkErr) → Underway m a b pending → j ≡ i → WritesPiece b c j k (shown_of asked pending) (Err x)
           → IsErr r → IsErrAnd r (λ e. e ≡ x) → Drives f g asked a c i k r
-      cut_in_lines pending x r u le w is e = subst (Drives f g asked a c i k) (sym (err_is r x is e)) (cut_in_lines_by pending x u le w)
+      cut_in_lines pending x r u stood w is e = subst (Drives f g asked a c i k) (sym (err_is r x is e)) (cut_in_lines_by pending x u stood w)
 
       -- at the end, where what is written last is that of the state
       module _ (o : Outcome) (r : Result (Unit {0}) SinkErr) (s : Stopped asked.steps m a b []) (is : o ≡ m.outcome)
@@ -232,50 +235,53 @@ module _ {P S H : Type 0} (f : P → Functions S H) (g : Given P) (asked : Asked
         cut_is : shown_of asked s.0.done ++ (ending_of asked last ++ []) ≡ out.text
         cut_is = ap (λ (l : List ℕ). shown_of asked s.0.done ++ l) (append-nil (ending_of asked last)) ∙ text_is
 
-        cut_in_end_by : (x : SinkErr) → i ≤ j → WritesPiece b c j k (ending_of asked last) (Err x) → Drives f g asked a c i k (Err x)
-        cut_in_end_by sink.Failed le w = (
+        cut_in_end_by : (x : SinkErr) → j ≡ i → WritesPiece b c j k (ending_of asked last) (Err x) → Drives f g asked a c i k (Err x)
+        cut_in_end_by sink.Failed stood w = (
           out,
           out_is,
-          subst (AppendsPart a c) cut_is (part_then a b c (shown_of asked s.0.done) (ending_of asked last) [] s.0.written w.1.0),
-          rose_later i j k le w.1.1,
+          subst (AppendsPart a c) cut_is (part_then a b c (shown_of asked s.0.done) (ending_of asked last) [] s.0.written w.0),
+          rose_later i j k stood w.1,
         )
-        cut_in_end_by sink.OutOfMemory le w = (
+        cut_in_end_by sink.OutOfMemory stood w = (
           out,
           out_is,
-          subst (AppendsPrefix a c) cut_is (prefix_then a b c (shown_of asked s.0.done) (ending_of asked last) [] s.0.written w.1),
+          subst (AppendsPrefix a c) cut_is (prefix_then a b c (shown_of asked s.0.done) (ending_of asked last) [] s.0.written w.0),
+          w.1 ∙ stood,
         )
 
         -- the end was not written whole
-        pub cut_in_end : (x : SinkErr) (d : Result Outcome SinkErr) → i ≤ j → r ≡ Err x → IsErr d → IsErrAnd d (λ e. e ≡ x) → Drives f g asked a c i k d
-        cut_in_end x d le w h e =
-            subst (Drives f g asked a c i k) (sym (err_is d x h e)) (cut_in_end_by x le (subst (WritesPiece b c j k (ending_of asked last)) w (writes last s.0.stands)))
+        pub cut_in_end : (x : SinkErr) (d : Result Outcome SinkErr) → j ≡ i → r ≡ Err x → IsErr d → IsErrAnd d (λ e. e ≡ x) → Drives f g asked a c i k d
+        cut_in_end x d stood w h e =
+            subst (Drives f g asked a c i k) (sym (err_is d x h e)) (cut_in_end_by x stood (subst (WritesPiece b c j k (ending_of asked last)) w (writes last s.0.stands)))
 
         -- all was written
-        pub finished : (x : Unit {0}) → r ≡ Ok x → Drives f g asked a c i k (Ok o)
-        finished x w = (
-          s.0.at,
-          here,
-          outcome_is,
-          subst (Appends a c) text_is (Appends-trans a b c (shown_of asked s.0.done) (ending_of asked last) s.0.written (subst (WritesPiece b c j k (ending_of asked last)) w (writes last s.0.stands)).1),
-        )
+        pub finished : (x : Unit {0}) → j ≡ i → r ≡ Ok x → Drives f g asked a c i k (Ok o)
+        finished x stood w =
+            let wrote = subst (WritesPiece b c j k (ending_of asked last)) w (writes last s.0.stands) in (
+              s.0.at,
+              here,
+              outcome_is,
+              subst (Appends a c) text_is (Appends-trans a b c (shown_of asked s.0.done) (ending_of asked last) s.0.written wrote.0),
+              wrote.1 ∙ stood,
+            )
 
 -- memory ran out before a piece was written
 pub cut_before : (a : Option (List ℕ)) (f : ℕ) (text : List ℕ) (r : Result (Unit {0}) SinkErr) → IsErr r → IsErrAnd r (λ e. e ≡ sink.OutOfMemory) → WritesPiece a a f f text r
-cut_before a f text r h k = subst (WritesPiece a a f f text) (sym (err_is r sink.OutOfMemory h k)) (omega arith, none_of a text)
+cut_before a f text r h k = subst (WritesPiece a a f f text) (sym (err_is r sink.OutOfMemory h k)) (none_of a text, refl)
 
 -- as many steps as were asked for are made, and are left
 pub still_left : (made now left n total size : ℕ) → now ≡ made + n → made + left ≡ total → n ≡ min left size → now + (left - n) ≡ total
 still_left made now left n total size a b e = omega arith
 
-piece_by : (a b : Option (List ℕ)) (f g : ℕ) (text : List ℕ) (r : Result (Unit {0}) SinkErr) → OnOk r (Appends a b text) → OnErr r (AppendsPart a b text) → HasSinkCause f g r → WritesPiece a b f g text r
-piece_by a b f g text (Ok x) all part cause = (cause.later, all)
-piece_by a b f g text (Err sink.Failed) all part cause = (cause.later, (part, cause.failed refl))
-piece_by a b f g text (Err sink.OutOfMemory) all part cause = (cause.later, part_is_prefix a b text part)
+piece_by : (a b : Option (List ℕ)) (f g : ℕ) (text : List ℕ) (r : Result (Unit {0}) SinkErr) → OnOk r (Appends a b text) → OnErr r (AppendsPart a b text) → CountsSink f g r → WritesPiece a b f g text r
+piece_by a b f g text (Ok x) all part counts = (all, counts)
+piece_by a b f g text (Err sink.Failed) all part counts = (part, counts)
+piece_by a b f g text (Err sink.OutOfMemory) all part counts = (part_is_prefix a b text part, counts)
 
 -- what is written of these bytes is written of the text that they are
 pub piece_of : (a b : Option (List ℕ)) (f g : ℕ) (text : List ℕ) (r : Result (Unit {0}) SinkErr) {bytes : List ℕ} → bytes ≡ text → OnOk r (Appends a b bytes) → OnErr r (AppendsPart a b bytes)
-    → HasSinkCause f g r → WritesPiece a b f g text r
-piece_of a b f g text r {bytes} is all part cause = subst (λ (l : List ℕ). WritesPiece a b f g l r) is (piece_by a b f g bytes r all part cause)
+    → CountsSink f g r → WritesPiece a b f g text r
+piece_of a b f g text r {bytes} is all part counts = subst (λ (l : List ℕ). WritesPiece a b f g l r) is (piece_by a b f g bytes r all part counts)
 
 -- what was made at the end is what is to be written there
 pub ending_is : {P S H : Type 0} (asked : Asked) (m : MachineOf P S H) (s : State P S H) (o : Outcome) (seen threads : List Tid) (clear counts text bytes : List ℕ) → Stands m s → o ≡ m.outcome

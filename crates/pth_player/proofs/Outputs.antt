@@ -9,6 +9,8 @@ use Rattle.pth_print.specs.declared.fault_line.Fault.TheVariants as fault
 use Rattle.pth_line.specs.Script.{Sections, functions_of}
 use Rattle.pth_script.specs.Broken.{IsRefusal}
 use Rattle.pth_script.specs.declared.breach.Breach.{Breach}
+use Rattle.pth_sched.proofs.Stopping.{run_stops}
+use Rattle.pth_script.proofs.Whole.{accepted_or_refused, script_of}
 use Rattle.pth_script.proofs.Once.{not_both, one_script, same_breach, same_line}
 use Rattle.pth_player.specs.Faults.{input_fault}
 use Rattle.pth_player.specs.Output.{Output, IsOutput, IsRunOutput, IsTheOutput, IsTheScript, given_script, refusal, told_output}
@@ -45,6 +47,18 @@ script_output asked bytes script out stands is = (
     | inr k ↦ absurd (not_both (cut bytes) k.0 k.1 stands.0 k.2)
   ],
 )
+
+-- each input has one
+pub output_of : (asked : Option Asked) (bytes : List ℕ) → (out : Output) × IsTheOutput asked bytes out
+output_of None bytes = (refusal fault.Words, words_output bytes)
+output_of (Some asked) bytes = elim (accepted_or_refused (cut bytes)) [
+  | inl accepted ↦
+      let script = script_of (cut bytes) accepted in
+      let stop = run_stops functions_of (given_script script.0) asked.steps 0 in
+      let out = told_output asked (run functions_of (given_script script.0) stop.0) in
+      (out, script_output asked bytes script.0 out (accepted, script.1) (stop.0, stop.1, refl))
+  | inr refused ↦ (refusal (input_fault refused.0 refused.1), refused_output asked bytes refused.0 refused.1 refused.2)
+]
 
 -- where the content is told, and for every output that it has: this is the status, this text was appended, and this fault's line was written
 pub exactly : (asked : Option Asked) (old new : Scene) (status : ℕ) (w x : Option (List ℕ)) (b n : ℕ) (bytes : List ℕ) (out : Output) → WritesOutput asked old new status w x b n

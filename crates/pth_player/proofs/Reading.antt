@@ -1,5 +1,5 @@
 -- What reading up to a number of bytes gives, where the bytes are told.
-use Rattle.std.proofs.Common.{◌≡◌, ◌∙◌, ◌≤◌, ℕ, List, [], ◌++◌, length, take, drop, Bool, true, false, not, codes, if◌then◌else◌, option_map, Option, Some, None, Result, Ok, Err, IfSome, IsErr, IsErrAnd, IsErrOf, Vec, Global, MatchResult, ap, sym, refl, subst, arith, inl, inr, append-nil}
+use Rattle.std.proofs.Common.{◌≡◌, ◌∙◌, ◌≤◌, ℕ, List, [], ◌++◌, length, take, drop, Bool, true, false, not, codes, if◌then◌else◌, option_map, Option, Some, None, Result, Ok, Err, IfSome, IfOk, IsErr, IsErrAnd, Vec, Global, MatchResult, ap, sym, refl, subst, arith, inl, inr, append-nil}
 use Rattle.std.specs.Borrow.{Bor}
 use Rattle.std.specs.Str.{bytes_eq}
 use Rattle.std.proofs.lemmas.List.{take_all}
@@ -12,11 +12,11 @@ use Rattle.pth_line.specs.Script.{Sections}
 use Rattle.pth_script.specs.Follows.{Answers}
 use Rattle.pth_script.specs.declared.breach.Breach.TheVariants.{Limit, Of}
 use Rattle.pth_player.specs.Faults.{fault_of_read, fault_of_script}
-use Rattle.pth_player.specs.Objects.{AreHeld, Inputs, LosesRead, Object, ObjectRose, cut, object_named, the_file, the_input}
+use Rattle.pth_player.specs.Objects.{AreHeld, Inputs, LosesRead, Object, ObjectCounts, ObjectRead, ObjectStood, cut, nothing, object_named, the_file, the_input}
 use Rattle.pth_player.specs.Output.{IsTheScript}
 use Rattle.pth_script.specs.Broken.{IsRefusal, text_limit}
 use Rattle.pth_player.specs.Play.{ReadsBytes, ReadsScript}
-use Rattle.pth_player.specs.Streams.{TakesUpTo}
+use Rattle.pth_player.specs.Streams.{CountsRead, TakesUpTo}
 use Rattle.pth_player.specs.declared.streams.ReadFault.{ReadFault}
 use Rattle.pth_player.specs.declared.streams.ReadFault.TheVariants as read
 use Rattle.pth_script.specs.declared.read.ReadErr.{ReadErr}
@@ -59,12 +59,37 @@ unfolding text_limit
 held_is None new bytes t = (bytes, tt, sym (take_all 16777217 bytes t.bound))
 held_is (Some xs) new bytes t = (xs, refl, (takes_is 16777217 (Some xs) new bytes t).0)
 
--- the bytes that were taken of the input, and of a file
-pub input_bytes : (ins later : Inputs) (bytes : List ℕ) → TakesUpTo 16777217 ins.left later.left bytes → ReadsBytes the_input ins later bytes
-input_bytes ins later bytes t = (loses ins.left later.left bytes t, held_is ins.left later.left bytes t)
+-- the bytes that were read of the input, and of a file
+pub input_bytes : (r : Result (Vec ℕ Global) ReadFault) (ins later : Inputs) → IfOk r (λ v. TakesUpTo 16777217 ins.left later.left v.items) → CountsRead ins.faults later.faults r
+    → IfOk r (λ v. ReadsBytes the_input ins later v.items)
+input_bytes (Ok v) ins later t stood = ((loses ins.left later.left v.items t, stood), held_is ins.left later.left v.items t)
+input_bytes (Err e) ins later t stood = tt
 
-pub file_bytes : (ins later : Inputs) (name bytes : List ℕ) → TakesUpTo 16777217 (ins.held name) later.file_left bytes → ReadsBytes (the_file name) ins later bytes
-file_bytes ins later name bytes t = (loses (ins.held name) later.file_left bytes t, held_is (ins.held name) later.file_left bytes t)
+pub file_bytes : (r : Result (Vec ℕ Global) ReadFault) (ins later : Inputs) (name : List ℕ) → IfOk r (λ v. TakesUpTo 16777217 (ins.held name) later.file_left v.items)
+    → CountsRead ins.file_faults later.file_faults r → IfOk r (λ v. ReadsBytes (the_file name) ins later v.items)
+file_bytes (Ok v) ins later name t stood = ((loses (ins.held name) later.file_left v.items t, stood), held_is (ins.held name) later.file_left v.items t)
+file_bytes (Err e) ins later name t stood = tt
+
+-- the count of the object read is that of the input, or of the files
+pub input_counts : (r : Result (Vec ℕ Global) ReadFault) (ins later : Inputs) → CountsRead ins.faults later.faults r → ObjectCounts the_input ins later r
+input_counts (Ok v) ins later h = h
+input_counts (Err read.Failed) ins later h = h
+input_counts (Err read.OutOfMemory) ins later h = h
+
+pub file_counts : (r : Result (Vec ℕ Global) ReadFault) (ins later : Inputs) (name : List ℕ) → CountsRead ins.file_faults later.file_faults r → ObjectCounts (the_file name) ins later r
+file_counts (Ok v) ins later name h = h
+file_counts (Err read.Failed) ins later name h = h
+file_counts (Err read.OutOfMemory) ins later name h = h
+
+-- a read that follows one that did not fail
+pub counts_from : (a b c : ℕ) (r : Result (Vec ℕ Global) ReadFault) → b ≡ a → CountsRead b c r → CountsRead a c r
+counts_from a b c r e h = subst (λ (n : ℕ). CountsRead n c r) e h
+
+-- no read of an object failed that was read
+pub read_stood : (object : Object) (old new : Inputs) → ObjectRead object old new → ObjectStood object old new
+read_stood nothing old new h = tt
+read_stood the_input old new h = h.1
+read_stood (the_file name) old new h = h.1
 
 not_is : (b : Bool) → true ≡ not b → b ≡ false
 not_is true h = cc
@@ -94,15 +119,15 @@ module _ (object : Object) (old new : Inputs) (bytes seen : List ℕ) (s : Resul
       (h.0, (h.1.0, h.1.1, (Of r, subst (λ t. IsRefusal t line (Of r)) (same ∙ h.1.2) a, refl)))
   read_is (Err (script.TooLarge line)) h same a m = subst (ReadsScript object old new) (sym (err_and s (fault_of_script (script.TooLarge line)) m))
       (h.0, (h.1.0, h.1.1, (Limit, subst (λ t. IsRefusal t line Limit) (same ∙ h.1.2) a, refl)))
-  read_is (Err script.OutOfMemory) h same a m = subst (ReadsScript object old new) (sym (err_and s fault.OutOfMemory m)) tt
+  read_is (Err script.OutOfMemory) h same a m = subst (ReadsScript object old new) (sym (err_and s fault.OutOfMemory m)) (read_stood object old new h.0)
 
 -- memory ran out while the bytes were read, or the read failed
-unread_by : (object : Object) (old new : Inputs) (r : Result (Vec ℕ Global) ReadFault) (s : Result (Vec ℕ Global) Fault) (e : Fault) → (IsErrOf r read.Failed → ObjectRose object old new)
+unread_by : (object : Object) (old new : Inputs) (r : Result (Vec ℕ Global) ReadFault) (s : Result (Vec ℕ Global) Fault) (e : Fault) → ObjectCounts object old new r
     → MatchResult r (λ v. s ≡ Ok v) (λ x. IsErrAnd s (λ y. y ≡ fault_of_read x)) → s ≡ Err e → ReadsScript object old new (Err e)
-unread_by object old new (Ok v) s e failed m is = absurd (ok_not_err s v e m is)
-unread_by object old new (Err read.Failed) s e failed m is = subst (λ f. ReadsScript object old new (Err f)) (sym (subst (λ t. IsErrAnd t (λ y. y ≡ fault.ReadFault)) is m)) (failed refl)
-unread_by object old new (Err read.OutOfMemory) s e failed m is = subst (λ f. ReadsScript object old new (Err f)) (sym (subst (λ t. IsErrAnd t (λ y. y ≡ fault.OutOfMemory)) is m)) tt
+unread_by object old new (Ok v) s e counts m is = absurd (ok_not_err s v e m is)
+unread_by object old new (Err read.Failed) s e counts m is = subst (λ f. ReadsScript object old new (Err f)) (sym (subst (λ t. IsErrAnd t (λ y. y ≡ fault.ReadFault)) is m)) counts
+unread_by object old new (Err read.OutOfMemory) s e counts m is = subst (λ f. ReadsScript object old new (Err f)) (sym (subst (λ t. IsErrAnd t (λ y. y ≡ fault.OutOfMemory)) is m)) counts
 
-pub unread_is : (object : Object) (old new : Inputs) (r : Result (Vec ℕ Global) ReadFault) (s : Result (Vec ℕ Global) Fault) (e : Fault) (t : Result Sections Fault) → (IsErrOf r read.Failed → ObjectRose object old new)
+pub unread_is : (object : Object) (old new : Inputs) (r : Result (Vec ℕ Global) ReadFault) (s : Result (Vec ℕ Global) Fault) (e : Fault) (t : Result Sections Fault) → ObjectCounts object old new r
     → MatchResult r (λ v. s ≡ Ok v) (λ x. IsErrAnd s (λ y. y ≡ fault_of_read x)) → s ≡ Err e → IsErr t → IsErrAnd t (λ y. y ≡ e) → ReadsScript object old new t
-unread_is object old new r s e t failed m is h k = subst (ReadsScript object old new) (sym (err_is t e h k)) (unread_by object old new r s e failed m is)
+unread_is object old new r s e t counts m is h k = subst (ReadsScript object old new) (sym (err_is t e h k)) (unread_by object old new r s e counts m is)

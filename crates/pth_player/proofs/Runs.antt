@@ -1,6 +1,6 @@
 -- From the parts of the call to what was done.
 use Rattle.std.proofs.Common.{◌≡◌, ◌∙◌, List, ℕ, ap, Option, Some, None, Result, Ok, Err, IsErr, IsErrAnd, MatchResult, refl, sym, subst, inl, inr}
-use Rattle.std.proofs.KnownBytes.{Appends-nil, Keeps-refl}
+use Rattle.std.proofs.KnownBytes.{Appends-nil}
 use Rattle.pth_base.specs.declared.outcome.Outcome.{Outcome}
 use Rattle.pth_streams.specs.declared.sink.SinkErr.{SinkErr}
 use Rattle.pth_streams.specs.declared.sink.SinkErr.TheVariants as sink
@@ -13,16 +13,29 @@ use Rattle.pth_words.specs.declared.words.WordsErr.{WordsErr}
 use Rattle.pth_words.specs.declared.words.WordsErr.TheVariants as words
 use Rattle.pth_player.specs.Faults.{fault_of_sink, fault_of_words}
 use Rattle.pth_player.specs.Drive.{Drives}
-use Rattle.pth_player.specs.Objects.{Inputs, Object, OthersKept, Scene, nothing, object_of, scene, the_file, the_input}
+use Rattle.pth_player.specs.Objects.{Inputs, Object, ObjectStood, OthersUntouched, Scene, nothing, object_of, scene, the_file, the_input}
 use Rattle.pth_player.specs.Output.{given_script}
 use Rattle.pth_player.specs.Play.{Ran, ReadsScript}
+use Rattle.pth_player.proofs.Reading.{read_stood}
 use Rattle.pth_player.proofs.Results.{err_and, err_is, ok_is, ok_not_err}
 
--- nothing is lost where nothing is read
-pub others_refl : (object : Object) (ins : Inputs) → OthersKept object ins ins
-others_refl nothing ins = (Keeps-refl ins.left, Keeps-refl ins.file_left)
-others_refl the_input ins = Keeps-refl ins.file_left
-others_refl (the_file name) ins = Keeps-refl ins.left
+-- nothing was touched where nothing was called
+pub others_refl : {S F : Type 0} (object : Object) (input : S) (files : F) → OthersUntouched object input input files files
+others_refl nothing input files = (refl, refl)
+others_refl the_input input files = refl
+others_refl (the_file name) input files = refl
+
+-- nothing is read of an object that is not asked
+stood_refl : (object : Object) (ins : Inputs) → ObjectStood object ins ins
+stood_refl nothing ins = tt
+stood_refl the_input ins = refl
+stood_refl (the_file name) ins = refl
+
+-- the words ask for this
+pub is_asked : (asked : Option Asked) (q : Result Choice WordsErr) (s : Result Choice Fault) (c : Choice) → Answers asked q → MatchResult q (λ c. s ≡ Ok c) (λ x. IsErrAnd s (λ y. y ≡ fault_of_words x))
+    → s ≡ Ok c → asked ≡ Some (asked_of c)
+is_asked asked (Ok d) s c answers m is = answers ∙ ap (λ (x : Choice). Some (asked_of x)) (ok_is s d c m is)
+is_asked asked (Err x) s c answers m is = absurd (subst (λ t. IsErrAnd t (λ y. y ≡ fault_of_words x)) is m)
 
 module _ (asked : Option Asked) (ins : Inputs) (w : Option (List ℕ)) (a : ℕ) where
   abbrev before : Scene
@@ -33,8 +46,8 @@ module _ (asked : Option Asked) (ins : Inputs) (w : Option (List ℕ)) (a : ℕ)
   unasked_by words.OutOfMemory e2 is h = subst (λ f. Ran asked before before (Err f)) (sym is) (out_of_memory asked)
     where
       out_of_memory : (o : Option Asked) → Ran o before before (Err fault.OutOfMemory)
-      out_of_memory None = Appends-nil w
-      out_of_memory (Some x) = inl (Appends-nil w)
+      out_of_memory None = (Appends-nil w, refl)
+      out_of_memory (Some x) = (stood_refl (object_of (Some x)) ins, inl (Appends-nil w, refl))
 
   unasked_for : (q : Result Choice WordsErr) (s : Result Choice Fault) (e : Fault) → Answers asked q → MatchResult q (λ c. s ≡ Ok c) (λ x. IsErrAnd s (λ y. y ≡ fault_of_words x)) → s ≡ Err e
       → Ran asked before before (Err e)
@@ -46,16 +59,6 @@ module _ (asked : Option Asked) (ins : Inputs) (w : Option (List ℕ)) (a : ℕ)
       → MatchResult q (λ c. s ≡ Ok c) (λ x. IsErrAnd s (λ y. y ≡ fault_of_words x)) → s ≡ Err e → IsErr r → IsErrAnd r (λ y. y ≡ e) → Ran asked before before r
   unasked q s e r answers m is h k = subst (λ y. Ran asked before before y) (sym (err_is r e h k)) (unasked_for q s e answers m is)
 
-  asked_for : (q : Result Choice WordsErr) (s : Result Choice Fault) (c : Choice) → Answers asked q → MatchResult q (λ c. s ≡ Ok c) (λ x. IsErrAnd s (λ y. y ≡ fault_of_words x)) → s ≡ Ok c
-      → asked ≡ Some (asked_of c)
-  asked_for (Ok d) s c answers m is = answers ∙ ap (λ (x : Choice). Some (asked_of x)) (ok_is s d c m is)
-  asked_for (Err x) s c answers m is = absurd (subst (λ t. IsErrAnd t (λ y. y ≡ fault_of_words x)) is m)
-
-  -- the words ask for this
-  pub is_asked : (q : Result Choice WordsErr) (s : Result Choice Fault) (c : Choice) → Answers asked q → MatchResult q (λ c. s ≡ Ok c) (λ x. IsErrAnd s (λ y. y ≡ fault_of_words x)) → s ≡ Ok c
-      → asked ≡ Some (asked_of c)
-  is_asked = asked_for
-
   module _ (later : Inputs) (x : Asked) (is : asked ≡ Some x) where
     abbrev unwritten : Scene
     unwritten = scene later w a
@@ -63,7 +66,7 @@ module _ (asked : Option Asked) (ins : Inputs) (w : Option (List ℕ)) (a : ℕ)
     unread_by : (e : Fault) → ReadsScript (object_of (Some x)) ins later (Err e) → Ran (Some x) before unwritten (Err e)
     unread_by (fault.Input line rule) h = (h.0, h.1, (Appends-nil w, refl))
     unread_by fault.ReadFault h = (h, (Appends-nil w, refl))
-    unread_by fault.OutOfMemory h = inl (Appends-nil w)
+    unread_by fault.OutOfMemory h = (h, inl (Appends-nil w, refl))
     unread_by fault.Words h = absurd h
     unread_by fault.WriteFault h = absurd h
 
@@ -72,8 +75,8 @@ module _ (asked : Option Asked) (ins : Inputs) (w : Option (List ℕ)) (a : ℕ)
     unread e r h some k = subst (λ y. Ran asked before unwritten y) (sym (err_is r e some k)) (subst (λ o. Ran o before unwritten (Err e)) (sym is) (unread_by e h))
 
     -- memory ran out for the machine
-    pub unmade : Ran asked before unwritten (Err fault.OutOfMemory)
-    unmade = subst (λ o. Ran o before unwritten (Err fault.OutOfMemory)) (sym is) (inl (Appends-nil w))
+    pub unmade : ObjectStood (object_of (Some x)) ins later → Ran asked before unwritten (Err fault.OutOfMemory)
+    unmade stood = subst (λ o. Ran o before unwritten (Err fault.OutOfMemory)) (sym is) (stood, inl (Appends-nil w, refl))
 
     module _ (z : Option (List ℕ)) (b : ℕ) where
       abbrev after : Scene
@@ -83,7 +86,7 @@ module _ (asked : Option Asked) (ins : Inputs) (w : Option (List ℕ)) (a : ℕ)
           → Drives functions_of (given_script script) x w z a b r → MatchResult r (λ o. s ≡ Ok o) (λ e. IsErrAnd s (λ y. y ≡ fault_of_sink e)) → Ran (Some x) before after s
       drove_by script (Ok o) s h d e = subst (λ y. Ran (Some x) before after y) (sym e) (h.0, (h.1.0, h.1.1, script, h.1.2, d))
       drove_by script (Err sink.Failed) s h d e = subst (λ y. Ran (Some x) before after y) (sym (err_and s fault.WriteFault e)) (h.0, (h.1.0, h.1.1, script, h.1.2, d))
-      drove_by script (Err sink.OutOfMemory) s h d e = subst (λ y. Ran (Some x) before after y) (sym (err_and s fault.OutOfMemory e)) (inr (h.1.0, h.1.1, script, h.1.2, d))
+      drove_by script (Err sink.OutOfMemory) s h d e = subst (λ y. Ran (Some x) before after y) (sym (err_and s fault.OutOfMemory e)) (read_stood (object_of (Some x)) ins later h.0, inr (h.1.0, h.1.1, script, h.1.2, d))
 
       -- the machine was driven
       pub drove : (script : Sections) (r : Result Outcome SinkErr) (s : Result Outcome Fault) → ReadsScript (object_of (Some x)) ins later (Ok script)

@@ -1,10 +1,11 @@
 -- The objects that the call is handed, and which of them it reads.
-use Rattle.std.specs.Prelude.{◌≡◌, ◌+◌, ℕ, List, [], Option, Some, None, IfSome, codes, drop, take, if◌then◌else◌}
-use Rattle.std.specs.Io.KnownBytes.{Keeps}
+use Rattle.std.specs.Prelude.{◌≡◌, ◌+◌, ℕ, List, [], Option, Some, None, IfSome, Result, Ok, Err, codes, drop, take, if◌then◌else◌}
 use Rattle.std.specs.Str.{bytes_eq}
 use Rattle.pth_streams.specs.Faults.{Rose}
 use Rattle.pth_script.specs.Broken.{text_limit}
 use Rattle.pth_words.specs.Words.{Asked}
+use Rattle.pth_player.specs.declared.streams.ReadFault.{ReadFault}
+use Rattle.pth_player.specs.declared.streams.ReadFault.TheVariants as read
 
 -- the bytes of an input as far as they are read: to the byte after those that it may have
 abbrev pub cut : List ℕ → List ℕ
@@ -62,7 +63,7 @@ held_by (the_file name) s = s.held name
 abbrev pub content : Option Asked → Scene → Option (List ℕ)
 content asked s = held_by (object_of asked) s.ins
 
--- its count of faults rose
+-- one fault of it was counted
 abbrev pub ObjectRose : Object → Inputs → Inputs → Type 0
 ObjectRose nothing old new = ⊥
 ObjectRose the_input old new = Rose old.faults new.faults
@@ -72,17 +73,29 @@ ObjectRose (the_file name) old new = Rose old.file_faults new.file_faults
 abbrev pub LosesRead : Option (List ℕ) → Option (List ℕ) → Type 0
 LosesRead old new = IfSome old (λ bytes. new ≡ Some (drop (text_limit + 1) bytes))
 
--- what the words don't name lost nothing
-abbrev pub OthersKept : Object → Inputs → Inputs → Type 0
-OthersKept nothing old new = Keeps old.left new.left × Keeps old.file_left new.file_left
-OthersKept the_input old new = Keeps old.file_left new.file_left
-OthersKept (the_file name) old new = Keeps old.left new.left
+-- no fault of it was counted
+abbrev pub ObjectStood : Object → Inputs → Inputs → Type 0
+ObjectStood nothing old new = Unit {0}
+ObjectStood the_input old new = new.faults ≡ old.faults
+ObjectStood (the_file name) old new = new.file_faults ≡ old.file_faults
 
--- the object lost what was read of it
+-- it lost what was read of it, and no read failed
 abbrev pub ObjectRead : Object → Inputs → Inputs → Type 0
 ObjectRead nothing old new = Unit {0}
-ObjectRead the_input old new = LosesRead old.left new.left
-ObjectRead (the_file name) old new = LosesRead (old.held name) new.file_left
+ObjectRead the_input old new = LosesRead old.left new.left × (new.faults ≡ old.faults)
+ObjectRead (the_file name) old new = LosesRead (old.held name) new.file_left × (new.file_faults ≡ old.file_faults)
+
+-- what the words don't name, of the input and the files, is as it was: it was not even asked
+abbrev pub OthersUntouched : {S F : Type 0} → Object → S → S → F → F → Type 0
+OthersUntouched nothing input later files after = (later ≡ input) × (after ≡ files)
+OthersUntouched the_input input later files after = after ≡ files
+OthersUntouched (the_file name) input later files after = later ≡ input
+
+-- its count stands still, and rises by one where a read failed
+abbrev pub ObjectCounts : {T : Type 0} → Object → Inputs → Inputs → Result T ReadFault → Type 0
+ObjectCounts object old new (Ok x) = ObjectStood object old new
+ObjectCounts object old new (Err read.Failed) = ObjectRose object old new
+ObjectCounts object old new (Err read.OutOfMemory) = ObjectStood object old new
 
 -- these are the bytes that the object read holds, where that is told, and some bytes where it is not
 abbrev pub AreHeld : Option (List ℕ) → List ℕ → Type 0

@@ -13,7 +13,7 @@ use Rattle.pth_script.specs.Broken.{IsRefusal}
 use Rattle.pth_script.specs.declared.breach.Breach.{Breach}
 use Rattle.pth_words.specs.Words.{Asked}
 use Rattle.pth_player.specs.Faults.{place_of}
-use Rattle.pth_player.specs.Objects.{AreHeld, Inputs, Object, ObjectRead, ObjectRose, OthersKept, Scene, content, cut, held_by, object_of}
+use Rattle.pth_player.specs.Objects.{AreHeld, Inputs, Object, ObjectRead, ObjectRose, ObjectStood, Scene, content, cut, held_by, object_of}
 use Rattle.pth_player.specs.Streams.{AppendsPart, AppendsPrefix}
 use Rattle.pth_player.specs.Output.{Output, IsTheOutput, IsRefused, IsTheScript, given_script, outcome_status}
 use Rattle.pth_player.specs.Drive.{Drives}
@@ -33,7 +33,7 @@ abbrev pub ReadsScript : Object → Inputs → Inputs → Result Sections Fault 
 ReadsScript object old new (Ok script) = ObjectRead object old new × ((bytes : List ℕ) × AreHeld (held_by object old) bytes × IsTheScript script (cut bytes))
 ReadsScript object old new (Err (fault.Input line rule)) = ObjectRead object old new × ((bytes : List ℕ) × AreHeld (held_by object old) bytes × RefusedFor (cut bytes) line rule)
 ReadsScript object old new (Err fault.ReadFault) = ObjectRose object old new
-ReadsScript object old new (Err fault.OutOfMemory) = Unit {0}
+ReadsScript object old new (Err fault.OutOfMemory) = ObjectStood object old new
 ReadsScript object old new (Err fault.Words) = ⊥
 ReadsScript object old new (Err fault.WriteFault) = ⊥
 
@@ -61,22 +61,22 @@ RanFor asked old new (Err fault.Words) = ⊥
 RanFor asked old new (Err (fault.Input line rule)) = ObjectRead (object_of (Some asked)) old.ins new.ins × HoldsRefused asked old line rule × IsUnwritten old new
 RanFor asked old new (Err fault.ReadFault) = ObjectRose (object_of (Some asked)) old.ins new.ins × IsUnwritten old new
 RanFor asked old new (Err fault.WriteFault) = ObjectRead (object_of (Some asked)) old.ins new.ins × DrivesScript asked old new (Err sink.Failed)
-RanFor asked old new (Err fault.OutOfMemory) = Appends old.written new.written [] ⊎ DrivesScript asked old new (Err sink.OutOfMemory)
+RanFor asked old new (Err fault.OutOfMemory) = ObjectStood (object_of (Some asked)) old.ins new.ins × (IsUnwritten old new ⊎ DrivesScript asked old new (Err sink.OutOfMemory))
 
 -- where the words are refused nothing is written
 abbrev pub Ran : Option Asked → Scene → Scene → Result Outcome Fault → Type 0
 Ran (Some asked) old new r = RanFor asked old new r
 Ran None old new (Err fault.Words) = IsUnwritten old new
-Ran None old new (Err fault.OutOfMemory) = Appends old.written new.written []
+Ran None old new (Err fault.OutOfMemory) = IsUnwritten old new
 Ran None old new r = ⊥
 
--- the line was written whole, or the count rose and a part of it was written
+-- the line was written whole, or a part of it and one fault counted
 abbrev pub WritesLine : Option (List ℕ) → Option (List ℕ) → ℕ → ℕ → List ℕ → Type 0
-WritesLine old new before now line = Appends old new line ⊎ (AppendsPart old new line × Rose before now)
+WritesLine old new before now line = (Appends old new line × (now ≡ before)) ⊎ (AppendsPart old new line × Rose before now)
 
 -- the fault is reported by its status and its line, or memory ran out for the line
 abbrev pub Reports : Fault → ℕ → Option (List ℕ) → Option (List ℕ) → ℕ → ℕ → Type 0
-Reports f status old new before now = ((status ≡ fault_status f) × WritesLine old new before now (fault_line f)) ⊎ ((status ≡ 7) × AppendsPrefix old new (fault_line f))
+Reports f status old new before now = ((status ≡ fault_status f) × WritesLine old new before now (fault_line f)) ⊎ ((status ≡ 7) × (AppendsPrefix old new (fault_line f) × (now ≡ before)))
 
 -- a fault's rule is one of the table
 abbrev pub IsErrNamed : Result Outcome Fault → Type 0
@@ -102,7 +102,7 @@ IsOutputStatus status = IsRunStatus status ⊎ ((status ≡ 2) ⊎ (status ≡ 3
 abbrev pub IsFaultStatus : ℕ → Type 0
 IsFaultStatus status = (status ≡ 2) ⊎ ((status ≡ 3) ⊎ ((status ≡ 4) ⊎ (status ≡ 5)))
 
--- with a status other than 4 and 7 the object read lost what was read of it: all, or as much as the limit and a byte
+-- with a status other than 4 and 7 the object read lost what was read of it, all or as much as the limit and a byte, and no read failed
 abbrev pub ReadsWhole : Option Asked → Scene → Scene → ℕ → Type 0
 ReadsWhole asked old new status = status ≢ 4 → status ≢ 7 → ObjectRead (object_of asked) old.ins new.ins
 
@@ -145,29 +145,32 @@ pub record WritesOutput (asked : Option Asked) (old new : Scene) (status : ℕ) 
       ⊎ ((bytes : List ℕ) × AreHeld (content asked old) bytes × (out : Output) × IsTheOutput asked bytes out × AppendsPrefix old.written new.written out.text)
   pub nothing : (status ≡ 2) ⊎ ((status ≡ 3) ⊎ (status ≡ 4)) → IsUnwritten old new
 
--- where neither the count of the object read nor that of `out` rose, the output was written whole, or memory ran out
-abbrev pub Completes : Option Asked → Scene → Scene → ℕ → Option (List ℕ) → Option (List ℕ) → ℕ → ℕ → Type 0
-Completes asked old new status err_old err_new before now =
-    (ObjectRose (object_of asked) old.ins new.ins → ⊥) → (Rose old.out_faults new.out_faults → ⊥)
-    → WritesWhole asked old new status err_old err_new before now ⊎ (status ≡ 7)
+-- What the counts of faults say. Each stands still or rises by one.
+pub record Completes (asked : Option Asked) (old new : Scene) (status : ℕ) (err_old err_new : Option (List ℕ)) (before now : ℕ) : Type 0 where
+  -- where neither that of the object read nor that of `out` rose, the output was written whole, or memory ran out
+  pub whole : (ObjectRose (object_of asked) old.ins new.ins → ⊥) → (Rose old.out_faults new.out_faults → ⊥)
+      → WritesWhole asked old new status err_old err_new before now ⊎ (status ≡ 7)
+  -- that of the object read rises with 4, and may with 7
+  pub read : ObjectStood (object_of asked) old.ins new.ins ⊎ (ObjectRose (object_of asked) old.ins new.ins × ((status ≡ 4) ⊎ (status ≡ 7)))
+  -- that of `out` rises with 5, and may with 7
+  pub written : (new.out_faults ≡ old.out_faults) ⊎ (Rose old.out_faults new.out_faults × ((status ≡ 5) ⊎ (status ≡ 7)))
 
--- the line of a fault with this status
-abbrev pub HasLine : ℕ → List ℕ → Type 0
-HasLine status line = (f : Fault) × IsNamed f × (status ≡ fault_status f) × (line ≡ fault_line f)
+-- what was done came to this fault, and its rule has a name
+pub record IsAtHand (asked : Option Asked) (old new : Scene) (f : Fault) : Type 0 where
+  pub ran : Ran asked old new (Err f)
+  pub named : IsNamed f
 
--- what standard error received: nothing after a run, the line of a fault, or a beginning of some fault's line where memory ran out
-pub record TellsFault (status : ℕ) (err_old err_new : Option (List ℕ)) (before now : ℕ) : Type 0 where
+-- what standard error received: nothing after a run, the line of the fault at hand, or a beginning of its line where memory ran out
+pub record TellsFault (asked : Option Asked) (old new : Scene) (status : ℕ) (err_old err_new : Option (List ℕ)) (before now : ℕ) : Type 0 where
   pub quiet : IsRunStatus status → Appends err_old err_new [] × (now ≡ before)
-  pub loud : IsFaultStatus status → (line : List ℕ) × HasLine status line × WritesLine err_old err_new before now line
-  pub memory : status ≡ 7 → (s : ℕ) × (line : List ℕ) × HasLine s line × AppendsPrefix err_old err_new line
+  pub loud : IsFaultStatus status → (f : Fault) × IsAtHand asked old new f × (status ≡ fault_status f) × WritesLine err_old err_new before now (fault_line f)
+  pub memory : status ≡ 7 → (f : Fault) × IsAtHand asked old new f × AppendsPrefix err_old err_new (fault_line f)
 
 -- ---- the call
 
 -- What the call did by its status, for what the words ask and the objects that it was handed.
 pub record Plays (asked : Option Asked) (old new : Scene) (status : ℕ) (err_old err_new : Option (List ℕ)) (before now : ℕ) : Type 0 where
-  -- what the words don't name lost nothing
-  pub others_kept : OthersKept (object_of asked) old.ins new.ins
-  -- with a status other than 4 and 7 the object read lost what was read of it
+  -- with a status other than 4 and 7 the object read lost what was read of it, and no read of it failed
   pub reads_whole : ReadsWhole asked old new status
   -- status 2 comes exactly where the words are refused
   pub refuses_words : RefusesWords asked status
@@ -178,7 +181,7 @@ pub record Plays (asked : Option Asked) (old new : Scene) (status : ℕ) (err_ol
   -- The status, what was written and the fault's line are those of the output for the words and the bytes of the object
   -- read. Where the sink failed (5) or memory ended (7), a beginning was written.
   pub writes_output : WritesOutput asked old new status err_old err_new before now
-  -- where no count rose, the output was written whole, or memory ran out
+  -- where no count rose, the output was written whole, or memory ran out; and how far the counts rose
   pub completes : Completes asked old new status err_old err_new before now
   -- what standard error received
-  pub fault_line : TellsFault status err_old err_new before now
+  pub fault_line : TellsFault asked old new status err_old err_new before now

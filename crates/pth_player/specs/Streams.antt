@@ -1,12 +1,21 @@
 -- What reading to the end and writing a piece do, where the bytes are told.
-use Rattle.std.specs.Prelude.{◌≡◌, ◌≢◌, ◌<◌, ◌≤◌, ◌++◌, ℕ, List, [], length, Option}
+use Rattle.std.specs.Prelude.{◌≡◌, ◌≢◌, ◌<◌, ◌≤◌, ◌++◌, ℕ, List, [], length, Option, Result, Ok, Err}
 use Rattle.std.specs.Io.KnownBytes.{Appends, Consumes, IsAtEnd}
+use Rattle.pth_streams.specs.Faults.{Rose}
+use Rattle.pth_player.specs.declared.streams.ReadFault.{ReadFault}
+use Rattle.pth_player.specs.declared.streams.ReadFault.TheVariants as read
 
 -- `bytes` was taken from the front, as many as `cap` or all there was
 pub record TakesUpTo (cap : ℕ) (old new : Option (List ℕ)) (bytes : List ℕ) : Type 0 where
   pub taken : Consumes old new bytes
   pub bound : length bytes ≤ cap
   pub whole : length bytes < cap → IsAtEnd new
+
+-- the count of faults rises by one where a read failed, and stands still otherwise
+abbrev pub CountsRead : {T : Type 0} → ℕ → ℕ → Result T ReadFault → Type 0
+CountsRead before now (Ok x) = now ≡ before
+CountsRead before now (Err read.Failed) = Rose before now
+CountsRead before now (Err read.OutOfMemory) = now ≡ before
 
 -- the beginning of a text was appended, and the rest is left
 pub record Toward (old new : Option (List ℕ)) (text rest : List ℕ) : Type 0 where

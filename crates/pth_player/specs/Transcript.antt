@@ -1,5 +1,5 @@
 -- The text of a run, and what is written of it.
-use Rattle.std.specs.Prelude.{◌≤◌, ◌++◌, ℕ, List, [], Option, Result, Ok, Err, false, flat_map, if◌then◌else◌}
+use Rattle.std.specs.Prelude.{◌≡◌, ◌++◌, ℕ, List, [], Option, Result, Ok, Err, false, flat_map, if◌then◌else◌}
 use Rattle.std.specs.Io.KnownBytes.{Appends}
 use Rattle.pth_streams.specs.Faults.{Rose}
 use Rattle.pth_base.specs.declared.mark.Mark.{Mark}
@@ -43,11 +43,7 @@ module _ {P S H : Type 0} where
   ending_of asked s = counts_of asked s ++ last_line asked.steps s
 
 -- the piece was written whole, or not the whole of it where the sink failed, or a beginning where memory ran out
-abbrev pub PieceBy : Option (List ℕ) → Option (List ℕ) → ℕ → ℕ → List ℕ → Result (Unit {0}) SinkErr → Type 0
-PieceBy old new before now piece (Ok x) = Appends old new piece
-PieceBy old new before now piece (Err sink.Failed) = AppendsPart old new piece × Rose before now
-PieceBy old new before now piece (Err sink.OutOfMemory) = AppendsPrefix old new piece
-
--- a piece was written by this result, and the count of faults did not fall
 abbrev pub WritesPiece : Option (List ℕ) → Option (List ℕ) → ℕ → ℕ → List ℕ → Result (Unit {0}) SinkErr → Type 0
-WritesPiece old new before now piece r = (before ≤ now) × PieceBy old new before now piece r
+WritesPiece old new before now piece (Ok x) = Appends old new piece × (now ≡ before)
+WritesPiece old new before now piece (Err sink.Failed) = AppendsPart old new piece × Rose before now
+WritesPiece old new before now piece (Err sink.OutOfMemory) = AppendsPrefix old new piece × (now ≡ before)

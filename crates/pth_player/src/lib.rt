@@ -3,6 +3,7 @@
 
 mod drive;
 mod faults;
+pub mod laws;
 mod report;
 mod run;
 mod script;

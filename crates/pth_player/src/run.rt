@@ -2,7 +2,7 @@
 
 ghost use Rattle.std.specs.Prelude.{map, string_bytes};
 ghost use Rattle.pth_words.specs.Words.{asked_by};
-ghost use Rattle.pth_player.specs.Objects.{inputs, object_of, scene, OthersKept};
+ghost use Rattle.pth_player.specs.Objects.{inputs, object_of, scene, OthersUntouched};
 ghost use Rattle.pth_player.specs.Play.{Ran};
 
 use crate::drive::drive;
@@ -32,9 +32,7 @@ pub fn run<S: Source, F: Files, O: Sink>(
         (scene (inputs (S.left input.old) (S.faults input.old) (F.left files.old) (F.held files.old) (F.faults files.old)) (O.written out.old) (O.faults out.old))
         (scene (inputs (S.left input.new) (S.faults input.new) (F.left files.new) (F.held files.new) (F.faults files.new)) (O.written out.new) (O.faults out.new))
         result }
-    ensures others { OthersKept (object_of (asked_by (map string_bytes words.now.items)))
-        (inputs (S.left input.old) (S.faults input.old) (F.left files.old) (F.held files.old) (F.faults files.old))
-        (inputs (S.left input.new) (S.faults input.new) (F.left files.new) (F.held files.new) (F.faults files.new)) }
+    ensures others { OthersUntouched (object_of (asked_by (map string_bytes words.now.items))) input.old input.new files.old files.new }
 {
     let choice = read_words(alloc, words).map_err(fault_of_words)?;
     let script = read_script(alloc, choice.file, input, files)?;

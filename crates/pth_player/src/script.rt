@@ -1,9 +1,8 @@
 //! The script that the words name, read from the input or from a file.
 
-ghost use Rattle.std.specs.Prelude.{IfOk, IsErrOf, option_map};
-ghost use Rattle.pth_streams.specs.Faults.{Rose};
-ghost use Rattle.pth_player.specs.Objects.{inputs, object_named, ObjectRose, OthersKept};
-ghost use Rattle.pth_player.specs.Streams.{TakesUpTo};
+ghost use Rattle.std.specs.Prelude.{IfOk, option_map};
+ghost use Rattle.pth_player.specs.Objects.{inputs, object_named, ObjectCounts, OthersUntouched};
+ghost use Rattle.pth_player.specs.Streams.{CountsRead, TakesUpTo};
 ghost use Rattle.pth_player.specs.Play.{ReadsBytes, ReadsScript};
 
 use crate::faults::{fault_of_read, fault_of_script};
@@ -18,7 +17,7 @@ use std::alloc::Global;
 /// The bytes of a file.
 fn read_file<F: Files>(alloc: Global, name: &str, files: &mut F) -> Result<Vec<u8>, ReadFault>
     ensures bytes { IfOk result (λ v. TakesUpTo 16777217 (F.held files.old name.now) (F.left files.new) v.items) }
-    ensures failed { IsErrOf result ReadFault.Failed → Rose (F.faults files.old) (F.faults files.new) }
+    ensures counts { CountsRead (F.faults files.old) (F.faults files.new) result }
 {
     let Ok(()) = files.start(name) else {
         return Err(ReadFault::Failed);
@@ -37,12 +36,10 @@ fn read_bytes<S: Source, F: Files>(
     ensures bytes { IfOk result (λ v. ReadsBytes (object_named (option_map (λ n. n.now) name.entry))
         (inputs (S.left input.old) (S.faults input.old) (F.left files.old) (F.held files.old) (F.faults files.old))
         (inputs (S.left input.new) (S.faults input.new) (F.left files.new) (F.held files.new) (F.faults files.new)) v.items) }
-    ensures failed { IsErrOf result ReadFault.Failed → ObjectRose (object_named (option_map (λ n. n.now) name.entry))
+    ensures counts { ObjectCounts (object_named (option_map (λ n. n.now) name.entry))
         (inputs (S.left input.old) (S.faults input.old) (F.left files.old) (F.held files.old) (F.faults files.old))
-        (inputs (S.left input.new) (S.faults input.new) (F.left files.new) (F.held files.new) (F.faults files.new)) }
-    ensures others { OthersKept (object_named (option_map (λ n. n.now) name.entry))
-        (inputs (S.left input.old) (S.faults input.old) (F.left files.old) (F.held files.old) (F.faults files.old))
-        (inputs (S.left input.new) (S.faults input.new) (F.left files.new) (F.held files.new) (F.faults files.new)) }
+        (inputs (S.left input.new) (S.faults input.new) (F.left files.new) (F.held files.new) (F.faults files.new)) result }
+    ensures others { OthersUntouched (object_named (option_map (λ n. n.now) name.entry)) input.old input.new files.old files.new }
 {
     match name {
         Some(name) if name != "-" => read_file(alloc, name, files),
@@ -60,9 +57,7 @@ pub fn read_script<S: Source, F: Files>(
     ensures script { ReadsScript (object_named (option_map (λ n. n.now) name.entry))
         (inputs (S.left input.old) (S.faults input.old) (F.left files.old) (F.held files.old) (F.faults files.old))
         (inputs (S.left input.new) (S.faults input.new) (F.left files.new) (F.held files.new) (F.faults files.new)) result }
-    ensures others { OthersKept (object_named (option_map (λ n. n.now) name.entry))
-        (inputs (S.left input.old) (S.faults input.old) (F.left files.old) (F.held files.old) (F.faults files.old))
-        (inputs (S.left input.new) (S.faults input.new) (F.left files.new) (F.held files.new) (F.faults files.new)) }
+    ensures others { OthersUntouched (object_named (option_map (λ n. n.now) name.entry)) input.old input.new files.old files.new }
 {
     let bytes = read_bytes(alloc, name, input, files).map_err(fault_of_read)?;
     read(alloc, &bytes).map_err(fault_of_script)

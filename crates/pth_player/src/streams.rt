@@ -1,9 +1,9 @@
 //! A source or a file read to its end, and a piece written whole.
 
-ghost use Rattle.std.specs.Prelude.{◌≡◌, ◌≤◌, [], IfOk, OnOk, OnErr, IsErrOf, true};
+ghost use Rattle.std.specs.Prelude.{◌≡◌, [], IfOk, OnOk, OnErr, true};
 ghost use Rattle.std.specs.Io.KnownBytes.{Appends};
-ghost use Rattle.pth_streams.specs.Faults.{HasSinkCause, Rose};
-ghost use Rattle.pth_player.specs.Streams.{TakesUpTo, AppendsPart};
+ghost use Rattle.pth_streams.specs.Faults.{CountsSink};
+ghost use Rattle.pth_player.specs.Streams.{TakesUpTo, CountsRead, AppendsPart};
 
 use pth_streams::files::Files;
 use pth_streams::sink::{Sink, SinkErr};
@@ -38,8 +38,7 @@ pub fn read_up_to<S: Source>(
     cap: usize,
 ) -> Result<Vec<u8>, ReadFault>
     ensures bytes { IfOk result (λ v. TakesUpTo cap (S.left source.old) (S.left source.new) v.items) }
-    ensures later { S.faults source.old ≤ S.faults source.new }
-    ensures failed { IsErrOf result ReadFault.Failed → Rose (S.faults source.old) (S.faults source.new) }
+    ensures counts { CountsRead (S.faults source.old) (S.faults source.new) result }
 {
     let mut bytes = Vec::new(alloc);
     let mut buffer = [0u8; BUFFER];
@@ -65,8 +64,7 @@ pub fn read_started<F: Files>(
 ) -> Result<Vec<u8>, ReadFault>
     requires { F.started files.old ≡ true }
     ensures bytes { IfOk result (λ v. TakesUpTo cap (F.left files.old) (F.left files.new) v.items) }
-    ensures later { F.faults files.old ≤ F.faults files.new }
-    ensures failed { IsErrOf result ReadFault.Failed → Rose (F.faults files.old) (F.faults files.new) }
+    ensures counts { CountsRead (F.faults files.old) (F.faults files.new) result }
 {
     let mut bytes = Vec::new(alloc);
     let mut buffer = [0u8; BUFFER];
@@ -88,7 +86,7 @@ pub fn read_started<F: Files>(
 pub fn write_all<O: Sink>(out: &mut O, bytes: &[u8]) -> Result<(), SinkErr>
     ensures whole { OnOk result (Appends (O.written out.old) (O.written out.new) bytes.now) }
     ensures part { OnErr result (AppendsPart (O.written out.old) (O.written out.new) bytes.now) }
-    ensures cause { HasSinkCause (O.faults out.old) (O.faults out.new) result }
+    ensures counts { CountsSink (O.faults out.old) (O.faults out.new) result }
     ensures empty { bytes.now ≡ [] → out.new ≡ out.old }
 {
     let mut at = 0;

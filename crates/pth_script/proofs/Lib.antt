@@ -10,3 +10,4 @@ pub mod Taken
 pub mod Starting
 pub mod Runs
 pub mod Once
+pub mod Whole

@@ -8,10 +8,10 @@ use Rattle.pth_line.specs.Script.{Sections}
 use Rattle.pth_script.specs.Rows.{Row, rows_of, onto_first, row_size, size_of}
 use Rattle.pth_script.specs.Broken.{broken, row_breaks, end_breaks, text_limit, IsRefusal, IsAccepted}
 use Rattle.pth_script.specs.Table.{first_broken}
-use Rattle.pth_script.specs.Drafts.{parts, in_handler, in_body, rest_of, Makes}
+use Rattle.pth_script.specs.Drafts.{Parts, parts, in_handler, in_body, rest_of, Makes}
 use Rattle.pth_script.specs.Follows.{Follows, TakesRow, Reads, left_of, refused, Answers}
 use Rattle.pth_script.specs.Labels.{somes, placed}
-use Rattle.pth_script.specs.Meaning.{said, handlers_of, checks_of, bodies_of, StandsFor}
+use Rattle.pth_script.specs.Meaning.{said, handlers_of, checks_of, bodies_of, HasSections, StandsFor}
 use Rattle.pth_script.specs.Seen.{is_handler, is_thread}
 use Rattle.pth_grammar.specs.Lines.{act_of, line_of}
 use Rattle.pth_script.specs.declared.breach.Breach.{Breach}
@@ -128,6 +128,15 @@ module _ (r : Reader) (before : List Row) (text : List ℕ) (line : ℕ) (rest :
 
 -- ---- the end
 
+-- a draft in which nothing is open has the sections of these lines, where no line is left
+pub sections_made : (d : Parts) (ls : List (List (List ℕ))) → in_handler d.section ≡ false → in_body d.section ≡ false → Makes d [] (handlers_of ls) (checks_of ls) (bodies_of ls)
+    → HasSections (record { handlers = d.handlers; checks = d.checks; bodies = d.bodies }) ls
+sections_made d ls h b m = record {
+  handlers = sym (append-nil (map somes d.handlers)) ∙ ap (λ t. map somes d.handlers ++ t) (sym (rest_none is_handler act_of (somes d.acts))) ∙ ap (λ b. map somes d.handlers ++ rest_of is_handler act_of b (somes d.acts) []) (sym h) ∙ m.handlers;
+  checks = sym (append-nil (somes d.checks)) ∙ ap (λ t. somes d.checks ++ t) (sym checks_none) ∙ m.checks;
+  bodies = sym (append-nil (map somes d.bodies)) ∙ ap (λ t. map somes d.bodies ++ map placed t) (sym (rest_none is_thread line_of (somes d.body))) ∙ ap (λ b. map somes d.bodies ++ map placed (rest_of is_thread line_of b (somes d.body) [])) (sym b) ∙ m.bodies;
+}
+
 not_started : (b : Bool) → said (cond b [] (drop 1 [])) ≡ []
 unfolding said
 not_started true = refl
@@ -145,14 +154,8 @@ module _ (r : Reader) (before : List Row) (text : List ℕ) (line : ℕ) (at : R
 
   pub stands : in_handler r.draft.section ≡ false → in_body r.draft.section ≡ false → StandsFor (record { handlers = r.draft.handlers.items; checks = r.draft.checks.items; bodies = r.draft.bodies.items }) text
   stands h b =
-      let d = parts r.draft in
       let ls = said (drop 1 (rows_of text)) in
-      let m = subst (λ t. Makes d t (handlers_of ls) (checks_of ls) (bodies_of ls)) none_left at.makes in
-      record {
-        handlers = sym (append-nil (map somes d.handlers)) ∙ ap (λ t. map somes d.handlers ++ t) (sym (rest_none is_handler act_of (somes d.acts))) ∙ ap (λ b. map somes d.handlers ++ rest_of is_handler act_of b (somes d.acts) []) (sym h) ∙ m.handlers;
-        checks = sym (append-nil (somes d.checks)) ∙ ap (λ t. somes d.checks ++ t) (sym checks_none) ∙ m.checks;
-        bodies = sym (append-nil (map somes d.bodies)) ∙ ap (λ t. map somes d.bodies ++ map placed t) (sym (rest_none is_thread line_of (somes d.body))) ∙ ap (λ b. map somes d.bodies ++ map placed (rest_of is_thread line_of b (somes d.body) [])) (sym b) ∙ m.bodies;
-      }
+      sections_made (parts r.draft) ls h b (subst (λ t. Makes (parts r.draft) t (handlers_of ls) (checks_of ls) (bodies_of ls)) none_left at.makes)
 
 -- ---- answers
 

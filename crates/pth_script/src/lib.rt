@@ -4,6 +4,7 @@
 mod body;
 pub mod breach;
 mod draft;
+pub mod laws;
 pub mod read;
 mod reader;
 mod rows;

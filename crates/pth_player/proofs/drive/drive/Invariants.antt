@@ -1,4 +1,4 @@
-use Rattle.std.proofs.Common.{◌≡◌, ◌+◌, ◌≤◌, []}
+use Rattle.std.proofs.Common.{◌≡◌, ◌+◌, []}
 use Rattle.pth_model.specs.State.{Given}
 use Rattle.pth_sched.specs.Running.{StandsAt}
 use Rattle.pth_words.specs.Words.{asked_of}
@@ -9,7 +9,7 @@ abbrev pub invariant-pieces : goal.invariant-pieces
 invariant-pieces g l = record {
   way : (given : Given _) → StandsAt g.P.Program.functions given 0 l.initial.machine
       → Underway g.P.Program.functions given (asked_of l.choice) l.machine (g.O.Sink.written l.initial.out) (g.O.Sink.written l.out) [];
-  later : g.O.Sink.faults l.initial.out ≤ g.O.Sink.faults l.out;
+  stood : g.O.Sink.faults l.out ≡ g.O.Sink.faults l.initial.out;
   made : l.machine.steps + l.left ≡ l.initial.machine.steps + l.choice.steps;
 }
 

@@ -10,7 +10,7 @@ pub returns-in_err-bytes-clause-script : goal.returns-in_err-bytes-clause-script
 returns-in_err-bytes-clause-script g c =
     let old = inputs (g.S.Source.left c.args.input.now) (g.S.Source.faults c.args.input.now) (g.F.Files.left c.args.files.now) (g.F.Files.held c.args.files.now) (g.F.Files.faults c.args.files.now) in
     let new = inputs (g.S.Source.left c.read_bytes.new.input) (g.S.Source.faults c.read_bytes.new.input) (g.F.Files.left c.read_bytes.new.files) (g.F.Files.held c.read_bytes.new.files) (g.F.Files.faults c.read_bytes.new.files) in
-    unread_is (object_named (option_map (λ n. n.now) c.args.name)) old new c.read_bytes.result c.map_err.result _ c.from_residual.result c.read_bytes.ensures.failed c.map_err.ensures.cases c.in_err-bytes.was
+    unread_is (object_named (option_map (λ n. n.now) c.args.name)) old new c.read_bytes.result c.map_err.result _ c.from_residual.result c.read_bytes.ensures.counts c.map_err.ensures.cases c.in_err-bytes.was
     c.from_residual.ensures.0 c.from_residual.ensures.1
 
 pub returns-clause-script : goal.returns-clause-script

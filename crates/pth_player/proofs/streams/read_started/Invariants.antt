@@ -7,7 +7,7 @@ invariant-loop-buffer g l = record {
   started : g.F.Files.started l.files ≡ true;
   bound : length l.bytes.items ≤ l.cap;
   taken : Consumes (g.F.Files.left l.initial.files) (g.F.Files.left l.files) l.bytes.items;
-  later : g.F.Files.faults l.initial.files ≤ g.F.Files.faults l.files;
+  stood : g.F.Files.faults l.files ≡ g.F.Files.faults l.initial.files;
 }
 
 abbrev pub decreases-loop-buffer : goal.decreases-loop-buffer

@@ -1,4 +1,4 @@
-use Rattle.std.proofs.Common.{arith}
+use Rattle.std.proofs.Common.{◌∙◌}
 use Rattle.pth_player.proofs.Pieces.{append_rest, is_not_empty, part_at, rest_within}
 use Rattle.pth_base.proofs.Results.{on_err}
 use Rattle.pth_player.proofs.streams.write_all.Goals as goal
@@ -11,6 +11,6 @@ pub loop-at-preserved : goal.loop-at-preserved
 loop-at-preserved g c = record {
   within = rest_within _ _ _ c.loop-at.invariant.within c.in_ok-at.ensures.bound;
   written = append_rest _ _ _ _ _ _ c.loop-at.invariant.written c.in_ok-at.ensures.bytes;
-  later = let h = c.write.ensures.cause.later in omega (arith, h);
+  stood = c.in_ok-at.ensures.counts ∙ c.loop-at.invariant.stood;
   empty = λ none. absurd (is_not_empty _ _ c.loop-at-test.true none);
 }

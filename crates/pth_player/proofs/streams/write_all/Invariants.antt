@@ -6,7 +6,7 @@ abbrev pub invariant-loop-at : goal.invariant-loop-at
 invariant-loop-at g l = record {
   within : l.at ≤ length l.bytes;
   written : Appends (g.O.Sink.written l.initial.out) (g.O.Sink.written l.out) (take l.at l.bytes);
-  later : g.O.Sink.faults l.initial.out ≤ g.O.Sink.faults l.out;
+  stood : g.O.Sink.faults l.out ≡ g.O.Sink.faults l.initial.out;
   empty : l.bytes ≡ [] → l.out ≡ l.initial.out;
 }
 

@@ -10,4 +10,4 @@ returns-clause-plays g c =
     let j = inputs (g.S.Source.left c.run-ran.new.input) (g.S.Source.faults c.run-ran.new.input) (g.F.Files.left c.run-ran.new.files) (g.F.Files.held c.run-ran.new.files) (g.F.Files.faults c.run-ran.new.files) in
     let old = scene i (g.O.Sink.written c.args.out.now) (g.O.Sink.faults c.args.out.now) in
     let new = scene j (g.O.Sink.written c.run-ran.new.out) (g.O.Sink.faults c.run-ran.new.out) in
-    plays old new _ _ _ _ _ (asked_by (map string_bytes c.args.words.now.items)) c.run-ran.result c.run-ran.ensures.others c.run-ran.ensures.ran c.finish.ensures
+    plays old new _ _ _ _ _ (asked_by (map string_bytes c.args.words.now.items)) c.run-ran.result c.run-ran.ensures.ran c.finish.ensures

@@ -1,0 +1,222 @@
+-- Every text is accepted and stands for a script, or is refused.
+use Rattle.std.proofs.Common.{◌≡◌, ◌≤◌, ◌<◌, ◌==◌, ℕ, suc, zero, ◌+◌, Bool, true, false, cond, not, List, [], ◌∷◌, ◌++◌, length, Option, Some, None, refl, ap, sym, subst, ◌∙◌, arith, inl, inr, ◌⊎◌, length-append, append-nil}
+use Rattle.std.specs.Prelude.{reverse, map, drop}
+use Rattle.std.proofs.lemmas.Bool.{cases_order}
+use Rattle.std.proofs.lemmas.List.{length-reverse}
+use Rattle.pth_text.specs.Words.{words_of}
+use Rattle.pth_grammar.specs.Keywords.{begins}
+use Rattle.pth_grammar.specs.Lines.{act_of, check_of, line_of, numbered}
+use Rattle.pth_grammar.specs.declared.keyword.Keyword.{Keyword}
+use Rattle.pth_grammar.specs.declared.keyword.Keyword.TheVariants as key
+use Rattle.pth_grammar.specs.declared.rule.Rule.TheVariants as rule
+use Rattle.pth_grammar.specs.declared.section.Section.{Section}
+use Rattle.pth_grammar.specs.declared.section.Section.TheVariants as sec
+use Rattle.pth_line.specs.Script.{Sections}
+use Rattle.pth_line.specs.declared.act_line.ActLine.{ActLine}
+use Rattle.pth_line.specs.declared.check.Check.{Check}
+use Rattle.pth_line.specs.declared.line.Line.{Line}
+use Rattle.pth_line.specs.declared.line.Line.TheVariants as line
+use Rattle.pth_script.specs.Broken.{broken, places, row_breaks, end_breaks, is_first, is_long, is_open, said_breaks, IsAccepted, IsRefusal}
+use Rattle.pth_script.specs.Drafts.{Parts, seen, in_handler, in_body, handler_closed, IsClosed, IsFine, IsKept, Makes, Takes}
+use Rattle.pth_script.specs.Labels.{somes, placed, placed_in}
+use Rattle.pth_script.specs.Meaning.{said, handlers_of, checks_of, bodies_of, StandsFor}
+use Rattle.pth_script.specs.Rows.{Row, rows_of, is_comment, above}
+use Rattle.pth_script.specs.Seen.{seen_of, past, is_check, is_end, is_handler}
+use Rattle.pth_script.specs.Table.{first_broken}
+use Rattle.pth_script.specs.declared.breach.Breach.{Breach}
+use Rattle.pth_script.specs.declared.breach.Breach.TheVariants.{Limit, Of}
+use Rattle.pth_script.proofs.Above.{seen_more}
+use Rattle.pth_script.proofs.Cuts.{at_row, at_end}
+use Rattle.pth_script.proofs.RowRules.{long_row, said_row_rule, above_first, above_comment, above_said, end_rule}
+use Rattle.pth_script.proofs.Runs.{one_more, sections_made}
+use Rattle.pth_script.proofs.Said.{fine_line, said_comment, said_line_of}
+use Rattle.pth_script.proofs.Starting.{nothing, nothing_seen, nothing_kept, nothing_makes}
+use Rattle.pth_script.proofs.Taken.{act_line_taken, handler_end_taken, act_is_read, body_line_taken, body_end_taken, line_is_read, handler_open_taken, body_open_taken, check_line_taken, check_is_read}
+
+-- ---- a line that breaks no rule is taken
+
+true_or_false : (b : Bool) → (b ≡ true) ⊎ (b ≡ false)
+true_or_false true = inl refl
+true_or_false false = inr refl
+
+-- a value, or none
+some_or_none : {A : Type 0} (o : Option A) → ((x : A) × (o ≡ Some x)) ⊎ (o ≡ None)
+some_or_none (Some x) = inl (x, refl)
+some_or_none None = inr refl
+
+placed_line : (all : List (Option Line)) (l : Line) → (m : Line) × (Some m ≡ placed_in all (Some l))
+placed_line all (line.Goto k to x r y) = (line.Goto k _ x r y, refl)
+placed_line all (line.Set r v) = (line.Set r v, refl)
+placed_line all (line.Add r v) = (line.Add r v, refl)
+placed_line all (line.Note v) = (line.Note v, refl)
+placed_line all (line.Label k) = (line.Label k, refl)
+placed_line all (line.Call a c) = (line.Call a c, refl)
+
+placed_lines : (all : List (Option Line)) (ls : List Line) → (ms : List Line) × (somes ms ≡ map (placed_in all) (somes ls))
+placed_lines all [] = ([], refl)
+placed_lines all (l ∷ ls) =
+    let first = placed_line all l in
+    let others = placed_lines all ls in
+    (first.0 ∷ others.0, λ i. first.1 i ∷ others.1 i)
+
+closed : (d : Parts) → (e : Parts) × IsClosed d e
+unfolding placed
+closed d = let body = placed_lines (somes d.body) d.body in (record d { section = sec.Bodies; bodies = d.bodies ++ body.0 ∷ []; body = [] }, (body.0, body.1, refl))
+
+check_begins : (k : Option Keyword) → is_check k ≡ true → k ≡ Some key.Check
+check_begins (Some key.Check) h = refl
+check_begins _ h = absurd (cc)
+
+module _ (d : Parts) (ws : List (List ℕ)) (kept : IsKept d) (fine : IsFine d ws) where
+  abbrev Taken : Type 0
+  Taken = (e : Parts) × Takes d e ws
+
+  act_taken : d.section ≡ sec.Handler → Taken
+  act_taken at = elim (true_or_false (is_end (begins ws))) [
+    | inl end ↦ (handler_closed d, handler_end_taken d ws kept at end)
+    | inr more ↦ elim (some_or_none (act_of ws)) [
+      | inl a ↦ (record d { acts = d.acts ++ a.0 ∷ [] }, act_line_taken d ws kept at a.0 fine more a.1)
+      | inr none ↦ absurd (act_is_read d ws kept at fine more none)
+    ]
+  ]
+
+  line_taken : d.section ≡ sec.Body → Taken
+  line_taken at = elim (true_or_false (is_end (begins ws))) [
+    | inl end ↦ let e = closed d in (e.0, body_end_taken d ws kept at e.0 e.1 end)
+    | inr more ↦ elim (some_or_none (line_of ws)) [
+      | inl l ↦ (record d { body = d.body ++ l.0 ∷ [] }, body_line_taken d ws kept at l.0 l.1)
+      | inr none ↦ absurd (line_is_read d ws kept at fine more none)
+    ]
+  ]
+
+  opening_taken : in_handler d.section ≡ false → in_body d.section ≡ false → Taken
+  opening_taken h b = elim (true_or_false (is_check (begins ws))) [
+    | inl check ↦ let first = check_begins (begins ws) check in elim (some_or_none (check_of ws)) [
+      | inl c ↦ (record d { section = sec.Checks; checks = d.checks ++ c.0 ∷ [] }, check_line_taken d ws kept h b fine c.0 first c.1)
+      | inr none ↦ absurd (check_is_read d ws kept h b fine first none)
+    ]
+    | inr other ↦ elim (true_or_false (is_handler (begins ws))) [
+      | inl handler ↦ (record d { section = sec.Handler }, handler_open_taken d ws kept h b fine handler)
+      | inr thread ↦ (record d { section = sec.Body }, body_open_taken d ws kept h b fine thread other)
+    ]
+  ]
+
+  taken_in : (s : Section) → d.section ≡ s → Taken
+  taken_in sec.Handler e = act_taken e
+  taken_in sec.Body e = line_taken e
+  taken_in sec.Handlers e = opening_taken (ap in_handler e) (ap in_body e)
+  taken_in sec.Checks e = opening_taken (ap in_handler e) (ap in_body e)
+  taken_in sec.Bodies e = opening_taken (ap in_handler e) (ap in_body e)
+
+  taken : Taken
+  taken = taken_in d.section refl
+
+-- ---- a text in which no line breaks a rule
+
+limit_first : (long : Bool) (o : Option Breach) → (long ≡ true → o ≡ Some Limit) → o ≡ None → long ≡ false
+limit_first true o h none = absurd (some_limit o (h refl) none)
+  where
+    some_limit : (o : Option Breach) → o ≡ Some Limit → o ≡ None → ⊥
+    some_limit o some none = absurd (cc)
+limit_first false o h none = refl
+
+is_ended : (b : Bool) → not b ≡ false → true ≡ b
+is_ended true h = refl
+is_ended false h = absurd (cc)
+
+shut_by : (first none shut : Bool) → cond first (Some (Of rule.Header)) (cond none (Some (Of rule.Main)) (cond shut (Some (Of rule.End)) None)) ≡ None → shut ≡ false
+shut_by true none shut h = absurd (cc)
+shut_by false true shut h = absurd (cc)
+shut_by false false true h = absurd (cc)
+shut_by false false false h = refl
+
+neither_open : (s : Section) → is_open s ≡ false → (in_handler s ≡ false) × (in_body s ≡ false)
+neither_open sec.Handler h = absurd (cc)
+neither_open sec.Body h = absurd (cc)
+neither_open sec.Handlers h = (refl, refl)
+neither_open sec.Checks h = (refl, refl)
+neither_open sec.Bodies h = (refl, refl)
+
+module _ (text : List ℕ) (accepted : IsAccepted text) where
+  row_fine : (before rest : List Row) (row : Row) → reverse before ++ row ∷ rest ≡ rows_of text → first_broken (λ b. row_breaks b before row) ≡ None
+  row_fine before rest row e =
+      sym (at_row text before rest row e) ∙ accepted (length before + 1) (omega arith) (omega (arith, ap length e, length-append (reverse before) (row ∷ rest), length-reverse before))
+
+  end_fine : (before : List Row) → reverse before ≡ rows_of text → first_broken (λ b. end_breaks b before) ≡ None
+  end_fine before e = sym (at_end text before e) ∙ accepted (length before + 1) (omega arith) (omega (arith, ap length e, length-reverse before))
+
+  -- a line of words breaks nothing in the draft of the lines above
+  words_fine : (before rest : List Row) (row : Row) (d : Parts) → reverse before ++ row ∷ rest ≡ rows_of text → true ≡ not (is_first before) → is_comment row.bytes ≡ false
+      → seen d ≡ seen_of (above before) → IsFine d (words_of row.bytes)
+  words_fine before rest row d e later words s =
+      let none = row_fine before rest row e in
+      let short = limit_first (is_long before row) _ (long_row before row) none in
+      let fine = sym (said_row_rule before row later words short) ∙ none in
+      let ended = is_ended row.ended (fine_line row.ended (seen_of (above before)) (words_of row.bytes) fine).cut in
+      (λ i. first_broken (said_breaks (ended i) (s i) (words_of row.bytes))) ∙ fine
+
+  module _ (hs : List (List (Option ActLine))) (cs : List (Option Check)) (bs : List (List (Option Line))) where
+    -- all lines were taken, and what is left makes these sections
+    pub record TakesAll : Type 0 where
+      pub before : List Row
+      pub draft : Parts
+      pub all : reverse before ≡ rows_of text
+      pub seen : seen draft ≡ seen_of (above before)
+      pub makes : Makes draft [] hs cs bs
+
+    take_all : (before rest : List Row) (d : Parts) → reverse before ++ rest ≡ rows_of text → true ≡ not (is_first before) → seen d ≡ seen_of (above before) → IsKept d
+        → Makes d (said rest) hs cs bs → TakesAll
+    unfolding said
+    take_all before [] d e later s kept m = record { before = before; draft = d; all = sym (append-nil (reverse before)) ∙ e; seen = s; makes = m }
+    take_all before (row ∷ rest) d e later s kept m = elim (true_or_false (is_comment row.bytes)) [
+      | inl comment ↦ take_all (row ∷ before) rest d (one_more before rest (rows_of text) row e) refl (s ∙ ap seen_of (sym (above_comment before row later comment))) kept
+          (subst (λ ls. Makes d ls hs cs bs) (said_comment row rest comment) m)
+      | inr words ↦
+          let ws = words_of row.bytes in
+          let t = taken d ws kept (words_fine before rest row d e later words s) in
+          take_all (row ∷ before) rest t.0 (one_more before rest (rows_of text) row e) refl
+          (t.1.seen ∙ ap (λ x. past (begins ws) (numbered ws) x) s ∙ sym (seen_more ws (above before)) ∙ ap seen_of (sym (above_said before row later words)))
+          t.1.kept (t.1.makes (said rest) hs cs bs (subst (λ ls. Makes d ls hs cs bs) (said_line_of row rest words) m))
+    ]
+
+  script_by : (rows : List Row) → rows_of text ≡ rows → (s : Sections) × StandsFor s text
+  script_by [] e = absurd (no_end (end_fine [] (sym e)) (end_rule []))
+    where
+      no_end : {o : Option Breach} → o ≡ None → o ≡ Some (Of rule.Header) → ⊥
+      no_end none some = absurd (cc)
+  script_by (row ∷ rest) e =
+      let ls = said (drop 1 (rows_of text)) in
+      let below : said rest ≡ ls = ap (λ rows. said (drop 1 rows)) (sym e) in
+      let all = take_all (handlers_of ls) (checks_of ls) (bodies_of ls) (row ∷ []) rest nothing (sym e) refl (nothing_seen ∙ ap seen_of (sym (above_first [] row refl))) nothing_kept
+      (subst (λ t. Makes nothing t (handlers_of ls) (checks_of ls) (bodies_of ls)) (sym below) (nothing_makes ls)) in
+      let shut = neither_open all.draft.section
+      (ap (λ x. is_open x.section) all.seen ∙ shut_by (is_first all.before) ((seen_of (above all.before)).bodies == 0) _ (sym (end_rule all.before) ∙ end_fine all.before all.all)) in
+      (record { handlers = all.draft.handlers; checks = all.draft.checks; bodies = all.draft.bodies }, sections_made all.draft ls shut.0 shut.1 all.makes)
+
+  -- it stands for a script
+  pub script_of : (s : Sections) × StandsFor s text
+  script_of = script_by (rows_of text) refl
+
+-- ---- every text
+
+-- no place up to this one breaks a rule, or the least that does
+first_place : (text : List ℕ) (n : ℕ) → ((i : ℕ) → 1 ≤ i → i ≤ n → first_broken (broken text i) ≡ None)
+    ⊎ ((line : ℕ) × (b : Breach) × (1 ≤ line) × (line ≤ n) × (first_broken (broken text line) ≡ Some b) × ((i : ℕ) → 1 ≤ i → i < line → first_broken (broken text i) ≡ None))
+first_place text zero = inl (λ i from within. absurd (omega arith))
+first_place text (suc n) = elim (first_place text n) [
+  | inr r ↦ let within = r.3 in inr (r.0, r.1, r.2, omega arith, r.4, r.5)
+  | inl fine ↦ elim (some_or_none (first_broken (broken text (suc n)))) [
+    | inl b ↦ inr (suc n, b.0, omega arith, omega arith, b.1, λ i from below. fine i from (omega arith))
+    | inr none ↦ inl (λ i from within. elim (cases_order i (suc n)) [
+      | inl same ↦ ap (λ k. first_broken (broken text k)) same ∙ none
+      | inr h ↦ elim h [ inl below ↦ fine i from (omega arith) | inr over ↦ absurd (omega arith) ]
+    ])
+  ]
+]
+
+-- a text is accepted or refused
+pub accepted_or_refused : (text : List ℕ) → IsAccepted text ⊎ ((line : ℕ) × (b : Breach) × IsRefusal text line b)
+accepted_or_refused text = elim (first_place text (places text)) [
+  | inl fine ↦ inl fine
+  | inr r ↦ inr (r.0, r.1, record { from = r.2; within = r.3; first = r.4; least = r.5 })
+]
