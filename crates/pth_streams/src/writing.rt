@@ -1,6 +1,9 @@
 //! A writer of std as a sink.
 
-ghost use Rattle.std.specs.Prelude.{◌≡◌};
+ghost use Rattle.std.specs.Prelude.{◌≡◌, ◌<◌, IfOk, IsErrOf, length};
+ghost use Rattle.std.specs.Io.{WritesAtMost};
+ghost use Rattle.std.specs.Io.KnownBytes.{WriteAppends};
+ghost use Rattle.pth_streams.specs.Faults.{CountsSink};
 
 use crate::sink::{Sink, SinkErr};
 use std::io::Write;
@@ -38,7 +41,13 @@ impl<W: Write> Sink for Writing<W> {
 
     ghost faults = { λ s. s.faults };
 
-    fn write(&mut self, bytes: &[u8]) -> Result<usize, SinkErr> {
+    fn write(&mut self, bytes: &[u8]) -> Result<usize, SinkErr>
+        ensures bound { WritesAtMost result bytes.now }
+        ensures progress { IfOk result (λ n. 0 < length bytes.now → 0 < n) }
+        ensures bytes { WriteAppends (W.contents self.old.inner) (W.contents self.new.inner) result bytes.now }
+        ensures counts { CountsSink self.old.faults self.new.faults result }
+        ensures no_memory { IsErrOf result SinkErr.OutOfMemory → ⊥ }
+    {
         match self.inner.write(bytes) {
             Ok(n) if n > 0 || bytes.is_empty() => Ok(n),
             _ => {
