@@ -1,5 +1,5 @@
 -- The five queues of a state, after one change.
-use Rattle.std.proofs.Common.{◌≡◌, ℕ, Bool, true, false, ℤ, pos, ◌+ℤ◌, ◌-ℤ◌, List, refl, ◌∙◌, ap, arith}
+use Rattle.std.proofs.Common.{◌≡◌, ℕ, Bool, true, false, if◌then◌else◌, ℤ, pos, ◌+ℤ◌, ◌-ℤ◌, List, refl, ◌∙◌, ap, arith}
 use Rattle.std.proofs.lemmas.Int.{ints}
 use Rattle.pth_queue.specs.declared.row.Row.{Row}
 use Rattle.pth_queue.specs.declared.queue.Queue.{Queue}
@@ -76,3 +76,20 @@ module _ {P S H : Type 0} (s : State P S H) where
   queue-raise_other Waiting e = refl
   queue-raise_other Suspended e = refl
   queue-raise_other Dead e = refl
+
+-- ---- every queue at once
+
+module _ {P S H : Type 0} (s : State P S H) where
+  enter_by : (t : ℕ) (p q : Queue) (rank : ℤ) (top b : Bool) → is_queue p q ≡ b → queue (with_entry s t q rank top) p ≡ (if b then insert (record { rank = rank; who = t }) (queue s p) else queue s p)
+  enter_by t p q rank top true e = rw (is_queue_same p q e) (queue-enter s t q rank top)
+  enter_by t p q rank top false e = queue-enter_other s t p q rank top e
+
+  pub queue-entered : (t : ℕ) (p q : Queue) (rank : ℤ) (top : Bool) → queue (with_entry s t q rank top) p ≡ (if is_queue p q then insert (record { rank = rank; who = t }) (queue s p) else queue s p)
+  queue-entered t p q rank top = enter_by t p q rank top (is_queue p q) refl
+
+  pub queue-raised : (q : Queue) → queue (raised s) q ≡ (if is_queue q Ready then increase (queue s q) else queue s q)
+  queue-raised Ready = queue-raise s
+  queue-raised New = queue-raise_other s New refl
+  queue-raised Waiting = queue-raise_other s Waiting refl
+  queue-raised Suspended = queue-raise_other s Suspended refl
+  queue-raised Dead = queue-raise_other s Dead refl

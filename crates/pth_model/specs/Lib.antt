@@ -2,6 +2,7 @@ pub mod Core
 pub mod Standing
 pub mod State
 pub mod Changes
+pub mod Shown
 pub mod Told
 pub mod Family
 pub mod Rows

@@ -4,7 +4,7 @@ use pth_base::call::Call;
 use pth_base::ids::Micros;
 
 /// Whether a suspended `pth_cond_await` takes its mutex back, and with which outcome.
-#[derive(Clone, Copy, Debug, PartialEq, Eq)]
+#[derive(Clone, Copy)]
 pub enum Retake {
     No,
     One,

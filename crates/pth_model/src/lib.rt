@@ -5,3 +5,4 @@ pub mod continuation;
 pub mod example;
 pub mod held;
 pub mod next;
+pub mod standings;
