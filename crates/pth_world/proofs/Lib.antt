@@ -9,4 +9,5 @@ pub mod Moves
 pub mod Schedules
 pub mod QueueReads
 pub mod Walks
+pub mod Items
 pub mod Ranks

@@ -16,7 +16,7 @@ module _ {P S H : Type 0} (w : WorldOf P S H) where
   }
 
   pub running_sound : (t : Option ℕ) → IsSound w → IsSound (record w { running = t })
-  running_sound t k = record { tied = k.tied; fresh = k.fresh; empty = k.empty; bare = k.bare; recorded = k.recorded; queued = k.queued; room = k.room; orderly = k.orderly; long = k.long; prios = k.prios; present = k.present }
+  running_sound t k = record { tied = k.tied; fresh = k.fresh; empty = k.empty; bare = k.bare; recorded = k.recorded; queued = k.queued; room = k.room; orderly = k.orderly; long = k.long; attributes = k.attributes; present = k.present }
 
   pub naming_stands : (t : Option ℕ) (s : State P S H) → StandsFor w s → StandsFor (record w { named = t }) (naming s t)
   naming_stands t s st = record {
@@ -27,7 +27,7 @@ module _ {P S H : Type 0} (w : WorldOf P S H) where
   }
 
   pub naming_sound : (t : Option ℕ) → IsSound w → IsSound (record w { named = t })
-  naming_sound t k = record { tied = k.tied; fresh = k.fresh; empty = k.empty; bare = k.bare; recorded = k.recorded; queued = k.queued; room = k.room; orderly = k.orderly; long = k.long; prios = k.prios; present = k.present }
+  naming_sound t k = record { tied = k.tied; fresh = k.fresh; empty = k.empty; bare = k.bare; recorded = k.recorded; queued = k.queued; room = k.room; orderly = k.orderly; long = k.long; attributes = k.attributes; present = k.present }
 
   pub naming_whole : (t : Option ℕ) → Whole w → Whole (record w { named = t })
   naming_whole t whole = record { sound = naming_sound t whole.sound; fits = whole.fits; runner = whole.runner }
@@ -41,7 +41,7 @@ module _ {P S H : Type 0} (w : WorldOf P S H) where
   }
 
   time_sound : (m : ℕ) → IsSound w → IsSound (record w { time = m })
-  time_sound m k = record { tied = k.tied; fresh = k.fresh; empty = k.empty; bare = k.bare; recorded = k.recorded; queued = k.queued; room = k.room; orderly = k.orderly; long = k.long; prios = k.prios; present = k.present }
+  time_sound m k = record { tied = k.tied; fresh = k.fresh; empty = k.empty; bare = k.bare; recorded = k.recorded; queued = k.queued; room = k.room; orderly = k.orderly; long = k.long; attributes = k.attributes; present = k.present }
 
   pub time_whole : (m : ℕ) → Whole w → Whole (record w { time = m })
   time_whole m whole = record { sound = time_sound m whole.sound; fits = whole.fits; runner = whole.runner }

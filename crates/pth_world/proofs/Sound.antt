@@ -26,27 +26,27 @@ use Rattle.pth_model.specs.Standing.{is_queue}
 use Rattle.std.proofs.lemmas.Bool.{cases_Bool, cases_lt}
 use Rattle.std.proofs.Common.{inl, inr}
 use Rattle.pth_world.specs.World.{WorldOf}
-use Rattle.pth_world.specs.Standing.{IsSound, IsBare, IsPrio, KeepsPrio}
+use Rattle.pth_world.specs.Standing.{IsSound, IsBare, IsPrio, IsCancel, HasAttributes, KeepsAttributes}
 use Rattle.pth_world.proofs.Slots.{name_is, used, low, not_unused}
 use Rattle.pth_world.proofs.Places.{nowhere-holds, orderly-without}
 
-changed_prio : (c : Change) (e : Entry) → KeepsPrio c → IsPrio e.prio → IsPrio (changed c e).prio
+changed_has : (c : Change) (e : Entry) → KeepsAttributes c → HasAttributes e → HasAttributes (changed c e)
 unfolding changed
-changed_prio (change.Prio n) e k p = k
-changed_prio (change.Name n) e k p = p
-changed_prio (change.Joinable b) e k p = p
-changed_prio (change.Cancel n) e k p = p
-changed_prio (change.Request b) e k p = p
-changed_prio (change.State state) e k p = p
-changed_prio (change.Suspended on) e k p = p
-changed_prio (change.Dispatches n) e k p = p
-changed_prio (change.Value value) e k p = p
+changed_has (change.Prio n) e k h = record { prio = k; cancel = h.cancel }
+changed_has (change.Name n) e k h = record { prio = h.prio; cancel = h.cancel }
+changed_has (change.Joinable b) e k h = record { prio = h.prio; cancel = h.cancel }
+changed_has (change.Cancel n) e k h = record { prio = h.prio; cancel = k }
+changed_has (change.Request b) e k h = record { prio = h.prio; cancel = h.cancel }
+changed_has (change.State state) e k h = record { prio = h.prio; cancel = h.cancel }
+changed_has (change.Suspended on) e k h = record { prio = h.prio; cancel = h.cancel }
+changed_has (change.Dispatches n) e k h = record { prio = h.prio; cancel = h.cancel }
+changed_has (change.Value value) e k h = record { prio = h.prio; cancel = h.cancel }
 
 is_entry : {d e : Entry} → Some d ≡ Some e → d ≡ e
 is_entry h = cc
 
-changed_by : (c : Change) (o : Option Entry) (d : Entry) → KeepsPrio c → ((e : Entry) → o ≡ Some e → IsPrio e.prio) → option_map (changed c) o ≡ Some d → IsPrio d.prio
-changed_by c (Some e) d k old h = subst (λ (x : Entry). IsPrio x.prio) (is_entry h) (changed_prio c e k (old e refl))
+changed_by : (c : Change) (o : Option Entry) (d : Entry) → KeepsAttributes c → ((e : Entry) → o ≡ Some e → HasAttributes e) → option_map (changed c) o ≡ Some d → HasAttributes d
+changed_by c (Some e) d k old h = subst HasAttributes (is_entry h) (changed_has c e k (old e refl))
 changed_by c None d k old h = absurd (cc h)
 
 pub some_kept : {A : Type 0} (h : A → A) (o : Option A) → IsSome o → IsSome (option_map h o)
@@ -94,7 +94,7 @@ module _ {P S H : Type 0} (w : WorldOf P S H) (sound : IsSound w) where
   f = tid_at w.threads
 
   module _ (t u : ℕ) (e : slot_of w.threads t ≡ Some u) where
-    pub change_sound : (x : ThreadsOf) (c : Change) → KeepsPrio c → Changes w.threads x u c → IsSound (record w { threads = x })
+    pub change_sound : (x : ThreadsOf) (c : Change) → KeepsAttributes c → Changes w.threads x u c → IsSound (record w { threads = x })
     change_sound x c keeps ch = record {
       tied = rw (ch.slots, ch.tids) sound.tied;
       fresh = rw (ch.slots, ch.made) sound.fresh;
@@ -105,7 +105,7 @@ module _ {P S H : Type 0} (w : WorldOf P S H) (sound : IsSound w) where
       room = sound.room;
       orderly = sound.orderly;
       long = sound.long;
-      prios = λ v d h. (let Q : Option Entry → Type 0 = λ o. o ≡ Some d → IsPrio d.prio in put_by Q (entry_at w.threads) u (option_map (changed c) (entry_at w.threads u)) v (λ same. changed_by c (entry_at w.threads u) d keeps (sound.prios u)) (λ apart. sound.prios v d)) (ap (λ (k : ℕ → Option Entry). k v) (sym ch.entries) ∙ h);
+      attributes = λ v d h. (let Q : Option Entry → Type 0 = λ o. o ≡ Some d → HasAttributes d in put_by Q (entry_at w.threads) u (option_map (changed c) (entry_at w.threads u)) v (λ same. changed_by c (entry_at w.threads u) d keeps (sound.attributes u)) (λ apart. sound.attributes v d)) (ap (λ (k : ℕ → Option Entry). k v) (sym ch.entries) ∙ h);
       present = rw (ch.slots, ch.entries, ch.count, ch.made, seen_put None (slot_of w.threads) f (entry_at w.threads) t u (option_map (changed c) (entry_at w.threads u)) sound.tied e, ← seen_at None (slot_of w.threads) (entry_at w.threads) t u e) (number-change (seen None (slot_of w.threads) (entry_at w.threads)) w.threads.made t (changed c) ∙ sound.present);
     }
 
@@ -120,12 +120,12 @@ module _ {P S H : Type 0} (w : WorldOf P S H) (sound : IsSound w) where
       room = sound.room;
       orderly = sound.orderly;
       long = long;
-      prios = sound.prios;
+      attributes = sound.attributes;
       present = sound.present;
     }
 
     queues_sound : (y : QueuesOf) → y.room ≡ w.queues.room → IsOrderly y → ((q : Queue) → IsQueued f (rows_of q y)) → IsSound (record w { queues = y })
-    queues_sound y room orderly queued = record { tied = sound.tied; fresh = sound.fresh; empty = sound.empty; bare = sound.bare; recorded = sound.recorded; queued = queued; room = room ∙ sound.room; orderly = orderly; long = sound.long; prios = sound.prios; present = sound.present }
+    queues_sound y room orderly queued = record { tied = sound.tied; fresh = sound.fresh; empty = sound.empty; bare = sound.bare; recorded = sound.recorded; queued = queued; room = room ∙ sound.room; orderly = orderly; long = sound.long; attributes = sound.attributes; present = sound.present }
 
     in_room : u < w.queues.room
     in_room = subst (λ (n : ℕ). u < n) (sym sound.room) (low w t u sound e)
@@ -155,7 +155,7 @@ module _ {P S H : Type 0} (w : WorldOf P S H) (sound : IsSound w) where
       room = sound.room;
       orderly = sound.orderly;
       long = long;
-      prios = λ v k h. (let Q : Option Entry → Type 0 = λ o. o ≡ Some k → IsPrio k.prio in put_by Q (entry_at w.threads) u None v (λ same no. absurd (cc no)) (λ apart. sound.prios v k)) (ap (λ (o : ℕ → Option Entry). o v) (sym gone.entries) ∙ h);
+      attributes = λ v k h. (let Q : Option Entry → Type 0 = λ o. o ≡ Some k → HasAttributes k in put_by Q (entry_at w.threads) u None v (λ same no. absurd (cc no)) (λ apart. sound.attributes v k)) (ap (λ (o : ℕ → Option Entry). o v) (sym gone.entries) ∙ h);
       present = let known : seen None (slot_of w.threads) (entry_at w.threads) t ≡ Some its_entry.0 = seen_at None (slot_of w.threads) (entry_at w.threads) t u e ∙ its_entry.1 in
           let named : tid_at w.threads u ≡ t = name_is w t u sound e in
           let some : 0 < t = above_zero t (λ zero. used w t u sound e (named ∙ zero)) in
@@ -170,11 +170,11 @@ module _ {P S H : Type 0} (w : WorldOf P S H) (sound : IsSound w) where
         same_after h = omega arith
 
   pub raise_sound : (y : QueuesOf) → CanRise w.queues.ready → y ≡ with_rows queue.Ready (increase w.queues.ready) w.queues → IsSound (record w { queues = y })
-  raise_sound y rise is = rw is (record { tied = sound.tied; fresh = sound.fresh; empty = sound.empty; bare = sound.bare; recorded = sound.recorded; queued = λ p. rows_kept (IsQueued f) queue.Ready p _ w.queues (IsQueued-increase f w.queues.ready (sound.queued queue.Ready)) sound.queued; room = sound.room; orderly = IsOrderly-increased queue.Ready w.queues sound.orderly rise; long = sound.long; prios = sound.prios; present = sound.present })
+  raise_sound y rise is = rw is (record { tied = sound.tied; fresh = sound.fresh; empty = sound.empty; bare = sound.bare; recorded = sound.recorded; queued = λ p. rows_kept (IsQueued f) queue.Ready p _ w.queues (IsQueued-increase f w.queues.ready (sound.queued queue.Ready)) sound.queued; room = sound.room; orderly = IsOrderly-increased queue.Ready w.queues sound.orderly rise; long = sound.long; attributes = sound.attributes; present = sound.present })
 
-  pub add_sound : (x : ThreadsOf) (y : List (Option (Continuation S))) (u : ℕ) (of : NewThread) (c : Continuation S) → IsPrio of.prio → Adds w.threads x u (made_of of (w.threads.made + 1)) → table None y ≡ put (table None w.going) u (Some c) → length y ≡ 4096 → IsSound (record w { threads = x; going = y })
+  pub add_sound : (x : ThreadsOf) (y : List (Option (Continuation S))) (u : ℕ) (of : NewThread) (c : Continuation S) → IsPrio of.prio → IsCancel of.cancel → Adds w.threads x u (made_of of (w.threads.made + 1)) → table None y ≡ put (table None w.going) u (Some c) → length y ≡ 4096 → IsSound (record w { threads = x; going = y })
   unfolding made_of
-  add_sound x y u of c prio adds has long = record {
+  add_sound x y u of c prio cancel adds has long = record {
     tied = adds.tied;
     fresh = λ v above. rw adds.slots (put_other (slot_of w.threads) (w.threads.made + 1) (Some u) v (λ same. absurd (omega (arith, adds.made))) ∙ sound.fresh v (omega (arith, adds.made)));
     empty = rw adds.tids (bare_is None (put f u (w.threads.made + 1)) (entry_at x) (put (entry_at w.threads) u (Some (made_of of (w.threads.made + 1)))) adds.entries (bare_added None f (entry_at w.threads) u (w.threads.made + 1) _ (no_next w.threads.made) sound.empty));
@@ -184,6 +184,6 @@ module _ {P S H : Type 0} (w : WorldOf P S H) (sound : IsSound w) where
     room = sound.room;
     orderly = sound.orderly;
     long = long;
-    prios = λ v k h. (let Q : Option Entry → Type 0 = λ o. o ≡ Some k → IsPrio k.prio in put_by Q (entry_at w.threads) u (Some _) v (λ same is. subst (λ (d : Entry). IsPrio d.prio) (is_entry is) prio) (λ apart. sound.prios v k)) (ap (λ (o : ℕ → Option Entry). o v) (sym adds.entries) ∙ h);
+    attributes = λ v k h. (let Q : Option Entry → Type 0 = λ o. o ≡ Some k → HasAttributes k in put_by Q (entry_at w.threads) u (Some _) v (λ same is. subst HasAttributes (is_entry is) (record { prio = prio; cancel = cancel })) (λ apart. sound.attributes v k)) (ap (λ (o : ℕ → Option Entry). o v) (sym adds.entries) ∙ h);
     present = rw (adds.slots, adds.entries, adds.count, adds.made, seen_add None (slot_of w.threads) f (entry_at w.threads) (w.threads.made + 1) u sound.tied (Some (made_of of (w.threads.made + 1))) adds.unused) (number-new (seen None (slot_of w.threads) (entry_at w.threads)) w.threads.made (made_of of (w.threads.made + 1)) ∙ ap (λ (n : ℕ). n + 1) sound.present);
   }

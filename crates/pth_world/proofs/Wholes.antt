@@ -18,7 +18,7 @@ use Rattle.pth_model.specs.declared.held.Held.{Held}
 use Rattle.pth_model.specs.State.{State}
 use Rattle.pth_model.specs.Changes.{with_entry, with_thread, called, held_by}
 use Rattle.pth_world.specs.World.{WorldOf}
-use Rattle.pth_world.specs.Standing.{StandsFor, IsSound, IsKnown, IsPrio, View, view, Touches, Fits, FitsEntry, Whole, same_view}
+use Rattle.pth_world.specs.Standing.{StandsFor, IsSound, IsKnown, IsPrio, IsCancel, View, view, Touches, Fits, FitsEntry, Whole, same_view}
 use Rattle.pth_world.proofs.Slots.{prio_rank}
 use Rattle.pth_world.proofs.Standing.{add_stands, enter_stands, called_stands, called_call}
 use Rattle.pth_world.proofs.Sound.{add_sound, enter_sound, going_sound}
@@ -45,13 +45,13 @@ module _ {P S H : Type 0} (w : WorldOf P S H) (t u : ℕ) (sound : IsSound w) (e
       subst (λ (k : H). StandsFor (record w { going = z; shared = k }) (called h s t a).state) (sym (ap (λ (k : Stepped S H). k.shared) steps)) (called_stands w t u sound e h z x a s (sym had) is st)
 
   pub next_sound : length z ≡ 4096 → IsSound (record w { going = z; shared = shared })
-  next_sound long = let k = going_sound w sound t u e z (Some (record x { state = after })) goes refl long in record { tied = k.tied; fresh = k.fresh; empty = k.empty; bare = k.bare; recorded = k.recorded; queued = k.queued; room = k.room; orderly = k.orderly; long = k.long; prios = k.prios; present = k.present }
+  next_sound long = let k = going_sound w sound t u e z (Some (record x { state = after })) goes refl long in record { tied = k.tied; fresh = k.fresh; empty = k.empty; bare = k.bare; recorded = k.recorded; queued = k.queued; room = k.room; orderly = k.orderly; long = k.long; attributes = k.attributes; present = k.present }
 
   pub next_touches : Touches w (record w { going = z; shared = shared }) t same_view
   next_touches = called_touches w sound t u e z x (record x { state = after }) shared (sym had) refl goes
 
 -- a new thread
-module _ {P S H : Type 0} (w : WorldOf P S H) (whole : Whole w) (x : ThreadsOf) (y : List (Option (Continuation S))) (z : QueuesOf) (u : ℕ) (of : NewThread) (prio : IsPrio of.prio) (c : Continuation S) (bare : c.held ≡ None) (adds : Adds w.threads x u (made_of of (w.threads.made + 1))) (has : table None y ≡ put (table None w.going) u (Some c)) (long : length y ≡ 4096) (enters : z ≡ entered queue.New of.prio u w.queues) where
+module _ {P S H : Type 0} (w : WorldOf P S H) (whole : Whole w) (x : ThreadsOf) (y : List (Option (Continuation S))) (z : QueuesOf) (u : ℕ) (of : NewThread) (prio : IsPrio of.prio) (cancel : IsCancel of.cancel) (c : Continuation S) (bare : c.held ≡ None) (adds : Adds w.threads x u (made_of of (w.threads.made + 1))) (has : table None y ≡ put (table None w.going) u (Some c)) (long : length y ≡ 4096) (enters : z ≡ entered queue.New of.prio u w.queues) where
   abbrev t : ℕ
   t = w.threads.made + 1
 
@@ -63,7 +63,7 @@ module _ {P S H : Type 0} (w : WorldOf P S H) (whole : Whole w) (x : ThreadsOf) 
   slot = ap (λ (k : ℕ → Option ℕ). k t) adds.slots ∙ put_here (slot_of w.threads) t (Some u)
 
   sound : IsSound v
-  sound = add_sound w whole.sound x y u of c prio adds has long
+  sound = add_sound w whole.sound x y u of c prio cancel adds has long
 
   pub spawn_nowhere : IsNowhere u w.queues
   spawn_nowhere = unused-nowhere (tid_at w.threads) u w.queues whole.sound.queued adds.unused
@@ -128,7 +128,7 @@ module _ {P S H : Type 0} (w : WorldOf P S H) (x : ThreadsOf) (same : IsSame w.t
     room = sound.room;
     orderly = sound.orderly;
     long = sound.long;
-    prios = rw same.entries sound.prios;
+    attributes = rw same.entries sound.attributes;
     present = rw (same.slots, same.entries, same.count, same.made) sound.present;
   }
 

@@ -1,5 +1,5 @@
 -- A world stands for a part of the machine's state, and what holds of every world.
-use Rattle.std.specs.Prelude.{◌≡◌, ◌≢◌, ◌<◌, ℕ, ℤ, pos, neg_ℤ, ◌≤ℤ◌, Bool, true, false, length, map, Option, Some, None, option_map, IsSome, IfSome}
+use Rattle.std.specs.Prelude.{◌≡◌, ◌≢◌, ◌<◌, ◌≤◌, ℕ, ℤ, pos, neg_ℤ, ◌≤ℤ◌, Bool, true, false, length, map, Option, Some, None, option_map, IsSome, IfSome}
 use Rattle.pth_base.specs.Table.{table}
 use Rattle.pth_base.specs.Naming.{IsTied, seen}
 use Rattle.pth_base.specs.declared.call.Call.{Call}
@@ -52,10 +52,21 @@ pub record IsPrio (prio : ℤ) : Type 0 where
   pub low : neg_ℤ (pos 20) ≤ℤ prio
   pub high : prio ≤ℤ pos 20
 
--- a change of a record that leaves the base priority, or sets it to one
-abbrev pub KeepsPrio : Change → Type 0
-KeepsPrio (change.Prio prio) = IsPrio prio
-KeepsPrio c = Unit {0}
+-- a cancel state: 1 enabled and deferred, 2 disabled and deferred, 3 enabled and asynchronous, 4 disabled and asynchronous
+pub record IsCancel (cancel : ℕ) : Type 0 where
+  pub low : 1 ≤ cancel
+  pub high : cancel ≤ 4
+
+-- what holds of the attributes of a thread
+pub record HasAttributes (e : Entry) : Type 0 where
+  pub prio : IsPrio e.prio
+  pub cancel : IsCancel e.cancel
+
+-- a change of a record that leaves the base priority and the cancel state, or sets one of them to another
+abbrev pub KeepsAttributes : Change → Type 0
+KeepsAttributes (change.Prio prio) = IsPrio prio
+KeepsAttributes (change.Cancel cancel) = IsCancel cancel
+KeepsAttributes c = Unit {0}
 
 -- what every change of a world keeps: names are tied to slots, and each part speaks of threads in the system alone
 pub record IsSound {P S H : Type 0} (w : WorldOf P S H) : Type 0 where
@@ -72,7 +83,7 @@ pub record IsSound {P S H : Type 0} (w : WorldOf P S H) : Type 0 where
   -- each queue is in order, and no slot stands in two
   pub orderly : IsOrderly w.queues
   pub long : length w.going ≡ 4096
-  pub prios : (u : ℕ) (e : Entry) → entry_at w.threads u ≡ Some e → IsPrio e.prio
+  pub attributes : (u : ℕ) (e : Entry) → entry_at w.threads u ≡ Some e → HasAttributes e
   -- the threads are counted by slot as by number
   pub present : number_known (seen None (slot_of w.threads) (entry_at w.threads)) w.threads.made ≡ count w.threads
 

@@ -47,7 +47,6 @@ impl<S: Drop> Continuations<S> {
     }
 
     /// Sets what the thread at a slot goes on with.
-    #[tactic(auto, using(pth_base::proofs::Lists::table_set, pth_base::proofs::Lists::put_none))]
     pub fn set(&mut self, s: Slot, c: Option<Continuation<S>>)
         requires { s.0 < 4096 }
         ensures set { table None self.new ≡ put (table None self.old) s.0 c }
@@ -65,7 +64,6 @@ impl<S: Drop> Continuations<S> {
     }
 
     /// Takes out what the thread at a slot goes on with.
-    #[tactic(auto, using(pth_base::proofs::Lists::table_set, pth_base::proofs::Lists::put_none))]
     pub fn take(&mut self, s: Slot) -> Option<Continuation<S>>
         requires { s.0 < 4096 }
         ensures value { result ≡ table None self.old s.0 }
@@ -76,7 +74,6 @@ impl<S: Drop> Continuations<S> {
     }
 
     /// Sets the call that suspends the thread at a slot.
-    #[tactic(auto, using(pth_base::proofs::Lists::table_set, pth_base::proofs::Lists::put_none))]
     pub fn hold(&mut self, s: Slot, h: Held)
         requires { s.0 < 4096 }
         ensures set { table None self.new ≡ put (table None self.old) s.0 (option_map (with_held (Some h)) (table None self.old s.0)) }
@@ -88,7 +85,6 @@ impl<S: Drop> Continuations<S> {
     }
 
     /// Takes out the call that suspends the thread at a slot.
-    #[tactic(auto, using(pth_base::proofs::Lists::table_set, pth_base::proofs::Lists::put_none))]
     pub fn take_held(&mut self, s: Slot) -> Option<Held>
         requires { s.0 < 4096 }
         ensures value { result ≡ held_by (table None self.old s.0) }
@@ -102,7 +98,6 @@ impl<S: Drop> Continuations<S> {
     }
 
     /// Sets the answer that is owed to the thread at a slot.
-    #[tactic(auto, using(pth_base::proofs::Lists::table_set, pth_base::proofs::Lists::put_none))]
     pub fn owe(&mut self, s: Slot, a: Answer)
         requires { s.0 < 4096 }
         ensures set { table None self.new ≡ put (table None self.old) s.0 (option_map (with_owed a) (table None self.old s.0)) }
@@ -114,7 +109,6 @@ impl<S: Drop> Continuations<S> {
     }
 
     /// Takes out the answer that is owed to the thread at a slot.
-    #[tactic(auto, using(pth_base::proofs::Lists::table_set, pth_base::proofs::Lists::put_none))]
     pub fn take_owed(&mut self, s: Slot) -> Answer
         requires { s.0 < 4096 }
         ensures value { result ≡ owed_by (table None self.old s.0) }

@@ -11,7 +11,7 @@ ghost use Rattle.pth_model.specs.Part.{is_empty, rank_by};
 ghost use Rattle.pth_model.specs.Waits.{only, is_alone};
 ghost use Rattle.pth_world.specs.World.{number_of};
 ghost use Rattle.pth_world.specs.Walks.{behind};
-ghost use Rattle.pth_world.specs.Standing.{StandsFor, IsSound, Whole, IsKnown, IsIn, IsPrio};
+ghost use Rattle.pth_world.specs.Standing.{StandsFor, IsSound, Whole, IsKnown, IsIn, IsPrio, IsCancel};
 
 use crate::world::World;
 use pth_base::ids::{Slot, Tid};
@@ -27,6 +27,7 @@ impl<P: Program> World<P> {
         ensures known { IsSome result → IsKnown self.now t.0 }
         ensures some { IsKnown self.now t.0 → IsSome result }
         ensures prio { IfSome result (λ e. IsPrio e.now.prio) }
+        ensures cancel { IfSome result (λ e. IsCancel e.now.cancel) }
     {
         match self.threads().find(t) {
             Some(slot) => Some(self.threads().get(slot)),

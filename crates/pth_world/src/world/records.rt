@@ -2,7 +2,7 @@
 
 ghost use Rattle.std.specs.Prelude.{◌≡◌, ◌≢◌, ◌<◌, ◌+◌, ◌↔◌, ℕ, ℤ, Bool, false, Option, Some, None, IfSome, IfOk, OnOk, OnErr, IsErrOf, option_copied, nat_lt, pos};
 ghost use Rattle.pth_queue.specs.declared.queue.Queue.TheVariants as queue;
-ghost use Rattle.pth_queue.specs.Queues.{IsNowhere, IsRank, entered, without};
+ghost use Rattle.pth_queue.specs.Queues.{IsNowhere, IsRank, no_queues, entered, without};
 ghost use Rattle.pth_base.specs.declared.thread.ThreadState.TheVariants as state;
 ghost use Rattle.pth_threads.specs.declared.entry.Change.TheVariants as change;
 ghost use Rattle.pth_threads.specs.Threads.{slot_of, tid_at, count, IsCountable, IsSame, Removes};
@@ -10,9 +10,9 @@ ghost use Rattle.pth_model.specs.State.{State, start, present};
 ghost use Rattle.pth_model.specs.Changes.{with_change, with_entry, with_thread, without_entry, without_thread};
 ghost use Rattle.pth_model.specs.Part.{put_waiting};
 ghost use Rattle.pth_model.specs.Rows.{thread_limit};
-ghost use Rattle.pth_world.specs.World.{first_thread};
+ghost use Rattle.pth_world.specs.World.{first_thread, before_main};
 ghost use Rattle.pth_world.specs.Ranks.{KeepsRanks};
-ghost use Rattle.pth_world.specs.Standing.{StandsFor, IsSound, IsKnown, IsPrio, KeepsPrio, Whole, Touches, SameThreads, changes, places, view};
+ghost use Rattle.pth_world.specs.Standing.{StandsFor, IsSound, IsKnown, IsPrio, IsCancel, KeepsAttributes, Whole, Touches, SameThreads, changes, places, view};
 
 use crate::continuations::Continuations;
 use crate::world::World;
@@ -45,34 +45,21 @@ fn main_thread() -> NewThread
 }
 
 impl<P: Program> World<P> {
-    /// The main thread alone, ready at rank 0 (`pth_init`).
-    pub fn new(alloc: Global, program: P) -> Result<World<P>, OutOfMemory>
-        ensures stands { IfOk result (λ w. StandsFor w (start P.functions (record { program = program }))) }
+    // The program with no threads, and with room for as many as there may be.
+    fn without_threads(alloc: Global, program: P) -> Result<World<P>, OutOfMemory>
+        ensures stands { IfOk result (λ w. StandsFor w (before_main P.functions (record { program = program }))) }
         ensures whole { IfOk result (λ w. Whole w) }
-        ensures one { IfOk result (λ w. w.threads.made ≡ 1) }
+        ensures made { IfOk result (λ w. w.threads.made ≡ 0) }
+        ensures count { IfOk result (λ w. count w.threads ≡ 0) }
+        ensures queues { IfOk result (λ w. w.queues ≡ record no_queues { room = 4096 }) }
+        ensures bodies { IfOk result (λ w. 0 < (P.functions w.program).bodies) }
     {
         let shared = program.shared(alloc)?;
         let _some = program.bodies();
-        let state = program.start(alloc, BodyId(0), 0)?;
         let mut queues = QueueSet::new(alloc);
         queues.reserve(MOST)?;
-        let mut threads = Threads::new(alloc);
-        let (_main, slot) = match threads.add(main_thread()) {
-            Ok(added) => added,
-            Err(AddErr::OutOfMemory) => return Err(OutOfMemory),
-            Err(AddErr::TooMany) => unreachable!(),
-        };
-        threads.change(slot, Change::State(ThreadState::Ready));
-        queues.insert(Queue::Ready, 0, slot);
-        let mut going = Continuations::new(alloc)?;
-        going.set(
-            slot,
-            Some(Continuation {
-                state,
-                owed: Answer::None,
-                held: None,
-            }),
-        );
+        let going = Continuations::new(alloc)?;
+        let threads = Threads::new(alloc);
         Ok(World {
             alloc,
             program,
@@ -88,11 +75,27 @@ impl<P: Program> World<P> {
         })
     }
 
+    /// The main thread alone, ready at rank 0 (`pth_init`).
+    pub fn new(alloc: Global, program: P) -> Result<World<P>, OutOfMemory>
+        ensures stands { IfOk result (λ w. StandsFor w (start P.functions (record { program = program }))) }
+        ensures whole { IfOk result (λ w. Whole w) }
+        ensures one { IfOk result (λ w. w.threads.made ≡ 1) }
+    {
+        let mut world = World::without_threads(alloc, program)?;
+        let main = match world.spawn(BodyId(0), 0, main_thread()) {
+            Ok(main) => main,
+            Err(AddErr::OutOfMemory) => return Err(OutOfMemory),
+            Err(AddErr::TooMany) => unreachable!(),
+        };
+        world.make_ready(main, 0);
+        Ok(world)
+    }
+
     /// Sets one field of a thread's record. A changed priority counts from the next entry into a queue.
     pub fn change(&mut self, t: Tid, c: Change)
         requires sound { IsSound self.old }
         requires known { IsKnown self.old t.0 }
-        requires prio { KeepsPrio c }
+        requires attributes { KeepsAttributes c }
         requires countable { IsCountable c }
         ensures stands { (s : State P P.State P.Shared) → StandsFor self.old s → StandsFor self.new (with_change s t.0 c) }
         ensures sound { IsSound self.new }
@@ -144,6 +147,7 @@ impl<P: Program> World<P> {
         requires whole { Whole self.old }
         requires bodies { body.0 < (P.functions self.old.program).bodies }
         requires prio { IsPrio of.prio }
+        requires cancel { IsCancel of.cancel }
         requires few { self.old.threads.made < 2147483648 }
         ensures tid { IfOk result (λ t. t.0 ≡ self.old.threads.made + 1) }
         ensures made { OnOk result (self.new.threads.made ≡ self.old.threads.made + 1) }

@@ -9,4 +9,7 @@ pub returns-in-None-clause-entry : goal.returns-in-None-clause-entry
 returns-in-None-clause-entry g c s st = not_known _ c.args.t.0 s (rw c.threads.ensures at c.in-None.ensures.slot) st
 
 pub returns-in-Some-clause-prio : goal.returns-in-Some-clause-prio
-returns-in-Some-clause-prio g c = c.requires.prios c.in-Some.slot.0 c.get.result.now (rw c.threads-in-Some.ensures at c.get.ensures.entry)
+returns-in-Some-clause-prio g c = (c.requires.attributes c.in-Some.slot.0 c.get.result.now (rw c.threads-in-Some.ensures at c.get.ensures.entry)).prio
+
+pub returns-in-Some-clause-cancel : goal.returns-in-Some-clause-cancel
+returns-in-Some-clause-cancel g c = (c.requires.attributes c.in-Some.slot.0 c.get.result.now (rw c.threads-in-Some.ensures at c.get.ensures.entry)).cancel

@@ -8,13 +8,13 @@ use Rattle.pth_world.proofs.world.World.prio.Goals as goal
 pub returns-clause-prio : goal.returns-clause-prio
 returns-clause-prio g c s st =
     let e = rw c.threads.ensures at c.get.ensures.entry in
-    let p : IsPrio c.get.result.now.prio = c.requires.sound.prios c.slot-slot.result.0 c.get.result.now e in
+    let p : IsPrio c.get.result.now.prio = (c.requires.sound.attributes c.slot-slot.result.0 c.get.result.now e).prio in
     let f : SFits w64 c.get.result.now.prio = prio_fits _ p in
     rw to_z-of_z (sym (ap prio_by (entry_is _ c.args.t.0 c.slot-slot.result.0 c.requires.sound c.slot-slot.ensures.slot s st ∙ e)))
 
 pub returns-clause-low : goal.returns-clause-low
 returns-clause-low g c =
     let e = rw c.threads.ensures at c.get.ensures.entry in
-    let p : IsPrio c.get.result.now.prio = c.requires.sound.prios c.slot-slot.result.0 c.get.result.now e in
+    let p : IsPrio c.get.result.now.prio = (c.requires.sound.attributes c.slot-slot.result.0 c.get.result.now e).prio in
     let f : SFits w64 c.get.result.now.prio = prio_fits _ p in
     rw to_z-of_z p

@@ -23,7 +23,7 @@ returns-clause-stands g c s st =
     let enters = rw (c.queues_mut.ensures.value, to_z-of_z) at c.insert.ensures in
     let f : SFits w64 c.args.arg = search rules in
     let is = rw to_z-of_z at c.in_ok-state.ensures in
-    rw tid (spawn_stands c.args.self.now c.requires.whole c.add.new.self c.set.new.self c.insert.new.self c.in_ok-t.slot.0 c.args.of c.requires.prio _ refl adds has c.set.ensures.long enters g.P.Program.functions c.args.body.0 c.args.arg s (rw is refl) st)
+    rw tid (spawn_stands c.args.self.now c.requires.whole c.add.new.self c.set.new.self c.insert.new.self c.in_ok-t.slot.0 c.args.of c.requires.prio c.requires.cancel _ refl adds has c.set.ensures.long enters g.P.Program.functions c.args.body.0 c.args.arg s (rw is refl) st)
 
 pub returns-clause-whole : goal.returns-clause-whole
 returns-clause-whole g c =
@@ -32,7 +32,7 @@ returns-clause-whole g c =
     let has = rw c.going_mut.ensures.value at c.set.ensures.set in
     let prio : SFits w64 c.args.of.prio = prio_fits _ c.requires.prio in
     let enters = rw (c.queues_mut.ensures.value, to_z-of_z) at c.insert.ensures in
-    spawn_whole c.args.self.now c.requires.whole c.add.new.self c.set.new.self c.insert.new.self c.in_ok-t.slot.0 c.args.of c.requires.prio _ refl adds has c.set.ensures.long enters
+    spawn_whole c.args.self.now c.requires.whole c.add.new.self c.set.new.self c.insert.new.self c.in_ok-t.slot.0 c.args.of c.requires.prio c.requires.cancel _ refl adds has c.set.ensures.long enters
 
 pub returns-clause-others : goal.returns-clause-others
 returns-clause-others g c =
@@ -41,7 +41,7 @@ returns-clause-others g c =
     let has = rw c.going_mut.ensures.value at c.set.ensures.set in
     let prio : SFits w64 c.args.of.prio = prio_fits _ c.requires.prio in
     let enters = rw (c.queues_mut.ensures.value, to_z-of_z) at c.insert.ensures in
-    spawn_others c.args.self.now c.requires.whole c.add.new.self c.set.new.self c.insert.new.self c.in_ok-t.slot.0 c.args.of c.requires.prio _ refl adds has c.set.ensures.long enters
+    spawn_others c.args.self.now c.requires.whole c.add.new.self c.set.new.self c.insert.new.self c.in_ok-t.slot.0 c.args.of c.requires.prio c.requires.cancel _ refl adds has c.set.ensures.long enters
 
 pub returns-clause-queues : goal.returns-clause-queues
 returns-clause-queues g c =
@@ -50,7 +50,7 @@ returns-clause-queues g c =
     let has = rw c.going_mut.ensures.value at c.set.ensures.set in
     let prio : SFits w64 c.args.of.prio = prio_fits _ c.requires.prio in
     let enters = rw (c.queues_mut.ensures.value, to_z-of_z) at c.insert.ensures in
-    rw tid (spawn_queues c.args.self.now c.requires.whole c.add.new.self c.set.new.self c.insert.new.self c.in_ok-t.slot.0 c.args.of c.requires.prio _ refl adds has c.set.ensures.long enters)
+    rw tid (spawn_queues c.args.self.now c.requires.whole c.add.new.self c.set.new.self c.insert.new.self c.in_ok-t.slot.0 c.args.of c.requires.prio c.requires.cancel _ refl adds has c.set.ensures.long enters)
 
 pub returns-clause-ranks : goal.returns-clause-ranks
 returns-clause-ranks g c =
@@ -59,4 +59,4 @@ returns-clause-ranks g c =
     let has = rw c.going_mut.ensures.value at c.set.ensures.set in
     let prio : SFits w64 c.args.of.prio = prio_fits _ c.requires.prio in
     let enters = rw (c.queues_mut.ensures.value, to_z-of_z) at c.insert.ensures in
-    spawn_ranks c.args.self.now c.requires.whole c.add.new.self c.set.new.self c.insert.new.self c.in_ok-t.slot.0 c.args.of c.requires.prio _ refl adds has c.set.ensures.long enters
+    spawn_ranks c.args.self.now c.requires.whole c.add.new.self c.set.new.self c.insert.new.self c.in_ok-t.slot.0 c.args.of c.requires.prio c.requires.cancel _ refl adds has c.set.ensures.long enters
