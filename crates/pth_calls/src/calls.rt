@@ -1,7 +1,7 @@
 //! The calls that go on at once.
 
-ghost use Rattle.std.specs.Prelude.{◌≡◌, ◌<◌, ◌≤◌, ◌+◌, ℕ, Bool, false, IfOk, OnOk, OnErr, List, [], ◌∷◌, ◌++◌};
-ghost use Rattle.pth_base.specs.declared.mark.Mark.TheVariants.{Answered};
+ghost use Rattle.std.specs.Prelude.{◌≡◌, ◌<◌, ◌≤◌, ◌+◌, ℕ, Bool, false, IfOk, OnOk, OnErr, List, [], ◌∷◌, ◌++◌, pos};
+ghost use Rattle.pth_base.specs.declared.mark.Mark.TheVariants.{Answered, Noted};
 ghost use Rattle.pth_model.specs.State.{State};
 ghost use Rattle.pth_model.specs.Family.{split};
 ghost use Rattle.pth_model.specs.Rows.{answer_of, plain_row};
@@ -34,6 +34,31 @@ pub fn tell(t: Tid, call: &Call, answer: &Answer, marks: &mut Marks) -> Result<(
     })
 }
 
+/// Answers a call, and tells of it.
+pub fn answer_call(
+    t: Tid,
+    call: &Call,
+    answer: Answer,
+    marks: &mut Marks,
+) -> Result<Answer, OutOfMemory>
+    ensures value { IfOk result (λ a. a ≡ answer) }
+    ensures ok { OnOk result (marks.new ≡ marks.old ++ Answered t call.now answer ∷ []) }
+    ensures err { OnErr result (marks.new ≡ marks.old) }
+{
+    tell(t, call, &answer, marks)?;
+    Ok(answer)
+}
+
+// Tells a note.
+fn note(t: Tid, value: i64, marks: &mut Marks) -> Result<Answer, OutOfMemory>
+    ensures value { IfOk result (λ a. a ≡ Answer.Int (pos 0)) }
+    ensures ok { OnOk result (marks.new ≡ marks.old ++ Noted t value ∷ []) }
+    ensures err { OnErr result (marks.new ≡ marks.old) }
+{
+    marks.push(Mark::Noted { tid: t, value })?;
+    Ok(Answer::Int(0))
+}
+
 /// Answers a call that never suspends its thread, and tells of it. After an error the world may only be dropped.
 pub fn begin_plain<P: Program>(
     w: &mut World<P>,
@@ -56,22 +81,11 @@ pub fn begin_plain<P: Program>(
 {
     match call {
         Call::Plain => Ok(Answer::None),
-        Call::Note(value) => {
-            marks.push(Mark::Noted {
-                tid: t,
-                value: *value,
-            })?;
-            Ok(Answer::Int(0))
-        }
+        Call::Note(value) => note(t, *value, marks),
         Call::Spawn { b, v, a } => {
             let answer = spawn(w, t, *b, *v, *a)?;
-            tell(t, call, &answer, marks)?;
-            Ok(answer)
+            answer_call(t, call, answer, marks)
         }
-        _ => {
-            let answer = Answer::Fail(Errno::EINVAL);
-            tell(t, call, &answer, marks)?;
-            Ok(answer)
-        }
+        _ => answer_call(t, call, Answer::Fail(Errno::EINVAL), marks),
     }
 }

@@ -33,8 +33,8 @@ module _ {P S H : Type 0} (w : WorldOf P S H) where
     stops running is = rw is search rules
 
     -- t, which runs and has this record, ends: the world is as the thread's end leaves it
-    pub end_leads : (e : Entry) (old new : List Mark) → Some e ≡ (unheld s t).rest.threads.known t → s.rest.scheduler.running ≡ Some t → StandsFor w (running_is (if e.joinable then dead (unheld s t) t value else gone (unheld s t) t) None) → new ≡ old ++ Ended (tid t) value ∷ [] → Leads w old new (ending s t value)
-    unfolding ending
+    pub end_leads : (e : Entry) (old new : List Mark) → Some e ≡ s.rest.threads.known t → s.rest.scheduler.running ≡ Some t → StandsFor w (running_is (if e.joinable then dead (unheld s t) t value else gone (unheld s t) t) None) → new ≡ old ++ Ended (tid t) value ∷ [] → Leads w old new (ending s t value)
+    unfolding ending with_going
     end_leads e old new known runs st told =
         let stopped = stops (if e.joinable then dead (unheld s t) t value else gone (unheld s t) t).rest.scheduler.running (runs_on e.joinable ∙ runs) in
         rw (← known, stopped) (record { stands = core_stands (running_is (if e.joinable then dead (unheld s t) t value else gone (unheld s t) t) None) _ st; tells = told })

@@ -3,7 +3,7 @@
 ghost use Rattle.std.specs.Prelude.{◌≡◌, ℕ, None, Some, OnOk, OnErr, if◌then◌else◌};
 ghost use Rattle.pth_model.specs.State.{State};
 ghost use Rattle.pth_model.specs.Changes.{running_is};
-ghost use Rattle.pth_model.specs.Ending.{ending, dead, gone};
+ghost use Rattle.pth_model.specs.Ending.{ending, dead, gone, unheld};
 ghost use Rattle.pth_world.specs.Ranks.{KeepsRanks};
 ghost use Rattle.pth_world.specs.Standing.{StandsFor, Whole};
 ghost use Rattle.pth_base.specs.Cut.{IsCut};
@@ -16,16 +16,17 @@ use pth_base::memory::OutOfMemory;
 use pth_base::program::Program;
 use pth_world::world::World;
 
-// The thread that runs is dead where it can be joined, and gone otherwise.
+// The thread that runs has its wait undone, and is dead where it can be joined, and gone otherwise.
 fn leave<P: Program>(w: &mut World<P>, t: Tid, joinable: bool, value: i64)
     requires whole { Whole w.old }
     requires runs { w.old.running ≡ Some t.0 }
-    ensures stands { (s : State P P.State P.Shared) → StandsFor w.old s → StandsFor w.new (running_is (if joinable then dead s t.0 value else gone s t.0) None) }
+    ensures stands { (s : State P P.State P.Shared) → StandsFor w.old s → StandsFor w.new (running_is (if joinable then dead (unheld s t.0) t.0 value else gone (unheld s t.0) t.0) None) }
     ensures whole { Whole w.new }
     ensures made { w.new.threads.made ≡ w.old.threads.made }
     ensures same { w.new ≡ record w.old { threads = w.new.threads; queues = w.new.queues; going = w.new.going; running = None } }
     ensures ranks { KeepsRanks w.old w.new }
 {
+    w.take_held(t);
     if joinable {
         w.make_dead(t, value);
     } else {
@@ -50,7 +51,6 @@ pub fn end_thread<P: Program>(
     ensures same { OnOk result (w.new ≡ record w.old { threads = w.new.threads; queues = w.new.queues; going = w.new.going; running = None }) }
     ensures ranks { OnOk result (KeepsRanks w.old w.new) }
 {
-    w.take_held(t);
     let joinable = match w.entry(t) {
         Some(entry) => entry.joinable,
         None => unreachable!(),

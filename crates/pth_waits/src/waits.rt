@@ -3,9 +3,9 @@
 ghost use Rattle.std.specs.Prelude.{◌≡◌, ◌==◌, ◌&&◌, not, true, Some, IfOk, OnOk, OnErr};
 ghost use Rattle.pth_base.specs.declared.call.Call.TheVariants.{Exit, Yield};
 ghost use Rattle.pth_model.specs.State.{State};
-ghost use Rattle.pth_model.specs.Waits.{main, is_alone, begun, exit_again, resumed, wakes as wakes_now, suspends as may_suspend};
+ghost use Rattle.pth_model.specs.Waits.{main, is_alone, begun, exit_again, resumed, suspended, waiting, wakes as wakes_now, suspends as may_suspend};
 ghost use Rattle.pth_world.specs.Ranks.{KeepsRanks};
-ghost use Rattle.pth_world.specs.Standing.{StandsFor, IsSound, Whole};
+ghost use Rattle.pth_world.specs.Standing.{StandsFor, IsSound, Whole, MaySuspend};
 ghost use Rattle.pth_base.specs.Cut.{IsCut};
 ghost use Rattle.pth_world.specs.Leading.{Leads};
 ghost use Rattle.pth_waits.specs.Running.{runs_after};
@@ -19,7 +19,7 @@ use pth_base::mark::Mark;
 use pth_base::marks::Marks;
 use pth_base::memory::OutOfMemory;
 use pth_base::program::Program;
-use pth_calls::calls::tell;
+use pth_calls::calls::answer_call;
 use pth_model::held::{Held, Retake};
 use pth_model::next::Next;
 use pth_world::world::World;
@@ -76,12 +76,10 @@ fn begin_yield<P: Program>(
     ensures runs { IfOk result (λ n. runs_after t.0 n ≡ Some t.0) }
 {
     if to != 0 {
-        let answer = Answer::Fail(Errno::EINVAL);
-        tell(t, call, &answer, marks)?;
+        let answer = answer_call(t, call, Answer::Fail(Errno::EINVAL), marks)?;
         return Ok(Next::Done(answer));
     }
-    let answer = Answer::Int(1);
-    tell(t, call, &answer, marks)?;
+    let answer = answer_call(t, call, Answer::Int(1), marks)?;
     Ok(Next::Yields(answer))
 }
 
@@ -92,6 +90,40 @@ fn must_wait<P: Program>(w: &World<P>, t: Tid) -> bool
     ensures main { result ≡ true → t.0 ≡ main }
 {
     t.0 == MAIN && !w.is_alone(t)
+}
+
+// A call suspends the thread that runs: it waits from now on.
+fn suspend<P: Program>(
+    w: &mut World<P>,
+    t: Tid,
+    call: Call,
+    marks: &mut Marks,
+) -> Result<(), OutOfMemory>
+    requires whole { Whole w.old }
+    requires runs { w.old.running ≡ Some t.0 }
+    requires may { MaySuspend t.0 call }
+    ensures ok { OnOk result ((s : State P P.State P.Shared) → StandsFor w.old s → Leads w.new marks.old marks.new (waiting (suspended s t.0 call) t.0 call).told) }
+    ensures err { OnErr result (marks.new ≡ marks.old) }
+    ensures whole { OnOk result (Whole w.new) }
+    ensures same { OnOk result (w.new ≡ record w.old { going = w.new.going }) }
+{
+    let mark = Mark::Waits {
+        tid: t,
+        call: call.copy()?,
+    };
+    let begin = w.time();
+    w.hold(
+        t,
+        Held {
+            call,
+            begin,
+            moment: 0,
+            written: 0,
+            round: 0,
+            retake: Retake::No,
+        },
+    );
+    marks.push(mark)
 }
 
 // `pth_exit`: the main thread waits until it is alone, and every other thread ends.
@@ -114,28 +146,12 @@ fn begin_exit<P: Program>(
     ensures runs { IfOk result (λ n. w.new.running ≡ runs_after t.0 n) }
     ensures ranks { OnOk result (KeepsRanks w.old w.new) }
 {
-    if !must_wait(w, t) {
-        end_thread(w, t, value, marks)?;
-        return Ok(Next::Ended(value));
+    if must_wait(w, t) {
+        suspend(w, t, call, marks)?;
+        return Ok(Next::Waits);
     }
-    let mark = Mark::Waits {
-        tid: t,
-        call: call.copy()?,
-    };
-    let begin = w.time();
-    w.hold(
-        t,
-        Held {
-            call,
-            begin,
-            moment: 0,
-            written: 0,
-            round: 0,
-            retake: Retake::No,
-        },
-    );
-    marks.push(mark)?;
-    Ok(Next::Waits)
+    end_thread(w, t, value, marks)?;
+    Ok(Next::Ended(value))
 }
 
 /// Begins a call that may suspend the thread that runs, or end it or its turn, and tells of it. After an error the world
@@ -162,8 +178,7 @@ pub fn begin<P: Program>(
         Call::Exit(value) => begin_exit(w, t, call, value, marks),
         Call::Yield(to) => begin_yield(w, t, &call, to, marks),
         _ => {
-            let answer = Answer::Fail(Errno::EINVAL);
-            tell(t, &call, &answer, marks)?;
+            let answer = answer_call(t, &call, Answer::Fail(Errno::EINVAL), marks)?;
             Ok(Next::Done(answer))
         }
     }
