@@ -1,8 +1,12 @@
 -- What the parts of a turn need of a world.
 use Rattle.std.specs.Prelude.{◌≢◌, ℕ, ◌+◌, ◌^◌, ◌≤◌, List, [], ◌∷◌, length}
+use Rattle.pth_base.specs.Program.{Functions}
+use Rattle.pth_base.specs.declared.answer.Answer.TheVariants as answer
 use Rattle.pth_queue.specs.Queues.{QueuesOf}
 use Rattle.pth_queue.specs.declared.queue.Queue.TheVariants.{Waiting}
 use Rattle.pth_model.specs.State.{State}
+use Rattle.pth_model.specs.Changes.{Called, called, owed_to}
+use Rattle.pth_model.specs.Part.{owing}
 use Rattle.pth_world.specs.World.{WorldOf}
 use Rattle.pth_world.specs.Standing.{StandsFor, IsKnown, IsIn}
 use Rattle.pth_world.specs.Ranks.{IsUnder, greatest_return}
@@ -31,3 +35,7 @@ pub record HasRoom (qs : QueuesOf) : Type 0 where
   pub low : greatest_return ≤ roof
   pub under : IsUnder roof qs.ready
   pub few : roof + length qs.new ≤ 2 ^ 40
+
+-- the program's next call of thread t, which is handed over the answer that it is owed
+abbrev pub called_next : {P S H : Type 0} → (P → Functions S H) → State P S H → ℕ → Called P S H
+called_next f s t = called f (owing s t answer.None) t (owed_to s t)

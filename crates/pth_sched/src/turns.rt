@@ -13,7 +13,7 @@ ghost use Rattle.pth_world.specs.Ranks.{IsUnder, KeepsRanks, greatest_return};
 ghost use Rattle.pth_base.specs.Cut.{IsCut};
 ghost use Rattle.pth_world.specs.Leading.{Leads};
 ghost use Rattle.pth_waits.specs.Running.{runs_after};
-ghost use Rattle.pth_sched.specs.Passing.{HasRoom};
+ghost use Rattle.pth_sched.specs.Passing.{HasRoom, called_next};
 
 use pth_base::call::Call;
 use pth_base::ids::{Micros, Tid};
@@ -98,6 +98,38 @@ fn begin_call<P: Program>(
     Ok(Next::Done(begin_plain(w, t, &call, marks)?))
 }
 
+// The program's next call of a thread, which is handed over the answer that it is owed. After an error the world may only
+// be dropped.
+fn next_call<P: Program>(w: &mut World<P>, t: Tid) -> Result<Call, OutOfMemory>
+    requires whole { Whole w.old }
+    requires known { IsKnown w.old t.0 }
+    ensures call { IfOk result (λ call. (s : State P P.State P.Shared) → StandsFor w.old s → call ≡ (called_next P.functions s t.0).call) }
+    ensures stands { OnOk result ((s : State P P.State P.Shared) → StandsFor w.old s → StandsFor w.new (called_next P.functions s t.0).state) }
+    ensures whole { OnOk result (Whole w.new) }
+    ensures same { OnOk result (w.new ≡ record w.old { going = w.new.going; shared = w.new.shared }) }
+{
+    let answer = w.take_owed(t);
+    w.next_call(t, &answer)
+}
+
+// The thread that runs begins the program's next call. After an error the world may only be dropped.
+fn begin_next<P: Program>(w: &mut World<P>, t: Tid, marks: &mut Marks) -> Result<Next, OutOfMemory>
+    requires whole { Whole w.old }
+    requires runs { w.old.running ≡ Some t.0 }
+    requires few { w.old.threads.made < 2147483648 }
+    ensures next { IfOk result (λ n. (s : State P P.State P.Shared) → StandsFor w.old s → n ≡ (went_by P.functions s t.0 None).next) }
+    ensures ok { OnOk result ((s : State P P.State P.Shared) → StandsFor w.old s → Leads w.new marks.old marks.new (went_by P.functions s t.0 None).told) }
+    ensures err { OnErr result ((s : State P P.State P.Shared) → StandsFor w.old s → IsCut marks.old marks.new (went_by P.functions s t.0 None).told.marks) }
+    ensures whole { OnOk result (Whole w.new) }
+    ensures named { OnOk result (w.new.named ≡ w.old.named) }
+    ensures made { OnOk result (w.new.threads.made ≤ w.old.threads.made + 1) }
+    ensures runs { IfOk result (λ n. w.new.running ≡ runs_after t.0 n) }
+    ensures ranks { OnOk result (KeepsRanks w.old w.new) }
+{
+    let call = next_call(w, t)?;
+    begin_call(w, t, call, marks)
+}
+
 /// The thread that runs tries its suspended call again, or begins the program's next call. After an error the world may
 /// only be dropped.
 pub fn go_on<P: Program>(w: &mut World<P>, t: Tid, marks: &mut Marks) -> Result<Next, OutOfMemory>
@@ -116,9 +148,7 @@ pub fn go_on<P: Program>(w: &mut World<P>, t: Tid, marks: &mut Marks) -> Result<
     if w.held(t).is_some() {
         return resume(w, t, marks);
     }
-    let answer = w.take_owed(t);
-    let call = w.next_call(t, &answer)?;
-    begin_call(w, t, call, marks)
+    begin_next(w, t, marks)
 }
 
 // The thread that gave up control is put back, unless it has ended.
