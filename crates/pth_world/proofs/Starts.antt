@@ -1,20 +1,19 @@
 -- A world with main alone stands for the state from which a run starts.
 use Rattle.std.proofs.lemmas.Int.{ints}
-use Rattle.std.proofs.Common.{arith, ◌≡◌, ◌≢◌, ◌+◌, ◌==◌, ℕ, pos, Bool, true, false, List, [], length, map, IsSome, IfSome, Option, Some, None, option_map, refl, sym, ◌∙◌, ap, subst}
+use Rattle.std.proofs.Common.{arith, ◌≡◌, ℕ, pos, true, false, List, length, map, IsSome, IfSome, Option, Some, None, option_map, refl, sym, ◌∙◌, ap, subst}
 use Rattle.pth_base.proofs.Namings.{none_some}
 use Rattle.pth_base.specs.Program.{Functions}
 use Rattle.pth_base.specs.Table.{put, table}
 use Rattle.pth_base.specs.Naming.{seen}
-use Rattle.pth_base.specs.declared.answer.Answer.TheVariants as answer
 use Rattle.pth_base.specs.declared.thread.ThreadState.TheVariants as state
-use Rattle.pth_base.proofs.Tables.{put_here, put_other, same_means, same_fails}
+use Rattle.pth_base.proofs.Tables.{put_here}
 use Rattle.pth_base.proofs.Lists.{put_twice}
 use Rattle.pth_queue.specs.declared.queue.Queue.{Queue}
 use Rattle.pth_queue.specs.declared.queue.Queue.TheVariants as queue
 use Rattle.pth_queue.specs.Rows.{named_row, IsQueued}
 use Rattle.pth_queue.specs.Queues.{QueuesOf, no_queues, rows_of, queue_of, entered, IsOrdered, IsOrderly}
 use Rattle.pth_queue.proofs.Orders.{IsOrdered-nil}
-use Rattle.pth_threads.specs.Threads.{ThreadsOf, slot_of, tid_at, entry_at, count, changed, made_of, Adds, Changes}
+use Rattle.pth_threads.specs.Threads.{ThreadsOf, slot_of, tid_at, entry_at, count, changed, made_of}
 use Rattle.pth_threads.specs.declared.entry.Change.TheVariants as change
 use Rattle.pth_threads.specs.declared.entry.Entry.{Entry}
 use Rattle.pth_model.specs.declared.continuation.Continuation.{Continuation}

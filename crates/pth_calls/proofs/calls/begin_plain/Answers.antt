@@ -1,7 +1,7 @@
 use Rattle.std.proofs.Common.{refl, rules, arith, ◌∙◌, SFits, w64, to_z-of_z}
 use Rattle.std.proofs.lemmas.Result.{IfOk-weaker, on_ok_weaker, on_err_weaker}
 use Rattle.pth_base.proofs.Cuts.{cut_none}
-use Rattle.pth_model.specs.Rows.{answer_of, plain_row}
+use Rattle.pth_model.specs.Rows.{answer_of}
 use Rattle.pth_world.proofs.Ranks.{ranks_none}
 use Rattle.pth_calls.proofs.Answering.{on_ok, unbuilt, plain_leads, note_leads, spawn_leads, unbuilt_leads}
 use Rattle.pth_calls.proofs.calls.begin_plain.Goals as goal
