@@ -1,12 +1,93 @@
 -- Calls as words.
-use Rattle.std.specs.Prelude.{List, [], ℕ, ◌∷◌, codes}
+use Rattle.std.specs.Prelude.{List, [], ℕ, ◌∷◌, Some, None, true, false, codes}
 use Rattle.pth_base.specs.declared.call.Call.{Call}
-use Rattle.pth_base.specs.declared.call.Call.TheVariants.{Plain, Note}
-use Rattle.pth_print.specs.Word.{number}
-use Rattle.pth_print.specs.ThreadCalls.{thread_call_words}
+use Rattle.pth_base.specs.declared.call.Call.TheVariants as call
+use Rattle.pth_print.specs.Word.{number, hex_word}
+use Rattle.pth_print.specs.Sets.{set_word}
+use Rattle.pth_print.specs.Queries.{query_words}
+use Rattle.pth_print.specs.Attrs.{attr_set_words, field_word}
+use Rattle.pth_print.specs.EventLines.{goals_word, state_word, walk_word, chain_words}
+use Rattle.pth_print.specs.LockModes.{mode_word}
 
--- a call, or one of the families after
+-- a call
 abbrev pub call_words : Call → List (List ℕ)
-call_words Plain = codes "plain" ∷ []
-call_words (Note v) = codes "note" ∷ number v ∷ []
-call_words call = thread_call_words call
+call_words (call.Spawn b v a) = codes "spawn" ∷ number b ∷ number v ∷ number a ∷ []
+call_words call.SelfTid = codes "self" ∷ []
+call_words (call.Exit v) = codes "exit" ∷ number v ∷ []
+call_words (call.Yield t) = codes "yield" ∷ number t ∷ []
+call_words (call.Join t) = codes "join" ∷ number t ∷ []
+call_words (call.Cancel t) = codes "cancel" ∷ number t ∷ []
+call_words (call.Abort t) = codes "abort" ∷ number t ∷ []
+call_words (call.CancelState n) = codes "cancel_state" ∷ number n ∷ []
+call_words call.CancelPoint = codes "cancel_point" ∷ []
+call_words (call.Suspend t) = codes "suspend" ∷ number t ∷ []
+call_words (call.Resume t) = codes "resume" ∷ number t ∷ []
+call_words call.Kill = codes "kill" ∷ []
+call_words (call.Ctrl query) = query_words query
+call_words (call.Once o h v) = codes "once" ∷ number o ∷ number h ∷ number v ∷ []
+call_words call.AttrNew = codes "attr_new" ∷ []
+call_words (call.AttrOf t) = codes "attr_of" ∷ number t ∷ []
+call_words (call.AttrInit a) = codes "attr_init" ∷ number a ∷ []
+call_words (call.AttrSet a v) = attr_set_words a v
+call_words (call.AttrGet a f) = codes "attr_get" ∷ number a ∷ field_word f ∷ []
+call_words (call.AttrDestroy a) = codes "attr_destroy" ∷ number a ∷ []
+call_words (call.CleanupPush h v) = codes "cleanup_push" ∷ number h ∷ number v ∷ []
+call_words (call.CleanupPop v) = codes "cleanup_pop" ∷ number v ∷ []
+call_words (call.KeyCreate (Some h)) = codes "key_create" ∷ number h ∷ []
+call_words (call.KeyCreate None) = codes "key_create" ∷ codes "-" ∷ []
+call_words (call.KeyDelete k) = codes "key_delete" ∷ number k ∷ []
+call_words (call.KeySet k v) = codes "key_set" ∷ number k ∷ number v ∷ []
+call_words (call.KeyGet k) = codes "key_get" ∷ number k ∷ []
+call_words (call.EvFd goals fd) = codes "ev_fd" ∷ goals_word goals ∷ number fd ∷ []
+call_words (call.EvSelect r w x) = codes "ev_select" ∷ set_word r.0 ∷ set_word w.0 ∷ set_word x.0 ∷ []
+call_words (call.EvTime m) = codes "ev_time" ∷ number m ∷ []
+call_words (call.EvMsg p) = codes "ev_msg" ∷ number p ∷ []
+call_words (call.EvCond c) = codes "ev_cond" ∷ number c ∷ []
+call_words (call.EvTid state tid) = codes "ev_tid" ∷ state_word state ∷ number tid ∷ []
+call_words (call.EvFunc check arg interval) = codes "ev_func" ∷ number check ∷ number arg ∷ number interval ∷ []
+call_words (call.Chain e line) = chain_words e line
+call_words (call.EvConcat e f) = codes "ev_concat" ∷ number e ∷ number f ∷ []
+call_words (call.EvIsolate e) = codes "ev_isolate" ∷ number e ∷ []
+call_words (call.EvWalk e forward until_occurred) = codes "ev_walk" ∷ number e ∷ walk_word forward until_occurred ∷ []
+call_words (call.EvStatus e) = codes "ev_status" ∷ number e ∷ []
+call_words (call.EvKind e) = codes "ev_kind" ∷ number e ∷ []
+call_words (call.EvFree e false) = codes "ev_free" ∷ number e ∷ codes "this" ∷ []
+call_words (call.EvFree e true) = codes "ev_free" ∷ number e ∷ codes "all" ∷ []
+call_words (call.Wait e) = codes "wait" ∷ number e ∷ []
+call_words (call.Timeout l) = codes "timeout" ∷ number l ∷ []
+call_words (call.Nap l) = codes "nap" ∷ number l ∷ []
+call_words (call.Usleep l) = codes "usleep" ∷ number l ∷ []
+call_words (call.Sleep s) = codes "sleep" ∷ number s ∷ []
+call_words (call.MutexInit m) = codes "mutex_init" ∷ number m ∷ []
+call_words (call.MutexAcquire m v e) = codes "mutex_acquire" ∷ number m ∷ number v ∷ number e ∷ []
+call_words (call.MutexRelease m) = codes "mutex_release" ∷ number m ∷ []
+call_words (call.RwInit l) = codes "rw_init" ∷ number l ∷ []
+call_words (call.RwAcquire l write v e) = codes "rw_acquire" ∷ number l ∷ mode_word write ∷ number v ∷ number e ∷ []
+call_words (call.RwRelease l) = codes "rw_release" ∷ number l ∷ []
+call_words (call.CondInit c) = codes "cond_init" ∷ number c ∷ []
+call_words (call.CondAwait c m e) = codes "cond_await" ∷ number c ∷ number m ∷ number e ∷ []
+call_words (call.CondNotify c v) = codes "cond_notify" ∷ number c ∷ number v ∷ []
+call_words (call.BarrierInit b n) = codes "barrier_init" ∷ number b ∷ number n ∷ []
+call_words (call.BarrierReach b) = codes "barrier_reach" ∷ number b ∷ []
+call_words (call.PortCreate (Some name)) = codes "port_create" ∷ name ∷ []
+call_words (call.PortCreate None) = codes "port_create" ∷ codes "-" ∷ []
+call_words (call.PortFind name) = codes "port_find" ∷ name ∷ []
+call_words (call.PortPending p) = codes "port_pending" ∷ number p ∷ []
+call_words (call.PortPut p v r) = codes "port_put" ∷ number p ∷ number v ∷ number r ∷ []
+call_words (call.PortGet p) = codes "port_get" ∷ number p ∷ []
+call_words (call.Reply m v) = codes "reply" ∷ number m ∷ number v ∷ []
+call_words (call.PortDestroy p) = codes "port_destroy" ∷ number p ∷ []
+call_words (call.Read f n) = codes "read" ∷ number f ∷ number n ∷ []
+call_words (call.ReadEv f n e) = codes "read_ev" ∷ number f ∷ number n ∷ number e ∷ []
+call_words (call.Write f bytes) = codes "write" ∷ number f ∷ hex_word bytes ∷ []
+call_words (call.WriteEv f bytes e) = codes "write_ev" ∷ number f ∷ hex_word bytes ∷ number e ∷ []
+call_words (call.Accept f) = codes "accept" ∷ number f ∷ []
+call_words (call.AcceptEv f e) = codes "accept_ev" ∷ number f ∷ number e ∷ []
+call_words (call.Connect f) = codes "connect" ∷ number f ∷ []
+call_words (call.ConnectEv f e) = codes "connect_ev" ∷ number f ∷ number e ∷ []
+call_words (call.Select r w x l) = codes "select" ∷ set_word r.0 ∷ set_word w.0 ∷ set_word x.0 ∷ number l ∷ []
+call_words (call.SelectEv r w x l e) = codes "select_ev" ∷ set_word r.0 ∷ set_word w.0 ∷ set_word x.0 ∷ number l ∷ number e ∷ []
+call_words (call.Fdmode f m) = codes "fdmode" ∷ number f ∷ number m ∷ []
+call_words (call.Close f) = codes "close" ∷ number f ∷ []
+call_words call.Plain = codes "plain" ∷ []
+call_words (call.Note v) = codes "note" ∷ number v ∷ []

@@ -2,15 +2,6 @@ pub mod Adding
 pub mod Words
 pub mod Word
 pub mod Calls
-pub mod ThreadCalls
-pub mod AttrCalls
-pub mod StoreCalls
-pub mod EventCalls
-pub mod WaitCalls
-pub mod LockCalls
-pub mod ConditionCalls
-pub mod PortCalls
-pub mod DescriptorCalls
 pub mod Answers
 pub mod Lines
 pub mod Sets

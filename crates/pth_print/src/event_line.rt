@@ -5,8 +5,7 @@ ghost use Rattle.pth_print.specs.Adding.{Adds};
 ghost use Rattle.pth_print.specs.Words.{spaced};
 ghost use Rattle.pth_print.specs.EventLines.{goals_word, state_word, walk_word, event_line_words, chain_words};
 
-use crate::word::Word::{Number, Plain, Set};
-use crate::word::add_words;
+use crate::call_shape::{add_one, add_sets, add_text_and_one, add_three};
 use pth_base::event::EvLine;
 use pth_base::memory::OutOfMemory;
 use pth_base::thread::ThreadState;
@@ -16,15 +15,15 @@ use pth_text::text::Text;
 pub fn goals_word(goals: u8) -> &'static [u8]
     ensures { result.now ≡ goals_word goals }
 {
-    match goals % 8 {
-        0 => b"",
-        1 => b"r",
-        2 => b"w",
-        3 => b"rw",
-        4 => b"x",
-        5 => b"rx",
-        6 => b"wx",
-        _ => b"rwx",
+    match (goals % 2 == 1, goals / 2 % 2 == 1, goals / 4 % 2 == 1) {
+        (false, false, false) => b"",
+        (true, false, false) => b"r",
+        (false, true, false) => b"w",
+        (true, true, false) => b"rw",
+        (false, false, true) => b"x",
+        (true, false, true) => b"rx",
+        (false, true, true) => b"wx",
+        (true, true, true) => b"rwx",
     }
 }
 
@@ -58,34 +57,17 @@ fn add_event_line(line: &EvLine, out: &mut Text) -> Result<(), OutOfMemory>
     ensures { Adds out.old out.new result (spaced (event_line_words line.now)) }
 {
     match line {
-        EvLine::Fd { goals, fd } => add_words(
-            &[Plain(b"ev_fd"), Plain(goals_word(*goals)), Number(fd)],
-            out,
-        ),
-        EvLine::Select { r, w, x } => add_words(
-            &[Plain(b"ev_select"), Set(*r), Set(*w), Set(*x)],
-            out,
-        ),
-        EvLine::Time(m) => add_words(&[Plain(b"ev_time"), Number(m)], out),
-        EvLine::Msg(p) => add_words(&[Plain(b"ev_msg"), Number(p)], out),
-        EvLine::Cond(c) => add_words(&[Plain(b"ev_cond"), Number(c)], out),
-        EvLine::Tid { state, tid } => add_words(
-            &[Plain(b"ev_tid"), Plain(state_word(*state)), Number(tid)],
-            out,
-        ),
+        EvLine::Fd { goals, fd } => add_text_and_one(b"ev_fd", goals_word(*goals), fd, out),
+        EvLine::Select { r, w, x } => add_sets(b"ev_select", *r, *w, *x, out),
+        EvLine::Time(m) => add_one(b"ev_time", m, out),
+        EvLine::Msg(p) => add_one(b"ev_msg", p, out),
+        EvLine::Cond(c) => add_one(b"ev_cond", c, out),
+        EvLine::Tid { state, tid } => add_text_and_one(b"ev_tid", state_word(*state), tid, out),
         EvLine::Func {
             check,
             arg,
             interval,
-        } => add_words(
-            &[
-                Plain(b"ev_func"),
-                Number(check),
-                Number(arg),
-                Number(interval),
-            ],
-            out,
-        ),
+        } => add_three(b"ev_func", check, arg, interval, out),
     }
 }
 
@@ -93,6 +75,6 @@ fn add_event_line(line: &EvLine, out: &mut Text) -> Result<(), OutOfMemory>
 pub fn add_chain(e: &i64, line: &EvLine, out: &mut Text) -> Result<(), OutOfMemory>
     ensures { Adds out.old out.new result (spaced (chain_words e.now line.now)) }
 {
-    add_words(&[Plain(b"chain"), Number(e)], out)?;
+    add_one(b"chain", e, out)?;
     add_event_line(line, out)
 }

@@ -9,9 +9,14 @@ ghost use Rattle.pth_print.specs.Calls.{call_words};
 ghost use Rattle.pth_print.specs.Answers.{answer_words};
 ghost use Rattle.pth_print.specs.Lines.{acted_words, mark_words, mark_line};
 
+use crate::act::add_act;
 use crate::answer::add_answer_after;
 use crate::call::add_call;
-use crate::word::Word::{Cell, Natural, Number, Plain, Thread};
+use crate::mark_shape::{
+    add_audit, add_moved, add_object, add_run, add_thread_and, add_turn, add_value, add_withdrew,
+    add_woke,
+};
+use crate::word::Word::{Plain, Thread};
 use crate::word::{add_line, add_word, add_words};
 use pth_base::act::Act;
 use pth_base::answer::Answer;
@@ -45,34 +50,6 @@ fn add_answered(tid: Tid, call: &Call, answer: &Answer, out: &mut Text) -> Resul
     add_answer_after(&[Plain(b"=")], answer, out)
 }
 
-/// Adds a handler's act and its answer.
-fn add_act(act: &Act, answer: &Answer, out: &mut Text) -> Result<(), OutOfMemory>
-    ensures { Adds out.old out.new result (spaced (acted_words act.now answer.now)) }
-{
-    match act {
-        Act::Note(v) => add_words(&[Plain(b"note"), Number(v)], out),
-        Act::Set(cell, v) => add_words(&[Plain(b"set"), Cell(*cell), Number(v)], out),
-        Act::Release(m) => {
-            add_answer_after(&[Plain(b"release"), Number(m), Plain(b"=")], answer, out)
-        }
-        Act::Notify(c, v) => add_answer_after(
-            &[Plain(b"notify"), Number(c), Number(v), Plain(b"=")],
-            answer,
-            out,
-        ),
-        Act::Put(p, v) => add_answer_after(
-            &[Plain(b"put"), Number(p), Number(v), Plain(b"=")],
-            answer,
-            out,
-        ),
-        Act::SetKey(k, v) => add_answer_after(
-            &[Plain(b"setkey"), Number(k), Number(v), Plain(b"=")],
-            answer,
-            out,
-        ),
-    }
-}
-
 /// Adds the thread that runs a handler, with an act of the handler.
 fn add_acted(tid: Tid, act: &Act, answer: &Answer, out: &mut Text) -> Result<(), OutOfMemory>
     ensures { Adds out.old out.new result (joined (thread tid.0 ∷ codes "act" ∷ acted_words act.now answer.now)) }
@@ -93,40 +70,10 @@ fn add_mark(mark: &Mark, audit: bool, out: &mut Text) -> Result<(), OutOfMemory>
             rank,
             waited,
             allowed,
-        } if audit => add_line(
-            &Plain(b"turn"),
-            &[
-                Natural(*turn),
-                Plain(b"at"),
-                Natural(*at),
-                Thread(*tid),
-                Plain(b"rank"),
-                Number(rank),
-                Plain(b"waited"),
-                Natural(*waited),
-                Plain(b"allowed"),
-                Natural(*allowed),
-            ],
-            out,
-        ),
-        Mark::Dispatch {
-            turn,
-            at,
-            tid,
-            rank,
-            ..
-        } => add_line(
-            &Plain(b"turn"),
-            &[
-                Natural(*turn),
-                Plain(b"at"),
-                Natural(*at),
-                Thread(*tid),
-                Plain(b"rank"),
-                Number(rank),
-            ],
-            out,
-        ),
+        } => {
+            add_turn(*turn, *at, *tid, rank, out)?;
+            add_audit(audit, *waited, *allowed, out)
+        }
         Mark::Answered { tid, call, answer } => add_answered(*tid, call, answer, out),
         Mark::Waits { tid, call } => add_call_and(*tid, call, b"waits", out),
         Mark::Retakes { tid, call } => add_call_and(*tid, call, b"retakes", out),
@@ -134,64 +81,24 @@ fn add_mark(mark: &Mark, audit: bool, out: &mut Text) -> Result<(), OutOfMemory>
             tid,
             call: Some(call),
         } => add_call_and(*tid, call, b"canceled", out),
-        Mark::Canceled { tid, call: None } => add_line(&Thread(*tid), &[Plain(b"canceled")], out),
-        Mark::Took { tid, mutex } => add_line(
-            &Thread(*tid),
-            &[Plain(b"takes"), Plain(b"mutex"), Natural(u64::from(*mutex))],
+        Mark::Canceled { tid, call: None } => add_thread_and(*tid, b"canceled", out),
+        Mark::Took { tid, mutex } => add_object(*tid, b"takes", b"mutex", *mutex, out),
+        Mark::Withdrew { tid, barrier } => add_withdrew(*tid, *barrier, out),
+        Mark::Handler { tid, handler, arg } => add_run(*tid, b"handler", handler.0, arg, out),
+        Mark::Destructor { tid, key, arg } => add_run(
+            *tid,
+            b"destructor",
+            u32::from(*key),
+            arg,
             out,
         ),
-        Mark::Withdrew { tid, barrier } => add_line(
-            &Thread(*tid),
-            &[Plain(b"withdraws"), Natural(u64::from(*barrier))],
-            out,
-        ),
-        Mark::Handler { tid, handler, arg } => add_line(
-            &Thread(*tid),
-            &[
-                Plain(b"handler"),
-                Natural(u64::from(handler.0)),
-                Plain(b"arg"),
-                Number(arg),
-            ],
-            out,
-        ),
-        Mark::Destructor { tid, key, arg } => add_line(
-            &Thread(*tid),
-            &[
-                Plain(b"destructor"),
-                Natural(u64::from(*key)),
-                Plain(b"arg"),
-                Number(arg),
-            ],
-            out,
-        ),
-        Mark::Acted { tid, act, answer } => { add_acted(*tid, act, answer, out) }
-        Mark::GaveMutex { tid, mutex } => add_line(
-            &Thread(*tid),
-            &[Plain(b"gives"), Plain(b"mutex"), Natural(u64::from(*mutex))],
-            out,
-        ),
-        Mark::GaveLock { tid, lock } => add_line(
-            &Thread(*tid),
-            &[Plain(b"gives"), Plain(b"rwlock"), Natural(u64::from(*lock))],
-            out,
-        ),
-        Mark::Ended { tid, value } => add_line(
-            &Thread(*tid),
-            &[Plain(b"ends"), Number(value)],
-            out,
-        ),
-        Mark::Noted { tid, value } => add_line(
-            &Thread(*tid),
-            &[Plain(b"note"), Number(value)],
-            out,
-        ),
-        Mark::Woke { tid, rank } => add_line(
-            &Plain(b"wake"),
-            &[Thread(*tid), Plain(b"rank"), Number(rank)],
-            out,
-        ),
-        Mark::Moved { at } => add_line(&Plain(b"idle"), &[Plain(b"to"), Natural(*at)], out),
+        Mark::Acted { tid, act, answer } => add_acted(*tid, act, answer, out),
+        Mark::GaveMutex { tid, mutex } => add_object(*tid, b"gives", b"mutex", *mutex, out),
+        Mark::GaveLock { tid, lock } => add_object(*tid, b"gives", b"rwlock", *lock, out),
+        Mark::Ended { tid, value } => add_value(*tid, b"ends", value, out),
+        Mark::Noted { tid, value } => add_value(*tid, b"note", value, out),
+        Mark::Woke { tid, rank } => add_woke(*tid, rank, out),
+        Mark::Moved { at } => add_moved(*at, out),
     }
 }
 
