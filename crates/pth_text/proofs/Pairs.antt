@@ -20,8 +20,12 @@ no_pair (a ∷ []) short = refl
 no_pair (a ∷ b ∷ more) short = absurd (omega arith)
 
 -- the bytes of all pairs, where less than a pair is left
-pub hex_all : (word rest bytes : List ℕ) → is_hex word ≡ true → bytes ++ pair_bytes rest ≡ pair_bytes word → length rest < 2 → Some bytes ≡ hex_bytes word
-hex_all word rest bytes test same short = ap (λ xs. Some xs) (sym (append-nil bytes) ∙ ap (λ xs. bytes ++ xs) (sym (no_pair rest short)) ∙ same) ∙ hex_some word test
+pub all_pairs : (old new digits rest : List ℕ) → new ++ pair_bytes rest ≡ old ++ pair_bytes digits → length rest < 2 → new ≡ old ++ pair_bytes digits
+all_pairs old new digits rest same short = sym (append-nil new) ∙ ap (λ xs. new ++ xs) (sym (no_pair rest short)) ∙ same
+
+-- the bytes of all pairs, after none
+pub hex_all : (word none bytes : List ℕ) → is_hex word ≡ true → none ≡ [] → bytes ≡ none ++ pair_bytes word → Some bytes ≡ hex_bytes word
+hex_all word none bytes test empty same = ap (λ xs. Some xs) (same ∙ ap (λ xs. xs ++ pair_bytes word) empty) ∙ hex_some word test
 
 digit_test : (n : ℕ) → n < 16 → is_hex_digit (digit_of n) ≡ true
 digit_test n low = grind (arith, nat_tests)

@@ -1,9 +1,9 @@
 //! Bytes in hexadecimal digits as words.
 
-ghost use Rattle.std.specs.Prelude.{◌≡◌, ◌<◌, ◌≤◌, ℕ, true, List, length, All, Some, IfOk};
+ghost use Rattle.std.specs.Prelude.{◌≡◌, ◌<◌, ◌≤◌, ◌++◌, ℕ, true, List, length, All, Some, IfOk, OnOk};
 ghost use Rattle.std.specs.Char.{digit_value};
 ghost use Rattle.std.specs.List.{list_all};
-ghost use Rattle.pth_text.specs.Hex.{hex_of, is_hex_digit, is_hex, hex_bytes};
+ghost use Rattle.pth_text.specs.Hex.{hex_of, is_hex_digit, is_hex, pair_bytes, hex_bytes};
 
 use pth_base::bytes::Bytes;
 use pth_base::memory::OutOfMemory;
@@ -36,6 +36,19 @@ fn digit_value(b: u8) -> u8
     if b <= b'9' { b - b'0' } else { b - b'a' + 10 }
 }
 
+/// Adds the byte of each pair of digits.
+fn push_pairs(digits: &[u8], bytes: &mut Vec<u8>) -> Result<(), OutOfMemory>
+    requires { list_all (λ c. is_hex_digit c) digits.now ≡ true }
+    ensures { OnOk result (bytes.new.items ≡ bytes.old.items ++ pair_bytes digits.now) }
+{
+    let mut rest = digits;
+    while let [high, low, more @ ..] = rest {
+        bytes.push(16 * digit_value(*high) + digit_value(*low))?;
+        rest = more;
+    }
+    Ok(())
+}
+
 /// The bytes that a word of 1 to 2048 pairs of lower-case digits spells.
 pub fn read_hex(alloc: Global, word: &[u8]) -> Result<Option<Bytes>, OutOfMemory>
     ensures { IfOk result (λ found. found ≡ hex_bytes word.now) }
@@ -44,11 +57,7 @@ pub fn read_hex(alloc: Global, word: &[u8]) -> Result<Option<Bytes>, OutOfMemory
         return Ok(None);
     }
     let mut bytes = Vec::new(alloc);
-    let mut rest = word;
-    while let [high, low, more @ ..] = rest {
-        bytes.push(16 * digit_value(*high) + digit_value(*low))?;
-        rest = more;
-    }
+    push_pairs(word, &mut bytes)?;
     Ok(Some(Bytes::from_slice(alloc, bytes.as_slice())?))
 }
 
