@@ -9,3 +9,4 @@ pub mod EventLines
 pub mod Attrs
 pub mod Queries
 pub mod LockModes
+pub mod Facilities

@@ -1,0 +1,53 @@
+//! Calls on events and time as words.
+
+ghost use Rattle.pth_print.specs.Adding.{Adds};
+ghost use Rattle.pth_print.specs.Words.{spaced};
+ghost use Rattle.pth_print.specs.Calls.{call_words};
+ghost use Rattle.pth_print.specs.Facilities.{IsEventCall};
+
+use crate::call_shape::{
+    add_one, add_one_and_text, add_sets, add_text_and_one, add_three, add_two,
+};
+use crate::event_line::{add_chain, goals_word, state_word, walk_word};
+use crate::object_call::add_object_call;
+use pth_base::call::Call;
+use pth_base::memory::OutOfMemory;
+use pth_text::text::Text;
+
+/// Adds the words of a call on events or time, or of one after, each after a space.
+pub fn add_event_call(call: &Call, out: &mut Text) -> Result<(), OutOfMemory>
+    requires { IsEventCall call.now }
+    ensures { Adds out.old out.new result (spaced (call_words call.now)) }
+{
+    match call {
+        Call::EvFd { goals, fd } => add_text_and_one(b"ev_fd", goals_word(*goals), fd, out),
+        Call::EvSelect { r, w, x } => add_sets(b"ev_select", *r, *w, *x, out),
+        Call::EvTime(m) => add_one(b"ev_time", m, out),
+        Call::EvMsg(p) => add_one(b"ev_msg", p, out),
+        Call::EvCond(c) => add_one(b"ev_cond", c, out),
+        Call::EvTid { state, tid } => add_text_and_one(b"ev_tid", state_word(*state), tid, out),
+        Call::EvFunc {
+            check,
+            arg,
+            interval,
+        } => add_three(b"ev_func", check, arg, interval, out),
+        Call::Chain { e, line } => add_chain(e, line, out),
+        Call::EvConcat { e, f } => add_two(b"ev_concat", e, f, out),
+        Call::EvIsolate(e) => add_one(b"ev_isolate", e, out),
+        Call::EvWalk {
+            e,
+            forward,
+            until_occurred,
+        } => add_one_and_text(b"ev_walk", e, walk_word(*forward, *until_occurred), out),
+        Call::EvStatus(e) => add_one(b"ev_status", e, out),
+        Call::EvKind(e) => add_one(b"ev_kind", e, out),
+        Call::EvFree { e, all: false } => add_one_and_text(b"ev_free", e, b"this", out),
+        Call::EvFree { e, all: true } => add_one_and_text(b"ev_free", e, b"all", out),
+        Call::Wait(e) => add_one(b"wait", e, out),
+        Call::Timeout(l) => add_one(b"timeout", l, out),
+        Call::Nap(l) => add_one(b"nap", l, out),
+        Call::Usleep(l) => add_one(b"usleep", l, out),
+        Call::Sleep(s) => add_one(b"sleep", s, out),
+        _ => add_object_call(call, out),
+    }
+}
