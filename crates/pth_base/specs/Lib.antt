@@ -2,4 +2,4 @@ pub mod Program
 pub mod Table
 pub mod Naming
 pub mod Cut
-pub mod Owning
+pub mod Facilities

@@ -1,5 +1,9 @@
 //! Calls.
 
+ghost use Rattle.std.specs.Prelude.{◌≡◌, IfOk};
+ghost use Rattle.pth_base.specs.declared.call.Call.TheVariants as call;
+ghost use Rattle.pth_base.specs.Facilities.{IsEventCall, IsObjectCall, IsDescriptorCall};
+
 use crate::attr::{AttrField, AttrValue};
 use crate::bytes::Bytes;
 use crate::event::EvLine;
@@ -202,181 +206,198 @@ pub enum Call {
     Note(i64),
 }
 
-impl Call {
-    ghost use Rattle.std.specs.Prelude.{◌≡◌, IfOk};
-    ghost use Rattle.pth_base.specs.Owning.{HasNoBytes};
+fn copy_write(f: i64, bytes: &Bytes) -> Result<Call, OutOfMemory>
+    ensures { IfOk result (λ c. c ≡ call.Write f bytes.now) }
+{
+    let bytes = bytes.copy()?;
+    Ok(Call::Write { f, bytes })
+}
 
+fn copy_write_ev(f: i64, bytes: &Bytes, e: i64) -> Result<Call, OutOfMemory>
+    ensures { IfOk result (λ c. c ≡ call.WriteEv f bytes.now e) }
+{
+    let bytes = bytes.copy()?;
+    Ok(Call::WriteEv { f, bytes, e })
+}
+
+impl Call {
     /// An equal call.
     pub fn copy(&self) -> Result<Call, OutOfMemory>
         ensures { IfOk result (λ call. call ≡ self.now) }
     {
         match self {
-            Call::Write { f, bytes } => {
-                let bytes = bytes.copy()?;
-                Ok(Call::Write { f: *f, bytes })
-            }
-            Call::WriteEv { f, bytes, e } => {
-                let bytes = bytes.copy()?;
-                Ok(Call::WriteEv {
-                    f: *f,
-                    bytes,
-                    e: *e,
-                })
-            }
-            _ => Ok(self.copy_without_bytes()),
-        }
-    }
-
-    /// An equal call of one without bytes, which takes no memory.
-    fn copy_without_bytes(&self) -> Call
-        requires { HasNoBytes self.now }
-        ensures { result ≡ self.now }
-    {
-        match self {
-            Call::Spawn { b, v, a } => Call::Spawn {
+            Call::Spawn { b, v, a } => Ok(Call::Spawn {
                 b: *b,
                 v: *v,
                 a: *a,
-            },
-            Call::SelfTid => Call::SelfTid,
-            Call::Exit(a) => Call::Exit(*a),
-            Call::Yield(a) => Call::Yield(*a),
-            Call::Join(a) => Call::Join(*a),
-            Call::Cancel(a) => Call::Cancel(*a),
-            Call::Abort(a) => Call::Abort(*a),
-            Call::CancelState(a) => Call::CancelState(*a),
-            Call::CancelPoint => Call::CancelPoint,
-            Call::Suspend(a) => Call::Suspend(*a),
-            Call::Resume(a) => Call::Resume(*a),
-            Call::Kill => Call::Kill,
-            Call::Ctrl(a) => Call::Ctrl(*a),
-            Call::Once { o, h, v } => Call::Once {
+            }),
+            Call::SelfTid => Ok(Call::SelfTid),
+            Call::Exit(a) => Ok(Call::Exit(*a)),
+            Call::Yield(a) => Ok(Call::Yield(*a)),
+            Call::Join(a) => Ok(Call::Join(*a)),
+            Call::Cancel(a) => Ok(Call::Cancel(*a)),
+            Call::Abort(a) => Ok(Call::Abort(*a)),
+            Call::CancelState(a) => Ok(Call::CancelState(*a)),
+            Call::CancelPoint => Ok(Call::CancelPoint),
+            Call::Suspend(a) => Ok(Call::Suspend(*a)),
+            Call::Resume(a) => Ok(Call::Resume(*a)),
+            Call::Kill => Ok(Call::Kill),
+            Call::Ctrl(a) => Ok(Call::Ctrl(*a)),
+            Call::Once { o, h, v } => Ok(Call::Once {
                 o: *o,
                 h: *h,
                 v: *v,
-            },
-            Call::AttrNew => Call::AttrNew,
-            Call::AttrOf(a) => Call::AttrOf(*a),
-            Call::AttrInit(a) => Call::AttrInit(*a),
-            Call::AttrSet { a, v } => Call::AttrSet { a: *a, v: v.copy() },
-            Call::AttrGet { a, f } => Call::AttrGet { a: *a, f: *f },
-            Call::AttrDestroy(a) => Call::AttrDestroy(*a),
-            Call::CleanupPush { h, v } => Call::CleanupPush { h: *h, v: *v },
-            Call::CleanupPop(a) => Call::CleanupPop(*a),
-            Call::KeyCreate(a) => Call::KeyCreate(*a),
-            Call::KeyDelete(a) => Call::KeyDelete(*a),
-            Call::KeySet { k, v } => Call::KeySet { k: *k, v: *v },
-            Call::KeyGet(a) => Call::KeyGet(*a),
-            Call::EvFd { goals, fd } => Call::EvFd {
+            }),
+            Call::AttrNew => Ok(Call::AttrNew),
+            Call::AttrOf(a) => Ok(Call::AttrOf(*a)),
+            Call::AttrInit(a) => Ok(Call::AttrInit(*a)),
+            Call::AttrSet { a, v } => Ok(Call::AttrSet { a: *a, v: v.copy() }),
+            Call::AttrGet { a, f } => Ok(Call::AttrGet { a: *a, f: *f }),
+            Call::AttrDestroy(a) => Ok(Call::AttrDestroy(*a)),
+            Call::CleanupPush { h, v } => Ok(Call::CleanupPush { h: *h, v: *v }),
+            Call::CleanupPop(a) => Ok(Call::CleanupPop(*a)),
+            Call::KeyCreate(a) => Ok(Call::KeyCreate(*a)),
+            Call::KeyDelete(a) => Ok(Call::KeyDelete(*a)),
+            Call::KeySet { k, v } => Ok(Call::KeySet { k: *k, v: *v }),
+            Call::KeyGet(a) => Ok(Call::KeyGet(*a)),
+            Call::Plain => Ok(Call::Plain),
+            Call::Note(a) => Ok(Call::Note(*a)),
+            _ => self.copy_event_call(),
+        }
+    }
+
+    fn copy_event_call(&self) -> Result<Call, OutOfMemory>
+        requires { IsEventCall self.now }
+        ensures { IfOk result (λ call. call ≡ self.now) }
+    {
+        match self {
+            Call::EvFd { goals, fd } => Ok(Call::EvFd {
                 goals: *goals,
                 fd: *fd,
-            },
-            Call::EvSelect { r, w, x } => Call::EvSelect {
+            }),
+            Call::EvSelect { r, w, x } => Ok(Call::EvSelect {
                 r: *r,
                 w: *w,
                 x: *x,
-            },
-            Call::EvTime(a) => Call::EvTime(*a),
-            Call::EvMsg(a) => Call::EvMsg(*a),
-            Call::EvCond(a) => Call::EvCond(*a),
-            Call::EvTid { state, tid } => Call::EvTid {
+            }),
+            Call::EvTime(a) => Ok(Call::EvTime(*a)),
+            Call::EvMsg(a) => Ok(Call::EvMsg(*a)),
+            Call::EvCond(a) => Ok(Call::EvCond(*a)),
+            Call::EvTid { state, tid } => Ok(Call::EvTid {
                 state: *state,
                 tid: *tid,
-            },
+            }),
             Call::EvFunc {
                 check,
                 arg,
                 interval,
-            } => Call::EvFunc {
+            } => Ok(Call::EvFunc {
                 check: *check,
                 arg: *arg,
                 interval: *interval,
-            },
-            Call::Chain { e, line } => Call::Chain { e: *e, line: *line },
-            Call::EvConcat { e, f } => Call::EvConcat { e: *e, f: *f },
-            Call::EvIsolate(a) => Call::EvIsolate(*a),
+            }),
+            Call::Chain { e, line } => Ok(Call::Chain { e: *e, line: *line }),
+            Call::EvConcat { e, f } => Ok(Call::EvConcat { e: *e, f: *f }),
+            Call::EvIsolate(a) => Ok(Call::EvIsolate(*a)),
             Call::EvWalk {
                 e,
                 forward,
                 until_occurred,
-            } => Call::EvWalk {
+            } => Ok(Call::EvWalk {
                 e: *e,
                 forward: *forward,
                 until_occurred: *until_occurred,
-            },
-            Call::EvStatus(a) => Call::EvStatus(*a),
-            Call::EvKind(a) => Call::EvKind(*a),
-            Call::EvFree { e, all } => Call::EvFree { e: *e, all: *all },
-            Call::Wait(a) => Call::Wait(*a),
-            Call::Timeout(a) => Call::Timeout(*a),
-            Call::Nap(a) => Call::Nap(*a),
-            Call::Usleep(a) => Call::Usleep(*a),
-            Call::Sleep(a) => Call::Sleep(*a),
-            Call::MutexInit(a) => Call::MutexInit(*a),
-            Call::MutexAcquire { m, v, e } => Call::MutexAcquire {
+            }),
+            Call::EvStatus(a) => Ok(Call::EvStatus(*a)),
+            Call::EvKind(a) => Ok(Call::EvKind(*a)),
+            Call::EvFree { e, all } => Ok(Call::EvFree { e: *e, all: *all }),
+            Call::Wait(a) => Ok(Call::Wait(*a)),
+            Call::Timeout(a) => Ok(Call::Timeout(*a)),
+            Call::Nap(a) => Ok(Call::Nap(*a)),
+            Call::Usleep(a) => Ok(Call::Usleep(*a)),
+            Call::Sleep(a) => Ok(Call::Sleep(*a)),
+            _ => self.copy_object_call(),
+        }
+    }
+
+    fn copy_object_call(&self) -> Result<Call, OutOfMemory>
+        requires { IsObjectCall self.now }
+        ensures { IfOk result (λ call. call ≡ self.now) }
+    {
+        match self {
+            Call::MutexInit(a) => Ok(Call::MutexInit(*a)),
+            Call::MutexAcquire { m, v, e } => Ok(Call::MutexAcquire {
                 m: *m,
                 v: *v,
                 e: *e,
-            },
-            Call::MutexRelease(a) => Call::MutexRelease(*a),
-            Call::RwInit(a) => Call::RwInit(*a),
-            Call::RwAcquire { l, write, v, e } => Call::RwAcquire {
+            }),
+            Call::MutexRelease(a) => Ok(Call::MutexRelease(*a)),
+            Call::RwInit(a) => Ok(Call::RwInit(*a)),
+            Call::RwAcquire { l, write, v, e } => Ok(Call::RwAcquire {
                 l: *l,
                 write: *write,
                 v: *v,
                 e: *e,
-            },
-            Call::RwRelease(a) => Call::RwRelease(*a),
-            Call::CondInit(a) => Call::CondInit(*a),
-            Call::CondAwait { c, m, e } => Call::CondAwait {
+            }),
+            Call::RwRelease(a) => Ok(Call::RwRelease(*a)),
+            Call::CondInit(a) => Ok(Call::CondInit(*a)),
+            Call::CondAwait { c, m, e } => Ok(Call::CondAwait {
                 c: *c,
                 m: *m,
                 e: *e,
-            },
-            Call::CondNotify { c, v } => Call::CondNotify { c: *c, v: *v },
-            Call::BarrierInit { b, n } => Call::BarrierInit { b: *b, n: *n },
-            Call::BarrierReach(a) => Call::BarrierReach(*a),
-            Call::PortCreate(None) => Call::PortCreate(None),
-            Call::PortCreate(Some(name)) => Call::PortCreate(Some(name.copy())),
-            Call::PortFind(name) => Call::PortFind(name.copy()),
-            Call::PortPending(a) => Call::PortPending(*a),
-            Call::PortPut { p, v, r } => Call::PortPut {
+            }),
+            Call::CondNotify { c, v } => Ok(Call::CondNotify { c: *c, v: *v }),
+            Call::BarrierInit { b, n } => Ok(Call::BarrierInit { b: *b, n: *n }),
+            Call::BarrierReach(a) => Ok(Call::BarrierReach(*a)),
+            Call::PortCreate(None) => Ok(Call::PortCreate(None)),
+            Call::PortCreate(Some(name)) => Ok(Call::PortCreate(Some(name.copy()))),
+            Call::PortFind(name) => Ok(Call::PortFind(name.copy())),
+            Call::PortPending(a) => Ok(Call::PortPending(*a)),
+            Call::PortPut { p, v, r } => Ok(Call::PortPut {
                 p: *p,
                 v: *v,
                 r: *r,
-            },
-            Call::PortGet(a) => Call::PortGet(*a),
-            Call::Reply { m, v } => Call::Reply { m: *m, v: *v },
-            Call::PortDestroy(a) => Call::PortDestroy(*a),
-            Call::Read { f, n } => Call::Read { f: *f, n: *n },
-            Call::ReadEv { f, n, e } => Call::ReadEv {
+            }),
+            Call::PortGet(a) => Ok(Call::PortGet(*a)),
+            Call::Reply { m, v } => Ok(Call::Reply { m: *m, v: *v }),
+            Call::PortDestroy(a) => Ok(Call::PortDestroy(*a)),
+            _ => self.copy_descriptor_call(),
+        }
+    }
+
+    fn copy_descriptor_call(&self) -> Result<Call, OutOfMemory>
+        requires { IsDescriptorCall self.now }
+        ensures { IfOk result (λ call. call ≡ self.now) }
+    {
+        match self {
+            Call::Read { f, n } => Ok(Call::Read { f: *f, n: *n }),
+            Call::ReadEv { f, n, e } => Ok(Call::ReadEv {
                 f: *f,
                 n: *n,
                 e: *e,
-            },
-            Call::Accept(a) => Call::Accept(*a),
-            Call::AcceptEv { f, e } => Call::AcceptEv { f: *f, e: *e },
-            Call::Connect(a) => Call::Connect(*a),
-            Call::ConnectEv { f, e } => Call::ConnectEv { f: *f, e: *e },
-            Call::Select { r, w, x, l } => Call::Select {
+            }),
+            Call::Accept(a) => Ok(Call::Accept(*a)),
+            Call::AcceptEv { f, e } => Ok(Call::AcceptEv { f: *f, e: *e }),
+            Call::Connect(a) => Ok(Call::Connect(*a)),
+            Call::ConnectEv { f, e } => Ok(Call::ConnectEv { f: *f, e: *e }),
+            Call::Select { r, w, x, l } => Ok(Call::Select {
                 r: *r,
                 w: *w,
                 x: *x,
                 l: *l,
-            },
-            Call::SelectEv { r, w, x, l, e } => Call::SelectEv {
+            }),
+            Call::SelectEv { r, w, x, l, e } => Ok(Call::SelectEv {
                 r: *r,
                 w: *w,
                 x: *x,
                 l: *l,
                 e: *e,
-            },
-            Call::Fdmode { f, m } => Call::Fdmode { f: *f, m: *m },
-            Call::Close(a) => Call::Close(*a),
-            Call::Plain => Call::Plain,
-            Call::Note(a) => Call::Note(*a),
-            Call::Write { .. } => unreachable!(),
-            Call::WriteEv { .. } => unreachable!(),
+            }),
+            Call::Fdmode { f, m } => Ok(Call::Fdmode { f: *f, m: *m }),
+            Call::Close(a) => Ok(Call::Close(*a)),
+            Call::Write { f, bytes } => copy_write(*f, bytes),
+            Call::WriteEv { f, bytes, e } => copy_write_ev(*f, bytes, *e),
+            _ => unreachable!(),
         }
     }
 }

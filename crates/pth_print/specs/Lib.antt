@@ -9,4 +9,3 @@ pub mod EventLines
 pub mod Attrs
 pub mod Queries
 pub mod LockModes
-pub mod Facilities

@@ -3,7 +3,7 @@
 ghost use Rattle.pth_print.specs.Adding.{Adds};
 ghost use Rattle.pth_print.specs.Words.{spaced};
 ghost use Rattle.pth_print.specs.Calls.{call_words};
-ghost use Rattle.pth_print.specs.Facilities.{IsDescriptorCall};
+ghost use Rattle.pth_base.specs.Facilities.{IsDescriptorCall};
 
 use crate::call_shape::{
     add_bytes, add_bytes_and_one, add_one, add_sets_and_one, add_sets_and_two, add_three, add_two,

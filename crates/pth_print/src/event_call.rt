@@ -3,7 +3,7 @@
 ghost use Rattle.pth_print.specs.Adding.{Adds};
 ghost use Rattle.pth_print.specs.Words.{spaced};
 ghost use Rattle.pth_print.specs.Calls.{call_words};
-ghost use Rattle.pth_print.specs.Facilities.{IsEventCall};
+ghost use Rattle.pth_base.specs.Facilities.{IsEventCall};
 
 use crate::call_shape::{
     add_one, add_one_and_text, add_sets, add_text_and_one, add_three, add_two,

@@ -4,7 +4,7 @@ ghost use Rattle.std.specs.Prelude.{◌≡◌};
 ghost use Rattle.pth_print.specs.Adding.{Adds};
 ghost use Rattle.pth_print.specs.Words.{spaced};
 ghost use Rattle.pth_print.specs.Calls.{call_words};
-ghost use Rattle.pth_print.specs.Facilities.{IsObjectCall};
+ghost use Rattle.pth_base.specs.Facilities.{IsObjectCall};
 ghost use Rattle.pth_print.specs.LockModes.{mode_word};
 
 use crate::call_shape::{add_one, add_taking, add_text, add_three, add_two};
