@@ -1,5 +1,5 @@
 -- A word that spells a number is read as that number.
-use Rattle.std.proofs.Common.{get_or, pos, negsuc, neg_ℤ, ◌≤◌, decimal, Bool, ◌⊎◌, inl, inr, ⊎_elim, ◌≢◌, zero, suc, subst, ◌≡◌, ℕ, ◌<◌, ◌^◌, true, false, cond, ◌==◌, ◌&&◌, ◌||◌, List, [], ◌∷◌, Some, None, Result, Ok, Err, ℤ, w64, FitsSigned, IsUtf8, refl, sym, ap, ◌∙◌, arith}
+use Rattle.std.proofs.Common.{get_or, pos, negsuc, neg_ℤ, decimal, Bool, ◌⊎◌, inl, inr, ⊎_elim, ◌≢◌, zero, suc, subst, ◌≡◌, ℕ, ◌<◌, ◌^◌, true, false, cond, ◌==◌, ◌&&◌, ◌||◌, List, [], ◌∷◌, Some, None, Result, Ok, Err, ℤ, w64, FitsSigned, IsUtf8, refl, sym, ap, ◌∙◌, arith}
 use Rattle.std.specs.Result.{result_ok, OkIff}
 use Rattle.std.specs.List.{list_all}
 use Rattle.std.specs.Char.{is_ascii_digit}
