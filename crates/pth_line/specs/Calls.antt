@@ -1,5 +1,5 @@
 -- The call that a call line makes: each operand is replaced by its number.
-use Rattle.std.specs.Prelude.{Some, None}
+use Rattle.std.specs.Prelude.{Bool, true, false, Some, None}
 use Rattle.pth_base.specs.declared.attr.AttrValue.{AttrValue}
 use Rattle.pth_base.specs.declared.attr.AttrValue.TheVariants as attr
 use Rattle.pth_base.specs.declared.call.Call.{Call}
@@ -158,6 +158,12 @@ port_call s (ports.Put p v r) = call.PortPut (number_in s p) (number_in s v) (nu
 port_call s (ports.Get p) = call.PortGet (number_in s p)
 port_call s (ports.Reply v) = call.Reply s.frame.message (number_in s v)
 port_call s (ports.Destroy p) = call.PortDestroy (number_in s p)
+
+-- whether the call writes bytes
+abbrev pub writes_bytes : DescriptorLine → Bool
+writes_bytes (descriptors.Write f b) = true
+writes_bytes (descriptors.WriteEv f b e) = true
+writes_bytes _ = false
 
 -- a call on descriptors
 abbrev pub descriptor_call : View → DescriptorLine → Call

@@ -7,7 +7,7 @@ use crate::operand::Value;
 use pth_base::act::Act;
 
 /// An act of a handler as it is written.
-#[derive(Clone, Copy, Debug, PartialEq, Eq)]
+#[derive(Clone, Copy)]
 pub enum ActLine {
     Note(Value),
     Set { cell: u8, value: Value },

@@ -1,7 +1,7 @@
 //! The shared registers.
 
 /// The registers `v0` to `v63`, which all threads of a run share.
-#[derive(Clone, Copy, Debug, PartialEq, Eq)]
+#[derive(Clone, Copy)]
 pub struct Cells {
     pub cells: [i64; 64],
 }

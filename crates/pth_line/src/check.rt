@@ -9,7 +9,7 @@ use crate::operand::Value;
 use crate::relation::Relation;
 
 /// What a function event asks (`PTH_EVENT_FUNC`): whether a relation holds between two numbers.
-#[derive(Clone, Copy, Debug, PartialEq, Eq)]
+#[derive(Clone, Copy)]
 pub struct Check {
     pub left: Value,
     pub relation: Relation,

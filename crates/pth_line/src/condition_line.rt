@@ -9,7 +9,7 @@ use crate::operand::Operand;
 use pth_base::call::Call;
 
 /// A call on conditions (`pth_cond_t`) or barriers (`pth_barrier_t`).
-#[derive(Clone, Copy, Debug, PartialEq, Eq)]
+#[derive(Clone, Copy)]
 pub enum ConditionLine {
     CondInit(Operand),
     CondAwait { c: Operand, m: Operand, e: Operand },

@@ -12,7 +12,7 @@ use pth_base::ids::FdSet;
 use pth_base::thread::ThreadState;
 
 /// A new event (`pth_event`).
-#[derive(Clone, Copy, Debug, PartialEq, Eq)]
+#[derive(Clone, Copy)]
 pub enum EventLine {
     Fd {
         goals: u8,

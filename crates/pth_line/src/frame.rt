@@ -10,7 +10,7 @@ use pth_base::bytes::Bytes;
 use pth_base::memory::OutOfMemory;
 
 /// What the next answer is for: no call was made, or a call whose answer also goes to a register where one is named.
-#[derive(Clone, Copy, Debug, PartialEq, Eq)]
+#[derive(Clone, Copy)]
 pub enum Owed {
     Nothing,
     Answer(Option<Register>),

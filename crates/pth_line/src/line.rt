@@ -56,8 +56,7 @@ impl Line {
             }
             Line::Add { register, value } => {
                 let n = value.number(frame, cells);
-                let sum = register.read(frame, cells).saturating_add(n);
-                register.put(frame, cells, &sum);
+                register.add(frame, cells, &n);
                 Ok(Call::Plain)
             }
             Line::Note(value) => Ok(Call::Note(value.number(frame, cells))),

@@ -9,7 +9,7 @@ use crate::operand::Operand;
 use pth_base::call::Call;
 
 /// A call on mutexes (`pth_mutex_t`) or read-write locks (`pth_rwlock_t`).
-#[derive(Clone, Copy, Debug, PartialEq, Eq)]
+#[derive(Clone, Copy)]
 pub enum LockLine {
     MutexInit(Operand),
     MutexAcquire {

@@ -1,6 +1,7 @@
 //! What lines name by words.
 
-ghost use Rattle.std.specs.Prelude.{◌≡◌, IfOk};
+ghost use Rattle.std.specs.Prelude.{◌≡◌, ◌+ℤ◌, IfOk};
+ghost use Rattle.std.specs.Int.{w64, saturate_signed};
 
 use crate::cells::Cells;
 use crate::frame::Frame;
@@ -8,7 +9,7 @@ use pth_base::bytes::Bytes;
 use pth_base::memory::OutOfMemory;
 
 /// A place for a number: `a0` to `a15` are a thread's own, `v0` to `v63` are shared by all threads.
-#[derive(Clone, Copy, Debug, PartialEq, Eq)]
+#[derive(Clone, Copy)]
 pub enum Register {
     Own(u8),
     Shared(u8),
@@ -50,11 +51,19 @@ impl Register {
             }
         }
     }
+
+    /// Adds a number to the one that the register holds. The sum stays at the ends of 64 bits.
+    pub(crate) fn add(&self, frame: &mut Frame, cells: &mut Cells, n: &i64)
+        ensures { let s = view frame.old cells.old in view frame.new cells.new ≡ put_register s self.now (saturate_signed w64 (register_in s self.now +ℤ n.now)) }
+    {
+        let sum = self.read(frame, cells).saturating_add(*n);
+        self.put(frame, cells, &sum);
+    }
 }
 
 /// A number of a body's line: given, what a register holds, or the number of the error that the thread's last call was
 /// answered (`errno`), 0 where it was answered otherwise.
-#[derive(Clone, Copy, Debug, PartialEq, Eq)]
+#[derive(Clone, Copy)]
 pub enum Operand {
     Number(i64),
     Register(Register),
@@ -77,7 +86,7 @@ impl Operand {
 }
 
 /// A number of a handler's act or of a check: given, what a shared register holds, or the argument.
-#[derive(Clone, Copy, Debug, PartialEq, Eq)]
+#[derive(Clone, Copy)]
 pub enum Value {
     Number(i64),
     Shared(u8),

@@ -10,7 +10,7 @@ use pth_base::call::Call;
 
 /// A call on the ring of an event (`pth_event_concat`, `pth_event_isolate`, `pth_event_walk`, `pth_event_status`,
 /// `pth_event_typeof`, `pth_event_free`, `pth_wait`).
-#[derive(Clone, Copy, Debug, PartialEq, Eq)]
+#[derive(Clone, Copy)]
 pub enum RingLine {
     Concat {
         e: Operand,

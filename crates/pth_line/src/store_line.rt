@@ -9,7 +9,7 @@ use crate::operand::Operand;
 use pth_base::call::Call;
 
 /// A call on cleanup handlers (`pth_cleanup_push`) or keys (`pth_key_t`).
-#[derive(Clone, Copy, Debug, PartialEq, Eq)]
+#[derive(Clone, Copy)]
 pub enum StoreLine {
     CleanupPush { h: Operand, v: Operand },
     CleanupPop(Operand),

@@ -10,7 +10,7 @@ use pth_base::call::Call;
 use pth_base::query::Query;
 
 /// What `pth_ctrl` is asked.
-#[derive(Clone, Copy, Debug, PartialEq, Eq)]
+#[derive(Clone, Copy)]
 pub enum QueryLine {
     Threads,
     New,
@@ -47,7 +47,7 @@ impl QueryLine {
 }
 
 /// A call on threads.
-#[derive(Clone, Copy, Debug, PartialEq, Eq)]
+#[derive(Clone, Copy)]
 pub enum ThreadLine {
     Spawn { b: Operand, v: Operand, a: Operand },
     SelfTid,

@@ -9,7 +9,7 @@ use crate::operand::Operand;
 use pth_base::call::Call;
 
 /// A call on time (`pth_timeout`, `pth_nap`, `pth_usleep`, `pth_sleep`).
-#[derive(Clone, Copy, Debug, PartialEq, Eq)]
+#[derive(Clone, Copy)]
 pub enum TimeLine {
     Timeout(Operand),
     Nap(Operand),
