@@ -3,10 +3,13 @@ use Rattle.std.proofs.Common.{◌≡◌, ℕ, Bool, true, false, not, ◌||◌, 
 use Rattle.std.specs.Prelude.{is_some, option_and_then, option_map, codes, drop, if◌then◌else◌}
 use Rattle.std.specs.Str.{bytes_eq}
 use Rattle.pth_line.specs.declared.operand.ByteOperand.TheVariants as bytes
-use Rattle.pth_grammar.specs.Keywords.{event_word}
-use Rattle.pth_grammar.specs.Reading.{read0, read1, read2, read3, read4, read5}
+use Rattle.pth_line.specs.declared.operand.Operand.{Operand}
+use Rattle.pth_spelling.specs.Keywords.{event_word}
+use Rattle.pth_grammar.specs.Reading.{operands_of, read1, read2, read3, read4, read5}
 use Rattle.pth_grammar.specs.Shapes.{misses}
-use Rattle.pth_grammar.specs.Words.{natural_of, register_of, operand_of, value_of, shared_of, name_of, set_of, bytes_of, has_hex, given_of, goals_of, which_of, relation_of, field_of, state_of, mode_of, direction_of, query_of, maybe}
+use Rattle.pth_grammar.specs.declared.operands.Operands.{Operands}
+use Rattle.pth_grammar.specs.declared.operands.Operands.TheVariants.{Zero, One, Two, Three}
+use Rattle.pth_spelling.specs.Words.{natural_of, register_of, operand_of, value_of, shared_of, name_of, set_of, bytes_of, has_hex, given_of, goals_of, which_of, relation_of, field_of, state_of, mode_of, direction_of, query_of, maybe}
 use Rattle.pth_grammar.specs.declared.form.Form.{Form}
 use Rattle.pth_grammar.specs.declared.form.Form.TheVariants as form
 use Rattle.pth_grammar.specs.declared.rule.Rule.TheVariants as rule
@@ -40,11 +43,15 @@ pub some_then : {A R : Type 0} (o : Option A) (k : A → Option R) → is_some o
 some_then (Some x) k h rest = rest x
 some_then None k h rest = absurd (cc)
 
--- ---- readers, one word after the other
+then_map : {A B R : Type 0} (o : Option A) (g : A → B) (f : B → Option R) → is_some o ≡ true → ((x : A) → is_some (f (g x)) ≡ true) → is_some (option_and_then f (option_map g o)) ≡ true
+then_map (Some x) g f h rest = rest x
+then_map None g f h rest = absurd (cc)
 
-pub row0 : {R : Type 0} (x : R) (ws : List (List ℕ)) → AllFine [] ws → is_some (read0 x ws) ≡ true
-row0 x [] h = refl
-row0 x (w ∷ ws) h = absurd h
+then_then : {A B R : Type 0} (o : Option A) (g : A → Option B) (f : B → Option R) → is_some o ≡ true → ((x : A) → is_some (option_and_then f (g x)) ≡ true) → is_some (option_and_then f (option_and_then g o)) ≡ true
+then_then (Some x) g f h rest = rest x
+then_then None g f h rest = absurd (cc)
+
+-- ---- readers, one word after the other
 
 pub row1 : {A R : Type 0} {f : Form} {a : List ℕ → Option A} → Reads f a → (build : A → R) (ws : List (List ℕ)) → AllFine (f ∷ []) ws → is_some (read1 a build ws) ≡ true
 row1 r build [] h = absurd h
@@ -154,3 +161,31 @@ bytes_by false false given f p = absurd (cc)
 pub byte_operand : Reads form.Bytes bytes_of
 unfolding misses bytes_of
 byte_operand = record { reads = λ w fine. bytes_by (bytes_eq w (codes "buf")) (has_hex w) (given_of (drop 4 w)) fine.formed fine.paired }
+
+-- ---- lines of numbers
+
+pub numbers0 : {R : Type 0} (f : Operands → Option R) (ws : List (List ℕ)) → is_some (f Zero) ≡ true → AllFine [] ws → is_some (option_and_then f (operands_of ws)) ≡ true
+unfolding operands_of
+numbers0 f [] some h = some
+numbers0 f (w ∷ ws) some h = absurd h
+
+pub numbers1 : {R : Type 0} (f : Operands → Option R) (ws : List (List ℕ)) → ((x : Operand) → is_some (f (One x)) ≡ true) → AllFine (form.Operand ∷ []) ws → is_some (option_and_then f (operands_of ws)) ≡ true
+unfolding operands_of
+numbers1 f [] some h = absurd h
+numbers1 f (a ∷ []) some h = then_map (operand_of a) (λ x. One x) f (operand.reads a h.0) some
+numbers1 f (a ∷ b ∷ ws) some h = absurd h.1
+
+pub numbers2 : {R : Type 0} (f : Operands → Option R) (ws : List (List ℕ)) → ((x y : Operand) → is_some (f (Two x y)) ≡ true) → AllFine (form.Operand ∷ form.Operand ∷ []) ws → is_some (option_and_then f (operands_of ws)) ≡ true
+unfolding operands_of
+numbers2 f [] some h = absurd h
+numbers2 f (a ∷ []) some h = absurd h.1
+numbers2 f (a ∷ b ∷ []) some h = then_then (operand_of a) _ f (operand.reads a h.0) (λ x. then_map (operand_of b) (λ y. Two x y) f (operand.reads b h.1.0) (some x))
+numbers2 f (a ∷ b ∷ c ∷ ws) some h = absurd h.1.1
+
+pub numbers3 : {R : Type 0} (f : Operands → Option R) (ws : List (List ℕ)) → ((x y z : Operand) → is_some (f (Three x y z)) ≡ true) → AllFine (form.Operand ∷ form.Operand ∷ form.Operand ∷ []) ws → is_some (option_and_then f (operands_of ws)) ≡ true
+unfolding operands_of
+numbers3 f [] some h = absurd h
+numbers3 f (a ∷ []) some h = absurd h.1
+numbers3 f (a ∷ b ∷ []) some h = absurd h.1.1
+numbers3 f (a ∷ b ∷ c ∷ []) some h = then_then (operand_of a) _ f (operand.reads a h.0) (λ x. then_then (operand_of b) _ f (operand.reads b h.1.0) (λ y. then_map (operand_of c) (λ z. Three x y z) f (operand.reads c h.1.1.0) (some x y)))
+numbers3 f (a ∷ b ∷ c ∷ d ∷ ws) some h = absurd h.1.1.1

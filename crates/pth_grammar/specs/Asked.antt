@@ -1,6 +1,6 @@
 -- The shapes of lines as the code has them.
 use Rattle.pth_grammar.specs.Shapes.{Shape, Unknown, Short, Unequal, Asks}
-use Rattle.pth_grammar.specs.Texts.{texts}
+use Rattle.pth_spelling.specs.Texts.{texts}
 use Rattle.pth_grammar.specs.declared.shape.Shape as code
 use Rattle.pth_grammar.specs.declared.shape.Shape.TheVariants as shape
 

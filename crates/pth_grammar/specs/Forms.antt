@@ -2,36 +2,36 @@
 use Rattle.std.specs.Prelude.{ℕ, List, [], ◌∷◌, Option, Some, None}
 use Rattle.pth_base.specs.declared.attr.AttrField.{AttrField}
 use Rattle.pth_base.specs.declared.attr.AttrField.TheVariants as field
-use Rattle.pth_grammar.specs.Words.{field_of, query_of}
-use Rattle.pth_grammar.specs.Keywords.{event_word}
+use Rattle.pth_spelling.specs.Words.{field_of, query_of}
+use Rattle.pth_spelling.specs.Keywords.{event_word}
 use Rattle.pth_grammar.specs.declared.form.Form.{Form}
 use Rattle.pth_grammar.specs.declared.form.Form.TheVariants as form
-use Rattle.pth_grammar.specs.declared.keyword.QueryWord.{QueryWord}
-use Rattle.pth_grammar.specs.declared.keyword.QueryWord.TheVariants as queries
-use Rattle.pth_grammar.specs.declared.keyword.ThreadWord.{ThreadWord}
-use Rattle.pth_grammar.specs.declared.keyword.ThreadWord.TheVariants as threads
-use Rattle.pth_grammar.specs.declared.keyword.AttrWord.{AttrWord}
-use Rattle.pth_grammar.specs.declared.keyword.AttrWord.TheVariants as attrs
-use Rattle.pth_grammar.specs.declared.keyword.StoreWord.{StoreWord}
-use Rattle.pth_grammar.specs.declared.keyword.StoreWord.TheVariants as stores
-use Rattle.pth_grammar.specs.declared.keyword.EventWord.{EventWord}
-use Rattle.pth_grammar.specs.declared.keyword.EventWord.TheVariants as events
-use Rattle.pth_grammar.specs.declared.keyword.RingWord.{RingWord}
-use Rattle.pth_grammar.specs.declared.keyword.RingWord.TheVariants as rings
-use Rattle.pth_grammar.specs.declared.keyword.TimeWord.{TimeWord}
-use Rattle.pth_grammar.specs.declared.keyword.TimeWord.TheVariants as times
-use Rattle.pth_grammar.specs.declared.keyword.LockWord.{LockWord}
-use Rattle.pth_grammar.specs.declared.keyword.LockWord.TheVariants as locks
-use Rattle.pth_grammar.specs.declared.keyword.ConditionWord.{ConditionWord}
-use Rattle.pth_grammar.specs.declared.keyword.ConditionWord.TheVariants as conditions
-use Rattle.pth_grammar.specs.declared.keyword.PortWord.{PortWord}
-use Rattle.pth_grammar.specs.declared.keyword.PortWord.TheVariants as ports
-use Rattle.pth_grammar.specs.declared.keyword.DescriptorWord.{DescriptorWord}
-use Rattle.pth_grammar.specs.declared.keyword.DescriptorWord.TheVariants as descriptors
-use Rattle.pth_grammar.specs.declared.keyword.CallWord.{CallWord}
-use Rattle.pth_grammar.specs.declared.keyword.CallWord.TheVariants as call
-use Rattle.pth_grammar.specs.declared.keyword.Keyword.{Keyword}
-use Rattle.pth_grammar.specs.declared.keyword.Keyword.TheVariants as key
+use Rattle.pth_spelling.specs.declared.keyword.QueryWord.{QueryWord}
+use Rattle.pth_spelling.specs.declared.keyword.QueryWord.TheVariants as queries
+use Rattle.pth_spelling.specs.declared.keyword.ThreadWord.{ThreadWord}
+use Rattle.pth_spelling.specs.declared.keyword.ThreadWord.TheVariants as threads
+use Rattle.pth_spelling.specs.declared.keyword.AttrWord.{AttrWord}
+use Rattle.pth_spelling.specs.declared.keyword.AttrWord.TheVariants as attrs
+use Rattle.pth_spelling.specs.declared.keyword.StoreWord.{StoreWord}
+use Rattle.pth_spelling.specs.declared.keyword.StoreWord.TheVariants as stores
+use Rattle.pth_spelling.specs.declared.keyword.EventWord.{EventWord}
+use Rattle.pth_spelling.specs.declared.keyword.EventWord.TheVariants as events
+use Rattle.pth_spelling.specs.declared.keyword.RingWord.{RingWord}
+use Rattle.pth_spelling.specs.declared.keyword.RingWord.TheVariants as rings
+use Rattle.pth_spelling.specs.declared.keyword.TimeWord.{TimeWord}
+use Rattle.pth_spelling.specs.declared.keyword.TimeWord.TheVariants as times
+use Rattle.pth_spelling.specs.declared.keyword.LockWord.{LockWord}
+use Rattle.pth_spelling.specs.declared.keyword.LockWord.TheVariants as locks
+use Rattle.pth_spelling.specs.declared.keyword.ConditionWord.{ConditionWord}
+use Rattle.pth_spelling.specs.declared.keyword.ConditionWord.TheVariants as conditions
+use Rattle.pth_spelling.specs.declared.keyword.PortWord.{PortWord}
+use Rattle.pth_spelling.specs.declared.keyword.PortWord.TheVariants as ports
+use Rattle.pth_spelling.specs.declared.keyword.DescriptorWord.{DescriptorWord}
+use Rattle.pth_spelling.specs.declared.keyword.DescriptorWord.TheVariants as descriptors
+use Rattle.pth_spelling.specs.declared.keyword.CallWord.{CallWord}
+use Rattle.pth_spelling.specs.declared.keyword.CallWord.TheVariants as call
+use Rattle.pth_spelling.specs.declared.keyword.Keyword.{Keyword}
+use Rattle.pth_spelling.specs.declared.keyword.Keyword.TheVariants as key
 use Rattle.pth_grammar.specs.declared.section.Section.{Section}
 use Rattle.pth_grammar.specs.declared.section.Section.TheVariants as sec
 

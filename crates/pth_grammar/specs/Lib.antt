@@ -1,10 +1,7 @@
-pub mod Texts
-pub mod Named
-pub mod Words
-pub mod Keywords
 pub mod Forms
 pub mod Shapes
 pub mod Asked
 pub mod Reading
 pub mod CallLines
 pub mod Lines
+pub mod Faultless

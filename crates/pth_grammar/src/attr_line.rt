@@ -1,26 +1,47 @@
 //! Lines that call on attribute objects, read.
 
-ghost use Rattle.std.specs.Prelude.{◌≡◌};
-ghost use Rattle.pth_grammar.specs.CallLines.{field_line, set_line, attr_line};
-ghost use Rattle.pth_grammar.specs.Texts.{texts};
+ghost use Rattle.std.specs.Prelude.{◌≡◌, Some};
+ghost use Rattle.pth_base.specs.declared.attr.AttrField.TheVariants as fields;
+ghost use Rattle.pth_grammar.specs.CallLines.{field_by, field_line, set_line, attr_by, attr_line};
+ghost use Rattle.pth_spelling.specs.Texts.{texts};
+ghost use Rattle.pth_spelling.specs.declared.keyword.AttrWord.TheVariants as attrs;
 
-use crate::keyword::AttrWord;
-use crate::words::{field, name, operand};
+use crate::operands::{Operands, read_operands};
 use pth_base::attr::AttrField;
 use pth_line::attr_line::{AttrLine, FieldLine};
+use pth_line::operand::Operand;
+use pth_spelling::keyword::AttrWord;
+use pth_spelling::words::{field, name, operand};
+
+fn field_by(field: AttrField, numbers: Operands) -> Option<FieldLine>
+    ensures { result ≡ field_by field numbers }
+{
+    match (field, numbers) {
+        (AttrField::Prio, Operands::One(n)) => Some(FieldLine::Prio(n)),
+        (AttrField::Joinable, Operands::One(n)) => Some(FieldLine::Joinable(n)),
+        (AttrField::Cancel, Operands::One(n)) => Some(FieldLine::Cancel(n)),
+        (AttrField::Dispatches, Operands::One(n)) => Some(FieldLine::Dispatches(n)),
+        (AttrField::State, Operands::One(n)) => Some(FieldLine::State(n)),
+        (AttrField::Bound, Operands::One(n)) => Some(FieldLine::Bound(n)),
+        _ => None,
+    }
+}
+
+fn name_line(words: &[&[u8]]) -> Option<FieldLine>
+    ensures { result ≡ field_line (Some fields.Name) (texts words.now) }
+{
+    match words {
+        [n] => Some(FieldLine::Name(name(n)?)),
+        _ => None,
+    }
+}
 
 fn field_line(field: Option<AttrField>, words: &[&[u8]]) -> Option<FieldLine>
     ensures { result ≡ field_line field (texts words.now) }
 {
-    match (field?, words) {
-        (AttrField::Prio, [n]) => Some(FieldLine::Prio(operand(n)?)),
-        (AttrField::Name, [n]) => Some(FieldLine::Name(name(n)?)),
-        (AttrField::Joinable, [n]) => Some(FieldLine::Joinable(operand(n)?)),
-        (AttrField::Cancel, [n]) => Some(FieldLine::Cancel(operand(n)?)),
-        (AttrField::Dispatches, [n]) => Some(FieldLine::Dispatches(operand(n)?)),
-        (AttrField::State, [n]) => Some(FieldLine::State(operand(n)?)),
-        (AttrField::Bound, [n]) => Some(FieldLine::Bound(operand(n)?)),
-        _ => None,
+    match field? {
+        AttrField::Name => name_line(words),
+        field => field_by(field, read_operands(words)?),
     }
 }
 
@@ -36,20 +57,37 @@ fn set_line(words: &[&[u8]]) -> Option<AttrLine>
     }
 }
 
+fn get_line(words: &[&[u8]]) -> Option<AttrLine>
+    ensures { result ≡ attr_line attrs.Get (texts words.now) }
+{
+    match words {
+        [a, f] => Some(AttrLine::Get {
+            a: operand(a)?,
+            f: field(f)?,
+        }),
+        _ => None,
+    }
+}
+
+fn attr_by(word: AttrWord, numbers: Operands) -> Option<AttrLine>
+    ensures { result ≡ attr_by word numbers }
+{
+    match (word, numbers) {
+        (AttrWord::New, Operands::Zero) => Some(AttrLine::New),
+        (AttrWord::Of, Operands::One(t)) => Some(AttrLine::Of(t)),
+        (AttrWord::Init, Operands::One(a)) => Some(AttrLine::Init(a)),
+        (AttrWord::Destroy, Operands::One(a)) => Some(AttrLine::Destroy(a)),
+        _ => None,
+    }
+}
+
 /// The call on attribute objects that words stand for.
 pub fn attr_line(word: AttrWord, words: &[&[u8]]) -> Option<AttrLine>
     ensures { result ≡ attr_line word (texts words.now) }
 {
-    match (word, words) {
-        (AttrWord::New, []) => Some(AttrLine::New),
-        (AttrWord::Of, [t]) => Some(AttrLine::Of(operand(t)?)),
-        (AttrWord::Init, [a]) => Some(AttrLine::Init(operand(a)?)),
-        (AttrWord::Set, words) => set_line(words),
-        (AttrWord::Get, [a, f]) => Some(AttrLine::Get {
-            a: operand(a)?,
-            f: field(f)?,
-        }),
-        (AttrWord::Destroy, [a]) => Some(AttrLine::Destroy(operand(a)?)),
-        _ => None,
+    match word {
+        AttrWord::Set => set_line(words),
+        AttrWord::Get => get_line(words),
+        _ => attr_by(word, read_operands(words)?),
     }
 }

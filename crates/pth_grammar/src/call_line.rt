@@ -2,23 +2,23 @@
 
 ghost use Rattle.std.specs.Prelude.{◌≡◌, IfOk};
 ghost use Rattle.pth_grammar.specs.CallLines.{chain_line, call_line};
-ghost use Rattle.pth_grammar.specs.Texts.{texts};
+ghost use Rattle.pth_spelling.specs.Texts.{texts};
 
 use crate::attr_line::attr_line;
-use crate::call_word::event_word;
 use crate::condition_line::condition_line;
 use crate::descriptor_line::descriptor_line;
 use crate::event_line::{chained_line, event_line};
-use crate::keyword::CallWord;
 use crate::lock_line::lock_line;
 use crate::port_line::port_line;
 use crate::ring_line::ring_line;
 use crate::store_line::store_line;
 use crate::thread_line::thread_line;
 use crate::time_line::time_line;
-use crate::words::operand;
 use pth_base::memory::OutOfMemory;
 use pth_line::call_line::CallLine;
+use pth_spelling::first_word::event_word;
+use pth_spelling::keyword::CallWord;
+use pth_spelling::words::operand;
 use std::alloc::Global;
 
 fn chain_line(words: &[&[u8]]) -> Option<CallLine>

@@ -1,26 +1,45 @@
 //! Lines that call on descriptors, read.
 
 ghost use Rattle.std.specs.Prelude.{◌≡◌, IfOk, false};
-ghost use Rattle.pth_grammar.specs.CallLines.{descriptor_line, has_bytes};
-ghost use Rattle.pth_grammar.specs.Texts.{texts};
-ghost use Rattle.pth_grammar.specs.declared.keyword.DescriptorWord.TheVariants as descriptors;
+ghost use Rattle.pth_grammar.specs.CallLines.{descriptor_by, descriptor_line, has_bytes};
+ghost use Rattle.pth_spelling.specs.Texts.{texts};
+ghost use Rattle.pth_spelling.specs.declared.keyword.DescriptorWord.TheVariants as descriptors;
 
-use crate::keyword::DescriptorWord;
-use crate::words::{bytes, operand, set};
+use crate::operands::{Operands, read_operands};
 use pth_base::memory::OutOfMemory;
 use pth_line::descriptor_line::DescriptorLine;
+use pth_spelling::keyword::DescriptorWord;
+use pth_spelling::words::{bytes, operand, set};
 use std::alloc::Global;
+
+fn descriptor_by(word: DescriptorWord, numbers: Operands) -> Option<DescriptorLine>
+    ensures { result ≡ descriptor_by word numbers }
+{
+    match (word, numbers) {
+        (DescriptorWord::Read, Operands::Two(f, n)) => Some(DescriptorLine::Read { f, n }),
+        (DescriptorWord::ReadEv, Operands::Three(f, n, e)) => {
+            Some(DescriptorLine::ReadEv { f, n, e })
+        }
+        (DescriptorWord::Accept, Operands::One(f)) => Some(DescriptorLine::Accept(f)),
+        (DescriptorWord::AcceptEv, Operands::Two(f, e)) => Some(DescriptorLine::AcceptEv { f, e }),
+        (DescriptorWord::Connect, Operands::One(f)) => Some(DescriptorLine::Connect(f)),
+        (DescriptorWord::ConnectEv, Operands::Two(f, e)) => {
+            Some(DescriptorLine::ConnectEv { f, e })
+        }
+        (DescriptorWord::Fdmode, Operands::Two(f, m)) => Some(DescriptorLine::Fdmode { f, m }),
+        (DescriptorWord::Close, Operands::One(f)) => Some(DescriptorLine::Close(f)),
+        _ => None,
+    }
+}
 
 fn select_line(words: &[&[u8]]) -> Option<DescriptorLine>
     ensures { result ≡ descriptor_line descriptors.Select (texts words.now) }
 {
-    match words {
-        [r, w, x, l] => Some(DescriptorLine::Select {
-            r: set(r)?,
-            w: set(w)?,
-            x: set(x)?,
-            l: operand(l)?,
-        }),
+    let [r, w, x, l] = words else {
+        return None;
+    };
+    match (set(r), set(w), set(x), operand(l)) {
+        (Some(r), Some(w), Some(x), Some(l)) => Some(DescriptorLine::Select { r, w, x, l }),
         _ => None,
     }
 }
@@ -28,16 +47,46 @@ fn select_line(words: &[&[u8]]) -> Option<DescriptorLine>
 fn select_ev_line(words: &[&[u8]]) -> Option<DescriptorLine>
     ensures { result ≡ descriptor_line descriptors.SelectEv (texts words.now) }
 {
-    match words {
-        [r, w, x, l, e] => Some(DescriptorLine::SelectEv {
-            r: set(r)?,
-            w: set(w)?,
-            x: set(x)?,
-            l: operand(l)?,
-            e: operand(e)?,
-        }),
-        _ => None,
-    }
+    let [r, w, x, l, e] = words else {
+        return None;
+    };
+    let (Some(r), Some(w), Some(x)) = (set(r), set(w), set(x)) else {
+        return None;
+    };
+    let (Some(l), Some(e)) = (operand(l), operand(e)) else {
+        return None;
+    };
+    Some(DescriptorLine::SelectEv { r, w, x, l, e })
+}
+
+fn write_line(alloc: Global, words: &[&[u8]]) -> Result<Option<DescriptorLine>, OutOfMemory>
+    ensures { IfOk result (λ l. l ≡ descriptor_line descriptors.Write (texts words.now)) }
+{
+    let [f, b] = words else {
+        return Ok(None);
+    };
+    let Some(f) = operand(f) else {
+        return Ok(None);
+    };
+    let Some(bytes) = bytes(alloc, b)? else {
+        return Ok(None);
+    };
+    Ok(Some(DescriptorLine::Write { f, bytes }))
+}
+
+fn write_ev_line(alloc: Global, words: &[&[u8]]) -> Result<Option<DescriptorLine>, OutOfMemory>
+    ensures { IfOk result (λ l. l ≡ descriptor_line descriptors.WriteEv (texts words.now)) }
+{
+    let [f, b, e] = words else {
+        return Ok(None);
+    };
+    let (Some(f), Some(e)) = (operand(f), operand(e)) else {
+        return Ok(None);
+    };
+    let Some(bytes) = bytes(alloc, b)? else {
+        return Ok(None);
+    };
+    Ok(Some(DescriptorLine::WriteEv { f, bytes, e }))
 }
 
 /// The call on descriptors that words stand for, where none of them are bytes.
@@ -45,34 +94,10 @@ fn plain_line(word: DescriptorWord, words: &[&[u8]]) -> Option<DescriptorLine>
     requires { has_bytes word ≡ false }
     ensures { result ≡ descriptor_line word (texts words.now) }
 {
-    match (word, words) {
-        (DescriptorWord::Read, [f, n]) => Some(DescriptorLine::Read {
-            f: operand(f)?,
-            n: operand(n)?,
-        }),
-        (DescriptorWord::ReadEv, [f, n, e]) => Some(DescriptorLine::ReadEv {
-            f: operand(f)?,
-            n: operand(n)?,
-            e: operand(e)?,
-        }),
-        (DescriptorWord::Accept, [f]) => Some(DescriptorLine::Accept(operand(f)?)),
-        (DescriptorWord::AcceptEv, [f, e]) => Some(DescriptorLine::AcceptEv {
-            f: operand(f)?,
-            e: operand(e)?,
-        }),
-        (DescriptorWord::Connect, [f]) => Some(DescriptorLine::Connect(operand(f)?)),
-        (DescriptorWord::ConnectEv, [f, e]) => Some(DescriptorLine::ConnectEv {
-            f: operand(f)?,
-            e: operand(e)?,
-        }),
-        (DescriptorWord::Select, words) => select_line(words),
-        (DescriptorWord::SelectEv, words) => select_ev_line(words),
-        (DescriptorWord::Fdmode, [f, m]) => Some(DescriptorLine::Fdmode {
-            f: operand(f)?,
-            m: operand(m)?,
-        }),
-        (DescriptorWord::Close, [f]) => Some(DescriptorLine::Close(operand(f)?)),
-        _ => None,
+    match word {
+        DescriptorWord::Select => select_line(words),
+        DescriptorWord::SelectEv => select_ev_line(words),
+        _ => descriptor_by(word, read_operands(words)?),
     }
 }
 
@@ -84,27 +109,9 @@ pub fn descriptor_line(
 ) -> Result<Option<DescriptorLine>, OutOfMemory>
     ensures { IfOk result (λ l. l ≡ descriptor_line word (texts words.now)) }
 {
-    match (word, words) {
-        (DescriptorWord::Write, [f, b]) => {
-            let Some(f) = operand(f) else {
-                return Ok(None);
-            };
-            let Some(bytes) = bytes(alloc, b)? else {
-                return Ok(None);
-            };
-            Ok(Some(DescriptorLine::Write { f, bytes }))
-        }
-        (DescriptorWord::WriteEv, [f, b, e]) => {
-            let (Some(f), Some(e)) = (operand(f), operand(e)) else {
-                return Ok(None);
-            };
-            let Some(bytes) = bytes(alloc, b)? else {
-                return Ok(None);
-            };
-            Ok(Some(DescriptorLine::WriteEv { f, bytes, e }))
-        }
-        (DescriptorWord::Write, _) => Ok(None),
-        (DescriptorWord::WriteEv, _) => Ok(None),
-        (word, words) => Ok(plain_line(word, words)),
+    match word {
+        DescriptorWord::Write => write_line(alloc, words),
+        DescriptorWord::WriteEv => write_ev_line(alloc, words),
+        _ => Ok(plain_line(word, words)),
     }
 }

@@ -1,40 +1,77 @@
 //! Lines that make an event, read.
 
 ghost use Rattle.std.specs.Prelude.{◌≡◌};
-ghost use Rattle.pth_grammar.specs.CallLines.{event_line, chained_line};
-ghost use Rattle.pth_grammar.specs.Texts.{texts};
+ghost use Rattle.pth_grammar.specs.CallLines.{event_by, event_line, chained_line};
+ghost use Rattle.pth_spelling.specs.Texts.{texts};
+ghost use Rattle.pth_spelling.specs.declared.keyword.EventWord.TheVariants as events;
 
-use crate::keyword::EventWord;
-use crate::words::{goals, operand, set, state};
+use crate::operands::{Operands, read_operands};
 use pth_line::event_line::EventLine;
+use pth_spelling::keyword::EventWord;
+use pth_spelling::words::{goals, operand, set, state};
+
+fn event_by(word: EventWord, numbers: Operands) -> Option<EventLine>
+    ensures { result ≡ event_by word numbers }
+{
+    match (word, numbers) {
+        (EventWord::Time, Operands::One(at)) => Some(EventLine::Time(at)),
+        (EventWord::Msg, Operands::One(p)) => Some(EventLine::Msg(p)),
+        (EventWord::Cond, Operands::One(c)) => Some(EventLine::Cond(c)),
+        (EventWord::Func, Operands::Three(check, arg, interval)) => Some(EventLine::Func {
+            check,
+            arg,
+            interval,
+        }),
+        _ => None,
+    }
+}
+
+fn fd_line(words: &[&[u8]]) -> Option<EventLine>
+    ensures { result ≡ event_line events.Fd (texts words.now) }
+{
+    match words {
+        [g, fd] => Some(EventLine::Fd {
+            goals: goals(g)?,
+            fd: operand(fd)?,
+        }),
+        _ => None,
+    }
+}
+
+fn select_line(words: &[&[u8]]) -> Option<EventLine>
+    ensures { result ≡ event_line events.Select (texts words.now) }
+{
+    match words {
+        [r, w, x] => Some(EventLine::Select {
+            r: set(r)?,
+            w: set(w)?,
+            x: set(x)?,
+        }),
+        _ => None,
+    }
+}
+
+fn tid_line(words: &[&[u8]]) -> Option<EventLine>
+    ensures { result ≡ event_line events.Tid (texts words.now) }
+{
+    match words {
+        [s, tid] => Some(EventLine::Tid {
+            state: state(s)?,
+            tid: operand(tid)?,
+        }),
+        _ => None,
+    }
+}
 
 /// The new event that words stand for.
 pub fn event_line(word: EventWord, words: &[&[u8]]) -> Option<EventLine>
     ensures { result ≡ event_line word (texts words.now) }
 {
-    match (word, words) {
-        (EventWord::Fd, [g, fd]) => Some(EventLine::Fd {
-            goals: goals(g)?,
-            fd: operand(fd)?,
-        }),
-        (EventWord::Select, [r, w, x]) => Some(EventLine::Select {
-            r: set(r)?,
-            w: set(w)?,
-            x: set(x)?,
-        }),
-        (EventWord::Time, [at]) => Some(EventLine::Time(operand(at)?)),
-        (EventWord::Msg, [p]) => Some(EventLine::Msg(operand(p)?)),
-        (EventWord::Cond, [c]) => Some(EventLine::Cond(operand(c)?)),
-        (EventWord::Tid, [s, tid]) => Some(EventLine::Tid {
-            state: state(s)?,
-            tid: operand(tid)?,
-        }),
-        (EventWord::Func, [check, arg, interval]) => Some(EventLine::Func {
-            check: operand(check)?,
-            arg: operand(arg)?,
-            interval: operand(interval)?,
-        }),
-        _ => None,
+    match word {
+        EventWord::Fd => fd_line(words),
+        EventWord::Select => select_line(words),
+        EventWord::Tid => tid_line(words),
+        _ => event_by(word, read_operands(words)?),
     }
 }
 

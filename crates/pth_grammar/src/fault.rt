@@ -3,14 +3,14 @@
 ghost use Rattle.std.specs.Prelude.{◌≡◌};
 ghost use Rattle.std.specs.List.{find};
 ghost use Rattle.pth_grammar.specs.Shapes.{Asks, is_listed, has_form, has_pairs, misses, wrong, words_break, word_rules, words_fault};
-ghost use Rattle.pth_grammar.specs.Texts.{texts};
+ghost use Rattle.pth_spelling.specs.Texts.{texts};
 
-use crate::call_word::event_word;
 use crate::form::Form;
 use crate::rule::Rule;
 use crate::section::Section;
 use crate::shape::{Shape, shape_of};
-use crate::words::{
+use pth_spelling::first_word::event_word;
+use pth_spelling::words::{
     direction, field, goals, maybe_name, maybe_operand, mode, name, natural, operand, query,
     register, relation, set, shared, state, value, which,
 };

@@ -1,7 +1,7 @@
 //! The forms of words.
 
 /// What a word after the first must be.
-#[derive(Clone, Copy, Debug, PartialEq, Eq)]
+#[derive(Clone, Copy)]
 pub enum Form {
     /// A number that is not negative.
     Natural,
@@ -41,11 +41,4 @@ pub enum Form {
     Query,
     /// The first word of an event line.
     Event,
-}
-
-/// The direction of a walk round a ring, and whether it goes on to an event that occurred.
-#[derive(Clone, Copy, Debug, PartialEq, Eq)]
-pub struct Direction {
-    pub forward: bool,
-    pub until_occurred: bool,
 }

@@ -2,17 +2,17 @@
 
 ghost use Rattle.std.specs.Prelude.{◌≡◌, option_map};
 ghost use Rattle.pth_grammar.specs.Forms.{query_forms, ctrl_forms, field_forms, set_forms, thread_forms, attr_forms, store_forms, event_forms, ring_forms, time_forms, lock_forms, condition_forms, port_forms, descriptor_forms, chained_forms, chain_forms, call_forms, act_forms, body_forms, opening_forms, may_open, forms_of};
-ghost use Rattle.pth_grammar.specs.Texts.{texts};
+ghost use Rattle.pth_spelling.specs.Texts.{texts};
 
-use crate::call_word::event_word;
 use crate::form::Form;
-use crate::keyword::{
+use crate::section::Section;
+use pth_base::attr::AttrField;
+use pth_spelling::first_word::event_word;
+use pth_spelling::keyword::{
     AttrWord, CallWord, ConditionWord, DescriptorWord, EventWord, Keyword, LockWord, PortWord,
     QueryWord, RingWord, StoreWord, ThreadWord, TimeWord,
 };
-use crate::section::Section;
-use crate::words::{field, query};
-use pth_base::attr::AttrField;
+use pth_spelling::words::{field, query};
 
 fn query_forms(query: Option<QueryWord>) -> &'static [Form]
     ensures { result.now ≡ query_forms query }

@@ -1,19 +1,18 @@
-//! How the lines of a script are spelled: their words, the forms of the words, and the rules on them.
+//! What the lines of a script stand for, and the rules on their words.
 #![tactic(auto)]
 
 mod attr_line;
 mod call_line;
-mod call_word;
 mod condition_line;
 mod descriptor_line;
 mod event_line;
 pub mod fault;
 pub mod form;
 mod forms;
-pub mod keyword;
+pub mod laws;
 pub mod lines;
 mod lock_line;
-mod named;
+mod operands;
 mod port_line;
 mod ring_line;
 pub mod rule;
@@ -24,4 +23,3 @@ mod store_line;
 mod tests;
 mod thread_line;
 mod time_line;
-pub mod words;

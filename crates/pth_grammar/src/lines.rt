@@ -2,36 +2,19 @@
 
 ghost use Rattle.std.specs.Prelude.{◌≡◌, IfOk, option_and_then, option_map};
 ghost use Rattle.pth_grammar.specs.CallLines.{call_line};
-ghost use Rattle.pth_grammar.specs.Keywords.{begins, call_word, keyword_of};
+ghost use Rattle.pth_spelling.specs.Keywords.{call_word, keyword_of};
 ghost use Rattle.pth_grammar.specs.Lines.{plain_line, line_by, answered_line, line_of, act_by, act_of, check_by, check_of, numbered};
-ghost use Rattle.pth_grammar.specs.Texts.{texts};
+ghost use Rattle.pth_spelling.specs.Texts.{texts};
 
 use crate::call_line::call_line;
-use crate::call_word::{call_word, keyword};
-use crate::keyword::Keyword;
-use crate::words::{natural, operand, register, relation, shared, value};
 use pth_base::memory::OutOfMemory;
 use pth_line::act_line::ActLine;
 use pth_line::check::Check;
 use pth_line::line::Line;
+use pth_spelling::first_word::{call_word, keyword};
+use pth_spelling::keyword::Keyword;
+use pth_spelling::words::{natural, operand, register, relation, shared, value};
 use std::alloc::Global;
-
-/// The keyword that begins a line. A line that begins with a register has none.
-#[tactic(auto, unfolding(crate::specs::Keywords::begins))]
-pub fn begins(words: &[&[u8]]) -> Option<Keyword>
-    ensures { result ≡ begins (texts words.now) }
-{
-    match words {
-        [] => None,
-        [word, ..] => {
-            if register(word).is_some() {
-                None
-            } else {
-                keyword(word)
-            }
-        }
-    }
-}
 
 /// The number that is not negative and follows the first word.
 #[tactic(auto, unfolding(crate::specs::Lines::numbered))]

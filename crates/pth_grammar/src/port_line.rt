@@ -1,29 +1,53 @@
 //! Lines that call on message ports, read.
 
 ghost use Rattle.std.specs.Prelude.{◌≡◌};
-ghost use Rattle.pth_grammar.specs.CallLines.{port_line};
-ghost use Rattle.pth_grammar.specs.Texts.{texts};
+ghost use Rattle.pth_grammar.specs.CallLines.{port_by, port_line};
+ghost use Rattle.pth_spelling.specs.Texts.{texts};
+ghost use Rattle.pth_spelling.specs.declared.keyword.PortWord.TheVariants as ports;
 
-use crate::keyword::PortWord;
-use crate::words::{maybe_name, name, operand};
+use crate::operands::{Operands, read_operands};
 use pth_line::port_line::PortLine;
+use pth_spelling::keyword::PortWord;
+use pth_spelling::words::{maybe_name, name};
+
+fn port_by(word: PortWord, numbers: Operands) -> Option<PortLine>
+    ensures { result ≡ port_by word numbers }
+{
+    match (word, numbers) {
+        (PortWord::Pending, Operands::One(p)) => Some(PortLine::Pending(p)),
+        (PortWord::Put, Operands::Three(p, v, r)) => Some(PortLine::Put { p, v, r }),
+        (PortWord::Get, Operands::One(p)) => Some(PortLine::Get(p)),
+        (PortWord::Reply, Operands::One(v)) => Some(PortLine::Reply(v)),
+        (PortWord::Destroy, Operands::One(p)) => Some(PortLine::Destroy(p)),
+        _ => None,
+    }
+}
+
+fn create_line(words: &[&[u8]]) -> Option<PortLine>
+    ensures { result ≡ port_line ports.Create (texts words.now) }
+{
+    match words {
+        [n] => Some(PortLine::Create(maybe_name(n)?)),
+        _ => None,
+    }
+}
+
+fn find_line(words: &[&[u8]]) -> Option<PortLine>
+    ensures { result ≡ port_line ports.Find (texts words.now) }
+{
+    match words {
+        [n] => Some(PortLine::Find(name(n)?)),
+        _ => None,
+    }
+}
 
 /// The call on message ports that words stand for.
 pub fn port_line(word: PortWord, words: &[&[u8]]) -> Option<PortLine>
     ensures { result ≡ port_line word (texts words.now) }
 {
-    match (word, words) {
-        (PortWord::Create, [n]) => Some(PortLine::Create(maybe_name(n)?)),
-        (PortWord::Find, [n]) => Some(PortLine::Find(name(n)?)),
-        (PortWord::Pending, [p]) => Some(PortLine::Pending(operand(p)?)),
-        (PortWord::Put, [p, v, r]) => Some(PortLine::Put {
-            p: operand(p)?,
-            v: operand(v)?,
-            r: operand(r)?,
-        }),
-        (PortWord::Get, [p]) => Some(PortLine::Get(operand(p)?)),
-        (PortWord::Reply, [v]) => Some(PortLine::Reply(operand(v)?)),
-        (PortWord::Destroy, [p]) => Some(PortLine::Destroy(operand(p)?)),
-        _ => None,
+    match word {
+        PortWord::Create => create_line(words),
+        PortWord::Find => find_line(words),
+        _ => port_by(word, read_operands(words)?),
     }
 }

@@ -1,7 +1,7 @@
 //! Where a line stands.
 
 /// The part of a script in which a line stands.
-#[derive(Clone, Copy, Debug, PartialEq, Eq)]
+#[derive(Clone, Copy)]
 pub enum Section {
     /// Between handlers, above all checks and bodies.
     Handlers,

@@ -2,17 +2,16 @@
 
 ghost use Rattle.std.specs.Prelude.{◌≡◌, option_map, option_and_then};
 ghost use Rattle.pth_grammar.specs.Asked.{asked};
-ghost use Rattle.pth_grammar.specs.Keywords.{call_word};
+ghost use Rattle.pth_spelling.specs.Keywords.{call_word};
 ghost use Rattle.pth_grammar.specs.Forms.{call_forms};
 ghost use Rattle.pth_grammar.specs.Shapes.{asks, after_register, shape_of};
-ghost use Rattle.pth_grammar.specs.Texts.{texts};
+ghost use Rattle.pth_spelling.specs.Texts.{texts};
 
-use crate::call_word::call_word;
 use crate::form::Form;
 use crate::forms::{call_forms, forms_of};
-use crate::lines::begins;
 use crate::section::Section;
-use crate::words::register;
+use pth_spelling::first_word::{begins, call_word};
+use pth_spelling::words::register;
 
 /// What a line asks of its words.
 #[derive(Clone, Copy)]

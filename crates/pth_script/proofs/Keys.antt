@@ -2,12 +2,12 @@
 use Rattle.std.proofs.Common.{◌≡◌, ℕ, suc, ℤ, Bool, true, false, cond, List, [], ◌∷◌, ◌++◌, Option, Some, None, refl, ap, sym, subst, ◌∙◌, append-nil}
 use Rattle.std.specs.Prelude.{is_some, option_map, option_and_then, unwrap_or}
 use Rattle.pth_grammar.specs.CallLines.{call_line}
-use Rattle.pth_grammar.specs.Keywords.{begins, keyword_of}
+use Rattle.pth_spelling.specs.Keywords.{begins, keyword_of}
 use Rattle.pth_grammar.specs.Lines.{numbered, line_of, line_by, plain_line, answered_line, act_of, act_by}
 use Rattle.pth_grammar.specs.Reading.{read1, read2, read3}
-use Rattle.pth_grammar.specs.Words.{register_of, natural_of, operand_of, relation_of}
-use Rattle.pth_grammar.specs.declared.keyword.Keyword.{Keyword}
-use Rattle.pth_grammar.specs.declared.keyword.Keyword.TheVariants as key
+use Rattle.pth_spelling.specs.Words.{register_of, natural_of, operand_of, relation_of}
+use Rattle.pth_spelling.specs.declared.keyword.Keyword.{Keyword}
+use Rattle.pth_spelling.specs.declared.keyword.Keyword.TheVariants as key
 use Rattle.pth_line.specs.declared.act_line.ActLine.{ActLine}
 use Rattle.pth_line.specs.declared.line.Line.{Line}
 use Rattle.pth_line.specs.declared.line.Line.TheVariants as line

@@ -2,7 +2,7 @@
 use Rattle.std.specs.Prelude.{◌≡◌, ℕ, ◌+◌, ◌-◌, ◌≤◌, ◌<◌, Bool, true, false, ◌||◌, ◌&&◌, not, List, [], ◌∷◌, length, Option, Some, None, ◌==◌, nat_lt, codes, if◌then◌else◌, slice_get, take, reverse}
 use Rattle.std.specs.Str.{bytes_eq}
 use Rattle.pth_text.specs.Words.{words_of}
-use Rattle.pth_grammar.specs.Keywords.{begins}
+use Rattle.pth_spelling.specs.Keywords.{begins}
 use Rattle.pth_grammar.specs.Lines.{numbered}
 use Rattle.pth_grammar.specs.Shapes.{shape_of, words_break}
 use Rattle.pth_grammar.specs.declared.rule.Rule.TheVariants as rule

@@ -1,7 +1,7 @@
 -- What a draft of a script has seen, and what becomes of it with the lines that are left.
 use Rattle.std.specs.Prelude.{◌≡◌, ◌≤◌, ℕ, ◌+◌, All, Bool, true, false, List, [], ◌∷◌, ◌++◌, length, Option, None, map, if◌then◌else◌}
 use Rattle.pth_grammar.specs.Lines.{line_of, act_of}
-use Rattle.pth_grammar.specs.declared.keyword.Keyword.{Keyword}
+use Rattle.pth_spelling.specs.declared.keyword.Keyword.{Keyword}
 use Rattle.pth_grammar.specs.declared.section.Section.{Section}
 use Rattle.pth_grammar.specs.declared.section.Section.TheVariants as sec
 use Rattle.pth_line.specs.declared.act_line.ActLine.{ActLine}
@@ -9,7 +9,7 @@ use Rattle.pth_line.specs.declared.check.Check.{Check}
 use Rattle.pth_line.specs.declared.line.Line.{Line}
 use Rattle.pth_script.specs.Labels.{somes, labels_in, gotos_in, placed}
 use Rattle.pth_script.specs.Meaning.{until_end, blocks, checks_of}
-use Rattle.pth_grammar.specs.Keywords.{begins}
+use Rattle.pth_spelling.specs.Keywords.{begins}
 use Rattle.pth_grammar.specs.Lines.{numbered}
 use Rattle.pth_script.specs.Seen.{Seen, past, is_handler, is_thread}
 use Rattle.pth_script.specs.Broken.{said_breaks}

@@ -2,10 +2,10 @@
 use Rattle.std.specs.Prelude.{ℕ, suc, ◌+◌, Bool, true, false, not, List, [], ◌∷◌, length, ◌++◌, Option, Some, nat_le, ℤ, pos, unwrap_or, if◌then◌else◌}
 use Rattle.std.specs.List.{list_all}
 use Rattle.std.specs.Ordering.{int_eq}
-use Rattle.pth_grammar.specs.Keywords.{begins}
+use Rattle.pth_spelling.specs.Keywords.{begins}
 use Rattle.pth_grammar.specs.Lines.{numbered}
-use Rattle.pth_grammar.specs.declared.keyword.Keyword.{Keyword}
-use Rattle.pth_grammar.specs.declared.keyword.Keyword.TheVariants as key
+use Rattle.pth_spelling.specs.declared.keyword.Keyword.{Keyword}
+use Rattle.pth_spelling.specs.declared.keyword.Keyword.TheVariants as key
 use Rattle.pth_grammar.specs.declared.section.Section.{Section}
 use Rattle.pth_grammar.specs.declared.section.Section.TheVariants as sec
 use Rattle.pth_script.specs.Labels.{has}

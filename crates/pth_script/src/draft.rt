@@ -1,27 +1,28 @@
 //! A script that is being read.
 
 ghost use Rattle.std.specs.Prelude.{◌≡◌, OnOk, [], Some, false};
-ghost use Rattle.pth_grammar.specs.Texts.{texts};
+ghost use Rattle.pth_spelling.specs.Texts.{texts};
 ghost use Rattle.pth_script.specs.Broken.{said_breaks};
 ghost use Rattle.pth_grammar.specs.declared.section.Section.TheVariants as section;
 ghost use Rattle.pth_script.specs.Drafts.{parts, seen, in_handler, in_body, handler_closed, IsClosed, IsFine, IsKept, Takes};
 ghost use Rattle.pth_script.specs.Seen.{passes_limit, misnumbered, leaves_goto, is_check, is_end, is_handler};
-ghost use Rattle.pth_grammar.specs.Keywords.{begins};
-ghost use Rattle.pth_grammar.specs.declared.keyword.Keyword.TheVariants as key;
+ghost use Rattle.pth_spelling.specs.Keywords.{begins};
+ghost use Rattle.pth_spelling.specs.declared.keyword.Keyword.TheVariants as key;
 ghost use Rattle.pth_script.specs.Table.{first_broken};
 
 use crate::body::Body;
 use crate::breach::Breach;
 use pth_base::memory::OutOfMemory;
 use pth_grammar::fault::words_fault;
-use pth_grammar::keyword::Keyword;
-use pth_grammar::lines::{act_line, begins, check_line, line, numbered};
+use pth_grammar::lines::{act_line, check_line, line, numbered};
 use pth_grammar::rule::Rule;
 use pth_grammar::section::Section;
 use pth_line::act_line::ActLine;
 use pth_line::block::Block;
 use pth_line::check::Check;
 use pth_line::line::Line;
+use pth_spelling::first_word::begins;
+use pth_spelling::keyword::Keyword;
 use std::alloc::Global;
 use std::mem;
 

@@ -1,6 +1,6 @@
 use Rattle.std.proofs.Common.{arith}
 use Rattle.std.proofs.lemmas.Grind.{common_steps}
-use Rattle.pth_grammar.specs.Texts.{texts}
+use Rattle.pth_spelling.specs.Texts.{texts}
 use Rattle.pth_script.specs.Drafts.{parts, seen}
 use Rattle.pth_script.proofs.Said.{said_rule}
 use Rattle.pth_script.proofs.draft.Draft.fault.Goals as goal

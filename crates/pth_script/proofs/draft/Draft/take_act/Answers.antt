@@ -1,5 +1,5 @@
 use Rattle.std.proofs.Common.{◌≡◌, ◌∙◌, ap, sym, subst}
-use Rattle.pth_grammar.specs.Texts.{texts}
+use Rattle.pth_spelling.specs.Texts.{texts}
 use Rattle.pth_script.specs.Drafts.{parts, Takes, handler_closed}
 use Rattle.pth_script.specs.Seen.{is_end}
 use Rattle.pth_script.proofs.Taken.{act_line_taken, handler_end_taken, act_is_read, on_ok}

@@ -1,5 +1,5 @@
 use Rattle.std.proofs.Common.{◌∙◌, ap, sym, subst}
-use Rattle.pth_grammar.specs.Texts.{texts}
+use Rattle.pth_spelling.specs.Texts.{texts}
 use Rattle.pth_script.specs.Drafts.{parts, Takes, IsClosed}
 use Rattle.pth_script.specs.Seen.{is_end}
 use Rattle.pth_script.proofs.Taken.{body_line_taken, body_end_taken, line_is_read, new_label, on_ok}

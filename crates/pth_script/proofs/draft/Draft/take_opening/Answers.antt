@@ -1,5 +1,5 @@
 use Rattle.std.proofs.Common.{◌∙◌, ap, sym}
-use Rattle.pth_grammar.specs.Texts.{texts}
+use Rattle.pth_spelling.specs.Texts.{texts}
 use Rattle.pth_script.specs.Drafts.{parts}
 use Rattle.pth_script.specs.Seen.{is_check, is_handler}
 use Rattle.pth_script.proofs.Taken.{handler_open_taken, body_open_taken}

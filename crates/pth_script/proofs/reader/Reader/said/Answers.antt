@@ -2,8 +2,8 @@ use Rattle.std.proofs.Common.{◌≡◌, ◌∙◌, ◌∷◌, arith, sym, ap, s
 use Rattle.std.specs.Prelude.{drop}
 use Rattle.std.proofs.lemmas.Grind.{common_steps}
 use Rattle.pth_text.specs.Words.{words_of}
-use Rattle.pth_grammar.specs.Texts.{texts}
-use Rattle.pth_grammar.specs.Keywords.{begins}
+use Rattle.pth_spelling.specs.Texts.{texts}
+use Rattle.pth_spelling.specs.Keywords.{begins}
 use Rattle.pth_grammar.specs.Lines.{numbered}
 use Rattle.pth_script.specs.Rows.{Row, above}
 use Rattle.pth_script.specs.Broken.{is_first, said_breaks}

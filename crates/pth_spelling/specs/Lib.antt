@@ -1,0 +1,4 @@
+pub mod Texts
+pub mod Named
+pub mod Words
+pub mod Keywords

@@ -1,0 +1,28 @@
+//! Words that are numbers.
+
+ghost use Rattle.std.specs.Prelude.{◌≡◌, option_and_then};
+ghost use Rattle.pth_text.specs.Number.{number_of};
+ghost use Rattle.pth_spelling.specs.Words.{below, natural_of};
+
+use pth_text::number::read_number;
+
+/// A number that is not negative.
+#[tactic(auto, unfolding(crate::specs::Words::natural_of))]
+pub fn natural(word: &[u8]) -> Option<i64>
+    ensures { result ≡ natural_of word.now }
+{
+    let n = read_number(word)?;
+    if 0 <= n { Some(n) } else { None }
+}
+
+/// A number that is not negative and below a limit.
+pub(crate) fn number_below(limit: u8, word: &[u8]) -> Option<u8>
+    ensures { result ≡ option_and_then (below limit) (number_of word.now) }
+{
+    let n = read_number(word)?;
+    if 0 <= n && n < i64::from(limit) {
+        Some(n as u8)
+    } else {
+        None
+    }
+}
