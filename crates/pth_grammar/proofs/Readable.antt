@@ -7,7 +7,7 @@ use Rattle.std.proofs.lemmas.Bool.Decides.{nat_tests}
 use Rattle.pth_grammar.specs.CallLines.{call_line}
 use Rattle.pth_grammar.specs.Forms.{call_forms, act_forms, body_forms, forms_of}
 use Rattle.pth_spelling.specs.Keywords.{call_word, keyword_of, begins}
-use Rattle.pth_grammar.specs.Lines.{line_by, answered_line, line_of, act_by, act_of, check_by, check_of}
+use Rattle.pth_grammar.specs.Lines.{line_by, answered_line, line_of, act_with, act_by, act_of, check_by, check_of}
 use Rattle.pth_grammar.specs.Shapes.{Shape, Unequal, Asks, asks, after_register, answers, shape_of, wrong, words_break, word_rules, words_fault}
 use Rattle.pth_spelling.specs.Words.{register_of}
 use Rattle.pth_grammar.specs.declared.form.Form.{Form}
@@ -19,7 +19,7 @@ use Rattle.pth_grammar.specs.declared.rule.Rule.TheVariants as rule
 use Rattle.pth_grammar.specs.declared.section.Section.{Section}
 use Rattle.pth_grammar.specs.declared.section.Section.TheVariants as sec
 use Rattle.pth_grammar.proofs.CallLines.{callable}
-use Rattle.pth_grammar.proofs.RowLemmas.{AllFine, some_map, some_then, row1, row2, row4, natural, operand, register, value, shared, relation}
+use Rattle.pth_grammar.proofs.RowLemmas.{AllFine, some_map, some_then, values1, values2, row1, row2, row4, natural, operand, register, value, shared, relation}
 
 -- ---- words that break no rule
 
@@ -135,12 +135,12 @@ body_readable (w ∷ ws) h n = body_by (is_some (register_of w)) w ws refl h n
 
 acted : (k : Keyword) (ws : List (List ℕ)) → IsFineShape (asks ws (act_forms k)) → (k ≡ key.End → ⊥) → is_some (act_by (Some k) ws) ≡ true
 unfolding words_break
-acted key.Note ws h n = row1 value _ ws (all_fine _ ws h)
+acted key.Note ws h n = values1 (act_with key.Note) ws (λ x. refl) (all_fine _ ws h)
 acted key.Set ws h n = row2 shared value _ ws (all_fine _ ws h)
-acted key.Release ws h n = row1 value _ ws (all_fine _ ws h)
-acted key.Notify ws h n = row2 value value _ ws (all_fine _ ws h)
-acted key.Put ws h n = row2 value value _ ws (all_fine _ ws h)
-acted key.SetKey ws h n = row2 value value _ ws (all_fine _ ws h)
+acted key.Release ws h n = values1 (act_with key.Release) ws (λ x. refl) (all_fine _ ws h)
+acted key.Notify ws h n = values2 (act_with key.Notify) ws (λ x y. refl) (all_fine _ ws h)
+acted key.Put ws h n = values2 (act_with key.Put) ws (λ x y. refl) (all_fine _ ws h)
+acted key.SetKey ws h n = values2 (act_with key.SetKey) ws (λ x y. refl) (all_fine _ ws h)
 acted key.End ws h n = absurd (n refl)
 acted _ ws h n = absurd (cc)
 

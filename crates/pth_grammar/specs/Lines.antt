@@ -7,7 +7,9 @@ use Rattle.pth_line.specs.declared.line.Line.{Line}
 use Rattle.pth_line.specs.declared.line.Line.TheVariants as line
 use Rattle.pth_grammar.specs.CallLines.{call_line}
 use Rattle.pth_spelling.specs.Keywords.{keyword_of, call_word}
-use Rattle.pth_grammar.specs.Reading.{read1, read2, read4}
+use Rattle.pth_grammar.specs.Reading.{values_of, read1, read2, read4}
+use Rattle.pth_grammar.specs.declared.values.Values.{Values}
+use Rattle.pth_grammar.specs.declared.values.Values.TheVariants as values
 use Rattle.pth_spelling.specs.Words.{natural_of, register_of, operand_of, value_of, shared_of, relation_of}
 use Rattle.pth_spelling.specs.declared.keyword.Keyword.{Keyword}
 use Rattle.pth_spelling.specs.declared.keyword.Keyword.TheVariants as key
@@ -44,14 +46,27 @@ line_of (w ∷ ws) = if is_some (register_of w) then answered_line (w ∷ ws) el
 
 -- ---- a handler's acts
 
+-- by the keyword that begins it and the values after it
+abbrev pub act_with : Keyword → Values → Option ActLine
+act_with key.Note (values.One x) = Some (act.Note x)
+act_with key.Release (values.One x) = Some (act.Release x)
+act_with key.Notify (values.Two x y) = Some (act.Notify x y)
+act_with key.Put (values.Two x y) = Some (act.Put x y)
+act_with key.SetKey (values.Two x y) = Some (act.SetKey x y)
+act_with _ _ = None
+
+-- an act of a keyword and values
+abbrev pub valued : Keyword → List (List ℕ) → Option ActLine
+valued k ws = option_and_then (λ v. act_with k v) (values_of ws)
+
 -- by the keyword that begins it
 abbrev pub act_by : Option Keyword → List (List ℕ) → Option ActLine
-act_by (Some key.Note) ws = read1 value_of (λ x. act.Note x) ws
+act_by (Some key.Note) ws = valued key.Note ws
 act_by (Some key.Set) ws = read2 shared_of value_of (λ k x. act.Set k x) ws
-act_by (Some key.Release) ws = read1 value_of (λ x. act.Release x) ws
-act_by (Some key.Notify) ws = read2 value_of value_of (λ x y. act.Notify x y) ws
-act_by (Some key.Put) ws = read2 value_of value_of (λ x y. act.Put x y) ws
-act_by (Some key.SetKey) ws = read2 value_of value_of (λ x y. act.SetKey x y) ws
+act_by (Some key.Release) ws = valued key.Release ws
+act_by (Some key.Notify) ws = valued key.Notify ws
+act_by (Some key.Put) ws = valued key.Put ws
+act_by (Some key.SetKey) ws = valued key.SetKey ws
 act_by _ ws = None
 
 -- what a line of a handler stands for

@@ -2,7 +2,9 @@
 use Rattle.std.specs.Prelude.{ℕ, List, [], ◌∷◌, Option, Some, None, option_and_then, option_map}
 use Rattle.pth_grammar.specs.declared.operands.Operands.{Operands}
 use Rattle.pth_grammar.specs.declared.operands.Operands.TheVariants.{Zero, One, Two, Three}
-use Rattle.pth_spelling.specs.Words.{operand_of}
+use Rattle.pth_grammar.specs.declared.values.Values.{Values}
+use Rattle.pth_grammar.specs.declared.values.Values.TheVariants as values
+use Rattle.pth_spelling.specs.Words.{operand_of, value_of}
 
 abbrev pub read1 : {A R : Type 0} → (List ℕ → Option A) → (A → R) → List (List ℕ) → Option R
 read1 f build (a ∷ []) = option_map build (f a)
@@ -31,3 +33,10 @@ operands_of (a ∷ []) = option_map (λ x. One x) (operand_of a)
 operands_of (a ∷ b ∷ []) = option_and_then (λ x. option_map (λ y. Two x y) (operand_of b)) (operand_of a)
 operands_of (a ∷ b ∷ c ∷ []) = option_and_then (λ x. option_and_then (λ y. option_map (λ z. Three x y z) (operand_of c)) (operand_of b)) (operand_of a)
 operands_of (a ∷ b ∷ c ∷ d ∷ ws) = None
+
+-- the values of one word or two, where each is one
+unfoldable pub values_of : List (List ℕ) → Option Values
+values_of [] = None
+values_of (a ∷ []) = option_map (λ x. values.One x) (value_of a)
+values_of (a ∷ b ∷ []) = option_and_then (λ x. option_map (λ y. values.Two x y) (value_of b)) (value_of a)
+values_of (a ∷ b ∷ c ∷ ws) = None

@@ -23,3 +23,4 @@ mod store_line;
 mod tests;
 mod thread_line;
 mod time_line;
+mod values;

@@ -1,12 +1,14 @@
 //! What the words of a line stand for.
 
-ghost use Rattle.std.specs.Prelude.{◌≡◌, IfOk, option_and_then, option_map};
+ghost use Rattle.std.specs.Prelude.{◌≡◌, IfOk, Some};
 ghost use Rattle.pth_grammar.specs.CallLines.{call_line};
 ghost use Rattle.pth_spelling.specs.Keywords.{call_word, keyword_of};
-ghost use Rattle.pth_grammar.specs.Lines.{plain_line, line_by, answered_line, line_of, act_by, act_of, check_by, check_of, numbered};
+ghost use Rattle.pth_grammar.specs.Lines.{plain_line, line_by, answered_line, line_of, act_with, act_by, act_of, check_of, numbered};
 ghost use Rattle.pth_spelling.specs.Texts.{texts};
+ghost use Rattle.pth_spelling.specs.declared.keyword.Keyword.TheVariants as key;
 
 use crate::call_line::call_line;
+use crate::values::{Values, read_values};
 use pth_base::memory::OutOfMemory;
 use pth_line::act_line::ActLine;
 use pth_line::check::Check;
@@ -108,20 +110,38 @@ pub fn line(alloc: Global, words: &[&[u8]]) -> Result<Option<Line>, OutOfMemory>
     }
 }
 
-fn act_by(keyword: Option<Keyword>, words: &[&[u8]]) -> Option<ActLine>
-    ensures { result ≡ act_by keyword (texts words.now) }
+/// The act that a keyword stands for with its values.
+fn act_with(keyword: Keyword, values: Values) -> Option<ActLine>
+    ensures { result ≡ act_with keyword values }
 {
-    match (keyword, words) {
-        (Some(Keyword::Note), [x]) => Some(ActLine::Note(value(x)?)),
-        (Some(Keyword::Set), [k, x]) => Some(ActLine::Set {
+    match (keyword, values) {
+        (Keyword::Note, Values::One(x)) => Some(ActLine::Note(x)),
+        (Keyword::Release, Values::One(x)) => Some(ActLine::Release(x)),
+        (Keyword::Notify, Values::Two(x, y)) => Some(ActLine::Notify(x, y)),
+        (Keyword::Put, Values::Two(x, y)) => Some(ActLine::Put(x, y)),
+        (Keyword::SetKey, Values::Two(x, y)) => Some(ActLine::SetKey(x, y)),
+        _ => None,
+    }
+}
+
+fn set_act(words: &[&[u8]]) -> Option<ActLine>
+    ensures { result ≡ act_by (Some key.Set) (texts words.now) }
+{
+    match words {
+        [k, x] => Some(ActLine::Set {
             cell: shared(k)?,
             value: value(x)?,
         }),
-        (Some(Keyword::Release), [x]) => Some(ActLine::Release(value(x)?)),
-        (Some(Keyword::Notify), [x, y]) => Some(ActLine::Notify(value(x)?, value(y)?)),
-        (Some(Keyword::Put), [x, y]) => Some(ActLine::Put(value(x)?, value(y)?)),
-        (Some(Keyword::SetKey), [x, y]) => Some(ActLine::SetKey(value(x)?, value(y)?)),
         _ => None,
+    }
+}
+
+fn act_by(keyword: Option<Keyword>, words: &[&[u8]]) -> Option<ActLine>
+    ensures { result ≡ act_by keyword (texts words.now) }
+{
+    match keyword? {
+        Keyword::Set => set_act(words),
+        keyword => act_with(keyword, read_values(words)?),
     }
 }
 
