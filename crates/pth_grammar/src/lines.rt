@@ -1,7 +1,8 @@
 //! What the words of a line stand for.
 
-ghost use Rattle.std.specs.Prelude.{◌≡◌, IfOk, Some};
+ghost use Rattle.std.specs.Prelude.{◌≡◌, IfOk, Some, option_map};
 ghost use Rattle.pth_grammar.specs.CallLines.{call_line};
+ghost use Rattle.pth_line.specs.declared.line.Line.TheVariants as bodies;
 ghost use Rattle.pth_spelling.specs.Keywords.{call_word, keyword_of};
 ghost use Rattle.pth_grammar.specs.Lines.{plain_line, line_by, answered_line, line_of, act_with, act_by, act_of, check_of, numbered};
 ghost use Rattle.pth_spelling.specs.Texts.{texts};
@@ -13,6 +14,7 @@ use pth_base::memory::OutOfMemory;
 use pth_line::act_line::ActLine;
 use pth_line::check::Check;
 use pth_line::line::Line;
+use pth_line::operand::{Operand, Register};
 use pth_spelling::first_word::{call_word, keyword};
 use pth_spelling::keyword::Keyword;
 use pth_spelling::words::{natural, operand, register, relation, shared, value};
@@ -29,28 +31,66 @@ pub fn numbered(words: &[&[u8]]) -> Option<i64>
     }
 }
 
-/// A line that makes no call.
-fn plain_line(keyword: Keyword, words: &[&[u8]]) -> Option<Line>
-    ensures { result ≡ plain_line keyword (texts words.now) }
+/// The register and the number of a `set` or an `add`.
+fn register_and_operand(words: &[&[u8]]) -> Option<(Register, Operand)>
+    ensures set { option_map (λ read. bodies.Set read.0 read.1) result ≡ plain_line key.Set (texts words.now) }
+    ensures add { option_map (λ read. bodies.Add read.0 read.1) result ≡ plain_line key.Add (texts words.now) }
 {
-    match (keyword, words) {
-        (Keyword::Set, [r, x]) => Some(Line::Set {
-            register: register(r)?,
-            value: operand(x)?,
-        }),
-        (Keyword::Add, [r, x]) => Some(Line::Add {
-            register: register(r)?,
-            value: operand(x)?,
-        }),
-        (Keyword::Note, [x]) => Some(Line::Note(operand(x)?)),
-        (Keyword::Label, [k]) => Some(Line::Label(natural(k)?)),
-        (Keyword::Goto, [k, x, r, y]) => Some(Line::Goto {
+    match words {
+        [r, x] => Some((register(r)?, operand(x)?)),
+        _ => None,
+    }
+}
+
+fn note_line(words: &[&[u8]]) -> Option<Line>
+    ensures { result ≡ plain_line key.Note (texts words.now) }
+{
+    match words {
+        [x] => Some(Line::Note(operand(x)?)),
+        _ => None,
+    }
+}
+
+fn label_line(words: &[&[u8]]) -> Option<Line>
+    ensures { result ≡ plain_line key.Label (texts words.now) }
+{
+    match words {
+        [k] => Some(Line::Label(natural(k)?)),
+        _ => None,
+    }
+}
+
+fn goto_line(words: &[&[u8]]) -> Option<Line>
+    ensures { result ≡ plain_line key.Goto (texts words.now) }
+{
+    match words {
+        [k, x, r, y] => Some(Line::Goto {
             label: natural(k)?,
             to: 0,
             left: operand(x)?,
             relation: relation(r)?,
             right: operand(y)?,
         }),
+        _ => None,
+    }
+}
+
+/// A line that makes no call.
+fn plain_line(keyword: Keyword, words: &[&[u8]]) -> Option<Line>
+    ensures { result ≡ plain_line keyword (texts words.now) }
+{
+    match keyword {
+        Keyword::Set => {
+            let (register, value) = register_and_operand(words)?;
+            Some(Line::Set { register, value })
+        }
+        Keyword::Add => {
+            let (register, value) = register_and_operand(words)?;
+            Some(Line::Add { register, value })
+        }
+        Keyword::Note => note_line(words),
+        Keyword::Label => label_line(words),
+        Keyword::Goto => goto_line(words),
         _ => None,
     }
 }
