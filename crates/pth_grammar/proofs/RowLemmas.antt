@@ -10,8 +10,8 @@ use Rattle.pth_grammar.specs.Reading.{operands_of, values_of, read1, read2, read
 use Rattle.pth_grammar.specs.Shapes.{misses}
 use Rattle.pth_grammar.specs.declared.operands.Operands.{Operands}
 use Rattle.pth_grammar.specs.declared.operands.Operands.TheVariants.{Zero, One, Two, Three}
-use Rattle.pth_grammar.specs.declared.values.Values.{Values}
-use Rattle.pth_grammar.specs.declared.values.Values.TheVariants as values
+use Rattle.pth_grammar.specs.declared.acts.Values.{Values}
+use Rattle.pth_grammar.specs.declared.acts.Values.TheVariants as values
 use Rattle.pth_spelling.specs.Words.{natural_of, register_of, operand_of, value_of, shared_of, name_of, set_of, bytes_of, has_hex, given_of, goals_of, which_of, relation_of, field_of, state_of, mode_of, direction_of, query_of, maybe}
 use Rattle.pth_grammar.specs.declared.form.Form.{Form}
 use Rattle.pth_grammar.specs.declared.form.Form.TheVariants as form

@@ -2,8 +2,8 @@
 use Rattle.std.specs.Prelude.{ℕ, List, [], ◌∷◌, Option, Some, None, option_and_then, option_map}
 use Rattle.pth_grammar.specs.declared.operands.Operands.{Operands}
 use Rattle.pth_grammar.specs.declared.operands.Operands.TheVariants.{Zero, One, Two, Three}
-use Rattle.pth_grammar.specs.declared.values.Values.{Values}
-use Rattle.pth_grammar.specs.declared.values.Values.TheVariants as values
+use Rattle.pth_grammar.specs.declared.acts.Values.{Values}
+use Rattle.pth_grammar.specs.declared.acts.Values.TheVariants as values
 use Rattle.pth_spelling.specs.Words.{operand_of, value_of}
 
 abbrev pub read1 : {A R : Type 0} → (List ℕ → Option A) → (A → R) → List (List ℕ) → Option R

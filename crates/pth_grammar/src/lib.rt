@@ -1,6 +1,7 @@
 //! What the lines of a script stand for, and the rules on their words.
 #![tactic(auto)]
 
+mod acts;
 mod attr_line;
 mod call_line;
 mod condition_line;
@@ -23,4 +24,3 @@ mod store_line;
 mod tests;
 mod thread_line;
 mod time_line;
-mod values;

@@ -4,12 +4,12 @@ ghost use Rattle.std.specs.Prelude.{◌≡◌, IfOk, Some, option_map};
 ghost use Rattle.pth_grammar.specs.CallLines.{call_line};
 ghost use Rattle.pth_line.specs.declared.line.Line.TheVariants as bodies;
 ghost use Rattle.pth_spelling.specs.Keywords.{call_word, keyword_of};
-ghost use Rattle.pth_grammar.specs.Lines.{plain_line, line_by, answered_line, line_of, act_with, act_by, act_of, check_of, numbered};
+ghost use Rattle.pth_grammar.specs.Lines.{plain_line, line_by, answered_line, line_of, act_of, check_of, numbered};
 ghost use Rattle.pth_spelling.specs.Texts.{texts};
 ghost use Rattle.pth_spelling.specs.declared.keyword.Keyword.TheVariants as key;
 
+use crate::acts::act_by;
 use crate::call_line::call_line;
-use crate::values::{Values, read_values};
 use pth_base::memory::OutOfMemory;
 use pth_line::act_line::ActLine;
 use pth_line::check::Check;
@@ -17,7 +17,7 @@ use pth_line::line::Line;
 use pth_line::operand::{Operand, Register};
 use pth_spelling::first_word::{call_word, keyword};
 use pth_spelling::keyword::Keyword;
-use pth_spelling::words::{natural, operand, register, relation, shared, value};
+use pth_spelling::words::{natural, operand, register, relation, value};
 use std::alloc::Global;
 
 /// The number that is not negative and follows the first word.
@@ -147,41 +147,6 @@ pub fn line(alloc: Global, words: &[&[u8]]) -> Result<Option<Line>, OutOfMemory>
                 line_by(alloc, keyword(word), operands)
             }
         }
-    }
-}
-
-/// The act that a keyword stands for with its values.
-fn act_with(keyword: Keyword, values: Values) -> Option<ActLine>
-    ensures { result ≡ act_with keyword values }
-{
-    match (keyword, values) {
-        (Keyword::Note, Values::One(x)) => Some(ActLine::Note(x)),
-        (Keyword::Release, Values::One(x)) => Some(ActLine::Release(x)),
-        (Keyword::Notify, Values::Two(x, y)) => Some(ActLine::Notify(x, y)),
-        (Keyword::Put, Values::Two(x, y)) => Some(ActLine::Put(x, y)),
-        (Keyword::SetKey, Values::Two(x, y)) => Some(ActLine::SetKey(x, y)),
-        _ => None,
-    }
-}
-
-fn set_act(words: &[&[u8]]) -> Option<ActLine>
-    ensures { result ≡ act_by (Some key.Set) (texts words.now) }
-{
-    match words {
-        [k, x] => Some(ActLine::Set {
-            cell: shared(k)?,
-            value: value(x)?,
-        }),
-        _ => None,
-    }
-}
-
-fn act_by(keyword: Option<Keyword>, words: &[&[u8]]) -> Option<ActLine>
-    ensures { result ≡ act_by keyword (texts words.now) }
-{
-    match keyword? {
-        Keyword::Set => set_act(words),
-        keyword => act_with(keyword, read_values(words)?),
     }
 }
 
