@@ -25,7 +25,10 @@ fn read_values(words: &[&[u8]]) -> Option<Values>
 {
     match words {
         [x] => Some(Values::One(value(x)?)),
-        [x, y] => Some(Values::Two(value(x)?, value(y)?)),
+        [x, y] => match (value(x), value(y)) {
+            (Some(x), Some(y)) => Some(Values::Two(x, y)),
+            _ => None,
+        },
         _ => None,
     }
 }
@@ -47,11 +50,11 @@ fn act_with(keyword: Keyword, values: Values) -> Option<ActLine>
 fn set_act(words: &[&[u8]]) -> Option<ActLine>
     ensures { result ≡ act_by (Some key.Set) (texts words.now) }
 {
-    match words {
-        [k, x] => Some(ActLine::Set {
-            cell: shared(k)?,
-            value: value(x)?,
-        }),
+    let [k, x] = words else {
+        return None;
+    };
+    match (shared(k), value(x)) {
+        (Some(cell), Some(value)) => Some(ActLine::Set { cell, value }),
         _ => None,
     }
 }

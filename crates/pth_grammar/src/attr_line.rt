@@ -48,11 +48,11 @@ fn field_line(field: Option<AttrField>, words: &[&[u8]]) -> Option<FieldLine>
 fn set_line(words: &[&[u8]]) -> Option<AttrLine>
     ensures { result ≡ set_line (texts words.now) }
 {
-    match words {
-        [a, f, words @ ..] => Some(AttrLine::Set {
-            a: operand(a)?,
-            v: field_line(field(f), words)?,
-        }),
+    let [a, f, words @ ..] = words else {
+        return None;
+    };
+    match (operand(a), field_line(field(f), words)) {
+        (Some(a), Some(v)) => Some(AttrLine::Set { a, v }),
         _ => None,
     }
 }
@@ -60,11 +60,11 @@ fn set_line(words: &[&[u8]]) -> Option<AttrLine>
 fn get_line(words: &[&[u8]]) -> Option<AttrLine>
     ensures { result ≡ attr_line attrs.Get (texts words.now) }
 {
-    match words {
-        [a, f] => Some(AttrLine::Get {
-            a: operand(a)?,
-            f: field(f)?,
-        }),
+    let [a, f] = words else {
+        return None;
+    };
+    match (operand(a), field(f)) {
+        (Some(a), Some(f)) => Some(AttrLine::Get { a, f }),
         _ => None,
     }
 }

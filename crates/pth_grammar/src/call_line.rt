@@ -24,11 +24,11 @@ use std::alloc::Global;
 fn chain_line(words: &[&[u8]]) -> Option<CallLine>
     ensures { result ≡ chain_line (texts words.now) }
 {
-    match words {
-        [e, word, words @ ..] => Some(CallLine::Chain {
-            e: operand(e)?,
-            line: chained_line(event_word(word), words)?,
-        }),
+    let [e, word, words @ ..] = words else {
+        return None;
+    };
+    match (operand(e), chained_line(event_word(word), words)) {
+        (Some(e), Some(line)) => Some(CallLine::Chain { e, line }),
         _ => None,
     }
 }

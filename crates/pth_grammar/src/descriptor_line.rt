@@ -50,13 +50,12 @@ fn select_ev_line(words: &[&[u8]]) -> Option<DescriptorLine>
     let [r, w, x, l, e] = words else {
         return None;
     };
-    let (Some(r), Some(w), Some(x)) = (set(r), set(w), set(x)) else {
-        return None;
-    };
-    let (Some(l), Some(e)) = (operand(l), operand(e)) else {
-        return None;
-    };
-    Some(DescriptorLine::SelectEv { r, w, x, l, e })
+    match (set(r), set(w), set(x), operand(l), operand(e)) {
+        (Some(r), Some(w), Some(x), Some(l), Some(e)) => {
+            Some(DescriptorLine::SelectEv { r, w, x, l, e })
+        }
+        _ => None,
+    }
 }
 
 fn write_line(alloc: Global, words: &[&[u8]]) -> Result<Option<DescriptorLine>, OutOfMemory>

@@ -29,11 +29,11 @@ fn event_by(word: EventWord, numbers: Operands) -> Option<EventLine>
 fn fd_line(words: &[&[u8]]) -> Option<EventLine>
     ensures { result ≡ event_line events.Fd (texts words.now) }
 {
-    match words {
-        [g, fd] => Some(EventLine::Fd {
-            goals: goals(g)?,
-            fd: operand(fd)?,
-        }),
+    let [g, fd] = words else {
+        return None;
+    };
+    match (goals(g), operand(fd)) {
+        (Some(goals), Some(fd)) => Some(EventLine::Fd { goals, fd }),
         _ => None,
     }
 }
@@ -41,12 +41,11 @@ fn fd_line(words: &[&[u8]]) -> Option<EventLine>
 fn select_line(words: &[&[u8]]) -> Option<EventLine>
     ensures { result ≡ event_line events.Select (texts words.now) }
 {
-    match words {
-        [r, w, x] => Some(EventLine::Select {
-            r: set(r)?,
-            w: set(w)?,
-            x: set(x)?,
-        }),
+    let [r, w, x] = words else {
+        return None;
+    };
+    match (set(r), set(w), set(x)) {
+        (Some(r), Some(w), Some(x)) => Some(EventLine::Select { r, w, x }),
         _ => None,
     }
 }
@@ -54,11 +53,11 @@ fn select_line(words: &[&[u8]]) -> Option<EventLine>
 fn tid_line(words: &[&[u8]]) -> Option<EventLine>
     ensures { result ≡ event_line events.Tid (texts words.now) }
 {
-    match words {
-        [s, tid] => Some(EventLine::Tid {
-            state: state(s)?,
-            tid: operand(tid)?,
-        }),
+    let [s, tid] = words else {
+        return None;
+    };
+    match (state(s), operand(tid)) {
+        (Some(state), Some(tid)) => Some(EventLine::Tid { state, tid }),
         _ => None,
     }
 }

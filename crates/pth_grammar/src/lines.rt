@@ -36,8 +36,11 @@ fn register_and_operand(words: &[&[u8]]) -> Option<(Register, Operand)>
     ensures set { option_map (λ read. bodies.Set read.0 read.1) result ≡ plain_line key.Set (texts words.now) }
     ensures add { option_map (λ read. bodies.Add read.0 read.1) result ≡ plain_line key.Add (texts words.now) }
 {
-    match words {
-        [r, x] => Some((register(r)?, operand(x)?)),
+    let [r, x] = words else {
+        return None;
+    };
+    match (register(r), operand(x)) {
+        (Some(register), Some(value)) => Some((register, value)),
         _ => None,
     }
 }
@@ -63,13 +66,16 @@ fn label_line(words: &[&[u8]]) -> Option<Line>
 fn goto_line(words: &[&[u8]]) -> Option<Line>
     ensures { result ≡ plain_line key.Goto (texts words.now) }
 {
-    match words {
-        [k, x, r, y] => Some(Line::Goto {
-            label: natural(k)?,
+    let [k, x, r, y] = words else {
+        return None;
+    };
+    match (natural(k), operand(x), relation(r), operand(y)) {
+        (Some(label), Some(left), Some(relation), Some(right)) => Some(Line::Goto {
+            label,
             to: 0,
-            left: operand(x)?,
-            relation: relation(r)?,
-            right: operand(y)?,
+            left,
+            relation,
+            right,
         }),
         _ => None,
     }
@@ -169,9 +175,12 @@ pub fn check_line(words: &[&[u8]]) -> Option<Check>
     let [_, _, x, r, y] = words else {
         return None;
     };
-    Some(Check {
-        left: value(x)?,
-        relation: relation(r)?,
-        right: value(y)?,
-    })
+    match (value(x), relation(r), value(y)) {
+        (Some(left), Some(relation), Some(right)) => Some(Check {
+            left,
+            relation,
+            right,
+        }),
+        _ => None,
+    }
 }

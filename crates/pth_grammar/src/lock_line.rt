@@ -28,13 +28,11 @@ fn lock_by(word: LockWord, numbers: Operands) -> Option<LockLine>
 fn rw_acquire_line(words: &[&[u8]]) -> Option<LockLine>
     ensures { result ≡ lock_line locks.RwAcquire (texts words.now) }
 {
-    match words {
-        [l, write, v, e] => Some(LockLine::RwAcquire {
-            l: operand(l)?,
-            write: mode(write)?,
-            v: operand(v)?,
-            e: operand(e)?,
-        }),
+    let [l, write, v, e] = words else {
+        return None;
+    };
+    match (operand(l), mode(write), operand(v), operand(e)) {
+        (Some(l), Some(write), Some(v), Some(e)) => Some(LockLine::RwAcquire { l, write, v, e }),
         _ => None,
     }
 }

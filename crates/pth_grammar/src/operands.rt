@@ -24,8 +24,14 @@ pub(crate) fn read_operands(words: &[&[u8]]) -> Option<Operands>
     match words {
         [] => Some(Operands::Zero),
         [x] => Some(Operands::One(operand(x)?)),
-        [x, y] => Some(Operands::Two(operand(x)?, operand(y)?)),
-        [x, y, z] => Some(Operands::Three(operand(x)?, operand(y)?, operand(z)?)),
+        [x, y] => match (operand(x), operand(y)) {
+            (Some(x), Some(y)) => Some(Operands::Two(x, y)),
+            _ => None,
+        },
+        [x, y, z] => match (operand(x), operand(y), operand(z)) {
+            (Some(x), Some(y), Some(z)) => Some(Operands::Three(x, y, z)),
+            _ => None,
+        },
         _ => None,
     }
 }

@@ -7,7 +7,6 @@ ghost use Rattle.pth_spelling.specs.declared.keyword.RingWord.TheVariants as rin
 
 use crate::operands::{Operands, read_operands};
 use pth_line::ring_line::RingLine;
-use pth_spelling::direction::Direction;
 use pth_spelling::keyword::RingWord;
 use pth_spelling::words::{direction, operand, which};
 
@@ -30,26 +29,24 @@ fn walk_line(words: &[&[u8]]) -> Option<RingLine>
     let [e, d] = words else {
         return None;
     };
-    let e = operand(e)?;
-    let Direction {
-        forward,
-        until_occurred,
-    } = direction(d)?;
-    Some(RingLine::Walk {
-        e,
-        forward,
-        until_occurred,
-    })
+    match (operand(e), direction(d)) {
+        (Some(e), Some(direction)) => Some(RingLine::Walk {
+            e,
+            forward: direction.forward,
+            until_occurred: direction.until_occurred,
+        }),
+        _ => None,
+    }
 }
 
 fn free_line(words: &[&[u8]]) -> Option<RingLine>
     ensures { result ≡ ring_line rings.Free (texts words.now) }
 {
-    match words {
-        [e, all] => Some(RingLine::Free {
-            e: operand(e)?,
-            all: which(all)?,
-        }),
+    let [e, all] = words else {
+        return None;
+    };
+    match (operand(e), which(all)) {
+        (Some(e), Some(all)) => Some(RingLine::Free { e, all }),
         _ => None,
     }
 }
