@@ -17,6 +17,4 @@ pub mod outcome;
 pub mod program;
 pub mod query;
 pub mod refusal;
-#[cfg(test)]
-mod tests;
 pub mod thread;

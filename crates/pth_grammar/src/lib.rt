@@ -20,7 +20,5 @@ pub mod rule;
 pub mod section;
 mod shape;
 mod store_line;
-#[cfg(test)]
-mod tests;
 mod thread_line;
 mod time_line;

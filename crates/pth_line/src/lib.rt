@@ -20,7 +20,5 @@ pub mod relation;
 pub mod ring_line;
 pub mod script;
 pub mod store_line;
-#[cfg(test)]
-mod tests;
 pub mod thread_line;
 pub mod time_line;

@@ -1,7 +1,7 @@
 //! The program as one call, over the objects that it is handed.
 #![tactic(auto)]
 
-mod drive;
+pub mod drive;
 mod faults;
 pub mod laws;
 mod report;
@@ -12,6 +12,3 @@ mod top;
 
 pub use report::report_fault;
 pub use top::play;
-
-#[cfg(test)]
-mod tests;

@@ -17,6 +17,4 @@ mod object_call;
 mod query;
 mod set;
 pub mod summary_line;
-#[cfg(test)]
-mod tests;
 mod word;

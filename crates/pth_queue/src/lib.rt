@@ -6,5 +6,3 @@ mod lines;
 pub mod queue;
 pub mod queue_set;
 pub mod row;
-#[cfg(test)]
-mod tests;

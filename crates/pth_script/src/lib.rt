@@ -8,8 +8,6 @@ pub mod laws;
 pub mod read;
 mod reader;
 mod rows;
-#[cfg(test)]
-mod tests;
 
 pub use pth_grammar::rule::Rule;
 pub use pth_line::script::Script;

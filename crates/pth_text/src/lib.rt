@@ -4,7 +4,5 @@
 pub mod hex;
 pub mod line;
 pub mod number;
-#[cfg(test)]
-mod tests;
 pub mod text;
 pub mod words;

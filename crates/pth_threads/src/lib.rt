@@ -2,6 +2,4 @@
 #![tactic(auto)]
 
 pub mod entry;
-#[cfg(test)]
-mod tests;
 pub mod threads;

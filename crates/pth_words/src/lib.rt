@@ -3,6 +3,4 @@
 
 pub mod choice;
 mod command;
-#[cfg(test)]
-mod tests;
 pub mod words;

@@ -1,0 +1,86 @@
+//! Handlers and checks of scripts, which no run comes to.
+
+use pth_base::answer::Answer;
+use pth_base::ids::{CheckId, HandlerId, Tid};
+use pth_base::mark::Mark;
+use pth_base::program::Program;
+use pth_line::cells::Cells;
+use pth_line::script::Script;
+use pth_print::mark_line::mark_line;
+use pth_script::read::read;
+use pth_text::text::Text;
+use std::alloc::Global;
+use std::test::Fail;
+
+const HANDLERS: &str =
+    "pth 1\nhandler 0\nnote arg\nset v1 arg\nrelease v1\nnotify 0 v1\nput 1 -1\nsetkey 0 0\nend\nhandler 1\nend\nthread 0\nend\n";
+
+/// Adds the line of a handler's act, where there is one. Its argument is 8.
+fn add_act(
+    script: &Script,
+    handler: u32,
+    index: u32,
+    cells: &mut Cells,
+    text: &mut Text,
+) -> Result<(), Fail> {
+    if let Some(act) = script.act(HandlerId(handler), 8, index, cells) {
+        let mark = Mark::Acted {
+            tid: Tid(1),
+            act,
+            answer: Answer::Int(1),
+        };
+        mark_line(&mark, false, text)?;
+    }
+    Ok(())
+}
+
+#[test]
+fn a_handler_acts(rt: HostRuntime) -> Result<(), Fail> {
+    let script = read(rt.alloc(), HANDLERS.as_bytes())?;
+    let mut cells = Cells { cells: [0; 64] };
+    let mut text = Text::new(rt.alloc());
+    for handler in 0..3 {
+        for index in 0..7 {
+            add_act(&script, handler, index, &mut cells, &mut text)?;
+        }
+    }
+    assert_eq!(rt;
+        text.as_slice(),
+        b"t1 act note 8\nt1 act set v1 8\nt1 act release 8 = 1\nt1 act notify 0 8 = 1\nt1 act put 1 -1 = 1\nt1 act setkey 0 0 = 1\n".as_slice()
+    );
+    Ok(())
+}
+
+const CHECKS: &str =
+    "pth 1\ncheck 0 arg eq v0\ncheck 1 arg ne v0\ncheck 2 arg lt v0\ncheck 3 arg le v0\ncheck 4 arg gt v0\ncheck 5 arg ge v0\nthread 0\nend\n";
+
+/// The arguments 6, 7 and 8 for which a check holds where v0 is 7.
+fn holding(alloc: Global, script: &Script, check: u32) -> Result<String, Fail> {
+    let mut cells = Cells { cells: [0; 64] };
+    cells.cells[0] = 7;
+    let mut text = String::new(alloc);
+    for arg in 6..9 {
+        if script.check(CheckId(check), arg, &cells) {
+            write!(text, "{arg}")?;
+        }
+    }
+    Ok(text)
+}
+
+#[test]
+fn a_check_holds_by_its_relation(rt: HostRuntime) -> Result<(), Fail> {
+    let script = read(rt.alloc(), CHECKS.as_bytes())?;
+    for (check, wanted) in [
+        (0, "7"),
+        (1, "68"),
+        (2, "6"),
+        (3, "67"),
+        (4, "8"),
+        (5, "78"),
+        (6, ""),
+    ] {
+        let holding = holding(rt.alloc(), &script, check)?;
+        assert_eq!(rt; holding.as_str(), wanted, "check {check}");
+    }
+    Ok(())
+}

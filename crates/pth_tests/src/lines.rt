@@ -1,0 +1,402 @@
+//! Lines that no run prints.
+
+ghost use Rattle.std.specs.Prelude.{◌≢◌};
+ghost use Rattle.pth_print.specs.Lines.{IsNamed};
+
+use pth_base::act::Act;
+use pth_base::answer::Answer;
+use pth_base::bytes::Bytes;
+use pth_base::call::Call;
+use pth_base::errno::Errno;
+use pth_base::event::EvLine;
+use pth_base::ids::{FdSet, HandlerId, MsgId, Tid};
+use pth_base::mark::Mark;
+use pth_base::name::Name;
+use pth_base::outcome::Outcome;
+use pth_base::thread::ThreadState;
+use pth_print::end_line::end_line;
+use pth_print::fault_line::{Fault, fault_line};
+use pth_print::mark_line::mark_line;
+use pth_print::summary_line::summary_line;
+use pth_text::text::Text;
+use std::alloc::Global;
+use std::test::Fail;
+
+const MARKS: [(Mark, &str); 23] = [
+    (
+        Mark::Retakes {
+            tid: Tid(5),
+            call: Call::CondAwait { c: 0, m: 1, e: 2 },
+        },
+        "t5 cond_await 0 1 2 retakes\n",
+    ),
+    (
+        Mark::Canceled {
+            tid: Tid(6),
+            call: Some(Call::CancelPoint),
+        },
+        "t6 cancel_point canceled\n",
+    ),
+    (
+        Mark::Canceled {
+            tid: Tid(7),
+            call: None,
+        },
+        "t7 canceled\n",
+    ),
+    (
+        Mark::Took {
+            tid: Tid(8),
+            mutex: 63,
+        },
+        "t8 takes mutex 63\n",
+    ),
+    (
+        Mark::Withdrew {
+            tid: Tid(9),
+            barrier: 4,
+        },
+        "t9 withdraws 4\n",
+    ),
+    (
+        Mark::Handler {
+            tid: Tid(10),
+            handler: HandlerId(255),
+            arg: -8,
+        },
+        "t10 handler 255 arg -8\n",
+    ),
+    (
+        Mark::Destructor {
+            tid: Tid(11),
+            key: 2,
+            arg: 6,
+        },
+        "t11 destructor 2 arg 6\n",
+    ),
+    (
+        Mark::GaveMutex {
+            tid: Tid(12),
+            mutex: 0,
+        },
+        "t12 gives mutex 0\n",
+    ),
+    (
+        Mark::GaveLock {
+            tid: Tid(13),
+            lock: 9,
+        },
+        "t13 gives rwlock 9\n",
+    ),
+    (
+        Mark::Woke {
+            tid: Tid(4294967295),
+            rank: -5,
+        },
+        "wake t4294967295 rank -5\n",
+    ),
+    (
+        Mark::Moved {
+            at: 18446744073709551615,
+        },
+        "idle to 18446744073709551615\n",
+    ),
+    // the first two acts have no answer
+    (
+        Mark::Acted {
+            tid: Tid(2),
+            act: Act::Note(-8),
+            answer: Answer::None,
+        },
+        "t2 act note -8\n",
+    ),
+    (
+        Mark::Acted {
+            tid: Tid(2),
+            act: Act::Set(63, -7),
+            answer: Answer::None,
+        },
+        "t2 act set v63 -7\n",
+    ),
+    (
+        Mark::Acted {
+            tid: Tid(2),
+            act: Act::Release(3),
+            answer: Answer::Int(1),
+        },
+        "t2 act release 3 = 1\n",
+    ),
+    (
+        Mark::Acted {
+            tid: Tid(2),
+            act: Act::Notify(4, 0),
+            answer: Answer::Int(1),
+        },
+        "t2 act notify 4 0 = 1\n",
+    ),
+    (
+        Mark::Acted {
+            tid: Tid(2),
+            act: Act::Put(5, -6),
+            answer: Answer::Int(1),
+        },
+        "t2 act put 5 -6 = 1\n",
+    ),
+    (
+        Mark::Acted {
+            tid: Tid(2),
+            act: Act::SetKey(9, 0),
+            answer: Answer::Fail(Errno::ENOENT),
+        },
+        "t2 act setkey 9 0 = ENOENT\n",
+    ),
+    // no script has these words
+    (
+        Mark::Waits {
+            tid: Tid(1),
+            call: Call::Plain,
+        },
+        "t1 plain waits\n",
+    ),
+    (
+        Mark::Waits {
+            tid: Tid(1),
+            call: Call::EvTid {
+                state: ThreadState::Running,
+                tid: 3,
+            },
+        },
+        "t1 ev_tid running 3 waits\n",
+    ),
+    (
+        Mark::Waits {
+            tid: Tid(1),
+            call: Call::Chain {
+                e: 6,
+                line: EvLine::Tid {
+                    state: ThreadState::Running,
+                    tid: 3,
+                },
+            },
+        },
+        "t1 chain 6 ev_tid running 3 waits\n",
+    ),
+    (
+        Mark::Waits {
+            tid: Tid(1),
+            call: Call::EvFd { goals: 248, fd: -1 },
+        },
+        "t1 ev_fd  -1 waits\n",
+    ),
+    (
+        Mark::Waits {
+            tid: Tid(1),
+            call: Call::EvFd { goals: 255, fd: 6 },
+        },
+        "t1 ev_fd rwx 6 waits\n",
+    ),
+    (
+        Mark::Waits {
+            tid: Tid(1),
+            call: Call::Chain {
+                e: 4,
+                line: EvLine::Fd { goals: 10, fd: 7 },
+            },
+        },
+        "t1 chain 4 ev_fd w 7 waits\n",
+    ),
+];
+
+fn line_of(alloc: Global, mark: &Mark, audit: bool) -> Result<Text, Fail> {
+    let mut text = Text::new(alloc);
+    mark_line(mark, audit, &mut text)?;
+    Ok(text)
+}
+
+#[test]
+fn marks_are_lines(rt: HostRuntime) -> Result<(), Fail> {
+    for (mark, line) in &MARKS {
+        let text = line_of(rt.alloc(), mark, false)?;
+        assert_eq!(rt; text.as_slice(), line.as_bytes(), "{line}");
+    }
+    Ok(())
+}
+
+#[test]
+fn an_audit_tells_how_long_was_waited(rt: HostRuntime) -> Result<(), Fail> {
+    let mark = Mark::Dispatch {
+        turn: 8,
+        at: 91,
+        tid: Tid(1),
+        rank: 5,
+        waited: 1,
+        allowed: 18446744073709551615,
+    };
+    let text = line_of(rt.alloc(), &mark, true)?;
+    assert_eq!(rt;
+        text.as_slice(),
+        b"turn 8 at 91 t1 rank 5 waited 1 allowed 18446744073709551615\n".as_slice()
+    );
+    Ok(())
+}
+
+const ANSWERS: [(Answer, &str); 18] = [
+    (Answer::None, "none"),
+    (
+        Answer::Sets {
+            count: 0,
+            r: FdSet(0),
+            w: FdSet(0),
+            x: FdSet(0),
+        },
+        "0 sets - - -",
+    ),
+    (
+        Answer::Sets {
+            count: 4,
+            r: FdSet(1 << 63 | 1),
+            w: FdSet(2),
+            x: FdSet(16),
+        },
+        "4 sets 0,63 1 4",
+    ),
+    (
+        Answer::Msg {
+            id: MsgId(3),
+            value: -4,
+        },
+        "msg 3 value -4",
+    ),
+    (
+        Answer::Msg {
+            id: MsgId(18446744073709551615),
+            value: 0,
+        },
+        "msg 18446744073709551615 value 0",
+    ),
+    (Answer::Fail(Errno::EPERM), "EPERM"),
+    (Answer::Fail(Errno::ENOENT), "ENOENT"),
+    (Answer::Fail(Errno::ESRCH), "ESRCH"),
+    (Answer::Fail(Errno::EINTR), "EINTR"),
+    (Answer::Fail(Errno::EIO), "EIO"),
+    (Answer::Fail(Errno::EBADF), "EBADF"),
+    (Answer::Fail(Errno::EAGAIN), "EAGAIN"),
+    (Answer::Fail(Errno::EACCES), "EACCES"),
+    (Answer::Fail(Errno::EBUSY), "EBUSY"),
+    (Answer::Fail(Errno::EEXIST), "EEXIST"),
+    (Answer::Fail(Errno::EINVAL), "EINVAL"),
+    (Answer::Fail(Errno::EDEADLK), "EDEADLK"),
+    (Answer::Fail(Errno::ECONNREFUSED), "ECONNREFUSED"),
+];
+
+/// The line of a call that has an answer.
+fn answer_line(alloc: Global, answer: Answer) -> Result<Text, Fail> {
+    let mark = Mark::Answered {
+        tid: Tid(1),
+        call: Call::SelfTid,
+        answer,
+    };
+    line_of(alloc, &mark, false)
+}
+
+#[test]
+fn answers_are_words(rt: HostRuntime) -> Result<(), Fail> {
+    for (answer, words) in &ANSWERS {
+        let text = answer_line(rt.alloc(), answer.copy()?)?;
+        let line = format!(in rt.alloc(); "t1 self = {words}\n")?;
+        assert_eq!(rt; text.as_slice(), line.as_bytes());
+    }
+    Ok(())
+}
+
+#[test]
+fn bytes_are_words(rt: HostRuntime) -> Result<(), Fail> {
+    let bytes = Bytes::from_slice(rt.alloc(), b"\x00\n\x7f\x80\xff")?;
+    let text = answer_line(rt.alloc(), Answer::Bytes(bytes))?;
+    assert_eq!(rt; text.as_slice(), b"t1 self = hex:000a7f80ff\n".as_slice());
+    Ok(())
+}
+
+#[test]
+fn names_are_words(rt: HostRuntime) -> Result<(), Fail> {
+    // of 40 bytes
+    let name = "a23456789.b23456789.c23456789.d23456789_";
+    assert!(rt; name.is_ascii());
+    let text = answer_line(rt.alloc(), Answer::Text(Name::cut(name)))?;
+    assert_eq!(rt;
+        text.as_slice(),
+        b"t1 self = a23456789.b23456789.c23456789.d23456789_\n".as_slice()
+    );
+    Ok(())
+}
+
+static OUTCOMES: [(Outcome, &[Tid], &str); 5] = [
+    (
+        Outcome::Running,
+        &[Tid(1)],
+        "step limit 18446744073709551615\n",
+    ),
+    (Outcome::Killed, &[Tid(1)], "killed\n"),
+    (Outcome::Stalled, &[], "stalled\n"),
+    (Outcome::Stalled, &[Tid(1)], "stalled t1\n"),
+    (
+        Outcome::Stalled,
+        &[Tid(1), Tid(40), Tid(4294967295)],
+        "stalled t1 t40 t4294967295\n",
+    ),
+];
+
+#[test]
+fn outcomes_are_lines(rt: HostRuntime) -> Result<(), Fail> {
+    for (outcome, live, line) in OUTCOMES {
+        assert!(rt; !matches!(outcome, Outcome::OutOfMemory));
+        let mut text = Text::new(rt.alloc());
+        end_line(&outcome, u64::MAX, live, &mut text)?;
+        assert_eq!(rt; text.as_slice(), line.as_bytes(), "{line}");
+    }
+    Ok(())
+}
+
+#[test]
+fn counts_are_a_line(rt: HostRuntime) -> Result<(), Fail> {
+    let mut text = Text::new(rt.alloc());
+    summary_line(u64::MAX, 2, 3, u64::MAX - 1, &mut text)?;
+    assert_eq!(rt;
+        text.as_slice(),
+        b"summary threads 18446744073709551615 turns 2 steps 3 time 18446744073709551614\n".as_slice()
+    );
+    Ok(())
+}
+
+static RULES: [(u8, &str); 2] = [
+    (11, "pth_play: line 4294967295: time\n"),
+    (12, "pth_play: line 4294967295: fd\n"),
+];
+
+#[test]
+fn rules_without_a_script_are_named(rt: HostRuntime) -> Result<(), Fail> {
+    for (rule, told) in RULES {
+        assert!(rt; rule < 13);
+        let mut text = Text::new(rt.alloc());
+        fault_line(
+            &Fault::Input {
+                line: 4294967295,
+                rule,
+            },
+            &mut text,
+        )?;
+        assert_eq!(rt; text.as_slice(), told.as_bytes());
+    }
+    Ok(())
+}
+
+#[test]
+fn want_of_memory_is_told(rt: HostRuntime) -> Result<(), Fail> {
+    let mut text = Text::new(rt.alloc());
+    fault_line(&Fault::OutOfMemory, &mut text)?;
+    assert_eq!(rt;
+        (text.as_slice(), Fault::OutOfMemory.status()),
+        (b"pth_play: out of memory\n".as_slice(), 7)
+    );
+    Ok(())
+}

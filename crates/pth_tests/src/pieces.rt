@@ -1,0 +1,64 @@
+ghost use Rattle.std.specs.Prelude.{◌≡◌, ◌≤◌, IfOk};
+
+use crate::playing::{SCRIPT, TRANSCRIPT};
+use pth_base::outcome::Outcome;
+use pth_line::script::Script;
+use pth_player::drive::drive;
+use pth_sched::machine::Machine;
+use pth_script::read::read;
+use pth_streams::sink::SureSink;
+use pth_words::choice::Choice;
+use std::alloc::Global;
+use std::str;
+use std::test::Fail;
+
+const TWO_STEPS: &str =
+    "turn 1 at 0 t1 rank 0\nt1 spawn 1 9 0 = 2\nt1 yield 0 = 1\nturn 2 at 1 t2 rank 1\nstep limit 2\n";
+
+/// How many steps are made, how many between two writes, and what is written.
+static PIECES: [(u64, u64, &str); 7] = [
+    (1000, 1, TRANSCRIPT),
+    (1000, 2, TRANSCRIPT),
+    (1000, 3, TRANSCRIPT),
+    (1000, 1000, TRANSCRIPT),
+    (4, 1, TRANSCRIPT),
+    // the second turn has begun where the limit is met
+    (2, 1, TWO_STEPS),
+    (0, 1, "turn 1 at 0 t1 rank 0\nstep limit 0\n"),
+];
+
+fn machine(alloc: Global) -> Result<Machine<Script>, Fail>
+    ensures { IfOk result (λ machine. machine.steps ≡ 0) }
+{
+    let script = read(alloc, SCRIPT.as_bytes())?;
+    Ok(Machine::new(alloc, script)?)
+}
+
+/// What is written of the run, and whether it goes on.
+fn driven(alloc: Global, steps: u64, piece: u64) -> Result<String, Fail>
+    requires few { steps ≤ 1000 }
+    requires nonzero { 1 ≤ piece }
+{
+    let mut machine = machine(alloc)?;
+    let mut out = SureSink::new(alloc);
+    let choice = Choice {
+        steps,
+        summary: false,
+        file: None,
+    };
+    let outcome = drive(alloc, &mut machine, &choice, piece, &mut out)?;
+    let goes_on = matches!(outcome, Outcome::Running);
+    let written = str::from_utf8(out.as_slice())?;
+    Ok(format!(in alloc; "{written}{goes_on}")?)
+}
+
+#[test]
+fn pieces_make_one_transcript(rt: HostRuntime) -> Result<(), Fail> {
+    for (steps, piece, written) in PIECES {
+        assert!(rt; steps <= 1000 && piece > 0);
+        let got = driven(rt.alloc(), steps, piece)?;
+        let wanted = format!(in rt.alloc(); "{written}{}", steps < 4)?;
+        assert_eq!(rt; got.as_str(), wanted.as_str());
+    }
+    Ok(())
+}
