@@ -10,15 +10,15 @@ mod played;
 use crate::escapes::unescaped;
 use crate::played::{last_word, play_script};
 use anyhow::Result;
+use std::alloc::AllocError;
 use std::rt::Files;
 use std::{env, fs};
 
 /// Prints all that a script's run writes, and its status.
 fn print_run(rt: &(impl Print + AllocGlobal), line: &str, script: &str) -> Result<()> {
-    let played = play_script(rt.alloc(), line, script)?;
-    println!(rt; "== {line}")?;
-    print!(rt; "{}", played.written.as_str())?;
-    println!(rt; "status {}", played.status)?;
+    let played = play_script(rt.alloc(), line, script).map_err(|_| AllocError)?;
+    let written = played.written(rt.alloc())?;
+    println!(rt; "== {line}\n{written}status {}", played.status)?;
     Ok(())
 }
 
@@ -38,8 +38,10 @@ fn print_texts(rt: &(impl Print + AllocGlobal), line: &str, list: &str) -> Resul
 
 fn print_text(rt: &(impl Print + AllocGlobal), line: &str, text: &str) -> Result<()> {
     let script = unescaped(rt.alloc(), text)?;
-    let played = play_script(rt.alloc(), line, script.as_str())?;
-    println!(rt; "{text} -> {} {}", played.status, played.last_line())?;
+    let played = play_script(rt.alloc(), line, script.as_str()).map_err(|_| AllocError)?;
+    let written = played.written(rt.alloc())?;
+    let last = written.lines().last().unwrap_or("");
+    println!(rt; "{text} -> {} {last}", played.status)?;
     Ok(())
 }
 

@@ -13,14 +13,16 @@ use std::str;
 #[derive(Drop)]
 pub struct Played {
     pub status: u8,
-    /// All that was written, to the output and then to the error output.
-    pub written: String,
+    out: SureSink,
+    err: SureSink,
 }
 
 impl Played {
-    /// The last line that was written, or an empty one.
-    pub fn last_line(&self) -> &str {
-        self.written.lines().last().unwrap_or("")
+    /// All that was written, to the output and then to the error output.
+    pub fn written(&self, alloc: Global) -> Result<String> {
+        let out = str::from_utf8(self.out.as_slice())?;
+        let err = str::from_utf8(self.err.as_slice())?;
+        Ok(format!(in alloc; "{out}{err}")?)
     }
 }
 
@@ -40,21 +42,22 @@ fn words_of(alloc: Global, line: &str) -> Result<Vec<String>, AllocError> {
     Ok(words)
 }
 
-/// The one file that there is has this name and holds this script.
-fn file_of(alloc: Global, name: &str, script: &str) -> Result<MemoryFiles, OutOfMemory> {
-    MemoryFiles::new(alloc, name, script.as_bytes(), &[])
-}
-
-/// Plays a script under the words of a line, the last of which is its name. The input is empty.
-pub fn play_script(alloc: Global, line: &str, script: &str) -> Result<Played> {
-    let words = words_of(alloc, line)?;
-    let mut input = SureSource::new(alloc, b"").map_err(|_| AllocError)?;
-    let mut files = file_of(alloc, last_word(line), script).map_err(|_| AllocError)?;
+/// Plays over an input that is empty.
+fn play_files(
+    alloc: Global,
+    words: &Vec<String>,
+    files: &mut MemoryFiles,
+) -> Result<Played, OutOfMemory> {
+    let mut input = SureSource::new(alloc, b"")?;
     let mut out = SureSink::new(alloc);
     let mut err = SureSink::new(alloc);
-    let status = play(alloc, &words, &mut input, &mut files, &mut out, &mut err);
-    let out = str::from_utf8(out.as_slice())?;
-    let err = str::from_utf8(err.as_slice())?;
-    let written = format!(in alloc; "{out}{err}")?;
-    Ok(Played { status, written })
+    let status = play(alloc, words, &mut input, files, &mut out, &mut err);
+    Ok(Played { status, out, err })
+}
+
+/// Plays a script under the words of a line, the last of which is the name of the one file that there is.
+pub fn play_script(alloc: Global, line: &str, script: &str) -> Result<Played, OutOfMemory> {
+    let words = words_of(alloc, line)?;
+    let mut files = MemoryFiles::new(alloc, last_word(line), script.as_bytes(), &[])?;
+    play_files(alloc, &words, &mut files)
 }

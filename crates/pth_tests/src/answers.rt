@@ -26,25 +26,29 @@ fn owed(alloc: Global) -> Result<Frame, Fail> {
     })
 }
 
-/// The register, the error, the bytes and the message.
-fn kept(alloc: Global, frame: &Frame) -> Result<String, Fail> {
-    let bytes = frame.buffer.as_slice();
-    Ok(format!(in alloc;
-        "{} {} {bytes:?} {}",
-        frame.registers[2], frame.error, frame.message
-    )?)
-}
-
-fn answered(alloc: Global, answer: &Answer) -> Result<String, Fail> {
+/// Hands an answer to the thread.
+fn hand(alloc: Global, frame: &mut Frame, answer: &Answer) -> Result<(), Fail> {
     let script = read(alloc, b"pth 1\nthread 0\nend\n")?;
-    let mut frame = owed(alloc)?;
     let mut cells = Cells { cells: [0; 64] };
-    let _exit = script.step(alloc, &mut frame, &mut cells, answer)?;
-    kept(alloc, &frame)
+    let _exit = script.step(alloc, frame, &mut cells, answer)?;
+    Ok(())
 }
 
-const ANSWERS: [(Answer, &str); 5] = [
-    (Answer::Int(-4), "-4 0 [97, 98] 9"),
+/// The register, the error, the first byte and the message.
+fn kept(alloc: Global, answer: &Answer) -> Result<[i64; 4], Fail> {
+    let mut frame = owed(alloc)?;
+    hand(alloc, &mut frame, answer)?;
+    let first = frame.buffer.as_slice().first().copied().unwrap_or(0);
+    Ok([
+        frame.registers[2],
+        frame.error,
+        i64::from(first),
+        frame.message,
+    ])
+}
+
+const ANSWERS: [(Answer, [i64; 4]); 5] = [
+    (Answer::Int(-4), [-4, 0, 97, 9]),
     (
         Answer::Sets {
             count: 3,
@@ -52,30 +56,30 @@ const ANSWERS: [(Answer, &str); 5] = [
             w: FdSet(0),
             x: FdSet(1),
         },
-        "3 0 [97, 98] 9",
+        [3, 0, 97, 9],
     ),
     (
         Answer::Msg {
             id: MsgId(12),
             value: -8,
         },
-        "-8 0 [97, 98] 12",
+        [-8, 0, 97, 12],
     ),
     (
         Answer::Msg {
             id: MsgId(18446744073709551615),
             value: -8,
         },
-        "-8 0 [97, 98] 9223372036854775807",
+        [-8, 0, 97, 9223372036854775807],
     ),
-    (Answer::Fail(Errno::ECONNREFUSED), "-1 111 [97, 98] 9"),
+    (Answer::Fail(Errno::ECONNREFUSED), [-1, 111, 97, 9]),
 ];
 
 #[test]
 fn a_register_receives_a_number(rt: HostRuntime) -> Result<(), Fail> {
     for (answer, wanted) in &ANSWERS {
-        let kept = answered(rt.alloc(), answer)?;
-        assert_eq!(rt; kept.as_str(), *wanted);
+        let kept = kept(rt.alloc(), answer)?;
+        assert_eq!(rt; kept, *wanted);
     }
     Ok(())
 }
@@ -83,8 +87,8 @@ fn a_register_receives_a_number(rt: HostRuntime) -> Result<(), Fail> {
 #[test]
 fn bytes_are_kept(rt: HostRuntime) -> Result<(), Fail> {
     let answer = Answer::Bytes(Bytes::from_slice(rt.alloc(), b"cdef")?);
-    let kept = answered(rt.alloc(), &answer)?;
-    assert_eq!(rt; kept.as_str(), "4 0 [99, 100, 101, 102] 9");
+    let kept = kept(rt.alloc(), &answer)?;
+    assert_eq!(rt; kept, [4, 0, 99, 9]);
     Ok(())
 }
 
@@ -92,7 +96,8 @@ fn bytes_are_kept(rt: HostRuntime) -> Result<(), Fail> {
 fn a_name_counts_as_its_length(rt: HostRuntime) -> Result<(), Fail> {
     let name = "unknown";
     assert!(rt; name.is_ascii());
-    let kept = answered(rt.alloc(), &Answer::Text(Name::cut(name)))?;
-    assert_eq!(rt; kept.as_str(), "7 0 [97, 98] 9");
+    let answer = Answer::Text(Name::cut(name));
+    let kept = kept(rt.alloc(), &answer)?;
+    assert_eq!(rt; kept, [7, 0, 97, 9]);
     Ok(())
 }

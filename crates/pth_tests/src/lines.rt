@@ -20,9 +20,10 @@ use pth_print::mark_line::mark_line;
 use pth_print::summary_line::summary_line;
 use pth_text::text::Text;
 use std::alloc::Global;
+use std::process::Abort;
 use std::test::Fail;
 
-const MARKS: [(Mark, &str); 23] = [
+const MARKS: [(Mark, &str); 11] = [
     (
         Mark::Retakes {
             tid: Tid(5),
@@ -101,7 +102,10 @@ const MARKS: [(Mark, &str); 23] = [
         },
         "idle to 18446744073709551615\n",
     ),
-    // the first two acts have no answer
+];
+
+/// Acts of handlers, of which the first two have no answer.
+const ACTS: [(Mark, &str); 6] = [
     (
         Mark::Acted {
             tid: Tid(2),
@@ -150,7 +154,10 @@ const MARKS: [(Mark, &str); 23] = [
         },
         "t2 act setkey 9 0 = ENOENT\n",
     ),
-    // no script has these words
+];
+
+/// Calls that no script spells.
+const CALLS: [(Mark, &str); 6] = [
     (
         Mark::Waits {
             tid: Tid(1),
@@ -213,13 +220,28 @@ fn line_of(alloc: Global, mark: &Mark, audit: bool) -> Result<Text, Fail> {
     Ok(text)
 }
 
-#[test]
-fn marks_are_lines(rt: HostRuntime) -> Result<(), Fail> {
-    for (mark, line) in &MARKS {
-        let text = line_of(rt.alloc(), mark, false)?;
+/// Compares the lines of marks.
+fn have_lines(rt: &impl Abort, alloc: Global, rows: &[(Mark, &str)]) -> Result<(), Fail> {
+    for (mark, line) in rows {
+        let text = line_of(alloc, mark, false)?;
         assert_eq!(rt; text.as_slice(), line.as_bytes(), "{line}");
     }
     Ok(())
+}
+
+#[test]
+fn marks_are_lines(rt: HostRuntime) -> Result<(), Fail> {
+    have_lines(&rt, rt.alloc(), &MARKS)
+}
+
+#[test]
+fn acts_are_lines(rt: HostRuntime) -> Result<(), Fail> {
+    have_lines(&rt, rt.alloc(), &ACTS)
+}
+
+#[test]
+fn calls_without_a_spelling_are_lines(rt: HostRuntime) -> Result<(), Fail> {
+    have_lines(&rt, rt.alloc(), &CALLS)
 }
 
 #[test]

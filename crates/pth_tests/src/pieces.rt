@@ -1,7 +1,6 @@
 ghost use Rattle.std.specs.Prelude.{◌≡◌, ◌≤◌, IfOk};
 
 use crate::playing::{SCRIPT, TRANSCRIPT};
-use pth_base::outcome::Outcome;
 use pth_line::script::Script;
 use pth_player::drive::drive;
 use pth_sched::machine::Machine;
@@ -9,7 +8,6 @@ use pth_script::read::read;
 use pth_streams::sink::SureSink;
 use pth_words::choice::Choice;
 use std::alloc::Global;
-use std::str;
 use std::test::Fail;
 
 const TWO_STEPS: &str =
@@ -34,31 +32,28 @@ fn machine(alloc: Global) -> Result<Machine<Script>, Fail>
     Ok(Machine::new(alloc, script)?)
 }
 
-/// What is written of the run, and whether it goes on.
-fn driven(alloc: Global, steps: u64, piece: u64) -> Result<String, Fail>
+/// Drives the machine to so many steps.
+fn drive_to(alloc: Global, steps: u64, piece: u64, out: &mut SureSink) -> Result<(), Fail>
     requires few { steps ≤ 1000 }
     requires nonzero { 1 ≤ piece }
 {
     let mut machine = machine(alloc)?;
-    let mut out = SureSink::new(alloc);
     let choice = Choice {
         steps,
         summary: false,
         file: None,
     };
-    let outcome = drive(alloc, &mut machine, &choice, piece, &mut out)?;
-    let goes_on = matches!(outcome, Outcome::Running);
-    let written = str::from_utf8(out.as_slice())?;
-    Ok(format!(in alloc; "{written}{goes_on}")?)
+    drive(alloc, &mut machine, &choice, piece, out)?;
+    Ok(())
 }
 
 #[test]
 fn pieces_make_one_transcript(rt: HostRuntime) -> Result<(), Fail> {
     for (steps, piece, written) in PIECES {
         assert!(rt; steps <= 1000 && piece > 0);
-        let got = driven(rt.alloc(), steps, piece)?;
-        let wanted = format!(in rt.alloc(); "{written}{}", steps < 4)?;
-        assert_eq!(rt; got.as_str(), wanted.as_str());
+        let mut out = SureSink::new(rt.alloc());
+        drive_to(rt.alloc(), steps, piece, &mut out)?;
+        assert_eq!(rt; out.as_slice(), written.as_bytes());
     }
     Ok(())
 }

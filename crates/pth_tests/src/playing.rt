@@ -18,9 +18,10 @@ pub const TRANSCRIPT: &str =
 /// The room of a sink that has enough of it.
 pub const AMPLE: usize = 1000;
 
-pub fn words_of(alloc: Global, list: &[&str]) -> Result<Vec<String>, AllocError> {
+/// The words of a line, where each stands behind a `|`.
+pub fn words_of(alloc: Global, line: &str) -> Result<Vec<String>, AllocError> {
     let mut words = Vec::new(alloc);
-    for word in list {
+    for word in line.split('|').skip(1) {
         words.push(String::from_str(alloc, word)?)?;
     }
     Ok(words)
@@ -50,12 +51,12 @@ pub fn played(
 /// Plays an input that fails at one of its calls, under words that name no file.
 pub fn played_input(
     alloc: Global,
-    list: &[&str],
+    line: &str,
     text: &str,
     fails: u64,
     rooms: (usize, usize),
 ) -> Result<String, Fail> {
-    let words = words_of(alloc, list)?;
+    let words = words_of(alloc, line)?;
     let mut input = MemorySource::new(alloc, text.as_bytes(), &[fails])?;
     let mut files = MemoryFiles::new(alloc, "", b"", &[])?;
     played(alloc, &words, &mut input, &mut files, rooms)
