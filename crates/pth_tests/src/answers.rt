@@ -3,52 +3,66 @@
 use pth_base::answer::Answer;
 use pth_base::bytes::Bytes;
 use pth_base::errno::Errno;
-use pth_base::ids::{FdSet, MsgId};
+use pth_base::ids::{BodyId, FdSet, MsgId, Tid};
+use pth_base::mark::Mark;
+use pth_base::memory::OutOfMemory;
 use pth_base::name::Name;
 use pth_base::program::Program;
-use pth_line::cells::Cells;
-use pth_line::frame::{Frame, Owed};
-use pth_line::operand::Register;
+use pth_print::mark_line::mark_line;
 use pth_script::read::read;
+use pth_text::text::Text;
 use std::alloc::Global;
 use std::test::Fail;
 
-/// A thread that was last answered 16 as an error, read `ab` and got message 9, and whose call has register a2.
-fn owed(alloc: Global) -> Result<Frame, Fail> {
-    Ok(Frame {
-        body: 0,
-        line: 0,
-        registers: [0; 16],
-        error: 16,
-        buffer: Bytes::from_slice(alloc, b"ab")?,
-        message: 9,
-        owed: Owed::Answer(Some(Register::Own(2))),
-    })
+/// The first call is answered, and the others tell what was kept: the register, the error, the bytes and the message.
+const SCRIPT: &str = "pth 1\nthread 0\na2 = self\nnote a2\nnote err\nwrite 0 buf\nreply 0\nend\n";
+
+fn main_of<P: Program>(alloc: Global, program: &P) -> Result<P::State, OutOfMemory> {
+    let _bodies = program.bodies();
+    program.start(alloc, BodyId(0), 0)
 }
 
-/// Hands an answer to the thread.
-fn hand(alloc: Global, frame: &mut Frame, answer: &Answer) -> Result<(), Fail> {
-    let script = read(alloc, b"pth 1\nthread 0\nend\n")?;
-    let mut cells = Cells { cells: [0; 64] };
-    let _exit = script.step(alloc, frame, &mut cells, answer)?;
+/// Adds the thread's next call, as one that waits.
+fn add_step<P: Program>(
+    alloc: Global,
+    program: &P,
+    state: &mut P::State,
+    shared: &mut P::Shared,
+    answer: &Answer,
+    text: &mut Text,
+) -> Result<(), OutOfMemory> {
+    let call = program.step(alloc, state, shared, answer)?;
+    mark_line(&Mark::Waits { tid: Tid(1), call }, false, text)
+}
+
+/// Adds the calls of main, whose first call has this answer.
+fn add_steps<P: Program>(
+    alloc: Global,
+    program: &P,
+    answer: &Answer,
+    text: &mut Text,
+) -> Result<(), OutOfMemory> {
+    let mut shared = program.shared(alloc)?;
+    let mut state = main_of(alloc, program)?;
+    let none = Answer::None;
+    for answer in [&none, answer, &none, &none, &none] {
+        add_step(alloc, program, &mut state, &mut shared, answer, text)?;
+    }
     Ok(())
 }
 
-/// The register, the error, the first byte and the message.
-fn kept(alloc: Global, answer: &Answer) -> Result<[i64; 4], Fail> {
-    let mut frame = owed(alloc)?;
-    hand(alloc, &mut frame, answer)?;
-    let first = frame.buffer.as_slice().first().copied().unwrap_or(0);
-    Ok([
-        frame.registers[2],
-        frame.error,
-        i64::from(first),
-        frame.message,
-    ])
+fn told(alloc: Global, answer: &Answer) -> Result<Text, Fail> {
+    let script = read(alloc, SCRIPT.as_bytes())?;
+    let mut text = Text::new(alloc);
+    add_steps(alloc, &script, answer, &mut text)?;
+    Ok(text)
 }
 
-const ANSWERS: [(Answer, [i64; 4]); 5] = [
-    (Answer::Int(-4), [-4, 0, 97, 9]),
+const ANSWERS: [(Answer, &str); 5] = [
+    (
+        Answer::Int(-4),
+        "t1 self waits\nt1 note -4 waits\nt1 note 0 waits\nt1 write 0 hex: waits\nt1 reply 0 0 waits\n",
+    ),
     (
         Answer::Sets {
             count: 3,
@@ -56,30 +70,33 @@ const ANSWERS: [(Answer, [i64; 4]); 5] = [
             w: FdSet(0),
             x: FdSet(1),
         },
-        [3, 0, 97, 9],
+        "t1 self waits\nt1 note 3 waits\nt1 note 0 waits\nt1 write 0 hex: waits\nt1 reply 0 0 waits\n",
     ),
     (
         Answer::Msg {
             id: MsgId(12),
             value: -8,
         },
-        [-8, 0, 97, 12],
+        "t1 self waits\nt1 note -8 waits\nt1 note 0 waits\nt1 write 0 hex: waits\nt1 reply 12 0 waits\n",
     ),
     (
         Answer::Msg {
             id: MsgId(18446744073709551615),
             value: -8,
         },
-        [-8, 0, 97, 9223372036854775807],
+        "t1 self waits\nt1 note -8 waits\nt1 note 0 waits\nt1 write 0 hex: waits\nt1 reply 9223372036854775807 0 waits\n",
     ),
-    (Answer::Fail(Errno::ECONNREFUSED), [-1, 111, 97, 9]),
+    (
+        Answer::Fail(Errno::ECONNREFUSED),
+        "t1 self waits\nt1 note -1 waits\nt1 note 111 waits\nt1 write 0 hex: waits\nt1 reply 0 0 waits\n",
+    ),
 ];
 
 #[test]
-fn a_register_receives_a_number(rt: HostRuntime) -> Result<(), Fail> {
+fn numbers_and_messages_are_kept(rt: HostRuntime) -> Result<(), Fail> {
     for (answer, wanted) in &ANSWERS {
-        let kept = kept(rt.alloc(), answer)?;
-        assert_eq!(rt; kept, *wanted);
+        let text = told(rt.alloc(), answer)?;
+        assert_eq!(rt; text.as_slice(), wanted.as_bytes());
     }
     Ok(())
 }
@@ -87,8 +104,11 @@ fn a_register_receives_a_number(rt: HostRuntime) -> Result<(), Fail> {
 #[test]
 fn bytes_are_kept(rt: HostRuntime) -> Result<(), Fail> {
     let answer = Answer::Bytes(Bytes::from_slice(rt.alloc(), b"cdef")?);
-    let kept = kept(rt.alloc(), &answer)?;
-    assert_eq!(rt; kept, [4, 0, 99, 9]);
+    let text = told(rt.alloc(), &answer)?;
+    assert_eq!(rt;
+        text.as_slice(),
+        b"t1 self waits\nt1 note 4 waits\nt1 note 0 waits\nt1 write 0 hex:63646566 waits\nt1 reply 0 0 waits\n".as_slice()
+    );
     Ok(())
 }
 
@@ -97,7 +117,10 @@ fn a_name_counts_as_its_length(rt: HostRuntime) -> Result<(), Fail> {
     let name = "unknown";
     assert!(rt; name.is_ascii());
     let answer = Answer::Text(Name::cut(name));
-    let kept = kept(rt.alloc(), &answer)?;
-    assert_eq!(rt; kept, [7, 0, 97, 9]);
+    let text = told(rt.alloc(), &answer)?;
+    assert_eq!(rt;
+        text.as_slice(),
+        b"t1 self waits\nt1 note 7 waits\nt1 note 0 waits\nt1 write 0 hex: waits\nt1 reply 0 0 waits\n".as_slice()
+    );
     Ok(())
 }

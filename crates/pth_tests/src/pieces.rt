@@ -1,6 +1,7 @@
-ghost use Rattle.std.specs.Prelude.{◌≡◌, ◌≤◌, IfOk};
+ghost use Rattle.std.specs.Prelude.{◌≡◌, ◌≤◌, ◌+◌, IfOk};
 
 use crate::playing::{SCRIPT, TRANSCRIPT};
+use pth_base::program::Program;
 use pth_line::script::Script;
 use pth_player::drive::drive;
 use pth_sched::machine::Machine;
@@ -32,19 +33,33 @@ fn machine(alloc: Global) -> Result<Machine<Script>, Fail>
     Ok(Machine::new(alloc, script)?)
 }
 
-/// Drives the machine to so many steps.
-fn drive_to(alloc: Global, steps: u64, piece: u64, out: &mut SureSink) -> Result<(), Fail>
-    requires few { steps ≤ 1000 }
+/// Makes so many steps, and so many between two writes.
+fn drive_on<P: Program>(
+    alloc: Global,
+    machine: &mut Machine<P>,
+    steps: u64,
+    piece: u64,
+    out: &mut SureSink,
+) -> Result<(), Fail>
+    requires few { machine.old.steps + steps ≤ 1000000000 }
     requires nonzero { 1 ≤ piece }
 {
-    let mut machine = machine(alloc)?;
     let choice = Choice {
         steps,
         summary: false,
         file: None,
     };
-    drive(alloc, &mut machine, &choice, piece, out)?;
+    drive(alloc, machine, &choice, piece, out)?;
     Ok(())
+}
+
+/// Runs the script to so many steps.
+fn run_to(alloc: Global, steps: u64, piece: u64, out: &mut SureSink) -> Result<(), Fail>
+    requires few { steps ≤ 1000 }
+    requires nonzero { 1 ≤ piece }
+{
+    let mut machine = machine(alloc)?;
+    drive_on(alloc, &mut machine, steps, piece, out)
 }
 
 #[test]
@@ -52,7 +67,7 @@ fn pieces_make_one_transcript(rt: HostRuntime) -> Result<(), Fail> {
     for (steps, piece, written) in PIECES {
         assert!(rt; steps <= 1000 && piece > 0);
         let mut out = SureSink::new(rt.alloc());
-        drive_to(rt.alloc(), steps, piece, &mut out)?;
+        run_to(rt.alloc(), steps, piece, &mut out)?;
         assert_eq!(rt; out.as_slice(), written.as_bytes());
     }
     Ok(())
