@@ -1,8 +1,5 @@
 //! Lines that no run prints.
 
-ghost use Rattle.std.specs.Prelude.{◌≢◌};
-ghost use Rattle.pth_print.specs.Lines.{IsNamed};
-
 use pth_base::act::Act;
 use pth_base::answer::Answer;
 use pth_base::bytes::Bytes;
