@@ -4,10 +4,10 @@ use Rattle.std.specs.Prelude.{reverse, map, drop}
 use Rattle.std.proofs.lemmas.Bool.{cases_order}
 use Rattle.std.proofs.lemmas.List.{length-reverse}
 use Rattle.pth_text.specs.Words.{words_of}
-use Rattle.pth_grammar.specs.Keywords.{begins}
+use Rattle.pth_spelling.specs.Keywords.{begins}
 use Rattle.pth_grammar.specs.Lines.{act_of, check_of, line_of, numbered}
-use Rattle.pth_grammar.specs.declared.keyword.Keyword.{Keyword}
-use Rattle.pth_grammar.specs.declared.keyword.Keyword.TheVariants as key
+use Rattle.pth_spelling.specs.declared.keyword.Keyword.{Keyword}
+use Rattle.pth_spelling.specs.declared.keyword.Keyword.TheVariants as key
 use Rattle.pth_grammar.specs.declared.rule.Rule.TheVariants as rule
 use Rattle.pth_grammar.specs.declared.section.Section.{Section}
 use Rattle.pth_grammar.specs.declared.section.Section.TheVariants as sec
