@@ -4,7 +4,7 @@ use Rattle.std.specs.Borrow.{Bor}
 use Rattle.std.specs.Str.{bytes_eq}
 use Rattle.std.proofs.lemmas.List.{take_all}
 use Rattle.std.proofs.Math.ListN.{drop_of_length-le}
-use Rattle.std.proofs.lemmas.Bool.{cases_order}
+use Rattle.std.proofs.lemmas.Bool.{cases_order, not-false, not-true}
 use Rattle.std.proofs.Math.Seq.{take-append_seam, drop-append_seam}
 use Rattle.pth_print.specs.declared.fault_line.Fault.{Fault}
 use Rattle.pth_print.specs.declared.fault_line.Fault.TheVariants as fault
@@ -91,20 +91,12 @@ read_stood nothing old new h = tt
 read_stood the_input old new h = h.1
 read_stood (the_file name) old new h = h.1
 
-not_is : (b : Bool) → true ≡ not b → b ≡ false
-not_is true h = cc
-not_is false h = refl
-
-is_not : (b : Bool) → false ≡ not b → b ≡ true
-is_not true h = refl
-is_not false h = cc
-
 -- the object that a word names
 pub names_file : (o : Option (Bor (List ℕ))) (name : Bor (List ℕ)) → o ≡ Some name → true ≡ not (bytes_eq name.now (codes "-")) → object_named (option_map (λ n. n.now) o) ≡ the_file name.now
-names_file o name is other = ap (λ (x : Option (Bor (List ℕ))). object_named (option_map (λ n. n.now) x)) is ∙ ap (λ (b : Bool). if b then the_input else the_file name.now) (not_is _ other)
+names_file o name is other = ap (λ (x : Option (Bor (List ℕ))). object_named (option_map (λ n. n.now) x)) is ∙ ap (λ (b : Bool). if b then the_input else the_file name.now) (not-true _ (sym other))
 
 pub names_input : (o : Option (Bor (List ℕ))) (name : Bor (List ℕ)) → o ≡ Some name → false ≡ not (bytes_eq name.now (codes "-")) → object_named (option_map (λ n. n.now) o) ≡ the_input
-names_input o name is same = ap (λ (x : Option (Bor (List ℕ))). object_named (option_map (λ n. n.now) x)) is ∙ ap (λ (b : Bool). if b then the_input else the_file name.now) (is_not _ same)
+names_input o name is same = ap (λ (x : Option (Bor (List ℕ))). object_named (option_map (λ n. n.now) x)) is ∙ ap (λ (b : Bool). if b then the_input else the_file name.now) (not-false _ (sym same))
 
 pub names_none : (o : Option (Bor (List ℕ))) → ((name : Bor (List ℕ)) → o ≡ Some name → ⊥) → object_named (option_map (λ n. n.now) o) ≡ the_input
 names_none None none = refl

@@ -1,10 +1,11 @@
 -- The lines of a text, taken one by one.
-use Rattle.std.proofs.Common.{◌≡◌, ℕ, suc, ◌+◌, ◌-◌, ◌<◌, ◌≤◌, ◌==◌, Bool, true, false, cond, not, List, [], ◌∷◌, ◌++◌, length, take, drop, Option, Some, None, refl, ap, sym, ◌∙◌, arith, ⊎_elim, inl, inr, ◌⊎◌, length-append, add-one}
+use Rattle.std.proofs.Common.{◌≡◌, ℕ, suc, ◌+◌, ◌-◌, ◌<◌, ◌≤◌, ◌==◌, Bool, true, false, cond, not, List, [], ◌∷◌, ◌++◌, length, take, drop, Option, Some, None, refl, ap, sym, ◌∙◌, arith, ⊎_elim, length-append, add-one}
 use Rattle.std.specs.Prelude.{slice_get, reverse, option_map}
 use Rattle.std.specs.List.{position_or_len, position}
 use Rattle.std.proofs.Math.Seq.{take-length}
 use Rattle.std.proofs.lemmas.List.{reverse-reverse, length-reverse, take_at, get_or_at}
 use Rattle.std.proofs.lemmas.Option.{slice_get-get_or, slice_get_past}
+use Rattle.std.proofs.lemmas.Bool.{cases_Bool}
 use Rattle.std.proofs.lemmas.Bool.Decides.{nat_tests}
 use Rattle.pth_script.specs.Rows.{Row, rows_of, onto_first}
 use Rattle.pth_script.specs.Broken.{broken, place_breaks, row_breaks, end_breaks}
@@ -12,10 +13,6 @@ use Rattle.pth_script.specs.Table.{first_broken}
 
 abbrev lf : ℕ → Bool
 lf b = b == 10
-
-true_or_false : (b : Bool) → (b ≡ true) ⊎ (b ≡ false)
-true_or_false true = inl refl
-true_or_false false = inr refl
 
 ends_here : (b : ℕ) (bs : List ℕ) → lf b ≡ true → rows_of (b ∷ bs) ≡ record { bytes = []; ended = true } ∷ rows_of bs
 unfolding rows_of
@@ -36,7 +33,7 @@ rows_at [] h = absurd (omega arith)
 rows_at (b ∷ bs) h =
     ⊎_elim (λ (e : lf b ≡ true). rw (place_here b bs e) (ends_here b bs e))
     (λ (e : lf b ≡ false). rw (place_later b bs e) (goes_on b bs e ∙ ap (onto_first b) (rows_at bs (omega (arith, place_later b bs e)))))
-    (true_or_false (lf b))
+    (cases_Bool (lf b))
 
 pub no_rows : rows_of [] ≡ []
 unfolding rows_of
@@ -47,11 +44,11 @@ rows_none [] h n = absurd (omega arith)
 rows_none (b ∷ []) h n =
     ⊎_elim (λ (e : lf b ≡ true). absurd (omega (arith, place_here b [] e)))
     (λ (e : lf b ≡ false). goes_on b [] e ∙ rw no_rows refl)
-    (true_or_false (lf b))
+    (cases_Bool (lf b))
 rows_none (b ∷ c ∷ cs) h n =
     ⊎_elim (λ (e : lf b ≡ true). absurd (omega (arith, place_here b (c ∷ cs) e)))
     (λ (e : lf b ≡ false). goes_on b (c ∷ cs) e ∙ ap (onto_first b) (rows_none (c ∷ cs) (omega (arith, place_later b (c ∷ cs) e)) (omega arith)))
-    (true_or_false (lf b))
+    (cases_Bool (lf b))
 
 row_at : (before rest : List Row) (row : Row) → slice_get (reverse before ++ row ∷ rest) (length before) ≡ Some row
 row_at before rest row = slice_get-get_or (reverse before ++ row ∷ rest) (length before) row (omega (arith, length-append (reverse before) (row ∷ rest), length-reverse before)) ∙ ap (λ x. Some x) (get_or_at (reverse before) row rest row (length before) (length-reverse before))

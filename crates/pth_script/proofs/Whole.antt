@@ -1,7 +1,7 @@
 -- Every text is accepted and stands for a script, or is refused.
 use Rattle.std.proofs.Common.{◌≡◌, ◌≤◌, ◌<◌, ◌==◌, ℕ, suc, zero, ◌+◌, Bool, true, false, cond, not, List, [], ◌∷◌, ◌++◌, length, Option, Some, None, refl, ap, sym, subst, ◌∙◌, arith, inl, inr, ◌⊎◌, length-append, append-nil}
 use Rattle.std.specs.Prelude.{reverse, map, drop}
-use Rattle.std.proofs.lemmas.Bool.{cases_order}
+use Rattle.std.proofs.lemmas.Bool.{cases_Bool, cases_order, not-false}
 use Rattle.std.proofs.lemmas.List.{length-reverse}
 use Rattle.pth_text.specs.Words.{words_of}
 use Rattle.pth_spelling.specs.Keywords.{begins}
@@ -34,10 +34,6 @@ use Rattle.pth_script.proofs.Starting.{nothing, nothing_seen, nothing_kept, noth
 use Rattle.pth_script.proofs.Taken.{act_line_taken, handler_end_taken, act_is_read, body_line_taken, body_end_taken, line_is_read, handler_open_taken, body_open_taken, check_line_taken, check_is_read}
 
 -- ---- a line that breaks no rule is taken
-
-true_or_false : (b : Bool) → (b ≡ true) ⊎ (b ≡ false)
-true_or_false true = inl refl
-true_or_false false = inr refl
 
 -- a value, or none
 some_or_none : {A : Type 0} (o : Option A) → ((x : A) × (o ≡ Some x)) ⊎ (o ≡ None)
@@ -72,7 +68,7 @@ module _ (d : Parts) (ws : List (List ℕ)) (kept : IsKept d) (fine : IsFine d w
   Taken = (e : Parts) × Takes d e ws
 
   act_taken : d.section ≡ sec.Handler → Taken
-  act_taken at = elim (true_or_false (is_end (begins ws))) [
+  act_taken at = elim (cases_Bool (is_end (begins ws))) [
     | inl end ↦ (handler_closed d, handler_end_taken d ws kept at end)
     | inr more ↦ elim (some_or_none (act_of ws)) [
       | inl a ↦ (record d { acts = d.acts ++ a.0 ∷ [] }, act_line_taken d ws kept at a.0 fine more a.1)
@@ -81,7 +77,7 @@ module _ (d : Parts) (ws : List (List ℕ)) (kept : IsKept d) (fine : IsFine d w
   ]
 
   line_taken : d.section ≡ sec.Body → Taken
-  line_taken at = elim (true_or_false (is_end (begins ws))) [
+  line_taken at = elim (cases_Bool (is_end (begins ws))) [
     | inl end ↦ let e = closed d in (e.0, body_end_taken d ws kept at e.0 e.1 end)
     | inr more ↦ elim (some_or_none (line_of ws)) [
       | inl l ↦ (record d { body = d.body ++ l.0 ∷ [] }, body_line_taken d ws kept at l.0 l.1)
@@ -90,12 +86,12 @@ module _ (d : Parts) (ws : List (List ℕ)) (kept : IsKept d) (fine : IsFine d w
   ]
 
   opening_taken : in_handler d.section ≡ false → in_body d.section ≡ false → Taken
-  opening_taken h b = elim (true_or_false (is_check (begins ws))) [
+  opening_taken h b = elim (cases_Bool (is_check (begins ws))) [
     | inl check ↦ let first = check_begins (begins ws) check in elim (some_or_none (check_of ws)) [
       | inl c ↦ (record d { section = sec.Checks; checks = d.checks ++ c.0 ∷ [] }, check_line_taken d ws kept h b fine c.0 first c.1)
       | inr none ↦ absurd (check_is_read d ws kept h b fine first none)
     ]
-    | inr other ↦ elim (true_or_false (is_handler (begins ws))) [
+    | inr other ↦ elim (cases_Bool (is_handler (begins ws))) [
       | inl handler ↦ (record d { section = sec.Handler }, handler_open_taken d ws kept h b fine handler)
       | inr thread ↦ (record d { section = sec.Body }, body_open_taken d ws kept h b fine thread other)
     ]
@@ -119,10 +115,6 @@ limit_first true o h none = absurd (some_limit o (h refl) none)
     some_limit : (o : Option Breach) → o ≡ Some Limit → o ≡ None → ⊥
     some_limit o some none = absurd (cc)
 limit_first false o h none = refl
-
-is_ended : (b : Bool) → not b ≡ false → true ≡ b
-is_ended true h = refl
-is_ended false h = absurd (cc)
 
 shut_by : (first none shut : Bool) → cond first (Some (Of rule.Header)) (cond none (Some (Of rule.Main)) (cond shut (Some (Of rule.End)) None)) ≡ None → shut ≡ false
 shut_by true none shut h = absurd (cc)
@@ -152,7 +144,7 @@ module _ (text : List ℕ) (accepted : IsAccepted text) where
       let none = row_fine before rest row e in
       let short = limit_first (is_long before row) _ (long_row before row) none in
       let fine = sym (said_row_rule before row later words short) ∙ none in
-      let ended = is_ended row.ended (fine_line row.ended (seen_of (above before)) (words_of row.bytes) fine).cut in
+      let ended = sym (not-false row.ended (fine_line row.ended (seen_of (above before)) (words_of row.bytes) fine).cut) in
       (λ i. first_broken (said_breaks (ended i) (s i) (words_of row.bytes))) ∙ fine
 
   module _ (hs : List (List (Option ActLine))) (cs : List (Option Check)) (bs : List (List (Option Line))) where
@@ -168,7 +160,7 @@ module _ (text : List ℕ) (accepted : IsAccepted text) where
         → Makes d (said rest) hs cs bs → TakesAll
     unfolding said
     take_all before [] d e later s kept m = record { before = before; draft = d; all = sym (append-nil (reverse before)) ∙ e; seen = s; makes = m }
-    take_all before (row ∷ rest) d e later s kept m = elim (true_or_false (is_comment row.bytes)) [
+    take_all before (row ∷ rest) d e later s kept m = elim (cases_Bool (is_comment row.bytes)) [
       | inl comment ↦ take_all (row ∷ before) rest d (one_more before rest (rows_of text) row e) refl (s ∙ ap seen_of (sym (above_comment before row later comment))) kept
           (subst (λ ls. Makes d ls hs cs bs) (said_comment row rest comment) m)
       | inr words ↦

@@ -1,5 +1,7 @@
 -- A parse that succeeds found a number of steps in its range.
-use Rattle.std.proofs.Common.{◌≡◌, ◌∙◌, ◌<◌, ◌≤◌, ◌&&◌, ◌||◌, ℕ, Bool, true, false, not, zero, suc, List, [], ◌∷◌, Option, Some, None, ap, sym, subst, refl, arith, codes, length, map, unwrap_or, option_and_then, option_map, inl, inr}
+use Rattle.std.proofs.lemmas.Bool.{not-true, or_right}
+use Rattle.std.proofs.lemmas.List.{nil_from_length}
+use Rattle.std.proofs.Common.{◌≡◌, ◌∙◌, ◌<◌, ◌≤◌, ◌&&◌, ℕ, Bool, true, false, zero, suc, List, [], ◌∷◌, Option, Some, None, ap, sym, subst, refl, arith, codes, length, map, unwrap_or, option_and_then, option_map, inl, inr}
 use Rattle.std.specs.List.{All, list_all, list_any, slice_index_or}
 use Rattle.std.specs.Prelude.{slice_get}
 use Rattle.std.specs.Borrow.{Bor}
@@ -46,10 +48,6 @@ begins : {A B : Type 0} (f : A → B) (xs : List A) (y : B) (ys : List B) → ma
 begins f [] y ys h = cc
 begins f (a ∷ more) y ys h = (a, more, refl, cc, cc)
 
-or_right : (a b : Bool) → b ≡ true → (a || b) ≡ true
-or_right true b h = refl
-or_right false b h = h
-
 true_false : true ≡ false → ⊥
 true_false h = cc
 
@@ -61,16 +59,8 @@ and_right : (a b : Bool) → (a && b) ≡ true → b ≡ true
 and_right true b h = h
 and_right false b h = cc
 
-not_true : (a : Bool) → not a ≡ true → a ≡ false
-not_true true h = cc
-not_true false h = refl
-
-no_length : {X : Type 0} (xs : List X) → length xs ≡ 0 → xs ≡ []
-no_length [] h = refl
-no_length (x ∷ xs) h = absurd (omega arith)
-
 none_in : {X : Type 0} (xs : List X) → is_empty xs ≡ true → xs ≡ []
-none_in xs h = no_length xs (eqb-true (length xs) 0 h)
+none_in xs h = nil_from_length xs (eqb-true (length xs) 0 h)
 
 -- a simple argument names no group
 no_groups : (a : Arg) → (rule_of a).is_simple ≡ true → a.groups.items ≡ []
@@ -145,7 +135,7 @@ module _ (c : Command) (m : ArgMatches) (p : IsParsedFrom c m) (shape : app_of c
   no_group = none_in (groups_of c) (and_left _ _ fields)
 
   no_globals : (out-Command c).has_globals ≡ false
-  no_globals = not_true _ (and_left _ _ (and_right _ _ (and_right _ _ fields)))
+  no_globals = not-true _ (and_left _ _ (and_right _ _ (and_right _ _ fields)))
 
   no_group_named : NamesNoGroup c
   no_group_named = none_named (args_of c) (ap (λ (rs : List Rule). list_all (λ (r : Rule). r.is_simple) rs) named ∙ all_simple)
