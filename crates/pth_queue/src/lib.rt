@@ -4,11 +4,9 @@
 mod berth;
 mod counting;
 mod entering;
-mod growing;
 pub mod laws;
 mod leaving;
 pub mod node;
-mod nodes;
 pub mod queue;
 pub mod queue_set;
 pub mod row;
