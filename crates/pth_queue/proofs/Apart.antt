@@ -1,5 +1,5 @@
 -- What the nodes of orderly queues tell, and where a slot that enters or leaves changes them.
-use Rattle.std.proofs.Common.{◌≡◌, ◌≢◌, ℕ, ◌+◌, ◌<◌, ◌≤◌, ◌==◌, ◌||◌, Bool, true, false, cond, if◌then◌else◌, int_lt, List, [], ◌∷◌, ◌++◌, ℤ, ◌-ℤ◌, Option, Some, None, IsSome, IfSome, option_map, option_and_then, count_by, refl, sym, ap, ◌∙◌, subst, inl, inr, arith, eq-eqb, ne_eqb, append_assoc}
+use Rattle.std.proofs.Common.{◌≡◌, ◌≢◌, ℕ, ◌+◌, ◌<◌, ◌≤◌, ◌==◌, ◌||◌, ◌↔◌, Bool, true, false, cond, if◌then◌else◌, int_lt, List, [], ◌∷◌, ◌++◌, ℤ, ◌-ℤ◌, Option, Some, None, IsSome, IfSome, option_map, option_and_then, count_by, refl, sym, ap, ◌∙◌, subst, inl, inr, arith, eq-eqb, ne_eqb, append_assoc}
 use Rattle.std.proofs.lemmas.Bool.{cases_eq}
 use Rattle.pth_queue.specs.declared.queue.Queue.{Queue}
 use Rattle.pth_queue.specs.declared.queue.Queue.TheVariants.{New, Ready, Waiting, Suspended, Dead}
@@ -23,6 +23,9 @@ use Rattle.pth_queue.proofs.Reading.{last-or}
 use Rattle.pth_queue.proofs.Removing.{delete-middle, has-middle, last_rank-append, split}
 use Rattle.pth_queue.proofs.Spotting.{ended}
 
+none_some : {X P : Type 0} (x : X) → None ≡ Some x → P
+none_some x k = cc
+
 distinct-once : (rows : List Row) → ((s : ℕ) → count_by (is_of s) rows ≤ 1) → Distinct (slots_of rows)
 distinct-once [] once = tt
 distinct-once (x ∷ xs) once = (
@@ -44,6 +47,19 @@ placed q qs front e back o is =
     ap (option_and_then (λ p. node_in e.who (rows_of p qs))) (queue_of-holds q e.who qs o (ap (holds e.who) is ∙ has-holds e.who (front ++ e ∷ back) (has-middle front e back)))
     ∙ ap (node_in e.who) is
     ∙ in-own front e back (λ h. distinct-apart (slots_of front) (e.who ∷ slots_of back) d e.who h e.who (inl refl) refl)
+
+none-placed : (q : Queue) (s : ℕ) (qs : QueuesOf) → IsOrderly qs → queue_of s qs ≡ Some q → node_of s qs ≡ None → ⊥
+none-placed q s qs o stands none =
+    let r = split (rows_of q qs) s (holds-has s (rows_of q qs) (holds-queue_of q s qs stands)) in
+    none_some (a_node (prev_at r.front r.row r.back) (next_at r.front r.row r.back) (gap_at r.front r.row)) (sym none ∙ ap (λ z. node_of z qs) (sym r.who) ∙ placed q qs r.front r.row r.back o r.is)
+
+nowhere-if : (s : ℕ) (qs : QueuesOf) (p : Option Queue) → IsOrderly qs → queue_of s qs ≡ p → node_of s qs ≡ None → p ≡ None
+nowhere-if s qs None o is none = refl
+nowhere-if s qs (Some q) o is none = absurd (none-placed q s qs o is none)
+
+-- a slot that stands nowhere has no node, and no other has none
+pub nowhere-none : (s : ℕ) (qs : QueuesOf) → IsOrderly qs → (node_of s qs ≡ None) ↔ IsNowhere s qs
+nowhere-none s qs o = (nowhere-if s qs (queue_of s qs) o refl, λ h. ap (option_and_then (λ q. node_in s (rows_of q qs))) h)
 
 -- GAPS
 pub head-gap : (q : Queue) (qs : QueuesOf) (x : Row) (xs : List Row) → IsOrderly qs → rows_of q qs ≡ x ∷ xs → gap_of x.who qs ≡ Some x.rank
@@ -67,9 +83,6 @@ record Follows (rows : List Row) (s t : ℕ) : Type 0 where
   pub is : rows ≡ front ++ row ∷ next ∷ back
   pub row_who : row.who ≡ s
   pub next_who : next.who ≡ t
-
-none_some : {X P : Type 0} (x : X) → None ≡ Some x → P
-none_some x k = cc
 
 same_some : (a b : ℕ) → Some a ≡ Some b → a ≡ b
 same_some a b k = cc
