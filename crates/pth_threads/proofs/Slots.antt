@@ -1,5 +1,5 @@
 -- What a change of the slab and of the index makes of the records, the numbers and the slots.
-use Rattle.std.proofs.Common.{◌≡◌, ◌≢◌, ℕ, ◌+◌, ◌<◌, ◌≤◌, false, List, [], length, get_or, set, Option, Some, None, IsSome, IfSome, option_map, is_some, count_by, cond, refl, sym, ◌∙◌, ap, arith}
+use Rattle.std.proofs.Common.{◌≡◌, ◌≢◌, ℕ, ◌+◌, ◌<◌, ◌≤◌, false, List, [], length, get_or, set, Option, Some, None, IsSome, IfSome, option_map, is_some, count_by, cond, refl, sym, ◌∙◌, ap, subst, arith}
 use Rattle.std.specs.Ordering.{nat_cmp, is_eq}
 use Rattle.std.specs.declared.cmp.Ordering.{Ordering}
 use Rattle.std.specs.declared.cmp.Ordering.TheVariants.{Less, Equal, Greater}
@@ -41,6 +41,13 @@ entry_is x u o e = e
 pub tid_is : (x : ThreadsOf) (u : ℕ) (e : Entry) → entry_at x u ≡ Some e → tid_at x u ≡ e.tid.0
 unfolding tid_at
 tid_is x u e h = ap tid_of h
+
+no_entry : (o : Option Entry) (e : Entry) → o ≡ Some e → o ≡ None → ⊥
+no_entry o e some none = cc
+
+-- a slot whose record has a thread's number is the thread's
+pub confirmed : (x : ThreadsOf) (t u : ℕ) (e : Entry) → IsKept x → entry_at x u ≡ Some e → e.tid.0 ≡ t → slot_of x t ≡ Some u
+confirmed x t u e kept there same = subst (λ k. slot_of x k ≡ Some u) (tid_is x u e there ∙ same) (kept.tied.slot u (λ zero. no_entry (entry_at x u) e there (kept.empty u zero)))
 
 -- the slot that a look-up gives has the thread
 pub named : (x : ThreadsOf) (t : ℕ) (o : Option Slot) → IsTied (slot_of x) (tid_at x) → slot_of x t ≡ option_map (λ (s : Slot). s.0) o → IfSome o (λ s. tid_at x s.0 ≡ t)

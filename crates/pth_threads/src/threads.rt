@@ -18,11 +18,16 @@ use std::marker::Model;
 /// How many threads there may be at once.
 const MOST: usize = 4096;
 
+/// How many slots are tried before the index is asked: one for each value of a number's last twelve bits.
+const RECENT: usize = 4096;
+
 /// The threads in the system. A slot is used again once its thread is removed, and a number never.
 #[derive(Drop)]
 pub struct Threads {
     records: Slab<Entry>,
     index: BTreeMap<u32, u32>,
+    // The slot of the latest thread with these last bits in its number. Its record may be another thread's by now.
+    recent: Vec<u32>,
     made: u32,
 }
 
@@ -48,6 +53,7 @@ impl Threads {
         Threads {
             records: Slab::new(alloc),
             index: BTreeMap::new(alloc),
+            recent: Vec::new(alloc),
             made: 0,
         }
     }
@@ -60,8 +66,23 @@ impl Threads {
         ensures tied { IsTied (slot_of self.now) (tid_at self.now) }
         ensures empty { (u : ℕ) → tid_at self.now u ≡ 0 → entry_at self.now u ≡ None }
     {
-        let _ = &self.records;
-        self.index.get(&t.0).map(|slot| Slot(*slot))
+        match self.recent_slot(t) {
+            Some(slot) => Some(slot),
+            None => self.index.get(&t.0).map(|slot| Slot(*slot)),
+        }
+    }
+
+    // The slot of a thread, where no later thread has the same last bits in its number.
+    fn recent_slot(&self, t: Tid) -> Option<Slot>
+        ensures { IfSome result (λ s. slot_of self.now t.0 ≡ Some s.0) }
+    {
+        let slot = *self.recent.get(t.0 as usize % RECENT)?;
+        let entry = self.records.get(slot as usize)?;
+        if entry.tid.0 == t.0 {
+            Some(Slot(slot))
+        } else {
+            None
+        }
     }
 
     /// The record at a slot.
@@ -103,6 +124,7 @@ impl Threads {
         self.records.reserve(1)?;
         let tid = self.made + 1;
         let slot = key as u32;
+        keep_recent(&mut self.recent, tid, slot)?;
         let _none = self.index.insert(tid, slot)?;
         let _key = self.records.insert_reserved(Entry::new(of, Tid(tid)));
         self.made = tid;
@@ -140,6 +162,13 @@ impl Threads {
     {
         Ok(numbers(&self.index, alloc)?)
     }
+}
+
+// The thread with this number is the latest with its last bits.
+fn keep_recent(recent: &mut Vec<u32>, tid: u32, slot: u32) -> Result<(), AllocError> {
+    recent.resize(RECENT, 0)?;
+    recent[tid as usize % RECENT] = slot;
+    Ok(())
 }
 
 // The keys of an index, which rise.

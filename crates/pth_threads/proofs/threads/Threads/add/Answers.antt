@@ -31,6 +31,11 @@ returns-in_err-reserve-clause-too_many c =
     let p = err_from_is_err_and c.from_residual.result c.from_residual.ensures.1 in
     rw (← c.self.view_is) (few _ (record { slots = c.self.inside.records.slots; index = c.self.inside.index.entries; made = c.self.inside.made }) c.len.result c.len.ensures c.if-len-eq-MOST.false (other_err _ p.0 p.1 p.2))
 
+pub returns-in_err-keep_recent-clause-too_many : goal.returns-in_err-keep_recent-clause-too_many
+returns-in_err-keep_recent-clause-too_many c =
+    let p = err_from_is_err_and c.from_residual-in_err-keep_recent.result c.from_residual-in_err-keep_recent.ensures.1 in
+    rw (← c.self.view_is) (few _ (record { slots = c.self.inside.records.slots; index = c.self.inside.index.entries; made = c.self.inside.made }) c.len.result c.len.ensures c.if-len-eq-MOST.false (other_err _ p.0 p.1 p.2))
+
 pub returns-in_err-_none-clause-too_many : goal.returns-in_err-_none-clause-too_many
 returns-in_err-_none-clause-too_many c =
     let p = err_from_is_err_and c.from_residual-in_err-_none.result c.from_residual-in_err-_none.ensures.1 in
