@@ -6,7 +6,6 @@ use Rattle.pth_base.specs.declared.answer.Answer.{Answer}
 use Rattle.pth_base.specs.declared.answer.Answer.TheVariants as answer
 use Rattle.pth_base.specs.declared.call.Call.{Call}
 use Rattle.pth_base.proofs.Tables.{put_here, put_other, put_by, same_means, same_fails}
-use Rattle.pth_base.proofs.Lists.{put_twice}
 use Rattle.pth_queue.specs.declared.queue.Queue.{Queue}
 use Rattle.pth_queue.specs.declared.queue.Queue.TheVariants as queue
 use Rattle.pth_queue.specs.Queues.{QueuesOf, queue_of, entered, IsNowhere}
@@ -19,6 +18,8 @@ use Rattle.pth_model.specs.State.{State}
 use Rattle.pth_model.specs.Changes.{with_entry, with_thread, called, held_by}
 use Rattle.pth_world.specs.World.{WorldOf}
 use Rattle.pth_world.specs.Standing.{StandsFor, IsSound, IsKnown, IsPrio, IsCancel, View, view, Touches, Fits, FitsEntry, Whole, same_view}
+use Rattle.pth_world.specs.Steps.{StepsAt}
+use Rattle.pth_world.proofs.Moves.{going_whole}
 use Rattle.pth_world.proofs.Slots.{prio_rank}
 use Rattle.pth_world.proofs.Standing.{add_stands, enter_stands, called_stands, called_call}
 use Rattle.pth_world.proofs.Sound.{add_sound, enter_sound, going_sound}
@@ -32,23 +33,38 @@ if_some A B (Some r) f h = f r h
 if_some A B None f h = h
 
 -- a step of the program
-module _ {P S H : Type 0} (w : WorldOf P S H) (t u : ℕ) (sound : IsSound w) (e : slot_of w.threads t ≡ Some u) (h : P → Functions S H) (x : Continuation S) (a : Answer) (call : Call) (after : S) (shared : H) (y z : List (Option (Continuation S))) (had : Some x ≡ table None w.going u) (steps : record { call = call; state = after; shared = shared } ≡ (h w.program).step x.state w.shared a) (out : table None y ≡ put (table None w.going) u None) (back : table None z ≡ put (table None y) u (Some (record x { state = after }))) where
-  goes : table None z ≡ put (table None w.going) u (Some (record x { state = after }))
-  goes = back ∙ ap (λ (k : ℕ → Option (Continuation S)). put k u (Some (record x { state = after }))) out ∙ put_twice (table None w.going) u None _
+module _ {P S H : Type 0} (w v : WorldOf P S H) (t u : ℕ) (sound : IsSound w) (e : slot_of w.threads t ≡ Some u) (used : tid_at w.threads u ≢ 0) (h : P → Functions S H) (a : Answer) (call : Call) (steps : StepsAt (h w.program) u (table None w.going) (table None v.going) w.shared v.shared a call) (same : v ≡ record w { going = v.going; shared = v.shared }) (long : length v.going ≡ 4096) where
+  there : (o : Option (Continuation S)) → IsSome o → (x : Continuation S) × (o ≡ Some x)
+  there (Some x) some = (x, refl)
+  there None some = let bad : ⊥ = cc in absurd bad
+
+  stood : (x : Continuation S) × (table None w.going u ≡ Some x)
+  stood = there (table None w.going u) (sound.recorded u used)
+
+  abbrev stepped : Stepped S H
+  stepped = (h w.program).step stood.0.state w.shared a
+
+  goes : table None v.going ≡ put (table None w.going) u (Some (record stood.0 { state = stepped.state }))
+  goes = steps.set stood.0 stood.1
 
   pub next_call_is : (s : State P S H) → StandsFor w s → call ≡ (called h s t a).call
-  next_call_is s st = ap (λ (k : Stepped S H). k.call) steps ∙ sym (called_call w t u sound e h x a s (sym had) st)
+  next_call_is s st = ap (λ (k : Stepped S H). k.call) (steps.step stood.0 stood.1) ∙ sym (called_call w t u sound e h stood.0 a s stood.1 st)
 
-  pub next_stands : (s : State P S H) → StandsFor w s → StandsFor (record w { going = z; shared = shared }) (called h s t a).state
+  pub next_stands : (s : State P S H) → StandsFor w s → StandsFor v (called h s t a).state
   next_stands s st =
-      let is : table None z ≡ put (table None w.going) u (Some (record x { state = ((h w.program).step x.state w.shared a).state })) = goes ∙ ap (λ (k : Stepped S H). put (table None w.going) u (Some (record x { state = k.state }))) steps in
-      subst (λ (k : H). StandsFor (record w { going = z; shared = k }) (called h s t a).state) (sym (ap (λ (k : Stepped S H). k.shared) steps)) (called_stands w t u sound e h z x a s (sym had) is st)
+      let later : StandsFor (record w { going = v.going; shared = v.shared }) (called h s t a).state = subst (λ (k : H). StandsFor (record w { going = v.going; shared = k }) (called h s t a).state) (sym (ap (λ (k : Stepped S H). k.shared) (steps.step stood.0 stood.1))) (called_stands w t u sound e h v.going stood.0 a s stood.1 goes st) in
+      subst (λ k. StandsFor k (called h s t a).state) (sym same) later
 
-  pub next_sound : length z ≡ 4096 → IsSound (record w { going = z; shared = shared })
-  next_sound long = let k = going_sound w sound t u e z (Some (record x { state = after })) goes refl long in record { tied = k.tied; fresh = k.fresh; empty = k.empty; bare = k.bare; recorded = k.recorded; queued = k.queued; room = k.room; orderly = k.orderly; long = k.long; attributes = k.attributes; present = k.present }
+  pub next_sound : IsSound v
+  next_sound =
+      let k = going_sound w sound t u e v.going (Some (record stood.0 { state = stepped.state })) goes refl long in
+      subst IsSound (sym same) (record { tied = k.tied; fresh = k.fresh; empty = k.empty; bare = k.bare; recorded = k.recorded; queued = k.queued; room = k.room; orderly = k.orderly; long = k.long; attributes = k.attributes; present = k.present })
 
-  pub next_touches : Touches w (record w { going = z; shared = shared }) t same_view
-  next_touches = called_touches w sound t u e z x (record x { state = after }) shared (sym had) refl goes
+  pub next_touches : Touches w v t same_view
+  next_touches = subst (λ k. Touches w k t same_view) (sym same) (called_touches w sound t u e v.going stood.0 (record stood.0 { state = stepped.state }) v.shared stood.1 refl goes)
+
+  pub next_whole : Whole w → Whole v
+  next_whole whole = going_whole w v t u same_view whole e next_touches next_sound (ap (λ (k : WorldOf P S H). slot_of k.threads) same) (ap (λ (k : WorldOf P S H). k.running) same) (λ r f. f)
 
 -- a new thread
 module _ {P S H : Type 0} (w : WorldOf P S H) (whole : Whole w) (x : ThreadsOf) (y : List (Option (Continuation S))) (z : QueuesOf) (u : ℕ) (of : NewThread) (prio : IsPrio of.prio) (cancel : IsCancel of.cancel) (c : Continuation S) (bare : c.held ≡ None) (adds : Adds w.threads x u (made_of of (w.threads.made + 1))) (has : table None y ≡ put (table None w.going) u (Some c)) (long : length y ≡ 4096) (enters : z ≡ entered queue.New of.prio u w.queues) where

@@ -1,12 +1,15 @@
 //! What the threads go on with, by slot.
 
-ghost use Rattle.std.specs.Prelude.{◌≡◌, ◌<◌, ℕ, Option, Some, None, IfOk, option_copied, option_map, length};
+ghost use Rattle.std.specs.Prelude.{◌≡◌, ◌<◌, ℕ, Option, Some, None, IsSome, IfOk, option_copied, option_map, length};
 ghost use Rattle.pth_base.specs.Table.{put, table};
 ghost use Rattle.pth_model.specs.Changes.{owed_by, held_by, with_owed, with_held};
+ghost use Rattle.pth_world.specs.Steps.{StepsAt};
 
 use pth_base::answer::Answer;
+use pth_base::call::Call;
 use pth_base::ids::Slot;
 use pth_base::memory::OutOfMemory;
+use pth_base::program::Program;
 use pth_model::continuation::Continuation;
 use pth_model::held::Held;
 use std::alloc::Global;
@@ -119,5 +122,27 @@ impl<S: Drop> Continuations<S> {
             Some(c) => mem::replace(&mut c.owed, Answer::None),
             None => Answer::None,
         }
+    }
+}
+
+/// The program's step at the state of the thread at a slot, which is changed where it stands. After an error nothing is known
+/// of it.
+#[tactic(auto, using(pth_base::proofs::Lists::table_set, pth_base::proofs::Lists::put_none))]
+pub fn step_at<P: Program>(
+    program: &P,
+    alloc: Global,
+    going: &mut Continuations<P::State>,
+    s: Slot,
+    shared: &mut P::Shared,
+    answer: &Answer,
+) -> Result<Call, OutOfMemory>
+    requires low { s.0 < 4096 }
+    requires some { IsSome (table None going.old s.0) }
+    ensures step { IfOk result (λ call. StepsAt (P.functions program.now) s.0 (table None going.old) (table None going.new) shared.old shared.new answer.now call) }
+    ensures long { length going.new ≡ 4096 }
+{
+    match &mut going.items[s.0 as usize] {
+        Some(c) => program.step(alloc, &mut c.state, shared, answer),
+        None => unreachable!(),
     }
 }

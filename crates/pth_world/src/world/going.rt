@@ -1,15 +1,18 @@
 //! What threads go on with.
 
-ghost use Rattle.std.specs.Prelude.{◌≡◌, ℕ, Option, Some, None, IfOk, OnOk, option_copied};
+ghost use Rattle.std.specs.Prelude.{◌≡◌, ◌<◌, ℕ, Option, Some, None, IsSome, IfOk, OnOk, option_copied, length};
+ghost use Rattle.pth_base.specs.Table.{table};
 ghost use Rattle.pth_base.specs.declared.answer.Answer.{Answer as AnswerOf};
 ghost use Rattle.pth_model.specs.State.{State};
 ghost use Rattle.pth_model.specs.Changes.{with_going, with_held, with_owed, held_of, owed_to, called};
 ghost use Rattle.pth_world.specs.Standing.{StandsFor, IsSound, IsKnown, Whole, Touches, MaySuspend, holding, same_view};
+ghost use Rattle.pth_world.specs.Steps.{StepsAt};
 
+use crate::continuations::step_at;
 use crate::world::World;
 use pth_base::answer::Answer;
 use pth_base::call::Call;
-use pth_base::ids::Tid;
+use pth_base::ids::{Slot, Tid};
 use pth_base::memory::OutOfMemory;
 use pth_base::program::Program;
 use pth_model::held::Held;
@@ -87,13 +90,22 @@ impl<P: Program> World<P> {
         }
     }
 
-    // The program's step at this state.
-    fn step(&mut self, state: &mut P::State, answer: &Answer) -> Result<Call, OutOfMemory>
-        ensures step { IfOk result (λ call. record { call = call; state = state.new; shared = self.new.shared } ≡ (P.functions self.old.program).step state.old self.old.shared answer.now) }
-        ensures same { OnOk result (self.new ≡ record self.old { shared = self.new.shared }) }
+    // The program's step at the state of the thread at a slot.
+    fn step(&mut self, slot: Slot, answer: &Answer) -> Result<Call, OutOfMemory>
+        requires low { slot.0 < 4096 }
+        requires some { IsSome (table None self.old.going slot.0) }
+        ensures step { IfOk result (λ call. StepsAt (P.functions self.old.program) slot.0 (table None self.old.going) (table None self.new.going) self.old.shared self.new.shared answer.now call) }
+        ensures long { length self.new.going ≡ 4096 }
+        ensures same { OnOk result (self.new ≡ record self.old { going = self.new.going; shared = self.new.shared }) }
     {
-        self.program
-            .step(self.alloc, state, &mut self.shared, answer)
+        step_at(
+            &self.program,
+            self.alloc,
+            &mut self.going,
+            slot,
+            &mut self.shared,
+            answer,
+        )
     }
 
     /// The program's step for a thread, with the answer of its last call: its next call. After an error the world may only
@@ -109,11 +121,6 @@ impl<P: Program> World<P> {
         ensures same { OnOk result (self.new ≡ record self.old { going = self.new.going; shared = self.new.shared }) }
     {
         let slot = self.slot(t);
-        let Some(mut c) = self.going_mut().take(slot) else {
-            unreachable!()
-        };
-        let call = self.step(&mut c.state, answer)?;
-        self.going_mut().set(slot, Some(c));
-        Ok(call)
+        self.step(slot, answer)
     }
 }
