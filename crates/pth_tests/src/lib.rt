@@ -19,6 +19,8 @@ mod pieces;
 #[cfg(test)]
 mod playing;
 #[cfg(test)]
+mod queue_nodes;
+#[cfg(test)]
 mod queues;
 #[cfg(test)]
 mod texts;
