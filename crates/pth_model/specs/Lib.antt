@@ -3,6 +3,7 @@ pub mod Standing
 pub mod State
 pub mod Changes
 pub mod Shown
+pub mod Order
 pub mod Told
 pub mod Family
 pub mod Rows

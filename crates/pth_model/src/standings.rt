@@ -1,6 +1,11 @@
 //! What is seen of standings.
 
+ghost use Rattle.std.specs.Prelude.{ℕ};
+ghost use Rattle.pth_queue.specs.declared.queue.Queue.{Queue};
+ghost use Rattle.pth_model.specs.Order.{IsInOrder, AreEntriesNumbered, IsTopAhead};
+ghost use Rattle.pth_model.specs.Run.{run};
 ghost use Rattle.pth_model.specs.Shown.{EntriesShow, LeavesShow, RaisesShow};
+ghost use Rattle.pth_model.specs.State.{Given};
 
 use pth_base::program::Program;
 
@@ -10,4 +15,12 @@ pub fn standings_show_as_lists<P: Program>()
     ensures enter { EntriesShow P P.State P.Shared }
     ensures leave { LeavesShow P P.State P.Shared }
     ensures raise { RaisesShow P P.State P.Shared }
+{}
+
+/// Each queue of each state of a run shows all who stand there, once each: the greater rank first, and at equal ranks the
+/// earlier entry. Entries are numbered as they come, and a new thread that enters at Top is in front of all that were there.
+pub fn queues_are_in_order<P: Program>()
+    ensures order { (g : Given P) (i : ℕ) (q : Queue) → IsInOrder (run P.functions g i).state q }
+    ensures entries { (g : Given P) (i : ℕ) (q : Queue) → AreEntriesNumbered (run P.functions g i).state q }
+    ensures top { (g : Given P) (i : ℕ) (q : Queue) → IsTopAhead (run P.functions g i).state q }
 {}

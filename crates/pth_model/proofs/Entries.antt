@@ -1,0 +1,120 @@
+-- What runs keep of entries: each is counted, and one at Top is above those before it.
+use Rattle.std.proofs.Common.{◌≡◌, ℕ, ◌+◌, ◌<◌, ◌==◌, not, Bool, true, false, if◌then◌else◌, ℤ, pos, ◌+ℤ◌, ◌-ℤ◌, ◌<ℤ◌, List, [], ◌∷◌, All, AllPairs, refl, sym, subst, map, arith, inl, inr, length, get_or}
+use Rattle.std.proofs.lemmas.Int.{ints}
+use Rattle.std.proofs.lemmas.Bool.{cases_lt}
+use Rattle.std.proofs.lemmas.List.Elements.{All-nil, All-cons, All-weaker, All-filter, All-contains, All-from_get_or}
+use Rattle.std.proofs.lemmas.List.Kept.{AllPairs-cons, AllPairs-filter}
+use Rattle.std.proofs.lemmas.List.Sorted.{IsPermutation-sym, All-permutation}
+use Rattle.pth_queue.specs.declared.queue.Queue.{Queue}
+use Rattle.pth_queue.specs.Rows.{favour_top}
+use Rattle.pth_model.specs.Standing.{Standing, height, rank_now, order, row_at, shown, left_by, is_queue, raises_of}
+use Rattle.pth_model.specs.State.{State}
+use Rattle.pth_model.specs.Changes.{with_entry, without_entry}
+use Rattle.pth_model.specs.Order.{StandsBefore, IsTopped}
+use Rattle.pth_model.proofs.Sorted.{pairs-head, pairs-nil, same-order, sorted-order}
+use Rattle.pth_model.proofs.Queues.{is_queue_same}
+
+-- x entered after y, and above it where it entered at Top
+pub record Follows (x y : Standing) : Type 0 where
+  pub later : y.entry < x.entry
+  pub above : x.top ≡ true → height y <ℤ height x
+
+pub record IsListed (entries : ℕ) (all : List Standing) : Type 0 where
+  pub counted : All (λ x. x.entry < entries) all
+  pub follows : AllPairs Follows all
+
+-- ---- one queue
+
+pub listed_none : (n : ℕ) → IsListed n []
+listed_none n = record { counted = All-nil (λ x. x.entry < n); follows = pairs-nil Follows }
+
+pub listed_enter : (n : ℕ) (s : Standing) (all : List Standing) → s.entry ≡ n → (s.top ≡ true → All (λ y. height y <ℤ height s) all) → IsListed n all → IsListed (n + 1) (s ∷ all)
+listed_enter n s all now above l = record {
+  counted = All-cons (λ x. x.entry < n + 1) s all (omega (arith, now)) (All-weaker (λ x. x.entry < n) (λ x. x.entry < n + 1) (λ x h. omega (arith, h)) all l.counted);
+  follows = AllPairs-cons Follows s all (λ k d low. record { later = let h = l.counted k d low in omega (arith, h, now); above = λ top. above top k d low }) l.follows;
+}
+
+listed_later : (n : ℕ) (all : List Standing) → IsListed n all → IsListed (n + 1) all
+listed_later n all l = record { counted = All-weaker (λ x. x.entry < n) (λ x. x.entry < n + 1) (λ x h. omega (arith, h)) all l.counted; follows = l.follows }
+
+listed_left : (n t : ℕ) (all : List Standing) → IsListed n all → IsListed n (left_by t all)
+listed_left n t all l = record {
+  counted = All-filter (λ s. not (s.tid == t)) (λ x. x.entry < n) all l.counted;
+  follows = AllPairs-filter Follows (λ s. not (s.tid == t)) all l.follows;
+}
+
+-- x is above y, where it entered later and at Top
+abbrev Tops : Standing → Standing → Type 0
+Tops x y = x.top ≡ true → y.entry < x.entry → height y <ℤ height x
+
+tops_at : (all : List Standing) (d : Standing) (i j : ℕ) → AllPairs Follows all → i < length all → j < length all → Tops (get_or all i d) (get_or all j d)
+tops_at all d i j p here there top earlier = elim (cases_lt i j) [
+  | inl low ↦ (p i j d low there).above top
+  | inr high ↦ elim (cases_lt j i) [
+    | inl low ↦ absurd (let later = (p j i d low here).later in omega (arith, later, earlier))
+    | inr same ↦ (
+        let e : i ≡ j = omega (arith, high, same) in
+        let less : (get_or all j d).entry < (get_or all j d).entry = subst (λ (k : ℕ). (get_or all j d).entry < (get_or all k d).entry) e earlier in
+        absurd (omega (arith, less)))
+  ]
+]
+
+pub listed_topped : (raises n : ℕ) (all : List Standing) → IsListed n all → IsTopped raises all
+listed_topped raises n all l x y a b top earlier =
+    let each : All (λ x. All (Tops x) all) all = All-from_get_or (λ x. All (Tops x) all) all x (λ i here. All-from_get_or (Tops (get_or all i x)) all x (λ j there. tops_at all x i j l.follows here there)) in
+    let above : height y <ℤ height x = All-contains (Tops x) all y (All-contains (λ x. All (Tops x) all) all x each a) b top earlier in
+    omega (arith, ints, above)
+
+-- ---- what a queue's top is
+
+at_most : (raises : ℕ) (x y : Standing) → StandsBefore raises x y → rank_now raises y <ℤ (rank_now raises x +ℤ pos 1)
+at_most raises x y (inl above) = omega (arith, ints, above)
+at_most raises x y (inr same) = let e = same.0 in omega (arith, ints, e)
+
+top_by : (raises : ℕ) (xs : List Standing) → AllPairs (StandsBefore raises) xs → All (λ y. rank_now raises y <ℤ favour_top (map (row_at raises) xs)) xs
+top_by raises [] p = All-nil (λ y. rank_now raises y <ℤ pos 5)
+top_by raises (x ∷ xs) p =
+    let Below : Standing → Type 0 = λ y. rank_now raises y <ℤ (rank_now raises x +ℤ pos 1) in
+    All-cons Below x xs (omega (arith, ints)) (All-weaker (StandsBefore raises x) Below (at_most raises x) xs (pairs-head (StandsBefore raises) x xs p))
+
+-- a queue's top is above all that stand there
+pub top_above : (raises n : ℕ) (all : List Standing) → IsListed n all → All (λ y. height y <ℤ (favour_top (shown raises all) -ℤ pos raises)) all
+unfolding shown
+top_above raises n all l =
+    let Later : Standing → Standing → Type 0 = λ x y. y.entry < x.entry in
+    let top = favour_top (map (row_at raises) (order all)) in
+    let Below : Standing → Type 0 = λ y. rank_now raises y <ℤ top in
+    let falling : AllPairs Later all = λ i j d less low. (l.follows i j d less low).later in
+    let below : All Below all = All-permutation Below (order all) all (IsPermutation-sym _ _ (same-order all)) (top_by raises (order all) (sorted-order raises all falling)) in
+    All-weaker Below (λ y. height y <ℤ (top -ℤ pos raises)) (λ y h. less_raised raises y top h) all below
+  where
+    less_raised : (raises : ℕ) (y : Standing) (top : ℤ) → rank_now raises y <ℤ top → height y <ℤ (top -ℤ pos raises)
+    less_raised raises y top h = omega (arith, ints, h)
+
+-- ---- every queue of a state
+
+module _ {P S H : Type 0} where
+  abbrev pub Kept : State P S H → Type 0
+  Kept s = (q : Queue) → IsListed s.rest.threads.entries (s.rest.threads.standing q)
+
+  module _ (s : State P S H) where
+    pub kept_enter : (t : ℕ) (q : Queue) (rank : ℤ) (top : Bool) → (top ≡ true → All (λ y. height y <ℤ (rank -ℤ pos (raises_of s.rest.threads.raises q))) (s.rest.threads.standing q)) → Kept s → Kept (with_entry s t q rank top)
+    unfolding with_entry
+    kept_enter t q rank top above k p = entered (is_queue p q) refl
+      where
+        here : Standing
+        here = record { tid = t; rank = rank; since = raises_of s.rest.threads.raises q; entry = s.rest.threads.entries; top = top }
+
+        entered : (b : Bool) → is_queue p q ≡ b → IsListed (s.rest.threads.entries + 1) (if b then here ∷ s.rest.threads.standing p else s.rest.threads.standing p)
+        entered true e = listed_enter s.rest.threads.entries here (s.rest.threads.standing p) refl (λ favoured. subst (λ (r : Queue). All (λ y. height y <ℤ (rank -ℤ pos (raises_of s.rest.threads.raises q))) (s.rest.threads.standing r)) (sym (is_queue_same p q e)) (above favoured)) (k p)
+        entered false e = listed_later s.rest.threads.entries (s.rest.threads.standing p) (k p)
+
+    pub kept_plain : (t : ℕ) (q : Queue) (rank : ℤ) → Kept s → Kept (with_entry s t q rank false)
+    kept_plain t q rank k = kept_enter t q rank false (λ e. absurd (not_top e)) k
+      where
+        not_top : false ≡ true → ⊥
+        not_top e = cc
+
+    pub kept_leave : (t : ℕ) → Kept s → Kept (without_entry s t)
+    unfolding without_entry
+    kept_leave t k q = listed_left s.rest.threads.entries t (s.rest.threads.standing q) (k q)

@@ -1,0 +1,11 @@
+use Rattle.pth_model.proofs.Numbered.{queue_in_order, entries_numbered, top_ahead}
+use Rattle.pth_model.proofs.standings.queues_are_in_order.Goals as goal
+
+pub returns-clause-order : goal.returns-clause-order
+returns-clause-order p c = λ g i q. queue_in_order p.P.Program.functions g i q
+
+pub returns-clause-entries : goal.returns-clause-entries
+returns-clause-entries p c = λ g i q. entries_numbered p.P.Program.functions g i q
+
+pub returns-clause-top : goal.returns-clause-top
+returns-clause-top p c = λ g i q. top_ahead p.P.Program.functions g i q

@@ -1,0 +1,45 @@
+-- The order of a queue, told by ranks and entries: not by how one standing is put behind another.
+use Rattle.std.specs.Prelude.{◌≡◌, ℕ, ◌<◌, true, ◌<ℤ◌, ◌⊎◌, List, map, All, AllPairs, Contains}
+use Rattle.std.specs.List.Sorted.{IsPermutation}
+use Rattle.pth_queue.specs.declared.row.Row.{Row}
+use Rattle.pth_queue.specs.declared.queue.Queue.{Queue}
+use Rattle.pth_model.specs.Standing.{Standing, rank_now, row_at, raises_of}
+use Rattle.pth_model.specs.State.{State, queue}
+
+-- x has a greater rank than y, after so many raises
+abbrev pub IsAbove : ℕ → Standing → Standing → Type 0
+IsAbove raises x y = rank_now raises y <ℤ rank_now raises x
+
+-- x stands before y: it has a greater rank, or an equal rank and the earlier entry
+abbrev pub StandsBefore : ℕ → Standing → Standing → Type 0
+StandsBefore raises x y = IsAbove raises x y ⊎ ((rank_now raises x ≡ rank_now raises y) × (x.entry < y.entry))
+
+-- these rows are those of all the standings, each of them once and in order
+pub record IsOrderOf (raises : ℕ) (all : List Standing) (rows : List Row) : Type 0 where
+  -- whose rows they are
+  pub places : List Standing
+  pub shows : rows ≡ map (row_at raises) places
+  pub each_once : IsPermutation all places
+  pub in_order : AllPairs (StandsBefore raises) places
+
+-- every entry was counted, and those that are counted later have greater numbers: the latest is listed first
+pub record IsNumbered (entries : ℕ) (all : List Standing) : Type 0 where
+  pub counted : All (λ x. x.entry < entries) all
+  pub falling : AllPairs (λ x y. y.entry < x.entry) all
+
+-- one that entered at Top is above all that entered before it
+abbrev pub IsTopped : ℕ → List Standing → Type 0
+IsTopped raises all = (x y : Standing) → Contains all x → Contains all y → x.top ≡ true → y.entry < x.entry → IsAbove raises x y
+
+module _ {P S H : Type 0} (s : State P S H) where
+  -- a queue of the state shows who stands in it, in order
+  abbrev pub IsInOrder : Queue → Type 0
+  IsInOrder q = IsOrderOf (raises_of s.rest.threads.raises q) (s.rest.threads.standing q) (queue s q)
+
+  -- the entries into a queue of the state are numbered as they came
+  abbrev pub AreEntriesNumbered : Queue → Type 0
+  AreEntriesNumbered q = IsNumbered s.rest.threads.entries (s.rest.threads.standing q)
+
+  -- a new thread that entered a queue of the state at Top stands before all that were there
+  abbrev pub IsTopAhead : Queue → Type 0
+  IsTopAhead q = IsTopped (raises_of s.rest.threads.raises q) (s.rest.threads.standing q)
