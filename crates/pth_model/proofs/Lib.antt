@@ -6,3 +6,5 @@ pub mod Turns
 pub mod Sorted
 pub mod Entries
 pub mod Numbered
+pub mod Once
+pub mod Placed

@@ -1,8 +1,9 @@
 -- The order of a queue, told by ranks and entries: not by how one standing is put behind another.
-use Rattle.std.specs.Prelude.{◌≡◌, ℕ, ◌<◌, true, ◌<ℤ◌, ◌⊎◌, List, map, All, AllPairs, Contains}
+use Rattle.std.specs.Prelude.{◌≡◌, ℕ, ◌+◌, ◌<◌, ◌≤◌, ◌==◌, true, ◌<ℤ◌, ◌⊎◌, List, map, All, AllPairs, Contains, count_by}
 use Rattle.std.specs.List.Sorted.{IsPermutation}
 use Rattle.pth_queue.specs.declared.row.Row.{Row}
 use Rattle.pth_queue.specs.declared.queue.Queue.{Queue}
+use Rattle.pth_queue.specs.declared.queue.Queue.TheVariants.{New, Ready, Waiting, Suspended, Dead}
 use Rattle.pth_model.specs.Standing.{Standing, rank_now, row_at, raises_of}
 use Rattle.pth_model.specs.State.{State, queue}
 
@@ -31,7 +32,19 @@ pub record IsNumbered (entries : ℕ) (all : List Standing) : Type 0 where
 abbrev pub IsTopped : ℕ → List Standing → Type 0
 IsTopped raises all = (x y : Standing) → Contains all x → Contains all y → x.top ≡ true → y.entry < x.entry → IsAbove raises x y
 
+-- how often thread t stands here
+abbrev pub stands : ℕ → List Standing → ℕ
+stands t all = count_by (λ x. x.tid == t) all
+
+-- how often thread t stands in the queues
+abbrev pub times : ℕ → (Queue → List Standing) → ℕ
+times t all = stands t (all New) + stands t (all Ready) + stands t (all Waiting) + stands t (all Suspended) + stands t (all Dead)
+
 module _ {P S H : Type 0} (s : State P S H) where
+  -- no thread stands in two places
+  abbrev pub IsOnce : Type 0
+  IsOnce = (t : ℕ) → times t s.rest.threads.standing ≤ 1
+
   -- a queue of the state shows who stands in it, in order
   abbrev pub IsInOrder : Queue → Type 0
   IsInOrder q = IsOrderOf (raises_of s.rest.threads.raises q) (s.rest.threads.standing q) (queue s q)

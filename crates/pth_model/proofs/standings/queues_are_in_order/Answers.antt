@@ -1,8 +1,12 @@
 use Rattle.pth_model.proofs.Numbered.{queue_in_order, entries_numbered, top_ahead}
+use Rattle.pth_model.proofs.Placed.{none_twice}
 use Rattle.pth_model.proofs.standings.queues_are_in_order.Goals as goal
 
 pub returns-clause-order : goal.returns-clause-order
 returns-clause-order p c = λ g i q. queue_in_order p.P.Program.functions g i q
+
+pub returns-clause-once : goal.returns-clause-once
+returns-clause-once p c = λ g i. none_twice p.P.Program.functions g i
 
 pub returns-clause-entries : goal.returns-clause-entries
 returns-clause-entries p c = λ g i q. entries_numbered p.P.Program.functions g i q
