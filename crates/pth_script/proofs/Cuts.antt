@@ -7,12 +7,13 @@ use Rattle.std.proofs.lemmas.List.{reverse-reverse, length-reverse, take_at, get
 use Rattle.std.proofs.lemmas.Option.{slice_get-get_or, slice_get_past}
 use Rattle.std.proofs.lemmas.Bool.{cases_Bool}
 use Rattle.std.proofs.lemmas.Bool.Decides.{nat_tests}
+use Rattle.pth_text.specs.Bytes.{code}
 use Rattle.pth_script.specs.Rows.{Row, rows_of, onto_first}
 use Rattle.pth_script.specs.Broken.{broken, place_breaks, row_breaks, end_breaks}
 use Rattle.pth_script.specs.Table.{first_broken}
 
 abbrev lf : ℕ → Bool
-lf b = b == 10
+lf b = b == code "\n"
 
 ends_here : (b : ℕ) (bs : List ℕ) → lf b ≡ true → rows_of (b ∷ bs) ≡ record { bytes = []; ended = true } ∷ rows_of bs
 unfolding rows_of

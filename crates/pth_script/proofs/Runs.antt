@@ -5,6 +5,7 @@ use Rattle.std.proofs.lemmas.List.{length-reverse}
 use Rattle.std.proofs.lemmas.Grind.{reverse_onto}
 use Rattle.std.proofs.lemmas.Bool.{cases_lt}
 use Rattle.pth_line.specs.Script.{Sections}
+use Rattle.pth_text.specs.Bytes.{code}
 use Rattle.pth_script.specs.Rows.{Row, rows_of, onto_first, row_size, size_of}
 use Rattle.pth_script.specs.Broken.{broken, row_breaks, end_breaks, text_limit, IsRefusal, IsAccepted}
 use Rattle.pth_script.specs.Table.{first_broken}
@@ -40,7 +41,7 @@ row_more false b rs = onto_size b rs
 pub whole_size : (bs : List ℕ) → size_of (rows_of bs) ≡ length bs
 unfolding rows_of size_of
 whole_size [] = refl
-whole_size (b ∷ bs) = omega (arith, row_more (b == 10) b (rows_of bs), whole_size bs)
+whole_size (b ∷ bs) = omega (arith, row_more (b == code "\n") b (rows_of bs), whole_size bs)
 
 pub row_gone : (bytes after : List ℕ) (row : Row) → rows_of bytes ≡ row ∷ rows_of after → length bytes ≡ row_size row + length after
 unfolding size_of

@@ -1,5 +1,6 @@
 -- A text as a list of lines.
 use Rattle.std.specs.Prelude.{ℕ, ◌+◌, Bool, true, false, List, [], ◌∷◌, length, ◌==◌, if◌then◌else◌, slice_index}
+use Rattle.pth_text.specs.Bytes.{code}
 use Rattle.pth_text.specs.Words.{words_of}
 
 -- a line without its LF, and whether it has one
@@ -15,7 +16,7 @@ onto_first b (r ∷ rs) = record { bytes = b ∷ r.bytes; ended = r.ended } ∷ 
 -- the lines of a text
 unfoldable pub rows_of : List ℕ → List Row
 rows_of [] = []
-rows_of (b ∷ bs) = if b == 10 then record { bytes = []; ended = true } ∷ rows_of bs else onto_first b (rows_of bs)
+rows_of (b ∷ bs) = if b == code "\n" then record { bytes = []; ended = true } ∷ rows_of bs else onto_first b (rows_of bs)
 
 -- how many bytes a line has, with its LF
 abbrev pub row_size : Row → ℕ
@@ -28,7 +29,7 @@ size_of (r ∷ rs) = row_size r + size_of rs
 
 -- a line that begins with `#`
 abbrev pub is_comment : List ℕ → Bool
-is_comment bytes = slice_index bytes 0 == 35
+is_comment bytes = slice_index bytes 0 == code "#"
 
 -- the lines above a line, the nearest first, in words: without comments, and without the text's first line
 unfoldable pub above : List Row → List (List (List ℕ))

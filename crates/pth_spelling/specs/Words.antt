@@ -8,6 +8,7 @@ use Rattle.pth_base.specs.declared.attr.AttrField.TheVariants as field
 use Rattle.pth_base.specs.declared.ids.FdSet.{FdSet}
 use Rattle.pth_base.specs.declared.thread.ThreadState.{ThreadState}
 use Rattle.pth_base.specs.declared.thread.ThreadState.TheVariants as state
+use Rattle.pth_text.specs.Bytes.{code}
 use Rattle.pth_text.specs.Number.{number_of}
 use Rattle.pth_text.specs.Hex.{hex_bytes}
 use Rattle.pth_line.specs.declared.operand.ByteOperand.{ByteOperand}
@@ -44,11 +45,11 @@ natural_of w = option_and_then not_negative (number_of w)
 
 -- `v0` to `v63`
 unfoldable pub shared_of : List ℕ → Option ℕ
-shared_of w = if slice_index w 0 == 118 then option_and_then (below 64) (number_of (drop 1 w)) else None
+shared_of w = if slice_index w 0 == code "v" then option_and_then (below 64) (number_of (drop 1 w)) else None
 
 -- `a0` to `a15`
 unfoldable pub own_of : List ℕ → Option ℕ
-own_of w = if slice_index w 0 == 97 then option_and_then (below 16) (number_of (drop 1 w)) else None
+own_of w = if slice_index w 0 == code "a" then option_and_then (below 16) (number_of (drop 1 w)) else None
 
 -- a register of either kind
 unfoldable pub register_of : List ℕ → Option Register
@@ -76,7 +77,7 @@ maybe f w = if bytes_eq w (codes "-") then Some None else option_map (λ x. Some
 
 -- `a` to `z`, `0` to `9`, `_` and `.`
 abbrev pub is_name_byte : ℕ → Bool
-is_name_byte b = (nat_le 97 b && nat_le b 122) || ((nat_le 48 b && nat_le b 57) || (b == 95 || b == 46))
+is_name_byte b = (nat_le (code "a") b && nat_le b (code "z")) || ((nat_le (code "0") b && nat_le b (code "9")) || (b == code "_" || b == code "."))
 
 -- 1 to 80 such bytes
 abbrev pub is_name : List ℕ → Bool
@@ -95,7 +96,7 @@ members_of least (p ∷ ps) =
 
 -- `-` for none, or members joined by commas
 unfoldable pub set_of : List ℕ → Option FdSet
-set_of w = option_map (λ set. record { 0 = set }) (if bytes_eq w (codes "-") then Some 0 else members_of 0 (slice_split (λ b. b == 44) w))
+set_of w = option_map (λ set. record { 0 = set }) (if bytes_eq w (codes "-") then Some 0 else members_of 0 (slice_split (λ b. b == code ",") w))
 
 -- it begins with `hex:`
 abbrev pub has_hex : List ℕ → Bool

@@ -1,12 +1,13 @@
 -- Bytes in lower-case hexadecimal digits.
-use Rattle.std.specs.Prelude.{ℕ, ◌+◌, ◌*◌, ◌/◌, ◌%◌, ◌==◌, nat_lt, Bool, ◌&&◌, ◌||◌, List, [], ◌∷◌, length, flat_map, Option, Some, None, if◌then◌else◌}
+use Rattle.std.specs.Prelude.{ℕ, ◌+◌, ◌-◌, ◌*◌, ◌/◌, ◌%◌, ◌==◌, nat_lt, Bool, ◌&&◌, ◌||◌, List, [], ◌∷◌, length, flat_map, Option, Some, None, if◌then◌else◌}
 use Rattle.std.specs.Char.{digit_value}
 use Rattle.std.specs.Int.{is_in_range}
 use Rattle.std.specs.List.{list_all}
+use Rattle.pth_text.specs.Bytes.{code}
 
 -- the digit of a number below 16: `0` to `9`, then `a` to `f`
 abbrev pub digit_of : ℕ → ℕ
-digit_of n = if nat_lt n 10 then 48 + n else 87 + n
+digit_of n = if nat_lt n 10 then code "0" + n else code "a" - 10 + n
 
 -- the two digits of a byte
 abbrev pub pair_of : ℕ → List ℕ
@@ -18,7 +19,7 @@ hex_of bytes = flat_map pair_of bytes
 
 -- a digit, `0` to `9` or `a` to `f`
 abbrev pub is_hex_digit : ℕ → Bool
-is_hex_digit c = is_in_range 48 57 c || is_in_range 97 102 c
+is_hex_digit c = is_in_range (code "0") (code "9") c || is_in_range (code "a") (code "f") c
 
 -- 1 to 2048 pairs of digits
 abbrev pub is_hex : List ℕ → Bool

@@ -1,13 +1,13 @@
 -- How numbers are spelled: `0`, or an optional `-`, a digit from 1 to 9 and further digits.
-use Rattle.std.specs.Prelude.{ℕ, ℤ, ◌^◌, ◌==◌, nat_lt, Bool, false, not, ◌&&◌, ◌||◌, List, [], ◌∷◌, drop, codes, Option, Some, None, if◌then◌else◌}
-use Rattle.std.specs.Int.Signed.{mag}
+use Rattle.std.specs.Prelude.{ℕ, ℤ, pos, neg_ℤ, ◌^◌, ◌==◌, int_le, int_lt, Bool, false, not, ◌&&◌, ◌||◌, List, [], ◌∷◌, drop, codes, Option, Some, None, if◌then◌else◌}
 use Rattle.std.specs.Str.{all_ascii_digits, bytes_eq}
 use Rattle.std.specs.Str.Parse.{starts_with_minus, signed_digits_value}
+use Rattle.pth_text.specs.Bytes.{code}
 
 -- digits, of which the first is not 0
 abbrev pub is_positive : List ℕ → Bool
 is_positive [] = false
-is_positive (c ∷ cs) = not (c == 48) && all_ascii_digits (c ∷ cs)
+is_positive (c ∷ cs) = not (c == code "0") && all_ascii_digits (c ∷ cs)
 
 -- what follows a `-`, and the whole word where it begins with none
 abbrev pub without_minus : List ℕ → List ℕ
@@ -17,9 +17,9 @@ without_minus word = if starts_with_minus word then drop 1 word else word
 abbrev pub is_numeral : List ℕ → Bool
 is_numeral word = bytes_eq word (codes "0") || is_positive (without_minus word)
 
--- a number of 64 bits with a sign
+-- a number of 64 bits with a sign: from -2^63 to below 2^63
 abbrev pub is_i64 : ℤ → Bool
-is_i64 n = nat_lt (mag n) (2 ^ 63)
+is_i64 n = int_le (neg_ℤ (pos (2 ^ 63))) n && int_lt n (pos (2 ^ 63))
 
 -- the number that a word spells, where it is one of 64 bits
 unfoldable pub number_of : List ℕ → Option ℤ

@@ -2,6 +2,7 @@ use Rattle.std.proofs.Common.{rules, tests, ◌==◌, ◌∙◌, ap, sym, refl, 
 use Rattle.std.specs.List.{slice_split}
 use Rattle.std.specs.Slice.Iter.{split_rest, split_done}
 use Rattle.std.proofs.lemmas.Iterator.Splits.{YieldsList-from_slice_split}
+use Rattle.pth_text.specs.Bytes.{code}
 use Rattle.pth_spelling.proofs.Sets.{none_before, all_read, refused, low_refused, taken}
 use Rattle.pth_spelling.proofs.words.sets.members.Goals as goal
 
@@ -9,8 +10,8 @@ pub loop-part-init : goal.loop-part-init
 loop-part-init c =
     let same = c.into_iter-part-iterator.ensures.into_iter_gives in
     record {
-      parts = slice_split (λ b. b == 44) c.args.word.now;
-      come = (YieldsList-from_slice_split _ (λ b. b == 44) c.args.word.now (ap split_rest same ∙ c.split-part-items.ensures.rest) (ap split_done same ∙ c.split-part-items.ensures.done) refl (λ x b q k. search (rules, tests))).runs;
+      parts = slice_split (λ b. b == code ",") c.args.word.now;
+      come = (YieldsList-from_slice_split _ (λ b. b == code ",") c.args.word.now (ap split_rest same ∙ c.split-part-items.ensures.rest) (ap split_done same ∙ c.split-part-items.ensures.done) refl (λ x b q k. search (rules, tests))).runs;
       lead = none_before _;
       small = omega arith;
     }
