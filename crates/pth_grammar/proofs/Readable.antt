@@ -15,7 +15,7 @@ use Rattle.pth_grammar.specs.declared.form.Form.TheVariants as form
 use Rattle.pth_spelling.specs.declared.keyword.CallWord.{CallWord}
 use Rattle.pth_spelling.specs.declared.keyword.Keyword.{Keyword}
 use Rattle.pth_spelling.specs.declared.keyword.Keyword.TheVariants as key
-use Rattle.pth_grammar.specs.declared.rule.Rule.TheVariants as rule
+use Rattle.pth_text.specs.declared.rule.Rule.TheVariants as rule
 use Rattle.pth_grammar.specs.declared.section.Section.{Section}
 use Rattle.pth_grammar.specs.declared.section.Section.TheVariants as sec
 use Rattle.pth_grammar.proofs.CallLines.{callable}

@@ -7,8 +7,8 @@ use Rattle.pth_spelling.specs.Keywords.{begins, call_word, event_word}
 use Rattle.pth_spelling.specs.Words.{natural_of, operand_of, maybe, register_of, value_of, shared_of, name_of, set_of, has_hex, given_of, goals_of, which_of, relation_of, field_of, state_of, mode_of, direction_of, query_of}
 use Rattle.pth_grammar.specs.declared.form.Form.{Form}
 use Rattle.pth_grammar.specs.declared.form.Form.TheVariants as form
-use Rattle.pth_grammar.specs.declared.rule.Rule.{Rule}
-use Rattle.pth_grammar.specs.declared.rule.Rule.TheVariants as rule
+use Rattle.pth_text.specs.declared.rule.Rule.{Rule}
+use Rattle.pth_text.specs.declared.rule.Rule.TheVariants as rule
 use Rattle.pth_grammar.specs.declared.section.Section.{Section}
 use Rattle.pth_grammar.specs.declared.section.Section.TheVariants as sec
 

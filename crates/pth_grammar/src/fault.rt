@@ -6,7 +6,6 @@ ghost use Rattle.pth_grammar.specs.Shapes.{Asks, is_listed, has_form, has_pairs,
 ghost use Rattle.pth_spelling.specs.Texts.{texts};
 
 use crate::form::Form;
-use crate::rule::Rule;
 use crate::section::Section;
 use crate::shape::{Shape, shape_of};
 use pth_spelling::first_word::event_word;
@@ -15,6 +14,7 @@ use pth_spelling::words::{
     register, relation, set, shared, state, value, which,
 };
 use pth_text::hex::is_hex;
+use pth_text::rule::Rule;
 
 /// Whether a word of a list is one that is allowed there.
 fn is_listed(form: Form, word: &[u8]) -> bool

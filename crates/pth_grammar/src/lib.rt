@@ -16,7 +16,6 @@ mod lock_line;
 mod operands;
 mod port_line;
 mod ring_line;
-pub mod rule;
 pub mod section;
 mod shape;
 mod store_line;

@@ -11,16 +11,12 @@ use Rattle.pth_print.specs.Lines.{fault_line, fault_status}
 use Rattle.pth_print.specs.declared.fault_line.Fault.{Fault}
 use Rattle.pth_print.specs.declared.fault_line.Fault.TheVariants as fault
 use Rattle.pth_line.specs.Script.{Sections, functions_of}
-use Rattle.pth_grammar.specs.declared.rule.Rule.{Rule}
-use Rattle.pth_grammar.specs.declared.rule.Rule.TheVariants as rule
 use Rattle.pth_script.proofs.Once.{not_both}
-use Rattle.pth_script.specs.declared.breach.Breach.{Breach}
-use Rattle.pth_script.specs.declared.breach.Breach.TheVariants.{Limit, Of}
+use Rattle.pth_text.specs.declared.rule.Breach.{Breach}
 use Rattle.pth_words.specs.Words.{Asked}
-use Rattle.pth_player.specs.Faults.{input_fault, place_of}
 use Rattle.pth_player.specs.Objects.{AreHeld, ObjectRead, ObjectRose, ObjectStood, Scene, content, cut, object_of}
 use Rattle.pth_player.specs.Output.{Output, IsRefused, IsTheOutput, IsTheScript, given_script, outcome_status, refusal, told_output}
-use Rattle.pth_player.specs.Play.{Completes, DrivesScript, Ends, Faults, HoldsNoScript, IsAtHand, IsErrNamed, IsFaultStatus, IsOutputStatus, IsRunStatus, IsUnwritten, Plays, Ran, RanFor, ReadsWhole, RefusesInput, RefusesWords, Reports, TellsFault, WritesLine, WritesOutput, WritesWhole}
+use Rattle.pth_player.specs.Play.{Completes, DrivesScript, Ends, Faults, HoldsNoScript, IsAtHand, IsFaultStatus, IsOutputStatus, IsRunStatus, IsUnwritten, Plays, Ran, RanFor, ReadsWhole, RefusesInput, RefusesWords, Reports, TellsFault, WritesLine, WritesOutput, WritesWhole}
 use Rattle.pth_player.specs.Streams.{AppendsPart, AppendsPrefix}
 use Rattle.pth_player.proofs.Outputs.{refused_output, script_output, words_output}
 use Rattle.pth_player.proofs.Pieces.{all_of, none_after, part_is_prefix}
@@ -91,11 +87,10 @@ module _ (old new : Scene) (status : ℕ) (w x : Option (List ℕ)) (b n : ℕ) 
     run_told script parts = told_output asked (run functions_of (given_script script) parts)
 
     -- the output of a refused input
-    whole_refused : (line rule : ℕ) → RanFor asked old new (Err (fault.Input line rule)) → (status ≡ fault_status (fault.Input line rule)) × WritesLine w x b n (fault_line (fault.Input line rule)) → Whole
-    whole_refused line rule ran k =
+    whole_refused : (line : ℕ) (breach : Breach) → RanFor asked old new (Err (fault.Input line breach)) → (status ≡ fault_status (fault.Input line breach)) × WritesLine w x b n (fault_line (fault.Input line breach)) → Whole
+    whole_refused line breach ran k =
         let h = ran.1 in
-        let same : fault.Input line rule ≡ input_fault line h.2.0 = ap (λ p. fault.Input line p) h.2.2 in
-        (h.0, h.1, refusal (input_fault line h.2.0), refused_output asked h.0 line h.2.0 h.2.1, k.0, ran.2.0, subst (λ f. WritesLine w x b n (fault_line f)) same k.1)
+        (h.0, h.1, refusal (fault.Input line breach), refused_output asked h.0 line breach h.2, k.0, ran.2.0, k.1)
 
     whole_for : (r : Result Outcome Fault) → RanFor asked old new r → Ends r status w x b n → IsOutputStatus status → Whole
     whole_for (Ok o) ran ends h =
@@ -103,8 +98,8 @@ module _ (old new : Scene) (status : ℕ) (w x : Option (List ℕ)) (b n : ℕ) 
         let out = run_told d.2 d.4.0 in
         (d.0, d.1, out, script_output asked d.0 d.2 out d.3 (d.4.0, d.4.1, refl), ends.0 ∙ ap outcome_status d.4.2, d.4.3, ends.1.0)
     whole_for (Err fault.Words) ran ends h = absurd ran
-    whole_for (Err (fault.Input line rule)) ran ends h = elim ends [
-      | inl k ↦ whole_refused line rule ran k
+    whole_for (Err (fault.Input line breach)) ran ends h = elim ends [
+      | inl k ↦ whole_refused line breach ran k
       | inr k ↦ absurd (not_whole status (inr (inr k.0)) h)
     ]
     whole_for (Err fault.ReadFault) ran ends h = elim ends [ inl k ↦ absurd (not_whole status (inl k.0) h) | inr k ↦ absurd (not_whole status (inr (inr k.0)) h) ]
@@ -114,7 +109,7 @@ module _ (old new : Scene) (status : ℕ) (w x : Option (List ℕ)) (b n : ℕ) 
     part_for : (r : Result Outcome Fault) → RanFor asked old new r → Ends r status w x b n → status ≡ 5 → PartOf (Some asked)
     part_for (Ok o) ran ends e = absurd (not_outcome o status 5 ends.0 (omega arith) (omega arith) e)
     part_for (Err fault.Words) ran ends e = absurd ran
-    part_for (Err (fault.Input line rule)) ran ends e = absurd (other (fault.Input line rule) ends 5 (λ h. omega arith) (λ h. omega arith) e)
+    part_for (Err (fault.Input line breach)) ran ends e = absurd (other (fault.Input line breach) ends 5 (λ h. omega arith) (λ h. omega arith) e)
     part_for (Err fault.ReadFault) ran ends e = absurd (other fault.ReadFault ends 5 (λ h. omega arith) (λ h. omega arith) e)
     part_for (Err fault.WriteFault) ran ends e = let d = ran.1 in (d.0, d.1, d.4.0, script_output asked d.0 d.2 d.4.0 d.3 d.4.1, d.4.2)
     part_for (Err fault.OutOfMemory) ran ends e = absurd (other fault.OutOfMemory ends 5 (λ h. omega arith) (λ h. omega arith) e)
@@ -125,7 +120,7 @@ module _ (old new : Scene) (status : ℕ) (w x : Option (List ℕ)) (b n : ℕ) 
         let out = run_told d.2 d.4.0 in
         inr (d.0, d.1, out, script_output asked d.0 d.2 out d.3 (d.4.0, d.4.1, refl), all_of old.written new.written out.text d.4.3)
     beginning_for (Err fault.Words) ran ends e = absurd ran
-    beginning_for (Err (fault.Input line rule)) ran ends e = inl ran.2.0
+    beginning_for (Err (fault.Input line breach)) ran ends e = inl ran.2.0
     beginning_for (Err fault.ReadFault) ran ends e = inl ran.1.0
     beginning_for (Err fault.WriteFault) ran ends e =
         let d = ran.1 in
@@ -135,7 +130,7 @@ module _ (old new : Scene) (status : ℕ) (w x : Option (List ℕ)) (b n : ℕ) 
     nothing_for : (r : Result Outcome Fault) → RanFor asked old new r → Ends r status w x b n → Nothing → IsUnwritten old new
     nothing_for (Ok o) ran ends h = absurd (not_fault o status ends.0 (elim h [ inl two ↦ inl two | inr k ↦ elim k [ inl three ↦ inr (inl three) | inr four ↦ inr (inr (inl four)) ] ]))
     nothing_for (Err fault.Words) ran ends h = absurd ran
-    nothing_for (Err (fault.Input line rule)) ran ends h = ran.2
+    nothing_for (Err (fault.Input line breach)) ran ends h = ran.2
     nothing_for (Err fault.ReadFault) ran ends h = ran.1
     nothing_for (Err fault.WriteFault) ran ends h = grind arith
     nothing_for (Err fault.OutOfMemory) ran ends h = grind arith
@@ -144,7 +139,7 @@ module _ (old new : Scene) (status : ℕ) (w x : Option (List ℕ)) (b n : ℕ) 
         → ObjectStood (object_of (Some asked)) old.ins new.ins ⊎ (ObjectRose (object_of (Some asked)) old.ins new.ins × ((status ≡ 4) ⊎ (status ≡ 7)))
     read_counts (Ok o) ran ends = inl (read_stood (object_of (Some asked)) old.ins new.ins ran.0)
     read_counts (Err fault.Words) ran ends = absurd ran
-    read_counts (Err (fault.Input line rule)) ran ends = inl (read_stood (object_of (Some asked)) old.ins new.ins ran.0)
+    read_counts (Err (fault.Input line breach)) ran ends = inl (read_stood (object_of (Some asked)) old.ins new.ins ran.0)
     read_counts (Err fault.ReadFault) ran ends = inr (ran.0, elim ends [ inl k ↦ inl k.0 | inr k ↦ inr k.0 ])
     read_counts (Err fault.WriteFault) ran ends = inl (read_stood (object_of (Some asked)) old.ins new.ins ran.0)
     read_counts (Err fault.OutOfMemory) ran ends = inl ran.0
@@ -153,7 +148,7 @@ module _ (old new : Scene) (status : ℕ) (w x : Option (List ℕ)) (b n : ℕ) 
         → (new.out_faults ≡ old.out_faults) ⊎ (Rose old.out_faults new.out_faults × ((status ≡ 5) ⊎ (status ≡ 7)))
     written_counts (Ok o) ran ends = inl ran.1.4.4
     written_counts (Err fault.Words) ran ends = absurd ran
-    written_counts (Err (fault.Input line rule)) ran ends = inl ran.2.1
+    written_counts (Err (fault.Input line breach)) ran ends = inl ran.2.1
     written_counts (Err fault.ReadFault) ran ends = inl ran.1.1
     written_counts (Err fault.WriteFault) ran ends = inr (ran.1.4.3, elim ends [ inl k ↦ inl k.0 | inr k ↦ inr k.0 ])
     written_counts (Err fault.OutOfMemory) ran ends = elim ran.1 [ inl none ↦ inl none.1 | inr d ↦ inl d.4.3 ]
@@ -162,7 +157,7 @@ module _ (old new : Scene) (status : ℕ) (w x : Option (List ℕ)) (b n : ℕ) 
         → (Rose old.out_faults new.out_faults → ⊥) → IsOutputStatus status ⊎ (status ≡ 7)
     completes_for (Ok o) ran ends read write = outcome_or_seven o status ends.0
     completes_for (Err fault.Words) ran ends read write = absurd ran
-    completes_for (Err (fault.Input line rule)) ran ends read write = elim ends [ inl k ↦ inl (inr (inr k.0)) | inr k ↦ inr k.0 ]
+    completes_for (Err (fault.Input line breach)) ran ends read write = elim ends [ inl k ↦ inl (inr (inr k.0)) | inr k ↦ inr k.0 ]
     completes_for (Err fault.ReadFault) ran ends read write = absurd (read ran.0)
     completes_for (Err fault.WriteFault) ran ends read write = let d = ran.1 in absurd (write d.4.3)
     completes_for (Err fault.OutOfMemory) ran ends read write = elim ends [ inl k ↦ inr k.0 | inr k ↦ inr k.0 ]
@@ -185,7 +180,7 @@ module _ (old new : Scene) (status : ℕ) (w x : Option (List ℕ)) (b n : ℕ) 
     refuses_for : (r : Result Outcome Fault) → RanFor asked old new r → Ends r status w x b n → IfSome Told (λ bytes. IsRefused (cut bytes) → Refusal)
     refuses_for (Ok o) ran ends = accepted_with (Ok o) ran.1
     refuses_for (Err fault.Words) ran ends = absurd ran
-    refuses_for (Err (fault.Input line rule)) ran ends = refused_with (elim ends [ inl k ↦ inl k.0 | inr k ↦ inr (inr k.0) ])
+    refuses_for (Err (fault.Input line breach)) ran ends = refused_with (elim ends [ inl k ↦ inl k.0 | inr k ↦ inr (inr k.0) ])
     refuses_for (Err fault.ReadFault) ran ends = refused_with (elim ends [ inl k ↦ inr (inl k.0) | inr k ↦ inr (inr k.0) ])
     refuses_for (Err fault.WriteFault) ran ends = accepted_with (Err sink.Failed) ran.1
     refuses_for (Err fault.OutOfMemory) ran ends = refused_with (elim ends [ inl k ↦ inr (inr k.0) | inr k ↦ inr (inr k.0) ])
@@ -193,7 +188,7 @@ module _ (old new : Scene) (status : ℕ) (w x : Option (List ℕ)) (b n : ℕ) 
     holds_none : (r : Result Outcome Fault) → RanFor asked old new r → Ends r status w x b n → status ≡ 3 → HoldsNoScript (Some asked) old
     holds_none (Ok o) ran ends e = absurd (not_outcome o status 3 ends.0 (omega arith) (omega arith) e)
     holds_none (Err fault.Words) ran ends e = absurd ran
-    holds_none (Err (fault.Input line rule)) ran ends e = (ran.1.0, ran.1.1, (line, ran.1.2.0, ran.1.2.1))
+    holds_none (Err (fault.Input line breach)) ran ends e = (ran.1.0, ran.1.1, (line, breach, ran.1.2))
     holds_none (Err fault.ReadFault) ran ends e = absurd (other fault.ReadFault ends 3 (λ h. omega arith) (λ h. omega arith) e)
     holds_none (Err fault.WriteFault) ran ends e = absurd (other fault.WriteFault ends 3 (λ h. omega arith) (λ h. omega arith) e)
     holds_none (Err fault.OutOfMemory) ran ends e = absurd (other fault.OutOfMemory ends 3 (λ h. omega arith) (λ h. omega arith) e)
@@ -203,7 +198,7 @@ module _ (old new : Scene) (status : ℕ) (w x : Option (List ℕ)) (b n : ℕ) 
     read_for : (r : Result Outcome Fault) → RanFor asked old new r → Ends r status w x b n → status ≢ 4 → status ≢ 7 → ObjectRead (object_of (Some asked)) old.ins new.ins
     read_for (Ok o) ran ends not4 not7 = ran.0
     read_for (Err fault.Words) ran ends not4 not7 = absurd ran
-    read_for (Err (fault.Input line rule)) ran ends not4 not7 = ran.0
+    read_for (Err (fault.Input line breach)) ran ends not4 not7 = ran.0
     read_for (Err fault.ReadFault) ran ends not4 not7 = elim ends [ inl k ↦ absurd (not4 k.0) | inr k ↦ absurd (not7 k.0) ]
     read_for (Err fault.WriteFault) ran ends not4 not7 = ran.0
     read_for (Err fault.OutOfMemory) ran ends not4 not7 = elim ends [ inl k ↦ absurd (not7 k.0) | inr k ↦ absurd (not7 k.0) ]
@@ -211,7 +206,7 @@ module _ (old new : Scene) (status : ℕ) (w x : Option (List ℕ)) (b n : ℕ) 
     fails_for : (r : Result Outcome Fault) → RanFor asked old new r → Ends r status w x b n → status ≡ 4 → ObjectRose (object_of (Some asked)) old.ins new.ins
     fails_for (Ok o) ran ends e = absurd (not_outcome o status 4 ends.0 (omega arith) (omega arith) e)
     fails_for (Err fault.Words) ran ends e = absurd ran
-    fails_for (Err (fault.Input line rule)) ran ends e = absurd (other (fault.Input line rule) ends 4 (λ h. omega arith) (λ h. omega arith) e)
+    fails_for (Err (fault.Input line breach)) ran ends e = absurd (other (fault.Input line breach) ends 4 (λ h. omega arith) (λ h. omega arith) e)
     fails_for (Err fault.ReadFault) ran ends e = ran.0
     fails_for (Err fault.WriteFault) ran ends e = absurd (other fault.WriteFault ends 4 (λ h. omega arith) (λ h. omega arith) e)
     fails_for (Err fault.OutOfMemory) ran ends e = absurd (other fault.OutOfMemory ends 4 (λ h. omega arith) (λ h. omega arith) e)
@@ -219,7 +214,7 @@ module _ (old new : Scene) (status : ℕ) (w x : Option (List ℕ)) (b n : ℕ) 
     write_fails_for : (r : Result Outcome Fault) → RanFor asked old new r → Ends r status w x b n → status ≡ 5 → Rose old.out_faults new.out_faults
     write_fails_for (Ok o) ran ends e = absurd (not_outcome o status 5 ends.0 (omega arith) (omega arith) e)
     write_fails_for (Err fault.Words) ran ends e = absurd ran
-    write_fails_for (Err (fault.Input line rule)) ran ends e = absurd (other (fault.Input line rule) ends 5 (λ h. omega arith) (λ h. omega arith) e)
+    write_fails_for (Err (fault.Input line breach)) ran ends e = absurd (other (fault.Input line breach) ends 5 (λ h. omega arith) (λ h. omega arith) e)
     write_fails_for (Err fault.ReadFault) ran ends e = absurd (other fault.ReadFault ends 5 (λ h. omega arith) (λ h. omega arith) e)
     write_fails_for (Err fault.WriteFault) ran ends e = ran.1.4.3
     write_fails_for (Err fault.OutOfMemory) ran ends e = absurd (other fault.OutOfMemory ends 5 (λ h. omega arith) (λ h. omega arith) e)
@@ -227,7 +222,7 @@ module _ (old new : Scene) (status : ℕ) (w x : Option (List ℕ)) (b n : ℕ) 
     two_for : (r : Result Outcome Fault) → RanFor asked old new r → Ends r status w x b n → status ≡ 2 → ⊥
     two_for (Ok o) ran ends e = not_outcome o status 2 ends.0 (omega arith) (omega arith) e
     two_for (Err fault.Words) ran ends e = ran
-    two_for (Err (fault.Input line rule)) ran ends e = other (fault.Input line rule) ends 2 (λ h. omega arith) (λ h. omega arith) e
+    two_for (Err (fault.Input line breach)) ran ends e = other (fault.Input line breach) ends 2 (λ h. omega arith) (λ h. omega arith) e
     two_for (Err fault.ReadFault) ran ends e = other fault.ReadFault ends 2 (λ h. omega arith) (λ h. omega arith) e
     two_for (Err fault.WriteFault) ran ends e = other fault.WriteFault ends 2 (λ h. omega arith) (λ h. omega arith) e
     two_for (Err fault.OutOfMemory) ran ends e = other fault.OutOfMemory ends 2 (λ h. omega arith) (λ h. omega arith) e
@@ -238,7 +233,7 @@ module _ (old new : Scene) (status : ℕ) (w x : Option (List ℕ)) (b n : ℕ) 
       → ((r ≡ Err fault.Words) × (status ≡ 2) × WritesLine w x b n (fault_line fault.Words)) ⊎ (status ≡ 7)
   refused_or_memory (Ok o) ran ends = absurd ran
   refused_or_memory (Err fault.Words) ran ends = elim ends [ inl k ↦ inl (refl, k.0, k.1) | inr k ↦ inr k.0 ]
-  refused_or_memory (Err (fault.Input line rule)) ran ends = absurd ran
+  refused_or_memory (Err (fault.Input line breach)) ran ends = absurd ran
   refused_or_memory (Err fault.ReadFault) ran ends = absurd ran
   refused_or_memory (Err fault.WriteFault) ran ends = absurd ran
   refused_or_memory (Err fault.OutOfMemory) ran ends = elim ends [ inl k ↦ inr k.0 | inr k ↦ inr k.0 ]
@@ -246,7 +241,7 @@ module _ (old new : Scene) (status : ℕ) (w x : Option (List ℕ)) (b n : ℕ) 
   none_unwritten : (r : Result Outcome Fault) → Ran None old new r → IsUnwritten old new
   none_unwritten (Ok o) ran = absurd ran
   none_unwritten (Err fault.Words) ran = ran
-  none_unwritten (Err (fault.Input line rule)) ran = absurd ran
+  none_unwritten (Err (fault.Input line breach)) ran = absurd ran
   none_unwritten (Err fault.ReadFault) ran = absurd ran
   none_unwritten (Err fault.WriteFault) ran = absurd ran
   none_unwritten (Err fault.OutOfMemory) ran = ran
@@ -315,40 +310,11 @@ ran_out old new (Some asked) o ran =
     let out = told_output asked (run functions_of (given_script d.2) d.4.0) in
     (read_stood (object_of (Some asked)) old.ins new.ins ran.0, inr (d.0, d.1, d.2, d.3, (out, (d.4.0, d.4.1, refl), all_of old.written new.written out.text d.4.3, d.4.4)))
 
--- each rule has a place of the table
-place_within : (b : Breach) → place_of b < 13
-place_within Limit = omega arith
-place_within (Of r) = by_rule r
-  where
-    by_rule : (r : Rule) → place_of (Of r) < 13
-    by_rule rule.Cut = omega arith
-    by_rule rule.Header = omega arith
-    by_rule rule.Word = omega arith
-    by_rule rule.Count = omega arith
-    by_rule rule.Operand = omega arith
-    by_rule rule.Hex = omega arith
-    by_rule rule.Number = omega arith
-    by_rule rule.Label = omega arith
-    by_rule rule.Main = omega arith
-    by_rule rule.End = omega arith
-    by_rule rule.Time = omega arith
-    by_rule rule.Fd = omega arith
-
--- so a fault has a name for its rule
-pub named : (old new : Scene) (asked : Option Asked) (r : Result Outcome Fault) → Ran asked old new r → IsErrNamed r
-named old new asked (Ok o) ran = tt
-named old new asked (Err fault.Words) ran = tt
-named old new None (Err (fault.Input line rule)) ran = absurd ran
-named old new (Some asked) (Err (fault.Input line rule)) ran = subst (λ (k : ℕ). k < 13) (sym ran.1.2.2) (place_within ran.1.2.0)
-named old new asked (Err fault.ReadFault) ran = tt
-named old new asked (Err fault.WriteFault) ran = tt
-named old new asked (Err fault.OutOfMemory) ran = tt
-
 -- ---- what `err` received
 
 module _ (old new : Scene) (asked : Option Asked) (status : ℕ) (w x : Option (List ℕ)) (b n : ℕ) where
   at_hand : (f : Fault) → Ran asked old new (Err f) → IsAtHand asked old new f
-  at_hand f ran = record { ran = ran; named = named old new asked (Err f) ran }
+  at_hand f ran = ran
 
   quiet : (r : Result Outcome Fault) → Ends r status w x b n → IsRunStatus status → Appends w x [] × (n ≡ b)
   quiet (Ok o) ends h = ends.1

@@ -5,5 +5,4 @@ pub mod Outputs
 pub mod Pieces
 pub mod Reading
 pub mod Results
-pub mod Rules
 pub mod Runs

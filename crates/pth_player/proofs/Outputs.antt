@@ -8,11 +8,10 @@ use Rattle.pth_model.proofs.Runs.{goes-once}
 use Rattle.pth_print.specs.declared.fault_line.Fault.TheVariants as fault
 use Rattle.pth_line.specs.Script.{Sections, functions_of}
 use Rattle.pth_script.specs.Broken.{IsRefusal}
-use Rattle.pth_script.specs.declared.breach.Breach.{Breach}
+use Rattle.pth_text.specs.declared.rule.Breach.{Breach}
 use Rattle.pth_sched.proofs.Stopping.{run_stops}
 use Rattle.pth_script.proofs.Whole.{accepted_or_refused, script_of}
 use Rattle.pth_script.proofs.Once.{not_both, one_script, same_breach, same_line}
-use Rattle.pth_player.specs.Faults.{input_fault}
 use Rattle.pth_player.specs.Output.{Output, IsOutput, IsRunOutput, IsTheOutput, IsTheScript, given_script, refusal, told_output}
 use Rattle.pth_words.specs.Words.{Asked}
 use Rattle.pth_player.specs.Objects.{Scene, content, cut}
@@ -27,12 +26,12 @@ pub words_output : (bytes : List ℕ) → IsTheOutput None bytes (refusal fault.
 words_output bytes = (refl, λ other o. o)
 
 -- that of an input that is no script
-pub refused_output : (asked : Asked) (bytes : List ℕ) (line : ℕ) (b : Breach) → IsRefusal (cut bytes) line b → IsTheOutput (Some asked) bytes (refusal (input_fault line b))
+pub refused_output : (asked : Asked) (bytes : List ℕ) (line : ℕ) (b : Breach) → IsRefusal (cut bytes) line b → IsTheOutput (Some asked) bytes (refusal (fault.Input line b))
 refused_output asked bytes line b refused = (
   inr (line, b, refused, refl),
   λ other o. elim o [
     | inl i ↦ absurd (not_both (cut bytes) line b i.1.0 refused)
-    | inr k ↦ k.3 ∙ (λ i. refusal (input_fault (same_line (cut bytes) k.0 line k.1 b k.2 refused i) (same_breach (cut bytes) k.0 line k.1 b k.2 refused i)))
+    | inr k ↦ k.3 ∙ (λ i. refusal (fault.Input (same_line (cut bytes) k.0 line k.1 b k.2 refused i) (same_breach (cut bytes) k.0 line k.1 b k.2 refused i)))
   ],
 )
 
@@ -57,7 +56,7 @@ output_of (Some asked) bytes = elim (accepted_or_refused (cut bytes)) [
       let stop = run_stops functions_of (given_script script.0) asked.steps 0 in
       let out = told_output asked (run functions_of (given_script script.0) stop.0) in
       (out, script_output asked bytes script.0 out (accepted, script.1) (stop.0, stop.1, refl))
-  | inr refused ↦ (refusal (input_fault refused.0 refused.1), refused_output asked bytes refused.0 refused.1 refused.2)
+  | inr refused ↦ (refusal (fault.Input refused.0 refused.1), refused_output asked bytes refused.0 refused.1 refused.2)
 ]
 
 -- where the content is told, and for every output that it has: this is the status, this text was appended, and this fault's line was written

@@ -10,7 +10,7 @@ use Rattle.pth_print.specs.declared.fault_line.Fault.{Fault}
 use Rattle.pth_print.specs.declared.fault_line.Fault.TheVariants as fault
 use Rattle.pth_line.specs.Script.{Sections}
 use Rattle.pth_script.specs.Follows.{Answers}
-use Rattle.pth_script.specs.declared.breach.Breach.TheVariants.{Limit, Of}
+use Rattle.pth_text.specs.declared.rule.Breach.TheVariants.{Limit, Of}
 use Rattle.pth_player.specs.Faults.{fault_of_read, fault_of_script}
 use Rattle.pth_player.specs.Objects.{AreHeld, Inputs, LosesRead, Object, ObjectCounts, ObjectRead, ObjectStood, cut, nothing, object_named, the_file, the_input}
 use Rattle.pth_player.specs.Output.{IsTheScript}
@@ -108,9 +108,9 @@ module _ (object : Object) (old new : Inputs) (bytes seen : List ℕ) (s : Resul
       → MatchResult r (λ x. s ≡ Ok x) (λ e. IsErrAnd s (λ f. f ≡ fault_of_script e)) → ReadsScript object old new s
   read_is (Ok script) h same a m = subst (ReadsScript object old new) (sym m) (h.0, (h.1.0, h.1.1, subst (IsTheScript script) (same ∙ h.1.2) a))
   read_is (Err (script.Refused line r)) h same a m = subst (ReadsScript object old new) (sym (err_and s (fault_of_script (script.Refused line r)) m))
-      (h.0, (h.1.0, h.1.1, (Of r, subst (λ t. IsRefusal t line (Of r)) (same ∙ h.1.2) a, refl)))
+      (h.0, (h.1.0, h.1.1, subst (λ t. IsRefusal t line (Of r)) (same ∙ h.1.2) a))
   read_is (Err (script.TooLarge line)) h same a m = subst (ReadsScript object old new) (sym (err_and s (fault_of_script (script.TooLarge line)) m))
-      (h.0, (h.1.0, h.1.1, (Limit, subst (λ t. IsRefusal t line Limit) (same ∙ h.1.2) a, refl)))
+      (h.0, (h.1.0, h.1.1, subst (λ t. IsRefusal t line Limit) (same ∙ h.1.2) a))
   read_is (Err script.OutOfMemory) h same a m = subst (ReadsScript object old new) (sym (err_and s fault.OutOfMemory m)) (read_stood object old new h.0)
 
 -- memory ran out while the bytes were read, or the read failed

@@ -64,7 +64,7 @@ module _ (asked : Option Asked) (ins : Inputs) (w : Option (List ℕ)) (a : ℕ)
     unwritten = scene later w a
 
     unread_by : (e : Fault) → ReadsScript (object_of (Some x)) ins later (Err e) → Ran (Some x) before unwritten (Err e)
-    unread_by (fault.Input line rule) h = (h.0, h.1, (Appends-nil w, refl))
+    unread_by (fault.Input line breach) h = (h.0, h.1, (Appends-nil w, refl))
     unread_by fault.ReadFault h = (h, (Appends-nil w, refl))
     unread_by fault.OutOfMemory h = (h, inl (Appends-nil w, refl))
     unread_by fault.Words h = absurd h

@@ -12,8 +12,7 @@ use Rattle.pth_print.specs.declared.fault_line.Fault.TheVariants as fault
 use Rattle.pth_line.specs.Script.{Sections, functions_of}
 use Rattle.pth_script.specs.Broken.{IsAccepted, IsRefusal}
 use Rattle.pth_script.specs.Meaning.{StandsFor}
-use Rattle.pth_script.specs.declared.breach.Breach.{Breach}
-use Rattle.pth_player.specs.Faults.{input_fault}
+use Rattle.pth_text.specs.declared.rule.Breach.{Breach}
 use Rattle.pth_words.specs.Words.{Asked}
 use Rattle.pth_player.specs.Objects.{cut}
 use Rattle.pth_player.specs.Transcript.{text_of}
@@ -68,7 +67,7 @@ given_script script = record { program = script }
 abbrev pub IsInputOutput : Asked → List ℕ → Output → Type 0
 IsInputOutput asked text out =
     ((script : Sections) × IsTheScript script text × IsRunOutput functions_of (given_script script) asked out)
-    ⊎ ((line : ℕ) × (b : Breach) × IsRefusal text line b × (out ≡ refusal (input_fault line b)))
+    ⊎ ((line : ℕ) × (b : Breach) × IsRefusal text line b × (out ≡ refusal (fault.Input line b)))
 
 -- the output for what the words ask for, where they are not refused, and the bytes of the object that they name
 abbrev pub IsOutput : Option Asked → List ℕ → Output → Type 0

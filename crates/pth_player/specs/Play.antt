@@ -5,14 +5,13 @@ use Rattle.pth_streams.specs.Faults.{Rose}
 use Rattle.pth_base.specs.declared.outcome.Outcome.{Outcome}
 use Rattle.pth_streams.specs.declared.sink.SinkErr.{SinkErr}
 use Rattle.pth_streams.specs.declared.sink.SinkErr.TheVariants as sink
-use Rattle.pth_print.specs.Lines.{IsNamed, fault_line, fault_status}
+use Rattle.pth_print.specs.Lines.{fault_line, fault_status}
 use Rattle.pth_print.specs.declared.fault_line.Fault.{Fault}
 use Rattle.pth_print.specs.declared.fault_line.Fault.TheVariants as fault
 use Rattle.pth_line.specs.Script.{Sections, functions_of}
 use Rattle.pth_script.specs.Broken.{IsRefusal}
-use Rattle.pth_script.specs.declared.breach.Breach.{Breach}
+use Rattle.pth_text.specs.declared.rule.Breach.{Breach}
 use Rattle.pth_words.specs.Words.{Asked}
-use Rattle.pth_player.specs.Faults.{place_of}
 use Rattle.pth_player.specs.Objects.{AreHeld, Inputs, Object, ObjectRead, ObjectRose, ObjectStood, Scene, content, cut, held_by, object_of}
 use Rattle.pth_player.specs.Streams.{AppendsPart, AppendsPrefix}
 use Rattle.pth_player.specs.Output.{Output, IsTheOutput, IsRefused, IsTheScript, given_script, outcome_status}
@@ -24,14 +23,10 @@ use Rattle.pth_player.specs.Drive.{Drives}
 abbrev pub ReadsBytes : Object → Inputs → Inputs → List ℕ → Type 0
 ReadsBytes object old new bytes = ObjectRead object old new × ((held : List ℕ) × AreHeld (held_by object old) held × (bytes ≡ cut held))
 
--- the text is refused at this line, for the rule at this place of their order
-abbrev pub RefusedFor : List ℕ → ℕ → ℕ → Type 0
-RefusedFor text line rule = (b : Breach) × IsRefusal text line b × (rule ≡ place_of b)
-
 -- a script was read of the object, or why not
 abbrev pub ReadsScript : Object → Inputs → Inputs → Result Sections Fault → Type 0
 ReadsScript object old new (Ok script) = ObjectRead object old new × ((bytes : List ℕ) × AreHeld (held_by object old) bytes × IsTheScript script (cut bytes))
-ReadsScript object old new (Err (fault.Input line rule)) = ObjectRead object old new × ((bytes : List ℕ) × AreHeld (held_by object old) bytes × RefusedFor (cut bytes) line rule)
+ReadsScript object old new (Err (fault.Input line breach)) = ObjectRead object old new × ((bytes : List ℕ) × AreHeld (held_by object old) bytes × IsRefusal (cut bytes) line breach)
 ReadsScript object old new (Err fault.ReadFault) = ObjectRose object old new
 ReadsScript object old new (Err fault.OutOfMemory) = ObjectStood object old new
 ReadsScript object old new (Err fault.Words) = ⊥
@@ -41,9 +36,9 @@ ReadsScript object old new (Err fault.WriteFault) = ⊥
 abbrev pub HoldsNoScript : Option Asked → Scene → Type 0
 HoldsNoScript asked s = (bytes : List ℕ) × AreHeld (content asked s) bytes × IsRefused (cut bytes)
 
--- it is refused at this line, for the rule at this place of their order
-abbrev pub HoldsRefused : Asked → Scene → ℕ → ℕ → Type 0
-HoldsRefused asked s line rule = (bytes : List ℕ) × AreHeld (content (Some asked) s) bytes × RefusedFor (cut bytes) line rule
+-- it is refused at this line, for what the line breaks
+abbrev pub HoldsRefused : Asked → Scene → ℕ → Breach → Type 0
+HoldsRefused asked s line breach = (bytes : List ℕ) × AreHeld (content (Some asked) s) bytes × IsRefusal (cut bytes) line breach
 
 -- the content is a script's text, and its machine was driven with this result
 abbrev pub DrivesScript : Asked → Scene → Scene → Result Outcome SinkErr → Type 0
@@ -58,7 +53,7 @@ IsUnwritten old new = Appends old.written new.written [] × (new.out_faults ≡ 
 abbrev pub RanFor : Asked → Scene → Scene → Result Outcome Fault → Type 0
 RanFor asked old new (Ok o) = ObjectRead (object_of (Some asked)) old.ins new.ins × DrivesScript asked old new (Ok o)
 RanFor asked old new (Err fault.Words) = ⊥
-RanFor asked old new (Err (fault.Input line rule)) = ObjectRead (object_of (Some asked)) old.ins new.ins × HoldsRefused asked old line rule × IsUnwritten old new
+RanFor asked old new (Err (fault.Input line breach)) = ObjectRead (object_of (Some asked)) old.ins new.ins × HoldsRefused asked old line breach × IsUnwritten old new
 RanFor asked old new (Err fault.ReadFault) = ObjectRose (object_of (Some asked)) old.ins new.ins × IsUnwritten old new
 RanFor asked old new (Err fault.WriteFault) = ObjectRead (object_of (Some asked)) old.ins new.ins × DrivesScript asked old new (Err sink.Failed)
 RanFor asked old new (Err fault.OutOfMemory) = ObjectStood (object_of (Some asked)) old.ins new.ins × (IsUnwritten old new ⊎ DrivesScript asked old new (Err sink.OutOfMemory))
@@ -77,11 +72,6 @@ WritesLine old new before now line = (Appends old new line × (now ≡ before)) 
 -- the fault is reported by its status and its line, or memory ran out for the line
 abbrev pub Reports : Fault → ℕ → Option (List ℕ) → Option (List ℕ) → ℕ → ℕ → Type 0
 Reports f status old new before now = ((status ≡ fault_status f) × WritesLine old new before now (fault_line f)) ⊎ ((status ≡ 7) × (AppendsPrefix old new (fault_line f) × (now ≡ before)))
-
--- a fault's rule is one of the table
-abbrev pub IsErrNamed : Result Outcome Fault → Type 0
-IsErrNamed (Ok o) = Unit {0}
-IsErrNamed (Err f) = IsNamed f
 
 -- how the call ends: a run by its status alone, a fault with its line
 abbrev pub Ends : Result Outcome Fault → ℕ → Option (List ℕ) → Option (List ℕ) → ℕ → ℕ → Type 0
@@ -155,10 +145,9 @@ pub record Completes (asked : Option Asked) (old new : Scene) (status : ℕ) (er
   -- that of `out` rises with 5, and may with 7
   pub written : (new.out_faults ≡ old.out_faults) ⊎ (Rose old.out_faults new.out_faults × ((status ≡ 5) ⊎ (status ≡ 7)))
 
--- what was done came to this fault, and its rule has a name
-pub record IsAtHand (asked : Option Asked) (old new : Scene) (f : Fault) : Type 0 where
-  pub ran : Ran asked old new (Err f)
-  pub named : IsNamed f
+-- what was done came to this fault
+abbrev pub IsAtHand : Option Asked → Scene → Scene → Fault → Type 0
+IsAtHand asked old new f = Ran asked old new (Err f)
 
 -- what standard error received: nothing after a run, the line of the fault at hand, or a beginning of its line where memory ran out
 pub record TellsFault (asked : Option Asked) (old new : Scene) (status : ℕ) (err_old err_new : Option (List ℕ)) (before now : ℕ) : Type 0 where

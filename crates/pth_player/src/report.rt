@@ -1,7 +1,6 @@
 //! What is told of a fault.
 
 ghost use Rattle.pth_player.specs.Play.{Reports};
-ghost use Rattle.pth_print.specs.Lines.{IsNamed};
 
 use crate::streams::write_all;
 use pth_print::fault_line::{Fault, fault_line};
@@ -12,7 +11,6 @@ use std::alloc::Global;
 /// Writes the fault's line, and answers its status. A sink that fails changes nothing of the status. Where memory runs out for
 /// the line it is 7.
 pub fn report_fault<E: Sink>(alloc: Global, fault: Fault, err: &mut E) -> u8
-    requires { IsNamed fault }
     ensures { Reports fault result (E.written err.old) (E.written err.new) (E.faults err.old) (E.faults err.new) }
 {
     let mut text = Text::new(alloc);

@@ -3,7 +3,7 @@
 ghost use Rattle.std.specs.Prelude.{◌≡◌, ◌≤◌, map, string_bytes};
 ghost use Rattle.pth_words.specs.Words.{asked_by};
 ghost use Rattle.pth_player.specs.Objects.{inputs, object_of, scene, OthersUntouched};
-ghost use Rattle.pth_player.specs.Play.{Ends, IsErrNamed, Plays};
+ghost use Rattle.pth_player.specs.Play.{Ends, Plays};
 
 use crate::report::report_fault;
 use crate::run::run;
@@ -16,7 +16,6 @@ use std::alloc::Global;
 
 /// The status of a run, with the line of a fault on `err`.
 fn finish<E: Sink>(alloc: Global, ran: Result<Outcome, Fault>, err: &mut E) -> u8
-    requires { IsErrNamed ran }
     ensures { Ends ran result (E.written err.old) (E.written err.new) (E.faults err.old) (E.faults err.new) }
 {
     match ran {

@@ -1,5 +1,5 @@
 -- The lines of a run.
-use Rattle.std.specs.Prelude.{ℕ, ◌<◌, slice_index_or, Bool, List, [], ◌∷◌, ◌++◌, Some, None, codes, decimal, map, if◌then◌else◌}
+use Rattle.std.specs.Prelude.{ℕ, Bool, List, [], ◌∷◌, ◌++◌, Some, None, codes, decimal, map, if◌then◌else◌}
 use Rattle.pth_base.specs.declared.act.Act.{Act}
 use Rattle.pth_base.specs.declared.act.Act.TheVariants as act
 use Rattle.pth_base.specs.declared.answer.Answer.{Answer}
@@ -7,6 +7,9 @@ use Rattle.pth_base.specs.declared.mark.Mark.{Mark}
 use Rattle.pth_base.specs.declared.mark.Mark.TheVariants as mark
 use Rattle.pth_base.specs.declared.outcome.Outcome.{Outcome}
 use Rattle.pth_base.specs.declared.outcome.Outcome.TheVariants as outcome
+use Rattle.pth_text.specs.declared.rule.Breach.{Breach}
+use Rattle.pth_text.specs.declared.rule.Breach.TheVariants.{Limit, Of}
+use Rattle.pth_text.specs.declared.rule.Rule.TheVariants as rule
 use Rattle.pth_print.specs.declared.fault_line.Fault.{Fault}
 use Rattle.pth_print.specs.declared.fault_line.Fault.TheVariants as fault
 use Rattle.pth_print.specs.Answers.{answer_words}
@@ -75,33 +78,34 @@ summary_words threads turns steps time =
 abbrev pub summary_line : ℕ → ℕ → ℕ → ℕ → List ℕ
 summary_line threads turns steps time = joined (summary_words threads turns steps time) ++ codes "\n"
 
--- the rules of a script's text in their order, of which a limit is the first
-abbrev pub rule_names : List (List ℕ)
-rule_names =
-    codes "limit" ∷ codes "cut" ∷ codes "header" ∷ codes "word" ∷ codes "count" ∷ codes "operand" ∷ codes "hex" ∷ codes "number" ∷ codes "label"
-    ∷ codes "main" ∷ codes "end" ∷ codes "time" ∷ codes "fd" ∷ []
-
--- the rule at a place of their order, from 0
-abbrev pub rule_name : ℕ → List ℕ
-rule_name rule = slice_index_or rule_names rule []
+-- the name of what a line breaks
+abbrev pub breach_name : Breach → List ℕ
+breach_name Limit = codes "limit"
+breach_name (Of rule.Cut) = codes "cut"
+breach_name (Of rule.Header) = codes "header"
+breach_name (Of rule.Word) = codes "word"
+breach_name (Of rule.Count) = codes "count"
+breach_name (Of rule.Operand) = codes "operand"
+breach_name (Of rule.Hex) = codes "hex"
+breach_name (Of rule.Number) = codes "number"
+breach_name (Of rule.Label) = codes "label"
+breach_name (Of rule.Main) = codes "main"
+breach_name (Of rule.End) = codes "end"
+breach_name (Of rule.Time) = codes "time"
+breach_name (Of rule.Fd) = codes "fd"
 
 -- the line of a fault
 abbrev pub fault_line : Fault → List ℕ
 fault_line fault.Words = codes "pth_play: words refused\n"
-fault_line (fault.Input line rule) = codes "pth_play: line " ++ (decimal line ++ (codes ": " ++ (rule_name rule ++ codes "\n")))
+fault_line (fault.Input line breach) = codes "pth_play: line " ++ (decimal line ++ (codes ": " ++ (breach_name breach ++ codes "\n")))
 fault_line fault.ReadFault = codes "pth_play: read fault\n"
 fault_line fault.WriteFault = codes "pth_play: write fault\n"
 fault_line fault.OutOfMemory = codes "pth_play: out of memory\n"
 
--- its rule is one of the table
-abbrev pub IsNamed : Fault → Type 0
-IsNamed (fault.Input line rule) = rule < 13
-IsNamed _ = Unit {0}
-
 -- the status of a fault
 abbrev pub fault_status : Fault → ℕ
 fault_status fault.Words = 2
-fault_status (fault.Input line rule) = 3
+fault_status (fault.Input line breach) = 3
 fault_status fault.ReadFault = 4
 fault_status fault.WriteFault = 5
 fault_status fault.OutOfMemory = 7

@@ -6,7 +6,7 @@ use Rattle.pth_script.specs.Broken.{broken, IsAccepted, IsRefusal}
 use Rattle.pth_script.specs.Labels.{somes}
 use Rattle.pth_script.specs.Meaning.{StandsFor}
 use Rattle.pth_script.specs.Table.{first_broken}
-use Rattle.pth_script.specs.declared.breach.Breach.{Breach}
+use Rattle.pth_text.specs.declared.rule.Breach.{Breach}
 
 -- ---- refusals
 

@@ -15,8 +15,8 @@ use Rattle.pth_script.specs.Labels.{somes, placed}
 use Rattle.pth_script.specs.Meaning.{said, handlers_of, checks_of, bodies_of, HasSections, StandsFor}
 use Rattle.pth_script.specs.Seen.{is_handler, is_thread}
 use Rattle.pth_grammar.specs.Lines.{act_of, line_of}
-use Rattle.pth_script.specs.declared.breach.Breach.{Breach}
-use Rattle.pth_script.specs.declared.breach.Breach.TheVariants.{Limit, Of}
+use Rattle.pth_text.specs.declared.rule.Breach.{Breach}
+use Rattle.pth_text.specs.declared.rule.Breach.TheVariants.{Limit, Of}
 use Rattle.pth_script.specs.declared.read.ReadErr.{ReadErr}
 use Rattle.pth_script.specs.declared.reader.Fault.{Fault}
 use Rattle.pth_script.specs.declared.reader.Fault.TheVariants as fault

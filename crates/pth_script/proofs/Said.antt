@@ -6,15 +6,15 @@ use Rattle.pth_grammar.specs.Lines.{numbered}
 use Rattle.pth_grammar.specs.Shapes.{Shape, Unknown, Short, Unequal, Asks, shape_of, words_break, words_fault}
 use Rattle.pth_spelling.specs.declared.keyword.Keyword.{Keyword}
 use Rattle.pth_spelling.specs.declared.keyword.Keyword.TheVariants as key
-use Rattle.pth_grammar.specs.declared.rule.Rule.{Rule}
-use Rattle.pth_grammar.specs.declared.rule.Rule.TheVariants as rule
+use Rattle.pth_text.specs.declared.rule.Rule.{Rule}
+use Rattle.pth_text.specs.declared.rule.Rule.TheVariants as rule
 use Rattle.pth_script.specs.Rows.{Row, is_comment}
 use Rattle.pth_script.specs.Meaning.{said}
 use Rattle.pth_script.specs.Seen.{Seen, past, leads, passes_limit, misnumbered, leaves_goto}
 use Rattle.pth_script.specs.Broken.{said_breaks, line_breaks}
 use Rattle.pth_script.specs.Table.{first_broken}
-use Rattle.pth_script.specs.declared.breach.Breach.{Breach}
-use Rattle.pth_script.specs.declared.breach.Breach.TheVariants.{Limit, Of}
+use Rattle.pth_text.specs.declared.rule.Breach.{Breach}
+use Rattle.pth_text.specs.declared.rule.Breach.TheVariants.{Limit, Of}
 
 pub said_comment : (row : Row) (rest : List Row) → is_comment row.bytes ≡ true → said (row ∷ rest) ≡ said rest
 unfolding said

@@ -8,7 +8,7 @@ use Rattle.pth_spelling.specs.Keywords.{begins}
 use Rattle.pth_grammar.specs.Lines.{act_of, check_of, line_of, numbered}
 use Rattle.pth_spelling.specs.declared.keyword.Keyword.{Keyword}
 use Rattle.pth_spelling.specs.declared.keyword.Keyword.TheVariants as key
-use Rattle.pth_grammar.specs.declared.rule.Rule.TheVariants as rule
+use Rattle.pth_text.specs.declared.rule.Rule.TheVariants as rule
 use Rattle.pth_grammar.specs.declared.section.Section.{Section}
 use Rattle.pth_grammar.specs.declared.section.Section.TheVariants as sec
 use Rattle.pth_line.specs.Script.{Sections}
@@ -23,8 +23,8 @@ use Rattle.pth_script.specs.Meaning.{said, handlers_of, checks_of, bodies_of, St
 use Rattle.pth_script.specs.Rows.{Row, rows_of, is_comment, above}
 use Rattle.pth_script.specs.Seen.{seen_of, past, is_check, is_end, is_handler}
 use Rattle.pth_script.specs.Table.{first_broken}
-use Rattle.pth_script.specs.declared.breach.Breach.{Breach}
-use Rattle.pth_script.specs.declared.breach.Breach.TheVariants.{Limit, Of}
+use Rattle.pth_text.specs.declared.rule.Breach.{Breach}
+use Rattle.pth_text.specs.declared.rule.Breach.TheVariants.{Limit, Of}
 use Rattle.pth_script.proofs.Above.{seen_more}
 use Rattle.pth_script.proofs.Cuts.{at_row, at_end}
 use Rattle.pth_script.proofs.RowRules.{long_row, said_row_rule, above_first, above_comment, above_said, end_rule}

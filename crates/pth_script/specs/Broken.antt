@@ -5,14 +5,14 @@ use Rattle.pth_text.specs.Words.{words_of}
 use Rattle.pth_spelling.specs.Keywords.{begins}
 use Rattle.pth_grammar.specs.Lines.{numbered}
 use Rattle.pth_grammar.specs.Shapes.{shape_of, words_break}
-use Rattle.pth_grammar.specs.declared.rule.Rule.TheVariants as rule
+use Rattle.pth_text.specs.declared.rule.Rule.TheVariants as rule
 use Rattle.pth_grammar.specs.declared.section.Section.{Section}
 use Rattle.pth_grammar.specs.declared.section.Section.TheVariants as sec
 use Rattle.pth_script.specs.Rows.{Row, rows_of, size_of, is_comment, above}
 use Rattle.pth_script.specs.Seen.{Seen, seen_of, passes_limit, misnumbered, leaves_goto}
 use Rattle.pth_script.specs.Table.{first_broken}
-use Rattle.pth_script.specs.declared.breach.Breach.{Breach}
-use Rattle.pth_script.specs.declared.breach.Breach.TheVariants.{Limit, Of}
+use Rattle.pth_text.specs.declared.rule.Breach.{Breach}
+use Rattle.pth_text.specs.declared.rule.Breach.TheVariants.{Limit, Of}
 
 -- the bytes that an input may have, and a line without its LF
 unfoldable pub text_limit : ℕ

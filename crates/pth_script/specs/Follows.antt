@@ -10,8 +10,8 @@ use Rattle.pth_script.specs.Table.{first_broken}
 use Rattle.pth_script.specs.Broken.{is_first, row_breaks, broken, text_limit, IsRefusal, IsAccepted}
 use Rattle.pth_script.specs.Meaning.{said, handlers_of, checks_of, bodies_of, StandsFor}
 use Rattle.pth_script.specs.Drafts.{parts, seen, IsKept, Makes}
-use Rattle.pth_script.specs.declared.breach.Breach.{Breach}
-use Rattle.pth_script.specs.declared.breach.Breach.TheVariants.{Limit, Of}
+use Rattle.pth_text.specs.declared.rule.Breach.{Breach}
+use Rattle.pth_text.specs.declared.rule.Breach.TheVariants.{Limit, Of}
 use Rattle.pth_script.specs.declared.read.ReadErr.{ReadErr}
 use Rattle.pth_script.specs.declared.read.ReadErr.TheVariants as err
 use Rattle.pth_script.specs.declared.reader.Reader.{Reader}

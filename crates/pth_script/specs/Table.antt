@@ -1,9 +1,9 @@
 -- The order in which the rules are looked at.
 use Rattle.std.specs.Prelude.{Bool, List, [], ◌∷◌, Option}
 use Rattle.std.specs.List.{find}
-use Rattle.pth_grammar.specs.declared.rule.Rule.TheVariants as rule
-use Rattle.pth_script.specs.declared.breach.Breach.{Breach}
-use Rattle.pth_script.specs.declared.breach.Breach.TheVariants.{Limit, Of}
+use Rattle.pth_text.specs.declared.rule.Rule.TheVariants as rule
+use Rattle.pth_text.specs.declared.rule.Breach.{Breach}
+use Rattle.pth_text.specs.declared.rule.Breach.TheVariants.{Limit, Of}
 
 -- a limit comes before all rules
 abbrev pub table : List Breach

@@ -11,11 +11,9 @@ ghost use Rattle.pth_spelling.specs.declared.keyword.Keyword.TheVariants as key;
 ghost use Rattle.pth_script.specs.Table.{first_broken};
 
 use crate::body::Body;
-use crate::breach::Breach;
 use pth_base::memory::OutOfMemory;
 use pth_grammar::fault::words_fault;
 use pth_grammar::lines::{act_line, check_line, line, numbered};
-use pth_grammar::rule::Rule;
 use pth_grammar::section::Section;
 use pth_line::act_line::ActLine;
 use pth_line::block::Block;
@@ -23,6 +21,7 @@ use pth_line::check::Check;
 use pth_line::line::Line;
 use pth_spelling::first_word::begins;
 use pth_spelling::keyword::Keyword;
+use pth_text::rule::{Breach, Rule};
 use std::alloc::Global;
 use std::mem;
 

@@ -4,7 +4,7 @@ ghost use Rattle.std.specs.Prelude.{◌≡◌, ◌⊎◌, ℕ, List};
 ghost use Rattle.pth_line.specs.Script.{Sections};
 ghost use Rattle.pth_script.specs.Broken.{IsAccepted, IsRefusal};
 ghost use Rattle.pth_script.specs.Meaning.{StandsFor};
-ghost use Rattle.pth_script.specs.declared.breach.Breach.{Breach as BreachOf};
+ghost use Rattle.pth_text.specs.declared.rule.Breach.{Breach as BreachOf};
 
 /// Every text is a script's or is refused, and not both. It stands for at most one script, and has at most one refusal.
 pub fn every_text_has_one_meaning()

@@ -2,12 +2,11 @@
 #![tactic(auto)]
 
 mod body;
-pub mod breach;
 mod draft;
 pub mod laws;
 pub mod read;
 mod reader;
 mod rows;
 
-pub use pth_grammar::rule::Rule;
 pub use pth_line::script::Script;
+pub use pth_text::rule::Rule;

@@ -5,12 +5,11 @@ ghost use Rattle.pth_script.specs.Drafts.{parts, IsKept};
 ghost use Rattle.pth_script.specs.Follows.{Answers, Reads, refused};
 ghost use Rattle.pth_script.specs.Rows.{Row};
 
-use crate::breach::Breach;
 use crate::draft::Draft;
 use crate::reader::{Fault, Reader};
 use crate::rows::first_row;
-use pth_grammar::rule::Rule;
 use pth_line::script::Script;
+use pth_text::rule::{Breach, Rule};
 use std::alloc::Global;
 use thiserror::Error;
 

@@ -7,14 +7,13 @@ ghost use Rattle.pth_script.specs.Follows.{Follows, Goes, left_of};
 ghost use Rattle.pth_script.specs.Meaning.{said, handlers_of, checks_of, bodies_of};
 ghost use Rattle.pth_script.specs.Rows.{Row, is_comment};
 ghost use Rattle.pth_script.specs.Table.{first_broken};
-ghost use Rattle.pth_script.specs.declared.breach.Breach.TheVariants.{Of};
+ghost use Rattle.pth_text.specs.declared.rule.Breach.TheVariants.{Of};
 
-use crate::breach::Breach;
 use crate::draft::Draft;
 use crate::rows::is_comment;
 use pth_base::memory::OutOfMemory;
-use pth_grammar::rule::Rule;
 use pth_grammar::section::Section;
+use pth_text::rule::{Breach, Rule};
 use pth_text::words::words;
 use std::alloc::Global;
 

@@ -15,6 +15,7 @@ use pth_print::end_line::end_line;
 use pth_print::fault_line::{Fault, fault_line};
 use pth_print::mark_line::mark_line;
 use pth_print::summary_line::summary_line;
+use pth_text::rule::{Breach, Rule};
 use pth_text::text::Text;
 use std::alloc::Global;
 use std::process::Abort;
@@ -387,20 +388,19 @@ fn counts_are_a_line(rt: HostRuntime) -> Result<(), Fail> {
     Ok(())
 }
 
-static RULES: [(u8, &str); 2] = [
-    (11, "pth_play: line 4294967295: time\n"),
-    (12, "pth_play: line 4294967295: fd\n"),
+static RULES: [(Rule, &str); 2] = [
+    (Rule::Time, "pth_play: line 4294967295: time\n"),
+    (Rule::Fd, "pth_play: line 4294967295: fd\n"),
 ];
 
 #[test]
 fn rules_without_a_script_are_named(rt: HostRuntime) -> Result<(), Fail> {
     for (rule, told) in RULES {
-        assert!(rt; rule < 13);
         let mut text = Text::new(rt.alloc());
         fault_line(
             &Fault::Input {
                 line: 4294967295,
-                rule,
+                breach: Breach::Of(rule),
             },
             &mut text,
         )?;

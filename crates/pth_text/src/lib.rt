@@ -4,5 +4,6 @@
 pub mod hex;
 pub mod line;
 pub mod number;
+pub mod rule;
 pub mod text;
 pub mod words;

@@ -1,7 +1,7 @@
 use Rattle.std.proofs.Common.{◌∙◌, sym, ap, subst, refl}
 use Rattle.std.specs.Prelude.{option_map}
 use Rattle.pth_script.specs.Meaning.{StandsFor}
-use Rattle.pth_script.specs.declared.breach.Breach.TheVariants.{Of}
+use Rattle.pth_text.specs.declared.rule.Breach.TheVariants.{Of}
 use Rattle.pth_script.proofs.Runs.{ends_broken, ends_fine, stands}
 use Rattle.pth_script.proofs.read.finish.Goals as goal
 

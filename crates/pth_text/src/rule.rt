@@ -1,6 +1,6 @@
 //! The rules of a script's text.
 
-/// A rule that a line of a script may break, beside the limits, in the order in which they are looked at.
+/// A rule that a line of a script may break, beside the limits.
 #[derive(Clone, Copy, Debug, PartialEq, Eq)]
 pub enum Rule {
     /// The line is the last, and no LF ends it.
@@ -27,4 +27,11 @@ pub enum Rule {
     Time,
     /// A descriptor is not open, or already is.
     Fd,
+}
+
+/// A limit that a line passes, or a rule that it breaks.
+#[derive(Clone, Copy, Debug, PartialEq, Eq)]
+pub enum Breach {
+    Limit,
+    Of(Rule),
 }
