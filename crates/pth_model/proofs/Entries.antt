@@ -19,29 +19,34 @@ pub record Follows (x y : Standing) : Type 0 where
   pub later : y.entry < x.entry
   pub above : x.top ≡ true → height y <ℤ height x
 
-pub record IsListed (entries : ℕ) (all : List Standing) : Type 0 where
+-- the standings of one queue, each of them with a meaning
+pub record IsListed (Meant : Standing → Type 0) (entries : ℕ) (all : List Standing) : Type 0 where
   pub counted : All (λ x. x.entry < entries) all
   pub follows : AllPairs Follows all
+  pub meant : All Meant all
 
 -- ---- one queue
 
-pub listed_none : (n : ℕ) → IsListed n []
-listed_none n = record { counted = All-nil (λ x. x.entry < n); follows = pairs-nil Follows }
+module _ (Meant : Standing → Type 0) where
+  pub listed_none : (n : ℕ) → IsListed Meant n []
+  listed_none n = record { counted = All-nil (λ x. x.entry < n); follows = pairs-nil Follows; meant = All-nil Meant }
 
-pub listed_enter : (n : ℕ) (s : Standing) (all : List Standing) → s.entry ≡ n → (s.top ≡ true → All (λ y. height y <ℤ height s) all) → IsListed n all → IsListed (n + 1) (s ∷ all)
-listed_enter n s all now above l = record {
-  counted = All-cons (λ x. x.entry < n + 1) s all (omega (arith, now)) (All-weaker (λ x. x.entry < n) (λ x. x.entry < n + 1) (λ x h. omega (arith, h)) all l.counted);
-  follows = AllPairs-cons Follows s all (λ k d low. record { later = let h = l.counted k d low in omega (arith, h, now); above = λ top. above top k d low }) l.follows;
-}
+  pub listed_enter : (n : ℕ) (s : Standing) (all : List Standing) → s.entry ≡ n → (s.top ≡ true → All (λ y. height y <ℤ height s) all) → Meant s → IsListed Meant n all → IsListed Meant (n + 1) (s ∷ all)
+  listed_enter n s all now above meant l = record {
+    counted = All-cons (λ x. x.entry < n + 1) s all (omega (arith, now)) (All-weaker (λ x. x.entry < n) (λ x. x.entry < n + 1) (λ x h. omega (arith, h)) all l.counted);
+    follows = AllPairs-cons Follows s all (λ k d low. record { later = let h = l.counted k d low in omega (arith, h, now); above = λ top. above top k d low }) l.follows;
+    meant = All-cons Meant s all meant l.meant;
+  }
 
-listed_later : (n : ℕ) (all : List Standing) → IsListed n all → IsListed (n + 1) all
-listed_later n all l = record { counted = All-weaker (λ x. x.entry < n) (λ x. x.entry < n + 1) (λ x h. omega (arith, h)) all l.counted; follows = l.follows }
+  listed_later : (n : ℕ) (all : List Standing) → IsListed Meant n all → IsListed Meant (n + 1) all
+  listed_later n all l = record { counted = All-weaker (λ x. x.entry < n) (λ x. x.entry < n + 1) (λ x h. omega (arith, h)) all l.counted; follows = l.follows; meant = l.meant }
 
-listed_left : (n t : ℕ) (all : List Standing) → IsListed n all → IsListed n (left_by t all)
-listed_left n t all l = record {
-  counted = All-filter (λ s. not (s.tid == t)) (λ x. x.entry < n) all l.counted;
-  follows = AllPairs-filter Follows (λ s. not (s.tid == t)) all l.follows;
-}
+  listed_left : (n t : ℕ) (all : List Standing) → IsListed Meant n all → IsListed Meant n (left_by t all)
+  listed_left n t all l = record {
+    counted = All-filter (λ s. not (s.tid == t)) (λ x. x.entry < n) all l.counted;
+    follows = AllPairs-filter Follows (λ s. not (s.tid == t)) all l.follows;
+    meant = All-filter (λ s. not (s.tid == t)) Meant all l.meant;
+  }
 
 -- x is above y, where it entered later and at Top
 abbrev Tops : Standing → Standing → Type 0
@@ -59,9 +64,9 @@ tops_at all d i j p here there top earlier = elim (cases_lt i j) [
   ]
 ]
 
-pub listed_topped : (raises n : ℕ) (all : List Standing) → IsListed n all → IsTopped raises all
-listed_topped raises n all l x y a b top earlier =
-    let each : All (λ x. All (Tops x) all) all = All-from_get_or (λ x. All (Tops x) all) all x (λ i here. All-from_get_or (Tops (get_or all i x)) all x (λ j there. tops_at all x i j l.follows here there)) in
+pub listed_topped : (raises : ℕ) (all : List Standing) → AllPairs Follows all → IsTopped raises all
+listed_topped raises all follows x y a b top earlier =
+    let each : All (λ x. All (Tops x) all) all = All-from_get_or (λ x. All (Tops x) all) all x (λ i here. All-from_get_or (Tops (get_or all i x)) all x (λ j there. tops_at all x i j follows here there)) in
     let above : height y <ℤ height x = All-contains (Tops x) all y (All-contains (λ x. All (Tops x) all) all x each a) b top earlier in
     omega (arith, ints, above)
 
@@ -78,13 +83,13 @@ top_by raises (x ∷ xs) p =
     All-cons Below x xs (omega (arith, ints)) (All-weaker (StandsBefore raises x) Below (at_most raises x) xs (pairs-head (StandsBefore raises) x xs p))
 
 -- a queue's top is above all that stand there
-pub top_above : (raises n : ℕ) (all : List Standing) → IsListed n all → All (λ y. height y <ℤ (favour_top (shown raises all) -ℤ pos raises)) all
+pub top_above : (raises : ℕ) (all : List Standing) → AllPairs Follows all → All (λ y. height y <ℤ (favour_top (shown raises all) -ℤ pos raises)) all
 unfolding shown
-top_above raises n all l =
+top_above raises all follows =
     let Later : Standing → Standing → Type 0 = λ x y. y.entry < x.entry in
     let top = favour_top (map (row_at raises) (order all)) in
     let Below : Standing → Type 0 = λ y. rank_now raises y <ℤ top in
-    let falling : AllPairs Later all = λ i j d less low. (l.follows i j d less low).later in
+    let falling : AllPairs Later all = λ i j d less low. (follows i j d less low).later in
     let below : All Below all = All-permutation Below (order all) all (IsPermutation-sym _ _ (same-order all)) (top_by raises (order all) (sorted-order raises all falling)) in
     All-weaker Below (λ y. height y <ℤ (top -ℤ pos raises)) (λ y h. less_raised raises y top h) all below
   where
@@ -93,28 +98,28 @@ top_above raises n all l =
 
 -- ---- every queue of a state
 
-module _ {P S H : Type 0} where
+module _ {P S H : Type 0} (Meant : Standing → Type 0) where
   abbrev pub Kept : State P S H → Type 0
-  Kept s = (q : Queue) → IsListed s.rest.threads.entries (s.rest.threads.standing q)
+  Kept s = (q : Queue) → IsListed Meant s.rest.threads.entries (s.rest.threads.standing q)
 
   module _ (s : State P S H) where
-    pub kept_enter : (t : ℕ) (q : Queue) (rank : ℤ) (top : Bool) → (top ≡ true → All (λ y. height y <ℤ (rank -ℤ pos (raises_of s.rest.threads.raises q))) (s.rest.threads.standing q)) → Kept s → Kept (with_entry s t q rank top)
+    pub kept_enter : (t : ℕ) (q : Queue) (rank : ℤ) (top : Bool) → ((x : Standing) → x.tid ≡ t → x.top ≡ top → Meant x) → (top ≡ true → All (λ y. height y <ℤ (rank -ℤ pos (raises_of s.rest.threads.raises q))) (s.rest.threads.standing q)) → Kept s → Kept (with_entry s t q rank top)
     unfolding with_entry
-    kept_enter t q rank top above k p = entered (is_queue p q) refl
+    kept_enter t q rank top meant above k p = entered (is_queue p q) refl
       where
         here : Standing
         here = record { tid = t; rank = rank; since = raises_of s.rest.threads.raises q; entry = s.rest.threads.entries; top = top }
 
-        entered : (b : Bool) → is_queue p q ≡ b → IsListed (s.rest.threads.entries + 1) (if b then here ∷ s.rest.threads.standing p else s.rest.threads.standing p)
-        entered true e = listed_enter s.rest.threads.entries here (s.rest.threads.standing p) refl (λ favoured. subst (λ (r : Queue). All (λ y. height y <ℤ (rank -ℤ pos (raises_of s.rest.threads.raises q))) (s.rest.threads.standing r)) (sym (is_queue_same p q e)) (above favoured)) (k p)
-        entered false e = listed_later s.rest.threads.entries (s.rest.threads.standing p) (k p)
+        entered : (b : Bool) → is_queue p q ≡ b → IsListed Meant (s.rest.threads.entries + 1) (if b then here ∷ s.rest.threads.standing p else s.rest.threads.standing p)
+        entered true e = listed_enter Meant s.rest.threads.entries here (s.rest.threads.standing p) refl (λ favoured. subst (λ (r : Queue). All (λ y. height y <ℤ (rank -ℤ pos (raises_of s.rest.threads.raises q))) (s.rest.threads.standing r)) (sym (is_queue_same p q e)) (above favoured)) (meant here refl refl) (k p)
+        entered false e = listed_later Meant s.rest.threads.entries (s.rest.threads.standing p) (k p)
 
-    pub kept_plain : (t : ℕ) (q : Queue) (rank : ℤ) → Kept s → Kept (with_entry s t q rank false)
-    kept_plain t q rank k = kept_enter t q rank false (λ e. absurd (not_top e)) k
+    pub kept_plain : (t : ℕ) (q : Queue) (rank : ℤ) → ((x : Standing) → x.top ≡ false → Meant x) → Kept s → Kept (with_entry s t q rank false)
+    kept_plain t q rank plain k = kept_enter t q rank false (λ x tid top. plain x top) (λ e. absurd (not_top e)) k
       where
         not_top : false ≡ true → ⊥
         not_top e = cc
 
     pub kept_leave : (t : ℕ) → Kept s → Kept (without_entry s t)
     unfolding without_entry
-    kept_leave t k q = listed_left s.rest.threads.entries t (s.rest.threads.standing q) (k q)
+    kept_leave t k q = listed_left Meant s.rest.threads.entries t (s.rest.threads.standing q) (k q)

@@ -1,11 +1,13 @@
 -- The order of a queue, told by ranks and entries: not by how one standing is put behind another.
-use Rattle.std.specs.Prelude.{◌≡◌, ℕ, ◌+◌, ◌<◌, ◌≤◌, ◌==◌, true, ◌<ℤ◌, ◌⊎◌, List, map, All, AllPairs, Contains, count_by}
+use Rattle.std.specs.Prelude.{◌≡◌, ℕ, ◌+◌, ◌<◌, ◌≤◌, ◌==◌, true, ◌<ℤ◌, ◌⊎◌, ◌↔◌, List, map, All, AllPairs, Contains, count_by}
 use Rattle.std.specs.List.Sorted.{IsPermutation}
 use Rattle.pth_queue.specs.declared.row.Row.{Row}
 use Rattle.pth_queue.specs.declared.queue.Queue.{Queue}
 use Rattle.pth_queue.specs.declared.queue.Queue.TheVariants.{New, Ready, Waiting, Suspended, Dead}
 use Rattle.pth_model.specs.Standing.{Standing, rank_now, row_at, raises_of}
 use Rattle.pth_model.specs.State.{State, queue}
+use Rattle.pth_model.specs.Pass.{who_in}
+use Rattle.pth_model.specs.Part.{Take, next_part}
 
 -- x has a greater rank than y, after so many raises
 abbrev pub IsAbove : ℕ → Standing → Standing → Type 0
@@ -56,3 +58,13 @@ module _ {P S H : Type 0} (s : State P S H) where
   -- a new thread that entered a queue of the state at Top stands before all that were there
   abbrev pub IsTopAhead : Queue → Type 0
   IsTopAhead q = IsTopped (raises_of s.rest.threads.raises q) (s.rest.threads.standing q)
+
+  -- in the next part t becomes ready as a new thread, and new threads are favoured
+  pub record IsFavoured (t : ℕ) : Type 0 where
+    pub taken : next_part s ≡ Take
+    pub new : Contains (who_in (queue s New)) t
+    pub favoured : s.rest.scheduler.favour_new ≡ true
+
+  -- who is in a queue after the next part, and entered it in that part, entered at Top exactly as a new thread that is favoured
+  abbrev pub AreTopsFavoured : State P S H → Queue → Type 0
+  AreTopsFavoured after q = (x : Standing) → Contains (after.rest.threads.standing q) x → s.rest.threads.entries ≤ x.entry → (x.top ≡ true ↔ IsFavoured x.tid)

@@ -1,4 +1,4 @@
-use Rattle.pth_model.proofs.Numbered.{queue_in_order, entries_numbered, top_ahead}
+use Rattle.pth_model.proofs.Numbered.{queue_in_order, entries_numbered, top_ahead, top_meant}
 use Rattle.pth_model.proofs.Placed.{none_twice}
 use Rattle.pth_model.proofs.standings.queues_are_in_order.Goals as goal
 
@@ -13,3 +13,6 @@ returns-clause-entries p c = λ g i q. entries_numbered p.P.Program.functions g 
 
 pub returns-clause-top : goal.returns-clause-top
 returns-clause-top p c = λ g i q. top_ahead p.P.Program.functions g i q
+
+pub returns-clause-favoured : goal.returns-clause-favoured
+returns-clause-favoured p c = λ g i q. top_meant p.P.Program.functions g i q
