@@ -1,5 +1,5 @@
 -- What runs keep of entries: each is counted, and one at Top is above those before it.
-use Rattle.std.proofs.Common.{◌≡◌, ℕ, ◌+◌, ◌<◌, ◌==◌, not, Bool, true, false, if◌then◌else◌, ℤ, pos, ◌+ℤ◌, ◌-ℤ◌, ◌<ℤ◌, List, [], ◌∷◌, All, AllPairs, refl, sym, subst, map, arith, inl, inr, length, get_or}
+use Rattle.std.proofs.Common.{◌≡◌, ◌≢◌, ℕ, ◌+◌, ◌<◌, ◌==◌, not, Bool, true, false, if◌then◌else◌, ℤ, pos, ◌+ℤ◌, ◌-ℤ◌, ◌<ℤ◌, List, [], ◌∷◌, All, AllPairs, refl, sym, subst, map, arith, inl, inr, length, get_or}
 use Rattle.std.proofs.lemmas.Int.{ints}
 use Rattle.std.proofs.lemmas.Bool.{cases_lt}
 use Rattle.std.proofs.lemmas.List.Elements.{All-nil, All-cons, All-weaker, All-filter, All-contains, All-from_get_or}
@@ -12,7 +12,7 @@ use Rattle.pth_model.specs.State.{State}
 use Rattle.pth_model.specs.Changes.{with_entry, without_entry}
 use Rattle.pth_model.specs.Order.{StandsBefore, IsTopped}
 use Rattle.pth_model.proofs.Sorted.{pairs-head, pairs-nil, same-order, sorted-order}
-use Rattle.pth_model.proofs.Queues.{is_queue_same}
+use Rattle.pth_model.proofs.Queues.{is_queue_same, is_queue_self}
 
 -- x entered after y, and above it where it entered at Top
 pub record Follows (x y : Standing) : Type 0 where
@@ -98,21 +98,38 @@ top_above raises all follows =
 
 -- ---- every queue of a state
 
+abbrev pub Differs : Standing → Standing → Type 0
+Differs x y = x.entry ≢ y.entry
+
+-- the standings of all queues: none of one queue has the number of one of another
+pub record IsKept (Meant : Standing → Type 0) (entries : ℕ) (all : Queue → List Standing) : Type 0 where
+  pub listed : (q : Queue) → IsListed Meant entries (all q)
+  pub apart : (p q : Queue) → is_queue p q ≡ false → All (λ x. All (Differs x) (all q)) (all p)
+
 module _ {P S H : Type 0} (Meant : Standing → Type 0) where
   abbrev pub Kept : State P S H → Type 0
-  Kept s = (q : Queue) → IsListed Meant s.rest.threads.entries (s.rest.threads.standing q)
+  Kept s = IsKept Meant s.rest.threads.entries s.rest.threads.standing
 
   module _ (s : State P S H) where
     pub kept_enter : (t : ℕ) (q : Queue) (rank : ℤ) (top : Bool) → ((x : Standing) → x.tid ≡ t → x.top ≡ top → Meant x) → (top ≡ true → All (λ y. height y <ℤ (rank -ℤ pos (raises_of s.rest.threads.raises q))) (s.rest.threads.standing q)) → Kept s → Kept (with_entry s t q rank top)
     unfolding with_entry
-    kept_enter t q rank top meant above k p = entered (is_queue p q) refl
+    kept_enter t q rank top meant above k = record { listed = λ p. entered p (is_queue p q) refl; apart = λ p r other. parted p r (is_queue p q) (is_queue r q) refl refl other }
       where
         here : Standing
         here = record { tid = t; rank = rank; since = raises_of s.rest.threads.raises q; entry = s.rest.threads.entries; top = top }
 
-        entered : (b : Bool) → is_queue p q ≡ b → IsListed Meant (s.rest.threads.entries + 1) (if b then here ∷ s.rest.threads.standing p else s.rest.threads.standing p)
-        entered true e = listed_enter Meant s.rest.threads.entries here (s.rest.threads.standing p) refl (λ favoured. subst (λ (r : Queue). All (λ y. height y <ℤ (rank -ℤ pos (raises_of s.rest.threads.raises q))) (s.rest.threads.standing r)) (sym (is_queue_same p q e)) (above favoured)) (meant here refl refl) (k p)
-        entered false e = listed_later Meant s.rest.threads.entries (s.rest.threads.standing p) (k p)
+        entered : (p : Queue) (b : Bool) → is_queue p q ≡ b → IsListed Meant (s.rest.threads.entries + 1) (if b then here ∷ s.rest.threads.standing p else s.rest.threads.standing p)
+        entered p true e = listed_enter Meant s.rest.threads.entries here (s.rest.threads.standing p) refl (λ favoured. subst (λ (r : Queue). All (λ y. height y <ℤ (rank -ℤ pos (raises_of s.rest.threads.raises q))) (s.rest.threads.standing r)) (sym (is_queue_same p q e)) (above favoured)) (meant here refl refl) (k.listed p)
+        entered p false e = listed_later Meant s.rest.threads.entries (s.rest.threads.standing p) (k.listed p)
+
+        parted : (p r : Queue) (b c : Bool) → is_queue p q ≡ b → is_queue r q ≡ c → is_queue p r ≡ false → All (λ x. All (Differs x) (if c then here ∷ s.rest.threads.standing r else s.rest.threads.standing r)) (if b then here ∷ s.rest.threads.standing p else s.rest.threads.standing p)
+        parted p r true true e h other = absurd (let same : is_queue p r ≡ true = rw (is_queue_same p q e, is_queue_same r q h) (is_queue_self q) in cc)
+        parted p r true false e h other =
+            All-cons (λ x. All (Differs x) (s.rest.threads.standing r)) here (s.rest.threads.standing p)
+            (All-weaker (λ y. y.entry < s.rest.threads.entries) (Differs here) (λ y low same. omega (arith, low, same)) (s.rest.threads.standing r) (k.listed r).counted)
+            (k.apart p r other)
+        parted p r false true e h other = λ n d low. All-cons (Differs (get_or (s.rest.threads.standing p) n d)) here (s.rest.threads.standing r) (λ same. let h = (k.listed p).counted n d low in omega (arith, h, same)) (k.apart p r other n d low)
+        parted p r false false e h other = k.apart p r other
 
     pub kept_plain : (t : ℕ) (q : Queue) (rank : ℤ) → ((x : Standing) → x.top ≡ false → Meant x) → Kept s → Kept (with_entry s t q rank false)
     kept_plain t q rank plain k = kept_enter t q rank false (λ x tid top. plain x top) (λ e. absurd (not_top e)) k
@@ -122,4 +139,8 @@ module _ {P S H : Type 0} (Meant : Standing → Type 0) where
 
     pub kept_leave : (t : ℕ) → Kept s → Kept (without_entry s t)
     unfolding without_entry
-    kept_leave t k q = listed_left Meant s.rest.threads.entries t (s.rest.threads.standing q) (k q)
+    kept_leave t k = record {
+      listed = λ q. listed_left Meant s.rest.threads.entries t (s.rest.threads.standing q) (k.listed q);
+      apart = λ p r other. All-filter (λ x. not (x.tid == t)) (λ x. All (Differs x) (left_by t (s.rest.threads.standing r))) (s.rest.threads.standing p)
+          (λ n d low. All-filter (λ x. not (x.tid == t)) (Differs (get_or (s.rest.threads.standing p) n d)) (s.rest.threads.standing r) (k.apart p r other n d low));
+    }

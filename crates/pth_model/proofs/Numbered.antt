@@ -1,6 +1,6 @@
 -- What each part of a run keeps of entries, and so every run.
-use Rattle.std.proofs.Common.{◌≡◌, ℕ, zero, suc, ◌+◌, ◌==◌, ◌&&◌, not, Bool, true, false, if◌then◌else◌, ℤ, pos, ◌+ℤ◌, ◌-ℤ◌, ◌<ℤ◌, List, [], ◌∷◌, reverse, Option, Some, None, All, Contains, ◌↔◌, ◌≤◌, refl, sym, ◌∙◌, subst, arith}
-use Rattle.std.proofs.lemmas.List.Elements.{All-filter, All-head, All-tail, All-contains, All-contains_itself, All-weaker}
+use Rattle.std.proofs.Common.{◌≡◌, ℕ, zero, suc, ◌+◌, ◌==◌, ◌&&◌, not, Bool, true, false, if◌then◌else◌, ℤ, pos, ◌+ℤ◌, ◌-ℤ◌, ◌<ℤ◌, List, [], ◌∷◌, reverse, Option, Some, None, All, Contains, ◌↔◌, ◌≤◌, refl, sym, ◌∙◌, subst, inl, inr, arith}
+use Rattle.std.proofs.lemmas.List.Elements.{All-nil, All-filter, All-head, All-tail, All-contains, All-contains_itself, All-weaker}
 use Rattle.pth_base.specs.Program.{Functions}
 use Rattle.pth_base.specs.declared.answer.Answer.{Answer}
 use Rattle.pth_base.specs.declared.answer.Answer.TheVariants as answer
@@ -16,11 +16,11 @@ use Rattle.pth_model.specs.declared.continuation.Continuation.{Continuation}
 use Rattle.pth_model.specs.declared.held.Held.{Held}
 use Rattle.pth_model.specs.declared.next.Next.{Next}
 use Rattle.pth_model.specs.declared.next.Next.TheVariants as next
-use Rattle.pth_model.specs.Standing.{Standing, height, raises_of}
+use Rattle.pth_model.specs.Standing.{Standing, height, is_queue, raises_of}
 use Rattle.pth_model.specs.Told.{Told}
 use Rattle.pth_model.proofs.Runs.{parts-more}
 use Rattle.std.proofs.lemmas.List.Sorted.{IsPermutation-reverse, All-permutation}
-use Rattle.pth_model.specs.State.{State, Given, start, queue}
+use Rattle.pth_model.specs.State.{State, Given, start, main_standing, queue}
 use Rattle.pth_model.specs.Changes.{with_change, with_entry, with_going, without_entry, with_thread, without_thread, raised, called, called_from, held_of, owed_to}
 use Rattle.pth_model.specs.Family.{Family, Threads, Ends, Plains, Notes, ThreadCall, Spawn, Yield, Exit, split}
 use Rattle.pth_model.specs.Rows.{after, thread_after, spawned, answer_of, plain_row, plain_told, child_by, body_of}
@@ -29,9 +29,11 @@ use Rattle.pth_model.specs.Waits.{is_alone, suspended, exit_row, exit_by, yield_
 use Rattle.pth_model.specs.Pass.{readied, woken, all_woken, pass, to_wake, prio_of, moment, who_in}
 use Rattle.pth_model.specs.Part.{Part, Move, Take, Step, Close, Halt, next_part, part, part_by, moved, moved_by, at_moment, new_readied, all_readied, put_back, put_waiting, placed, placed_by, closed, closing, taken, dispatched, dispatched_by, runs, next_by, stepped, settled, ended_by, went_by, counted, owing}
 use Rattle.pth_model.specs.Run.{parts, run}
-use Rattle.pth_model.specs.Order.{IsInOrder, AreEntriesNumbered, IsTopAhead, IsFavoured, AreTopsFavoured}
+use Rattle.pth_model.specs.Order.{IsInOrder, AreEntriesNumbered, IsTopAhead, IsFavoured, AreTopsFavoured, ShareNoEntry}
 use Rattle.pth_model.proofs.Sorted.{shown_in_order}
-use Rattle.pth_model.proofs.Entries.{Kept, listed_none, listed_enter, listed_topped, kept_enter, kept_plain, kept_leave, top_above}
+use Rattle.std.proofs.lemmas.Bool.{cases_Bool}
+use Rattle.pth_model.proofs.Queues.{is_queue_same}
+use Rattle.pth_model.proofs.Entries.{Kept, IsListed, Differs, listed_none, listed_enter, listed_topped, kept_enter, kept_plain, kept_leave, top_above}
 
 not_top : {A : Type 0} → false ≡ true → A
 not_top e = absurd (cc e)
@@ -51,7 +53,7 @@ module _ {P S H : Type 0} (Meant : Standing → Type 0) where
       (kept_leave Meant s t k)
 
   kept_new : (s : State P S H) (t : ℕ) (b : Bool) → ((x : Standing) → x.tid ≡ t → x.top ≡ b → Meant x) → Kept Meant s → Kept Meant (readied s t (if b then favour_top (queue s Ready) else pos 0) b)
-  kept_new s t true meant k = kept_readied s t (favour_top (queue s Ready)) true meant (λ e. top_above s.rest.threads.raises (s.rest.threads.standing Ready) (k Ready).follows) k
+  kept_new s t true meant k = kept_readied s t (favour_top (queue s Ready)) true meant (λ e. top_above s.rest.threads.raises (s.rest.threads.standing Ready) (k.listed Ready).follows) k
   kept_new s t false meant k = kept_readied s t (pos 0) false meant not_top k
 
   kept_all_readied : (ts : List ℕ) (s : State P S H) → All (MeansNew Meant s.rest.scheduler.favour_new) ts → Kept Meant s → Kept Meant (all_readied ts s)
@@ -215,14 +217,28 @@ module _ {P S H : Type 0} (Meant : Standing → Type 0) where
 abbrev Any : Standing → Type 0
 Any x = Unit {0}
 
+listed_start : (q : Queue) → IsListed Any 1 (main_standing q)
+listed_start Ready = listed_enter Any 0 (record { tid = 1; rank = pos 0; since = 0; entry = 0; top = false }) [] refl not_top tt (listed_none Any 0)
+listed_start New = listed_none Any 1
+listed_start Waiting = listed_none Any 1
+listed_start Suspended = listed_none Any 1
+listed_start Dead = listed_none Any 1
+
+apart_start : (p q : Queue) → is_queue p q ≡ false → All (λ x. All (Differs x) (main_standing q)) (main_standing p)
+apart_start Ready Ready other = absurd (cc other)
+apart_start Ready New other = λ n d low. All-nil _
+apart_start Ready Waiting other = λ n d low. All-nil _
+apart_start Ready Suspended other = λ n d low. All-nil _
+apart_start Ready Dead other = λ n d low. All-nil _
+apart_start New q other = All-nil _
+apart_start Waiting q other = All-nil _
+apart_start Suspended q other = All-nil _
+apart_start Dead q other = All-nil _
+
 module _ {P S H : Type 0} (f : P → Functions S H) (g : Given P) where
   kept_start : Kept Any (start f g)
   unfolding start
-  kept_start Ready = listed_enter Any 0 (record { tid = 1; rank = pos 0; since = 0; entry = 0; top = false }) [] refl not_top tt (listed_none Any 0)
-  kept_start New = listed_none Any 1
-  kept_start Waiting = listed_none Any 1
-  kept_start Suspended = listed_none Any 1
-  kept_start Dead = listed_none Any 1
+  kept_start = record { listed = listed_start; apart = apart_start }
 
   kept_run : (i : ℕ) → Kept Any (run f g i).state
   unfolding parts part
@@ -231,8 +247,16 @@ module _ {P S H : Type 0} (f : P → Functions S H) (g : Given P) where
 
   pub entries_numbered : (i : ℕ) (q : Queue) → AreEntriesNumbered (run f g i).state q
   entries_numbered i q =
-      let k = kept_run i q in
+      let k = (kept_run i).listed q in
       record { counted = k.counted; falling = λ a b d less low. (k.follows a b d less low).later }
+
+  pub entries_apart : (i : ℕ) (p q : Queue) → ShareNoEntry (run f g i).state p q
+  entries_apart i p q x y here there same = elim (cases_Bool (is_queue p q)) [
+    | inl e ↦ is_queue_same p q e
+    | inr other ↦ absurd (
+        let s = (run f g i).state in
+        All-contains (Differs x) (s.rest.threads.standing q) y (All-contains (λ x. All (Differs x) (s.rest.threads.standing q)) (s.rest.threads.standing p) x ((kept_run i).apart p q other) here) there same)
+  ]
 
   pub queue_in_order : (i : ℕ) (q : Queue) → IsInOrder (run f g i).state q
   queue_in_order i q =
@@ -242,7 +266,7 @@ module _ {P S H : Type 0} (f : P → Functions S H) (g : Given P) where
   pub top_ahead : (i : ℕ) (q : Queue) → IsTopAhead (run f g i).state q
   top_ahead i q =
       let s = (run f g i).state in
-      listed_topped (raises_of s.rest.threads.raises q) (s.rest.threads.standing q) (kept_run i q).follows
+      listed_topped (raises_of s.rest.threads.raises q) (s.rest.threads.standing q) ((kept_run i).listed q).follows
 
   -- in part i + 1: what it means to enter
   abbrev MeansTop : ℕ → Standing → Type 0
@@ -264,9 +288,12 @@ module _ {P S H : Type 0} (f : P → Functions S H) (g : Given P) where
       (reverse new) of_new
 
   means_before : (i : ℕ) → Kept (MeansTop i) (run f g i).state
-  means_before i q =
-      let k = kept_run i q in
-      record { counted = k.counted; follows = k.follows; meant = λ n d low now. let h = k.counted n d low in absurd (omega (arith, h, now)) }
+  means_before i = record { listed = meant; apart = (kept_run i).apart }
+    where
+      meant : (q : Queue) → IsListed (MeansTop i) (run f g i).state.rest.threads.entries ((run f g i).state.rest.threads.standing q)
+      meant q =
+          let k = (kept_run i).listed q in
+          record { counted = k.counted; follows = k.follows; meant = λ n d low now. let h = k.counted n d low in absurd (omega (arith, h, now)) }
 
   means_after : (i : ℕ) → Kept (MeansTop i) (run f g (i + 1)).state
   unfolding part
@@ -276,4 +303,4 @@ module _ {P S H : Type 0} (f : P → Functions S H) (g : Given P) where
       (kept_part (MeansTop i) f s (next_part s) (means_other i) (means_new i) (means_before i))
 
   pub top_meant : (i : ℕ) (q : Queue) → AreTopsFavoured (run f g i).state (run f g (i + 1)).state q
-  top_meant i q x here now = All-contains (MeansTop i) ((run f g (i + 1)).state.rest.threads.standing q) x (means_after i q).meant here now
+  top_meant i q x here now = All-contains (MeansTop i) ((run f g (i + 1)).state.rest.threads.standing q) x ((means_after i).listed q).meant here now

@@ -55,6 +55,10 @@ module _ {P S H : Type 0} (s : State P S H) where
   abbrev pub AreEntriesNumbered : Queue → Type 0
   AreEntriesNumbered q = IsNumbered s.rest.threads.entries (s.rest.threads.standing q)
 
+  -- two queues of the state have no number of an entry in common
+  abbrev pub ShareNoEntry : (p q : Queue) → Type 0
+  ShareNoEntry p q = (x y : Standing) → Contains (s.rest.threads.standing p) x → Contains (s.rest.threads.standing q) y → x.entry ≡ y.entry → p ≡ q
+
   -- a new thread that entered a queue of the state at Top stands before all that were there
   abbrev pub IsTopAhead : Queue → Type 0
   IsTopAhead q = IsTopped (raises_of s.rest.threads.raises q) (s.rest.threads.standing q)

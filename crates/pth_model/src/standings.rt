@@ -2,7 +2,7 @@
 
 ghost use Rattle.std.specs.Prelude.{ℕ, ◌+◌};
 ghost use Rattle.pth_queue.specs.declared.queue.Queue.{Queue};
-ghost use Rattle.pth_model.specs.Order.{IsInOrder, IsOnce, AreEntriesNumbered, IsTopAhead, AreTopsFavoured};
+ghost use Rattle.pth_model.specs.Order.{IsInOrder, IsOnce, AreEntriesNumbered, ShareNoEntry, IsTopAhead, AreTopsFavoured};
 ghost use Rattle.pth_model.specs.Run.{run};
 ghost use Rattle.pth_model.specs.Shown.{EntriesShow, LeavesShow, RaisesShow};
 ghost use Rattle.pth_model.specs.State.{Given};
@@ -18,12 +18,13 @@ pub fn standings_show_as_lists<P: Program>()
 {}
 
 /// Each queue of each state of a run shows all who stand there: the greater rank first, and at equal ranks the earlier
-/// entry. No thread stands in two places. Entries are numbered as they come. Exactly new threads that are favoured enter at
-/// Top, and who does is in front of all that were there.
+/// entry. No thread stands in two places. Entries are numbered as they come, over all queues. Exactly new threads that are
+/// favoured enter at Top, and one that does is in front of all that were there.
 pub fn queues_are_in_order<P: Program>()
     ensures order { (g : Given P) (i : ℕ) (q : Queue) → IsInOrder (run P.functions g i).state q }
     ensures once { (g : Given P) (i : ℕ) → IsOnce (run P.functions g i).state }
     ensures entries { (g : Given P) (i : ℕ) (q : Queue) → AreEntriesNumbered (run P.functions g i).state q }
+    ensures apart { (g : Given P) (i : ℕ) (p q : Queue) → ShareNoEntry (run P.functions g i).state p q }
     ensures top { (g : Given P) (i : ℕ) (q : Queue) → IsTopAhead (run P.functions g i).state q }
     ensures favoured { (g : Given P) (i : ℕ) (q : Queue) → AreTopsFavoured (run P.functions g i).state (run P.functions g (i + 1)).state q }
 {}

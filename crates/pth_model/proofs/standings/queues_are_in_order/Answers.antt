@@ -1,4 +1,4 @@
-use Rattle.pth_model.proofs.Numbered.{queue_in_order, entries_numbered, top_ahead, top_meant}
+use Rattle.pth_model.proofs.Numbered.{queue_in_order, entries_numbered, entries_apart, top_ahead, top_meant}
 use Rattle.pth_model.proofs.Placed.{none_twice}
 use Rattle.pth_model.proofs.standings.queues_are_in_order.Goals as goal
 
@@ -10,6 +10,9 @@ returns-clause-once p c = λ g i. none_twice p.P.Program.functions g i
 
 pub returns-clause-entries : goal.returns-clause-entries
 returns-clause-entries p c = λ g i q. entries_numbered p.P.Program.functions g i q
+
+pub returns-clause-apart : goal.returns-clause-apart
+returns-clause-apart p c = λ g i q r. entries_apart p.P.Program.functions g i q r
 
 pub returns-clause-top : goal.returns-clause-top
 returns-clause-top p c = λ g i q. top_ahead p.P.Program.functions g i q
