@@ -1,6 +1,8 @@
 -- What each part of a run keeps of entries, and so every run.
 use Rattle.std.proofs.Common.{◌≡◌, ℕ, zero, suc, ◌+◌, ◌==◌, ◌&&◌, not, Bool, true, false, if◌then◌else◌, ℤ, pos, ◌+ℤ◌, ◌-ℤ◌, ◌<ℤ◌, List, [], ◌∷◌, reverse, Option, Some, None, All, Contains, ◌↔◌, ◌≤◌, refl, sym, ◌∙◌, subst, inl, inr, arith}
 use Rattle.std.proofs.lemmas.List.Elements.{All-nil, All-filter, All-head, All-tail, All-contains, All-contains_itself, All-weaker}
+use Rattle.std.proofs.lemmas.List.Sorted.{IsPermutation-reverse, All-permutation}
+use Rattle.std.proofs.lemmas.Bool.{cases_Bool}
 use Rattle.pth_base.specs.Program.{Functions}
 use Rattle.pth_base.specs.declared.answer.Answer.{Answer}
 use Rattle.pth_base.specs.declared.answer.Answer.TheVariants as answer
@@ -18,8 +20,6 @@ use Rattle.pth_model.specs.declared.next.Next.{Next}
 use Rattle.pth_model.specs.declared.next.Next.TheVariants as next
 use Rattle.pth_model.specs.Standing.{Standing, height, is_queue, raises_of}
 use Rattle.pth_model.specs.Told.{Told}
-use Rattle.pth_model.proofs.Runs.{parts-more}
-use Rattle.std.proofs.lemmas.List.Sorted.{IsPermutation-reverse, All-permutation}
 use Rattle.pth_model.specs.State.{State, Given, start, main_standing, queue}
 use Rattle.pth_model.specs.Changes.{with_change, with_entry, with_going, without_entry, with_thread, without_thread, raised, called, called_from, held_of, owed_to}
 use Rattle.pth_model.specs.Family.{Family, Threads, Ends, Plains, Notes, ThreadCall, Spawn, Yield, Exit, split}
@@ -30,8 +30,8 @@ use Rattle.pth_model.specs.Pass.{readied, woken, all_woken, pass, to_wake, prio_
 use Rattle.pth_model.specs.Part.{Part, Move, Take, Step, Close, Halt, next_part, part, part_by, moved, moved_by, at_moment, new_readied, all_readied, put_back, put_waiting, placed, placed_by, closed, closing, taken, dispatched, dispatched_by, runs, next_by, stepped, settled, ended_by, went_by, counted, owing}
 use Rattle.pth_model.specs.Run.{parts, run}
 use Rattle.pth_model.specs.Order.{IsInOrder, AreEntriesNumbered, IsTopAhead, IsFavoured, AreTopsFavoured, ShareNoEntry}
+use Rattle.pth_model.proofs.Runs.{parts-more}
 use Rattle.pth_model.proofs.Sorted.{shown_in_order}
-use Rattle.std.proofs.lemmas.Bool.{cases_Bool}
 use Rattle.pth_model.proofs.Queues.{is_queue_same}
 use Rattle.pth_model.proofs.Entries.{Kept, IsListed, Differs, listed_none, listed_enter, listed_topped, kept_enter, kept_plain, kept_leave, top_above}
 

@@ -34,7 +34,7 @@ use Rattle.pth_model.specs.Order.{times, IsOnce}
 use Rattle.pth_model.proofs.Once.{SetsOf, Sets, times_in, sets-enter, sets-leave, sets-thread, times-above, times-enter_other, times-leave, rows-low, stands-cons, at_most_one}
 
 -- where threads stand, who runs, and who gave up control
-pub record Seats : Type 0 where
+record Seats : Type 0 where
   made : ℕ
   standing : Queue → List Standing
   named : Option ℕ
@@ -42,7 +42,7 @@ pub record Seats : Type 0 where
   gave : Option ℕ
 
 -- the thread that runs stands nowhere, and it is the one that gives up control
-pub record IsPlaced (x : Seats) : Type 0 where
+record IsPlaced (x : Seats) : Type 0 where
   sets : SetsOf x.made x.standing
   named : (t : ℕ) → x.named ≡ Some t → t ≤ x.made
   low : (t : ℕ) → x.running ≡ Some t → t ≤ x.made
@@ -50,7 +50,7 @@ pub record IsPlaced (x : Seats) : Type 0 where
   gives : (t r : ℕ) → x.gave ≡ Some t → x.running ≡ Some r → t ≡ r
 
 -- t makes a step, and runs unless it has ended
-pub record IsGoing (t : ℕ) (x : Seats) : Type 0 where
+record IsGoing (t : ℕ) (x : Seats) : Type 0 where
   sets : SetsOf x.made x.standing
   named : (u : ℕ) → x.named ≡ Some u → u ≤ x.made
   low : t ≤ x.made
@@ -89,13 +89,13 @@ low_start Suspended = All-nil (λ x. x.tid ≤ 1)
 low_start Dead = All-nil (λ x. x.tid ≤ 1)
 
 module _ {P S H : Type 0} where
-  abbrev pub seats : State P S H → Seats
+  abbrev seats : State P S H → Seats
   seats s = record { made = s.rest.threads.made; standing = s.rest.threads.standing; named = s.rest.scheduler.named; running = s.rest.scheduler.running; gave = s.rest.scheduler.gave }
 
-  abbrev pub Placed : State P S H → Type 0
+  abbrev Placed : State P S H → Type 0
   Placed s = IsPlaced (seats s)
 
-  abbrev pub Going : ℕ → State P S H → Type 0
+  abbrev Going : ℕ → State P S H → Type 0
   Going t s = IsGoing t (seats s)
 
   abbrev Idle : State P S H → Type 0
@@ -226,7 +226,7 @@ module _ {P S H : Type 0} where
       by_main false = going_gives s t g
   going_settled s t next.Killed g = g
 
-  pub placed_step : (f : P → Functions S H) (s : State P S H) (t : ℕ) → Going t s → Placed (stepped f s t).state
+  placed_step : (f : P → Functions S H) (s : State P S H) (t : ℕ) → Going t s → Placed (stepped f s t).state
   unfolding stepped
   placed_step f s t g =
       let w = went_by f (counted s) t (held_of s t) in
