@@ -1,3 +1,5 @@
+ghost use Rattle.std.specs.Prelude.{◌≤◌, length};
+
 use pth_base::ids::Slot;
 use pth_queue::node::Node;
 use pth_queue::queue::Queue;
@@ -142,11 +144,17 @@ fn enter(
     slot: u32,
 ) -> Result<(), Fail> {
     set.reserve(8)?;
-    assert!(rt; slot < 8);
-    assert!(rt; -10 < rank && rank < 10);
-    assert!(rt; set.queue_of(Slot(slot)).is_none());
-    set.insert(queue, rank, Slot(slot));
+    put(rt, set, queue, rank, Slot(slot));
     Ok(())
+}
+
+fn put(rt: &impl Abort, set: &mut QueueSet, queue: Queue, rank: i64, slot: Slot)
+    requires { 8 ≤ set.old.room }
+{
+    assert!(rt; slot.0 < 8);
+    assert!(rt; -10 < rank && rank < 10);
+    assert!(rt; set.queue_of(slot).is_none());
+    set.insert(queue, rank, slot);
 }
 
 fn leave(rt: &impl Abort, set: &mut QueueSet, slot: u32) {
@@ -159,105 +167,100 @@ fn raise(rt: &impl Abort, set: &mut QueueSet, queue: Queue) {
     set.increase(queue);
 }
 
+/// Where a slot of this rank enters: before the first of its queue with a lower rank.
+fn entry_of(rows: &[Listed], queue: Queue, rank: i64) -> usize
+    ensures { result ≤ length rows.now }
+{
+    for (at, row) in rows.iter().enumerate() {
+        if row.queue == queue && row.rank < rank {
+            return at;
+        }
+    }
+    rows.len()
+}
+
+fn take_slot(rows: &mut Vec<Listed>, slot: u32) {
+    for at in 0..rows.len() {
+        if rows[at].slot == slot {
+            rows.remove(at);
+            return;
+        }
+    }
+}
+
+fn take_first(rows: &mut Vec<Listed>, queue: Queue) {
+    for at in 0..rows.len() {
+        if rows[at].queue == queue {
+            rows.remove(at);
+            return;
+        }
+    }
+}
+
+fn raise_all(rows: &mut [Listed], queue: Queue) {
+    for row in rows.iter_mut() {
+        if row.queue == queue {
+            row.rank = row.rank.saturating_add(1);
+        }
+    }
+}
+
 /// Makes the same change of a list, in which the slots of a queue stand in order.
 fn list(rows: &mut Vec<Listed>, turn: Turn) -> Result<(), AllocError> {
     match turn {
         Turn::Enter(queue, rank, slot) => {
-            let row = Listed { queue, rank, slot };
-            let behind = rows
-                .iter()
-                .position(|row| row.queue == queue && row.rank < rank);
-            rows.insert(behind.unwrap_or(rows.len()), row)?;
+            let at = entry_of(rows, queue, rank);
+            rows.insert(at, Listed { queue, rank, slot })?;
         }
-        Turn::Leave(slot) => rows.retain(|row| row.slot != slot),
-        Turn::First(queue) => {
-            if let Some(at) = rows.iter().position(|row| row.queue == queue) {
-                rows.remove(at);
-            }
-        }
-        Turn::Raise(queue) => {
-            for row in rows.iter_mut() {
-                if row.queue == queue {
-                    row.rank = row.rank.saturating_add(1);
-                }
-            }
-        }
+        Turn::Leave(slot) => take_slot(rows, slot),
+        Turn::First(queue) => take_first(rows, queue),
+        Turn::Raise(queue) => raise_all(rows, queue),
     }
     Ok(())
 }
 
+/// Adds the slots of a queue, each with its place, by a walk from the head, and the tail.
 fn tell_queue(text: &mut String, set: &QueueSet, queue: Queue) -> Result<(), AllocError> {
-    let head = set.head(queue).map(|slot| slot.0);
-    let tail = set.tail(queue).map(|slot| slot.0);
-    write!(text, "{head:?} {tail:?}; ")
+    let mut at = set.head(queue);
+    for _ in 0..9 {
+        let Some(slot) = at else {
+            break;
+        };
+        let place = set.place_of(slot);
+        write!(text, "{slot:?} {place:?}, ")?;
+        at = set.after(slot);
+    }
+    let tail = set.tail(queue);
+    write!(text, "{tail:?}; ")
 }
 
-fn tell_slot(text: &mut String, set: &QueueSet, slot: u32) -> Result<(), AllocError> {
-    let place = set.place_of(Slot(slot));
-    let after = set.after(Slot(slot)).map(|slot| slot.0);
-    write!(text, "{place:?} {after:?}; ")
+/// Adds the same of a list.
+fn tell_list(text: &mut String, rows: &[Listed], queue: Queue) -> Result<(), AllocError> {
+    let mut place = 0_u32;
+    let mut tail = None;
+    for row in rows {
+        if row.queue == queue {
+            let slot = Slot(row.slot);
+            write!(text, "{slot:?} {:?}, ", Some((queue, row.rank, place)))?;
+            place = place.saturating_add(1);
+            tail = Some(slot);
+        }
+    }
+    write!(text, "{tail:?}; ")
 }
 
-/// The head and the tail of each queue, and of each slot its place and the slot after it.
 fn told(alloc: Global, set: &QueueSet) -> Result<String, AllocError> {
     let mut text = String::new(alloc);
     for queue in QUEUES {
         tell_queue(&mut text, set, queue)?;
     }
-    for slot in 0..8 {
-        tell_slot(&mut text, set, slot)?;
-    }
     Ok(text)
 }
 
-fn list_queue(text: &mut String, rows: &[Listed], queue: Queue) -> Result<(), AllocError> {
-    let head = rows
-        .iter()
-        .find(|row| row.queue == queue)
-        .map(|row| row.slot);
-    let tail = rows
-        .iter()
-        .rev()
-        .find(|row| row.queue == queue)
-        .map(|row| row.slot);
-    write!(text, "{head:?} {tail:?}; ")
-}
-
-/// Where a slot stands in a list: its queue, its rank, and how many of its queue stand before it.
-fn listed_place(rows: &[Listed], slot: u32) -> Option<(Queue, i64, u32)> {
-    let mut place = 0;
-    let row = rows.iter().find(|row| row.slot == slot)?;
-    for before in rows {
-        if before.slot == slot {
-            break;
-        }
-        if before.queue == row.queue && place < 8 {
-            place += 1;
-        }
-    }
-    Some((row.queue, row.rank, place))
-}
-
-/// The slot that follows one in its queue.
-fn listed_after(rows: &[Listed], slot: u32) -> Option<u32> {
-    let at = rows.iter().position(|row| row.slot == slot)?;
-    let queue = rows[at].queue;
-    rows[at + 1..]
-        .iter()
-        .find(|row| row.queue == queue)
-        .map(|row| row.slot)
-}
-
-/// The same of a list.
 fn told_of_list(alloc: Global, rows: &[Listed]) -> Result<String, AllocError> {
     let mut text = String::new(alloc);
     for queue in QUEUES {
-        list_queue(&mut text, rows, queue)?;
-    }
-    for slot in 0..8 {
-        let place = listed_place(rows, slot);
-        let after = listed_after(rows, slot);
-        write!(text, "{place:?} {after:?}; ")?;
+        tell_list(&mut text, rows, queue)?;
     }
     Ok(text)
 }
