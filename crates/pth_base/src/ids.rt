@@ -4,6 +4,9 @@
 #[derive(Clone, Copy, Debug, PartialEq, Eq)]
 pub struct Tid(pub u32);
 
+/// The main thread's number.
+pub const MAIN: u32 = 1;
+
 /// An attribute object, numbered from 1 (`pth_attr_t`).
 #[derive(Clone, Copy, Debug, PartialEq, Eq)]
 pub struct AttrId(pub u32);
@@ -28,7 +31,7 @@ pub struct HandlerId(pub u32);
 #[derive(Clone, Copy, Debug, PartialEq, Eq)]
 pub struct CheckId(pub u32);
 
-/// Where a thread's record is kept: below 4096.
+/// Where a thread's record is kept: below `MOST_THREADS`.
 #[derive(Clone, Copy, Debug, PartialEq, Eq)]
 pub struct Slot(pub u32);
 

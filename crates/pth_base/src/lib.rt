@@ -9,6 +9,7 @@ pub mod call;
 pub mod errno;
 pub mod event;
 pub mod ids;
+pub mod limits;
 pub mod mark;
 pub mod marks;
 pub mod memory;

@@ -9,12 +9,12 @@ use Rattle.pth_threads.specs.declared.entry.Entry.{Entry}
 use Rattle.pth_threads.specs.declared.entry.NewThread.{NewThread}
 use Rattle.pth_model.specs.declared.continuation.Continuation.{Continuation}
 use Rattle.pth_model.specs.declared.held.Held.{Held}
-use Rattle.pth_model.specs.State.{State}
+use Rattle.pth_model.specs.State.{State, main}
 use Rattle.pth_model.specs.Changes.{with_change, with_going, with_entry, without_entry, with_thread, without_thread, raised, called, called_from, held_of, owed_to}
 use Rattle.pth_model.specs.Family.{Family, Threads, Ends, Plains, Notes, ThreadCall, Spawn, Yield, Exit, split}
 use Rattle.pth_model.specs.Rows.{after, thread_after, spawned, answer_of, plain_row, plain_told, child_by, body_of}
 use Rattle.pth_model.specs.Ending.{ending, dead, gone, gone_by, unheld}
-use Rattle.pth_model.specs.Waits.{is_alone, suspended, exit_row, exit_by, yield_row, begun, begun_by, resumed, resumed_by, resumed_from, exit_again, main}
+use Rattle.pth_model.specs.Waits.{is_alone, suspended, exit_row, exit_by, yield_row, begun, begun_by, resumed, resumed_by, resumed_from, exit_again}
 use Rattle.pth_model.specs.Pass.{readied, woken, all_woken, pass, to_wake, prio_of}
 use Rattle.pth_model.specs.Part.{new_readied, new_rank, all_readied, put_back, put_waiting, placed, placed_by, went_by, owing, runs}
 

@@ -1,5 +1,6 @@
 -- One part of a run: time moves, a thread is taken, it makes a step, or its turn is closed.
 use Rattle.std.specs.Prelude.{ℕ, ◌+◌, ◌==◌, ◌&&◌, min, ℤ, pos, Bool, true, false, List, [], ◌∷◌, reverse, Option, Some, None, if◌then◌else◌}
+use Rattle.pth_base.specs.Limits.{last_moment, last_count}
 use Rattle.pth_base.specs.Program.{Functions}
 use Rattle.pth_base.specs.declared.answer.Answer.{Answer}
 use Rattle.pth_base.specs.declared.answer.Answer.TheVariants as answer
@@ -15,19 +16,11 @@ use Rattle.pth_threads.specs.declared.entry.Change.TheVariants as change
 use Rattle.pth_model.specs.declared.held.Held.{Held}
 use Rattle.pth_model.specs.declared.next.Next.{Next}
 use Rattle.pth_model.specs.declared.next.Next.TheVariants as next
-use Rattle.pth_model.specs.State.{State, queue}
+use Rattle.pth_model.specs.State.{State, queue, main}
 use Rattle.pth_model.specs.Changes.{with_change, with_going, with_entry, without_entry, with_owed, with_scheduler, raised, running_is, naming, owed_to, held_of, called}
 use Rattle.pth_model.specs.Told.{Told, Went, still, tells, followed, tid}
-use Rattle.pth_model.specs.Waits.{begun, resumed, main}
+use Rattle.pth_model.specs.Waits.{begun, resumed}
 use Rattle.pth_model.specs.Pass.{pass, moment, prio_of, readied, who_in}
-
--- moments stand still here
-abbrev pub last_moment : ℕ
-last_moment = 1000000000000000000
-
--- a thread's count of dispatches stands still here
-abbrev pub last_count : ℕ
-last_count = 9223372036854775807
 
 abbrev pub dispatches_by : Option Entry → ℕ
 dispatches_by (Some e) = e.dispatches

@@ -1,5 +1,6 @@
 -- The rows of the call table: what each call answers, and what it changes.
 use Rattle.std.specs.Prelude.{ℕ, ◌+◌, ◌++◌, ◌==◌, nat_lt, take, codes, ℤ, pos, negsuc, Bool, true, false, [], Option, Some, None, if◌then◌else◌}
+use Rattle.pth_base.specs.Limits.{thread_limit}
 use Rattle.pth_base.specs.Program.{Functions}
 use Rattle.pth_base.specs.declared.answer.Answer.{Answer}
 use Rattle.pth_base.specs.declared.answer.Answer.TheVariants as answer
@@ -31,10 +32,6 @@ is_zero (negsuc n) = false
 abbrev pub body_of : ℕ → ℤ → Option ℕ
 body_of n (pos b) = if nat_lt b n then Some b else None
 body_of n (negsuc b) = None
-
--- at most so many threads are in the system, dead ones too
-abbrev pub thread_limit : ℕ
-thread_limit = 4096
 
 -- by: the body, whether no attributes are named, whether there is room
 abbrev pub spawn_says : Option ℕ → Bool → Bool → ℕ → Answer

@@ -10,6 +10,7 @@ use Rattle.pth_queue.specs.declared.row.Row.{Row}
 use Rattle.pth_queue.specs.declared.queue.Queue.{Queue}
 use Rattle.pth_queue.specs.declared.queue.Queue.TheVariants.{Ready}
 use Rattle.pth_threads.specs.declared.entry.Entry.{Entry}
+use Rattle.pth_threads.specs.declared.entry.NewThread.{NewThread}
 use Rattle.pth_model.specs.declared.continuation.Continuation.{Continuation}
 use Rattle.pth_model.specs.Core.{Core, first_core}
 use Rattle.pth_model.specs.Standing.{Standing, shown, raises_of}
@@ -69,14 +70,22 @@ number_known f (suc n) = (if is_some (f (suc n)) then 1 else 0) + number_known f
 abbrev pub present : {P S H : Type 0} → State P S H → ℕ
 present s = number_known s.rest.threads.known s.rest.threads.made
 
--- the main thread's record: it is there from the start (pth_init)
+-- the main thread's number
+abbrev pub main : ℕ
+main = 1
+
+-- what the main thread is given
+abbrev pub first_thread : NewThread
+first_thread = record { prio = pos 0; name = codes "main"; joinable = true; cancel = 1 }
+
+-- its record: it is there from the start (pth_init)
 abbrev pub main_entry : Entry
 main_entry = record {
-  tid = record { 0 = 1 };
-  prio = pos 0;
-  name = codes "main";
-  joinable = true;
-  cancel = 1;
+  tid = record { 0 = main };
+  prio = first_thread.prio;
+  name = first_thread.name;
+  joinable = first_thread.joinable;
+  cancel = first_thread.cancel;
   request = false;
   state = state.Ready;
   suspended = false;
@@ -86,7 +95,7 @@ main_entry = record {
 
 -- its place: ready at rank 0
 abbrev pub main_standing : Queue → List Standing
-main_standing Ready = record { tid = 1; rank = pos 0; since = 0; entry = 0; top = false } ∷ []
+main_standing Ready = record { tid = main; rank = pos 0; since = 0; entry = 0; top = false } ∷ []
 main_standing q = []
 
 -- what a run is given
@@ -102,8 +111,8 @@ start f g = record {
     shared = (f g.program).shared;
     threads = record {
       made = 1;
-      known = put (λ t. None) 1 (Some main_entry);
-      going = put (λ t. None) 1 (Some (record { state = (f g.program).start 0 (pos 0); owed = answer.None; held = None }));
+      known = put (λ t. None) main (Some main_entry);
+      going = put (λ t. None) main (Some (record { state = (f g.program).start 0 (pos 0); owed = answer.None; held = None }));
       standing = main_standing;
       entries = 1;
       raises = 0;

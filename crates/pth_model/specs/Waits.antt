@@ -12,16 +12,12 @@ use Rattle.pth_model.specs.declared.held.Held.{Held}
 use Rattle.pth_model.specs.declared.held.Retake.TheVariants as retake
 use Rattle.pth_model.specs.declared.next.Next.{Next}
 use Rattle.pth_model.specs.declared.next.Next.TheVariants as next
-use Rattle.pth_model.specs.State.{State, queue}
+use Rattle.pth_model.specs.State.{State, queue, main}
 use Rattle.pth_model.specs.Changes.{with_going, with_held, held_of}
 use Rattle.pth_model.specs.Told.{Went, tells, tid}
 use Rattle.pth_model.specs.Family.{Family, Threads, Ends, Yield, Exit, split}
 use Rattle.pth_model.specs.Rows.{answer_of, answered, plain_row}
 use Rattle.pth_model.specs.Ending.{ending}
-
--- the main thread's number
-abbrev pub main : ℕ
-main = 1
 
 -- all these rows are of thread t
 abbrev pub only : ℕ → List Row → Bool

@@ -14,14 +14,14 @@ use Rattle.pth_model.specs.declared.continuation.Continuation.{Continuation}
 use Rattle.pth_model.specs.declared.held.Held.{Held}
 use Rattle.pth_model.specs.declared.next.Next.{Next}
 use Rattle.pth_model.specs.declared.next.Next.TheVariants as next
-use Rattle.pth_model.specs.State.{State, Given, start, queue}
+use Rattle.pth_model.specs.State.{State, Given, start, queue, main}
 use Rattle.pth_model.specs.Changes.{with_going, called, called_from, held_of, owed_to, raised}
 use Rattle.pth_model.specs.Told.{Told, Went, tid}
 use Rattle.pth_model.specs.Family.{Family, Threads, Ends, Yield, Exit, split}
 use Rattle.pth_model.specs.Rows.{answer_of}
 use Rattle.pth_model.specs.Ending.{ending}
 use Rattle.pth_model.specs.Pass.{who_in}
-use Rattle.pth_model.specs.Waits.{main, is_alone, begun, begun_by, exit_row, exit_by, exit_again, resumed, resumed_by, resumed_from, yield_row, yields_by}
+use Rattle.pth_model.specs.Waits.{is_alone, begun, begun_by, exit_row, exit_by, exit_again, resumed, resumed_by, resumed_from, yield_row, yields_by}
 use Rattle.pth_model.specs.Part.{Part, Move, Take, Step, Close, Halt, next_part, part, part_by, moved, taken, dispatched_by, dispatched, closed, closing, placed, stepped, settled, ended_by, went_by, owing, counted, next_by}
 use Rattle.pth_model.specs.Run.{run, IsBetween}
 use Rattle.pth_model.proofs.Runs.{parts-more, between-none, between-more}

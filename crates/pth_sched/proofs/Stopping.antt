@@ -13,11 +13,10 @@ use Rattle.pth_threads.specs.declared.entry.Change.TheVariants as change
 use Rattle.pth_base.specs.declared.thread.ThreadState.TheVariants as state
 use Rattle.pth_model.specs.declared.next.Next.{Next}
 use Rattle.pth_model.specs.declared.next.Next.TheVariants as next
-use Rattle.pth_model.specs.State.{State, Scheduler, Given, start, queue}
+use Rattle.pth_model.specs.State.{State, Scheduler, Given, start, queue, main}
 use Rattle.pth_model.specs.Changes.{with_change, with_entry, without_entry, with_going, raised, held_of}
 use Rattle.pth_model.specs.Told.{Told}
 use Rattle.pth_model.specs.Pass.{who_in, readied, woken, all_woken, pass, to_wake}
-use Rattle.pth_model.specs.Waits.{main}
 use Rattle.pth_model.specs.Part.{next_part, next_part_by, unless_ended, part, part_by, moved, taken, dispatched, new_readied, new_rank, all_readied, runs, next_by, is_empty, is_idle, stepped, settled, ended_by, went_by, counted, closed, closing, placed}
 use Rattle.pth_model.specs.Run.{run, stops, stops_by, GoesTo}
 use Rattle.pth_model.proofs.Queues.{queue-enter}

@@ -4,11 +4,11 @@ ghost use Rattle.std.specs.Prelude.{◌≡◌, ◌≢◌, ◌+◌, [], ◌∷◌
 ghost use Rattle.pth_base.specs.declared.mark.Mark.{Mark as MarkOf};
 ghost use Rattle.pth_base.specs.declared.mark.Mark.TheVariants.{Ended as End};
 ghost use Rattle.pth_base.specs.declared.outcome.Outcome.TheVariants.{Running, Ended};
-ghost use Rattle.pth_model.specs.State.{Given};
+ghost use Rattle.pth_model.specs.State.{Given, main};
 ghost use Rattle.pth_model.specs.Told.{tid};
 ghost use Rattle.pth_model.specs.Run.{run, GoesTo, IsBetween};
 ghost use Rattle.pth_model.specs.Part.{Step, next_part};
-ghost use Rattle.pth_model.specs.Waits.{is_alone, main};
+ghost use Rattle.pth_model.specs.Waits.{is_alone};
 ghost use Rattle.pth_sched.specs.MachineOf.{MachineOf};
 ghost use Rattle.pth_sched.specs.Running.{GoesOn};
 

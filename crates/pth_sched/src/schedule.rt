@@ -12,7 +12,8 @@ ghost use Rattle.pth_sched.specs.Running.{Stands, StandsAt, IsShown, Keeps, Make
 
 use crate::passes::pass;
 use crate::turns::{end_turn, go_on, next, ready_new};
-use pth_base::ids::Tid;
+use pth_base::ids::{MAIN, Tid};
+use pth_base::limits::MOST_THREADS;
 use pth_base::mark::Mark;
 use pth_base::marks::Marks;
 use pth_base::memory::OutOfMemory;
@@ -23,12 +24,6 @@ use pth_queue::queue::Queue;
 use pth_world::world::World;
 use std::alloc::Global;
 use std::marker::Model;
-
-// The main thread's number.
-const MAIN: u32 = 1;
-
-// At most so many threads are in the system, and so at most so many are woken in one pass.
-const MOST: usize = 4096;
 
 /// A world with the turn that it is in, and room for the threads that a pass wakes.
 #[derive(Drop)]
@@ -66,7 +61,7 @@ impl<P: Program> Schedule<P> {
         ensures steps { IfOk result (λ m. m.steps ≡ 0) }
         ensures outcome { IfOk result (λ m. m.outcome ≡ Outcome.Running) }
     {
-        let waking = Vec::with_capacity(alloc, MOST)?;
+        let waking = Vec::with_capacity(alloc, MOST_THREADS as usize)?;
         let world = World::new(alloc, program)?;
         Ok(Schedule {
             waking,

@@ -16,7 +16,8 @@ ghost use Rattle.pth_waits.specs.Running.{runs_after};
 ghost use Rattle.pth_sched.specs.Passing.{HasRoom, called_next};
 
 use pth_base::call::Call;
-use pth_base::ids::{Micros, Tid};
+use pth_base::ids::Tid;
+use pth_base::limits::LAST_MOMENT;
 use pth_base::marks::Marks;
 use pth_base::memory::OutOfMemory;
 use pth_base::program::Program;
@@ -25,9 +26,6 @@ use pth_model::next::Next;
 use pth_queue::queue::Queue;
 use pth_waits::waits::{begin, resume, suspends};
 use pth_world::world::World;
-
-// Where moments stand still.
-const LAST_MOMENT: Micros = 1_000_000_000_000_000_000;
 
 // The rank at which a new thread becomes ready: in front of all others where new threads are favoured
 // (`PTH_CTRL_FAVOURNEW`), and else 0.

@@ -9,6 +9,7 @@ use Rattle.std.proofs.lemmas.Map.Lookups.{exact_unsigned}
 use Rattle.std.proofs.lemmas.List.Sums.{sum_by-set}
 use Rattle.slab.specs.Slab.{Slab, Updates, slab_len}
 use Rattle.slab.proofs.SlabLemmas.{ContainsKey-within}
+use Rattle.pth_base.specs.Limits.{thread_limit, last_count}
 use Rattle.pth_base.specs.Table.{put}
 use Rattle.pth_base.specs.Naming.{IsTied}
 use Rattle.pth_base.specs.declared.ids.Slot.{Slot}
@@ -109,11 +110,11 @@ count_set xs u e low there = omega (arith, sum_by-set one_if_some xs u (Some e) 
 -- ---- what is kept
 
 abbrev AreCountable : (ℕ → Option Entry) → Type 0
-AreCountable f = (u : ℕ) (e : Entry) → f u ≡ Some e → e.dispatches ≤ 9223372036854775807
+AreCountable f = (u : ℕ) (e : Entry) → f u ≡ Some e → e.dispatches ≤ last_count
 
-countable_put : (f : ℕ → Option Entry) (u : ℕ) (o : Option Entry) → AreCountable f → ((e : Entry) → o ≡ Some e → e.dispatches ≤ 9223372036854775807) → AreCountable (put f u o)
+countable_put : (f : ℕ → Option Entry) (u : ℕ) (o : Option Entry) → AreCountable f → ((e : Entry) → o ≡ Some e → e.dispatches ≤ last_count) → AreCountable (put f u o)
 countable_put f u o all here i e =
-    let P : Option Entry → Type 0 = λ v. v ≡ Some e → e.dispatches ≤ 9223372036854775807 in
+    let P : Option Entry → Type 0 = λ v. v ≡ Some e → e.dispatches ≤ last_count in
     put_by P f u o i (λ same. here e) (λ apart. all i e)
 
 abbrev AreEmpty : (ℕ → Option Entry) → Type 0
@@ -135,7 +136,7 @@ unfolding tid_at
 empties x y u o kept e here = rw e (empty_put (entry_at x) u o kept.empty here)
 
 -- what is kept, after one record was written
-kept_by : (x y : ThreadsOf) (u : ℕ) (o : Option Entry) → IsKept x → entry_at y ≡ put (entry_at x) u o → IsTied (slot_of y) (tid_at y) → ((t : ℕ) → y.made < t → slot_of y t ≡ None) → count y ≤ 4096 → (tid_of o ≡ 0 → o ≡ None) → ((e : Entry) → o ≡ Some e → e.dispatches ≤ 9223372036854775807) → IsKept y
+kept_by : (x y : ThreadsOf) (u : ℕ) (o : Option Entry) → IsKept x → entry_at y ≡ put (entry_at x) u o → IsTied (slot_of y) (tid_at y) → ((t : ℕ) → y.made < t → slot_of y t ≡ None) → count y ≤ thread_limit → (tid_of o ≡ 0 → o ≡ None) → ((e : Entry) → o ≡ Some e → e.dispatches ≤ last_count) → IsKept y
 kept_by x y u o kept entries tied fresh few here fits = record {
   tied = tied;
   fresh = fresh;
@@ -160,7 +161,7 @@ changed_tid (change.Dispatches dispatches) d = refl
 changed_tid (change.Value value) d = refl
 
 -- a count of dispatches stays one that an `i64` holds
-changed_fits : (c : Change) (d : Entry) → IsCountable c → d.dispatches ≤ 9223372036854775807 → (changed c d).dispatches ≤ 9223372036854775807
+changed_fits : (c : Change) (d : Entry) → IsCountable c → d.dispatches ≤ last_count → (changed c d).dispatches ≤ last_count
 unfolding changed
 changed_fits (change.Prio prio) d fits was = was
 changed_fits (change.Name name) d fits was = was
@@ -222,11 +223,11 @@ pub made_tid : (of : NewThread) (t : ℕ) → (made_of of t).tid.0 ≡ t
 unfolding made_of
 made_tid of t = refl
 
-made_fits : (of : NewThread) (t : ℕ) → (made_of of t).dispatches ≤ 9223372036854775807
+made_fits : (of : NewThread) (t : ℕ) → (made_of of t).dispatches ≤ last_count
 unfolding made_of
 made_fits of t = omega arith
 
-module _ (x : ThreadsOf) (s t : Slab Entry) (m n : BTreeMap ℕ ℕ) (u : ℕ) (of : NewThread) (kept_x : IsKept x) (s_is : x.slots ≡ s.slots) (m_is : x.index ≡ m.entries) (free : get_or s.slots u None ≡ None) (up : Updates s t u (Some (made_of of (x.made + 1)))) (len : slab_len t ≡ slab_len s + 1) (ups : tree.Updates nat_cmp m n (x.made + 1) (Some u)) (low : u < 4096) (room : slab_len s ≢ 4096) where
+module _ (x : ThreadsOf) (s t : Slab Entry) (m n : BTreeMap ℕ ℕ) (u : ℕ) (of : NewThread) (kept_x : IsKept x) (s_is : x.slots ≡ s.slots) (m_is : x.index ≡ m.entries) (free : get_or s.slots u None ≡ None) (up : Updates s t u (Some (made_of of (x.made + 1)))) (len : slab_len t ≡ slab_len s + 1) (ups : tree.Updates nat_cmp m n (x.made + 1) (Some u)) (low : u < thread_limit) (room : slab_len s ≢ thread_limit) where
   abbrev e : Entry
   e = made_of of (x.made + 1)
 

@@ -3,6 +3,7 @@ use Rattle.std.specs.Prelude.{◌≡◌, ◌+◌, ◌<◌, ◌≤◌, ℕ, pos, 
 use Rattle.std.specs.Ordering.{nat_cmp}
 use Rattle.std.specs.BTreeMap.{is_at}
 use Rattle.std.specs.Map.{lookup}
+use Rattle.pth_base.specs.Limits.{thread_limit, last_count}
 use Rattle.pth_base.specs.Table.{put, table}
 use Rattle.pth_base.specs.Naming.{IsTied}
 use Rattle.pth_base.specs.declared.ids.Tid.{Tid}
@@ -60,7 +61,7 @@ changed (change.Value value) e = record e { value = value }
 
 -- a count of dispatches is one that an `i64` holds
 abbrev pub IsCountable : Change → Type 0
-IsCountable (change.Dispatches dispatches) = dispatches ≤ 9223372036854775807
+IsCountable (change.Dispatches dispatches) = dispatches ≤ last_count
 IsCountable _ = Unit {0}
 
 -- the record of a new thread
@@ -84,17 +85,17 @@ pub record IsKept (x : ThreadsOf) : Type 0 where
   -- no thread has a number that is still to come
   pub fresh : (t : ℕ) → x.made < t → slot_of x t ≡ None
   -- there are at most as many as there are slots
-  pub few : count x ≤ 4096
+  pub few : count x ≤ thread_limit
   -- a slot that is not in use has no record
   pub empty : (u : ℕ) → tid_at x u ≡ 0 → entry_at x u ≡ None
   -- each count of dispatches is one that an `i64` holds
-  pub countable : (u : ℕ) (e : Entry) → entry_at x u ≡ Some e → e.dispatches ≤ 9223372036854775807
+  pub countable : (u : ℕ) (e : Entry) → entry_at x u ≡ Some e → e.dispatches ≤ last_count
 
 -- a new thread at a slot that was not in use
 pub record Adds (old new : ThreadsOf) (u : ℕ) (e : Entry) : Type 0 where
   pub unused : tid_at old u ≡ 0
   pub unknown : slot_of old e.tid.0 ≡ None
-  pub low : u < 4096
+  pub low : u < thread_limit
   pub slots : slot_of new ≡ put (slot_of old) e.tid.0 (Some u)
   pub tids : tid_at new ≡ put (tid_at old) u e.tid.0
   pub entries : entry_at new ≡ put (entry_at old) u (Some e)

@@ -4,11 +4,13 @@ ghost use Rattle.std.specs.Prelude.{◌≡◌, ◌≢◌, ◌+◌, ◌<◌, ◌�
 ghost use Rattle.std.specs.List.Sorted.{IsStrictlyIncreasing};
 ghost use Rattle.std.specs.BTreeMap.{keys, IsOrdered};
 ghost use Rattle.std.specs.Ordering.{nat_cmp};
+ghost use Rattle.pth_base.specs.Limits.{thread_limit, last_count};
 ghost use Rattle.pth_base.specs.Naming.{IsTied};
 ghost use Rattle.pth_threads.specs.Threads.{entry_at, tid_at, slot_of, count, made_of, number, tid_from, Adds, Changes, Removes, IsSame, IsCountable};
 
 use crate::entry::{AddErr, Change, Entry, NewThread};
 use pth_base::ids::{Slot, Tid};
+use pth_base::limits::MOST_THREADS;
 use pth_base::memory::OutOfMemory;
 use slab::Slab;
 use std::alloc::{AllocError, Global};
@@ -16,7 +18,7 @@ use std::collections::BTreeMap;
 use std::marker::Model;
 
 /// How many threads there may be at once.
-const MOST: usize = 4096;
+const MOST: usize = MOST_THREADS as usize;
 
 /// How many slots are tried before the index is asked: one for each value of a number's last twelve bits.
 const RECENT: usize = 4096;
@@ -90,7 +92,7 @@ impl Threads {
         requires { tid_at self.now s.0 ≢ 0 }
         ensures entry { entry_at self.now s.0 ≡ Some result.now }
         ensures tid { tid_at self.now s.0 ≡ result.now.tid.0 }
-        ensures dispatches { result.now.dispatches ≤ 9223372036854775807 }
+        ensures dispatches { result.now.dispatches ≤ last_count }
     {
         &self.records[s.0 as usize]
     }
@@ -110,7 +112,7 @@ impl Threads {
         ensures tid { IfOk result (λ p. p.0.0 ≡ self.old.made + 1) }
         ensures made { OnOk result (self.new.made ≡ self.old.made + 1) }
         ensures ok { IfOk result (λ p. Adds self.old self.new p.1.0 (made_of of p.0.0)) }
-        ensures too_many { IsErrOf result AddErr.TooMany ↔ (count self.old ≡ 4096) }
+        ensures too_many { IsErrOf result AddErr.TooMany ↔ (count self.old ≡ thread_limit) }
         ensures err { OnErr result (IsSame self.old self.new) }
     {
         if self.records.len() == MOST {
@@ -143,7 +145,7 @@ impl Threads {
     /// How many threads are in the system.
     pub fn count(&self) -> u32
         ensures value { result ≡ count self.now }
-        ensures most { count self.now ≤ 4096 }
+        ensures most { count self.now ≤ thread_limit }
     {
         self.records.len() as u32
     }

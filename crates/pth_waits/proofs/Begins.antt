@@ -6,11 +6,11 @@ use Rattle.pth_base.specs.declared.call.Call.TheVariants as call
 use Rattle.pth_model.specs.declared.next.Next.TheVariants.{Done}
 use Rattle.pth_model.specs.declared.held.Held.{Held}
 use Rattle.pth_model.specs.declared.held.Retake.TheVariants.{No}
-use Rattle.pth_model.specs.State.{State}
+use Rattle.pth_model.specs.State.{State, main}
 use Rattle.pth_model.specs.Changes.{with_going, with_held, held_of}
 use Rattle.pth_model.specs.Family.{split, Unbuilt}
 use Rattle.pth_model.specs.Rows.{answer_of, plain_row}
-use Rattle.pth_model.specs.Waits.{main, suspends, is_alone, held_from, suspended, waiting, ends, exit_row, exit_again, begun, resumed, resumed_by, wakes_by}
+use Rattle.pth_model.specs.Waits.{suspends, is_alone, held_from, suspended, waiting, ends, exit_row, exit_again, begun, resumed, resumed_by, wakes_by}
 use Rattle.pth_world.specs.World.{WorldOf}
 use Rattle.pth_world.specs.Standing.{StandsFor}
 

@@ -2,8 +2,8 @@
 
 ghost use Rattle.std.specs.Prelude.{◌≡◌, ◌==◌, ◌&&◌, not, true, Some, IfOk, OnOk, OnErr};
 ghost use Rattle.pth_base.specs.declared.call.Call.TheVariants.{Exit, Yield};
-ghost use Rattle.pth_model.specs.State.{State};
-ghost use Rattle.pth_model.specs.Waits.{main, is_alone, begun, exit_again, resumed, suspended, waiting, wakes as wakes_now, suspends as may_suspend};
+ghost use Rattle.pth_model.specs.State.{State, main};
+ghost use Rattle.pth_model.specs.Waits.{is_alone, begun, exit_again, resumed, suspended, waiting, wakes as wakes_now, suspends as may_suspend};
 ghost use Rattle.pth_world.specs.Ranks.{KeepsRanks};
 ghost use Rattle.pth_world.specs.Standing.{StandsFor, IsSound, Whole, MaySuspend};
 ghost use Rattle.pth_base.specs.Cut.{IsCut};
@@ -14,7 +14,7 @@ use crate::ending::end_thread;
 use pth_base::answer::Answer;
 use pth_base::call::Call;
 use pth_base::errno::Errno;
-use pth_base::ids::Tid;
+use pth_base::ids::{MAIN, Tid};
 use pth_base::mark::Mark;
 use pth_base::marks::Marks;
 use pth_base::memory::OutOfMemory;
@@ -23,9 +23,6 @@ use pth_calls::calls::answer_call;
 use pth_model::held::{Held, Retake};
 use pth_model::next::Next;
 use pth_world::world::World;
-
-// The main thread's number.
-const MAIN: u32 = 1;
 
 /// Whether a call may suspend its thread, or end it or its turn.
 pub fn suspends(call: &Call) -> bool

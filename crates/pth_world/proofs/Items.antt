@@ -1,11 +1,12 @@
 -- What threads go on with, after the continuation at one slot was changed.
 use Rattle.std.proofs.Common.{◌≡◌, ℕ, ◌<◌, List, length, get_or, set, Option, Some, None, option_map, sym, ◌∙◌, ap, arith}
 use Rattle.std.proofs.lemmas.List.{get_or_default}
+use Rattle.pth_base.specs.Limits.{thread_limit}
 use Rattle.pth_base.specs.Table.{put, table}
 use Rattle.pth_base.proofs.Lists.{table_set}
 use Rattle.pth_model.specs.declared.continuation.Continuation.{Continuation}
 
-module _ {S : Type 0} (xs : List (Option (Continuation S))) (u : ℕ) (long : length xs ≡ 4096) (low : u < 4096) where
+module _ {S : Type 0} (xs : List (Option (Continuation S))) (u : ℕ) (long : length xs ≡ thread_limit) (low : u < thread_limit) where
   within : u < length xs
   within = omega arith
 

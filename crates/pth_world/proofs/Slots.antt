@@ -1,6 +1,7 @@
 -- The slot of a thread in the system.
 use Rattle.std.proofs.lemmas.Int.{ints, fits_signed_from_abs}
 use Rattle.std.proofs.Common.{ℤ, SFits, w64, arith, ◌≡◌, ◌≢◌, ◌<◌, ℕ, Some, sym, ◌∙◌, ap}
+use Rattle.pth_base.specs.Limits.{thread_limit}
 use Rattle.pth_base.proofs.Namings.{none_some}
 use Rattle.pth_queue.specs.Queues.{IsRank}
 use Rattle.pth_threads.specs.Threads.{slot_of, tid_at}
@@ -25,7 +26,7 @@ module _ {P S H : Type 0} (w : WorldOf P S H) (t u : ℕ) (sound : IsSound w) (e
   pub used : tid_at w.threads u ≢ 0
   used zero = none_some (sym sound.tied.zero ∙ ap (slot_of w.threads) (sym zero ∙ name_is) ∙ e)
 
-  pub low : u < 4096
+  pub low : u < thread_limit
   low = sound.tied.low u used
 
   -- another slot has another thread

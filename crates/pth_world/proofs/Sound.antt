@@ -1,5 +1,6 @@
 -- Every change of a world keeps what is sound.
 use Rattle.std.proofs.Common.{◌≡◌, ◌≢◌, ◌<◌, ◌≤◌, ◌+◌, ℕ, ℤ, List, length, IsSome, Option, Some, None, option_map, refl, sym, ◌∙◌, ap, subst, arith}
+use Rattle.pth_base.specs.Limits.{thread_limit}
 use Rattle.pth_queue.proofs.Counts.{delete-absent}
 use Rattle.pth_queue.proofs.Sets.{room-with}
 use Rattle.pth_base.specs.Table.{put, table}
@@ -109,7 +110,7 @@ module _ {P S H : Type 0} (w : WorldOf P S H) (sound : IsSound w) where
       present = rw (ch.slots, ch.entries, ch.count, ch.made, seen_put None (slot_of w.threads) f (entry_at w.threads) t u (option_map (changed c) (entry_at w.threads u)) sound.tied e, ← seen_at None (slot_of w.threads) (entry_at w.threads) t u e) (number-change (seen None (slot_of w.threads) (entry_at w.threads)) w.threads.made t (changed c) ∙ sound.present);
     }
 
-    pub going_sound : (y : List (Option (Continuation S))) (o : Option (Continuation S)) → table None y ≡ put (table None w.going) u o → IsSome o → length y ≡ 4096 → IsSound (record w { going = y })
+    pub going_sound : (y : List (Option (Continuation S))) (o : Option (Continuation S)) → table None y ≡ put (table None w.going) u o → IsSome o → length y ≡ thread_limit → IsSound (record w { going = y })
     going_sound y o is some long = record {
       tied = sound.tied;
       fresh = sound.fresh;
@@ -144,7 +145,7 @@ module _ {P S H : Type 0} (w : WorldOf P S H) (sound : IsSound w) where
     most : t ≤ w.threads.made
     most = elim (cases_lt w.threads.made t) [ inl above ↦ absurd (none_some (sym (sound.fresh t above) ∙ e)) | inr low ↦ low ]
 
-    pub drop_sound : (x : ThreadsOf) (y : List (Option (Continuation S))) → IsNowhere u w.queues → Removes w.threads x u → table None y ≡ put (table None w.going) u None → length y ≡ 4096 → IsSound (record w { threads = x; going = y })
+    pub drop_sound : (x : ThreadsOf) (y : List (Option (Continuation S))) → IsNowhere u w.queues → Removes w.threads x u → table None y ≡ put (table None w.going) u None → length y ≡ thread_limit → IsSound (record w { threads = x; going = y })
     drop_sound x y nowhere gone none long = record {
       tied = gone.tied;
       fresh = λ v above. rw gone.slots (let Q : Option ℕ → Type 0 = λ o. o ≡ None in put_by Q (slot_of w.threads) (tid_at w.threads u) None v (λ same. refl) (λ apart. sound.fresh v (subst (λ (n : ℕ). n < v) gone.made above)));
@@ -172,7 +173,7 @@ module _ {P S H : Type 0} (w : WorldOf P S H) (sound : IsSound w) where
   pub raise_sound : (y : QueuesOf) → CanRise w.queues.ready → y ≡ with_rows queue.Ready (increase w.queues.ready) w.queues → IsSound (record w { queues = y })
   raise_sound y rise is = rw is (record { tied = sound.tied; fresh = sound.fresh; empty = sound.empty; bare = sound.bare; recorded = sound.recorded; queued = λ p. rows_kept (IsQueued f) queue.Ready p _ w.queues (IsQueued-increase f w.queues.ready (sound.queued queue.Ready)) sound.queued; room = sound.room; orderly = IsOrderly-increased queue.Ready w.queues sound.orderly rise; long = sound.long; attributes = sound.attributes; present = sound.present })
 
-  pub add_sound : (x : ThreadsOf) (y : List (Option (Continuation S))) (u : ℕ) (of : NewThread) (c : Continuation S) → IsPrio of.prio → IsCancel of.cancel → Adds w.threads x u (made_of of (w.threads.made + 1)) → table None y ≡ put (table None w.going) u (Some c) → length y ≡ 4096 → IsSound (record w { threads = x; going = y })
+  pub add_sound : (x : ThreadsOf) (y : List (Option (Continuation S))) (u : ℕ) (of : NewThread) (c : Continuation S) → IsPrio of.prio → IsCancel of.cancel → Adds w.threads x u (made_of of (w.threads.made + 1)) → table None y ≡ put (table None w.going) u (Some c) → length y ≡ thread_limit → IsSound (record w { threads = x; going = y })
   unfolding made_of
   add_sound x y u of c prio cancel adds has long = record {
     tied = adds.tied;

@@ -1,6 +1,7 @@
 -- A world with main alone stands for the state from which a run starts.
 use Rattle.std.proofs.lemmas.Int.{ints}
 use Rattle.std.proofs.Common.{arith, ◌≡◌, ℕ, pos, true, false, List, length, map, IsSome, IfSome, Option, Some, None, option_map, refl, sym, ◌∙◌, ap, subst}
+use Rattle.pth_base.specs.Limits.{thread_limit}
 use Rattle.pth_base.proofs.Namings.{none_some}
 use Rattle.pth_base.specs.Program.{Functions}
 use Rattle.pth_base.specs.Table.{put, table}
@@ -18,25 +19,25 @@ use Rattle.pth_threads.specs.declared.entry.Change.TheVariants as change
 use Rattle.pth_threads.specs.declared.entry.Entry.{Entry}
 use Rattle.pth_model.specs.declared.continuation.Continuation.{Continuation}
 use Rattle.pth_model.specs.Standing.{put_behind, order, shown}
-use Rattle.pth_model.specs.State.{State, Given, queue, number_known, start, main_entry}
+use Rattle.pth_model.specs.State.{State, Given, queue, number_known, start, main_entry, first_thread}
 use Rattle.pth_model.specs.Changes.{with_change, with_entry, without_entry, with_thread}
 use Rattle.pth_model.specs.Pass.{readied}
 use Rattle.pth_model.proofs.Orders.{shown-none}
-use Rattle.pth_world.specs.World.{WorldOf, first_thread, before_main}
+use Rattle.pth_world.specs.World.{WorldOf, before_main}
 use Rattle.pth_world.specs.Standing.{StandsFor, IsSound, IsPrio, IsCancel, HasAttributes, IsKnown, IsBeforeReady, Newly, view, Fits, FitsEntry, Whole}
 use Rattle.pth_world.proofs.Standing.{not_known}
 use Rattle.pth_world.proofs.Places.{queue-entered}
 
 module _ {P S H : Type 0} (f : P → Functions S H) (program : P) (t0 : ThreadsOf) (y0 : List (Option (Continuation S)))
     (slots : slot_of t0 ≡ (λ _. None)) (tids : tid_at t0 ≡ (λ _. 0)) (entries : entry_at t0 ≡ (λ _. None)) (none_made : t0.made ≡ 0) (no_count : count t0 ≡ 0)
-    (none : table None y0 ≡ (λ _. None)) (long0 : length y0 ≡ 4096) where
+    (none : table None y0 ≡ (λ _. None)) (long0 : length y0 ≡ thread_limit) where
   abbrev w0 : WorldOf P S H
-  w0 = record { program = program; shared = (f program).shared; threads = t0; queues = record no_queues { room = 4096 }; going = y0; running = None; named = None; favour_new = true; time = 0; clock = 1 }
+  w0 = record { program = program; shared = (f program).shared; threads = t0; queues = record no_queues { room = thread_limit }; going = y0; running = None; named = None; favour_new = true; time = 0; clock = 1 }
 
   abbrev s0 : State P S H
   s0 = before_main f (record { program = program })
 
-  none_queued : (q : Queue) → IsQueued (tid_at t0) (rows_of q (record no_queues { room = 4096 }))
+  none_queued : (q : Queue) → IsQueued (tid_at t0) (rows_of q (record no_queues { room = thread_limit }))
   none_queued queue.New = tt
   none_queued queue.Ready = tt
   none_queued queue.Waiting = tt
@@ -46,15 +47,15 @@ module _ {P S H : Type 0} (f : P → Functions S H) (program : P) (t0 : ThreadsO
   no_attributes : (v : ℕ) (e : Entry) → entry_at t0 v ≡ Some e → HasAttributes e
   no_attributes v e h = absurd (cc (sym (ap (λ (k : ℕ → Option Entry). k v) entries) ∙ h))
 
-  none_orderly : IsOrderly (record no_queues { room = 4096 })
+  none_orderly : IsOrderly (record no_queues { room = thread_limit })
   none_orderly = record { each = none_ordered; once = λ v. omega arith; few = omega arith }
     where
-      none_ordered : (q : Queue) → IsOrdered 4096 (rows_of q (record no_queues { room = 4096 }))
-      none_ordered queue.New = IsOrdered-nil 4096
-      none_ordered queue.Ready = IsOrdered-nil 4096
-      none_ordered queue.Waiting = IsOrdered-nil 4096
-      none_ordered queue.Suspended = IsOrdered-nil 4096
-      none_ordered queue.Dead = IsOrdered-nil 4096
+      none_ordered : (q : Queue) → IsOrdered thread_limit (rows_of q (record no_queues { room = thread_limit }))
+      none_ordered queue.New = IsOrdered-nil thread_limit
+      none_ordered queue.Ready = IsOrdered-nil thread_limit
+      none_ordered queue.Waiting = IsOrdered-nil thread_limit
+      none_ordered queue.Suspended = IsOrdered-nil thread_limit
+      none_ordered queue.Dead = IsOrdered-nil thread_limit
 
   sound0 : IsSound w0
   unfolding number_known
@@ -72,7 +73,7 @@ module _ {P S H : Type 0} (f : P → Functions S H) (program : P) (t0 : ThreadsO
     present = ap (number_known (seen None (slot_of t0) (entry_at t0))) none_made ∙ sym no_count;
   }
 
-  none_stand : (q : Queue) → queue s0 q ≡ map (named_row (tid_at t0)) (rows_of q (record no_queues { room = 4096 }))
+  none_stand : (q : Queue) → queue s0 q ≡ map (named_row (tid_at t0)) (rows_of q (record no_queues { room = thread_limit }))
   none_stand queue.New = shown-none _
   none_stand queue.Ready = shown-none _
   none_stand queue.Waiting = shown-none _
@@ -128,7 +129,7 @@ module _ {P S H : Type 0} (f : P → Functions S H) (g : Given P) where
   pub main_known : (w : WorldOf P S H) → StandsFor w with_main → IsKnown w 1
   main_known w st = known_by w (slot_of w.threads 1) refl st
 
-  pub main_new : (w : WorldOf P S H) (z : QueuesOf) → z ≡ record no_queues { room = 4096 } → IfSome (slot_of w.threads 1) (λ u. w.queues ≡ entered queue.New (pos 0) u z) → IsBeforeReady w 1
+  pub main_new : (w : WorldOf P S H) (z : QueuesOf) → z ≡ record no_queues { room = thread_limit } → IfSome (slot_of w.threads 1) (λ u. w.queues ≡ entered queue.New (pos 0) u z) → IsBeforeReady w 1
   main_new w z none enters = record {
     queue = queue.New;
     before = Newly;

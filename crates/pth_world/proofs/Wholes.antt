@@ -1,5 +1,6 @@
 -- Worlds that are whole, and new threads, calls and ends of threads as changes of the state.
 use Rattle.std.proofs.Common.{◌≡◌, ◌≢◌, ◌+◌, ◌==◌, ℕ, ℤ, Bool, true, false, List, length, IsSome, IfSome, Option, Some, None, refl, sym, ◌∙◌, ap, subst}
+use Rattle.pth_base.specs.Limits.{thread_limit}
 use Rattle.pth_base.specs.Program.{Functions, Stepped}
 use Rattle.pth_base.specs.Table.{put, table}
 use Rattle.pth_base.specs.declared.answer.Answer.{Answer}
@@ -33,7 +34,7 @@ if_some A B (Some r) f h = f r h
 if_some A B None f h = h
 
 -- a step of the program
-module _ {P S H : Type 0} (w v : WorldOf P S H) (t u : ℕ) (sound : IsSound w) (e : slot_of w.threads t ≡ Some u) (used : tid_at w.threads u ≢ 0) (h : P → Functions S H) (a : Answer) (call : Call) (steps : StepsAt (h w.program) u (table None w.going) (table None v.going) w.shared v.shared a call) (same : v ≡ record w { going = v.going; shared = v.shared }) (long : length v.going ≡ 4096) where
+module _ {P S H : Type 0} (w v : WorldOf P S H) (t u : ℕ) (sound : IsSound w) (e : slot_of w.threads t ≡ Some u) (used : tid_at w.threads u ≢ 0) (h : P → Functions S H) (a : Answer) (call : Call) (steps : StepsAt (h w.program) u (table None w.going) (table None v.going) w.shared v.shared a call) (same : v ≡ record w { going = v.going; shared = v.shared }) (long : length v.going ≡ thread_limit) where
   there : (o : Option (Continuation S)) → IsSome o → (x : Continuation S) × (o ≡ Some x)
   there (Some x) some = (x, refl)
   there None some = let bad : ⊥ = cc in absurd bad
@@ -67,7 +68,7 @@ module _ {P S H : Type 0} (w v : WorldOf P S H) (t u : ℕ) (sound : IsSound w) 
   next_whole whole = going_whole w v t u same_view whole e next_touches next_sound (ap (λ (k : WorldOf P S H). slot_of k.threads) same) (ap (λ (k : WorldOf P S H). k.running) same) (λ r f. f)
 
 -- a new thread
-module _ {P S H : Type 0} (w : WorldOf P S H) (whole : Whole w) (x : ThreadsOf) (y : List (Option (Continuation S))) (z : QueuesOf) (u : ℕ) (of : NewThread) (prio : IsPrio of.prio) (cancel : IsCancel of.cancel) (c : Continuation S) (bare : c.held ≡ None) (adds : Adds w.threads x u (made_of of (w.threads.made + 1))) (has : table None y ≡ put (table None w.going) u (Some c)) (long : length y ≡ 4096) (enters : z ≡ entered queue.New of.prio u w.queues) where
+module _ {P S H : Type 0} (w : WorldOf P S H) (whole : Whole w) (x : ThreadsOf) (y : List (Option (Continuation S))) (z : QueuesOf) (u : ℕ) (of : NewThread) (prio : IsPrio of.prio) (cancel : IsCancel of.cancel) (c : Continuation S) (bare : c.held ≡ None) (adds : Adds w.threads x u (made_of of (w.threads.made + 1))) (has : table None y ≡ put (table None w.going) u (Some c)) (long : length y ≡ thread_limit) (enters : z ≡ entered queue.New of.prio u w.queues) where
   abbrev t : ℕ
   t = w.threads.made + 1
 

@@ -1,5 +1,6 @@
 -- A world stands for a part of the machine's state, and what holds of every world.
 use Rattle.std.specs.Prelude.{◌≡◌, ◌≢◌, ◌<◌, ◌≤◌, ℕ, ℤ, pos, neg_ℤ, ◌≤ℤ◌, Bool, true, false, length, map, Option, Some, None, option_map, IsSome, IfSome}
+use Rattle.pth_base.specs.Limits.{thread_limit}
 use Rattle.pth_base.specs.Table.{table}
 use Rattle.pth_base.specs.Naming.{IsTied, seen}
 use Rattle.pth_base.specs.declared.call.Call.{Call}
@@ -79,10 +80,10 @@ pub record IsSound {P S H : Type 0} (w : WorldOf P S H) : Type 0 where
   -- each thread in the system has something to go on with
   pub recorded : (u : ℕ) → tid_at w.threads u ≢ 0 → IsSome (table None w.going u)
   pub queued : (q : Queue) → IsQueued (tid_at w.threads) (rows_of q w.queues)
-  pub room : w.queues.room ≡ 4096
+  pub room : w.queues.room ≡ thread_limit
   -- each queue is in order, and no slot stands in two
   pub orderly : IsOrderly w.queues
-  pub long : length w.going ≡ 4096
+  pub long : length w.going ≡ thread_limit
   pub attributes : (u : ℕ) (e : Entry) → entry_at w.threads u ≡ Some e → HasAttributes e
   -- the threads are counted by slot as by number
   pub present : number_known (seen None (slot_of w.threads) (entry_at w.threads)) w.threads.made ≡ count w.threads

@@ -3,7 +3,6 @@ use Rattle.std.specs.Prelude.{ℕ, pos, codes, Bool, true, List, [], Option, Non
 use Rattle.pth_base.specs.Program.{Functions}
 use Rattle.pth_base.specs.declared.ids.Tid.{Tid}
 use Rattle.pth_threads.specs.Threads.{ThreadsOf}
-use Rattle.pth_threads.specs.declared.entry.NewThread.{NewThread}
 use Rattle.pth_queue.specs.Queues.{QueuesOf}
 use Rattle.pth_model.specs.declared.continuation.Continuation.{Continuation}
 use Rattle.pth_model.specs.State.{State, Given, start}
@@ -11,10 +10,6 @@ use Rattle.pth_model.specs.State.{State, Given, start}
 -- the number of a thread
 abbrev pub number_of : Tid → ℕ
 number_of t = t.0
-
--- what the main thread is given
-abbrev pub first_thread : NewThread
-first_thread = record { prio = pos 0; name = codes "main"; joinable = true; cancel = 1 }
 
 -- the state from which a run starts, before the main thread is made
 abbrev pub before_main : {P S H : Type 0} → (P → Functions S H) → Given P → State P S H

@@ -8,6 +8,7 @@ ghost use Rattle.pth_world.specs.Steps.{StepsAt};
 use pth_base::answer::Answer;
 use pth_base::call::Call;
 use pth_base::ids::Slot;
+use pth_base::limits::MOST_THREADS;
 use pth_base::memory::OutOfMemory;
 use pth_base::program::Program;
 use pth_model::continuation::Continuation;
@@ -17,7 +18,7 @@ use std::marker::Model;
 use std::mem;
 
 /// How many slots there are.
-const SLOTS: usize = 4096;
+const SLOTS: usize = MOST_THREADS as usize;
 
 /// What the thread at each of 4096 slots goes on with, if there is one.
 #[derive(Drop)]

@@ -1,6 +1,7 @@
 //! What threads go on with.
 
 ghost use Rattle.std.specs.Prelude.{◌≡◌, ◌<◌, ℕ, Option, Some, None, IsSome, IfOk, OnOk, option_copied, length};
+ghost use Rattle.pth_base.specs.Limits.{thread_limit};
 ghost use Rattle.pth_base.specs.Table.{table};
 ghost use Rattle.pth_base.specs.declared.answer.Answer.{Answer as AnswerOf};
 ghost use Rattle.pth_model.specs.State.{State};
@@ -92,10 +93,10 @@ impl<P: Program> World<P> {
 
     // The program's step at the state of the thread at a slot.
     fn step(&mut self, slot: Slot, answer: &Answer) -> Result<Call, OutOfMemory>
-        requires low { slot.0 < 4096 }
+        requires low { slot.0 < thread_limit }
         requires some { IsSome (table None self.old.going slot.0) }
         ensures step { IfOk result (λ call. StepsAt (P.functions self.old.program) slot.0 (table None self.old.going) (table None self.new.going) self.old.shared self.new.shared answer.now call) }
-        ensures long { length self.new.going ≡ 4096 }
+        ensures long { length self.new.going ≡ thread_limit }
         ensures same { OnOk result (self.new ≡ record self.old { going = self.new.going; shared = self.new.shared }) }
     {
         step_at(

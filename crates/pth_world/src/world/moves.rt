@@ -1,6 +1,7 @@
 //! The moves of a thread between its states, each with its queue.
 
 ghost use Rattle.std.specs.Prelude.{◌≡◌, ◌≢◌, ◌+◌, ℕ, ℤ, pos, ◌≤ℤ◌, Bool, Option, Some, None, IfSome, min, false};
+ghost use Rattle.pth_base.specs.Limits.{last_count};
 ghost use Rattle.pth_base.specs.declared.thread.ThreadState.TheVariants as state;
 ghost use Rattle.pth_queue.specs.Queues.{IsRank, entered, without};
 ghost use Rattle.pth_queue.specs.declared.queue.Queue.TheVariants as queue;
@@ -10,19 +11,17 @@ ghost use Rattle.pth_model.specs.State.{State};
 ghost use Rattle.pth_model.specs.Changes.{running_is};
 ghost use Rattle.pth_model.specs.Ending.{dead, gone};
 ghost use Rattle.pth_model.specs.Pass.{readied};
-ghost use Rattle.pth_model.specs.Part.{put_back, put_waiting, runs, last_count};
+ghost use Rattle.pth_model.specs.Part.{put_back, put_waiting, runs};
 ghost use Rattle.pth_world.specs.Ranks.{greatest_return, KeepsRanks};
 ghost use Rattle.pth_world.specs.Standing.{StandsFor, Whole, IsPrio, IsKnown, IsIn, IsBeforeReady, SameThreads, KeepsScheduler};
 
 use crate::world::World;
 use pth_base::ids::Tid;
+use pth_base::limits::LAST_COUNT;
 use pth_base::program::Program;
 use pth_base::thread::ThreadState;
 use pth_queue::queue::Queue;
 use pth_threads::entry::Change;
-
-/// Where a count of dispatches stands still.
-const LAST_COUNT: u64 = 9_223_372_036_854_775_807;
 
 impl<P: Program> World<P> {
     /// A thread that is new or waits is ready, at a rank.

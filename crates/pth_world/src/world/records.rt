@@ -1,16 +1,16 @@
 //! The records of threads: changes, new threads, and threads that are gone.
 
 ghost use Rattle.std.specs.Prelude.{◌≡◌, ◌≢◌, ◌<◌, ◌+◌, ◌↔◌, ℕ, ℤ, Bool, false, Option, Some, None, IfSome, IfOk, OnOk, OnErr, IsErrOf, option_copied, nat_lt, pos};
+ghost use Rattle.pth_base.specs.Limits.{thread_limit};
 ghost use Rattle.pth_queue.specs.declared.queue.Queue.TheVariants as queue;
 ghost use Rattle.pth_queue.specs.Queues.{IsNowhere, IsRank, no_queues, entered, without};
 ghost use Rattle.pth_base.specs.declared.thread.ThreadState.TheVariants as state;
 ghost use Rattle.pth_threads.specs.declared.entry.Change.TheVariants as change;
 ghost use Rattle.pth_threads.specs.Threads.{slot_of, tid_at, count, IsCountable, IsSame, Removes};
-ghost use Rattle.pth_model.specs.State.{State, start, present};
+ghost use Rattle.pth_model.specs.State.{State, start, present, first_thread};
 ghost use Rattle.pth_model.specs.Changes.{with_change, with_entry, with_thread, without_entry, without_thread};
 ghost use Rattle.pth_model.specs.Part.{put_waiting};
-ghost use Rattle.pth_model.specs.Rows.{thread_limit};
-ghost use Rattle.pth_world.specs.World.{first_thread, before_main};
+ghost use Rattle.pth_world.specs.World.{before_main};
 ghost use Rattle.pth_world.specs.Ranks.{KeepsRanks};
 ghost use Rattle.pth_world.specs.Standing.{StandsFor, IsSound, IsKnown, IsPrio, IsCancel, KeepsAttributes, Whole, Touches, SameThreads, changes, places, view};
 
@@ -18,6 +18,7 @@ use crate::continuations::Continuations;
 use crate::world::World;
 use pth_base::answer::Answer;
 use pth_base::ids::{BodyId, Tid};
+use pth_base::limits::MOST_THREADS;
 use pth_base::memory::OutOfMemory;
 use pth_base::name::Name;
 use pth_base::program::Program;
@@ -28,9 +29,6 @@ use pth_queue::queue_set::QueueSet;
 use pth_threads::entry::{AddErr, Change, Entry, NewThread};
 use pth_threads::threads::Threads;
 use std::alloc::Global;
-
-/// How many threads there may be at once.
-const MOST: u32 = 4096;
 
 // What the main thread is given.
 fn main_thread() -> NewThread
@@ -51,13 +49,13 @@ impl<P: Program> World<P> {
         ensures whole { IfOk result (λ w. Whole w) }
         ensures made { IfOk result (λ w. w.threads.made ≡ 0) }
         ensures count { IfOk result (λ w. count w.threads ≡ 0) }
-        ensures queues { IfOk result (λ w. w.queues ≡ record no_queues { room = 4096 }) }
+        ensures queues { IfOk result (λ w. w.queues ≡ record no_queues { room = thread_limit }) }
         ensures bodies { IfOk result (λ w. 0 < (P.functions w.program).bodies) }
     {
         let shared = program.shared(alloc)?;
         let _some = program.bodies();
         let mut queues = QueueSet::new(alloc);
-        queues.reserve(MOST)?;
+        queues.reserve(MOST_THREADS)?;
         let going = Continuations::new(alloc)?;
         let threads = Threads::new(alloc);
         Ok(World {
@@ -132,13 +130,13 @@ impl<P: Program> World<P> {
         self.program.start(self.alloc, body, arg)
     }
 
-    /// Whether another thread can be made: at most 4096 are in the system, dead ones too.
+    /// Whether another thread can be made: at most thread_limit are in the system, dead ones too.
     pub fn has_room(&self) -> bool
         requires { IsSound self.now }
         ensures count { result ≡ nat_lt (count self.now.threads) thread_limit }
         ensures room { (s : State P P.State P.Shared) → StandsFor self.now s → result ≡ nat_lt (present s) thread_limit }
     {
-        self.threads().count() < MOST
+        self.threads().count() < MOST_THREADS
     }
 
     /// A new thread of this body, with this argument and these values, which enters the new queue at its base priority.
@@ -157,12 +155,12 @@ impl<P: Program> World<P> {
         ensures whole { OnOk result (Whole self.new) }
         ensures others { OnOk result ((t : ℕ) → IsKnown self.old t → IsKnown self.new t) }
         ensures same { OnOk result (self.new ≡ record self.old { threads = self.new.threads; queues = self.new.queues; going = self.new.going }) }
-        ensures too_many { IsErrOf result AddErr.TooMany ↔ (count self.old.threads ≡ 4096) }
+        ensures too_many { IsErrOf result AddErr.TooMany ↔ (count self.old.threads ≡ thread_limit) }
         ensures refused { OnErr result ((s : State P P.State P.Shared) → StandsFor self.old s → StandsFor self.new s) }
         ensures whole_still { OnErr result (Whole self.new) }
         ensures still { OnErr result (self.new ≡ record self.old { threads = self.new.threads } × IsSame self.old.threads self.new.threads) }
     {
-        if self.threads().count() == MOST {
+        if self.threads().count() == MOST_THREADS {
             return Err(AddErr::TooMany);
         }
         let state = self.start(body, arg)?;

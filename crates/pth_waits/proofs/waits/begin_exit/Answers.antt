@@ -1,6 +1,7 @@
 use Rattle.std.proofs.Common.{◌≡◌, ◌∙◌, ◌==◌, ◌&&◌, not, true, false, SFits, w64, to_z-of_z, ap, rules, refl}
 use Rattle.std.proofs.lemmas.Result.{err_from_is_err_and}
-use Rattle.pth_model.specs.Waits.{main, is_alone}
+use Rattle.pth_model.specs.State.{main}
+use Rattle.pth_model.specs.Waits.{is_alone}
 use Rattle.pth_waits.proofs.Begins.{exit_ends, exit_waits}
 use Rattle.pth_waits.proofs.waits.begin_exit.Goals as goal
 

@@ -1,6 +1,7 @@
 use Rattle.std.proofs.Common.{◌≡◌, ◌↔◌, ℕ, List, Option, is_some, count_by, Result, Err, IsErrOf, refl, sym, ◌∙◌, ap, arith}
 use Rattle.std.proofs.lemmas.Result.{err_from_is_err_and}
 use Rattle.slab.specs.Slab.{Slab}
+use Rattle.pth_base.specs.Limits.{thread_limit}
 use Rattle.pth_threads.specs.declared.entry.Entry.{Entry}
 use Rattle.pth_threads.specs.declared.entry.AddErr.{AddErr}
 use Rattle.pth_threads.specs.declared.entry.AddErr.TheVariants.{TooMany, OutOfMemory}
@@ -9,11 +10,11 @@ use Rattle.pth_threads.proofs.Slots.{adds, kept_added}
 use Rattle.pth_threads.proofs.threads.Threads.add.Goals as goal
 
 -- there are too many exactly where the answer says so
-many : {T : Type 0} (r : Result T AddErr) (x : ThreadsOf) (n : ℕ) → n ≡ count_by is_some x.slots → n ≡ 4096 → r ≡ Err TooMany → IsErrOf r TooMany ↔ (count x ≡ 4096)
+many : {T : Type 0} (r : Result T AddErr) (x : ThreadsOf) (n : ℕ) → n ≡ count_by is_some x.slots → n ≡ thread_limit → r ≡ Err TooMany → IsErrOf r TooMany ↔ (count x ≡ thread_limit)
 unfolding count
 many r x n is full e = (λ h. sym is ∙ full, λ h. e)
 
-few : {T : Type 0} (r : Result T AddErr) (x : ThreadsOf) (n : ℕ) → n ≡ count_by is_some x.slots → (n ≡ 4096 → ⊥) → (r ≡ Err TooMany → ⊥) → IsErrOf r TooMany ↔ (count x ≡ 4096)
+few : {T : Type 0} (r : Result T AddErr) (x : ThreadsOf) (n : ℕ) → n ≡ count_by is_some x.slots → (n ≡ thread_limit → ⊥) → (r ≡ Err TooMany → ⊥) → IsErrOf r TooMany ↔ (count x ≡ thread_limit)
 unfolding count
 few r x n is room e = (λ h. absurd (e h), λ h. absurd (room (is ∙ h)))
 
