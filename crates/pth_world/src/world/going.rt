@@ -49,6 +49,7 @@ impl<P: Program> World<P> {
     }
 
     /// Sets the answer that is handed over to a thread in its next step.
+    #[inline(always)]
     pub fn owe(&mut self, t: Tid, a: Answer)
         requires sound { IsSound self.old }
         requires known { IsKnown self.old t.0 }
