@@ -21,12 +21,12 @@ use Rattle.pth_model.specs.declared.held.Held.{Held}
 use Rattle.pth_model.specs.declared.next.Next.{Next}
 use Rattle.pth_model.specs.declared.next.Next.TheVariants as next
 use Rattle.pth_model.specs.Standing.{Standing}
-use Rattle.pth_model.specs.State.{State, Given, start, main_standing, queue}
+use Rattle.pth_model.specs.State.{State, Given, start, main, main_standing, queue}
 use Rattle.pth_model.specs.Changes.{with_change, with_going, with_entry, without_entry, with_thread, without_thread, raised, running_is, called, called_from, held_of, owed_to}
 use Rattle.pth_model.specs.Family.{Family, Threads, Ends, Plains, Notes, ThreadCall, Spawn, Yield, Exit, split}
 use Rattle.pth_model.specs.Rows.{after, thread_after, spawned, answer_of, plain_row, plain_told, child_by, body_of}
 use Rattle.pth_model.specs.Ending.{ending, dead, gone, gone_by, unheld, other_than, stopping, ended_core}
-use Rattle.pth_model.specs.Waits.{is_alone, suspended, exit_row, exit_by, yield_row, begun, begun_by, resumed, resumed_by, resumed_from, exit_again, wakes, main}
+use Rattle.pth_model.specs.Waits.{is_alone, suspended, exit_row, exit_by, yield_row, begun, begun_by, resumed, resumed_by, resumed_from, exit_again, wakes}
 use Rattle.pth_model.specs.Pass.{readied, woken, all_woken, pass, to_wake, prio_of, moment, who_in}
 use Rattle.pth_model.specs.Part.{Part, next_part, next_part_by, unless_ended, is_idle, part, part_by, moved, moved_by, at_moment, new_readied, new_rank, all_readied, put_back, put_waiting, placed, placed_by, closed, giving, closing, taken, dispatched, dispatched_by, runs, next_by, stepped, settled, ended_by, went_by, counted, owing}
 use Rattle.pth_model.specs.Run.{parts, run}
