@@ -4,9 +4,9 @@ use Rattle.std.proofs.lemmas.Bool.{cases_eq}
 use Rattle.pth_queue.specs.declared.queue.Queue.{Queue}
 use Rattle.pth_queue.specs.declared.queue.Queue.TheVariants.{New, Ready, Waiting, Suspended, Dead}
 use Rattle.pth_queue.specs.declared.node.Node.{Node}
-use Rattle.pth_queue.specs.declared.row.Row.{Row}
+use Rattle.pth_queue.specs.declared.ranked.Ranked.{Ranked}
 use Rattle.pth_queue.specs.Ring.{Has, Distinct, last_or}
-use Rattle.pth_queue.specs.Rows.{is_of, insert, delete, holds, head_of, last_of, after_in}
+use Rattle.pth_queue.specs.Ranking.{is_of, insert, delete, holds, head_of, last_of, after_in}
 use Rattle.pth_queue.specs.Queues.{QueuesOf, rows_of, with_rows, queue_of, after_of, IsNowhere, IsRank, IsOrderly, entered, without}
 use Rattle.pth_queue.specs.Arena.{slots_of}
 use Rattle.pth_queue.specs.Nodes.{IsApart, a_node, gap_of, next_of, node_in, node_of, prev_of}
@@ -26,32 +26,32 @@ use Rattle.pth_queue.proofs.Spotting.{ended}
 none_some : {X P : Type 0} (x : X) → None ≡ Some x → P
 none_some x k = cc
 
-distinct-once : (rows : List Row) → ((s : ℕ) → count_by (is_of s) rows ≤ 1) → Distinct (slots_of rows)
+distinct-once : (rows : List Ranked) → ((s : ℕ) → count_by (is_of s) rows ≤ 1) → Distinct (slots_of rows)
 distinct-once [] once = tt
 distinct-once (x ∷ xs) once = (
   λ y h k.
-      let more : 1 ≤ count_by (is_of x.who) xs = count-present x.who xs (has-holds x.who xs (subst (λ z. Has z (slots_of xs)) k h)) in
-      let two : count_by (is_of x.who) (x ∷ xs) ≡ 1 + count_by (is_of x.who) xs = count-cons x.who x xs ∙ ap (λ (b : Bool). cond b 1 0 + count_by (is_of x.who) xs) (eq-eqb x.who x.who refl) in
-      let one : count_by (is_of x.who) (x ∷ xs) ≤ 1 = once x.who in
+      let more : 1 ≤ count_by (is_of x.holder) xs = count-present x.holder xs (has-holds x.holder xs (subst (λ z. Has z (slots_of xs)) k h)) in
+      let two : count_by (is_of x.holder) (x ∷ xs) ≡ 1 + count_by (is_of x.holder) xs = count-cons x.holder x xs ∙ ap (λ (b : Bool). cond b 1 0 + count_by (is_of x.holder) xs) (eq-eqb x.holder x.holder refl) in
+      let one : count_by (is_of x.holder) (x ∷ xs) ≤ 1 = once x.holder in
       omega arith,
   distinct-once xs (λ s. let c = count-cons s x xs in let one : count_by (is_of s) (x ∷ xs) ≤ 1 = once s in omega arith),
 )
 
-distinct-rows : (q : Queue) (qs : QueuesOf) (rows : List Row) → IsOrderly qs → rows_of q qs ≡ rows → Distinct (slots_of rows)
+distinct-rows : (q : Queue) (qs : QueuesOf) (rows : List Ranked) → IsOrderly qs → rows_of q qs ≡ rows → Distinct (slots_of rows)
 distinct-rows q qs rows o is = subst (λ l. Distinct (slots_of l)) is (distinct-once (rows_of q qs) (λ s. once_in q s qs o))
 
 -- the node of a slot whose row stands here
-placed : (q : Queue) (qs : QueuesOf) (front : List Row) (e : Row) (back : List Row) → IsOrderly qs → rows_of q qs ≡ front ++ e ∷ back → node_of e.who qs ≡ Some (a_node (prev_at front e back) (next_at front e back) (gap_at front e))
+placed : (q : Queue) (qs : QueuesOf) (front : List Ranked) (e : Ranked) (back : List Ranked) → IsOrderly qs → rows_of q qs ≡ front ++ e ∷ back → node_of e.holder qs ≡ Some (a_node (prev_at front e back) (next_at front e back) (gap_at front e))
 placed q qs front e back o is =
-    let d : Distinct (slots_of front ++ e.who ∷ slots_of back) = subst Distinct (slots-append front (e ∷ back)) (distinct-rows q qs (front ++ e ∷ back) o is) in
-    ap (option_and_then (λ p. node_in e.who (rows_of p qs))) (queue_of-holds q e.who qs o (ap (holds e.who) is ∙ has-holds e.who (front ++ e ∷ back) (has-middle front e back)))
-    ∙ ap (node_in e.who) is
-    ∙ in-own front e back (λ h. distinct-apart (slots_of front) (e.who ∷ slots_of back) d e.who h e.who (inl refl) refl)
+    let d : Distinct (slots_of front ++ e.holder ∷ slots_of back) = subst Distinct (slots-append front (e ∷ back)) (distinct-rows q qs (front ++ e ∷ back) o is) in
+    ap (option_and_then (λ p. node_in e.holder (rows_of p qs))) (queue_of-holds q e.holder qs o (ap (holds e.holder) is ∙ has-holds e.holder (front ++ e ∷ back) (has-middle front e back)))
+    ∙ ap (node_in e.holder) is
+    ∙ in-own front e back (λ h. distinct-apart (slots_of front) (e.holder ∷ slots_of back) d e.holder h e.holder (inl refl) refl)
 
 none-placed : (q : Queue) (s : ℕ) (qs : QueuesOf) → IsOrderly qs → queue_of s qs ≡ Some q → node_of s qs ≡ None → ⊥
 none-placed q s qs o stands none =
     let r = split (rows_of q qs) s (holds-has s (rows_of q qs) (holds-queue_of q s qs stands)) in
-    none_some (a_node (prev_at r.front r.row r.back) (next_at r.front r.row r.back) (gap_at r.front r.row)) (sym none ∙ ap (λ z. node_of z qs) (sym r.who) ∙ placed q qs r.front r.row r.back o r.is)
+    none_some (a_node (prev_at r.front r.row r.back) (next_at r.front r.row r.back) (gap_at r.front r.row)) (sym none ∙ ap (λ z. node_of z qs) (sym r.holder) ∙ placed q qs r.front r.row r.back o r.is)
 
 nowhere-if : (s : ℕ) (qs : QueuesOf) (p : Option Queue) → IsOrderly qs → queue_of s qs ≡ p → node_of s qs ≡ None → p ≡ None
 nowhere-if s qs None o is none = refl
@@ -62,51 +62,51 @@ pub nowhere-none : (s : ℕ) (qs : QueuesOf) → IsOrderly qs → (node_of s qs 
 nowhere-none s qs o = (nowhere-if s qs (queue_of s qs) o refl, λ h. ap (option_and_then (λ q. node_in s (rows_of q qs))) h)
 
 -- GAPS
-pub head-gap : (q : Queue) (qs : QueuesOf) (x : Row) (xs : List Row) → IsOrderly qs → rows_of q qs ≡ x ∷ xs → gap_of x.who qs ≡ Some x.rank
+pub head-gap : (q : Queue) (qs : QueuesOf) (x : Ranked) (xs : List Ranked) → IsOrderly qs → rows_of q qs ≡ x ∷ xs → gap_of x.holder qs ≡ Some x.rank
 head-gap q qs x xs o is = ap (option_map (λ (n : Node). n.gap)) (placed q qs [] x xs o is)
 
-gap-behind : (front : List Row) (x y : Row) → gap_at (front ++ x ∷ []) y ≡ (x.rank -ℤ y.rank)
+gap-behind : (front : List Ranked) (x y : Ranked) → gap_at (front ++ x ∷ []) y ≡ (x.rank -ℤ y.rank)
 gap-behind [] x y = refl
 gap-behind (f ∷ fs) x y = ap (λ z. z -ℤ y.rank) (last_rank-append f.rank fs x [])
 
-pub other-gaps : (q : Queue) (qs : QueuesOf) (front : List Row) (x y : Row) (back : List Row) → IsOrderly qs → rows_of q qs ≡ front ++ x ∷ y ∷ back → gap_of y.who qs ≡ Some (x.rank -ℤ y.rank)
+pub other-gaps : (q : Queue) (qs : QueuesOf) (front : List Ranked) (x y : Ranked) (back : List Ranked) → IsOrderly qs → rows_of q qs ≡ front ++ x ∷ y ∷ back → gap_of y.holder qs ≡ Some (x.rank -ℤ y.rank)
 other-gaps q qs front x y back o is =
     ap (option_map (λ (n : Node). n.gap)) (placed q qs (front ++ x ∷ []) y back o (is ∙ sym (append_assoc front (x ∷ []) (y ∷ back))))
     ∙ ap Some (gap-behind front x y)
 
 -- CIRCLES
-record Follows (rows : List Row) (s t : ℕ) : Type 0 where
-  pub front : List Row
-  pub row : Row
-  pub next : Row
-  pub back : List Row
+record Follows (rows : List Ranked) (s t : ℕ) : Type 0 where
+  pub front : List Ranked
+  pub row : Ranked
+  pub next : Ranked
+  pub back : List Ranked
   pub is : rows ≡ front ++ row ∷ next ∷ back
-  pub row_who : row.who ≡ s
-  pub next_who : next.who ≡ t
+  pub row_who : row.holder ≡ s
+  pub next_who : next.holder ≡ t
 
 same_some : (a b : ℕ) → Some a ≡ Some b → a ≡ b
 same_some a b k = cc
 
-follows-head : (s t : ℕ) (x : Row) (xs : List Row) → x.who ≡ s → head_of xs ≡ Some t → Follows (x ∷ xs) s t
+follows-head : (s t : ℕ) (x : Ranked) (xs : List Ranked) → x.holder ≡ s → head_of xs ≡ Some t → Follows (x ∷ xs) s t
 follows-head s t x [] e h = none_some t h
-follows-head s t x (y ∷ ys) e h = record { front = []; row = x; next = y; back = ys; is = refl; row_who = e; next_who = same_some y.who t h }
+follows-head s t x (y ∷ ys) e h = record { front = []; row = x; next = y; back = ys; is = refl; row_who = e; next_who = same_some y.holder t h }
 
-follows : (s t : ℕ) (rows : List Row) → after_in s rows ≡ Some t → Follows rows s t
+follows : (s t : ℕ) (rows : List Ranked) → after_in s rows ≡ Some t → Follows rows s t
 follows s t [] h = none_some t h
-follows s t (x ∷ xs) h = elim (cases_eq x.who s) [
-  | inl e ↦ follows-head s t x xs e (sym (ap (λ (b : Bool). if b then head_of xs else after_in s xs) (eq-eqb x.who s e)) ∙ h)
+follows s t (x ∷ xs) h = elim (cases_eq x.holder s) [
+  | inl e ↦ follows-head s t x xs e (sym (ap (λ (b : Bool). if b then head_of xs else after_in s xs) (eq-eqb x.holder s e)) ∙ h)
   | inr n ↦
-      let f = follows s t xs (sym (ap (λ (b : Bool). if b then head_of xs else after_in s xs) (ne_eqb x.who s n)) ∙ h) in
+      let f = follows s t xs (sym (ap (λ (b : Bool). if b then head_of xs else after_in s xs) (ne_eqb x.holder s n)) ∙ h) in
       record { front = x ∷ f.front; row = f.row; next = f.next; back = f.back; is = ap (λ l. x ∷ l) f.is; row_who = f.row_who; next_who = f.next_who }
 ]
 
-next-before : (front : List Row) (x y : Row) (back : List Row) → next_at front x (y ∷ back) ≡ y.who
+next-before : (front : List Ranked) (x y : Ranked) (back : List Ranked) → next_at front x (y ∷ back) ≡ y.holder
 next-before [] x y back = refl
 next-before (f ∷ fs) x y back = refl
 
-prev-behind : (front : List Row) (x y : Row) (back : List Row) → prev_at (front ++ x ∷ []) y back ≡ x.who
+prev-behind : (front : List Ranked) (x y : Ranked) (back : List Ranked) → prev_at (front ++ x ∷ []) y back ≡ x.holder
 prev-behind [] x y back = refl
-prev-behind (f ∷ fs) x y back = last-append f.who fs x []
+prev-behind (f ∷ fs) x y back = last-append f.holder fs x []
 
 next-by : (s t : ℕ) (q : Queue) (qs : QueuesOf) → IsOrderly qs → Follows (rows_of q qs) s t → next_of s qs ≡ Some t
 next-by s t q qs o f =
@@ -134,25 +134,25 @@ prev-if s t qs (Some q) o h = prev-by s t q qs o (follows s t (rows_of q qs) h)
 pub prev-after : (s t : ℕ) (qs : QueuesOf) → IsOrderly qs → after_of s qs ≡ Some t → prev_of t qs ≡ Some s
 prev-after s t qs o h = prev-if s t qs (queue_of s qs) o h
 
-next-end : (front : List Row) (x : Row) → Some (next_at front x []) ≡ head_of (front ++ x ∷ [])
+next-end : (front : List Ranked) (x : Ranked) → Some (next_at front x []) ≡ head_of (front ++ x ∷ [])
 next-end [] x = refl
 next-end (f ∷ fs) x = refl
 
-next-last-by : (s t : ℕ) (q : Queue) (qs : QueuesOf) (rows : List Row) → IsOrderly qs → rows_of q qs ≡ rows → last_of rows ≡ Some s → head_of rows ≡ Some t → next_of s qs ≡ Some t
+next-last-by : (s t : ℕ) (q : Queue) (qs : QueuesOf) (rows : List Ranked) → IsOrderly qs → rows_of q qs ≡ rows → last_of rows ≡ Some s → head_of rows ≡ Some t → next_of s qs ≡ Some t
 next-last-by s t q qs [] o is last head = none_some s last
 next-last-by s t q qs (x ∷ xs) o is last head =
     let e = ended x xs in
-    ap (λ z. next_of z qs) (sym (e.who ∙ same_some (last_or x.who (slots_of xs)) s (last-or x xs ∙ last)))
+    ap (λ z. next_of z qs) (sym (e.holder ∙ same_some (last_or x.holder (slots_of xs)) s (last-or x xs ∙ last)))
     ∙ ap (option_map (λ (n : Node). n.next.0)) (placed q qs e.front e.row [] o (is ∙ e.is))
     ∙ next-end e.front e.row ∙ ap head_of (sym e.is) ∙ head
 
 pub next-last : (s t : ℕ) (q : Queue) (qs : QueuesOf) → IsOrderly qs → last_of (rows_of q qs) ≡ Some s → head_of (rows_of q qs) ≡ Some t → next_of s qs ≡ Some t
 next-last s t q qs o last head = next-last-by s t q qs (rows_of q qs) o refl last head
 
-prev-head-by : (s t : ℕ) (q : Queue) (qs : QueuesOf) (rows : List Row) → IsOrderly qs → rows_of q qs ≡ rows → head_of rows ≡ Some s → last_of rows ≡ Some t → prev_of s qs ≡ Some t
+prev-head-by : (s t : ℕ) (q : Queue) (qs : QueuesOf) (rows : List Ranked) → IsOrderly qs → rows_of q qs ≡ rows → head_of rows ≡ Some s → last_of rows ≡ Some t → prev_of s qs ≡ Some t
 prev-head-by s t q qs [] o is head last = none_some s head
 prev-head-by s t q qs (x ∷ xs) o is head last =
-    ap (λ z. prev_of z qs) (sym (same_some x.who s head))
+    ap (λ z. prev_of z qs) (sym (same_some x.holder s head))
     ∙ ap (option_map (λ (n : Node). n.prev.0)) (placed q qs [] x xs o is)
     ∙ last-or x xs ∙ last
 
@@ -160,9 +160,9 @@ pub prev-head : (s t : ℕ) (q : Queue) (qs : QueuesOf) → IsOrderly qs → hea
 prev-head s t q qs o head last = prev-head-by s t q qs (rows_of q qs) o refl head last
 
 -- OTHERS
-holds-middle : (t : ℕ) (front : List Row) (e : Row) (back : List Row) → t ≢ e.who → holds t (front ++ e ∷ back) ≡ holds t (front ++ back)
-holds-middle t [] e back n = ap (λ (b : Bool). b || holds t back) (ne_eqb e.who t (λ k. n (sym k)))
-holds-middle t (f ∷ fs) e back n = ap (λ (b : Bool). (f.who == t) || b) (holds-middle t fs e back n)
+holds-middle : (t : ℕ) (front : List Ranked) (e : Ranked) (back : List Ranked) → t ≢ e.holder → holds t (front ++ e ∷ back) ≡ holds t (front ++ back)
+holds-middle t [] e back n = ap (λ (b : Bool). b || holds t back) (ne_eqb e.holder t (λ k. n (sym k)))
+holds-middle t (f ∷ fs) e back n = ap (λ (b : Bool). (f.holder == t) || b) (holds-middle t fs e back n)
 
 same-queue : (t : ℕ) (v w : QueuesOf) → ((p : Queue) → holds t (rows_of p v) ≡ holds t (rows_of p w)) → queue_of t v ≡ queue_of t w
 same-queue t v w same =
@@ -174,14 +174,14 @@ same-queue t v w same =
     rw (a, b, c, d, e) refl
 
 -- v has one row more than w
-module _ (t : ℕ) (q : Queue) (front : List Row) (e : Row) (back : List Row) (v w : QueuesOf) (more : rows_of q v ≡ front ++ e ∷ back) (less : rows_of q w ≡ front ++ back) (rest : (p : Queue) → p ≢ q → rows_of p v ≡ rows_of p w) (o : IsOrderly v) (apart : IsApart t e.who v) where
-  each : {X : Type 0} (f : List Row → X) → f (front ++ e ∷ back) ≡ f (front ++ back) → (p : Queue) → f (rows_of p v) ≡ f (rows_of p w)
+module _ (t : ℕ) (q : Queue) (front : List Ranked) (e : Ranked) (back : List Ranked) (v w : QueuesOf) (more : rows_of q v ≡ front ++ e ∷ back) (less : rows_of q w ≡ front ++ back) (rest : (p : Queue) → p ≢ q → rows_of p v ≡ rows_of p w) (o : IsOrderly v) (apart : IsApart t e.holder v) where
+  each : {X : Type 0} (f : List Ranked → X) → f (front ++ e ∷ back) ≡ f (front ++ back) → (p : Queue) → f (rows_of p v) ≡ f (rows_of p w)
   each f same p = elim (same_or_other p q) [
     | inl k ↦ ap (λ z. f (rows_of z v)) k ∙ ap f more ∙ same ∙ sym (ap (λ z. f (rows_of z w)) k ∙ ap f less)
     | inr n ↦ ap f (rest p n)
   ]
 
-  own : node_of e.who v ≡ Some (a_node (prev_at front e back) (next_at front e back) (gap_at front e))
+  own : node_of e.holder v ≡ Some (a_node (prev_at front e back) (next_at front e back) (gap_at front e))
   own = placed q v front e back o more
 
   prev : t ≢ prev_at front e back
@@ -195,23 +195,23 @@ module _ (t : ℕ) (q : Queue) (front : List Row) (e : Row) (back : List Row) (v
       ap (option_and_then (λ p. node_in t (rows_of p v))) (same-queue t v w (each (holds t) (holds-middle t front e back apart.other)))
       ∙ under (λ p. node_in t (rows_of p v)) (λ p. node_in t (rows_of p w)) (queue_of t w) (each (node_in t) (in-middle t front e back apart.other prev next))
 
-record Parts (e : Row) (rows more : List Row) : Type 0 where
-  pub front : List Row
-  pub back : List Row
+record Parts (e : Ranked) (rows more : List Ranked) : Type 0 where
+  pub front : List Ranked
+  pub back : List Ranked
   pub old : rows ≡ front ++ back
   pub new : more ≡ front ++ e ∷ back
 
-parts-if : (e x : Row) (xs : List Row) (b : Bool) → Parts e xs (insert e xs) → Parts e (x ∷ xs) (if b then e ∷ x ∷ xs else x ∷ insert e xs)
+parts-if : (e x : Ranked) (xs : List Ranked) (b : Bool) → Parts e xs (insert e xs) → Parts e (x ∷ xs) (if b then e ∷ x ∷ xs else x ∷ insert e xs)
 parts-if e x xs true p = record { front = []; back = x ∷ xs; old = refl; new = refl }
 parts-if e x xs false p = record { front = x ∷ p.front; back = p.back; old = ap (λ l. x ∷ l) p.old; new = ap (λ l. x ∷ l) p.new }
 
-parts : (e : Row) (rows : List Row) → Parts e rows (insert e rows)
+parts : (e : Ranked) (rows : List Ranked) → Parts e rows (insert e rows)
 parts e [] = record { front = []; back = []; old = refl; new = refl }
 parts e (x ∷ xs) = parts-if e x xs (int_lt x.rank e.rank) (parts e xs)
 
 pub others-entered : (s t : ℕ) (q : Queue) (rank : ℤ) (qs : QueuesOf) → IsOrderly qs → s < qs.room → IsNowhere s qs → IsRank rank → IsApart t s (entered q rank s qs) → node_of t (entered q rank s qs) ≡ node_of t qs
 others-entered s t q rank qs o room nowhere r apart =
-    let e : Row = record { rank = rank; who = s } in
+    let e : Ranked = record { rank = rank; holder = s } in
     let p = parts e (rows_of q qs) in
     same-node t q p.front e p.back (entered q rank s qs) qs (rows_of-with q (insert e (rows_of q qs)) qs ∙ p.new) p.old (λ z n. rows-with_other z q (insert e (rows_of q qs)) qs n) (IsOrderly-entered q rank s qs o room nowhere r) apart
 
@@ -219,9 +219,9 @@ others-taken : (s t : ℕ) (q : Queue) (qs : QueuesOf) → IsOrderly qs → queu
 others-taken s t q qs o stands apart =
     let held : holds s (rows_of q qs) ≡ true = holds-queue_of q s qs stands in
     let r = split (rows_of q qs) s (holds-has s (rows_of q qs) held) in
-    let gone : delete s (rows_of q qs) ≡ r.front ++ r.back = ap (λ z. delete z (rows_of q qs)) (sym r.who) ∙ ap (delete r.row.who) r.is ∙ delete-middle r.front r.row r.back (distinct-rows q qs (r.front ++ r.row ∷ r.back) o r.is) in
+    let gone : delete s (rows_of q qs) ≡ r.front ++ r.back = ap (λ z. delete z (rows_of q qs)) (sym r.holder) ∙ ap (delete r.row.holder) r.is ∙ delete-middle r.front r.row r.back (distinct-rows q qs (r.front ++ r.row ∷ r.back) o r.is) in
     let taken : with_rows q (delete s (rows_of q qs)) qs ≡ without s qs = deleted_is q s qs o (count-present s (rows_of q qs) held) in
-    sym (same-node t q r.front r.row r.back qs (with_rows q (delete s (rows_of q qs)) qs) r.is (rows_of-with q (delete s (rows_of q qs)) qs ∙ gone) (λ z n. sym (rows-with_other z q (delete s (rows_of q qs)) qs n)) o (subst (λ z. IsApart t z qs) (sym r.who) apart) ∙ ap (node_of t) taken)
+    sym (same-node t q r.front r.row r.back qs (with_rows q (delete s (rows_of q qs)) qs) r.is (rows_of-with q (delete s (rows_of q qs)) qs ∙ gone) (λ z n. sym (rows-with_other z q (delete s (rows_of q qs)) qs n)) o (subst (λ z. IsApart t z qs) (sym r.holder) apart) ∙ ap (node_of t) taken)
 
 others-if : (s t : ℕ) (qs : QueuesOf) (p : Option Queue) → queue_of s qs ≡ p → IsSome p → IsOrderly qs → IsApart t s qs → node_of t (without s qs) ≡ node_of t qs
 others-if s t qs None is some o apart = no_some some

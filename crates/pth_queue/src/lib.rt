@@ -9,4 +9,4 @@ mod leaving;
 pub mod node;
 pub mod queue;
 pub mod queue_set;
-pub mod row;
+pub mod ranked;

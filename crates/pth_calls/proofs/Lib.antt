@@ -1,2 +1,0 @@
-pub mod Spawning
-pub mod Answering

@@ -1,6 +1,0 @@
-use Rattle.std.proofs.Common.{None}
-use Rattle.pth_world.proofs.Items.{items-set}
-use Rattle.pth_world.proofs.continuations.Continuations.take.Goals as goal
-
-pub returns-clause-set : goal.returns-clause-set
-returns-clause-set g c = rw (← c.self.view_is, c.take.ensures.after) (items-set c.self.inside.items.items c.args.s.0 c.self.invariant c.requires None)
