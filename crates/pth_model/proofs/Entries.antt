@@ -6,10 +6,10 @@ use Rattle.std.proofs.lemmas.List.Elements.{All-nil, All-cons, All-weaker, All-f
 use Rattle.std.proofs.lemmas.List.Kept.{AllPairs-cons, AllPairs-filter}
 use Rattle.std.proofs.lemmas.List.Sorted.{IsPermutation-sym, All-permutation}
 use Rattle.pth_queue.specs.declared.queue.Queue.{Queue}
-use Rattle.pth_queue.specs.Rows.{favour_top}
+use Rattle.pth_queue.specs.Ranking.{favour_top}
 use Rattle.pth_model.specs.Standing.{Standing, height, rank_now, order, row_at, shown, left_by, is_queue, raises_of}
-use Rattle.pth_model.specs.State.{State}
-use Rattle.pth_model.specs.Changes.{with_entry, without_entry}
+use Rattle.pth_model.specs.State.{Control}
+use Rattle.pth_model.specs.Changes.{enters, leaves_queue}
 use Rattle.pth_model.specs.Order.{StandsBefore, IsTopped}
 use Rattle.pth_model.proofs.Sorted.{pairs-head, pairs-nil, same-order, sorted-order}
 use Rattle.pth_model.proofs.Queues.{is_queue_same, is_queue_self}
@@ -107,40 +107,40 @@ pub record IsKept (Meant : Standing → Type 0) (entries : ℕ) (all : Queue →
   pub apart : (p q : Queue) → is_queue p q ≡ false → All (λ x. All (Differs x) (all q)) (all p)
 
 module _ {P S H : Type 0} (Meant : Standing → Type 0) where
-  abbrev pub Kept : State P S H → Type 0
-  Kept s = IsKept Meant s.rest.threads.entries s.rest.threads.standing
+  abbrev pub Kept : Control P S H → Type 0
+  Kept s = IsKept Meant s.threads.entries s.threads.standing
 
-  module _ (s : State P S H) where
-    pub kept_enter : (t : ℕ) (q : Queue) (rank : ℤ) (top : Bool) → ((x : Standing) → x.tid ≡ t → x.top ≡ top → Meant x) → (top ≡ true → All (λ y. height y <ℤ (rank -ℤ pos (raises_of s.rest.threads.raises q))) (s.rest.threads.standing q)) → Kept s → Kept (with_entry s t q rank top)
-    unfolding with_entry
+  module _ (s : Control P S H) where
+    pub kept_enter : (t : ℕ) (q : Queue) (rank : ℤ) (top : Bool) → ((x : Standing) → x.tid ≡ t → x.top ≡ top → Meant x) → (top ≡ true → All (λ y. height y <ℤ (rank -ℤ pos (raises_of s.threads.raises q))) (s.threads.standing q)) → Kept s → Kept (enters t q rank top s)
+    unfolding enters
     kept_enter t q rank top meant above k = record { listed = λ p. entered p (is_queue p q) refl; apart = λ p r other. parted p r (is_queue p q) (is_queue r q) refl refl other }
       where
         here : Standing
-        here = record { tid = t; rank = rank; since = raises_of s.rest.threads.raises q; entry = s.rest.threads.entries; top = top }
+        here = record { tid = t; rank = rank; since = raises_of s.threads.raises q; entry = s.threads.entries; top = top }
 
-        entered : (p : Queue) (b : Bool) → is_queue p q ≡ b → IsListed Meant (s.rest.threads.entries + 1) (if b then here ∷ s.rest.threads.standing p else s.rest.threads.standing p)
-        entered p true e = listed_enter Meant s.rest.threads.entries here (s.rest.threads.standing p) refl (λ favoured. subst (λ (r : Queue). All (λ y. height y <ℤ (rank -ℤ pos (raises_of s.rest.threads.raises q))) (s.rest.threads.standing r)) (sym (is_queue_same p q e)) (above favoured)) (meant here refl refl) (k.listed p)
-        entered p false e = listed_later Meant s.rest.threads.entries (s.rest.threads.standing p) (k.listed p)
+        entered : (p : Queue) (b : Bool) → is_queue p q ≡ b → IsListed Meant (s.threads.entries + 1) (if b then here ∷ s.threads.standing p else s.threads.standing p)
+        entered p true e = listed_enter Meant s.threads.entries here (s.threads.standing p) refl (λ favoured. subst (λ (r : Queue). All (λ y. height y <ℤ (rank -ℤ pos (raises_of s.threads.raises q))) (s.threads.standing r)) (sym (is_queue_same p q e)) (above favoured)) (meant here refl refl) (k.listed p)
+        entered p false e = listed_later Meant s.threads.entries (s.threads.standing p) (k.listed p)
 
-        parted : (p r : Queue) (b c : Bool) → is_queue p q ≡ b → is_queue r q ≡ c → is_queue p r ≡ false → All (λ x. All (Differs x) (if c then here ∷ s.rest.threads.standing r else s.rest.threads.standing r)) (if b then here ∷ s.rest.threads.standing p else s.rest.threads.standing p)
+        parted : (p r : Queue) (b c : Bool) → is_queue p q ≡ b → is_queue r q ≡ c → is_queue p r ≡ false → All (λ x. All (Differs x) (if c then here ∷ s.threads.standing r else s.threads.standing r)) (if b then here ∷ s.threads.standing p else s.threads.standing p)
         parted p r true true e h other = absurd (let same : is_queue p r ≡ true = rw (is_queue_same p q e, is_queue_same r q h) (is_queue_self q) in cc)
         parted p r true false e h other =
-            All-cons (λ x. All (Differs x) (s.rest.threads.standing r)) here (s.rest.threads.standing p)
-            (All-weaker (λ y. y.entry < s.rest.threads.entries) (Differs here) (λ y low same. omega (arith, low, same)) (s.rest.threads.standing r) (k.listed r).counted)
+            All-cons (λ x. All (Differs x) (s.threads.standing r)) here (s.threads.standing p)
+            (All-weaker (λ y. y.entry < s.threads.entries) (Differs here) (λ y low same. omega (arith, low, same)) (s.threads.standing r) (k.listed r).counted)
             (k.apart p r other)
-        parted p r false true e h other = λ n d low. All-cons (Differs (get_or (s.rest.threads.standing p) n d)) here (s.rest.threads.standing r) (λ same. let h = (k.listed p).counted n d low in omega (arith, h, same)) (k.apart p r other n d low)
+        parted p r false true e h other = λ n d low. All-cons (Differs (get_or (s.threads.standing p) n d)) here (s.threads.standing r) (λ same. let h = (k.listed p).counted n d low in omega (arith, h, same)) (k.apart p r other n d low)
         parted p r false false e h other = k.apart p r other
 
-    pub kept_plain : (t : ℕ) (q : Queue) (rank : ℤ) → ((x : Standing) → x.top ≡ false → Meant x) → Kept s → Kept (with_entry s t q rank false)
+    pub kept_plain : (t : ℕ) (q : Queue) (rank : ℤ) → ((x : Standing) → x.top ≡ false → Meant x) → Kept s → Kept (enters t q rank false s)
     kept_plain t q rank plain k = kept_enter t q rank false (λ x tid top. plain x top) (λ e. absurd (not_top e)) k
       where
         not_top : false ≡ true → ⊥
         not_top e = cc
 
-    pub kept_leave : (t : ℕ) → Kept s → Kept (without_entry s t)
-    unfolding without_entry
+    pub kept_leave : (t : ℕ) → Kept s → Kept (leaves_queue t s)
+    unfolding leaves_queue
     kept_leave t k = record {
-      listed = λ q. listed_left Meant s.rest.threads.entries t (s.rest.threads.standing q) (k.listed q);
-      apart = λ p r other. All-filter (λ x. not (x.tid == t)) (λ x. All (Differs x) (left_by t (s.rest.threads.standing r))) (s.rest.threads.standing p)
-          (λ n d low. All-filter (λ x. not (x.tid == t)) (Differs (get_or (s.rest.threads.standing p) n d)) (s.rest.threads.standing r) (k.apart p r other n d low));
+      listed = λ q. listed_left Meant s.threads.entries t (s.threads.standing q) (k.listed q);
+      apart = λ p r other. All-filter (λ x. not (x.tid == t)) (λ x. All (Differs x) (left_by t (s.threads.standing r))) (s.threads.standing p)
+          (λ n d low. All-filter (λ x. not (x.tid == t)) (Differs (get_or (s.threads.standing p) n d)) (s.threads.standing r) (k.apart p r other n d low));
     }

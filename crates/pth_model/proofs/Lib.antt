@@ -2,7 +2,7 @@ pub mod Orders
 pub mod Queues
 pub mod Known
 pub mod Runs
-pub mod Turns
+pub mod Walks
 pub mod Sorted
 pub mod Entries
 pub mod Numbered

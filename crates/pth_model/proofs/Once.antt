@@ -5,14 +5,14 @@ use Rattle.std.proofs.lemmas.List.Sorted.{All-permutation}
 use Rattle.std.proofs.lemmas.List.Sums.{sum_by-cons}
 use Rattle.pth_base.specs.Program.{Functions}
 use Rattle.pth_base.proofs.Tables.{same_means, not_same}
-use Rattle.pth_queue.specs.declared.row.Row.{Row}
+use Rattle.pth_queue.specs.declared.ranked.Ranked.{Ranked}
 use Rattle.pth_queue.specs.declared.queue.Queue.{Queue}
 use Rattle.pth_queue.specs.declared.queue.Queue.TheVariants.{New, Ready, Waiting, Suspended, Dead}
 use Rattle.pth_threads.specs.declared.entry.NewThread.{NewThread}
 use Rattle.pth_model.specs.Standing.{Standing, order, row_at, shown, left_by, is_queue, raises_of}
-use Rattle.pth_model.specs.State.{State, queue}
-use Rattle.pth_model.specs.Changes.{with_entry, without_entry, with_thread}
-use Rattle.pth_model.specs.Pass.{who_in}
+use Rattle.pth_model.specs.State.{Control, queue}
+use Rattle.pth_model.specs.Changes.{enters, leaves_queue, makes}
+use Rattle.pth_model.specs.Changes.{holders}
 use Rattle.pth_model.specs.Order.{stands, times}
 use Rattle.pth_model.proofs.Sorted.{same-order}
 
@@ -46,11 +46,11 @@ stands-above t n (x ∷ xs) above low =
     stands-cons t x xs ∙ rw (other, stands-above t n xs above (All-tail (λ x. x.tid ≤ n) x xs low))
 
 -- whose rows are shown
-pub shown-low : (raises n : ℕ) (all : List Standing) → All (λ x. x.tid ≤ n) all → All (λ t. t ≤ n) (who_in (shown raises all))
+pub shown-low : (raises n : ℕ) (all : List Standing) → All (λ x. x.tid ≤ n) all → All (λ t. t ≤ n) (holders (shown raises all))
 unfolding shown
 shown-low raises n all low =
-    All-map (λ t. t ≤ n) (λ (r : Row). r.who) (map (row_at raises) (order all))
-    (All-map (λ (r : Row). r.who ≤ n) (row_at raises) (order all) (All-permutation (λ x. x.tid ≤ n) all (order all) (same-order all) low))
+    All-map (λ t. t ≤ n) (λ (r : Ranked). r.holder) (map (row_at raises) (order all))
+    (All-map (λ (r : Ranked). r.holder ≤ n) (row_at raises) (order all) (All-permutation (λ x. x.tid ≤ n) all (order all) (same-order all) low))
 
 -- ---- every queue of a state
 
@@ -63,88 +63,88 @@ at_most_one true = omega arith
 at_most_one false = omega arith
 
 module _ {P S H : Type 0} where
-  abbrev pub times_in : State P S H → ℕ → ℕ
-  times_in s t = times t s.rest.threads.standing
+  abbrev pub times_in : Control P S H → ℕ → ℕ
+  times_in s t = times t s.threads.standing
 
-  module _ (s : State P S H) where
-    times-enter : (t : ℕ) (q : Queue) (rank : ℤ) (top : Bool) (u : ℕ) → times_in (with_entry s t q rank top) u ≡ cond (t == u) 1 0 + times_in s u
-    unfolding with_entry
+  module _ (s : Control P S H) where
+    times-enter : (t : ℕ) (q : Queue) (rank : ℤ) (top : Bool) (u : ℕ) → times_in (enters t q rank top s) u ≡ cond (t == u) 1 0 + times_in s u
+    unfolding enters
     times-enter t q rank top u = by_queue q
       where
         here : Queue → Standing
-        here p = record { tid = t; rank = rank; since = raises_of s.rest.threads.raises p; entry = s.rest.threads.entries; top = top }
+        here p = record { tid = t; rank = rank; since = raises_of s.threads.raises p; entry = s.threads.entries; top = top }
 
-        more : (p : Queue) → stands u (here p ∷ s.rest.threads.standing p) ≡ cond (t == u) 1 0 + stands u (s.rest.threads.standing p)
-        more p = stands-cons u (here p) (s.rest.threads.standing p)
+        more : (p : Queue) → stands u (here p ∷ s.threads.standing p) ≡ cond (t == u) 1 0 + stands u (s.threads.standing p)
+        more p = stands-cons u (here p) (s.threads.standing p)
 
-        by_queue : (p : Queue) → times_in (with_entry s t p rank top) u ≡ cond (t == u) 1 0 + times_in s u
+        by_queue : (p : Queue) → times_in (enters t p rank top s) u ≡ cond (t == u) 1 0 + times_in s u
         by_queue New = omega (arith, more New)
         by_queue Ready = omega (arith, more Ready)
         by_queue Waiting = omega (arith, more Waiting)
         by_queue Suspended = omega (arith, more Suspended)
         by_queue Dead = omega (arith, more Dead)
 
-    times-leave_le : (t u : ℕ) → times_in (without_entry s t) u ≤ times_in s u
-    unfolding without_entry
+    times-leave_le : (t u : ℕ) → times_in (leaves_queue t s) u ≤ times_in s u
+    unfolding leaves_queue
     times-leave_le t u =
-        let less : (q : Queue) → stands u (left_by t (s.rest.threads.standing q)) ≤ stands u (s.rest.threads.standing q) = λ q. stands-left_le t u (s.rest.threads.standing q) in
+        let less : (q : Queue) → stands u (left_by t (s.threads.standing q)) ≤ stands u (s.threads.standing q) = λ q. stands-left_le t u (s.threads.standing q) in
         omega (arith, less New, less Ready, less Waiting, less Suspended, less Dead)
 
-    pub times-leave : (t : ℕ) → times_in (without_entry s t) t ≡ 0
-    unfolding without_entry
+    pub times-leave : (t : ℕ) → times_in (leaves_queue t s) t ≡ 0
+    unfolding leaves_queue
     times-leave t =
-        let none : (q : Queue) → stands t (left_by t (s.rest.threads.standing q)) ≡ 0 = λ q. stands-left t (s.rest.threads.standing q) in
+        let none : (q : Queue) → stands t (left_by t (s.threads.standing q)) ≡ 0 = λ q. stands-left t (s.threads.standing q) in
         omega (arith, none New, none Ready, none Waiting, none Suspended, none Dead)
 
   -- no thread stands twice, and those that stand were made
-  abbrev pub Sets : State P S H → Type 0
-  Sets s = SetsOf s.rest.threads.made s.rest.threads.standing
+  abbrev pub Sets : Control P S H → Type 0
+  Sets s = SetsOf s.threads.made s.threads.standing
 
-  module _ (s : State P S H) (sets : Sets s) where
+  module _ (s : Control P S H) (sets : Sets s) where
     once_by : (t u : ℕ) (b : Bool) → (t == u) ≡ b → times_in s t ≡ 0 → cond b 1 0 + times_in s u ≤ 1
     once_by t u true test none = let same : t ≡ u = same_means t u test in let other : times_in s u ≡ 0 = ap (times_in s) (sym same) ∙ none in omega (arith, other)
     once_by t u false test none = omega (arith, sets.once u)
 
-    pub sets-enter : (t : ℕ) (q : Queue) (rank : ℤ) (top : Bool) → times_in s t ≡ 0 → t ≤ s.rest.threads.made → Sets (with_entry s t q rank top)
-    unfolding with_entry
+    pub sets-enter : (t : ℕ) (q : Queue) (rank : ℤ) (top : Bool) → times_in s t ≡ 0 → t ≤ s.threads.made → Sets (enters t q rank top s)
+    unfolding enters
     sets-enter t q rank top none low = record {
       once = λ u. omega (arith, times-enter s t q rank top u, once_by t u (t == u) refl none);
       low = λ p. entered p (is_queue p q);
     }
       where
         Low : Standing → Type 0
-        Low x = x.tid ≤ s.rest.threads.made
+        Low x = x.tid ≤ s.threads.made
 
         here : Standing
-        here = record { tid = t; rank = rank; since = raises_of s.rest.threads.raises q; entry = s.rest.threads.entries; top = top }
+        here = record { tid = t; rank = rank; since = raises_of s.threads.raises q; entry = s.threads.entries; top = top }
 
-        entered : (p : Queue) (b : Bool) → All Low (if b then here ∷ s.rest.threads.standing p else s.rest.threads.standing p)
-        entered p true = All-cons Low here (s.rest.threads.standing p) low (sets.low p)
+        entered : (p : Queue) (b : Bool) → All Low (if b then here ∷ s.threads.standing p else s.threads.standing p)
+        entered p true = All-cons Low here (s.threads.standing p) low (sets.low p)
         entered p false = sets.low p
 
-    pub sets-leave : (t : ℕ) → Sets (without_entry s t)
-    unfolding without_entry
+    pub sets-leave : (t : ℕ) → Sets (leaves_queue t s)
+    unfolding leaves_queue
     sets-leave t = record {
       once = λ u. omega (arith, times-leave_le s t u, sets.once u);
-      low = λ q. All-filter (λ x. not (x.tid == t)) (λ x. x.tid ≤ s.rest.threads.made) (s.rest.threads.standing q) (sets.low q);
+      low = λ q. All-filter (λ x. not (x.tid == t)) (λ x. x.tid ≤ s.threads.made) (s.threads.standing q) (sets.low q);
     }
 
-    pub times-above : (t : ℕ) → s.rest.threads.made < t → times_in s t ≡ 0
+    pub times-above : (t : ℕ) → s.threads.made < t → times_in s t ≡ 0
     times-above t above =
-        let none : (q : Queue) → stands t (s.rest.threads.standing q) ≡ 0 = λ q. stands-above t s.rest.threads.made (s.rest.threads.standing q) above (sets.low q) in
+        let none : (q : Queue) → stands t (s.threads.standing q) ≡ 0 = λ q. stands-above t s.threads.made (s.threads.standing q) above (sets.low q) in
         omega (arith, none New, none Ready, none Waiting, none Suspended, none Dead)
 
     -- one more thread was made
-    pub sets-thread : (f : P → Functions S H) (b : ℕ) (v : ℤ) (of : NewThread) → Sets (with_thread s f b v of)
-    unfolding with_thread
+    pub sets-thread : (f : P → Functions S H) (b : ℕ) (v : ℤ) (of : NewThread) → Sets (makes f b v of s)
+    unfolding makes
     sets-thread f b v of = record {
       once = sets.once;
-      low = λ q. All-weaker (λ x. x.tid ≤ s.rest.threads.made) (λ x. x.tid ≤ s.rest.threads.made + 1) (λ x h. omega (arith, h)) (s.rest.threads.standing q) (sets.low q);
+      low = λ q. All-weaker (λ x. x.tid ≤ s.threads.made) (λ x. x.tid ≤ s.threads.made + 1) (λ x h. omega (arith, h)) (s.threads.standing q) (sets.low q);
     }
 
     -- another that enters changes nothing for u
-    pub times-enter_other : (t : ℕ) (q : Queue) (rank : ℤ) (top : Bool) (u : ℕ) → t ≢ u → times_in (with_entry s t q rank top) u ≡ times_in s u
+    pub times-enter_other : (t : ℕ) (q : Queue) (rank : ℤ) (top : Bool) (u : ℕ) → t ≢ u → times_in (enters t q rank top s) u ≡ times_in s u
     times-enter_other t q rank top u other = times-enter s t q rank top u ∙ rw (not_same t u other) (omega arith)
 
-    pub rows-low : (q : Queue) → All (λ t. t ≤ s.rest.threads.made) (who_in (queue s q))
-    rows-low q = shown-low (raises_of s.rest.threads.raises q) s.rest.threads.made (s.rest.threads.standing q) (sets.low q)
+    pub rows-low : (q : Queue) → All (λ t. t ≤ s.threads.made) (holders (queue s q))
+    rows-low q = shown-low (raises_of s.threads.raises q) s.threads.made (s.threads.standing q) (sets.low q)

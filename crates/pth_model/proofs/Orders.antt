@@ -3,8 +3,8 @@ use Rattle.std.proofs.Common.{◌≡◌, ℕ, ◌+◌, ◌==◌, Bool, true, fal
 use Rattle.std.proofs.lemmas.Int.{ints}
 use Rattle.std.proofs.lemmas.Bool.{cases_Bool}
 use Rattle.std.proofs.Common.{inl, inr}
-use Rattle.pth_queue.specs.declared.row.Row.{Row}
-use Rattle.pth_queue.specs.Rows.{insert, delete, increase, raised as raised_row}
+use Rattle.pth_queue.specs.declared.ranked.Ranked.{Ranked}
+use Rattle.pth_queue.specs.Ranking.{insert, delete, increase, raised as raised_row}
 use Rattle.pth_model.specs.Standing.{Standing, height, rank_now, put_behind, order, row_at, shown, left_by}
 
 -- ranks after so many raises are in the order of heights
@@ -13,7 +13,7 @@ ranks_in_order raises x y = grind (arith, ints)
 
 insert_by : (raises : ℕ) (s x : Standing) (xs : List Standing) (b : Bool) → map (row_at raises) (put_behind s xs) ≡ insert (row_at raises s) (map (row_at raises) xs) → map (row_at raises) (if b then s ∷ x ∷ xs else x ∷ put_behind s xs) ≡ (if b then row_at raises s ∷ row_at raises x ∷ map (row_at raises) xs else row_at raises x ∷ insert (row_at raises s) (map (row_at raises) xs))
 insert_by raises s x xs true h = refl
-insert_by raises s x xs false h = ap (λ (l : List Row). row_at raises x ∷ l) h
+insert_by raises s x xs false h = ap (λ (l : List Ranked). row_at raises x ∷ l) h
 
 pub rows-put_behind : (raises : ℕ) (s : Standing) (xs : List Standing) → map (row_at raises) (put_behind s xs) ≡ insert (row_at raises s) (map (row_at raises) xs)
 unfolding put_behind
@@ -26,11 +26,11 @@ unfolding shown order
 shown-enter raises s earlier = rows-put_behind raises s (order earlier)
 
 raise_row : (raises : ℕ) (s : Standing) → row_at (raises + 1) s ≡ raised_row (row_at raises s)
-raise_row raises s = let e : rank_now (raises + 1) s ≡ rank_now raises s +ℤ pos 1 = grind (arith, ints) in ap (λ (r : ℤ). record { rank = r; who = s.tid }) e
+raise_row raises s = let e : rank_now (raises + 1) s ≡ rank_now raises s +ℤ pos 1 = grind (arith, ints) in ap (λ (r : ℤ). record { rank = r; holder = s.tid }) e
 
 rows-raise : (raises : ℕ) (xs : List Standing) → map (row_at (raises + 1)) xs ≡ increase (map (row_at raises) xs)
 rows-raise raises [] = refl
-rows-raise raises (x ∷ xs) = ap₂ (λ (r : Row) (l : List Row). r ∷ l) (raise_row raises x) (rows-raise raises xs)
+rows-raise raises (x ∷ xs) = ap₂ (λ (r : Ranked) (l : List Ranked). r ∷ l) (raise_row raises x) (rows-raise raises xs)
 
 -- a raise
 pub shown-raise : (raises : ℕ) (all : List Standing) → shown (raises + 1) all ≡ increase (shown raises all)
@@ -122,7 +122,7 @@ order-left t (s ∷ all) = order_left_by t s all (s.tid == t) refl (order-left t
 
 rows_left : (raises t : ℕ) (xs : List Standing) → map (row_at raises) (left_by t xs) ≡ delete t (map (row_at raises) xs)
 rows_left raises t [] = refl
-rows_left raises t (x ∷ xs) = elim (cases_Bool (x.tid == t)) [ inl g ↦ rw g (rows_left raises t xs) | inr n ↦ rw n (ap (λ (l : List Row). row_at raises x ∷ l) (rows_left raises t xs)) ]
+rows_left raises t (x ∷ xs) = elim (cases_Bool (x.tid == t)) [ inl g ↦ rw g (rows_left raises t xs) | inr n ↦ rw n (ap (λ (l : List Ranked). row_at raises x ∷ l) (rows_left raises t xs)) ]
 
 -- a leave
 pub shown-left : (raises t : ℕ) (all : List Standing) → shown raises (left_by t all) ≡ delete t (shown raises all)

@@ -1,69 +1,62 @@
 -- What each part of a run keeps of where threads stand, and so every run: none stands twice.
-use Rattle.std.proofs.Common.{◌≡◌, ℕ, zero, suc, ◌+◌, ◌≤◌, ◌==◌, ◌&&◌, not, Bool, true, false, if◌then◌else◌, ℤ, pos, ◌+ℤ◌, List, [], ◌∷◌, reverse, Option, Some, None, All, refl, sym, ◌∙◌, subst, arith}
+use Rattle.std.proofs.Common.{◌≡◌, ℕ, zero, suc, ◌+◌, ◌≤◌, ◌==◌, Bool, true, false, if◌then◌else◌, ℤ, pos, ◌+ℤ◌, List, [], ◌∷◌, reverse, Option, Some, None, All, refl, sym, ◌∙◌, subst, arith}
 use Rattle.std.proofs.lemmas.List.Elements.{All-nil, All-cons, All-head, All-tail, All-filter}
 use Rattle.std.proofs.lemmas.List.Sorted.{IsPermutation-reverse, All-permutation}
 use Rattle.pth_base.specs.Program.{Functions}
-use Rattle.pth_base.specs.declared.answer.Answer.{Answer}
-use Rattle.pth_base.specs.declared.answer.Answer.TheVariants as answer
-use Rattle.pth_base.specs.declared.call.Call.{Call}
 use Rattle.pth_base.specs.declared.outcome.Outcome.{Outcome}
 use Rattle.pth_base.specs.declared.outcome.Outcome.TheVariants as outcome
 use Rattle.pth_base.specs.declared.thread.ThreadState.TheVariants as state
 use Rattle.pth_base.proofs.Tables.{same_self}
 use Rattle.pth_queue.specs.declared.queue.Queue.{Queue}
 use Rattle.pth_queue.specs.declared.queue.Queue.TheVariants.{New, Ready, Waiting, Suspended, Dead}
-use Rattle.pth_queue.specs.declared.row.Row.{Row}
+use Rattle.pth_queue.specs.declared.ranked.Ranked.{Ranked}
 use Rattle.pth_threads.specs.declared.entry.Change.TheVariants as change
-use Rattle.pth_threads.specs.declared.entry.Entry.{Entry}
 use Rattle.pth_threads.specs.declared.entry.NewThread.{NewThread}
-use Rattle.pth_model.specs.declared.continuation.Continuation.{Continuation}
-use Rattle.pth_model.specs.declared.held.Held.{Held}
+use Rattle.pth_model.specs.declared.blocked.Blocked.{Blocked}
 use Rattle.pth_model.specs.declared.next.Next.{Next}
 use Rattle.pth_model.specs.declared.next.Next.TheVariants as next
+use Rattle.pth_model.specs.declared.progress.Progress.{Progress}
 use Rattle.pth_model.specs.Standing.{Standing}
-use Rattle.pth_model.specs.State.{State, Given, start, main, main_standing, queue}
-use Rattle.pth_model.specs.Changes.{with_change, with_going, with_entry, without_entry, with_thread, without_thread, raised, running_is, called, called_from, held_of, owed_to}
-use Rattle.pth_model.specs.Family.{Family, Threads, Ends, Plains, Notes, ThreadCall, Spawn, Yield, Exit, split}
-use Rattle.pth_model.specs.Rows.{after, thread_after, spawned, answer_of, plain_row, plain_told, child_by, body_of}
-use Rattle.pth_model.specs.Ending.{ending, dead, gone, gone_by, unheld, other_than, stopping, ended_core}
-use Rattle.pth_model.specs.Waits.{is_alone, suspended, exit_row, exit_by, yield_row, begun, begun_by, resumed, resumed_by, resumed_from, exit_again, wakes}
-use Rattle.pth_model.specs.Pass.{readied, woken, all_woken, pass, to_wake, prio_of, moment, who_in}
-use Rattle.pth_model.specs.Part.{Part, next_part, next_part_by, unless_ended, is_idle, part, part_by, moved, moved_by, at_moment, new_readied, new_rank, all_readied, put_back, put_waiting, placed, placed_by, closed, giving, closing, taken, dispatched, dispatched_by, runs, next_by, stepped, settled, ended_by, went_by, counted, owing}
+use Rattle.pth_model.specs.State.{State, Control, Turn, Given, start, main, main_standing, queue}
+use Rattle.pth_model.specs.Transition.{controlled}
+use Rattle.pth_model.specs.Changes.{sets, enters, goes_on, leaves_queue, makes, forgets, raises_ready, runs_now, prio_of, holders, entry_of, or_nobody, blocked_of}
+use Rattle.pth_model.specs.ThreadControl.{spawns}
+use Rattle.pth_model.specs.Ending.{leaves, is_dead_with, other_than, stops_running}
+use Rattle.pth_model.specs.Calls.{wakes}
+use Rattle.pth_model.specs.Pass.{is_ready_at, woken, all_woken, pass, to_wake, moment}
+use Rattle.pth_model.specs.Part.{Part, next_part, next_part_by, unless_ended, is_idle, part, part_by, moves, moves_by, readies, readies_all, readies_new, new_rank, is_put_back, is_put_waiting, is_placed, placed_by, closes, turn_ends, takes, takes_by, dispatches, runs, chosen, steps, steps_on, turn_after, ends_run, gives_up}
 use Rattle.pth_model.specs.Run.{parts, run}
 use Rattle.pth_model.specs.Order.{times, IsOnce}
+use Rattle.pth_model.proofs.Walks.{step_keeps}
 use Rattle.pth_model.proofs.Once.{SetsOf, Sets, times_in, sets-enter, sets-leave, sets-thread, times-above, times-enter_other, times-leave, rows-low, stands-cons, at_most_one}
 
--- where threads stand, who runs, and who gave up control
+-- where threads stand, and who runs
 record Seats : Type 0 where
   made : ℕ
   standing : Queue → List Standing
-  named : Option ℕ
+  preferred : Option ℕ
   running : Option ℕ
-  gave : Option ℕ
 
--- the thread that runs stands nowhere, and it is the one that gives up control
-record IsPlaced (x : Seats) : Type 0 where
+-- the thread that runs stands nowhere
+record IsSeated (x : Seats) : Type 0 where
   sets : SetsOf x.made x.standing
-  named : (t : ℕ) → x.named ≡ Some t → t ≤ x.made
+  preferred : (t : ℕ) → x.preferred ≡ Some t → t ≤ x.made
   low : (t : ℕ) → x.running ≡ Some t → t ≤ x.made
   out : (t : ℕ) → x.running ≡ Some t → times t x.standing ≡ 0
-  gives : (t r : ℕ) → x.gave ≡ Some t → x.running ≡ Some r → t ≡ r
 
 -- t makes a step, and runs unless it has ended
 record IsGoing (t : ℕ) (x : Seats) : Type 0 where
   sets : SetsOf x.made x.standing
-  named : (u : ℕ) → x.named ≡ Some u → u ≤ x.made
+  preferred : (u : ℕ) → x.preferred ≡ Some u → u ≤ x.made
   low : t ≤ x.made
   out : (r : ℕ) → x.running ≡ Some r → times r x.standing ≡ 0
   alone : (r : ℕ) → x.running ≡ Some r → r ≡ t
-  gave : (u : ℕ) → x.gave ≡ Some u → u ≡ t
 
--- none runs, and none gave up control
-record IsIdle (x : Seats) : Type 0 where
+-- none runs
+record IsResting (x : Seats) : Type 0 where
   sets : SetsOf x.made x.standing
-  named : (t : ℕ) → x.named ≡ Some t → t ≤ x.made
+  preferred : (t : ℕ) → x.preferred ≡ Some t → t ≤ x.made
   running : x.running ≡ None
-  gave : x.gave ≡ None
 
 none_some : (t : ℕ) → None ≡ Some t → ⊥
 none_some t e = cc
@@ -72,10 +65,10 @@ same_some : (t u : ℕ) → Some t ≡ Some u → u ≡ t
 same_some t u e = cc
 
 -- whom a dispatch takes was made
-next_low : (made : ℕ) (named : Option ℕ) (rows : List Row) → ((t : ℕ) → named ≡ Some t → t ≤ made) → All (λ t. t ≤ made) (who_in rows) → (t : ℕ) → next_by named rows ≡ Some t → t ≤ made
-next_low made (Some u) rows low all t e = low t e
-next_low made None [] low all t e = absurd (none_some t e)
-next_low made None (x ∷ rows) low all t e = let same : t ≡ x.who = same_some x.who t e in let h : x.who ≤ made = All-head (λ t. t ≤ made) x.who (who_in rows) all in omega (arith, same, h)
+chosen_low : (made : ℕ) (preferred : Option ℕ) (rows : List Ranked) → ((t : ℕ) → preferred ≡ Some t → t ≤ made) → All (λ t. t ≤ made) (holders rows) → (t : ℕ) → chosen preferred rows ≡ Some t → t ≤ made
+chosen_low made (Some u) rows low all t e = low t e
+chosen_low made None [] low all t e = absurd (none_some t e)
+chosen_low made None (x ∷ rows) low all t e = let same : t ≡ x.holder = same_some x.holder t e in let h : x.holder ≤ made = All-head (λ t. t ≤ made) x.holder (holders rows) all in omega (arith, same, h)
 
 -- main's place at the start
 abbrev main_stands : Standing
@@ -88,284 +81,241 @@ low_start Waiting = All-nil (λ x. x.tid ≤ 1)
 low_start Suspended = All-nil (λ x. x.tid ≤ 1)
 low_start Dead = All-nil (λ x. x.tid ≤ 1)
 
+-- ---- who gives up control
+
+-- none gave up control but t
+abbrev Gives : ℕ → Option ℕ → Type 0
+Gives t gave = (u : ℕ) → gave ≡ Some u → u ≡ t
+
+gives_up-own : (t : ℕ) (x : Turn) → Gives t (gives_up t x).gave
+gives_up-own t x u e = same_some t u e
+
+gave_after : (t : ℕ) (n : Next) (x : Turn) → x.gave ≡ None → Gives t (turn_after t n x).gave
+gave_after t (next.Done a) x none u e = absurd (none_some u (sym none ∙ e))
+gave_after t (next.Yields a) x none u e = gives_up-own t x u e
+gave_after t next.Waits x none u e = gives_up-own t x u e
+gave_after t (next.Ended v) x none u e = gives_up-own t (ends_run v (t == main) x) u e
+gave_after t next.Killed x none u e = absurd (none_some u (sym none ∙ e))
+
 module _ {P S H : Type 0} where
-  abbrev seats : State P S H → Seats
-  seats s = record { made = s.rest.threads.made; standing = s.rest.threads.standing; named = s.rest.scheduler.named; running = s.rest.scheduler.running; gave = s.rest.scheduler.gave }
+  abbrev seats : Control P S H → Seats
+  seats k = record { made = k.threads.made; standing = k.threads.standing; preferred = k.scheduler.preferred; running = k.scheduler.running }
 
-  abbrev Placed : State P S H → Type 0
-  Placed s = IsPlaced (seats s)
+  abbrev Going : ℕ → Control P S H → Type 0
+  Going t k = IsGoing t (seats k)
 
-  abbrev Going : ℕ → State P S H → Type 0
-  Going t s = IsGoing t (seats s)
+  abbrev Resting : Control P S H → Type 0
+  Resting k = IsResting (seats k)
 
-  abbrev Idle : State P S H → Type 0
-  Idle s = IsIdle (seats s)
+  -- and it is the one that gives up control
+  record Placed (k : Control P S H) (gave : Option ℕ) : Type 0 where
+    seated : IsSeated (seats k)
+    gives : (t r : ℕ) → gave ≡ Some t → k.scheduler.running ≡ Some r → t ≡ r
 
-  placed_after : (t : ℕ) (s : State P S H) → Going t s → Placed s
-  placed_after t s g = record {
-    sets = g.sets;
-    named = g.named;
-    low = λ r e. let same : r ≡ t = g.alone r e in omega (arith, same, g.low);
-    out = g.out;
-    gives = λ u r e h. g.gave u e ∙ sym (g.alone r h);
+  placed_after : (t : ℕ) (k : Control P S H) (gave : Option ℕ) → Gives t gave → Going t k → Placed k gave
+  placed_after t k gave own g = record {
+    seated = record {
+      sets = g.sets;
+      preferred = g.preferred;
+      low = λ r e. let same : r ≡ t = g.alone r e in omega (arith, same, g.low);
+      out = g.out;
+    };
+    gives = λ u r e h. own u e ∙ sym (g.alone r h);
   }
 
   -- ---- calls of t
 
-  going_spawned : (f : P → Functions S H) (s : State P S H) (t : ℕ) (of : NewThread) (b : Option ℕ) (v : ℤ) → Going t s → Going t (spawned f s of b v)
-  unfolding with_thread with_entry
-  going_spawned f s t of None v g = g
-  going_spawned f s t of (Some b) v g =
-      let made = s.rest.threads.made in
-      let a = with_thread s f b v of in
-      let new : Sets a = sets-thread s g.sets f b v of in
+  going_spawned : (f : P → Functions S H) (t b : ℕ) (v : ℤ) (of : NewThread) (k : Control P S H) → Going t k → Going t (spawns f b v of k)
+  unfolding makes enters
+  going_spawned f t b v of k g =
+      let made = k.threads.made in
+      let a = makes f b v of k in
+      let new : Sets a = sets-thread k g.sets f b v of in
       record {
-        sets = sets-enter a new (made + 1) New of.prio false (times-above s g.sets (made + 1) (omega arith)) (omega arith);
+        sets = sets-enter a new (made + 1) New of.prio false (times-above k g.sets (made + 1) (omega arith)) (omega arith);
         low = omega (arith, g.low);
-        named = λ u e. let h = g.named u e in omega (arith, h);
+        preferred = λ u e. let h = g.preferred u e in omega (arith, h);
         alone = g.alone;
         out = λ r e. let same : r ≡ t = g.alone r e in times-enter_other a new (made + 1) New of.prio false r (omega (arith, same, g.low)) ∙ g.out r e;
-        gave = g.gave;
       }
 
-  going_thread : (f : P → Functions S H) (s : State P S H) (t : ℕ) (c : ThreadCall) (a : Answer) → Going t s → Going t (thread_after f s t c a)
-  going_thread f s t (Spawn b v r) (answer.Int n) g = going_spawned f s t (child_by (s.rest.threads.known t)) (body_of (f s.rest.program).bodies b) v g
-  going_thread f s t c a g = g
-
-  going_after : (f : P → Functions S H) (s : State P S H) (t : ℕ) (c : Family) (a : Answer) → Going t s → Going t (after f s t c a)
-  unfolding after
-  going_after f s t (Threads c) a g = going_thread f s t c a g
-  going_after f s t c a g = g
-
-  going_told : (f : P → Functions S H) (s : State P S H) (t : ℕ) (c : Call) (h : Family) (a : Answer) → Going t s → Going t (plain_told f s t c h a).state
-  going_told f s t c Plains a g = g
-  going_told f s t c (Notes v) a g = g
-  going_told f s t c h a g = going_after f s t (split c) a g
-
   -- t has ended, and does not run
-  ended_going : (s : State P S H) (t : ℕ) → Sets s → t ≤ s.rest.threads.made → ((u : ℕ) → s.rest.scheduler.named ≡ Some u → u ≤ s.rest.threads.made) → ((r : ℕ) → s.rest.scheduler.running ≡ Some r → r ≡ t) → ((u : ℕ) → s.rest.scheduler.gave ≡ Some u → u ≡ t) → Going t (stopping s t)
-  ended_going s t sets low named alone gave =
-      let stopped : other_than t s.rest.scheduler.running ≡ None = stops s.rest.scheduler.running alone in
+  stopped_going : (t : ℕ) (k : Control P S H) → Sets k → t ≤ k.threads.made → ((u : ℕ) → k.scheduler.preferred ≡ Some u → u ≤ k.threads.made) → ((r : ℕ) → k.scheduler.running ≡ Some r → r ≡ t) → Going t (stops_running t k)
+  stopped_going t k sets low preferred alone =
+      let stopped : other_than t k.scheduler.running ≡ None = stops k.scheduler.running alone in
       record {
         sets = sets;
-        named = named;
+        preferred = preferred;
         low = low;
         out = λ r e. absurd (none_some r (sym stopped ∙ e));
         alone = λ r e. absurd (none_some r (sym stopped ∙ e));
-        gave = gave;
       }
     where
       stops : (o : Option ℕ) → ((r : ℕ) → o ≡ Some r → r ≡ t) → other_than t o ≡ None
       stops None same = refl
       stops (Some r) same = let e : r ≡ t = same r refl in rw (e, same_self t) refl
 
-  sets_dead : (s : State P S H) (t : ℕ) (v : ℤ) → Sets s → t ≤ s.rest.threads.made → Sets (dead s t v)
-  unfolding dead with_change without_entry
-  sets_dead s t v sets low =
-      sets-enter (with_change (with_change (with_change (without_entry s t) t (change.State state.Dead)) t (change.Suspended false)) t (change.Value v)) (sets-leave s sets t) t Dead (pos 0) false (times-leave s t) low
+  sets_dead : (k : Control P S H) (t : ℕ) (v : ℤ) → Sets k → t ≤ k.threads.made → Sets (is_dead_with t v k)
+  unfolding is_dead_with sets leaves_queue
+  sets_dead k t v s low =
+      sets-enter (sets t (change.Value v) (sets t (change.Suspended false) (sets t (change.State state.Dead) (leaves_queue t k)))) (sets-leave k s t) t Dead (pos 0) false (times-leave k t) low
 
-  gone_going : (s : State P S H) (t : ℕ) (v : ℤ) (e : Option Entry) → Going t s → Going t (stopping (ended_core (gone_by s t v e) t) t)
-  unfolding gone without_thread dead with_change with_entry without_entry
-  gone_going s t v None g = ended_going s t g.sets g.low g.named g.alone g.gave
-  gone_going s t v (Some e) g = by_end e.joinable
+  going_left : (t : ℕ) (v : ℤ) (k : Control P S H) → Going t k → Going t (leaves t v k)
+  unfolding leaves is_dead_with sets enters forgets leaves_queue
+  going_left t v k g = by_end (or_nobody (entry_of k t)).joinable
     where
-      by_end : (b : Bool) → Going t (stopping (ended_core (if b then dead s t v else gone s t) t) t)
-      by_end true = ended_going (dead s t v) t (sets_dead s t v g.sets g.low) g.low g.named g.alone g.gave
-      by_end false = ended_going (gone s t) t (sets-leave s g.sets t) g.low g.named g.alone g.gave
+      by_end : (b : Bool) → Going t (stops_running t ((if b then is_dead_with t v else (λ (c : Control P S H). forgets t (leaves_queue t c))) k))
+      by_end true = stopped_going t (is_dead_with t v k) (sets_dead k t v g.sets g.low) g.low g.preferred g.alone
+      by_end false = stopped_going t (forgets t (leaves_queue t k)) (sets-leave k g.sets t) g.low g.preferred g.alone
 
-  going_ending : (s : State P S H) (t : ℕ) (v : ℤ) → Going t s → Going t (ending s t v).state
-  unfolding ending with_going
-  going_ending s t v g = gone_going (unheld s t) t v ((unheld s t).rest.threads.known t) g
+  going_goes : (t u : ℕ) (g : Progress S → Progress S) (k : Control P S H) → Going t k → Going t (goes_on u g k)
+  unfolding goes_on
+  going_goes t u g k h = h
 
-  going_exit : (s : State P S H) (t : ℕ) (c : Call) (v : ℤ) (b : Bool) → Going t s → Going t (exit_by s t c v b).told.state
-  unfolding suspended with_going
-  going_exit s t c v true g = g
-  going_exit s t c v false g = going_ending s t v g
-
-  going_begun_by : (f : P → Functions S H) (s : State P S H) (t : ℕ) (c : Call) (h : Family) → Going t s → Going t (begun_by f s t c h).told.state
-  unfolding yield_row exit_row plain_row
-  going_begun_by f s t c (Threads (Yield u)) g = going_after f s t (split c) (answer_of f s t (split c)) g
-  going_begun_by f s t c (Ends (Exit v)) g = going_exit s t c v ((t == main) && not (is_alone s t)) g
-  going_begun_by f s t c h g = going_told f s t c (split c) (answer_of f s t (split c)) g
-
-  going_again : (s : State P S H) (t : ℕ) (c : Call) (v : ℤ) (b : Bool) → Going t s → Going t (exit_again s t c v b).told.state
-  going_again s t c v true g = going_ending s t v g
-  going_again s t c v false g = g
-
-  going_resumed_by : (s : State P S H) (t : ℕ) (c : Call) (h : Family) → Going t s → Going t (resumed_by s t c h).told.state
-  going_resumed_by s t c (Ends (Exit v)) g = going_again s t c v (is_alone s t) g
-  going_resumed_by s t c h g = g
-
-  going_resumed : (s : State P S H) (t : ℕ) (h : Option Held) → Going t s → Going t (resumed_from s t h).told.state
-  going_resumed s t (Some h) g = going_resumed_by s t h.call (split h.call) g
-  going_resumed s t None g = g
-
-  going_called : (f : P → Functions S H) (s : State P S H) (t : ℕ) (a : Answer) (c : Option (Continuation S)) → Going t s → Going t (called_from f s t a c).state
-  going_called f s t a None g = g
-  going_called f s t a (Some c) g = g
-
-  going_went : (f : P → Functions S H) (s : State P S H) (t : ℕ) (h : Option Held) → Going t s → Going t (went_by f s t h).told.state
-  unfolding resumed begun called with_going
-  going_went f s t (Some h) g = going_resumed s t (held_of s t) g
-  going_went f s t None g =
-      let x = called f (owing s t answer.None) t (owed_to s t) in
-      going_begun_by f x.state t x.call (split x.call) (going_called f (owing s t answer.None) t (owed_to s t) ((owing s t answer.None).rest.threads.going t) g)
-
-  going_gives : (s : State P S H) (t : ℕ) → Going t s → Going t (giving s t)
-  going_gives s t g = record { sets = g.sets; named = g.named; low = g.low; out = g.out; alone = g.alone; gave = λ u e. same_some t u e }
-
-  going_settled : (s : State P S H) (t : ℕ) (n : Next) → Going t s → Going t (settled s t n)
-  unfolding with_going
-  going_settled s t (next.Done a) g = g
-  going_settled s t (next.Yields a) g = going_gives (owing s t a) t g
-  going_settled s t next.Waits g = going_gives s t g
-  going_settled s t (next.Ended v) g = by_main (t == main)
-    where
-      by_main : (b : Bool) → Going t (giving (ended_by s v b) t)
-      by_main true = going_gives (ended_by s v true) t g
-      by_main false = going_gives s t g
-  going_settled s t next.Killed g = g
-
-  placed_step : (f : P → Functions S H) (s : State P S H) (t : ℕ) → Going t s → Placed (stepped f s t).state
-  unfolding stepped
-  placed_step f s t g =
-      let w = went_by f (counted s) t (held_of s t) in
-      let after = settled w.told.state t w.next in
-      placed_after t after (going_settled w.told.state t w.next (going_went f (counted s) t (held_of s t) g))
+  placed_step : (f : P → Functions S H) (x : Turn) (t : ℕ) (s : State P S H) → x.gave ≡ None → Going t s.control → Placed (steps f x t s).state.control (steps f x t s).turn.gave
+  unfolding steps
+  placed_step f x t s none g =
+      placed_after t (steps f x t s).state.control (steps f x t s).turn.gave
+      (gave_after t (steps_on f t s).next (record x { steps = x.steps + 1 }) none)
+      (step_keeps f t (Going t) (going_goes t) (λ h k g. g) (going_spawned f t) (going_left t) x s g)
 
   -- ---- between turns
 
-  placed_idle : (s : State P S H) → Idle s → Placed s
-  placed_idle s i = record {
-    sets = i.sets;
-    named = i.named;
-    low = λ t e. absurd (none_some t (sym i.running ∙ e));
-    out = λ t e. absurd (none_some t (sym i.running ∙ e));
+  placed_resting : (k : Control P S H) (gave : Option ℕ) → Resting k → Placed k gave
+  placed_resting k gave i = record {
+    seated = record {
+      sets = i.sets;
+      preferred = i.preferred;
+      low = λ t e. absurd (none_some t (sym i.running ∙ e));
+      out = λ t e. absurd (none_some t (sym i.running ∙ e));
+    };
     gives = λ t r g e. absurd (none_some r (sym i.running ∙ e));
   }
 
-  idle_readied : (s : State P S H) (t : ℕ) (rank : ℤ) (top : Bool) → t ≤ s.rest.threads.made → Idle s → Idle (readied s t rank top)
-  unfolding readied with_change without_entry with_entry
-  idle_readied s t rank top low i = record {
-    sets = sets-enter (with_change (without_entry s t) t (change.State state.Ready)) (sets-leave s i.sets t) t Ready rank top (times-leave s t) low;
-    named = i.named;
+  resting_ready : (k : Control P S H) (t : ℕ) (rank : ℤ) (top : Bool) → t ≤ k.threads.made → Resting k → Resting (is_ready_at t rank top k)
+  unfolding is_ready_at sets leaves_queue enters
+  resting_ready k t rank top low i = record {
+    sets = sets-enter (sets t (change.State state.Ready) (leaves_queue t k)) (sets-leave k i.sets t) t Ready rank top (times-leave k t) low;
+    preferred = i.preferred;
     running = i.running;
-    gave = i.gave;
   }
 
-  idle_all_readied : (ts : List ℕ) (s : State P S H) → All (λ t. t ≤ s.rest.threads.made) ts → Idle s → Idle (all_readied ts s)
-  unfolding all_readied new_readied readied with_change without_entry with_entry
-  idle_all_readied [] s low i = i
-  idle_all_readied (t ∷ ts) s low i =
-      idle_all_readied ts (new_readied s t) (All-tail (λ t. t ≤ s.rest.threads.made) t ts low)
-      (idle_readied s t (new_rank s) s.rest.scheduler.favour_new (All-head (λ t. t ≤ s.rest.threads.made) t ts low) i)
+  resting_readies : (ts : List ℕ) (k : Control P S H) → All (λ t. t ≤ k.threads.made) ts → Resting k → Resting (readies_all ts k)
+  unfolding readies_all readies is_ready_at sets leaves_queue enters
+  resting_readies [] k low i = i
+  resting_readies (t ∷ ts) k low i =
+      resting_readies ts (readies t k) (All-tail (λ t. t ≤ k.threads.made) t ts low)
+      (resting_ready k t (new_rank k) k.scheduler.favour_new (All-head (λ t. t ≤ k.threads.made) t ts low) i)
 
-  idle_all_woken : (ts : List ℕ) (s : State P S H) → All (λ t. t ≤ s.rest.threads.made) ts → Idle s → Idle (all_woken ts s).state
-  unfolding all_woken woken readied with_change without_entry with_entry
-  idle_all_woken [] s low i = i
-  idle_all_woken (t ∷ ts) s low i =
-      idle_all_woken ts (woken s t).state (All-tail (λ t. t ≤ s.rest.threads.made) t ts low)
-      (idle_readied s t (prio_of s t +ℤ pos 1) false (All-head (λ t. t ≤ s.rest.threads.made) t ts low) i)
+  resting_woken : (ts : List ℕ) (s : State P S H) → All (λ t. t ≤ s.control.threads.made) ts → Resting s.control → Resting (all_woken ts s).state.control
+  unfolding all_woken woken is_ready_at sets leaves_queue enters
+  resting_woken [] s low i = i
+  resting_woken (t ∷ ts) s low i =
+      resting_woken ts (woken t s).state (All-tail (λ t. t ≤ s.control.threads.made) t ts low)
+      (resting_ready s.control t (prio_of s.control t +ℤ pos 1) false (All-head (λ t. t ≤ s.control.threads.made) t ts low) i)
 
-  idle_pass : (s : State P S H) → Idle s → Idle (pass s).state
+  resting_pass : (f : P → Functions S H) (s : State P S H) → Resting s.control → Resting (pass f s).state.control
   unfolding pass to_wake
-  idle_pass s i = idle_all_woken (to_wake s) s (All-filter (wakes s) (λ t. t ≤ s.rest.threads.made) (who_in (queue s Waiting)) (rows-low s i.sets Waiting)) i
+  resting_pass f s i = resting_woken (to_wake f s) s (All-filter (λ t. wakes f t s) (λ t. t ≤ s.control.threads.made) (holders (queue s.control Waiting)) (rows-low s.control i.sets Waiting)) i
 
-  placed_dispatched : (s : State P S H) (t : ℕ) → t ≤ s.rest.threads.made → Idle s → Placed (dispatched s t).state
-  unfolding dispatched runs with_change without_entry
-  placed_dispatched s t low i = record {
-    sets = sets-leave s i.sets t;
-    named = λ u e. absurd (none_some u e);
-    low = λ r e. let same : r ≡ t = same_some t r e in omega (arith, same, low);
-    out = λ r e. let same : r ≡ t = same_some t r e in rw same (times-leave s t);
-    gives = λ u r g e. absurd (none_some u (sym i.gave ∙ g));
+  placed_dispatched : (x : Turn) (s : State P S H) (t : ℕ) → x.gave ≡ None → t ≤ s.control.threads.made → Resting s.control → Placed (takes_by x (Some t) s).state.control x.gave
+  unfolding dispatches runs sets leaves_queue
+  placed_dispatched x s t none low i = record {
+    seated = record {
+      sets = sets-leave s.control i.sets t;
+      preferred = λ u e. absurd (none_some u e);
+      low = λ r e. let same : r ≡ t = same_some t r e in omega (arith, same, low);
+      out = λ r e. let same : r ≡ t = same_some t r e in rw same (times-leave s.control t);
+    };
+    gives = λ u r g e. absurd (none_some u (sym none ∙ g));
   }
 
-  placed_dispatched_by : (s : State P S H) (o : Option ℕ) → ((t : ℕ) → o ≡ Some t → t ≤ s.rest.threads.made) → Idle s → Placed (dispatched_by s o).state
-  placed_dispatched_by s None low i = placed_idle s i
-  placed_dispatched_by s (Some t) low i = placed_dispatched s t (low t refl) i
+  placed_taken_by : (x : Turn) (s : State P S H) (o : Option ℕ) → x.gave ≡ None → ((t : ℕ) → o ≡ Some t → t ≤ s.control.threads.made) → Resting s.control → Placed (takes_by x o s).state.control (takes_by x o s).turn.gave
+  placed_taken_by x s None none low i = placed_resting s.control x.gave i
+  placed_taken_by x s (Some t) none low i = placed_dispatched x s t none (low t refl) i
 
-  placed_taken : (s : State P S H) → Idle s → Placed (taken s).state
-  unfolding taken
-  placed_taken s i =
-      let new = who_in (queue s New) in
-      let a = all_readied (reverse new) s in
-      let low : All (λ t. t ≤ s.rest.threads.made) (reverse new) = All-permutation (λ t. t ≤ s.rest.threads.made) new (reverse new) (IsPermutation-reverse new) (rows-low s i.sets New) in
-      let after : Idle a = idle_all_readied (reverse new) s low i in
-      placed_dispatched_by a (next_by a.rest.scheduler.named (queue a Ready)) (next_low a.rest.threads.made a.rest.scheduler.named (queue a Ready) after.named (rows-low a after.sets Ready)) after
+  placed_taken : (x : Turn) (s : State P S H) → x.gave ≡ None → Resting s.control → Placed (takes x s).state.control (takes x s).turn.gave
+  unfolding takes
+  placed_taken x s none i =
+      let k = s.control in
+      let new = holders (queue k New) in
+      let a : State P S H = controlled readies_new s in
+      let low : All (λ t. t ≤ k.threads.made) (reverse new) = All-permutation (λ t. t ≤ k.threads.made) new (reverse new) (IsPermutation-reverse new) (rows-low k i.sets New) in
+      let after : Resting a.control = resting_readies (reverse new) k low i in
+      placed_taken_by x a (chosen a.control.scheduler.preferred (queue a.control Ready)) none (chosen_low a.control.threads.made a.control.scheduler.preferred (queue a.control Ready) after.preferred (rows-low a.control after.sets Ready)) after
 
-  placed_moved : (s : State P S H) (m : Option ℕ) → Idle s → Placed (moved_by s m).state
-  placed_moved s None i = placed_idle s i
-  placed_moved s (Some m) i = placed_idle (pass (at_moment s m)).state (idle_pass (at_moment s m) i)
+  placed_moved : (f : P → Functions S H) (x : Turn) (s : State P S H) (m : Option ℕ) → Resting s.control → Placed (moves_by f x m s).state.control (moves_by f x m s).turn.gave
+  placed_moved f x s None i = placed_resting s.control x.gave i
+  placed_moved f x s (Some m) i = placed_resting _ x.gave (resting_pass f _ i)
 
   -- t is put back, unless it has ended
-  idle_back : (s : State P S H) (t : ℕ) (r : Option ℕ) (h : Option Held) → Placed s → ((u : ℕ) → r ≡ Some u → (times_in s t ≡ 0) × (t ≤ s.rest.threads.made)) → Idle (closing (running_is (placed_by s t r h) None))
-  unfolding put_back put_waiting with_change with_entry
-  idle_back s t None h p out = record { sets = p.sets; named = p.named; running = refl; gave = refl }
-  idle_back s t (Some r) (Some h) p out = record {
-    sets = sets-enter (with_change s t (change.State state.Waiting)) p.sets t Waiting (prio_of s t) false (out r refl).0 (out r refl).1;
-    named = p.named;
+  resting_back : (k : Control P S H) (t : ℕ) (r : Option ℕ) (b : Option Blocked) → IsSeated (seats k) → ((u : ℕ) → r ≡ Some u → (times_in k t ≡ 0) × (t ≤ k.threads.made)) → Resting (runs_now None (placed_by t r b k))
+  unfolding is_put_back is_put_waiting sets enters
+  resting_back k t None b p out = record { sets = p.sets; preferred = p.preferred; running = refl }
+  resting_back k t (Some r) (Some b) p out = record {
+    sets = sets-enter (sets t (change.State state.Waiting) k) p.sets t Waiting (prio_of k t) false (out r refl).0 (out r refl).1;
+    preferred = p.preferred;
     running = refl;
-    gave = refl;
   }
-  idle_back s t (Some r) None p out = record {
-    sets = sets-enter (with_change s t (change.State state.Ready)) p.sets t Ready (prio_of s t) false (out r refl).0 (out r refl).1;
-    named = p.named;
+  resting_back k t (Some r) None p out = record {
+    sets = sets-enter (sets t (change.State state.Ready) k) p.sets t Ready (prio_of k t) false (out r refl).0 (out r refl).1;
+    preferred = p.preferred;
     running = refl;
-    gave = refl;
   }
 
-  placed_closed : (s : State P S H) (t : ℕ) → s.rest.scheduler.gave ≡ Some t → Placed s → Placed (closed s t).state
-  unfolding closed placed raised
-  placed_closed s t gave p =
-      let own : (u : ℕ) → s.rest.scheduler.running ≡ Some u → (times_in s t ≡ 0) × (t ≤ s.rest.threads.made) = λ u e. (
+  placed_closed : (f : P → Functions S H) (x : Turn) (t : ℕ) (s : State P S H) → x.gave ≡ Some t → Placed s.control x.gave → Placed (closes f x t s).state.control None
+  unfolding closes is_placed raises_ready
+  placed_closed f x t s gave p =
+      let k = s.control in
+      let own : (u : ℕ) → k.scheduler.running ≡ Some u → (times_in k t ≡ 0) × (t ≤ k.threads.made) = λ u e. (
       let same : t ≡ u = p.gives t u gave e in
-      (subst (λ (n : ℕ). times_in s n ≡ 0) (sym same) (p.out u e), (let low = p.low u e in omega (arith, same, low)))) in
-      let before = closing (placed (raised s) t) in
-      placed_idle (pass before).state (idle_pass before (idle_back (raised s) t s.rest.scheduler.running (held_of s t) p own))
+      (subst (λ (n : ℕ). times_in k n ≡ 0) (sym same) (p.seated.out u e), (let low = p.seated.low u e in omega (arith, same, low)))) in
+      let back = resting_back (raises_ready k) t k.scheduler.running (blocked_of k t) p.seated own in
+      placed_resting (pass f (controlled (turn_ends t) s)).state.control None (resting_pass f (controlled (turn_ends t) s) (record { sets = back.sets; preferred = back.preferred; running = refl }))
 
-  placed_going : (s : State P S H) (t : ℕ) → s.rest.scheduler.gave ≡ None → s.rest.scheduler.running ≡ Some t → Placed s → Going t s
-  placed_going s t gave running p = record {
-    sets = p.sets;
-    named = p.named;
-    low = p.low t running;
-    out = p.out;
+  placed_going : (k : Control P S H) (gave : Option ℕ) (t : ℕ) → k.scheduler.running ≡ Some t → Placed k gave → Going t k
+  placed_going k gave t running p = record {
+    sets = p.seated.sets;
+    preferred = p.seated.preferred;
+    low = p.seated.low t running;
+    out = p.seated.out;
     alone = λ r e. same_some t r (sym running ∙ e);
-    gave = λ u e. absurd (none_some u (sym gave ∙ e));
   }
+
+  placed_rests : (k : Control P S H) (gave : Option ℕ) → k.scheduler.running ≡ None → Placed k gave → Resting k
+  placed_rests k gave rests p = record { sets = p.seated.sets; preferred = p.seated.preferred; running = rests }
 
   -- ---- parts and runs
 
-  placed_next : (f : P → Functions S H) (s : State P S H) (g r : Option ℕ) (idle : Bool) → s.rest.scheduler.gave ≡ g → s.rest.scheduler.running ≡ r → Placed s → Placed (part_by f s (next_part_by g r idle)).state
-  unfolding moved
-  placed_next f s (Some t) r idle gave running p = placed_closed s t gave p
-  placed_next f s None (Some t) idle gave running p = placed_step f s t (placed_going s t gave running p)
-  placed_next f s None None true gave running p = placed_moved s (moment s) (record { sets = p.sets; named = p.named; running = running; gave = gave })
-  placed_next f s None None false gave running p = placed_taken s (record { sets = p.sets; named = p.named; running = running; gave = gave })
+  placed_next : (f : P → Functions S H) (x : Turn) (s : State P S H) (g r : Option ℕ) (idle : Bool) → x.gave ≡ g → s.control.scheduler.running ≡ r → Placed s.control x.gave → Placed (part_by f x s (next_part_by g r idle)).state.control (part_by f x s (next_part_by g r idle)).turn.gave
+  unfolding moves closes
+  placed_next f x s (Some t) r idle gave running p = placed_closed f x t s gave p
+  placed_next f x s None (Some t) idle gave running p = placed_step f x t s gave (placed_going s.control x.gave t running p)
+  placed_next f x s None None true gave running p = placed_moved f x s (moment f s) (placed_rests s.control x.gave running p)
+  placed_next f x s None None false gave running p = placed_taken x s gave (placed_rests s.control x.gave running p)
 
-  placed_unless : (f : P → Functions S H) (s : State P S H) (o : Outcome) (next : Part) → Placed s → Placed (part_by f s next).state → Placed (part_by f s (unless_ended o next)).state
-  placed_unless f s outcome.Running next p after = after
-  placed_unless f s o next p after = p
+  placed_unless : (f : P → Functions S H) (x : Turn) (s : State P S H) (o : Outcome) (n : Part) → Placed s.control x.gave → Placed (part_by f x s n).state.control (part_by f x s n).turn.gave → Placed (part_by f x s (unless_ended o n)).state.control (part_by f x s (unless_ended o n)).turn.gave
+  placed_unless f x s outcome.Running n p after = after
+  placed_unless f x s o n p after = p
 
-  placed_part : (f : P → Functions S H) (s : State P S H) → Placed s → Placed (part f s).state
+  placed_part : (f : P → Functions S H) (x : Turn) (s : State P S H) → Placed s.control x.gave → Placed (part f x s).state.control (part f x s).turn.gave
   unfolding part next_part
-  placed_part f s p =
-      placed_unless f s s.rest.scheduler.outcome (next_part_by s.rest.scheduler.gave s.rest.scheduler.running (is_idle s)) p
-      (placed_next f s s.rest.scheduler.gave s.rest.scheduler.running (is_idle s) refl refl p)
+  placed_part f x s p =
+      placed_unless f x s x.outcome (next_part_by x.gave s.control.scheduler.running (is_idle s.control)) p
+      (placed_next f x s x.gave s.control.scheduler.running (is_idle s.control) refl refl p)
 
-  placed_start : (f : P → Functions S H) (g : Given P) → Placed (start f g)
+  placed_start : (f : P → Functions S H) (g : Given P) → Placed (start f g).control None
   unfolding start
-  placed_start f g = placed_idle (start f g) (record {
+  placed_start f g = placed_resting (start f g).control None (record {
     sets = record { once = λ t. omega (arith, stands-cons t main_stands [], at_most_one (1 == t)); low = low_start };
-    named = λ t e. absurd (none_some t e);
+    preferred = λ t e. absurd (none_some t e);
     running = refl;
-    gave = refl;
   })
 
-  placed_run : (f : P → Functions S H) (g : Given P) (i : ℕ) → Placed (run f g i).state
+  placed_run : (f : P → Functions S H) (g : Given P) (i : ℕ) → Placed (run f g i).state.control (run f g i).turn.gave
   unfolding parts
   placed_run f g zero = placed_start f g
-  placed_run f g (suc i) = placed_part f (run f g i).state (placed_run f g i)
+  placed_run f g (suc i) = placed_part f (run f g i).turn (run f g i).state (placed_run f g i)
 
-  pub none_twice : (f : P → Functions S H) (g : Given P) (i : ℕ) → IsOnce (run f g i).state
-  none_twice f g i = (placed_run f g i).sets.once
+  pub none_twice : (f : P → Functions S H) (g : Given P) (i : ℕ) → IsOnce (run f g i).state.control
+  none_twice f g i = (placed_run f g i).seated.sets.once

@@ -5,13 +5,13 @@ use Rattle.std.proofs.lemmas.Bool.Decides.{nat_tests}
 use Rattle.pth_base.specs.Program.{Functions}
 use Rattle.pth_base.specs.declared.mark.Mark.{Mark}
 use Rattle.pth_model.specs.State.{State, Given, start}
-use Rattle.pth_model.specs.Told.{Told, followed}
+use Rattle.pth_model.specs.Course.{Course, followed}
 use Rattle.pth_model.specs.Part.{Part, Move, Take, Step, Close, Halt, next_part, part}
 use Rattle.pth_model.specs.Run.{parts, run, stops, stops_by, GoesTo, IsBetween}
 
 module _ {P S H : Type 0} (f : P → Functions S H) where
   -- one part more
-  pub parts-more : (s : State P S H) (i : ℕ) → parts f s (i + 1) ≡ followed (parts f s i) (part f (parts f s i).state)
+  pub parts-more : (s : State P S H) (i : ℕ) → parts f s (i + 1) ≡ followed (parts f s i) (part f (parts f s i).turn (parts f s i).state)
   unfolding parts
   parts-more s i = rw add-one refl
 
@@ -20,8 +20,8 @@ module _ {P S H : Type 0} (f : P → Functions S H) where
     between-none i = sym (append-nil (run f g i).marks)
 
     -- what the next part tells comes after what was told
-    pub between-more : (i j : ℕ) (told : List Mark) → IsBetween f g i j told → IsBetween f g i (j + 1) (told ++ (part f (run f g j).state).marks)
-    between-more i j told b = ap (λ (r : Told P S H). r.marks) (parts-more (start f g) j) ∙ ap (λ (m : List Mark). m ++ (part f (run f g j).state).marks) b ∙ append_assoc (run f g i).marks told (part f (run f g j).state).marks
+    pub between-more : (i j : ℕ) (told : List Mark) → IsBetween f g i j told → IsBetween f g i (j + 1) (told ++ (part f (run f g j).turn (run f g j).state).marks)
+    between-more i j told b = ap (λ (r : Course P S H). r.marks) (parts-more (start f g) j) ∙ ap (λ (m : List Mark). m ++ (part f (run f g j).turn (run f g j).state).marks) b ∙ append_assoc (run f g i).marks told (part f (run f g j).turn (run f g j).state).marks
 
     pub between-then : (i j k : ℕ) (one two : List Mark) → IsBetween f g i j one → IsBetween f g j k two → IsBetween f g i k (one ++ two)
     between-then i j k one two a b = b ∙ ap (λ (m : List Mark). m ++ two) a ∙ append_assoc (run f g i).marks one two
@@ -35,9 +35,9 @@ later_by to far steps (Close t) le h = refl
 later_by to far steps Halt le h = h
 
 module _ {P S H : Type 0} where
-  pub stops-later : (to far : ℕ) (s : State P S H) → to ≤ far → stops to s ≡ false → stops far s ≡ false
+  pub stops-later : (to far : ℕ) (c : Course P S H) → to ≤ far → stops to c ≡ false → stops far c ≡ false
   unfolding stops
-  stops-later to far s le h = later_by to far s.rest.scheduler.steps (next_part s) le h
+  stops-later to far c le h = later_by to far c.turn.steps (next_part c.state c.turn) le h
 
   module _ (f : P → Functions S H) (g : Given P) where
     -- a run to fewer steps, and then to more, is one to more
@@ -46,7 +46,7 @@ module _ {P S H : Type 0} where
       later = omega (arith, a.later, b.later);
       here = b.here;
       first = λ n from below. elim (cases_lt n j) [
-        | inl early ↦ stops-later to far (run f g n).state le (a.first n from early)
+        | inl early ↦ stops-later to far (run f g n) le (a.first n from early)
         | inr late ↦ b.first n (omega (arith, late)) below
       ];
     }

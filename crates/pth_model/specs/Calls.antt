@@ -1,125 +1,83 @@
--- Calls that may suspend their thread, and how a suspended call is tried again.
-use Rattle.std.specs.Prelude.{ℕ, ◌==◌, ◌&&◌, not, ℤ, Bool, true, false, List, [], ◌∷◌, Option, Some, None}
+-- How a call begins, and how a call that blocks its thread is tried again.
+use Rattle.std.specs.Prelude.{ℕ, pos, Bool, false, Option, Some, None}
 use Rattle.pth_base.specs.Program.{Functions}
 use Rattle.pth_base.specs.declared.answer.Answer.{Answer}
 use Rattle.pth_base.specs.declared.answer.Answer.TheVariants as answer
 use Rattle.pth_base.specs.declared.call.Call.{Call}
 use Rattle.pth_base.specs.declared.call.Call.TheVariants as call
-use Rattle.pth_base.specs.declared.mark.Mark.TheVariants.{Waits}
-use Rattle.pth_queue.specs.declared.row.Row.{Row}
-use Rattle.pth_queue.specs.declared.queue.Queue.TheVariants as queue
-use Rattle.pth_model.specs.declared.held.Held.{Held}
-use Rattle.pth_model.specs.declared.held.Retake.TheVariants as retake
-use Rattle.pth_model.specs.declared.next.Next.{Next}
+use Rattle.pth_base.specs.declared.mark.Mark.TheVariants as mark
+use Rattle.pth_model.specs.declared.blocked.Blocked.{Blocked}
+use Rattle.pth_model.specs.declared.blocked.Retake.TheVariants as retake
 use Rattle.pth_model.specs.declared.next.Next.TheVariants as next
-use Rattle.pth_model.specs.State.{State, queue, main}
-use Rattle.pth_model.specs.Changes.{with_going, with_held, held_of}
-use Rattle.pth_model.specs.Told.{Went, tells, tid}
-use Rattle.pth_model.specs.Family.{Family, Threads, Ends, Yield, Exit, split}
-use Rattle.pth_model.specs.Rows.{answer_of, answered, plain_row}
+use Rattle.pth_model.specs.Verdict.{Verdict, Pause, Says, Yields, Blocks, Ends, Kills}
+use Rattle.pth_model.specs.State.{State}
+use Rattle.pth_model.specs.Transition.{Piece, Change, Last, silent, changes, tells, tid, ◌and_then◌, ◌and_next◌, ◌and_finally◌}
+use Rattle.pth_model.specs.Changes.{is_blocked_by, blocked_of}
+use Rattle.pth_model.specs.Row.{Attempt, effect_of}
 use Rattle.pth_model.specs.Ending.{ending}
+use Rattle.pth_model.specs.Rows.{row_of}
 
--- all these rows are of thread t
-abbrev pub only : ℕ → List Row → Bool
-only t [] = true
-only t (x ∷ xs) = (x.who == t) && only t xs
+-- a call that blocks from a moment on
+abbrev pub blocked_from : ℕ → Call → Pause → Blocked
+blocked_from now c p = record { call = c; begin = now; moment = p.moment; written = p.written; round = p.round; retake = retake.No }
 
--- which calls may suspend their thread, or end it or its turn
-abbrev pub suspends : Call → Bool
-suspends (call.Exit v) = true
-suspends (call.Yield t) = true
-suspends (call.Join t) = true
-suspends call.CancelPoint = true
-suspends call.Kill = true
-suspends (call.Wait e) = true
-suspends (call.Nap l) = true
-suspends (call.Usleep l) = true
-suspends (call.Sleep l) = true
-suspends (call.MutexAcquire m v e) = true
-suspends (call.RwAcquire l write v e) = true
-suspends (call.CondAwait c m e) = true
-suspends (call.BarrierReach b) = true
-suspends (call.Read f n) = true
-suspends (call.ReadEv f n e) = true
-suspends (call.Write f bytes) = true
-suspends (call.WriteEv f bytes e) = true
-suspends (call.Accept f) = true
-suspends (call.AcceptEv f e) = true
-suspends (call.Connect f) = true
-suspends (call.ConnectEv f e) = true
-suspends (call.Select r w x l) = true
-suspends (call.SelectEv r w x l e) = true
-suspends c = false
+module _ {P S H : Type 0} (t : ℕ) where
+  abbrev pub blocks : Call → Pause → Change P S H
+  blocks c p k = is_blocked_by t (Some (blocked_from k.scheduler.now c p)) k
 
--- a yield gives up control, unless it was refused (pth_yield)
-abbrev pub yields_by : Answer → Next
-yields_by (answer.Fail e) = next.Done (answer.Fail e)
-yields_by a = next.Yields a
+  -- a call blocks t from now on: told each time that it does
+  abbrev pub waits_by : Call → Pause → Piece P S H
+  waits_by c p = changes (blocks c p) and_then tells (mark.Waits (tid t) c)
 
-module _ {P S H : Type 0} where
-  -- no other thread than t is new, ready, waiting or suspended: then main may end the process (pth_exit of main)
-  unfoldable pub is_alone : State P S H → ℕ → Bool
-  is_alone s t = only t (queue s queue.New) && (only t (queue s queue.Ready) && (only t (queue s queue.Waiting) && only t (queue s queue.Suspended)))
+module _ {P S H : Type 0} (f : P → Functions S H) (t : ℕ) where
+  -- a call begins
 
-  -- the call suspends t, from now on
-  abbrev pub held_from : State P S H → Call → Held
-  held_from s c = record { call = c; begin = s.rest.scheduler.now; moment = 0; written = 0; round = 0; retake = retake.No }
+  -- as the verdict says, after the effect
+  abbrev pub begun_by : Call → Verdict → Piece P S H → Last P S H
+  begun_by c (Says a) effect = effect and_then tells (mark.Answered (tid t) c a) and_next next.Done a
+  begun_by c (Yields a) effect = effect and_then tells (mark.Answered (tid t) c a) and_next next.Yields a
+  begun_by c (Blocks p) effect = effect and_then waits_by t c p and_next next.Waits
+  begun_by c (Ends v) effect = effect and_then ending f t v and_next next.Ended v
+  begun_by c Kills effect = effect and_then tells (mark.Answered (tid t) c (answer.Int (pos 1))) and_next next.Killed
 
-  unfoldable pub suspended : State P S H → ℕ → Call → State P S H
-  suspended s t c = with_going s t (with_held (Some (held_from s c)))
+  abbrev pub begun_as : Call → Attempt P S H → Last P S H
+  begun_as c a = begun_by c a.verdict (effect_of a)
 
-  -- t waits: told each time that the call suspends it
-  abbrev pub waiting : State P S H → ℕ → Call → Went P S H
-  waiting s t c = record { told = tells (Waits (tid t) c) s; next = next.Waits }
+  -- a plain line tells nothing, and a note its value
+  unfoldable pub begun : Call → Last P S H
+  begun call.Plain = silent and_next next.Done answer.None
+  begun (call.Note v) = tells (mark.Noted (tid t) v) and_next next.Done (answer.Int (pos 0))
+  begun c = λ s. begun_as c (row_of f s t c).begin s
 
-  abbrev pub ends : State P S H → ℕ → ℤ → Went P S H
-  ends s t v = record { told = ending s t v; next = next.Ended v }
+  -- a call that blocks t is tried again
 
-  -- pth_exit: main waits until it is alone. By: does it wait?
-  abbrev pub exit_by : State P S H → ℕ → Call → ℤ → Bool → Went P S H
-  exit_by s t c v true = waiting (suspended s t c) t c
-  exit_by s t c v false = ends s t v
+  -- it blocks t no longer, and is answered
+  abbrev pub answers : Call → Answer → Piece P S H
+  answers c a = changes (is_blocked_by t None) and_then tells (mark.Answered (tid t) c a)
 
-  unfoldable pub exit_row : State P S H → ℕ → Call → ℤ → Went P S H
-  exit_row s t c v = exit_by s t c v ((t == main) && not (is_alone s t))
+  -- as the verdict says, after the effect; a call that blocks on keeps what it wrote so far
+  abbrev pub tried_by : Blocked → Verdict → Last P S H
+  tried_by b (Says a) = answers b.call a and_next next.Done a
+  tried_by b (Yields a) = answers b.call a and_next next.Yields a
+  tried_by b (Blocks p) = changes (is_blocked_by t (Some (record b { written = p.written }))) and_then tells (mark.Waits (tid t) b.call) and_next next.Waits
+  tried_by b (Ends v) = ending f t v and_next next.Ended v
+  tried_by b Kills = answers b.call (answer.Int (pos 1)) and_next next.Killed
 
-  unfoldable pub yield_row : (P → Functions S H) → State P S H → ℕ → Call → Went P S H
-  yield_row f s t c = record { told = answered f s t c (answer_of f s t (split c)); next = yields_by (answer_of f s t (split c)) }
+  abbrev pub tried : Blocked → Attempt P S H → Last P S H
+  tried b a = effect_of a and_finally tried_by b a.verdict
 
-  -- a call begins, by its family
-  abbrev pub begun_by : (P → Functions S H) → State P S H → ℕ → Call → Family → Went P S H
-  begun_by f s t c (Threads (Yield u)) = yield_row f s t c
-  begun_by f s t c (Ends (Exit v)) = exit_row s t c v
-  begun_by f s t c g = record { told = plain_row f s t c; next = next.Done (answer_of f s t (split c)) }
+  abbrev pub resumed_by : Option Blocked → Last P S H
+  resumed_by None = silent and_next next.Waits
+  resumed_by (Some b) = λ s. tried b ((row_of f s t b.call).again b) s
 
-  unfoldable pub begun : (P → Functions S H) → State P S H → ℕ → Call → Went P S H
-  begun f s t c = begun_by f s t c (split c)
+  -- the call that blocks t is tried again
+  unfoldable pub resumed : Last P S H
+  resumed s = resumed_by (blocked_of s.control t) s
 
-  -- main's exit is tried again. By: is it alone?
-  abbrev pub exit_again : State P S H → ℕ → Call → ℤ → Bool → Went P S H
-  exit_again s t c v true = ends s t v
-  exit_again s t c v false = waiting s t c
+  abbrev pub wakes_by : State P S H → Option Blocked → Bool
+  wakes_by s None = false
+  wakes_by s (Some b) = (row_of f s t b.call).wakes b
 
-  abbrev pub resumed_by : State P S H → ℕ → Call → Family → Went P S H
-  resumed_by s t c (Ends (Exit v)) = exit_again s t c v (is_alone s t)
-  resumed_by s t c g = waiting s t c
-
-  abbrev pub resumed_from : State P S H → ℕ → Option Held → Went P S H
-  resumed_from s t (Some h) = resumed_by s t h.call (split h.call)
-  resumed_from s t None = record { told = record { state = s; marks = [] }; next = next.Waits }
-
-  -- the suspended call of t is tried again
-  unfoldable pub resumed : State P S H → ℕ → Went P S H
-  resumed s t = resumed_from s t (held_of s t)
-
-  abbrev pub wakes_by : State P S H → ℕ → Family → Bool
-  wakes_by s t (Ends (Exit v)) = is_alone s t
-  wakes_by s t g = false
-
-  abbrev pub wakes_from : State P S H → ℕ → Option Held → Bool
-  wakes_from s t (Some h) = wakes_by s t (split h.call)
-  wakes_from s t None = false
-
-  -- whether the suspended call of t has what it waits for
-  unfoldable pub wakes : State P S H → ℕ → Bool
-  wakes s t = wakes_from s t (held_of s t)
+  -- whether the call that blocks t has what it waits for
+  unfoldable pub wakes : State P S H → Bool
+  wakes s = wakes_by s (blocked_of s.control t)

@@ -1,107 +1,128 @@
--- The changes of which the calls and the parts of a run are made: one thing of the state each.
-use Rattle.std.specs.Prelude.{ℕ, ◌+◌, ℤ, Bool, ◌∷◌, Option, Some, None, option_map, if◌then◌else◌}
-use Rattle.pth_base.specs.Program.{Functions, Stepped}
+-- The changes of which calls and the parts of a run are made: one thing of the control each.
+use Rattle.std.specs.Prelude.{ℕ, ◌+◌, ℤ, pos, Bool, true, false, List, [], ◌∷◌, map, Option, Some, None, option_map, if◌then◌else◌}
+use Rattle.pth_base.specs.Program.{Functions}
 use Rattle.pth_base.specs.Table.{put}
 use Rattle.pth_base.specs.declared.answer.Answer.{Answer}
 use Rattle.pth_base.specs.declared.answer.Answer.TheVariants as answer
-use Rattle.pth_base.specs.declared.call.Call.{Call}
-use Rattle.pth_base.specs.declared.call.Call.TheVariants as call
+use Rattle.pth_base.specs.declared.thread.ThreadState.TheVariants as state
+use Rattle.pth_queue.specs.declared.ranked.Ranked.{Ranked}
 use Rattle.pth_queue.specs.declared.queue.Queue.{Queue}
+use Rattle.pth_threads.specs.declared.entry.Entry.{Entry}
 use Rattle.pth_threads.specs.declared.entry.NewThread.{NewThread}
 use Rattle.pth_threads.specs.declared.entry.Change.{Change}
 use Rattle.pth_threads.specs.Threads.{changed, made_of}
-use Rattle.pth_model.specs.declared.continuation.Continuation.{Continuation}
-use Rattle.pth_model.specs.declared.held.Held.{Held}
+use Rattle.pth_model.specs.declared.blocked.Blocked.{Blocked}
+use Rattle.pth_model.specs.declared.progress.Progress.{Progress}
 use Rattle.pth_model.specs.Standing.{is_queue, left_by, raises_of}
-use Rattle.pth_model.specs.State.{State, Threads, Scheduler}
+use Rattle.pth_model.specs.State.{Control, Threads, Scheduler}
+use Rattle.pth_model.specs.Transition as transition
 
-module _ {P S H : Type 0} (s : State P S H) where
-  abbrev pub with_threads : Threads S → State P S H
-  with_threads x = record s { rest = record s.rest { threads = x } }
+-- whose ranks these are
+abbrev pub holders : List Ranked → List ℕ
+holders rows = map (λ r. r.holder) rows
 
-  abbrev pub with_scheduler : Scheduler → State P S H
-  with_scheduler x = record s { rest = record s.rest { scheduler = x } }
+abbrev pub is_empty : {A : Type 0} → List A → Bool
+is_empty [] = true
+is_empty (x ∷ xs) = false
+
+-- what stands for the record of a thread that is not in the system
+abbrev pub nobody : Entry
+nobody = record { tid = record { 0 = 0 }; prio = pos 0; name = []; joinable = false; cancel = 1; request = false; state = state.Dead; suspended = false; dispatches = 0; value = pos 0 }
+
+abbrev pub or_nobody : Option Entry → Entry
+or_nobody None = nobody
+or_nobody (Some e) = e
+
+-- the answer that is not yet handed over, and the call that blocks
+abbrev pub owed_in : {S : Type 0} → Option (Progress S) → Answer
+owed_in None = answer.None
+owed_in (Some p) = p.owed
+
+abbrev pub blocked_in : {S : Type 0} → Option (Progress S) → Option Blocked
+blocked_in None = None
+blocked_in (Some p) = p.blocked
+
+abbrev pub owing : {S : Type 0} → Answer → Progress S → Progress S
+owing a p = record p { owed = a }
+
+abbrev pub blocking : {S : Type 0} → Option Blocked → Progress S → Progress S
+blocking b p = record p { blocked = b }
+
+module _ {P S H : Type 0} where
+  -- what a control shows of a thread
+  abbrev pub entry_of : Control P S H → ℕ → Option Entry
+  entry_of k t = k.threads.known t
+
+  abbrev pub prio_of : Control P S H → ℕ → ℤ
+  prio_of k t = (or_nobody (k.threads.known t)).prio
+
+  abbrev pub owed_to : Control P S H → ℕ → Answer
+  owed_to k t = owed_in (k.threads.progress t)
+
+  abbrev pub blocked_of : Control P S H → ℕ → Option Blocked
+  blocked_of k t = blocked_in (k.threads.progress t)
+
+  abbrev pub with_threads : (Threads S → Threads S) → transition.Change P S H
+  with_threads g k = record k { threads = g k.threads }
+
+  abbrev pub with_scheduler : (Scheduler → Scheduler) → transition.Change P S H
+  with_scheduler g k = record k { scheduler = g k.scheduler }
 
   -- one field of t's record is set
-  unfoldable pub with_change : ℕ → Change → State P S H
-  with_change t c = with_threads (record s.rest.threads { known = put s.rest.threads.known t (option_map (changed c) (s.rest.threads.known t)) })
+  unfoldable pub sets : ℕ → Change → transition.Change P S H
+  sets t c = with_threads (λ x. record x { known = put x.known t (option_map (changed c) (x.known t)) })
 
   -- t goes on otherwise
-  unfoldable pub with_going : ℕ → (Continuation S → Continuation S) → State P S H
-  with_going t g = with_threads (record s.rest.threads { going = put s.rest.threads.going t (option_map g (s.rest.threads.going t)) })
+  unfoldable pub goes_on : ℕ → (Progress S → Progress S) → transition.Change P S H
+  goes_on t g = with_threads (λ x. record x { progress = put x.progress t (option_map g (x.progress t)) })
 
-  -- t enters a queue at a rank
-  unfoldable pub with_entry : ℕ → Queue → ℤ → Bool → State P S H
-  with_entry t q rank top = with_threads (record s.rest.threads {
+  -- an answer is handed over to t in its next step
+  abbrev pub owes : ℕ → Answer → transition.Change P S H
+  owes t a = goes_on t (owing a)
+
+  -- a call blocks t, or none does any longer
+  abbrev pub is_blocked_by : ℕ → Option Blocked → transition.Change P S H
+  is_blocked_by t b = goes_on t (blocking b)
+
+  -- t enters a queue at a rank, with the next number of an entry
+  unfoldable pub enters : ℕ → Queue → ℤ → Bool → transition.Change P S H
+  enters t q rank top = with_threads (λ x. record x {
     standing = λ p. if is_queue p q
-        then record { tid = t; rank = rank; since = raises_of s.rest.threads.raises q; entry = s.rest.threads.entries; top = top } ∷ s.rest.threads.standing p
-        else s.rest.threads.standing p;
-    entries = s.rest.threads.entries + 1;
+        then record { tid = t; rank = rank; since = raises_of x.raises q; entry = x.entries; top = top } ∷ x.standing p
+        else x.standing p;
+    entries = x.entries + 1;
   })
 
   -- t leaves its queue, if it stands in one
-  unfoldable pub without_entry : ℕ → State P S H
-  without_entry t = with_threads (record s.rest.threads { standing = λ q. left_by t (s.rest.threads.standing q) })
+  unfoldable pub leaves_queue : ℕ → transition.Change P S H
+  leaves_queue t = with_threads (λ x. record x { standing = λ q. left_by t (x.standing q) })
 
   -- the ready queue is raised: every rank in it is one more
-  unfoldable pub raised : State P S H
-  raised = with_threads (record s.rest.threads { raises = s.rest.threads.raises + 1 })
+  unfoldable pub raises_ready : transition.Change P S H
+  raises_ready = with_threads (λ x. record x { raises = x.raises + 1 })
 
   -- a thread that is new, with its body's first state
-  unfoldable pub with_thread : (P → Functions S H) → ℕ → ℤ → NewThread → State P S H
-  with_thread f body arg of = with_threads (record s.rest.threads {
-    made = s.rest.threads.made + 1;
-    known = put s.rest.threads.known (s.rest.threads.made + 1) (Some (made_of of (s.rest.threads.made + 1)));
-    going = put s.rest.threads.going (s.rest.threads.made + 1) (Some (record { state = (f s.rest.program).start body arg; owed = answer.None; held = None }));
-  })
+  unfoldable pub makes : (P → Functions S H) → ℕ → ℤ → NewThread → transition.Change P S H
+  makes f body arg of k = with_threads (λ x. record x {
+    made = x.made + 1;
+    known = put x.known (x.made + 1) (Some (made_of of (x.made + 1)));
+    progress = put x.progress (x.made + 1) (Some (record { state = (f k.program).start body arg; owed = answer.None; blocked = None }));
+  }) k
 
   -- t is in the system no longer, once it stands in no queue
-  unfoldable pub without_thread : ℕ → State P S H
-  without_thread t = with_threads (record s.rest.threads { known = put s.rest.threads.known t None; going = put s.rest.threads.going t None })
+  unfoldable pub forgets : ℕ → transition.Change P S H
+  forgets t = with_threads (λ x. record x { known = put x.known t None; progress = put x.progress t None })
 
-  abbrev pub running_is : Option ℕ → State P S H
-  running_is t = with_scheduler (record s.rest.scheduler { running = t })
+  -- t leaves its queue, and the system
+  abbrev pub removes : ℕ → transition.Change P S H
+  removes t = transition.◌and◌ (leaves_queue t) (forgets t)
 
-  abbrev pub naming : Option ℕ → State P S H
-  naming t = with_scheduler (record s.rest.scheduler { named = t })
+  abbrev pub runs_now : Option ℕ → transition.Change P S H
+  runs_now t = with_scheduler (λ x. record x { running = t })
 
-abbrev pub with_owed : {S : Type 0} → Answer → Continuation S → Continuation S
-with_owed a c = record c { owed = a }
+  abbrev pub prefers : Option ℕ → transition.Change P S H
+  prefers t = with_scheduler (λ x. record x { preferred = t })
 
-abbrev pub with_held : {S : Type 0} → Option Held → Continuation S → Continuation S
-with_held h c = record c { held = h }
-
--- the answer that is not yet handed over to t, and the call that suspends it
-abbrev pub owed_by : {S : Type 0} → Option (Continuation S) → Answer
-owed_by None = answer.None
-owed_by (Some c) = c.owed
-
-abbrev pub held_by : {S : Type 0} → Option (Continuation S) → Option Held
-held_by None = None
-held_by (Some c) = c.held
-
--- a call of the program, with the state after its step
-pub record Called (P S H : Type 0) : Type 0 where
-  pub call : Call
-  pub state : State P S H
-
-module _ {P S H : Type 0} where
-  abbrev pub owed_to : State P S H → ℕ → Answer
-  owed_to s t = owed_by (s.rest.threads.going t)
-
-  abbrev pub held_of : State P S H → ℕ → Option Held
-  held_of s t = held_by (s.rest.threads.going t)
-
-  abbrev pub called_by : State P S H → ℕ → Continuation S → Stepped S H → Called P S H
-  called_by s t c x = record {
-    call = x.call;
-    state = record s { rest = record s.rest { shared = x.shared; threads = record s.rest.threads { going = put s.rest.threads.going t (Some (record c { state = x.state })) } } };
-  }
-
-  abbrev pub called_from : (P → Functions S H) → State P S H → ℕ → Answer → Option (Continuation S) → Called P S H
-  called_from f s t a None = record { call = call.Plain; state = s }
-  called_from f s t a (Some c) = called_by s t c ((f s.rest.program).step c.state s.rest.shared a)
-
-  -- the program's step for thread t, which takes an answer and gives the next call
-  unfoldable pub called : (P → Functions S H) → State P S H → ℕ → Answer → Called P S H
-  called f s t a = called_from f s t a (s.rest.threads.going t)
+  -- time moves to a moment
+  abbrev pub moves_to : ℕ → transition.Change P S H
+  moves_to m = with_scheduler (λ x. record x { now = m })

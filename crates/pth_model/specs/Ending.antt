@@ -1,14 +1,12 @@
--- How a thread ends (pth_exit, and the end of its body).
+-- How a thread ends (pth_exit, and the end of its body), in parts.
 use Rattle.std.specs.Prelude.{ℕ, ◌==◌, ℤ, pos, false, Option, Some, None, if◌then◌else◌}
+use Rattle.pth_base.specs.Program.{Functions}
 use Rattle.pth_base.specs.declared.mark.Mark.TheVariants.{Ended}
 use Rattle.pth_base.specs.declared.thread.ThreadState.TheVariants as state
 use Rattle.pth_queue.specs.declared.queue.Queue.TheVariants as queue
-use Rattle.pth_threads.specs.declared.entry.Entry.{Entry}
 use Rattle.pth_threads.specs.declared.entry.Change.TheVariants as change
-use Rattle.pth_model.specs.Core.{core_ended}
-use Rattle.pth_model.specs.State.{State}
-use Rattle.pth_model.specs.Changes.{with_change, with_going, with_entry, without_entry, without_thread, with_held, running_is}
-use Rattle.pth_model.specs.Told.{Told, tells, tid}
+use Rattle.pth_model.specs.Transition.{Piece, Change, changes, tells, tid, ◌and◌, ◌and_then◌}
+use Rattle.pth_model.specs.Changes.{sets, is_blocked_by, enters, leaves_queue, removes, runs_now, entry_of, or_nobody}
 
 -- the thread that runs, unless it is t
 abbrev pub other_than : ℕ → Option ℕ → Option ℕ
@@ -16,33 +14,29 @@ other_than t None = None
 other_than t (Some u) = if u == t then None else Some u
 
 module _ {P S H : Type 0} where
-  -- the thread is dead, and keeps its value until it is joined
-  unfoldable pub dead : State P S H → ℕ → ℤ → State P S H
-  dead s t value =
-      let a = with_change (with_change (with_change (without_entry s t) t (change.State state.Dead)) t (change.Suspended false)) t (change.Value value) in
-      with_entry a t queue.Dead (pos 0) false
-
-  -- the thread is gone
-  unfoldable pub gone : State P S H → ℕ → State P S H
-  gone s t = without_thread (without_entry s t) t
-
-  abbrev pub gone_by : State P S H → ℕ → ℤ → Option Entry → State P S H
-  gone_by s t value None = s
-  gone_by s t value (Some e) = if e.joinable then dead s t value else gone s t
-
   -- its wait is undone
-  abbrev pub unheld : State P S H → ℕ → State P S H
-  unheld s t = with_going s t (with_held None)
+  abbrev pub undoes_wait : ℕ → Piece P S H
+  undoes_wait t = changes (is_blocked_by t None)
 
-  abbrev pub ended_core : State P S H → ℕ → State P S H
-  ended_core s t = record s { core = core_ended t s.core }
+  -- a joinable thread is dead, and keeps its value until it is joined
+  unfoldable pub is_dead_with : ℕ → ℤ → Change P S H
+  is_dead_with t v =
+      leaves_queue t
+      and sets t (change.State state.Dead)
+      and sets t (change.Suspended false)
+      and sets t (change.Value v)
+      and enters t queue.Dead (pos 0) false
 
-  -- t runs no longer
-  abbrev pub stopping : State P S H → ℕ → State P S H
-  stopping s t = running_is s (other_than t s.rest.scheduler.running)
+  abbrev pub stops_running : ℕ → Change P S H
+  stops_running t k = runs_now (other_than t k.scheduler.running) k
 
-  -- the thread ends with a value: its wait is undone, and a joinable one is dead while another is gone
-  unfoldable pub ending : State P S H → ℕ → ℤ → Told P S H
-  ending s t value =
-      let a = unheld s t in
-      tells (Ended (tid t) value) (stopping (ended_core (gone_by a t value (a.rest.threads.known t)) t) t)
+  -- another one is gone
+  unfoldable pub leaves : ℕ → ℤ → Change P S H
+  leaves t v k = ((if (or_nobody (entry_of k t)).joinable then is_dead_with t v else removes t) and stops_running t) k
+
+  abbrev pub dies : ℕ → ℤ → Piece P S H
+  dies t v = changes (leaves t v) and_then tells (Ended (tid t) v)
+
+  -- a thread ends with a value
+  unfoldable pub ending : (P → Functions S H) → ℕ → ℤ → Piece P S H
+  ending f t v = undoes_wait t and_then dies t v

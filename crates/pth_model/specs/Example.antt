@@ -6,7 +6,7 @@ use Rattle.pth_base.specs.declared.call.Call.{Call}
 use Rattle.pth_base.specs.declared.call.Call.TheVariants.{Spawn, Yield, Exit}
 use Rattle.pth_base.specs.declared.mark.Mark.{Mark}
 use Rattle.pth_base.specs.declared.mark.Mark.TheVariants.{Dispatch, Answered, Ended}
-use Rattle.pth_model.specs.Told.{tid}
+use Rattle.pth_model.specs.Transition.{tid}
 
 -- where a thread stands: its body, and how many lines it has gone
 pub record Place : Type 0 where

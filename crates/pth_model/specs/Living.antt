@@ -21,4 +21,4 @@ live_of known (suc n) = live_of known n ++ if_live (suc n) (known (suc n))
 
 -- the numbers of the threads that are not dead, rising
 abbrev pub live : {P S H : Type 0} → State P S H → List ℕ
-live s = live_of s.rest.threads.known s.rest.threads.made
+live s = live_of s.control.threads.known s.control.threads.made

@@ -1,12 +1,13 @@
 -- The order of a queue, told by ranks and entries: not by how one standing is put behind another.
 use Rattle.std.specs.Prelude.{◌≡◌, ℕ, ◌+◌, ◌<◌, ◌≤◌, ◌==◌, true, ◌<ℤ◌, ◌⊎◌, ◌↔◌, List, map, All, AllPairs, Contains, count_by}
 use Rattle.std.specs.List.Sorted.{IsPermutation}
-use Rattle.pth_queue.specs.declared.row.Row.{Row}
+use Rattle.pth_queue.specs.declared.ranked.Ranked.{Ranked}
 use Rattle.pth_queue.specs.declared.queue.Queue.{Queue}
 use Rattle.pth_queue.specs.declared.queue.Queue.TheVariants.{New, Ready, Waiting, Suspended, Dead}
 use Rattle.pth_model.specs.Standing.{Standing, rank_now, row_at, raises_of}
-use Rattle.pth_model.specs.State.{State, queue}
-use Rattle.pth_model.specs.Pass.{who_in}
+use Rattle.pth_model.specs.State.{Control, queue}
+use Rattle.pth_model.specs.Changes.{holders}
+use Rattle.pth_model.specs.Course.{Course}
 use Rattle.pth_model.specs.Part.{Take, next_part}
 
 -- x has a greater rank than y, after so many raises
@@ -18,7 +19,7 @@ abbrev pub StandsBefore : ℕ → Standing → Standing → Type 0
 StandsBefore raises x y = IsAbove raises x y ⊎ ((rank_now raises x ≡ rank_now raises y) × (x.entry < y.entry))
 
 -- these rows are those of all the standings, each of them once and in order
-pub record IsOrderOf (raises : ℕ) (all : List Standing) (rows : List Row) : Type 0 where
+pub record IsOrderOf (raises : ℕ) (all : List Standing) (rows : List Ranked) : Type 0 where
   -- whose rows they are
   pub places : List Standing
   pub shows : rows ≡ map (row_at raises) places
@@ -42,33 +43,34 @@ stands t all = count_by (λ x. x.tid == t) all
 abbrev pub times : ℕ → (Queue → List Standing) → ℕ
 times t all = stands t (all New) + stands t (all Ready) + stands t (all Waiting) + stands t (all Suspended) + stands t (all Dead)
 
-module _ {P S H : Type 0} (s : State P S H) where
+module _ {P S H : Type 0} (k : Control P S H) where
   -- no thread stands in two places
   abbrev pub IsOnce : Type 0
-  IsOnce = (t : ℕ) → times t s.rest.threads.standing ≤ 1
+  IsOnce = (t : ℕ) → times t k.threads.standing ≤ 1
 
-  -- a queue of the state shows who stands in it, in order
+  -- a queue shows who stands in it, in order
   abbrev pub IsInOrder : Queue → Type 0
-  IsInOrder q = IsOrderOf (raises_of s.rest.threads.raises q) (s.rest.threads.standing q) (queue s q)
+  IsInOrder q = IsOrderOf (raises_of k.threads.raises q) (k.threads.standing q) (queue k q)
 
-  -- the entries into a queue of the state are numbered as they came
+  -- the entries into a queue are numbered as they came
   abbrev pub AreEntriesNumbered : Queue → Type 0
-  AreEntriesNumbered q = IsNumbered s.rest.threads.entries (s.rest.threads.standing q)
+  AreEntriesNumbered q = IsNumbered k.threads.entries (k.threads.standing q)
 
-  -- two queues of the state have no number of an entry in common
+  -- two queues have no number of an entry in common
   abbrev pub ShareNoEntry : (p q : Queue) → Type 0
-  ShareNoEntry p q = (x y : Standing) → Contains (s.rest.threads.standing p) x → Contains (s.rest.threads.standing q) y → x.entry ≡ y.entry → p ≡ q
+  ShareNoEntry p q = (x y : Standing) → Contains (k.threads.standing p) x → Contains (k.threads.standing q) y → x.entry ≡ y.entry → p ≡ q
 
-  -- a new thread that entered a queue of the state at Top stands before all that were there
+  -- a new thread that entered a queue at Top stands before all that were there
   abbrev pub IsTopAhead : Queue → Type 0
-  IsTopAhead q = IsTopped (raises_of s.rest.threads.raises q) (s.rest.threads.standing q)
+  IsTopAhead q = IsTopped (raises_of k.threads.raises q) (k.threads.standing q)
 
+module _ {P S H : Type 0} (c : Course P S H) where
   -- in the next part t becomes ready as a new thread, and new threads are favoured
   pub record IsFavoured (t : ℕ) : Type 0 where
-    pub taken : next_part s ≡ Take
-    pub new : Contains (who_in (queue s New)) t
-    pub favoured : s.rest.scheduler.favour_new ≡ true
+    pub taken : next_part c.state c.turn ≡ Take
+    pub new : Contains (holders (queue c.state.control New)) t
+    pub favoured : c.state.control.scheduler.favour_new ≡ true
 
   -- who is in a queue after the next part, and entered it in that part, entered at Top exactly as a new thread that is favoured
-  abbrev pub AreTopsFavoured : State P S H → Queue → Type 0
-  AreTopsFavoured after q = (x : Standing) → Contains (after.rest.threads.standing q) x → s.rest.threads.entries ≤ x.entry → (x.top ≡ true ↔ IsFavoured x.tid)
+  abbrev pub AreTopsFavoured : Control P S H → Queue → Type 0
+  AreTopsFavoured after q = (x : Standing) → Contains (after.threads.standing q) x → c.state.control.threads.entries ≤ x.entry → (x.top ≡ true ↔ IsFavoured x.tid)

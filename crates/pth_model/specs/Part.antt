@@ -1,45 +1,28 @@
 -- One part of a run: time moves, a thread is taken, it makes a step, or its turn is closed.
 use Rattle.std.specs.Prelude.{ℕ, ◌+◌, ◌==◌, ◌&&◌, min, ℤ, pos, Bool, true, false, List, [], ◌∷◌, reverse, Option, Some, None, if◌then◌else◌}
 use Rattle.pth_base.specs.Limits.{last_moment, last_count}
-use Rattle.pth_base.specs.Program.{Functions}
-use Rattle.pth_base.specs.declared.answer.Answer.{Answer}
+use Rattle.pth_base.specs.Program.{Functions, Stepped}
 use Rattle.pth_base.specs.declared.answer.Answer.TheVariants as answer
 use Rattle.pth_base.specs.declared.mark.Mark.TheVariants.{Dispatch, Moved}
 use Rattle.pth_base.specs.declared.outcome.Outcome.{Outcome}
 use Rattle.pth_base.specs.declared.outcome.Outcome.TheVariants as outcome
 use Rattle.pth_base.specs.declared.thread.ThreadState.TheVariants as state
-use Rattle.pth_queue.specs.Rows.{head_of, favour_top, place_in}
-use Rattle.pth_queue.specs.declared.row.Row.{Row}
+use Rattle.pth_queue.specs.Ranking.{head_of, favour_top, place_in}
+use Rattle.pth_queue.specs.declared.ranked.Ranked.{Ranked}
 use Rattle.pth_queue.specs.declared.queue.Queue.TheVariants as queue
-use Rattle.pth_threads.specs.declared.entry.Entry.{Entry}
 use Rattle.pth_threads.specs.declared.entry.Change.TheVariants as change
-use Rattle.pth_model.specs.declared.held.Held.{Held}
+use Rattle.pth_model.specs.declared.blocked.Blocked.{Blocked}
+use Rattle.pth_model.specs.declared.progress.Progress.{Progress}
 use Rattle.pth_model.specs.declared.next.Next.{Next}
 use Rattle.pth_model.specs.declared.next.Next.TheVariants as next
-use Rattle.pth_model.specs.State.{State, queue, main}
-use Rattle.pth_model.specs.Changes.{with_change, with_going, with_entry, without_entry, with_owed, with_scheduler, raised, running_is, naming, owed_to, held_of, called}
-use Rattle.pth_model.specs.Told.{Told, Went, still, tells, followed, tid}
-use Rattle.pth_model.specs.Waits.{begun, resumed}
-use Rattle.pth_model.specs.Pass.{pass, moment, prio_of, readied, who_in}
+use Rattle.pth_model.specs.State.{State, Control, Turn, queue, main}
+use Rattle.pth_model.specs.Transition.{Piece, Change, Last, Went, silent, nothing, controlled, changes, tells, tid, ◌and◌, ◌and_then◌, ◌and_finally◌}
+use Rattle.pth_model.specs.Changes.{sets, goes_on, owes, enters, leaves_queue, raises_ready, runs_now, prefers, moves_to, entry_of, prio_of, blocked_of, or_nobody, holders, is_empty}
+use Rattle.pth_model.specs.Calls.{begun, resumed}
+use Rattle.pth_model.specs.Pass.{pass, moment, is_ready_at}
+use Rattle.pth_model.specs.Course.{Course, within}
 
-abbrev pub dispatches_by : Option Entry → ℕ
-dispatches_by (Some e) = e.dispatches
-dispatches_by None = 0
-
-abbrev pub rank_by : Option (ℤ × ℕ) → ℤ
-rank_by (Some p) = p.0
-rank_by None = pos 0
-
-abbrev pub is_empty : List Row → Bool
-is_empty [] = true
-is_empty (x ∷ xs) = false
-
--- the thread that the last yield named, else the head of the ready queue
-abbrev pub next_by : Option ℕ → List Row → Option ℕ
-next_by (Some t) rows = Some t
-next_by None rows = head_of rows
-
--- the part that comes next, by the state alone
+-- the part that comes next, by the state and its turn alone
 pub data Part : Type 0 where
   Move : Part
   Take : Part
@@ -59,135 +42,167 @@ abbrev pub unless_ended : Outcome → Part → Part
 unless_ended outcome.Running p = p
 unless_ended o p = Halt
 
+-- the thread that the last yield named, else the head of the ready queue
+abbrev pub chosen : Option ℕ → List Ranked → Option ℕ
+chosen (Some t) rows = Some t
+chosen None rows = head_of rows
+
+abbrev pub rank_by : Option (ℤ × ℕ) → ℤ
+rank_by (Some p) = p.0
+rank_by None = pos 0
+
+-- what a step leaves of its turn, by what came next for thread t
+
+-- t gave up control
+abbrev pub gives_up : ℕ → Turn → Turn
+gives_up t x = record x { gave = Some t }
+
+-- the run ends with main
+abbrev pub ends_run : ℤ → Bool → Turn → Turn
+ends_run v true x = record x { outcome = outcome.Ended v }
+ends_run v false x = x
+
+abbrev pub turn_after : ℕ → Next → Turn → Turn
+turn_after t (next.Done a) x = x
+turn_after t (next.Yields a) x = gives_up t x
+turn_after t next.Waits x = gives_up t x
+turn_after t (next.Ended v) x = gives_up t (ends_run v (t == main) x)
+turn_after t next.Killed x = record x { outcome = outcome.Killed }
+
 module _ {P S H : Type 0} where
-  -- time moves to a moment
-  abbrev pub at_moment : State P S H → ℕ → State P S H
-  at_moment s m = with_scheduler s (record s.rest.scheduler { now = m })
-
-  abbrev pub with_outcome : State P S H → Outcome → State P S H
-  with_outcome s o = with_scheduler s (record s.rest.scheduler { outcome = o })
-
-  -- Move: while nothing is new or ready, time moves to the next moment, and a pass is made; without one the run is stalled
-
-  abbrev pub moved_by : State P S H → Option ℕ → Told P S H
-  moved_by s None = still (with_outcome s outcome.Stalled)
-  moved_by s (Some m) = followed (tells (Moved m) (at_moment s m)) (pass (at_moment s m))
-
-  unfoldable pub moved : State P S H → Told P S H
-  moved s = moved_by s (moment s)
-
   -- Take: the new threads become ready, the last of them first; then one is dispatched
 
   -- at Top, one above the head of the ready queue, where new threads are favoured, and at rank 0 where they are not
-  abbrev pub new_rank : State P S H → ℤ
-  new_rank s = if s.rest.scheduler.favour_new then favour_top (queue s queue.Ready) else pos 0
+  abbrev pub new_rank : Control P S H → ℤ
+  new_rank k = if k.scheduler.favour_new then favour_top (queue k queue.Ready) else pos 0
 
-  unfoldable pub new_readied : State P S H → ℕ → State P S H
-  new_readied s t = readied s t (new_rank s) s.rest.scheduler.favour_new
+  unfoldable pub readies : ℕ → Change P S H
+  readies t k = is_ready_at t (new_rank k) k.scheduler.favour_new k
 
-  unfoldable pub all_readied : List ℕ → State P S H → State P S H
-  all_readied [] s = s
-  all_readied (t ∷ ts) s = all_readied ts (new_readied s t)
+  unfoldable pub readies_all : List ℕ → Change P S H
+  readies_all [] k = k
+  readies_all (t ∷ ts) k = readies_all ts (readies t k)
+
+  abbrev pub readies_new : Change P S H
+  readies_new k = readies_all (reverse (holders (queue k queue.New))) k
 
   -- t runs: it stands nowhere, its dispatches are one more, and nobody is named
-  unfoldable pub runs : State P S H → ℕ → State P S H
-  runs s t =
-      let a = with_change (without_entry s t) t (change.State state.Running) in
-      let b = with_change a t (change.Dispatches (min (dispatches_by (s.rest.threads.known t) + 1) last_count)) in
-      naming (running_is b (Some t)) None
+  unfoldable pub runs : ℕ → Change P S H
+  runs t k =
+      let n = (or_nobody (entry_of k t)).dispatches in
+      (leaves_queue t
+      and sets t (change.State state.Running)
+      and sets t (change.Dispatches (min (n + 1) last_count))
+      and runs_now (Some t)
+      and prefers None) k
 
-  abbrev pub turned : State P S H → State P S H
-  turned s = with_scheduler s (record s.rest.scheduler { turns = s.rest.scheduler.turns + 1 })
+  -- the dispatch in the turn of a number
+  unfoldable pub dispatches : (turn : ℕ) → ℕ → Piece P S H
+  dispatches turn t s =
+      (changes (runs t)
+      and_then tells (Dispatch turn s.control.scheduler.now (tid t) (rank_by (place_in t (queue s.control queue.Ready))) 0 0)) s
 
-  unfoldable pub dispatched : State P S H → ℕ → Told P S H
-  dispatched s t =
-      tells (Dispatch (s.rest.scheduler.turns + 1) s.rest.scheduler.now (tid t) (rank_by (place_in t (queue s queue.Ready))) 0 0)
-      (turned (runs s t))
+  abbrev pub takes_by : Turn → Option ℕ → State P S H → Course P S H
+  takes_by x None s = within x (silent s)
+  takes_by x (Some t) s = within (record x { turns = x.turns + 1 }) (dispatches (x.turns + 1) t s)
 
-  abbrev pub dispatched_by : State P S H → Option ℕ → Told P S H
-  dispatched_by s None = still s
-  dispatched_by s (Some t) = dispatched s t
+  abbrev pub takes_next : Turn → State P S H → Course P S H
+  takes_next x s = takes_by x (chosen s.control.scheduler.preferred (queue s.control queue.Ready)) s
 
-  unfoldable pub taken : State P S H → Told P S H
-  taken s =
-      let a = all_readied (reverse (who_in (queue s queue.New))) s in
-      dispatched_by a (next_by a.rest.scheduler.named (queue a queue.Ready))
+  unfoldable pub takes : Turn → State P S H → Course P S H
+  takes x s = takes_next x (controlled readies_new s)
 
-  -- Step: a suspended call is tried again, or the program's next call begins
+  -- Step: a blocked call is tried again, or the program's next call begins
 
-  abbrev pub owing : State P S H → ℕ → Answer → State P S H
-  owing s t a = with_going s t (with_owed a)
+  -- t is handed over what it is owed
+  abbrev pub owes_after : ℕ → Next → Change P S H
+  owes_after t (next.Done a) = owes t a
+  owes_after t (next.Yields a) = owes t a
+  owes_after t next.Waits = nothing
+  owes_after t (next.Ended v) = nothing
+  owes_after t next.Killed = nothing
 
-  -- t gave up control
-  abbrev pub giving : State P S H → ℕ → State P S H
-  giving s t = with_scheduler s (record s.rest.scheduler { gave = Some t })
+  abbrev pub settled : Turn → ℕ → Went P S H → Course P S H
+  settled x t w = record { state = controlled (owes_after t w.next) w.told.state; turn = turn_after t w.next x; marks = w.told.marks }
 
-  -- the run ends with main
-  abbrev pub ended_by : State P S H → ℤ → Bool → State P S H
-  ended_by s v true = with_outcome s (outcome.Ended v)
-  ended_by s v false = s
-
-  abbrev pub settled : State P S H → ℕ → Next → State P S H
-  settled s t (next.Done a) = owing s t a
-  settled s t (next.Yields a) = giving (owing s t a) t
-  settled s t next.Waits = giving s t
-  settled s t (next.Ended v) = giving (ended_by s v (t == main)) t
-  settled s t next.Killed = with_outcome s outcome.Killed
-
-  abbrev pub settles : ℕ → Went P S H → Told P S H
-  settles t w = record { state = settled w.told.state t w.next; marks = w.told.marks }
-
-  abbrev pub went_by : (P → Functions S H) → State P S H → ℕ → Option Held → Went P S H
-  went_by f s t (Some h) = resumed s t
-  went_by f s t None =
-      let x = called f (owing s t answer.None) t (owed_to s t) in
-      begun f x.state t x.call
-
-  abbrev pub counted : State P S H → State P S H
-  counted s = with_scheduler s (record s.rest.scheduler { steps = s.rest.scheduler.steps + 1 })
-
-  unfoldable pub stepped : (P → Functions S H) → State P S H → ℕ → Told P S H
-  stepped f s t = settles t (went_by f (counted s) t (held_of s t))
+  -- the program's step leaves this
+  abbrev pub stepping : ℕ → Stepped S H → Change P S H
+  stepping t x k = goes_on t (λ p. record p { state = x.state; owed = answer.None }) (record k { shared = x.shared })
 
   -- Close: the ready threads rise, the one that gave up control is put back, time goes on, and a pass is made
 
-  unfoldable pub put_back : State P S H → ℕ → State P S H
-  put_back s t = with_entry (with_change s t (change.State state.Ready)) t queue.Ready (prio_of s t) false
+  unfoldable pub is_put_back : ℕ → Change P S H
+  is_put_back t k = (sets t (change.State state.Ready) and enters t queue.Ready (prio_of k t) false) k
 
-  unfoldable pub put_waiting : State P S H → ℕ → State P S H
-  put_waiting s t = with_entry (with_change s t (change.State state.Waiting)) t queue.Waiting (prio_of s t) false
+  unfoldable pub is_put_waiting : ℕ → Change P S H
+  is_put_waiting t k = (sets t (change.State state.Waiting) and enters t queue.Waiting (prio_of k t) false) k
 
-  -- one that has ended is not put back; else by: does a call suspend it
-  abbrev pub placed_by : State P S H → ℕ → Option ℕ → Option Held → State P S H
-  placed_by s t None h = s
-  placed_by s t (Some r) (Some h) = put_waiting s t
-  placed_by s t (Some r) None = put_back s t
+  -- one that has ended is not put back; else by: does a call block it
+  abbrev pub placed_by : ℕ → Option ℕ → Option Blocked → Change P S H
+  placed_by t None b = nothing
+  placed_by t (Some r) (Some b) = is_put_waiting t
+  placed_by t (Some r) None = is_put_back t
 
   -- the thread that gave up control is put back, unless it has ended
-  unfoldable pub placed : State P S H → ℕ → State P S H
-  placed s t = running_is (placed_by s t s.rest.scheduler.running (held_of s t)) None
+  unfoldable pub is_placed : ℕ → Change P S H
+  is_placed t k = runs_now None (placed_by t k.scheduler.running (blocked_of k t) k)
 
-  -- the turn is over, and time goes on
-  abbrev pub closing : State P S H → State P S H
-  closing s = with_scheduler s (record s.rest.scheduler { gave = None; now = min (s.rest.scheduler.now + s.rest.scheduler.clock) last_moment })
+  -- time goes on by what a turn takes
+  abbrev pub time_passes : Change P S H
+  time_passes k = moves_to (min (k.scheduler.now + k.scheduler.clock) last_moment) k
 
-  unfoldable pub closed : State P S H → ℕ → Told P S H
-  closed s t = pass (closing (placed (raised s) t))
+  abbrev pub turn_ends : ℕ → Change P S H
+  turn_ends t = raises_ready and is_placed t and time_passes
 
   -- nothing is new or ready; a suspended thread stands in no queue of its state
-  abbrev pub is_idle : State P S H → Bool
-  is_idle s = is_empty (queue s queue.New) && is_empty (queue s queue.Ready)
+  abbrev pub is_idle : Control P S H → Bool
+  is_idle k = is_empty (queue k queue.New) && is_empty (queue k queue.Ready)
 
-  unfoldable pub next_part : State P S H → Part
-  next_part s = unless_ended s.rest.scheduler.outcome (next_part_by s.rest.scheduler.gave s.rest.scheduler.running (is_idle s))
+  unfoldable pub next_part : State P S H → Turn → Part
+  next_part s x = unless_ended x.outcome (next_part_by x.gave s.control.scheduler.running (is_idle s.control))
 
-  abbrev pub part_by : (P → Functions S H) → State P S H → Part → Told P S H
-  part_by f s Move = moved s
-  part_by f s Take = taken s
-  part_by f s (Step t) = stepped f s t
-  part_by f s (Close t) = closed s t
-  part_by f s Halt = still s
+module _ {P S H : Type 0} (f : P → Functions S H) where
+  -- Move: while nothing is new or ready, time moves to the next moment, and a pass is made; without one the run is stalled
+
+  abbrev pub moves_by : Turn → Option ℕ → State P S H → Course P S H
+  moves_by x None s = within (record x { outcome = outcome.Stalled }) (silent s)
+  moves_by x (Some m) s = within x ((changes (moves_to m) and_then tells (Moved m) and_then pass f) s)
+
+  unfoldable pub moves : Turn → State P S H → Course P S H
+  moves x s = moves_by x (moment f s) s
+
+  -- the program's step takes the answer that is owed, and gives the next call
+  abbrev pub step_of : Control P S H → Progress S → Stepped S H
+  step_of k p = (f k.program).step p.state k.shared p.owed
+
+  abbrev pub steps_with : ℕ → Stepped S H → Last P S H
+  steps_with t x = changes (stepping t x) and_finally begun f t x.call
+
+  abbrev pub steps_from : ℕ → Progress S → Last P S H
+  steps_from t p s = steps_with t (step_of s.control p) s
+
+  -- by: what of t is blocked, and how far it is
+  abbrev pub steps_by : ℕ → Option Blocked → Option (Progress S) → Last P S H
+  steps_by t (Some b) p = resumed f t
+  steps_by t None (Some p) = steps_from t p
+  steps_by t None None = resumed f t
+
+  abbrev pub steps_on : ℕ → Last P S H
+  steps_on t s = steps_by t (blocked_of s.control t) (s.control.threads.progress t) s
+
+  unfoldable pub steps : Turn → ℕ → State P S H → Course P S H
+  steps x t s = settled (record x { steps = x.steps + 1 }) t (steps_on t s)
+
+  unfoldable pub closes : Turn → ℕ → State P S H → Course P S H
+  closes x t s = within (record x { gave = None }) ((changes (turn_ends t) and_then pass f) s)
+
+  abbrev pub part_by : Turn → State P S H → Part → Course P S H
+  part_by x s Move = moves x s
+  part_by x s Take = takes x s
+  part_by x s (Step t) = steps x t s
+  part_by x s (Close t) = closes x t s
+  part_by x s Halt = within x (silent s)
 
   -- one part of a run
-  unfoldable pub part : (P → Functions S H) → State P S H → Told P S H
-  part f s = part_by f s (next_part s)
+  unfoldable pub part : Turn → State P S H → Course P S H
+  part x s = part_by x s (next_part s x)

@@ -1,6 +1,16 @@
--- What the laws of transcripts read of a state: cleanups, keys, mutexes, locks, ports, and how each thread stands.
-use Rattle.std.specs.Prelude.{ℕ, ℤ, pos, Bool, true, false, List, [], Option, None}
+-- What threads have, as laws of transcripts read it: cleanups, key values, mutexes, locks and messages. Marks alone change
+-- it: `told` says for every mark what becomes of it, also for the answers of calls that are not built yet.
+use Rattle.std.specs.Prelude.{ℕ, zero, suc, ◌+◌, ◌==◌, ◌&&◌, ◌||◌, not, ℤ, pos, Bool, true, false, List, [], ◌∷◌, ◌++◌, filter, find, Option, Some, None, is_some, if◌then◌else◌}
 use Rattle.pth_base.specs.Table.{put}
+use Rattle.pth_base.specs.declared.act.Act.{Act}
+use Rattle.pth_base.specs.declared.act.Act.TheVariants as act
+use Rattle.pth_base.specs.declared.answer.Answer.{Answer}
+use Rattle.pth_base.specs.declared.answer.Answer.TheVariants.{Int, Msg}
+use Rattle.pth_base.specs.declared.call.Call.{Call}
+use Rattle.pth_base.specs.declared.call.Call.TheVariants as call
+use Rattle.pth_base.specs.declared.mark.Mark.{Mark}
+use Rattle.pth_base.specs.declared.mark.Mark.TheVariants as mark
+use Rattle.pth_model.specs.Operands.{number, handler_of}
 
 -- a cleanup handler that was pushed (pth_cleanup_push)
 pub record Cleanup : Type 0 where
@@ -16,7 +26,7 @@ pub record Store : Type 0 where
   -- of each key, of each thread
   pub values : ℕ → ℕ → ℤ
 
--- a mutex is free, or a thread has it with so many levels beyond the first (pth_mutex_acquire)
+-- a mutex is free, or a thread has so many levels of it beyond the first (pth_mutex_acquire)
 pub data Hold : Type 0 where
   Free : Hold
   Held : (thread extra : ℕ) → Hold
@@ -33,7 +43,7 @@ pub record Message : Type 0 where
   pub reply : ℕ
 
 -- the message ports (pth_msgport_create)
-pub record Ports : Type 0 where
+pub record Mail : Type 0 where
   -- of each live port, its messages, the oldest first
   pub at : ℕ → Option (List Message)
   -- messages that were got and have a reply port
@@ -41,34 +51,328 @@ pub record Ports : Type 0 where
   -- how many messages were ever put
   pub made : ℕ
 
--- how threads stand towards their ends
-pub record Flags : Type 0 where
-  pub ended : ℕ → Bool
-  -- its cancellation was told
-  pub canceled : ℕ → Bool
-  -- it began to await at a condition, and has not its mutex again
-  pub awaits : ℕ → Bool
-
-pub record Core : Type 0 where
+pub record Resources : Type 0 where
   pub store : Store
   pub holds : ℕ → Hold
   pub locks : ℕ → LockHold
-  pub ports : Ports
-  pub flags : Flags
+  pub mail : Mail
+  -- who waits at a condition, and has not its mutex again (pth_cond_await)
+  pub awaits : ℕ → Bool
 
--- before anything happened
-abbrev pub first_core : Core
-first_core = record {
+-- as a run starts
+abbrev pub no_resources : Resources
+no_resources = record {
   store = record { cleanups = λ t. []; keys = λ k. None; values = λ k t. pos 0 };
   holds = λ m. Free;
   locks = λ l. Readers [];
-  ports = record { at = λ p. None; kept = []; made = 0 };
-  flags = record { ended = λ t. false; canceled = λ t. false; awaits = λ t. false };
+  mail = record { at = λ p. None; kept = []; made = 0 };
+  awaits = λ t. false;
 }
 
--- thread t has ended: no cleanup is left, and it awaits nothing
-abbrev pub core_ended : ℕ → Core → Core
-core_ended t k = record k {
-  store = record k.store { cleanups = put k.store.cleanups t [] };
-  flags = record k.flags { ended = put k.flags.ended t true; awaits = put k.flags.awaits t false };
+-- cleanups and keys
+
+abbrev pub pushed : Store → ℕ → Cleanup → Store
+pushed s t c = record s { cleanups = put s.cleanups t (c ∷ s.cleanups t) }
+
+abbrev pub all_but_first : {A : Type 0} → List A → List A
+all_but_first [] = []
+all_but_first (x ∷ xs) = xs
+
+abbrev pub popped : Store → ℕ → Store
+popped s t = record s { cleanups = put s.cleanups t (all_but_first (s.cleanups t)) }
+
+-- a key has this life from now on, and every thread's value is 0
+abbrev pub with_key : Store → ℕ → Option (Option ℕ) → Store
+with_key s k life = record s { keys = put s.keys k life; values = put s.values k (λ t. pos 0) }
+
+abbrev pub destructor_by : Option ℤ → Option ℕ
+destructor_by None = None
+destructor_by (Some h) = Some (handler_of h)
+
+abbrev pub with_value : Store → ℕ → ℕ → ℤ → Store
+with_value s t k v = record s { values = put s.values k (put (s.values k) t v) }
+
+-- only thread t keeps its cleanups and values; or all but t
+abbrev pub store_of_only : ℕ → Store → Store
+store_of_only t s = record s { cleanups = λ u. if u == t then s.cleanups u else []; values = λ k u. if u == t then s.values k u else pos 0 }
+
+abbrev pub store_without : ℕ → Store → Store
+store_without t s = record s { cleanups = put s.cleanups t []; values = λ k. put (s.values k) t (pos 0) }
+
+-- mutexes
+
+abbrev pub one_more : ℕ → Hold → Hold
+one_more t Free = Held t 0
+one_more t (Held u n) = Held u (n + 1)
+
+abbrev pub one_less : Hold → Hold
+one_less Free = Free
+one_less (Held u zero) = Free
+one_less (Held u (suc n)) = Held u n
+
+abbrev pub levels : ℕ → Hold → ℕ
+levels t Free = 0
+levels t (Held u n) = if u == t then n + 1 else 0
+
+-- free, or thread t has it
+abbrev pub may_have : ℕ → Hold → Bool
+may_have t Free = true
+may_have t (Held u n) = u == t
+
+abbrev pub is_free : Hold → Bool
+is_free Free = true
+is_free (Held u n) = false
+
+abbrev pub hold_of_only : ℕ → Hold → Hold
+hold_of_only t Free = Free
+hold_of_only t (Held u n) = if u == t then Held u n else Free
+
+-- read-write locks
+
+abbrev pub is_among : ℕ → List ℕ → Bool
+is_among t [] = false
+is_among t (u ∷ us) = (u == t) || is_among t us
+
+abbrev pub holds_lock : ℕ → LockHold → Bool
+holds_lock t (Readers ts) = is_among t ts
+holds_lock t (Writer u) = u == t
+
+abbrev pub is_unheld : LockHold → Bool
+is_unheld (Readers []) = true
+is_unheld (Readers (t ∷ ts)) = false
+is_unheld (Writer u) = false
+
+-- to read where nobody writes, to write where nobody holds it
+abbrev pub may_enter : (write : Bool) → LockHold → Bool
+may_enter true h = is_unheld h
+may_enter false (Readers ts) = true
+may_enter false (Writer u) = false
+
+abbrev pub entered : ℕ → (write : Bool) → LockHold → LockHold
+entered t true h = Writer t
+entered t false (Readers ts) = Readers (t ∷ ts)
+entered t false (Writer u) = Writer u
+
+abbrev pub parted : ℕ → LockHold → LockHold
+parted t (Readers ts) = Readers (filter (λ u. not (u == t)) ts)
+parted t (Writer u) = if u == t then Readers [] else Writer u
+
+abbrev pub lock_of_only : ℕ → LockHold → LockHold
+lock_of_only t (Readers ts) = Readers (filter (λ u. u == t) ts)
+lock_of_only t (Writer u) = if u == t then Writer u else Readers []
+
+-- messages
+
+abbrev pub messages_of : Option (List Message) → List Message
+messages_of None = []
+messages_of (Some ms) = ms
+
+abbrev pub is_live : Mail → ℕ → Bool
+is_live q p = is_some (q.at p)
+
+-- m goes last to port p; it ceases where the port is gone
+abbrev pub sent : ℕ → Message → Mail → Mail
+sent p m q = record q { at = if is_live q p then put q.at p (Some (messages_of (q.at p) ++ m ∷ [])) else q.at }
+
+-- a port that is there from now on, unless it was
+abbrev pub with_port : ℕ → Mail → Mail
+with_port p q = if is_live q p then q else record q { at = put q.at p (Some []) }
+
+-- a message is put, with the next number, where there is the port, and the port for the reply
+abbrev pub put_to : ℕ → ℤ → ℕ → Mail → Mail
+put_to p v r q =
+    if is_live q p && ((r == 0) || is_live q r)
+    then sent p (record { number = q.made + 1; value = v; reply = r }) (record q { made = q.made + 1 })
+    else q
+
+-- the oldest message is taken, and kept where it has a reply port
+abbrev pub got : ℕ → List Message → Mail → Mail
+got p [] q = q
+got p (m ∷ ms) q = record q { at = put q.at p (Some ms); kept = if m.reply == 0 then q.kept else m ∷ q.kept }
+
+abbrev pub kept_message : Mail → ℕ → Option Message
+kept_message q n = find (λ m. m.number == n) q.kept
+
+-- m goes back with a value, where its reply port is there
+abbrev pub replied : ℤ → Option Message → Mail → Mail
+replied v None q = q
+replied v (Some m) q =
+    if is_live q m.reply
+    then sent m.reply (record m { value = v; reply = 0 }) (record q { kept = filter (λ x. not (x.number == m.number)) q.kept })
+    else q
+
+-- the messages of a port that is gone go to their reply ports
+abbrev pub sent_back : List Message → Mail → Mail
+sent_back [] q = q
+sent_back (m ∷ ms) q = sent_back ms (sent m.reply (record m { reply = 0 }) q)
+
+abbrev pub closed_port : ℕ → Mail → Mail
+closed_port p q = sent_back (messages_of (q.at p)) (record q { at = put q.at p None })
+
+-- what marks say, by the resource that they change
+
+module _ (k : Resources) where
+  abbrev pub with_store : Store → Resources
+  with_store s = record k { store = s }
+
+  abbrev pub with_mail : Mail → Resources
+  with_mail q = record k { mail = q }
+
+  abbrev pub with_hold : ℕ → Hold → Resources
+  with_hold m h = record k { holds = put k.holds m h }
+
+  abbrev pub with_lock : ℕ → LockHold → Resources
+  with_lock l h = record k { locks = put k.locks l h }
+
+  abbrev pub awaiting : ℕ → Bool → Resources
+  awaiting t b = record k { awaits = put k.awaits t b }
+
+-- t has its mutex again, and awaits no more
+abbrev pub retaken : Resources → ℕ → ℕ → Resources
+retaken k t m = awaiting (with_hold k m (one_more t (k.holds m))) t false
+
+-- t gives a level of its mutex back, and awaits from now on
+abbrev pub let_go : Resources → ℕ → ℕ → Resources
+let_go k t m = awaiting (with_hold k m (one_less (k.holds m))) t true
+
+-- only what thread t has is left (pth_kill)
+abbrev pub of_only : ℕ → Resources → Resources
+of_only t k = record k {
+  store = store_of_only t k.store;
+  holds = λ m. hold_of_only t (k.holds m);
+  locks = λ l. lock_of_only t (k.locks l);
+  awaits = λ u. (u == t) && k.awaits u;
 }
+
+-- an answer with a number, or with a message; every other one changes nothing
+abbrev pub on_int : Answer → Resources → (ℤ → Resources) → Resources
+on_int (Int n) k g = g n
+on_int a k g = k
+
+abbrev pub on_msg : Answer → Resources → Resources → Resources
+on_msg (Msg id v) k g = g
+on_msg a k g = k
+
+-- a call of t is answered
+unfoldable pub answer_told : Resources → ℕ → Call → Answer → Resources
+answer_told k t (call.CleanupPush h v) a = on_int a k (λ n. with_store k (pushed k.store t (record { handler = handler_of h; arg = v })))
+answer_told k t (call.CleanupPop v) a = on_int a k (λ n. with_store k (popped k.store t))
+answer_told k t (call.KeyCreate h) a = on_int a k (λ key. with_store k (with_key k.store (number key) (Some (destructor_by h))))
+answer_told k t (call.KeyDelete key) a = on_int a k (λ n. with_store k (with_key k.store (number key) None))
+answer_told k t (call.KeySet key v) a = on_int a k (λ n. with_store k (with_value k.store t (number key) v))
+answer_told k t (call.MutexAcquire m v e) a = on_int a k (λ n. with_hold k (number m) (one_more t (k.holds (number m))))
+answer_told k t (call.MutexRelease m) a = on_int a k (λ n. with_hold k (number m) (one_less (k.holds (number m))))
+answer_told k t (call.RwAcquire l write v e) a = on_int a k (λ n. with_lock k (number l) (entered t write (k.locks (number l))))
+answer_told k t (call.RwRelease l) a = on_int a k (λ n. with_lock k (number l) (parted t (k.locks (number l))))
+-- whatever the answer is, once it awaits
+answer_told k t (call.CondAwait c m e) a = if k.awaits t then retaken k t (number m) else k
+answer_told k t (call.PortCreate name) a = on_int a k (λ p. with_mail k (with_port (number p) k.mail))
+answer_told k t (call.PortPut p v r) a = on_int a k (λ n. with_mail k (put_to (number p) v (number r) k.mail))
+answer_told k t (call.PortGet p) a = on_msg a k (with_mail k (got (number p) (messages_of (k.mail.at (number p))) k.mail))
+answer_told k t (call.Reply m v) a = on_int a k (λ n. with_mail k (replied v (kept_message k.mail (number m)) k.mail))
+answer_told k t (call.PortDestroy p) a = on_int a k (λ n. with_mail k (closed_port (number p) k.mail))
+answer_told k t call.Kill a = on_int a k (λ n. of_only t k)
+-- these touch no resource by their answers; what their handlers and ends touch is told by marks of its own
+answer_told k t (call.Ctrl x) a = k
+answer_told k t call.AttrNew a = k
+answer_told k t (call.AttrOf x) a = k
+answer_told k t (call.AttrInit x) a = k
+answer_told k t (call.AttrSet x y) a = k
+answer_told k t (call.AttrGet x y) a = k
+answer_told k t (call.AttrDestroy x) a = k
+answer_told k t (call.Spawn x y z) a = k
+answer_told k t call.SelfTid a = k
+answer_told k t (call.Yield x) a = k
+answer_told k t (call.Join x) a = k
+answer_told k t (call.Suspend x) a = k
+answer_told k t (call.Resume x) a = k
+answer_told k t (call.CancelState x) a = k
+answer_told k t (call.Cancel x) a = k
+answer_told k t (call.Abort x) a = k
+answer_told k t call.CancelPoint a = k
+answer_told k t (call.Exit x) a = k
+answer_told k t (call.EvFd x y) a = k
+answer_told k t (call.EvSelect x y z) a = k
+answer_told k t (call.EvTime x) a = k
+answer_told k t (call.EvMsg x) a = k
+answer_told k t (call.EvCond x) a = k
+answer_told k t (call.EvTid x y) a = k
+answer_told k t (call.EvFunc x y z) a = k
+answer_told k t (call.Chain x y) a = k
+answer_told k t (call.EvConcat x y) a = k
+answer_told k t (call.EvIsolate x) a = k
+answer_told k t (call.EvWalk x y z) a = k
+answer_told k t (call.EvStatus x) a = k
+answer_told k t (call.EvKind x) a = k
+answer_told k t (call.EvFree x y) a = k
+answer_told k t (call.Wait x) a = k
+answer_told k t (call.Timeout x) a = k
+answer_told k t (call.Nap x) a = k
+answer_told k t (call.Usleep x) a = k
+answer_told k t (call.Sleep x) a = k
+answer_told k t (call.KeyGet x) a = k
+answer_told k t (call.PortFind x) a = k
+answer_told k t (call.PortPending x) a = k
+answer_told k t (call.Once x y z) a = k
+answer_told k t (call.MutexInit x) a = k
+answer_told k t (call.RwInit x) a = k
+answer_told k t (call.CondInit x) a = k
+answer_told k t (call.CondNotify x y) a = k
+answer_told k t (call.BarrierInit x y) a = k
+answer_told k t (call.BarrierReach x) a = k
+answer_told k t (call.Read x y) a = k
+answer_told k t (call.ReadEv x y z) a = k
+answer_told k t (call.Write x y) a = k
+answer_told k t (call.WriteEv x y z) a = k
+answer_told k t (call.Accept x) a = k
+answer_told k t (call.AcceptEv x y) a = k
+answer_told k t (call.Connect x) a = k
+answer_told k t (call.ConnectEv x y) a = k
+answer_told k t (call.Select x y z w) a = k
+answer_told k t (call.SelectEv x y z w u) a = k
+answer_told k t (call.Fdmode x y) a = k
+answer_told k t (call.Close x) a = k
+answer_told k t call.Plain a = k
+answer_told k t (call.Note x) a = k
+
+-- an act is a call of the thread that runs the handler
+unfoldable pub act_told : Resources → ℕ → Act → Answer → Resources
+act_told k t (act.Release m) a = answer_told k t (call.MutexRelease m) a
+act_told k t (act.Put p v) a = answer_told k t (call.PortPut p v (pos 0)) a
+act_told k t (act.SetKey key v) a = answer_told k t (call.KeySet key v) a
+act_told k t (act.Notify c v) a = k
+act_told k t (act.Note v) a = k
+act_told k t (act.Set n v) a = k
+
+-- a call blocks t, or blocks it again: a cond_await gives its mutex back the first time
+abbrev pub wait_told : Resources → ℕ → Call → Resources
+wait_told k t (call.CondAwait c m e) = if k.awaits t then k else let_go k t (number m)
+wait_told k t c = k
+
+-- t has ended: no cleanup and no value is left, and it awaits nothing
+abbrev pub end_told : Resources → ℕ → Resources
+end_told k t = record k { store = store_without t k.store; awaits = put k.awaits t false }
+
+-- the resources after a mark
+unfoldable pub told : Resources → Mark → Resources
+told k (mark.Answered t c a) = answer_told k t.0 c a
+told k (mark.Acted t x a) = act_told k t.0 x a
+told k (mark.Waits t c) = wait_told k t.0 c
+told k (mark.Took t m) = retaken k t.0 m
+told k (mark.Destructor t key v) = with_store k (with_value k.store t.0 key (pos 0))
+told k (mark.GaveMutex t m) = with_hold k m Free
+told k (mark.GaveLock t l) = with_lock k l (parted t.0 (k.locks l))
+told k (mark.Ended t v) = end_told k t.0
+told k (mark.Dispatch turn at t rank waited allowed) = k
+told k (mark.Canceled t c) = k
+told k (mark.Retakes t c) = k
+told k (mark.Withdrew t b) = k
+told k (mark.Handler t h v) = k
+told k (mark.Noted t v) = k
+told k (mark.Woke t rank) = k
+told k (mark.Moved at) = k
+
+-- the resources after all these marks
+abbrev pub told_all : Resources → List Mark → Resources
+told_all k [] = k
+told_all k (m ∷ ms) = told_all (told k m) ms

@@ -1,85 +1,94 @@
--- The rows of the call table: what each call answers, and what it changes.
-use Rattle.std.specs.Prelude.{ℕ, ◌+◌, ◌++◌, ◌==◌, nat_lt, take, codes, ℤ, pos, negsuc, Bool, true, false, [], Option, Some, None, if◌then◌else◌}
-use Rattle.pth_base.specs.Limits.{thread_limit}
+-- The row of each call. Its parts stand with its facility, in pth(3)'s order.
+use Rattle.std.specs.Prelude.{ℕ}
 use Rattle.pth_base.specs.Program.{Functions}
-use Rattle.pth_base.specs.declared.answer.Answer.{Answer}
 use Rattle.pth_base.specs.declared.answer.Answer.TheVariants as answer
 use Rattle.pth_base.specs.declared.call.Call.{Call}
-use Rattle.pth_base.specs.declared.errno.Errno.TheVariants.{EAGAIN, EINVAL}
-use Rattle.pth_base.specs.declared.mark.Mark.TheVariants.{Answered, Noted}
-use Rattle.pth_queue.specs.declared.queue.Queue.TheVariants as queue
-use Rattle.pth_threads.specs.declared.entry.Entry.{Entry}
-use Rattle.pth_threads.specs.declared.entry.NewThread.{NewThread}
-use Rattle.pth_model.specs.State.{State, present}
-use Rattle.pth_model.specs.Changes.{with_entry, with_thread}
-use Rattle.pth_model.specs.Told.{Told, still, tells, tid}
-use Rattle.pth_model.specs.Family.{Family, Threads, Ends, Plains, Notes, Unbuilt, ThreadCall, Spawn, Yield, split}
+use Rattle.pth_base.specs.declared.call.Call.TheVariants as call
+use Rattle.pth_model.specs.Verdict.{Says, says}
+use Rattle.pth_model.specs.State.{State}
+use Rattle.pth_model.specs.Transition.{nothing}
+use Rattle.pth_model.specs.Row.{Row, ◌changing◌, unbuilt}
+use Rattle.pth_model.specs.ThreadControl.{spawn, yield}
+use Rattle.pth_model.specs.ThreadEnds.{exit}
 
--- pth_spawn: a child has its spawner's priority, joinability and cancel state, and a name made of its spawner's
-abbrev pub child_of : Entry → NewThread
-child_of e = record { prio = e.prio; name = take 40 (e.name ++ codes ".child"); joinable = e.joinable; cancel = e.cancel }
-
--- where the spawner is in the system, as it always is
-abbrev pub child_by : Option Entry → NewThread
-child_by (Some e) = child_of e
-child_by None = record { prio = pos 0; name = []; joinable = true; cancel = 1 }
-
-abbrev pub is_zero : ℤ → Bool
-is_zero (pos n) = n == 0
-is_zero (negsuc n) = false
-
--- the body of a program with n bodies that a number names
-abbrev pub body_of : ℕ → ℤ → Option ℕ
-body_of n (pos b) = if nat_lt b n then Some b else None
-body_of n (negsuc b) = None
-
--- by: the body, whether no attributes are named, whether there is room
-abbrev pub spawn_says : Option ℕ → Bool → Bool → ℕ → Answer
-spawn_says None plain room new = answer.Fail EINVAL
-spawn_says (Some b) false room new = answer.Fail EINVAL
-spawn_says (Some b) true false new = answer.Fail EAGAIN
-spawn_says (Some b) true true new = answer.Int (pos new)
-
-module _ {P S H : Type 0} (f : P → Functions S H) where
-  abbrev pub spawn_answer : State P S H → ℤ → ℤ → Answer
-  spawn_answer s b a = spawn_says (body_of (f s.rest.program).bodies b) (is_zero a) (nat_lt (present s) thread_limit) (s.rest.threads.made + 1)
-
-  -- what the calls that go on at once answer; a call that is not built yet answers EINVAL
-  abbrev pub thread_answer : State P S H → ThreadCall → Answer
-  thread_answer s (Spawn b v a) = spawn_answer s b a
-  thread_answer s (Yield t) = if is_zero t then answer.Int (pos 1) else answer.Fail EINVAL
-
-  unfoldable pub answer_of : State P S H → ℕ → Family → Answer
-  answer_of s t (Threads c) = thread_answer s c
-  answer_of s t (Ends c) = answer.Fail EINVAL
-  answer_of s t Plains = answer.None
-  answer_of s t (Notes v) = answer.Int (pos 0)
-  answer_of s t Unbuilt = answer.Fail EINVAL
-
-  -- a child of body b enters the new queue at its priority
-  abbrev pub spawned : State P S H → NewThread → Option ℕ → ℤ → State P S H
-  spawned s of None v = s
-  spawned s of (Some b) v = with_entry (with_thread s f b v of) (s.rest.threads.made + 1) queue.New of.prio false
-
-  -- what a call changes, given its answer
-  abbrev pub thread_after : State P S H → ℕ → ThreadCall → Answer → State P S H
-  thread_after s t (Spawn b v a) (answer.Int n) = spawned s (child_by (s.rest.threads.known t)) (body_of (f s.rest.program).bodies b) v
-  thread_after s t c a = s
-
-  unfoldable pub after : State P S H → ℕ → Family → Answer → State P S H
-  after s t (Threads c) a = thread_after s t c a
-  after s t c a = s
-
-  -- a call with its answer is told
-  abbrev pub answered : State P S H → ℕ → Call → Answer → Told P S H
-  answered s t c a = tells (Answered (tid t) c a) (after s t (split c) a)
-
-  -- a plain line tells nothing, a note its value, and every other call its answer
-  abbrev pub plain_told : State P S H → ℕ → Call → Family → Answer → Told P S H
-  plain_told s t c Plains a = still s
-  plain_told s t c (Notes v) a = tells (Noted (tid t) v) s
-  plain_told s t c g a = answered s t c a
-
-  -- the row of a call that never suspends its thread
-  unfoldable pub plain_row : State P S H → ℕ → Call → Told P S H
-  plain_row s t c = plain_told s t c (split c) (answer_of s t (split c))
+module _ {P S H : Type 0} (f : P → Functions S H) (s : State P S H) (t : ℕ) where
+  -- the row of a call of t
+  unfoldable pub row_of : Call → Row P S H
+  row_of call.Kill = unbuilt
+  row_of (call.Ctrl q) = unbuilt
+  row_of call.AttrNew = unbuilt
+  row_of (call.AttrOf n) = unbuilt
+  row_of (call.AttrInit a) = unbuilt
+  row_of (call.AttrSet a v) = unbuilt
+  row_of (call.AttrGet a x) = unbuilt
+  row_of (call.AttrDestroy a) = unbuilt
+  row_of (call.Spawn b v a) = spawn f s t b v a
+  row_of (call.Once o h v) = unbuilt
+  row_of call.SelfTid = unbuilt
+  row_of (call.Suspend n) = unbuilt
+  row_of (call.Resume n) = unbuilt
+  row_of (call.Yield n) = yield n
+  row_of (call.Nap l) = unbuilt
+  row_of (call.Wait e) = unbuilt
+  row_of (call.Cancel n) = unbuilt
+  row_of (call.Abort n) = unbuilt
+  row_of (call.Join n) = unbuilt
+  row_of (call.Exit v) = exit s t v
+  row_of (call.Fdmode d m) = unbuilt
+  row_of (call.Timeout l) = unbuilt
+  row_of call.CancelPoint = unbuilt
+  row_of (call.CancelState n) = unbuilt
+  row_of (call.EvFd goals fd) = unbuilt
+  row_of (call.EvSelect r w x) = unbuilt
+  row_of (call.EvTime m) = unbuilt
+  row_of (call.EvMsg p) = unbuilt
+  row_of (call.EvCond c) = unbuilt
+  row_of (call.EvTid state n) = unbuilt
+  row_of (call.EvFunc c v l) = unbuilt
+  row_of (call.Chain e l) = unbuilt
+  row_of (call.EvConcat e g) = unbuilt
+  row_of (call.EvIsolate e) = unbuilt
+  row_of (call.EvWalk e forward until_occurred) = unbuilt
+  row_of (call.EvStatus e) = unbuilt
+  row_of (call.EvKind e) = unbuilt
+  row_of (call.EvFree e all) = unbuilt
+  row_of (call.KeyCreate h) = unbuilt
+  row_of (call.KeyDelete k) = unbuilt
+  row_of (call.KeySet k v) = unbuilt
+  row_of (call.KeyGet k) = unbuilt
+  row_of (call.PortCreate name) = unbuilt
+  row_of (call.PortFind name) = unbuilt
+  row_of (call.PortPending p) = unbuilt
+  row_of (call.PortPut p v r) = unbuilt
+  row_of (call.PortGet p) = unbuilt
+  row_of (call.Reply m v) = unbuilt
+  row_of (call.PortDestroy p) = unbuilt
+  row_of (call.CleanupPush h v) = unbuilt
+  row_of (call.CleanupPop v) = unbuilt
+  row_of (call.MutexInit m) = unbuilt
+  row_of (call.MutexAcquire m v e) = unbuilt
+  row_of (call.MutexRelease m) = unbuilt
+  row_of (call.RwInit l) = unbuilt
+  row_of (call.RwAcquire l w v e) = unbuilt
+  row_of (call.RwRelease l) = unbuilt
+  row_of (call.CondInit c) = unbuilt
+  row_of (call.CondAwait c m e) = unbuilt
+  row_of (call.CondNotify c v) = unbuilt
+  row_of (call.BarrierInit b n) = unbuilt
+  row_of (call.BarrierReach b) = unbuilt
+  row_of (call.Usleep l) = unbuilt
+  row_of (call.Sleep l) = unbuilt
+  row_of (call.Read d n) = unbuilt
+  row_of (call.ReadEv d n e) = unbuilt
+  row_of (call.Write d bytes) = unbuilt
+  row_of (call.WriteEv d bytes e) = unbuilt
+  row_of (call.Accept d) = unbuilt
+  row_of (call.AcceptEv d e) = unbuilt
+  row_of (call.Connect d) = unbuilt
+  row_of (call.ConnectEv d e) = unbuilt
+  row_of (call.Select r w x l) = unbuilt
+  row_of (call.SelectEv r w x l e) = unbuilt
+  row_of (call.Close d) = unbuilt
+  -- a plain line and a note of a body call nothing, and are told otherwise
+  row_of call.Plain = Says answer.None changing nothing
+  row_of (call.Note v) = says 0 changing nothing

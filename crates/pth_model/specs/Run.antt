@@ -1,9 +1,9 @@
 -- Runs.
-use Rattle.std.specs.Prelude.{◌≡◌, ◌<◌, ◌≤◌, ◌++◌, ℕ, zero, suc, Bool, true, false, nat_le, List}
+use Rattle.std.specs.Prelude.{◌≡◌, ◌<◌, ◌≤◌, ◌++◌, ℕ, zero, suc, Bool, true, false, nat_le, List, []}
 use Rattle.pth_base.specs.Program.{Functions}
 use Rattle.pth_base.specs.declared.mark.Mark.{Mark}
-use Rattle.pth_model.specs.State.{State, Given, start}
-use Rattle.pth_model.specs.Told.{Told, still, followed}
+use Rattle.pth_model.specs.State.{State, Given, start, no_turn}
+use Rattle.pth_model.specs.Course.{Course, followed}
 use Rattle.pth_model.specs.Part.{Part, Step, Halt, next_part, part}
 
 -- a run to this number of steps goes no further: a next step would begin, or an outcome ended it
@@ -13,23 +13,23 @@ stops_by to steps Halt = true
 stops_by to steps p = false
 
 module _ {P S H : Type 0} where
-  -- the state and the marks after so many parts
-  unfoldable pub parts : (P → Functions S H) → State P S H → ℕ → Told P S H
-  parts f s zero = still s
-  parts f s (suc i) = followed (parts f s i) (part f (parts f s i).state)
+  -- the state, its turn and the marks after so many parts
+  unfoldable pub parts : (P → Functions S H) → State P S H → ℕ → Course P S H
+  parts f s zero = record { state = s; turn = no_turn; marks = [] }
+  parts f s (suc i) = followed (parts f s i) (part f (parts f s i).turn (parts f s i).state)
 
   -- the run of what is given, after so many parts
-  abbrev pub run : (P → Functions S H) → Given P → ℕ → Told P S H
+  abbrev pub run : (P → Functions S H) → Given P → ℕ → Course P S H
   run f g i = parts f (start f g) i
 
-  unfoldable pub stops : ℕ → State P S H → Bool
-  stops to s = stops_by to s.rest.scheduler.steps (next_part s)
+  unfoldable pub stops : ℕ → Course P S H → Bool
+  stops to c = stops_by to c.turn.steps (next_part c.state c.turn)
 
   -- from part i a run to this number of steps goes on to part j: there it stops, and nowhere between
   pub record GoesTo (f : P → Functions S H) (g : Given P) (to i j : ℕ) : Type 0 where
     pub later : i ≤ j
-    pub here : stops to (run f g j).state ≡ true
-    pub first : (k : ℕ) → i ≤ k → k < j → stops to (run f g k).state ≡ false
+    pub here : stops to (run f g j) ≡ true
+    pub first : (k : ℕ) → i ≤ k → k < j → stops to (run f g k) ≡ false
 
   -- these marks are what a run tells from part i to part j
   abbrev pub IsBetween : (P → Functions S H) → Given P → (i j : ℕ) → List Mark → Type 0

@@ -1,4 +1,4 @@
--- The state of the machine: what the laws read, and the rest by parts.
+-- The state of the machine: what threads have, which marks alone change, and all else, which calls change.
 use Rattle.std.specs.Prelude.{ℕ, zero, suc, ◌+◌, pos, Bool, true, false, List, [], ◌∷◌, Option, Some, None, is_some, codes, if◌then◌else◌}
 use Rattle.pth_base.specs.Program.{Functions}
 use Rattle.pth_base.specs.Table.{put}
@@ -6,13 +6,13 @@ use Rattle.pth_base.specs.declared.answer.Answer.TheVariants as answer
 use Rattle.pth_base.specs.declared.outcome.Outcome.{Outcome}
 use Rattle.pth_base.specs.declared.outcome.Outcome.TheVariants.{Running}
 use Rattle.pth_base.specs.declared.thread.ThreadState.TheVariants as state
-use Rattle.pth_queue.specs.declared.row.Row.{Row}
+use Rattle.pth_queue.specs.declared.ranked.Ranked.{Ranked}
 use Rattle.pth_queue.specs.declared.queue.Queue.{Queue}
 use Rattle.pth_queue.specs.declared.queue.Queue.TheVariants.{Ready}
 use Rattle.pth_threads.specs.declared.entry.Entry.{Entry}
 use Rattle.pth_threads.specs.declared.entry.NewThread.{NewThread}
-use Rattle.pth_model.specs.declared.continuation.Continuation.{Continuation}
-use Rattle.pth_model.specs.Core.{Core, first_core}
+use Rattle.pth_model.specs.declared.progress.Progress.{Progress}
+use Rattle.pth_model.specs.Resources.{Resources, no_resources}
 use Rattle.pth_model.specs.Standing.{Standing, shown, raises_of}
 
 -- the threads, by number, and where they stand
@@ -21,8 +21,8 @@ pub record Threads (S : Type 0) : Type 0 where
   pub made : ℕ
   -- the records of the threads in the system, dead ones too
   pub known : ℕ → Option Entry
-  -- what each of them goes on with
-  pub going : ℕ → Option (Continuation S)
+  -- how far each of them is in its program
+  pub progress : ℕ → Option (Progress S)
   -- those that stand in each queue, the latest entry first
   pub standing : Queue → List Standing
   -- how many entries into queues there were
@@ -30,36 +30,40 @@ pub record Threads (S : Type 0) : Type 0 where
   -- how often the ready queue was raised
   pub raises : ℕ
 
--- what the scheduler keeps from turn to turn
+-- what the scheduler keeps
 pub record Scheduler : Type 0 where
   -- the thread that runs
   pub running : Option ℕ
-  -- the thread that gave up control, until its turn is closed
-  pub gave : Option ℕ
   -- the thread that the last yield named (pth_yield)
-  pub named : Option ℕ
+  pub preferred : Option ℕ
   -- whether new threads are favoured (PTH_CTRL_FAVOURNEW)
   pub favour_new : Bool
-  pub turns : ℕ
-  pub steps : ℕ
   -- the moment, in microseconds, and how far a turn moves it
   pub now : ℕ
   pub clock : ℕ
-  pub outcome : Outcome
 
-pub record Rest (P S H : Type 0) : Type 0 where
+-- what calls change: the program's shared value, the threads, and what the scheduler keeps
+pub record Control (P S H : Type 0) : Type 0 where
   pub program : P
   pub shared : H
   pub threads : Threads S
   pub scheduler : Scheduler
 
 pub record State (P S H : Type 0) : Type 0 where
-  pub core : Core
-  pub rest : Rest P S H
+  pub resources : Resources
+  pub control : Control P S H
 
--- a queue of the state, as ranks and threads in order
-abbrev pub queue : {P S H : Type 0} → State P S H → Queue → List Row
-queue s q = shown (raises_of s.rest.threads.raises q) (s.rest.threads.standing q)
+-- what a run counts from turn to turn: no call sees or changes it
+pub record Turn : Type 0 where
+  pub turns : ℕ
+  pub steps : ℕ
+  -- the thread that gave up control, until its turn is closed
+  pub gave : Option ℕ
+  pub outcome : Outcome
+
+-- a queue, as ranks and threads in order
+abbrev pub queue : {P S H : Type 0} → Control P S H → Queue → List Ranked
+queue k q = shown (raises_of k.threads.raises q) (k.threads.standing q)
 
 -- how many of the first n numbers have a value
 unfoldable pub number_known : {A : Type 0} → (ℕ → Option A) → ℕ → ℕ
@@ -67,8 +71,8 @@ number_known f zero = 0
 number_known f (suc n) = (if is_some (f (suc n)) then 1 else 0) + number_known f n
 
 -- how many threads are in the system
-abbrev pub present : {P S H : Type 0} → State P S H → ℕ
-present s = number_known s.rest.threads.known s.rest.threads.made
+abbrev pub present : {P S H : Type 0} → Control P S H → ℕ
+present k = number_known k.threads.known k.threads.made
 
 -- the main thread's number
 abbrev pub main : ℕ
@@ -105,28 +109,22 @@ pub record Given (P : Type 0) : Type 0 where
 -- the state from which a run starts: main alone, ready at rank 0
 unfoldable pub start : {P S H : Type 0} → (P → Functions S H) → Given P → State P S H
 start f g = record {
-  core = first_core;
-  rest = record {
+  resources = no_resources;
+  control = record {
     program = g.program;
     shared = (f g.program).shared;
     threads = record {
       made = 1;
       known = put (λ t. None) main (Some main_entry);
-      going = put (λ t. None) main (Some (record { state = (f g.program).start 0 (pos 0); owed = answer.None; held = None }));
+      progress = put (λ t. None) main (Some (record { state = (f g.program).start 0 (pos 0); owed = answer.None; blocked = None }));
       standing = main_standing;
       entries = 1;
       raises = 0;
     };
-    scheduler = record {
-      running = None;
-      gave = None;
-      named = None;
-      favour_new = true;
-      turns = 0;
-      steps = 0;
-      now = 0;
-      clock = 1;
-      outcome = Running;
-    };
+    scheduler = record { running = None; preferred = None; favour_new = true; now = 0; clock = 1 };
   };
 }
+
+-- before the first turn
+abbrev pub no_turn : Turn
+no_turn = record { turns = 0; steps = 0; gave = None; outcome = Running }

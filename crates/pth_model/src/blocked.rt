@@ -1,9 +1,9 @@
-//! A call that suspended its thread.
+//! A call that blocks its thread.
 
 use pth_base::call::Call;
 use pth_base::ids::Micros;
 
-/// Whether a suspended `pth_cond_await` takes its mutex back, and with which outcome.
+/// Whether a blocked `pth_cond_await` takes its mutex back, and with which outcome.
 #[derive(Clone, Copy)]
 pub enum Retake {
     No,
@@ -12,10 +12,10 @@ pub enum Retake {
     Cancelled,
 }
 
-/// A suspended call: since when, the moment it waits for, the bytes that it wrote so far, the round of its arrival at a
-/// barrier, and whether it takes its mutex back.
+/// A call that blocks its thread: since when, the moment it waits for, the bytes that it wrote so far, the round of its
+/// arrival at a barrier, and whether it takes its mutex back.
 #[derive(Drop)]
-pub struct Held {
+pub struct Blocked {
     pub call: Call,
     pub begin: Micros,
     pub moment: Micros,

@@ -9,5 +9,5 @@ ghost use Rattle.pth_model.specs.Run.{run};
 /// with main's value after nine parts.
 pub fn two_bodies_run()
     ensures marks { (run two_bodies (record { program = 0 }) 9).marks ≡ its_marks }
-    ensures outcome { (run two_bodies (record { program = 0 }) 9).state.rest.scheduler.outcome ≡ Ended (pos 0) }
+    ensures outcome { (run two_bodies (record { program = 0 }) 9).turn.outcome ≡ Ended (pos 0) }
 {}

@@ -1,8 +1,8 @@
 //! The thread machine in plain terms: its definitions are in `specs/`, and the types here are what they speak of.
 #![tactic(auto)]
 
-pub mod continuation;
+pub mod blocked;
 pub mod example;
-pub mod held;
 pub mod next;
+pub mod progress;
 pub mod standings;

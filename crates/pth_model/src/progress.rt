@@ -1,13 +1,13 @@
-//! What a thread goes on with.
+//! How far a thread is in its program.
 
-use crate::held::Held;
+use crate::blocked::Blocked;
 use pth_base::answer::Answer;
 
-/// What a thread goes on with: where it stands in its body, the answer that is not yet handed over to it, and the call
-/// that suspended it, if any.
+/// How far a thread is in its program: where it stands in its body, the answer that is not yet handed over to it, and the
+/// call that blocks it, if any.
 #[derive(Drop)]
-pub struct Continuation<S> {
+pub struct Progress<S> {
     pub state: S,
     pub owed: Answer,
-    pub held: Option<Held>,
+    pub blocked: Option<Blocked>,
 }

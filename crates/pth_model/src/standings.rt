@@ -21,10 +21,10 @@ pub fn standings_show_as_lists<P: Program>()
 /// entry. No thread stands in two places. Entries are numbered as they come, over all queues. Exactly new threads that are
 /// favoured enter at Top, and one that does is in front of all that were there.
 pub fn queues_are_in_order<P: Program>()
-    ensures order { (g : Given P) (i : ℕ) (q : Queue) → IsInOrder (run P.functions g i).state q }
-    ensures once { (g : Given P) (i : ℕ) → IsOnce (run P.functions g i).state }
-    ensures entries { (g : Given P) (i : ℕ) (q : Queue) → AreEntriesNumbered (run P.functions g i).state q }
-    ensures apart { (g : Given P) (i : ℕ) (p q : Queue) → ShareNoEntry (run P.functions g i).state p q }
-    ensures top { (g : Given P) (i : ℕ) (q : Queue) → IsTopAhead (run P.functions g i).state q }
-    ensures favoured { (g : Given P) (i : ℕ) (q : Queue) → AreTopsFavoured (run P.functions g i).state (run P.functions g (i + 1)).state q }
+    ensures order { (g : Given P) (i : ℕ) (q : Queue) → IsInOrder (run P.functions g i).state.control q }
+    ensures once { (g : Given P) (i : ℕ) → IsOnce (run P.functions g i).state.control }
+    ensures entries { (g : Given P) (i : ℕ) (q : Queue) → AreEntriesNumbered (run P.functions g i).state.control q }
+    ensures apart { (g : Given P) (i : ℕ) (p q : Queue) → ShareNoEntry (run P.functions g i).state.control p q }
+    ensures top { (g : Given P) (i : ℕ) (q : Queue) → IsTopAhead (run P.functions g i).state.control q }
+    ensures favoured { (g : Given P) (i : ℕ) (q : Queue) → AreTopsFavoured (run P.functions g i) (run P.functions g (i + 1)).state.control q }
 {}

@@ -1,21 +1,23 @@
 use Rattle.std.proofs.Common.{refl}
 use Rattle.pth_base.specs.Table.{put}
 use Rattle.pth_threads.specs.Threads.{changed, made_of}
+use Rattle.pth_model.specs.Resources.{told, answer_told}
 use Rattle.pth_model.specs.Standing.{put_behind, order, shown}
 use Rattle.pth_model.specs.State.{number_known, start}
-use Rattle.pth_model.specs.Changes.{with_change, with_going, with_entry, without_entry, raised, with_thread, without_thread, called}
-use Rattle.pth_model.specs.Rows.{answer_of, after, plain_row}
-use Rattle.pth_model.specs.Ending.{dead, gone, ending}
-use Rattle.pth_model.specs.Waits.{is_alone, suspended, exit_row, yield_row, begun, resumed, wakes}
-use Rattle.pth_model.specs.Pass.{readied, woken, all_woken, to_wake, pass}
-use Rattle.pth_model.specs.Part.{moved, new_readied, all_readied, runs, dispatched, taken, stepped, put_back, put_waiting, placed, closed, next_part, part}
+use Rattle.pth_model.specs.Changes.{sets, goes_on, enters, leaves_queue, raises_ready, makes, forgets}
+use Rattle.pth_model.specs.Ending.{is_dead_with, leaves, ending}
+use Rattle.pth_model.specs.ThreadEnds.{is_alone}
+use Rattle.pth_model.specs.Rows.{row_of}
+use Rattle.pth_model.specs.Calls.{begun, resumed, wakes}
+use Rattle.pth_model.specs.Pass.{is_ready_at, woken, all_woken, to_wake, pass}
+use Rattle.pth_model.specs.Part.{moves, readies, readies_all, runs, dispatches, takes, steps, is_put_back, is_put_waiting, is_placed, closes, next_part, part}
 use Rattle.pth_model.specs.Run.{parts}
 use Rattle.pth_model.proofs.example.two_bodies_run.Goals as goal
 
 pub returns-clause-marks : goal.returns-clause-marks
-unfolding parts start part next_part closed placed put_waiting put_back stepped taken dispatched runs all_readied new_readied moved pass to_wake all_woken woken readied wakes resumed begun yield_row exit_row suspended is_alone ending dead gone plain_row after answer_of called without_thread with_thread raised without_entry with_entry with_going with_change number_known shown order put_behind put changed made_of
+unfolding parts start part next_part closes is_placed is_put_waiting is_put_back steps takes dispatches runs readies_all readies moves pass to_wake all_woken woken is_ready_at wakes resumed begun row_of is_alone ending leaves is_dead_with forgets makes raises_ready leaves_queue enters goes_on sets number_known shown order put_behind put changed made_of told answer_told
 returns-clause-marks c = refl
 
 pub returns-clause-outcome : goal.returns-clause-outcome
-unfolding parts start part next_part closed placed put_waiting put_back stepped taken dispatched runs all_readied new_readied moved pass to_wake all_woken woken readied wakes resumed begun yield_row exit_row suspended is_alone ending dead gone plain_row after answer_of called without_thread with_thread raised without_entry with_entry with_going with_change number_known shown order put_behind put changed made_of
+unfolding parts start part next_part closes is_placed is_put_waiting is_put_back steps takes dispatches runs readies_all readies moves pass to_wake all_woken woken is_ready_at wakes resumed begun row_of is_alone ending leaves is_dead_with forgets makes raises_ready leaves_queue enters goes_on sets number_known shown order put_behind put changed made_of told answer_told
 returns-clause-outcome c = refl

@@ -1,0 +1,45 @@
+-- What an attempt at a call comes to, and how its row says so.
+use Rattle.std.specs.Prelude.{ℕ, ℤ, pos, Bool, true, false}
+use Rattle.pth_base.specs.declared.answer.Answer.{Answer}
+use Rattle.pth_base.specs.declared.answer.Answer.TheVariants.{Int, Fail}
+use Rattle.pth_base.specs.declared.errno.Errno.{Errno}
+
+-- what a call that blocks its thread waits with
+pub record Pause : Type 0 where
+  -- the moment that it waits for, 0 for none
+  pub moment : ℕ
+  -- the bytes that it wrote so far
+  pub written : ℕ
+  -- the round of its arrival at a barrier
+  pub round : ℕ
+
+pub data Verdict : Type 0 where
+  -- the call is answered, and its thread goes on
+  Says : Answer → Verdict
+  -- it is answered, and its thread gives up control
+  Yields : Answer → Verdict
+  -- it blocks its thread
+  Blocks : Pause → Verdict
+  -- its thread ends with a value
+  Ends : ℤ → Verdict
+  -- the run ends
+  Kills : Verdict
+
+-- the clauses of a row stand in order: the first one that holds is the verdict
+infixr 4 ◌when◌otherwise◌
+abbrev pub ◌when◌otherwise◌ : Verdict → Bool → Verdict → Verdict
+v when true otherwise w = v
+v when false otherwise w = w
+
+abbrev pub refused : Errno → Verdict
+refused e = Says (Fail e)
+
+abbrev pub says : ℕ → Verdict
+says n = Says (Int (pos n))
+
+-- for no moment
+abbrev pub no_pause : Pause
+no_pause = record { moment = 0; written = 0; round = 0 }
+
+abbrev pub waits : Verdict
+waits = Blocks no_pause
