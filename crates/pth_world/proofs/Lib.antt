@@ -1,13 +1,15 @@
 pub mod Slots
-pub mod Standing
+pub mod Showing
 pub mod Places
 pub mod Sound
 pub mod Views
 pub mod Wholes
 pub mod Starts
 pub mod Moves
-pub mod Schedules
 pub mod QueueReads
 pub mod Walks
 pub mod Items
 pub mod Ranks
+pub mod Scheduling
+pub mod Frames
+pub mod Telling

@@ -1,10 +1,10 @@
 -- Where a slot stands after a change of the queues.
 use Rattle.std.proofs.Common.{◌≡◌, ◌≢◌, ℕ, ◌==◌, Bool, true, false, not, cond, ◌||◌, if◌then◌else◌, ℤ, List, [], ◌∷◌, Option, Some, None, refl, sym, ◌∙◌, ap, subst}
 use Rattle.pth_base.proofs.Tables.{same_self, not_same, same_means}
-use Rattle.pth_queue.specs.declared.row.Row.{Row}
+use Rattle.pth_queue.specs.declared.ranked.Ranked.{Ranked}
 use Rattle.pth_queue.specs.declared.queue.Queue.{Queue}
 use Rattle.pth_queue.specs.declared.queue.Queue.TheVariants.{New, Ready, Waiting, Suspended, Dead}
-use Rattle.pth_queue.specs.Rows.{is_of, insert, delete, increase, holds, IsQueued}
+use Rattle.pth_queue.specs.Ranking.{is_of, insert, delete, increase, holds, IsQueued}
 use Rattle.pth_queue.specs.Queues.{QueuesOf, rows_of, with_rows, queue_of, without, entered, IsNowhere, IsOrderly}
 use Rattle.pth_queue.proofs.Counts.{count-present, delete-absent}
 use Rattle.pth_queue.proofs.Sets.{holds-queue_of, deleted_is, IsOrderly-deleted}
@@ -15,34 +15,34 @@ or_swap true false c = refl
 or_swap false true c = refl
 or_swap false false c = refl
 
-pub holds-insert : (v : ℕ) (e : Row) (xs : List Row) → holds v (insert e xs) ≡ (is_of v e || holds v xs)
+pub holds-insert : (v : ℕ) (e : Ranked) (xs : List Ranked) → holds v (insert e xs) ≡ (is_of v e || holds v xs)
 holds-insert v e [] = refl
 holds-insert v e (x ∷ xs) = by_rank v e x xs _ (holds-insert v e xs)
   where
-    by_rank : (v : ℕ) (e x : Row) (xs : List Row) (b : Bool) → holds v (insert e xs) ≡ (is_of v e || holds v xs) → holds v (if b then e ∷ x ∷ xs else x ∷ insert e xs) ≡ (is_of v e || (is_of v x || holds v xs))
+    by_rank : (v : ℕ) (e x : Ranked) (xs : List Ranked) (b : Bool) → holds v (insert e xs) ≡ (is_of v e || holds v xs) → holds v (if b then e ∷ x ∷ xs else x ∷ insert e xs) ≡ (is_of v e || (is_of v x || holds v xs))
     by_rank v e x xs true h = refl
     by_rank v e x xs false h = ap (λ (b : Bool). is_of v x || b) h ∙ or_swap (is_of v x) (is_of v e) (holds v xs)
 
-delete_own : (u : ℕ) (x : Row) (xs : List Row) (b : Bool) → is_of u x ≡ b → holds u xs ≡ false → holds u (cond (not b) (x ∷ xs) xs) ≡ false
+delete_own : (u : ℕ) (x : Ranked) (xs : List Ranked) (b : Bool) → is_of u x ≡ b → holds u xs ≡ false → holds u (cond (not b) (x ∷ xs) xs) ≡ false
 delete_own u x xs true e h = h
 delete_own u x xs false e h = rw e h
 
-pub holds-delete : (u : ℕ) (xs : List Row) → holds u (delete u xs) ≡ false
+pub holds-delete : (u : ℕ) (xs : List Ranked) → holds u (delete u xs) ≡ false
 holds-delete u [] = refl
 holds-delete u (x ∷ xs) = delete_own u x (delete u xs) (is_of u x) refl (holds-delete u xs)
 
-delete_by : (u v : ℕ) (x : Row) (xs ys : List Row) (b : Bool) → v ≢ u → is_of u x ≡ b → holds v ys ≡ holds v xs → holds v (cond (not b) (x ∷ ys) ys) ≡ (is_of v x || holds v xs)
-delete_by u v x xs ys true apart e h = h ∙ ap (λ (b : Bool). b || holds v xs) (sym (not_same x.who v (λ same. apart (sym same ∙ same_by x.who u e))))
+delete_by : (u v : ℕ) (x : Ranked) (xs ys : List Ranked) (b : Bool) → v ≢ u → is_of u x ≡ b → holds v ys ≡ holds v xs → holds v (cond (not b) (x ∷ ys) ys) ≡ (is_of v x || holds v xs)
+delete_by u v x xs ys true apart e h = h ∙ ap (λ (b : Bool). b || holds v xs) (sym (not_same x.holder v (λ same. apart (sym same ∙ same_by x.holder u e))))
   where
     same_by : (m n : ℕ) → (m == n) ≡ true → m ≡ n
     same_by m n e = same_means m n e
 delete_by u v x xs ys false apart e h = ap (λ (b : Bool). is_of v x || b) h
 
-pub holds-delete_other : (u v : ℕ) (xs : List Row) → v ≢ u → holds v (delete u xs) ≡ holds v xs
+pub holds-delete_other : (u v : ℕ) (xs : List Ranked) → v ≢ u → holds v (delete u xs) ≡ holds v xs
 holds-delete_other u v [] apart = refl
 holds-delete_other u v (x ∷ xs) apart = delete_by u v x xs (delete u xs) (is_of u x) apart refl (holds-delete_other u v xs apart)
 
-pub holds-increase : (v : ℕ) (xs : List Row) → holds v (increase xs) ≡ holds v xs
+pub holds-increase : (v : ℕ) (xs : List Ranked) → holds v (increase xs) ≡ holds v xs
 holds-increase v [] = refl
 holds-increase v (x ∷ xs) = ap (λ (b : Bool). is_of v x || b) (holds-increase v xs)
 
@@ -69,8 +69,8 @@ pub queue-nowhere : (v : ℕ) (x : QueuesOf) → ((q : Queue) → holds v (rows_
 queue-nowhere v x none = rw (none New, none Ready, none Waiting, none Suspended, none Dead) refl
 
 module _ (u : ℕ) (rank : ℤ) (x : QueuesOf) where
-  here : (xs : List Row) → holds u (insert (record { rank = rank; who = u }) xs) ≡ true
-  here xs = holds-insert u (record { rank = rank; who = u }) xs ∙ ap (λ (b : Bool). b || holds u xs) (same_self u)
+  here : (xs : List Ranked) → holds u (insert (record { rank = rank; holder = u }) xs) ≡ true
+  here xs = holds-insert u (record { rank = rank; holder = u }) xs ∙ ap (λ (b : Bool). b || holds u xs) (same_self u)
 
   pub queue-entered : (q : Queue) → IsNowhere u x → queue_of u (entered q rank u x) ≡ Some q
   queue-entered New h = rw (here x.new) refl
@@ -79,8 +79,8 @@ module _ (u : ℕ) (rank : ℤ) (x : QueuesOf) where
   queue-entered Suspended h = rw (nowhere-holds u x h New, nowhere-holds u x h Ready, nowhere-holds u x h Waiting, here x.suspended) refl
   queue-entered Dead h = rw (nowhere-holds u x h New, nowhere-holds u x h Ready, nowhere-holds u x h Waiting, nowhere-holds u x h Suspended, here x.dead) refl
 
-  there : (v : ℕ) (xs : List Row) → v ≢ u → holds v (insert (record { rank = rank; who = u }) xs) ≡ holds v xs
-  there v xs apart = holds-insert v (record { rank = rank; who = u }) xs ∙ ap (λ (b : Bool). b || holds v xs) (not_same u v (λ same. apart (sym same)))
+  there : (v : ℕ) (xs : List Ranked) → v ≢ u → holds v (insert (record { rank = rank; holder = u }) xs) ≡ holds v xs
+  there v xs apart = holds-insert v (record { rank = rank; holder = u }) xs ∙ ap (λ (b : Bool). b || holds v xs) (not_same u v (λ same. apart (sym same)))
 
   pub queue-entered_other : (v : ℕ) (q : Queue) → v ≢ u → queue_of v (entered q rank u x) ≡ queue_of v x
   queue-entered_other v New apart = rw (there v x.new apart) refl
@@ -111,9 +111,9 @@ orderly-without u x o = by_place (queue_of u x) refl
     by_place (Some q) h = subst IsOrderly (deleted_is q u x o (count-present u (rows_of q x) (holds-queue_of q u x h))) (IsOrderly-deleted q u x o)
 
 -- a slot that is not used stands nowhere
-pub unused-holds : (f : ℕ → ℕ) (u : ℕ) (xs : List Row) → IsQueued f xs → f u ≡ 0 → holds u xs ≡ false
+pub unused-holds : (f : ℕ → ℕ) (u : ℕ) (xs : List Ranked) → IsQueued f xs → f u ≡ 0 → holds u xs ≡ false
 unused-holds f u [] q zero = refl
-unused-holds f u (x ∷ xs) q zero = rw (not_same x.who u (λ same. q.0 (ap f same ∙ zero)), unused-holds f u xs q.1 zero) refl
+unused-holds f u (x ∷ xs) q zero = rw (not_same x.holder u (λ same. q.0 (ap f same ∙ zero)), unused-holds f u xs q.1 zero) refl
 
 pub unused-nowhere : (f : ℕ → ℕ) (u : ℕ) (x : QueuesOf) → ((q : Queue) → IsQueued f (rows_of q x)) → f u ≡ 0 → IsNowhere u x
 unused-nowhere f u x queued zero = queue-nowhere u x (λ q. unused-holds f u (rows_of q x) (queued q) zero)

@@ -2,41 +2,41 @@
 use Rattle.std.proofs.Common.{◌≡◌, ℕ, ◌+◌, ◌≤◌, ℤ, pos, ◌≤ℤ◌, Bool, true, false, not, if◌then◌else◌, int_lt, List, [], ◌∷◌, length, IsSome, IfSome, Option, Some, None, refl, sym, ap, subst, arith}
 use Rattle.std.proofs.lemmas.Int.{ints}
 use Rattle.std.proofs.lemmas.List.Elements.{All-weaker, All-filter, All-map}
-use Rattle.pth_queue.specs.declared.row.Row.{Row}
+use Rattle.pth_queue.specs.declared.ranked.Ranked.{Ranked}
 use Rattle.pth_queue.specs.declared.queue.Queue.TheVariants as queue
-use Rattle.pth_queue.specs.Rows.{is_of, insert, delete, increase, raised}
+use Rattle.pth_queue.specs.Ranking.{is_of, insert, delete, increase, raised}
 use Rattle.pth_queue.specs.Queues.{QueuesOf, entered, without}
 use Rattle.pth_queue.proofs.Counts.{length-delete}
 use Rattle.pth_queue.proofs.Orders.{All-insert}
 use Rattle.pth_threads.specs.Threads.{slot_of}
-use Rattle.pth_world.specs.World.{WorldOf}
-use Rattle.pth_world.specs.Standing.{IsKnown, IsPrio}
+use Rattle.pth_world.specs.World.{ThreadsBySlot}
+use Rattle.pth_world.specs.Sound.{IsKnown, IsPrio}
 use Rattle.pth_world.specs.Ranks.{IsUnder, greatest_return, KeepsRanks}
 
 -- a higher roof
-pub under-roof : (roof more : ℕ) (rows : List Row) → roof ≤ more → IsUnder roof rows → IsUnder more rows
+pub under-roof : (roof more : ℕ) (rows : List Ranked) → roof ≤ more → IsUnder roof rows → IsUnder more rows
 under-roof roof more rows h = All-weaker (λ r. r.rank ≤ℤ pos roof) (λ r. r.rank ≤ℤ pos more) (λ r k. at_most r.rank k) rows
   where
     at_most : (n : ℤ) → n ≤ℤ pos roof → n ≤ℤ pos more
     at_most n k = omega (arith, ints)
 
 -- a row enters at a rank not above the roof
-pub under-insert : (roof : ℕ) (e : Row) (rows : List Row) → e.rank ≤ℤ pos roof → IsUnder roof rows → IsUnder roof (insert e rows)
+pub under-insert : (roof : ℕ) (e : Ranked) (rows : List Ranked) → e.rank ≤ℤ pos roof → IsUnder roof rows → IsUnder roof (insert e rows)
 under-insert roof e rows low under = All-insert (λ r. r.rank ≤ℤ pos roof) e rows low under
 
 -- a row is taken out
-pub under-delete : (roof s : ℕ) (rows : List Row) → IsUnder roof rows → IsUnder roof (delete s rows)
+pub under-delete : (roof s : ℕ) (rows : List Ranked) → IsUnder roof rows → IsUnder roof (delete s rows)
 under-delete roof s rows = All-filter (λ r. not (is_of s r)) (λ r. r.rank ≤ℤ pos roof) rows
 
 -- every rank one more
-pub under-increase : (roof : ℕ) (rows : List Row) → IsUnder roof rows → IsUnder (roof + 1) (increase rows)
+pub under-increase : (roof : ℕ) (rows : List Ranked) → IsUnder roof rows → IsUnder (roof + 1) (increase rows)
 under-increase roof rows under = All-map (λ r. r.rank ≤ℤ pos (roof + 1)) raised rows (All-weaker (λ r. r.rank ≤ℤ pos roof) (λ r. (raised r).rank ≤ℤ pos (roof + 1)) (λ r k. one_more r k) rows under)
   where
-    one_more : (r : Row) → r.rank ≤ℤ pos roof → (raised r).rank ≤ℤ pos (roof + 1)
+    one_more : (r : Ranked) → r.rank ≤ℤ pos roof → (raised r).rank ≤ℤ pos (roof + 1)
     one_more r k = omega (arith, ints)
 
 -- a row more
-pub length-insert : (e : Row) (rows : List Row) → length (insert e rows) ≡ length rows + 1
+pub length-insert : (e : Ranked) (rows : List Ranked) → length (insert e rows) ≡ length rows + 1
 length-insert e [] = refl
 length-insert e (x ∷ xs) = by_rank (int_lt x.rank e.rank) (length-insert e xs)
   where
@@ -45,22 +45,26 @@ length-insert e (x ∷ xs) = by_rank (int_lt x.rank e.rank) (length-insert e xs)
     by_rank false h = omega arith
 
 -- no change
-pub ranks_none : {P S H : Type 0} (w : WorldOf P S H) → KeepsRanks w w
+pub ranks_none : {S : Type 0} (w : ThreadsBySlot S) → KeepsRanks 0 w w
 ranks_none w = record { under = λ roof low h. h; fresh = omega arith }
 
 -- one change after another
-pub ranks_then : {P S H : Type 0} (u v w : WorldOf P S H) → KeepsRanks u v → KeepsRanks v w → KeepsRanks u w
-ranks_then u v w a b = record { under = λ roof low h. b.under roof low (a.under roof low h); fresh = (let f = a.fresh in let g = b.fresh in omega arith) }
+pub ranks_then : {S : Type 0} (n m : ℕ) (u v w : ThreadsBySlot S) → KeepsRanks n u v → KeepsRanks m v w → KeepsRanks (n + m) u w
+ranks_then n m u v w a b = record { under = λ roof low h. b.under roof low (a.under roof low h); fresh = (let f = a.fresh in let g = b.fresh in omega arith) }
 
--- where the queues are these, and as many threads were made
-module _ {P S H : Type 0} (w v : WorldOf P S H) (x : QueuesOf) (queues : v.queues ≡ x) (made : v.threads.made ≡ w.threads.made) where
-  ranks_by : ((roof : ℕ) → greatest_return ≤ roof → IsUnder roof w.queues.ready → IsUnder roof x.ready) → length x.new ≤ length w.queues.new → KeepsRanks w v
+-- at most as many more as it is said
+pub ranks_more : {S : Type 0} (n m : ℕ) (w v : ThreadsBySlot S) → n ≤ m → KeepsRanks n w v → KeepsRanks m w v
+ranks_more n m w v le r = record { under = r.under; fresh = (let f = r.fresh in omega arith) }
+
+-- where the queues are these
+module _ {S : Type 0} (w v : ThreadsBySlot S) (x : QueuesOf) (queues : v.queues ≡ x) where
+  ranks_by : ((roof : ℕ) → greatest_return ≤ roof → IsUnder roof w.queues.ready → IsUnder roof x.ready) → length x.new ≤ length w.queues.new → KeepsRanks 0 w v
   ranks_by under fewer = record {
     under = λ roof low h. subst (λ (y : QueuesOf). IsUnder roof y.ready) (sym queues) (under roof low h);
     fresh = (let n : length v.queues.new ≡ length x.new = ap (λ (y : QueuesOf). length y.new) queues in omega arith);
   }
 
-length-deleted : (s : ℕ) (rows : List Row) → length (delete s rows) ≤ length rows
+length-deleted : (s : ℕ) (rows : List Ranked) → length (delete s rows) ≤ length rows
 length-deleted s rows = omega (arith, length-delete s rows)
 
 low_rank : (rank : ℤ) (roof : ℕ) → rank ≤ℤ pos greatest_return → greatest_return ≤ roof → rank ≤ℤ pos roof
@@ -70,33 +74,33 @@ low_rank rank roof low high = omega (arith, ints)
 pub prio_low : (prio : ℤ) → IsPrio prio → prio ≤ℤ pos greatest_return
 prio_low prio h = let high = h.high in omega (arith, ints)
 
-module _ {P S H : Type 0} (w v : WorldOf P S H) (t : ℕ) (known : IsKnown w t) (made : v.threads.made ≡ w.threads.made) where
-  at_slot : (Q : ℕ → Type 0) → IfSome (slot_of w.threads t) Q → ((u : ℕ) → Q u → KeepsRanks w v) → KeepsRanks w v
-  at_slot Q h f = by_slot (slot_of w.threads t) known h f
+module _ {S : Type 0} (w v : ThreadsBySlot S) (t : ℕ) (known : IsKnown w t) where
+  at_slot : (Q : ℕ → Type 0) → IfSome (slot_of w.records t) Q → ((u : ℕ) → Q u → KeepsRanks 0 w v) → KeepsRanks 0 w v
+  at_slot Q h f = by_slot (slot_of w.records t) known h f
     where
-      by_slot : (o : Option ℕ) → IsSome o → IfSome o Q → ((u : ℕ) → Q u → KeepsRanks w v) → KeepsRanks w v
+      by_slot : (o : Option ℕ) → IsSome o → IfSome o Q → ((u : ℕ) → Q u → KeepsRanks 0 w v) → KeepsRanks 0 w v
       by_slot (Some u) some q f = f u q
       by_slot None some q f = absurd (cc some)
 
   -- a thread leaves its queue
-  pub ranks_left : IfSome (slot_of w.threads t) (λ u. v.queues ≡ without u w.queues) → KeepsRanks w v
-  ranks_left h = at_slot (λ u. v.queues ≡ without u w.queues) h (λ u is. ranks_by w v _ is made (λ roof low under. under-delete roof u w.queues.ready under) (length-deleted u w.queues.new))
+  pub ranks_left : IfSome (slot_of w.records t) (λ u. v.queues ≡ without u w.queues) → KeepsRanks 0 w v
+  ranks_left h = at_slot (λ u. v.queues ≡ without u w.queues) h (λ u is. ranks_by w v _ is (λ roof low under. under-delete roof u w.queues.ready under) (length-deleted u w.queues.new))
 
   -- a thread is ready that stood in no queue
-  pub ranks_back : IfSome (slot_of w.threads t) (λ u. (prio : ℤ) × IsPrio prio × (v.queues ≡ entered queue.Ready prio u w.queues)) → KeepsRanks w v
-  ranks_back h = at_slot (λ u. (prio : ℤ) × IsPrio prio × (v.queues ≡ entered queue.Ready prio u w.queues)) h (λ u is. ranks_by w v _ is.2 made (λ roof low under. under-insert roof (record { rank = is.0; who = u }) w.queues.ready (low_rank is.0 roof (prio_low is.0 is.1) low) under) (omega arith))
+  pub ranks_back : IfSome (slot_of w.records t) (λ u. (prio : ℤ) × IsPrio prio × (v.queues ≡ entered queue.Ready prio u w.queues)) → KeepsRanks 0 w v
+  ranks_back h = at_slot (λ u. (prio : ℤ) × IsPrio prio × (v.queues ≡ entered queue.Ready prio u w.queues)) h (λ u is. ranks_by w v _ is.2 (λ roof low under. under-insert roof (record { rank = is.0; holder = u }) w.queues.ready (low_rank is.0 roof (prio_low is.0 is.1) low) under) (omega arith))
 
   -- a thread is ready that stood in another queue
-  pub ranks_ready : (rank : ℤ) → rank ≤ℤ pos greatest_return → IfSome (slot_of w.threads t) (λ u. v.queues ≡ entered queue.Ready rank u (without u w.queues)) → KeepsRanks w v
-  ranks_ready rank low h = at_slot (λ u. v.queues ≡ entered queue.Ready rank u (without u w.queues)) h (λ u is. ranks_by w v _ is made (λ roof high under. under-insert roof (record { rank = rank; who = u }) (delete u w.queues.ready) (low_rank rank roof low high) (under-delete roof u w.queues.ready under)) (length-deleted u w.queues.new))
+  pub ranks_ready : (rank : ℤ) → rank ≤ℤ pos greatest_return → IfSome (slot_of w.records t) (λ u. v.queues ≡ entered queue.Ready rank u (without u w.queues)) → KeepsRanks 0 w v
+  ranks_ready rank low h = at_slot (λ u. v.queues ≡ entered queue.Ready rank u (without u w.queues)) h (λ u is. ranks_by w v _ is (λ roof high under. under-insert roof (record { rank = rank; holder = u }) (delete u w.queues.ready) (low_rank rank roof low high) (under-delete roof u w.queues.ready under)) (length-deleted u w.queues.new))
 
   -- a thread is dead
-  pub ranks_dead : (rank : ℤ) → IfSome (slot_of w.threads t) (λ u. v.queues ≡ entered queue.Dead rank u (without u w.queues)) → KeepsRanks w v
-  ranks_dead rank h = at_slot (λ u. v.queues ≡ entered queue.Dead rank u (without u w.queues)) h (λ u is. ranks_by w v _ is made (λ roof low under. under-delete roof u w.queues.ready under) (length-deleted u w.queues.new))
+  pub ranks_dead : (rank : ℤ) → IfSome (slot_of w.records t) (λ u. v.queues ≡ entered queue.Dead rank u (without u w.queues)) → KeepsRanks 0 w v
+  ranks_dead rank h = at_slot (λ u. v.queues ≡ entered queue.Dead rank u (without u w.queues)) h (λ u is. ranks_by w v _ is (λ roof low under. under-delete roof u w.queues.ready under) (length-deleted u w.queues.new))
 
 -- a thread is new
-pub ranks_new : {P S H : Type 0} (w v : WorldOf P S H) (u : ℕ) (rank : ℤ) → v.queues ≡ entered queue.New rank u w.queues → v.threads.made ≡ w.threads.made + 1 → KeepsRanks w v
-ranks_new w v u rank is made = record {
+pub ranks_new : {S : Type 0} (w v : ThreadsBySlot S) (u : ℕ) (rank : ℤ) → v.queues ≡ entered queue.New rank u w.queues → KeepsRanks 1 w v
+ranks_new w v u rank is = record {
   under = λ roof low h. subst (λ (x : QueuesOf). IsUnder roof x.ready) (sym is) h;
-  fresh = (let n : length v.queues.new ≡ length (insert (record { rank = rank; who = u }) w.queues.new) = ap (λ (x : QueuesOf). length x.new) is in omega (arith, length-insert (record { rank = rank; who = u }) w.queues.new));
+  fresh = (let n : length v.queues.new ≡ length (insert (record { rank = rank; holder = u }) w.queues.new) = ap (λ (x : QueuesOf). length x.new) is in omega (arith, length-insert (record { rank = rank; holder = u }) w.queues.new));
 }

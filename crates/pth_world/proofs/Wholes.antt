@@ -1,11 +1,12 @@
--- Worlds that are whole, and new threads, calls and ends of threads as changes of the state.
-use Rattle.std.proofs.Common.{◌≡◌, ◌≢◌, ◌+◌, ◌==◌, ℕ, ℤ, Bool, true, false, List, length, IsSome, IfSome, Option, Some, None, refl, sym, ◌∙◌, ap, subst}
+-- Worlds that are whole, and steps of the program and new threads as changes of the control.
+use Rattle.std.proofs.Common.{◌≡◌, ◌≢◌, ◌+◌, ◌==◌, ℕ, ℤ, Bool, true, false, List, length, IsSome, IfSome, Option, Some, None, option_map, refl, sym, ◌∙◌, ap, ap₂, subst}
 use Rattle.pth_base.specs.Limits.{thread_limit}
 use Rattle.pth_base.specs.Program.{Functions, Stepped}
 use Rattle.pth_base.specs.Table.{put, table}
 use Rattle.pth_base.specs.declared.answer.Answer.{Answer}
 use Rattle.pth_base.specs.declared.answer.Answer.TheVariants as answer
 use Rattle.pth_base.specs.declared.call.Call.{Call}
+use Rattle.pth_base.proofs.Lists.{put_twice}
 use Rattle.pth_base.proofs.Tables.{put_here, put_other, put_by, same_means, same_fails}
 use Rattle.pth_queue.specs.declared.queue.Queue.{Queue}
 use Rattle.pth_queue.specs.declared.queue.Queue.TheVariants as queue
@@ -13,17 +14,22 @@ use Rattle.pth_queue.specs.Queues.{QueuesOf, queue_of, entered, IsNowhere}
 use Rattle.pth_threads.specs.Threads.{ThreadsOf, slot_of, tid_at, entry_at, made_of, Adds, IsSame}
 use Rattle.pth_threads.specs.declared.entry.Entry.{Entry}
 use Rattle.pth_threads.specs.declared.entry.NewThread.{NewThread}
-use Rattle.pth_model.specs.declared.continuation.Continuation.{Continuation}
-use Rattle.pth_model.specs.declared.held.Held.{Held}
-use Rattle.pth_model.specs.State.{State}
-use Rattle.pth_model.specs.Changes.{with_entry, with_thread, called, held_by}
-use Rattle.pth_world.specs.World.{WorldOf}
-use Rattle.pth_world.specs.Standing.{StandsFor, IsSound, IsKnown, IsPrio, IsCancel, View, view, Touches, Fits, FitsEntry, Whole, same_view}
+use Rattle.pth_model.specs.declared.progress.Progress.{Progress}
+use Rattle.pth_model.specs.declared.blocked.Blocked.{Blocked}
+use Rattle.pth_model.specs.State.{Control}
+use Rattle.pth_model.specs.Changes.{goes_on, enters, makes, owing, owed_in, blocked_in}
+use Rattle.pth_model.specs.ThreadControl.{spawns}
+use Rattle.pth_model.specs.Part.{step_of, stepping}
+use Rattle.pth_world.specs.World.{WorldOf, ThreadsBySlot}
+use Rattle.pth_world.specs.Shows.{Shows, ShowsThreads}
+use Rattle.pth_world.specs.Sound.{IsSound, IsKnown, IsPrio, IsCancel}
+use Rattle.pth_world.specs.Whole.{View, view, Fits, FitsEntry, Whole, WholeBut}
+use Rattle.pth_world.specs.Touches.{Touches, same_view}
 use Rattle.pth_world.specs.Steps.{StepsAt}
-use Rattle.pth_world.proofs.Moves.{going_whole}
-use Rattle.pth_world.proofs.Slots.{prio_rank}
-use Rattle.pth_world.proofs.Standing.{add_stands, enter_stands, called_stands, called_call}
-use Rattle.pth_world.proofs.Sound.{add_sound, enter_sound, going_sound}
+use Rattle.pth_world.proofs.Moves.{progress_whole, but_kept}
+use Rattle.pth_world.proofs.Slots.{prio_rank, used}
+use Rattle.pth_world.proofs.Showing.{of_threads, add_shows, enter_shows, progress_shows, progress_is}
+use Rattle.pth_world.proofs.Sound.{add_sound, enter_sound, progress_sound}
 use Rattle.pth_world.proofs.Places.{queue-entered, queue-entered_other, unused-nowhere}
 use Rattle.pth_world.proofs.Views.{called_touches}
 use Rattle.pth_world.specs.Ranks.{KeepsRanks}
@@ -33,108 +39,170 @@ if_some : (A B : ℕ → Type 0) (o : Option ℕ) → ((r : ℕ) → A r → B r
 if_some A B (Some r) f h = f r h
 if_some A B None f h = h
 
--- a step of the program
-module _ {P S H : Type 0} (w v : WorldOf P S H) (t u : ℕ) (sound : IsSound w) (e : slot_of w.threads t ≡ Some u) (used : tid_at w.threads u ≢ 0) (h : P → Functions S H) (a : Answer) (call : Call) (steps : StepsAt (h w.program) u (table None w.going) (table None v.going) w.shared v.shared a call) (same : v ≡ record w { going = v.going; shared = v.shared }) (long : length v.going ≡ thread_limit) where
-  there : (o : Option (Continuation S)) → IsSome o → (x : Continuation S) × (o ≡ Some x)
+-- a step of the program, once what is owed was taken out
+module _ {P S H : Type 0} (w v : WorldOf P S H) (t u : ℕ) (sound : IsSound w.threads) (e : slot_of w.threads.records t ≡ Some u) (h : P → Functions S H) (a : Answer) (call : Call) (m : List (Option (Progress S)))
+    (owed : a ≡ owed_in (table None w.threads.progress u))
+    (took : table None m ≡ put (table None w.threads.progress) u (option_map (owing answer.None) (table None w.threads.progress u)))
+    (steps : StepsAt (h w.program) u (table None m) (table None v.threads.progress) w.shared v.shared a call)
+    (same : v ≡ record w { threads = record w.threads { progress = v.threads.progress }; shared = v.shared }) (long : length v.threads.progress ≡ thread_limit) where
+  abbrev before : ℕ → Option (Progress S)
+  before = table None w.threads.progress
+
+  there : (o : Option (Progress S)) → IsSome o → (x : Progress S) × (o ≡ Some x)
   there (Some x) some = (x, refl)
   there None some = let bad : ⊥ = cc in absurd bad
 
-  stood : (x : Continuation S) × (table None w.going u ≡ Some x)
-  stood = there (table None w.going u) (sound.recorded u used)
+  stood : (x : Progress S) × (before u ≡ Some x)
+  stood = there (before u) (sound.recorded u (used w.threads t u sound e))
 
-  abbrev stepped : Stepped S H
-  stepped = (h w.program).step stood.0.state w.shared a
+  abbrev p : Progress S
+  p = stood.0
 
-  goes : table None v.going ≡ put (table None w.going) u (Some (record stood.0 { state = stepped.state }))
-  goes = steps.set stood.0 stood.1
+  abbrev taken : Progress S
+  taken = record p { owed = answer.None }
 
-  pub next_call_is : (s : State P S H) → StandsFor w s → call ≡ (called h s t a).call
-  next_call_is s st = ap (λ (k : Stepped S H). k.call) (steps.step stood.0 stood.1) ∙ sym (called_call w t u sound e h stood.0 a s stood.1 st)
+  abbrev x : Stepped S H
+  x = (h w.program).step p.state w.shared p.owed
 
-  pub next_stands : (s : State P S H) → StandsFor w s → StandsFor v (called h s t a).state
-  next_stands s st =
-      let later : StandsFor (record w { going = v.going; shared = v.shared }) (called h s t a).state = subst (λ (k : H). StandsFor (record w { going = v.going; shared = k }) (called h s t a).state) (sym (ap (λ (k : Stepped S H). k.shared) (steps.step stood.0 stood.1))) (called_stands w t u sound e h v.going stood.0 a s stood.1 goes st) in
-      subst (λ k. StandsFor k (called h s t a).state) (sym same) later
+  abbrev next : Progress S → Progress S
+  next q = record q { state = x.state; owed = answer.None }
 
-  pub next_sound : IsSound v
-  next_sound =
-      let k = going_sound w sound t u e v.going (Some (record stood.0 { state = stepped.state })) goes refl long in
-      subst IsSound (sym same) (record { tied = k.tied; fresh = k.fresh; empty = k.empty; bare = k.bare; recorded = k.recorded; queued = k.queued; room = k.room; orderly = k.orderly; long = k.long; attributes = k.attributes; present = k.present })
+  abbrev after : Answer → Progress S
+  after b = record p { state = ((h w.program).step p.state w.shared b).state; owed = answer.None }
 
-  pub next_touches : Touches w v t same_view
-  next_touches = subst (λ k. Touches w k t same_view) (sym same) (called_touches w sound t u e v.going stood.0 (record stood.0 { state = stepped.state }) v.shared stood.1 refl goes)
+  took_one : table None m ≡ put before u (Some taken)
+  took_one = took ∙ ap (λ (o : Option (Progress S)). put before u (option_map (owing answer.None) o)) stood.1
+
+  at_slot : table None m u ≡ Some taken
+  at_slot = ap (λ (k : ℕ → Option (Progress S)). k u) took_one ∙ put_here before u (Some taken)
+
+  owed_is : a ≡ p.owed
+  owed_is = owed ∙ ap owed_in stood.1
+
+  goes : table None v.threads.progress ≡ put before u (Some (after p.owed))
+  goes = steps.set taken at_slot
+      ∙ ap (λ (k : ℕ → Option (Progress S)). put k u (Some (after a))) took_one
+      ∙ put_twice before u (Some taken) (Some (after a))
+      ∙ ap (λ (b : Answer). put before u (Some (after b))) owed_is
+
+  call_is : call ≡ x.call
+  call_is = ap (λ (k : Stepped S H). k.call) (steps.step taken at_slot) ∙ ap (λ (b : Answer). ((h w.program).step p.state w.shared b).call) owed_is
+
+  shared_is : v.shared ≡ x.shared
+  shared_is = ap (λ (k : Stepped S H). k.shared) (steps.step taken at_slot) ∙ ap (λ (b : Answer). ((h w.program).step p.state w.shared b).shared) owed_is
+
+  module _ (k : Control P S H) (sh : Shows w k) where
+    step_is : step_of h k p ≡ x
+    step_is = ap₂ (λ (q : P) (s : H). (h q).step p.state s p.owed) sh.program sh.shared
+
+    progress_of : k.threads.progress t ≡ Some p
+    progress_of = progress_is w.threads k t u sound e sh.threads ∙ stood.1
+
+    pub next_call_is : IfSome (k.threads.progress t) (λ q. call ≡ (step_of h k q).call)
+    next_call_is = rw progress_of (call_is ∙ ap (λ (y : Stepped S H). y.call) (sym step_is))
+
+    shows_x : Shows v (stepping t x k)
+    unfolding goes_on
+    shows_x = subst (λ (z : WorldOf P S H). Shows z (stepping t x k)) (sym same) (record {
+      program = sh.program;
+      shared = sym shared_is;
+      threads = progress_shows w.threads (record k { shared = x.shared }) t u sound e sh.threads v.threads.progress next (goes ∙ ap (λ (o : Option (Progress S)). put before u (option_map next o)) (sym stood.1));
+      scheduler = sh.scheduler;
+    })
+
+    pub next_shows : IfSome (k.threads.progress t) (λ q. Shows v (stepping t (step_of h k q) k))
+    next_shows = rw progress_of (subst (λ (y : Stepped S H). Shows v (stepping t y k)) (sym step_is) shows_x)
+
+  threads_are : v.threads ≡ record w.threads { progress = v.threads.progress }
+  threads_are = ap (λ (z : WorldOf P S H). z.threads) same
+
+  pub next_sound : IsSound v.threads
+  next_sound = subst IsSound (sym threads_are) (progress_sound w.threads sound t u e v.threads.progress (Some (after p.owed)) goes refl long)
+
+  pub next_touches : Touches w.threads v.threads t same_view
+  next_touches = subst (λ z. Touches w.threads z t same_view) (sym threads_are) (called_touches w.threads sound t u e v.threads.progress p (after p.owed) stood.1 refl goes)
 
   pub next_whole : Whole w → Whole v
-  next_whole whole = going_whole w v t u same_view whole e next_touches next_sound (ap (λ (k : WorldOf P S H). slot_of k.threads) same) (ap (λ (k : WorldOf P S H). k.running) same) (λ r f. f)
+  next_whole whole = progress_whole w v t u same_view whole e next_touches next_sound (ap (λ (z : ThreadsBySlot S). slot_of z.records) threads_are) (ap (λ (z : WorldOf P S H). z.scheduler.running) same) (λ r f. f)
+
+  pub next_but : WholeBut w t → WholeBut v t
+  next_but = but_kept w v t same_view next_touches (record { slots = ap (λ (z : ThreadsBySlot S). slot_of z.records) threads_are; tids = ap (λ (z : ThreadsBySlot S). tid_at z.records) threads_are; made = ap (λ (z : ThreadsBySlot S). z.records.made) threads_are }) (ap (λ (z : WorldOf P S H). z.scheduler.running) same) next_sound
 
 -- a new thread
-module _ {P S H : Type 0} (w : WorldOf P S H) (whole : Whole w) (x : ThreadsOf) (y : List (Option (Continuation S))) (z : QueuesOf) (u : ℕ) (of : NewThread) (prio : IsPrio of.prio) (cancel : IsCancel of.cancel) (c : Continuation S) (bare : c.held ≡ None) (adds : Adds w.threads x u (made_of of (w.threads.made + 1))) (has : table None y ≡ put (table None w.going) u (Some c)) (long : length y ≡ thread_limit) (enters : z ≡ entered queue.New of.prio u w.queues) where
+module _ {P S H : Type 0} (w : WorldOf P S H) (whole : Whole w) (x : ThreadsOf) (y : List (Option (Progress S))) (z : QueuesOf) (u : ℕ) (of : NewThread) (prio : IsPrio of.prio) (cancel : IsCancel of.cancel) (c : Progress S) (bare : c.blocked ≡ None) (adds : Adds w.threads.records x u (made_of of (w.threads.records.made + 1))) (has : table None y ≡ put (table None w.threads.progress) u (Some c)) (long : length y ≡ thread_limit) (placed : z ≡ entered queue.New of.prio u w.threads.queues) where
   abbrev t : ℕ
-  t = w.threads.made + 1
+  t = w.threads.records.made + 1
 
   abbrev v : WorldOf P S H
-  v = record w { threads = x; going = y }
+  v = record w { threads = record w.threads { records = x; progress = y } }
 
   slot : slot_of x t ≡ Some u
   unfolding made_of
-  slot = ap (λ (k : ℕ → Option ℕ). k t) adds.slots ∙ put_here (slot_of w.threads) t (Some u)
+  slot = ap (λ (k : ℕ → Option ℕ). k t) adds.slots ∙ put_here (slot_of w.threads.records) t (Some u)
 
-  sound : IsSound v
-  sound = add_sound w whole.sound x y u of c prio cancel adds has long
+  sound : IsSound v.threads
+  sound = add_sound w.threads whole.sound x y u of c prio cancel adds has long
 
-  pub spawn_nowhere : IsNowhere u w.queues
-  spawn_nowhere = unused-nowhere (tid_at w.threads) u w.queues whole.sound.queued adds.unused
+  pub spawn_nowhere : IsNowhere u w.threads.queues
+  spawn_nowhere = unused-nowhere (tid_at w.threads.records) u w.threads.queues whole.sound.queued adds.unused
 
-  pub spawn_stands : (h : P → Functions S H) (body : ℕ) (arg : ℤ) (s : State P S H) → c ≡ record { state = (h w.program).start body arg; owed = answer.None; held = None } → StandsFor w s → StandsFor (record w { threads = x; going = y; queues = z }) (with_entry (with_thread s h body arg of) t queue.New of.prio false)
-  spawn_stands h body arg s is st = enter_stands v t u sound slot z queue.New of.prio false (with_thread s h body arg of) enters (add_stands w x y u of whole.sound adds h body arg s (has ∙ ap (λ (k : Continuation S). put (table None w.going) u (Some k)) is) st)
+  abbrev all : WorldOf P S H
+  all = record w { threads = record w.threads { records = x; progress = y; queues = z } }
 
-  all_sound : IsSound (record w { threads = x; going = y; queues = z })
-  all_sound = enter_sound v sound t u slot z queue.New of.prio spawn_nowhere (prio_rank of.prio prio) enters
+  pub spawn_shows : (h : P → Functions S H) (body : ℕ) (arg : ℤ) (k : Control P S H) → c ≡ record { state = (h w.program).start body arg; owed = answer.None; blocked = None } → Shows w k → Shows all (spawns h body arg of k)
+  unfolding makes enters
+  spawn_shows h body arg k is sh =
+      let begins : (h w.program).start body arg ≡ (h k.program).start body arg = ap (λ (q : P). (h q).start body arg) (sym sh.program) in
+      let has_first : table None y ≡ put (table None w.threads.progress) u (Some (record { state = (h k.program).start body arg; owed = answer.None; blocked = None })) = has ∙ ap (λ (q : Progress S). put (table None w.threads.progress) u (Some q)) is ∙ ap (λ (s : S). put (table None w.threads.progress) u (Some (record { state = s; owed = answer.None; blocked = None }))) begins in
+      let added = add_shows w.threads k x y u of whole.sound adds h body arg has_first sh.threads in
+      of_threads w all.threads k _ sh (subst (λ (n : ℕ). ShowsThreads all.threads (enters (n + 1) queue.New of.prio false (makes h body arg of k)).threads) (sym sh.threads.made) (enter_shows v.threads (makes h body arg of k) t u sound slot added z queue.New of.prio false placed))
 
-  view_by : (a : Option Entry) (b : Option Queue) (d : Option Held) (k : View) → a ≡ k.entry → b ≡ k.place → d ≡ k.held → record { entry = a; place = b; held = d } ≡ k
+  all_sound : IsSound all.threads
+  all_sound = enter_sound v.threads sound t u slot z queue.New of.prio spawn_nowhere (prio_rank of.prio prio) placed
+
+  view_by : (a : Option Entry) (b : Option Queue) (d : Option Blocked) (k : View) → a ≡ k.entry → b ≡ k.place → d ≡ k.blocked → record { entry = a; place = b; blocked = d } ≡ k
   view_by a b d k p q r = rw (p, q, r) refl
 
-  view_new : view (record w { threads = x; going = y; queues = z }) u ≡ record { entry = Some (made_of of t); place = Some queue.New; held = None }
-  view_new = view_by _ _ _ _ (ap (λ (k : ℕ → Option Entry). k u) adds.entries ∙ put_here (entry_at w.threads) u _) (ap (queue_of u) enters ∙ queue-entered u of.prio w.queues queue.New spawn_nowhere) (ap held_by (ap (λ (k : ℕ → Option (Continuation S)). k u) has ∙ put_here (table None w.going) u (Some c)) ∙ bare)
+  view_new : view all.threads u ≡ record { entry = Some (made_of of t); place = Some queue.New; blocked = None }
+  view_new = view_by _ _ _ _ (ap (λ (k : ℕ → Option Entry). k u) adds.entries ∙ put_here (entry_at w.threads.records) u _) (ap (queue_of u) placed ∙ queue-entered u of.prio w.threads.queues queue.New spawn_nowhere) (ap blocked_in (ap (λ (k : ℕ → Option (Progress S)). k u) has ∙ put_here (table None w.threads.progress) u (Some c)) ∙ bare)
 
-  view_old : (i : ℕ) → i ≢ u → view (record w { threads = x; going = y; queues = z }) i ≡ view w i
-  view_old i apart = view_by _ _ _ (view w i) (ap (λ (k : ℕ → Option Entry). k i) adds.entries ∙ put_other (entry_at w.threads) u _ i apart) (ap (queue_of i) enters ∙ queue-entered_other u of.prio w.queues i queue.New apart) (ap held_by (ap (λ (k : ℕ → Option (Continuation S)). k i) has ∙ put_other (table None w.going) u (Some c) i apart))
+  view_old : (i : ℕ) → i ≢ u → view all.threads i ≡ view w.threads i
+  view_old i apart = view_by _ _ _ (view w.threads i) (ap (λ (k : ℕ → Option Entry). k i) adds.entries ∙ put_other (entry_at w.threads.records) u _ i apart) (ap (queue_of i) placed ∙ queue-entered_other u of.prio w.threads.queues i queue.New apart) (ap blocked_in (ap (λ (k : ℕ → Option (Progress S)). k i) has ∙ put_other (table None w.threads.progress) u (Some c) i apart))
 
   -- it stands in the new queue
-  pub spawn_queues : IfSome (slot_of x t) (λ i. z ≡ entered queue.New of.prio i w.queues)
-  spawn_queues = rw slot enters
+  pub spawn_queues : IfSome (slot_of x t) (λ i. z ≡ entered queue.New of.prio i w.threads.queues)
+  spawn_queues = rw slot placed
 
   -- and no ready thread is lifted
-  pub spawn_ranks : KeepsRanks w (record w { threads = x; going = y; queues = z })
-  unfolding made_of
-  spawn_ranks = ranks_new w (record w { threads = x; going = y; queues = z }) u of.prio enters adds.made
+  pub spawn_ranks : KeepsRanks 1 w.threads all.threads
+  spawn_ranks = ranks_new w.threads all.threads u of.prio placed
 
   -- the one that runs was there before
-  not_new : w.running ≡ Some t → ⊥
+  not_new : w.scheduler.running ≡ Some t → ⊥
   unfolding made_of
   not_new is =
-      let k : IsSome (slot_of w.threads t) = subst (λ (o : Option ℕ). IfSome o (λ r. IsKnown w r)) is whole.runner in
+      let k : IsSome (slot_of w.threads.records t) = subst (λ (o : Option ℕ). IfSome o (λ r. IsKnown w.threads r)) is whole.runner in
       let n : IsSome {T = ℕ} None = subst (λ (o : Option ℕ). IsSome o) adds.unknown k in
       absurd (cc n)
 
-  pub spawn_others : (r : ℕ) → IsKnown w r → IsSome (slot_of x r)
+  pub spawn_others : (r : ℕ) → IsKnown w.threads r → IsSome (slot_of x r)
   unfolding made_of
-  spawn_others r known = rw adds.slots (let Q : Option ℕ → Type 0 = λ o. IsSome o in put_by Q (slot_of w.threads) t (Some u) r (λ same. refl) (λ apart. known))
+  spawn_others r known = rw adds.slots (let Q : Option ℕ → Type 0 = λ o. IsSome o in put_by Q (slot_of w.threads.records) t (Some u) r (λ same. refl) (λ apart. known))
 
-  fits_new : FitsEntry w.running (Some (made_of of t)) (Some queue.New) None
+  fits_new : FitsEntry w.scheduler.running (Some (made_of of t)) (Some queue.New) None
   unfolding made_of
   fits_new = record { placed = refl; runs = λ is. absurd (not_new is); named = λ is. absurd (cc is); awake = λ is. absurd (cc is); calls = tt }
 
-  fits_at : (i : ℕ) (b : Bool) → (i == u) ≡ b → Fits w.running (view (record w { threads = x; going = y; queues = z }) i)
-  fits_at i true is = subst (λ (k : View). Fits w.running k) (sym (ap (view (record w { threads = x; going = y; queues = z })) (same_means i u is) ∙ view_new)) fits_new
-  fits_at i false is = subst (λ (k : View). Fits w.running k) (sym (view_old i (same_fails i u is))) (whole.fits i)
+  fits_at : (i : ℕ) (b : Bool) → (i == u) ≡ b → Fits w.scheduler.running (view all.threads i)
+  fits_at i true is = subst (λ (k : View). Fits w.scheduler.running k) (sym (ap (view all.threads) (same_means i u is) ∙ view_new)) fits_new
+  fits_at i false is = subst (λ (k : View). Fits w.scheduler.running k) (sym (view_old i (same_fails i u is))) (whole.fits i)
 
-  pub spawn_whole : Whole (record w { threads = x; going = y; queues = z })
-  spawn_whole = record { sound = all_sound; fits = λ i. fits_at i (i == u) refl; runner = if_some (λ r. IsKnown w r) (λ r. IsSome (slot_of x r)) w.running spawn_others whole.runner }
+  pub spawn_whole : Whole all
+  spawn_whole = record { sound = all_sound; fits = λ i. fits_at i (i == u) refl; runner = if_some (λ r. IsKnown w.threads r) (λ r. IsSome (slot_of x r)) w.scheduler.running spawn_others whole.runner }
 
 -- a refused new thread
-module _ {P S H : Type 0} (w : WorldOf P S H) (x : ThreadsOf) (same : IsSame w.threads x) where
-  same_sound : IsSound w → IsSound (record w { threads = x })
+module _ {P S H : Type 0} (w : WorldOf P S H) (x : ThreadsOf) (same : IsSame w.threads.records x) where
+  same_sound : IsSound w.threads → IsSound (record w.threads { records = x })
   same_sound sound = record {
     tied = rw (same.slots, same.tids) sound.tied;
     fresh = rw (same.slots, same.made) sound.fresh;
@@ -149,9 +217,9 @@ module _ {P S H : Type 0} (w : WorldOf P S H) (x : ThreadsOf) (same : IsSame w.t
     present = rw (same.slots, same.entries, same.count, same.made) sound.present;
   }
 
-  pub same_whole : Whole w → Whole (record w { threads = x })
+  pub same_whole : Whole w → Whole (record w { threads = record w.threads { records = x } })
   same_whole whole = record {
     sound = same_sound whole.sound;
     fits = λ u. rw same.entries (whole.fits u);
-    runner = if_some (λ r. IsKnown w r) (λ r. IsSome (slot_of x r)) w.running (λ r known. rw same.slots known) whole.runner;
+    runner = if_some (λ r. IsKnown w.threads r) (λ r. IsSome (slot_of x r)) w.scheduler.running (λ r known. rw same.slots known) whole.runner;
   }

@@ -1,6 +1,10 @@
 pub mod World
-pub mod Standing
+pub mod Shows
+pub mod Sound
+pub mod Whole
+pub mod Touches
 pub mod Steps
 pub mod Leading
 pub mod Walks
 pub mod Ranks
+pub mod Frame

@@ -1,10 +1,10 @@
 -- What a change of a world does to the ranks of the ready queue.
 use Rattle.std.specs.Prelude.{ℕ, ◌+◌, ◌≤◌, pos, ◌≤ℤ◌, List, All, length}
-use Rattle.pth_queue.specs.declared.row.Row.{Row}
-use Rattle.pth_world.specs.World.{WorldOf}
+use Rattle.pth_queue.specs.declared.ranked.Ranked.{Ranked}
+use Rattle.pth_world.specs.World.{ThreadsBySlot}
 
 -- no row has a rank above this
-abbrev pub IsUnder : ℕ → List Row → Type 0
+abbrev pub IsUnder : ℕ → List Ranked → Type 0
 IsUnder roof rows = All (λ r. r.rank ≤ℤ pos roof) rows
 
 -- the greatest rank at which a thread that is woken or put back enters the ready queue: base priorities go to 20
@@ -12,7 +12,7 @@ abbrev pub greatest_return : ℕ
 greatest_return = 21
 
 -- A change that lifts no ready thread above the others: what no rank of the ready queue was above, none is above now, from
--- the greatest rank of a return up; and new threads are more by no more than the threads that were made.
-pub record KeepsRanks {P S H : Type 0} (w v : WorldOf P S H) : Type 0 where
-  pub under : (roof : ℕ) → greatest_return ≤ roof → IsUnder roof w.queues.ready → IsUnder roof v.queues.ready
-  pub fresh : length v.queues.new + w.threads.made ≤ length w.queues.new + v.threads.made
+-- the greatest rank of a return up; and at most so many threads more are new.
+pub record KeepsRanks {S : Type 0} (more : ℕ) (x y : ThreadsBySlot S) : Type 0 where
+  pub under : (roof : ℕ) → greatest_return ≤ roof → IsUnder roof x.queues.ready → IsUnder roof y.queues.ready
+  pub fresh : length y.queues.new ≤ length x.queues.new + more

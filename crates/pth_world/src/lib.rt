@@ -1,5 +1,5 @@
 //! All the state of a run: the program with its threads, by slot.
 #![tactic(auto)]
 
-pub mod continuations;
+pub mod progress_table;
 pub mod world;

@@ -1,8 +1,9 @@
-//! What the threads go on with, by slot.
+//! How far the threads are in their programs, by slot.
 
 ghost use Rattle.std.specs.Prelude.{◌≡◌, ◌<◌, ℕ, Option, Some, None, IsSome, IfOk, option_copied, option_map, length};
+ghost use Rattle.pth_base.specs.Limits.{thread_limit};
 ghost use Rattle.pth_base.specs.Table.{put, table};
-ghost use Rattle.pth_model.specs.Changes.{owed_by, held_by, with_owed, with_held};
+ghost use Rattle.pth_model.specs.Changes.{owed_in, blocked_in, owing, blocking};
 ghost use Rattle.pth_world.specs.Steps.{StepsAt};
 
 use pth_base::answer::Answer;
@@ -11,8 +12,8 @@ use pth_base::ids::Slot;
 use pth_base::limits::MOST_THREADS;
 use pth_base::memory::OutOfMemory;
 use pth_base::program::Program;
-use pth_model::continuation::Continuation;
-use pth_model::held::Held;
+use pth_model::blocked::Blocked;
+use pth_model::progress::Progress;
 use std::alloc::Global;
 use std::marker::Model;
 use std::mem;
@@ -20,107 +21,98 @@ use std::mem;
 /// How many slots there are.
 const SLOTS: usize = MOST_THREADS as usize;
 
-/// What the thread at each of 4096 slots goes on with, if there is one.
+/// How far the thread at each slot is in its program, if there is one.
 #[derive(Drop)]
-pub struct Continuations<S> {
-    items: Vec<Option<Continuation<S>>>,
+pub struct ProgressTable<S> {
+    items: Vec<Option<Progress<S>>>,
 }
 
-impl<S> Model for Continuations<S> {
+impl<S> Model for ProgressTable<S> {
     ghost use Rattle.std.specs.Prelude.{◌≡◌, List, Option, length};
-    ghost use Rattle.pth_model.specs.declared.continuation.Continuation.{Continuation};
+    ghost use Rattle.pth_base.specs.Limits.{thread_limit};
+    ghost use Rattle.pth_model.specs.declared.progress.Progress.{Progress};
 
-    ghost Value = { List (Option (Continuation S)) };
+    ghost Value = { List (Option (Progress S)) };
 
     ghost view = { λ a. a.items.items };
 
-    ghost invariant = { λ a. length a.items.items ≡ 4096 };
+    ghost invariant = { λ a. length a.items.items ≡ thread_limit };
 }
 
-impl<S: Drop> Continuations<S> {
+impl<S: Drop> ProgressTable<S> {
     /// Nothing at any slot, with room for all.
-    pub fn new(alloc: Global) -> Result<Continuations<S>, OutOfMemory>
+    pub fn new(alloc: Global) -> Result<ProgressTable<S>, OutOfMemory>
         ensures none { IfOk result (λ c. table None c ≡ (λ _. None)) }
-        ensures long { IfOk result (λ c. length c ≡ 4096) }
+        ensures long { IfOk result (λ c. length c ≡ thread_limit) }
     {
         let mut items = Vec::with_capacity(alloc, SLOTS)?;
         while items.len() < SLOTS {
             items.push(None)?;
         }
-        Ok(Continuations { items })
+        Ok(ProgressTable { items })
     }
 
-    /// Sets what the thread at a slot goes on with.
-    pub fn set(&mut self, s: Slot, c: Option<Continuation<S>>)
-        requires { s.0 < 4096 }
-        ensures set { table None self.new ≡ put (table None self.old) s.0 c }
-        ensures long { length self.new ≡ 4096 }
+    /// Sets how far the thread at a slot is.
+    pub fn set(&mut self, s: Slot, p: Option<Progress<S>>)
+        requires { s.0 < thread_limit }
+        ensures set { table None self.new ≡ put (table None self.old) s.0 p }
+        ensures long { length self.new ≡ thread_limit }
     {
-        self.items[s.0 as usize] = c;
+        self.items[s.0 as usize] = p;
     }
 
-    /// What the thread at a slot goes on with.
-    pub fn get(&self, s: Slot) -> Option<&Continuation<S>>
-        requires { s.0 < 4096 }
+    /// How far the thread at a slot is.
+    pub fn get(&self, s: Slot) -> Option<&Progress<S>>
+        requires { s.0 < thread_limit }
         ensures { option_copied result ≡ table None self.now s.0 }
     {
         self.items[s.0 as usize].as_ref()
     }
 
-    /// Takes out what the thread at a slot goes on with.
-    pub fn take(&mut self, s: Slot) -> Option<Continuation<S>>
-        requires { s.0 < 4096 }
-        ensures value { result ≡ table None self.old s.0 }
-        ensures set { table None self.new ≡ put (table None self.old) s.0 None }
-        ensures long { length self.new ≡ 4096 }
+    /// Sets the call that blocks the thread at a slot.
+    pub fn block(&mut self, s: Slot, b: Blocked)
+        requires { s.0 < thread_limit }
+        ensures set { table None self.new ≡ put (table None self.old) s.0 (option_map (blocking (Some b)) (table None self.old s.0)) }
+        ensures long { length self.new ≡ thread_limit }
     {
-        self.items[s.0 as usize].take()
-    }
-
-    /// Sets the call that suspends the thread at a slot.
-    pub fn hold(&mut self, s: Slot, h: Held)
-        requires { s.0 < 4096 }
-        ensures set { table None self.new ≡ put (table None self.old) s.0 (option_map (with_held (Some h)) (table None self.old s.0)) }
-        ensures long { length self.new ≡ 4096 }
-    {
-        if let Some(c) = &mut self.items[s.0 as usize] {
-            c.held = Some(h);
+        if let Some(p) = &mut self.items[s.0 as usize] {
+            p.blocked = Some(b);
         }
     }
 
-    /// Takes out the call that suspends the thread at a slot.
-    pub fn take_held(&mut self, s: Slot) -> Option<Held>
-        requires { s.0 < 4096 }
-        ensures value { result ≡ held_by (table None self.old s.0) }
-        ensures set { table None self.new ≡ put (table None self.old) s.0 (option_map (with_held None) (table None self.old s.0)) }
-        ensures long { length self.new ≡ 4096 }
+    /// Takes out the call that blocks the thread at a slot.
+    pub fn unblock(&mut self, s: Slot) -> Option<Blocked>
+        requires { s.0 < thread_limit }
+        ensures value { result ≡ blocked_in (table None self.old s.0) }
+        ensures set { table None self.new ≡ put (table None self.old) s.0 (option_map (blocking None) (table None self.old s.0)) }
+        ensures long { length self.new ≡ thread_limit }
     {
         match &mut self.items[s.0 as usize] {
-            Some(c) => c.held.take(),
+            Some(p) => p.blocked.take(),
             None => None,
         }
     }
 
     /// Sets the answer that is owed to the thread at a slot.
     pub fn owe(&mut self, s: Slot, a: Answer)
-        requires { s.0 < 4096 }
-        ensures set { table None self.new ≡ put (table None self.old) s.0 (option_map (with_owed a) (table None self.old s.0)) }
-        ensures long { length self.new ≡ 4096 }
+        requires { s.0 < thread_limit }
+        ensures set { table None self.new ≡ put (table None self.old) s.0 (option_map (owing a) (table None self.old s.0)) }
+        ensures long { length self.new ≡ thread_limit }
     {
-        if let Some(c) = &mut self.items[s.0 as usize] {
-            c.owed = a;
+        if let Some(p) = &mut self.items[s.0 as usize] {
+            p.owed = a;
         }
     }
 
     /// Takes out the answer that is owed to the thread at a slot.
     pub fn take_owed(&mut self, s: Slot) -> Answer
-        requires { s.0 < 4096 }
-        ensures value { result ≡ owed_by (table None self.old s.0) }
-        ensures set { table None self.new ≡ put (table None self.old) s.0 (option_map (with_owed Answer.None) (table None self.old s.0)) }
-        ensures long { length self.new ≡ 4096 }
+        requires { s.0 < thread_limit }
+        ensures value { result ≡ owed_in (table None self.old s.0) }
+        ensures set { table None self.new ≡ put (table None self.old) s.0 (option_map (owing Answer.None) (table None self.old s.0)) }
+        ensures long { length self.new ≡ thread_limit }
     {
         match &mut self.items[s.0 as usize] {
-            Some(c) => mem::replace(&mut c.owed, Answer::None),
+            Some(p) => mem::replace(&mut p.owed, Answer::None),
             None => Answer::None,
         }
     }
@@ -132,18 +124,18 @@ impl<S: Drop> Continuations<S> {
 pub fn step_at<P: Program>(
     program: &P,
     alloc: Global,
-    going: &mut Continuations<P::State>,
+    progress: &mut ProgressTable<P::State>,
     s: Slot,
     shared: &mut P::Shared,
     answer: &Answer,
 ) -> Result<Call, OutOfMemory>
-    requires low { s.0 < 4096 }
-    requires some { IsSome (table None going.old s.0) }
-    ensures step { IfOk result (λ call. StepsAt (P.functions program.now) s.0 (table None going.old) (table None going.new) shared.old shared.new answer.now call) }
-    ensures long { length going.new ≡ 4096 }
+    requires low { s.0 < thread_limit }
+    requires some { IsSome (table None progress.old s.0) }
+    ensures step { IfOk result (λ call. StepsAt (P.functions program.now) s.0 (table None progress.old) (table None progress.new) shared.old shared.new answer.now call) }
+    ensures long { length progress.new ≡ thread_limit }
 {
-    match &mut going.items[s.0 as usize] {
-        Some(c) => program.step(alloc, &mut c.state, shared, answer),
+    match &mut progress.items[s.0 as usize] {
+        Some(p) => program.step(alloc, &mut p.state, shared, answer),
         None => unreachable!(),
     }
 }

@@ -5,21 +5,22 @@ ghost use Rattle.std.specs.Borrow.{Lends, sem};
 ghost use Rattle.pth_queue.specs.contracts.queue_set.QueueSet.{the_row as queues_row};
 ghost use Rattle.pth_threads.specs.contracts.threads.Threads.{the_row as threads_row};
 ghost use Rattle.pth_threads.specs.Threads.{slot_of, tid_at};
-ghost use Rattle.pth_world.specs.contracts.continuations.Continuations.{the_row as continuations_row};
+ghost use Rattle.pth_world.specs.contracts.progress_table.ProgressTable.{the_row as progress_row};
 ghost use Rattle.pth_world.specs.contracts.world.World.{the_row};
-ghost use Rattle.pth_model.specs.State.{State};
-ghost use Rattle.pth_model.specs.Changes.{running_is, naming};
-ghost use Rattle.pth_model.specs.Part.{at_moment};
-ghost use Rattle.pth_model.specs.Pass.{prio_of};
-ghost use Rattle.pth_world.specs.Standing.{StandsFor, IsSound, IsPrio, Whole, IsKnown};
+ghost use Rattle.pth_model.specs.State.{Control};
+ghost use Rattle.pth_model.specs.Changes.{runs_now, prefers, moves_to, prio_of};
+ghost use Rattle.pth_model.specs.Ending.{other_than, stops_running};
+ghost use Rattle.pth_world.specs.Shows.{Shows};
+ghost use Rattle.pth_world.specs.Sound.{IsSound, IsPrio, IsKnown};
+ghost use Rattle.pth_world.specs.Whole.{Whole, WholeBut, IsAbout, IsRunner};
 
-mod going;
 mod moves;
 mod places;
+mod progress;
 mod reads;
 mod records;
 
-use crate::continuations::Continuations;
+use crate::progress_table::ProgressTable;
 use pth_base::ids::{Micros, Slot, Tid};
 use pth_base::program::Program;
 use pth_queue::queue_set::QueueSet;
@@ -27,8 +28,8 @@ use pth_threads::threads::Threads;
 use std::alloc::Global;
 use std::marker::Model;
 
-/// The program with its threads: their records, their queues and what each goes on with, and what the scheduler keeps of
-/// them.
+/// The program with its threads: their records, their queues and how far each is in its program, and what the scheduler
+/// keeps of them.
 #[derive(Drop)]
 pub struct World<P: Program> {
     alloc: Global,
@@ -36,9 +37,9 @@ pub struct World<P: Program> {
     shared: P::Shared,
     threads: Threads,
     queues: QueueSet,
-    going: Continuations<P::State>,
+    progress: ProgressTable<P::State>,
     running: Option<Tid>,
-    named: Option<Tid>,
+    preferred: Option<Tid>,
     favour_new: bool,
     time: Micros,
     clock: Micros,
@@ -53,14 +54,14 @@ impl<P: Program> Model for World<P> {
     ghost view = { λ w. record {
       program = w.program;
       shared = w.shared;
-      threads = w.threads;
-      queues = w.queues;
-      going = w.going;
-      running = option_map number_of w.running;
-      named = option_map number_of w.named;
-      favour_new = w.favour_new;
-      time = w.time;
-      clock = w.clock;
+      threads = record { records = w.threads; queues = w.queues; progress = w.progress };
+      scheduler = record {
+        running = option_map number_of w.running;
+        preferred = option_map number_of w.preferred;
+        favour_new = w.favour_new;
+        now = w.time;
+        clock = w.clock;
+      };
     } };
 }
 
@@ -69,50 +70,50 @@ impl<P: Program> World<P> {
 
     /// The records of the threads.
     pub fn threads(&self) -> &Threads
-        ensures { result.now ≡ self.now.threads }
+        ensures { result.now ≡ self.now.threads.records }
     {
         &self.threads
     }
 
     /// The queues.
     pub fn queues(&self) -> &QueueSet
-        ensures { result.now ≡ self.now.queues }
+        ensures { result.now ≡ self.now.threads.queues }
     {
         &self.queues
     }
 
-    fn going(&self) -> &Continuations<P::State>
-        ensures { result.now ≡ self.now.going }
+    fn progress(&self) -> &ProgressTable<P::State>
+        ensures { result.now ≡ self.now.threads.progress }
     {
-        &self.going
+        &self.progress
     }
 
     fn threads_mut(&mut self) -> &mut Threads
-        ensures* writes_back { sem 𝓛 (Lends (the_row P.row P.State.row P.Shared.row P.Program) threads_row self.entry result (λ k. record self.old { threads = k })) }
-        ensures value { result.now ≡ self.old.threads }
+        ensures* writes_back { sem 𝓛 (Lends (the_row P.row P.State.row P.Shared.row P.Program) threads_row self.entry result (λ x. record self.old { threads = record self.old.threads { records = x } })) }
+        ensures value { result.now ≡ self.old.threads.records }
     {
         &mut self.threads
     }
 
     fn queues_mut(&mut self) -> &mut QueueSet
-        ensures* writes_back { sem 𝓛 (Lends (the_row P.row P.State.row P.Shared.row P.Program) queues_row self.entry result (λ k. record self.old { queues = k })) }
-        ensures value { result.now ≡ self.old.queues }
+        ensures* writes_back { sem 𝓛 (Lends (the_row P.row P.State.row P.Shared.row P.Program) queues_row self.entry result (λ x. record self.old { threads = record self.old.threads { queues = x } })) }
+        ensures value { result.now ≡ self.old.threads.queues }
     {
         &mut self.queues
     }
 
-    fn going_mut(&mut self) -> &mut Continuations<P::State>
-        ensures* writes_back { sem 𝓛 (Lends (the_row P.row P.State.row P.Shared.row P.Program) (continuations_row P.State.row) self.entry result (λ k. record self.old { going = k })) }
-        ensures value { result.now ≡ self.old.going }
+    fn progress_mut(&mut self) -> &mut ProgressTable<P::State>
+        ensures* writes_back { sem 𝓛 (Lends (the_row P.row P.State.row P.Shared.row P.Program) (progress_row P.State.row) self.entry result (λ x. record self.old { threads = record self.old.threads { progress = x } })) }
+        ensures value { result.now ≡ self.old.threads.progress }
     {
-        &mut self.going
+        &mut self.progress
     }
 
     // The slot of a thread in the system.
     fn slot(&self, t: Tid) -> Slot
-        requires { IsKnown self.now t.0 }
-        ensures slot { slot_of self.now.threads t.0 ≡ Some result.0 }
-        ensures used { tid_at self.now.threads result.0 ≢ 0 }
+        requires { IsKnown self.now.threads t.0 }
+        ensures slot { slot_of self.now.threads.records t.0 ≡ Some result.0 }
+        ensures used { tid_at self.now.threads.records result.0 ≢ 0 }
     {
         match self.threads().find(t) {
             Some(slot) => slot,
@@ -122,9 +123,9 @@ impl<P: Program> World<P> {
 
     // The base priority of a thread.
     fn prio(&self, t: Tid) -> i64
-        requires sound { IsSound self.now }
-        requires known { IsKnown self.now t.0 }
-        ensures prio { (s : State P P.State P.Shared) → StandsFor self.now s → result ≡ prio_of s t.0 }
+        requires sound { IsSound self.now.threads }
+        requires known { IsKnown self.now.threads t.0 }
+        ensures prio { (k : Control P P.State P.Shared) → Shows self.now k → result ≡ prio_of k t.0 }
         ensures low { IsPrio result }
     {
         let slot = self.slot(t);
@@ -140,62 +141,73 @@ impl<P: Program> World<P> {
 
     /// The thread that runs, and none where no thread runs.
     pub fn running(&self) -> Option<Tid>
-        ensures { option_map number_of result ≡ self.now.running }
+        ensures { option_map number_of result ≡ self.now.scheduler.running }
     {
         self.running
     }
 
     /// Sets the thread that runs.
     pub fn set_running(&mut self, t: Option<Tid>)
-        ensures same { self.new ≡ record self.old { running = option_map number_of t } }
-        ensures stands { (s : State P P.State P.Shared) → StandsFor self.old s → StandsFor self.new (running_is s (option_map number_of t)) }
-        ensures sound { IsSound self.old → IsSound self.new }
+        ensures same { self.new ≡ record self.old { scheduler = record self.old.scheduler { running = option_map number_of t } } }
+        ensures shows { (k : Control P P.State P.Shared) → Shows self.old k → Shows self.new (runs_now (option_map number_of t) k) }
+        ensures but { (u : ℕ) → IsAbout self.old.scheduler.running u → IsAbout self.new.scheduler.running u → IsRunner self.new → WholeBut self.old u → WholeBut self.new u }
     {
         self.running = t;
     }
 
-    /// The thread that the last yield named, and none where it named none (`pth_yield`).
-    pub fn named(&self) -> Option<Tid>
-        ensures { option_map number_of result ≡ self.now.named }
+    // A thread runs no longer, if it does.
+    fn stop_running(&mut self, t: Tid)
+        ensures same { self.new ≡ record self.old { scheduler = record self.old.scheduler { running = other_than t.0 self.old.scheduler.running } } }
+        ensures shows { (k : Control P P.State P.Shared) → Shows self.old k → Shows self.new (stops_running t.0 k) }
     {
-        self.named
+        if let Some(running) = self.running
+            && running.0 == t.0
+        {
+            self.running = None;
+        }
+    }
+
+    /// The thread that the last yield named, and none where it named none (`pth_yield`).
+    pub fn preferred(&self) -> Option<Tid>
+        ensures { option_map number_of result ≡ self.now.scheduler.preferred }
+    {
+        self.preferred
     }
 
     /// Names the thread that is taken next.
-    pub fn name_next(&mut self, t: Option<Tid>)
-        ensures same { self.new ≡ record self.old { named = option_map number_of t } }
-        ensures stands { (s : State P P.State P.Shared) → StandsFor self.old s → StandsFor self.new (naming s (option_map number_of t)) }
-        ensures sound { IsSound self.old → IsSound self.new }
+    pub fn prefer(&mut self, t: Option<Tid>)
+        ensures same { self.new ≡ record self.old { scheduler = record self.old.scheduler { preferred = option_map number_of t } } }
+        ensures shows { (k : Control P P.State P.Shared) → Shows self.old k → Shows self.new (prefers (option_map number_of t) k) }
         ensures whole { Whole self.old → Whole self.new }
     {
-        self.named = t;
+        self.preferred = t;
     }
 
     /// Whether new threads are favoured (`PTH_CTRL_FAVOURNEW`).
     pub fn favour(&self) -> bool
-        ensures { result ≡ self.now.favour_new }
+        ensures { result ≡ self.now.scheduler.favour_new }
     {
         self.favour_new
     }
 
     /// The moment, in microseconds.
     pub fn time(&self) -> Micros
-        ensures { result ≡ self.now.time }
+        ensures { result ≡ self.now.scheduler.now }
     {
         self.time
     }
 
     /// How many microseconds a turn takes.
     pub fn clock(&self) -> Micros
-        ensures { result ≡ self.now.clock }
+        ensures { result ≡ self.now.scheduler.clock }
     {
         self.clock
     }
 
     /// Sets the moment.
     pub fn set_time(&mut self, time: Micros)
-        ensures same { self.new ≡ record self.old { time = time } }
-        ensures stands { (s : State P P.State P.Shared) → StandsFor self.old s → StandsFor self.new (at_moment s time) }
+        ensures same { self.new ≡ record self.old { scheduler = record self.old.scheduler { now = time } } }
+        ensures shows { (k : Control P P.State P.Shared) → Shows self.old k → Shows self.new (moves_to time k) }
         ensures whole { Whole self.old → Whole self.new }
     {
         self.time = time;

@@ -7,13 +7,16 @@ ghost use Rattle.pth_queue.specs.Queues.{IsRank, entered, without};
 ghost use Rattle.pth_queue.specs.declared.queue.Queue.TheVariants as queue;
 ghost use Rattle.pth_threads.specs.Threads.{slot_of};
 ghost use Rattle.pth_threads.specs.declared.entry.Change.TheVariants as change;
-ghost use Rattle.pth_model.specs.State.{State};
-ghost use Rattle.pth_model.specs.Changes.{running_is};
-ghost use Rattle.pth_model.specs.Ending.{dead, gone};
-ghost use Rattle.pth_model.specs.Pass.{readied};
-ghost use Rattle.pth_model.specs.Part.{put_back, put_waiting, runs};
+ghost use Rattle.pth_model.specs.State.{Control};
+ghost use Rattle.pth_model.specs.Changes.{runs_now, removes};
+ghost use Rattle.pth_model.specs.Ending.{is_dead_with, leaves, other_than, stops_running};
+ghost use Rattle.pth_model.specs.Pass.{is_ready_at};
+ghost use Rattle.pth_model.specs.Part.{is_put_back, is_put_waiting, runs};
 ghost use Rattle.pth_world.specs.Ranks.{greatest_return, KeepsRanks};
-ghost use Rattle.pth_world.specs.Standing.{StandsFor, Whole, IsPrio, IsKnown, IsIn, IsBeforeReady, SameThreads, KeepsScheduler};
+ghost use Rattle.pth_world.specs.Shows.{Shows};
+ghost use Rattle.pth_world.specs.Sound.{IsPrio, IsKnown};
+ghost use Rattle.pth_world.specs.Whole.{Whole, IsIn, IsBeforeReady};
+ghost use Rattle.pth_world.specs.Touches.{SameThreads, KeepsScheduler};
 
 use crate::world::World;
 use pth_base::ids::Tid;
@@ -27,15 +30,15 @@ impl<P: Program> World<P> {
     /// A thread that is new or waits is ready, at a rank.
     pub fn make_ready(&mut self, t: Tid, rank: i64)
         requires whole { Whole self.old }
-        requires known { IsKnown self.old t.0 }
-        requires before { IsBeforeReady self.old t.0 }
+        requires known { IsKnown self.old.threads t.0 }
+        requires before { IsBeforeReady self.old.threads t.0 }
         requires rank { IsRank rank }
-        ensures stands { (s : State P P.State P.Shared) (top : Bool) → StandsFor self.old s → StandsFor self.new (readied s t.0 rank top) }
+        ensures shows { (k : Control P P.State P.Shared) (top : Bool) → Shows self.old k → Shows self.new (is_ready_at t.0 rank top k) }
         ensures whole { Whole self.new }
-        ensures threads { SameThreads self.old self.new }
+        ensures threads { SameThreads self.old.threads self.new.threads }
         ensures scheduler { KeepsScheduler self.old self.new }
-        ensures queues { IfSome (slot_of self.old.threads t.0) (λ u. self.new.queues ≡ entered queue.Ready rank u (without u self.old.queues)) }
-        ensures ranks { rank ≤ℤ pos greatest_return → KeepsRanks self.old self.new }
+        ensures queues { IfSome (slot_of self.old.threads.records t.0) (λ u. self.new.threads.queues ≡ entered queue.Ready rank u (without u self.old.threads.queues)) }
+        ensures ranks { rank ≤ℤ pos greatest_return → KeepsRanks 0 self.old.threads self.new.threads }
     {
         self.take_out(t);
         self.put_ready(t, rank);
@@ -44,15 +47,15 @@ impl<P: Program> World<P> {
     /// A ready thread is dispatched: it runs, its dispatches are one more, and nobody is named any longer.
     pub fn dispatch(&mut self, t: Tid)
         requires whole { Whole self.old }
-        requires known { IsKnown self.old t.0 }
-        requires stands { IsIn queue.Ready self.old t.0 }
-        requires nobody { self.old.running ≡ None }
-        ensures stands { (s : State P P.State P.Shared) → StandsFor self.old s → StandsFor self.new (runs s t.0) }
+        requires known { IsKnown self.old.threads t.0 }
+        requires stands { IsIn queue.Ready self.old.threads t.0 }
+        requires nobody { self.old.scheduler.running ≡ None }
+        ensures shows { (k : Control P P.State P.Shared) → Shows self.old k → Shows self.new (runs t.0 k) }
         ensures whole { Whole self.new }
-        ensures threads { SameThreads self.old self.new }
-        ensures queues { IfSome (slot_of self.old.threads t.0) (λ u. self.new.queues ≡ without u self.old.queues) }
-        ensures ranks { KeepsRanks self.old self.new }
-        ensures same { self.new ≡ record self.old { threads = self.new.threads; queues = self.new.queues; running = Some t.0; named = None } }
+        ensures threads { SameThreads self.old.threads self.new.threads }
+        ensures queues { IfSome (slot_of self.old.threads.records t.0) (λ u. self.new.threads.queues ≡ without u self.old.threads.queues) }
+        ensures ranks { KeepsRanks 0 self.old.threads self.new.threads }
+        ensures same { self.new ≡ record self.old { threads = self.new.threads; scheduler = record self.old.scheduler { running = Some t.0; preferred = None } } }
     {
         self.take_out(t);
         let dispatches = match self.entry(t) {
@@ -62,19 +65,19 @@ impl<P: Program> World<P> {
         self.change(t, Change::State(ThreadState::Running));
         self.change(t, Change::Dispatches(one_more(dispatches)));
         self.set_running(Some(t));
-        self.name_next(None);
+        self.prefer(None);
     }
 
     /// The thread that runs is ready again, at its base priority.
     pub fn put_back(&mut self, t: Tid)
         requires whole { Whole self.old }
-        requires runs { self.old.running ≡ Some t.0 }
-        ensures stands { (s : State P P.State P.Shared) → StandsFor self.old s → StandsFor self.new (running_is (put_back s t.0) None) }
+        requires runs { self.old.scheduler.running ≡ Some t.0 }
+        ensures shows { (k : Control P P.State P.Shared) → Shows self.old k → Shows self.new (runs_now None (is_put_back t.0 k)) }
         ensures whole { Whole self.new }
-        ensures threads { SameThreads self.old self.new }
-        ensures queues { IfSome (slot_of self.old.threads t.0) (λ u. (prio : ℤ) × IsPrio prio × (self.new.queues ≡ entered queue.Ready prio u self.old.queues)) }
-        ensures ranks { KeepsRanks self.old self.new }
-        ensures same { self.new ≡ record self.old { threads = self.new.threads; queues = self.new.queues; running = None } }
+        ensures threads { SameThreads self.old.threads self.new.threads }
+        ensures queues { IfSome (slot_of self.old.threads.records t.0) (λ u. (prio : ℤ) × IsPrio prio × (self.new.threads.queues ≡ entered queue.Ready prio u self.old.threads.queues)) }
+        ensures ranks { KeepsRanks 0 self.old.threads self.new.threads }
+        ensures same { self.new ≡ record self.old { threads = self.new.threads; scheduler = record self.old.scheduler { running = None } } }
     {
         let prio = self.prio(t);
         self.set_running(None);
@@ -84,50 +87,70 @@ impl<P: Program> World<P> {
     /// The thread that runs waits, at its base priority.
     pub fn make_waiting(&mut self, t: Tid)
         requires whole { Whole self.old }
-        requires runs { self.old.running ≡ Some t.0 }
-        ensures stands { (s : State P P.State P.Shared) → StandsFor self.old s → StandsFor self.new (running_is (put_waiting s t.0) None) }
+        requires runs { self.old.scheduler.running ≡ Some t.0 }
+        ensures shows { (k : Control P P.State P.Shared) → Shows self.old k → Shows self.new (runs_now None (is_put_waiting t.0 k)) }
         ensures whole { Whole self.new }
-        ensures threads { SameThreads self.old self.new }
-        ensures queues { IfSome (slot_of self.old.threads t.0) (λ u. (prio : ℤ) × IsPrio prio × (self.new.queues ≡ entered queue.Waiting prio u self.old.queues)) }
-        ensures ranks { KeepsRanks self.old self.new }
-        ensures same { self.new ≡ record self.old { threads = self.new.threads; queues = self.new.queues; running = None } }
+        ensures threads { SameThreads self.old.threads self.new.threads }
+        ensures queues { IfSome (slot_of self.old.threads.records t.0) (λ u. (prio : ℤ) × IsPrio prio × (self.new.threads.queues ≡ entered queue.Waiting prio u self.old.threads.queues)) }
+        ensures ranks { KeepsRanks 0 self.old.threads self.new.threads }
+        ensures same { self.new ≡ record self.old { threads = self.new.threads; scheduler = record self.old.scheduler { running = None } } }
     {
         self.set_running(None);
         self.put_waiting(t);
     }
 
-    /// The thread that runs is dead, and keeps a value until it is joined.
-    pub fn make_dead(&mut self, t: Tid, value: i64)
+    // A thread is dead, and keeps a value until it is joined.
+    fn make_dead(&mut self, t: Tid, value: i64)
         requires whole { Whole self.old }
-        requires runs { self.old.running ≡ Some t.0 }
-        ensures stands { (s : State P P.State P.Shared) → StandsFor self.old s → StandsFor self.new (running_is (dead s t.0 value) None) }
+        requires known { IsKnown self.old.threads t.0 }
+        ensures shows { (k : Control P P.State P.Shared) → Shows self.old k → Shows self.new (stops_running t.0 (is_dead_with t.0 value k)) }
         ensures whole { Whole self.new }
-        ensures threads { SameThreads self.old self.new }
-        ensures queues { IfSome (slot_of self.old.threads t.0) (λ u. self.new.queues ≡ entered queue.Dead (pos 0) u (without u self.old.queues)) }
-        ensures ranks { KeepsRanks self.old self.new }
-        ensures same { self.new ≡ record self.old { threads = self.new.threads; queues = self.new.queues; running = None } }
+        ensures made { self.new.threads.records.made ≡ self.old.threads.records.made }
+        ensures ranks { KeepsRanks 0 self.old.threads self.new.threads }
+        ensures same { self.new ≡ record self.old { threads = self.new.threads; scheduler = record self.old.scheduler { running = other_than t.0 self.old.scheduler.running } } }
     {
         self.take_out(t);
         self.change(t, Change::State(ThreadState::Dead));
         self.change(t, Change::Suspended(false));
         self.change(t, Change::Value(value));
         self.put_in(t, Queue::Dead, 0);
-        self.set_running(None);
+        self.stop_running(t);
     }
 
-    /// The thread that runs is gone.
-    pub fn make_gone(&mut self, t: Tid)
+    // A thread is gone.
+    fn make_gone(&mut self, t: Tid)
         requires whole { Whole self.old }
-        requires runs { self.old.running ≡ Some t.0 }
-        ensures stands { (s : State P P.State P.Shared) → StandsFor self.old s → StandsFor self.new (running_is (gone s t.0) None) }
+        requires known { IsKnown self.old.threads t.0 }
+        ensures shows { (k : Control P P.State P.Shared) → Shows self.old k → Shows self.new (stops_running t.0 (removes t.0 k)) }
         ensures whole { Whole self.new }
-        ensures made { self.new.threads.made ≡ self.old.threads.made }
-        ensures queues { IfSome (slot_of self.old.threads t.0) (λ u. self.new.queues ≡ without u self.old.queues) }
-        ensures ranks { KeepsRanks self.old self.new }
-        ensures same { self.new ≡ record self.old { threads = self.new.threads; queues = self.new.queues; going = self.new.going; running = None } }
+        ensures made { self.new.threads.records.made ≡ self.old.threads.records.made }
+        ensures ranks { KeepsRanks 0 self.old.threads self.new.threads }
+        ensures same { self.new ≡ record self.old { threads = self.new.threads; scheduler = record self.old.scheduler { running = other_than t.0 self.old.scheduler.running } } }
     {
         self.drop_thread(t);
-        self.set_running(None);
+        self.stop_running(t);
+    }
+
+    /// A thread ends, whoever runs: one that can be joined is dead and keeps a value until it is joined, and another is gone.
+    /// It runs no longer.
+    pub fn leave(&mut self, t: Tid, value: i64)
+        requires whole { Whole self.old }
+        requires known { IsKnown self.old.threads t.0 }
+        ensures shows { (k : Control P P.State P.Shared) → Shows self.old k → Shows self.new (leaves t.0 value k) }
+        ensures whole { Whole self.new }
+        ensures made { self.new.threads.records.made ≡ self.old.threads.records.made }
+        ensures ranks { KeepsRanks 0 self.old.threads self.new.threads }
+        ensures same { self.new ≡ record self.old { threads = self.new.threads; scheduler = record self.old.scheduler { running = other_than t.0 self.old.scheduler.running } } }
+    {
+        let joinable = match self.entry(t) {
+            Some(entry) => entry.joinable,
+            None => unreachable!(),
+        };
+        if joinable {
+            self.make_dead(t, value);
+        } else {
+            self.make_gone(t);
+        }
     }
 }
 

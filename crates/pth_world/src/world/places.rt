@@ -2,12 +2,15 @@
 
 ghost use Rattle.std.specs.Prelude.{◌≡◌, ◌≢◌, ◌<◌, ℕ, Bool, Option, Some, None, IfSome};
 ghost use Rattle.pth_queue.specs.Queues.{IsNowhere, IsRank, CanRise, entered, without, with_rows};
-ghost use Rattle.pth_queue.specs.Rows.{increase};
+ghost use Rattle.pth_queue.specs.Ranking.{increase};
 ghost use Rattle.pth_queue.specs.declared.queue.Queue.TheVariants as queue;
 ghost use Rattle.pth_threads.specs.Threads.{slot_of};
-ghost use Rattle.pth_model.specs.State.{State};
-ghost use Rattle.pth_model.specs.Changes.{with_entry, without_entry, raised};
-ghost use Rattle.pth_world.specs.Standing.{StandsFor, IsSound, Whole, IsKnown, Touches, places, view};
+ghost use Rattle.pth_model.specs.State.{Control};
+ghost use Rattle.pth_model.specs.Changes.{enters, leaves_queue, raises_ready};
+ghost use Rattle.pth_world.specs.Shows.{Shows};
+ghost use Rattle.pth_world.specs.Sound.{IsSound, IsKnown};
+ghost use Rattle.pth_world.specs.Whole.{Whole, WholeBut, view};
+ghost use Rattle.pth_world.specs.Touches.{Touches, places};
 
 use crate::world::World;
 use pth_base::ids::Tid;
@@ -17,15 +20,16 @@ use pth_queue::queue::Queue;
 impl<P: Program> World<P> {
     /// Puts a thread that stands nowhere into a queue at a rank, and leaves its state.
     pub fn put_in(&mut self, t: Tid, q: Queue, rank: i64)
-        requires sound { IsSound self.old }
-        requires known { IsKnown self.old t.0 }
-        requires nowhere { IfSome (slot_of self.old.threads t.0) (λ u. IsNowhere u self.old.queues) }
+        requires sound { IsSound self.old.threads }
+        requires known { IsKnown self.old.threads t.0 }
+        requires nowhere { IfSome (slot_of self.old.threads.records t.0) (λ u. IsNowhere u self.old.threads.queues) }
         requires rank { IsRank rank }
-        ensures stands { (s : State P P.State P.Shared) (top : Bool) → StandsFor self.old s → StandsFor self.new (with_entry s t.0 q rank top) }
-        ensures sound { IsSound self.new }
-        ensures touches { Touches self.old self.new t.0 (places (Some q)) }
-        ensures queues { IfSome (slot_of self.old.threads t.0) (λ u. self.new.queues ≡ entered q rank u self.old.queues) }
-        ensures same { self.new ≡ record self.old { queues = self.new.queues } }
+        ensures shows { (k : Control P P.State P.Shared) (top : Bool) → Shows self.old k → Shows self.new (enters t.0 q rank top k) }
+        ensures sound { IsSound self.new.threads }
+        ensures touches { Touches self.old.threads self.new.threads t.0 (places (Some q)) }
+        ensures but { WholeBut self.old t.0 → WholeBut self.new t.0 }
+        ensures queues { IfSome (slot_of self.old.threads.records t.0) (λ u. self.new.threads.queues ≡ entered q rank u self.old.threads.queues) }
+        ensures same { self.new ≡ record self.old { threads = record self.old.threads { queues = self.new.threads.queues } } }
     {
         let slot = self.slot(t);
         self.queues_mut().insert(q, rank, slot);
@@ -33,13 +37,14 @@ impl<P: Program> World<P> {
 
     /// Takes a thread out of its queue, if it stands in one, and leaves its state.
     pub fn take_out(&mut self, t: Tid)
-        requires sound { IsSound self.old }
-        requires known { IsKnown self.old t.0 }
-        ensures stands { (s : State P P.State P.Shared) → StandsFor self.old s → StandsFor self.new (without_entry s t.0) }
-        ensures sound { IsSound self.new }
-        ensures touches { Touches self.old self.new t.0 (places None) }
-        ensures queues { IfSome (slot_of self.old.threads t.0) (λ u. self.new.queues ≡ without u self.old.queues) }
-        ensures same { self.new ≡ record self.old { queues = self.new.queues } }
+        requires sound { IsSound self.old.threads }
+        requires known { IsKnown self.old.threads t.0 }
+        ensures shows { (k : Control P P.State P.Shared) → Shows self.old k → Shows self.new (leaves_queue t.0 k) }
+        ensures sound { IsSound self.new.threads }
+        ensures touches { Touches self.old.threads self.new.threads t.0 (places None) }
+        ensures but { WholeBut self.old t.0 → WholeBut self.new t.0 }
+        ensures queues { IfSome (slot_of self.old.threads.records t.0) (λ u. self.new.threads.queues ≡ without u self.old.threads.queues) }
+        ensures same { self.new ≡ record self.old { threads = record self.old.threads { queues = self.new.threads.queues } } }
     {
         let slot = self.slot(t);
         match self.queues().queue_of(slot) {
@@ -52,13 +57,13 @@ impl<P: Program> World<P> {
 
     /// Raises every rank in the ready queue by one.
     pub fn raise_ready(&mut self)
-        requires sound { IsSound self.old }
-        requires rise { CanRise self.old.queues.ready }
-        ensures stands { (s : State P P.State P.Shared) → StandsFor self.old s → StandsFor self.new (raised s) }
-        ensures sound { IsSound self.new }
-        ensures views { (u : ℕ) → view self.new u ≡ view self.old u }
+        requires sound { IsSound self.old.threads }
+        requires rise { CanRise self.old.threads.queues.ready }
+        ensures shows { (k : Control P P.State P.Shared) → Shows self.old k → Shows self.new (raises_ready k) }
+        ensures sound { IsSound self.new.threads }
+        ensures views { (u : ℕ) → view self.new.threads u ≡ view self.old.threads u }
         ensures whole { Whole self.old → Whole self.new }
-        ensures same { self.new ≡ record self.old { queues = with_rows queue.Ready (increase self.old.queues.ready) self.old.queues } }
+        ensures same { self.new ≡ record self.old { threads = record self.old.threads { queues = with_rows queue.Ready (increase self.old.threads.queues.ready) self.old.threads.queues } } }
     {
         self.queues_mut().increase(Queue::Ready);
     }

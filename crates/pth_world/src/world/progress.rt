@@ -1,91 +1,83 @@
-//! What threads go on with.
+//! How far threads are in their programs.
 
-ghost use Rattle.std.specs.Prelude.{◌≡◌, ◌<◌, ℕ, Option, Some, None, IsSome, IfOk, OnOk, option_copied, length};
+ghost use Rattle.std.specs.Prelude.{◌≡◌, ◌<◌, ℕ, Option, Some, None, IsSome, IfSome, IfOk, OnOk, option_copied, length};
 ghost use Rattle.pth_base.specs.Limits.{thread_limit};
 ghost use Rattle.pth_base.specs.Table.{table};
-ghost use Rattle.pth_base.specs.declared.answer.Answer.{Answer as AnswerOf};
-ghost use Rattle.pth_model.specs.State.{State};
-ghost use Rattle.pth_model.specs.Changes.{with_going, with_held, with_owed, held_of, owed_to, called};
-ghost use Rattle.pth_world.specs.Standing.{StandsFor, IsSound, IsKnown, Whole, Touches, MaySuspend, holding, same_view};
+ghost use Rattle.pth_model.specs.State.{Control};
+ghost use Rattle.pth_model.specs.Changes.{is_blocked_by, owes, blocked_of};
+ghost use Rattle.pth_model.specs.Part.{step_of, stepping};
+ghost use Rattle.pth_world.specs.Shows.{Shows};
+ghost use Rattle.pth_world.specs.Sound.{IsSound, IsKnown};
+ghost use Rattle.pth_world.specs.Whole.{Whole, WholeBut, MayBlock};
+ghost use Rattle.pth_world.specs.Touches.{Touches, blocks, same_view};
 ghost use Rattle.pth_world.specs.Steps.{StepsAt};
 
-use crate::continuations::step_at;
+use crate::progress_table::step_at;
 use crate::world::World;
 use pth_base::answer::Answer;
 use pth_base::call::Call;
 use pth_base::ids::{Slot, Tid};
 use pth_base::memory::OutOfMemory;
 use pth_base::program::Program;
-use pth_model::held::Held;
+use pth_model::blocked::Blocked;
 
 impl<P: Program> World<P> {
-    /// Sets the call that suspends a thread.
-    pub fn hold(&mut self, t: Tid, h: Held)
-        requires sound { IsSound self.old }
-        requires known { IsKnown self.old t.0 }
-        ensures stands { (s : State P P.State P.Shared) → StandsFor self.old s → StandsFor self.new (with_going s t.0 (with_held (Some h))) }
-        ensures sound { IsSound self.new }
-        ensures touches { Touches self.old self.new t.0 (holding (Some h)) }
-        ensures whole { Whole self.old → MaySuspend t.0 h.call → Whole self.new }
-        ensures same { self.new ≡ record self.old { going = self.new.going } }
+    /// Sets the call that blocks a thread.
+    pub fn block(&mut self, t: Tid, b: Blocked)
+        requires sound { IsSound self.old.threads }
+        requires known { IsKnown self.old.threads t.0 }
+        ensures shows { (k : Control P P.State P.Shared) → Shows self.old k → Shows self.new (is_blocked_by t.0 (Some b) k) }
+        ensures sound { IsSound self.new.threads }
+        ensures touches { Touches self.old.threads self.new.threads t.0 (blocks (Some b)) }
+        ensures but { WholeBut self.old t.0 → WholeBut self.new t.0 }
+        ensures whole { Whole self.old → MayBlock t.0 b → Whole self.new }
+        ensures same { self.new ≡ record self.old { threads = record self.old.threads { progress = self.new.threads.progress } } }
     {
         let slot = self.slot(t);
-        self.going_mut().hold(slot, h);
+        self.progress_mut().block(slot, b);
     }
 
-    /// Takes out the call that suspends a thread; none where no call does.
-    pub fn take_held(&mut self, t: Tid) -> Option<Held>
-        requires sound { IsSound self.old }
-        requires known { IsKnown self.old t.0 }
-        ensures held { (s : State P P.State P.Shared) → StandsFor self.old s → result ≡ held_of s t.0 }
-        ensures stands { (s : State P P.State P.Shared) → StandsFor self.old s → StandsFor self.new (with_going s t.0 (with_held None)) }
-        ensures sound { IsSound self.new }
-        ensures touches { Touches self.old self.new t.0 (holding None) }
+    /// Takes out the call that blocks a thread; none where no call does.
+    pub fn unblock(&mut self, t: Tid) -> Option<Blocked>
+        requires sound { IsSound self.old.threads }
+        requires known { IsKnown self.old.threads t.0 }
+        ensures blocked { (k : Control P P.State P.Shared) → Shows self.old k → result ≡ blocked_of k t.0 }
+        ensures shows { (k : Control P P.State P.Shared) → Shows self.old k → Shows self.new (is_blocked_by t.0 None k) }
+        ensures sound { IsSound self.new.threads }
+        ensures touches { Touches self.old.threads self.new.threads t.0 (blocks None) }
+        ensures but { WholeBut self.old t.0 → WholeBut self.new t.0 }
         ensures whole { Whole self.old → Whole self.new }
-        ensures same { self.new ≡ record self.old { going = self.new.going } }
+        ensures same { self.new ≡ record self.old { threads = record self.old.threads { progress = self.new.threads.progress } } }
     {
         let slot = self.slot(t);
-        self.going_mut().take_held(slot)
+        self.progress_mut().unblock(slot)
     }
 
     /// Sets the answer that is handed over to a thread in its next step.
     #[inline(always)]
     pub fn owe(&mut self, t: Tid, a: Answer)
-        requires sound { IsSound self.old }
-        requires known { IsKnown self.old t.0 }
-        ensures stands { (s : State P P.State P.Shared) → StandsFor self.old s → StandsFor self.new (with_going s t.0 (with_owed a)) }
-        ensures sound { IsSound self.new }
-        ensures touches { Touches self.old self.new t.0 same_view }
+        requires sound { IsSound self.old.threads }
+        requires known { IsKnown self.old.threads t.0 }
+        ensures shows { (k : Control P P.State P.Shared) → Shows self.old k → Shows self.new (owes t.0 a k) }
+        ensures sound { IsSound self.new.threads }
+        ensures touches { Touches self.old.threads self.new.threads t.0 same_view }
+        ensures but { WholeBut self.old t.0 → WholeBut self.new t.0 }
         ensures whole { Whole self.old → Whole self.new }
-        ensures same { self.new ≡ record self.old { going = self.new.going } }
+        ensures same { self.new ≡ record self.old { threads = record self.old.threads { progress = self.new.threads.progress } } }
     {
         let slot = self.slot(t);
-        self.going_mut().owe(slot, a);
+        self.progress_mut().owe(slot, a);
     }
 
-    /// Takes out the answer that is not yet handed over to a thread, and leaves `Answer::None`.
-    pub fn take_owed(&mut self, t: Tid) -> Answer
-        requires sound { IsSound self.old }
-        requires known { IsKnown self.old t.0 }
-        ensures owed { (s : State P P.State P.Shared) → StandsFor self.old s → result ≡ owed_to s t.0 }
-        ensures stands { (s : State P P.State P.Shared) → StandsFor self.old s → StandsFor self.new (with_going s t.0 (with_owed AnswerOf.None)) }
-        ensures sound { IsSound self.new }
-        ensures touches { Touches self.old self.new t.0 same_view }
-        ensures whole { Whole self.old → Whole self.new }
-        ensures same { self.new ≡ record self.old { going = self.new.going } }
-    {
-        let slot = self.slot(t);
-        self.going_mut().take_owed(slot)
-    }
-
-    /// The call that suspends a thread; none where no call does.
-    pub fn held(&self, t: Tid) -> Option<&Held>
-        requires { IsSound self.now }
-        ensures { (s : State P P.State P.Shared) → StandsFor self.now s → option_copied result ≡ held_of s t.0 }
+    /// The call that blocks a thread; none where no call does.
+    pub fn blocked(&self, t: Tid) -> Option<&Blocked>
+        requires { IsSound self.now.threads }
+        ensures blocked { (k : Control P P.State P.Shared) → Shows self.now k → option_copied result ≡ blocked_of k t.0 }
+        ensures may { Whole self.now → IfSome (option_copied result) (λ b. MayBlock t.0 b) }
     {
         match self.threads().find(t) {
-            Some(slot) => match self.going().get(slot) {
-                Some(c) => c.held.as_ref(),
+            Some(slot) => match self.progress().get(slot) {
+                Some(p) => p.blocked.as_ref(),
                 None => None,
             },
             None => None,
@@ -95,34 +87,37 @@ impl<P: Program> World<P> {
     // The program's step at the state of the thread at a slot.
     fn step(&mut self, slot: Slot, answer: &Answer) -> Result<Call, OutOfMemory>
         requires low { slot.0 < thread_limit }
-        requires some { IsSome (table None self.old.going slot.0) }
-        ensures step { IfOk result (λ call. StepsAt (P.functions self.old.program) slot.0 (table None self.old.going) (table None self.new.going) self.old.shared self.new.shared answer.now call) }
-        ensures long { length self.new.going ≡ thread_limit }
-        ensures same { OnOk result (self.new ≡ record self.old { going = self.new.going; shared = self.new.shared }) }
+        requires some { IsSome (table None self.old.threads.progress slot.0) }
+        ensures step { IfOk result (λ call. StepsAt (P.functions self.old.program) slot.0 (table None self.old.threads.progress) (table None self.new.threads.progress) self.old.shared self.new.shared answer.now call) }
+        ensures long { length self.new.threads.progress ≡ thread_limit }
+        ensures same { OnOk result (self.new ≡ record self.old { threads = record self.old.threads { progress = self.new.threads.progress }; shared = self.new.shared }) }
     {
         step_at(
             &self.program,
             self.alloc,
-            &mut self.going,
+            &mut self.progress,
             slot,
             &mut self.shared,
             answer,
         )
     }
 
-    /// The program's step for a thread, with the answer of its last call: its next call. After an error the world may only
-    /// be dropped.
-    pub fn next_call(&mut self, t: Tid, answer: &Answer) -> Result<Call, OutOfMemory>
-        requires sound { IsSound self.old }
-        requires known { IsKnown self.old t.0 }
-        ensures call { IfOk result (λ call. (s : State P P.State P.Shared) → StandsFor self.old s → call ≡ (called P.functions s t.0 answer.now).call) }
-        ensures stands { OnOk result ((s : State P P.State P.Shared) → StandsFor self.old s → StandsFor self.new (called P.functions s t.0 answer.now).state) }
-        ensures sound { OnOk result (IsSound self.new) }
-        ensures touches { OnOk result (Touches self.old self.new t.0 same_view) }
+    /// The program's next call of a thread, which is handed over the answer that it is owed. After an error the world may
+    /// only be dropped.
+    pub fn next_call(&mut self, t: Tid) -> Result<Call, OutOfMemory>
+        requires sound { IsSound self.old.threads }
+        requires known { IsKnown self.old.threads t.0 }
+        ensures call { IfOk result (λ call. (k : Control P P.State P.Shared) → Shows self.old k → IfSome (k.threads.progress t.0) (λ p. call ≡ (step_of P.functions k p).call)) }
+        ensures shows { OnOk result ((k : Control P P.State P.Shared) → Shows self.old k → IfSome (k.threads.progress t.0) (λ p. Shows self.new (stepping t.0 (step_of P.functions k p) k))) }
+        ensures some { (k : Control P P.State P.Shared) → Shows self.old k → IsSome (k.threads.progress t.0) }
+        ensures sound { OnOk result (IsSound self.new.threads) }
+        ensures touches { OnOk result (Touches self.old.threads self.new.threads t.0 same_view) }
+        ensures but { OnOk result (WholeBut self.old t.0 → WholeBut self.new t.0) }
         ensures whole { OnOk result (Whole self.old → Whole self.new) }
-        ensures same { OnOk result (self.new ≡ record self.old { going = self.new.going; shared = self.new.shared }) }
+        ensures same { OnOk result (self.new ≡ record self.old { threads = record self.old.threads { progress = self.new.threads.progress }; shared = self.new.shared }) }
     {
         let slot = self.slot(t);
-        self.step(slot, answer)
+        let answer = self.progress_mut().take_owed(slot);
+        self.step(slot, &answer)
     }
 }

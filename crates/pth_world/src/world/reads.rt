@@ -2,16 +2,19 @@
 
 ghost use Rattle.std.specs.Prelude.{◌≡◌, ◌≢◌, ℕ, ◌+◌, ◌^◌, ◌<◌, pos, neg_ℤ, ◌≤ℤ◌, true, List, [], ◌∷◌, ◌++◌, Option, Some, None, IsSome, IfSome, option_map, option_copied};
 ghost use Rattle.pth_queue.specs.declared.queue.Queue.TheVariants as queue;
-ghost use Rattle.pth_queue.specs.declared.row.Row.{Row};
-ghost use Rattle.pth_queue.specs.Rows.{holds, head_of, last_of, place_in, favour_top};
+ghost use Rattle.pth_queue.specs.declared.ranked.Ranked.{Ranked};
+ghost use Rattle.pth_queue.specs.Ranking.{holds, head_of, last_of, place_in, favour_top};
 ghost use Rattle.pth_queue.specs.Queues.{rows_of};
 ghost use Rattle.pth_threads.specs.Threads.{tid_at};
-ghost use Rattle.pth_model.specs.State.{State, queue};
-ghost use Rattle.pth_model.specs.Part.{is_empty, rank_by};
-ghost use Rattle.pth_model.specs.Waits.{only, is_alone};
+ghost use Rattle.pth_model.specs.State.{Control, queue};
+ghost use Rattle.pth_model.specs.Changes.{holders, is_empty};
+ghost use Rattle.pth_model.specs.Part.{rank_by};
+ghost use Rattle.pth_model.specs.ThreadEnds.{only, is_alone};
 ghost use Rattle.pth_world.specs.World.{number_of};
 ghost use Rattle.pth_world.specs.Walks.{behind};
-ghost use Rattle.pth_world.specs.Standing.{StandsFor, IsSound, Whole, IsKnown, IsIn, IsPrio, IsCancel};
+ghost use Rattle.pth_world.specs.Shows.{Shows};
+ghost use Rattle.pth_world.specs.Sound.{IsSound, IsKnown, IsPrio, IsCancel};
+ghost use Rattle.pth_world.specs.Whole.{IsIn};
 
 use crate::world::World;
 use pth_base::ids::{Slot, Tid};
@@ -22,10 +25,10 @@ use pth_threads::entry::Entry;
 impl<P: Program> World<P> {
     /// The record of a thread; none where it is not in the system.
     pub fn entry(&self, t: Tid) -> Option<&Entry>
-        requires { IsSound self.now }
-        ensures entry { (s : State P P.State P.Shared) → StandsFor self.now s → option_copied result ≡ s.rest.threads.known t.0 }
-        ensures known { IsSome result → IsKnown self.now t.0 }
-        ensures some { IsKnown self.now t.0 → IsSome result }
+        requires { IsSound self.now.threads }
+        ensures entry { (k : Control P P.State P.Shared) → Shows self.now k → option_copied result ≡ k.threads.known t.0 }
+        ensures known { IsSome result → IsKnown self.now.threads t.0 }
+        ensures some { IsKnown self.now.threads t.0 → IsSome result }
         ensures prio { IfSome result (λ e. IsPrio e.now.prio) }
         ensures cancel { IfSome result (λ e. IsCancel e.now.cancel) }
     {
@@ -37,11 +40,11 @@ impl<P: Program> World<P> {
 
     // The thread whose slot stands in a queue.
     fn thread_at(&self, slot: Option<Slot>, q: Queue) -> Option<Tid>
-        requires sound { IsSound self.now }
-        requires holds { IfSome slot (λ u. holds u.0 (rows_of q self.now.queues) ≡ true) }
-        ensures tid { option_map number_of result ≡ option_map (λ u. tid_at self.now.threads u.0) slot }
-        ensures known { IfSome result (λ t. IsKnown self.now t.0) }
-        ensures stands { IfSome result (λ t. IsIn q self.now t.0) }
+        requires sound { IsSound self.now.threads }
+        requires holds { IfSome slot (λ u. holds u.0 (rows_of q self.now.threads.queues) ≡ true) }
+        ensures tid { option_map number_of result ≡ option_map (λ u. tid_at self.now.threads.records u.0) slot }
+        ensures known { IfSome result (λ t. IsKnown self.now.threads t.0) }
+        ensures stands { IfSome result (λ t. IsIn q self.now.threads t.0) }
     {
         match slot {
             Some(slot) => Some(self.threads().get(slot).tid),
@@ -51,31 +54,31 @@ impl<P: Program> World<P> {
 
     /// The first thread of a queue (`pth_pqueue_head`).
     pub fn first(&self, q: Queue) -> Option<Tid>
-        requires sound { IsSound self.now }
-        ensures none { result ≡ None → rows_of q self.now.queues ≡ [] }
-        ensures first { (s : State P P.State P.Shared) → StandsFor self.now s → option_map number_of result ≡ head_of (queue s q) }
-        ensures known { IfSome result (λ t. IsKnown self.now t.0) }
-        ensures stands { IfSome result (λ t. IsIn q self.now t.0) }
+        requires sound { IsSound self.now.threads }
+        ensures none { result ≡ None → rows_of q self.now.threads.queues ≡ [] }
+        ensures first { (k : Control P P.State P.Shared) → Shows self.now k → option_map number_of result ≡ head_of (queue k q) }
+        ensures known { IfSome result (λ t. IsKnown self.now.threads t.0) }
+        ensures stands { IfSome result (λ t. IsIn q self.now.threads t.0) }
     {
         self.thread_at(self.queues().head(q), q)
     }
 
     /// The last thread of a queue (`pth_pqueue_tail`).
     pub fn last(&self, q: Queue) -> Option<Tid>
-        requires sound { IsSound self.now }
-        ensures none { result ≡ None → rows_of q self.now.queues ≡ [] }
-        ensures last { (s : State P P.State P.Shared) → StandsFor self.now s → option_map number_of result ≡ last_of (queue s q) }
-        ensures known { IfSome result (λ t. IsKnown self.now t.0) }
-        ensures stands { IfSome result (λ t. IsIn q self.now t.0) }
+        requires sound { IsSound self.now.threads }
+        ensures none { result ≡ None → rows_of q self.now.threads.queues ≡ [] }
+        ensures last { (k : Control P P.State P.Shared) → Shows self.now k → option_map number_of result ≡ last_of (queue k q) }
+        ensures known { IfSome result (λ t. IsKnown self.now.threads t.0) }
+        ensures stands { IfSome result (λ t. IsIn q self.now.threads t.0) }
     {
         self.thread_at(self.queues().tail(q), q)
     }
 
     /// The rank at which a thread enters the ready queue in front of all others (`pth_pqueue_favorite_prio`).
     pub fn top(&self) -> i64
-        requires sound { IsSound self.now }
-        ensures top { (s : State P P.State P.Shared) → StandsFor self.now s → result ≡ favour_top (queue s queue.Ready) }
-        ensures value { result ≡ favour_top self.now.queues.ready }
+        requires sound { IsSound self.now.threads }
+        ensures top { (k : Control P P.State P.Shared) → Shows self.now k → result ≡ favour_top (queue k queue.Ready) }
+        ensures value { result ≡ favour_top self.now.threads.queues.ready }
         ensures low { neg_ℤ (pos (2 ^ 40)) ≤ℤ result }
         ensures high { result ≤ℤ pos (2 ^ 40 + 1) }
     {
@@ -84,19 +87,19 @@ impl<P: Program> World<P> {
 
     /// Whether no thread stands in a queue.
     pub fn is_empty(&self, q: Queue) -> bool
-        requires { IsSound self.now }
-        ensures empty { (s : State P P.State P.Shared) → StandsFor self.now s → result ≡ is_empty (queue s q) }
-        ensures rows { result ≡ is_empty (rows_of q self.now.queues) }
+        requires { IsSound self.now.threads }
+        ensures empty { (k : Control P P.State P.Shared) → Shows self.now k → result ≡ is_empty (queue k q) }
+        ensures rows { result ≡ is_empty (rows_of q self.now.threads.queues) }
     {
         self.queues().head(q).is_none()
     }
 
     /// The rank of a ready thread.
     pub fn ready_rank(&self, t: Tid) -> i64
-        requires sound { IsSound self.now }
-        requires known { IsKnown self.now t.0 }
-        requires stands { IsIn queue.Ready self.now t.0 }
-        ensures { (s : State P P.State P.Shared) → StandsFor self.now s → result ≡ rank_by (place_in t.0 (queue s queue.Ready)) }
+        requires sound { IsSound self.now.threads }
+        requires known { IsKnown self.now.threads t.0 }
+        requires stands { IsIn queue.Ready self.now.threads t.0 }
+        ensures { (k : Control P P.State P.Shared) → Shows self.now k → result ≡ rank_by (place_in t.0 (queue k queue.Ready)) }
     {
         let slot = self.slot(t);
         match self.queues().place_of(slot) {
@@ -107,13 +110,13 @@ impl<P: Program> World<P> {
 
     /// The thread that follows one in its queue; none after the last (`pth_pqueue_walk`). Fewer threads stand behind it.
     pub fn after(&self, t: Tid, q: Queue) -> Option<Tid>
-        requires sound { IsSound self.now }
-        requires known { IsKnown self.now t.0 }
-        requires stands { IsIn q self.now t.0 }
-        ensures less { IfSome result (λ u. behind self.now q u.0 < behind self.now q t.0) }
-        ensures after { (s : State P P.State P.Shared) (front back : List Row) (r : Row) → StandsFor self.now s → queue s q ≡ front ++ r ∷ back → r.who ≡ t.0 → option_map number_of result ≡ head_of back }
-        ensures known { IfSome result (λ t. IsKnown self.now t.0) }
-        ensures stands { IfSome result (λ t. IsIn q self.now t.0) }
+        requires sound { IsSound self.now.threads }
+        requires known { IsKnown self.now.threads t.0 }
+        requires stands { IsIn q self.now.threads t.0 }
+        ensures less { IfSome result (λ u. behind self.now.threads q u.0 < behind self.now.threads q t.0) }
+        ensures after { (k : Control P P.State P.Shared) (front back : List Ranked) (r : Ranked) → Shows self.now k → queue k q ≡ front ++ r ∷ back → r.holder ≡ t.0 → option_map number_of result ≡ head_of back }
+        ensures known { IfSome result (λ t. IsKnown self.now.threads t.0) }
+        ensures stands { IfSome result (λ t. IsIn q self.now.threads t.0) }
     {
         let slot = self.slot(t);
         self.thread_at(self.queues().after(slot), q)
@@ -121,8 +124,8 @@ impl<P: Program> World<P> {
 
     // Whether no other thread than t stands in a queue.
     fn is_only(&self, t: Tid, q: Queue) -> bool
-        requires { IsSound self.now }
-        ensures { (s : State P P.State P.Shared) → StandsFor self.now s → result ≡ only t.0 (queue s q) }
+        requires { IsSound self.now.threads }
+        ensures { (k : Control P P.State P.Shared) → Shows self.now k → result ≡ only t.0 (holders (queue k q)) }
     {
         match (self.first(q), self.last(q)) {
             (Some(first), Some(last)) => first.0 == t.0 && last.0 == t.0,
@@ -132,8 +135,8 @@ impl<P: Program> World<P> {
 
     /// Whether no other thread than t is new, ready, waiting or suspended.
     pub fn is_alone(&self, t: Tid) -> bool
-        requires { IsSound self.now }
-        ensures { (s : State P P.State P.Shared) → StandsFor self.now s → result ≡ is_alone s t.0 }
+        requires { IsSound self.now.threads }
+        ensures { (k : Control P P.State P.Shared) → Shows self.now k → result ≡ is_alone k t.0 }
     {
         self.is_only(t, Queue::New)
             && self.is_only(t, Queue::Ready)

@@ -7,14 +7,18 @@ ghost use Rattle.pth_queue.specs.Queues.{IsNowhere, IsRank, no_queues, entered, 
 ghost use Rattle.pth_base.specs.declared.thread.ThreadState.TheVariants as state;
 ghost use Rattle.pth_threads.specs.declared.entry.Change.TheVariants as change;
 ghost use Rattle.pth_threads.specs.Threads.{slot_of, tid_at, count, IsCountable, IsSame, Removes};
-ghost use Rattle.pth_model.specs.State.{State, start, present, first_thread};
-ghost use Rattle.pth_model.specs.Changes.{with_change, with_entry, with_thread, without_entry, without_thread};
-ghost use Rattle.pth_model.specs.Part.{put_waiting};
+ghost use Rattle.pth_model.specs.State.{Control, start, first_thread};
+ghost use Rattle.pth_model.specs.Changes.{sets, enters, removes};
+ghost use Rattle.pth_model.specs.ThreadControl.{spawns, has_room};
+ghost use Rattle.pth_model.specs.Part.{is_put_waiting};
 ghost use Rattle.pth_world.specs.World.{before_main};
 ghost use Rattle.pth_world.specs.Ranks.{KeepsRanks};
-ghost use Rattle.pth_world.specs.Standing.{StandsFor, IsSound, IsKnown, IsPrio, IsCancel, KeepsAttributes, Whole, Touches, SameThreads, changes, places, view};
+ghost use Rattle.pth_world.specs.Shows.{Shows, StandsFor};
+ghost use Rattle.pth_world.specs.Sound.{IsSound, IsKnown, IsPrio, IsCancel, KeepsAttributes};
+ghost use Rattle.pth_world.specs.Whole.{Whole, WholeBut, view};
+ghost use Rattle.pth_world.specs.Touches.{Touches, SameThreads, changes, places};
 
-use crate::continuations::Continuations;
+use crate::progress_table::ProgressTable;
 use crate::world::World;
 use pth_base::answer::Answer;
 use pth_base::ids::{BodyId, Tid};
@@ -23,7 +27,7 @@ use pth_base::memory::OutOfMemory;
 use pth_base::name::Name;
 use pth_base::program::Program;
 use pth_base::thread::ThreadState;
-use pth_model::continuation::Continuation;
+use pth_model::progress::Progress;
 use pth_queue::queue::Queue;
 use pth_queue::queue_set::QueueSet;
 use pth_threads::entry::{AddErr, Change, Entry, NewThread};
@@ -45,18 +49,18 @@ fn main_thread() -> NewThread
 impl<P: Program> World<P> {
     // The program with no threads, and with room for as many as there may be.
     fn without_threads(alloc: Global, program: P) -> Result<World<P>, OutOfMemory>
-        ensures stands { IfOk result (λ w. StandsFor w (before_main P.functions (record { program = program }))) }
+        ensures shows { IfOk result (λ w. Shows w (before_main P.functions (record { program = program }))) }
         ensures whole { IfOk result (λ w. Whole w) }
-        ensures made { IfOk result (λ w. w.threads.made ≡ 0) }
-        ensures count { IfOk result (λ w. count w.threads ≡ 0) }
-        ensures queues { IfOk result (λ w. w.queues ≡ record no_queues { room = thread_limit }) }
+        ensures made { IfOk result (λ w. w.threads.records.made ≡ 0) }
+        ensures count { IfOk result (λ w. count w.threads.records ≡ 0) }
+        ensures queues { IfOk result (λ w. w.threads.queues ≡ record no_queues { room = thread_limit }) }
         ensures bodies { IfOk result (λ w. 0 < (P.functions w.program).bodies) }
     {
         let shared = program.shared(alloc)?;
         let _some = program.bodies();
         let mut queues = QueueSet::new(alloc);
         queues.reserve(MOST_THREADS)?;
-        let going = Continuations::new(alloc)?;
+        let progress = ProgressTable::new(alloc)?;
         let threads = Threads::new(alloc);
         Ok(World {
             alloc,
@@ -64,9 +68,9 @@ impl<P: Program> World<P> {
             shared,
             threads,
             queues,
-            going,
+            progress,
             running: None,
-            named: None,
+            preferred: None,
             favour_new: true,
             time: 0,
             clock: 1,
@@ -77,7 +81,7 @@ impl<P: Program> World<P> {
     pub fn new(alloc: Global, program: P) -> Result<World<P>, OutOfMemory>
         ensures stands { IfOk result (λ w. StandsFor w (start P.functions (record { program = program }))) }
         ensures whole { IfOk result (λ w. Whole w) }
-        ensures one { IfOk result (λ w. w.threads.made ≡ 1) }
+        ensures one { IfOk result (λ w. w.threads.records.made ≡ 1) }
     {
         let mut world = World::without_threads(alloc, program)?;
         let main = match world.spawn(BodyId(0), 0, main_thread()) {
@@ -91,34 +95,35 @@ impl<P: Program> World<P> {
 
     /// Sets one field of a thread's record. A changed priority counts from the next entry into a queue.
     pub fn change(&mut self, t: Tid, c: Change)
-        requires sound { IsSound self.old }
-        requires known { IsKnown self.old t.0 }
+        requires sound { IsSound self.old.threads }
+        requires known { IsKnown self.old.threads t.0 }
         requires attributes { KeepsAttributes c }
         requires countable { IsCountable c }
-        ensures stands { (s : State P P.State P.Shared) → StandsFor self.old s → StandsFor self.new (with_change s t.0 c) }
-        ensures sound { IsSound self.new }
-        ensures touches { Touches self.old self.new t.0 (changes c) }
-        ensures threads { SameThreads self.old self.new }
-        ensures same { self.new ≡ record self.old { threads = self.new.threads } }
+        ensures shows { (k : Control P P.State P.Shared) → Shows self.old k → Shows self.new (sets t.0 c k) }
+        ensures sound { IsSound self.new.threads }
+        ensures touches { Touches self.old.threads self.new.threads t.0 (changes c) }
+        ensures but { WholeBut self.old t.0 → WholeBut self.new t.0 }
+        ensures threads { SameThreads self.old.threads self.new.threads }
+        ensures same { self.new ≡ record self.old { threads = record self.old.threads { records = self.new.threads.records } } }
     {
         let slot = self.slot(t);
         self.threads_mut().change(slot, c);
     }
 
-    /// Takes a thread out of the system, with its place and all that it goes on with.
+    /// Takes a thread out of the system, with its place and its program.
     pub fn drop_thread(&mut self, t: Tid)
-        requires sound { IsSound self.old }
-        requires known { IsKnown self.old t.0 }
-        ensures stands { (s : State P P.State P.Shared) → StandsFor self.old s → StandsFor self.new (without_thread (without_entry s t.0) t.0) }
-        ensures sound { IsSound self.new }
-        ensures others { (u : ℕ) → tid_at self.old.threads u ≢ t.0 → view self.new u ≡ view self.old u }
-        ensures threads { IfSome (slot_of self.old.threads t.0) (λ u. Removes self.old.threads self.new.threads u) }
-        ensures queues { IfSome (slot_of self.old.threads t.0) (λ u. self.new.queues ≡ without u self.old.queues) }
-        ensures same { self.new ≡ record self.old { threads = self.new.threads; queues = self.new.queues; going = self.new.going } }
+        requires sound { IsSound self.old.threads }
+        requires known { IsKnown self.old.threads t.0 }
+        ensures shows { (k : Control P P.State P.Shared) → Shows self.old k → Shows self.new (removes t.0 k) }
+        ensures sound { IsSound self.new.threads }
+        ensures others { (u : ℕ) → tid_at self.old.threads.records u ≢ t.0 → view self.new.threads u ≡ view self.old.threads u }
+        ensures threads { IfSome (slot_of self.old.threads.records t.0) (λ u. Removes self.old.threads.records self.new.threads.records u) }
+        ensures queues { IfSome (slot_of self.old.threads.records t.0) (λ u. self.new.threads.queues ≡ without u self.old.threads.queues) }
+        ensures same { self.new ≡ record self.old { threads = self.new.threads } }
     {
         let slot = self.slot(t);
         self.take_out(t);
-        self.going_mut().set(slot, None);
+        self.progress_mut().set(slot, None);
         self.threads_mut().remove(slot);
     }
 
@@ -132,9 +137,9 @@ impl<P: Program> World<P> {
 
     /// Whether another thread can be made: at most thread_limit are in the system, dead ones too.
     pub fn has_room(&self) -> bool
-        requires { IsSound self.now }
-        ensures count { result ≡ nat_lt (count self.now.threads) thread_limit }
-        ensures room { (s : State P P.State P.Shared) → StandsFor self.now s → result ≡ nat_lt (present s) thread_limit }
+        requires { IsSound self.now.threads }
+        ensures count { result ≡ nat_lt (count self.now.threads.records) thread_limit }
+        ensures room { (k : Control P P.State P.Shared) → Shows self.now k → result ≡ has_room k }
     {
         self.threads().count() < MOST_THREADS
     }
@@ -146,19 +151,19 @@ impl<P: Program> World<P> {
         requires bodies { body.0 < (P.functions self.old.program).bodies }
         requires prio { IsPrio of.prio }
         requires cancel { IsCancel of.cancel }
-        requires few { self.old.threads.made < 2147483648 }
-        ensures tid { IfOk result (λ t. t.0 ≡ self.old.threads.made + 1) }
-        ensures made { OnOk result (self.new.threads.made ≡ self.old.threads.made + 1) }
-        ensures queues { IfOk result (λ t. IfSome (slot_of self.new.threads t.0) (λ u. self.new.queues ≡ entered queue.New of.prio u self.old.queues)) }
-        ensures ranks { OnOk result (KeepsRanks self.old self.new) }
-        ensures stands { IfOk result (λ t. (s : State P P.State P.Shared) → StandsFor self.old s → StandsFor self.new (with_entry (with_thread s P.functions body.0 arg of) t.0 queue.New of.prio false)) }
+        requires few { self.old.threads.records.made < 2147483648 }
+        ensures tid { IfOk result (λ t. t.0 ≡ self.old.threads.records.made + 1) }
+        ensures made { OnOk result (self.new.threads.records.made ≡ self.old.threads.records.made + 1) }
+        ensures queues { IfOk result (λ t. IfSome (slot_of self.new.threads.records t.0) (λ u. self.new.threads.queues ≡ entered queue.New of.prio u self.old.threads.queues)) }
+        ensures ranks { OnOk result (KeepsRanks 1 self.old.threads self.new.threads) }
+        ensures shows { IfOk result (λ t. (k : Control P P.State P.Shared) → Shows self.old k → Shows self.new (spawns P.functions body.0 arg of k)) }
         ensures whole { OnOk result (Whole self.new) }
-        ensures others { OnOk result ((t : ℕ) → IsKnown self.old t → IsKnown self.new t) }
-        ensures same { OnOk result (self.new ≡ record self.old { threads = self.new.threads; queues = self.new.queues; going = self.new.going }) }
-        ensures too_many { IsErrOf result AddErr.TooMany ↔ (count self.old.threads ≡ thread_limit) }
-        ensures refused { OnErr result ((s : State P P.State P.Shared) → StandsFor self.old s → StandsFor self.new s) }
+        ensures others { OnOk result ((t : ℕ) → IsKnown self.old.threads t → IsKnown self.new.threads t) }
+        ensures same { OnOk result (self.new ≡ record self.old { threads = self.new.threads }) }
+        ensures too_many { IsErrOf result AddErr.TooMany ↔ (count self.old.threads.records ≡ thread_limit) }
+        ensures refused { OnErr result ((k : Control P P.State P.Shared) → Shows self.old k → Shows self.new k) }
         ensures whole_still { OnErr result (Whole self.new) }
-        ensures still { OnErr result (self.new ≡ record self.old { threads = self.new.threads } × IsSame self.old.threads self.new.threads) }
+        ensures still { OnErr result (self.new ≡ record self.old { threads = record self.old.threads { records = self.new.threads.records } } × IsSame self.old.threads.records self.new.threads.records) }
     {
         if self.threads().count() == MOST_THREADS {
             return Err(AddErr::TooMany);
@@ -166,12 +171,12 @@ impl<P: Program> World<P> {
         let state = self.start(body, arg)?;
         let prio = of.prio;
         let (t, slot) = self.threads_mut().add(of)?;
-        self.going_mut().set(
+        self.progress_mut().set(
             slot,
-            Some(Continuation {
+            Some(Progress {
                 state,
                 owed: Answer::None,
-                held: None,
+                blocked: None,
             }),
         );
         self.queues_mut().insert(Queue::New, prio, slot);
@@ -180,16 +185,16 @@ impl<P: Program> World<P> {
 
     /// Makes a thread ready, and puts it into the ready queue at a rank.
     pub fn put_ready(&mut self, t: Tid, rank: i64)
-        requires sound { IsSound self.old }
-        requires known { IsKnown self.old t.0 }
-        requires nowhere { IfSome (slot_of self.old.threads t.0) (λ u. IsNowhere u self.old.queues) }
+        requires sound { IsSound self.old.threads }
+        requires known { IsKnown self.old.threads t.0 }
+        requires nowhere { IfSome (slot_of self.old.threads.records t.0) (λ u. IsNowhere u self.old.threads.queues) }
         requires rank { IsRank rank }
-        ensures stands { (s : State P P.State P.Shared) (top : Bool) → StandsFor self.old s → StandsFor self.new (with_entry (with_change s t.0 (change.State state.Ready)) t.0 queue.Ready rank top) }
-        ensures sound { IsSound self.new }
-        ensures touches { Touches self.old self.new t.0 (λ v. places (Some queue.Ready) (changes (change.State state.Ready) v)) }
-        ensures threads { SameThreads self.old self.new }
-        ensures queues { IfSome (slot_of self.old.threads t.0) (λ u. self.new.queues ≡ entered queue.Ready rank u self.old.queues) }
-        ensures same { self.new ≡ record self.old { threads = self.new.threads; queues = self.new.queues } }
+        ensures shows { (k : Control P P.State P.Shared) (top : Bool) → Shows self.old k → Shows self.new (enters t.0 queue.Ready rank top (sets t.0 (change.State state.Ready) k)) }
+        ensures sound { IsSound self.new.threads }
+        ensures touches { Touches self.old.threads self.new.threads t.0 (λ v. places (Some queue.Ready) (changes (change.State state.Ready) v)) }
+        ensures threads { SameThreads self.old.threads self.new.threads }
+        ensures queues { IfSome (slot_of self.old.threads.records t.0) (λ u. self.new.threads.queues ≡ entered queue.Ready rank u self.old.threads.queues) }
+        ensures same { self.new ≡ record self.old { threads = record self.old.threads { records = self.new.threads.records; queues = self.new.threads.queues } } }
     {
         self.change(t, Change::State(ThreadState::Ready));
         self.put_in(t, Queue::Ready, rank);
@@ -197,15 +202,15 @@ impl<P: Program> World<P> {
 
     /// Makes a thread wait, and puts it into the waiting queue at its base priority.
     pub fn put_waiting(&mut self, t: Tid)
-        requires sound { IsSound self.old }
-        requires known { IsKnown self.old t.0 }
-        requires nowhere { IfSome (slot_of self.old.threads t.0) (λ u. IsNowhere u self.old.queues) }
-        ensures stands { (s : State P P.State P.Shared) → StandsFor self.old s → StandsFor self.new (put_waiting s t.0) }
-        ensures sound { IsSound self.new }
-        ensures touches { Touches self.old self.new t.0 (λ v. places (Some queue.Waiting) (changes (change.State state.Waiting) v)) }
-        ensures threads { SameThreads self.old self.new }
-        ensures queues { IfSome (slot_of self.old.threads t.0) (λ u. (prio : ℤ) × IsPrio prio × (self.new.queues ≡ entered queue.Waiting prio u self.old.queues)) }
-        ensures same { self.new ≡ record self.old { threads = self.new.threads; queues = self.new.queues } }
+        requires sound { IsSound self.old.threads }
+        requires known { IsKnown self.old.threads t.0 }
+        requires nowhere { IfSome (slot_of self.old.threads.records t.0) (λ u. IsNowhere u self.old.threads.queues) }
+        ensures shows { (k : Control P P.State P.Shared) → Shows self.old k → Shows self.new (is_put_waiting t.0 k) }
+        ensures sound { IsSound self.new.threads }
+        ensures touches { Touches self.old.threads self.new.threads t.0 (λ v. places (Some queue.Waiting) (changes (change.State state.Waiting) v)) }
+        ensures threads { SameThreads self.old.threads self.new.threads }
+        ensures queues { IfSome (slot_of self.old.threads.records t.0) (λ u. (prio : ℤ) × IsPrio prio × (self.new.threads.queues ≡ entered queue.Waiting prio u self.old.threads.queues)) }
+        ensures same { self.new ≡ record self.old { threads = record self.old.threads { records = self.new.threads.records; queues = self.new.threads.queues } } }
     {
         let prio = self.prio(t);
         self.change(t, Change::State(ThreadState::Waiting));

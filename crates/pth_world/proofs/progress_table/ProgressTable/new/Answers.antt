@@ -1,7 +1,7 @@
 use Rattle.std.proofs.Common.{◌∙◌, arith, ap}
 use Rattle.pth_base.specs.Table.{table}
 use Rattle.pth_base.proofs.Lists.{table_grown}
-use Rattle.pth_world.proofs.continuations.Continuations.new.Goals as goal
+use Rattle.pth_world.proofs.progress_table.ProgressTable.new.Goals as goal
 
 pub loop-items-preserved : goal.loop-items-preserved
 loop-items-preserved g c = record {

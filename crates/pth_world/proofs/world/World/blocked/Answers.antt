@@ -1,10 +1,18 @@
-use Rattle.std.proofs.Common.{◌∙◌, sym, ap}
-use Rattle.pth_model.specs.Changes.{held_by}
-use Rattle.pth_world.proofs.Standing.{going_is, no_going}
-use Rattle.pth_world.proofs.world.World.held.Goals as goal
+use Rattle.std.proofs.Common.{◌∙◌, Option, IfSome, sym, ap, subst}
+use Rattle.pth_model.specs.Changes.{blocked_in}
+use Rattle.pth_model.specs.declared.blocked.Blocked.{Blocked}
+use Rattle.pth_world.specs.Whole.{MayBlock}
+use Rattle.pth_world.proofs.Moves.{blocked_may}
+use Rattle.pth_world.proofs.Showing.{progress_is, no_progress}
+use Rattle.pth_world.proofs.world.World.blocked.Goals as goal
 
-pub returns-in-Some-get : goal.returns-in-Some-get
-returns-in-Some-get g c s st = c.as_ref.ensures.value ∙ sym (ap held_by (going_is _ c.args.t.0 c.in-Some.slot.0 c.requires (rw c.threads.ensures at c.in-Some.ensures.slot) s st ∙ sym (rw c.going.ensures at c.in-Some-get.ensures)))
+pub returns-in-Some-get-clause-blocked : goal.returns-in-Some-get-clause-blocked
+returns-in-Some-get-clause-blocked g c k sh = c.as_ref.ensures.value ∙ sym (ap blocked_in (progress_is _ k c.args.t.0 c.in-Some.slot.0 c.requires (rw c.threads.ensures at c.in-Some.ensures.slot) sh.threads ∙ sym (rw c.progress.ensures at c.in-Some-get.ensures)))
 
-pub returns-in-None : goal.returns-in-None
-returns-in-None g c s st = ap held_by (no_going _ c.args.t.0 s (rw c.threads.ensures at c.in-None.ensures.slot) st)
+pub returns-in-Some-get-clause-may : goal.returns-in-Some-get-clause-may
+returns-in-Some-get-clause-may g c whole =
+    let may = blocked_may _ c.args.t.0 c.in-Some.slot.0 whole (rw c.threads.ensures at c.in-Some.ensures.slot) in
+    subst (λ (o : Option Blocked). IfSome o (λ b. MayBlock c.args.t.0 b)) (ap blocked_in (sym (rw c.progress.ensures at c.in-Some-get.ensures)) ∙ sym c.as_ref.ensures.value) may
+
+pub returns-in-None-clause-blocked : goal.returns-in-None-clause-blocked
+returns-in-None-clause-blocked g c k sh = ap blocked_in (no_progress _ k c.args.t.0 (rw c.threads.ensures at c.in-None.ensures.slot) sh.threads)

@@ -1,12 +1,12 @@
 use Rattle.std.proofs.Common.{◌∙◌, sym}
-use Rattle.pth_world.proofs.Standing.{entry_is, not_known}
+use Rattle.pth_world.proofs.Showing.{entry_is, not_known}
 use Rattle.pth_world.proofs.world.World.entry.Goals as goal
 
 pub returns-in-Some-clause-entry : goal.returns-in-Some-clause-entry
-returns-in-Some-clause-entry g c s st = sym (entry_is _ c.args.t.0 c.in-Some.slot.0 c.requires (rw c.threads.ensures at c.in-Some.ensures.slot) s st ∙ (rw c.threads-in-Some.ensures at c.get.ensures.entry))
+returns-in-Some-clause-entry g c k sh = sym (entry_is _ k c.args.t.0 c.in-Some.slot.0 c.requires (rw c.threads.ensures at c.in-Some.ensures.slot) sh.threads ∙ (rw c.threads-in-Some.ensures at c.get.ensures.entry))
 
 pub returns-in-None-clause-entry : goal.returns-in-None-clause-entry
-returns-in-None-clause-entry g c s st = not_known _ c.args.t.0 s (rw c.threads.ensures at c.in-None.ensures.slot) st
+returns-in-None-clause-entry g c k sh = not_known _ k c.args.t.0 (rw c.threads.ensures at c.in-None.ensures.slot) sh.threads
 
 pub returns-in-Some-clause-prio : goal.returns-in-Some-clause-prio
 returns-in-Some-clause-prio g c = (c.requires.attributes c.in-Some.slot.0 c.get.result.now (rw c.threads-in-Some.ensures at c.get.ensures.entry)).prio

@@ -1,5 +1,5 @@
 use Rattle.std.proofs.Common.{ap, rules, SFits, w64, to_z-of_z}
-use Rattle.pth_model.specs.Pass.{readied}
+use Rattle.pth_model.specs.Pass.{is_ready_at}
 use Rattle.pth_world.specs.World.{WorldOf}
 use Rattle.pth_world.proofs.Moves.{make_ready_whole, queues_alone, left_nowhere}
 use Rattle.pth_world.proofs.Ranks.{ranks_ready}
@@ -8,14 +8,14 @@ use Rattle.pth_world.proofs.world.World.make_ready.Goals as goal
 pub put_ready-requires-clause-nowhere : goal.put_ready-requires-clause-nowhere
 put_ready-requires-clause-nowhere g c = left_nowhere c.args.self.now c.take_out.new.self c.args.t.0 (queues_alone _ _ c.take_out.ensures.same) c.take_out.ensures.queues
 
-pub returns-clause-stands : goal.returns-clause-stands
-unfolding readied
-returns-clause-stands g c s top st =
+pub returns-clause-shows : goal.returns-clause-shows
+unfolding is_ready_at
+returns-clause-shows g c k top sh =
     let f : SFits w64 c.args.rank = search rules in
-    (rw to_z-of_z at c.put_ready.ensures.stands) _ top (c.take_out.ensures.stands s st)
+    (rw to_z-of_z at c.put_ready.ensures.shows) _ top (c.take_out.ensures.shows k sh)
 
 pub returns-clause-whole : goal.returns-clause-whole
-returns-clause-whole g c = make_ready_whole c.args.self.now c.take_out.new.self c.put_ready.new.self c.args.t.0 c.requires.before.queue c.requires.whole c.requires.known c.requires.before.before c.requires.before.stands c.take_out.ensures.touches c.take_out.ensures.same c.put_ready.ensures.touches c.put_ready.ensures.threads (ap (λ (k : WorldOf _ _ _). k.running) c.put_ready.ensures.same) c.put_ready.ensures.sound
+returns-clause-whole g c = make_ready_whole c.args.self.now c.take_out.new.self c.put_ready.new.self c.args.t.0 c.requires.before.queue c.requires.whole c.requires.known c.requires.before.before c.requires.before.stands c.take_out.ensures.touches c.take_out.ensures.same c.put_ready.ensures.touches c.put_ready.ensures.threads (ap (λ (k : WorldOf _ _ _). k.scheduler.running) c.put_ready.ensures.same) c.put_ready.ensures.sound
 
 pub returns-clause-ranks : goal.returns-clause-ranks
-returns-clause-ranks g c low = ranks_ready c.args.self.now c.put_ready.new.self c.args.t.0 c.requires.known search rules c.args.rank low search rules
+returns-clause-ranks g c low = ranks_ready c.args.self.now.threads c.put_ready.new.self.threads c.args.t.0 c.requires.known c.args.rank low search rules

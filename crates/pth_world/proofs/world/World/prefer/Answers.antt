@@ -1,11 +1,11 @@
-use Rattle.pth_world.proofs.Schedules.{naming_stands, naming_sound, naming_whole}
-use Rattle.pth_world.proofs.world.World.name_next.Goals as goal
+use Rattle.std.proofs.Common.{ap, refl, option_map}
+use Rattle.pth_model.specs.State.{Scheduler}
+use Rattle.pth_world.specs.World.{number_of}
+use Rattle.pth_world.proofs.Scheduling.{scheduler_shows, scheduler_whole}
+use Rattle.pth_world.proofs.world.World.prefer.Goals as goal
 
-pub returns-clause-stands : goal.returns-clause-stands
-returns-clause-stands g c = rw (← c.self.view_is) (λ s st. naming_stands _ _ s st)
-
-pub returns-clause-sound : goal.returns-clause-sound
-returns-clause-sound g c = rw (← c.self.view_is) (λ sound. naming_sound _ _ sound)
+pub returns-clause-shows : goal.returns-clause-shows
+returns-clause-shows g c = rw (← c.self.view_is) (λ k sh. scheduler_shows _ _ k _ sh (ap (λ (x : Scheduler). record x { preferred = option_map number_of c.args.t }) sh.scheduler))
 
 pub returns-clause-whole : goal.returns-clause-whole
-returns-clause-whole g c = rw (← c.self.view_is) (λ whole. naming_whole _ _ whole)
+returns-clause-whole g c = rw (← c.self.view_is) (λ whole. scheduler_whole _ _ refl whole)

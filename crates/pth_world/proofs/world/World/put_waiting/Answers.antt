@@ -1,10 +1,33 @@
-use Rattle.std.proofs.Common.{false, SFits, w64, to_z-of_z}
-use Rattle.pth_model.specs.Part.{put_waiting}
+use Rattle.std.proofs.Common.{◌≡◌, ℕ, ℤ, Option, Some, None, IfSome, ap, false, SFits, w64, to_z-of_z}
+use Rattle.pth_model.specs.Part.{is_put_waiting}
+use Rattle.pth_base.specs.declared.thread.ThreadState.TheVariants as state
+use Rattle.pth_queue.specs.Queues.{entered}
+use Rattle.pth_queue.specs.declared.queue.Queue.TheVariants as queue
+use Rattle.pth_threads.specs.declared.entry.Change.TheVariants as change
+use Rattle.pth_world.specs.Sound.{IsPrio}
+use Rattle.pth_world.specs.Touches.{changes, places}
+use Rattle.pth_world.specs.World.{WorldOf}
+use Rattle.pth_world.proofs.Moves.{two_touches}
 use Rattle.pth_world.proofs.Slots.{prio_fits}
 use Rattle.pth_world.proofs.world.World.put_waiting.Goals as goal
 
-pub returns-clause-stands : goal.returns-clause-stands
-unfolding put_waiting
-returns-clause-stands g c s st =
+pub returns-clause-shows : goal.returns-clause-shows
+unfolding is_put_waiting
+returns-clause-shows g c k sh =
     let f : SFits w64 c.prio-prio.result = prio_fits _ c.prio-prio.ensures.low in
-    rw (← c.prio-prio.ensures.prio s st) ((rw to_z-of_z at c.put_in.ensures.stands) _ false (c.change.ensures.stands s st))
+    rw (← c.prio-prio.ensures.prio k sh) ((rw to_z-of_z at c.put_in.ensures.shows) _ false (c.change.ensures.shows k sh))
+
+pub returns-clause-touches : goal.returns-clause-touches
+returns-clause-touches g c = two_touches c.args.self.now.threads c.change.new.self.threads c.put_in.new.self.threads c.args.t.0 (changes (change.State state.Waiting)) (places (Some queue.Waiting)) c.change.ensures.threads c.change.ensures.touches c.put_in.ensures.touches
+
+if_some : {A B : ℕ → Type 0} (o : Option ℕ) → ((u : ℕ) → A u → B u) → IfSome o A → IfSome o B
+if_some (Some u) f h = f u h
+if_some None f h = h
+
+pub returns-clause-queues : goal.returns-clause-queues
+returns-clause-queues g c =
+    let f : SFits w64 c.prio-prio.result = prio_fits _ c.prio-prio.ensures.low in
+    let queues = ap (λ (k : WorldOf _ _ _). k.threads.queues) c.change.ensures.same in
+    let placed = rw (c.change.ensures.threads.slots, to_z-of_z, queues) at c.put_in.ensures.queues in
+    let Placed : ℕ → Type 0 = λ u. (prio : ℤ) × IsPrio prio × (c.put_in.new.self.threads.queues ≡ entered queue.Waiting prio u c.args.self.now.threads.queues) in
+    if_some {B = Placed} _ (λ u is. (let it : Placed u = (c.prio-prio.result, c.prio-prio.ensures.low, is) in it)) placed

@@ -2,7 +2,7 @@ use Rattle.std.proofs.Common.{refl, rules, SFits, w64, to_z-of_z}
 use Rattle.pth_world.proofs.Slots.{prio_fits}
 use Rattle.pth_world.proofs.Places.{unused-nowhere}
 use Rattle.pth_base.proofs.Results.{on_err}
-use Rattle.pth_world.proofs.Wholes.{same_whole, spawn_stands, spawn_whole, spawn_others, spawn_queues, spawn_ranks}
+use Rattle.pth_world.proofs.Wholes.{same_whole, spawn_shows, spawn_whole, spawn_others, spawn_queues, spawn_ranks}
 use Rattle.pth_threads.specs.Threads.{tid_at}
 use Rattle.pth_world.proofs.world.World.spawn.Goals as goal
 
@@ -12,24 +12,24 @@ returns-in_err-t-clause-whole_still g c = on_err _ (same_whole c.args.self.now _
 pub insert-requires-clause-nowhere : goal.insert-requires-clause-nowhere
 insert-requires-clause-nowhere g c =
     let adds = rw c.threads_mut.ensures.value at c.in_ok-t.ensures.ok in
-    rw c.queues_mut.ensures.value (unused-nowhere (tid_at c.args.self.now.threads) c.in_ok-t.slot.0 c.args.self.now.queues c.requires.whole.sound.queued adds.unused)
+    rw c.queues_mut.ensures.value (unused-nowhere (tid_at c.args.self.now.threads.records) c.in_ok-t.slot.0 c.args.self.now.threads.queues c.requires.whole.sound.queued adds.unused)
 
-pub returns-clause-stands : goal.returns-clause-stands
-returns-clause-stands g c s st =
+pub returns-clause-shows : goal.returns-clause-shows
+returns-clause-shows g c k sh =
     let tid = rw c.threads_mut.ensures.value at c.in_ok-t.ensures.tid in
     let adds = rw (c.threads_mut.ensures.value, tid) at c.in_ok-t.ensures.ok in
-    let has = rw c.going_mut.ensures.value at c.set.ensures.set in
+    let has = rw c.progress_mut.ensures.value at c.set.ensures.set in
     let prio : SFits w64 c.args.of.prio = prio_fits _ c.requires.prio in
     let enters = rw (c.queues_mut.ensures.value, to_z-of_z) at c.insert.ensures in
     let f : SFits w64 c.args.arg = search rules in
     let is = rw to_z-of_z at c.in_ok-state.ensures in
-    rw tid (spawn_stands c.args.self.now c.requires.whole c.add.new.self c.set.new.self c.insert.new.self c.in_ok-t.slot.0 c.args.of c.requires.prio c.requires.cancel _ refl adds has c.set.ensures.long enters g.P.Program.functions c.args.body.0 c.args.arg s (rw is refl) st)
+    spawn_shows c.args.self.now c.requires.whole c.add.new.self c.set.new.self c.insert.new.self c.in_ok-t.slot.0 c.args.of c.requires.prio c.requires.cancel _ refl adds has c.set.ensures.long enters g.P.Program.functions c.args.body.0 c.args.arg k (rw is refl) sh
 
 pub returns-clause-whole : goal.returns-clause-whole
 returns-clause-whole g c =
     let tid = rw c.threads_mut.ensures.value at c.in_ok-t.ensures.tid in
     let adds = rw (c.threads_mut.ensures.value, tid) at c.in_ok-t.ensures.ok in
-    let has = rw c.going_mut.ensures.value at c.set.ensures.set in
+    let has = rw c.progress_mut.ensures.value at c.set.ensures.set in
     let prio : SFits w64 c.args.of.prio = prio_fits _ c.requires.prio in
     let enters = rw (c.queues_mut.ensures.value, to_z-of_z) at c.insert.ensures in
     spawn_whole c.args.self.now c.requires.whole c.add.new.self c.set.new.self c.insert.new.self c.in_ok-t.slot.0 c.args.of c.requires.prio c.requires.cancel _ refl adds has c.set.ensures.long enters
@@ -38,7 +38,7 @@ pub returns-clause-others : goal.returns-clause-others
 returns-clause-others g c =
     let tid = rw c.threads_mut.ensures.value at c.in_ok-t.ensures.tid in
     let adds = rw (c.threads_mut.ensures.value, tid) at c.in_ok-t.ensures.ok in
-    let has = rw c.going_mut.ensures.value at c.set.ensures.set in
+    let has = rw c.progress_mut.ensures.value at c.set.ensures.set in
     let prio : SFits w64 c.args.of.prio = prio_fits _ c.requires.prio in
     let enters = rw (c.queues_mut.ensures.value, to_z-of_z) at c.insert.ensures in
     spawn_others c.args.self.now c.requires.whole c.add.new.self c.set.new.self c.insert.new.self c.in_ok-t.slot.0 c.args.of c.requires.prio c.requires.cancel _ refl adds has c.set.ensures.long enters
@@ -47,7 +47,7 @@ pub returns-clause-queues : goal.returns-clause-queues
 returns-clause-queues g c =
     let tid = rw c.threads_mut.ensures.value at c.in_ok-t.ensures.tid in
     let adds = rw (c.threads_mut.ensures.value, tid) at c.in_ok-t.ensures.ok in
-    let has = rw c.going_mut.ensures.value at c.set.ensures.set in
+    let has = rw c.progress_mut.ensures.value at c.set.ensures.set in
     let prio : SFits w64 c.args.of.prio = prio_fits _ c.requires.prio in
     let enters = rw (c.queues_mut.ensures.value, to_z-of_z) at c.insert.ensures in
     rw tid (spawn_queues c.args.self.now c.requires.whole c.add.new.self c.set.new.self c.insert.new.self c.in_ok-t.slot.0 c.args.of c.requires.prio c.requires.cancel _ refl adds has c.set.ensures.long enters)
@@ -56,7 +56,7 @@ pub returns-clause-ranks : goal.returns-clause-ranks
 returns-clause-ranks g c =
     let tid = rw c.threads_mut.ensures.value at c.in_ok-t.ensures.tid in
     let adds = rw (c.threads_mut.ensures.value, tid) at c.in_ok-t.ensures.ok in
-    let has = rw c.going_mut.ensures.value at c.set.ensures.set in
+    let has = rw c.progress_mut.ensures.value at c.set.ensures.set in
     let prio : SFits w64 c.args.of.prio = prio_fits _ c.requires.prio in
     let enters = rw (c.queues_mut.ensures.value, to_z-of_z) at c.insert.ensures in
     spawn_ranks c.args.self.now c.requires.whole c.add.new.self c.set.new.self c.insert.new.self c.in_ok-t.slot.0 c.args.of c.requires.prio c.requires.cancel _ refl adds has c.set.ensures.long enters

@@ -1,0 +1,62 @@
+-- What every change of a world's threads keeps.
+use Rattle.std.specs.Prelude.{◌≡◌, ◌≢◌, ◌<◌, ◌≤◌, ℕ, ℤ, pos, neg_ℤ, ◌≤ℤ◌, length, Some, None, IsSome}
+use Rattle.pth_base.specs.Limits.{thread_limit}
+use Rattle.pth_base.specs.Table.{table}
+use Rattle.pth_base.specs.Naming.{IsTied, seen}
+use Rattle.pth_queue.specs.Ranking.{IsQueued}
+use Rattle.pth_queue.specs.Queues.{rows_of, IsOrderly}
+use Rattle.pth_queue.specs.declared.queue.Queue.{Queue}
+use Rattle.pth_threads.specs.Threads.{slot_of, tid_at, entry_at, count}
+use Rattle.pth_threads.specs.declared.entry.Change.{Change}
+use Rattle.pth_threads.specs.declared.entry.Change.TheVariants as change
+use Rattle.pth_threads.specs.declared.entry.Entry.{Entry}
+use Rattle.pth_model.specs.State.{number_known}
+use Rattle.pth_world.specs.World.{ThreadsBySlot}
+
+-- slots that are not used have nothing
+abbrev pub IsBare : {A : Type 0} → A → (ℕ → ℕ) → (ℕ → A) → Type 0
+IsBare d tid_at f = (u : ℕ) → tid_at u ≡ 0 → f u ≡ d
+
+-- a base priority
+pub record IsPrio (prio : ℤ) : Type 0 where
+  pub low : neg_ℤ (pos 20) ≤ℤ prio
+  pub high : prio ≤ℤ pos 20
+
+-- a cancel state: 1 enabled and deferred, 2 disabled and deferred, 3 enabled and asynchronous, 4 disabled and asynchronous
+pub record IsCancel (cancel : ℕ) : Type 0 where
+  pub low : 1 ≤ cancel
+  pub high : cancel ≤ 4
+
+-- what holds of the attributes of a thread
+pub record HasAttributes (e : Entry) : Type 0 where
+  pub prio : IsPrio e.prio
+  pub cancel : IsCancel e.cancel
+
+-- a change of a record that leaves the base priority and the cancel state, or sets one of them to another
+abbrev pub KeepsAttributes : Change → Type 0
+KeepsAttributes (change.Prio prio) = IsPrio prio
+KeepsAttributes (change.Cancel cancel) = IsCancel cancel
+KeepsAttributes c = Unit {0}
+
+-- names are tied to slots, and each part speaks of threads in the system alone
+pub record IsSound {S : Type 0} (x : ThreadsBySlot S) : Type 0 where
+  pub tied : IsTied (slot_of x.records) (tid_at x.records)
+  -- later numbers are not used
+  pub fresh : (t : ℕ) → x.records.made < t → slot_of x.records t ≡ None
+  -- a slot that is not used has no record and no program
+  pub empty : IsBare None (tid_at x.records) (entry_at x.records)
+  pub bare : IsBare None (tid_at x.records) (table None x.progress)
+  -- each thread in the system is somewhere in its program
+  pub recorded : (u : ℕ) → tid_at x.records u ≢ 0 → IsSome (table None x.progress u)
+  pub queued : (q : Queue) → IsQueued (tid_at x.records) (rows_of q x.queues)
+  pub room : x.queues.room ≡ thread_limit
+  -- each queue is in order, and no slot stands in two
+  pub orderly : IsOrderly x.queues
+  pub long : length x.progress ≡ thread_limit
+  pub attributes : (u : ℕ) (e : Entry) → entry_at x.records u ≡ Some e → HasAttributes e
+  -- the threads are counted by slot as by number
+  pub present : number_known (seen None (slot_of x.records) (entry_at x.records)) x.records.made ≡ count x.records
+
+-- the thread is in the system
+abbrev pub IsKnown : {S : Type 0} → ThreadsBySlot S → ℕ → Type 0
+IsKnown x t = IsSome (slot_of x.records t)

@@ -1,0 +1,37 @@
+-- What a change of one thread leaves of the others.
+use Rattle.std.specs.Prelude.{◌≡◌, ◌≢◌, ℕ, Option, Some, option_map}
+use Rattle.pth_queue.specs.declared.queue.Queue.{Queue}
+use Rattle.pth_threads.specs.Threads.{slot_of, tid_at, changed}
+use Rattle.pth_threads.specs.declared.entry.Change.{Change}
+use Rattle.pth_model.specs.declared.blocked.Blocked.{Blocked}
+use Rattle.pth_world.specs.World.{WorldOf, ThreadsBySlot}
+use Rattle.pth_world.specs.Whole.{View, view}
+
+-- the others have what they had, and this one what the change makes of it
+pub record Touches {S : Type 0} (old new : ThreadsBySlot S) (t : ℕ) (change : View → View) : Type 0 where
+  pub own : (u : ℕ) → slot_of old.records t ≡ Some u → view new u ≡ change (view old u)
+  pub others : (u : ℕ) → tid_at old.records u ≢ t → view new u ≡ view old u
+
+-- the changes: a field of the record is set, the thread stands in another queue or in none, or another call blocks it
+abbrev pub changes : Change → View → View
+changes c v = record v { entry = option_map (changed c) v.entry }
+
+abbrev pub places : Option Queue → View → View
+places q v = record v { place = q }
+
+abbrev pub blocks : Option Blocked → View → View
+blocks b v = record v { blocked = b }
+
+abbrev pub same_view : View → View
+same_view v = v
+
+-- the same threads are in the system, at the same slots
+pub record SameThreads {S : Type 0} (old new : ThreadsBySlot S) : Type 0 where
+  pub slots : slot_of new.records ≡ slot_of old.records
+  pub tids : tid_at new.records ≡ tid_at old.records
+  pub made : new.records.made ≡ old.records.made
+
+-- what a change of threads leaves as it was: all but the threads and the shared value
+pub record KeepsScheduler {P S H : Type 0} (old new : WorldOf P S H) : Type 0 where
+  pub program : new.program ≡ old.program
+  pub scheduler : new.scheduler ≡ old.scheduler

@@ -1,0 +1,116 @@
+-- What holds of every world between two calls, and of each thread but one while that thread is changed.
+use Rattle.std.specs.Prelude.{◌≡◌, ◌≢◌, ℕ, Bool, true, false, Option, Some, None, IfSome}
+use Rattle.pth_base.specs.Table.{table}
+use Rattle.pth_base.specs.declared.call.Call.{Call}
+use Rattle.pth_base.specs.declared.call.Call.TheVariants as call
+use Rattle.pth_base.specs.declared.thread.ThreadState.{ThreadState}
+use Rattle.pth_base.specs.declared.thread.ThreadState.TheVariants as state
+use Rattle.pth_queue.specs.Queues.{queue_of}
+use Rattle.pth_queue.specs.declared.queue.Queue.{Queue}
+use Rattle.pth_queue.specs.declared.queue.Queue.TheVariants as queue
+use Rattle.pth_threads.specs.Threads.{slot_of, tid_at, entry_at}
+use Rattle.pth_threads.specs.declared.entry.Entry.{Entry}
+use Rattle.pth_model.specs.declared.blocked.Blocked.{Blocked}
+use Rattle.pth_model.specs.declared.blocked.Retake.{Retake}
+use Rattle.pth_model.specs.declared.blocked.Retake.TheVariants as retake
+use Rattle.pth_model.specs.State.{main}
+use Rattle.pth_model.specs.Changes.{blocked_in}
+use Rattle.pth_world.specs.World.{WorldOf, ThreadsBySlot}
+use Rattle.pth_world.specs.Sound.{IsSound, IsKnown}
+
+-- what there is at a slot
+pub record View : Type 0 where
+  pub entry : Option Entry
+  pub place : Option Queue
+  pub blocked : Option Blocked
+
+abbrev pub view : {S : Type 0} → ThreadsBySlot S → ℕ → View
+view x u = record { entry = entry_at x.records u; place = queue_of u x.queues; blocked = blocked_in (table None x.progress u) }
+
+-- the queue of a state: a running thread stands in none
+abbrev pub queue_for : ThreadState → Option Queue
+queue_for state.New = Some queue.New
+queue_for state.Ready = Some queue.Ready
+queue_for state.Running = None
+queue_for state.Waiting = Some queue.Waiting
+queue_for state.Dead = Some queue.Dead
+
+-- where a thread stands: a suspended one in no queue of its state
+abbrev pub place_for : ThreadState → Bool → Option Queue
+place_for state true = Some queue.Suspended
+place_for state false = queue_for state
+
+-- the call takes no mutex back
+abbrev pub TakesNothingBack : Retake → Type 0
+TakesNothingBack retake.No = Unit {0}
+TakesNothingBack r = ⊥
+
+-- Which calls block which threads: of those that are built, main's exit alone, and it waits for no moment.
+abbrev pub MayBlockAs : ℕ → Call → Type 0
+MayBlockAs t (call.Exit v) = t ≡ main
+MayBlockAs t c = ⊥
+
+pub record MayBlock (t : ℕ) (b : Blocked) : Type 0 where
+  pub call : MayBlockAs t b.call
+  pub moment : b.moment ≡ 0
+  -- it writes nothing, reaches no barrier, and takes no mutex back
+  pub written : b.written ≡ 0
+  pub round : b.round ≡ 0
+  pub retake : TakesNothingBack b.retake
+
+-- only a new, ready or waiting thread may be suspended (pth_suspend)
+abbrev pub CanSuspend : ThreadState → Type 0
+CanSuspend state.Running = ⊥
+CanSuspend state.Dead = ⊥
+CanSuspend s = Unit {0}
+
+-- what holds of each thread in the system: it stands in exactly the queue of its state, the thread that runs is the one
+-- that is running, and the call that blocks it is one that may
+pub record IsFitting (running : Option ℕ) (e : Entry) (place : Option Queue) (blocked : Option Blocked) : Type 0 where
+  pub placed : place ≡ place_for e.state e.suspended
+  pub runs : running ≡ Some e.tid.0 → e.state ≡ state.Running
+  pub named : e.state ≡ state.Running → running ≡ Some e.tid.0
+  pub awake : e.suspended ≡ true → CanSuspend e.state
+  pub calls : IfSome blocked (λ b. MayBlock e.tid.0 b)
+
+abbrev pub FitsEntry : Option ℕ → Option Entry → Option Queue → Option Blocked → Type 0
+FitsEntry running None place blocked = Unit {0}
+FitsEntry running (Some e) place blocked = IsFitting running e place blocked
+
+abbrev pub Fits : Option ℕ → View → Type 0
+Fits running v = FitsEntry running v.entry v.place v.blocked
+
+-- whoever runs is in the system
+abbrev pub IsRunner : {P S H : Type 0} → WorldOf P S H → Type 0
+IsRunner w = IfSome w.scheduler.running (λ t. IsKnown w.threads t)
+
+-- what holds of every world between two calls
+pub record Whole {P S H : Type 0} (w : WorldOf P S H) : Type 0 where
+  pub sound : IsSound w.threads
+  pub fits : (u : ℕ) → Fits w.scheduler.running (view w.threads u)
+  pub runner : IsRunner w
+
+-- what holds of it while thread t is changed: all but what t itself fits
+pub record WholeBut {P S H : Type 0} (w : WorldOf P S H) (t : ℕ) : Type 0 where
+  pub sound : IsSound w.threads
+  pub fits : (u : ℕ) → tid_at w.threads.records u ≢ t → Fits w.scheduler.running (view w.threads u)
+  pub runner : IsRunner w
+
+-- nobody but t runs
+abbrev pub IsAbout : Option ℕ → ℕ → Type 0
+IsAbout running t = (r : ℕ) → running ≡ Some r → r ≡ t
+
+-- the thread is in the system and stands in this queue
+abbrev pub IsIn : {S : Type 0} → Queue → ThreadsBySlot S → ℕ → Type 0
+IsIn q x t = IfSome (slot_of x.records t) (λ u. queue_of u x.queues ≡ Some q)
+
+-- the queues in which a thread waits to be ready
+pub data IsBefore : Queue → Type 0 where
+  Newly : IsBefore queue.New
+  Waiting : IsBefore queue.Waiting
+
+-- the thread stands in one of these
+pub record IsBeforeReady {S : Type 0} (x : ThreadsBySlot S) (t : ℕ) : Type 0 where
+  pub queue : Queue
+  pub before : IsBefore queue
+  pub stands : IsIn queue x t
