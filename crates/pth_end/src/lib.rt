@@ -1,0 +1,4 @@
+//! The ends of threads.
+#![tactic(auto)]
+
+pub mod ending;
