@@ -1,0 +1,6 @@
+//! The calls that run no handler and end no thread, each as its row of the definitions, and what all calls tell.
+#![tactic(auto)]
+
+pub mod answering;
+pub mod script_lines;
+pub mod thread_control;
