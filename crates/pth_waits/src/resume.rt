@@ -1,0 +1,37 @@
+//! How the call that blocks a thread is tried again.
+
+ghost use Rattle.std.specs.Prelude.{◌≡◌, Some, IfOk, OnOk, OnErr};
+ghost use Rattle.pth_base.specs.Cut.{IsCut};
+ghost use Rattle.pth_model.specs.Calls.{resumed};
+ghost use Rattle.pth_model.specs.State.{State};
+ghost use Rattle.pth_world.specs.Frame.{Frame, runs_after};
+ghost use Rattle.pth_world.specs.Leading.{Leads};
+ghost use Rattle.pth_world.specs.Shows.{StandsFor};
+ghost use Rattle.pth_world.specs.Whole.{Whole};
+
+use crate::thread_ends::exit_again;
+use pth_base::call::Call;
+use pth_base::ids::Tid;
+use pth_base::marks::Marks;
+use pth_base::memory::OutOfMemory;
+use pth_base::program::Program;
+use pth_model::next::Next;
+use pth_world::world::World;
+
+/// Tries the call that blocks the thread that runs again. After an error the world may only be dropped.
+pub fn resume<P: Program>(w: &mut World<P>, t: Tid, marks: &mut Marks) -> Result<Next, OutOfMemory>
+    requires whole { Whole w.old }
+    requires runs { w.old.scheduler.running ≡ Some t.0 }
+    ensures next { IfOk result (λ n. (s : State P P.State P.Shared) → StandsFor w.old s → n ≡ (resumed P.functions t.0 s).next) }
+    ensures ok { OnOk result ((s : State P P.State P.Shared) → StandsFor w.old s → Leads w.new marks.old marks.new (resumed P.functions t.0 s).told) }
+    ensures err { OnErr result ((s : State P P.State P.Shared) → StandsFor w.old s → IsCut marks.old marks.new (resumed P.functions t.0 s).told.marks) }
+    ensures frame { IfOk result (λ n. Frame w.old w.new 0 (runs_after t.0 n)) }
+{
+    match w.blocked(t) {
+        Some(blocked) => match blocked.call {
+            Call::Exit(value) => exit_again(w, t, value, marks),
+            _ => unreachable!(),
+        },
+        None => Ok(Next::Waits),
+    }
+}
