@@ -6,7 +6,8 @@ use Rattle.pth_base.specs.Program.{Functions}
 use Rattle.pth_base.specs.declared.mark.Mark.{Mark}
 use Rattle.pth_base.specs.declared.outcome.Outcome.{Outcome}
 use Rattle.pth_base.specs.declared.outcome.Outcome.TheVariants.{Running, Ended, Killed, Stalled, OutOfMemory}
-use Rattle.pth_model.specs.State.{State, Given}
+use Rattle.pth_model.specs.Course.{Course}
+use Rattle.pth_model.specs.State.{Given, Turn}
 use Rattle.pth_model.specs.Part.{Part, next_part, next_part_by, unless_ended, is_idle}
 use Rattle.pth_model.specs.Run.{run, stops, stops_by, GoesTo}
 use Rattle.pth_model.proofs.Runs.{between-then, goes-then, goes-once, stops-later}
@@ -32,32 +33,32 @@ true_false h = cc
 
 module _ {P S H : Type 0} where
   -- an outcome stops a run to any number of steps
-  stops_any : (to : ℕ) (s : State P S H) → s.rest.scheduler.outcome ≢ Running → stops to s ≡ true
+  stops_any : (to : ℕ) (c : Course P S H) → c.turn.outcome ≢ Running → stops to c ≡ true
   unfolding stops next_part
-  stops_any to s ended = halt_by to s.rest.scheduler.steps s.rest.scheduler.outcome (next_part_by s.rest.scheduler.gave s.rest.scheduler.running (is_idle s)) ended
+  stops_any to c ended = halt_by to c.turn.steps c.turn.outcome (next_part_by c.turn.gave c.state.control.scheduler.running (is_idle c.state.control)) ended
 
   module _ (f : P → Functions S H) (g : Given P) where
-    stays_at : (to j k : ℕ) → stops to (run f g j).state ≡ true → GoesTo f g to j k → k ≡ j
+    stays_at : (to j k : ℕ) → stops to (run f g j) ≡ true → GoesTo f g to j k → k ≡ j
     stays_at to j k halt b = elim (cases_lt j k) [
       | inl low ↦ absurd (true_false (sym halt ∙ b.first j (omega arith) low))
       | inr high ↦ (let l = b.later in omega arith)
     ]
 
-    joins : (n to far i j k : ℕ) → n ≤ far → ((run f g j).state.rest.scheduler.outcome ≡ Running → to ≡ far) → GoesTo f g n i j → GoesTo f g to j k → GoesTo f g far i k
-    joins n to far i j k le runs a b = elim (is_running (run f g j).state.rest.scheduler.outcome) [
+    joins : (n to far i j k : ℕ) → n ≤ far → ((run f g j).turn.outcome ≡ Running → to ≡ far) → GoesTo f g n i j → GoesTo f g to j k → GoesTo f g far i k
+    joins n to far i j k le runs a b = elim (is_running (run f g j).turn.outcome) [
       | inl on ↦ goes-then f g n far i j k le a (subst (λ (x : ℕ). GoesTo f g x j k) (runs on) b)
-      | inr ended ↦ subst (λ (x : ℕ). GoesTo f g far i x) (sym (stays_at to j k (stops_any to (run f g j).state ended) b)) (record {
+      | inr ended ↦ subst (λ (x : ℕ). GoesTo f g far i x) (sym (stays_at to j k (stops_any to (run f g j) ended) b)) (record {
         later = a.later;
-        here = stops_any far (run f g j).state ended;
-        first = λ l from below. stops-later n far (run f g l).state le (a.first l from below);
+        here = stops_any far (run f g j) ended;
+        first = λ l from below. stops-later n far (run f g l) le (a.first l from below);
       })
     ]
 
     -- n steps and then k steps are n + k steps
-    pub goes_joined : (i n k : ℕ) (m t u : MachineOf P S H) (a b c : List Mark) → (first : GoesOn f g (m.steps + n) i t a b) → (t.outcome ≡ Running → t.steps ≡ m.steps + n) → GoesOn f g (t.steps + k) first.part u b c → GoesOn f g (m.steps + (n + k)) i u a c
+    pub goes_joined : (i n k : ℕ) (m t u : MachineOf P S H) (a b c : List Mark) → (first : GoesOn f g (m.turn.steps + n) i t a b) → (t.turn.outcome ≡ Running → t.turn.steps ≡ m.turn.steps + n) → GoesOn f g (t.turn.steps + k) first.part u b c → GoesOn f g (m.turn.steps + (n + k)) i u a c
     goes_joined i n k m t u a b c first runs second = record {
       part = second.part;
-      goes = joins (m.steps + n) (t.steps + k) (m.steps + (n + k)) i first.part second.part (omega arith) (λ on. (let e = runs (sym first.stands.outcome ∙ on) in omega arith)) first.goes second.goes;
+      goes = joins (m.turn.steps + n) (t.turn.steps + k) (m.turn.steps + (n + k)) i first.part second.part (omega arith) (λ on. (let e = runs (ap (λ (x : Turn). x.outcome) (sym first.stands.turn) ∙ on) in omega arith)) first.goes second.goes;
       stands = second.stands;
       told = first.told ++ second.told;
       between = between-then f g i first.part second.part first.told second.told first.between second.between;
@@ -73,5 +74,5 @@ module _ {P S H : Type 0} where
           let between = sym one.between ∙ ap (λ (j : ℕ). (run f g j).marks) same_part ∙ two.between in
           one.appended ∙ ap (λ (l : List Mark). a ++ l) (append_cancel_left (run f g i).marks one.told two.told between) ∙ sym two.appended
 
-      pub same_outcome : t.outcome ≡ u.outcome
-      same_outcome = sym one.stands.outcome ∙ ap (λ (j : ℕ). (run f g j).state.rest.scheduler.outcome) same_part ∙ two.stands.outcome
+      pub same_outcome : t.turn.outcome ≡ u.turn.outcome
+      same_outcome = ap (λ (x : Turn). x.outcome) (sym one.stands.turn) ∙ ap (λ (j : ℕ). (run f g j).turn.outcome) same_part ∙ ap (λ (x : Turn). x.outcome) two.stands.turn

@@ -1,180 +1,185 @@
 -- A run ends with main's value where main is alone.
-use Rattle.std.proofs.Common.{◌≡◌, ℕ, ◌==◌, ◌&&◌, not, ◌+◌, ℤ, Bool, true, false, reverse, Option, Some, None, refl, sym, ap, ◌∙◌, subst, List, [], ◌∷◌}
+use Rattle.std.proofs.Common.{◌≡◌, ℕ, ◌==◌, ◌&&◌, not, ◌+◌, ℤ, pos, Bool, true, false, Option, Some, None, refl, sym, ap, ◌∙◌, subst, List, [], ◌∷◌}
 use Rattle.pth_base.proofs.Tables.{same_means}
 use Rattle.pth_base.specs.Program.{Functions}
-use Rattle.pth_base.specs.declared.answer.Answer.{Answer}
-use Rattle.pth_base.specs.declared.answer.Answer.TheVariants as answer
 use Rattle.pth_base.specs.declared.call.Call.{Call}
+use Rattle.pth_base.specs.declared.call.Call.TheVariants as call
 use Rattle.pth_base.specs.declared.mark.Mark.{Mark}
 use Rattle.pth_base.specs.declared.mark.Mark.TheVariants.{Ended as End}
-use Rattle.pth_base.specs.declared.outcome.Outcome.{Outcome}
 use Rattle.pth_base.specs.declared.outcome.Outcome.TheVariants.{Running, Ended}
 use Rattle.pth_queue.specs.declared.queue.Queue.TheVariants as queues
-use Rattle.pth_model.specs.declared.continuation.Continuation.{Continuation}
-use Rattle.pth_model.specs.declared.held.Held.{Held}
+use Rattle.pth_model.specs.declared.blocked.Blocked.{Blocked}
 use Rattle.pth_model.specs.declared.next.Next.{Next}
 use Rattle.pth_model.specs.declared.next.Next.TheVariants as next
-use Rattle.pth_model.specs.State.{State, Given, start, queue, main}
-use Rattle.pth_model.specs.Changes.{with_going, called, called_from, held_of, owed_to, raised}
-use Rattle.pth_model.specs.Told.{Told, Went, tid}
-use Rattle.pth_model.specs.Family.{Family, Threads, Ends, Yield, Exit, split}
-use Rattle.pth_model.specs.Rows.{answer_of}
+use Rattle.pth_model.specs.declared.progress.Progress.{Progress}
+use Rattle.pth_model.specs.Verdict.{Verdict, Says, Yields, Blocks, Ends, Kills, waits, refused, says, ◌when◌otherwise◌}
+use Rattle.pth_model.specs.State.{State, Control, Given, Turn, start, queue, main}
+use Rattle.pth_model.specs.Transition.{Piece, Went, tid, controlled}
+use Rattle.pth_base.specs.declared.answer.Answer.TheVariants.{Int}
+use Rattle.pth_base.specs.declared.errno.Errno.TheVariants.{EINVAL, EAGAIN}
+use Rattle.pth_model.specs.Operands.{is_below, is_zero}
+use Rattle.pth_model.specs.ThreadControl.{has_room}
+use Rattle.pth_model.specs.Changes.{blocked_of, goes_on}
+use Rattle.pth_model.specs.Course.{Course}
+use Rattle.pth_model.specs.Row.{effect_of}
+use Rattle.pth_model.specs.Rows.{row_of}
 use Rattle.pth_model.specs.Ending.{ending}
-use Rattle.pth_model.specs.Pass.{who_in}
-use Rattle.pth_model.specs.Waits.{is_alone, begun, begun_by, exit_row, exit_by, exit_again, resumed, resumed_by, resumed_from, yield_row, yields_by}
-use Rattle.pth_model.specs.Part.{Part, Move, Take, Step, Close, Halt, next_part, part, part_by, moved, taken, dispatched_by, dispatched, closed, closing, placed, stepped, settled, ended_by, went_by, owing, counted, next_by}
+use Rattle.pth_model.specs.ThreadEnds.{is_alone, must_wait}
+use Rattle.pth_model.specs.Calls.{begun, begun_by, resumed, resumed_by, tried_by}
+use Rattle.pth_model.specs.Part.{Part, Move, Take, Step, Close, Halt, next_part, part, part_by, moves, takes, takes_by, readies_new, chosen, closes, steps, steps_by, steps_on, turn_after, gives_up, ends_run}
 use Rattle.pth_model.specs.Run.{run, IsBetween}
 use Rattle.pth_model.proofs.Runs.{parts-more, between-none, between-more}
-use Rattle.pth_model.proofs.Turns.{Turn, turn-went, turn-pass, turn-placed, turn-raised, turn-runs, turn-all_readied}
-use Rattle.pth_sched.proofs.Readying.{all_new}
+use Rattle.pth_waits.proofs.Exits.{exit_ends, again_ends}
 
 running_ended : (v : ℤ) → Running ≡ Ended v → ⊥
 running_ended v h = cc
 
--- a yield ends no thread
-yields_on : (a : Answer) (v : ℤ) → yields_by a ≡ next.Ended v → ⊥
-yields_on (answer.Fail e) v h = cc
-yields_on a v h = cc
+-- ---- verdicts that end a thread
+
+yield_on : (b : Bool) (v : ℤ) → (refused EINVAL when b otherwise Yields (Int (pos 1))) ≡ Ends v → ⊥
+yield_on true v h = cc h
+yield_on false v h = cc h
+
+spawn_on : (p q r : Bool) (n : ℕ) (v : ℤ) → (refused EINVAL when p otherwise refused EINVAL when q otherwise refused EAGAIN when r otherwise says n) ≡ Ends v → ⊥
+spawn_on true q r n v h = cc h
+spawn_on false true r n v h = cc h
+spawn_on false false true n v h = cc h
+spawn_on false false false n v h = cc h
+
+exit_on : (b : Bool) (x v : ℤ) → (waits when b otherwise Ends x) ≡ Ends v → (x ≡ v) × (b ≡ false)
+exit_on true x v h = absurd (cc h)
+exit_on false x v h = (cc, refl)
+
+-- where main need not wait, it is alone
+alone_by : (p q : Bool) → p ≡ true → (p && not q) ≡ false → q ≡ true
+alone_by true true h k = refl
+alone_by true false h k = absurd (cc k)
+alone_by false q h k = absurd (cc h)
+
+module _ {P S H : Type 0} (f : P → Functions S H) (t : ℕ) (v : ℤ) where
+  -- only an exit ends its thread, and only where it need not wait
+  exits : (s : State P S H) (c : Call) → (row_of f s t c).begin.verdict ≡ Ends v → (c ≡ call.Exit v) × (must_wait s.control t ≡ false)
+  unfolding row_of
+  exits s (call.Exit x) h = let e = exit_on (must_wait s.control t) x v h in (ap call.Exit e.0, e.1)
+  exits s (call.Spawn b u a) h = absurd (spawn_on (not (is_below b (f s.control.program).bodies)) (not (is_zero a)) (not (has_room s.control)) (s.control.threads.made + 1) v h)
+  exits s (call.Yield n) h = absurd (yield_on (not (is_zero n)) v h)
+  exits s c h = absurd (cc h)
+
+  exits_again : (s : State P S H) (b : Blocked) (c : Call) → ((row_of f s t c).again b).verdict ≡ Ends v → (c ≡ call.Exit v) × (must_wait s.control t ≡ false)
+  unfolding row_of
+  exits_again s b (call.Exit x) h = let e = exit_on (must_wait s.control t) x v h in (ap call.Exit e.0, e.1)
+  exits_again s b c h = absurd (cc h)
+
+  begun_verdict : (c : Call) (w : Verdict) (a : Piece P S H) (s : State P S H) → (begun_by f t c w a s).next ≡ next.Ended v → w ≡ Ends v
+  begun_verdict c (Says a) effect s e = absurd (cc e)
+  begun_verdict c (Yields a) effect s e = absurd (cc e)
+  begun_verdict c (Blocks p) effect s e = absurd (cc e)
+  begun_verdict c (Ends x) effect s e = (let same : x ≡ v = cc in ap Ends same)
+  begun_verdict c Kills effect s e = absurd (cc e)
+
+  tried_verdict : (b : Blocked) (w : Verdict) (s : State P S H) → (tried_by f t b w s).next ≡ next.Ended v → w ≡ Ends v
+  tried_verdict b (Says a) s e = absurd (cc e)
+  tried_verdict b (Yields a) s e = absurd (cc e)
+  tried_verdict b (Blocks p) s e = absurd (cc e)
+  tried_verdict b (Ends x) s e = (let same : x ≡ v = cc in ap Ends same)
+  tried_verdict b Kills s e = absurd (cc e)
+
+  ending_told : (s : State P S H) → (ending f t v s).marks ≡ End (tid t) v ∷ []
+  unfolding ending
+  ending_told s = refl
+
+  -- what ends its thread with v: it need not wait, and this is told
+  record EndsIt (k : Control P S H) (marks : List Mark) : Type 0 where
+    free : must_wait k t ≡ false
+    told : marks ≡ End (tid t) v ∷ []
+
+  of_exit : (s : State P S H) (c : Call) → (c ≡ call.Exit v) × (must_wait s.control t ≡ false) → EndsIt s.control (begun f t c s).told.marks
+  of_exit s c x = subst (λ (y : Call). EndsIt s.control (begun f t y s).told.marks) (sym x.0) (record { free = x.1; told = ap (λ (w : Went P S H). w.told.marks) (exit_ends f s t v x.1) ∙ ending_told s })
+
+  exit_began : (s : State P S H) (c : Call) → (begun f t c s).next ≡ next.Ended v → (c ≡ call.Exit v) × (must_wait s.control t ≡ false)
+  unfolding begun
+  exit_began s call.Plain e = absurd (cc e)
+  exit_began s (call.Note x) e = absurd (cc e)
+  exit_began s c e = exits s c (begun_verdict c (row_of f s t c).begin.verdict (effect_of (row_of f s t c).begin) s e)
+
+  begun_ends : (c : Call) (s : State P S H) → (begun f t c s).next ≡ next.Ended v → EndsIt s.control (begun f t c s).told.marks
+  begun_ends c s e = of_exit s c (exit_began s c e)
+
+  resumed_as : (s : State P S H) → resumed f t s ≡ resumed_by f t (blocked_of s.control t) s
+  unfolding resumed
+  resumed_as s = refl
+
+  resumed_ends : (s : State P S H) → (resumed f t s).next ≡ next.Ended v → EndsIt s.control (resumed f t s).told.marks
+  resumed_ends s e = by_blocked (blocked_of s.control t) refl (ap (λ (w : Went P S H). w.next) (sym (resumed_as s)) ∙ e)
+    where
+      by_blocked : (o : Option Blocked) → blocked_of s.control t ≡ o → (resumed_by f t o s).next ≡ next.Ended v → EndsIt s.control (resumed f t s).told.marks
+      by_blocked None is h = absurd (cc h)
+      by_blocked (Some b) is h =
+          let a = (row_of f s t b.call).again b in
+          let x = exits_again s b b.call (tried_verdict b a.verdict (effect_of a s).state h) in
+          record { free = x.1; told = ap (λ (w : Went P S H). w.told.marks) (again_ends f s t v b is x.0 x.1) ∙ ending_told s }
+
+  steps_ends : (s : State P S H) → (steps_on f t s).next ≡ next.Ended v → EndsIt s.control (steps_on f t s).told.marks
+  unfolding goes_on is_alone
+  steps_ends s e = by_progress (blocked_of s.control t) (s.control.threads.progress t) e
+    where
+      by_progress : (b : Option Blocked) (p : Option (Progress S)) → (steps_by f t b p s).next ≡ next.Ended v → EndsIt s.control (steps_by f t b p s).told.marks
+      by_progress (Some b) p h = resumed_ends s h
+      by_progress None None h = resumed_ends s h
+      by_progress None (Some p) h = (let b = begun_ends _ _ h in record { free = b.free; told = b.told })
+
+-- who is main, and whose call ended it
+turn_ended : (t : ℕ) (v : ℤ) (n : Next) (x : Turn) → x.outcome ≡ Running → (turn_after t n x).outcome ≡ Ended v → ((t == main) ≡ true) × (n ≡ next.Ended v)
+turn_ended t v (next.Done a) x on e = absurd (running_ended v (sym on ∙ e))
+turn_ended t v (next.Yields a) x on e = absurd (running_ended v (sym on ∙ e))
+turn_ended t v next.Waits x on e = absurd (running_ended v (sym on ∙ e))
+turn_ended t v next.Killed x on e = absurd (cc e)
+turn_ended t v (next.Ended y) x on e = by_main (t == main) refl e
+  where
+    inside : (y v : ℤ) → Ended y ≡ Ended v → y ≡ v
+    inside y v h = cc
+
+    by_main : (b : Bool) → (t == main) ≡ b → (gives_up t (ends_run y b x)).outcome ≡ Ended v → ((t == main) ≡ true) × (next.Ended y ≡ next.Ended v)
+    by_main true is h = (is, ap next.Ended (inside y v h))
+    by_main false is h = absurd (running_ended v (sym on ∙ h))
 
 module _ {P S H : Type 0} where
-  abbrev pub outcome_of : State P S H → Outcome
-  outcome_of s = s.rest.scheduler.outcome
-
-  -- a call ends its thread with a value
-  abbrev ends_with : Went P S H → ℤ → Type 0
-  ends_with w v = w.next ≡ next.Ended v
-
-  begins_alone_by : (s : State P S H) (t : ℕ) (c : Call) (x v : ℤ) (b : Bool) → b ≡ ((t == main) && not (is_alone s t)) → (t == main) ≡ true → ends_with (exit_by s t c x b) v → is_alone s t ≡ true
-  begins_alone_by s t c x v true is own e = absurd (cc e)
-  begins_alone_by s t c x v false is own e = by_test (t == main) (is_alone s t) own (sym is)
-    where
-      by_test : (p q : Bool) → p ≡ true → (p && not q) ≡ false → q ≡ true
-      by_test true true h k = refl
-      by_test true false h k = absurd (cc k)
-      by_test false q h k = absurd (cc h)
-
-  begins_alone : (f : P → Functions S H) (s : State P S H) (t : ℕ) (c : Call) (v : ℤ) (g : Family) → (t == main) ≡ true → ends_with (begun_by f s t c g) v → is_alone s t ≡ true
-  unfolding exit_row yield_row
-  begins_alone f s t c v (Ends (Exit x)) own e = begins_alone_by s t c x v ((t == main) && not (is_alone s t)) refl own e
-  begins_alone f s t c v (Threads (Yield u)) own e = absurd (yields_on (answer_of f s t (split c)) v e)
-  begins_alone f s t c v g own e = absurd (cc e)
-
-  resumes_alone_by : (s : State P S H) (t : ℕ) (c : Call) (x v : ℤ) (b : Bool) → b ≡ is_alone s t → ends_with (exit_again s t c x b) v → is_alone s t ≡ true
-  resumes_alone_by s t c x v true is e = sym is
-  resumes_alone_by s t c x v false is e = absurd (cc e)
-
-  resumes_alone : (s : State P S H) (t : ℕ) (c : Call) (v : ℤ) (g : Family) → ends_with (resumed_by s t c g) v → is_alone s t ≡ true
-  resumes_alone s t c v (Ends (Exit x)) e = resumes_alone_by s t c x v (is_alone s t) refl e
-  resumes_alone s t c v g e = absurd (cc e)
-
-  -- ---- its end is told with this value
-
-  exit_told : (s : State P S H) (t : ℕ) (c : Call) (x v : ℤ) (b : Bool) → ends_with (exit_by s t c x b) v → (exit_by s t c x b).told.marks ≡ End (tid t) v ∷ []
-  unfolding ending
-  exit_told s t c x v true e = absurd (cc e)
-  exit_told s t c x v false e = let same : x ≡ v = cc in ap (λ (y : ℤ). End (tid t) y ∷ []) same
-
-  again_told : (s : State P S H) (t : ℕ) (c : Call) (x v : ℤ) (b : Bool) → ends_with (exit_again s t c x b) v → (exit_again s t c x b).told.marks ≡ End (tid t) v ∷ []
-  unfolding ending
-  again_told s t c x v true e = let same : x ≡ v = cc in ap (λ (y : ℤ). End (tid t) y ∷ []) same
-  again_told s t c x v false e = absurd (cc e)
-
-  begins_told : (f : P → Functions S H) (s : State P S H) (t : ℕ) (c : Call) (v : ℤ) (g : Family) → ends_with (begun_by f s t c g) v → (begun_by f s t c g).told.marks ≡ End (tid t) v ∷ []
-  unfolding exit_row yield_row
-  begins_told f s t c v (Ends (Exit x)) e = exit_told s t c x v ((t == main) && not (is_alone s t)) e
-  begins_told f s t c v (Threads (Yield u)) e = absurd (yields_on (answer_of f s t (split c)) v e)
-  begins_told f s t c v g e = absurd (cc e)
-
-  resumes_told : (s : State P S H) (t : ℕ) (c : Call) (v : ℤ) (g : Family) → ends_with (resumed_by s t c g) v → (resumed_by s t c g).told.marks ≡ End (tid t) v ∷ []
-  resumes_told s t c v (Ends (Exit x)) e = again_told s t c x v (is_alone s t) e
-  resumes_told s t c v g e = absurd (cc e)
-
-  went_told : (f : P → Functions S H) (s : State P S H) (t : ℕ) (v : ℤ) (h : Option Held) → ends_with (went_by f s t h) v → (went_by f s t h).told.marks ≡ End (tid t) v ∷ []
-  unfolding resumed begun
-  went_told f s t v (Some h) e = by_held (held_of s t) e
-    where
-      by_held : (o : Option Held) → ends_with (resumed_from s t o) v → (resumed_from s t o).told.marks ≡ End (tid t) v ∷ []
-      by_held (Some x) k = resumes_told s t x.call v (split x.call) k
-      by_held None k = absurd (cc k)
-  went_told f s t v None e =
-      let x = called f (owing s t answer.None) t (owed_to s t) in
-      begins_told f x.state t x.call v (split x.call) e
-
-  -- ---- the queues are the same after the program's step
-
-  called_alone : (f : P → Functions S H) (s : State P S H) (t : ℕ) (a : Answer) (c : Option (Continuation S)) (u : ℕ) → is_alone (called_from f s t a c).state u ≡ is_alone s u
-  unfolding is_alone
-  called_alone f s t a None u = refl
-  called_alone f s t a (Some c) u = refl
-
-  went_alone : (f : P → Functions S H) (s : State P S H) (t : ℕ) (v : ℤ) (h : Option Held) → (t == main) ≡ true → ends_with (went_by f s t h) v → is_alone s t ≡ true
-  unfolding resumed begun called with_going is_alone
-  went_alone f s t v (Some h) own e = by_held (held_of s t) e
-    where
-      by_held : (o : Option Held) → ends_with (resumed_from s t o) v → is_alone s t ≡ true
-      by_held (Some x) k = resumes_alone s t x.call v (split x.call) k
-      by_held None k = absurd (cc k)
-  went_alone f s t v None own e =
-      let x = called f (owing s t answer.None) t (owed_to s t) in
-      sym (called_alone f (owing s t answer.None) t (owed_to s t) ((owing s t answer.None).rest.threads.going t) t) ∙ begins_alone f x.state t x.call v (split x.call) own e
-
-  -- who is main, and whose call ended it
-  settled_ended : (s : State P S H) (t : ℕ) (v : ℤ) (n : Next) → outcome_of s ≡ Running → outcome_of (settled s t n) ≡ Ended v → ((t == main) ≡ true) × (n ≡ next.Ended v)
-  unfolding with_going
-  settled_ended s t v (next.Done a) on e = absurd (running_ended v (sym on ∙ e))
-  settled_ended s t v (next.Yields a) on e = absurd (running_ended v (sym on ∙ e))
-  settled_ended s t v next.Waits on e = absurd (running_ended v (sym on ∙ e))
-  settled_ended s t v next.Killed on e = absurd (cc e)
-  settled_ended s t v (next.Ended x) on e = by_main (t == main) refl e
-    where
-      by_main : (b : Bool) → (t == main) ≡ b → outcome_of (ended_by s x b) ≡ Ended v → ((t == main) ≡ true) × (next.Ended x ≡ next.Ended v)
-      by_main true is h = (is, ap next.Ended (inside x v h))
-        where
-          inside : (x v : ℤ) → Ended x ≡ Ended v → x ≡ v
-          inside x v h = cc
-      by_main false is h = absurd (running_ended v (sym on ∙ h))
-
-  record EndsMain (s : State P S H) (marks : List Mark) (v : ℤ) : Type 0 where
-    step : next_part s ≡ Step main
-    alone : is_alone s main ≡ true
+  record EndsMain (x : Turn) (s : State P S H) (marks : List Mark) (v : ℤ) : Type 0 where
+    step : next_part s x ≡ Step main
+    alone : is_alone s.control main ≡ true
     told : marks ≡ End (tid main) v ∷ []
 
-  step_ends : (f : P → Functions S H) (s : State P S H) (t : ℕ) (v : ℤ) → outcome_of s ≡ Running → outcome_of (stepped f s t).state ≡ Ended v → (t ≡ main) × (is_alone s t ≡ true) × ((stepped f s t).marks ≡ End (tid t) v ∷ [])
-  unfolding stepped is_alone
-  step_ends f s t v on e =
-      let w = went_by f (counted s) t (held_of s t) in
-      let kept = ap (λ (x : Turn). x.outcome) (turn-went f (counted s) t (held_of s t)) ∙ on in
-      let main_is = settled_ended w.told.state t v w.next kept e in
-      (same_means t main main_is.0, went_alone f (counted s) t v (held_of s t) main_is.0 main_is.1, went_told f (counted s) t v (held_of s t) main_is.1)
+  step_ends : (f : P → Functions S H) (x : Turn) (s : State P S H) (t : ℕ) (v : ℤ) → x.outcome ≡ Running → (steps f x t s).turn.outcome ≡ Ended v → (t ≡ main) × (is_alone s.control t ≡ true) × ((steps f x t s).marks ≡ End (tid t) v ∷ [])
+  unfolding steps
+  step_ends f x s t v on e =
+      let main_is = turn_ended t v (steps_on f t s).next (record x { steps = x.steps + 1 }) on e in
+      let ends = steps_ends f t v s main_is.1 in
+      (same_means t main main_is.0, alone_by (t == main) (is_alone s.control t) main_is.0 ends.free, ends.told)
 
-  part_ends : (f : P → Functions S H) (s : State P S H) (v : ℤ) (p : Part) → next_part s ≡ p → outcome_of s ≡ Running → outcome_of (part_by f s p).state ≡ Ended v → EndsMain s (part_by f s p).marks v
-  unfolding moved taken dispatched closed
-  part_ends f s v Move is on e = absurd (cc e)
-  part_ends f s v Take is on e = by_next (next_by (all_new s).rest.scheduler.named (queue (all_new s) queues.Ready)) e
+  part_ends : (f : P → Functions S H) (x : Turn) (s : State P S H) (v : ℤ) (p : Part) → next_part s x ≡ p → x.outcome ≡ Running → (part_by f x s p).turn.outcome ≡ Ended v → EndsMain x s (part_by f x s p).marks v
+  unfolding moves takes closes
+  part_ends f x s v Move is on e = absurd (cc e)
+  part_ends f x s v Take is on e = by_next (chosen (readies_new s.control).scheduler.preferred (queue (readies_new s.control) queues.Ready)) e
     where
-      kept : outcome_of (all_new s) ≡ Running
-      kept = ap (λ (x : Turn). x.outcome) (turn-all_readied (reverse (who_in (queue s queues.New))) s) ∙ on
+      by_next : (o : Option ℕ) → (takes_by x o (controlled readies_new s)).turn.outcome ≡ Ended v → EndsMain x s (takes_by x o (controlled readies_new s)).marks v
+      by_next None h = absurd (running_ended v (sym on ∙ h))
+      by_next (Some t) h = absurd (running_ended v (sym on ∙ h))
+  part_ends f x s v (Step t) is on e =
+      let k = step_ends f x s t v on e in
+      record { step = is ∙ ap Step k.0; alone = subst (λ (u : ℕ). is_alone s.control u ≡ true) k.0 k.1; told = k.2 ∙ ap (λ (u : ℕ). End (tid u) v ∷ []) k.0 }
+  part_ends f x s v (Close t) is on e = absurd (running_ended v (sym on ∙ e))
+  part_ends f x s v Halt is on e = absurd (running_ended v (sym on ∙ e))
 
-      by_next : (o : Option ℕ) → outcome_of (dispatched_by (all_new s) o).state ≡ Ended v → EndsMain s (dispatched_by (all_new s) o).marks v
-      by_next None h = absurd (running_ended v (sym kept ∙ h))
-      by_next (Some t) h = absurd (running_ended v (sym kept ∙ sym (ap (λ (x : Turn). x.outcome) (turn-runs (all_new s) t)) ∙ h))
-  part_ends f s v (Step t) is on e =
-      let k = step_ends f s t v on e in
-      record { step = is ∙ ap Step k.0; alone = subst (λ (u : ℕ). is_alone s u ≡ true) k.0 k.1; told = k.2 ∙ ap (λ (u : ℕ). End (tid u) v ∷ []) k.0 }
-  part_ends f s v (Close t) is on e =
-      let before = closing (placed (raised s) t) in
-      absurd (running_ended v (sym (ap (λ (x : Turn). x.outcome) (turn-pass before) ∙ ap (λ (x : Turn). x.outcome) (turn-placed (raised s) t ∙ turn-raised s) ∙ on) ∙ e))
-  part_ends f s v Halt is on e = absurd (running_ended v (sym on ∙ e))
+  module _ (f : P → Functions S H) (g : Given P) (i : ℕ) (v : ℤ) (on : (run f g i).turn.outcome ≡ Running) (e : (run f g (i + 1)).turn.outcome ≡ Ended v) where
+    run_ends : EndsMain (run f g i).turn (run f g i).state (part f (run f g i).turn (run f g i).state).marks v
+    unfolding part
+    run_ends = part_ends f (run f g i).turn (run f g i).state v (next_part (run f g i).state (run f g i).turn) refl on (subst (λ (x : Course P S H). x.turn.outcome ≡ Ended v) (parts-more f (start f g) i) e)
 
-  run_ends : (f : P → Functions S H) (g : Given P) (i : ℕ) (v : ℤ) → outcome_of (run f g i).state ≡ Running → outcome_of (run f g (i + 1)).state ≡ Ended v → EndsMain (run f g i).state (part f (run f g i).state).marks v
-  unfolding part
-  run_ends f g i v on e = part_ends f (run f g i).state v (next_part (run f g i).state) refl on (subst (λ (x : Told P S H). outcome_of x.state ≡ Ended v) (parts-more f (start f g) i) e)
+    pub ends_step : next_part (run f g i).state (run f g i).turn ≡ Step main
+    ends_step = run_ends.step
 
-  pub ends_step : (f : P → Functions S H) (g : Given P) (i : ℕ) (v : ℤ) → outcome_of (run f g i).state ≡ Running → outcome_of (run f g (i + 1)).state ≡ Ended v → next_part (run f g i).state ≡ Step main
-  ends_step f g i v on e = (run_ends f g i v on e).step
+    pub ends_alone : is_alone (run f g i).state.control main ≡ true
+    ends_alone = run_ends.alone
 
-  pub ends_alone : (f : P → Functions S H) (g : Given P) (i : ℕ) (v : ℤ) → outcome_of (run f g i).state ≡ Running → outcome_of (run f g (i + 1)).state ≡ Ended v → is_alone (run f g i).state main ≡ true
-  ends_alone f g i v on e = (run_ends f g i v on e).alone
-
-  pub ends_told : (f : P → Functions S H) (g : Given P) (i : ℕ) (v : ℤ) → outcome_of (run f g i).state ≡ Running → outcome_of (run f g (i + 1)).state ≡ Ended v → IsBetween f g i (i + 1) (End (tid main) v ∷ [])
-  ends_told f g i v on e = subst (λ (m : List Mark). IsBetween f g i (i + 1) m) (run_ends f g i v on e).told (between-more f g i i [] (between-none f g i))
+    pub ends_told : IsBetween f g i (i + 1) (End (tid main) v ∷ [])
+    ends_told = subst (λ (m : List Mark). IsBetween f g i (i + 1) m) run_ends.told (between-more f g i i [] (between-none f g i))

@@ -4,8 +4,8 @@ use Rattle.std.proofs.lemmas.Bool.{cases_lt}
 use Rattle.pth_base.specs.Program.{Functions}
 use Rattle.pth_base.specs.declared.mark.Mark.{Mark}
 use Rattle.pth_base.specs.declared.outcome.Outcome.TheVariants.{Running}
-use Rattle.pth_model.specs.State.{State, Given, start}
-use Rattle.pth_model.specs.Told.{Told}
+use Rattle.pth_model.specs.Course.{Course}
+use Rattle.pth_model.specs.State.{Given, start}
 use Rattle.pth_model.specs.Part.{part}
 use Rattle.pth_model.specs.Run.{run, stops, IsBetween}
 use Rattle.pth_model.proofs.Runs.{parts-more, between-none, between-more}
@@ -20,7 +20,7 @@ module _ {P S H : Type 0} (f : P → Functions S H) (g : Given P) (to i : ℕ) w
   pub record Reaches (m : MachineOf P S H) (old new : List Mark) : Type 0 where
     pub part : ℕ
     pub later : i ≤ part
-    pub going : (k : ℕ) → i ≤ k → k < part → stops to (run f g k).state ≡ false
+    pub going : (k : ℕ) → i ≤ k → k < part → stops to (run f g k) ≡ false
     pub stands : StandsAt f g part m
     pub told : List Mark
     pub between : IsBetween f g i part told
@@ -38,33 +38,33 @@ module _ {P S H : Type 0} (f : P → Functions S H) (g : Given P) (to i : ℕ) w
   }
 
   -- the run does not stop before the next part
-  pub still_going : (n : ℕ) → ((k : ℕ) → i ≤ k → k < n → stops to (run f g k).state ≡ false) → stops to (run f g n).state ≡ false → (k : ℕ) → i ≤ k → k < n + 1 → stops to (run f g k).state ≡ false
+  pub still_going : (n : ℕ) → ((k : ℕ) → i ≤ k → k < n → stops to (run f g k) ≡ false) → stops to (run f g n) ≡ false → (k : ℕ) → i ≤ k → k < n + 1 → stops to (run f g k) ≡ false
   still_going n before here k from below = elim (cases_lt k n) [
     | inl early ↦ before k from early
-    | inr late ↦ (let at : n ≡ k = omega (arith, late, below) in subst (λ (j : ℕ). stops to (run f g j).state ≡ false) at here)
+    | inr late ↦ (let at : n ≡ k = omega (arith, late, below) in subst (λ (j : ℕ). stops to (run f g j) ≡ false) at here)
   ]
 
   -- the machine makes a part of the run
   pub reach-more : (m v : MachineOf P S H) (old mid new : List Mark) → Reaches m old mid
-      → ((s : State P S H) → Stands m s → stops to s ≡ false) → ((s : State P S H) → Stands m s → Makes v mid new (part f s)) → Reaches v old new
+      → ((c : Course P S H) → Stands m c → stops to c ≡ false) → ((c : Course P S H) → Stands m c → Makes v mid new (part f c.turn c.state)) → Reaches v old new
   reach-more m v old mid new r on makes =
-      let s = (run f g r.part).state in
-      let made = makes s r.stands in
+      let here = run f g r.part in
+      let made = makes here r.stands in
       record {
         part = r.part + 1;
         later = omega (arith, r.later);
-        going = still_going r.part r.going (on s r.stands);
-        stands = subst (λ (x : Told P S H). Stands v x.state) (sym (parts-more f (start f g) r.part)) made.stands;
-        told = r.told ++ (part f s).marks;
+        going = still_going r.part r.going (on here r.stands);
+        stands = subst (λ (x : Course P S H). Stands v x) (sym (parts-more f (start f g) r.part)) (record { world = made.stands.world; turn = made.stands.turn; memory = made.stands.memory });
+        told = r.told ++ (part f here.turn here.state).marks;
         between = between-more f g i r.part r.told r.between;
-        appended = made.tells ∙ ap (λ (x : List Mark). x ++ (part f s).marks) r.appended ∙ append_assoc old r.told (part f s).marks;
+        appended = made.tells ∙ ap (λ (x : List Mark). x ++ (part f here.turn here.state).marks) r.appended ∙ append_assoc old r.told (part f here.turn here.state).marks;
       }
 
   -- the run stops where the machine stands
-  pub reach-stop : (m : MachineOf P S H) (old new : List Mark) → Reaches m old new → ((s : State P S H) → Stands m s → stops to s ≡ true) → GoesOn f g to i m old new
+  pub reach-stop : (m : MachineOf P S H) (old new : List Mark) → Reaches m old new → ((c : Course P S H) → Stands m c → stops to c ≡ true) → GoesOn f g to i m old new
   reach-stop m old new r halt = record {
     part = r.part;
-    goes = record { later = r.later; here = halt (run f g r.part).state r.stands; first = r.going };
+    goes = record { later = r.later; here = halt (run f g r.part) r.stands; first = r.going };
     stands = r.stands;
     told = r.told;
     between = r.between;
@@ -73,15 +73,15 @@ module _ {P S H : Type 0} (f : P → Functions S H) (g : Given P) (to i : ℕ) w
 
   -- memory ends in the next part
   pub reach-cut : (m : MachineOf P S H) (old mid new : List Mark) → Reaches m old mid
-      → ((s : State P S H) → Stands m s → stops to s ≡ false) → ((s : State P S H) → Stands m s → IsCut mid new (part f s).marks) → BreaksOff f g to i old new
+      → ((c : Course P S H) → Stands m c → stops to c ≡ false) → ((c : Course P S H) → Stands m c → IsCut mid new (part f c.turn c.state).marks) → BreaksOff f g to i old new
   reach-cut m old mid new r on cuts =
-      let s = (run f g r.part).state in
-      let c = cuts s r.stands in
+      let here = run f g r.part in
+      let c = cuts here r.stands in
       record {
         part = r.part + 1;
         later = omega (arith, r.later);
-        going = still_going r.part r.going (on s r.stands);
-        told = r.told ++ (part f s).marks;
+        going = still_going r.part r.going (on here r.stands);
+        told = r.told ++ (part f here.turn here.state).marks;
         between = between-more f g i r.part r.told r.between;
         cut = record {
           first = r.told ++ c.first;
@@ -92,5 +92,5 @@ module _ {P S H : Type 0} (f : P → Functions S H) (g : Given P) (to i : ℕ) w
       }
 
 -- after an outcome that ended the run a machine stays where it is
-pub stays : {P S H : Type 0} (f : P → Functions S H) (g : Given P) (to i : ℕ) (m : MachineOf P S H) (old : List Mark) → m.outcome ≢ Running → StandsAt f g i m → GoesOn f g to i m old old
-stays f g to i m old ended st = reach-stop f g to i m old old (reach-none f g to i m old st) (λ s k. sym (stops_is to m s k) ∙ stops_ended to m ended)
+pub stays : {P S H : Type 0} (f : P → Functions S H) (g : Given P) (to i : ℕ) (m : MachineOf P S H) (old : List Mark) → m.turn.outcome ≢ Running → StandsAt f g i m → GoesOn f g to i m old old
+stays f g to i m old ended st = reach-stop f g to i m old old (reach-none f g to i m old st) (λ c k. sym (stops_is to m c k) ∙ stops_ended to m ended)

@@ -1,5 +1,5 @@
 -- What the parts of a run keep.
-use Rattle.std.proofs.Common.{◌≡◌, ◌≢◌, ◌∙◌, ◌<◌, ℕ, true, Result, Ok, Err, OnOk, ℤ, length, refl, sym, arith, Option, Some, None, IsSome, IfSome}
+use Rattle.std.proofs.Common.{◌≡◌, ◌≢◌, ◌∙◌, ◌<◌, ℕ, true, Result, Ok, Err, OnOk, ℤ, length, refl, sym, ap, arith, Option, Some, None, IsSome, IfSome}
 use Rattle.pth_base.specs.Program.{Functions}
 use Rattle.pth_base.specs.declared.outcome.Outcome.{Outcome}
 use Rattle.pth_base.specs.declared.outcome.Outcome.TheVariants.{Running, Ended, Killed, Stalled, OutOfMemory}
@@ -8,10 +8,13 @@ use Rattle.pth_queue.specs.Queues.{QueuesOf, queue_of, without, entered}
 use Rattle.pth_queue.proofs.Counts.{length-delete, count-present}
 use Rattle.pth_queue.proofs.Sets.{holds-queue_of}
 use Rattle.pth_threads.specs.Threads.{slot_of}
-use Rattle.pth_model.specs.State.{Given, start}
+use Rattle.pth_model.specs.State.{Given, Scheduler, start, no_turn}
 use Rattle.pth_model.specs.Run.{parts}
-use Rattle.pth_world.specs.World.{WorldOf}
-use Rattle.pth_world.specs.Standing.{StandsFor, Whole, IsKnown, IsIn, KeepsScheduler}
+use Rattle.pth_world.specs.Shows.{StandsFor}
+use Rattle.pth_world.specs.Sound.{IsKnown}
+use Rattle.pth_world.specs.Touches.{KeepsScheduler}
+use Rattle.pth_world.specs.Whole.{Whole, IsIn}
+use Rattle.pth_world.specs.World.{WorldOf, ThreadsBySlot}
 use Rattle.pth_sched.specs.MachineOf.{MachineOf, IsGoing, stops, stops_by}
 use Rattle.pth_sched.specs.Running.{StandsAt}
 
@@ -23,8 +26,8 @@ shorter_by qs x rank (Some u) some stands is =
     let whole = length-delete u qs.new in
     rw is (omega arith)
 
-pub new_shorter : {P S H : Type 0} (w v : WorldOf P S H) (t : ℕ) (rank : ℤ) → IsKnown w t → IsIn queue.New w t → IfSome (slot_of w.threads t) (λ u. v.queues ≡ entered queue.Ready rank u (without u w.queues)) → length v.queues.new < length w.queues.new
-new_shorter w v t rank known stands is = shorter_by w.queues v.queues rank (slot_of w.threads t) known stands is
+pub new_shorter : {S : Type 0} (x y : ThreadsBySlot S) (t : ℕ) (rank : ℤ) → IsKnown x t → IsIn queue.New x t → IfSome (slot_of x.records t) (λ u. y.queues ≡ entered queue.Ready rank u (without u x.queues)) → length y.queues.new < length x.queues.new
+new_shorter x y t rank known stands is = shorter_by x.queues y.queues rank (slot_of x.records t) known stands is
 
 some_by : (qs : QueuesOf) (o : Option ℕ) → IsSome o → IfSome o (λ u. queue_of u qs ≡ Some queue.New) → 0 < length qs.new
 some_by qs None some stands = cc
@@ -33,52 +36,38 @@ some_by qs (Some u) some stands =
     let whole = length-delete u qs.new in
     omega arith
 
-pub some_new : {P S H : Type 0} (w : WorldOf P S H) (t : ℕ) → IsKnown w t → IsIn queue.New w t → 0 < length w.queues.new
-some_new w t known stands = some_by w.queues (slot_of w.threads t) known stands
+pub some_new : {S : Type 0} (x : ThreadsBySlot S) (t : ℕ) → IsKnown x t → IsIn queue.New x t → 0 < length x.queues.new
+some_new x t known stands = some_by x.queues (slot_of x.records t) known stands
 
 -- a world that stands for the start of a run
-pub start_going : {P S H : Type 0} (f : P → Functions S H) (m : MachineOf P S H) (given : Given P) → StandsFor m.world (start f given) → Whole m.world → m.world.threads.made ≡ 1 → m.gave ≡ None → m.turns ≡ 0 → m.steps ≡ 0 → IsGoing m
+pub start_going : {P S H : Type 0} (f : P → Functions S H) (w : WorldOf P S H) (given : Given P) → StandsFor w (start f given) → Whole w → w.threads.records.made ≡ 1 → IsGoing (record { world = w; turn = no_turn })
 unfolding start
-start_going f m given st whole one gave turns steps = record {
+start_going f w given st whole one = record {
   whole = whole;
-  named = sym st.scheduler.named;
+  preferred = sym (ap (λ (x : Scheduler). x.preferred) st.control.scheduler);
   made = omega arith;
   turns = omega arith;
-  over = rw gave (omega arith);
-  own = rw gave tt;
+  over = tt;
+  own = tt;
   between = λ nobody. omega arith;
 }
 
-pub start_stands : {P S H : Type 0} (f : P → Functions S H) (m : MachineOf P S H) (given : Given P) → StandsFor m.world (start f given) → m.gave ≡ None → m.turns ≡ 0 → m.steps ≡ 0 → m.outcome ≡ Running → StandsAt f given 0 m
-unfolding start parts
-start_stands f m given st gave turns steps outcome = record {
-  world = st;
-  gave = sym gave;
-  turns = sym turns;
-  steps = sym steps;
-  outcome = sym outcome;
-  memory = λ ended. cc (sym outcome ∙ ended);
-}
+pub start_stands : {P S H : Type 0} (f : P → Functions S H) (w : WorldOf P S H) (given : Given P) → StandsFor w (start f given) → StandsAt f given 0 (record { world = w; turn = no_turn })
+unfolding parts
+start_stands f w given st = record { world = st; turn = refl; memory = λ ended. cc ended }
 
 -- and nobody runs
-pub start_nobody : {P S H : Type 0} (f : P → Functions S H) (w : WorldOf P S H) (given : Given P) → StandsFor w (start f given) → w.running ≡ None
+pub start_nobody : {P S H : Type 0} (f : P → Functions S H) (w : WorldOf P S H) (given : Given P) → StandsFor w (start f given) → w.scheduler.running ≡ None
 unfolding start
-start_nobody f w given st = sym st.scheduler.running
+start_nobody f w given st = sym (ap (λ (x : Scheduler). x.running) st.control.scheduler)
 
 -- what two changes in a row leave as it was
 module _ {P S H : Type 0} (w : WorldOf P S H) where
   pub scheduler_first : KeepsScheduler w w
-  scheduler_first = record { program = refl; running = refl; named = refl; favour_new = refl; time = refl; clock = refl }
+  scheduler_first = record { program = refl; scheduler = refl }
 
   pub scheduler_then : (m v : WorldOf P S H) → KeepsScheduler w m → KeepsScheduler m v → KeepsScheduler w v
-  scheduler_then m v a b = record {
-    program = b.program ∙ a.program;
-    running = b.running ∙ a.running;
-    named = b.named ∙ a.named;
-    favour_new = b.favour_new ∙ a.favour_new;
-    time = b.time ∙ a.time;
-    clock = b.clock ∙ a.clock;
-  }
+  scheduler_then m v a b = record { program = b.program ∙ a.program; scheduler = b.scheduler ∙ a.scheduler }
 
 -- three facts of a call that went well
 pub on_ok_three : {A E : Type 0} {X Y Z Q : Type 0} (r : Result A E) → OnOk r X → OnOk r Y → OnOk r Z → (X → Y → Z → Q) → OnOk r Q
@@ -86,10 +75,10 @@ on_ok_three (Ok v) x y z f = f x y z
 on_ok_three (Err e) x y z f = tt
 
 -- an outcome that ended the run stops it
-pub stops_ended : {P S H : Type 0} (to : ℕ) (m : MachineOf P S H) → m.outcome ≢ Running → stops to m ≡ true
-stops_ended to m ended = by_cases m.gave m.world.running m.outcome ended
+pub stops_ended : {P S H : Type 0} (to : ℕ) (m : MachineOf P S H) → m.turn.outcome ≢ Running → stops to m ≡ true
+stops_ended to m ended = by_cases m.turn.gave m.world.scheduler.running m.turn.outcome ended
   where
-    by_cases : (g r : Option ℕ) (o : Outcome) → o ≢ Running → stops_by to m.steps g r o ≡ true
+    by_cases : (g r : Option ℕ) (o : Outcome) → o ≢ Running → stops_by to m.turn.steps g r o ≡ true
     by_cases g r Running not = absurd (not refl)
     by_cases (Some t) r (Ended v) not = refl
     by_cases (Some t) r Killed not = refl

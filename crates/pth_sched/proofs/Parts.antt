@@ -1,26 +1,31 @@
 -- The part that comes next, and what the parts of a turn make.
-use Rattle.std.proofs.Common.{◌≡◌, ◌≢◌, ℕ, ◌+◌, ℤ, true, false, List, [], ◌∷◌, ◌++◌, Some, None, refl, sym, ap, ◌∙◌, subst, reverse, append-nil}
+use Rattle.std.proofs.Common.{◌≡◌, ◌≢◌, ℕ, ◌+◌, ◌==◌, ℤ, Bool, true, false, List, [], ◌∷◌, ◌++◌, Option, Some, None, is_some, refl, sym, ap, ◌∙◌, subst, append-nil}
+use Rattle.pth_base.specs.Cut.{IsCut}
 use Rattle.pth_base.specs.Program.{Functions}
 use Rattle.pth_base.specs.declared.mark.Mark.{Mark}
 use Rattle.pth_base.specs.declared.mark.Mark.TheVariants.{Dispatch}
 use Rattle.pth_base.specs.declared.outcome.Outcome.{Outcome}
 use Rattle.pth_base.specs.declared.outcome.Outcome.TheVariants.{Running, Ended, Killed, Stalled, OutOfMemory}
 use Rattle.pth_queue.specs.declared.queue.Queue.TheVariants as queues
-use Rattle.pth_queue.specs.Rows.{place_in}
-use Rattle.pth_model.specs.State.{State, queue}
-use Rattle.pth_model.specs.Changes.{raised}
-use Rattle.pth_model.specs.Told.{Told, still, tid}
-use Rattle.pth_model.specs.Pass.{pass, who_in}
-use Rattle.pth_model.specs.Part.{Part, Halt, part, next_part, next_part_by, unless_ended, moved, taken, dispatched, stepped, closed, closing, placed, runs, next_by, rank_by, is_idle, with_outcome}
-use Rattle.pth_model.proofs.Turns.{Turn, turn_of, turn-pass, turn-placed, turn-raised, turn-runs, turn-all_readied}
+use Rattle.pth_queue.specs.Ranking.{place_in}
+use Rattle.pth_model.specs.declared.blocked.Blocked.{Blocked}
+use Rattle.pth_model.specs.declared.next.Next.{Next}
+use Rattle.pth_model.specs.declared.next.Next.TheVariants as next
+use Rattle.pth_model.specs.declared.progress.Progress.{Progress}
+use Rattle.pth_model.specs.Calls.{resumed}
+use Rattle.pth_model.specs.Changes.{blocked_of}
+use Rattle.pth_model.specs.Course.{Course, within}
+use Rattle.pth_model.specs.State.{State, Control, Scheduler, Turn, main, queue}
+use Rattle.pth_model.specs.Transition.{silent, controlled, tid}
+use Rattle.pth_model.specs.Pass.{pass}
+use Rattle.pth_model.specs.Part.{Part, Halt, part, next_part, next_part_by, unless_ended, moves, takes, dispatches, steps, steps_by, steps_on, closes, runs, turn_ends, readies_new, chosen, rank_by, is_idle, owes_after, turn_after, gives_up, ends_run}
+use Rattle.pth_model.specs.Resources.{told as told_of}
 use Rattle.pth_world.specs.World.{WorldOf}
-use Rattle.pth_world.specs.Standing.{StandsFor}
-use Rattle.pth_base.specs.Cut.{IsCut}
+use Rattle.pth_world.specs.Shows.{Shows}
 use Rattle.pth_world.specs.Leading.{Leads}
 use Rattle.pth_sched.specs.MachineOf.{MachineOf}
 use Rattle.pth_sched.specs.Running.{Stands, Makes}
-use Rattle.pth_sched.proofs.Readying.{all_new}
-use Rattle.pth_sched.proofs.Showing.{for_scheduler}
+use Rattle.pth_sched.proofs.Showing.{running_of}
 
 halts : (o : Outcome) (p : Part) → o ≢ Running → unless_ended o p ≡ Halt
 halts Running p ended = absurd (ended refl)
@@ -29,96 +34,143 @@ halts Killed p ended = refl
 halts Stalled p ended = refl
 halts OutOfMemory p ended = refl
 
-module _ {P S H : Type 0} (f : P → Functions S H) (m : MachineOf P S H) (s : State P S H) (st : Stands m s) where
-  pub part_halt : m.outcome ≢ Running → part f s ≡ still s
+module _ {P S H : Type 0} (f : P → Functions S H) (m : MachineOf P S H) (c : Course P S H) (st : Stands m c) where
+  nobody_runs : (r : Option ℕ) → m.world.scheduler.running ≡ r → c.state.control.scheduler.running ≡ r
+  nobody_runs r is = running_of m.world c.state.control st.world.control ∙ is
+
+  pub part_halt : m.turn.outcome ≢ Running → part f c.turn c.state ≡ within c.turn (silent c.state)
   unfolding part next_part
-  part_halt ended = rw (halts s.rest.scheduler.outcome (next_part_by s.rest.scheduler.gave s.rest.scheduler.running (is_idle s)) (λ runs. ended (sym st.outcome ∙ runs))) refl
+  part_halt ended = rw (halts c.turn.outcome (next_part_by c.turn.gave c.state.control.scheduler.running (is_idle c.state.control)) (λ runs. ended (ap (λ (x : Turn). x.outcome) (sym st.turn) ∙ runs))) refl
 
-  module _ (goes : m.outcome ≡ Running) where
-    pub part_close : (t : ℕ) → m.gave ≡ Some t → part f s ≡ closed s t
+  module _ (goes : m.turn.outcome ≡ Running) where
+    on_turn : c.turn.outcome ≡ Running
+    on_turn = ap (λ (x : Turn). x.outcome) st.turn ∙ goes
+
+    gave_turn : (o : Option ℕ) → m.turn.gave ≡ o → c.turn.gave ≡ o
+    gave_turn o is = ap (λ (x : Turn). x.gave) st.turn ∙ is
+
+    pub part_close : (t : ℕ) → m.turn.gave ≡ Some t → part f c.turn c.state ≡ closes f c.turn t c.state
     unfolding part next_part
-    part_close t over = rw (st.outcome, goes, st.gave, over) refl
+    part_close t over = rw (on_turn, gave_turn (Some t) over) refl
 
-    pub part_step : (t : ℕ) → m.gave ≡ None → m.world.running ≡ Some t → part f s ≡ stepped f s t
+    pub part_step : (t : ℕ) → m.turn.gave ≡ None → m.world.scheduler.running ≡ Some t → part f c.turn c.state ≡ steps f c.turn t c.state
     unfolding part next_part
-    part_step t none over = rw (st.outcome, goes, st.gave, none, st.world.scheduler.running, over) refl
+    part_step t none over = rw (on_turn, gave_turn None none, nobody_runs (Some t) over) refl
 
-    pub part_take : m.gave ≡ None → m.world.running ≡ None → is_idle s ≡ false → part f s ≡ taken s
+    pub part_take : m.turn.gave ≡ None → m.world.scheduler.running ≡ None → is_idle c.state.control ≡ false → part f c.turn c.state ≡ takes c.turn c.state
     unfolding part next_part
-    part_take none nobody busy = rw (st.outcome, goes, st.gave, none, st.world.scheduler.running, nobody, busy) refl
+    part_take none nobody busy = rw (on_turn, gave_turn None none, nobody_runs None nobody, busy) refl
 
-    pub part_move : m.gave ≡ None → m.world.running ≡ None → is_idle s ≡ true → part f s ≡ still (with_outcome s Stalled)
-    unfolding part next_part moved
-    part_move none nobody idle = rw (st.outcome, goes, st.gave, none, st.world.scheduler.running, nobody, idle) refl
+    pub part_move : m.turn.gave ≡ None → m.world.scheduler.running ≡ None → is_idle c.state.control ≡ true → part f c.turn c.state ≡ within (record c.turn { outcome = Stalled }) (silent c.state)
+    unfolding part next_part moves
+    part_move none nobody idle = rw (on_turn, gave_turn None none, nobody_runs None nobody, idle) refl
 
 -- the same part, the same marks and states
-module _ {P S H : Type 0} (v : MachineOf P S H) (one two : Told P S H) (same : two ≡ one) where
+module _ {P S H : Type 0} (v : MachineOf P S H) (one two : Course P S H) (same : two ≡ one) where
   pub makes_as : (old new : List Mark) → Makes v old new one → Makes v old new two
-  makes_as old new = subst (λ (x : Told P S H). Makes v old new x) (sym same)
+  makes_as old new = subst (λ (x : Course P S H). Makes v old new x) (sym same)
 
   pub cut_as : (old new : List Mark) → IsCut old new one.marks → IsCut old new two.marks
-  cut_as old new = subst (λ (x : Told P S H). IsCut old new x.marks) (sym same)
+  cut_as old new = subst (λ (x : Course P S H). IsCut old new x.marks) (sym same)
 
-module _ {P S H : Type 0} (m : MachineOf P S H) (s : State P S H) (st : Stands m s) where
-  pub still_makes : (old : List Mark) → Makes m old old (still s)
-  still_makes old = record { stands = st; tells = sym (append-nil old) }
+module _ {P S H : Type 0} (m : MachineOf P S H) (c : Course P S H) (st : Stands m c) where
+  pub still_makes : (old : List Mark) → Makes m old old (within c.turn (silent c.state))
+  still_makes old = record { stands = record { world = st.world; turn = st.turn; memory = st.memory }; tells = sym (append-nil old) }
 
   -- the run is stalled
-  pub stall_makes : (old : List Mark) → Makes (record m { outcome = Stalled }) old old (still (with_outcome s Stalled))
+  pub stall_makes : (old : List Mark) → Makes (record m { turn = record m.turn { outcome = Stalled } }) old old (within (record c.turn { outcome = Stalled }) (silent c.state))
   stall_makes old = record {
-    stands = record {
-      world = for_scheduler m.world s (record s.rest.scheduler { outcome = Stalled }) st.world (record { running = refl; named = refl; favour_new = refl; now = refl; clock = refl });
-      gave = st.gave;
-      turns = st.turns;
-      steps = st.steps;
-      outcome = refl;
-      memory = λ e. cc e;
-    };
+    stands = record { world = st.world; turn = ap (λ (x : Turn). record x { outcome = Stalled }) st.turn; memory = λ e. cc e };
     tells = sym (append-nil old);
   }
 
   -- a turn is over, and a pass is made
-  pub close_makes : (t : ℕ) (w : WorldOf P S H) (old new : List Mark) → Leads w old new (pass (closing (placed (raised s) t))) → Makes (record m { world = w; gave = None }) old new (closed s t)
-  unfolding closed
-  close_makes t w old new leads =
-      let before = closing (placed (raised s) t) in
-      let same : turn_of (pass before).state ≡ turn_of before = turn-pass before in
-      let kept : turn_of (placed (raised s) t) ≡ turn_of s = turn-placed (raised s) t ∙ turn-raised s in
+  pub close_makes : (f : P → Functions S H) (t : ℕ) (w : WorldOf P S H) (old new : List Mark) → Leads w old new (pass f (controlled (turn_ends t) c.state)) → Makes (record { world = w; turn = record m.turn { gave = None } }) old new (closes f c.turn t c.state)
+  unfolding closes
+  close_makes f t w old new leads = record {
+    stands = record { world = leads.stands; turn = ap (λ (x : Turn). record x { gave = None }) st.turn; memory = st.memory };
+    tells = leads.tells;
+  }
+
+  -- a thread is dispatched
+  pub take_makes : (t : ℕ) (rank : ℤ) (w u : WorldOf P S H) (time : ℕ) (old new : List Mark) → Shows w (readies_new c.state.control) → Some t ≡ chosen (readies_new c.state.control).scheduler.preferred (queue (readies_new c.state.control) queues.Ready)
+      → rank ≡ rank_by (place_in t (queue (readies_new c.state.control) queues.Ready)) → time ≡ w.scheduler.now → Shows u (runs t (readies_new c.state.control)) → new ≡ old ++ Dispatch (m.turn.turns + 1) time (tid t) rank 0 0 ∷ []
+      → Makes (record { world = u; turn = record m.turn { turns = m.turn.turns + 1 } }) old new (takes c.turn c.state)
+  unfolding takes dispatches told_of
+  take_makes t rank w u time old new ready next rank_is time_is shows told =
+      let k = readies_new c.state.control in
+      let now : k.scheduler.now ≡ time = ap (λ (x : Scheduler). x.now) ready.scheduler ∙ sym time_is in
+      rw (← next) record {
+        stands = record {
+          world = record { control = shows; resources = st.world.resources };
+          turn = ap (λ (x : Turn). record x { turns = x.turns + 1 }) st.turn;
+          memory = st.memory;
+        };
+        tells = told ∙ ap (λ (x : Turn). old ++ Dispatch (x.turns + 1) time (tid t) rank 0 0 ∷ []) (sym st.turn) ∙ ap (λ (n : ℕ). old ++ Dispatch (c.turn.turns + 1) n (tid t) rank 0 0 ∷ []) (sym now) ∙ ap (λ (r : ℤ). old ++ Dispatch (c.turn.turns + 1) k.scheduler.now (tid t) r 0 0 ∷ []) rank_is;
+      }
+
+  -- a call that was made, and what it leads to, are a step
+  pub step_makes : (f : P → Functions S H) (v : MachineOf P S H) (t : ℕ) (w : WorldOf P S H) (n : Next) (old new : List Mark) → n ≡ (steps_on f t c.state).next → Leads w old new (steps_on f t c.state).told
+      → ((k : Control P S H) → Shows w k → Shows v.world (owes_after t n k)) → v.turn ≡ turn_after t n (record m.turn { steps = m.turn.steps + 1 }) → v.turn.outcome ≢ OutOfMemory → Makes v old new (steps f c.turn t c.state)
+  unfolding steps
+  step_makes f v t w n old new next leads settles turn memory =
+      let went = steps_on f t c.state in
       record {
         stands = record {
-          world = leads.stands;
-          gave = ap (λ (x : Turn). x.gave) same;
-          turns = ap (λ (x : Turn). x.turns) same ∙ ap (λ (x : Turn). x.turns) kept ∙ st.turns;
-          steps = ap (λ (x : Turn). x.steps) same ∙ ap (λ (x : Turn). x.steps) kept ∙ st.steps;
-          outcome = ap (λ (x : Turn). x.outcome) same ∙ ap (λ (x : Turn). x.outcome) kept ∙ st.outcome;
-          memory = st.memory;
+          world = record { control = subst (λ (x : Next). Shows v.world (owes_after t x went.told.state.control)) next (settles went.told.state.control leads.stands.control); resources = leads.stands.resources };
+          turn = ap (λ (x : Turn). turn_after t went.next (record x { steps = x.steps + 1 })) st.turn ∙ ap (λ (x : Next). turn_after t x (record m.turn { steps = m.turn.steps + 1 })) (sym next) ∙ sym turn;
+          memory = memory;
         };
         tells = leads.tells;
       }
 
-  -- a thread is dispatched
-  pub take_makes : (t : ℕ) (rank : ℤ) (w u : WorldOf P S H) (time : ℕ) (old new : List Mark) → StandsFor w (all_new s) → Some t ≡ next_by (all_new s).rest.scheduler.named (queue (all_new s) queues.Ready)
-      → rank ≡ rank_by (place_in t (queue (all_new s) queues.Ready)) → time ≡ w.time → StandsFor u (runs (all_new s) t) → new ≡ old ++ Dispatch (m.turns + 1) time (tid t) rank 0 0 ∷ []
-      → Makes (record m { world = u; turns = m.turns + 1 }) old new (taken s)
-  unfolding taken dispatched
-  take_makes t rank w u time old new ready next rank_is time_is stands told =
-      let a = all_new s in
-      let ran = turn-runs a t in
-      let same = ran ∙ turn-all_readied (reverse (who_in (queue s queues.New))) s in
-      let turns : a.rest.scheduler.turns ≡ m.turns = ap (λ (x : Turn). x.turns) (turn-all_readied (reverse (who_in (queue s queues.New))) s) ∙ st.turns in
-      let now : a.rest.scheduler.now ≡ time = ready.scheduler.time ∙ sym time_is in
-      rw (← next) record {
-        stands = record {
-          world = for_scheduler u (runs a t) (record (runs a t).rest.scheduler { turns = (runs a t).rest.scheduler.turns + 1 }) stands (record { running = refl; named = refl; favour_new = refl; now = refl; clock = refl });
-          gave = ap (λ (x : Turn). x.gave) same ∙ st.gave;
-          turns = ap (λ (x : Turn). x.turns + 1) same ∙ ap (λ (n : ℕ). n + 1) st.turns;
-          steps = ap (λ (x : Turn). x.steps) same ∙ st.steps;
-          outcome = ap (λ (x : Turn). x.outcome) same ∙ st.outcome;
-          memory = st.memory;
-        };
-        tells = told ∙ ap (λ (n : ℕ). old ++ Dispatch (n + 1) time (tid t) rank 0 0 ∷ []) (sym turns) ∙ ap (λ (n : ℕ). old ++ Dispatch (a.rest.scheduler.turns + 1) n (tid t) rank 0 0 ∷ []) (sym now) ∙ ap (λ (r : ℤ). old ++ Dispatch (a.rest.scheduler.turns + 1) a.rest.scheduler.now (tid t) r 0 0 ∷ []) rank_is;
-      }
+pub closes_marks : {P S H : Type 0} (f : P → Functions S H) (x : Turn) (t : ℕ) (s : State P S H) → (closes f x t s).marks ≡ (pass f (controlled (turn_ends t) s)).marks
+unfolding closes
+closes_marks f x t s = refl
 
-pub closed_marks : {P S H : Type 0} (s : State P S H) (t : ℕ) → (closed s t).marks ≡ (pass (closing (placed (raised s) t))).marks
-unfolding closed
-closed_marks s t = refl
+pub steps_marks : {P S H : Type 0} (f : P → Functions S H) (x : Turn) (t : ℕ) (s : State P S H) → (steps f x t s).marks ≡ (steps_on f t s).told.marks
+unfolding steps
+steps_marks f x t s = refl
+
+-- a thread that a call blocks tries it again
+pub steps_again : {P S H : Type 0} (f : P → Functions S H) (t : ℕ) (s : State P S H) → is_some (blocked_of s.control t) ≡ true → steps_on f t s ≡ resumed f t s
+steps_again {S = S} f t s blocked = by_blocked (blocked_of s.control t) (s.control.threads.progress t) blocked
+  where
+    by_blocked : (b : Option Blocked) (p : Option (Progress S)) → is_some b ≡ true → steps_by f t b p s ≡ resumed f t s
+    by_blocked (Some b) p some = refl
+    by_blocked None p some = absurd (cc some)
+
+-- no step ends memory
+pub after_memory : (t : ℕ) (n : Next) (x : Turn) → x.outcome ≢ OutOfMemory → (turn_after t n x).outcome ≢ OutOfMemory
+after_memory t (next.Done a) x memory = memory
+after_memory t (next.Yields a) x memory = memory
+after_memory t next.Waits x memory = memory
+after_memory t next.Killed x memory = λ e. cc e
+after_memory t (next.Ended v) x memory = by_main (t == main)
+  where
+    by_main : (b : Bool) → (gives_up t (ends_run v b x)).outcome ≢ OutOfMemory
+    by_main true = λ e. cc e
+    by_main false = memory
+
+-- what a step leaves of the counts of its turn
+pub turn_steps : (t : ℕ) (n : Next) (x : Turn) → (turn_after t n x).steps ≡ x.steps
+turn_steps t (next.Done a) x = refl
+turn_steps t (next.Yields a) x = refl
+turn_steps t next.Waits x = refl
+turn_steps t next.Killed x = refl
+turn_steps t (next.Ended v) x = by_main (t == main)
+  where
+    by_main : (b : Bool) → (gives_up t (ends_run v b x)).steps ≡ x.steps
+    by_main true = refl
+    by_main false = refl
+
+pub turn_turns : (t : ℕ) (n : Next) (x : Turn) → (turn_after t n x).turns ≡ x.turns
+turn_turns t (next.Done a) x = refl
+turn_turns t (next.Yields a) x = refl
+turn_turns t next.Waits x = refl
+turn_turns t next.Killed x = refl
+turn_turns t (next.Ended v) x = by_main (t == main)
+  where
+    by_main : (b : Bool) → (gives_up t (ends_run v b x)).turns ≡ x.turns
+    by_main true = refl
+    by_main false = refl

@@ -4,21 +4,23 @@ use Rattle.std.proofs.lemmas.Int.{ints}
 use Rattle.std.proofs.lemmas.List.{map-append, reverse-append}
 use Rattle.std.proofs.lemmas.List.Elements.{All-head}
 use Rattle.pth_base.proofs.Tables.{same_self}
-use Rattle.pth_queue.specs.declared.row.Row.{Row}
+use Rattle.pth_queue.specs.declared.ranked.Ranked.{Ranked}
 use Rattle.pth_queue.specs.declared.queue.Queue.TheVariants as queues
-use Rattle.pth_queue.specs.Rows.{is_of, delete, favour_top, last_of, named_row}
+use Rattle.pth_queue.specs.Ranking.{is_of, delete, favour_top, last_of, named_row}
 use Rattle.pth_queue.specs.Queues.{QueuesOf, without, entered}
 use Rattle.pth_queue.proofs.Counts.{count-cons}
 use Rattle.pth_threads.specs.Threads.{slot_of, tid_at}
 use Rattle.pth_base.specs.declared.thread.ThreadState.TheVariants as state
 use Rattle.pth_threads.specs.declared.entry.Change.TheVariants as change
-use Rattle.pth_model.specs.State.{State, queue}
-use Rattle.pth_model.specs.Changes.{with_change, without_entry}
-use Rattle.pth_model.specs.Pass.{readied, who_in}
-use Rattle.pth_model.specs.Part.{new_rank, new_readied, all_readied}
+use Rattle.pth_model.specs.State.{Control, queue}
+use Rattle.pth_model.specs.Changes.{holders, leaves_queue, sets}
+use Rattle.pth_model.specs.Pass.{is_ready_at}
+use Rattle.pth_model.specs.Part.{new_rank, readies, readies_all, readies_new}
 use Rattle.pth_model.proofs.Queues.{queue-enter_other, queue-leave}
-use Rattle.pth_world.specs.World.{WorldOf}
-use Rattle.pth_world.specs.Standing.{StandsFor, IsSound, IsKnown, IsIn}
+use Rattle.pth_world.specs.World.{WorldOf, ThreadsBySlot}
+use Rattle.pth_world.specs.Shows.{Shows}
+use Rattle.pth_world.specs.Sound.{IsSound, IsKnown}
+use Rattle.pth_world.specs.Whole.{IsIn}
 use Rattle.pth_world.specs.Ranks.{IsUnder, greatest_return}
 use Rattle.pth_world.proofs.QueueReads.{once_thread}
 use Rattle.pth_world.proofs.Ranks.{under-roof, under-insert, under-delete, length-insert}
@@ -28,26 +30,26 @@ use Rattle.pth_sched.proofs.Keeping.{new_shorter, some_new}
 -- ---- ranks
 
 -- the top is one above the roof at most
-pub top_under : (roof : ℕ) (rows : List Row) → greatest_return ≤ roof → IsUnder roof rows → favour_top rows ≤ℤ pos (roof + 1)
+pub top_under : (roof : ℕ) (rows : List Ranked) → greatest_return ≤ roof → IsUnder roof rows → favour_top rows ≤ℤ pos (roof + 1)
 top_under roof [] low under = omega (arith, ints)
 top_under roof (x ∷ xs) low under =
-    let first : x.rank ≤ℤ pos roof = All-head (λ (r : Row). r.rank ≤ℤ pos roof) x xs under in
+    let first : x.rank ≤ℤ pos roof = All-head (λ (r : Ranked). r.rank ≤ℤ pos roof) x xs under in
     omega (arith, ints)
 
 at_most : (rank : ℤ) (a : ℕ) → a ≤ 2 ^ 40 → rank ≤ℤ pos a → rank ≤ℤ pos (2 ^ 40)
 at_most rank a low h = grind (arith, ints)
 
 -- a new thread's rank is one that a queue takes
-pub rank_room : {P S H : Type 0} (w : WorldOf P S H) (t : ℕ) (rank : ℤ) → IsKnown w t → IsIn queues.New w t → HasRoom w.queues → ((roof : ℕ) → greatest_return ≤ roof → IsUnder roof w.queues.ready → rank ≤ℤ pos (roof + 1)) → rank ≤ℤ pos (2 ^ 40)
+pub rank_room : {S : Type 0} (w : ThreadsBySlot S) (t : ℕ) (rank : ℤ) → IsKnown w t → IsIn queues.New w t → HasRoom w.queues → ((roof : ℕ) → greatest_return ≤ roof → IsUnder roof w.queues.ready → rank ≤ℤ pos (roof + 1)) → rank ≤ℤ pos (2 ^ 40)
 rank_room w t rank known stands room low =
     let at = low room.roof room.low room.under in
     let some = some_new w t known stands in
     let few : room.roof + 1 ≤ 2 ^ 40 = (let f = room.few in omega arith) in
     at_most rank (room.roof + 1) few at
 
-module _ {P S H : Type 0} (w v : WorldOf P S H) (t : ℕ) (rank : ℤ) (known : IsKnown w t) (stands : IsIn queues.New w t) (is : IfSome (slot_of w.threads t) (λ u. v.queues ≡ entered queues.Ready rank u (without u w.queues))) where
+module _ {S : Type 0} (w v : ThreadsBySlot S) (t : ℕ) (rank : ℤ) (known : IsKnown w t) (stands : IsIn queues.New w t) (is : IfSome (slot_of w.records t) (λ u. v.queues ≡ entered queues.Ready rank u (without u w.queues))) where
   at_slot : (Q : Type 0) → ((u : ℕ) → v.queues ≡ entered queues.Ready rank u (without u w.queues) → Q) → Q
-  at_slot Q f = by_slot (slot_of w.threads t) known is
+  at_slot Q f = by_slot (slot_of w.records t) known is
     where
       by_slot : (o : Option ℕ) → IsSome o → IfSome o (λ u. v.queues ≡ entered queues.Ready rank u (without u w.queues)) → Q
       by_slot (Some u) some h = f u h
@@ -57,10 +59,10 @@ module _ {P S H : Type 0} (w v : WorldOf P S H) (t : ℕ) (rank : ℤ) (known : 
   pub ready_under : (roof : ℕ) → rank ≤ℤ pos (roof + 1) → IsUnder roof w.queues.ready → IsUnder (roof + 1) v.queues.ready
   ready_under roof low under = at_slot (IsUnder (roof + 1) v.queues.ready) (λ u e.
       subst (λ (x : QueuesOf). IsUnder (roof + 1) x.ready) (sym e)
-      (under-insert (roof + 1) (record { rank = rank; who = u }) (delete u w.queues.ready) low (under-delete (roof + 1) u w.queues.ready (under-roof roof (roof + 1) w.queues.ready (omega arith) under))))
+      (under-insert (roof + 1) (record { rank = rank; holder = u }) (delete u w.queues.ready) low (under-delete (roof + 1) u w.queues.ready (under-roof roof (roof + 1) w.queues.ready (omega arith) under))))
 
   pub some_ready : 0 < length v.queues.ready
-  some_ready = at_slot (0 < length v.queues.ready) (λ u e. subst (λ (x : QueuesOf). 0 < length x.ready) (sym e) (let more = length-insert (record { rank = rank; who = u }) (delete u w.queues.ready) in omega (arith, more)))
+  some_ready = at_slot (0 < length v.queues.ready) (λ u e. subst (λ (x : QueuesOf). 0 < length x.ready) (sym e) (let more = length-insert (record { rank = rank; holder = u }) (delete u w.queues.ready) in omega (arith, more)))
 
   -- there is room for the others
   pub room_next : HasRoom w.queues → ((roof : ℕ) → greatest_return ≤ roof → IsUnder roof w.queues.ready → rank ≤ℤ pos (roof + 1)) → HasRoom v.queues
@@ -71,17 +73,17 @@ module _ {P S H : Type 0} (w v : WorldOf P S H) (t : ℕ) (rank : ℤ) (known : 
     few = (let fewer = new_shorter w v t rank known stands is in let f = room.few in omega arith);
   }
 
--- from a world to another: the roof is higher by as much as the new threads are fewer, at most
-pub record Rises {P S H : Type 0} (w v : WorldOf P S H) (roof : ℕ) : Type 0 where
+-- from threads to others: the roof is higher by as much as the new threads are fewer, at most
+pub record Rises {S : Type 0} (w v : ThreadsBySlot S) (roof : ℕ) : Type 0 where
   pub more : ℕ
   pub under : IsUnder (roof + more) v.queues.ready
   pub few : more + length v.queues.new ≤ length w.queues.new
 
-module _ {P S H : Type 0} where
-  pub rises_none : (w : WorldOf P S H) (roof : ℕ) → IsUnder roof w.queues.ready → Rises w w roof
+module _ {S : Type 0} where
+  pub rises_none : (w : ThreadsBySlot S) (roof : ℕ) → IsUnder roof w.queues.ready → Rises w w roof
   rises_none w roof under = record { more = 0; under = under-roof roof (roof + 0) w.queues.ready (omega arith) under; few = omega arith }
 
-  pub rises_next : (u w v : WorldOf P S H) (t : ℕ) (rank : ℤ) (roof : ℕ) → IsKnown w t → IsIn queues.New w t → IfSome (slot_of w.threads t) (λ u. v.queues ≡ entered queues.Ready rank u (without u w.queues)) → greatest_return ≤ roof
+  pub rises_next : (u w v : ThreadsBySlot S) (t : ℕ) (rank : ℤ) (roof : ℕ) → IsKnown w t → IsIn queues.New w t → IfSome (slot_of w.records t) (λ u. v.queues ≡ entered queues.Ready rank u (without u w.queues)) → greatest_return ≤ roof
       → ((top : ℕ) → greatest_return ≤ top → IsUnder top w.queues.ready → rank ≤ℤ pos (top + 1)) → Rises u w roof → Rises u v roof
   rises_next u w v t rank roof known stands is low at_most r = record {
     more = r.more + 1;
@@ -89,83 +91,79 @@ module _ {P S H : Type 0} where
     few = (let fewer = new_shorter w v t rank known stands is in let f = r.few in omega arith);
   }
 
-  pub rises_all : (w v : WorldOf P S H) (roof : ℕ) → Rises w v roof → IsUnder (roof + length w.queues.new) v.queues.ready
+  pub rises_all : (w v : ThreadsBySlot S) (roof : ℕ) → Rises w v roof → IsUnder (roof + length w.queues.new) v.queues.ready
   rises_all w v roof r = under-roof (roof + r.more) (roof + length w.queues.new) v.queues.ready (let f = r.few in omega arith) r.under
 
 -- ---- the order
 
-record LastRow (rows : List Row) (t : ℕ) : Type 0 where
-  front : List Row
-  row : Row
+record LastRow (rows : List Ranked) (t : ℕ) : Type 0 where
+  front : List Ranked
+  row : Ranked
   split : rows ≡ front ++ row ∷ []
-  own : row.who ≡ t
+  own : row.holder ≡ t
 
-last_row : (t : ℕ) (rows : List Row) → last_of rows ≡ Some t → LastRow rows t
+last_row : (t : ℕ) (rows : List Ranked) → last_of rows ≡ Some t → LastRow rows t
 last_row t [] h = absurd (cc h)
 last_row t (x ∷ []) h = record { front = []; row = x; split = refl; own = cc }
 last_row t (x ∷ y ∷ ys) h =
     let l = last_row t (y ∷ ys) h in
-    record { front = x ∷ l.front; row = l.row; split = ap (λ (r : List Row). x ∷ r) l.split; own = l.own }
+    record { front = x ∷ l.front; row = l.row; split = ap (λ (r : List Ranked). x ∷ r) l.split; own = l.own }
 
-count_last : (t : ℕ) (front : List Row) (r : Row) → r.who ≡ t → 1 ≤ count_by (is_of t) (front ++ r ∷ [])
+count_last : (t : ℕ) (front : List Ranked) (r : Ranked) → r.holder ≡ t → 1 ≤ count_by (is_of t) (front ++ r ∷ [])
 count_last t [] r own = let e : is_of t r ≡ true = ap (λ (n : ℕ). n == t) own ∙ same_self t in omega (arith, count-cons t r [], ap (λ (b : Bool). cond {A = ℕ} b 1 0) e)
 count_last t (x ∷ front) r own = omega (arith, count-cons t x (front ++ r ∷ []), count_last t front r own)
 
-delete_by : (t : ℕ) (x : Row) (rows front : List Row) (b : Bool) → cond {A = ℕ} b 1 0 + count_by (is_of t) rows ≤ 1 → 1 ≤ count_by (is_of t) rows → delete t rows ≡ front → cond (not b) (x ∷ delete t rows) (delete t rows) ≡ x ∷ front
+delete_by : (t : ℕ) (x : Ranked) (rows front : List Ranked) (b : Bool) → cond {A = ℕ} b 1 0 + count_by (is_of t) rows ≤ 1 → 1 ≤ count_by (is_of t) rows → delete t rows ≡ front → cond (not b) (x ∷ delete t rows) (delete t rows) ≡ x ∷ front
 delete_by t x rows front true once there h = absurd (omega (arith, once, there))
-delete_by t x rows front false once there h = ap (λ (l : List Row). x ∷ l) h
+delete_by t x rows front false once there h = ap (λ (l : List Ranked). x ∷ l) h
 
 -- the last row is taken out
-delete_last : (t : ℕ) (front : List Row) (r : Row) → r.who ≡ t → count_by (is_of t) (front ++ r ∷ []) ≤ 1 → delete t (front ++ r ∷ []) ≡ front
+delete_last : (t : ℕ) (front : List Ranked) (r : Ranked) → r.holder ≡ t → count_by (is_of t) (front ++ r ∷ []) ≤ 1 → delete t (front ++ r ∷ []) ≡ front
 delete_last t [] r own once = rw (own, same_self t) refl
 delete_last t (x ∷ front) r own once =
     delete_by t x (front ++ r ∷ []) front (is_of t x) (omega (arith, count-cons t x (front ++ r ∷ []), once)) (count_last t front r own)
     (delete_last t front r own (omega (arith, count-cons t x (front ++ r ∷ []), once)))
 
-reversed : (front : List Row) (r : Row) → reverse (who_in (front ++ r ∷ [])) ≡ r.who ∷ reverse (who_in front)
-reversed front r = ap reverse (map-append (λ (x : Row). x.who) front (r ∷ [])) ∙ reverse-append (who_in front) (r.who ∷ [])
+reversed : (front : List Ranked) (r : Ranked) → reverse (holders (front ++ r ∷ [])) ≡ r.holder ∷ reverse (holders front)
+reversed front r = ap reverse (map-append (λ (x : Ranked). x.holder) front (r ∷ [])) ∙ reverse-append (holders front) (r.holder ∷ [])
 
 module _ {P S H : Type 0} where
-  -- all new threads of a state are ready
-  abbrev pub all_new : State P S H → State P S H
-  all_new s = all_readied (reverse (who_in (queue s queues.New))) s
-
-  new_left : (s : State P S H) (t : ℕ) (rank : ℤ) (top : Bool) → queue (readied s t rank top) queues.New ≡ delete t (queue s queues.New)
-  unfolding readied with_change
-  new_left s t rank top = queue-enter_other (with_change (without_entry s t) t (change.State state.Ready)) t queues.New queues.Ready rank top refl ∙ queue-leave s t queues.New
+  new_left : (k : Control P S H) (t : ℕ) → queue (readies t k) queues.New ≡ delete t (queue k queues.New)
+  unfolding readies is_ready_at sets
+  new_left k t = queue-enter_other (sets t (change.State state.Ready) (leaves_queue t k)) t queues.New queues.Ready (new_rank k) k.scheduler.favour_new refl ∙ queue-leave k t queues.New
 
   -- the last new thread first, and then the others
-  all_new_last : (w : WorldOf P S H) (s : State P S H) (t : ℕ) → IsSound w → StandsFor w s → last_of (queue s queues.New) ≡ Some t → all_new (new_readied s t) ≡ all_new s
-  unfolding new_readied all_readied
-  all_new_last w s t sound st last =
-      let l = last_row t (queue s queues.New) last in
-      let once = subst (λ (rows : List Row). count_by (is_of t) rows ≤ 1) l.split (once_thread w s t queues.New sound st) in
-      let left : queue (new_readied s t) queues.New ≡ l.front = new_left s t (new_rank s) s.rest.scheduler.favour_new ∙ ap (delete t) l.split ∙ delete_last t l.front l.row l.own once in
-      ap (λ (rows : List Row). all_readied (reverse (who_in rows)) (new_readied s t)) left
-      ∙ ap (λ (u : ℕ). all_readied (u ∷ reverse (who_in l.front)) s) (sym l.own)
-      ∙ ap (λ (ts : List ℕ). all_readied ts s) (sym (reversed l.front l.row))
-      ∙ ap (λ (rows : List Row). all_readied (reverse (who_in rows)) s) (sym l.split)
+  all_new_last : (w : WorldOf P S H) (k : Control P S H) (t : ℕ) → IsSound w.threads → Shows w k → last_of (queue k queues.New) ≡ Some t → readies_new (readies t k) ≡ readies_new k
+  unfolding readies_all
+  all_new_last w k t sound st last =
+      let l = last_row t (queue k queues.New) last in
+      let once = subst (λ (rows : List Ranked). count_by (is_of t) rows ≤ 1) l.split (once_thread w.threads k t queues.New sound st.threads) in
+      let left : queue (readies t k) queues.New ≡ l.front = new_left k t ∙ ap (delete t) l.split ∙ delete_last t l.front l.row l.own once in
+      ap (λ (rows : List Ranked). readies_all (reverse (holders rows)) (readies t k)) left
+      ∙ ap (λ (u : ℕ). readies_all (u ∷ reverse (holders l.front)) k) (sym l.own)
+      ∙ ap (λ (ts : List ℕ). readies_all ts k) (sym (reversed l.front l.row))
+      ∙ ap (λ (rows : List Ranked). readies_all (reverse (holders rows)) k) (sym l.split)
 
-  -- the world stands for a state on the way to this one
-  pub record Comes (w : WorldOf P S H) (end : State P S H) : Type 0 where
-    pub state : State P S H
-    pub stands : StandsFor w state
-    pub same : all_new state ≡ end
+  -- the world shows what is on the way to this
+  pub record Comes (w : WorldOf P S H) (end : Control P S H) : Type 0 where
+    pub control : Control P S H
+    pub shows : Shows w control
+    pub same : readies_new control ≡ end
 
-  pub new_stands : (v : WorldOf P S H) (s : State P S H) (t : ℕ) (rank : ℤ) → rank ≡ new_rank s → ((top : Bool) → StandsFor v (readied s t rank top)) → StandsFor v (new_readied s t)
-  unfolding new_readied
-  new_stands v s t rank is stands = subst (λ (r : ℤ). StandsFor v (readied s t r s.rest.scheduler.favour_new)) is (stands s.rest.scheduler.favour_new)
+  pub new_shows : (v : WorldOf P S H) (k : Control P S H) (t : ℕ) (rank : ℤ) → rank ≡ new_rank k → ((top : Bool) → Shows v (is_ready_at t rank top k)) → Shows v (readies t k)
+  unfolding readies
+  new_shows v k t rank is shows = subst (λ (r : ℤ). Shows v (is_ready_at t r k.scheduler.favour_new k)) is (shows k.scheduler.favour_new)
 
-  pub comes_next : (w v : WorldOf P S H) (end : State P S H) (t : ℕ) → IsSound w → ((s : State P S H) → StandsFor w s → Some t ≡ last_of (queue s queues.New)) → ((s : State P S H) → StandsFor w s → StandsFor v (new_readied s t)) → Comes w end → Comes v end
-  comes_next w v end t sound last stands c = record {
-    state = new_readied c.state t;
-    stands = stands c.state c.stands;
-    same = all_new_last w c.state t sound c.stands (sym (last c.state c.stands)) ∙ c.same;
+  pub comes_next : (w v : WorldOf P S H) (end : Control P S H) (t : ℕ) → IsSound w.threads → ((k : Control P S H) → Shows w k → Some t ≡ last_of (queue k queues.New)) → ((k : Control P S H) → Shows w k → Shows v (readies t k)) → Comes w end → Comes v end
+  comes_next w v end t sound last shows c = record {
+    control = readies t c.control;
+    shows = shows c.control c.shows;
+    same = all_new_last w c.control t sound c.shows (sym (last c.control c.shows)) ∙ c.same;
   }
 
   -- no thread is new: this is the end
-  pub comes_end : (w : WorldOf P S H) (end : State P S H) → w.queues.new ≡ [] → Comes w end → StandsFor w end
-  unfolding all_readied
+  pub comes_end : (w : WorldOf P S H) (end : Control P S H) → w.threads.queues.new ≡ [] → Comes w end → Shows w end
+  unfolding readies_all
   comes_end w end none c =
-      let empty : queue c.state queues.New ≡ [] = c.stands.threads.standing queues.New ∙ ap (map (named_row (tid_at w.threads))) none in
-      subst (StandsFor w) (sym (ap (λ (rows : List Row). all_readied (reverse (who_in rows)) c.state) empty) ∙ c.same) c.stands
+      let empty : queue c.control queues.New ≡ [] = c.shows.threads.standing queues.New ∙ ap (map (named_row (tid_at w.threads.records))) none in
+      subst (Shows w) (sym (ap (λ (rows : List Ranked). readies_all (reverse (holders rows)) c.control) empty) ∙ c.same) c.shows

@@ -3,19 +3,24 @@ use Rattle.std.proofs.Common.{◌≡◌, ◌≢◌, ℕ, ◌==◌, ◌+◌, ◌�
 use Rattle.pth_base.proofs.Tables.{same_self}
 use Rattle.pth_base.specs.declared.mark.Mark.{Mark}
 use Rattle.pth_base.specs.declared.mark.Mark.TheVariants.{Woke}
-use Rattle.pth_queue.specs.declared.row.Row.{Row}
+use Rattle.pth_queue.specs.declared.ranked.Ranked.{Ranked}
 use Rattle.pth_queue.specs.declared.queue.Queue.TheVariants.{Ready, Waiting}
-use Rattle.pth_queue.specs.Rows.{is_of, holds, named_row, IsQueued}
+use Rattle.pth_queue.specs.Ranking.{is_of, holds, named_row, IsQueued}
 use Rattle.pth_queue.specs.Queues.{queue_of, without, entered}
 use Rattle.pth_queue.proofs.Counts.{count-cons}
 use Rattle.pth_queue.proofs.Standing.{queue_of-holds}
 use Rattle.pth_threads.specs.Threads.{slot_of, tid_at}
+use Rattle.pth_base.specs.Program.{Functions}
 use Rattle.pth_model.specs.State.{State}
-use Rattle.pth_model.specs.Told.{Told, tid}
-use Rattle.pth_model.specs.Waits.{wakes}
-use Rattle.pth_model.specs.Pass.{who_in, prio_of, readied, woken, all_woken, to_wake, pass}
+use Rattle.pth_model.specs.Transition.{Transition, tid}
+use Rattle.pth_model.specs.Calls.{wakes}
+use Rattle.pth_model.specs.Changes.{holders, prio_of}
+use Rattle.pth_model.specs.Pass.{is_ready_at, woken, all_woken, to_wake, pass}
+use Rattle.pth_model.specs.Resources.{told as told_of}
 use Rattle.pth_world.specs.World.{WorldOf}
-use Rattle.pth_world.specs.Standing.{StandsFor, IsSound, IsKnown, SameThreads}
+use Rattle.pth_world.specs.Shows.{Shows, StandsFor}
+use Rattle.pth_world.specs.Sound.{IsSound, IsKnown}
+use Rattle.pth_world.specs.Touches.{SameThreads}
 use Rattle.pth_base.specs.Cut.{IsCut}
 use Rattle.pth_world.specs.Leading.{Leads}
 use Rattle.pth_world.proofs.QueueReads.{once_thread, stands_at}
@@ -25,17 +30,17 @@ use Rattle.pth_sched.specs.Passing.{IsWaiting, IsNotIn, WaitOnce}
 -- ---- one thread
 
 module _ {P S H : Type 0} where
-  pub woken_leads : (v : WorldOf P S H) (s : State P S H) (t : ℕ) (rank : ℤ) (old new : List Mark) → rank ≡ prio_of s t +ℤ pos 1 → StandsFor v (readied s t rank false) → new ≡ old ++ Woke (tid t) rank ∷ [] → Leads v old new (woken s t)
-  unfolding woken
-  woken_leads v s t rank old new is st told = record {
-    stands = subst (λ (r : ℤ). StandsFor v (readied s t r false)) is st;
+  pub woken_leads : (w v : WorldOf P S H) (s : State P S H) (t : ℕ) (rank : ℤ) (old new : List Mark) → StandsFor w s → rank ≡ prio_of s.control t +ℤ pos 1 → Shows v (is_ready_at t rank false s.control) → new ≡ old ++ Woke (tid t) rank ∷ [] → Leads v old new (woken t s)
+  unfolding woken told_of
+  woken_leads w v s t rank old new stands is st told = record {
+    stands = record { control = subst (λ (r : ℤ). Shows v (is_ready_at t r false s.control)) is st; resources = stands.resources };
     tells = subst (λ (r : ℤ). new ≡ old ++ Woke (tid t) r ∷ []) is told;
   }
 
   -- another thread that waits goes on waiting
-  pub waits_still : (w v : WorldOf P S H) (t u : ℕ) (rank : ℤ) → IsSound w → IsKnown w t → SameThreads w v → IfSome (slot_of w.threads t) (λ x. v.queues ≡ entered Ready rank x (without x w.queues)) → u ≢ t → IsWaiting w u → IsWaiting v u
+  pub waits_still : (w v : WorldOf P S H) (t u : ℕ) (rank : ℤ) → IsSound w.threads → IsKnown w.threads t → SameThreads w.threads v.threads → IfSome (slot_of w.threads.records t) (λ x. v.threads.queues ≡ entered Ready rank x (without x w.threads.queues)) → u ≢ t → IsWaiting w u → IsWaiting v u
   waits_still w v t u rank sound known same queues apart waits =
-      (subst (λ (f : ℕ → Option ℕ). IsSome (f u)) (sym same.slots) waits.0, in-readied w v t u Waiting rank sound known same queues apart waits.1)
+      (subst (λ (f : ℕ → Option ℕ). IsSome (f u)) (sym same.slots) waits.0, in-readied w.threads v.threads t u Waiting rank sound known same queues apart waits.1)
 
   -- and so do others, none of which is this one
   pub wait_once : (w v : WorldOf P S H) (t : ℕ) (ts : List ℕ) → ((u : ℕ) → u ≢ t → IsWaiting w u → IsWaiting v u) → IsNotIn t ts → WaitOnce w ts → WaitOnce v ts
@@ -53,49 +58,49 @@ not_in_by true t u us apart h = (apart, h)
 not_in_by false t u us apart h = h
 
 -- whose row does not stand in a queue is not listed
-not_in : (p : ℕ → Bool) (t : ℕ) (rows : List Row) → count_by (is_of t) rows ≡ 0 → IsNotIn t (filter p (who_in rows))
+not_in : (p : ℕ → Bool) (t : ℕ) (rows : List Ranked) → count_by (is_of t) rows ≡ 0 → IsNotIn t (filter p (holders rows))
 not_in p t [] none = tt
 not_in p t (x ∷ rows) none =
     let other : is_of t x ≡ false = zero_of (is_of t x) (count_by (is_of t) rows) (sym (count-cons t x rows) ∙ none) in
-    not_in_by (p x.who) t x.who (filter p (who_in rows)) (λ same. absurd (cc (sym other ∙ ap (λ (n : ℕ). n == t) same ∙ same_self t))) (not_in p t rows (omega (arith, count-cons t x rows)))
+    not_in_by (p x.holder) t x.holder (filter p (holders rows)) (λ same. absurd (cc (sym other ∙ ap (λ (n : ℕ). n == t) same ∙ same_self t))) (not_in p t rows (omega (arith, count-cons t x rows)))
 
-module _ {P S H : Type 0} (w : WorldOf P S H) (sound : IsSound w) where
-  one_waits : (x : ℕ) → tid_at w.threads x ≢ 0 → queue_of x w.queues ≡ Some Waiting → IsWaiting w (tid_at w.threads x)
-  one_waits x used stands = (subst (λ (o : Option ℕ). IsSome o) (sym (sound.tied.slot x used)) refl, stands_at w sound x (tid_at w.threads x) Waiting used refl stands)
+module _ {P S H : Type 0} (w : WorldOf P S H) (sound : IsSound w.threads) where
+  one_waits : (x : ℕ) → tid_at w.threads.records x ≢ 0 → queue_of x w.threads.queues ≡ Some Waiting → IsWaiting w (tid_at w.threads.records x)
+  one_waits x used stands = (subst (λ (o : Option ℕ). IsSome o) (sym (sound.tied.slot x used)) refl, stands_at w.threads sound x (tid_at w.threads.records x) Waiting used refl stands)
 
   once_by : (b : Bool) (t : ℕ) (ts : List ℕ) → IsWaiting w t → IsNotIn t ts → WaitOnce w ts → WaitOnce w (cond b (t ∷ ts) ts)
   once_by true t ts waits apart once = (waits, apart, once)
   once_by false t ts waits apart once = once
 
-  rows_once : (p : ℕ → Bool) (xs : List Row) → IsQueued (tid_at w.threads) xs → ((x : ℕ) → holds x xs ≡ true → queue_of x w.queues ≡ Some Waiting) → ((t : ℕ) → count_by (is_of t) (map (named_row (tid_at w.threads)) xs) ≤ 1)
-      → WaitOnce w (filter p (who_in (map (named_row (tid_at w.threads)) xs)))
+  rows_once : (p : ℕ → Bool) (xs : List Ranked) → IsQueued (tid_at w.threads.records) xs → ((x : ℕ) → holds x xs ≡ true → queue_of x w.threads.queues ≡ Some Waiting) → ((t : ℕ) → count_by (is_of t) (map (named_row (tid_at w.threads.records)) xs) ≤ 1)
+      → WaitOnce w (filter p (holders (map (named_row (tid_at w.threads.records)) xs)))
   rows_once p [] used stands once = tt
   rows_once p (x ∷ xs) used stands once =
-      let t = tid_at w.threads x.who in
-      let rest = map (named_row (tid_at w.threads)) xs in
-      let own : cond {A = ℕ} (is_of t (named_row (tid_at w.threads) x)) 1 0 ≡ 1 = ap (λ (b : Bool). cond {A = ℕ} b 1 0) (same_self t) in
-      let count = count-cons t (named_row (tid_at w.threads) x) rest in
+      let t = tid_at w.threads.records x.holder in
+      let rest = map (named_row (tid_at w.threads.records)) xs in
+      let own : cond {A = ℕ} (is_of t (named_row (tid_at w.threads.records) x)) 1 0 ≡ 1 = ap (λ (b : Bool). cond {A = ℕ} b 1 0) (same_self t) in
+      let count = count-cons t (named_row (tid_at w.threads.records) x) rest in
       let none : count_by (is_of t) rest ≡ 0 = (let o = once t in omega arith) in
-      once_by (p t) t (filter p (who_in rest)) (one_waits x.who used.0 (stands x.who (rw (same_self x.who) refl))) (not_in p t rest none)
-      (rows_once p xs used.1 (λ y h. stands y (rw h (or_true (is_of y x)))) (λ u. (let o = once u in omega (arith, count-cons u (named_row (tid_at w.threads) x) rest))))
+      once_by (p t) t (filter p (holders rest)) (one_waits x.holder used.0 (stands x.holder (rw (same_self x.holder) refl))) (not_in p t rest none)
+      (rows_once p xs used.1 (λ y h. stands y (rw h (or_true (is_of y x)))) (λ u. (let o = once u in omega (arith, count-cons u (named_row (tid_at w.threads.records) x) rest))))
     where
       or_true : (b : Bool) → (b || true) ≡ true
       or_true true = refl
       or_true false = refl
 
   -- they wait, and none is listed twice
-  pub to_wake_once : (s : State P S H) → StandsFor w s → WaitOnce w (to_wake s)
+  pub to_wake_once : (f : P → Functions S H) (s : State P S H) → StandsFor w s → WaitOnce w (to_wake f s)
   unfolding to_wake
-  to_wake_once s st =
-      let rows = st.threads.standing Waiting in
-      subst (λ (l : List Row). WaitOnce w (filter (wakes s) (who_in l))) (sym rows)
-      (rows_once (wakes s) w.queues.waiting (sound.queued Waiting) (λ x h. queue_of-holds Waiting x w.queues sound.orderly h) (λ t. subst (λ (l : List Row). count_by (is_of t) l ≤ 1) rows (once_thread w s t Waiting sound st)))
+  to_wake_once f s st =
+      let rows = st.control.threads.standing Waiting in
+      subst (λ (l : List Ranked). WaitOnce w (filter (λ t. wakes f t s) (holders l))) (sym rows)
+      (rows_once (λ t. wakes f t s) w.threads.queues.waiting (sound.queued Waiting) (λ x h. queue_of-holds Waiting x w.threads.queues sound.orderly h) (λ t. subst (λ (l : List Ranked). count_by (is_of t) l ≤ 1) rows (once_thread w.threads s.control t Waiting sound st.control.threads)))
 
 -- ---- all of them
 
 module _ {P S H : Type 0} where
   -- the world stands for a state from which the threads that are left are still to be woken
-  pub record Wakes (w : WorldOf P S H) (ts : List ℕ) (old new : List Mark) (all : Told P S H) : Type 0 where
+  pub record Wakes (w : WorldOf P S H) (ts : List ℕ) (old new : List Mark) (all : Transition P S H) : Type 0 where
     pub state : State P S H
     pub stands : StandsFor w state
     pub told : List Mark
@@ -106,31 +111,31 @@ module _ {P S H : Type 0} where
   pub wakes_first : (w : WorldOf P S H) (ts : List ℕ) (old : List Mark) (s : State P S H) → StandsFor w s → Wakes w ts old old (all_woken ts s)
   wakes_first w ts old s st = record { state = s; stands = st; told = []; appended = sym (append-nil old); same_state = refl; same_marks = refl }
 
-  pub wakes_next : (w v : WorldOf P S H) (t : ℕ) (ts : List ℕ) (old mid new : List Mark) (all : Told P S H) → Wakes w (t ∷ ts) old mid all → ((s : State P S H) → StandsFor w s → Leads v mid new (woken s t)) → Wakes v ts old new all
+  pub wakes_next : (w v : WorldOf P S H) (t : ℕ) (ts : List ℕ) (old mid new : List Mark) (all : Transition P S H) → Wakes w (t ∷ ts) old mid all → ((s : State P S H) → StandsFor w s → Leads v mid new (woken t s)) → Wakes v ts old new all
   unfolding all_woken
   wakes_next w v t ts old mid new all k leads =
       let l = leads k.state k.stands in
       record {
-        state = (woken k.state t).state;
+        state = (woken t k.state).state;
         stands = l.stands;
-        told = k.told ++ (woken k.state t).marks;
-        appended = l.tells ∙ ap (λ (m : List Mark). m ++ (woken k.state t).marks) k.appended ∙ append_assoc old k.told (woken k.state t).marks;
+        told = k.told ++ (woken t k.state).marks;
+        appended = l.tells ∙ ap (λ (m : List Mark). m ++ (woken t k.state).marks) k.appended ∙ append_assoc old k.told (woken t k.state).marks;
         same_state = k.same_state;
-        same_marks = append_assoc k.told (woken k.state t).marks (all_woken ts (woken k.state t).state).marks ∙ k.same_marks;
+        same_marks = append_assoc k.told (woken t k.state).marks (all_woken ts (woken t k.state).state).marks ∙ k.same_marks;
       }
 
-  pub wakes_all : (w : WorldOf P S H) (old new : List Mark) (all : Told P S H) → Wakes w [] old new all → Leads w old new all
+  pub wakes_all : (w : WorldOf P S H) (old new : List Mark) (all : Transition P S H) → Wakes w [] old new all → Leads w old new all
   unfolding all_woken
   wakes_all w old new all k = record {
     stands = subst (StandsFor w) k.same_state k.stands;
     tells = k.appended ∙ ap (λ (m : List Mark). old ++ m) (sym (append-nil k.told) ∙ k.same_marks);
   }
 
-  pub wakes_cut : (w : WorldOf P S H) (t : ℕ) (ts : List ℕ) (old mid new : List Mark) (all : Told P S H) → Wakes w (t ∷ ts) old mid all → ((s : State P S H) → StandsFor w s → IsCut mid new (woken s t).marks) → IsCut old new all.marks
+  pub wakes_cut : (w : WorldOf P S H) (t : ℕ) (ts : List ℕ) (old mid new : List Mark) (all : Transition P S H) → Wakes w (t ∷ ts) old mid all → ((s : State P S H) → StandsFor w s → IsCut mid new (woken t s).marks) → IsCut old new all.marks
   unfolding all_woken
   wakes_cut w t ts old mid new all k cuts =
       let c = cuts k.state k.stands in
-      let later = (all_woken ts (woken k.state t).state).marks in
+      let later = (all_woken ts (woken t k.state).state).marks in
       record {
         first = k.told ++ c.first;
         rest = c.rest ++ later;
@@ -139,10 +144,10 @@ module _ {P S H : Type 0} where
       }
 
   -- a pass wakes those that it listed
-  pub pass_leads : (w : WorldOf P S H) (s : State P S H) (ts : List ℕ) (old new : List Mark) → ts ≡ to_wake s → Leads w old new (all_woken ts s) → Leads w old new (pass s)
+  pub pass_leads : (f : P → Functions S H) (w : WorldOf P S H) (s : State P S H) (ts : List ℕ) (old new : List Mark) → ts ≡ to_wake f s → Leads w old new (all_woken ts s) → Leads w old new (pass f s)
   unfolding pass
-  pass_leads w s ts old new is leads = subst (λ (l : List ℕ). Leads w old new (all_woken l s)) is leads
+  pass_leads f w s ts old new is leads = subst (λ (l : List ℕ). Leads w old new (all_woken l s)) is leads
 
-  pub pass_cut : (s : State P S H) (ts : List ℕ) (old new : List Mark) → ts ≡ to_wake s → IsCut old new (all_woken ts s).marks → IsCut old new (pass s).marks
+  pub pass_cut : (f : P → Functions S H) (s : State P S H) (ts : List ℕ) (old new : List Mark) → ts ≡ to_wake f s → IsCut old new (all_woken ts s).marks → IsCut old new (pass f s).marks
   unfolding pass
-  pass_cut s ts old new is cut = subst (λ (l : List ℕ). IsCut old new (all_woken l s).marks) is cut
+  pass_cut f s ts old new is cut = subst (λ (l : List ℕ). IsCut old new (all_woken l s).marks) is cut

@@ -2,29 +2,26 @@
 use Rattle.std.specs.Prelude.{◌≡◌, ◌≤◌, ◌+◌, ◌*◌, ◌-◌, nat_le, ℕ, Bool, true, false, Option, Some, None, IfSome, length}
 use Rattle.pth_base.specs.declared.outcome.Outcome.{Outcome}
 use Rattle.pth_base.specs.declared.outcome.Outcome.TheVariants as outcome
+use Rattle.pth_model.specs.State.{Turn}
 use Rattle.pth_world.specs.World.{WorldOf}
-use Rattle.pth_world.specs.Standing.{Whole}
+use Rattle.pth_world.specs.Whole.{Whole}
 use Rattle.pth_world.specs.Ranks.{IsUnder, greatest_return}
 
 -- a world with the turn that it is in
 pub record MachineOf (P S H : Type 0) : Type 0 where
   pub world : WorldOf P S H
-  -- the thread that gave up control and is not yet put back
-  pub gave : Option ℕ
-  pub turns : ℕ
-  pub steps : ℕ
-  pub outcome : Outcome
+  pub turn : Turn
 
 -- each step makes at most one thread, and each turn but the last has at least one step
 pub record IsGoing {P S H : Type 0} (m : MachineOf P S H) : Type 0 where
   pub whole : Whole m.world
-  pub named : m.world.named ≡ None
-  pub made : m.world.threads.made ≤ m.steps + 1
-  pub turns : m.turns ≤ m.steps + 1
-  pub over : IfSome m.gave (λ t. m.turns ≤ m.steps)
+  pub preferred : m.world.scheduler.preferred ≡ None
+  pub made : m.world.threads.records.made ≤ m.turn.steps + 1
+  pub turns : m.turn.turns ≤ m.turn.steps + 1
+  pub over : IfSome m.turn.gave (λ t. m.turn.turns ≤ m.turn.steps)
   -- nobody runs but the thread that gave up control
-  pub own : IfSome m.gave (λ t. IfSome m.world.running (λ r. r ≡ t))
-  pub between : m.world.running ≡ None → m.turns ≤ m.steps
+  pub own : IfSome m.turn.gave (λ t. IfSome m.world.scheduler.running (λ r. r ≡ t))
+  pub between : m.world.scheduler.running ≡ None → m.turn.turns ≤ m.turn.steps
 
 -- whether a turn has begun and is not over
 abbrev pub open_by : Option ℕ → Option ℕ → ℕ
@@ -32,12 +29,12 @@ open_by None None = 0
 open_by g r = 1
 
 -- No rank of the ready queue is above a roof. A turn that is over lifts it by one, and so does each new thread that becomes
--- ready: so it is bounded by the turns that began and the threads that were made.
+-- ready: so it is bounded by the turns that began and the steps that were made.
 pub record IsRoofed {P S H : Type 0} (m : MachineOf P S H) : Type 0 where
   pub roof : ℕ
   pub low : greatest_return ≤ roof
-  pub under : IsUnder roof m.world.queues.ready
-  pub few : roof + length m.world.queues.new + open_by m.gave m.world.running ≤ greatest_return + m.world.threads.made + m.turns
+  pub under : IsUnder roof m.world.threads.queues.ready
+  pub few : roof + length m.world.threads.queues.new + open_by m.turn.gave m.world.scheduler.running ≤ greatest_return + m.turn.steps + m.turn.turns
 
 -- how far a run to a number of steps is from its end
 abbrev pub left_by : Option ℕ → Option ℕ → ℕ
@@ -50,7 +47,7 @@ left_while to steps part outcome.Running = 3 * (to - steps) + part + 1
 left_while to steps part o = 0
 
 abbrev pub left : {P S H : Type 0} → ℕ → MachineOf P S H → ℕ
-left to m = left_while to m.steps (left_by m.gave m.world.running) m.outcome
+left to m = left_while to m.turn.steps (left_by m.turn.gave m.world.scheduler.running) m.turn.outcome
 
 -- whether a run to this number of steps goes no further: a next step would begin, or an outcome ended it
 abbrev pub stops_by : ℕ → ℕ → Option ℕ → Option ℕ → Outcome → Bool
@@ -59,4 +56,4 @@ stops_by to steps g r outcome.Running = false
 stops_by to steps g r o = true
 
 abbrev pub stops : {P S H : Type 0} → ℕ → MachineOf P S H → Bool
-stops to m = stops_by to m.steps m.gave m.world.running m.outcome
+stops to m = stops_by to m.turn.steps m.turn.gave m.world.scheduler.running m.turn.outcome

@@ -1,14 +1,12 @@
 -- What the parts of a turn need of a world.
 use Rattle.std.specs.Prelude.{◌≢◌, ℕ, ◌+◌, ◌^◌, ◌≤◌, List, [], ◌∷◌, length}
-use Rattle.pth_base.specs.Program.{Functions}
-use Rattle.pth_base.specs.declared.answer.Answer.TheVariants as answer
 use Rattle.pth_queue.specs.Queues.{QueuesOf}
 use Rattle.pth_queue.specs.declared.queue.Queue.TheVariants.{Waiting}
 use Rattle.pth_model.specs.State.{State}
-use Rattle.pth_model.specs.Changes.{Called, called, owed_to}
-use Rattle.pth_model.specs.Part.{owing}
+use Rattle.pth_world.specs.Shows.{StandsFor}
+use Rattle.pth_world.specs.Sound.{IsKnown}
+use Rattle.pth_world.specs.Whole.{IsIn}
 use Rattle.pth_world.specs.World.{WorldOf}
-use Rattle.pth_world.specs.Standing.{StandsFor, IsKnown, IsIn}
 use Rattle.pth_world.specs.Ranks.{IsUnder, greatest_return}
 
 -- the world stands for some state
@@ -18,7 +16,7 @@ pub record HasState {P S H : Type 0} (w : WorldOf P S H) : Type 0 where
 
 -- the thread is in the system, and stands in the waiting queue
 abbrev pub IsWaiting : {P S H : Type 0} → WorldOf P S H → ℕ → Type 0
-IsWaiting w t = IsKnown w t × IsIn Waiting w t
+IsWaiting w t = IsKnown w.threads t × IsIn Waiting w.threads t
 
 abbrev pub IsNotIn : ℕ → List ℕ → Type 0
 IsNotIn t [] = Unit {0}
@@ -35,7 +33,3 @@ pub record HasRoom (qs : QueuesOf) : Type 0 where
   pub low : greatest_return ≤ roof
   pub under : IsUnder roof qs.ready
   pub few : roof + length qs.new ≤ 2 ^ 40
-
--- the program's next call of thread t, which is handed over the answer that it is owed
-abbrev pub called_next : {P S H : Type 0} → (P → Functions S H) → State P S H → ℕ → Called P S H
-called_next f s t = called f (owing s t answer.None) t (owed_to s t)

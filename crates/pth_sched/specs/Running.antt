@@ -3,36 +3,33 @@ use Rattle.std.specs.Prelude.{◌≡◌, ◌≢◌, ◌<◌, ◌≤◌, ◌++◌
 use Rattle.pth_base.specs.Program.{Functions}
 use Rattle.pth_base.specs.declared.mark.Mark.{Mark}
 use Rattle.pth_base.specs.declared.outcome.Outcome.TheVariants.{Running, OutOfMemory}
-use Rattle.pth_model.specs.State.{State, Given}
-use Rattle.pth_model.specs.Told.{Told}
+use Rattle.pth_model.specs.State.{Given}
+use Rattle.pth_model.specs.Course.{Course}
 use Rattle.pth_model.specs.Run.{run, stops, GoesTo, IsBetween}
-use Rattle.pth_world.specs.Standing.{StandsFor}
+use Rattle.pth_world.specs.Shows.{StandsFor}
 use Rattle.pth_base.specs.Cut.{IsCut}
 use Rattle.pth_sched.specs.MachineOf.{MachineOf, IsGoing, IsRoofed}
 
--- The machine stands for this state: its world does, it keeps the same counts, and memory has not ended. So its ready
--- queue is the order of the state's standings, with their ranks.
-pub record Stands {P S H : Type 0} (m : MachineOf P S H) (s : State P S H) : Type 0 where
-  pub world : StandsFor m.world s
-  pub gave : s.rest.scheduler.gave ≡ m.gave
-  pub turns : s.rest.scheduler.turns ≡ m.turns
-  pub steps : s.rest.scheduler.steps ≡ m.steps
-  pub outcome : s.rest.scheduler.outcome ≡ m.outcome
-  pub memory : m.outcome ≢ OutOfMemory
+-- The machine stands where a course is: its world stands for the state, it is in the same turn, and memory has not ended.
+-- So its ready queue is the order of the state's standings, with their ranks.
+pub record Stands {P S H : Type 0} (m : MachineOf P S H) (c : Course P S H) : Type 0 where
+  pub world : StandsFor m.world c.state
+  pub turn : c.turn ≡ m.turn
+  pub memory : m.turn.outcome ≢ OutOfMemory
 
--- the machine stands for some state
+-- the machine stands somewhere
 pub record IsShown {P S H : Type 0} (m : MachineOf P S H) : Type 0 where
-  pub state : State P S H
-  pub shown : Stands m state
+  pub course : Course P S H
+  pub shown : Stands m course
 
--- What a piece of a run did: the machine stands for the state that is led to, and what is told was appended.
-pub record Makes {P S H : Type 0} (m : MachineOf P S H) (old new : List Mark) (told : Told P S H) : Type 0 where
-  pub stands : Stands m told.state
-  pub tells : new ≡ old ++ told.marks
+-- What a piece of a run did: the machine stands where the piece leads, and what is told was appended.
+pub record Makes {P S H : Type 0} (m : MachineOf P S H) (old new : List Mark) (c : Course P S H) : Type 0 where
+  pub stands : Stands m c
+  pub tells : new ≡ old ++ c.marks
 
 -- the machine stands on the run of what is given, at part i
 abbrev pub StandsAt : {P S H : Type 0} → (P → Functions S H) → Given P → ℕ → MachineOf P S H → Type 0
-StandsAt f g i m = Stands m (run f g i).state
+StandsAt f g i m = Stands m (run f g i)
 
 -- From part i the run to a number of steps goes on to a part where it stops: the machine stands there, and what the run
 -- tells between was appended.
@@ -49,16 +46,16 @@ pub record GoesOn {P S H : Type 0} (f : P → Functions S H) (g : Given P) (to i
 pub record BreaksOff {P S H : Type 0} (f : P → Functions S H) (g : Given P) (to i : ℕ) (old new : List Mark) : Type 0 where
   pub part : ℕ
   pub later : i ≤ part
-  pub going : (k : ℕ) → i ≤ k → k < part → stops to (run f g k).state ≡ false
+  pub going : (k : ℕ) → i ≤ k → k < part → stops to (run f g k) ≡ false
   pub told : List Mark
   pub between : IsBetween f g i part told
   pub cut : IsCut old new told
 
 -- the part that comes next is a step
 pub record IsAtStep {P S H : Type 0} (m : MachineOf P S H) : Type 0 where
-  pub goes : m.outcome ≡ Running
-  pub gave : m.gave ≡ None
-  pub runs : IsSome m.world.running
+  pub goes : m.turn.outcome ≡ Running
+  pub gave : m.turn.gave ≡ None
+  pub runs : IsSome m.world.scheduler.running
 
 -- what holds of a machine between two parts
 pub record Keeps {P S H : Type 0} (m : MachineOf P S H) : Type 0 where

@@ -1,7 +1,8 @@
 //! A machine that runs a program.
 
 ghost use Rattle.std.specs.Prelude.{◌≡◌, ◌≢◌, ◌≤◌, ◌+◌, ◌↔◌, ℕ, map, IfOk};
-ghost use Rattle.pth_model.specs.State.{State, Given};
+ghost use Rattle.pth_model.specs.Course.{Course};
+ghost use Rattle.pth_model.specs.State.{Given};
 ghost use Rattle.pth_model.specs.Living.{live as live_threads};
 ghost use Rattle.pth_threads.specs.Threads.{number};
 ghost use Rattle.pth_sched.specs.Running.{Stands, StandsAt, GoesOn, BreaksOff, IsAtStep};
@@ -32,7 +33,7 @@ impl<P: Program> Model for Machine<P> {
 
     ghost Value = { MachineOf P P.State P.Shared };
 
-    ghost view = { λ m. record m.schedule { outcome = if m.failed then OutOfMemory else m.schedule.outcome } };
+    ghost view = { λ m. record m.schedule { turn = record m.schedule.turn { outcome = if m.failed then OutOfMemory else m.schedule.turn.outcome } } };
 
     ghost invariant = { λ m. (m.failed ≡ false → Keeps m.schedule) };
 }
@@ -41,8 +42,8 @@ impl<P: Program> Machine<P> {
     /// The main thread alone, ready (`pth_init`).
     pub fn new(alloc: Global, program: P) -> Result<Machine<P>, OutOfMemory>
         ensures stands { IfOk result (λ m. StandsAt P.functions (record { program = program }) 0 m) }
-        ensures steps { IfOk result (λ m. m.steps ≡ 0) }
-        ensures outcome { IfOk result (λ m. m.outcome ≡ Outcome.Running) }
+        ensures steps { IfOk result (λ m. m.turn.steps ≡ 0) }
+        ensures outcome { IfOk result (λ m. m.turn.outcome ≡ Outcome.Running) }
     {
         let schedule = Schedule::new(alloc, program)?;
         Ok(Machine {
@@ -53,7 +54,7 @@ impl<P: Program> Machine<P> {
 
     // How the run stands.
     fn outcome(&self) -> Outcome
-        ensures { result ≡ self.now.outcome }
+        ensures { result ≡ self.now.turn.outcome }
     {
         if self.failed {
             Outcome::OutOfMemory
@@ -65,13 +66,13 @@ impl<P: Program> Machine<P> {
     /// Makes the next `n` steps, and goes on by the parts after them that are no steps. Fewer steps are made where the run
     /// ends before. After an outcome that ends the run it answers the same again, and tells nothing.
     pub fn advance(&mut self, n: u64, marks: &mut Marks) -> Outcome
-        requires few { self.old.steps + n ≤ 1000000000 }
-        ensures goes_on { result ≢ Outcome.OutOfMemory → (g : Given P) (i : ℕ) → StandsAt P.functions g i self.old → GoesOn P.functions g (self.old.steps + n) i self.new marks.old marks.new }
-        ensures breaks_off { result ≡ Outcome.OutOfMemory → (g : Given P) (i : ℕ) → StandsAt P.functions g i self.old → BreaksOff P.functions g (self.old.steps + n) i marks.old marks.new }
-        ensures running { (result ≡ Outcome.Running) ↔ ((self.new.steps ≡ self.old.steps + n) × IsAtStep self.new) }
-        ensures steps { self.new.steps ≤ self.old.steps + n }
-        ensures outcome { result ≡ self.new.outcome }
-        ensures again { self.old.outcome ≢ Outcome.Running → (result ≡ self.old.outcome) × (marks.new ≡ marks.old) }
+        requires few { self.old.turn.steps + n ≤ 1000000000 }
+        ensures goes_on { result ≢ Outcome.OutOfMemory → (g : Given P) (i : ℕ) → StandsAt P.functions g i self.old → GoesOn P.functions g (self.old.turn.steps + n) i self.new marks.old marks.new }
+        ensures breaks_off { result ≡ Outcome.OutOfMemory → (g : Given P) (i : ℕ) → StandsAt P.functions g i self.old → BreaksOff P.functions g (self.old.turn.steps + n) i marks.old marks.new }
+        ensures running { (result ≡ Outcome.Running) ↔ ((self.new.turn.steps ≡ self.old.turn.steps + n) × IsAtStep self.new) }
+        ensures steps { self.new.turn.steps ≤ self.old.turn.steps + n }
+        ensures outcome { result ≡ self.new.turn.outcome }
+        ensures again { self.old.turn.outcome ≢ Outcome.Running → (result ≡ self.old.turn.outcome) × (marks.new ≡ marks.old) }
     {
         match self.outcome() {
             Outcome::Running => {}
@@ -89,32 +90,32 @@ impl<P: Program> Machine<P> {
 
     /// How many steps were made.
     pub fn steps(&self) -> u64
-        ensures value { result ≡ self.now.steps }
-        ensures state { (s : State P P.State P.Shared) → Stands self.now s → result ≡ s.rest.scheduler.steps }
+        ensures value { result ≡ self.now.turn.steps }
+        ensures state { (c : Course P P.State P.Shared) → Stands self.now c → result ≡ c.turn.steps }
     {
         self.schedule.steps()
     }
 
     /// How many turns began.
     pub fn turns(&self) -> u64
-        ensures value { result ≡ self.now.turns }
-        ensures state { (s : State P P.State P.Shared) → Stands self.now s → result ≡ s.rest.scheduler.turns }
+        ensures value { result ≡ self.now.turn.turns }
+        ensures state { (c : Course P P.State P.Shared) → Stands self.now c → result ≡ c.turn.turns }
     {
         self.schedule.turns()
     }
 
     /// How many threads were made so far.
     pub fn made(&self) -> u64
-        ensures value { result ≡ self.now.world.threads.made }
-        ensures state { (s : State P P.State P.Shared) → Stands self.now s → result ≡ s.rest.threads.made }
+        ensures value { result ≡ self.now.world.threads.records.made }
+        ensures state { (c : Course P P.State P.Shared) → Stands self.now c → result ≡ c.state.control.threads.made }
     {
         u64::from(self.schedule.world().threads().made())
     }
 
     /// The moment, in microseconds.
     pub fn now(&self) -> Micros
-        ensures value { result ≡ self.now.world.time }
-        ensures state { (s : State P P.State P.Shared) → Stands self.now s → result ≡ s.rest.scheduler.now }
+        ensures value { result ≡ self.now.world.scheduler.now }
+        ensures state { (c : Course P P.State P.Shared) → Stands self.now c → result ≡ c.state.control.scheduler.now }
     {
         self.schedule.world().time()
     }
@@ -128,7 +129,7 @@ impl<P: Program> Machine<P> {
 
     /// The numbers of the threads in the system that are not dead, the oldest first; none after want of memory.
     pub fn live(&self, alloc: Global) -> Result<Vec<Tid>, OutOfMemory>
-        ensures { IfOk result (λ v. (s : State P P.State P.Shared) → Stands self.now s → map number v.items ≡ live_threads s) }
+        ensures { IfOk result (λ v. (c : Course P P.State P.Shared) → Stands self.now c → map number v.items ≡ live_threads c.state) }
     {
         if self.failed {
             return Ok(Vec::new(alloc));

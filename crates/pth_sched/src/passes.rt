@@ -3,13 +3,17 @@
 ghost use Rattle.std.specs.Prelude.{◌≡◌, ◌≢◌, ℕ, pos, neg_ℤ, ◌+ℤ◌, ◌≤ℤ◌, List, [], ◌∷◌, ◌++◌, map, if◌then◌else◌, OnOk, OnErr};
 ghost use Rattle.pth_queue.specs.declared.queue.Queue.TheVariants as queue;
 ghost use Rattle.pth_threads.specs.Threads.{number};
-ghost use Rattle.pth_model.specs.State.{State};
-ghost use Rattle.pth_model.specs.Waits.{wakes as wakes_now};
-ghost use Rattle.pth_model.specs.Pass.{pass, prio_of, to_wake, woken, all_woken};
-ghost use Rattle.pth_world.specs.Standing.{StandsFor, IsSound, Whole, IsKnown, IsIn, KeepsScheduler};
-ghost use Rattle.pth_world.specs.Ranks.{KeepsRanks, greatest_return};
 ghost use Rattle.pth_base.specs.Cut.{IsCut};
+ghost use Rattle.pth_model.specs.Calls.{wakes as wakes_now};
+ghost use Rattle.pth_model.specs.Changes.{prio_of};
+ghost use Rattle.pth_model.specs.Pass.{pass, to_wake, woken, all_woken};
+ghost use Rattle.pth_model.specs.State.{Control, State};
 ghost use Rattle.pth_world.specs.Leading.{Leads};
+ghost use Rattle.pth_world.specs.Ranks.{KeepsRanks, greatest_return};
+ghost use Rattle.pth_world.specs.Shows.{Shows, StandsFor};
+ghost use Rattle.pth_world.specs.Sound.{IsSound, IsKnown};
+ghost use Rattle.pth_world.specs.Touches.{KeepsScheduler};
+ghost use Rattle.pth_world.specs.Whole.{Whole, IsIn};
 ghost use Rattle.pth_sched.specs.Passing.{HasState, IsWaiting, WaitOnce};
 
 use pth_base::ids::Tid;
@@ -18,13 +22,13 @@ use pth_base::marks::Marks;
 use pth_base::memory::OutOfMemory;
 use pth_base::program::Program;
 use pth_queue::queue::Queue;
-use pth_waits::waits::wakes;
+use pth_waits::wakes::wakes;
 use pth_world::world::World;
 
 // Lists a waiting thread where its call has what it waits for.
 fn list_one<P: Program>(w: &World<P>, t: Tid, list: &mut Vec<Tid>) -> Result<(), OutOfMemory>
-    requires { IsSound w.now }
-    ensures { OnOk result ((s : State P P.State P.Shared) → StandsFor w.now s → map number list.new.items ≡ map number list.old.items ++ (if wakes_now s t.0 then t.0 ∷ [] else [])) }
+    requires { IsSound w.now.threads }
+    ensures { OnOk result ((s : State P P.State P.Shared) → StandsFor w.now s → map number list.new.items ≡ map number list.old.items ++ (if wakes_now P.functions t.0 s then t.0 ∷ [] else [])) }
 {
     if wakes(w, t) {
         list.push(t)?;
@@ -35,7 +39,7 @@ fn list_one<P: Program>(w: &World<P>, t: Tid, list: &mut Vec<Tid>) -> Result<(),
 // Lists the waiting threads, in their order, whose calls have what they wait for.
 fn list_to_wake<P: Program>(w: &World<P>, list: &mut Vec<Tid>) -> Result<(), OutOfMemory>
     requires { Whole w.now }
-    ensures { OnOk result ((s : State P P.State P.Shared) → StandsFor w.now s → map number list.new.items ≡ to_wake s) }
+    ensures { OnOk result ((s : State P P.State P.Shared) → StandsFor w.now s → map number list.new.items ≡ to_wake P.functions s) }
 {
     list.clear();
     let mut next = w.first(Queue::Waiting);
@@ -48,9 +52,9 @@ fn list_to_wake<P: Program>(w: &World<P>, list: &mut Vec<Tid>) -> Result<(), Out
 
 // The rank at which a woken thread is ready: one above its base priority.
 fn woken_rank<P: Program>(w: &World<P>, t: Tid) -> i64
-    requires sound { IsSound w.now }
-    requires known { IsKnown w.now t.0 }
-    ensures rank { (s : State P P.State P.Shared) → StandsFor w.now s → result ≡ prio_of s t.0 +ℤ pos 1 }
+    requires sound { IsSound w.now.threads }
+    requires known { IsKnown w.now.threads t.0 }
+    ensures rank { (k : Control P P.State P.Shared) → Shows w.now k → result ≡ prio_of k t.0 +ℤ pos 1 }
     ensures low { neg_ℤ (pos 20) ≤ℤ result }
     ensures high { result ≤ℤ pos greatest_return }
 {
@@ -64,13 +68,13 @@ fn woken_rank<P: Program>(w: &World<P>, t: Tid) -> i64
 fn wake<P: Program>(w: &mut World<P>, t: Tid, marks: &mut Marks) -> Result<(), OutOfMemory>
     requires whole { Whole w.old }
     requires waits { IsWaiting w.old t.0 }
-    ensures ok { OnOk result ((s : State P P.State P.Shared) → StandsFor w.old s → Leads w.new marks.old marks.new (woken s t.0)) }
-    ensures err { OnErr result ((s : State P P.State P.Shared) → StandsFor w.old s → IsCut marks.old marks.new (woken s t.0).marks) }
+    ensures ok { OnOk result ((s : State P P.State P.Shared) → StandsFor w.old s → Leads w.new marks.old marks.new (woken t.0 s)) }
+    ensures err { OnErr result ((s : State P P.State P.Shared) → StandsFor w.old s → IsCut marks.old marks.new (woken t.0 s).marks) }
     ensures whole { Whole w.new }
     ensures scheduler { KeepsScheduler w.old w.new }
-    ensures made { w.new.threads.made ≡ w.old.threads.made }
+    ensures made { w.new.threads.records.made ≡ w.old.threads.records.made }
     ensures others { (u : ℕ) → u ≢ t.0 → IsWaiting w.old u → IsWaiting w.new u }
-    ensures ranks { KeepsRanks w.old w.new }
+    ensures ranks { KeepsRanks 0 w.old.threads w.new.threads }
 {
     let rank = woken_rank(w, t);
     w.make_ready(t, rank);
@@ -89,8 +93,8 @@ fn wake_all<P: Program>(
     ensures err { OnErr result ((s : State P P.State P.Shared) → StandsFor w.old s → IsCut marks.old marks.new (all_woken (map number list.now) s).marks) }
     ensures whole { OnOk result (Whole w.new) }
     ensures scheduler { OnOk result (KeepsScheduler w.old w.new) }
-    ensures made { OnOk result (w.new.threads.made ≡ w.old.threads.made) }
-    ensures ranks { OnOk result (KeepsRanks w.old w.new) }
+    ensures made { OnOk result (w.new.threads.records.made ≡ w.old.threads.records.made) }
+    ensures ranks { OnOk result (KeepsRanks 0 w.old.threads w.new.threads) }
 {
     for t in list {
         wake(w, *t, marks)?;
@@ -107,12 +111,12 @@ pub fn pass<P: Program>(
 ) -> Result<(), OutOfMemory>
     requires whole { Whole w.old }
     requires state { HasState w.old }
-    ensures ok { OnOk result ((s : State P P.State P.Shared) → StandsFor w.old s → Leads w.new marks.old marks.new (pass s)) }
-    ensures err { OnErr result ((s : State P P.State P.Shared) → StandsFor w.old s → IsCut marks.old marks.new (pass s).marks) }
+    ensures ok { OnOk result ((s : State P P.State P.Shared) → StandsFor w.old s → Leads w.new marks.old marks.new (pass P.functions s)) }
+    ensures err { OnErr result ((s : State P P.State P.Shared) → StandsFor w.old s → IsCut marks.old marks.new (pass P.functions s).marks) }
     ensures whole { OnOk result (Whole w.new) }
     ensures scheduler { OnOk result (KeepsScheduler w.old w.new) }
-    ensures made { OnOk result (w.new.threads.made ≡ w.old.threads.made) }
-    ensures ranks { OnOk result (KeepsRanks w.old w.new) }
+    ensures made { OnOk result (w.new.threads.records.made ≡ w.old.threads.records.made) }
+    ensures ranks { OnOk result (KeepsRanks 0 w.old.threads w.new.threads) }
 {
     list_to_wake(w, list)?;
     wake_all(w, list.as_slice(), marks)

@@ -1,12 +1,15 @@
 //! The parts of a run: a thread is taken, it makes a step, and its turn is closed.
 
 ghost use Rattle.std.specs.Prelude.{◌≡◌, ◌≢◌, ◌≤◌, ◌+◌, ◌<◌, ℕ, [], true, false, Some, None, IsSome, IfSome, IfOk, OnOk, OnErr, length};
-ghost use Rattle.pth_model.specs.State.{State, Given};
-ghost use Rattle.pth_model.specs.Part.{is_idle, settled, taken, stepped, closed, part};
-ghost use Rattle.pth_model.specs.Run.{stops as run_stops};
-ghost use Rattle.pth_world.specs.Standing.{Whole};
 ghost use Rattle.pth_base.specs.Cut.{IsCut};
-ghost use Rattle.pth_waits.specs.Running.{runs_after};
+ghost use Rattle.pth_model.specs.Changes.{goes_on};
+ghost use Rattle.pth_model.specs.Course.{Course};
+ghost use Rattle.pth_model.specs.Part.{is_idle, owes_after, turn_after, takes, steps, closes, part};
+ghost use Rattle.pth_model.specs.Run.{stops as run_stops};
+ghost use Rattle.pth_model.specs.State.{Control, Given};
+ghost use Rattle.pth_world.specs.Frame.{runs_after};
+ghost use Rattle.pth_world.specs.Shows.{Shows};
+ghost use Rattle.pth_world.specs.Whole.{Whole};
 ghost use Rattle.pth_sched.specs.MachineOf.{IsGoing, IsRoofed, left, stops};
 ghost use Rattle.pth_sched.specs.Running.{Stands, StandsAt, IsShown, Keeps, Makes, GoesOn, BreaksOff};
 
@@ -45,10 +48,7 @@ impl<P: Program> Model for Schedule<P> {
 
     ghost view = { λ m. record {
       world = m.world;
-      gave = option_map number_of m.gave;
-      turns = m.turns;
-      steps = m.steps;
-      outcome = m.outcome;
+      turn = record { turns = m.turns; steps = m.steps; gave = option_map number_of m.gave; outcome = m.outcome };
     } };
 }
 
@@ -58,8 +58,8 @@ impl<P: Program> Schedule<P> {
         ensures stands { IfOk result (λ m. StandsAt P.functions (record { program = program }) 0 m) }
         ensures going { IfOk result (λ m. IsGoing m) }
         ensures ranks { IfOk result (λ m. IsRoofed m) }
-        ensures steps { IfOk result (λ m. m.steps ≡ 0) }
-        ensures outcome { IfOk result (λ m. m.outcome ≡ Outcome.Running) }
+        ensures steps { IfOk result (λ m. m.turn.steps ≡ 0) }
+        ensures outcome { IfOk result (λ m. m.turn.outcome ≡ Outcome.Running) }
     {
         let waking = Vec::with_capacity(alloc, MOST_THREADS as usize)?;
         let world = World::new(alloc, program)?;
@@ -75,21 +75,21 @@ impl<P: Program> Schedule<P> {
 
     /// How many steps were made.
     pub fn steps(&self) -> u64
-        ensures { result ≡ self.now.steps }
+        ensures { result ≡ self.now.turn.steps }
     {
         self.steps
     }
 
     /// How many turns began.
     pub fn turns(&self) -> u64
-        ensures { result ≡ self.now.turns }
+        ensures { result ≡ self.now.turn.turns }
     {
         self.turns
     }
 
     /// How the run stands.
     pub fn outcome(&self) -> Outcome
-        ensures { result ≡ self.now.outcome }
+        ensures { result ≡ self.now.turn.outcome }
     {
         self.outcome
     }
@@ -105,17 +105,17 @@ impl<P: Program> Schedule<P> {
     fn take(&mut self, marks: &mut Marks) -> Result<(), OutOfMemory>
         requires going { IsGoing self.old }
         requires ranks { IsRoofed self.old }
-        requires few { self.old.steps ≤ 1000000000 }
-        requires nobody { self.old.world.running ≡ None }
-        requires over { self.old.gave ≡ None }
-        requires some { 0 < length self.old.world.queues.ready + length self.old.world.queues.new }
-        ensures ok { OnOk result ((s : State P P.State P.Shared) → Stands self.old s → Makes self.new marks.old marks.new (taken s)) }
-        ensures err { OnErr result ((s : State P P.State P.Shared) → Stands self.old s → IsCut marks.old marks.new (taken s).marks) }
+        requires few { self.old.turn.steps ≤ 1000000000 }
+        requires nobody { self.old.world.scheduler.running ≡ None }
+        requires over { self.old.turn.gave ≡ None }
+        requires some { 0 < length self.old.world.threads.queues.ready + length self.old.world.threads.queues.new }
+        ensures ok { OnOk result ((c : Course P P.State P.Shared) → Stands self.old c → Makes self.new marks.old marks.new (takes c.turn c.state)) }
+        ensures err { OnErr result ((c : Course P P.State P.Shared) → Stands self.old c → IsCut marks.old marks.new (takes c.turn c.state).marks) }
         ensures going { OnOk result (IsGoing self.new) }
         ensures ranks { OnOk result (IsRoofed self.new) }
-        ensures steps { self.new.steps ≡ self.old.steps }
-        ensures gave { OnOk result (self.new.gave ≡ None) }
-        ensures runs { OnOk result (IsSome self.new.world.running) }
+        ensures steps { self.new.turn.steps ≡ self.old.turn.steps }
+        ensures gave { OnOk result (self.new.turn.gave ≡ None) }
+        ensures runs { OnOk result (IsSome self.new.world.scheduler.running) }
     {
         ready_new(&mut self.world);
         let t = next(&self.world);
@@ -135,16 +135,11 @@ impl<P: Program> Schedule<P> {
     // What a call of thread t leads to.
     fn settle(&mut self, t: Tid, next: Next)
         requires whole { Whole self.old.world }
-        requires runs { self.old.world.running ≡ runs_after t.0 next }
-        ensures stands { (s : State P P.State P.Shared) → Stands self.old s → Stands self.new (settled s t.0 next) }
+        requires runs { self.old.world.scheduler.running ≡ runs_after t.0 next }
+        ensures shows { (k : Control P P.State P.Shared) → Shows self.old.world k → Shows self.new.world (owes_after t.0 next k) }
+        ensures turn { self.new.turn ≡ turn_after t.0 next self.old.turn }
         ensures whole { Whole self.new.world }
-        ensures named { self.new.world.named ≡ self.old.world.named }
-        ensures threads { self.new.world.threads ≡ self.old.world.threads }
-        ensures queues { self.new.world.queues ≡ self.old.world.queues }
-        ensures running { self.new.world.running ≡ self.old.world.running }
-        ensures gives { self.new.world.running ≡ None → IsSome self.new.gave }
-        ensures own { self.old.gave ≡ None → IfSome self.new.gave (λ u. u ≡ t.0) }
-        ensures same { self.new ≡ record self.old { world = self.new.world; gave = self.new.gave; outcome = self.new.outcome } }
+        ensures same { self.new.world ≡ record self.old.world { threads = record self.old.world.threads { progress = self.new.world.threads.progress } } }
     {
         match next {
             Next::Done(answer) => self.world.owe(t, answer),
@@ -167,15 +162,15 @@ impl<P: Program> Schedule<P> {
     fn step(&mut self, t: Tid, marks: &mut Marks) -> Result<(), OutOfMemory>
         requires going { IsGoing self.old }
         requires ranks { IsRoofed self.old }
-        requires few { self.old.steps ≤ 1000000000 }
-        requires runs { self.old.world.running ≡ Some t.0 }
-        requires over { self.old.gave ≡ None }
-        ensures ok { OnOk result ((s : State P P.State P.Shared) → Stands self.old s → Makes self.new marks.old marks.new (stepped P.functions s t.0)) }
-        ensures err { OnErr result ((s : State P P.State P.Shared) → Stands self.old s → IsCut marks.old marks.new (stepped P.functions s t.0).marks) }
+        requires few { self.old.turn.steps ≤ 1000000000 }
+        requires runs { self.old.world.scheduler.running ≡ Some t.0 }
+        requires over { self.old.turn.gave ≡ None }
+        ensures ok { OnOk result ((c : Course P P.State P.Shared) → Stands self.old c → Makes self.new marks.old marks.new (steps P.functions c.turn t.0 c.state)) }
+        ensures err { OnErr result ((c : Course P P.State P.Shared) → Stands self.old c → IsCut marks.old marks.new (steps P.functions c.turn t.0 c.state).marks) }
         ensures going { OnOk result (IsGoing self.new) }
         ensures ranks { OnOk result (IsRoofed self.new) }
-        ensures steps { OnOk result (self.new.steps ≡ self.old.steps + 1) }
-        ensures still { OnErr result (self.new.steps ≡ self.old.steps) }
+        ensures steps { OnOk result (self.new.turn.steps ≡ self.old.turn.steps + 1) }
+        ensures still { OnErr result (self.new.turn.steps ≡ self.old.turn.steps) }
     {
         let next = go_on(&mut self.world, t, marks)?;
         self.steps += 1;
@@ -188,17 +183,17 @@ impl<P: Program> Schedule<P> {
     fn close(&mut self, t: Tid, marks: &mut Marks) -> Result<(), OutOfMemory>
         requires going { IsGoing self.old }
         requires ranks { IsRoofed self.old }
-        requires few { self.old.steps ≤ 1000000000 }
-        requires over { self.old.gave ≡ Some t.0 }
+        requires few { self.old.turn.steps ≤ 1000000000 }
+        requires over { self.old.turn.gave ≡ Some t.0 }
         requires shown { IsShown self.old }
-        ensures ok { OnOk result ((s : State P P.State P.Shared) → Stands self.old s → Makes self.new marks.old marks.new (closed s t.0)) }
-        ensures err { OnErr result ((s : State P P.State P.Shared) → Stands self.old s → IsCut marks.old marks.new (closed s t.0).marks) }
+        ensures ok { OnOk result ((c : Course P P.State P.Shared) → Stands self.old c → Makes self.new marks.old marks.new (closes P.functions c.turn t.0 c.state)) }
+        ensures err { OnErr result ((c : Course P P.State P.Shared) → Stands self.old c → IsCut marks.old marks.new (closes P.functions c.turn t.0 c.state).marks) }
         ensures going { OnOk result (IsGoing self.new) }
         ensures ranks { OnOk result (IsRoofed self.new) }
-        ensures steps { self.new.steps ≡ self.old.steps }
-        ensures gave { OnOk result (self.new.gave ≡ None) }
-        ensures running { OnOk result (self.new.world.running ≡ None) }
-        ensures outcome { OnOk result (self.new.outcome ≡ self.old.outcome) }
+        ensures steps { self.new.turn.steps ≡ self.old.turn.steps }
+        ensures gave { OnOk result (self.new.turn.gave ≡ None) }
+        ensures running { OnOk result (self.new.world.scheduler.running ≡ None) }
+        ensures outcome { OnOk result (self.new.turn.outcome ≡ self.old.turn.outcome) }
     {
         end_turn(&mut self.world, t);
         self.gave = None;
@@ -208,8 +203,8 @@ impl<P: Program> Schedule<P> {
     // Whether nothing is new or ready.
     fn is_idle(&self) -> bool
         requires { IsGoing self.now }
-        ensures idle { (s : State P P.State P.Shared) → Stands self.now s → result ≡ is_idle s }
-        ensures some { result ≡ false → 0 < length self.now.world.queues.ready + length self.now.world.queues.new }
+        ensures idle { (k : Control P P.State P.Shared) → Shows self.now.world k → result ≡ is_idle k }
+        ensures some { result ≡ false → 0 < length self.now.world.threads.queues.ready + length self.now.world.threads.queues.new }
     {
         self.world.is_empty(Queue::New) && self.world.is_empty(Queue::Ready)
     }
@@ -217,13 +212,13 @@ impl<P: Program> Schedule<P> {
     // One part of the run.
     fn part(&mut self, marks: &mut Marks) -> Result<(), OutOfMemory>
         requires keeps { Keeps self.old }
-        requires few { self.old.steps ≤ 1000000000 }
-        ensures ok { OnOk result ((s : State P P.State P.Shared) → Stands self.old s → Makes self.new marks.old marks.new (part P.functions s)) }
-        ensures err { OnErr result ((s : State P P.State P.Shared) → Stands self.old s → IsCut marks.old marks.new (part P.functions s).marks) }
+        requires few { self.old.turn.steps ≤ 1000000000 }
+        ensures ok { OnOk result ((c : Course P P.State P.Shared) → Stands self.old c → Makes self.new marks.old marks.new (part P.functions c.turn c.state)) }
+        ensures err { OnErr result ((c : Course P P.State P.Shared) → Stands self.old c → IsCut marks.old marks.new (part P.functions c.turn c.state).marks) }
         ensures going { OnOk result (IsGoing self.new) }
         ensures ranks { OnOk result (IsRoofed self.new) }
         ensures less { OnOk result ((to : ℕ) → stops to self.old ≡ false → left to self.new < left to self.old) }
-        ensures within { (to : ℕ) → stops to self.old ≡ false → self.old.steps ≤ to → self.new.steps ≤ to }
+        ensures within { (to : ℕ) → stops to self.old ≡ false → self.old.turn.steps ≤ to → self.new.turn.steps ≤ to }
     {
         match self.outcome {
             Outcome::Running => {}
@@ -245,7 +240,7 @@ impl<P: Program> Schedule<P> {
     // Whether a run to this number of steps goes no further: a next step would begin, or an outcome ended it.
     fn stops(&self, to: u64) -> bool
         ensures stops { result ≡ stops to self.now }
-        ensures run { (s : State P P.State P.Shared) → Stands self.now s → result ≡ run_stops to s }
+        ensures run { (c : Course P P.State P.Shared) → Stands self.now c → result ≡ run_stops to c }
     {
         match self.outcome {
             Outcome::Running => {}
@@ -258,12 +253,12 @@ impl<P: Program> Schedule<P> {
     /// may only be dropped.
     pub fn advance(&mut self, to: u64, marks: &mut Marks) -> Result<(), OutOfMemory>
         requires keeps { Keeps self.old }
-        requires more { self.old.steps ≤ to }
+        requires more { self.old.turn.steps ≤ to }
         requires few { to ≤ 1000000000 }
         ensures goes_on { OnOk result ((g : Given P) (i : ℕ) → StandsAt P.functions g i self.old → GoesOn P.functions g to i self.new marks.old marks.new) }
         ensures breaks_off { OnErr result ((g : Given P) (i : ℕ) → StandsAt P.functions g i self.old → BreaksOff P.functions g to i marks.old marks.new) }
         ensures keeps { OnOk result (Keeps self.new) }
-        ensures within { self.new.steps ≤ to }
+        ensures within { self.new.turn.steps ≤ to }
         ensures stops { OnOk result (stops to self.new ≡ true) }
     {
         while !self.stops(to) {

@@ -8,12 +8,12 @@ use Rattle.pth_sched.proofs.passes.pass.Goals as goal
 pub wake_all-requires-clause-wait : goal.wake_all-requires-clause-wait
 wake_all-requires-clause-wait g c =
     let listed = ap (map number) c.as_slice.ensures.value ∙ c.in_ok-list_to_wake.ensures c.requires.state.state c.requires.state.stands in
-    subst (WaitOnce c.args.w.now) (sym listed) (to_wake_once c.args.w.now c.requires.whole.sound c.requires.state.state c.requires.state.stands)
+    subst (WaitOnce c.args.w.now) (sym listed) (to_wake_once c.args.w.now c.requires.whole.sound g.P.Program.functions c.requires.state.state c.requires.state.stands)
 
 pub returns-clause-ok : goal.returns-clause-ok
 returns-clause-ok g c =
-    on_ok_weaker c.wake_all.result (λ leads s st. pass_leads c.wake_all.new.w s _ _ _ (ap (map number) c.as_slice.ensures.value ∙ c.in_ok-list_to_wake.ensures s st) (leads s st)) c.wake_all.ensures.ok
+    on_ok_weaker c.wake_all.result (λ leads s st. pass_leads g.P.Program.functions c.wake_all.new.w s _ _ _ (ap (map number) c.as_slice.ensures.value ∙ c.in_ok-list_to_wake.ensures s st) (leads s st)) c.wake_all.ensures.ok
 
 pub returns-clause-err : goal.returns-clause-err
 returns-clause-err g c =
-    on_err_weaker c.wake_all.result (λ cut s st. pass_cut s _ _ _ (ap (map number) c.as_slice.ensures.value ∙ c.in_ok-list_to_wake.ensures s st) (cut s st)) c.wake_all.ensures.err
+    on_err_weaker c.wake_all.result (λ cut s st. pass_cut g.P.Program.functions s _ _ _ (ap (map number) c.as_slice.ensures.value ∙ c.in_ok-list_to_wake.ensures s st) (cut s st)) c.wake_all.ensures.err

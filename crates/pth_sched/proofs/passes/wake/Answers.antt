@@ -1,7 +1,7 @@
 use Rattle.std.proofs.Common.{false, rules, SFits, w64, to_z-of_z}
 use Rattle.std.proofs.lemmas.Result.{on_ok_weaker}
 use Rattle.pth_queue.specs.declared.queue.Queue.TheVariants as queue
-use Rattle.pth_world.specs.Standing.{Waiting}
+use Rattle.pth_world.specs.Whole.{Waiting}
 use Rattle.pth_sched.proofs.Waking.{woken_leads, waits_still}
 use Rattle.pth_sched.proofs.passes.wake.Goals as goal
 
@@ -11,9 +11,9 @@ make_ready-requires-clause-before g c = record { queue = queue.Waiting; before =
 pub returns-clause-ok : goal.returns-clause-ok
 returns-clause-ok g c =
     let fits : SFits w64 c.woken_rank-rank.result = search rules in
-    let ready = simp to_z-of_z at c.make_ready.ensures.stands in
+    let ready = simp to_z-of_z at c.make_ready.ensures.shows in
     let told = simp to_z-of_z at c.push.ensures.ok in
-    on_ok_weaker c.push.result (λ tells s st. woken_leads c.make_ready.new.self s c.args.t.0 c.woken_rank-rank.result _ _ (c.woken_rank-rank.ensures.rank s st) (ready s false st) tells) told
+    on_ok_weaker c.push.result (λ tells s st. woken_leads c.args.w.now c.make_ready.new.self s c.args.t.0 c.woken_rank-rank.result _ _ st (c.woken_rank-rank.ensures.rank s.control st.control) (ready s.control false st.control) tells) told
 
 pub returns-clause-others : goal.returns-clause-others
 returns-clause-others g c = λ u apart waits. waits_still c.args.w.now c.make_ready.new.self c.args.t.0 u _ c.requires.whole.sound c.requires.waits.0 c.make_ready.ensures.threads c.make_ready.ensures.queues apart waits

@@ -45,7 +45,7 @@ loop-t-preserved g c =
       whole = c.wake.ensures.whole;
       scheduler = scheduler_then _ _ _ c.loop-t.invariant.scheduler c.wake.ensures.scheduler;
       made = c.wake.ensures.made ∙ c.loop-t.invariant.made;
-      ranks = ranks_then _ _ _ c.loop-t.invariant.ranks c.wake.ensures.ranks;
+      ranks = ranks_then 0 0 _ _ _ c.loop-t.invariant.ranks c.wake.ensures.ranks;
     }
 
 pub returns-clause-ok : goal.returns-clause-ok

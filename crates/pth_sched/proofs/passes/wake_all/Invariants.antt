@@ -2,7 +2,9 @@ use Rattle.std.proofs.Common.{◌≡◌, map, drop}
 use Rattle.pth_threads.specs.Threads.{number}
 use Rattle.pth_model.specs.State.{State}
 use Rattle.pth_model.specs.Pass.{all_woken}
-use Rattle.pth_world.specs.Standing.{StandsFor, Whole, KeepsScheduler}
+use Rattle.pth_world.specs.Shows.{StandsFor}
+use Rattle.pth_world.specs.Touches.{KeepsScheduler}
+use Rattle.pth_world.specs.Whole.{Whole}
 use Rattle.pth_world.specs.Ranks.{KeepsRanks}
 use Rattle.pth_sched.specs.Passing.{WaitOnce}
 use Rattle.pth_sched.proofs.Waking.{Wakes}
@@ -14,6 +16,6 @@ invariant-loop-t g l = record {
   once : WaitOnce l.w (map number (drop l.t-index l.list));
   whole : Whole l.w;
   scheduler : KeepsScheduler l.fn.w l.w;
-  made : l.w.threads.made ≡ l.fn.w.threads.made;
-  ranks : KeepsRanks l.fn.w l.w;
+  made : l.w.threads.records.made ≡ l.fn.w.threads.records.made;
+  ranks : KeepsRanks 0 l.fn.w.threads l.w.threads;
 }

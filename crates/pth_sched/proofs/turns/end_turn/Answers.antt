@@ -5,6 +5,6 @@ use Rattle.pth_sched.proofs.turns.end_turn.Goals as goal
 
 pub returns-clause-ranks : goal.returns-clause-ranks
 returns-clause-ranks g c = λ roof low under.
-    let raised = subst (λ w. IsUnder (roof + 1) w.queues.ready) (sym c.raise_ready.ensures.same) (under-increase roof c.args.w.now.queues.ready under) in
+    let raised = subst (λ w. IsUnder (roof + 1) w.threads.queues.ready) (sym c.raise_ready.ensures.same) (under-increase roof c.args.w.now.threads.queues.ready under) in
     let placed = c.place.ensures.ranks.under (roof + 1) (omega arith) raised in
-    subst (λ w. IsUnder (roof + 1) w.queues.ready) (sym c.tick.ensures.same) placed
+    subst (λ w. IsUnder (roof + 1) w.threads.queues.ready) (sym c.tick.ensures.same) placed

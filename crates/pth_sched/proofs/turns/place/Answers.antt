@@ -1,35 +1,35 @@
 use Rattle.std.proofs.Common.{◌≡◌, true, false, None, IsSome, is_some, ap, rules}
-use Rattle.pth_model.specs.Changes.{held_of}
+use Rattle.pth_model.specs.Changes.{blocked_of}
 use Rattle.pth_sched.proofs.Showing.{placed_none, placed_waiting, placed_back}
 use Rattle.pth_sched.proofs.turns.place.Goals as goal
 
-pub returns-then-is_none-clause-stands : goal.returns-then-is_none-clause-stands
-returns-then-is_none-clause-stands g c =
-    let nobody : c.args.w.now.running ≡ None = search rules in
-    λ s st. placed_none c.args.w.now s c.args.t.0 nobody st
+pub returns-then-is_none-clause-shows : goal.returns-then-is_none-clause-shows
+returns-then-is_none-clause-shows g c =
+    let nobody : c.args.w.now.scheduler.running ≡ None = search rules in
+    λ k st. placed_none c.args.w.now k c.args.t.0 nobody st
 
-pub returns-then-is_some-clause-stands : goal.returns-then-is_some-clause-stands
-returns-then-is_some-clause-stands g c =
-    let runs : IsSome c.args.w.now.running = search rules in
-    λ s st.
-    let held : is_some (held_of s c.args.t.0) ≡ true = (rw (← c.held.ensures s st) (search rules)) in
-    placed_waiting c.args.w.now _ s c.args.t.0 runs held st (c.make_waiting.ensures.stands s st)
+pub returns-then-is_some-clause-shows : goal.returns-then-is_some-clause-shows
+returns-then-is_some-clause-shows g c =
+    let runs : IsSome c.args.w.now.scheduler.running = search rules in
+    λ k st.
+    let blocked : is_some (blocked_of k c.args.t.0) ≡ true = (rw (← c.blocked.ensures.blocked k st) (search rules)) in
+    placed_waiting c.args.w.now _ k c.args.t.0 runs blocked st (c.make_waiting.ensures.shows k st)
 
-pub returns-else-is_some-clause-stands : goal.returns-else-is_some-clause-stands
-returns-else-is_some-clause-stands g c =
-    let runs : IsSome c.args.w.now.running = search rules in
-    λ s st.
-    let held : is_some (held_of s c.args.t.0) ≡ false = (rw (← c.held.ensures s st) (search rules)) in
-    placed_back c.args.w.now _ s c.args.t.0 runs held st (c.put_back.ensures.stands s st)
+pub returns-else-is_some-clause-shows : goal.returns-else-is_some-clause-shows
+returns-else-is_some-clause-shows g c =
+    let runs : IsSome c.args.w.now.scheduler.running = search rules in
+    λ k st.
+    let blocked : is_some (blocked_of k c.args.t.0) ≡ false = (rw (← c.blocked.ensures.blocked k st) (search rules)) in
+    placed_back c.args.w.now _ k c.args.t.0 runs blocked st (c.put_back.ensures.shows k st)
 
 pub returns-then-is_some-clause-whole : goal.returns-then-is_some-clause-whole
 returns-then-is_some-clause-whole g c = c.make_waiting.ensures.whole
 
 pub returns-then-is_some-clause-running : goal.returns-then-is_some-clause-running
-returns-then-is_some-clause-running g c = ap (λ w. w.running) c.make_waiting.ensures.same
+returns-then-is_some-clause-running g c = ap (λ w. w.scheduler.running) c.make_waiting.ensures.same
 
-pub returns-then-is_some-clause-named : goal.returns-then-is_some-clause-named
-returns-then-is_some-clause-named g c = ap (λ w. w.named) c.make_waiting.ensures.same
+pub returns-then-is_some-clause-preferred : goal.returns-then-is_some-clause-preferred
+returns-then-is_some-clause-preferred g c = ap (λ w. w.scheduler.preferred) c.make_waiting.ensures.same
 
 pub returns-then-is_some-clause-made : goal.returns-then-is_some-clause-made
 returns-then-is_some-clause-made g c = c.make_waiting.ensures.threads.made
@@ -41,10 +41,10 @@ pub returns-else-is_some-clause-whole : goal.returns-else-is_some-clause-whole
 returns-else-is_some-clause-whole g c = c.put_back.ensures.whole
 
 pub returns-else-is_some-clause-running : goal.returns-else-is_some-clause-running
-returns-else-is_some-clause-running g c = ap (λ w. w.running) c.put_back.ensures.same
+returns-else-is_some-clause-running g c = ap (λ w. w.scheduler.running) c.put_back.ensures.same
 
-pub returns-else-is_some-clause-named : goal.returns-else-is_some-clause-named
-returns-else-is_some-clause-named g c = ap (λ w. w.named) c.put_back.ensures.same
+pub returns-else-is_some-clause-preferred : goal.returns-else-is_some-clause-preferred
+returns-else-is_some-clause-preferred g c = ap (λ w. w.scheduler.preferred) c.put_back.ensures.same
 
 pub returns-else-is_some-clause-made : goal.returns-else-is_some-clause-made
 returns-else-is_some-clause-made g c = c.put_back.ensures.threads.made

@@ -1,13 +1,13 @@
 use Rattle.std.proofs.Common.{◌≡◌, ◌∙◌, [], refl, rules, arith, SFits, w64, to_z-of_z}
 use Rattle.pth_queue.specs.declared.queue.Queue.TheVariants as queue
-use Rattle.pth_world.specs.Standing.{Newly}
+use Rattle.pth_world.specs.Whole.{Newly}
 use Rattle.pth_sched.proofs.Keeping.{new_shorter, scheduler_first, scheduler_then}
-use Rattle.pth_sched.proofs.Readying.{rank_room, room_next, rises_none, rises_next, rises_all, some_ready, new_stands, comes_next, comes_end}
+use Rattle.pth_sched.proofs.Readying.{rank_room, room_next, rises_none, rises_next, rises_all, some_ready, new_shows, comes_next, comes_end}
 use Rattle.pth_sched.proofs.turns.ready_new.Goals as goal
 
 pub loop-t-init : goal.loop-t-init
 loop-t-init g c = record {
-  comes = λ s st. record { state = s; stands = st; same = refl };
+  comes = λ k st. record { control = k; shows = st; same = refl };
   whole = c.requires.whole;
   scheduler = scheduler_first _;
   made = refl;
@@ -24,7 +24,7 @@ make_ready-requires-clause-rank g c =
     let fits : SFits w64 c.new_rank-rank.result = search rules in
     rw to_z-of_z record {
       low = c.new_rank-rank.ensures.low;
-      high = rank_room c.loop-t.w c.in-Some.t.0 c.new_rank-rank.result c.in-Some.ensures.known c.in-Some.ensures.stands c.loop-t.invariant.room c.new_rank-rank.ensures.under;
+      high = rank_room c.loop-t.w.threads c.in-Some.t.0 c.new_rank-rank.result c.in-Some.ensures.known c.in-Some.ensures.stands c.loop-t.invariant.room c.new_rank-rank.ensures.under;
     }
 
 pub loop-t-preserved : goal.loop-t-preserved
@@ -34,23 +34,23 @@ loop-t-preserved g c =
     let stands = c.in-Some.ensures.stands in
     let before = c.loop-t.invariant in
     let queues = simp to_z-of_z at c.make_ready.ensures.queues in
-    let made = simp to_z-of_z at c.make_ready.ensures.stands in
+    let made = simp to_z-of_z at c.make_ready.ensures.shows in
     record {
-      comes = λ s st. comes_next c.loop-t.w c.make_ready.new.self _ c.in-Some.t.0 before.whole.sound c.in-Some.ensures.last (λ x k. new_stands c.make_ready.new.self x _ _ (c.new_rank-rank.ensures.rank x k) (λ top. made x top k)) (before.comes s st);
+      comes = λ s st. comes_next c.loop-t.w c.make_ready.new.self _ c.in-Some.t.0 before.whole.sound c.in-Some.ensures.last (λ x k. new_shows c.make_ready.new.self x _ _ (c.new_rank-rank.ensures.rank x k) (λ top. made x top k)) (before.comes s st);
       whole = c.make_ready.ensures.whole;
       scheduler = scheduler_then _ _ _ before.scheduler c.make_ready.ensures.scheduler;
       made = c.make_ready.ensures.threads.made ∙ before.made;
-      room = room_next c.loop-t.w c.make_ready.new.self c.in-Some.t.0 _ known stands queues before.room c.new_rank-rank.ensures.under;
-      rises = λ roof low under. rises_next _ c.loop-t.w c.make_ready.new.self c.in-Some.t.0 _ roof known stands queues low c.new_rank-rank.ensures.under (before.rises roof low under);
-      some = λ h. (let n = some_ready c.loop-t.w c.make_ready.new.self c.in-Some.t.0 _ known stands queues in omega arith);
+      room = room_next c.loop-t.w.threads c.make_ready.new.self.threads c.in-Some.t.0 _ known stands queues before.room c.new_rank-rank.ensures.under;
+      rises = λ roof low under. rises_next _ c.loop-t.w.threads c.make_ready.new.self.threads c.in-Some.t.0 _ roof known stands queues low c.new_rank-rank.ensures.under (before.rises roof low under);
+      some = λ h. (let n = some_ready c.loop-t.w.threads c.make_ready.new.self.threads c.in-Some.t.0 _ known stands queues in omega arith);
     }
 
 pub loop-t-smaller : goal.loop-t-smaller
-loop-t-smaller g c = new_shorter c.loop-t.w c.make_ready.new.self c.in-Some.t.0 _ c.in-Some.ensures.known c.in-Some.ensures.stands c.make_ready.ensures.queues
+loop-t-smaller g c = new_shorter c.loop-t.w.threads c.make_ready.new.self.threads c.in-Some.t.0 _ c.in-Some.ensures.known c.in-Some.ensures.stands c.make_ready.ensures.queues
 
-pub returns-clause-stands : goal.returns-clause-stands
-returns-clause-stands g c =
-    let none : c.loop-t.w.queues.new ≡ [] = search rules in
+pub returns-clause-shows : goal.returns-clause-shows
+returns-clause-shows g c =
+    let none : c.loop-t.w.threads.queues.new ≡ [] = search rules in
     λ s st. comes_end _ _ none (c.loop-t.invariant.comes s st)
 
 pub returns-clause-ranks : goal.returns-clause-ranks

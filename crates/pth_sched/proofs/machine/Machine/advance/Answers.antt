@@ -5,7 +5,7 @@ use Rattle.pth_sched.proofs.machine.Machine.advance.Goals as goal
 
 pub returns-in_default : goal.returns-in_default
 returns-in_default g c =
-    let ended : c.args.self.now.outcome ≢ Running = search rules in
+    let ended : c.args.self.now.turn.outcome ≢ Running = search rules in
     record {
       goes_on = λ memory x i st. stays g.P.Program.functions x _ i c.args.self.now _ ended st;
       breaks_off = λ none x i st. absurd (st.memory (sym c.outcome.ensures ∙ none));

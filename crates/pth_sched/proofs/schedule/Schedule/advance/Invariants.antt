@@ -9,7 +9,7 @@ abbrev pub invariant-loop-self : goal.invariant-loop-self
 invariant-loop-self g l = record {
   reaches : (x : Given g.row.P.Denot) (i : ℕ) → StandsAt g.P.Program.functions x i l.fn.self → Reaches g.P.Program.functions x l.to i l.self l.fn.marks l.marks;
   keeps : Keeps l.self;
-  within : l.self.steps ≤ l.to;
+  within : l.self.turn.steps ≤ l.to;
 }
 
 abbrev pub decreases-loop-self : goal.decreases-loop-self

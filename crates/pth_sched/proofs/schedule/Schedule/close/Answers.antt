@@ -1,32 +1,33 @@
-use Rattle.std.proofs.Common.{◌≡◌, ◌∙◌, Some, refl, sym, subst}
+use Rattle.std.proofs.Common.{◌≡◌, ◌∙◌, Some, ap, refl, sym, subst}
 use Rattle.std.proofs.lemmas.Result.{on_ok_weaker, on_err_weaker}
+use Rattle.pth_model.specs.State.{Scheduler}
 use Rattle.pth_sched.specs.MachineOf.{IsRoofed}
 use Rattle.pth_sched.specs.Running.{Stands, IsShown}
 use Rattle.pth_sched.proofs.Keeping.{on_ok_three}
-use Rattle.pth_sched.proofs.Parts.{close_makes, closed_marks}
+use Rattle.pth_sched.proofs.Parts.{close_makes, closes_marks}
 use Rattle.pth_sched.proofs.Roofs.{close_roofed}
 use Rattle.pth_sched.proofs.schedule.Schedule.close.Goals as goal
 
 pub pass-requires-clause-state : goal.pass-requires-clause-state
 pass-requires-clause-state g c =
     let shown = subst (λ m. IsShown m) (sym c.self.view_is) c.requires.shown in
-    record { state = _; stands = c.end_turn.ensures.stands shown.state shown.shown.world }
+    record { state = _; stands = record { control = c.end_turn.ensures.shows shown.course.state.control shown.shown.world.control; resources = shown.shown.world.resources } }
 
 pub returns-clause-ok : goal.returns-clause-ok
 returns-clause-ok g c =
-    on_ok_weaker c.pass.result (λ leads s st.
-    let inside = subst (λ m. Stands m s) (sym c.self.view_is) st in
-    close_makes _ s inside c.args.t.0 c.pass.new.w _ _ (leads _ (c.end_turn.ensures.stands s inside.world))) c.pass.ensures.ok
+    on_ok_weaker c.pass.result (λ leads x st.
+    let inside = subst (λ m. Stands m x) (sym c.self.view_is) st in
+    close_makes _ x inside g.P.Program.functions c.args.t.0 c.pass.new.w _ _ (leads _ (record { control = c.end_turn.ensures.shows x.state.control inside.world.control; resources = inside.world.resources }))) c.pass.ensures.ok
 
 pub returns-clause-err : goal.returns-clause-err
 returns-clause-err g c =
-    on_err_weaker c.pass.result (λ cut s st.
-    let inside = subst (λ m. Stands m s) (sym c.self.view_is) st in
-    rw (closed_marks s c.args.t.0) (cut _ (c.end_turn.ensures.stands s inside.world))) c.pass.ensures.err
+    on_err_weaker c.pass.result (λ cut x st.
+    let inside = subst (λ m. Stands m x) (sym c.self.view_is) st in
+    rw (closes_marks g.P.Program.functions x.turn c.args.t.0 x.state) (cut _ (record { control = c.end_turn.ensures.shows x.state.control inside.world.control; resources = inside.world.resources }))) c.pass.ensures.err
 
 pub returns-clause-ranks : goal.returns-clause-ranks
 returns-clause-ranks g c =
     let inside = subst (λ m. IsRoofed m) (sym c.self.view_is) c.requires.ranks in
-    let over = subst (λ m. m.gave ≡ Some c.args.t.0) (sym c.self.view_is) c.requires.over in
+    let over = subst (λ m. m.turn.gave ≡ Some c.args.t.0) (sym c.self.view_is) c.requires.over in
     on_ok_three c.pass.result c.pass.ensures.ranks c.pass.ensures.scheduler c.pass.ensures.made (λ ranks scheduler made.
-    close_roofed _ _ c.args.t.0 c.end_turn.new.w inside over refl (scheduler.running ∙ c.end_turn.ensures.running) c.end_turn.ensures.ranks c.end_turn.ensures.fresh c.end_turn.ensures.made ranks made refl)
+    close_roofed _ _ c.args.t.0 c.end_turn.new.w inside over refl (ap (λ (x : Scheduler). x.running) scheduler.scheduler ∙ c.end_turn.ensures.running) c.end_turn.ensures.ranks c.end_turn.ensures.fresh ranks refl refl)

@@ -12,9 +12,9 @@ true_false h = cc
 
 pub returns-in_default : goal.returns-in_default
 returns-in_default g c =
-    let ended : c.args.self.now.outcome ≢ Running = search rules in
+    let ended : c.args.self.now.turn.outcome ≢ Running = search rules in
     record {
-      ok = λ s st. makes_as _ _ _ (part_halt g.P.Program.functions _ s st ended) _ _ (still_makes _ s st _);
+      ok = λ x st. makes_as _ _ _ (part_halt g.P.Program.functions _ x st ended) _ _ (still_makes _ x st _);
       err = tt;
       going = c.requires.keeps.going;
       ranks = c.requires.keeps.ranks;
@@ -24,30 +24,30 @@ returns-in_default g c =
 
 pub returns-in-Some-clause-ok : goal.returns-in-Some-clause-ok
 returns-in-Some-clause-ok g c =
-    on_ok_weaker c.close.result (λ makes s st. makes_as _ _ _ (part_close g.P.Program.functions _ s st (search rules) _ (search rules)) _ _ (makes s st)) c.close.ensures.ok
+    on_ok_weaker c.close.result (λ makes x st. makes_as _ _ _ (part_close g.P.Program.functions _ x st (search rules) _ (search rules)) _ _ (makes x st)) c.close.ensures.ok
 
 pub returns-in-Some-clause-err : goal.returns-in-Some-clause-err
 returns-in-Some-clause-err g c =
-    on_err_weaker c.close.result (λ cut s st. cut_as c.close.new.self _ _ (part_close g.P.Program.functions _ s st (search rules) _ (search rules)) _ _ (cut s st)) c.close.ensures.err
+    on_err_weaker c.close.result (λ cut x st. cut_as c.close.new.self _ _ (part_close g.P.Program.functions _ x st (search rules) _ (search rules)) _ _ (cut x st)) c.close.ensures.err
 
 pub returns-in-Some-running-clause-ok : goal.returns-in-Some-running-clause-ok
 returns-in-Some-running-clause-ok g c =
-    on_ok_weaker c.step.result (λ makes s st. makes_as _ _ _ (part_step g.P.Program.functions _ s st (search rules) _ (search rules) (search rules)) _ _ (makes s st)) c.step.ensures.ok
+    on_ok_weaker c.step.result (λ makes x st. makes_as _ _ _ (part_step g.P.Program.functions _ x st (search rules) _ (search rules) (search rules)) _ _ (makes x st)) c.step.ensures.ok
 
 pub returns-in-Some-running-clause-err : goal.returns-in-Some-running-clause-err
 returns-in-Some-running-clause-err g c =
-    on_err_weaker c.step.result (λ cut s st. cut_as c.step.new.self _ _ (part_step g.P.Program.functions _ s st (search rules) _ (search rules) (search rules)) _ _ (cut s st)) c.step.ensures.err
+    on_err_weaker c.step.result (λ cut x st. cut_as c.step.new.self _ _ (part_step g.P.Program.functions _ x st (search rules) _ (search rules) (search rules)) _ _ (cut x st)) c.step.ensures.err
 
 pub returns-then-is_idle-clause-ok : goal.returns-then-is_idle-clause-ok
-returns-then-is_idle-clause-ok g c = λ s st.
-    let inside = subst (λ m. Stands m s) (sym c.self.view_is) st in
-    let idle : is_idle s ≡ true = sym (c.is_idle.ensures.idle s st) ∙ search rules in
-    makes_as _ _ _ (part_move g.P.Program.functions _ s st (search rules) (search rules) (search rules) idle) _ _ (stall_makes _ s inside _)
+returns-then-is_idle-clause-ok g c = λ x st.
+    let inside = subst (λ m. Stands m x) (sym c.self.view_is) st in
+    let idle : is_idle x.state.control ≡ true = sym (c.is_idle.ensures.idle x.state.control st.world.control) ∙ search rules in
+    makes_as _ _ _ (part_move g.P.Program.functions _ x st (search rules) (search rules) (search rules) idle) _ _ (stall_makes _ x inside _)
 
 pub returns-clause-ok : goal.returns-clause-ok
 returns-clause-ok g c =
-    on_ok_weaker c.take.result (λ makes s st. makes_as _ _ _ (part_take g.P.Program.functions _ s st (search rules) (search rules) (search rules) (sym (c.is_idle.ensures.idle s st) ∙ search rules)) _ _ (makes s st)) c.take.ensures.ok
+    on_ok_weaker c.take.result (λ makes x st. makes_as _ _ _ (part_take g.P.Program.functions _ x st (search rules) (search rules) (search rules) (sym (c.is_idle.ensures.idle x.state.control st.world.control) ∙ search rules)) _ _ (makes x st)) c.take.ensures.ok
 
 pub returns-clause-err : goal.returns-clause-err
 returns-clause-err g c =
-    on_err_weaker c.take.result (λ cut s st. cut_as c.take.new.self _ _ (part_take g.P.Program.functions _ s st (search rules) (search rules) (search rules) (sym (c.is_idle.ensures.idle s st) ∙ search rules)) _ _ (cut s st)) c.take.ensures.err
+    on_err_weaker c.take.result (λ cut x st. cut_as c.take.new.self _ _ (part_take g.P.Program.functions _ x st (search rules) (search rules) (search rules) (sym (c.is_idle.ensures.idle x.state.control st.world.control) ∙ search rules)) _ _ (cut x st)) c.take.ensures.err

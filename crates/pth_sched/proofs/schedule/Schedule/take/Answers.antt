@@ -10,14 +10,14 @@ pub returns-clause-ok : goal.returns-clause-ok
 returns-clause-ok g c =
     let fits : SFits w64 c.ready_rank-rank.result = search rules in
     let told = simp to_z-of_z at c.push.ensures.ok in
-    on_ok_weaker c.push.result (λ tells s st.
-    let inside = subst (λ m. Stands m s) (sym c.self.view_is) st in
-    let ready = c.ready_new.ensures.stands s inside.world in
-    take_makes _ s inside c.next-t.result.0 c.ready_rank-rank.result c.ready_new.new.w c.dispatch.new.self _ _ _ ready (c.next-t.ensures.next _ ready) (c.ready_rank-rank.ensures _ ready) (c.time.ensures ∙ ap (λ w. w.time) c.dispatch.ensures.same) (c.dispatch.ensures.stands _ ready) tells) told
+    on_ok_weaker c.push.result (λ tells x st.
+    let inside = subst (λ m. Stands m x) (sym c.self.view_is) st in
+    let ready = c.ready_new.ensures.shows x.state.control inside.world.control in
+    take_makes _ x inside c.next-t.result.0 c.ready_rank-rank.result c.ready_new.new.w c.dispatch.new.self _ _ _ ready (c.next-t.ensures.next _ ready) (c.ready_rank-rank.ensures _ ready) (c.time.ensures ∙ ap (λ w. w.scheduler.now) c.dispatch.ensures.same) (c.dispatch.ensures.shows _ ready) tells) told
 
 pub returns-clause-ranks : goal.returns-clause-ranks
 returns-clause-ranks g c =
     let inside = subst (λ m. IsRoofed m) (sym c.self.view_is) c.requires.ranks in
-    let nobody = subst (λ m. m.world.running ≡ None) (sym c.self.view_is) c.requires.nobody in
-    let gave = subst (λ m. m.gave ≡ None) (sym c.self.view_is) c.requires.over in
-    on_ok_weaker c.push.result (λ tells. take_roofed _ _ c.ready_new.new.w inside gave nobody (c.ready_new.ensures.ranks inside.roof inside.low inside.under) c.ready_new.ensures.none c.ready_new.ensures.made c.dispatch.ensures.ranks c.dispatch.ensures.threads.made refl) c.push.ensures.ok
+    let nobody = subst (λ m. m.world.scheduler.running ≡ None) (sym c.self.view_is) c.requires.nobody in
+    let gave = subst (λ m. m.turn.gave ≡ None) (sym c.self.view_is) c.requires.over in
+    on_ok_weaker c.push.result (λ tells. take_roofed _ _ c.ready_new.new.w inside gave nobody (c.ready_new.ensures.ranks inside.roof inside.low inside.under) c.ready_new.ensures.none c.dispatch.ensures.ranks refl refl) c.push.ensures.ok

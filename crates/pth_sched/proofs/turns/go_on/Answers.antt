@@ -1,0 +1,20 @@
+use Rattle.std.proofs.Common.{◌≡◌, true, is_some, rules}
+use Rattle.std.proofs.lemmas.Result.{IfOk-weaker, on_ok_weaker, on_err_weaker}
+use Rattle.pth_model.specs.Changes.{blocked_of}
+use Rattle.pth_sched.proofs.Parts.{steps_again}
+use Rattle.pth_sched.proofs.turns.go_on.Goals as goal
+
+pub returns-then-is_some-clause-next : goal.returns-then-is_some-clause-next
+returns-then-is_some-clause-next g c = IfOk-weaker c.resume.result _ _ (λ n next s st.
+    let blocked : is_some (blocked_of s.control c.args.t.0) ≡ true = rw (← c.blocked.ensures.blocked s.control st.control) (search rules) in
+    rw (steps_again g.P.Program.functions c.args.t.0 s blocked) (next s st)) c.resume.ensures.next
+
+pub returns-then-is_some-clause-ok : goal.returns-then-is_some-clause-ok
+returns-then-is_some-clause-ok g c = on_ok_weaker c.resume.result (λ leads s st.
+    let blocked : is_some (blocked_of s.control c.args.t.0) ≡ true = rw (← c.blocked.ensures.blocked s.control st.control) (search rules) in
+    rw (steps_again g.P.Program.functions c.args.t.0 s blocked) (leads s st)) c.resume.ensures.ok
+
+pub returns-then-is_some-clause-err : goal.returns-then-is_some-clause-err
+returns-then-is_some-clause-err g c = on_err_weaker c.resume.result (λ cut s st.
+    let blocked : is_some (blocked_of s.control c.args.t.0) ≡ true = rw (← c.blocked.ensures.blocked s.control st.control) (search rules) in
+    rw (steps_again g.P.Program.functions c.args.t.0 s blocked) (cut s st)) c.resume.ensures.err
