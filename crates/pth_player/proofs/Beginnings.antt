@@ -8,7 +8,7 @@ use Rattle.pth_model.specs.Part.{part}
 use Rattle.pth_model.specs.Run.{run, IsBetween}
 use Rattle.pth_model.proofs.Runs.{between-more, between-none}
 use Rattle.pth_print.specs.Lines.{mark_line}
-use Rattle.pth_model.specs.Told.{Told}
+use Rattle.pth_model.specs.Course.{Course}
 use Rattle.pth_words.specs.Words.{Asked}
 use Rattle.pth_player.specs.Transcript.{counts_line, ending_of, last_line, lines_of, shown_of, text_of}
 
@@ -27,8 +27,8 @@ in_parts true counts lines last = refl
 in_parts false counts lines last = refl
 
 -- the text is what is written of all marks, and what is written after them
-pub text_parts : {P S H : Type 0} (asked : Asked) (told : Told P S H) → text_of asked told ≡ shown_of asked told.marks ++ ending_of asked told.state
-text_parts asked told = in_parts asked.summary (counts_line told.state) (lines_of told.marks) (last_line asked.steps told.state)
+pub text_parts : {P S H : Type 0} (asked : Asked) (c : Course P S H) → text_of asked c ≡ shown_of asked c.marks ++ ending_of asked c
+text_parts asked c = in_parts asked.summary (counts_line c) (lines_of c.marks) (last_line asked.steps c)
 
 module _ {P S H : Type 0} (f : P → Functions S H) (g : Given P) where
   -- so many parts later
@@ -37,7 +37,7 @@ module _ {P S H : Type 0} (f : P → Functions S H) (g : Given P) where
   told_from i (suc k) =
       let e : i + suc k ≡ i + k + 1 = omega arith in
       let t = told_from i k in
-      (t.0 ++ (part f (run f g (i + k)).state).marks, subst (λ (n : ℕ). IsBetween f g i n (t.0 ++ (part f (run f g (i + k)).state).marks)) (sym e) (between-more f g i (i + k) t.0 t.1))
+      (t.0 ++ (part f (run f g (i + k)).turn (run f g (i + k)).state).marks, subst (λ (n : ℕ). IsBetween f g i n (t.0 ++ (part f (run f g (i + k)).turn (run f g (i + k)).state).marks)) (sym e) (between-more f g i (i + k) t.0 t.1))
 
   told_to : (i j : ℕ) → i ≤ j → (told : List Mark) × IsBetween f g i j told
   told_to i j le = let e : i + (j - i) ≡ j = omega arith in let t = told_from i (j - i) in (t.0, subst (λ (n : ℕ). IsBetween f g i n t.0) e t.1)
@@ -52,5 +52,5 @@ module _ {P S H : Type 0} (f : P → Functions S H) (g : Given P) where
   pub run_begins : (asked : Asked) (at j : ℕ) → at ≤ j → (rest : List ℕ) × (shown_of asked (run f g at).marks ++ rest ≡ text_of asked (run f g j))
   run_begins asked at j le =
       let told = told_to at j le in
-      let b = begins_by asked (run f g at).marks told.0 (run f g j).marks (ending_of asked (run f g j).state) told.1 in
+      let b = begins_by asked (run f g at).marks told.0 (run f g j).marks (ending_of asked (run f g j)) told.1 in
       (b.0, b.1 ∙ sym (text_parts asked (run f g j)))

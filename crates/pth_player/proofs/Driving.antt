@@ -10,7 +10,8 @@ use Rattle.pth_base.specs.declared.outcome.Outcome.{Outcome}
 use Rattle.pth_base.specs.declared.outcome.Outcome.TheVariants as outcomes
 use Rattle.pth_streams.specs.declared.sink.SinkErr.{SinkErr}
 use Rattle.pth_streams.specs.declared.sink.SinkErr.TheVariants as sink
-use Rattle.pth_model.specs.State.{State, Given, start}
+use Rattle.pth_model.specs.Course.{Course}
+use Rattle.pth_model.specs.State.{Given, Turn}
 use Rattle.pth_model.specs.Part.{Part, next_part, unless_ended}
 use Rattle.pth_model.specs.Run.{parts, run, stops, stops_by, GoesTo}
 use Rattle.pth_model.proofs.Runs.{stops-later}
@@ -45,21 +46,21 @@ ended_by to steps outcomes.Stalled p h = refl
 ended_by to steps outcomes.OutOfMemory p h = refl
 
 -- the run goes no further after an outcome that ends it
-ended_stops : {P S H : Type 0} (to : ℕ) (s : State P S H) → s.rest.scheduler.outcome ≢ outcomes.Running → stops to s ≡ true
+ended_stops : {P S H : Type 0} (to : ℕ) (c : Course P S H) → c.turn.outcome ≢ outcomes.Running → stops to c ≡ true
 unfolding stops next_part
-ended_stops to s h = ended_by to s.rest.scheduler.steps s.rest.scheduler.outcome _ h
+ended_stops to c h = ended_by to c.turn.steps c.turn.outcome _ h
 
 -- no step is made and nothing is told before the first part
-none_made : {P S H : Type 0} (f : P → Functions S H) (g : Given P) → (run f g 0).state.rest.scheduler.steps ≡ 0
-unfolding parts start
+none_made : {P S H : Type 0} (f : P → Functions S H) (g : Given P) → (run f g 0).turn.steps ≡ 0
+unfolding parts
 none_made f g = refl
 
 none_told : {P S H : Type 0} (f : P → Functions S H) (g : Given P) → (run f g 0).marks ≡ []
 unfolding parts
 none_told f g = refl
 
-no_steps_of : {P S H : Type 0} (f : P → Functions S H) (g : Given P) (m : MachineOf P S H) → StandsAt f g 0 m → m.steps ≡ 0
-no_steps_of f g m stands = sym stands.steps ∙ none_made f g
+no_steps_of : {P S H : Type 0} (f : P → Functions S H) (g : Given P) (m : MachineOf P S H) → StandsAt f g 0 m → m.turn.steps ≡ 0
+no_steps_of f g m stands = ap (λ (x : Turn). x.steps) (sym stands.turn) ∙ none_made f g
 
 within : (first made left n total size : ℕ) → first ≡ 0 → made + left ≡ first + total → n ≡ min left size → made + n ≤ total
 within first made left n total size none h most = omega arith
@@ -77,14 +78,14 @@ module _ {P S H : Type 0} (f : P → Functions S H) (g : Given P) (asked : Asked
   pub record Underway (m : MachineOf P S H) (old new : Option (List ℕ)) (pending : List Mark) : Type 0 where
     pub at : ℕ
     pub stands : StandsAt f g at m
-    pub going : (k : ℕ) → k < at → stops asked.steps (run f g k).state ≡ false
+    pub going : (k : ℕ) → k < at → stops asked.steps (run f g k) ≡ false
     pub done : List Mark
     pub written : Appends old new (shown_of asked done)
     pub all : (run f g at).marks ≡ done ++ pending
 
   -- and a run to so many steps stops there
   abbrev pub Stopped : ℕ → MachineOf P S H → Option (List ℕ) → Option (List ℕ) → List Mark → Type 0
-  Stopped to m old new pending = (u : Underway m old new pending) × (stops to (run f g u.at).state ≡ true)
+  Stopped to m old new pending = (u : Underway m old new pending) × (stops to (run f g u.at) ≡ true)
 
   none_shown : shown_of asked [] ≡ []
   none_shown = none_of_none asked.summary
@@ -126,15 +127,15 @@ module _ {P S H : Type 0} (f : P → Functions S H) (g : Given P) (asked : Asked
 
   module _ (m : MachineOf P S H) (a b : Option (List ℕ)) where
     -- the machine goes on, and what it tells is not yet written
-    goes_on : (n : ℕ) (k : MachineOf P S H) (clear marks : List Mark) → m.steps + n ≤ asked.steps → clear ≡ [] → (u : Underway m a b [])
-        → GoesOn f g (m.steps + n) u.at k clear marks → Stopped (m.steps + n) k a b marks
+    goes_on : (n : ℕ) (k : MachineOf P S H) (clear marks : List Mark) → m.turn.steps + n ≤ asked.steps → clear ≡ [] → (u : Underway m a b [])
+        → GoesOn f g (m.turn.steps + n) u.at k clear marks → Stopped (m.turn.steps + n) k a b marks
     goes_on n k clear marks le none u go = (
       record {
         at = go.part;
         stands = go.stands;
         going = λ i low. elim (cases_lt i u.at) [
           | inl early ↦ u.going i early
-          | inr late ↦ stops-later (m.steps + n) asked.steps (run f g i).state le (go.goes.first i (omega (arith, late)) low)
+          | inr late ↦ stops-later (m.turn.steps + n) asked.steps (run f g i) le (go.goes.first i (omega (arith, late)) low)
         ];
         done = u.done;
         written = u.written;
@@ -145,26 +146,26 @@ module _ {P S H : Type 0} (f : P → Functions S H) (g : Given P) (asked : Asked
     )
 
     -- after the next piece, whose marks are `seen` and not yet written
-    pub piece : (first k : MachineOf P S H) (left n size : ℕ) (clear marks seen : List Mark) → StandsAt f g 0 first → m.steps + left ≡ first.steps + asked.steps → n ≡ min left size
-        → clear ≡ [] → seen ≡ marks → (u : Underway m a b []) → GoesOn f g (m.steps + n) u.at k clear marks → Stopped (m.steps + n) k a b seen
+    pub piece : (first k : MachineOf P S H) (left n size : ℕ) (clear marks seen : List Mark) → StandsAt f g 0 first → m.turn.steps + left ≡ first.turn.steps + asked.steps → n ≡ min left size
+        → clear ≡ [] → seen ≡ marks → (u : Underway m a b []) → GoesOn f g (m.turn.steps + n) u.at k clear marks → Stopped (m.turn.steps + n) k a b seen
     piece first k left n size clear marks seen stands made most none is u go =
-        subst (Stopped (m.steps + n) k a b) (sym is) (goes_on n k clear marks (within first.steps m.steps left n asked.steps size (no_steps_of f g first stands) made most) none u go)
+        subst (Stopped (m.turn.steps + n) k a b) (sym is) (goes_on n k clear marks (within first.turn.steps m.turn.steps left n asked.steps size (no_steps_of f g first stands) made most) none u go)
 
     -- and where its lines were written
-    pub onward : (first k : MachineOf P S H) (left n size : ℕ) (clear marks seen : List Mark) (c : Option (List ℕ)) → StandsAt f g 0 first → m.steps + left ≡ first.steps + asked.steps
-        → n ≡ min left size → clear ≡ [] → seen ≡ marks → (u : Underway m a b []) → GoesOn f g (m.steps + n) u.at k clear marks → Appends b c (shown_of asked seen)
-        → Stopped (m.steps + n) k a c []
+    pub onward : (first k : MachineOf P S H) (left n size : ℕ) (clear marks seen : List Mark) (c : Option (List ℕ)) → StandsAt f g 0 first → m.turn.steps + left ≡ first.turn.steps + asked.steps
+        → n ≡ min left size → clear ≡ [] → seen ≡ marks → (u : Underway m a b []) → GoesOn f g (m.turn.steps + n) u.at k clear marks → Appends b c (shown_of asked seen)
+        → Stopped (m.turn.steps + n) k a c []
     onward first k left n size clear marks seen c stands made most none is u go w =
-        wrote k (m.steps + n) a b c seen w (piece first k left n size clear marks seen stands made most none is u go)
+        wrote k (m.turn.steps + n) a b c seen w (piece first k left n size clear marks seen stands made most none is u go)
 
     -- the run stops there for good
-    pub at_end : (first : MachineOf P S H) (before left n size : ℕ) (o : Outcome) (pending : List Mark) → StandsAt f g 0 first → before + left ≡ first.steps + asked.steps → n ≡ min left size
-        → o ≡ m.outcome → (left - n ≡ 0) ⊎ (o ≢ outcomes.Running) → Stopped (before + n) m a b pending → Stopped asked.steps m a b pending
+    pub at_end : (first : MachineOf P S H) (before left n size : ℕ) (o : Outcome) (pending : List Mark) → StandsAt f g 0 first → before + left ≡ first.turn.steps + asked.steps → n ≡ min left size
+        → o ≡ m.turn.outcome → (left - n ≡ 0) ⊎ (o ≢ outcomes.Running) → Stopped (before + n) m a b pending → Stopped asked.steps m a b pending
     at_end first before left n size o pending stands made most is over s = (
       s.0,
       elim over [
-        | inl none ↦ subst (λ (to : ℕ). stops to (run f g s.0.at).state ≡ true) (spent first.steps before left n asked.steps size (no_steps_of f g first stands) made most none) s.1
-        | inr halts ↦ ended_stops asked.steps (run f g s.0.at).state (λ e. halts (is ∙ sym s.0.stands.outcome ∙ e))
+        | inl none ↦ subst (λ (to : ℕ). stops to (run f g s.0.at) ≡ true) (spent first.turn.steps before left n asked.steps size (no_steps_of f g first stands) made most none) s.1
+        | inr halts ↦ ended_stops asked.steps (run f g s.0.at) (λ e. halts (is ∙ ap (λ (x : Turn). x.outcome) (sym s.0.stands.turn) ∙ e))
       ],
     )
 
@@ -211,10 +212,10 @@ module _ {P S H : Type 0} (f : P → Functions S H) (g : Given P) (asked : Asked
       cut_in_lines pending x r u stood w is e = subst (Drives f g asked a c i k) (sym (err_is r x is e)) (cut_in_lines_by pending x u stood w)
 
       -- at the end, where what is written last is that of the state
-      module _ (o : Outcome) (r : Result (Unit {0}) SinkErr) (s : Stopped asked.steps m a b []) (is : o ≡ m.outcome)
-          (writes : (t : State P S H) → Stands m t → WritesPiece b c j k (ending_of asked t) r) where
-        abbrev last : State P S H
-        last = (run f g s.0.at).state
+      module _ (o : Outcome) (r : Result (Unit {0}) SinkErr) (s : Stopped asked.steps m a b []) (is : o ≡ m.turn.outcome)
+          (writes : (t : Course P S H) → Stands m t → WritesPiece b c j k (ending_of asked t) r) where
+        abbrev last : Course P S H
+        last = (run f g s.0.at)
 
         abbrev out : Output
         out = told_output asked (run f g s.0.at)
@@ -225,8 +226,8 @@ module _ {P S H : Type 0} (f : P → Functions S H) (g : Given P) (asked : Asked
         out_is : IsRunOutput f g asked out
         out_is = (s.0.at, here, refl)
 
-        outcome_is : o ≡ last.rest.scheduler.outcome
-        outcome_is = is ∙ sym s.0.stands.outcome
+        outcome_is : o ≡ last.turn.outcome
+        outcome_is = is ∙ ap (λ (x : Turn). x.outcome) (sym s.0.stands.turn)
 
         text_is : shown_of asked s.0.done ++ ending_of asked last ≡ out.text
         text_is = ap (λ (l : List ℕ). l ++ ending_of asked last) (sym (append-nil (shown_of asked s.0.done)) ∙ ap (λ (l : List ℕ). shown_of asked s.0.done ++ l) (sym none_shown) ∙ lines_all [] s.0)
@@ -284,11 +285,11 @@ pub piece_of : (a b : Option (List ℕ)) (f g : ℕ) (text : List ℕ) (r : Resu
 piece_of a b f g text r {bytes} is all part counts = subst (λ (l : List ℕ). WritesPiece a b f g l r) is (piece_by a b f g bytes r all part counts)
 
 -- what was made at the end is what is to be written there
-pub ending_is : {P S H : Type 0} (asked : Asked) (m : MachineOf P S H) (s : State P S H) (o : Outcome) (seen threads : List Tid) (clear counts text bytes : List ℕ) → Stands m s → o ≡ m.outcome
-    → seen ≡ threads → ((t : State P S H) → Stands m t → map number threads ≡ live t) → clear ≡ [] → ((t : State P S H) → Stands m t → counts ≡ clear ++ counts_of asked t)
-    → text ≡ counts ++ end_line o asked.steps (map number seen) → bytes ≡ text → bytes ≡ ending_of asked s
-ending_is asked m s o seen threads clear counts text bytes stands is same all none adds ends whole =
-    let first : counts ≡ counts_of asked s = adds s stands ∙ ap (λ (l : List ℕ). l ++ counts_of asked s) none in
-    let last : end_line o asked.steps (map number seen) ≡ last_line asked.steps s =
-    ap₂ (λ (p : Outcome) (l : List ℕ). end_line p asked.steps l) (is ∙ sym stands.outcome) (ap (map number) same ∙ all s stands) in
+pub ending_is : {P S H : Type 0} (asked : Asked) (m : MachineOf P S H) (c : Course P S H) (o : Outcome) (seen threads : List Tid) (clear counts text bytes : List ℕ) → Stands m c → o ≡ m.turn.outcome
+    → seen ≡ threads → ((t : Course P S H) → Stands m t → map number threads ≡ live t.state) → clear ≡ [] → ((t : Course P S H) → Stands m t → counts ≡ clear ++ counts_of asked t)
+    → text ≡ counts ++ end_line o asked.steps (map number seen) → bytes ≡ text → bytes ≡ ending_of asked c
+ending_is asked m c o seen threads clear counts text bytes stands is same all none adds ends whole =
+    let first : counts ≡ counts_of asked c = adds c stands ∙ ap (λ (l : List ℕ). l ++ counts_of asked c) none in
+    let last : end_line o asked.steps (map number seen) ≡ last_line asked.steps c =
+    ap₂ (λ (p : Outcome) (l : List ℕ). end_line p asked.steps l) (is ∙ ap (λ (x : Turn). x.outcome) (sym stands.turn)) (ap (map number) same ∙ all c stands) in
     whole ∙ ends ∙ ap₂ (λ (x y : List ℕ). x ++ y) first last

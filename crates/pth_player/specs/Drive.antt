@@ -16,6 +16,6 @@ use Rattle.pth_player.specs.Streams.{AppendsPart, AppendsPrefix}
 -- and one fault counted; where memory ended a beginning.
 abbrev pub Drives : {P S H : Type 0} → (P → Functions S H) → Given P → Asked → Option (List ℕ) → Option (List ℕ) → ℕ → ℕ → Result Outcome SinkErr → Type 0
 Drives f g asked old new before now (Ok o) =
-    (parts : ℕ) × GoesTo f g asked.steps 0 parts × (o ≡ (run f g parts).state.rest.scheduler.outcome) × Appends old new (told_output asked (run f g parts)).text × (now ≡ before)
+    (parts : ℕ) × GoesTo f g asked.steps 0 parts × (o ≡ (run f g parts).turn.outcome) × Appends old new (told_output asked (run f g parts)).text × (now ≡ before)
 Drives f g asked old new before now (Err sink.Failed) = (out : Output) × IsRunOutput f g asked out × AppendsPart old new out.text × Rose before now
 Drives f g asked old new before now (Err sink.OutOfMemory) = (out : Output) × IsRunOutput f g asked out × AppendsPrefix old new out.text × (now ≡ before)

@@ -4,7 +4,7 @@ use Rattle.pth_base.specs.Program.{Functions}
 use Rattle.pth_base.specs.declared.outcome.Outcome.{Outcome}
 use Rattle.pth_base.specs.declared.outcome.Outcome.TheVariants as outcomes
 use Rattle.pth_model.specs.State.{Given}
-use Rattle.pth_model.specs.Told.{Told}
+use Rattle.pth_model.specs.Course.{Course}
 use Rattle.pth_model.specs.Run.{run, GoesTo}
 use Rattle.pth_print.specs.Lines.{fault_line, fault_status}
 use Rattle.pth_print.specs.declared.fault_line.Fault.{Fault}
@@ -47,12 +47,12 @@ outcome_status outcomes.OutOfMemory = 7
 -- ---- the output
 
 module _ {P S H : Type 0} where
-  -- the output where this is told
-  abbrev pub told_output : Asked → Told P S H → Output
-  told_output asked told = record {
-    text = text_of asked told;
+  -- the output of a run that came so far
+  abbrev pub told_output : Asked → Course P S H → Output
+  told_output asked c = record {
+    text = text_of asked c;
     fault = None;
-    status = outcome_status told.state.rest.scheduler.outcome;
+    status = outcome_status c.turn.outcome;
   }
 
   -- the output of a run to the number of steps that is asked for: what is told where the run stops

@@ -5,8 +5,7 @@ use Rattle.pth_streams.specs.Faults.{Rose}
 use Rattle.pth_base.specs.declared.mark.Mark.{Mark}
 use Rattle.pth_streams.specs.declared.sink.SinkErr.{SinkErr}
 use Rattle.pth_streams.specs.declared.sink.SinkErr.TheVariants as sink
-use Rattle.pth_model.specs.State.{State}
-use Rattle.pth_model.specs.Told.{Told}
+use Rattle.pth_model.specs.Course.{Course}
 use Rattle.pth_model.specs.Living.{live}
 use Rattle.pth_print.specs.Lines.{mark_line, end_line, summary_line}
 use Rattle.pth_words.specs.Words.{Asked}
@@ -22,25 +21,25 @@ shown_of asked marks = if asked.summary then [] else lines_of marks
 
 module _ {P S H : Type 0} where
   -- the line of counts: the threads ever made, the turns, the steps, and the moment
-  abbrev pub counts_line : State P S H → List ℕ
-  counts_line s = summary_line s.rest.threads.made s.rest.scheduler.turns s.rest.scheduler.steps s.rest.scheduler.now
+  abbrev pub counts_line : Course P S H → List ℕ
+  counts_line c = summary_line c.state.control.threads.made c.turn.turns c.turn.steps c.state.control.scheduler.now
 
   -- the line of the outcome, after at most so many steps
-  abbrev pub last_line : ℕ → State P S H → List ℕ
-  last_line steps s = end_line s.rest.scheduler.outcome steps (live s)
+  abbrev pub last_line : ℕ → Course P S H → List ℕ
+  last_line steps c = end_line c.turn.outcome steps (live c.state)
 
-  -- The text of what a run tells: the lines of all marks and the line of the outcome. Where a summary is asked for, the
-  -- line of counts stands in place of the marks'.
-  abbrev pub text_of : Asked → Told P S H → List ℕ
-  text_of asked told = (if asked.summary then counts_line told.state else lines_of told.marks) ++ last_line asked.steps told.state
+  -- The text of a run that came so far: the lines of all marks and the line of the outcome. Where a summary is asked for,
+  -- the line of counts stands in place of the marks'.
+  abbrev pub text_of : Asked → Course P S H → List ℕ
+  text_of asked c = (if asked.summary then counts_line c else lines_of c.marks) ++ last_line asked.steps c
 
   -- the line of counts where a summary is asked for
-  abbrev pub counts_of : Asked → State P S H → List ℕ
-  counts_of asked s = if asked.summary then counts_line s else []
+  abbrev pub counts_of : Asked → Course P S H → List ℕ
+  counts_of asked c = if asked.summary then counts_line c else []
 
   -- what is written after all marks
-  abbrev pub ending_of : Asked → State P S H → List ℕ
-  ending_of asked s = counts_of asked s ++ last_line asked.steps s
+  abbrev pub ending_of : Asked → Course P S H → List ℕ
+  ending_of asked c = counts_of asked c ++ last_line asked.steps c
 
 -- the piece was written whole, or not the whole of it where the sink failed, or a beginning where memory ran out
 abbrev pub WritesPiece : Option (List ℕ) → Option (List ℕ) → ℕ → ℕ → List ℕ → Result (Unit {0}) SinkErr → Type 0

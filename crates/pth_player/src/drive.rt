@@ -1,7 +1,8 @@
 //! A machine run for a number of steps, and its transcript written piece by piece.
 
 ghost use Rattle.std.specs.Prelude.{◌≡◌, ◌≢◌, ◌≤◌, ◌+◌, ◌++◌, ◌⊎◌, IsFalse, IsTrue, OnOk};
-ghost use Rattle.pth_model.specs.State.{Given, State};
+ghost use Rattle.pth_model.specs.Course.{Course};
+ghost use Rattle.pth_model.specs.State.{Given};
 ghost use Rattle.pth_sched.specs.Running.{Stands, StandsAt};
 ghost use Rattle.pth_words.specs.Words.{asked_of};
 ghost use Rattle.pth_player.specs.Drive.{Drives};
@@ -54,7 +55,7 @@ fn add_counts<P: Program>(
     choice: &Choice<'_>,
     text: &mut Text,
 ) -> Result<(), OutOfMemory>
-    ensures { OnOk result ((s : State P P.State P.Shared) → Stands machine.now s → text.new ≡ text.old ++ counts_of (asked_of choice.now) s) }
+    ensures { OnOk result ((c : Course P P.State P.Shared) → Stands machine.now c → text.new ≡ text.old ++ counts_of (asked_of choice.now) c) }
 {
     if !choice.summary {
         return Ok(());
@@ -78,9 +79,9 @@ fn write_ending<P: Program, O: Sink>(
     out: &mut O,
 ) -> Result<(), SinkErr>
     requires memory { outcome ≢ Outcome.OutOfMemory }
-    requires outcome { outcome ≡ machine.now.outcome }
-    ensures { (s : State P P.State P.Shared) → Stands machine.now s
-        → WritesPiece (O.written out.old) (O.written out.new) (O.faults out.old) (O.faults out.new) (ending_of (asked_of choice.now) s) result }
+    requires outcome { outcome ≡ machine.now.turn.outcome }
+    ensures { (c : Course P P.State P.Shared) → Stands machine.now c
+        → WritesPiece (O.written out.old) (O.written out.new) (O.faults out.old) (O.faults out.new) (ending_of (asked_of choice.now) c) result }
 {
     let live = machine.live(alloc)?;
     text.clear();
@@ -116,7 +117,7 @@ pub fn drive<P: Program, O: Sink>(
     out: &mut O,
 ) -> Result<Outcome, SinkErr>
     requires nonzero { 1 ≤ piece }
-    requires few { machine.old.steps + choice.now.steps ≤ 1000000000 }
+    requires few { machine.old.turn.steps + choice.now.steps ≤ 1000000000 }
     ensures written { (g : Given P) → StandsAt P.functions g 0 machine.old → Drives P.functions g (asked_of choice.now) (O.written out.old) (O.written out.new) (O.faults out.old) (O.faults out.new) result }
 {
     let mut marks = Marks::new(alloc);

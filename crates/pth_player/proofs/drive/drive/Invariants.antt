@@ -10,7 +10,7 @@ invariant-pieces g l = record {
   way : (given : Given _) → StandsAt g.P.Program.functions given 0 l.initial.machine
       → Underway g.P.Program.functions given (asked_of l.choice) l.machine (g.O.Sink.written l.initial.out) (g.O.Sink.written l.out) [];
   stood : g.O.Sink.faults l.out ≡ g.O.Sink.faults l.initial.out;
-  made : l.machine.steps + l.left ≡ l.initial.machine.steps + l.choice.steps;
+  made : l.machine.turn.steps + l.left ≡ l.initial.machine.turn.steps + l.choice.steps;
 }
 
 abbrev pub decreases-pieces : goal.decreases-pieces
