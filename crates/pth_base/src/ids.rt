@@ -31,7 +31,7 @@ pub struct HandlerId(pub u32);
 #[derive(Clone, Copy, Debug, PartialEq, Eq)]
 pub struct CheckId(pub u32);
 
-/// Where a thread's record is kept: below `MOST_THREADS`.
+/// Where a numbered thing is kept, as the record of a thread: below `MOST_THREADS`.
 #[derive(Clone, Copy, Debug, PartialEq, Eq)]
 pub struct Slot(pub u32);
 

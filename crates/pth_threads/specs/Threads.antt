@@ -1,23 +1,21 @@
--- The threads in the system by slot, with an index from numbers to slots.
-use Rattle.std.specs.Prelude.{◌≡◌, ◌+◌, ◌<◌, ◌≤◌, ℕ, pos, false, List, Option, Some, None, option_map, is_some, count_by}
-use Rattle.std.specs.Ordering.{nat_cmp}
-use Rattle.std.specs.BTreeMap.{is_at}
-use Rattle.std.specs.Map.{lookup}
+-- The threads in the system: their records by slot, found by the threads' numbers.
+use Rattle.std.specs.Prelude.{◌≡◌, ◌+◌, ◌<◌, ◌≤◌, ℕ, pos, false, Option, Some, None, option_map}
 use Rattle.pth_base.specs.Limits.{thread_limit, last_count}
-use Rattle.pth_base.specs.Table.{put, table}
+use Rattle.pth_base.specs.Table.{put}
 use Rattle.pth_base.specs.Naming.{IsTied}
 use Rattle.pth_base.specs.declared.ids.Tid.{Tid}
 use Rattle.pth_base.specs.declared.thread.ThreadState.TheVariants.{New}
+use Rattle.pth_numbered.specs.Numbered.{NumberedOf, thing_at, number_at}
 use Rattle.pth_threads.specs.declared.entry.Entry.{Entry}
 use Rattle.pth_threads.specs.declared.entry.NewThread.{NewThread}
 use Rattle.pth_threads.specs.declared.entry.Change.{Change}
 use Rattle.pth_threads.specs.declared.entry.Change.TheVariants as change
+pub use Rattle.pth_numbered.specs.Numbered.{slot_of, count}
 
--- the records by slot, the slots by number, and how many threads were ever made
-pub record ThreadsOf : Type 0 where
-  pub slots : List (Option Entry)
-  pub index : List (ℕ × ℕ)
-  pub made : ℕ
+-- the records with the threads' numbers, and how many threads were ever made. A thread's slot and how many there are, `slot_of`
+-- and `count`, are those of all that is numbered
+abbrev pub ThreadsOf : Type 0
+ThreadsOf = NumberedOf Entry
 
 -- a thread's number, and the thread of a number
 abbrev pub number : Tid → ℕ
@@ -28,7 +26,7 @@ tid_from n = record { 0 = n }
 
 -- the record at a slot
 unfoldable pub entry_at : ThreadsOf → ℕ → Option Entry
-entry_at x u = table None x.slots u
+entry_at x u = thing_at x u
 
 -- the number of a record, 0 where there is none
 abbrev pub tid_of : Option Entry → ℕ
@@ -38,14 +36,6 @@ tid_of None = 0
 -- the number of the thread at a slot, 0 where the slot is not in use
 unfoldable pub tid_at : ThreadsOf → ℕ → ℕ
 tid_at x u = tid_of (entry_at x u)
-
--- the slot of a thread
-unfoldable pub slot_of : ThreadsOf → ℕ → Option ℕ
-slot_of x t = lookup (is_at (nat_cmp t)) x.index
-
--- how many threads there are
-unfoldable pub count : ThreadsOf → ℕ
-count x = count_by is_some x.slots
 
 -- a record with one field set
 unfoldable pub changed : Change → Entry → Entry
@@ -79,15 +69,11 @@ made_of of tid = record {
   value = pos 0;
 }
 
--- what holds of the threads at every moment
+-- what holds of the threads at every moment, beside what holds of all that is numbered
 pub record IsKept (x : ThreadsOf) : Type 0 where
-  pub tied : IsTied (slot_of x) (tid_at x)
-  -- no thread has a number that is still to come
-  pub fresh : (t : ℕ) → x.made < t → slot_of x t ≡ None
-  -- there are at most as many as there are slots
-  pub few : count x ≤ thread_limit
-  -- a slot that is not in use has no record
-  pub empty : (u : ℕ) → tid_at x u ≡ 0 → entry_at x u ≡ None
+  -- each record has the number by which it is found
+  pub named : number_at x ≡ tid_at x
+  pub limit : x.limit ≡ thread_limit
   -- each count of dispatches is one that an `i64` holds
   pub countable : (u : ℕ) (e : Entry) → entry_at x u ≡ Some e → e.dispatches ≤ last_count
 

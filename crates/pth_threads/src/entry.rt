@@ -4,11 +4,9 @@ ghost use Rattle.std.specs.Prelude.{◌≡◌};
 ghost use Rattle.pth_threads.specs.Threads.{changed, made_of};
 
 use pth_base::ids::Tid;
-use pth_base::memory::OutOfMemory;
 use pth_base::name::Name;
 pub use pth_base::thread::ThreadState;
-use std::alloc::{AllocError, AllocFailed};
-use thiserror::Error;
+pub use pth_numbered::error::AddErr;
 
 /// What a new thread is given (`pth_attr_t` at `pth_spawn`).
 #[derive(Drop)]
@@ -56,46 +54,6 @@ pub enum Change {
     Suspended(bool),
     Dispatches(u64),
     Value(i64),
-}
-
-/// Why there is no new thread.
-#[derive(Clone, Copy, Debug, PartialEq, Eq, Error)]
-pub enum AddErr {
-    /// There are as many threads as there may be at once.
-    #[error("TooMany")]
-    TooMany = 1,
-    #[error("OutOfMemory")]
-    OutOfMemory = 2,
-}
-
-impl From<AllocError> for AddErr {
-    ghost use Rattle.pth_threads.specs.declared.entry.AddErr.TheVariants as add;
-
-    ghost from_gives = { λ _ e. e ≡ add.OutOfMemory };
-
-    fn from(_e: AllocError) -> AddErr {
-        AddErr::OutOfMemory
-    }
-}
-
-impl<T: Drop> From<AllocFailed<T>> for AddErr {
-    ghost use Rattle.pth_threads.specs.declared.entry.AddErr.TheVariants as add;
-
-    ghost from_gives = { λ _ e. e ≡ add.OutOfMemory };
-
-    fn from(_e: AllocFailed<T>) -> AddErr {
-        AddErr::OutOfMemory
-    }
-}
-
-impl From<OutOfMemory> for AddErr {
-    ghost use Rattle.pth_threads.specs.declared.entry.AddErr.TheVariants as add;
-
-    ghost from_gives = { λ _ e. e ≡ add.OutOfMemory };
-
-    fn from(_e: OutOfMemory) -> AddErr {
-        AddErr::OutOfMemory
-    }
 }
 
 impl Entry {

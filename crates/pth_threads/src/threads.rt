@@ -1,9 +1,7 @@
-//! The threads in the system by slot, with an index from numbers to slots.
+//! The threads in the system, by their numbers.
 
 ghost use Rattle.std.specs.Prelude.{◌≡◌, ◌≢◌, ◌+◌, ◌<◌, ◌≤◌, ◌↔◌, ℕ, Option, Some, None, IfOk, OnOk, OnErr, IfSome, IsErrOf, IsSome, Contains, map, option_map};
 ghost use Rattle.std.specs.List.Sorted.{IsStrictlyIncreasing};
-ghost use Rattle.std.specs.BTreeMap.{keys, IsOrdered};
-ghost use Rattle.std.specs.Ordering.{nat_cmp};
 ghost use Rattle.pth_base.specs.Limits.{thread_limit, last_count};
 ghost use Rattle.pth_base.specs.Naming.{IsTied};
 ghost use Rattle.pth_threads.specs.Threads.{entry_at, tid_at, slot_of, count, made_of, number, tid_from, Adds, Changes, Removes, IsSame, IsCountable};
@@ -12,25 +10,14 @@ use crate::entry::{AddErr, Change, Entry, NewThread};
 use pth_base::ids::{Slot, Tid};
 use pth_base::limits::MOST_THREADS;
 use pth_base::memory::OutOfMemory;
-use slab::Slab;
+use pth_numbered::numbered::Numbered;
 use std::alloc::{AllocError, Global};
-use std::collections::BTreeMap;
 use std::marker::Model;
-
-/// How many threads there may be at once.
-const MOST: usize = MOST_THREADS as usize;
-
-/// How many slots are tried before the index is asked: one for each value of a number's last twelve bits.
-const RECENT: usize = 4096;
 
 /// The threads in the system. A slot is used again once its thread is removed, and a number never.
 #[derive(Drop)]
 pub struct Threads {
-    records: Slab<Entry>,
-    index: BTreeMap<u32, u32>,
-    // The slot of the latest thread with these last bits in its number. Its record may be another thread's by now.
-    recent: Vec<u32>,
-    made: u32,
+    entries: Numbered<Entry>,
 }
 
 impl Model for Threads {
@@ -38,9 +25,9 @@ impl Model for Threads {
 
     ghost Value = { ThreadsOf };
 
-    ghost view = { λ a. record { slots = a.records.slots; index = a.index.entries; made = a.made } };
+    ghost view = { λ a. a.entries };
 
-    ghost invariant = { λ a. IsKept (record { slots = a.records.slots; index = a.index.entries; made = a.made }) };
+    ghost invariant = { λ a. IsKept a.entries };
 }
 
 impl Threads {
@@ -53,10 +40,7 @@ impl Threads {
         ensures made { result.made ≡ 0 }
     {
         Threads {
-            records: Slab::new(alloc),
-            index: BTreeMap::new(alloc),
-            recent: Vec::new(alloc),
-            made: 0,
+            entries: Numbered::new(alloc, MOST_THREADS),
         }
     }
 
@@ -68,23 +52,7 @@ impl Threads {
         ensures tied { IsTied (slot_of self.now) (tid_at self.now) }
         ensures empty { (u : ℕ) → tid_at self.now u ≡ 0 → entry_at self.now u ≡ None }
     {
-        match self.recent_slot(t) {
-            Some(slot) => Some(slot),
-            None => self.index.get(&t.0).map(|slot| Slot(*slot)),
-        }
-    }
-
-    // The slot of a thread, where no later thread has the same last bits in its number.
-    fn recent_slot(&self, t: Tid) -> Option<Slot>
-        ensures { IfSome result (λ s. slot_of self.now t.0 ≡ Some s.0) }
-    {
-        let slot = *self.recent.get(t.0 as usize % RECENT)?;
-        let entry = self.records.get(slot as usize)?;
-        if entry.tid.0 == t.0 {
-            Some(Slot(slot))
-        } else {
-            None
-        }
+        self.entries.find(t.0)
     }
 
     /// The record at a slot.
@@ -94,7 +62,7 @@ impl Threads {
         ensures tid { tid_at self.now s.0 ≡ result.now.tid.0 }
         ensures dispatches { result.now.dispatches ≤ last_count }
     {
-        &self.records[s.0 as usize]
+        self.entries.get(s)
     }
 
     /// Sets one field of the record at a slot. A count of dispatches stays one that an `i64` holds.
@@ -103,7 +71,7 @@ impl Threads {
         requires countable { IsCountable c }
         ensures { Changes self.old self.new s.0 c }
     {
-        self.records[s.0 as usize].set(c);
+        self.entries.get_mut(s).set(c);
     }
 
     /// A new thread, which has the next number and a slot that was not in use.
@@ -115,22 +83,9 @@ impl Threads {
         ensures too_many { IsErrOf result AddErr.TooMany ↔ (count self.old ≡ thread_limit) }
         ensures err { OnErr result (IsSame self.old self.new) }
     {
-        if self.records.len() == MOST {
-            return Err(AddErr::TooMany);
-        }
-        // A slab makes a new key only where each key so far is in use, and so this is never met.
-        let key = self.records.vacant_key();
-        if key >= MOST {
-            return Err(AddErr::OutOfMemory);
-        }
-        self.records.reserve(1)?;
-        let tid = self.made + 1;
-        let slot = key as u32;
-        keep_recent(&mut self.recent, tid, slot)?;
-        let _none = self.index.insert(tid, slot)?;
-        let _key = self.records.insert_reserved(Entry::new(of, Tid(tid)));
-        self.made = tid;
-        Ok((Tid(tid), Slot(slot)))
+        let tid = Tid(self.entries.made() + 1);
+        let (_, slot) = self.entries.add(Entry::new(of, tid))?;
+        Ok((tid, slot))
     }
 
     /// Takes the thread at a slot out of the system.
@@ -138,8 +93,7 @@ impl Threads {
         requires { tid_at self.old s.0 ≢ 0 }
         ensures { Removes self.old self.new s.0 }
     {
-        let gone = self.records.remove(s.0 as usize);
-        let _slot = self.index.remove(&gone.tid.0);
+        self.entries.remove(s);
     }
 
     /// How many threads are in the system.
@@ -147,14 +101,14 @@ impl Threads {
         ensures value { result ≡ count self.now }
         ensures most { count self.now ≤ thread_limit }
     {
-        self.records.len() as u32
+        self.entries.count()
     }
 
     /// How many threads were ever made, which is the number of the last of them.
     pub fn made(&self) -> u32
         ensures { result ≡ self.now.made }
     {
-        self.made
+        self.entries.made()
     }
 
     /// The numbers of the threads in the system, the oldest first.
@@ -162,21 +116,14 @@ impl Threads {
         ensures listed { IfOk result (λ v. (t : Tid) → Contains v.items t ↔ IsSome (slot_of self.now t.0)) }
         ensures rising { IfOk result (λ v. IsStrictlyIncreasing (map number v.items)) }
     {
-        Ok(numbers(&self.index, alloc)?)
+        let numbers = self.entries.numbers(alloc)?;
+        Ok(named(&numbers, alloc)?)
     }
 }
 
-// The thread with this number is the latest with its last bits.
-fn keep_recent(recent: &mut Vec<u32>, tid: u32, slot: u32) -> Result<(), AllocError> {
-    recent.resize(RECENT, 0)?;
-    recent[tid as usize % RECENT] = slot;
-    Ok(())
-}
-
-// The keys of an index, which rise.
-fn numbers(index: &BTreeMap<u32, u32>, alloc: Global) -> Result<Vec<Tid>, AllocError>
-    ensures keys { IfOk result (λ v. v.items ≡ map tid_from (keys index.now)) }
-    ensures ordered { IsOrdered nat_cmp index.now }
+// The threads with these numbers.
+fn named(numbers: &[u32], alloc: Global) -> Result<Vec<Tid>, AllocError>
+    ensures { IfOk result (λ v. v.items ≡ map tid_from numbers.now) }
 {
-    index.keys().map(|t| Tid(*t)).collect(alloc)
+    numbers.iter().map(|t| Tid(*t)).collect(alloc)
 }

@@ -1,70 +1,10 @@
-use Rattle.std.proofs.Common.{◌≡◌, ◌↔◌, ℕ, List, Option, is_some, count_by, Result, Err, IsErrOf, refl, sym, ◌∙◌, ap, arith}
-use Rattle.std.proofs.lemmas.Result.{err_from_is_err_and}
-use Rattle.slab.specs.Slab.{Slab}
-use Rattle.pth_base.specs.Limits.{thread_limit}
-use Rattle.pth_threads.specs.declared.entry.Entry.{Entry}
-use Rattle.pth_threads.specs.declared.entry.AddErr.{AddErr}
-use Rattle.pth_threads.specs.declared.entry.AddErr.TheVariants.{TooMany, OutOfMemory}
-use Rattle.pth_threads.specs.Threads.{ThreadsOf, count}
-use Rattle.pth_threads.proofs.Slots.{adds, kept_added}
+use Rattle.pth_threads.proofs.Entries.{added, kept_added}
 use Rattle.pth_threads.proofs.threads.Threads.add.Goals as goal
-
--- there are too many exactly where the answer says so
-many : {T : Type 0} (r : Result T AddErr) (x : ThreadsOf) (n : ℕ) → n ≡ count_by is_some x.slots → n ≡ thread_limit → r ≡ Err TooMany → IsErrOf r TooMany ↔ (count x ≡ thread_limit)
-unfolding count
-many r x n is full e = (λ h. sym is ∙ full, λ h. e)
-
-few : {T : Type 0} (r : Result T AddErr) (x : ThreadsOf) (n : ℕ) → n ≡ count_by is_some x.slots → (n ≡ thread_limit → ⊥) → (r ≡ Err TooMany → ⊥) → IsErrOf r TooMany ↔ (count x ≡ thread_limit)
-unfolding count
-few r x n is room e = (λ h. absurd (e h), λ h. absurd (room (is ∙ h)))
-
-other_err : {T : Type 0} (r : Result T AddErr) (d : AddErr) → r ≡ Err d → d ≡ OutOfMemory → r ≡ Err TooMany → ⊥
-other_err r d is e h = cc
-
-pub returns-then-len-eq-MOST-clause-too_many : goal.returns-then-len-eq-MOST-clause-too_many
-returns-then-len-eq-MOST-clause-too_many c = rw (← c.self.view_is) (many _ (record { slots = c.self.inside.records.slots; index = c.self.inside.index.entries; made = c.self.inside.made }) c.len.result c.len.ensures c.if-len-eq-MOST.true refl)
-
-pub returns-then-key-ge-MOST-clause-too_many : goal.returns-then-key-ge-MOST-clause-too_many
-returns-then-key-ge-MOST-clause-too_many c = rw (← c.self.view_is) (few _ (record { slots = c.self.inside.records.slots; index = c.self.inside.index.entries; made = c.self.inside.made }) c.len.result c.len.ensures c.if-len-eq-MOST.false (λ h. cc))
-
-pub returns-in_err-reserve-clause-too_many : goal.returns-in_err-reserve-clause-too_many
-returns-in_err-reserve-clause-too_many c =
-    let p = err_from_is_err_and c.from_residual.result c.from_residual.ensures.1 in
-    rw (← c.self.view_is) (few _ (record { slots = c.self.inside.records.slots; index = c.self.inside.index.entries; made = c.self.inside.made }) c.len.result c.len.ensures c.if-len-eq-MOST.false (other_err _ p.0 p.1 p.2))
-
-pub returns-in_err-keep_recent-clause-too_many : goal.returns-in_err-keep_recent-clause-too_many
-returns-in_err-keep_recent-clause-too_many c =
-    let p = err_from_is_err_and c.from_residual-in_err-keep_recent.result c.from_residual-in_err-keep_recent.ensures.1 in
-    rw (← c.self.view_is) (few _ (record { slots = c.self.inside.records.slots; index = c.self.inside.index.entries; made = c.self.inside.made }) c.len.result c.len.ensures c.if-len-eq-MOST.false (other_err _ p.0 p.1 p.2))
-
-pub returns-in_err-_none-clause-too_many : goal.returns-in_err-_none-clause-too_many
-returns-in_err-_none-clause-too_many c =
-    let p = err_from_is_err_and c.from_residual-in_err-_none.result c.from_residual-in_err-_none.ensures.1 in
-    rw (← c.self.view_is) (few _ (record { slots = c.self.inside.records.slots; index = c.self.inside.index.entries; made = c.self.inside.made }) c.len.result c.len.ensures c.if-len-eq-MOST.false (other_err _ p.0 p.1 p.2))
 
 pub invariant_of-self-2 : goal.invariant_of-self-2
 invariant_of-self-2 c =
-    let slots = sym (ap (λ (s : Slab Entry). s.slots) c.in_ok-reserve.ensures.rest_kept) in
-    let key : c.insert_reserved-key.result ≡ c.vacant_key-key.result = c.insert_reserved-key.ensures.key ∙ ap (λ (s : Slab Entry). s.vacant_key) c.in_ok-reserve.ensures.rest_kept ∙ sym c.vacant_key-key.ensures.value in
-    kept_added _ c.reserve.new.self c.insert_reserved-key.new.self c.self.inside.index c.insert.new.self c.vacant_key-key.result c.args.of c.self.invariant slots refl
-    (rw key at c.insert_reserved-key.ensures.was_vacant)
-    (rw (key, c.new.ensures) at c.insert_reserved-key.ensures.updates)
-    c.insert_reserved-key.ensures.len
-    c.in_ok-_none.ensures.updates
-    (omega arith)
-    (λ h. c.if-len-eq-MOST.false (c.len.ensures ∙ ap (λ (xs : List (Option Entry)). count_by is_some xs) slots ∙ h))
+    kept_added c.self.inside.entries c.add.new.self c.in_ok-slot.slot.0 c.args.of c.self.invariant c.add.ensures.kept (rw (c.new.ensures, c.made.ensures) at c.in_ok-slot.ensures.ok)
 
 pub returns-clause-ok : goal.returns-clause-ok
 returns-clause-ok c =
-    let slots = sym (ap (λ (s : Slab Entry). s.slots) c.in_ok-reserve.ensures.rest_kept) in
-    let key : c.insert_reserved-key.result ≡ c.vacant_key-key.result = c.insert_reserved-key.ensures.key ∙ ap (λ (s : Slab Entry). s.vacant_key) c.in_ok-reserve.ensures.rest_kept ∙ sym c.vacant_key-key.ensures.value in
-    rw (← c.self.view_is) (adds _ c.reserve.new.self c.insert_reserved-key.new.self c.self.inside.index c.insert.new.self c.vacant_key-key.result c.args.of c.self.invariant slots refl
-    (rw key at c.insert_reserved-key.ensures.was_vacant)
-    (rw (key, c.new.ensures) at c.insert_reserved-key.ensures.updates)
-    c.insert_reserved-key.ensures.len
-    c.in_ok-_none.ensures.updates
-    (omega arith)
-    (λ h. c.if-len-eq-MOST.false (c.len.ensures ∙ ap (λ (xs : List (Option Entry)). count_by is_some xs) slots ∙ h)))
-
-pub returns-clause-too_many : goal.returns-clause-too_many
-returns-clause-too_many c = rw (← c.self.view_is) (few _ (record { slots = c.self.inside.records.slots; index = c.self.inside.index.entries; made = c.self.inside.made }) c.len.result c.len.ensures c.if-len-eq-MOST.false (λ h. cc))
+    rw (← c.self.view_is, c.made.ensures) (added c.self.inside.entries c.add.new.self c.in_ok-slot.slot.0 c.args.of c.self.invariant c.add.ensures.kept (rw (c.new.ensures, c.made.ensures) at c.in_ok-slot.ensures.ok))
