@@ -13,6 +13,8 @@ mod handlers;
 #[cfg(test)]
 mod lines;
 #[cfg(test)]
+mod numbered;
+#[cfg(test)]
 mod objects;
 #[cfg(test)]
 mod pieces;
