@@ -1,22 +1,23 @@
-//! Calls on events and time as words.
+//! Calls on events, as words.
 
+ghost use Rattle.std.specs.Prelude.{◌≡◌, Some};
+ghost use Rattle.pth_base.specs.Facilities.{facility_of};
+ghost use Rattle.pth_base.specs.declared.facility.Facility.TheVariants as facility;
 ghost use Rattle.pth_print.specs.Adding.{Adds};
 ghost use Rattle.pth_print.specs.Words.{spaced};
 ghost use Rattle.pth_print.specs.Calls.{call_words};
-ghost use Rattle.pth_base.specs.Facilities.{IsEventCall};
 
 use crate::call_shape::{
     add_one, add_one_and_text, add_sets, add_text_and_one, add_three, add_two,
 };
 use crate::event_line::{add_chain, goals_word, state_word, walk_word};
-use crate::object_call::add_object_call;
 use pth_base::call::Call;
 use pth_base::memory::OutOfMemory;
 use pth_text::text::Text;
 
-/// Adds the words of a call on events or time, or of one after, each after a space.
+/// Adds the words of a call on events, each after a space.
 pub fn add_event_call(call: &Call, out: &mut Text) -> Result<(), OutOfMemory>
-    requires { IsEventCall call.now }
+    requires { facility_of call.now ≡ Some facility.Events }
     ensures { Adds out.old out.new result (spaced (call_words call.now)) }
 {
     match call {
@@ -43,11 +44,6 @@ pub fn add_event_call(call: &Call, out: &mut Text) -> Result<(), OutOfMemory>
         Call::EvKind(e) => add_one(b"ev_kind", e, out),
         Call::EvFree { e, all: false } => add_one_and_text(b"ev_free", e, b"this", out),
         Call::EvFree { e, all: true } => add_one_and_text(b"ev_free", e, b"all", out),
-        Call::Wait(e) => add_one(b"wait", e, out),
-        Call::Timeout(l) => add_one(b"timeout", l, out),
-        Call::Nap(l) => add_one(b"nap", l, out),
-        Call::Usleep(l) => add_one(b"usleep", l, out),
-        Call::Sleep(s) => add_one(b"sleep", s, out),
-        _ => add_object_call(call, out),
+        _ => unreachable!(),
     }
 }

@@ -1,9 +1,11 @@
-//! Calls on descriptors as words.
+//! Calls that replace those of POSIX, as words.
 
+ghost use Rattle.std.specs.Prelude.{◌≡◌, Some};
+ghost use Rattle.pth_base.specs.Facilities.{facility_of};
+ghost use Rattle.pth_base.specs.declared.facility.Facility.TheVariants as facility;
 ghost use Rattle.pth_print.specs.Adding.{Adds};
 ghost use Rattle.pth_print.specs.Words.{spaced};
 ghost use Rattle.pth_print.specs.Calls.{call_words};
-ghost use Rattle.pth_base.specs.Facilities.{IsDescriptorCall};
 
 use crate::call_shape::{
     add_bytes, add_bytes_and_one, add_one, add_sets_and_one, add_sets_and_two, add_three, add_two,
@@ -12,12 +14,14 @@ use pth_base::call::Call;
 use pth_base::memory::OutOfMemory;
 use pth_text::text::Text;
 
-/// Adds the words of a call on descriptors, each after a space.
-pub fn add_descriptor_call(call: &Call, out: &mut Text) -> Result<(), OutOfMemory>
-    requires { IsDescriptorCall call.now }
+/// Adds the words of a call that replaces one of POSIX, each after a space.
+pub fn add_io_call(call: &Call, out: &mut Text) -> Result<(), OutOfMemory>
+    requires { facility_of call.now ≡ Some facility.Io }
     ensures { Adds out.old out.new result (spaced (call_words call.now)) }
 {
     match call {
+        Call::Usleep(l) => add_one(b"usleep", l, out),
+        Call::Sleep(s) => add_one(b"sleep", s, out),
         Call::Read { f, n } => add_two(b"read", f, n, out),
         Call::ReadEv { f, n, e } => add_three(b"read_ev", f, n, e, out),
         Call::Write { f, bytes } => add_bytes(b"write", f, bytes.as_slice(), out),
@@ -34,7 +38,6 @@ pub fn add_descriptor_call(call: &Call, out: &mut Text) -> Result<(), OutOfMemor
         Call::ConnectEv { f, e } => add_two(b"connect_ev", f, e, out),
         Call::Select { r, w, x, l } => add_sets_and_one(b"select", *r, *w, *x, l, out),
         Call::SelectEv { r, w, x, l, e } => add_sets_and_two(b"select_ev", *r, *w, *x, l, e, out),
-        Call::Fdmode { f, m } => add_two(b"fdmode", f, m, out),
         Call::Close(f) => add_one(b"close", f, out),
         _ => unreachable!(),
     }

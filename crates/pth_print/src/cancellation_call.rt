@@ -1,0 +1,25 @@
+//! Calls on cancellation, as words.
+
+ghost use Rattle.std.specs.Prelude.{◌≡◌, Some};
+ghost use Rattle.pth_base.specs.Facilities.{facility_of};
+ghost use Rattle.pth_base.specs.declared.facility.Facility.TheVariants as facility;
+ghost use Rattle.pth_print.specs.Adding.{Adds};
+ghost use Rattle.pth_print.specs.Words.{spaced};
+ghost use Rattle.pth_print.specs.Calls.{call_words};
+
+use crate::call_shape::{add_name, add_one};
+use pth_base::call::Call;
+use pth_base::memory::OutOfMemory;
+use pth_text::text::Text;
+
+/// Adds the words of a call on cancellation, each after a space.
+pub fn add_cancellation_call(call: &Call, out: &mut Text) -> Result<(), OutOfMemory>
+    requires { facility_of call.now ≡ Some facility.Cancellation }
+    ensures { Adds out.old out.new result (spaced (call_words call.now)) }
+{
+    match call {
+        Call::CancelPoint => add_name(b"cancel_point", out),
+        Call::CancelState(n) => add_one(b"cancel_state", n, out),
+        _ => unreachable!(),
+    }
+}
