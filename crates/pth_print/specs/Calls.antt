@@ -1,12 +1,12 @@
 -- Calls as words.
-use Rattle.std.specs.Prelude.{List, [], ℕ, ◌∷◌, Some, None, true, false, codes}
+use Rattle.std.specs.Prelude.{List, [], ℕ, ◌∷◌, Some, None, codes}
 use Rattle.pth_base.specs.declared.call.Call.{Call}
 use Rattle.pth_base.specs.declared.call.Call.TheVariants as call
 use Rattle.pth_print.specs.Word.{number, hex_word}
 use Rattle.pth_print.specs.Sets.{set_word}
 use Rattle.pth_print.specs.Queries.{query_words}
 use Rattle.pth_print.specs.Attrs.{attr_set_words, field_word}
-use Rattle.pth_print.specs.EventLines.{goals_word, state_word, walk_word, chain_words}
+use Rattle.pth_print.specs.EventLines.{goals_word, state_word, walk_word, which_word, chain_words}
 use Rattle.pth_print.specs.LockModes.{mode_word}
 
 -- a call
@@ -48,8 +48,7 @@ call_words (call.EvIsolate e) = codes "ev_isolate" ∷ number e ∷ []
 call_words (call.EvWalk e forward until_occurred) = codes "ev_walk" ∷ number e ∷ walk_word forward until_occurred ∷ []
 call_words (call.EvStatus e) = codes "ev_status" ∷ number e ∷ []
 call_words (call.EvKind e) = codes "ev_kind" ∷ number e ∷ []
-call_words (call.EvFree e false) = codes "ev_free" ∷ number e ∷ codes "this" ∷ []
-call_words (call.EvFree e true) = codes "ev_free" ∷ number e ∷ codes "all" ∷ []
+call_words (call.EvFree e all) = codes "ev_free" ∷ number e ∷ which_word all ∷ []
 call_words (call.KeyCreate (Some h)) = codes "key_create" ∷ number h ∷ []
 call_words (call.KeyCreate None) = codes "key_create" ∷ codes "-" ∷ []
 call_words (call.KeyDelete k) = codes "key_delete" ∷ number k ∷ []

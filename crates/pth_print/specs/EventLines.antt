@@ -27,6 +27,10 @@ walk_word false false = codes "prev"
 walk_word true true = codes "next_occurred"
 walk_word false true = codes "prev_occurred"
 
+-- which events are freed: all of a ring, or one
+abbrev pub which_word : Bool → List ℕ
+which_word all = if all then codes "all" else codes "this"
+
 -- an event line
 abbrev pub event_line_words : EvLine → List (List ℕ)
 event_line_words (line.Fd goals fd) = codes "ev_fd" ∷ goals_word goals ∷ number fd ∷ []

@@ -10,7 +10,7 @@ ghost use Rattle.pth_print.specs.Calls.{call_words};
 use crate::call_shape::{
     add_one, add_one_and_text, add_sets, add_text_and_one, add_three, add_two,
 };
-use crate::event_line::{add_chain, goals_word, state_word, walk_word};
+use crate::event_line::{add_chain, goals_word, state_word, walk_word, which_word};
 use pth_base::call::Call;
 use pth_base::memory::OutOfMemory;
 use pth_text::text::Text;
@@ -42,8 +42,7 @@ pub fn add_event_call(call: &Call, out: &mut Text) -> Result<(), OutOfMemory>
         } => add_one_and_text(b"ev_walk", e, walk_word(*forward, *until_occurred), out),
         Call::EvStatus(e) => add_one(b"ev_status", e, out),
         Call::EvKind(e) => add_one(b"ev_kind", e, out),
-        Call::EvFree { e, all: false } => add_one_and_text(b"ev_free", e, b"this", out),
-        Call::EvFree { e, all: true } => add_one_and_text(b"ev_free", e, b"all", out),
+        Call::EvFree { e, all } => add_one_and_text(b"ev_free", e, which_word(*all), out),
         _ => unreachable!(),
     }
 }

@@ -3,7 +3,7 @@
 ghost use Rattle.std.specs.Prelude.{◌≡◌};
 ghost use Rattle.pth_print.specs.Adding.{Adds};
 ghost use Rattle.pth_print.specs.Words.{spaced};
-ghost use Rattle.pth_print.specs.EventLines.{goals_word, state_word, walk_word, event_line_words, chain_words};
+ghost use Rattle.pth_print.specs.EventLines.{goals_word, state_word, walk_word, which_word, event_line_words, chain_words};
 
 use crate::call_shape::{add_one, add_sets, add_text_and_one, add_three};
 use pth_base::event::EvLine;
@@ -50,6 +50,13 @@ pub fn walk_word(forward: bool, until_occurred: bool) -> &'static [u8]
         (true, true) => b"next_occurred",
         (false, true) => b"prev_occurred",
     }
+}
+
+/// Which events are freed.
+pub fn which_word(all: bool) -> &'static [u8]
+    ensures { result.now ≡ which_word all }
+{
+    if all { b"all" } else { b"this" }
 }
 
 /// Adds the words of an event line, each after a space.

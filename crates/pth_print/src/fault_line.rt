@@ -12,7 +12,7 @@ use pth_text::text::Text;
 
 /// Why the program printed no whole run: its words or its input were refused, reading or writing failed, or memory ran
 /// out. An input is refused at a line, numbered from 1.
-#[derive(Clone, Copy, Debug, PartialEq, Eq)]
+#[derive(Clone, Copy)]
 pub enum Fault {
     Words,
     Input { line: u32, breach: Breach },
