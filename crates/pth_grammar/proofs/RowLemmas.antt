@@ -5,7 +5,7 @@ use Rattle.std.specs.Str.{bytes_eq}
 use Rattle.pth_line.specs.declared.operand.ByteOperand.TheVariants as bytes
 use Rattle.pth_line.specs.declared.operand.Operand.{Operand}
 use Rattle.pth_line.specs.declared.operand.Value.{Value}
-use Rattle.pth_spelling.specs.Keywords.{event_word}
+use Rattle.pth_spelling.specs.Keywords.{new_event_word}
 use Rattle.pth_grammar.specs.Reading.{operands_of, values_of, read1, read2, read3, read4, read5}
 use Rattle.pth_grammar.specs.Shapes.{misses}
 use Rattle.pth_grammar.specs.declared.operands.Operands.{Operands}
@@ -151,9 +151,9 @@ pub query : Reads form.Query query_of
 unfolding misses
 query = record { reads = λ w fine. sure (is_some (query_of w)) fine.listed }
 
-pub event : Reads form.Event event_word
+pub event : Reads form.Event new_event_word
 unfolding misses
-event = record { reads = λ w fine. sure (is_some (event_word w)) fine.listed }
+event = record { reads = λ w fine. sure (is_some (new_event_word w)) fine.listed }
 
 bytes_by : (buf hex : Bool) (given : Option (List ℕ)) → not (buf || hex) ≡ false → not (not hex || is_some given) ≡ false → is_some (if buf then Some bytes.Buffer else (if hex then option_map (λ b. bytes.Given b) given else None)) ≡ true
 bytes_by true hex given f p = refl

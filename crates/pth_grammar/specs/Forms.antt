@@ -3,31 +3,41 @@ use Rattle.std.specs.Prelude.{ℕ, List, [], ◌∷◌, Option, Some, None}
 use Rattle.pth_base.specs.declared.attr.AttrField.{AttrField}
 use Rattle.pth_base.specs.declared.attr.AttrField.TheVariants as field
 use Rattle.pth_spelling.specs.Words.{field_of, query_of}
-use Rattle.pth_spelling.specs.Keywords.{event_word}
+use Rattle.pth_spelling.specs.Keywords.{new_event_word}
 use Rattle.pth_grammar.specs.declared.form.Form.{Form}
 use Rattle.pth_grammar.specs.declared.form.Form.TheVariants as form
 use Rattle.pth_spelling.specs.declared.keyword.QueryWord.{QueryWord}
 use Rattle.pth_spelling.specs.declared.keyword.QueryWord.TheVariants as queries
+use Rattle.pth_spelling.specs.declared.keyword.LibraryWord.{LibraryWord}
+use Rattle.pth_spelling.specs.declared.keyword.LibraryWord.TheVariants as libraries
+use Rattle.pth_spelling.specs.declared.keyword.AttributeWord.{AttributeWord}
+use Rattle.pth_spelling.specs.declared.keyword.AttributeWord.TheVariants as attributes
 use Rattle.pth_spelling.specs.declared.keyword.ThreadWord.{ThreadWord}
 use Rattle.pth_spelling.specs.declared.keyword.ThreadWord.TheVariants as threads
-use Rattle.pth_spelling.specs.declared.keyword.AttrWord.{AttrWord}
-use Rattle.pth_spelling.specs.declared.keyword.AttrWord.TheVariants as attrs
-use Rattle.pth_spelling.specs.declared.keyword.StoreWord.{StoreWord}
-use Rattle.pth_spelling.specs.declared.keyword.StoreWord.TheVariants as stores
+use Rattle.pth_spelling.specs.declared.keyword.UtilityWord.{UtilityWord}
+use Rattle.pth_spelling.specs.declared.keyword.UtilityWord.TheVariants as utilities
+use Rattle.pth_spelling.specs.declared.keyword.CancellationWord.{CancellationWord}
+use Rattle.pth_spelling.specs.declared.keyword.CancellationWord.TheVariants as cancellations
+use Rattle.pth_spelling.specs.declared.keyword.NewEventWord.{NewEventWord}
+use Rattle.pth_spelling.specs.declared.keyword.NewEventWord.TheVariants as new_events
 use Rattle.pth_spelling.specs.declared.keyword.EventWord.{EventWord}
 use Rattle.pth_spelling.specs.declared.keyword.EventWord.TheVariants as events
-use Rattle.pth_spelling.specs.declared.keyword.RingWord.{RingWord}
-use Rattle.pth_spelling.specs.declared.keyword.RingWord.TheVariants as rings
-use Rattle.pth_spelling.specs.declared.keyword.TimeWord.{TimeWord}
-use Rattle.pth_spelling.specs.declared.keyword.TimeWord.TheVariants as times
-use Rattle.pth_spelling.specs.declared.keyword.LockWord.{LockWord}
-use Rattle.pth_spelling.specs.declared.keyword.LockWord.TheVariants as locks
-use Rattle.pth_spelling.specs.declared.keyword.ConditionWord.{ConditionWord}
-use Rattle.pth_spelling.specs.declared.keyword.ConditionWord.TheVariants as conditions
+use Rattle.pth_spelling.specs.declared.keyword.KeyStorageWord.{KeyStorageWord}
+use Rattle.pth_spelling.specs.declared.keyword.KeyStorageWord.TheVariants as keys
 use Rattle.pth_spelling.specs.declared.keyword.PortWord.{PortWord}
 use Rattle.pth_spelling.specs.declared.keyword.PortWord.TheVariants as ports
-use Rattle.pth_spelling.specs.declared.keyword.DescriptorWord.{DescriptorWord}
-use Rattle.pth_spelling.specs.declared.keyword.DescriptorWord.TheVariants as descriptors
+use Rattle.pth_spelling.specs.declared.keyword.CleanupWord.{CleanupWord}
+use Rattle.pth_spelling.specs.declared.keyword.CleanupWord.TheVariants as cleanups
+use Rattle.pth_spelling.specs.declared.keyword.MutexWord.{MutexWord}
+use Rattle.pth_spelling.specs.declared.keyword.MutexWord.TheVariants as mutexes
+use Rattle.pth_spelling.specs.declared.keyword.RwlockWord.{RwlockWord}
+use Rattle.pth_spelling.specs.declared.keyword.RwlockWord.TheVariants as rwlocks
+use Rattle.pth_spelling.specs.declared.keyword.ConditionWord.{ConditionWord}
+use Rattle.pth_spelling.specs.declared.keyword.ConditionWord.TheVariants as conditions
+use Rattle.pth_spelling.specs.declared.keyword.BarrierWord.{BarrierWord}
+use Rattle.pth_spelling.specs.declared.keyword.BarrierWord.TheVariants as barriers
+use Rattle.pth_spelling.specs.declared.keyword.IoWord.{IoWord}
+use Rattle.pth_spelling.specs.declared.keyword.IoWord.TheVariants as ios
 use Rattle.pth_spelling.specs.declared.keyword.CallWord.{CallWord}
 use Rattle.pth_spelling.specs.declared.keyword.CallWord.TheVariants as call
 use Rattle.pth_spelling.specs.declared.keyword.Keyword.{Keyword}
@@ -58,78 +68,76 @@ set_forms [] = form.Operand ∷ form.Field ∷ form.Operand ∷ []
 set_forms (a ∷ []) = form.Operand ∷ form.Field ∷ form.Operand ∷ []
 set_forms (a ∷ f ∷ ws) = field_forms (field_of f)
 
--- ---- call lines, by what they are about
+-- ---- call lines, by the facility
 
-abbrev pub thread_forms : ThreadWord → List (List ℕ) → List Form
-thread_forms threads.Spawn ws = form.Operand ∷ form.Operand ∷ form.Operand ∷ []
-thread_forms threads.SelfTid ws = []
-thread_forms threads.Exit ws = form.Operand ∷ []
-thread_forms threads.Yield ws = form.Operand ∷ []
-thread_forms threads.Join ws = form.Operand ∷ []
-thread_forms threads.Cancel ws = form.Operand ∷ []
-thread_forms threads.Abort ws = form.Operand ∷ []
-thread_forms threads.CancelState ws = form.Operand ∷ []
-thread_forms threads.CancelPoint ws = []
-thread_forms threads.Suspend ws = form.Operand ∷ []
-thread_forms threads.Resume ws = form.Operand ∷ []
-thread_forms threads.Kill ws = []
-thread_forms threads.Ctrl ws = ctrl_forms ws
-thread_forms threads.Once ws = form.Operand ∷ form.Operand ∷ form.Operand ∷ []
+abbrev pub library_forms : LibraryWord → List (List ℕ) → List Form
+library_forms libraries.Kill ws = []
+library_forms libraries.Ctrl ws = ctrl_forms ws
 
-abbrev pub attr_forms : AttrWord → List (List ℕ) → List Form
-attr_forms attrs.New ws = []
-attr_forms attrs.Of ws = form.Operand ∷ []
-attr_forms attrs.Init ws = form.Operand ∷ []
-attr_forms attrs.Set ws = set_forms ws
-attr_forms attrs.Get ws = form.Operand ∷ form.Field ∷ []
-attr_forms attrs.Destroy ws = form.Operand ∷ []
+abbrev pub attribute_forms : AttributeWord → List (List ℕ) → List Form
+attribute_forms attributes.New ws = []
+attribute_forms attributes.Of ws = form.Operand ∷ []
+attribute_forms attributes.Init ws = form.Operand ∷ []
+attribute_forms attributes.Set ws = set_forms ws
+attribute_forms attributes.Get ws = form.Operand ∷ form.Field ∷ []
+attribute_forms attributes.Destroy ws = form.Operand ∷ []
 
-abbrev pub store_forms : StoreWord → List Form
-store_forms stores.CleanupPush = form.Operand ∷ form.Operand ∷ []
-store_forms stores.CleanupPop = form.Operand ∷ []
-store_forms stores.KeyCreate = form.MaybeOperand ∷ []
-store_forms stores.KeyDelete = form.Operand ∷ []
-store_forms stores.KeySet = form.Operand ∷ form.Operand ∷ []
-store_forms stores.KeyGet = form.Operand ∷ []
+abbrev pub thread_forms : ThreadWord → List Form
+thread_forms threads.Spawn = form.Operand ∷ form.Operand ∷ form.Operand ∷ []
+thread_forms threads.Once = form.Operand ∷ form.Operand ∷ form.Operand ∷ []
+thread_forms threads.SelfTid = []
+thread_forms threads.Suspend = form.Operand ∷ []
+thread_forms threads.Resume = form.Operand ∷ []
+thread_forms threads.Yield = form.Operand ∷ []
+thread_forms threads.Nap = form.Operand ∷ []
+thread_forms threads.Wait = form.Operand ∷ []
+thread_forms threads.Cancel = form.Operand ∷ []
+thread_forms threads.Abort = form.Operand ∷ []
+thread_forms threads.Join = form.Operand ∷ []
+thread_forms threads.Exit = form.Operand ∷ []
 
-abbrev pub event_forms : EventWord → List Form
-event_forms events.Fd = form.Goals ∷ form.Operand ∷ []
-event_forms events.Select = form.Set ∷ form.Set ∷ form.Set ∷ []
-event_forms events.Time = form.Operand ∷ []
-event_forms events.Msg = form.Operand ∷ []
-event_forms events.Cond = form.Operand ∷ []
-event_forms events.Tid = form.State ∷ form.Operand ∷ []
-event_forms events.Func = form.Operand ∷ form.Operand ∷ form.Operand ∷ []
+abbrev pub utility_forms : UtilityWord → List Form
+utility_forms utilities.Fdmode = form.Operand ∷ form.Operand ∷ []
+utility_forms utilities.Timeout = form.Operand ∷ []
 
-abbrev pub ring_forms : RingWord → List Form
-ring_forms rings.Concat = form.Operand ∷ form.Operand ∷ []
-ring_forms rings.Isolate = form.Operand ∷ []
-ring_forms rings.Walk = form.Operand ∷ form.Direction ∷ []
-ring_forms rings.Status = form.Operand ∷ []
-ring_forms rings.Kind = form.Operand ∷ []
-ring_forms rings.Free = form.Operand ∷ form.Which ∷ []
-ring_forms rings.Wait = form.Operand ∷ []
+abbrev pub cancellation_forms : CancellationWord → List Form
+cancellation_forms cancellations.Point = []
+cancellation_forms cancellations.State = form.Operand ∷ []
 
-abbrev pub time_forms : TimeWord → List Form
-time_forms times.Timeout = form.Operand ∷ []
-time_forms times.Nap = form.Operand ∷ []
-time_forms times.Usleep = form.Operand ∷ []
-time_forms times.Sleep = form.Operand ∷ []
+abbrev pub new_event_forms : NewEventWord → List Form
+new_event_forms new_events.Fd = form.Goals ∷ form.Operand ∷ []
+new_event_forms new_events.Select = form.Set ∷ form.Set ∷ form.Set ∷ []
+new_event_forms new_events.Time = form.Operand ∷ []
+new_event_forms new_events.Msg = form.Operand ∷ []
+new_event_forms new_events.Cond = form.Operand ∷ []
+new_event_forms new_events.Tid = form.State ∷ form.Operand ∷ []
+new_event_forms new_events.Func = form.Operand ∷ form.Operand ∷ form.Operand ∷ []
 
-abbrev pub lock_forms : LockWord → List Form
-lock_forms locks.MutexInit = form.Operand ∷ []
-lock_forms locks.MutexAcquire = form.Operand ∷ form.Operand ∷ form.Operand ∷ []
-lock_forms locks.MutexRelease = form.Operand ∷ []
-lock_forms locks.RwInit = form.Operand ∷ []
-lock_forms locks.RwAcquire = form.Operand ∷ form.Mode ∷ form.Operand ∷ form.Operand ∷ []
-lock_forms locks.RwRelease = form.Operand ∷ []
+-- an event and its line
+abbrev pub chained_forms : Option NewEventWord → List Form
+chained_forms (Some k) = form.Operand ∷ form.Event ∷ new_event_forms k
+chained_forms None = form.Operand ∷ form.Event ∷ []
 
-abbrev pub condition_forms : ConditionWord → List Form
-condition_forms conditions.CondInit = form.Operand ∷ []
-condition_forms conditions.CondAwait = form.Operand ∷ form.Operand ∷ form.Operand ∷ []
-condition_forms conditions.CondNotify = form.Operand ∷ form.Operand ∷ []
-condition_forms conditions.BarrierInit = form.Operand ∷ form.Operand ∷ []
-condition_forms conditions.BarrierReach = form.Operand ∷ []
+abbrev pub chain_forms : List (List ℕ) → List Form
+chain_forms [] = form.Operand ∷ form.Event ∷ []
+chain_forms (e ∷ []) = form.Operand ∷ form.Event ∷ []
+chain_forms (e ∷ k ∷ ws) = chained_forms (new_event_word k)
+
+abbrev pub event_forms : EventWord → List (List ℕ) → List Form
+event_forms (events.New k) ws = new_event_forms k
+event_forms events.Chain ws = chain_forms ws
+event_forms events.Concat ws = form.Operand ∷ form.Operand ∷ []
+event_forms events.Isolate ws = form.Operand ∷ []
+event_forms events.Walk ws = form.Operand ∷ form.Direction ∷ []
+event_forms events.Status ws = form.Operand ∷ []
+event_forms events.Kind ws = form.Operand ∷ []
+event_forms events.Free ws = form.Operand ∷ form.Which ∷ []
+
+abbrev pub key_forms : KeyStorageWord → List Form
+key_forms keys.Create = form.MaybeOperand ∷ []
+key_forms keys.Delete = form.Operand ∷ []
+key_forms keys.Set = form.Operand ∷ form.Operand ∷ []
+key_forms keys.Get = form.Operand ∷ []
 
 abbrev pub port_forms : PortWord → List Form
 port_forms ports.Create = form.MaybeName ∷ []
@@ -140,42 +148,59 @@ port_forms ports.Get = form.Operand ∷ []
 port_forms ports.Reply = form.Operand ∷ []
 port_forms ports.Destroy = form.Operand ∷ []
 
-abbrev pub descriptor_forms : DescriptorWord → List Form
-descriptor_forms descriptors.Read = form.Operand ∷ form.Operand ∷ []
-descriptor_forms descriptors.ReadEv = form.Operand ∷ form.Operand ∷ form.Operand ∷ []
-descriptor_forms descriptors.Write = form.Operand ∷ form.Bytes ∷ []
-descriptor_forms descriptors.WriteEv = form.Operand ∷ form.Bytes ∷ form.Operand ∷ []
-descriptor_forms descriptors.Accept = form.Operand ∷ []
-descriptor_forms descriptors.AcceptEv = form.Operand ∷ form.Operand ∷ []
-descriptor_forms descriptors.Connect = form.Operand ∷ []
-descriptor_forms descriptors.ConnectEv = form.Operand ∷ form.Operand ∷ []
-descriptor_forms descriptors.Select = form.Set ∷ form.Set ∷ form.Set ∷ form.Operand ∷ []
-descriptor_forms descriptors.SelectEv = form.Set ∷ form.Set ∷ form.Set ∷ form.Operand ∷ form.Operand ∷ []
-descriptor_forms descriptors.Fdmode = form.Operand ∷ form.Operand ∷ []
-descriptor_forms descriptors.Close = form.Operand ∷ []
+abbrev pub cleanup_forms : CleanupWord → List Form
+cleanup_forms cleanups.Push = form.Operand ∷ form.Operand ∷ []
+cleanup_forms cleanups.Pop = form.Operand ∷ []
 
--- an event and its line
-abbrev pub chained_forms : Option EventWord → List Form
-chained_forms (Some k) = form.Operand ∷ form.Event ∷ event_forms k
-chained_forms None = form.Operand ∷ form.Event ∷ []
+abbrev pub mutex_forms : MutexWord → List Form
+mutex_forms mutexes.Init = form.Operand ∷ []
+mutex_forms mutexes.Acquire = form.Operand ∷ form.Operand ∷ form.Operand ∷ []
+mutex_forms mutexes.Release = form.Operand ∷ []
 
-abbrev pub chain_forms : List (List ℕ) → List Form
-chain_forms [] = form.Operand ∷ form.Event ∷ []
-chain_forms (e ∷ []) = form.Operand ∷ form.Event ∷ []
-chain_forms (e ∷ k ∷ ws) = chained_forms (event_word k)
+abbrev pub rwlock_forms : RwlockWord → List Form
+rwlock_forms rwlocks.Init = form.Operand ∷ []
+rwlock_forms rwlocks.Acquire = form.Operand ∷ form.Mode ∷ form.Operand ∷ form.Operand ∷ []
+rwlock_forms rwlocks.Release = form.Operand ∷ []
+
+abbrev pub condition_forms : ConditionWord → List Form
+condition_forms conditions.Init = form.Operand ∷ []
+condition_forms conditions.Await = form.Operand ∷ form.Operand ∷ form.Operand ∷ []
+condition_forms conditions.Notify = form.Operand ∷ form.Operand ∷ []
+
+abbrev pub barrier_forms : BarrierWord → List Form
+barrier_forms barriers.Init = form.Operand ∷ form.Operand ∷ []
+barrier_forms barriers.Reach = form.Operand ∷ []
+
+abbrev pub io_forms : IoWord → List Form
+io_forms ios.Usleep = form.Operand ∷ []
+io_forms ios.Sleep = form.Operand ∷ []
+io_forms ios.Read = form.Operand ∷ form.Operand ∷ []
+io_forms ios.ReadEv = form.Operand ∷ form.Operand ∷ form.Operand ∷ []
+io_forms ios.Write = form.Operand ∷ form.Bytes ∷ []
+io_forms ios.WriteEv = form.Operand ∷ form.Bytes ∷ form.Operand ∷ []
+io_forms ios.Accept = form.Operand ∷ []
+io_forms ios.AcceptEv = form.Operand ∷ form.Operand ∷ []
+io_forms ios.Connect = form.Operand ∷ []
+io_forms ios.ConnectEv = form.Operand ∷ form.Operand ∷ []
+io_forms ios.Select = form.Set ∷ form.Set ∷ form.Set ∷ form.Operand ∷ []
+io_forms ios.SelectEv = form.Set ∷ form.Set ∷ form.Set ∷ form.Operand ∷ form.Operand ∷ []
+io_forms ios.Close = form.Operand ∷ []
 
 abbrev pub call_forms : CallWord → List (List ℕ) → List Form
-call_forms (call.Thread k) ws = thread_forms k ws
-call_forms (call.Attr k) ws = attr_forms k ws
-call_forms (call.Store k) ws = store_forms k
-call_forms (call.Event k) ws = event_forms k
-call_forms call.Chain ws = chain_forms ws
-call_forms (call.Ring k) ws = ring_forms k
-call_forms (call.Time k) ws = time_forms k
-call_forms (call.Lock k) ws = lock_forms k
-call_forms (call.Condition k) ws = condition_forms k
-call_forms (call.Port k) ws = port_forms k
-call_forms (call.Descriptor k) ws = descriptor_forms k
+call_forms (call.Library k) ws = library_forms k ws
+call_forms (call.Attributes k) ws = attribute_forms k ws
+call_forms (call.Threads k) ws = thread_forms k
+call_forms (call.Utilities k) ws = utility_forms k
+call_forms (call.Cancellation k) ws = cancellation_forms k
+call_forms (call.Events k) ws = event_forms k ws
+call_forms (call.Keys k) ws = key_forms k
+call_forms (call.Ports k) ws = port_forms k
+call_forms (call.Cleanups k) ws = cleanup_forms k
+call_forms (call.Mutexes k) ws = mutex_forms k
+call_forms (call.Rwlocks k) ws = rwlock_forms k
+call_forms (call.Conditions k) ws = condition_forms k
+call_forms (call.Barriers k) ws = barrier_forms k
+call_forms (call.Io k) ws = io_forms k
 
 -- ---- the lines of each section
 

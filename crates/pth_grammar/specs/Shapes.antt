@@ -3,7 +3,7 @@ use Rattle.std.specs.Prelude.{ℕ, Bool, true, false, ◌||◌, not, List, [], �
 use Rattle.std.specs.List.{find}
 use Rattle.std.specs.Str.{bytes_eq}
 use Rattle.pth_grammar.specs.Forms.{forms_of, call_forms}
-use Rattle.pth_spelling.specs.Keywords.{begins, call_word, event_word}
+use Rattle.pth_spelling.specs.Keywords.{begins, call_word, new_event_word}
 use Rattle.pth_spelling.specs.Words.{natural_of, operand_of, maybe, register_of, value_of, shared_of, name_of, set_of, has_hex, given_of, goals_of, which_of, relation_of, field_of, state_of, mode_of, direction_of, query_of}
 use Rattle.pth_grammar.specs.declared.form.Form.{Form}
 use Rattle.pth_grammar.specs.declared.form.Form.TheVariants as form
@@ -52,7 +52,7 @@ is_listed form.State w = is_some (state_of w)
 is_listed form.Mode w = is_some (mode_of w)
 is_listed form.Direction w = is_some (direction_of w)
 is_listed form.Query w = is_some (query_of w)
-is_listed form.Event w = is_some (event_word w)
+is_listed form.Event w = is_some (new_event_word w)
 is_listed _ w = true
 
 -- the form and range of other words; the bytes after `hex:` are looked at by themselves

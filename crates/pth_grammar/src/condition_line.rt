@@ -1,4 +1,4 @@
-//! Lines that call on conditions and barriers, read.
+//! Lines that call on conditions, read.
 
 ghost use Rattle.std.specs.Prelude.{◌≡◌};
 ghost use Rattle.pth_grammar.specs.CallLines.{condition_by, condition_line};
@@ -12,22 +12,14 @@ fn condition_by(word: ConditionWord, numbers: Operands) -> Option<ConditionLine>
     ensures { result ≡ condition_by word numbers }
 {
     match (word, numbers) {
-        (ConditionWord::CondInit, Operands::One(c)) => Some(ConditionLine::CondInit(c)),
-        (ConditionWord::CondAwait, Operands::Three(c, m, e)) => {
-            Some(ConditionLine::CondAwait { c, m, e })
-        }
-        (ConditionWord::CondNotify, Operands::Two(c, v)) => {
-            Some(ConditionLine::CondNotify { c, v })
-        }
-        (ConditionWord::BarrierInit, Operands::Two(b, n)) => {
-            Some(ConditionLine::BarrierInit { b, n })
-        }
-        (ConditionWord::BarrierReach, Operands::One(b)) => Some(ConditionLine::BarrierReach(b)),
+        (ConditionWord::Init, Operands::One(x)) => Some(ConditionLine::Init(x)),
+        (ConditionWord::Await, Operands::Three(c, m, e)) => Some(ConditionLine::Await { c, m, e }),
+        (ConditionWord::Notify, Operands::Two(c, v)) => Some(ConditionLine::Notify { c, v }),
         _ => None,
     }
 }
 
-/// The call on conditions or barriers that words stand for.
+/// The call on conditions that words stand for.
 pub fn condition_line(word: ConditionWord, words: &[&[u8]]) -> Option<ConditionLine>
     ensures { result ≡ condition_line word (texts words.now) }
 {

@@ -8,7 +8,7 @@ ghost use Rattle.pth_spelling.specs.Texts.{texts};
 use crate::form::Form;
 use crate::section::Section;
 use crate::shape::{Shape, shape_of};
-use pth_spelling::first_word::event_word;
+use pth_spelling::first_word::new_event_word;
 use pth_spelling::words::{
     direction, field, goals, maybe_name, maybe_operand, mode, name, natural, operand, query,
     register, relation, set, shared, state, value, which,
@@ -27,7 +27,7 @@ fn is_listed(form: Form, word: &[u8]) -> bool
         Form::Mode => mode(word).is_some(),
         Form::Direction => direction(word).is_some(),
         Form::Query => query(word).is_some(),
-        Form::Event => event_word(word).is_some(),
+        Form::Event => new_event_word(word).is_some(),
         _ => true,
     }
 }

@@ -1,16 +1,17 @@
 //! The words that must follow the first word of a line.
 
 ghost use Rattle.std.specs.Prelude.{◌≡◌, option_map};
-ghost use Rattle.pth_grammar.specs.Forms.{query_forms, ctrl_forms, field_forms, set_forms, thread_forms, attr_forms, store_forms, event_forms, ring_forms, time_forms, lock_forms, condition_forms, port_forms, descriptor_forms, chained_forms, chain_forms, call_forms, act_forms, body_forms, opening_forms, may_open, forms_of};
+ghost use Rattle.pth_grammar.specs.Forms.{query_forms, ctrl_forms, field_forms, set_forms, library_forms, attribute_forms, thread_forms, utility_forms, cancellation_forms, new_event_forms, event_forms, key_forms, port_forms, cleanup_forms, mutex_forms, rwlock_forms, condition_forms, barrier_forms, io_forms, chained_forms, chain_forms, call_forms, act_forms, body_forms, opening_forms, may_open, forms_of};
 ghost use Rattle.pth_spelling.specs.Texts.{texts};
 
 use crate::form::Form;
 use crate::section::Section;
 use pth_base::attr::AttrField;
-use pth_spelling::first_word::event_word;
+use pth_spelling::first_word::new_event_word;
 use pth_spelling::keyword::{
-    AttrWord, CallWord, ConditionWord, DescriptorWord, EventWord, Keyword, LockWord, PortWord,
-    QueryWord, RingWord, StoreWord, ThreadWord, TimeWord,
+    AttributeWord, BarrierWord, CallWord, CancellationWord, CleanupWord, ConditionWord, EventWord,
+    IoWord, KeyStorageWord, Keyword, LibraryWord, MutexWord, NewEventWord, PortWord, QueryWord,
+    RwlockWord, ThreadWord, UtilityWord,
 };
 use pth_spelling::words::{field, query};
 
@@ -52,114 +53,138 @@ fn set_forms(words: &[&[u8]]) -> &'static [Form]
     }
 }
 
-fn thread_forms(word: ThreadWord, words: &[&[u8]]) -> &'static [Form]
-    ensures { result.now ≡ thread_forms word (texts words.now) }
+fn library_forms(word: LibraryWord, words: &[&[u8]]) -> &'static [Form]
+    ensures { result.now ≡ library_forms word (texts words.now) }
+{
+    match word {
+        LibraryWord::Kill => &[],
+        LibraryWord::Ctrl => ctrl_forms(words),
+    }
+}
+
+fn attribute_forms(word: AttributeWord, words: &[&[u8]]) -> &'static [Form]
+    ensures { result.now ≡ attribute_forms word (texts words.now) }
+{
+    match word {
+        AttributeWord::New => &[],
+        AttributeWord::Of => &[Form::Operand],
+        AttributeWord::Init => &[Form::Operand],
+        AttributeWord::Set => set_forms(words),
+        AttributeWord::Get => &[Form::Operand, Form::Field],
+        AttributeWord::Destroy => &[Form::Operand],
+    }
+}
+
+fn thread_forms(word: ThreadWord) -> &'static [Form]
+    ensures { result.now ≡ thread_forms word }
 {
     match word {
         ThreadWord::Spawn => &[Form::Operand, Form::Operand, Form::Operand],
+        ThreadWord::Once => &[Form::Operand, Form::Operand, Form::Operand],
         ThreadWord::SelfTid => &[],
-        ThreadWord::Exit => &[Form::Operand],
-        ThreadWord::Yield => &[Form::Operand],
-        ThreadWord::Join => &[Form::Operand],
-        ThreadWord::Cancel => &[Form::Operand],
-        ThreadWord::Abort => &[Form::Operand],
-        ThreadWord::CancelState => &[Form::Operand],
-        ThreadWord::CancelPoint => &[],
         ThreadWord::Suspend => &[Form::Operand],
         ThreadWord::Resume => &[Form::Operand],
-        ThreadWord::Kill => &[],
-        ThreadWord::Ctrl => ctrl_forms(words),
-        ThreadWord::Once => &[Form::Operand, Form::Operand, Form::Operand],
+        ThreadWord::Yield => &[Form::Operand],
+        ThreadWord::Nap => &[Form::Operand],
+        ThreadWord::Wait => &[Form::Operand],
+        ThreadWord::Cancel => &[Form::Operand],
+        ThreadWord::Abort => &[Form::Operand],
+        ThreadWord::Join => &[Form::Operand],
+        ThreadWord::Exit => &[Form::Operand],
     }
 }
 
-fn attr_forms(word: AttrWord, words: &[&[u8]]) -> &'static [Form]
-    ensures { result.now ≡ attr_forms word (texts words.now) }
+fn utility_forms(word: UtilityWord) -> &'static [Form]
+    ensures { result.now ≡ utility_forms word }
 {
     match word {
-        AttrWord::New => &[],
-        AttrWord::Of => &[Form::Operand],
-        AttrWord::Init => &[Form::Operand],
-        AttrWord::Set => set_forms(words),
-        AttrWord::Get => &[Form::Operand, Form::Field],
-        AttrWord::Destroy => &[Form::Operand],
+        UtilityWord::Fdmode => &[Form::Operand, Form::Operand],
+        UtilityWord::Timeout => &[Form::Operand],
     }
 }
 
-fn store_forms(word: StoreWord) -> &'static [Form]
-    ensures { result.now ≡ store_forms word }
+fn cancellation_forms(word: CancellationWord) -> &'static [Form]
+    ensures { result.now ≡ cancellation_forms word }
 {
     match word {
-        StoreWord::CleanupPush => &[Form::Operand, Form::Operand],
-        StoreWord::CleanupPop => &[Form::Operand],
-        StoreWord::KeyCreate => &[Form::MaybeOperand],
-        StoreWord::KeyDelete => &[Form::Operand],
-        StoreWord::KeySet => &[Form::Operand, Form::Operand],
-        StoreWord::KeyGet => &[Form::Operand],
+        CancellationWord::Point => &[],
+        CancellationWord::State => &[Form::Operand],
     }
 }
 
-fn event_forms(word: EventWord) -> &'static [Form]
-    ensures { result.now ≡ event_forms word }
+fn new_event_forms(word: NewEventWord) -> &'static [Form]
+    ensures { result.now ≡ new_event_forms word }
 {
     match word {
-        EventWord::Fd => &[Form::Goals, Form::Operand],
-        EventWord::Select => &[Form::Set, Form::Set, Form::Set],
-        EventWord::Time => &[Form::Operand],
-        EventWord::Msg => &[Form::Operand],
-        EventWord::Cond => &[Form::Operand],
-        EventWord::Tid => &[Form::State, Form::Operand],
-        EventWord::Func => &[Form::Operand, Form::Operand, Form::Operand],
+        NewEventWord::Fd => &[Form::Goals, Form::Operand],
+        NewEventWord::Select => &[Form::Set, Form::Set, Form::Set],
+        NewEventWord::Time => &[Form::Operand],
+        NewEventWord::Msg => &[Form::Operand],
+        NewEventWord::Cond => &[Form::Operand],
+        NewEventWord::Tid => &[Form::State, Form::Operand],
+        NewEventWord::Func => &[Form::Operand, Form::Operand, Form::Operand],
     }
 }
 
-fn ring_forms(word: RingWord) -> &'static [Form]
-    ensures { result.now ≡ ring_forms word }
+fn chained_forms(event: Option<NewEventWord>) -> &'static [Form]
+    ensures { result.now ≡ chained_forms event }
 {
-    match word {
-        RingWord::Concat => &[Form::Operand, Form::Operand],
-        RingWord::Isolate => &[Form::Operand],
-        RingWord::Walk => &[Form::Operand, Form::Direction],
-        RingWord::Status => &[Form::Operand],
-        RingWord::Kind => &[Form::Operand],
-        RingWord::Free => &[Form::Operand, Form::Which],
-        RingWord::Wait => &[Form::Operand],
+    match event {
+        None => &[Form::Operand, Form::Event],
+        Some(NewEventWord::Fd) => &[Form::Operand, Form::Event, Form::Goals, Form::Operand],
+        Some(NewEventWord::Select) => &[
+            Form::Operand,
+            Form::Event,
+            Form::Set,
+            Form::Set,
+            Form::Set,
+        ],
+        Some(NewEventWord::Time) => &[Form::Operand, Form::Event, Form::Operand],
+        Some(NewEventWord::Msg) => &[Form::Operand, Form::Event, Form::Operand],
+        Some(NewEventWord::Cond) => &[Form::Operand, Form::Event, Form::Operand],
+        Some(NewEventWord::Tid) => &[Form::Operand, Form::Event, Form::State, Form::Operand],
+        Some(NewEventWord::Func) => &[
+            Form::Operand,
+            Form::Event,
+            Form::Operand,
+            Form::Operand,
+            Form::Operand,
+        ],
     }
 }
 
-fn time_forms(word: TimeWord) -> &'static [Form]
-    ensures { result.now ≡ time_forms word }
+fn chain_forms(words: &[&[u8]]) -> &'static [Form]
+    ensures { result.now ≡ chain_forms (texts words.now) }
 {
-    match word {
-        TimeWord::Timeout => &[Form::Operand],
-        TimeWord::Nap => &[Form::Operand],
-        TimeWord::Usleep => &[Form::Operand],
-        TimeWord::Sleep => &[Form::Operand],
+    match words {
+        [_, word, ..] => chained_forms(new_event_word(word)),
+        _ => &[Form::Operand, Form::Event],
     }
 }
 
-fn lock_forms(word: LockWord) -> &'static [Form]
-    ensures { result.now ≡ lock_forms word }
+fn event_forms(word: EventWord, words: &[&[u8]]) -> &'static [Form]
+    ensures { result.now ≡ event_forms word (texts words.now) }
 {
     match word {
-        LockWord::MutexInit => &[Form::Operand],
-        LockWord::MutexAcquire => &[Form::Operand, Form::Operand, Form::Operand],
-        LockWord::MutexRelease => &[Form::Operand],
-        LockWord::RwInit => &[Form::Operand],
-        LockWord::RwAcquire => &[Form::Operand, Form::Mode, Form::Operand, Form::Operand],
-        LockWord::RwRelease => &[Form::Operand],
+        EventWord::New(word) => new_event_forms(word),
+        EventWord::Chain => chain_forms(words),
+        EventWord::Concat => &[Form::Operand, Form::Operand],
+        EventWord::Isolate => &[Form::Operand],
+        EventWord::Walk => &[Form::Operand, Form::Direction],
+        EventWord::Status => &[Form::Operand],
+        EventWord::Kind => &[Form::Operand],
+        EventWord::Free => &[Form::Operand, Form::Which],
     }
 }
 
-fn condition_forms(word: ConditionWord) -> &'static [Form]
-    ensures { result.now ≡ condition_forms word }
+fn key_forms(word: KeyStorageWord) -> &'static [Form]
+    ensures { result.now ≡ key_forms word }
 {
     match word {
-        ConditionWord::CondInit => &[Form::Operand],
-        ConditionWord::CondAwait => &[Form::Operand, Form::Operand, Form::Operand],
-        ConditionWord::CondNotify => &[Form::Operand, Form::Operand],
-        ConditionWord::BarrierInit => &[Form::Operand, Form::Operand],
-        ConditionWord::BarrierReach => &[Form::Operand],
+        KeyStorageWord::Create => &[Form::MaybeOperand],
+        KeyStorageWord::Delete => &[Form::Operand],
+        KeyStorageWord::Set => &[Form::Operand, Form::Operand],
+        KeyStorageWord::Get => &[Form::Operand],
     }
 }
 
@@ -177,58 +202,77 @@ fn port_forms(word: PortWord) -> &'static [Form]
     }
 }
 
-fn descriptor_forms(word: DescriptorWord) -> &'static [Form]
-    ensures { result.now ≡ descriptor_forms word }
+fn cleanup_forms(word: CleanupWord) -> &'static [Form]
+    ensures { result.now ≡ cleanup_forms word }
 {
     match word {
-        DescriptorWord::Read => &[Form::Operand, Form::Operand],
-        DescriptorWord::ReadEv => &[Form::Operand, Form::Operand, Form::Operand],
-        DescriptorWord::Write => &[Form::Operand, Form::Bytes],
-        DescriptorWord::WriteEv => &[Form::Operand, Form::Bytes, Form::Operand],
-        DescriptorWord::Accept => &[Form::Operand],
-        DescriptorWord::AcceptEv => &[Form::Operand, Form::Operand],
-        DescriptorWord::Connect => &[Form::Operand],
-        DescriptorWord::ConnectEv => &[Form::Operand, Form::Operand],
-        DescriptorWord::Select => &[Form::Set, Form::Set, Form::Set, Form::Operand],
-        DescriptorWord::SelectEv => &[
+        CleanupWord::Push => &[Form::Operand, Form::Operand],
+        CleanupWord::Pop => &[Form::Operand],
+    }
+}
+
+fn mutex_forms(word: MutexWord) -> &'static [Form]
+    ensures { result.now ≡ mutex_forms word }
+{
+    match word {
+        MutexWord::Init => &[Form::Operand],
+        MutexWord::Acquire => &[Form::Operand, Form::Operand, Form::Operand],
+        MutexWord::Release => &[Form::Operand],
+    }
+}
+
+fn rwlock_forms(word: RwlockWord) -> &'static [Form]
+    ensures { result.now ≡ rwlock_forms word }
+{
+    match word {
+        RwlockWord::Init => &[Form::Operand],
+        RwlockWord::Acquire => &[Form::Operand, Form::Mode, Form::Operand, Form::Operand],
+        RwlockWord::Release => &[Form::Operand],
+    }
+}
+
+fn condition_forms(word: ConditionWord) -> &'static [Form]
+    ensures { result.now ≡ condition_forms word }
+{
+    match word {
+        ConditionWord::Init => &[Form::Operand],
+        ConditionWord::Await => &[Form::Operand, Form::Operand, Form::Operand],
+        ConditionWord::Notify => &[Form::Operand, Form::Operand],
+    }
+}
+
+fn barrier_forms(word: BarrierWord) -> &'static [Form]
+    ensures { result.now ≡ barrier_forms word }
+{
+    match word {
+        BarrierWord::Init => &[Form::Operand, Form::Operand],
+        BarrierWord::Reach => &[Form::Operand],
+    }
+}
+
+fn io_forms(word: IoWord) -> &'static [Form]
+    ensures { result.now ≡ io_forms word }
+{
+    match word {
+        IoWord::Usleep => &[Form::Operand],
+        IoWord::Sleep => &[Form::Operand],
+        IoWord::Read => &[Form::Operand, Form::Operand],
+        IoWord::ReadEv => &[Form::Operand, Form::Operand, Form::Operand],
+        IoWord::Write => &[Form::Operand, Form::Bytes],
+        IoWord::WriteEv => &[Form::Operand, Form::Bytes, Form::Operand],
+        IoWord::Accept => &[Form::Operand],
+        IoWord::AcceptEv => &[Form::Operand, Form::Operand],
+        IoWord::Connect => &[Form::Operand],
+        IoWord::ConnectEv => &[Form::Operand, Form::Operand],
+        IoWord::Select => &[Form::Set, Form::Set, Form::Set, Form::Operand],
+        IoWord::SelectEv => &[
             Form::Set,
             Form::Set,
             Form::Set,
             Form::Operand,
             Form::Operand,
         ],
-        DescriptorWord::Fdmode => &[Form::Operand, Form::Operand],
-        DescriptorWord::Close => &[Form::Operand],
-    }
-}
-
-fn chained_forms(event: Option<EventWord>) -> &'static [Form]
-    ensures { result.now ≡ chained_forms event }
-{
-    match event {
-        None => &[Form::Operand, Form::Event],
-        Some(EventWord::Fd) => &[Form::Operand, Form::Event, Form::Goals, Form::Operand],
-        Some(EventWord::Select) => &[Form::Operand, Form::Event, Form::Set, Form::Set, Form::Set],
-        Some(EventWord::Time) => &[Form::Operand, Form::Event, Form::Operand],
-        Some(EventWord::Msg) => &[Form::Operand, Form::Event, Form::Operand],
-        Some(EventWord::Cond) => &[Form::Operand, Form::Event, Form::Operand],
-        Some(EventWord::Tid) => &[Form::Operand, Form::Event, Form::State, Form::Operand],
-        Some(EventWord::Func) => &[
-            Form::Operand,
-            Form::Event,
-            Form::Operand,
-            Form::Operand,
-            Form::Operand,
-        ],
-    }
-}
-
-fn chain_forms(words: &[&[u8]]) -> &'static [Form]
-    ensures { result.now ≡ chain_forms (texts words.now) }
-{
-    match words {
-        [_, word, ..] => chained_forms(event_word(word)),
-        _ => &[Form::Operand, Form::Event],
+        IoWord::Close => &[Form::Operand],
     }
 }
 
@@ -237,17 +281,20 @@ pub fn call_forms(word: CallWord, words: &[&[u8]]) -> &'static [Form]
     ensures { result.now ≡ call_forms word (texts words.now) }
 {
     match word {
-        CallWord::Thread(word) => thread_forms(word, words),
-        CallWord::Attr(word) => attr_forms(word, words),
-        CallWord::Store(word) => store_forms(word),
-        CallWord::Event(word) => event_forms(word),
-        CallWord::Chain => chain_forms(words),
-        CallWord::Ring(word) => ring_forms(word),
-        CallWord::Time(word) => time_forms(word),
-        CallWord::Lock(word) => lock_forms(word),
-        CallWord::Condition(word) => condition_forms(word),
-        CallWord::Port(word) => port_forms(word),
-        CallWord::Descriptor(word) => descriptor_forms(word),
+        CallWord::Library(word) => library_forms(word, words),
+        CallWord::Attributes(word) => attribute_forms(word, words),
+        CallWord::Threads(word) => thread_forms(word),
+        CallWord::Utilities(word) => utility_forms(word),
+        CallWord::Cancellation(word) => cancellation_forms(word),
+        CallWord::Events(word) => event_forms(word, words),
+        CallWord::Keys(word) => key_forms(word),
+        CallWord::Ports(word) => port_forms(word),
+        CallWord::Cleanups(word) => cleanup_forms(word),
+        CallWord::Mutexes(word) => mutex_forms(word),
+        CallWord::Rwlocks(word) => rwlock_forms(word),
+        CallWord::Conditions(word) => condition_forms(word),
+        CallWord::Barriers(word) => barrier_forms(word),
+        CallWord::Io(word) => io_forms(word),
     }
 }
 

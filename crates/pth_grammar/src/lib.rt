@@ -2,22 +2,27 @@
 #![tactic(auto)]
 
 mod acts;
-mod attr_line;
+mod attribute_line;
+mod barrier_line;
 mod call_line;
+mod cancellation_line;
+mod cleanup_line;
 mod condition_line;
-mod descriptor_line;
 mod event_line;
 pub mod fault;
 pub mod form;
 mod forms;
+mod io_line;
+mod key_line;
 pub mod laws;
+mod library_line;
 pub mod lines;
-mod lock_line;
+mod mutex_line;
+mod new_event;
 mod operands;
 mod port_line;
-mod ring_line;
+mod rwlock_line;
 pub mod section;
 mod shape;
-mod store_line;
 mod thread_line;
-mod time_line;
+mod utility_line;

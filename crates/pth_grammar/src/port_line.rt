@@ -14,11 +14,11 @@ fn port_by(word: PortWord, numbers: Operands) -> Option<PortLine>
     ensures { result ≡ port_by word numbers }
 {
     match (word, numbers) {
-        (PortWord::Pending, Operands::One(p)) => Some(PortLine::Pending(p)),
+        (PortWord::Pending, Operands::One(x)) => Some(PortLine::Pending(x)),
         (PortWord::Put, Operands::Three(p, v, r)) => Some(PortLine::Put { p, v, r }),
-        (PortWord::Get, Operands::One(p)) => Some(PortLine::Get(p)),
-        (PortWord::Reply, Operands::One(v)) => Some(PortLine::Reply(v)),
-        (PortWord::Destroy, Operands::One(p)) => Some(PortLine::Destroy(p)),
+        (PortWord::Get, Operands::One(x)) => Some(PortLine::Get(x)),
+        (PortWord::Reply, Operands::One(x)) => Some(PortLine::Reply(x)),
+        (PortWord::Destroy, Operands::One(x)) => Some(PortLine::Destroy(x)),
         _ => None,
     }
 }

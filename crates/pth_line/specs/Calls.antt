@@ -1,5 +1,5 @@
 -- The call that a call line makes: each operand is replaced by its number.
-use Rattle.std.specs.Prelude.{Bool, true, false, Some, None}
+use Rattle.std.specs.Prelude.{Some, None}
 use Rattle.pth_base.specs.declared.attr.AttrValue.{AttrValue}
 use Rattle.pth_base.specs.declared.attr.AttrValue.TheVariants as attr
 use Rattle.pth_base.specs.declared.call.Call.{Call}
@@ -9,32 +9,42 @@ use Rattle.pth_base.specs.declared.event.EvLine.TheVariants as ev
 use Rattle.pth_base.specs.declared.query.Query.{Query}
 use Rattle.pth_base.specs.declared.query.Query.TheVariants as query
 use Rattle.pth_line.specs.Values.{View, number_in, bytes_in}
-use Rattle.pth_line.specs.declared.attr_line.AttrLine.{AttrLine}
-use Rattle.pth_line.specs.declared.attr_line.AttrLine.TheVariants as attrs
-use Rattle.pth_line.specs.declared.attr_line.FieldLine.{FieldLine}
-use Rattle.pth_line.specs.declared.attr_line.FieldLine.TheVariants as field
 use Rattle.pth_line.specs.declared.call_line.CallLine.{CallLine}
 use Rattle.pth_line.specs.declared.call_line.CallLine.TheVariants as line
-use Rattle.pth_line.specs.declared.condition_line.ConditionLine.{ConditionLine}
-use Rattle.pth_line.specs.declared.condition_line.ConditionLine.TheVariants as conditions
-use Rattle.pth_line.specs.declared.descriptor_line.DescriptorLine.{DescriptorLine}
-use Rattle.pth_line.specs.declared.descriptor_line.DescriptorLine.TheVariants as descriptors
-use Rattle.pth_line.specs.declared.event_line.EventLine.{EventLine}
-use Rattle.pth_line.specs.declared.event_line.EventLine.TheVariants as events
-use Rattle.pth_line.specs.declared.lock_line.LockLine.{LockLine}
-use Rattle.pth_line.specs.declared.lock_line.LockLine.TheVariants as locks
-use Rattle.pth_line.specs.declared.port_line.PortLine.{PortLine}
-use Rattle.pth_line.specs.declared.port_line.PortLine.TheVariants as ports
-use Rattle.pth_line.specs.declared.ring_line.RingLine.{RingLine}
-use Rattle.pth_line.specs.declared.ring_line.RingLine.TheVariants as rings
-use Rattle.pth_line.specs.declared.store_line.StoreLine.{StoreLine}
-use Rattle.pth_line.specs.declared.store_line.StoreLine.TheVariants as stores
-use Rattle.pth_line.specs.declared.thread_line.QueryLine.{QueryLine}
-use Rattle.pth_line.specs.declared.thread_line.QueryLine.TheVariants as queries
+use Rattle.pth_line.specs.declared.library_line.QueryLine.{QueryLine}
+use Rattle.pth_line.specs.declared.library_line.QueryLine.TheVariants as queries
+use Rattle.pth_line.specs.declared.attribute_line.FieldLine.{FieldLine}
+use Rattle.pth_line.specs.declared.attribute_line.FieldLine.TheVariants as field
+use Rattle.pth_line.specs.declared.new_event.NewEvent.{NewEvent}
+use Rattle.pth_line.specs.declared.new_event.NewEvent.TheVariants as new
+use Rattle.pth_line.specs.declared.library_line.LibraryLine.{LibraryLine}
+use Rattle.pth_line.specs.declared.library_line.LibraryLine.TheVariants as libraries
+use Rattle.pth_line.specs.declared.attribute_line.AttributeLine.{AttributeLine}
+use Rattle.pth_line.specs.declared.attribute_line.AttributeLine.TheVariants as attributes
 use Rattle.pth_line.specs.declared.thread_line.ThreadLine.{ThreadLine}
 use Rattle.pth_line.specs.declared.thread_line.ThreadLine.TheVariants as threads
-use Rattle.pth_line.specs.declared.time_line.TimeLine.{TimeLine}
-use Rattle.pth_line.specs.declared.time_line.TimeLine.TheVariants as times
+use Rattle.pth_line.specs.declared.utility_line.UtilityLine.{UtilityLine}
+use Rattle.pth_line.specs.declared.utility_line.UtilityLine.TheVariants as utilities
+use Rattle.pth_line.specs.declared.cancellation_line.CancellationLine.{CancellationLine}
+use Rattle.pth_line.specs.declared.cancellation_line.CancellationLine.TheVariants as cancellations
+use Rattle.pth_line.specs.declared.event_line.EventLine.{EventLine}
+use Rattle.pth_line.specs.declared.event_line.EventLine.TheVariants as events
+use Rattle.pth_line.specs.declared.key_line.KeyLine.{KeyLine}
+use Rattle.pth_line.specs.declared.key_line.KeyLine.TheVariants as keys
+use Rattle.pth_line.specs.declared.port_line.PortLine.{PortLine}
+use Rattle.pth_line.specs.declared.port_line.PortLine.TheVariants as ports
+use Rattle.pth_line.specs.declared.cleanup_line.CleanupLine.{CleanupLine}
+use Rattle.pth_line.specs.declared.cleanup_line.CleanupLine.TheVariants as cleanups
+use Rattle.pth_line.specs.declared.mutex_line.MutexLine.{MutexLine}
+use Rattle.pth_line.specs.declared.mutex_line.MutexLine.TheVariants as mutexes
+use Rattle.pth_line.specs.declared.rwlock_line.RwlockLine.{RwlockLine}
+use Rattle.pth_line.specs.declared.rwlock_line.RwlockLine.TheVariants as rwlocks
+use Rattle.pth_line.specs.declared.condition_line.ConditionLine.{ConditionLine}
+use Rattle.pth_line.specs.declared.condition_line.ConditionLine.TheVariants as conditions
+use Rattle.pth_line.specs.declared.barrier_line.BarrierLine.{BarrierLine}
+use Rattle.pth_line.specs.declared.barrier_line.BarrierLine.TheVariants as barriers
+use Rattle.pth_line.specs.declared.io_line.IoLine.{IoLine}
+use Rattle.pth_line.specs.declared.io_line.IoLine.TheVariants as ios
 
 -- what `pth_ctrl` is asked
 abbrev pub query_in : View → QueryLine → Query
@@ -49,22 +59,10 @@ query_in s (queries.Favournew n) = query.Favournew (number_in s n)
 query_in s (queries.Prio t) = query.Prio (number_in s t)
 query_in s (queries.Name t) = query.Name (number_in s t)
 
--- a call on threads
-abbrev pub thread_call : View → ThreadLine → Call
-thread_call s (threads.Spawn b v a) = call.Spawn (number_in s b) (number_in s v) (number_in s a)
-thread_call s threads.SelfTid = call.SelfTid
-thread_call s (threads.Exit v) = call.Exit (number_in s v)
-thread_call s (threads.Yield t) = call.Yield (number_in s t)
-thread_call s (threads.Join t) = call.Join (number_in s t)
-thread_call s (threads.Cancel t) = call.Cancel (number_in s t)
-thread_call s (threads.Abort t) = call.Abort (number_in s t)
-thread_call s (threads.CancelState n) = call.CancelState (number_in s n)
-thread_call s threads.CancelPoint = call.CancelPoint
-thread_call s (threads.Suspend t) = call.Suspend (number_in s t)
-thread_call s (threads.Resume t) = call.Resume (number_in s t)
-thread_call s threads.Kill = call.Kill
-thread_call s (threads.Ctrl q) = call.Ctrl (query_in s q)
-thread_call s (threads.Once o h v) = call.Once (number_in s o) (number_in s h) (number_in s v)
+-- a call that manages the library
+abbrev pub library_call : View → LibraryLine → Call
+library_call s libraries.Kill = call.Kill
+library_call s (libraries.Ctrl x) = call.Ctrl (query_in s x)
 
 -- a field with its number
 abbrev pub field_in : View → FieldLine → AttrValue
@@ -77,119 +75,145 @@ field_in s (field.State n) = attr.State (number_in s n)
 field_in s (field.Bound n) = attr.Bound (number_in s n)
 
 -- a call on attribute objects
-abbrev pub attr_call : View → AttrLine → Call
-attr_call s attrs.New = call.AttrNew
-attr_call s (attrs.Of t) = call.AttrOf (number_in s t)
-attr_call s (attrs.Init a) = call.AttrInit (number_in s a)
-attr_call s (attrs.Set a v) = call.AttrSet (number_in s a) (field_in s v)
-attr_call s (attrs.Get a f) = call.AttrGet (number_in s a) f
-attr_call s (attrs.Destroy a) = call.AttrDestroy (number_in s a)
+abbrev pub attribute_call : View → AttributeLine → Call
+attribute_call s attributes.New = call.AttrNew
+attribute_call s (attributes.Of x) = call.AttrOf (number_in s x)
+attribute_call s (attributes.Init x) = call.AttrInit (number_in s x)
+attribute_call s (attributes.Set a v) = call.AttrSet (number_in s a) (field_in s v)
+attribute_call s (attributes.Get a f) = call.AttrGet (number_in s a) f
+attribute_call s (attributes.Destroy x) = call.AttrDestroy (number_in s x)
 
--- a call on cleanup handlers or keys
-abbrev pub store_call : View → StoreLine → Call
-store_call s (stores.CleanupPush h v) = call.CleanupPush (number_in s h) (number_in s v)
-store_call s (stores.CleanupPop v) = call.CleanupPop (number_in s v)
-store_call s (stores.KeyCreate None) = call.KeyCreate None
-store_call s (stores.KeyCreate (Some h)) = call.KeyCreate (Some (number_in s h))
-store_call s (stores.KeyDelete k) = call.KeyDelete (number_in s k)
-store_call s (stores.KeySet k v) = call.KeySet (number_in s k) (number_in s v)
-store_call s (stores.KeyGet k) = call.KeyGet (number_in s k)
+-- a call on threads
+abbrev pub thread_call : View → ThreadLine → Call
+thread_call s (threads.Spawn b v a) = call.Spawn (number_in s b) (number_in s v) (number_in s a)
+thread_call s (threads.Once o h v) = call.Once (number_in s o) (number_in s h) (number_in s v)
+thread_call s threads.SelfTid = call.SelfTid
+thread_call s (threads.Suspend x) = call.Suspend (number_in s x)
+thread_call s (threads.Resume x) = call.Resume (number_in s x)
+thread_call s (threads.Yield x) = call.Yield (number_in s x)
+thread_call s (threads.Nap x) = call.Nap (number_in s x)
+thread_call s (threads.Wait x) = call.Wait (number_in s x)
+thread_call s (threads.Cancel x) = call.Cancel (number_in s x)
+thread_call s (threads.Abort x) = call.Abort (number_in s x)
+thread_call s (threads.Join x) = call.Join (number_in s x)
+thread_call s (threads.Exit x) = call.Exit (number_in s x)
+
+-- a call of the utilities
+abbrev pub utility_call : View → UtilityLine → Call
+utility_call s (utilities.Fdmode f m) = call.Fdmode (number_in s f) (number_in s m)
+utility_call s (utilities.Timeout x) = call.Timeout (number_in s x)
+
+-- a call on cancellation
+abbrev pub cancellation_call : View → CancellationLine → Call
+cancellation_call s cancellations.Point = call.CancelPoint
+cancellation_call s (cancellations.State x) = call.CancelState (number_in s x)
 
 -- a new event that is in no ring yet
-abbrev pub event_call : View → EventLine → Call
-event_call s (events.Fd goals fd) = call.EvFd goals (number_in s fd)
-event_call s (events.Select r w x) = call.EvSelect r w x
-event_call s (events.Time m) = call.EvTime (number_in s m)
-event_call s (events.Msg p) = call.EvMsg (number_in s p)
-event_call s (events.Cond c) = call.EvCond (number_in s c)
-event_call s (events.Tid state tid) = call.EvTid state (number_in s tid)
-event_call s (events.Func check arg interval) = call.EvFunc (number_in s check) (number_in s arg) (number_in s interval)
+abbrev pub new_event_call : View → NewEvent → Call
+new_event_call s (new.Fd goals fd) = call.EvFd goals (number_in s fd)
+new_event_call s (new.Select r w x) = call.EvSelect r w x
+new_event_call s (new.Time x) = call.EvTime (number_in s x)
+new_event_call s (new.Msg x) = call.EvMsg (number_in s x)
+new_event_call s (new.Cond x) = call.EvCond (number_in s x)
+new_event_call s (new.Tid state tid) = call.EvTid state (number_in s tid)
+new_event_call s (new.Func check arg interval) = call.EvFunc (number_in s check) (number_in s arg) (number_in s interval)
 
 -- a new event that is chained to a ring
-abbrev pub chained_in : View → EventLine → EvLine
-chained_in s (events.Fd goals fd) = ev.Fd goals (number_in s fd)
-chained_in s (events.Select r w x) = ev.Select r w x
-chained_in s (events.Time m) = ev.Time (number_in s m)
-chained_in s (events.Msg p) = ev.Msg (number_in s p)
-chained_in s (events.Cond c) = ev.Cond (number_in s c)
-chained_in s (events.Tid state tid) = ev.Tid state (number_in s tid)
-chained_in s (events.Func check arg interval) = ev.Func (number_in s check) (number_in s arg) (number_in s interval)
+abbrev pub chained_in : View → NewEvent → EvLine
+chained_in s (new.Fd goals fd) = ev.Fd goals (number_in s fd)
+chained_in s (new.Select r w x) = ev.Select r w x
+chained_in s (new.Time m) = ev.Time (number_in s m)
+chained_in s (new.Msg p) = ev.Msg (number_in s p)
+chained_in s (new.Cond c) = ev.Cond (number_in s c)
+chained_in s (new.Tid state tid) = ev.Tid state (number_in s tid)
+chained_in s (new.Func check arg interval) = ev.Func (number_in s check) (number_in s arg) (number_in s interval)
 
--- a call on event rings
-abbrev pub ring_call : View → RingLine → Call
-ring_call s (rings.Concat e f) = call.EvConcat (number_in s e) (number_in s f)
-ring_call s (rings.Isolate e) = call.EvIsolate (number_in s e)
-ring_call s (rings.Walk e forward until_occurred) = call.EvWalk (number_in s e) forward until_occurred
-ring_call s (rings.Status e) = call.EvStatus (number_in s e)
-ring_call s (rings.Kind e) = call.EvKind (number_in s e)
-ring_call s (rings.Free e all) = call.EvFree (number_in s e) all
-ring_call s (rings.Wait e) = call.Wait (number_in s e)
+-- a call on events
+abbrev pub event_call : View → EventLine → Call
+event_call s (events.New event) = new_event_call s event
+event_call s (events.Chain e line) = call.Chain (number_in s e) (chained_in s line)
+event_call s (events.Concat e f) = call.EvConcat (number_in s e) (number_in s f)
+event_call s (events.Isolate x) = call.EvIsolate (number_in s x)
+event_call s (events.Walk e forward until_occurred) = call.EvWalk (number_in s e) forward until_occurred
+event_call s (events.Status x) = call.EvStatus (number_in s x)
+event_call s (events.Kind x) = call.EvKind (number_in s x)
+event_call s (events.Free e all) = call.EvFree (number_in s e) all
 
--- a call on time
-abbrev pub time_call : View → TimeLine → Call
-time_call s (times.Timeout l) = call.Timeout (number_in s l)
-time_call s (times.Nap l) = call.Nap (number_in s l)
-time_call s (times.Usleep l) = call.Usleep (number_in s l)
-time_call s (times.Sleep l) = call.Sleep (number_in s l)
-
--- a call on mutexes or read-write locks
-abbrev pub lock_call : View → LockLine → Call
-lock_call s (locks.MutexInit m) = call.MutexInit (number_in s m)
-lock_call s (locks.MutexAcquire m v e) = call.MutexAcquire (number_in s m) (number_in s v) (number_in s e)
-lock_call s (locks.MutexRelease m) = call.MutexRelease (number_in s m)
-lock_call s (locks.RwInit l) = call.RwInit (number_in s l)
-lock_call s (locks.RwAcquire l write v e) = call.RwAcquire (number_in s l) write (number_in s v) (number_in s e)
-lock_call s (locks.RwRelease l) = call.RwRelease (number_in s l)
-
--- a call on conditions or barriers
-abbrev pub condition_call : View → ConditionLine → Call
-condition_call s (conditions.CondInit c) = call.CondInit (number_in s c)
-condition_call s (conditions.CondAwait c m e) = call.CondAwait (number_in s c) (number_in s m) (number_in s e)
-condition_call s (conditions.CondNotify c v) = call.CondNotify (number_in s c) (number_in s v)
-condition_call s (conditions.BarrierInit b n) = call.BarrierInit (number_in s b) (number_in s n)
-condition_call s (conditions.BarrierReach b) = call.BarrierReach (number_in s b)
+-- a call on keys
+abbrev pub key_call : View → KeyLine → Call
+key_call s (keys.Create None) = call.KeyCreate None
+key_call s (keys.Create (Some h)) = call.KeyCreate (Some (number_in s h))
+key_call s (keys.Delete x) = call.KeyDelete (number_in s x)
+key_call s (keys.Set k v) = call.KeySet (number_in s k) (number_in s v)
+key_call s (keys.Get x) = call.KeyGet (number_in s x)
 
 -- a call on message ports; a reply is to the message that the thread got last
 abbrev pub port_call : View → PortLine → Call
 port_call s (ports.Create name) = call.PortCreate name
 port_call s (ports.Find name) = call.PortFind name
-port_call s (ports.Pending p) = call.PortPending (number_in s p)
+port_call s (ports.Pending x) = call.PortPending (number_in s x)
 port_call s (ports.Put p v r) = call.PortPut (number_in s p) (number_in s v) (number_in s r)
-port_call s (ports.Get p) = call.PortGet (number_in s p)
+port_call s (ports.Get x) = call.PortGet (number_in s x)
 port_call s (ports.Reply v) = call.Reply s.frame.message (number_in s v)
-port_call s (ports.Destroy p) = call.PortDestroy (number_in s p)
+port_call s (ports.Destroy x) = call.PortDestroy (number_in s x)
 
--- whether the call writes bytes
-abbrev pub writes_bytes : DescriptorLine → Bool
-writes_bytes (descriptors.Write f b) = true
-writes_bytes (descriptors.WriteEv f b e) = true
-writes_bytes _ = false
+-- a call on cleanup handlers
+abbrev pub cleanup_call : View → CleanupLine → Call
+cleanup_call s (cleanups.Push h v) = call.CleanupPush (number_in s h) (number_in s v)
+cleanup_call s (cleanups.Pop x) = call.CleanupPop (number_in s x)
 
--- a call on descriptors
-abbrev pub descriptor_call : View → DescriptorLine → Call
-descriptor_call s (descriptors.Read f n) = call.Read (number_in s f) (number_in s n)
-descriptor_call s (descriptors.ReadEv f n e) = call.ReadEv (number_in s f) (number_in s n) (number_in s e)
-descriptor_call s (descriptors.Write f b) = call.Write (number_in s f) (bytes_in s.frame b)
-descriptor_call s (descriptors.WriteEv f b e) = call.WriteEv (number_in s f) (bytes_in s.frame b) (number_in s e)
-descriptor_call s (descriptors.Accept f) = call.Accept (number_in s f)
-descriptor_call s (descriptors.AcceptEv f e) = call.AcceptEv (number_in s f) (number_in s e)
-descriptor_call s (descriptors.Connect f) = call.Connect (number_in s f)
-descriptor_call s (descriptors.ConnectEv f e) = call.ConnectEv (number_in s f) (number_in s e)
-descriptor_call s (descriptors.Select r w x l) = call.Select r w x (number_in s l)
-descriptor_call s (descriptors.SelectEv r w x l e) = call.SelectEv r w x (number_in s l) (number_in s e)
-descriptor_call s (descriptors.Fdmode f m) = call.Fdmode (number_in s f) (number_in s m)
-descriptor_call s (descriptors.Close f) = call.Close (number_in s f)
+-- a call on mutexes
+abbrev pub mutex_call : View → MutexLine → Call
+mutex_call s (mutexes.Init x) = call.MutexInit (number_in s x)
+mutex_call s (mutexes.Acquire m v e) = call.MutexAcquire (number_in s m) (number_in s v) (number_in s e)
+mutex_call s (mutexes.Release x) = call.MutexRelease (number_in s x)
+
+-- a call on read-write locks
+abbrev pub rwlock_call : View → RwlockLine → Call
+rwlock_call s (rwlocks.Init x) = call.RwInit (number_in s x)
+rwlock_call s (rwlocks.Acquire l write v e) = call.RwAcquire (number_in s l) write (number_in s v) (number_in s e)
+rwlock_call s (rwlocks.Release x) = call.RwRelease (number_in s x)
+
+-- a call on conditions
+abbrev pub condition_call : View → ConditionLine → Call
+condition_call s (conditions.Init x) = call.CondInit (number_in s x)
+condition_call s (conditions.Await c m e) = call.CondAwait (number_in s c) (number_in s m) (number_in s e)
+condition_call s (conditions.Notify c v) = call.CondNotify (number_in s c) (number_in s v)
+
+-- a call on barriers
+abbrev pub barrier_call : View → BarrierLine → Call
+barrier_call s (barriers.Init b n) = call.BarrierInit (number_in s b) (number_in s n)
+barrier_call s (barriers.Reach x) = call.BarrierReach (number_in s x)
+
+-- a call that replaces one of POSIX
+abbrev pub io_call : View → IoLine → Call
+io_call s (ios.Usleep x) = call.Usleep (number_in s x)
+io_call s (ios.Sleep x) = call.Sleep (number_in s x)
+io_call s (ios.Read f n) = call.Read (number_in s f) (number_in s n)
+io_call s (ios.ReadEv f n e) = call.ReadEv (number_in s f) (number_in s n) (number_in s e)
+io_call s (ios.Write f bytes) = call.Write (number_in s f) (bytes_in s.frame bytes)
+io_call s (ios.WriteEv f bytes e) = call.WriteEv (number_in s f) (bytes_in s.frame bytes) (number_in s e)
+io_call s (ios.Accept x) = call.Accept (number_in s x)
+io_call s (ios.AcceptEv f e) = call.AcceptEv (number_in s f) (number_in s e)
+io_call s (ios.Connect x) = call.Connect (number_in s x)
+io_call s (ios.ConnectEv f e) = call.ConnectEv (number_in s f) (number_in s e)
+io_call s (ios.Select r w x l) = call.Select r w x (number_in s l)
+io_call s (ios.SelectEv r w x l e) = call.SelectEv r w x (number_in s l) (number_in s e)
+io_call s (ios.Close x) = call.Close (number_in s x)
 
 -- the call of a line
 abbrev pub call_in : View → CallLine → Call
-call_in s (line.Thread c) = thread_call s c
-call_in s (line.Attr c) = attr_call s c
-call_in s (line.Store c) = store_call s c
-call_in s (line.Event c) = event_call s c
-call_in s (line.Chain e c) = call.Chain (number_in s e) (chained_in s c)
-call_in s (line.Ring c) = ring_call s c
-call_in s (line.Time c) = time_call s c
-call_in s (line.Lock c) = lock_call s c
-call_in s (line.Condition c) = condition_call s c
-call_in s (line.Port c) = port_call s c
-call_in s (line.Descriptor c) = descriptor_call s c
+call_in s (line.Library c) = library_call s c
+call_in s (line.Attributes c) = attribute_call s c
+call_in s (line.Threads c) = thread_call s c
+call_in s (line.Utilities c) = utility_call s c
+call_in s (line.Cancellation c) = cancellation_call s c
+call_in s (line.Events c) = event_call s c
+call_in s (line.Keys c) = key_call s c
+call_in s (line.Ports c) = port_call s c
+call_in s (line.Cleanups c) = cleanup_call s c
+call_in s (line.Mutexes c) = mutex_call s c
+call_in s (line.Rwlocks c) = rwlock_call s c
+call_in s (line.Conditions c) = condition_call s c
+call_in s (line.Barriers c) = barrier_call s c
+call_in s (line.Io c) = io_call s c

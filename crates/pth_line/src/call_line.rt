@@ -3,37 +3,42 @@
 ghost use Rattle.std.specs.Prelude.{◌≡◌, IfOk};
 ghost use Rattle.pth_line.specs.Values.{view};
 
-use crate::attr_line::AttrLine;
+use crate::attribute_line::AttributeLine;
+use crate::barrier_line::BarrierLine;
+use crate::cancellation_line::CancellationLine;
 use crate::cells::Cells;
+use crate::cleanup_line::CleanupLine;
 use crate::condition_line::ConditionLine;
-use crate::descriptor_line::DescriptorLine;
 use crate::event_line::EventLine;
 use crate::frame::Frame;
-use crate::lock_line::LockLine;
-use crate::operand::Operand;
+use crate::io_line::IoLine;
+use crate::key_line::KeyLine;
+use crate::library_line::LibraryLine;
+use crate::mutex_line::MutexLine;
 use crate::port_line::PortLine;
-use crate::ring_line::RingLine;
-use crate::store_line::StoreLine;
+use crate::rwlock_line::RwlockLine;
 use crate::thread_line::ThreadLine;
-use crate::time_line::TimeLine;
+use crate::utility_line::UtilityLine;
 use pth_base::call::Call;
 use pth_base::memory::OutOfMemory;
 
-/// A line that makes a call, by what it is about.
+/// A line that makes a call, by the facility of pth(3).
 #[derive(Drop)]
 pub enum CallLine {
-    Thread(ThreadLine),
-    Attr(AttrLine),
-    Store(StoreLine),
-    Event(EventLine),
-    /// A new event that is chained to the ring of an event.
-    Chain { e: Operand, line: EventLine },
-    Ring(RingLine),
-    Time(TimeLine),
-    Lock(LockLine),
-    Condition(ConditionLine),
-    Port(PortLine),
-    Descriptor(DescriptorLine),
+    Library(LibraryLine),
+    Attributes(AttributeLine),
+    Threads(ThreadLine),
+    Utilities(UtilityLine),
+    Cancellation(CancellationLine),
+    Events(EventLine),
+    Keys(KeyLine),
+    Ports(PortLine),
+    Cleanups(CleanupLine),
+    Mutexes(MutexLine),
+    Rwlocks(RwlockLine),
+    Conditions(ConditionLine),
+    Barriers(BarrierLine),
+    Io(IoLine),
 }
 
 impl CallLine {
@@ -44,20 +49,20 @@ impl CallLine {
         ensures { IfOk result (λ call. call ≡ call_in (view frame.now cells.now) self.now) }
     {
         match self {
-            CallLine::Thread(line) => Ok(line.call(frame, cells)),
-            CallLine::Attr(line) => Ok(line.call(frame, cells)),
-            CallLine::Store(line) => Ok(line.call(frame, cells)),
-            CallLine::Event(line) => Ok(line.call(frame, cells)),
-            CallLine::Chain { e, line } => Ok(Call::Chain {
-                e: e.number(frame, cells),
-                line: line.chained(frame, cells),
-            }),
-            CallLine::Ring(line) => Ok(line.call(frame, cells)),
-            CallLine::Time(line) => Ok(line.call(frame, cells)),
-            CallLine::Lock(line) => Ok(line.call(frame, cells)),
-            CallLine::Condition(line) => Ok(line.call(frame, cells)),
-            CallLine::Port(line) => Ok(line.call(frame, cells)),
-            CallLine::Descriptor(line) => line.call(frame, cells),
+            CallLine::Library(line) => Ok(line.call(frame, cells)),
+            CallLine::Attributes(line) => Ok(line.call(frame, cells)),
+            CallLine::Threads(line) => Ok(line.call(frame, cells)),
+            CallLine::Utilities(line) => Ok(line.call(frame, cells)),
+            CallLine::Cancellation(line) => Ok(line.call(frame, cells)),
+            CallLine::Events(line) => Ok(line.call(frame, cells)),
+            CallLine::Keys(line) => Ok(line.call(frame, cells)),
+            CallLine::Ports(line) => Ok(line.call(frame, cells)),
+            CallLine::Cleanups(line) => Ok(line.call(frame, cells)),
+            CallLine::Mutexes(line) => Ok(line.call(frame, cells)),
+            CallLine::Rwlocks(line) => Ok(line.call(frame, cells)),
+            CallLine::Conditions(line) => Ok(line.call(frame, cells)),
+            CallLine::Barriers(line) => Ok(line.call(frame, cells)),
+            CallLine::Io(line) => line.call(frame, cells),
         }
     }
 }

@@ -1,107 +1,74 @@
-//! Lines that make an event.
+//! Lines that call on events.
 
 ghost use Rattle.std.specs.Prelude.{◌≡◌};
 ghost use Rattle.pth_line.specs.Values.{view};
 
 use crate::cells::Cells;
 use crate::frame::Frame;
+use crate::new_event::NewEvent;
 use crate::operand::Operand;
 use pth_base::call::Call;
-use pth_base::event::EvLine;
-use pth_base::ids::FdSet;
-use pth_base::thread::ThreadState;
 
-/// A new event (`pth_event`).
+/// A call on events (`pth_event` to `pth_event_free`).
 #[derive(Clone, Copy)]
 pub enum EventLine {
-    Fd {
-        goals: u8,
-        fd: Operand,
+    /// An event that is in no ring yet.
+    New(NewEvent),
+    /// A new event that is chained to the ring of an event.
+    Chain {
+        e: Operand,
+        line: NewEvent,
     },
-    Select {
-        r: FdSet,
-        w: FdSet,
-        x: FdSet,
+    Concat {
+        e: Operand,
+        f: Operand,
     },
-    Time(Operand),
-    Msg(Operand),
-    Cond(Operand),
-    Tid {
-        state: ThreadState,
-        tid: Operand,
+    Isolate(Operand),
+    Walk {
+        e: Operand,
+        forward: bool,
+        until_occurred: bool,
     },
-    Func {
-        check: Operand,
-        arg: Operand,
-        interval: Operand,
+    Status(Operand),
+    Kind(Operand),
+    Free {
+        e: Operand,
+        all: bool,
     },
 }
 
 impl EventLine {
-    ghost use Rattle.pth_line.specs.Calls.{event_call, chained_in};
+    ghost use Rattle.pth_line.specs.Calls.{event_call};
 
     /// The call that the line makes.
     pub(crate) fn call(&self, frame: &Frame, cells: &Cells) -> Call
         ensures { result ≡ event_call (view frame.now cells.now) self.now }
     {
         match self {
-            EventLine::Fd { goals, fd } => Call::EvFd {
-                goals: *goals,
-                fd: fd.number(frame, cells),
+            EventLine::New(event) => event.call(frame, cells),
+            EventLine::Chain { e, line } => Call::Chain {
+                e: e.number(frame, cells),
+                line: line.chained(frame, cells),
             },
-            EventLine::Select { r, w, x } => Call::EvSelect {
-                r: *r,
-                w: *w,
-                x: *x,
+            EventLine::Concat { e, f } => Call::EvConcat {
+                e: e.number(frame, cells),
+                f: f.number(frame, cells),
             },
-            EventLine::Time(m) => Call::EvTime(m.number(frame, cells)),
-            EventLine::Msg(p) => Call::EvMsg(p.number(frame, cells)),
-            EventLine::Cond(c) => Call::EvCond(c.number(frame, cells)),
-            EventLine::Tid { state, tid } => Call::EvTid {
-                state: *state,
-                tid: tid.number(frame, cells),
+            EventLine::Isolate(x) => Call::EvIsolate(x.number(frame, cells)),
+            EventLine::Walk {
+                e,
+                forward,
+                until_occurred,
+            } => Call::EvWalk {
+                e: e.number(frame, cells),
+                forward: *forward,
+                until_occurred: *until_occurred,
             },
-            EventLine::Func {
-                check,
-                arg,
-                interval,
-            } => Call::EvFunc {
-                check: check.number(frame, cells),
-                arg: arg.number(frame, cells),
-                interval: interval.number(frame, cells),
-            },
-        }
-    }
-
-    /// The event of a line that chains it to a ring.
-    pub(crate) fn chained(&self, frame: &Frame, cells: &Cells) -> EvLine
-        ensures { result ≡ chained_in (view frame.now cells.now) self.now }
-    {
-        match self {
-            EventLine::Fd { goals, fd } => EvLine::Fd {
-                goals: *goals,
-                fd: fd.number(frame, cells),
-            },
-            EventLine::Select { r, w, x } => EvLine::Select {
-                r: *r,
-                w: *w,
-                x: *x,
-            },
-            EventLine::Time(m) => EvLine::Time(m.number(frame, cells)),
-            EventLine::Msg(p) => EvLine::Msg(p.number(frame, cells)),
-            EventLine::Cond(c) => EvLine::Cond(c.number(frame, cells)),
-            EventLine::Tid { state, tid } => EvLine::Tid {
-                state: *state,
-                tid: tid.number(frame, cells),
-            },
-            EventLine::Func {
-                check,
-                arg,
-                interval,
-            } => EvLine::Func {
-                check: check.number(frame, cells),
-                arg: arg.number(frame, cells),
-                interval: interval.number(frame, cells),
+            EventLine::Status(x) => Call::EvStatus(x.number(frame, cells)),
+            EventLine::Kind(x) => Call::EvKind(x.number(frame, cells)),
+            EventLine::Free { e, all } => Call::EvFree {
+                e: e.number(frame, cells),
+                all: *all,
             },
         }
     }

@@ -32,18 +32,18 @@ impl PortLine {
             PortLine::Create(None) => Call::PortCreate(None),
             PortLine::Create(Some(name)) => Call::PortCreate(Some(name.copy())),
             PortLine::Find(name) => Call::PortFind(name.copy()),
-            PortLine::Pending(p) => Call::PortPending(p.number(frame, cells)),
+            PortLine::Pending(x) => Call::PortPending(x.number(frame, cells)),
             PortLine::Put { p, v, r } => Call::PortPut {
                 p: p.number(frame, cells),
                 v: v.number(frame, cells),
                 r: r.number(frame, cells),
             },
-            PortLine::Get(p) => Call::PortGet(p.number(frame, cells)),
+            PortLine::Get(x) => Call::PortGet(x.number(frame, cells)),
             PortLine::Reply(v) => Call::Reply {
                 m: frame.message,
                 v: v.number(frame, cells),
             },
-            PortLine::Destroy(p) => Call::PortDestroy(p.number(frame, cells)),
+            PortLine::Destroy(x) => Call::PortDestroy(x.number(frame, cells)),
         }
     }
 }

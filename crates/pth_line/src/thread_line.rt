@@ -7,62 +7,22 @@ use crate::cells::Cells;
 use crate::frame::Frame;
 use crate::operand::Operand;
 use pth_base::call::Call;
-use pth_base::query::Query;
 
-/// What `pth_ctrl` is asked.
-#[derive(Clone, Copy)]
-pub enum QueryLine {
-    Threads,
-    New,
-    Ready,
-    Running,
-    Waiting,
-    Suspended,
-    Dead,
-    Favournew(Operand),
-    Prio(Operand),
-    Name(Operand),
-}
-
-impl QueryLine {
-    ghost use Rattle.pth_line.specs.Calls.{query_in};
-
-    /// What is asked.
-    fn query(&self, frame: &Frame, cells: &Cells) -> Query
-        ensures { result ≡ query_in (view frame.now cells.now) self.now }
-    {
-        match self {
-            QueryLine::Threads => Query::Threads,
-            QueryLine::New => Query::New,
-            QueryLine::Ready => Query::Ready,
-            QueryLine::Running => Query::Running,
-            QueryLine::Waiting => Query::Waiting,
-            QueryLine::Suspended => Query::Suspended,
-            QueryLine::Dead => Query::Dead,
-            QueryLine::Favournew(n) => Query::Favournew(n.number(frame, cells)),
-            QueryLine::Prio(t) => Query::Prio(t.number(frame, cells)),
-            QueryLine::Name(t) => Query::Name(t.number(frame, cells)),
-        }
-    }
-}
-
-/// A call on threads.
+/// A call on threads (`pth_spawn` to `pth_exit`).
 #[derive(Clone, Copy)]
 pub enum ThreadLine {
     Spawn { b: Operand, v: Operand, a: Operand },
+    Once { o: Operand, h: Operand, v: Operand },
     SelfTid,
-    Exit(Operand),
-    Yield(Operand),
-    Join(Operand),
-    Cancel(Operand),
-    Abort(Operand),
-    CancelState(Operand),
-    CancelPoint,
     Suspend(Operand),
     Resume(Operand),
-    Kill,
-    Ctrl(QueryLine),
-    Once { o: Operand, h: Operand, v: Operand },
+    Yield(Operand),
+    Nap(Operand),
+    Wait(Operand),
+    Cancel(Operand),
+    Abort(Operand),
+    Join(Operand),
+    Exit(Operand),
 }
 
 impl ThreadLine {
@@ -78,23 +38,21 @@ impl ThreadLine {
                 v: v.number(frame, cells),
                 a: a.number(frame, cells),
             },
-            ThreadLine::SelfTid => Call::SelfTid,
-            ThreadLine::Exit(v) => Call::Exit(v.number(frame, cells)),
-            ThreadLine::Yield(t) => Call::Yield(t.number(frame, cells)),
-            ThreadLine::Join(t) => Call::Join(t.number(frame, cells)),
-            ThreadLine::Cancel(t) => Call::Cancel(t.number(frame, cells)),
-            ThreadLine::Abort(t) => Call::Abort(t.number(frame, cells)),
-            ThreadLine::CancelState(n) => Call::CancelState(n.number(frame, cells)),
-            ThreadLine::CancelPoint => Call::CancelPoint,
-            ThreadLine::Suspend(t) => Call::Suspend(t.number(frame, cells)),
-            ThreadLine::Resume(t) => Call::Resume(t.number(frame, cells)),
-            ThreadLine::Kill => Call::Kill,
-            ThreadLine::Ctrl(query) => Call::Ctrl(query.query(frame, cells)),
             ThreadLine::Once { o, h, v } => Call::Once {
                 o: o.number(frame, cells),
                 h: h.number(frame, cells),
                 v: v.number(frame, cells),
             },
+            ThreadLine::SelfTid => Call::SelfTid,
+            ThreadLine::Suspend(x) => Call::Suspend(x.number(frame, cells)),
+            ThreadLine::Resume(x) => Call::Resume(x.number(frame, cells)),
+            ThreadLine::Yield(x) => Call::Yield(x.number(frame, cells)),
+            ThreadLine::Nap(x) => Call::Nap(x.number(frame, cells)),
+            ThreadLine::Wait(x) => Call::Wait(x.number(frame, cells)),
+            ThreadLine::Cancel(x) => Call::Cancel(x.number(frame, cells)),
+            ThreadLine::Abort(x) => Call::Abort(x.number(frame, cells)),
+            ThreadLine::Join(x) => Call::Join(x.number(frame, cells)),
+            ThreadLine::Exit(x) => Call::Exit(x.number(frame, cells)),
         }
     }
 }

@@ -1,145 +1,148 @@
 -- The words that begin lines.
-use Rattle.std.specs.Prelude.{ℕ, List, [], ◌∷◌, Option, Some, None, if◌then◌else◌, codes, option_map, is_some}
-use Rattle.std.specs.Str.{bytes_eq}
+use Rattle.std.specs.Prelude.{ℕ, List, [], ◌∷◌, Option, Some, None, if◌then◌else◌, codes, option_and_then, option_map, is_some}
 use Rattle.pth_spelling.specs.Named.{named}
 use Rattle.pth_spelling.specs.Words.{register_of}
+use Rattle.pth_spelling.specs.declared.keyword.LibraryWord.{LibraryWord}
+use Rattle.pth_spelling.specs.declared.keyword.LibraryWord.TheVariants as libraries
+use Rattle.pth_spelling.specs.declared.keyword.AttributeWord.{AttributeWord}
+use Rattle.pth_spelling.specs.declared.keyword.AttributeWord.TheVariants as attributes
 use Rattle.pth_spelling.specs.declared.keyword.ThreadWord.{ThreadWord}
 use Rattle.pth_spelling.specs.declared.keyword.ThreadWord.TheVariants as threads
-use Rattle.pth_spelling.specs.declared.keyword.AttrWord.{AttrWord}
-use Rattle.pth_spelling.specs.declared.keyword.AttrWord.TheVariants as attrs
-use Rattle.pth_spelling.specs.declared.keyword.StoreWord.{StoreWord}
-use Rattle.pth_spelling.specs.declared.keyword.StoreWord.TheVariants as stores
+use Rattle.pth_spelling.specs.declared.keyword.UtilityWord.{UtilityWord}
+use Rattle.pth_spelling.specs.declared.keyword.UtilityWord.TheVariants as utilities
+use Rattle.pth_spelling.specs.declared.keyword.CancellationWord.{CancellationWord}
+use Rattle.pth_spelling.specs.declared.keyword.CancellationWord.TheVariants as cancellations
 use Rattle.pth_spelling.specs.declared.keyword.EventWord.{EventWord}
 use Rattle.pth_spelling.specs.declared.keyword.EventWord.TheVariants as events
-use Rattle.pth_spelling.specs.declared.keyword.RingWord.{RingWord}
-use Rattle.pth_spelling.specs.declared.keyword.RingWord.TheVariants as rings
-use Rattle.pth_spelling.specs.declared.keyword.TimeWord.{TimeWord}
-use Rattle.pth_spelling.specs.declared.keyword.TimeWord.TheVariants as times
-use Rattle.pth_spelling.specs.declared.keyword.LockWord.{LockWord}
-use Rattle.pth_spelling.specs.declared.keyword.LockWord.TheVariants as locks
-use Rattle.pth_spelling.specs.declared.keyword.ConditionWord.{ConditionWord}
-use Rattle.pth_spelling.specs.declared.keyword.ConditionWord.TheVariants as conditions
+use Rattle.pth_spelling.specs.declared.keyword.KeyStorageWord.{KeyStorageWord}
+use Rattle.pth_spelling.specs.declared.keyword.KeyStorageWord.TheVariants as keys
 use Rattle.pth_spelling.specs.declared.keyword.PortWord.{PortWord}
 use Rattle.pth_spelling.specs.declared.keyword.PortWord.TheVariants as ports
-use Rattle.pth_spelling.specs.declared.keyword.DescriptorWord.{DescriptorWord}
-use Rattle.pth_spelling.specs.declared.keyword.DescriptorWord.TheVariants as descriptors
+use Rattle.pth_spelling.specs.declared.keyword.CleanupWord.{CleanupWord}
+use Rattle.pth_spelling.specs.declared.keyword.CleanupWord.TheVariants as cleanups
+use Rattle.pth_spelling.specs.declared.keyword.MutexWord.{MutexWord}
+use Rattle.pth_spelling.specs.declared.keyword.MutexWord.TheVariants as mutexes
+use Rattle.pth_spelling.specs.declared.keyword.RwlockWord.{RwlockWord}
+use Rattle.pth_spelling.specs.declared.keyword.RwlockWord.TheVariants as rwlocks
+use Rattle.pth_spelling.specs.declared.keyword.ConditionWord.{ConditionWord}
+use Rattle.pth_spelling.specs.declared.keyword.ConditionWord.TheVariants as conditions
+use Rattle.pth_spelling.specs.declared.keyword.BarrierWord.{BarrierWord}
+use Rattle.pth_spelling.specs.declared.keyword.BarrierWord.TheVariants as barriers
+use Rattle.pth_spelling.specs.declared.keyword.IoWord.{IoWord}
+use Rattle.pth_spelling.specs.declared.keyword.IoWord.TheVariants as ios
+use Rattle.pth_spelling.specs.declared.keyword.NewEventWord.{NewEventWord}
+use Rattle.pth_spelling.specs.declared.keyword.NewEventWord.TheVariants as new
 use Rattle.pth_spelling.specs.declared.keyword.CallWord.{CallWord}
 use Rattle.pth_spelling.specs.declared.keyword.CallWord.TheVariants as call
 use Rattle.pth_spelling.specs.declared.keyword.Keyword.{Keyword}
 use Rattle.pth_spelling.specs.declared.keyword.Keyword.TheVariants as key
 
--- ---- call lines, by what they are about
+-- ---- call lines, by the facility
+
+abbrev pub library_words : List (List ℕ × LibraryWord)
+library_words =
+    (codes "kill", libraries.Kill)
+    ∷ (codes "ctrl", libraries.Ctrl)
+    ∷ []
+
+unfoldable pub library_word : List ℕ → Option LibraryWord
+library_word w = named library_words w
+
+abbrev pub attribute_words : List (List ℕ × AttributeWord)
+attribute_words =
+    (codes "attr_new", attributes.New)
+    ∷ (codes "attr_of", attributes.Of)
+    ∷ (codes "attr_init", attributes.Init)
+    ∷ (codes "attr_set", attributes.Set)
+    ∷ (codes "attr_get", attributes.Get)
+    ∷ (codes "attr_destroy", attributes.Destroy)
+    ∷ []
+
+unfoldable pub attribute_word : List ℕ → Option AttributeWord
+attribute_word w = named attribute_words w
 
 abbrev pub thread_words : List (List ℕ × ThreadWord)
 thread_words =
     (codes "spawn", threads.Spawn)
+    ∷ (codes "once", threads.Once)
     ∷ (codes "self", threads.SelfTid)
-    ∷ (codes "exit", threads.Exit)
-    ∷ (codes "yield", threads.Yield)
-    ∷ (codes "join", threads.Join)
-    ∷ (codes "cancel", threads.Cancel)
-    ∷ (codes "abort", threads.Abort)
-    ∷ (codes "cancel_state", threads.CancelState)
-    ∷ (codes "cancel_point", threads.CancelPoint)
     ∷ (codes "suspend", threads.Suspend)
     ∷ (codes "resume", threads.Resume)
-    ∷ (codes "kill", threads.Kill)
-    ∷ (codes "ctrl", threads.Ctrl)
-    ∷ (codes "once", threads.Once)
+    ∷ (codes "yield", threads.Yield)
+    ∷ (codes "nap", threads.Nap)
+    ∷ (codes "wait", threads.Wait)
+    ∷ (codes "cancel", threads.Cancel)
+    ∷ (codes "abort", threads.Abort)
+    ∷ (codes "join", threads.Join)
+    ∷ (codes "exit", threads.Exit)
     ∷ []
 
 unfoldable pub thread_word : List ℕ → Option ThreadWord
 thread_word w = named thread_words w
 
-abbrev pub attr_words : List (List ℕ × AttrWord)
-attr_words =
-    (codes "attr_new", attrs.New)
-    ∷ (codes "attr_of", attrs.Of)
-    ∷ (codes "attr_init", attrs.Init)
-    ∷ (codes "attr_set", attrs.Set)
-    ∷ (codes "attr_get", attrs.Get)
-    ∷ (codes "attr_destroy", attrs.Destroy)
+abbrev pub utility_words : List (List ℕ × UtilityWord)
+utility_words =
+    (codes "fdmode", utilities.Fdmode)
+    ∷ (codes "timeout", utilities.Timeout)
     ∷ []
 
-unfoldable pub attr_word : List ℕ → Option AttrWord
-attr_word w = named attr_words w
+unfoldable pub utility_word : List ℕ → Option UtilityWord
+utility_word w = named utility_words w
 
-abbrev pub store_words : List (List ℕ × StoreWord)
-store_words =
-    (codes "cleanup_push", stores.CleanupPush)
-    ∷ (codes "cleanup_pop", stores.CleanupPop)
-    ∷ (codes "key_create", stores.KeyCreate)
-    ∷ (codes "key_delete", stores.KeyDelete)
-    ∷ (codes "key_set", stores.KeySet)
-    ∷ (codes "key_get", stores.KeyGet)
+abbrev pub cancellation_words : List (List ℕ × CancellationWord)
+cancellation_words =
+    (codes "cancel_point", cancellations.Point)
+    ∷ (codes "cancel_state", cancellations.State)
     ∷ []
 
-unfoldable pub store_word : List ℕ → Option StoreWord
-store_word w = named store_words w
+unfoldable pub cancellation_word : List ℕ → Option CancellationWord
+cancellation_word w = named cancellation_words w
 
 abbrev pub event_words : List (List ℕ × EventWord)
 event_words =
-    (codes "ev_fd", events.Fd)
-    ∷ (codes "ev_select", events.Select)
-    ∷ (codes "ev_time", events.Time)
-    ∷ (codes "ev_msg", events.Msg)
-    ∷ (codes "ev_cond", events.Cond)
-    ∷ (codes "ev_tid", events.Tid)
-    ∷ (codes "ev_func", events.Func)
+    (codes "ev_fd", events.New new.Fd)
+    ∷ (codes "ev_select", events.New new.Select)
+    ∷ (codes "ev_time", events.New new.Time)
+    ∷ (codes "ev_msg", events.New new.Msg)
+    ∷ (codes "ev_cond", events.New new.Cond)
+    ∷ (codes "ev_tid", events.New new.Tid)
+    ∷ (codes "ev_func", events.New new.Func)
+    ∷ (codes "chain", events.Chain)
+    ∷ (codes "ev_concat", events.Concat)
+    ∷ (codes "ev_isolate", events.Isolate)
+    ∷ (codes "ev_walk", events.Walk)
+    ∷ (codes "ev_status", events.Status)
+    ∷ (codes "ev_kind", events.Kind)
+    ∷ (codes "ev_free", events.Free)
     ∷ []
 
 unfoldable pub event_word : List ℕ → Option EventWord
 event_word w = named event_words w
 
-abbrev pub ring_words : List (List ℕ × RingWord)
-ring_words =
-    (codes "ev_concat", rings.Concat)
-    ∷ (codes "ev_isolate", rings.Isolate)
-    ∷ (codes "ev_walk", rings.Walk)
-    ∷ (codes "ev_status", rings.Status)
-    ∷ (codes "ev_kind", rings.Kind)
-    ∷ (codes "ev_free", rings.Free)
-    ∷ (codes "wait", rings.Wait)
+-- the new event that the word makes
+abbrev pub new_of : EventWord → Option NewEventWord
+new_of (events.New k) = Some k
+new_of events.Chain = None
+new_of events.Concat = None
+new_of events.Isolate = None
+new_of events.Walk = None
+new_of events.Status = None
+new_of events.Kind = None
+new_of events.Free = None
+
+unfoldable pub new_event_word : List ℕ → Option NewEventWord
+new_event_word w = option_and_then (λ k. new_of k) (event_word w)
+
+abbrev pub key_words : List (List ℕ × KeyStorageWord)
+key_words =
+    (codes "key_create", keys.Create)
+    ∷ (codes "key_delete", keys.Delete)
+    ∷ (codes "key_set", keys.Set)
+    ∷ (codes "key_get", keys.Get)
     ∷ []
 
-unfoldable pub ring_word : List ℕ → Option RingWord
-ring_word w = named ring_words w
-
-abbrev pub time_words : List (List ℕ × TimeWord)
-time_words =
-    (codes "timeout", times.Timeout)
-    ∷ (codes "nap", times.Nap)
-    ∷ (codes "usleep", times.Usleep)
-    ∷ (codes "sleep", times.Sleep)
-    ∷ []
-
-unfoldable pub time_word : List ℕ → Option TimeWord
-time_word w = named time_words w
-
-abbrev pub lock_words : List (List ℕ × LockWord)
-lock_words =
-    (codes "mutex_init", locks.MutexInit)
-    ∷ (codes "mutex_acquire", locks.MutexAcquire)
-    ∷ (codes "mutex_release", locks.MutexRelease)
-    ∷ (codes "rw_init", locks.RwInit)
-    ∷ (codes "rw_acquire", locks.RwAcquire)
-    ∷ (codes "rw_release", locks.RwRelease)
-    ∷ []
-
-unfoldable pub lock_word : List ℕ → Option LockWord
-lock_word w = named lock_words w
-
-abbrev pub condition_words : List (List ℕ × ConditionWord)
-condition_words =
-    (codes "cond_init", conditions.CondInit)
-    ∷ (codes "cond_await", conditions.CondAwait)
-    ∷ (codes "cond_notify", conditions.CondNotify)
-    ∷ (codes "barrier_init", conditions.BarrierInit)
-    ∷ (codes "barrier_reach", conditions.BarrierReach)
-    ∷ []
-
-unfoldable pub condition_word : List ℕ → Option ConditionWord
-condition_word w = named condition_words w
+unfoldable pub key_word : List ℕ → Option KeyStorageWord
+key_word w = named key_words w
 
 abbrev pub port_words : List (List ℕ × PortWord)
 port_words =
@@ -155,24 +158,73 @@ port_words =
 unfoldable pub port_word : List ℕ → Option PortWord
 port_word w = named port_words w
 
-abbrev pub descriptor_words : List (List ℕ × DescriptorWord)
-descriptor_words =
-    (codes "read", descriptors.Read)
-    ∷ (codes "read_ev", descriptors.ReadEv)
-    ∷ (codes "write", descriptors.Write)
-    ∷ (codes "write_ev", descriptors.WriteEv)
-    ∷ (codes "accept", descriptors.Accept)
-    ∷ (codes "accept_ev", descriptors.AcceptEv)
-    ∷ (codes "connect", descriptors.Connect)
-    ∷ (codes "connect_ev", descriptors.ConnectEv)
-    ∷ (codes "select", descriptors.Select)
-    ∷ (codes "select_ev", descriptors.SelectEv)
-    ∷ (codes "fdmode", descriptors.Fdmode)
-    ∷ (codes "close", descriptors.Close)
+abbrev pub cleanup_words : List (List ℕ × CleanupWord)
+cleanup_words =
+    (codes "cleanup_push", cleanups.Push)
+    ∷ (codes "cleanup_pop", cleanups.Pop)
     ∷ []
 
-unfoldable pub descriptor_word : List ℕ → Option DescriptorWord
-descriptor_word w = named descriptor_words w
+unfoldable pub cleanup_word : List ℕ → Option CleanupWord
+cleanup_word w = named cleanup_words w
+
+abbrev pub mutex_words : List (List ℕ × MutexWord)
+mutex_words =
+    (codes "mutex_init", mutexes.Init)
+    ∷ (codes "mutex_acquire", mutexes.Acquire)
+    ∷ (codes "mutex_release", mutexes.Release)
+    ∷ []
+
+unfoldable pub mutex_word : List ℕ → Option MutexWord
+mutex_word w = named mutex_words w
+
+abbrev pub rwlock_words : List (List ℕ × RwlockWord)
+rwlock_words =
+    (codes "rw_init", rwlocks.Init)
+    ∷ (codes "rw_acquire", rwlocks.Acquire)
+    ∷ (codes "rw_release", rwlocks.Release)
+    ∷ []
+
+unfoldable pub rwlock_word : List ℕ → Option RwlockWord
+rwlock_word w = named rwlock_words w
+
+abbrev pub condition_words : List (List ℕ × ConditionWord)
+condition_words =
+    (codes "cond_init", conditions.Init)
+    ∷ (codes "cond_await", conditions.Await)
+    ∷ (codes "cond_notify", conditions.Notify)
+    ∷ []
+
+unfoldable pub condition_word : List ℕ → Option ConditionWord
+condition_word w = named condition_words w
+
+abbrev pub barrier_words : List (List ℕ × BarrierWord)
+barrier_words =
+    (codes "barrier_init", barriers.Init)
+    ∷ (codes "barrier_reach", barriers.Reach)
+    ∷ []
+
+unfoldable pub barrier_word : List ℕ → Option BarrierWord
+barrier_word w = named barrier_words w
+
+abbrev pub io_words : List (List ℕ × IoWord)
+io_words =
+    (codes "usleep", ios.Usleep)
+    ∷ (codes "sleep", ios.Sleep)
+    ∷ (codes "read", ios.Read)
+    ∷ (codes "read_ev", ios.ReadEv)
+    ∷ (codes "write", ios.Write)
+    ∷ (codes "write_ev", ios.WriteEv)
+    ∷ (codes "accept", ios.Accept)
+    ∷ (codes "accept_ev", ios.AcceptEv)
+    ∷ (codes "connect", ios.Connect)
+    ∷ (codes "connect_ev", ios.ConnectEv)
+    ∷ (codes "select", ios.Select)
+    ∷ (codes "select_ev", ios.SelectEv)
+    ∷ (codes "close", ios.Close)
+    ∷ []
+
+unfoldable pub io_word : List ℕ → Option IoWord
+io_word w = named io_words w
 
 -- the first that is there
 abbrev pub or_else : {A : Type 0} → Option A → Option A → Option A
@@ -181,17 +233,20 @@ or_else None o = o
 
 unfoldable pub call_word : List ℕ → Option CallWord
 call_word w =
-    or_else (option_map (λ k. call.Thread k) (thread_word w))
-    (or_else (option_map (λ k. call.Attr k) (attr_word w))
-    (or_else (option_map (λ k. call.Store k) (store_word w))
-    (or_else (option_map (λ k. call.Event k) (event_word w))
-    (or_else (if bytes_eq w (codes "chain") then Some call.Chain else None)
-    (or_else (option_map (λ k. call.Ring k) (ring_word w))
-    (or_else (option_map (λ k. call.Time k) (time_word w))
-    (or_else (option_map (λ k. call.Lock k) (lock_word w))
-    (or_else (option_map (λ k. call.Condition k) (condition_word w))
-    (or_else (option_map (λ k. call.Port k) (port_word w))
-    (option_map (λ k. call.Descriptor k) (descriptor_word w)))))))))))
+    or_else (option_map (λ k. call.Library k) (library_word w))
+    (or_else (option_map (λ k. call.Attributes k) (attribute_word w))
+    (or_else (option_map (λ k. call.Threads k) (thread_word w))
+    (or_else (option_map (λ k. call.Utilities k) (utility_word w))
+    (or_else (option_map (λ k. call.Cancellation k) (cancellation_word w))
+    (or_else (option_map (λ k. call.Events k) (event_word w))
+    (or_else (option_map (λ k. call.Keys k) (key_word w))
+    (or_else (option_map (λ k. call.Ports k) (port_word w))
+    (or_else (option_map (λ k. call.Cleanups k) (cleanup_word w))
+    (or_else (option_map (λ k. call.Mutexes k) (mutex_word w))
+    (or_else (option_map (λ k. call.Rwlocks k) (rwlock_word w))
+    (or_else (option_map (λ k. call.Conditions k) (condition_word w))
+    (or_else (option_map (λ k. call.Barriers k) (barrier_word w))
+    (option_map (λ k. call.Io k) (io_word w))))))))))))))
 
 -- ---- all first words
 

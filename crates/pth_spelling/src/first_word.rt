@@ -2,30 +2,59 @@
 
 ghost use Rattle.std.specs.Prelude.{◌≡◌};
 ghost use Rattle.pth_spelling.specs.Texts.{texts};
-ghost use Rattle.pth_spelling.specs.Keywords.{thread_word, attr_word, store_word, event_word, ring_word, time_word, lock_word, condition_word, port_word, descriptor_word, call_word, plain_word, keyword_of, begins};
+ghost use Rattle.pth_spelling.specs.Keywords.{library_word, attribute_word, thread_word, utility_word, cancellation_word, event_word, key_word, port_word, cleanup_word, mutex_word, rwlock_word, condition_word, barrier_word, io_word, new_of, new_event_word, call_word, plain_word, keyword_of, begins};
 
 use crate::keyword::{
-    AttrWord, CallWord, ConditionWord, DescriptorWord, EventWord, Keyword, LockWord, PortWord,
-    RingWord, StoreWord, ThreadWord, TimeWord,
+    AttributeWord, BarrierWord, CallWord, CancellationWord, CleanupWord, ConditionWord, EventWord,
+    IoWord, KeyStorageWord, Keyword, LibraryWord, MutexWord, NewEventWord, PortWord, RwlockWord,
+    ThreadWord, UtilityWord,
 };
 use crate::named::named;
 use crate::words::register;
 
-static THREAD_WORDS: [(&str, ThreadWord); 14] = [
+static LIBRARY_WORDS: [(&str, LibraryWord); 2] = [
+    ("kill", LibraryWord::Kill),
+    ("ctrl", LibraryWord::Ctrl),
+];
+
+/// The call that manages the library that a word names.
+#[tactic(auto, unfolding(crate::specs::Keywords::library_word))]
+fn library_word(word: &[u8]) -> Option<LibraryWord>
+    ensures { result ≡ library_word word.now }
+{
+    named(&LIBRARY_WORDS, word)
+}
+
+static ATTRIBUTE_WORDS: [(&str, AttributeWord); 6] = [
+    ("attr_new", AttributeWord::New),
+    ("attr_of", AttributeWord::Of),
+    ("attr_init", AttributeWord::Init),
+    ("attr_set", AttributeWord::Set),
+    ("attr_get", AttributeWord::Get),
+    ("attr_destroy", AttributeWord::Destroy),
+];
+
+/// The call on attribute objects that a word names.
+#[tactic(auto, unfolding(crate::specs::Keywords::attribute_word))]
+fn attribute_word(word: &[u8]) -> Option<AttributeWord>
+    ensures { result ≡ attribute_word word.now }
+{
+    named(&ATTRIBUTE_WORDS, word)
+}
+
+static THREAD_WORDS: [(&str, ThreadWord); 12] = [
     ("spawn", ThreadWord::Spawn),
+    ("once", ThreadWord::Once),
     ("self", ThreadWord::SelfTid),
-    ("exit", ThreadWord::Exit),
-    ("yield", ThreadWord::Yield),
-    ("join", ThreadWord::Join),
-    ("cancel", ThreadWord::Cancel),
-    ("abort", ThreadWord::Abort),
-    ("cancel_state", ThreadWord::CancelState),
-    ("cancel_point", ThreadWord::CancelPoint),
     ("suspend", ThreadWord::Suspend),
     ("resume", ThreadWord::Resume),
-    ("kill", ThreadWord::Kill),
-    ("ctrl", ThreadWord::Ctrl),
-    ("once", ThreadWord::Once),
+    ("yield", ThreadWord::Yield),
+    ("nap", ThreadWord::Nap),
+    ("wait", ThreadWord::Wait),
+    ("cancel", ThreadWord::Cancel),
+    ("abort", ThreadWord::Abort),
+    ("join", ThreadWord::Join),
+    ("exit", ThreadWord::Exit),
 ];
 
 /// The call on threads that a word names.
@@ -36,122 +65,70 @@ fn thread_word(word: &[u8]) -> Option<ThreadWord>
     named(&THREAD_WORDS, word)
 }
 
-static ATTR_WORDS: [(&str, AttrWord); 6] = [
-    ("attr_new", AttrWord::New),
-    ("attr_of", AttrWord::Of),
-    ("attr_init", AttrWord::Init),
-    ("attr_set", AttrWord::Set),
-    ("attr_get", AttrWord::Get),
-    ("attr_destroy", AttrWord::Destroy),
+static UTILITY_WORDS: [(&str, UtilityWord); 2] = [
+    ("fdmode", UtilityWord::Fdmode),
+    ("timeout", UtilityWord::Timeout),
 ];
 
-/// The call on attribute objects that a word names.
-#[tactic(auto, unfolding(crate::specs::Keywords::attr_word))]
-fn attr_word(word: &[u8]) -> Option<AttrWord>
-    ensures { result ≡ attr_word word.now }
+/// The call of the utilities that a word names.
+#[tactic(auto, unfolding(crate::specs::Keywords::utility_word))]
+fn utility_word(word: &[u8]) -> Option<UtilityWord>
+    ensures { result ≡ utility_word word.now }
 {
-    named(&ATTR_WORDS, word)
+    named(&UTILITY_WORDS, word)
 }
 
-static STORE_WORDS: [(&str, StoreWord); 6] = [
-    ("cleanup_push", StoreWord::CleanupPush),
-    ("cleanup_pop", StoreWord::CleanupPop),
-    ("key_create", StoreWord::KeyCreate),
-    ("key_delete", StoreWord::KeyDelete),
-    ("key_set", StoreWord::KeySet),
-    ("key_get", StoreWord::KeyGet),
+static CANCELLATION_WORDS: [(&str, CancellationWord); 2] = [
+    ("cancel_point", CancellationWord::Point),
+    ("cancel_state", CancellationWord::State),
 ];
 
-/// The call on cleanup handlers or keys that a word names.
-#[tactic(auto, unfolding(crate::specs::Keywords::store_word))]
-fn store_word(word: &[u8]) -> Option<StoreWord>
-    ensures { result ≡ store_word word.now }
+/// The call on cancellation that a word names.
+#[tactic(auto, unfolding(crate::specs::Keywords::cancellation_word))]
+fn cancellation_word(word: &[u8]) -> Option<CancellationWord>
+    ensures { result ≡ cancellation_word word.now }
 {
-    named(&STORE_WORDS, word)
+    named(&CANCELLATION_WORDS, word)
 }
 
-static EVENT_WORDS: [(&str, EventWord); 7] = [
-    ("ev_fd", EventWord::Fd),
-    ("ev_select", EventWord::Select),
-    ("ev_time", EventWord::Time),
-    ("ev_msg", EventWord::Msg),
-    ("ev_cond", EventWord::Cond),
-    ("ev_tid", EventWord::Tid),
-    ("ev_func", EventWord::Func),
+static EVENT_WORDS: [(&str, EventWord); 14] = [
+    ("ev_fd", EventWord::New(NewEventWord::Fd)),
+    ("ev_select", EventWord::New(NewEventWord::Select)),
+    ("ev_time", EventWord::New(NewEventWord::Time)),
+    ("ev_msg", EventWord::New(NewEventWord::Msg)),
+    ("ev_cond", EventWord::New(NewEventWord::Cond)),
+    ("ev_tid", EventWord::New(NewEventWord::Tid)),
+    ("ev_func", EventWord::New(NewEventWord::Func)),
+    ("chain", EventWord::Chain),
+    ("ev_concat", EventWord::Concat),
+    ("ev_isolate", EventWord::Isolate),
+    ("ev_walk", EventWord::Walk),
+    ("ev_status", EventWord::Status),
+    ("ev_kind", EventWord::Kind),
+    ("ev_free", EventWord::Free),
 ];
 
-/// The kind of event that a word makes.
+/// The call on events that a word names.
 #[tactic(auto, unfolding(crate::specs::Keywords::event_word))]
-pub fn event_word(word: &[u8]) -> Option<EventWord>
+fn event_word(word: &[u8]) -> Option<EventWord>
     ensures { result ≡ event_word word.now }
 {
     named(&EVENT_WORDS, word)
 }
 
-static RING_WORDS: [(&str, RingWord); 7] = [
-    ("ev_concat", RingWord::Concat),
-    ("ev_isolate", RingWord::Isolate),
-    ("ev_walk", RingWord::Walk),
-    ("ev_status", RingWord::Status),
-    ("ev_kind", RingWord::Kind),
-    ("ev_free", RingWord::Free),
-    ("wait", RingWord::Wait),
+static KEY_WORDS: [(&str, KeyStorageWord); 4] = [
+    ("key_create", KeyStorageWord::Create),
+    ("key_delete", KeyStorageWord::Delete),
+    ("key_set", KeyStorageWord::Set),
+    ("key_get", KeyStorageWord::Get),
 ];
 
-/// The call on event rings that a word names.
-#[tactic(auto, unfolding(crate::specs::Keywords::ring_word))]
-fn ring_word(word: &[u8]) -> Option<RingWord>
-    ensures { result ≡ ring_word word.now }
+/// The call on keys that a word names.
+#[tactic(auto, unfolding(crate::specs::Keywords::key_word))]
+fn key_word(word: &[u8]) -> Option<KeyStorageWord>
+    ensures { result ≡ key_word word.now }
 {
-    named(&RING_WORDS, word)
-}
-
-static TIME_WORDS: [(&str, TimeWord); 4] = [
-    ("timeout", TimeWord::Timeout),
-    ("nap", TimeWord::Nap),
-    ("usleep", TimeWord::Usleep),
-    ("sleep", TimeWord::Sleep),
-];
-
-/// The call on time that a word names.
-#[tactic(auto, unfolding(crate::specs::Keywords::time_word))]
-fn time_word(word: &[u8]) -> Option<TimeWord>
-    ensures { result ≡ time_word word.now }
-{
-    named(&TIME_WORDS, word)
-}
-
-static LOCK_WORDS: [(&str, LockWord); 6] = [
-    ("mutex_init", LockWord::MutexInit),
-    ("mutex_acquire", LockWord::MutexAcquire),
-    ("mutex_release", LockWord::MutexRelease),
-    ("rw_init", LockWord::RwInit),
-    ("rw_acquire", LockWord::RwAcquire),
-    ("rw_release", LockWord::RwRelease),
-];
-
-/// The call on mutexes or read-write locks that a word names.
-#[tactic(auto, unfolding(crate::specs::Keywords::lock_word))]
-fn lock_word(word: &[u8]) -> Option<LockWord>
-    ensures { result ≡ lock_word word.now }
-{
-    named(&LOCK_WORDS, word)
-}
-
-static CONDITION_WORDS: [(&str, ConditionWord); 5] = [
-    ("cond_init", ConditionWord::CondInit),
-    ("cond_await", ConditionWord::CondAwait),
-    ("cond_notify", ConditionWord::CondNotify),
-    ("barrier_init", ConditionWord::BarrierInit),
-    ("barrier_reach", ConditionWord::BarrierReach),
-];
-
-/// The call on conditions or barriers that a word names.
-#[tactic(auto, unfolding(crate::specs::Keywords::condition_word))]
-fn condition_word(word: &[u8]) -> Option<ConditionWord>
-    ensures { result ≡ condition_word word.now }
-{
-    named(&CONDITION_WORDS, word)
+    named(&KEY_WORDS, word)
 }
 
 static PORT_WORDS: [(&str, PortWord); 7] = [
@@ -172,27 +149,119 @@ fn port_word(word: &[u8]) -> Option<PortWord>
     named(&PORT_WORDS, word)
 }
 
-static DESCRIPTOR_WORDS: [(&str, DescriptorWord); 12] = [
-    ("read", DescriptorWord::Read),
-    ("read_ev", DescriptorWord::ReadEv),
-    ("write", DescriptorWord::Write),
-    ("write_ev", DescriptorWord::WriteEv),
-    ("accept", DescriptorWord::Accept),
-    ("accept_ev", DescriptorWord::AcceptEv),
-    ("connect", DescriptorWord::Connect),
-    ("connect_ev", DescriptorWord::ConnectEv),
-    ("select", DescriptorWord::Select),
-    ("select_ev", DescriptorWord::SelectEv),
-    ("fdmode", DescriptorWord::Fdmode),
-    ("close", DescriptorWord::Close),
+static CLEANUP_WORDS: [(&str, CleanupWord); 2] = [
+    ("cleanup_push", CleanupWord::Push),
+    ("cleanup_pop", CleanupWord::Pop),
 ];
 
-/// The call on descriptors that a word names.
-#[tactic(auto, unfolding(crate::specs::Keywords::descriptor_word))]
-fn descriptor_word(word: &[u8]) -> Option<DescriptorWord>
-    ensures { result ≡ descriptor_word word.now }
+/// The call on cleanup handlers that a word names.
+#[tactic(auto, unfolding(crate::specs::Keywords::cleanup_word))]
+fn cleanup_word(word: &[u8]) -> Option<CleanupWord>
+    ensures { result ≡ cleanup_word word.now }
 {
-    named(&DESCRIPTOR_WORDS, word)
+    named(&CLEANUP_WORDS, word)
+}
+
+static MUTEX_WORDS: [(&str, MutexWord); 3] = [
+    ("mutex_init", MutexWord::Init),
+    ("mutex_acquire", MutexWord::Acquire),
+    ("mutex_release", MutexWord::Release),
+];
+
+/// The call on mutexes that a word names.
+#[tactic(auto, unfolding(crate::specs::Keywords::mutex_word))]
+fn mutex_word(word: &[u8]) -> Option<MutexWord>
+    ensures { result ≡ mutex_word word.now }
+{
+    named(&MUTEX_WORDS, word)
+}
+
+static RWLOCK_WORDS: [(&str, RwlockWord); 3] = [
+    ("rw_init", RwlockWord::Init),
+    ("rw_acquire", RwlockWord::Acquire),
+    ("rw_release", RwlockWord::Release),
+];
+
+/// The call on read-write locks that a word names.
+#[tactic(auto, unfolding(crate::specs::Keywords::rwlock_word))]
+fn rwlock_word(word: &[u8]) -> Option<RwlockWord>
+    ensures { result ≡ rwlock_word word.now }
+{
+    named(&RWLOCK_WORDS, word)
+}
+
+static CONDITION_WORDS: [(&str, ConditionWord); 3] = [
+    ("cond_init", ConditionWord::Init),
+    ("cond_await", ConditionWord::Await),
+    ("cond_notify", ConditionWord::Notify),
+];
+
+/// The call on conditions that a word names.
+#[tactic(auto, unfolding(crate::specs::Keywords::condition_word))]
+fn condition_word(word: &[u8]) -> Option<ConditionWord>
+    ensures { result ≡ condition_word word.now }
+{
+    named(&CONDITION_WORDS, word)
+}
+
+static BARRIER_WORDS: [(&str, BarrierWord); 2] = [
+    ("barrier_init", BarrierWord::Init),
+    ("barrier_reach", BarrierWord::Reach),
+];
+
+/// The call on barriers that a word names.
+#[tactic(auto, unfolding(crate::specs::Keywords::barrier_word))]
+fn barrier_word(word: &[u8]) -> Option<BarrierWord>
+    ensures { result ≡ barrier_word word.now }
+{
+    named(&BARRIER_WORDS, word)
+}
+
+static IO_WORDS: [(&str, IoWord); 13] = [
+    ("usleep", IoWord::Usleep),
+    ("sleep", IoWord::Sleep),
+    ("read", IoWord::Read),
+    ("read_ev", IoWord::ReadEv),
+    ("write", IoWord::Write),
+    ("write_ev", IoWord::WriteEv),
+    ("accept", IoWord::Accept),
+    ("accept_ev", IoWord::AcceptEv),
+    ("connect", IoWord::Connect),
+    ("connect_ev", IoWord::ConnectEv),
+    ("select", IoWord::Select),
+    ("select_ev", IoWord::SelectEv),
+    ("close", IoWord::Close),
+];
+
+/// The call that replaces one of POSIX that a word names.
+#[tactic(auto, unfolding(crate::specs::Keywords::io_word))]
+fn io_word(word: &[u8]) -> Option<IoWord>
+    ensures { result ≡ io_word word.now }
+{
+    named(&IO_WORDS, word)
+}
+
+fn new_of(word: EventWord) -> Option<NewEventWord>
+    ensures { result ≡ new_of word }
+{
+    match word {
+        EventWord::New(word) => Some(word),
+        EventWord::Chain
+        | EventWord::Concat
+        | EventWord::Isolate
+        | EventWord::Walk
+        | EventWord::Status
+        | EventWord::Kind
+        | EventWord::Free => None,
+    }
+}
+
+/// The kind of event that a word makes.
+#[tactic(auto, unfolding(crate::specs::Keywords::new_event_word))]
+pub fn new_event_word(word: &[u8]) -> Option<NewEventWord>
+    ensures { result ≡ new_event_word word.now }
+{
+    new_of(event_word(word)?)
 }
 
 static PLAIN_WORDS: [(&str, Keyword); 13] = [
@@ -224,28 +293,34 @@ fn plain_word(word: &[u8]) -> Option<Keyword>
 pub fn call_word(word: &[u8]) -> Option<CallWord>
     ensures { result ≡ call_word word.now }
 {
-    if let Some(k) = thread_word(word) {
-        Some(CallWord::Thread(k))
-    } else if let Some(k) = attr_word(word) {
-        Some(CallWord::Attr(k))
-    } else if let Some(k) = store_word(word) {
-        Some(CallWord::Store(k))
+    if let Some(k) = library_word(word) {
+        Some(CallWord::Library(k))
+    } else if let Some(k) = attribute_word(word) {
+        Some(CallWord::Attributes(k))
+    } else if let Some(k) = thread_word(word) {
+        Some(CallWord::Threads(k))
+    } else if let Some(k) = utility_word(word) {
+        Some(CallWord::Utilities(k))
+    } else if let Some(k) = cancellation_word(word) {
+        Some(CallWord::Cancellation(k))
     } else if let Some(k) = event_word(word) {
-        Some(CallWord::Event(k))
-    } else if word == b"chain".as_slice() {
-        Some(CallWord::Chain)
-    } else if let Some(k) = ring_word(word) {
-        Some(CallWord::Ring(k))
-    } else if let Some(k) = time_word(word) {
-        Some(CallWord::Time(k))
-    } else if let Some(k) = lock_word(word) {
-        Some(CallWord::Lock(k))
-    } else if let Some(k) = condition_word(word) {
-        Some(CallWord::Condition(k))
+        Some(CallWord::Events(k))
+    } else if let Some(k) = key_word(word) {
+        Some(CallWord::Keys(k))
     } else if let Some(k) = port_word(word) {
-        Some(CallWord::Port(k))
-    } else if let Some(k) = descriptor_word(word) {
-        Some(CallWord::Descriptor(k))
+        Some(CallWord::Ports(k))
+    } else if let Some(k) = cleanup_word(word) {
+        Some(CallWord::Cleanups(k))
+    } else if let Some(k) = mutex_word(word) {
+        Some(CallWord::Mutexes(k))
+    } else if let Some(k) = rwlock_word(word) {
+        Some(CallWord::Rwlocks(k))
+    } else if let Some(k) = condition_word(word) {
+        Some(CallWord::Conditions(k))
+    } else if let Some(k) = barrier_word(word) {
+        Some(CallWord::Barriers(k))
+    } else if let Some(k) = io_word(word) {
+        Some(CallWord::Io(k))
     } else {
         None
     }

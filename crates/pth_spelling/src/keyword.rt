@@ -1,22 +1,10 @@
 //! The words that begin lines.
 
-/// A call on threads.
+/// A call that manages the library.
 #[derive(Clone, Copy)]
-pub enum ThreadWord {
-    Spawn,
-    SelfTid,
-    Exit,
-    Yield,
-    Join,
-    Cancel,
-    Abort,
-    CancelState,
-    CancelPoint,
-    Suspend,
-    Resume,
+pub enum LibraryWord {
     Kill,
     Ctrl,
-    Once,
 }
 
 /// What the scheduler is asked (`pth_ctrl`).
@@ -36,7 +24,7 @@ pub enum QueryWord {
 
 /// A call on attribute objects.
 #[derive(Clone, Copy)]
-pub enum AttrWord {
+pub enum AttributeWord {
     New,
     Of,
     Init,
@@ -45,20 +33,40 @@ pub enum AttrWord {
     Destroy,
 }
 
-/// A call on cleanup handlers or keys.
+/// A call on threads.
 #[derive(Clone, Copy)]
-pub enum StoreWord {
-    CleanupPush,
-    CleanupPop,
-    KeyCreate,
-    KeyDelete,
-    KeySet,
-    KeyGet,
+pub enum ThreadWord {
+    Spawn,
+    Once,
+    SelfTid,
+    Suspend,
+    Resume,
+    Yield,
+    Nap,
+    Wait,
+    Cancel,
+    Abort,
+    Join,
+    Exit,
+}
+
+/// A call of the utilities.
+#[derive(Clone, Copy)]
+pub enum UtilityWord {
+    Fdmode,
+    Timeout,
+}
+
+/// A call on cancellation.
+#[derive(Clone, Copy)]
+pub enum CancellationWord {
+    Point,
+    State,
 }
 
 /// A new event.
 #[derive(Clone, Copy)]
-pub enum EventWord {
+pub enum NewEventWord {
     Fd,
     Select,
     Time,
@@ -68,46 +76,26 @@ pub enum EventWord {
     Func,
 }
 
-/// A call on event rings.
+/// A call on events.
 #[derive(Clone, Copy)]
-pub enum RingWord {
+pub enum EventWord {
+    New(NewEventWord),
+    Chain,
     Concat,
     Isolate,
     Walk,
     Status,
     Kind,
     Free,
-    Wait,
 }
 
-/// A call on time.
+/// A call on keys.
 #[derive(Clone, Copy)]
-pub enum TimeWord {
-    Timeout,
-    Nap,
-    Usleep,
-    Sleep,
-}
-
-/// A call on mutexes or read-write locks.
-#[derive(Clone, Copy)]
-pub enum LockWord {
-    MutexInit,
-    MutexAcquire,
-    MutexRelease,
-    RwInit,
-    RwAcquire,
-    RwRelease,
-}
-
-/// A call on conditions or barriers.
-#[derive(Clone, Copy)]
-pub enum ConditionWord {
-    CondInit,
-    CondAwait,
-    CondNotify,
-    BarrierInit,
-    BarrierReach,
+pub enum KeyStorageWord {
+    Create,
+    Delete,
+    Set,
+    Get,
 }
 
 /// A call on message ports.
@@ -122,9 +110,49 @@ pub enum PortWord {
     Destroy,
 }
 
-/// A call on descriptors.
+/// A call on cleanup handlers.
 #[derive(Clone, Copy)]
-pub enum DescriptorWord {
+pub enum CleanupWord {
+    Push,
+    Pop,
+}
+
+/// A call on mutexes.
+#[derive(Clone, Copy)]
+pub enum MutexWord {
+    Init,
+    Acquire,
+    Release,
+}
+
+/// A call on read-write locks.
+#[derive(Clone, Copy)]
+pub enum RwlockWord {
+    Init,
+    Acquire,
+    Release,
+}
+
+/// A call on conditions.
+#[derive(Clone, Copy)]
+pub enum ConditionWord {
+    Init,
+    Await,
+    Notify,
+}
+
+/// A call on barriers.
+#[derive(Clone, Copy)]
+pub enum BarrierWord {
+    Init,
+    Reach,
+}
+
+/// A call that replaces one of POSIX.
+#[derive(Clone, Copy)]
+pub enum IoWord {
+    Usleep,
+    Sleep,
     Read,
     ReadEv,
     Write,
@@ -135,24 +163,26 @@ pub enum DescriptorWord {
     ConnectEv,
     Select,
     SelectEv,
-    Fdmode,
     Close,
 }
 
-/// The word of a call line, by what it is about.
+/// The word of a call line, by the facility of pth(3).
 #[derive(Clone, Copy)]
 pub enum CallWord {
-    Thread(ThreadWord),
-    Attr(AttrWord),
-    Store(StoreWord),
-    Event(EventWord),
-    Chain,
-    Ring(RingWord),
-    Time(TimeWord),
-    Lock(LockWord),
-    Condition(ConditionWord),
-    Port(PortWord),
-    Descriptor(DescriptorWord),
+    Library(LibraryWord),
+    Attributes(AttributeWord),
+    Threads(ThreadWord),
+    Utilities(UtilityWord),
+    Cancellation(CancellationWord),
+    Events(EventWord),
+    Keys(KeyStorageWord),
+    Ports(PortWord),
+    Cleanups(CleanupWord),
+    Mutexes(MutexWord),
+    Rwlocks(RwlockWord),
+    Conditions(ConditionWord),
+    Barriers(BarrierWord),
+    Io(IoWord),
 }
 
 /// The first word of a line that does not begin with a register.

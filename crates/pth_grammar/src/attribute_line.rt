@@ -2,15 +2,14 @@
 
 ghost use Rattle.std.specs.Prelude.{◌≡◌, Some};
 ghost use Rattle.pth_base.specs.declared.attr.AttrField.TheVariants as fields;
-ghost use Rattle.pth_grammar.specs.CallLines.{field_by, field_line, set_line, attr_by, attr_line};
+ghost use Rattle.pth_grammar.specs.CallLines.{field_by, field_line, set_line, attribute_by, attribute_line};
 ghost use Rattle.pth_spelling.specs.Texts.{texts};
-ghost use Rattle.pth_spelling.specs.declared.keyword.AttrWord.TheVariants as attrs;
+ghost use Rattle.pth_spelling.specs.declared.keyword.AttributeWord.TheVariants as attributes;
 
 use crate::operands::{Operands, read_operands};
 use pth_base::attr::AttrField;
-use pth_line::attr_line::{AttrLine, FieldLine};
-use pth_line::operand::Operand;
-use pth_spelling::keyword::AttrWord;
+use pth_line::attribute_line::{AttributeLine, FieldLine};
+use pth_spelling::keyword::AttributeWord;
 use pth_spelling::words::{field, name, operand};
 
 fn field_by(field: AttrField, numbers: Operands) -> Option<FieldLine>
@@ -45,49 +44,49 @@ fn field_line(field: Option<AttrField>, words: &[&[u8]]) -> Option<FieldLine>
     }
 }
 
-fn set_line(words: &[&[u8]]) -> Option<AttrLine>
+fn set_line(words: &[&[u8]]) -> Option<AttributeLine>
     ensures { result ≡ set_line (texts words.now) }
 {
     let [a, f, words @ ..] = words else {
         return None;
     };
     match (operand(a), field_line(field(f), words)) {
-        (Some(a), Some(v)) => Some(AttrLine::Set { a, v }),
+        (Some(a), Some(v)) => Some(AttributeLine::Set { a, v }),
         _ => None,
     }
 }
 
-fn get_line(words: &[&[u8]]) -> Option<AttrLine>
-    ensures { result ≡ attr_line attrs.Get (texts words.now) }
+fn get_line(words: &[&[u8]]) -> Option<AttributeLine>
+    ensures { result ≡ attribute_line attributes.Get (texts words.now) }
 {
     let [a, f] = words else {
         return None;
     };
     match (operand(a), field(f)) {
-        (Some(a), Some(f)) => Some(AttrLine::Get { a, f }),
+        (Some(a), Some(f)) => Some(AttributeLine::Get { a, f }),
         _ => None,
     }
 }
 
-fn attr_by(word: AttrWord, numbers: Operands) -> Option<AttrLine>
-    ensures { result ≡ attr_by word numbers }
+fn attribute_by(word: AttributeWord, numbers: Operands) -> Option<AttributeLine>
+    ensures { result ≡ attribute_by word numbers }
 {
     match (word, numbers) {
-        (AttrWord::New, Operands::Zero) => Some(AttrLine::New),
-        (AttrWord::Of, Operands::One(t)) => Some(AttrLine::Of(t)),
-        (AttrWord::Init, Operands::One(a)) => Some(AttrLine::Init(a)),
-        (AttrWord::Destroy, Operands::One(a)) => Some(AttrLine::Destroy(a)),
+        (AttributeWord::New, Operands::Zero) => Some(AttributeLine::New),
+        (AttributeWord::Of, Operands::One(x)) => Some(AttributeLine::Of(x)),
+        (AttributeWord::Init, Operands::One(x)) => Some(AttributeLine::Init(x)),
+        (AttributeWord::Destroy, Operands::One(x)) => Some(AttributeLine::Destroy(x)),
         _ => None,
     }
 }
 
 /// The call on attribute objects that words stand for.
-pub fn attr_line(word: AttrWord, words: &[&[u8]]) -> Option<AttrLine>
-    ensures { result ≡ attr_line word (texts words.now) }
+pub fn attribute_line(word: AttributeWord, words: &[&[u8]]) -> Option<AttributeLine>
+    ensures { result ≡ attribute_line word (texts words.now) }
 {
     match word {
-        AttrWord::Set => set_line(words),
-        AttrWord::Get => get_line(words),
-        _ => attr_by(word, read_operands(words)?),
+        AttributeWord::Set => set_line(words),
+        AttributeWord::Get => get_line(words),
+        _ => attribute_by(word, read_operands(words)?),
     }
 }

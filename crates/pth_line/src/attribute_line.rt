@@ -43,7 +43,7 @@ impl FieldLine {
 
 /// A call on attribute objects (`pth_attr_t`).
 #[derive(Drop)]
-pub enum AttrLine {
+pub enum AttributeLine {
     New,
     Of(Operand),
     Init(Operand),
@@ -52,26 +52,26 @@ pub enum AttrLine {
     Destroy(Operand),
 }
 
-impl AttrLine {
-    ghost use Rattle.pth_line.specs.Calls.{attr_call};
+impl AttributeLine {
+    ghost use Rattle.pth_line.specs.Calls.{attribute_call};
 
     /// The call that the line makes.
     pub(crate) fn call(&self, frame: &Frame, cells: &Cells) -> Call
-        ensures { result ≡ attr_call (view frame.now cells.now) self.now }
+        ensures { result ≡ attribute_call (view frame.now cells.now) self.now }
     {
         match self {
-            AttrLine::New => Call::AttrNew,
-            AttrLine::Of(t) => Call::AttrOf(t.number(frame, cells)),
-            AttrLine::Init(a) => Call::AttrInit(a.number(frame, cells)),
-            AttrLine::Set { a, v } => Call::AttrSet {
+            AttributeLine::New => Call::AttrNew,
+            AttributeLine::Of(x) => Call::AttrOf(x.number(frame, cells)),
+            AttributeLine::Init(x) => Call::AttrInit(x.number(frame, cells)),
+            AttributeLine::Set { a, v } => Call::AttrSet {
                 a: a.number(frame, cells),
                 v: v.value(frame, cells),
             },
-            AttrLine::Get { a, f } => Call::AttrGet {
+            AttributeLine::Get { a, f } => Call::AttrGet {
                 a: a.number(frame, cells),
                 f: *f,
             },
-            AttrLine::Destroy(a) => Call::AttrDestroy(a.number(frame, cells)),
+            AttributeLine::Destroy(x) => Call::AttrDestroy(x.number(frame, cells)),
         }
     }
 }
