@@ -7,7 +7,7 @@ use Rattle.pth_grammar.specs.CallLines.{query_by, query_line, ctrl_line, field_b
 use Rattle.pth_grammar.specs.Forms.{query_forms, ctrl_forms, field_forms, set_forms, library_forms, attribute_forms, thread_forms, utility_forms, cancellation_forms, new_event_forms, event_forms, key_forms, port_forms, cleanup_forms, mutex_forms, rwlock_forms, condition_forms, barrier_forms, io_forms, chained_forms, chain_forms, call_forms}
 use Rattle.pth_spelling.specs.Keywords.{new_event_word}
 use Rattle.pth_grammar.specs.declared.form.Form.TheVariants as form
-use Rattle.pth_spelling.specs.Words.{query_of, field_of}
+use Rattle.pth_spelling.specs.WordMeanings.{query_of, field_of}
 use Rattle.pth_spelling.specs.declared.keyword.QueryWord.{QueryWord}
 use Rattle.pth_spelling.specs.declared.keyword.QueryWord.TheVariants as queries
 use Rattle.pth_spelling.specs.declared.keyword.LibraryWord.{LibraryWord}

@@ -3,7 +3,7 @@ use Rattle.std.proofs.Common.{◌≡◌, ◌≢◌, ◌==◌, ℕ, Bool, true, f
 use Rattle.std.specs.Prelude.{is_some}
 use Rattle.pth_text.specs.Hex.{is_hex, pair_bytes, hex_bytes}
 use Rattle.pth_grammar.specs.Shapes.{has_pairs}
-use Rattle.pth_spelling.specs.Words.{given_of, has_hex}
+use Rattle.pth_spelling.specs.WordMeanings.{given_of, has_hex}
 use Rattle.pth_grammar.specs.declared.form.Form.{Form}
 use Rattle.pth_grammar.specs.declared.form.Form.TheVariants as form
 

@@ -7,9 +7,9 @@ use Rattle.std.proofs.lemmas.Bool.Decides.{nat_tests}
 use Rattle.pth_grammar.specs.CallLines.{call_line}
 use Rattle.pth_grammar.specs.Forms.{call_forms, act_forms, body_forms, forms_of}
 use Rattle.pth_spelling.specs.Keywords.{call_word, keyword_of, begins}
-use Rattle.pth_grammar.specs.Lines.{line_by, answered_line, line_of, act_with, act_by, act_of, check_by, check_of}
+use Rattle.pth_grammar.specs.LineMeanings.{line_by, answered_line, line_of, act_with, act_by, act_of, check_by, check_of}
 use Rattle.pth_grammar.specs.Shapes.{Shape, Unequal, Asks, asks, after_register, answers, shape_of, wrong, words_break, word_rules, words_fault}
-use Rattle.pth_spelling.specs.Words.{register_of}
+use Rattle.pth_spelling.specs.WordMeanings.{register_of}
 use Rattle.pth_grammar.specs.declared.form.Form.{Form}
 use Rattle.pth_grammar.specs.declared.form.Form.TheVariants as form
 use Rattle.pth_spelling.specs.declared.keyword.CallWord.{CallWord}

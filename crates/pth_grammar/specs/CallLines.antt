@@ -43,7 +43,7 @@ use Rattle.pth_grammar.specs.declared.operands.Operands.{Operands}
 use Rattle.pth_grammar.specs.declared.operands.Operands.TheVariants.{Zero, One, Two, Three}
 use Rattle.pth_spelling.specs.Keywords.{new_event_word}
 use Rattle.pth_grammar.specs.Reading.{operands_of, read1, read2, read3, read4, read5}
-use Rattle.pth_spelling.specs.Words.{operand_of, maybe, name_of, set_of, bytes_of, goals_of, which_of, field_of, state_of, mode_of, direction_of, query_of}
+use Rattle.pth_spelling.specs.WordMeanings.{operand_of, maybe, name_of, set_of, bytes_of, goals_of, which_of, field_of, state_of, mode_of, direction_of, query_of}
 use Rattle.pth_spelling.specs.declared.keyword.CallWord.{CallWord}
 use Rattle.pth_spelling.specs.declared.keyword.CallWord.TheVariants as call
 use Rattle.pth_spelling.specs.declared.keyword.QueryWord.{QueryWord}

@@ -1,6 +1,6 @@
 -- Lines that break none of the rules on words stand for something.
 use Rattle.std.specs.Prelude.{ℕ, ◌≡◌, ◌≢◌, List, Some, None, IsSome}
-use Rattle.pth_grammar.specs.Lines.{line_of, act_of, check_of}
+use Rattle.pth_grammar.specs.LineMeanings.{line_of, act_of, check_of}
 use Rattle.pth_grammar.specs.Shapes.{words_fault}
 use Rattle.pth_grammar.specs.declared.section.Section.{Section}
 use Rattle.pth_grammar.specs.declared.section.Section.TheVariants as sec

@@ -3,5 +3,5 @@ pub mod Shapes
 pub mod Asked
 pub mod Reading
 pub mod CallLines
-pub mod Lines
+pub mod LineMeanings
 pub mod Faultless

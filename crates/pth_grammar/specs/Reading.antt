@@ -4,7 +4,7 @@ use Rattle.pth_grammar.specs.declared.operands.Operands.{Operands}
 use Rattle.pth_grammar.specs.declared.operands.Operands.TheVariants.{Zero, One, Two, Three}
 use Rattle.pth_grammar.specs.declared.acts.Values.{Values}
 use Rattle.pth_grammar.specs.declared.acts.Values.TheVariants as values
-use Rattle.pth_spelling.specs.Words.{operand_of, value_of}
+use Rattle.pth_spelling.specs.WordMeanings.{operand_of, value_of}
 
 abbrev pub read1 : {A R : Type 0} → (List ℕ → Option A) → (A → R) → List (List ℕ) → Option R
 read1 f build (a ∷ []) = option_map build (f a)

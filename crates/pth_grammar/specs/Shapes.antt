@@ -4,7 +4,7 @@ use Rattle.std.specs.List.{find}
 use Rattle.std.specs.Str.{bytes_eq}
 use Rattle.pth_grammar.specs.Forms.{forms_of, call_forms}
 use Rattle.pth_spelling.specs.Keywords.{begins, call_word, new_event_word}
-use Rattle.pth_spelling.specs.Words.{natural_of, operand_of, maybe, register_of, value_of, shared_of, name_of, set_of, has_hex, given_of, goals_of, which_of, relation_of, field_of, state_of, mode_of, direction_of, query_of}
+use Rattle.pth_spelling.specs.WordMeanings.{natural_of, operand_of, maybe, register_of, value_of, shared_of, name_of, set_of, has_hex, given_of, goals_of, which_of, relation_of, field_of, state_of, mode_of, direction_of, query_of}
 use Rattle.pth_grammar.specs.declared.form.Form.{Form}
 use Rattle.pth_grammar.specs.declared.form.Form.TheVariants as form
 use Rattle.pth_text.specs.declared.rule.Rule.{Rule}

@@ -1,7 +1,7 @@
 //! Acts of handlers, read.
 
 ghost use Rattle.std.specs.Prelude.{◌≡◌, Some};
-ghost use Rattle.pth_grammar.specs.Lines.{act_with, act_by};
+ghost use Rattle.pth_grammar.specs.LineMeanings.{act_with, act_by};
 ghost use Rattle.pth_grammar.specs.Reading.{values_of};
 ghost use Rattle.pth_spelling.specs.Texts.{texts};
 ghost use Rattle.pth_spelling.specs.declared.keyword.Keyword.TheVariants as key;

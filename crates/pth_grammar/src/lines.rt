@@ -4,7 +4,7 @@ ghost use Rattle.std.specs.Prelude.{◌≡◌, IfOk, Some, option_map};
 ghost use Rattle.pth_grammar.specs.CallLines.{call_line};
 ghost use Rattle.pth_line.specs.declared.line.Line.TheVariants as bodies;
 ghost use Rattle.pth_spelling.specs.Keywords.{call_word, keyword_of};
-ghost use Rattle.pth_grammar.specs.Lines.{plain_line, line_by, answered_line, line_of, act_of, check_of, numbered};
+ghost use Rattle.pth_grammar.specs.LineMeanings.{plain_line, line_by, answered_line, line_of, act_of, check_of, numbered};
 ghost use Rattle.pth_spelling.specs.Texts.{texts};
 ghost use Rattle.pth_spelling.specs.declared.keyword.Keyword.TheVariants as key;
 
@@ -21,7 +21,7 @@ use pth_spelling::words::{natural, operand, register, relation, value};
 use std::alloc::Global;
 
 /// The number that is not negative and follows the first word.
-#[tactic(auto, unfolding(crate::specs::Lines::numbered))]
+#[tactic(auto, unfolding(crate::specs::LineMeanings::numbered))]
 pub fn numbered(words: &[&[u8]]) -> Option<i64>
     ensures { result ≡ numbered (texts words.now) }
 {
@@ -140,7 +140,7 @@ fn answered_line(alloc: Global, words: &[&[u8]]) -> Result<Option<Line>, OutOfMe
 }
 
 /// A line of a body. The place to which a `goto` goes is not known from the line alone, and 0 stands for it.
-#[tactic(auto, unfolding(crate::specs::Lines::line_of))]
+#[tactic(auto, unfolding(crate::specs::LineMeanings::line_of))]
 pub fn line(alloc: Global, words: &[&[u8]]) -> Result<Option<Line>, OutOfMemory>
     ensures { IfOk result (λ found. found ≡ line_of (texts words.now)) }
 {
@@ -157,7 +157,7 @@ pub fn line(alloc: Global, words: &[&[u8]]) -> Result<Option<Line>, OutOfMemory>
 }
 
 /// An act of a handler.
-#[tactic(auto, unfolding(crate::specs::Lines::act_of))]
+#[tactic(auto, unfolding(crate::specs::LineMeanings::act_of))]
 pub fn act_line(words: &[&[u8]]) -> Option<ActLine>
     ensures { result ≡ act_of (texts words.now) }
 {
@@ -168,7 +168,7 @@ pub fn act_line(words: &[&[u8]]) -> Option<ActLine>
 }
 
 /// What a line that begins with `check` stands for, without its number.
-#[tactic(auto, unfolding(crate::specs::Lines::check_of))]
+#[tactic(auto, unfolding(crate::specs::LineMeanings::check_of))]
 pub fn check_line(words: &[&[u8]]) -> Option<Check>
     ensures { result ≡ check_of (texts words.now) }
 {

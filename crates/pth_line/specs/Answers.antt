@@ -4,7 +4,7 @@ use Rattle.pth_base.specs.declared.answer.Answer.{Answer}
 use Rattle.pth_base.specs.declared.answer.Answer.TheVariants as answer
 use Rattle.pth_base.specs.declared.errno.Errno.{Errno}
 use Rattle.pth_base.specs.declared.errno.Errno.TheVariants as errno
-use Rattle.pth_line.specs.Values.{View, put_register}
+use Rattle.pth_line.specs.Values.{Scope, put_register}
 use Rattle.pth_line.specs.declared.frame.Frame.{Frame}
 use Rattle.pth_line.specs.declared.frame.Owed.{Owed}
 use Rattle.pth_line.specs.declared.frame.Owed.TheVariants as owed
@@ -52,19 +52,19 @@ held (answer.Msg id value) f = record f { message = message_number id.0 }
 held _ f = f
 
 -- a call's answer sets `err`
-abbrev pub kept : Answer → View → View
+abbrev pub kept : Answer → Scope → Scope
 kept a s = record s { frame = record (held a s.frame) { error = error_of a; owed = owed.Nothing } }
 
 -- and it goes to a register where the line names one
-abbrev pub answered : Option Register → Answer → View → View
+abbrev pub answered : Option Register → Answer → Scope → Scope
 answered None a s = kept a s
 answered (Some r) a s = put_register (kept a s) r (number_of_answer a)
 
 -- what a thread keeps of an answer, by what it awaits: nothing where it made no call
-abbrev pub heard_for : Owed → Answer → View → View
+abbrev pub heard_for : Owed → Answer → Scope → Scope
 heard_for owed.Nothing a s = s
 heard_for (owed.Answer r) a s = answered r a s
 
 -- what a thread keeps of the answer that it is handed
-unfoldable pub heard : Answer → View → View
+unfoldable pub heard : Answer → Scope → Scope
 heard a s = heard_for s.frame.owed a s

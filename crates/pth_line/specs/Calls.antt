@@ -8,7 +8,7 @@ use Rattle.pth_base.specs.declared.event.EvLine.{EvLine}
 use Rattle.pth_base.specs.declared.event.EvLine.TheVariants as ev
 use Rattle.pth_base.specs.declared.query.Query.{Query}
 use Rattle.pth_base.specs.declared.query.Query.TheVariants as query
-use Rattle.pth_line.specs.Values.{View, number_in, bytes_in}
+use Rattle.pth_line.specs.Values.{Scope, number_in, bytes_in}
 use Rattle.pth_line.specs.declared.call_line.CallLine.{CallLine}
 use Rattle.pth_line.specs.declared.call_line.CallLine.TheVariants as line
 use Rattle.pth_line.specs.declared.library_line.QueryLine.{QueryLine}
@@ -47,7 +47,7 @@ use Rattle.pth_line.specs.declared.io_line.IoLine.{IoLine}
 use Rattle.pth_line.specs.declared.io_line.IoLine.TheVariants as ios
 
 -- what `pth_ctrl` is asked
-abbrev pub query_in : View → QueryLine → Query
+abbrev pub query_in : Scope → QueryLine → Query
 query_in s queries.Threads = query.Threads
 query_in s queries.New = query.New
 query_in s queries.Ready = query.Ready
@@ -60,12 +60,12 @@ query_in s (queries.Prio t) = query.Prio (number_in s t)
 query_in s (queries.Name t) = query.Name (number_in s t)
 
 -- a call that manages the library
-abbrev pub library_call : View → LibraryLine → Call
+abbrev pub library_call : Scope → LibraryLine → Call
 library_call s libraries.Kill = call.Kill
 library_call s (libraries.Ctrl x) = call.Ctrl (query_in s x)
 
 -- a field with its number
-abbrev pub field_in : View → FieldLine → AttrValue
+abbrev pub field_in : Scope → FieldLine → AttrValue
 field_in s (field.Prio n) = attr.Prio (number_in s n)
 field_in s (field.Name name) = attr.Name name
 field_in s (field.Joinable n) = attr.Joinable (number_in s n)
@@ -75,7 +75,7 @@ field_in s (field.State n) = attr.State (number_in s n)
 field_in s (field.Bound n) = attr.Bound (number_in s n)
 
 -- a call on attribute objects
-abbrev pub attribute_call : View → AttributeLine → Call
+abbrev pub attribute_call : Scope → AttributeLine → Call
 attribute_call s attributes.New = call.AttrNew
 attribute_call s (attributes.Of x) = call.AttrOf (number_in s x)
 attribute_call s (attributes.Init x) = call.AttrInit (number_in s x)
@@ -84,7 +84,7 @@ attribute_call s (attributes.Get a f) = call.AttrGet (number_in s a) f
 attribute_call s (attributes.Destroy x) = call.AttrDestroy (number_in s x)
 
 -- a call on threads
-abbrev pub thread_call : View → ThreadLine → Call
+abbrev pub thread_call : Scope → ThreadLine → Call
 thread_call s (threads.Spawn b v a) = call.Spawn (number_in s b) (number_in s v) (number_in s a)
 thread_call s (threads.Once o h v) = call.Once (number_in s o) (number_in s h) (number_in s v)
 thread_call s threads.SelfTid = call.SelfTid
@@ -99,17 +99,17 @@ thread_call s (threads.Join x) = call.Join (number_in s x)
 thread_call s (threads.Exit x) = call.Exit (number_in s x)
 
 -- a call of the utilities
-abbrev pub utility_call : View → UtilityLine → Call
+abbrev pub utility_call : Scope → UtilityLine → Call
 utility_call s (utilities.Fdmode f m) = call.Fdmode (number_in s f) (number_in s m)
 utility_call s (utilities.Timeout x) = call.Timeout (number_in s x)
 
 -- a call on cancellation
-abbrev pub cancellation_call : View → CancellationLine → Call
+abbrev pub cancellation_call : Scope → CancellationLine → Call
 cancellation_call s cancellations.Point = call.CancelPoint
 cancellation_call s (cancellations.State x) = call.CancelState (number_in s x)
 
 -- a new event that is in no ring yet
-abbrev pub new_event_call : View → NewEvent → Call
+abbrev pub new_event_call : Scope → NewEvent → Call
 new_event_call s (new.Fd goals fd) = call.EvFd goals (number_in s fd)
 new_event_call s (new.Select r w x) = call.EvSelect r w x
 new_event_call s (new.Time x) = call.EvTime (number_in s x)
@@ -119,7 +119,7 @@ new_event_call s (new.Tid state tid) = call.EvTid state (number_in s tid)
 new_event_call s (new.Func check arg interval) = call.EvFunc (number_in s check) (number_in s arg) (number_in s interval)
 
 -- a new event that is chained to a ring
-abbrev pub chained_in : View → NewEvent → EvLine
+abbrev pub chained_in : Scope → NewEvent → EvLine
 chained_in s (new.Fd goals fd) = ev.Fd goals (number_in s fd)
 chained_in s (new.Select r w x) = ev.Select r w x
 chained_in s (new.Time m) = ev.Time (number_in s m)
@@ -129,7 +129,7 @@ chained_in s (new.Tid state tid) = ev.Tid state (number_in s tid)
 chained_in s (new.Func check arg interval) = ev.Func (number_in s check) (number_in s arg) (number_in s interval)
 
 -- a call on events
-abbrev pub event_call : View → EventLine → Call
+abbrev pub event_call : Scope → EventLine → Call
 event_call s (events.New event) = new_event_call s event
 event_call s (events.Chain e line) = call.Chain (number_in s e) (chained_in s line)
 event_call s (events.Concat e f) = call.EvConcat (number_in s e) (number_in s f)
@@ -140,7 +140,7 @@ event_call s (events.Kind x) = call.EvKind (number_in s x)
 event_call s (events.Free e all) = call.EvFree (number_in s e) all
 
 -- a call on keys
-abbrev pub key_call : View → KeyLine → Call
+abbrev pub key_call : Scope → KeyLine → Call
 key_call s (keys.Create None) = call.KeyCreate None
 key_call s (keys.Create (Some h)) = call.KeyCreate (Some (number_in s h))
 key_call s (keys.Delete x) = call.KeyDelete (number_in s x)
@@ -148,7 +148,7 @@ key_call s (keys.Set k v) = call.KeySet (number_in s k) (number_in s v)
 key_call s (keys.Get x) = call.KeyGet (number_in s x)
 
 -- a call on message ports; a reply is to the message that the thread got last
-abbrev pub port_call : View → PortLine → Call
+abbrev pub port_call : Scope → PortLine → Call
 port_call s (ports.Create name) = call.PortCreate name
 port_call s (ports.Find name) = call.PortFind name
 port_call s (ports.Pending x) = call.PortPending (number_in s x)
@@ -158,35 +158,35 @@ port_call s (ports.Reply v) = call.Reply s.frame.message (number_in s v)
 port_call s (ports.Destroy x) = call.PortDestroy (number_in s x)
 
 -- a call on cleanup handlers
-abbrev pub cleanup_call : View → CleanupLine → Call
+abbrev pub cleanup_call : Scope → CleanupLine → Call
 cleanup_call s (cleanups.Push h v) = call.CleanupPush (number_in s h) (number_in s v)
 cleanup_call s (cleanups.Pop x) = call.CleanupPop (number_in s x)
 
 -- a call on mutexes
-abbrev pub mutex_call : View → MutexLine → Call
+abbrev pub mutex_call : Scope → MutexLine → Call
 mutex_call s (mutexes.Init x) = call.MutexInit (number_in s x)
 mutex_call s (mutexes.Acquire m v e) = call.MutexAcquire (number_in s m) (number_in s v) (number_in s e)
 mutex_call s (mutexes.Release x) = call.MutexRelease (number_in s x)
 
 -- a call on read-write locks
-abbrev pub rwlock_call : View → RwlockLine → Call
+abbrev pub rwlock_call : Scope → RwlockLine → Call
 rwlock_call s (rwlocks.Init x) = call.RwInit (number_in s x)
 rwlock_call s (rwlocks.Acquire l write v e) = call.RwAcquire (number_in s l) write (number_in s v) (number_in s e)
 rwlock_call s (rwlocks.Release x) = call.RwRelease (number_in s x)
 
 -- a call on conditions
-abbrev pub condition_call : View → ConditionLine → Call
+abbrev pub condition_call : Scope → ConditionLine → Call
 condition_call s (conditions.Init x) = call.CondInit (number_in s x)
 condition_call s (conditions.Await c m e) = call.CondAwait (number_in s c) (number_in s m) (number_in s e)
 condition_call s (conditions.Notify c v) = call.CondNotify (number_in s c) (number_in s v)
 
 -- a call on barriers
-abbrev pub barrier_call : View → BarrierLine → Call
+abbrev pub barrier_call : Scope → BarrierLine → Call
 barrier_call s (barriers.Init b n) = call.BarrierInit (number_in s b) (number_in s n)
 barrier_call s (barriers.Reach x) = call.BarrierReach (number_in s x)
 
 -- a call that replaces one of POSIX
-abbrev pub io_call : View → IoLine → Call
+abbrev pub io_call : Scope → IoLine → Call
 io_call s (ios.Usleep x) = call.Usleep (number_in s x)
 io_call s (ios.Sleep x) = call.Sleep (number_in s x)
 io_call s (ios.Read f n) = call.Read (number_in s f) (number_in s n)
@@ -202,7 +202,7 @@ io_call s (ios.SelectEv r w x l e) = call.SelectEv r w x (number_in s l) (number
 io_call s (ios.Close x) = call.Close (number_in s x)
 
 -- the call of a line
-abbrev pub call_in : View → CallLine → Call
+abbrev pub call_in : Scope → CallLine → Call
 call_in s (line.Library c) = library_call s c
 call_in s (line.Attributes c) = attribute_call s c
 call_in s (line.Threads c) = thread_call s c

@@ -8,7 +8,7 @@ use Rattle.pth_base.specs.declared.call.Call.TheVariants as call
 use Rattle.pth_line.specs.Answers.{heard}
 use Rattle.pth_line.specs.Calls.{call_in}
 use Rattle.pth_line.specs.Relations.{holds}
-use Rattle.pth_line.specs.Values.{View, view, register_in, put_register, number_in}
+use Rattle.pth_line.specs.Values.{Scope, scope, register_in, put_register, number_in}
 use Rattle.pth_line.specs.declared.cells.Cells.{Cells}
 use Rattle.pth_line.specs.declared.frame.Frame.{Frame}
 use Rattle.pth_line.specs.declared.frame.Owed.TheVariants as owed
@@ -17,23 +17,23 @@ use Rattle.pth_line.specs.declared.operand.Register.{Register}
 use Rattle.pth_line.specs.declared.line.Line.TheVariants as line
 
 -- the thread goes to a line
-abbrev pub at_line : ℕ → View → View
+abbrev pub at_line : ℕ → Scope → Scope
 at_line n s = record s { frame = record s.frame { line = n } }
 
 -- it goes to the next line
-abbrev pub past : View → View
+abbrev pub past : Scope → Scope
 past s = at_line (s.frame.line + 1) s
 
 -- a call, and what is left after it
-abbrev pub gives : Call → View → Stepped Frame Cells
+abbrev pub gives : Call → Scope → Stepped Frame Cells
 gives c s = record { call = c; state = s.frame; shared = s.cells }
 
 -- the answer of the call is to be kept
-abbrev pub owing : Option Register → View → View
+abbrev pub owing : Option Register → Scope → Scope
 owing r s = record s { frame = record s.frame { owed = owed.Answer r } }
 
 -- what a line does in a thread that is past it; `add` stays at the ends of 64 bits, and `goto` goes to the line after its label where the relation holds
-abbrev pub does : Line → View → Stepped Frame Cells
+abbrev pub does : Line → Scope → Stepped Frame Cells
 does (line.Set r x) s = gives call.Plain (put_register s r (number_in s x))
 does (line.Add r x) s = gives call.Plain (put_register s r (saturate_signed w64 (register_in s r +ℤ number_in s x)))
 does (line.Note x) s = gives (call.Note (number_in s x)) s
@@ -42,7 +42,7 @@ does (line.Goto k to x relation y) s = gives call.Plain (if holds relation (numb
 does (line.Call r c) s = gives (call_in s c) (owing r s)
 
 -- a line is one step; after the last line of a body the thread ends with 0
-abbrev pub does_next : Option Line → View → Stepped Frame Cells
+abbrev pub does_next : Option Line → Scope → Stepped Frame Cells
 does_next (Some l) s = does l (past s)
 does_next None s = gives (call.Exit (pos 0)) s
 
@@ -52,4 +52,4 @@ line_at bodies f = option_and_then (λ lines. slice_get lines f.line) (slice_get
 
 -- a step keeps the answer of the thread's last call, and does the next line
 unfoldable pub stepped : List (List Line) → Frame → Cells → Answer → Stepped Frame Cells
-stepped bodies f c a = let s = heard a (view f c) in does_next (line_at bodies s.frame) s
+stepped bodies f c a = let s = heard a (scope f c) in does_next (line_at bodies s.frame) s

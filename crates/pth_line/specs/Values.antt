@@ -12,26 +12,26 @@ use Rattle.pth_line.specs.declared.frame.Frame.{Frame}
 use Rattle.pth_line.specs.declared.cells.Cells.{Cells}
 
 -- what a thread's line reads and writes: its own frame, and what all threads share
-pub record View : Type 0 where
+pub record Scope : Type 0 where
   pub frame : Frame
   pub cells : Cells
 
 -- of a frame and the shared registers
-abbrev pub view : Frame → Cells → View
-view f c = record { frame = f; cells = c }
+abbrev pub scope : Frame → Cells → Scope
+scope f c = record { frame = f; cells = c }
 
 -- what a register holds
-abbrev pub register_in : View → Register → ℤ
+abbrev pub register_in : Scope → Register → ℤ
 register_in v (reg.Own k) = slice_index_or v.frame.registers k (pos 0)
 register_in v (reg.Shared k) = slice_index_or v.cells.cells k (pos 0)
 
 -- with a number in a register
-abbrev pub put_register : View → Register → ℤ → View
+abbrev pub put_register : Scope → Register → ℤ → Scope
 put_register v (reg.Own k) n = record v { frame = record v.frame { registers = slice_set v.frame.registers k n } }
 put_register v (reg.Shared k) n = record v { cells = record { cells = slice_set v.cells.cells k n } }
 
 -- the number of an operand
-abbrev pub number_in : View → Operand → ℤ
+abbrev pub number_in : Scope → Operand → ℤ
 number_in v (operand.Number n) = n
 number_in v (operand.Register r) = register_in v r
 number_in v operand.Error = v.frame.error

@@ -1,7 +1,7 @@
 //! Lines that call on attribute objects.
 
 ghost use Rattle.std.specs.Prelude.{◌≡◌};
-ghost use Rattle.pth_line.specs.Values.{view};
+ghost use Rattle.pth_line.specs.Values.{scope};
 
 use crate::cells::Cells;
 use crate::frame::Frame;
@@ -27,7 +27,7 @@ impl FieldLine {
 
     /// The field with the value's number.
     fn value(&self, frame: &Frame, cells: &Cells) -> AttrValue
-        ensures { result ≡ field_in (view frame.now cells.now) self.now }
+        ensures { result ≡ field_in (scope frame.now cells.now) self.now }
     {
         match self {
             FieldLine::Prio(n) => AttrValue::Prio(n.number(frame, cells)),
@@ -57,7 +57,7 @@ impl AttributeLine {
 
     /// The call that the line makes.
     pub(crate) fn call(&self, frame: &Frame, cells: &Cells) -> Call
-        ensures { result ≡ attribute_call (view frame.now cells.now) self.now }
+        ensures { result ≡ attribute_call (scope frame.now cells.now) self.now }
     {
         match self {
             AttributeLine::New => Call::AttrNew,

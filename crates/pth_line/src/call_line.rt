@@ -1,7 +1,7 @@
 //! Call lines.
 
 ghost use Rattle.std.specs.Prelude.{◌≡◌, IfOk};
-ghost use Rattle.pth_line.specs.Values.{view};
+ghost use Rattle.pth_line.specs.Values.{scope};
 
 use crate::attribute_line::AttributeLine;
 use crate::barrier_line::BarrierLine;
@@ -46,7 +46,7 @@ impl CallLine {
 
     /// The call that the line makes.
     pub(crate) fn call(&self, frame: &Frame, cells: &Cells) -> Result<Call, OutOfMemory>
-        ensures { IfOk result (λ call. call ≡ call_in (view frame.now cells.now) self.now) }
+        ensures { IfOk result (λ call. call ≡ call_in (scope frame.now cells.now) self.now) }
     {
         match self {
             CallLine::Library(line) => Ok(line.call(frame, cells)),

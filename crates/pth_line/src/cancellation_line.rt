@@ -1,7 +1,7 @@
 //! Lines that call on cancellation.
 
 ghost use Rattle.std.specs.Prelude.{◌≡◌};
-ghost use Rattle.pth_line.specs.Values.{view};
+ghost use Rattle.pth_line.specs.Values.{scope};
 
 use crate::cells::Cells;
 use crate::frame::Frame;
@@ -20,7 +20,7 @@ impl CancellationLine {
 
     /// The call that the line makes.
     pub(crate) fn call(&self, frame: &Frame, cells: &Cells) -> Call
-        ensures { result ≡ cancellation_call (view frame.now cells.now) self.now }
+        ensures { result ≡ cancellation_call (scope frame.now cells.now) self.now }
     {
         match self {
             CancellationLine::Point => Call::CancelPoint,

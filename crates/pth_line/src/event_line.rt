@@ -1,7 +1,7 @@
 //! Lines that call on events.
 
 ghost use Rattle.std.specs.Prelude.{◌≡◌};
-ghost use Rattle.pth_line.specs.Values.{view};
+ghost use Rattle.pth_line.specs.Values.{scope};
 
 use crate::cells::Cells;
 use crate::frame::Frame;
@@ -42,7 +42,7 @@ impl EventLine {
 
     /// The call that the line makes.
     pub(crate) fn call(&self, frame: &Frame, cells: &Cells) -> Call
-        ensures { result ≡ event_call (view frame.now cells.now) self.now }
+        ensures { result ≡ event_call (scope frame.now cells.now) self.now }
     {
         match self {
             EventLine::New(event) => event.call(frame, cells),

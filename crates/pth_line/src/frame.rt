@@ -33,12 +33,12 @@ pub struct Frame {
 
 impl Frame {
     ghost use Rattle.pth_line.specs.Answers.{held, heard};
-    ghost use Rattle.pth_line.specs.Values.{view};
+    ghost use Rattle.pth_line.specs.Values.{scope};
 
     /// Keeps the answer of the thread's last call, where it made one.
     #[tactic(auto, unfolding(crate::specs::Answers::heard))]
     pub(crate) fn hear(&mut self, cells: &mut Cells, answer: &Answer) -> Result<(), OutOfMemory>
-        ensures { OnOk result (view self.new cells.new ≡ heard answer.now (view self.old cells.old)) }
+        ensures { OnOk result (scope self.new cells.new ≡ heard answer.now (scope self.old cells.old)) }
     {
         match self.owed {
             Owed::Nothing => Ok(()),

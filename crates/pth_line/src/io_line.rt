@@ -2,7 +2,7 @@
 
 ghost use Rattle.std.specs.Prelude.{◌≡◌, IfOk};
 ghost use Rattle.pth_base.specs.declared.call.Call.TheVariants as call;
-ghost use Rattle.pth_line.specs.Values.{view, bytes_in};
+ghost use Rattle.pth_line.specs.Values.{scope, bytes_in};
 
 use crate::cells::Cells;
 use crate::frame::Frame;
@@ -79,7 +79,7 @@ impl IoLine {
 
     /// The call that the line makes.
     pub(crate) fn call(&self, frame: &Frame, cells: &Cells) -> Result<Call, OutOfMemory>
-        ensures { IfOk result (λ call. call ≡ io_call (view frame.now cells.now) self.now) }
+        ensures { IfOk result (λ call. call ≡ io_call (scope frame.now cells.now) self.now) }
     {
         match self {
             IoLine::Usleep(x) => Ok(Call::Usleep(x.number(frame, cells))),

@@ -1,7 +1,7 @@
 //! Lines that call on keys.
 
 ghost use Rattle.std.specs.Prelude.{◌≡◌};
-ghost use Rattle.pth_line.specs.Values.{view};
+ghost use Rattle.pth_line.specs.Values.{scope};
 
 use crate::cells::Cells;
 use crate::frame::Frame;
@@ -23,7 +23,7 @@ impl KeyLine {
 
     /// The call that the line makes.
     pub(crate) fn call(&self, frame: &Frame, cells: &Cells) -> Call
-        ensures { result ≡ key_call (view frame.now cells.now) self.now }
+        ensures { result ≡ key_call (scope frame.now cells.now) self.now }
     {
         match self {
             KeyLine::Create(None) => Call::KeyCreate(None),

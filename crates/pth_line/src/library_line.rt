@@ -1,7 +1,7 @@
 //! Lines that manage the library.
 
 ghost use Rattle.std.specs.Prelude.{◌≡◌};
-ghost use Rattle.pth_line.specs.Values.{view};
+ghost use Rattle.pth_line.specs.Values.{scope};
 
 use crate::cells::Cells;
 use crate::frame::Frame;
@@ -29,7 +29,7 @@ impl QueryLine {
 
     /// What is asked.
     fn query(&self, frame: &Frame, cells: &Cells) -> Query
-        ensures { result ≡ query_in (view frame.now cells.now) self.now }
+        ensures { result ≡ query_in (scope frame.now cells.now) self.now }
     {
         match self {
             QueryLine::Threads => Query::Threads,
@@ -58,7 +58,7 @@ impl LibraryLine {
 
     /// The call that the line makes.
     pub(crate) fn call(&self, frame: &Frame, cells: &Cells) -> Call
-        ensures { result ≡ library_call (view frame.now cells.now) self.now }
+        ensures { result ≡ library_call (scope frame.now cells.now) self.now }
     {
         match self {
             LibraryLine::Kill => Call::Kill,

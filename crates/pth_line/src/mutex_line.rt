@@ -1,7 +1,7 @@
 //! Lines that call on mutexes.
 
 ghost use Rattle.std.specs.Prelude.{◌≡◌};
-ghost use Rattle.pth_line.specs.Values.{view};
+ghost use Rattle.pth_line.specs.Values.{scope};
 
 use crate::cells::Cells;
 use crate::frame::Frame;
@@ -21,7 +21,7 @@ impl MutexLine {
 
     /// The call that the line makes.
     pub(crate) fn call(&self, frame: &Frame, cells: &Cells) -> Call
-        ensures { result ≡ mutex_call (view frame.now cells.now) self.now }
+        ensures { result ≡ mutex_call (scope frame.now cells.now) self.now }
     {
         match self {
             MutexLine::Init(x) => Call::MutexInit(x.number(frame, cells)),

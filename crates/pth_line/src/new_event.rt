@@ -1,7 +1,7 @@
 //! New events.
 
 ghost use Rattle.std.specs.Prelude.{◌≡◌};
-ghost use Rattle.pth_line.specs.Values.{view};
+ghost use Rattle.pth_line.specs.Values.{scope};
 
 use crate::cells::Cells;
 use crate::frame::Frame;
@@ -42,7 +42,7 @@ impl NewEvent {
 
     /// The call that makes the event in no ring.
     pub(crate) fn call(&self, frame: &Frame, cells: &Cells) -> Call
-        ensures { result ≡ new_event_call (view frame.now cells.now) self.now }
+        ensures { result ≡ new_event_call (scope frame.now cells.now) self.now }
     {
         match self {
             NewEvent::Fd { goals, fd } => Call::EvFd {
@@ -75,7 +75,7 @@ impl NewEvent {
 
     /// The event of a call that chains it to a ring.
     pub(crate) fn chained(&self, frame: &Frame, cells: &Cells) -> EvLine
-        ensures { result ≡ chained_in (view frame.now cells.now) self.now }
+        ensures { result ≡ chained_in (scope frame.now cells.now) self.now }
     {
         match self {
             NewEvent::Fd { goals, fd } => EvLine::Fd {

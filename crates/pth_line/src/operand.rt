@@ -16,11 +16,11 @@ pub enum Register {
 }
 
 impl Register {
-    ghost use Rattle.pth_line.specs.Values.{view, register_in, put_register};
+    ghost use Rattle.pth_line.specs.Values.{scope, register_in, put_register};
 
     /// The number that the register holds.
     pub(crate) fn read(&self, frame: &Frame, cells: &Cells) -> i64
-        ensures { result ≡ register_in (view frame.now cells.now) self.now }
+        ensures { result ≡ register_in (scope frame.now cells.now) self.now }
     {
         let cell = match self {
             Register::Own(k) => frame.registers.get(usize::from(*k)),
@@ -34,7 +34,7 @@ impl Register {
 
     /// Puts a number in the register.
     pub(crate) fn put(&self, frame: &mut Frame, cells: &mut Cells, n: &i64)
-        ensures { view frame.new cells.new ≡ put_register (view frame.old cells.old) self.now n.now }
+        ensures { scope frame.new cells.new ≡ put_register (scope frame.old cells.old) self.now n.now }
     {
         match self {
             Register::Own(k) => {
@@ -54,7 +54,7 @@ impl Register {
 
     /// Adds a number to the one that the register holds. The sum stays at the ends of 64 bits.
     pub(crate) fn add(&self, frame: &mut Frame, cells: &mut Cells, n: &i64)
-        ensures { let s = view frame.old cells.old in view frame.new cells.new ≡ put_register s self.now (saturate_signed w64 (register_in s self.now +ℤ n.now)) }
+        ensures { let s = scope frame.old cells.old in scope frame.new cells.new ≡ put_register s self.now (saturate_signed w64 (register_in s self.now +ℤ n.now)) }
     {
         let sum = self.read(frame, cells).saturating_add(*n);
         self.put(frame, cells, &sum);
@@ -71,11 +71,11 @@ pub enum Operand {
 }
 
 impl Operand {
-    ghost use Rattle.pth_line.specs.Values.{view, number_in};
+    ghost use Rattle.pth_line.specs.Values.{scope, number_in};
 
     /// The number that the operand stands for.
     pub(crate) fn number(&self, frame: &Frame, cells: &Cells) -> i64
-        ensures { result ≡ number_in (view frame.now cells.now) self.now }
+        ensures { result ≡ number_in (scope frame.now cells.now) self.now }
     {
         match self {
             Operand::Number(n) => *n,

@@ -1,7 +1,7 @@
 //! Lines that call on message ports.
 
 ghost use Rattle.std.specs.Prelude.{◌≡◌};
-ghost use Rattle.pth_line.specs.Values.{view};
+ghost use Rattle.pth_line.specs.Values.{scope};
 
 use crate::cells::Cells;
 use crate::frame::Frame;
@@ -26,7 +26,7 @@ impl PortLine {
 
     /// The call that the line makes.
     pub(crate) fn call(&self, frame: &Frame, cells: &Cells) -> Call
-        ensures { result ≡ port_call (view frame.now cells.now) self.now }
+        ensures { result ≡ port_call (scope frame.now cells.now) self.now }
     {
         match self {
             PortLine::Create(None) => Call::PortCreate(None),

@@ -1,7 +1,7 @@
 //! Lines that call on threads.
 
 ghost use Rattle.std.specs.Prelude.{◌≡◌};
-ghost use Rattle.pth_line.specs.Values.{view};
+ghost use Rattle.pth_line.specs.Values.{scope};
 
 use crate::cells::Cells;
 use crate::frame::Frame;
@@ -30,7 +30,7 @@ impl ThreadLine {
 
     /// The call that the line makes.
     pub(crate) fn call(&self, frame: &Frame, cells: &Cells) -> Call
-        ensures { result ≡ thread_call (view frame.now cells.now) self.now }
+        ensures { result ≡ thread_call (scope frame.now cells.now) self.now }
     {
         match self {
             ThreadLine::Spawn { b, v, a } => Call::Spawn {

@@ -7,13 +7,13 @@ use Rattle.pth_base.specs.declared.outcome.Outcome.TheVariants as outcomes
 use Rattle.pth_streams.specs.declared.sink.SinkErr.{SinkErr}
 use Rattle.pth_streams.specs.declared.sink.SinkErr.TheVariants as sink
 use Rattle.pth_model.specs.Run.{run}
-use Rattle.pth_print.specs.Lines.{fault_line, fault_status}
+use Rattle.pth_print.specs.FaultLines.{fault_line, fault_status}
 use Rattle.pth_print.specs.declared.fault_line.Fault.{Fault}
 use Rattle.pth_print.specs.declared.fault_line.Fault.TheVariants as fault
 use Rattle.pth_line.specs.Script.{Sections, functions_of}
 use Rattle.pth_script.proofs.Once.{not_both}
 use Rattle.pth_text.specs.declared.rule.Breach.{Breach}
-use Rattle.pth_words.specs.Words.{Asked}
+use Rattle.pth_words.specs.CommandWords.{Asked}
 use Rattle.pth_player.specs.Objects.{AreHeld, ObjectRead, ObjectRose, ObjectStood, Scene, content, cut, object_of}
 use Rattle.pth_player.specs.Output.{Output, IsRefused, IsTheOutput, IsTheScript, given_script, outcome_status, refusal, told_output}
 use Rattle.pth_player.specs.Play.{Completes, DrivesScript, Ends, Faults, HoldsNoScript, IsAtHand, IsFaultStatus, IsOutputStatus, IsRunStatus, IsUnwritten, Plays, Ran, RanFor, ReadsWhole, RefusesInput, RefusesWords, Reports, TellsFault, WritesLine, WritesOutput, WritesWhole}

@@ -16,13 +16,13 @@ use Rattle.pth_model.specs.Part.{Part, next_part, unless_ended}
 use Rattle.pth_model.specs.Run.{parts, run, stops, stops_by, GoesTo}
 use Rattle.pth_model.proofs.Runs.{stops-later}
 use Rattle.pth_model.specs.Living.{live}
-use Rattle.pth_print.specs.Lines.{end_line}
+use Rattle.pth_print.specs.EndLines.{end_line}
 use Rattle.pth_base.specs.declared.ids.Tid.{Tid}
 use Rattle.pth_sched.specs.MachineOf.{MachineOf}
 use Rattle.pth_sched.specs.Running.{Stands, StandsAt, GoesOn}
 use Rattle.pth_sched.proofs.Stopping.{run_stops}
 use Rattle.pth_threads.specs.Threads.{number}
-use Rattle.pth_words.specs.Words.{Asked}
+use Rattle.pth_words.specs.CommandWords.{Asked}
 use Rattle.pth_player.specs.Drive.{Drives}
 use Rattle.pth_player.specs.Output.{Output, IsRunOutput, told_output}
 use Rattle.pth_player.specs.Streams.{AppendsPart, AppendsPrefix}

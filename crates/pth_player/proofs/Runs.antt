@@ -7,7 +7,7 @@ use Rattle.pth_streams.specs.declared.sink.SinkErr.TheVariants as sink
 use Rattle.pth_print.specs.declared.fault_line.Fault.{Fault}
 use Rattle.pth_print.specs.declared.fault_line.Fault.TheVariants as fault
 use Rattle.pth_line.specs.Script.{Sections, functions_of}
-use Rattle.pth_words.specs.Words.{Answers, Asked, asked_of}
+use Rattle.pth_words.specs.CommandWords.{Answers, Asked, asked_of}
 use Rattle.pth_words.specs.declared.choice.Choice.{Choice}
 use Rattle.pth_words.specs.declared.words.WordsErr.{WordsErr}
 use Rattle.pth_words.specs.declared.words.WordsErr.TheVariants as words

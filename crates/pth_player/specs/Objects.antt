@@ -3,7 +3,7 @@ use Rattle.std.specs.Prelude.{◌≡◌, ◌+◌, ℕ, List, [], Option, Some, N
 use Rattle.std.specs.Str.{bytes_eq}
 use Rattle.pth_streams.specs.Faults.{Rose}
 use Rattle.pth_script.specs.Broken.{text_limit}
-use Rattle.pth_words.specs.Words.{Asked}
+use Rattle.pth_words.specs.CommandWords.{Asked}
 use Rattle.pth_player.specs.declared.streams.ReadFault.{ReadFault}
 use Rattle.pth_player.specs.declared.streams.ReadFault.TheVariants as read
 
@@ -55,13 +55,13 @@ object_of None = nothing
 object_of (Some asked) = object_named asked.file
 
 -- what it holds, where that is told
-abbrev pub held_by : Object → Inputs → Option (List ℕ)
-held_by nothing s = Some []
-held_by the_input s = s.left
-held_by (the_file name) s = s.held name
+abbrev pub content_of : Object → Inputs → Option (List ℕ)
+content_of nothing s = Some []
+content_of the_input s = s.left
+content_of (the_file name) s = s.held name
 
 abbrev pub content : Option Asked → Scene → Option (List ℕ)
-content asked s = held_by (object_of asked) s.ins
+content asked s = content_of (object_of asked) s.ins
 
 -- one fault of it was counted
 abbrev pub ObjectRose : Object → Inputs → Inputs → Type 0

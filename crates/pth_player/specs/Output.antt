@@ -6,20 +6,20 @@ use Rattle.pth_base.specs.declared.outcome.Outcome.TheVariants as outcomes
 use Rattle.pth_model.specs.State.{Given}
 use Rattle.pth_model.specs.Course.{Course}
 use Rattle.pth_model.specs.Run.{run, GoesTo}
-use Rattle.pth_print.specs.Lines.{fault_line, fault_status}
+use Rattle.pth_print.specs.FaultLines.{fault_line, fault_status}
 use Rattle.pth_print.specs.declared.fault_line.Fault.{Fault}
 use Rattle.pth_print.specs.declared.fault_line.Fault.TheVariants as fault
 use Rattle.pth_line.specs.Script.{Sections, functions_of}
 use Rattle.pth_script.specs.Broken.{IsAccepted, IsRefusal}
-use Rattle.pth_script.specs.Meaning.{StandsFor}
+use Rattle.pth_script.specs.Meaning.{IsScriptOf}
 use Rattle.pth_text.specs.declared.rule.Breach.{Breach}
-use Rattle.pth_words.specs.Words.{Asked}
+use Rattle.pth_words.specs.CommandWords.{Asked}
 use Rattle.pth_player.specs.Objects.{cut}
 use Rattle.pth_player.specs.Transcript.{text_of}
 
 -- no line of the text breaks a rule, and it stands for this script
 abbrev pub IsTheScript : Sections → List ℕ → Type 0
-IsTheScript script text = IsAccepted text × StandsFor script text
+IsTheScript script text = IsAccepted text × IsScriptOf script text
 
 -- a line of the text, or the place after the last one, breaks a rule
 abbrev pub IsRefused : List ℕ → Type 0

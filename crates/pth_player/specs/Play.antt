@@ -5,14 +5,14 @@ use Rattle.pth_streams.specs.Faults.{Rose}
 use Rattle.pth_base.specs.declared.outcome.Outcome.{Outcome}
 use Rattle.pth_streams.specs.declared.sink.SinkErr.{SinkErr}
 use Rattle.pth_streams.specs.declared.sink.SinkErr.TheVariants as sink
-use Rattle.pth_print.specs.Lines.{fault_line, fault_status}
+use Rattle.pth_print.specs.FaultLines.{fault_line, fault_status}
 use Rattle.pth_print.specs.declared.fault_line.Fault.{Fault}
 use Rattle.pth_print.specs.declared.fault_line.Fault.TheVariants as fault
 use Rattle.pth_line.specs.Script.{Sections, functions_of}
 use Rattle.pth_script.specs.Broken.{IsRefusal}
 use Rattle.pth_text.specs.declared.rule.Breach.{Breach}
-use Rattle.pth_words.specs.Words.{Asked}
-use Rattle.pth_player.specs.Objects.{AreHeld, Inputs, Object, ObjectRead, ObjectRose, ObjectStood, Scene, content, cut, held_by, object_of}
+use Rattle.pth_words.specs.CommandWords.{Asked}
+use Rattle.pth_player.specs.Objects.{AreHeld, Inputs, Object, ObjectRead, ObjectRose, ObjectStood, Scene, content, cut, content_of, object_of}
 use Rattle.pth_player.specs.Streams.{AppendsPart, AppendsPrefix}
 use Rattle.pth_player.specs.Output.{Output, IsTheOutput, IsRefused, IsTheScript, given_script, outcome_status}
 use Rattle.pth_player.specs.Drive.{Drives}
@@ -21,12 +21,12 @@ use Rattle.pth_player.specs.Drive.{Drives}
 
 -- the bytes of the object were read, as many as the limit lets be
 abbrev pub ReadsBytes : Object → Inputs → Inputs → List ℕ → Type 0
-ReadsBytes object old new bytes = ObjectRead object old new × ((held : List ℕ) × AreHeld (held_by object old) held × (bytes ≡ cut held))
+ReadsBytes object old new bytes = ObjectRead object old new × ((held : List ℕ) × AreHeld (content_of object old) held × (bytes ≡ cut held))
 
 -- a script was read of the object, or why not
 abbrev pub ReadsScript : Object → Inputs → Inputs → Result Sections Fault → Type 0
-ReadsScript object old new (Ok script) = ObjectRead object old new × ((bytes : List ℕ) × AreHeld (held_by object old) bytes × IsTheScript script (cut bytes))
-ReadsScript object old new (Err (fault.Input line breach)) = ObjectRead object old new × ((bytes : List ℕ) × AreHeld (held_by object old) bytes × IsRefusal (cut bytes) line breach)
+ReadsScript object old new (Ok script) = ObjectRead object old new × ((bytes : List ℕ) × AreHeld (content_of object old) bytes × IsTheScript script (cut bytes))
+ReadsScript object old new (Err (fault.Input line breach)) = ObjectRead object old new × ((bytes : List ℕ) × AreHeld (content_of object old) bytes × IsRefusal (cut bytes) line breach)
 ReadsScript object old new (Err fault.ReadFault) = ObjectRose object old new
 ReadsScript object old new (Err fault.OutOfMemory) = ObjectStood object old new
 ReadsScript object old new (Err fault.Words) = ⊥

@@ -7,8 +7,9 @@ use Rattle.pth_streams.specs.declared.sink.SinkErr.{SinkErr}
 use Rattle.pth_streams.specs.declared.sink.SinkErr.TheVariants as sink
 use Rattle.pth_model.specs.Course.{Course}
 use Rattle.pth_model.specs.Living.{live}
-use Rattle.pth_print.specs.Lines.{mark_line, end_line, summary_line}
-use Rattle.pth_words.specs.Words.{Asked}
+use Rattle.pth_print.specs.MarkLines.{mark_line}
+use Rattle.pth_print.specs.EndLines.{end_line, summary_line}
+use Rattle.pth_words.specs.CommandWords.{Asked}
 use Rattle.pth_player.specs.Streams.{AppendsPart, AppendsPrefix}
 
 -- the lines of marks

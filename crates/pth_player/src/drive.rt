@@ -4,7 +4,7 @@ ghost use Rattle.std.specs.Prelude.{◌≡◌, ◌≢◌, ◌≤◌, ◌+◌, �
 ghost use Rattle.pth_model.specs.Course.{Course};
 ghost use Rattle.pth_model.specs.State.{Given};
 ghost use Rattle.pth_sched.specs.Running.{Stands, StandsAt};
-ghost use Rattle.pth_words.specs.Words.{asked_of};
+ghost use Rattle.pth_words.specs.CommandWords.{asked_of};
 ghost use Rattle.pth_player.specs.Drive.{Drives};
 ghost use Rattle.pth_player.specs.Transcript.{counts_of, ending_of, lines_of, shown_of, WritesPiece};
 

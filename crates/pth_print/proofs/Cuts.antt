@@ -6,7 +6,7 @@ use Rattle.std.proofs.lemmas.List.{take-append-drop, drop_more}
 use Rattle.pth_base.specs.Cut.{IsCut}
 use Rattle.pth_base.proofs.Cuts.{cut_first, cut_then}
 use Rattle.pth_print.specs.Adding.{Adds}
-use Rattle.pth_print.specs.Words.{spaced, joined}
+use Rattle.pth_print.specs.SpacedWords.{spaced, joined}
 
 -- texts up to one, this one, and those after it
 flat_map_at : {A : Type 0} (f : A → List ℕ) (xs : List A) (i : ℕ) (d : A) → i < length xs → flat_map f (take i xs) ++ (f (get_or xs i d) ++ flat_map f (drop (i + 1) xs)) ≡ flat_map f xs

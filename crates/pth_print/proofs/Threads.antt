@@ -1,8 +1,8 @@
 -- Threads as words.
 use Rattle.std.proofs.Common.{◌≡◌, ℕ, List, [], ◌∷◌, ◌++◌, refl, ap, codes, flat_map, map}
 use Rattle.pth_base.specs.declared.ids.Tid.{Tid}
-use Rattle.pth_print.specs.Word.{thread}
-use Rattle.pth_print.specs.Words.{spaced}
+use Rattle.pth_print.specs.WordTexts.{thread}
+use Rattle.pth_print.specs.SpacedWords.{spaced}
 
 -- a thread after a space
 abbrev pub spaced_thread : Tid → List ℕ

@@ -5,7 +5,7 @@ use Rattle.pth_base.specs.declared.answer.Answer.TheVariants as answer
 use Rattle.pth_base.specs.declared.errno.Errno.{Errno}
 use Rattle.pth_base.specs.declared.errno.Errno.TheVariants.{EPERM, ENOENT, ESRCH, EINTR, EIO, EBADF, EAGAIN, EACCES, EBUSY, EEXIST, EINVAL, EDEADLK, ECONNREFUSED}
 use Rattle.pth_print.specs.Sets.{set_word}
-use Rattle.pth_print.specs.Word.{number, hex_word}
+use Rattle.pth_print.specs.WordTexts.{number, hex_word}
 
 -- the name of an error
 abbrev pub errno_word : Errno → List ℕ

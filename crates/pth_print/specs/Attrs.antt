@@ -4,7 +4,7 @@ use Rattle.pth_base.specs.declared.attr.AttrField.{AttrField}
 use Rattle.pth_base.specs.declared.attr.AttrField.TheVariants as field
 use Rattle.pth_base.specs.declared.attr.AttrValue.{AttrValue}
 use Rattle.pth_base.specs.declared.attr.AttrValue.TheVariants as value
-use Rattle.pth_print.specs.Word.{number}
+use Rattle.pth_print.specs.WordTexts.{number}
 
 -- a field
 abbrev pub field_word : AttrField → List ℕ

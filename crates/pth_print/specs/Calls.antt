@@ -2,7 +2,7 @@
 use Rattle.std.specs.Prelude.{List, [], ℕ, ◌∷◌, Some, None, codes}
 use Rattle.pth_base.specs.declared.call.Call.{Call}
 use Rattle.pth_base.specs.declared.call.Call.TheVariants as call
-use Rattle.pth_print.specs.Word.{number, hex_word}
+use Rattle.pth_print.specs.WordTexts.{number, hex_word}
 use Rattle.pth_print.specs.Sets.{set_word}
 use Rattle.pth_print.specs.Queries.{query_words}
 use Rattle.pth_print.specs.Attrs.{attr_set_words, field_word}

@@ -5,7 +5,7 @@ use Rattle.pth_base.specs.declared.event.EvLine.TheVariants as line
 use Rattle.pth_base.specs.declared.thread.ThreadState.{ThreadState}
 use Rattle.pth_base.specs.declared.thread.ThreadState.TheVariants.{New, Ready, Running, Waiting, Dead}
 use Rattle.pth_print.specs.Sets.{set_word}
-use Rattle.pth_print.specs.Word.{number}
+use Rattle.pth_print.specs.WordTexts.{number}
 
 -- goals are the sum of 1 for readable, 2 for writeable and 4 for exceptional
 abbrev pub goals_word : ℕ → List ℕ

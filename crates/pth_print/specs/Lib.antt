@@ -1,9 +1,11 @@
 pub mod Adding
-pub mod Words
-pub mod Word
+pub mod SpacedWords
+pub mod WordTexts
 pub mod Calls
 pub mod Answers
-pub mod Lines
+pub mod MarkLines
+pub mod EndLines
+pub mod FaultLines
 pub mod Sets
 pub mod EventLines
 pub mod Attrs

@@ -2,7 +2,7 @@
 use Rattle.std.specs.Prelude.{ℕ, List, [], ◌∷◌, codes}
 use Rattle.pth_base.specs.declared.query.Query.{Query}
 use Rattle.pth_base.specs.declared.query.Query.TheVariants as query
-use Rattle.pth_print.specs.Word.{number}
+use Rattle.pth_print.specs.WordTexts.{number}
 
 -- a query
 abbrev pub query_words : Query → List (List ℕ)

@@ -3,9 +3,9 @@
 ghost use Rattle.std.specs.Prelude.{◌∷◌, codes};
 ghost use Rattle.pth_print.specs.Adding.{Adds};
 ghost use Rattle.pth_print.specs.Answers.{answer_words};
-ghost use Rattle.pth_print.specs.Lines.{acted_words};
-ghost use Rattle.pth_print.specs.Word.{number};
-ghost use Rattle.pth_print.specs.Words.{spaced};
+ghost use Rattle.pth_print.specs.MarkLines.{acted_words};
+ghost use Rattle.pth_print.specs.WordTexts.{number};
+ghost use Rattle.pth_print.specs.SpacedWords.{spaced};
 
 use crate::answer::add_answer_after;
 use crate::call_shape::add_one;

@@ -1,8 +1,8 @@
 //! Answers as words.
 
 ghost use Rattle.pth_print.specs.Adding.{Adds};
-ghost use Rattle.pth_print.specs.Words.{spaced};
-ghost use Rattle.pth_print.specs.Word.{phrase_of};
+ghost use Rattle.pth_print.specs.SpacedWords.{spaced};
+ghost use Rattle.pth_print.specs.WordTexts.{phrase_of};
 ghost use Rattle.pth_print.specs.Answers.{answer_words, errno_word};
 ghost use Rattle.std.specs.Prelude.{◌≡◌, ◌++◌};
 

@@ -3,8 +3,8 @@
 ghost use Rattle.std.specs.Prelude.{◌≡◌, [], ◌∷◌, codes};
 ghost use Rattle.pth_print.specs.Adding.{Adds};
 ghost use Rattle.pth_print.specs.Attrs.{field_word, attr_set_words};
-ghost use Rattle.pth_print.specs.Word.{number};
-ghost use Rattle.pth_print.specs.Words.{spaced};
+ghost use Rattle.pth_print.specs.WordTexts.{number};
+ghost use Rattle.pth_print.specs.SpacedWords.{spaced};
 
 use crate::word::Word::{Number, Plain};
 use crate::word::add_words;

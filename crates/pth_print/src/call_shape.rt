@@ -3,8 +3,8 @@
 ghost use Rattle.std.specs.Prelude.{[], ◌∷◌};
 ghost use Rattle.pth_print.specs.Adding.{Adds};
 ghost use Rattle.pth_print.specs.Sets.{set_word};
-ghost use Rattle.pth_print.specs.Word.{number, hex_word};
-ghost use Rattle.pth_print.specs.Words.{spaced};
+ghost use Rattle.pth_print.specs.WordTexts.{number, hex_word};
+ghost use Rattle.pth_print.specs.SpacedWords.{spaced};
 
 use crate::word::Word::{Hex, Number, Plain, Set};
 use crate::word::add_words;

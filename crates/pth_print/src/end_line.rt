@@ -4,9 +4,9 @@ ghost use Rattle.std.specs.Prelude.{◌≡◌, ◌≢◌, ◌++◌, OnOk, OnErr,
 ghost use Rattle.pth_base.specs.declared.outcome.Outcome.TheVariants as outcome;
 ghost use Rattle.pth_base.specs.Cut.{IsCut};
 ghost use Rattle.pth_print.specs.Adding.{Adds};
-ghost use Rattle.pth_print.specs.Lines.{end_words, end_line};
-ghost use Rattle.pth_print.specs.Word.{thread};
-ghost use Rattle.pth_print.specs.Words.{joined};
+ghost use Rattle.pth_print.specs.EndLines.{end_words, end_line};
+ghost use Rattle.pth_print.specs.WordTexts.{thread};
+ghost use Rattle.pth_print.specs.SpacedWords.{joined};
 
 use crate::word::Word::{Natural, Number, Plain, Thread};
 use crate::word::{add_line, add_words};

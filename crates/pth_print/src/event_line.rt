@@ -2,7 +2,7 @@
 
 ghost use Rattle.std.specs.Prelude.{◌≡◌};
 ghost use Rattle.pth_print.specs.Adding.{Adds};
-ghost use Rattle.pth_print.specs.Words.{spaced};
+ghost use Rattle.pth_print.specs.SpacedWords.{spaced};
 ghost use Rattle.pth_print.specs.EventLines.{goals_word, state_word, walk_word, which_word, event_line_words, chain_words};
 
 use crate::call_shape::{add_one, add_sets, add_text_and_one, add_three};

@@ -4,7 +4,7 @@ ghost use Rattle.std.specs.Prelude.{◌≡◌, ◌++◌, OnOk, OnErr};
 ghost use Rattle.pth_base.specs.Cut.{IsCut};
 ghost use Rattle.pth_print.specs.Adding.{Adds};
 ghost use Rattle.pth_print.specs.declared.fault_line.Fault.TheVariants as fault;
-ghost use Rattle.pth_print.specs.Lines.{breach_name, fault_line, fault_status};
+ghost use Rattle.pth_print.specs.FaultLines.{breach_name, fault_line, fault_status};
 
 use pth_base::memory::OutOfMemory;
 use pth_text::rule::{Breach, Rule};

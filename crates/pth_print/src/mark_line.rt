@@ -3,11 +3,11 @@
 ghost use Rattle.std.specs.Prelude.{◌≡◌, [], ◌∷◌, ◌++◌, OnOk, OnErr, codes};
 ghost use Rattle.pth_base.specs.Cut.{IsCut};
 ghost use Rattle.pth_print.specs.Adding.{Adds};
-ghost use Rattle.pth_print.specs.Words.{spaced, joined};
-ghost use Rattle.pth_print.specs.Word.{thread};
+ghost use Rattle.pth_print.specs.SpacedWords.{spaced, joined};
+ghost use Rattle.pth_print.specs.WordTexts.{thread};
 ghost use Rattle.pth_print.specs.Calls.{call_words};
 ghost use Rattle.pth_print.specs.Answers.{answer_words};
-ghost use Rattle.pth_print.specs.Lines.{acted_words, mark_words, mark_line};
+ghost use Rattle.pth_print.specs.MarkLines.{acted_words, mark_words, mark_line};
 
 use crate::act::add_act;
 use crate::answer::add_answer_after;

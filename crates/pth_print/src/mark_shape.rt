@@ -2,9 +2,9 @@
 
 ghost use Rattle.std.specs.Prelude.{[], ◌∷◌, codes, decimal};
 ghost use Rattle.pth_print.specs.Adding.{Adds};
-ghost use Rattle.pth_print.specs.Lines.{audit_words};
-ghost use Rattle.pth_print.specs.Word.{number, thread};
-ghost use Rattle.pth_print.specs.Words.{spaced, joined};
+ghost use Rattle.pth_print.specs.MarkLines.{audit_words};
+ghost use Rattle.pth_print.specs.WordTexts.{number, thread};
+ghost use Rattle.pth_print.specs.SpacedWords.{spaced, joined};
 
 use crate::word::Word::{Natural, Number, Plain, Thread};
 use crate::word::{add_line, add_words};

@@ -2,7 +2,7 @@
 
 ghost use Rattle.pth_print.specs.Adding.{Adds};
 ghost use Rattle.pth_print.specs.Queries.{query_words};
-ghost use Rattle.pth_print.specs.Words.{spaced};
+ghost use Rattle.pth_print.specs.SpacedWords.{spaced};
 
 use crate::call_shape::{add_text, add_text_and_one};
 use pth_base::memory::OutOfMemory;

@@ -3,8 +3,8 @@
 ghost use Rattle.std.specs.Prelude.{◌≡◌, ◌++◌, OnOk, OnErr};
 ghost use Rattle.pth_base.specs.Cut.{IsCut};
 ghost use Rattle.pth_print.specs.Adding.{Adds};
-ghost use Rattle.pth_print.specs.Lines.{summary_words, summary_line};
-ghost use Rattle.pth_print.specs.Words.{joined};
+ghost use Rattle.pth_print.specs.EndLines.{summary_words, summary_line};
+ghost use Rattle.pth_print.specs.SpacedWords.{joined};
 
 use crate::word::Word::{Natural, Plain};
 use crate::word::add_line;

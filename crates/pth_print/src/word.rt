@@ -2,7 +2,7 @@
 
 ghost use Rattle.std.specs.Prelude.{◌++◌};
 ghost use Rattle.pth_print.specs.Adding.{Adds};
-ghost use Rattle.pth_print.specs.Word.{text_of, phrase_of};
+ghost use Rattle.pth_print.specs.WordTexts.{text_of, phrase_of};
 
 use crate::set::add_set;
 use pth_base::ids::{FdSet, Tid};

@@ -1,7 +1,7 @@
 -- One line more above.
 use Rattle.std.proofs.Common.{◌≡◌, ℕ, List, ◌∷◌, Option, Some, refl}
 use Rattle.pth_spelling.specs.Keywords.{begins}
-use Rattle.pth_grammar.specs.Lines.{numbered}
+use Rattle.pth_grammar.specs.LineMeanings.{numbered}
 use Rattle.pth_spelling.specs.declared.keyword.Keyword.{Keyword}
 use Rattle.pth_spelling.specs.declared.keyword.Keyword.TheVariants as key
 use Rattle.pth_script.specs.Seen.{seen_of, past, section_of, since_mark, numbers, count_of}

@@ -8,7 +8,7 @@ use Rattle.std.proofs.lemmas.Option.{slice_get-get_or, slice_get_past}
 use Rattle.std.proofs.lemmas.Bool.{cases_Bool}
 use Rattle.std.proofs.lemmas.Bool.Decides.{nat_tests}
 use Rattle.pth_text.specs.Bytes.{code}
-use Rattle.pth_script.specs.Rows.{Row, rows_of, onto_first}
+use Rattle.pth_script.specs.TextRows.{Row, rows_of, onto_first}
 use Rattle.pth_script.specs.Broken.{broken, place_breaks, row_breaks, end_breaks}
 use Rattle.pth_script.specs.Table.{first_broken}
 

@@ -3,9 +3,9 @@ use Rattle.std.proofs.Common.{◌≡◌, ℕ, suc, ℤ, Bool, true, false, cond,
 use Rattle.std.specs.Prelude.{is_some, option_map, option_and_then, unwrap_or}
 use Rattle.pth_grammar.specs.CallLines.{call_line}
 use Rattle.pth_spelling.specs.Keywords.{begins, keyword_of}
-use Rattle.pth_grammar.specs.Lines.{numbered, line_of, line_by, plain_line, answered_line, act_of, act_by}
+use Rattle.pth_grammar.specs.LineMeanings.{numbered, line_of, line_by, plain_line, answered_line, act_of, act_by}
 use Rattle.pth_grammar.specs.Reading.{read1, read2, read3}
-use Rattle.pth_spelling.specs.Words.{register_of, natural_of, operand_of, relation_of}
+use Rattle.pth_spelling.specs.WordMeanings.{register_of, natural_of, operand_of, relation_of}
 use Rattle.pth_spelling.specs.declared.keyword.Keyword.{Keyword}
 use Rattle.pth_spelling.specs.declared.keyword.Keyword.TheVariants as key
 use Rattle.pth_line.specs.declared.act_line.ActLine.{ActLine}

@@ -4,7 +4,7 @@ use Rattle.std.proofs.lemmas.Bool.{cases_order}
 use Rattle.pth_line.specs.Script.{Sections}
 use Rattle.pth_script.specs.Broken.{broken, IsAccepted, IsRefusal}
 use Rattle.pth_script.specs.Labels.{somes}
-use Rattle.pth_script.specs.Meaning.{StandsFor}
+use Rattle.pth_script.specs.Meaning.{IsScriptOf}
 use Rattle.pth_script.specs.Table.{first_broken}
 use Rattle.pth_text.specs.declared.rule.Breach.{Breach}
 
@@ -53,7 +53,7 @@ one_list xs ys e = sym (reads_back xs) ∙ ap read_back e ∙ reads_back ys
 each_list : {A : Type 0} (xs ys : List (List A)) → map somes xs ≡ map somes ys → xs ≡ ys
 each_list xs ys e = sym (reads_all xs) ∙ ap (map read_back) e ∙ reads_all ys
 
-pub one_script : (text : List ℕ) (s t : Sections) → StandsFor s text → StandsFor t text → s ≡ t
+pub one_script : (text : List ℕ) (s t : Sections) → IsScriptOf s text → IsScriptOf t text → s ≡ t
 one_script text s t h k = λ i. record {
   handlers = each_list s.handlers t.handlers (h.handlers ∙ sym k.handlers) i;
   checks = one_list s.checks t.checks (h.checks ∙ sym k.checks) i;

@@ -3,9 +3,9 @@ use Rattle.std.proofs.Common.{◌≡◌, ◌≤◌, ◌<◌, ◌==◌, ℕ, nat_
 use Rattle.std.specs.Prelude.{codes}
 use Rattle.std.specs.Str.{bytes_eq}
 use Rattle.std.proofs.lemmas.Bool.Decides.{nat_tests}
-use Rattle.pth_text.specs.Words.{words_of}
+use Rattle.pth_text.specs.LineWords.{words_of}
 use Rattle.pth_text.specs.declared.rule.Rule.TheVariants as rule
-use Rattle.pth_script.specs.Rows.{Row, is_comment, above, size_of}
+use Rattle.pth_script.specs.TextRows.{Row, is_comment, above, size_of}
 use Rattle.pth_script.specs.Seen.{seen_of}
 use Rattle.pth_script.specs.Broken.{row_breaks, says_wrong, said_breaks, is_first, is_long, end_breaks, is_open, text_limit, line_limit}
 use Rattle.pth_script.specs.Table.{first_broken}

@@ -6,15 +6,15 @@ use Rattle.std.proofs.lemmas.Grind.{reverse_onto}
 use Rattle.std.proofs.lemmas.Bool.{cases_lt}
 use Rattle.pth_line.specs.Script.{Sections}
 use Rattle.pth_text.specs.Bytes.{code}
-use Rattle.pth_script.specs.Rows.{Row, rows_of, onto_first, row_size, size_of}
+use Rattle.pth_script.specs.TextRows.{Row, rows_of, onto_first, row_size, size_of}
 use Rattle.pth_script.specs.Broken.{broken, row_breaks, end_breaks, text_limit, IsRefusal, IsAccepted}
 use Rattle.pth_script.specs.Table.{first_broken}
-use Rattle.pth_script.specs.Drafts.{Parts, parts, in_handler, in_body, rest_of, Makes}
+use Rattle.pth_script.specs.Drafts.{DraftParts, draft_parts, in_handler, in_body, rest_of, ComesTo}
 use Rattle.pth_script.specs.Follows.{Follows, TakesRow, Reads, left_of, refused, Answers}
-use Rattle.pth_script.specs.Labels.{somes, placed}
-use Rattle.pth_script.specs.Meaning.{said, handlers_of, checks_of, bodies_of, HasSections, StandsFor}
+use Rattle.pth_script.specs.Labels.{somes, with_places}
+use Rattle.pth_script.specs.Meaning.{said, handlers_of, checks_of, bodies_of, HasSections, IsScriptOf}
 use Rattle.pth_script.specs.Seen.{is_handler, is_thread}
-use Rattle.pth_grammar.specs.Lines.{act_of, line_of}
+use Rattle.pth_grammar.specs.LineMeanings.{act_of, line_of}
 use Rattle.pth_text.specs.declared.rule.Breach.{Breach}
 use Rattle.pth_text.specs.declared.rule.Breach.TheVariants.{Limit, Of}
 use Rattle.pth_script.specs.declared.read.ReadErr.{ReadErr}
@@ -114,10 +114,10 @@ module _ (r : Reader) (before : List Row) (text : List ℕ) (line : ℕ) (rest :
     passes_size h = breaks Limit (long_row before row (beyond before row h))
 
     -- what is left makes the same, its first line and the others apart
-    pub makes_cut : Makes (parts r.draft) (left_of r (row ∷ rows_of after)) (handlers_of (said (drop 1 (rows_of text)))) (checks_of (said (drop 1 (rows_of text)))) (bodies_of (said (drop 1 (rows_of text))))
-    makes_cut = subst (λ rs. Makes (parts r.draft) (left_of r rs) (handlers_of (said (drop 1 (rows_of text)))) (checks_of (said (drop 1 (rows_of text)))) (bodies_of (said (drop 1 (rows_of text))))) cut at.makes
+    pub makes_cut : ComesTo (draft_parts r.draft) (left_of r (row ∷ rows_of after)) (handlers_of (said (drop 1 (rows_of text)))) (checks_of (said (drop 1 (rows_of text)))) (bodies_of (said (drop 1 (rows_of text))))
+    makes_cut = subst (λ rs. ComesTo (draft_parts r.draft) (left_of r rs) (handlers_of (said (drop 1 (rows_of text)))) (checks_of (said (drop 1 (rows_of text)))) (bodies_of (said (drop 1 (rows_of text))))) cut at.makes
 
-    pub reads_on : (new : Reader) → TakesRow (Ok (tt)) new before row → Makes (parts new.draft) (left_of new (rows_of after)) (handlers_of (said (drop 1 (rows_of text)))) (checks_of (said (drop 1 (rows_of text)))) (bodies_of (said (drop 1 (rows_of text)))) → Reads new (row ∷ before) text (line + 1) after
+    pub reads_on : (new : Reader) → TakesRow (Ok (tt)) new before row → ComesTo (draft_parts new.draft) (left_of new (rows_of after)) (handlers_of (said (drop 1 (rows_of text)))) (checks_of (said (drop 1 (rows_of text)))) (bodies_of (said (drop 1 (rows_of text)))) → Reads new (row ∷ before) text (line + 1) after
     reads_on new t m = record {
       follows = t.1;
       whole = one_more before (rows_of after) (rows_of text) row whole;
@@ -130,12 +130,12 @@ module _ (r : Reader) (before : List Row) (text : List ℕ) (line : ℕ) (rest :
 -- ---- the end
 
 -- a draft in which nothing is open has the sections of these lines, where no line is left
-pub sections_made : (d : Parts) (ls : List (List (List ℕ))) → in_handler d.section ≡ false → in_body d.section ≡ false → Makes d [] (handlers_of ls) (checks_of ls) (bodies_of ls)
+pub sections_made : (d : DraftParts) (ls : List (List (List ℕ))) → in_handler d.section ≡ false → in_body d.section ≡ false → ComesTo d [] (handlers_of ls) (checks_of ls) (bodies_of ls)
     → HasSections (record { handlers = d.handlers; checks = d.checks; bodies = d.bodies }) ls
 sections_made d ls h b m = record {
   handlers = sym (append-nil (map somes d.handlers)) ∙ ap (λ t. map somes d.handlers ++ t) (sym (rest_none is_handler act_of (somes d.acts))) ∙ ap (λ b. map somes d.handlers ++ rest_of is_handler act_of b (somes d.acts) []) (sym h) ∙ m.handlers;
   checks = sym (append-nil (somes d.checks)) ∙ ap (λ t. somes d.checks ++ t) (sym checks_none) ∙ m.checks;
-  bodies = sym (append-nil (map somes d.bodies)) ∙ ap (λ t. map somes d.bodies ++ map placed t) (sym (rest_none is_thread line_of (somes d.body))) ∙ ap (λ b. map somes d.bodies ++ map placed (rest_of is_thread line_of b (somes d.body) [])) (sym b) ∙ m.bodies;
+  bodies = sym (append-nil (map somes d.bodies)) ∙ ap (λ t. map somes d.bodies ++ map with_places t) (sym (rest_none is_thread line_of (somes d.body))) ∙ ap (λ b. map somes d.bodies ++ map with_places (rest_of is_thread line_of b (somes d.body) [])) (sym b) ∙ m.bodies;
 }
 
 not_started : (b : Bool) → said (cond b [] (drop 1 [])) ≡ []
@@ -153,10 +153,10 @@ module _ (r : Reader) (before : List Row) (text : List ℕ) (line : ℕ) (at : R
   none_left : left_of r (rows_of []) ≡ []
   none_left = ap (λ rs. said (cond r.started rs (drop 1 rs))) no_rows ∙ not_started r.started
 
-  pub stands : in_handler r.draft.section ≡ false → in_body r.draft.section ≡ false → StandsFor (record { handlers = r.draft.handlers.items; checks = r.draft.checks.items; bodies = r.draft.bodies.items }) text
+  pub stands : in_handler r.draft.section ≡ false → in_body r.draft.section ≡ false → IsScriptOf (record { handlers = r.draft.handlers.items; checks = r.draft.checks.items; bodies = r.draft.bodies.items }) text
   stands h b =
       let ls = said (drop 1 (rows_of text)) in
-      sections_made (parts r.draft) ls h b (subst (λ t. Makes (parts r.draft) t (handlers_of ls) (checks_of ls) (bodies_of ls)) none_left at.makes)
+      sections_made (draft_parts r.draft) ls h b (subst (λ t. ComesTo (draft_parts r.draft) t (handlers_of ls) (checks_of ls) (bodies_of ls)) none_left at.makes)
 
 -- ---- answers
 
@@ -164,7 +164,7 @@ pub refused_answers : (text : List ℕ) (line : ℕ) (b : Breach) (e : ReadErr) 
 refused_answers text line Limit e h r = subst (λ e. Answers text (Err e)) (sym h) r
 refused_answers text line (Of q) e h r = subst (λ e. Answers text (Err e)) (sym h) r
 
-pub starts_reading : (r : Reader) (text : List ℕ) → Follows r [] → Makes (parts r.draft) (left_of r (rows_of text)) (handlers_of (said (drop 1 (rows_of text)))) (checks_of (said (drop 1 (rows_of text)))) (bodies_of (said (drop 1 (rows_of text)))) → Reads r [] text 1 text
+pub starts_reading : (r : Reader) (text : List ℕ) → Follows r [] → ComesTo (draft_parts r.draft) (left_of r (rows_of text)) (handlers_of (said (drop 1 (rows_of text)))) (checks_of (said (drop 1 (rows_of text)))) (bodies_of (said (drop 1 (rows_of text)))) → Reads r [] text 1 text
 unfolding size_of
 starts_reading r text f m = record { follows = f; whole = refl; at = refl; gone = omega arith; fine = λ i from below. absurd (omega arith); makes = m }
 

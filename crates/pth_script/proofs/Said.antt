@@ -1,14 +1,14 @@
 -- The lines that are said, and what a line of words breaks first.
 use Rattle.std.proofs.Common.{◌≡◌, ℕ, Bool, true, false, cond, not, List, ◌∷◌, Option, Some, None, ℤ, refl, ap, sym, ◌∙◌}
-use Rattle.pth_text.specs.Words.{words_of}
+use Rattle.pth_text.specs.LineWords.{words_of}
 use Rattle.pth_spelling.specs.Keywords.{begins}
-use Rattle.pth_grammar.specs.Lines.{numbered}
+use Rattle.pth_grammar.specs.LineMeanings.{numbered}
 use Rattle.pth_grammar.specs.Shapes.{Shape, Unknown, Short, Unequal, Asks, shape_of, words_break, words_fault}
 use Rattle.pth_spelling.specs.declared.keyword.Keyword.{Keyword}
 use Rattle.pth_spelling.specs.declared.keyword.Keyword.TheVariants as key
 use Rattle.pth_text.specs.declared.rule.Rule.{Rule}
 use Rattle.pth_text.specs.declared.rule.Rule.TheVariants as rule
-use Rattle.pth_script.specs.Rows.{Row, is_comment}
+use Rattle.pth_script.specs.TextRows.{Row, is_comment}
 use Rattle.pth_script.specs.Meaning.{said}
 use Rattle.pth_script.specs.Seen.{Seen, past, leads, passes_limit, misnumbered, leaves_goto}
 use Rattle.pth_script.specs.Broken.{said_breaks, line_breaks}

@@ -3,7 +3,7 @@ use Rattle.std.proofs.Common.{◌≡◌, ◌<◌, ◌+◌, ℕ, ℤ, true, false
 use Rattle.std.specs.Prelude.{nat_le, is_some, IfSome, OnOk, Result, Ok, Err}
 use Rattle.std.proofs.lemmas.Bool.Decides.{nat_tests}
 use Rattle.pth_spelling.specs.Keywords.{begins}
-use Rattle.pth_grammar.specs.Lines.{numbered, line_of, act_of, check_of}
+use Rattle.pth_grammar.specs.LineMeanings.{numbered, line_of, act_of, check_of}
 use Rattle.pth_grammar.specs.Shapes.{words_fault}
 use Rattle.pth_spelling.specs.declared.keyword.Keyword.{Keyword}
 use Rattle.pth_spelling.specs.declared.keyword.Keyword.TheVariants as key
@@ -16,7 +16,7 @@ use Rattle.pth_line.specs.declared.check.Check.{Check}
 use Rattle.pth_line.specs.declared.line.Line.{Line}
 use Rattle.pth_script.specs.Labels.{label_in, labels_in, has}
 use Rattle.pth_script.specs.Seen.{Seen, passes_limit, misnumbered, leaves_goto, is_check, is_end, is_handler}
-use Rattle.pth_script.specs.Drafts.{Parts, seen, in_handler, in_body, with_open, handler_closed, IsClosed, IsKept, IsFine, Takes}
+use Rattle.pth_script.specs.Drafts.{DraftParts, seen, in_handler, in_body, with_open, handler_closed, IsClosed, IsInOrder, IsFine, Takes}
 use Rattle.pth_script.proofs.Said.{BreaksNone, fine_line}
 use Rattle.pth_script.proofs.Keys.{line_begins}
 use Rattle.pth_script.proofs.Taking.{act_taken, handler_ended, line_taken, body_ended, handler_opened, body_opened, check_taken}
@@ -97,10 +97,10 @@ if_some : {P : ℤ → Type 0} (o : Option ℤ) → ((m : ℤ) → o ≡ Some m 
 if_some (Some m) f = f m refl
 if_some None f = tt
 
-module _ (d : Parts) (ws : List (List ℕ)) (kept : IsKept d) where
+module _ (d : DraftParts) (ws : List (List ℕ)) (kept : IsInOrder d) where
   module _ (at : d.section ≡ sec.Handler) where
-    kept_h : IsKept (record d { section = sec.Handler })
-    kept_h = subst (λ s. IsKept (record d { section = s })) at kept
+    kept_h : IsInOrder (record d { section = sec.Handler })
+    kept_h = subst (λ s. IsInOrder (record d { section = s })) at kept
 
     few : IsFine d ws → is_end (begins ws) ≡ false → length d.acts + length d.body < 64
     few fine e = few_by (begins ws) (seen d) e (ap (λ s. passes_limit s (begins ws) (seen d)) (sym at) ∙ (fine_line true (seen d) ws fine).limit)
@@ -117,8 +117,8 @@ module _ (d : Parts) (ws : List (List ℕ)) (kept : IsKept d) where
     act_is_read fine e none = not_none (act_of ws) (act_readable ws (ap (λ s. words_fault s ws) (sym at) ∙ (fine_line true (seen d) ws fine).words) (goes_on (begins ws) e)) none
 
   module _ (at : d.section ≡ sec.Body) where
-    kept_b : IsKept (record d { section = sec.Body })
-    kept_b = subst (λ s. IsKept (record d { section = s })) at kept
+    kept_b : IsInOrder (record d { section = sec.Body })
+    kept_b = subst (λ s. IsInOrder (record d { section = s })) at kept
 
     pub body_line_taken : (l : Line) → line_of ws ≡ Some l → Takes d (record d { body = d.body ++ l ∷ [] }) ws
     body_line_taken l reads = subst (λ s. Takes (record d { section = s }) (record d { section = s; body = d.body ++ l ∷ [] }) ws) (sym at) (line_taken d.handlers d.checks d.bodies d.acts d.body ws l reads kept_b)
@@ -128,7 +128,7 @@ module _ (d : Parts) (ws : List (List ℕ)) (kept : IsKept d) where
         let k = line_begins ws l reads in
         if_some (label_in l) (λ m e. free_by (begins ws) (numbered ws) m (seen d) (k.label m e).0 (k.label m e).1 (fine_line true (seen d) ws fine).number)
 
-    pub body_end_taken : (e : Parts) → IsClosed d e → is_end (begins ws) ≡ true → Takes d e ws
+    pub body_end_taken : (e : DraftParts) → IsClosed d e → is_end (begins ws) ≡ true → Takes d e ws
     body_end_taken e h end =
         let t = body_ended d.handlers d.checks d.bodies d.acts d.body ws h.0 h.1 (ends_by (begins ws) end) kept_b in
         subst (λ p. Takes d p ws) (sym h.2) (subst (λ s. Takes (record d { section = s }) (record d { section = sec.Bodies; bodies = d.bodies ++ h.0 ∷ []; body = [] }) ws) (sym at) t)

@@ -4,17 +4,17 @@ use Rattle.std.specs.Prelude.{map}
 use Rattle.std.proofs.lemmas.List.{map_push}
 use Rattle.std.proofs.lemmas.List.Elements.{All-append, All-cons, All-nil}
 use Rattle.pth_spelling.specs.Keywords.{begins}
-use Rattle.pth_grammar.specs.Lines.{numbered, line_of, act_of, check_of}
+use Rattle.pth_grammar.specs.LineMeanings.{numbered, line_of, act_of, check_of}
 use Rattle.pth_spelling.specs.declared.keyword.Keyword.TheVariants as key
 use Rattle.pth_grammar.specs.declared.section.Section.{Section}
 use Rattle.pth_grammar.specs.declared.section.Section.TheVariants as sec
 use Rattle.pth_line.specs.declared.act_line.ActLine.{ActLine}
 use Rattle.pth_line.specs.declared.check.Check.{Check}
 use Rattle.pth_line.specs.declared.line.Line.{Line}
-use Rattle.pth_script.specs.Labels.{somes, labels_in, gotos_in, label_in, goto_in, listed, placed}
+use Rattle.pth_script.specs.Labels.{somes, labels_in, gotos_in, label_in, goto_in, listed, with_places}
 use Rattle.pth_script.specs.Meaning.{checks_of}
 use Rattle.pth_script.specs.Seen.{Seen, past, opened, is_handler, is_check, is_thread, is_end}
-use Rattle.pth_script.specs.Drafts.{Parts, seen, rest_of, in_handler, in_body, with_open, IsKept, Takes}
+use Rattle.pth_script.specs.Drafts.{DraftParts, seen, rest_of, in_handler, in_body, with_open, IsInOrder, Takes}
 use Rattle.pth_script.proofs.Keys.{act_begins, line_begins}
 use Rattle.pth_script.proofs.Resting.{rest_more, rest_end, rest_open, rest_past, checks_past, checks_more}
 
@@ -24,7 +24,7 @@ Handlers = List (List ActLine)
 abbrev Bodies : Type 0
 Bodies = List (List Line)
 
-abbrev draft : Section → Handlers → List Check → Bodies → List ActLine → List Line → Parts
+abbrev draft : Section → Handlers → List Check → Bodies → List ActLine → List Line → DraftParts
 draft s hs cs bs acts ls = record { section = s; handlers = hs; checks = cs; bodies = bs; acts = acts; body = ls }
 
 one_more : {A : Type 0} (xs : List A) (x : A) (n : ℕ) → length (xs ++ x ∷ []) + n ≡ suc (length xs + n)
@@ -55,7 +55,7 @@ gotos_more (m ∷ ls) l = ap (λ t. listed (goto_in m) ++ t) (gotos_more ls l) �
 -- ---- a line within a handler
 
 module _ (hs : Handlers) (cs : List Check) (bs : Bodies) (acts : List ActLine) (ls : List Line) (ws : List (List ℕ)) where
-  pub act_taken : (a : ActLine) → act_of ws ≡ Some a → length acts < 64 → IsKept (draft sec.Handler hs cs bs acts ls) → Takes (draft sec.Handler hs cs bs acts ls) (draft sec.Handler hs cs bs (acts ++ a ∷ []) ls) ws
+  pub act_taken : (a : ActLine) → act_of ws ≡ Some a → length acts < 64 → IsInOrder (draft sec.Handler hs cs bs acts ls) → Takes (draft sec.Handler hs cs bs acts ls) (draft sec.Handler hs cs bs (acts ++ a ∷ []) ls) ws
   act_taken a e few kept =
       let k = act_begins ws a e in
       let d = draft sec.Handler hs cs bs acts ls in
@@ -65,11 +65,11 @@ module _ (hs : Handlers) (cs : List Check) (bs : Bodies) (acts : List ActLine) (
         makes = λ rest xs ys zs m. record {
           handlers = ap (λ t. map somes hs ++ rest_of is_handler act_of true t rest) (read_more acts a (act_of ws) e) ∙ ap (λ t. map somes hs ++ t) (sym (rest_more is_handler act_of (somes acts) ws rest k.inner.end k.inner.handler)) ∙ m.handlers;
           checks = ap (λ t. somes cs ++ t) (sym (checks_past ws rest k.inner.check)) ∙ m.checks;
-          bodies = ap (λ t. map somes bs ++ map placed t) (sym (rest_past is_thread line_of (somes ls) (somes ls) ws rest k.inner.thread)) ∙ m.bodies;
+          bodies = ap (λ t. map somes bs ++ map with_places t) (sym (rest_past is_thread line_of (somes ls) (somes ls) ws rest k.inner.thread)) ∙ m.bodies;
         };
       }
 
-  pub handler_ended : begins ws ≡ Some key.End → IsKept (draft sec.Handler hs cs bs acts ls) → Takes (draft sec.Handler hs cs bs acts ls) (draft sec.Handlers (hs ++ acts ∷ []) cs bs [] ls) ws
+  pub handler_ended : begins ws ≡ Some key.End → IsInOrder (draft sec.Handler hs cs bs acts ls) → Takes (draft sec.Handler hs cs bs acts ls) (draft sec.Handlers (hs ++ acts ∷ []) cs bs [] ls) ws
   unfolding labels_in gotos_in
   handler_ended e kept =
       let d = draft sec.Handler hs cs bs acts ls in
@@ -80,13 +80,13 @@ module _ (hs : Handlers) (cs : List Check) (bs : Bodies) (acts : List ActLine) (
         makes = λ rest xs ys zs m. record {
           handlers = ap (λ t. t ++ rest_of is_handler act_of false [] rest) (map_push somes hs acts) ∙ append_assoc (map somes hs) (somes acts ∷ []) (rest_of is_handler act_of false [] rest) ∙ ap (λ t. map somes hs ++ t) (sym (rest_end is_handler act_of (somes acts) ws rest (ap is_end e) (ap is_handler e))) ∙ m.handlers;
           checks = ap (λ t. somes cs ++ t) (sym (checks_past ws rest (ap is_check e))) ∙ m.checks;
-          bodies = ap (λ t. map somes bs ++ map placed t) (sym (rest_past is_thread line_of (somes ls) (somes ls) ws rest (ap is_thread e))) ∙ m.bodies;
+          bodies = ap (λ t. map somes bs ++ map with_places t) (sym (rest_past is_thread line_of (somes ls) (somes ls) ws rest (ap is_thread e))) ∙ m.bodies;
         };
       }
 
   -- ---- a line within a body
 
-  pub line_taken : (l : Line) → line_of ws ≡ Some l → IsKept (draft sec.Body hs cs bs acts ls) → Takes (draft sec.Body hs cs bs acts ls) (draft sec.Body hs cs bs acts (ls ++ l ∷ [])) ws
+  pub line_taken : (l : Line) → line_of ws ≡ Some l → IsInOrder (draft sec.Body hs cs bs acts ls) → Takes (draft sec.Body hs cs bs acts ls) (draft sec.Body hs cs bs acts (ls ++ l ∷ [])) ws
   line_taken l e kept =
       let k = line_begins ws l e in
       let d = draft sec.Body hs cs bs acts ls in
@@ -96,11 +96,11 @@ module _ (hs : Handlers) (cs : List Check) (bs : Bodies) (acts : List ActLine) (
         makes = λ rest xs ys zs m. record {
           handlers = ap (λ t. map somes hs ++ t) (sym (rest_past is_handler act_of (somes acts) (somes acts) ws rest k.inner.handler)) ∙ m.handlers;
           checks = ap (λ t. somes cs ++ t) (sym (checks_past ws rest k.inner.check)) ∙ m.checks;
-          bodies = ap (λ t. map somes bs ++ map placed (rest_of is_thread line_of true t rest)) (read_more ls l (line_of ws) e) ∙ ap (λ t. map somes bs ++ map placed t) (sym (rest_more is_thread line_of (somes ls) ws rest k.inner.end k.inner.thread)) ∙ m.bodies;
+          bodies = ap (λ t. map somes bs ++ map with_places (rest_of is_thread line_of true t rest)) (read_more ls l (line_of ws) e) ∙ ap (λ t. map somes bs ++ map with_places t) (sym (rest_more is_thread line_of (somes ls) ws rest k.inner.end k.inner.thread)) ∙ m.bodies;
         };
       }
 
-  pub body_ended : (body : List Line) → somes body ≡ placed (somes ls) → begins ws ≡ Some key.End → IsKept (draft sec.Body hs cs bs acts ls) → Takes (draft sec.Body hs cs bs acts ls) (draft sec.Bodies hs cs (bs ++ body ∷ []) acts []) ws
+  pub body_ended : (body : List Line) → somes body ≡ with_places (somes ls) → begins ws ≡ Some key.End → IsInOrder (draft sec.Body hs cs bs acts ls) → Takes (draft sec.Body hs cs bs acts ls) (draft sec.Bodies hs cs (bs ++ body ∷ []) acts []) ws
   unfolding labels_in gotos_in
   body_ended body p e kept =
       let d = draft sec.Body hs cs bs acts ls in
@@ -111,13 +111,13 @@ module _ (hs : Handlers) (cs : List Check) (bs : Bodies) (acts : List ActLine) (
         makes = λ rest xs ys zs m. record {
           handlers = ap (λ t. map somes hs ++ t) (sym (rest_past is_handler act_of (somes acts) (somes acts) ws rest (ap is_handler e))) ∙ m.handlers;
           checks = ap (λ t. somes cs ++ t) (sym (checks_past ws rest (ap is_check e))) ∙ m.checks;
-          bodies = ap (λ t. t ++ map placed (rest_of is_thread line_of false [] rest)) (map_push somes bs body ∙ ap (λ t. map somes bs ++ t ∷ []) p) ∙ append_assoc (map somes bs) (placed (somes ls) ∷ []) (map placed (rest_of is_thread line_of false [] rest)) ∙ ap (λ t. map somes bs ++ map placed t) (sym (rest_end is_thread line_of (somes ls) ws rest (ap is_end e) (ap is_thread e))) ∙ m.bodies;
+          bodies = ap (λ t. t ++ map with_places (rest_of is_thread line_of false [] rest)) (map_push somes bs body ∙ ap (λ t. map somes bs ++ t ∷ []) p) ∙ append_assoc (map somes bs) (with_places (somes ls) ∷ []) (map with_places (rest_of is_thread line_of false [] rest)) ∙ ap (λ t. map somes bs ++ map with_places t) (sym (rest_end is_thread line_of (somes ls) ws rest (ap is_end e) (ap is_thread e))) ∙ m.bodies;
         };
       }
 
   -- ---- a line outside of both
 
-  module _ (s : Section) (no_handler : in_handler s ≡ false) (no_body : in_body s ≡ false) (kept : IsKept (draft s hs cs bs acts ls)) where
+  module _ (s : Section) (no_handler : in_handler s ≡ false) (no_body : in_body s ≡ false) (kept : IsInOrder (draft s hs cs bs acts ls)) where
     no_acts : acts ≡ []
     no_acts = kept.no_acts no_handler
 
@@ -128,7 +128,7 @@ module _ (hs : Handlers) (cs : List Check) (bs : Bodies) (acts : List ActLine) (
     shut : (to : Section) → opened to (seen (draft s hs cs bs acts ls)) ≡ record { section = to; handlers = length hs; checks = length cs; bodies = length bs; lines = 0; labels = []; gotos = [] }
     shut to i = record { section = to; handlers = with_open (no_handler i) (length hs); checks = length cs; bodies = with_open (no_body i) (length bs); lines = 0; labels = []; gotos = [] }
 
-    kept_in : (to : Section) → with_open (in_handler to) (length hs) ≤ 256 → with_open (in_body to) (length bs) ≤ 256 → IsKept (draft to hs cs bs acts ls)
+    kept_in : (to : Section) → with_open (in_handler to) (length hs) ≤ 256 → with_open (in_body to) (length bs) ≤ 256 → IsInOrder (draft to hs cs bs acts ls)
     kept_in to h b = record { no_acts = λ h. no_acts; no_lines = λ h. no_lines; few_acts = kept.few_acts; short_handlers = kept.short_handlers; few_handlers = h; few_bodies = b }
 
     few_handlers : length hs ≤ 256
@@ -151,7 +151,7 @@ module _ (hs : Handlers) (cs : List Check) (bs : Bodies) (acts : List ActLine) (
           makes = λ rest xs ys zs m. record {
             handlers = ap (λ t. map somes hs ++ rest_of is_handler act_of true (somes t) rest) no_acts ∙ ap (λ t. map somes hs ++ t) (sym (rest_open is_handler act_of (somes acts) ws rest (ap is_handler e))) ∙ ap (λ b. map somes hs ++ rest_of is_handler act_of b (somes acts) (ws ∷ rest)) (sym no_handler) ∙ m.handlers;
             checks = ap (λ t. somes cs ++ t) (sym (checks_past ws rest (ap is_check e))) ∙ m.checks;
-            bodies = ap (λ t. map somes bs ++ map placed t) (sym (rest_past is_thread line_of (somes ls) (somes ls) ws rest (ap is_thread e))) ∙ ap (λ b. map somes bs ++ map placed (rest_of is_thread line_of b (somes ls) (ws ∷ rest))) (sym no_body) ∙ m.bodies;
+            bodies = ap (λ t. map somes bs ++ map with_places t) (sym (rest_past is_thread line_of (somes ls) (somes ls) ws rest (ap is_thread e))) ∙ ap (λ b. map somes bs ++ map with_places (rest_of is_thread line_of b (somes ls) (ws ∷ rest))) (sym no_body) ∙ m.bodies;
           };
         }
 
@@ -164,7 +164,7 @@ module _ (hs : Handlers) (cs : List Check) (bs : Bodies) (acts : List ActLine) (
           makes = λ rest xs ys zs m. record {
             handlers = ap (λ t. map somes hs ++ t) (sym (rest_past is_handler act_of (somes acts) (somes acts) ws rest (ap is_handler e))) ∙ ap (λ b. map somes hs ++ rest_of is_handler act_of b (somes acts) (ws ∷ rest)) (sym no_handler) ∙ m.handlers;
             checks = ap (λ t. somes cs ++ t) (sym (checks_past ws rest (ap is_check e))) ∙ m.checks;
-            bodies = ap (λ t. map somes bs ++ map placed (rest_of is_thread line_of true (somes t) rest)) no_lines ∙ ap (λ t. map somes bs ++ map placed t) (sym (rest_open is_thread line_of (somes ls) ws rest (ap is_thread e))) ∙ ap (λ b. map somes bs ++ map placed (rest_of is_thread line_of b (somes ls) (ws ∷ rest))) (sym no_body) ∙ m.bodies;
+            bodies = ap (λ t. map somes bs ++ map with_places (rest_of is_thread line_of true (somes t) rest)) no_lines ∙ ap (λ t. map somes bs ++ map with_places t) (sym (rest_open is_thread line_of (somes ls) ws rest (ap is_thread e))) ∙ ap (λ b. map somes bs ++ map with_places (rest_of is_thread line_of b (somes ls) (ws ∷ rest))) (sym no_body) ∙ m.bodies;
           };
         }
 
@@ -177,6 +177,6 @@ module _ (hs : Handlers) (cs : List Check) (bs : Bodies) (acts : List ActLine) (
           makes = λ rest xs ys zs m. record {
             handlers = ap (λ t. map somes hs ++ t) (sym (rest_past is_handler act_of (somes acts) (somes acts) ws rest (ap is_handler e))) ∙ ap (λ b. map somes hs ++ rest_of is_handler act_of b (somes acts) (ws ∷ rest)) (sym no_handler) ∙ m.handlers;
             checks = ap (λ t. t ++ checks_of rest) (read_more cs c (check_of ws) g) ∙ append_assoc (somes cs) (check_of ws ∷ []) (checks_of rest) ∙ ap (λ t. somes cs ++ t) (sym (checks_more ws rest (ap is_check e))) ∙ m.checks;
-            bodies = ap (λ t. map somes bs ++ map placed t) (sym (rest_past is_thread line_of (somes ls) (somes ls) ws rest (ap is_thread e))) ∙ ap (λ b. map somes bs ++ map placed (rest_of is_thread line_of b (somes ls) (ws ∷ rest))) (sym no_body) ∙ m.bodies;
+            bodies = ap (λ t. map somes bs ++ map with_places t) (sym (rest_past is_thread line_of (somes ls) (somes ls) ws rest (ap is_thread e))) ∙ ap (λ b. map somes bs ++ map with_places (rest_of is_thread line_of b (somes ls) (ws ∷ rest))) (sym no_body) ∙ m.bodies;
           };
         }

@@ -3,9 +3,9 @@ use Rattle.std.proofs.Common.{◌≡◌, ◌≤◌, ◌<◌, ◌==◌, ℕ, suc,
 use Rattle.std.specs.Prelude.{reverse, map, drop}
 use Rattle.std.proofs.lemmas.Bool.{cases_Bool, cases_order, not-false}
 use Rattle.std.proofs.lemmas.List.{length-reverse}
-use Rattle.pth_text.specs.Words.{words_of}
+use Rattle.pth_text.specs.LineWords.{words_of}
 use Rattle.pth_spelling.specs.Keywords.{begins}
-use Rattle.pth_grammar.specs.Lines.{act_of, check_of, line_of, numbered}
+use Rattle.pth_grammar.specs.LineMeanings.{act_of, check_of, line_of, numbered}
 use Rattle.pth_spelling.specs.declared.keyword.Keyword.{Keyword}
 use Rattle.pth_spelling.specs.declared.keyword.Keyword.TheVariants as key
 use Rattle.pth_text.specs.declared.rule.Rule.TheVariants as rule
@@ -17,10 +17,10 @@ use Rattle.pth_line.specs.declared.check.Check.{Check}
 use Rattle.pth_line.specs.declared.line.Line.{Line}
 use Rattle.pth_line.specs.declared.line.Line.TheVariants as line
 use Rattle.pth_script.specs.Broken.{broken, places, row_breaks, end_breaks, is_first, is_long, is_open, said_breaks, IsAccepted, IsRefusal}
-use Rattle.pth_script.specs.Drafts.{Parts, seen, in_handler, in_body, handler_closed, IsClosed, IsFine, IsKept, Makes, Takes}
-use Rattle.pth_script.specs.Labels.{somes, placed, placed_in}
-use Rattle.pth_script.specs.Meaning.{said, handlers_of, checks_of, bodies_of, StandsFor}
-use Rattle.pth_script.specs.Rows.{Row, rows_of, is_comment, above}
+use Rattle.pth_script.specs.Drafts.{DraftParts, seen, in_handler, in_body, handler_closed, IsClosed, IsFine, IsInOrder, ComesTo, Takes}
+use Rattle.pth_script.specs.Labels.{somes, with_places, placed_in}
+use Rattle.pth_script.specs.Meaning.{said, handlers_of, checks_of, bodies_of, IsScriptOf}
+use Rattle.pth_script.specs.TextRows.{Row, rows_of, is_comment, above}
 use Rattle.pth_script.specs.Seen.{seen_of, past, is_check, is_end, is_handler}
 use Rattle.pth_script.specs.Table.{first_broken}
 use Rattle.pth_text.specs.declared.rule.Breach.{Breach}
@@ -55,17 +55,17 @@ placed_lines all (l ∷ ls) =
     let others = placed_lines all ls in
     (first.0 ∷ others.0, λ i. first.1 i ∷ others.1 i)
 
-closed : (d : Parts) → (e : Parts) × IsClosed d e
-unfolding placed
+closed : (d : DraftParts) → (e : DraftParts) × IsClosed d e
+unfolding with_places
 closed d = let body = placed_lines (somes d.body) d.body in (record d { section = sec.Bodies; bodies = d.bodies ++ body.0 ∷ []; body = [] }, (body.0, body.1, refl))
 
 check_begins : (k : Option Keyword) → is_check k ≡ true → k ≡ Some key.Check
 check_begins (Some key.Check) h = refl
 check_begins _ h = absurd (cc)
 
-module _ (d : Parts) (ws : List (List ℕ)) (kept : IsKept d) (fine : IsFine d ws) where
+module _ (d : DraftParts) (ws : List (List ℕ)) (kept : IsInOrder d) (fine : IsFine d ws) where
   abbrev Taken : Type 0
-  Taken = (e : Parts) × Takes d e ws
+  Taken = (e : DraftParts) × Takes d e ws
 
   act_taken : d.section ≡ sec.Handler → Taken
   act_taken at = elim (cases_Bool (is_end (begins ws))) [
@@ -138,7 +138,7 @@ module _ (text : List ℕ) (accepted : IsAccepted text) where
   end_fine before e = sym (at_end text before e) ∙ accepted (length before + 1) (omega arith) (omega (arith, ap length e, length-reverse before))
 
   -- a line of words breaks nothing in the draft of the lines above
-  words_fine : (before rest : List Row) (row : Row) (d : Parts) → reverse before ++ row ∷ rest ≡ rows_of text → true ≡ not (is_first before) → is_comment row.bytes ≡ false
+  words_fine : (before rest : List Row) (row : Row) (d : DraftParts) → reverse before ++ row ∷ rest ≡ rows_of text → true ≡ not (is_first before) → is_comment row.bytes ≡ false
       → seen d ≡ seen_of (above before) → IsFine d (words_of row.bytes)
   words_fine before rest row d e later words s =
       let none = row_fine before rest row e in
@@ -151,27 +151,27 @@ module _ (text : List ℕ) (accepted : IsAccepted text) where
     -- all lines were taken, and what is left makes these sections
     pub record TakesAll : Type 0 where
       pub before : List Row
-      pub draft : Parts
+      pub draft : DraftParts
       pub all : reverse before ≡ rows_of text
       pub seen : seen draft ≡ seen_of (above before)
-      pub makes : Makes draft [] hs cs bs
+      pub makes : ComesTo draft [] hs cs bs
 
-    take_all : (before rest : List Row) (d : Parts) → reverse before ++ rest ≡ rows_of text → true ≡ not (is_first before) → seen d ≡ seen_of (above before) → IsKept d
-        → Makes d (said rest) hs cs bs → TakesAll
+    take_all : (before rest : List Row) (d : DraftParts) → reverse before ++ rest ≡ rows_of text → true ≡ not (is_first before) → seen d ≡ seen_of (above before) → IsInOrder d
+        → ComesTo d (said rest) hs cs bs → TakesAll
     unfolding said
     take_all before [] d e later s kept m = record { before = before; draft = d; all = sym (append-nil (reverse before)) ∙ e; seen = s; makes = m }
     take_all before (row ∷ rest) d e later s kept m = elim (cases_Bool (is_comment row.bytes)) [
       | inl comment ↦ take_all (row ∷ before) rest d (one_more before rest (rows_of text) row e) refl (s ∙ ap seen_of (sym (above_comment before row later comment))) kept
-          (subst (λ ls. Makes d ls hs cs bs) (said_comment row rest comment) m)
+          (subst (λ ls. ComesTo d ls hs cs bs) (said_comment row rest comment) m)
       | inr words ↦
           let ws = words_of row.bytes in
           let t = taken d ws kept (words_fine before rest row d e later words s) in
           take_all (row ∷ before) rest t.0 (one_more before rest (rows_of text) row e) refl
           (t.1.seen ∙ ap (λ x. past (begins ws) (numbered ws) x) s ∙ sym (seen_more ws (above before)) ∙ ap seen_of (sym (above_said before row later words)))
-          t.1.kept (t.1.makes (said rest) hs cs bs (subst (λ ls. Makes d ls hs cs bs) (said_line_of row rest words) m))
+          t.1.kept (t.1.makes (said rest) hs cs bs (subst (λ ls. ComesTo d ls hs cs bs) (said_line_of row rest words) m))
     ]
 
-  script_by : (rows : List Row) → rows_of text ≡ rows → (s : Sections) × StandsFor s text
+  script_by : (rows : List Row) → rows_of text ≡ rows → (s : Sections) × IsScriptOf s text
   script_by [] e = absurd (no_end (end_fine [] (sym e)) (end_rule []))
     where
       no_end : {o : Option Breach} → o ≡ None → o ≡ Some (Of rule.Header) → ⊥
@@ -180,13 +180,13 @@ module _ (text : List ℕ) (accepted : IsAccepted text) where
       let ls = said (drop 1 (rows_of text)) in
       let below : said rest ≡ ls = ap (λ rows. said (drop 1 rows)) (sym e) in
       let all = take_all (handlers_of ls) (checks_of ls) (bodies_of ls) (row ∷ []) rest nothing (sym e) refl (nothing_seen ∙ ap seen_of (sym (above_first [] row refl))) nothing_kept
-      (subst (λ t. Makes nothing t (handlers_of ls) (checks_of ls) (bodies_of ls)) (sym below) (nothing_makes ls)) in
+      (subst (λ t. ComesTo nothing t (handlers_of ls) (checks_of ls) (bodies_of ls)) (sym below) (nothing_makes ls)) in
       let shut = neither_open all.draft.section
       (ap (λ x. is_open x.section) all.seen ∙ shut_by (is_first all.before) ((seen_of (above all.before)).bodies == 0) _ (sym (end_rule all.before) ∙ end_fine all.before all.all)) in
       (record { handlers = all.draft.handlers; checks = all.draft.checks; bodies = all.draft.bodies }, sections_made all.draft ls shut.0 shut.1 all.makes)
 
   -- it stands for a script
-  pub script_of : (s : Sections) × StandsFor s text
+  pub script_of : (s : Sections) × IsScriptOf s text
   script_of = script_by (rows_of text) refl
 
 -- ---- every text

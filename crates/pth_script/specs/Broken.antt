@@ -1,14 +1,14 @@
 -- The rules of a text: one predicate for each, on the whole text and the number of a line.
 use Rattle.std.specs.Prelude.{◌≡◌, ℕ, ◌+◌, ◌-◌, ◌≤◌, ◌<◌, Bool, true, false, ◌||◌, ◌&&◌, not, List, [], ◌∷◌, length, Option, Some, None, ◌==◌, nat_lt, codes, if◌then◌else◌, slice_get, take, reverse}
 use Rattle.std.specs.Str.{bytes_eq}
-use Rattle.pth_text.specs.Words.{words_of}
+use Rattle.pth_text.specs.LineWords.{words_of}
 use Rattle.pth_spelling.specs.Keywords.{begins}
-use Rattle.pth_grammar.specs.Lines.{numbered}
+use Rattle.pth_grammar.specs.LineMeanings.{numbered}
 use Rattle.pth_grammar.specs.Shapes.{shape_of, words_break}
 use Rattle.pth_text.specs.declared.rule.Rule.TheVariants as rule
 use Rattle.pth_grammar.specs.declared.section.Section.{Section}
 use Rattle.pth_grammar.specs.declared.section.Section.TheVariants as sec
-use Rattle.pth_script.specs.Rows.{Row, rows_of, size_of, is_comment, above}
+use Rattle.pth_script.specs.TextRows.{Row, rows_of, size_of, is_comment, above}
 use Rattle.pth_script.specs.Seen.{Seen, seen_of, passes_limit, misnumbered, leaves_goto}
 use Rattle.pth_script.specs.Table.{first_broken}
 use Rattle.pth_text.specs.declared.rule.Breach.{Breach}

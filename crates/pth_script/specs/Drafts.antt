@@ -1,16 +1,16 @@
 -- What a draft of a script has seen, and what becomes of it with the lines that are left.
 use Rattle.std.specs.Prelude.{◌≡◌, ◌≤◌, ℕ, ◌+◌, All, Bool, true, false, List, [], ◌∷◌, ◌++◌, length, Option, None, map, if◌then◌else◌}
-use Rattle.pth_grammar.specs.Lines.{line_of, act_of}
+use Rattle.pth_grammar.specs.LineMeanings.{line_of, act_of}
 use Rattle.pth_spelling.specs.declared.keyword.Keyword.{Keyword}
 use Rattle.pth_grammar.specs.declared.section.Section.{Section}
 use Rattle.pth_grammar.specs.declared.section.Section.TheVariants as sec
 use Rattle.pth_line.specs.declared.act_line.ActLine.{ActLine}
 use Rattle.pth_line.specs.declared.check.Check.{Check}
 use Rattle.pth_line.specs.declared.line.Line.{Line}
-use Rattle.pth_script.specs.Labels.{somes, labels_in, gotos_in, placed}
+use Rattle.pth_script.specs.Labels.{somes, labels_in, gotos_in, with_places}
 use Rattle.pth_script.specs.Meaning.{until_end, blocks, checks_of}
 use Rattle.pth_spelling.specs.Keywords.{begins}
-use Rattle.pth_grammar.specs.Lines.{numbered}
+use Rattle.pth_grammar.specs.LineMeanings.{numbered}
 use Rattle.pth_script.specs.Seen.{Seen, past, is_handler, is_thread}
 use Rattle.pth_script.specs.Broken.{said_breaks}
 use Rattle.pth_script.specs.Table.{first_broken}
@@ -33,7 +33,7 @@ abbrev pub with_open : Bool → ℕ → ℕ
 with_open is_open n = if is_open then n + 1 else n
 
 -- the parts of a draft, as lists
-pub record Parts : Type 0 where
+pub record DraftParts : Type 0 where
   pub section : Section
   pub handlers : List (List ActLine)
   pub checks : List Check
@@ -42,8 +42,8 @@ pub record Parts : Type 0 where
   pub body : List Line
 
 -- those of a draft in the code
-abbrev pub parts : Draft → Parts
-parts d = record {
+abbrev pub draft_parts : Draft → DraftParts
+draft_parts d = record {
   section = d.section;
   handlers = d.handlers.items;
   checks = d.checks.items;
@@ -53,7 +53,7 @@ parts d = record {
 }
 
 -- a draft as what was seen
-abbrev pub seen : Parts → Seen
+abbrev pub seen : DraftParts → Seen
 seen d = record {
   section = d.section;
   handlers = with_open (in_handler d.section) (length d.handlers);
@@ -65,7 +65,7 @@ seen d = record {
 }
 
 -- no lines are kept of a section that is not open, and no limit is passed
-pub record IsKept (d : Parts) : Type 0 where
+pub record IsInOrder (d : DraftParts) : Type 0 where
   pub no_acts : in_handler d.section ≡ false → d.acts ≡ []
   pub no_lines : in_body d.section ≡ false → d.body ≡ []
   pub few_acts : length d.acts ≤ 64
@@ -74,7 +74,7 @@ pub record IsKept (d : Parts) : Type 0 where
   pub few_bodies : with_open (in_body d.section) (length d.bodies) ≤ 256
 
 -- nothing is open, and there is a body
-pub record IsClosable (d : Parts) : Type 0 where
+pub record IsClosable (d : DraftParts) : Type 0 where
   pub handler : in_handler d.section ≡ false
   pub body : in_body d.section ≡ false
   pub some : 1 ≤ length d.bodies
@@ -86,29 +86,29 @@ abbrev pub rest_of : {A : Type 0} → (Option Keyword → Bool) → (List (List 
 rest_of opens read is_open lines ls = if is_open then (lines ++ until_end read ls) ∷ blocks opens read ls else blocks opens read ls
 
 -- the lines that are left make these handlers, checks and bodies of the draft
-pub record Makes (d : Parts) (ls : List (List (List ℕ))) (hs : List (List (Option ActLine))) (cs : List (Option Check)) (bs : List (List (Option Line))) : Type 0 where
+pub record ComesTo (d : DraftParts) (ls : List (List (List ℕ))) (hs : List (List (Option ActLine))) (cs : List (Option Check)) (bs : List (List (Option Line))) : Type 0 where
   pub handlers : map somes d.handlers ++ rest_of is_handler act_of (in_handler d.section) (somes d.acts) ls ≡ hs
   pub checks : somes d.checks ++ checks_of ls ≡ cs
-  pub bodies : map somes d.bodies ++ map placed (rest_of is_thread line_of (in_body d.section) (somes d.body) ls) ≡ bs
+  pub bodies : map somes d.bodies ++ map with_places (rest_of is_thread line_of (in_body d.section) (somes d.body) ls) ≡ bs
 
 -- ---- one line more
 
 -- the words of a line break no rule
-abbrev pub IsFine : Parts → List (List ℕ) → Type 0
+abbrev pub IsFine : DraftParts → List (List ℕ) → Type 0
 IsFine d ws = first_broken (said_breaks true (seen d) ws) ≡ None
 
 -- the handler that was open is closed
-abbrev pub handler_closed : Parts → Parts
+abbrev pub handler_closed : DraftParts → DraftParts
 handler_closed d = record d { section = sec.Handlers; handlers = d.handlers ++ d.acts ∷ []; acts = [] }
 
 -- the body that was open is closed: each `goto` goes to the line after its label
-abbrev pub IsClosed : Parts → Parts → Type 0
+abbrev pub IsClosed : DraftParts → DraftParts → Type 0
 IsClosed old new =
-    (body : List Line) × (somes body ≡ placed (somes old.body)) × (new ≡ record old { section = sec.Bodies; bodies = old.bodies ++ body ∷ []; body = [] })
+    (body : List Line) × (somes body ≡ with_places (somes old.body)) × (new ≡ record old { section = sec.Bodies; bodies = old.bodies ++ body ∷ []; body = [] })
 
 -- the draft went over a line
-pub record Takes (old new : Parts) (ws : List (List ℕ)) : Type 0 where
+pub record Takes (old new : DraftParts) (ws : List (List ℕ)) : Type 0 where
   pub seen : seen new ≡ past (begins ws) (numbered ws) (seen old)
-  pub kept : IsKept new
+  pub kept : IsInOrder new
   pub makes : (ls : List (List (List ℕ))) (hs : List (List (Option ActLine))) (cs : List (Option Check)) (bs : List (List (Option Line)))
-      → Makes old (ws ∷ ls) hs cs bs → Makes new ls hs cs bs
+      → ComesTo old (ws ∷ ls) hs cs bs → ComesTo new ls hs cs bs

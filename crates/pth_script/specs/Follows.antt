@@ -4,12 +4,12 @@ use Rattle.pth_line.specs.Script.{Sections}
 use Rattle.pth_line.specs.declared.act_line.ActLine.{ActLine}
 use Rattle.pth_line.specs.declared.check.Check.{Check}
 use Rattle.pth_line.specs.declared.line.Line.{Line}
-use Rattle.pth_script.specs.Rows.{Row, rows_of, size_of, above}
+use Rattle.pth_script.specs.TextRows.{Row, rows_of, size_of, above}
 use Rattle.pth_script.specs.Seen.{seen_of}
 use Rattle.pth_script.specs.Table.{first_broken}
 use Rattle.pth_script.specs.Broken.{is_first, row_breaks, broken, text_limit, IsRefusal, IsAccepted}
-use Rattle.pth_script.specs.Meaning.{said, handlers_of, checks_of, bodies_of, StandsFor}
-use Rattle.pth_script.specs.Drafts.{parts, seen, IsKept, Makes}
+use Rattle.pth_script.specs.Meaning.{said, handlers_of, checks_of, bodies_of, IsScriptOf}
+use Rattle.pth_script.specs.Drafts.{draft_parts, seen, IsInOrder, ComesTo}
 use Rattle.pth_text.specs.declared.rule.Breach.{Breach}
 use Rattle.pth_text.specs.declared.rule.Breach.TheVariants.{Limit, Of}
 use Rattle.pth_script.specs.declared.read.ReadErr.{ReadErr}
@@ -23,8 +23,8 @@ use Rattle.pth_script.specs.declared.reader.Fault.TheVariants as fault
 -- the reader goes on below these lines
 pub record Follows (r : Reader) (before : List Row) : Type 0 where
   pub started : r.started ≡ not (is_first before)
-  pub seen : seen (parts r.draft) ≡ seen_of (above before)
-  pub kept : IsKept (parts r.draft)
+  pub seen : seen (draft_parts r.draft) ≡ seen_of (above before)
+  pub kept : IsInOrder (draft_parts r.draft)
 
 -- a line was taken, or what it breaks first is told; no line up to it passes the input's limit
 abbrev pub TakesRow : Result (Unit {0}) Fault → Reader → List Row → Row → Type 0
@@ -42,7 +42,7 @@ left_of r rows = said (if r.started then rows else drop 1 rows)
 abbrev pub Drafts : Reader → Reader → List Row → List Row → Type 0
 Drafts old new rows rest =
     (hs : List (List (Option ActLine))) (cs : List (Option Check)) (bs : List (List (Option Line)))
-    → Makes (parts old.draft) (left_of old rows) hs cs bs → Makes (parts new.draft) (left_of new rest) hs cs bs
+    → ComesTo (draft_parts old.draft) (left_of old rows) hs cs bs → ComesTo (draft_parts new.draft) (left_of new rest) hs cs bs
 
 -- a line was taken of a text whose lines up to it pass no limit on their bytes
 pub record Goes (old new : Reader) (row : Row) (result : Result (Unit {0}) Fault) : Type 0 where
@@ -53,7 +53,7 @@ pub record Goes (old new : Reader) (row : Row) (result : Result (Unit {0}) Fault
 
 -- A script stands for an accepted text. A refused one names the line of its refusal and the rule, or that a limit is passed there.
 abbrev pub Answers : List ℕ → Result Sections ReadErr → Type 0
-Answers text (Ok s) = IsAccepted text × StandsFor s text
+Answers text (Ok s) = IsAccepted text × IsScriptOf s text
 Answers text (Err (err.Refused line r)) = IsRefusal text line (Of r)
 Answers text (Err (err.TooLarge line)) = IsRefusal text line Limit
 Answers text (Err err.OutOfMemory) = Unit {0}
@@ -70,4 +70,4 @@ pub record Reads (r : Reader) (before : List Row) (text : List ℕ) (line : ℕ)
   pub at : length before + 1 ≡ line
   pub gone : size_of before + length rest ≡ length text
   pub fine : (i : ℕ) → 1 ≤ i → i < line → first_broken (broken text i) ≡ None
-  pub makes : let ls = said (drop 1 (rows_of text)) in Makes (parts r.draft) (left_of r (rows_of rest)) (handlers_of ls) (checks_of ls) (bodies_of ls)
+  pub makes : let ls = said (drop 1 (rows_of text)) in ComesTo (draft_parts r.draft) (left_of r (rows_of rest)) (handlers_of ls) (checks_of ls) (bodies_of ls)

@@ -58,5 +58,5 @@ placed_in all (Some (line.Goto k to x r y)) = Some (line.Goto k (unwrap_or (plac
 placed_in all l = l
 
 -- a body in which each `goto` goes to the line after its label
-unfoldable pub placed : List (Option Line) → List (Option Line)
-placed all = map (placed_in all) all
+unfoldable pub with_places : List (Option Line) → List (Option Line)
+with_places all = map (placed_in all) all

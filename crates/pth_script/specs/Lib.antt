@@ -1,4 +1,4 @@
-pub mod Rows
+pub mod TextRows
 pub mod Table
 pub mod Labels
 pub mod Bodies

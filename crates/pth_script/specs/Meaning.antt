@@ -1,15 +1,15 @@
 -- What an accepted text stands for, read from its lines.
 use Rattle.std.specs.Prelude.{◌≡◌, ℕ, Bool, List, [], ◌∷◌, Option, map, drop, if◌then◌else◌}
-use Rattle.pth_text.specs.Words.{words_of}
+use Rattle.pth_text.specs.LineWords.{words_of}
 use Rattle.pth_spelling.specs.Keywords.{begins}
-use Rattle.pth_grammar.specs.Lines.{line_of, act_of, check_of}
+use Rattle.pth_grammar.specs.LineMeanings.{line_of, act_of, check_of}
 use Rattle.pth_spelling.specs.declared.keyword.Keyword.{Keyword}
 use Rattle.pth_line.specs.Script.{Sections}
 use Rattle.pth_line.specs.declared.act_line.ActLine.{ActLine}
 use Rattle.pth_line.specs.declared.check.Check.{Check}
 use Rattle.pth_line.specs.declared.line.Line.{Line}
-use Rattle.pth_script.specs.Labels.{somes, placed}
-use Rattle.pth_script.specs.Rows.{Row, rows_of, is_comment}
+use Rattle.pth_script.specs.Labels.{somes, with_places}
+use Rattle.pth_script.specs.TextRows.{Row, rows_of, is_comment}
 use Rattle.pth_script.specs.Seen.{is_handler, is_check, is_thread, is_end}
 
 -- lines as words, without comments
@@ -38,7 +38,7 @@ handlers_of ls = blocks is_handler act_of ls
 
 -- their bodies, in which each `goto` has its place
 abbrev pub bodies_of : List (List (List ℕ)) → List (List (Option Line))
-bodies_of ls = map placed (blocks is_thread line_of ls)
+bodies_of ls = map with_places (blocks is_thread line_of ls)
 
 -- a script has the handlers, checks and bodies of these lines
 pub record HasSections (s : Sections) (ls : List (List (List ℕ))) : Type 0 where
@@ -47,5 +47,5 @@ pub record HasSections (s : Sections) (ls : List (List (List ℕ))) : Type 0 whe
   pub bodies : map somes s.bodies ≡ bodies_of ls
 
 -- a script is what the text stands for: its lines below the first are read
-abbrev pub StandsFor : Sections → List ℕ → Type 0
-StandsFor s text = HasSections s (said (drop 1 (rows_of text)))
+abbrev pub IsScriptOf : Sections → List ℕ → Type 0
+IsScriptOf s text = HasSections s (said (drop 1 (rows_of text)))

@@ -3,7 +3,7 @@
 ghost use Rattle.std.specs.Prelude.{◌≡◌, [], ◌∷◌, ◌++◌, List, Some, OnOk, OnErr, IfOk, IfSome, length, false};
 ghost use Rattle.std.specs.BTreeMap.{IsUnchanged};
 ghost use Rattle.std.specs.List.{list_all};
-ghost use Rattle.pth_script.specs.Labels.{somes, label_in, goto_in, listed, labels_in, gotos_in, has, placed, placed_in};
+ghost use Rattle.pth_script.specs.Labels.{somes, label_in, goto_in, listed, labels_in, gotos_in, has, with_places, placed_in};
 ghost use Rattle.pth_script.specs.Bodies.{IsIndexed, Marks};
 ghost use Rattle.pth_line.specs.declared.line.Line.{Line};
 
@@ -90,7 +90,7 @@ impl Body {
 
     /// Takes the lines out. Each `goto` then goes to the line after its label.
     pub fn close(&mut self, alloc: Global) -> Result<Block<Line>, OutOfMemory>
-        ensures ok { IfOk result (λ lines. somes lines ≡ placed (somes self.old)) }
+        ensures ok { IfOk result (λ lines. somes lines ≡ with_places (somes self.old)) }
         ensures empty { OnOk result (self.new ≡ []) }
     {
         let body = mem::replace(self, Body::new(alloc));
@@ -116,17 +116,17 @@ fn all_placed(
     alloc: Global,
 ) -> Result<Block<Line>, OutOfMemory>
     requires { IsIndexed lines.items places.now }
-    ensures { IfOk result (λ closed. somes closed ≡ placed (somes lines.items)) }
+    ensures { IfOk result (λ closed. somes closed ≡ with_places (somes lines.items)) }
 {
     let mut closed = Block::new(alloc);
     for line in lines {
-        closed.push(placed(line, places))?;
+        closed.push(with_places(line, places))?;
     }
     Ok(closed)
 }
 
 /// The line as it stands in a body with these labels.
-fn placed(line: Line, places: &BTreeMap<i64, usize>) -> Line
+fn with_places(line: Line, places: &BTreeMap<i64, usize>) -> Line
     ensures { (lines : List Line) → IsIndexed lines places.now → Some result ≡ placed_in (somes lines) (Some line) }
 {
     match line {

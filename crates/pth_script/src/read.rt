@@ -1,9 +1,9 @@
 //! Scripts from their text.
 
 ghost use Rattle.std.specs.Prelude.{◌≡◌, ℕ, List, []};
-ghost use Rattle.pth_script.specs.Drafts.{parts, IsKept};
+ghost use Rattle.pth_script.specs.Drafts.{draft_parts, IsInOrder};
 ghost use Rattle.pth_script.specs.Follows.{Answers, Reads, refused};
-ghost use Rattle.pth_script.specs.Rows.{Row};
+ghost use Rattle.pth_script.specs.TextRows.{Row};
 
 use crate::draft::Draft;
 use crate::reader::{Fault, Reader};
@@ -40,7 +40,7 @@ fn refused(line: u32, breach: Breach) -> ReadErr
 
 /// The script that was read, whose last line stands above this one.
 fn finish(reader: Reader, line: u32) -> Result<Script, ReadErr>
-    requires { IsKept (parts reader.draft) }
+    requires { IsInOrder (draft_parts reader.draft) }
     ensures { (text : List ℕ) (before : List Row) → Reads reader before text line [] → Answers text result }
 {
     if let Some(rule) = reader.end_fault() {

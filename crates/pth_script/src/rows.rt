@@ -1,7 +1,7 @@
 //! Lines of a text.
 
 ghost use Rattle.std.specs.Prelude.{◌≡◌, ◌<◌, ◌∷◌, length};
-ghost use Rattle.pth_script.specs.Rows.{rows_of, is_comment};
+ghost use Rattle.pth_script.specs.TextRows.{rows_of, is_comment};
 
 use pth_text::line::line_end;
 

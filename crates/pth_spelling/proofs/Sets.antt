@@ -9,7 +9,7 @@ use Rattle.std.proofs.lemmas.Bool.Decides.{nat_tests}
 use Rattle.std.proofs.lemmas.Nat.{one_shl, or_disjoint}
 use Rattle.std.proofs.lemmas.Nat.Bits.{and_pow, bit_at_above}
 use Rattle.pth_text.specs.Number.{number_of}
-use Rattle.pth_spelling.specs.Words.{below, members_of}
+use Rattle.pth_spelling.specs.WordMeanings.{below, members_of}
 
 -- a number of a descriptor
 abbrev pub member : List ℕ → Option ℕ

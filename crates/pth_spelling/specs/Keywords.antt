@@ -1,7 +1,7 @@
 -- The words that begin lines.
 use Rattle.std.specs.Prelude.{ℕ, List, [], ◌∷◌, Option, Some, None, if◌then◌else◌, codes, option_and_then, option_map, is_some}
 use Rattle.pth_spelling.specs.Named.{named}
-use Rattle.pth_spelling.specs.Words.{register_of}
+use Rattle.pth_spelling.specs.WordMeanings.{register_of}
 use Rattle.pth_spelling.specs.declared.keyword.LibraryWord.{LibraryWord}
 use Rattle.pth_spelling.specs.declared.keyword.LibraryWord.TheVariants as libraries
 use Rattle.pth_spelling.specs.declared.keyword.AttributeWord.{AttributeWord}

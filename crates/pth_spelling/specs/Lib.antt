@@ -1,4 +1,4 @@
 pub mod Texts
 pub mod Named
-pub mod Words
+pub mod WordMeanings
 pub mod Keywords

@@ -52,9 +52,9 @@ pub struct MemoryFiles {
 
 impl Model for MemoryFiles {
     ghost use Rattle.std.specs.Prelude.{drop, ◌≤◌, length, option_map, IfSome, string_bytes};
-    ghost use Rattle.pth_streams.specs.InMemory.{Shelf};
+    ghost use Rattle.pth_streams.specs.InMemory.{FilesState};
 
-    ghost Value = { Shelf };
+    ghost Value = { FilesState };
 
     ghost view = { λ s. record {
       name = string_bytes s.name;

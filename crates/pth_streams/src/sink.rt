@@ -55,9 +55,9 @@ pub struct MemorySink {
 
 impl Model for MemorySink {
     ghost use Rattle.std.specs.Prelude.{◌+◌, ◌≤◌, length, vec_capacity};
-    ghost use Rattle.pth_streams.specs.InMemory.{Paper};
+    ghost use Rattle.pth_streams.specs.InMemory.{SinkState};
 
-    ghost Value = { Paper };
+    ghost Value = { SinkState };
 
     ghost view = { λ s. record { bytes = s.bytes.items; room = s.room; faults = s.faults } };
 

@@ -50,9 +50,9 @@ pub struct MemorySource {
 
 impl Model for MemorySource {
     ghost use Rattle.std.specs.Prelude.{drop, ◌≤◌, length};
-    ghost use Rattle.pth_streams.specs.InMemory.{Feed};
+    ghost use Rattle.pth_streams.specs.InMemory.{SourceState};
 
-    ghost Value = { Feed };
+    ghost Value = { SourceState };
 
     ghost view = { λ s. record { left = drop s.at s.bytes.items; fails = s.fails.items; calls = s.calls; faults = s.faults } };
 

@@ -2,4 +2,4 @@ pub mod Bytes
 pub mod Hex
 pub mod LineEnd
 pub mod Number
-pub mod Words
+pub mod LineWords

@@ -1,7 +1,7 @@
 //! Words of a line.
 
 ghost use Rattle.std.specs.Prelude.{◌≡◌, IfOk, map};
-ghost use Rattle.pth_text.specs.Words.{words_of};
+ghost use Rattle.pth_text.specs.LineWords.{words_of};
 
 use pth_base::memory::OutOfMemory;
 use std::alloc::Global;

@@ -12,21 +12,21 @@ use Rattle.clap.specs.ValueTests.{accepts}
 use Rattle.clap.proofs.ValueTestLemmas.{accepts-Accepts, Accepts-accepts}
 use Rattle.clap.specs.declared.builder.value_parser.ValueParser.TheVariants as vp
 use Rattle.clap.specs.declared.builder.value_parser.ValueParser.{ValueParser}
-use Rattle.pth_words.specs.Words.{number_of}
+use Rattle.pth_words.specs.CommandWords.{unsigned_of}
 
 abbrev u64_parser : ValueParser
 u64_parser = vp.Unsigned 0 18446744073709551615
 
-number_ok : (E : Type 0) (t : Text) (n : ℕ) → ParsesUnsigned {E = E} 64 10 t (Ok n) → Some n ≡ number_of t
+number_ok : (E : Type 0) (t : Text) (n : ℕ) → ParsesUnsigned {E = E} 64 10 t (Ok n) → Some n ≡ unsigned_of t
 number_ok E t n p =
     let at_most : digits_value 10 (without_leading_plus t) ≤ 18446744073709551615 = let h = p.0.1 in omega arith in
     let test : accepts false u64_parser t ≡ true = Accepts-accepts false u64_parser t (p.0.0, p.0.1, omega arith, at_most) in
     ap Some p.1 ∙ sym (rw test refl)
 
-number_err : {E : Type 0} (t : Text) (x : E) → ParsesUnsigned 64 10 t (Err x) → None ≡ number_of t
+number_err : {E : Type 0} (t : Text) (x : E) → ParsesUnsigned 64 10 t (Err x) → None ≡ unsigned_of t
 number_err t x p = go (accepts false u64_parser t) refl
   where
-    go : (b : Bool) → accepts false u64_parser t ≡ b → None ≡ number_of t
+    go : (b : Bool) → accepts false u64_parser t ≡ b → None ≡ unsigned_of t
     go true h =
         let a = accepts-Accepts false u64_parser t h in
         absurd (p (a.0, a.1))
@@ -35,11 +35,11 @@ number_err t x p = go (accepts false u64_parser t) refl
 -- `get_one::<u64>(id)`
 pub number_read : {E : Type 0} (G : Text → Result ℕ E → Type 0) (text : Option Text) (r : Option ℕ)
     → ((u : Text) (x : Result ℕ E) → G u x → ParsesUnsigned 64 10 u x)
-    → (text ≡ None → r ≡ None) → ((t : Text) → text ≡ Some t → ReadsOne G t r) → r ≡ option_and_then number_of text
+    → (text ≡ None → r ≡ None) → ((t : Text) → text ≡ Some t → ReadsOne G t r) → r ≡ option_and_then unsigned_of text
 number_read G None r only none some = none refl
 number_read {E} G (Some t) r only none some = go r (some t refl)
   where
-    go : (r : Option ℕ) → ReadsOne G t r → r ≡ number_of t
+    go : (r : Option ℕ) → ReadsOne G t r → r ≡ unsigned_of t
     go (Some n) h = number_ok E t n (only t (Ok n) h)
     go None h = number_err t h.0 (only t (Err h.0) h.1)
 

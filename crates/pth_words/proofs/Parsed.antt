@@ -5,7 +5,7 @@ use Rattle.clap.specs.Words.{App, HasKind, Kinds, Row, Text, fault_of, is_simple
 use Rattle.clap.specs.declared.error.Error.{Error}
 use Rattle.clap.specs.declared.error.kind.ErrorKind.TheVariants.{OutOfMemory}
 use Rattle.pth_words.specs.Command.{play}
-use Rattle.pth_words.specs.Words.{Asked, asked_by, asked_in, unless_refused}
+use Rattle.pth_words.specs.CommandWords.{Asked, asked_by, asked_in, unless_refused}
 
 simple : is_simple play ≡ true
 unfolding clap_on_literals play

@@ -29,7 +29,7 @@ use Rattle.clap.proofs.CallerLemmas.{entry_by_id, same_rules_by_id}
 use Rattle.clap.proofs.WalkLemmas.{one_text-rows}
 use Rattle.clap.proofs.ValueTestLemmas.{Accepts-accepts}
 use Rattle.pth_words.specs.Command.{file, play, steps, summary}
-use Rattle.pth_words.specs.Words.{Asked, asked_in, number_of}
+use Rattle.pth_words.specs.CommandWords.{Asked, asked_in, unsigned_of}
 
 -- the rules after that of the steps
 abbrev others : List Rule
@@ -67,7 +67,7 @@ no_groups : (a : Arg) → (rule_of a).is_simple ≡ true → a.groups.items ≡ 
 no_groups a h = none_in a.groups.items (and_left _ _ (and_right _ _ (and_right _ _ h)))
 
 -- the number that a text reads as, where it lies in the range
-number_in : (t : List ℕ) → Accepts false (parser.Unsigned 1 1000000000) t → (n : ℕ) × (number_of t ≡ Some n) × (1 ≤ n) × (n ≤ 1000000000)
+number_in : (t : List ℕ) → Accepts false (parser.Unsigned 1 1000000000) t → (n : ℕ) × (unsigned_of t ≡ Some n) × (1 ≤ n) × (n ≤ 1000000000)
 number_in t h =
     let test : accepts false (parser.Unsigned 0 18446744073709551615) t ≡ true =
     Accepts-accepts false (parser.Unsigned 0 18446744073709551615) t (h.0, h.1, omega arith, let most = h.3 in omega arith) in
@@ -75,7 +75,7 @@ number_in t h =
 
 -- the number under a name, or the number where nothing is said
 within : (o : Option (List ℕ)) → ((t : List ℕ) → o ≡ Some t → Accepts false (parser.Unsigned 1 1000000000) t)
-    → (1 ≤ unwrap_or (option_and_then number_of o) 1000000) × (unwrap_or (option_and_then number_of o) 1000000 ≤ 1000000000)
+    → (1 ≤ unwrap_or (option_and_then unsigned_of o) 1000000) × (unwrap_or (option_and_then unsigned_of o) 1000000 ≤ 1000000000)
 within None h = (omega arith, omega arith)
 within (Some t) h =
     let n = number_in t (h t refl) in

@@ -1,7 +1,7 @@
 //! The words of the command line, read by the command's definition.
 
 ghost use Rattle.std.specs.Prelude.{◌≤◌, IfOk, map, string_bytes};
-ghost use Rattle.pth_words.specs.Words.{Answers, asked_by};
+ghost use Rattle.pth_words.specs.CommandWords.{Answers, asked_by};
 
 use crate::choice::{Choice, found};
 use crate::command::command;

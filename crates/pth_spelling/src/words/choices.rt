@@ -1,7 +1,7 @@
 //! Words of a list.
 
 ghost use Rattle.std.specs.Prelude.{◌≡◌};
-ghost use Rattle.pth_spelling.specs.Words.{goals_of, which_of, relation_of, field_of, state_of, mode_of, direction_of, query_of};
+ghost use Rattle.pth_spelling.specs.WordMeanings.{goals_of, which_of, relation_of, field_of, state_of, mode_of, direction_of, query_of};
 
 use crate::direction::Direction;
 use crate::keyword::QueryWord;
@@ -21,7 +21,7 @@ static GOALS: [(&str, u8); 7] = [
 ];
 
 /// What a descriptor is waited for: the sum of 1 for `r`, 2 for `w` and 4 for `x`.
-#[tactic(auto, unfolding(crate::specs::Words::goals_of))]
+#[tactic(auto, unfolding(crate::specs::WordMeanings::goals_of))]
 pub fn goals(word: &[u8]) -> Option<u8>
     ensures { result ≡ goals_of word.now }
 {
@@ -31,7 +31,7 @@ pub fn goals(word: &[u8]) -> Option<u8>
 static WHICH: [(&str, bool); 2] = [("this", false), ("all", true)];
 
 /// Whether all events of a ring are meant.
-#[tactic(auto, unfolding(crate::specs::Words::which_of))]
+#[tactic(auto, unfolding(crate::specs::WordMeanings::which_of))]
 pub fn which(word: &[u8]) -> Option<bool>
     ensures { result ≡ which_of word.now }
 {
@@ -48,7 +48,7 @@ static RELATIONS: [(&str, Relation); 6] = [
 ];
 
 /// A relation between two numbers.
-#[tactic(auto, unfolding(crate::specs::Words::relation_of))]
+#[tactic(auto, unfolding(crate::specs::WordMeanings::relation_of))]
 pub fn relation(word: &[u8]) -> Option<Relation>
     ensures { result ≡ relation_of word.now }
 {
@@ -66,7 +66,7 @@ static FIELDS: [(&str, AttrField); 7] = [
 ];
 
 /// A field of an attribute object.
-#[tactic(auto, unfolding(crate::specs::Words::field_of))]
+#[tactic(auto, unfolding(crate::specs::WordMeanings::field_of))]
 pub fn field(word: &[u8]) -> Option<AttrField>
     ensures { result ≡ field_of word.now }
 {
@@ -81,7 +81,7 @@ static STATES: [(&str, ThreadState); 4] = [
 ];
 
 /// A thread's state that an event may wait for.
-#[tactic(auto, unfolding(crate::specs::Words::state_of))]
+#[tactic(auto, unfolding(crate::specs::WordMeanings::state_of))]
 pub fn state(word: &[u8]) -> Option<ThreadState>
     ensures { result ≡ state_of word.now }
 {
@@ -91,7 +91,7 @@ pub fn state(word: &[u8]) -> Option<ThreadState>
 static MODES: [(&str, bool); 2] = [("rd", false), ("rw", true)];
 
 /// Whether a lock is taken for writing.
-#[tactic(auto, unfolding(crate::specs::Words::mode_of))]
+#[tactic(auto, unfolding(crate::specs::WordMeanings::mode_of))]
 pub fn mode(word: &[u8]) -> Option<bool>
     ensures { result ≡ mode_of word.now }
 {
@@ -130,7 +130,7 @@ static DIRECTIONS: [(&str, Direction); 4] = [
 ];
 
 /// The direction of a walk round a ring.
-#[tactic(auto, unfolding(crate::specs::Words::direction_of))]
+#[tactic(auto, unfolding(crate::specs::WordMeanings::direction_of))]
 pub fn direction(word: &[u8]) -> Option<Direction>
     ensures { result ≡ direction_of word.now }
 {
@@ -151,7 +151,7 @@ static QUERIES: [(&str, QueryWord); 10] = [
 ];
 
 /// What the scheduler is asked.
-#[tactic(auto, unfolding(crate::specs::Words::query_of))]
+#[tactic(auto, unfolding(crate::specs::WordMeanings::query_of))]
 pub fn query(word: &[u8]) -> Option<QueryWord>
     ensures { result ≡ query_of word.now }
 {

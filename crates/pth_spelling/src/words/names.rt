@@ -2,7 +2,7 @@
 
 ghost use Rattle.std.specs.Prelude.{◌≡◌};
 ghost use Rattle.std.specs.List.{list_all};
-ghost use Rattle.pth_spelling.specs.Words.{is_name_byte, is_name, name_of, maybe};
+ghost use Rattle.pth_spelling.specs.WordMeanings.{is_name_byte, is_name, name_of, maybe};
 
 use pth_base::name::Name;
 
@@ -25,7 +25,7 @@ fn is_name(word: &[u8]) -> bool
 }
 
 /// A name, which is cut at 40 bytes.
-#[tactic(auto, unfolding(crate::specs::Words::name_of))]
+#[tactic(auto, unfolding(crate::specs::WordMeanings::name_of))]
 pub fn name(word: &[u8]) -> Option<Name>
     ensures { result ≡ name_of word.now }
 {

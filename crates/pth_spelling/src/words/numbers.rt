@@ -2,12 +2,12 @@
 
 ghost use Rattle.std.specs.Prelude.{◌≡◌, option_and_then};
 ghost use Rattle.pth_text.specs.Number.{number_of};
-ghost use Rattle.pth_spelling.specs.Words.{below, natural_of};
+ghost use Rattle.pth_spelling.specs.WordMeanings.{below, natural_of};
 
 use pth_text::number::read_number;
 
 /// A number that is not negative.
-#[tactic(auto, unfolding(crate::specs::Words::natural_of))]
+#[tactic(auto, unfolding(crate::specs::WordMeanings::natural_of))]
 pub fn natural(word: &[u8]) -> Option<i64>
     ensures { result ≡ natural_of word.now }
 {

@@ -1,7 +1,7 @@
 //! Words that are registers, operands and values.
 
 ghost use Rattle.std.specs.Prelude.{◌≡◌, IfOk};
-ghost use Rattle.pth_spelling.specs.Words.{shared_of, own_of, register_of, operand_of, value_of, maybe, has_hex, given_of, bytes_of};
+ghost use Rattle.pth_spelling.specs.WordMeanings.{shared_of, own_of, register_of, operand_of, value_of, maybe, has_hex, given_of, bytes_of};
 
 use crate::words::numbers::number_below;
 use pth_base::bytes::Bytes;
@@ -12,7 +12,7 @@ use pth_text::number::read_number;
 use std::alloc::Global;
 
 /// The number of a shared register, `v0` to `v63`.
-#[tactic(auto, unfolding(crate::specs::Words::shared_of))]
+#[tactic(auto, unfolding(crate::specs::WordMeanings::shared_of))]
 pub fn shared(word: &[u8]) -> Option<u8>
     ensures { result ≡ shared_of word.now }
 {
@@ -23,7 +23,7 @@ pub fn shared(word: &[u8]) -> Option<u8>
 }
 
 /// The number of a thread's own register, `a0` to `a15`.
-#[tactic(auto, unfolding(crate::specs::Words::own_of))]
+#[tactic(auto, unfolding(crate::specs::WordMeanings::own_of))]
 pub fn own(word: &[u8]) -> Option<u8>
     ensures { result ≡ own_of word.now }
 {
@@ -34,7 +34,7 @@ pub fn own(word: &[u8]) -> Option<u8>
 }
 
 /// A register.
-#[tactic(auto, unfolding(crate::specs::Words::register_of))]
+#[tactic(auto, unfolding(crate::specs::WordMeanings::register_of))]
 pub fn register(word: &[u8]) -> Option<Register>
     ensures { result ≡ register_of word.now }
 {
@@ -45,7 +45,7 @@ pub fn register(word: &[u8]) -> Option<Register>
 }
 
 /// A number of a body's line.
-#[tactic(auto, unfolding(crate::specs::Words::operand_of))]
+#[tactic(auto, unfolding(crate::specs::WordMeanings::operand_of))]
 pub fn operand(word: &[u8]) -> Option<Operand>
     ensures { result ≡ operand_of word.now }
 {
@@ -69,7 +69,7 @@ pub fn maybe_operand(word: &[u8]) -> Option<Option<Operand>>
 }
 
 /// A number of an act or a check.
-#[tactic(auto, unfolding(crate::specs::Words::value_of))]
+#[tactic(auto, unfolding(crate::specs::WordMeanings::value_of))]
 pub fn value(word: &[u8]) -> Option<Value>
     ensures { result ≡ value_of word.now }
 {
@@ -93,7 +93,7 @@ fn given(alloc: Global, digits: &[u8]) -> Result<Option<Bytes>, OutOfMemory>
 }
 
 /// Bytes to write.
-#[tactic(auto, unfolding(crate::specs::Words::bytes_of))]
+#[tactic(auto, unfolding(crate::specs::WordMeanings::bytes_of))]
 pub fn bytes(alloc: Global, word: &[u8]) -> Result<Option<ByteOperand>, OutOfMemory>
     ensures { IfOk result (λ found. found ≡ bytes_of word.now) }
 {

@@ -2,7 +2,7 @@
 
 ghost use Rattle.std.specs.Prelude.{◌≡◌, ◌==◌};
 ghost use Rattle.std.specs.List.{slice_split};
-ghost use Rattle.pth_spelling.specs.Words.{members_of, set_of};
+ghost use Rattle.pth_spelling.specs.WordMeanings.{members_of, set_of};
 
 use crate::words::numbers::number_below;
 use pth_base::ids::FdSet;
@@ -25,7 +25,7 @@ fn members(word: &[u8]) -> Option<u64>
 }
 
 /// `-` for none, or rising numbers of descriptors joined by commas.
-#[tactic(auto, unfolding(crate::specs::Words::set_of))]
+#[tactic(auto, unfolding(crate::specs::WordMeanings::set_of))]
 pub fn set(word: &[u8]) -> Option<FdSet>
     ensures { result ≡ set_of word.now }
 {

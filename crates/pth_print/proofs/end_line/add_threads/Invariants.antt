@@ -1,5 +1,5 @@
 use Rattle.std.proofs.Common.{◌≡◌, ◌++◌, codes, flat_map, take}
-use Rattle.pth_print.specs.Word.{thread}
+use Rattle.pth_print.specs.WordTexts.{thread}
 use Rattle.pth_print.proofs.end_line.add_threads.Given as goal
 
 abbrev pub invariant-loop-tid : goal.invariant-loop-tid

@@ -1,6 +1,6 @@
 use Rattle.std.proofs.Common.{◌++◌, ◌∙◌, ap, codes, decimal}
 use Rattle.std.proofs.lemmas.Result.{err_from_is_err_and, on_err_weaker}
-use Rattle.pth_print.specs.Lines.{breach_name}
+use Rattle.pth_print.specs.FaultLines.{breach_name}
 use Rattle.pth_base.proofs.Cuts.{cut_none}
 use Rattle.pth_print.proofs.Cuts.{adds_cut, adds_then}
 use Rattle.pth_print.proofs.fault_line.input_line.Goals as goal

@@ -1,7 +1,7 @@
 use Rattle.std.proofs.Common.{[], ◌∷◌, codes, decimal}
 use Rattle.std.proofs.lemmas.Result.{err_from_is_err_and}
-use Rattle.pth_print.specs.Lines.{audit_words}
-use Rattle.pth_print.specs.Word.{number, thread}
+use Rattle.pth_print.specs.MarkLines.{audit_words}
+use Rattle.pth_print.specs.WordTexts.{number, thread}
 use Rattle.pth_print.proofs.Cuts.{joined_cut}
 use Rattle.pth_print.proofs.mark_line.add_mark.Goals as goal
 

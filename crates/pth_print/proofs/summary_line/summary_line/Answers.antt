@@ -1,7 +1,7 @@
 use Rattle.std.proofs.Common.{codes}
 use Rattle.std.proofs.lemmas.Result.{err_from_is_err_and, on_err_weaker}
-use Rattle.pth_print.specs.Lines.{summary_words}
-use Rattle.pth_print.specs.Words.{joined}
+use Rattle.pth_print.specs.EndLines.{summary_words}
+use Rattle.pth_print.specs.SpacedWords.{joined}
 use Rattle.pth_base.proofs.Cuts.{cut_none}
 use Rattle.pth_print.proofs.Cuts.{adds_cut, adds_then}
 use Rattle.pth_print.proofs.summary_line.summary_line.Goals as goal

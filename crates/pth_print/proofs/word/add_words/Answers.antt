@@ -2,7 +2,7 @@ use Rattle.std.proofs.Common.{ℕ, List, ◌++◌, codes}
 use Rattle.std.proofs.lemmas.Result.{err_from_is_err_and}
 use Rattle.pth_base.proofs.Cuts.{cut_none, cut_then}
 use Rattle.pth_print.proofs.Cuts.{cut_at}
-use Rattle.pth_print.specs.Word.{text_of}
+use Rattle.pth_print.specs.WordTexts.{text_of}
 use Rattle.pth_print.specs.declared.word.Word.{Word}
 use Rattle.pth_print.specs.declared.word.Word.TheVariants.{Natural}
 use Rattle.pth_print.proofs.word.add_words.Goals as goal

@@ -1,5 +1,5 @@
 use Rattle.std.proofs.Common.{◌≡◌, ◌++◌, take}
-use Rattle.pth_print.specs.Word.{phrase_of}
+use Rattle.pth_print.specs.WordTexts.{phrase_of}
 use Rattle.pth_print.proofs.word.add_words.Given as goal
 
 abbrev pub invariant-loop-word : goal.invariant-loop-word

@@ -1,6 +1,6 @@
 use Rattle.std.proofs.Common.{◌∙◌, ◌≤◌, ◌∷◌, [], ap, arith}
 use Rattle.std.proofs.lemmas.Bool.Decides.{nat_tests}
-use Rattle.pth_script.specs.Rows.{Row, rows_of, size_of}
+use Rattle.pth_script.specs.TextRows.{Row, rows_of, size_of}
 use Rattle.pth_script.specs.Broken.{text_limit}
 use Rattle.pth_script.specs.Follows.{refused}
 use Rattle.pth_script.proofs.RowRules.{text_limit_is}

@@ -1,5 +1,5 @@
 use Rattle.std.proofs.Common.{◌+◌, ◌≤◌, List, length}
-use Rattle.pth_script.specs.Rows.{Row}
+use Rattle.pth_script.specs.TextRows.{Row}
 use Rattle.pth_script.specs.Follows.{Reads}
 use Rattle.pth_script.proofs.read.read.Given as goal
 

@@ -1,5 +1,5 @@
 use Rattle.std.proofs.Common.{◌∙◌, arith, sym, ◌∷◌, true}
-use Rattle.pth_script.specs.Rows.{rows_of}
+use Rattle.pth_script.specs.TextRows.{rows_of}
 use Rattle.pth_script.proofs.Cuts.{row_found, rows_none, place_missing, place_found}
 use Rattle.pth_script.proofs.rows.first_row.Goals as goal
 

@@ -1,5 +1,5 @@
 use Rattle.std.proofs.Common.{◌∙◌, sym, map, string_bytes, ap}
-use Rattle.pth_words.specs.Words.{asked_by}
+use Rattle.pth_words.specs.CommandWords.{asked_by}
 use Rattle.pth_words.proofs.Parsed.{is_plain, is_free, taken, refused}
 use Rattle.pth_words.proofs.Ranges.{steps_within}
 use Rattle.pth_words.proofs.words.read_words.Goals as goal

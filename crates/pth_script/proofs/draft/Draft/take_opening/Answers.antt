@@ -1,6 +1,6 @@
 use Rattle.std.proofs.Common.{◌∙◌, ap, sym}
 use Rattle.pth_spelling.specs.Texts.{texts}
-use Rattle.pth_script.specs.Drafts.{parts}
+use Rattle.pth_script.specs.Drafts.{draft_parts}
 use Rattle.pth_script.specs.Seen.{is_check, is_handler}
 use Rattle.pth_script.proofs.Taken.{handler_open_taken, body_open_taken}
 use Rattle.pth_script.proofs.draft.Draft.take_opening.Goals as goal
@@ -8,10 +8,10 @@ use Rattle.pth_script.proofs.draft.Draft.take_opening.Goals as goal
 pub returns-then-is_handler : goal.returns-then-is_handler
 returns-then-is_handler c =
     let h = ap is_handler (sym c.begins-keyword.ensures) ∙ sym c.is_handler.ensures ∙ c.if-is_handler.true in
-    handler_open_taken (parts c.args.self.now) (texts c.args.words.now) c.requires.kept c.requires.handler c.requires.body c.requires.fine h
+    handler_open_taken (draft_parts c.args.self.now) (texts c.args.words.now) c.requires.kept c.requires.handler c.requires.body c.requires.fine h
 
 pub returns-else-is_handler : goal.returns-else-is_handler
 returns-else-is_handler c =
     let h = ap is_handler (sym c.begins-keyword.ensures) ∙ sym c.is_handler.ensures ∙ c.if-is_handler.false in
     let k = ap is_check (sym c.begins-keyword.ensures) ∙ sym c.is_check.ensures ∙ c.if-is_check.false in
-    body_open_taken (parts c.args.self.now) (texts c.args.words.now) c.requires.kept c.requires.handler c.requires.body c.requires.fine h k
+    body_open_taken (draft_parts c.args.self.now) (texts c.args.words.now) c.requires.kept c.requires.handler c.requires.body c.requires.fine h k

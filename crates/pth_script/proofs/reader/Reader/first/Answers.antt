@@ -1,8 +1,8 @@
 use Rattle.std.proofs.Common.{◌≡◌, ◌∙◌, ◌∷◌, arith, sym, refl, ap, subst, false, cond, not}
 use Rattle.std.proofs.lemmas.Grind.{common_steps}
-use Rattle.pth_script.specs.Rows.{Row}
+use Rattle.pth_script.specs.TextRows.{Row}
 use Rattle.pth_script.specs.Broken.{is_first}
-use Rattle.pth_script.specs.Drafts.{parts, Makes}
+use Rattle.pth_script.specs.Drafts.{draft_parts, ComesTo}
 use Rattle.pth_script.specs.Meaning.{said}
 use Rattle.pth_script.specs.Seen.{seen_of}
 use Rattle.pth_script.proofs.RowRules.{first_row_rule, above_first, not_long}
@@ -39,5 +39,5 @@ returns c =
           let e = first_row_rule before row first in
           let n = not_long before row s c.requires.short in
           (grind (arith, common_steps), record { started = refl; seen = f.seen ∙ ap seen_of (sym (above_first before row first)); kept = f.kept });
-      drafts = λ rest hs cs bs m. subst (λ b. Makes (parts c.args.self.now.draft) (said (cond b (row ∷ rest) rest)) hs cs bs) c.requires.started m;
+      drafts = λ rest hs cs bs m. subst (λ b. ComesTo (draft_parts c.args.self.now.draft) (said (cond b (row ∷ rest) rest)) hs cs bs) c.requires.started m;
     }

@@ -1,9 +1,9 @@
 use Rattle.std.proofs.Common.{◌≡◌, ◌∙◌, ◌∷◌, arith, sym, ap, subst, true, cond, not}
 use Rattle.std.specs.Prelude.{drop}
 use Rattle.std.proofs.lemmas.Grind.{common_steps}
-use Rattle.pth_script.specs.Rows.{Row, is_comment}
+use Rattle.pth_script.specs.TextRows.{Row, is_comment}
 use Rattle.pth_script.specs.Broken.{is_first}
-use Rattle.pth_script.specs.Drafts.{parts, Makes}
+use Rattle.pth_script.specs.Drafts.{draft_parts, ComesTo}
 use Rattle.pth_script.specs.Meaning.{said}
 use Rattle.pth_script.specs.Seen.{seen_of}
 use Rattle.pth_script.proofs.RowRules.{long_row, comment_rule, above_comment, not_long, too_long, line_limit_is}
@@ -49,7 +49,7 @@ returns-then-is_comment c =
           (grind (arith, common_steps), record { started = c.if-not-self.false; seen = f.seen ∙ ap seen_of (sym (above_comment before row later comment)); kept = f.kept });
       drafts = λ rest hs cs bs m.
           let st = c.if-not-self.false in
-          let d = parts c.args.self.now.draft in
-          let old = subst (λ b. Makes d (said (cond b (row ∷ rest) rest)) hs cs bs) st m in
-          subst (λ b. Makes d (said (cond b rest (drop 1 rest))) hs cs bs) (sym st) (subst (λ ls. Makes d ls hs cs bs) (said_comment row rest comment) old);
+          let d = draft_parts c.args.self.now.draft in
+          let old = subst (λ b. ComesTo d (said (cond b (row ∷ rest) rest)) hs cs bs) st m in
+          subst (λ b. ComesTo d (said (cond b rest (drop 1 rest))) hs cs bs) (sym st) (subst (λ ls. ComesTo d ls hs cs bs) (said_comment row rest comment) old);
     }

@@ -1,13 +1,13 @@
 use Rattle.std.proofs.Common.{◌≡◌, ◌∙◌, ◌∷◌, arith, sym, ap, subst, true, cond, not}
 use Rattle.std.specs.Prelude.{drop}
 use Rattle.std.proofs.lemmas.Grind.{common_steps}
-use Rattle.pth_text.specs.Words.{words_of}
+use Rattle.pth_text.specs.LineWords.{words_of}
 use Rattle.pth_spelling.specs.Texts.{texts}
 use Rattle.pth_spelling.specs.Keywords.{begins}
-use Rattle.pth_grammar.specs.Lines.{numbered}
-use Rattle.pth_script.specs.Rows.{Row, above}
+use Rattle.pth_grammar.specs.LineMeanings.{numbered}
+use Rattle.pth_script.specs.TextRows.{Row, above}
 use Rattle.pth_script.specs.Broken.{is_first, said_breaks}
-use Rattle.pth_script.specs.Drafts.{parts, seen, Makes}
+use Rattle.pth_script.specs.Drafts.{draft_parts, seen, ComesTo}
 use Rattle.pth_script.specs.Meaning.{said}
 use Rattle.pth_script.specs.Seen.{seen_of, past}
 use Rattle.pth_script.specs.Table.{first_broken}
@@ -30,7 +30,7 @@ returns-in-Some c =
 pub take-requires-clause-fine : goal.take-requires-clause-fine
 take-requires-clause-fine c =
     let ws = texts c.as_slice-words.result.now in
-    let d = parts c.args.self.now.draft in
+    let d = draft_parts c.args.self.now.draft in
     let h = sym c.fault.ensures ∙ c.in_default.is in
     let cut = (fine_line c.args.ended (seen d) ws h).cut in
     let ended : c.args.ended ≡ true = grind (arith, common_steps) in
@@ -54,7 +54,7 @@ returns c =
           );
       drafts = λ rest hs cs bs m.
           let st = c.requires.started in
-          let old = subst (λ b. Makes (parts c.args.self.now.draft) (said (cond b (row ∷ rest) rest)) hs cs bs) st m in
-          let worded = subst (λ ls. Makes (parts c.args.self.now.draft) ls hs cs bs) (said_line_of row rest c.requires.said ∙ ap (λ v. v ∷ said rest) (sym w)) old in
-          subst (λ b. Makes (parts c.take.new.self) (said (cond b rest (drop 1 rest))) hs cs bs) (sym st) (t.makes (said rest) hs cs bs worded);
+          let old = subst (λ b. ComesTo (draft_parts c.args.self.now.draft) (said (cond b (row ∷ rest) rest)) hs cs bs) st m in
+          let worded = subst (λ ls. ComesTo (draft_parts c.args.self.now.draft) ls hs cs bs) (said_line_of row rest c.requires.said ∙ ap (λ v. v ∷ said rest) (sym w)) old in
+          subst (λ b. ComesTo (draft_parts c.take.new.self) (said (cond b rest (drop 1 rest))) hs cs bs) (sym st) (t.makes (said rest) hs cs bs worded);
     }

@@ -1,7 +1,7 @@
 use Rattle.std.proofs.Common.{◌==◌}
 use Rattle.std.specs.List.{slice_split}
 use Rattle.pth_text.specs.Bytes.{code}
-use Rattle.pth_spelling.specs.Words.{members_of}
+use Rattle.pth_spelling.specs.WordMeanings.{members_of}
 use Rattle.pth_spelling.proofs.Sets.{Leads}
 use Rattle.pth_spelling.proofs.words.sets.members.Given as goal
 

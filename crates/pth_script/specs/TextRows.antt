@@ -1,7 +1,7 @@
 -- A text as a list of lines.
 use Rattle.std.specs.Prelude.{ℕ, ◌+◌, Bool, true, false, List, [], ◌∷◌, length, ◌==◌, if◌then◌else◌, slice_index}
 use Rattle.pth_text.specs.Bytes.{code}
-use Rattle.pth_text.specs.Words.{words_of}
+use Rattle.pth_text.specs.LineWords.{words_of}
 
 -- a line without its LF, and whether it has one
 pub record Row : Type 0 where

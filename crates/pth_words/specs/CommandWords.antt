@@ -21,12 +21,12 @@ pub record Asked : Type 0 where
   pub file : Option Text
 
 -- the number that a text is in decimal digits, below 2^64
-abbrev pub number_of : Text → Option ℕ
-number_of text = if accepts false (parser.Unsigned 0 18446744073709551615) text then Some (digits_value 10 (without_leading_plus text)) else None
+abbrev pub unsigned_of : Text → Option ℕ
+unsigned_of text = if accepts false (parser.Unsigned 0 18446744073709551615) text then Some (digits_value 10 (without_leading_plus text)) else None
 
 -- the number that stands under a name
 abbrev pub number_at : Text → List Row → Option ℕ
-number_at name rows = option_and_then number_of (one_of name rows)
+number_at name rows = option_and_then unsigned_of (one_of name rows)
 
 -- whether the flag with a name is set
 abbrev pub is_set : Text → List Row → Bool

@@ -10,7 +10,7 @@ use Rattle.pth_spelling.specs.Keywords.{keyword_of, call_word}
 use Rattle.pth_grammar.specs.Reading.{values_of, read1, read2, read4}
 use Rattle.pth_grammar.specs.declared.acts.Values.{Values}
 use Rattle.pth_grammar.specs.declared.acts.Values.TheVariants as values
-use Rattle.pth_spelling.specs.Words.{natural_of, register_of, operand_of, value_of, shared_of, relation_of}
+use Rattle.pth_spelling.specs.WordMeanings.{natural_of, register_of, operand_of, value_of, shared_of, relation_of}
 use Rattle.pth_spelling.specs.declared.keyword.Keyword.{Keyword}
 use Rattle.pth_spelling.specs.declared.keyword.Keyword.TheVariants as key
 
