@@ -2,6 +2,7 @@ pub mod Orders
 pub mod Queues
 pub mod Known
 pub mod Runs
+pub mod Told
 pub mod Walks
 pub mod Sorted
 pub mod Entries

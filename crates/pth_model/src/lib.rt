@@ -5,4 +5,5 @@ pub mod blocked;
 pub mod example;
 pub mod next;
 pub mod progress;
+pub mod resources;
 pub mod standings;

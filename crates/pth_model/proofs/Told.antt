@@ -1,0 +1,152 @@
+-- Each piece of a run gives the resources what its marks say.
+use Rattle.std.proofs.Common.{◌≡◌, ◌∙◌, ℕ, pos, zero, suc, Bool, true, false, List, [], ◌∷◌, ◌++◌, Option, Some, None, refl, ap, sym}
+use Rattle.pth_base.specs.Program.{Functions}
+use Rattle.pth_base.specs.declared.call.Call.{Call}
+use Rattle.pth_base.specs.declared.call.Call.TheVariants as call
+use Rattle.pth_base.specs.declared.answer.Answer.TheVariants.{Int}
+use Rattle.pth_base.specs.declared.mark.Mark.{Mark}
+use Rattle.pth_base.specs.declared.mark.Mark.TheVariants as mark
+use Rattle.pth_queue.specs.declared.queue.Queue.TheVariants as queues
+use Rattle.pth_model.specs.declared.blocked.Blocked.{Blocked}
+use Rattle.pth_model.specs.declared.progress.Progress.{Progress}
+use Rattle.pth_model.specs.Resources.{Resources, no_resources, told, told_all}
+use Rattle.pth_model.specs.Operands.{number}
+use Rattle.pth_model.specs.ThreadControl.{child_of, spawns}
+use Rattle.pth_model.specs.Verdict.{Verdict, Says, Yields, Blocks, Ends, Kills}
+use Rattle.pth_model.specs.State.{State, queue, Given, Turn, start}
+use Rattle.pth_model.specs.Transition.{Transition, Piece, Last, silent, nothing, changes, tells, tid, controlled, ◌and_then◌, ◌and_finally◌}
+use Rattle.pth_model.specs.Changes.{blocked_of, entry_of, or_nobody}
+use Rattle.pth_model.specs.Row.{effect_of, refuses, unless_refused}
+use Rattle.pth_model.specs.Rows.{row_of}
+use Rattle.pth_model.specs.Ending.{ending}
+use Rattle.pth_model.specs.Calls.{begun, begun_by, resumed, resumed_by, tried_by, waits_by}
+use Rattle.pth_model.specs.Course.{Course}
+use Rattle.pth_model.specs.Pass.{pass, woken, all_woken, to_wake, moment}
+use Rattle.pth_model.specs.Part.{Part, Move, Take, Step, Close, Halt, part, part_by, next_part, moves, moves_by, takes, takes_by, dispatches, chosen, readies_new, steps, steps_by, closes}
+use Rattle.pth_model.specs.Run.{parts, run}
+
+told_more : (k : Resources) (xs ys : List Mark) → told_all k (xs ++ ys) ≡ told_all (told_all k xs) ys
+told_more k [] ys = refl
+told_more k (x ∷ xs) ys = told_more (told k x) xs ys
+
+module _ {P S H : Type 0} where
+  -- what comes of these resources is what is told
+  abbrev Tells : Resources → Transition P S H → Type 0
+  Tells k x = x.state.resources ≡ told_all k x.marks
+
+  -- a piece gives the resources what its marks say
+  abbrev IsTold : Piece P S H → Type 0
+  IsTold a = (s : State P S H) → Tells s.resources (a s)
+
+  abbrev LastTold : Last P S H → Type 0
+  LastTold a = (s : State P S H) → Tells s.resources (a s).told
+
+  then_told : (a b : Piece P S H) → IsTold a → IsTold b → IsTold (a and_then b)
+  then_told a b x y s = y (a s).state ∙ ap (λ (k : Resources). told_all k (b (a s).state).marks) (x s) ∙ sym (told_more s.resources (a s).marks (b (a s).state).marks)
+
+  finally_told : (a : Piece P S H) (b : Last P S H) → IsTold a → LastTold b → LastTold (a and_finally b)
+  finally_told a b x y s = y (a s).state ∙ ap (λ (k : Resources). told_all k (b (a s).state).told.marks) (x s) ∙ sym (told_more s.resources (a s).marks (b (a s).state).told.marks)
+
+  unless_told : (b : Bool) (a : Piece P S H) → IsTold a → IsTold (unless_refused b a)
+  unless_told true a x s = refl
+  unless_told false a x s = x s
+
+module _ {P S H : Type 0} (f : P → Functions S H) where
+  module _ (t : ℕ) where
+    effect_told : (s : State P S H) (c : Call) → IsTold (effect_of (row_of f s t c).begin)
+    unfolding row_of
+    effect_told s (call.Spawn b v a) = unless_told (refuses (row_of f s t (call.Spawn b v a)).begin.verdict) (changes (spawns f (number b) v (child_of (or_nobody (entry_of s.control t))))) (λ u. refl)
+    effect_told s (call.Yield n) = unless_told (refuses (row_of f s t (call.Yield n)).begin.verdict) (changes nothing) (λ u. refl)
+    effect_told s (call.Exit v) = unless_told (refuses (row_of f s t (call.Exit v)).begin.verdict) silent (λ u. refl)
+    effect_told s c = λ u. refl
+
+    again_told : (s : State P S H) (c : Call) (b : Blocked) → IsTold (effect_of ((row_of f s t c).again b))
+    unfolding row_of
+    again_told s (call.Exit v) b = unless_told (refuses ((row_of f s t (call.Exit v)).again b).verdict) silent (λ u. refl)
+    again_told s c b = λ u. refl
+
+    begun_by_told : (c : Call) (v : Verdict) (a : Piece P S H) → IsTold a → LastTold (begun_by f t c v a)
+    unfolding ending
+    begun_by_told c (Says x) a known s = then_told a (tells (mark.Answered (tid t) c x)) known (λ u. refl) s
+    begun_by_told c (Yields x) a known s = then_told a (tells (mark.Answered (tid t) c x)) known (λ u. refl) s
+    begun_by_told c (Blocks p) a known s = then_told a (waits_by t c p) known (λ u. refl) s
+    begun_by_told c (Ends v) a known s = then_told a (ending f t v) known (λ u. refl) s
+    begun_by_told c Kills a known s = then_told a (tells (mark.Answered (tid t) c (Int (pos 1)))) known (λ u. refl) s
+
+    begun_told : (c : Call) → LastTold (begun f t c)
+    unfolding begun
+    begun_told call.Plain s = refl
+    begun_told (call.Note v) s = refl
+    begun_told c s = begun_by_told c (row_of f s t c).begin.verdict (effect_of (row_of f s t c).begin) (effect_told s c) s
+
+    tried_by_told : (b : Blocked) (v : Verdict) → LastTold (tried_by f t b v)
+    unfolding ending
+    tried_by_told b (Says x) s = refl
+    tried_by_told b (Yields x) s = refl
+    tried_by_told b (Blocks p) s = refl
+    tried_by_told b (Ends v) s = refl
+    tried_by_told b Kills s = refl
+
+    resumed_by_told : (s : State P S H) (b : Option Blocked) → Tells s.resources (resumed_by f t b s).told
+    resumed_by_told s None = refl
+    resumed_by_told s (Some b) =
+        let a = (row_of f s t b.call).again b in
+        finally_told (effect_of a) (tried_by f t b a.verdict) (again_told s b.call b) (tried_by_told b a.verdict) s
+
+    resumed_told : LastTold (resumed f t)
+    unfolding resumed
+    resumed_told s = resumed_by_told s (blocked_of s.control t)
+
+    steps_by_told : (b : Option Blocked) (p : Option (Progress S)) → LastTold (steps_by f t b p)
+    steps_by_told (Some b) p s = resumed_told s
+    steps_by_told None None s = resumed_told s
+    steps_by_told None (Some p) s = begun_told _ _
+
+    steps_told : (x : Turn) (s : State P S H) → (steps f x t s).state.resources ≡ told_all s.resources (steps f x t s).marks
+    unfolding steps
+    steps_told x s = steps_by_told (blocked_of s.control t) (s.control.threads.progress t) s
+
+  woken_told : (t : ℕ) → IsTold (woken {P = P} {S = S} {H = H} t)
+  unfolding woken
+  woken_told t s = refl
+
+  all_woken_told : (ts : List ℕ) → IsTold (all_woken {P = P} {S = S} {H = H} ts)
+  unfolding all_woken
+  all_woken_told [] s = refl
+  all_woken_told (t ∷ ts) s = then_told (woken t) (all_woken ts) (woken_told t) (all_woken_told ts) s
+
+  pass_told : IsTold (pass f)
+  unfolding pass
+  pass_told s = all_woken_told (to_wake f s) s
+
+  abbrev CourseTold : State P S H → Course P S H → Type 0
+  CourseTold s c = c.state.resources ≡ told_all s.resources c.marks
+
+  takes_by_told : (x : Turn) (o : Option ℕ) (s : State P S H) → CourseTold s (takes_by x o s)
+  unfolding dispatches
+  takes_by_told x None s = refl
+  takes_by_told x (Some t) s = refl
+
+  moves_by_told : (x : Turn) (o : Option ℕ) (s : State P S H) → CourseTold s (moves_by f x o s)
+  moves_by_told x None s = refl
+  moves_by_told x (Some m) s = pass_told _
+
+  part_by_told : (x : Turn) (s : State P S H) (p : Part) → CourseTold s (part_by f x s p)
+  unfolding takes moves closes
+  part_by_told x s Move = moves_by_told x (moment f s) s
+  part_by_told x s Take = takes_by_told x (chosen (readies_new s.control).scheduler.preferred (queue (readies_new s.control) queues.Ready)) (controlled readies_new s)
+  part_by_told x s (Step t) = steps_told t x s
+  part_by_told x s (Close t) = pass_told _
+  part_by_told x s Halt = refl
+
+  part_told : (x : Turn) (s : State P S H) → CourseTold s (part f x s)
+  unfolding part
+  part_told x s = part_by_told x s (next_part s x)
+
+  pub run_told : (g : Given P) (i : ℕ) → (run f g i).state.resources ≡ told_all no_resources (run f g i).marks
+  unfolding start parts
+  run_told g zero = refl
+  run_told g (suc i) =
+      let c = run f g i in
+      let next = part f c.turn c.state in
+      part_told c.turn c.state ∙ ap (λ (k : Resources). told_all k next.marks) (run_told g i) ∙ sym (told_more no_resources c.marks next.marks)
