@@ -32,7 +32,7 @@ can_rise roof (x ∷ xs) low under =
     let first : x.rank ≤ℤ pos roof = All-head (λ (r : Ranked). r.rank ≤ℤ pos roof) x xs under in
     grind (arith, ints)
 
-module _ {P S H : Type 0} (m v : MachineOf P S H) where
+module _ {P S H : Type 0} (m : MachineOf P S H) where
   -- the roof is far below the greatest rank
   pub roof_low : IsGoing m → (r : IsRoofed m) → m.turn.steps ≤ 1000000000 → r.roof + length m.world.threads.queues.new < 2 ^ 40
   roof_low going r few =
@@ -45,6 +45,11 @@ module _ {P S H : Type 0} (m v : MachineOf P S H) where
   pub has_room : IsGoing m → IsRoofed m → m.turn.steps ≤ 1000000000 → HasRoom m.world.threads.queues
   has_room going r few = record { roof = r.roof; low = r.low; under = r.under; few = (let low = roof_low going r few in omega arith) }
 
+  -- so every ready thread may rise
+  pub ready_rises : IsGoing m → IsRoofed m → m.turn.steps ≤ 1000000000 → CanRise m.world.threads.queues.ready
+  ready_rises going r few = can_rise r.roof m.world.threads.queues.ready (let low = roof_low going r few in omega arith) r.under
+
+module _ {P S H : Type 0} (m v : MachineOf P S H) where
   -- a step, and what its call leads to
   pub step_roofed : (t : ℕ) (w : WorldOf P S H) → IsRoofed m → m.world.scheduler.running ≡ Some t → KeepsRanks 1 m.world.threads w.threads → v.world.threads.queues ≡ w.threads.queues → v.turn.turns ≡ m.turn.turns → v.turn.steps ≡ m.turn.steps + 1 → IsRoofed v
   step_roofed t w r runs keeps queues turns steps = record {

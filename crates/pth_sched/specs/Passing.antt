@@ -2,17 +2,10 @@
 use Rattle.std.specs.Prelude.{◌≢◌, ℕ, ◌+◌, ◌^◌, ◌≤◌, List, [], ◌∷◌, length}
 use Rattle.pth_queue.specs.Queues.{QueuesOf}
 use Rattle.pth_queue.specs.declared.queue.Queue.TheVariants.{Waiting}
-use Rattle.pth_model.specs.State.{State}
-use Rattle.pth_world.specs.Shows.{StandsFor}
 use Rattle.pth_world.specs.Sound.{IsKnown}
 use Rattle.pth_world.specs.Whole.{IsIn}
 use Rattle.pth_world.specs.World.{WorldOf}
 use Rattle.pth_world.specs.Ranks.{IsUnder, greatest_return}
-
--- the world stands for some state
-pub record HasState {P S H : Type 0} (w : WorldOf P S H) : Type 0 where
-  pub state : State P S H
-  pub stands : StandsFor w state
 
 -- the thread is in the system, and stands in the waiting queue
 abbrev pub IsWaiting : {P S H : Type 0} → WorldOf P S H → ℕ → Type 0

@@ -17,11 +17,6 @@ pub record Stands {P S H : Type 0} (m : MachineOf P S H) (c : Course P S H) : Ty
   pub turn : c.turn ≡ m.turn
   pub memory : m.turn.outcome ≢ OutOfMemory
 
--- the machine stands somewhere
-pub record IsShown {P S H : Type 0} (m : MachineOf P S H) : Type 0 where
-  pub course : Course P S H
-  pub shown : Stands m course
-
 -- What a piece of a run did: the machine stands where the piece leads, and what is told was appended.
 pub record Makes {P S H : Type 0} (m : MachineOf P S H) (old new : List Mark) (c : Course P S H) : Type 0 where
   pub stands : Stands m c
@@ -61,4 +56,3 @@ pub record IsAtStep {P S H : Type 0} (m : MachineOf P S H) : Type 0 where
 pub record Keeps {P S H : Type 0} (m : MachineOf P S H) : Type 0 where
   pub going : IsGoing m
   pub ranks : IsRoofed m
-  pub shown : IsShown m

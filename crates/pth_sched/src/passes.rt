@@ -14,7 +14,7 @@ ghost use Rattle.pth_world.specs.Shows.{Shows, StandsFor};
 ghost use Rattle.pth_world.specs.Sound.{IsSound, IsKnown};
 ghost use Rattle.pth_world.specs.Touches.{KeepsScheduler};
 ghost use Rattle.pth_world.specs.Whole.{Whole, IsIn};
-ghost use Rattle.pth_sched.specs.Passing.{HasState, IsWaiting, WaitOnce};
+ghost use Rattle.pth_sched.specs.Passing.{IsWaiting, WaitOnce};
 
 use pth_base::ids::Tid;
 use pth_base::mark::Mark;
@@ -110,7 +110,6 @@ pub fn pass<P: Program>(
     marks: &mut Marks,
 ) -> Result<(), OutOfMemory>
     requires whole { Whole w.old }
-    requires state { HasState w.old }
     ensures ok { OnOk result ((s : State P P.State P.Shared) → StandsFor w.old s → Leads w.new marks.old marks.new (pass P.functions s)) }
     ensures err { OnErr result ((s : State P P.State P.Shared) → StandsFor w.old s → IsCut marks.old marks.new (pass P.functions s).marks) }
     ensures whole { OnOk result (Whole w.new) }

@@ -11,7 +11,7 @@ ghost use Rattle.pth_world.specs.Frame.{runs_after};
 ghost use Rattle.pth_world.specs.Shows.{Shows};
 ghost use Rattle.pth_world.specs.Whole.{Whole};
 ghost use Rattle.pth_sched.specs.MachineOf.{IsGoing, IsRoofed, left, stops};
-ghost use Rattle.pth_sched.specs.Running.{Stands, StandsAt, IsShown, Keeps, Makes, GoesOn, BreaksOff};
+ghost use Rattle.pth_sched.specs.Running.{Stands, StandsAt, Keeps, Makes, GoesOn, BreaksOff};
 
 use crate::passes::pass;
 use crate::turns::{end_turn, go_on, next, ready_new};
@@ -185,7 +185,6 @@ impl<P: Program> Schedule<P> {
         requires ranks { IsRoofed self.old }
         requires few { self.old.turn.steps ≤ 1000000000 }
         requires over { self.old.turn.gave ≡ Some t.0 }
-        requires shown { IsShown self.old }
         ensures ok { OnOk result ((c : Course P P.State P.Shared) → Stands self.old c → Makes self.new marks.old marks.new (closes P.functions c.turn t.0 c.state)) }
         ensures err { OnErr result ((c : Course P P.State P.Shared) → Stands self.old c → IsCut marks.old marks.new (closes P.functions c.turn t.0 c.state).marks) }
         ensures going { OnOk result (IsGoing self.new) }

@@ -13,3 +13,4 @@ pub mod Ranks
 pub mod Scheduling
 pub mod Frames
 pub mod Telling
+pub mod StateOf

@@ -1,5 +1,6 @@
 pub mod World
 pub mod Shows
+pub mod StateOf
 pub mod Sound
 pub mod Whole
 pub mod Touches

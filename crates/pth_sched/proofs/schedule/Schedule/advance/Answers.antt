@@ -13,11 +13,9 @@ loop-self-init g c = record {
 pub loop-self-preserved : goal.loop-self-preserved
 loop-self-preserved g c =
     let before = c.loop-self.invariant in
-    let course = before.keeps.shown.course in
-    let made = c.in_ok-part.ensures.ok course before.keeps.shown.shown in
     record {
       reaches = λ x i st. reach-more _ x _ i _ _ _ _ _ (before.reaches x i st) (λ s k. sym (c.loop-self-test.ensures.run s k)) c.in_ok-part.ensures.ok;
-      keeps = record { going = c.in_ok-part.ensures.going; ranks = c.in_ok-part.ensures.ranks; shown = record { course = _; shown = made.stands } };
+      keeps = record { going = c.in_ok-part.ensures.going; ranks = c.in_ok-part.ensures.ranks };
       within = c.in_ok-part.ensures.within c.args.to (sym c.loop-self-test.ensures.stops) before.within;
     }
 

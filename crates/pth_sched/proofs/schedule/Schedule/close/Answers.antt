@@ -1,17 +1,19 @@
-use Rattle.std.proofs.Common.{◌≡◌, ◌∙◌, Some, ap, refl, sym, subst}
+use Rattle.std.proofs.Common.{◌≡◌, ◌≤◌, ◌∙◌, Some, ap, refl, sym, subst}
 use Rattle.std.proofs.lemmas.Result.{on_ok_weaker, on_err_weaker}
 use Rattle.pth_model.specs.State.{Scheduler}
-use Rattle.pth_sched.specs.MachineOf.{IsRoofed}
-use Rattle.pth_sched.specs.Running.{Stands, IsShown}
+use Rattle.pth_sched.specs.MachineOf.{IsGoing, IsRoofed}
+use Rattle.pth_sched.specs.Running.{Stands}
 use Rattle.pth_sched.proofs.Keeping.{on_ok_three}
 use Rattle.pth_sched.proofs.Parts.{close_makes, closes_marks}
-use Rattle.pth_sched.proofs.Roofs.{close_roofed}
+use Rattle.pth_sched.proofs.Roofs.{close_roofed, ready_rises}
 use Rattle.pth_sched.proofs.schedule.Schedule.close.Goals as goal
 
-pub pass-requires-clause-state : goal.pass-requires-clause-state
-pass-requires-clause-state g c =
-    let shown = subst (λ m. IsShown m) (sym c.self.view_is) c.requires.shown in
-    record { state = _; stands = record { control = c.end_turn.ensures.shows shown.course.state.control shown.shown.world.control; resources = shown.shown.world.resources } }
+pub end_turn-requires-clause-rise : goal.end_turn-requires-clause-rise
+end_turn-requires-clause-rise g c =
+    let going = subst (λ m. IsGoing m) (sym c.self.view_is) c.requires.going in
+    let roofed = subst (λ m. IsRoofed m) (sym c.self.view_is) c.requires.ranks in
+    let few = subst (λ m. m.turn.steps ≤ 1000000000) (sym c.self.view_is) c.requires.few in
+    ready_rises _ going roofed few
 
 pub returns-clause-ok : goal.returns-clause-ok
 returns-clause-ok g c =

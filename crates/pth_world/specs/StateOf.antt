@@ -1,0 +1,39 @@
+-- A state that a world shows.
+use Rattle.std.specs.Prelude.{ℕ, List, None, map, reverse, false}
+use Rattle.pth_base.specs.Naming.{seen}
+use Rattle.pth_base.specs.Table.{table}
+use Rattle.pth_queue.specs.Ranking.{named_row}
+use Rattle.pth_queue.specs.Queues.{rows_of}
+use Rattle.pth_queue.specs.declared.ranked.Ranked.{Ranked}
+use Rattle.pth_threads.specs.Threads.{slot_of, tid_at, entry_at}
+use Rattle.pth_model.specs.Resources.{no_resources}
+use Rattle.pth_model.specs.Standing.{Standing}
+use Rattle.pth_model.specs.State.{State}
+use Rattle.pth_world.specs.World.{WorldOf}
+
+-- one who stands at a row of a queue that was never raised
+abbrev pub standing_at : Ranked → Standing
+standing_at r = record { tid = r.holder; rank = r.rank; since = 0; entry = 0; top = false }
+
+-- those who entered in the order of these rows, the latest first
+abbrev pub entered_as : List Ranked → List Standing
+entered_as rows = reverse (map standing_at rows)
+
+-- the state in which no queue was raised, and those who stand in each entered in its order
+unfoldable pub state_of : {P S H : Type 0} → WorldOf P S H → State P S H
+state_of w = record {
+  resources = no_resources;
+  control = record {
+    program = w.program;
+    shared = w.shared;
+    threads = record {
+      made = w.threads.records.made;
+      known = seen None (slot_of w.threads.records) (entry_at w.threads.records);
+      progress = seen None (slot_of w.threads.records) (table None w.threads.progress);
+      standing = λ q. entered_as (map (named_row (tid_at w.threads.records)) (rows_of q w.threads.queues));
+      entries = 0;
+      raises = 0;
+    };
+    scheduler = w.scheduler;
+  };
+}
