@@ -27,7 +27,7 @@ static PIECES: [(u64, u64, &str); 7] = [
 ];
 
 fn machine(alloc: Global) -> Result<Machine<Script>, Fail>
-    ensures { IfOk result (λ machine. machine.steps ≡ 0) }
+    ensures { IfOk result (λ machine. machine.turn.steps ≡ 0) }
 {
     let script = read(alloc, SCRIPT.as_bytes())?;
     Ok(Machine::new(alloc, script)?)
@@ -41,7 +41,7 @@ fn drive_on<P: Program>(
     piece: u64,
     out: &mut SureSink,
 ) -> Result<(), Fail>
-    requires few { machine.old.steps + steps ≤ 1000000000 }
+    requires few { machine.old.turn.steps + steps ≤ 1000000000 }
     requires nonzero { 1 ≤ piece }
 {
     let choice = Choice {
