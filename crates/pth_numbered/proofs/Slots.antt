@@ -1,26 +1,34 @@
 -- What a change of the slab and of the index makes of the things, their numbers and the slots.
-use Rattle.std.proofs.Common.{◌≡◌, ◌≢◌, ℕ, ◌+◌, ◌<◌, ◌≤◌, false, List, [], length, get_or, set, Option, Some, None, IsSome, IfSome, option_map, is_some, count_by, cond, refl, sym, ◌∙◌, ap, subst, arith}
+use Rattle.std.proofs.Common.{◌≡◌, ◌≢◌, ℕ, ◌+◌, ◌<◌, ◌≤◌, inl, inr, false, List, [], length, get_or, set, Option, Some, None, IsSome, IfSome, option_map, is_some, count_by, cond, refl, sym, ◌∙◌, ap, subst, arith}
 use Rattle.std.specs.Ordering.{nat_cmp, is_eq}
 use Rattle.std.specs.declared.cmp.Ordering.{Ordering}
 use Rattle.std.specs.declared.cmp.Ordering.TheVariants.{Less, Equal, Greater}
 use Rattle.std.specs.BTreeMap as tree
 use Rattle.std.specs.BTreeMap.{is_at, BTreeMap}
 use Rattle.std.proofs.lemmas.Map.Lookups.{exact_unsigned}
+use Rattle.std.proofs.lemmas.Bool.{cases_lt}
 use Rattle.std.proofs.lemmas.List.Sums.{sum_by-set}
 use Rattle.slab.specs.Slab.{Slab, Updates, slab_len}
 use Rattle.slab.proofs.SlabLemmas.{ContainsKey-within}
 use Rattle.pth_base.specs.Limits.{thread_limit}
 use Rattle.pth_base.specs.Table.{put}
-use Rattle.pth_base.specs.Naming.{IsTied}
+use Rattle.pth_base.specs.Naming.{IsTied, seen}
 use Rattle.pth_base.specs.declared.ids.Slot.{Slot}
-use Rattle.pth_base.proofs.Namings.{IsTied-put, IsTied-remove}
+use Rattle.pth_base.proofs.Namings.{none_some as not_slotted, seen_at, seen_put, seen_add, seen_drop, IsTied-put, IsTied-remove}
 use Rattle.pth_base.proofs.Tables.{put_is, put_by}
 use Rattle.pth_base.proofs.Lists.{ap_put, put_none, table_set}
-use Rattle.pth_numbered.specs.Numbered.{NumberedOf, record_at, thing_of, number_of, exchanged, thing_at, number_at, slot_of, count, with_thing, IsKept, Adds, Changes, Removes}
+use Rattle.pth_numbered.specs.Numbered.{number_known, NumberedOf, record_at, thing_of, number_of, exchanged, thing_at, number_at, slot_of, count, with_thing, IsKept, Adds, Changes, Removes}
 use Rattle.pth_numbered.specs.declared.numbered.Record.{Record}
+use Rattle.pth_numbered.proofs.Known.{number-new, number-gone, number-other}
 
 none_some : {B : Type 0} (o : Option B) (b : B) → o ≡ None → o ≡ Some b → ⊥
 none_some o b none some = cc
+
+above_zero : (n : ℕ) → n ≢ 0 → 0 < n
+above_zero n h = omega arith
+
+same_after : {m n : ℕ} → m + 1 ≡ n + 1 → m ≡ n
+same_after h = omega arith
 
 not_equal : (o : Ordering) → (o ≡ Equal → ⊥) → is_eq o ≡ false
 not_equal Less h = refl
@@ -113,6 +121,10 @@ module _ {A : Type 0} where
   count_set : (xs : List (Option (Record A))) (u : ℕ) (r : Record A) → u < length xs → IsSome (get_or xs u None) → count_by is_some (set xs u (Some r)) ≡ count_by is_some xs
   count_set xs u r low there = omega (arith, sum_by-set one_if_some xs u (Some r) None low, one_of _ there)
 
+  -- the things by number
+  abbrev by_number : NumberedOf A → ℕ → Option A
+  by_number x = seen None (slot_of x) (thing_at x)
+
   -- ---- what is kept
 
   -- a number comes with a thing, and a thing with a number
@@ -142,9 +154,9 @@ module _ {A : Type 0} where
     y_low = subst (AreBelow x.limit) (sym (numbers_put x y u o e)) (below_put x.limit (number_at x) u (number_of o) kept.low room)
 
     -- what is kept, after one record was written
-    kept_by : IsTied (slot_of y) (number_at y) → ((n : ℕ) → y.made < n → slot_of y n ≡ None) → count y ≤ x.limit → IsKept y
+    kept_by : IsTied (slot_of y) (number_at y) → ((n : ℕ) → y.made < n → slot_of y n ≡ None) → count y ≤ x.limit → number_known (by_number y) y.made ≡ count y → IsKept y
     unfolding thing_at number_at
-    kept_by tied fresh few = record {
+    kept_by tied fresh few counted = record {
       tied = tied;
       fresh = fresh;
       few = subst (λ (l : ℕ). count y ≤ l) (sym limit) few;
@@ -152,6 +164,7 @@ module _ {A : Type 0} where
       most = subst (λ (l : ℕ). l ≤ thread_limit) (sym limit) kept.most;
       empty = λ v. (y_both v).0;
       full = λ v. (y_both v).1;
+      counted = counted;
     }
 
   -- ---- another thing at a slot in use
@@ -179,20 +192,34 @@ module _ {A : Type 0} where
     unfolding count
     count_x' = count_set x.slots u _ within there
 
+    things_x' : thing_at x' ≡ put (thing_at x) u (Some a)
+    things_x' = things_put x x' u _ records_x'
+
+    used_x : number_at x u ≢ 0
+    used_x zero = none_some (thing_at x u) r.thing (kept.empty u zero) (thing_is x u r was)
+
+    counted_x' : number_known (by_number x') x.made ≡ count x'
+    counted_x' =
+        let n = number_at x u in
+        let at : slot_of x n ≡ Some u = kept.tied.slot u used_x in
+        let was_known : by_number x n ≡ Some r.thing = seen_at None (slot_of x) (thing_at x) n u at ∙ thing_is x u r was in
+        rw (slots_x', things_x', seen_put None (slot_of x) (number_at x) (thing_at x) n u (Some a) kept.tied at) (number-other (by_number x) x.made n r.thing a was_known ∙ kept.counted ∙ sym count_x')
+
     pub written : x' ≡ with_thing x u a
     unfolding with_thing
     written = ap (λ (o : Option (Record A)). record x { slots = set x.slots u (exchanged a o) }) (sym was)
 
     pub changes : Changes x (with_thing x u a) u a
-    changes = rw (← written) (record { slots = slots_x'; numbers = numbers_x'; things = things_put x x' u _ records_x'; count = count_x'; made = refl; limit = refl })
+    changes = rw (← written) (record { slots = slots_x'; numbers = numbers_x'; things = things_x'; count = count_x'; made = refl; limit = refl })
 
     pub kept_changed : IsKept x'
     kept_changed = kept_by x x' u (Some (record r { thing = a })) kept records_x' refl
-        (λ zero. absurd (none_some (thing_at x u) r.thing (kept.empty u (number_is x u r was ∙ zero)) (thing_is x u r was)), λ used. refl)
-        (λ used. kept.low u (λ zero. used (sym (number_is x u r was) ∙ zero)))
+        (λ zero. absurd (used_x (number_is x u r was ∙ zero)), λ used. refl)
+        (λ used. kept.low u used_x)
         (rw (slots_x', numbers_x') kept.tied)
         (rw slots_x' kept.fresh)
         (rw count_x' kept.few)
+        counted_x'
 
   -- ---- one more thing
 
@@ -230,8 +257,14 @@ module _ {A : Type 0} where
     unfolding count
     count_s = rw s_is refl
 
+    things_y : thing_at y ≡ put (thing_at x) u (Some a)
+    things_y = things_put x y u (Some r) records_y
+
+    counted_y : number_known (by_number y) y.made ≡ count y
+    counted_y = rw (slots_y, things_y, seen_add None (slot_of x) (number_at x) (thing_at x) (x.made + 1) u kept.tied (Some a) unused) (number-new (by_number x) x.made a ∙ ap (λ (n : ℕ). n + 1) kept.counted ∙ sym count_y)
+
     pub adds : Adds x y u a
-    adds = record { unused = unused; unknown = unknown; low = low; slots = slots_y; numbers = numbers_y; things = things_put x y u (Some r) records_y; count = count_y; made = refl; limit = refl }
+    adds = record { unused = unused; unknown = unknown; low = low; slots = slots_y; numbers = numbers_y; things = things_y; count = count_y; made = refl; limit = refl }
 
     pub kept_added : IsKept y
     kept_added = kept_by x y u (Some r) kept records_y refl
@@ -240,6 +273,7 @@ module _ {A : Type 0} where
         tied_y
         (fresh_put x y (x.made + 1) (Some u) kept slots_y (omega arith) (λ past. absurd (omega arith)))
         (omega (arith, count_y, count_s, kept.few, room))
+        counted_y
 
   -- ---- a thing is gone
 
@@ -263,8 +297,24 @@ module _ {A : Type 0} where
     unfolding count
     count_z = rw s_is len
 
+    things_z : thing_at z ≡ put (thing_at x) u None
+    things_z = things_put x z u None records_z
+
+    -- its number was given
+    given : number_at x u ≤ x.made
+    given = elim (cases_lt x.made (number_at x u)) [ inl above ↦ absurd (not_slotted (sym (kept.fresh (number_at x u) above) ∙ kept.tied.slot u used)) | inr low ↦ low ]
+
+    counted_z : number_known (by_number z) z.made ≡ count z
+    counted_z =
+        let n = number_at x u in
+        let at : slot_of x n ≡ Some u = kept.tied.slot u used in
+        let was_known : by_number x n ≡ Some r.thing = seen_at None (slot_of x) (thing_at x) n u at ∙ thing_is x u r was in
+        let some : 0 < n = above_zero n used in
+        let less = number-gone (by_number x) x.made n r.thing was_known some given in
+        rw (slots_z, things_z, seen_drop None (slot_of x) (number_at x) (thing_at x) n u kept.tied None at) (same_after (less ∙ kept.counted ∙ sym count_z))
+
     pub removes : Removes x z u
-    removes = record { slots = slots_z; numbers = numbers_z; things = things_put x z u None records_z; count = count_z; made = refl; limit = refl }
+    removes = record { slots = slots_z; numbers = numbers_z; things = things_z; count = count_z; made = refl; limit = refl }
 
     pub kept_removed : IsKept z
     kept_removed = kept_by x z u None kept records_z refl
@@ -273,6 +323,7 @@ module _ {A : Type 0} where
         tied_z
         (fresh_put x z (number_at x u) None kept slots_z (omega arith) (λ past. refl))
         (omega (arith, count_z, kept.few))
+        counted_z
 
   -- ---- nothing
 
@@ -280,7 +331,7 @@ module _ {A : Type 0} where
   nothing limit = record { slots = []; index = []; made = 0; limit = limit }
 
   pub kept_none : (limit : ℕ) → limit ≤ thread_limit → IsKept (nothing limit)
-  unfolding slot_of number_at thing_at count
+  unfolding slot_of number_at thing_at count number_known
   kept_none limit low = record {
     tied = record { tid = λ n u h. cc; slot = λ u h. absurd (h refl); zero = refl; low = λ u h. absurd (h refl) };
     fresh = λ n h. refl;
@@ -289,4 +340,5 @@ module _ {A : Type 0} where
     most = low;
     empty = λ u h. refl;
     full = λ u h. absurd (h refl);
+    counted = refl;
   }

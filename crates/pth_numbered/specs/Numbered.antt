@@ -1,11 +1,11 @@
 -- Things by slot, with an index from their numbers to slots.
-use Rattle.std.specs.Prelude.{◌≡◌, ◌≢◌, ◌+◌, ◌<◌, ◌≤◌, ℕ, List, Option, Some, None, IsSome, is_some, count_by, slice_set}
+use Rattle.std.specs.Prelude.{◌≡◌, ◌≢◌, ◌+◌, ◌<◌, ◌≤◌, ℕ, zero, suc, List, Option, Some, None, IsSome, is_some, count_by, slice_set, if◌then◌else◌}
 use Rattle.std.specs.Ordering.{nat_cmp}
 use Rattle.std.specs.BTreeMap.{is_at}
 use Rattle.std.specs.Map.{lookup}
 use Rattle.pth_base.specs.Limits.{thread_limit}
 use Rattle.pth_base.specs.Table.{put, table}
-use Rattle.pth_base.specs.Naming.{IsTied}
+use Rattle.pth_base.specs.Naming.{IsTied, seen}
 use Rattle.pth_numbered.specs.declared.numbered.Record.{Record}
 
 -- the things with their numbers by slot, the slots by number, how many were ever added, and how many there may be at once
@@ -14,6 +14,11 @@ pub record NumberedOf (A : Type 0) : Type 0 where
   pub index : List (ℕ × ℕ)
   pub made : ℕ
   pub limit : ℕ
+
+-- how many of the first n numbers have a value
+unfoldable pub number_known : {A : Type 0} → (ℕ → Option A) → ℕ → ℕ
+number_known f zero = 0
+number_known f (suc n) = (if is_some (f (suc n)) then 1 else 0) + number_known f n
 
 module _ {A : Type 0} where
   -- the record at a slot
@@ -69,6 +74,8 @@ pub record IsKept {A : Type 0} (x : NumberedOf A) : Type 0 where
   -- a slot that is not in use has no thing, and one in use has one
   pub empty : (u : ℕ) → number_at x u ≡ 0 → thing_at x u ≡ None
   pub full : (u : ℕ) → number_at x u ≢ 0 → IsSome (thing_at x u)
+  -- the things are counted by slot as by number
+  pub counted : number_known (seen None (slot_of x) (thing_at x)) x.made ≡ count x
 
 -- one more thing, with the next number, at a slot that was not in use
 pub record Adds {A : Type 0} (old new : NumberedOf A) (u : ℕ) (a : A) : Type 0 where

@@ -119,6 +119,7 @@ impl<T: Drop> Numbered<T> {
         ensures ok { IfOk result (λ p. Adds self.old self.new p.1.0 thing) }
         ensures too_many { IsErrOf result AddErr.TooMany ↔ (count self.old ≡ self.old.limit) }
         ensures err { OnErr result (self.new ≡ self.old) }
+        ensures was_kept { IsKept self.old }
         ensures kept { IsKept self.new }
     {
         let limit = self.limit as usize;
@@ -162,7 +163,8 @@ impl<T: Drop> Numbered<T> {
 
     /// How many things were ever added, which is the number of the last of them.
     pub fn made(&self) -> u32
-        ensures { result ≡ self.now.made }
+        ensures value { result ≡ self.now.made }
+        ensures kept { IsKept self.now }
     {
         self.made
     }
