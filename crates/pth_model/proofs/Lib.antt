@@ -1,6 +1,5 @@
 pub mod Orders
 pub mod Queues
-pub mod Known
 pub mod Runs
 pub mod Told
 pub mod Walks
@@ -9,3 +8,4 @@ pub mod Entries
 pub mod Numbered
 pub mod Once
 pub mod Placed
+pub mod Moments

@@ -15,8 +15,9 @@ use Rattle.pth_model.specs.declared.progress.Progress.{Progress}
 use Rattle.pth_model.specs.Standing.{Standing, height, is_queue, raises_of}
 use Rattle.pth_model.specs.State.{State, Control, Turn, Given, start, main_standing, queue}
 use Rattle.pth_model.specs.Transition.{controlled}
-use Rattle.pth_model.specs.Changes.{sets, enters, goes_on, leaves_queue, makes, forgets, raises_ready, prio_of, holders, entry_of, or_nobody, blocked_of}
-use Rattle.pth_model.specs.ThreadControl.{spawns}
+use Rattle.pth_model.specs.Changes.{sets, enters, goes_on, leaves_queue, makes, forgets, removes, queue_for, raises_ready, prio_of, holders, entry_of, or_nobody, blocked_of}
+use Rattle.pth_model.specs.ThreadControl.{spawns, suspends, resumes, returns_to}
+use Rattle.pth_model.specs.LibraryControl.{vanish_all_but}
 use Rattle.pth_model.specs.Ending.{leaves, is_dead_with}
 use Rattle.pth_model.specs.Pass.{is_ready_at, woken, all_woken, pass, to_wake, moment}
 use Rattle.pth_model.specs.Course.{Course}
@@ -26,7 +27,7 @@ use Rattle.pth_model.specs.Order.{IsInOrder, AreEntriesNumbered, IsTopAhead, IsF
 use Rattle.pth_model.proofs.Runs.{parts-more}
 use Rattle.pth_model.proofs.Sorted.{shown_in_order}
 use Rattle.pth_model.proofs.Queues.{is_queue_same}
-use Rattle.pth_model.proofs.Walks.{step_keeps}
+use Rattle.pth_model.proofs.Walks.{KeptBy, step_keeps}
 use Rattle.pth_model.proofs.Entries.{Kept, IsListed, Differs, listed_none, listed_enter, listed_topped, kept_enter, kept_plain, kept_leave, top_above}
 
 not_top : {A : Type 0} → false ≡ true → A
@@ -94,8 +95,43 @@ module _ {P S H : Type 0} (Meant : Standing → Type 0) where
         by_end true = kept_dead s t v k
         by_end false = kept_leave Meant s t k
 
+    kept_returned : (t : ℕ) (q : Option Queue) (s : Control P S H) → Kept Meant s → Kept Meant (returns_to t q s)
+    unfolding sets
+    kept_returned t None s k = k
+    kept_returned t (Some q) s k = kept_plain Meant (sets t (change.Suspended false) (leaves_queue t s)) t q (pos 0) plain (kept_leave Meant s t k)
+
+    kept_suspended : (t : ℕ) (s : Control P S H) → Kept Meant s → Kept Meant (suspends t s)
+    unfolding suspends sets
+    kept_suspended t s k = kept_plain Meant (sets t (change.Suspended true) (leaves_queue t s)) t Suspended (pos 0) plain (kept_leave Meant s t k)
+
+    kept_resumed : (t : ℕ) (s : Control P S H) → Kept Meant s → Kept Meant (resumes t s)
+    unfolding resumes
+    kept_resumed t s k = kept_returned t (queue_for (or_nobody (entry_of s t)).state) s k
+
+    kept_removed : (t : ℕ) (s : Control P S H) → Kept Meant s → Kept Meant (removes t s)
+    unfolding forgets
+    kept_removed t s k = kept_leave Meant s t k
+
+    kept_vanished : (t : ℕ) (s : Control P S H) → Kept Meant s → Kept Meant (vanish_all_but t s)
+    unfolding vanish_all_but
+    kept_vanished t s k = record { listed = λ q. listed_none Meant s.threads.entries; apart = λ p q other. All-nil _ }
+
+    kept_by_calls : (f : P → Functions S H) (t : ℕ) → KeptBy f t (Kept Meant)
+    kept_by_calls f t = record {
+      goes = kept_goes;
+      shares = λ h s k. k;
+      spawned = kept_spawned f;
+      suspended = λ u s other k. kept_suspended u s k;
+      resumed = λ u s other k. kept_resumed u s k;
+      preferred = λ u s known k. k;
+      removed = kept_removed;
+      favoured = λ b s k. k;
+      left = kept_left t;
+      vanished = kept_vanished t;
+    }
+
     kept_step : (f : P → Functions S H) (x : Turn) (t : ℕ) (s : State P S H) → Kept Meant s.control → Kept Meant (steps f x t s).state.control
-    kept_step f x t s k = step_keeps f t (Kept Meant) kept_goes (λ h s k. k) (kept_spawned f) (kept_left t) x s k
+    kept_step f x t s k = step_keeps f t (Kept Meant) (kept_by_calls f t) x s k
 
     -- ---- between turns
 

@@ -1,17 +1,21 @@
 -- How often a thread stands in the queues of a state, after one change.
-use Rattle.std.proofs.Common.{◌≡◌, ◌≢◌, ℕ, ◌+◌, ◌≤◌, ◌<◌, ◌==◌, not, Bool, true, false, cond, if◌then◌else◌, ℤ, List, [], ◌∷◌, map, All, refl, sym, ◌∙◌, ap, arith}
+use Rattle.std.proofs.Common.{◌≡◌, ◌≢◌, ℕ, ◌+◌, ◌≤◌, ◌<◌, ◌==◌, not, Bool, true, false, cond, if◌then◌else◌, ℤ, List, [], ◌∷◌, map, All, Option, Some, None, is_some, option_map, refl, sym, ◌∙◌, ap, arith}
 use Rattle.std.proofs.lemmas.List.Elements.{All-head, All-tail, All-cons, All-weaker, All-filter, All-map}
 use Rattle.std.proofs.lemmas.List.Sorted.{All-permutation}
 use Rattle.std.proofs.lemmas.List.Sums.{sum_by-cons}
 use Rattle.pth_base.specs.Program.{Functions}
-use Rattle.pth_base.proofs.Tables.{same_means, not_same}
+use Rattle.pth_base.proofs.Tables.{same_means, not_same, put_by}
 use Rattle.pth_queue.specs.declared.ranked.Ranked.{Ranked}
 use Rattle.pth_queue.specs.declared.queue.Queue.{Queue}
 use Rattle.pth_queue.specs.declared.queue.Queue.TheVariants.{New, Ready, Waiting, Suspended, Dead}
+use Rattle.pth_threads.specs.declared.entry.Change.{Change}
+use Rattle.pth_threads.specs.declared.entry.Entry.{Entry}
 use Rattle.pth_threads.specs.declared.entry.NewThread.{NewThread}
+use Rattle.pth_threads.specs.Threads.{changed}
 use Rattle.pth_model.specs.Standing.{Standing, order, row_at, shown, left_by, is_queue, raises_of}
 use Rattle.pth_model.specs.State.{Control, queue}
-use Rattle.pth_model.specs.Changes.{enters, leaves_queue, makes}
+use Rattle.pth_model.specs.Changes.{enters, leaves_queue, makes, forgets}
+use Rattle.pth_model.specs.Changes as changes
 use Rattle.pth_model.specs.Changes.{holders}
 use Rattle.pth_model.specs.Order.{stands, times}
 use Rattle.pth_model.proofs.Sorted.{same-order}
@@ -54,9 +58,15 @@ shown-low raises n all low =
 
 -- ---- every queue of a state
 
-pub record SetsOf (made : ℕ) (all : Queue → List Standing) : Type 0 where
+some_before : {A : Type 0} (g : A → A) (o : Option A) → is_some (option_map g o) ≡ true → is_some o ≡ true
+some_before g (Some x) h = refl
+some_before g None h = h
+
+pub record SetsOf (made : ℕ) (known : ℕ → Option Entry) (all : Queue → List Standing) : Type 0 where
   pub once : (t : ℕ) → times t all ≤ 1
   pub low : (q : Queue) → All (λ x. x.tid ≤ made) (all q)
+  -- who is in the system was made
+  pub numbered : (t : ℕ) → is_some (known t) ≡ true → t ≤ made
 
 pub at_most_one : (b : Bool) → cond b 1 0 ≤ 1
 at_most_one true = omega arith
@@ -84,7 +94,7 @@ module _ {P S H : Type 0} where
         by_queue Suspended = omega (arith, more Suspended)
         by_queue Dead = omega (arith, more Dead)
 
-    times-leave_le : (t u : ℕ) → times_in (leaves_queue t s) u ≤ times_in s u
+    pub times-leave_le : (t u : ℕ) → times_in (leaves_queue t s) u ≤ times_in s u
     unfolding leaves_queue
     times-leave_le t u =
         let less : (q : Queue) → stands u (left_by t (s.threads.standing q)) ≤ stands u (s.threads.standing q) = λ q. stands-left_le t u (s.threads.standing q) in
@@ -98,7 +108,7 @@ module _ {P S H : Type 0} where
 
   -- no thread stands twice, and those that stand were made
   abbrev pub Sets : Control P S H → Type 0
-  Sets s = SetsOf s.threads.made s.threads.standing
+  Sets s = SetsOf s.threads.made s.threads.known s.threads.standing
 
   module _ (s : Control P S H) (sets : Sets s) where
     once_by : (t u : ℕ) (b : Bool) → (t == u) ≡ b → times_in s t ≡ 0 → cond b 1 0 + times_in s u ≤ 1
@@ -110,6 +120,7 @@ module _ {P S H : Type 0} where
     sets-enter t q rank top none low = record {
       once = λ u. omega (arith, times-enter s t q rank top u, once_by t u (t == u) refl none);
       low = λ p. entered p (is_queue p q);
+      numbered = sets.numbered;
     }
       where
         Low : Standing → Type 0
@@ -127,6 +138,7 @@ module _ {P S H : Type 0} where
     sets-leave t = record {
       once = λ u. omega (arith, times-leave_le s t u, sets.once u);
       low = λ q. All-filter (λ x. not (x.tid == t)) (λ x. x.tid ≤ s.threads.made) (s.threads.standing q) (sets.low q);
+      numbered = sets.numbered;
     }
 
     pub times-above : (t : ℕ) → s.threads.made < t → times_in s t ≡ 0
@@ -140,6 +152,25 @@ module _ {P S H : Type 0} where
     sets-thread f b v of = record {
       once = sets.once;
       low = λ q. All-weaker (λ x. x.tid ≤ s.threads.made) (λ x. x.tid ≤ s.threads.made + 1) (λ x h. omega (arith, h)) (s.threads.standing q) (sets.low q);
+      numbered = λ t. let Low : Option Entry → Type 0 = λ o. is_some o ≡ true → t ≤ s.threads.made + 1 in put_by Low s.threads.known (s.threads.made + 1) _ t (λ here e. omega (arith, here)) (λ other e. let h = sets.numbered t e in omega (arith, h));
+    }
+
+    -- a field of a record was set
+    pub sets-change : (t : ℕ) (c : Change) → Sets (changes.sets t c s)
+    unfolding changes.sets
+    sets-change t c = record {
+      once = sets.once;
+      low = sets.low;
+      numbered = λ u. let Low : Option Entry → Type 0 = λ o. is_some o ≡ true → u ≤ s.threads.made in put_by Low s.threads.known t _ u (λ here e. sets.numbered u (rw here (some_before (changed c) (s.threads.known t) e))) (λ other. sets.numbered u);
+    }
+
+    -- a thread is gone
+    pub sets-forget : (t : ℕ) → Sets (forgets t s)
+    unfolding forgets
+    sets-forget t = record {
+      once = sets.once;
+      low = sets.low;
+      numbered = λ u. let Low : Option Entry → Type 0 = λ o. is_some o ≡ true → u ≤ s.threads.made in put_by Low s.threads.known t None u (λ here e. absurd (cc e)) (λ other. sets.numbered u);
     }
 
     -- another that enters changes nothing for u

@@ -1,52 +1,58 @@
 -- What each part of a run keeps of where threads stand, and so every run: none stands twice.
-use Rattle.std.proofs.Common.{◌≡◌, ℕ, zero, suc, ◌+◌, ◌≤◌, ◌==◌, Bool, true, false, if◌then◌else◌, ℤ, pos, ◌+ℤ◌, List, [], ◌∷◌, reverse, Option, Some, None, All, refl, sym, ◌∙◌, subst, arith}
+use Rattle.std.proofs.Common.{◌≡◌, ℕ, zero, suc, ◌+◌, ◌≤◌, ◌==◌, min, Bool, true, false, if◌then◌else◌, ℤ, pos, ◌+ℤ◌, List, [], ◌∷◌, reverse, Option, Some, None, is_some, All, refl, sym, ◌∙◌, subst, arith}
 use Rattle.std.proofs.lemmas.List.Elements.{All-nil, All-cons, All-head, All-tail, All-filter}
 use Rattle.std.proofs.lemmas.List.Sorted.{IsPermutation-reverse, All-permutation}
 use Rattle.pth_base.specs.Program.{Functions}
 use Rattle.pth_base.specs.declared.outcome.Outcome.{Outcome}
 use Rattle.pth_base.specs.declared.outcome.Outcome.TheVariants as outcome
 use Rattle.pth_base.specs.declared.thread.ThreadState.TheVariants as state
-use Rattle.pth_base.proofs.Tables.{same_self}
+use Rattle.pth_base.specs.Limits.{last_count}
+use Rattle.pth_base.specs.Table.{put}
+use Rattle.pth_base.proofs.Tables.{same_self, put_by}
 use Rattle.pth_queue.specs.declared.queue.Queue.{Queue}
 use Rattle.pth_queue.specs.declared.queue.Queue.TheVariants.{New, Ready, Waiting, Suspended, Dead}
 use Rattle.pth_queue.specs.declared.ranked.Ranked.{Ranked}
+use Rattle.pth_threads.specs.declared.entry.Change as change_type
 use Rattle.pth_threads.specs.declared.entry.Change.TheVariants as change
+use Rattle.pth_threads.specs.declared.entry.Entry.{Entry}
 use Rattle.pth_threads.specs.declared.entry.NewThread.{NewThread}
 use Rattle.pth_model.specs.declared.blocked.Blocked.{Blocked}
 use Rattle.pth_model.specs.declared.next.Next.{Next}
 use Rattle.pth_model.specs.declared.next.Next.TheVariants as next
 use Rattle.pth_model.specs.declared.progress.Progress.{Progress}
 use Rattle.pth_model.specs.Standing.{Standing}
-use Rattle.pth_model.specs.State.{State, Control, Turn, Given, start, main, main_standing, queue}
+use Rattle.pth_model.specs.State.{State, Control, Turn, Given, start, main, main_entry, main_standing, queue}
 use Rattle.pth_model.specs.Transition.{controlled}
-use Rattle.pth_model.specs.Changes.{sets, enters, goes_on, leaves_queue, makes, forgets, raises_ready, runs_now, prio_of, holders, entry_of, or_nobody, blocked_of}
-use Rattle.pth_model.specs.ThreadControl.{spawns}
+use Rattle.pth_model.specs.Changes.{sets, enters, goes_on, leaves_queue, makes, forgets, removes, prefers, queue_for, raises_ready, runs_now, prio_of, holders, entry_of, or_nobody, blocked_of}
+use Rattle.pth_model.specs.ThreadControl.{spawns, suspends, resumes, returns_to}
+use Rattle.pth_model.specs.LibraryControl.{vanish_all_but}
 use Rattle.pth_model.specs.Ending.{leaves, is_dead_with, other_than, stops_running}
 use Rattle.pth_model.specs.Calls.{wakes}
 use Rattle.pth_model.specs.Pass.{is_ready_at, woken, all_woken, pass, to_wake, moment}
 use Rattle.pth_model.specs.Part.{Part, next_part, next_part_by, unless_ended, is_idle, part, part_by, moves, moves_by, readies, readies_all, readies_new, new_rank, is_put_back, is_put_waiting, is_placed, placed_by, closes, turn_ends, takes, takes_by, dispatches, runs, chosen, steps, steps_on, turn_after, ends_run, gives_up}
 use Rattle.pth_model.specs.Run.{parts, run}
 use Rattle.pth_model.specs.Order.{times, IsOnce}
-use Rattle.pth_model.proofs.Walks.{step_keeps}
-use Rattle.pth_model.proofs.Once.{SetsOf, Sets, times_in, sets-enter, sets-leave, sets-thread, times-above, times-enter_other, times-leave, rows-low, stands-cons, at_most_one}
+use Rattle.pth_model.proofs.Walks.{IsOther, KeptBy, step_keeps}
+use Rattle.pth_model.proofs.Once.{SetsOf, Sets, times_in, sets-enter, sets-leave, sets-thread, sets-change, sets-forget, times-above, times-enter_other, times-leave, times-leave_le, rows-low, stands-cons, at_most_one}
 
 -- where threads stand, and who runs
 record Seats : Type 0 where
   made : ℕ
+  known : ℕ → Option Entry
   standing : Queue → List Standing
   preferred : Option ℕ
   running : Option ℕ
 
 -- the thread that runs stands nowhere
 record IsSeated (x : Seats) : Type 0 where
-  sets : SetsOf x.made x.standing
+  sets : SetsOf x.made x.known x.standing
   preferred : (t : ℕ) → x.preferred ≡ Some t → t ≤ x.made
   low : (t : ℕ) → x.running ≡ Some t → t ≤ x.made
   out : (t : ℕ) → x.running ≡ Some t → times t x.standing ≡ 0
 
 -- t makes a step, and runs unless it has ended
 record IsGoing (t : ℕ) (x : Seats) : Type 0 where
-  sets : SetsOf x.made x.standing
+  sets : SetsOf x.made x.known x.standing
   preferred : (u : ℕ) → x.preferred ≡ Some u → u ≤ x.made
   low : t ≤ x.made
   out : (r : ℕ) → x.running ≡ Some r → times r x.standing ≡ 0
@@ -54,7 +60,7 @@ record IsGoing (t : ℕ) (x : Seats) : Type 0 where
 
 -- none runs
 record IsResting (x : Seats) : Type 0 where
-  sets : SetsOf x.made x.standing
+  sets : SetsOf x.made x.known x.standing
   preferred : (t : ℕ) → x.preferred ≡ Some t → t ≤ x.made
   running : x.running ≡ None
 
@@ -81,6 +87,11 @@ low_start Waiting = All-nil (λ x. x.tid ≤ 1)
 low_start Suspended = All-nil (λ x. x.tid ≤ 1)
 low_start Dead = All-nil (λ x. x.tid ≤ 1)
 
+numbered_start : (t : ℕ) → is_some (put (λ u. None) main (Some main_entry) t) ≡ true → t ≤ 1
+numbered_start t =
+    let Low : Option Entry → Type 0 = λ o. is_some o ≡ true → t ≤ 1 in
+    put_by Low (λ u. None) main (Some main_entry) t (λ here e. omega (arith, here)) (λ other e. absurd (cc e))
+
 -- ---- who gives up control
 
 -- none gave up control but t
@@ -99,7 +110,7 @@ gave_after t next.Killed x none u e = absurd (none_some u (sym none ∙ e))
 
 module _ {P S H : Type 0} where
   abbrev seats : Control P S H → Seats
-  seats k = record { made = k.threads.made; standing = k.threads.standing; preferred = k.scheduler.preferred; running = k.scheduler.running }
+  seats k = record { made = k.threads.made; known = k.threads.known; standing = k.threads.standing; preferred = k.scheduler.preferred; running = k.scheduler.running }
 
   abbrev Going : ℕ → Control P S H → Type 0
   Going t k = IsGoing t (seats k)
@@ -158,7 +169,13 @@ module _ {P S H : Type 0} where
   sets_dead : (k : Control P S H) (t : ℕ) (v : ℤ) → Sets k → t ≤ k.threads.made → Sets (is_dead_with t v k)
   unfolding is_dead_with sets leaves_queue
   sets_dead k t v s low =
-      sets-enter (sets t (change.Value v) (sets t (change.Suspended false) (sets t (change.State state.Dead) (leaves_queue t k)))) (sets-leave k s t) t Dead (pos 0) false (times-leave k t) low
+      let a = leaves_queue t k in
+      let b = sets t (change.State state.Dead) a in
+      let c = sets t (change.Suspended false) b in
+      let sa : Sets a = sets-leave k s t in
+      let sb : Sets b = sets-change a sa t (change.State state.Dead) in
+      let sc : Sets c = sets-change b sb t (change.Suspended false) in
+      sets-enter (sets t (change.Value v) c) (sets-change c sc t (change.Value v)) t Dead (pos 0) false (times-leave k t) low
 
   going_left : (t : ℕ) (v : ℤ) (k : Control P S H) → Going t k → Going t (leaves t v k)
   unfolding leaves is_dead_with sets enters forgets leaves_queue
@@ -166,18 +183,95 @@ module _ {P S H : Type 0} where
     where
       by_end : (b : Bool) → Going t (stops_running t ((if b then is_dead_with t v else (λ (c : Control P S H). forgets t (leaves_queue t c))) k))
       by_end true = stopped_going t (is_dead_with t v k) (sets_dead k t v g.sets g.low) g.low g.preferred g.alone
-      by_end false = stopped_going t (forgets t (leaves_queue t k)) (sets-leave k g.sets t) g.low g.preferred g.alone
+      by_end false = stopped_going t (forgets t (leaves_queue t k)) (sets-forget (leaves_queue t k) (sets-leave k g.sets t) t) g.low g.preferred g.alone
+
+  -- t stands nowhere, and another thread that leaves its queue for one changes nothing for it
+  going_moved : (t u : ℕ) (q : Queue) (c : change_type.Change) (k : Control P S H) → IsOther t u k → Going t k → Going t (enters u q (pos 0) false (sets u c (leaves_queue u k)))
+  unfolding sets enters leaves_queue
+  going_moved t u q c k other g =
+      let a = leaves_queue u k in
+      let b = sets u c a in
+      let sb : Sets b = sets-change a (sets-leave k g.sets u) u c in
+      record {
+        sets = sets-enter b sb u q (pos 0) false (times-leave k u) (g.sets.numbered u other.known);
+        preferred = g.preferred;
+        low = g.low;
+        out = λ r e.
+            let same : r ≡ t = g.alone r e in
+            let none : times_in a r ≡ 0 = (let h = times-leave_le k u r in let z = g.out r e in omega (arith, h, z)) in
+            times-enter_other b sb u q (pos 0) false r (λ is. other.apart (is ∙ same)) ∙ none;
+        alone = g.alone;
+      }
+
+  going_suspended : (t u : ℕ) (k : Control P S H) → IsOther t u k → Going t k → Going t (suspends u k)
+  unfolding suspends
+  going_suspended t u k other g = going_moved t u Suspended (change.Suspended true) k other g
+
+  going_returned : (t u : ℕ) (q : Option Queue) (k : Control P S H) → IsOther t u k → Going t k → Going t (returns_to u q k)
+  going_returned t u None k other g = g
+  going_returned t u (Some q) k other g = going_moved t u q (change.Suspended false) k other g
+
+  going_resumed : (t u : ℕ) (k : Control P S H) → IsOther t u k → Going t k → Going t (resumes u k)
+  unfolding resumes
+  going_resumed t u k other g = going_returned t u (queue_for (or_nobody (entry_of k u)).state) k other g
+
+  going_preferred : (t u : ℕ) (k : Control P S H) → is_some (k.threads.known u) ≡ true → Going t k → Going t (prefers (Some u) k)
+  going_preferred t u k known g = record {
+    sets = g.sets;
+    preferred = λ v e. let same : v ≡ u = same_some u v e in rw same (g.sets.numbered u known);
+    low = g.low;
+    out = g.out;
+    alone = g.alone;
+  }
+
+  going_removed : (t u : ℕ) (k : Control P S H) → Going t k → Going t (removes u k)
+  unfolding forgets leaves_queue
+  going_removed t u k g = record {
+    sets = sets-forget (leaves_queue u k) (sets-leave k g.sets u) u;
+    preferred = g.preferred;
+    low = g.low;
+    out = λ r e. let h = times-leave_le k u r in let z = g.out r e in omega (arith, h, z);
+    alone = g.alone;
+  }
+
+  going_vanished : (t : ℕ) (k : Control P S H) → Going t k → Going t (vanish_all_but t k)
+  unfolding vanish_all_but
+  going_vanished t k g = record {
+    sets = record { once = λ u. omega arith; low = λ q. All-nil (λ x. x.tid ≤ k.threads.made); numbered = λ u. only_by u (u == t) };
+    preferred = g.preferred;
+    low = g.low;
+    out = λ r e. refl;
+    alone = g.alone;
+  }
+    where
+      only_by : (u : ℕ) (b : Bool) → is_some (if b then k.threads.known u else None) ≡ true → u ≤ k.threads.made
+      only_by u true h = g.sets.numbered u h
+      only_by u false h = absurd (cc h)
 
   going_goes : (t u : ℕ) (g : Progress S → Progress S) (k : Control P S H) → Going t k → Going t (goes_on u g k)
   unfolding goes_on
   going_goes t u g k h = h
+
+  going_kept : (f : P → Functions S H) (t : ℕ) → KeptBy f t (Going t)
+  going_kept f t = record {
+    goes = going_goes t;
+    shares = λ h k g. g;
+    spawned = going_spawned f t;
+    suspended = going_suspended t;
+    resumed = going_resumed t;
+    preferred = going_preferred t;
+    removed = going_removed t;
+    favoured = λ b k g. g;
+    left = going_left t;
+    vanished = going_vanished t;
+  }
 
   placed_step : (f : P → Functions S H) (x : Turn) (t : ℕ) (s : State P S H) → x.gave ≡ None → Going t s.control → Placed (steps f x t s).state.control (steps f x t s).turn.gave
   unfolding steps
   placed_step f x t s none g =
       placed_after t (steps f x t s).state.control (steps f x t s).turn.gave
       (gave_after t (steps_on f t s).next (record x { steps = x.steps + 1 }) none)
-      (step_keeps f t (Going t) (going_goes t) (λ h k g. g) (going_spawned f t) (going_left t) x s g)
+      (step_keeps f t (Going t) (going_kept f t) x s g)
 
   -- ---- between turns
 
@@ -195,7 +289,7 @@ module _ {P S H : Type 0} where
   resting_ready : (k : Control P S H) (t : ℕ) (rank : ℤ) (top : Bool) → t ≤ k.threads.made → Resting k → Resting (is_ready_at t rank top k)
   unfolding is_ready_at sets leaves_queue enters
   resting_ready k t rank top low i = record {
-    sets = sets-enter (sets t (change.State state.Ready) (leaves_queue t k)) (sets-leave k i.sets t) t Ready rank top (times-leave k t) low;
+    sets = sets-enter (sets t (change.State state.Ready) (leaves_queue t k)) (sets-change (leaves_queue t k) (sets-leave k i.sets t) t (change.State state.Ready)) t Ready rank top (times-leave k t) low;
     preferred = i.preferred;
     running = i.running;
   }
@@ -222,7 +316,11 @@ module _ {P S H : Type 0} where
   unfolding dispatches runs sets leaves_queue
   placed_dispatched x s t none low i = record {
     seated = record {
-      sets = sets-leave s.control i.sets t;
+      sets =
+          let a = leaves_queue t s.control in
+          let b = sets t (change.State state.Running) a in
+          let sb : Sets b = sets-change a (sets-leave s.control i.sets t) t (change.State state.Running) in
+          sets-change b sb t (change.Dispatches (min ((or_nobody (entry_of s.control t)).dispatches + 1) last_count));
       preferred = λ u e. absurd (none_some u e);
       low = λ r e. let same : r ≡ t = same_some t r e in omega (arith, same, low);
       out = λ r e. let same : r ≡ t = same_some t r e in rw same (times-leave s.control t);
@@ -253,12 +351,12 @@ module _ {P S H : Type 0} where
   unfolding is_put_back is_put_waiting sets enters
   resting_back k t None b p out = record { sets = p.sets; preferred = p.preferred; running = refl }
   resting_back k t (Some r) (Some b) p out = record {
-    sets = sets-enter (sets t (change.State state.Waiting) k) p.sets t Waiting (prio_of k t) false (out r refl).0 (out r refl).1;
+    sets = sets-enter (sets t (change.State state.Waiting) k) (sets-change k p.sets t (change.State state.Waiting)) t Waiting (prio_of k t) false (out r refl).0 (out r refl).1;
     preferred = p.preferred;
     running = refl;
   }
   resting_back k t (Some r) None p out = record {
-    sets = sets-enter (sets t (change.State state.Ready) k) p.sets t Ready (prio_of k t) false (out r refl).0 (out r refl).1;
+    sets = sets-enter (sets t (change.State state.Ready) k) (sets-change k p.sets t (change.State state.Ready)) t Ready (prio_of k t) false (out r refl).0 (out r refl).1;
     preferred = p.preferred;
     running = refl;
   }
@@ -307,7 +405,7 @@ module _ {P S H : Type 0} where
   placed_start : (f : P → Functions S H) (g : Given P) → Placed (start f g).control None
   unfolding start
   placed_start f g = placed_resting (start f g).control None (record {
-    sets = record { once = λ t. omega (arith, stands-cons t main_stands [], at_most_one (1 == t)); low = low_start };
+    sets = record { once = λ t. omega (arith, stands-cons t main_stands [], at_most_one (1 == t)); low = low_start; numbered = numbered_start };
     preferred = λ t e. absurd (none_some t e);
     running = refl;
   })

@@ -1,21 +1,24 @@
 -- Each piece of a run gives the resources what its marks say.
-use Rattle.std.proofs.Common.{◌≡◌, ◌∙◌, ℕ, pos, zero, suc, Bool, true, false, List, [], ◌∷◌, ◌++◌, Option, Some, None, refl, ap, sym}
+use Rattle.std.proofs.Common.{◌≡◌, ◌∙◌, ℕ, pos, zero, suc, Bool, true, false, if◌then◌else◌, List, [], ◌∷◌, ◌++◌, Option, Some, None, refl, ap, sym}
 use Rattle.pth_base.specs.Program.{Functions}
 use Rattle.pth_base.specs.declared.call.Call.{Call}
 use Rattle.pth_base.specs.declared.call.Call.TheVariants as call
 use Rattle.pth_base.specs.declared.answer.Answer.TheVariants.{Int}
 use Rattle.pth_base.specs.declared.mark.Mark.{Mark}
+use Rattle.pth_base.specs.declared.query.Query.{Query}
+use Rattle.pth_base.specs.declared.query.Query.TheVariants as query
 use Rattle.pth_base.specs.declared.mark.Mark.TheVariants as mark
 use Rattle.pth_queue.specs.declared.queue.Queue.TheVariants as queues
 use Rattle.pth_model.specs.declared.blocked.Blocked.{Blocked}
 use Rattle.pth_model.specs.declared.progress.Progress.{Progress}
 use Rattle.pth_model.specs.Resources.{Resources, no_resources, told, told_all}
-use Rattle.pth_model.specs.Operands.{number}
-use Rattle.pth_model.specs.ThreadControl.{child_of, spawns}
+use Rattle.pth_model.specs.Operands.{number, is_zero, ◌is◌}
+use Rattle.pth_model.specs.ThreadControl.{child_of, spawns, suspends, resumes, suspend, resume, yield, join, to_join, takes_joined}
+use Rattle.pth_model.specs.LibraryControl.{kill, ctrl, vanish_all_but}
 use Rattle.pth_model.specs.Verdict.{Verdict, Says, Yields, Blocks, Ends, Kills}
 use Rattle.pth_model.specs.State.{State, queue, Given, Turn, start}
 use Rattle.pth_model.specs.Transition.{Transition, Piece, Last, silent, nothing, changes, tells, tid, controlled, ◌and_then◌, ◌and_finally◌}
-use Rattle.pth_model.specs.Changes.{blocked_of, entry_of, or_nobody}
+use Rattle.pth_model.specs.Changes.{blocked_of, entry_of, or_nobody, prefers, favours_new}
 use Rattle.pth_model.specs.Row.{effect_of, refuses, unless_refused}
 use Rattle.pth_model.specs.Rows.{row_of}
 use Rattle.pth_model.specs.Ending.{ending}
@@ -53,15 +56,32 @@ module _ {P S H : Type 0} where
 
 module _ {P S H : Type 0} (f : P → Functions S H) where
   module _ (t : ℕ) where
+    ctrl_told : (s : State P S H) (x : Query) → IsTold (effect_of (ctrl s x).begin)
+    ctrl_told s (query.Favournew n) = unless_told (refuses (ctrl s (query.Favournew n)).begin.verdict) (changes (favours_new (n is 1))) (λ u. refl)
+    ctrl_told s (query.Prio n) = unless_told (refuses (ctrl s (query.Prio n)).begin.verdict) (changes nothing) (λ u. refl)
+    ctrl_told s (query.Name n) = unless_told (refuses (ctrl s (query.Name n)).begin.verdict) (changes nothing) (λ u. refl)
+    ctrl_told s x = λ u. refl
+
     effect_told : (s : State P S H) (c : Call) → IsTold (effect_of (row_of f s t c).begin)
     unfolding row_of
+    effect_told s call.Kill = unless_told (refuses (kill s t).begin.verdict) (changes (vanish_all_but t)) (λ u. refl)
+    effect_told s (call.Ctrl x) = ctrl_told s x
     effect_told s (call.Spawn b v a) = unless_told (refuses (row_of f s t (call.Spawn b v a)).begin.verdict) (changes (spawns f (number b) v (child_of (or_nobody (entry_of s.control t))))) (λ u. refl)
-    effect_told s (call.Yield n) = unless_told (refuses (row_of f s t (call.Yield n)).begin.verdict) (changes nothing) (λ u. refl)
+    effect_told s (call.Suspend n) = unless_told (refuses (suspend s t n).begin.verdict) (changes (suspends (number n))) (λ u. refl)
+    effect_told s (call.Resume n) = unless_told (refuses (resume s t n).begin.verdict) (changes (resumes (number n))) (λ u. refl)
+    effect_told s (call.Yield n) = unless_told (refuses (yield s t n).begin.verdict) (changes (if is_zero n then nothing else prefers (Some (number n)))) (λ u. refl)
+    effect_told s (call.Join n) = unless_told (refuses (join s t n).begin.verdict) (changes (takes_joined (to_join s.control n))) (λ u. refl)
     effect_told s (call.Exit v) = unless_told (refuses (row_of f s t (call.Exit v)).begin.verdict) silent (λ u. refl)
     effect_told s c = λ u. refl
 
+    ctrl_again : (s : State P S H) (x : Query) (b : Blocked) → IsTold (effect_of ((ctrl s x).again b))
+    ctrl_again s query.Threads b = λ u. refl
+    ctrl_again s x b = λ u. refl
+
     again_told : (s : State P S H) (c : Call) (b : Blocked) → IsTold (effect_of ((row_of f s t c).again b))
     unfolding row_of
+    again_told s (call.Ctrl x) b = ctrl_again s x b
+    again_told s (call.Join n) b = unless_told (refuses ((join s t n).again b).verdict) (changes (takes_joined (to_join s.control n))) (λ u. refl)
     again_told s (call.Exit v) b = unless_told (refuses ((row_of f s t (call.Exit v)).again b).verdict) silent (λ u. refl)
     again_told s c b = λ u. refl
 

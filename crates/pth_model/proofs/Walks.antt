@@ -1,85 +1,172 @@
 -- What calls keep of the control, by the changes of which they are made.
-use Rattle.std.proofs.Common.{ℕ, ℤ, Bool, true, false, Option, Some, None}
+use Rattle.std.proofs.Common.{◌≡◌, ◌≢◌, ◌&&◌, ◌||◌, not, ℕ, ℤ, pos, negsuc, Bool, true, false, if◌then◌else◌, Option, Some, None, is_some, refl}
+use Rattle.std.proofs.lemmas.Bool.{not-false}
 use Rattle.pth_base.specs.Program.{Functions}
 use Rattle.pth_base.specs.declared.call.Call.{Call}
 use Rattle.pth_base.specs.declared.call.Call.TheVariants as call
+use Rattle.pth_base.specs.declared.errno.Errno.{Errno}
+use Rattle.pth_base.specs.declared.query.Query.{Query}
+use Rattle.pth_base.specs.declared.query.Query.TheVariants as query
+use Rattle.pth_base.proofs.Tables.{same_fails}
+use Rattle.pth_threads.specs.declared.entry.Entry.{Entry}
 use Rattle.pth_threads.specs.declared.entry.NewThread.{NewThread}
 use Rattle.pth_model.specs.declared.blocked.Blocked.{Blocked}
 use Rattle.pth_model.specs.declared.progress.Progress.{Progress}
 use Rattle.pth_model.specs.declared.next.Next.{Next}
 use Rattle.pth_model.specs.declared.next.Next.TheVariants as next
-use Rattle.pth_model.specs.Operands.{number}
-use Rattle.pth_model.specs.Verdict.{Verdict, Says, Yields, Blocks, Ends, Kills}
+use Rattle.pth_model.specs.Operands.{number, is_zero, ◌is◌}
+use Rattle.pth_model.specs.Verdict.{Verdict, Says, Yields, Blocks, Ends, Kills, refused, ◌when◌otherwise◌}
 use Rattle.pth_model.specs.State.{State, Control, Turn}
 use Rattle.pth_model.specs.Transition.{Piece, silent, nothing, changes}
-use Rattle.pth_model.specs.Changes.{goes_on, blocking, blocked_of, entry_of, or_nobody, owing}
+use Rattle.pth_model.specs.Changes.{goes_on, blocking, blocked_of, entry_of, or_nobody, owing, prefers, removes, favours_new}
 use Rattle.pth_model.specs.Row.{unless_refused, refuses, effect_of}
-use Rattle.pth_model.specs.ThreadControl.{spawns, child_of}
+use Rattle.pth_model.specs.ThreadControl.{thread, is_known, may_run, spawns, child_of, suspends, resumes, suspend, resume, yield, join, to_join, takes_joined}
+use Rattle.pth_model.specs.LibraryControl.{kill, ctrl, vanish_all_but}
 use Rattle.pth_model.specs.Ending.{ending, leaves}
 use Rattle.pth_model.specs.Rows.{row_of}
 use Rattle.pth_model.specs.Calls.{begun, begun_by, resumed, resumed_by, tried_by}
 use Rattle.pth_model.specs.Part.{steps, steps_by, steps_on, owes_after}
 
--- what every change keeps that calls of thread t are made of
-module _ {P S H : Type 0} (f : P → Functions S H) (t : ℕ) (Q : Control P S H → Type 0)
-    (goes : (u : ℕ) (g : Progress S → Progress S) (k : Control P S H) → Q k → Q (goes_on u g k))
-    (shares : (h : H) (k : Control P S H) → Q k → Q (record k { shared = h }))
-    (spawned : (b : ℕ) (v : ℤ) (of : NewThread) (k : Control P S H) → Q k → Q (spawns f b v of k))
-    (left : (v : ℤ) (k : Control P S H) → Q k → Q (leaves t v k)) where
+-- another thread than t, which is in the system
+pub record IsOther {P S H : Type 0} (t u : ℕ) (k : Control P S H) : Type 0 where
+  pub known : is_some (k.threads.known u) ≡ true
+  pub apart : u ≢ t
+
+-- where a call is not refused by its first clause, the clause does not hold
+passes : (e : Errno) (b : Bool) (v : Verdict) → refuses (refused e when b otherwise v) ≡ false → (b ≡ false) × (refuses v ≡ false)
+passes e true v h = absurd (cc h)
+passes e false v h = (refl, h)
+
+neither : (a b : Bool) → (a || b) ≡ false → (a ≡ false) × (b ≡ false)
+neither true b h = absurd (cc h)
+neither false b h = (refl, h)
+
+no_other : (a b : Bool) → (not false && (a || b)) ≡ false → b ≡ false
+no_other a b h = (neither a b h).1
+
+runs_some : (o : Option Entry) → may_run (or_nobody o).state ≡ true → is_some o ≡ true
+runs_some (Some e) h = refl
+runs_some None h = absurd (cc h)
+
+module _ {P S H : Type 0} where
+  named_other : (k : Control P S H) (n : ℤ) (t : ℕ) → is_known k n ≡ true → (n is t) ≡ false → IsOther t (number n) k
+  named_other k (pos m) t known other = record { known = known; apart = same_fails m t other }
+  named_other k (negsuc m) t known other = absurd (cc known)
+
+  runs_known : (k : Control P S H) (n : ℤ) → may_run (or_nobody (thread k n)).state ≡ true → is_some (k.threads.known (number n)) ≡ true
+  runs_known k (pos m) h = runs_some (k.threads.known m) h
+  runs_known k (negsuc m) h = absurd (cc h)
+
+  suspend_other : (s : State P S H) (t : ℕ) (n : ℤ) → refuses (suspend s t n).begin.verdict ≡ false → IsOther t (number n) s.control
+  suspend_other s t n h =
+      let known = passes _ _ _ h in
+      let other = passes _ _ _ known.1 in
+      named_other s.control n t (not-false _ known.0) (neither (n is t) _ (neither _ _ other.0).0).0
+
+  resume_other : (s : State P S H) (t : ℕ) (n : ℤ) → refuses (resume s t n).begin.verdict ≡ false → IsOther t (number n) s.control
+  resume_other s t n h =
+      let known = passes _ _ _ h in
+      let other = passes _ _ _ known.1 in
+      named_other s.control n t (not-false _ known.0) (neither (n is t) _ other.0).0
+
+-- what of a control is kept by every change of which calls of thread t are made
+pub record KeptBy {P S H : Type 0} (f : P → Functions S H) (t : ℕ) (Q : Control P S H → Type 0) : Type 0 where
+  pub goes : (u : ℕ) (g : Progress S → Progress S) (k : Control P S H) → Q k → Q (goes_on u g k)
+  pub shares : (h : H) (k : Control P S H) → Q k → Q (record k { shared = h })
+  pub spawned : (b : ℕ) (v : ℤ) (of : NewThread) (k : Control P S H) → Q k → Q (spawns f b v of k)
+  pub suspended : (u : ℕ) (k : Control P S H) → IsOther t u k → Q k → Q (suspends u k)
+  pub resumed : (u : ℕ) (k : Control P S H) → IsOther t u k → Q k → Q (resumes u k)
+  pub preferred : (u : ℕ) (k : Control P S H) → is_some (k.threads.known u) ≡ true → Q k → Q (prefers (Some u) k)
+  pub removed : (u : ℕ) (k : Control P S H) → Q k → Q (removes u k)
+  pub favoured : (b : Bool) (k : Control P S H) → Q k → Q (favours_new b k)
+  pub left : (v : ℤ) (k : Control P S H) → Q k → Q (leaves t v k)
+  pub vanished : (k : Control P S H) → Q k → Q (vanish_all_but t k)
+
+module _ {P S H : Type 0} (f : P → Functions S H) (t : ℕ) (Q : Control P S H → Type 0) (kept : KeptBy f t Q) where
   abbrev Keeps : Piece P S H → Type 0
   Keeps a = (s : State P S H) → Q s.control → Q (a s).state.control
 
+  -- where this holds of the control at which the call is made
+  abbrev KeepsAt : State P S H → Piece P S H → Type 0
+  KeepsAt s a = Q s.control → Q (a s).state.control
+
   ending_keeps : (v : ℤ) → Keeps (ending f t v)
   unfolding ending
-  ending_keeps v s q = left v (goes_on t (blocking None) s.control) (goes t (blocking None) s.control q)
+  ending_keeps v s q = kept.left v (goes_on t (blocking None) s.control) (kept.goes t (blocking None) s.control q)
 
-  unless_keeps : (b : Bool) (a : Piece P S H) → Keeps a → Keeps (unless_refused b a)
-  unless_keeps true a keeps = λ s q. q
-  unless_keeps false a keeps = keeps
+  unless_keeps : (s : State P S H) (b : Bool) (a : Piece P S H) → (b ≡ false → KeepsAt s a) → KeepsAt s (unless_refused b a)
+  unless_keeps s true a keeps = λ q. q
+  unless_keeps s false a keeps = keeps refl
 
   -- ---- a call begins
 
-  effect_keeps : (s : State P S H) (c : Call) → Keeps (effect_of (row_of f s t c).begin)
+  ctrl_keeps : (s : State P S H) (x : Query) → KeepsAt s (effect_of (ctrl s x).begin)
+  ctrl_keeps s (query.Favournew n) = unless_keeps s (refuses (ctrl s (query.Favournew n)).begin.verdict) (changes (favours_new (n is 1))) (λ e q. kept.favoured (n is 1) s.control q)
+  ctrl_keeps s (query.Prio n) = unless_keeps s (refuses (ctrl s (query.Prio n)).begin.verdict) (changes nothing) (λ e q. q)
+  ctrl_keeps s (query.Name n) = unless_keeps s (refuses (ctrl s (query.Name n)).begin.verdict) (changes nothing) (λ e q. q)
+  ctrl_keeps s x = λ q. q
+
+  -- whether a join takes a thread or none
+  joins_keeps : (s : State P S H) (o : Option ℕ) → KeepsAt s (changes (takes_joined o))
+  joins_keeps s None q = q
+  joins_keeps s (Some u) q = kept.removed u s.control q
+
+  yields_keeps : (s : State P S H) (n : ℤ) (b : Bool) → is_zero n ≡ b → (not b && ((or_nobody (thread s.control n)).suspended || not (may_run (or_nobody (thread s.control n)).state))) ≡ false → KeepsAt s (changes (if b then nothing else prefers (Some (number n))))
+  yields_keeps s n true e h q = q
+  yields_keeps s n false e h q = kept.preferred (number n) s.control (runs_known s.control n (not-false _ (no_other _ _ h))) q
+
+  effect_keeps : (s : State P S H) (c : Call) → KeepsAt s (effect_of (row_of f s t c).begin)
   unfolding row_of
+  effect_keeps s call.Kill = unless_keeps s (refuses (kill s t).begin.verdict) (changes (vanish_all_but t)) (λ e q. kept.vanished s.control q)
+  effect_keeps s (call.Ctrl x) = ctrl_keeps s x
   effect_keeps s (call.Spawn b v a) =
       let of = child_of (or_nobody (entry_of s.control t)) in
-      unless_keeps (refuses (row_of f s t (call.Spawn b v a)).begin.verdict) (changes (spawns f (number b) v of)) (λ u q. spawned (number b) v of u.control q)
-  effect_keeps s (call.Yield n) = unless_keeps (refuses (row_of f s t (call.Yield n)).begin.verdict) (changes nothing) (λ u q. q)
-  effect_keeps s (call.Exit v) = unless_keeps (refuses (row_of f s t (call.Exit v)).begin.verdict) silent (λ u q. q)
-  effect_keeps s c = λ u q. q
+      unless_keeps s (refuses (row_of f s t (call.Spawn b v a)).begin.verdict) (changes (spawns f (number b) v of)) (λ e q. kept.spawned (number b) v of s.control q)
+  effect_keeps s (call.Suspend n) = unless_keeps s (refuses (suspend s t n).begin.verdict) (changes (suspends (number n))) (λ e q. kept.suspended (number n) s.control (suspend_other s t n e) q)
+  effect_keeps s (call.Resume n) = unless_keeps s (refuses (resume s t n).begin.verdict) (changes (resumes (number n))) (λ e q. kept.resumed (number n) s.control (resume_other s t n e) q)
+  effect_keeps s (call.Yield n) = unless_keeps s (refuses (yield s t n).begin.verdict) (changes (if is_zero n then nothing else prefers (Some (number n)))) (λ e q. yields_keeps s n (is_zero n) refl (passes _ _ _ e).0 q)
+  effect_keeps s (call.Join n) = unless_keeps s (refuses (join s t n).begin.verdict) (changes (takes_joined (to_join s.control n))) (λ e q. joins_keeps s (to_join s.control n) q)
+  effect_keeps s (call.Exit v) = unless_keeps s (refuses (row_of f s t (call.Exit v)).begin.verdict) silent (λ e q. q)
+  effect_keeps s c = λ q. q
 
-  begun_by_keeps : (c : Call) (v : Verdict) (a : Piece P S H) → Keeps a → (s : State P S H) → Q s.control → Q (begun_by f t c v a s).told.state.control
-  begun_by_keeps c (Says x) a keeps s q = keeps s q
-  begun_by_keeps c (Yields x) a keeps s q = keeps s q
-  begun_by_keeps c (Blocks p) a keeps s q = goes t _ (a s).state.control (keeps s q)
-  begun_by_keeps c (Ends v) a keeps s q = ending_keeps v (a s).state (keeps s q)
-  begun_by_keeps c Kills a keeps s q = keeps s q
+  begun_by_keeps : (c : Call) (v : Verdict) (a : Piece P S H) (s : State P S H) → KeepsAt s a → Q s.control → Q (begun_by f t c v a s).told.state.control
+  begun_by_keeps c (Says x) a s keeps q = keeps q
+  begun_by_keeps c (Yields x) a s keeps q = keeps q
+  begun_by_keeps c (Blocks p) a s keeps q = kept.goes t _ (a s).state.control (keeps q)
+  begun_by_keeps c (Ends v) a s keeps q = ending_keeps v (a s).state (keeps q)
+  begun_by_keeps c Kills a s keeps q = keeps q
 
   begun_keeps : (c : Call) (s : State P S H) → Q s.control → Q (begun f t c s).told.state.control
   unfolding begun
   begun_keeps call.Plain s q = q
   begun_keeps (call.Note v) s q = q
-  begun_keeps c s q = begun_by_keeps c (row_of f s t c).begin.verdict (effect_of (row_of f s t c).begin) (effect_keeps s c) s q
+  begun_keeps c s q = begun_by_keeps c (row_of f s t c).begin.verdict (effect_of (row_of f s t c).begin) s (effect_keeps s c) q
 
   -- ---- a call is tried again
 
-  again_keeps : (s : State P S H) (c : Call) (b : Blocked) → Keeps (effect_of ((row_of f s t c).again b))
+  ctrl_again : (s : State P S H) (x : Query) (b : Blocked) → KeepsAt s (effect_of ((ctrl s x).again b))
+  ctrl_again s query.Threads b = λ q. q
+  ctrl_again s x b = λ q. q
+
+  again_keeps : (s : State P S H) (c : Call) (b : Blocked) → KeepsAt s (effect_of ((row_of f s t c).again b))
   unfolding row_of
-  again_keeps s (call.Exit v) b = unless_keeps (refuses ((row_of f s t (call.Exit v)).again b).verdict) silent (λ u q. q)
-  again_keeps s c b = λ u q. q
+  again_keeps s (call.Ctrl x) b = ctrl_again s x b
+  again_keeps s (call.Join n) b = unless_keeps s (refuses ((join s t n).again b).verdict) (changes (takes_joined (to_join s.control n))) (λ e q. joins_keeps s (to_join s.control n) q)
+  again_keeps s (call.Exit v) b = unless_keeps s (refuses ((row_of f s t (call.Exit v)).again b).verdict) silent (λ e q. q)
+  again_keeps s c b = λ q. q
 
   tried_by_keeps : (b : Blocked) (v : Verdict) (s : State P S H) → Q s.control → Q (tried_by f t b v s).told.state.control
-  tried_by_keeps b (Says x) s q = goes t (blocking None) s.control q
-  tried_by_keeps b (Yields x) s q = goes t (blocking None) s.control q
-  tried_by_keeps b (Blocks p) s q = goes t _ s.control q
+  tried_by_keeps b (Says x) s q = kept.goes t (blocking None) s.control q
+  tried_by_keeps b (Yields x) s q = kept.goes t (blocking None) s.control q
+  tried_by_keeps b (Blocks p) s q = kept.goes t _ s.control q
   tried_by_keeps b (Ends v) s q = ending_keeps v s q
-  tried_by_keeps b Kills s q = goes t (blocking None) s.control q
+  tried_by_keeps b Kills s q = kept.goes t (blocking None) s.control q
 
   resumed_by_keeps : (s : State P S H) (b : Option Blocked) → Q s.control → Q (resumed_by f t b s).told.state.control
   resumed_by_keeps s None q = q
   resumed_by_keeps s (Some b) q =
       let a = (row_of f s t b.call).again b in
-      tried_by_keeps b a.verdict (effect_of a s).state (again_keeps s b.call b s q)
+      tried_by_keeps b a.verdict (effect_of a s).state (again_keeps s b.call b q)
 
   resumed_keeps : (s : State P S H) → Q s.control → Q (resumed f t s).told.state.control
   unfolding resumed
@@ -91,12 +178,12 @@ module _ {P S H : Type 0} (f : P → Functions S H) (t : ℕ) (Q : Control P S H
   steps_by_keeps (Some b) p s q = resumed_keeps s q
   steps_by_keeps None (Some p) s q =
       let x = (f s.control.program).step p.state s.control.shared p.owed in
-      begun_keeps x.call _ (goes t _ (record s.control { shared = x.shared }) (shares x.shared s.control q))
+      begun_keeps x.call _ (kept.goes t _ (record s.control { shared = x.shared }) (kept.shares x.shared s.control q))
   steps_by_keeps None None s q = resumed_keeps s q
 
   owes_keeps : (n : Next) (k : Control P S H) → Q k → Q (owes_after t n k)
-  owes_keeps (next.Done a) k q = goes t (owing a) k q
-  owes_keeps (next.Yields a) k q = goes t (owing a) k q
+  owes_keeps (next.Done a) k q = kept.goes t (owing a) k q
+  owes_keeps (next.Yields a) k q = kept.goes t (owing a) k q
   owes_keeps next.Waits k q = q
   owes_keeps (next.Ended v) k q = q
   owes_keeps next.Killed k q = q

@@ -10,7 +10,7 @@ use Rattle.pth_model.specs.declared.blocked.Blocked.{Blocked}
 use Rattle.pth_model.specs.declared.blocked.Retake.TheVariants as retake
 use Rattle.pth_model.specs.declared.next.Next.TheVariants as next
 use Rattle.pth_model.specs.Verdict.{Verdict, Pause, Says, Yields, Blocks, Ends, Kills}
-use Rattle.pth_model.specs.State.{State}
+use Rattle.pth_model.specs.State.{State, now_of}
 use Rattle.pth_model.specs.Transition.{Piece, Change, Last, silent, changes, tells, tid, ◌and_then◌, ◌and_next◌, ◌and_finally◌}
 use Rattle.pth_model.specs.Changes.{is_blocked_by, blocked_of}
 use Rattle.pth_model.specs.Row.{Attempt, effect_of}
@@ -23,7 +23,7 @@ blocked_from now c p = record { call = c; begin = now; moment = p.moment; writte
 
 module _ {P S H : Type 0} (t : ℕ) where
   abbrev pub blocks : Call → Pause → Change P S H
-  blocks c p k = is_blocked_by t (Some (blocked_from k.scheduler.now c p)) k
+  blocks c p k = is_blocked_by t (Some (blocked_from (now_of k) c p)) k
 
   -- a call blocks t from now on: told each time that it does
   abbrev pub waits_by : Call → Pause → Piece P S H
@@ -81,3 +81,11 @@ module _ {P S H : Type 0} (f : P → Functions S H) (t : ℕ) where
   -- whether the call that blocks t has what it waits for
   unfoldable pub wakes : State P S H → Bool
   wakes s = wakes_by s (blocked_of s.control t)
+
+  abbrev pub until_by : State P S H → Option Blocked → ℕ
+  until_by s None = 0
+  until_by s (Some b) = (row_of f s t b.call).until b
+
+  -- the moment that it waits for, 0 for none
+  unfoldable pub waits_until : State P S H → ℕ
+  waits_until s = until_by s (blocked_of s.control t)

@@ -4,9 +4,11 @@ use Rattle.pth_base.specs.Program.{Functions}
 use Rattle.pth_base.specs.Table.{put}
 use Rattle.pth_base.specs.declared.answer.Answer.{Answer}
 use Rattle.pth_base.specs.declared.answer.Answer.TheVariants as answer
+use Rattle.pth_base.specs.declared.thread.ThreadState.{ThreadState}
 use Rattle.pth_base.specs.declared.thread.ThreadState.TheVariants as state
 use Rattle.pth_queue.specs.declared.ranked.Ranked.{Ranked}
 use Rattle.pth_queue.specs.declared.queue.Queue.{Queue}
+use Rattle.pth_queue.specs.declared.queue.Queue.TheVariants as queue
 use Rattle.pth_threads.specs.declared.entry.Entry.{Entry}
 use Rattle.pth_threads.specs.declared.entry.NewThread.{NewThread}
 use Rattle.pth_threads.specs.declared.entry.Change.{Change}
@@ -24,6 +26,14 @@ holders rows = map (λ r. r.holder) rows
 abbrev pub is_empty : {A : Type 0} → List A → Bool
 is_empty [] = true
 is_empty (x ∷ xs) = false
+
+-- the queue of a state: a running thread stands in none
+abbrev pub queue_for : ThreadState → Option Queue
+queue_for state.New = Some queue.New
+queue_for state.Ready = Some queue.Ready
+queue_for state.Running = None
+queue_for state.Waiting = Some queue.Waiting
+queue_for state.Dead = Some queue.Dead
 
 -- what stands for the record of a thread that is not in the system
 abbrev pub nobody : Entry
@@ -122,6 +132,9 @@ module _ {P S H : Type 0} where
 
   abbrev pub prefers : Option ℕ → transition.Change P S H
   prefers t = with_scheduler (λ x. record x { preferred = t })
+
+  abbrev pub favours_new : Bool → transition.Change P S H
+  favours_new b = with_scheduler (λ x. record x { favour_new = b })
 
   -- time moves to a moment
   abbrev pub moves_to : ℕ → transition.Change P S H

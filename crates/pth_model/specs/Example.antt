@@ -1,11 +1,12 @@
--- One run, computed by the definitions alone: main spawns a thread, yields to it and exits.
+-- Two runs, computed by the definitions alone: in one main spawns a thread, yields to it and exits; in the other it suspends
+-- one of two threads, yields to the other by name, and resumes and joins the first.
 use Rattle.std.specs.Prelude.{ℕ, zero, suc, ◌+◌, pos, false, List, [], ◌∷◌, None}
 use Rattle.pth_base.specs.Program.{Functions}
 use Rattle.pth_base.specs.declared.answer.Answer.TheVariants.{Int}
 use Rattle.pth_base.specs.declared.call.Call.{Call}
-use Rattle.pth_base.specs.declared.call.Call.TheVariants.{Spawn, Yield, Exit}
+use Rattle.pth_base.specs.declared.call.Call.TheVariants.{Spawn, Suspend, Resume, Yield, Join, Exit}
 use Rattle.pth_base.specs.declared.mark.Mark.{Mark}
-use Rattle.pth_base.specs.declared.mark.Mark.TheVariants.{Dispatch, Answered, Ended}
+use Rattle.pth_base.specs.declared.mark.Mark.TheVariants.{Dispatch, Answered, Waits, Woke, Ended}
 use Rattle.pth_model.specs.Transition.{tid}
 
 -- where a thread stands: its body, and how many lines it has gone
@@ -40,5 +41,41 @@ its_marks =
     ∷ Dispatch 2 1 (tid 2) (pos 1) 0 0
     ∷ Ended (tid 2) (pos 9)
     ∷ Dispatch 3 2 (tid 1) (pos 1) 0 0
+    ∷ Ended (tid 1) (pos 0)
+    ∷ []
+
+-- ---- suspending, naming and joining
+
+abbrev pub joining_call_at : ℕ → ℕ → Call
+joining_call_at zero zero = Spawn (pos 1) (pos 0) (pos 0)
+joining_call_at zero (suc zero) = Spawn (pos 1) (pos 0) (pos 0)
+joining_call_at zero (suc (suc zero)) = Suspend (pos 2)
+joining_call_at zero (suc (suc (suc zero))) = Yield (pos 3)
+joining_call_at zero (suc (suc (suc (suc zero)))) = Resume (pos 2)
+joining_call_at zero (suc (suc (suc (suc (suc zero))))) = Join (pos 2)
+joining_call_at zero (suc (suc (suc (suc (suc (suc n)))))) = Exit (pos 0)
+joining_call_at (suc b) n = Exit (pos 9)
+
+abbrev pub joining_bodies : ℕ → Functions Place ℕ
+joining_bodies p = record (two_bodies p) { step = λ s h answer. record { call = joining_call_at s.body s.gone; state = record s { gone = s.gone + 1 }; shared = h } }
+
+-- t3 runs by its name, though t2 was made before it; t2 is resumed, and its end wakes main, whose join is answered its value
+abbrev pub joining_marks : List Mark
+joining_marks =
+    Dispatch 1 0 (tid 1) (pos 0) 0 0
+    ∷ Answered (tid 1) (Spawn (pos 1) (pos 0) (pos 0)) (Int (pos 2))
+    ∷ Answered (tid 1) (Spawn (pos 1) (pos 0) (pos 0)) (Int (pos 3))
+    ∷ Answered (tid 1) (Suspend (pos 2)) (Int (pos 1))
+    ∷ Answered (tid 1) (Yield (pos 3)) (Int (pos 1))
+    ∷ Dispatch 2 1 (tid 3) (pos 1) 0 0
+    ∷ Ended (tid 3) (pos 9)
+    ∷ Dispatch 3 2 (tid 1) (pos 1) 0 0
+    ∷ Answered (tid 1) (Resume (pos 2)) (Int (pos 1))
+    ∷ Waits (tid 1) (Join (pos 2))
+    ∷ Dispatch 4 3 (tid 2) (pos 5) 0 0
+    ∷ Ended (tid 2) (pos 9)
+    ∷ Woke (tid 1) (pos 1)
+    ∷ Dispatch 5 4 (tid 1) (pos 1) 0 0
+    ∷ Answered (tid 1) (Join (pos 2)) (Int (pos 9))
     ∷ Ended (tid 1) (pos 0)
     ∷ []

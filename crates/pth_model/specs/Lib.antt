@@ -7,7 +7,9 @@ pub mod Transition
 pub mod Row
 pub mod Changes
 pub mod Shown
+pub mod Living
 pub mod ThreadControl
+pub mod LibraryControl
 pub mod Ending
 pub mod ThreadEnds
 pub mod Rows
@@ -17,5 +19,4 @@ pub mod Course
 pub mod Part
 pub mod Order
 pub mod Run
-pub mod Living
 pub mod Example

@@ -15,7 +15,7 @@ use Rattle.pth_model.specs.declared.blocked.Blocked.{Blocked}
 use Rattle.pth_model.specs.declared.progress.Progress.{Progress}
 use Rattle.pth_model.specs.declared.next.Next.{Next}
 use Rattle.pth_model.specs.declared.next.Next.TheVariants as next
-use Rattle.pth_model.specs.State.{State, Control, Turn, queue, main}
+use Rattle.pth_model.specs.State.{State, Control, Turn, queue, main, now_of, clock_of}
 use Rattle.pth_model.specs.Transition.{Piece, Change, Last, Went, silent, nothing, controlled, changes, tells, tid, ◌and◌, ◌and_then◌, ◌and_finally◌}
 use Rattle.pth_model.specs.Changes.{sets, goes_on, owes, enters, leaves_queue, raises_ready, runs_now, prefers, moves_to, entry_of, prio_of, blocked_of, or_nobody, holders, is_empty}
 use Rattle.pth_model.specs.Calls.{begun, resumed}
@@ -100,7 +100,7 @@ module _ {P S H : Type 0} where
   unfoldable pub dispatches : (turn : ℕ) → ℕ → Piece P S H
   dispatches turn t s =
       (changes (runs t)
-      and_then tells (Dispatch turn s.control.scheduler.now (tid t) (rank_by (place_in t (queue s.control queue.Ready))) 0 0)) s
+      and_then tells (Dispatch turn (now_of s.control) (tid t) (rank_by (place_in t (queue s.control queue.Ready))) 0 0)) s
 
   abbrev pub takes_by : Turn → Option ℕ → State P S H → Course P S H
   takes_by x None s = within x (silent s)
@@ -149,7 +149,7 @@ module _ {P S H : Type 0} where
 
   -- time goes on by what a turn takes
   abbrev pub time_passes : Change P S H
-  time_passes k = moves_to (min (k.scheduler.now + k.scheduler.clock) last_moment) k
+  time_passes k = moves_to (min (now_of k + clock_of k) last_moment) k
 
   abbrev pub turn_ends : ℕ → Change P S H
   turn_ends t = raises_ready and is_placed t and time_passes

@@ -1,14 +1,14 @@
 -- A pass over the waiting threads, and the moments to which time moves while nothing is ready.
-use Rattle.std.specs.Prelude.{ℕ, ℤ, pos, ◌+ℤ◌, nat_lt, min, Bool, false, List, [], ◌∷◌, filter, Option, Some, None, if◌then◌else◌}
+use Rattle.std.specs.Prelude.{ℕ, ℤ, pos, ◌+ℤ◌, nat_lt, min, Bool, false, List, [], ◌∷◌, filter, map, Option, Some, None, if◌then◌else◌}
 use Rattle.pth_base.specs.Program.{Functions}
 use Rattle.pth_base.specs.declared.mark.Mark.TheVariants.{Woke}
 use Rattle.pth_base.specs.declared.thread.ThreadState.TheVariants as state
 use Rattle.pth_queue.specs.declared.queue.Queue.TheVariants as queue
 use Rattle.pth_threads.specs.declared.entry.Change.TheVariants as change
-use Rattle.pth_model.specs.State.{State, queue}
+use Rattle.pth_model.specs.State.{State, queue, now_of}
 use Rattle.pth_model.specs.Transition.{Piece, Change, silent, changes, tells, tid, ◌and◌, ◌and_then◌}
 use Rattle.pth_model.specs.Changes.{sets, enters, leaves_queue, prio_of, holders}
-use Rattle.pth_model.specs.Calls.{wakes}
+use Rattle.pth_model.specs.Calls.{wakes, waits_until}
 
 module _ {P S H : Type 0} where
   -- t leaves its queue, and is ready at a rank
@@ -35,9 +35,9 @@ module _ {P S H : Type 0} (f : P → Functions S H) where
   unfoldable pub pass : Piece P S H
   pass s = all_woken (to_wake s) s
 
-  -- the moments that waiting threads wait for: none of the calls that are built names one
+  -- the moments that the waiting threads wait for, 0 for none
   abbrev pub moments : State P S H → List ℕ
-  moments s = []
+  moments s = map (λ t. waits_until f t s) (holders (queue s.control queue.Waiting))
 
 abbrev pub least_by : ℕ → Option ℕ → Option ℕ
 least_by m None = Some m
@@ -50,4 +50,4 @@ least_after now (m ∷ ms) = if nat_lt now m then least_by m (least_after now ms
 
 -- the moment to which time moves while nothing is ready
 abbrev pub moment : {P S H : Type 0} → (P → Functions S H) → State P S H → Option ℕ
-moment f s = least_after s.control.scheduler.now (moments f s)
+moment f s = least_after (now_of s.control) (moments f s)

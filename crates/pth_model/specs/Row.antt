@@ -1,5 +1,5 @@
 -- The row of a call: all that is said of it, in one place.
-use Rattle.std.specs.Prelude.{Bool, true, false}
+use Rattle.std.specs.Prelude.{ℕ, Bool, true, false}
 use Rattle.pth_base.specs.declared.answer.Answer.TheVariants.{Fail}
 use Rattle.pth_base.specs.declared.errno.Errno.TheVariants.{EINVAL}
 use Rattle.pth_model.specs.declared.blocked.Blocked.{Blocked}
@@ -18,6 +18,8 @@ pub record Row (P S H : Type 0) : Type 0 where
   pub again : Blocked → Attempt P S H
   -- whether the thread that it blocks is woken
   pub wakes : Blocked → Bool
+  -- the moment that it waits for, to which idle time goes; 0 for none
+  pub until : Blocked → ℕ
 
 -- whether a verdict refuses the call
 abbrev pub refuses : Verdict → Bool
@@ -46,7 +48,7 @@ module _ {P S H : Type 0} where
   -- a call that never blocks its thread, and changes the control or nothing
   infix 3 ◌changing◌
   abbrev pub ◌changing◌ : Verdict → Change P S H → Row P S H
-  v changing g = record { begin = v trying changes g; again = λ b. waits trying silent; wakes = λ b. false }
+  v changing g = record { begin = v trying changes g; again = λ b. waits trying silent; wakes = λ b. false; until = λ b. 0 }
 
   -- a call that is not built yet
   abbrev pub unbuilt : Row P S H

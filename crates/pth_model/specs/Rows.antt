@@ -8,14 +8,15 @@ use Rattle.pth_model.specs.Verdict.{Says, says}
 use Rattle.pth_model.specs.State.{State}
 use Rattle.pth_model.specs.Transition.{nothing}
 use Rattle.pth_model.specs.Row.{Row, ◌changing◌, unbuilt}
-use Rattle.pth_model.specs.ThreadControl.{spawn, yield}
+use Rattle.pth_model.specs.LibraryControl.{kill, ctrl}
+use Rattle.pth_model.specs.ThreadControl.{spawn, self, suspend, resume, yield, join}
 use Rattle.pth_model.specs.ThreadEnds.{exit}
 
 module _ {P S H : Type 0} (f : P → Functions S H) (s : State P S H) (t : ℕ) where
   -- the row of a call of t
   unfoldable pub row_of : Call → Row P S H
-  row_of call.Kill = unbuilt
-  row_of (call.Ctrl q) = unbuilt
+  row_of call.Kill = kill s t
+  row_of (call.Ctrl q) = ctrl s q
   row_of call.AttrNew = unbuilt
   row_of (call.AttrOf n) = unbuilt
   row_of (call.AttrInit a) = unbuilt
@@ -24,15 +25,15 @@ module _ {P S H : Type 0} (f : P → Functions S H) (s : State P S H) (t : ℕ) 
   row_of (call.AttrDestroy a) = unbuilt
   row_of (call.Spawn b v a) = spawn f s t b v a
   row_of (call.Once o h v) = unbuilt
-  row_of call.SelfTid = unbuilt
-  row_of (call.Suspend n) = unbuilt
-  row_of (call.Resume n) = unbuilt
-  row_of (call.Yield n) = yield n
+  row_of call.SelfTid = self s t
+  row_of (call.Suspend n) = suspend s t n
+  row_of (call.Resume n) = resume s t n
+  row_of (call.Yield n) = yield s t n
   row_of (call.Nap l) = unbuilt
   row_of (call.Wait e) = unbuilt
   row_of (call.Cancel n) = unbuilt
   row_of (call.Abort n) = unbuilt
-  row_of (call.Join n) = unbuilt
+  row_of (call.Join n) = join s t n
   row_of (call.Exit v) = exit s t v
   row_of (call.Fdmode d m) = unbuilt
   row_of (call.Timeout l) = unbuilt

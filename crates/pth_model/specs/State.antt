@@ -1,11 +1,12 @@
 -- The state of the machine: what threads have, which marks alone change, and all else, which calls change.
-use Rattle.std.specs.Prelude.{ℕ, zero, suc, ◌+◌, pos, Bool, true, false, List, [], ◌∷◌, Option, Some, None, is_some, codes, if◌then◌else◌}
+use Rattle.std.specs.Prelude.{ℕ, pos, Bool, true, false, List, [], ◌∷◌, Option, Some, None, codes}
 use Rattle.pth_base.specs.Program.{Functions}
 use Rattle.pth_base.specs.Table.{put}
 use Rattle.pth_base.specs.declared.answer.Answer.TheVariants as answer
 use Rattle.pth_base.specs.declared.outcome.Outcome.{Outcome}
 use Rattle.pth_base.specs.declared.outcome.Outcome.TheVariants.{Running}
 use Rattle.pth_base.specs.declared.thread.ThreadState.TheVariants as state
+use Rattle.pth_numbered.specs.Numbered.{number_known}
 use Rattle.pth_queue.specs.declared.ranked.Ranked.{Ranked}
 use Rattle.pth_queue.specs.declared.queue.Queue.{Queue}
 use Rattle.pth_queue.specs.declared.queue.Queue.TheVariants.{Ready}
@@ -53,6 +54,13 @@ pub record State (P S H : Type 0) : Type 0 where
   pub resources : Resources
   pub control : Control P S H
 
+-- the moment, and how far a turn moves it, in microseconds
+abbrev pub now_of : {P S H : Type 0} → Control P S H → ℕ
+now_of k = k.scheduler.now
+
+abbrev pub clock_of : {P S H : Type 0} → Control P S H → ℕ
+clock_of k = k.scheduler.clock
+
 -- what a run counts from turn to turn: no call sees or changes it
 pub record Turn : Type 0 where
   pub turns : ℕ
@@ -64,11 +72,6 @@ pub record Turn : Type 0 where
 -- a queue, as ranks and threads in order
 abbrev pub queue : {P S H : Type 0} → Control P S H → Queue → List Ranked
 queue k q = shown (raises_of k.threads.raises q) (k.threads.standing q)
-
--- how many of the first n numbers have a value
-unfoldable pub number_known : {A : Type 0} → (ℕ → Option A) → ℕ → ℕ
-number_known f zero = 0
-number_known f (suc n) = (if is_some (f (suc n)) then 1 else 0) + number_known f n
 
 -- how many threads are in the system
 abbrev pub present : {P S H : Type 0} → Control P S H → ℕ

@@ -35,4 +35,5 @@ module _ {P S H : Type 0} (s : State P S H) (t : ℕ) where
     begin = exit_attempt v;
     again = λ b. exit_attempt v;
     wakes = λ b. is_alone s.control t;
+    until = λ b. 0;
   }

@@ -1,8 +1,8 @@
-//! A run that the definitions alone compute.
+//! Runs that the definitions alone compute.
 
 ghost use Rattle.std.specs.Prelude.{◌≡◌, pos};
 ghost use Rattle.pth_base.specs.declared.outcome.Outcome.TheVariants.{Ended};
-ghost use Rattle.pth_model.specs.Example.{two_bodies, its_marks};
+ghost use Rattle.pth_model.specs.Example.{two_bodies, its_marks, joining_bodies, joining_marks};
 ghost use Rattle.pth_model.specs.Run.{run};
 
 /// By the definitions, a main that spawns a thread, yields to it and exits gives exactly these marks, and the run ends
@@ -10,4 +10,11 @@ ghost use Rattle.pth_model.specs.Run.{run};
 pub fn two_bodies_run()
     ensures marks { (run two_bodies (record { program = 0 }) 9).marks ≡ its_marks }
     ensures outcome { (run two_bodies (record { program = 0 }) 9).turn.outcome ≡ Ended (pos 0) }
+{}
+
+/// By the definitions, a main that suspends one of two new threads, yields to the other by name, resumes the first and joins
+/// it gives exactly these marks, and the run ends with main's value after nineteen parts.
+pub fn joining_bodies_run()
+    ensures marks { (run joining_bodies (record { program = 0 }) 19).marks ≡ joining_marks }
+    ensures outcome { (run joining_bodies (record { program = 0 }) 19).turn.outcome ≡ Ended (pos 0) }
 {}

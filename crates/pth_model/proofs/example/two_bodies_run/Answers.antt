@@ -1,9 +1,10 @@
 use Rattle.std.proofs.Common.{refl}
 use Rattle.pth_base.specs.Table.{put}
+use Rattle.pth_numbered.specs.Numbered.{number_known}
 use Rattle.pth_threads.specs.Threads.{changed, made_of}
 use Rattle.pth_model.specs.Resources.{told, answer_told}
 use Rattle.pth_model.specs.Standing.{put_behind, order, shown}
-use Rattle.pth_model.specs.State.{number_known, start}
+use Rattle.pth_model.specs.State.{start}
 use Rattle.pth_model.specs.Changes.{sets, goes_on, enters, leaves_queue, raises_ready, makes, forgets}
 use Rattle.pth_model.specs.Ending.{is_dead_with, leaves, ending}
 use Rattle.pth_model.specs.ThreadEnds.{is_alone}
