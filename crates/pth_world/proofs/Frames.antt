@@ -1,25 +1,31 @@
 -- Frames of calls, one after another.
-use Rattle.std.proofs.Common.{ℕ, ◌+◌, ◌≤◌, Option, refl, ◌∙◌, arith}
+use Rattle.std.proofs.Common.{◌≡◌, ℕ, ◌+◌, ◌≤◌, Bool, true, false, Option, inl, inr, refl, ◌∙◌, arith}
 use Rattle.pth_world.specs.World.{WorldOf}
 use Rattle.pth_world.specs.Whole.{Whole}
-use Rattle.pth_world.specs.Frame.{Frame}
+use Rattle.pth_world.specs.Frame.{Frame, Names}
 use Rattle.pth_world.proofs.Ranks.{ranks_none, ranks_then, ranks_more}
 
 module _ {P S H : Type 0} where
+  -- where nobody else was named before
+  names_then : (yields : Bool) (u v w : WorldOf P S H) → v.scheduler.preferred ≡ u.scheduler.preferred → Names yields v w → Names yields u w
+  names_then false u v w same b = b ∙ same
+  names_then true u v w same (inl b) = inl (b ∙ same)
+  names_then true u v w same (inr b) = inr b
+
   -- nothing was done
-  pub frame_none : (w : WorldOf P S H) → Whole w → Frame w w 0 w.scheduler.running
+  pub frame_none : (w : WorldOf P S H) → Whole w → Frame w w 0 w.scheduler.running false
   frame_none w whole = record { whole = whole; runs = refl; made = omega arith; ranks = ranks_none w.threads; preferred = refl }
 
   -- one after another
-  pub frame_then : (n m : ℕ) (u v w : WorldOf P S H) (q r : Option ℕ) → Frame u v n q → Frame v w m r → Frame u w (n + m) r
-  frame_then n m u v w q r a b = record {
+  pub frame_then : (n m : ℕ) (u v w : WorldOf P S H) (q r : Option ℕ) (yields : Bool) → Frame u v n q false → Frame v w m r yields → Frame u w (n + m) r yields
+  frame_then n m u v w q r yields a b = record {
     whole = b.whole;
     runs = b.runs;
     made = (let x = a.made in let y = b.made in omega arith);
     ranks = ranks_then n m u.threads v.threads w.threads a.ranks b.ranks;
-    preferred = b.preferred ∙ a.preferred;
+    preferred = names_then yields u v w a.preferred b.preferred;
   }
 
   -- as many as are said, or fewer
-  pub frame_more : (n m : ℕ) (w v : WorldOf P S H) (r : Option ℕ) → n ≤ m → Frame w v n r → Frame w v m r
-  frame_more n m w v r le a = record { whole = a.whole; runs = a.runs; made = (let x = a.made in omega arith); ranks = ranks_more n m w.threads v.threads le a.ranks; preferred = a.preferred }
+  pub frame_more : (n m : ℕ) (w v : WorldOf P S H) (r : Option ℕ) (yields : Bool) → n ≤ m → Frame w v n r yields → Frame w v m r yields
+  frame_more n m w v r yields le a = record { whole = a.whole; runs = a.runs; made = (let x = a.made in omega arith); ranks = ranks_more n m w.threads v.threads le a.ranks; preferred = a.preferred }

@@ -6,6 +6,7 @@ pub mod Views
 pub mod Wholes
 pub mod Starts
 pub mod Moves
+pub mod Runnable
 pub mod QueueReads
 pub mod Walks
 pub mod Items
@@ -14,3 +15,5 @@ pub mod Scheduling
 pub mod Frames
 pub mod Telling
 pub mod StateOf
+pub mod Counting
+pub mod Vanishing

@@ -1,8 +1,9 @@
 -- Moves of a thread between its states keep a world whole.
-use Rattle.std.proofs.Common.{◌≡◌, ◌≢◌, ◌==◌, ℕ, ℤ, Bool, true, false, if◌then◌else◌, IsSome, IfSome, Option, Some, None, option_map, refl, sym, ◌∙◌, ap, subst}
+use Rattle.std.proofs.Common.{◌≡◌, ◌≢◌, ◌==◌, ◌||◌, not, ℕ, ℤ, Bool, true, false, if◌then◌else◌, IsSome, IfSome, Option, Some, None, option_map, refl, sym, ◌∙◌, ap, subst}
 use Rattle.pth_base.specs.declared.thread.ThreadState.{ThreadState}
 use Rattle.pth_base.specs.declared.thread.ThreadState.TheVariants as state
-use Rattle.pth_base.proofs.Tables.{put_here, put_other, same_means, same_fails, not_same}
+use Rattle.pth_base.proofs.Namings.{seen_at}
+use Rattle.pth_base.proofs.Tables.{put_here, put_other, same_means, same_fails, same_self, not_same}
 use Rattle.pth_queue.specs.declared.queue.Queue.{Queue}
 use Rattle.pth_queue.specs.declared.queue.Queue.TheVariants as queue
 use Rattle.pth_queue.specs.Queues.{queue_of, without, IsNowhere}
@@ -10,10 +11,13 @@ use Rattle.pth_threads.specs.Threads.{slot_of, tid_at, tid_of, entry_at, changed
 use Rattle.pth_threads.specs.declared.entry.Entry.{Entry}
 use Rattle.pth_threads.specs.declared.entry.Change.TheVariants as change
 use Rattle.pth_model.specs.declared.blocked.Blocked.{Blocked}
-use Rattle.pth_world.specs.World.{WorldOf, ThreadsBySlot}
+use Rattle.pth_model.specs.Changes.{queue_for, or_nobody}
+use Rattle.pth_world.specs.World.{WorldOf, ThreadsBySlot, entry_in}
 use Rattle.pth_model.specs.Ending.{other_than}
+use Rattle.pth_model.specs.Living.{is_dead}
+use Rattle.pth_model.specs.ThreadControl.{may_run}
 use Rattle.pth_world.specs.Sound.{IsSound, IsKnown}
-use Rattle.pth_world.specs.Whole.{View, view, Fits, FitsEntry, Whole, WholeBut, IsRunner, IsIn, IsBefore, Newly, Waiting, IsAbout, CanSuspend, MayBlock, place_for}
+use Rattle.pth_world.specs.Whole.{View, view, Fits, FitsEntry, Whole, WholeBut, IsRunner, IsIn, IsBefore, Newly, Waiting, IsAbout, CanSuspend, MayBlock, MayStandIn, WaitsToRun, OfNew, OfReady, place_for}
 use Rattle.pth_world.specs.Touches.{Touches, SameThreads, changes, places, blocks}
 use Rattle.pth_world.proofs.Slots.{name_is, used, some_is}
 use Rattle.pth_world.proofs.Places.{queue-without}
@@ -323,7 +327,152 @@ module _ {P S H : Type 0} (w v : WorldOf P S H) (t u : ℕ) (whole : Whole w) (e
       runner = subst (λ (o : Option ℕ). IfSome o (IsKnown v.threads)) (sym rests) (stopped_runner w.threads v.threads w.scheduler.running t still_known whole.runner);
     }
 
+-- ---- a thread that is suspended, or no longer
+
+moved_by : (r : Option ℕ) (q : Queue) (b : Bool) (o : Option Entry) (p : Option Queue) (h : Option Blocked) → IfSome o (λ e. MayStandIn q b e.state) → FitsEntry r o p h → FitsEntry r (option_map (changed (change.Suspended b)) o) (Some q) h
+unfolding changed
+moved_by r q b None p h may f = tt
+moved_by r q b (Some e) p h may f = record { placed = may.0; runs = f.runs; named = f.named; awake = λ is. may.1; calls = f.calls }
+
+pub moved_whole : {P S H : Type 0} (w v : WorldOf P S H) (t u : ℕ) (q : Queue) (b : Bool) → Whole w → slot_of w.threads.records t ≡ Some u → IfSome (entry_in w.threads t) (λ e. MayStandIn q b e.state) → Touches w.threads v.threads t (λ k. places (Some q) (changes (change.Suspended b) (places None k))) → slot_of v.threads.records ≡ slot_of w.threads.records → v.scheduler.running ≡ w.scheduler.running → IsSound v.threads → Whole v
+moved_whole w v t u q b whole e may touches slots running sound =
+    let there = subst (λ (o : Option Entry). IfSome o (λ d. MayStandIn q b d.state)) (seen_at None (slot_of w.threads.records) (entry_at w.threads.records) t u e) may in
+    progress_whole w v t u (λ k. places (Some q) (changes (change.Suspended b) (places None k))) whole e touches sound slots running
+    (λ r f. moved_by r q b (entry_at w.threads.records u) _ _ there f)
+
+-- who is suspended may stand where its state says
+returns_by : (r : Option ℕ) (q : Queue) (o : Option Entry) (p : Option Queue) (h : Option Blocked) → IfSome o (λ e. e.suspended ≡ true) → IfSome o (λ e. Some q ≡ queue_for e.state) → FitsEntry r o p h → IfSome o (λ e. MayStandIn q false e.state)
+returns_by r q None p h suspended is f = tt
+returns_by r q (Some e) p h suspended is f = (is, f.awake suspended)
+
+suspended_by : (r : Option ℕ) (o : Option Entry) (p : Option Queue) (h : Option Blocked) → IfSome o (λ e. e.suspended ≡ true) → FitsEntry r o p h → IfSome o (λ e. CanSuspend e.state)
+suspended_by r None p h suspended f = tt
+suspended_by r (Some e) p h suspended f = f.awake suspended
+
+module _ {P S H : Type 0} (w : WorldOf P S H) (t u : ℕ) (whole : Whole w) (e : slot_of w.threads.records t ≡ Some u) (suspended : IfSome (entry_in w.threads t) (λ d. d.suspended ≡ true)) where
+  entry_here : entry_in w.threads t ≡ entry_at w.threads.records u
+  entry_here = seen_at None (slot_of w.threads.records) (entry_at w.threads.records) t u e
+
+  pub suspended_can : IfSome (entry_in w.threads t) (λ d. CanSuspend d.state)
+  suspended_can = rw entry_here (suspended_by w.scheduler.running (entry_at w.threads.records u) _ _ (rw entry_here at suspended) (whole.fits u))
+
+  pub suspended_may : (q : Queue) → IfSome (entry_in w.threads t) (λ d. Some q ≡ queue_for d.state) → IfSome (entry_in w.threads t) (λ d. MayStandIn q false d.state)
+  suspended_may q is = rw entry_here (returns_by w.scheduler.running q (entry_at w.threads.records u) _ _ (rw entry_here at suspended) (rw entry_here at is) (whole.fits u))
+
+-- the queue of a state, where there is a record
+pub queue_is : (o : Option Entry) (q : Queue) → IsSome o → IfSome o (λ e. Some q ≡ queue_for e.state) → queue_for (or_nobody o).state ≡ Some q
+queue_is (Some e) q some is = sym is
+queue_is None q some is = absurd (cc some)
+
+pub entry_some : {S : Type 0} (x : ThreadsBySlot S) (t u : ℕ) → IsSound x → slot_of x.records t ≡ Some u → IsSome (entry_in x t)
+unfolding tid_at
+entry_some x t u sound e = rw (seen_at None (slot_of x.records) (entry_at x.records) t u e) (by_entry (entry_at x.records u) (used x t u sound e))
+  where
+    by_entry : (o : Option Entry) → tid_of o ≢ 0 → IsSome o
+    by_entry (Some d) h = refl
+    by_entry None h = absurd (h refl)
+
+-- one that can be suspended may stand among the suspended
+pub can_may : (o : Option Entry) → IfSome o (λ e. CanSuspend e.state) → IfSome o (λ e. MayStandIn queue.Suspended true e.state)
+can_may (Some e) can = (refl, can)
+can_may None can = tt
+
+-- who runs, where t does not
+rests_by : (t x : ℕ) (b : Bool) → (x == t) ≡ b → (Some x ≡ Some t → ⊥) → (if b then None else Some x) ≡ Some x
+rests_by t x true is other = absurd (other (ap Some (same_means x t is)))
+rests_by t x false is other = refl
+
+pub rests_still : (t : ℕ) (r : Option ℕ) → r ≢ Some t → other_than t r ≡ r
+rests_still t None other = refl
+rests_still t (Some x) other = rests_by t x (x == t) refl other
+
+-- ---- what records say of where threads stand
+
+fits_at : {P S H : Type 0} (w : WorldOf P S H) (t u : ℕ) (e : Entry) → Whole w → slot_of w.threads.records t ≡ Some u → Some e ≡ entry_in w.threads t → FitsEntry w.scheduler.running (Some e) (view w.threads u).place (view w.threads u).blocked
+fits_at w t u e whole at is =
+    let there : entry_at w.threads.records u ≡ Some e = sym (is ∙ seen_at None (slot_of w.threads.records) (entry_at w.threads.records) t u at) in
+    subst (λ (o : Option Entry). FitsEntry w.scheduler.running o (view w.threads u).place (view w.threads u).blocked) there (whole.fits u)
+
+-- one that is new or ready, and not suspended, waits to run
+pub waits_to_run : {P S H : Type 0} (w : WorldOf P S H) (t : ℕ) (e : Entry) → Whole w → IsKnown w.threads t → Some e ≡ entry_in w.threads t → (e.suspended || not (may_run e.state)) ≡ false → WaitsToRun w.threads t
+waits_to_run w t e whole known is may =
+    let slot = known_slot (slot_of w.threads.records t) known in
+    by_state slot.0 slot.1 e.state e.suspended may (fits_at w t slot.0 e whole slot.1 is).placed
+  where
+    stands_in : (q : Queue) (u : ℕ) → slot_of w.threads.records t ≡ Some u → queue_of u w.threads.queues ≡ Some q → IsIn q w.threads t
+    stands_in q u e there = subst (λ (o : Option ℕ). IfSome o (λ i. queue_of i w.threads.queues ≡ Some q)) (sym e) there
+
+    by_state : (u : ℕ) → slot_of w.threads.records t ≡ Some u → (s : ThreadState) (b : Bool) → (b || not (may_run s)) ≡ false → queue_of u w.threads.queues ≡ place_for s b → WaitsToRun w.threads t
+    by_state u e s true may place = absurd (cc may)
+    by_state u e state.New false may place = record { known = known; queue = queue.New; runnable = OfNew; stands = stands_in queue.New u e place }
+    by_state u e state.Ready false may place = record { known = known; queue = queue.Ready; runnable = OfReady; stands = stands_in queue.Ready u e place }
+    by_state u e s false may place = absurd (cc may)
+
+-- a thread that stands in a queue does not run
+pub queued_rests : {P S H : Type 0} (w : WorldOf P S H) (t : ℕ) (q : Queue) → Whole w → IsIn q w.threads t → w.scheduler.running ≢ Some t
+queued_rests w t q whole stands is = by_slot (slot_of w.threads.records t) (runner_known w t whole is) stands (runner_nowhere w t whole is)
+  where
+    by_slot : (o : Option ℕ) → IsSome o → IfSome o (λ u. queue_of u w.threads.queues ≡ Some q) → IfSome o (λ u. IsNowhere u w.threads.queues) → ⊥
+    by_slot (Some u) known there nowhere = cc (there, nowhere)
+    by_slot None known there nowhere = cc known
+
+-- nor does a dead one
+pub dead_rests : {P S H : Type 0} (w : WorldOf P S H) (e : Entry) → Whole w → IsKnown w.threads e.tid.0 → Some e ≡ entry_in w.threads e.tid.0 → is_dead e.state ≡ true → w.scheduler.running ≢ Some e.tid.0
+dead_rests w e whole known is dead runs =
+    let slot = known_slot (slot_of w.threads.records e.tid.0) known in
+    by_state e.state dead ((fits_at w e.tid.0 slot.0 e whole slot.1 is).runs runs)
+  where
+    by_state : (s : ThreadState) → is_dead s ≡ true → s ≡ state.Running → ⊥
+    by_state state.Dead dead is = cc is
+    by_state s dead is = cc dead
+
+-- another thread that is neither dead nor suspended may be suspended
+pub can_suspend : {P S H : Type 0} (w : WorldOf P S H) (t : ℕ) (e : Entry) → Whole w → w.scheduler.running ≡ Some t → IsKnown w.threads e.tid.0 → Some e ≡ entry_in w.threads e.tid.0 → (e.tid.0 == t || is_dead e.state || e.suspended) ≡ false → IfSome (entry_in w.threads e.tid.0) (λ d. CanSuspend d.state)
+can_suspend w t e whole runs known is may =
+    let slot = known_slot (slot_of w.threads.records e.tid.0) known in
+    rw (← is) (by_state e.state may (fits_at w e.tid.0 slot.0 e whole slot.1 is).named)
+  where
+    by_state : (s : ThreadState) → (e.tid.0 == t || is_dead s || e.suspended) ≡ false → (s ≡ state.Running → w.scheduler.running ≡ Some e.tid.0) → CanSuspend s
+    by_state state.New may named = tt
+    by_state state.Ready may named = tt
+    by_state state.Waiting may named = tt
+    by_state state.Dead may named = absurd (dead (e.tid.0 == t) may)
+      where
+        dead : (b : Bool) → (b || true || e.suspended) ≡ false → ⊥
+        dead true h = cc h
+        dead false h = cc h
+    by_state state.Running may named =
+        let own : e.tid.0 ≡ t = some_is (sym (named refl) ∙ runs) in
+        absurd (cc ((rw (own, same_self t) at may)))
+
 -- ---- all but one thread
+
+-- t is gone, and does not run
+pub gone_but : {P S H : Type 0} (w v : WorldOf P S H) (t u : ℕ) → slot_of w.threads.records t ≡ Some u → ((i : ℕ) → tid_at w.threads.records i ≢ t → view v.threads i ≡ view w.threads i) → Removes w.threads.records v.threads.records u → IsSound v.threads → v.scheduler.running ≡ w.scheduler.running → w.scheduler.running ≢ Some t → WholeBut w t → WholeBut v t
+gone_but w v t u e others gone sound running rests but = record {
+  sound = sound;
+  fits = λ i apart. fits_by i (tid_at w.threads.records i == t) refl;
+  runner = rw running (by_runner w.scheduler.running rests but.runner);
+}
+  where
+    none_at : entry_at v.threads.records u ≡ None
+    none_at = ap (λ (k : ℕ → Option Entry). k u) gone.entries ∙ put_here (entry_at w.threads.records) u None
+
+    at : (i : ℕ) → tid_at w.threads.records i ≡ t → i ≡ u
+    at i is = some_is (sym (but.sound.tied.slot i (λ zero. used w.threads t u but.sound e (name_is w.threads t u but.sound e ∙ sym is ∙ zero))) ∙ ap (slot_of w.threads.records) is ∙ e)
+
+    fits_by : (i : ℕ) (b : Bool) → (tid_at w.threads.records i == t) ≡ b → Fits v.scheduler.running (view v.threads i)
+    fits_by i true same = subst (λ (o : Option Entry). FitsEntry v.scheduler.running o (view v.threads i).place (view v.threads i).blocked) (sym (ap (entry_at v.threads.records) (at i (same_means _ t same)) ∙ none_at)) tt
+    fits_by i false apart = subst (λ (k : View). Fits v.scheduler.running k) (sym (others i (same_fails _ t apart))) (fits_same w.scheduler.running v.scheduler.running (view w.threads i) running (but.fits i (same_fails _ t apart)))
+
+    still : (x : ℕ) → x ≢ t → IsKnown w.threads x → IsKnown v.threads x
+    still x apart known =
+        let same : slot_of v.threads.records x ≡ slot_of w.threads.records x = ap (λ (k : ℕ → Option ℕ). k x) gone.slots ∙ put_other (slot_of w.threads.records) (tid_at w.threads.records u) None x (λ k. apart (k ∙ name_is w.threads t u but.sound e)) in
+        rw same known
+
+    by_runner : (r : Option ℕ) → r ≢ Some t → IfSome r (IsKnown w.threads) → IfSome r (IsKnown v.threads)
+    by_runner None other known = tt
+    by_runner (Some x) other known = still x (λ is. other (ap Some is)) known
 
 module _ {P S H : Type 0} (w v : WorldOf P S H) (t : ℕ) where
   -- a change of t alone, whoever runs

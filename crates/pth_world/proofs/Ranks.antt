@@ -3,6 +3,7 @@ use Rattle.std.proofs.Common.{◌≡◌, ℕ, ◌+◌, ◌≤◌, ℤ, pos, ◌�
 use Rattle.std.proofs.lemmas.Int.{ints}
 use Rattle.std.proofs.lemmas.List.Elements.{All-weaker, All-filter, All-map}
 use Rattle.pth_queue.specs.declared.ranked.Ranked.{Ranked}
+use Rattle.pth_queue.specs.declared.queue.Queue.{Queue}
 use Rattle.pth_queue.specs.declared.queue.Queue.TheVariants as queue
 use Rattle.pth_queue.specs.Ranking.{is_of, insert, delete, increase, raised}
 use Rattle.pth_queue.specs.Queues.{QueuesOf, entered, without}
@@ -56,6 +57,13 @@ ranks_then n m u v w a b = record { under = λ roof low h. b.under roof low (a.u
 pub ranks_more : {S : Type 0} (n m : ℕ) (w v : ThreadsBySlot S) → n ≤ m → KeepsRanks n w v → KeepsRanks m w v
 ranks_more n m w v le r = record { under = r.under; fresh = (let f = r.fresh in omega arith) }
 
+-- where the queues are the same
+pub ranks_same : {S : Type 0} (n : ℕ) (w v x : ThreadsBySlot S) → x.queues ≡ v.queues → KeepsRanks n w v → KeepsRanks n w x
+ranks_same n w v x same r = record {
+  under = λ roof low h. subst (λ (y : QueuesOf). IsUnder roof y.ready) (sym same) (r.under roof low h);
+  fresh = (let f = r.fresh in let k : length x.queues.new ≡ length v.queues.new = ap (λ (y : QueuesOf). length y.new) same in omega arith);
+}
+
 -- where the queues are these
 module _ {S : Type 0} (w v : ThreadsBySlot S) (x : QueuesOf) (queues : v.queues ≡ x) where
   ranks_by : ((roof : ℕ) → greatest_return ≤ roof → IsUnder roof w.queues.ready → IsUnder roof x.ready) → length x.new ≤ length w.queues.new → KeepsRanks 0 w v
@@ -97,6 +105,34 @@ module _ {S : Type 0} (w v : ThreadsBySlot S) (t : ℕ) (known : IsKnown w t) wh
   -- a thread is dead
   pub ranks_dead : (rank : ℤ) → IfSome (slot_of w.records t) (λ u. v.queues ≡ entered queue.Dead rank u (without u w.queues)) → KeepsRanks 0 w v
   ranks_dead rank h = at_slot (λ u. v.queues ≡ entered queue.Dead rank u (without u w.queues)) h (λ u is. ranks_by w v _ is (λ roof low under. under-delete roof u w.queues.ready under) (length-deleted u w.queues.new))
+
+-- a thread stands in another queue, at rank 0
+moved_under : (roof u : ℕ) (q : Queue) (x : QueuesOf) → IsUnder roof x.ready → IsUnder roof (entered q (pos 0) u (without u x)).ready
+moved_under roof u queue.Ready x under = under-insert roof (record { rank = pos 0; holder = u }) (delete u x.ready) (omega (arith, ints)) (under-delete roof u x.ready under)
+moved_under roof u queue.New x under = under-delete roof u x.ready under
+moved_under roof u queue.Waiting x under = under-delete roof u x.ready under
+moved_under roof u queue.Suspended x under = under-delete roof u x.ready under
+moved_under roof u queue.Dead x under = under-delete roof u x.ready under
+
+moved_fresh : (u : ℕ) (q : Queue) (x : QueuesOf) → length (entered q (pos 0) u (without u x)).new ≤ length x.new + 1
+moved_fresh u queue.New x = omega (arith, length-insert (record { rank = pos 0; holder = u }) (delete u x.new), length-deleted u x.new)
+moved_fresh u queue.Ready x = omega (arith, length-deleted u x.new)
+moved_fresh u queue.Waiting x = omega (arith, length-deleted u x.new)
+moved_fresh u queue.Suspended x = omega (arith, length-deleted u x.new)
+moved_fresh u queue.Dead x = omega (arith, length-deleted u x.new)
+
+ranks_moved : {S : Type 0} (w v : ThreadsBySlot S) (u : ℕ) (q : Queue) → v.queues ≡ entered q (pos 0) u (without u w.queues) → KeepsRanks 1 w v
+ranks_moved w v u q is = record {
+  under = λ roof low h. subst (λ (y : QueuesOf). IsUnder roof y.ready) (sym is) (moved_under roof u q w.queues h);
+  fresh = (let n : length v.queues.new ≡ length (entered q (pos 0) u (without u w.queues)).new = ap (λ (y : QueuesOf). length y.new) is in omega (arith, moved_fresh u q w.queues));
+}
+
+pub ranks_moved_in : {S : Type 0} (w v : ThreadsBySlot S) (t : ℕ) → IsKnown w t → (q : Queue) → IfSome (slot_of w.records t) (λ u. v.queues ≡ entered q (pos 0) u (without u w.queues)) → KeepsRanks 1 w v
+ranks_moved_in w v t known q h = by_slot (slot_of w.records t) known h
+  where
+    by_slot : (o : Option ℕ) → IsSome o → IfSome o (λ u. v.queues ≡ entered q (pos 0) u (without u w.queues)) → KeepsRanks 1 w v
+    by_slot (Some u) some is = ranks_moved w v u q is
+    by_slot None some is = absurd (cc some)
 
 -- a thread is new
 pub ranks_new : {S : Type 0} (w v : ThreadsBySlot S) (u : ℕ) (rank : ℤ) → v.queues ≡ entered queue.New rank u w.queues → KeepsRanks 1 w v

@@ -1,5 +1,7 @@
 -- How a change of one part of a world is a change of the control that it shows.
-use Rattle.std.proofs.Common.{◌≡◌, ℕ, ℤ, ◌+◌, Bool, false, List, map, Option, Some, None, option_map, refl, sym, ◌∙◌, ap, subst, inl, inr}
+use Rattle.std.proofs.Common.{◌≡◌, ℕ, ℤ, pos, negsuc, ◌<ℤ◌, ◌+◌, Bool, false, List, map, Option, Some, None, option_map, refl, sym, ◌∙◌, ap, subst, arith, inl, inr}
+use Rattle.std.proofs.lemmas.Int.{ints}
+use Rattle.pth_model.specs.Operands.{named}
 use Rattle.std.proofs.lemmas.Bool.{cases_Bool}
 use Rattle.pth_base.specs.Program.{Functions}
 use Rattle.pth_base.specs.Table.{put, table}
@@ -21,7 +23,7 @@ use Rattle.pth_model.specs.Standing.{is_queue}
 use Rattle.pth_model.specs.State.{Control, Threads, queue, present}
 use Rattle.pth_model.specs.Changes.{sets, goes_on, enters, leaves_queue, raises_ready, makes, forgets}
 use Rattle.pth_model.proofs.Queues.{is_queue_same, rows_here, rows_other, rows_without, queue-enter, queue-enter_other, queue-leave, queue-raise, queue-raise_other}
-use Rattle.pth_world.specs.World.{WorldOf, ThreadsBySlot}
+use Rattle.pth_world.specs.World.{WorldOf, ThreadsBySlot, entry_in}
 use Rattle.pth_world.specs.Shows.{Shows, ShowsThreads}
 use Rattle.pth_world.specs.Sound.{IsSound}
 use Rattle.pth_world.proofs.Slots.{name_is}
@@ -30,6 +32,19 @@ use Rattle.pth_world.proofs.Places.{nowhere-holds}
 -- where threads alone change, what they show is what counts
 pub of_threads : {P S H : Type 0} (w : WorldOf P S H) (y : ThreadsBySlot S) (k : Control P S H) (x : Threads S) → Shows w k → ShowsThreads y x → Shows (record w { threads = y }) (record k { threads = x })
 of_threads w y k x sh threads = record { program = sh.program; shared = sh.shared; threads = threads; scheduler = sh.scheduler }
+
+pub not_here : {S : Type 0} (w : ThreadsBySlot S) (t : ℕ) → slot_of w.records t ≡ None → None ≡ entry_in w t
+unfolding seen
+not_here w t none = sym (ap (by_slot None (entry_at w.records)) none)
+
+-- an operand that is negative, or more than were ever made
+pub named_negative : {A : Type 0} (f : ℕ → Option A) (n : ℤ) → n <ℤ pos 0 → None ≡ named f n
+named_negative f (pos m) low = absurd (omega (arith, ints))
+named_negative f (negsuc m) low = refl
+
+pub named_late : {S : Type 0} (w : ThreadsBySlot S) (n : ℤ) → IsSound w → pos w.records.made <ℤ n → None ≡ named (entry_in w) n
+named_late w (pos m) sound late = not_here w m (sound.fresh m (omega (arith, ints)))
+named_late w (negsuc m) sound late = refl
 
 module _ {P S H : Type 0} (w : ThreadsBySlot S) (k : Control P S H) where
   abbrev f : ℕ → ℕ

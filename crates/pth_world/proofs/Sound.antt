@@ -20,8 +20,8 @@ use Rattle.pth_threads.specs.declared.entry.Change.TheVariants as change
 use Rattle.pth_threads.specs.declared.entry.Entry.{Entry}
 use Rattle.pth_threads.specs.declared.entry.NewThread.{NewThread}
 use Rattle.pth_model.specs.declared.progress.Progress.{Progress}
-use Rattle.pth_model.specs.State.{number_known}
-use Rattle.pth_model.proofs.Known.{number-new, number-gone, number-change}
+use Rattle.pth_numbered.specs.Numbered.{number_known}
+use Rattle.pth_numbered.proofs.Known.{number-new, number-gone, number-change}
 use Rattle.pth_model.proofs.Queues.{rows_here, rows_other, rows_without, is_queue_same}
 use Rattle.pth_model.specs.Standing.{is_queue}
 use Rattle.std.proofs.lemmas.Bool.{cases_Bool, cases_lt}

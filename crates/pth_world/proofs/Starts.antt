@@ -19,7 +19,8 @@ use Rattle.pth_threads.specs.declared.entry.Change.TheVariants as change
 use Rattle.pth_threads.specs.declared.entry.Entry.{Entry}
 use Rattle.pth_model.specs.declared.progress.Progress.{Progress}
 use Rattle.pth_model.specs.Standing.{put_behind, order, shown}
-use Rattle.pth_model.specs.State.{Control, Given, queue, number_known, start, main_entry, first_thread}
+use Rattle.pth_numbered.specs.Numbered.{number_known}
+use Rattle.pth_model.specs.State.{Control, Given, queue, start, main_entry, first_thread}
 use Rattle.pth_model.specs.Changes.{sets, enters, leaves_queue, makes}
 use Rattle.pth_model.specs.ThreadControl.{spawns}
 use Rattle.pth_model.specs.Pass.{is_ready_at}

@@ -1,5 +1,5 @@
 -- Every sound world shows a state.
-use Rattle.std.proofs.Common.{◌≡◌, ◌∙◌, ℕ, ℤ, ◌≤ℤ◌, int_lt, true, false, Bool, if◌then◌else◌, List, [], ◌∷◌, ◌++◌, map, reverse, AllPairs, All, refl, sym, ap, subst, arith}
+use Rattle.std.proofs.Common.{◌≡◌, ◌∙◌, ℕ, ℤ, ◌≤ℤ◌, int_lt, true, false, Bool, if◌then◌else◌, List, [], ◌∷◌, ◌++◌, map, reverse, AllPairs, All, refl, ap, subst, arith}
 use Rattle.std.proofs.lemmas.Int.{ints}
 use Rattle.std.proofs.lemmas.List.{append_assoc, append-nil, map-append, reverse-append}
 use Rattle.std.proofs.lemmas.List.Elements.{All-append, All-cons, All-head, All-nil, All-tail, All-weaker}

@@ -7,16 +7,12 @@ use Rattle.pth_base.specs.declared.answer.Answer.TheVariants.{Fail}
 use Rattle.pth_base.specs.declared.errno.Errno.{Errno}
 use Rattle.pth_base.specs.declared.mark.Mark.{Mark}
 use Rattle.pth_base.specs.declared.mark.Mark.TheVariants.{Answered}
-use Rattle.pth_model.specs.Resources.{Resources, no_resources, told, answer_told}
+use Rattle.pth_model.specs.Resources.{Resources, told, answer_told}
 use Rattle.pth_model.specs.State.{State}
 use Rattle.pth_model.specs.Transition.{tells}
 use Rattle.pth_world.specs.World.{WorldOf}
 use Rattle.pth_world.specs.Shows.{StandsFor}
-use Rattle.pth_world.specs.Leading.{Leads}
-
--- the mark changes nothing where threads have nothing
-abbrev pub IsQuiet : Mark → Type 0
-IsQuiet m = told no_resources m ≡ no_resources
+use Rattle.pth_world.specs.Leading.{Leads, IsQuiet}
 
 -- a refused call changes nothing
 pub quiet-refused : (t : Tid) (c : Call) (e : Errno) → IsQuiet (Answered t c (Fail e))

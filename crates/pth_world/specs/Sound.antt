@@ -10,7 +10,7 @@ use Rattle.pth_threads.specs.Threads.{slot_of, tid_at, entry_at, count}
 use Rattle.pth_threads.specs.declared.entry.Change.{Change}
 use Rattle.pth_threads.specs.declared.entry.Change.TheVariants as change
 use Rattle.pth_threads.specs.declared.entry.Entry.{Entry}
-use Rattle.pth_model.specs.State.{number_known}
+use Rattle.pth_numbered.specs.Numbered.{number_known}
 use Rattle.pth_world.specs.World.{ThreadsBySlot}
 
 -- slots that are not used have nothing

@@ -1,5 +1,5 @@
 -- A state that a world shows.
-use Rattle.std.specs.Prelude.{ℕ, List, None, map, reverse, false}
+use Rattle.std.specs.Prelude.{List, None, map, reverse, false}
 use Rattle.pth_base.specs.Naming.{seen}
 use Rattle.pth_base.specs.Table.{table}
 use Rattle.pth_queue.specs.Ranking.{named_row}

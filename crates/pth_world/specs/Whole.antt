@@ -14,7 +14,7 @@ use Rattle.pth_model.specs.declared.blocked.Blocked.{Blocked}
 use Rattle.pth_model.specs.declared.blocked.Retake.{Retake}
 use Rattle.pth_model.specs.declared.blocked.Retake.TheVariants as retake
 use Rattle.pth_model.specs.State.{main}
-use Rattle.pth_model.specs.Changes.{blocked_in}
+use Rattle.pth_model.specs.Changes.{blocked_in, queue_for}
 use Rattle.pth_world.specs.World.{WorldOf, ThreadsBySlot}
 use Rattle.pth_world.specs.Sound.{IsSound, IsKnown}
 
@@ -27,14 +27,6 @@ pub record View : Type 0 where
 abbrev pub view : {S : Type 0} → ThreadsBySlot S → ℕ → View
 view x u = record { entry = entry_at x.records u; place = queue_of u x.queues; blocked = blocked_in (table None x.progress u) }
 
--- the queue of a state: a running thread stands in none
-abbrev pub queue_for : ThreadState → Option Queue
-queue_for state.New = Some queue.New
-queue_for state.Ready = Some queue.Ready
-queue_for state.Running = None
-queue_for state.Waiting = Some queue.Waiting
-queue_for state.Dead = Some queue.Dead
-
 -- where a thread stands: a suspended one in no queue of its state
 abbrev pub place_for : ThreadState → Bool → Option Queue
 place_for state true = Some queue.Suspended
@@ -45,9 +37,10 @@ abbrev pub TakesNothingBack : Retake → Type 0
 TakesNothingBack retake.No = Unit {0}
 TakesNothingBack r = ⊥
 
--- Which calls block which threads: of those that are built, main's exit alone, and it waits for no moment.
+-- Which calls block which threads: of those that are built, main's exit and every join, and they wait for no moment.
 abbrev pub MayBlockAs : ℕ → Call → Type 0
 MayBlockAs t (call.Exit v) = t ≡ main
+MayBlockAs t (call.Join n) = Unit {0}
 MayBlockAs t c = ⊥
 
 pub record MayBlock (t : ℕ) (b : Blocked) : Type 0 where
@@ -63,6 +56,10 @@ abbrev pub CanSuspend : ThreadState → Type 0
 CanSuspend state.Running = ⊥
 CanSuspend state.Dead = ⊥
 CanSuspend s = Unit {0}
+
+-- such a thread may stand in this queue, as one that is suspended or not
+abbrev pub MayStandIn : Queue → Bool → ThreadState → Type 0
+MayStandIn q suspended state = (Some q ≡ place_for state suspended) × CanSuspend state
 
 -- what holds of each thread in the system: it stands in exactly the queue of its state, the thread that runs is the one
 -- that is running, and the call that blocks it is one that may
@@ -113,4 +110,16 @@ pub data IsBefore : Queue → Type 0 where
 pub record IsBeforeReady {S : Type 0} (x : ThreadsBySlot S) (t : ℕ) : Type 0 where
   pub queue : Queue
   pub before : IsBefore queue
+  pub stands : IsIn queue x t
+
+-- the queues of threads that are new or ready
+pub data IsRunnable : Queue → Type 0 where
+  OfNew : IsRunnable queue.New
+  OfReady : IsRunnable queue.Ready
+
+-- the thread is new or ready, and not suspended: to it a yield may give control (pth_yield)
+pub record WaitsToRun {S : Type 0} (x : ThreadsBySlot S) (t : ℕ) : Type 0 where
+  pub known : IsKnown x t
+  pub queue : Queue
+  pub runnable : IsRunnable queue
   pub stands : IsIn queue x t

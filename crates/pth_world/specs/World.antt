@@ -1,8 +1,10 @@
 -- What contracts see of a world: its parts, in the groups of the state, those of threads by slot.
 use Rattle.std.specs.Prelude.{ℕ, List, [], Option, None}
+use Rattle.pth_base.specs.Naming.{seen}
 use Rattle.pth_base.specs.Program.{Functions}
 use Rattle.pth_base.specs.declared.ids.Tid.{Tid}
-use Rattle.pth_threads.specs.Threads.{ThreadsOf}
+use Rattle.pth_threads.specs.Threads.{ThreadsOf, slot_of, entry_at}
+use Rattle.pth_threads.specs.declared.entry.Entry.{Entry}
 use Rattle.pth_queue.specs.Queues.{QueuesOf}
 use Rattle.pth_model.specs.declared.progress.Progress.{Progress}
 use Rattle.pth_model.specs.State.{Control, Scheduler, Given, start}
@@ -16,6 +18,10 @@ pub record ThreadsBySlot (S : Type 0) : Type 0 where
   pub records : ThreadsOf
   pub queues : QueuesOf
   pub progress : List (Option (Progress S))
+
+-- the record of a thread, none where it is not in the system
+abbrev pub entry_in : {S : Type 0} → ThreadsBySlot S → ℕ → Option Entry
+entry_in x t = seen None (slot_of x.records) (entry_at x.records) t
 
 pub record WorldOf (P S H : Type 0) : Type 0 where
   pub program : P

@@ -2,24 +2,27 @@
 
 ghost use Rattle.std.specs.Prelude.{◌≡◌, ◌≢◌, ℕ, Option, Some, None, IfSome, IfOk, option_map, option_copied};
 ghost use Rattle.std.specs.Borrow.{Lends, sem};
-ghost use Rattle.pth_queue.specs.contracts.queue_set.QueueSet.{the_row as queues_row};
 ghost use Rattle.pth_threads.specs.contracts.threads.Threads.{the_row as threads_row};
 ghost use Rattle.pth_threads.specs.Threads.{slot_of, tid_at};
+ghost use Rattle.pth_world.specs.contracts.counted_queues.CountedQueues.{the_row as queues_row};
 ghost use Rattle.pth_world.specs.contracts.progress_table.ProgressTable.{the_row as progress_row};
 ghost use Rattle.pth_world.specs.contracts.world.World.{the_row};
 ghost use Rattle.pth_model.specs.State.{Control};
-ghost use Rattle.pth_model.specs.Changes.{runs_now, prefers, moves_to, prio_of};
+ghost use Rattle.pth_model.specs.Changes.{runs_now, prefers, favours_new, moves_to, prio_of};
 ghost use Rattle.pth_model.specs.Ending.{other_than, stops_running};
 ghost use Rattle.pth_world.specs.Shows.{Shows};
 ghost use Rattle.pth_world.specs.Sound.{IsSound, IsPrio, IsKnown};
 ghost use Rattle.pth_world.specs.Whole.{Whole, WholeBut, IsAbout, IsRunner};
 
+mod counts;
 mod moves;
 mod places;
 mod progress;
 mod reads;
 mod records;
+mod vanishing;
 
+use crate::counted_queues::CountedQueues;
 use crate::progress_table::ProgressTable;
 use pth_base::ids::{Micros, Slot, Tid};
 use pth_base::program::Program;
@@ -36,7 +39,7 @@ pub struct World<P: Program> {
     program: P,
     shared: P::Shared,
     threads: Threads,
-    queues: QueueSet,
+    queues: CountedQueues,
     progress: ProgressTable<P::State>,
     running: Option<Tid>,
     preferred: Option<Tid>,
@@ -79,7 +82,7 @@ impl<P: Program> World<P> {
     pub fn queues(&self) -> &QueueSet
         ensures { result.now ≡ self.now.threads.queues }
     {
-        &self.queues
+        self.queues.queues()
     }
 
     fn progress(&self) -> &ProgressTable<P::State>
@@ -95,7 +98,7 @@ impl<P: Program> World<P> {
         &mut self.threads
     }
 
-    fn queues_mut(&mut self) -> &mut QueueSet
+    fn queues_mut(&mut self) -> &mut CountedQueues
         ensures* writes_back { sem 𝓛 (Lends (the_row P.row P.State.row P.Shared.row P.Program) queues_row self.entry result (λ x. record self.old { threads = record self.old.threads { queues = x } })) }
         ensures value { result.now ≡ self.old.threads.queues }
     {
@@ -188,6 +191,15 @@ impl<P: Program> World<P> {
         ensures { result ≡ self.now.scheduler.favour_new }
     {
         self.favour_new
+    }
+
+    /// Sets whether new threads are favoured from now on (`PTH_CTRL_FAVOURNEW`).
+    pub fn set_favour(&mut self, on: bool)
+        ensures same { self.new ≡ record self.old { scheduler = record self.old.scheduler { favour_new = on } } }
+        ensures shows { (k : Control P P.State P.Shared) → Shows self.old k → Shows self.new (favours_new on k) }
+        ensures whole { Whole self.old → Whole self.new }
+    {
+        self.favour_new = on;
     }
 
     /// The moment, in microseconds.

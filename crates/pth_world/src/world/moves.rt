@@ -1,6 +1,6 @@
 //! The moves of a thread between its states, each with its queue.
 
-ghost use Rattle.std.specs.Prelude.{◌≡◌, ◌≢◌, ◌+◌, ℕ, ℤ, pos, ◌≤ℤ◌, Bool, Option, Some, None, IfSome, min, false};
+ghost use Rattle.std.specs.Prelude.{◌≡◌, ◌≢◌, ◌+◌, ℕ, ℤ, pos, ◌≤ℤ◌, Bool, Option, Some, None, IfSome, min, true, false};
 ghost use Rattle.pth_base.specs.Limits.{last_count};
 ghost use Rattle.pth_base.specs.declared.thread.ThreadState.TheVariants as state;
 ghost use Rattle.pth_queue.specs.Queues.{IsRank, entered, without};
@@ -8,14 +8,16 @@ ghost use Rattle.pth_queue.specs.declared.queue.Queue.TheVariants as queue;
 ghost use Rattle.pth_threads.specs.Threads.{slot_of};
 ghost use Rattle.pth_threads.specs.declared.entry.Change.TheVariants as change;
 ghost use Rattle.pth_model.specs.State.{Control};
-ghost use Rattle.pth_model.specs.Changes.{runs_now, removes};
+ghost use Rattle.pth_model.specs.Changes.{runs_now, removes, enters, sets, leaves_queue, queue_for};
+ghost use Rattle.pth_model.specs.ThreadControl.{suspends, resumes};
 ghost use Rattle.pth_model.specs.Ending.{is_dead_with, leaves, other_than, stops_running};
 ghost use Rattle.pth_model.specs.Pass.{is_ready_at};
 ghost use Rattle.pth_model.specs.Part.{is_put_back, is_put_waiting, runs};
 ghost use Rattle.pth_world.specs.Ranks.{greatest_return, KeepsRanks};
 ghost use Rattle.pth_world.specs.Shows.{Shows};
-ghost use Rattle.pth_world.specs.Sound.{IsPrio, IsKnown};
-ghost use Rattle.pth_world.specs.Whole.{Whole, IsIn, IsBeforeReady};
+ghost use Rattle.pth_world.specs.Sound.{IsSound, IsPrio, IsKnown};
+ghost use Rattle.pth_world.specs.Whole.{Whole, IsIn, IsBeforeReady, CanSuspend, MayStandIn, WaitsToRun};
+ghost use Rattle.pth_world.specs.World.{entry_in};
 ghost use Rattle.pth_world.specs.Touches.{SameThreads, KeepsScheduler};
 
 use crate::world::World;
@@ -39,6 +41,7 @@ impl<P: Program> World<P> {
         ensures scheduler { KeepsScheduler self.old self.new }
         ensures queues { IfSome (slot_of self.old.threads.records t.0) (λ u. self.new.threads.queues ≡ entered queue.Ready rank u (without u self.old.threads.queues)) }
         ensures ranks { rank ≤ℤ pos greatest_return → KeepsRanks 0 self.old.threads self.new.threads }
+        ensures stays { (u : ℕ) → WaitsToRun self.old.threads u → WaitsToRun self.new.threads u }
     {
         self.take_out(t);
         self.put_ready(t, rank);
@@ -77,6 +80,7 @@ impl<P: Program> World<P> {
         ensures threads { SameThreads self.old.threads self.new.threads }
         ensures queues { IfSome (slot_of self.old.threads.records t.0) (λ u. (prio : ℤ) × IsPrio prio × (self.new.threads.queues ≡ entered queue.Ready prio u self.old.threads.queues)) }
         ensures ranks { KeepsRanks 0 self.old.threads self.new.threads }
+        ensures stays { (u : ℕ) → WaitsToRun self.old.threads u → WaitsToRun self.new.threads u }
         ensures same { self.new ≡ record self.old { threads = self.new.threads; scheduler = record self.old.scheduler { running = None } } }
     {
         let prio = self.prio(t);
@@ -93,10 +97,89 @@ impl<P: Program> World<P> {
         ensures threads { SameThreads self.old.threads self.new.threads }
         ensures queues { IfSome (slot_of self.old.threads.records t.0) (λ u. (prio : ℤ) × IsPrio prio × (self.new.threads.queues ≡ entered queue.Waiting prio u self.old.threads.queues)) }
         ensures ranks { KeepsRanks 0 self.old.threads self.new.threads }
+        ensures stays { (u : ℕ) → WaitsToRun self.old.threads u → WaitsToRun self.new.threads u }
         ensures same { self.new ≡ record self.old { threads = self.new.threads; scheduler = record self.old.scheduler { running = None } } }
     {
         self.set_running(None);
         self.put_waiting(t);
+    }
+
+    // A thread leaves its queue for another, at rank 0, and is suspended from now on, or no longer.
+    fn move_to(&mut self, t: Tid, suspended: bool, q: Queue)
+        requires whole { Whole self.old }
+        requires known { IsKnown self.old.threads t.0 }
+        requires may { IfSome (entry_in self.old.threads t.0) (λ e. MayStandIn q suspended e.state) }
+        ensures shows { (k : Control P P.State P.Shared) → Shows self.old k → Shows self.new (enters t.0 q (pos 0) false (sets t.0 (change.Suspended suspended) (leaves_queue t.0 k))) }
+        ensures whole { Whole self.new }
+        ensures made { self.new.threads.records.made ≡ self.old.threads.records.made }
+        ensures ranks { KeepsRanks 1 self.old.threads self.new.threads }
+        ensures same { self.new ≡ record self.old { threads = self.new.threads } }
+    {
+        self.take_out(t);
+        self.change(t, Change::Suspended(suspended));
+        self.put_in(t, q, 0);
+    }
+
+    /// A thread that is new, ready or waits stands among the suspended ones, at rank 0, and keeps its state (`pth_suspend`).
+    pub fn suspend(&mut self, t: Tid)
+        requires whole { Whole self.old }
+        requires known { IsKnown self.old.threads t.0 }
+        requires can { IfSome (entry_in self.old.threads t.0) (λ e. CanSuspend e.state) }
+        ensures shows { (k : Control P P.State P.Shared) → Shows self.old k → Shows self.new (suspends t.0 k) }
+        ensures whole { Whole self.new }
+        ensures made { self.new.threads.records.made ≡ self.old.threads.records.made }
+        ensures ranks { KeepsRanks 1 self.old.threads self.new.threads }
+        ensures same { self.new ≡ record self.old { threads = self.new.threads } }
+    {
+        self.move_to(t, true, Queue::Suspended);
+    }
+
+    // The queue of a thread's state.
+    fn queue_of_state(&self, t: Tid) -> Queue
+        requires sound { IsSound self.now.threads }
+        requires known { IsKnown self.now.threads t.0 }
+        requires can { IfSome (entry_in self.now.threads t.0) (λ e. CanSuspend e.state) }
+        ensures { IfSome (entry_in self.now.threads t.0) (λ e. Some result ≡ queue_for e.state) }
+    {
+        match self.entry(t) {
+            Some(entry) => match entry.state {
+                ThreadState::New => Queue::New,
+                ThreadState::Ready => Queue::Ready,
+                ThreadState::Waiting => Queue::Waiting,
+                ThreadState::Running => unreachable!(),
+                ThreadState::Dead => unreachable!(),
+            },
+            None => unreachable!(),
+        }
+    }
+
+    /// A suspended thread stands in the queue of its state again, at rank 0 (`pth_resume`).
+    pub fn resume(&mut self, t: Tid)
+        requires whole { Whole self.old }
+        requires known { IsKnown self.old.threads t.0 }
+        requires suspended { IfSome (entry_in self.old.threads t.0) (λ e. e.suspended ≡ true) }
+        ensures shows { (k : Control P P.State P.Shared) → Shows self.old k → Shows self.new (resumes t.0 k) }
+        ensures whole { Whole self.new }
+        ensures made { self.new.threads.records.made ≡ self.old.threads.records.made }
+        ensures ranks { KeepsRanks 1 self.old.threads self.new.threads }
+        ensures same { self.new ≡ record self.old { threads = self.new.threads } }
+    {
+        let q = self.queue_of_state(t);
+        self.move_to(t, false, q);
+    }
+
+    /// A thread that does not run is in the system no longer, as one that was joined (`pth_join`).
+    pub fn remove(&mut self, t: Tid)
+        requires whole { Whole self.old }
+        requires known { IsKnown self.old.threads t.0 }
+        requires rests { self.old.scheduler.running ≢ Some t.0 }
+        ensures shows { (k : Control P P.State P.Shared) → Shows self.old k → Shows self.new (removes t.0 k) }
+        ensures whole { Whole self.new }
+        ensures made { self.new.threads.records.made ≡ self.old.threads.records.made }
+        ensures ranks { KeepsRanks 0 self.old.threads self.new.threads }
+        ensures same { self.new ≡ record self.old { threads = self.new.threads } }
+    {
+        self.drop_thread(t);
     }
 
     // A thread is dead, and keeps a value until it is joined.

@@ -9,7 +9,7 @@ ghost use Rattle.pth_model.specs.State.{Control};
 ghost use Rattle.pth_model.specs.Changes.{enters, leaves_queue, raises_ready};
 ghost use Rattle.pth_world.specs.Shows.{Shows};
 ghost use Rattle.pth_world.specs.Sound.{IsSound, IsKnown};
-ghost use Rattle.pth_world.specs.Whole.{Whole, WholeBut, view};
+ghost use Rattle.pth_world.specs.Whole.{Whole, WholeBut, WaitsToRun, view};
 ghost use Rattle.pth_world.specs.Touches.{Touches, places};
 
 use crate::world::World;
@@ -62,7 +62,9 @@ impl<P: Program> World<P> {
         ensures shows { (k : Control P P.State P.Shared) → Shows self.old k → Shows self.new (raises_ready k) }
         ensures sound { IsSound self.new.threads }
         ensures views { (u : ℕ) → view self.new.threads u ≡ view self.old.threads u }
+        ensures but { (t : ℕ) → WholeBut self.old t → WholeBut self.new t }
         ensures whole { Whole self.old → Whole self.new }
+        ensures stays { (u : ℕ) → WaitsToRun self.old.threads u → WaitsToRun self.new.threads u }
         ensures same { self.new ≡ record self.old { threads = record self.old.threads { queues = with_rows queue.Ready (increase self.old.threads.queues.ready) self.old.threads.queues } } }
     {
         self.queues_mut().increase(Queue::Ready);

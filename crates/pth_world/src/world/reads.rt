@@ -10,7 +10,8 @@ ghost use Rattle.pth_model.specs.State.{Control, queue};
 ghost use Rattle.pth_model.specs.Changes.{holders, is_empty};
 ghost use Rattle.pth_model.specs.Part.{rank_by};
 ghost use Rattle.pth_model.specs.ThreadEnds.{only, is_alone};
-ghost use Rattle.pth_world.specs.World.{number_of};
+ghost use Rattle.pth_model.specs.Operands.{named};
+ghost use Rattle.pth_world.specs.World.{number_of, entry_in};
 ghost use Rattle.pth_world.specs.Walks.{behind};
 ghost use Rattle.pth_world.specs.Shows.{Shows};
 ghost use Rattle.pth_world.specs.Sound.{IsSound, IsKnown, IsPrio, IsCancel};
@@ -27,6 +28,8 @@ impl<P: Program> World<P> {
     pub fn entry(&self, t: Tid) -> Option<&Entry>
         requires { IsSound self.now.threads }
         ensures entry { (k : Control P P.State P.Shared) → Shows self.now k → option_copied result ≡ k.threads.known t.0 }
+        ensures here { option_copied result ≡ entry_in self.now.threads t.0 }
+        ensures tid { IfSome result (λ e. e.now.tid.0 ≡ t.0) }
         ensures known { IsSome result → IsKnown self.now.threads t.0 }
         ensures some { IsKnown self.now.threads t.0 → IsSome result }
         ensures prio { IfSome result (λ e. IsPrio e.now.prio) }
@@ -36,6 +39,24 @@ impl<P: Program> World<P> {
             Some(slot) => Some(self.threads().get(slot)),
             None => None,
         }
+    }
+
+    /// The record of the thread that an operand names; none where it names no thread in the system.
+    pub fn named(&self, n: i64) -> Option<&Entry>
+        requires { IsSound self.now.threads }
+        ensures entry { (k : Control P P.State P.Shared) → Shows self.now k → option_copied result ≡ named k.threads.known n }
+        ensures here { IfSome result (λ e. Some e.now ≡ entry_in self.now.threads e.now.tid.0) }
+        ensures number { IfSome result (λ e. n ≡ pos e.now.tid.0) }
+        ensures known { IfSome result (λ e. IsKnown self.now.threads e.now.tid.0) }
+        ensures prio { IfSome result (λ e. IsPrio e.now.prio) }
+    {
+        if n < 0 {
+            return None;
+        }
+        if n > i64::from(self.threads().made()) {
+            return None;
+        }
+        self.entry(Tid(n as u32))
     }
 
     // The thread whose slot stands in a queue.

@@ -18,6 +18,7 @@ ghost use Rattle.pth_world.specs.Sound.{IsSound, IsKnown, IsPrio, IsCancel, Keep
 ghost use Rattle.pth_world.specs.Whole.{Whole, WholeBut, view};
 ghost use Rattle.pth_world.specs.Touches.{Touches, SameThreads, changes, places};
 
+use crate::counted_queues::CountedQueues;
 use crate::progress_table::ProgressTable;
 use crate::world::World;
 use pth_base::answer::Answer;
@@ -29,7 +30,6 @@ use pth_base::program::Program;
 use pth_base::thread::ThreadState;
 use pth_model::progress::Progress;
 use pth_queue::queue::Queue;
-use pth_queue::queue_set::QueueSet;
 use pth_threads::entry::{AddErr, Change, Entry, NewThread};
 use pth_threads::threads::Threads;
 use std::alloc::Global;
@@ -58,7 +58,7 @@ impl<P: Program> World<P> {
     {
         let shared = program.shared(alloc)?;
         let _some = program.bodies();
-        let mut queues = QueueSet::new(alloc);
+        let mut queues = CountedQueues::new(alloc);
         queues.reserve(MOST_THREADS)?;
         let progress = ProgressTable::new(alloc)?;
         let threads = Threads::new(alloc);
@@ -117,6 +117,7 @@ impl<P: Program> World<P> {
         ensures shows { (k : Control P P.State P.Shared) → Shows self.old k → Shows self.new (removes t.0 k) }
         ensures sound { IsSound self.new.threads }
         ensures others { (u : ℕ) → tid_at self.old.threads.records u ≢ t.0 → view self.new.threads u ≡ view self.old.threads u }
+        ensures but { self.old.scheduler.running ≢ Some t.0 → WholeBut self.old t.0 → WholeBut self.new t.0 }
         ensures threads { IfSome (slot_of self.old.threads.records t.0) (λ u. Removes self.old.threads.records self.new.threads.records u) }
         ensures queues { IfSome (slot_of self.old.threads.records t.0) (λ u. self.new.threads.queues ≡ without u self.old.threads.queues) }
         ensures same { self.new ≡ record self.old { threads = self.new.threads } }
@@ -192,6 +193,7 @@ impl<P: Program> World<P> {
         ensures shows { (k : Control P P.State P.Shared) (top : Bool) → Shows self.old k → Shows self.new (enters t.0 queue.Ready rank top (sets t.0 (change.State state.Ready) k)) }
         ensures sound { IsSound self.new.threads }
         ensures touches { Touches self.old.threads self.new.threads t.0 (λ v. places (Some queue.Ready) (changes (change.State state.Ready) v)) }
+        ensures but { WholeBut self.old t.0 → WholeBut self.new t.0 }
         ensures threads { SameThreads self.old.threads self.new.threads }
         ensures queues { IfSome (slot_of self.old.threads.records t.0) (λ u. self.new.threads.queues ≡ entered queue.Ready rank u self.old.threads.queues) }
         ensures same { self.new ≡ record self.old { threads = record self.old.threads { records = self.new.threads.records; queues = self.new.threads.queues } } }
@@ -208,6 +210,7 @@ impl<P: Program> World<P> {
         ensures shows { (k : Control P P.State P.Shared) → Shows self.old k → Shows self.new (is_put_waiting t.0 k) }
         ensures sound { IsSound self.new.threads }
         ensures touches { Touches self.old.threads self.new.threads t.0 (λ v. places (Some queue.Waiting) (changes (change.State state.Waiting) v)) }
+        ensures but { WholeBut self.old t.0 → WholeBut self.new t.0 }
         ensures threads { SameThreads self.old.threads self.new.threads }
         ensures queues { IfSome (slot_of self.old.threads.records t.0) (λ u. (prio : ℤ) × IsPrio prio × (self.new.threads.queues ≡ entered queue.Waiting prio u self.old.threads.queues)) }
         ensures same { self.new ≡ record self.old { threads = record self.old.threads { records = self.new.threads.records; queues = self.new.threads.queues } } }

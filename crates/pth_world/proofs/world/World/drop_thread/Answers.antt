@@ -1,4 +1,4 @@
-use Rattle.std.proofs.Common.{◌∙◌, ap}
+use Rattle.std.proofs.Common.{◌∙◌, ap, rules}
 use Rattle.pth_threads.specs.Threads.{slot_of}
 use Rattle.pth_model.specs.Changes.{leaves_queue, forgets}
 use Rattle.pth_world.specs.World.{WorldOf}
@@ -7,6 +7,7 @@ use Rattle.pth_world.proofs.Slots.{other_slot}
 use Rattle.pth_world.proofs.Showing.{of_threads, drop_shows}
 use Rattle.pth_world.proofs.Sound.{drop_sound}
 use Rattle.pth_world.proofs.Views.{drop_views}
+use Rattle.pth_world.proofs.Moves.{gone_but}
 use Rattle.pth_world.proofs.world.World.drop_thread.Goals as goal
 
 pub returns-clause-shows : goal.returns-clause-shows
@@ -35,3 +36,7 @@ returns-clause-others g c i apart =
     let gone = rw c.threads_mut.ensures.value at c.remove.ensures in
     let none = rw c.progress_mut.ensures.value at c.set.ensures.set in
     drop_views v.threads _ _ c.slot-slot.result.0 gone none i (other_slot c.args.self.now.threads c.args.t.0 c.slot-slot.result.0 c.requires.sound c.slot-slot.ensures.slot i apart) ∙ c.take_out.ensures.touches.others i apart
+
+pub returns-clause-but : goal.returns-clause-but
+returns-clause-but g c rests but =
+    gone_but c.args.self.now _ c.args.t.0 c.slot-slot.result.0 c.slot-slot.ensures.slot (returns-clause-others g c) search rules (returns-clause-sound g c) search rules rests but

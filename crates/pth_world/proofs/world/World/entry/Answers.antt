@@ -1,5 +1,7 @@
-use Rattle.std.proofs.Common.{◌∙◌, sym}
-use Rattle.pth_world.proofs.Showing.{entry_is, not_known}
+use Rattle.std.proofs.Common.{◌∙◌, None, sym}
+use Rattle.pth_base.proofs.Namings.{seen_at}
+use Rattle.pth_threads.specs.Threads.{slot_of, entry_at}
+use Rattle.pth_world.proofs.Showing.{entry_is, not_known, not_here}
 use Rattle.pth_world.proofs.world.World.entry.Goals as goal
 
 pub returns-in-Some-clause-entry : goal.returns-in-Some-clause-entry
@@ -13,3 +15,11 @@ returns-in-Some-clause-prio g c = (c.requires.attributes c.in-Some.slot.0 c.get.
 
 pub returns-in-Some-clause-cancel : goal.returns-in-Some-clause-cancel
 returns-in-Some-clause-cancel g c = (c.requires.attributes c.in-Some.slot.0 c.get.result.now (rw c.threads-in-Some.ensures at c.get.ensures.entry)).cancel
+
+pub returns-in-Some-clause-here : goal.returns-in-Some-clause-here
+returns-in-Some-clause-here g c =
+    let x = c.args.self.now.threads.records in
+    sym (seen_at None (slot_of x) (entry_at x) c.args.t.0 c.in-Some.slot.0 (rw c.threads.ensures at c.in-Some.ensures.slot) ∙ (rw c.threads-in-Some.ensures at c.get.ensures.entry))
+
+pub returns-in-None-clause-here : goal.returns-in-None-clause-here
+returns-in-None-clause-here g c = not_here c.args.self.now.threads c.args.t.0 (rw c.threads.ensures at c.in-None.ensures.slot)

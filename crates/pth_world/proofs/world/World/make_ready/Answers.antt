@@ -1,8 +1,9 @@
 use Rattle.std.proofs.Common.{ap, rules, SFits, w64, to_z-of_z}
 use Rattle.pth_model.specs.Pass.{is_ready_at}
 use Rattle.pth_world.specs.World.{WorldOf}
-use Rattle.pth_world.proofs.Moves.{make_ready_whole, queues_alone, left_nowhere}
+use Rattle.pth_world.proofs.Moves.{make_ready_whole, queues_alone, left_nowhere, same_twice, two_touches}
 use Rattle.pth_world.proofs.Ranks.{ranks_ready}
+use Rattle.pth_world.proofs.Runnable.{among_ready, stays_touched}
 use Rattle.pth_world.proofs.world.World.make_ready.Goals as goal
 
 pub put_ready-requires-clause-nowhere : goal.put_ready-requires-clause-nowhere
@@ -19,3 +20,10 @@ returns-clause-whole g c = make_ready_whole c.args.self.now c.take_out.new.self 
 
 pub returns-clause-ranks : goal.returns-clause-ranks
 returns-clause-ranks g c low = ranks_ready c.args.self.now.threads c.put_ready.new.self.threads c.args.t.0 c.requires.known c.args.rank low search rules
+
+pub returns-clause-stays : goal.returns-clause-stays
+returns-clause-stays g c =
+    let all = queues_alone _ _ c.take_out.ensures.same in
+    stays_touched c.args.self.now.threads c.put_ready.new.self.threads (same_twice _ _ _ all c.put_ready.ensures.threads).slots c.args.t.0 _ c.requires.whole.sound
+    (two_touches _ _ _ c.args.t.0 _ _ all c.take_out.ensures.touches c.put_ready.ensures.touches)
+    (λ i is a. among_ready)

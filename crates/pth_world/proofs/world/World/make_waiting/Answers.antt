@@ -1,9 +1,11 @@
 use Rattle.std.proofs.Common.{◌∙◌, ap, subst, None}
+use Rattle.pth_threads.specs.Threads.{slot_of}
 use Rattle.pth_model.specs.Changes.{sets, enters, runs_now}
 use Rattle.pth_model.specs.Part.{is_put_waiting}
 use Rattle.pth_world.specs.World.{WorldOf}
 use Rattle.pth_world.specs.Touches.{Touches}
 use Rattle.pth_world.proofs.Moves.{runner_nowhere, waits_whole}
+use Rattle.pth_world.proofs.Runnable.{runner_apart, stays_touched}
 use Rattle.pth_world.proofs.world.World.make_waiting.Goals as goal
 
 pub put_waiting-requires-clause-nowhere : goal.put_waiting-requires-clause-nowhere
@@ -19,3 +21,10 @@ returns-clause-whole g c =
     let threads = ap (λ (k : WorldOf _ _ _). k.threads) c.set_running.ensures.same in
     waits_whole c.args.self.now c.put_waiting.new.self c.args.t.0 c.requires.whole c.requires.runs rests c.put_waiting.ensures.sound
     (subst (λ x. Touches x c.put_waiting.new.self.threads c.args.t.0 _) threads c.put_waiting.ensures.touches)
+
+pub returns-clause-stays : goal.returns-clause-stays
+returns-clause-stays g c =
+    let threads = ap (λ (k : WorldOf _ _ _). k.threads) c.set_running.ensures.same in
+    stays_touched c.args.self.now.threads c.put_waiting.new.self.threads (c.put_waiting.ensures.threads.slots ∙ ap (λ k. slot_of k.records) threads) c.args.t.0 _ c.requires.whole.sound
+    (subst (λ x. Touches x c.put_waiting.new.self.threads c.args.t.0 _) threads c.put_waiting.ensures.touches)
+    (λ i is a. runner_apart c.args.self.now c.args.t.0 i _ c.requires.whole c.requires.runs is a)

@@ -1,4 +1,5 @@
 use Rattle.std.proofs.Common.{◌∙◌, ap, subst, None, false, rules, SFits, w64, to_z-of_z}
+use Rattle.pth_threads.specs.Threads.{slot_of}
 use Rattle.pth_model.specs.Changes.{sets, enters, runs_now}
 use Rattle.pth_model.specs.Part.{is_put_back}
 use Rattle.pth_world.specs.World.{WorldOf}
@@ -6,6 +7,7 @@ use Rattle.pth_world.specs.Touches.{Touches}
 use Rattle.pth_world.proofs.Slots.{prio_fits}
 use Rattle.pth_world.proofs.Moves.{runner_nowhere, runner_known, back_whole}
 use Rattle.pth_world.proofs.Ranks.{ranks_back}
+use Rattle.pth_world.proofs.Runnable.{among_ready, stays_touched}
 use Rattle.pth_world.proofs.world.World.put_back.Goals as goal
 
 pub put_ready-requires-clause-nowhere : goal.put_ready-requires-clause-nowhere
@@ -26,3 +28,10 @@ returns-clause-whole g c =
 
 pub returns-clause-ranks : goal.returns-clause-ranks
 returns-clause-ranks g c = ranks_back c.args.self.now.threads c.put_ready.new.self.threads c.args.t.0 (runner_known c.args.self.now c.args.t.0 c.requires.whole c.requires.runs) search rules
+
+pub returns-clause-stays : goal.returns-clause-stays
+returns-clause-stays g c =
+    let threads = ap (λ (k : WorldOf _ _ _). k.threads) c.set_running.ensures.same in
+    stays_touched c.args.self.now.threads c.put_ready.new.self.threads (c.put_ready.ensures.threads.slots ∙ ap (λ k. slot_of k.records) threads) c.args.t.0 _ c.requires.whole.sound
+    (subst (λ x. Touches x c.put_ready.new.self.threads c.args.t.0 _) threads c.put_ready.ensures.touches)
+    (λ i is a. among_ready)

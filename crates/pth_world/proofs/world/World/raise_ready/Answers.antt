@@ -1,9 +1,10 @@
-use Rattle.std.proofs.Common.{subst, sym}
+use Rattle.std.proofs.Common.{refl, subst, sym}
 use Rattle.pth_model.specs.Changes.{raises_ready}
 use Rattle.pth_world.specs.Whole.{View, Fits}
 use Rattle.pth_world.proofs.Showing.{of_threads, raise_shows}
 use Rattle.pth_world.proofs.Sound.{raise_sound}
 use Rattle.pth_world.proofs.Views.{raise_views}
+use Rattle.pth_world.proofs.Runnable.{stays_seen}
 use Rattle.pth_world.proofs.world.World.raise_ready.Goals as goal
 
 pub returns-clause-shows : goal.returns-clause-shows
@@ -22,3 +23,13 @@ returns-clause-whole g c whole = record {
   fits = λ u. subst (λ (k : View). Fits c.args.self.now.scheduler.running k) (sym (returns-clause-views g c u)) (whole.fits u);
   runner = whole.runner;
 }
+
+pub returns-clause-but : goal.returns-clause-but
+returns-clause-but g c t but = record {
+  sound = returns-clause-sound g c;
+  fits = λ u apart. subst (λ (k : View). Fits c.args.self.now.scheduler.running k) (sym (returns-clause-views g c u)) (but.fits u apart);
+  runner = but.runner;
+}
+
+pub returns-clause-stays : goal.returns-clause-stays
+returns-clause-stays g c = stays_seen c.args.self.now.threads _ refl (returns-clause-views g c)

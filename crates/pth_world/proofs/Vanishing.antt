@@ -1,0 +1,213 @@
+-- Threads vanish, until one is left.
+use Rattle.std.proofs.Common.{◌≡◌, ◌≢◌, ℕ, ◌<◌, ◌==◌, Bool, true, false, if◌then◌else◌, List, [], map, length, IfSome, Option, Some, None, refl, sym, ◌∙◌, ap, ap₂, subst, arith}
+use mathlib.Core.Path.{fun_ext}
+use Rattle.pth_base.specs.Table.{put}
+use Rattle.pth_base.specs.declared.thread.ThreadState.{ThreadState}
+use Rattle.pth_base.specs.declared.thread.ThreadState.TheVariants as state
+use Rattle.pth_base.proofs.Tables.{put_other, same_means, same_fails, not_same}
+use Rattle.pth_queue.specs.declared.queue.Queue.{Queue}
+use Rattle.pth_queue.specs.declared.queue.Queue.TheVariants as queue
+use Rattle.pth_queue.specs.declared.ranked.Ranked.{Ranked}
+use Rattle.pth_queue.specs.Ranking.{holds, delete, named_row}
+use Rattle.pth_queue.specs.Queues.{QueuesOf, rows_of, queue_of, without}
+use Rattle.pth_queue.proofs.Counts.{count-present, length-delete}
+use Rattle.pth_queue.proofs.Sets.{holds-queue_of}
+use Rattle.pth_threads.specs.Threads.{slot_of, tid_at, tid_of, entry_at, Removes}
+use Rattle.pth_threads.specs.declared.entry.Entry.{Entry}
+use Rattle.pth_model.specs.declared.blocked.Blocked.{Blocked}
+use Rattle.pth_model.specs.declared.progress.Progress.{Progress}
+use Rattle.pth_model.specs.Standing.{shown, order}
+use Rattle.pth_model.specs.State.{Control}
+use Rattle.pth_model.specs.Changes.{leaves_queue, forgets, removes}
+use Rattle.pth_model.specs.Ending.{other_than}
+use Rattle.pth_model.specs.LibraryControl.{only_at, vanish_all_but}
+use Rattle.pth_model.proofs.Queues.{rows_without}
+use Rattle.pth_world.specs.World.{WorldOf}
+use Rattle.pth_world.specs.Shows.{Shows}
+use Rattle.pth_world.specs.Sound.{IsSound, IsKnown}
+use Rattle.pth_world.specs.Whole.{view, FitsEntry, Whole, IsIn, place_for}
+use Rattle.pth_world.specs.Vanishing.{ShowsRest, Vanishing}
+use Rattle.pth_world.proofs.Slots.{name_is, used, some_is}
+use Rattle.pth_world.proofs.Places.{queue-nowhere}
+use Rattle.pth_world.proofs.Showing.{not_known, no_progress}
+use Rattle.pth_world.proofs.Moves.{known_slot, is_in, runner_runs, gone_whole}
+use Rattle.pth_world.proofs.Ranks.{ranks_left, ranks_none, ranks_then}
+
+-- ---- what is left at one thread
+
+only_by : {A : Type 0} (t u i : ℕ) (f : ℕ → Option A) (x : Option A) (b : Bool) → u ≢ t → (i == t) ≡ b → (if b then put f u x i else None) ≡ (if b then f i else None)
+only_by t u i f x true apart is = put_other f u x i (λ same. apart (sym same ∙ same_means i t is))
+only_by t u i f x false apart is = refl
+
+-- a change at another thread is not seen
+only-put : {A : Type 0} (t u : ℕ) (f : ℕ → Option A) (x : Option A) → u ≢ t → only_at t (put f u x) ≡ only_at t f
+only-put t u f x apart = fun_ext (λ i. only_by t u i f x (i == t) apart refl)
+
+alone_by : {A : Type 0} (t i : ℕ) (f : ℕ → Option A) (b : Bool) → (i == t) ≡ b → (i ≢ t → f i ≡ None) → (if b then f i else None) ≡ f i
+alone_by t i f true is none = refl
+alone_by t i f false is none = sym (none (same_fails i t is))
+
+-- a table that has nothing at the others
+only-alone : {A : Type 0} (t : ℕ) (f : ℕ → Option A) → ((i : ℕ) → i ≢ t → f i ≡ None) → only_at t f ≡ f
+only-alone t f none = fun_ext (λ i. alone_by t i f (i == t) refl (none i))
+
+-- another thread that is gone would have vanished
+vanish-removed : {P S H : Type 0} (t u : ℕ) (k : Control P S H) → u ≢ t → vanish_all_but t (removes u k) ≡ vanish_all_but t k
+unfolding vanish_all_but leaves_queue forgets
+vanish-removed {S = S} t u k apart =
+    ap₂ (λ (known : ℕ → Option Entry) (progress : ℕ → Option (Progress S)). record k { threads = record k.threads { known = known; progress = progress; standing = λ q. [] } })
+    (only-put t u k.threads.known None apart) (only-put t u k.threads.progress None apart)
+
+-- ---- one thread of a queue
+
+stays : (u : ℕ) (r : Option ℕ) → ((t : ℕ) → r ≡ Some t → u ≢ t) → other_than u r ≡ r
+stays u None apart = refl
+stays u (Some t) apart = rw (not_same t u (λ same. apart t refl (sym same))) refl
+
+-- a queue with one row less is shorter, and an empty one stays empty
+shorter : (q : Queue) (s : ℕ) (x y : QueuesOf) → queue_of s x ≡ Some q → y ≡ without s x → length (rows_of q y) < length (rows_of q x)
+shorter q s x y stands is =
+    let n : length (rows_of q y) ≡ length (delete s (rows_of q x)) = ap (λ (k : QueuesOf). length (rows_of q k)) is ∙ ap (λ (l : List Ranked). length l) (rows_without q s x) in
+    omega (arith, length-delete s (rows_of q x), count-present s (rows_of q x) (holds-queue_of q s x stands))
+
+still_empty : (q : Queue) (s : ℕ) (x y : QueuesOf) → y ≡ without s x → rows_of q x ≡ [] → rows_of q y ≡ []
+still_empty q s x y is none = ap (rows_of q) is ∙ rows_without q s x ∙ ap (delete s) none
+
+module _ {P S H : Type 0} (w v : WorldOf P S H) (u : ℕ) (q : Queue) (whole : Whole w) (known : IsKnown w.threads u) (stands : IsIn q w.threads u)
+    (queues : IfSome (slot_of w.threads.records u) (λ s. v.threads.queues ≡ without s w.threads.queues)) where
+  slot : (s : ℕ) × (slot_of w.threads.records u ≡ Some s)
+  slot = known_slot (slot_of w.threads.records u) known
+
+  place : queue_of slot.0 w.threads.queues ≡ Some q
+  place = is_in w q u slot.0 stands slot.1
+
+  queues_are : v.threads.queues ≡ without slot.0 w.threads.queues
+  queues_are = subst (λ (o : Option ℕ). IfSome o (λ s. v.threads.queues ≡ without s w.threads.queues)) slot.1 queues
+
+  -- its queue is shorter
+  pub vanish_less : length (rows_of q v.threads.queues) < length (rows_of q w.threads.queues)
+  vanish_less = shorter q slot.0 w.threads.queues v.threads.queues place queues_are
+
+  -- it does not run
+  other : (t : ℕ) → w.scheduler.running ≡ Some t → u ≢ t
+  other t is same =
+      let nowhere : queue_of slot.0 w.threads.queues ≡ None = (runner_runs w u slot.0 whole (is ∙ ap Some (sym same)) slot.1).nowhere in
+      let both : Some q ≡ None = sym place ∙ nowhere in
+      cc
+
+  module _ (sound : IsSound v.threads) (others : (i : ℕ) → tid_at w.threads.records i ≢ u → view v.threads i ≡ view w.threads i) (threads : IfSome (slot_of w.threads.records u) (λ s. Removes w.threads.records v.threads.records s)) (shows : (k : Control P S H) → Shows w k → Shows v (removes u k)) (same : v ≡ record w { threads = v.threads }) where
+    gone : Removes w.threads.records v.threads.records slot.0
+    gone = subst (λ (o : Option ℕ). IfSome o (λ s. Removes w.threads.records v.threads.records s)) slot.1 threads
+
+    runs : v.scheduler.running ≡ other_than u w.scheduler.running
+    runs = ap (λ (k : WorldOf P S H). k.scheduler.running) same ∙ sym (stays u w.scheduler.running other)
+
+    -- a thread of a queue vanishes
+    pub vanish_one : Vanishing w v
+    vanish_one = record {
+      whole = gone_whole w v u slot.0 whole slot.1 runs others gone sound;
+      shows = λ t is k sh. record { rest = removes u k; shows = shows k sh; same = vanish-removed t u k (other t is) };
+      made = gone.made;
+      ranks = ranks_left w.threads v.threads u known queues;
+      empty = λ p none. still_empty p slot.0 w.threads.queues v.threads.queues queues_are none;
+      same = same;
+    }
+
+-- ---- one after another
+
+module _ {P S H : Type 0} where
+  -- nobody vanishes
+  pub vanish_none : (w : WorldOf P S H) → Whole w → Vanishing w w
+  vanish_none w whole = record {
+    whole = whole;
+    shows = λ t is k sh. record { rest = k; shows = sh; same = refl };
+    made = refl;
+    ranks = ranks_none w.threads;
+    empty = λ q none. none;
+    same = refl;
+  }
+
+  pub vanish_then : (u w v : WorldOf P S H) → Vanishing u w → Vanishing w v → Vanishing u v
+  vanish_then u w v a b = record {
+    whole = b.whole;
+    shows = λ t is k sh. (
+        let x : ShowsRest t w k = a.shows t is k sh in
+        let y : ShowsRest t v x.rest = b.shows t (ap (λ (z : WorldOf P S H). z.scheduler.running) a.same ∙ is) x.rest x.shows in
+        record { rest = y.rest; shows = y.shows; same = y.same ∙ x.same });
+    made = b.made ∙ a.made;
+    ranks = ranks_then 0 0 u.threads w.threads v.threads a.ranks b.ranks;
+    empty = λ q none. b.empty q (a.empty q none);
+    same = b.same ∙ ap (λ (z : WorldOf P S H). record z { threads = v.threads }) a.same;
+  }
+
+-- ---- one is left
+
+place_none : (s : ThreadState) (suspended : Bool) → place_for s suspended ≡ None → s ≡ state.Running
+place_none s true h = absurd (cc h)
+place_none state.Running false h = refl
+place_none state.New false h = absurd (cc h)
+place_none state.Ready false h = absurd (cc h)
+place_none state.Waiting false h = absurd (cc h)
+place_none state.Dead false h = absurd (cc h)
+
+-- who stands nowhere runs
+nobody_by : (r : Option ℕ) (t i : ℕ) (o : Option Entry) (p : Option Queue) (b : Option Blocked) → r ≡ Some t → i ≢ 0 → i ≢ t → tid_of o ≡ i → p ≡ None → FitsEntry r o p b → ⊥
+nobody_by r t i None p b is some apart named none f = some (sym named)
+nobody_by r t i (Some e) p b is some apart named none f =
+    let runs : r ≡ Some e.tid.0 = f.named (place_none e.state e.suspended (sym f.placed ∙ none)) in
+    apart (sym named ∙ some_is (sym runs ∙ is))
+
+module _ {P S H : Type 0} (w : WorldOf P S H) (t : ℕ) (whole : Whole w) (is : w.scheduler.running ≡ Some t) (none : (q : Queue) → rows_of q w.threads.queues ≡ []) where
+  nowhere : (s : ℕ) → queue_of s w.threads.queues ≡ None
+  nowhere s = queue-nowhere s w.threads.queues (λ q. ap (holds s) (none q))
+
+  nobody_at : (i s : ℕ) → i ≢ t → slot_of w.threads.records i ≡ Some s → ⊥
+  unfolding tid_at
+  nobody_at i s apart e =
+      nobody_by w.scheduler.running t i (entry_at w.threads.records s) (view w.threads s).place (view w.threads s).blocked is
+      (λ zero. used w.threads i s whole.sound e (name_is w.threads i s whole.sound e ∙ zero)) apart (name_is w.threads i s whole.sound e) (nowhere s) (whole.fits s)
+
+  nobody_by_slot : (i : ℕ) (o : Option ℕ) → i ≢ t → slot_of w.threads.records i ≡ o → o ≡ None
+  nobody_by_slot i None apart e = refl
+  nobody_by_slot i (Some s) apart e = absurd (nobody_at i s apart e)
+
+  -- nobody else is in the system
+  nobody : (i : ℕ) → i ≢ t → slot_of w.threads.records i ≡ None
+  nobody i apart = nobody_by_slot i (slot_of w.threads.records i) apart refl
+
+  -- so nothing vanishes
+  vanish_rest : (k : Control P S H) → Shows w k → Shows w (vanish_all_but t k)
+  unfolding vanish_all_but shown order
+  vanish_rest k sh = record {
+    program = sh.program;
+    shared = sh.shared;
+    threads = record {
+      made = sh.threads.made;
+      known = only-alone t k.threads.known (λ i apart. sym (not_known w.threads k i (nobody i apart) sh.threads)) ∙ sh.threads.known;
+      progress = only-alone t k.threads.progress (λ i apart. sym (no_progress w.threads k i (nobody i apart) sh.threads)) ∙ sh.threads.progress;
+      standing = λ q. sym (ap (map (named_row (tid_at w.threads.records))) (none q));
+    };
+    scheduler = sh.scheduler;
+  }
+
+-- the five queues, one after another
+module _ {P S H : Type 0} (u a b c d v : WorldOf P S H)
+    (new : Vanishing u a) (no_new : rows_of queue.New a.threads.queues ≡ [])
+    (ready : Vanishing a b) (no_ready : rows_of queue.Ready b.threads.queues ≡ [])
+    (waiting : Vanishing b c) (no_waiting : rows_of queue.Waiting c.threads.queues ≡ [])
+    (suspended : Vanishing c d) (no_suspended : rows_of queue.Suspended d.threads.queues ≡ [])
+    (dead : Vanishing d v) (no_dead : rows_of queue.Dead v.threads.queues ≡ []) where
+  pub vanish_all : Vanishing u v
+  vanish_all = vanish_then u d v (vanish_then u c d (vanish_then u b c (vanish_then u a b new ready) waiting) suspended) dead
+
+  none : (q : Queue) → rows_of q v.threads.queues ≡ []
+  none queue.New = dead.empty queue.New (suspended.empty queue.New (waiting.empty queue.New (ready.empty queue.New no_new)))
+  none queue.Ready = dead.empty queue.Ready (suspended.empty queue.Ready (waiting.empty queue.Ready no_ready))
+  none queue.Waiting = dead.empty queue.Waiting (suspended.empty queue.Waiting no_waiting)
+  none queue.Suspended = dead.empty queue.Suspended no_suspended
+  none queue.Dead = no_dead
+
+  pub vanish_shows : (t : ℕ) → u.scheduler.running ≡ Some t → (k : Control P S H) → Shows u k → Shows v (vanish_all_but t k)
+  vanish_shows t is k sh =
+      let x : ShowsRest t v k = vanish_all.shows t is k sh in
+      subst (λ (j : Control P S H). Shows v j) x.same (vanish_rest v t vanish_all.whole (ap (λ (z : WorldOf P S H). z.scheduler.running) vanish_all.same ∙ is) none x.rest x.shows)

@@ -1,0 +1,45 @@
+//! The threads vanish but one.
+
+ghost use Rattle.std.specs.Prelude.{◌≡◌, [], Some};
+ghost use Rattle.pth_queue.specs.Queues.{rows_of};
+ghost use Rattle.pth_model.specs.State.{Control};
+ghost use Rattle.pth_model.specs.LibraryControl.{vanish_all_but};
+ghost use Rattle.pth_world.specs.Ranks.{KeepsRanks};
+ghost use Rattle.pth_world.specs.Shows.{Shows};
+ghost use Rattle.pth_world.specs.Vanishing.{Vanishing};
+ghost use Rattle.pth_world.specs.Whole.{Whole};
+
+use crate::world::World;
+use pth_base::ids::Tid;
+use pth_base::program::Program;
+use pth_queue::queue::Queue;
+
+impl<P: Program> World<P> {
+    // Takes all threads of one queue out of the system.
+    fn empty_queue(&mut self, q: Queue)
+        requires { Whole self.old }
+        ensures vanishing { Vanishing self.old self.new }
+        ensures none { rows_of q self.new.threads.queues ≡ [] }
+    {
+        while let Some(t) = self.first(q) {
+            self.drop_thread(t);
+        }
+    }
+
+    /// Takes all threads but the one that runs out of the system (`pth_kill`).
+    pub fn vanish_all_but(&mut self, t: Tid)
+        requires whole { Whole self.old }
+        requires runs { self.old.scheduler.running ≡ Some t.0 }
+        ensures shows { (k : Control P P.State P.Shared) → Shows self.old k → Shows self.new (vanish_all_but t.0 k) }
+        ensures whole { Whole self.new }
+        ensures made { self.new.threads.records.made ≡ self.old.threads.records.made }
+        ensures ranks { KeepsRanks 0 self.old.threads self.new.threads }
+        ensures same { self.new ≡ record self.old { threads = self.new.threads } }
+    {
+        self.empty_queue(Queue::New);
+        self.empty_queue(Queue::Ready);
+        self.empty_queue(Queue::Waiting);
+        self.empty_queue(Queue::Suspended);
+        self.empty_queue(Queue::Dead);
+    }
+}
