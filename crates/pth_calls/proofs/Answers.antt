@@ -1,29 +1,56 @@
--- Calls that are answered lead where their rows say.
-use Rattle.std.proofs.Common.{◌≡◌, ℕ, refl, ◌∙◌, ap, Bool, true, false, List, [], ◌∷◌, ◌++◌, Result, Ok, Err, OnOk}
+-- Attempts at calls that are answered, and how they lead where their rows say.
+use Rattle.std.proofs.Common.{◌≡◌, refl, ◌∙◌, ap, sym, subst, Bool, true, false, List, [], ◌∷◌, ◌++◌, Result, Ok, Err, IfOk}
 use Rattle.pth_base.specs.declared.answer.Answer.{Answer}
-use Rattle.pth_base.specs.declared.call.Call.{Call}
+use Rattle.pth_base.specs.declared.answer.Answer.TheVariants.{Fail}
+use Rattle.pth_base.specs.declared.errno.Errno.{Errno}
 use Rattle.pth_base.specs.declared.mark.Mark.{Mark}
-use Rattle.pth_base.specs.declared.mark.Mark.TheVariants.{Answered}
 use Rattle.pth_model.specs.Resources.{no_resources, told}
 use Rattle.pth_model.specs.State.{State}
-use Rattle.pth_model.specs.Transition.{Change, changes, tells, tid, ◌and_then◌}
-use Rattle.pth_model.specs.Row.{unless_refused}
+use Rattle.pth_model.specs.Transition.{Transition, Piece, Change, changes, tells, ◌and_then◌}
+use Rattle.pth_model.specs.Row.{Attempt, effect_of, refuses, unless_refused}
+use Rattle.pth_model.specs.Verdict.{Says, refused}
 use Rattle.pth_world.specs.World.{WorldOf}
-use Rattle.pth_world.specs.Shows.{Shows}
-use Rattle.pth_world.specs.Leading.{Leads}
-use Rattle.pth_world.proofs.Telling.{IsQuiet}
+use Rattle.pth_world.specs.Shows.{Shows, StandsFor}
+use Rattle.pth_world.specs.Leading.{Leads, Changed, IsAnswered, IsQuiet}
 
--- what holds anyway holds where there is no error
-pub on_ok : {T E P : Type 0} (r : Result T E) → P → OnOk r P
-on_ok (Ok x) p = p
-on_ok (Err e) p = tt
+-- what holds of every answer
+pub if_ok_all : {T E : Type 0} (r : Result T E) (P : T → Type 0) → ((x : T) → P x) → IfOk r P
+if_ok_all (Ok x) P h = h x
+if_ok_all (Err e) P h = tt
 
-module _ {P S H : Type 0} (w : WorldOf P S H) (s : State P S H) (t : ℕ) (c : Call) (a : Answer) where
-  -- the control was changed unless the call was refused, and the answer changes nothing else
-  pub changed_leads : (b : Bool) (g : Change P S H) (old new : List Mark) → IsQuiet (Answered (tid t) c a) → s.resources ≡ no_resources → Shows w (unless_refused b (changes g) s).state.control → new ≡ old ++ Answered (tid t) c a ∷ [] → Leads w old new ((unless_refused b (changes g) and_then tells (Answered (tid t) c a)) s)
-  changed_leads true g old new quiet none sh appended = record { stands = record { control = sh; resources = ap (λ k. told k (Answered (tid t) c a)) none ∙ quiet }; tells = appended }
-  changed_leads false g old new quiet none sh appended = record { stands = record { control = sh; resources = ap (λ k. told k (Answered (tid t) c a)) none ∙ quiet }; tells = appended }
+module _ {P S H : Type 0} where
+  -- a refused attempt changes nothing
+  pub refused_changes : (w : WorldOf P S H) (s : State P S H) (a : Attempt P S H) → refuses a.verdict ≡ true → StandsFor w s → Changed w s (effect_of a s)
+  refused_changes w s a isnt st =
+      let Q : Bool → Type 0 = λ b. Changed w s (unless_refused b a.effect s) in
+      subst Q (sym isnt) (record { shows = st.control; resources = refl; silent = refl })
 
-pub changed_marks : {P S H : Type 0} (s : State P S H) (t : ℕ) (c : Call) (a : Answer) (b : Bool) (g : Change P S H) → ((unless_refused b (changes g) and_then tells (Answered (tid t) c a)) s).marks ≡ Answered (tid t) c a ∷ []
-changed_marks s t c a true g = refl
-changed_marks s t c a false g = refl
+  -- another one does what its effect says
+  pub passed_changes : (v : WorldOf P S H) (s : State P S H) (a : Attempt P S H) (g : Change P S H) → refuses a.verdict ≡ false → a.effect s ≡ changes g s → Shows v (g s.control) → Changed v s (effect_of a s)
+  passed_changes v s a g passes is sh =
+      let Q : Bool → Type 0 = λ b. Changed v s (unless_refused b a.effect s) in
+      let R : Transition P S H → Type 0 = λ x. Changed v s x in
+      subst Q (sym passes) (subst R (sym is) (record { shows = sh; resources = refl; silent = refl }))
+
+  pub refused_answered : (w : WorldOf P S H) (e : Errno) (attempt : State P S H → Attempt P S H) → ((s : State P S H) → StandsFor w s → (attempt s).verdict ≡ refused e) → IsAnswered w w (Fail e) attempt
+  refused_answered w e attempt is = record { verdict = is; effect = λ s st. refused_changes w s (attempt s) (ap refuses (is s st)) st }
+
+  pub passed_answered : (w v : WorldOf P S H) (a : Answer) (attempt : State P S H → Attempt P S H) (g : State P S H → Change P S H) → refuses (Says a) ≡ false → ((s : State P S H) → StandsFor w s → (attempt s).verdict ≡ Says a) → ((s : State P S H) → (attempt s).effect s ≡ changes (g s) s) → ((s : State P S H) → StandsFor w s → Shows v (g s s.control)) → IsAnswered w v a attempt
+  passed_answered w v a attempt g passes is does sh = record {
+    verdict = is;
+    effect = λ s st. passed_changes v s (attempt s) (g s) (ap refuses (is s st) ∙ passes) (does s) (sh s st);
+  }
+
+  -- a change, and then the mark of the answer
+  pub changed_leads : (v : WorldOf P S H) (s : State P S H) (a : Piece P S H) (m : Mark) (old new : List Mark) → IsQuiet m → s.resources ≡ no_resources → Changed v s (a s) → new ≡ old ++ m ∷ [] → Leads v old new ((a and_then tells m) s)
+  changed_leads v s a m old new quiet none ch appended = record {
+    stands = record { control = ch.shows; resources = ap (λ k. told k m) (ch.resources ∙ none) ∙ quiet };
+    tells = appended ∙ ap (λ (ms : List Mark). old ++ (ms ++ m ∷ [])) (sym ch.silent);
+  }
+
+  -- a change, and then a piece of which a call says where it leads
+  pub changed_then : (v x : WorldOf P S H) (s : State P S H) (a b : Piece P S H) (old new : List Mark) → s.resources ≡ no_resources → Changed v s (a s) → ((u : State P S H) → StandsFor v u → Leads x old new (b u)) → Leads x old new ((a and_then b) s)
+  changed_then v x s a b old new none ch leads =
+      let u = (a s).state in
+      let l = leads u (record { control = ch.shows; resources = ch.resources ∙ none }) in
+      record { stands = l.stands; tells = l.tells ∙ ap (λ (ms : List Mark). old ++ (ms ++ (b u).marks)) (sym ch.silent) }

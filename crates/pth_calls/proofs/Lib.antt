@@ -1,3 +1,4 @@
 pub mod Answers
+pub mod Plains
 pub mod Spawning
 pub mod Yielding

@@ -2,5 +2,7 @@
 #![tactic(auto)]
 
 pub mod answering;
+pub mod library_control;
+pub mod plain;
 pub mod script_lines;
 pub mod thread_control;

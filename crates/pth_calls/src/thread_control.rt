@@ -1,17 +1,25 @@
-//! Thread control: `pth_spawn`, `pth_yield`.
+//! Thread control: `pth_spawn`, `pth_self`, `pth_suspend`, `pth_resume`, `pth_yield`.
 
-ghost use Rattle.std.specs.Prelude.{◌≡◌, ◌<◌, ℕ, Some, IfOk, IfSome, OnOk, OnErr, option_map, pos, if◌then◌else◌, None};
+ghost use Rattle.std.specs.Prelude.{◌≡◌, ◌<◌, ◌==◌, ◌||◌, not, pos, true, false, Some, None, IfOk, IfSome, OnOk, OnErr, option_map, if◌then◌else◌};
 ghost use Rattle.pth_base.specs.Cut.{IsCut};
-ghost use Rattle.pth_base.specs.declared.call.Call.TheVariants.{Spawn, Yield};
+ghost use Rattle.pth_base.specs.Facilities.{facility_of};
+ghost use Rattle.pth_base.specs.declared.call.Call.TheVariants.{Yield};
+ghost use Rattle.pth_base.specs.declared.facility.Facility.TheVariants as facility;
+ghost use Rattle.pth_base.specs.declared.mark.Mark.TheVariants.{Answered};
+ghost use Rattle.pth_calls.specs.Plain.{is_plain};
 ghost use Rattle.pth_model.specs.Calls.{begun};
+ghost use Rattle.pth_model.specs.Living.{is_dead as is_dead_state};
 ghost use Rattle.pth_model.specs.Operands.{number as operand, is_below};
-ghost use Rattle.pth_model.specs.Row.{effect_of};
+ghost use Rattle.pth_model.specs.Rows.{row_of};
 ghost use Rattle.pth_model.specs.State.{State};
-ghost use Rattle.pth_model.specs.ThreadControl.{child_of as child_by_entry, spawn as spawn_row};
-ghost use Rattle.pth_model.specs.Verdict.{Says};
-ghost use Rattle.pth_world.specs.Frame.{Frame, runs_after};
-ghost use Rattle.pth_world.specs.Leading.{Leads};
-ghost use Rattle.pth_world.specs.Shows.{Shows, StandsFor};
+ghost use Rattle.pth_model.specs.ThreadControl.{child_of as child_by_entry, may_run as may_run_in, spawn as spawn_row, suspend as suspend_row, resume as resume_row, yield as yield_row};
+ghost use Rattle.pth_base.specs.declared.answer.Answer.TheVariants.{Int};
+ghost use Rattle.pth_base.specs.declared.errno.Errno.TheVariants.{EINVAL};
+ghost use Rattle.pth_model.specs.Row.{effect_of};
+ghost use Rattle.pth_model.specs.Verdict.{Yields, refused};
+ghost use Rattle.pth_world.specs.Frame.{Frame, runs_after, yields_after};
+ghost use Rattle.pth_world.specs.Leading.{Leads, Changed, IsAnswered, IsQuiet};
+ghost use Rattle.pth_world.specs.Shows.{StandsFor};
 ghost use Rattle.pth_world.specs.Whole.{Whole};
 
 use crate::answering::answer_call;
@@ -22,6 +30,7 @@ use pth_base::ids::{BodyId, Tid};
 use pth_base::marks::Marks;
 use pth_base::memory::OutOfMemory;
 use pth_base::program::Program;
+use pth_base::thread::ThreadState;
 use pth_model::next::Next;
 use pth_threads::entry::{AddErr, Entry, NewThread};
 use pth_world::world::World;
@@ -48,8 +57,8 @@ fn child_of(entry: &Entry) -> NewThread
     }
 }
 
-// Makes the new thread of a spawn, unless it is refused, and gives its answer.
-fn make_child<P: Program>(
+// pth_spawn: makes a thread that runs a body with an argument.
+fn spawn<P: Program>(
     w: &mut World<P>,
     t: Tid,
     number: i64,
@@ -59,9 +68,8 @@ fn make_child<P: Program>(
     requires whole { Whole w.old }
     requires runs { w.old.scheduler.running ≡ Some t.0 }
     requires few { w.old.threads.records.made < 2147483648 }
-    ensures verdict { IfOk result (λ a. (s : State P P.State P.Shared) → StandsFor w.old s → (spawn_row P.functions s t.0 number arg attr).begin.verdict ≡ Says a) }
-    ensures shows { OnOk result ((s : State P P.State P.Shared) → StandsFor w.old s → Shows w.new (effect_of (spawn_row P.functions s t.0 number arg attr).begin s).state.control) }
-    ensures frame { OnOk result (Frame w.old w.new 1 (Some t.0)) }
+    ensures answered { IfOk result (λ a. IsAnswered w.old w.new a (λ (s : State P P.State P.Shared). (spawn_row P.functions s t.0 number arg attr).begin)) }
+    ensures frame { OnOk result (Frame w.old w.new 1 (Some t.0) false) }
 {
     let Some(body) = body_of(w.bodies(), number) else {
         return Ok(Answer::Fail(Errno::EINVAL));
@@ -83,31 +91,133 @@ fn make_child<P: Program>(
     }
 }
 
-/// `pth_spawn`: makes a thread that runs a body with an argument. After an error the world may only be dropped.
-pub fn spawn<P: Program>(
+fn is_dead(state: ThreadState) -> bool
+    ensures { result ≡ is_dead_state state }
+{
+    match state {
+        ThreadState::Dead => true,
+        _ => false,
+    }
+}
+
+fn may_run(state: ThreadState) -> bool
+    ensures { result ≡ may_run_in state }
+{
+    match state {
+        ThreadState::New => true,
+        ThreadState::Ready => true,
+        _ => false,
+    }
+}
+
+// Whether thread t may not suspend a thread: itself, a dead one, or one that is suspended.
+fn is_not_to_suspend(it: &Entry, t: Tid) -> bool
+    ensures { result ≡ (it.now.tid.0 == t.0 || is_dead_state it.now.state || it.now.suspended) }
+{
+    it.tid.0 == t.0 || is_dead(it.state) || it.suspended
+}
+
+// pth_suspend: a thread that is new, ready or waiting stands among the suspended ones.
+fn suspend<P: Program>(w: &mut World<P>, t: Tid, n: i64) -> Answer
+    requires whole { Whole w.old }
+    requires runs { w.old.scheduler.running ≡ Some t.0 }
+    ensures answered { IsAnswered w.old w.new result (λ (s : State P P.State P.Shared). (suspend_row s t.0 n).begin) }
+    ensures frame { Frame w.old w.new 1 (Some t.0) false }
+{
+    let it = match w.named(n) {
+        Some(it) => it,
+        None => return Answer::Fail(Errno::ESRCH),
+    };
+    if is_not_to_suspend(it, t) {
+        return Answer::Fail(Errno::EPERM);
+    }
+    let other = it.tid;
+    w.suspend(other);
+    Answer::Int(1)
+}
+
+// Whether thread t may not resume a thread: itself, or one that is not suspended.
+fn is_not_to_resume(it: &Entry, t: Tid) -> bool
+    ensures { result ≡ (it.now.tid.0 == t.0 || not it.now.suspended) }
+{
+    it.tid.0 == t.0 || !it.suspended
+}
+
+// pth_resume: a suspended thread stands in the queue of its state again.
+fn resume<P: Program>(w: &mut World<P>, t: Tid, n: i64) -> Answer
+    requires whole { Whole w.old }
+    requires runs { w.old.scheduler.running ≡ Some t.0 }
+    ensures answered { IsAnswered w.old w.new result (λ (s : State P P.State P.Shared). (resume_row s t.0 n).begin) }
+    ensures frame { Frame w.old w.new 1 (Some t.0) false }
+{
+    let it = match w.named(n) {
+        Some(it) => it,
+        None => return Answer::Fail(Errno::ESRCH),
+    };
+    if is_not_to_resume(it, t) {
+        return Answer::Fail(Errno::EPERM);
+    }
+    let other = it.tid;
+    w.resume(other);
+    Answer::Int(1)
+}
+
+/// The answer of a call of thread control that neither blocks its thread nor gives up control, and that ends nothing.
+pub(crate) fn answer_threads<P: Program>(
     w: &mut World<P>,
     t: Tid,
     call: &Call,
-    number: i64,
-    arg: i64,
-    attr: i64,
-    marks: &mut Marks,
-) -> Result<Next, OutOfMemory>
+) -> Result<Answer, OutOfMemory>
     requires whole { Whole w.old }
     requires runs { w.old.scheduler.running ≡ Some t.0 }
     requires few { w.old.threads.records.made < 2147483648 }
-    requires call { call.now ≡ Spawn number arg attr }
-    ensures next { IfOk result (λ n. (s : State P P.State P.Shared) → StandsFor w.old s → n ≡ (begun P.functions t.0 call.now s).next) }
-    ensures ok { OnOk result ((s : State P P.State P.Shared) → StandsFor w.old s → Leads w.new marks.old marks.new (begun P.functions t.0 call.now s).told) }
-    ensures err { OnErr result ((s : State P P.State P.Shared) → StandsFor w.old s → IsCut marks.old marks.new (begun P.functions t.0 call.now s).told.marks) }
-    ensures frame { IfOk result (λ n. Frame w.old w.new 1 (runs_after t.0 n)) }
+    requires plain { is_plain call.now ≡ true }
+    requires threads { facility_of call.now ≡ Some facility.Threads }
+    ensures answered { IfOk result (λ a. IsAnswered w.old w.new a (λ (s : State P P.State P.Shared). (row_of P.functions s t.0 call.now).begin)) }
+    ensures quiet { IfOk result (λ a. IsQuiet (Answered t call.now a)) }
+    ensures frame { OnOk result (Frame w.old w.new 1 (Some t.0) false) }
 {
-    let answer = make_child(w, t, number, arg, attr)?;
-    let answer = answer_call(t, call, answer, marks)?;
-    Ok(Next::Done(answer))
+    match call {
+        Call::Spawn { b, v, a } => spawn(w, t, *b, *v, *a),
+        Call::SelfTid => Ok(Answer::Int(t.0 as i64)),
+        Call::Suspend(n) => Ok(suspend(w, t, *n)),
+        Call::Resume(n) => Ok(resume(w, t, *n)),
+        _ => Ok(Answer::Fail(Errno::EINVAL)),
+    }
 }
 
-/// `pth_yield`: gives up control. A yield to a thread is not built yet. After an error the world may only be dropped.
+// Whether a yield may not give control to a thread: one that is suspended, or neither new nor ready.
+fn is_not_to_run(it: &Entry) -> bool
+    ensures { result ≡ (it.now.suspended || not (may_run_in it.now.state)) }
+{
+    it.suspended || !may_run(it.state)
+}
+
+// Names the thread that is taken next, for 0 nobody. False, and nothing changes, where that thread does not wait to run.
+fn name_next<P: Program>(w: &mut World<P>, t: Tid, to: i64) -> bool
+    requires whole { Whole w.old }
+    requires runs { w.old.scheduler.running ≡ Some t.0 }
+    ensures verdict { (s : State P P.State P.Shared) → StandsFor w.old s → (yield_row s t.0 to).begin.verdict ≡ (if result then Yields (Int (pos 1)) else refused EINVAL) }
+    ensures effect { (s : State P P.State P.Shared) → StandsFor w.old s → Changed w.new s (effect_of (yield_row s t.0 to).begin s) }
+    ensures frame { Frame w.old w.new 0 (Some t.0) result }
+{
+    if to == 0 {
+        return true;
+    }
+    let it = match w.named(to) {
+        Some(it) => it,
+        None => return false,
+    };
+    if is_not_to_run(it) {
+        return false;
+    }
+    let other = it.tid;
+    w.prefer(Some(other));
+    true
+}
+
+/// `pth_yield`: gives up control, to a thread that is new or ready, or for 0 to nobody in particular. After an error the world
+/// may only be dropped.
 pub fn yield_to<P: Program>(
     w: &mut World<P>,
     t: Tid,
@@ -121,9 +231,9 @@ pub fn yield_to<P: Program>(
     ensures next { IfOk result (λ n. (s : State P P.State P.Shared) → StandsFor w.old s → n ≡ (begun P.functions t.0 call.now s).next) }
     ensures ok { OnOk result ((s : State P P.State P.Shared) → StandsFor w.old s → Leads w.new marks.old marks.new (begun P.functions t.0 call.now s).told) }
     ensures err { OnErr result ((s : State P P.State P.Shared) → StandsFor w.old s → IsCut marks.old marks.new (begun P.functions t.0 call.now s).told.marks) }
-    ensures frame { IfOk result (λ n. Frame w.old w.new 0 (runs_after t.0 n)) }
+    ensures frame { IfOk result (λ n. Frame w.old w.new 0 (runs_after t.0 n) (yields_after n)) }
 {
-    if to != 0 {
+    if !name_next(w, t, to) {
         let answer = answer_call(t, call, Answer::Fail(Errno::EINVAL), marks)?;
         return Ok(Next::Done(answer));
     }

@@ -12,7 +12,7 @@ use Rattle.pth_model.specs.Ending.{ending, leaves}
 use Rattle.pth_world.specs.World.{WorldOf}
 use Rattle.pth_world.specs.Shows.{Shows}
 use Rattle.pth_world.specs.Leading.{Leads}
-use Rattle.pth_world.proofs.Telling.{IsQuiet}
+use Rattle.pth_world.specs.Leading.{IsQuiet}
 
 -- a thread that has nothing leaves nothing
 quiet-ended : (t : ℕ) (v : ℤ) → IsQuiet (Ended (tid t) v)

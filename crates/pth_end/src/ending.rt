@@ -1,6 +1,6 @@
 //! How a thread ends.
 
-ghost use Rattle.std.specs.Prelude.{OnOk, OnErr};
+ghost use Rattle.std.specs.Prelude.{false, OnOk, OnErr};
 ghost use Rattle.pth_base.specs.Cut.{IsCut};
 ghost use Rattle.pth_model.specs.Ending.{ending, other_than};
 ghost use Rattle.pth_model.specs.State.{State};
@@ -29,7 +29,7 @@ pub fn end_thread<P: Program>(
     requires known { IsKnown w.old.threads t.0 }
     ensures ok { OnOk result ((s : State P P.State P.Shared) → StandsFor w.old s → Leads w.new marks.old marks.new (ending P.functions t.0 value s)) }
     ensures err { OnErr result ((s : State P P.State P.Shared) → StandsFor w.old s → IsCut marks.old marks.new (ending P.functions t.0 value s).marks) }
-    ensures frame { OnOk result (Frame w.old w.new 0 (other_than t.0 w.old.scheduler.running)) }
+    ensures frame { OnOk result (Frame w.old w.new 0 (other_than t.0 w.old.scheduler.running) false) }
 {
     w.unblock(t);
     w.leave(t, value);

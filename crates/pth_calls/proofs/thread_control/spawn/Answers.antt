@@ -1,22 +1,20 @@
-use Rattle.std.proofs.Common.{ap, rules, SFits, w64, to_z-of_z}
-use Rattle.pth_model.specs.declared.next.Next.TheVariants.{Done}
-use Rattle.pth_calls.proofs.Spawning.{spawn_begun, spawn_leads}
+use Rattle.std.proofs.Common.{◌≡◌, ◌∙◌, Some, refl, rules, SFits, w64, to_z-of_z}
+use Rattle.pth_model.specs.Changes.{entry_of, or_nobody}
+use Rattle.pth_model.specs.Operands.{number, is_below}
+use Rattle.pth_model.specs.ThreadControl.{spawn, spawns, child_of}
+use Rattle.pth_calls.proofs.Answers.{passed_answered}
+use Rattle.pth_calls.proofs.Spawning.{body_named, spawns_same}
 use Rattle.pth_calls.proofs.thread_control.spawn.Goals as goal
 
-pub returns-clause-next : goal.returns-clause-next
-returns-clause-next g c s st =
-    let b : SFits w64 c.args.number = search rules in
-    let v : SFits w64 c.args.arg = search rules in
-    let a : SFits w64 c.args.attr = search rules in
-    let verdict = (simp to_z-of_z at c.in_ok-answer.ensures.verdict) s st in
-    rw (c.requires.call, spawn_begun g.P.Program.functions s c.args.t.0 c.args.number c.args.arg c.args.attr _ verdict) (ap Done c.in_ok-answer-2.ensures.value)
-
-pub returns-clause-ok : goal.returns-clause-ok
-returns-clause-ok g c s st =
-    let b : SFits w64 c.args.number = search rules in
-    let v : SFits w64 c.args.arg = search rules in
-    let a : SFits w64 c.args.attr = search rules in
-    let verdict = (simp to_z-of_z at c.in_ok-answer.ensures.verdict) s st in
-    let shows = (simp to_z-of_z at c.in_ok-answer.ensures.shows) s st in
-    rw (c.requires.call, spawn_begun g.P.Program.functions s c.args.t.0 c.args.number c.args.arg c.args.attr _ verdict)
-    (spawn_leads g.P.Program.functions s c.args.t.0 c.args.number c.args.arg c.args.attr _ _ _ _ st.resources shows (rw c.requires.call at c.in_ok-answer-2.ensures.ok))
+pub returns-in-Ok-clause-answered : goal.returns-in-Ok-clause-answered
+returns-in-Ok-clause-answered g c =
+    let f : SFits w64 c.args.arg = search rules in
+    let p = g.P.Program.functions in
+    let n = c.args.number in
+    passed_answered c.args.w.now c.spawn.new.self _ (λ s. (spawn p s c.args.t.0 n c.args.arg c.args.attr).begin)
+    (λ s. spawns p (number n) c.args.arg (child_of (or_nobody (entry_of s.control c.args.t.0)))) refl
+    (λ s st. search rules) (λ s. refl)
+    (λ s st. (
+    let body = body_named c.in-Some.body.0 (number n) (is_below n (p s.control.program).bodies) (search rules) in
+    let known : Some c.in-Some-entry.entry.now ≡ entry_of s.control c.args.t.0 = search rules in
+    spawns_same p _ s.control _ _ c.args.arg _ _ body.1 (c.child_of-of.ensures ∙ search rules) ((rw to_z-of_z at c.in-Ok.ensures.shows) s.control st.control)))

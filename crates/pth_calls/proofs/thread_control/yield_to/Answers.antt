@@ -1,30 +1,43 @@
-use Rattle.std.proofs.Common.{◌≡◌, true, false, ap, rules}
+use Rattle.std.proofs.Common.{◌≡◌, true, false, pos, ap, rules, SFits, w64, to_z-of_z}
+use Rattle.pth_base.specs.declared.answer.Answer.TheVariants.{Int, Fail}
 use Rattle.pth_base.specs.declared.call.Call.TheVariants.{Yield}
 use Rattle.pth_base.specs.declared.errno.Errno.TheVariants.{EINVAL}
-use Rattle.pth_model.specs.Operands.{is_zero}
+use Rattle.pth_model.specs.Row.{effect_of}
+use Rattle.pth_model.specs.ThreadControl.{yield}
 use Rattle.pth_model.specs.declared.next.Next.TheVariants.{Done, Yields}
-use Rattle.pth_world.proofs.Telling.{quiet-refused, tells_leads}
-use Rattle.pth_calls.proofs.Yielding.{yield_refused, yield_gives, quiet-yield}
+use Rattle.pth_world.proofs.Telling.{quiet-refused}
+use Rattle.pth_calls.proofs.Answers.{changed_leads}
+use Rattle.pth_calls.proofs.Yielding.{yield_begun, yield_refused, quiet-yield}
 use Rattle.pth_calls.proofs.thread_control.yield_to.Goals as goal
 
-pub returns-then-to-ne0-clause-next : goal.returns-then-to-ne0-clause-next
-returns-then-to-ne0-clause-next g c s st =
-    let some : is_zero c.args.to ≡ false = search rules in
-    rw (c.requires.call, yield_refused g.P.Program.functions s c.args.t.0 c.args.to some) (ap Done c.in_ok-answer.ensures.value)
+pub returns-then-not-name_next-clause-next : goal.returns-then-not-name_next-clause-next
+returns-then-not-name_next-clause-next g c s st =
+    let f : SFits w64 c.args.to = search rules in
+    let isnt : c.name_next.result ≡ false = search rules in
+    let verdict = (simp (to_z-of_z, isnt) at c.name_next.ensures.verdict) s st in
+    rw (c.requires.call, yield_refused g.P.Program.functions s c.args.t.0 c.args.to (Fail EINVAL) verdict) (ap Done c.in_ok-answer.ensures.value)
 
-pub returns-then-to-ne0-clause-ok : goal.returns-then-to-ne0-clause-ok
-returns-then-to-ne0-clause-ok g c s st =
-    let some : is_zero c.args.to ≡ false = search rules in
-    rw (c.requires.call, yield_refused g.P.Program.functions s c.args.t.0 c.args.to some)
-    (tells_leads _ s _ _ _ (quiet-refused c.args.t (Yield c.args.to) EINVAL) st (rw c.requires.call at c.in_ok-answer.ensures.ok))
+pub returns-then-not-name_next-clause-ok : goal.returns-then-not-name_next-clause-ok
+returns-then-not-name_next-clause-ok g c s st =
+    let f : SFits w64 c.args.to = search rules in
+    let isnt : c.name_next.result ≡ false = search rules in
+    let verdict = (simp (to_z-of_z, isnt) at c.name_next.ensures.verdict) s st in
+    let effect = (simp to_z-of_z at c.name_next.ensures.effect) s st in
+    rw (c.requires.call, yield_refused g.P.Program.functions s c.args.t.0 c.args.to (Fail EINVAL) verdict)
+    (changed_leads _ s (effect_of (yield s c.args.t.0 c.args.to).begin) _ _ _ (quiet-refused c.args.t (Yield c.args.to) EINVAL) st.resources effect (rw c.requires.call at c.in_ok-answer.ensures.ok))
 
 pub returns-clause-next : goal.returns-clause-next
 returns-clause-next g c s st =
-    let none : is_zero c.args.to ≡ true = search rules in
-    rw (c.requires.call, yield_gives g.P.Program.functions s c.args.t.0 c.args.to none) (ap Yields c.in_ok-answer-2.ensures.value)
+    let f : SFits w64 c.args.to = search rules in
+    let is : c.name_next.result ≡ true = search rules in
+    let verdict = (simp (to_z-of_z, is) at c.name_next.ensures.verdict) s st in
+    rw (c.requires.call, yield_begun g.P.Program.functions s c.args.t.0 c.args.to (Int (pos 1)) verdict) (ap Yields c.in_ok-answer-2.ensures.value)
 
 pub returns-clause-ok : goal.returns-clause-ok
 returns-clause-ok g c s st =
-    let none : is_zero c.args.to ≡ true = search rules in
-    rw (c.requires.call, yield_gives g.P.Program.functions s c.args.t.0 c.args.to none)
-    (tells_leads _ s _ _ _ (quiet-yield c.args.t.0 c.args.to) st (rw c.requires.call at c.in_ok-answer-2.ensures.ok))
+    let f : SFits w64 c.args.to = search rules in
+    let is : c.name_next.result ≡ true = search rules in
+    let verdict = (simp (to_z-of_z, is) at c.name_next.ensures.verdict) s st in
+    let effect = (simp to_z-of_z at c.name_next.ensures.effect) s st in
+    rw (c.requires.call, yield_begun g.P.Program.functions s c.args.t.0 c.args.to (Int (pos 1)) verdict)
+    (changed_leads _ s (effect_of (yield s c.args.t.0 c.args.to).begin) _ _ _ (quiet-yield c.args.t.0 c.args.to) st.resources effect (rw c.requires.call at c.in_ok-answer-2.ensures.ok))

@@ -1,0 +1,23 @@
+-- The calls that neither block their thread nor give up control, and that end nothing.
+use Rattle.std.specs.Prelude.{Bool, true, false}
+use Rattle.pth_base.specs.declared.call.Call.{Call}
+use Rattle.pth_base.specs.declared.call.Call.TheVariants as call
+use Rattle.pth_base.specs.declared.query.Query.{Query}
+use Rattle.pth_base.specs.declared.query.Query.TheVariants as query
+
+-- of those that are built: all but these; a plain line and a note call nothing
+abbrev pub is_plain : Call → Bool
+is_plain call.Kill = false
+is_plain (call.Yield n) = false
+is_plain (call.Join n) = false
+is_plain (call.Exit v) = false
+is_plain call.Plain = false
+is_plain (call.Note v) = false
+is_plain c = true
+
+-- a question that is not answered by a number of threads
+abbrev pub asks_for_more : Query → Bool
+asks_for_more (query.Favournew n) = true
+asks_for_more (query.Prio n) = true
+asks_for_more (query.Name n) = true
+asks_for_more q = false

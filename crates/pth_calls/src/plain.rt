@@ -1,0 +1,69 @@
+//! The calls that neither block their thread nor give up control, and that end nothing.
+
+ghost use Rattle.std.specs.Prelude.{◌≡◌, ◌<◌, true, false, Some, IfOk, OnOk, OnErr};
+ghost use Rattle.pth_base.specs.Cut.{IsCut};
+ghost use Rattle.pth_base.specs.declared.mark.Mark.TheVariants.{Answered};
+ghost use Rattle.pth_calls.specs.Plain.{is_plain};
+ghost use Rattle.pth_model.specs.Calls.{begun};
+ghost use Rattle.pth_model.specs.Rows.{row_of};
+ghost use Rattle.pth_model.specs.State.{State};
+ghost use Rattle.pth_model.specs.declared.next.Next.TheVariants as next;
+ghost use Rattle.pth_world.specs.Frame.{Frame};
+ghost use Rattle.pth_world.specs.Leading.{Leads, IsAnswered, IsQuiet};
+ghost use Rattle.pth_world.specs.Shows.{StandsFor};
+ghost use Rattle.pth_world.specs.Whole.{Whole};
+
+use crate::answering::answer_call;
+use crate::library_control::answer_library;
+use crate::thread_control::answer_threads;
+use pth_base::answer::Answer;
+use pth_base::call::Call;
+use pth_base::errno::Errno;
+use pth_base::facility::Facility;
+use pth_base::ids::Tid;
+use pth_base::marks::Marks;
+use pth_base::memory::OutOfMemory;
+use pth_base::program::Program;
+use pth_world::world::World;
+
+// The answer of a call, which does what its row says.
+fn answer<P: Program>(w: &mut World<P>, t: Tid, call: &Call) -> Result<Answer, OutOfMemory>
+    requires whole { Whole w.old }
+    requires runs { w.old.scheduler.running ≡ Some t.0 }
+    requires few { w.old.threads.records.made < 2147483648 }
+    requires plain { is_plain call.now ≡ true }
+    ensures answered { IfOk result (λ a. IsAnswered w.old w.new a (λ (s : State P P.State P.Shared). (row_of P.functions s t.0 call.now).begin)) }
+    ensures quiet { IfOk result (λ a. IsQuiet (Answered t call.now a)) }
+    ensures frame { OnOk result (Frame w.old w.new 1 (Some t.0) false) }
+{
+    let facility = match call.facility() {
+        Some(facility) => facility,
+        None => return Ok(Answer::Fail(Errno::EINVAL)),
+    };
+    match facility {
+        Facility::Library => Ok(answer_library(w, t, call)),
+        Facility::Threads => answer_threads(w, t, call),
+        _ => Ok(Answer::Fail(Errno::EINVAL)),
+    }
+}
+
+/// Begins a call of the thread that runs, and tells of it: one that neither blocks the thread nor gives up control, and that
+/// ends nothing. A call that is not built yet is refused with EINVAL. After an error the world may only be dropped.
+pub fn begin_plain<P: Program>(
+    w: &mut World<P>,
+    t: Tid,
+    call: &Call,
+    marks: &mut Marks,
+) -> Result<Answer, OutOfMemory>
+    requires whole { Whole w.old }
+    requires runs { w.old.scheduler.running ≡ Some t.0 }
+    requires few { w.old.threads.records.made < 2147483648 }
+    requires plain { is_plain call.now ≡ true }
+    ensures next { IfOk result (λ a. (s : State P P.State P.Shared) → StandsFor w.old s → next.Done a ≡ (begun P.functions t.0 call.now s).next) }
+    ensures ok { OnOk result ((s : State P P.State P.Shared) → StandsFor w.old s → Leads w.new marks.old marks.new (begun P.functions t.0 call.now s).told) }
+    ensures err { OnErr result ((s : State P P.State P.Shared) → StandsFor w.old s → IsCut marks.old marks.new (begun P.functions t.0 call.now s).told.marks) }
+    ensures frame { OnOk result (Frame w.old w.new 1 (Some t.0) false) }
+{
+    let answer = answer(w, t, call)?;
+    answer_call(t, call, answer, marks)
+}
