@@ -4,22 +4,23 @@ ghost use Rattle.std.specs.Prelude.{◌≡◌, ◌<◌, Some, IfOk, OnOk, OnErr}
 ghost use Rattle.pth_base.specs.Cut.{IsCut};
 ghost use Rattle.pth_model.specs.Calls.{begun};
 ghost use Rattle.pth_model.specs.State.{State};
-ghost use Rattle.pth_world.specs.Frame.{Frame, runs_after};
+ghost use Rattle.pth_world.specs.Frame.{Frame, runs_after, yields_after};
 ghost use Rattle.pth_world.specs.Leading.{Leads};
 ghost use Rattle.pth_world.specs.Shows.{StandsFor};
 ghost use Rattle.pth_world.specs.Whole.{Whole};
 
+use crate::joins::begin_join;
+use crate::library_ends::kill;
 use crate::thread_ends::begin_exit;
 use pth_base::answer::Answer;
 use pth_base::call::Call;
-use pth_base::errno::Errno;
 use pth_base::ids::Tid;
 use pth_base::marks::Marks;
 use pth_base::memory::OutOfMemory;
 use pth_base::program::Program;
-use pth_calls::answering::answer_call;
+use pth_calls::plain::begin_plain;
 use pth_calls::script_lines::note;
-use pth_calls::thread_control::{spawn, yield_to};
+use pth_calls::thread_control::yield_to;
 use pth_model::next::Next;
 use pth_world::world::World;
 
@@ -36,11 +37,12 @@ pub fn begin<P: Program>(
     ensures next { IfOk result (λ n. (s : State P P.State P.Shared) → StandsFor w.old s → n ≡ (begun P.functions t.0 call s).next) }
     ensures ok { OnOk result ((s : State P P.State P.Shared) → StandsFor w.old s → Leads w.new marks.old marks.new (begun P.functions t.0 call s).told) }
     ensures err { OnErr result ((s : State P P.State P.Shared) → StandsFor w.old s → IsCut marks.old marks.new (begun P.functions t.0 call s).told.marks) }
-    ensures frame { IfOk result (λ n. Frame w.old w.new 1 (runs_after t.0 n)) }
+    ensures frame { IfOk result (λ n. Frame w.old w.new 1 (runs_after t.0 n) (yields_after n)) }
 {
     match call {
-        Call::Spawn { b, v, a } => spawn(w, t, &call, b, v, a, marks),
+        Call::Kill => kill(w, t, &call, marks),
         Call::Yield(to) => yield_to(w, t, &call, to, marks),
+        Call::Join(n) => begin_join(w, t, call, n, marks),
         Call::Exit(value) => begin_exit(w, t, call, value, marks),
         Call::Plain => Ok(Next::Done(Answer::None)),
         Call::Note(value) => {
@@ -48,7 +50,7 @@ pub fn begin<P: Program>(
             Ok(Next::Done(Answer::Int(0)))
         }
         _ => {
-            let answer = answer_call(t, &call, Answer::Fail(Errno::EINVAL), marks)?;
+            let answer = begin_plain(w, t, &call, marks)?;
             Ok(Next::Done(answer))
         }
     }

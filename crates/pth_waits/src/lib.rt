@@ -2,6 +2,9 @@
 #![tactic(auto)]
 
 pub mod begin;
+pub mod blocks;
+pub mod joins;
+pub mod library_ends;
 pub mod resume;
 pub mod thread_ends;
 pub mod wakes;

@@ -3,17 +3,17 @@
 ghost use Rattle.std.specs.Prelude.{◌≡◌, true, Some, IfOk, IfSome, IsSome, OnOk, OnErr};
 ghost use Rattle.pth_base.specs.Cut.{IsCut};
 ghost use Rattle.pth_base.specs.declared.call.Call.TheVariants.{Exit};
-ghost use Rattle.pth_model.specs.Calls.{begun, resumed, waits_by};
+ghost use Rattle.pth_model.specs.Calls.{begun, resumed};
 ghost use Rattle.pth_model.specs.Changes.{blocked_of};
 ghost use Rattle.pth_model.specs.State.{Control, State, main};
 ghost use Rattle.pth_model.specs.ThreadEnds.{must_wait as must_wait_now};
-ghost use Rattle.pth_model.specs.Verdict.{no_pause};
-ghost use Rattle.pth_world.specs.Frame.{Frame, runs_after};
+ghost use Rattle.pth_world.specs.Frame.{Frame, runs_after, yields_after};
 ghost use Rattle.pth_world.specs.Leading.{Leads};
 ghost use Rattle.pth_world.specs.Shows.{Shows, StandsFor};
 ghost use Rattle.pth_world.specs.Sound.{IsSound};
 ghost use Rattle.pth_world.specs.Whole.{Whole, MayBlock};
 
+use crate::blocks::block;
 use pth_base::call::Call;
 use pth_base::ids::{MAIN, Tid};
 use pth_base::mark::Mark;
@@ -21,7 +21,6 @@ use pth_base::marks::Marks;
 use pth_base::memory::OutOfMemory;
 use pth_base::program::Program;
 use pth_end::ending::end_thread;
-use pth_model::blocked::{Blocked, Retake};
 use pth_model::next::Next;
 use pth_world::world::World;
 
@@ -32,41 +31,6 @@ fn must_wait<P: Program>(w: &World<P>, t: Tid) -> bool
     ensures main { result ≡ true → t.0 ≡ main }
 {
     t.0 == MAIN && !w.is_alone(t)
-}
-
-// An exit blocks the thread that runs from now on.
-fn block<P: Program>(
-    w: &mut World<P>,
-    t: Tid,
-    call: Call,
-    value: i64,
-    marks: &mut Marks,
-) -> Result<(), OutOfMemory>
-    requires whole { Whole w.old }
-    requires runs { w.old.scheduler.running ≡ Some t.0 }
-    requires call { call ≡ Exit value }
-    requires main { t.0 ≡ main }
-    ensures ok { OnOk result ((s : State P P.State P.Shared) → StandsFor w.old s → Leads w.new marks.old marks.new (waits_by t.0 call no_pause s)) }
-    ensures err { OnErr result (marks.new ≡ marks.old) }
-    ensures frame { OnOk result (Frame w.old w.new 0 (Some t.0)) }
-{
-    let mark = Mark::Waits {
-        tid: t,
-        call: call.copy()?,
-    };
-    let begin = w.time();
-    w.block(
-        t,
-        Blocked {
-            call,
-            begin,
-            moment: 0,
-            written: 0,
-            round: 0,
-            retake: Retake::No,
-        },
-    );
-    marks.push(mark)
 }
 
 /// `pth_exit`: the main thread waits until it is alone, and every other thread ends. After an error the world may only be
@@ -84,10 +48,10 @@ pub fn begin_exit<P: Program>(
     ensures next { IfOk result (λ n. (s : State P P.State P.Shared) → StandsFor w.old s → n ≡ (begun P.functions t.0 call s).next) }
     ensures ok { OnOk result ((s : State P P.State P.Shared) → StandsFor w.old s → Leads w.new marks.old marks.new (begun P.functions t.0 call s).told) }
     ensures err { OnErr result ((s : State P P.State P.Shared) → StandsFor w.old s → IsCut marks.old marks.new (begun P.functions t.0 call s).told.marks) }
-    ensures frame { IfOk result (λ n. Frame w.old w.new 0 (runs_after t.0 n)) }
+    ensures frame { IfOk result (λ n. Frame w.old w.new 0 (runs_after t.0 n) (yields_after n)) }
 {
     if must_wait(w, t) {
-        block(w, t, call, value, marks)?;
+        block(w, t, call, marks)?;
         return Ok(Next::Waits);
     }
     end_thread(w, t, value, marks)?;
@@ -108,7 +72,7 @@ pub fn exit_again<P: Program>(
     ensures next { IfOk result (λ n. (s : State P P.State P.Shared) → StandsFor w.old s → n ≡ (resumed P.functions t.0 s).next) }
     ensures ok { OnOk result ((s : State P P.State P.Shared) → StandsFor w.old s → Leads w.new marks.old marks.new (resumed P.functions t.0 s).told) }
     ensures err { OnErr result ((s : State P P.State P.Shared) → StandsFor w.old s → IsCut marks.old marks.new (resumed P.functions t.0 s).told.marks) }
-    ensures frame { IfOk result (λ n. Frame w.old w.new 0 (runs_after t.0 n)) }
+    ensures frame { IfOk result (λ n. Frame w.old w.new 0 (runs_after t.0 n) (yields_after n)) }
 {
     if must_wait(w, t) {
         marks.push(Mark::Waits {

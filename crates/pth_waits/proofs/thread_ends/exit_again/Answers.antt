@@ -1,9 +1,11 @@
 use Rattle.std.proofs.Common.{◌≡◌, true, false, SFits, w64, to_z-of_z, rules, refl}
 use Rattle.std.proofs.lemmas.Result.{err_from_is_err_and}
+use Rattle.pth_base.specs.declared.call.Call.TheVariants.{Exit}
 use Rattle.pth_model.specs.Changes.{blocked_of}
 use Rattle.pth_model.specs.ThreadEnds.{must_wait}
 use Rattle.pth_world.proofs.Telling.{tells_leads}
-use Rattle.pth_waits.proofs.Exits.{again_ends, again_waits, held_by_exit, quiet-waits}
+use Rattle.pth_waits.proofs.Exits.{again_ends, again_waits, held_by_exit}
+use Rattle.pth_waits.proofs.Blocking.{quiet-waits}
 use Rattle.pth_waits.proofs.thread_ends.exit_again.Goals as goal
 
 pub returns-then-must_wait-clause-next : goal.returns-then-must_wait-clause-next
@@ -17,7 +19,7 @@ returns-then-must_wait-clause-ok g c s st =
     let f : SFits w64 c.args.value = search rules in
     let h = held_by_exit (blocked_of s.control c.args.t.0) c.args.t.0 c.args.value (c.requires.some s.control st.control) (c.requires.blocked s.control st.control) in
     let waits : must_wait s.control c.args.t.0 ≡ true = search rules in
-    rw (again_waits g.P.Program.functions s c.args.t.0 c.args.value h.blocked h.has h.its h.may waits) (tells_leads _ s _ _ _ (quiet-waits c.args.t.0 c.args.value) st (search rules))
+    rw (again_waits g.P.Program.functions s c.args.t.0 c.args.value h.blocked h.has h.its h.may waits) (tells_leads _ s _ _ _ (quiet-waits c.args.t.0 (Exit c.args.value) h.may_exit) st (search rules))
 
 pub returns-in_err-end_thread-clause-err : goal.returns-in_err-end_thread-clause-err
 returns-in_err-end_thread-clause-err g c =

@@ -1,0 +1,39 @@
+use Rattle.std.proofs.Common.{ap, rules, SFits, w64, to_z-of_z, refl}
+use Rattle.pth_base.specs.declared.call.Call.TheVariants.{Join}
+use Rattle.pth_base.specs.declared.mark.Mark.TheVariants.{Answered}
+use Rattle.pth_model.specs.Calls.{waits_by}
+use Rattle.pth_model.specs.Row.{effect_of}
+use Rattle.pth_model.specs.ThreadControl.{join_attempt}
+use Rattle.pth_model.specs.Verdict.{no_pause}
+use Rattle.pth_model.specs.declared.next.Next.TheVariants.{Done}
+use Rattle.pth_calls.proofs.Answers.{changed_leads, changed_then}
+use Rattle.pth_waits.proofs.Joining.{join_answers, join_waits, quiet-join}
+use Rattle.pth_waits.proofs.joins.begin_join.Goals as goal
+
+pub returns-in-None-clause-next : goal.returns-in-None-clause-next
+returns-in-None-clause-next g c s st =
+    let f : SFits w64 c.args.n = search rules in
+    let verdict = (simp to_z-of_z at c.in-None.ensures.verdict) s st in
+    rw (c.requires.call, join_waits g.P.Program.functions s c.args.t.0 c.args.n verdict) refl
+
+pub returns-in-None-clause-ok : goal.returns-in-None-clause-ok
+returns-in-None-clause-ok g c s st =
+    let f : SFits w64 c.args.n = search rules in
+    let verdict = (simp to_z-of_z at c.in-None.ensures.verdict) s st in
+    let effect = (simp to_z-of_z at c.attempt.ensures.effect) s st in
+    rw (c.requires.call, join_waits g.P.Program.functions s c.args.t.0 c.args.n verdict)
+    (changed_then c.attempt.new.w _ s (effect_of (join_attempt s c.args.t.0 c.args.n)) (waits_by c.args.t.0 (Join c.args.n) no_pause) _ _ st.resources effect (rw c.requires.call at c.in_ok-block-in-None.ensures.ok))
+
+pub returns-clause-next : goal.returns-clause-next
+returns-clause-next g c s st =
+    let f : SFits w64 c.args.n = search rules in
+    let verdict = (simp to_z-of_z at c.in-Some.ensures.verdict) s st in
+    rw (c.requires.call, join_answers g.P.Program.functions s c.args.t.0 c.args.n c.in-Some.answer verdict) (ap Done c.in_ok-answer.ensures.value)
+
+pub returns-clause-ok : goal.returns-clause-ok
+returns-clause-ok g c s st =
+    let f : SFits w64 c.args.n = search rules in
+    let verdict = (simp to_z-of_z at c.in-Some.ensures.verdict) s st in
+    let effect = (simp to_z-of_z at c.attempt.ensures.effect) s st in
+    rw (c.requires.call, join_answers g.P.Program.functions s c.args.t.0 c.args.n c.in-Some.answer verdict)
+    (changed_leads _ s (effect_of (join_attempt s c.args.t.0 c.args.n)) (Answered c.args.t (Join c.args.n) c.in-Some.answer) _ _ (quiet-join c.args.t.0 c.args.n c.in-Some.answer) st.resources effect (rw c.requires.call at c.in_ok-answer.ensures.ok))

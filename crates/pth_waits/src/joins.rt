@@ -1,0 +1,235 @@
+//! Joining: `pth_join`.
+
+ghost use Rattle.std.specs.Prelude.{◌≡◌, ◌≢◌, ℕ, false, Some, None, IfOk, IfSome, IsSome, OnOk, OnErr, option_map};
+ghost use Rattle.pth_base.specs.Cut.{IsCut};
+ghost use Rattle.pth_base.specs.declared.call.Call.TheVariants.{Join};
+ghost use Rattle.pth_model.specs.Calls.{begun, resumed};
+ghost use Rattle.pth_model.specs.Changes.{blocked_of};
+ghost use Rattle.pth_model.specs.declared.blocked.Blocked.{Blocked};
+ghost use Rattle.pth_model.specs.Living.{is_dead as is_dead_state};
+ghost use Rattle.pth_model.specs.Row.{effect_of};
+ghost use Rattle.pth_model.specs.Transition.{silent};
+ghost use Rattle.pth_model.specs.State.{Control, State};
+ghost use Rattle.pth_model.specs.ThreadControl.{first_of, joinable_dead, join, to_join as to_join_now, joined, join_attempt};
+ghost use Rattle.pth_waits.specs.Joining.{verdict_by, verdict_or};
+ghost use Rattle.pth_base.specs.declared.answer.Answer.TheVariants.{Int};
+ghost use Rattle.pth_model.specs.Changes.{removes, entry_of, or_nobody};
+ghost use Rattle.pth_model.specs.Verdict.{Says};
+ghost use Rattle.pth_world.specs.Frame.{Frame, runs_after, yields_after};
+ghost use Rattle.pth_world.specs.Leading.{Leads, Changed};
+ghost use Rattle.pth_world.specs.Shows.{Shows, StandsFor};
+ghost use Rattle.pth_world.specs.Sound.{IsSound, IsKnown};
+ghost use Rattle.pth_world.specs.Whole.{Whole, MayBlock};
+ghost use Rattle.pth_world.specs.World.{number_of};
+
+use crate::blocks::block;
+use pth_base::answer::Answer;
+use pth_base::call::Call;
+use pth_base::errno::Errno;
+use pth_base::ids::Tid;
+use pth_base::mark::Mark;
+use pth_base::marks::Marks;
+use pth_base::memory::OutOfMemory;
+use pth_base::program::Program;
+use pth_base::thread::ThreadState;
+use pth_calls::answering::answer_call;
+use pth_model::next::Next;
+use pth_queue::queue::Queue;
+use pth_world::world::World;
+
+fn is_dead(state: ThreadState) -> bool
+    ensures { result ≡ is_dead_state state }
+{
+    match state {
+        ThreadState::Dead => true,
+        _ => false,
+    }
+}
+
+fn is_joinable<P: Program>(w: &World<P>, t: Tid) -> bool
+    requires sound { IsSound w.now.threads }
+    requires known { IsKnown w.now.threads t.0 }
+    ensures { (k : Control P P.State P.Shared) → Shows w.now k → result ≡ (or_nobody (entry_of k t.0)).joinable }
+{
+    match w.entry(t) {
+        Some(entry) => entry.joinable,
+        None => unreachable!(),
+    }
+}
+
+// The thread that died first of those that can be joined.
+fn first_joinable<P: Program>(w: &World<P>) -> Option<Tid>
+    requires { Whole w.now }
+    ensures first { (k : Control P P.State P.Shared) → Shows w.now k → option_map number_of result ≡ first_of (joinable_dead k) }
+    ensures known { IfSome result (λ t. IsKnown w.now.threads t.0) }
+    ensures rests { IfSome result (λ t. w.now.scheduler.running ≢ Some t.0) }
+{
+    let mut next = w.first(Queue::Dead);
+    while let Some(t) = next {
+        if is_joinable(w, t) {
+            return Some(t);
+        }
+        next = w.after(t, Queue::Dead);
+    }
+    None
+}
+
+// Whom a join takes: the thread that is named, where it is dead, and for 0 the one that died first.
+pub(crate) fn to_join<P: Program>(w: &World<P>, n: i64) -> Option<Tid>
+    requires { Whole w.now }
+    ensures takes { (k : Control P P.State P.Shared) → Shows w.now k → option_map number_of result ≡ to_join_now k n }
+    ensures known { IfSome result (λ t. IsKnown w.now.threads t.0) }
+    ensures rests { IfSome result (λ t. w.now.scheduler.running ≢ Some t.0) }
+{
+    if n == 0 {
+        return first_joinable(w);
+    }
+    match w.named(n) {
+        Some(it) => {
+            if is_dead(it.state) {
+                Some(it.tid)
+            } else {
+                None
+            }
+        }
+        None => None,
+    }
+}
+
+// Why a join is refused: the caller joins itself, or anyone where nobody else is there; nobody has the number; or the thread
+// is not joinable.
+fn refusal<P: Program>(w: &World<P>, t: Tid, n: i64) -> Option<Errno>
+    requires { Whole w.now }
+    ensures { (s : State P P.State P.Shared) → StandsFor w.now s → (join_attempt s t.0 n).verdict ≡ verdict_or result (joined s.control (to_join_now s.control n)) }
+{
+    if n == i64::from(t.0) {
+        return Some(Errno::EDEADLK);
+    }
+    if n == 0 {
+        return if w.present() == 1 {
+            Some(Errno::EDEADLK)
+        } else {
+            None
+        };
+    }
+    match w.named(n) {
+        Some(it) => {
+            if it.joinable {
+                None
+            } else {
+                Some(Errno::EINVAL)
+            }
+        }
+        None => Some(Errno::ESRCH),
+    }
+}
+
+// Takes a dead thread out of the system, and gives its value.
+fn take<P: Program>(w: &mut World<P>, other: Tid) -> i64
+    requires whole { Whole w.old }
+    requires known { IsKnown w.old.threads other.0 }
+    requires rests { w.old.scheduler.running ≢ Some other.0 }
+    ensures value { (k : Control P P.State P.Shared) → Shows w.old k → joined k (Some other.0) ≡ Says (Int result) }
+    ensures shows { (k : Control P P.State P.Shared) → Shows w.old k → Shows w.new (removes other.0 k) }
+    ensures frame { Frame w.old w.new 0 w.old.scheduler.running false }
+{
+    let value = match w.entry(other) {
+        Some(entry) => entry.value,
+        None => unreachable!(),
+    };
+    w.remove(other);
+    value
+}
+
+// The answer of an attempt to join: a refusal, or the value of the thread that it takes. None where the join waits.
+fn attempt<P: Program>(w: &mut World<P>, t: Tid, n: i64) -> Option<Answer>
+    requires whole { Whole w.old }
+    requires runs { w.old.scheduler.running ≡ Some t.0 }
+    ensures verdict { (s : State P P.State P.Shared) → StandsFor w.old s → (join_attempt s t.0 n).verdict ≡ verdict_by result }
+    ensures effect { (s : State P P.State P.Shared) → StandsFor w.old s → Changed w.new s (effect_of (join_attempt s t.0 n) s) }
+    ensures waits { result ≡ None → (s : State P P.State P.Shared) → StandsFor w.old s → effect_of (join_attempt s t.0 n) s ≡ silent s }
+    ensures frame { Frame w.old w.new 0 (Some t.0) false }
+{
+    if let Some(errno) = refusal(w, t, n) {
+        return Some(Answer::Fail(errno));
+    }
+    match to_join(w, n) {
+        Some(other) => Some(Answer::Int(take(w, other))),
+        None => None,
+    }
+}
+
+/// `pth_join`: waits until the thread is dead, and takes it out of the system. After an error the world may only be dropped.
+pub fn begin_join<P: Program>(
+    w: &mut World<P>,
+    t: Tid,
+    call: Call,
+    n: i64,
+    marks: &mut Marks,
+) -> Result<Next, OutOfMemory>
+    requires whole { Whole w.old }
+    requires runs { w.old.scheduler.running ≡ Some t.0 }
+    requires call { call ≡ Join n }
+    ensures next { IfOk result (λ n. (s : State P P.State P.Shared) → StandsFor w.old s → n ≡ (begun P.functions t.0 call s).next) }
+    ensures ok { OnOk result ((s : State P P.State P.Shared) → StandsFor w.old s → Leads w.new marks.old marks.new (begun P.functions t.0 call s).told) }
+    ensures err { OnErr result ((s : State P P.State P.Shared) → StandsFor w.old s → IsCut marks.old marks.new (begun P.functions t.0 call s).told.marks) }
+    ensures frame { IfOk result (λ n. Frame w.old w.new 0 (runs_after t.0 n) (yields_after n)) }
+{
+    let answer = match attempt(w, t, n) {
+        Some(answer) => answer,
+        None => {
+            block(w, t, call, marks)?;
+            return Ok(Next::Waits);
+        }
+    };
+    let answer = answer_call(t, &call, answer, marks)?;
+    Ok(Next::Done(answer))
+}
+
+/// A join, tried again. After an error the world may only be dropped.
+pub fn join_again<P: Program>(
+    w: &mut World<P>,
+    t: Tid,
+    n: i64,
+    marks: &mut Marks,
+) -> Result<Next, OutOfMemory>
+    requires whole { Whole w.old }
+    requires runs { w.old.scheduler.running ≡ Some t.0 }
+    requires blocked { (k : Control P P.State P.Shared) → Shows w.old k → IfSome (blocked_of k t.0) (λ b. (b.call ≡ Join n) × MayBlock t.0 b) }
+    requires some { (k : Control P P.State P.Shared) → Shows w.old k → IsSome (blocked_of k t.0) }
+    ensures next { IfOk result (λ n. (s : State P P.State P.Shared) → StandsFor w.old s → n ≡ (resumed P.functions t.0 s).next) }
+    ensures ok { OnOk result ((s : State P P.State P.Shared) → StandsFor w.old s → Leads w.new marks.old marks.new (resumed P.functions t.0 s).told) }
+    ensures err { OnErr result ((s : State P P.State P.Shared) → StandsFor w.old s → IsCut marks.old marks.new (resumed P.functions t.0 s).told.marks) }
+    ensures frame { IfOk result (λ n. Frame w.old w.new 0 (runs_after t.0 n) (yields_after n)) }
+{
+    let answer = match attempt(w, t, n) {
+        Some(answer) => answer,
+        None => {
+            marks.push(Mark::Waits {
+                tid: t,
+                call: Call::Join(n),
+            })?;
+            return Ok(Next::Waits);
+        }
+    };
+    w.unblock(t);
+    let answer = answer_call(t, &Call::Join(n), answer, marks)?;
+    Ok(Next::Done(answer))
+}
+
+/// Whether a join that blocks its thread has what it waits for: a thread to take, or one that is joinable no longer.
+pub(crate) fn join_wakes<P: Program>(w: &World<P>, n: i64) -> bool
+    requires { Whole w.now }
+    ensures { (s : State P P.State P.Shared) (t : ℕ) (b : Blocked) → StandsFor w.now s → result ≡ (join s t n).wakes b }
+{
+    if to_join(w, n).is_some() {
+        return true;
+    }
+    if n == 0 {
+        return false;
+    }
+    match w.named(n) {
+        Some(it) => !it.joinable,
+        None => true,
+    }
+}

@@ -1,0 +1,47 @@
+//! The call of library control that ends the run: `pth_kill`.
+
+ghost use Rattle.std.specs.Prelude.{◌≡◌, Some, IfOk, OnOk, OnErr};
+ghost use Rattle.pth_base.specs.Cut.{IsCut};
+ghost use Rattle.pth_base.specs.declared.call.Call.TheVariants.{Kill};
+ghost use Rattle.pth_model.specs.Calls.{begun};
+ghost use Rattle.pth_model.specs.State.{State};
+ghost use Rattle.pth_world.specs.Frame.{Frame, runs_after, yields_after};
+ghost use Rattle.pth_world.specs.Leading.{Leads};
+ghost use Rattle.pth_world.specs.Shows.{StandsFor};
+ghost use Rattle.pth_world.specs.Whole.{Whole};
+
+use pth_base::answer::Answer;
+use pth_base::call::Call;
+use pth_base::errno::Errno;
+use pth_base::ids::{MAIN, Tid};
+use pth_base::marks::Marks;
+use pth_base::memory::OutOfMemory;
+use pth_base::program::Program;
+use pth_calls::answering::answer_call;
+use pth_model::next::Next;
+use pth_world::world::World;
+
+/// `pth_kill`: main ends the run, and all other threads are in the system no longer. After an error the world may only be
+/// dropped.
+pub fn kill<P: Program>(
+    w: &mut World<P>,
+    t: Tid,
+    call: &Call,
+    marks: &mut Marks,
+) -> Result<Next, OutOfMemory>
+    requires whole { Whole w.old }
+    requires runs { w.old.scheduler.running ≡ Some t.0 }
+    requires call { call.now ≡ Kill }
+    ensures next { IfOk result (λ n. (s : State P P.State P.Shared) → StandsFor w.old s → n ≡ (begun P.functions t.0 call.now s).next) }
+    ensures ok { OnOk result ((s : State P P.State P.Shared) → StandsFor w.old s → Leads w.new marks.old marks.new (begun P.functions t.0 call.now s).told) }
+    ensures err { OnErr result ((s : State P P.State P.Shared) → StandsFor w.old s → IsCut marks.old marks.new (begun P.functions t.0 call.now s).told.marks) }
+    ensures frame { IfOk result (λ n. Frame w.old w.new 0 (runs_after t.0 n) (yields_after n)) }
+{
+    if t.0 != MAIN {
+        let answer = answer_call(t, call, Answer::Fail(Errno::EPERM), marks)?;
+        return Ok(Next::Done(answer));
+    }
+    w.vanish_all_but(t);
+    answer_call(t, call, Answer::Int(1), marks)?;
+    Ok(Next::Killed)
+}
