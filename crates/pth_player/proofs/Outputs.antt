@@ -3,7 +3,7 @@ use Rattle.std.proofs.Common.{◌≡◌, ◌∙◌, ℕ, List, Option, Some, Non
 use Rattle.std.specs.Io.KnownBytes.{Appends}
 use Rattle.pth_base.specs.Program.{Functions}
 use Rattle.pth_model.specs.State.{Given}
-use Rattle.pth_model.specs.Run.{run}
+use Rattle.pth_model.specs.Run.{run, stops_at}
 use Rattle.pth_model.proofs.Runs.{goes-once}
 use Rattle.pth_print.specs.declared.fault_line.Fault.TheVariants as fault
 use Rattle.pth_line.specs.Script.{Sections, functions_of}
@@ -19,7 +19,7 @@ use Rattle.pth_player.specs.Play.{IsOutputStatus, WritesFault, WritesOutput}
 use Rattle.pth_player.specs.Streams.{AppendsPart}
 
 pub run_once : {P S H : Type 0} (f : P → Functions S H) (g : Given P) (asked : Asked) (one two : Output) → IsRunOutput f g asked one → IsRunOutput f g asked two → one ≡ two
-run_once f g asked one two a b = a.2 ∙ ap (λ (k : ℕ). told_output asked (run f g k)) (goes-once f g asked.steps 0 a.0 b.0 a.1 b.1) ∙ sym b.2
+run_once f g asked one two a b = a.2 ∙ ap (λ (k : ℕ). told_output asked (run f g k)) (goes-once (stops_at f g asked.steps) 0 a.0 b.0 a.1 b.1) ∙ sym b.2
 
 -- that of words that are refused
 pub words_output : (bytes : List ℕ) → IsTheOutput None bytes (refusal fault.Words)

@@ -1,5 +1,5 @@
 -- A run that is cut, and one that is not.
-use Rattle.std.proofs.Common.{◌≡◌, ◌≢◌, ◌⊎◌, ℕ, ◌+◌, ◌≤◌, List, ◌++◌, true, false, refl, sym, ap, ◌∙◌, arith, subst, inl, inr}
+use Rattle.std.proofs.Common.{◌≡◌, ◌≢◌, ◌⊎◌, ℕ, ◌+◌, ◌≤◌, List, ◌++◌, Bool, true, false, refl, sym, ap, ◌∙◌, arith, subst, inl, inr}
 use Rattle.std.proofs.lemmas.Bool.{cases_lt}
 use Rattle.std.proofs.lemmas.List.{append_cancel_left, append_assoc}
 use Rattle.pth_base.specs.Program.{Functions}
@@ -9,10 +9,10 @@ use Rattle.pth_base.specs.declared.outcome.Outcome.TheVariants.{Running, Ended, 
 use Rattle.pth_model.specs.Course.{Course}
 use Rattle.pth_model.specs.State.{Given, Turn}
 use Rattle.pth_model.specs.Part.{Part, next_part, next_part_by, unless_ended, is_idle}
-use Rattle.pth_model.specs.Run.{run, stops, stops_by, GoesTo}
+use Rattle.pth_model.specs.Run.{run, stops, stops_at, stops_by, GoesUntil, GoesTo}
 use Rattle.pth_model.proofs.Runs.{between-then, goes-then, goes-once, stops-later}
 use Rattle.pth_sched.specs.MachineOf.{MachineOf}
-use Rattle.pth_sched.specs.Running.{GoesOn}
+use Rattle.pth_sched.specs.Running.{FollowsUntil, GoesOn}
 
 halt_by : (to steps : ℕ) (o : Outcome) (p : Part) → o ≢ Running → stops_by to steps (unless_ended o p) ≡ true
 halt_by to steps Running p ended = absurd (ended refl)
@@ -21,7 +21,7 @@ halt_by to steps Killed p ended = refl
 halt_by to steps Stalled p ended = refl
 halt_by to steps OutOfMemory p ended = refl
 
-is_running : (o : Outcome) → (o ≡ Running) ⊎ (o ≢ Running)
+pub is_running : (o : Outcome) → (o ≡ Running) ⊎ (o ≢ Running)
 is_running Running = inl refl
 is_running (Ended v) = inr (λ h. cc h)
 is_running Killed = inr (λ h. cc h)
@@ -54,20 +54,26 @@ module _ {P S H : Type 0} where
       })
     ]
 
-    -- n steps and then k steps are n + k steps
-    pub goes_joined : (i n k : ℕ) (m t u : MachineOf P S H) (a b c : List Mark) → (first : GoesOn f g (m.turn.steps + n) i t a b) → (t.turn.outcome ≡ Running → t.turn.steps ≡ m.turn.steps + n) → GoesOn f g (t.turn.steps + k) first.part u b c → GoesOn f g (m.turn.steps + (n + k)) i u a c
-    goes_joined i n k m t u a b c first runs second = record {
+    -- what is told on two ways is told on the whole way
+    pub follows_then : (one two all : ℕ → Bool) (i : ℕ) (t u : MachineOf P S H) (a b c : List Mark) → (first : FollowsUntil f g one i t a b) → (second : FollowsUntil f g two first.part u b c) → GoesUntil all i second.part → FollowsUntil f g all i u a c
+    follows_then one two all i t u a b c first second goes = record {
       part = second.part;
-      goes = joins (m.turn.steps + n) (t.turn.steps + k) (m.turn.steps + (n + k)) i first.part second.part (omega arith) (λ on. (let e = runs (ap (λ (x : Turn). x.outcome) (sym first.stands.turn) ∙ on) in omega arith)) first.goes second.goes;
+      goes = goes;
       stands = second.stands;
       told = first.told ++ second.told;
       between = between-then f g i first.part second.part first.told second.told first.between second.between;
       appended = second.appended ∙ ap (λ (l : List Mark). l ++ second.told) first.appended ∙ append_assoc a first.told second.told;
     }
 
-    module _ (to i : ℕ) (t u : MachineOf P S H) (a b c : List Mark) (one : GoesOn f g to i t a b) (two : GoesOn f g to i u a c) where
+    -- n steps and then k steps are n + k steps
+    pub goes_joined : (i n k : ℕ) (m t u : MachineOf P S H) (a b c : List Mark) → (first : GoesOn f g (m.turn.steps + n) i t a b) → (t.turn.outcome ≡ Running → t.turn.steps ≡ m.turn.steps + n) → GoesOn f g (t.turn.steps + k) first.part u b c → GoesOn f g (m.turn.steps + (n + k)) i u a c
+    goes_joined i n k m t u a b c first runs second =
+        follows_then (stops_at f g (m.turn.steps + n)) (stops_at f g (t.turn.steps + k)) (stops_at f g (m.turn.steps + (n + k))) i t u a b c first second
+        (joins (m.turn.steps + n) (t.turn.steps + k) (m.turn.steps + (n + k)) i first.part second.part (omega arith) (λ on. (let e = runs (ap (λ (x : Turn). x.outcome) (sym first.stands.turn) ∙ on) in omega arith)) first.goes second.goes)
+
+    module _ (halts : ℕ → Bool) (i : ℕ) (t u : MachineOf P S H) (a b c : List Mark) (one : FollowsUntil f g halts i t a b) (two : FollowsUntil f g halts i u a c) where
       same_part : one.part ≡ two.part
-      same_part = goes-once f g to i one.part two.part one.goes two.goes
+      same_part = goes-once halts i one.part two.part one.goes two.goes
 
       pub same_marks : b ≡ c
       same_marks =

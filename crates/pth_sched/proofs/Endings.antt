@@ -1,5 +1,5 @@
 -- A run ends with main's value where main is alone.
-use Rattle.std.proofs.Common.{◌≡◌, ℕ, ◌==◌, ◌&&◌, not, ◌+◌, ℤ, pos, Bool, true, false, Option, Some, None, refl, sym, ap, ◌∙◌, subst, List, [], ◌∷◌}
+use Rattle.std.proofs.Common.{◌≡◌, ℕ, ◌==◌, ◌&&◌, ◌||◌, not, ◌+◌, length, if◌then◌else◌, ℤ, pos, Bool, true, false, Option, Some, None, refl, sym, ap, ◌∙◌, subst, List, [], ◌∷◌, ◌++◌}
 use Rattle.pth_base.proofs.Tables.{same_means}
 use Rattle.pth_base.specs.Program.{Functions}
 use Rattle.pth_base.specs.declared.call.Call.{Call}
@@ -12,21 +12,28 @@ use Rattle.pth_model.specs.declared.blocked.Blocked.{Blocked}
 use Rattle.pth_model.specs.declared.next.Next.{Next}
 use Rattle.pth_model.specs.declared.next.Next.TheVariants as next
 use Rattle.pth_model.specs.declared.progress.Progress.{Progress}
-use Rattle.pth_model.specs.Verdict.{Verdict, Says, Yields, Blocks, Ends, Kills, waits, refused, says, ◌when◌otherwise◌}
-use Rattle.pth_model.specs.State.{State, Control, Given, Turn, start, queue, main}
+use Rattle.pth_model.specs.Verdict.{Verdict, Says, Yields, Blocks, Ends, Kills, Pause, no_pause, waits, refused, says, ◌when◌otherwise◌}
+use Rattle.pth_model.specs.State.{State, Control, Given, Turn, start, queue, present, main}
 use Rattle.pth_model.specs.Transition.{Piece, Went, tid, controlled}
-use Rattle.pth_base.specs.declared.answer.Answer.TheVariants.{Int}
-use Rattle.pth_base.specs.declared.errno.Errno.TheVariants.{EINVAL, EAGAIN}
-use Rattle.pth_model.specs.Operands.{is_below, is_zero}
-use Rattle.pth_model.specs.ThreadControl.{has_room}
-use Rattle.pth_model.specs.Changes.{blocked_of, goes_on}
+use Rattle.pth_base.specs.declared.answer.Answer.{Answer}
+use Rattle.pth_base.specs.declared.answer.Answer.TheVariants.{Int, Text, Fail}
+use Rattle.pth_base.specs.declared.errno.Errno.{Errno}
+use Rattle.pth_base.specs.declared.errno.Errno.TheVariants.{EINVAL, EAGAIN, ESRCH, EPERM, EDEADLK}
+use Rattle.pth_base.specs.declared.query.Query.{Query}
+use Rattle.pth_base.specs.declared.query.Query.TheVariants as query
+use Rattle.pth_model.specs.ThreadControl.{spawn, suspend, resume, yield, join_attempt, joined, to_join, thread, is_known, has_room, may_run}
+use Rattle.pth_model.specs.Living.{is_dead}
+use Rattle.pth_model.specs.Operands.{is_below, is_zero, ◌is◌, ◌is_from◌to◌}
+use Rattle.pth_model.specs.Pass.{moment}
+use Rattle.pth_model.specs.LibraryControl.{kill, ctrl, running_count}
+use Rattle.pth_model.specs.Changes.{blocked_of, goes_on, entry_of, or_nobody}
 use Rattle.pth_model.specs.Course.{Course}
 use Rattle.pth_model.specs.Row.{effect_of}
 use Rattle.pth_model.specs.Rows.{row_of}
 use Rattle.pth_model.specs.Ending.{ending}
 use Rattle.pth_model.specs.ThreadEnds.{is_alone, must_wait}
 use Rattle.pth_model.specs.Calls.{begun, begun_by, resumed, resumed_by, tried_by}
-use Rattle.pth_model.specs.Part.{Part, Move, Take, Step, Close, Halt, next_part, part, part_by, moves, takes, takes_by, readies_new, chosen, closes, steps, steps_by, steps_on, turn_after, gives_up, ends_run}
+use Rattle.pth_model.specs.Part.{Part, Move, Take, Step, Close, Halt, next_part, part, part_by, moves, moves_by, takes, takes_by, readies_new, chosen, closes, steps, steps_by, steps_on, turn_after, gives_up, ends_run}
 use Rattle.pth_model.specs.Run.{run, IsBetween}
 use Rattle.pth_model.proofs.Runs.{parts-more, between-none, between-more}
 use Rattle.pth_waits.proofs.Exits.{exit_ends, again_ends}
@@ -36,15 +43,93 @@ running_ended v h = cc
 
 -- ---- verdicts that end a thread
 
-yield_on : (b : Bool) (v : ℤ) → (refused EINVAL when b otherwise Yields (Int (pos 1))) ≡ Ends v → ⊥
-yield_on true v h = cc h
-yield_on false v h = cc h
+-- a verdict that does not end its thread
+abbrev EndsNot : Verdict → Type 0
+EndsNot x = (v : ℤ) → x ≡ Ends v → ⊥
 
-spawn_on : (p q r : Bool) (n : ℕ) (v : ℤ) → (refused EINVAL when p otherwise refused EINVAL when q otherwise refused EAGAIN when r otherwise says n) ≡ Ends v → ⊥
-spawn_on true q r n v h = cc h
-spawn_on false true r n v h = cc h
-spawn_on false false true n v h = cc h
-spawn_on false false false n v h = cc h
+says_on : (a : Answer) → EndsNot (Says a)
+says_on a v h = cc h
+
+blocks_on : (p : Pause) → EndsNot (Blocks p)
+blocks_on p v h = cc h
+
+kills_on : EndsNot Kills
+kills_on v h = cc h
+
+yields_on : (a : Answer) → EndsNot (Yields a)
+yields_on a v h = cc h
+
+-- nor does a row's, whose clauses don't
+when_on : (w : Verdict) (b : Bool) (x : Verdict) → EndsNot w → EndsNot x → EndsNot (w when b otherwise x)
+when_on w true x first rest = first
+when_on w false x first rest = rest
+
+-- a refusal, and then the rest of the row
+refused_on : (e : Errno) (b : Bool) (x : Verdict) → EndsNot x → EndsNot (refused e when b otherwise x)
+refused_on e b x rest = when_on (refused e) b x (says_on (Fail e)) rest
+
+joined_on : {P S H : Type 0} (k : Control P S H) (o : Option ℕ) → EndsNot (joined k o)
+joined_on k None = blocks_on no_pause
+joined_on k (Some t) = says_on (Int (or_nobody (entry_of k t)).value)
+
+module _ {P S H : Type 0} (f : P → Functions S H) (s : State P S H) (t : ℕ) where
+  spawn_on : (b v a : ℤ) → EndsNot (spawn f s t b v a).begin.verdict
+  spawn_on b v a =
+      let body = not (is_below b (f s.control.program).bodies) in
+      let attr = not (is_zero a) in
+      let room = not (has_room s.control) in
+      let made = Int (pos (s.control.threads.made + 1)) in
+      refused_on EINVAL body (refused EINVAL when attr otherwise refused EAGAIN when room otherwise Says made)
+      (refused_on EINVAL attr (refused EAGAIN when room otherwise Says made) (refused_on EAGAIN room (Says made) (says_on made)))
+
+  suspend_on : (n : ℤ) → EndsNot (suspend s t n).begin.verdict
+  suspend_on n =
+      let it = or_nobody (thread s.control n) in
+      let may = n is t || is_dead it.state || it.suspended in
+      refused_on ESRCH (not (is_known s.control n)) (refused EPERM when may otherwise says 1) (refused_on EPERM may (says 1) (says_on (Int (pos 1))))
+
+  resume_on : (n : ℤ) → EndsNot (resume s t n).begin.verdict
+  resume_on n =
+      let may = n is t || not (or_nobody (thread s.control n)).suspended in
+      refused_on ESRCH (not (is_known s.control n)) (refused EPERM when may otherwise says 1) (refused_on EPERM may (says 1) (says_on (Int (pos 1))))
+
+  yield_on : (n : ℤ) → EndsNot (yield s t n).begin.verdict
+  yield_on n =
+      let it = or_nobody (thread s.control n) in
+      refused_on EINVAL (not (is_zero n) && (it.suspended || not (may_run it.state))) (Yields (Int (pos 1))) (yields_on (Int (pos 1)))
+
+  join_on : (n : ℤ) → EndsNot (join_attempt s t n).verdict
+  join_on n =
+      let unknown = not (is_zero n) && not (is_known s.control n) in
+      let detached = not (is_zero n) && not (or_nobody (thread s.control n)).joinable in
+      let whom = to_join s.control n in
+      refused_on EDEADLK (n is t || (is_zero n && (present s.control == 1))) (refused ESRCH when unknown otherwise refused EINVAL when detached otherwise joined s.control whom)
+      (refused_on ESRCH unknown (refused EINVAL when detached otherwise joined s.control whom) (refused_on EINVAL detached (joined s.control whom) (joined_on s.control whom)))
+
+  kill_on : EndsNot (kill s t).begin.verdict
+  kill_on = refused_on EPERM (not (t == main)) Kills kills_on
+
+  ctrl_on : (q : Query) → EndsNot (ctrl s q).begin.verdict
+  ctrl_on (query.Favournew n) =
+      let old = Int (pos (if s.control.scheduler.favour_new then 1 else 0)) in
+      refused_on EINVAL (not (n is_from pos 0 to pos 1)) (Says old) (says_on old)
+  ctrl_on (query.Prio n) =
+      let prio = Int (or_nobody (thread s.control n)).prio in
+      refused_on ESRCH (not (is_known s.control n)) (Says prio) (says_on prio)
+  ctrl_on (query.Name n) =
+      let name = Text (or_nobody (thread s.control n)).name in
+      refused_on ESRCH (not (is_known s.control n)) (Says name) (says_on name)
+  ctrl_on query.Threads = says_on (Int (pos (present s.control)))
+  ctrl_on query.New = says_on (Int (pos (length (queue s.control queues.New))))
+  ctrl_on query.Ready = says_on (Int (pos (length (queue s.control queues.Ready))))
+  ctrl_on query.Running = says_on (Int (pos (running_count s.control.scheduler.running)))
+  ctrl_on query.Waiting = says_on (Int (pos (length (queue s.control queues.Waiting))))
+  ctrl_on query.Suspended = says_on (Int (pos (length (queue s.control queues.Suspended))))
+  ctrl_on query.Dead = says_on (Int (pos (length (queue s.control queues.Dead))))
+
+  ctrl_again_on : (q : Query) (b : Blocked) → EndsNot ((ctrl s q).again b).verdict
+  ctrl_again_on query.Threads b v h = cc h
+  ctrl_again_on q b v h = cc h
 
 exit_on : (b : Bool) (x v : ℤ) → (waits when b otherwise Ends x) ≡ Ends v → (x ≡ v) × (b ≡ false)
 exit_on true x v h = absurd (cc h)
@@ -61,13 +146,20 @@ module _ {P S H : Type 0} (f : P → Functions S H) (t : ℕ) (v : ℤ) where
   exits : (s : State P S H) (c : Call) → (row_of f s t c).begin.verdict ≡ Ends v → (c ≡ call.Exit v) × (must_wait s.control t ≡ false)
   unfolding row_of
   exits s (call.Exit x) h = let e = exit_on (must_wait s.control t) x v h in (ap call.Exit e.0, e.1)
-  exits s (call.Spawn b u a) h = absurd (spawn_on (not (is_below b (f s.control.program).bodies)) (not (is_zero a)) (not (has_room s.control)) (s.control.threads.made + 1) v h)
-  exits s (call.Yield n) h = absurd (yield_on (not (is_zero n)) v h)
+  exits s call.Kill h = absurd (kill_on f s t v h)
+  exits s (call.Ctrl q) h = absurd (ctrl_on f s t q v h)
+  exits s (call.Spawn b u a) h = absurd (spawn_on f s t b u a v h)
+  exits s (call.Suspend n) h = absurd (suspend_on f s t n v h)
+  exits s (call.Resume n) h = absurd (resume_on f s t n v h)
+  exits s (call.Yield n) h = absurd (yield_on f s t n v h)
+  exits s (call.Join n) h = absurd (join_on f s t n v h)
   exits s c h = absurd (cc h)
 
   exits_again : (s : State P S H) (b : Blocked) (c : Call) → ((row_of f s t c).again b).verdict ≡ Ends v → (c ≡ call.Exit v) × (must_wait s.control t ≡ false)
   unfolding row_of
   exits_again s b (call.Exit x) h = let e = exit_on (must_wait s.control t) x v h in (ap call.Exit e.0, e.1)
+  exits_again s b (call.Ctrl q) h = absurd (ctrl_again_on f s t q b v h)
+  exits_again s b (call.Join n) h = absurd (join_on f s t n v h)
   exits_again s b c h = absurd (cc h)
 
   begun_verdict : (c : Call) (w : Verdict) (a : Piece P S H) (s : State P S H) → (begun_by f t c w a s).next ≡ next.Ended v → w ≡ Ends v
@@ -113,11 +205,11 @@ module _ {P S H : Type 0} (f : P → Functions S H) (t : ℕ) (v : ℤ) where
   resumed_ends s e = by_blocked (blocked_of s.control t) refl (ap (λ (w : Went P S H). w.next) (sym (resumed_as s)) ∙ e)
     where
       by_blocked : (o : Option Blocked) → blocked_of s.control t ≡ o → (resumed_by f t o s).next ≡ next.Ended v → EndsIt s.control (resumed f t s).told.marks
-      by_blocked None is h = absurd (cc h)
-      by_blocked (Some b) is h =
+      by_blocked None at h = absurd (cc h)
+      by_blocked (Some b) at h =
           let a = (row_of f s t b.call).again b in
           let x = exits_again s b b.call (tried_verdict b a.verdict (effect_of a s).state h) in
-          record { free = x.1; told = ap (λ (w : Went P S H). w.told.marks) (again_ends f s t v b is x.0 x.1) ∙ ending_told s }
+          record { free = x.1; told = ap (λ (w : Went P S H). w.told.marks) (again_ends f s t v b at x.0 x.1) ∙ ending_told s }
 
   steps_ends : (s : State P S H) → (steps_on f t s).next ≡ next.Ended v → EndsIt s.control (steps_on f t s).told.marks
   unfolding goes_on is_alone
@@ -140,8 +232,8 @@ turn_ended t v (next.Ended y) x on e = by_main (t == main) refl e
     inside y v h = cc
 
     by_main : (b : Bool) → (t == main) ≡ b → (gives_up t (ends_run y b x)).outcome ≡ Ended v → ((t == main) ≡ true) × (next.Ended y ≡ next.Ended v)
-    by_main true is h = (is, ap next.Ended (inside y v h))
-    by_main false is h = absurd (running_ended v (sym on ∙ h))
+    by_main true one h = (one, ap next.Ended (inside y v h))
+    by_main false one h = absurd (running_ended v (sym on ∙ h))
 
 module _ {P S H : Type 0} where
   record EndsMain (x : Turn) (s : State P S H) (marks : List Mark) (v : ℤ) : Type 0 where
@@ -158,17 +250,21 @@ module _ {P S H : Type 0} where
 
   part_ends : (f : P → Functions S H) (x : Turn) (s : State P S H) (v : ℤ) (p : Part) → next_part s x ≡ p → x.outcome ≡ Running → (part_by f x s p).turn.outcome ≡ Ended v → EndsMain x s (part_by f x s p).marks v
   unfolding moves takes closes
-  part_ends f x s v Move is on e = absurd (cc e)
-  part_ends f x s v Take is on e = by_next (chosen (readies_new s.control).scheduler.preferred (queue (readies_new s.control) queues.Ready)) e
+  part_ends f x s v Move comes on e = by_moment (moment f s) e
+    where
+      by_moment : (o : Option ℕ) → (moves_by f x o s).turn.outcome ≡ Ended v → EndsMain x s (moves_by f x o s).marks v
+      by_moment None h = absurd (cc h)
+      by_moment (Some m) h = absurd (running_ended v (sym on ∙ h))
+  part_ends f x s v Take comes on e = by_next (chosen (readies_new s.control).scheduler.preferred (queue (readies_new s.control) queues.Ready)) e
     where
       by_next : (o : Option ℕ) → (takes_by x o (controlled readies_new s)).turn.outcome ≡ Ended v → EndsMain x s (takes_by x o (controlled readies_new s)).marks v
       by_next None h = absurd (running_ended v (sym on ∙ h))
       by_next (Some t) h = absurd (running_ended v (sym on ∙ h))
-  part_ends f x s v (Step t) is on e =
+  part_ends f x s v (Step t) comes on e =
       let k = step_ends f x s t v on e in
-      record { step = is ∙ ap Step k.0; alone = subst (λ (u : ℕ). is_alone s.control u ≡ true) k.0 k.1; told = k.2 ∙ ap (λ (u : ℕ). End (tid u) v ∷ []) k.0 }
-  part_ends f x s v (Close t) is on e = absurd (running_ended v (sym on ∙ e))
-  part_ends f x s v Halt is on e = absurd (running_ended v (sym on ∙ e))
+      record { step = comes ∙ ap Step k.0; alone = subst (λ (u : ℕ). is_alone s.control u ≡ true) k.0 k.1; told = k.2 ∙ ap (λ (u : ℕ). End (tid u) v ∷ []) k.0 }
+  part_ends f x s v (Close t) comes on e = absurd (running_ended v (sym on ∙ e))
+  part_ends f x s v Halt comes on e = absurd (running_ended v (sym on ∙ e))
 
   module _ (f : P → Functions S H) (g : Given P) (i : ℕ) (v : ℤ) (on : (run f g i).turn.outcome ≡ Running) (e : (run f g (i + 1)).turn.outcome ≡ Ended v) where
     run_ends : EndsMain (run f g i).turn (run f g i).state (part f (run f g i).turn (run f g i).state).marks v
@@ -181,5 +277,5 @@ module _ {P S H : Type 0} where
     pub ends_alone : is_alone (run f g i).state.control main ≡ true
     ends_alone = run_ends.alone
 
-    pub ends_told : IsBetween f g i (i + 1) (End (tid main) v ∷ [])
-    ends_told = subst (λ (m : List Mark). IsBetween f g i (i + 1) m) run_ends.told (between-more f g i i [] (between-none f g i))
+    pub ends_told : (before : List Mark) × IsBetween f g i (i + 1) (before ++ End (tid main) v ∷ [])
+    ends_told = ([], subst (λ (m : List Mark). IsBetween f g i (i + 1) m) run_ends.told (between-more f g i i [] (between-none f g i)))

@@ -1,32 +1,31 @@
 -- How a machine that makes the parts of a run follows it.
-use Rattle.std.proofs.Common.{◌≡◌, ◌≢◌, ℕ, ◌+◌, ◌<◌, ◌≤◌, List, [], ◌++◌, true, false, sym, ap, ◌∙◌, arith, append_assoc, append-nil, subst, inl, inr}
-use Rattle.std.proofs.lemmas.Bool.{cases_lt}
+use Rattle.std.proofs.Common.{◌≡◌, ◌≢◌, ℕ, ◌+◌, ◌<◌, ◌≤◌, List, [], ◌++◌, Bool, true, false, sym, ap, ◌∙◌, arith, append_assoc, append-nil, subst}
 use Rattle.pth_base.specs.Program.{Functions}
 use Rattle.pth_base.specs.declared.mark.Mark.{Mark}
 use Rattle.pth_base.specs.declared.outcome.Outcome.TheVariants.{Running}
 use Rattle.pth_model.specs.Course.{Course}
 use Rattle.pth_model.specs.State.{Given, start}
 use Rattle.pth_model.specs.Part.{part}
-use Rattle.pth_model.specs.Run.{run, stops, IsBetween}
-use Rattle.pth_model.proofs.Runs.{parts-more, between-none, between-more}
+use Rattle.pth_model.specs.Run.{run, stops_at, IsBetween}
+use Rattle.pth_model.proofs.Runs.{parts-more, between-none, between-more, none-more}
 use Rattle.pth_base.specs.Cut.{IsCut}
 use Rattle.pth_sched.specs.MachineOf.{MachineOf}
-use Rattle.pth_sched.specs.Running.{Stands, StandsAt, Makes, GoesOn, BreaksOff}
+use Rattle.pth_sched.specs.Running.{Stands, StandsAt, Makes, FollowsUntil, BreaksOffBefore, GoesOn}
 use Rattle.pth_sched.proofs.Keeping.{stops_ended}
 use Rattle.pth_sched.proofs.Showing.{stops_is}
 
-module _ {P S H : Type 0} (f : P → Functions S H) (g : Given P) (to i : ℕ) where
-  -- from part i the machine came to a part, before which the run does not stop, and what is told between was appended
+module _ {P S H : Type 0} (f : P → Functions S H) (g : Given P) (halts : ℕ → Bool) (i : ℕ) where
+  -- from part i the machine came to a part before which none halts, and what is told between was appended
   pub record Reaches (m : MachineOf P S H) (old new : List Mark) : Type 0 where
     pub part : ℕ
     pub later : i ≤ part
-    pub going : (k : ℕ) → i ≤ k → k < part → stops to (run f g k) ≡ false
+    pub going : (k : ℕ) → i ≤ k → k < part → halts k ≡ false
     pub stands : StandsAt f g part m
     pub told : List Mark
     pub between : IsBetween f g i part told
     pub appended : new ≡ old ++ told
 
-  pub reach-none : (m : MachineOf P S H) (old : List Mark) → StandsAt f g i m → Reaches m old old
+  unfoldable pub reach-none : (m : MachineOf P S H) (old : List Mark) → StandsAt f g i m → Reaches m old old
   reach-none m old st = record {
     part = i;
     later = omega arith;
@@ -37,34 +36,27 @@ module _ {P S H : Type 0} (f : P → Functions S H) (g : Given P) (to i : ℕ) w
     appended = sym (append-nil old);
   }
 
-  -- the run does not stop before the next part
-  pub still_going : (n : ℕ) → ((k : ℕ) → i ≤ k → k < n → stops to (run f g k) ≡ false) → stops to (run f g n) ≡ false → (k : ℕ) → i ≤ k → k < n + 1 → stops to (run f g k) ≡ false
-  still_going n before here k from below = elim (cases_lt k n) [
-    | inl early ↦ before k from early
-    | inr late ↦ (let at : n ≡ k = omega (arith, late, below) in subst (λ (j : ℕ). stops to (run f g j) ≡ false) at here)
-  ]
-
   -- the machine makes a part of the run
-  pub reach-more : (m v : MachineOf P S H) (old mid new : List Mark) → Reaches m old mid
-      → ((c : Course P S H) → Stands m c → stops to c ≡ false) → ((c : Course P S H) → Stands m c → Makes v mid new (part f c.turn c.state)) → Reaches v old new
+  unfoldable pub reach-more : (m v : MachineOf P S H) (old mid new : List Mark) → (r : Reaches m old mid) → halts r.part ≡ false
+      → ((c : Course P S H) → Stands m c → Makes v mid new (part f c.turn c.state)) → Reaches v old new
   reach-more m v old mid new r on makes =
       let here = run f g r.part in
       let made = makes here r.stands in
       record {
         part = r.part + 1;
         later = omega (arith, r.later);
-        going = still_going r.part r.going (on here r.stands);
+        going = none-more halts i r.part r.going on;
         stands = subst (λ (x : Course P S H). Stands v x) (sym (parts-more f (start f g) r.part)) (record { world = made.stands.world; turn = made.stands.turn; memory = made.stands.memory });
         told = r.told ++ (part f here.turn here.state).marks;
         between = between-more f g i r.part r.told r.between;
         appended = made.tells ∙ ap (λ (x : List Mark). x ++ (part f here.turn here.state).marks) r.appended ∙ append_assoc old r.told (part f here.turn here.state).marks;
       }
 
-  -- the run stops where the machine stands
-  pub reach-stop : (m : MachineOf P S H) (old new : List Mark) → Reaches m old new → ((c : Course P S H) → Stands m c → stops to c ≡ true) → GoesOn f g to i m old new
+  -- the part where the machine stands halts
+  pub reach-stop : (m : MachineOf P S H) (old new : List Mark) → (r : Reaches m old new) → halts r.part ≡ true → FollowsUntil f g halts i m old new
   reach-stop m old new r halt = record {
     part = r.part;
-    goes = record { later = r.later; here = halt (run f g r.part) r.stands; first = r.going };
+    goes = record { later = r.later; here = halt; first = r.going };
     stands = r.stands;
     told = r.told;
     between = r.between;
@@ -72,15 +64,15 @@ module _ {P S H : Type 0} (f : P → Functions S H) (g : Given P) (to i : ℕ) w
   }
 
   -- memory ends in the next part
-  pub reach-cut : (m : MachineOf P S H) (old mid new : List Mark) → Reaches m old mid
-      → ((c : Course P S H) → Stands m c → stops to c ≡ false) → ((c : Course P S H) → Stands m c → IsCut mid new (part f c.turn c.state).marks) → BreaksOff f g to i old new
+  pub reach-cut : (m : MachineOf P S H) (old mid new : List Mark) → (r : Reaches m old mid) → halts r.part ≡ false
+      → ((c : Course P S H) → Stands m c → IsCut mid new (part f c.turn c.state).marks) → BreaksOffBefore f g halts i old new
   reach-cut m old mid new r on cuts =
       let here = run f g r.part in
       let c = cuts here r.stands in
       record {
         part = r.part + 1;
         later = omega (arith, r.later);
-        going = still_going r.part r.going (on here r.stands);
+        going = none-more halts i r.part r.going on;
         told = r.told ++ (part f here.turn here.state).marks;
         between = between-more f g i r.part r.told r.between;
         cut = record {
@@ -93,4 +85,6 @@ module _ {P S H : Type 0} (f : P → Functions S H) (g : Given P) (to i : ℕ) w
 
 -- after an outcome that ended the run a machine stays where it is
 pub stays : {P S H : Type 0} (f : P → Functions S H) (g : Given P) (to i : ℕ) (m : MachineOf P S H) (old : List Mark) → m.turn.outcome ≢ Running → StandsAt f g i m → GoesOn f g to i m old old
-stays f g to i m old ended st = reach-stop f g to i m old old (reach-none f g to i m old st) (λ c k. sym (stops_is to m c k) ∙ stops_ended to m ended)
+stays f g to i m old ended st =
+    let r = reach-none f g (stops_at f g to) i m old st in
+    reach-stop f g (stops_at f g to) i m old old r (sym (stops_is to m (run f g r.part) r.stands) ∙ stops_ended to m ended)

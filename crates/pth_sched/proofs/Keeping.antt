@@ -1,5 +1,5 @@
 -- What the parts of a run keep.
-use Rattle.std.proofs.Common.{◌≡◌, ◌≢◌, ◌∙◌, ◌<◌, ℕ, true, Result, Ok, Err, OnOk, ℤ, length, refl, sym, ap, arith, Option, Some, None, IsSome, IfSome}
+use Rattle.std.proofs.Common.{◌≡◌, ◌≢◌, ◌∙◌, ◌<◌, ℕ, true, Result, Ok, Err, OnOk, ℤ, length, refl, sym, ap, subst, arith, Option, Some, None, IsSome, IfSome}
 use Rattle.pth_base.specs.Program.{Functions}
 use Rattle.pth_base.specs.declared.outcome.Outcome.{Outcome}
 use Rattle.pth_base.specs.declared.outcome.Outcome.TheVariants.{Running, Ended, Killed, Stalled, OutOfMemory}
@@ -13,7 +13,7 @@ use Rattle.pth_model.specs.Run.{parts}
 use Rattle.pth_world.specs.Shows.{StandsFor}
 use Rattle.pth_world.specs.Sound.{IsKnown}
 use Rattle.pth_world.specs.Touches.{KeepsScheduler}
-use Rattle.pth_world.specs.Whole.{Whole, IsIn}
+use Rattle.pth_world.specs.Whole.{Whole, IsIn, WaitsToRun}
 use Rattle.pth_world.specs.World.{WorldOf, ThreadsBySlot}
 use Rattle.pth_sched.specs.MachineOf.{MachineOf, IsGoing, stops, stops_by}
 use Rattle.pth_sched.specs.Running.{StandsAt}
@@ -42,9 +42,10 @@ some_new x t known stands = some_by x.queues (slot_of x.records t) known stands
 -- a world that stands for the start of a run
 pub start_going : {P S H : Type 0} (f : P → Functions S H) (w : WorldOf P S H) (given : Given P) → StandsFor w (start f given) → Whole w → w.threads.records.made ≡ 1 → IsGoing (record { world = w; turn = no_turn })
 unfolding start
-start_going f w given st whole one = record {
+start_going f w given st whole one = let nobody : w.scheduler.preferred ≡ None = sym (ap (λ (x : Scheduler). x.preferred) st.control.scheduler) in record {
   whole = whole;
-  preferred = sym (ap (λ (x : Scheduler). x.preferred) st.control.scheduler);
+  preferred = subst (λ (o : Option ℕ). IfSome o (λ u. WaitsToRun w.threads u)) (sym nobody) tt;
+  unnamed = λ gave runs. nobody;
   made = omega arith;
   turns = omega arith;
   over = tt;

@@ -1,6 +1,7 @@
 pub mod Cutting
 pub mod Endings
 pub mod Following
+pub mod Going
 pub mod Keeping
 pub mod Listing
 pub mod Living
@@ -9,4 +10,5 @@ pub mod Readying
 pub mod Roofs
 pub mod Showing
 pub mod Stopping
+pub mod Turning
 pub mod Waking

@@ -8,6 +8,7 @@ use Rattle.pth_base.specs.declared.outcome.Outcome.{Outcome}
 use Rattle.pth_base.specs.declared.outcome.Outcome.TheVariants.{Running, Ended, Killed, Stalled, OutOfMemory}
 use Rattle.pth_queue.specs.declared.queue.Queue.TheVariants as queues
 use Rattle.pth_queue.specs.Ranking.{place_in}
+use Rattle.pth_model.proofs.Moments.{no_moment}
 use Rattle.pth_model.specs.declared.blocked.Blocked.{Blocked}
 use Rattle.pth_model.specs.declared.next.Next.{Next}
 use Rattle.pth_model.specs.declared.next.Next.TheVariants as next
@@ -18,7 +19,7 @@ use Rattle.pth_model.specs.Course.{Course, within}
 use Rattle.pth_model.specs.State.{State, Control, Scheduler, Turn, main, queue}
 use Rattle.pth_model.specs.Transition.{silent, controlled, tid}
 use Rattle.pth_model.specs.Pass.{pass}
-use Rattle.pth_model.specs.Part.{Part, Halt, part, next_part, next_part_by, unless_ended, moves, takes, dispatches, steps, steps_by, steps_on, closes, runs, turn_ends, readies_new, chosen, rank_by, is_idle, owes_after, turn_after, gives_up, ends_run}
+use Rattle.pth_model.specs.Part.{Part, Halt, Move, part, part_by, next_part, next_part_by, unless_ended, moves, moves_by, takes, dispatches, steps, steps_by, steps_on, closes, runs, turn_ends, readies_new, chosen, rank_by, is_idle, owes_after, turn_after, gives_up, ends_run}
 use Rattle.pth_model.specs.Resources.{told as told_of}
 use Rattle.pth_world.specs.World.{WorldOf}
 use Rattle.pth_world.specs.Shows.{Shows}
@@ -61,9 +62,17 @@ module _ {P S H : Type 0} (f : P → Functions S H) (m : MachineOf P S H) (c : C
     unfolding part next_part
     part_take none nobody busy = rw (on_turn, gave_turn None none, nobody_runs None nobody, busy) refl
 
+    next_move : m.turn.gave ≡ None → m.world.scheduler.running ≡ None → is_idle c.state.control ≡ true → next_part c.state c.turn ≡ Move
+    unfolding next_part
+    next_move none nobody idle = rw (on_turn, gave_turn None none, nobody_runs None nobody, idle) refl
+
+    stalls : moves f c.turn c.state ≡ within (record c.turn { outcome = Stalled }) (silent c.state)
+    unfolding moves
+    stalls = ap (λ (o : Option ℕ). moves_by f c.turn o c.state) (no_moment f c.state)
+
     pub part_move : m.turn.gave ≡ None → m.world.scheduler.running ≡ None → is_idle c.state.control ≡ true → part f c.turn c.state ≡ within (record c.turn { outcome = Stalled }) (silent c.state)
-    unfolding part next_part moves
-    part_move none nobody idle = rw (on_turn, gave_turn None none, nobody_runs None nobody, idle) refl
+    unfolding part
+    part_move none nobody idle = ap (part_by f c.turn c.state) (next_move none nobody idle) ∙ stalls
 
 -- the same part, the same marks and states
 module _ {P S H : Type 0} (v : MachineOf P S H) (one two : Course P S H) (same : two ≡ one) where

@@ -11,17 +11,17 @@ use Rattle.pth_queue.specs.declared.queue.Queue.TheVariants as queues
 use Rattle.pth_queue.specs.Ranking.{insert, head_of}
 use Rattle.pth_threads.specs.declared.entry.Change.TheVariants as change
 use Rattle.pth_base.specs.declared.thread.ThreadState.TheVariants as state
+use Rattle.pth_model.proofs.Moments.{no_moment}
 use Rattle.pth_model.specs.Course.{Course}
 use Rattle.pth_model.specs.State.{State, Control, Scheduler, Turn, Given, start, queue}
 use Rattle.pth_model.specs.Changes.{holders, is_empty, enters, leaves_queue, sets}
 use Rattle.pth_model.specs.Pass.{is_ready_at, woken, all_woken, pass, to_wake}
 use Rattle.pth_model.specs.Part.{next_part, next_part_by, unless_ended, part, part_by, moves, takes, readies, readies_all, readies_new, chosen, is_idle, steps, steps_on, closes, turn_ends, is_placed, dispatches, runs}
-use Rattle.pth_model.specs.Run.{run, stops, stops_by, GoesTo}
+use Rattle.pth_model.specs.Run.{run, stops, stops_at, stops_by, GoesTo}
 use Rattle.pth_model.specs.Transition.{controlled}
 use Rattle.pth_model.proofs.Queues.{queue-enter}
-use Rattle.pth_model.proofs.Runs.{parts-more}
+use Rattle.pth_model.proofs.Runs.{parts-more, none-more}
 use Rattle.pth_world.proofs.Ranks.{length-insert}
-use Rattle.pth_sched.proofs.Following.{still_going}
 use Rattle.pth_sched.proofs.Parts.{turn_steps}
 
 -- how far a run to a number of steps is from where it stops
@@ -102,7 +102,7 @@ module _ {P S H : Type 0} where
   placed_nobody k t = refl
 
 module _ {P S H : Type 0} (f : P → Functions S H) where
-  stepped_steps : (x : Turn) (t : ℕ) (s : State P S H) → (steps f x t s).turn.steps ≡ x.steps + 1
+  pub stepped_steps : (x : Turn) (t : ℕ) (s : State P S H) → (steps f x t s).turn.steps ≡ x.steps + 1
   unfolding steps
   stepped_steps x t s = turn_steps t (steps_on f t s).next (record x { steps = x.steps + 1 })
 
@@ -134,7 +134,7 @@ module _ {P S H : Type 0} (f : P → Functions S H) where
   unfolding moves
   near_by to x s Running (Some t) r idle eg ei h = close_near to x t s
   near_by to x s Running None (Some t) idle eg ei h = step_near to x t s (grind (arith, nat_tests))
-  near_by to x s Running None None true eg ei h = omega arith
+  near_by to x s Running None None true eg ei h = rw (no_moment f s) (omega arith)
   near_by to x s Running None None false eg ei h = take_near to x s eg ei
   near_by to x s (Ended v) g r idle eg ei h = absurd (cc h)
   near_by to x s Killed g r idle eg ei h = absurd (cc h)
@@ -156,7 +156,7 @@ module _ {P S H : Type 0} (f : P → Functions S H) where
     ]
     stop_within (suc n) j later before low = elim (cases_Bool (stops to (run f g j))) [
       | inl halt ↦ (j, record { later = later; here = halt; first = before })
-      | inr on ↦ stop_within n (j + 1) (omega (arith, later)) (still_going f g to i j before on) (omega (arith, low, next_near j on))
+      | inr on ↦ stop_within n (j + 1) (omega (arith, later)) (none-more (stops_at f g to) i j before on) (omega (arith, low, next_near j on))
     ]
 
     -- from each part a run comes to one where it stops

@@ -1,10 +1,10 @@
 -- What contracts see of a machine, and what holds of it between two parts of a run.
-use Rattle.std.specs.Prelude.{◌≡◌, ◌≤◌, ◌+◌, ◌*◌, ◌-◌, nat_le, ℕ, Bool, true, false, Option, Some, None, IfSome, length}
+use Rattle.std.specs.Prelude.{◌≡◌, ◌≤◌, ◌+◌, ◌*◌, ◌-◌, nat_le, ℕ, Bool, true, false, Option, Some, None, IsSome, IfSome, length}
 use Rattle.pth_base.specs.declared.outcome.Outcome.{Outcome}
 use Rattle.pth_base.specs.declared.outcome.Outcome.TheVariants as outcome
 use Rattle.pth_model.specs.State.{Turn}
 use Rattle.pth_world.specs.World.{WorldOf}
-use Rattle.pth_world.specs.Whole.{Whole}
+use Rattle.pth_world.specs.Whole.{Whole, WaitsToRun}
 use Rattle.pth_world.specs.Ranks.{IsUnder, greatest_return}
 
 -- a world with the turn that it is in
@@ -15,7 +15,10 @@ pub record MachineOf (P S H : Type 0) : Type 0 where
 -- each step makes at most one thread, and each turn but the last has at least one step
 pub record IsGoing {P S H : Type 0} (m : MachineOf P S H) : Type 0 where
   pub whole : Whole m.world
-  pub preferred : m.world.scheduler.preferred ≡ None
+  -- who was named by a yield waits to run
+  pub preferred : IfSome m.world.scheduler.preferred (λ u. WaitsToRun m.world.threads u)
+  -- while a thread runs and has not given up control, nobody is named
+  pub unnamed : m.turn.gave ≡ None → IsSome m.world.scheduler.running → m.world.scheduler.preferred ≡ None
   pub made : m.world.threads.records.made ≤ m.turn.steps + 1
   pub turns : m.turn.turns ≤ m.turn.steps + 1
   pub over : IfSome m.turn.gave (λ t. m.turn.turns ≤ m.turn.steps)

@@ -1,7 +1,7 @@
 -- What the parts of a turn need of a world.
 use Rattle.std.specs.Prelude.{◌≢◌, ℕ, ◌+◌, ◌^◌, ◌≤◌, List, [], ◌∷◌, length}
 use Rattle.pth_queue.specs.Queues.{QueuesOf}
-use Rattle.pth_queue.specs.declared.queue.Queue.TheVariants.{Waiting}
+use Rattle.pth_queue.specs.declared.queue.Queue.TheVariants.{Ready, Waiting}
 use Rattle.pth_world.specs.Sound.{IsKnown}
 use Rattle.pth_world.specs.Whole.{IsIn}
 use Rattle.pth_world.specs.World.{WorldOf}
@@ -10,6 +10,10 @@ use Rattle.pth_world.specs.Ranks.{IsUnder, greatest_return}
 -- the thread is in the system, and stands in the waiting queue
 abbrev pub IsWaiting : {P S H : Type 0} → WorldOf P S H → ℕ → Type 0
 IsWaiting w t = IsKnown w.threads t × IsIn Waiting w.threads t
+
+-- the thread is in the system, and stands in the ready queue
+abbrev pub IsReady : {P S H : Type 0} → WorldOf P S H → ℕ → Type 0
+IsReady w t = IsKnown w.threads t × IsIn Ready w.threads t
 
 abbrev pub IsNotIn : ℕ → List ℕ → Type 0
 IsNotIn t [] = Unit {0}

@@ -1,11 +1,11 @@
 -- How a machine follows a run.
-use Rattle.std.specs.Prelude.{◌≡◌, ◌≢◌, ◌<◌, ◌≤◌, ◌++◌, ℕ, false, List, None, IsSome}
+use Rattle.std.specs.Prelude.{◌≡◌, ◌≢◌, ◌<◌, ◌≤◌, ◌++◌, ℕ, Bool, false, List, None, IsSome}
 use Rattle.pth_base.specs.Program.{Functions}
 use Rattle.pth_base.specs.declared.mark.Mark.{Mark}
 use Rattle.pth_base.specs.declared.outcome.Outcome.TheVariants.{Running, OutOfMemory}
 use Rattle.pth_model.specs.State.{Given}
 use Rattle.pth_model.specs.Course.{Course}
-use Rattle.pth_model.specs.Run.{run, stops, GoesTo, IsBetween}
+use Rattle.pth_model.specs.Run.{run, GoesUntil, stops_at, stops_or_closed, IsBetween}
 use Rattle.pth_world.specs.Shows.{StandsFor}
 use Rattle.pth_base.specs.Cut.{IsCut}
 use Rattle.pth_sched.specs.MachineOf.{MachineOf, IsGoing, IsRoofed}
@@ -26,31 +26,52 @@ pub record Makes {P S H : Type 0} (m : MachineOf P S H) (old new : List Mark) (c
 abbrev pub StandsAt : {P S H : Type 0} → (P → Functions S H) → Given P → ℕ → MachineOf P S H → Type 0
 StandsAt f g i m = Stands m (run f g i)
 
--- From part i the run to a number of steps goes on to a part where it stops: the machine stands there, and what the run
--- tells between was appended.
-pub record GoesOn {P S H : Type 0} (f : P → Functions S H) (g : Given P) (to i : ℕ) (m : MachineOf P S H) (old new : List Mark) : Type 0 where
+-- From part i on the machine followed the run to the first part that halts: it stands there, and what the run tells between
+-- was appended.
+pub record FollowsUntil {P S H : Type 0} (f : P → Functions S H) (g : Given P) (halts : ℕ → Bool) (i : ℕ) (m : MachineOf P S H) (old new : List Mark) : Type 0 where
   pub part : ℕ
-  pub goes : GoesTo f g to i part
+  pub goes : GoesUntil halts i part
   pub stands : StandsAt f g part m
   pub told : List Mark
   pub between : IsBetween f g i part told
   pub appended : new ≡ old ++ told
 
--- Memory ended on the way from part i: a beginning of what the run tells up to some part was appended, and the run to
--- this number of steps does not stop before that part.
-pub record BreaksOff {P S H : Type 0} (f : P → Functions S H) (g : Given P) (to i : ℕ) (old new : List Mark) : Type 0 where
+-- Memory ended on the way from part i: a beginning of what the run tells up to some part was appended, and no part before
+-- that one halts.
+pub record BreaksOffBefore {P S H : Type 0} (f : P → Functions S H) (g : Given P) (halts : ℕ → Bool) (i : ℕ) (old new : List Mark) : Type 0 where
   pub part : ℕ
   pub later : i ≤ part
-  pub going : (k : ℕ) → i ≤ k → k < part → stops to (run f g k) ≡ false
+  pub going : (k : ℕ) → i ≤ k → k < part → halts k ≡ false
   pub told : List Mark
   pub between : IsBetween f g i part told
   pub cut : IsCut old new told
+
+module _ {P S H : Type 0} (f : P → Functions S H) (g : Given P) (to i : ℕ) where
+  -- the run to a number of steps goes on to where it stops, or breaks off before
+  abbrev pub GoesOn : MachineOf P S H → (old new : List Mark) → Type 0
+  GoesOn m old new = FollowsUntil f g (stops_at f g to) i m old new
+
+  abbrev pub BreaksOff : (old new : List Mark) → Type 0
+  BreaksOff old new = BreaksOffBefore f g (stops_at f g to) i old new
+
+  -- and so does one turn of it: no further than to the first Close that is made
+  abbrev pub TurnGoesOn : MachineOf P S H → (old new : List Mark) → Type 0
+  TurnGoesOn m old new = FollowsUntil f g (stops_or_closed f g to i) i m old new
+
+  abbrev pub TurnBreaksOff : (old new : List Mark) → Type 0
+  TurnBreaksOff old new = BreaksOffBefore f g (stops_or_closed f g to i) i old new
 
 -- the part that comes next is a step
 pub record IsAtStep {P S H : Type 0} (m : MachineOf P S H) : Type 0 where
   pub goes : m.turn.outcome ≡ Running
   pub gave : m.turn.gave ≡ None
   pub runs : IsSome m.world.scheduler.running
+
+-- the run goes on, and no turn is open: no thread runs, and none gave up control
+pub record IsBetweenTurns {P S H : Type 0} (m : MachineOf P S H) : Type 0 where
+  pub goes : m.turn.outcome ≡ Running
+  pub gave : m.turn.gave ≡ None
+  pub nobody : m.world.scheduler.running ≡ None
 
 -- what holds of a machine between two parts
 pub record Keeps {P S H : Type 0} (m : MachineOf P S H) : Type 0 where

@@ -1,11 +1,11 @@
 //! A machine that runs a program.
 
-ghost use Rattle.std.specs.Prelude.{◌≡◌, ◌≢◌, ◌≤◌, ◌+◌, ◌↔◌, ℕ, map, IfOk};
+ghost use Rattle.std.specs.Prelude.{◌≡◌, ◌≢◌, ◌⊎◌, ◌≤◌, ◌+◌, ◌↔◌, ℕ, map, IfOk};
 ghost use Rattle.pth_model.specs.Course.{Course};
 ghost use Rattle.pth_model.specs.State.{Given};
 ghost use Rattle.pth_model.specs.Living.{live as live_threads};
 ghost use Rattle.pth_threads.specs.Threads.{number};
-ghost use Rattle.pth_sched.specs.Running.{Stands, StandsAt, GoesOn, BreaksOff, IsAtStep};
+ghost use Rattle.pth_sched.specs.Running.{Stands, StandsAt, GoesOn, BreaksOff, TurnGoesOn, TurnBreaksOff, IsAtStep, IsBetweenTurns};
 
 use crate::live::live;
 use crate::schedule::Schedule;
@@ -79,13 +79,27 @@ impl<P: Program> Machine<P> {
             outcome => return outcome,
         }
         let to = self.schedule.steps() + n;
-        match self.schedule.advance(to, marks) {
-            Ok(()) => self.schedule.outcome(),
-            Err(OutOfMemory) => {
-                self.failed = true;
-                Outcome::OutOfMemory
-            }
+        self.failed = self.schedule.advance(to, marks).is_err();
+        self.outcome()
+    }
+
+    /// Goes on as `advance` does, and no further than to the end of a turn: it stops also after the first Close that it makes.
+    pub fn turn(&mut self, n: u64, marks: &mut Marks) -> Outcome
+        requires few { self.old.turn.steps + n ≤ 1000000000 }
+        ensures goes_on { result ≢ Outcome.OutOfMemory → (g : Given P) (i : ℕ) → StandsAt P.functions g i self.old → TurnGoesOn P.functions g (self.old.turn.steps + n) i self.new marks.old marks.new }
+        ensures breaks_off { result ≡ Outcome.OutOfMemory → (g : Given P) (i : ℕ) → StandsAt P.functions g i self.old → TurnBreaksOff P.functions g (self.old.turn.steps + n) i marks.old marks.new }
+        ensures running { (result ≡ Outcome.Running) ↔ (((self.new.turn.steps ≡ self.old.turn.steps + n) × IsAtStep self.new) ⊎ IsBetweenTurns self.new) }
+        ensures steps { self.new.turn.steps ≤ self.old.turn.steps + n }
+        ensures outcome { result ≡ self.new.turn.outcome }
+        ensures again { self.old.turn.outcome ≢ Outcome.Running → (result ≡ self.old.turn.outcome) × (marks.new ≡ marks.old) }
+    {
+        match self.outcome() {
+            Outcome::Running => {}
+            outcome => return outcome,
         }
+        let to = self.schedule.steps() + n;
+        self.failed = self.schedule.turn(to, marks).is_err();
+        self.outcome()
     }
 
     /// How many steps were made.

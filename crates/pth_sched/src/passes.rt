@@ -13,7 +13,7 @@ ghost use Rattle.pth_world.specs.Ranks.{KeepsRanks, greatest_return};
 ghost use Rattle.pth_world.specs.Shows.{Shows, StandsFor};
 ghost use Rattle.pth_world.specs.Sound.{IsSound, IsKnown};
 ghost use Rattle.pth_world.specs.Touches.{KeepsScheduler};
-ghost use Rattle.pth_world.specs.Whole.{Whole, IsIn};
+ghost use Rattle.pth_world.specs.Whole.{Whole, IsIn, WaitsToRun};
 ghost use Rattle.pth_sched.specs.Passing.{IsWaiting, WaitOnce};
 
 use pth_base::ids::Tid;
@@ -27,7 +27,7 @@ use pth_world::world::World;
 
 // Lists a waiting thread where its call has what it waits for.
 fn list_one<P: Program>(w: &World<P>, t: Tid, list: &mut Vec<Tid>) -> Result<(), OutOfMemory>
-    requires { IsSound w.now.threads }
+    requires { Whole w.now }
     ensures { OnOk result ((s : State P P.State P.Shared) → StandsFor w.now s → map number list.new.items ≡ map number list.old.items ++ (if wakes_now P.functions t.0 s then t.0 ∷ [] else [])) }
 {
     if wakes(w, t) {
@@ -75,6 +75,7 @@ fn wake<P: Program>(w: &mut World<P>, t: Tid, marks: &mut Marks) -> Result<(), O
     ensures made { w.new.threads.records.made ≡ w.old.threads.records.made }
     ensures others { (u : ℕ) → u ≢ t.0 → IsWaiting w.old u → IsWaiting w.new u }
     ensures ranks { KeepsRanks 0 w.old.threads w.new.threads }
+    ensures stays { (u : ℕ) → WaitsToRun w.old.threads u → WaitsToRun w.new.threads u }
 {
     let rank = woken_rank(w, t);
     w.make_ready(t, rank);
@@ -95,6 +96,7 @@ fn wake_all<P: Program>(
     ensures scheduler { OnOk result (KeepsScheduler w.old w.new) }
     ensures made { OnOk result (w.new.threads.records.made ≡ w.old.threads.records.made) }
     ensures ranks { OnOk result (KeepsRanks 0 w.old.threads w.new.threads) }
+    ensures stays { OnOk result ((u : ℕ) → WaitsToRun w.old.threads u → WaitsToRun w.new.threads u) }
 {
     for t in list {
         wake(w, *t, marks)?;
@@ -116,6 +118,7 @@ pub fn pass<P: Program>(
     ensures scheduler { OnOk result (KeepsScheduler w.old w.new) }
     ensures made { OnOk result (w.new.threads.records.made ≡ w.old.threads.records.made) }
     ensures ranks { OnOk result (KeepsRanks 0 w.old.threads w.new.threads) }
+    ensures stays { OnOk result ((u : ℕ) → WaitsToRun w.old.threads u → WaitsToRun w.new.threads u) }
 {
     list_to_wake(w, list)?;
     wake_all(w, list.as_slice(), marks)

@@ -1,6 +1,6 @@
 //! The parts of a run: a thread is taken, it makes a step, and its turn is closed.
 
-ghost use Rattle.std.specs.Prelude.{◌≡◌, ◌≢◌, ◌≤◌, ◌+◌, ◌<◌, ℕ, [], true, false, Some, None, IsSome, IfSome, IfOk, OnOk, OnErr, length};
+ghost use Rattle.std.specs.Prelude.{◌≡◌, ◌≢◌, ◌⊎◌, ◌≤◌, ◌+◌, ◌<◌, ℕ, [], true, false, Some, None, IsSome, IfSome, IfOk, OnOk, OnErr, length};
 ghost use Rattle.pth_base.specs.Cut.{IsCut};
 ghost use Rattle.pth_model.specs.Changes.{goes_on};
 ghost use Rattle.pth_model.specs.Course.{Course};
@@ -11,7 +11,7 @@ ghost use Rattle.pth_world.specs.Frame.{runs_after};
 ghost use Rattle.pth_world.specs.Shows.{Shows};
 ghost use Rattle.pth_world.specs.Whole.{Whole};
 ghost use Rattle.pth_sched.specs.MachineOf.{IsGoing, IsRoofed, left, stops};
-ghost use Rattle.pth_sched.specs.Running.{Stands, StandsAt, Keeps, Makes, GoesOn, BreaksOff};
+ghost use Rattle.pth_sched.specs.Running.{Stands, StandsAt, Keeps, Makes, GoesOn, BreaksOff, TurnGoesOn, TurnBreaksOff, IsBetweenTurns};
 
 use crate::passes::pass;
 use crate::turns::{end_turn, go_on, next, ready_new};
@@ -261,6 +261,26 @@ impl<P: Program> Schedule<P> {
         ensures stops { OnOk result (stops to self.new ≡ true) }
     {
         while !self.stops(to) {
+            self.part(marks)?;
+        }
+        Ok(())
+    }
+
+    /// Goes on as `advance` does, and no further than to the end of a turn. After an error the schedule may only be dropped.
+    pub fn turn(&mut self, to: u64, marks: &mut Marks) -> Result<(), OutOfMemory>
+        requires keeps { Keeps self.old }
+        requires more { self.old.turn.steps ≤ to }
+        requires few { to ≤ 1000000000 }
+        ensures goes_on { OnOk result ((g : Given P) (i : ℕ) → StandsAt P.functions g i self.old → TurnGoesOn P.functions g to i self.new marks.old marks.new) }
+        ensures breaks_off { OnErr result ((g : Given P) (i : ℕ) → StandsAt P.functions g i self.old → TurnBreaksOff P.functions g to i marks.old marks.new) }
+        ensures keeps { OnOk result (Keeps self.new) }
+        ensures within { self.new.turn.steps ≤ to }
+        ensures stops { OnOk result ((stops to self.new ≡ true) ⊎ IsBetweenTurns self.new) }
+    {
+        while !self.stops(to) {
+            if let Some(t) = self.gave {
+                return self.close(t, marks);
+            }
             self.part(marks)?;
         }
         Ok(())

@@ -7,14 +7,14 @@ ghost use Rattle.pth_base.specs.Cut.{IsCut};
 ghost use Rattle.pth_model.specs.Changes.{raises_ready};
 ghost use Rattle.pth_model.specs.Part.{chosen, is_placed, new_rank, readies_new, steps_from, steps_on, time_passes, turn_ends};
 ghost use Rattle.pth_model.specs.State.{Control, State, queue as rows};
-ghost use Rattle.pth_world.specs.Frame.{Frame, runs_after};
+ghost use Rattle.pth_world.specs.Frame.{Frame, runs_after, yields_after};
 ghost use Rattle.pth_world.specs.Leading.{Leads};
 ghost use Rattle.pth_world.specs.Ranks.{IsUnder, KeepsRanks, greatest_return};
 ghost use Rattle.pth_world.specs.Shows.{Shows, StandsFor};
 ghost use Rattle.pth_world.specs.Sound.{IsSound, IsKnown};
 ghost use Rattle.pth_world.specs.Touches.{KeepsScheduler};
-ghost use Rattle.pth_world.specs.Whole.{Whole, IsIn};
-ghost use Rattle.pth_sched.specs.Passing.{HasRoom};
+ghost use Rattle.pth_world.specs.Whole.{Whole, IsIn, WaitsToRun};
+ghost use Rattle.pth_sched.specs.Passing.{HasRoom, IsReady};
 
 use pth_base::ids::Tid;
 use pth_base::limits::LAST_MOMENT;
@@ -49,6 +49,7 @@ pub fn ready_new<P: Program>(w: &mut World<P>)
     ensures none { w.new.threads.queues.new ≡ [] }
     ensures ranks { (roof : ℕ) → greatest_return ≤ roof → IsUnder roof w.old.threads.queues.ready → IsUnder (roof + length w.old.threads.queues.new) w.new.threads.queues.ready }
     ensures some { 0 < length w.old.threads.queues.ready + length w.old.threads.queues.new → 0 < length w.new.threads.queues.ready }
+    ensures stays { (u : ℕ) → WaitsToRun w.old.threads u → WaitsToRun w.new.threads u }
 {
     while let Some(t) = w.last(Queue::New) {
         let rank = new_rank(w);
@@ -59,7 +60,7 @@ pub fn ready_new<P: Program>(w: &mut World<P>)
 /// The thread that the last yield named, else the head of the ready queue.
 pub fn next<P: Program>(w: &World<P>) -> Tid
     requires whole { Whole w.now }
-    requires preferred { w.now.scheduler.preferred ≡ None }
+    requires named { IfSome w.now.scheduler.preferred (λ u. IsReady w.now u) }
     requires some { 0 < length w.now.threads.queues.ready }
     ensures next { (k : Control P P.State P.Shared) → Shows w.now k → Some result.0 ≡ chosen k.scheduler.preferred (rows k queue.Ready) }
     ensures known { IsKnown w.now.threads result.0 }
@@ -80,7 +81,7 @@ fn begin_next<P: Program>(w: &mut World<P>, t: Tid, marks: &mut Marks) -> Result
     ensures ok { OnOk result ((s : State P P.State P.Shared) → StandsFor w.old s → IfSome (s.control.threads.progress t.0) (λ p. Leads w.new marks.old marks.new (steps_from P.functions t.0 p s).told)) }
     ensures err { OnErr result ((s : State P P.State P.Shared) → StandsFor w.old s → IfSome (s.control.threads.progress t.0) (λ p. IsCut marks.old marks.new (steps_from P.functions t.0 p s).told.marks)) }
     ensures some { (s : State P P.State P.Shared) → StandsFor w.old s → IsSome (s.control.threads.progress t.0) }
-    ensures frame { IfOk result (λ n. Frame w.old w.new 1 (runs_after t.0 n)) }
+    ensures frame { IfOk result (λ n. Frame w.old w.new 1 (runs_after t.0 n) (yields_after n)) }
 {
     let call = w.next_call(t)?;
     begin(w, t, call, marks)
@@ -95,7 +96,7 @@ pub fn go_on<P: Program>(w: &mut World<P>, t: Tid, marks: &mut Marks) -> Result<
     ensures next { IfOk result (λ n. (s : State P P.State P.Shared) → StandsFor w.old s → n ≡ (steps_on P.functions t.0 s).next) }
     ensures ok { OnOk result ((s : State P P.State P.Shared) → StandsFor w.old s → Leads w.new marks.old marks.new (steps_on P.functions t.0 s).told) }
     ensures err { OnErr result ((s : State P P.State P.Shared) → StandsFor w.old s → IsCut marks.old marks.new (steps_on P.functions t.0 s).told.marks) }
-    ensures frame { IfOk result (λ n. Frame w.old w.new 1 (runs_after t.0 n)) }
+    ensures frame { IfOk result (λ n. Frame w.old w.new 1 (runs_after t.0 n) (yields_after n)) }
 {
     if w.blocked(t).is_some() {
         return resume(w, t, marks);
@@ -113,6 +114,7 @@ fn place<P: Program>(w: &mut World<P>, t: Tid)
     ensures preferred { w.new.scheduler.preferred ≡ w.old.scheduler.preferred }
     ensures made { w.new.threads.records.made ≡ w.old.threads.records.made }
     ensures ranks { KeepsRanks 0 w.old.threads w.new.threads }
+    ensures stays { (u : ℕ) → WaitsToRun w.old.threads u → WaitsToRun w.new.threads u }
 {
     if w.running().is_none() {
         return;
@@ -128,6 +130,7 @@ fn place<P: Program>(w: &mut World<P>, t: Tid)
 fn tick<P: Program>(w: &mut World<P>)
     ensures shows { (k : Control P P.State P.Shared) → Shows w.old k → Shows w.new (time_passes k) }
     ensures whole { Whole w.old → Whole w.new }
+    ensures stays { (u : ℕ) → WaitsToRun w.old.threads u → WaitsToRun w.new.threads u }
     ensures same { w.new ≡ record w.old { scheduler = record w.old.scheduler { now = w.new.scheduler.now } } }
 {
     let time = w.time().saturating_add(w.clock());
@@ -146,6 +149,7 @@ pub fn end_turn<P: Program>(w: &mut World<P>, t: Tid)
     ensures made { w.new.threads.records.made ≡ w.old.threads.records.made }
     ensures ranks { (roof : ℕ) → greatest_return ≤ roof → IsUnder roof w.old.threads.queues.ready → IsUnder (roof + 1) w.new.threads.queues.ready }
     ensures fresh { length w.new.threads.queues.new ≤ length w.old.threads.queues.new }
+    ensures stays { (u : ℕ) → WaitsToRun w.old.threads u → WaitsToRun w.new.threads u }
 {
     w.raise_ready();
     place(w, t);

@@ -18,6 +18,7 @@ loop-t-init g c = record {
   scheduler = scheduler_first _;
   made = refl;
   ranks = ranks_none _;
+  stays = λ u waits. waits;
 }
 
 pub wake-requires-clause-waits : goal.wake-requires-clause-waits
@@ -46,6 +47,7 @@ loop-t-preserved g c =
       scheduler = scheduler_then _ _ _ c.loop-t.invariant.scheduler c.wake.ensures.scheduler;
       made = c.wake.ensures.made ∙ c.loop-t.invariant.made;
       ranks = ranks_then 0 0 _ _ _ c.loop-t.invariant.ranks c.wake.ensures.ranks;
+      stays = λ u waits. c.wake.ensures.stays u (c.loop-t.invariant.stays u waits);
     }
 
 pub returns-clause-ok : goal.returns-clause-ok

@@ -1,10 +1,10 @@
-use Rattle.std.proofs.Common.{◌≡◌, map, drop}
+use Rattle.std.proofs.Common.{◌≡◌, ℕ, map, drop}
 use Rattle.pth_threads.specs.Threads.{number}
 use Rattle.pth_model.specs.State.{State}
 use Rattle.pth_model.specs.Pass.{all_woken}
 use Rattle.pth_world.specs.Shows.{StandsFor}
 use Rattle.pth_world.specs.Touches.{KeepsScheduler}
-use Rattle.pth_world.specs.Whole.{Whole}
+use Rattle.pth_world.specs.Whole.{Whole, WaitsToRun}
 use Rattle.pth_world.specs.Ranks.{KeepsRanks}
 use Rattle.pth_sched.specs.Passing.{WaitOnce}
 use Rattle.pth_sched.proofs.Waking.{Wakes}
@@ -18,4 +18,5 @@ invariant-loop-t g l = record {
   scheduler : KeepsScheduler l.fn.w l.w;
   made : l.w.threads.records.made ≡ l.fn.w.threads.records.made;
   ranks : KeepsRanks 0 l.fn.w.threads l.w.threads;
+  stays : (u : ℕ) → WaitsToRun l.fn.w.threads u → WaitsToRun l.w.threads u;
 }

@@ -51,3 +51,9 @@ returns-else-is_some-clause-made g c = c.put_back.ensures.threads.made
 
 pub returns-else-is_some-clause-ranks : goal.returns-else-is_some-clause-ranks
 returns-else-is_some-clause-ranks g c = c.put_back.ensures.ranks
+
+pub returns-then-is_some-clause-stays : goal.returns-then-is_some-clause-stays
+returns-then-is_some-clause-stays g c = c.make_waiting.ensures.stays
+
+pub returns-else-is_some-clause-stays : goal.returns-else-is_some-clause-stays
+returns-else-is_some-clause-stays g c = c.put_back.ensures.stays

@@ -14,6 +14,7 @@ loop-t-init g c = record {
   room = c.requires.room;
   rises = λ roof low under. rises_none _ roof under;
   some = λ h. h;
+  stays = λ u waits. waits;
 }
 
 pub make_ready-requires-clause-before : goal.make_ready-requires-clause-before
@@ -43,6 +44,7 @@ loop-t-preserved g c =
       room = room_next c.loop-t.w.threads c.make_ready.new.self.threads c.in-Some.t.0 _ known stands queues before.room c.new_rank-rank.ensures.under;
       rises = λ roof low under. rises_next _ c.loop-t.w.threads c.make_ready.new.self.threads c.in-Some.t.0 _ roof known stands queues low c.new_rank-rank.ensures.under (before.rises roof low under);
       some = λ h. (let n = some_ready c.loop-t.w.threads c.make_ready.new.self.threads c.in-Some.t.0 _ known stands queues in omega arith);
+      stays = λ u waits. c.make_ready.ensures.stays u (before.stays u waits);
     }
 
 pub loop-t-smaller : goal.loop-t-smaller

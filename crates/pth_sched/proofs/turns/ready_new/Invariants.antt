@@ -4,7 +4,7 @@ use Rattle.pth_model.specs.State.{Control}
 use Rattle.pth_world.specs.Ranks.{IsUnder, greatest_return}
 use Rattle.pth_world.specs.Shows.{Shows}
 use Rattle.pth_world.specs.Touches.{KeepsScheduler}
-use Rattle.pth_world.specs.Whole.{Whole}
+use Rattle.pth_world.specs.Whole.{Whole, WaitsToRun}
 use Rattle.pth_sched.specs.Passing.{HasRoom}
 use Rattle.pth_sched.proofs.Readying.{Comes, Rises}
 use Rattle.pth_sched.proofs.turns.ready_new.Given as goal
@@ -18,6 +18,7 @@ invariant-loop-t g l = record {
   room : HasRoom l.w.threads.queues;
   rises : (roof : ℕ) → greatest_return ≤ roof → IsUnder roof l.fn.w.threads.queues.ready → Rises l.fn.w.threads l.w.threads roof;
   some : 0 < length l.fn.w.threads.queues.ready + length l.fn.w.threads.queues.new → 0 < length l.w.threads.queues.ready + length l.w.threads.queues.new;
+  stays : (u : ℕ) → WaitsToRun l.fn.w.threads u → WaitsToRun l.w.threads u;
 }
 
 abbrev pub decreases-loop-t : goal.decreases-loop-t

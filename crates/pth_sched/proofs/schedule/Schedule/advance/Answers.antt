@@ -14,15 +14,15 @@ pub loop-self-preserved : goal.loop-self-preserved
 loop-self-preserved g c =
     let before = c.loop-self.invariant in
     record {
-      reaches = λ x i st. reach-more _ x _ i _ _ _ _ _ (before.reaches x i st) (λ s k. sym (c.loop-self-test.ensures.run s k)) c.in_ok-part.ensures.ok;
+      reaches = λ x i st. (let r = before.reaches x i st in reach-more _ x _ i _ _ _ _ _ r (sym (c.loop-self-test.ensures.run _ r.stands)) c.in_ok-part.ensures.ok);
       keeps = record { going = c.in_ok-part.ensures.going; ranks = c.in_ok-part.ensures.ranks };
       within = c.in_ok-part.ensures.within c.args.to (sym c.loop-self-test.ensures.stops) before.within;
     }
 
 pub returns-clause-goes_on : goal.returns-clause-goes_on
-returns-clause-goes_on g c = λ x i st. reach-stop _ x _ i _ _ _ (c.loop-self.invariant.reaches x i st) (λ s k. sym (c.loop-self-test.ensures.run s k))
+returns-clause-goes_on g c = λ x i st. (let r = c.loop-self.invariant.reaches x i st in reach-stop _ x _ i _ _ _ r (sym (c.loop-self-test.ensures.run _ r.stands)))
 
 pub returns-in_err-part-clause-breaks_off : goal.returns-in_err-part-clause-breaks_off
 returns-in_err-part-clause-breaks_off g c =
     let p = err_from_is_err_and c.from_residual.result c.from_residual.ensures.1 in
-    rw p.1 (λ x i st. reach-cut _ x _ i _ _ _ _ (c.loop-self.invariant.reaches x i st) (λ s k. sym (c.loop-self-test.ensures.run s k)) c.in_err-part.ensures.err)
+    rw p.1 (λ x i st. (let r = c.loop-self.invariant.reaches x i st in reach-cut _ x _ i _ _ _ _ r (sym (c.loop-self-test.ensures.run _ r.stands)) c.in_err-part.ensures.err))

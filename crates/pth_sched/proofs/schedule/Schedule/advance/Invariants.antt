@@ -1,4 +1,5 @@
 use Rattle.std.proofs.Common.{◌≤◌, ℕ}
+use Rattle.pth_model.specs.Run.{stops_at}
 use Rattle.pth_model.specs.State.{Given}
 use Rattle.pth_sched.specs.MachineOf.{left}
 use Rattle.pth_sched.specs.Running.{Keeps, StandsAt}
@@ -7,7 +8,7 @@ use Rattle.pth_sched.proofs.schedule.Schedule.advance.Given as goal
 
 abbrev pub invariant-loop-self : goal.invariant-loop-self
 invariant-loop-self g l = record {
-  reaches : (x : Given g.row.P.Denot) (i : ℕ) → StandsAt g.P.Program.functions x i l.fn.self → Reaches g.P.Program.functions x l.to i l.self l.fn.marks l.marks;
+  reaches : (x : Given g.row.P.Denot) (i : ℕ) → StandsAt g.P.Program.functions x i l.fn.self → Reaches g.P.Program.functions x (stops_at g.P.Program.functions x l.to) i l.self l.fn.marks l.marks;
   keeps : Keeps l.self;
   within : l.self.turn.steps ≤ l.to;
 }

@@ -6,6 +6,7 @@ use Rattle.pth_sched.specs.Running.{Stands}
 use Rattle.pth_sched.proofs.Keeping.{on_ok_three}
 use Rattle.pth_sched.proofs.Parts.{close_makes, closes_marks}
 use Rattle.pth_sched.proofs.Roofs.{close_roofed, ready_rises}
+use Rattle.pth_sched.proofs.Going.{close_going, named_on, on_ok_four}
 use Rattle.pth_sched.proofs.schedule.Schedule.close.Goals as goal
 
 pub end_turn-requires-clause-rise : goal.end_turn-requires-clause-rise
@@ -33,3 +34,11 @@ returns-clause-ranks g c =
     let over = subst (λ m. m.turn.gave ≡ Some c.args.t.0) (sym c.self.view_is) c.requires.over in
     on_ok_three c.pass.result c.pass.ensures.ranks c.pass.ensures.scheduler c.pass.ensures.made (λ ranks scheduler made.
     close_roofed _ _ c.args.t.0 c.end_turn.new.w inside over refl (ap (λ (x : Scheduler). x.running) scheduler.scheduler ∙ c.end_turn.ensures.running) c.end_turn.ensures.ranks c.end_turn.ensures.fresh ranks refl refl)
+
+pub returns-clause-going : goal.returns-clause-going
+returns-clause-going g c =
+    let inside = subst (λ m. IsGoing m) (sym c.self.view_is) c.requires.going in
+    let over = subst (λ m. m.turn.gave ≡ Some c.args.t.0) (sym c.self.view_is) c.requires.over in
+    on_ok_four c.pass.result c.pass.ensures.whole c.pass.ensures.scheduler c.pass.ensures.made c.pass.ensures.stays (λ whole scheduler made stays.
+    let named = named_on _ _ _ c.pass.new.w.threads (ap (λ (x : Scheduler). x.preferred) scheduler.scheduler ∙ c.end_turn.ensures.preferred) (λ u waits. stays u (c.end_turn.ensures.stays u waits)) inside.preferred in
+    close_going _ _ inside c.args.t.0 over whole (ap (λ (x : Scheduler). x.running) scheduler.scheduler ∙ c.end_turn.ensures.running) named (made ∙ c.end_turn.ensures.made) refl refl refl)

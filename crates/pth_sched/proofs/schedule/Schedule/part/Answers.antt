@@ -2,9 +2,11 @@ use Rattle.std.proofs.Common.{◌≡◌, ◌≢◌, ◌∙◌, true, false, sym,
 use Rattle.std.proofs.lemmas.Result.{on_ok_weaker, on_err_weaker}
 use Rattle.pth_base.specs.declared.outcome.Outcome.TheVariants.{Running}
 use Rattle.pth_model.specs.Part.{is_idle}
+use Rattle.pth_sched.specs.MachineOf.{IsGoing}
 use Rattle.pth_sched.specs.Running.{Stands}
 use Rattle.pth_sched.proofs.Keeping.{stops_ended}
 use Rattle.pth_sched.proofs.Parts.{part_halt, part_close, part_step, part_take, part_move, makes_as, cut_as, still_makes, stall_makes}
+use Rattle.pth_sched.proofs.Going.{stall_going}
 use Rattle.pth_sched.proofs.schedule.Schedule.part.Goals as goal
 
 true_false : true ≡ false → ⊥
@@ -51,3 +53,6 @@ returns-clause-ok g c =
 pub returns-clause-err : goal.returns-clause-err
 returns-clause-err g c =
     on_err_weaker c.take.result (λ cut x st. cut_as c.take.new.self _ _ (part_take g.P.Program.functions _ x st (search rules) (search rules) (search rules) (sym (c.is_idle.ensures.idle x.state.control st.world.control) ∙ search rules)) _ _ (cut x st)) c.take.ensures.err
+
+pub returns-then-is_idle-clause-going : goal.returns-then-is_idle-clause-going
+returns-then-is_idle-clause-going g c = stall_going _ (subst (λ m. IsGoing m) (sym c.self.view_is) c.requires.keeps.going)

@@ -1,10 +1,11 @@
-use Rattle.std.proofs.Common.{◌∙◌, ap, subst, sym, rules}
+use Rattle.std.proofs.Common.{◌≡◌, Some, None, ◌∙◌, ap, subst, sym, rules}
 use Rattle.std.proofs.lemmas.Result.{err_from_is_err_and}
 use Rattle.pth_model.specs.State.{Turn}
-use Rattle.pth_sched.specs.MachineOf.{IsRoofed}
+use Rattle.pth_sched.specs.MachineOf.{IsGoing, IsRoofed}
 use Rattle.pth_sched.specs.Running.{Stands}
 use Rattle.pth_sched.proofs.Parts.{after_memory, step_makes, steps_marks, turn_turns, turn_steps}
 use Rattle.pth_sched.proofs.Roofs.{step_roofed}
+use Rattle.pth_sched.proofs.Going.{step_going}
 use Rattle.pth_sched.proofs.schedule.Schedule.step.Goals as goal
 
 pub returns-in_err-next-clause-err : goal.returns-in_err-next-clause-err
@@ -26,3 +27,10 @@ returns-clause-ranks g c =
     let turns = ap (λ (x : Turn). x.turns) c.settle.ensures.turn ∙ turn_turns c.args.t.0 c.in_ok-next.next _ in
     let steps = ap (λ (x : Turn). x.steps) c.settle.ensures.turn ∙ turn_steps c.args.t.0 c.in_ok-next.next _ in
     step_roofed _ _ c.args.t.0 c.go_on.new.w before (search rules) c.in_ok-next.ensures.frame.ranks queues turns steps
+
+pub returns-clause-going : goal.returns-clause-going
+returns-clause-going g c =
+    let before = subst (λ m. IsGoing m) (sym c.self.view_is) c.requires.going in
+    let over = subst (λ m. m.turn.gave ≡ None) (sym c.self.view_is) c.requires.over in
+    let runs = subst (λ m. m.world.scheduler.running ≡ Some c.args.t.0) (sym c.self.view_is) c.requires.runs in
+    step_going _ _ before c.args.t.0 c.in_ok-next.next c.go_on.new.w over runs c.in_ok-next.ensures.frame c.settle.ensures.whole c.settle.ensures.same c.settle.ensures.turn

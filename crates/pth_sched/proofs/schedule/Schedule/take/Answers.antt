@@ -1,9 +1,11 @@
 use Rattle.std.proofs.Common.{◌≡◌, ◌∙◌, None, ap, refl, sym, subst, rules, SFits, w64, to_z-of_z}
 use Rattle.std.proofs.lemmas.Result.{on_ok_weaker}
-use Rattle.pth_sched.specs.MachineOf.{IsRoofed}
+use Rattle.pth_model.specs.State.{Scheduler}
+use Rattle.pth_sched.specs.MachineOf.{IsGoing, IsRoofed}
 use Rattle.pth_sched.specs.Running.{Stands}
 use Rattle.pth_sched.proofs.Parts.{take_makes}
 use Rattle.pth_sched.proofs.Roofs.{take_roofed}
+use Rattle.pth_sched.proofs.Going.{named_on, named_ready, take_going}
 use Rattle.pth_sched.proofs.schedule.Schedule.take.Goals as goal
 
 pub returns-clause-ok : goal.returns-clause-ok
@@ -21,3 +23,15 @@ returns-clause-ranks g c =
     let nobody = subst (λ m. m.world.scheduler.running ≡ None) (sym c.self.view_is) c.requires.nobody in
     let gave = subst (λ m. m.turn.gave ≡ None) (sym c.self.view_is) c.requires.over in
     on_ok_weaker c.push.result (λ tells. take_roofed _ _ c.ready_new.new.w inside gave nobody (c.ready_new.ensures.ranks inside.roof inside.low inside.under) c.ready_new.ensures.none c.dispatch.ensures.ranks refl refl) c.push.ensures.ok
+
+pub next-t-requires-clause-named : goal.next-t-requires-clause-named
+next-t-requires-clause-named g c =
+    let inside = subst (λ m. IsGoing m) (sym c.self.view_is) c.requires.going in
+    named_ready c.ready_new.new.w c.ready_new.ensures.none (named_on _ _ _ c.ready_new.new.w.threads (ap (λ (x : Scheduler). x.preferred) c.ready_new.ensures.scheduler.scheduler) c.ready_new.ensures.stays inside.preferred)
+
+pub returns-clause-going : goal.returns-clause-going
+returns-clause-going g c =
+    let inside = subst (λ m. IsGoing m) (sym c.self.view_is) c.requires.going in
+    let nobody = subst (λ m. m.world.scheduler.running ≡ None) (sym c.self.view_is) c.requires.nobody in
+    let gave = subst (λ m. m.turn.gave ≡ None) (sym c.self.view_is) c.requires.over in
+    on_ok_weaker c.push.result (λ tells. take_going _ _ inside c.next-t.result.0 nobody c.dispatch.ensures.whole (ap (λ w. w.scheduler.running) c.dispatch.ensures.same) (ap (λ w. w.scheduler.preferred) c.dispatch.ensures.same) (c.dispatch.ensures.threads.made ∙ c.ready_new.ensures.made) gave refl refl) c.push.ensures.ok
