@@ -5,6 +5,8 @@
 #[cfg(test)]
 mod answers;
 #[cfg(test)]
+mod attributes;
+#[cfg(test)]
 mod copies;
 #[cfg(test)]
 mod failures;
@@ -28,5 +30,7 @@ mod queues;
 mod texts;
 #[cfg(test)]
 mod threads;
+#[cfg(test)]
+mod turns;
 #[cfg(test)]
 mod words;

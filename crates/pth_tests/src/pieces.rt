@@ -26,7 +26,7 @@ static PIECES: [(u64, u64, &str); 7] = [
     (0, 1, "turn 1 at 0 t1 rank 0\nstep limit 0\n"),
 ];
 
-fn machine(alloc: Global) -> Result<Machine<Script>, Fail>
+pub fn machine(alloc: Global) -> Result<Machine<Script>, Fail>
     ensures { IfOk result (λ machine. machine.turn.steps ≡ 0) }
 {
     let script = read(alloc, SCRIPT.as_bytes())?;

@@ -19,7 +19,7 @@ fn add(rt: &impl Abort, threads: &mut Threads, prio: i64) -> Result<(Tid, Slot),
 }
 
 /// Threads with these priorities.
-fn threads_of(rt: &impl Abort, alloc: Global, priorities: &[i64]) -> Result<Threads, Fail> {
+pub fn threads_of(rt: &impl Abort, alloc: Global, priorities: &[i64]) -> Result<Threads, Fail> {
     let mut threads = Threads::new(alloc);
     for prio in priorities {
         add(rt, &mut threads, *prio)?;
