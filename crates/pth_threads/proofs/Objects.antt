@@ -9,8 +9,9 @@ use Rattle.pth_base.proofs.Tables.{put_by, same_self, not_same}
 use Rattle.pth_base.proofs.Namings.{seen_at, seen_put, seen_add, seen_drop}
 use Rattle.pth_numbered.specs.Numbered as numbered
 use Rattle.pth_numbered.specs.Numbered.{thing_at, number_at, number_known}
+use Rattle.pth_numbered.specs.Operands.{number, named}
 use Rattle.pth_threads.specs.Threads.{ThreadsOf, entry_at, tid_at, tid_of, slot_of, count}
-use Rattle.pth_threads.specs.Attributes.{AttrsOf, attribute_limit, object_of, known_of, is_full, operand_number, attribute, first_values, AreSet, MayStand, AreKept, Makes, Exchanges, Drops}
+use Rattle.pth_threads.specs.Attributes.{AttrsOf, attribute_limit, object_of, known_of, is_full, first_values, AreSet, MayStand, AreKept, Makes, Exchanges, Drops}
 use Rattle.pth_threads.specs.declared.attribute.Attribute.{Attribute}
 use Rattle.pth_threads.specs.declared.attribute.Attribute.TheVariants.{Free}
 use Rattle.pth_threads.specs.declared.entry.Entry.{Entry}
@@ -36,26 +37,26 @@ pub not_known : (x : ThreadsOf) (t : ℕ) → slot_of x t ≡ None → known_of 
 not_known x t e = seen_none None (slot_of x) (entry_at x) t e
 
 -- an operand names nothing below 0 and above the numbers that were given
-pub below_none : (objects : ℕ → Option Attribute) (a : ℤ) → a <ℤ pos 0 → attribute objects a ≡ None
+pub below_none : (objects : ℕ → Option Attribute) (a : ℤ) → a <ℤ pos 0 → named objects a ≡ None
 below_none objects (pos n) low = absurd (omega (arith, ints))
 below_none objects (negsuc n) low = refl
 
-pub above_none : (x : AttrsOf) (a : ℤ) → numbered.IsKept x → pos x.made <ℤ a → attribute (object_of x) a ≡ None
+pub above_none : (x : AttrsOf) (a : ℤ) → numbered.IsKept x → pos x.made <ℤ a → named (object_of x) a ≡ None
 above_none x (pos n) law high = no_object x n (law.fresh n (omega (arith, ints)))
 above_none x (negsuc n) law high = refl
 
 -- what is looked up for an operand
-attribute_at : (objects : ℕ → Option Attribute) (a : ℤ) → pos 0 ≤ℤ a → attribute objects a ≡ objects (operand_number a)
+attribute_at : (objects : ℕ → Option Attribute) (a : ℤ) → pos 0 ≤ℤ a → named objects a ≡ objects (number a)
 attribute_at objects (pos n) high = refl
 attribute_at objects (negsuc n) high = absurd (omega (arith, ints))
 
-pub found_none : (x : AttrsOf) (a : ℤ) (o : Option Slot) → pos 0 ≤ℤ a → slot_of x (operand_number a) ≡ option_map (λ (s : Slot). s.0) o → IfNone o (attribute (object_of x) a ≡ None)
-found_none x a None high e = attribute_at (object_of x) a high ∙ no_object x (operand_number a) e
+pub found_none : (x : AttrsOf) (a : ℤ) (o : Option Slot) → pos 0 ≤ℤ a → slot_of x (number a) ≡ option_map (λ (s : Slot). s.0) o → IfNone o (named (object_of x) a ≡ None)
+found_none x a None high e = attribute_at (object_of x) a high ∙ no_object x (number a) e
 found_none x a (Some s) high e = tt
 
-pub found_some : (x : AttrsOf) (a : ℤ) (o : Option Slot) → pos 0 ≤ℤ a → slot_of x (operand_number a) ≡ option_map (λ (s : Slot). s.0) o → IfSome o (λ s. attribute (object_of x) a ≡ thing_at x s.0)
+pub found_some : (x : AttrsOf) (a : ℤ) (o : Option Slot) → pos 0 ≤ℤ a → slot_of x (number a) ≡ option_map (λ (s : Slot). s.0) o → IfSome o (λ s. named (object_of x) a ≡ thing_at x s.0)
 found_some x a None high e = tt
-found_some x a (Some s) high e = attribute_at (object_of x) a high ∙ object_at x (operand_number a) s.0 e
+found_some x a (Some s) high e = attribute_at (object_of x) a high ∙ object_at x (number a) s.0 e
 
 -- a thread that is found is known
 some_entry : (o : Option Entry) → tid_of o ≢ 0 → is_none o ≡ false
@@ -97,7 +98,7 @@ kept_by x y u o kept things limit here = record {
 }
 
 -- an object with values of its own has such that it may have
-pub allowed_at : (x : AttrsOf) (a : ℤ) (u : ℕ) → AreKept x → attribute (object_of x) a ≡ thing_at x u → (y : NewThread) → attribute (object_of x) a ≡ Some (Free y) → AreSet y
+pub allowed_at : (x : AttrsOf) (a : ℤ) (u : ℕ) → AreKept x → named (object_of x) a ≡ thing_at x u → (y : NewThread) → named (object_of x) a ≡ Some (Free y) → AreSet y
 allowed_at x a u kept e y h = kept.allowed u (Free y) (sym e ∙ h)
 
 pub first_allowed : AreSet first_values

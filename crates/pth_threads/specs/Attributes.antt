@@ -1,6 +1,6 @@
 -- Attribute objects: what they have, and how the calls on them are answered (pth_attr_new, pth_attr_of, pth_attr_init, pth_attr_set,
 -- pth_attr_get, pth_attr_destroy).
-use Rattle.std.specs.Prelude.{◌≡◌, ℕ, ◌+◌, ◌==◌, ◌≤◌, ℤ, pos, negsuc, neg_ℤ, ◌≤ℤ◌, int_le, Bool, true, false, not, ◌&&◌, if◌then◌else◌, codes, Option, Some, None, is_none, option_map, Result, Ok, Err}
+use Rattle.std.specs.Prelude.{◌≡◌, ℕ, ◌+◌, ◌==◌, ◌≤◌, ℤ, pos, neg_ℤ, ◌≤ℤ◌, Bool, true, false, not, ◌&&◌, if◌then◌else◌, codes, Option, Some, None, is_none, option_map, Result, Ok, Err}
 use Rattle.std.specs.Option.{ok_or}
 use Rattle.pth_base.specs.Table.{put}
 use Rattle.pth_base.specs.Naming.{seen}
@@ -16,6 +16,7 @@ use Rattle.pth_base.specs.declared.refusal.Refusal.TheVariants.{Fail, OutOfMemor
 use Rattle.pth_base.specs.declared.thread.ThreadState.{ThreadState}
 use Rattle.pth_base.specs.declared.thread.ThreadState.TheVariants as state
 use Rattle.pth_numbered.specs.Numbered.{NumberedOf, number_known, thing_at}
+use Rattle.pth_numbered.specs.Operands.{number, ◌is◌, ◌is_from◌to◌}
 use Rattle.pth_threads.specs.Threads.{ThreadsOf, entry_at, slot_of, count, Changes}
 use Rattle.pth_threads.specs.declared.attribute.Attribute.{Attribute}
 use Rattle.pth_threads.specs.declared.attribute.Attribute.TheVariants.{Free, Bound}
@@ -41,16 +42,6 @@ object_of x = seen None (slot_of x) (thing_at x)
 -- the record of the thread with a number
 abbrev pub known_of : ThreadsOf → ℕ → Option Entry
 known_of x = seen None (slot_of x) (entry_at x)
-
--- an operand as a number; a negative one is 0, which no object has
-abbrev pub operand_number : ℤ → ℕ
-operand_number (pos n) = n
-operand_number (negsuc n) = 0
-
--- the object that an operand names; a negative operand names none
-abbrev pub attribute : (ℕ → Option Attribute) → ℤ → Option Attribute
-attribute objects (pos n) = objects n
-attribute objects (negsuc n) = None
 
 -- the object is bound to a thread
 abbrev pub is_bound : Option Attribute → Bool
@@ -145,31 +136,22 @@ is_fixed (value.Name name) = false
 is_fixed (value.Joinable n) = false
 is_fixed (value.Cancel n) = false
 
--- the number is one of those from low to high
-abbrev pub is_from : ℤ → ℤ → ℤ → Bool
-is_from low high n = int_le low n && int_le n high
-
 -- the values that a field takes
 abbrev pub is_in_range : AttrValue → Bool
-is_in_range (value.Prio n) = is_from (neg_ℤ (pos 5)) (pos 5) n
+is_in_range (value.Prio n) = n is_from neg_ℤ (pos 5) to pos 5
 is_in_range (value.Name name) = true
-is_in_range (value.Joinable n) = is_from (pos 0) (pos 1) n
-is_in_range (value.Cancel n) = is_from (pos 1) (pos 4) n
+is_in_range (value.Joinable n) = n is_from pos 0 to pos 1
+is_in_range (value.Cancel n) = n is_from pos 1 to pos 4
 is_in_range (value.Dispatches n) = true
 is_in_range (value.State n) = true
 is_in_range (value.Bound n) = true
-
--- a number that stands for what holds
-abbrev pub is_one : ℤ → Bool
-is_one (pos n) = n == 1
-is_one (negsuc n) = false
 
 -- values with one of them set
 abbrev pub with_value : AttrValue → NewThread → NewThread
 with_value (value.Prio n) x = record x { prio = n }
 with_value (value.Name name) x = record x { name = name }
-with_value (value.Joinable n) x = record x { joinable = is_one n }
-with_value (value.Cancel n) x = record x { cancel = operand_number n }
+with_value (value.Joinable n) x = record x { joinable = n is 1 }
+with_value (value.Cancel n) x = record x { cancel = number n }
 with_value (value.Dispatches n) x = x
 with_value (value.State n) x = x
 with_value (value.Bound n) x = x
@@ -178,8 +160,8 @@ with_value (value.Bound n) x = x
 abbrev pub change_of : AttrValue → Option Change
 change_of (value.Prio n) = Some (change.Prio n)
 change_of (value.Name name) = Some (change.Name name)
-change_of (value.Joinable n) = Some (change.Joinable (is_one n))
-change_of (value.Cancel n) = Some (change.Cancel (operand_number n))
+change_of (value.Joinable n) = Some (change.Joinable (n is 1))
+change_of (value.Cancel n) = Some (change.Cancel (number n))
 change_of (value.Dispatches n) = None
 change_of (value.State n) = None
 change_of (value.Bound n) = None
@@ -213,10 +195,10 @@ create_answer objects made =
     if is_full objects made then Err EAGAIN else
     Ok (made + 1)
 
--- an object is made that is bound to a thread
-abbrev pub of_answer : (ℕ → Option Entry) → (ℕ → Option Attribute) → ℕ → ℕ → Result ℕ Errno
-of_answer known objects made t =
-    if is_none (known t) then Err ESRCH else
+-- an object is made that is bound to a thread, if the thread is known
+abbrev pub of_answer : Option Entry → (ℕ → Option Attribute) → ℕ → Result ℕ Errno
+of_answer thread objects made =
+    if is_none thread then Err ESRCH else
     create_answer objects made
 
 -- an object has its first values again

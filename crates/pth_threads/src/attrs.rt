@@ -3,7 +3,8 @@
 ghost use Rattle.std.specs.Prelude.{◌≡◌, ◌≢◌, ◌<◌, ◌≤◌, Some, None, OnOk, OnErr, IfSome, IfNone, option_copied};
 ghost use Rattle.pth_base.specs.Limits.{last_count};
 ghost use Rattle.pth_numbered.specs.Numbered.{number_at, thing_at, IsKept};
-ghost use Rattle.pth_threads.specs.Attributes.{object_of, known_of, operand_number, attribute, first_values, create_answer, of_answer, init_answer, set_answer, get_answer, destroy_answer, values_answer, Answers, Makes, Exchanges, Drops, Sets, SetsThread, MayStand, AreSet, AreKept};
+ghost use Rattle.pth_numbered.specs.Operands.{number, named};
+ghost use Rattle.pth_threads.specs.Attributes.{object_of, known_of, first_values, create_answer, of_answer, init_answer, set_answer, get_answer, destroy_answer, values_answer, Answers, Makes, Exchanges, Drops, Sets, SetsThread, MayStand, AreSet, AreKept};
 ghost use Rattle.pth_threads.specs.declared.attribute.Attribute.TheVariants as object;
 ghost use Rattle.pth_threads.specs.declared.entry.NewThread.{NewThread};
 
@@ -51,10 +52,10 @@ impl Attrs {
 
     // The slot of the object that an operand names.
     fn find(&self, a: i64) -> Option<Slot>
-        ensures none { IfNone result (attribute (object_of self.now) a ≡ None) }
-        ensures some { IfSome result (λ s. attribute (object_of self.now) a ≡ thing_at self.now s.0) }
+        ensures none { IfNone result (named (object_of self.now) a ≡ None) }
+        ensures some { IfSome result (λ s. named (object_of self.now) a ≡ thing_at self.now s.0) }
         ensures used { IfSome result (λ s. number_at self.now s.0 ≢ 0) }
-        ensures named { IfSome result (λ s. number_at self.now s.0 ≡ operand_number a) }
+        ensures named { IfSome result (λ s. number_at self.now s.0 ≡ number a) }
         ensures kept { IsKept self.now }
         ensures allowed { AreKept self.now }
     {
@@ -75,8 +76,8 @@ impl Attrs {
 
     // The object that an operand names.
     fn object(&self, a: i64) -> Option<&Attribute>
-        ensures object { option_copied result ≡ attribute (object_of self.now) a }
-        ensures allowed { (x : NewThread) → attribute (object_of self.now) a ≡ Some (object.Free x) → AreSet x }
+        ensures object { option_copied result ≡ named (object_of self.now) a }
+        ensures allowed { (x : NewThread) → named (object_of self.now) a ≡ Some (object.Free x) → AreSet x }
     {
         match self.find(a) {
             Some(slot) => Some(self.at(slot)),
@@ -123,7 +124,7 @@ impl Attrs {
     /// EAGAIN where there are 4096 objects.
     pub fn of(&mut self, t: Tid, threads: &Threads) -> Result<AttrId, Refusal>
         requires { self.old.made < 4294967295 }
-        ensures answer { Answers (of_answer (known_of threads.now) (object_of self.old) self.old.made t.0) result }
+        ensures answer { Answers (of_answer (known_of threads.now t.0) (object_of self.old) self.old.made) result }
         ensures makes { OnOk result (Makes self.old self.new (object.Bound t)) }
         ensures refused { OnErr result (self.new ≡ self.old) }
     {
@@ -136,8 +137,8 @@ impl Attrs {
     /// `pth_attr_init`: an object has the first values again. EINVAL where there is no such object, and EPERM where it is
     /// bound to a thread, which may be gone.
     pub fn init(&mut self, a: i64) -> Result<(), Errno>
-        ensures answer { result ≡ init_answer (attribute (object_of self.old) a) }
-        ensures changes { OnOk result (Exchanges self.old self.new (operand_number a) (object.Free first_values)) }
+        ensures answer { result ≡ init_answer (named (object_of self.old) a) }
+        ensures changes { OnOk result (Exchanges self.old self.new (number a) (object.Free first_values)) }
         ensures refused { OnErr result (self.new ≡ self.old) }
     {
         let Some(slot) = self.find(a) else {
@@ -154,8 +155,8 @@ impl Attrs {
     /// ESRCH where its thread is gone, EPERM for the dispatches, the state and whether it is bound, and EINVAL for a value
     /// out of range.
     pub fn set(&mut self, a: i64, v: &AttrValue, threads: &mut Threads) -> Result<(), Errno>
-        ensures answer { result ≡ set_answer (known_of threads.old) (attribute (object_of self.old) a) v.now }
-        ensures changes { OnOk result (Sets self.old self.new threads.old threads.new (operand_number a) v.now (attribute (object_of self.old) a)) }
+        ensures answer { result ≡ set_answer (known_of threads.old) (named (object_of self.old) a) v.now }
+        ensures changes { OnOk result (Sets self.old self.new threads.old threads.new (number a) v.now (named (object_of self.old) a)) }
         ensures refused { OnErr result ((self.new ≡ self.old) × (threads.new ≡ threads.old)) }
     {
         let Some(slot) = self.find(a) else {
@@ -177,7 +178,7 @@ impl Attrs {
     /// `pth_attr_get`: a field of an object, or of the thread to which it is bound. EINVAL where there is no such object, ESRCH
     /// where its thread is gone, and EINVAL for the dispatches and the state of an object that is not bound.
     pub fn get(&self, a: i64, f: AttrField, threads: &Threads) -> Result<AttrValue, Errno>
-        ensures { result ≡ get_answer (known_of threads.now) (attribute (object_of self.now) a) f }
+        ensures { result ≡ get_answer (known_of threads.now) (named (object_of self.now) a) f }
     {
         match self.object(a) {
             None => Err(Errno::EINVAL),
@@ -191,8 +192,8 @@ impl Attrs {
 
     /// `pth_attr_destroy`: an object is gone, and its number names none from now on. EINVAL where there is no such object.
     pub fn destroy(&mut self, a: i64) -> Result<(), Errno>
-        ensures answer { result ≡ destroy_answer (attribute (object_of self.old) a) }
-        ensures changes { OnOk result (Drops self.old self.new (operand_number a)) }
+        ensures answer { result ≡ destroy_answer (named (object_of self.old) a) }
+        ensures changes { OnOk result (Drops self.old self.new (number a)) }
         ensures refused { OnErr result (self.new ≡ self.old) }
     {
         let Some(slot) = self.find(a) else {
@@ -205,8 +206,8 @@ impl Attrs {
     /// What an object gives a new thread (`pth_spawn`): its own values, or those of the thread to which it is bound. EINVAL
     /// where there is no such object, and ESRCH where its thread is gone.
     pub fn values(&self, a: i64, threads: &Threads) -> Result<NewThread, Errno>
-        ensures answer { result ≡ values_answer (known_of threads.now) (attribute (object_of self.now) a) }
-        ensures allowed { (x : NewThread) → attribute (object_of self.now) a ≡ Some (object.Free x) → AreSet x }
+        ensures answer { result ≡ values_answer (known_of threads.now) (named (object_of self.now) a) }
+        ensures allowed { (x : NewThread) → named (object_of self.now) a ≡ Some (object.Free x) → AreSet x }
     {
         match self.object(a) {
             None => Err(Errno::EINVAL),

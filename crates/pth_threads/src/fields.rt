@@ -1,10 +1,11 @@
-//! The fields of attribute objects and of threads.
+//! The fields of named objects and of threads.
 
 ghost use Rattle.std.specs.Prelude.{◌≡◌, ◌≤◌, Some, Ok, Err, true, false, OnOk, not, if◌then◌else◌};
 ghost use Rattle.pth_base.specs.Limits.{last_count};
 ghost use Rattle.pth_base.specs.declared.errno.Errno.TheVariants.{EINVAL, EPERM};
+ghost use Rattle.pth_numbered.specs.Operands.{◌is_from◌to◌};
 ghost use Rattle.pth_threads.specs.Threads.{IsCountable};
-ghost use Rattle.pth_threads.specs.Attributes.{flag, state_number, field_of_thread, field_of_values, is_of_thread, is_fixed, is_from, is_in_range, with_value, change_of, KeepsSet, AreSet};
+ghost use Rattle.pth_threads.specs.Attributes.{flag, state_number, field_of_thread, field_of_values, is_of_thread, is_fixed, is_in_range, with_value, change_of, KeepsSet, AreSet};
 
 use crate::attribute::copied_values;
 use crate::entry::{Change, Entry, NewThread, ThreadState};
@@ -64,7 +65,7 @@ pub(crate) fn values_field(values: &NewThread, f: AttrField) -> Result<AttrValue
 
 // Whether a number is one of those from low to high.
 fn within(n: i64, low: i64, high: i64) -> Result<(), Errno>
-    ensures { result ≡ (if not (is_from low high n) then Err EINVAL else Ok tt) }
+    ensures { result ≡ (if not (n is_from low to high) then Err EINVAL else Ok tt) }
 {
     if low <= n && n <= high {
         Ok(())

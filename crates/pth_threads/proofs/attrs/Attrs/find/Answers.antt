@@ -2,12 +2,12 @@ use Rattle.std.proofs.Common.{refl, ◌≡◌, ℤ, pos, negsuc, nat_abs, ◌<�
 use Rattle.std.proofs.lemmas.Int.{ints}
 use mir.Syntax.{w64}
 use mir.Val.{to_z, of_z}
-use Rattle.pth_threads.specs.Attributes.{operand_number}
+use Rattle.pth_numbered.specs.Operands.{number}
 use Rattle.pth_threads.proofs.Objects.{below_none, above_none, found_none, found_some}
 use Rattle.pth_threads.proofs.attrs.Attrs.find.Goals.{then-a-lt0-via-then-a-lt0, then-a-lt0-via-else-a-lt0+then-a-made}
 use Rattle.pth_threads.proofs.attrs.Attrs.find.Goals as goal
 
-number_is : (a : ℤ) → pos 0 ≤ℤ a → nat_abs a ≡ operand_number a
+number_is : (a : ℤ) → pos 0 ≤ℤ a → nat_abs a ≡ number a
 number_is (pos n) high = refl
 number_is (negsuc n) high = absurd (omega (arith, ints))
 
