@@ -8,6 +8,7 @@ use Rattle.pth_base.specs.declared.thread.ThreadState.TheVariants as state
 use Rattle.pth_queue.specs.declared.queue.Queue.{Queue}
 use Rattle.pth_queue.specs.declared.queue.Queue.TheVariants.{New, Ready, Waiting, Suspended, Dead}
 use Rattle.pth_queue.specs.Ranking.{favour_top}
+use Rattle.pth_threads.specs.declared.entry.Change.{Change}
 use Rattle.pth_threads.specs.declared.entry.Change.TheVariants as change
 use Rattle.pth_threads.specs.declared.entry.NewThread.{NewThread}
 use Rattle.pth_model.specs.declared.blocked.Blocked.{Blocked}
@@ -112,6 +113,10 @@ module _ {P S H : Type 0} (Meant : Standing → Type 0) where
     unfolding forgets
     kept_removed t s k = kept_leave Meant s t k
 
+    kept_changed : (t : ℕ) (c : Change) (s : Control P S H) → Kept Meant s → Kept Meant (sets t c s)
+    unfolding sets
+    kept_changed t c s k = k
+
     kept_vanished : (t : ℕ) (s : Control P S H) → Kept Meant s → Kept Meant (vanish_all_but t s)
     unfolding vanish_all_but
     kept_vanished t s k = record { listed = λ q. listed_none Meant s.threads.entries; apart = λ p q other. All-nil _ }
@@ -126,6 +131,9 @@ module _ {P S H : Type 0} (Meant : Standing → Type 0) where
       preferred = λ u s known k. k;
       removed = kept_removed;
       favoured = λ b s k. k;
+      changed = kept_changed;
+      added = λ x s k. k;
+      exchanged = λ n o s k. k;
       left = kept_left t;
       vanished = kept_vanished t;
     }

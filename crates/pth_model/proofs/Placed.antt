@@ -224,6 +224,10 @@ module _ {P S H : Type 0} where
     alone = g.alone;
   }
 
+  going_changed : (t u : ℕ) (c : change_type.Change) (k : Control P S H) → Going t k → Going t (sets u c k)
+  unfolding sets
+  going_changed t u c k g = record { sets = sets-change k g.sets u c; preferred = g.preferred; low = g.low; out = g.out; alone = g.alone }
+
   going_removed : (t u : ℕ) (k : Control P S H) → Going t k → Going t (removes u k)
   unfolding forgets leaves_queue
   going_removed t u k g = record {
@@ -262,6 +266,9 @@ module _ {P S H : Type 0} where
     preferred = going_preferred t;
     removed = going_removed t;
     favoured = λ b k g. g;
+    changed = going_changed t;
+    added = λ x k g. g;
+    exchanged = λ n o k g. g;
     left = going_left t;
     vanished = going_vanished t;
   }

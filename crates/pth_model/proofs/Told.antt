@@ -12,13 +12,16 @@ use Rattle.pth_queue.specs.declared.queue.Queue.TheVariants as queues
 use Rattle.pth_model.specs.declared.blocked.Blocked.{Blocked}
 use Rattle.pth_model.specs.declared.progress.Progress.{Progress}
 use Rattle.pth_model.specs.Resources.{Resources, no_resources, told, told_all}
-use Rattle.pth_model.specs.Operands.{number, is_zero, ◌is◌}
-use Rattle.pth_model.specs.ThreadControl.{child_of, spawns, suspends, resumes, suspend, resume, yield, join, to_join, takes_joined}
+use Rattle.pth_numbered.specs.Operands.{number, is_zero, ◌is◌}
+use Rattle.pth_model.specs.ThreadControl.{values_for, or_first, spawns, suspends, resumes, suspend, resume, yield, join, to_join, takes_joined}
 use Rattle.pth_model.specs.LibraryControl.{kill, ctrl, vanish_all_but}
+use Rattle.pth_model.specs.AttributeHandling.{object, sets_value, attr_new, attr_of, attr_init, attr_set, attr_get, attr_destroy}
+use Rattle.pth_threads.specs.Attributes.{first_values}
+use Rattle.pth_threads.specs.declared.attribute.Attribute.TheVariants.{Free, Bound}
 use Rattle.pth_model.specs.Verdict.{Verdict, Says, Yields, Blocks, Ends, Kills}
 use Rattle.pth_model.specs.State.{State, queue, Given, Turn, start}
 use Rattle.pth_model.specs.Transition.{Transition, Piece, Last, silent, nothing, changes, tells, tid, controlled, ◌and_then◌, ◌and_finally◌}
-use Rattle.pth_model.specs.Changes.{blocked_of, entry_of, or_nobody, prefers, favours_new}
+use Rattle.pth_model.specs.Changes.{blocked_of, prefers, favours_new, adds_object, puts_object}
 use Rattle.pth_model.specs.Row.{effect_of, refuses, unless_refused}
 use Rattle.pth_model.specs.Rows.{row_of}
 use Rattle.pth_model.specs.Ending.{ending}
@@ -66,7 +69,13 @@ module _ {P S H : Type 0} (f : P → Functions S H) where
     unfolding row_of
     effect_told s call.Kill = unless_told (refuses (kill s t).begin.verdict) (changes (vanish_all_but t)) (λ u. refl)
     effect_told s (call.Ctrl x) = ctrl_told s x
-    effect_told s (call.Spawn b v a) = unless_told (refuses (row_of f s t (call.Spawn b v a)).begin.verdict) (changes (spawns f (number b) v (child_of (or_nobody (entry_of s.control t))))) (λ u. refl)
+    effect_told s call.AttrNew = unless_told (refuses (attr_new s).begin.verdict) (changes (adds_object (Free first_values))) (λ u. refl)
+    effect_told s (call.AttrOf n) = unless_told (refuses (attr_of s n).begin.verdict) (changes (adds_object (Bound (tid (number n))))) (λ u. refl)
+    effect_told s (call.AttrInit a) = unless_told (refuses (attr_init s a).begin.verdict) (changes (puts_object (number a) (Some (Free first_values)))) (λ u. refl)
+    effect_told s (call.AttrSet a v) = unless_told (refuses (attr_set s a v).begin.verdict) (changes (sets_value a v (object s.control a))) (λ u. refl)
+    effect_told s (call.AttrGet a x) = unless_told (refuses (attr_get s a x).begin.verdict) (changes nothing) (λ u. refl)
+    effect_told s (call.AttrDestroy a) = unless_told (refuses (attr_destroy s a).begin.verdict) (changes (puts_object (number a) None)) (λ u. refl)
+    effect_told s (call.Spawn b v a) = unless_told (refuses (row_of f s t (call.Spawn b v a)).begin.verdict) (changes (spawns f (number b) v (or_first (values_for s.control t a)))) (λ u. refl)
     effect_told s (call.Suspend n) = unless_told (refuses (suspend s t n).begin.verdict) (changes (suspends (number n))) (λ u. refl)
     effect_told s (call.Resume n) = unless_told (refuses (resume s t n).begin.verdict) (changes (resumes (number n))) (λ u. refl)
     effect_told s (call.Yield n) = unless_told (refuses (yield s t n).begin.verdict) (changes (if is_zero n then nothing else prefers (Some (number n)))) (λ u. refl)

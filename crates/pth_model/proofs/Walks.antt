@@ -8,20 +8,26 @@ use Rattle.pth_base.specs.declared.errno.Errno.{Errno}
 use Rattle.pth_base.specs.declared.query.Query.{Query}
 use Rattle.pth_base.specs.declared.query.Query.TheVariants as query
 use Rattle.pth_base.proofs.Tables.{same_fails}
+use Rattle.pth_base.specs.declared.attr.AttrValue.{AttrValue}
+use Rattle.pth_threads.specs.Attributes.{first_values, with_value, change_of}
+use Rattle.pth_threads.specs.declared.attribute.Attribute.{Attribute}
+use Rattle.pth_threads.specs.declared.attribute.Attribute.TheVariants.{Free, Bound}
+use Rattle.pth_threads.specs.declared.entry.Change.{Change}
 use Rattle.pth_threads.specs.declared.entry.Entry.{Entry}
 use Rattle.pth_threads.specs.declared.entry.NewThread.{NewThread}
 use Rattle.pth_model.specs.declared.blocked.Blocked.{Blocked}
 use Rattle.pth_model.specs.declared.progress.Progress.{Progress}
 use Rattle.pth_model.specs.declared.next.Next.{Next}
 use Rattle.pth_model.specs.declared.next.Next.TheVariants as next
-use Rattle.pth_model.specs.Operands.{number, is_zero, ◌is◌}
+use Rattle.pth_numbered.specs.Operands.{number, is_zero, ◌is◌}
 use Rattle.pth_model.specs.Verdict.{Verdict, Says, Yields, Blocks, Ends, Kills, refused, ◌when◌otherwise◌}
 use Rattle.pth_model.specs.State.{State, Control, Turn}
-use Rattle.pth_model.specs.Transition.{Piece, silent, nothing, changes}
-use Rattle.pth_model.specs.Changes.{goes_on, blocking, blocked_of, entry_of, or_nobody, owing, prefers, removes, favours_new}
+use Rattle.pth_model.specs.Transition.{Piece, silent, nothing, changes, tid}
+use Rattle.pth_model.specs.Changes.{goes_on, blocking, blocked_of, or_nobody, owing, prefers, removes, favours_new, sets, adds_object, puts_object}
 use Rattle.pth_model.specs.Row.{unless_refused, refuses, effect_of}
-use Rattle.pth_model.specs.ThreadControl.{thread, is_known, may_run, spawns, child_of, suspends, resumes, suspend, resume, yield, join, to_join, takes_joined}
+use Rattle.pth_model.specs.ThreadControl.{thread, is_known, may_run, spawns, values_for, or_first, suspends, resumes, suspend, resume, yield, join, to_join, takes_joined}
 use Rattle.pth_model.specs.LibraryControl.{kill, ctrl, vanish_all_but}
+use Rattle.pth_model.specs.AttributeHandling.{object, sets_field, sets_value, attr_new, attr_of, attr_init, attr_set, attr_get, attr_destroy}
 use Rattle.pth_model.specs.Ending.{ending, leaves}
 use Rattle.pth_model.specs.Rows.{row_of}
 use Rattle.pth_model.specs.Calls.{begun, begun_by, resumed, resumed_by, tried_by}
@@ -79,6 +85,9 @@ pub record KeptBy {P S H : Type 0} (f : P → Functions S H) (t : ℕ) (Q : Cont
   pub preferred : (u : ℕ) (k : Control P S H) → is_some (k.threads.known u) ≡ true → Q k → Q (prefers (Some u) k)
   pub removed : (u : ℕ) (k : Control P S H) → Q k → Q (removes u k)
   pub favoured : (b : Bool) (k : Control P S H) → Q k → Q (favours_new b k)
+  pub changed : (u : ℕ) (c : Change) (k : Control P S H) → Q k → Q (sets u c k)
+  pub added : (x : Attribute) (k : Control P S H) → Q k → Q (adds_object x k)
+  pub exchanged : (n : ℕ) (o : Option Attribute) (k : Control P S H) → Q k → Q (puts_object n o k)
   pub left : (v : ℤ) (k : Control P S H) → Q k → Q (leaves t v k)
   pub vanished : (k : Control P S H) → Q k → Q (vanish_all_but t k)
 
@@ -106,6 +115,16 @@ module _ {P S H : Type 0} (f : P → Functions S H) (t : ℕ) (Q : Control P S H
   ctrl_keeps s (query.Name n) = unless_keeps s (refuses (ctrl s (query.Name n)).begin.verdict) (changes nothing) (λ e q. q)
   ctrl_keeps s x = λ q. q
 
+  -- a value is set in an object, or in a thread
+  sets_keeps : (s : State P S H) (a : ℤ) (v : AttrValue) (o : Option Attribute) → KeepsAt s (changes (sets_value a v o))
+  sets_keeps s a v None q = q
+  sets_keeps s a v (Some (Free x)) q = kept.exchanged (number a) (Some (Free (with_value v x))) s.control q
+  sets_keeps s a v (Some (Bound u)) q = by_field (change_of v)
+    where
+      by_field : (c : Option Change) → Q (sets_field u.0 c s.control)
+      by_field None = q
+      by_field (Some c) = kept.changed u.0 c s.control q
+
   -- whether a join takes a thread or none
   joins_keeps : (s : State P S H) (o : Option ℕ) → KeepsAt s (changes (takes_joined o))
   joins_keeps s None q = q
@@ -119,8 +138,14 @@ module _ {P S H : Type 0} (f : P → Functions S H) (t : ℕ) (Q : Control P S H
   unfolding row_of
   effect_keeps s call.Kill = unless_keeps s (refuses (kill s t).begin.verdict) (changes (vanish_all_but t)) (λ e q. kept.vanished s.control q)
   effect_keeps s (call.Ctrl x) = ctrl_keeps s x
+  effect_keeps s call.AttrNew = unless_keeps s (refuses (attr_new s).begin.verdict) (changes (adds_object (Free first_values))) (λ e q. kept.added (Free first_values) s.control q)
+  effect_keeps s (call.AttrOf n) = unless_keeps s (refuses (attr_of s n).begin.verdict) (changes (adds_object (Bound (tid (number n))))) (λ e q. kept.added (Bound (tid (number n))) s.control q)
+  effect_keeps s (call.AttrInit a) = unless_keeps s (refuses (attr_init s a).begin.verdict) (changes (puts_object (number a) (Some (Free first_values)))) (λ e q. kept.exchanged (number a) (Some (Free first_values)) s.control q)
+  effect_keeps s (call.AttrSet a v) = unless_keeps s (refuses (attr_set s a v).begin.verdict) (changes (sets_value a v (object s.control a))) (λ e q. sets_keeps s a v (object s.control a) q)
+  effect_keeps s (call.AttrGet a x) = unless_keeps s (refuses (attr_get s a x).begin.verdict) (changes nothing) (λ e q. q)
+  effect_keeps s (call.AttrDestroy a) = unless_keeps s (refuses (attr_destroy s a).begin.verdict) (changes (puts_object (number a) None)) (λ e q. kept.exchanged (number a) None s.control q)
   effect_keeps s (call.Spawn b v a) =
-      let of = child_of (or_nobody (entry_of s.control t)) in
+      let of = or_first (values_for s.control t a) in
       unless_keeps s (refuses (row_of f s t (call.Spawn b v a)).begin.verdict) (changes (spawns f (number b) v of)) (λ e q. kept.spawned (number b) v of s.control q)
   effect_keeps s (call.Suspend n) = unless_keeps s (refuses (suspend s t n).begin.verdict) (changes (suspends (number n))) (λ e q. kept.suspended (number n) s.control (suspend_other s t n e) q)
   effect_keeps s (call.Resume n) = unless_keeps s (refuses (resume s t n).begin.verdict) (changes (resumes (number n))) (λ e q. kept.resumed (number n) s.control (resume_other s t n e) q)

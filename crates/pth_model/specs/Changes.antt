@@ -16,7 +16,8 @@ use Rattle.pth_threads.specs.Threads.{changed, made_of}
 use Rattle.pth_model.specs.declared.blocked.Blocked.{Blocked}
 use Rattle.pth_model.specs.declared.progress.Progress.{Progress}
 use Rattle.pth_model.specs.Standing.{is_queue, left_by, raises_of}
-use Rattle.pth_model.specs.State.{Control, Threads, Scheduler}
+use Rattle.pth_threads.specs.declared.attribute.Attribute.{Attribute}
+use Rattle.pth_model.specs.State.{Control, Threads, Attributes, Scheduler}
 use Rattle.pth_model.specs.Transition as transition
 
 -- whose ranks these are
@@ -75,6 +76,9 @@ module _ {P S H : Type 0} where
   abbrev pub with_threads : (Threads S → Threads S) → transition.Change P S H
   with_threads g k = record k { threads = g k.threads }
 
+  abbrev pub with_attributes : (Attributes → Attributes) → transition.Change P S H
+  with_attributes g k = record k { attributes = g k.attributes }
+
   abbrev pub with_scheduler : (Scheduler → Scheduler) → transition.Change P S H
   with_scheduler g k = record k { scheduler = g k.scheduler }
 
@@ -126,6 +130,14 @@ module _ {P S H : Type 0} where
   -- t leaves its queue, and the system
   abbrev pub removes : ℕ → transition.Change P S H
   removes t = transition.◌and◌ (leaves_queue t) (forgets t)
+
+  -- one more attribute object, with the next number
+  abbrev pub adds_object : Attribute → transition.Change P S H
+  adds_object x = with_attributes (λ y. record { made = y.made + 1; objects = put y.objects (y.made + 1) (Some x) })
+
+  -- another object stands under a number, or none
+  abbrev pub puts_object : ℕ → Option Attribute → transition.Change P S H
+  puts_object n o = with_attributes (λ y. record y { objects = put y.objects n o })
 
   abbrev pub runs_now : Option ℕ → transition.Change P S H
   runs_now t = with_scheduler (λ x. record x { running = t })

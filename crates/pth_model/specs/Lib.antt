@@ -1,4 +1,3 @@
-pub mod Operands
 pub mod Verdict
 pub mod Resources
 pub mod Standing
@@ -10,6 +9,7 @@ pub mod Shown
 pub mod Living
 pub mod ThreadControl
 pub mod LibraryControl
+pub mod AttributeHandling
 pub mod Ending
 pub mod ThreadEnds
 pub mod Rows

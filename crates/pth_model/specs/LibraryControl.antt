@@ -6,7 +6,7 @@ use Rattle.pth_base.specs.declared.query.Query.{Query}
 use Rattle.pth_base.specs.declared.query.Query.TheVariants as query
 use Rattle.pth_queue.specs.declared.queue.Queue.{Queue}
 use Rattle.pth_queue.specs.declared.queue.Queue.TheVariants as queue
-use Rattle.pth_model.specs.Operands.{◌is◌, ◌is_from◌to◌}
+use Rattle.pth_numbered.specs.Operands.{◌is◌, ◌is_from◌to◌}
 use Rattle.pth_model.specs.Verdict.{Says, Kills, refused, says, ◌when◌otherwise◌}
 use Rattle.pth_model.specs.State.{State, main, present, queue}
 use Rattle.pth_model.specs.Transition.{Change, nothing}

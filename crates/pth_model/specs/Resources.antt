@@ -10,7 +10,7 @@ use Rattle.pth_base.specs.declared.call.Call.{Call}
 use Rattle.pth_base.specs.declared.call.Call.TheVariants as call
 use Rattle.pth_base.specs.declared.mark.Mark.{Mark}
 use Rattle.pth_base.specs.declared.mark.Mark.TheVariants as mark
-use Rattle.pth_model.specs.Operands.{number, handler_of}
+use Rattle.pth_numbered.specs.Operands.{number, handler_of}
 
 -- a cleanup handler that was pushed (pth_cleanup_push)
 pub record Cleanup : Type 0 where

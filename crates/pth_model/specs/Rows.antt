@@ -9,6 +9,7 @@ use Rattle.pth_model.specs.State.{State}
 use Rattle.pth_model.specs.Transition.{nothing}
 use Rattle.pth_model.specs.Row.{Row, ◌changing◌, unbuilt}
 use Rattle.pth_model.specs.LibraryControl.{kill, ctrl}
+use Rattle.pth_model.specs.AttributeHandling.{attr_new, attr_of, attr_init, attr_set, attr_get, attr_destroy}
 use Rattle.pth_model.specs.ThreadControl.{spawn, self, suspend, resume, yield, join}
 use Rattle.pth_model.specs.ThreadEnds.{exit}
 
@@ -17,12 +18,12 @@ module _ {P S H : Type 0} (f : P → Functions S H) (s : State P S H) (t : ℕ) 
   unfoldable pub row_of : Call → Row P S H
   row_of call.Kill = kill s t
   row_of (call.Ctrl q) = ctrl s q
-  row_of call.AttrNew = unbuilt
-  row_of (call.AttrOf n) = unbuilt
-  row_of (call.AttrInit a) = unbuilt
-  row_of (call.AttrSet a v) = unbuilt
-  row_of (call.AttrGet a x) = unbuilt
-  row_of (call.AttrDestroy a) = unbuilt
+  row_of call.AttrNew = attr_new s
+  row_of (call.AttrOf n) = attr_of s n
+  row_of (call.AttrInit a) = attr_init s a
+  row_of (call.AttrSet a v) = attr_set s a v
+  row_of (call.AttrGet a x) = attr_get s a x
+  row_of (call.AttrDestroy a) = attr_destroy s a
   row_of (call.Spawn b v a) = spawn f s t b v a
   row_of (call.Once o h v) = unbuilt
   row_of call.SelfTid = self s t

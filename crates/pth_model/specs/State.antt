@@ -7,6 +7,7 @@ use Rattle.pth_base.specs.declared.outcome.Outcome.{Outcome}
 use Rattle.pth_base.specs.declared.outcome.Outcome.TheVariants.{Running}
 use Rattle.pth_base.specs.declared.thread.ThreadState.TheVariants as state
 use Rattle.pth_numbered.specs.Numbered.{number_known}
+use Rattle.pth_threads.specs.declared.attribute.Attribute.{Attribute}
 use Rattle.pth_queue.specs.declared.ranked.Ranked.{Ranked}
 use Rattle.pth_queue.specs.declared.queue.Queue.{Queue}
 use Rattle.pth_queue.specs.declared.queue.Queue.TheVariants.{Ready}
@@ -31,6 +32,13 @@ pub record Threads (S : Type 0) : Type 0 where
   -- how often the ready queue was raised
   pub raises : ℕ
 
+-- the attribute objects, by number (pth_attr_t)
+pub record Attributes : Type 0 where
+  -- how many were ever made: the last one's number
+  pub made : ℕ
+  -- each with values of its own, or bound to a thread
+  pub objects : ℕ → Option Attribute
+
 -- what the scheduler keeps
 pub record Scheduler : Type 0 where
   -- the thread that runs
@@ -43,11 +51,12 @@ pub record Scheduler : Type 0 where
   pub now : ℕ
   pub clock : ℕ
 
--- what calls change: the program's shared value, the threads, and what the scheduler keeps
+-- what calls change: the program's shared value, the threads, their attribute objects, and what the scheduler keeps
 pub record Control (P S H : Type 0) : Type 0 where
   pub program : P
   pub shared : H
   pub threads : Threads S
+  pub attributes : Attributes
   pub scheduler : Scheduler
 
 pub record State (P S H : Type 0) : Type 0 where
@@ -76,6 +85,10 @@ queue k q = shown (raises_of k.threads.raises q) (k.threads.standing q)
 -- how many threads are in the system
 abbrev pub present : {P S H : Type 0} → Control P S H → ℕ
 present k = number_known k.threads.known k.threads.made
+
+-- no attribute object was made
+abbrev pub no_attributes : Attributes
+no_attributes = record { made = 0; objects = λ n. None }
 
 -- the main thread's number
 abbrev pub main : ℕ
@@ -124,6 +137,7 @@ start f g = record {
       entries = 1;
       raises = 0;
     };
+    attributes = no_attributes;
     scheduler = record { running = None; preferred = None; favour_new = true; now = 0; clock = 1 };
   };
 }

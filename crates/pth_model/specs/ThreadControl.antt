@@ -1,18 +1,20 @@
 -- Thread control: pth_spawn, pth_self, pth_suspend, pth_resume, pth_yield, pth_join.
-use Rattle.std.specs.Prelude.{ℕ, ◌+◌, ◌++◌, ◌==◌, ◌&&◌, ◌||◌, not, nat_lt, take, codes, ℤ, pos, Bool, true, false, List, [], ◌∷◌, filter, Option, Some, None, is_some, if◌then◌else◌}
+use Rattle.std.specs.Prelude.{ℕ, ◌+◌, ◌++◌, ◌==◌, ◌&&◌, ◌||◌, not, nat_lt, take, codes, ℤ, pos, Bool, true, false, List, [], ◌∷◌, filter, Option, Some, None, is_some, Result, Ok, Err, if◌then◌else◌}
 use Rattle.pth_base.specs.Limits.{thread_limit}
 use Rattle.pth_base.specs.Program.{Functions}
 use Rattle.pth_base.specs.declared.answer.Answer.TheVariants.{Int}
+use Rattle.pth_base.specs.declared.errno.Errno.{Errno}
 use Rattle.pth_base.specs.declared.errno.Errno.TheVariants.{EAGAIN, EDEADLK, EINVAL, EPERM, ESRCH}
 use Rattle.pth_base.specs.declared.thread.ThreadState.{ThreadState}
 use Rattle.pth_base.specs.declared.thread.ThreadState.TheVariants as state
 use Rattle.pth_queue.specs.declared.queue.Queue.{Queue}
 use Rattle.pth_queue.specs.declared.queue.Queue.TheVariants as queue
+use Rattle.pth_threads.specs.Attributes.{first_values, values_answer}
 use Rattle.pth_threads.specs.declared.entry.Change.TheVariants as change
 use Rattle.pth_threads.specs.declared.entry.Entry.{Entry}
 use Rattle.pth_threads.specs.declared.entry.NewThread.{NewThread}
-use Rattle.pth_model.specs.Operands.{number, named, is_zero, is_below, ◌is◌}
-use Rattle.pth_model.specs.Verdict.{Verdict, Says, Yields, refused, says, waits, ◌when◌otherwise◌}
+use Rattle.pth_numbered.specs.Operands.{number, named, is_zero, is_below, ◌is◌}
+use Rattle.pth_model.specs.Verdict.{Verdict, Says, Yields, refused, says, waits, ◌when◌otherwise◌, refused_as◌otherwise◌}
 use Rattle.pth_model.specs.State.{Control, State, present, queue}
 use Rattle.pth_model.specs.Transition.{Change, changes, nothing, ◌and◌}
 use Rattle.pth_model.specs.Changes.{entry_of, or_nobody, makes, enters, leaves_queue, sets, removes, prefers, holders, queue_for}
@@ -22,6 +24,11 @@ use Rattle.pth_model.specs.Row.{Row, Attempt, ◌changing◌, ◌trying◌}
 -- a child has its spawner's priority, joinability and cancel state, and a name made of its spawner's
 abbrev pub child_of : Entry → NewThread
 child_of e = record { prio = e.prio; name = take 40 (e.name ++ codes ".child"); joinable = e.joinable; cancel = e.cancel }
+
+-- where no values were found, those of a new object stand for them
+abbrev pub or_first : Result NewThread Errno → NewThread
+or_first (Ok x) = x
+or_first (Err e) = first_values
 
 -- the thread waits to run for the first time, or again: to it a yield may give control
 abbrev pub may_run : ThreadState → Bool
@@ -49,6 +56,10 @@ module _ {P S H : Type 0} where
 
   abbrev pub is_known : Control P S H → ℤ → Bool
   is_known k n = is_some (thread k n)
+
+  -- what a new thread is given by t: for 0 what t has, else what an attribute object has
+  abbrev pub values_for : Control P S H → ℕ → ℤ → Result NewThread Errno
+  values_for k t a = if is_zero a then Ok (child_of (or_nobody (entry_of k t))) else values_answer k.threads.known (named k.attributes.objects a)
 
   -- a new thread of a body enters the new queue at its priority
   abbrev pub spawns : (P → Functions S H) → ℕ → ℤ → NewThread → Change P S H
@@ -88,14 +99,15 @@ module _ {P S H : Type 0} where
   joined k (Some t) = Says (Int (or_nobody (entry_of k t)).value)
 
 module _ {P S H : Type 0} (f : P → Functions S H) (s : State P S H) (t : ℕ) where
-  -- pth_spawn: a new thread of a body, with the values of its spawner; attribute objects are not built yet
+  -- pth_spawn: a new thread of a body, with the values of its spawner, or of an attribute object: EINVAL where there is no such
+  -- object, ESRCH where its thread is gone
   abbrev pub spawn : ℤ → ℤ → ℤ → Row P S H
   spawn b v a =
       refused EINVAL when not (is_below b (f s.control.program).bodies) otherwise
-      refused EINVAL when not (is_zero a) otherwise
+      refused_as values_for s.control t a otherwise
       refused EAGAIN when not (has_room s.control) otherwise
       says (s.control.threads.made + 1)
-      changing spawns f (number b) v (child_of (or_nobody (entry_of s.control t)))
+      changing spawns f (number b) v (or_first (values_for s.control t a))
 
 module _ {P S H : Type 0} (s : State P S H) (t : ℕ) where
   -- pth_self

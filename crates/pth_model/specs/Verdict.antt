@@ -1,5 +1,5 @@
 -- What an attempt at a call comes to, and how its row says so.
-use Rattle.std.specs.Prelude.{ℕ, ℤ, pos, Bool, true, false}
+use Rattle.std.specs.Prelude.{ℕ, ℤ, pos, Bool, true, false, Result, Ok, Err}
 use Rattle.pth_base.specs.declared.answer.Answer.{Answer}
 use Rattle.pth_base.specs.declared.answer.Answer.TheVariants.{Int, Fail}
 use Rattle.pth_base.specs.declared.errno.Errno.{Errno}
@@ -36,6 +36,21 @@ refused e = Says (Fail e)
 
 abbrev pub says : ℕ → Verdict
 says n = Says (Int (pos n))
+
+-- done, with nothing to say
+abbrev pub done : Unit {0} → Verdict
+done u = says 1
+
+-- by the result of a part: refused with its error, or else as its value says
+abbrev pub by_result : {A : Type 0} → (A → Verdict) → Result A Errno → Verdict
+by_result v (Ok x) = v x
+by_result v (Err e) = refused e
+
+-- a clause may also be the error of a part
+infixr 4 refused_as◌otherwise◌
+abbrev pub refused_as◌otherwise◌ : {A : Type 0} → Result A Errno → Verdict → Verdict
+refused_as Ok x otherwise w = w
+refused_as Err e otherwise w = refused e
 
 -- for no moment
 abbrev pub no_pause : Pause
