@@ -3,6 +3,7 @@ use Rattle.std.proofs.Common.{◌≡◌, ℕ, ◌+◌, ◌≤◌, Bool, true, fa
 use Rattle.pth_world.specs.World.{WorldOf}
 use Rattle.pth_world.specs.Whole.{Whole}
 use Rattle.pth_world.specs.Frame.{Frame, Names}
+use Rattle.pth_world.specs.Numbering.{GivesAtMost}
 use Rattle.pth_world.proofs.Ranks.{ranks_none, ranks_then, ranks_more}
 
 module _ {P S H : Type 0} where
@@ -12,20 +13,29 @@ module _ {P S H : Type 0} where
   names_then true u v w same (inl b) = inl (b ∙ same)
   names_then true u v w same (inr b) = inr b
 
+  gives_then : (n m : ℕ) (u v w : WorldOf P S H) → GivesAtMost n u v → GivesAtMost m v w → GivesAtMost (n + m) u w
+  gives_then n m u v w a b = record {
+    threads = (let x = a.threads in let y = b.threads in omega arith);
+    objects = (let x = a.objects in let y = b.objects in omega arith);
+  }
+
+  gives_more : (n m : ℕ) (w v : WorldOf P S H) → n ≤ m → GivesAtMost n w v → GivesAtMost m w v
+  gives_more n m w v le a = record { threads = (let x = a.threads in omega arith); objects = (let x = a.objects in omega arith) }
+
   -- nothing was done
   pub frame_none : (w : WorldOf P S H) → Whole w → Frame w w 0 w.scheduler.running false
-  frame_none w whole = record { whole = whole; runs = refl; made = omega arith; ranks = ranks_none w.threads; preferred = refl }
+  frame_none w whole = record { whole = whole; runs = refl; made = record { threads = omega arith; objects = omega arith }; ranks = ranks_none w.threads; preferred = refl }
 
   -- one after another
   pub frame_then : (n m : ℕ) (u v w : WorldOf P S H) (q r : Option ℕ) (yields : Bool) → Frame u v n q false → Frame v w m r yields → Frame u w (n + m) r yields
   frame_then n m u v w q r yields a b = record {
     whole = b.whole;
     runs = b.runs;
-    made = (let x = a.made in let y = b.made in omega arith);
+    made = gives_then n m u v w a.made b.made;
     ranks = ranks_then n m u.threads v.threads w.threads a.ranks b.ranks;
     preferred = names_then yields u v w a.preferred b.preferred;
   }
 
   -- as many as are said, or fewer
   pub frame_more : (n m : ℕ) (w v : WorldOf P S H) (r : Option ℕ) (yields : Bool) → n ≤ m → Frame w v n r yields → Frame w v m r yields
-  frame_more n m w v r yields le a = record { whole = a.whole; runs = a.runs; made = (let x = a.made in omega arith); ranks = ranks_more n m w.threads v.threads le a.ranks; preferred = a.preferred }
+  frame_more n m w v r yields le a = record { whole = a.whole; runs = a.runs; made = gives_more n m w v le a.made; ranks = ranks_more n m w.threads v.threads le a.ranks; preferred = a.preferred }

@@ -1,4 +1,5 @@
 pub mod Slots
+pub mod SettingValues
 pub mod Showing
 pub mod Places
 pub mod Sound

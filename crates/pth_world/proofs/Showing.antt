@@ -1,7 +1,7 @@
 -- How a change of one part of a world is a change of the control that it shows.
 use Rattle.std.proofs.Common.{◌≡◌, ℕ, ℤ, pos, negsuc, ◌<ℤ◌, ◌+◌, Bool, false, List, map, Option, Some, None, option_map, refl, sym, ◌∙◌, ap, subst, arith, inl, inr}
 use Rattle.std.proofs.lemmas.Int.{ints}
-use Rattle.pth_model.specs.Operands.{named}
+use Rattle.pth_numbered.specs.Operands.{named}
 use Rattle.std.proofs.lemmas.Bool.{cases_Bool}
 use Rattle.pth_base.specs.Program.{Functions}
 use Rattle.pth_base.specs.Table.{put, table}
@@ -31,7 +31,7 @@ use Rattle.pth_world.proofs.Places.{nowhere-holds}
 
 -- where threads alone change, what they show is what counts
 pub of_threads : {P S H : Type 0} (w : WorldOf P S H) (y : ThreadsBySlot S) (k : Control P S H) (x : Threads S) → Shows w k → ShowsThreads y x → Shows (record w { threads = y }) (record k { threads = x })
-of_threads w y k x sh threads = record { program = sh.program; shared = sh.shared; threads = threads; scheduler = sh.scheduler }
+of_threads w y k x sh threads = record { program = sh.program; shared = sh.shared; threads = threads; attributes = sh.attributes; scheduler = sh.scheduler }
 
 pub not_here : {S : Type 0} (w : ThreadsBySlot S) (t : ℕ) → slot_of w.records t ≡ None → None ≡ entry_in w t
 unfolding seen

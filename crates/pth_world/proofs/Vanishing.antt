@@ -187,6 +187,7 @@ module _ {P S H : Type 0} (w : WorldOf P S H) (t : ℕ) (whole : Whole w) (is : 
       progress = only-alone t k.threads.progress (λ i apart. sym (no_progress w.threads k i (nobody i apart) sh.threads)) ∙ sh.threads.progress;
       standing = λ q. sym (ap (map (named_row (tid_at w.threads.records))) (none q));
     };
+    attributes = sh.attributes;
     scheduler = sh.scheduler;
   }
 

@@ -1,4 +1,5 @@
 pub mod World
+pub mod Numbering
 pub mod Shows
 pub mod StateOf
 pub mod Sound

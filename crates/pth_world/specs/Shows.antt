@@ -5,10 +5,11 @@ use Rattle.pth_base.specs.Naming.{seen}
 use Rattle.pth_queue.specs.Ranking.{named_row}
 use Rattle.pth_queue.specs.Queues.{rows_of}
 use Rattle.pth_queue.specs.declared.queue.Queue.{Queue}
+use Rattle.pth_threads.specs.Attributes.{AttrsOf, object_of}
 use Rattle.pth_threads.specs.Threads.{slot_of, tid_at, entry_at}
 use Rattle.pth_model.specs.Resources.{no_resources}
 use Rattle.pth_model.specs.Standing.{shown, raises_of}
-use Rattle.pth_model.specs.State.{State, Control, Threads}
+use Rattle.pth_model.specs.State.{State, Control, Threads, Attributes}
 use Rattle.pth_world.specs.World.{WorldOf, ThreadsBySlot}
 
 -- The threads are these under their numbers, and each queue shows the standings in order. Raises, entries, and where in the
@@ -19,11 +20,17 @@ pub record ShowsThreads {S : Type 0} (x : ThreadsBySlot S) (k : Threads S) : Typ
   pub progress : k.progress ≡ seen None (slot_of x.records) (table None x.progress)
   pub standing : (q : Queue) → shown (raises_of k.raises q) (k.standing q) ≡ map (named_row (tid_at x.records)) (rows_of q x.queues)
 
+-- the attribute objects are these under their numbers
+pub record ShowsAttributes (x : AttrsOf) (k : Attributes) : Type 0 where
+  pub made : k.made ≡ x.made
+  pub objects : k.objects ≡ object_of x
+
 -- the world shows this control
 pub record Shows {P S H : Type 0} (w : WorldOf P S H) (k : Control P S H) : Type 0 where
   pub program : k.program ≡ w.program
   pub shared : k.shared ≡ w.shared
   pub threads : ShowsThreads w.threads k.threads
+  pub attributes : ShowsAttributes w.attributes k.attributes
   pub scheduler : k.scheduler ≡ w.scheduler
 
 -- the world stands for this state: it shows the control, and threads have nothing yet that is built

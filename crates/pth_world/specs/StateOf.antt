@@ -5,6 +5,7 @@ use Rattle.pth_base.specs.Table.{table}
 use Rattle.pth_queue.specs.Ranking.{named_row}
 use Rattle.pth_queue.specs.Queues.{rows_of}
 use Rattle.pth_queue.specs.declared.ranked.Ranked.{Ranked}
+use Rattle.pth_threads.specs.Attributes.{object_of}
 use Rattle.pth_threads.specs.Threads.{slot_of, tid_at, entry_at}
 use Rattle.pth_model.specs.Resources.{no_resources}
 use Rattle.pth_model.specs.Standing.{Standing}
@@ -34,6 +35,7 @@ state_of w = record {
       entries = 0;
       raises = 0;
     };
+    attributes = record { made = w.attributes.made; objects = object_of w.attributes };
     scheduler = w.scheduler;
   };
 }

@@ -32,6 +32,7 @@ pub record SameThreads {S : Type 0} (old new : ThreadsBySlot S) : Type 0 where
   pub made : new.records.made ≡ old.records.made
 
 -- what a change of threads leaves as it was: all but the threads and the shared value
-pub record KeepsScheduler {P S H : Type 0} (old new : WorldOf P S H) : Type 0 where
+pub record KeepsRest {P S H : Type 0} (old new : WorldOf P S H) : Type 0 where
   pub program : new.program ≡ old.program
+  pub attributes : new.attributes ≡ old.attributes
   pub scheduler : new.scheduler ≡ old.scheduler

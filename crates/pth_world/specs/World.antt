@@ -3,6 +3,7 @@ use Rattle.std.specs.Prelude.{ℕ, List, [], Option, None}
 use Rattle.pth_base.specs.Naming.{seen}
 use Rattle.pth_base.specs.Program.{Functions}
 use Rattle.pth_base.specs.declared.ids.Tid.{Tid}
+use Rattle.pth_threads.specs.Attributes.{AttrsOf}
 use Rattle.pth_threads.specs.Threads.{ThreadsOf, slot_of, entry_at}
 use Rattle.pth_threads.specs.declared.entry.Entry.{Entry}
 use Rattle.pth_queue.specs.Queues.{QueuesOf}
@@ -27,6 +28,7 @@ pub record WorldOf (P S H : Type 0) : Type 0 where
   pub program : P
   pub shared : H
   pub threads : ThreadsBySlot S
+  pub attributes : AttrsOf
   pub scheduler : Scheduler
 
 -- from what a run starts, before the main thread is made

@@ -14,6 +14,7 @@ ghost use Rattle.pth_world.specs.Shows.{Shows};
 ghost use Rattle.pth_world.specs.Sound.{IsSound, IsPrio, IsKnown};
 ghost use Rattle.pth_world.specs.Whole.{Whole, WholeBut, IsAbout, IsRunner};
 
+mod attributes;
 mod counts;
 mod moves;
 mod places;
@@ -27,12 +28,13 @@ use crate::progress_table::ProgressTable;
 use pth_base::ids::{Micros, Slot, Tid};
 use pth_base::program::Program;
 use pth_queue::queue_set::QueueSet;
+use pth_threads::attrs::Attrs;
 use pth_threads::threads::Threads;
 use std::alloc::Global;
 use std::marker::Model;
 
-/// The program with its threads: their records, their queues and how far each is in its program, and what the scheduler
-/// keeps of them.
+/// The program with its threads: their records, their queues and how far each is in its program, their attribute objects, and
+/// what the scheduler keeps of them.
 #[derive(Drop)]
 pub struct World<P: Program> {
     alloc: Global,
@@ -41,6 +43,7 @@ pub struct World<P: Program> {
     threads: Threads,
     queues: CountedQueues,
     progress: ProgressTable<P::State>,
+    attributes: Attrs,
     running: Option<Tid>,
     preferred: Option<Tid>,
     favour_new: bool,
@@ -58,6 +61,7 @@ impl<P: Program> Model for World<P> {
       program = w.program;
       shared = w.shared;
       threads = record { records = w.threads; queues = w.queues; progress = w.progress };
+      attributes = w.attributes;
       scheduler = record {
         running = option_map number_of w.running;
         preferred = option_map number_of w.preferred;

@@ -18,7 +18,7 @@ ghost use Rattle.pth_world.specs.Shows.{Shows};
 ghost use Rattle.pth_world.specs.Sound.{IsSound, IsPrio, IsKnown};
 ghost use Rattle.pth_world.specs.Whole.{Whole, IsIn, IsBeforeReady, CanSuspend, MayStandIn, WaitsToRun};
 ghost use Rattle.pth_world.specs.World.{entry_in};
-ghost use Rattle.pth_world.specs.Touches.{SameThreads, KeepsScheduler};
+ghost use Rattle.pth_world.specs.Touches.{SameThreads, KeepsRest};
 
 use crate::world::World;
 use pth_base::ids::Tid;
@@ -38,7 +38,7 @@ impl<P: Program> World<P> {
         ensures shows { (k : Control P P.State P.Shared) (top : Bool) → Shows self.old k → Shows self.new (is_ready_at t.0 rank top k) }
         ensures whole { Whole self.new }
         ensures threads { SameThreads self.old.threads self.new.threads }
-        ensures scheduler { KeepsScheduler self.old self.new }
+        ensures scheduler { KeepsRest self.old self.new }
         ensures queues { IfSome (slot_of self.old.threads.records t.0) (λ u. self.new.threads.queues ≡ entered queue.Ready rank u (without u self.old.threads.queues)) }
         ensures ranks { rank ≤ℤ pos greatest_return → KeepsRanks 0 self.old.threads self.new.threads }
         ensures stays { (u : ℕ) → WaitsToRun self.old.threads u → WaitsToRun self.new.threads u }

@@ -10,7 +10,7 @@ ghost use Rattle.pth_model.specs.State.{Control, queue};
 ghost use Rattle.pth_model.specs.Changes.{holders, is_empty};
 ghost use Rattle.pth_model.specs.Part.{rank_by};
 ghost use Rattle.pth_model.specs.ThreadEnds.{only, is_alone};
-ghost use Rattle.pth_model.specs.Operands.{named};
+ghost use Rattle.pth_numbered.specs.Operands.{named};
 ghost use Rattle.pth_world.specs.World.{number_of, entry_in};
 ghost use Rattle.pth_world.specs.Walks.{behind};
 ghost use Rattle.pth_world.specs.Shows.{Shows};

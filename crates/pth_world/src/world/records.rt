@@ -12,6 +12,7 @@ ghost use Rattle.pth_model.specs.Changes.{sets, enters, removes};
 ghost use Rattle.pth_model.specs.ThreadControl.{spawns, has_room};
 ghost use Rattle.pth_model.specs.Part.{is_put_waiting};
 ghost use Rattle.pth_world.specs.World.{before_main};
+ghost use Rattle.pth_world.specs.Numbering.{HasNumbers};
 ghost use Rattle.pth_world.specs.Ranks.{KeepsRanks};
 ghost use Rattle.pth_world.specs.Shows.{Shows, StandsFor};
 ghost use Rattle.pth_world.specs.Sound.{IsSound, IsKnown, IsPrio, IsCancel, KeepsAttributes};
@@ -30,6 +31,7 @@ use pth_base::program::Program;
 use pth_base::thread::ThreadState;
 use pth_model::progress::Progress;
 use pth_queue::queue::Queue;
+use pth_threads::attrs::Attrs;
 use pth_threads::entry::{AddErr, Change, Entry, NewThread};
 use pth_threads::threads::Threads;
 use std::alloc::Global;
@@ -52,6 +54,7 @@ impl<P: Program> World<P> {
         ensures shows { IfOk result (λ w. Shows w (before_main P.functions (record { program = program }))) }
         ensures whole { IfOk result (λ w. Whole w) }
         ensures made { IfOk result (λ w. w.threads.records.made ≡ 0) }
+        ensures objects { IfOk result (λ w. w.attributes.made ≡ 0) }
         ensures count { IfOk result (λ w. count w.threads.records ≡ 0) }
         ensures queues { IfOk result (λ w. w.threads.queues ≡ record no_queues { room = thread_limit }) }
         ensures bodies { IfOk result (λ w. 0 < (P.functions w.program).bodies) }
@@ -62,11 +65,13 @@ impl<P: Program> World<P> {
         queues.reserve(MOST_THREADS)?;
         let progress = ProgressTable::new(alloc)?;
         let threads = Threads::new(alloc);
+        let attributes = Attrs::new(alloc);
         Ok(World {
             alloc,
             program,
             shared,
             threads,
+            attributes,
             queues,
             progress,
             running: None,
@@ -82,6 +87,7 @@ impl<P: Program> World<P> {
         ensures stands { IfOk result (λ w. StandsFor w (start P.functions (record { program = program }))) }
         ensures whole { IfOk result (λ w. Whole w) }
         ensures one { IfOk result (λ w. w.threads.records.made ≡ 1) }
+        ensures no_objects { IfOk result (λ w. w.attributes.made ≡ 0) }
     {
         let mut world = World::without_threads(alloc, program)?;
         let main = match world.spawn(BodyId(0), 0, main_thread()) {
@@ -152,7 +158,7 @@ impl<P: Program> World<P> {
         requires bodies { body.0 < (P.functions self.old.program).bodies }
         requires prio { IsPrio of.prio }
         requires cancel { IsCancel of.cancel }
-        requires few { self.old.threads.records.made < 2147483648 }
+        requires few { HasNumbers self.old }
         ensures tid { IfOk result (λ t. t.0 ≡ self.old.threads.records.made + 1) }
         ensures made { OnOk result (self.new.threads.records.made ≡ self.old.threads.records.made + 1) }
         ensures queues { IfOk result (λ t. IfSome (slot_of self.new.threads.records t.0) (λ u. self.new.threads.queues ≡ entered queue.New of.prio u self.old.threads.queues)) }

@@ -1,5 +1,5 @@
 use Rattle.std.proofs.Common.{◌∙◌, ap, sym, rules}
-use Rattle.pth_model.specs.Operands.{named}
+use Rattle.pth_numbered.specs.Operands.{named}
 use Rattle.pth_world.proofs.Showing.{named_negative, named_late}
 use Rattle.pth_world.proofs.world.World.named.Goals as goal
 
