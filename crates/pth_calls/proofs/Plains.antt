@@ -41,7 +41,18 @@ quiet_library_call t (call.Ctrl q) a plain library = refl
 quiet_library_call t call.Kill a plain library = absurd (cc plain)
 quiet_library_call t c a plain library = absurd (cc library)
 
--- calls of thread control touch no resource by their answers
+-- calls on attribute objects touch no resource by their answers
+pub quiet_attribute_call : (t : Tid) (c : Call) (a : Answer) → facility_of c ≡ Some facility.Attributes → IsQuiet (Answered t c a)
+unfolding told answer_told
+quiet_attribute_call t call.AttrNew a attributes = refl
+quiet_attribute_call t (call.AttrOf n) a attributes = refl
+quiet_attribute_call t (call.AttrInit x) a attributes = refl
+quiet_attribute_call t (call.AttrSet x v) a attributes = refl
+quiet_attribute_call t (call.AttrGet x field) a attributes = refl
+quiet_attribute_call t (call.AttrDestroy x) a attributes = refl
+quiet_attribute_call t c a attributes = absurd (cc attributes)
+
+-- and neither do calls of thread control
 pub quiet_thread_call : (t : Tid) (c : Call) (a : Answer) → facility_of c ≡ Some facility.Threads → IsQuiet (Answered t c a)
 unfolding told answer_told
 quiet_thread_call t (call.Spawn b v x) a threads = refl
@@ -76,20 +87,26 @@ module _ {P S H : Type 0} (f : P → Functions S H) (s : State P S H) (t : ℕ) 
   answered_leads w v c a old new quiet st is appended = changed_leads v s (effect_of (row_of f s t c).begin) (Answered (tid t) c a) old new quiet st.resources (is.effect s st) appended
 
   -- the calls of which none is built, by their facilities
-  pub unbuilt_row : (c : Call) → is_plain c ≡ true → facility_of c ≢ Some facility.Library → facility_of c ≢ Some facility.Threads → row_of f s t c ≡ unbuilt
+  pub unbuilt_row : (c : Call) → is_plain c ≡ true → facility_of c ≢ Some facility.Library → facility_of c ≢ Some facility.Attributes → facility_of c ≢ Some facility.Threads → row_of f s t c ≡ unbuilt
   unfolding row_of
-  unbuilt_row call.Kill plain library threads = absurd (library refl)
-  unbuilt_row (call.Ctrl q) plain library threads = absurd (library refl)
-  unbuilt_row (call.Spawn b v a) plain library threads = absurd (threads refl)
-  unbuilt_row call.SelfTid plain library threads = absurd (threads refl)
-  unbuilt_row (call.Suspend n) plain library threads = absurd (threads refl)
-  unbuilt_row (call.Resume n) plain library threads = absurd (threads refl)
-  unbuilt_row (call.Yield n) plain library threads = absurd (threads refl)
-  unbuilt_row (call.Join n) plain library threads = absurd (threads refl)
-  unbuilt_row (call.Exit v) plain library threads = absurd (threads refl)
-  unbuilt_row call.Plain plain library threads = absurd (cc plain)
-  unbuilt_row (call.Note v) plain library threads = absurd (cc plain)
-  unbuilt_row c plain library threads = refl
+  unbuilt_row call.Kill plain library attributes threads = absurd (library refl)
+  unbuilt_row (call.Ctrl q) plain library attributes threads = absurd (library refl)
+  unbuilt_row call.AttrNew plain library attributes threads = absurd (attributes refl)
+  unbuilt_row (call.AttrOf n) plain library attributes threads = absurd (attributes refl)
+  unbuilt_row (call.AttrInit x) plain library attributes threads = absurd (attributes refl)
+  unbuilt_row (call.AttrSet x v) plain library attributes threads = absurd (attributes refl)
+  unbuilt_row (call.AttrGet x field) plain library attributes threads = absurd (attributes refl)
+  unbuilt_row (call.AttrDestroy x) plain library attributes threads = absurd (attributes refl)
+  unbuilt_row (call.Spawn b v a) plain library attributes threads = absurd (threads refl)
+  unbuilt_row call.SelfTid plain library attributes threads = absurd (threads refl)
+  unbuilt_row (call.Suspend n) plain library attributes threads = absurd (threads refl)
+  unbuilt_row (call.Resume n) plain library attributes threads = absurd (threads refl)
+  unbuilt_row (call.Yield n) plain library attributes threads = absurd (threads refl)
+  unbuilt_row (call.Join n) plain library attributes threads = absurd (threads refl)
+  unbuilt_row (call.Exit v) plain library attributes threads = absurd (threads refl)
+  unbuilt_row call.Plain plain library attributes threads = absurd (cc plain)
+  unbuilt_row (call.Note v) plain library attributes threads = absurd (cc plain)
+  unbuilt_row c plain library attributes threads = refl
 
   -- and those of thread control
   pub unbuilt_thread_row : (c : Call) → is_plain c ≡ true → facility_of c ≡ Some facility.Threads → ((b v a : _) → c ≢ call.Spawn b v a) → c ≢ call.SelfTid → ((n : _) → c ≢ call.Suspend n) → ((n : _) → c ≢ call.Resume n) → row_of f s t c ≡ unbuilt
@@ -103,6 +120,12 @@ module _ {P S H : Type 0} (f : P → Functions S H) (s : State P S H) (t : ℕ) 
   unbuilt_thread_row (call.Exit v) plain threads no_spawn no_self no_suspend no_resume = absurd (cc plain)
   unbuilt_thread_row call.Kill plain threads no_spawn no_self no_suspend no_resume = absurd (cc plain)
   unbuilt_thread_row (call.Ctrl q) plain threads no_spawn no_self no_suspend no_resume = absurd (cc threads)
+  unbuilt_thread_row call.AttrNew plain threads no_spawn no_self no_suspend no_resume = absurd (cc threads)
+  unbuilt_thread_row (call.AttrOf n) plain threads no_spawn no_self no_suspend no_resume = absurd (cc threads)
+  unbuilt_thread_row (call.AttrInit x) plain threads no_spawn no_self no_suspend no_resume = absurd (cc threads)
+  unbuilt_thread_row (call.AttrSet x v) plain threads no_spawn no_self no_suspend no_resume = absurd (cc threads)
+  unbuilt_thread_row (call.AttrGet x field) plain threads no_spawn no_self no_suspend no_resume = absurd (cc threads)
+  unbuilt_thread_row (call.AttrDestroy x) plain threads no_spawn no_self no_suspend no_resume = absurd (cc threads)
   unbuilt_thread_row call.Plain plain threads no_spawn no_self no_suspend no_resume = absurd (cc plain)
   unbuilt_thread_row (call.Note v) plain threads no_spawn no_self no_suspend no_resume = absurd (cc plain)
   unbuilt_thread_row c plain threads no_spawn no_self no_suspend no_resume = refl

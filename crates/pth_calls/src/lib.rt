@@ -2,6 +2,7 @@
 #![tactic(auto)]
 
 pub mod answering;
+pub mod attribute_handling;
 pub mod library_control;
 pub mod plain;
 pub mod script_lines;

@@ -6,7 +6,7 @@ ghost use Rattle.pth_base.specs.declared.facility.Facility.TheVariants as facili
 ghost use Rattle.pth_base.specs.declared.mark.Mark.TheVariants.{Answered};
 ghost use Rattle.pth_calls.specs.Plain.{is_plain, asks_for_more};
 ghost use Rattle.pth_model.specs.LibraryControl.{ctrl as ctrl_row};
-ghost use Rattle.pth_model.specs.Operands.{◌is_from◌to◌};
+ghost use Rattle.pth_numbered.specs.Operands.{◌is_from◌to◌};
 ghost use Rattle.pth_model.specs.Row.{◌changing◌};
 ghost use Rattle.pth_model.specs.Rows.{row_of};
 ghost use Rattle.pth_model.specs.State.{State};

@@ -1,6 +1,6 @@
 //! The calls that neither block their thread nor give up control, and that end nothing.
 
-ghost use Rattle.std.specs.Prelude.{◌≡◌, ◌<◌, true, false, Some, IfOk, OnOk, OnErr};
+ghost use Rattle.std.specs.Prelude.{◌≡◌, true, false, Some, IfOk, OnOk, OnErr};
 ghost use Rattle.pth_base.specs.Cut.{IsCut};
 ghost use Rattle.pth_base.specs.declared.mark.Mark.TheVariants.{Answered};
 ghost use Rattle.pth_calls.specs.Plain.{is_plain};
@@ -10,10 +10,12 @@ ghost use Rattle.pth_model.specs.State.{State};
 ghost use Rattle.pth_model.specs.declared.next.Next.TheVariants as next;
 ghost use Rattle.pth_world.specs.Frame.{Frame};
 ghost use Rattle.pth_world.specs.Leading.{Leads, IsAnswered, IsQuiet};
+ghost use Rattle.pth_world.specs.Numbering.{HasNumbers};
 ghost use Rattle.pth_world.specs.Shows.{StandsFor};
 ghost use Rattle.pth_world.specs.Whole.{Whole};
 
 use crate::answering::answer_call;
+use crate::attribute_handling::answer_attributes;
 use crate::library_control::answer_library;
 use crate::thread_control::answer_threads;
 use pth_base::answer::Answer;
@@ -30,7 +32,7 @@ use pth_world::world::World;
 fn answer<P: Program>(w: &mut World<P>, t: Tid, call: &Call) -> Result<Answer, OutOfMemory>
     requires whole { Whole w.old }
     requires runs { w.old.scheduler.running ≡ Some t.0 }
-    requires few { w.old.threads.records.made < 2147483648 }
+    requires few { HasNumbers w.old }
     requires plain { is_plain call.now ≡ true }
     ensures answered { IfOk result (λ a. IsAnswered w.old w.new a (λ (s : State P P.State P.Shared). (row_of P.functions s t.0 call.now).begin)) }
     ensures quiet { IfOk result (λ a. IsQuiet (Answered t call.now a)) }
@@ -42,6 +44,7 @@ fn answer<P: Program>(w: &mut World<P>, t: Tid, call: &Call) -> Result<Answer, O
     };
     match facility {
         Facility::Library => Ok(answer_library(w, t, call)),
+        Facility::Attributes => answer_attributes(w, t, call),
         Facility::Threads => answer_threads(w, t, call),
         _ => Ok(Answer::Fail(Errno::EINVAL)),
     }
@@ -57,7 +60,7 @@ pub fn begin_plain<P: Program>(
 ) -> Result<Answer, OutOfMemory>
     requires whole { Whole w.old }
     requires runs { w.old.scheduler.running ≡ Some t.0 }
-    requires few { w.old.threads.records.made < 2147483648 }
+    requires few { HasNumbers w.old }
     requires plain { is_plain call.now ≡ true }
     ensures next { IfOk result (λ a. (s : State P P.State P.Shared) → StandsFor w.old s → next.Done a ≡ (begun P.functions t.0 call.now s).next) }
     ensures ok { OnOk result ((s : State P P.State P.Shared) → StandsFor w.old s → Leads w.new marks.old marks.new (begun P.functions t.0 call.now s).told) }

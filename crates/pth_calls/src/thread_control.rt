@@ -1,6 +1,6 @@
 //! Thread control: `pth_spawn`, `pth_self`, `pth_suspend`, `pth_resume`, `pth_yield`.
 
-ghost use Rattle.std.specs.Prelude.{◌≡◌, ◌<◌, ◌==◌, ◌||◌, not, pos, true, false, Some, None, IfOk, IfSome, OnOk, OnErr, option_map, if◌then◌else◌};
+ghost use Rattle.std.specs.Prelude.{◌≡◌, ◌==◌, ◌||◌, not, pos, true, false, Some, None, IfOk, IfSome, OnOk, OnErr, option_map, if◌then◌else◌};
 ghost use Rattle.pth_base.specs.Cut.{IsCut};
 ghost use Rattle.pth_base.specs.Facilities.{facility_of};
 ghost use Rattle.pth_base.specs.declared.call.Call.TheVariants.{Yield};
@@ -9,17 +9,19 @@ ghost use Rattle.pth_base.specs.declared.mark.Mark.TheVariants.{Answered};
 ghost use Rattle.pth_calls.specs.Plain.{is_plain};
 ghost use Rattle.pth_model.specs.Calls.{begun};
 ghost use Rattle.pth_model.specs.Living.{is_dead as is_dead_state};
-ghost use Rattle.pth_model.specs.Operands.{number as operand, is_below};
+ghost use Rattle.pth_numbered.specs.Operands.{number as operand, is_below};
 ghost use Rattle.pth_model.specs.Rows.{row_of};
 ghost use Rattle.pth_model.specs.State.{State};
-ghost use Rattle.pth_model.specs.ThreadControl.{child_of as child_by_entry, may_run as may_run_in, spawn as spawn_row, suspend as suspend_row, resume as resume_row, yield as yield_row};
+ghost use Rattle.pth_model.specs.ThreadControl.{child_of as child_by_entry, values_for as values_given, may_run as may_run_in, spawn as spawn_row, suspend as suspend_row, resume as resume_row, yield as yield_row};
 ghost use Rattle.pth_base.specs.declared.answer.Answer.TheVariants.{Int};
 ghost use Rattle.pth_base.specs.declared.errno.Errno.TheVariants.{EINVAL};
 ghost use Rattle.pth_model.specs.Row.{effect_of};
 ghost use Rattle.pth_model.specs.Verdict.{Yields, refused};
 ghost use Rattle.pth_world.specs.Frame.{Frame, runs_after, yields_after};
 ghost use Rattle.pth_world.specs.Leading.{Leads, Changed, IsAnswered, IsQuiet};
+ghost use Rattle.pth_world.specs.Numbering.{HasNumbers};
 ghost use Rattle.pth_world.specs.Shows.{StandsFor};
+ghost use Rattle.pth_world.specs.Sound.{IsPrio, IsCancel};
 ghost use Rattle.pth_world.specs.Whole.{Whole};
 
 use crate::answering::answer_call;
@@ -57,6 +59,23 @@ fn child_of(entry: &Entry) -> NewThread
     }
 }
 
+// What thread t gives a new one: its own values for 0, else those of an attribute object.
+fn values_for<P: Program>(w: &World<P>, t: Tid, attr: i64) -> Result<NewThread, Errno>
+    requires whole { Whole w.now }
+    requires runs { w.now.scheduler.running ≡ Some t.0 }
+    ensures values { (s : State P P.State P.Shared) → StandsFor w.now s → result ≡ values_given s.control t.0 attr }
+    ensures prio { IfOk result (λ of. IsPrio of.prio) }
+    ensures cancel { IfOk result (λ of. IsCancel of.cancel) }
+{
+    if attr != 0 {
+        return w.attrs().values(attr, w.threads());
+    }
+    match w.entry(t) {
+        Some(entry) => Ok(child_of(entry)),
+        None => unreachable!(),
+    }
+}
+
 // pth_spawn: makes a thread that runs a body with an argument.
 fn spawn<P: Program>(
     w: &mut World<P>,
@@ -67,23 +86,20 @@ fn spawn<P: Program>(
 ) -> Result<Answer, OutOfMemory>
     requires whole { Whole w.old }
     requires runs { w.old.scheduler.running ≡ Some t.0 }
-    requires few { w.old.threads.records.made < 2147483648 }
+    requires few { HasNumbers w.old }
     ensures answered { IfOk result (λ a. IsAnswered w.old w.new a (λ (s : State P P.State P.Shared). (spawn_row P.functions s t.0 number arg attr).begin)) }
     ensures frame { OnOk result (Frame w.old w.new 1 (Some t.0) false) }
 {
     let Some(body) = body_of(w.bodies(), number) else {
         return Ok(Answer::Fail(Errno::EINVAL));
     };
-    if attr != 0 {
-        return Ok(Answer::Fail(Errno::EINVAL));
-    }
+    let of = match values_for(w, t, attr) {
+        Ok(of) => of,
+        Err(e) => return Ok(Answer::Fail(e)),
+    };
     if !w.has_room() {
         return Ok(Answer::Fail(Errno::EAGAIN));
     }
-    let of = match w.entry(t) {
-        Some(entry) => child_of(entry),
-        None => unreachable!(),
-    };
     match w.spawn(body, arg, of) {
         Ok(child) => Ok(Answer::Int(child.0 as i64)),
         Err(AddErr::TooMany) => unreachable!(),
@@ -170,7 +186,7 @@ pub(crate) fn answer_threads<P: Program>(
 ) -> Result<Answer, OutOfMemory>
     requires whole { Whole w.old }
     requires runs { w.old.scheduler.running ≡ Some t.0 }
-    requires few { w.old.threads.records.made < 2147483648 }
+    requires few { HasNumbers w.old }
     requires plain { is_plain call.now ≡ true }
     requires threads { facility_of call.now ≡ Some facility.Threads }
     ensures answered { IfOk result (λ a. IsAnswered w.old w.new a (λ (s : State P P.State P.Shared). (row_of P.functions s t.0 call.now).begin)) }

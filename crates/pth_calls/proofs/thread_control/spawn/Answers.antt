@@ -1,20 +1,36 @@
-use Rattle.std.proofs.Common.{◌≡◌, ◌∙◌, Some, refl, rules, SFits, w64, to_z-of_z}
-use Rattle.pth_model.specs.Changes.{entry_of, or_nobody}
-use Rattle.pth_model.specs.Operands.{number, is_below}
-use Rattle.pth_model.specs.ThreadControl.{spawn, spawns, child_of}
-use Rattle.pth_calls.proofs.Answers.{passed_answered}
-use Rattle.pth_calls.proofs.Spawning.{body_named, spawns_same}
+use Rattle.std.proofs.Common.{◌≡◌, ◌∙◌, Ok, refl, sym, rules, SFits, w64, to_z-of_z}
+use Rattle.pth_base.specs.declared.errno.Errno.TheVariants.{EAGAIN}
+use Rattle.pth_numbered.specs.Operands.{number, is_below}
+use Rattle.pth_model.specs.State.{State}
+use Rattle.pth_model.specs.ThreadControl.{spawn, spawns, values_for, or_first}
+use Rattle.pth_world.specs.Shows.{StandsFor}
+use Rattle.pth_calls.proofs.Answers.{passed_answered, refused_answered}
+use Rattle.pth_calls.proofs.Spawning.{body_named, spawns_same, no_room, is_made, or_first_is}
 use Rattle.pth_calls.proofs.thread_control.spawn.Goals as goal
 
-pub returns-in-Ok-clause-answered : goal.returns-in-Ok-clause-answered
-returns-in-Ok-clause-answered g c =
-    let f : SFits w64 c.args.arg = search rules in
+pub returns-then-not-has_room-clause-answered : goal.returns-then-not-has_room-clause-answered
+returns-then-not-has_room-clause-answered g c =
+    let attr : SFits w64 c.args.attr = search rules in
     let p = g.P.Program.functions in
     let n = c.args.number in
+    refused_answered c.args.w.now EAGAIN (λ s. (spawn p s c.args.t.0 n c.args.arg c.args.attr).begin) (λ s st. (
+    let body = body_named c.in-Some.body.0 (number n) (is_below n (p s.control.program).bodies) (search rules) in
+    let values : Ok c.in-Ok.of ≡ values_for s.control c.args.t.0 c.args.attr = sym c.in-Ok.is ∙ (rw to_z-of_z at c.values_for.ensures.values) s st in
+    no_room p s c.args.t.0 n c.args.arg c.args.attr c.in-Ok.of body.0 values (sym (c.has_room.ensures.room s.control st.control) ∙ c.if-not-has_room.true)))
+
+pub returns-in-Ok-spawn-clause-answered : goal.returns-in-Ok-spawn-clause-answered
+returns-in-Ok-spawn-clause-answered g c =
+    let f : SFits w64 c.args.arg = search rules in
+    let attr : SFits w64 c.args.attr = search rules in
+    let p = g.P.Program.functions in
+    let n = c.args.number in
+    let values : (s : State _ _ _) → StandsFor c.args.w.now s → Ok c.in-Ok.of ≡ values_for s.control c.args.t.0 c.args.attr = λ s st. sym c.in-Ok.is ∙ (rw to_z-of_z at c.values_for.ensures.values) s st in
     passed_answered c.args.w.now c.spawn.new.self _ (λ s. (spawn p s c.args.t.0 n c.args.arg c.args.attr).begin)
-    (λ s. spawns p (number n) c.args.arg (child_of (or_nobody (entry_of s.control c.args.t.0)))) refl
-    (λ s st. search rules) (λ s. refl)
+    (λ s. spawns p (number n) c.args.arg (or_first (values_for s.control c.args.t.0 c.args.attr))) refl
     (λ s st. (
     let body = body_named c.in-Some.body.0 (number n) (is_below n (p s.control.program).bodies) (search rules) in
-    let known : Some c.in-Some-entry.entry.now ≡ entry_of s.control c.args.t.0 = search rules in
-    spawns_same p _ s.control _ _ c.args.arg _ _ body.1 (c.child_of-of.ensures ∙ search rules) ((rw to_z-of_z at c.in-Ok.ensures.shows) s.control st.control)))
+    is_made p s c.args.t.0 n c.args.arg c.args.attr c.in-Ok.of body.0 (values s st) (sym (c.has_room.ensures.room s.control st.control) ∙ c.if-not-has_room.false) ∙ search rules))
+    (λ s. refl)
+    (λ s st. (
+    let body = body_named c.in-Some.body.0 (number n) (is_below n (p s.control.program).bodies) (search rules) in
+    spawns_same p _ s.control _ _ c.args.arg _ _ body.1 (or_first_is (values_for s.control c.args.t.0 c.args.attr) c.in-Ok.of (values s st)) ((rw to_z-of_z at c.in-Ok-spawn.ensures.shows) s.control st.control)))
