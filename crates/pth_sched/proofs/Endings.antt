@@ -1,5 +1,5 @@
 -- A run ends with main's value where main is alone.
-use Rattle.std.proofs.Common.{◌≡◌, ℕ, ◌==◌, ◌&&◌, ◌||◌, not, ◌+◌, length, if◌then◌else◌, ℤ, pos, Bool, true, false, Option, Some, None, refl, sym, ap, ◌∙◌, subst, List, [], ◌∷◌, ◌++◌}
+use Rattle.std.proofs.Common.{◌≡◌, ℕ, ◌==◌, ◌&&◌, ◌||◌, not, ◌+◌, length, if◌then◌else◌, ℤ, pos, Bool, true, false, Option, Some, None, Result, Ok, Err, refl, sym, ap, ◌∙◌, subst, List, [], ◌∷◌, ◌++◌}
 use Rattle.pth_base.proofs.Tables.{same_means}
 use Rattle.pth_base.specs.Program.{Functions}
 use Rattle.pth_base.specs.declared.call.Call.{Call}
@@ -12,7 +12,7 @@ use Rattle.pth_model.specs.declared.blocked.Blocked.{Blocked}
 use Rattle.pth_model.specs.declared.next.Next.{Next}
 use Rattle.pth_model.specs.declared.next.Next.TheVariants as next
 use Rattle.pth_model.specs.declared.progress.Progress.{Progress}
-use Rattle.pth_model.specs.Verdict.{Verdict, Says, Yields, Blocks, Ends, Kills, Pause, no_pause, waits, refused, says, ◌when◌otherwise◌}
+use Rattle.pth_model.specs.Verdict.{Verdict, Says, Yields, Blocks, Ends, Kills, Pause, no_pause, waits, refused, says, done, by_result, ◌when◌otherwise◌, refused_as◌otherwise◌}
 use Rattle.pth_model.specs.State.{State, Control, Given, Turn, start, queue, present, main}
 use Rattle.pth_model.specs.Transition.{Piece, Went, tid, controlled}
 use Rattle.pth_base.specs.declared.answer.Answer.{Answer}
@@ -21,11 +21,13 @@ use Rattle.pth_base.specs.declared.errno.Errno.{Errno}
 use Rattle.pth_base.specs.declared.errno.Errno.TheVariants.{EINVAL, EAGAIN, ESRCH, EPERM, EDEADLK}
 use Rattle.pth_base.specs.declared.query.Query.{Query}
 use Rattle.pth_base.specs.declared.query.Query.TheVariants as query
-use Rattle.pth_model.specs.ThreadControl.{spawn, suspend, resume, yield, join_attempt, joined, to_join, thread, is_known, has_room, may_run}
+use Rattle.pth_model.specs.ThreadControl.{spawn, values_for, suspend, resume, yield, join_attempt, joined, to_join, thread, is_known, has_room, may_run}
 use Rattle.pth_model.specs.Living.{is_dead}
-use Rattle.pth_model.specs.Operands.{is_below, is_zero, ◌is◌, ◌is_from◌to◌}
+use Rattle.pth_numbered.specs.Operands.{named, is_below, is_zero, ◌is◌, ◌is_from◌to◌}
 use Rattle.pth_model.specs.Pass.{moment}
 use Rattle.pth_model.specs.LibraryControl.{kill, ctrl, running_count}
+use Rattle.pth_model.specs.AttributeHandling.{object, answer_of}
+use Rattle.pth_threads.specs.Attributes.{create_answer, of_answer, init_answer, set_answer, get_answer, destroy_answer}
 use Rattle.pth_model.specs.Changes.{blocked_of, goes_on, entry_of, or_nobody}
 use Rattle.pth_model.specs.Course.{Course}
 use Rattle.pth_model.specs.Row.{effect_of}
@@ -68,6 +70,18 @@ when_on w false x first rest = rest
 refused_on : (e : Errno) (b : Bool) (x : Verdict) → EndsNot x → EndsNot (refused e when b otherwise x)
 refused_on e b x rest = when_on (refused e) b x (says_on (Fail e)) rest
 
+-- nor does what a part says, or refuses
+result_on : {A : Type 0} (say : A → Answer) (r : Result A Errno) → EndsNot (by_result (λ x. Says (say x)) r)
+result_on say (Ok x) = says_on (say x)
+result_on say (Err e) = says_on (Fail e)
+
+part_on : {A : Type 0} (r : Result A Errno) (x : Verdict) → EndsNot x → EndsNot (refused_as r otherwise x)
+part_on (Ok y) x rest = rest
+part_on (Err e) x rest = says_on (Fail e)
+
+done_on : (r : Result (Unit {0}) Errno) → EndsNot (by_result done r)
+done_on r = result_on (λ (u : Unit {0}). Int (pos 1)) r
+
 joined_on : {P S H : Type 0} (k : Control P S H) (o : Option ℕ) → EndsNot (joined k o)
 joined_on k None = blocks_on no_pause
 joined_on k (Some t) = says_on (Int (or_nobody (entry_of k t)).value)
@@ -76,11 +90,11 @@ module _ {P S H : Type 0} (f : P → Functions S H) (s : State P S H) (t : ℕ) 
   spawn_on : (b v a : ℤ) → EndsNot (spawn f s t b v a).begin.verdict
   spawn_on b v a =
       let body = not (is_below b (f s.control.program).bodies) in
-      let attr = not (is_zero a) in
+      let values = values_for s.control t a in
       let room = not (has_room s.control) in
       let made = Int (pos (s.control.threads.made + 1)) in
-      refused_on EINVAL body (refused EINVAL when attr otherwise refused EAGAIN when room otherwise Says made)
-      (refused_on EINVAL attr (refused EAGAIN when room otherwise Says made) (refused_on EAGAIN room (Says made) (says_on made)))
+      refused_on EINVAL body (refused_as values otherwise refused EAGAIN when room otherwise Says made)
+      (part_on values (refused EAGAIN when room otherwise Says made) (refused_on EAGAIN room (Says made) (says_on made)))
 
   suspend_on : (n : ℤ) → EndsNot (suspend s t n).begin.verdict
   suspend_on n =
@@ -148,6 +162,12 @@ module _ {P S H : Type 0} (f : P → Functions S H) (t : ℕ) (v : ℤ) where
   exits s (call.Exit x) h = let e = exit_on (must_wait s.control t) x v h in (ap call.Exit e.0, e.1)
   exits s call.Kill h = absurd (kill_on f s t v h)
   exits s (call.Ctrl q) h = absurd (ctrl_on f s t q v h)
+  exits s call.AttrNew h = absurd (result_on (λ (n : ℕ). Int (pos n)) (create_answer s.control.attributes.objects s.control.attributes.made) v h)
+  exits s (call.AttrOf n) h = absurd (result_on (λ (m : ℕ). Int (pos m)) (of_answer (named s.control.threads.known n) s.control.attributes.objects s.control.attributes.made) v h)
+  exits s (call.AttrInit a) h = absurd (done_on (init_answer (object s.control a)) v h)
+  exits s (call.AttrSet a x) h = absurd (done_on (set_answer s.control.threads.known (object s.control a) x) v h)
+  exits s (call.AttrGet a field) h = absurd (result_on answer_of (get_answer s.control.threads.known (object s.control a) field) v h)
+  exits s (call.AttrDestroy a) h = absurd (done_on (destroy_answer (object s.control a)) v h)
   exits s (call.Spawn b u a) h = absurd (spawn_on f s t b u a v h)
   exits s (call.Suspend n) h = absurd (suspend_on f s t n v h)
   exits s (call.Resume n) h = absurd (resume_on f s t n v h)

@@ -9,6 +9,7 @@ use Rattle.pth_queue.specs.declared.ranked.Ranked.{Ranked}
 use Rattle.pth_queue.specs.Ranking.{head_of, holds}
 use Rattle.pth_queue.specs.Queues.{QueuesOf, queue_of}
 use Rattle.pth_queue.proofs.Sets.{holds-queue_of}
+use Rattle.pth_threads.specs.Attributes.{AttrsOf}
 use Rattle.pth_threads.specs.Threads.{ThreadsOf, slot_of}
 use Rattle.pth_model.specs.declared.next.Next.{Next}
 use Rattle.pth_model.specs.declared.next.Next.TheVariants as next
@@ -16,6 +17,7 @@ use Rattle.pth_model.specs.Part.{chosen, turn_after}
 use Rattle.pth_model.specs.State.{Scheduler, Turn}
 use Rattle.pth_world.specs.World.{WorldOf, ThreadsBySlot, number_of}
 use Rattle.pth_world.specs.Frame.{Frame, Names, runs_after, yields_after}
+use Rattle.pth_world.specs.Numbering.{HasGiven}
 use Rattle.pth_world.specs.Ranks.{IsUnder}
 use Rattle.pth_world.specs.Sound.{IsKnown}
 use Rattle.pth_world.specs.Whole.{Whole, IsIn, IsRunnable, OfNew, OfReady, WaitsToRun}
@@ -78,11 +80,14 @@ module _ {P S H : Type 0} where
   -- ---- frames
 
   -- the program's step leaves who stands where, and who is named
-  pub stepped_frame : (w m v : WorldOf P S H) (r : Option ℕ) (yields : Bool) → Whole m → m.scheduler ≡ w.scheduler → m.threads.records ≡ w.threads.records → m.threads.queues ≡ w.threads.queues → Frame m v 1 r yields → Frame w v 1 r yields
-  stepped_frame w m v r yields whole scheduler records queues frame = frame_then 0 1 w m v m.scheduler.running r yields (record {
+  pub stepped_frame : (w m v : WorldOf P S H) (r : Option ℕ) (yields : Bool) → Whole m → m.scheduler ≡ w.scheduler → m.attributes ≡ w.attributes → m.threads.records ≡ w.threads.records → m.threads.queues ≡ w.threads.queues → Frame m v 1 r yields → Frame w v 1 r yields
+  stepped_frame w m v r yields whole scheduler attributes records queues frame = frame_then 0 1 w m v m.scheduler.running r yields (record {
     whole = whole;
     runs = refl;
-    made = (let n : m.threads.records.made ≡ w.threads.records.made = ap (λ (x : ThreadsOf). x.made) records in omega arith);
+    made = record {
+      threads = (let n : m.threads.records.made ≡ w.threads.records.made = ap (λ (x : ThreadsOf). x.made) records in omega arith);
+      objects = (let n : m.attributes.made ≡ w.attributes.made = ap (λ (x : AttrsOf). x.made) attributes in omega arith);
+    };
     ranks = record {
       under = λ roof low under. subst (λ (x : QueuesOf). IsUnder roof x.ready) (sym queues) under;
       fresh = subst (λ (x : QueuesOf). length x.new ≤ length w.threads.queues.new + 0) (sym queues) (omega arith);
@@ -124,13 +129,20 @@ on_ok_four (Err e) w x y z f = tt
 -- ---- the parts of a turn
 
 module _ {P S H : Type 0} (m v : MachineOf P S H) (going : IsGoing m) where
+  -- no number is given between turns
+  given_still : v.world.threads.records.made ≡ m.world.threads.records.made → v.world.attributes ≡ m.world.attributes → v.turn.steps ≡ m.turn.steps → HasGiven (v.turn.steps + 1) v.world
+  given_still made objects steps = record {
+    threads = (let a = going.made.threads in omega arith);
+    objects = (let a = going.made.objects in let n : v.world.attributes.made ≡ m.world.attributes.made = ap (λ (x : AttrsOf). x.made) objects in omega arith);
+  }
+
   -- a thread is dispatched, and nobody is named any longer
-  pub take_going : (t : ℕ) → m.world.scheduler.running ≡ None → Whole v.world → v.world.scheduler.running ≡ Some t → v.world.scheduler.preferred ≡ None → v.world.threads.records.made ≡ m.world.threads.records.made → v.turn.gave ≡ None → v.turn.turns ≡ m.turn.turns + 1 → v.turn.steps ≡ m.turn.steps → IsGoing v
-  take_going t nobody whole runs unnamed made gave turns steps = record {
+  pub take_going : (t : ℕ) → m.world.scheduler.running ≡ None → Whole v.world → v.world.scheduler.running ≡ Some t → v.world.scheduler.preferred ≡ None → v.world.threads.records.made ≡ m.world.threads.records.made → v.world.attributes ≡ m.world.attributes → v.turn.gave ≡ None → v.turn.turns ≡ m.turn.turns + 1 → v.turn.steps ≡ m.turn.steps → IsGoing v
+  take_going t nobody whole runs unnamed made objects gave turns steps = record {
     whole = whole;
     preferred = subst (λ (o : Option ℕ). IfSome o (λ u. WaitsToRun v.world.threads u)) (sym unnamed) tt;
     unnamed = λ none some. unnamed;
-    made = (let a = going.made in omega arith);
+    made = given_still made objects steps;
     turns = (let a = going.between nobody in omega arith);
     over = subst (λ (o : Option ℕ). IfSome o (λ g. v.turn.turns ≤ v.turn.steps)) (sym gave) tt;
     own = subst (λ (o : Option ℕ). IfSome o (λ g. IfSome v.world.scheduler.running (λ r. r ≡ g))) (sym gave) tt;
@@ -152,7 +164,10 @@ module _ {P S H : Type 0} (m v : MachineOf P S H) (going : IsGoing m) where
         whole = whole;
         preferred = named_on w.scheduler.preferred v.world.scheduler.preferred w.threads v.world.threads names (waits_same w.threads v.world.threads (ap (λ (k : WorldOf P S H). k.threads.records) same) (ap (λ (k : WorldOf P S H). k.threads.queues) same)) (names_wait (yields_after n) m.world w none frame.preferred);
         unnamed = λ given some. names ∙ names_none t n x m.world w (sym gave ∙ given) frame.preferred ∙ none;
-        made = (let a = going.made in let b = frame.made in let c : v.world.threads.records.made ≡ w.threads.records.made = ap (λ (k : WorldOf P S H). k.threads.records.made) same in omega arith);
+        made = record {
+          threads = (let a = going.made.threads in let b = frame.made.threads in let c : v.world.threads.records.made ≡ w.threads.records.made = ap (λ (k : WorldOf P S H). k.threads.records.made) same in omega arith);
+          objects = (let a = going.made.objects in let b = frame.made.objects in let c : v.world.attributes.made ≡ w.attributes.made = ap (λ (k : WorldOf P S H). k.attributes.made) same in omega arith);
+        };
         turns = omega arith;
         over = if_always v.turn.gave (v.turn.turns ≤ v.turn.steps) fewer;
         own = subst (λ (o : Option ℕ). IfSome o (λ g. IfSome v.world.scheduler.running (λ r. r ≡ g))) (sym gave) (subst (λ (o : Option ℕ). IfSome (turn_after t n x).gave (λ g. IfSome o (λ r. r ≡ g))) (sym running) (gives_own t n x over));
@@ -160,14 +175,14 @@ module _ {P S H : Type 0} (m v : MachineOf P S H) (going : IsGoing m) where
       }
 
   -- a turn is over, and who is named goes on to wait
-  pub close_going : (t : ℕ) → m.turn.gave ≡ Some t → Whole v.world → v.world.scheduler.running ≡ None → IfSome v.world.scheduler.preferred (λ u. WaitsToRun v.world.threads u) → v.world.threads.records.made ≡ m.world.threads.records.made → v.turn.gave ≡ None → v.turn.turns ≡ m.turn.turns → v.turn.steps ≡ m.turn.steps → IsGoing v
-  close_going t over whole nobody named made gave turns steps =
+  pub close_going : (t : ℕ) → m.turn.gave ≡ Some t → Whole v.world → v.world.scheduler.running ≡ None → IfSome v.world.scheduler.preferred (λ u. WaitsToRun v.world.threads u) → v.world.threads.records.made ≡ m.world.threads.records.made → v.world.attributes ≡ m.world.attributes → v.turn.gave ≡ None → v.turn.turns ≡ m.turn.turns → v.turn.steps ≡ m.turn.steps → IsGoing v
+  close_going t over whole nobody named made objects gave turns steps =
       let fewer : m.turn.turns ≤ m.turn.steps = subst (λ (o : Option ℕ). IfSome o (λ g. m.turn.turns ≤ m.turn.steps)) over going.over in
       record {
         whole = whole;
         preferred = named;
         unnamed = λ none some. (let rests = subst (λ (o : Option ℕ). IsSome o) nobody some in absurd (cc rests));
-        made = (let a = going.made in omega arith);
+        made = given_still made objects steps;
         turns = omega arith;
         over = subst (λ (o : Option ℕ). IfSome o (λ g. v.turn.turns ≤ v.turn.steps)) (sym gave) tt;
         own = subst (λ (o : Option ℕ). IfSome o (λ g. IfSome v.world.scheduler.running (λ r. r ≡ g))) (sym gave) tt;

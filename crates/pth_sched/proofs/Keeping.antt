@@ -12,7 +12,7 @@ use Rattle.pth_model.specs.State.{Given, Scheduler, start, no_turn}
 use Rattle.pth_model.specs.Run.{parts}
 use Rattle.pth_world.specs.Shows.{StandsFor}
 use Rattle.pth_world.specs.Sound.{IsKnown}
-use Rattle.pth_world.specs.Touches.{KeepsScheduler}
+use Rattle.pth_world.specs.Touches.{KeepsRest}
 use Rattle.pth_world.specs.Whole.{Whole, IsIn, WaitsToRun}
 use Rattle.pth_world.specs.World.{WorldOf, ThreadsBySlot}
 use Rattle.pth_sched.specs.MachineOf.{MachineOf, IsGoing, stops, stops_by}
@@ -40,13 +40,13 @@ pub some_new : {S : Type 0} (x : ThreadsBySlot S) (t : ℕ) → IsKnown x t → 
 some_new x t known stands = some_by x.queues (slot_of x.records t) known stands
 
 -- a world that stands for the start of a run
-pub start_going : {P S H : Type 0} (f : P → Functions S H) (w : WorldOf P S H) (given : Given P) → StandsFor w (start f given) → Whole w → w.threads.records.made ≡ 1 → IsGoing (record { world = w; turn = no_turn })
+pub start_going : {P S H : Type 0} (f : P → Functions S H) (w : WorldOf P S H) (given : Given P) → StandsFor w (start f given) → Whole w → w.threads.records.made ≡ 1 → w.attributes.made ≡ 0 → IsGoing (record { world = w; turn = no_turn })
 unfolding start
-start_going f w given st whole one = let nobody : w.scheduler.preferred ≡ None = sym (ap (λ (x : Scheduler). x.preferred) st.control.scheduler) in record {
+start_going f w given st whole one none = let nobody : w.scheduler.preferred ≡ None = sym (ap (λ (x : Scheduler). x.preferred) st.control.scheduler) in record {
   whole = whole;
   preferred = subst (λ (o : Option ℕ). IfSome o (λ u. WaitsToRun w.threads u)) (sym nobody) tt;
   unnamed = λ gave runs. nobody;
-  made = omega arith;
+  made = record { threads = omega arith; objects = omega arith };
   turns = omega arith;
   over = tt;
   own = tt;
@@ -64,11 +64,11 @@ start_nobody f w given st = sym (ap (λ (x : Scheduler). x.running) st.control.s
 
 -- what two changes in a row leave as it was
 module _ {P S H : Type 0} (w : WorldOf P S H) where
-  pub scheduler_first : KeepsScheduler w w
-  scheduler_first = record { program = refl; scheduler = refl }
+  pub scheduler_first : KeepsRest w w
+  scheduler_first = record { program = refl; attributes = refl; scheduler = refl }
 
-  pub scheduler_then : (m v : WorldOf P S H) → KeepsScheduler w m → KeepsScheduler m v → KeepsScheduler w v
-  scheduler_then m v a b = record { program = b.program ∙ a.program; scheduler = b.scheduler ∙ a.scheduler }
+  pub scheduler_then : (m v : WorldOf P S H) → KeepsRest w m → KeepsRest m v → KeepsRest w v
+  scheduler_then m v a b = record { program = b.program ∙ a.program; attributes = b.attributes ∙ a.attributes; scheduler = b.scheduler ∙ a.scheduler }
 
 -- three facts of a call that went well
 pub on_ok_three : {A E : Type 0} {X Y Z Q : Type 0} (r : Result A E) → OnOk r X → OnOk r Y → OnOk r Z → (X → Y → Z → Q) → OnOk r Q

@@ -4,6 +4,7 @@ use Rattle.pth_base.specs.declared.outcome.Outcome.{Outcome}
 use Rattle.pth_base.specs.declared.outcome.Outcome.TheVariants as outcome
 use Rattle.pth_model.specs.State.{Turn}
 use Rattle.pth_world.specs.World.{WorldOf}
+use Rattle.pth_world.specs.Numbering.{HasGiven}
 use Rattle.pth_world.specs.Whole.{Whole, WaitsToRun}
 use Rattle.pth_world.specs.Ranks.{IsUnder, greatest_return}
 
@@ -12,14 +13,14 @@ pub record MachineOf (P S H : Type 0) : Type 0 where
   pub world : WorldOf P S H
   pub turn : Turn
 
--- each step makes at most one thread, and each turn but the last has at least one step
+-- each step gives at most one number of each kind, and each turn but the last has at least one step
 pub record IsGoing {P S H : Type 0} (m : MachineOf P S H) : Type 0 where
   pub whole : Whole m.world
   -- who was named by a yield waits to run
   pub preferred : IfSome m.world.scheduler.preferred (λ u. WaitsToRun m.world.threads u)
   -- while a thread runs and has not given up control, nobody is named
   pub unnamed : m.turn.gave ≡ None → IsSome m.world.scheduler.running → m.world.scheduler.preferred ≡ None
-  pub made : m.world.threads.records.made ≤ m.turn.steps + 1
+  pub made : HasGiven (m.turn.steps + 1) m.world
   pub turns : m.turn.turns ≤ m.turn.steps + 1
   pub over : IfSome m.turn.gave (λ t. m.turn.turns ≤ m.turn.steps)
   -- nobody runs but the thread that gave up control

@@ -12,7 +12,7 @@ ghost use Rattle.pth_world.specs.Leading.{Leads};
 ghost use Rattle.pth_world.specs.Ranks.{KeepsRanks, greatest_return};
 ghost use Rattle.pth_world.specs.Shows.{Shows, StandsFor};
 ghost use Rattle.pth_world.specs.Sound.{IsSound, IsKnown};
-ghost use Rattle.pth_world.specs.Touches.{KeepsScheduler};
+ghost use Rattle.pth_world.specs.Touches.{KeepsRest};
 ghost use Rattle.pth_world.specs.Whole.{Whole, IsIn, WaitsToRun};
 ghost use Rattle.pth_sched.specs.Passing.{IsWaiting, WaitOnce};
 
@@ -71,7 +71,7 @@ fn wake<P: Program>(w: &mut World<P>, t: Tid, marks: &mut Marks) -> Result<(), O
     ensures ok { OnOk result ((s : State P P.State P.Shared) → StandsFor w.old s → Leads w.new marks.old marks.new (woken t.0 s)) }
     ensures err { OnErr result ((s : State P P.State P.Shared) → StandsFor w.old s → IsCut marks.old marks.new (woken t.0 s).marks) }
     ensures whole { Whole w.new }
-    ensures scheduler { KeepsScheduler w.old w.new }
+    ensures scheduler { KeepsRest w.old w.new }
     ensures made { w.new.threads.records.made ≡ w.old.threads.records.made }
     ensures others { (u : ℕ) → u ≢ t.0 → IsWaiting w.old u → IsWaiting w.new u }
     ensures ranks { KeepsRanks 0 w.old.threads w.new.threads }
@@ -93,7 +93,7 @@ fn wake_all<P: Program>(
     ensures ok { OnOk result ((s : State P P.State P.Shared) → StandsFor w.old s → Leads w.new marks.old marks.new (all_woken (map number list.now) s)) }
     ensures err { OnErr result ((s : State P P.State P.Shared) → StandsFor w.old s → IsCut marks.old marks.new (all_woken (map number list.now) s).marks) }
     ensures whole { OnOk result (Whole w.new) }
-    ensures scheduler { OnOk result (KeepsScheduler w.old w.new) }
+    ensures scheduler { OnOk result (KeepsRest w.old w.new) }
     ensures made { OnOk result (w.new.threads.records.made ≡ w.old.threads.records.made) }
     ensures ranks { OnOk result (KeepsRanks 0 w.old.threads w.new.threads) }
     ensures stays { OnOk result ((u : ℕ) → WaitsToRun w.old.threads u → WaitsToRun w.new.threads u) }
@@ -115,7 +115,7 @@ pub fn pass<P: Program>(
     ensures ok { OnOk result ((s : State P P.State P.Shared) → StandsFor w.old s → Leads w.new marks.old marks.new (pass P.functions s)) }
     ensures err { OnErr result ((s : State P P.State P.Shared) → StandsFor w.old s → IsCut marks.old marks.new (pass P.functions s).marks) }
     ensures whole { OnOk result (Whole w.new) }
-    ensures scheduler { OnOk result (KeepsScheduler w.old w.new) }
+    ensures scheduler { OnOk result (KeepsRest w.old w.new) }
     ensures made { OnOk result (w.new.threads.records.made ≡ w.old.threads.records.made) }
     ensures ranks { OnOk result (KeepsRanks 0 w.old.threads w.new.threads) }
     ensures stays { OnOk result ((u : ℕ) → WaitsToRun w.old.threads u → WaitsToRun w.new.threads u) }

@@ -9,10 +9,11 @@ ghost use Rattle.pth_model.specs.Part.{chosen, is_placed, new_rank, readies_new,
 ghost use Rattle.pth_model.specs.State.{Control, State, queue as rows};
 ghost use Rattle.pth_world.specs.Frame.{Frame, runs_after, yields_after};
 ghost use Rattle.pth_world.specs.Leading.{Leads};
+ghost use Rattle.pth_world.specs.Numbering.{HasNumbers};
 ghost use Rattle.pth_world.specs.Ranks.{IsUnder, KeepsRanks, greatest_return};
 ghost use Rattle.pth_world.specs.Shows.{Shows, StandsFor};
 ghost use Rattle.pth_world.specs.Sound.{IsSound, IsKnown};
-ghost use Rattle.pth_world.specs.Touches.{KeepsScheduler};
+ghost use Rattle.pth_world.specs.Touches.{KeepsRest};
 ghost use Rattle.pth_world.specs.Whole.{Whole, IsIn, WaitsToRun};
 ghost use Rattle.pth_sched.specs.Passing.{HasRoom, IsReady};
 
@@ -44,7 +45,7 @@ pub fn ready_new<P: Program>(w: &mut World<P>)
     requires room { HasRoom w.old.threads.queues }
     ensures shows { (k : Control P P.State P.Shared) → Shows w.old k → Shows w.new (readies_new k) }
     ensures whole { Whole w.new }
-    ensures scheduler { KeepsScheduler w.old w.new }
+    ensures scheduler { KeepsRest w.old w.new }
     ensures made { w.new.threads.records.made ≡ w.old.threads.records.made }
     ensures none { w.new.threads.queues.new ≡ [] }
     ensures ranks { (roof : ℕ) → greatest_return ≤ roof → IsUnder roof w.old.threads.queues.ready → IsUnder (roof + length w.old.threads.queues.new) w.new.threads.queues.ready }
@@ -76,7 +77,7 @@ pub fn next<P: Program>(w: &World<P>) -> Tid
 fn begin_next<P: Program>(w: &mut World<P>, t: Tid, marks: &mut Marks) -> Result<Next, OutOfMemory>
     requires whole { Whole w.old }
     requires runs { w.old.scheduler.running ≡ Some t.0 }
-    requires few { w.old.threads.records.made < 2147483648 }
+    requires few { HasNumbers w.old }
     ensures next { IfOk result (λ n. (s : State P P.State P.Shared) → StandsFor w.old s → IfSome (s.control.threads.progress t.0) (λ p. n ≡ (steps_from P.functions t.0 p s).next)) }
     ensures ok { OnOk result ((s : State P P.State P.Shared) → StandsFor w.old s → IfSome (s.control.threads.progress t.0) (λ p. Leads w.new marks.old marks.new (steps_from P.functions t.0 p s).told)) }
     ensures err { OnErr result ((s : State P P.State P.Shared) → StandsFor w.old s → IfSome (s.control.threads.progress t.0) (λ p. IsCut marks.old marks.new (steps_from P.functions t.0 p s).told.marks)) }
@@ -92,7 +93,7 @@ fn begin_next<P: Program>(w: &mut World<P>, t: Tid, marks: &mut Marks) -> Result
 pub fn go_on<P: Program>(w: &mut World<P>, t: Tid, marks: &mut Marks) -> Result<Next, OutOfMemory>
     requires whole { Whole w.old }
     requires runs { w.old.scheduler.running ≡ Some t.0 }
-    requires few { w.old.threads.records.made < 2147483648 }
+    requires few { HasNumbers w.old }
     ensures next { IfOk result (λ n. (s : State P P.State P.Shared) → StandsFor w.old s → n ≡ (steps_on P.functions t.0 s).next) }
     ensures ok { OnOk result ((s : State P P.State P.Shared) → StandsFor w.old s → Leads w.new marks.old marks.new (steps_on P.functions t.0 s).told) }
     ensures err { OnErr result ((s : State P P.State P.Shared) → StandsFor w.old s → IsCut marks.old marks.new (steps_on P.functions t.0 s).told.marks) }
@@ -113,6 +114,7 @@ fn place<P: Program>(w: &mut World<P>, t: Tid)
     ensures running { w.new.scheduler.running ≡ None }
     ensures preferred { w.new.scheduler.preferred ≡ w.old.scheduler.preferred }
     ensures made { w.new.threads.records.made ≡ w.old.threads.records.made }
+    ensures attributes { w.new.attributes ≡ w.old.attributes }
     ensures ranks { KeepsRanks 0 w.old.threads w.new.threads }
     ensures stays { (u : ℕ) → WaitsToRun w.old.threads u → WaitsToRun w.new.threads u }
 {
@@ -147,6 +149,7 @@ pub fn end_turn<P: Program>(w: &mut World<P>, t: Tid)
     ensures running { w.new.scheduler.running ≡ None }
     ensures preferred { w.new.scheduler.preferred ≡ w.old.scheduler.preferred }
     ensures made { w.new.threads.records.made ≡ w.old.threads.records.made }
+    ensures attributes { w.new.attributes ≡ w.old.attributes }
     ensures ranks { (roof : ℕ) → greatest_return ≤ roof → IsUnder roof w.old.threads.queues.ready → IsUnder (roof + 1) w.new.threads.queues.ready }
     ensures fresh { length w.new.threads.queues.new ≤ length w.old.threads.queues.new }
     ensures stays { (u : ℕ) → WaitsToRun w.old.threads u → WaitsToRun w.new.threads u }

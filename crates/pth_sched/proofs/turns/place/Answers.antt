@@ -57,3 +57,9 @@ returns-then-is_some-clause-stays g c = c.make_waiting.ensures.stays
 
 pub returns-else-is_some-clause-stays : goal.returns-else-is_some-clause-stays
 returns-else-is_some-clause-stays g c = c.put_back.ensures.stays
+
+pub returns-then-is_some-clause-attributes : goal.returns-then-is_some-clause-attributes
+returns-then-is_some-clause-attributes g c = ap (λ w. w.attributes) c.make_waiting.ensures.same
+
+pub returns-else-is_some-clause-attributes : goal.returns-else-is_some-clause-attributes
+returns-else-is_some-clause-attributes g c = ap (λ w. w.attributes) c.put_back.ensures.same

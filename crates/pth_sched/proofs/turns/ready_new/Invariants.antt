@@ -3,7 +3,7 @@ use Rattle.pth_model.specs.Part.{readies_new}
 use Rattle.pth_model.specs.State.{Control}
 use Rattle.pth_world.specs.Ranks.{IsUnder, greatest_return}
 use Rattle.pth_world.specs.Shows.{Shows}
-use Rattle.pth_world.specs.Touches.{KeepsScheduler}
+use Rattle.pth_world.specs.Touches.{KeepsRest}
 use Rattle.pth_world.specs.Whole.{Whole, WaitsToRun}
 use Rattle.pth_sched.specs.Passing.{HasRoom}
 use Rattle.pth_sched.proofs.Readying.{Comes, Rises}
@@ -13,7 +13,7 @@ abbrev pub invariant-loop-t : goal.invariant-loop-t
 invariant-loop-t g l = record {
   comes : (k : Control g.row.P.Denot g.row.P-State.Denot g.row.P-Shared.Denot) → Shows l.fn.w k → Comes l.w (readies_new k);
   whole : Whole l.w;
-  scheduler : KeepsScheduler l.fn.w l.w;
+  scheduler : KeepsRest l.fn.w l.w;
   made : l.w.threads.records.made ≡ l.fn.w.threads.records.made;
   room : HasRoom l.w.threads.queues;
   rises : (roof : ℕ) → greatest_return ≤ roof → IsUnder roof l.fn.w.threads.queues.ready → Rises l.fn.w.threads l.w.threads roof;

@@ -34,4 +34,4 @@ returns-clause-going g c =
     let inside = subst (λ m. IsGoing m) (sym c.self.view_is) c.requires.going in
     let nobody = subst (λ m. m.world.scheduler.running ≡ None) (sym c.self.view_is) c.requires.nobody in
     let gave = subst (λ m. m.turn.gave ≡ None) (sym c.self.view_is) c.requires.over in
-    on_ok_weaker c.push.result (λ tells. take_going _ _ inside c.next-t.result.0 nobody c.dispatch.ensures.whole (ap (λ w. w.scheduler.running) c.dispatch.ensures.same) (ap (λ w. w.scheduler.preferred) c.dispatch.ensures.same) (c.dispatch.ensures.threads.made ∙ c.ready_new.ensures.made) gave refl refl) c.push.ensures.ok
+    on_ok_weaker c.push.result (λ tells. take_going _ _ inside c.next-t.result.0 nobody c.dispatch.ensures.whole (ap (λ w. w.scheduler.running) c.dispatch.ensures.same) (ap (λ w. w.scheduler.preferred) c.dispatch.ensures.same) (c.dispatch.ensures.threads.made ∙ c.ready_new.ensures.made) (ap (λ w. w.attributes) c.dispatch.ensures.same ∙ c.ready_new.ensures.scheduler.attributes) gave refl refl) c.push.ensures.ok
