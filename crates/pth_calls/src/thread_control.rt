@@ -33,6 +33,7 @@ use pth_base::marks::Marks;
 use pth_base::memory::OutOfMemory;
 use pth_base::program::Program;
 use pth_base::thread::ThreadState;
+use pth_model::living::is_dead;
 use pth_model::next::Next;
 use pth_threads::entry::{AddErr, Entry, NewThread};
 use pth_world::world::World;
@@ -104,15 +105,6 @@ fn spawn<P: Program>(
         Ok(child) => Ok(Answer::Int(child.0 as i64)),
         Err(AddErr::TooMany) => unreachable!(),
         Err(AddErr::OutOfMemory) => Err(OutOfMemory),
-    }
-}
-
-fn is_dead(state: ThreadState) -> bool
-    ensures { result ≡ is_dead_state state }
-{
-    match state {
-        ThreadState::Dead => true,
-        _ => false,
     }
 }
 

@@ -1,3 +1,4 @@
+pub mod Awaits
 pub mod Verdict
 pub mod Resources
 pub mod Standing

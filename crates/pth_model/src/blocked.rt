@@ -1,5 +1,6 @@
 //! A call that blocks its thread.
 
+use crate::awaits::Awaits;
 use pth_base::call::Call;
 use pth_base::ids::Micros;
 
@@ -22,4 +23,21 @@ pub struct Blocked {
     pub written: usize,
     pub round: u64,
     pub retake: Retake,
+}
+
+impl Blocked {
+    ghost use Rattle.std.specs.Prelude.{◌≡◌};
+    ghost use Rattle.pth_model.specs.Awaits.{awaits_of};
+
+    /// What the call waits for.
+    pub fn awaits(&self) -> Awaits
+        ensures { result ≡ awaits_of self.now }
+    {
+        match &self.call {
+            Call::Exit(_) => Awaits::Alone,
+            Call::Join(0) => Awaits::AnyDeath,
+            Call::Join(n) => Awaits::Death(*n),
+            _ => Awaits::Nothing,
+        }
+    }
 }

@@ -1,15 +1,23 @@
 -- Which calls block, and when blocked threads wake.
-use Rattle.std.proofs.Common.{◌≡◌, ◌≢◌, ℕ, ℤ, true, false, refl}
+use Rattle.std.proofs.Common.{◌≡◌, ◌≢◌, ℕ, ℤ, ◌||◌, ◌&&◌, not, Bool, true, false, is_some, Option, Some, None, if◌then◌else◌, refl, ◌∙◌, ap, sym}
 use Rattle.pth_base.specs.Program.{Functions}
 use Rattle.pth_base.specs.declared.call.Call.{Call}
 use Rattle.pth_base.specs.declared.call.Call.TheVariants as call
 use Rattle.pth_base.specs.declared.query.Query.{Query}
 use Rattle.pth_base.specs.declared.query.Query.TheVariants as query
 use Rattle.pth_calls.specs.Plain.{is_plain}
+use Rattle.pth_model.specs.declared.awaits.Awaits.{Awaits}
+use Rattle.pth_model.specs.declared.awaits.Awaits.TheVariants.{Death, AnyDeath}
 use Rattle.pth_model.specs.declared.blocked.Blocked.{Blocked}
+use Rattle.pth_model.specs.Awaits.{awaited_by, awaits_in}
+use Rattle.pth_model.specs.Calls.{wakes, wakes_by}
+use Rattle.pth_model.specs.Changes.{blocked_of, or_nobody}
 use Rattle.pth_model.specs.LibraryControl.{ctrl}
+use Rattle.pth_numbered.specs.Operands.{number, is_zero}
 use Rattle.pth_model.specs.Rows.{row_of}
 use Rattle.pth_model.specs.State.{State}
+use Rattle.pth_model.specs.ThreadControl.{thread, is_dead_in, first_of, joinable_dead}
+use Rattle.pth_waits.specs.Waking.{has_come}
 
 -- a call is plain that is none of these
 pub is_plain_call : (c : Call) → c ≢ call.Kill → ((n : ℤ) → c ≢ call.Yield n) → ((n : ℤ) → c ≢ call.Join n) → ((v : ℤ) → c ≢ call.Exit v) → c ≢ call.Plain → ((v : ℤ) → c ≢ call.Note v) → is_plain c ≡ true
@@ -26,10 +34,31 @@ module _ {P S H : Type 0} (f : P → Functions S H) (s : State P S H) (t : ℕ) 
   ctrl_never_wakes query.Threads b = refl
   ctrl_never_wakes x b = refl
 
-  -- only an exit and a join wake by themselves
-  pub never_wakes : (c : Call) (b : Blocked) → ((v : ℤ) → c ≢ call.Exit v) → ((n : ℤ) → c ≢ call.Join n) → (row_of f s t c).wakes b ≡ false
+  -- a join wakes once the death that it waits for has come
+  or_none : (x : Bool) → (x || false) ≡ x
+  or_none true = refl
+  or_none false = refl
+
+  by_dead : (m : ℕ) (x dead : Bool) → (is_some (if dead then Some m else None) || x) ≡ (dead || x)
+  by_dead m x true = refl
+  by_dead m x false = refl
+
+  join_wakes : (n : ℤ) (zero : Bool) → (is_some (if zero then first_of (joinable_dead s.control) else (if is_dead_in (thread s.control n) then Some (number n) else None)) || (not zero && not (or_nobody (thread s.control n)).joinable)) ≡ has_come s.control t (if zero then AnyDeath else Death n)
+  join_wakes n true = or_none (is_some (first_of (joinable_dead s.control)))
+  join_wakes n false = by_dead (number n) (not (or_nobody (thread s.control n)).joinable) (is_dead_in (thread s.control n))
+
+  call_wakes : (c : Call) (b : Blocked) → (row_of f s t c).wakes b ≡ has_come s.control t (awaited_by c)
   unfolding row_of
-  never_wakes (call.Exit v) b no_exit no_join = absurd (no_exit v refl)
-  never_wakes (call.Join n) b no_exit no_join = absurd (no_join n refl)
-  never_wakes (call.Ctrl x) b no_exit no_join = ctrl_never_wakes x b
-  never_wakes c b no_exit no_join = refl
+  call_wakes (call.Exit v) b = refl
+  call_wakes (call.Join n) b = join_wakes n (is_zero n)
+  call_wakes (call.Ctrl x) b = ctrl_never_wakes x b
+  call_wakes c b = refl
+
+  blocked_wakes : (o : Option Blocked) → wakes_by f t s o ≡ has_come s.control t (awaits_in o)
+  blocked_wakes None = refl
+  blocked_wakes (Some b) = call_wakes b.call b
+
+  -- a blocked thread wakes exactly when what it waits for has come
+  pub wakes_when : (a : Awaits) → a ≡ awaits_in (blocked_of s.control t) → wakes f t s ≡ has_come s.control t a
+  unfolding wakes
+  wakes_when a is = blocked_wakes (blocked_of s.control t) ∙ ap (has_come s.control t) (sym is)

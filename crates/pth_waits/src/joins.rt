@@ -5,13 +5,13 @@ ghost use Rattle.pth_base.specs.Cut.{IsCut};
 ghost use Rattle.pth_base.specs.declared.call.Call.TheVariants.{Join};
 ghost use Rattle.pth_model.specs.Calls.{begun, resumed};
 ghost use Rattle.pth_model.specs.Changes.{blocked_of};
-ghost use Rattle.pth_model.specs.declared.blocked.Blocked.{Blocked};
-ghost use Rattle.pth_model.specs.Living.{is_dead as is_dead_state};
 ghost use Rattle.pth_model.specs.Row.{effect_of};
 ghost use Rattle.pth_model.specs.Transition.{silent};
 ghost use Rattle.pth_model.specs.State.{Control, State};
-ghost use Rattle.pth_model.specs.ThreadControl.{first_of, joinable_dead, join, to_join as to_join_now, joined, join_attempt};
+ghost use Rattle.pth_model.specs.ThreadControl.{first_of, joinable_dead, to_join as to_join_now, joined, join_attempt};
 ghost use Rattle.pth_waits.specs.Joining.{verdict_by, verdict_or};
+ghost use Rattle.pth_waits.specs.Waking.{has_come};
+ghost use Rattle.pth_model.specs.declared.awaits.Awaits.TheVariants.{Death, AnyDeath};
 ghost use Rattle.pth_base.specs.declared.answer.Answer.TheVariants.{Int};
 ghost use Rattle.pth_model.specs.Changes.{removes, entry_of, or_nobody};
 ghost use Rattle.pth_model.specs.Verdict.{Says};
@@ -31,20 +31,11 @@ use pth_base::mark::Mark;
 use pth_base::marks::Marks;
 use pth_base::memory::OutOfMemory;
 use pth_base::program::Program;
-use pth_base::thread::ThreadState;
 use pth_calls::answering::answer_call;
+use pth_model::living::is_dead;
 use pth_model::next::Next;
 use pth_queue::queue::Queue;
 use pth_world::world::World;
-
-fn is_dead(state: ThreadState) -> bool
-    ensures { result ≡ is_dead_state state }
-{
-    match state {
-        ThreadState::Dead => true,
-        _ => false,
-    }
-}
 
 fn is_joinable<P: Program>(w: &World<P>, t: Tid) -> bool
     requires sound { IsSound w.now.threads }
@@ -75,7 +66,7 @@ fn first_joinable<P: Program>(w: &World<P>) -> Option<Tid>
 }
 
 // Whom a join takes: the thread that is named, where it is dead, and for 0 the one that died first.
-pub(crate) fn to_join<P: Program>(w: &World<P>, n: i64) -> Option<Tid>
+fn to_join<P: Program>(w: &World<P>, n: i64) -> Option<Tid>
     requires { Whole w.now }
     ensures takes { (k : Control P P.State P.Shared) → Shows w.now k → option_map number_of result ≡ to_join_now k n }
     ensures known { IfSome result (λ t. IsKnown w.now.threads t.0) }
@@ -217,19 +208,21 @@ pub fn join_again<P: Program>(
     Ok(Next::Done(answer))
 }
 
-/// Whether a join that blocks its thread has what it waits for: a thread to take, or one that is joinable no longer.
-pub(crate) fn join_wakes<P: Program>(w: &World<P>, n: i64) -> bool
+/// Whether the thread that a join names has died, or can be joined no longer.
+pub(crate) fn has_died<P: Program>(w: &World<P>, n: i64) -> bool
     requires { Whole w.now }
-    ensures { (s : State P P.State P.Shared) (t : ℕ) (b : Blocked) → StandsFor w.now s → result ≡ (join s t n).wakes b }
+    ensures { (k : Control P P.State P.Shared) (t : ℕ) → Shows w.now k → result ≡ has_come k t (Death n) }
 {
-    if to_join(w, n).is_some() {
-        return true;
-    }
-    if n == 0 {
-        return false;
-    }
     match w.named(n) {
-        Some(it) => !it.joinable,
+        Some(it) => is_dead(it.state) || !it.joinable,
         None => true,
     }
+}
+
+/// Whether a thread that can be joined has died.
+pub(crate) fn any_has_died<P: Program>(w: &World<P>) -> bool
+    requires { Whole w.now }
+    ensures { (k : Control P P.State P.Shared) (t : ℕ) → Shows w.now k → result ≡ has_come k t AnyDeath }
+{
+    first_joinable(w).is_some()
 }

@@ -6,6 +6,7 @@ pub mod Sound
 pub mod Whole
 pub mod Touches
 pub mod Steps
+pub mod Progress
 pub mod Leading
 pub mod Walks
 pub mod Ranks

@@ -4,6 +4,7 @@ ghost use Rattle.std.specs.Prelude.{◌≡◌, ◌<◌, ℕ, Option, Some, None,
 ghost use Rattle.pth_base.specs.Limits.{thread_limit};
 ghost use Rattle.pth_base.specs.Table.{put, table};
 ghost use Rattle.pth_model.specs.Changes.{owed_in, blocked_in, owing, blocking};
+ghost use Rattle.pth_world.specs.Progress.{awaits_at};
 ghost use Rattle.pth_world.specs.Steps.{StepsAt};
 
 use pth_base::answer::Answer;
@@ -12,6 +13,7 @@ use pth_base::ids::Slot;
 use pth_base::limits::MOST_THREADS;
 use pth_base::memory::OutOfMemory;
 use pth_base::program::Program;
+use pth_model::awaits::Awaits;
 use pth_model::blocked::Blocked;
 use pth_model::progress::Progress;
 use std::alloc::Global;
@@ -21,22 +23,24 @@ use std::mem;
 /// How many slots there are.
 const SLOTS: usize = MOST_THREADS as usize;
 
-/// How far the thread at each slot is in its program, if there is one.
+/// How far the thread at each slot is in its program, if there is one. What it waits for stands beside it, so that to ask
+/// for it reads no call.
 #[derive(Drop)]
 pub struct ProgressTable<S> {
     items: Vec<Option<Progress<S>>>,
+    awaits: Vec<Awaits>,
 }
 
 impl<S> Model for ProgressTable<S> {
-    ghost use Rattle.std.specs.Prelude.{◌≡◌, List, Option, length};
-    ghost use Rattle.pth_base.specs.Limits.{thread_limit};
+    ghost use Rattle.std.specs.Prelude.{List, Option};
     ghost use Rattle.pth_model.specs.declared.progress.Progress.{Progress};
+    ghost use Rattle.pth_world.specs.Progress.{IsKept};
 
     ghost Value = { List (Option (Progress S)) };
 
     ghost view = { λ a. a.items.items };
 
-    ghost invariant = { λ a. length a.items.items ≡ thread_limit };
+    ghost invariant = { λ a. IsKept a.items.items a.awaits.items };
 }
 
 impl<S: Drop> ProgressTable<S> {
@@ -49,7 +53,8 @@ impl<S: Drop> ProgressTable<S> {
         while items.len() < SLOTS {
             items.push(None)?;
         }
-        Ok(ProgressTable { items })
+        let awaits = vec![in alloc; Awaits::Nothing; SLOTS]?;
+        Ok(ProgressTable { items, awaits })
     }
 
     /// Sets how far the thread at a slot is.
@@ -58,6 +63,7 @@ impl<S: Drop> ProgressTable<S> {
         ensures set { table None self.new ≡ put (table None self.old) s.0 p }
         ensures long { length self.new ≡ thread_limit }
     {
+        self.awaits[s.0 as usize] = awaited(&p);
         self.items[s.0 as usize] = p;
     }
 
@@ -69,6 +75,14 @@ impl<S: Drop> ProgressTable<S> {
         self.items[s.0 as usize].as_ref()
     }
 
+    /// What the thread at a slot waits for: nothing where no call blocks it, or no thread is there.
+    pub fn awaits(&self, s: Slot) -> Awaits
+        requires { s.0 < thread_limit }
+        ensures { result ≡ awaits_at (table None self.now s.0) }
+    {
+        self.awaits[s.0 as usize]
+    }
+
     /// Sets the call that blocks the thread at a slot.
     pub fn block(&mut self, s: Slot, b: Blocked)
         requires { s.0 < thread_limit }
@@ -76,7 +90,8 @@ impl<S: Drop> ProgressTable<S> {
         ensures long { length self.new ≡ thread_limit }
     {
         if let Some(p) = &mut self.items[s.0 as usize] {
-            p.blocked = Some(b);
+            self.awaits[s.0 as usize] = b.awaits();
+            block_by(p, b);
         }
     }
 
@@ -87,6 +102,7 @@ impl<S: Drop> ProgressTable<S> {
         ensures set { table None self.new ≡ put (table None self.old) s.0 (option_map (blocking None) (table None self.old s.0)) }
         ensures long { length self.new ≡ thread_limit }
     {
+        self.awaits[s.0 as usize] = Awaits::Nothing;
         match &mut self.items[s.0 as usize] {
             Some(p) => p.blocked.take(),
             None => None,
@@ -116,6 +132,26 @@ impl<S: Drop> ProgressTable<S> {
             None => Answer::None,
         }
     }
+}
+
+// What a thread waits for, if there is one.
+fn awaited<S>(p: &Option<Progress<S>>) -> Awaits
+    ensures { result ≡ awaits_at p.now }
+{
+    match p {
+        Some(p) => match &p.blocked {
+            Some(b) => b.awaits(),
+            None => Awaits::Nothing,
+        },
+        None => Awaits::Nothing,
+    }
+}
+
+// Sets the call that blocks a thread.
+fn block_by<S>(p: &mut Progress<S>, b: Blocked)
+    ensures { p.new ≡ blocking (Some b) p.old }
+{
+    p.blocked = Some(b);
 }
 
 /// The program's step at the state of the thread at a slot, which is changed where it stands. After an error nothing is known

@@ -3,6 +3,7 @@
 ghost use Rattle.std.specs.Prelude.{◌≡◌, ◌<◌, ℕ, Option, Some, None, IsSome, IfSome, IfOk, OnOk, option_copied, length};
 ghost use Rattle.pth_base.specs.Limits.{thread_limit};
 ghost use Rattle.pth_base.specs.Table.{table};
+ghost use Rattle.pth_model.specs.Awaits.{awaits_in};
 ghost use Rattle.pth_model.specs.State.{Control};
 ghost use Rattle.pth_model.specs.Changes.{is_blocked_by, owes, blocked_of};
 ghost use Rattle.pth_model.specs.Part.{step_of, stepping};
@@ -19,6 +20,7 @@ use pth_base::call::Call;
 use pth_base::ids::{Slot, Tid};
 use pth_base::memory::OutOfMemory;
 use pth_base::program::Program;
+use pth_model::awaits::Awaits;
 use pth_model::blocked::Blocked;
 
 impl<P: Program> World<P> {
@@ -81,6 +83,17 @@ impl<P: Program> World<P> {
                 None => None,
             },
             None => None,
+        }
+    }
+
+    /// What the call that blocks a thread waits for: nothing where no call does. It reads no call.
+    pub fn awaits(&self, t: Tid) -> Awaits
+        requires { IsSound self.now.threads }
+        ensures { (k : Control P P.State P.Shared) → Shows self.now k → result ≡ awaits_in (blocked_of k t.0) }
+    {
+        match self.threads().find(t) {
+            Some(slot) => self.progress().awaits(slot),
+            None => Awaits::Nothing,
         }
     }
 

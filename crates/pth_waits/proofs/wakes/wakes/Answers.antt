@@ -1,31 +1,17 @@
-use Rattle.std.proofs.Common.{◌≡◌, Some, None, refl, sym, rules, SFits, w64, to_z-of_z}
-use Rattle.pth_model.specs.Calls.{wakes}
-use Rattle.pth_model.specs.Changes.{blocked_of}
-use Rattle.pth_model.specs.Rows.{row_of}
-use Rattle.pth_waits.proofs.Begins.{never_wakes}
+use Rattle.std.proofs.Common.{◌∙◌, sym, rules, SFits, w64, to_z-of_z}
+use Rattle.pth_waits.proofs.Begins.{wakes_when}
 use Rattle.pth_waits.proofs.wakes.wakes.Goals as goal
 
-pub returns-in-Exit : goal.returns-in-Exit
-unfolding wakes row_of
-returns-in-Exit g c s st =
-    let has : Some c.in-Some.blocked.now ≡ blocked_of s.control c.args.t.0 = search rules in
-    rw (← has, c.in-Exit.is) (c.is_alone.ensures s.control st.control)
+pub returns-in-Nothing : goal.returns-in-Nothing
+returns-in-Nothing g c s st = sym (wakes_when g.P.Program.functions s c.args.t.0 _ (sym c.in-Nothing.is ∙ c.awaits.ensures s.control st.control))
 
-pub returns-in-Join : goal.returns-in-Join
-unfolding wakes row_of
-returns-in-Join g c s st =
-    let n : SFits w64 c.in-Join.n = search rules in
-    let has : Some c.in-Some.blocked.now ≡ blocked_of s.control c.args.t.0 = search rules in
-    rw (← has, c.in-Join.is) ((rw to_z-of_z at c.join_wakes.ensures) s c.args.t.0 c.in-Some.blocked.now st)
+pub returns-in-Alone : goal.returns-in-Alone
+returns-in-Alone g c s st = c.is_alone.ensures s.control st.control ∙ sym (wakes_when g.P.Program.functions s c.args.t.0 _ (sym c.in-Alone.is ∙ c.awaits.ensures s.control st.control))
 
-pub returns-in_default : goal.returns-in_default
-unfolding wakes
-returns-in_default g c s st =
-    let has : Some c.in-Some.blocked.now ≡ blocked_of s.control c.args.t.0 = search rules in
-    rw (← has) (sym (never_wakes g.P.Program.functions s c.args.t.0 c.in-Some.blocked.now.call c.in-Some.blocked.now c.in_default.not-Exit c.in_default.not-Join))
+pub returns-in-Death : goal.returns-in-Death
+returns-in-Death g c s st =
+    let n : SFits w64 c.in-Death.n = search rules in
+    (rw to_z-of_z at c.has_died.ensures) s.control c.args.t.0 st.control ∙ sym (wakes_when g.P.Program.functions s c.args.t.0 _ (sym c.in-Death.is ∙ c.awaits.ensures s.control st.control))
 
-pub returns-in-None : goal.returns-in-None
-unfolding wakes
-returns-in-None g c s st =
-    let none : None ≡ blocked_of s.control c.args.t.0 = search rules in
-    rw (← none) refl
+pub returns-in-AnyDeath : goal.returns-in-AnyDeath
+returns-in-AnyDeath g c s st = c.any_has_died.ensures s.control c.args.t.0 st.control ∙ sym (wakes_when g.P.Program.functions s c.args.t.0 _ (sym c.in-AnyDeath.is ∙ c.awaits.ensures s.control st.control))

@@ -1,0 +1,26 @@
+-- What a call that blocks its thread waits for.
+use Rattle.std.specs.Prelude.{ℤ, Option, Some, None, if◌then◌else◌}
+use Rattle.pth_base.specs.declared.call.Call.{Call}
+use Rattle.pth_base.specs.declared.call.Call.TheVariants as call
+use Rattle.pth_model.specs.declared.awaits.Awaits.{Awaits}
+use Rattle.pth_model.specs.declared.awaits.Awaits.TheVariants.{Nothing, Alone, Death, AnyDeath}
+use Rattle.pth_model.specs.declared.blocked.Blocked.{Blocked}
+use Rattle.pth_numbered.specs.Operands.{is_zero}
+
+-- pth_join waits for the death of the thread that is named, and for 0 for any
+abbrev pub death_of : ℤ → Awaits
+death_of n = if is_zero n then AnyDeath else Death n
+
+-- pth_exit waits to be alone
+abbrev pub awaited_by : Call → Awaits
+awaited_by (call.Exit v) = Alone
+awaited_by (call.Join n) = death_of n
+awaited_by c = Nothing
+
+abbrev pub awaits_of : Blocked → Awaits
+awaits_of b = awaited_by b.call
+
+-- where no call blocks, nothing
+abbrev pub awaits_in : Option Blocked → Awaits
+awaits_in None = Nothing
+awaits_in (Some b) = awaits_of b
