@@ -1,6 +1,6 @@
 pub mod Relations
 pub mod Values
-pub mod Calls
-pub mod Answers
-pub mod Steps
+pub mod LineCalls
+pub mod LastAnswer
+pub mod LineSteps
 pub mod Script

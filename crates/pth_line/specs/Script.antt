@@ -4,7 +4,7 @@ use Rattle.pth_base.specs.Program.{Functions, Acted}
 use Rattle.pth_base.specs.declared.act.Act.{Act}
 use Rattle.pth_base.specs.declared.act.Act.TheVariants as act
 use Rattle.pth_line.specs.Relations.{holds}
-use Rattle.pth_line.specs.Steps.{stepped}
+use Rattle.pth_line.specs.LineSteps.{stepped}
 use Rattle.pth_line.specs.Values.{value_in}
 use Rattle.pth_line.specs.declared.act_line.ActLine.{ActLine}
 use Rattle.pth_line.specs.declared.act_line.ActLine.TheVariants as line

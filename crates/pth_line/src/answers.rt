@@ -1,7 +1,7 @@
 //! Answers as numbers.
 
 ghost use Rattle.std.specs.Prelude.{◌≡◌};
-ghost use Rattle.pth_line.specs.Answers.{error_number, error_of, number_of_answer, message_number};
+ghost use Rattle.pth_line.specs.LastAnswer.{error_number, error_of, number_of_answer, message_number};
 
 use pth_base::answer::Answer;
 use pth_base::errno::Errno;

@@ -23,7 +23,7 @@ pub enum FieldLine {
 }
 
 impl FieldLine {
-    ghost use Rattle.pth_line.specs.Calls.{field_in};
+    ghost use Rattle.pth_line.specs.LineCalls.{field_in};
 
     /// The field with the value's number.
     fn value(&self, frame: &Frame, cells: &Cells) -> AttrValue
@@ -53,7 +53,7 @@ pub enum AttributeLine {
 }
 
 impl AttributeLine {
-    ghost use Rattle.pth_line.specs.Calls.{attribute_call};
+    ghost use Rattle.pth_line.specs.LineCalls.{attribute_call};
 
     /// The call that the line makes.
     pub(crate) fn call(&self, frame: &Frame, cells: &Cells) -> Call

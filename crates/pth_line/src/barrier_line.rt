@@ -16,7 +16,7 @@ pub enum BarrierLine {
 }
 
 impl BarrierLine {
-    ghost use Rattle.pth_line.specs.Calls.{barrier_call};
+    ghost use Rattle.pth_line.specs.LineCalls.{barrier_call};
 
     /// The call that the line makes.
     pub(crate) fn call(&self, frame: &Frame, cells: &Cells) -> Call

@@ -42,7 +42,7 @@ pub enum CallLine {
 }
 
 impl CallLine {
-    ghost use Rattle.pth_line.specs.Calls.{call_in};
+    ghost use Rattle.pth_line.specs.LineCalls.{call_in};
 
     /// The call that the line makes.
     pub(crate) fn call(&self, frame: &Frame, cells: &Cells) -> Result<Call, OutOfMemory>

@@ -16,7 +16,7 @@ pub enum CancellationLine {
 }
 
 impl CancellationLine {
-    ghost use Rattle.pth_line.specs.Calls.{cancellation_call};
+    ghost use Rattle.pth_line.specs.LineCalls.{cancellation_call};
 
     /// The call that the line makes.
     pub(crate) fn call(&self, frame: &Frame, cells: &Cells) -> Call

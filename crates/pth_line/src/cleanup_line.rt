@@ -16,7 +16,7 @@ pub enum CleanupLine {
 }
 
 impl CleanupLine {
-    ghost use Rattle.pth_line.specs.Calls.{cleanup_call};
+    ghost use Rattle.pth_line.specs.LineCalls.{cleanup_call};
 
     /// The call that the line makes.
     pub(crate) fn call(&self, frame: &Frame, cells: &Cells) -> Call

@@ -17,7 +17,7 @@ pub enum ConditionLine {
 }
 
 impl ConditionLine {
-    ghost use Rattle.pth_line.specs.Calls.{condition_call};
+    ghost use Rattle.pth_line.specs.LineCalls.{condition_call};
 
     /// The call that the line makes.
     pub(crate) fn call(&self, frame: &Frame, cells: &Cells) -> Call

@@ -38,7 +38,7 @@ pub enum EventLine {
 }
 
 impl EventLine {
-    ghost use Rattle.pth_line.specs.Calls.{event_call};
+    ghost use Rattle.pth_line.specs.LineCalls.{event_call};
 
     /// The call that the line makes.
     pub(crate) fn call(&self, frame: &Frame, cells: &Cells) -> Call

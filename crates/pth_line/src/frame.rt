@@ -32,11 +32,11 @@ pub struct Frame {
 }
 
 impl Frame {
-    ghost use Rattle.pth_line.specs.Answers.{held, heard};
+    ghost use Rattle.pth_line.specs.LastAnswer.{held, heard};
     ghost use Rattle.pth_line.specs.Values.{scope};
 
     /// Keeps the answer of the thread's last call, where it made one.
-    #[tactic(auto, unfolding(crate::specs::Answers::heard))]
+    #[tactic(auto, unfolding(crate::specs::LastAnswer::heard))]
     pub(crate) fn hear(&mut self, cells: &mut Cells, answer: &Answer) -> Result<(), OutOfMemory>
         ensures { OnOk result (scope self.new cells.new ≡ heard answer.now (scope self.old cells.old)) }
     {

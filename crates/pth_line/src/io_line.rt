@@ -75,7 +75,7 @@ pub enum IoLine {
 }
 
 impl IoLine {
-    ghost use Rattle.pth_line.specs.Calls.{io_call};
+    ghost use Rattle.pth_line.specs.LineCalls.{io_call};
 
     /// The call that the line makes.
     pub(crate) fn call(&self, frame: &Frame, cells: &Cells) -> Result<Call, OutOfMemory>

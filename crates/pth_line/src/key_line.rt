@@ -19,7 +19,7 @@ pub enum KeyLine {
 }
 
 impl KeyLine {
-    ghost use Rattle.pth_line.specs.Calls.{key_call};
+    ghost use Rattle.pth_line.specs.LineCalls.{key_call};
 
     /// The call that the line makes.
     pub(crate) fn call(&self, frame: &Frame, cells: &Cells) -> Call

@@ -25,7 +25,7 @@ pub enum QueryLine {
 }
 
 impl QueryLine {
-    ghost use Rattle.pth_line.specs.Calls.{query_in};
+    ghost use Rattle.pth_line.specs.LineCalls.{query_in};
 
     /// What is asked.
     fn query(&self, frame: &Frame, cells: &Cells) -> Query
@@ -54,7 +54,7 @@ pub enum LibraryLine {
 }
 
 impl LibraryLine {
-    ghost use Rattle.pth_line.specs.Calls.{library_call};
+    ghost use Rattle.pth_line.specs.LineCalls.{library_call};
 
     /// The call that the line makes.
     pub(crate) fn call(&self, frame: &Frame, cells: &Cells) -> Call

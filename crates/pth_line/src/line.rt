@@ -39,7 +39,7 @@ pub enum Line {
 }
 
 impl Line {
-    ghost use Rattle.pth_line.specs.Steps.{does, past};
+    ghost use Rattle.pth_line.specs.LineSteps.{does, past};
     ghost use Rattle.pth_line.specs.Values.{scope};
 
     /// Does what the line says in a thread that stands at it, and gives the call that it makes.

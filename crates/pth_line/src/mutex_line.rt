@@ -17,7 +17,7 @@ pub enum MutexLine {
 }
 
 impl MutexLine {
-    ghost use Rattle.pth_line.specs.Calls.{mutex_call};
+    ghost use Rattle.pth_line.specs.LineCalls.{mutex_call};
 
     /// The call that the line makes.
     pub(crate) fn call(&self, frame: &Frame, cells: &Cells) -> Call

@@ -38,7 +38,7 @@ pub enum NewEvent {
 }
 
 impl NewEvent {
-    ghost use Rattle.pth_line.specs.Calls.{new_event_call, chained_in};
+    ghost use Rattle.pth_line.specs.LineCalls.{new_event_call, chained_in};
 
     /// The call that makes the event in no ring.
     pub(crate) fn call(&self, frame: &Frame, cells: &Cells) -> Call

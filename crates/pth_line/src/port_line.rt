@@ -22,7 +22,7 @@ pub enum PortLine {
 }
 
 impl PortLine {
-    ghost use Rattle.pth_line.specs.Calls.{port_call};
+    ghost use Rattle.pth_line.specs.LineCalls.{port_call};
 
     /// The call that the line makes.
     pub(crate) fn call(&self, frame: &Frame, cells: &Cells) -> Call

@@ -22,7 +22,7 @@ pub enum RwlockLine {
 }
 
 impl RwlockLine {
-    ghost use Rattle.pth_line.specs.Calls.{rwlock_call};
+    ghost use Rattle.pth_line.specs.LineCalls.{rwlock_call};
 
     /// The call that the line makes.
     pub(crate) fn call(&self, frame: &Frame, cells: &Cells) -> Call

@@ -39,7 +39,7 @@ impl Model for Script {
 }
 
 impl Script {
-    ghost use Rattle.pth_line.specs.Steps.{line_at};
+    ghost use Rattle.pth_line.specs.LineSteps.{line_at};
     ghost use Rattle.pth_line.specs.Script.{act_at};
 
     /// A script of these sections.
@@ -84,7 +84,7 @@ impl Script {
     }
 }
 
-#[tactic(auto, unfolding(crate::specs::Script::functions_of, crate::specs::Steps::stepped))]
+#[tactic(auto, unfolding(crate::specs::Script::functions_of, crate::specs::LineSteps::stepped))]
 impl Program for Script {
     ghost use Rattle.pth_line.specs.Script.{functions_of};
 

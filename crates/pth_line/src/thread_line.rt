@@ -26,7 +26,7 @@ pub enum ThreadLine {
 }
 
 impl ThreadLine {
-    ghost use Rattle.pth_line.specs.Calls.{thread_call};
+    ghost use Rattle.pth_line.specs.LineCalls.{thread_call};
 
     /// The call that the line makes.
     pub(crate) fn call(&self, frame: &Frame, cells: &Cells) -> Call

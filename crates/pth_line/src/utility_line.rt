@@ -16,7 +16,7 @@ pub enum UtilityLine {
 }
 
 impl UtilityLine {
-    ghost use Rattle.pth_line.specs.Calls.{utility_call};
+    ghost use Rattle.pth_line.specs.LineCalls.{utility_call};
 
     /// The call that the line makes.
     pub(crate) fn call(&self, frame: &Frame, cells: &Cells) -> Call

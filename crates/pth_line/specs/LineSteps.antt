@@ -5,8 +5,8 @@ use Rattle.pth_base.specs.Program.{Stepped}
 use Rattle.pth_base.specs.declared.answer.Answer.{Answer}
 use Rattle.pth_base.specs.declared.call.Call.{Call}
 use Rattle.pth_base.specs.declared.call.Call.TheVariants as call
-use Rattle.pth_line.specs.Answers.{heard}
-use Rattle.pth_line.specs.Calls.{call_in}
+use Rattle.pth_line.specs.LastAnswer.{heard}
+use Rattle.pth_line.specs.LineCalls.{call_in}
 use Rattle.pth_line.specs.Relations.{holds}
 use Rattle.pth_line.specs.Values.{Scope, scope, register_in, put_register, number_in}
 use Rattle.pth_line.specs.declared.cells.Cells.{Cells}
