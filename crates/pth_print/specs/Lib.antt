@@ -1,8 +1,8 @@
 pub mod Adding
 pub mod SpacedWords
 pub mod WordTexts
-pub mod Calls
-pub mod Answers
+pub mod CallWords
+pub mod AnswerWords
 pub mod MarkLines
 pub mod EndLines
 pub mod FaultLines

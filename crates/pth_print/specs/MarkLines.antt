@@ -5,8 +5,8 @@ use Rattle.pth_base.specs.declared.act.Act.TheVariants as act
 use Rattle.pth_base.specs.declared.answer.Answer.{Answer}
 use Rattle.pth_base.specs.declared.mark.Mark.{Mark}
 use Rattle.pth_base.specs.declared.mark.Mark.TheVariants as mark
-use Rattle.pth_print.specs.Answers.{answer_words}
-use Rattle.pth_print.specs.Calls.{call_words}
+use Rattle.pth_print.specs.AnswerWords.{answer_words}
+use Rattle.pth_print.specs.CallWords.{call_words}
 use Rattle.pth_print.specs.WordTexts.{number, thread, cell}
 use Rattle.pth_print.specs.SpacedWords.{joined}
 

@@ -2,7 +2,7 @@
 
 ghost use Rattle.std.specs.Prelude.{◌∷◌, codes};
 ghost use Rattle.pth_print.specs.Adding.{Adds};
-ghost use Rattle.pth_print.specs.Answers.{answer_words};
+ghost use Rattle.pth_print.specs.AnswerWords.{answer_words};
 ghost use Rattle.pth_print.specs.MarkLines.{acted_words};
 ghost use Rattle.pth_print.specs.WordTexts.{number};
 ghost use Rattle.pth_print.specs.SpacedWords.{spaced};

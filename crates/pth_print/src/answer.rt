@@ -3,7 +3,7 @@
 ghost use Rattle.pth_print.specs.Adding.{Adds};
 ghost use Rattle.pth_print.specs.SpacedWords.{spaced};
 ghost use Rattle.pth_print.specs.WordTexts.{phrase_of};
-ghost use Rattle.pth_print.specs.Answers.{answer_words, errno_word};
+ghost use Rattle.pth_print.specs.AnswerWords.{answer_words, errno_word};
 ghost use Rattle.std.specs.Prelude.{◌≡◌, ◌++◌};
 
 use crate::word::Word::{Hex, Natural, Number, Plain, Set};

@@ -4,7 +4,7 @@ ghost use Rattle.std.specs.Prelude.{◌≡◌, None};
 ghost use Rattle.pth_base.specs.Facilities.{facility_of};
 ghost use Rattle.pth_print.specs.Adding.{Adds};
 ghost use Rattle.pth_print.specs.SpacedWords.{spaced};
-ghost use Rattle.pth_print.specs.Calls.{call_words};
+ghost use Rattle.pth_print.specs.CallWords.{call_words};
 
 use crate::attribute_call::add_attribute_call;
 use crate::barrier_call::add_barrier_call;

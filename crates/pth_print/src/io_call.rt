@@ -5,7 +5,7 @@ ghost use Rattle.pth_base.specs.Facilities.{facility_of};
 ghost use Rattle.pth_base.specs.declared.facility.Facility.TheVariants as facility;
 ghost use Rattle.pth_print.specs.Adding.{Adds};
 ghost use Rattle.pth_print.specs.SpacedWords.{spaced};
-ghost use Rattle.pth_print.specs.Calls.{call_words};
+ghost use Rattle.pth_print.specs.CallWords.{call_words};
 
 use crate::call_shape::{
     add_bytes, add_bytes_and_one, add_one, add_sets_and_one, add_sets_and_two, add_three, add_two,

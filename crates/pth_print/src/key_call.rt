@@ -6,7 +6,7 @@ ghost use Rattle.pth_base.specs.declared.call.Call.TheVariants as call;
 ghost use Rattle.pth_base.specs.declared.facility.Facility.TheVariants as facility;
 ghost use Rattle.pth_print.specs.Adding.{Adds};
 ghost use Rattle.pth_print.specs.SpacedWords.{spaced};
-ghost use Rattle.pth_print.specs.Calls.{call_words};
+ghost use Rattle.pth_print.specs.CallWords.{call_words};
 
 use crate::call_shape::{add_one, add_text, add_two};
 use pth_base::call::Call;

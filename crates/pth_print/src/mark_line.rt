@@ -5,8 +5,8 @@ ghost use Rattle.pth_base.specs.Cut.{IsCut};
 ghost use Rattle.pth_print.specs.Adding.{Adds};
 ghost use Rattle.pth_print.specs.SpacedWords.{spaced, joined};
 ghost use Rattle.pth_print.specs.WordTexts.{thread};
-ghost use Rattle.pth_print.specs.Calls.{call_words};
-ghost use Rattle.pth_print.specs.Answers.{answer_words};
+ghost use Rattle.pth_print.specs.CallWords.{call_words};
+ghost use Rattle.pth_print.specs.AnswerWords.{answer_words};
 ghost use Rattle.pth_print.specs.MarkLines.{acted_words, mark_words, mark_line};
 
 use crate::act::add_act;

@@ -1,7 +1,7 @@
 use Rattle.std.proofs.Common.{◌∷◌, codes}
 use Rattle.std.proofs.lemmas.Result.{err_from_is_err_and}
-use Rattle.pth_print.specs.Answers.{answer_words}
-use Rattle.pth_print.specs.Calls.{call_words}
+use Rattle.pth_print.specs.AnswerWords.{answer_words}
+use Rattle.pth_print.specs.CallWords.{call_words}
 use Rattle.pth_print.specs.WordTexts.{thread}
 use Rattle.pth_print.proofs.Cuts.{joined_cut}
 use Rattle.pth_print.proofs.mark_line.add_answered.Goals as goal

@@ -1,6 +1,6 @@
 use Rattle.std.proofs.Common.{[], ◌∷◌}
 use Rattle.std.proofs.lemmas.Result.{err_from_is_err_and}
-use Rattle.pth_print.specs.Calls.{call_words}
+use Rattle.pth_print.specs.CallWords.{call_words}
 use Rattle.pth_print.specs.WordTexts.{thread}
 use Rattle.pth_print.proofs.Cuts.{joined_cut, joined_then}
 use Rattle.pth_print.proofs.mark_line.add_call_and.Goals as goal
