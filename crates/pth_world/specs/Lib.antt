@@ -5,7 +5,7 @@ pub mod StateOf
 pub mod Sound
 pub mod Whole
 pub mod Touches
-pub mod Steps
+pub mod StepsAt
 pub mod Progress
 pub mod Leading
 pub mod Walks

@@ -5,7 +5,7 @@ ghost use Rattle.pth_base.specs.Limits.{thread_limit};
 ghost use Rattle.pth_base.specs.Table.{put, table};
 ghost use Rattle.pth_model.specs.Changes.{owed_in, blocked_in, owing, blocking};
 ghost use Rattle.pth_world.specs.Progress.{awaits_at};
-ghost use Rattle.pth_world.specs.Steps.{StepsAt};
+ghost use Rattle.pth_world.specs.StepsAt.{StepsAt};
 
 use pth_base::answer::Answer;
 use pth_base::call::Call;

@@ -11,7 +11,7 @@ ghost use Rattle.pth_world.specs.Shows.{Shows};
 ghost use Rattle.pth_world.specs.Sound.{IsSound, IsKnown};
 ghost use Rattle.pth_world.specs.Whole.{Whole, WholeBut, MayBlock};
 ghost use Rattle.pth_world.specs.Touches.{Touches, blocks, same_view};
-ghost use Rattle.pth_world.specs.Steps.{StepsAt};
+ghost use Rattle.pth_world.specs.StepsAt.{StepsAt};
 
 use crate::progress_table::step_at;
 use crate::world::World;
