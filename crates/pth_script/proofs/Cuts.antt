@@ -10,7 +10,7 @@ use Rattle.std.proofs.lemmas.Bool.Decides.{nat_tests}
 use Rattle.pth_text.specs.Bytes.{code}
 use Rattle.pth_script.specs.TextRows.{Row, rows_of, onto_first}
 use Rattle.pth_script.specs.Broken.{broken, place_breaks, row_breaks, end_breaks}
-use Rattle.pth_script.specs.Table.{first_broken}
+use Rattle.pth_script.specs.RuleOrder.{first_broken}
 
 abbrev lf : ℕ → Bool
 lf b = b == code "\n"

@@ -5,7 +5,7 @@ use Rattle.pth_line.specs.Script.{Sections}
 use Rattle.pth_script.specs.Broken.{broken, IsAccepted, IsRefusal}
 use Rattle.pth_script.specs.Labels.{somes}
 use Rattle.pth_script.specs.Meaning.{IsScriptOf}
-use Rattle.pth_script.specs.Table.{first_broken}
+use Rattle.pth_script.specs.RuleOrder.{first_broken}
 use Rattle.pth_text.specs.declared.rule.Breach.{Breach}
 
 -- ---- refusals

@@ -8,7 +8,7 @@ use Rattle.pth_line.specs.Script.{Sections}
 use Rattle.pth_text.specs.Bytes.{code}
 use Rattle.pth_script.specs.TextRows.{Row, rows_of, onto_first, row_size, size_of}
 use Rattle.pth_script.specs.Broken.{broken, row_breaks, end_breaks, text_limit, IsRefusal, IsAccepted}
-use Rattle.pth_script.specs.Table.{first_broken}
+use Rattle.pth_script.specs.RuleOrder.{first_broken}
 use Rattle.pth_script.specs.Drafts.{DraftParts, draft_parts, in_handler, in_body, rest_of, ComesTo}
 use Rattle.pth_script.specs.Follows.{Follows, TakesRow, Reads, left_of, refused, Answers}
 use Rattle.pth_script.specs.Labels.{somes, with_places}

@@ -12,7 +12,7 @@ use Rattle.pth_script.specs.TextRows.{Row, is_comment}
 use Rattle.pth_script.specs.Meaning.{said}
 use Rattle.pth_script.specs.Seen.{Seen, past, leads, passes_limit, misnumbered, leaves_goto}
 use Rattle.pth_script.specs.Broken.{said_breaks, line_breaks}
-use Rattle.pth_script.specs.Table.{first_broken}
+use Rattle.pth_script.specs.RuleOrder.{first_broken}
 use Rattle.pth_text.specs.declared.rule.Breach.{Breach}
 use Rattle.pth_text.specs.declared.rule.Breach.TheVariants.{Limit, Of}
 

@@ -22,7 +22,7 @@ use Rattle.pth_script.specs.Labels.{somes, with_places, placed_in}
 use Rattle.pth_script.specs.Meaning.{said, handlers_of, checks_of, bodies_of, IsScriptOf}
 use Rattle.pth_script.specs.TextRows.{Row, rows_of, is_comment, above}
 use Rattle.pth_script.specs.Seen.{seen_of, past, is_check, is_end, is_handler}
-use Rattle.pth_script.specs.Table.{first_broken}
+use Rattle.pth_script.specs.RuleOrder.{first_broken}
 use Rattle.pth_text.specs.declared.rule.Breach.{Breach}
 use Rattle.pth_text.specs.declared.rule.Breach.TheVariants.{Limit, Of}
 use Rattle.pth_script.proofs.Above.{seen_more}

@@ -10,7 +10,7 @@ use Rattle.pth_grammar.specs.declared.section.Section.{Section}
 use Rattle.pth_grammar.specs.declared.section.Section.TheVariants as sec
 use Rattle.pth_script.specs.TextRows.{Row, rows_of, size_of, is_comment, above}
 use Rattle.pth_script.specs.Seen.{Seen, seen_of, passes_limit, misnumbered, leaves_goto}
-use Rattle.pth_script.specs.Table.{first_broken}
+use Rattle.pth_script.specs.RuleOrder.{first_broken}
 use Rattle.pth_text.specs.declared.rule.Breach.{Breach}
 use Rattle.pth_text.specs.declared.rule.Breach.TheVariants.{Limit, Of}
 

@@ -13,7 +13,7 @@ use Rattle.pth_spelling.specs.Keywords.{begins}
 use Rattle.pth_grammar.specs.LineMeanings.{numbered}
 use Rattle.pth_script.specs.Seen.{Seen, past, is_handler, is_thread}
 use Rattle.pth_script.specs.Broken.{said_breaks}
-use Rattle.pth_script.specs.Table.{first_broken}
+use Rattle.pth_script.specs.RuleOrder.{first_broken}
 use Rattle.pth_script.specs.declared.draft.Draft.{Draft}
 
 -- ---- what was seen

@@ -6,7 +6,7 @@ use Rattle.pth_line.specs.declared.check.Check.{Check}
 use Rattle.pth_line.specs.declared.line.Line.{Line}
 use Rattle.pth_script.specs.TextRows.{Row, rows_of, size_of, above}
 use Rattle.pth_script.specs.Seen.{seen_of}
-use Rattle.pth_script.specs.Table.{first_broken}
+use Rattle.pth_script.specs.RuleOrder.{first_broken}
 use Rattle.pth_script.specs.Broken.{is_first, row_breaks, broken, text_limit, IsRefusal, IsAccepted}
 use Rattle.pth_script.specs.Meaning.{said, handlers_of, checks_of, bodies_of, IsScriptOf}
 use Rattle.pth_script.specs.Drafts.{draft_parts, seen, IsInOrder, ComesTo}

@@ -1,5 +1,5 @@
 pub mod TextRows
-pub mod Table
+pub mod RuleOrder
 pub mod Labels
 pub mod Bodies
 pub mod Seen

@@ -8,7 +8,7 @@ ghost use Rattle.pth_script.specs.Drafts.{draft_parts, seen, in_handler, in_body
 ghost use Rattle.pth_script.specs.Seen.{passes_limit, misnumbered, leaves_goto, is_check, is_end, is_handler};
 ghost use Rattle.pth_spelling.specs.Keywords.{begins};
 ghost use Rattle.pth_spelling.specs.declared.keyword.Keyword.TheVariants as key;
-ghost use Rattle.pth_script.specs.Table.{first_broken};
+ghost use Rattle.pth_script.specs.RuleOrder.{first_broken};
 
 use crate::body::Body;
 use pth_base::memory::OutOfMemory;

@@ -6,7 +6,7 @@ ghost use Rattle.pth_script.specs.Drafts.{draft_parts, IsClosable, IsInOrder, Co
 ghost use Rattle.pth_script.specs.Follows.{Follows, Goes, left_of};
 ghost use Rattle.pth_script.specs.Meaning.{said, handlers_of, checks_of, bodies_of};
 ghost use Rattle.pth_script.specs.TextRows.{Row, is_comment};
-ghost use Rattle.pth_script.specs.Table.{first_broken};
+ghost use Rattle.pth_script.specs.RuleOrder.{first_broken};
 ghost use Rattle.pth_text.specs.declared.rule.Breach.TheVariants.{Of};
 
 use crate::draft::Draft;

@@ -10,7 +10,7 @@ use Rattle.pth_script.specs.Broken.{is_first, said_breaks}
 use Rattle.pth_script.specs.Drafts.{draft_parts, seen, ComesTo}
 use Rattle.pth_script.specs.Meaning.{said}
 use Rattle.pth_script.specs.Seen.{seen_of, past}
-use Rattle.pth_script.specs.Table.{first_broken}
+use Rattle.pth_script.specs.RuleOrder.{first_broken}
 use Rattle.pth_script.proofs.Above.{seen_more}
 use Rattle.pth_script.proofs.RowRules.{said_row_rule, above_said, not_long}
 use Rattle.pth_script.proofs.Said.{said_line_of, fine_line}
