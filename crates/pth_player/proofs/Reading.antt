@@ -11,7 +11,7 @@ use Rattle.pth_print.specs.declared.fault_line.Fault.TheVariants as fault
 use Rattle.pth_line.specs.Script.{Sections}
 use Rattle.pth_script.specs.Follows.{Answers}
 use Rattle.pth_text.specs.declared.rule.Breach.TheVariants.{Limit, Of}
-use Rattle.pth_player.specs.Faults.{fault_of_read, fault_of_script}
+use Rattle.pth_player.specs.FaultsOfErrors.{fault_of_read, fault_of_script}
 use Rattle.pth_player.specs.Objects.{AreHeld, Inputs, LosesRead, Object, ObjectCounts, ObjectRead, ObjectStood, cut, nothing, object_named, the_file, the_input}
 use Rattle.pth_player.specs.Output.{IsTheScript}
 use Rattle.pth_script.specs.Broken.{IsRefusal, text_limit}

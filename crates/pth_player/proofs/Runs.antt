@@ -11,7 +11,7 @@ use Rattle.pth_words.specs.CommandWords.{Answers, Asked, asked_of}
 use Rattle.pth_words.specs.declared.choice.Choice.{Choice}
 use Rattle.pth_words.specs.declared.words.WordsErr.{WordsErr}
 use Rattle.pth_words.specs.declared.words.WordsErr.TheVariants as words
-use Rattle.pth_player.specs.Faults.{fault_of_sink, fault_of_words}
+use Rattle.pth_player.specs.FaultsOfErrors.{fault_of_sink, fault_of_words}
 use Rattle.pth_player.specs.Drive.{Drives}
 use Rattle.pth_player.specs.Objects.{Inputs, Object, ObjectStood, OthersUntouched, Scene, nothing, object_of, scene, the_file, the_input}
 use Rattle.pth_player.specs.Output.{given_script}

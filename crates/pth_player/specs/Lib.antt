@@ -4,4 +4,4 @@ pub mod Transcript
 pub mod Output
 pub mod Drive
 pub mod Play
-pub mod Faults
+pub mod FaultsOfErrors

@@ -1,7 +1,7 @@
 //! The fault that an error of a part is.
 
 ghost use Rattle.std.specs.Prelude.{◌≡◌};
-ghost use Rattle.pth_player.specs.Faults.{fault_of_read, fault_of_script, fault_of_sink, fault_of_words};
+ghost use Rattle.pth_player.specs.FaultsOfErrors.{fault_of_read, fault_of_script, fault_of_sink, fault_of_words};
 
 use crate::streams::ReadFault;
 use pth_print::fault_line::Fault;

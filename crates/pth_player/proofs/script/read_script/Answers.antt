@@ -2,7 +2,7 @@ use Rattle.std.proofs.Common.{option_map}
 use Rattle.pth_player.proofs.Reading.{read_is, unread_is}
 use Rattle.pth_player.proofs.Results.{kept}
 use Rattle.pth_player.specs.Objects.{inputs, object_named}
-use Rattle.pth_player.specs.Faults.{fault_of_read}
+use Rattle.pth_player.specs.FaultsOfErrors.{fault_of_read}
 use Rattle.pth_player.specs.Play.{ReadsBytes}
 use Rattle.pth_player.proofs.script.read_script.Goals as goal
 
