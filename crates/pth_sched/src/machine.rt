@@ -5,6 +5,7 @@ ghost use Rattle.pth_model.specs.Course.{Course};
 ghost use Rattle.pth_model.specs.State.{Given};
 ghost use Rattle.pth_model.specs.Living.{live as live_threads};
 ghost use Rattle.pth_threads.specs.Threads.{number};
+ghost use Rattle.pth_world.specs.Sound.{IsSound};
 ghost use Rattle.pth_sched.specs.Running.{Stands, StandsAt, GoesOn, BreaksOff, TurnGoesOn, TurnBreaksOff, IsAtStep, IsBetweenTurns};
 
 use crate::live::live;
@@ -134,9 +135,10 @@ impl<P: Program> Machine<P> {
         self.schedule.world().time()
     }
 
-    /// The program with its threads.
+    /// The program with its threads, which is sound as long as memory lasts, so that its threads can be read.
     pub fn world(&self) -> &World<P>
-        ensures { result.now ≡ self.now.world }
+        ensures world { result.now ≡ self.now.world }
+        ensures sound { self.now.turn.outcome ≢ Outcome.OutOfMemory → IsSound result.now.threads }
     {
         self.schedule.world()
     }
