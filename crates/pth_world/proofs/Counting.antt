@@ -10,8 +10,8 @@ use Rattle.pth_queue.proofs.Counts.{fewer, length-delete, count-present}
 use Rattle.pth_queue.proofs.Sets.{once_in, holds-queue_of, deleted_is}
 use Rattle.pth_threads.specs.Threads.{tid_at}
 use Rattle.pth_model.specs.State.{Control, queue}
-use Rattle.pth_world.specs.declared.counted_queues.Lengths.{Lengths}
-use Rattle.pth_world.specs.Lengths.{length_in, with_length, Counts}
+use Rattle.pth_world.specs.declared.counted_queues.PerQueue.{PerQueue}
+use Rattle.pth_world.specs.Counted.{kept_of, with_kept, Counts}
 use Rattle.pth_world.specs.World.{WorldOf}
 use Rattle.pth_world.specs.Shows.{Shows}
 use Rattle.pth_world.proofs.Ranks.{length-insert}
@@ -21,7 +21,7 @@ pub few_rows : (q : Queue) (x : QueuesOf) → IsOrderly x → length (rows_of q 
 few_rows q x o = omega (arith, fewer x.room (rows_of q x) (o.each q).slots (λ s. once_in q s x o), o.few)
 
 -- other rows in one queue, and their number
-counts_with : (q : Queue) (rows : List Ranked) (n : ℕ) (x : QueuesOf) (y : Lengths) → n ≡ length rows → Counts x y → Counts (with_rows q rows x) (with_length q n y)
+counts_with : (q : Queue) (rows : List Ranked) (n : ℕ) (x : QueuesOf) (y : PerQueue ℕ) → n ≡ length rows → Counts x y → Counts (with_rows q rows x) (with_kept q n y)
 counts_with New rows n x y is h New = is
 counts_with New rows n x y is h p = h p
 counts_with Ready rows n x y is h Ready = is
@@ -34,7 +34,7 @@ counts_with Dead rows n x y is h Dead = is
 counts_with Dead rows n x y is h p = h p
 
 -- as many rows in one queue
-counts_same : (q : Queue) (rows : List Ranked) (x : QueuesOf) (y : Lengths) → length rows ≡ length (rows_of q x) → Counts x y → Counts (with_rows q rows x) y
+counts_same : (q : Queue) (rows : List Ranked) (x : QueuesOf) (y : PerQueue ℕ) → length rows ≡ length (rows_of q x) → Counts x y → Counts (with_rows q rows x) y
 counts_same New rows x y same h New = h New ∙ sym same
 counts_same New rows x y same h p = h p
 counts_same Ready rows x y same h Ready = h Ready ∙ sym same
@@ -57,7 +57,7 @@ counts_none x is = subst (λ (k : QueuesOf). Counts k (record { new = 0; ready =
     none Suspended = refl
     none Dead = refl
 
-module _ (v : QueuesOf) (x : QueuesOf) (y : Lengths) (counts : Counts x y) where
+module _ (v : QueuesOf) (x : QueuesOf) (y : PerQueue ℕ) (counts : Counts x y) where
   -- more slots may be used
   pub counts_grown : (room : ℕ) → v ≡ record x { room = room } → Counts v y
   counts_grown room is = subst (λ (k : QueuesOf). Counts k y) (sym is) grown
@@ -77,15 +77,15 @@ module _ (v : QueuesOf) (x : QueuesOf) (y : Lengths) (counts : Counts x y) where
   counts_raised q is = subst (λ (k : QueuesOf). Counts k y) (sym is) (counts_same q (increase (rows_of q x)) x y (length-map (rows_of q x) raised) counts)
 
   -- where one length is set
-  module _ (z : Lengths) (q : Queue) (n : ℕ) (was : n ≡ length_in q y) where
-    both : (rows : List Ranked) (m : ℕ) → m ≡ length rows → v ≡ with_rows q rows x → z ≡ with_length q m y → Counts v z
-    both rows m long is set = subst (λ (k : QueuesOf). Counts k z) (sym is) (subst (λ (k : Lengths). Counts (with_rows q rows x) k) (sym set) (counts_with q rows m x y long counts))
+  module _ (z : PerQueue ℕ) (q : Queue) (n : ℕ) (was : n ≡ kept_of q y) where
+    both : (rows : List Ranked) (m : ℕ) → m ≡ length rows → v ≡ with_rows q rows x → z ≡ with_kept q m y → Counts v z
+    both rows m long is set = subst (λ (k : QueuesOf). Counts k z) (sym is) (subst (λ (k : PerQueue ℕ). Counts (with_rows q rows x) k) (sym set) (counts_with q rows m x y long counts))
 
     -- a row more is counted in few numbers
     pub few_more : IsOrderly x → n ≤ 4096
     few_more o = omega (arith, few_rows q x o, counts q)
 
-    pub counts_entered : (rank : ℤ) (s : ℕ) → v ≡ entered q rank s x → z ≡ with_length q (n + 1) y → Counts v z
+    pub counts_entered : (rank : ℤ) (s : ℕ) → v ≡ entered q rank s x → z ≡ with_kept q (n + 1) y → Counts v z
     counts_entered rank s is set = both (insert (record { rank = rank; holder = s }) (rows_of q x)) (n + 1) (omega (arith, length-insert (record { rank = rank; holder = s }) (rows_of q x), counts q)) is set
 
     module _ (s : ℕ) (o : IsOrderly x) (stands : queue_of s x ≡ Some q) where
@@ -96,7 +96,7 @@ module _ (v : QueuesOf) (x : QueuesOf) (y : Lengths) (counts : Counts x y) where
       pub one_less : 1 ≤ n
       one_less = omega (arith, length-delete s (rows_of q x), present, counts q)
 
-      pub counts_without : v ≡ without s x → z ≡ with_length q (n - 1) y → Counts v z
+      pub counts_without : v ≡ without s x → z ≡ with_kept q (n - 1) y → Counts v z
       counts_without is set = both (delete s (rows_of q x)) (n - 1) (omega (arith, length-delete s (rows_of q x), present, once_in q s x o, counts q)) (is ∙ sym (deleted_is q s x o present)) set
 
 -- a queue that is shown is as long as that of the world

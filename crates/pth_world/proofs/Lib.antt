@@ -17,4 +17,5 @@ pub mod Frames
 pub mod Telling
 pub mod StateOf
 pub mod Counting
+pub mod Heights
 pub mod Vanishing

@@ -1,5 +1,5 @@
 -- Reads of the queues by thread.
-use Rattle.std.proofs.Common.{◌≡◌, ◌≢◌, ℕ, ◌==◌, ◌+◌, ◌≤◌, Bool, true, false, cond, ◌&&◌, ◌||◌, if◌then◌else◌, ℤ, List, [], ◌∷◌, ◌++◌, map, count_by, Option, Some, None, IfSome, option_map, refl, sym, ◌∙◌, ap, subst, arith, pos, neg_ℤ, ◌≤ℤ◌, ◌^◌}
+use Rattle.std.proofs.Common.{◌≡◌, ◌≢◌, ℕ, ◌==◌, ◌+◌, ◌≤◌, Bool, true, false, cond, ◌&&◌, ◌||◌, if◌then◌else◌, ℤ, List, [], ◌∷◌, ◌++◌, map, count_by, Option, Some, None, IfSome, IsSomeAnd, option_map, refl, sym, ◌∙◌, ap, subst, arith, pos, neg_ℤ, ◌≤ℤ◌, ◌^◌}
 use Rattle.std.proofs.lemmas.Int.{ints}
 use Rattle.std.proofs.lemmas.List.Elements.{All-head}
 use Rattle.pth_base.specs.declared.ids.Slot.{Slot}
@@ -14,8 +14,7 @@ use Rattle.pth_queue.specs.Ranking.{is_of, holds, head_of, last_of, after_in, pl
 use Rattle.pth_queue.specs.declared.queue.Queue.TheVariants as queue_is
 use Rattle.pth_queue.proofs.Names.{head_named, last_named, after_named, place_named}
 use Rattle.pth_queue.proofs.Counts.{count-cons, holds-count, holds-none}
-use Rattle.pth_queue.proofs.Sets.{count-head, once_in, holds-queue_of}
-use Rattle.pth_queue.proofs.Places.{placed, moved}
+use Rattle.pth_queue.proofs.Sets.{count-head, once_in}
 use Rattle.pth_queue.proofs.Standing.{last_of-None}
 use Rattle.pth_threads.specs.Threads.{slot_of, tid_at}
 use Rattle.pth_model.specs.Part.{rank_by}
@@ -144,41 +143,18 @@ after_is w s t u q o front back r sound e stands h st is same =
     ∙ ap (after_in t) (sym (st.standing q) ∙ is)
     ∙ after-row t front back r same (subst (λ (l : List Ranked). count_by (is_of t) l ≤ 1) is (once_thread w s t q sound st))
 
-inside : {A : Type 0} {x y : A} → Some x ≡ Some y → x ≡ y
-inside h = cc
-
 abbrev at_place : Queue → ℤ × ℕ → Queue × ℤ × ℕ
 at_place q p = (q, p.0, p.1)
 
--- the rank of a thread in its queue
-pub rank_is : {P S H : Type 0} (w : ThreadsBySlot S) (s : Control P S H) (t u : ℕ) (q p : Queue) (rank : ℤ) (n : ℕ) → IsSound w → slot_of w.records t ≡ Some u → queue_of u w.queues ≡ Some q → place_of u w.queues ≡ Some (p, rank, n) → ShowsThreads w s.threads → rank ≡ rank_by (place_in t (queue s q))
-rank_is w s t u q p rank n sound e stands h st =
+-- the rank of a thread in its queue is the one that its slot has there
+pub rank_is : {P S H : Type 0} (w : ThreadsBySlot S) (s : Control P S H) (t u : ℕ) (q : Queue) (rank : ℤ) → IsSound w → slot_of w.records t ≡ Some u → queue_of u w.queues ≡ Some q → IsSomeAnd (place_of u w.queues) (λ p. rank ≡ p.1) → ShowsThreads w s.threads → rank ≡ rank_by (place_in t (queue s q))
+rank_is w s t u q rank sound e stands h st =
     rw (st.standing q, place_named (slot_of w.records) (tid_at w.records) t u (rows_of q w.queues) sound.tied e (sound.queued q))
     (by_place (place_in u (rows_of q w.queues)) (rw stands at h))
   where
-    by_place : (o : Option (ℤ × ℕ)) → option_map (at_place q) o ≡ Some (p, rank, n) → rank ≡ rank_by o
-    by_place (Some x) k = ap (λ (y : Queue × ℤ × ℕ). y.1) (sym (inside k))
-    by_place None k = cc
-
-placed_by : (u : ℕ) (x : Ranked) (xs : List Ranked) (b : Bool) → (holds u xs ≡ true → place_in u xs ≢ None) → (b || holds u xs) ≡ true → (if b then Some (placed 0 x) else option_map moved (place_in u xs)) ≢ None
-placed_by u x xs true more h = λ none. cc
-placed_by u x xs false more h = moved_some (place_in u xs) (more h)
-  where
-    moved_some : (o : Option (ℤ × ℕ)) → o ≢ None → option_map moved o ≢ None
-    moved_some (Some p) some = λ none. cc
-    moved_some None some = λ none. some refl
-
-placed_in : (u : ℕ) (xs : List Ranked) → holds u xs ≡ true → place_in u xs ≢ None
-placed_in u [] h = cc
-placed_in u (x ∷ xs) h = placed_by u x xs (is_of u x) (placed_in u xs) h
-
--- who stands in a queue has a place there
-pub has_place : (u : ℕ) (q : Queue) (x : QueuesOf) → queue_of u x ≡ Some q → place_of u x ≡ None → ⊥
-has_place u q x stands none = no_place (place_in u (rows_of q x)) (placed_in u (rows_of q x) (holds-queue_of q u x stands)) (rw stands at none)
-  where
-    no_place : (o : Option (ℤ × ℕ)) → o ≢ None → option_map (at_place q) o ≡ None → ⊥
-    no_place (Some y) some k = cc
-    no_place None some k = some refl
+    by_place : (o : Option (ℤ × ℕ)) → IsSomeAnd (option_map (at_place q) o) (λ p. rank ≡ p.1) → rank ≡ rank_by o
+    by_place (Some x) k = k
+    by_place None k = absurd k
 
 -- a queue with no last row is empty
 pub only_none : (t : ℕ) (o : Option Tid) (xs : List Ranked) → option_map number_of o ≡ last_of xs → o ≡ None → true ≡ only t (holders xs)

@@ -11,5 +11,5 @@ pub mod Leading
 pub mod Walks
 pub mod Ranks
 pub mod Frame
-pub mod Lengths
+pub mod Counted
 pub mod Vanishing

@@ -1,32 +1,32 @@
 //! The queues, each with its length at hand.
 
-ghost use Rattle.std.specs.Prelude.{◌≡◌, ◌<◌, ◌≤◌, ℕ, max, Some, IsSome, OnOk, OnErr, length};
+ghost use Rattle.std.specs.Prelude.{◌≡◌, ◌-◌, ◌<◌, ◌≤◌, ◌++◌, pos, max, Some, IsSome, IsSomeAnd, OnOk, OnErr, length, replicate};
 ghost use Rattle.pth_queue.specs.Ranking.{increase};
-ghost use Rattle.pth_queue.specs.Queues.{no_queues, rows_of, with_rows, queue_of, IsNowhere, without, entered, IsRank, CanRise};
+ghost use Rattle.pth_queue.specs.Queues.{no_queues, rows_of, with_rows, queue_of, IsNowhere, without, entered, place_of, IsRank, CanRise};
 
 use pth_base::ids::Slot;
 use pth_base::memory::OutOfMemory;
 use pth_queue::queue::Queue;
 use pth_queue::queue_set::QueueSet;
-use std::alloc::Global;
+use std::alloc::{AllocError, Global};
 use std::marker::Model;
 
-/// How many threads stand in each queue.
+/// One value for each queue.
 #[derive(Drop)]
-struct Lengths {
-    new: u32,
-    ready: u32,
-    waiting: u32,
-    suspended: u32,
-    dead: u32,
+struct PerQueue<T> {
+    new: T,
+    ready: T,
+    waiting: T,
+    suspended: T,
+    dead: T,
 }
 
-impl Lengths {
-    ghost use Rattle.pth_world.specs.Lengths.{length_in, with_length};
+impl<T: Copy> PerQueue<T> {
+    ghost use Rattle.pth_world.specs.Counted.{kept_of, with_kept};
 
-    // How many stand in one queue.
-    fn of(&self, q: Queue) -> u32
-        ensures { result ≡ length_in q self.now }
+    // That of one queue.
+    fn of(&self, q: Queue) -> T
+        ensures { result ≡ kept_of q self.now }
     {
         match q {
             Queue::New => self.new,
@@ -37,25 +37,42 @@ impl Lengths {
         }
     }
 
-    // Sets how many stand in one queue.
-    fn set(&mut self, q: Queue, n: u32)
-        ensures { self.exit.now ≡ with_length q n self.entry.now }
+    // Sets that of one queue.
+    fn set(&mut self, q: Queue, x: T)
+        ensures { self.exit.now ≡ with_kept q x self.entry.now }
     {
         match q {
-            Queue::New => self.new = n,
-            Queue::Ready => self.ready = n,
-            Queue::Waiting => self.waiting = n,
-            Queue::Suspended => self.suspended = n,
-            Queue::Dead => self.dead = n,
+            Queue::New => self.new = x,
+            Queue::Ready => self.ready = x,
+            Queue::Waiting => self.waiting = x,
+            Queue::Suspended => self.suspended = x,
+            Queue::Dead => self.dead = x,
         }
     }
 }
 
-/// The five queues of threads, which know how many threads stand in each.
+// Gives as many slots a height.
+fn grow(heights: &mut Vec<i64>, wanted: usize) -> Result<(), AllocError>
+    ensures ok { OnOk result (heights.new.items ≡ heights.old.items ++ replicate (wanted - length heights.old.items) (pos 0)) }
+    ensures err { OnErr result (heights.new.items ≡ heights.old.items) }
+{
+    if heights.len() < wanted {
+        return heights.resize(wanted, 0);
+    }
+    Ok(())
+}
+
+/// The five queues of threads, which know how many threads stand in each, and the rank of each slot.
+///
+/// A rank is the slot's height and the raises of its queue, so a raise changes one number. The height is the rank on entry,
+/// less the raises before it. Both wrap: a rank has 41 bits, so their sum is the rank however often a queue was raised.
 #[derive(Drop)]
 pub struct CountedQueues {
     queues: QueueSet,
-    lengths: Lengths,
+    lengths: PerQueue<u32>,
+    raises: PerQueue<i64>,
+    // By slot, for those that stand in a queue.
+    heights: Vec<i64>,
 }
 
 impl Model for CountedQueues {
@@ -63,11 +80,11 @@ impl Model for CountedQueues {
 
     ghost Value = { QueuesOf };
 
-    ghost use Rattle.pth_world.specs.Lengths.{Counts};
+    ghost use Rattle.pth_world.specs.Counted.{IsCounted};
 
     ghost view = { λ s. s.queues };
 
-    ghost invariant = { λ s. Counts s.queues s.lengths };
+    ghost invariant = { λ s. IsCounted s.queues s.lengths s.raises s.heights.items };
 }
 
 impl CountedQueues {
@@ -77,13 +94,21 @@ impl CountedQueues {
     {
         CountedQueues {
             queues: QueueSet::new(alloc),
-            lengths: Lengths {
+            lengths: PerQueue {
                 new: 0,
                 ready: 0,
                 waiting: 0,
                 suspended: 0,
                 dead: 0,
             },
+            raises: PerQueue {
+                new: 0,
+                ready: 0,
+                waiting: 0,
+                suspended: 0,
+                dead: 0,
+            },
+            heights: Vec::new(alloc),
         }
     }
 
@@ -93,6 +118,7 @@ impl CountedQueues {
         ensures ok { OnOk result (self.new ≡ record self.old { room = max self.old.room slots }) }
         ensures err { OnErr result (self.new ≡ self.old) }
     {
+        grow(&mut self.heights, slots as usize)?;
         self.queues.reserve(slots)?;
         Ok(())
     }
@@ -108,6 +134,7 @@ impl CountedQueues {
         let n = self.lengths.of(q);
         self.queues.insert(q, rank, s);
         self.lengths.set(q, n + 1);
+        self.heights[s.0 as usize] = rank.wrapping_sub(self.raises.of(q));
     }
 
     /// Takes a slot out of the queue in which it stands (`pth_pqueue_delete`).
@@ -129,6 +156,8 @@ impl CountedQueues {
         ensures { self.new ≡ with_rows q (increase (rows_of q self.old)) self.old }
     {
         self.queues.increase(q);
+        let raises = self.raises.of(q);
+        self.raises.set(q, raises.wrapping_add(1));
     }
 
     /// The queues alone.
@@ -143,5 +172,14 @@ impl CountedQueues {
         ensures { result ≡ length (rows_of q self.now) }
     {
         self.lengths.of(q)
+    }
+
+    /// The rank of a slot that stands in a queue, in constant time.
+    pub fn rank_of(&self, s: Slot) -> i64
+        requires { IsSome (queue_of s.0 self.now) }
+        ensures { IsSomeAnd (place_of s.0 self.now) (λ p. result ≡ p.1) }
+    {
+        let q = self.queues.queue_of(s).unwrap();
+        self.heights[s.0 as usize].wrapping_add(self.raises.of(q))
     }
 }

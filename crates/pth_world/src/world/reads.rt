@@ -115,7 +115,7 @@ impl<P: Program> World<P> {
         self.queues().head(q).is_none()
     }
 
-    /// The rank of a ready thread.
+    /// The rank of a ready thread, in constant time.
     pub fn ready_rank(&self, t: Tid) -> i64
         requires sound { IsSound self.now.threads }
         requires known { IsKnown self.now.threads t.0 }
@@ -123,10 +123,7 @@ impl<P: Program> World<P> {
         ensures { (k : Control P P.State P.Shared) → Shows self.now k → result ≡ rank_by (place_in t.0 (queue k queue.Ready)) }
     {
         let slot = self.slot(t);
-        match self.queues().place_of(slot) {
-            Some((_queue, rank, _before)) => rank,
-            None => unreachable!(),
-        }
+        self.queues.rank_of(slot)
     }
 
     /// The thread that follows one in its queue; none after the last (`pth_pqueue_walk`). Fewer threads stand behind it.
