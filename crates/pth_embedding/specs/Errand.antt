@@ -1,0 +1,48 @@
+-- The program as functions.
+use Rattle.std.specs.Prelude.{ℕ, zero, suc, ℤ, pos, false, None}
+use Rattle.pth_base.specs.Program.{Functions}
+use Rattle.pth_base.specs.declared.answer.Answer.{Answer}
+use Rattle.pth_base.specs.declared.answer.Answer.TheVariants as answer
+use Rattle.pth_base.specs.declared.call.Call.{Call}
+use Rattle.pth_base.specs.declared.call.Call.TheVariants as call
+use Rattle.pth_embedding.specs.declared.errand.Errand.{Errand}
+use Rattle.pth_embedding.specs.declared.errand.Place.{Place}
+use Rattle.pth_embedding.specs.declared.errand.Place.TheVariants as place
+
+-- the number that a call was answered, and 0 for any other answer
+abbrev pub int_of : Answer → ℤ
+int_of (answer.Int n) = n
+int_of a = pos 0
+
+-- main begins with its spawn, and a worker has its argument
+abbrev pub start_of : ℕ → ℤ → Place
+start_of zero arg = place.Spawn
+start_of (suc body) arg = place.Work arg
+
+-- the call of a thread that stands here and is handed a number
+abbrev pub call_of : Place → ℤ → Call
+call_of place.Spawn n = call.Spawn (pos 1) (pos 9) (pos 0)
+call_of place.YieldToWorker n = call.Yield n
+call_of (place.Join worker) n = call.Join worker
+call_of place.Finish n = call.Exit n
+call_of (place.Work arg) n = call.Yield (pos 0)
+call_of (place.Bring value) n = call.Exit value
+
+-- where it stands after that call
+abbrev pub next_of : Place → ℤ → Place
+next_of place.Spawn n = place.YieldToWorker
+next_of place.YieldToWorker n = place.Join n
+next_of (place.Join worker) n = place.Finish
+next_of (place.Work arg) n = place.Bring arg
+next_of p n = p
+
+-- the program; its shared value, its checks and its handlers are nothing of note
+abbrev pub functions_of : Errand → Functions Place (Unit {0})
+functions_of e = record {
+  shared = tt;
+  bodies = 2;
+  start = start_of;
+  step = λ p h a. record { call = call_of p (int_of a); state = next_of p (int_of a); shared = h };
+  check = λ check arg h. false;
+  act = λ handler arg index h. record { act = None; shared = h };
+}
