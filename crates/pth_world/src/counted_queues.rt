@@ -1,4 +1,4 @@
-//! The queues, each with its length at hand.
+//! The queues, with lengths and ranks at hand.
 
 ghost use Rattle.std.specs.Prelude.{◌≡◌, ◌-◌, ◌<◌, ◌≤◌, ◌++◌, pos, max, Some, IsSome, IsSomeAnd, OnOk, OnErr, length, replicate};
 ghost use Rattle.pth_queue.specs.Ranking.{increase};
@@ -51,7 +51,7 @@ impl<T: Copy> PerQueue<T> {
     }
 }
 
-// Gives as many slots a height.
+// Adds heights until there are so many.
 fn grow(heights: &mut Vec<i64>, wanted: usize) -> Result<(), AllocError>
     ensures ok { OnOk result (heights.new.items ≡ heights.old.items ++ replicate (wanted - length heights.old.items) (pos 0)) }
     ensures err { OnErr result (heights.new.items ≡ heights.old.items) }
@@ -65,7 +65,8 @@ fn grow(heights: &mut Vec<i64>, wanted: usize) -> Result<(), AllocError>
 /// The five queues of threads, which know how many threads stand in each, and the rank of each slot.
 ///
 /// A rank is the slot's height and the raises of its queue, so a raise changes one number. The height is the rank on entry,
-/// less the raises before it. Both wrap: a rank has 41 bits, so their sum is the rank however often a queue was raised.
+/// less the raises before it. Both wrap at 64 bits, which hold every rank: so their sum is the rank, however often the queue
+/// was raised.
 #[derive(Drop)]
 pub struct CountedQueues {
     queues: QueueSet,
