@@ -1,0 +1,59 @@
+-- A circle read from another of its members.
+use Rattle.std.proofs.Common.{◌≡◌, ◌≢◌, ℕ, ◌==◌, true, false, List, [], ◌∷◌, ◌++◌, refl, sym, ◌∙◌, ap, ap₂, inl, inr, subst}
+use Rattle.std.proofs.lemmas.Bool.{cases_eq}
+use Rattle.pth_base.proofs.Tables.{same_self, not_same}
+use Rattle.pth_ring.specs.Ring.{Has, from, before, turned, circle, each}
+use Rattle.pth_ring.proofs.Lists.{holds-in, holds-out, Has-turn}
+
+pub record Split (e : ℕ) (xs : List ℕ) : Type 0 where
+  pub front : List ℕ
+  pub back : List ℕ
+  pub is : xs ≡ front ++ e ∷ back
+  pub from_is : from e xs ≡ e ∷ back
+  pub before_is : before e xs ≡ front
+
+split-here : (e x : ℕ) (xs : List ℕ) → x ≡ e → Split e (x ∷ xs)
+split-here e x xs s =
+    let t : (x == e) ≡ true = ap (λ z. z == e) s ∙ same_self e in
+    record { front = []; back = xs; is = ap (λ z. z ∷ xs) s; from_is = rw t (ap (λ z. z ∷ xs) s); before_is = rw t refl }
+
+split-later : (e x : ℕ) (xs : List ℕ) → x ≢ e → Split e xs → Split e (x ∷ xs)
+split-later e x xs n r =
+    let t : (x == e) ≡ false = not_same x e n in
+    record { front = x ∷ r.front; back = r.back; is = ap (λ l. x ∷ l) r.is; from_is = rw t r.from_is; before_is = rw t (ap (λ l. x ∷ l) r.before_is) }
+
+pub split : (e : ℕ) (xs : List ℕ) → Has e xs → Split e xs
+split e [] h = absurd h
+split e (x ∷ xs) (inl s) = split-here e x xs (sym s)
+split e (x ∷ xs) (inr h) = elim (cases_eq x e) [ inl s ↦ split-here e x xs s | inr n ↦ split-later e x xs n (split e xs h) ]
+
+pub turned-is : (e : ℕ) (xs : List ℕ) (s : Split e xs) → turned e xs ≡ e ∷ (s.back ++ s.front)
+unfolding turned
+turned-is e xs s = ap₂ (λ (a b : List ℕ). a ++ b) s.from_is s.before_is
+
+pub Has-turned : (y e : ℕ) (xs : List ℕ) → Has e xs → Has y xs → Has y (turned e xs)
+Has-turned y e xs h k =
+    let s = split e xs h in
+    subst (Has y) (sym (turned-is e xs s)) (Has-turn y s.front (e ∷ s.back) (subst (Has y) s.is k))
+
+pub Has-unturned : (y e : ℕ) (xs : List ℕ) → Has e xs → Has y (turned e xs) → Has y xs
+Has-unturned y e xs h k =
+    let s = split e xs h in
+    subst (Has y) (sym s.is) (Has-turn y (e ∷ s.back) s.front (subst (Has y) (turned-is e xs s) k))
+
+pub circle-in : (xs : List ℕ) (f : ℕ → List ℕ) (e : ℕ) → Has e xs → circle xs f e ≡ turned e xs
+unfolding circle
+circle-in xs f e h = rw (holds-in e xs h) refl
+
+pub circle-out : (xs : List ℕ) (f : ℕ → List ℕ) (e : ℕ) → (Has e xs → ⊥) → circle xs f e ≡ f e
+unfolding circle
+circle-out xs f e h = rw (holds-out e xs h) refl
+
+-- what stands at one of these is changed, and nothing else
+pub each-in : {A : Type 0} (xs : List ℕ) (g : A → A) (f : ℕ → A) (e : ℕ) → Has e xs → each xs g f e ≡ g (f e)
+unfolding each
+each-in xs g f e h = rw (holds-in e xs h) refl
+
+pub each-out : {A : Type 0} (xs : List ℕ) (g : A → A) (f : ℕ → A) (e : ℕ) → (Has e xs → ⊥) → each xs g f e ≡ f e
+unfolding each
+each-out xs g f e h = rw (holds-out e xs h) refl

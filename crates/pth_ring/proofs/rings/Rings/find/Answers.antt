@@ -1,0 +1,24 @@
+use Rattle.std.proofs.Common.{refl, ◌≡◌, ℤ, pos, negsuc, nat_abs, ◌<ℤ◌, ◌≤ℤ◌, arith}
+use Rattle.std.proofs.lemmas.Int.{ints}
+use mir.Syntax.{w64}
+use mir.Val.{to_z, of_z}
+use Rattle.pth_ring.specs.Rings.{operand_number}
+use Rattle.pth_ring.proofs.Refusals.{below-dead, above-dead, found-dead}
+use Rattle.pth_ring.proofs.rings.Rings.find.Goals.{then-e-lt0-via-then-e-lt0, then-e-lt0-via-else-e-lt0+then-e-made}
+use Rattle.pth_ring.proofs.rings.Rings.find.Goals as goal
+
+number_is : (a : ℤ) → pos 0 ≤ℤ a → nat_abs a ≡ operand_number a
+number_is (pos n) high = refl
+number_is (negsuc n) high = absurd (omega (arith, ints))
+
+pub returns-then-e-lt0-clause-none : goal.returns-then-e-lt0-clause-none
+returns-then-e-lt0-clause-none c = elim c.then-e-lt0.branch [
+  | then-e-lt0-via-then-e-lt0 w ↦ (let low : c.args.e <ℤ pos 0 = grind (arith, ints) in rw (← c.self.view_is) (below-dead c.self.inside.nodes c.self.invariant c.args.e low))
+  | then-e-lt0-via-else-e-lt0+then-e-made w ↦ (let high : pos c.self.inside.nodes.made <ℤ c.args.e = grind (arith, ints) in rw (← c.self.view_is) (above-dead c.self.inside.nodes c.self.invariant c.args.e high))
+]
+
+pub returns-clause-none : goal.returns-clause-none
+returns-clause-none c =
+    let high : pos 0 ≤ℤ c.args.e = grind (arith, ints) in
+    let is : to_z w64 (of_z w64 c.args.e) ≡ c.args.e = omega (arith, ints) in
+    rw (← c.self.view_is) (found-dead c.self.inside.nodes c.self.invariant (operand_number c.args.e) c.find.result (rw (is, number_is c.args.e high) at c.find.ensures.slot))

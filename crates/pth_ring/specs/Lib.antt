@@ -1,0 +1,4 @@
+pub mod Ring
+pub mod Rings
+pub mod Links
+pub mod Arena

@@ -1,0 +1,57 @@
+-- Rings as lists: a ring is the list of its events, read from one of them on.
+use Rattle.std.specs.Prelude.{◌≡◌, ◌≢◌, ◌⊎◌, ◌==◌, ℕ, Bool, if◌then◌else◌, List, [], ◌∷◌, ◌++◌, Option, Some, None}
+use Rattle.std.specs.List.{list_any}
+
+-- e stands in the list
+abbrev pub Has : ℕ → List ℕ → Type 0
+Has e [] = ⊥
+Has e (x ∷ xs) = (e ≡ x) ⊎ Has e xs
+
+-- the same as a test
+abbrev pub holds : ℕ → List ℕ → Bool
+holds e xs = list_any (λ x. x == e) xs
+
+-- nothing stands twice
+abbrev pub Distinct : List ℕ → Type 0
+Distinct [] = Unit {0}
+Distinct (x ∷ xs) = ((y : ℕ) → Has y xs → y ≢ x) × Distinct xs
+
+-- the list from e on, and what stands before e
+abbrev pub from : ℕ → List ℕ → List ℕ
+from e [] = []
+from e (x ∷ xs) = if x == e then x ∷ xs else from e xs
+
+abbrev pub before : ℕ → List ℕ → List ℕ
+before e [] = []
+before e (x ∷ xs) = if x == e then [] else x ∷ before e xs
+
+-- a ring read from e on
+unfoldable pub turned : ℕ → List ℕ → List ℕ
+turned e xs = from e xs ++ before e xs
+
+-- the rings with these events as one ring, read from each of them
+unfoldable pub circle : List ℕ → (ℕ → List ℕ) → ℕ → List ℕ
+circle xs f e = if holds e xs then turned e xs else f e
+
+-- a table changed at each of these
+unfoldable pub each : {A : Type 0} → List ℕ → (A → A) → (ℕ → A) → ℕ → A
+each xs g f e = if holds e xs then g (f e) else f e
+
+-- a ring without its first
+abbrev pub rest_of : List ℕ → List ℕ
+rest_of [] = []
+rest_of (x ∷ xs) = xs
+
+abbrev pub first_of : List ℕ → Option ℕ
+first_of [] = None
+first_of (x ∷ xs) = Some x
+
+-- a ring read from behind its first on, which comes last
+abbrev pub behind : List ℕ → List ℕ
+behind [] = []
+behind (x ∷ xs) = xs ++ x ∷ []
+
+-- the ring of e goes on from n with m; it is over where m is e
+pub record GoesOn (ring : List ℕ) (e n m : ℕ) : Type 0 where
+  pub within : Has m ring
+  pub rest : from n ring ≡ n ∷ (if m == e then [] else from m ring)
