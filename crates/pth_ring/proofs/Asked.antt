@@ -11,7 +11,7 @@ use Rattle.pth_numbered.specs.Numbered.{thing_at, number_at, slot_of}
 use Rattle.pth_ring.specs.declared.node.Node.{Node}
 use Rattle.pth_ring.specs.Ring.{Has, GoesOn, from, holds, first_of, behind}
 use Rattle.pth_ring.specs.Links.{next_at, prev_at, event_at, ring, IsLinked}
-use Rattle.pth_ring.specs.Rings.{event_id, has_claim, has_occurred, is_found, is_claimed, found_in, next_in, candidates, chosen}
+use Rattle.pth_ring.specs.Rings.{event_id, has_claim, has_occurred, is_settled, is_claimed, settled_in, next_in, candidates, chosen}
 use Rattle.pth_ring.specs.Arena.{RingsOf, named, ring_of, event_of, events_of, AreLinked}
 use Rattle.pth_ring.proofs.Lists.{Has-turn, Has-append_cases}
 use Rattle.pth_ring.proofs.Calls.{ring-alone, ring-more}
@@ -47,12 +47,12 @@ module _ (x : RingsOf) (k : AreLinked x) (e : ℕ) (used_e : number_at x e ≢ 0
   abbrev l : List ℕ
   l = ring (thing_at x) e
 
-  pub found-seen : count_by (λ y. is_found (event_at (thing_at x) y)) l ≡ found_in (events_of x) (t e)
-  found-seen = sym (ap (count_by (λ y. is_found (event_of x y))) (ring-at x k e used_e) ∙ count_named t (event_at (thing_at x)) (event_of x) is_found l (agree x k e used_e))
+  pub settled-seen : count_by (λ y. is_settled (event_at (thing_at x) y)) l ≡ settled_in (events_of x) (t e)
+  settled-seen = sym (ap (count_by (λ y. is_settled (event_of x y))) (ring-at x k e used_e) ∙ count_named t (event_at (thing_at x)) (event_of x) is_settled l (agree x k e used_e))
 
-  pub found-few : count_by (λ y. is_found (event_at (thing_at x) y)) l ≤ 4096
-  found-few =
-      let a = count_by-le-length (λ (y : ℕ). is_found (event_at (thing_at x) y)) l in
+  pub settled-few : count_by (λ y. is_settled (event_at (thing_at x) y)) l ≤ 4096
+  settled-few =
+      let a = count_by-le-length (λ (y : ℕ). is_settled (event_at (thing_at x) y)) l in
       let b = ring-few (thing_at x) e k.linked (live x k e used_e) in
       omega arith
 

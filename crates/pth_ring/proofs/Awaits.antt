@@ -29,8 +29,8 @@ twice now (Some v) = refl
 twice now None = refl
 
 -- what becomes of an event, whether it is one of these or not
-settled : (now : ℕ) (l : List ℕ) (g : ℕ → Option Event) (y : ℕ) (o : Option Event) → g y ≡ o → again now (g y) ≡ o → each l (again now) g y ≡ o
-settled now l g y o p q = elim (has_or_not y l) [ inl h ↦ each-in l (again now) g y h ∙ q | inr out ↦ each-out l (again now) g y out ∙ p ]
+becomes_again : (now : ℕ) (l : List ℕ) (g : ℕ → Option Event) (y : ℕ) (o : Option Event) → g y ≡ o → again now (g y) ≡ o → each l (again now) g y ≡ o
+becomes_again now l g y o p q = elim (has_or_not y l) [ inl h ↦ each-in l (again now) g y h ∙ q | inr out ↦ each-out l (again now) g y out ∙ p ]
 
 at : (now : ℕ) (l : List ℕ) (f : ℕ → Option Event) (y : ℕ) → awaited_in now l f y ≡ each l (again now) f y
 at now [] f y = sym (each-out [] (again now) f y (λ h. h))
@@ -42,7 +42,7 @@ at now (z ∷ l) f y = at now l (put f z (again now (f z))) y ∙ elim (cases_eq
     here : y ≡ z → each l (again now) (put f z (again now (f z))) y ≡ each (z ∷ l) (again now) f y
     here k =
         let got : put f z (again now (f z)) y ≡ again now (f y) = ap (put f z (again now (f z))) k ∙ put_here f z (again now (f z)) ∙ ap (λ w. again now (f w)) (sym k) in
-        settled now l (put f z (again now (f z))) y (again now (f y)) got (ap (again now) got ∙ twice now (f y)) ∙ sym (each-in (z ∷ l) (again now) f y (inl k))
+        becomes_again now l (put f z (again now (f z))) y (again now (f y)) got (ap (again now) got ∙ twice now (f y)) ∙ sym (each-in (z ∷ l) (again now) f y (inl k))
 
     away : y ≢ z → (Has y l → ⊥) → Has y (z ∷ l) → ⊥
     away n out (inl k) = n k

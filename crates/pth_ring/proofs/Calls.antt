@@ -12,9 +12,6 @@ use Rattle.pth_ring.proofs.Turns.{circle-in, circle-out}
 use Rattle.pth_ring.proofs.Circles.{ring-is, ring-in}
 use Rattle.pth_ring.proofs.Changes.{parted-linked, parted-ring}
 
-pub circle-of : (x : ℕ → Option Node) (e : ℕ) → IsLinked x → IsSome (event_at x e) → IsCircle x (ring x e)
-circle-of x e linked live = let c = linked.circle e live in subst (IsCircle x) (sym (ring-is x e c.0 c.1)) c.1
-
 pub turned-alone : (e : ℕ) → turned e (e ∷ []) ≡ e ∷ []
 unfolding turned
 turned-alone e = let t : (e == e) ≡ true = same_self e in rw t refl
@@ -71,9 +68,6 @@ module _ (x : ℕ → Option Node) (e : ℕ) (linked : IsLinked x) (live : IsSom
   part-ring z n s = rw (ring-more n) (parted-ring x z e (next_at x e) (more n).rest linked (more n).circle s)
 
 -- ---- one that stands alone
-
-pub circle-alone : (x : ℕ → Option Node) (e : ℕ) (g : ℕ → List ℕ) → ring x ≡ circle (e ∷ []) g → ring x e ≡ e ∷ []
-circle-alone x e g h = rw h (circle-in (e ∷ []) g e (inl refl) ∙ turned-alone e)
 
 pub put-circle : (e : ℕ) (g : ℕ → List ℕ) (l : List ℕ) → put (circle (e ∷ []) g) e l ≡ put g e l
 put-circle e g l = put_is g (put (circle (e ∷ []) g) e l) e l (put_here (circle (e ∷ []) g) e l) (λ f n. put_other (circle (e ∷ []) g) e l f n ∙ circle-out (e ∷ []) g f (not_in_one f e n))

@@ -1,11 +1,10 @@
 -- A ring is freed, one event after another.
-use Rattle.std.proofs.Common.{◌≡◌, ◌≢◌, ◌<◌, ℕ, ◌==◌, true, false, List, [], ◌∷◌, ◌++◌, map, length, Option, None, refl, sym, ◌∙◌, ap, ap₂, inl, inr, arith, subst}
+use Rattle.std.proofs.Common.{◌≡◌, ◌≢◌, ◌<◌, ℕ, ◌==◌, true, false, List, [], ◌∷◌, ◌++◌, map, length, None, refl, sym, ◌∙◌, ap, ap₂, inl, inr, arith, subst}
 use Rattle.std.proofs.lemmas.Bool.{cases_eq}
 use mathlib.Core.Path.{fun_ext}
 use Rattle.pth_base.specs.Table.{put}
 use Rattle.pth_base.proofs.Tables.{put_here, put_other, same_self, not_same}
 use Rattle.pth_numbered.specs.Numbered.{thing_at, number_at, slot_of}
-use Rattle.pth_ring.specs.declared.event.Event.{Event}
 use Rattle.pth_ring.specs.Ring.{Has, circle, rest_of, from, before, turned, each}
 use Rattle.pth_ring.specs.Links.{next_at, prev_at, ring, IsCircle}
 use Rattle.pth_ring.specs.Rings.{Events, ring_freed, freed}
@@ -16,7 +15,7 @@ use Rattle.pth_ring.proofs.Turns.{circle-in, circle-out, each-in, each-out}
 use Rattle.pth_ring.proofs.Circles.{ring-is}
 use Rattle.pth_ring.proofs.Calls.{HasNext, more, ring-alone}
 use Rattle.pth_ring.proofs.Named.{AllUsed, map-append, has-place}
-use Rattle.pth_ring.proofs.Shown.{live, used, ring-at}
+use Rattle.pth_ring.proofs.Shown.{events_same, live, used, ring-at}
 
 from-skip : (e : ℕ) (ys : List ℕ) → (Has e ys → ⊥) → from e (ys ++ e ∷ []) ≡ e ∷ []
 from-skip e [] h = let t : (e == e) ≡ true = same_self e in rw t refl
@@ -71,25 +70,16 @@ each-less {A = A} d e n ys f g here other = fun_ext at
 none-out : (y : ℕ) → Has y [] → ⊥
 none-out y h = h
 
-freed_is : (n : ℕ) (x z : Events) → x.rings ≡ z.rings → x.events ≡ z.events → x.made ≡ z.made → x ≡ z
-freed_is n x z r e m =
-    ap (λ (f : ℕ → List ℕ). let all : Events = record { rings = f; events = x.events; made = x.made } in all) r
-    ∙ ap (λ (f : ℕ → Option Event). let all : Events = record { rings = z.rings; events = f; made = x.made } in all) e
-    ∙ ap (λ (n : ℕ). let all : Events = record { rings = z.rings; events = z.events; made = n } in all) m
-
 -- the last of a ring goes
 freed-end : (s : Events) (e : ℕ) → s.rings e ≡ e ∷ [] → freed e s ≡ ring_freed e s
 freed-end s e alone =
-    freed_is e (freed e s) (ring_freed e s)
+    events_same (freed e s) (ring_freed e s)
     (each-one [] e s.rings (put (circle (rest_of (s.rings e)) s.rings) e []) (put_here _ e []) (λ y k. put_other _ e [] y k ∙ ap (λ (l : List ℕ). circle (rest_of l) s.rings y) alone ∙ circle-out [] s.rings y (none-out y)) ∙ ap (λ (l : List ℕ). each l (λ _. []) s.rings) (sym alone))
     (each-one None e s.events (put s.events e None) (put_here s.events e None) (λ y k. put_other s.events e None y k) ∙ ap (λ (l : List ℕ). each l (λ _. None) s.events) (sym alone))
     refl
 
 -- the next one of a ring goes
 module _ (s : Events) (e n : ℕ) (ys : List ℕ) (ring_e : s.rings e ≡ e ∷ n ∷ ys) (ring_n : s.rings n ≡ n ∷ (ys ++ e ∷ [])) (apart : n ≢ e) (out : Has e ys → ⊥) where
-  rings_left : ℕ → List ℕ
-  rings_left = put (circle (ys ++ e ∷ []) s.rings) n []
-
   rings_are : (freed n s).rings ≡ put (circle (ys ++ e ∷ []) s.rings) n []
   rings_are = ap (λ (l : List ℕ). put (circle (rest_of l) s.rings) n []) ring_n
 
@@ -101,7 +91,7 @@ module _ (s : Events) (e n : ℕ) (ys : List ℕ) (ring_e : s.rings e ≡ e ∷ 
 
   freed-next : ring_freed e (freed n s) ≡ ring_freed e s
   freed-next =
-      freed_is e (ring_freed e (freed n s)) (ring_freed e s)
+      events_same (ring_freed e (freed n s)) (ring_freed e s)
       (ap₂ (λ (l : List ℕ) (f : ℕ → List ℕ). each l (λ _. []) f) ring_left rings_are
       ∙ each-less [] e n ys s.rings _ (put_here _ n []) (λ y o. put_other _ n [] y (λ k. o (inr (inl k))) ∙ circle-out (ys ++ e ∷ []) s.rings y (out_of y o))
       ∙ ap (λ (l : List ℕ). each l (λ _. []) s.rings) (sym ring_e))

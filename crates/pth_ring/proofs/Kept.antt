@@ -74,16 +74,6 @@ module _ (x y : RingsOf) (u : ℕ) (k : AreLinked x) (used_u : number_at x u ≢
         event = event ∙ ap (λ (o : Option Event). put (event_at (thing_at x)) u o) (kept_option (λ w. w) v (event_at (thing_at x) u) (live x k u used_u));
       }
 
--- the event that is written is made of the one that was there
-pub made-of : (x y : RingsOf) (u : ℕ) (g : Event → Event) (v : Event) → event_at (thing_at x) u ≡ Some v → Remakes x y u (λ _. g v) → Remakes x y u g
-made-of x y u g v was r = record {
-  kept = r.kept;
-  places = r.places;
-  next = r.next;
-  rings = r.rings;
-  event = r.event ∙ ap (λ (o : Option Event). put (event_at (thing_at x)) u o) (ap (option_map (λ (_ : Event). g v)) was ∙ sym (ap (option_map g) was));
-}
-
 -- by number
 pub remade : (x y : RingsOf) (u : ℕ) (g : Event → Event) → AreLinked x → number_at x u ≢ 0 → Remakes x y u g → Becomes x y (changed g (number_at x u) (events_of x))
 remade x y u g k used_u r =

@@ -1,5 +1,5 @@
 -- What operands name, what is refused, and what is answered.
-use Rattle.std.proofs.Common.{◌≡◌, ◌≢◌, ◌↔◌, ◌+◌, ◌≤◌, ℕ, ◌==◌, ℤ, pos, negsuc, ◌<ℤ◌, Bool, true, false, not, ◌&&◌, ◌||◌, if◌then◌else◌, List, [], map, Option, Some, None, IfNone, IsSome, is_some, option_map, Result, Ok, Err, IsErrOf, refl, sym, ◌∙◌, ap, ap₂, arith}
+use Rattle.std.proofs.Common.{◌≡◌, ◌≢◌, ◌↔◌, ◌+◌, ◌≤◌, ℕ, ◌==◌, ℤ, pos, negsuc, ◌<ℤ◌, Bool, true, false, not, ◌&&◌, ◌||◌, if◌then◌else◌, List, [], map, Option, Some, None, IfSome, IfNone, IsSome, is_some, option_map, Result, Ok, Err, IsErrOf, refl, sym, ◌∙◌, ap, ap₂, arith}
 use Rattle.std.proofs.lemmas.Int.{ints}
 use Rattle.pth_base.specs.Limits.{thread_limit}
 use Rattle.pth_base.specs.Table.{put}
@@ -17,11 +17,11 @@ use Rattle.pth_numbered.specs.declared.error.AddErr.TheVariants as add
 use Rattle.pth_numbered.proofs.Known.{number_same}
 use Rattle.pth_ring.specs.declared.event.Event.{Event}
 use Rattle.pth_ring.specs.declared.node.Node.{Node}
-use Rattle.pth_ring.specs.Ring.{holds}
+use Rattle.pth_ring.specs.Ring.{Begins, holds}
 use Rattle.pth_ring.specs.Links.{node_event, node_id, event_at, id_at, ring}
 use Rattle.pth_ring.specs.Rings.{Events, event_limit, operand_number, event_id, is_live, is_claimed, is_full, ring_refusal, concat_refusal, make_answer, chain_answer, walk_answer, candidates, chosen, changed, no_events, Answers}
 use Rattle.pth_ring.specs.Arena.{RingsOf, named, ring_of, event_of, events_of, AreLinked}
-use Rattle.pth_ring.proofs.Shown.{live-at, no-event, events_are}
+use Rattle.pth_ring.proofs.Shown.{begins, live-at, no-event, events_are}
 
 -- ---- operands
 
@@ -76,11 +76,17 @@ module _ (x : RingsOf) (k : AreLinked x) (u v m n : ℕ) (u_is : number_at x u �
   live_v : is_live (events_of x) n ≡ true
   live_v = live-named x k v n v_is used_v
 
-  pub two-with : true ≡ holds (number_at x u) (ring_of x (number_at x v)) → Some EINVAL ≡ concat_refusal (events_of x) m n
-  two-with h = sym (refusal_by true true true _ _ live_u live_v (held_named true h) refl refl)
-
   pub two-claimed : false ≡ holds (number_at x u) (ring_of x (number_at x v)) → (s t : Bool) → s ≡ is_claimed (events_of x) (number_at x u) → t ≡ is_claimed (events_of x) (number_at x v) → (if s || t then Some EBUSY else None) ≡ concat_refusal (events_of x) m n
   two-claimed h s t a b = sym (refusal_by true true false s t live_u live_v (held_named false h) (claimed_named x k u m u_is used_u s a) (claimed_named x k v n v_is used_v t b))
+
+-- what a look-up found
+pub found-live : (x : RingsOf) (k : AreLinked x) (n : ℕ) (o : Option Slot) → IfSome o (λ s. number_at x s.0 ≢ 0) → IfSome o (λ s. number_at x s.0 ≡ n) → IfSome o (λ _. is_live (events_of x) n ≡ true)
+found-live x k n None used_s is = tt
+found-live x k n (Some s) used_s is = live-named x k s.0 n is used_s
+
+pub found-begins : (x : RingsOf) (k : AreLinked x) (o : Option Slot) → IfSome o (λ s. number_at x s.0 ≢ 0) → IfSome o (λ s. Begins (ring_of x (number_at x s.0)) (number_at x s.0))
+found-begins x k None used_s = tt
+found-begins x k (Some s) used_s = begins x k s.0 used_s
 
 -- ---- how many there are
 

@@ -1,11 +1,11 @@
 -- Linked nodes seen by the numbers of their events.
-use Rattle.std.proofs.Common.{◌≡◌, ◌≢◌, ℕ, true, List, map, Option, Some, None, IsSome, is_some, refl, sym, ◌∙◌, ap, subst}
+use Rattle.std.proofs.Common.{◌≡◌, ◌≢◌, ℕ, true, List, ◌∷◌, map, Option, Some, None, IsSome, is_some, refl, sym, ◌∙◌, ap, subst}
 use Rattle.pth_base.specs.Naming.{by_slot, seen}
 use Rattle.pth_base.proofs.Namings.{seen_at}
 use Rattle.pth_numbered.specs.Numbered.{thing_at, number_at, slot_of}
 use Rattle.pth_ring.specs.declared.event.Event.{Event}
 use Rattle.pth_ring.specs.declared.node.Node.{Node}
-use Rattle.pth_ring.specs.Ring.{Has}
+use Rattle.pth_ring.specs.Ring.{Has, Begins, rest_of}
 use Rattle.pth_ring.specs.Links.{node_event, event_at, ring, IsLinked}
 use Rattle.pth_ring.specs.Rings.{Events, is_live}
 use Rattle.pth_ring.specs.Arena.{RingsOf, named, ring_of, event_of, events_of, AreLinked, SamePlaces, Becomes}
@@ -50,6 +50,13 @@ module _ (x : RingsOf) (k : AreLinked x) where
   unfolding ring_of
   ring-at u in_use = named-at (slot_of x) (number_at x) k.kept.tied (ring (thing_at x)) u in_use
 
+  -- its ring begins with it
+  pub begins : (u : ℕ) → number_at x u ≢ 0 → Begins (ring_of x (number_at x u)) (number_at x u)
+  begins u in_use =
+      let c = k.linked.circle u (live u in_use) in
+      let shown : ring_of x (number_at x u) ≡ number_at x u ∷ map (number_at x) c.0 = ring-at u in_use ∙ ap (map (number_at x)) (ring-is (thing_at x) u c.0 c.1) in
+      shown ∙ ap (λ (l : List ℕ). number_at x u ∷ rest_of l) (sym shown)
+
   pub event-at : (u : ℕ) → number_at x u ≢ 0 → event_of x (number_at x u) ≡ event_at (thing_at x) u
   unfolding event_of
   event-at u in_use = seen_at None (slot_of x) (event_at (thing_at x)) (number_at x u) u (k.kept.tied.slot u in_use)
@@ -66,11 +73,14 @@ module _ (x : RingsOf) (k : AreLinked x) where
 
 -- ---- what a change makes of the events
 
+pub events_same : (x z : Events) → x.rings ≡ z.rings → x.events ≡ z.events → x.made ≡ z.made → x ≡ z
+events_same x z r e m =
+    ap (λ (f : ℕ → List ℕ). let all : Events = record { rings = f; events = x.events; made = x.made } in all) r
+    ∙ ap (λ (f : ℕ → Option Event). let all : Events = record { rings = z.rings; events = f; made = x.made } in all) e
+    ∙ ap (λ (n : ℕ). let all : Events = record { rings = z.rings; events = z.events; made = n } in all) m
+
 pub events_are : (x : RingsOf) (now : Events) → ring_of x ≡ now.rings → event_of x ≡ now.events → x.made ≡ now.made → events_of x ≡ now
-events_are x now r e m =
-    ap (λ (f : ℕ → List ℕ). let all : Events = record { rings = f; events = event_of x; made = x.made } in all) r
-    ∙ ap (λ (f : ℕ → Option Event). let all : Events = record { rings = now.rings; events = f; made = x.made } in all) e
-    ∙ ap (λ (n : ℕ). let all : Events = record { rings = now.rings; events = now.events; made = n } in all) m
+events_are x now r e m = events_same (events_of x) now r e m
 
 module _ (x y : RingsOf) (p : SamePlaces x y) where
   same_rings : (r : ℕ → List ℕ) → ring (thing_at y) ≡ r → ring_of y ≡ named (slot_of x) (number_at x) r

@@ -51,6 +51,10 @@ abbrev pub behind : List ℕ → List ℕ
 behind [] = []
 behind (x ∷ xs) = xs ++ x ∷ []
 
+-- the ring begins with e
+abbrev pub Begins : List ℕ → ℕ → Type 0
+Begins ring e = ring ≡ e ∷ rest_of ring
+
 -- the ring of e goes on from n with m; it is over where m is e
 pub record GoesOn (ring : List ℕ) (e n m : ℕ) : Type 0 where
   pub within : Has m ring

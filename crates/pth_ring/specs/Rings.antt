@@ -78,17 +78,18 @@ with_claim claim v = record v { claim = claim }
 abbrev pub awaited : ℕ → Event → Event
 awaited now v = record v { status = Pending; next_look = now }
 
--- an event without the claim of a thread
+-- a claim, unless it is that of a thread
 abbrev pub kept_claim : ℕ → Option Tid → Option Tid
 kept_claim t None = None
 kept_claim t (Some holder) = if holder.0 == t then None else Some holder
 
+-- an event without the claim of a thread
 abbrev pub released : ℕ → Event → Event
 released t v = record v { claim = kept_claim t v.claim }
 
 -- ---- tests
 
--- an event is there, is claimed, has occurred, is not pending any more
+-- an event has a claim, has occurred, or is not pending any more
 abbrev pub has_claim : Option Event → Bool
 has_claim (Some v) = is_some v.claim
 has_claim None = false
@@ -97,9 +98,9 @@ abbrev pub has_occurred : Option Event → Bool
 has_occurred (Some v) = is_occurred v.status
 has_occurred None = false
 
-abbrev pub is_found : Option Event → Bool
-is_found (Some v) = not (is_pending v.status)
-is_found None = false
+abbrev pub is_settled : Option Event → Bool
+is_settled (Some v) = not (is_pending v.status)
+is_settled None = false
 
 -- there is such an event
 abbrev pub is_live : Events → ℕ → Bool
@@ -114,8 +115,8 @@ abbrev pub is_full : Events → Bool
 is_full x = number_known x.events x.made == event_limit
 
 -- how many events of its ring are not pending
-abbrev pub found_in : Events → ℕ → ℕ
-found_in x e = count_by (λ y. is_found (x.events y)) (x.rings e)
+abbrev pub settled_in : Events → ℕ → ℕ
+settled_in x e = count_by (λ y. is_settled (x.events y)) (x.rings e)
 
 -- the event after it in its ring
 abbrev pub next_in : Events → ℕ → Option ℕ

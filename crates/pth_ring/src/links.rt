@@ -1,10 +1,8 @@
 //! Rings that begin, become one, lose an event and end.
 
 ghost use Rattle.std.specs.Prelude.{◌≡◌, ◌≢◌, ◌+◌, ◌↔◌, ◌<◌, [], ◌∷◌, false, IfOk, OnOk, OnErr, IsErrOf, option_map};
-ghost use Rattle.pth_base.specs.Table.{put};
-ghost use Rattle.pth_numbered.specs.Numbered.{number_at, thing_at, count};
+ghost use Rattle.pth_numbered.specs.Numbered.{number_at, count};
 ghost use Rattle.pth_ring.specs.Ring.{holds, rest_of, first_of};
-ghost use Rattle.pth_ring.specs.Links.{ring};
 ghost use Rattle.pth_ring.specs.Rings.{event_id, joined, isolated, ring_freed};
 ghost use Rattle.pth_ring.specs.Arena.{events_of, AreLinked, Becomes, IsMade, IsChained, IsDropped, IsFreed};
 

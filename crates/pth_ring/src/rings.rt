@@ -1,10 +1,10 @@
 //! Rings of events, by their numbers.
 
-ghost use Rattle.std.specs.Prelude.{◌≡◌, ◌≢◌, ◌<◌, ℕ, IsTrue, false, IfOk, IfSome, IfNone, OnOk, OnErr, Some, None, option_map, option_copied, if◌then◌else◌};
+ghost use Rattle.std.specs.Prelude.{◌≡◌, ◌≢◌, ◌<◌, ℕ, IsTrue, true, false, IfOk, IfSome, IfNone, OnOk, OnErr, Some, None, option_map, option_copied, if◌then◌else◌};
 ghost use Rattle.std.specs.Result.{result_err};
-ghost use Rattle.pth_numbered.specs.Numbered.{number_at, slot_of, thing_at};
-ghost use Rattle.pth_ring.specs.Ring.{Has, GoesOn, holds};
-ghost use Rattle.pth_ring.specs.Rings.{Events, operand_number, event_id, kind_of, is_live, found_in, next_in, ring_refusal, concat_refusal, make_answer, chain_answer, concat_answer, isolate_answer, free_answer, claim_answer, walk_answer, status_answer, kind_answer, Answers, no_events, alone, chained, joined, isolated, freed, ring_freed, claimed, unclaimed, changed, with_status, with_next_look, with_claim};
+ghost use Rattle.pth_numbered.specs.Numbered.{number_at};
+ghost use Rattle.pth_ring.specs.Ring.{Has, Begins, GoesOn, holds};
+ghost use Rattle.pth_ring.specs.Rings.{operand_number, kind_of, is_live, settled_in, next_in, ring_refusal, concat_refusal, make_answer, chain_answer, concat_answer, isolate_answer, free_answer, claim_answer, walk_answer, status_answer, kind_answer, Answers, no_events, alone, chained, joined, isolated, freed, ring_freed, claimed, unclaimed, changed, with_status, with_next_look, with_claim};
 ghost use Rattle.pth_ring.specs.Arena.{events_of};
 
 use crate::event::Event;
@@ -12,7 +12,7 @@ pub use crate::event::{EventSpec, Status};
 use crate::links::{free_all, free_one, insert_alone, insert_before, join_rings, part};
 use crate::marks::{await_ring, release_all, set_claim, set_next_look, set_status};
 use crate::node::{Node, event_of, id_of, next_of};
-use crate::rounds::{count_found, is_claimed, is_with, walk_from};
+use crate::rounds::{count_settled, is_claimed, is_with, walk_from};
 use pth_base::errno::Errno;
 use pth_base::ids::{EventId, Micros, Slot, Tid};
 use pth_base::refusal::Refusal;
@@ -50,11 +50,13 @@ impl Rings {
         }
     }
 
-    // The place of the event that an operand names.
-    fn find(&self, e: i64) -> Option<Slot>
+    /// The place of the event that an operand names. It stays the same as long as there is the event.
+    pub fn find(&self, e: i64) -> Option<Slot>
         ensures none { IfNone result (is_live (events_of self.now) (operand_number e) ≡ false) }
+        ensures some { IfSome result (λ _. is_live (events_of self.now) (operand_number e) ≡ true) }
         ensures named { IfSome result (λ s. number_at self.now s.0 ≡ operand_number e) }
         ensures used { IfSome result (λ s. number_at self.now s.0 ≢ 0) }
+        ensures begins { IfSome result (λ s. Begins ((events_of self.now).rings (number_at self.now s.0)) (number_at self.now s.0)) }
     {
         let made = self.nodes.made();
         if e < 0 || e > made as i64 {
@@ -261,8 +263,8 @@ impl Rings {
         release_all(&mut self.nodes, t);
     }
 
-    /// The place of an event, which stays the same as long as there is the event.
-    pub fn place_of(&self, e: EventId) -> Slot
+    // The place of an event.
+    fn place_of(&self, e: EventId) -> Slot
         requires { IsTrue (is_live (events_of self.now) e.0) }
         ensures number { number_at self.now result.0 ≡ e.0 }
         ensures used { number_at self.now result.0 ≢ 0 }
@@ -312,10 +314,10 @@ impl Rings {
     /// How many events of a ring are not pending.
     pub fn occurred(&self, e: EventId) -> u32
         requires { IsTrue (is_live (events_of self.now) e.0) }
-        ensures { result ≡ found_in (events_of self.now) e.0 }
+        ensures { result ≡ settled_in (events_of self.now) e.0 }
     {
         let place = self.place_of(e);
-        count_found(&self.nodes, place)
+        count_settled(&self.nodes, place)
     }
 
     /// The event after another in its ring.

@@ -4,7 +4,7 @@ ghost use Rattle.std.specs.Prelude.{◌≡◌, ◌≢◌, reverse, find, option_
 ghost use Rattle.pth_numbered.specs.Numbered.{number_at, thing_at};
 ghost use Rattle.pth_ring.specs.Ring.{holds, behind};
 ghost use Rattle.pth_ring.specs.Links.{event_at, ring};
-ghost use Rattle.pth_ring.specs.Rings.{event_id, has_claim, has_occurred, is_found, is_claimed, found_in, candidates, chosen};
+ghost use Rattle.pth_ring.specs.Rings.{event_id, has_claim, has_occurred, is_settled, is_claimed, settled_in, candidates, chosen};
 ghost use Rattle.pth_ring.specs.Arena.{events_of, AreLinked};
 
 use crate::event::Status;
@@ -13,9 +13,9 @@ use pth_base::ids::{EventId, Slot};
 use pth_numbered::numbered::Numbered;
 
 // 1 where the event is not pending.
-fn found_at(nodes: &Numbered<Node>, e: Slot) -> u32
+fn settled_at(nodes: &Numbered<Node>, e: Slot) -> u32
     requires { number_at nodes.now e.0 ≢ 0 }
-    ensures { result ≡ (if is_found (event_at (thing_at nodes.now) e.0) then 1 else 0) }
+    ensures { result ≡ (if is_settled (event_at (thing_at nodes.now) e.0) then 1 else 0) }
 {
     match event_of(nodes, e).status {
         Status::Pending => 0,
@@ -25,15 +25,15 @@ fn found_at(nodes: &Numbered<Node>, e: Slot) -> u32
 }
 
 // How many events of the ring are not pending.
-pub(crate) fn count_found(nodes: &Numbered<Node>, e: Slot) -> u32
+pub(crate) fn count_settled(nodes: &Numbered<Node>, e: Slot) -> u32
     requires kept { AreLinked nodes.now }
     requires used { number_at nodes.now e.0 ≢ 0 }
-    ensures { result ≡ found_in (events_of nodes.now) (number_at nodes.now e.0) }
+    ensures { result ≡ settled_in (events_of nodes.now) (number_at nodes.now e.0) }
 {
     let mut at = e;
     let mut count = 0;
     'round: loop {
-        count += found_at(nodes, at);
+        count += settled_at(nodes, at);
         at = next_of(nodes, at);
         if at.0 == e.0 {
             return count;

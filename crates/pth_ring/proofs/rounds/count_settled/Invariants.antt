@@ -2,13 +2,13 @@ use Rattle.std.proofs.Common.{◌≡◌, ◌+◌, length, count_by}
 use Rattle.pth_numbered.specs.Numbered.{thing_at}
 use Rattle.pth_ring.specs.Ring.{Has}
 use Rattle.pth_ring.specs.Links.{event_at, ring, left}
-use Rattle.pth_ring.specs.Rings.{is_found}
-use Rattle.pth_ring.proofs.rounds.count_found.Given as goal
+use Rattle.pth_ring.specs.Rings.{is_settled}
+use Rattle.pth_ring.proofs.rounds.count_settled.Given as goal
 
 abbrev pub invariant-round : goal.invariant-round
 invariant-round l = record {
   on : Has l.at.0 (ring (thing_at l.nodes) l.e.0);
-  sum : l.count + count_by (λ y. is_found (event_at (thing_at l.nodes) y)) (left (thing_at l.nodes) l.e.0 l.at.0) ≡ count_by (λ y. is_found (event_at (thing_at l.nodes) y)) (ring (thing_at l.nodes) l.e.0);
+  sum : l.count + count_by (λ y. is_settled (event_at (thing_at l.nodes) y)) (left (thing_at l.nodes) l.e.0 l.at.0) ≡ count_by (λ y. is_settled (event_at (thing_at l.nodes) y)) (ring (thing_at l.nodes) l.e.0);
 }
 
 abbrev pub decreases-round : goal.decreases-round
