@@ -27,6 +27,8 @@ mod queue_nodes;
 #[cfg(test)]
 mod queues;
 #[cfg(test)]
+mod rings;
+#[cfg(test)]
 mod texts;
 #[cfg(test)]
 mod threads;
