@@ -11,6 +11,7 @@ use Rattle.pth_base.specs.declared.ids.EventId.{EventId}
 use Rattle.pth_base.specs.declared.ids.Slot.{Slot}
 use Rattle.pth_base.specs.declared.refusal.Refusal.{Refusal}
 use Rattle.pth_base.specs.declared.refusal.Refusal.TheVariants.{Fail, OutOfMemory}
+use Rattle.pth_numbered.specs.Operands.{number}
 use Rattle.pth_numbered.specs.Numbered.{IsKept, number_known, thing_at, number_at, slot_of, count}
 use Rattle.pth_numbered.specs.declared.error.AddErr.{AddErr}
 use Rattle.pth_numbered.specs.declared.error.AddErr.TheVariants as add
@@ -19,7 +20,7 @@ use Rattle.pth_ring.specs.declared.event.Event.{Event}
 use Rattle.pth_ring.specs.declared.node.Node.{Node}
 use Rattle.pth_ring.specs.Ring.{Begins, holds}
 use Rattle.pth_ring.specs.Links.{node_event, node_id, event_at, id_at, ring}
-use Rattle.pth_ring.specs.Rings.{Events, event_limit, operand_number, event_id, is_live, is_claimed, is_full, ring_refusal, concat_refusal, make_answer, chain_answer, walk_answer, candidates, chosen, changed, no_events, Answers}
+use Rattle.pth_ring.specs.Rings.{Events, event_limit, event_id, is_live, is_claimed, is_full, ring_refusal, concat_refusal, make_answer, chain_answer, walk_answer, candidates, chosen, changed, no_events, Answers}
 use Rattle.pth_ring.specs.Arena.{RingsOf, named, ring_of, event_of, events_of, AreLinked}
 use Rattle.pth_ring.proofs.Shown.{begins, live-at, no-event, events_are}
 
@@ -32,11 +33,11 @@ dead_by None h = refl
 pub dead : (x : RingsOf) → AreLinked x → (n : ℕ) → slot_of x n ≡ None → is_live (events_of x) n ≡ false
 dead x k n h = dead_by (event_of x n) (no-event x k n h)
 
-pub below-dead : (x : RingsOf) → AreLinked x → (e : ℤ) → e <ℤ pos 0 → is_live (events_of x) (operand_number e) ≡ false
+pub below-dead : (x : RingsOf) → AreLinked x → (e : ℤ) → e <ℤ pos 0 → is_live (events_of x) (number e) ≡ false
 below-dead x k (pos n) low = absurd (omega (arith, ints))
 below-dead x k (negsuc n) low = dead x k 0 k.kept.tied.zero
 
-pub above-dead : (x : RingsOf) → AreLinked x → (e : ℤ) → pos x.made <ℤ e → is_live (events_of x) (operand_number e) ≡ false
+pub above-dead : (x : RingsOf) → AreLinked x → (e : ℤ) → pos x.made <ℤ e → is_live (events_of x) (number e) ≡ false
 above-dead x k (pos n) high = dead x k n (k.kept.fresh n (omega (arith, ints)))
 above-dead x k (negsuc n) high = absurd (omega (arith, ints))
 

@@ -1,6 +1,6 @@
 -- Events and the rings in which they stand, by their numbers (pth_event, pth_event_concat, pth_event_isolate, pth_event_walk,
 -- pth_event_status, pth_event_typeof, pth_event_free).
-use Rattle.std.specs.Prelude.{ℕ, ◌+◌, ◌==◌, ℤ, pos, negsuc, Bool, true, false, not, ◌&&◌, ◌||◌, if◌then◌else◌, List, [], ◌∷◌, ◌++◌, reverse, find, count_by, Option, Some, None, is_some, option_map, Result, Ok, Err, ◌≡◌}
+use Rattle.std.specs.Prelude.{ℕ, ◌+◌, ◌==◌, Bool, true, false, not, ◌&&◌, ◌||◌, if◌then◌else◌, List, [], ◌∷◌, ◌++◌, reverse, find, count_by, Option, Some, None, is_some, option_map, Result, Ok, Err, ◌≡◌}
 use Rattle.std.specs.List.{list_any}
 use Rattle.std.specs.Option.{ok_or}
 use Rattle.pth_base.specs.Table.{put}
@@ -30,11 +30,6 @@ pub record Events : Type 0 where
 -- how many events there may be at once
 abbrev pub event_limit : ℕ
 event_limit = 4096
-
--- an operand as a number; a negative one is 0, which no event has
-abbrev pub operand_number : ℤ → ℕ
-operand_number (pos n) = n
-operand_number (negsuc n) = 0
 
 abbrev pub event_id : ℕ → EventId
 event_id n = record { 0 = n }

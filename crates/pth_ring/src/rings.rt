@@ -2,9 +2,10 @@
 
 ghost use Rattle.std.specs.Prelude.{◌≡◌, ◌≢◌, ◌<◌, ℕ, IsTrue, true, false, IfOk, IfSome, IfNone, OnOk, OnErr, Some, None, option_map, option_copied, if◌then◌else◌};
 ghost use Rattle.std.specs.Result.{result_err};
+ghost use Rattle.pth_numbered.specs.Operands.{number};
 ghost use Rattle.pth_numbered.specs.Numbered.{number_at};
 ghost use Rattle.pth_ring.specs.Ring.{Has, Begins, GoesOn, holds};
-ghost use Rattle.pth_ring.specs.Rings.{operand_number, kind_of, is_live, settled_in, next_in, ring_refusal, concat_refusal, make_answer, chain_answer, concat_answer, isolate_answer, free_answer, claim_answer, walk_answer, status_answer, kind_answer, Answers, no_events, alone, chained, joined, isolated, freed, ring_freed, claimed, unclaimed, changed, with_status, with_next_look, with_claim};
+ghost use Rattle.pth_ring.specs.Rings.{kind_of, is_live, settled_in, next_in, ring_refusal, concat_refusal, make_answer, chain_answer, concat_answer, isolate_answer, free_answer, claim_answer, walk_answer, status_answer, kind_answer, Answers, no_events, alone, chained, joined, isolated, freed, ring_freed, claimed, unclaimed, changed, with_status, with_next_look, with_claim};
 ghost use Rattle.pth_ring.specs.Arena.{events_of};
 
 use crate::event::Event;
@@ -52,9 +53,9 @@ impl Rings {
 
     /// The place of the event that an operand names. It stays the same as long as there is the event.
     pub fn find(&self, e: i64) -> Option<Slot>
-        ensures none { IfNone result (is_live (events_of self.now) (operand_number e) ≡ false) }
-        ensures some { IfSome result (λ _. is_live (events_of self.now) (operand_number e) ≡ true) }
-        ensures named { IfSome result (λ s. number_at self.now s.0 ≡ operand_number e) }
+        ensures none { IfNone result (is_live (events_of self.now) (number e) ≡ false) }
+        ensures some { IfSome result (λ _. is_live (events_of self.now) (number e) ≡ true) }
+        ensures named { IfSome result (λ s. number_at self.now s.0 ≡ number e) }
         ensures used { IfSome result (λ s. number_at self.now s.0 ≢ 0) }
         ensures begins { IfSome result (λ s. Begins ((events_of self.now).rings (number_at self.now s.0)) (number_at self.now s.0)) }
     {
@@ -67,8 +68,8 @@ impl Rings {
 
     // The place of an event whose ring nobody claims.
     fn find_unclaimed(&self, e: i64) -> Result<Slot, Errno>
-        ensures refused { result_err result ≡ ring_refusal (events_of self.now) (operand_number e) }
-        ensures named { IfOk result (λ s. number_at self.now s.0 ≡ operand_number e) }
+        ensures refused { result_err result ≡ ring_refusal (events_of self.now) (number e) }
+        ensures named { IfOk result (λ s. number_at self.now s.0 ≡ number e) }
         ensures used { IfOk result (λ s. number_at self.now s.0 ≢ 0) }
     {
         let Some(place) = self.find(e) else {
@@ -82,9 +83,9 @@ impl Rings {
 
     // The places of two events whose rings may become one.
     fn find_two(&self, a: i64, b: i64) -> Result<(Slot, Slot), Errno>
-        ensures refused { result_err result ≡ concat_refusal (events_of self.now) (operand_number a) (operand_number b) }
-        ensures a { IfOk result (λ p. number_at self.now p.0.0 ≡ operand_number a) }
-        ensures b { IfOk result (λ p. number_at self.now p.1.0 ≡ operand_number b) }
+        ensures refused { result_err result ≡ concat_refusal (events_of self.now) (number a) (number b) }
+        ensures a { IfOk result (λ p. number_at self.now p.0.0 ≡ number a) }
+        ensures b { IfOk result (λ p. number_at self.now p.1.0 ≡ number b) }
         ensures a_used { IfOk result (λ p. number_at self.now p.0.0 ≢ 0) }
         ensures b_used { IfOk result (λ p. number_at self.now p.1.0 ≢ 0) }
         ensures apart { IfOk result (λ p. holds (number_at self.now p.0.0) ((events_of self.now).rings (number_at self.now p.1.0)) ≡ false) }
@@ -122,8 +123,8 @@ impl Rings {
     /// EBUSY where its ring is claimed, and EAGAIN where there are 4096 events.
     pub fn chain(&mut self, spec: EventSpec, e: i64) -> Result<EventId, Refusal>
         requires { self.old.made < 4294967295 }
-        ensures answer { Answers (chain_answer (events_of self.old) (operand_number e)) result }
-        ensures changes { OnOk result (events_of self.new ≡ chained spec (operand_number e) (events_of self.old)) }
+        ensures answer { Answers (chain_answer (events_of self.old) (number e)) result }
+        ensures changes { OnOk result (events_of self.new ≡ chained spec (number e) (events_of self.old)) }
         ensures refused { OnErr result (self.new ≡ self.old) }
     {
         match self.find_unclaimed(e) {
@@ -139,8 +140,8 @@ impl Rings {
     /// `pth_event_concat`: two rings become one, read from the one event and then from the other. EINVAL where one of them is
     /// no event or both stand in one ring, and EBUSY where a ring is claimed.
     pub fn concat(&mut self, a: i64, b: i64) -> Result<(), Errno>
-        ensures answer { result ≡ concat_answer (events_of self.old) (operand_number a) (operand_number b) }
-        ensures changes { OnOk result (events_of self.new ≡ joined (operand_number a) (operand_number b) (events_of self.old)) }
+        ensures answer { result ≡ concat_answer (events_of self.old) (number a) (number b) }
+        ensures changes { OnOk result (events_of self.new ≡ joined (number a) (number b) (events_of self.old)) }
         ensures refused { OnErr result (self.new ≡ self.old) }
     {
         match self.find_two(a, b) {
@@ -155,8 +156,8 @@ impl Rings {
     /// `pth_event_isolate`: an event stands alone, and the next event of the rest is answered, if there is a rest. EINVAL
     /// where there is no such event, and EBUSY where its ring is claimed.
     pub fn isolate(&mut self, e: i64) -> Result<Option<EventId>, Errno>
-        ensures answer { result ≡ isolate_answer (events_of self.old) (operand_number e) }
-        ensures changes { OnOk result (events_of self.new ≡ isolated (operand_number e) (events_of self.old)) }
+        ensures answer { result ≡ isolate_answer (events_of self.old) (number e) }
+        ensures changes { OnOk result (events_of self.new ≡ isolated (number e) (events_of self.old)) }
         ensures refused { OnErr result (self.new ≡ self.old) }
     {
         match self.find_unclaimed(e) {
@@ -168,8 +169,8 @@ impl Rings {
     /// `pth_event_free`: an event is gone, or with `all` its whole ring. No number of theirs names an event from now on.
     /// EINVAL where there is no such event, and EBUSY where its ring is claimed.
     pub fn free(&mut self, e: i64, all: bool) -> Result<(), Errno>
-        ensures answer { result ≡ free_answer (events_of self.old) (operand_number e) }
-        ensures changes { OnOk result (events_of self.new ≡ (if all then ring_freed (operand_number e) (events_of self.old) else freed (operand_number e) (events_of self.old))) }
+        ensures answer { result ≡ free_answer (events_of self.old) (number e) }
+        ensures changes { OnOk result (events_of self.new ≡ (if all then ring_freed (number e) (events_of self.old) else freed (number e) (events_of self.old))) }
         ensures refused { OnErr result (self.new ≡ self.old) }
     {
         match self.find_unclaimed(e) {
@@ -188,8 +189,8 @@ impl Rings {
     /// A thread waits for a ring: its events are pending, their next looks are now, and the claim stands at the event that was
     /// given. EINVAL where there is no such event, and EBUSY where the ring is claimed.
     pub fn claim(&mut self, e: i64, t: Tid, now: Micros) -> Result<(), Errno>
-        ensures answer { result ≡ claim_answer (events_of self.old) (operand_number e) }
-        ensures changes { OnOk result (events_of self.new ≡ claimed (operand_number e) t now (events_of self.old)) }
+        ensures answer { result ≡ claim_answer (events_of self.old) (number e) }
+        ensures changes { OnOk result (events_of self.new ≡ claimed (number e) t now (events_of self.old)) }
         ensures refused { OnErr result (self.new ≡ self.old) }
     {
         match self.find_unclaimed(e) {
@@ -205,7 +206,7 @@ impl Rings {
     /// `pth_event_walk`: the neighbour of an event, or the first event in that direction that has occurred, itself the last.
     /// EINVAL where there is no such event, and ENOENT where none has occurred.
     pub fn walk(&self, e: i64, forward: bool, until_occurred: bool) -> Result<EventId, Errno>
-        ensures { result ≡ walk_answer (events_of self.now) (operand_number e) forward until_occurred }
+        ensures { result ≡ walk_answer (events_of self.now) (number e) forward until_occurred }
     {
         let Some(place) = self.find(e) else {
             return Err(Errno::EINVAL);
@@ -218,7 +219,7 @@ impl Rings {
 
     // What is kept of the event that an operand names.
     fn event(&self, e: i64) -> Option<&Event>
-        ensures { option_copied result ≡ (events_of self.now).events (operand_number e) }
+        ensures { option_copied result ≡ (events_of self.now).events (number e) }
     {
         match self.find(e) {
             Some(place) => Some(event_of(&self.nodes, place)),
@@ -228,7 +229,7 @@ impl Rings {
 
     /// `pth_event_status`: what was found when the event was last looked at. EINVAL where there is no such event.
     pub fn status(&self, e: i64) -> Result<Status, Errno>
-        ensures { result ≡ status_answer (events_of self.now) (operand_number e) }
+        ensures { result ≡ status_answer (events_of self.now) (number e) }
     {
         match self.event(e) {
             Some(event) => Ok(event.status),
@@ -239,7 +240,7 @@ impl Rings {
     /// `pth_event_typeof`: what the event is of: 1 a descriptor, 2 a selection of them, 3 a moment, 4 a port, 5 a thread, 6 a
     /// check, 7 a condition. EINVAL where there is no such event.
     pub fn kind(&self, e: i64) -> Result<u8, Errno>
-        ensures { result ≡ kind_answer (events_of self.now) (operand_number e) }
+        ensures { result ≡ kind_answer (events_of self.now) (number e) }
     {
         match self.event(e) {
             Some(event) => Ok(kind_of(&event.spec)),
@@ -249,7 +250,7 @@ impl Rings {
 
     /// The claim that stands at an event is gone, if there is one. Nothing changes where there is no such event.
     pub fn unclaim_at(&mut self, e: i64)
-        ensures { events_of self.new ≡ changed (with_claim None) (operand_number e) (events_of self.old) }
+        ensures { events_of self.new ≡ changed (with_claim None) (number e) (events_of self.old) }
     {
         if let Some(place) = self.find(e) {
             set_claim(&mut self.nodes, place, None);

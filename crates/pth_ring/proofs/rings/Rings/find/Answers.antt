@@ -2,12 +2,12 @@ use Rattle.std.proofs.Common.{refl, ◌≡◌, ℤ, pos, negsuc, nat_abs, ◌<�
 use Rattle.std.proofs.lemmas.Int.{ints}
 use mir.Syntax.{w64}
 use mir.Val.{to_z, of_z}
-use Rattle.pth_ring.specs.Rings.{operand_number}
+use Rattle.pth_numbered.specs.Operands.{number}
 use Rattle.pth_ring.proofs.Refusals.{below-dead, above-dead, found-dead, found-live, found-begins}
 use Rattle.pth_ring.proofs.rings.Rings.find.Goals.{then-e-lt0-via-then-e-lt0, then-e-lt0-via-else-e-lt0+then-e-made}
 use Rattle.pth_ring.proofs.rings.Rings.find.Goals as goal
 
-number_is : (a : ℤ) → pos 0 ≤ℤ a → nat_abs a ≡ operand_number a
+number_is : (a : ℤ) → pos 0 ≤ℤ a → nat_abs a ≡ number a
 number_is (pos n) high = refl
 number_is (negsuc n) high = absurd (omega (arith, ints))
 
@@ -21,13 +21,13 @@ pub returns-clause-none : goal.returns-clause-none
 returns-clause-none c =
     let high : pos 0 ≤ℤ c.args.e = grind (arith, ints) in
     let is : to_z w64 (of_z w64 c.args.e) ≡ c.args.e = omega (arith, ints) in
-    rw (← c.self.view_is) (found-dead c.self.inside.nodes c.self.invariant (operand_number c.args.e) c.find.result (rw (is, number_is c.args.e high) at c.find.ensures.slot))
+    rw (← c.self.view_is) (found-dead c.self.inside.nodes c.self.invariant (number c.args.e) c.find.result (rw (is, number_is c.args.e high) at c.find.ensures.slot))
 
 pub returns-clause-some : goal.returns-clause-some
 returns-clause-some c =
     let high : pos 0 ≤ℤ c.args.e = grind (arith, ints) in
     let is : to_z w64 (of_z w64 c.args.e) ≡ c.args.e = omega (arith, ints) in
-    rw (← c.self.view_is) (found-live c.self.inside.nodes c.self.invariant (operand_number c.args.e) c.find.result c.find.ensures.used (rw (is, number_is c.args.e high) at c.find.ensures.named))
+    rw (← c.self.view_is) (found-live c.self.inside.nodes c.self.invariant (number c.args.e) c.find.result c.find.ensures.used (rw (is, number_is c.args.e high) at c.find.ensures.named))
 
 pub returns-clause-begins : goal.returns-clause-begins
 returns-clause-begins c = rw (← c.self.view_is) (found-begins c.self.inside.nodes c.self.invariant c.find.result c.find.ensures.used)
