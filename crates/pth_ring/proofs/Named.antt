@@ -21,7 +21,7 @@ map-append t (x ∷ xs) ys = ap (λ l. t x ∷ l) (map-append t xs ys)
 
 module _ (s : ℕ → Option ℕ) (t : ℕ → ℕ) (tied : IsTied s t) where
   -- numbers tell places in use apart
-  same_place : (u v : ℕ) → t u ≢ 0 → t v ≢ 0 → t u ≡ t v → u ≡ v
+  pub same_place : (u v : ℕ) → t u ≢ 0 → t v ≢ 0 → t u ≡ t v → u ≡ v
   same_place u v hu hv k = one (tied.slot u hu) (ap s k ∙ tied.slot v hv)
     where
       one : s (t u) ≡ Some u → s (t u) ≡ Some v → u ≡ v

@@ -10,7 +10,7 @@ use Rattle.pth_ring.specs.Links.{node_event, event_at, ring, IsLinked}
 use Rattle.pth_ring.specs.Rings.{Events, is_live}
 use Rattle.pth_ring.specs.Arena.{RingsOf, named, ring_of, event_of, events_of, AreLinked, SamePlaces, Becomes}
 use Rattle.pth_ring.proofs.Circles.{ring-is}
-use Rattle.pth_ring.proofs.Named.{AllUsed, named-at}
+use Rattle.pth_ring.proofs.Named.{AllUsed, same_place, named-at}
 
 some_event : (o : Option Node) → IsSome o → IsSome (node_event o)
 some_event (Some n) h = refl
@@ -49,6 +49,10 @@ module _ (x : RingsOf) (k : AreLinked x) where
   pub ring-at : (u : ℕ) → number_at x u ≢ 0 → ring_of x (number_at x u) ≡ map (number_at x) (ring (thing_at x) u)
   unfolding ring_of
   ring-at u in_use = named-at (slot_of x) (number_at x) k.kept.tied (ring (thing_at x)) u in_use
+
+  -- no other place has its number
+  pub one-place : (u v : ℕ) → number_at x u ≢ 0 → number_at x v ≡ number_at x u → v ≡ u
+  one-place u v in_use same = same_place (slot_of x) (number_at x) k.kept.tied v u (rw same in_use) in_use same
 
   -- its ring begins with it
   pub begins : (u : ℕ) → number_at x u ≢ 0 → Begins (ring_of x (number_at x u)) (number_at x u)

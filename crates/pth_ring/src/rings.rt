@@ -343,6 +343,7 @@ impl Rings {
     pub fn next_at(&self, place: Slot) -> Slot
         requires { number_at self.now place.0 ≢ 0 }
         ensures used { number_at self.now result.0 ≢ 0 }
+        ensures apart { (other : ℕ) → number_at self.now other ≡ number_at self.now result.0 → other ≡ result.0 }
         ensures next { next_in (events_of self.now) (number_at self.now place.0) ≡ Some (number_at self.now result.0) }
         ensures round { (e : ℕ) → Has (number_at self.now place.0) ((events_of self.now).rings e) → GoesOn ((events_of self.now).rings e) e (number_at self.now place.0) (number_at self.now result.0) }
     {
