@@ -7,7 +7,7 @@ use Rattle.pth_base.specs.declared.errno.Errno.{Errno}
 use Rattle.pth_base.specs.declared.ids.AttrId.{AttrId}
 use Rattle.pth_base.specs.declared.refusal.Refusal.{Refusal}
 use Rattle.pth_base.specs.declared.refusal.Refusal.TheVariants as refusal
-use Rattle.pth_threads.specs.Attributes.{AttrsOf, object_of, Answers, Makes, Exchanges, Drops}
+use Rattle.pth_threads.specs.Attributes.{AttrsOf, object_of, Answers, MakesObject, Exchanges, Drops}
 use Rattle.pth_threads.specs.declared.attribute.Attribute.{Attribute}
 use Rattle.pth_model.specs.Changes.{adds_object, puts_object}
 use Rattle.pth_model.specs.Row.{refuses, unless_refused, effect_of, ◌trying◌}
@@ -68,7 +68,7 @@ module _ {P S H : Type 0} (w : WorldOf P S H) (y : AttrsOf) (x : Attribute) wher
   abbrev after : WorldOf P S H
   after = record w { attributes = y }
 
-  pub made_shows : Makes w.attributes y x → (s : State P S H) → StandsFor w s → Shows after (adds_object x s.control)
+  pub made_shows : MakesObject w.attributes y x → (s : State P S H) → StandsFor w s → Shows after (adds_object x s.control)
   made_shows makes s st = objects_show w y s.control _ st.control (record {
     made = ap (λ (n : ℕ). n + 1) st.control.attributes.made ∙ sym makes.made;
     objects = rw (st.control.attributes.made, st.control.attributes.objects) (sym makes.objects);
@@ -81,13 +81,13 @@ module _ {P S H : Type 0} (w : WorldOf P S H) (y : AttrsOf) (x : Attribute) wher
   made_result (Err (refusal.Fail e)) (Ok m) same a said = absurd (cc same)
   made_result (Err (refusal.Fail e)) (Err d) same a said = let is : d ≡ e = cc in ap (λ (k : Errno). Says (answer.Fail k)) is ∙ ap Says (sym said)
 
-  pub made_answered : (r : State P S H → Result ℕ Errno) (q : Result AttrId Refusal) (a : Answer) → ((s : State P S H) → StandsFor w s → Answers (r s) q) → OnOk q (Makes w.attributes y x) → OnErr q (y ≡ w.attributes) → SaysNumber q a → IsAnswered w after a (λ s. by_result says (r s) trying changes (adds_object x))
+  pub made_answered : (r : State P S H → Result ℕ Errno) (q : Result AttrId Refusal) (a : Answer) → ((s : State P S H) → StandsFor w s → Answers (r s) q) → OnOk q (MakesObject w.attributes y x) → OnErr q (y ≡ w.attributes) → SaysNumber q a → IsAnswered w after a (λ s. by_result says (r s) trying changes (adds_object x))
   made_answered r q a is makes same said = record {
     verdict = λ s st. made_result q (r s) (is s st) a said;
     effect = λ s st. effect_by w after (λ (n : ℕ). answer.Int (pos n)) r (λ u. adds_object x) (λ n. refl) s (r s) (ok_at s st q (r s) said (is s st) makes) (err_at s st q (r s) (is s st) same);
   }
     where
-      ok_at : (s : State P S H) → StandsFor w s → (q : Result AttrId Refusal) (n : Result ℕ Errno) → SaysNumber q a → Answers n q → OnOk q (Makes w.attributes y x) → OnOk n (Shows after (adds_object x s.control))
+      ok_at : (s : State P S H) → StandsFor w s → (q : Result AttrId Refusal) (n : Result ℕ Errno) → SaysNumber q a → Answers n q → OnOk q (MakesObject w.attributes y x) → OnOk n (Shows after (adds_object x s.control))
       ok_at s st (Ok id) (Ok m) said same h = made_shows h s st
       ok_at s st (Ok id) (Err e) said same h = tt
       ok_at s st (Err refusal.OutOfMemory) n said same h = absurd said
@@ -99,7 +99,7 @@ module _ {P S H : Type 0} (w : WorldOf P S H) (y : AttrsOf) (x : Attribute) wher
       err_at s st (Ok id) (Err d) same h = absurd (cc same)
       err_at s st (Err e) (Err d) same h = subst (λ (z : AttrsOf). Shows (record w { attributes = z }) s.control) (sym h) st.control
 
-  pub made_frame : (q : Result AttrId Refusal) → Whole w → OnOk q (Makes w.attributes y x) → OnErr q (y ≡ w.attributes) → Frame w after 1 w.scheduler.running false
+  pub made_frame : (q : Result AttrId Refusal) → Whole w → OnOk q (MakesObject w.attributes y x) → OnErr q (y ≡ w.attributes) → Frame w after 1 w.scheduler.running false
   made_frame (Ok id) whole makes same = objects_frame w y 1 whole (let e = makes.made in omega arith)
   made_frame (Err e) whole makes same = objects_frame w y 1 whole (let e : y.made ≡ w.attributes.made = ap (λ (z : AttrsOf). z.made) same in omega arith)
 

@@ -17,7 +17,7 @@ use Rattle.pth_model.specs.State.{Control, queue}
 use Rattle.pth_model.specs.Changes.{enters, leaves_queue, makes, forgets}
 use Rattle.pth_model.specs.Changes as changes
 use Rattle.pth_model.specs.Changes.{holders}
-use Rattle.pth_model.specs.Order.{stands, times}
+use Rattle.pth_model.specs.Order.{stands, times_listed}
 use Rattle.pth_model.proofs.Sorted.{same-order}
 
 -- ---- one queue
@@ -63,7 +63,7 @@ some_before g (Some x) h = refl
 some_before g None h = h
 
 pub record SetsOf (made : ℕ) (known : ℕ → Option Entry) (all : Queue → List Standing) : Type 0 where
-  pub once : (t : ℕ) → times t all ≤ 1
+  pub once : (t : ℕ) → times_listed t all ≤ 1
   pub low : (q : Queue) → All (λ x. x.tid ≤ made) (all q)
   -- who is in the system was made
   pub numbered : (t : ℕ) → is_some (known t) ≡ true → t ≤ made
@@ -74,7 +74,7 @@ at_most_one false = omega arith
 
 module _ {P S H : Type 0} where
   abbrev pub times_in : Control P S H → ℕ → ℕ
-  times_in s t = times t s.threads.standing
+  times_in s t = times_listed t s.threads.standing
 
   module _ (s : Control P S H) where
     times-enter : (t : ℕ) (q : Queue) (rank : ℤ) (top : Bool) (u : ℕ) → times_in (enters t q rank top s) u ≡ cond (t == u) 1 0 + times_in s u

@@ -31,7 +31,7 @@ use Rattle.pth_model.specs.Calls.{wakes}
 use Rattle.pth_model.specs.Pass.{is_ready_at, woken, all_woken, pass, to_wake, moment}
 use Rattle.pth_model.specs.Part.{Part, next_part, next_part_by, unless_ended, is_idle, part, part_by, moves, moves_by, readies, readies_all, readies_new, new_rank, is_put_back, is_put_waiting, is_placed, placed_by, closes, turn_ends, takes, takes_by, dispatches, runs, chosen, steps, steps_on, turn_after, ends_run, gives_up}
 use Rattle.pth_model.specs.Run.{parts, run}
-use Rattle.pth_model.specs.Order.{times, IsOnce}
+use Rattle.pth_model.specs.Order.{times_listed, IsOnce}
 use Rattle.pth_model.proofs.Walks.{IsOther, KeptBy, step_keeps}
 use Rattle.pth_model.proofs.Once.{SetsOf, Sets, times_in, sets-enter, sets-leave, sets-thread, sets-change, sets-forget, times-above, times-enter_other, times-leave, times-leave_le, rows-low, stands-cons, at_most_one}
 
@@ -48,14 +48,14 @@ record IsSeated (x : Seats) : Type 0 where
   sets : SetsOf x.made x.known x.standing
   preferred : (t : ℕ) → x.preferred ≡ Some t → t ≤ x.made
   low : (t : ℕ) → x.running ≡ Some t → t ≤ x.made
-  out : (t : ℕ) → x.running ≡ Some t → times t x.standing ≡ 0
+  out : (t : ℕ) → x.running ≡ Some t → times_listed t x.standing ≡ 0
 
 -- t makes a step, and runs unless it has ended
 record IsGoing (t : ℕ) (x : Seats) : Type 0 where
   sets : SetsOf x.made x.known x.standing
   preferred : (u : ℕ) → x.preferred ≡ Some u → u ≤ x.made
   low : t ≤ x.made
-  out : (r : ℕ) → x.running ≡ Some r → times r x.standing ≡ 0
+  out : (r : ℕ) → x.running ≡ Some r → times_listed r x.standing ≡ 0
   alone : (r : ℕ) → x.running ≡ Some r → r ≡ t
 
 -- none runs

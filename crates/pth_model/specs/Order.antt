@@ -40,13 +40,13 @@ abbrev pub stands : ℕ → List Standing → ℕ
 stands t all = count_by (λ x. x.tid == t) all
 
 -- how often thread t stands in the queues
-abbrev pub times : ℕ → (Queue → List Standing) → ℕ
-times t all = stands t (all New) + stands t (all Ready) + stands t (all Waiting) + stands t (all Suspended) + stands t (all Dead)
+abbrev pub times_listed : ℕ → (Queue → List Standing) → ℕ
+times_listed t all = stands t (all New) + stands t (all Ready) + stands t (all Waiting) + stands t (all Suspended) + stands t (all Dead)
 
 module _ {P S H : Type 0} (k : Control P S H) where
   -- no thread stands in two places
   abbrev pub IsOnce : Type 0
-  IsOnce = (t : ℕ) → times t k.threads.standing ≤ 1
+  IsOnce = (t : ℕ) → times_listed t k.threads.standing ≤ 1
 
   -- a queue shows who stands in it, in order
   abbrev pub IsInOrder : Queue → Type 0

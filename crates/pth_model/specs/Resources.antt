@@ -89,8 +89,8 @@ abbrev pub destructor_by : Option ℤ → Option ℕ
 destructor_by None = None
 destructor_by (Some h) = Some (handler_of h)
 
-abbrev pub with_value : Store → ℕ → ℕ → ℤ → Store
-with_value s t k v = record s { values = put s.values k (put (s.values k) t v) }
+abbrev pub with_key_value : Store → ℕ → ℕ → ℤ → Store
+with_key_value s t k v = record s { values = put s.values k (put (s.values k) t v) }
 
 -- only thread t keeps its cleanups and values; or all but t
 abbrev pub store_of_only : ℕ → Store → Store
@@ -148,10 +148,10 @@ may_enter true h = is_unheld h
 may_enter false (Readers ts) = true
 may_enter false (Writer u) = false
 
-abbrev pub entered : ℕ → (write : Bool) → LockHold → LockHold
-entered t true h = Writer t
-entered t false (Readers ts) = Readers (t ∷ ts)
-entered t false (Writer u) = Writer u
+abbrev pub lock_entered : ℕ → (write : Bool) → LockHold → LockHold
+lock_entered t true h = Writer t
+lock_entered t false (Readers ts) = Readers (t ∷ ts)
+lock_entered t false (Writer u) = Writer u
 
 abbrev pub parted : ℕ → LockHold → LockHold
 parted t (Readers ts) = Readers (filter (λ u. not (u == t)) ts)
@@ -259,10 +259,10 @@ answer_told k t (call.CleanupPush h v) a = on_int a k (λ n. with_store k (pushe
 answer_told k t (call.CleanupPop v) a = on_int a k (λ n. with_store k (popped k.store t))
 answer_told k t (call.KeyCreate h) a = on_int a k (λ key. with_store k (with_key k.store (number key) (Some (destructor_by h))))
 answer_told k t (call.KeyDelete key) a = on_int a k (λ n. with_store k (with_key k.store (number key) None))
-answer_told k t (call.KeySet key v) a = on_int a k (λ n. with_store k (with_value k.store t (number key) v))
+answer_told k t (call.KeySet key v) a = on_int a k (λ n. with_store k (with_key_value k.store t (number key) v))
 answer_told k t (call.MutexAcquire m v e) a = on_int a k (λ n. with_hold k (number m) (one_more t (k.holds (number m))))
 answer_told k t (call.MutexRelease m) a = on_int a k (λ n. with_hold k (number m) (one_less (k.holds (number m))))
-answer_told k t (call.RwAcquire l write v e) a = on_int a k (λ n. with_lock k (number l) (entered t write (k.locks (number l))))
+answer_told k t (call.RwAcquire l write v e) a = on_int a k (λ n. with_lock k (number l) (lock_entered t write (k.locks (number l))))
 answer_told k t (call.RwRelease l) a = on_int a k (λ n. with_lock k (number l) (parted t (k.locks (number l))))
 -- whatever the answer is, once it awaits
 answer_told k t (call.CondAwait c m e) a = if k.awaits t then retaken k t (number m) else k
@@ -359,7 +359,7 @@ told k (mark.Answered t c a) = answer_told k t.0 c a
 told k (mark.Acted t x a) = act_told k t.0 x a
 told k (mark.Waits t c) = wait_told k t.0 c
 told k (mark.Took t m) = retaken k t.0 m
-told k (mark.Destructor t key v) = with_store k (with_value k.store t.0 key (pos 0))
+told k (mark.Destructor t key v) = with_store k (with_key_value k.store t.0 key (pos 0))
 told k (mark.GaveMutex t m) = with_hold k m Free
 told k (mark.GaveLock t l) = with_lock k l (parted t.0 (k.locks l))
 told k (mark.Ended t v) = end_told k t.0

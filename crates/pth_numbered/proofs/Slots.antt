@@ -17,7 +17,7 @@ use Rattle.pth_base.specs.declared.ids.Slot.{Slot}
 use Rattle.pth_base.proofs.Namings.{none_some as not_slotted, seen_at, seen_put, seen_add, seen_drop, IsTied-put, IsTied-remove}
 use Rattle.pth_base.proofs.Tables.{put_is, put_by}
 use Rattle.pth_base.proofs.Lists.{ap_put, put_none, table_set}
-use Rattle.pth_numbered.specs.Numbered.{number_known, NumberedOf, record_at, thing_of, number_of, exchanged, thing_at, number_at, slot_of, count, with_thing, IsKept, Adds, Changes, Removes}
+use Rattle.pth_numbered.specs.Numbered.{number_known, NumberedOf, record_at, thing_of, number_in_record, exchanged, thing_at, number_at, slot_of, count, with_thing, IsKept, Adds, Changes, Removes}
 use Rattle.pth_numbered.specs.declared.numbered.Record.{Record}
 use Rattle.pth_numbered.proofs.Known.{number-new, number-gone, number-other}
 
@@ -49,7 +49,7 @@ below_put room f u n all here i =
 module _ {A : Type 0} where
   -- ---- what a slot in use has
 
-  some_of : (o : Option (Record A)) → number_of o ≢ 0 → IsSome o
+  some_of : (o : Option (Record A)) → number_in_record o ≢ 0 → IsSome o
   some_of (Some r) used = refl
   some_of None used = absurd (used refl)
 
@@ -65,7 +65,7 @@ module _ {A : Type 0} where
 
   pub number_is : (x : NumberedOf A) (u : ℕ) (r : Record A) → get_or x.slots u None ≡ Some r → number_at x u ≡ r.number
   unfolding number_at
-  number_is x u r e = ap number_of e
+  number_is x u r e = ap number_in_record e
 
   -- a slot whose record has a number is that thing's
   pub confirmed : (x : NumberedOf A) (n u : ℕ) (r : Record A) → IsKept x → get_or x.slots u None ≡ Some r → r.number ≡ n → slot_of x n ≡ Some u
@@ -88,7 +88,7 @@ module _ {A : Type 0} where
   things_of f i = thing_of (f i)
 
   abbrev numbers_of : (ℕ → Option (Record A)) → ℕ → ℕ
-  numbers_of f i = number_of (f i)
+  numbers_of f i = number_in_record (f i)
 
   records_put : (x y : NumberedOf A) (s t : Slab (Record A)) (u : ℕ) (o : Option (Record A)) → Updates s t u o → x.slots ≡ s.slots → y.slots ≡ t.slots → record_at y ≡ put (record_at x) u o
   records_put x y s t u o up e f = rw (e, f) (put_is _ _ u o up.changed up.others)
@@ -97,9 +97,9 @@ module _ {A : Type 0} where
   unfolding thing_at
   things_put x y u o e = ap things_of e ∙ ap_put thing_of (record_at x) u o
 
-  numbers_put : (x y : NumberedOf A) (u : ℕ) (o : Option (Record A)) → record_at y ≡ put (record_at x) u o → number_at y ≡ put (number_at x) u (number_of o)
+  numbers_put : (x y : NumberedOf A) (u : ℕ) (o : Option (Record A)) → record_at y ≡ put (record_at x) u o → number_at y ≡ put (number_at x) u (number_in_record o)
   unfolding number_at
-  numbers_put x y u o e = ap numbers_of e ∙ ap_put number_of (record_at x) u o
+  numbers_put x y u o e = ap numbers_of e ∙ ap_put number_in_record (record_at x) u o
 
   slots_kept : (x y : NumberedOf A) → y.index ≡ x.index → slot_of y ≡ slot_of x
   unfolding slot_of
@@ -129,11 +129,11 @@ module _ {A : Type 0} where
 
   -- a number comes with a thing, and a thing with a number
   abbrev AreBoth : (ℕ → Option (Record A)) → Type 0
-  AreBoth f = (u : ℕ) → (number_of (f u) ≡ 0 → thing_of (f u) ≡ None) × (number_of (f u) ≢ 0 → IsSome (thing_of (f u)))
+  AreBoth f = (u : ℕ) → (number_in_record (f u) ≡ 0 → thing_of (f u) ≡ None) × (number_in_record (f u) ≢ 0 → IsSome (thing_of (f u)))
 
-  both_put : (f : ℕ → Option (Record A)) (u : ℕ) (o : Option (Record A)) → AreBoth f → (number_of o ≡ 0 → thing_of o ≡ None) × (number_of o ≢ 0 → IsSome (thing_of o)) → AreBoth (put f u o)
+  both_put : (f : ℕ → Option (Record A)) (u : ℕ) (o : Option (Record A)) → AreBoth f → (number_in_record o ≡ 0 → thing_of o ≡ None) × (number_in_record o ≢ 0 → IsSome (thing_of o)) → AreBoth (put f u o)
   both_put f u o all here i =
-      let P : Option (Record A) → Type 0 = λ v. (number_of v ≡ 0 → thing_of v ≡ None) × (number_of v ≢ 0 → IsSome (thing_of v)) in
+      let P : Option (Record A) → Type 0 = λ v. (number_in_record v ≡ 0 → thing_of v ≡ None) × (number_in_record v ≢ 0 → IsSome (thing_of v)) in
       put_by P f u o i (λ same. here) (λ apart. all i)
 
   are_both : (x : NumberedOf A) → IsKept x → AreBoth (record_at x)
@@ -146,12 +146,12 @@ module _ {A : Type 0} where
       let over : x.made < n = omega arith in
       rw e (put_by P (slot_of x) k w n (λ same. gone (rw (← same) above)) (λ apart. kept.fresh n over))
 
-  module _ (x y : NumberedOf A) (u : ℕ) (o : Option (Record A)) (kept : IsKept x) (e : record_at y ≡ put (record_at x) u o) (limit : y.limit ≡ x.limit) (some : (number_of o ≡ 0 → thing_of o ≡ None) × (number_of o ≢ 0 → IsSome (thing_of o))) (room : number_of o ≢ 0 → u < x.limit) where
+  module _ (x y : NumberedOf A) (u : ℕ) (o : Option (Record A)) (kept : IsKept x) (e : record_at y ≡ put (record_at x) u o) (limit : y.limit ≡ x.limit) (some : (number_in_record o ≡ 0 → thing_of o ≡ None) × (number_in_record o ≢ 0 → IsSome (thing_of o))) (room : number_in_record o ≢ 0 → u < x.limit) where
     y_both : AreBoth (record_at y)
     y_both = subst AreBoth (sym e) (both_put (record_at x) u o (are_both x kept) some)
 
     y_low : AreBelow x.limit (number_at y)
-    y_low = subst (AreBelow x.limit) (sym (numbers_put x y u o e)) (below_put x.limit (number_at x) u (number_of o) kept.low room)
+    y_low = subst (AreBelow x.limit) (sym (numbers_put x y u o e)) (below_put x.limit (number_at x) u (number_in_record o) kept.low room)
 
     -- what is kept, after one record was written
     kept_by : IsTied (slot_of y) (number_at y) → ((n : ℕ) → y.made < n → slot_of y n ≡ None) → count y ≤ x.limit → number_known (by_number y) y.made ≡ count y → IsKept y
@@ -241,7 +241,7 @@ module _ {A : Type 0} where
 
     unused : number_at x u ≡ 0
     unfolding number_at
-    unused = ap number_of (rw (← s_is) at free)
+    unused = ap number_in_record (rw (← s_is) at free)
 
     unknown : slot_of x (x.made + 1) ≡ None
     unknown = kept.fresh (x.made + 1) (omega arith)

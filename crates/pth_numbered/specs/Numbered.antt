@@ -31,9 +31,9 @@ module _ {A : Type 0} where
   thing_of None = None
 
   -- the number of a record, 0 where there is none
-  abbrev pub number_of : Option (Record A) → ℕ
-  number_of (Some r) = r.number
-  number_of None = 0
+  abbrev pub number_in_record : Option (Record A) → ℕ
+  number_in_record (Some r) = r.number
+  number_in_record None = 0
 
   -- a record with another thing
   abbrev pub exchanged : A → Option (Record A) → Option (Record A)
@@ -46,7 +46,7 @@ module _ {A : Type 0} where
 
   -- the number of the thing at a slot, 0 where the slot is not in use
   unfoldable pub number_at : NumberedOf A → ℕ → ℕ
-  number_at x u = number_of (record_at x u)
+  number_at x u = number_in_record (record_at x u)
 
   -- the slot of the thing with a number
   unfoldable pub slot_of : NumberedOf A → ℕ → Option ℕ

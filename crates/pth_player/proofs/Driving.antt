@@ -21,7 +21,7 @@ use Rattle.pth_base.specs.declared.ids.Tid.{Tid}
 use Rattle.pth_sched.specs.MachineOf.{MachineOf}
 use Rattle.pth_sched.specs.Running.{Stands, StandsAt, GoesOn}
 use Rattle.pth_sched.proofs.Stopping.{run_stops}
-use Rattle.pth_threads.specs.Threads.{number}
+use Rattle.pth_threads.specs.Threads.{number_of}
 use Rattle.pth_words.specs.CommandWords.{Asked}
 use Rattle.pth_player.specs.Drive.{Drives}
 use Rattle.pth_player.specs.Output.{Output, IsRunOutput, told_output}
@@ -286,10 +286,10 @@ piece_of a b f g text r {bytes} is all part counts = subst (λ (l : List ℕ). W
 
 -- what was made at the end is what is to be written there
 pub ending_is : {P S H : Type 0} (asked : Asked) (m : MachineOf P S H) (c : Course P S H) (o : Outcome) (seen threads : List Tid) (clear counts text bytes : List ℕ) → Stands m c → o ≡ m.turn.outcome
-    → seen ≡ threads → ((t : Course P S H) → Stands m t → map number threads ≡ live t.state) → clear ≡ [] → ((t : Course P S H) → Stands m t → counts ≡ clear ++ counts_of asked t)
-    → text ≡ counts ++ end_line o asked.steps (map number seen) → bytes ≡ text → bytes ≡ ending_of asked c
+    → seen ≡ threads → ((t : Course P S H) → Stands m t → map number_of threads ≡ live t.state) → clear ≡ [] → ((t : Course P S H) → Stands m t → counts ≡ clear ++ counts_of asked t)
+    → text ≡ counts ++ end_line o asked.steps (map number_of seen) → bytes ≡ text → bytes ≡ ending_of asked c
 ending_is asked m c o seen threads clear counts text bytes stands is same all none adds ends whole =
     let first : counts ≡ counts_of asked c = adds c stands ∙ ap (λ (l : List ℕ). l ++ counts_of asked c) none in
-    let last : end_line o asked.steps (map number seen) ≡ last_line asked.steps c =
-    ap₂ (λ (p : Outcome) (l : List ℕ). end_line p asked.steps l) (is ∙ ap (λ (x : Turn). x.outcome) (sym stands.turn)) (ap (map number) same ∙ all c stands) in
+    let last : end_line o asked.steps (map number_of seen) ≡ last_line asked.steps c =
+    ap₂ (λ (p : Outcome) (l : List ℕ). end_line p asked.steps l) (is ∙ ap (λ (x : Turn). x.outcome) (sym stands.turn)) (ap (map number_of) same ∙ all c stands) in
     whole ∙ ends ∙ ap₂ (λ (x y : List ℕ). x ++ y) first last

@@ -10,12 +10,12 @@ use Rattle.pth_queue.specs.Ranking.{head_of, holds}
 use Rattle.pth_queue.specs.Queues.{QueuesOf, queue_of}
 use Rattle.pth_queue.proofs.Sets.{holds-queue_of}
 use Rattle.pth_threads.specs.Attributes.{AttrsOf}
-use Rattle.pth_threads.specs.Threads.{ThreadsOf, slot_of}
+use Rattle.pth_threads.specs.Threads.{ThreadsOf, slot_of, number_of}
 use Rattle.pth_model.specs.declared.next.Next.{Next}
 use Rattle.pth_model.specs.declared.next.Next.TheVariants as next
 use Rattle.pth_model.specs.Part.{chosen, turn_after}
 use Rattle.pth_model.specs.State.{Scheduler, Turn}
-use Rattle.pth_world.specs.World.{WorldOf, ThreadsBySlot, number_of}
+use Rattle.pth_world.specs.World.{WorldOf, ThreadsBySlot}
 use Rattle.pth_world.specs.Frame.{Frame, Names, runs_after, yields_after}
 use Rattle.pth_world.specs.Numbering.{HasGiven}
 use Rattle.pth_world.specs.Ranks.{IsUnder}

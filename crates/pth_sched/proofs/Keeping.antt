@@ -15,7 +15,7 @@ use Rattle.pth_world.specs.Sound.{IsKnown}
 use Rattle.pth_world.specs.Touches.{KeepsRest}
 use Rattle.pth_world.specs.Whole.{Whole, IsIn, WaitsToRun}
 use Rattle.pth_world.specs.World.{WorldOf, ThreadsBySlot}
-use Rattle.pth_sched.specs.MachineOf.{MachineOf, IsGoing, stops, stops_by}
+use Rattle.pth_sched.specs.MachineOf.{MachineOf, IsGoing, machine_stops, machine_stops_by}
 use Rattle.pth_sched.specs.Running.{StandsAt}
 
 -- a slot that leaves the new queue makes it shorter
@@ -76,10 +76,10 @@ on_ok_three (Ok v) x y z f = f x y z
 on_ok_three (Err e) x y z f = tt
 
 -- an outcome that ended the run stops it
-pub stops_ended : {P S H : Type 0} (to : ℕ) (m : MachineOf P S H) → m.turn.outcome ≢ Running → stops to m ≡ true
+pub stops_ended : {P S H : Type 0} (to : ℕ) (m : MachineOf P S H) → m.turn.outcome ≢ Running → machine_stops to m ≡ true
 stops_ended to m ended = by_cases m.turn.gave m.world.scheduler.running m.turn.outcome ended
   where
-    by_cases : (g r : Option ℕ) (o : Outcome) → o ≢ Running → stops_by to m.turn.steps g r o ≡ true
+    by_cases : (g r : Option ℕ) (o : Outcome) → o ≢ Running → machine_stops_by to m.turn.steps g r o ≡ true
     by_cases g r Running not = absurd (not refl)
     by_cases (Some t) r (Ended v) not = refl
     by_cases (Some t) r Killed not = refl

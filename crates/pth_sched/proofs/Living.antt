@@ -8,7 +8,7 @@ use Rattle.std.proofs.lemmas.List.Kept.{AllPairs-from_increasing}
 use Rattle.pth_base.specs.Naming.{by_slot, seen}
 use Rattle.pth_base.specs.declared.ids.Tid.{Tid}
 use Rattle.pth_threads.specs.declared.entry.Entry.{Entry}
-use Rattle.pth_threads.specs.Threads.{ThreadsOf, number, tid_from, slot_of, entry_at}
+use Rattle.pth_threads.specs.Threads.{ThreadsOf, number_of, tid_from, slot_of, entry_at}
 use Rattle.pth_model.specs.State.{State}
 use Rattle.pth_model.specs.Living.{if_live, live_of, live}
 use Rattle.pth_world.specs.World.{WorldOf}
@@ -115,28 +115,28 @@ not_none {A} o some none = let e : is_some {T = A} None ≡ true = subst IsSome 
 -- the list rises and has exactly the threads of the world
 pub record AreThreads {P S H : Type 0} (w : WorldOf P S H) (ts : List Tid) : Type 0 where
   pub listed : (t : Tid) → Contains ts t ↔ IsSome (slot_of w.threads.records t.0)
-  pub rising : IsStrictlyIncreasing (map number ts)
+  pub rising : IsStrictlyIncreasing (map number_of ts)
 
 -- the list as a call gave it
-pub threads-listed : {P S H : Type 0} (w : WorldOf P S H) (x : ThreadsOf) (ts given : List Tid) → x ≡ w.threads.records → ts ≡ given → ((t : Tid) → Contains given t ↔ IsSome (slot_of x t.0)) → IsStrictlyIncreasing (map number given) → AreThreads w ts
+pub threads-listed : {P S H : Type 0} (w : WorldOf P S H) (x : ThreadsOf) (ts given : List Tid) → x ≡ w.threads.records → ts ≡ given → ((t : Tid) → Contains given t ↔ IsSome (slot_of x t.0)) → IsStrictlyIncreasing (map number_of given) → AreThreads w ts
 threads-listed w x ts given same is listed rising = rw is (record { listed = λ t. subst (λ (y : ThreadsOf). Contains given t ↔ IsSome (slot_of y t.0)) same (listed t); rising = rising })
 
 module _ {P S H : Type 0} (w : WorldOf P S H) (ts : List Tid) (are : AreThreads w ts) where
   -- what holds of each thread with a slot holds of each number of the list
-  each : (Q : ℕ → Type 0) → ((t : ℕ) → IsSome (slot_of w.threads.records t) → Q t) → (i : ℕ) → i < length (map number ts) → Q (get_or (map number ts) i 0)
+  each : (Q : ℕ → Type 0) → ((t : ℕ) → IsSome (slot_of w.threads.records t) → Q t) → (i : ℕ) → i < length (map number_of ts) → Q (get_or (map number_of ts) i 0)
   each Q all i lt =
-      let within : i < length ts = omega (arith, lt, length-map ts number) in
+      let within : i < length ts = omega (arith, lt, length-map ts number_of) in
       let t = get_or ts i (tid_from 0) in
-      subst Q (sym (get_or-map number ts i (tid_from 0) 0 within)) (all t.0 ((are.listed t).0 (Contains-get_or ts i (tid_from 0) within)))
+      subst Q (sym (get_or-map number_of ts i (tid_from 0) 0 within)) (all t.0 ((are.listed t).0 (Contains-get_or ts i (tid_from 0) within)))
 
-  contains_number : (t : ℕ) → IsSome (slot_of w.threads.records t) → Contains (map number ts) t
+  contains_number : (t : ℕ) → IsSome (slot_of w.threads.records t) → Contains (map number_of ts) t
   contains_number t some =
       let p = (are.listed (tid_from t)).1 some in
-      let within : p.0 < length (map number ts) = omega (arith, p.1, length-map ts number) in
-      (p.0, within, get_or-map number ts p.0 (tid_from t) t p.1 ∙ ap number p.2)
+      let within : p.0 < length (map number_of ts) = omega (arith, p.1, length-map ts number_of) in
+      (p.0, within, get_or-map number_of ts p.0 (tid_from t) t p.1 ∙ ap number_of p.2)
 
   module _ (s : State P S H) (sound : IsSound w.threads) (stands : StandsFor w s) where
-    listed_for : IsListed s.control.threads.known s.control.threads.made (map number ts)
+    listed_for : IsListed s.control.threads.known s.control.threads.made (map number_of ts)
     listed_for = record {
       rising = are.rising;
       whole = λ t some. contains_number t (seen_only (slot_of w.threads.records) (entry_at w.threads.records) t (subst (λ (known : ℕ → Option Entry). IsSome (known t)) stands.control.threads.known some));
@@ -155,19 +155,19 @@ module _ {P S H : Type 0} (w : WorldOf P S H) (ts : List Tid) (are : AreThreads 
         ])
 
     -- the thread at place i is appended where it is not dead
-    pub living-more : (i : ℕ) (xs more ys : List Tid) → i < length ts → map number xs ≡ live_of s.control.threads.known (before (map number ts) i)
-        → if_live (get_or ts i (tid_from 0)).0 (s.control.threads.known (get_or ts i (tid_from 0)).0) ≡ map number more → ys ≡ xs ++ more
-        → map number ys ≡ live_of s.control.threads.known (before (map number ts) (i + 1))
+    pub living-more : (i : ℕ) (xs more ys : List Tid) → i < length ts → map number_of xs ≡ live_of s.control.threads.known (before (map number_of ts) i)
+        → if_live (get_or ts i (tid_from 0)).0 (s.control.threads.known (get_or ts i (tid_from 0)).0) ≡ map number_of more → ys ≡ xs ++ more
+        → map number_of ys ≡ live_of s.control.threads.known (before (map number_of ts) (i + 1))
     living-more i xs more ys lt so_far one is =
         let known = s.control.threads.known in
-        let within : i < length (map number ts) = omega (arith, lt, length-map ts number) in
-        let at : get_or (map number ts) i 0 ≡ (get_or ts i (tid_from 0)).0 = get_or-map number ts i (tid_from 0) 0 lt in
-        let step = live-more known s.control.threads.made (map number ts) listed_for i within in
-        let here : if_live (get_or (map number ts) i 0) (known (get_or (map number ts) i 0)) ≡ map number more = rw at one in
-        rw (is, map-append number xs more, step, here) (ap (λ (zs : List ℕ). zs ++ map number more) so_far)
+        let within : i < length (map number_of ts) = omega (arith, lt, length-map ts number_of) in
+        let at : get_or (map number_of ts) i 0 ≡ (get_or ts i (tid_from 0)).0 = get_or-map number_of ts i (tid_from 0) 0 lt in
+        let step = live-more known s.control.threads.made (map number_of ts) listed_for i within in
+        let here : if_live (get_or (map number_of ts) i 0) (known (get_or (map number_of ts) i 0)) ≡ map number_of more = rw at one in
+        rw (is, map-append number_of xs more, step, here) (ap (λ (zs : List ℕ). zs ++ map number_of more) so_far)
 
     -- after the last place
-    pub living-all : (i : ℕ) (xs : List Tid) → i ≤ length ts → length ts ≤ i → map number xs ≡ live_of s.control.threads.known (before (map number ts) i) → map number xs ≡ live s
+    pub living-all : (i : ℕ) (xs : List Tid) → i ≤ length ts → length ts ≤ i → map number_of xs ≡ live_of s.control.threads.known (before (map number_of ts) i) → map number_of xs ≡ live s
     living-all i xs le ge so_far =
-        let end : i ≡ length (map number ts) = omega (arith, le, ge, length-map ts number) in
-        so_far ∙ ap (λ (k : ℕ). live_of s.control.threads.known (before (map number ts) k)) end ∙ sym (live-all s.control.threads.known s.control.threads.made (map number ts) listed_for)
+        let end : i ≡ length (map number_of ts) = omega (arith, le, ge, length-map ts number_of) in
+        so_far ∙ ap (λ (k : ℕ). live_of s.control.threads.known (before (map number_of ts) k)) end ∙ sym (live-all s.control.threads.known s.control.threads.made (map number_of ts) listed_for)

@@ -10,12 +10,12 @@ use Rattle.pth_model.specs.Part.{is_placed, is_put_back, is_put_waiting, placed_
 use Rattle.pth_model.specs.Run.{stops as run_stops, stops_by as run_stops_by}
 use Rattle.pth_world.specs.World.{WorldOf}
 use Rattle.pth_world.specs.Shows.{Shows}
-use Rattle.pth_sched.specs.MachineOf.{MachineOf, stops, stops_by}
+use Rattle.pth_sched.specs.MachineOf.{MachineOf, machine_stops, machine_stops_by}
 use Rattle.pth_sched.specs.Running.{Stands}
 
 -- ---- where a run stops
 
-by_part : (to steps : ℕ) (g r : Option ℕ) (o : Outcome) (idle : Bool) → stops_by to steps g r o ≡ run_stops_by to steps (unless_ended o (next_part_by g r idle))
+by_part : (to steps : ℕ) (g r : Option ℕ) (o : Outcome) (idle : Bool) → machine_stops_by to steps g r o ≡ run_stops_by to steps (unless_ended o (next_part_by g r idle))
 by_part to steps (Some t) r Running idle = refl
 by_part to steps (Some t) r (Ended v) idle = refl
 by_part to steps (Some t) r Killed idle = refl
@@ -39,7 +39,7 @@ module _ {P S H : Type 0} where
   running_of w k st = ap (λ (x : Scheduler). x.running) st.scheduler
 
   -- a machine stops where the run does
-  pub stops_is : (to : ℕ) (m : MachineOf P S H) (c : Course P S H) → Stands m c → stops to m ≡ run_stops to c
+  pub stops_is : (to : ℕ) (m : MachineOf P S H) (c : Course P S H) → Stands m c → machine_stops to m ≡ run_stops to c
   unfolding run_stops next_part
   stops_is to m c st = rw (← st.turn, ← running_of m.world c.state.control st.world.control) (by_part to c.turn.steps c.turn.gave c.state.control.scheduler.running c.turn.outcome (is_idle c.state.control))
 

@@ -15,7 +15,7 @@ use Rattle.pth_model.specs.Run.{run, stops, stops_at, stops_by, closed, is_close
 use Rattle.pth_model.specs.Transition.{controlled}
 use Rattle.pth_model.proofs.Runs.{parts-more, goes-first}
 use Rattle.pth_queue.specs.declared.queue.Queue.TheVariants as queues
-use Rattle.pth_sched.specs.MachineOf.{MachineOf, stops as machine_stops, stops_by as machine_stops_by}
+use Rattle.pth_sched.specs.MachineOf.{MachineOf, machine_stops, machine_stops_by}
 use Rattle.pth_sched.specs.Running.{Stands, StandsAt, Makes, GoesOn, TurnGoesOn, TurnBreaksOff, IsAtStep}
 use Rattle.pth_sched.proofs.Cutting.{is_running, follows_then}
 use Rattle.pth_sched.proofs.Following.{Reaches, reach-none, reach-more, reach-stop, reach-cut}

@@ -41,23 +41,23 @@ pub record IsRoofed {P S H : Type 0} (m : MachineOf P S H) : Type 0 where
   pub few : roof + length m.world.threads.queues.new + open_by m.turn.gave m.world.scheduler.running ≤ greatest_return + m.turn.steps + m.turn.turns
 
 -- how far a run to a number of steps is from its end
-abbrev pub left_by : Option ℕ → Option ℕ → ℕ
-left_by (Some t) r = 2
-left_by None None = 1
-left_by None (Some r) = 0
+abbrev pub part_left : Option ℕ → Option ℕ → ℕ
+part_left (Some t) r = 2
+part_left None None = 1
+part_left None (Some r) = 0
 
 abbrev pub left_while : ℕ → ℕ → ℕ → Outcome → ℕ
 left_while to steps part outcome.Running = 3 * (to - steps) + part + 1
 left_while to steps part o = 0
 
 abbrev pub left : {P S H : Type 0} → ℕ → MachineOf P S H → ℕ
-left to m = left_while to m.turn.steps (left_by m.turn.gave m.world.scheduler.running) m.turn.outcome
+left to m = left_while to m.turn.steps (part_left m.turn.gave m.world.scheduler.running) m.turn.outcome
 
 -- whether a run to this number of steps goes no further: a next step would begin, or an outcome ended it
-abbrev pub stops_by : ℕ → ℕ → Option ℕ → Option ℕ → Outcome → Bool
-stops_by to steps None (Some r) outcome.Running = nat_le to steps
-stops_by to steps g r outcome.Running = false
-stops_by to steps g r o = true
+abbrev pub machine_stops_by : ℕ → ℕ → Option ℕ → Option ℕ → Outcome → Bool
+machine_stops_by to steps None (Some r) outcome.Running = nat_le to steps
+machine_stops_by to steps g r outcome.Running = false
+machine_stops_by to steps g r o = true
 
-abbrev pub stops : {P S H : Type 0} → ℕ → MachineOf P S H → Bool
-stops to m = stops_by to m.turn.steps m.turn.gave m.world.scheduler.running m.turn.outcome
+abbrev pub machine_stops : {P S H : Type 0} → ℕ → MachineOf P S H → Bool
+machine_stops to m = machine_stops_by to m.turn.steps m.turn.gave m.world.scheduler.running m.turn.outcome

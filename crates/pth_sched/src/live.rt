@@ -1,7 +1,7 @@
 //! The threads that are not dead.
 
 ghost use Rattle.std.specs.Prelude.{◌≡◌, ◌∷◌, [], map, IfOk, if◌then◌else◌};
-ghost use Rattle.pth_threads.specs.Threads.{number};
+ghost use Rattle.pth_threads.specs.Threads.{number_of};
 ghost use Rattle.pth_model.specs.Living.{if_live, live as live_threads};
 ghost use Rattle.pth_model.specs.State.{State};
 ghost use Rattle.pth_world.specs.Shows.{StandsFor};
@@ -17,7 +17,7 @@ use std::alloc::Global;
 /// The numbers of the threads in the system that are not dead, the oldest first.
 pub fn live<P: Program>(w: &World<P>, alloc: Global) -> Result<Vec<Tid>, OutOfMemory>
     requires { IsSound w.now.threads }
-    ensures { IfOk result (λ v. (s : State P P.State P.Shared) → StandsFor w.now s → map number v.items ≡ live_threads s) }
+    ensures { IfOk result (λ v. (s : State P P.State P.Shared) → StandsFor w.now s → map number_of v.items ≡ live_threads s) }
 {
     let tids = w.threads().tids(alloc)?;
     let mut live = Vec::new(alloc);

@@ -4,7 +4,7 @@ ghost use Rattle.std.specs.Prelude.{◌≡◌, ◌≢◌, ◌⊎◌, ◌≤◌, 
 ghost use Rattle.pth_model.specs.Course.{Course};
 ghost use Rattle.pth_model.specs.State.{Given};
 ghost use Rattle.pth_model.specs.Living.{live as live_threads};
-ghost use Rattle.pth_threads.specs.Threads.{number};
+ghost use Rattle.pth_threads.specs.Threads.{number_of};
 ghost use Rattle.pth_world.specs.Sound.{IsSound};
 ghost use Rattle.pth_sched.specs.Running.{Stands, StandsAt, GoesOn, BreaksOff, TurnGoesOn, TurnBreaksOff, IsAtStep, IsBetweenTurns};
 
@@ -145,7 +145,7 @@ impl<P: Program> Machine<P> {
 
     /// The numbers of the threads in the system that are not dead, the oldest first; none after want of memory.
     pub fn live(&self, alloc: Global) -> Result<Vec<Tid>, OutOfMemory>
-        ensures { IfOk result (λ v. (c : Course P P.State P.Shared) → Stands self.now c → map number v.items ≡ live_threads c.state) }
+        ensures { IfOk result (λ v. (c : Course P P.State P.Shared) → Stands self.now c → map number_of v.items ≡ live_threads c.state) }
     {
         if self.failed {
             return Ok(Vec::new(alloc));

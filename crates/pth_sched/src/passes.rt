@@ -2,7 +2,7 @@
 
 ghost use Rattle.std.specs.Prelude.{◌≡◌, ◌≢◌, ℕ, pos, neg_ℤ, ◌+ℤ◌, ◌≤ℤ◌, List, [], ◌∷◌, ◌++◌, map, if◌then◌else◌, OnOk, OnErr};
 ghost use Rattle.pth_queue.specs.declared.queue.Queue.TheVariants as queue;
-ghost use Rattle.pth_threads.specs.Threads.{number};
+ghost use Rattle.pth_threads.specs.Threads.{number_of};
 ghost use Rattle.pth_base.specs.Cut.{IsCut};
 ghost use Rattle.pth_model.specs.Calls.{wakes as wakes_now};
 ghost use Rattle.pth_model.specs.Changes.{prio_of};
@@ -28,7 +28,7 @@ use pth_world::world::World;
 // Lists a waiting thread where its call has what it waits for.
 fn list_one<P: Program>(w: &World<P>, t: Tid, list: &mut Vec<Tid>) -> Result<(), OutOfMemory>
     requires { Whole w.now }
-    ensures { OnOk result ((s : State P P.State P.Shared) → StandsFor w.now s → map number list.new.items ≡ map number list.old.items ++ (if wakes_now P.functions t.0 s then t.0 ∷ [] else [])) }
+    ensures { OnOk result ((s : State P P.State P.Shared) → StandsFor w.now s → map number_of list.new.items ≡ map number_of list.old.items ++ (if wakes_now P.functions t.0 s then t.0 ∷ [] else [])) }
 {
     if wakes(w, t) {
         list.push(t)?;
@@ -39,7 +39,7 @@ fn list_one<P: Program>(w: &World<P>, t: Tid, list: &mut Vec<Tid>) -> Result<(),
 // Lists the waiting threads, in their order, whose calls have what they wait for.
 fn list_to_wake<P: Program>(w: &World<P>, list: &mut Vec<Tid>) -> Result<(), OutOfMemory>
     requires { Whole w.now }
-    ensures { OnOk result ((s : State P P.State P.Shared) → StandsFor w.now s → map number list.new.items ≡ to_wake P.functions s) }
+    ensures { OnOk result ((s : State P P.State P.Shared) → StandsFor w.now s → map number_of list.new.items ≡ to_wake P.functions s) }
 {
     list.clear();
     let mut next = w.first(Queue::Waiting);
@@ -89,9 +89,9 @@ fn wake_all<P: Program>(
     marks: &mut Marks,
 ) -> Result<(), OutOfMemory>
     requires whole { Whole w.old }
-    requires wait { WaitOnce w.old (map number list.now) }
-    ensures ok { OnOk result ((s : State P P.State P.Shared) → StandsFor w.old s → Leads w.new marks.old marks.new (all_woken (map number list.now) s)) }
-    ensures err { OnErr result ((s : State P P.State P.Shared) → StandsFor w.old s → IsCut marks.old marks.new (all_woken (map number list.now) s).marks) }
+    requires wait { WaitOnce w.old (map number_of list.now) }
+    ensures ok { OnOk result ((s : State P P.State P.Shared) → StandsFor w.old s → Leads w.new marks.old marks.new (all_woken (map number_of list.now) s)) }
+    ensures err { OnErr result ((s : State P P.State P.Shared) → StandsFor w.old s → IsCut marks.old marks.new (all_woken (map number_of list.now) s).marks) }
     ensures whole { OnOk result (Whole w.new) }
     ensures scheduler { OnOk result (KeepsRest w.old w.new) }
     ensures made { OnOk result (w.new.threads.records.made ≡ w.old.threads.records.made) }

@@ -10,7 +10,7 @@ ghost use Rattle.pth_model.specs.State.{Control, Given};
 ghost use Rattle.pth_world.specs.Frame.{runs_after};
 ghost use Rattle.pth_world.specs.Shows.{Shows};
 ghost use Rattle.pth_world.specs.Whole.{Whole};
-ghost use Rattle.pth_sched.specs.MachineOf.{IsGoing, IsRoofed, left, stops};
+ghost use Rattle.pth_sched.specs.MachineOf.{IsGoing, IsRoofed, left, machine_stops};
 ghost use Rattle.pth_sched.specs.Running.{Stands, StandsAt, Keeps, Makes, GoesOn, BreaksOff, TurnGoesOn, TurnBreaksOff, IsBetweenTurns};
 
 use crate::passes::pass;
@@ -41,7 +41,7 @@ pub struct Schedule<P: Program> {
 
 impl<P: Program> Model for Schedule<P> {
     ghost use Rattle.std.specs.Prelude.{option_map};
-    ghost use Rattle.pth_world.specs.World.{number_of};
+    ghost use Rattle.pth_threads.specs.Threads.{number_of};
     ghost use Rattle.pth_sched.specs.MachineOf.{MachineOf};
 
     ghost Value = { MachineOf P P.State P.Shared };
@@ -216,8 +216,8 @@ impl<P: Program> Schedule<P> {
         ensures err { OnErr result ((c : Course P P.State P.Shared) → Stands self.old c → IsCut marks.old marks.new (part P.functions c.turn c.state).marks) }
         ensures going { OnOk result (IsGoing self.new) }
         ensures ranks { OnOk result (IsRoofed self.new) }
-        ensures less { OnOk result ((to : ℕ) → stops to self.old ≡ false → left to self.new < left to self.old) }
-        ensures within { (to : ℕ) → stops to self.old ≡ false → self.old.turn.steps ≤ to → self.new.turn.steps ≤ to }
+        ensures less { OnOk result ((to : ℕ) → machine_stops to self.old ≡ false → left to self.new < left to self.old) }
+        ensures within { (to : ℕ) → machine_stops to self.old ≡ false → self.old.turn.steps ≤ to → self.new.turn.steps ≤ to }
     {
         match self.outcome {
             Outcome::Running => {}
@@ -238,7 +238,7 @@ impl<P: Program> Schedule<P> {
 
     // Whether a run to this number of steps goes no further: a next step would begin, or an outcome ended it.
     fn stops(&self, to: u64) -> bool
-        ensures stops { result ≡ stops to self.now }
+        ensures stops { result ≡ machine_stops to self.now }
         ensures run { (c : Course P P.State P.Shared) → Stands self.now c → result ≡ run_stops to c }
     {
         match self.outcome {
@@ -258,7 +258,7 @@ impl<P: Program> Schedule<P> {
         ensures breaks_off { OnErr result ((g : Given P) (i : ℕ) → StandsAt P.functions g i self.old → BreaksOff P.functions g to i marks.old marks.new) }
         ensures keeps { OnOk result (Keeps self.new) }
         ensures within { self.new.turn.steps ≤ to }
-        ensures stops { OnOk result (stops to self.new ≡ true) }
+        ensures stops { OnOk result (machine_stops to self.new ≡ true) }
     {
         while !self.stops(to) {
             self.part(marks)?;
@@ -275,7 +275,7 @@ impl<P: Program> Schedule<P> {
         ensures breaks_off { OnErr result ((g : Given P) (i : ℕ) → StandsAt P.functions g i self.old → TurnBreaksOff P.functions g to i marks.old marks.new) }
         ensures keeps { OnOk result (Keeps self.new) }
         ensures within { self.new.turn.steps ≤ to }
-        ensures stops { OnOk result ((stops to self.new ≡ true) ⊎ IsBetweenTurns self.new) }
+        ensures stops { OnOk result ((machine_stops to self.new ≡ true) ⊎ IsBetweenTurns self.new) }
     {
         while !self.stops(to) {
             if let Some(t) = self.gave {

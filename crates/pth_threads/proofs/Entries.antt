@@ -8,7 +8,7 @@ use Rattle.pth_base.proofs.Tables.{put_by}
 use Rattle.pth_base.proofs.Lists.{ap_put, put_none}
 use Rattle.pth_numbered.specs.Numbered as numbered
 use Rattle.pth_numbered.specs.Numbered.{thing_at, number_at}
-use Rattle.pth_threads.specs.Threads.{ThreadsOf, entry_at, tid_at, tid_of, slot_of, changed, made_of, IsCountable, IsKept, Adds, Changes, Removes}
+use Rattle.pth_threads.specs.Threads.{ThreadsOf, entry_at, tid_at, tid_of, slot_of, changed, made_of, IsCountable, AreThreadsKept, AddsThread, ChangesThread, RemovesThread}
 use Rattle.pth_threads.specs.declared.entry.Entry.{Entry}
 use Rattle.pth_threads.specs.declared.entry.NewThread.{NewThread}
 use Rattle.pth_threads.specs.declared.entry.Change.{Change}
@@ -17,21 +17,21 @@ use Rattle.pth_threads.specs.declared.entry.Change.TheVariants as change
 -- ---- names
 
 -- a slot in use is in use by either word
-pub in_use : (x : ThreadsOf) (u : ℕ) → IsKept x → tid_at x u ≢ 0 → number_at x u ≢ 0
+pub in_use : (x : ThreadsOf) (u : ℕ) → AreThreadsKept x → tid_at x u ≢ 0 → number_at x u ≢ 0
 in_use x u kept used = subst (λ (f : ℕ → ℕ). f u ≢ 0) (sym kept.named) used
 
-pub tied : (x : ThreadsOf) → IsKept x → numbered.IsKept x → IsTied (slot_of x) (tid_at x)
+pub tied : (x : ThreadsOf) → AreThreadsKept x → numbered.IsKept x → IsTied (slot_of x) (tid_at x)
 tied x kept law = subst (λ (f : ℕ → ℕ). IsTied (slot_of x) f) kept.named law.tied
 
-pub empty : (x : ThreadsOf) → IsKept x → numbered.IsKept x → (u : ℕ) → tid_at x u ≡ 0 → entry_at x u ≡ None
+pub empty : (x : ThreadsOf) → AreThreadsKept x → numbered.IsKept x → (u : ℕ) → tid_at x u ≡ 0 → entry_at x u ≡ None
 unfolding entry_at
 empty x kept law u zero = law.empty u (ap (λ (f : ℕ → ℕ). f u) kept.named ∙ zero)
 
-pub named : (x : ThreadsOf) (t : ℕ) (o : Option Slot) → IsKept x → IfSome o (λ s. number_at x s.0 ≡ t) → IfSome o (λ s. tid_at x s.0 ≡ t)
+pub named : (x : ThreadsOf) (t : ℕ) (o : Option Slot) → AreThreadsKept x → IfSome o (λ s. number_at x s.0 ≡ t) → IfSome o (λ s. tid_at x s.0 ≡ t)
 named x t (Some s) kept h = sym (ap (λ (f : ℕ → ℕ). f s.0) kept.named) ∙ h
 named x t None kept h = tt
 
-pub used : (x : ThreadsOf) (o : Option Slot) → IsKept x → IfSome o (λ s. number_at x s.0 ≢ 0) → IfSome o (λ s. tid_at x s.0 ≢ 0)
+pub used : (x : ThreadsOf) (o : Option Slot) → AreThreadsKept x → IfSome o (λ s. number_at x s.0 ≢ 0) → IfSome o (λ s. tid_at x s.0 ≢ 0)
 used x (Some s) kept h = λ zero. h (ap (λ (f : ℕ → ℕ). f s.0) kept.named ∙ zero)
 used x None kept h = tt
 
@@ -72,7 +72,7 @@ not_some : (e : Entry) → None ≡ Some e → ⊥
 not_some e h = cc
 
 -- what is kept, after one record was written
-kept_by : (x y : ThreadsOf) (u : ℕ) (o : Option Entry) → IsKept x → entry_at y ≡ put (entry_at x) u o → number_at y ≡ tid_at y → y.limit ≡ x.limit → ((e : Entry) → o ≡ Some e → e.dispatches ≤ last_count) → IsKept y
+kept_by : (x y : ThreadsOf) (u : ℕ) (o : Option Entry) → AreThreadsKept x → entry_at y ≡ put (entry_at x) u o → number_at y ≡ tid_at y → y.limit ≡ x.limit → ((e : Entry) → o ≡ Some e → e.dispatches ≤ last_count) → AreThreadsKept y
 kept_by x y u o kept entries same limit fits = record {
   named = same;
   limit = limit ∙ kept.limit;
@@ -107,7 +107,7 @@ changed_fits (change.Suspended suspended) d fits was = was
 changed_fits (change.Dispatches dispatches) d fits was = fits
 changed_fits (change.Value value) d fits was = was
 
-module _ (x y : ThreadsOf) (u : ℕ) (c : Change) (d e : Entry) (kept_x : IsKept x) (was : thing_at x u ≡ Some d) (is : e ≡ changed c d) (writes : numbered.Changes x y u e) where
+module _ (x y : ThreadsOf) (u : ℕ) (c : Change) (d e : Entry) (kept_x : AreThreadsKept x) (was : thing_at x u ≡ Some d) (is : e ≡ changed c d) (writes : numbered.Changes x y u e) where
   entries_y : entry_at y ≡ put (entry_at x) u (Some e)
   entries_y = entries_put x y u (Some e) writes.things
 
@@ -117,10 +117,10 @@ module _ (x y : ThreadsOf) (u : ℕ) (c : Change) (d e : Entry) (kept_x : IsKept
   tids_y : tid_at y ≡ tid_at x
   tids_y = tids_put x y u (Some e) entries_y ∙ put_none (tid_at x) u e.tid.0 (tid_is x u d was ∙ same_tid)
 
-  pub changes : Changes x y u c
+  pub changes : ChangesThread x y u c
   changes = record { slots = writes.slots; tids = tids_y; entries = rw (entry_is x u d was, ← is) entries_y; count = writes.count; made = writes.made }
 
-  pub kept_changed : IsCountable c → IsKept y
+  pub kept_changed : IsCountable c → AreThreadsKept y
   kept_changed fits = kept_by x y u (Some e) kept_x entries_y (writes.numbers ∙ kept_x.named ∙ sym tids_y) writes.limit
       (λ f same. rw (← some_is e f same, is) (changed_fits c d fits (kept_x.countable u d (entry_is x u d was))))
 
@@ -134,7 +134,7 @@ made_fits : (of : NewThread) (t : ℕ) → (made_of of t).dispatches ≤ last_co
 unfolding made_of
 made_fits of t = omega arith
 
-module _ (x y : ThreadsOf) (u : ℕ) (of : NewThread) (kept_x : IsKept x) (law : numbered.IsKept y) (adds : numbered.Adds x y u (made_of of (x.made + 1))) where
+module _ (x y : ThreadsOf) (u : ℕ) (of : NewThread) (kept_x : AreThreadsKept x) (law : numbered.IsKept y) (adds : numbered.Adds x y u (made_of of (x.made + 1))) where
   abbrev e : Entry
   e = made_of of (x.made + 1)
 
@@ -150,10 +150,10 @@ module _ (x y : ThreadsOf) (u : ℕ) (of : NewThread) (kept_x : IsKept x) (law :
   named_new : number_at y ≡ tid_at y
   named_new = adds.numbers ∙ ap (λ (f : ℕ → ℕ). put f u (x.made + 1)) kept_x.named ∙ ap (λ (n : ℕ). put (tid_at x) u n) (sym tid_e) ∙ sym tids_new
 
-  pub kept_added : IsKept y
+  pub kept_added : AreThreadsKept y
   kept_added = kept_by x y u (Some e) kept_x entries_new named_new adds.limit (λ f same. rw (← some_is e f same) (made_fits of (x.made + 1)))
 
-  pub added : Adds x y u e
+  pub added : AddsThread x y u e
   added = record {
     unused = sym (ap (λ (f : ℕ → ℕ). f u) kept_x.named) ∙ adds.unused;
     unknown = rw tid_e adds.unknown;
@@ -168,7 +168,7 @@ module _ (x y : ThreadsOf) (u : ℕ) (of : NewThread) (kept_x : IsKept x) (law :
 
 -- ---- a thread is gone
 
-module _ (x y : ThreadsOf) (u : ℕ) (kept_x : IsKept x) (law : numbered.IsKept y) (gone : numbered.Removes x y u) where
+module _ (x y : ThreadsOf) (u : ℕ) (kept_x : AreThreadsKept x) (law : numbered.IsKept y) (gone : numbered.Removes x y u) where
   entries_left : entry_at y ≡ put (entry_at x) u None
   entries_left = entries_put x y u None gone.things
 
@@ -178,10 +178,10 @@ module _ (x y : ThreadsOf) (u : ℕ) (kept_x : IsKept x) (law : numbered.IsKept 
   named_left : number_at y ≡ tid_at y
   named_left = gone.numbers ∙ ap (λ (f : ℕ → ℕ). put f u 0) kept_x.named ∙ sym tids_left
 
-  pub kept_removed : IsKept y
+  pub kept_removed : AreThreadsKept y
   kept_removed = kept_by x y u None kept_x entries_left named_left gone.limit (λ f same. absurd (not_some f same))
 
-  pub removed : Removes x y u
+  pub removed : RemovesThread x y u
   removed = record {
     slots = gone.slots ∙ ap (λ (n : ℕ). put (slot_of x) n None) (ap (λ (f : ℕ → ℕ). f u) kept_x.named);
     tids = tids_left;
@@ -201,7 +201,7 @@ pub no_tids : (x : ThreadsOf) → thing_at x ≡ (λ _. None) → tid_at x ≡ (
 unfolding tid_at
 no_tids x h = ap tids_of (no_entries x h)
 
-pub kept_none : (x : ThreadsOf) → thing_at x ≡ (λ _. None) → number_at x ≡ (λ _. 0) → x.limit ≡ thread_limit → IsKept x
+pub kept_none : (x : ThreadsOf) → thing_at x ≡ (λ _. None) → number_at x ≡ (λ _. 0) → x.limit ≡ thread_limit → AreThreadsKept x
 kept_none x things numbers limit = record {
   named = numbers ∙ sym (no_tids x things);
   limit = limit;

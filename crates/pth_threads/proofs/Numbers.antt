@@ -2,9 +2,9 @@
 use Rattle.std.proofs.Common.{◌≡◌, ◌↔◌, ℕ, List, [], ◌∷◌, length, map, get_or, Contains, IsSome, refl, ap, zero, suc}
 use Rattle.std.specs.List.Sorted.{IsStrictlyIncreasing}
 use Rattle.pth_base.specs.declared.ids.Tid.{Tid}
-use Rattle.pth_threads.specs.Threads.{ThreadsOf, slot_of, number, tid_from}
+use Rattle.pth_threads.specs.Threads.{ThreadsOf, slot_of, number_of, tid_from}
 
-numbers_from : (ks : List ℕ) → map number (map tid_from ks) ≡ ks
+numbers_from : (ks : List ℕ) → map number_of (map tid_from ks) ≡ ks
 numbers_from [] = refl
 numbers_from (k ∷ ks) = ap (λ xs. k ∷ xs) (numbers_from ks)
 
@@ -19,7 +19,7 @@ at_from (k ∷ ks) (suc i) t = at_from ks i t
 
 contains_from : (ks : List ℕ) (t : Tid) → Contains (map tid_from ks) t ↔ Contains ks t.0
 contains_from ks t = (
-  λ p. (p.0, rw length_from at p.1, ap number (rw at_from at p.2)),
+  λ p. (p.0, rw length_from at p.1, ap number_of (rw at_from at p.2)),
   λ p. (p.0, rw length_from p.1, rw at_from (ap tid_from p.2)),
 )
 
@@ -29,5 +29,5 @@ listed x ns ts known is t =
     let from = contains_from ns t in
     rw is (λ p. (known t.0).0 (from.0 p), λ p. from.1 ((known t.0).1 p))
 
-pub rising : (ns : List ℕ) (ts : List Tid) → ts ≡ map tid_from ns → IsStrictlyIncreasing ns → IsStrictlyIncreasing (map number ts)
+pub rising : (ns : List ℕ) (ts : List Tid) → ts ≡ map tid_from ns → IsStrictlyIncreasing ns → IsStrictlyIncreasing (map number_of ts)
 rising ns ts is sorted = rw (is, numbers_from) sorted

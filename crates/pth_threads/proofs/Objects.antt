@@ -11,7 +11,7 @@ use Rattle.pth_numbered.specs.Numbered as numbered
 use Rattle.pth_numbered.specs.Numbered.{thing_at, number_at, number_known}
 use Rattle.pth_numbered.specs.Operands.{number, named}
 use Rattle.pth_threads.specs.Threads.{ThreadsOf, entry_at, tid_at, tid_of, slot_of, count}
-use Rattle.pth_threads.specs.Attributes.{AttrsOf, attribute_limit, object_of, known_of, is_full, first_values, AreSet, MayStand, AreKept, Makes, Exchanges, Drops}
+use Rattle.pth_threads.specs.Attributes.{AttrsOf, attribute_limit, object_of, known_of, is_full, first_values, AreSet, MayStand, AreKept, MakesObject, Exchanges, Drops}
 use Rattle.pth_threads.specs.declared.attribute.Attribute.{Attribute}
 use Rattle.pth_threads.specs.declared.attribute.Attribute.TheVariants.{Free}
 use Rattle.pth_threads.specs.declared.entry.Entry.{Entry}
@@ -107,7 +107,7 @@ first_allowed = record { prio = record { low = search rules; high = search rules
 -- ---- one more object
 
 module _ (x y : AttrsOf) (u : ℕ) (o : Attribute) (adds : numbered.Adds x y u o) where
-  pub made : numbered.IsKept x → Makes x y o
+  pub made : numbered.IsKept x → MakesObject x y o
   made law = record {
     objects = rw (adds.slots, adds.things) (seen_add None (slot_of x) (number_at x) (thing_at x) (x.made + 1) u law.tied (Some o) adds.unused);
     made = adds.made;
@@ -122,7 +122,7 @@ pub kept_added : (x y : AttrsOf) (o : Attribute) (r : Result (ℕ × Slot) AddEr
 kept_added x y o (Ok p) kept may adds same = kept_made x y p.1.0 o adds kept may
 kept_added x y o (Err e) kept may adds same = subst AreKept (sym same) kept
 
-pub made_added : (x y : AttrsOf) (o : Attribute) (r : Result (ℕ × Slot) AddErr) → numbered.IsKept x → IfOk r (λ p. numbered.Adds x y p.1.0 o) → OnOk r (Makes x y o)
+pub made_added : (x y : AttrsOf) (o : Attribute) (r : Result (ℕ × Slot) AddErr) → numbered.IsKept x → IfOk r (λ p. numbered.Adds x y p.1.0 o) → OnOk r (MakesObject x y o)
 made_added x y o (Ok p) law adds = made x y p.1.0 o adds law
 made_added x y o (Err e) law adds = tt
 

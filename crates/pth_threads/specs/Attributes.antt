@@ -17,7 +17,7 @@ use Rattle.pth_base.specs.declared.thread.ThreadState.{ThreadState}
 use Rattle.pth_base.specs.declared.thread.ThreadState.TheVariants as state
 use Rattle.pth_numbered.specs.Numbered.{NumberedOf, number_known, thing_at}
 use Rattle.pth_numbered.specs.Operands.{number, ◌is◌, ◌is_from◌to◌}
-use Rattle.pth_threads.specs.Threads.{ThreadsOf, entry_at, slot_of, count, Changes}
+use Rattle.pth_threads.specs.Threads.{ThreadsOf, entry_at, slot_of, count, ChangesThread}
 use Rattle.pth_threads.specs.declared.attribute.Attribute.{Attribute}
 use Rattle.pth_threads.specs.declared.attribute.Attribute.TheVariants.{Free, Bound}
 use Rattle.pth_threads.specs.declared.entry.Entry.{Entry}
@@ -247,7 +247,7 @@ Answers (Ok n) (Err e) = e ≡ OutOfMemory
 -- ---- changes
 
 -- one more object, with the next number
-pub record Makes (old new : AttrsOf) (x : Attribute) : Type 0 where
+pub record MakesObject (old new : AttrsOf) (x : Attribute) : Type 0 where
   pub objects : object_of new ≡ put (object_of old) (old.made + 1) (Some x)
   pub made : new.made ≡ old.made + 1
   pub count : count new ≡ count old + 1
@@ -271,7 +271,7 @@ pub record SetsThread (old new : ThreadsOf) (t : ℕ) (v : AttrValue) : Type 0 w
   pub found : slot_of old t ≡ Some slot
   pub meant : change_of v ≡ Some change
   pub keeps : KeepsSet change
-  pub changes : Changes old new slot change
+  pub changes : ChangesThread old new slot change
 
 -- a value is set in an object, or in the thread to which it is bound
 abbrev pub Sets : AttrsOf → AttrsOf → ThreadsOf → ThreadsOf → ℕ → AttrValue → Option Attribute → Type 0

@@ -18,8 +18,8 @@ abbrev pub ThreadsOf : Type 0
 ThreadsOf = NumberedOf Entry
 
 -- a thread's number, and the thread of a number
-abbrev pub number : Tid → ℕ
-number t = t.0
+abbrev pub number_of : Tid → ℕ
+number_of t = t.0
 
 abbrev pub tid_from : ℕ → Tid
 tid_from n = record { 0 = n }
@@ -70,7 +70,7 @@ made_of of tid = record {
 }
 
 -- what holds of the threads at every moment, beside what holds of all that is numbered
-pub record IsKept (x : ThreadsOf) : Type 0 where
+pub record AreThreadsKept (x : ThreadsOf) : Type 0 where
   -- each record has the number by which it is found
   pub named : number_at x ≡ tid_at x
   pub limit : x.limit ≡ thread_limit
@@ -78,7 +78,7 @@ pub record IsKept (x : ThreadsOf) : Type 0 where
   pub countable : (u : ℕ) (e : Entry) → entry_at x u ≡ Some e → e.dispatches ≤ last_count
 
 -- a new thread at a slot that was not in use
-pub record Adds (old new : ThreadsOf) (u : ℕ) (e : Entry) : Type 0 where
+pub record AddsThread (old new : ThreadsOf) (u : ℕ) (e : Entry) : Type 0 where
   pub unused : tid_at old u ≡ 0
   pub unknown : slot_of old e.tid.0 ≡ None
   pub low : u < thread_limit
@@ -90,7 +90,7 @@ pub record Adds (old new : ThreadsOf) (u : ℕ) (e : Entry) : Type 0 where
   pub tied : IsTied (slot_of new) (tid_at new)
 
 -- one field of the record at a slot is set
-pub record Changes (old new : ThreadsOf) (u : ℕ) (c : Change) : Type 0 where
+pub record ChangesThread (old new : ThreadsOf) (u : ℕ) (c : Change) : Type 0 where
   pub slots : slot_of new ≡ slot_of old
   pub tids : tid_at new ≡ tid_at old
   pub entries : entry_at new ≡ put (entry_at old) u (option_map (changed c) (entry_at old u))
@@ -98,7 +98,7 @@ pub record Changes (old new : ThreadsOf) (u : ℕ) (c : Change) : Type 0 where
   pub made : new.made ≡ old.made
 
 -- a thread is gone, and its slot is not in use
-pub record Removes (old new : ThreadsOf) (u : ℕ) : Type 0 where
+pub record RemovesThread (old new : ThreadsOf) (u : ℕ) : Type 0 where
   pub slots : slot_of new ≡ put (slot_of old) (tid_at old u) None
   pub tids : tid_at new ≡ put (tid_at old) u 0
   pub entries : entry_at new ≡ put (entry_at old) u None

@@ -4,7 +4,7 @@ ghost use Rattle.std.specs.Prelude.{◌≡◌, ◌≢◌, ◌<◌, ◌≤◌, So
 ghost use Rattle.pth_base.specs.Limits.{last_count};
 ghost use Rattle.pth_numbered.specs.Numbered.{number_at, thing_at, IsKept};
 ghost use Rattle.pth_numbered.specs.Operands.{number, named};
-ghost use Rattle.pth_threads.specs.Attributes.{object_of, known_of, first_values, create_answer, of_answer, init_answer, set_answer, get_answer, destroy_answer, values_answer, Answers, Makes, Exchanges, Drops, Sets, SetsThread, MayStand, AreSet, AreKept};
+ghost use Rattle.pth_threads.specs.Attributes.{object_of, known_of, first_values, create_answer, of_answer, init_answer, set_answer, get_answer, destroy_answer, values_answer, Answers, MakesObject, Exchanges, Drops, Sets, SetsThread, MayStand, AreSet, AreKept};
 ghost use Rattle.pth_threads.specs.declared.attribute.Attribute.TheVariants as object;
 ghost use Rattle.pth_threads.specs.declared.entry.NewThread.{NewThread};
 
@@ -90,7 +90,7 @@ impl Attrs {
         requires few { self.old.made < 4294967295 }
         requires allowed { MayStand object }
         ensures answer { Answers (create_answer (object_of self.old) self.old.made) result }
-        ensures makes { OnOk result (Makes self.old self.new object) }
+        ensures makes { OnOk result (MakesObject self.old self.new object) }
         ensures refused { OnErr result (self.new ≡ self.old) }
     {
         match self.objects.add(object) {
@@ -114,7 +114,7 @@ impl Attrs {
     pub fn create(&mut self) -> Result<AttrId, Refusal>
         requires { self.old.made < 4294967295 }
         ensures answer { Answers (create_answer (object_of self.old) self.old.made) result }
-        ensures makes { OnOk result (Makes self.old self.new (object.Free first_values)) }
+        ensures makes { OnOk result (MakesObject self.old self.new (object.Free first_values)) }
         ensures refused { OnErr result (self.new ≡ self.old) }
     {
         self.add(Attribute::Free(new_values()))
@@ -125,7 +125,7 @@ impl Attrs {
     pub fn of(&mut self, t: Tid, threads: &Threads) -> Result<AttrId, Refusal>
         requires { self.old.made < 4294967295 }
         ensures answer { Answers (of_answer (known_of threads.now t.0) (object_of self.old) self.old.made) result }
-        ensures makes { OnOk result (Makes self.old self.new (object.Bound t)) }
+        ensures makes { OnOk result (MakesObject self.old self.new (object.Bound t)) }
         ensures refused { OnErr result (self.new ≡ self.old) }
     {
         match known(threads, t) {

@@ -4,7 +4,7 @@ ghost use Rattle.std.specs.Prelude.{◌≡◌, ◌≢◌, ◌+◌, ◌<◌, ◌�
 ghost use Rattle.std.specs.List.Sorted.{IsStrictlyIncreasing};
 ghost use Rattle.pth_base.specs.Limits.{thread_limit, last_count};
 ghost use Rattle.pth_base.specs.Naming.{IsTied};
-ghost use Rattle.pth_threads.specs.Threads.{entry_at, tid_at, slot_of, count, made_of, number, tid_from, Adds, Changes, Removes, IsSame, IsCountable};
+ghost use Rattle.pth_threads.specs.Threads.{entry_at, tid_at, slot_of, count, made_of, number_of, tid_from, AddsThread, ChangesThread, RemovesThread, IsSame, IsCountable};
 
 use crate::entry::{AddErr, Change, Entry, NewThread};
 use pth_base::ids::{Slot, Tid};
@@ -21,13 +21,13 @@ pub struct Threads {
 }
 
 impl Model for Threads {
-    ghost use Rattle.pth_threads.specs.Threads.{ThreadsOf, IsKept};
+    ghost use Rattle.pth_threads.specs.Threads.{ThreadsOf, AreThreadsKept};
 
     ghost Value = { ThreadsOf };
 
     ghost view = { λ a. a.entries };
 
-    ghost invariant = { λ a. IsKept a.entries };
+    ghost invariant = { λ a. AreThreadsKept a.entries };
 }
 
 impl Threads {
@@ -69,7 +69,7 @@ impl Threads {
     pub fn change(&mut self, s: Slot, c: Change)
         requires used { tid_at self.old s.0 ≢ 0 }
         requires countable { IsCountable c }
-        ensures { Changes self.old self.new s.0 c }
+        ensures { ChangesThread self.old self.new s.0 c }
     {
         self.entries.get_mut(s).set(c);
     }
@@ -79,7 +79,7 @@ impl Threads {
         requires { self.old.made < 4294967295 }
         ensures tid { IfOk result (λ p. p.0.0 ≡ self.old.made + 1) }
         ensures made { OnOk result (self.new.made ≡ self.old.made + 1) }
-        ensures ok { IfOk result (λ p. Adds self.old self.new p.1.0 (made_of of p.0.0)) }
+        ensures ok { IfOk result (λ p. AddsThread self.old self.new p.1.0 (made_of of p.0.0)) }
         ensures too_many { IsErrOf result AddErr.TooMany ↔ (count self.old ≡ thread_limit) }
         ensures err { OnErr result (IsSame self.old self.new) }
     {
@@ -91,7 +91,7 @@ impl Threads {
     /// Takes the thread at a slot out of the system.
     pub fn remove(&mut self, s: Slot)
         requires { tid_at self.old s.0 ≢ 0 }
-        ensures { Removes self.old self.new s.0 }
+        ensures { RemovesThread self.old self.new s.0 }
     {
         self.entries.remove(s);
     }
@@ -114,7 +114,7 @@ impl Threads {
     /// The numbers of the threads in the system, the oldest first.
     pub fn tids(&self, alloc: Global) -> Result<Vec<Tid>, OutOfMemory>
         ensures listed { IfOk result (λ v. (t : Tid) → Contains v.items t ↔ IsSome (slot_of self.now t.0)) }
-        ensures rising { IfOk result (λ v. IsStrictlyIncreasing (map number v.items)) }
+        ensures rising { IfOk result (λ v. IsStrictlyIncreasing (map number_of v.items)) }
     {
         let numbers = self.entries.numbers(alloc)?;
         Ok(named(&numbers, alloc)?)

@@ -20,7 +20,7 @@ ghost use Rattle.pth_world.specs.Leading.{Leads, Changed};
 ghost use Rattle.pth_world.specs.Shows.{Shows, StandsFor};
 ghost use Rattle.pth_world.specs.Sound.{IsSound, IsKnown};
 ghost use Rattle.pth_world.specs.Whole.{Whole, MayBlock};
-ghost use Rattle.pth_world.specs.World.{number_of};
+ghost use Rattle.pth_threads.specs.Threads.{number_of};
 
 use crate::blocks::block;
 use pth_base::answer::Answer;

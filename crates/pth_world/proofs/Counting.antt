@@ -11,7 +11,7 @@ use Rattle.pth_queue.proofs.Sets.{once_in, holds-queue_of, deleted_is}
 use Rattle.pth_threads.specs.Threads.{tid_at}
 use Rattle.pth_model.specs.State.{Control, queue}
 use Rattle.pth_world.specs.declared.counted_queues.PerQueue.{PerQueue}
-use Rattle.pth_world.specs.Counted.{kept_of, with_kept, Counts}
+use Rattle.pth_world.specs.Counted.{kept_of, with_kept, AreCounted}
 use Rattle.pth_world.specs.World.{WorldOf}
 use Rattle.pth_world.specs.Shows.{Shows}
 use Rattle.pth_world.proofs.Ranks.{length-insert}
@@ -21,7 +21,7 @@ pub few_rows : (q : Queue) (x : QueuesOf) → IsOrderly x → length (rows_of q 
 few_rows q x o = omega (arith, fewer x.room (rows_of q x) (o.each q).slots (λ s. once_in q s x o), o.few)
 
 -- other rows in one queue, and their number
-counts_with : (q : Queue) (rows : List Ranked) (n : ℕ) (x : QueuesOf) (y : PerQueue ℕ) → n ≡ length rows → Counts x y → Counts (with_rows q rows x) (with_kept q n y)
+counts_with : (q : Queue) (rows : List Ranked) (n : ℕ) (x : QueuesOf) (y : PerQueue ℕ) → n ≡ length rows → AreCounted x y → AreCounted (with_rows q rows x) (with_kept q n y)
 counts_with New rows n x y is h New = is
 counts_with New rows n x y is h p = h p
 counts_with Ready rows n x y is h Ready = is
@@ -34,7 +34,7 @@ counts_with Dead rows n x y is h Dead = is
 counts_with Dead rows n x y is h p = h p
 
 -- as many rows in one queue
-counts_same : (q : Queue) (rows : List Ranked) (x : QueuesOf) (y : PerQueue ℕ) → length rows ≡ length (rows_of q x) → Counts x y → Counts (with_rows q rows x) y
+counts_same : (q : Queue) (rows : List Ranked) (x : QueuesOf) (y : PerQueue ℕ) → length rows ≡ length (rows_of q x) → AreCounted x y → AreCounted (with_rows q rows x) y
 counts_same New rows x y same h New = h New ∙ sym same
 counts_same New rows x y same h p = h p
 counts_same Ready rows x y same h Ready = h Ready ∙ sym same
@@ -47,45 +47,45 @@ counts_same Dead rows x y same h Dead = h Dead ∙ sym same
 counts_same Dead rows x y same h p = h p
 
 -- five empty queues
-pub counts_none : (x : QueuesOf) → x ≡ no_queues → Counts x (record { new = 0; ready = 0; waiting = 0; suspended = 0; dead = 0 })
-counts_none x is = subst (λ (k : QueuesOf). Counts k (record { new = 0; ready = 0; waiting = 0; suspended = 0; dead = 0 })) (sym is) none
+pub counts_none : (x : QueuesOf) → x ≡ no_queues → AreCounted x (record { new = 0; ready = 0; waiting = 0; suspended = 0; dead = 0 })
+counts_none x is = subst (λ (k : QueuesOf). AreCounted k (record { new = 0; ready = 0; waiting = 0; suspended = 0; dead = 0 })) (sym is) none
   where
-    none : Counts no_queues (record { new = 0; ready = 0; waiting = 0; suspended = 0; dead = 0 })
+    none : AreCounted no_queues (record { new = 0; ready = 0; waiting = 0; suspended = 0; dead = 0 })
     none New = refl
     none Ready = refl
     none Waiting = refl
     none Suspended = refl
     none Dead = refl
 
-module _ (v : QueuesOf) (x : QueuesOf) (y : PerQueue ℕ) (counts : Counts x y) where
+module _ (v : QueuesOf) (x : QueuesOf) (y : PerQueue ℕ) (counts : AreCounted x y) where
   -- more slots may be used
-  pub counts_grown : (room : ℕ) → v ≡ record x { room = room } → Counts v y
-  counts_grown room is = subst (λ (k : QueuesOf). Counts k y) (sym is) grown
+  pub counts_grown : (room : ℕ) → v ≡ record x { room = room } → AreCounted v y
+  counts_grown room is = subst (λ (k : QueuesOf). AreCounted k y) (sym is) grown
     where
-      grown : Counts (record x { room = room }) y
+      grown : AreCounted (record x { room = room }) y
       grown New = counts New
       grown Ready = counts Ready
       grown Waiting = counts Waiting
       grown Suspended = counts Suspended
       grown Dead = counts Dead
 
-  pub counts_still : v ≡ x → Counts v y
-  counts_still is = subst (λ (k : QueuesOf). Counts k y) (sym is) counts
+  pub counts_still : v ≡ x → AreCounted v y
+  counts_still is = subst (λ (k : QueuesOf). AreCounted k y) (sym is) counts
 
   -- every rank in a queue one more
-  pub counts_raised : (q : Queue) → v ≡ with_rows q (increase (rows_of q x)) x → Counts v y
-  counts_raised q is = subst (λ (k : QueuesOf). Counts k y) (sym is) (counts_same q (increase (rows_of q x)) x y (length-map (rows_of q x) raised) counts)
+  pub counts_raised : (q : Queue) → v ≡ with_rows q (increase (rows_of q x)) x → AreCounted v y
+  counts_raised q is = subst (λ (k : QueuesOf). AreCounted k y) (sym is) (counts_same q (increase (rows_of q x)) x y (length-map (rows_of q x) raised) counts)
 
   -- where one length is set
   module _ (z : PerQueue ℕ) (q : Queue) (n : ℕ) (was : n ≡ kept_of q y) where
-    both : (rows : List Ranked) (m : ℕ) → m ≡ length rows → v ≡ with_rows q rows x → z ≡ with_kept q m y → Counts v z
-    both rows m long is set = subst (λ (k : QueuesOf). Counts k z) (sym is) (subst (λ (k : PerQueue ℕ). Counts (with_rows q rows x) k) (sym set) (counts_with q rows m x y long counts))
+    both : (rows : List Ranked) (m : ℕ) → m ≡ length rows → v ≡ with_rows q rows x → z ≡ with_kept q m y → AreCounted v z
+    both rows m long is set = subst (λ (k : QueuesOf). AreCounted k z) (sym is) (subst (λ (k : PerQueue ℕ). AreCounted (with_rows q rows x) k) (sym set) (counts_with q rows m x y long counts))
 
     -- a row more is counted in few numbers
     pub few_more : IsOrderly x → n ≤ 4096
     few_more o = omega (arith, few_rows q x o, counts q)
 
-    pub counts_entered : (rank : ℤ) (s : ℕ) → v ≡ entered q rank s x → z ≡ with_kept q (n + 1) y → Counts v z
+    pub counts_entered : (rank : ℤ) (s : ℕ) → v ≡ entered q rank s x → z ≡ with_kept q (n + 1) y → AreCounted v z
     counts_entered rank s is set = both (insert (record { rank = rank; holder = s }) (rows_of q x)) (n + 1) (omega (arith, length-insert (record { rank = rank; holder = s }) (rows_of q x), counts q)) is set
 
     module _ (s : ℕ) (o : IsOrderly x) (stands : queue_of s x ≡ Some q) where
@@ -96,7 +96,7 @@ module _ (v : QueuesOf) (x : QueuesOf) (y : PerQueue ℕ) (counts : Counts x y) 
       pub one_less : 1 ≤ n
       one_less = omega (arith, length-delete s (rows_of q x), present, counts q)
 
-      pub counts_without : v ≡ without s x → z ≡ with_kept q (n - 1) y → Counts v z
+      pub counts_without : v ≡ without s x → z ≡ with_kept q (n - 1) y → AreCounted v z
       counts_without is set = both (delete s (rows_of q x)) (n - 1) (omega (arith, length-delete s (rows_of q x), present, once_in q s x o, counts q)) (is ∙ sym (deleted_is q s x o present)) set
 
 -- a queue that is shown is as long as that of the world

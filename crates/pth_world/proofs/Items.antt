@@ -11,7 +11,7 @@ use Rattle.pth_model.specs.declared.awaits.Awaits.{Awaits}
 use Rattle.pth_model.specs.declared.awaits.Awaits.TheVariants.{Nothing}
 use Rattle.pth_model.specs.declared.progress.Progress.{Progress}
 use Rattle.pth_model.specs.Changes.{blocking, owing}
-use Rattle.pth_world.specs.Progress.{awaits_at, IsKept}
+use Rattle.pth_world.specs.Progress.{awaits_at, IsKeptBeside}
 
 module _ {S : Type 0} (xs : List (Option (Progress S))) (u : ℕ) (long : length xs ≡ thread_limit) (low : u < thread_limit) where
   within : u < length xs
@@ -63,8 +63,8 @@ pub unblocked_awaits : {S : Type 0} (o : Option (Progress S)) → Nothing ≡ aw
 unblocked_awaits (Some p) = refl
 unblocked_awaits None = refl
 
-module _ {S : Type 0} (xs ys : List (Option (Progress S))) (before after : List Awaits) (kept : IsKept xs before) (u : ℕ) (low : u < thread_limit) (v : Option (Progress S)) where
-  each_kept : (now : List Awaits) → length now ≡ length before → table Nothing now u ≡ awaits_at v → ((i : ℕ) → i ≢ u → table Nothing now i ≡ table Nothing before i) → Becomes xs ys now after u v → IsKept ys after
+module _ {S : Type 0} (xs ys : List (Option (Progress S))) (before after : List Awaits) (kept : IsKeptBeside xs before) (u : ℕ) (low : u < thread_limit) (v : Option (Progress S)) where
+  each_kept : (now : List Awaits) → length now ≡ length before → table Nothing now u ≡ awaits_at v → ((i : ℕ) → i ≢ u → table Nothing now i ≡ table Nothing before i) → Becomes xs ys now after u v → IsKeptBeside ys after
   each_kept now long here other b = record {
     long = b.long;
     beside = ap length b.beside ∙ long ∙ kept.beside;
@@ -77,18 +77,18 @@ module _ {S : Type 0} (xs ys : List (Option (Progress S))) (before after : List 
           (λ apart. other i apart ∙ kept.same i)
 
   -- what the thread there waits for is set
-  pub kept_set : (a : Awaits) → Becomes xs ys (set before u a) after u v → a ≡ awaits_at v → IsKept ys after
+  pub kept_set : (a : Awaits) → Becomes xs ys (set before u a) after u v → a ≡ awaits_at v → IsKeptBeside ys after
   kept_set a b is = each_kept (set before u a) (length-set before u a) (get_or-set_same before u a Nothing (let beside = kept.beside in omega arith) ∙ is) (λ i apart. get_or-set_other before u i a Nothing apart) b
 
   -- it waits for the same
-  pub kept_same : Becomes xs ys before after u v → awaits_at v ≡ awaits_at (table None xs u) → IsKept ys after
+  pub kept_same : Becomes xs ys before after u v → awaits_at v ≡ awaits_at (table None xs u) → IsKeptBeside ys after
   kept_same b is = each_kept before refl (kept.same u ∙ sym is) (λ i apart. refl) b
 
 -- nothing stands anywhere, and nothing is waited for
 all_nothing : (n i : ℕ) → table Nothing (replicate n Nothing) i ≡ Nothing
 all_nothing n i = elim (cases_lt i n) [ inl low ↦ get_or-replicate n i Nothing Nothing low | inr high ↦ get_or_past (replicate n Nothing) i Nothing (omega (arith, length-replicate n Nothing)) ]
 
-pub kept_none : {S : Type 0} (xs : List (Option (Progress S))) (awaits : List Awaits) → length xs ≡ thread_limit → table None xs ≡ (λ _. None) → awaits ≡ replicate thread_limit Nothing → IsKept xs awaits
+pub kept_none : {S : Type 0} (xs : List (Option (Progress S))) (awaits : List Awaits) → length xs ≡ thread_limit → table None xs ≡ (λ _. None) → awaits ≡ replicate thread_limit Nothing → IsKeptBeside xs awaits
 kept_none xs awaits long none is = record {
   long = long;
   beside = ap length is ∙ length-replicate thread_limit Nothing;

@@ -7,7 +7,7 @@ use Rattle.pth_base.proofs.Tables.{put_here, put_other, same_means, same_fails, 
 use Rattle.pth_queue.specs.declared.queue.Queue.{Queue}
 use Rattle.pth_queue.specs.declared.queue.Queue.TheVariants as queue
 use Rattle.pth_queue.specs.Queues.{queue_of, without, IsNowhere}
-use Rattle.pth_threads.specs.Threads.{slot_of, tid_at, tid_of, entry_at, changed, Removes}
+use Rattle.pth_threads.specs.Threads.{slot_of, tid_at, tid_of, entry_at, changed, RemovesThread}
 use Rattle.pth_threads.specs.declared.entry.Entry.{Entry}
 use Rattle.pth_threads.specs.declared.entry.Change.TheVariants as change
 use Rattle.pth_model.specs.declared.blocked.Blocked.{Blocked}
@@ -18,7 +18,7 @@ use Rattle.pth_model.specs.Living.{is_dead}
 use Rattle.pth_model.specs.ThreadControl.{may_run}
 use Rattle.pth_world.specs.Sound.{IsSound, IsKnown}
 use Rattle.pth_world.specs.Whole.{View, view, Fits, FitsEntry, Whole, WholeBut, IsRunner, IsIn, IsBefore, Newly, Waiting, IsAbout, CanSuspend, MayBlock, MayStandIn, WaitsToRun, OfNew, OfReady, place_for}
-use Rattle.pth_world.specs.Touches.{Touches, SameThreads, changes, places, blocks}
+use Rattle.pth_world.specs.Touches.{Touches, SameThreads, view_changed, view_placed, view_blocked}
 use Rattle.pth_world.proofs.Slots.{name_is, used, some_is}
 use Rattle.pth_world.proofs.Places.{queue-without}
 
@@ -83,7 +83,7 @@ ready_fits r q (Some d) p h b e f =
       calls = f.calls;
     }
 
-pub readied_fits : (r : Option ℕ) (q : Queue) (v : View) → IsBefore q → v.place ≡ Some q → Fits r v → Fits r (places (Some queue.Ready) (changes (change.State state.Ready) (places None v)))
+pub readied_fits : (r : Option ℕ) (q : Queue) (v : View) → IsBefore q → v.place ≡ Some q → Fits r v → Fits r (view_placed (Some queue.Ready) (view_changed (change.State state.Ready) (view_placed None v)))
 readied_fits r q v b e f = ready_fits r q v.entry v.place v.blocked b e f
 
 -- the slot of a thread in the system
@@ -94,12 +94,12 @@ known_slot None known = absurd (cc known)
 pub is_in : {P S H : Type 0} (w : WorldOf P S H) (q : Queue) (t u : ℕ) → IsIn q w.threads t → slot_of w.threads.records t ≡ Some u → queue_of u w.threads.queues ≡ Some q
 is_in w q t u h e = subst (λ (o : Option ℕ). IfSome o (λ i. queue_of i w.threads.queues ≡ Some q)) e h
 
-pub make_ready_whole : {P S H : Type 0} (w m v : WorldOf P S H) (t : ℕ) (q : Queue) → Whole w → IsKnown w.threads t → IsBefore q → IsIn q w.threads t → Touches w.threads m.threads t (places None) → m ≡ record w { threads = record w.threads { queues = m.threads.queues } } → Touches m.threads v.threads t (λ k. places (Some queue.Ready) (changes (change.State state.Ready) k)) → SameThreads m.threads v.threads → v.scheduler.running ≡ m.scheduler.running → IsSound v.threads → Whole v
+pub make_ready_whole : {P S H : Type 0} (w m v : WorldOf P S H) (t : ℕ) (q : Queue) → Whole w → IsKnown w.threads t → IsBefore q → IsIn q w.threads t → Touches w.threads m.threads t (view_placed None) → m ≡ record w { threads = record w.threads { queues = m.threads.queues } } → Touches m.threads v.threads t (λ k. view_placed (Some queue.Ready) (view_changed (change.State state.Ready) k)) → SameThreads m.threads v.threads → v.scheduler.running ≡ m.scheduler.running → IsSound v.threads → Whole v
 make_ready_whole w m v t q whole known b stands left same entered kept runs sound =
     let slot = known_slot (slot_of w.threads.records t) known in
     let all = queues_alone w m same in
     let running : v.scheduler.running ≡ w.scheduler.running = runs ∙ ap (λ (k : WorldOf _ _ _). k.scheduler.running) same in
-    let touches = two_touches w.threads m.threads v.threads t (places None) (λ k. places (Some queue.Ready) (changes (change.State state.Ready) k)) all left entered in
+    let touches = two_touches w.threads m.threads v.threads t (view_placed None) (λ k. view_placed (Some queue.Ready) (view_changed (change.State state.Ready) k)) all left entered in
     whole_from w v t slot.0 _ whole slot.1 touches
     (fits_same w.scheduler.running v.scheduler.running _ running (readied_fits w.scheduler.running q (view w.threads slot.0) b (is_in w q t slot.0 stands slot.1) (whole.fits slot.0)))
     (λ i apart f. fits_same w.scheduler.running v.scheduler.running (view w.threads i) running f)
@@ -197,14 +197,14 @@ module _ {P S H : Type 0} (w v : WorldOf P S H) (t : ℕ) (whole : Whole w) (is 
   own_fits : FitsEntry (Some t) (view w.threads slot_t.0).entry None (view w.threads slot_t.0).blocked
   own_fits = subst (λ (p : Option Queue). FitsEntry (Some t) (view w.threads slot_t.0).entry p (view w.threads slot_t.0).blocked) runs_t.nowhere (subst (λ (r : Option ℕ). Fits r (view w.threads slot_t.0)) is (whole.fits slot_t.0))
 
-  pub back_whole : Touches w.threads v.threads t (λ k. places (Some queue.Ready) (changes (change.State state.Ready) k)) → Whole v
+  pub back_whole : Touches w.threads v.threads t (λ k. view_placed (Some queue.Ready) (view_changed (change.State state.Ready) k)) → Whole v
   back_whole touches = whole_from w v t slot_t.0 _ whole slot_t.1 touches (fits_same None v.scheduler.running _ rests (back_by t runs_t.entry (view w.threads slot_t.0).entry (view w.threads slot_t.0).blocked runs_t.has runs_t.awake own_fits)) others_rest sound no_runner
 
-  pub waits_whole : Touches w.threads v.threads t (λ k. places (Some queue.Waiting) (changes (change.State state.Waiting) k)) → Whole v
+  pub waits_whole : Touches w.threads v.threads t (λ k. view_placed (Some queue.Waiting) (view_changed (change.State state.Waiting) k)) → Whole v
   waits_whole touches = whole_from w v t slot_t.0 _ whole slot_t.1 touches (fits_same None v.scheduler.running _ rests (waits_by t runs_t.entry (view w.threads slot_t.0).entry (view w.threads slot_t.0).blocked runs_t.has runs_t.awake own_fits)) others_rest sound no_runner
 
 -- a dispatch
-pub runs_whole : {P S H : Type 0} (w v : WorldOf P S H) (t n : ℕ) → Whole w → IsKnown w.threads t → IsIn queue.Ready w.threads t → w.scheduler.running ≡ None → v.scheduler.running ≡ Some t → IsSound v.threads → slot_of v.threads.records ≡ slot_of w.threads.records → Touches w.threads v.threads t (λ k. changes (change.Dispatches n) (changes (change.State state.Running) (places None k))) → Whole v
+pub runs_whole : {P S H : Type 0} (w v : WorldOf P S H) (t n : ℕ) → Whole w → IsKnown w.threads t → IsIn queue.Ready w.threads t → w.scheduler.running ≡ None → v.scheduler.running ≡ Some t → IsSound v.threads → slot_of v.threads.records ≡ slot_of w.threads.records → Touches w.threads v.threads t (λ k. view_changed (change.Dispatches n) (view_changed (change.State state.Running) (view_placed None k))) → Whole v
 unfolding tid_at
 runs_whole w v t n whole known stands nobody runs sound slots touches =
     let slot = known_slot (slot_of w.threads.records t) known in
@@ -239,14 +239,14 @@ blocked_entry r None p h k calls f = tt
 blocked_entry r (Some e) p h k calls f = record { placed = f.placed; runs = f.runs; named = f.named; awake = f.awake; calls = calls e refl }
 
 -- no call suspends it
-pub unblocked_fits : (r : Option ℕ) (v : View) → Fits r v → Fits r (blocks None v)
+pub unblocked_fits : (r : Option ℕ) (v : View) → Fits r v → Fits r (view_blocked None v)
 unblocked_fits r v f = blocked_entry r v.entry v.place v.blocked None (λ e is. tt) f
 
 tid_of_some : (o : Option Entry) (e : Entry) → o ≡ Some e → tid_of o ≡ e.tid.0
 tid_of_some o e is = ap tid_of is
 
 -- a call that may suspend it does
-pub blocked_fits : {P S H : Type 0} (w : WorldOf P S H) (t u : ℕ) → IsSound w.threads → slot_of w.threads.records t ≡ Some u → (h : Blocked) → MayBlock t h → (r : Option ℕ) → Fits r (view w.threads u) → Fits r (blocks (Some h) (view w.threads u))
+pub blocked_fits : {P S H : Type 0} (w : WorldOf P S H) (t u : ℕ) → IsSound w.threads → slot_of w.threads.records t ≡ Some u → (h : Blocked) → MayBlock t h → (r : Option ℕ) → Fits r (view w.threads u) → Fits r (view_blocked (Some h) (view w.threads u))
 unfolding tid_at
 blocked_fits w t u sound e h may r f = blocked_entry r (entry_at w.threads.records u) _ _ (Some h) (λ d is. subst (λ (n : ℕ). MayBlock n h) (sym (name_is w.threads t u sound e) ∙ tid_of_some (entry_at w.threads.records u) d is) may) f
 
@@ -294,7 +294,7 @@ module _ {P S H : Type 0} (w v : WorldOf P S H) (t u : ℕ) (whole : Whole w) (e
   unfolding tid_at
   others_stop i apart f = fits_same (other_than t w.scheduler.running) v.scheduler.running (view w.threads i) rests (stopped_fits w.scheduler.running t (entry_at w.threads.records i) _ _ apart f)
 
-  pub dead_whole : (n : ℤ) (sound : IsSound v.threads) → slot_of v.threads.records ≡ slot_of w.threads.records → Touches w.threads v.threads t (λ k. places (Some queue.Dead) (changes (change.Value n) (changes (change.Suspended false) (changes (change.State state.Dead) (places None k))))) → Whole v
+  pub dead_whole : (n : ℤ) (sound : IsSound v.threads) → slot_of v.threads.records ≡ slot_of w.threads.records → Touches w.threads v.threads t (λ k. view_placed (Some queue.Dead) (view_changed (change.Value n) (view_changed (change.Suspended false) (view_changed (change.State state.Dead) (view_placed None k))))) → Whole v
   unfolding tid_at
   dead_whole n sound slots touches =
       whole_from w v t u _ whole e touches
@@ -303,7 +303,7 @@ module _ {P S H : Type 0} (w v : WorldOf P S H) (t u : ℕ) (whole : Whole w) (e
       (subst (λ (o : Option ℕ). IfSome o (IsKnown v.threads)) (sym rests) (stopped_runner w.threads v.threads w.scheduler.running t (λ x apart known. rw slots known) whole.runner))
 
   -- t is gone
-  module _ (others : (i : ℕ) → tid_at w.threads.records i ≢ t → view v.threads i ≡ view w.threads i) (gone : Removes w.threads.records v.threads.records u) where
+  module _ (others : (i : ℕ) → tid_at w.threads.records i ≢ t → view v.threads i ≡ view w.threads i) (gone : RemovesThread w.threads.records v.threads.records u) where
     none_at : entry_at v.threads.records u ≡ None
     none_at = ap (λ (k : ℕ → Option Entry). k u) gone.entries ∙ put_here (entry_at w.threads.records) u None
 
@@ -334,10 +334,10 @@ unfolding changed
 moved_by r q b None p h may f = tt
 moved_by r q b (Some e) p h may f = record { placed = may.0; runs = f.runs; named = f.named; awake = λ is. may.1; calls = f.calls }
 
-pub moved_whole : {P S H : Type 0} (w v : WorldOf P S H) (t u : ℕ) (q : Queue) (b : Bool) → Whole w → slot_of w.threads.records t ≡ Some u → IfSome (entry_in w.threads t) (λ e. MayStandIn q b e.state) → Touches w.threads v.threads t (λ k. places (Some q) (changes (change.Suspended b) (places None k))) → slot_of v.threads.records ≡ slot_of w.threads.records → v.scheduler.running ≡ w.scheduler.running → IsSound v.threads → Whole v
+pub moved_whole : {P S H : Type 0} (w v : WorldOf P S H) (t u : ℕ) (q : Queue) (b : Bool) → Whole w → slot_of w.threads.records t ≡ Some u → IfSome (entry_in w.threads t) (λ e. MayStandIn q b e.state) → Touches w.threads v.threads t (λ k. view_placed (Some q) (view_changed (change.Suspended b) (view_placed None k))) → slot_of v.threads.records ≡ slot_of w.threads.records → v.scheduler.running ≡ w.scheduler.running → IsSound v.threads → Whole v
 moved_whole w v t u q b whole e may touches slots running sound =
     let there = subst (λ (o : Option Entry). IfSome o (λ d. MayStandIn q b d.state)) (seen_at None (slot_of w.threads.records) (entry_at w.threads.records) t u e) may in
-    progress_whole w v t u (λ k. places (Some q) (changes (change.Suspended b) (places None k))) whole e touches sound slots running
+    progress_whole w v t u (λ k. view_placed (Some q) (view_changed (change.Suspended b) (view_placed None k))) whole e touches sound slots running
     (λ r f. moved_by r q b (entry_at w.threads.records u) _ _ there f)
 
 -- who is suspended may stand where its state says
@@ -448,7 +448,7 @@ can_suspend w t e whole runs known is may =
 -- ---- all but one thread
 
 -- t is gone, and does not run
-pub gone_but : {P S H : Type 0} (w v : WorldOf P S H) (t u : ℕ) → slot_of w.threads.records t ≡ Some u → ((i : ℕ) → tid_at w.threads.records i ≢ t → view v.threads i ≡ view w.threads i) → Removes w.threads.records v.threads.records u → IsSound v.threads → v.scheduler.running ≡ w.scheduler.running → w.scheduler.running ≢ Some t → WholeBut w t → WholeBut v t
+pub gone_but : {P S H : Type 0} (w v : WorldOf P S H) (t u : ℕ) → slot_of w.threads.records t ≡ Some u → ((i : ℕ) → tid_at w.threads.records i ≢ t → view v.threads i ≡ view w.threads i) → RemovesThread w.threads.records v.threads.records u → IsSound v.threads → v.scheduler.running ≡ w.scheduler.running → w.scheduler.running ≢ Some t → WholeBut w t → WholeBut v t
 gone_but w v t u e others gone sound running rests but = record {
   sound = sound;
   fits = λ i apart. fits_by i (tid_at w.threads.records i == t) refl;

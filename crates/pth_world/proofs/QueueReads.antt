@@ -16,12 +16,12 @@ use Rattle.pth_queue.proofs.Names.{head_named, last_named, after_named, place_na
 use Rattle.pth_queue.proofs.Counts.{count-cons, holds-count, holds-none}
 use Rattle.pth_queue.proofs.Sets.{count-head, once_in}
 use Rattle.pth_queue.proofs.Standing.{last_of-None}
-use Rattle.pth_threads.specs.Threads.{slot_of, tid_at}
+use Rattle.pth_threads.specs.Threads.{slot_of, tid_at, number_of}
 use Rattle.pth_model.specs.Part.{rank_by}
 use Rattle.pth_model.specs.State.{Control, queue}
 use Rattle.pth_model.specs.Changes.{holders}
 use Rattle.pth_model.specs.ThreadEnds.{only, is_alone}
-use Rattle.pth_world.specs.World.{ThreadsBySlot, number_of}
+use Rattle.pth_world.specs.World.{ThreadsBySlot}
 use Rattle.pth_world.specs.Shows.{ShowsThreads}
 use Rattle.pth_world.specs.Sound.{IsSound}
 use Rattle.pth_world.proofs.Places.{unused-holds}

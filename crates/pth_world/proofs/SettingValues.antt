@@ -22,7 +22,7 @@ use Rattle.pth_world.specs.Frame.{Frame}
 use Rattle.pth_world.specs.Numbering.{GivesAtMost}
 use Rattle.pth_world.specs.Shows.{Shows, ShowsThreads, ShowsAttributes}
 use Rattle.pth_world.specs.Sound.{IsSound, KeepsAttributes}
-use Rattle.pth_world.specs.Touches.{changes}
+use Rattle.pth_world.specs.Touches.{view_changed}
 use Rattle.pth_world.specs.Whole.{Whole, FitsEntry, Fits, view}
 use Rattle.pth_world.specs.World.{WorldOf, ThreadsBySlot}
 use Rattle.pth_world.proofs.Moves.{progress_whole}
@@ -122,7 +122,7 @@ module _ {P S H : Type 0} (w : WorldOf P S H) (x : AttrsOf) (r : ThreadsOf) (a :
       let set = s.1 in
       let sound = change_sound w.threads whole.sound t.0 set.slot set.found r set.change (keeps_attributes set.change set.keeps) set.changes in
       let fits = λ (q : Option ℕ) (f : Fits q (view w.threads set.slot)). set_fits v set.change set.meant q (view w.threads set.slot).entry (view w.threads set.slot).place (view w.threads set.slot).blocked f in
-      progress_whole w after t.0 set.slot (changes set.change) whole set.found (change_touches w.threads whole.sound t.0 set.slot set.found r set.change set.changes) sound set.changes.slots refl fits
+      progress_whole w after t.0 set.slot (view_changed set.change) whole set.found (change_touches w.threads whole.sound t.0 set.slot set.found r set.change set.changes) sound set.changes.slots refl fits
 
   pub set_frame : (o : Option Attribute) → is_none o ≡ false → Sets w.attributes x w.threads.records r (number a) v o → Whole w → Frame w after 0 w.scheduler.running false
   set_frame o some s whole = record {

@@ -14,7 +14,7 @@ use Rattle.pth_queue.specs.declared.queue.Queue.TheVariants as queue
 use Rattle.pth_queue.specs.Ranking.{named_row, insert, delete, increase}
 use Rattle.pth_queue.specs.Queues.{QueuesOf, rows_of, with_rows, without, entered, IsNowhere}
 use Rattle.pth_queue.proofs.Names.{insert_named, delete_named, increase_named, named_added, named_dropped}
-use Rattle.pth_threads.specs.Threads.{ThreadsOf, slot_of, tid_at, entry_at, count, made_of, Changes, Adds, Removes}
+use Rattle.pth_threads.specs.Threads.{ThreadsOf, slot_of, tid_at, entry_at, count, made_of, ChangesThread, AddsThread, RemovesThread}
 use Rattle.pth_threads.specs.declared.entry.Change.{Change}
 use Rattle.pth_threads.specs.declared.entry.Entry.{Entry}
 use Rattle.pth_threads.specs.declared.entry.NewThread.{NewThread}
@@ -55,7 +55,7 @@ module _ {P S H : Type 0} (w : ThreadsBySlot S) (k : Control P S H) where
 
   module _ (t u : ℕ) (sound : IsSound w) (e : slot_of w.records t ≡ Some u) (sh : ShowsThreads w k.threads) where
     -- one field of a record
-    pub change_shows : (x : ThreadsOf) (c : Change) → Changes w.records x u c → ShowsThreads (record w { records = x }) (sets t c k).threads
+    pub change_shows : (x : ThreadsOf) (c : Change) → ChangesThread w.records x u c → ShowsThreads (record w { records = x }) (sets t c k).threads
     unfolding sets
     change_shows x c ch = record {
       made = sh.made ∙ sym ch.made;
@@ -118,7 +118,7 @@ module _ {P S H : Type 0} (w : ThreadsBySlot S) (k : Control P S H) where
     entry_is = ap (λ (p : ℕ → Option Entry). p t) sh.known ∙ seen_at None g (entry_at w.records) t u e
 
     -- the thread is gone, once it stands nowhere
-    pub drop_shows : (x : ThreadsOf) (y : List (Option (Progress S))) → IsNowhere u w.queues → Removes w.records x u → table None y ≡ put (table None w.progress) u None → ShowsThreads (record w { records = x; progress = y }) (forgets t k).threads
+    pub drop_shows : (x : ThreadsOf) (y : List (Option (Progress S))) → IsNowhere u w.queues → RemovesThread w.records x u → table None y ≡ put (table None w.progress) u None → ShowsThreads (record w { records = x; progress = y }) (forgets t k).threads
     unfolding forgets
     drop_shows x y nowhere gone none = record {
       made = sh.made ∙ sym gone.made;
@@ -153,7 +153,7 @@ module _ {P S H : Type 0} (w : ThreadsBySlot S) (k : Control P S H) where
   raise_shows y is sh = record { made = sh.made; known = sh.known; progress = sh.progress; standing = rw is (raise_rows sh) }
 
   -- a new thread
-  module _ (x : ThreadsOf) (y : List (Option (Progress S))) (u : ℕ) (of : NewThread) (sound : IsSound w) (adds : Adds w.records x u (made_of of (w.records.made + 1))) where
+  module _ (x : ThreadsOf) (y : List (Option (Progress S))) (u : ℕ) (of : NewThread) (sound : IsSound w) (adds : AddsThread w.records x u (made_of of (w.records.made + 1))) where
     pub add_shows : (h : P → Functions S H) (body : ℕ) (arg : ℤ) → table None y ≡ put (table None w.progress) u (Some (record { state = (h k.program).start body arg; owed = answer.None; blocked = None })) → ShowsThreads w k.threads → ShowsThreads (record w { records = x; progress = y }) (makes h body arg of k).threads
     unfolding makes made_of
     add_shows h body arg has sh = rw sh.made (record {

@@ -14,7 +14,7 @@ use Rattle.pth_queue.specs.Ranking.{IsQueued, increase}
 use Rattle.pth_queue.specs.Queues.{QueuesOf, rows_of, with_rows, without, entered, IsNowhere, IsRank, CanRise, IsOrderly}
 use Rattle.pth_queue.proofs.Names.{IsQueued-insert, IsQueued-delete, IsQueued-increase, IsQueued-added, IsQueued-dropped}
 use Rattle.pth_queue.proofs.Sets.{IsOrderly-entered, IsOrderly-increased}
-use Rattle.pth_threads.specs.Threads.{ThreadsOf, slot_of, tid_at, entry_at, tid_of, count, changed, made_of, Changes, Adds, Removes}
+use Rattle.pth_threads.specs.Threads.{ThreadsOf, slot_of, tid_at, entry_at, tid_of, count, changed, made_of, ChangesThread, AddsThread, RemovesThread}
 use Rattle.pth_threads.specs.declared.entry.Change.{Change}
 use Rattle.pth_threads.specs.declared.entry.Change.TheVariants as change
 use Rattle.pth_threads.specs.declared.entry.Entry.{Entry}
@@ -95,7 +95,7 @@ module _ {S : Type 0} (w : ThreadsBySlot S) (sound : IsSound w) where
   f = tid_at w.records
 
   module _ (t u : ℕ) (e : slot_of w.records t ≡ Some u) where
-    pub change_sound : (x : ThreadsOf) (c : Change) → KeepsAttributes c → Changes w.records x u c → IsSound (record w { records = x })
+    pub change_sound : (x : ThreadsOf) (c : Change) → KeepsAttributes c → ChangesThread w.records x u c → IsSound (record w { records = x })
     change_sound x c keeps ch = record {
       tied = rw (ch.slots, ch.tids) sound.tied;
       fresh = rw (ch.slots, ch.made) sound.fresh;
@@ -145,7 +145,7 @@ module _ {S : Type 0} (w : ThreadsBySlot S) (sound : IsSound w) where
     most : t ≤ w.records.made
     most = elim (cases_lt w.records.made t) [ inl above ↦ absurd (none_some (sym (sound.fresh t above) ∙ e)) | inr low ↦ low ]
 
-    pub drop_sound : (x : ThreadsOf) (y : List (Option (Progress S))) → IsNowhere u w.queues → Removes w.records x u → table None y ≡ put (table None w.progress) u None → length y ≡ thread_limit → IsSound (record w { records = x; progress = y })
+    pub drop_sound : (x : ThreadsOf) (y : List (Option (Progress S))) → IsNowhere u w.queues → RemovesThread w.records x u → table None y ≡ put (table None w.progress) u None → length y ≡ thread_limit → IsSound (record w { records = x; progress = y })
     drop_sound x y nowhere gone none long = record {
       tied = gone.tied;
       fresh = λ v above. rw gone.slots (let Q : Option ℕ → Type 0 = λ o. o ≡ None in put_by Q (slot_of w.records) (tid_at w.records u) None v (λ same. refl) (λ apart. sound.fresh v (subst (λ (n : ℕ). n < v) gone.made above)));
@@ -173,7 +173,7 @@ module _ {S : Type 0} (w : ThreadsBySlot S) (sound : IsSound w) where
   pub raise_sound : (y : QueuesOf) → CanRise w.queues.ready → y ≡ with_rows queue.Ready (increase w.queues.ready) w.queues → IsSound (record w { queues = y })
   raise_sound y rise is = rw is (record { tied = sound.tied; fresh = sound.fresh; empty = sound.empty; bare = sound.bare; recorded = sound.recorded; queued = λ p. rows_kept (IsQueued f) queue.Ready p _ w.queues (IsQueued-increase f w.queues.ready (sound.queued queue.Ready)) sound.queued; room = sound.room; orderly = IsOrderly-increased queue.Ready w.queues sound.orderly rise; long = sound.long; attributes = sound.attributes; present = sound.present })
 
-  pub add_sound : (x : ThreadsOf) (y : List (Option (Progress S))) (u : ℕ) (of : NewThread) (c : Progress S) → IsPrio of.prio → IsCancel of.cancel → Adds w.records x u (made_of of (w.records.made + 1)) → table None y ≡ put (table None w.progress) u (Some c) → length y ≡ thread_limit → IsSound (record w { records = x; progress = y })
+  pub add_sound : (x : ThreadsOf) (y : List (Option (Progress S))) (u : ℕ) (of : NewThread) (c : Progress S) → IsPrio of.prio → IsCancel of.cancel → AddsThread w.records x u (made_of of (w.records.made + 1)) → table None y ≡ put (table None w.progress) u (Some c) → length y ≡ thread_limit → IsSound (record w { records = x; progress = y })
   unfolding made_of
   add_sound x y u of c prio cancel adds has long = record {
     tied = adds.tied;

@@ -12,7 +12,7 @@ use Rattle.pth_queue.specs.Ranking.{holds, delete, named_row}
 use Rattle.pth_queue.specs.Queues.{QueuesOf, rows_of, queue_of, without}
 use Rattle.pth_queue.proofs.Counts.{count-present, length-delete}
 use Rattle.pth_queue.proofs.Sets.{holds-queue_of}
-use Rattle.pth_threads.specs.Threads.{slot_of, tid_at, tid_of, entry_at, Removes}
+use Rattle.pth_threads.specs.Threads.{slot_of, tid_at, tid_of, entry_at, RemovesThread}
 use Rattle.pth_threads.specs.declared.entry.Entry.{Entry}
 use Rattle.pth_model.specs.declared.blocked.Blocked.{Blocked}
 use Rattle.pth_model.specs.declared.progress.Progress.{Progress}
@@ -95,9 +95,9 @@ module _ {P S H : Type 0} (w v : WorldOf P S H) (u : ℕ) (q : Queue) (whole : W
       let both : Some q ≡ None = sym place ∙ nowhere in
       cc
 
-  module _ (sound : IsSound v.threads) (others : (i : ℕ) → tid_at w.threads.records i ≢ u → view v.threads i ≡ view w.threads i) (threads : IfSome (slot_of w.threads.records u) (λ s. Removes w.threads.records v.threads.records s)) (shows : (k : Control P S H) → Shows w k → Shows v (removes u k)) (same : v ≡ record w { threads = v.threads }) where
-    gone : Removes w.threads.records v.threads.records slot.0
-    gone = subst (λ (o : Option ℕ). IfSome o (λ s. Removes w.threads.records v.threads.records s)) slot.1 threads
+  module _ (sound : IsSound v.threads) (others : (i : ℕ) → tid_at w.threads.records i ≢ u → view v.threads i ≡ view w.threads i) (threads : IfSome (slot_of w.threads.records u) (λ s. RemovesThread w.threads.records v.threads.records s)) (shows : (k : Control P S H) → Shows w k → Shows v (removes u k)) (same : v ≡ record w { threads = v.threads }) where
+    gone : RemovesThread w.threads.records v.threads.records slot.0
+    gone = subst (λ (o : Option ℕ). IfSome o (λ s. RemovesThread w.threads.records v.threads.records s)) slot.1 threads
 
     runs : v.scheduler.running ≡ other_than u w.scheduler.running
     runs = ap (λ (k : WorldOf P S H). k.scheduler.running) same ∙ sym (stays u w.scheduler.running other)

@@ -7,7 +7,7 @@ use Rattle.pth_queue.specs.declared.queue.Queue.{Queue}
 use Rattle.pth_queue.specs.declared.queue.Queue.TheVariants as queue
 use Rattle.pth_queue.specs.Ranking.{increase}
 use Rattle.pth_queue.specs.Queues.{QueuesOf, queue_of, with_rows, without, entered, IsNowhere}
-use Rattle.pth_threads.specs.Threads.{ThreadsOf, slot_of, entry_at, Changes, Removes}
+use Rattle.pth_threads.specs.Threads.{ThreadsOf, slot_of, entry_at, ChangesThread, RemovesThread}
 use Rattle.pth_threads.specs.declared.entry.Change.{Change}
 use Rattle.pth_threads.specs.declared.entry.Entry.{Entry}
 use Rattle.pth_model.specs.declared.progress.Progress.{Progress}
@@ -16,7 +16,7 @@ use Rattle.pth_model.specs.Changes.{blocked_in, owing, blocking}
 use Rattle.pth_world.specs.World.{ThreadsBySlot}
 use Rattle.pth_world.specs.Sound.{IsSound}
 use Rattle.pth_world.specs.Whole.{View, view}
-use Rattle.pth_world.specs.Touches.{Touches, changes, places, blocks, same_view}
+use Rattle.pth_world.specs.Touches.{Touches, view_changed, view_placed, view_blocked, same_view}
 use Rattle.pth_world.proofs.Slots.{used, other_slot, some_is}
 use Rattle.pth_world.proofs.Places.{queue-entered, queue-entered_other, queue-without, queue-without_other, queue-raised}
 
@@ -36,9 +36,9 @@ module _ {S : Type 0} (w : ThreadsBySlot S) (sound : IsSound w) (t u : ℕ) (e :
   view_by : (a : Option Entry) (b : Option Queue) (c : Option Blocked) (x : View) → a ≡ x.entry → b ≡ x.place → c ≡ x.blocked → record { entry = a; place = b; blocked = c } ≡ x
   view_by a b c x p q r = rw (p, q, r) refl
 
-  pub change_touches : (x : ThreadsOf) (c : Change) → Changes w.records x u c → Touches w (record w { records = x }) t (changes c)
+  pub change_touches : (x : ThreadsOf) (c : Change) → ChangesThread w.records x u c → Touches w (record w { records = x }) t (view_changed c)
   change_touches x c ch = record {
-    own = at_slot (λ v. view (record w { records = x }) v ≡ changes c (view w v)) (view_by _ _ _ (changes c (view w u)) (ap (λ (k : ℕ → Option Entry). k u) ch.entries ∙ put_here (entry_at w.records) u _) refl refl);
+    own = at_slot (λ v. view (record w { records = x }) v ≡ view_changed c (view w v)) (view_by _ _ _ (view_changed c (view w u)) (ap (λ (k : ℕ → Option Entry). k u) ch.entries ∙ put_here (entry_at w.records) u _) refl refl);
     others = λ v apart. view_by _ _ _ (view w v) (ap (λ (k : ℕ → Option Entry). k v) ch.entries ∙ put_other (entry_at w.records) u _ v (other_slot w t u sound e v apart)) refl refl;
   }
 
@@ -51,23 +51,23 @@ module _ {S : Type 0} (w : ThreadsBySlot S) (sound : IsSound w) (t u : ℕ) (e :
   pub owed_touches : (y : List (Option (Progress S))) (a : Answer) → table None y ≡ put (table None w.progress) u (option_map (owing a) (table None w.progress u)) → Touches w (record w { progress = y }) t same_view
   owed_touches y a is = progress_touches y _ same_view is (ap (λ (h : Option Blocked). record (view w u) { blocked = h }) (blocked_owed a (table None w.progress u)))
 
-  pub blocked_touches : (y : List (Option (Progress S))) (h : Option Blocked) → table None y ≡ put (table None w.progress) u (option_map (blocking h) (table None w.progress u)) → Touches w (record w { progress = y }) t (blocks h)
-  blocked_touches y h is = progress_touches y _ (blocks h) is (ap (λ (k : Option Blocked). record (view w u) { blocked = k }) (blocked_blocking h (table None w.progress u) (sound.recorded u (used w t u sound e))))
+  pub blocked_touches : (y : List (Option (Progress S))) (h : Option Blocked) → table None y ≡ put (table None w.progress) u (option_map (blocking h) (table None w.progress u)) → Touches w (record w { progress = y }) t (view_blocked h)
+  blocked_touches y h is = progress_touches y _ (view_blocked h) is (ap (λ (k : Option Blocked). record (view w u) { blocked = k }) (blocked_blocking h (table None w.progress u) (sound.recorded u (used w t u sound e))))
 
   pub called_touches : (y : List (Option (Progress S))) (c d : Progress S) → table None w.progress u ≡ Some c → d.blocked ≡ c.blocked → table None y ≡ put (table None w.progress) u (Some d) → Touches w (record w { progress = y }) t same_view
   called_touches y c d had same is =
       let a = progress_touches y (Some d) same_view is (ap (λ (h : Option Blocked). record (view w u) { blocked = h }) (same ∙ ap blocked_in (sym had))) in
       record { own = a.own; others = a.others }
 
-  pub enter_touches : (y : QueuesOf) (q : Queue) (rank : ℤ) → IsNowhere u w.queues → y ≡ entered q rank u w.queues → Touches w (record w { queues = y }) t (places (Some q))
+  pub enter_touches : (y : QueuesOf) (q : Queue) (rank : ℤ) → IsNowhere u w.queues → y ≡ entered q rank u w.queues → Touches w (record w { queues = y }) t (view_placed (Some q))
   enter_touches y q rank none is = record {
-    own = at_slot (λ v. view (record w { queues = y }) v ≡ places (Some q) (view w v)) (view_by _ _ _ (places (Some q) (view w u)) refl (ap (queue_of u) is ∙ queue-entered u rank w.queues q none) refl);
+    own = at_slot (λ v. view (record w { queues = y }) v ≡ view_placed (Some q) (view w v)) (view_by _ _ _ (view_placed (Some q) (view w u)) refl (ap (queue_of u) is ∙ queue-entered u rank w.queues q none) refl);
     others = λ v apart. view_by _ _ _ (view w v) refl (ap (queue_of v) is ∙ queue-entered_other u rank w.queues v q (other_slot w t u sound e v apart)) refl;
   }
 
-  pub leave_touches : (y : QueuesOf) → y ≡ without u w.queues → Touches w (record w { queues = y }) t (places None)
+  pub leave_touches : (y : QueuesOf) → y ≡ without u w.queues → Touches w (record w { queues = y }) t (view_placed None)
   leave_touches y is = record {
-    own = at_slot (λ v. view (record w { queues = y }) v ≡ places None (view w v)) (view_by _ _ _ (places None (view w u)) refl (ap (queue_of u) is ∙ queue-without u w.queues) refl);
+    own = at_slot (λ v. view (record w { queues = y }) v ≡ view_placed None (view w v)) (view_by _ _ _ (view_placed None (view w u)) refl (ap (queue_of u) is ∙ queue-without u w.queues) refl);
     others = λ v apart. view_by _ _ _ (view w v) refl (ap (queue_of v) is ∙ queue-without_other u v w.queues (other_slot w t u sound e v apart)) refl;
   }
 
@@ -76,7 +76,7 @@ pub raise_views : {S : Type 0} (w : ThreadsBySlot S) (y : QueuesOf) → y ≡ wi
 raise_views w y is u = ap (λ (q : Option Queue). record (view w u) { place = q }) (ap (queue_of u) is ∙ queue-raised u w.queues)
 
 -- a thread that is gone leaves the others as they were
-pub drop_views : {S : Type 0} (w : ThreadsBySlot S) (x : ThreadsOf) (y : List (Option (Progress S))) (u : ℕ) → Removes w.records x u → table None y ≡ put (table None w.progress) u None → (i : ℕ) → i ≢ u → view (record w { records = x; progress = y }) i ≡ view w i
+pub drop_views : {S : Type 0} (w : ThreadsBySlot S) (x : ThreadsOf) (y : List (Option (Progress S))) (u : ℕ) → RemovesThread w.records x u → table None y ≡ put (table None w.progress) u None → (i : ℕ) → i ≢ u → view (record w { records = x; progress = y }) i ≡ view w i
 drop_views {S = S} w x y u gone none i apart =
     let entry : entry_at x i ≡ entry_at w.records i = ap (λ (k : ℕ → Option Entry). k i) gone.entries ∙ put_other (entry_at w.records) u None i apart in
     let held : blocked_in (table None y i) ≡ blocked_in (table None w.progress i) = ap blocked_in (ap (λ (k : ℕ → Option (Progress S)). k i) none ∙ put_other (table None w.progress) u None i apart) in

@@ -11,8 +11,8 @@ use Rattle.pth_queue.specs.Queues.{queue_of, rows_of, after_of, entered, without
 use Rattle.pth_queue.proofs.Counts.{count-cons, count-present}
 use Rattle.pth_queue.proofs.Names.{after_named}
 use Rattle.pth_queue.proofs.Sets.{count-head}
-use Rattle.pth_threads.specs.Threads.{slot_of, tid_at}
-use Rattle.pth_world.specs.World.{ThreadsBySlot, number_of}
+use Rattle.pth_threads.specs.Threads.{slot_of, tid_at, number_of}
+use Rattle.pth_world.specs.World.{ThreadsBySlot}
 use Rattle.pth_world.specs.Sound.{IsSound, IsKnown}
 use Rattle.pth_world.specs.Whole.{IsIn}
 use Rattle.pth_world.specs.Touches.{SameThreads}

@@ -25,8 +25,8 @@ with_kept Suspended x all = record all { suspended = x }
 with_kept Dead x all = record all { dead = x }
 
 -- the lengths are those of the queues
-abbrev pub Counts : QueuesOf → PerQueue ℕ → Type 0
-Counts queues lengths = (q : Queue) → kept_of q lengths ≡ length (rows_of q queues)
+abbrev pub AreCounted : QueuesOf → PerQueue ℕ → Type 0
+AreCounted queues lengths = (q : Queue) → kept_of q lengths ≡ length (rows_of q queues)
 
 -- two numbers of which the last 64 bits are the same
 abbrev pub AreAlike : ℤ → ℤ → Type 0
@@ -40,7 +40,7 @@ abbrev pub Tells : QueuesOf → PerQueue ℤ → List ℤ → Type 0
 Tells queues raises heights = (q : Queue) → All (IsTold heights (kept_of q raises)) (rows_of q queues)
 
 pub record IsCounted (queues : QueuesOf) (lengths : PerQueue ℕ) (raises : PerQueue ℤ) (heights : List ℤ) : Type 0 where
-  pub counts : Counts queues lengths
+  pub counts : AreCounted queues lengths
   -- each slot that may be used has a height
   pub room : queues.room ≤ length heights
   pub tells : Tells queues raises heights

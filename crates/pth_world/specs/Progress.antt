@@ -13,7 +13,7 @@ abbrev pub awaits_at : {S : Type 0} → Option (Progress S) → Awaits
 awaits_at o = awaits_in (blocked_in o)
 
 -- There is a place for each slot, and beside it stands what the thread there waits for.
-pub record IsKept {S : Type 0} (items : List (Option (Progress S))) (awaits : List Awaits) : Type 0 where
+pub record IsKeptBeside {S : Type 0} (items : List (Option (Progress S))) (awaits : List Awaits) : Type 0 where
   pub long : length items ≡ thread_limit
   pub beside : length awaits ≡ thread_limit
   pub same : (u : ℕ) → table Nothing awaits u ≡ awaits_at (table None items u)

@@ -13,14 +13,14 @@ pub record Touches {S : Type 0} (old new : ThreadsBySlot S) (t : ℕ) (change : 
   pub others : (u : ℕ) → tid_at old.records u ≢ t → view new u ≡ view old u
 
 -- the changes: a field of the record is set, the thread stands in another queue or in none, or another call blocks it
-abbrev pub changes : Change → View → View
-changes c v = record v { entry = option_map (changed c) v.entry }
+abbrev pub view_changed : Change → View → View
+view_changed c v = record v { entry = option_map (changed c) v.entry }
 
-abbrev pub places : Option Queue → View → View
-places q v = record v { place = q }
+abbrev pub view_placed : Option Queue → View → View
+view_placed q v = record v { place = q }
 
-abbrev pub blocks : Option Blocked → View → View
-blocks b v = record v { blocked = b }
+abbrev pub view_blocked : Option Blocked → View → View
+view_blocked b v = record v { blocked = b }
 
 abbrev pub same_view : View → View
 same_view v = v

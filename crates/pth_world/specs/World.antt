@@ -2,17 +2,12 @@
 use Rattle.std.specs.Prelude.{ℕ, List, [], Option, None}
 use Rattle.pth_base.specs.Naming.{seen}
 use Rattle.pth_base.specs.Program.{Functions}
-use Rattle.pth_base.specs.declared.ids.Tid.{Tid}
 use Rattle.pth_threads.specs.Attributes.{AttrsOf}
 use Rattle.pth_threads.specs.Threads.{ThreadsOf, slot_of, entry_at}
 use Rattle.pth_threads.specs.declared.entry.Entry.{Entry}
 use Rattle.pth_queue.specs.Queues.{QueuesOf}
 use Rattle.pth_model.specs.declared.progress.Progress.{Progress}
 use Rattle.pth_model.specs.State.{Control, Scheduler, Given, start}
-
--- the number of a thread
-abbrev pub number_of : Tid → ℕ
-number_of t = t.0
 
 -- the threads by slot: their records, where they stand, and how far each is in its program
 pub record ThreadsBySlot (S : Type 0) : Type 0 where

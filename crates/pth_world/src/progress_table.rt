@@ -34,13 +34,13 @@ pub struct ProgressTable<S> {
 impl<S> Model for ProgressTable<S> {
     ghost use Rattle.std.specs.Prelude.{List, Option};
     ghost use Rattle.pth_model.specs.declared.progress.Progress.{Progress};
-    ghost use Rattle.pth_world.specs.Progress.{IsKept};
+    ghost use Rattle.pth_world.specs.Progress.{IsKeptBeside};
 
     ghost Value = { List (Option (Progress S)) };
 
     ghost view = { λ a. a.items.items };
 
-    ghost invariant = { λ a. IsKept a.items.items a.awaits.items };
+    ghost invariant = { λ a. IsKeptBeside a.items.items a.awaits.items };
 }
 
 impl<S: Drop> ProgressTable<S> {

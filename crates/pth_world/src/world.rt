@@ -53,7 +53,8 @@ pub struct World<P: Program> {
 
 impl<P: Program> Model for World<P> {
     ghost use Rattle.std.specs.Prelude.{option_map};
-    ghost use Rattle.pth_world.specs.World.{WorldOf, number_of};
+    ghost use Rattle.pth_threads.specs.Threads.{number_of};
+    ghost use Rattle.pth_world.specs.World.{WorldOf};
 
     ghost Value = { WorldOf P P.State P.Shared };
 
@@ -73,7 +74,7 @@ impl<P: Program> Model for World<P> {
 }
 
 impl<P: Program> World<P> {
-    ghost use Rattle.pth_world.specs.World.{number_of};
+    ghost use Rattle.pth_threads.specs.Threads.{number_of};
 
     /// The records of the threads.
     pub fn threads(&self) -> &Threads

@@ -5,7 +5,7 @@ ghost use Rattle.std.specs.Borrow.{Lends, sem};
 ghost use Rattle.pth_model.specs.AttributeHandling.{object, sets_value};
 ghost use Rattle.pth_model.specs.State.{Control};
 ghost use Rattle.pth_numbered.specs.Operands.{named};
-ghost use Rattle.pth_threads.specs.Attributes.{object_of, of_answer, set_answer, Answers, Makes};
+ghost use Rattle.pth_threads.specs.Attributes.{object_of, of_answer, set_answer, Answers, MakesObject};
 ghost use Rattle.pth_threads.specs.contracts.attrs.Attrs.{the_row as attrs_row};
 ghost use Rattle.pth_threads.specs.declared.attribute.Attribute.TheVariants.{Bound};
 ghost use Rattle.pth_world.specs.Frame.{Frame};
@@ -43,7 +43,7 @@ impl<P: Program> World<P> {
     pub fn attr_of(&mut self, t: Tid) -> Result<AttrId, Refusal>
         requires { self.old.attributes.made < 4294967295 }
         ensures answer { Answers (of_answer (entry_in self.old.threads t.0) (object_of self.old.attributes) self.old.attributes.made) result }
-        ensures makes { OnOk result (Makes self.old.attributes self.new.attributes (Bound t)) }
+        ensures makes { OnOk result (MakesObject self.old.attributes self.new.attributes (Bound t)) }
         ensures refused { OnErr result (self.new ≡ self.old) }
         ensures same { self.new ≡ record self.old { attributes = self.new.attributes } }
     {

@@ -10,7 +10,7 @@ ghost use Rattle.pth_model.specs.Changes.{enters, leaves_queue, raises_ready};
 ghost use Rattle.pth_world.specs.Shows.{Shows};
 ghost use Rattle.pth_world.specs.Sound.{IsSound, IsKnown};
 ghost use Rattle.pth_world.specs.Whole.{Whole, WholeBut, WaitsToRun, view};
-ghost use Rattle.pth_world.specs.Touches.{Touches, places};
+ghost use Rattle.pth_world.specs.Touches.{Touches, view_placed};
 
 use crate::world::World;
 use pth_base::ids::Tid;
@@ -26,7 +26,7 @@ impl<P: Program> World<P> {
         requires rank { IsRank rank }
         ensures shows { (k : Control P P.State P.Shared) (top : Bool) → Shows self.old k → Shows self.new (enters t.0 q rank top k) }
         ensures sound { IsSound self.new.threads }
-        ensures touches { Touches self.old.threads self.new.threads t.0 (places (Some q)) }
+        ensures touches { Touches self.old.threads self.new.threads t.0 (view_placed (Some q)) }
         ensures but { WholeBut self.old t.0 → WholeBut self.new t.0 }
         ensures queues { IfSome (slot_of self.old.threads.records t.0) (λ u. self.new.threads.queues ≡ entered q rank u self.old.threads.queues) }
         ensures same { self.new ≡ record self.old { threads = record self.old.threads { queues = self.new.threads.queues } } }
@@ -41,7 +41,7 @@ impl<P: Program> World<P> {
         requires known { IsKnown self.old.threads t.0 }
         ensures shows { (k : Control P P.State P.Shared) → Shows self.old k → Shows self.new (leaves_queue t.0 k) }
         ensures sound { IsSound self.new.threads }
-        ensures touches { Touches self.old.threads self.new.threads t.0 (places None) }
+        ensures touches { Touches self.old.threads self.new.threads t.0 (view_placed None) }
         ensures but { WholeBut self.old t.0 → WholeBut self.new t.0 }
         ensures queues { IfSome (slot_of self.old.threads.records t.0) (λ u. self.new.threads.queues ≡ without u self.old.threads.queues) }
         ensures same { self.new ≡ record self.old { threads = record self.old.threads { queues = self.new.threads.queues } } }

@@ -10,7 +10,7 @@ ghost use Rattle.pth_model.specs.Part.{step_of, stepping};
 ghost use Rattle.pth_world.specs.Shows.{Shows};
 ghost use Rattle.pth_world.specs.Sound.{IsSound, IsKnown};
 ghost use Rattle.pth_world.specs.Whole.{Whole, WholeBut, MayBlock};
-ghost use Rattle.pth_world.specs.Touches.{Touches, blocks, same_view};
+ghost use Rattle.pth_world.specs.Touches.{Touches, view_blocked, same_view};
 ghost use Rattle.pth_world.specs.StepsAt.{StepsAt};
 
 use crate::progress_table::step_at;
@@ -30,7 +30,7 @@ impl<P: Program> World<P> {
         requires known { IsKnown self.old.threads t.0 }
         ensures shows { (k : Control P P.State P.Shared) → Shows self.old k → Shows self.new (is_blocked_by t.0 (Some b) k) }
         ensures sound { IsSound self.new.threads }
-        ensures touches { Touches self.old.threads self.new.threads t.0 (blocks (Some b)) }
+        ensures touches { Touches self.old.threads self.new.threads t.0 (view_blocked (Some b)) }
         ensures but { WholeBut self.old t.0 → WholeBut self.new t.0 }
         ensures whole { Whole self.old → MayBlock t.0 b → Whole self.new }
         ensures same { self.new ≡ record self.old { threads = record self.old.threads { progress = self.new.threads.progress } } }
@@ -46,7 +46,7 @@ impl<P: Program> World<P> {
         ensures blocked { (k : Control P P.State P.Shared) → Shows self.old k → result ≡ blocked_of k t.0 }
         ensures shows { (k : Control P P.State P.Shared) → Shows self.old k → Shows self.new (is_blocked_by t.0 None k) }
         ensures sound { IsSound self.new.threads }
-        ensures touches { Touches self.old.threads self.new.threads t.0 (blocks None) }
+        ensures touches { Touches self.old.threads self.new.threads t.0 (view_blocked None) }
         ensures but { WholeBut self.old t.0 → WholeBut self.new t.0 }
         ensures whole { Whole self.old → Whole self.new }
         ensures same { self.new ≡ record self.old { threads = record self.old.threads { progress = self.new.threads.progress } } }

@@ -6,7 +6,7 @@ ghost use Rattle.pth_queue.specs.declared.queue.Queue.TheVariants as queue;
 ghost use Rattle.pth_queue.specs.Queues.{IsNowhere, IsRank, no_queues, entered, without};
 ghost use Rattle.pth_base.specs.declared.thread.ThreadState.TheVariants as state;
 ghost use Rattle.pth_threads.specs.declared.entry.Change.TheVariants as change;
-ghost use Rattle.pth_threads.specs.Threads.{slot_of, tid_at, count, IsCountable, IsSame, Removes};
+ghost use Rattle.pth_threads.specs.Threads.{slot_of, tid_at, count, IsCountable, IsSame, RemovesThread};
 ghost use Rattle.pth_model.specs.State.{Control, start, first_thread};
 ghost use Rattle.pth_model.specs.Changes.{sets, enters, removes};
 ghost use Rattle.pth_model.specs.ThreadControl.{spawns, has_room};
@@ -17,7 +17,7 @@ ghost use Rattle.pth_world.specs.Ranks.{KeepsRanks};
 ghost use Rattle.pth_world.specs.Shows.{Shows, StandsFor};
 ghost use Rattle.pth_world.specs.Sound.{IsSound, IsKnown, IsPrio, IsCancel, KeepsAttributes};
 ghost use Rattle.pth_world.specs.Whole.{Whole, WholeBut, view};
-ghost use Rattle.pth_world.specs.Touches.{Touches, SameThreads, changes, places};
+ghost use Rattle.pth_world.specs.Touches.{Touches, SameThreads, view_changed, view_placed};
 
 use crate::counted_queues::CountedQueues;
 use crate::progress_table::ProgressTable;
@@ -107,7 +107,7 @@ impl<P: Program> World<P> {
         requires countable { IsCountable c }
         ensures shows { (k : Control P P.State P.Shared) → Shows self.old k → Shows self.new (sets t.0 c k) }
         ensures sound { IsSound self.new.threads }
-        ensures touches { Touches self.old.threads self.new.threads t.0 (changes c) }
+        ensures touches { Touches self.old.threads self.new.threads t.0 (view_changed c) }
         ensures but { WholeBut self.old t.0 → WholeBut self.new t.0 }
         ensures threads { SameThreads self.old.threads self.new.threads }
         ensures same { self.new ≡ record self.old { threads = record self.old.threads { records = self.new.threads.records } } }
@@ -124,7 +124,7 @@ impl<P: Program> World<P> {
         ensures sound { IsSound self.new.threads }
         ensures others { (u : ℕ) → tid_at self.old.threads.records u ≢ t.0 → view self.new.threads u ≡ view self.old.threads u }
         ensures but { self.old.scheduler.running ≢ Some t.0 → WholeBut self.old t.0 → WholeBut self.new t.0 }
-        ensures threads { IfSome (slot_of self.old.threads.records t.0) (λ u. Removes self.old.threads.records self.new.threads.records u) }
+        ensures threads { IfSome (slot_of self.old.threads.records t.0) (λ u. RemovesThread self.old.threads.records self.new.threads.records u) }
         ensures queues { IfSome (slot_of self.old.threads.records t.0) (λ u. self.new.threads.queues ≡ without u self.old.threads.queues) }
         ensures same { self.new ≡ record self.old { threads = self.new.threads } }
     {
@@ -198,7 +198,7 @@ impl<P: Program> World<P> {
         requires rank { IsRank rank }
         ensures shows { (k : Control P P.State P.Shared) (top : Bool) → Shows self.old k → Shows self.new (enters t.0 queue.Ready rank top (sets t.0 (change.State state.Ready) k)) }
         ensures sound { IsSound self.new.threads }
-        ensures touches { Touches self.old.threads self.new.threads t.0 (λ v. places (Some queue.Ready) (changes (change.State state.Ready) v)) }
+        ensures touches { Touches self.old.threads self.new.threads t.0 (λ v. view_placed (Some queue.Ready) (view_changed (change.State state.Ready) v)) }
         ensures but { WholeBut self.old t.0 → WholeBut self.new t.0 }
         ensures threads { SameThreads self.old.threads self.new.threads }
         ensures queues { IfSome (slot_of self.old.threads.records t.0) (λ u. self.new.threads.queues ≡ entered queue.Ready rank u self.old.threads.queues) }
@@ -215,7 +215,7 @@ impl<P: Program> World<P> {
         requires nowhere { IfSome (slot_of self.old.threads.records t.0) (λ u. IsNowhere u self.old.threads.queues) }
         ensures shows { (k : Control P P.State P.Shared) → Shows self.old k → Shows self.new (is_put_waiting t.0 k) }
         ensures sound { IsSound self.new.threads }
-        ensures touches { Touches self.old.threads self.new.threads t.0 (λ v. places (Some queue.Waiting) (changes (change.State state.Waiting) v)) }
+        ensures touches { Touches self.old.threads self.new.threads t.0 (λ v. view_placed (Some queue.Waiting) (view_changed (change.State state.Waiting) v)) }
         ensures but { WholeBut self.old t.0 → WholeBut self.new t.0 }
         ensures threads { SameThreads self.old.threads self.new.threads }
         ensures queues { IfSome (slot_of self.old.threads.records t.0) (λ u. (prio : ℤ) × IsPrio prio × (self.new.threads.queues ≡ entered queue.Waiting prio u self.old.threads.queues)) }

@@ -1,7 +1,6 @@
 use Rattle.std.proofs.Common.{◌≡◌, None, Option, map, option_map, subst, rules}
 use Rattle.pth_base.specs.declared.ids.Tid.{Tid}
-use Rattle.pth_threads.specs.Threads.{number}
-use Rattle.pth_world.specs.World.{number_of}
+use Rattle.pth_threads.specs.Threads.{number_of}
 use Rattle.pth_sched.proofs.Listing.{Walked, walk_next, walk_all}
 use Rattle.pth_sched.proofs.passes.list_to_wake.Goals as goal
 
@@ -15,4 +14,4 @@ loop-next-preserved g c = record {
 pub returns : goal.returns
 returns g c =
     let none : c.loop-next.next ≡ None = search rules in
-    λ s st. walk_all g.P.Program.functions s _ (subst (λ (o : Option Tid). Walked g.P.Program.functions s (map number c.loop-next.list.items) (option_map number_of o)) none (c.loop-next.invariant.walked s st))
+    λ s st. walk_all g.P.Program.functions s _ (subst (λ (o : Option Tid). Walked g.P.Program.functions s (map number_of c.loop-next.list.items) (option_map number_of o)) none (c.loop-next.invariant.walked s st))

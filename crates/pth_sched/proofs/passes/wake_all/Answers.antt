@@ -2,7 +2,7 @@ use Rattle.std.proofs.Common.{◌≡◌, ◌∙◌, [], drop, map, subst, refl, 
 use Rattle.std.proofs.lemmas.List.{drop_more, drop_all}
 use Rattle.std.proofs.lemmas.Result.{err_from_is_err_and}
 use Rattle.pth_base.specs.declared.ids.Tid.{Tid}
-use Rattle.pth_threads.specs.Threads.{number}
+use Rattle.pth_threads.specs.Threads.{number_of}
 use Rattle.pth_model.specs.Pass.{all_woken}
 use Rattle.pth_world.proofs.Ranks.{ranks_none, ranks_then}
 use Rattle.pth_sched.specs.Passing.{WaitOnce}
@@ -24,23 +24,23 @@ loop-t-init g c = record {
 pub wake-requires-clause-waits : goal.wake-requires-clause-waits
 wake-requires-clause-waits g c =
     let split = drop_more c.args.list.now c.loop-t.t-index (record { 0 = 0 }) c.loop-t-test.true in
-    (subst (λ (l : List Tid). WaitOnce c.loop-t.w (map number l)) split c.loop-t.invariant.once).0
+    (subst (λ (l : List Tid). WaitOnce c.loop-t.w (map number_of l)) split c.loop-t.invariant.once).0
 
 pub returns-in_err-wake-clause-err : goal.returns-in_err-wake-clause-err
 returns-in_err-wake-clause-err g c =
     let split = drop_more c.args.list.now c.loop-t.t-index (record { 0 = 0 }) c.loop-t-test.true in
     let p = err_from_is_err_and c.from_residual.result c.from_residual.ensures.1 in
     rw p.1 (λ s st.
-    let now = subst (λ (l : List Tid). Wakes c.loop-t.w (map number l) c.args.marks.now c.loop-t.marks (all_woken (map number c.args.list.now) s)) split (c.loop-t.invariant.wakes s st) in
+    let now = subst (λ (l : List Tid). Wakes c.loop-t.w (map number_of l) c.args.marks.now c.loop-t.marks (all_woken (map number_of c.args.list.now) s)) split (c.loop-t.invariant.wakes s st) in
     wakes_cut c.loop-t.w _ _ _ c.loop-t.marks _ _ now c.in_err-wake.ensures.err)
 
 pub loop-t-preserved : goal.loop-t-preserved
 loop-t-preserved g c =
     let split = drop_more c.args.list.now c.loop-t.t-index (record { 0 = 0 }) c.loop-t-test.true in
-    let once = subst (λ (l : List Tid). WaitOnce c.loop-t.w (map number l)) split c.loop-t.invariant.once in
+    let once = subst (λ (l : List Tid). WaitOnce c.loop-t.w (map number_of l)) split c.loop-t.invariant.once in
     record {
       wakes = λ s st.
-          let now = subst (λ (l : List Tid). Wakes c.loop-t.w (map number l) c.args.marks.now c.loop-t.marks (all_woken (map number c.args.list.now) s)) split (c.loop-t.invariant.wakes s st) in
+          let now = subst (λ (l : List Tid). Wakes c.loop-t.w (map number_of l) c.args.marks.now c.loop-t.marks (all_woken (map number_of c.args.list.now) s)) split (c.loop-t.invariant.wakes s st) in
           wakes_next c.loop-t.w c.wake.new.w _ _ _ c.loop-t.marks _ _ now c.in_ok-wake.ensures.ok;
       once = wait_once c.loop-t.w c.wake.new.w _ _ c.wake.ensures.others once.1 once.2;
       whole = c.wake.ensures.whole;
@@ -53,4 +53,4 @@ loop-t-preserved g c =
 pub returns-clause-ok : goal.returns-clause-ok
 returns-clause-ok g c =
     let none : drop c.loop-t.t-index c.args.list.now ≡ [] = drop_all c.loop-t.t-index c.args.list.now (omega arith) in
-    λ s st. wakes_all c.loop-t.w _ _ _ (subst (λ (l : List Tid). Wakes c.loop-t.w (map number l) c.args.marks.now c.loop-t.marks (all_woken (map number c.args.list.now) s)) none (c.loop-t.invariant.wakes s st))
+    λ s st. wakes_all c.loop-t.w _ _ _ (subst (λ (l : List Tid). Wakes c.loop-t.w (map number_of l) c.args.marks.now c.loop-t.marks (all_woken (map number_of c.args.list.now) s)) none (c.loop-t.invariant.wakes s st))

@@ -1,5 +1,5 @@
 use Rattle.std.proofs.Common.{◌≡◌, ℕ, map, drop}
-use Rattle.pth_threads.specs.Threads.{number}
+use Rattle.pth_threads.specs.Threads.{number_of}
 use Rattle.pth_model.specs.State.{State}
 use Rattle.pth_model.specs.Pass.{all_woken}
 use Rattle.pth_world.specs.Shows.{StandsFor}
@@ -12,8 +12,8 @@ use Rattle.pth_sched.proofs.passes.wake_all.Given as goal
 
 abbrev pub invariant-loop-t : goal.invariant-loop-t
 invariant-loop-t g l = record {
-  wakes : (s : State g.row.P.Denot g.row.P-State.Denot g.row.P-Shared.Denot) → StandsFor l.fn.w s → Wakes l.w (map number (drop l.t-index l.list)) l.fn.marks l.marks (all_woken (map number l.list) s);
-  once : WaitOnce l.w (map number (drop l.t-index l.list));
+  wakes : (s : State g.row.P.Denot g.row.P-State.Denot g.row.P-Shared.Denot) → StandsFor l.fn.w s → Wakes l.w (map number_of (drop l.t-index l.list)) l.fn.marks l.marks (all_woken (map number_of l.list) s);
+  once : WaitOnce l.w (map number_of (drop l.t-index l.list));
   whole : Whole l.w;
   scheduler : KeepsRest l.fn.w l.w;
   made : l.w.threads.records.made ≡ l.fn.w.threads.records.made;

@@ -1,7 +1,7 @@
 use Rattle.std.proofs.Common.{◌∙◌, Option, option_map, subst, sym}
 use Rattle.pth_base.specs.declared.ids.Tid.{Tid}
 use Rattle.pth_queue.specs.declared.queue.Queue.TheVariants.{Dead}
-use Rattle.pth_world.specs.World.{number_of}
+use Rattle.pth_threads.specs.Threads.{number_of}
 use Rattle.pth_world.proofs.Moves.{queued_rests}
 use Rattle.pth_waits.proofs.Searching.{Searched, search_goes_on, search_finds, search_ends}
 use Rattle.pth_waits.proofs.joins.first_joinable.Goals as goal

@@ -1,7 +1,7 @@
 use Rattle.std.proofs.Common.{IfSome, option_map}
 use Rattle.pth_queue.specs.declared.queue.Queue.TheVariants as queue
 use Rattle.pth_model.specs.State.{Control}
-use Rattle.pth_world.specs.World.{number_of}
+use Rattle.pth_threads.specs.Threads.{number_of}
 use Rattle.pth_world.specs.Shows.{Shows}
 use Rattle.pth_world.specs.Sound.{IsKnown}
 use Rattle.pth_world.specs.Whole.{IsIn}

@@ -7,7 +7,7 @@ use Rattle.pth_model.specs.Part.{runs}
 use Rattle.pth_world.specs.World.{WorldOf}
 use Rattle.pth_world.specs.Sound.{IsSound}
 use Rattle.pth_world.specs.Whole.{View}
-use Rattle.pth_world.specs.Touches.{Touches, places, changes}
+use Rattle.pth_world.specs.Touches.{Touches, view_placed, view_changed}
 use Rattle.pth_world.proofs.Moves.{runs_whole, two_touches, same_twice, queues_alone}
 use Rattle.pth_world.proofs.Ranks.{ranks_left}
 use Rattle.pth_world.proofs.world.World.dispatch.Goals as goal
@@ -30,14 +30,14 @@ returns-clause-whole g c =
     let one = queues_alone w c.take_out.new.self c.take_out.ensures.same in
     let two = same_twice w.threads x y one c.change.ensures.threads in
     let three = same_twice w.threads y z two c.change-2.ensures.threads in
-    let change_one = two_touches w.threads x y t (places None) (changes (change.State state.Running)) one c.take_out.ensures.touches c.change.ensures.touches in
-    let change_two = two_touches w.threads y z t _ (changes (change.Dispatches n)) two change_one c.change-2.ensures.touches in
+    let change_one = two_touches w.threads x y t (view_placed None) (view_changed (change.State state.Running)) one c.take_out.ensures.touches c.change.ensures.touches in
+    let change_two = two_touches w.threads y z t _ (view_changed (change.Dispatches n)) two change_one c.change-2.ensures.touches in
     let threads = ap (λ (k : WorldOf _ _ _). k.threads) c.prefer.ensures.same ∙ ap (λ (k : WorldOf _ _ _). k.threads) c.set_running.ensures.same in
     let running = ap (λ (k : WorldOf _ _ _). k.scheduler.running) c.prefer.ensures.same ∙ ap (λ (k : WorldOf _ _ _). k.scheduler.running) c.set_running.ensures.same in
     runs_whole w c.prefer.new.self t n c.requires.whole c.requires.known c.requires.stands c.requires.nobody running
     (subst IsSound (sym threads) c.change-2.ensures.sound)
     (ap (λ v. slot_of v.records) threads ∙ three.slots)
-    (subst (λ v. Touches w.threads v t (λ (k : View). changes (change.Dispatches n) (changes (change.State state.Running) (places None k)))) (sym threads) change_two)
+    (subst (λ v. Touches w.threads v t (λ (k : View). view_changed (change.Dispatches n) (view_changed (change.State state.Running) (view_placed None k)))) (sym threads) change_two)
 
 pub returns-clause-queues : goal.returns-clause-queues
 returns-clause-queues g c =

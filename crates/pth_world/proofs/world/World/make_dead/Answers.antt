@@ -7,7 +7,7 @@ use Rattle.pth_model.specs.Ending.{is_dead_with}
 use Rattle.pth_world.specs.World.{WorldOf}
 use Rattle.pth_world.specs.Sound.{IsSound}
 use Rattle.pth_world.specs.Whole.{View}
-use Rattle.pth_world.specs.Touches.{Touches, places, changes}
+use Rattle.pth_world.specs.Touches.{Touches, view_placed, view_changed}
 use Rattle.pth_world.proofs.Moves.{dead_whole, known_slot, left_nowhere, nowhere_after, two_touches, same_twice, queues_alone}
 use Rattle.pth_world.proofs.Ranks.{ranks_dead}
 use Rattle.pth_world.proofs.world.World.make_dead.Goals as goal
@@ -45,15 +45,15 @@ returns-clause-whole g c =
     let three = same_twice w.threads b d two c.change-2.ensures.threads in
     let four = same_twice w.threads d e three c.change-3.ensures.threads in
     let five = same_twice w.threads e z four (queues_alone c.change-3.new.self c.put_in.new.self c.put_in.ensures.same) in
-    let change_one = two_touches w.threads a b t (places None) (changes (change.State state.Dead)) one c.take_out.ensures.touches c.change.ensures.touches in
-    let change_two = two_touches w.threads b d t _ (changes (change.Suspended false)) two change_one c.change-2.ensures.touches in
-    let change_three = two_touches w.threads d e t _ (changes (change.Value c.args.value)) three change_two (rw to_z-of_z at c.change-3.ensures.touches) in
-    let change_four = two_touches w.threads e z t _ (places (Some queue.Dead)) four change_three c.put_in.ensures.touches in
+    let change_one = two_touches w.threads a b t (view_placed None) (view_changed (change.State state.Dead)) one c.take_out.ensures.touches c.change.ensures.touches in
+    let change_two = two_touches w.threads b d t _ (view_changed (change.Suspended false)) two change_one c.change-2.ensures.touches in
+    let change_three = two_touches w.threads d e t _ (view_changed (change.Value c.args.value)) three change_two (rw to_z-of_z at c.change-3.ensures.touches) in
+    let change_four = two_touches w.threads e z t _ (view_placed (Some queue.Dead)) four change_three c.put_in.ensures.touches in
     let threads = ap (λ (k : WorldOf _ _ _). k.threads) c.stop_running.ensures.same in
     dead_whole w c.stop_running.new.self t slot.0 c.requires.whole slot.1 search rules c.args.value
     (subst IsSound (sym threads) c.put_in.ensures.sound)
     (ap (λ x. slot_of x.records) threads ∙ five.slots)
-    (subst (λ x. Touches w.threads x t (λ (k : View). places (Some queue.Dead) (changes (change.Value c.args.value) (changes (change.Suspended false) (changes (change.State state.Dead) (places None k)))))) (sym threads) change_four)
+    (subst (λ x. Touches w.threads x t (λ (k : View). view_placed (Some queue.Dead) (view_changed (change.Value c.args.value) (view_changed (change.Suspended false) (view_changed (change.State state.Dead) (view_placed None k)))))) (sym threads) change_four)
 
 pub returns-clause-ranks : goal.returns-clause-ranks
 returns-clause-ranks g c = ranks_dead c.args.self.now.threads c.stop_running.new.self.threads c.args.t.0 c.requires.known (pos 0) search rules

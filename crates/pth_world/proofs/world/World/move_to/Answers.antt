@@ -2,7 +2,7 @@ use Rattle.std.proofs.Common.{◌∙◌, ap, None, Some, rules}
 use Rattle.pth_threads.specs.Threads.{slot_of}
 use Rattle.pth_threads.specs.declared.entry.Change.TheVariants as change
 use Rattle.pth_world.specs.World.{WorldOf}
-use Rattle.pth_world.specs.Touches.{places, changes}
+use Rattle.pth_world.specs.Touches.{view_placed, view_changed}
 use Rattle.pth_world.proofs.Moves.{moved_whole, known_slot, left_nowhere, nowhere_after, two_touches, same_twice, queues_alone}
 use Rattle.pth_world.proofs.Ranks.{ranks_moved_in}
 use Rattle.pth_world.proofs.world.World.move_to.Goals as goal
@@ -25,8 +25,8 @@ returns-clause-whole g c =
     let one = queues_alone w c.take_out.new.self c.take_out.ensures.same in
     let two = same_twice w.threads a b one c.change.ensures.threads in
     let three = same_twice w.threads b z two (queues_alone c.change.new.self c.put_in.new.self c.put_in.ensures.same) in
-    let change_one = two_touches w.threads a b t (places None) (changes (change.Suspended c.args.suspended)) one c.take_out.ensures.touches c.change.ensures.touches in
-    let change_two = two_touches w.threads b z t _ (places (Some c.args.q)) two change_one c.put_in.ensures.touches in
+    let change_one = two_touches w.threads a b t (view_placed None) (view_changed (change.Suspended c.args.suspended)) one c.take_out.ensures.touches c.change.ensures.touches in
+    let change_two = two_touches w.threads b z t _ (view_placed (Some c.args.q)) two change_one c.put_in.ensures.touches in
     let running = ap (λ (k : WorldOf _ _ _). k.scheduler.running) c.put_in.ensures.same ∙ ap (λ (k : WorldOf _ _ _). k.scheduler.running) c.change.ensures.same ∙ ap (λ (k : WorldOf _ _ _). k.scheduler.running) c.take_out.ensures.same in
     moved_whole w c.put_in.new.self t slot.0 c.args.q c.args.suspended c.requires.whole slot.1 c.requires.may change_two three.slots running c.put_in.ensures.sound
 

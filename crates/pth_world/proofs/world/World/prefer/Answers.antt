@@ -1,6 +1,6 @@
 use Rattle.std.proofs.Common.{ap, refl, option_map}
 use Rattle.pth_model.specs.State.{Scheduler}
-use Rattle.pth_world.specs.World.{number_of}
+use Rattle.pth_threads.specs.Threads.{number_of}
 use Rattle.pth_world.proofs.Scheduling.{scheduler_shows, scheduler_whole}
 use Rattle.pth_world.proofs.world.World.prefer.Goals as goal
 

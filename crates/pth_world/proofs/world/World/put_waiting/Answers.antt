@@ -5,7 +5,7 @@ use Rattle.pth_queue.specs.Queues.{entered}
 use Rattle.pth_queue.specs.declared.queue.Queue.TheVariants as queue
 use Rattle.pth_threads.specs.declared.entry.Change.TheVariants as change
 use Rattle.pth_world.specs.Sound.{IsPrio}
-use Rattle.pth_world.specs.Touches.{changes, places}
+use Rattle.pth_world.specs.Touches.{view_changed, view_placed}
 use Rattle.pth_world.specs.World.{WorldOf}
 use Rattle.pth_world.proofs.Moves.{two_touches}
 use Rattle.pth_world.proofs.Slots.{prio_fits}
@@ -18,7 +18,7 @@ returns-clause-shows g c k sh =
     rw (← c.prio-prio.ensures.prio k sh) ((rw to_z-of_z at c.put_in.ensures.shows) _ false (c.change.ensures.shows k sh))
 
 pub returns-clause-touches : goal.returns-clause-touches
-returns-clause-touches g c = two_touches c.args.self.now.threads c.change.new.self.threads c.put_in.new.self.threads c.args.t.0 (changes (change.State state.Waiting)) (places (Some queue.Waiting)) c.change.ensures.threads c.change.ensures.touches c.put_in.ensures.touches
+returns-clause-touches g c = two_touches c.args.self.now.threads c.change.new.self.threads c.put_in.new.self.threads c.args.t.0 (view_changed (change.State state.Waiting)) (view_placed (Some queue.Waiting)) c.change.ensures.threads c.change.ensures.touches c.put_in.ensures.touches
 
 if_some : {A B : ℕ → Type 0} (o : Option ℕ) → ((u : ℕ) → A u → B u) → IfSome o A → IfSome o B
 if_some (Some u) f h = f u h

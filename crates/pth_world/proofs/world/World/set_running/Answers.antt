@@ -1,6 +1,6 @@
 use Rattle.std.proofs.Common.{ap, refl, option_map}
 use Rattle.pth_model.specs.State.{Scheduler}
-use Rattle.pth_world.specs.World.{number_of}
+use Rattle.pth_threads.specs.Threads.{number_of}
 use Rattle.pth_world.proofs.Scheduling.{scheduler_shows}
 use Rattle.pth_world.proofs.Moves.{rerun_but}
 use Rattle.pth_world.proofs.world.World.set_running.Goals as goal
