@@ -1,5 +1,5 @@
 -- Each piece of a run gives the resources what its marks say.
-use Rattle.std.proofs.Common.{◌≡◌, ◌∙◌, ℕ, pos, zero, suc, Bool, true, false, if◌then◌else◌, List, [], ◌∷◌, ◌++◌, Option, Some, None, refl, ap, sym}
+use Rattle.std.proofs.Common.{◌≡◌, ◌∙◌, ℕ, pos, zero, suc, Bool, true, false, List, [], ◌∷◌, ◌++◌, Option, Some, None, refl, ap, sym}
 use Rattle.pth_base.specs.Program.{Functions}
 use Rattle.pth_base.specs.declared.call.Call.{Call}
 use Rattle.pth_base.specs.declared.call.Call.TheVariants as call
@@ -12,16 +12,11 @@ use Rattle.pth_queue.specs.declared.queue.Queue.TheVariants as queues
 use Rattle.pth_model.specs.declared.blocked.Blocked.{Blocked}
 use Rattle.pth_model.specs.declared.progress.Progress.{Progress}
 use Rattle.pth_model.specs.Resources.{Resources, no_resources, told, told_all}
-use Rattle.pth_numbered.specs.Operands.{number, is_zero, ◌is◌}
-use Rattle.pth_model.specs.ThreadControl.{values_for, or_first, spawns, suspends, resumes, suspend, resume, yield, join, to_join, takes_joined}
-use Rattle.pth_model.specs.LibraryControl.{kill, ctrl, vanish_all_but}
-use Rattle.pth_model.specs.AttributeHandling.{object, sets_value, attr_new, attr_of, attr_init, attr_set, attr_get, attr_destroy}
-use Rattle.pth_threads.specs.Attributes.{first_values}
-use Rattle.pth_threads.specs.declared.attribute.Attribute.TheVariants.{Free, Bound}
+use Rattle.pth_model.specs.LibraryControl.{ctrl}
 use Rattle.pth_model.specs.Verdict.{Verdict, Says, Yields, Blocks, Ends, Kills}
 use Rattle.pth_model.specs.State.{State, queue, Given, Turn, start}
-use Rattle.pth_model.specs.Transition.{Transition, Piece, Last, silent, nothing, changes, tells, tid, controlled, ◌and_then◌, ◌and_finally◌}
-use Rattle.pth_model.specs.Changes.{blocked_of, prefers, favours_new, adds_object, puts_object}
+use Rattle.pth_model.specs.Transition.{Transition, Piece, Last, tells, tid, controlled, ◌and_then◌, ◌and_finally◌}
+use Rattle.pth_model.specs.Changes.{blocked_of}
 use Rattle.pth_model.specs.Row.{effect_of, refuses, unless_refused}
 use Rattle.pth_model.specs.Rows.{row_of}
 use Rattle.pth_model.specs.Ending.{ending}
@@ -59,40 +54,30 @@ module _ {P S H : Type 0} where
 
 module _ {P S H : Type 0} (f : P → Functions S H) where
   module _ (t : ℕ) where
-    ctrl_told : (s : State P S H) (x : Query) → IsTold (effect_of (ctrl s x).begin)
-    ctrl_told s (query.Favournew n) = unless_told (refuses (ctrl s (query.Favournew n)).begin.verdict) (changes (favours_new (n is 1))) (λ u. refl)
-    ctrl_told s (query.Prio n) = unless_told (refuses (ctrl s (query.Prio n)).begin.verdict) (changes nothing) (λ u. refl)
-    ctrl_told s (query.Name n) = unless_told (refuses (ctrl s (query.Name n)).begin.verdict) (changes nothing) (λ u. refl)
-    ctrl_told s x = λ u. refl
+    ctrl_tells : (s : State P S H) (x : Query) → IsTold (ctrl s x).begin.effect
+    ctrl_tells s query.Threads u = refl
+    ctrl_tells s x u = refl
+
+    -- what a call does beside its answer is a change, which is not told
+    effect_tells : (s : State P S H) (c : Call) → IsTold (row_of f s t c).begin.effect
+    unfolding row_of
+    effect_tells s (call.Ctrl x) = ctrl_tells s x
+    effect_tells s c = λ u. refl
 
     effect_told : (s : State P S H) (c : Call) → IsTold (effect_of (row_of f s t c).begin)
-    unfolding row_of
-    effect_told s call.Kill = unless_told (refuses (kill s t).begin.verdict) (changes (vanish_all_but t)) (λ u. refl)
-    effect_told s (call.Ctrl x) = ctrl_told s x
-    effect_told s call.AttrNew = unless_told (refuses (attr_new s).begin.verdict) (changes (adds_object (Free first_values))) (λ u. refl)
-    effect_told s (call.AttrOf n) = unless_told (refuses (attr_of s n).begin.verdict) (changes (adds_object (Bound (tid (number n))))) (λ u. refl)
-    effect_told s (call.AttrInit a) = unless_told (refuses (attr_init s a).begin.verdict) (changes (puts_object (number a) (Some (Free first_values)))) (λ u. refl)
-    effect_told s (call.AttrSet a v) = unless_told (refuses (attr_set s a v).begin.verdict) (changes (sets_value a v (object s.control a))) (λ u. refl)
-    effect_told s (call.AttrGet a x) = unless_told (refuses (attr_get s a x).begin.verdict) (changes nothing) (λ u. refl)
-    effect_told s (call.AttrDestroy a) = unless_told (refuses (attr_destroy s a).begin.verdict) (changes (puts_object (number a) None)) (λ u. refl)
-    effect_told s (call.Spawn b v a) = unless_told (refuses (row_of f s t (call.Spawn b v a)).begin.verdict) (changes (spawns f (number b) v (or_first (values_for s.control t a)))) (λ u. refl)
-    effect_told s (call.Suspend n) = unless_told (refuses (suspend s t n).begin.verdict) (changes (suspends (number n))) (λ u. refl)
-    effect_told s (call.Resume n) = unless_told (refuses (resume s t n).begin.verdict) (changes (resumes (number n))) (λ u. refl)
-    effect_told s (call.Yield n) = unless_told (refuses (yield s t n).begin.verdict) (changes (if is_zero n then nothing else prefers (Some (number n)))) (λ u. refl)
-    effect_told s (call.Join n) = unless_told (refuses (join s t n).begin.verdict) (changes (takes_joined (to_join s.control n))) (λ u. refl)
-    effect_told s (call.Exit v) = unless_told (refuses (row_of f s t (call.Exit v)).begin.verdict) silent (λ u. refl)
-    effect_told s c = λ u. refl
+    effect_told s c = unless_told (refuses (row_of f s t c).begin.verdict) (row_of f s t c).begin.effect (effect_tells s c)
 
-    ctrl_again : (s : State P S H) (x : Query) (b : Blocked) → IsTold (effect_of ((ctrl s x).again b))
-    ctrl_again s query.Threads b = λ u. refl
-    ctrl_again s x b = λ u. refl
+    ctrl_tells_again : (s : State P S H) (x : Query) (b : Blocked) → IsTold ((ctrl s x).again b).effect
+    ctrl_tells_again s query.Threads b u = refl
+    ctrl_tells_again s x b u = refl
+
+    again_tells : (s : State P S H) (c : Call) (b : Blocked) → IsTold ((row_of f s t c).again b).effect
+    unfolding row_of
+    again_tells s (call.Ctrl x) b = ctrl_tells_again s x b
+    again_tells s c b = λ u. refl
 
     again_told : (s : State P S H) (c : Call) (b : Blocked) → IsTold (effect_of ((row_of f s t c).again b))
-    unfolding row_of
-    again_told s (call.Ctrl x) b = ctrl_again s x b
-    again_told s (call.Join n) b = unless_told (refuses ((join s t n).again b).verdict) (changes (takes_joined (to_join s.control n))) (λ u. refl)
-    again_told s (call.Exit v) b = unless_told (refuses ((row_of f s t (call.Exit v)).again b).verdict) silent (λ u. refl)
-    again_told s c b = λ u. refl
+    again_told s c b = unless_told (refuses ((row_of f s t c).again b).verdict) ((row_of f s t c).again b).effect (again_tells s c b)
 
     begun_by_told : (c : Call) (v : Verdict) (a : Piece P S H) → IsTold a → LastTold (begun_by f t c v a)
     unfolding ending

@@ -22,12 +22,12 @@ use Rattle.pth_model.specs.declared.next.Next.TheVariants as next
 use Rattle.pth_numbered.specs.Operands.{number, is_zero, ◌is◌}
 use Rattle.pth_model.specs.Verdict.{Verdict, Says, Yields, Blocks, Ends, Kills, refused, ◌when◌otherwise◌}
 use Rattle.pth_model.specs.State.{State, Control, Turn}
-use Rattle.pth_model.specs.Transition.{Piece, silent, nothing, changes, tid}
+use Rattle.pth_model.specs.Transition.{Piece, nothing, changes, tid}
 use Rattle.pth_model.specs.Changes.{goes_on, blocking, blocked_of, or_nobody, owing, prefers, removes, favours_new, sets, adds_object, puts_object}
 use Rattle.pth_model.specs.Row.{unless_refused, refuses, effect_of}
-use Rattle.pth_model.specs.ThreadControl.{thread, is_known, may_run, spawns, values_for, or_first, suspends, resumes, suspend, resume, yield, join, to_join, takes_joined}
-use Rattle.pth_model.specs.LibraryControl.{kill, ctrl, vanish_all_but}
-use Rattle.pth_model.specs.AttributeHandling.{object, sets_field, sets_value, attr_new, attr_of, attr_init, attr_set, attr_get, attr_destroy}
+use Rattle.pth_model.specs.ThreadControl.{thread, is_known, may_run, spawns, values_for, or_first, suspends, resumes, suspend, resume, to_join, takes_joined}
+use Rattle.pth_model.specs.LibraryControl.{ctrl, vanish_all_but}
+use Rattle.pth_model.specs.AttributeHandling.{object, sets_field, sets_value}
 use Rattle.pth_model.specs.Ending.{ending, leaves}
 use Rattle.pth_model.specs.Rows.{row_of}
 use Rattle.pth_model.specs.Calls.{begun, begun_by, resumed, resumed_by, tried_by}
@@ -109,11 +109,10 @@ module _ {P S H : Type 0} (f : P → Functions S H) (t : ℕ) (Q : Control P S H
 
   -- ---- a call begins
 
-  ctrl_keeps : (s : State P S H) (x : Query) → KeepsAt s (effect_of (ctrl s x).begin)
-  ctrl_keeps s (query.Favournew n) = unless_keeps s (refuses (ctrl s (query.Favournew n)).begin.verdict) (changes (favours_new (n is 1))) (λ e q. kept.favoured (n is 1) s.control q)
-  ctrl_keeps s (query.Prio n) = unless_keeps s (refuses (ctrl s (query.Prio n)).begin.verdict) (changes nothing) (λ e q. q)
-  ctrl_keeps s (query.Name n) = unless_keeps s (refuses (ctrl s (query.Name n)).begin.verdict) (changes nothing) (λ e q. q)
-  ctrl_keeps s x = λ q. q
+  ctrl_keeps : (s : State P S H) (x : Query) → KeepsAt s (ctrl s x).begin.effect
+  ctrl_keeps s (query.Favournew n) q = kept.favoured (n is 1) s.control q
+  ctrl_keeps s query.Threads q = q
+  ctrl_keeps s x q = q
 
   -- a value is set in an object, or in a thread
   sets_keeps : (s : State P S H) (a : ℤ) (v : AttrValue) (o : Option Attribute) → KeepsAt s (changes (sets_value a v o))
@@ -134,25 +133,25 @@ module _ {P S H : Type 0} (f : P → Functions S H) (t : ℕ) (Q : Control P S H
   yields_keeps s n true e h q = q
   yields_keeps s n false e h q = kept.preferred (number n) s.control (runs_known s.control n (not-false _ (no_other _ _ h))) q
 
-  effect_keeps : (s : State P S H) (c : Call) → KeepsAt s (effect_of (row_of f s t c).begin)
+  -- what a call does, where it is not refused
+  does_keeps : (s : State P S H) (c : Call) → refuses (row_of f s t c).begin.verdict ≡ false → KeepsAt s (row_of f s t c).begin.effect
   unfolding row_of
-  effect_keeps s call.Kill = unless_keeps s (refuses (kill s t).begin.verdict) (changes (vanish_all_but t)) (λ e q. kept.vanished s.control q)
-  effect_keeps s (call.Ctrl x) = ctrl_keeps s x
-  effect_keeps s call.AttrNew = unless_keeps s (refuses (attr_new s).begin.verdict) (changes (adds_object (Free first_values))) (λ e q. kept.added (Free first_values) s.control q)
-  effect_keeps s (call.AttrOf n) = unless_keeps s (refuses (attr_of s n).begin.verdict) (changes (adds_object (Bound (tid (number n))))) (λ e q. kept.added (Bound (tid (number n))) s.control q)
-  effect_keeps s (call.AttrInit a) = unless_keeps s (refuses (attr_init s a).begin.verdict) (changes (puts_object (number a) (Some (Free first_values)))) (λ e q. kept.exchanged (number a) (Some (Free first_values)) s.control q)
-  effect_keeps s (call.AttrSet a v) = unless_keeps s (refuses (attr_set s a v).begin.verdict) (changes (sets_value a v (object s.control a))) (λ e q. sets_keeps s a v (object s.control a) q)
-  effect_keeps s (call.AttrGet a x) = unless_keeps s (refuses (attr_get s a x).begin.verdict) (changes nothing) (λ e q. q)
-  effect_keeps s (call.AttrDestroy a) = unless_keeps s (refuses (attr_destroy s a).begin.verdict) (changes (puts_object (number a) None)) (λ e q. kept.exchanged (number a) None s.control q)
-  effect_keeps s (call.Spawn b v a) =
-      let of = or_first (values_for s.control t a) in
-      unless_keeps s (refuses (row_of f s t (call.Spawn b v a)).begin.verdict) (changes (spawns f (number b) v of)) (λ e q. kept.spawned (number b) v of s.control q)
-  effect_keeps s (call.Suspend n) = unless_keeps s (refuses (suspend s t n).begin.verdict) (changes (suspends (number n))) (λ e q. kept.suspended (number n) s.control (suspend_other s t n e) q)
-  effect_keeps s (call.Resume n) = unless_keeps s (refuses (resume s t n).begin.verdict) (changes (resumes (number n))) (λ e q. kept.resumed (number n) s.control (resume_other s t n e) q)
-  effect_keeps s (call.Yield n) = unless_keeps s (refuses (yield s t n).begin.verdict) (changes (if is_zero n then nothing else prefers (Some (number n)))) (λ e q. yields_keeps s n (is_zero n) refl (passes _ _ _ e).0 q)
-  effect_keeps s (call.Join n) = unless_keeps s (refuses (join s t n).begin.verdict) (changes (takes_joined (to_join s.control n))) (λ e q. joins_keeps s (to_join s.control n) q)
-  effect_keeps s (call.Exit v) = unless_keeps s (refuses (row_of f s t (call.Exit v)).begin.verdict) silent (λ e q. q)
-  effect_keeps s c = λ q. q
+  does_keeps s call.Kill e q = kept.vanished s.control q
+  does_keeps s (call.Ctrl x) e q = ctrl_keeps s x q
+  does_keeps s call.AttrNew e q = kept.added (Free first_values) s.control q
+  does_keeps s (call.AttrOf n) e q = kept.added (Bound (tid (number n))) s.control q
+  does_keeps s (call.AttrInit a) e q = kept.exchanged (number a) (Some (Free first_values)) s.control q
+  does_keeps s (call.AttrSet a v) e q = sets_keeps s a v (object s.control a) q
+  does_keeps s (call.AttrDestroy a) e q = kept.exchanged (number a) None s.control q
+  does_keeps s (call.Spawn b v a) e q = kept.spawned (number b) v (or_first (values_for s.control t a)) s.control q
+  does_keeps s (call.Suspend n) e q = kept.suspended (number n) s.control (suspend_other s t n e) q
+  does_keeps s (call.Resume n) e q = kept.resumed (number n) s.control (resume_other s t n e) q
+  does_keeps s (call.Yield n) e q = yields_keeps s n (is_zero n) refl (passes _ _ _ e).0 q
+  does_keeps s (call.Join n) e q = joins_keeps s (to_join s.control n) q
+  does_keeps s c e q = q
+
+  effect_keeps : (s : State P S H) (c : Call) → KeepsAt s (effect_of (row_of f s t c).begin)
+  effect_keeps s c = unless_keeps s (refuses (row_of f s t c).begin.verdict) (row_of f s t c).begin.effect (does_keeps s c)
 
   begun_by_keeps : (c : Call) (v : Verdict) (a : Piece P S H) (s : State P S H) → KeepsAt s a → Q s.control → Q (begun_by f t c v a s).told.state.control
   begun_by_keeps c (Says x) a s keeps q = keeps q
@@ -169,16 +168,18 @@ module _ {P S H : Type 0} (f : P → Functions S H) (t : ℕ) (Q : Control P S H
 
   -- ---- a call is tried again
 
-  ctrl_again : (s : State P S H) (x : Query) (b : Blocked) → KeepsAt s (effect_of ((ctrl s x).again b))
-  ctrl_again s query.Threads b = λ q. q
-  ctrl_again s x b = λ q. q
+  ctrl_again : (s : State P S H) (x : Query) (b : Blocked) → KeepsAt s ((ctrl s x).again b).effect
+  ctrl_again s query.Threads b q = q
+  ctrl_again s x b q = q
+
+  does_again : (s : State P S H) (c : Call) (b : Blocked) → KeepsAt s ((row_of f s t c).again b).effect
+  unfolding row_of
+  does_again s (call.Ctrl x) b q = ctrl_again s x b q
+  does_again s (call.Join n) b q = joins_keeps s (to_join s.control n) q
+  does_again s c b q = q
 
   again_keeps : (s : State P S H) (c : Call) (b : Blocked) → KeepsAt s (effect_of ((row_of f s t c).again b))
-  unfolding row_of
-  again_keeps s (call.Ctrl x) b = ctrl_again s x b
-  again_keeps s (call.Join n) b = unless_keeps s (refuses ((join s t n).again b).verdict) (changes (takes_joined (to_join s.control n))) (λ e q. joins_keeps s (to_join s.control n) q)
-  again_keeps s (call.Exit v) b = unless_keeps s (refuses ((row_of f s t (call.Exit v)).again b).verdict) silent (λ e q. q)
-  again_keeps s c b = λ q. q
+  again_keeps s c b = unless_keeps s (refuses ((row_of f s t c).again b).verdict) ((row_of f s t c).again b).effect (λ e q. does_again s c b q)
 
   tried_by_keeps : (b : Blocked) (v : Verdict) (s : State P S H) → Q s.control → Q (tried_by f t b v s).told.state.control
   tried_by_keeps b (Says x) s q = kept.goes t (blocking None) s.control q
