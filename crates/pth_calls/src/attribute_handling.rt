@@ -1,6 +1,6 @@
 //! Thread attribute handling: `pth_attr_new`, `pth_attr_of`, `pth_attr_init`, `pth_attr_set`, `pth_attr_get`, `pth_attr_destroy`.
 
-ghost use Rattle.std.specs.Prelude.{◌≡◌, Some, IfOk, OnOk, true, false};
+ghost use Rattle.std.specs.Prelude.{◌≡◌, Some, IfOk, OnOk, false};
 ghost use Rattle.pth_base.specs.Facilities.{facility_of};
 ghost use Rattle.pth_base.specs.declared.facility.Facility.TheVariants as facility;
 ghost use Rattle.pth_base.specs.declared.mark.Mark.TheVariants.{Answered};
@@ -12,7 +12,6 @@ ghost use Rattle.pth_model.specs.Verdict.{Says, by_result, done as with_nothing}
 ghost use Rattle.pth_world.specs.Frame.{Frame};
 ghost use Rattle.pth_world.specs.Leading.{IsAnswered, IsQuiet};
 ghost use Rattle.pth_world.specs.Numbering.{HasNumbers};
-ghost use Rattle.pth_world.specs.Shows.{StandsFor};
 ghost use Rattle.pth_world.specs.Whole.{Whole};
 
 use pth_base::answer::Answer;

@@ -1,5 +1,5 @@
 -- Changes of attribute objects, and values that are set through them.
-use Rattle.std.proofs.Common.{◌≡◌, ◌∙◌, ℕ, ◌+◌, ◌≤◌, ℤ, true, false, Option, Some, None, is_none, option_map, Result, Ok, Err, OnOk, refl, sym, ap, subst, arith}
+use Rattle.std.proofs.Common.{◌≡◌, ◌∙◌, ℕ, ◌+◌, ◌≤◌, ℤ, false, Option, Some, None, is_none, option_map, Result, Ok, Err, OnOk, refl, sym, ap, subst, arith}
 use Rattle.std.proofs.lemmas.Int.{ints}
 use Rattle.pth_base.specs.Table.{put}
 use Rattle.pth_base.specs.declared.attr.AttrValue.{AttrValue}
@@ -7,7 +7,7 @@ use Rattle.pth_base.specs.declared.attr.AttrValue.TheVariants as value
 use Rattle.pth_base.specs.declared.errno.Errno.{Errno}
 use Rattle.pth_numbered.specs.Operands.{number, named}
 use Rattle.pth_queue.specs.declared.queue.Queue.{Queue}
-use Rattle.pth_threads.specs.Attributes.{AttrsOf, object_of, with_value, change_of, set_answer, Sets, SetsThread, KeepsSet}
+use Rattle.pth_threads.specs.Attributes.{AttrsOf, object_of, with_value, change_of, set_answer, Sets, KeepsSet}
 use Rattle.pth_threads.specs.Threads.{ThreadsOf, changed}
 use Rattle.pth_threads.specs.declared.attribute.Attribute.{Attribute}
 use Rattle.pth_threads.specs.declared.attribute.Attribute.TheVariants.{Free, Bound}
@@ -15,7 +15,7 @@ use Rattle.pth_threads.specs.declared.entry.Change.{Change}
 use Rattle.pth_threads.specs.declared.entry.Change.TheVariants as change
 use Rattle.pth_threads.specs.declared.entry.Entry.{Entry}
 use Rattle.pth_model.specs.declared.blocked.Blocked.{Blocked}
-use Rattle.pth_model.specs.AttributeHandling.{object, sets_field, sets_value}
+use Rattle.pth_model.specs.AttributeHandling.{object, sets_value}
 use Rattle.pth_model.specs.Changes.{sets}
 use Rattle.pth_model.specs.State.{Control, Attributes}
 use Rattle.pth_world.specs.Frame.{Frame}
@@ -24,9 +24,8 @@ use Rattle.pth_world.specs.Shows.{Shows, ShowsThreads, ShowsAttributes}
 use Rattle.pth_world.specs.Sound.{IsSound, KeepsAttributes}
 use Rattle.pth_world.specs.Touches.{view_changed}
 use Rattle.pth_world.specs.Whole.{Whole, FitsEntry, Fits, view}
-use Rattle.pth_world.specs.World.{WorldOf, ThreadsBySlot}
+use Rattle.pth_world.specs.World.{WorldOf}
 use Rattle.pth_world.proofs.Moves.{progress_whole}
-use Rattle.pth_world.proofs.Ranks.{ranks_none}
 use Rattle.pth_world.proofs.Showing.{of_threads, change_shows}
 use Rattle.pth_world.proofs.Sound.{change_sound}
 use Rattle.pth_world.proofs.Views.{change_touches}
