@@ -6,13 +6,13 @@ use Rattle.pth_base.specs.Table.{put}
 use Rattle.pth_base.proofs.Tables.{put_here, put_other}
 use Rattle.pth_numbered.specs.Numbered.{thing_at, number_at, slot_of}
 use Rattle.pth_ring.specs.declared.event.Event.{Event}
-use Rattle.pth_ring.specs.Ring.{Has, each}
-use Rattle.pth_ring.specs.Links.{next_at, event_at, ring, left}
+use Rattle.pth_ring.specs.Ring.{StandsIn, each}
+use Rattle.pth_ring.specs.Links.{next_place, event_at, ring, places_left}
 use Rattle.pth_ring.specs.Rings.{awaited, ring_awaited}
 use Rattle.pth_ring.specs.Arena.{RingsOf, events_of, AreLinked, SamePlaces, Becomes, Remakes}
 use Rattle.pth_ring.proofs.Lists.{has_or_not}
 use Rattle.pth_ring.proofs.Turns.{each-in, each-out}
-use Rattle.pth_ring.proofs.Going.{on-next, left-start, left-last, left-step, left-shorter}
+use Rattle.pth_ring.proofs.Going.{on-next, places_left-start, places_left-last, places_left-step, places_left-shorter}
 use Rattle.pth_ring.proofs.Named.{each-named}
 use Rattle.pth_ring.proofs.Shown.{rings-named, events-seen, live, all-used, ring-at, becomes}
 
@@ -44,7 +44,7 @@ at now (z ∷ l) f y = at now l (put f z (again now (f z))) y ∙ elim (cases_eq
         let got : put f z (again now (f z)) y ≡ again now (f y) = ap (put f z (again now (f z))) k ∙ put_here f z (again now (f z)) ∙ ap (λ w. again now (f w)) (sym k) in
         becomes_again now l (put f z (again now (f z))) y (again now (f y)) got (ap (again now) got ∙ twice now (f y)) ∙ sym (each-in (z ∷ l) (again now) f y (inl k))
 
-    away : y ≢ z → (Has y l → ⊥) → Has y (z ∷ l) → ⊥
+    away : y ≢ z → (StandsIn y l → ⊥) → StandsIn y (z ∷ l) → ⊥
     away n out (inl k) = n k
     away n out (inr h) = out h
 
@@ -65,39 +65,39 @@ some_again now None h = cc
 
 -- ---- a step
 
-module _ (x z : RingsOf) (now e u : ℕ) (k : AreLinked x) (used_e : number_at x e ≢ 0) (on : Has u (ring (thing_at x) e)) (r : Remakes x z u (awaited now)) where
+module _ (x z : RingsOf) (now e u : ℕ) (k : AreLinked x) (used_e : number_at x e ≢ 0) (on : StandsIn u (ring (thing_at x) e)) (r : Remakes x z u (awaited now)) where
   live_e : IsSome (event_at (thing_at x) e)
   live_e = live x k e used_e
 
-  left_kept : (y : ℕ) → left (thing_at z) e y ≡ left (thing_at x) e y
-  unfolding left
+  left_kept : (y : ℕ) → places_left (thing_at z) e y ≡ places_left (thing_at x) e y
+  unfolding places_left
   left_kept y = rw r.next refl
 
-  left_next : left (thing_at z) e (next_at (thing_at z) u) ≡ left (thing_at x) e (next_at (thing_at x) u)
-  left_next = left_kept (next_at (thing_at z) u) ∙ ap (λ (n : ℕ → ℕ). left (thing_at x) e (n u)) r.next
+  left_next : places_left (thing_at z) e (next_place (thing_at z) u) ≡ places_left (thing_at x) e (next_place (thing_at x) u)
+  left_next = left_kept (next_place (thing_at z) u) ∙ ap (λ (n : ℕ → ℕ). places_left (thing_at x) e (n u)) r.next
 
-  before_next : next_at (thing_at z) u ≢ e → next_at (thing_at x) u ≢ e
+  before_next : next_place (thing_at z) u ≢ e → next_place (thing_at x) u ≢ e
   before_next n m = n (ap (λ (n : ℕ → ℕ). n u) r.next ∙ m)
 
-  pub awaited-step : (t : ℕ → Option Event) → next_at (thing_at z) u ≢ e → awaited_in now (left (thing_at x) e u) (event_at (thing_at x)) ≡ t → awaited_in now (left (thing_at z) e (next_at (thing_at z) u)) (event_at (thing_at z)) ≡ t
+  pub awaited-step : (t : ℕ → Option Event) → next_place (thing_at z) u ≢ e → awaited_in now (places_left (thing_at x) e u) (event_at (thing_at x)) ≡ t → awaited_in now (places_left (thing_at z) e (next_place (thing_at z) u)) (event_at (thing_at z)) ≡ t
   awaited-step t n same =
-      ap₂ (λ l f. awaited_in now l f) left_next r.event ∙ sym (ap (λ l. awaited_in now l (event_at (thing_at x))) (left-step (thing_at x) e k.linked live_e u on (before_next n))) ∙ same
+      ap₂ (λ l f. awaited_in now l f) left_next r.event ∙ sym (ap (λ l. awaited_in now l (event_at (thing_at x))) (places_left-step (thing_at x) e k.linked live_e u on (before_next n))) ∙ same
 
-  pub awaited-last : (t : ℕ → Option Event) → next_at (thing_at z) u ≡ e → awaited_in now (left (thing_at x) e u) (event_at (thing_at x)) ≡ t → event_at (thing_at z) ≡ t
+  pub awaited-last : (t : ℕ → Option Event) → next_place (thing_at z) u ≡ e → awaited_in now (places_left (thing_at x) e u) (event_at (thing_at x)) ≡ t → event_at (thing_at z) ≡ t
   awaited-last t n same =
-      let m : next_at (thing_at x) u ≡ e = sym (ap (λ (n : ℕ → ℕ). n u) r.next) ∙ n in
-      r.event ∙ sym (ap (λ l. awaited_in now l (event_at (thing_at x))) (left-last (thing_at x) e k.linked live_e u on m)) ∙ same
+      let m : next_place (thing_at x) u ≡ e = sym (ap (λ (n : ℕ → ℕ). n u) r.next) ∙ n in
+      r.event ∙ sym (ap (λ l. awaited_in now l (event_at (thing_at x))) (places_left-last (thing_at x) e k.linked live_e u on m)) ∙ same
 
-  pub awaited-shorter : next_at (thing_at z) u ≢ e → length (left (thing_at z) e (next_at (thing_at z) u)) < length (left (thing_at x) e u)
-  awaited-shorter n = rw left_next (left-shorter (thing_at x) e k.linked live_e u on (before_next n))
+  pub awaited-shorter : next_place (thing_at z) u ≢ e → length (places_left (thing_at z) e (next_place (thing_at z) u)) < length (places_left (thing_at x) e u)
+  awaited-shorter n = rw left_next (places_left-shorter (thing_at x) e k.linked live_e u on (before_next n))
 
-  pub awaited-on : Has (next_at (thing_at z) u) (ring (thing_at z) e)
+  pub awaited-on : StandsIn (next_place (thing_at z) u) (ring (thing_at z) e)
   awaited-on = rw (r.rings, r.next) (on-next (thing_at x) e k.linked live_e u on)
 
 -- ---- the whole ring
 
-pub awaited-start : (x : RingsOf) (now e : ℕ) → AreLinked x → number_at x e ≢ 0 → awaited_in now (left (thing_at x) e e) (event_at (thing_at x)) ≡ awaited_in now (ring (thing_at x) e) (event_at (thing_at x))
-awaited-start x now e k used_e = ap (λ l. awaited_in now l (event_at (thing_at x))) (left-start (thing_at x) e k.linked (live x k e used_e))
+pub awaited-start : (x : RingsOf) (now e : ℕ) → AreLinked x → number_at x e ≢ 0 → awaited_in now (places_left (thing_at x) e e) (event_at (thing_at x)) ≡ awaited_in now (ring (thing_at x) e) (event_at (thing_at x))
+awaited-start x now e k used_e = ap (λ l. awaited_in now l (event_at (thing_at x))) (places_left-start (thing_at x) e k.linked (live x k e used_e))
 
 pub ring-awaited : (x z : RingsOf) (now e : ℕ) → AreLinked x → number_at x e ≢ 0 → AreLinked z → SamePlaces x z → ring (thing_at z) ≡ ring (thing_at x) → event_at (thing_at z) ≡ awaited_in now (ring (thing_at x) e) (event_at (thing_at x)) → Becomes x z (ring_awaited (number_at x e) now (events_of x))
 ring-awaited x z now e k used_e kz p rings event =

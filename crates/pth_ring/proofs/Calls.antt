@@ -5,8 +5,8 @@ use mathlib.Core.Path.{fun_ext}
 use Rattle.pth_base.specs.Table.{put}
 use Rattle.pth_base.proofs.Tables.{put_here, put_other, put_is, same_self}
 use Rattle.pth_ring.specs.declared.node.Node.{Node}
-use Rattle.pth_ring.specs.Ring.{turned, circle, rest_of, first_of}
-use Rattle.pth_ring.specs.Links.{next_at, event_at, ring, IsCircle, IsLinked, Splices}
+use Rattle.pth_ring.specs.Ring.{turned, circle, rest_of, head_event}
+use Rattle.pth_ring.specs.Links.{next_place, event_at, ring, IsLinkedRing, IsLinked, Splices}
 use Rattle.pth_ring.proofs.Lists.{has_or_not, not_in_one}
 use Rattle.pth_ring.proofs.Turns.{circle-in, circle-out}
 use Rattle.pth_ring.proofs.Circles.{ring-is, ring-in}
@@ -20,52 +20,52 @@ turned-alone e = let t : (e == e) ≡ true = same_self e in rw t refl
 
 pub record HasNext (x : ℕ → Option Node) (e : ℕ) : Type 0 where
   pub rest : List ℕ
-  pub circle : IsCircle x (e ∷ next_at x e ∷ rest)
+  pub circle : IsLinkedRing x (e ∷ next_place x e ∷ rest)
 
-alone_by : (x : ℕ → Option Node) (e : ℕ) (l : List ℕ) → IsCircle x (e ∷ l) → next_at x e ≡ e → IsCircle x (e ∷ [])
+alone_by : (x : ℕ → Option Node) (e : ℕ) (l : List ℕ) → IsLinkedRing x (e ∷ l) → next_place x e ≡ e → IsLinkedRing x (e ∷ [])
 alone_by x e [] c h = c
 alone_by x e (b ∷ ys) c h = absurd (c.distinct.0 b (inl refl) (sym c.links.0 ∙ h))
 
-more_by : (x : ℕ → Option Node) (e : ℕ) (l : List ℕ) → IsCircle x (e ∷ l) → next_at x e ≢ e → HasNext x e
+more_by : (x : ℕ → Option Node) (e : ℕ) (l : List ℕ) → IsLinkedRing x (e ∷ l) → next_place x e ≢ e → HasNext x e
 more_by x e [] c h = absurd (h c.links.0)
-more_by x e (b ∷ ys) c h = record { rest = ys; circle = subst (λ v. IsCircle x (e ∷ v ∷ ys)) (sym c.links.0) c }
+more_by x e (b ∷ ys) c h = record { rest = ys; circle = subst (λ v. IsLinkedRing x (e ∷ v ∷ ys)) (sym c.links.0) c }
 
 module _ (x : ℕ → Option Node) (e : ℕ) (linked : IsLinked x) (live : IsSome (event_at x e)) where
-  pub alone : next_at x e ≡ e → IsCircle x (e ∷ [])
+  pub alone : next_place x e ≡ e → IsLinkedRing x (e ∷ [])
   alone h = let c = linked.circle e live in alone_by x e c.0 c.1 h
 
-  pub more : next_at x e ≢ e → HasNext x e
+  pub more : next_place x e ≢ e → HasNext x e
   more h = let c = linked.circle e live in more_by x e c.0 c.1 h
 
-  pub live-next : IsSome (event_at x (next_at x e))
-  live-next = elim (cases_eq (next_at x e) e) [ inl h ↦ subst (λ v. IsSome (event_at x v)) (sym h) live | inr n ↦ (more n).circle.live (next_at x e) (inr (inl refl)) ]
+  pub live-next : IsSome (event_at x (next_place x e))
+  live-next = elim (cases_eq (next_place x e) e) [ inl h ↦ subst (λ v. IsSome (event_at x v)) (sym h) live | inr n ↦ (more n).circle.live (next_place x e) (inr (inl refl)) ]
 
-  pub ring-alone : next_at x e ≡ e → ring x e ≡ e ∷ []
+  pub ring-alone : next_place x e ≡ e → ring x e ≡ e ∷ []
   ring-alone h = ring-is x e [] (alone h)
 
-  pub ring-more : (n : next_at x e ≢ e) → ring x e ≡ e ∷ next_at x e ∷ (more n).rest
-  ring-more n = ring-is x e (next_at x e ∷ (more n).rest) (more n).circle
+  pub ring-more : (n : next_place x e ≢ e) → ring x e ≡ e ∷ next_place x e ∷ (more n).rest
+  ring-more n = ring-is x e (next_place x e ∷ (more n).rest) (more n).circle
 
-  same_at : (f : ℕ) → IsCircle x (e ∷ []) → ring x f ≡ circle (e ∷ []) (circle [] (ring x)) f
+  same_at : (f : ℕ) → IsLinkedRing x (e ∷ []) → ring x f ≡ circle (e ∷ []) (circle [] (ring x)) f
   same_at f c = elim (has_or_not f (e ∷ [])) [
     | inl h ↦ ring-in x (e ∷ []) f c h ∙ sym (circle-in (e ∷ []) (circle [] (ring x)) f h)
     | inr out ↦ sym (circle-out (e ∷ []) (circle [] (ring x)) f out ∙ circle-out [] (ring x) f (λ h. h))
   ]
 
-  pub part-none : next_at x e ≡ e → ring x ≡ circle (e ∷ []) (circle (rest_of (ring x e)) (ring x))
+  pub part-none : next_place x e ≡ e → ring x ≡ circle (e ∷ []) (circle (rest_of (ring x e)) (ring x))
   part-none h = rw (ring-alone h) (fun_ext (λ f. same_at f (alone h)))
 
-  pub first-none : next_at x e ≡ e → None ≡ first_of (rest_of (ring x e))
+  pub first-none : next_place x e ≡ e → None ≡ head_event (rest_of (ring x e))
   first-none h = rw (ring-alone h) refl
 
-  pub first-some : next_at x e ≢ e → Some (next_at x e) ≡ first_of (rest_of (ring x e))
+  pub first-some : next_place x e ≢ e → Some (next_place x e) ≡ head_event (rest_of (ring x e))
   first-some n = rw (ring-more n) refl
 
-  pub part-linked : (z : ℕ → Option Node) → next_at x e ≢ e → Splices x z e (next_at x e) → IsLinked z
-  part-linked z n s = parted-linked x z e (next_at x e) (more n).rest linked (more n).circle s
+  pub part-linked : (z : ℕ → Option Node) → next_place x e ≢ e → Splices x z e (next_place x e) → IsLinked z
+  part-linked z n s = parted-linked x z e (next_place x e) (more n).rest linked (more n).circle s
 
-  pub part-ring : (z : ℕ → Option Node) → next_at x e ≢ e → Splices x z e (next_at x e) → ring z ≡ circle (e ∷ []) (circle (rest_of (ring x e)) (ring x))
-  part-ring z n s = rw (ring-more n) (parted-ring x z e (next_at x e) (more n).rest linked (more n).circle s)
+  pub part-ring : (z : ℕ → Option Node) → next_place x e ≢ e → Splices x z e (next_place x e) → ring z ≡ circle (e ∷ []) (circle (rest_of (ring x e)) (ring x))
+  part-ring z n s = rw (ring-more n) (parted-ring x z e (next_place x e) (more n).rest linked (more n).circle s)
 
 -- ---- one that stands alone
 

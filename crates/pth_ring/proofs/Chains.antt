@@ -2,15 +2,15 @@
 use Rattle.std.proofs.Common.{◌≡◌, ◌≢◌, ◌⊎◌, ℕ, List, [], ◌∷◌, ◌++◌, refl, sym, ◌∙◌, inl, inr, subst, append-nil}
 use Rattle.pth_base.specs.Table.{put}
 use Rattle.pth_base.proofs.Tables.{put_here, put_other}
-use Rattle.pth_ring.specs.Ring.{Has, Distinct}
-use Rattle.pth_ring.specs.Links.{Chain, Links}
-use Rattle.pth_ring.proofs.Lists.{last_or, Has-append_cases, Has-last, distinct-apart, distinct-left, distinct-right}
+use Rattle.pth_ring.specs.Ring.{StandsIn, NoneTwice}
+use Rattle.pth_ring.specs.Links.{LinksAlong, Links}
+use Rattle.pth_ring.proofs.Lists.{last_or, StandsIn-append_cases, StandsIn-last, distinct-apart, distinct-left, distinct-right}
 
-pub chain-split : (n p : ℕ → ℕ) (a : ℕ) (xs : List ℕ) (y : ℕ) (ys : List ℕ) (b : ℕ) → Chain n p a (xs ++ y ∷ ys) b → Chain n p a xs y × Chain n p y ys b
+pub chain-split : (n p : ℕ → ℕ) (a : ℕ) (xs : List ℕ) (y : ℕ) (ys : List ℕ) (b : ℕ) → LinksAlong n p a (xs ++ y ∷ ys) b → LinksAlong n p a xs y × LinksAlong n p y ys b
 chain-split n p a [] y ys b h = ((h.0, h.1), h.2)
 chain-split n p a (x ∷ xs) y ys b h = let r = chain-split n p x xs y ys b h.2 in ((h.0, h.1, r.0), r.1)
 
-pub chain-join : (n p : ℕ → ℕ) (a : ℕ) (xs : List ℕ) (y : ℕ) (ys : List ℕ) (b : ℕ) → Chain n p a xs y → Chain n p y ys b → Chain n p a (xs ++ y ∷ ys) b
+pub chain-join : (n p : ℕ → ℕ) (a : ℕ) (xs : List ℕ) (y : ℕ) (ys : List ℕ) (b : ℕ) → LinksAlong n p a xs y → LinksAlong n p y ys b → LinksAlong n p a (xs ++ y ∷ ys) b
 chain-join n p a [] y ys b g h = (g.0, g.1, h)
 chain-join n p a (x ∷ xs) y ys b g h = (g.0, g.1, chain-join n p x xs y ys b g.2 h)
 
@@ -20,30 +20,30 @@ links-turn n p (x ∷ xs) [] h = subst (λ l. Links n p (x ∷ l)) (append-nil x
 links-turn n p (x ∷ xs) (y ∷ ys) h = let r = chain-split n p x xs y ys x h in chain-join n p y ys x xs y r.1 r.0
 
 -- the end of a chain knows the last before it
-pub chain-last : (n p : ℕ → ℕ) (a : ℕ) (xs : List ℕ) (b : ℕ) → Chain n p a xs b → p b ≡ last_or a xs
+pub chain-last : (n p : ℕ → ℕ) (a : ℕ) (xs : List ℕ) (b : ℕ) → LinksAlong n p a xs b → p b ≡ last_or a xs
 chain-last n p a [] b h = h.1
 chain-last n p a (x ∷ xs) b h = chain-last n p x xs b h.2
 
 -- the last one is led to another end
-pub chain-end : (n p m q : ℕ → ℕ) (a : ℕ) (xs : List ℕ) (b c : ℕ) → Chain n p a xs b → Distinct (a ∷ xs)
-    → m (last_or a xs) ≡ c → ((y : ℕ) → Has y (a ∷ xs) → y ≢ last_or a xs → m y ≡ n y)
-    → q c ≡ last_or a xs → ((y : ℕ) → Has y xs → q y ≡ p y)
-    → Chain m q a xs c
+pub chain-end : (n p m q : ℕ → ℕ) (a : ℕ) (xs : List ℕ) (b c : ℕ) → LinksAlong n p a xs b → NoneTwice (a ∷ xs)
+    → m (last_or a xs) ≡ c → ((y : ℕ) → StandsIn y (a ∷ xs) → y ≢ last_or a xs → m y ≡ n y)
+    → q c ≡ last_or a xs → ((y : ℕ) → StandsIn y xs → q y ≡ p y)
+    → LinksAlong m q a xs c
 chain-end n p m q a [] b c h d m1 m2 q1 q2 = (m1, q1)
 chain-end n p m q a (x ∷ xs) b c h d m1 m2 q1 q2 = (
-  m2 a (inl refl) (λ k. d.0 (last_or x xs) (Has-last x xs) (sym k)) ∙ h.0,
+  m2 a (inl refl) (λ k. d.0 (last_or x xs) (StandsIn-last x xs) (sym k)) ∙ h.0,
   q2 x (inl refl) ∙ h.1,
   chain-end n p m q x xs b c h.2 d.1 m1 (λ y k. m2 y (inr k)) q1 (λ y k. q2 y (inr k)),
 )
 
 -- memory elsewhere does not matter
-pub chain-frame : (n p m q : ℕ → ℕ) (a : ℕ) (xs : List ℕ) (b : ℕ) → Chain n p a xs b → ((y : ℕ) → Has y (a ∷ xs) → m y ≡ n y) → ((y : ℕ) → Has y (xs ++ b ∷ []) → q y ≡ p y) → Chain m q a xs b
+pub chain-frame : (n p m q : ℕ → ℕ) (a : ℕ) (xs : List ℕ) (b : ℕ) → LinksAlong n p a xs b → ((y : ℕ) → StandsIn y (a ∷ xs) → m y ≡ n y) → ((y : ℕ) → StandsIn y (xs ++ b ∷ []) → q y ≡ p y) → LinksAlong m q a xs b
 chain-frame n p m q a [] b h f g = (f a (inl refl) ∙ h.0, g b (inl refl) ∙ h.1)
 chain-frame n p m q a (x ∷ xs) b h f g = (f a (inl refl) ∙ h.0, g x (inl refl) ∙ h.1, chain-frame n p m q x xs b h.2 (λ y k. f y (inr k)) (λ y k. g y (inr k)))
 
-pub links-frame : (n p m q : ℕ → ℕ) (xs : List ℕ) → Links n p xs → ((y : ℕ) → Has y xs → m y ≡ n y) → ((y : ℕ) → Has y xs → q y ≡ p y) → Links m q xs
+pub links-frame : (n p m q : ℕ → ℕ) (xs : List ℕ) → Links n p xs → ((y : ℕ) → StandsIn y xs → m y ≡ n y) → ((y : ℕ) → StandsIn y xs → q y ≡ p y) → Links m q xs
 links-frame n p m q [] h f g = tt
-links-frame n p m q (x ∷ xs) h f g = chain-frame n p m q x xs x h f (λ y k. elim (Has-append_cases y xs (x ∷ []) k) [ inl a ↦ g y (inr a) | inr (inl e) ↦ g y (inl e) | inr (inr z) ↦ absurd z ])
+links-frame n p m q (x ∷ xs) h f g = chain-frame n p m q x xs x h f (λ y k. elim (StandsIn-append_cases y xs (x ∷ []) k) [ inl a ↦ g y (inr a) | inr (inl e) ↦ g y (inl e) | inr (inr z) ↦ absurd z ])
 
 -- a and b have changed the ones before them
 pub record Crosses (n p m q : ℕ → ℕ) (a b : ℕ) : Type 0 where
@@ -70,44 +70,44 @@ module _ (n p m q : ℕ → ℕ) (a b : ℕ) (c : Crosses n p m q a b) where
   cross_prev_other y h k = rw c.prev (put_other (put p b (p a)) a (p b) y h ∙ put_other p b (p a) y k)
 
   -- what is read behind a and b goes on at new ends
-  half_a : (xs ys : List ℕ) (z w : ℕ) → Distinct ((a ∷ xs) ++ (b ∷ ys)) → Chain n p a xs z → p z ≡ last_or a xs → p w ≡ last_or b ys → (c : ℕ) → m (last_or a xs) ≡ c → q c ≡ last_or a xs → (p a ≡ last_or a xs) ⊎ (p a ≡ last_or b ys) → (p b ≡ last_or a xs) ⊎ (p b ≡ last_or b ys) → Chain m q a xs c
+  half_a : (xs ys : List ℕ) (z w : ℕ) → NoneTwice ((a ∷ xs) ++ (b ∷ ys)) → LinksAlong n p a xs z → p z ≡ last_or a xs → p w ≡ last_or b ys → (c : ℕ) → m (last_or a xs) ≡ c → q c ≡ last_or a xs → (p a ≡ last_or a xs) ⊎ (p a ≡ last_or b ys) → (p b ≡ last_or a xs) ⊎ (p b ≡ last_or b ys) → LinksAlong m q a xs c
   half_a xs ys z w d h pz pw c mc qc pa pb =
       chain-end n p m q a xs z c h (distinct-left (a ∷ xs) (b ∷ ys) d) mc
       (λ y k ne. cross_next_other y (other y k ne (p a) pa) (other y k ne (p b) pb)) qc
       (λ y k. cross_prev_other y ((distinct-left (a ∷ xs) (b ∷ ys) d).0 y k) (distinct-apart (a ∷ xs) (b ∷ ys) d y (inr k) b (inl refl)))
     where
-      other : (y : ℕ) → Has y (a ∷ xs) → y ≢ last_or a xs → (v : ℕ) → (v ≡ last_or a xs) ⊎ (v ≡ last_or b ys) → y ≢ v
+      other : (y : ℕ) → StandsIn y (a ∷ xs) → y ≢ last_or a xs → (v : ℕ) → (v ≡ last_or a xs) ⊎ (v ≡ last_or b ys) → y ≢ v
       other y k ne v (inl e) = λ f. ne (f ∙ e)
-      other y k ne v (inr e) = λ f. distinct-apart (a ∷ xs) (b ∷ ys) d y k (last_or b ys) (Has-last b ys) (f ∙ e)
+      other y k ne v (inr e) = λ f. distinct-apart (a ∷ xs) (b ∷ ys) d y k (last_or b ys) (StandsIn-last b ys) (f ∙ e)
 
-  half_b : (xs ys : List ℕ) (z : ℕ) → Distinct ((a ∷ xs) ++ (b ∷ ys)) → Chain n p b ys z → (c : ℕ) → m (last_or b ys) ≡ c → q c ≡ last_or b ys → (p a ≡ last_or a xs) ⊎ (p a ≡ last_or b ys) → (p b ≡ last_or a xs) ⊎ (p b ≡ last_or b ys) → Chain m q b ys c
+  half_b : (xs ys : List ℕ) (z : ℕ) → NoneTwice ((a ∷ xs) ++ (b ∷ ys)) → LinksAlong n p b ys z → (c : ℕ) → m (last_or b ys) ≡ c → q c ≡ last_or b ys → (p a ≡ last_or a xs) ⊎ (p a ≡ last_or b ys) → (p b ≡ last_or a xs) ⊎ (p b ≡ last_or b ys) → LinksAlong m q b ys c
   half_b xs ys z d h c mc qc pa pb =
       chain-end n p m q b ys z c h (distinct-right (a ∷ xs) (b ∷ ys) d) mc
       (λ y k ne. cross_next_other y (other y k ne (p a) pa) (other y k ne (p b) pb)) qc
       (λ y k. cross_prev_other y (λ f. distinct-apart (a ∷ xs) (b ∷ ys) d a (inl refl) y (inr k) (sym f)) ((distinct-right (a ∷ xs) (b ∷ ys) d).0 y k))
     where
-      other : (y : ℕ) → Has y (b ∷ ys) → y ≢ last_or b ys → (v : ℕ) → (v ≡ last_or a xs) ⊎ (v ≡ last_or b ys) → y ≢ v
-      other y k ne v (inl e) = λ f. distinct-apart (a ∷ xs) (b ∷ ys) d (last_or a xs) (Has-last a xs) y k (sym (f ∙ e))
+      other : (y : ℕ) → StandsIn y (b ∷ ys) → y ≢ last_or b ys → (v : ℕ) → (v ≡ last_or a xs) ⊎ (v ≡ last_or b ys) → y ≢ v
+      other y k ne v (inl e) = λ f. distinct-apart (a ∷ xs) (b ∷ ys) d (last_or a xs) (StandsIn-last a xs) y k (sym (f ∙ e))
       other y k ne v (inr e) = λ f. ne (f ∙ e)
 
-  apart_ab : (xs ys : List ℕ) → Distinct ((a ∷ xs) ++ (b ∷ ys)) → b ≢ a
+  apart_ab : (xs ys : List ℕ) → NoneTwice ((a ∷ xs) ++ (b ∷ ys)) → b ≢ a
   apart_ab xs ys d k = distinct-apart (a ∷ xs) (b ∷ ys) d a (inl refl) b (inl refl) (sym k)
 
-  apart_last : (xs ys : List ℕ) → Distinct ((a ∷ xs) ++ (b ∷ ys)) → last_or a xs ≢ last_or b ys
-  apart_last xs ys d = distinct-apart (a ∷ xs) (b ∷ ys) d (last_or a xs) (Has-last a xs) (last_or b ys) (Has-last b ys)
+  apart_last : (xs ys : List ℕ) → NoneTwice ((a ∷ xs) ++ (b ∷ ys)) → last_or a xs ≢ last_or b ys
+  apart_last xs ys d = distinct-apart (a ∷ xs) (b ∷ ys) d (last_or a xs) (StandsIn-last a xs) (last_or b ys) (StandsIn-last b ys)
 
   -- two circles become one
-  pub cross-joins : (xs ys : List ℕ) → Distinct ((a ∷ xs) ++ (b ∷ ys)) → Links n p (a ∷ xs) → Links n p (b ∷ ys) → Links m q ((a ∷ xs) ++ (b ∷ ys))
+  pub cross-joins : (xs ys : List ℕ) → NoneTwice ((a ∷ xs) ++ (b ∷ ys)) → Links n p (a ∷ xs) → Links n p (b ∷ ys) → Links m q ((a ∷ xs) ++ (b ∷ ys))
   cross-joins xs ys d g h =
       let la = chain-last n p a xs a g in
       let lb = chain-last n p b ys b h in
       let ne : p a ≢ p b = λ k. apart_last xs ys d (sym la ∙ k ∙ lb) in
-      let first : Chain m q a xs b = half_a xs ys a b d g la lb b (subst (λ v. m v ≡ b) la (cross_next2 ne)) (cross_prev2 (apart_ab xs ys d) ∙ la) (inl la) (inr lb) in
-      let second : Chain m q b ys a = half_b xs ys b d h a (subst (λ v. m v ≡ a) lb cross_next) (cross_prev ∙ lb) (inl la) (inr lb) in
+      let first : LinksAlong m q a xs b = half_a xs ys a b d g la lb b (subst (λ v. m v ≡ b) la (cross_next2 ne)) (cross_prev2 (apart_ab xs ys d) ∙ la) (inl la) (inr lb) in
+      let second : LinksAlong m q b ys a = half_b xs ys b d h a (subst (λ v. m v ≡ a) lb cross_next) (cross_prev ∙ lb) (inl la) (inr lb) in
       chain-join m q a xs b ys a first second
 
   -- one circle becomes two
-  pub cross-parts : (xs ys : List ℕ) → Distinct ((a ∷ xs) ++ (b ∷ ys)) → Links n p ((a ∷ xs) ++ (b ∷ ys)) → Links m q (a ∷ xs) × Links m q (b ∷ ys)
+  pub cross-parts : (xs ys : List ℕ) → NoneTwice ((a ∷ xs) ++ (b ∷ ys)) → Links n p ((a ∷ xs) ++ (b ∷ ys)) → Links m q (a ∷ xs) × Links m q (b ∷ ys)
   cross-parts xs ys d g =
       let r = chain-split n p a xs b ys a g in
       let lb : p b ≡ last_or a xs = chain-last n p a xs b r.0 in

@@ -4,59 +4,60 @@ use Rattle.pth_base.specs.Table.{put}
 use Rattle.pth_base.proofs.Tables.{put_here, put_other}
 use Rattle.pth_ring.specs.declared.event.Event.{Event}
 use Rattle.pth_ring.specs.declared.node.Node.{Node}
-use Rattle.pth_ring.specs.Ring.{Has, Distinct, circle}
-use Rattle.pth_ring.specs.Links.{Links, next_at, prev_at, event_at, ring, IsCircle, IsLinked, Splices}
-use Rattle.pth_ring.proofs.Lists.{last_or, Has-last, Has-append_left, Has-append_right, Has-append_cases, distinct-join}
+use Rattle.pth_ring.specs.Ring.{StandsIn, NoneTwice, circle}
+use Rattle.pth_ring.specs.Links.{Links, next_place, prev_place, event_at, ring, IsLinkedRing, IsLinked, Splices}
+use Rattle.pth_ring.specs.Rings.{event_limit}
+use Rattle.pth_ring.proofs.Lists.{last_or, StandsIn-last, StandsIn-append_left, StandsIn-append_right, StandsIn-append_cases, distinct-join}
 use Rattle.pth_ring.proofs.Chains.{Crosses, chain-last, cross_next_other, cross_prev_other, cross-joins, cross-parts}
 use Rattle.pth_ring.proofs.Turns.{circle-out}
 use Rattle.pth_ring.proofs.Circles.{ring-is, same-circle, IsReadOrGone, Remakes, remade-ring, remade-linked, circle-read}
 
 -- the one before a live event is live
-pub live-prev : (x : ℕ → Option Node) (e : ℕ) → IsLinked x → IsSome (event_at x e) → IsSome (event_at x (prev_at x e))
+pub live-prev : (x : ℕ → Option Node) (e : ℕ) → IsLinked x → IsSome (event_at x e) → IsSome (event_at x (prev_place x e))
 live-prev x e linked live =
     let c = linked.circle e live in
-    let l = chain-last (next_at x) (prev_at x) e c.0 e c.1.links in
-    rw l (c.1.live (last_or e c.0) (Has-last e c.0))
+    let l = chain-last (next_place x) (prev_place x) e c.0 e c.1.links in
+    rw l (c.1.live (last_or e c.0) (StandsIn-last e c.0))
 
-crosses : (x z : ℕ → Option Node) (a b : ℕ) → Splices x z a b → Crosses (next_at x) (prev_at x) (next_at z) (prev_at z) a b
+crosses : (x z : ℕ → Option Node) (a b : ℕ) → Splices x z a b → Crosses (next_place x) (prev_place x) (next_place z) (prev_place z) a b
 crosses x z a b s = record { next = s.next; prev = s.prev }
 
 -- ---- two rings become one
 
-module _ (x z : ℕ → Option Node) (a b : ℕ) (xs ys : List ℕ) (linked : IsLinked x) (ca : IsCircle x (a ∷ xs)) (cb : IsCircle x (b ∷ ys)) (apart : Has a (b ∷ ys) → ⊥) (s : Splices x z a b) where
+module _ (x z : ℕ → Option Node) (a b : ℕ) (xs ys : List ℕ) (linked : IsLinked x) (ca : IsLinkedRing x (a ∷ xs)) (cb : IsLinkedRing x (b ∷ ys)) (apart : StandsIn a (b ∷ ys) → ⊥) (s : Splices x z a b) where
   abbrev both : List ℕ
   both = (a ∷ xs) ++ (b ∷ ys)
 
-  distinct_both : Distinct both
-  distinct_both = distinct-join (a ∷ xs) (b ∷ ys) ca.distinct cb.distinct (λ u hu v hv k. apart (same-circle x (a ∷ xs) (b ∷ ys) u a ca cb hu (subst (λ w. Has w (b ∷ ys)) (sym k) hv) (inl refl)))
+  distinct_both : NoneTwice both
+  distinct_both = distinct-join (a ∷ xs) (b ∷ ys) ca.distinct cb.distinct (λ u hu v hv k. apart (same-circle x (a ∷ xs) (b ∷ ys) u a ca cb hu (subst (λ w. StandsIn w (b ∷ ys)) (sym k) hv) (inl refl)))
 
-  live_both : (y : ℕ) → Has y both → IsSome (event_at x y)
-  live_both y h = elim (Has-append_cases y (a ∷ xs) (b ∷ ys) h) [ inl l ↦ ca.live y l | inr r ↦ cb.live y r ]
+  live_both : (y : ℕ) → StandsIn y both → IsSome (event_at x y)
+  live_both y h = elim (StandsIn-append_cases y (a ∷ xs) (b ∷ ys) h) [ inl l ↦ ca.live y l | inr r ↦ cb.live y r ]
 
-  circle_both : IsCircle z both
+  circle_both : IsLinkedRing z both
   circle_both = record {
-    links = cross-joins (next_at x) (prev_at x) (next_at z) (prev_at z) a b (crosses x z a b s) xs ys distinct_both ca.links cb.links;
+    links = cross-joins (next_place x) (prev_place x) (next_place z) (prev_place z) a b (crosses x z a b s) xs ys distinct_both ca.links cb.links;
     distinct = distinct_both;
     live = λ y h. rw s.event (live_both y h);
     low = λ y h. linked.low y (live_both y h);
   }
 
-  not_last_a : (y : ℕ) → (Has y both → ⊥) → y ≢ prev_at x a
-  not_last_a y out k = out (subst (λ v. Has v both) (sym (k ∙ chain-last (next_at x) (prev_at x) a xs a ca.links)) (Has-append_left (last_or a xs) (a ∷ xs) (b ∷ ys) (Has-last a xs)))
+  not_last_a : (y : ℕ) → (StandsIn y both → ⊥) → y ≢ prev_place x a
+  not_last_a y out k = out (subst (λ v. StandsIn v both) (sym (k ∙ chain-last (next_place x) (prev_place x) a xs a ca.links)) (StandsIn-append_left (last_or a xs) (a ∷ xs) (b ∷ ys) (StandsIn-last a xs)))
 
-  not_last_b : (y : ℕ) → (Has y both → ⊥) → y ≢ prev_at x b
-  not_last_b y out k = out (subst (λ v. Has v both) (sym (k ∙ chain-last (next_at x) (prev_at x) b ys b cb.links)) (Has-append_right (last_or b ys) (a ∷ xs) (b ∷ ys) (Has-last b ys)))
+  not_last_b : (y : ℕ) → (StandsIn y both → ⊥) → y ≢ prev_place x b
+  not_last_b y out k = out (subst (λ v. StandsIn v both) (sym (k ∙ chain-last (next_place x) (prev_place x) b ys b cb.links)) (StandsIn-append_right (last_or b ys) (a ∷ xs) (b ∷ ys) (StandsIn-last b ys)))
 
-  closed_both : (c : List ℕ) → IsCircle x c → (y e : ℕ) → Has y c → Has y both → Has e c → Has e both
-  closed_both c i y e hy h he = elim (Has-append_cases y (a ∷ xs) (b ∷ ys) h) [
-    | inl l ↦ Has-append_left e (a ∷ xs) (b ∷ ys) (same-circle x c (a ∷ xs) y e i ca hy l he)
-    | inr r ↦ Has-append_right e (a ∷ xs) (b ∷ ys) (same-circle x c (b ∷ ys) y e i cb hy r he)
+  closed_both : (c : List ℕ) → IsLinkedRing x c → (y e : ℕ) → StandsIn y c → StandsIn y both → StandsIn e c → StandsIn e both
+  closed_both c i y e hy h he = elim (StandsIn-append_cases y (a ∷ xs) (b ∷ ys) h) [
+    | inl l ↦ StandsIn-append_left e (a ∷ xs) (b ∷ ys) (same-circle x c (a ∷ xs) y e i ca hy l he)
+    | inr r ↦ StandsIn-append_right e (a ∷ xs) (b ∷ ys) (same-circle x c (b ∷ ys) y e i cb hy r he)
   ]
 
   joined_remakes : Remakes x z both (circle both (ring x))
   joined_remakes = record {
-    next = λ y out. cross_next_other (next_at x) (prev_at x) (next_at z) (prev_at z) a b (crosses x z a b s) y (not_last_a y out) (not_last_b y out);
-    prev = λ y out. cross_prev_other (next_at x) (prev_at x) (next_at z) (prev_at z) a b (crosses x z a b s) y (λ k. out (inl k)) (λ k. out (subst (λ v. Has v both) (sym k) (Has-append_right b (a ∷ xs) (b ∷ ys) (inl refl))));
+    next = λ y out. cross_next_other (next_place x) (prev_place x) (next_place z) (prev_place z) a b (crosses x z a b s) y (not_last_a y out) (not_last_b y out);
+    prev = λ y out. cross_prev_other (next_place x) (prev_place x) (next_place z) (prev_place z) a b (crosses x z a b s) y (λ k. out (inl k)) (λ k. out (subst (λ v. StandsIn v both) (sym k) (StandsIn-append_right b (a ∷ xs) (b ∷ ys) (inl refl))));
     event = λ y out. rw s.event refl;
     closed = closed_both;
     low = λ e h. linked.low e (live_both e h);
@@ -64,59 +65,59 @@ module _ (x z : ℕ → Option Node) (a b : ℕ) (xs ys : List ℕ) (linked : Is
     outside = λ e out. circle-out both (ring x) e out;
   }
 
-pub joined-linked : (x z : ℕ → Option Node) (a b : ℕ) → IsLinked x → IsSome (event_at x a) → IsSome (event_at x b) → (Has a (ring x b) → ⊥) → Splices x z a b → IsLinked z
+pub joined-linked : (x z : ℕ → Option Node) (a b : ℕ) → IsLinked x → IsSome (event_at x a) → IsSome (event_at x b) → (StandsIn a (ring x b) → ⊥) → Splices x z a b → IsLinked z
 joined-linked x z a b linked la lb apart s =
     let ca = linked.circle a la in
     let cb = linked.circle b lb in
-    remade-linked x z ((a ∷ ca.0) ++ (b ∷ cb.0)) _ linked (joined_remakes x z a b ca.0 cb.0 linked ca.1 cb.1 (λ h. apart (subst (Has a) (sym (ring-is x b cb.0 cb.1)) h)) s)
+    remade-linked x z ((a ∷ ca.0) ++ (b ∷ cb.0)) _ linked (joined_remakes x z a b ca.0 cb.0 linked ca.1 cb.1 (λ h. apart (subst (StandsIn a) (sym (ring-is x b cb.0 cb.1)) h)) s)
 
-pub joined-ring : (x z : ℕ → Option Node) (a b : ℕ) → IsLinked x → IsSome (event_at x a) → IsSome (event_at x b) → (Has a (ring x b) → ⊥) → Splices x z a b → ring z ≡ circle (ring x a ++ ring x b) (ring x)
+pub joined-ring : (x z : ℕ → Option Node) (a b : ℕ) → IsLinked x → IsSome (event_at x a) → IsSome (event_at x b) → (StandsIn a (ring x b) → ⊥) → Splices x z a b → ring z ≡ circle (ring x a ++ ring x b) (ring x)
 joined-ring x z a b linked la lb apart s =
     let ca = linked.circle a la in
     let cb = linked.circle b lb in
-    remade-ring x z ((a ∷ ca.0) ++ (b ∷ cb.0)) _ linked (joined_remakes x z a b ca.0 cb.0 linked ca.1 cb.1 (λ h. apart (subst (Has a) (sym (ring-is x b cb.0 cb.1)) h)) s)
+    remade-ring x z ((a ∷ ca.0) ++ (b ∷ cb.0)) _ linked (joined_remakes x z a b ca.0 cb.0 linked ca.1 cb.1 (λ h. apart (subst (StandsIn a) (sym (ring-is x b cb.0 cb.1)) h)) s)
     ∙ ap₂ (λ (u v : List ℕ). circle (u ++ v) (ring x)) (sym (ring-is x a ca.0 ca.1)) (sym (ring-is x b cb.0 cb.1))
 
 -- ---- one ring becomes two
 
-module _ (x z : ℕ → Option Node) (e b : ℕ) (ys : List ℕ) (linked : IsLinked x) (c : IsCircle x (e ∷ b ∷ ys)) (s : Splices x z e b) where
+module _ (x z : ℕ → Option Node) (e b : ℕ) (ys : List ℕ) (linked : IsLinked x) (c : IsLinkedRing x (e ∷ b ∷ ys)) (s : Splices x z e b) where
   abbrev parts : ℕ → List ℕ
   parts = circle (e ∷ []) (circle (b ∷ ys) (ring x))
 
-  parted : Links (next_at z) (prev_at z) (e ∷ []) × Links (next_at z) (prev_at z) (b ∷ ys)
-  parted = cross-parts (next_at x) (prev_at x) (next_at z) (prev_at z) e b (crosses x z e b s) [] ys c.distinct c.links
+  parted : Links (next_place z) (prev_place z) (e ∷ []) × Links (next_place z) (prev_place z) (b ∷ ys)
+  parted = cross-parts (next_place x) (prev_place x) (next_place z) (prev_place z) e b (crosses x z e b s) [] ys c.distinct c.links
 
-  circle_alone : IsCircle z (e ∷ [])
+  circle_alone : IsLinkedRing z (e ∷ [])
   circle_alone = record { links = parted.0; distinct = ((λ y h. absurd h), tt); live = λ y h. elim h [ inl k ↦ rw s.event (c.live y (inl k)) | inr k ↦ absurd k ]; low = λ y h. elim h [ inl k ↦ c.low y (inl k) | inr k ↦ absurd k ] }
 
-  circle_rest : IsCircle z (b ∷ ys)
+  circle_rest : IsLinkedRing z (b ∷ ys)
   circle_rest = record { links = parted.1; distinct = c.distinct.1; live = λ y h. rw s.event (c.live y (inr h)); low = λ y h. c.low y (inr h) }
 
-  last_e : prev_at x e ≡ last_or b ys
-  last_e = chain-last (next_at x) (prev_at x) e (b ∷ ys) e c.links
+  last_e : prev_place x e ≡ last_or b ys
+  last_e = chain-last (next_place x) (prev_place x) e (b ∷ ys) e c.links
 
-  not_prev_e : (y : ℕ) → (Has y (e ∷ b ∷ ys) → ⊥) → y ≢ prev_at x e
-  not_prev_e y out k = out (subst (λ v. Has v (e ∷ b ∷ ys)) (sym (k ∙ last_e)) (inr (Has-last b ys)))
+  not_prev_e : (y : ℕ) → (StandsIn y (e ∷ b ∷ ys) → ⊥) → y ≢ prev_place x e
+  not_prev_e y out k = out (subst (λ v. StandsIn v (e ∷ b ∷ ys)) (sym (k ∙ last_e)) (inr (StandsIn-last b ys)))
 
-  part_read : (y : ℕ) → Has y (e ∷ b ∷ ys) → IsReadOrGone z y (parts y)
+  part_read : (y : ℕ) → StandsIn y (e ∷ b ∷ ys) → IsReadOrGone z y (parts y)
   part_read y (inl k) = circle-read z (e ∷ []) (circle (b ∷ ys) (ring x)) y circle_alone (inl k)
   part_read y (inr h) = subst (IsReadOrGone z y) (sym (circle-out (e ∷ []) (circle (b ∷ ys) (ring x)) y (other y (c.distinct.0 y h)))) (circle-read z (b ∷ ys) (ring x) y circle_rest h)
     where
-      other : (y : ℕ) → y ≢ e → Has y (e ∷ []) → ⊥
+      other : (y : ℕ) → y ≢ e → StandsIn y (e ∷ []) → ⊥
       other y n (inl k) = n k
       other y n (inr h) = h
 
-  part_other : (y : ℕ) → (Has y (e ∷ b ∷ ys) → ⊥) → parts y ≡ ring x y
+  part_other : (y : ℕ) → (StandsIn y (e ∷ b ∷ ys) → ⊥) → parts y ≡ ring x y
   part_other y out = circle-out (e ∷ []) (circle (b ∷ ys) (ring x)) y (other y out) ∙ circle-out (b ∷ ys) (ring x) y (λ h. out (inr h))
     where
-      other : (y : ℕ) → (Has y (e ∷ b ∷ ys) → ⊥) → Has y (e ∷ []) → ⊥
+      other : (y : ℕ) → (StandsIn y (e ∷ b ∷ ys) → ⊥) → StandsIn y (e ∷ []) → ⊥
       other y n (inl k) = n (inl k)
       other y n (inr h) = h
 
   parted_remakes : Remakes x z (e ∷ b ∷ ys) parts
   parted_remakes = record {
-    next = λ y out. cross_next_other (next_at x) (prev_at x) (next_at z) (prev_at z) e b (crosses x z e b s) y (not_prev_e y out) (λ k. out (inl (k ∙ c.links.1)));
-    prev = λ y out. cross_prev_other (next_at x) (prev_at x) (next_at z) (prev_at z) e b (crosses x z e b s) y (λ k. out (inl k)) (λ k. out (inr (inl k)));
+    next = λ y out. cross_next_other (next_place x) (prev_place x) (next_place z) (prev_place z) e b (crosses x z e b s) y (not_prev_e y out) (λ k. out (inl (k ∙ c.links.1)));
+    prev = λ y out. cross_prev_other (next_place x) (prev_place x) (next_place z) (prev_place z) e b (crosses x z e b s) y (λ k. out (inl k)) (λ k. out (inr (inl k)));
     event = λ y out. rw s.event refl;
     closed = λ l i y f hy h hf. same-circle x l (e ∷ b ∷ ys) y f i c hy h hf;
     low = λ f h. linked.low f (c.live f h);
@@ -132,19 +133,19 @@ module _ (x z : ℕ → Option Node) (e b : ℕ) (ys : List ℕ) (linked : IsLin
 
 -- ---- one that is new
 
-module _ (x y : ℕ → Option Node) (e : ℕ) (v : Event) (linked : IsLinked x) (free : event_at x e ≡ None) (low : e < 4096) (next_y : next_at y ≡ put (next_at x) e e) (prev_y : prev_at y ≡ put (prev_at x) e e) (event_y : event_at y ≡ put (event_at x) e (Some v)) where
+module _ (x y : ℕ → Option Node) (e : ℕ) (v : Event) (linked : IsLinked x) (free : event_at x e ≡ None) (low : e < event_limit) (next_y : next_place y ≡ put (next_place x) e e) (prev_y : prev_place y ≡ put (prev_place x) e e) (event_y : event_at y ≡ put (event_at x) e (Some v)) where
   live_new : IsSome (event_at y e)
   live_new = rw (event_y, put_here (event_at x) e (Some v)) refl
 
-  circle_new : IsCircle y (e ∷ [])
+  circle_new : IsLinkedRing y (e ∷ [])
   circle_new = record {
-    links = (rw next_y (put_here (next_at x) e e), rw prev_y (put_here (prev_at x) e e));
+    links = (rw next_y (put_here (next_place x) e e), rw prev_y (put_here (prev_place x) e e));
     distinct = ((λ y h. absurd h), tt);
     live = λ u h. elim h [ inl k ↦ subst (λ w. IsSome (event_at y w)) (sym k) live_new | inr k ↦ absurd k ];
-    low = λ u h. elim h [ inl k ↦ subst (λ w. w < 4096) (sym k) low | inr k ↦ absurd k ];
+    low = λ u h. elim h [ inl k ↦ subst (λ w. w < event_limit) (sym k) low | inr k ↦ absurd k ];
   }
 
-  not_new : (u : ℕ) → (Has u (e ∷ []) → ⊥) → u ≢ e
+  not_new : (u : ℕ) → (StandsIn u (e ∷ []) → ⊥) → u ≢ e
   not_new u out k = out (inl k)
 
   not_live : IsSome (event_at x e) → ⊥
@@ -153,17 +154,17 @@ module _ (x y : ℕ → Option Node) (e : ℕ) (v : Event) (linked : IsLinked x)
       gone : (o : Option Event) → o ≡ None → IsSome o → ⊥
       gone o n s = cc
 
-  is_new : (u : ℕ) → Has u (e ∷ []) → u ≡ e
+  is_new : (u : ℕ) → StandsIn u (e ∷ []) → u ≡ e
   is_new u (inl k) = k
   is_new u (inr h) = absurd h
 
   new_remakes : Remakes x y (e ∷ []) (circle (e ∷ []) (ring x))
   new_remakes = record {
-    next = λ u out. rw next_y (put_other (next_at x) e e u (not_new u out));
-    prev = λ u out. rw prev_y (put_other (prev_at x) e e u (not_new u out));
+    next = λ u out. rw next_y (put_other (next_place x) e e u (not_new u out));
+    prev = λ u out. rw prev_y (put_other (prev_place x) e e u (not_new u out));
     event = λ u out. rw event_y (put_other (event_at x) e (Some v) u (not_new u out));
     closed = λ c i u f hu h hf. absurd (not_live (subst (λ w. IsSome (event_at x w)) (is_new u h) (i.live u hu)));
-    low = λ f h. subst (λ w. w < 4096) (sym (is_new f h)) low;
+    low = λ f h. subst (λ w. w < event_limit) (sym (is_new f h)) low;
     inside = λ f h. circle-read y (e ∷ []) (ring x) f circle_new h;
     outside = λ f out. circle-out (e ∷ []) (ring x) f out;
   }
@@ -176,18 +177,18 @@ module _ (x y : ℕ → Option Node) (e : ℕ) (v : Event) (linked : IsLinked x)
 
 -- ---- one that stands alone is gone
 
-module _ (x z : ℕ → Option Node) (e : ℕ) (linked : IsLinked x) (alone : IsCircle x (e ∷ [])) (next_z : next_at z ≡ put (next_at x) e 0) (prev_z : prev_at z ≡ put (prev_at x) e 0) (event_z : event_at z ≡ put (event_at x) e None) where
+module _ (x z : ℕ → Option Node) (e : ℕ) (linked : IsLinked x) (alone : IsLinkedRing x (e ∷ [])) (next_z : next_place z ≡ put (next_place x) e 0) (prev_z : prev_place z ≡ put (prev_place x) e 0) (event_z : event_at z ≡ put (event_at x) e None) where
   gone_at : event_at z e ≡ None
   gone_at = rw event_z (put_here (event_at x) e None)
 
-  only : (u : ℕ) → Has u (e ∷ []) → u ≡ e
+  only : (u : ℕ) → StandsIn u (e ∷ []) → u ≡ e
   only u (inl k) = k
   only u (inr h) = absurd h
 
   gone_remakes : Remakes x z (e ∷ []) (put (ring x) e [])
   gone_remakes = record {
-    next = λ u out. rw next_z (put_other (next_at x) e 0 u (λ k. out (inl k)));
-    prev = λ u out. rw prev_z (put_other (prev_at x) e 0 u (λ k. out (inl k)));
+    next = λ u out. rw next_z (put_other (next_place x) e 0 u (λ k. out (inl k)));
+    prev = λ u out. rw prev_z (put_other (prev_place x) e 0 u (λ k. out (inl k)));
     event = λ u out. rw event_z (put_other (event_at x) e None u (λ k. out (inl k)));
     closed = λ c i u f hu h hf. same-circle x c (e ∷ []) u f i alone hu h hf;
     low = λ f h. linked.low f (alone.live f h);

@@ -8,48 +8,49 @@ use mathlib.Core.Path.{fun_ext}
 use Rattle.pth_base.proofs.Tables.{same_self, not_same}
 use Rattle.pth_ring.specs.declared.event.Event.{Event}
 use Rattle.pth_ring.specs.declared.node.Node.{Node}
-use Rattle.pth_ring.specs.Ring.{Has, Distinct, turned, circle}
-use Rattle.pth_ring.specs.Links.{Chain, walk, next_at, prev_at, event_at, ring, if_some, IsCircle, IsLinked}
-use Rattle.pth_ring.proofs.Lists.{has_or_not, Has-turn, distinct-turn}
+use Rattle.pth_ring.specs.Ring.{StandsIn, NoneTwice, turned, circle}
+use Rattle.pth_ring.specs.Links.{LinksAlong, places_along, next_place, prev_place, event_at, ring, if_some, IsLinkedRing, IsLinked}
+use Rattle.pth_ring.specs.Rings.{event_limit}
+use Rattle.pth_ring.proofs.Lists.{has_or_not, StandsIn-turn, distinct-turn}
 use Rattle.pth_ring.proofs.Chains.{links-turn, links-frame}
-use Rattle.pth_ring.proofs.Turns.{split, turned-is, Has-turned, Has-unturned, circle-in}
+use Rattle.pth_ring.proofs.Turns.{split, turned-is, StandsIn-turned, StandsIn-unturned, circle-in}
 
-pub walk-is : (n p : ℕ → ℕ) (fuel a : ℕ) (xs : List ℕ) (b : ℕ) → length xs < fuel → Chain n p a xs b → ((y : ℕ) → Has y xs → y ≢ b) → walk n fuel b a ≡ a ∷ xs
-unfolding walk
-walk-is n p zero a xs b f c ne = absurd (omega arith)
-walk-is n p (suc fuel) a [] b f c ne =
+pub places_along-is : (n p : ℕ → ℕ) (fuel a : ℕ) (xs : List ℕ) (b : ℕ) → length xs < fuel → LinksAlong n p a xs b → ((y : ℕ) → StandsIn y xs → y ≢ b) → places_along n fuel b a ≡ a ∷ xs
+unfolding places_along
+places_along-is n p zero a xs b f c ne = absurd (omega arith)
+places_along-is n p (suc fuel) a [] b f c ne =
     let t : (n a == b) ≡ true = ap (λ z. z == b) c.0 ∙ same_self b in
     rw t refl
-walk-is n p (suc fuel) a (x ∷ xs) b f c ne =
+places_along-is n p (suc fuel) a (x ∷ xs) b f c ne =
     let t : (n a == b) ≡ false = not_same (n a) b (λ k. ne x (inl refl) (sym c.0 ∙ k)) in
-    rw t (ap (λ l. a ∷ l) (ap (walk n fuel b) c.0 ∙ walk-is n p fuel x xs b (omega arith) c.2 (λ y k. ne y (inr k))))
+    rw t (ap (λ l. a ∷ l) (ap (places_along n fuel b) c.0 ∙ places_along-is n p fuel x xs b (omega arith) c.2 (λ y k. ne y (inr k))))
 
 -- as std has it
-is_distinct : (xs : List ℕ) → Distinct xs → IsDistinct eqb xs
+is_distinct : (xs : List ℕ) → NoneTwice xs → IsDistinct eqb xs
 unfolding IsDistinct
 is_distinct [] d = tt
 is_distinct (x ∷ xs) d = (apart x xs d.0, is_distinct xs d.1)
   where
-    apart : (x : ℕ) (xs : List ℕ) → ((y : ℕ) → Has y xs → y ≢ x) → AllByRecursion (λ y. eqb x y ≡ false) xs
+    apart : (x : ℕ) (xs : List ℕ) → ((y : ℕ) → StandsIn y xs → y ≢ x) → AllByRecursion (λ y. eqb x y ≡ false) xs
     apart x [] h = tt
     apart x (y ∷ ys) h = (ne_eqb x y (λ k. h y (inl refl) (sym k)), apart x ys (λ z k. h z (inr k)))
 
-has_from_any : (q : ℕ) (xs : List ℕ) → list_any (eqb q) xs ≡ true → Has q xs
+has_from_any : (q : ℕ) (xs : List ℕ) → list_any (eqb q) xs ≡ true → StandsIn q xs
 has_from_any q [] h = cc
 has_from_any q (x ∷ xs) h = elim (cases_Bool (eqb q x)) [ inl t ↦ inl (eqb-true q x t) | inr f ↦ inr (has_from_any q xs (rw f at h)) ]
 
-pub few : (xs : List ℕ) (n : ℕ) → Distinct xs → ((y : ℕ) → Has y xs → y < n) → length xs ≤ n
+pub few : (xs : List ℕ) (n : ℕ) → NoneTwice xs → ((y : ℕ) → StandsIn y xs → y < n) → length xs ≤ n
 few xs n d low = length-le_from_distinct_below xs n (is_distinct xs d) (λ z k. low z (has_from_any z xs k))
 
 some_stays : (o : Option Event) (l : List ℕ) → IsSome o → if_some o l ≡ l
 some_stays (Some _) l h = refl
 some_stays None l h = cc
 
-pub ring-is : (x : ℕ → Option Node) (e : ℕ) (xs : List ℕ) → IsCircle x (e ∷ xs) → ring x e ≡ e ∷ xs
+pub ring-is : (x : ℕ → Option Node) (e : ℕ) (xs : List ℕ) → IsLinkedRing x (e ∷ xs) → ring x e ≡ e ∷ xs
 unfolding ring
 ring-is x e xs c =
-    let f = few (e ∷ xs) 4096 c.distinct c.low in
-    some_stays (event_at x e) _ (c.live e (inl refl)) ∙ walk-is (next_at x) (prev_at x) 4096 e xs e (omega arith) c.links c.distinct.0
+    let f = few (e ∷ xs) event_limit c.distinct c.low in
+    some_stays (event_at x e) _ (c.live e (inl refl)) ∙ places_along-is (next_place x) (prev_place x) event_limit e xs e (omega arith) c.links c.distinct.0
 
 none_stays : (o : Option Event) (l : List ℕ) → o ≡ None → if_some o l ≡ []
 none_stays (Some _) l h = cc
@@ -63,38 +64,38 @@ ring-none x e h = none_stays (event_at x e) _ h
 pub record IsRead (x : ℕ → Option Node) (e : ℕ) (l : List ℕ) : Type 0 where
   pub rest : List ℕ
   pub is : l ≡ e ∷ rest
-  pub circle : IsCircle x (e ∷ rest)
+  pub circle : IsLinkedRing x (e ∷ rest)
 
-pub circle-turn : (x : ℕ → Option Node) (xs : List ℕ) (e : ℕ) → IsCircle x xs → Has e xs → IsRead x e (turned e xs)
+pub circle-turn : (x : ℕ → Option Node) (xs : List ℕ) (e : ℕ) → IsLinkedRing x xs → StandsIn e xs → IsRead x e (turned e xs)
 circle-turn x xs e c h =
     let s = split e xs h in
-    let d : IsCircle x (s.front ++ e ∷ s.back) = subst (IsCircle x) s.is c in
+    let d : IsLinkedRing x (s.front ++ e ∷ s.back) = subst (IsLinkedRing x) s.is c in
     record {
       rest = s.back ++ s.front;
       is = turned-is e xs s;
       circle = record {
-        links = links-turn (next_at x) (prev_at x) s.front (e ∷ s.back) d.links;
+        links = links-turn (next_place x) (prev_place x) s.front (e ∷ s.back) d.links;
         distinct = distinct-turn s.front (e ∷ s.back) d.distinct;
-        live = λ y k. d.live y (Has-turn y (e ∷ s.back) s.front k);
-        low = λ y k. d.low y (Has-turn y (e ∷ s.back) s.front k);
+        live = λ y k. d.live y (StandsIn-turn y (e ∷ s.back) s.front k);
+        low = λ y k. d.low y (StandsIn-turn y (e ∷ s.back) s.front k);
       };
     }
 
 pub ring-read : (x : ℕ → Option Node) (e : ℕ) (l : List ℕ) → IsRead x e l → ring x e ≡ l
 ring-read x e l r = ring-is x e r.rest r.circle ∙ sym r.is
 
-pub ring-in : (x : ℕ → Option Node) (xs : List ℕ) (e : ℕ) → IsCircle x xs → Has e xs → ring x e ≡ turned e xs
+pub ring-in : (x : ℕ → Option Node) (xs : List ℕ) (e : ℕ) → IsLinkedRing x xs → StandsIn e xs → ring x e ≡ turned e xs
 ring-in x xs e c h = ring-read x e (turned e xs) (circle-turn x xs e c h)
 
 -- circles with one member in common have all
-pub same-circle : (x : ℕ → Option Node) (xs ys : List ℕ) (y e : ℕ) → IsCircle x xs → IsCircle x ys → Has y xs → Has y ys → Has e xs → Has e ys
+pub same-circle : (x : ℕ → Option Node) (xs ys : List ℕ) (y e : ℕ) → IsLinkedRing x xs → IsLinkedRing x ys → StandsIn y xs → StandsIn y ys → StandsIn e xs → StandsIn e ys
 same-circle x xs ys y e c d hx hy h =
     let same : turned y xs ≡ turned y ys = sym (ring-in x xs y c hx) ∙ ring-in x ys y d hy in
-    Has-unturned e y ys hy (subst (Has e) same (Has-turned e y xs hx h))
+    StandsIn-unturned e y ys hy (subst (StandsIn e) same (StandsIn-turned e y xs hx h))
 
-pub circle-frame : (x z : ℕ → Option Node) (c : List ℕ) → IsCircle x c → ((y : ℕ) → Has y c → next_at z y ≡ next_at x y) → ((y : ℕ) → Has y c → prev_at z y ≡ prev_at x y) → ((y : ℕ) → Has y c → event_at z y ≡ event_at x y) → IsCircle z c
+pub circle-frame : (x z : ℕ → Option Node) (c : List ℕ) → IsLinkedRing x c → ((y : ℕ) → StandsIn y c → next_place z y ≡ next_place x y) → ((y : ℕ) → StandsIn y c → prev_place z y ≡ prev_place x y) → ((y : ℕ) → StandsIn y c → event_at z y ≡ event_at x y) → IsLinkedRing z c
 circle-frame x z c i n p e = record {
-  links = links-frame (next_at x) (prev_at x) (next_at z) (prev_at z) c i.links n p;
+  links = links-frame (next_place x) (prev_place x) (next_place z) (prev_place z) c i.links n p;
   distinct = i.distinct;
   live = λ y h. subst IsSome (sym (e y h)) (i.live y h);
   low = i.low;
@@ -105,21 +106,21 @@ IsReadOrGone x e l = IsRead x e l ⊎ ((event_at x e ≡ None) × (l ≡ []))
 
 -- the events that are touched were whole rings, and are read as g says
 pub record Remakes (x z : ℕ → Option Node) (touched : List ℕ) (g : ℕ → List ℕ) : Type 0 where
-  pub next : (y : ℕ) → (Has y touched → ⊥) → next_at z y ≡ next_at x y
-  pub prev : (y : ℕ) → (Has y touched → ⊥) → prev_at z y ≡ prev_at x y
-  pub event : (y : ℕ) → (Has y touched → ⊥) → event_at z y ≡ event_at x y
-  pub closed : (c : List ℕ) → IsCircle x c → (y e : ℕ) → Has y c → Has y touched → Has e c → Has e touched
-  pub low : (e : ℕ) → Has e touched → e < 4096
-  pub inside : (e : ℕ) → Has e touched → IsReadOrGone z e (g e)
-  pub outside : (e : ℕ) → (Has e touched → ⊥) → g e ≡ ring x e
+  pub next : (y : ℕ) → (StandsIn y touched → ⊥) → next_place z y ≡ next_place x y
+  pub prev : (y : ℕ) → (StandsIn y touched → ⊥) → prev_place z y ≡ prev_place x y
+  pub event : (y : ℕ) → (StandsIn y touched → ⊥) → event_at z y ≡ event_at x y
+  pub closed : (c : List ℕ) → IsLinkedRing x c → (y e : ℕ) → StandsIn y c → StandsIn y touched → StandsIn e c → StandsIn e touched
+  pub low : (e : ℕ) → StandsIn e touched → e < event_limit
+  pub inside : (e : ℕ) → StandsIn e touched → IsReadOrGone z e (g e)
+  pub outside : (e : ℕ) → (StandsIn e touched → ⊥) → g e ≡ ring x e
 
 module _ (x z : ℕ → Option Node) (touched : List ℕ) (g : ℕ → List ℕ) (linked : IsLinked x) (r : Remakes x z touched g) where
-  kept : (c : List ℕ) (e : ℕ) → IsCircle x c → Has e c → (Has e touched → ⊥) → IsCircle z c
+  kept : (c : List ℕ) (e : ℕ) → IsLinkedRing x c → StandsIn e c → (StandsIn e touched → ⊥) → IsLinkedRing z c
   kept c e i h out =
-      let away : (y : ℕ) → Has y c → Has y touched → ⊥ = λ y hy t. out (r.closed c i y e hy t h) in
+      let away : (y : ℕ) → StandsIn y c → StandsIn y touched → ⊥ = λ y hy t. out (r.closed c i y e hy t h) in
       circle-frame x z c i (λ y hy. r.next y (away y hy)) (λ y hy. r.prev y (away y hy)) (λ y hy. r.event y (away y hy))
 
-  read_out : (e : ℕ) (o : Option Event) → event_at x e ≡ o → (Has e touched → ⊥) → IsReadOrGone z e (ring x e)
+  read_out : (e : ℕ) (o : Option Event) → event_at x e ≡ o → (StandsIn e touched → ⊥) → IsReadOrGone z e (ring x e)
   read_out e (Some v) was out =
       let live : IsSome (event_at x e) = cc in
       let c = linked.circle e live in
@@ -136,7 +137,7 @@ module _ (x z : ℕ → Option Node) (touched : List ℕ) (g : ℕ → List ℕ)
   pub remade-ring : ring z ≡ g
   remade-ring = fun_ext (λ e. read_is e (g e) (read e))
 
-  live_circle : (e : ℕ) (l : List ℕ) → IsReadOrGone z e l → IsSome (event_at z e) → (rest : List ℕ) × IsCircle z (e ∷ rest)
+  live_circle : (e : ℕ) (l : List ℕ) → IsReadOrGone z e l → IsSome (event_at z e) → (rest : List ℕ) × IsLinkedRing z (e ∷ rest)
   live_circle e l (inl i) live = (i.rest, i.circle)
   live_circle e l (inr n) live = absurd (gone (event_at z e) n.0 live)
     where
@@ -150,5 +151,5 @@ module _ (x z : ℕ → Option Node) (touched : List ℕ) (g : ℕ → List ℕ)
   }
 
 -- read from each of its members
-pub circle-read : (x : ℕ → Option Node) (xs : List ℕ) (f : ℕ → List ℕ) (e : ℕ) → IsCircle x xs → Has e xs → IsReadOrGone x e (circle xs f e)
+pub circle-read : (x : ℕ → Option Node) (xs : List ℕ) (f : ℕ → List ℕ) (e : ℕ) → IsLinkedRing x xs → StandsIn e xs → IsReadOrGone x e (circle xs f e)
 circle-read x xs f e c h = inl (subst (IsRead x e) (sym (circle-in xs f e h)) (circle-turn x xs e c h))

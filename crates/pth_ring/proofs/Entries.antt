@@ -10,17 +10,17 @@ use Rattle.pth_base.specs.declared.event.EventSpec.{EventSpec}
 use Rattle.pth_numbered.specs.Numbered.{IsKept, Adds, Removes, thing_at, number_at, slot_of}
 use Rattle.pth_ring.specs.declared.event.Event.{Event}
 use Rattle.pth_ring.specs.declared.node.Node.{Node}
-use Rattle.pth_ring.specs.Ring.{Has, holds, circle, rest_of}
-use Rattle.pth_ring.specs.Links.{next_at, prev_at, event_at, id_at, ring, IsCircle, IsLinked}
-use Rattle.pth_ring.specs.Rings.{Events, pending, alone, chained, joined, isolated, freed}
-use Rattle.pth_ring.specs.Arena.{RingsOf, named, ring_of, event_of, events_of, AreLinked, SamePlaces, Becomes, IsMade, IsChained, IsDropped, IsFreed}
-use Rattle.pth_ring.proofs.Lists.{has_or_not, holds-out, not_in_one, Has-append_right}
+use Rattle.pth_ring.specs.Ring.{StandsIn, ring_holds, circle, rest_of}
+use Rattle.pth_ring.specs.Links.{next_place, prev_place, event_at, id_at, ring, IsLinkedRing, IsLinked}
+use Rattle.pth_ring.specs.Rings.{event_limit, Events, pending, alone, chained, concatenated, isolated, freed}
+use Rattle.pth_ring.specs.Arena.{RingsOf, rings_by_number, ring_of, event_of, events_of, AreLinked, SamePlaces, Becomes, IsMade, IsChained, IsDropped, IsFreed}
+use Rattle.pth_ring.proofs.Lists.{has_or_not, ring_holds-out, not_in_one, StandsIn-append_right}
 use Rattle.pth_ring.proofs.Turns.{circle-in, circle-out}
 use Rattle.pth_ring.proofs.Circles.{ring-is, ring-none, same-circle}
 use Rattle.pth_ring.proofs.Writes.{next_put, prev_put, id_put, event_put}
 use Rattle.pth_ring.proofs.Changes.{new-linked, new-ring, gone-linked, gone-ring}
 use Rattle.pth_ring.proofs.Calls.{turned-alone, put-circle}
-use Rattle.pth_ring.proofs.Named.{AllUsed, named-circle, named-grown, named-gone}
+use Rattle.pth_ring.proofs.Named.{AllUsed, rings_by_number-circle, rings_by_number-grown, rings_by_number-gone}
 use Rattle.pth_ring.proofs.Shown.{rings-named, events-seen, live, used, ring-at, events_are}
 
 not_some : (o : Option Event) → o ≡ None → IsSome o → ⊥
@@ -30,33 +30,33 @@ is_none : (o : Option Event) → (IsSome o → ⊥) → o ≡ None
 is_none (Some v) h = absurd (h refl)
 is_none None h = refl
 
-nowhere : (l : List ℕ) (u : ℕ) → l ≡ [] → Has u l → ⊥
-nowhere l u e h = subst (Has u) e h
+nowhere : (l : List ℕ) (u : ℕ) → l ≡ [] → StandsIn u l → ⊥
+nowhere l u e h = subst (StandsIn u) e h
 
 -- the places of a ring with a place in it are live
 module _ (x : ℕ → Option Node) (linked : IsLinked x) where
   -- a place with no event is in no ring
-  pub in-no-ring : (u v : ℕ) → event_at x u ≡ None → Has u (ring x v) → ⊥
+  pub in-no-ring : (u v : ℕ) → event_at x u ≡ None → StandsIn u (ring x v) → ⊥
   in-no-ring u v none h = by (event_at x v) refl
     where
       by : (o : Option Event) → event_at x v ≡ o → ⊥
       by None is = nowhere (ring x v) u (ring-none x v is) h
       by (Some w) is =
           let c = linked.circle v (ap_some is) in
-          not_some (event_at x u) none (c.1.live u (subst (Has u) (ring-is x v c.0 c.1) h))
+          not_some (event_at x u) none (c.1.live u (subst (StandsIn u) (ring-is x v c.0 c.1) h))
         where
           ap_some : event_at x v ≡ Some w → IsSome (event_at x v)
           ap_some e = cc
 
   -- one that stands alone is in no other ring
-  pub in-one-ring : (u v : ℕ) → IsCircle x (u ∷ []) → v ≢ u → Has u (ring x v) → ⊥
+  pub in-one-ring : (u v : ℕ) → IsLinkedRing x (u ∷ []) → v ≢ u → StandsIn u (ring x v) → ⊥
   in-one-ring u v alone apart h = by (event_at x v) refl
     where
       by : (o : Option Event) → event_at x v ≡ o → ⊥
       by None is = nowhere (ring x v) u (ring-none x v is) h
       by (Some w) is =
           let c = linked.circle v (ap_some is) in
-          not_in_one v u apart (same-circle x (v ∷ c.0) (u ∷ []) u v c.1 alone (subst (Has u) (ring-is x v c.0 c.1) h) (inl refl) (inl refl))
+          not_in_one v u apart (same-circle x (v ∷ c.0) (u ∷ []) u v c.1 alone (subst (StandsIn u) (ring-is x v c.0 c.1) h) (inl refl) (inl refl))
         where
           ap_some : event_at x v ≡ Some w → IsSome (event_at x v)
           ap_some e = cc
@@ -67,7 +67,7 @@ module _ (x : ℕ → Option Node) (linked : IsLinked x) where
 pub number-new : (x mid : RingsOf) (u : ℕ) (n : Node) → Adds x mid u n → number_at mid u ≢ 0
 number-new x mid u n adds = rw (adds.numbers, put_here (number_at x) u (x.made + 1)) (let a : x.made + 1 ≢ 0 = omega arith in a)
 
-module _ (x mid y : RingsOf) (u : ℕ) (n : Node) (spec : EventSpec) (k : AreLinked x) (law : IsKept mid) (adds : Adds x mid u n) (id : n.id.0 ≡ x.made + 1) (event : n.event ≡ pending spec) (p : SamePlaces mid y) (next : next_at (thing_at y) ≡ put (next_at (thing_at mid)) u u) (prev : prev_at (thing_at y) ≡ put (prev_at (thing_at mid)) u u) (same : event_at (thing_at y) ≡ event_at (thing_at mid)) where
+module _ (x mid y : RingsOf) (u : ℕ) (n : Node) (spec : EventSpec) (k : AreLinked x) (law : IsKept mid) (adds : Adds x mid u n) (id : n.id.0 ≡ x.made + 1) (event : n.event ≡ pending spec) (p : SamePlaces mid y) (next : next_place (thing_at y) ≡ put (next_place (thing_at mid)) u u) (prev : prev_place (thing_at y) ≡ put (prev_place (thing_at mid)) u u) (same : event_at (thing_at y) ≡ event_at (thing_at mid)) where
   abbrev m : ℕ
   m = x.made + 1
 
@@ -77,11 +77,11 @@ module _ (x mid y : RingsOf) (u : ℕ) (n : Node) (spec : EventSpec) (k : AreLin
   numbers_y : number_at y ≡ put (number_at x) u m
   numbers_y = p.numbers ∙ adds.numbers
 
-  next_y : next_at (thing_at y) ≡ put (next_at (thing_at x)) u u
-  next_y = next ∙ ap (λ (f : ℕ → ℕ). put f u u) (next_put x mid u (Some n) adds.things) ∙ put_twice (next_at (thing_at x)) u n.next.0 u
+  next_y : next_place (thing_at y) ≡ put (next_place (thing_at x)) u u
+  next_y = next ∙ ap (λ (f : ℕ → ℕ). put f u u) (next_put x mid u (Some n) adds.things) ∙ put_twice (next_place (thing_at x)) u n.next.0 u
 
-  prev_y : prev_at (thing_at y) ≡ put (prev_at (thing_at x)) u u
-  prev_y = prev ∙ ap (λ (f : ℕ → ℕ). put f u u) (prev_put x mid u (Some n) adds.things) ∙ put_twice (prev_at (thing_at x)) u n.prev.0 u
+  prev_y : prev_place (thing_at y) ≡ put (prev_place (thing_at x)) u u
+  prev_y = prev ∙ ap (λ (f : ℕ → ℕ). put f u u) (prev_put x mid u (Some n) adds.things) ∙ put_twice (prev_place (thing_at x)) u n.prev.0 u
 
   event_y : event_at (thing_at y) ≡ put (event_at (thing_at x)) u (Some (pending spec))
   event_y = same ∙ event_put x mid u (Some n) adds.things ∙ ap (λ (v : Event). put (event_at (thing_at x)) u (Some v)) event
@@ -92,7 +92,7 @@ module _ (x mid y : RingsOf) (u : ℕ) (n : Node) (spec : EventSpec) (k : AreLin
   unused : event_at (thing_at x) u ≡ None
   unused = is_none (event_at (thing_at x) u) (λ h. used x k u h adds.unused)
 
-  low : u < 4096
+  low : u < event_limit
   low = subst (λ (l : ℕ). u < l) k.limit adds.low
 
   kept_y : IsKept y
@@ -113,17 +113,17 @@ module _ (x mid y : RingsOf) (u : ℕ) (n : Node) (spec : EventSpec) (k : AreLin
       some_number n h = omega arith
   new_used v (inr h) zero = absurd h
 
-  old_rings : named (slot_of y) (number_at y) (ring (thing_at x)) ≡ ring_of x
+  old_rings : rings_by_number (slot_of y) (number_at y) (ring (thing_at x)) ≡ ring_of x
   old_rings =
-      ap₂ (λ (s : ℕ → Option ℕ) (t : ℕ → ℕ). named s t (ring (thing_at x))) slots_y numbers_y
-      ∙ named-grown (slot_of x) (number_at x) m u (ring (thing_at x)) adds.unknown (ring-none (thing_at x) u unused) (λ v. in-no-ring (thing_at x) k.linked u v unused)
+      ap₂ (λ (s : ℕ → Option ℕ) (t : ℕ → ℕ). rings_by_number s t (ring (thing_at x))) slots_y numbers_y
+      ∙ rings_by_number-grown (slot_of x) (number_at x) m u (ring (thing_at x)) adds.unknown (ring-none (thing_at x) u unused) (λ v. in-no-ring (thing_at x) k.linked u v unused)
       ∙ sym (rings-named x)
 
   rings_y : ring_of y ≡ circle (m ∷ []) (ring_of x)
   rings_y =
       rings-named y
-      ∙ ap (named (slot_of y) (number_at y)) (new-ring (thing_at x) (thing_at y) u (pending spec) k.linked unused low next_y prev_y event_y)
-      ∙ named-circle (slot_of y) (number_at y) kept_y.tied (u ∷ []) (ring (thing_at x)) new_used
+      ∙ ap (rings_by_number (slot_of y) (number_at y)) (new-ring (thing_at x) (thing_at y) u (pending spec) k.linked unused low next_y prev_y event_y)
+      ∙ rings_by_number-circle (slot_of y) (number_at y) kept_y.tied (u ∷ []) (ring (thing_at x)) new_used
       ∙ ap₂ (λ (j : ℕ) (r : ℕ → List ℕ). circle (j ∷ []) r) (ap (λ (f : ℕ → ℕ). f u) numbers_y ∙ put_here (number_at x) u m) old_rings
 
   events_y : event_of y ≡ put (event_of x) m (Some (pending spec))
@@ -144,19 +144,19 @@ module _ (x mid y : RingsOf) (u : ℕ) (n : Node) (spec : EventSpec) (k : AreLin
 -- ---- one less
 
 module _ (x y : RingsOf) (u : ℕ) (k : AreLinked x) (used_u : number_at x u ≢ 0) (one : ring_of x (number_at x u) ≡ number_at x u ∷ []) (law : IsKept y) (gone : Removes x y u) where
-  only : (rest : List ℕ) → IsCircle (thing_at x) (u ∷ rest) → map (number_at x) (u ∷ rest) ≡ number_at x u ∷ [] → IsCircle (thing_at x) (u ∷ [])
+  only : (rest : List ℕ) → IsLinkedRing (thing_at x) (u ∷ rest) → map (number_at x) (u ∷ rest) ≡ number_at x u ∷ [] → IsLinkedRing (thing_at x) (u ∷ [])
   only [] c e = c
   only (v ∷ rest) c e = cc
 
-  alone_u : IsCircle (thing_at x) (u ∷ [])
+  alone_u : IsLinkedRing (thing_at x) (u ∷ [])
   alone_u =
       let c = k.linked.circle u (live x k u used_u) in
       only c.0 c.1 (ap (map (number_at x)) (sym (ring-is (thing_at x) u c.0 c.1)) ∙ sym (ring-at x k u used_u) ∙ one)
 
-  next_z : next_at (thing_at y) ≡ put (next_at (thing_at x)) u 0
+  next_z : next_place (thing_at y) ≡ put (next_place (thing_at x)) u 0
   next_z = next_put x y u None gone.things
 
-  prev_z : prev_at (thing_at y) ≡ put (prev_at (thing_at x)) u 0
+  prev_z : prev_place (thing_at y) ≡ put (prev_place (thing_at x)) u 0
   prev_z = prev_put x y u None gone.things
 
   event_z : event_at (thing_at y) ≡ put (event_at (thing_at x)) u None
@@ -176,9 +176,9 @@ module _ (x y : RingsOf) (u : ℕ) (k : AreLinked x) (used_u : number_at x u ≢
     numbers = gone.numbers;
     rings =
         rings-named y
-        ∙ ap (named (slot_of y) (number_at y)) (gone-ring (thing_at x) (thing_at y) u k.linked alone_u next_z prev_z event_z)
-        ∙ ap₂ (λ (s : ℕ → Option ℕ) (t : ℕ → ℕ). named s t (put (ring (thing_at x)) u [])) gone.slots gone.numbers
-        ∙ named-gone (slot_of x) (number_at x) (number_at x u) u (ring (thing_at x)) k.kept.tied at (λ v. in-one-ring (thing_at x) k.linked u v alone_u)
+        ∙ ap (rings_by_number (slot_of y) (number_at y)) (gone-ring (thing_at x) (thing_at y) u k.linked alone_u next_z prev_z event_z)
+        ∙ ap₂ (λ (s : ℕ → Option ℕ) (t : ℕ → ℕ). rings_by_number s t (put (ring (thing_at x)) u [])) gone.slots gone.numbers
+        ∙ rings_by_number-gone (slot_of x) (number_at x) (number_at x u) u (ring (thing_at x)) k.kept.tied at (λ v. in-one-ring (thing_at x) k.linked u v alone_u)
         ∙ ap (λ (f : ℕ → List ℕ). put f (number_at x u) []) (sym (rings-named x));
     events =
         events-seen y
@@ -247,16 +247,16 @@ module _ (x mid : RingsOf) (spec : EventSpec) (e u : ℕ) (k : AreLinked x) (use
   pub used-new : number_at mid u ≢ 0
   used-new = rw number_u (let a : j ≢ 0 = omega arith in a)
 
-  pub apart-new : holds (number_at mid e) (ring_of mid (number_at mid u)) ≡ false
-  apart-new = ap₂ holds number_e ring_u ∙ holds-out (number_at x e) (j ∷ []) (not_in_one (number_at x e) j number_other)
+  pub apart-new : ring_holds (number_at mid e) (ring_of mid (number_at mid u)) ≡ false
+  apart-new = ap₂ ring_holds number_e ring_u ∙ ring_holds-out (number_at x e) (j ∷ []) (not_in_one (number_at x e) j number_other)
 
   over : (l : List ℕ) (f : ℕ) → circle (l ++ j ∷ []) (circle (j ∷ []) (ring_of x)) f ≡ circle (l ++ j ∷ []) (ring_of x) f
   over l f = elim (has_or_not f (l ++ j ∷ [])) [
     | inl h ↦ circle-in (l ++ j ∷ []) (circle (j ∷ []) (ring_of x)) f h ∙ sym (circle-in (l ++ j ∷ []) (ring_of x) f h)
-    | inr out ↦ circle-out (l ++ j ∷ []) (circle (j ∷ []) (ring_of x)) f out ∙ circle-out (j ∷ []) (ring_of x) f (λ h. out (Has-append_right f l (j ∷ []) h)) ∙ sym (circle-out (l ++ j ∷ []) (ring_of x) f out)
+    | inr out ↦ circle-out (l ++ j ∷ []) (circle (j ∷ []) (ring_of x)) f out ∙ circle-out (j ∷ []) (ring_of x) f (λ h. out (StandsIn-append_right f l (j ∷ []) h)) ∙ sym (circle-out (l ++ j ∷ []) (ring_of x) f out)
   ]
 
-  pub is-chained : (y : RingsOf) → Becomes mid y (joined (number_at mid e) (number_at mid u) (events_of mid)) → IsChained x y spec (number_at x e)
+  pub is-chained : (y : RingsOf) → Becomes mid y (concatenated (number_at mid e) (number_at mid u) (events_of mid)) → IsChained x y spec (number_at x e)
   is-chained y b = record {
     kept = b.kept;
     events = events_are y (chained spec (number_at x e) (events_of x))

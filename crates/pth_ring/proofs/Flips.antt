@@ -3,9 +3,9 @@ use Rattle.std.proofs.Common.{◌≡◌, ℕ, List, [], ◌∷◌, ◌++◌, rev
 use mathlib.Core.Path.{fun_ext}
 use Rattle.pth_ring.specs.declared.node.Node.{Node}
 use Rattle.std.proofs.lemmas.List.{reverse-append}
-use Rattle.pth_ring.specs.Ring.{Has, Distinct, behind}
-use Rattle.pth_ring.specs.Links.{Chain, node_next, node_prev, node_event, next_at, prev_at, event_at, ring, IsCircle, IsLinked}
-use Rattle.pth_ring.proofs.Lists.{Has-append_cases, distinct-join}
+use Rattle.pth_ring.specs.Ring.{StandsIn, NoneTwice, turned_once}
+use Rattle.pth_ring.specs.Links.{LinksAlong, node_next, node_prev, node_event, next_place, prev_place, event_at, ring, IsLinkedRing, IsLinked}
+use Rattle.pth_ring.proofs.Lists.{StandsIn-append_cases, distinct-join}
 use Rattle.pth_ring.proofs.Chains.{chain-join}
 use Rattle.pth_ring.proofs.Circles.{ring-is}
 
@@ -36,45 +36,45 @@ event_swapped : (o : Option Node) → node_event (swapped o) ≡ node_event o
 event_swapped (Some n) = refl
 event_swapped None = refl
 
-pub flip-next : (x : ℕ → Option Node) → next_at (flip x) ≡ prev_at x
-unfolding flip next_at prev_at
+pub flip-next : (x : ℕ → Option Node) → next_place (flip x) ≡ prev_place x
+unfolding flip next_place prev_place
 flip-next x = fun_ext (λ e. next_swapped (x e))
 
-pub flip-prev : (x : ℕ → Option Node) → prev_at (flip x) ≡ next_at x
-unfolding flip next_at prev_at
+pub flip-prev : (x : ℕ → Option Node) → prev_place (flip x) ≡ next_place x
+unfolding flip next_place prev_place
 flip-prev x = fun_ext (λ e. prev_swapped (x e))
 
 pub flip-event : (x : ℕ → Option Node) → event_at (flip x) ≡ event_at x
 unfolding flip event_at
 flip-event x = fun_ext (λ e. event_swapped (x e))
 
-chain-back : (n p : ℕ → ℕ) (a : ℕ) (xs : List ℕ) (b : ℕ) → Chain n p a xs b → Chain p n b (reversed xs) a
+chain-back : (n p : ℕ → ℕ) (a : ℕ) (xs : List ℕ) (b : ℕ) → LinksAlong n p a xs b → LinksAlong p n b (reversed xs) a
 chain-back n p a [] b h = (h.1, h.0)
 chain-back n p a (x ∷ xs) b h = chain-join p n b (reversed xs) x [] a (chain-back n p x xs b h.2) (h.1, h.0)
 
-Has-reversed : (y : ℕ) (xs : List ℕ) → Has y (reversed xs) → Has y xs
-Has-reversed y [] h = h
-Has-reversed y (x ∷ xs) h = elim (Has-append_cases y (reversed xs) (x ∷ []) h) [ inl l ↦ inr (Has-reversed y xs l) | inr (inl k) ↦ inl k | inr (inr z) ↦ absurd z ]
+StandsIn-reversed : (y : ℕ) (xs : List ℕ) → StandsIn y (reversed xs) → StandsIn y xs
+StandsIn-reversed y [] h = h
+StandsIn-reversed y (x ∷ xs) h = elim (StandsIn-append_cases y (reversed xs) (x ∷ []) h) [ inl l ↦ inr (StandsIn-reversed y xs l) | inr (inl k) ↦ inl k | inr (inr z) ↦ absurd z ]
 
-distinct-reversed : (xs : List ℕ) → Distinct xs → Distinct (reversed xs)
+distinct-reversed : (xs : List ℕ) → NoneTwice xs → NoneTwice (reversed xs)
 distinct-reversed [] d = tt
-distinct-reversed (x ∷ xs) d = distinct-join (reversed xs) (x ∷ []) (distinct-reversed xs d.1) ((λ y h. absurd h), tt) (λ a ha b hb k. d.0 a (Has-reversed a xs ha) (k ∙ one b x hb))
+distinct-reversed (x ∷ xs) d = distinct-join (reversed xs) (x ∷ []) (distinct-reversed xs d.1) ((λ y h. absurd h), tt) (λ a ha b hb k. d.0 a (StandsIn-reversed a xs ha) (k ∙ one b x hb))
   where
-    one : (b x : ℕ) → Has b (x ∷ []) → b ≡ x
+    one : (b x : ℕ) → StandsIn b (x ∷ []) → b ≡ x
     one b x (inl k) = k
     one b x (inr z) = absurd z
 
-flip-circle : (x : ℕ → Option Node) (e : ℕ) (rest : List ℕ) → IsCircle x (e ∷ rest) → IsCircle (flip x) (e ∷ reversed rest)
+flip-circle : (x : ℕ → Option Node) (e : ℕ) (rest : List ℕ) → IsLinkedRing x (e ∷ rest) → IsLinkedRing (flip x) (e ∷ reversed rest)
 flip-circle x e rest c = record {
-  links = rw (flip-next x, flip-prev x) (chain-back (next_at x) (prev_at x) e rest e c.links);
-  distinct = ((λ y h. c.distinct.0 y (Has-reversed y rest h)), distinct-reversed rest c.distinct.1);
+  links = rw (flip-next x, flip-prev x) (chain-back (next_place x) (prev_place x) e rest e c.links);
+  distinct = ((λ y h. c.distinct.0 y (StandsIn-reversed y rest h)), distinct-reversed rest c.distinct.1);
   live = λ y h. rw (flip-event x) (c.live y (there y h));
   low = λ y h. c.low y (there y h);
 }
   where
-    there : (y : ℕ) → Has y (e ∷ reversed rest) → Has y (e ∷ rest)
+    there : (y : ℕ) → StandsIn y (e ∷ reversed rest) → StandsIn y (e ∷ rest)
     there y (inl k) = inl k
-    there y (inr h) = inr (Has-reversed y rest h)
+    there y (inr h) = inr (StandsIn-reversed y rest h)
 
 pub flip-linked : (x : ℕ → Option Node) → IsLinked x → IsLinked (flip x)
 flip-linked x linked = record {
@@ -85,10 +85,10 @@ flip-linked x linked = record {
 pub flip-live : (x : ℕ → Option Node) (e : ℕ) → IsSome (event_at x e) → IsSome (event_at (flip x) e)
 flip-live x e h = rw (flip-event x) h
 
-behind_same : (e : ℕ) (xs : List ℕ) → behind (e ∷ reversed xs) ≡ reverse (e ∷ xs)
+behind_same : (e : ℕ) (xs : List ℕ) → turned_once (e ∷ reversed xs) ≡ reverse (e ∷ xs)
 behind_same e xs = reversed_is (e ∷ xs)
 
-pub flip-ring : (x : ℕ → Option Node) (e : ℕ) → IsLinked x → IsSome (event_at x e) → behind (ring (flip x) e) ≡ reverse (ring x e)
+pub flip-ring : (x : ℕ → Option Node) (e : ℕ) → IsLinked x → IsSome (event_at x e) → turned_once (ring (flip x) e) ≡ reverse (ring x e)
 flip-ring x e linked live =
     let c = linked.circle e live in
-    ap behind (ring-is (flip x) e (reversed c.0) (flip-circle x e c.0 c.1)) ∙ behind_same e c.0 ∙ sym (ap (λ (l : List ℕ). reverse l) (ring-is x e c.0 c.1))
+    ap turned_once (ring-is (flip x) e (reversed c.0) (flip-circle x e c.0 c.1)) ∙ behind_same e c.0 ∙ sym (ap (λ (l : List ℕ). reverse l) (ring-is x e c.0 c.1))

@@ -5,11 +5,11 @@ use mathlib.Core.Path.{fun_ext}
 use Rattle.pth_base.specs.Table.{put}
 use Rattle.pth_base.proofs.Tables.{put_here, put_other, same_self, not_same}
 use Rattle.pth_numbered.specs.Numbered.{thing_at, number_at, slot_of}
-use Rattle.pth_ring.specs.Ring.{Has, circle, rest_of, from, before, turned, each}
-use Rattle.pth_ring.specs.Links.{next_at, prev_at, ring, IsCircle}
+use Rattle.pth_ring.specs.Ring.{StandsIn, circle, rest_of, from, before, turned, each}
+use Rattle.pth_ring.specs.Links.{next_place, prev_place, ring, IsLinkedRing}
 use Rattle.pth_ring.specs.Rings.{Events, ring_freed, freed}
 use Rattle.pth_ring.specs.Arena.{RingsOf, ring_of, events_of, AreLinked, IsFreed}
-use Rattle.pth_ring.proofs.Lists.{has_or_not, Has-turn, distinct-turn, Has-append_right, Has-append_cases}
+use Rattle.pth_ring.proofs.Lists.{has_or_not, StandsIn-turn, distinct-turn, StandsIn-append_right, StandsIn-append_cases}
 use Rattle.pth_ring.proofs.Chains.{links-turn}
 use Rattle.pth_ring.proofs.Turns.{circle-in, circle-out, each-in, each-out}
 use Rattle.pth_ring.proofs.Circles.{ring-is}
@@ -17,15 +17,15 @@ use Rattle.pth_ring.proofs.Calls.{HasNext, more, ring-alone}
 use Rattle.pth_ring.proofs.Named.{AllUsed, map-append, has-place}
 use Rattle.pth_ring.proofs.Shown.{events_same, live, used, ring-at}
 
-from-skip : (e : ℕ) (ys : List ℕ) → (Has e ys → ⊥) → from e (ys ++ e ∷ []) ≡ e ∷ []
+from-skip : (e : ℕ) (ys : List ℕ) → (StandsIn e ys → ⊥) → from e (ys ++ e ∷ []) ≡ e ∷ []
 from-skip e [] h = let t : (e == e) ≡ true = same_self e in rw t refl
 from-skip e (y ∷ ys) h = let t : (y == e) ≡ false = not_same y e (λ k. h (inl (sym k))) in rw t (from-skip e ys (λ k. h (inr k)))
 
-before-skip : (e : ℕ) (ys : List ℕ) → (Has e ys → ⊥) → before e (ys ++ e ∷ []) ≡ ys
+before-skip : (e : ℕ) (ys : List ℕ) → (StandsIn e ys → ⊥) → before e (ys ++ e ∷ []) ≡ ys
 before-skip e [] h = let t : (e == e) ≡ true = same_self e in rw t refl
 before-skip e (y ∷ ys) h = let t : (y == e) ≡ false = not_same y e (λ k. h (inl (sym k))) in rw t (ap (λ l. y ∷ l) (before-skip e ys (λ k. h (inr k))))
 
-turned-end : (e : ℕ) (ys : List ℕ) → (Has e ys → ⊥) → turned e (ys ++ e ∷ []) ≡ e ∷ ys
+turned-end : (e : ℕ) (ys : List ℕ) → (StandsIn e ys → ⊥) → turned e (ys ++ e ∷ []) ≡ e ∷ ys
 unfolding turned
 turned-end e ys h = ap₂ (λ (a b : List ℕ). a ++ b) (from-skip e ys h) (before-skip e ys h)
 
@@ -35,7 +35,7 @@ turned-end e ys h = ap₂ (λ (a b : List ℕ). a ++ b) (from-skip e ys h) (befo
 each-one : {A : Type 0} (d : A) (e : ℕ) (f g : ℕ → A) → g e ≡ d → ((y : ℕ) → y ≢ e → g y ≡ f y) → g ≡ each (e ∷ []) (λ _. d) f
 each-one {A = A} d e f g here other = fun_ext at
   where
-    out : (y : ℕ) → y ≢ e → Has y (e ∷ []) → ⊥
+    out : (y : ℕ) → y ≢ e → StandsIn y (e ∷ []) → ⊥
     out y n (inl k) = n k
     out y n (inr h) = h
 
@@ -46,14 +46,14 @@ each-one {A = A} d e f g here other = fun_ext at
     ]
 
 -- one fewer is left to skip
-each-less : {A : Type 0} (d : A) (e n : ℕ) (ys : List ℕ) (f g : ℕ → A) → g n ≡ d → ((y : ℕ) → (Has y (e ∷ n ∷ ys) → ⊥) → g y ≡ f y) → each (e ∷ ys) (λ _. d) g ≡ each (e ∷ n ∷ ys) (λ _. d) f
+each-less : {A : Type 0} (d : A) (e n : ℕ) (ys : List ℕ) (f g : ℕ → A) → g n ≡ d → ((y : ℕ) → (StandsIn y (e ∷ n ∷ ys) → ⊥) → g y ≡ f y) → each (e ∷ ys) (λ _. d) g ≡ each (e ∷ n ∷ ys) (λ _. d) f
 each-less {A = A} d e n ys f g here other = fun_ext at
   where
-    wide : (y : ℕ) → Has y (e ∷ ys) → Has y (e ∷ n ∷ ys)
+    wide : (y : ℕ) → StandsIn y (e ∷ ys) → StandsIn y (e ∷ n ∷ ys)
     wide y (inl k) = inl k
     wide y (inr h) = inr (inr h)
 
-    away : (y : ℕ) → (Has y (e ∷ ys) → ⊥) → y ≢ n → Has y (e ∷ n ∷ ys) → ⊥
+    away : (y : ℕ) → (StandsIn y (e ∷ ys) → ⊥) → y ≢ n → StandsIn y (e ∷ n ∷ ys) → ⊥
     away y out m (inl k) = out (inl k)
     away y out m (inr (inl k)) = m k
     away y out m (inr (inr h)) = out (inr h)
@@ -67,7 +67,7 @@ each-less {A = A} d e n ys f g here other = fun_ext at
       ]
     ]
 
-none-out : (y : ℕ) → Has y [] → ⊥
+none-out : (y : ℕ) → StandsIn y [] → ⊥
 none-out y h = h
 
 -- the last of a ring goes
@@ -79,15 +79,15 @@ freed-end s e alone =
     refl
 
 -- the next one of a ring goes
-module _ (s : Events) (e n : ℕ) (ys : List ℕ) (ring_e : s.rings e ≡ e ∷ n ∷ ys) (ring_n : s.rings n ≡ n ∷ (ys ++ e ∷ [])) (apart : n ≢ e) (out : Has e ys → ⊥) where
+module _ (s : Events) (e n : ℕ) (ys : List ℕ) (ring_e : s.rings e ≡ e ∷ n ∷ ys) (ring_n : s.rings n ≡ n ∷ (ys ++ e ∷ [])) (apart : n ≢ e) (out : StandsIn e ys → ⊥) where
   rings_are : (freed n s).rings ≡ put (circle (ys ++ e ∷ []) s.rings) n []
   rings_are = ap (λ (l : List ℕ). put (circle (rest_of l) s.rings) n []) ring_n
 
   ring_left : (freed n s).rings e ≡ e ∷ ys
-  ring_left = ap (λ (f : ℕ → List ℕ). f e) rings_are ∙ put_other (circle (ys ++ e ∷ []) s.rings) n [] e (λ k. apart (sym k)) ∙ circle-in (ys ++ e ∷ []) s.rings e (Has-append_right e ys (e ∷ []) (inl refl)) ∙ turned-end e ys out
+  ring_left = ap (λ (f : ℕ → List ℕ). f e) rings_are ∙ put_other (circle (ys ++ e ∷ []) s.rings) n [] e (λ k. apart (sym k)) ∙ circle-in (ys ++ e ∷ []) s.rings e (StandsIn-append_right e ys (e ∷ []) (inl refl)) ∙ turned-end e ys out
 
-  out_of : (y : ℕ) → (Has y (e ∷ n ∷ ys) → ⊥) → Has y (ys ++ e ∷ []) → ⊥
-  out_of y o h = elim (Has-append_cases y ys (e ∷ []) h) [ inl k ↦ o (inr (inr k)) | inr (inl k) ↦ o (inl k) | inr (inr w) ↦ absurd w ]
+  out_of : (y : ℕ) → (StandsIn y (e ∷ n ∷ ys) → ⊥) → StandsIn y (ys ++ e ∷ []) → ⊥
+  out_of y o h = elim (StandsIn-append_cases y ys (e ∷ []) h) [ inl k ↦ o (inr (inr k)) | inr (inl k) ↦ o (inl k) | inr (inr w) ↦ absurd w ]
 
   freed-next : ring_freed e (freed n s) ≡ ring_freed e s
   freed-next =
@@ -105,7 +105,7 @@ module _ (s : Events) (e n : ℕ) (ys : List ℕ) (ring_e : s.rings e ≡ e ∷ 
 
 -- ---- nodes
 
-module _ (x z : RingsOf) (e n : ℕ) (k : AreLinked x) (used_e : number_at x e ≢ 0) (next : n ≡ next_at (thing_at x) e) (gone : IsFreed x z n) where
+module _ (x z : RingsOf) (e n : ℕ) (k : AreLinked x) (used_e : number_at x e ≢ 0) (next : n ≡ next_place (thing_at x) e) (gone : IsFreed x z n) where
   abbrev t : ℕ → ℕ
   t = number_at x
 
@@ -122,19 +122,19 @@ module _ (x z : RingsOf) (e n : ℕ) (k : AreLinked x) (used_e : number_at x e �
     ys : List ℕ
     ys = has_next.rest
 
-    circle_x : IsCircle (thing_at x) (e ∷ n ∷ ys)
+    circle_x : IsLinkedRing (thing_at x) (e ∷ n ∷ ys)
     unfolding ys
-    circle_x = subst (λ (w : ℕ). IsCircle (thing_at x) (e ∷ w ∷ has_next.rest)) (sym next) has_next.circle
+    circle_x = subst (λ (w : ℕ). IsLinkedRing (thing_at x) (e ∷ w ∷ has_next.rest)) (sym next) has_next.circle
 
     ring_e : ring (thing_at x) e ≡ e ∷ n ∷ ys
     ring_e = ring-is (thing_at x) e (n ∷ ys) circle_x
 
     ring_n : ring (thing_at x) n ≡ n ∷ (ys ++ e ∷ [])
     ring_n = ring-is (thing_at x) n (ys ++ e ∷ []) (record {
-      links = links-turn (next_at (thing_at x)) (prev_at (thing_at x)) (e ∷ []) (n ∷ ys) circle_x.links;
+      links = links-turn (next_place (thing_at x)) (prev_place (thing_at x)) (e ∷ []) (n ∷ ys) circle_x.links;
       distinct = distinct-turn (e ∷ []) (n ∷ ys) circle_x.distinct;
-      live = λ y h. circle_x.live y (Has-turn y (n ∷ ys) (e ∷ []) h);
-      low = λ y h. circle_x.low y (Has-turn y (n ∷ ys) (e ∷ []) h);
+      live = λ y h. circle_x.live y (StandsIn-turn y (n ∷ ys) (e ∷ []) h);
+      low = λ y h. circle_x.low y (StandsIn-turn y (n ∷ ys) (e ∷ []) h);
     })
 
     used_all : AllUsed t (e ∷ n ∷ ys)
@@ -151,18 +151,18 @@ module _ (x z : RingsOf) (e n : ℕ) (k : AreLinked x) (used_e : number_at x e �
 
     numbers_apart : t n ≢ t e
     numbers_apart same =
-        let h : Has n (e ∷ []) = has-place (slot_of x) t k.kept.tied n (e ∷ []) used_n (λ v h. one v h) (inl same) in
+        let h : StandsIn n (e ∷ []) = has-place (slot_of x) t k.kept.tied n (e ∷ []) used_n (λ v h. one v h) (inl same) in
         no h
       where
-        one : (v : ℕ) → Has v (e ∷ []) → t v ≢ 0
+        one : (v : ℕ) → StandsIn v (e ∷ []) → t v ≢ 0
         one v (inl s) = subst (λ (w : ℕ). t w ≢ 0) (sym s) used_e
         one v (inr h) = absurd h
 
-        no : Has n (e ∷ []) → ⊥
+        no : StandsIn n (e ∷ []) → ⊥
         no (inl s) = apart s
         no (inr h) = h
 
-    numbers_out : Has (t e) (map t ys) → ⊥
+    numbers_out : StandsIn (t e) (map t ys) → ⊥
     numbers_out h = circle_x.distinct.0 e (inr (has-place (slot_of x) t k.kept.tied e ys used_e (λ v w. used_all v (inr (inr w))) h)) refl
 
     pub number-still : number_at z e ≡ t e

@@ -4,34 +4,35 @@ use Rattle.std.specs.List.{list_any}
 use Rattle.std.proofs.lemmas.Bool.{cases_eq}
 use Rattle.std.proofs.lemmas.List.Sums.{sum_by-cons}
 use Rattle.pth_ring.specs.declared.node.Node.{Node}
-use Rattle.pth_ring.specs.Ring.{Has, from, rest_of, behind}
-use Rattle.pth_ring.specs.Links.{Chain, next_at, prev_at, event_at, ring, IsCircle, IsLinked, left}
+use Rattle.pth_ring.specs.Ring.{StandsIn, from, rest_of, turned_once}
+use Rattle.pth_ring.specs.Links.{LinksAlong, next_place, prev_place, event_at, ring, IsLinkedRing, IsLinked, places_left}
+use Rattle.pth_ring.specs.Rings.{event_limit}
 use Rattle.pth_base.proofs.Tables.{same_self, not_same}
-use Rattle.pth_ring.proofs.Lists.{Has-append_right}
+use Rattle.pth_ring.proofs.Lists.{StandsIn-append_right}
 use Rattle.pth_ring.proofs.Chains.{chain-split}
 use Rattle.pth_ring.proofs.Turns.{split}
-use Rattle.pth_ring.proofs.Circles.{walk-is, few, ring-is}
+use Rattle.pth_ring.proofs.Circles.{places_along-is, few, ring-is}
 
 -- what is left of a ring from one of its members on
 pub record Along (x : ℕ → Option Node) (e at : ℕ) : Type 0 where
   pub back : List ℕ
-  pub is : left x e at ≡ at ∷ back
+  pub is : places_left x e at ≡ at ∷ back
   pub from_is : from at (ring x e) ≡ at ∷ back
-  pub chain : Chain (next_at x) (prev_at x) at back e
-  pub away : (y : ℕ) → Has y back → y ≢ e
-  pub short : length back < 4096
-  pub inside : (y : ℕ) → Has y (at ∷ back) → Has y (ring x e)
+  pub chain : LinksAlong (next_place x) (prev_place x) at back e
+  pub away : (y : ℕ) → StandsIn y back → y ≢ e
+  pub short : length back < event_limit
+  pub inside : (y : ℕ) → StandsIn y (at ∷ back) → StandsIn y (ring x e)
 
-module _ (x : ℕ → Option Node) (e : ℕ) (rest : List ℕ) (c : IsCircle x (e ∷ rest)) where
-  short_rest : length rest < 4096
-  short_rest = let f = few (e ∷ rest) 4096 c.distinct c.low in omega arith
+module _ (x : ℕ → Option Node) (e : ℕ) (rest : List ℕ) (c : IsLinkedRing x (e ∷ rest)) where
+  short_rest : length rest < event_limit
+  short_rest = let f = few (e ∷ rest) event_limit c.distinct c.low in omega arith
 
-  in_ring : (y : ℕ) → Has y (e ∷ rest) → Has y (ring x e)
-  in_ring y h = subst (Has y) (sym (ring-is x e rest c)) h
+  in_ring : (y : ℕ) → StandsIn y (e ∷ rest) → StandsIn y (ring x e)
+  in_ring y h = subst (StandsIn y) (sym (ring-is x e rest c)) h
 
-  left_by : (at : ℕ) (back : List ℕ) → Chain (next_at x) (prev_at x) at back e → ((y : ℕ) → Has y back → y ≢ e) → length back < 4096 → left x e at ≡ at ∷ back
-  unfolding left
-  left_by at back h away short = walk-is (next_at x) (prev_at x) 4096 at back e short h away
+  left_by : (at : ℕ) (back : List ℕ) → LinksAlong (next_place x) (prev_place x) at back e → ((y : ℕ) → StandsIn y back → y ≢ e) → length back < event_limit → places_left x e at ≡ at ∷ back
+  unfolding places_left
+  left_by at back h away short = places_along-is (next_place x) (prev_place x) event_limit at back e short h away
 
   along_by : (front back : List ℕ) (at : ℕ) → e ∷ rest ≡ front ++ at ∷ back → from at (ring x e) ≡ at ∷ back → Along x e at
   along_by [] back at h reads =
@@ -41,66 +42,66 @@ module _ (x : ℕ → Option Node) (e : ℕ) (rest : List ℕ) (c : IsCircle x (
   along_by (f ∷ front) back at h reads =
       let same : e ≡ f = cc in
       let tail : rest ≡ front ++ at ∷ back = cc in
-      let chain : Chain (next_at x) (prev_at x) at back e = (chain-split (next_at x) (prev_at x) e front at back e (subst (λ l. Chain (next_at x) (prev_at x) e l e) tail c.links)).1 in
-      let there : (y : ℕ) → Has y (at ∷ back) → Has y rest = λ y k. subst (Has y) (sym tail) (Has-append_right y front (at ∷ back) k) in
-      let away : (y : ℕ) → Has y back → y ≢ e = λ y k. c.distinct.0 y (there y (inr k)) in
-      let short : length back < 4096 = (let a = length-append front (at ∷ back) in let b = ap length tail in let d = short_rest in omega arith) in
+      let chain : LinksAlong (next_place x) (prev_place x) at back e = (chain-split (next_place x) (prev_place x) e front at back e (subst (λ l. LinksAlong (next_place x) (prev_place x) e l e) tail c.links)).1 in
+      let there : (y : ℕ) → StandsIn y (at ∷ back) → StandsIn y rest = λ y k. subst (StandsIn y) (sym tail) (StandsIn-append_right y front (at ∷ back) k) in
+      let away : (y : ℕ) → StandsIn y back → y ≢ e = λ y k. c.distinct.0 y (there y (inr k)) in
+      let short : length back < event_limit = (let a = length-append front (at ∷ back) in let b = ap length tail in let d = short_rest in omega arith) in
       record { back = back; is = left_by at back chain away short; from_is = reads; chain = chain; away = away; short = short; inside = λ y k. in_ring y (inr (there y k)) }
 
 module _ (x : ℕ → Option Node) (e : ℕ) (linked : IsLinked x) (live : IsSome (event_at x e)) where
-  pub along : (at : ℕ) → Has at (ring x e) → Along x e at
+  pub along : (at : ℕ) → StandsIn at (ring x e) → Along x e at
   along at h =
       let c = linked.circle e live in
-      let s = split at (e ∷ c.0) (subst (Has at) (ring-is x e c.0 c.1) h) in
+      let s = split at (e ∷ c.0) (subst (StandsIn at) (ring-is x e c.0 c.1) h) in
       along_by x e c.0 c.1 s.front s.back at s.is (ap (from at) (ring-is x e c.0 c.1) ∙ s.from_is)
 
-  pub on-start : Has e (ring x e)
-  on-start = let c = linked.circle e live in subst (Has e) (sym (ring-is x e c.0 c.1)) (inl refl)
+  pub on-start : StandsIn e (ring x e)
+  on-start = let c = linked.circle e live in subst (StandsIn e) (sym (ring-is x e c.0 c.1)) (inl refl)
 
-  pub on-live : (at : ℕ) → Has at (ring x e) → IsSome (event_at x at)
-  on-live at h = let c = linked.circle e live in c.1.live at (subst (Has at) (ring-is x e c.0 c.1) h)
+  pub on-live : (at : ℕ) → StandsIn at (ring x e) → IsSome (event_at x at)
+  on-live at h = let c = linked.circle e live in c.1.live at (subst (StandsIn at) (ring-is x e c.0 c.1) h)
 
-  pub left-start : left x e e ≡ ring x e
-  left-start = let c = linked.circle e live in left_by x e c.0 c.1 e c.0 c.1.links c.1.distinct.0 (short_rest x e c.0 c.1) ∙ sym (ring-is x e c.0 c.1)
+  pub places_left-start : places_left x e e ≡ ring x e
+  places_left-start = let c = linked.circle e live in left_by x e c.0 c.1 e c.0 c.1.links c.1.distinct.0 (short_rest x e c.0 c.1) ∙ sym (ring-is x e c.0 c.1)
 
-  last_by : (at : ℕ) (back : List ℕ) → Chain (next_at x) (prev_at x) at back e → ((y : ℕ) → Has y back → y ≢ e) → next_at x at ≡ e → back ≡ []
+  last_by : (at : ℕ) (back : List ℕ) → LinksAlong (next_place x) (prev_place x) at back e → ((y : ℕ) → StandsIn y back → y ≢ e) → next_place x at ≡ e → back ≡ []
   last_by at [] h away n = refl
   last_by at (y ∷ ys) h away n = absurd (away y (inl refl) (sym h.0 ∙ n))
 
-  pub left-last : (at : ℕ) → Has at (ring x e) → next_at x at ≡ e → left x e at ≡ at ∷ []
-  left-last at h n = let a = along at h in a.is ∙ ap (λ l. at ∷ l) (last_by at a.back a.chain a.away n)
+  pub places_left-last : (at : ℕ) → StandsIn at (ring x e) → next_place x at ≡ e → places_left x e at ≡ at ∷ []
+  places_left-last at h n = let a = along at h in a.is ∙ ap (λ l. at ∷ l) (last_by at a.back a.chain a.away n)
 
-  step_by : (at : ℕ) (back : List ℕ) → Chain (next_at x) (prev_at x) at back e → ((y : ℕ) → Has y back → y ≢ e) → length back < 4096 → next_at x at ≢ e → left x e (next_at x at) ≡ back
+  step_by : (at : ℕ) (back : List ℕ) → LinksAlong (next_place x) (prev_place x) at back e → ((y : ℕ) → StandsIn y back → y ≢ e) → length back < event_limit → next_place x at ≢ e → places_left x e (next_place x at) ≡ back
   step_by at [] h away short n = absurd (n h.0)
   step_by at (y ∷ ys) h away short n =
       let c = linked.circle e live in
-      ap (left x e) h.0 ∙ left_by x e c.0 c.1 y ys h.2 (λ z k. away z (inr k)) (omega arith)
+      ap (places_left x e) h.0 ∙ left_by x e c.0 c.1 y ys h.2 (λ z k. away z (inr k)) (omega arith)
 
-  pub left-step : (at : ℕ) → Has at (ring x e) → next_at x at ≢ e → left x e at ≡ at ∷ left x e (next_at x at)
-  left-step at h n = let a = along at h in a.is ∙ ap (λ l. at ∷ l) (sym (step_by at a.back a.chain a.away a.short n))
+  pub places_left-step : (at : ℕ) → StandsIn at (ring x e) → next_place x at ≢ e → places_left x e at ≡ at ∷ places_left x e (next_place x at)
+  places_left-step at h n = let a = along at h in a.is ∙ ap (λ l. at ∷ l) (sym (step_by at a.back a.chain a.away a.short n))
 
-  on_by : (at : ℕ) (back : List ℕ) → Chain (next_at x) (prev_at x) at back e → ((y : ℕ) → Has y (at ∷ back) → Has y (ring x e)) → Has (next_at x at) (ring x e)
-  on_by at [] h there = subst (λ y. Has y (ring x e)) (sym h.0) on-start
-  on_by at (y ∷ ys) h there = subst (λ y. Has y (ring x e)) (sym h.0) (there y (inr (inl refl)))
+  on_by : (at : ℕ) (back : List ℕ) → LinksAlong (next_place x) (prev_place x) at back e → ((y : ℕ) → StandsIn y (at ∷ back) → StandsIn y (ring x e)) → StandsIn (next_place x at) (ring x e)
+  on_by at [] h there = subst (λ y. StandsIn y (ring x e)) (sym h.0) on-start
+  on_by at (y ∷ ys) h there = subst (λ y. StandsIn y (ring x e)) (sym h.0) (there y (inr (inl refl)))
 
-  pub on-next : (at : ℕ) → Has at (ring x e) → Has (next_at x at) (ring x e)
+  pub on-next : (at : ℕ) → StandsIn at (ring x e) → StandsIn (next_place x at) (ring x e)
   on-next at h = let a = along at h in on_by at a.back a.chain a.inside
 
-  pub left-shorter : (at : ℕ) → Has at (ring x e) → next_at x at ≢ e → length (left x e (next_at x at)) < length (left x e at)
-  left-shorter at h n = let a = ap length (left-step at h n) in omega arith
+  pub places_left-shorter : (at : ℕ) → StandsIn at (ring x e) → next_place x at ≢ e → length (places_left x e (next_place x at)) < length (places_left x e at)
+  places_left-shorter at h n = let a = ap length (places_left-step at h n) in omega arith
 
-  pub ring-few : length (ring x e) ≤ 4096
-  ring-few = let c = linked.circle e live in rw (ring-is x e c.0 c.1) (few (e ∷ c.0) 4096 c.1.distinct (λ y h. linked.low y (c.1.live y h)))
+  pub ring-few : length (ring x e) ≤ event_limit
+  ring-few = let c = linked.circle e live in rw (ring-is x e c.0 c.1) (few (e ∷ c.0) event_limit c.1.distinct (λ y h. linked.low y (c.1.live y h)))
 
 -- the ring goes on from one of its members with the next
-module _ (x : ℕ → Option Node) (e : ℕ) (linked : IsLinked x) (live : IsSome (event_at x e)) (at : ℕ) (on : Has at (ring x e)) where
-  from_left : (u : ℕ) → Has u (ring x e) → from u (ring x e) ≡ left x e u
+module _ (x : ℕ → Option Node) (e : ℕ) (linked : IsLinked x) (live : IsSome (event_at x e)) (at : ℕ) (on : StandsIn at (ring x e)) where
+  from_left : (u : ℕ) → StandsIn u (ring x e) → from u (ring x e) ≡ places_left x e u
   from_left u h = let a = along x e linked live u h in a.from_is ∙ sym a.is
 
-  pub goes-on : from at (ring x e) ≡ at ∷ (if next_at x at == e then [] else from (next_at x at) (ring x e))
-  goes-on = from_left at on ∙ elim (cases_eq (next_at x at) e) [
-    | inl k ↦ left-last x e linked live at on k ∙ ap (λ (b : Bool). at ∷ (if b then [] else from (next_at x at) (ring x e))) (sym (ap (λ (w : ℕ). w == e) k ∙ same_self e))
-    | inr n ↦ left-step x e linked live at on n ∙ ap (λ (l : List ℕ). at ∷ l) (sym (from_left (next_at x at) (on-next x e linked live at on))) ∙ ap (λ (b : Bool). at ∷ (if b then [] else from (next_at x at) (ring x e))) (sym (not_same (next_at x at) e n))
+  pub goes-on : from at (ring x e) ≡ at ∷ (if next_place x at == e then [] else from (next_place x at) (ring x e))
+  goes-on = from_left at on ∙ elim (cases_eq (next_place x at) e) [
+    | inl k ↦ places_left-last x e linked live at on k ∙ ap (λ (b : Bool). at ∷ (if b then [] else from (next_place x at) (ring x e))) (sym (ap (λ (w : ℕ). w == e) k ∙ same_self e))
+    | inr n ↦ places_left-step x e linked live at on n ∙ ap (λ (l : List ℕ). at ∷ l) (sym (from_left (next_place x at) (on-next x e linked live at on))) ∙ ap (λ (b : Bool). at ∷ (if b then [] else from (next_place x at) (ring x e))) (sym (not_same (next_place x at) e n))
   ]
 
 -- ---- what is counted on the way
@@ -128,34 +129,34 @@ find-yes p y ys d = rw (← d) refl
 find-no : (p : ℕ → Bool) (y : ℕ) (ys : List ℕ) → false ≡ p y → find p (y ∷ ys) ≡ find p ys
 find-no p y ys d = rw (← d) refl
 
-behind_is : (l : List ℕ) (e : ℕ) (xs : List ℕ) → l ≡ e ∷ xs → rest_of l ++ e ∷ [] ≡ behind l
+behind_is : (l : List ℕ) (e : ℕ) (xs : List ℕ) → l ≡ e ∷ xs → rest_of l ++ e ∷ [] ≡ turned_once l
 behind_is [] e xs is = cc
 behind_is (y ∷ ys) e xs is = let same : e ≡ y = cc in ap (λ (w : ℕ). ys ++ w ∷ []) same
 
 module _ (x : ℕ → Option Node) (p : ℕ → Bool) (e : ℕ) (linked : IsLinked x) (live : IsSome (event_at x e)) where
-  pub find-start : find p (rest_of (left x e e) ++ e ∷ []) ≡ find p (behind (ring x e))
+  pub find-start : find p (rest_of (places_left x e e) ++ e ∷ []) ≡ find p (turned_once (ring x e))
   find-start =
       let c = linked.circle e live in
-      ap (λ l. find p (rest_of l ++ e ∷ [])) (left-start x e linked live) ∙ ap (find p) (behind_is (ring x e) e c.0 (ring-is x e c.0 c.1))
+      ap (λ l. find p (rest_of l ++ e ∷ [])) (places_left-start x e linked live) ∙ ap (find p) (behind_is (ring x e) e c.0 (ring-is x e c.0 c.1))
 
-  module _ (at : ℕ) (on : Has at (ring x e)) where
+  module _ (at : ℕ) (on : StandsIn at (ring x e)) where
     -- what comes behind at, e the last
-    behind-last : next_at x at ≡ e → rest_of (left x e at) ++ e ∷ [] ≡ e ∷ []
-    behind-last n = ap (λ l. rest_of l ++ e ∷ []) (left-last x e linked live at on n)
+    turned_once-last : next_place x at ≡ e → rest_of (places_left x e at) ++ e ∷ [] ≡ e ∷ []
+    turned_once-last n = ap (λ l. rest_of l ++ e ∷ []) (places_left-last x e linked live at on n)
 
-    behind-step : next_at x at ≢ e → rest_of (left x e at) ++ e ∷ [] ≡ next_at x at ∷ (rest_of (left x e (next_at x at)) ++ e ∷ [])
-    behind-step n =
-        let a = along x e linked live (next_at x at) (on-next x e linked live at on) in
-        ap (λ l. rest_of l ++ e ∷ []) (left-step x e linked live at on n) ∙ ap (λ l. l ++ e ∷ []) (a.is ∙ ap (λ l. next_at x at ∷ rest_of l) (sym a.is))
+    turned_once-step : next_place x at ≢ e → rest_of (places_left x e at) ++ e ∷ [] ≡ next_place x at ∷ (rest_of (places_left x e (next_place x at)) ++ e ∷ [])
+    turned_once-step n =
+        let a = along x e linked live (next_place x at) (on-next x e linked live at on) in
+        ap (λ l. rest_of l ++ e ∷ []) (places_left-step x e linked live at on n) ∙ ap (λ l. l ++ e ∷ []) (a.is ∙ ap (λ l. next_place x at ∷ rest_of l) (sym a.is))
 
-    pub found-here : (t : Option ℕ) → true ≡ p (next_at x at) → find p (rest_of (left x e at) ++ e ∷ []) ≡ t → Some (next_at x at) ≡ t
-    found-here t d same = elim (cases_eq (next_at x at) e) [
-      | inl k ↦ sym (ap (find p) (behind-last k ∙ ap (λ w. w ∷ []) (sym k)) ∙ find-yes p (next_at x at) [] d) ∙ same
-      | inr n ↦ sym (ap (find p) (behind-step n) ∙ find-yes p (next_at x at) _ d) ∙ same
+    pub found-here : (t : Option ℕ) → true ≡ p (next_place x at) → find p (rest_of (places_left x e at) ++ e ∷ []) ≡ t → Some (next_place x at) ≡ t
+    found-here t d same = elim (cases_eq (next_place x at) e) [
+      | inl k ↦ sym (ap (find p) (turned_once-last k ∙ ap (λ w. w ∷ []) (sym k)) ∙ find-yes p (next_place x at) [] d) ∙ same
+      | inr n ↦ sym (ap (find p) (turned_once-step n) ∙ find-yes p (next_place x at) _ d) ∙ same
     ]
 
-    pub found-none : (t : Option ℕ) → next_at x at ≡ e → false ≡ p (next_at x at) → find p (rest_of (left x e at) ++ e ∷ []) ≡ t → None ≡ t
-    found-none t k d same = sym (ap (find p) (behind-last k ∙ ap (λ w. w ∷ []) (sym k)) ∙ find-no p (next_at x at) [] d) ∙ same
+    pub found-none : (t : Option ℕ) → next_place x at ≡ e → false ≡ p (next_place x at) → find p (rest_of (places_left x e at) ++ e ∷ []) ≡ t → None ≡ t
+    found-none t k d same = sym (ap (find p) (turned_once-last k ∙ ap (λ w. w ∷ []) (sym k)) ∙ find-no p (next_place x at) [] d) ∙ same
 
-    pub found-later : (t : Option ℕ) → next_at x at ≢ e → false ≡ p (next_at x at) → find p (rest_of (left x e at) ++ e ∷ []) ≡ t → find p (rest_of (left x e (next_at x at)) ++ e ∷ []) ≡ t
-    found-later t n d same = sym (ap (find p) (behind-step n) ∙ find-no p (next_at x at) _ d) ∙ same
+    pub found-later : (t : Option ℕ) → next_place x at ≢ e → false ≡ p (next_place x at) → find p (rest_of (places_left x e at) ++ e ∷ []) ≡ t → find p (rest_of (places_left x e (next_place x at)) ++ e ∷ []) ≡ t
+    found-later t n d same = sym (ap (find p) (turned_once-step n) ∙ find-no p (next_place x at) _ d) ∙ same

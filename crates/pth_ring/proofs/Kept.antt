@@ -5,19 +5,20 @@ use Rattle.pth_base.specs.Table.{put}
 use Rattle.pth_base.proofs.Tables.{put_by}
 use Rattle.pth_base.proofs.Namings.{seen_put}
 use Rattle.pth_base.specs.declared.ids.Tid.{Tid}
-use Rattle.pth_numbered.specs.Numbered.{thing_at, number_at, slot_of}
+use Rattle.pth_numbered.specs.Numbered.{Changes, thing_at, number_at, slot_of}
 use Rattle.pth_ring.specs.declared.event.Event.{Event}
 use Rattle.pth_ring.specs.declared.node.Node.{Node}
-use Rattle.pth_ring.specs.Links.{next_at, prev_at, event_at, ring, IsCircle, IsLinked}
-use Rattle.pth_ring.specs.Rings.{changed, with_claim, ring_awaited, claimed}
+use Rattle.pth_ring.specs.Links.{next_place, prev_place, event_at, ring, IsLinkedRing, IsLinked}
+use Rattle.pth_ring.specs.Rings.{with_event, with_claim, ring_awaited, claimed}
 use Rattle.pth_ring.specs.Arena.{RingsOf, event_of, events_of, AreLinked, SamePlaces, Becomes, Remakes}
 use Rattle.pth_ring.proofs.Circles.{ring-is, ring-none}
+use Rattle.pth_ring.proofs.Writes.{event_is, next_kept, prev_kept, event_written, same_places}
 use Rattle.pth_ring.proofs.Shown.{rings-named, events-seen, live, event-at, linked-still, becomes}
 
 -- the same places have events, linked alike
 record SameLinks (x z : ℕ → Option Node) : Type 0 where
-  next : next_at z ≡ next_at x
-  prev : prev_at z ≡ prev_at x
+  next : next_place z ≡ next_place x
+  prev : prev_place z ≡ prev_place x
   gone : (y : ℕ) → event_at x y ≡ None → event_at z y ≡ None
   live : (y : ℕ) → IsSome (event_at x y) → IsSome (event_at z y)
 
@@ -32,7 +33,7 @@ module _ (x z : ℕ → Option Node) (linked : IsLinked x) (s : SameLinks x z) w
   was_live : (y : ℕ) → IsSome (event_at z y) → IsSome (event_at x y)
   was_live y h = elim (none_or_some (event_at x y)) [ inl n ↦ absurd (not_both (event_at z y) (s.gone y n) h) | inr l ↦ l ]
 
-  same_circle : (xs : List ℕ) → IsCircle x xs → IsCircle z xs
+  same_circle : (xs : List ℕ) → IsLinkedRing x xs → IsLinkedRing z xs
   same_circle xs c = record { links = rw (s.next, s.prev) c.links; distinct = c.distinct; live = λ y h. s.live y (c.live y h); low = c.low }
 
   same_linked : IsLinked z
@@ -52,14 +53,11 @@ some_stays : (g : Event → Event) (o : Option Event) → IsSome o → IsSome (o
 some_stays g (Some v) h = refl
 some_stays g None h = cc
 
-kept_option : (g : Event → Event) (v : Event) (o : Option Event) → IsSome o → Some v ≡ option_map (λ (_ : Event). v) o
-kept_option g v (Some w) h = refl
-kept_option g v None h = cc
-
-module _ (x y : RingsOf) (u : ℕ) (k : AreLinked x) (used_u : number_at x u ≢ 0) where
-  -- another event is written
-  pub written : (v : Event) → SamePlaces x y → next_at (thing_at y) ≡ next_at (thing_at x) → prev_at (thing_at y) ≡ prev_at (thing_at x) → event_at (thing_at y) ≡ put (event_at (thing_at x)) u (Some v) → Remakes x y u (λ _. v)
-  written v p next prev event =
+-- another event is written
+module _ (x y : RingsOf) (u : ℕ) (a b : Node) (g : Event → Event) (k : AreLinked x) (used_u : number_at x u ≢ 0) (was : thing_at x u ≡ Some a) (writes : Changes x y u b) where
+  written : SamePlaces x y → next_place (thing_at y) ≡ next_place (thing_at x) → prev_place (thing_at y) ≡ prev_place (thing_at x) → event_at (thing_at y) ≡ put (event_at (thing_at x)) u (Some b.event) → b.event ≡ g a.event → Remakes x y u g
+  written p next prev event is =
+      let v = b.event in
       let same : SameLinks (thing_at x) (thing_at y) = record {
         next = next;
         prev = prev;
@@ -71,15 +69,19 @@ module _ (x y : RingsOf) (u : ℕ) (k : AreLinked x) (used_u : number_at x u ≢
         places = p;
         next = next;
         rings = same_ring (thing_at x) (thing_at y) k.linked same;
-        event = event ∙ ap (λ (o : Option Event). put (event_at (thing_at x)) u o) (kept_option (λ w. w) v (event_at (thing_at x) u) (live x k u used_u));
+        event = event ∙ ap (λ (o : Option Event). put (event_at (thing_at x)) u o) (ap Some is ∙ sym (ap (option_map g) (event_is x u a was)));
       }
 
+  pub rewritten : b.id.0 ≡ a.id.0 → b.next.0 ≡ a.next.0 → b.prev.0 ≡ a.prev.0 → b.event ≡ g a.event → Remakes x y u g
+  rewritten id next prev event =
+      written (same_places x y u a b used_u was writes id) (next_kept x y u a b used_u was writes next) (prev_kept x y u a b used_u was writes prev) (event_written x y u a b used_u was writes) event
+
 -- by number
-pub remade : (x y : RingsOf) (u : ℕ) (g : Event → Event) → AreLinked x → number_at x u ≢ 0 → Remakes x y u g → Becomes x y (changed g (number_at x u) (events_of x))
+pub remade : (x y : RingsOf) (u : ℕ) (g : Event → Event) → AreLinked x → number_at x u ≢ 0 → Remakes x y u g → Becomes x y (with_event g (number_at x u) (events_of x))
 remade x y u g k used_u r =
     let f = event_at (thing_at x) in
     let n = number_at x u in
-    becomes x y r.places (ring (thing_at x)) (put f u (option_map g (f u))) (changed g n (events_of x)) k r.kept.linked r.rings r.event
+    becomes x y r.places (ring (thing_at x)) (put f u (option_map g (f u))) (with_event g n (events_of x)) k r.kept.linked r.rings r.event
     (sym (rings-named x))
     (seen_put None (slot_of x) (number_at x) f n u (option_map g (f u)) k.kept.tied (k.kept.tied.slot u used_u)
     ∙ ap (λ (h : ℕ → Option Event). put h n (option_map g (f u))) (sym (events-seen x))
@@ -91,5 +93,5 @@ pub claims : (x y z : RingsOf) (u now : ℕ) (t : Tid) → number_at x u ≢ 0 �
 claims x y z u now t used_u b r =
     let same : number_at y u ≡ number_at x u = ap (λ (f : ℕ → ℕ). f u) b.numbers in
     (remade y z u (with_claim (Some t)) b.kept (rw same used_u) r).events
-    ∙ ap (λ (n : ℕ). changed (with_claim (Some t)) n (events_of y)) same
-    ∙ ap (changed (with_claim (Some t)) (number_at x u)) b.events
+    ∙ ap (λ (n : ℕ). with_event (with_claim (Some t)) n (events_of y)) same
+    ∙ ap (with_event (with_claim (Some t)) (number_at x u)) b.events

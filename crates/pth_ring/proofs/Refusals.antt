@@ -18,11 +18,11 @@ use Rattle.pth_numbered.specs.declared.error.AddErr.TheVariants as add
 use Rattle.pth_numbered.proofs.Known.{number_same}
 use Rattle.pth_ring.specs.declared.event.Event.{Event}
 use Rattle.pth_ring.specs.declared.node.Node.{Node}
-use Rattle.pth_ring.specs.Ring.{Begins, holds}
+use Rattle.pth_ring.specs.Ring.{Begins, ring_holds}
 use Rattle.pth_ring.specs.Links.{node_event, node_id, event_at, id_at, ring}
-use Rattle.pth_ring.specs.Rings.{Events, event_limit, event_id, is_live, is_claimed, is_full, ring_refusal, concat_refusal, make_answer, chain_answer, walk_answer, candidates, chosen, changed, no_events, Answers}
-use Rattle.pth_ring.specs.Arena.{RingsOf, named, ring_of, event_of, events_of, AreLinked}
-use Rattle.pth_ring.proofs.Shown.{begins, live-at, no-event, events_are}
+use Rattle.pth_ring.specs.Rings.{Events, event_limit, event_id, is_event, is_claimed, is_full_of_events, ring_refusal, concat_refusal, make_answer, chain_answer, walk_answer, candidates, walk_end, with_event, no_events, AnswersEvent}
+use Rattle.pth_ring.specs.Arena.{RingsOf, rings_by_number, ring_of, event_of, events_of, AreLinked}
+use Rattle.pth_ring.proofs.Shown.{begins, live-at, no-event, no-ring, events_are}
 
 -- ---- operands
 
@@ -30,26 +30,31 @@ dead_by : (o : Option Event) → o ≡ None → is_some o ≡ false
 dead_by (Some v) h = cc
 dead_by None h = refl
 
-pub dead : (x : RingsOf) → AreLinked x → (n : ℕ) → slot_of x n ≡ None → is_live (events_of x) n ≡ false
+pub dead : (x : RingsOf) → AreLinked x → (n : ℕ) → slot_of x n ≡ None → is_event (events_of x) n ≡ false
 dead x k n h = dead_by (event_of x n) (no-event x k n h)
 
-pub below-dead : (x : RingsOf) → AreLinked x → (e : ℤ) → e <ℤ pos 0 → is_live (events_of x) (number e) ≡ false
-below-dead x k (pos n) low = absurd (omega (arith, ints))
-below-dead x k (negsuc n) low = dead x k 0 k.kept.tied.zero
+-- a number that is too low or too high has no place
+pub below-unknown : (x : RingsOf) → AreLinked x → (e : ℤ) → e <ℤ pos 0 → slot_of x (number e) ≡ None
+below-unknown x k (pos n) low = absurd (omega (arith, ints))
+below-unknown x k (negsuc n) low = k.kept.tied.zero
 
-pub above-dead : (x : RingsOf) → AreLinked x → (e : ℤ) → pos x.made <ℤ e → is_live (events_of x) (number e) ≡ false
-above-dead x k (pos n) high = dead x k n (k.kept.fresh n (omega (arith, ints)))
-above-dead x k (negsuc n) high = absurd (omega (arith, ints))
+pub above-unknown : (x : RingsOf) → AreLinked x → (e : ℤ) → pos x.made <ℤ e → slot_of x (number e) ≡ None
+above-unknown x k (pos n) high = k.kept.fresh n (omega (arith, ints))
+above-unknown x k (negsuc n) high = absurd (omega (arith, ints))
 
-pub found-dead : (x : RingsOf) → AreLinked x → (n : ℕ) (o : Option Slot) → slot_of x n ≡ option_map (λ (s : Slot). s.0) o → IfNone o (is_live (events_of x) n ≡ false)
+pub found-dead : (x : RingsOf) → AreLinked x → (n : ℕ) (o : Option Slot) → slot_of x n ≡ option_map (λ (s : Slot). s.0) o → IfNone o (is_event (events_of x) n ≡ false)
 found-dead x k n None e = dead x k n e
 found-dead x k n (Some s) e = tt
+
+pub found-no_ring : (x : RingsOf) → (n : ℕ) (o : Option Slot) → slot_of x n ≡ option_map (λ (s : Slot). s.0) o → IfNone o (ring_of x n ≡ [])
+found-no_ring x n None e = no-ring x n e
+found-no_ring x n (Some s) e = tt
 
 -- ---- tests
 
 module _ (x : RingsOf) (k : AreLinked x) (u n : ℕ) (is : number_at x u ≡ n) (used_u : number_at x u ≢ 0) where
-  pub live-named : is_live (events_of x) n ≡ true
-  live-named = ap (is_live (events_of x)) (sym is) ∙ live-at x k u used_u
+  pub live-named : is_event (events_of x) n ≡ true
+  live-named = ap (is_event (events_of x)) (sym is) ∙ live-at x k u used_u
 
   claimed_named : (b : Bool) → b ≡ is_claimed (events_of x) (number_at x u) → is_claimed (events_of x) n ≡ b
   claimed_named b h = ap (is_claimed (events_of x)) (sym is) ∙ sym h
@@ -61,27 +66,27 @@ module _ (x : RingsOf) (k : AreLinked x) (u n : ℕ) (is : number_at x u ≡ n) 
   not-refused h = rw (live-named, claimed_named false h) refl
 
 module _ (x : RingsOf) (k : AreLinked x) (u v m n : ℕ) (u_is : number_at x u ≡ m) (v_is : number_at x v ≡ n) (used_u : number_at x u ≢ 0) (used_v : number_at x v ≢ 0) where
-  held_named : (b : Bool) → b ≡ holds (number_at x u) (ring_of x (number_at x v)) → holds m (ring_of x n) ≡ b
-  held_named b h = ap₂ (λ (i j : ℕ). holds i (ring_of x j)) (sym u_is) (sym v_is) ∙ sym h
+  held_named : (b : Bool) → b ≡ ring_holds (number_at x u) (ring_of x (number_at x v)) → ring_holds m (ring_of x n) ≡ b
+  held_named b h = ap₂ (λ (i j : ℕ). ring_holds i (ring_of x j)) (sym u_is) (sym v_is) ∙ sym h
 
-  refusal_by : (p q r s t : Bool) → is_live (events_of x) m ≡ p → is_live (events_of x) n ≡ q → holds m (ring_of x n) ≡ r → is_claimed (events_of x) m ≡ s → is_claimed (events_of x) n ≡ t
+  refusal_by : (p q r s t : Bool) → is_event (events_of x) m ≡ p → is_event (events_of x) n ≡ q → ring_holds m (ring_of x n) ≡ r → is_claimed (events_of x) m ≡ s → is_claimed (events_of x) n ≡ t
       → concat_refusal (events_of x) m n ≡ (if not (p && q) then Some EINVAL else if r then Some EINVAL else if s || t then Some EBUSY else None)
   refusal_by p q r s t a b c d e =
-      ap₂ (λ (p q : Bool). if not (p && q) then Some EINVAL else if holds m (ring_of x n) then Some EINVAL else if is_claimed (events_of x) m || is_claimed (events_of x) n then Some EBUSY else None) a b
+      ap₂ (λ (p q : Bool). if not (p && q) then Some EINVAL else if ring_holds m (ring_of x n) then Some EINVAL else if is_claimed (events_of x) m || is_claimed (events_of x) n then Some EBUSY else None) a b
       ∙ ap (λ (r : Bool). if not (p && q) then Some EINVAL else if r then Some EINVAL else if is_claimed (events_of x) m || is_claimed (events_of x) n then Some EBUSY else None) c
       ∙ ap₂ (λ (s t : Bool). if not (p && q) then Some EINVAL else if r then Some EINVAL else if s || t then Some EBUSY else None) d e
 
-  live_u : is_live (events_of x) m ≡ true
+  live_u : is_event (events_of x) m ≡ true
   live_u = live-named x k u m u_is used_u
 
-  live_v : is_live (events_of x) n ≡ true
+  live_v : is_event (events_of x) n ≡ true
   live_v = live-named x k v n v_is used_v
 
-  pub two-claimed : false ≡ holds (number_at x u) (ring_of x (number_at x v)) → (s t : Bool) → s ≡ is_claimed (events_of x) (number_at x u) → t ≡ is_claimed (events_of x) (number_at x v) → (if s || t then Some EBUSY else None) ≡ concat_refusal (events_of x) m n
+  pub two-claimed : false ≡ ring_holds (number_at x u) (ring_of x (number_at x v)) → (s t : Bool) → s ≡ is_claimed (events_of x) (number_at x u) → t ≡ is_claimed (events_of x) (number_at x v) → (if s || t then Some EBUSY else None) ≡ concat_refusal (events_of x) m n
   two-claimed h s t a b = sym (refusal_by true true false s t live_u live_v (held_named false h) (claimed_named x k u m u_is used_u s a) (claimed_named x k v n v_is used_v t b))
 
 -- what a look-up found
-pub found-live : (x : RingsOf) (k : AreLinked x) (n : ℕ) (o : Option Slot) → IfSome o (λ s. number_at x s.0 ≢ 0) → IfSome o (λ s. number_at x s.0 ≡ n) → IfSome o (λ _. is_live (events_of x) n ≡ true)
+pub found-live : (x : RingsOf) (k : AreLinked x) (n : ℕ) (o : Option Slot) → IfSome o (λ s. number_at x s.0 ≢ 0) → IfSome o (λ s. number_at x s.0 ≡ n) → IfSome o (λ _. is_event (events_of x) n ≡ true)
 found-live x k n None used_s is = tt
 found-live x k n (Some s) used_s is = live-named x k s.0 n is used_s
 
@@ -107,42 +112,42 @@ module _ (x : RingsOf) (k : AreLinked x) where
   counted : number_known (event_of x) x.made ≡ count x
   counted = number_same (event_of x) (seen None (slot_of x) (thing_at x)) x.made (λ n le. some_alike x n) ∙ k.kept.counted
 
-  full : count x ≡ x.limit → is_full (events_of x) ≡ true
+  full : count x ≡ x.limit → is_full_of_events (events_of x) ≡ true
   full e = ap (λ (n : ℕ). n == event_limit) (counted ∙ e ∙ k.limit) ∙ same_self event_limit
 
-  room : (count x ≡ x.limit → ⊥) → is_full (events_of x) ≡ false
+  room : (count x ≡ x.limit → ⊥) → is_full_of_events (events_of x) ≡ false
   room e = not_same (number_known (event_of x) x.made) event_limit (λ is. e (sym counted ∙ is ∙ sym k.limit))
 
   module _ {A : Type 0} (r : Result A AddErr) (many : IsErrOf r add.TooMany ↔ (count x ≡ x.limit)) where
-    pub made-answer : (a : A) (id : EventId) → r ≡ Ok a → id.0 ≡ x.made + 1 → Answers (make_answer (events_of x)) (Ok id)
+    pub made-answer : (a : A) (id : EventId) → r ≡ Ok a → id.0 ≡ x.made + 1 → AnswersEvent (make_answer (events_of x)) (Ok id)
     made-answer a id is number = rw (room (λ e. other (many.1 e))) number
       where
         other : r ≡ Err add.TooMany → ⊥
         other h = cc
 
-    pub many-answer : r ≡ Err add.TooMany → Answers (make_answer (events_of x)) (Err (Fail EAGAIN))
+    pub many-answer : r ≡ Err add.TooMany → AnswersEvent (make_answer (events_of x)) (Err (Fail EAGAIN))
     many-answer is = rw (full (many.0 is)) refl
 
-    pub memory-answer : r ≡ Err add.OutOfMemory → Answers (make_answer (events_of x)) (Err OutOfMemory)
+    pub memory-answer : r ≡ Err add.OutOfMemory → AnswersEvent (make_answer (events_of x)) (Err OutOfMemory)
     memory-answer is = rw (room (λ e. other (many.1 e))) refl
       where
         other : r ≡ Err add.TooMany → ⊥
         other h = cc
 
 -- an event is made where its ring isn't refused
-pub chain-answer : (s : Events) (n : ℕ) (r : Result EventId Refusal) → None ≡ ring_refusal s n → Answers (make_answer s) r → Answers (chain_answer s n) r
+pub chain-answer : (s : Events) (n : ℕ) (r : Result EventId Refusal) → None ≡ ring_refusal s n → AnswersEvent (make_answer s) r → AnswersEvent (chain_answer s n) r
 chain-answer s n r free h = rw (← free) h
 
 -- ---- walks
 
-pub walk-some : (x : RingsOf) → AreLinked x → (u n : ℕ) (f until : Bool) (id : EventId) → number_at x u ≡ n → number_at x u ≢ 0 → Some id ≡ option_map event_id (chosen until (event_of x) (candidates f (ring_of x (number_at x u)))) → Ok id ≡ walk_answer (events_of x) n f until
+pub walk-some : (x : RingsOf) → AreLinked x → (u n : ℕ) (f until : Bool) (id : EventId) → number_at x u ≡ n → number_at x u ≢ 0 → Some id ≡ option_map event_id (walk_end until (event_of x) (candidates f (ring_of x (number_at x u)))) → Ok id ≡ walk_answer (events_of x) n f until
 walk-some x k u n f until id is used_u h =
-    let g : Some id ≡ option_map event_id (chosen until (event_of x) (candidates f (ring_of x n))) = h ∙ ap (λ (m : ℕ). option_map event_id (chosen until (event_of x) (candidates f (ring_of x m)))) is in
+    let g : Some id ≡ option_map event_id (walk_end until (event_of x) (candidates f (ring_of x n))) = h ∙ ap (λ (m : ℕ). option_map event_id (walk_end until (event_of x) (candidates f (ring_of x m)))) is in
     rw (live-named x k u n is used_u, ← g) refl
 
-pub walk-none : (x : RingsOf) → AreLinked x → (u n : ℕ) (f until : Bool) → number_at x u ≡ n → number_at x u ≢ 0 → None ≡ option_map event_id (chosen until (event_of x) (candidates f (ring_of x (number_at x u)))) → Err ENOENT ≡ walk_answer (events_of x) n f until
+pub walk-none : (x : RingsOf) → AreLinked x → (u n : ℕ) (f until : Bool) → number_at x u ≡ n → number_at x u ≢ 0 → None ≡ option_map event_id (walk_end until (event_of x) (candidates f (ring_of x (number_at x u)))) → Err ENOENT ≡ walk_answer (events_of x) n f until
 walk-none x k u n f until is used_u h =
-    let g : None ≡ option_map event_id (chosen until (event_of x) (candidates f (ring_of x n))) = h ∙ ap (λ (m : ℕ). option_map event_id (chosen until (event_of x) (candidates f (ring_of x m)))) is in
+    let g : None ≡ option_map event_id (walk_end until (event_of x) (candidates f (ring_of x n))) = h ∙ ap (λ (m : ℕ). option_map event_id (walk_end until (event_of x) (candidates f (ring_of x m)))) is in
     rw (live-named x k u n is used_u, ← g) refl
 
 -- ---- where there is no event
@@ -151,8 +156,8 @@ gone_by : (o : Option Event) → is_some o ≡ false → o ≡ None
 gone_by (Some v) h = cc
 gone_by None h = refl
 
-pub changed-dead : (s : Events) (g : Event → Event) (n : ℕ) → is_live s n ≡ false → s ≡ changed g n s
-changed-dead s g n h =
+pub with_event-dead : (s : Events) (g : Event → Event) (n : ℕ) → is_event s n ≡ false → s ≡ with_event g n s
+with_event-dead s g n h =
     let gone : s.events n ≡ None = gone_by (s.events n) h in
     let same : put s.events n (option_map g (s.events n)) ≡ s.events = put_none s.events n (option_map g (s.events n)) (gone ∙ sym (ap (option_map g) gone)) in
     ap (λ (f : ℕ → Option Event). record s { events = f }) (sym same)
@@ -195,7 +200,7 @@ none-linked x slots numbers things none made limit = record {
 }
 
 none_rings : (x : RingsOf) → slot_of x ≡ (λ _. None) → ring_of x ≡ (λ _. [])
-unfolding ring_of named
+unfolding ring_of rings_by_number
 none_rings x e = let rings : (ℕ → Option ℕ) → ℕ → List ℕ = λ s n. map (number_at x) (by_slot [] (ring (thing_at x)) (s n)) in ap rings e
 
 none_events : (x : RingsOf) → slot_of x ≡ (λ _. None) → event_of x ≡ (λ _. None)

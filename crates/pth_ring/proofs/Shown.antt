@@ -1,16 +1,16 @@
 -- Linked nodes seen by the numbers of their events.
-use Rattle.std.proofs.Common.{◌≡◌, ◌≢◌, ℕ, true, List, ◌∷◌, map, Option, Some, None, IsSome, is_some, refl, sym, ◌∙◌, ap, subst}
+use Rattle.std.proofs.Common.{◌≡◌, ◌≢◌, ℕ, true, List, [], ◌∷◌, map, Option, Some, None, IsSome, is_some, refl, sym, ◌∙◌, ap, subst}
 use Rattle.pth_base.specs.Naming.{by_slot, seen}
 use Rattle.pth_base.proofs.Namings.{seen_at}
 use Rattle.pth_numbered.specs.Numbered.{thing_at, number_at, slot_of}
 use Rattle.pth_ring.specs.declared.event.Event.{Event}
 use Rattle.pth_ring.specs.declared.node.Node.{Node}
-use Rattle.pth_ring.specs.Ring.{Has, Begins, rest_of}
+use Rattle.pth_ring.specs.Ring.{StandsIn, Begins, rest_of}
 use Rattle.pth_ring.specs.Links.{node_event, event_at, ring, IsLinked}
-use Rattle.pth_ring.specs.Rings.{Events, is_live}
-use Rattle.pth_ring.specs.Arena.{RingsOf, named, ring_of, event_of, events_of, AreLinked, SamePlaces, Becomes}
+use Rattle.pth_ring.specs.Rings.{Events, is_event}
+use Rattle.pth_ring.specs.Arena.{RingsOf, rings_by_number, ring_of, event_of, events_of, AreLinked, SamePlaces, Becomes}
 use Rattle.pth_ring.proofs.Circles.{ring-is}
-use Rattle.pth_ring.proofs.Named.{AllUsed, same_place, named-at}
+use Rattle.pth_ring.proofs.Named.{AllUsed, same_place, rings_by_number-at}
 
 some_event : (o : Option Node) → IsSome o → IsSome (node_event o)
 some_event (Some n) h = refl
@@ -24,7 +24,12 @@ unseen : {A : Type 0} (d : A) (f : ℕ → A) (o : Option ℕ) → o ≡ None �
 unseen d f None h = refl
 unseen d f (Some u) h = cc
 
-pub rings-named : (x : RingsOf) → ring_of x ≡ named (slot_of x) (number_at x) (ring (thing_at x))
+-- what has no place has no ring
+pub no-ring : (x : RingsOf) (n : ℕ) → slot_of x n ≡ None → ring_of x n ≡ []
+unfolding ring_of rings_by_number
+no-ring x n h = ap (map (number_at x)) (unseen [] (ring (thing_at x)) (slot_of x n) h)
+
+pub rings-named : (x : RingsOf) → ring_of x ≡ rings_by_number (slot_of x) (number_at x) (ring (thing_at x))
 unfolding ring_of
 rings-named x = refl
 
@@ -44,11 +49,11 @@ module _ (x : RingsOf) (k : AreLinked x) where
 
   -- each place of its ring is in use
   pub all-used : (u : ℕ) → number_at x u ≢ 0 → AllUsed (number_at x) (ring (thing_at x) u)
-  all-used u in_use v h = let c = k.linked.circle u (live u in_use) in used v (c.1.live v (subst (Has v) (ring-is (thing_at x) u c.0 c.1) h))
+  all-used u in_use v h = let c = k.linked.circle u (live u in_use) in used v (c.1.live v (subst (StandsIn v) (ring-is (thing_at x) u c.0 c.1) h))
 
   pub ring-at : (u : ℕ) → number_at x u ≢ 0 → ring_of x (number_at x u) ≡ map (number_at x) (ring (thing_at x) u)
   unfolding ring_of
-  ring-at u in_use = named-at (slot_of x) (number_at x) k.kept.tied (ring (thing_at x)) u in_use
+  ring-at u in_use = rings_by_number-at (slot_of x) (number_at x) k.kept.tied (ring (thing_at x)) u in_use
 
   -- no other place has its number
   pub one-place : (u v : ℕ) → number_at x u ≢ 0 → number_at x v ≡ number_at x u → v ≡ u
@@ -65,14 +70,14 @@ module _ (x : RingsOf) (k : AreLinked x) where
   unfolding event_of
   event-at u in_use = seen_at None (slot_of x) (event_at (thing_at x)) (number_at x u) u (k.kept.tied.slot u in_use)
 
-  pub live-at : (u : ℕ) → number_at x u ≢ 0 → is_live (events_of x) (number_at x u) ≡ true
+  pub live-at : (u : ℕ) → number_at x u ≢ 0 → is_event (events_of x) (number_at x u) ≡ true
   live-at u in_use = ap is_some (event-at u in_use) ∙ live u in_use
 
   pub no-event : (n : ℕ) → slot_of x n ≡ None → event_of x n ≡ None
   unfolding event_of seen
   no-event n h = unseen None (event_at (thing_at x)) (slot_of x n) h
 
-  pub agree : (u : ℕ) → number_at x u ≢ 0 → (v : ℕ) → Has v (ring (thing_at x) u) → event_of x (number_at x v) ≡ event_at (thing_at x) v
+  pub agree : (u : ℕ) → number_at x u ≢ 0 → (v : ℕ) → StandsIn v (ring (thing_at x) u) → event_of x (number_at x v) ≡ event_at (thing_at x) v
   agree u in_use v h = event-at v (all-used u in_use v h)
 
 -- ---- what a change makes of the events
@@ -87,12 +92,12 @@ pub events_are : (x : RingsOf) (now : Events) → ring_of x ≡ now.rings → ev
 events_are x now r e m = events_same (events_of x) now r e m
 
 module _ (x y : RingsOf) (p : SamePlaces x y) where
-  same_rings : (r : ℕ → List ℕ) → ring (thing_at y) ≡ r → ring_of y ≡ named (slot_of x) (number_at x) r
+  same_rings : (r : ℕ → List ℕ) → ring (thing_at y) ≡ r → ring_of y ≡ rings_by_number (slot_of x) (number_at x) r
   unfolding ring_of
   same_rings r e =
-      ap (λ (s : ℕ → Option ℕ). named s (number_at y) (ring (thing_at y))) p.slots
-      ∙ ap (λ (t : ℕ → ℕ). named (slot_of x) t (ring (thing_at y))) p.numbers
-      ∙ ap (named (slot_of x) (number_at x)) e
+      ap (λ (s : ℕ → Option ℕ). rings_by_number s (number_at y) (ring (thing_at y))) p.slots
+      ∙ ap (λ (t : ℕ → ℕ). rings_by_number (slot_of x) t (ring (thing_at y))) p.numbers
+      ∙ ap (rings_by_number (slot_of x) (number_at x)) e
 
   same_events : (f : ℕ → Option Event) → event_at (thing_at y) ≡ f → event_of y ≡ seen None (slot_of x) f
   unfolding event_of
@@ -109,7 +114,7 @@ module _ (x y : RingsOf) (p : SamePlaces x y) where
   }
 
   -- the rings are these, and so are the events
-  pub becomes : (r : ℕ → List ℕ) (f : ℕ → Option Event) (now : Events) → AreLinked x → IsLinked (thing_at y) → ring (thing_at y) ≡ r → event_at (thing_at y) ≡ f → named (slot_of x) (number_at x) r ≡ now.rings → seen None (slot_of x) f ≡ now.events → x.made ≡ now.made → Becomes x y now
+  pub becomes : (r : ℕ → List ℕ) (f : ℕ → Option Event) (now : Events) → AreLinked x → IsLinked (thing_at y) → ring (thing_at y) ≡ r → event_at (thing_at y) ≡ f → rings_by_number (slot_of x) (number_at x) r ≡ now.rings → seen None (slot_of x) f ≡ now.events → x.made ≡ now.made → Becomes x y now
   becomes r f now k linked rings events rings_are events_are_these made = record {
     kept = linked-still k linked;
     numbers = p.numbers;

@@ -2,8 +2,8 @@
 use Rattle.std.proofs.Common.{◌≡◌, ◌≢◌, ℕ, ◌==◌, true, false, List, [], ◌∷◌, ◌++◌, refl, sym, ◌∙◌, ap, ap₂, inl, inr, subst}
 use Rattle.std.proofs.lemmas.Bool.{cases_eq}
 use Rattle.pth_base.proofs.Tables.{same_self, not_same}
-use Rattle.pth_ring.specs.Ring.{Has, from, before, turned, circle, each}
-use Rattle.pth_ring.proofs.Lists.{holds-in, holds-out, Has-turn}
+use Rattle.pth_ring.specs.Ring.{StandsIn, from, before, turned, circle, each}
+use Rattle.pth_ring.proofs.Lists.{ring_holds-in, ring_holds-out, StandsIn-turn}
 
 pub record Split (e : ℕ) (xs : List ℕ) : Type 0 where
   pub front : List ℕ
@@ -22,7 +22,7 @@ split-later e x xs n r =
     let t : (x == e) ≡ false = not_same x e n in
     record { front = x ∷ r.front; back = r.back; is = ap (λ l. x ∷ l) r.is; from_is = rw t r.from_is; before_is = rw t (ap (λ l. x ∷ l) r.before_is) }
 
-pub split : (e : ℕ) (xs : List ℕ) → Has e xs → Split e xs
+pub split : (e : ℕ) (xs : List ℕ) → StandsIn e xs → Split e xs
 split e [] h = absurd h
 split e (x ∷ xs) (inl s) = split-here e x xs (sym s)
 split e (x ∷ xs) (inr h) = elim (cases_eq x e) [ inl s ↦ split-here e x xs s | inr n ↦ split-later e x xs n (split e xs h) ]
@@ -31,29 +31,29 @@ pub turned-is : (e : ℕ) (xs : List ℕ) (s : Split e xs) → turned e xs ≡ e
 unfolding turned
 turned-is e xs s = ap₂ (λ (a b : List ℕ). a ++ b) s.from_is s.before_is
 
-pub Has-turned : (y e : ℕ) (xs : List ℕ) → Has e xs → Has y xs → Has y (turned e xs)
-Has-turned y e xs h k =
+pub StandsIn-turned : (y e : ℕ) (xs : List ℕ) → StandsIn e xs → StandsIn y xs → StandsIn y (turned e xs)
+StandsIn-turned y e xs h k =
     let s = split e xs h in
-    subst (Has y) (sym (turned-is e xs s)) (Has-turn y s.front (e ∷ s.back) (subst (Has y) s.is k))
+    subst (StandsIn y) (sym (turned-is e xs s)) (StandsIn-turn y s.front (e ∷ s.back) (subst (StandsIn y) s.is k))
 
-pub Has-unturned : (y e : ℕ) (xs : List ℕ) → Has e xs → Has y (turned e xs) → Has y xs
-Has-unturned y e xs h k =
+pub StandsIn-unturned : (y e : ℕ) (xs : List ℕ) → StandsIn e xs → StandsIn y (turned e xs) → StandsIn y xs
+StandsIn-unturned y e xs h k =
     let s = split e xs h in
-    subst (Has y) (sym s.is) (Has-turn y (e ∷ s.back) s.front (subst (Has y) (turned-is e xs s) k))
+    subst (StandsIn y) (sym s.is) (StandsIn-turn y (e ∷ s.back) s.front (subst (StandsIn y) (turned-is e xs s) k))
 
-pub circle-in : (xs : List ℕ) (f : ℕ → List ℕ) (e : ℕ) → Has e xs → circle xs f e ≡ turned e xs
+pub circle-in : (xs : List ℕ) (f : ℕ → List ℕ) (e : ℕ) → StandsIn e xs → circle xs f e ≡ turned e xs
 unfolding circle
-circle-in xs f e h = rw (holds-in e xs h) refl
+circle-in xs f e h = rw (ring_holds-in e xs h) refl
 
-pub circle-out : (xs : List ℕ) (f : ℕ → List ℕ) (e : ℕ) → (Has e xs → ⊥) → circle xs f e ≡ f e
+pub circle-out : (xs : List ℕ) (f : ℕ → List ℕ) (e : ℕ) → (StandsIn e xs → ⊥) → circle xs f e ≡ f e
 unfolding circle
-circle-out xs f e h = rw (holds-out e xs h) refl
+circle-out xs f e h = rw (ring_holds-out e xs h) refl
 
 -- what stands at one of these is changed, and nothing else
-pub each-in : {A : Type 0} (xs : List ℕ) (g : A → A) (f : ℕ → A) (e : ℕ) → Has e xs → each xs g f e ≡ g (f e)
+pub each-in : {A : Type 0} (xs : List ℕ) (g : A → A) (f : ℕ → A) (e : ℕ) → StandsIn e xs → each xs g f e ≡ g (f e)
 unfolding each
-each-in xs g f e h = rw (holds-in e xs h) refl
+each-in xs g f e h = rw (ring_holds-in e xs h) refl
 
-pub each-out : {A : Type 0} (xs : List ℕ) (g : A → A) (f : ℕ → A) (e : ℕ) → (Has e xs → ⊥) → each xs g f e ≡ f e
+pub each-out : {A : Type 0} (xs : List ℕ) (g : A → A) (f : ℕ → A) (e : ℕ) → (StandsIn e xs → ⊥) → each xs g f e ≡ f e
 unfolding each
-each-out xs g f e h = rw (holds-out e xs h) refl
+each-out xs g f e h = rw (ring_holds-out e xs h) refl

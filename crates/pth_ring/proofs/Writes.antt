@@ -9,17 +9,17 @@ use Rattle.pth_numbered.specs.Numbered.{NumberedOf, IsKept, Changes, number_know
 use Rattle.pth_numbered.proofs.Known.{number-other}
 use Rattle.pth_ring.specs.declared.event.Event.{Event}
 use Rattle.pth_ring.specs.declared.node.Node.{Node}
-use Rattle.pth_ring.specs.Links.{node_next, node_prev, node_id, node_event, next_at, prev_at, id_at, event_at}
+use Rattle.pth_ring.specs.Links.{node_next, node_prev, node_id, node_event, next_place, prev_place, id_at, event_at}
 use Rattle.pth_ring.specs.Arena.{RingsOf, SamePlaces}
 
 -- ---- reading
 
-pub next_is : (x : RingsOf) (u : ℕ) (n : Node) → thing_at x u ≡ Some n → n.next.0 ≡ next_at (thing_at x) u
-unfolding next_at
+pub next_is : (x : RingsOf) (u : ℕ) (n : Node) → thing_at x u ≡ Some n → n.next.0 ≡ next_place (thing_at x) u
+unfolding next_place
 next_is x u n h = sym (ap node_next h)
 
-pub prev_is : (x : RingsOf) (u : ℕ) (n : Node) → thing_at x u ≡ Some n → n.prev.0 ≡ prev_at (thing_at x) u
-unfolding prev_at
+pub prev_is : (x : RingsOf) (u : ℕ) (n : Node) → thing_at x u ≡ Some n → n.prev.0 ≡ prev_place (thing_at x) u
+unfolding prev_place
 prev_is x u n h = sym (ap node_prev h)
 
 pub id_is : (x : RingsOf) (u : ℕ) (n : Node) → thing_at x u ≡ Some n → n.id.0 ≡ id_at (thing_at x) u
@@ -76,12 +76,12 @@ module _ {A : Type 0} (x y : NumberedOf A) (u : ℕ) (a b : A) (was : thing_at x
 of_node : {A : Type 0} (g : Option Node → A) (f h : ℕ → Option Node) (u : ℕ) (o : Option Node) → h ≡ put f u o → ◌≡◌ {A = ℕ → A} (λ (i : ℕ). g (h i)) (put (λ i. g (f i)) u (g o))
 of_node {A = A} g f h u o e = let over : (ℕ → Option Node) → ℕ → A = λ t i. g (t i) in ap over e ∙ ap_put g f u o
 
-pub next_put : (x y : RingsOf) (u : ℕ) (o : Option Node) → thing_at y ≡ put (thing_at x) u o → next_at (thing_at y) ≡ put (next_at (thing_at x)) u (node_next o)
-unfolding next_at
+pub next_put : (x y : RingsOf) (u : ℕ) (o : Option Node) → thing_at y ≡ put (thing_at x) u o → next_place (thing_at y) ≡ put (next_place (thing_at x)) u (node_next o)
+unfolding next_place
 next_put x y u o e = of_node node_next (thing_at x) (thing_at y) u o e
 
-pub prev_put : (x y : RingsOf) (u : ℕ) (o : Option Node) → thing_at y ≡ put (thing_at x) u o → prev_at (thing_at y) ≡ put (prev_at (thing_at x)) u (node_prev o)
-unfolding prev_at
+pub prev_put : (x y : RingsOf) (u : ℕ) (o : Option Node) → thing_at y ≡ put (thing_at x) u o → prev_place (thing_at y) ≡ put (prev_place (thing_at x)) u (node_prev o)
+unfolding prev_place
 prev_put x y u o e = of_node node_prev (thing_at x) (thing_at y) u o e
 
 pub id_put : (x y : RingsOf) (u : ℕ) (o : Option Node) → thing_at y ≡ put (thing_at x) u o → id_at (thing_at y) ≡ put (id_at (thing_at x)) u (node_id o)
@@ -94,20 +94,20 @@ event_put x y u o e = of_node node_event (thing_at x) (thing_at y) u o e
 
 -- a node is written over another
 module _ (x y : RingsOf) (u : ℕ) (a b : Node) (used : number_at x u ≢ 0) (was : thing_at x u ≡ Some a) (writes : Changes x y u b) where
-  pub next_written : next_at (thing_at y) ≡ put (next_at (thing_at x)) u b.next.0
+  pub next_written : next_place (thing_at y) ≡ put (next_place (thing_at x)) u b.next.0
   next_written = next_put x y u (Some b) writes.things
 
-  pub prev_written : prev_at (thing_at y) ≡ put (prev_at (thing_at x)) u b.prev.0
+  pub prev_written : prev_place (thing_at y) ≡ put (prev_place (thing_at x)) u b.prev.0
   prev_written = prev_put x y u (Some b) writes.things
 
   pub event_written : event_at (thing_at y) ≡ put (event_at (thing_at x)) u (Some b.event)
   event_written = event_put x y u (Some b) writes.things
 
-  pub next_kept : b.next.0 ≡ a.next.0 → next_at (thing_at y) ≡ next_at (thing_at x)
-  next_kept same = next_written ∙ put_none (next_at (thing_at x)) u b.next.0 (sym (next_is x u a was) ∙ sym same)
+  pub next_kept : b.next.0 ≡ a.next.0 → next_place (thing_at y) ≡ next_place (thing_at x)
+  next_kept same = next_written ∙ put_none (next_place (thing_at x)) u b.next.0 (sym (next_is x u a was) ∙ sym same)
 
-  pub prev_kept : b.prev.0 ≡ a.prev.0 → prev_at (thing_at y) ≡ prev_at (thing_at x)
-  prev_kept same = prev_written ∙ put_none (prev_at (thing_at x)) u b.prev.0 (sym (prev_is x u a was) ∙ sym same)
+  pub prev_kept : b.prev.0 ≡ a.prev.0 → prev_place (thing_at y) ≡ prev_place (thing_at x)
+  prev_kept same = prev_written ∙ put_none (prev_place (thing_at x)) u b.prev.0 (sym (prev_is x u a was) ∙ sym same)
 
   pub event_kept : b.event ≡ a.event → event_at (thing_at y) ≡ event_at (thing_at x)
   event_kept same = event_written ∙ put_none (event_at (thing_at x)) u (Some b.event) (event_is x u a was ∙ ap (λ (v : Event). Some v) (sym same))

@@ -6,7 +6,7 @@ use Rattle.pth_base.specs.declared.event.EventSpec.{EventSpec}
 use Rattle.pth_numbered.specs.Numbered.{NumberedOf, IsKept, thing_at, number_at, slot_of}
 use Rattle.pth_ring.specs.declared.event.Event.{Event}
 use Rattle.pth_ring.specs.declared.node.Node.{Node}
-use Rattle.pth_ring.specs.Links.{next_at, event_at, id_at, ring, IsLinked}
+use Rattle.pth_ring.specs.Links.{next_place, event_at, id_at, ring, IsLinked}
 use Rattle.pth_ring.specs.Rings.{Events, event_limit, alone, chained, freed}
 
 -- the nodes by place, with the numbers of their events
@@ -14,11 +14,11 @@ abbrev pub RingsOf : Type 0
 RingsOf = NumberedOf Node
 
 -- rings of places, seen by number
-unfoldable pub named : (ℕ → Option ℕ) → (ℕ → ℕ) → (ℕ → List ℕ) → ℕ → List ℕ
-named slots numbers rings n = map numbers (by_slot [] rings (slots n))
+unfoldable pub rings_by_number : (ℕ → Option ℕ) → (ℕ → ℕ) → (ℕ → List ℕ) → ℕ → List ℕ
+rings_by_number slots numbers rings n = map numbers (by_slot [] rings (slots n))
 
 unfoldable pub ring_of : RingsOf → ℕ → List ℕ
-ring_of x = named (slot_of x) (number_at x) (ring (thing_at x))
+ring_of x = rings_by_number (slot_of x) (number_at x) (ring (thing_at x))
 
 unfoldable pub event_of : RingsOf → ℕ → Option Event
 event_of x = seen None (slot_of x) (event_at (thing_at x))
@@ -81,6 +81,6 @@ pub record IsDropped (old new : RingsOf) (u : ℕ) : Type 0 where
 pub record Remakes (old new : RingsOf) (u : ℕ) (g : Event → Event) : Type 0 where
   pub kept : AreLinked new
   pub places : SamePlaces old new
-  pub next : next_at (thing_at new) ≡ next_at (thing_at old)
+  pub next : next_place (thing_at new) ≡ next_place (thing_at old)
   pub rings : ring (thing_at new) ≡ ring (thing_at old)
   pub event : event_at (thing_at new) ≡ put (event_at (thing_at old)) u (option_map g (event_at (thing_at old) u))

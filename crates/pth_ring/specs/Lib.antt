@@ -2,3 +2,4 @@ pub mod Ring
 pub mod Rings
 pub mod Links
 pub mod Arena
+pub mod Claims

@@ -3,7 +3,8 @@ use Rattle.std.specs.Prelude.{◌≡◌, ◌<◌, ◌==◌, ℕ, zero, suc, if�
 use Rattle.pth_base.specs.Table.{put}
 use Rattle.pth_ring.specs.declared.event.Event.{Event}
 use Rattle.pth_ring.specs.declared.node.Node.{Node}
-use Rattle.pth_ring.specs.Ring.{Has, Distinct}
+use Rattle.pth_ring.specs.Ring.{StandsIn, NoneTwice}
+use Rattle.pth_ring.specs.Rings.{event_limit}
 
 abbrev pub node_next : Option Node → ℕ
 node_next (Some n) = n.next.0
@@ -22,11 +23,11 @@ node_event (Some n) = Some n.event
 node_event None = None
 
 -- the place after, and the place before
-unfoldable pub next_at : (ℕ → Option Node) → ℕ → ℕ
-next_at x u = node_next (x u)
+unfoldable pub next_place : (ℕ → Option Node) → ℕ → ℕ
+next_place x u = node_next (x u)
 
-unfoldable pub prev_at : (ℕ → Option Node) → ℕ → ℕ
-prev_at x u = node_prev (x u)
+unfoldable pub prev_place : (ℕ → Option Node) → ℕ → ℕ
+prev_place x u = node_prev (x u)
 
 -- the number in the node at a place, 0 where there is none
 unfoldable pub id_at : (ℕ → Option Node) → ℕ → ℕ
@@ -37,19 +38,19 @@ unfoldable pub event_at : (ℕ → Option Node) → ℕ → Option Event
 event_at x u = node_event (x u)
 
 -- from a over these to b, each names the next, and each next the one before
-abbrev pub Chain : (ℕ → ℕ) → (ℕ → ℕ) → ℕ → List ℕ → ℕ → Type 0
-Chain next prev a [] b = (next a ≡ b) × (prev b ≡ a)
-Chain next prev a (x ∷ xs) b = (next a ≡ x) × (prev x ≡ a) × Chain next prev x xs b
+abbrev pub LinksAlong : (ℕ → ℕ) → (ℕ → ℕ) → ℕ → List ℕ → ℕ → Type 0
+LinksAlong next prev a [] b = (next a ≡ b) × (prev b ≡ a)
+LinksAlong next prev a (x ∷ xs) b = (next a ≡ x) × (prev x ≡ a) × LinksAlong next prev x xs b
 
 -- the same round
 abbrev pub Links : (ℕ → ℕ) → (ℕ → ℕ) → List ℕ → Type 0
 Links next prev [] = Unit {0}
-Links next prev (x ∷ xs) = Chain next prev x xs x
+Links next prev (x ∷ xs) = LinksAlong next prev x xs x
 
 -- from u along the links until they lead to the end
-unfoldable pub walk : (ℕ → ℕ) → ℕ → ℕ → ℕ → List ℕ
-walk next zero end u = []
-walk next (suc fuel) end u = u ∷ (if next u == end then [] else walk next fuel end (next u))
+unfoldable pub places_along : (ℕ → ℕ) → ℕ → ℕ → ℕ → List ℕ
+places_along next zero end u = []
+places_along next (suc fuel) end u = u ∷ (if next u == end then [] else places_along next fuel end (next u))
 
 abbrev pub if_some : Option Event → List ℕ → List ℕ
 if_some (Some _) xs = xs
@@ -57,26 +58,26 @@ if_some None xs = []
 
 -- the places of a ring read from u on, [] where there is no event
 unfoldable pub ring : (ℕ → Option Node) → ℕ → List ℕ
-ring x u = if_some (event_at x u) (walk (next_at x) 4096 u u)
+ring x u = if_some (event_at x u) (places_along (next_place x) event_limit u u)
 
 -- from a place of the ring of u on, up to u
-unfoldable pub left : (ℕ → Option Node) → ℕ → ℕ → List ℕ
-left x u at = walk (next_at x) 4096 u at
+unfoldable pub places_left : (ℕ → Option Node) → ℕ → ℕ → List ℕ
+places_left x u at = places_along (next_place x) event_limit u at
 
 -- these places are linked in a circle
-pub record IsCircle (x : ℕ → Option Node) (xs : List ℕ) : Type 0 where
-  pub links : Links (next_at x) (prev_at x) xs
-  pub distinct : Distinct xs
-  pub live : (y : ℕ) → Has y xs → IsSome (event_at x y)
-  pub low : (y : ℕ) → Has y xs → y < 4096
+pub record IsLinkedRing (x : ℕ → Option Node) (xs : List ℕ) : Type 0 where
+  pub links : Links (next_place x) (prev_place x) xs
+  pub distinct : NoneTwice xs
+  pub live : (y : ℕ) → StandsIn y xs → IsSome (event_at x y)
+  pub low : (y : ℕ) → StandsIn y xs → y < event_limit
 
 -- each place with an event is linked in a circle
 pub record IsLinked (x : ℕ → Option Node) : Type 0 where
-  pub low : (u : ℕ) → IsSome (event_at x u) → u < 4096
-  pub circle : (u : ℕ) → IsSome (event_at x u) → (rest : List ℕ) × IsCircle x (u ∷ rest)
+  pub low : (u : ℕ) → IsSome (event_at x u) → u < event_limit
+  pub circle : (u : ℕ) → IsSome (event_at x u) → (rest : List ℕ) × IsLinkedRing x (u ∷ rest)
 
 -- a and b have exchanged the ones before them
 pub record Splices (old new : ℕ → Option Node) (a b : ℕ) : Type 0 where
-  pub next : next_at new ≡ put (put (next_at old) (prev_at old a) b) (prev_at old b) a
-  pub prev : prev_at new ≡ put (put (prev_at old) b (prev_at old a)) a (prev_at old b)
+  pub next : next_place new ≡ put (put (next_place old) (prev_place old a) b) (prev_place old b) a
+  pub prev : prev_place new ≡ put (put (prev_place old) b (prev_place old a)) a (prev_place old b)
   pub event : event_at new ≡ event_at old

@@ -3,18 +3,18 @@ use Rattle.std.specs.Prelude.{◌≡◌, ◌≢◌, ◌⊎◌, ◌==◌, ℕ, Bo
 use Rattle.std.specs.List.{list_any}
 
 -- e stands in the list
-abbrev pub Has : ℕ → List ℕ → Type 0
-Has e [] = ⊥
-Has e (x ∷ xs) = (e ≡ x) ⊎ Has e xs
+abbrev pub StandsIn : ℕ → List ℕ → Type 0
+StandsIn e [] = ⊥
+StandsIn e (x ∷ xs) = (e ≡ x) ⊎ StandsIn e xs
 
 -- the same as a test
-abbrev pub holds : ℕ → List ℕ → Bool
-holds e xs = list_any (λ x. x == e) xs
+abbrev pub ring_holds : ℕ → List ℕ → Bool
+ring_holds e xs = list_any (λ x. x == e) xs
 
 -- nothing stands twice
-abbrev pub Distinct : List ℕ → Type 0
-Distinct [] = Unit {0}
-Distinct (x ∷ xs) = ((y : ℕ) → Has y xs → y ≢ x) × Distinct xs
+abbrev pub NoneTwice : List ℕ → Type 0
+NoneTwice [] = Unit {0}
+NoneTwice (x ∷ xs) = ((y : ℕ) → StandsIn y xs → y ≢ x) × NoneTwice xs
 
 -- the list from e on, and what stands before e
 abbrev pub from : ℕ → List ℕ → List ℕ
@@ -31,31 +31,31 @@ turned e xs = from e xs ++ before e xs
 
 -- the rings with these events as one ring, read from each of them
 unfoldable pub circle : List ℕ → (ℕ → List ℕ) → ℕ → List ℕ
-circle xs f e = if holds e xs then turned e xs else f e
+circle xs f e = if ring_holds e xs then turned e xs else f e
 
 -- a table changed at each of these
 unfoldable pub each : {A : Type 0} → List ℕ → (A → A) → (ℕ → A) → ℕ → A
-each xs g f e = if holds e xs then g (f e) else f e
+each xs g f e = if ring_holds e xs then g (f e) else f e
 
 -- a ring without its first
 abbrev pub rest_of : List ℕ → List ℕ
 rest_of [] = []
 rest_of (x ∷ xs) = xs
 
-abbrev pub first_of : List ℕ → Option ℕ
-first_of [] = None
-first_of (x ∷ xs) = Some x
+abbrev pub head_event : List ℕ → Option ℕ
+head_event [] = None
+head_event (x ∷ xs) = Some x
 
 -- a ring read from behind its first on, which comes last
-abbrev pub behind : List ℕ → List ℕ
-behind [] = []
-behind (x ∷ xs) = xs ++ x ∷ []
+abbrev pub turned_once : List ℕ → List ℕ
+turned_once [] = []
+turned_once (x ∷ xs) = xs ++ x ∷ []
 
 -- the ring begins with e
 abbrev pub Begins : List ℕ → ℕ → Type 0
 Begins ring e = ring ≡ e ∷ rest_of ring
 
 -- the ring of e goes on from n with m; it is over where m is e
-pub record GoesOn (ring : List ℕ) (e n m : ℕ) : Type 0 where
-  pub within : Has m ring
+pub record RingGoesOn (ring : List ℕ) (e n m : ℕ) : Type 0 where
+  pub within : StandsIn m ring
   pub rest : from n ring ≡ n ∷ (if m == e then [] else from m ring)

@@ -16,7 +16,7 @@ use Rattle.pth_numbered.specs.Numbered.{number_known}
 use Rattle.pth_ring.specs.declared.event.Event.{Event}
 use Rattle.pth_ring.specs.declared.event.Status.{Status}
 use Rattle.pth_ring.specs.declared.event.Status.TheVariants.{Pending, Occurred, Failed}
-use Rattle.pth_ring.specs.Ring.{holds, circle, each, rest_of, first_of, behind}
+use Rattle.pth_ring.specs.Ring.{ring_holds, circle, each, rest_of, head_event, turned_once}
 
 -- the events by their numbers
 pub record Events : Type 0 where
@@ -98,39 +98,39 @@ is_settled (Some v) = not (is_pending v.status)
 is_settled None = false
 
 -- there is such an event
-abbrev pub is_live : Events → ℕ → Bool
-is_live x e = is_some (x.events e)
+abbrev pub is_event : Events → ℕ → Bool
+is_event x e = is_some (x.events e)
 
 -- some event of its ring has a claim
 abbrev pub is_claimed : Events → ℕ → Bool
 is_claimed x e = list_any (λ y. has_claim (x.events y)) (x.rings e)
 
 -- there are as many events as there may be
-abbrev pub is_full : Events → Bool
-is_full x = number_known x.events x.made == event_limit
+abbrev pub is_full_of_events : Events → Bool
+is_full_of_events x = number_known x.events x.made == event_limit
 
 -- how many events of its ring are not pending
 abbrev pub settled_in : Events → ℕ → ℕ
 settled_in x e = count_by (λ y. is_settled (x.events y)) (x.rings e)
 
 -- the event after it in its ring
-abbrev pub next_in : Events → ℕ → Option ℕ
-next_in x e = first_of (behind (x.rings e))
+abbrev pub event_after : Events → ℕ → Option ℕ
+event_after x e = head_event (turned_once (x.rings e))
 
 -- ---- answers: the tests stand in order, and the first that holds is the answer
 
 -- why a call on the ring of e is refused
 abbrev pub ring_refusal : Events → ℕ → Option Errno
 ring_refusal x e =
-    if not (is_live x e) then Some EINVAL else
+    if not (is_event x e) then Some EINVAL else
     if is_claimed x e then Some EBUSY else
     None
 
 -- why two rings don't become one
 abbrev pub concat_refusal : Events → ℕ → ℕ → Option Errno
 concat_refusal x a b =
-    if not (is_live x a && is_live x b) then Some EINVAL else
-    if holds a (x.rings b) then Some EINVAL else
+    if not (is_event x a && is_event x b) then Some EINVAL else
+    if ring_holds a (x.rings b) then Some EINVAL else
     if is_claimed x a || is_claimed x b then Some EBUSY else
     None
 
@@ -142,7 +142,7 @@ unless None answer = answer
 -- an event is made
 abbrev pub make_answer : Events → Result ℕ Errno
 make_answer x =
-    if is_full x then Err EAGAIN else
+    if is_full_of_events x then Err EAGAIN else
     Ok (x.made + 1)
 
 -- an event is made just before e
@@ -155,7 +155,7 @@ concat_answer x a b = unless (concat_refusal x a b) (Ok tt)
 
 -- an event is taken out of its ring: the next one of the rest
 abbrev pub isolate_answer : Events → ℕ → Result (Option EventId) Errno
-isolate_answer x e = unless (ring_refusal x e) (Ok (option_map event_id (first_of (rest_of (x.rings e)))))
+isolate_answer x e = unless (ring_refusal x e) (Ok (option_map event_id (head_event (rest_of (x.rings e)))))
 
 -- an event is freed, or its ring
 abbrev pub free_answer : Events → ℕ → Result (Unit {0}) Errno
@@ -167,19 +167,19 @@ claim_answer x e = unless (ring_refusal x e) (Ok tt)
 
 -- the events at which a walk from e looks, in their order: e is the last
 abbrev pub candidates : Bool → List ℕ → List ℕ
-candidates true ring = behind ring
+candidates true ring = turned_once ring
 candidates false ring = reverse ring
 
 -- the first of them, or the first that has occurred
-abbrev pub chosen : Bool → (ℕ → Option Event) → List ℕ → Option ℕ
-chosen true events ring = find (λ y. has_occurred (events y)) ring
-chosen false events ring = first_of ring
+abbrev pub walk_end : Bool → (ℕ → Option Event) → List ℕ → Option ℕ
+walk_end true events ring = find (λ y. has_occurred (events y)) ring
+walk_end false events ring = head_event ring
 
 -- a walk
 abbrev pub walk_answer : Events → ℕ → Bool → Bool → Result EventId Errno
 walk_answer x e forward until_occurred =
-    if not (is_live x e) then Err EINVAL else
-    ok_or (option_map event_id (chosen until_occurred x.events (candidates forward (x.rings e)))) ENOENT
+    if not (is_event x e) then Err EINVAL else
+    ok_or (option_map event_id (walk_end until_occurred x.events (candidates forward (x.rings e)))) ENOENT
 
 -- a status is read, as it was set last
 abbrev pub status_answer : Events → ℕ → Result Status Errno
@@ -190,10 +190,10 @@ abbrev pub kind_answer : Events → ℕ → Result ℕ Errno
 kind_answer x e = ok_or (option_map (λ (v : Event). kind_of v.spec) (x.events e)) EINVAL
 
 -- how a call that takes memory is answered: a refusal comes for certain, and else the number or want of memory
-abbrev pub Answers : Result ℕ Errno → Result EventId Refusal → Type 0
-Answers (Err e) r = r ≡ Err (Fail e)
-Answers (Ok n) (Ok e) = e.0 ≡ n
-Answers (Ok n) (Err e) = e ≡ OutOfMemory
+abbrev pub AnswersEvent : Result ℕ Errno → Result EventId Refusal → Type 0
+AnswersEvent (Err e) r = r ≡ Err (Fail e)
+AnswersEvent (Ok n) (Ok e) = e.0 ≡ n
+AnswersEvent (Ok n) (Err e) = e ≡ OutOfMemory
 
 -- ---- changes
 
@@ -210,8 +210,8 @@ abbrev pub chained : EventSpec → ℕ → Events → Events
 chained spec e x = record { rings = circle (x.rings e ++ (x.made + 1) ∷ []) x.rings; events = put x.events (x.made + 1) (Some (pending spec)); made = x.made + 1 }
 
 -- two rings are one, read from a and then from b
-abbrev pub joined : ℕ → ℕ → Events → Events
-joined a b x = record x { rings = circle (x.rings a ++ x.rings b) x.rings }
+abbrev pub concatenated : ℕ → ℕ → Events → Events
+concatenated a b x = record x { rings = circle (x.rings a ++ x.rings b) x.rings }
 
 -- an event stands alone, and so does the rest of its ring
 abbrev pub isolated : ℕ → Events → Events
@@ -225,9 +225,13 @@ freed e x = record x { rings = put (circle (rest_of (x.rings e)) x.rings) e []; 
 abbrev pub ring_freed : ℕ → Events → Events
 ring_freed e x = record x { rings = each (x.rings e) (λ _. []) x.rings; events = each (x.rings e) (λ _. None) x.events }
 
--- something of an event is set
-abbrev pub changed : (Event → Event) → ℕ → Events → Events
-changed g e x = record x { events = put x.events e (option_map g (x.events e)) }
+-- what is kept of an event is changed
+abbrev pub with_event : (Event → Event) → ℕ → Events → Events
+with_event g e x = record x { events = put x.events e (option_map g (x.events e)) }
+
+-- what is kept of each event is changed
+abbrev pub with_each_event : (Event → Event) → Events → Events
+with_each_event g x = record x { events = λ e. option_map g (x.events e) }
 
 -- all events of a ring are waited for from now on
 abbrev pub ring_awaited : ℕ → ℕ → Events → Events
@@ -235,8 +239,12 @@ ring_awaited e now x = record x { events = each (x.rings e) (option_map (awaited
 
 -- a thread waits for a ring, and its claim stands at e
 abbrev pub claimed : ℕ → Tid → ℕ → Events → Events
-claimed e t now x = changed (with_claim (Some t)) e (ring_awaited e now x)
+claimed e t now x = with_event (with_claim (Some t)) e (ring_awaited e now x)
 
 -- a thread has no claim any more
 abbrev pub unclaimed : ℕ → Events → Events
-unclaimed t x = record x { events = λ e. option_map (released t) (x.events e) }
+unclaimed t x = with_each_event (released t) x
+
+-- no event has a claim any more
+abbrev pub all_unclaimed : Events → Events
+all_unclaimed x = with_each_event (with_claim None) x

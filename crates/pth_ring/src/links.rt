@@ -2,8 +2,8 @@
 
 ghost use Rattle.std.specs.Prelude.{◌≡◌, ◌≢◌, ◌+◌, ◌↔◌, ◌<◌, [], ◌∷◌, false, IfOk, OnOk, OnErr, IsErrOf, option_map};
 ghost use Rattle.pth_numbered.specs.Numbered.{number_at, count};
-ghost use Rattle.pth_ring.specs.Ring.{holds, rest_of, first_of};
-ghost use Rattle.pth_ring.specs.Rings.{event_id, joined, isolated, ring_freed};
+ghost use Rattle.pth_ring.specs.Ring.{ring_holds, rest_of, head_event};
+ghost use Rattle.pth_ring.specs.Rings.{event_id, concatenated, isolated, ring_freed};
 ghost use Rattle.pth_ring.specs.Arena.{events_of, AreLinked, Becomes, IsMade, IsChained, IsDropped, IsFreed};
 
 use crate::event::{Event, EventSpec, Status};
@@ -47,8 +47,8 @@ pub(crate) fn join_rings(nodes: &mut Numbered<Node>, a: Slot, b: Slot)
     requires kept { AreLinked nodes.old }
     requires a { number_at nodes.old a.0 ≢ 0 }
     requires b { number_at nodes.old b.0 ≢ 0 }
-    requires apart { holds (number_at nodes.old a.0) ((events_of nodes.old).rings (number_at nodes.old b.0)) ≡ false }
-    ensures { Becomes nodes.old nodes.new (joined (number_at nodes.old a.0) (number_at nodes.old b.0) (events_of nodes.old)) }
+    requires apart { ring_holds (number_at nodes.old a.0) ((events_of nodes.old).rings (number_at nodes.old b.0)) ≡ false }
+    ensures { Becomes nodes.old nodes.new (concatenated (number_at nodes.old a.0) (number_at nodes.old b.0) (events_of nodes.old)) }
 {
     splice(nodes, a, b);
 }
@@ -77,7 +77,7 @@ pub(crate) fn part(nodes: &mut Numbered<Node>, e: Slot) -> Option<EventId>
     requires kept { AreLinked nodes.old }
     requires used { number_at nodes.old e.0 ≢ 0 }
     ensures parted { Becomes nodes.old nodes.new (isolated (number_at nodes.old e.0) (events_of nodes.old)) }
-    ensures next { result ≡ option_map event_id (first_of (rest_of ((events_of nodes.old).rings (number_at nodes.old e.0)))) }
+    ensures next { result ≡ option_map event_id (head_event (rest_of ((events_of nodes.old).rings (number_at nodes.old e.0)))) }
 {
     let next = next_of(nodes, e);
     if next.0 == e.0 {

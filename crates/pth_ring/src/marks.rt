@@ -2,22 +2,14 @@
 
 ghost use Rattle.std.specs.Prelude.{◌≡◌, ◌≢◌, ◌+◌, ◌<◌};
 ghost use Rattle.pth_numbered.specs.Numbered.{number_at};
-ghost use Rattle.pth_ring.specs.Rings.{awaited, with_status, with_next_look, with_claim, kept_claim, released, changed, ring_awaited, unclaimed};
+ghost use Rattle.pth_ring.specs.Rings.{awaited, with_status, with_next_look, with_claim, with_event, with_each_event, ring_awaited};
+ghost use Rattle.pth_ring.specs.Claims.{claim_left, without_claims};
 ghost use Rattle.pth_ring.specs.Arena.{events_of, AreLinked, Becomes, Remakes};
 
-use crate::event::{Event, Status};
-use crate::node::{Node, event_of, next_of, write_event};
+use crate::event::Status;
+use crate::node::{Node, event_of, next_of};
 use pth_base::ids::{Micros, Slot, Tid};
 use pth_numbered::numbered::Numbered;
-
-// Writes what is kept of an event.
-fn set_event(nodes: &mut Numbered<Node>, e: Slot, event: Event)
-    requires kept { AreLinked nodes.old }
-    requires used { number_at nodes.old e.0 ≢ 0 }
-    ensures { Remakes nodes.old nodes.new e.0 (λ _. event) }
-{
-    write_event(nodes, e, event);
-}
 
 // Something was found of an event.
 pub(crate) fn set_status(nodes: &mut Numbered<Node>, e: Slot, status: Status)
@@ -25,11 +17,7 @@ pub(crate) fn set_status(nodes: &mut Numbered<Node>, e: Slot, status: Status)
     requires used { number_at nodes.old e.0 ≢ 0 }
     ensures { Remakes nodes.old nodes.new e.0 (with_status status) }
 {
-    let event = Event {
-        status,
-        ..*event_of(nodes, e)
-    };
-    set_event(nodes, e, event);
+    nodes.get_mut(e).event.status = status;
 }
 
 // An event is not looked at again before a moment.
@@ -38,11 +26,7 @@ pub(crate) fn set_next_look(nodes: &mut Numbered<Node>, e: Slot, at: Micros)
     requires used { number_at nodes.old e.0 ≢ 0 }
     ensures { Remakes nodes.old nodes.new e.0 (with_next_look at) }
 {
-    let event = Event {
-        next_look: at,
-        ..*event_of(nodes, e)
-    };
-    set_event(nodes, e, event);
+    nodes.get_mut(e).event.next_look = at;
 }
 
 // The claim on an event is another.
@@ -51,11 +35,7 @@ pub(crate) fn set_claim(nodes: &mut Numbered<Node>, e: Slot, claim: Option<Tid>)
     requires used { number_at nodes.old e.0 ≢ 0 }
     ensures { Remakes nodes.old nodes.new e.0 (with_claim claim) }
 {
-    let event = Event {
-        claim,
-        ..*event_of(nodes, e)
-    };
-    set_event(nodes, e, event);
+    nodes.get_mut(e).event.claim = claim;
 }
 
 // An event is waited for from now on.
@@ -64,12 +44,9 @@ fn await_at(nodes: &mut Numbered<Node>, e: Slot, now: Micros)
     requires used { number_at nodes.old e.0 ≢ 0 }
     ensures { Remakes nodes.old nodes.new e.0 (awaited now) }
 {
-    let event = Event {
-        status: Status::Pending,
-        next_look: now,
-        ..*event_of(nodes, e)
-    };
-    set_event(nodes, e, event);
+    let event = &mut nodes.get_mut(e).event;
+    event.status = Status::Pending;
+    event.next_look = now;
 }
 
 // All events of a ring are waited for from now on.
@@ -88,44 +65,54 @@ pub(crate) fn await_ring(nodes: &mut Numbered<Node>, e: Slot, now: Micros)
     }
 }
 
-// The claim of an event, unless it is that of a thread.
-fn kept_claim(claim: Option<Tid>, t: Tid) -> Option<Tid>
-    ensures { result ≡ kept_claim t.0 claim }
+// Whose claims go.
+#[derive(Clone, Copy)]
+pub(crate) enum Claims {
+    OfThread(Tid),
+    OfAll,
+}
+
+// What is left of a claim where some go.
+fn claim_left(claim: Option<Tid>, gone: Claims) -> Option<Tid>
+    ensures { result ≡ claim_left gone claim }
 {
+    let Claims::OfThread(t) = gone else {
+        return None;
+    };
     match claim {
         Some(holder) => { if holder.0 == t.0 { None } else { Some(holder) } }
         None => None,
     }
 }
 
-// The claim of a thread on an event is gone.
-pub(crate) fn release(nodes: &mut Numbered<Node>, e: Slot, t: Tid)
+// The claim on an event is gone, where it is one of these.
+fn release(nodes: &mut Numbered<Node>, e: Slot, gone: Claims)
     requires kept { AreLinked nodes.old }
     requires used { number_at nodes.old e.0 ≢ 0 }
-    ensures { Remakes nodes.old nodes.new e.0 (released t.0) }
+    ensures { Remakes nodes.old nodes.new e.0 (without_claims gone) }
 {
-    let claim = kept_claim(event_of(nodes, e).claim, t);
+    let claim = claim_left(event_of(nodes, e).claim, gone);
     set_claim(nodes, e, claim);
 }
 
-// The claim of a thread on the event with a number is gone.
-fn release_number(nodes: &mut Numbered<Node>, number: u32, t: Tid)
+// The claim on the event with a number is gone, where it is one of these.
+fn release_number(nodes: &mut Numbered<Node>, number: u32, gone: Claims)
     requires { AreLinked nodes.old }
-    ensures { Becomes nodes.old nodes.new (changed (released t.0) number (events_of nodes.old)) }
+    ensures { Becomes nodes.old nodes.new (with_event (without_claims gone) number (events_of nodes.old)) }
 {
     if let Some(place) = nodes.find(number) {
-        release(nodes, place, t);
+        release(nodes, place, gone);
     }
 }
 
-// The claims of a thread are gone.
-pub(crate) fn release_all(nodes: &mut Numbered<Node>, t: Tid)
+// These claims are gone.
+pub(crate) fn release_all(nodes: &mut Numbered<Node>, gone: Claims)
     requires { AreLinked nodes.old }
     ensures kept { AreLinked nodes.new }
-    ensures events { events_of nodes.new ≡ unclaimed t.0 (events_of nodes.old) }
+    ensures events { events_of nodes.new ≡ with_each_event (without_claims gone) (events_of nodes.old) }
 {
     let made = nodes.made();
     for n in 0..made {
-        release_number(nodes, n + 1, t);
+        release_number(nodes, n + 1, gone);
     }
 }

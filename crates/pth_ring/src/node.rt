@@ -3,7 +3,7 @@
 ghost use Rattle.std.specs.Prelude.{◌≡◌, ◌≢◌, Some};
 ghost use Rattle.pth_base.specs.Table.{put};
 ghost use Rattle.pth_numbered.specs.Numbered.{number_at, thing_at};
-ghost use Rattle.pth_ring.specs.Links.{next_at, prev_at, event_at, Splices};
+ghost use Rattle.pth_ring.specs.Links.{next_place, prev_place, event_at, Splices};
 ghost use Rattle.pth_ring.specs.Arena.{AreLinked, SamePlaces};
 
 use crate::event::Event;
@@ -22,7 +22,7 @@ pub(crate) struct Node {
 // The place after.
 pub(crate) fn next_of(nodes: &Numbered<Node>, e: Slot) -> Slot
     requires { number_at nodes.now e.0 ≢ 0 }
-    ensures { result.0 ≡ next_at (thing_at nodes.now) e.0 }
+    ensures { result.0 ≡ next_place (thing_at nodes.now) e.0 }
 {
     nodes.get(e).next
 }
@@ -30,7 +30,7 @@ pub(crate) fn next_of(nodes: &Numbered<Node>, e: Slot) -> Slot
 // The place before.
 pub(crate) fn prev_of(nodes: &Numbered<Node>, e: Slot) -> Slot
     requires { number_at nodes.now e.0 ≢ 0 }
-    ensures { result.0 ≡ prev_at (thing_at nodes.now) e.0 }
+    ensures { result.0 ≡ prev_place (thing_at nodes.now) e.0 }
 {
     nodes.get(e).prev
 }
@@ -54,8 +54,8 @@ pub(crate) fn id_of(nodes: &Numbered<Node>, e: Slot) -> EventId
 
 pub(crate) fn set_next(nodes: &mut Numbered<Node>, e: Slot, to: Slot)
     requires { number_at nodes.old e.0 ≢ 0 }
-    ensures next { next_at (thing_at nodes.new) ≡ put (next_at (thing_at nodes.old)) e.0 to.0 }
-    ensures prev { prev_at (thing_at nodes.new) ≡ prev_at (thing_at nodes.old) }
+    ensures next { next_place (thing_at nodes.new) ≡ put (next_place (thing_at nodes.old)) e.0 to.0 }
+    ensures prev { prev_place (thing_at nodes.new) ≡ prev_place (thing_at nodes.old) }
     ensures event { event_at (thing_at nodes.new) ≡ event_at (thing_at nodes.old) }
     ensures places { SamePlaces nodes.old nodes.new }
 {
@@ -64,30 +64,20 @@ pub(crate) fn set_next(nodes: &mut Numbered<Node>, e: Slot, to: Slot)
 
 pub(crate) fn set_prev(nodes: &mut Numbered<Node>, e: Slot, to: Slot)
     requires { number_at nodes.old e.0 ≢ 0 }
-    ensures next { next_at (thing_at nodes.new) ≡ next_at (thing_at nodes.old) }
-    ensures prev { prev_at (thing_at nodes.new) ≡ put (prev_at (thing_at nodes.old)) e.0 to.0 }
+    ensures next { next_place (thing_at nodes.new) ≡ next_place (thing_at nodes.old) }
+    ensures prev { prev_place (thing_at nodes.new) ≡ put (prev_place (thing_at nodes.old)) e.0 to.0 }
     ensures event { event_at (thing_at nodes.new) ≡ event_at (thing_at nodes.old) }
     ensures places { SamePlaces nodes.old nodes.new }
 {
     nodes.get_mut(e).prev = to;
 }
 
-pub(crate) fn write_event(nodes: &mut Numbered<Node>, e: Slot, event: Event)
-    requires { number_at nodes.old e.0 ≢ 0 }
-    ensures next { next_at (thing_at nodes.new) ≡ next_at (thing_at nodes.old) }
-    ensures prev { prev_at (thing_at nodes.new) ≡ prev_at (thing_at nodes.old) }
-    ensures event { event_at (thing_at nodes.new) ≡ put (event_at (thing_at nodes.old)) e.0 (Some event) }
-    ensures places { SamePlaces nodes.old nodes.new }
-{
-    nodes.get_mut(e).event = event;
-}
-
 // Four writes: two rings become one, and one that has both becomes two.
 pub(crate) fn splice(nodes: &mut Numbered<Node>, a: Slot, b: Slot)
     requires a { number_at nodes.old a.0 ≢ 0 }
     requires b { number_at nodes.old b.0 ≢ 0 }
-    requires prev_a { number_at nodes.old (prev_at (thing_at nodes.old) a.0) ≢ 0 }
-    requires prev_b { number_at nodes.old (prev_at (thing_at nodes.old) b.0) ≢ 0 }
+    requires prev_a { number_at nodes.old (prev_place (thing_at nodes.old) a.0) ≢ 0 }
+    requires prev_b { number_at nodes.old (prev_place (thing_at nodes.old) b.0) ≢ 0 }
     ensures links { Splices (thing_at nodes.old) (thing_at nodes.new) a.0 b.0 }
     ensures places { SamePlaces nodes.old nodes.new }
 {

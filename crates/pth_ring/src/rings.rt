@@ -1,17 +1,17 @@
 //! Rings of events, by their numbers.
 
-ghost use Rattle.std.specs.Prelude.{◌≡◌, ◌≢◌, ◌<◌, ℕ, IsTrue, true, false, IfOk, IfSome, IfNone, OnOk, OnErr, Some, None, option_map, option_copied, if◌then◌else◌};
+ghost use Rattle.std.specs.Prelude.{◌≡◌, ◌≢◌, ◌<◌, ℕ, IsTrue, true, false, IfOk, IfSome, IfNone, OnOk, OnErr, Some, None, option_map, option_copied, [], if◌then◌else◌};
 ghost use Rattle.std.specs.Result.{result_err};
 ghost use Rattle.pth_numbered.specs.Operands.{number};
 ghost use Rattle.pth_numbered.specs.Numbered.{number_at};
-ghost use Rattle.pth_ring.specs.Ring.{Has, Begins, GoesOn, holds};
-ghost use Rattle.pth_ring.specs.Rings.{kind_of, is_live, settled_in, next_in, ring_refusal, concat_refusal, make_answer, chain_answer, concat_answer, isolate_answer, free_answer, claim_answer, walk_answer, status_answer, kind_answer, Answers, no_events, alone, chained, joined, isolated, freed, ring_freed, claimed, unclaimed, changed, with_status, with_next_look, with_claim};
+ghost use Rattle.pth_ring.specs.Ring.{StandsIn, Begins, RingGoesOn, ring_holds};
+ghost use Rattle.pth_ring.specs.Rings.{kind_of, is_event, settled_in, event_after, ring_refusal, concat_refusal, make_answer, chain_answer, concat_answer, isolate_answer, free_answer, claim_answer, walk_answer, status_answer, kind_answer, AnswersEvent, no_events, alone, chained, concatenated, isolated, freed, ring_freed, claimed, unclaimed, all_unclaimed, with_event, with_status, with_next_look, with_claim};
 ghost use Rattle.pth_ring.specs.Arena.{events_of};
 
 use crate::event::Event;
 pub use crate::event::{EventSpec, Status};
 use crate::links::{free_all, free_one, insert_alone, insert_before, join_rings, part};
-use crate::marks::{await_ring, release_all, set_claim, set_next_look, set_status};
+use crate::marks::{Claims, await_ring, release_all, set_claim, set_next_look, set_status};
 use crate::node::{Node, event_of, id_of, next_of};
 use crate::rounds::{count_settled, is_claimed, is_with, walk_from};
 use pth_base::errno::Errno;
@@ -53,8 +53,9 @@ impl Rings {
 
     /// The place of the event that an operand names. It stays the same as long as there is the event.
     pub fn find(&self, e: i64) -> Option<Slot>
-        ensures none { IfNone result (is_live (events_of self.now) (number e) ≡ false) }
-        ensures some { IfSome result (λ _. is_live (events_of self.now) (number e) ≡ true) }
+        ensures none { IfNone result (is_event (events_of self.now) (number e) ≡ false) }
+        ensures no_ring { IfNone result ((events_of self.now).rings (number e) ≡ []) }
+        ensures some { IfSome result (λ _. is_event (events_of self.now) (number e) ≡ true) }
         ensures named { IfSome result (λ s. number_at self.now s.0 ≡ number e) }
         ensures used { IfSome result (λ s. number_at self.now s.0 ≢ 0) }
         ensures begins { IfSome result (λ s. Begins ((events_of self.now).rings (number_at self.now s.0)) (number_at self.now s.0)) }
@@ -88,7 +89,7 @@ impl Rings {
         ensures b { IfOk result (λ p. number_at self.now p.1.0 ≡ number b) }
         ensures a_used { IfOk result (λ p. number_at self.now p.0.0 ≢ 0) }
         ensures b_used { IfOk result (λ p. number_at self.now p.1.0 ≢ 0) }
-        ensures apart { IfOk result (λ p. holds (number_at self.now p.0.0) ((events_of self.now).rings (number_at self.now p.1.0)) ≡ false) }
+        ensures apart { IfOk result (λ p. ring_holds (number_at self.now p.0.0) ((events_of self.now).rings (number_at self.now p.1.0)) ≡ false) }
     {
         let Some(a) = self.find(a) else {
             return Err(Errno::EINVAL);
@@ -108,7 +109,7 @@ impl Rings {
     /// `pth_event`: a new event, pending and alone in its ring. EAGAIN where there are 4096.
     pub fn make(&mut self, spec: EventSpec) -> Result<EventId, Refusal>
         requires { self.old.made < 4294967295 }
-        ensures answer { Answers (make_answer (events_of self.old)) result }
+        ensures answer { AnswersEvent (make_answer (events_of self.old)) result }
         ensures changes { OnOk result (events_of self.new ≡ alone spec (events_of self.old)) }
         ensures refused { OnErr result (self.new ≡ self.old) }
     {
@@ -123,7 +124,7 @@ impl Rings {
     /// EBUSY where its ring is claimed, and EAGAIN where there are 4096 events.
     pub fn chain(&mut self, spec: EventSpec, e: i64) -> Result<EventId, Refusal>
         requires { self.old.made < 4294967295 }
-        ensures answer { Answers (chain_answer (events_of self.old) (number e)) result }
+        ensures answer { AnswersEvent (chain_answer (events_of self.old) (number e)) result }
         ensures changes { OnOk result (events_of self.new ≡ chained spec (number e) (events_of self.old)) }
         ensures refused { OnErr result (self.new ≡ self.old) }
     {
@@ -141,7 +142,7 @@ impl Rings {
     /// no event or both stand in one ring, and EBUSY where a ring is claimed.
     pub fn concat(&mut self, a: i64, b: i64) -> Result<(), Errno>
         ensures answer { result ≡ concat_answer (events_of self.old) (number a) (number b) }
-        ensures changes { OnOk result (events_of self.new ≡ joined (number a) (number b) (events_of self.old)) }
+        ensures changes { OnOk result (events_of self.new ≡ concatenated (number a) (number b) (events_of self.old)) }
         ensures refused { OnErr result (self.new ≡ self.old) }
     {
         match self.find_two(a, b) {
@@ -250,7 +251,7 @@ impl Rings {
 
     /// The claim that stands at an event is gone, if there is one. Nothing changes where there is no such event.
     pub fn unclaim_at(&mut self, e: i64)
-        ensures { events_of self.new ≡ changed (with_claim None) (number e) (events_of self.old) }
+        ensures { events_of self.new ≡ with_event (with_claim None) (number e) (events_of self.old) }
     {
         if let Some(place) = self.find(e) {
             set_claim(&mut self.nodes, place, None);
@@ -261,12 +262,19 @@ impl Rings {
     pub fn unclaim(&mut self, t: Tid)
         ensures { events_of self.new ≡ unclaimed t.0 (events_of self.old) }
     {
-        release_all(&mut self.nodes, t);
+        release_all(&mut self.nodes, Claims::OfThread(t));
+    }
+
+    /// All claims are gone. It goes over every number that was ever given.
+    pub fn unclaim_all(&mut self)
+        ensures { events_of self.new ≡ all_unclaimed (events_of self.old) }
+    {
+        release_all(&mut self.nodes, Claims::OfAll);
     }
 
     // The place of an event.
     fn place_of(&self, e: EventId) -> Slot
-        requires { IsTrue (is_live (events_of self.now) e.0) }
+        requires { IsTrue (is_event (events_of self.now) e.0) }
         ensures number { number_at self.now result.0 ≡ e.0 }
         ensures used { number_at self.now result.0 ≢ 0 }
     {
@@ -278,7 +286,7 @@ impl Rings {
 
     /// What an event is of.
     pub fn spec(&self, e: EventId) -> &EventSpec
-        requires { IsTrue (is_live (events_of self.now) e.0) }
+        requires { IsTrue (is_event (events_of self.now) e.0) }
         ensures { option_map (λ (v : Event). v.spec) ((events_of self.now).events e.0) ≡ Some result.now }
     {
         let place = self.place_of(e);
@@ -287,8 +295,8 @@ impl Rings {
 
     /// Something was found of an event.
     pub fn mark(&mut self, e: EventId, status: Status)
-        requires { IsTrue (is_live (events_of self.old) e.0) }
-        ensures { events_of self.new ≡ changed (with_status status) e.0 (events_of self.old) }
+        requires { IsTrue (is_event (events_of self.old) e.0) }
+        ensures { events_of self.new ≡ with_event (with_status status) e.0 (events_of self.old) }
     {
         let place = self.place_of(e);
         set_status(&mut self.nodes, place, status);
@@ -296,8 +304,8 @@ impl Rings {
 
     /// An event is not looked at again before a moment.
     pub fn look_next(&mut self, e: EventId, at: Micros)
-        requires { IsTrue (is_live (events_of self.old) e.0) }
-        ensures { events_of self.new ≡ changed (with_next_look at) e.0 (events_of self.old) }
+        requires { IsTrue (is_event (events_of self.old) e.0) }
+        ensures { events_of self.new ≡ with_event (with_next_look at) e.0 (events_of self.old) }
     {
         let place = self.place_of(e);
         set_next_look(&mut self.nodes, place, at);
@@ -305,7 +313,7 @@ impl Rings {
 
     /// The moment before which an event is not looked at again.
     pub fn next_look(&self, e: EventId) -> Micros
-        requires { IsTrue (is_live (events_of self.now) e.0) }
+        requires { IsTrue (is_event (events_of self.now) e.0) }
         ensures { option_map (λ (v : Event). v.next_look) ((events_of self.now).events e.0) ≡ Some result }
     {
         let place = self.place_of(e);
@@ -314,17 +322,27 @@ impl Rings {
 
     /// How many events of a ring are not pending.
     pub fn occurred(&self, e: EventId) -> u32
-        requires { IsTrue (is_live (events_of self.now) e.0) }
+        requires { IsTrue (is_event (events_of self.now) e.0) }
         ensures { result ≡ settled_in (events_of self.now) e.0 }
     {
         let place = self.place_of(e);
         count_settled(&self.nodes, place)
     }
 
+    /// How many events are not pending in the ring of the event that an operand names: none where there is no such event.
+    pub fn settled(&self, e: i64) -> u32
+        ensures { result ≡ settled_in (events_of self.now) (number e) }
+    {
+        match self.find(e) {
+            Some(place) => count_settled(&self.nodes, place),
+            None => 0,
+        }
+    }
+
     /// The event after another in its ring.
     pub fn next(&self, e: EventId) -> EventId
-        requires { IsTrue (is_live (events_of self.now) e.0) }
-        ensures { next_in (events_of self.now) e.0 ≡ Some result.0 }
+        requires { IsTrue (is_event (events_of self.now) e.0) }
+        ensures { event_after (events_of self.now) e.0 ≡ Some result.0 }
     {
         let place = self.place_of(e);
         let next = next_of(&self.nodes, place);
@@ -339,13 +357,21 @@ impl Rings {
         &event_of(&self.nodes, place).spec
     }
 
+    /// What was found when the event at a place was last looked at.
+    pub fn status_at(&self, place: Slot) -> Status
+        requires { number_at self.now place.0 ≢ 0 }
+        ensures { option_map (λ (v : Event). v.status) ((events_of self.now).events (number_at self.now place.0)) ≡ Some result }
+    {
+        event_of(&self.nodes, place).status
+    }
+
     /// The place of the next event.
     pub fn next_at(&self, place: Slot) -> Slot
         requires { number_at self.now place.0 ≢ 0 }
         ensures used { number_at self.now result.0 ≢ 0 }
         ensures apart { (other : ℕ) → number_at self.now other ≡ number_at self.now result.0 → other ≡ result.0 }
-        ensures next { next_in (events_of self.now) (number_at self.now place.0) ≡ Some (number_at self.now result.0) }
-        ensures round { (e : ℕ) → Has (number_at self.now place.0) ((events_of self.now).rings e) → GoesOn ((events_of self.now).rings e) e (number_at self.now place.0) (number_at self.now result.0) }
+        ensures next { event_after (events_of self.now) (number_at self.now place.0) ≡ Some (number_at self.now result.0) }
+        ensures round { (e : ℕ) → StandsIn (number_at self.now place.0) ((events_of self.now).rings e) → RingGoesOn ((events_of self.now).rings e) e (number_at self.now place.0) (number_at self.now result.0) }
     {
         next_of(&self.nodes, place)
     }
@@ -353,7 +379,7 @@ impl Rings {
     /// Something was found of the event at a place.
     pub fn mark_at(&mut self, place: Slot, status: Status)
         requires { number_at self.old place.0 ≢ 0 }
-        ensures events { events_of self.new ≡ changed (with_status status) (number_at self.old place.0) (events_of self.old) }
+        ensures events { events_of self.new ≡ with_event (with_status status) (number_at self.old place.0) (events_of self.old) }
         ensures places { number_at self.new ≡ number_at self.old }
     {
         set_status(&mut self.nodes, place, status);

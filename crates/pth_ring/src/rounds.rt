@@ -2,9 +2,9 @@
 
 ghost use Rattle.std.specs.Prelude.{◌≡◌, ◌≢◌, reverse, find, option_map, if◌then◌else◌};
 ghost use Rattle.pth_numbered.specs.Numbered.{number_at, thing_at};
-ghost use Rattle.pth_ring.specs.Ring.{holds, behind};
+ghost use Rattle.pth_ring.specs.Ring.{ring_holds, turned_once};
 ghost use Rattle.pth_ring.specs.Links.{event_at, ring};
-ghost use Rattle.pth_ring.specs.Rings.{event_id, has_claim, has_occurred, is_settled, is_claimed, settled_in, candidates, chosen};
+ghost use Rattle.pth_ring.specs.Rings.{event_id, has_claim, has_occurred, is_settled, is_claimed, settled_in, candidates, walk_end};
 ghost use Rattle.pth_ring.specs.Arena.{events_of, AreLinked};
 
 use crate::event::Status;
@@ -74,7 +74,7 @@ pub(crate) fn is_with(nodes: &Numbered<Node>, a: Slot, e: Slot) -> bool
     requires kept { AreLinked nodes.now }
     requires a { number_at nodes.now a.0 ≢ 0 }
     requires used { number_at nodes.now e.0 ≢ 0 }
-    ensures { result ≡ holds (number_at nodes.now a.0) ((events_of nodes.now).rings (number_at nodes.now e.0)) }
+    ensures { result ≡ ring_holds (number_at nodes.now a.0) ((events_of nodes.now).rings (number_at nodes.now e.0)) }
 {
     let mut at = e;
     'round: loop {
@@ -103,7 +103,7 @@ fn has_occurred(nodes: &Numbered<Node>, e: Slot) -> bool
 fn find_next(nodes: &Numbered<Node>, e: Slot) -> Option<Slot>
     requires kept { AreLinked nodes.now }
     requires used { number_at nodes.now e.0 ≢ 0 }
-    ensures { option_map (λ (s : Slot). s.0) result ≡ find (λ y. has_occurred (event_at (thing_at nodes.now) y)) (behind (ring (thing_at nodes.now) e.0)) }
+    ensures { option_map (λ (s : Slot). s.0) result ≡ find (λ y. has_occurred (event_at (thing_at nodes.now) y)) (turned_once (ring (thing_at nodes.now) e.0)) }
 {
     let mut at = e;
     'round: loop {
@@ -139,7 +139,7 @@ fn find_prev(nodes: &Numbered<Node>, e: Slot) -> Option<Slot>
 fn find_from(nodes: &Numbered<Node>, e: Slot, forward: bool, until_occurred: bool) -> Option<Slot>
     requires kept { AreLinked nodes.now }
     requires used { number_at nodes.now e.0 ≢ 0 }
-    ensures { option_map (λ (s : Slot). s.0) result ≡ chosen until_occurred (event_at (thing_at nodes.now)) (candidates forward (ring (thing_at nodes.now) e.0)) }
+    ensures { option_map (λ (s : Slot). s.0) result ≡ walk_end until_occurred (event_at (thing_at nodes.now)) (candidates forward (ring (thing_at nodes.now) e.0)) }
 {
     match (until_occurred, forward) {
         (false, true) => Some(next_of(nodes, e)),
@@ -158,7 +158,7 @@ pub(crate) fn walk_from(
 ) -> Option<EventId>
     requires kept { AreLinked nodes.now }
     requires used { number_at nodes.now e.0 ≢ 0 }
-    ensures { result ≡ option_map event_id (chosen until_occurred (events_of nodes.now).events (candidates forward ((events_of nodes.now).rings (number_at nodes.now e.0)))) }
+    ensures { result ≡ option_map event_id (walk_end until_occurred (events_of nodes.now).events (candidates forward ((events_of nodes.now).rings (number_at nodes.now e.0)))) }
 {
     match find_from(nodes, e, forward, until_occurred) {
         Some(found) => Some(id_of(nodes, found)),

@@ -2,7 +2,7 @@ use Rattle.std.proofs.Common.{◌∙◌, sym}
 use Rattle.pth_numbered.specs.Numbered.{thing_at}
 use Rattle.pth_ring.specs.Links.{event_at}
 use Rattle.pth_ring.specs.Rings.{has_occurred}
-use Rattle.pth_ring.proofs.Going.{on-start, on-live, on-next, left-shorter, find-start, found-here, found-none, found-later}
+use Rattle.pth_ring.proofs.Going.{on-start, on-live, on-next, places_left-shorter, find-start, found-here, found-none, found-later}
 use Rattle.pth_ring.proofs.Shown.{live, used}
 use Rattle.pth_ring.proofs.rounds.find_next.Goals as goal
 
@@ -22,7 +22,7 @@ pub returns-then-at-e : goal.returns-then-at-e
 returns-then-at-e c = found-none (thing_at c.args.nodes.now) (λ y. has_occurred (event_at (thing_at c.args.nodes.now) y)) c.args.e.0 c.requires.kept.linked (live c.args.nodes.now c.requires.kept c.args.e.0 c.requires.used) c.round.at.0 c.round.invariant.on _ (sym c.next_of-at.ensures ∙ c.if-at-e.true) (rw c.next_of-at.ensures at c.if-has_occurred.ensures) c.round.invariant.same
 
 pub round-smaller : goal.round-smaller
-round-smaller c = rw c.next_of-at.ensures (left-shorter (thing_at c.args.nodes.now) c.args.e.0 c.requires.kept.linked (live c.args.nodes.now c.requires.kept c.args.e.0 c.requires.used) c.round.at.0 c.round.invariant.on (λ k. c.if-at-e.false (c.next_of-at.ensures ∙ k)))
+round-smaller c = rw c.next_of-at.ensures (places_left-shorter (thing_at c.args.nodes.now) c.args.e.0 c.requires.kept.linked (live c.args.nodes.now c.requires.kept c.args.e.0 c.requires.used) c.round.at.0 c.round.invariant.on (λ k. c.if-at-e.false (c.next_of-at.ensures ∙ k)))
 
 pub round-preserved : goal.round-preserved
 round-preserved c = rw c.next_of-at.ensures (record {

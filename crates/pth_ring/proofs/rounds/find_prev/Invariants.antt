@@ -1,16 +1,16 @@
 use Rattle.std.proofs.Common.{◌≡◌, [], ◌∷◌, ◌++◌, length, find, reverse}
 use Rattle.pth_numbered.specs.Numbered.{thing_at}
-use Rattle.pth_ring.specs.Ring.{Has, rest_of}
-use Rattle.pth_ring.specs.Links.{event_at, ring, left}
+use Rattle.pth_ring.specs.Ring.{StandsIn, rest_of}
+use Rattle.pth_ring.specs.Links.{event_at, ring, places_left}
 use Rattle.pth_ring.specs.Rings.{has_occurred}
 use Rattle.pth_ring.proofs.Flips.{flip}
 use Rattle.pth_ring.proofs.rounds.find_prev.Given as goal
 
 abbrev pub invariant-round : goal.invariant-round
 invariant-round l = record {
-  on : Has l.at.0 (ring (flip (thing_at l.nodes)) l.e.0);
-  same : find (λ y. has_occurred (event_at (thing_at l.nodes) y)) (rest_of (left (flip (thing_at l.nodes)) l.e.0 l.at.0) ++ l.e.0 ∷ []) ≡ find (λ y. has_occurred (event_at (thing_at l.nodes) y)) (reverse (ring (thing_at l.nodes) l.e.0));
+  on : StandsIn l.at.0 (ring (flip (thing_at l.nodes)) l.e.0);
+  same : find (λ y. has_occurred (event_at (thing_at l.nodes) y)) (rest_of (places_left (flip (thing_at l.nodes)) l.e.0 l.at.0) ++ l.e.0 ∷ []) ≡ find (λ y. has_occurred (event_at (thing_at l.nodes) y)) (reverse (ring (thing_at l.nodes) l.e.0));
 }
 
 abbrev pub decreases-round : goal.decreases-round
-decreases-round l = length (left (flip (thing_at l.nodes)) l.e.0 l.at.0)
+decreases-round l = length (places_left (flip (thing_at l.nodes)) l.e.0 l.at.0)

@@ -3,7 +3,7 @@ use Rattle.std.proofs.lemmas.Int.{ints}
 use mir.Syntax.{w64}
 use mir.Val.{to_z, of_z}
 use Rattle.pth_ring.proofs.Kept.{remade}
-use Rattle.pth_ring.proofs.Refusals.{changed-dead}
+use Rattle.pth_ring.proofs.Refusals.{with_event-dead}
 use Rattle.pth_ring.proofs.rings.Rings.unclaim_at.Goals as goal
 
 pub returns-in-Some : goal.returns-in-Some
@@ -14,4 +14,4 @@ returns-in-Some c =
 pub returns-in_default : goal.returns-in_default
 returns-in_default c =
     let is : to_z w64 (of_z w64 c.args.e) ≡ c.args.e = omega (arith, ints) in
-    changed-dead _ _ _ (rw is at c.in_default.ensures.none)
+    with_event-dead _ _ _ (rw is at c.in_default.ensures.none)
