@@ -8,4 +8,3 @@ pub mod Entries
 pub mod Numbered
 pub mod Once
 pub mod Placed
-pub mod Moments

@@ -20,7 +20,7 @@ use Rattle.pth_model.specs.Changes.{sets, enters, goes_on, leaves_queue, makes, 
 use Rattle.pth_model.specs.ThreadControl.{spawns, suspends, resumes, returns_to}
 use Rattle.pth_model.specs.LibraryControl.{vanish_all_but}
 use Rattle.pth_model.specs.Ending.{leaves, is_dead_with}
-use Rattle.pth_model.specs.Pass.{is_ready_at, woken, all_woken, pass, to_wake, moment}
+use Rattle.pth_model.specs.Pass.{looks, is_ready_at, woken, all_woken, pass, to_wake, moment}
 use Rattle.pth_model.specs.Course.{Course}
 use Rattle.pth_model.specs.Part.{Part, Move, Take, Step, Close, Halt, next_part, part, part_by, moves, moves_by, readies, readies_all, readies_new, is_put_back, is_put_waiting, is_placed, placed_by, closes, turn_ends, takes, takes_by, dispatches, runs, chosen, steps}
 use Rattle.pth_model.specs.Run.{parts, run}
@@ -134,6 +134,7 @@ module _ {P S H : Type 0} (Meant : Standing → Type 0) where
       changed = kept_changed;
       added = λ x s k. k;
       exchanged = λ n o s k. k;
+      evented = λ x s k. k;
       left = kept_left t;
       vanished = kept_vanished t;
     }
@@ -149,8 +150,8 @@ module _ {P S H : Type 0} (Meant : Standing → Type 0) where
     kept_all_woken (t ∷ ts) s k = kept_all_woken ts (woken t s).state (kept_ready s.control t (prio_of s.control t +ℤ pos 1) false (λ x tid top. plain x top) not_top k)
 
     kept_pass : (f : P → Functions S H) (s : State P S H) → Kept Meant s.control → Kept Meant (pass f s).state.control
-    unfolding pass
-    kept_pass f s k = kept_all_woken (to_wake f s) s k
+    unfolding pass looks
+    kept_pass f s k = kept_all_woken (to_wake f s) (controlled looks s) k
 
     kept_placed_by : (s : Control P S H) (t : ℕ) (r : Option ℕ) (b : Option Blocked) → Kept Meant s → Kept Meant (placed_by t r b s)
     unfolding is_put_back is_put_waiting sets

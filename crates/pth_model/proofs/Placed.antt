@@ -27,8 +27,7 @@ use Rattle.pth_model.specs.Changes.{sets, enters, goes_on, leaves_queue, makes, 
 use Rattle.pth_model.specs.ThreadControl.{spawns, suspends, resumes, returns_to}
 use Rattle.pth_model.specs.LibraryControl.{vanish_all_but}
 use Rattle.pth_model.specs.Ending.{leaves, is_dead_with, other_than, stops_running}
-use Rattle.pth_model.specs.Calls.{wakes}
-use Rattle.pth_model.specs.Pass.{is_ready_at, woken, all_woken, pass, to_wake, moment}
+use Rattle.pth_model.specs.Pass.{is_ready_at, woken, all_woken, pass, looks, waiting, is_to_wake, to_wake, moment}
 use Rattle.pth_model.specs.Part.{Part, next_part, next_part_by, unless_ended, is_idle, part, part_by, moves, moves_by, readies, readies_all, readies_new, new_rank, is_put_back, is_put_waiting, is_placed, placed_by, closes, turn_ends, takes, takes_by, dispatches, runs, chosen, steps, steps_on, turn_after, ends_run, gives_up}
 use Rattle.pth_model.specs.Run.{parts, run}
 use Rattle.pth_model.specs.Order.{times_listed, IsOnce}
@@ -269,6 +268,7 @@ module _ {P S H : Type 0} where
     changed = going_changed t;
     added = λ x k g. g;
     exchanged = λ n o k g. g;
+    evented = λ x k g. g;
     left = going_left t;
     vanished = going_vanished t;
   }
@@ -316,8 +316,8 @@ module _ {P S H : Type 0} where
       (resting_ready s.control t (prio_of s.control t +ℤ pos 1) false (All-head (λ t. t ≤ s.control.threads.made) t ts low) i)
 
   resting_pass : (f : P → Functions S H) (s : State P S H) → Resting s.control → Resting (pass f s).state.control
-  unfolding pass to_wake
-  resting_pass f s i = resting_woken (to_wake f s) s (All-filter (λ t. wakes f t s) (λ t. t ≤ s.control.threads.made) (holders (queue s.control Waiting)) (rows-low s.control i.sets Waiting)) i
+  unfolding pass to_wake looks
+  resting_pass f s i = resting_woken (to_wake f s) (controlled looks s) (All-filter (is_to_wake f s) (λ t. t ≤ s.control.threads.made) (waiting s.control) (rows-low s.control i.sets Waiting)) i
 
   placed_dispatched : (x : Turn) (s : State P S H) (t : ℕ) → x.gave ≡ None → t ≤ s.control.threads.made → Resting s.control → Placed (takes_by x (Some t) s).state.control x.gave
   unfolding dispatches runs sets leaves_queue

@@ -1,5 +1,5 @@
 -- Each piece of a run gives the resources what its marks say.
-use Rattle.std.proofs.Common.{◌≡◌, ◌∙◌, ℕ, pos, zero, suc, Bool, true, false, List, [], ◌∷◌, ◌++◌, Option, Some, None, refl, ap, sym}
+use Rattle.std.proofs.Common.{◌≡◌, ◌∙◌, ℕ, ℤ, pos, zero, suc, Bool, true, false, List, [], ◌∷◌, ◌++◌, Option, Some, None, refl, ap, sym}
 use Rattle.pth_base.specs.Program.{Functions}
 use Rattle.pth_base.specs.declared.call.Call.{Call}
 use Rattle.pth_base.specs.declared.call.Call.TheVariants as call
@@ -20,7 +20,11 @@ use Rattle.pth_model.specs.Changes.{blocked_of}
 use Rattle.pth_model.specs.Row.{effect_of, refuses, unless_refused}
 use Rattle.pth_model.specs.Rows.{row_of}
 use Rattle.pth_model.specs.Ending.{ending}
-use Rattle.pth_model.specs.Calls.{begun, begun_by, resumed, resumed_by, tried_by, waits_by}
+use Rattle.pth_model.specs.Calls.{begun, begun_by, resumed, resumed_by, tried_by, waits_by, unless_come, interrupted}
+use Rattle.pth_model.specs.RingWaits.{ring_given, has_event_come}
+use Rattle.pth_model.specs.EventHandling.{chain}
+use Rattle.pth_base.specs.declared.event.EvLine.{EvLine}
+use Rattle.pth_base.specs.declared.event.EvLine.TheVariants as line
 use Rattle.pth_model.specs.Course.{Course}
 use Rattle.pth_model.specs.Pass.{pass, woken, all_woken, to_wake, moment}
 use Rattle.pth_model.specs.Part.{Part, Move, Take, Step, Close, Halt, part, part_by, next_part, moves, moves_by, takes, takes_by, dispatches, chosen, readies_new, steps, steps_by, closes}
@@ -58,10 +62,19 @@ module _ {P S H : Type 0} (f : P → Functions S H) where
     ctrl_tells s query.Threads u = refl
     ctrl_tells s x u = refl
 
+    chain_tells : (s : State P S H) (e : ℤ) (l : EvLine) → IsTold (chain s e l).begin.effect
+    chain_tells s e (line.Time at) u = refl
+    chain_tells s e l u = refl
+
+    chain_tells_again : (s : State P S H) (e : ℤ) (l : EvLine) (b : Blocked) → IsTold ((chain s e l).again b).effect
+    chain_tells_again s e (line.Time at) b u = refl
+    chain_tells_again s e l b u = refl
+
     -- what a call does beside its answer is a change, which is not told
     effect_tells : (s : State P S H) (c : Call) → IsTold (row_of f s t c).begin.effect
     unfolding row_of
     effect_tells s (call.Ctrl x) = ctrl_tells s x
+    effect_tells s (call.Chain e l) = chain_tells s e l
     effect_tells s c = λ u. refl
 
     effect_told : (s : State P S H) (c : Call) → IsTold (effect_of (row_of f s t c).begin)
@@ -74,6 +87,7 @@ module _ {P S H : Type 0} (f : P → Functions S H) where
     again_tells : (s : State P S H) (c : Call) (b : Blocked) → IsTold ((row_of f s t c).again b).effect
     unfolding row_of
     again_tells s (call.Ctrl x) b = ctrl_tells_again s x b
+    again_tells s (call.Chain e l) b = chain_tells_again s e l b
     again_tells s c b = λ u. refl
 
     again_told : (s : State P S H) (c : Call) (b : Blocked) → IsTold (effect_of ((row_of f s t c).again b))
@@ -93,6 +107,10 @@ module _ {P S H : Type 0} (f : P → Functions S H) where
     begun_told (call.Note v) s = refl
     begun_told c s = begun_by_told c (row_of f s t c).begin.verdict (effect_of (row_of f s t c).begin) (effect_told s c) s
 
+    come_told : (s : State P S H) (c : Call) (b : Blocked) (come : Bool) → IsTold (effect_of (unless_come come ((row_of f s t c).again b)))
+    come_told s c b false = again_told s c b
+    come_told s c b true = unless_told (refuses (interrupted ((row_of f s t c).again b).verdict)) ((row_of f s t c).again b).effect (again_tells s c b)
+
     tried_by_told : (b : Blocked) (v : Verdict) → LastTold (tried_by f t b v)
     unfolding ending
     tried_by_told b (Says x) s = refl
@@ -104,8 +122,9 @@ module _ {P S H : Type 0} (f : P → Functions S H) where
     resumed_by_told : (s : State P S H) (b : Option Blocked) → Tells s.resources (resumed_by f t b s).told
     resumed_by_told s None = refl
     resumed_by_told s (Some b) =
-        let a = (row_of f s t b.call).again b in
-        finally_told (effect_of a) (tried_by f t b a.verdict) (again_told s b.call b) (tried_by_told b a.verdict) s
+        let come = has_event_come s.control.events (ring_given b.call) in
+        let a = unless_come come ((row_of f s t b.call).again b) in
+        finally_told (effect_of a) (tried_by f t b a.verdict) (come_told s b.call b come) (tried_by_told b a.verdict) s
 
     resumed_told : LastTold (resumed f t)
     unfolding resumed
@@ -131,7 +150,7 @@ module _ {P S H : Type 0} (f : P → Functions S H) where
 
   pass_told : IsTold (pass f)
   unfolding pass
-  pass_told s = all_woken_told (to_wake f s) s
+  pass_told s = all_woken_told (to_wake f s) _
 
   abbrev CourseTold : State P S H → Course P S H → Type 0
   CourseTold s c = c.state.resources ≡ told_all s.resources c.marks

@@ -24,13 +24,18 @@ use Rattle.pth_model.specs.Verdict.{Verdict, Says, Yields, Blocks, Ends, Kills, 
 use Rattle.pth_model.specs.State.{State, Control, Turn}
 use Rattle.pth_model.specs.Transition.{Piece, nothing, changes, tid}
 use Rattle.pth_model.specs.Changes.{goes_on, blocking, blocked_of, or_nobody, owing, prefers, removes, favours_new, sets, adds_object, puts_object}
+use Rattle.pth_model.specs.RingWaits.{claims, gives_back, stops_waiting, ring_given, ring_held, has_event_come}
+use Rattle.pth_model.specs.EventHandling.{chain}
+use Rattle.pth_ring.specs.Rings.{Events}
+use Rattle.pth_base.specs.declared.event.EvLine.{EvLine}
+use Rattle.pth_base.specs.declared.event.EvLine.TheVariants as line
 use Rattle.pth_model.specs.Row.{unless_refused, refuses, effect_of}
 use Rattle.pth_model.specs.ThreadControl.{thread, is_known, may_run, spawns, values_for, or_first, suspends, resumes, suspend, resume, to_join, takes_joined}
 use Rattle.pth_model.specs.LibraryControl.{ctrl, vanish_all_but}
 use Rattle.pth_model.specs.AttributeHandling.{object, sets_field, sets_value}
 use Rattle.pth_model.specs.Ending.{ending, leaves}
 use Rattle.pth_model.specs.Rows.{row_of}
-use Rattle.pth_model.specs.Calls.{begun, begun_by, resumed, resumed_by, tried_by}
+use Rattle.pth_model.specs.Calls.{begun, begun_by, resumed, resumed_by, tried_by, unless_come, interrupted}
 use Rattle.pth_model.specs.Part.{steps, steps_by, steps_on, owes_after}
 
 -- another thread than t, which is in the system
@@ -88,6 +93,7 @@ pub record KeptBy {P S H : Type 0} (f : P → Functions S H) (t : ℕ) (Q : Cont
   pub changed : (u : ℕ) (c : Change) (k : Control P S H) → Q k → Q (sets u c k)
   pub added : (x : Attribute) (k : Control P S H) → Q k → Q (adds_object x k)
   pub exchanged : (n : ℕ) (o : Option Attribute) (k : Control P S H) → Q k → Q (puts_object n o k)
+  pub evented : (x : Events) (k : Control P S H) → Q k → Q (record k { events = x })
   pub left : (v : ℤ) (k : Control P S H) → Q k → Q (leaves t v k)
   pub vanished : (k : Control P S H) → Q k → Q (vanish_all_but t k)
 
@@ -99,9 +105,23 @@ module _ {P S H : Type 0} (f : P → Functions S H) (t : ℕ) (Q : Control P S H
   abbrev KeepsAt : State P S H → Piece P S H → Type 0
   KeepsAt s a = Q s.control → Q (a s).state.control
 
+  gives_back_keeps : (e : Option ℤ) (k : Control P S H) → Q k → Q (gives_back e k)
+  unfolding gives_back
+  gives_back_keeps None k q = q
+  gives_back_keeps (Some e) k q = kept.evented _ k q
+
+  claims_keeps : (e : Option ℤ) (k : Control P S H) → Q k → Q (claims t e k)
+  unfolding claims
+  claims_keeps None k q = q
+  claims_keeps (Some e) k q = kept.evented _ k q
+
+  stops_keeps : (k : Control P S H) → Q k → Q (stops_waiting t k)
+  unfolding stops_waiting
+  stops_keeps k q = gives_back_keeps (ring_held (blocked_of k t)) _ (kept.goes t (blocking None) k q)
+
   ending_keeps : (v : ℤ) → Keeps (ending f t v)
   unfolding ending
-  ending_keeps v s q = kept.left v (goes_on t (blocking None) s.control) (kept.goes t (blocking None) s.control q)
+  ending_keeps v s q = kept.left v (stops_waiting t s.control) (stops_keeps s.control q)
 
   unless_keeps : (s : State P S H) (b : Bool) (a : Piece P S H) → (b ≡ false → KeepsAt s a) → KeepsAt s (unless_refused b a)
   unless_keeps s true a keeps = λ q. q
@@ -123,6 +143,10 @@ module _ {P S H : Type 0} (f : P → Functions S H) (t : ℕ) (Q : Control P S H
       by_field : (c : Option Change) → Q (sets_field u.0 c s.control)
       by_field None = q
       by_field (Some c) = kept.changed u.0 c s.control q
+
+  chain_keeps : (s : State P S H) (e : ℤ) (l : EvLine) → KeepsAt s (chain s e l).begin.effect
+  chain_keeps s e (line.Time at) q = kept.evented _ s.control q
+  chain_keeps s e l q = q
 
   -- whether a join takes a thread or none
   joins_keeps : (s : State P S H) (o : Option ℕ) → KeepsAt s (changes (takes_joined o))
@@ -147,6 +171,11 @@ module _ {P S H : Type 0} (f : P → Functions S H) (t : ℕ) (Q : Control P S H
   does_keeps s (call.Suspend n) e q = kept.suspended (number n) s.control (suspend_other s t n e) q
   does_keeps s (call.Resume n) e q = kept.resumed (number n) s.control (resume_other s t n e) q
   does_keeps s (call.Yield n) e q = yields_keeps s n (is_zero n) refl (passes _ _ _ e).0 q
+  does_keeps s (call.EvTime at) e q = kept.evented _ s.control q
+  does_keeps s (call.Chain n l) e q = chain_keeps s n l q
+  does_keeps s (call.EvConcat a b) e q = kept.evented _ s.control q
+  does_keeps s (call.EvIsolate a) e q = kept.evented _ s.control q
+  does_keeps s (call.EvFree a all) e q = kept.evented _ s.control q
   does_keeps s (call.Join n) e q = joins_keeps s (to_join s.control n) q
   does_keeps s c e q = q
 
@@ -156,7 +185,7 @@ module _ {P S H : Type 0} (f : P → Functions S H) (t : ℕ) (Q : Control P S H
   begun_by_keeps : (c : Call) (v : Verdict) (a : Piece P S H) (s : State P S H) → KeepsAt s a → Q s.control → Q (begun_by f t c v a s).told.state.control
   begun_by_keeps c (Says x) a s keeps q = keeps q
   begun_by_keeps c (Yields x) a s keeps q = keeps q
-  begun_by_keeps c (Blocks p) a s keeps q = kept.goes t _ (a s).state.control (keeps q)
+  begun_by_keeps c (Blocks p) a s keeps q = kept.goes t _ (claims t (ring_given c) (a s).state.control) (claims_keeps (ring_given c) (a s).state.control (keeps q))
   begun_by_keeps c (Ends v) a s keeps q = ending_keeps v (a s).state (keeps q)
   begun_by_keeps c Kills a s keeps q = keeps q
 
@@ -172,27 +201,36 @@ module _ {P S H : Type 0} (f : P → Functions S H) (t : ℕ) (Q : Control P S H
   ctrl_again s query.Threads b q = q
   ctrl_again s x b q = q
 
+  chain_again : (s : State P S H) (e : ℤ) (l : EvLine) (b : Blocked) → KeepsAt s ((chain s e l).again b).effect
+  chain_again s e (line.Time at) b q = q
+  chain_again s e l b q = q
+
   does_again : (s : State P S H) (c : Call) (b : Blocked) → KeepsAt s ((row_of f s t c).again b).effect
   unfolding row_of
   does_again s (call.Ctrl x) b q = ctrl_again s x b q
+  does_again s (call.Chain n l) b q = chain_again s n l b q
   does_again s (call.Join n) b q = joins_keeps s (to_join s.control n) q
   does_again s c b q = q
 
   again_keeps : (s : State P S H) (c : Call) (b : Blocked) → KeepsAt s (effect_of ((row_of f s t c).again b))
   again_keeps s c b = unless_keeps s (refuses ((row_of f s t c).again b).verdict) ((row_of f s t c).again b).effect (λ e q. does_again s c b q)
 
+  come_keeps : (s : State P S H) (c : Call) (b : Blocked) (come : Bool) → KeepsAt s (effect_of (unless_come come ((row_of f s t c).again b)))
+  come_keeps s c b false q = again_keeps s c b q
+  come_keeps s c b true q = unless_keeps s (refuses (interrupted ((row_of f s t c).again b).verdict)) ((row_of f s t c).again b).effect (λ e q. does_again s c b q) q
+
   tried_by_keeps : (b : Blocked) (v : Verdict) (s : State P S H) → Q s.control → Q (tried_by f t b v s).told.state.control
-  tried_by_keeps b (Says x) s q = kept.goes t (blocking None) s.control q
-  tried_by_keeps b (Yields x) s q = kept.goes t (blocking None) s.control q
+  tried_by_keeps b (Says x) s q = stops_keeps s.control q
+  tried_by_keeps b (Yields x) s q = stops_keeps s.control q
   tried_by_keeps b (Blocks p) s q = kept.goes t _ s.control q
   tried_by_keeps b (Ends v) s q = ending_keeps v s q
-  tried_by_keeps b Kills s q = kept.goes t (blocking None) s.control q
+  tried_by_keeps b Kills s q = stops_keeps s.control q
 
   resumed_by_keeps : (s : State P S H) (b : Option Blocked) → Q s.control → Q (resumed_by f t b s).told.state.control
   resumed_by_keeps s None q = q
   resumed_by_keeps s (Some b) q =
-      let a = (row_of f s t b.call).again b in
-      tried_by_keeps b a.verdict (effect_of a s).state (again_keeps s b.call b q)
+      let a = unless_come (has_event_come s.control.events (ring_given b.call)) ((row_of f s t b.call).again b) in
+      tried_by_keeps b a.verdict (effect_of a s).state (come_keeps s b.call b (has_event_come s.control.events (ring_given b.call)) q)
 
   resumed_keeps : (s : State P S H) → Q s.control → Q (resumed f t s).told.state.control
   unfolding resumed

@@ -1,18 +1,20 @@
 -- How a call begins, and how a call that blocks its thread is tried again.
-use Rattle.std.specs.Prelude.{ℕ, pos, Bool, false, Option, Some, None}
+use Rattle.std.specs.Prelude.{ℕ, pos, Bool, true, false, Option, Some, None}
 use Rattle.pth_base.specs.Program.{Functions}
 use Rattle.pth_base.specs.declared.answer.Answer.{Answer}
 use Rattle.pth_base.specs.declared.answer.Answer.TheVariants as answer
 use Rattle.pth_base.specs.declared.call.Call.{Call}
 use Rattle.pth_base.specs.declared.call.Call.TheVariants as call
+use Rattle.pth_base.specs.declared.errno.Errno.TheVariants.{EINTR}
 use Rattle.pth_base.specs.declared.mark.Mark.TheVariants as mark
 use Rattle.pth_model.specs.declared.blocked.Blocked.{Blocked}
 use Rattle.pth_model.specs.declared.blocked.Retake.TheVariants as retake
 use Rattle.pth_model.specs.declared.next.Next.TheVariants as next
-use Rattle.pth_model.specs.Verdict.{Verdict, Pause, Says, Yields, Blocks, Ends, Kills}
+use Rattle.pth_model.specs.Verdict.{Verdict, Pause, Says, Yields, Blocks, Ends, Kills, refused}
 use Rattle.pth_model.specs.State.{State, now_of}
-use Rattle.pth_model.specs.Transition.{Piece, Change, Last, silent, changes, tells, tid, ◌and_then◌, ◌and_next◌, ◌and_finally◌}
+use Rattle.pth_model.specs.Transition.{Piece, Change, Last, silent, changes, tells, tid, ◌and◌, ◌and_then◌, ◌and_next◌, ◌and_finally◌}
 use Rattle.pth_model.specs.Changes.{is_blocked_by, blocked_of}
+use Rattle.pth_model.specs.RingWaits.{ring_given, claims, stops_waiting, has_event_come}
 use Rattle.pth_model.specs.Row.{Attempt, effect_of}
 use Rattle.pth_model.specs.Ending.{ending}
 use Rattle.pth_model.specs.Rows.{row_of}
@@ -21,13 +23,27 @@ use Rattle.pth_model.specs.Rows.{row_of}
 abbrev pub blocked_from : ℕ → Call → Pause → Blocked
 blocked_from now c p = record { call = c; begin = now; moment = p.moment; written = p.written; round = p.round; retake = retake.No }
 
+-- what blocks is answered EINTR
+abbrev pub interrupted : Verdict → Verdict
+interrupted (Says a) = Says a
+interrupted (Yields a) = Yields a
+interrupted (Blocks p) = refused EINTR
+interrupted (Ends v) = Ends v
+interrupted Kills = Kills
+
+module _ {P S H : Type 0} where
+  -- a call that would block on is answered EINTR where an event of the ring that it was given has come
+  abbrev pub unless_come : Bool → Attempt P S H → Attempt P S H
+  unless_come false a = a
+  unless_come true a = record a { verdict = interrupted a.verdict }
+
 module _ {P S H : Type 0} (t : ℕ) where
   abbrev pub blocks : Call → Pause → Change P S H
   blocks c p k = is_blocked_by t (Some (blocked_from (now_of k) c p)) k
 
-  -- a call blocks t from now on: told each time that it does
+  -- a call blocks t from now on, and claims the ring that it was given: told each time that it blocks
   abbrev pub waits_by : Call → Pause → Piece P S H
-  waits_by c p = changes (blocks c p) and_then tells (mark.Waits (tid t) c)
+  waits_by c p = changes (claims t (ring_given c) and blocks c p) and_then tells (mark.Waits (tid t) c)
 
 module _ {P S H : Type 0} (f : P → Functions S H) (t : ℕ) where
   -- a call begins
@@ -53,7 +69,7 @@ module _ {P S H : Type 0} (f : P → Functions S H) (t : ℕ) where
 
   -- it blocks t no longer, and is answered
   abbrev pub answers : Call → Answer → Piece P S H
-  answers c a = changes (is_blocked_by t None) and_then tells (mark.Answered (tid t) c a)
+  answers c a = changes (stops_waiting t) and_then tells (mark.Answered (tid t) c a)
 
   -- as the verdict says, after the effect; a call that blocks on keeps what it wrote so far
   abbrev pub tried_by : Blocked → Verdict → Last P S H
@@ -68,7 +84,7 @@ module _ {P S H : Type 0} (f : P → Functions S H) (t : ℕ) where
 
   abbrev pub resumed_by : Option Blocked → Last P S H
   resumed_by None = silent and_next next.Waits
-  resumed_by (Some b) = λ s. tried b ((row_of f s t b.call).again b) s
+  resumed_by (Some b) = λ s. tried b (unless_come (has_event_come s.control.events (ring_given b.call)) ((row_of f s t b.call).again b)) s
 
   -- the call that blocks t is tried again
   unfoldable pub resumed : Last P S H

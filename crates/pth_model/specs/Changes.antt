@@ -17,6 +17,7 @@ use Rattle.pth_model.specs.declared.blocked.Blocked.{Blocked}
 use Rattle.pth_model.specs.declared.progress.Progress.{Progress}
 use Rattle.pth_model.specs.Standing.{is_queue, left_by, raises_of}
 use Rattle.pth_threads.specs.declared.attribute.Attribute.{Attribute}
+use Rattle.pth_ring.specs.Rings.{Events}
 use Rattle.pth_model.specs.State.{Control, Threads, Attributes, Scheduler}
 use Rattle.pth_model.specs.Transition as transition
 
@@ -78,6 +79,9 @@ module _ {P S H : Type 0} where
 
   abbrev pub with_attributes : (Attributes → Attributes) → transition.Change P S H
   with_attributes g k = record k { attributes = g k.attributes }
+
+  abbrev pub with_events : (Events → Events) → transition.Change P S H
+  with_events g k = record k { events = g k.events }
 
   abbrev pub with_scheduler : (Scheduler → Scheduler) → transition.Change P S H
   with_scheduler g k = record k { scheduler = g k.scheduler }

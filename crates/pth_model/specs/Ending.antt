@@ -6,7 +6,8 @@ use Rattle.pth_base.specs.declared.thread.ThreadState.TheVariants as state
 use Rattle.pth_queue.specs.declared.queue.Queue.TheVariants as queue
 use Rattle.pth_threads.specs.declared.entry.Change.TheVariants as change
 use Rattle.pth_model.specs.Transition.{Piece, Change, changes, tells, tid, ◌and◌, ◌and_then◌}
-use Rattle.pth_model.specs.Changes.{sets, is_blocked_by, enters, leaves_queue, removes, runs_now, entry_of, or_nobody}
+use Rattle.pth_model.specs.Changes.{sets, enters, leaves_queue, removes, runs_now, entry_of, or_nobody}
+use Rattle.pth_model.specs.RingWaits.{stops_waiting}
 
 -- the thread that runs, unless it is t
 abbrev pub other_than : ℕ → Option ℕ → Option ℕ
@@ -16,7 +17,7 @@ other_than t (Some u) = if u == t then None else Some u
 module _ {P S H : Type 0} where
   -- its wait is undone
   abbrev pub undoes_wait : ℕ → Piece P S H
-  undoes_wait t = changes (is_blocked_by t None)
+  undoes_wait t = changes (stops_waiting t)
 
   -- a joinable thread is dead, and keeps its value until it is joined
   unfoldable pub is_dead_with : ℕ → ℤ → Change P S H

@@ -1,12 +1,13 @@
--- Two runs, computed by the definitions alone: in one main spawns a thread, yields to it and exits; in the other it suspends
--- one of two threads, yields to the other by name, and resumes and joins the first.
+-- Runs, computed by the definitions alone: in one main spawns a thread, yields to it and exits; in another it suspends one of
+-- two threads, yields to the other by name, and resumes and joins the first; in the third it naps; and in the last it waits for
+-- an event.
 use Rattle.std.specs.Prelude.{ℕ, zero, suc, ◌+◌, pos, false, List, [], ◌∷◌, None}
 use Rattle.pth_base.specs.Program.{Functions}
 use Rattle.pth_base.specs.declared.answer.Answer.TheVariants.{Int}
 use Rattle.pth_base.specs.declared.call.Call.{Call}
-use Rattle.pth_base.specs.declared.call.Call.TheVariants.{Spawn, Suspend, Resume, Yield, Join, Exit}
+use Rattle.pth_base.specs.declared.call.Call.TheVariants.{Spawn, Suspend, Resume, Yield, Nap, Wait, Join, Exit, EvTime}
 use Rattle.pth_base.specs.declared.mark.Mark.{Mark}
-use Rattle.pth_base.specs.declared.mark.Mark.TheVariants.{Dispatch, Answered, Waits, Woke, Ended}
+use Rattle.pth_base.specs.declared.mark.Mark.TheVariants.{Dispatch, Answered, Waits, Woke, Moved, Ended}
 use Rattle.pth_model.specs.Transition.{tid}
 
 -- where a thread stands: its body, and how many lines it has gone
@@ -77,5 +78,49 @@ joining_marks =
     ∷ Woke (tid 1) (pos 1)
     ∷ Dispatch 5 4 (tid 1) (pos 1) 0 0
     ∷ Answered (tid 1) (Join (pos 2)) (Int (pos 9))
+    ∷ Ended (tid 1) (pos 0)
+    ∷ []
+
+-- ---- a nap
+
+abbrev pub napping_call_at : ℕ → Call
+napping_call_at zero = Nap (pos 5)
+napping_call_at (suc n) = Exit (pos 0)
+
+abbrev pub napping_bodies : ℕ → Functions Place ℕ
+napping_bodies p = record (two_bodies p) { step = λ s h answer. record { call = napping_call_at s.gone; state = record s { gone = s.gone + 1 }; shared = h } }
+
+-- nothing is ready, so time moves to the end of the nap
+abbrev pub napping_marks : List Mark
+napping_marks =
+    Dispatch 1 0 (tid 1) (pos 0) 0 0
+    ∷ Waits (tid 1) (Nap (pos 5))
+    ∷ Moved 5
+    ∷ Woke (tid 1) (pos 1)
+    ∷ Dispatch 2 5 (tid 1) (pos 1) 0 0
+    ∷ Answered (tid 1) (Nap (pos 5)) (Int (pos 1))
+    ∷ Ended (tid 1) (pos 0)
+    ∷ []
+
+-- ---- an event
+
+abbrev pub waiting_call_at : ℕ → Call
+waiting_call_at zero = EvTime (pos 8)
+waiting_call_at (suc zero) = Wait (pos 1)
+waiting_call_at (suc (suc n)) = Exit (pos 0)
+
+abbrev pub waiting_bodies : ℕ → Functions Place ℕ
+waiting_bodies p = record (two_bodies p) { step = λ s h answer. record { call = waiting_call_at s.gone; state = record s { gone = s.gone + 1 }; shared = h } }
+
+-- time moves to the moment of the event, and one event of the ring has occurred
+abbrev pub waiting_marks : List Mark
+waiting_marks =
+    Dispatch 1 0 (tid 1) (pos 0) 0 0
+    ∷ Answered (tid 1) (EvTime (pos 8)) (Int (pos 1))
+    ∷ Waits (tid 1) (Wait (pos 1))
+    ∷ Moved 8
+    ∷ Woke (tid 1) (pos 1)
+    ∷ Dispatch 2 8 (tid 1) (pos 1) 0 0
+    ∷ Answered (tid 1) (Wait (pos 1)) (Int (pos 1))
     ∷ Ended (tid 1) (pos 0)
     ∷ []

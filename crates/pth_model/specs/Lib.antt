@@ -11,8 +11,12 @@ pub mod Living
 pub mod ThreadControl
 pub mod LibraryControl
 pub mod AttributeHandling
+pub mod RingWaits
+pub mod Looks
+pub mod EventHandling
 pub mod Ending
 pub mod ThreadEnds
+pub mod Times
 pub mod Rows
 pub mod Calls
 pub mod Pass

@@ -7,6 +7,7 @@ use Rattle.pth_base.specs.declared.query.Query.TheVariants as query
 use Rattle.pth_queue.specs.declared.queue.Queue.{Queue}
 use Rattle.pth_queue.specs.declared.queue.Queue.TheVariants as queue
 use Rattle.pth_numbered.specs.Operands.{◌is◌, ◌is_from◌to◌}
+use Rattle.pth_ring.specs.Rings.{all_unclaimed}
 use Rattle.pth_model.specs.Verdict.{Says, Kills, refused, says, ◌when◌otherwise◌}
 use Rattle.pth_model.specs.State.{State, main, present, queue}
 use Rattle.pth_model.specs.Transition.{Change, nothing}
@@ -23,10 +24,11 @@ running_count None = 0
 running_count (Some t) = 1
 
 module _ {P S H : Type 0} where
-  -- all threads but t, which runs, are in the system no longer
+  -- all threads but t, which runs, are in the system no longer, and no ring is claimed
   unfoldable pub vanish_all_but : ℕ → Change P S H
   vanish_all_but t k = record k {
     threads = record k.threads { known = only_at t k.threads.known; progress = only_at t k.threads.progress; standing = λ q. [] };
+    events = all_unclaimed k.events;
   }
 
 module _ {P S H : Type 0} (s : State P S H) (t : ℕ) where

@@ -1,16 +1,32 @@
 -- A pass over the waiting threads, and the moments to which time moves while nothing is ready.
-use Rattle.std.specs.Prelude.{ℕ, ℤ, pos, ◌+ℤ◌, nat_lt, min, Bool, false, List, [], ◌∷◌, filter, map, Option, Some, None, if◌then◌else◌}
+use Rattle.std.specs.Prelude.{ℕ, ℤ, pos, ◌+ℤ◌, ◌&&◌, ◌||◌, nat_lt, nat_le, min, Bool, false, List, [], ◌∷◌, filter, map, flat_map, Option, Some, None, if◌then◌else◌}
+use Rattle.std.specs.List.{list_any}
+use Rattle.pth_base.specs.Limits.{last_moment}
 use Rattle.pth_base.specs.Program.{Functions}
 use Rattle.pth_base.specs.declared.mark.Mark.TheVariants.{Woke}
 use Rattle.pth_base.specs.declared.thread.ThreadState.TheVariants as state
 use Rattle.pth_queue.specs.declared.queue.Queue.TheVariants as queue
 use Rattle.pth_threads.specs.declared.entry.Change.TheVariants as change
-use Rattle.pth_model.specs.State.{State, queue, now_of}
+use Rattle.pth_model.specs.State.{Control, State, queue, now_of}
 use Rattle.pth_model.specs.Transition.{Piece, Change, silent, changes, tells, tid, ◌and◌, ◌and_then◌}
 use Rattle.pth_model.specs.Changes.{sets, enters, leaves_queue, prio_of, holders}
+use Rattle.pth_model.specs.RingWaits.{awaited_events}
+use Rattle.pth_model.specs.Looks.{comes, looks_at, event_moment}
 use Rattle.pth_model.specs.Calls.{wakes, waits_until}
 
 module _ {P S H : Type 0} where
+  -- the waiting threads, in their order: a suspended one is not among them
+  abbrev pub waiting : Control P S H → List ℕ
+  waiting k = holders (queue k queue.Waiting)
+
+  -- whether an event of the ring for which t waits comes
+  unfoldable pub is_come_for : Control P S H → ℕ → Bool
+  is_come_for k t = list_any (λ e. comes k (k.events.events e)) (awaited_events k t)
+
+  -- the events of the rings for which threads wait are looked at
+  unfoldable pub looks : Change P S H
+  looks k = looks_at k (flat_map (awaited_events k) (waiting k))
+
   -- t leaves its queue, and is ready at a rank
   unfoldable pub is_ready_at : ℕ → ℤ → Bool → Change P S H
   is_ready_at t rank top = leaves_queue t and sets t (change.State state.Ready) and enters t queue.Ready rank top
@@ -27,26 +43,33 @@ module _ {P S H : Type 0} where
   all_woken (t ∷ ts) s = (woken t and_then all_woken ts) s
 
 module _ {P S H : Type 0} (f : P → Functions S H) where
-  -- those of the waiting threads, in their order, whose calls have what they wait for
+  -- a waiting thread's call has what it waits for, or an event of the ring that it was given comes
+  abbrev pub is_to_wake : State P S H → ℕ → Bool
+  is_to_wake s t = wakes f t s || is_come_for s.control t
+
+  -- those of the waiting threads, in their order
   unfoldable pub to_wake : State P S H → List ℕ
-  to_wake s = filter (λ t. wakes f t s) (holders (queue s.control queue.Waiting))
+  to_wake s = filter (is_to_wake s) (waiting s.control)
 
   -- a pass: all conditions are taken on the state as it begins
   unfoldable pub pass : Piece P S H
-  pass s = all_woken (to_wake s) s
+  pass s = (changes looks and_then all_woken (to_wake s)) s
 
-  -- the moments that the waiting threads wait for, 0 for none
+  -- the moments that a waiting thread waits for, 0 for none: its call's, and those of the events of its ring
+  abbrev pub moments_of : State P S H → ℕ → List ℕ
+  moments_of s t = waits_until f t s ∷ map (λ e. event_moment (s.control.events.events e)) (awaited_events s.control t)
+
   abbrev pub moments : State P S H → List ℕ
-  moments s = map (λ t. waits_until f t s) (holders (queue s.control queue.Waiting))
+  moments s = flat_map (moments_of s) (waiting s.control)
 
 abbrev pub least_by : ℕ → Option ℕ → Option ℕ
 least_by m None = Some m
 least_by m (Some n) = Some (min m n)
 
--- the least of these moments that is later than now
+-- the least of these moments that is later than now: no call names one after the last
 abbrev pub least_after : ℕ → List ℕ → Option ℕ
 least_after now [] = None
-least_after now (m ∷ ms) = if nat_lt now m then least_by m (least_after now ms) else least_after now ms
+least_after now (m ∷ ms) = if nat_lt now m && nat_le m last_moment then least_by m (least_after now ms) else least_after now ms
 
 -- the moment to which time moves while nothing is ready
 abbrev pub moment : {P S H : Type 0} → (P → Functions S H) → State P S H → Option ℕ

@@ -11,7 +11,9 @@ use Rattle.pth_model.specs.Row.{Row, ◌changing◌, unbuilt}
 use Rattle.pth_model.specs.LibraryControl.{kill, ctrl}
 use Rattle.pth_model.specs.AttributeHandling.{attr_new, attr_of, attr_init, attr_set, attr_get, attr_destroy}
 use Rattle.pth_model.specs.ThreadControl.{spawn, self, suspend, resume, yield, join}
+use Rattle.pth_model.specs.EventHandling.{ev_time, chain, ev_concat, ev_isolate, ev_walk, ev_status, ev_kind, ev_free, wait}
 use Rattle.pth_model.specs.ThreadEnds.{exit}
+use Rattle.pth_model.specs.Times.{timeout, nap, usleep, sleep}
 
 module _ {P S H : Type 0} (f : P → Functions S H) (s : State P S H) (t : ℕ) where
   -- the row of a call of t
@@ -30,30 +32,30 @@ module _ {P S H : Type 0} (f : P → Functions S H) (s : State P S H) (t : ℕ) 
   row_of (call.Suspend n) = suspend s t n
   row_of (call.Resume n) = resume s t n
   row_of (call.Yield n) = yield s t n
-  row_of (call.Nap l) = unbuilt
-  row_of (call.Wait e) = unbuilt
+  row_of (call.Nap l) = nap s l
+  row_of (call.Wait e) = wait s e
   row_of (call.Cancel n) = unbuilt
   row_of (call.Abort n) = unbuilt
   row_of (call.Join n) = join s t n
   row_of (call.Exit v) = exit s t v
   row_of (call.Fdmode d m) = unbuilt
-  row_of (call.Timeout l) = unbuilt
+  row_of (call.Timeout l) = timeout s l
   row_of call.CancelPoint = unbuilt
   row_of (call.CancelState n) = unbuilt
   row_of (call.EvFd goals fd) = unbuilt
   row_of (call.EvSelect r w x) = unbuilt
-  row_of (call.EvTime m) = unbuilt
+  row_of (call.EvTime m) = ev_time s m
   row_of (call.EvMsg p) = unbuilt
   row_of (call.EvCond c) = unbuilt
   row_of (call.EvTid state n) = unbuilt
   row_of (call.EvFunc c v l) = unbuilt
-  row_of (call.Chain e l) = unbuilt
-  row_of (call.EvConcat e g) = unbuilt
-  row_of (call.EvIsolate e) = unbuilt
-  row_of (call.EvWalk e forward until_occurred) = unbuilt
-  row_of (call.EvStatus e) = unbuilt
-  row_of (call.EvKind e) = unbuilt
-  row_of (call.EvFree e all) = unbuilt
+  row_of (call.Chain e l) = chain s e l
+  row_of (call.EvConcat e g) = ev_concat s e g
+  row_of (call.EvIsolate e) = ev_isolate s e
+  row_of (call.EvWalk e forward until_occurred) = ev_walk s e forward until_occurred
+  row_of (call.EvStatus e) = ev_status s e
+  row_of (call.EvKind e) = ev_kind s e
+  row_of (call.EvFree e all) = ev_free s e all
   row_of (call.KeyCreate h) = unbuilt
   row_of (call.KeyDelete k) = unbuilt
   row_of (call.KeySet k v) = unbuilt
@@ -78,8 +80,8 @@ module _ {P S H : Type 0} (f : P → Functions S H) (s : State P S H) (t : ℕ) 
   row_of (call.CondNotify c v) = unbuilt
   row_of (call.BarrierInit b n) = unbuilt
   row_of (call.BarrierReach b) = unbuilt
-  row_of (call.Usleep l) = unbuilt
-  row_of (call.Sleep l) = unbuilt
+  row_of (call.Usleep l) = usleep s l
+  row_of (call.Sleep l) = sleep s l
   row_of (call.Read d n) = unbuilt
   row_of (call.ReadEv d n e) = unbuilt
   row_of (call.Write d bytes) = unbuilt

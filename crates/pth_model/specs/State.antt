@@ -14,6 +14,7 @@ use Rattle.pth_queue.specs.declared.queue.Queue.TheVariants.{Ready}
 use Rattle.pth_threads.specs.declared.entry.Entry.{Entry}
 use Rattle.pth_threads.specs.declared.entry.NewThread.{NewThread}
 use Rattle.pth_model.specs.declared.progress.Progress.{Progress}
+use Rattle.pth_ring.specs.Rings.{Events, no_events}
 use Rattle.pth_model.specs.Resources.{Resources, no_resources}
 use Rattle.pth_model.specs.Standing.{Standing, shown, raises_of}
 
@@ -51,12 +52,14 @@ pub record Scheduler : Type 0 where
   pub now : ℕ
   pub clock : ℕ
 
--- what calls change: the program's shared value, the threads, their attribute objects, and what the scheduler keeps
+-- what calls change: the program's shared value, the threads, their attribute objects, events and rings of them (pth_event_t),
+-- and what the scheduler keeps
 pub record Control (P S H : Type 0) : Type 0 where
   pub program : P
   pub shared : H
   pub threads : Threads S
   pub attributes : Attributes
+  pub events : Events
   pub scheduler : Scheduler
 
 pub record State (P S H : Type 0) : Type 0 where
@@ -138,6 +141,7 @@ start f g = record {
       raises = 0;
     };
     attributes = no_attributes;
+    events = no_events;
     scheduler = record { running = None; preferred = None; favour_new = true; now = 0; clock = 1 };
   };
 }

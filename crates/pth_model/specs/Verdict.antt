@@ -58,3 +58,7 @@ no_pause = record { moment = 0; written = 0; round = 0 }
 
 abbrev pub waits : Verdict
 waits = Blocks no_pause
+
+-- until a moment
+abbrev pub blocks_until : ℕ → Verdict
+blocks_until m = Blocks (record no_pause { moment = m })

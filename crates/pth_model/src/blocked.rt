@@ -1,5 +1,8 @@
 //! A call that blocks its thread.
 
+ghost use Rattle.std.specs.Prelude.{◌≡◌};
+ghost use Rattle.pth_model.specs.RingWaits.{ring_held};
+
 use crate::awaits::Awaits;
 use pth_base::call::Call;
 use pth_base::ids::Micros;
@@ -25,9 +28,30 @@ pub struct Blocked {
     pub retake: Retake,
 }
 
+/// The event that was given to the call that blocks a thread, if any.
+pub fn ring_held(blocked: &Option<Blocked>) -> Option<i64>
+    ensures { result ≡ ring_held blocked.now }
+{
+    match blocked {
+        Some(blocked) => blocked.ring(),
+        None => None,
+    }
+}
+
 impl Blocked {
     ghost use Rattle.std.specs.Prelude.{◌≡◌};
     ghost use Rattle.pth_model.specs.Awaits.{awaits_of};
+    ghost use Rattle.pth_model.specs.RingWaits.{ring_given};
+
+    /// The event that the call was given, whose ring it claims until it is answered.
+    pub fn ring(&self) -> Option<i64>
+        ensures { result ≡ ring_given self.now.call }
+    {
+        match &self.call {
+            Call::Wait(e) => Some(*e),
+            _ => None,
+        }
+    }
 
     /// What the call waits for.
     pub fn awaits(&self) -> Awaits
@@ -37,6 +61,8 @@ impl Blocked {
             Call::Exit(_) => Awaits::Alone,
             Call::Join(0) => Awaits::AnyDeath,
             Call::Join(n) => Awaits::Death(*n),
+            Call::Nap(_) | Call::Usleep(_) | Call::Sleep(_) => Awaits::Moment(self.moment),
+            Call::Wait(e) => Awaits::Ring(*e),
             _ => Awaits::Nothing,
         }
     }

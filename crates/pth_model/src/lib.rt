@@ -9,3 +9,4 @@ pub mod next;
 pub mod progress;
 pub mod resources;
 pub mod standings;
+pub mod times;

@@ -1,0 +1,107 @@
+-- Event handling: pth_event, pth_event_concat, pth_event_isolate, pth_event_walk, pth_event_status, pth_event_typeof,
+-- pth_event_free, and pth_wait. The answers stand beside the rings, with the refusals of each call in order.
+use Rattle.std.specs.Prelude.{ℕ, ℤ, nat_lt, Bool, false, Option, Some, None, if◌then◌else◌}
+use Rattle.pth_base.specs.declared.answer.Answer.TheVariants.{Int}
+use Rattle.pth_base.specs.declared.errno.Errno.TheVariants.{EINVAL}
+use Rattle.pth_base.specs.declared.event.EvLine.{EvLine}
+use Rattle.pth_base.specs.declared.event.EvLine.TheVariants as line
+use Rattle.pth_base.specs.declared.event.EventSpec.TheVariants.{Time}
+use Rattle.pth_base.specs.declared.ids.EventId.{EventId}
+use Rattle.pth_numbered.specs.Operands.{number}
+use Rattle.pth_ring.specs.declared.event.Status.{Status}
+use Rattle.pth_ring.specs.declared.event.Status.TheVariants.{Pending, Occurred, Failed}
+use Rattle.pth_ring.specs.Rings.{make_answer, chain_answer, concat_answer, isolate_answer, walk_answer, status_answer, kind_answer, free_answer, claim_answer, settled_in, alone, chained, concatenated, isolated, freed, ring_freed}
+use Rattle.pth_model.specs.Verdict.{Says, refused, says, done, by_result, waits, ◌when◌otherwise◌, refused_as◌otherwise◌}
+use Rattle.pth_model.specs.State.{State}
+use Rattle.pth_model.specs.Transition.{silent, nothing}
+use Rattle.pth_model.specs.Changes.{with_events}
+use Rattle.pth_model.specs.Row.{Row, ◌changing◌, ◌trying◌, unbuilt}
+use Rattle.pth_model.specs.Times.{is_negative, moment_of}
+
+-- the number of an event, 0 for none
+abbrev pub number_or_none : Option EventId → ℕ
+number_or_none None = 0
+number_or_none (Some e) = e.0
+
+abbrev pub status_number : Status → ℕ
+status_number Pending = 0
+status_number Occurred = 1
+status_number Failed = 2
+
+module _ {P S H : Type 0} (s : State P S H) where
+  -- pth_event of a moment (PTH_EVENT_TIME): alone in its ring, with the next number
+  abbrev pub ev_time : ℤ → Row P S H
+  ev_time at =
+      refused EINVAL when is_negative at otherwise
+      by_result says (make_answer s.control.events)
+      changing with_events (alone (Time (moment_of at)))
+
+  -- the same with PTH_MODE_CHAIN: just before e in its ring
+  abbrev pub chain_time : ℤ → ℤ → Row P S H
+  chain_time e at =
+      refused EINVAL when is_negative at otherwise
+      by_result says (chain_answer s.control.events (number e))
+      changing with_events (chained (Time (moment_of at)) (number e))
+
+  -- events of other kinds are not built yet
+  abbrev pub chain : ℤ → EvLine → Row P S H
+  chain e (line.Time at) = chain_time e at
+  chain e (line.Fd goals fd) = unbuilt
+  chain e (line.Select r w x) = unbuilt
+  chain e (line.Msg p) = unbuilt
+  chain e (line.Cond c) = unbuilt
+  chain e (line.Tid state t) = unbuilt
+  chain e (line.Func check arg interval) = unbuilt
+
+  -- pth_event_concat: the ring of e from e on, and then that of g from g on
+  abbrev pub ev_concat : ℤ → ℤ → Row P S H
+  ev_concat e g =
+      by_result (λ u. Says (Int e)) (concat_answer s.control.events (number e) (number g))
+      changing with_events (concatenated (number e) (number g))
+
+  -- pth_event_isolate: e stands alone; the event after it in the rest, or 0
+  abbrev pub ev_isolate : ℤ → Row P S H
+  ev_isolate e =
+      by_result (λ o. says (number_or_none o)) (isolate_answer s.control.events (number e))
+      changing with_events (isolated (number e))
+
+  -- pth_event_walk: the neighbour, or the next one that has occurred
+  abbrev pub ev_walk : ℤ → Bool → Bool → Row P S H
+  ev_walk e forward until_occurred =
+      by_result (λ (x : EventId). says x.0) (walk_answer s.control.events (number e) forward until_occurred)
+      changing nothing
+
+  -- pth_event_status: what was found as the event was last looked at
+  abbrev pub ev_status : ℤ → Row P S H
+  ev_status e =
+      by_result (λ x. says (status_number x)) (status_answer s.control.events (number e))
+      changing nothing
+
+  -- pth_event_typeof
+  abbrev pub ev_kind : ℤ → Row P S H
+  ev_kind e =
+      by_result says (kind_answer s.control.events (number e))
+      changing nothing
+
+  -- pth_event_free: an event, or all of its ring
+  abbrev pub ev_free : ℤ → Bool → Row P S H
+  ev_free e all =
+      by_result done (free_answer s.control.events (number e))
+      changing with_events (if all then ring_freed (number e) else freed (number e))
+
+  -- pth_wait: the ring is claimed, and waited for until some of its events are not pending: how many
+  abbrev pub wait : ℤ → Row P S H
+  wait e =
+      let come = settled_in s.control.events (number e) in
+      record {
+        begin =
+            refused_as claim_answer s.control.events (number e) otherwise
+            waits
+            trying silent;
+        again = λ b.
+            says come when nat_lt 0 come otherwise
+            waits
+            trying silent;
+        wakes = λ b. false;
+        until = λ b. 0;
+      }

@@ -1,0 +1,52 @@
+-- What is found of events as they are looked at: in each pass, those for which threads wait.
+use Rattle.std.specs.Prelude.{ℕ, nat_le, Bool, false, not, List, Option, Some, None, option_map, if◌then◌else◌}
+use Rattle.pth_ring.specs.declared.event.EventSpec.{EventSpec}
+use Rattle.pth_base.specs.declared.event.EventSpec.TheVariants as of
+use Rattle.pth_ring.specs.declared.event.Event.{Event}
+use Rattle.pth_ring.specs.declared.event.Status.{Status}
+use Rattle.pth_ring.specs.declared.event.Status.TheVariants.{Pending, Occurred}
+use Rattle.pth_ring.specs.Rings.{with_status, is_pending}
+use Rattle.pth_ring.specs.Ring.{each}
+use Rattle.pth_model.specs.State.{Control, now_of}
+use Rattle.pth_model.specs.Changes.{with_events}
+
+module _ {P S H : Type 0} (k : Control P S H) where
+  -- an event of a moment occurs then, and at all later moments (PTH_EVENT_TIME); events of other kinds are not built yet
+  abbrev pub occurs : EventSpec → Bool
+  occurs (of.Time at) = nat_le at (now_of k)
+  occurs (of.Fd goals fd) = false
+  occurs (of.Select r w x) = false
+  occurs (of.Msg p) = false
+  occurs (of.Tid state t) = false
+  occurs (of.Func check arg interval) = false
+  occurs (of.Cond c) = false
+
+  abbrev pub found : EventSpec → Status
+  found spec = if occurs spec then Occurred else Pending
+
+  -- an event that is looked at
+  abbrev pub looked_at : Event → Event
+  looked_at x = with_status (found x.spec) x
+
+  -- these events are looked at
+  abbrev pub looks_at : List ℕ → Control P S H
+  looks_at es = with_events (λ x. record x { events = each es (option_map looked_at) x.events }) k
+
+  -- whether an event is not pending then
+  abbrev pub comes : Option Event → Bool
+  comes None = false
+  comes (Some x) = not (is_pending (found x.spec))
+
+-- the moment at which an event occurs, 0 where none is known
+abbrev pub occurs_at : EventSpec → ℕ
+occurs_at (of.Time at) = at
+occurs_at (of.Fd goals fd) = 0
+occurs_at (of.Select r w x) = 0
+occurs_at (of.Msg p) = 0
+occurs_at (of.Tid state t) = 0
+occurs_at (of.Func check arg interval) = 0
+occurs_at (of.Cond c) = 0
+
+abbrev pub event_moment : Option Event → ℕ
+event_moment None = 0
+event_moment (Some x) = occurs_at x.spec

@@ -1,0 +1,49 @@
+-- The rings of events for which threads wait. A call that was given an event claims its ring as it blocks its thread, and the
+-- claim stands at that event until the call is answered, or its thread ends.
+use Rattle.std.specs.Prelude.{ℕ, ℤ, List, [], Option, Some, None, nat_lt, Bool, false}
+use Rattle.pth_base.specs.declared.call.Call.{Call}
+use Rattle.pth_base.specs.declared.call.Call.TheVariants as call
+use Rattle.pth_numbered.specs.Operands.{number}
+use Rattle.pth_ring.specs.Rings.{Events, claimed, with_event, with_claim, settled_in}
+use Rattle.pth_model.specs.declared.blocked.Blocked.{Blocked}
+use Rattle.pth_model.specs.State.{Control, now_of}
+use Rattle.pth_model.specs.Transition.{Change, nothing, tid, ◌and◌}
+use Rattle.pth_model.specs.Changes.{with_events, is_blocked_by, blocked_of}
+
+-- the event that a call was given to wait for: of the calls that are built, pth_wait is given one
+abbrev pub ring_given : Call → Option ℤ
+ring_given (call.Wait e) = Some e
+ring_given c = None
+
+abbrev pub ring_held : Option Blocked → Option ℤ
+ring_held None = None
+ring_held (Some b) = ring_given b.call
+
+-- the events of its ring, from that event on
+abbrev pub events_from : Events → Option ℤ → List ℕ
+events_from x None = []
+events_from x (Some e) = x.rings (number e)
+
+-- whether one of them is not pending any more
+abbrev pub has_event_come : Events → Option ℤ → Bool
+has_event_come x None = false
+has_event_come x (Some e) = nat_lt 0 (settled_in x (number e))
+
+module _ {P S H : Type 0} where
+  -- the events of the ring for which t waits
+  abbrev pub awaited_events : Control P S H → ℕ → List ℕ
+  awaited_events k t = events_from k.events (ring_held (blocked_of k t))
+
+  -- t waits for the ring of an event: its events are pending, and are looked at from now on
+  unfoldable pub claims : ℕ → Option ℤ → Change P S H
+  claims t None = nothing
+  claims t (Some e) = λ k. with_events (claimed (number e) (tid t) (now_of k)) k
+
+  -- the claim that stands at an event is given back
+  unfoldable pub gives_back : Option ℤ → Change P S H
+  gives_back None = nothing
+  gives_back (Some e) = with_events (with_event (with_claim None) (number e))
+
+  -- no call blocks t any longer, and the claim of the one that did is given back
+  unfoldable pub stops_waiting : ℕ → Change P S H
+  stops_waiting t k = (is_blocked_by t None and gives_back (ring_held (blocked_of k t))) k
