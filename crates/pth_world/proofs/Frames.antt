@@ -17,14 +17,15 @@ module _ {P S H : Type 0} where
   gives_then n m u v w a b = record {
     threads = (let x = a.threads in let y = b.threads in omega arith);
     objects = (let x = a.objects in let y = b.objects in omega arith);
+    events = (let x = a.events in let y = b.events in omega arith);
   }
 
   gives_more : (n m : ℕ) (w v : WorldOf P S H) → n ≤ m → GivesAtMost n w v → GivesAtMost m w v
-  gives_more n m w v le a = record { threads = (let x = a.threads in omega arith); objects = (let x = a.objects in omega arith) }
+  gives_more n m w v le a = record { threads = (let x = a.threads in omega arith); objects = (let x = a.objects in omega arith); events = (let x = a.events in omega arith) }
 
   -- nothing was done
   pub frame_none : (w : WorldOf P S H) → Whole w → Frame w w 0 w.scheduler.running false
-  frame_none w whole = record { whole = whole; runs = refl; made = record { threads = omega arith; objects = omega arith }; ranks = ranks_none w.threads; preferred = refl }
+  frame_none w whole = record { whole = whole; runs = refl; made = record { threads = omega arith; objects = omega arith; events = omega arith }; ranks = ranks_none w.threads; preferred = refl }
 
   -- one after another
   pub frame_then : (n m : ℕ) (u v w : WorldOf P S H) (q r : Option ℕ) (yields : Bool) → Frame u v n q false → Frame v w m r yields → Frame u w (n + m) r yields

@@ -1,6 +1,8 @@
 pub mod Slots
 pub mod SettingValues
 pub mod Showing
+pub mod Events
+pub mod Listed
 pub mod Places
 pub mod Sound
 pub mod Views

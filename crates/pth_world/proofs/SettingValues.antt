@@ -35,7 +35,7 @@ use Rattle.pth_world.proofs.Views.{change_touches}
 module _ {P S H : Type 0} (w : WorldOf P S H) (y : AttrsOf) where
   -- where objects alone change, what they show is what counts
   pub objects_show : (k : Control P S H) (x : Attributes) → Shows w k → ShowsAttributes y x → Shows (record w { attributes = y }) (record k { attributes = x })
-  objects_show k x sh objects = record { program = sh.program; shared = sh.shared; threads = sh.threads; attributes = objects; scheduler = sh.scheduler }
+  objects_show k x sh objects = record { program = sh.program; shared = sh.shared; threads = sh.threads; attributes = objects; events = sh.events; scheduler = sh.scheduler }
 
   pub objects_whole : Whole w → Whole (record w { attributes = y })
   objects_whole whole = record { sound = whole.sound; fits = whole.fits; runner = whole.runner }
@@ -44,7 +44,7 @@ module _ {P S H : Type 0} (w : WorldOf P S H) (y : AttrsOf) where
   objects_frame n whole few = record {
     whole = objects_whole whole;
     runs = refl;
-    made = record { threads = omega arith; objects = few };
+    made = record { threads = omega arith; objects = few; events = omega arith };
     ranks = record { under = λ roof low h. h; fresh = omega arith };
     preferred = refl;
   }
@@ -97,6 +97,7 @@ module _ {P S H : Type 0} (w : WorldOf P S H) (x : AttrsOf) (r : ThreadsOf) (a :
       made = sh.attributes.made ∙ sym s.0.made;
       objects = ap (λ (f : ℕ → Option Attribute). put f (number a) (Some (Free (with_value v y)))) sh.attributes.objects ∙ sym s.0.objects;
     };
+    events = sh.events;
     scheduler = sh.scheduler;
   }
   shows_by (Some (Bound t)) some s sound k sh =
@@ -111,8 +112,8 @@ module _ {P S H : Type 0} (w : WorldOf P S H) (x : AttrsOf) (r : ThreadsOf) (a :
 
   set_numbers : (o : Option Attribute) → is_none o ≡ false → Sets w.attributes x w.threads.records r (number a) v o → GivesAtMost 0 w after
   set_numbers None some s = absurd (cc some)
-  set_numbers (Some (Free y)) some s = record { threads = (let e : r.made ≡ w.threads.records.made = ap (λ (z : ThreadsOf). z.made) s.1 in omega arith); objects = (let e = s.0.made in omega arith) }
-  set_numbers (Some (Bound t)) some s = record { threads = (let e = s.1.changes.made in omega arith); objects = (let e : x.made ≡ w.attributes.made = ap (λ (z : AttrsOf). z.made) s.0 in omega arith) }
+  set_numbers (Some (Free y)) some s = record { threads = (let e : r.made ≡ w.threads.records.made = ap (λ (z : ThreadsOf). z.made) s.1 in omega arith); objects = (let e = s.0.made in omega arith); events = omega arith }
+  set_numbers (Some (Bound t)) some s = record { threads = (let e = s.1.changes.made in omega arith); objects = (let e : x.made ≡ w.attributes.made = ap (λ (z : AttrsOf). z.made) s.0 in omega arith); events = omega arith }
 
   set_whole : (o : Option Attribute) → is_none o ≡ false → Sets w.attributes x w.threads.records r (number a) v o → Whole w → Whole after
   set_whole None some s whole = absurd (cc some)

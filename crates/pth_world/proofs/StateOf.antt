@@ -90,6 +90,7 @@ stands_for_state w sound = record {
       standing = λ q. shows_rows (tid_at w.threads.records) q (rows_of q w.threads.queues) (sound.orderly.each q).falling;
     };
     attributes = record { made = refl; objects = refl };
+    events = refl;
     scheduler = refl;
   };
   resources = refl;

@@ -12,6 +12,8 @@ use Rattle.pth_queue.specs.Ranking.{holds, delete, named_row}
 use Rattle.pth_queue.specs.Queues.{QueuesOf, rows_of, queue_of, without}
 use Rattle.pth_queue.proofs.Counts.{count-present, length-delete}
 use Rattle.pth_queue.proofs.Sets.{holds-queue_of}
+use Rattle.pth_ring.specs.Arena.{RingsOf, events_of}
+use Rattle.pth_ring.specs.Rings.{all_unclaimed}
 use Rattle.pth_threads.specs.Threads.{slot_of, tid_at, tid_of, entry_at, RemovesThread}
 use Rattle.pth_threads.specs.declared.entry.Entry.{Entry}
 use Rattle.pth_model.specs.declared.blocked.Blocked.{Blocked}
@@ -55,7 +57,7 @@ only-alone t f none = fun_ext (λ i. alone_by t i f (i == t) refl (none i))
 vanish-removed : {P S H : Type 0} (t u : ℕ) (k : Control P S H) → u ≢ t → vanish_all_but t (removes u k) ≡ vanish_all_but t k
 unfolding vanish_all_but leaves_queue forgets
 vanish-removed {S = S} t u k apart =
-    ap₂ (λ (known : ℕ → Option Entry) (progress : ℕ → Option (Progress S)). record k { threads = record k.threads { known = known; progress = progress; standing = λ q. [] } })
+    ap₂ (λ (known : ℕ → Option Entry) (progress : ℕ → Option (Progress S)). record k { threads = record k.threads { known = known; progress = progress; standing = λ q. [] }; events = all_unclaimed k.events })
     (only-put t u k.threads.known None apart) (only-put t u k.threads.progress None apart)
 
 -- ---- one thread of a queue
@@ -175,10 +177,10 @@ module _ {P S H : Type 0} (w : WorldOf P S H) (t : ℕ) (whole : Whole w) (is : 
   nobody : (i : ℕ) → i ≢ t → slot_of w.threads.records i ≡ None
   nobody i apart = nobody_by_slot i (slot_of w.threads.records i) apart refl
 
-  -- so nothing vanishes
-  vanish_rest : (k : Control P S H) → Shows w k → Shows w (vanish_all_but t k)
+  -- so nothing vanishes but the claims
+  vanish_rest : (e : RingsOf) → events_of e ≡ all_unclaimed (events_of w.events) → (k : Control P S H) → Shows w k → Shows (record w { events = e }) (vanish_all_but t k)
   unfolding vanish_all_but shown order
-  vanish_rest k sh = record {
+  vanish_rest e unclaimed k sh = record {
     program = sh.program;
     shared = sh.shared;
     threads = record {
@@ -188,6 +190,7 @@ module _ {P S H : Type 0} (w : WorldOf P S H) (t : ℕ) (whole : Whole w) (is : 
       standing = λ q. sym (ap (map (named_row (tid_at w.threads.records))) (none q));
     };
     attributes = sh.attributes;
+    events = ap all_unclaimed sh.events ∙ sym unclaimed;
     scheduler = sh.scheduler;
   }
 
@@ -208,7 +211,7 @@ module _ {P S H : Type 0} (u a b c d v : WorldOf P S H)
   none queue.Suspended = dead.empty queue.Suspended no_suspended
   none queue.Dead = no_dead
 
-  pub vanish_shows : (t : ℕ) → u.scheduler.running ≡ Some t → (k : Control P S H) → Shows u k → Shows v (vanish_all_but t k)
-  vanish_shows t is k sh =
+  pub vanish_shows : (e : RingsOf) → events_of e ≡ all_unclaimed (events_of v.events) → (t : ℕ) → u.scheduler.running ≡ Some t → (k : Control P S H) → Shows u k → Shows (record v { events = e }) (vanish_all_but t k)
+  vanish_shows e unclaimed t is k sh =
       let x : ShowsRest t v k = vanish_all.shows t is k sh in
-      subst (λ (j : Control P S H). Shows v j) x.same (vanish_rest v t vanish_all.whole (ap (λ (z : WorldOf P S H). z.scheduler.running) vanish_all.same ∙ is) none x.rest x.shows)
+      subst (λ (j : Control P S H). Shows (record v { events = e }) j) x.same (vanish_rest v t vanish_all.whole (ap (λ (z : WorldOf P S H). z.scheduler.running) vanish_all.same ∙ is) none e unclaimed x.rest x.shows)

@@ -7,6 +7,7 @@ use Rattle.pth_queue.specs.Queues.{rows_of}
 use Rattle.pth_queue.specs.declared.queue.Queue.{Queue}
 use Rattle.pth_threads.specs.Attributes.{AttrsOf, object_of}
 use Rattle.pth_threads.specs.Threads.{slot_of, tid_at, entry_at}
+use Rattle.pth_ring.specs.Arena.{events_of}
 use Rattle.pth_model.specs.Resources.{no_resources}
 use Rattle.pth_model.specs.Standing.{shown, raises_of}
 use Rattle.pth_model.specs.State.{State, Control, Threads, Attributes}
@@ -31,6 +32,7 @@ pub record Shows {P S H : Type 0} (w : WorldOf P S H) (k : Control P S H) : Type
   pub shared : k.shared ≡ w.shared
   pub threads : ShowsThreads w.threads k.threads
   pub attributes : ShowsAttributes w.attributes k.attributes
+  pub events : k.events ≡ events_of w.events
   pub scheduler : k.scheduler ≡ w.scheduler
 
 -- the world stands for this state: it shows the control, and threads have nothing yet that is built

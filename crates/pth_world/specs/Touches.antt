@@ -31,8 +31,9 @@ pub record SameThreads {S : Type 0} (old new : ThreadsBySlot S) : Type 0 where
   pub tids : tid_at new.records ≡ tid_at old.records
   pub made : new.records.made ≡ old.records.made
 
--- what a change of threads leaves as it was: all but the threads and the shared value
+-- what a change of threads leaves as it was: all but the threads, the shared value, and what is kept of events
 pub record KeepsRest {P S H : Type 0} (old new : WorldOf P S H) : Type 0 where
   pub program : new.program ≡ old.program
   pub attributes : new.attributes ≡ old.attributes
+  pub events : new.events.made ≡ old.events.made
   pub scheduler : new.scheduler ≡ old.scheduler

@@ -1,5 +1,6 @@
 -- What holds of every world between two calls, and of each thread but one while that thread is changed.
-use Rattle.std.specs.Prelude.{◌≡◌, ◌≢◌, ℕ, Bool, true, false, Option, Some, None, IfSome}
+use Rattle.std.specs.Prelude.{◌≡◌, ◌≢◌, ◌≤◌, ℕ, Bool, true, false, Option, Some, None, IfSome}
+use Rattle.pth_base.specs.Limits.{last_moment}
 use Rattle.pth_base.specs.Table.{table}
 use Rattle.pth_base.specs.declared.call.Call.{Call}
 use Rattle.pth_base.specs.declared.call.Call.TheVariants as call
@@ -37,15 +38,27 @@ abbrev pub TakesNothingBack : Retake → Type 0
 TakesNothingBack retake.No = Unit {0}
 TakesNothingBack r = ⊥
 
--- Which calls block which threads: of those that are built, main's exit and every join, and they wait for no moment.
+-- which calls block which threads: of those that are built, main's exit, every join, and the calls that wait for a moment or for
+-- a ring
 abbrev pub MayBlockAs : ℕ → Call → Type 0
 MayBlockAs t (call.Exit v) = t ≡ main
 MayBlockAs t (call.Join n) = Unit {0}
+MayBlockAs t (call.Nap n) = Unit {0}
+MayBlockAs t (call.Usleep n) = Unit {0}
+MayBlockAs t (call.Sleep n) = Unit {0}
+MayBlockAs t (call.Wait e) = Unit {0}
 MayBlockAs t c = ⊥
+
+-- until which moment a call blocks its thread: none, but for those that wait for one, which is not after the last
+abbrev pub MayWaitUntil : Call → ℕ → Type 0
+MayWaitUntil (call.Nap n) m = m ≤ last_moment
+MayWaitUntil (call.Usleep n) m = m ≤ last_moment
+MayWaitUntil (call.Sleep n) m = m ≤ last_moment
+MayWaitUntil c m = m ≡ 0
 
 pub record MayBlock (t : ℕ) (b : Blocked) : Type 0 where
   pub call : MayBlockAs t b.call
-  pub moment : b.moment ≡ 0
+  pub moment : MayWaitUntil b.call b.moment
   -- it writes nothing, reaches no barrier, and takes no mutex back
   pub written : b.written ≡ 0
   pub round : b.round ≡ 0

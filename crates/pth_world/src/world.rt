@@ -16,11 +16,13 @@ ghost use Rattle.pth_world.specs.Whole.{Whole, WholeBut, IsAbout, IsRunner};
 
 mod attributes;
 mod counts;
+mod events;
 mod moves;
 mod places;
 mod progress;
 mod reads;
 mod records;
+mod slots;
 mod vanishing;
 
 use crate::counted_queues::CountedQueues;
@@ -28,13 +30,14 @@ use crate::progress_table::ProgressTable;
 use pth_base::ids::{Micros, Slot, Tid};
 use pth_base::program::Program;
 use pth_queue::queue_set::QueueSet;
+use pth_ring::rings::Rings;
 use pth_threads::attrs::Attrs;
 use pth_threads::threads::Threads;
 use std::alloc::Global;
 use std::marker::Model;
 
-/// The program with its threads: their records, their queues and how far each is in its program, their attribute objects, and
-/// what the scheduler keeps of them.
+/// The program with its threads: their records, their queues and how far each is in its program, their attribute objects,
+/// events and rings of them, and what the scheduler keeps of them.
 #[derive(Drop)]
 pub struct World<P: Program> {
     alloc: Global,
@@ -44,6 +47,7 @@ pub struct World<P: Program> {
     queues: CountedQueues,
     progress: ProgressTable<P::State>,
     attributes: Attrs,
+    events: Rings,
     running: Option<Tid>,
     preferred: Option<Tid>,
     favour_new: bool,
@@ -63,6 +67,7 @@ impl<P: Program> Model for World<P> {
       shared = w.shared;
       threads = record { records = w.threads; queues = w.queues; progress = w.progress };
       attributes = w.attributes;
+      events = w.events;
       scheduler = record {
         running = option_map number_of w.running;
         preferred = option_map number_of w.preferred;

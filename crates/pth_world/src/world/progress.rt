@@ -6,6 +6,7 @@ ghost use Rattle.pth_base.specs.Table.{table};
 ghost use Rattle.pth_model.specs.Awaits.{awaits_in};
 ghost use Rattle.pth_model.specs.State.{Control};
 ghost use Rattle.pth_model.specs.Changes.{is_blocked_by, owes, blocked_of};
+ghost use Rattle.pth_model.specs.RingWaits.{stops_waiting};
 ghost use Rattle.pth_model.specs.Part.{step_of, stepping};
 ghost use Rattle.pth_world.specs.Shows.{Shows};
 ghost use Rattle.pth_world.specs.Sound.{IsSound, IsKnown};
@@ -21,7 +22,7 @@ use pth_base::ids::{Slot, Tid};
 use pth_base::memory::OutOfMemory;
 use pth_base::program::Program;
 use pth_model::awaits::Awaits;
-use pth_model::blocked::Blocked;
+use pth_model::blocked::{Blocked, ring_held};
 
 impl<P: Program> World<P> {
     /// Sets the call that blocks a thread.
@@ -39,8 +40,8 @@ impl<P: Program> World<P> {
         self.progress_mut().block(slot, b);
     }
 
-    /// Takes out the call that blocks a thread; none where no call does.
-    pub fn unblock(&mut self, t: Tid) -> Option<Blocked>
+    // Takes out the call that blocks a thread; none where no call does.
+    fn take_blocked(&mut self, t: Tid) -> Option<Blocked>
         requires sound { IsSound self.old.threads }
         requires known { IsKnown self.old.threads t.0 }
         ensures blocked { (k : Control P P.State P.Shared) → Shows self.old k → result ≡ blocked_of k t.0 }
@@ -53,6 +54,22 @@ impl<P: Program> World<P> {
     {
         let slot = self.slot(t);
         self.progress_mut().unblock(slot)
+    }
+
+    /// No call blocks a thread any longer, and the claim of the one that did is given back.
+    pub fn unblock(&mut self, t: Tid)
+        requires sound { IsSound self.old.threads }
+        requires known { IsKnown self.old.threads t.0 }
+        ensures shows { (k : Control P P.State P.Shared) → Shows self.old k → Shows self.new (stops_waiting t.0 k) }
+        ensures sound { IsSound self.new.threads }
+        ensures touches { Touches self.old.threads self.new.threads t.0 (view_blocked None) }
+        ensures but { WholeBut self.old t.0 → WholeBut self.new t.0 }
+        ensures whole { Whole self.old → Whole self.new }
+        ensures made { self.new.events.made ≡ self.old.events.made }
+        ensures same { self.new ≡ record self.old { threads = record self.old.threads { progress = self.new.threads.progress }; events = self.new.events } }
+    {
+        let blocked = self.take_blocked(t);
+        self.give_back(ring_held(&blocked));
     }
 
     /// Sets the answer that is handed over to a thread in its next step.

@@ -31,6 +31,7 @@ use pth_base::program::Program;
 use pth_base::thread::ThreadState;
 use pth_model::progress::Progress;
 use pth_queue::queue::Queue;
+use pth_ring::rings::Rings;
 use pth_threads::attrs::Attrs;
 use pth_threads::entry::{AddErr, Change, Entry, NewThread};
 use pth_threads::threads::Threads;
@@ -55,6 +56,7 @@ impl<P: Program> World<P> {
         ensures whole { IfOk result (λ w. Whole w) }
         ensures made { IfOk result (λ w. w.threads.records.made ≡ 0) }
         ensures objects { IfOk result (λ w. w.attributes.made ≡ 0) }
+        ensures events { IfOk result (λ w. w.events.made ≡ 0) }
         ensures count { IfOk result (λ w. count w.threads.records ≡ 0) }
         ensures queues { IfOk result (λ w. w.threads.queues ≡ record no_queues { room = thread_limit }) }
         ensures bodies { IfOk result (λ w. 0 < (P.functions w.program).bodies) }
@@ -66,12 +68,14 @@ impl<P: Program> World<P> {
         let progress = ProgressTable::new(alloc)?;
         let threads = Threads::new(alloc);
         let attributes = Attrs::new(alloc);
+        let events = Rings::new(alloc);
         Ok(World {
             alloc,
             program,
             shared,
             threads,
             attributes,
+            events,
             queues,
             progress,
             running: None,
@@ -88,6 +92,7 @@ impl<P: Program> World<P> {
         ensures whole { IfOk result (λ w. Whole w) }
         ensures one { IfOk result (λ w. w.threads.records.made ≡ 1) }
         ensures no_objects { IfOk result (λ w. w.attributes.made ≡ 0) }
+        ensures no_events { IfOk result (λ w. w.events.made ≡ 0) }
     {
         let mut world = World::without_threads(alloc, program)?;
         let main = match world.spawn(BodyId(0), 0, main_thread()) {

@@ -26,7 +26,7 @@ impl<P: Program> World<P> {
         }
     }
 
-    /// Takes all threads but the one that runs out of the system (`pth_kill`).
+    /// Takes all threads but the one that runs out of the system, and no ring is claimed any more (`pth_kill`).
     pub fn vanish_all_but(&mut self, t: Tid)
         requires whole { Whole self.old }
         requires runs { self.old.scheduler.running ≡ Some t.0 }
@@ -34,12 +34,14 @@ impl<P: Program> World<P> {
         ensures whole { Whole self.new }
         ensures made { self.new.threads.records.made ≡ self.old.threads.records.made }
         ensures ranks { KeepsRanks 0 self.old.threads self.new.threads }
-        ensures same { self.new ≡ record self.old { threads = self.new.threads } }
+        ensures events { self.new.events.made ≡ self.old.events.made }
+        ensures same { self.new ≡ record self.old { threads = self.new.threads; events = self.new.events } }
     {
         self.empty_queue(Queue::New);
         self.empty_queue(Queue::Ready);
         self.empty_queue(Queue::Waiting);
         self.empty_queue(Queue::Suspended);
         self.empty_queue(Queue::Dead);
+        self.rings_mut().unclaim_all();
     }
 }

@@ -1,28 +1,6 @@
-use Rattle.std.proofs.Common.{◌∙◌, refl, sym, ap, None}
-use Rattle.pth_model.specs.Changes.{goes_on, blocking, blocked_in}
-use Rattle.pth_world.proofs.Moves.{progress_whole, unblocked_fits}
-use Rattle.pth_world.proofs.Showing.{of_threads, progress_shows, progress_is}
-use Rattle.pth_world.proofs.Slots.{used}
-use Rattle.pth_world.proofs.Sound.{progress_sound, some_kept}
-use Rattle.pth_world.proofs.Views.{blocked_touches}
-use Rattle.pth_world.proofs.Moves.{but_kept}
+use Rattle.pth_model.specs.RingWaits.{stops_waiting}
 use Rattle.pth_world.proofs.world.World.unblock.Goals as goal
 
-pub returns-clause-blocked : goal.returns-clause-blocked
-returns-clause-blocked g c k sh = (rw c.progress_mut.ensures.value at c.unblock.ensures.value) ∙ ap blocked_in (sym (progress_is _ k c.args.t.0 c.slot-slot.result.0 c.requires.sound c.slot-slot.ensures.slot sh.threads))
-
 pub returns-clause-shows : goal.returns-clause-shows
-unfolding goes_on
-returns-clause-shows g c k sh = of_threads _ _ k _ sh (progress_shows _ k c.args.t.0 c.slot-slot.result.0 c.requires.sound c.slot-slot.ensures.slot sh.threads _ (blocking None) (rw c.progress_mut.ensures.value at c.unblock.ensures.set))
-
-pub returns-clause-sound : goal.returns-clause-sound
-returns-clause-sound g c = progress_sound _ c.requires.sound c.args.t.0 c.slot-slot.result.0 c.slot-slot.ensures.slot _ _ (rw c.progress_mut.ensures.value at c.unblock.ensures.set) (some_kept (blocking None) _ (c.requires.sound.recorded c.slot-slot.result.0 (used _ c.args.t.0 c.slot-slot.result.0 c.requires.sound c.slot-slot.ensures.slot))) c.unblock.ensures.long
-
-pub returns-clause-touches : goal.returns-clause-touches
-returns-clause-touches g c = blocked_touches _ c.requires.sound c.args.t.0 c.slot-slot.result.0 c.slot-slot.ensures.slot _ None (rw c.progress_mut.ensures.value at c.unblock.ensures.set)
-
-pub returns-clause-whole : goal.returns-clause-whole
-returns-clause-whole g c whole = progress_whole c.args.self.now _ c.args.t.0 c.slot-slot.result.0 _ whole c.slot-slot.ensures.slot (returns-clause-touches g c) (returns-clause-sound g c) refl refl (λ r f. unblocked_fits r _ f)
-
-pub returns-clause-but : goal.returns-clause-but
-returns-clause-but g c = but_kept c.args.self.now _ c.args.t.0 _ (returns-clause-touches g c) (record { slots = refl; tids = refl; made = refl }) refl (returns-clause-sound g c)
+unfolding stops_waiting
+returns-clause-shows g c k sh = rw (← c.take_blocked-blocked.ensures.blocked k sh, ← c.ring_held.ensures) (c.give_back.ensures.shows _ (c.take_blocked-blocked.ensures.shows k sh))

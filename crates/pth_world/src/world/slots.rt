@@ -1,0 +1,51 @@
+//! Threads by the slots at which they are kept, as long as they are in the system.
+
+ghost use Rattle.std.specs.Prelude.{◌≡◌, ◌≢◌, ◌≤◌, All, map, vec_capacity};
+ghost use Rattle.pth_base.specs.Limits.{thread_limit};
+ghost use Rattle.pth_base.specs.declared.ids.Slot.{Slot};
+ghost use Rattle.pth_model.specs.Awaits.{awaits_in};
+ghost use Rattle.pth_model.specs.Changes.{blocked_of};
+ghost use Rattle.pth_model.specs.Pass.{waiting};
+ghost use Rattle.pth_model.specs.State.{Control};
+ghost use Rattle.pth_threads.specs.Threads.{tid_at};
+ghost use Rattle.pth_world.specs.Shows.{Shows};
+ghost use Rattle.pth_world.specs.Sound.{IsSound, IsKnown};
+
+use crate::world::World;
+use pth_base::ids::{Slot, Tid};
+use pth_base::program::Program;
+use pth_model::awaits::Awaits;
+use pth_queue::queue::Queue;
+
+impl<P: Program> World<P> {
+    /// The slots of the waiting threads in their order, in place of what `into` holds, which has room for all. It takes no
+    /// memory.
+    pub fn waiting(&self, into: &mut Vec<Slot>)
+        requires sound { IsSound self.now.threads }
+        requires room { thread_limit ≤ vec_capacity into.old }
+        ensures waiting { (k : Control P P.State P.Shared) → Shows self.now k → map (λ s. tid_at self.now.threads.records s.0) into.new.items ≡ waiting k }
+        ensures used { All (λ s. tid_at self.now.threads.records s.0 ≢ 0) into.new.items }
+        ensures room { vec_capacity into.old ≤ vec_capacity into.new }
+    {
+        self.queues().slots(Queue::Waiting, into);
+    }
+
+    /// The thread at a slot.
+    pub fn thread_in(&self, s: Slot) -> Tid
+        requires sound { IsSound self.now.threads }
+        requires used { tid_at self.now.threads.records s.0 ≢ 0 }
+        ensures tid { result.0 ≡ tid_at self.now.threads.records s.0 }
+        ensures known { IsKnown self.now.threads result.0 }
+    {
+        self.threads().get(s).tid
+    }
+
+    /// What the thread at a slot waits for: nothing where no call blocks it. It reads no call.
+    pub fn awaits_in(&self, s: Slot) -> Awaits
+        requires sound { IsSound self.now.threads }
+        requires used { tid_at self.now.threads.records s.0 ≢ 0 }
+        ensures { (k : Control P P.State P.Shared) → Shows self.now k → result ≡ awaits_in (blocked_of k (tid_at self.now.threads.records s.0)) }
+    {
+        self.progress().awaits(s)
+    }
+}
