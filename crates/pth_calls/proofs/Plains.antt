@@ -1,5 +1,5 @@
 -- How a plain call begins, and the rows of calls that are not built.
-use Rattle.std.proofs.Common.{◌≡◌, ◌≢◌, ◌∙◌, ℕ, ap, sym, true, List, [], ◌∷◌, ◌++◌, Option, Some, None, refl}
+use Rattle.std.proofs.Common.{◌≡◌, ◌≢◌, ◌∙◌, ℕ, ap, Bool, true, false, List, [], ◌∷◌, ◌++◌, Option, Some, None, refl}
 use Rattle.pth_base.specs.Program.{Functions}
 use Rattle.pth_base.specs.Facilities.{facility_of}
 use Rattle.pth_base.specs.declared.answer.Answer.{Answer}
@@ -23,16 +23,6 @@ use Rattle.pth_world.specs.World.{WorldOf}
 use Rattle.pth_world.specs.Shows.{StandsFor}
 use Rattle.pth_world.specs.Leading.{Leads, IsAnswered, IsQuiet}
 use Rattle.pth_calls.proofs.Answers.{changed_leads}
-
--- a call of another facility, and of none
-pub some_facility : (o : Option Facility) (x y : Facility) → o ≡ Some x → (x ≡ y → ⊥) → o ≢ Some y
-some_facility o x y is apart other = apart (some_same (sym is ∙ other))
-  where
-    some_same : Some x ≡ Some y → x ≡ y
-    some_same e = cc
-
-pub no_facility : (o : Option Facility) (y : Facility) → o ≡ None → o ≢ Some y
-no_facility o y none other = cc (none, other)
 
 -- the one call of library control that ends nothing
 pub quiet_library_call : (t : Tid) (c : Call) (a : Answer) → is_plain c ≡ true → facility_of c ≡ Some facility.Library → IsQuiet (Answered t c a)
@@ -69,6 +59,62 @@ quiet_thread_call t (call.Join n) a threads = refl
 quiet_thread_call t (call.Exit v) a threads = refl
 quiet_thread_call t c a threads = absurd (cc threads)
 
+-- nor do utilities
+pub quiet_utility_call : (t : Tid) (c : Call) (a : Answer) → facility_of c ≡ Some facility.Utilities → IsQuiet (Answered t c a)
+unfolding told answer_told
+quiet_utility_call t (call.Fdmode d m) a utilities = refl
+quiet_utility_call t (call.Timeout n) a utilities = refl
+quiet_utility_call t c a utilities = absurd (cc utilities)
+
+-- nor do calls on events
+pub quiet_event_call : (t : Tid) (c : Call) (a : Answer) → facility_of c ≡ Some facility.Events → IsQuiet (Answered t c a)
+unfolding told answer_told
+quiet_event_call t (call.EvFd goals fd) a events = refl
+quiet_event_call t (call.EvSelect r w x) a events = refl
+quiet_event_call t (call.EvTime m) a events = refl
+quiet_event_call t (call.EvMsg p) a events = refl
+quiet_event_call t (call.EvCond c) a events = refl
+quiet_event_call t (call.EvTid state n) a events = refl
+quiet_event_call t (call.EvFunc c v l) a events = refl
+quiet_event_call t (call.Chain e l) a events = refl
+quiet_event_call t (call.EvConcat e g) a events = refl
+quiet_event_call t (call.EvIsolate e) a events = refl
+quiet_event_call t (call.EvWalk e forward until_occurred) a events = refl
+quiet_event_call t (call.EvStatus e) a events = refl
+quiet_event_call t (call.EvKind e) a events = refl
+quiet_event_call t (call.EvFree e all) a events = refl
+quiet_event_call t c a events = absurd (cc events)
+
+-- ---- the facilities of which some plain call is built
+
+abbrev has_code : Facility → Bool
+has_code facility.Library = true
+has_code facility.Attributes = true
+has_code facility.Threads = true
+has_code facility.Utilities = true
+has_code facility.Events = true
+has_code x = false
+
+abbrev pub is_of_code : Option Facility → Bool
+is_of_code (Some x) = has_code x
+is_of_code None = false
+
+-- a facility is another one
+pub record IsOther (x : Facility) : Type 0 where
+  pub library : x ≢ facility.Library
+  pub attributes : x ≢ facility.Attributes
+  pub threads : x ≢ facility.Threads
+  pub utilities : x ≢ facility.Utilities
+  pub events : x ≢ facility.Events
+
+pub other_facility : (x : Facility) → IsOther x → is_of_code (Some x) ≡ false
+other_facility facility.Library other = absurd (other.library refl)
+other_facility facility.Attributes other = absurd (other.attributes refl)
+other_facility facility.Threads other = absurd (other.threads refl)
+other_facility facility.Utilities other = absurd (other.utilities refl)
+other_facility facility.Events other = absurd (other.events refl)
+other_facility x other = refl
+
 module _ {P S H : Type 0} (f : P → Functions S H) (s : State P S H) (t : ℕ) where
   -- a plain call begins as its row says
   begun_plain : (c : Call) → is_plain c ≡ true → begun f t c s ≡ begun_as f t c (row_of f s t c).begin s
@@ -86,46 +132,80 @@ module _ {P S H : Type 0} (f : P → Functions S H) (s : State P S H) (t : ℕ) 
   pub answered_leads : (w v : WorldOf P S H) (c : Call) (a : Answer) (old new : List Mark) → IsQuiet (Answered (tid t) c a) → StandsFor w s → IsAnswered w v a (λ u. (row_of f u t c).begin) → new ≡ old ++ Answered (tid t) c a ∷ [] → Leads v old new (answered c a).told
   answered_leads w v c a old new quiet st is appended = changed_leads v s (effect_of (row_of f s t c).begin) (Answered (tid t) c a) old new quiet st.resources (is.effect s st) appended
 
-  -- the calls of which none is built, by their facilities
-  pub unbuilt_row : (c : Call) → is_plain c ≡ true → facility_of c ≢ Some facility.Library → facility_of c ≢ Some facility.Attributes → facility_of c ≢ Some facility.Threads → row_of f s t c ≡ unbuilt
+  -- the calls of the other facilities
+  pub unbuilt_row : (c : Call) → is_plain c ≡ true → is_of_code (facility_of c) ≡ false → row_of f s t c ≡ unbuilt
   unfolding row_of
-  unbuilt_row call.Kill plain library attributes threads = absurd (library refl)
-  unbuilt_row (call.Ctrl q) plain library attributes threads = absurd (library refl)
-  unbuilt_row call.AttrNew plain library attributes threads = absurd (attributes refl)
-  unbuilt_row (call.AttrOf n) plain library attributes threads = absurd (attributes refl)
-  unbuilt_row (call.AttrInit x) plain library attributes threads = absurd (attributes refl)
-  unbuilt_row (call.AttrSet x v) plain library attributes threads = absurd (attributes refl)
-  unbuilt_row (call.AttrGet x field) plain library attributes threads = absurd (attributes refl)
-  unbuilt_row (call.AttrDestroy x) plain library attributes threads = absurd (attributes refl)
-  unbuilt_row (call.Spawn b v a) plain library attributes threads = absurd (threads refl)
-  unbuilt_row call.SelfTid plain library attributes threads = absurd (threads refl)
-  unbuilt_row (call.Suspend n) plain library attributes threads = absurd (threads refl)
-  unbuilt_row (call.Resume n) plain library attributes threads = absurd (threads refl)
-  unbuilt_row (call.Yield n) plain library attributes threads = absurd (threads refl)
-  unbuilt_row (call.Join n) plain library attributes threads = absurd (threads refl)
-  unbuilt_row (call.Exit v) plain library attributes threads = absurd (threads refl)
-  unbuilt_row call.Plain plain library attributes threads = absurd (cc plain)
-  unbuilt_row (call.Note v) plain library attributes threads = absurd (cc plain)
-  unbuilt_row c plain library attributes threads = refl
+  unbuilt_row call.Kill plain none = absurd (cc none)
+  unbuilt_row (call.Ctrl q) plain none = absurd (cc none)
+  unbuilt_row call.AttrNew plain none = absurd (cc none)
+  unbuilt_row (call.AttrOf n) plain none = absurd (cc none)
+  unbuilt_row (call.AttrInit x) plain none = absurd (cc none)
+  unbuilt_row (call.AttrSet x v) plain none = absurd (cc none)
+  unbuilt_row (call.AttrGet x field) plain none = absurd (cc none)
+  unbuilt_row (call.AttrDestroy x) plain none = absurd (cc none)
+  unbuilt_row (call.Spawn b v a) plain none = absurd (cc none)
+  unbuilt_row call.SelfTid plain none = absurd (cc none)
+  unbuilt_row (call.Suspend n) plain none = absurd (cc none)
+  unbuilt_row (call.Resume n) plain none = absurd (cc none)
+  unbuilt_row (call.Yield n) plain none = absurd (cc none)
+  unbuilt_row (call.Nap n) plain none = absurd (cc none)
+  unbuilt_row (call.Wait e) plain none = absurd (cc none)
+  unbuilt_row (call.Join n) plain none = absurd (cc none)
+  unbuilt_row (call.Exit v) plain none = absurd (cc none)
+  unbuilt_row (call.Timeout n) plain none = absurd (cc none)
+  unbuilt_row (call.EvTime m) plain none = absurd (cc none)
+  unbuilt_row (call.Chain e l) plain none = absurd (cc none)
+  unbuilt_row (call.EvConcat e g) plain none = absurd (cc none)
+  unbuilt_row (call.EvIsolate e) plain none = absurd (cc none)
+  unbuilt_row (call.EvWalk e forward until_occurred) plain none = absurd (cc none)
+  unbuilt_row (call.EvStatus e) plain none = absurd (cc none)
+  unbuilt_row (call.EvKind e) plain none = absurd (cc none)
+  unbuilt_row (call.EvFree e all) plain none = absurd (cc none)
+  unbuilt_row (call.Usleep n) plain none = absurd (cc plain)
+  unbuilt_row (call.Sleep n) plain none = absurd (cc plain)
+  unbuilt_row call.Plain plain none = absurd (cc plain)
+  unbuilt_row (call.Note v) plain none = absurd (cc plain)
+  unbuilt_row c plain none = refl
 
   -- and those of thread control
   pub unbuilt_thread_row : (c : Call) → is_plain c ≡ true → facility_of c ≡ Some facility.Threads → ((b v a : _) → c ≢ call.Spawn b v a) → c ≢ call.SelfTid → ((n : _) → c ≢ call.Suspend n) → ((n : _) → c ≢ call.Resume n) → row_of f s t c ≡ unbuilt
   unfolding row_of
   unbuilt_thread_row (call.Spawn b v a) plain threads no_spawn no_self no_suspend no_resume = absurd (no_spawn b v a refl)
+  unbuilt_thread_row (call.Once o h v) plain threads no_spawn no_self no_suspend no_resume = refl
   unbuilt_thread_row call.SelfTid plain threads no_spawn no_self no_suspend no_resume = absurd (no_self refl)
   unbuilt_thread_row (call.Suspend n) plain threads no_spawn no_self no_suspend no_resume = absurd (no_suspend n refl)
   unbuilt_thread_row (call.Resume n) plain threads no_spawn no_self no_suspend no_resume = absurd (no_resume n refl)
   unbuilt_thread_row (call.Yield n) plain threads no_spawn no_self no_suspend no_resume = absurd (cc plain)
+  unbuilt_thread_row (call.Nap n) plain threads no_spawn no_self no_suspend no_resume = absurd (cc plain)
+  unbuilt_thread_row (call.Wait e) plain threads no_spawn no_self no_suspend no_resume = absurd (cc plain)
+  unbuilt_thread_row (call.Cancel n) plain threads no_spawn no_self no_suspend no_resume = refl
+  unbuilt_thread_row (call.Abort n) plain threads no_spawn no_self no_suspend no_resume = refl
   unbuilt_thread_row (call.Join n) plain threads no_spawn no_self no_suspend no_resume = absurd (cc plain)
   unbuilt_thread_row (call.Exit v) plain threads no_spawn no_self no_suspend no_resume = absurd (cc plain)
-  unbuilt_thread_row call.Kill plain threads no_spawn no_self no_suspend no_resume = absurd (cc plain)
-  unbuilt_thread_row (call.Ctrl q) plain threads no_spawn no_self no_suspend no_resume = absurd (cc threads)
-  unbuilt_thread_row call.AttrNew plain threads no_spawn no_self no_suspend no_resume = absurd (cc threads)
-  unbuilt_thread_row (call.AttrOf n) plain threads no_spawn no_self no_suspend no_resume = absurd (cc threads)
-  unbuilt_thread_row (call.AttrInit x) plain threads no_spawn no_self no_suspend no_resume = absurd (cc threads)
-  unbuilt_thread_row (call.AttrSet x v) plain threads no_spawn no_self no_suspend no_resume = absurd (cc threads)
-  unbuilt_thread_row (call.AttrGet x field) plain threads no_spawn no_self no_suspend no_resume = absurd (cc threads)
-  unbuilt_thread_row (call.AttrDestroy x) plain threads no_spawn no_self no_suspend no_resume = absurd (cc threads)
-  unbuilt_thread_row call.Plain plain threads no_spawn no_self no_suspend no_resume = absurd (cc plain)
-  unbuilt_thread_row (call.Note v) plain threads no_spawn no_self no_suspend no_resume = absurd (cc plain)
-  unbuilt_thread_row c plain threads no_spawn no_self no_suspend no_resume = refl
+  unbuilt_thread_row c plain threads no_spawn no_self no_suspend no_resume = absurd (cc threads)
+
+  -- and those of the utilities
+  pub unbuilt_utility_row : (c : Call) → facility_of c ≡ Some facility.Utilities → ((n : _) → c ≢ call.Timeout n) → row_of f s t c ≡ unbuilt
+  unfolding row_of
+  unbuilt_utility_row (call.Fdmode d m) utilities no_timeout = refl
+  unbuilt_utility_row (call.Timeout n) utilities no_timeout = absurd (no_timeout n refl)
+  unbuilt_utility_row c utilities no_timeout = absurd (cc utilities)
+
+  -- and those on events
+  pub unbuilt_event_row : (c : Call) → facility_of c ≡ Some facility.Events → ((m : _) → c ≢ call.EvTime m) → ((e l : _) → c ≢ call.Chain e l) → ((e g : _) → c ≢ call.EvConcat e g) → ((e : _) → c ≢ call.EvIsolate e) → ((e forward until_occurred : _) → c ≢ call.EvWalk e forward until_occurred) → ((e : _) → c ≢ call.EvStatus e) → ((e : _) → c ≢ call.EvKind e) → ((e all : _) → c ≢ call.EvFree e all) → row_of f s t c ≡ unbuilt
+  unfolding row_of
+  unbuilt_event_row (call.EvFd goals fd) events no_time no_chain no_concat no_isolate no_walk no_status no_kind no_free = refl
+  unbuilt_event_row (call.EvSelect r w x) events no_time no_chain no_concat no_isolate no_walk no_status no_kind no_free = refl
+  unbuilt_event_row (call.EvTime m) events no_time no_chain no_concat no_isolate no_walk no_status no_kind no_free = absurd (no_time m refl)
+  unbuilt_event_row (call.EvMsg p) events no_time no_chain no_concat no_isolate no_walk no_status no_kind no_free = refl
+  unbuilt_event_row (call.EvCond c) events no_time no_chain no_concat no_isolate no_walk no_status no_kind no_free = refl
+  unbuilt_event_row (call.EvTid state n) events no_time no_chain no_concat no_isolate no_walk no_status no_kind no_free = refl
+  unbuilt_event_row (call.EvFunc c v l) events no_time no_chain no_concat no_isolate no_walk no_status no_kind no_free = refl
+  unbuilt_event_row (call.Chain e l) events no_time no_chain no_concat no_isolate no_walk no_status no_kind no_free = absurd (no_chain e l refl)
+  unbuilt_event_row (call.EvConcat e g) events no_time no_chain no_concat no_isolate no_walk no_status no_kind no_free = absurd (no_concat e g refl)
+  unbuilt_event_row (call.EvIsolate e) events no_time no_chain no_concat no_isolate no_walk no_status no_kind no_free = absurd (no_isolate e refl)
+  unbuilt_event_row (call.EvWalk e forward until_occurred) events no_time no_chain no_concat no_isolate no_walk no_status no_kind no_free = absurd (no_walk e forward until_occurred refl)
+  unbuilt_event_row (call.EvStatus e) events no_time no_chain no_concat no_isolate no_walk no_status no_kind no_free = absurd (no_status e refl)
+  unbuilt_event_row (call.EvKind e) events no_time no_chain no_concat no_isolate no_walk no_status no_kind no_free = absurd (no_kind e refl)
+  unbuilt_event_row (call.EvFree e all) events no_time no_chain no_concat no_isolate no_walk no_status no_kind no_free = absurd (no_free e all refl)
+  unbuilt_event_row c events no_time no_chain no_concat no_isolate no_walk no_status no_kind no_free = absurd (cc events)

@@ -4,46 +4,23 @@ ghost use Rattle.std.specs.Prelude.{◌≡◌, Some, IfOk, OnOk, false};
 ghost use Rattle.pth_base.specs.Facilities.{facility_of};
 ghost use Rattle.pth_base.specs.declared.facility.Facility.TheVariants as facility;
 ghost use Rattle.pth_base.specs.declared.mark.Mark.TheVariants.{Answered};
-ghost use Rattle.pth_calls.specs.Saying.{SaysNumber};
 ghost use Rattle.pth_model.specs.AttributeHandling.{answer_of as value_said, attr_new as new_row, attr_of as of_row, attr_init as init_row, attr_set as set_row, attr_get as get_row, attr_destroy as destroy_row};
 ghost use Rattle.pth_model.specs.Rows.{row_of};
 ghost use Rattle.pth_model.specs.State.{State};
-ghost use Rattle.pth_model.specs.Verdict.{Says, by_result, done as with_nothing};
 ghost use Rattle.pth_world.specs.Frame.{Frame};
 ghost use Rattle.pth_world.specs.Leading.{IsAnswered, IsQuiet};
 ghost use Rattle.pth_world.specs.Numbering.{HasNumbers};
 ghost use Rattle.pth_world.specs.Whole.{Whole};
 
+use crate::saying::{done, refused};
 use pth_base::answer::Answer;
 use pth_base::attr::{AttrField, AttrValue};
 use pth_base::call::Call;
 use pth_base::errno::Errno;
-use pth_base::ids::{AttrId, Tid};
+use pth_base::ids::Tid;
 use pth_base::memory::OutOfMemory;
 use pth_base::program::Program;
-use pth_base::refusal::Refusal;
 use pth_world::world::World;
-
-// The answer of a call that makes an object: its number.
-fn number_said(made: Result<AttrId, Refusal>) -> Result<Answer, OutOfMemory>
-    ensures { IfOk result (λ a. SaysNumber made a) }
-{
-    match made {
-        Ok(object) => Ok(Answer::Int(i64::from(object.0))),
-        Err(Refusal::Fail(e)) => Ok(Answer::Fail(e)),
-        Err(Refusal::OutOfMemory) => Err(OutOfMemory),
-    }
-}
-
-// The answer of a call that has nothing to say.
-fn done(outcome: Result<(), Errno>) -> Answer
-    ensures { by_result with_nothing outcome ≡ Says result }
-{
-    match outcome {
-        Ok(()) => Answer::Int(1),
-        Err(e) => Answer::Fail(e),
-    }
-}
 
 // The value of a field, as an answer.
 fn value_of(v: AttrValue) -> Answer
@@ -67,7 +44,10 @@ fn attr_new<P: Program>(w: &mut World<P>) -> Result<Answer, OutOfMemory>
     ensures answered { IfOk result (λ a. IsAnswered w.old w.new a (λ (s : State P P.State P.Shared). (new_row s).begin)) }
     ensures frame { OnOk result (Frame w.old w.new 1 w.old.scheduler.running false) }
 {
-    number_said(w.attrs_mut().create())
+    match w.attrs_mut().create() {
+        Ok(object) => Ok(Answer::Int(i64::from(object.0))),
+        Err(refusal) => refused(refusal),
+    }
 }
 
 // pth_attr_of: an object that is bound to a thread.
@@ -81,7 +61,10 @@ fn attr_of<P: Program>(w: &mut World<P>, n: i64) -> Result<Answer, OutOfMemory>
         Some(it) => it.tid,
         None => return Ok(Answer::Fail(Errno::ESRCH)),
     };
-    number_said(w.attr_of(t))
+    match w.attr_of(t) {
+        Ok(object) => Ok(Answer::Int(i64::from(object.0))),
+        Err(refusal) => refused(refusal),
+    }
 }
 
 // pth_attr_init: an object has the first values again.

@@ -3,7 +3,10 @@
 
 pub mod answering;
 pub mod attribute_handling;
+pub mod event_handling;
 pub mod library_control;
 pub mod plain;
+mod saying;
 pub mod script_lines;
 pub mod thread_control;
+pub mod utilities;

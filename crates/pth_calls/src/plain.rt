@@ -16,8 +16,10 @@ ghost use Rattle.pth_world.specs.Whole.{Whole};
 
 use crate::answering::answer_call;
 use crate::attribute_handling::answer_attributes;
+use crate::event_handling::answer_events;
 use crate::library_control::answer_library;
 use crate::thread_control::answer_threads;
+use crate::utilities::answer_utilities;
 use pth_base::answer::Answer;
 use pth_base::call::Call;
 use pth_base::errno::Errno;
@@ -46,6 +48,8 @@ fn answer<P: Program>(w: &mut World<P>, t: Tid, call: &Call) -> Result<Answer, O
         Facility::Library => Ok(answer_library(w, t, call)),
         Facility::Attributes => answer_attributes(w, t, call),
         Facility::Threads => answer_threads(w, t, call),
+        Facility::Utilities => Ok(answer_utilities(w, call)),
+        Facility::Events => answer_events(w, t, call),
         _ => Ok(Answer::Fail(Errno::EINVAL)),
     }
 }

@@ -1,0 +1,91 @@
+use Rattle.std.proofs.Common.{ap, SFits, w64, to_z-of_z, rules}
+use Rattle.pth_base.specs.declared.errno.Errno.TheVariants.{EINVAL}
+use Rattle.pth_model.specs.Row.{Row}
+use Rattle.pth_model.specs.Rows.{row_of}
+use Rattle.pth_world.proofs.Telling.{quiet-refused}
+use Rattle.pth_calls.proofs.Answers.{if_ok_all, refused_answered}
+use Rattle.pth_calls.proofs.Plains.{quiet_event_call, unbuilt_event_row}
+use Rattle.pth_calls.proofs.event_handling.answer_events.Goals as goal
+
+pub returns-in-EvTime-clause-answered : goal.returns-in-EvTime-clause-answered
+unfolding row_of
+returns-in-EvTime-clause-answered g c =
+    let m : SFits w64 c.in-EvTime.at = search rules in
+    rw c.in-EvTime.is (simp to_z-of_z at c.ev_time.ensures.answered)
+
+pub returns-in-EvTime-clause-quiet : goal.returns-in-EvTime-clause-quiet
+returns-in-EvTime-clause-quiet g c = if_ok_all c.ev_time.result _ (λ a. quiet_event_call c.args.t c.args.call.now a c.requires.events)
+
+pub returns-in-Chain-clause-answered : goal.returns-in-Chain-clause-answered
+unfolding row_of
+returns-in-Chain-clause-answered g c =
+    let e : SFits w64 c.in-Chain.e = search rules in
+    rw c.in-Chain.is (simp to_z-of_z at c.chain.ensures.answered)
+
+pub returns-in-Chain-clause-quiet : goal.returns-in-Chain-clause-quiet
+returns-in-Chain-clause-quiet g c = if_ok_all c.chain.result _ (λ a. quiet_event_call c.args.t c.args.call.now a c.requires.events)
+
+pub returns-in-EvConcat-clause-answered : goal.returns-in-EvConcat-clause-answered
+unfolding row_of
+returns-in-EvConcat-clause-answered g c =
+    let e : SFits w64 c.in-EvConcat.e = search rules in
+    let f : SFits w64 c.in-EvConcat.f = search rules in
+    rw c.in-EvConcat.is (simp to_z-of_z at c.ev_concat.ensures.answered)
+
+pub returns-in-EvConcat-clause-quiet : goal.returns-in-EvConcat-clause-quiet
+returns-in-EvConcat-clause-quiet g c = quiet_event_call c.args.t c.args.call.now c.ev_concat.result c.requires.events
+
+pub returns-in-EvIsolate-clause-answered : goal.returns-in-EvIsolate-clause-answered
+unfolding row_of
+returns-in-EvIsolate-clause-answered g c =
+    let e : SFits w64 c.in-EvIsolate.e = search rules in
+    rw c.in-EvIsolate.is (simp to_z-of_z at c.ev_isolate.ensures.answered)
+
+pub returns-in-EvIsolate-clause-quiet : goal.returns-in-EvIsolate-clause-quiet
+returns-in-EvIsolate-clause-quiet g c = quiet_event_call c.args.t c.args.call.now c.ev_isolate.result c.requires.events
+
+pub returns-in-EvWalk-clause-answered : goal.returns-in-EvWalk-clause-answered
+unfolding row_of
+returns-in-EvWalk-clause-answered g c =
+    let e : SFits w64 c.in-EvWalk.e = search rules in
+    rw c.in-EvWalk.is (simp to_z-of_z at c.ev_walk.ensures)
+
+pub returns-in-EvWalk-clause-quiet : goal.returns-in-EvWalk-clause-quiet
+returns-in-EvWalk-clause-quiet g c = quiet_event_call c.args.t c.args.call.now c.ev_walk.result c.requires.events
+
+pub returns-in-EvStatus-clause-answered : goal.returns-in-EvStatus-clause-answered
+unfolding row_of
+returns-in-EvStatus-clause-answered g c =
+    let e : SFits w64 c.in-EvStatus.e = search rules in
+    rw c.in-EvStatus.is (simp to_z-of_z at c.ev_status.ensures)
+
+pub returns-in-EvStatus-clause-quiet : goal.returns-in-EvStatus-clause-quiet
+returns-in-EvStatus-clause-quiet g c = quiet_event_call c.args.t c.args.call.now c.ev_status.result c.requires.events
+
+pub returns-in-EvKind-clause-answered : goal.returns-in-EvKind-clause-answered
+unfolding row_of
+returns-in-EvKind-clause-answered g c =
+    let e : SFits w64 c.in-EvKind.e = search rules in
+    rw c.in-EvKind.is (simp to_z-of_z at c.ev_kind.ensures)
+
+pub returns-in-EvKind-clause-quiet : goal.returns-in-EvKind-clause-quiet
+returns-in-EvKind-clause-quiet g c = quiet_event_call c.args.t c.args.call.now c.ev_kind.result c.requires.events
+
+pub returns-in-EvFree-clause-answered : goal.returns-in-EvFree-clause-answered
+unfolding row_of
+returns-in-EvFree-clause-answered g c =
+    let e : SFits w64 c.in-EvFree.e = search rules in
+    rw c.in-EvFree.is (simp to_z-of_z at c.ev_free.ensures.answered)
+
+pub returns-in-EvFree-clause-quiet : goal.returns-in-EvFree-clause-quiet
+returns-in-EvFree-clause-quiet g c = quiet_event_call c.args.t c.args.call.now c.ev_free.result c.requires.events
+
+pub returns-in_default : goal.returns-in_default
+returns-in_default g c =
+    let call = c.args.call.now in
+    let not = c.in_default in
+    record {
+      answered = refused_answered c.args.w.now EINVAL _ (λ s st. ap (λ (r : Row _ _ _). r.begin.verdict) (unbuilt_event_row g.P.Program.functions s c.args.t.0 call c.requires.events not.not-EvTime not.not-Chain not.not-EvConcat not.not-EvIsolate not.not-EvWalk not.not-EvStatus not.not-EvKind not.not-EvFree));
+      quiet = quiet-refused c.args.t call EINVAL;
+      frame = search rules;
+    }

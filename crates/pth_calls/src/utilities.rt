@@ -1,0 +1,43 @@
+//! Utilities: `pth_timeout`.
+
+ghost use Rattle.std.specs.Prelude.{◌≡◌, ℕ, Some};
+ghost use Rattle.pth_base.specs.Facilities.{facility_of};
+ghost use Rattle.pth_base.specs.declared.facility.Facility.TheVariants as facility;
+ghost use Rattle.pth_base.specs.declared.mark.Mark.TheVariants.{Answered};
+ghost use Rattle.pth_model.specs.Rows.{row_of};
+ghost use Rattle.pth_model.specs.State.{State};
+ghost use Rattle.pth_model.specs.Times.{timeout as timeout_row};
+ghost use Rattle.pth_model.specs.Transition.{tid};
+ghost use Rattle.pth_world.specs.Leading.{IsAnswered, IsQuiet};
+ghost use Rattle.pth_world.specs.Whole.{Whole};
+
+use pth_base::answer::Answer;
+use pth_base::call::Call;
+use pth_base::errno::Errno;
+use pth_base::program::Program;
+use pth_model::times::{micros, moment_after};
+use pth_world::world::World;
+
+// pth_timeout: the moment that lies so many microseconds ahead.
+fn timeout<P: Program>(w: &World<P>, n: i64) -> Answer
+    requires { Whole w.now }
+    ensures { IsAnswered w.now w.now result (λ (s : State P P.State P.Shared). (timeout_row s n).begin) }
+{
+    if n < 0 {
+        return Answer::Fail(Errno::EINVAL);
+    }
+    Answer::Int(moment_after(w.time(), micros(n)) as i64)
+}
+
+/// The answer of a call of the utilities.
+pub(crate) fn answer_utilities<P: Program>(w: &World<P>, call: &Call) -> Answer
+    requires whole { Whole w.now }
+    requires utilities { facility_of call.now ≡ Some facility.Utilities }
+    ensures answered { (t : ℕ) → IsAnswered w.now w.now result (λ (s : State P P.State P.Shared). (row_of P.functions s t call.now).begin) }
+    ensures quiet { (t : ℕ) → IsQuiet (Answered (tid t) call.now result) }
+{
+    match call {
+        Call::Timeout(n) => timeout(w, *n),
+        _ => Answer::Fail(Errno::EINVAL),
+    }
+}
