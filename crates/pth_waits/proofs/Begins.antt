@@ -12,27 +12,49 @@ use Rattle.pth_model.specs.declared.blocked.Blocked.{Blocked}
 use Rattle.pth_model.specs.Awaits.{awaited_by, awaits_in}
 use Rattle.pth_model.specs.Calls.{wakes, wakes_by}
 use Rattle.pth_model.specs.Changes.{blocked_of, or_nobody}
+use Rattle.pth_base.specs.declared.event.EvLine.{EvLine}
+use Rattle.pth_base.specs.declared.event.EvLine.TheVariants as line
+use Rattle.pth_model.specs.EventHandling.{chain}
 use Rattle.pth_model.specs.LibraryControl.{ctrl}
 use Rattle.pth_numbered.specs.Operands.{number, is_zero}
 use Rattle.pth_model.specs.Rows.{row_of}
 use Rattle.pth_model.specs.State.{State}
 use Rattle.pth_model.specs.ThreadControl.{thread, is_dead_in, first_of, joinable_dead}
+use Rattle.pth_waits.specs.Blocking.{may_block}
 use Rattle.pth_waits.specs.Waking.{has_come}
 
--- a call is plain that is none of these
-pub is_plain_call : (c : Call) → c ≢ call.Kill → ((n : ℤ) → c ≢ call.Yield n) → ((n : ℤ) → c ≢ call.Join n) → ((v : ℤ) → c ≢ call.Exit v) → c ≢ call.Plain → ((v : ℤ) → c ≢ call.Note v) → is_plain c ≡ true
-is_plain_call call.Kill no_kill no_yield no_join no_exit no_plain no_note = absurd (no_kill refl)
-is_plain_call (call.Yield n) no_kill no_yield no_join no_exit no_plain no_note = absurd (no_yield n refl)
-is_plain_call (call.Join n) no_kill no_yield no_join no_exit no_plain no_note = absurd (no_join n refl)
-is_plain_call (call.Exit v) no_kill no_yield no_join no_exit no_plain no_note = absurd (no_exit v refl)
-is_plain_call call.Plain no_kill no_yield no_join no_exit no_plain no_note = absurd (no_plain refl)
-is_plain_call (call.Note v) no_kill no_yield no_join no_exit no_plain no_note = absurd (no_note v refl)
-is_plain_call c no_kill no_yield no_join no_exit no_plain no_note = refl
+-- a call never blocks its thread that is none of these
+pub never_blocks : (c : Call) → ((n : ℤ) → c ≢ call.Join n) → ((v : ℤ) → c ≢ call.Exit v) → ((n : ℤ) → c ≢ call.Nap n) → ((n : ℤ) → c ≢ call.Usleep n) → ((n : ℤ) → c ≢ call.Sleep n) → ((e : ℤ) → c ≢ call.Wait e) → may_block c ≡ false
+never_blocks (call.Join n) no_join no_exit no_nap no_usleep no_sleep no_wait = absurd (no_join n refl)
+never_blocks (call.Exit v) no_join no_exit no_nap no_usleep no_sleep no_wait = absurd (no_exit v refl)
+never_blocks (call.Nap n) no_join no_exit no_nap no_usleep no_sleep no_wait = absurd (no_nap n refl)
+never_blocks (call.Usleep n) no_join no_exit no_nap no_usleep no_sleep no_wait = absurd (no_usleep n refl)
+never_blocks (call.Sleep n) no_join no_exit no_nap no_usleep no_sleep no_wait = absurd (no_sleep n refl)
+never_blocks (call.Wait e) no_join no_exit no_nap no_usleep no_sleep no_wait = absurd (no_wait e refl)
+never_blocks c no_join no_exit no_nap no_usleep no_sleep no_wait = refl
+
+-- and it is plain where it is none of these
+pub is_plain_call : (c : Call) → may_block c ≡ false → c ≢ call.Kill → ((n : ℤ) → c ≢ call.Yield n) → c ≢ call.Plain → ((v : ℤ) → c ≢ call.Note v) → is_plain c ≡ true
+is_plain_call (call.Join n) never no_kill no_yield no_plain no_note = absurd (cc never)
+is_plain_call (call.Exit v) never no_kill no_yield no_plain no_note = absurd (cc never)
+is_plain_call (call.Nap n) never no_kill no_yield no_plain no_note = absurd (cc never)
+is_plain_call (call.Usleep n) never no_kill no_yield no_plain no_note = absurd (cc never)
+is_plain_call (call.Sleep n) never no_kill no_yield no_plain no_note = absurd (cc never)
+is_plain_call (call.Wait e) never no_kill no_yield no_plain no_note = absurd (cc never)
+is_plain_call call.Kill never no_kill no_yield no_plain no_note = absurd (no_kill refl)
+is_plain_call (call.Yield n) never no_kill no_yield no_plain no_note = absurd (no_yield n refl)
+is_plain_call call.Plain never no_kill no_yield no_plain no_note = absurd (no_plain refl)
+is_plain_call (call.Note v) never no_kill no_yield no_plain no_note = absurd (no_note v refl)
+is_plain_call c never no_kill no_yield no_plain no_note = refl
 
 module _ {P S H : Type 0} (f : P → Functions S H) (s : State P S H) (t : ℕ) where
   ctrl_never_wakes : (x : Query) (b : Blocked) → (ctrl s x).wakes b ≡ false
   ctrl_never_wakes query.Threads b = refl
   ctrl_never_wakes x b = refl
+
+  chain_never_wakes : (e : ℤ) (l : EvLine) (b : Blocked) → (chain s e l).wakes b ≡ false
+  chain_never_wakes e (line.Time at) b = refl
+  chain_never_wakes e l b = refl
 
   -- a join wakes once the death that it waits for has come
   or_none : (x : Bool) → (x || false) ≡ x
@@ -47,11 +69,12 @@ module _ {P S H : Type 0} (f : P → Functions S H) (s : State P S H) (t : ℕ) 
   join_wakes n true = or_none (is_some (first_of (joinable_dead s.control)))
   join_wakes n false = by_dead (number n) (not (or_nobody (thread s.control n)).joinable) (is_dead_in (thread s.control n))
 
-  call_wakes : (c : Call) (b : Blocked) → (row_of f s t c).wakes b ≡ has_come s.control t (awaited_by c)
+  call_wakes : (c : Call) (b : Blocked) → (row_of f s t c).wakes b ≡ has_come s.control t (awaited_by c b.moment)
   unfolding row_of
   call_wakes (call.Exit v) b = refl
   call_wakes (call.Join n) b = join_wakes n (is_zero n)
   call_wakes (call.Ctrl x) b = ctrl_never_wakes x b
+  call_wakes (call.Chain e l) b = chain_never_wakes e l b
   call_wakes c b = refl
 
   blocked_wakes : (o : Option Blocked) → wakes_by f t s o ≡ has_come s.control t (awaits_in o)

@@ -1,40 +1,119 @@
--- Calls that block their threads, and wait on.
-use Rattle.std.proofs.Common.{◌≡◌, ℕ, List, ◌∷◌, [], ◌++◌, Option, Some, None, option_map, refl, ◌∙◌, ap}
+-- Calls that block their threads, wait on, and are answered.
+use Rattle.std.proofs.Common.{◌≡◌, ℕ, List, ◌∷◌, [], ◌++◌, Option, Some, None, IsSome, IfSome, option_map, Bool, true, false, refl, ◌∙◌, ap, ap₂, sym, subst}
 use Rattle.pth_base.proofs.Lists.{put_none}
+use Rattle.pth_base.specs.Program.{Functions}
+use Rattle.pth_base.specs.declared.answer.Answer.{Answer}
 use Rattle.pth_base.specs.declared.call.Call.{Call}
 use Rattle.pth_base.specs.declared.call.Call.TheVariants as call
 use Rattle.pth_base.specs.declared.mark.Mark.{Mark}
-use Rattle.pth_base.specs.declared.mark.Mark.TheVariants.{Waits}
+use Rattle.pth_base.specs.declared.mark.Mark.TheVariants.{Answered, Waits}
 use Rattle.pth_model.specs.declared.blocked.Blocked.{Blocked}
+use Rattle.pth_model.specs.declared.next.Next.TheVariants as next
 use Rattle.pth_model.specs.declared.progress.Progress.{Progress}
-use Rattle.pth_model.specs.Calls.{waits_by, blocked_from}
+use Rattle.pth_model.specs.Calls.{answers, blocks, interrupted, resumed, unless_come, tried, tried_by, waits_by}
 use Rattle.pth_model.specs.Changes.{blocked_of, blocked_in, blocking, goes_on, is_blocked_by}
-use Rattle.pth_model.specs.Resources.{told, no_resources}
-use Rattle.pth_model.specs.State.{Control, State, now_of}
-use Rattle.pth_model.specs.Transition.{tid}
-use Rattle.pth_model.specs.Verdict.{no_pause}
+use Rattle.pth_model.specs.RingWaits.{ring_given, claims, stops_waiting, has_event_come}
+use Rattle.pth_model.specs.Resources.{told, answer_told, no_resources}
+use Rattle.pth_model.specs.Row.{Attempt, effect_of}
+use Rattle.pth_model.specs.Rows.{row_of}
+use Rattle.pth_model.specs.State.{Control, State}
+use Rattle.pth_model.specs.Transition.{Transition, Went, silent, tid, tells, ◌and_then◌, ◌and_next◌, ◌and_finally◌}
+use Rattle.pth_model.specs.Verdict.{Pause, Verdict, Says, waits}
 use Rattle.pth_world.specs.World.{WorldOf}
 use Rattle.pth_world.specs.Leading.{Leads, IsQuiet}
-use Rattle.pth_world.specs.Shows.{Shows}
-use Rattle.pth_world.specs.Whole.{MayBlockAs}
+use Rattle.pth_world.specs.Shows.{Shows, StandsFor}
+use Rattle.pth_world.specs.Whole.{MayBlock, MayBlockAs}
+use Rattle.pth_waits.specs.Blocking.{HasClaimed}
 
 -- that a thread waits changes nothing else
 pub quiet-waits : (t : ℕ) (c : Call) → MayBlockAs t c → IsQuiet (Waits (tid t) c)
 unfolding told
 quiet-waits t (call.Exit v) may = refl
 quiet-waits t (call.Join n) may = refl
+quiet-waits t (call.Nap n) may = refl
+quiet-waits t (call.Usleep n) may = refl
+quiet-waits t (call.Sleep n) may = refl
+quiet-waits t (call.Wait e) may = refl
 quiet-waits t c may = absurd may
+
+-- and neither does the answer
+pub quiet-answered : (t : ℕ) (c : Call) (a : Answer) → MayBlockAs t c → IsQuiet (Answered (tid t) c a)
+unfolding told answer_told
+quiet-answered t (call.Exit v) a may = refl
+quiet-answered t (call.Join n) a may = refl
+quiet-answered t (call.Nap n) a may = refl
+quiet-answered t (call.Usleep n) a may = refl
+quiet-answered t (call.Sleep n) a may = refl
+quiet-answered t (call.Wait e) a may = refl
+quiet-answered t c a may = absurd may
 
 -- a call that blocks already
 still_blocks : {S : Type 0} (b : Blocked) (o : Option (Progress S)) → blocked_in o ≡ Some b → o ≡ option_map (blocking (Some b)) o
 still_blocks b (Some p) is = ap (λ (q : Option Blocked). Some (record p { blocked = q })) is
 still_blocks b None is = refl
 
-pub still_blocked : {P S H : Type 0} (k : Control P S H) (t : ℕ) (b : Blocked) → blocked_of k t ≡ Some b → is_blocked_by t (Some b) k ≡ k
+still_blocked : {P S H : Type 0} (k : Control P S H) (t : ℕ) (b : Blocked) → blocked_of k t ≡ Some b → is_blocked_by t (Some b) k ≡ k
 unfolding goes_on
 still_blocked k t b is = ap (λ (x : ℕ → Option (Progress _)). record k { threads = record k.threads { progress = x } }) (put_none k.threads.progress t (option_map (blocking (Some b)) (k.threads.progress t)) (still_blocks b (k.threads.progress t) is))
 
+-- a call that was given no ring claims none
+pub none_claimed : {P S H : Type 0} (w : WorldOf P S H) (t : ℕ) (c : Call) (s : State P S H) → ring_given c ≡ None → StandsFor w s → HasClaimed w t c s
+unfolding claims
+none_claimed w t c s none st = rw none st
+
 -- a call blocks its thread
-pub waits_leads : {P S H : Type 0} (w : WorldOf P S H) (s : State P S H) (t : ℕ) (c : Call) (old new : List Mark) → MayBlockAs t c → s.resources ≡ no_resources → Shows w (is_blocked_by t (Some (blocked_from (now_of s.control) c no_pause)) s.control) → new ≡ old ++ Waits (tid t) c ∷ [] → Leads w old new (waits_by t c no_pause s)
-waits_leads w s t c old new may none sh appended =
+pub waits_leads : {P S H : Type 0} (w : WorldOf P S H) (s : State P S H) (t : ℕ) (c : Call) (p : Pause) (old new : List Mark) → MayBlockAs t c → s.resources ≡ no_resources → Shows w (blocks t c p (claims t (ring_given c) s.control)) → new ≡ old ++ Waits (tid t) c ∷ [] → Leads w old new (waits_by t c p s)
+waits_leads w s t c p old new may none sh appended =
     record { stands = record { control = sh; resources = ap (λ k. told k (Waits (tid t) c)) none ∙ quiet-waits t c may }; tells = appended }
+
+-- the call that blocks a thread is answered
+pub answers_leads : {P S H : Type 0} (f : P → Functions S H) (w : WorldOf P S H) (s : State P S H) (t : ℕ) (c : Call) (a : Answer) (old new : List Mark) → MayBlockAs t c → s.resources ≡ no_resources → Shows w (stops_waiting t s.control) → new ≡ old ++ Answered (tid t) c a ∷ [] → Leads w old new (answers f t c a s)
+answers_leads f w s t c a old new may none sh appended =
+    record { stands = record { control = sh; resources = ap (λ k. told k (Answered (tid t) c a)) none ∙ quiet-answered t c a may }; tells = appended }
+
+-- this call blocks thread t, as it may
+pub record IsHeld (o : Option Blocked) (t : ℕ) (c : Call) : Type 0 where
+  pub blocked : Blocked
+  pub has : o ≡ Some (record blocked { call = c })
+  pub may : MayBlock t (record blocked { call = c })
+
+pub held_by : (o : Option Blocked) (t : ℕ) (c : Call) → IsSome o → IfSome o (λ b. (b.call ≡ c) × MayBlock t b) → IsHeld o t c
+held_by (Some b) t c some h = record {
+  blocked = b;
+  has = ap (λ (d : Call). Some (record b { call = d })) h.0;
+  may = subst (λ (d : Call). MayBlock t (record b { call = d })) h.0 h.1;
+}
+held_by None t c some h = absurd (cc some)
+
+-- what doesn't block is not interrupted
+answered_on : {P S H : Type 0} (b : Bool) (a : Attempt P S H) → interrupted a.verdict ≡ a.verdict → unless_come b a ≡ a
+answered_on true a same = ap (λ (v : Verdict). record a { verdict = v }) same
+answered_on false a same = refl
+
+-- thread t is held by this call, whose row makes this attempt as it is tried again
+module _ {P S H : Type 0} (f : P → Functions S H) (s : State P S H) (t : ℕ) (c : Call) (h : IsHeld (blocked_of s.control t) t c) (a : Attempt P S H) where
+  abbrev held : Blocked
+  held = record h.blocked { call = c }
+
+  -- it is tried again
+  tried_as : (v : Verdict) → unless_come (has_event_come s.control.events (ring_given c)) ((row_of f s t c).again held) ≡ a → a.verdict ≡ v → resumed f t s ≡ (effect_of a and_finally tried_by f t held v) s
+  unfolding resumed
+  tried_as v again is =
+      rw h.has (ap (λ (x : Attempt P S H). tried f t held x s) again ∙ ap (λ (x : Verdict). (effect_of a and_finally tried_by f t held x) s) is)
+
+  -- it waits on, and is blocked as it was
+  pub waits_again : (row_of f s t c).again held ≡ a → has_event_come s.control.events (ring_given c) ≡ false → a.verdict ≡ waits → effect_of a s ≡ silent s → resumed f t s ≡ record { told = tells (Waits (tid t) c) s; next = next.Waits }
+  waits_again again none is idle =
+      let finally : Transition P S H → Went P S H = λ x. (let y = tried_by f t held waits x.state in record { told = record { state = y.told.state; marks = x.marks ++ y.told.marks }; next = y.next }) in
+      let waits_on : Control P S H → Went P S H = λ k. record { told = tells (Waits (tid t) c) (record s { control = k }); next = next.Waits } in
+      tried_as waits (ap₂ unless_come none again) is
+      ∙ ap finally idle
+      ∙ ap (λ (m : ℕ). waits_on (is_blocked_by t (Some (record held { written = m })) s.control)) (sym h.may.written)
+      ∙ ap waits_on (still_blocked s.control t held h.has)
+
+  -- it is answered, and blocks the thread no longer
+  pub answers_again : (x : Answer) → (row_of f s t c).again held ≡ a → a.verdict ≡ Says x → resumed f t s ≡ (effect_of a and_then answers f t c x and_next next.Done x) s
+  answers_again x again is =
+      let come = has_event_come s.control.events (ring_given c) in
+      let same : interrupted a.verdict ≡ a.verdict = rw is refl in
+      tried_as (Says x) (ap (unless_come come) again ∙ answered_on come a same) is

@@ -3,4 +3,8 @@ pub mod Exits
 pub mod Begins
 pub mod Joining
 pub mod Kills
+pub mod RingWaits
 pub mod Searching
+pub mod Looking
+pub mod Waking
+pub mod Resting

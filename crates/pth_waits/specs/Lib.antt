@@ -1,2 +1,5 @@
-pub mod Joining
+pub mod Attempts
+pub mod Blocking
+pub mod Rests
 pub mod Waking
+pub mod Looking

@@ -1,9 +1,11 @@
 -- When a blocked thread has what it waits for.
-use Rattle.std.specs.Prelude.{ℕ, ◌||◌, not, Bool, false, is_some}
+use Rattle.std.specs.Prelude.{ℕ, ◌||◌, not, nat_le, Bool, false, is_some}
 use Rattle.pth_model.specs.declared.awaits.Awaits.{Awaits}
-use Rattle.pth_model.specs.declared.awaits.Awaits.TheVariants.{Nothing, Alone, Death, AnyDeath}
-use Rattle.pth_model.specs.State.{Control}
-use Rattle.pth_model.specs.Changes.{or_nobody}
+use Rattle.pth_model.specs.declared.awaits.Awaits.TheVariants.{Nothing, Alone, Death, AnyDeath, Moment, Ring}
+use Rattle.pth_model.specs.State.{Control, now_of}
+use Rattle.pth_model.specs.Awaits.{awaits_in}
+use Rattle.pth_model.specs.Changes.{or_nobody, blocked_of}
+use Rattle.pth_model.specs.Pass.{is_come_for}
 use Rattle.pth_model.specs.ThreadControl.{thread, is_dead_in, first_of, joinable_dead}
 use Rattle.pth_model.specs.ThreadEnds.{is_alone}
 
@@ -14,3 +16,10 @@ has_come k t Nothing = false
 has_come k t Alone = is_alone k t
 has_come k t (Death n) = is_dead_in (thread k n) || not (or_nobody (thread k n)).joinable
 has_come k t AnyDeath = is_some (first_of (joinable_dead k))
+has_come k t (Moment m) = nat_le m (now_of k)
+-- an event of a ring comes as it is looked at
+has_come k t (Ring e) = false
+
+-- the thread is to wake: what its call waits for has come, or an event of the ring that it was given comes
+abbrev pub is_due : {P S H : Type 0} → Control P S H → ℕ → Bool
+is_due k t = has_come k t (awaits_in (blocked_of k t)) || is_come_for k t

@@ -9,12 +9,12 @@ ghost use Rattle.pth_model.specs.Row.{effect_of};
 ghost use Rattle.pth_model.specs.Transition.{silent};
 ghost use Rattle.pth_model.specs.State.{Control, State};
 ghost use Rattle.pth_model.specs.ThreadControl.{first_of, joinable_dead, to_join as to_join_now, joined, join_attempt};
-ghost use Rattle.pth_waits.specs.Joining.{verdict_by, verdict_or};
+ghost use Rattle.pth_waits.specs.Attempts.{refused_or, says_or};
 ghost use Rattle.pth_waits.specs.Waking.{has_come};
 ghost use Rattle.pth_model.specs.declared.awaits.Awaits.TheVariants.{Death, AnyDeath};
 ghost use Rattle.pth_base.specs.declared.answer.Answer.TheVariants.{Int};
 ghost use Rattle.pth_model.specs.Changes.{removes, entry_of, or_nobody};
-ghost use Rattle.pth_model.specs.Verdict.{Says};
+ghost use Rattle.pth_model.specs.Verdict.{Says, waits};
 ghost use Rattle.pth_world.specs.Frame.{Frame, runs_after, yields_after};
 ghost use Rattle.pth_world.specs.Leading.{Leads, Changed};
 ghost use Rattle.pth_world.specs.Shows.{Shows, StandsFor};
@@ -22,7 +22,7 @@ ghost use Rattle.pth_world.specs.Sound.{IsSound, IsKnown};
 ghost use Rattle.pth_world.specs.Whole.{Whole, MayBlock};
 ghost use Rattle.pth_threads.specs.Threads.{number_of};
 
-use crate::blocks::block;
+use crate::blocks::{answer_blocked, block};
 use pth_base::answer::Answer;
 use pth_base::call::Call;
 use pth_base::errno::Errno;
@@ -91,7 +91,7 @@ fn to_join<P: Program>(w: &World<P>, n: i64) -> Option<Tid>
 // is not joinable.
 fn refusal<P: Program>(w: &World<P>, t: Tid, n: i64) -> Option<Errno>
     requires { Whole w.now }
-    ensures { (s : State P P.State P.Shared) → StandsFor w.now s → (join_attempt s t.0 n).verdict ≡ verdict_or result (joined s.control (to_join_now s.control n)) }
+    ensures { (s : State P P.State P.Shared) → StandsFor w.now s → (join_attempt s t.0 n).verdict ≡ refused_or result (joined s.control (to_join_now s.control n)) }
 {
     if n == i64::from(t.0) {
         return Some(Errno::EDEADLK);
@@ -136,7 +136,7 @@ fn take<P: Program>(w: &mut World<P>, other: Tid) -> i64
 fn attempt<P: Program>(w: &mut World<P>, t: Tid, n: i64) -> Option<Answer>
     requires whole { Whole w.old }
     requires runs { w.old.scheduler.running ≡ Some t.0 }
-    ensures verdict { (s : State P P.State P.Shared) → StandsFor w.old s → (join_attempt s t.0 n).verdict ≡ verdict_by result }
+    ensures verdict { (s : State P P.State P.Shared) → StandsFor w.old s → (join_attempt s t.0 n).verdict ≡ says_or result waits }
     ensures effect { (s : State P P.State P.Shared) → StandsFor w.old s → Changed w.new s (effect_of (join_attempt s t.0 n) s) }
     ensures waits { result ≡ None → (s : State P P.State P.Shared) → StandsFor w.old s → effect_of (join_attempt s t.0 n) s ≡ silent s }
     ensures frame { Frame w.old w.new 0 (Some t.0) false }
@@ -169,7 +169,7 @@ pub fn begin_join<P: Program>(
     let answer = match attempt(w, t, n) {
         Some(answer) => answer,
         None => {
-            block(w, t, call, marks)?;
+            block(w, t, call, 0, marks)?;
             return Ok(Next::Waits);
         }
     };
@@ -203,8 +203,7 @@ pub fn join_again<P: Program>(
             return Ok(Next::Waits);
         }
     };
-    w.unblock(t);
-    let answer = answer_call(t, &Call::Join(n), answer, marks)?;
+    let answer = answer_blocked(w, t, &Call::Join(n), answer, marks)?;
     Ok(Next::Done(answer))
 }
 
@@ -220,7 +219,7 @@ pub(crate) fn has_died<P: Program>(w: &World<P>, n: i64) -> bool
 }
 
 /// Whether a thread that can be joined has died.
-pub(crate) fn any_has_died<P: Program>(w: &World<P>) -> bool
+pub fn any_has_died<P: Program>(w: &World<P>) -> bool
     requires { Whole w.now }
     ensures { (k : Control P P.State P.Shared) (t : ℕ) → Shows w.now k → result ≡ has_come k t AnyDeath }
 {

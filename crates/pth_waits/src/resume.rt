@@ -10,6 +10,8 @@ ghost use Rattle.pth_world.specs.Shows.{StandsFor};
 ghost use Rattle.pth_world.specs.Whole.{Whole};
 
 use crate::joins::join_again;
+use crate::rests::rest_again;
+use crate::ring_waits::wait_again;
 use crate::thread_ends::exit_again;
 use pth_base::call::Call;
 use pth_base::ids::Tid;
@@ -28,12 +30,18 @@ pub fn resume<P: Program>(w: &mut World<P>, t: Tid, marks: &mut Marks) -> Result
     ensures err { OnErr result ((s : State P P.State P.Shared) → StandsFor w.old s → IsCut marks.old marks.new (resumed P.functions t.0 s).told.marks) }
     ensures frame { IfOk result (λ n. Frame w.old w.new 0 (runs_after t.0 n) (yields_after n)) }
 {
-    match w.blocked(t) {
-        Some(blocked) => match blocked.call {
-            Call::Exit(value) => exit_again(w, t, value, marks),
-            Call::Join(n) => join_again(w, t, n, marks),
-            _ => unreachable!(),
-        },
-        None => Ok(Next::Waits),
+    let blocked = match w.blocked(t) {
+        Some(blocked) => blocked,
+        None => return Ok(Next::Waits),
+    };
+    let moment = blocked.moment;
+    match blocked.call {
+        Call::Exit(value) => exit_again(w, t, value, marks),
+        Call::Join(n) => join_again(w, t, n, marks),
+        Call::Nap(n) => rest_again(w, t, Call::Nap(n), moment, marks),
+        Call::Usleep(n) => rest_again(w, t, Call::Usleep(n), moment, marks),
+        Call::Sleep(n) => rest_again(w, t, Call::Sleep(n), moment, marks),
+        Call::Wait(e) => wait_again(w, t, e, marks),
+        _ => unreachable!(),
     }
 }

@@ -1,26 +1,52 @@
 //! Which blocked threads have what they wait for.
 
-ghost use Rattle.std.specs.Prelude.{◌≡◌};
-ghost use Rattle.pth_model.specs.Calls.{wakes as wakes_now};
-ghost use Rattle.pth_model.specs.State.{State};
-ghost use Rattle.pth_world.specs.Shows.{StandsFor};
+ghost use Rattle.std.specs.Prelude.{◌≡◌, ◌≢◌, ℕ};
+ghost use Rattle.pth_model.specs.Looks.{looks_at};
+ghost use Rattle.pth_model.specs.RingWaits.{awaited_events};
+ghost use Rattle.pth_model.specs.State.{Control};
+ghost use Rattle.pth_model.specs.declared.awaits.Awaits.TheVariants.{AnyDeath};
+ghost use Rattle.pth_threads.specs.Threads.{tid_at};
+ghost use Rattle.pth_waits.specs.Waking.{has_come, is_due};
+ghost use Rattle.pth_world.specs.Shows.{Shows};
 ghost use Rattle.pth_world.specs.Whole.{Whole};
 
-use crate::joins::{any_has_died, has_died};
-use pth_base::ids::Tid;
+use crate::joins::has_died;
+use crate::looks::look_at_ring;
+use pth_base::ids::Slot;
 use pth_base::program::Program;
 use pth_model::awaits::Awaits;
 use pth_world::world::World;
 
-/// Whether the call that blocks a thread has what it waits for.
-pub fn wakes<P: Program>(w: &World<P>, t: Tid) -> bool
-    requires { Whole w.now }
-    ensures { (s : State P P.State P.Shared) → StandsFor w.now s → result ≡ wakes_now P.functions t.0 s }
+// Whether what the thread at a slot waits for has come. `any_dead` tells whether a thread that can be joined has died.
+fn has_come<P: Program>(w: &World<P>, slot: Slot, awaits: Awaits, any_dead: bool) -> bool
+    requires whole { Whole w.now }
+    requires used { tid_at w.now.threads.records slot.0 ≢ 0 }
+    requires dead { (k : Control P P.State P.Shared) (t : ℕ) → Shows w.now k → any_dead ≡ has_come k t AnyDeath }
+    ensures { (k : Control P P.State P.Shared) → Shows w.now k → result ≡ has_come k (tid_at w.now.threads.records slot.0) awaits }
 {
-    match w.awaits(t) {
+    match awaits {
         Awaits::Nothing => false,
-        Awaits::Alone => w.is_alone(t),
+        Awaits::Alone => w.is_alone(w.thread_in(slot)),
         Awaits::Death(n) => has_died(w, n),
-        Awaits::AnyDeath => any_has_died(w),
+        Awaits::AnyDeath => any_dead,
+        Awaits::Moment(moment) => moment <= w.time(),
+        Awaits::Ring(_) => false,
+    }
+}
+
+/// Whether the blocked thread at a slot is to wake, where the events of the ring for which it waits are looked at, if it waits for
+/// one. `any_dead` tells whether a thread that can be joined has died.
+pub fn is_to_wake<P: Program>(w: &mut World<P>, slot: Slot, any_dead: bool) -> bool
+    requires whole { Whole w.old }
+    requires used { tid_at w.old.threads.records slot.0 ≢ 0 }
+    requires dead { (k : Control P P.State P.Shared) (t : ℕ) → Shows w.old k → any_dead ≡ has_come k t AnyDeath }
+    ensures shows { (k : Control P P.State P.Shared) → Shows w.old k → Shows w.new (looks_at k (awaited_events k (tid_at w.old.threads.records slot.0))) }
+    ensures wakes { (k : Control P P.State P.Shared) → Shows w.old k → result ≡ is_due k (tid_at w.old.threads.records slot.0) }
+    ensures made { w.new.events.made ≡ w.old.events.made }
+    ensures same { w.new ≡ record w.old { events = w.new.events } }
+{
+    match w.awaits_in(slot) {
+        Awaits::Ring(e) => look_at_ring(w, e),
+        awaits => has_come(w, slot, awaits, any_dead),
     }
 }

@@ -2,6 +2,7 @@ use Rattle.std.proofs.Common.{ℕ, ◌∙◌, Some, sym, ap, subst, rules}
 use Rattle.std.proofs.lemmas.Result.{on_ok_weaker}
 use Rattle.pth_model.specs.Calls.{blocked_from}
 use Rattle.pth_model.specs.Changes.{is_blocked_by}
+use Rattle.pth_model.specs.RingWaits.{ring_given, claims}
 use Rattle.pth_model.specs.Verdict.{no_pause}
 use Rattle.pth_world.specs.Shows.{Shows}
 use Rattle.pth_waits.proofs.Blocking.{waits_leads}
@@ -9,6 +10,7 @@ use Rattle.pth_waits.proofs.blocks.block.Goals as goal
 
 pub returns-clause-ok : goal.returns-clause-ok
 returns-clause-ok g c = on_ok_weaker c.push.result (λ told s st.
+    let k = claims c.args.t.0 (ring_given c.args.call) s.control in
     let begin = c.time-begin.ensures ∙ sym (ap (λ x. x.now) st.control.scheduler) in
-    let shows = subst (λ (n : ℕ). Shows c.block.new.self (is_blocked_by c.args.t.0 (Some (blocked_from n c.args.call no_pause)) s.control)) begin (c.block.ensures.shows s.control st.control) in
-    waits_leads _ s c.args.t.0 c.args.call _ _ c.requires.may st.resources shows (search rules)) c.push.ensures.ok
+    let shows = subst (λ (n : ℕ). Shows c.block.new.self (is_blocked_by c.args.t.0 (Some (blocked_from n c.args.call (record no_pause { moment = c.args.moment }))) k)) begin (c.block.ensures.shows k st.control) in
+    waits_leads _ s c.args.t.0 c.args.call _ _ _ c.requires.may st.resources shows (search rules)) c.push.ensures.ok

@@ -7,7 +7,8 @@ use Rattle.pth_model.specs.ThreadControl.{join_attempt}
 use Rattle.pth_model.specs.Verdict.{no_pause}
 use Rattle.pth_model.specs.declared.next.Next.TheVariants.{Done}
 use Rattle.pth_calls.proofs.Answers.{changed_leads, changed_then}
-use Rattle.pth_waits.proofs.Joining.{join_answers, join_waits, quiet-join}
+use Rattle.pth_waits.proofs.Blocking.{none_claimed, quiet-answered}
+use Rattle.pth_waits.proofs.Joining.{join_answers, join_waits}
 use Rattle.pth_waits.proofs.joins.begin_join.Goals as goal
 
 pub returns-in-None-clause-next : goal.returns-in-None-clause-next
@@ -22,7 +23,7 @@ returns-in-None-clause-ok g c s st =
     let verdict = (simp to_z-of_z at c.in-None.ensures.verdict) s st in
     let effect = (simp to_z-of_z at c.attempt.ensures.effect) s st in
     rw (c.requires.call, join_waits g.P.Program.functions s c.args.t.0 c.args.n verdict)
-    (changed_then c.attempt.new.w _ s (effect_of (join_attempt s c.args.t.0 c.args.n)) (waits_by c.args.t.0 (Join c.args.n) no_pause) _ _ st.resources effect (rw c.requires.call at c.in_ok-block-in-None.ensures.ok))
+    (changed_then c.attempt.new.w _ s (effect_of (join_attempt s c.args.t.0 c.args.n)) (waits_by c.args.t.0 (Join c.args.n) no_pause) _ _ st.resources effect (λ u su. (rw c.requires.call at c.in_ok-block-in-None.ensures.ok) u (none_claimed c.attempt.new.w c.args.t.0 (Join c.args.n) u refl su)))
 
 pub returns-clause-next : goal.returns-clause-next
 returns-clause-next g c s st =
@@ -36,4 +37,4 @@ returns-clause-ok g c s st =
     let verdict = (simp to_z-of_z at c.in-Some.ensures.verdict) s st in
     let effect = (simp to_z-of_z at c.attempt.ensures.effect) s st in
     rw (c.requires.call, join_answers g.P.Program.functions s c.args.t.0 c.args.n c.in-Some.answer verdict)
-    (changed_leads _ s (effect_of (join_attempt s c.args.t.0 c.args.n)) (Answered c.args.t (Join c.args.n) c.in-Some.answer) _ _ (quiet-join c.args.t.0 c.args.n c.in-Some.answer) st.resources effect (rw c.requires.call at c.in_ok-answer.ensures.ok))
+    (changed_leads _ s (effect_of (join_attempt s c.args.t.0 c.args.n)) (Answered c.args.t (Join c.args.n) c.in-Some.answer) _ _ (quiet-answered c.args.t.0 (Join c.args.n) c.in-Some.answer tt) st.resources effect (rw c.requires.call at c.in_ok-answer.ensures.ok))

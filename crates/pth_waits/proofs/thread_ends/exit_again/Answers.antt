@@ -2,41 +2,44 @@ use Rattle.std.proofs.Common.{◌≡◌, true, false, SFits, w64, to_z-of_z, rul
 use Rattle.std.proofs.lemmas.Result.{err_from_is_err_and}
 use Rattle.pth_base.specs.declared.call.Call.TheVariants.{Exit}
 use Rattle.pth_model.specs.Changes.{blocked_of}
-use Rattle.pth_model.specs.ThreadEnds.{must_wait}
+use Rattle.pth_model.specs.Rows.{row_of}
+use Rattle.pth_model.specs.ThreadEnds.{exit_attempt, must_wait}
 use Rattle.pth_world.proofs.Telling.{tells_leads}
-use Rattle.pth_waits.proofs.Exits.{again_ends, again_waits, held_by_exit}
-use Rattle.pth_waits.proofs.Blocking.{quiet-waits}
+use Rattle.pth_waits.proofs.Exits.{again_ends}
+use Rattle.pth_waits.proofs.Blocking.{held_by, quiet-waits, waits_again}
 use Rattle.pth_waits.proofs.thread_ends.exit_again.Goals as goal
 
 pub returns-then-must_wait-clause-next : goal.returns-then-must_wait-clause-next
+unfolding row_of
 returns-then-must_wait-clause-next g c s st =
-    let h = held_by_exit (blocked_of s.control c.args.t.0) c.args.t.0 c.args.value (c.requires.some s.control st.control) (c.requires.blocked s.control st.control) in
+    let h = held_by (blocked_of s.control c.args.t.0) c.args.t.0 (Exit c.args.value) (c.requires.some s.control st.control) (c.requires.blocked s.control st.control) in
     let waits : must_wait s.control c.args.t.0 ≡ true = search rules in
-    rw (again_waits g.P.Program.functions s c.args.t.0 c.args.value h.blocked h.has h.its h.may waits) refl
+    rw (waits_again g.P.Program.functions s c.args.t.0 (Exit c.args.value) h (exit_attempt s c.args.t.0 c.args.value) refl refl (rw waits refl) (rw waits refl)) refl
 
 pub returns-then-must_wait-clause-ok : goal.returns-then-must_wait-clause-ok
+unfolding row_of
 returns-then-must_wait-clause-ok g c s st =
     let f : SFits w64 c.args.value = search rules in
-    let h = held_by_exit (blocked_of s.control c.args.t.0) c.args.t.0 c.args.value (c.requires.some s.control st.control) (c.requires.blocked s.control st.control) in
+    let h = held_by (blocked_of s.control c.args.t.0) c.args.t.0 (Exit c.args.value) (c.requires.some s.control st.control) (c.requires.blocked s.control st.control) in
     let waits : must_wait s.control c.args.t.0 ≡ true = search rules in
-    rw (again_waits g.P.Program.functions s c.args.t.0 c.args.value h.blocked h.has h.its h.may waits) (tells_leads _ s _ _ _ (quiet-waits c.args.t.0 (Exit c.args.value) h.may_exit) st (search rules))
+    rw (waits_again g.P.Program.functions s c.args.t.0 (Exit c.args.value) h (exit_attempt s c.args.t.0 c.args.value) refl refl (rw waits refl) (rw waits refl)) (tells_leads _ s _ _ _ (quiet-waits c.args.t.0 (Exit c.args.value) h.may.call) st (search rules))
 
 pub returns-in_err-end_thread-clause-err : goal.returns-in_err-end_thread-clause-err
 returns-in_err-end_thread-clause-err g c =
     let p = err_from_is_err_and c.from_residual-in_err-end_thread.result c.from_residual-in_err-end_thread.ensures.1 in
     let f : SFits w64 c.args.value = search rules in
-    rw p.1 (λ s st. (let h = held_by_exit (blocked_of s.control c.args.t.0) c.args.t.0 c.args.value (c.requires.some s.control st.control) (c.requires.blocked s.control st.control) in let alone : must_wait s.control c.args.t.0 ≡ false = search rules in rw (again_ends g.P.Program.functions s c.args.t.0 c.args.value h.blocked h.has h.its alone) ((rw to_z-of_z at c.in_err-end_thread.ensures.err) s st)))
+    rw p.1 (λ s st. (let h = held_by (blocked_of s.control c.args.t.0) c.args.t.0 (Exit c.args.value) (c.requires.some s.control st.control) (c.requires.blocked s.control st.control) in let alone : must_wait s.control c.args.t.0 ≡ false = search rules in rw (again_ends g.P.Program.functions s c.args.t.0 c.args.value (record h.blocked { call = Exit c.args.value }) h.has refl alone) ((rw to_z-of_z at c.in_err-end_thread.ensures.err) s st)))
 
 pub returns-clause-next : goal.returns-clause-next
 returns-clause-next g c s st =
     let f : SFits w64 c.args.value = search rules in
-    let h = held_by_exit (blocked_of s.control c.args.t.0) c.args.t.0 c.args.value (c.requires.some s.control st.control) (c.requires.blocked s.control st.control) in
+    let h = held_by (blocked_of s.control c.args.t.0) c.args.t.0 (Exit c.args.value) (c.requires.some s.control st.control) (c.requires.blocked s.control st.control) in
     let alone : must_wait s.control c.args.t.0 ≡ false = search rules in
-    rw (again_ends g.P.Program.functions s c.args.t.0 c.args.value h.blocked h.has h.its alone, to_z-of_z) refl
+    rw (again_ends g.P.Program.functions s c.args.t.0 c.args.value (record h.blocked { call = Exit c.args.value }) h.has refl alone, to_z-of_z) refl
 
 pub returns-clause-ok : goal.returns-clause-ok
 returns-clause-ok g c s st =
     let f : SFits w64 c.args.value = search rules in
-    let h = held_by_exit (blocked_of s.control c.args.t.0) c.args.t.0 c.args.value (c.requires.some s.control st.control) (c.requires.blocked s.control st.control) in
+    let h = held_by (blocked_of s.control c.args.t.0) c.args.t.0 (Exit c.args.value) (c.requires.some s.control st.control) (c.requires.blocked s.control st.control) in
     let alone : must_wait s.control c.args.t.0 ≡ false = search rules in
-    rw (again_ends g.P.Program.functions s c.args.t.0 c.args.value h.blocked h.has h.its alone) ((rw to_z-of_z at c.in_ok-end_thread.ensures.ok) s st)
+    rw (again_ends g.P.Program.functions s c.args.t.0 c.args.value (record h.blocked { call = Exit c.args.value }) h.has refl alone) ((rw to_z-of_z at c.in_ok-end_thread.ensures.ok) s st)
