@@ -1,5 +1,5 @@
 -- A run ends with main's value where main is alone.
-use Rattle.std.proofs.Common.{◌≡◌, ℕ, ◌==◌, ◌&&◌, ◌||◌, not, ◌+◌, length, if◌then◌else◌, ℤ, pos, Bool, true, false, Option, Some, None, Result, Ok, Err, refl, sym, ap, ◌∙◌, subst, List, [], ◌∷◌, ◌++◌}
+use Rattle.std.proofs.Common.{◌≡◌, ℕ, ◌==◌, ◌&&◌, ◌||◌, not, ◌+◌, nat_lt, nat_le, length, if◌then◌else◌, ℤ, pos, Bool, true, false, Option, Some, None, Result, Ok, Err, refl, sym, ap, ◌∙◌, subst, List, [], ◌∷◌, ◌++◌}
 use Rattle.pth_base.proofs.Tables.{same_means}
 use Rattle.pth_base.specs.Program.{Functions}
 use Rattle.pth_base.specs.declared.call.Call.{Call}
@@ -13,7 +13,7 @@ use Rattle.pth_model.specs.declared.next.Next.{Next}
 use Rattle.pth_model.specs.declared.next.Next.TheVariants as next
 use Rattle.pth_model.specs.declared.progress.Progress.{Progress}
 use Rattle.pth_model.specs.Verdict.{Verdict, Says, Yields, Blocks, Ends, Kills, Pause, no_pause, waits, refused, says, done, by_result, ◌when◌otherwise◌, refused_as◌otherwise◌}
-use Rattle.pth_model.specs.State.{State, Control, Given, Turn, start, queue, present, main}
+use Rattle.pth_model.specs.State.{State, Control, Given, Turn, start, queue, present, main, now_of}
 use Rattle.pth_model.specs.Transition.{Piece, Went, tid, controlled}
 use Rattle.pth_base.specs.declared.answer.Answer.{Answer}
 use Rattle.pth_base.specs.declared.answer.Answer.TheVariants.{Int, Text, Fail}
@@ -23,18 +23,25 @@ use Rattle.pth_base.specs.declared.query.Query.{Query}
 use Rattle.pth_base.specs.declared.query.Query.TheVariants as query
 use Rattle.pth_model.specs.ThreadControl.{spawn, values_for, suspend, resume, yield, join_attempt, joined, to_join, thread, is_known, has_room, may_run}
 use Rattle.pth_model.specs.Living.{is_dead}
-use Rattle.pth_numbered.specs.Operands.{named, is_below, is_zero, ◌is◌, ◌is_from◌to◌}
+use Rattle.pth_numbered.specs.Operands.{named, number, is_below, is_zero, ◌is◌, ◌is_from◌to◌}
 use Rattle.pth_model.specs.Pass.{moment}
 use Rattle.pth_model.specs.LibraryControl.{kill, ctrl, running_count}
 use Rattle.pth_model.specs.AttributeHandling.{object, answer_of}
 use Rattle.pth_threads.specs.Attributes.{create_answer, of_answer, init_answer, set_answer, get_answer, destroy_answer}
 use Rattle.pth_model.specs.Changes.{blocked_of, goes_on, entry_of, or_nobody}
 use Rattle.pth_model.specs.Course.{Course}
-use Rattle.pth_model.specs.Row.{effect_of}
+use Rattle.pth_model.specs.Row.{Attempt, effect_of}
 use Rattle.pth_model.specs.Rows.{row_of}
 use Rattle.pth_model.specs.Ending.{ending}
 use Rattle.pth_model.specs.ThreadEnds.{is_alone, must_wait}
-use Rattle.pth_model.specs.Calls.{begun, begun_by, resumed, resumed_by, tried_by}
+use Rattle.pth_model.specs.Calls.{begun, begun_by, resumed, resumed_by, tried_by, unless_come, interrupted}
+use Rattle.pth_model.specs.EventHandling.{chain, wait, number_or_none, status_number}
+use Rattle.pth_model.specs.RingWaits.{ring_given, has_event_come}
+use Rattle.pth_model.specs.Times.{rest, timeout, is_negative, length_of, moment_after}
+use Rattle.pth_ring.specs.Rings.{make_answer, chain_answer, concat_answer, isolate_answer, walk_answer, status_answer, kind_answer, free_answer, claim_answer, settled_in}
+use Rattle.pth_base.specs.declared.event.EvLine.{EvLine}
+use Rattle.pth_base.specs.declared.event.EvLine.TheVariants as line
+use Rattle.pth_base.specs.declared.ids.EventId.{EventId}
 use Rattle.pth_model.specs.Part.{Part, Move, Take, Step, Close, Halt, next_part, part, part_by, moves, moves_by, takes, takes_by, readies_new, chosen, closes, steps, steps_by, steps_on, turn_after, gives_up, ends_run}
 use Rattle.pth_model.specs.Run.{run, IsBetween}
 use Rattle.pth_model.proofs.Runs.{parts-more, between-none, between-more}
@@ -141,6 +148,34 @@ module _ {P S H : Type 0} (f : P → Functions S H) (s : State P S H) (t : ℕ) 
   ctrl_on query.Suspended = says_on (Int (pos (length (queue s.control queues.Suspended))))
   ctrl_on query.Dead = says_on (Int (pos (length (queue s.control queues.Dead))))
 
+  rest_on : (unit : ℕ) (n : ℤ) (answer : ℕ) → EndsNot (rest s unit n answer).begin.verdict
+  rest_on unit n answer =
+      let pause : Pause = record no_pause { moment = moment_after (now_of s.control) (length_of unit n) } in
+      refused_on EINVAL (is_negative n) (says answer when is_zero n otherwise Blocks pause) (when_on (says answer) (is_zero n) (Blocks pause) (says_on (Int (pos answer))) (blocks_on pause))
+
+  timeout_on : (n : ℤ) → EndsNot (timeout s n).begin.verdict
+  timeout_on n =
+      let at = Int (pos (moment_after (now_of s.control) (length_of 1 n))) in
+      refused_on EINVAL (is_negative n) (Says at) (says_on at)
+
+  -- an answer or a wait
+  says_or_waits_on : (n : ℕ) (b : Bool) → EndsNot (says n when b otherwise waits)
+  says_or_waits_on n b = when_on (says n) b waits (says_on (Int (pos n))) (blocks_on no_pause)
+
+  made_on : (at : ℤ) (r : Result ℕ Errno) → EndsNot (refused EINVAL when is_negative at otherwise by_result says r)
+  made_on at r = refused_on EINVAL (is_negative at) (by_result says r) (result_on (λ (n : ℕ). Int (pos n)) r)
+
+  chain_on : (e : ℤ) (l : EvLine) → EndsNot (chain s e l).begin.verdict
+  chain_on e (line.Time at) v h = made_on at (chain_answer s.control.events (number e)) v h
+  chain_on e l v h = cc h
+
+  chain_again_on : (e : ℤ) (l : EvLine) (b : Blocked) → EndsNot ((chain s e l).again b).verdict
+  chain_again_on e (line.Time at) b v h = cc h
+  chain_again_on e l b v h = cc h
+
+  wait_on : (e : ℤ) → EndsNot (wait s e).begin.verdict
+  wait_on e = part_on (claim_answer s.control.events (number e)) waits (blocks_on no_pause)
+
   ctrl_again_on : (q : Query) (b : Blocked) → EndsNot ((ctrl s q).again b).verdict
   ctrl_again_on query.Threads b v h = cc h
   ctrl_again_on q b v h = cc h
@@ -173,6 +208,19 @@ module _ {P S H : Type 0} (f : P → Functions S H) (t : ℕ) (v : ℤ) where
   exits s (call.Resume n) h = absurd (resume_on f s t n v h)
   exits s (call.Yield n) h = absurd (yield_on f s t n v h)
   exits s (call.Join n) h = absurd (join_on f s t n v h)
+  exits s (call.Nap n) h = absurd (rest_on f s t 1 n 1 v h)
+  exits s (call.Usleep n) h = absurd (rest_on f s t 1 n 0 v h)
+  exits s (call.Sleep n) h = absurd (rest_on f s t 1000000 n 0 v h)
+  exits s (call.Timeout n) h = absurd (timeout_on f s t n v h)
+  exits s (call.EvTime at) h = absurd (made_on f s t at (make_answer s.control.events) v h)
+  exits s (call.Chain e l) h = absurd (chain_on f s t e l v h)
+  exits s (call.EvConcat e g) h = absurd (result_on (λ (u : Unit {0}). Int e) (concat_answer s.control.events (number e) (number g)) v h)
+  exits s (call.EvIsolate e) h = absurd (result_on (λ o. Int (pos (number_or_none o))) (isolate_answer s.control.events (number e)) v h)
+  exits s (call.EvWalk e forward until) h = absurd (result_on (λ (x : EventId). Int (pos x.0)) (walk_answer s.control.events (number e) forward until) v h)
+  exits s (call.EvStatus e) h = absurd (result_on (λ x. Int (pos (status_number x))) (status_answer s.control.events (number e)) v h)
+  exits s (call.EvKind e) h = absurd (result_on (λ (n : ℕ). Int (pos n)) (kind_answer s.control.events (number e)) v h)
+  exits s (call.EvFree e all) h = absurd (done_on (free_answer s.control.events (number e)) v h)
+  exits s (call.Wait e) h = absurd (wait_on f s t e v h)
   exits s c h = absurd (cc h)
 
   exits_again : (s : State P S H) (b : Blocked) (c : Call) → ((row_of f s t c).again b).verdict ≡ Ends v → (c ≡ call.Exit v) × (must_wait s.control t ≡ false)
@@ -180,6 +228,11 @@ module _ {P S H : Type 0} (f : P → Functions S H) (t : ℕ) (v : ℤ) where
   exits_again s b (call.Exit x) h = let e = exit_on (must_wait s.control t) x v h in (ap call.Exit e.0, e.1)
   exits_again s b (call.Ctrl q) h = absurd (ctrl_again_on f s t q b v h)
   exits_again s b (call.Join n) h = absurd (join_on f s t n v h)
+  exits_again s b (call.Nap n) h = absurd (says_or_waits_on f s t 1 (nat_le b.moment (now_of s.control)) v h)
+  exits_again s b (call.Usleep n) h = absurd (says_or_waits_on f s t 0 (nat_le b.moment (now_of s.control)) v h)
+  exits_again s b (call.Sleep n) h = absurd (says_or_waits_on f s t 0 (nat_le b.moment (now_of s.control)) v h)
+  exits_again s b (call.Wait e) h = absurd (says_or_waits_on f s t (settled_in s.control.events (number e)) (nat_lt 0 (settled_in s.control.events (number e))) v h)
+  exits_again s b (call.Chain e l) h = absurd (chain_again_on f s t e l b v h)
   exits_again s b c h = absurd (cc h)
 
   begun_verdict : (c : Call) (w : Verdict) (a : Piece P S H) (s : State P S H) → (begun_by f t c w a s).next ≡ next.Ended v → w ≡ Ends v
@@ -195,6 +248,18 @@ module _ {P S H : Type 0} (f : P → Functions S H) (t : ℕ) (v : ℤ) where
   tried_verdict b (Blocks p) s e = absurd (cc e)
   tried_verdict b (Ends x) s e = (let same : x ≡ v = cc in ap Ends same)
   tried_verdict b Kills s e = absurd (cc e)
+
+  -- what blocks is interrupted, and nothing else
+  come_verdict : (come : Bool) (a : Attempt P S H) → (unless_come come a).verdict ≡ Ends v → a.verdict ≡ Ends v
+  come_verdict false a e = e
+  come_verdict true a e = by_verdict a.verdict e
+    where
+      by_verdict : (w : Verdict) → interrupted w ≡ Ends v → w ≡ Ends v
+      by_verdict (Says x) h = absurd (cc h)
+      by_verdict (Yields x) h = absurd (cc h)
+      by_verdict (Blocks p) h = absurd (cc h)
+      by_verdict (Ends x) h = h
+      by_verdict Kills h = absurd (cc h)
 
   ending_told : (s : State P S H) → (ending f t v s).marks ≡ End (tid t) v ∷ []
   unfolding ending
@@ -227,8 +292,9 @@ module _ {P S H : Type 0} (f : P → Functions S H) (t : ℕ) (v : ℤ) where
       by_blocked : (o : Option Blocked) → blocked_of s.control t ≡ o → (resumed_by f t o s).next ≡ next.Ended v → EndsIt s.control (resumed f t s).told.marks
       by_blocked None at h = absurd (cc h)
       by_blocked (Some b) at h =
-          let a = (row_of f s t b.call).again b in
-          let x = exits_again s b b.call (tried_verdict b a.verdict (effect_of a s).state h) in
+          let come = has_event_come s.control.events (ring_given b.call) in
+          let a = unless_come come ((row_of f s t b.call).again b) in
+          let x = exits_again s b b.call (come_verdict come ((row_of f s t b.call).again b) (tried_verdict b a.verdict (effect_of a s).state h)) in
           record { free = x.1; told = ap (λ (w : Went P S H). w.told.marks) (again_ends f s t v b at x.0 x.1) ∙ ending_told s }
 
   steps_ends : (s : State P S H) → (steps_on f t s).next ≡ next.Ended v → EndsIt s.control (steps_on f t s).told.marks

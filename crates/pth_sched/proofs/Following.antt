@@ -1,18 +1,22 @@
 -- How a machine that makes the parts of a run follows it.
-use Rattle.std.proofs.Common.{◌≡◌, ◌≢◌, ℕ, ◌+◌, ◌<◌, ◌≤◌, List, [], ◌++◌, Bool, true, false, sym, ap, ◌∙◌, arith, append_assoc, append-nil, subst}
+use Rattle.std.proofs.Common.{◌≡◌, ◌≢◌, ℕ, ◌+◌, ◌<◌, ◌≤◌, List, [], ◌++◌, Bool, true, false, refl, sym, ap, ◌∙◌, arith, append_assoc, append-nil, subst}
 use Rattle.pth_base.specs.Program.{Functions}
 use Rattle.pth_base.specs.declared.mark.Mark.{Mark}
-use Rattle.pth_base.specs.declared.outcome.Outcome.TheVariants.{Running}
+use Rattle.pth_base.specs.declared.outcome.Outcome.TheVariants.{Running, OutOfMemory}
 use Rattle.pth_model.specs.Course.{Course}
-use Rattle.pth_model.specs.State.{Given, start}
+use Rattle.pth_model.specs.State.{Given, Turn, start}
 use Rattle.pth_model.specs.Part.{part}
 use Rattle.pth_model.specs.Run.{run, stops_at, IsBetween}
 use Rattle.pth_model.proofs.Runs.{parts-more, between-none, between-more, none-more}
 use Rattle.pth_base.specs.Cut.{IsCut}
-use Rattle.pth_sched.specs.MachineOf.{MachineOf}
-use Rattle.pth_sched.specs.Running.{Stands, StandsAt, Makes, FollowsUntil, BreaksOffBefore, GoesOn}
+use Rattle.pth_world.specs.Sound.{IsSound}
+use Rattle.pth_world.specs.StateOf.{state_of}
+use Rattle.pth_world.proofs.StateOf.{stands_for_state}
+use Rattle.pth_sched.specs.MachineOf.{MachineOf, left, left_at, machine_stops}
+use Rattle.pth_sched.specs.Running.{Stands, StandsAt, Makes, MakesPart, FollowsUntil, BreaksOffBefore, GoesOn}
 use Rattle.pth_sched.proofs.Keeping.{stops_ended}
 use Rattle.pth_sched.proofs.Showing.{stops_is}
+use Rattle.pth_sched.proofs.Stopping.{far, near}
 
 module _ {P S H : Type 0} (f : P → Functions S H) (g : Given P) (halts : ℕ → Bool) (i : ℕ) where
   -- from part i the machine came to a part before which none halts, and what is told between was appended
@@ -82,6 +86,35 @@ module _ {P S H : Type 0} (f : P → Functions S H) (g : Given P) (halts : ℕ �
           whole_is = append_assoc r.told c.first c.rest ∙ ap (λ (x : List Mark). r.told ++ x) c.whole_is;
         };
       }
+
+-- the part that comes next is made
+pub made_part : {P S H : Type 0} (f : P → Functions S H) (g : Given P) (i : ℕ) (m v : MachineOf P S H) (old new : List Mark) → ((c : Course P S H) → Stands m c → Makes v old new (part f c.turn c.state)) → StandsAt f g i m → MakesPart f g i v old new
+made_part f g i m v old new makes st =
+    let here = run f g i in
+    let made = makes here st in
+    record {
+      stands = subst (λ x. Stands v x) (sym (parts-more f (start f g) i)) (record { world = made.stands.world; turn = made.stands.turn; memory = made.stands.memory });
+      told = (part f here.turn here.state).marks;
+      between = between-more f g i i [] (between-none f g i);
+      appended = made.tells;
+    }
+
+-- ---- each part comes nearer to where the run stops
+
+-- the machine is as far as the course where it stands
+left_is : {P S H : Type 0} (to : ℕ) (m : MachineOf P S H) (c : Course P S H) → Stands m c → left to m ≡ far to c
+left_is to m c st = ap (λ (x : Turn). left_at to x m.world.scheduler) (sym st.turn) ∙ ap (left_at to c.turn) (sym st.world.control.scheduler)
+
+still_runs : {P S H : Type 0} (to : ℕ) (m : MachineOf P S H) → machine_stops to m ≡ false → m.turn.outcome ≢ OutOfMemory
+still_runs to m on ended = (let halt = stops_ended to m (λ runs. cc (runs, ended)) in cc (halt, on))
+
+pub made_less : {P S H : Type 0} (f : P → Functions S H) (m v : MachineOf P S H) (old new : List Mark) → IsSound m.world.threads → ((c : Course P S H) → Stands m c → Makes v old new (part f c.turn c.state)) → (to : ℕ) → machine_stops to m ≡ false → left to v < left to m
+made_less {P = P} {S = S} {H = H} f m v old new sound makes to on =
+    let c : Course P S H = record { state = state_of m.world; turn = m.turn; marks = [] } in
+    let st : Stands m c = record { world = stands_for_state m.world sound; turn = refl; memory = still_runs to m on } in
+    let made = makes c st in
+    let nearer = near f to c (sym (stops_is to m c st) ∙ on) in
+    rw (left_is to v (part f c.turn c.state) made.stands, left_is to m c st) nearer
 
 -- after an outcome that ended the run a machine stays where it is
 pub stays : {P S H : Type 0} (f : P → Functions S H) (g : Given P) (to i : ℕ) (m : MachineOf P S H) (old : List Mark) → m.turn.outcome ≢ Running → StandsAt f g i m → GoesOn f g to i m old old

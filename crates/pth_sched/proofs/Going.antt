@@ -2,14 +2,12 @@
 use Rattle.std.proofs.Common.{◌≡◌, ℕ, ◌+◌, ◌≤◌, Bool, true, false, Result, Ok, Err, OnOk, List, [], Option, Some, None, IsSome, IfSome, option_map, length, inl, inr, refl, sym, ◌∙◌, ap, subst, arith}
 use Rattle.std.specs.Option.{option_or}
 use Rattle.pth_base.specs.declared.ids.Tid.{Tid}
-use Rattle.pth_base.specs.declared.outcome.Outcome.TheVariants.{Stalled}
 use Rattle.pth_queue.specs.declared.queue.Queue.{Queue}
 use Rattle.pth_queue.specs.declared.queue.Queue.TheVariants as queue
 use Rattle.pth_queue.specs.declared.ranked.Ranked.{Ranked}
 use Rattle.pth_queue.specs.Ranking.{head_of, holds}
 use Rattle.pth_queue.specs.Queues.{QueuesOf, queue_of}
 use Rattle.pth_queue.proofs.Sets.{holds-queue_of}
-use Rattle.pth_threads.specs.Attributes.{AttrsOf}
 use Rattle.pth_threads.specs.Threads.{ThreadsOf, slot_of, number_of}
 use Rattle.pth_model.specs.declared.next.Next.{Next}
 use Rattle.pth_model.specs.declared.next.Next.TheVariants as next
@@ -17,7 +15,7 @@ use Rattle.pth_model.specs.Part.{chosen, turn_after}
 use Rattle.pth_model.specs.State.{Scheduler, Turn}
 use Rattle.pth_world.specs.World.{WorldOf, ThreadsBySlot}
 use Rattle.pth_world.specs.Frame.{Frame, Names, runs_after, yields_after}
-use Rattle.pth_world.specs.Numbering.{HasGiven}
+use Rattle.pth_world.specs.Numbering.{HasGiven, GivesNone}
 use Rattle.pth_world.specs.Ranks.{IsUnder}
 use Rattle.pth_world.specs.Sound.{IsKnown}
 use Rattle.pth_world.specs.Whole.{Whole, IsIn, IsRunnable, OfNew, OfReady, WaitsToRun}
@@ -80,13 +78,14 @@ module _ {P S H : Type 0} where
   -- ---- frames
 
   -- the program's step leaves who stands where, and who is named
-  pub stepped_frame : (w m v : WorldOf P S H) (r : Option ℕ) (yields : Bool) → Whole m → m.scheduler ≡ w.scheduler → m.attributes ≡ w.attributes → m.threads.records ≡ w.threads.records → m.threads.queues ≡ w.threads.queues → Frame m v 1 r yields → Frame w v 1 r yields
-  stepped_frame w m v r yields whole scheduler attributes records queues frame = frame_then 0 1 w m v m.scheduler.running r yields (record {
+  pub stepped_frame : (w m v : WorldOf P S H) (r : Option ℕ) (yields : Bool) → Whole m → m.scheduler ≡ w.scheduler → GivesNone w m → m.threads.queues ≡ w.threads.queues → Frame m v 1 r yields → Frame w v 1 r yields
+  stepped_frame w m v r yields whole scheduler none queues frame = frame_then 0 1 w m v m.scheduler.running r yields (record {
     whole = whole;
     runs = refl;
     made = record {
-      threads = (let n : m.threads.records.made ≡ w.threads.records.made = ap (λ (x : ThreadsOf). x.made) records in omega arith);
-      objects = (let n : m.attributes.made ≡ w.attributes.made = ap (λ (x : AttrsOf). x.made) attributes in omega arith);
+      threads = (let n = none.threads in omega arith);
+      objects = (let n = none.objects in omega arith);
+      events = (let n = none.events in omega arith);
     };
     ranks = record {
       under = λ roof low under. subst (λ (x : QueuesOf). IsUnder roof x.ready) (sym queues) under;
@@ -130,19 +129,20 @@ on_ok_four (Err e) w x y z f = tt
 
 module _ {P S H : Type 0} (m v : MachineOf P S H) (going : IsGoing m) where
   -- no number is given between turns
-  given_still : v.world.threads.records.made ≡ m.world.threads.records.made → v.world.attributes ≡ m.world.attributes → v.turn.steps ≡ m.turn.steps → HasGiven (v.turn.steps + 1) v.world
-  given_still made objects steps = record {
-    threads = (let a = going.made.threads in omega arith);
-    objects = (let a = going.made.objects in let n : v.world.attributes.made ≡ m.world.attributes.made = ap (λ (x : AttrsOf). x.made) objects in omega arith);
+  given_still : GivesNone m.world v.world → v.turn.steps ≡ m.turn.steps → HasGiven (v.turn.steps + 1) v.world
+  given_still none steps = record {
+    threads = (let a = going.made.threads in let n = none.threads in omega arith);
+    objects = (let a = going.made.objects in let n = none.objects in omega arith);
+    events = (let a = going.made.events in let n = none.events in omega arith);
   }
 
   -- a thread is dispatched, and nobody is named any longer
-  pub take_going : (t : ℕ) → m.world.scheduler.running ≡ None → Whole v.world → v.world.scheduler.running ≡ Some t → v.world.scheduler.preferred ≡ None → v.world.threads.records.made ≡ m.world.threads.records.made → v.world.attributes ≡ m.world.attributes → v.turn.gave ≡ None → v.turn.turns ≡ m.turn.turns + 1 → v.turn.steps ≡ m.turn.steps → IsGoing v
-  take_going t nobody whole runs unnamed made objects gave turns steps = record {
+  pub take_going : (t : ℕ) → m.world.scheduler.running ≡ None → Whole v.world → v.world.scheduler.running ≡ Some t → v.world.scheduler.preferred ≡ None → GivesNone m.world v.world → v.turn.gave ≡ None → v.turn.turns ≡ m.turn.turns + 1 → v.turn.steps ≡ m.turn.steps → IsGoing v
+  take_going t nobody whole runs unnamed gives gave turns steps = record {
     whole = whole;
     preferred = subst (λ (o : Option ℕ). IfSome o (λ u. WaitsToRun v.world.threads u)) (sym unnamed) tt;
     unnamed = λ none some. unnamed;
-    made = given_still made objects steps;
+    made = given_still gives steps;
     turns = (let a = going.between nobody in omega arith);
     over = subst (λ (o : Option ℕ). IfSome o (λ g. v.turn.turns ≤ v.turn.steps)) (sym gave) tt;
     own = subst (λ (o : Option ℕ). IfSome o (λ g. IfSome v.world.scheduler.running (λ r. r ≡ g))) (sym gave) tt;
@@ -167,6 +167,7 @@ module _ {P S H : Type 0} (m v : MachineOf P S H) (going : IsGoing m) where
         made = record {
           threads = (let a = going.made.threads in let b = frame.made.threads in let c : v.world.threads.records.made ≡ w.threads.records.made = ap (λ (k : WorldOf P S H). k.threads.records.made) same in omega arith);
           objects = (let a = going.made.objects in let b = frame.made.objects in let c : v.world.attributes.made ≡ w.attributes.made = ap (λ (k : WorldOf P S H). k.attributes.made) same in omega arith);
+          events = (let a = going.made.events in let b = frame.made.events in let c : v.world.events.made ≡ w.events.made = ap (λ (k : WorldOf P S H). k.events.made) same in omega arith);
         };
         turns = omega arith;
         over = if_always v.turn.gave (v.turn.turns ≤ v.turn.steps) fewer;
@@ -175,20 +176,32 @@ module _ {P S H : Type 0} (m v : MachineOf P S H) (going : IsGoing m) where
       }
 
   -- a turn is over, and who is named goes on to wait
-  pub close_going : (t : ℕ) → m.turn.gave ≡ Some t → Whole v.world → v.world.scheduler.running ≡ None → IfSome v.world.scheduler.preferred (λ u. WaitsToRun v.world.threads u) → v.world.threads.records.made ≡ m.world.threads.records.made → v.world.attributes ≡ m.world.attributes → v.turn.gave ≡ None → v.turn.turns ≡ m.turn.turns → v.turn.steps ≡ m.turn.steps → IsGoing v
-  close_going t over whole nobody named made objects gave turns steps =
+  pub close_going : (t : ℕ) → m.turn.gave ≡ Some t → Whole v.world → v.world.scheduler.running ≡ None → IfSome v.world.scheduler.preferred (λ u. WaitsToRun v.world.threads u) → GivesNone m.world v.world → v.turn.gave ≡ None → v.turn.turns ≡ m.turn.turns → v.turn.steps ≡ m.turn.steps → IsGoing v
+  close_going t over whole nobody named gives gave turns steps =
       let fewer : m.turn.turns ≤ m.turn.steps = subst (λ (o : Option ℕ). IfSome o (λ g. m.turn.turns ≤ m.turn.steps)) over going.over in
       record {
         whole = whole;
         preferred = named;
         unnamed = λ none some. (let rests = subst (λ (o : Option ℕ). IsSome o) nobody some in absurd (cc rests));
-        made = given_still made objects steps;
+        made = given_still gives steps;
         turns = omega arith;
         over = subst (λ (o : Option ℕ). IfSome o (λ g. v.turn.turns ≤ v.turn.steps)) (sym gave) tt;
         own = subst (λ (o : Option ℕ). IfSome o (λ g. IfSome v.world.scheduler.running (λ r. r ≡ g))) (sym gave) tt;
         between = λ none. omega arith;
       }
 
--- a run that is stalled
-pub stall_going : {P S H : Type 0} (m : MachineOf P S H) → IsGoing m → IsGoing (record m { turn = record m.turn { outcome = Stalled } })
-stall_going m going = record { whole = going.whole; preferred = going.preferred; unnamed = going.unnamed; made = going.made; turns = going.turns; over = going.over; own = going.own; between = going.between }
+  -- what is made leaves the turn, and who runs and is named
+  pub still_going : Whole v.world → v.world.scheduler.running ≡ m.world.scheduler.running → v.world.scheduler.preferred ≡ m.world.scheduler.preferred → GivesNone m.world v.world → ((u : ℕ) → WaitsToRun m.world.threads u → WaitsToRun v.world.threads u) → v.turn ≡ m.turn → IsGoing v
+  still_going whole running named gives stays turn =
+      let turns = ap (λ (x : Turn). x.turns) turn in
+      let steps = ap (λ (x : Turn). x.steps) turn in
+      record {
+        whole = whole;
+        preferred = named_on m.world.scheduler.preferred v.world.scheduler.preferred m.world.threads v.world.threads named stays going.preferred;
+        unnamed = λ none some. named ∙ going.unnamed (ap (λ (x : Turn). x.gave) (sym turn) ∙ none) (subst (λ (o : Option ℕ). IsSome o) running some);
+        made = given_still gives steps;
+        turns = (let a = going.turns in omega arith);
+        over = subst (λ (x : Turn). IfSome x.gave (λ g. x.turns ≤ x.steps)) (sym turn) going.over;
+        own = subst (λ (x : Turn). IfSome x.gave (λ g. IfSome v.world.scheduler.running (λ r. r ≡ g))) (sym turn) (subst (λ (o : Option ℕ). IfSome m.turn.gave (λ g. IfSome o (λ r. r ≡ g))) (sym running) going.own);
+        between = λ nobody. (let a = going.between (sym running ∙ nobody) in omega arith);
+      }

@@ -12,11 +12,13 @@ use Rattle.pth_model.specs.State.{Given, Scheduler, start, no_turn}
 use Rattle.pth_model.specs.Run.{parts}
 use Rattle.pth_world.specs.Shows.{StandsFor}
 use Rattle.pth_world.specs.Sound.{IsKnown}
+use Rattle.pth_world.specs.Numbering.{GivesNone}
 use Rattle.pth_world.specs.Touches.{KeepsRest}
+use Rattle.pth_threads.specs.Attributes.{AttrsOf}
 use Rattle.pth_world.specs.Whole.{Whole, IsIn, WaitsToRun}
 use Rattle.pth_world.specs.World.{WorldOf, ThreadsBySlot}
 use Rattle.pth_sched.specs.MachineOf.{MachineOf, IsGoing, machine_stops, machine_stops_by}
-use Rattle.pth_sched.specs.Running.{StandsAt}
+use Rattle.pth_sched.specs.Running.{StandsAt, Keeps, Rests}
 
 -- a slot that leaves the new queue makes it shorter
 shorter_by : (qs x : QueuesOf) (rank : ℤ) (o : Option ℕ) → IsSome o → IfSome o (λ u. queue_of u qs ≡ Some queue.New) → IfSome o (λ u. x ≡ entered queue.Ready rank u (without u qs)) → length x.new < length qs.new
@@ -40,13 +42,13 @@ pub some_new : {S : Type 0} (x : ThreadsBySlot S) (t : ℕ) → IsKnown x t → 
 some_new x t known stands = some_by x.queues (slot_of x.records t) known stands
 
 -- a world that stands for the start of a run
-pub start_going : {P S H : Type 0} (f : P → Functions S H) (w : WorldOf P S H) (given : Given P) → StandsFor w (start f given) → Whole w → w.threads.records.made ≡ 1 → w.attributes.made ≡ 0 → IsGoing (record { world = w; turn = no_turn })
+pub start_going : {P S H : Type 0} (f : P → Functions S H) (w : WorldOf P S H) (given : Given P) → StandsFor w (start f given) → Whole w → w.threads.records.made ≡ 1 → w.attributes.made ≡ 0 → w.events.made ≡ 0 → IsGoing (record { world = w; turn = no_turn })
 unfolding start
-start_going f w given st whole one none = let nobody : w.scheduler.preferred ≡ None = sym (ap (λ (x : Scheduler). x.preferred) st.control.scheduler) in record {
+start_going f w given st whole one none no_events = let nobody : w.scheduler.preferred ≡ None = sym (ap (λ (x : Scheduler). x.preferred) st.control.scheduler) in record {
   whole = whole;
   preferred = subst (λ (o : Option ℕ). IfSome o (λ u. WaitsToRun w.threads u)) (sym nobody) tt;
   unnamed = λ gave runs. nobody;
-  made = record { threads = omega arith; objects = omega arith };
+  made = record { threads = omega arith; objects = omega arith; events = omega arith };
   turns = omega arith;
   over = tt;
   own = tt;
@@ -65,10 +67,16 @@ start_nobody f w given st = sym (ap (λ (x : Scheduler). x.running) st.control.s
 -- what two changes in a row leave as it was
 module _ {P S H : Type 0} (w : WorldOf P S H) where
   pub scheduler_first : KeepsRest w w
-  scheduler_first = record { program = refl; attributes = refl; scheduler = refl }
+  scheduler_first = record { program = refl; attributes = refl; events = refl; scheduler = refl }
 
   pub scheduler_then : (m v : WorldOf P S H) → KeepsRest w m → KeepsRest m v → KeepsRest w v
-  scheduler_then m v a b = record { program = b.program ∙ a.program; attributes = b.attributes ∙ a.attributes; scheduler = b.scheduler ∙ a.scheduler }
+  scheduler_then m v a b = record { program = b.program ∙ a.program; attributes = b.attributes ∙ a.attributes; events = b.events ∙ a.events; scheduler = b.scheduler ∙ a.scheduler }
+
+  pub gives_rest : (v : WorldOf P S H) → KeepsRest w v → v.threads.records.made ≡ w.threads.records.made → GivesNone w v
+  gives_rest v rest made = record { threads = made; objects = ap (λ (x : AttrsOf). x.made) rest.attributes; events = rest.events }
+
+  pub gives_then : (m v : WorldOf P S H) → GivesNone w m → GivesNone m v → GivesNone w v
+  gives_then m v a b = record { threads = b.threads ∙ a.threads; objects = b.objects ∙ a.objects; events = b.events ∙ a.events }
 
 -- three facts of a call that went well
 pub on_ok_three : {A E : Type 0} {X Y Z Q : Type 0} (r : Result A E) → OnOk r X → OnOk r Y → OnOk r Z → (X → Y → Z → Q) → OnOk r Q
@@ -93,3 +101,14 @@ stops_ended to m ended = by_cases m.turn.gave m.world.scheduler.running m.turn.o
     by_cases None None Killed not = refl
     by_cases None None Stalled not = refl
     by_cases None None OutOfMemory not = refl
+
+-- where a run stops and nobody runs, nobody has given up control
+stopped_closed : (to steps : ℕ) (g : Option ℕ) → machine_stops_by to steps g None Running ≡ true → g ≡ None
+stopped_closed to steps None halt = refl
+stopped_closed to steps (Some t) halt = absurd (cc halt)
+
+pub stop_rests : {P S H : Type 0} (to : ℕ) (m : MachineOf P S H) → machine_stops to m ≡ true → Keeps m → Rests m
+stop_rests to m halt keeps = record {
+  keeps = keeps;
+  closed = λ goes nobody. stopped_closed to m.turn.steps m.turn.gave (subst (λ (o : Outcome). machine_stops_by to m.turn.steps m.turn.gave None o ≡ true) goes (subst (λ (r : Option ℕ). machine_stops_by to m.turn.steps m.turn.gave r m.turn.outcome ≡ true) nobody halt));
+}

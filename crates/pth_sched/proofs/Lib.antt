@@ -1,3 +1,4 @@
+pub mod Counting
 pub mod Cutting
 pub mod Endings
 pub mod Following
@@ -5,10 +6,12 @@ pub mod Going
 pub mod Keeping
 pub mod Listing
 pub mod Living
+pub mod Moving
 pub mod Parts
 pub mod Readying
 pub mod Roofs
 pub mod Showing
 pub mod Stopping
+pub mod Times
 pub mod Turning
 pub mod Waking

@@ -1,22 +1,28 @@
--- The list of the threads to wake, along a walk over the waiting queue.
-use Rattle.std.proofs.Common.{◌≡◌, ℕ, ◌+◌, Bool, true, false, cond, if◌then◌else◌, List, [], ◌∷◌, ◌++◌, filter, Option, Some, None, refl, sym, ◌∙◌, ap, append_assoc, append-nil}
-use Rattle.std.proofs.lemmas.List.{map-append}
+-- The waiting threads are gone over: the events of their rings are looked at, and those that are due are listed.
+use Rattle.std.proofs.Common.{◌≡◌, ◌∙◌, ℕ, Bool, true, false, cond, ◌||◌, if◌then◌else◌, List, [], ◌∷◌, ◌++◌, filter, flat_map, Option, Some, None, option_map, refl, sym, ap, ap₂, subst, ◌==◌, append_assoc, append-nil}
+use Rattle.std.specs.List.{list_any}
+use mathlib.Core.Path.{fun_ext}
 use Rattle.pth_base.specs.Program.{Functions}
-use Rattle.pth_base.specs.declared.ids.Tid.{Tid}
-use Rattle.pth_queue.specs.declared.ranked.Ranked.{Ranked}
-use Rattle.pth_queue.specs.declared.queue.Queue.TheVariants as queues
-use Rattle.pth_queue.specs.Ranking.{head_of}
-use Rattle.pth_model.specs.State.{State, queue}
-use Rattle.pth_model.specs.Calls.{wakes}
-use Rattle.pth_model.specs.Changes.{holders}
-use Rattle.pth_model.specs.Pass.{to_wake}
+use Rattle.pth_ring.specs.declared.event.Event.{Event}
+use Rattle.pth_ring.specs.Arena.{events_of}
+use Rattle.pth_ring.specs.Ring.{each, ring_holds}
+use Rattle.pth_model.specs.declared.awaits.Awaits.{Awaits}
+use Rattle.pth_model.specs.declared.awaits.Awaits.TheVariants.{Nothing, Alone, Death, AnyDeath, Moment, Ring}
+use Rattle.pth_model.specs.Awaits.{awaits_in}
+use Rattle.pth_model.specs.Changes.{blocked_of}
+use Rattle.pth_model.specs.Looks.{comes, looked_at, looks_at}
+use Rattle.pth_model.specs.Pass.{is_come_for, looks, to_wake, waiting}
+use Rattle.pth_model.specs.RingWaits.{awaited_events}
+use Rattle.pth_model.specs.State.{Control, State}
+use Rattle.pth_model.specs.ThreadControl.{joinable_dead}
+use Rattle.pth_model.specs.ThreadEnds.{is_alone}
+use Rattle.pth_world.specs.Shows.{Shows}
 use Rattle.pth_world.specs.World.{WorldOf}
-use Rattle.pth_world.specs.Walks.{behind}
+use Rattle.pth_world.proofs.Events.{events_show}
+use Rattle.pth_waits.specs.Waking.{has_come, is_due}
+use Rattle.pth_waits.proofs.Waking.{due_is}
 
--- how many threads a walk over the waiting queue has still to visit
-abbrev pub to_visit : {P S H : Type 0} → WorldOf P S H → Option Tid → ℕ
-to_visit w None = 0
-to_visit w (Some t) = behind w.threads queues.Waiting t.0 + 1
+-- ---- lists
 
 kept : {A : Type 0} (p : A → Bool) (xs ys : List A) → filter p (xs ++ ys) ≡ filter p xs ++ filter p ys
 kept p [] ys = refl
@@ -26,43 +32,134 @@ kept p (x ∷ xs) ys = by_test (p x) (kept p xs ys)
     by_test true h = ap (λ l. x ∷ l) h
     by_test false h = h
 
-module _ {P S H : Type 0} (f : P → Functions S H) (s : State P S H) where
-  abbrev here : ℕ → Bool
-  here t = wakes f t s
+flat_more : {A B : Type 0} (g : A → List B) (xs : List A) (x : A) → flat_map g (xs ++ x ∷ []) ≡ flat_map g xs ++ g x
+flat_more g [] x = append-nil (g x)
+flat_more g (y ∷ ys) x = ap (λ l. g y ++ l) (flat_more g ys x) ∙ sym (append_assoc (g y) (flat_map g ys) (g x))
 
-  -- the walk has gone so far, and stands at the next of the rows that are left
-  pub record Walked (list : List ℕ) (next : Option ℕ) : Type 0 where
-    pub front : List Ranked
-    pub back : List Ranked
-    pub split : queue s.control queues.Waiting ≡ front ++ back
-    pub next_is : next ≡ head_of back
-    pub listed : list ≡ filter here (holders front)
+or_later : (a b c : Bool) → (a || (b || c)) ≡ ((a || b) || c)
+or_later true b c = refl
+or_later false b c = refl
 
-  one_more : (front : List Ranked) (r : Ranked) → filter here (holders (front ++ r ∷ [])) ≡ filter here (holders front) ++ (if here r.holder then r.holder ∷ [] else [])
-  one_more front r = ap (filter here) (map-append (λ (x : Ranked). x.holder) front (r ∷ [])) ∙ kept here (holders front) (r.holder ∷ [])
+holds_both : (e : ℕ) (xs ys : List ℕ) → ring_holds e (xs ++ ys) ≡ (ring_holds e xs || ring_holds e ys)
+holds_both e [] ys = refl
+holds_both e (x ∷ xs) ys = ap (λ (b : Bool). (x == e) || b) (holds_both e xs ys) ∙ or_later (x == e) (ring_holds e xs) (ring_holds e ys)
 
-  -- the next row is visited
-  pub walk_next : (list more : List ℕ) (t : ℕ) (next : Option ℕ) → Walked list (Some t) → more ≡ list ++ (if here t then t ∷ [] else [])
-      → ((front back : List Ranked) (r : Ranked) → queue s.control queues.Waiting ≡ front ++ r ∷ back → r.holder ≡ t → next ≡ head_of back) → Walked more next
-  walk_next list more t next w is after = by_back w.back w.split w.next_is
-    where
-      by_back : (back : List Ranked) → queue s.control queues.Waiting ≡ w.front ++ back → Some t ≡ head_of back → Walked more next
-      by_back [] split head = absurd (cc head)
-      by_back (r ∷ back) split head =
-          let own : r.holder ≡ t = cc in
-          record {
-            front = w.front ++ r ∷ [];
-            back = back;
-            split = split ∙ sym (append_assoc w.front (r ∷ []) back);
-            next_is = after w.front back r split own;
-            listed = is ∙ ap (λ (l : List ℕ). l ++ (if here t then t ∷ [] else [])) w.listed ∙ ap (λ (u : ℕ). filter here (holders w.front) ++ (if here u then u ∷ [] else [])) (sym own) ∙ sym (one_more w.front r);
-          }
+-- ---- what a look leaves as it was
 
-  -- no row is left
-  pub walk_all : (list : List ℕ) → Walked list None → list ≡ to_wake f s
-  unfolding to_wake
-  walk_all list w = by_back w.back w.split w.next_is
-    where
-      by_back : (back : List Ranked) → queue s.control queues.Waiting ≡ w.front ++ back → None ≡ head_of back → list ≡ filter here (holders (queue s.control queues.Waiting))
-      by_back [] split head = w.listed ∙ ap (λ (rows : List Ranked). filter here (holders rows)) (sym (split ∙ append-nil w.front))
-      by_back (r ∷ back) split head = absurd (cc head)
+module _ {P S H : Type 0} (k : Control P S H) (xs : List ℕ) where
+  abbrev look : Option Event → Option Event
+  look = option_map (looked_at k)
+
+  abbrev seen : Control P S H
+  seen = looks_at k xs
+
+  comes_still : (b : Bool) (o : Option Event) → comes seen (if b then look o else o) ≡ comes k o
+  comes_still true None = refl
+  comes_still false None = refl
+  comes_still true (Some x) = refl
+  comes_still false (Some x) = refl
+
+  come_for_still : (t : ℕ) → is_come_for seen t ≡ is_come_for k t
+  unfolding is_come_for each
+  come_for_still t = ap (λ (p : ℕ → Bool). list_any p (awaited_events k t)) (fun_ext (λ e. comes_still (ring_holds e xs) (k.events.events e)))
+
+  pub has_come_still : (t : ℕ) (a : Awaits) → has_come seen t a ≡ has_come k t a
+  unfolding is_alone joinable_dead
+  has_come_still t Nothing = refl
+  has_come_still t Alone = refl
+  has_come_still t (Death n) = refl
+  has_come_still t AnyDeath = refl
+  has_come_still t (Moment m) = refl
+  has_come_still t (Ring e) = refl
+
+  due_still : (t : ℕ) → is_due seen t ≡ is_due k t
+  due_still t = ap₂ (λ (a b : Bool). a || b) (has_come_still t (awaits_in (blocked_of k t))) (come_for_still t)
+
+  -- one look, and then another, are one look
+  look_twice : (a b : Bool) (o : Option Event) → (if b then option_map (looked_at seen) (if a then look o else o) else (if a then look o else o)) ≡ (if a || b then look o else o)
+  look_twice true true None = refl
+  look_twice true false None = refl
+  look_twice false true None = refl
+  look_twice false false None = refl
+  look_twice true true (Some x) = refl
+  look_twice true false (Some x) = refl
+  look_twice false true (Some x) = refl
+  look_twice false false (Some x) = refl
+
+  looks_then : (ys : List ℕ) → looks_at seen ys ≡ looks_at k (xs ++ ys)
+  unfolding each
+  looks_then ys =
+      ap (λ (f : ℕ → Option Event). record k { events = record k.events { events = f } })
+      (fun_ext (λ e. look_twice (ring_holds e xs) (ring_holds e ys) (k.events.events e) ∙ ap (λ (b : Bool). if b then look (k.events.events e) else k.events.events e) (sym (holds_both e xs ys))))
+
+-- ---- the threads, one after another
+
+-- Of the threads ts some were gone over, and rest are left: the events for which the former wait were looked at, and those of them
+-- that are due are listed.
+pub record GoneOver {P S H : Type 0} (old now : WorldOf P S H) (ts rest list : List ℕ) : Type 0 where
+  pub done : List ℕ
+  pub split : ts ≡ done ++ rest
+  pub shows : (k : Control P S H) → Shows old k → Shows now (looks_at k (flat_map (awaited_events k) done))
+  pub listed : (k : Control P S H) → Shows old k → list ≡ filter (is_due k) done
+  pub made : now.events.made ≡ old.events.made
+  pub same : now ≡ record old { events = now.events }
+
+module _ {P S H : Type 0} (old : WorldOf P S H) where
+  none_seen : (k : Control P S H) → k ≡ looks_at k []
+  unfolding each
+  none_seen k = ap (λ (f : ℕ → Option Event). record k { events = record k.events { events = f } }) (fun_ext (λ e. refl))
+
+  pub gone_none : (ts : List ℕ) → GoneOver old old ts ts []
+  gone_none ts = record {
+    done = [];
+    split = refl;
+    shows = λ k sh. subst (λ (j : Control P S H). Shows old j) (none_seen k) sh;
+    listed = λ k sh. refl;
+    made = refl;
+    same = refl;
+  }
+
+  -- whether a thread that can be joined has died does not hang on events
+  pub dead_still : (now : WorldOf P S H) (any : Bool) → now ≡ record old { events = now.events } → ((k : Control P S H) (t : ℕ) → Shows old k → any ≡ has_come k t AnyDeath) → (k : Control P S H) (t : ℕ) → Shows now k → any ≡ has_come k t AnyDeath
+  unfolding joinable_dead
+  dead_still now any same dead k t sh =
+      let there : Shows (record old { events = now.events }) k = subst (λ (w : WorldOf P S H). Shows w k) same sh in
+      dead (record k { events = events_of old.events }) t (events_show (record old { events = now.events }) old.events k _ there refl)
+
+  module _ (now x : WorldOf P S H) (ts rest list more : List ℕ) (t : ℕ) (so_far : GoneOver old now ts (t ∷ rest) list)
+      (shows : (k : Control P S H) → Shows now k → Shows x (looks_at k (awaited_events k t)))
+      (made : x.events.made ≡ now.events.made) (same : x ≡ record now { events = x.events })
+      (is : (k : Control P S H) → Shows now k → more ≡ list ++ (if is_due k t then t ∷ [] else [])) where
+    abbrev events : Control P S H → List ℕ
+    events k = flat_map (awaited_events k) so_far.done
+
+    pub gone_more : GoneOver old x ts rest more
+    gone_more = record {
+      done = so_far.done ++ t ∷ [];
+      split = so_far.split ∙ sym (append_assoc so_far.done (t ∷ []) rest);
+      shows = λ k sh. subst (λ (j : Control P S H). Shows x j)
+          (looks_then k (events k) (awaited_events k t) ∙ ap (looks_at k) (sym (flat_more (awaited_events k) so_far.done t)))
+          (shows (looks_at k (events k)) (so_far.shows k sh));
+      listed = λ k sh.
+          is (looks_at k (events k)) (so_far.shows k sh)
+          ∙ ap₂ (λ (l : List ℕ) (b : Bool). l ++ (if b then t ∷ [] else [])) (so_far.listed k sh) (due_still k (events k) t)
+          ∙ sym (kept (is_due k) so_far.done (t ∷ []));
+      made = made ∙ so_far.made;
+      same = same ∙ ap (λ (w : WorldOf P S H). record w { events = x.events }) so_far.same;
+    }
+
+  -- all were gone over
+  module _ (now : WorldOf P S H) (ts list : List ℕ) (all : GoneOver old now ts [] list) where
+    all_done : all.done ≡ ts
+    all_done = sym (all.split ∙ append-nil all.done)
+
+    pub gone_shows : (k : Control P S H) → Shows old k → ts ≡ waiting k → Shows now (looks k)
+    unfolding looks
+    gone_shows k sh is = subst (λ (l : List ℕ). Shows now (looks_at k (flat_map (awaited_events k) l))) (all_done ∙ is) (all.shows k sh)
+
+    pub gone_listed : (f : P → Functions S H) (s : State P S H) → Shows old s.control → ts ≡ waiting s.control → list ≡ to_wake f s
+    unfolding to_wake
+    gone_listed f s sh is =
+        all.listed s.control sh
+        ∙ ap (filter (is_due s.control)) (all_done ∙ is)
+        ∙ ap (λ (p : ℕ → Bool). filter p (waiting s.control)) (sym (fun_ext (due_is f s)))

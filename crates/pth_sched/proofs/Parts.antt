@@ -8,7 +8,6 @@ use Rattle.pth_base.specs.declared.outcome.Outcome.{Outcome}
 use Rattle.pth_base.specs.declared.outcome.Outcome.TheVariants.{Running, Ended, Killed, Stalled, OutOfMemory}
 use Rattle.pth_queue.specs.declared.queue.Queue.TheVariants as queues
 use Rattle.pth_queue.specs.Ranking.{place_in}
-use Rattle.pth_model.proofs.Moments.{no_moment}
 use Rattle.pth_model.specs.declared.blocked.Blocked.{Blocked}
 use Rattle.pth_model.specs.declared.next.Next.{Next}
 use Rattle.pth_model.specs.declared.next.Next.TheVariants as next
@@ -18,8 +17,8 @@ use Rattle.pth_model.specs.Changes.{blocked_of}
 use Rattle.pth_model.specs.Course.{Course, within}
 use Rattle.pth_model.specs.State.{State, Control, Scheduler, Turn, main, queue}
 use Rattle.pth_model.specs.Transition.{silent, controlled, tid}
-use Rattle.pth_model.specs.Pass.{pass}
-use Rattle.pth_model.specs.Part.{Part, Halt, Move, part, part_by, next_part, next_part_by, unless_ended, moves, moves_by, takes, dispatches, steps, steps_by, steps_on, closes, runs, turn_ends, readies_new, chosen, rank_by, is_idle, owes_after, turn_after, gives_up, ends_run}
+use Rattle.pth_model.specs.Pass.{moment, pass}
+use Rattle.pth_model.specs.Part.{Part, Halt, Move, part, part_by, next_part, next_part_by, unless_ended, moves, takes, dispatches, steps, steps_by, steps_on, closes, runs, turn_ends, readies_new, chosen, rank_by, is_idle, owes_after, turn_after, gives_up, ends_run}
 use Rattle.pth_model.specs.Resources.{told as told_of}
 use Rattle.pth_world.specs.World.{WorldOf}
 use Rattle.pth_world.specs.Shows.{Shows}
@@ -66,13 +65,9 @@ module _ {P S H : Type 0} (f : P → Functions S H) (m : MachineOf P S H) (c : C
     unfolding next_part
     next_move none nobody idle = rw (on_turn, gave_turn None none, nobody_runs None nobody, idle) refl
 
-    stalls : moves f c.turn c.state ≡ within (record c.turn { outcome = Stalled }) (silent c.state)
-    unfolding moves
-    stalls = ap (λ (o : Option ℕ). moves_by f c.turn o c.state) (no_moment f c.state)
-
-    pub part_move : m.turn.gave ≡ None → m.world.scheduler.running ≡ None → is_idle c.state.control ≡ true → part f c.turn c.state ≡ within (record c.turn { outcome = Stalled }) (silent c.state)
+    pub part_move : m.turn.gave ≡ None → m.world.scheduler.running ≡ None → is_idle c.state.control ≡ true → part f c.turn c.state ≡ moves f c.turn c.state
     unfolding part
-    part_move none nobody idle = ap (part_by f c.turn c.state) (next_move none nobody idle) ∙ stalls
+    part_move none nobody idle = ap (part_by f c.turn c.state) (next_move none nobody idle)
 
 -- the same part, the same marks and states
 module _ {P S H : Type 0} (v : MachineOf P S H) (one two : Course P S H) (same : two ≡ one) where
@@ -86,11 +81,12 @@ module _ {P S H : Type 0} (m : MachineOf P S H) (c : Course P S H) (st : Stands 
   pub still_makes : (old : List Mark) → Makes m old old (within c.turn (silent c.state))
   still_makes old = record { stands = record { world = st.world; turn = st.turn; memory = st.memory }; tells = sym (append-nil old) }
 
-  -- the run is stalled
-  pub stall_makes : (old : List Mark) → Makes (record m { turn = record m.turn { outcome = Stalled } }) old old (within (record c.turn { outcome = Stalled }) (silent c.state))
-  stall_makes old = record {
+  -- no thread waits for a moment: the run is stalled
+  pub stall_makes : (f : P → Functions S H) (old new : List Mark) → new ≡ old → moment f c.state ≡ None → Makes (record m { turn = record m.turn { outcome = Stalled } }) old new (moves f c.turn c.state)
+  unfolding moves
+  stall_makes f old new same none = rw none record {
     stands = record { world = st.world; turn = ap (λ (x : Turn). record x { outcome = Stalled }) st.turn; memory = λ e. cc e };
-    tells = sym (append-nil old);
+    tells = same ∙ sym (append-nil old);
   }
 
   -- a turn is over, and a pass is made

@@ -9,7 +9,7 @@ use Rattle.pth_queue.specs.Ranking.{named_row}
 use Rattle.pth_queue.specs.Queues.{QueuesOf, CanRise}
 use Rattle.pth_threads.specs.Threads.{tid_at}
 use Rattle.pth_model.specs.Standing.{shown, order, put_behind}
-use Rattle.pth_model.specs.State.{Given, start, no_turn}
+use Rattle.pth_model.specs.State.{Given, Turn, start, no_turn}
 use Rattle.pth_world.specs.World.{WorldOf}
 use Rattle.pth_world.specs.Shows.{StandsFor}
 use Rattle.pth_world.specs.Ranks.{IsUnder, greatest_return, KeepsRanks}
@@ -93,6 +93,21 @@ module _ {P S H : Type 0} (m v : MachineOf P S H) where
         let c = keeps.fresh in
         let d : open_by m.turn.gave m.world.scheduler.running ≡ 1 = ap (λ (g : Option ℕ). open_by g m.world.scheduler.running) over in
         let e : open_by v.turn.gave v.world.scheduler.running ≡ 0 = ap (λ (g : Option ℕ). open_by g v.world.scheduler.running) gave ∙ ap (open_by None) nobody in
+        omega arith;
+  }
+
+  -- what is made leaves the turn, and who runs
+  pub still_roofed : IsRoofed m → KeepsRanks 0 m.world.threads v.world.threads → v.world.scheduler.running ≡ m.world.scheduler.running → v.turn ≡ m.turn → IsRoofed v
+  still_roofed r keeps running turn = record {
+    roof = r.roof;
+    low = r.low;
+    under = keeps.under r.roof r.low r.under;
+    few =
+        let a = r.few in
+        let b = keeps.fresh in
+        let turns = ap (λ (x : Turn). x.turns) turn in
+        let steps = ap (λ (x : Turn). x.steps) turn in
+        let open_still : open_by v.turn.gave v.world.scheduler.running ≡ open_by m.turn.gave m.world.scheduler.running = ap (λ (x : Turn). open_by x.gave v.world.scheduler.running) turn ∙ ap (open_by m.turn.gave) running in
         omega arith;
   }
 

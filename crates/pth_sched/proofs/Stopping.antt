@@ -4,6 +4,7 @@ use Rattle.std.proofs.lemmas.Bool.{cases_Bool}
 use Rattle.std.proofs.lemmas.Bool.Decides.{nat_tests}
 use Rattle.std.proofs.lemmas.List.{length-reverse, length-map}
 use Rattle.pth_base.specs.Program.{Functions}
+use Rattle.pth_base.specs.declared.mark.Mark.TheVariants.{Moved}
 use Rattle.pth_base.specs.declared.outcome.Outcome.{Outcome}
 use Rattle.pth_base.specs.declared.outcome.Outcome.TheVariants.{Running, Ended, Killed, Stalled, OutOfMemory}
 use Rattle.pth_queue.specs.declared.ranked.Ranked.{Ranked}
@@ -11,44 +12,43 @@ use Rattle.pth_queue.specs.declared.queue.Queue.TheVariants as queues
 use Rattle.pth_queue.specs.Ranking.{insert, head_of}
 use Rattle.pth_threads.specs.declared.entry.Change.TheVariants as change
 use Rattle.pth_base.specs.declared.thread.ThreadState.TheVariants as state
-use Rattle.pth_model.proofs.Moments.{no_moment}
 use Rattle.pth_model.specs.Course.{Course}
-use Rattle.pth_model.specs.State.{State, Control, Scheduler, Turn, Given, start, queue}
-use Rattle.pth_model.specs.Changes.{holders, is_empty, enters, leaves_queue, sets}
-use Rattle.pth_model.specs.Pass.{is_ready_at, woken, all_woken, pass, to_wake}
-use Rattle.pth_model.specs.Part.{next_part, next_part_by, unless_ended, part, part_by, moves, takes, readies, readies_all, readies_new, chosen, is_idle, steps, steps_on, closes, turn_ends, is_placed, dispatches, runs}
+use Rattle.pth_model.specs.State.{State, Control, Scheduler, Turn, Given, start, queue, now_of}
+use Rattle.pth_model.specs.Changes.{holders, is_empty, enters, leaves_queue, moves_to, sets}
+use Rattle.pth_model.specs.Pass.{looks, is_ready_at, woken, all_woken, pass, to_wake, moment}
+use Rattle.pth_model.specs.Part.{next_part, next_part_by, unless_ended, part, part_by, moves, moves_by, takes, readies, readies_all, readies_new, chosen, is_idle, steps, steps_on, closes, turn_ends, is_placed, dispatches, runs}
 use Rattle.pth_model.specs.Run.{run, stops, stops_at, stops_by, GoesTo}
-use Rattle.pth_model.specs.Transition.{controlled}
+use Rattle.pth_model.specs.Transition.{controlled, changes, tells, ◌and_then◌}
 use Rattle.pth_model.proofs.Queues.{queue-enter}
 use Rattle.pth_model.proofs.Runs.{parts-more, none-more}
 use Rattle.pth_world.proofs.Ranks.{length-insert}
+use Rattle.pth_sched.specs.MachineOf.{left_at, left_while, part_left, time_left}
 use Rattle.pth_sched.proofs.Parts.{turn_steps}
+use Rattle.pth_sched.proofs.Times.{IsLater, moment_later, time_less, readied_scheduler, ended_time, step_at}
 
--- how far a run to a number of steps is from where it stops
-abbrev far_by : Option ℕ → Option ℕ → ℕ
-far_by (Some t) r = 2
-far_by None None = 1
-far_by None (Some r) = 0
-
-abbrev far_while : ℕ → ℕ → ℕ → Outcome → ℕ
-far_while to steps part Running = 3 * (to - steps) + part + 1
-far_while to steps part o = 0
-
-far_small : (g r : Option ℕ) → far_by g r ≤ 2
-far_small (Some t) r = omega arith
-far_small None None = omega arith
-far_small None (Some r) = omega arith
+part_small : (g r : Option ℕ) → part_left g r ≤ 2
+part_small (Some t) r = omega arith
+part_small None None = omega arith
+part_small None (Some r) = omega arith
 
 module _ {P S H : Type 0} where
-  abbrev far : ℕ → Course P S H → ℕ
-  far to c = far_while to c.turn.steps (far_by c.turn.gave c.state.control.scheduler.running) c.turn.outcome
+  -- how far a run to a number of steps is from where it stops
+  abbrev pub far : ℕ → Course P S H → ℕ
+  far to c = left_at to c.turn c.state.control.scheduler
 
-far_most : (to steps n : ℕ) (o : Outcome) → far_while to steps n o ≤ 3 * (to - steps) + n + 1
-far_most to steps n Running = omega arith
-far_most to steps n (Ended v) = omega arith
-far_most to steps n Killed = omega arith
-far_most to steps n Stalled = omega arith
-far_most to steps n OutOfMemory = omega arith
+far_most : (to steps n now : ℕ) (o : Outcome) → left_while to steps n now o ≤ 3 * (to - steps) + n + 1 + time_left now
+far_most to steps n now Running = omega arith
+far_most to steps n now (Ended v) = omega arith
+far_most to steps n now Killed = omega arith
+far_most to steps n now Stalled = omega arith
+far_most to steps n now OutOfMemory = omega arith
+
+module _ {P S H : Type 0} where
+  -- how far it is at most, by what is known of who gave up control or runs, and of time
+  far_within : (to n : ℕ) (c : Course P S H) → part_left c.turn.gave c.state.control.scheduler.running ≤ n → far to c ≤ 3 * (to - c.turn.steps) + n + 1 + time_left (now_of c.state.control)
+  far_within to n c small =
+      let most = far_most to c.turn.steps (part_left c.turn.gave c.state.control.scheduler.running) (now_of c.state.control) c.turn.outcome in
+      omega arith
 
 -- ---- a thread is ready after the new ones became ready
 
@@ -93,9 +93,9 @@ module _ {P S H : Type 0} where
   woken_scheduler [] s = refl
   woken_scheduler (t ∷ ts) s = woken_scheduler ts (woken t s).state
 
-  pass_running : (f : P → Functions S H) (s : State P S H) → (pass f s).state.control.scheduler.running ≡ s.control.scheduler.running
-  unfolding pass
-  pass_running f s = ap (λ (x : Scheduler). x.running) (woken_scheduler (to_wake f s) s)
+  pass_scheduler : (f : P → Functions S H) (s : State P S H) → (pass f s).state.control.scheduler ≡ s.control.scheduler
+  unfolding pass looks
+  pass_scheduler f s = woken_scheduler (to_wake f s) (controlled looks s)
 
   placed_nobody : (k : Control P S H) (t : ℕ) → (turn_ends t k).scheduler.running ≡ None
   unfolding is_placed
@@ -108,42 +108,57 @@ module _ {P S H : Type 0} (f : P → Functions S H) where
 
   -- ---- each part comes nearer
 
-  close_near : (to : ℕ) (x : Turn) (t : ℕ) (s : State P S H) → far to (closes f x t s) < 3 * (to - x.steps) + 2 + 1
+  close_near : (to : ℕ) (x : Turn) (t : ℕ) (s : State P S H) → far to (closes f x t s) < 3 * (to - x.steps) + 2 + 1 + time_left (now_of s.control)
   unfolding closes
   close_near to x t s =
-      let nobody : (pass f (controlled (turn_ends t) s)).state.control.scheduler.running ≡ None = pass_running f (controlled (turn_ends t) s) ∙ placed_nobody s.control t in
-      rw nobody (let most = far_most to x.steps 1 x.outcome in omega arith)
+      let ended = turn_ends t s.control in
+      let same : (pass f (controlled (turn_ends t) s)).state.control.scheduler ≡ ended.scheduler = pass_scheduler f (controlled (turn_ends t) s) in
+      let time = ended_time s.control t in
+      rw (same, placed_nobody s.control t) (let most = far_most to x.steps 1 ended.scheduler.now x.outcome in omega arith)
 
-  step_near : (to : ℕ) (x : Turn) (t : ℕ) (s : State P S H) → x.steps < to → far to (steps f x t s) < 3 * (to - x.steps) + 0 + 1
+  step_near : (to : ℕ) (x : Turn) (t : ℕ) (s : State P S H) → x.steps < to → far to (steps f x t s) < 3 * (to - x.steps) + 0 + 1 + time_left (now_of s.control)
   step_near to x t s low =
       let c = steps f x t s in
-      let small = far_small c.turn.gave c.state.control.scheduler.running in
-      let most = far_most to c.turn.steps (far_by c.turn.gave c.state.control.scheduler.running) c.turn.outcome in
+      let most = far_within to 2 c (part_small c.turn.gave c.state.control.scheduler.running) in
       let steps = stepped_steps x t s in
+      let time : time_left (now_of c.state.control) ≡ time_left (now_of s.control) = ap time_left (step_at f t (now_of s.control) x s refl) in
       omega arith
 
-  take_near : (to : ℕ) (x : Turn) (s : State P S H) → x.gave ≡ None → is_idle s.control ≡ false → far to (takes x s) < 3 * (to - x.steps) + 1 + 1
+  take_near : (to : ℕ) (x : Turn) (s : State P S H) → x.gave ≡ None → is_idle s.control ≡ false → far to (takes x s) < 3 * (to - x.steps) + 1 + 1 + time_left (now_of s.control)
   unfolding takes dispatches runs sets leaves_queue
   take_near to x s gave h =
       let k = readies_new s.control in
       let some = next_some k.scheduler.preferred (queue k queues.Ready) (ready_some s.control h) in
-      rw (some.1, gave) (let most = far_most to x.steps 0 x.outcome in omega arith)
+      let same : k.scheduler ≡ s.control.scheduler = readied_scheduler (reverse (holders (queue s.control queues.New))) s.control in
+      let time : time_left k.scheduler.now ≡ time_left (now_of s.control) = ap (λ (y : Scheduler). time_left y.now) same in
+      rw (some.1, gave) (let most = far_most to x.steps 0 k.scheduler.now x.outcome in omega arith)
 
-  near_by : (to : ℕ) (x : Turn) (s : State P S H) (o : Outcome) (g r : Option ℕ) (idle : Bool) → x.gave ≡ g → is_idle s.control ≡ idle
-      → stops_by to x.steps (unless_ended o (next_part_by g r idle)) ≡ false → far to (part_by f x s (unless_ended o (next_part_by g r idle))) < far_while to x.steps (far_by g r) o
+  move_near : (to : ℕ) (x : Turn) (s : State P S H) → x.gave ≡ None → s.control.scheduler.running ≡ None → far to (moves f x s) < 3 * (to - x.steps) + 1 + 1 + time_left (now_of s.control)
   unfolding moves
-  near_by to x s Running (Some t) r idle eg ei h = close_near to x t s
-  near_by to x s Running None (Some t) idle eg ei h = step_near to x t s (grind (arith, nat_tests))
-  near_by to x s Running None None true eg ei h = rw (no_moment f s) (omega arith)
-  near_by to x s Running None None false eg ei h = take_near to x s eg ei
-  near_by to x s (Ended v) g r idle eg ei h = absurd (cc h)
-  near_by to x s Killed g r idle eg ei h = absurd (cc h)
-  near_by to x s Stalled g r idle eg ei h = absurd (cc h)
-  near_by to x s OutOfMemory g r idle eg ei h = absurd (cc h)
+  move_near to x s gave nobody = by_moment (moment f s) (λ m is. moment_later f s m is)
+    where
+      by_moment : (o : Option ℕ) → ((m : ℕ) → o ≡ Some m → IsLater (now_of s.control) m) → far to (moves_by f x o s) < 3 * (to - x.steps) + 1 + 1 + time_left (now_of s.control)
+      by_moment None later = omega arith
+      by_moment (Some m) later =
+          let at = ((changes (moves_to m) and_then tells (Moved m)) s).state in
+          let same : (pass f at).state.control.scheduler ≡ at.control.scheduler = pass_scheduler f at in
+          let time = time_less (now_of s.control) m (later m refl) in
+          rw (same, nobody, gave) (let most = far_most to x.steps 1 m x.outcome in omega arith)
 
-  near : (to : ℕ) (c : Course P S H) → stops to c ≡ false → far to (part f c.turn c.state) < far to c
+  near_by : (to : ℕ) (x : Turn) (s : State P S H) (o : Outcome) (g r : Option ℕ) (idle : Bool) → x.gave ≡ g → s.control.scheduler.running ≡ r → is_idle s.control ≡ idle
+      → stops_by to x.steps (unless_ended o (next_part_by g r idle)) ≡ false → far to (part_by f x s (unless_ended o (next_part_by g r idle))) < left_while to x.steps (part_left g r) (now_of s.control) o
+  near_by to x s Running (Some t) r idle eg er ei h = close_near to x t s
+  near_by to x s Running None (Some t) idle eg er ei h = step_near to x t s (grind (arith, nat_tests))
+  near_by to x s Running None None true eg er ei h = move_near to x s eg er
+  near_by to x s Running None None false eg er ei h = take_near to x s eg ei
+  near_by to x s (Ended v) g r idle eg er ei h = absurd (cc h)
+  near_by to x s Killed g r idle eg er ei h = absurd (cc h)
+  near_by to x s Stalled g r idle eg er ei h = absurd (cc h)
+  near_by to x s OutOfMemory g r idle eg er ei h = absurd (cc h)
+
+  pub near : (to : ℕ) (c : Course P S H) → stops to c ≡ false → far to (part f c.turn c.state) < far to c
   unfolding part stops next_part
-  near to c h = near_by to c.turn c.state c.turn.outcome c.turn.gave c.state.control.scheduler.running (is_idle c.state.control) refl refl h
+  near to c h = near_by to c.turn c.state c.turn.outcome c.turn.gave c.state.control.scheduler.running (is_idle c.state.control) refl refl refl h
 
   module _ (g : Given P) (to i : ℕ) where
     next_near : (j : ℕ) → stops to (run f g j) ≡ false → far to (run f g (j + 1)) < far to (run f g j)

@@ -12,15 +12,14 @@ use Rattle.pth_queue.proofs.Standing.{queue_of-holds}
 use Rattle.pth_threads.specs.Threads.{slot_of, tid_at}
 use Rattle.pth_base.specs.Program.{Functions}
 use Rattle.pth_model.specs.State.{State}
-use Rattle.pth_model.specs.Transition.{Transition, tid}
-use Rattle.pth_model.specs.Calls.{wakes}
+use Rattle.pth_model.specs.Transition.{Transition, changes, controlled, tid, ◌and_then◌}
 use Rattle.pth_model.specs.Changes.{holders, prio_of}
-use Rattle.pth_model.specs.Pass.{is_ready_at, woken, all_woken, to_wake, pass}
+use Rattle.pth_model.specs.Pass.{is_ready_at, is_to_wake, looks, woken, all_woken, to_wake, pass}
 use Rattle.pth_model.specs.Resources.{told as told_of}
 use Rattle.pth_world.specs.World.{WorldOf}
 use Rattle.pth_world.specs.Shows.{Shows, StandsFor}
 use Rattle.pth_world.specs.Sound.{IsSound, IsKnown}
-use Rattle.pth_world.specs.Touches.{SameThreads}
+use Rattle.pth_world.specs.Touches.{KeepsRest, SameThreads}
 use Rattle.pth_base.specs.Cut.{IsCut}
 use Rattle.pth_world.specs.Leading.{Leads}
 use Rattle.pth_world.proofs.QueueReads.{once_thread, stands_at}
@@ -93,8 +92,8 @@ module _ {P S H : Type 0} (w : WorldOf P S H) (sound : IsSound w.threads) where
   unfolding to_wake
   to_wake_once f s st =
       let rows = st.control.threads.standing Waiting in
-      subst (λ (l : List Ranked). WaitOnce w (filter (λ t. wakes f t s) (holders l))) (sym rows)
-      (rows_once (λ t. wakes f t s) w.threads.queues.waiting (sound.queued Waiting) (λ x h. queue_of-holds Waiting x w.threads.queues sound.orderly h) (λ t. subst (λ (l : List Ranked). count_by (is_of t) l ≤ 1) rows (once_thread w.threads s.control t Waiting sound st.control.threads)))
+      subst (λ (l : List Ranked). WaitOnce w (filter (is_to_wake f s) (holders l))) (sym rows)
+      (rows_once (is_to_wake f s) w.threads.queues.waiting (sound.queued Waiting) (λ x h. queue_of-holds Waiting x w.threads.queues sound.orderly h) (λ t. subst (λ (l : List Ranked). count_by (is_of t) l ≤ 1) rows (once_thread w.threads s.control t Waiting sound st.control.threads)))
 
 -- ---- all of them
 
@@ -144,10 +143,30 @@ module _ {P S H : Type 0} where
       }
 
   -- a pass wakes those that it listed
-  pub pass_leads : (f : P → Functions S H) (w : WorldOf P S H) (s : State P S H) (ts : List ℕ) (old new : List Mark) → ts ≡ to_wake f s → Leads w old new (all_woken ts s) → Leads w old new (pass f s)
-  unfolding pass
-  pass_leads f w s ts old new is leads = subst (λ (l : List ℕ). Leads w old new (all_woken l s)) is leads
+  module _ (f : P → Functions S H) (w v : WorldOf P S H) (s : State P S H) (st : StandsFor w s) (ts : List ℕ) (old new : List Mark) (is : ts ≡ to_wake f s) (seen : Shows v (looks s.control)) where
+    stands_seen : StandsFor v (controlled looks s)
+    stands_seen = record { control = seen; resources = st.resources }
 
-  pub pass_cut : (f : P → Functions S H) (s : State P S H) (ts : List ℕ) (old new : List Mark) → ts ≡ to_wake f s → IsCut old new (all_woken ts s).marks → IsCut old new (pass f s).marks
-  unfolding pass
-  pass_cut f s ts old new is cut = subst (λ (l : List ℕ). IsCut old new (all_woken l s).marks) is cut
+    pub pass_leads : (x : WorldOf P S H) → ((u : State P S H) → StandsFor v u → Leads x old new (all_woken ts u)) → Leads x old new (pass f s)
+    unfolding pass
+    pass_leads x leads =
+        let l = leads (controlled looks s) stands_seen in
+        subst (λ (l : List ℕ). Leads x old new ((changes looks and_then all_woken l) s)) is (record { stands = l.stands; tells = l.tells })
+
+    pub pass_cut : ((u : State P S H) → StandsFor v u → IsCut old new (all_woken ts u).marks) → IsCut old new (pass f s).marks
+    unfolding pass
+    pass_cut cut = subst (λ (l : List ℕ). IsCut old new ((changes looks and_then all_woken l) s).marks) is (cut (controlled looks s) stands_seen)
+
+  -- and all of them wait still
+  pub once_seen : (w v : WorldOf P S H) → v ≡ record w { events = v.events } → (ts : List ℕ) → WaitOnce w ts → WaitOnce v ts
+  once_seen w v same [] once = tt
+  once_seen w v same (t ∷ ts) once = (subst (λ (x : WorldOf P S H). IsWaiting x t) (sym same) once.0, once.1, once_seen w v same ts once.2)
+
+  -- what is seen of events leaves all else
+  pub seen_rest : (w v : WorldOf P S H) → v.events.made ≡ w.events.made → v ≡ record w { events = v.events } → KeepsRest w v
+  seen_rest w v made same = record {
+    program = ap (λ (x : WorldOf P S H). x.program) same;
+    attributes = ap (λ (x : WorldOf P S H). x.attributes) same;
+    events = made;
+    scheduler = ap (λ (x : WorldOf P S H). x.scheduler) same;
+  }

@@ -1,5 +1,5 @@
 -- How a machine follows a run.
-use Rattle.std.specs.Prelude.{◌≡◌, ◌≢◌, ◌<◌, ◌≤◌, ◌++◌, ℕ, Bool, false, List, None, IsSome}
+use Rattle.std.specs.Prelude.{◌≡◌, ◌≢◌, ◌+◌, ◌<◌, ◌≤◌, ◌++◌, ℕ, Bool, false, List, None, IsSome}
 use Rattle.pth_base.specs.Program.{Functions}
 use Rattle.pth_base.specs.declared.mark.Mark.{Mark}
 use Rattle.pth_base.specs.declared.outcome.Outcome.TheVariants.{Running, OutOfMemory}
@@ -25,6 +25,13 @@ pub record Makes {P S H : Type 0} (m : MachineOf P S H) (old new : List Mark) (c
 -- the machine stands on the run of what is given, at part i
 abbrev pub StandsAt : {P S H : Type 0} → (P → Functions S H) → Given P → ℕ → MachineOf P S H → Type 0
 StandsAt f g i m = Stands m (run f g i)
+
+-- the machine made part i of the run: it stands at the next one, and what the run tells between was appended
+pub record MakesPart {P S H : Type 0} (f : P → Functions S H) (g : Given P) (i : ℕ) (m : MachineOf P S H) (old new : List Mark) : Type 0 where
+  pub stands : StandsAt f g (i + 1) m
+  pub told : List Mark
+  pub between : IsBetween f g i (i + 1) told
+  pub appended : new ≡ old ++ told
 
 -- From part i on the machine followed the run to the first part that halts: it stands there, and what the run tells between
 -- was appended.
@@ -77,3 +84,8 @@ pub record IsBetweenTurns {P S H : Type 0} (m : MachineOf P S H) : Type 0 where
 pub record Keeps {P S H : Type 0} (m : MachineOf P S H) : Type 0 where
   pub going : IsGoing m
   pub ranks : IsRoofed m
+
+-- what holds of it between two calls: as long as the run goes on, nobody has given up control where nobody runs
+pub record Rests {P S H : Type 0} (m : MachineOf P S H) : Type 0 where
+  pub keeps : Keeps m
+  pub closed : m.turn.outcome ≡ Running → m.world.scheduler.running ≡ None → m.turn.gave ≡ None

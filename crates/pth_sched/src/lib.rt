@@ -4,6 +4,8 @@
 pub mod laws;
 mod live;
 pub mod machine;
+mod moments;
+mod pass_room;
 mod passes;
 mod schedule;
 mod turns;

@@ -1,12 +1,15 @@
 //! A machine that runs a program.
 
-ghost use Rattle.std.specs.Prelude.{◌≡◌, ◌≢◌, ◌⊎◌, ◌≤◌, ◌+◌, ◌↔◌, ℕ, map, IfOk};
-ghost use Rattle.pth_model.specs.Course.{Course};
+ghost use Rattle.std.specs.Prelude.{◌≡◌, ◌≢◌, ◌⊎◌, ◌≤◌, ◌+◌, ◌↔◌, ℕ, [], true, false, None, map, IfOk, OnOk, OnErr};
+ghost use Rattle.pth_base.specs.Cut.{IsCut};
+ghost use Rattle.pth_model.specs.Course.{Course, within};
 ghost use Rattle.pth_model.specs.State.{Given};
 ghost use Rattle.pth_model.specs.Living.{live as live_threads};
+ghost use Rattle.pth_model.specs.Part.{moves};
+ghost use Rattle.pth_model.specs.Pass.{moment, pass};
 ghost use Rattle.pth_threads.specs.Threads.{number_of};
 ghost use Rattle.pth_world.specs.Sound.{IsSound};
-ghost use Rattle.pth_sched.specs.Running.{Stands, StandsAt, GoesOn, BreaksOff, TurnGoesOn, TurnBreaksOff, IsAtStep, IsBetweenTurns};
+ghost use Rattle.pth_sched.specs.Running.{Stands, StandsAt, Makes, MakesPart, GoesOn, BreaksOff, TurnGoesOn, TurnBreaksOff, IsAtStep, IsBetweenTurns};
 
 use crate::live::live;
 use crate::schedule::Schedule;
@@ -30,13 +33,13 @@ impl<P: Program> Model for Machine<P> {
     ghost use Rattle.std.specs.Prelude.{◌≡◌, false, if◌then◌else◌};
     ghost use Rattle.pth_base.specs.declared.outcome.Outcome.TheVariants.{OutOfMemory};
     ghost use Rattle.pth_sched.specs.MachineOf.{MachineOf};
-    ghost use Rattle.pth_sched.specs.Running.{Keeps};
+    ghost use Rattle.pth_sched.specs.Running.{Rests};
 
     ghost Value = { MachineOf P P.State P.Shared };
 
     ghost view = { λ m. record m.schedule { turn = record m.schedule.turn { outcome = if m.failed then OutOfMemory else m.schedule.turn.outcome } } };
 
-    ghost invariant = { λ m. (m.failed ≡ false → Keeps m.schedule) };
+    ghost invariant = { λ m. (m.failed ≡ false → Rests m.schedule) };
 }
 
 impl<P: Program> Machine<P> {
@@ -101,6 +104,44 @@ impl<P: Program> Machine<P> {
         let to = self.schedule.steps() + n;
         self.failed = self.schedule.turn(to, marks).is_err();
         self.outcome()
+    }
+
+    /// One pass over the waiting threads while nobody runs, as the end of a turn and a move of idle time make it: those whose
+    /// calls have what they wait for are ready. pth(3) has no call for it. After an error the machine may only be dropped.
+    pub fn pass(&mut self, marks: &mut Marks) -> Result<(), OutOfMemory>
+        requires nobody { self.old.world.scheduler.running ≡ None }
+        requires goes { self.old.turn.outcome ≡ Outcome.Running }
+        ensures ok { OnOk result ((c : Course P P.State P.Shared) → Stands self.old c → Makes self.new marks.old marks.new (within c.turn (pass P.functions c.state))) }
+        ensures err { OnErr result ((c : Course P P.State P.Shared) → Stands self.old c → IsCut marks.old marks.new (pass P.functions c.state).marks) }
+        ensures turn { OnOk result (self.new.turn ≡ self.old.turn) }
+        ensures scheduler { OnOk result (self.new.world.scheduler ≡ self.old.world.scheduler) }
+        ensures failed { OnErr result (self.new.turn.outcome ≡ Outcome.OutOfMemory) }
+    {
+        let passed = self.schedule.pass(marks);
+        self.failed = passed.is_err();
+        passed
+    }
+
+    /// One move of idle time: while nobody runs and nothing is new or ready, time moves to the least moment, in microseconds,
+    /// that is later than now and for which a thread waits, and a pass is made. Where there is none, nothing changes, and the
+    /// answer is `false`: the outcome stays Running. pth(3) has no call for it. After an error the machine may only be dropped.
+    pub fn idle(&mut self, marks: &mut Marks) -> Result<bool, OutOfMemory>
+        requires nobody { self.old.world.scheduler.running ≡ None }
+        requires goes { self.old.turn.outcome ≡ Outcome.Running }
+        requires none_new { self.old.world.threads.queues.new ≡ [] }
+        requires none_ready { self.old.world.threads.queues.ready ≡ [] }
+        ensures follows { IfOk result (λ moved. moved ≡ true → (g : Given P) (i : ℕ) → StandsAt P.functions g i self.old → MakesPart P.functions g i self.new marks.old marks.new) }
+        ensures moves { IfOk result (λ moved. moved ≡ true → (c : Course P P.State P.Shared) → Stands self.old c → Makes self.new marks.old marks.new (moves P.functions c.turn c.state)) }
+        ensures none { IfOk result (λ moved. (c : Course P P.State P.Shared) → Stands self.old c → (moved ≡ false) ↔ (moment P.functions c.state ≡ None)) }
+        ensures stays { IfOk result (λ moved. moved ≡ false → (self.new ≡ self.old) × (marks.new ≡ marks.old)) }
+        ensures err { OnErr result ((c : Course P P.State P.Shared) → Stands self.old c → IsCut marks.old marks.new (moves P.functions c.turn c.state).marks) }
+        ensures turn { OnOk result (self.new.turn ≡ self.old.turn) }
+        ensures nobody { OnOk result (self.new.world.scheduler.running ≡ None) }
+        ensures failed { OnErr result (self.new.turn.outcome ≡ Outcome.OutOfMemory) }
+    {
+        let moved = self.schedule.idle(marks);
+        self.failed = moved.is_err();
+        moved
     }
 
     /// How many steps were made.

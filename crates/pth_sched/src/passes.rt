@@ -1,12 +1,11 @@
 //! Passes over the waiting threads.
 
-ghost use Rattle.std.specs.Prelude.{◌≡◌, ◌≢◌, ℕ, pos, neg_ℤ, ◌+ℤ◌, ◌≤ℤ◌, List, [], ◌∷◌, ◌++◌, map, if◌then◌else◌, OnOk, OnErr};
+ghost use Rattle.std.specs.Prelude.{◌≡◌, ◌≢◌, ℕ, pos, neg_ℤ, ◌+ℤ◌, ◌≤ℤ◌, map, OnOk, OnErr};
 ghost use Rattle.pth_queue.specs.declared.queue.Queue.TheVariants as queue;
 ghost use Rattle.pth_threads.specs.Threads.{number_of};
 ghost use Rattle.pth_base.specs.Cut.{IsCut};
-ghost use Rattle.pth_model.specs.Calls.{wakes as wakes_now};
 ghost use Rattle.pth_model.specs.Changes.{prio_of};
-ghost use Rattle.pth_model.specs.Pass.{pass, to_wake, woken, all_woken};
+ghost use Rattle.pth_model.specs.Pass.{pass, woken, all_woken};
 ghost use Rattle.pth_model.specs.State.{Control, State};
 ghost use Rattle.pth_world.specs.Leading.{Leads};
 ghost use Rattle.pth_world.specs.Ranks.{KeepsRanks, greatest_return};
@@ -16,39 +15,13 @@ ghost use Rattle.pth_world.specs.Touches.{KeepsRest};
 ghost use Rattle.pth_world.specs.Whole.{Whole, IsIn, WaitsToRun};
 ghost use Rattle.pth_sched.specs.Passing.{IsWaiting, WaitOnce};
 
+use crate::pass_room::PassRoom;
 use pth_base::ids::Tid;
 use pth_base::mark::Mark;
 use pth_base::marks::Marks;
 use pth_base::memory::OutOfMemory;
 use pth_base::program::Program;
-use pth_queue::queue::Queue;
-use pth_waits::wakes::wakes;
 use pth_world::world::World;
-
-// Lists a waiting thread where its call has what it waits for.
-fn list_one<P: Program>(w: &World<P>, t: Tid, list: &mut Vec<Tid>) -> Result<(), OutOfMemory>
-    requires { Whole w.now }
-    ensures { OnOk result ((s : State P P.State P.Shared) → StandsFor w.now s → map number_of list.new.items ≡ map number_of list.old.items ++ (if wakes_now P.functions t.0 s then t.0 ∷ [] else [])) }
-{
-    if wakes(w, t) {
-        list.push(t)?;
-    }
-    Ok(())
-}
-
-// Lists the waiting threads, in their order, whose calls have what they wait for.
-fn list_to_wake<P: Program>(w: &World<P>, list: &mut Vec<Tid>) -> Result<(), OutOfMemory>
-    requires { Whole w.now }
-    ensures { OnOk result ((s : State P P.State P.Shared) → StandsFor w.now s → map number_of list.new.items ≡ to_wake P.functions s) }
-{
-    list.clear();
-    let mut next = w.first(Queue::Waiting);
-    while let Some(t) = next {
-        list_one(w, t, list)?;
-        next = w.after(t, Queue::Waiting);
-    }
-    Ok(())
-}
 
 // The rank at which a woken thread is ready: one above its base priority.
 fn woken_rank<P: Program>(w: &World<P>, t: Tid) -> i64
@@ -104,11 +77,11 @@ fn wake_all<P: Program>(
     Ok(())
 }
 
-/// A pass over the waiting threads: which of them wake is told by the state as it begins. `list` is where they are kept
-/// meanwhile.
+/// A pass over the waiting threads: the events for which they wait are looked at, and which threads wake is told by the state as it
+/// begins. `room` is where they are kept meanwhile.
 pub fn pass<P: Program>(
     w: &mut World<P>,
-    list: &mut Vec<Tid>,
+    room: &mut PassRoom,
     marks: &mut Marks,
 ) -> Result<(), OutOfMemory>
     requires whole { Whole w.old }
@@ -120,6 +93,6 @@ pub fn pass<P: Program>(
     ensures ranks { OnOk result (KeepsRanks 0 w.old.threads w.new.threads) }
     ensures stays { OnOk result ((u : ℕ) → WaitsToRun w.old.threads u → WaitsToRun w.new.threads u) }
 {
-    list_to_wake(w, list)?;
-    wake_all(w, list.as_slice(), marks)
+    room.go_over(w)?;
+    wake_all(w, room.waking(), marks)
 }

@@ -1,22 +1,23 @@
 //! The parts of a run: a thread is taken, it makes a step, and its turn is closed.
 
-ghost use Rattle.std.specs.Prelude.{◌≡◌, ◌≢◌, ◌⊎◌, ◌≤◌, ◌+◌, ◌<◌, ℕ, [], true, false, Some, None, IsSome, IfSome, IfOk, OnOk, OnErr, length};
+ghost use Rattle.std.specs.Prelude.{◌≡◌, ◌≢◌, ◌⊎◌, ◌≤◌, ◌+◌, ◌<◌, ℕ, [], true, false, Some, None, is_some, IsSome, IfSome, IfOk, OnOk, OnErr, length};
 ghost use Rattle.pth_base.specs.Cut.{IsCut};
 ghost use Rattle.pth_model.specs.Changes.{goes_on};
-ghost use Rattle.pth_model.specs.Course.{Course};
-ghost use Rattle.pth_model.specs.Part.{is_idle, owes_after, turn_after, takes, steps, closes, part};
+ghost use Rattle.pth_model.specs.Course.{Course, within};
+ghost use Rattle.pth_model.specs.Part.{is_idle, owes_after, turn_after, moves, moves_by, takes, steps, closes, part};
+ghost use Rattle.pth_model.specs.Pass.{moment, pass};
 ghost use Rattle.pth_model.specs.Run.{stops as run_stops};
 ghost use Rattle.pth_model.specs.State.{Control, Given};
 ghost use Rattle.pth_world.specs.Frame.{runs_after};
 ghost use Rattle.pth_world.specs.Shows.{Shows};
 ghost use Rattle.pth_world.specs.Whole.{Whole};
-ghost use Rattle.pth_sched.specs.MachineOf.{IsGoing, IsRoofed, left, machine_stops};
-ghost use Rattle.pth_sched.specs.Running.{Stands, StandsAt, Keeps, Makes, GoesOn, BreaksOff, TurnGoesOn, TurnBreaksOff, IsBetweenTurns};
+ghost use Rattle.pth_sched.specs.MachineOf.{IsGoing, IsRoofed, machine_stops};
+ghost use Rattle.pth_sched.specs.Running.{Stands, StandsAt, Keeps, Rests, Makes, GoesOn, BreaksOff, TurnGoesOn, TurnBreaksOff, IsBetweenTurns};
 
+use crate::pass_room::PassRoom;
 use crate::passes::pass;
 use crate::turns::{end_turn, go_on, next, ready_new};
-use pth_base::ids::{MAIN, Tid};
-use pth_base::limits::MOST_THREADS;
+use pth_base::ids::{MAIN, Micros, Tid};
 use pth_base::mark::Mark;
 use pth_base::marks::Marks;
 use pth_base::memory::OutOfMemory;
@@ -28,10 +29,10 @@ use pth_world::world::World;
 use std::alloc::Global;
 use std::marker::Model;
 
-/// A world with the turn that it is in, and room for the threads that a pass wakes.
+/// A world with the turn that it is in, and room for passes.
 #[derive(Drop)]
 pub struct Schedule<P: Program> {
-    waking: Vec<Tid>,
+    room: PassRoom,
     world: World<P>,
     gave: Option<Tid>,
     turns: u64,
@@ -56,15 +57,14 @@ impl<P: Program> Schedule<P> {
     /// The main thread alone, ready (`pth_init`).
     pub fn new(alloc: Global, program: P) -> Result<Schedule<P>, OutOfMemory>
         ensures stands { IfOk result (λ m. StandsAt P.functions (record { program = program }) 0 m) }
-        ensures going { IfOk result (λ m. IsGoing m) }
-        ensures ranks { IfOk result (λ m. IsRoofed m) }
+        ensures rests { IfOk result (λ m. Rests m) }
         ensures steps { IfOk result (λ m. m.turn.steps ≡ 0) }
         ensures outcome { IfOk result (λ m. m.turn.outcome ≡ Outcome.Running) }
     {
-        let waking = Vec::with_capacity(alloc, MOST_THREADS as usize)?;
+        let room = PassRoom::new(alloc)?;
         let world = World::new(alloc, program)?;
         Ok(Schedule {
-            waking,
+            room,
             world,
             gave: None,
             turns: 0,
@@ -114,8 +114,6 @@ impl<P: Program> Schedule<P> {
         ensures going { OnOk result (IsGoing self.new) }
         ensures ranks { OnOk result (IsRoofed self.new) }
         ensures steps { self.new.turn.steps ≡ self.old.turn.steps }
-        ensures gave { OnOk result (self.new.turn.gave ≡ None) }
-        ensures runs { OnOk result (IsSome self.new.world.scheduler.running) }
     {
         ready_new(&mut self.world);
         let t = next(&self.world);
@@ -196,7 +194,68 @@ impl<P: Program> Schedule<P> {
     {
         end_turn(&mut self.world, t);
         self.gave = None;
-        pass(&mut self.world, &mut self.waking, marks)
+        pass(&mut self.world, &mut self.room, marks)
+    }
+
+    /// A pass over the waiting threads. After an error the schedule may only be dropped.
+    pub fn pass(&mut self, marks: &mut Marks) -> Result<(), OutOfMemory>
+        requires keeps { Keeps self.old }
+        ensures ok { OnOk result ((c : Course P P.State P.Shared) → Stands self.old c → Makes self.new marks.old marks.new (within c.turn (pass P.functions c.state))) }
+        ensures err { OnErr result ((c : Course P P.State P.Shared) → Stands self.old c → IsCut marks.old marks.new (pass P.functions c.state).marks) }
+        ensures keeps { OnOk result (Keeps self.new) }
+        ensures turn { self.new.turn ≡ self.old.turn }
+        ensures scheduler { OnOk result (self.new.world.scheduler ≡ self.old.world.scheduler) }
+    {
+        pass(&mut self.world, &mut self.room, marks)
+    }
+
+    // Time moves to a moment, and a pass is made.
+    fn move_to(&mut self, moment: Micros, marks: &mut Marks) -> Result<(), OutOfMemory>
+        requires keeps { Keeps self.old }
+        ensures ok { OnOk result ((c : Course P P.State P.Shared) → Stands self.old c → Makes self.new marks.old marks.new (moves_by P.functions c.turn (Some moment) c.state)) }
+        ensures err { OnErr result ((c : Course P P.State P.Shared) → Stands self.old c → IsCut marks.old marks.new (moves_by P.functions c.turn (Some moment) c.state).marks) }
+        ensures keeps { OnOk result (Keeps self.new) }
+        ensures turn { self.new.turn ≡ self.old.turn }
+        ensures scheduler { OnOk result (self.new.world.scheduler ≡ record self.old.world.scheduler { now = moment }) }
+    {
+        self.world.set_time(moment);
+        marks.push(Mark::Moved { at: moment })?;
+        self.pass(marks)
+    }
+
+    /// Time moves to the next moment for which a thread waits, and a pass is made; the answer is whether there is such a
+    /// moment. After an error the schedule may only be dropped.
+    pub fn idle(&mut self, marks: &mut Marks) -> Result<bool, OutOfMemory>
+        requires keeps { Keeps self.old }
+        ensures some { IfOk result (λ moved. (c : Course P P.State P.Shared) → Stands self.old c → is_some (moment P.functions c.state) ≡ moved) }
+        ensures moves { IfOk result (λ moved. moved ≡ true → (c : Course P P.State P.Shared) → Stands self.old c → Makes self.new marks.old marks.new (moves P.functions c.turn c.state)) }
+        ensures stays { IfOk result (λ moved. moved ≡ false → (self.new ≡ self.old) × (marks.new ≡ marks.old)) }
+        ensures err { OnErr result ((c : Course P P.State P.Shared) → Stands self.old c → IsCut marks.old marks.new (moves P.functions c.turn c.state).marks) }
+        ensures keeps { OnOk result (Keeps self.new) }
+        ensures turn { self.new.turn ≡ self.old.turn }
+        ensures runs { OnOk result (self.new.world.scheduler.running ≡ self.old.world.scheduler.running) }
+    {
+        match self.room.next_moment(&self.world) {
+            Some(moment) => {
+                self.move_to(moment, marks)?;
+                Ok(true)
+            }
+            None => Ok(false),
+        }
+    }
+
+    // Idle time moves on; where no thread waits for a moment, the run is stalled.
+    fn move_on(&mut self, marks: &mut Marks) -> Result<(), OutOfMemory>
+        requires keeps { Keeps self.old }
+        ensures ok { OnOk result ((c : Course P P.State P.Shared) → Stands self.old c → Makes self.new marks.old marks.new (moves P.functions c.turn c.state)) }
+        ensures err { OnErr result ((c : Course P P.State P.Shared) → Stands self.old c → IsCut marks.old marks.new (moves P.functions c.turn c.state).marks) }
+        ensures keeps { OnOk result (Keeps self.new) }
+        ensures steps { self.new.turn.steps ≡ self.old.turn.steps }
+    {
+        if !self.idle(marks)? {
+            self.outcome = Outcome::Stalled;
+        }
+        Ok(())
     }
 
     // Whether nothing is new or ready.
@@ -208,6 +267,25 @@ impl<P: Program> Schedule<P> {
         self.world.is_empty(Queue::New) && self.world.is_empty(Queue::Ready)
     }
 
+    // The part that comes next while nobody runs: a thread is taken, or where nothing is new or ready, idle time moves on.
+    fn take_or_move(&mut self, marks: &mut Marks) -> Result<(), OutOfMemory>
+        requires keeps { Keeps self.old }
+        requires few { self.old.turn.steps ≤ 1000000000 }
+        requires goes { self.old.turn.outcome ≡ Outcome.Running }
+        requires over { self.old.turn.gave ≡ None }
+        requires nobody { self.old.world.scheduler.running ≡ None }
+        ensures ok { OnOk result ((c : Course P P.State P.Shared) → Stands self.old c → Makes self.new marks.old marks.new (part P.functions c.turn c.state)) }
+        ensures err { OnErr result ((c : Course P P.State P.Shared) → Stands self.old c → IsCut marks.old marks.new (part P.functions c.turn c.state).marks) }
+        ensures going { OnOk result (IsGoing self.new) }
+        ensures ranks { OnOk result (IsRoofed self.new) }
+        ensures steps { self.new.turn.steps ≡ self.old.turn.steps }
+    {
+        if self.is_idle() {
+            return self.move_on(marks);
+        }
+        self.take(marks)
+    }
+
     // One part of the run.
     fn part(&mut self, marks: &mut Marks) -> Result<(), OutOfMemory>
         requires keeps { Keeps self.old }
@@ -216,7 +294,6 @@ impl<P: Program> Schedule<P> {
         ensures err { OnErr result ((c : Course P P.State P.Shared) → Stands self.old c → IsCut marks.old marks.new (part P.functions c.turn c.state).marks) }
         ensures going { OnOk result (IsGoing self.new) }
         ensures ranks { OnOk result (IsRoofed self.new) }
-        ensures less { OnOk result ((to : ℕ) → machine_stops to self.old ≡ false → left to self.new < left to self.old) }
         ensures within { (to : ℕ) → machine_stops to self.old ≡ false → self.old.turn.steps ≤ to → self.new.turn.steps ≤ to }
     {
         match self.outcome {
@@ -229,11 +306,7 @@ impl<P: Program> Schedule<P> {
         if let Some(t) = self.world.running() {
             return self.step(t, marks);
         }
-        if self.is_idle() {
-            self.outcome = Outcome::Stalled;
-            return Ok(());
-        }
-        self.take(marks)
+        self.take_or_move(marks)
     }
 
     // Whether a run to this number of steps goes no further: a next step would begin, or an outcome ended it.
@@ -256,7 +329,7 @@ impl<P: Program> Schedule<P> {
         requires few { to ≤ 1000000000 }
         ensures goes_on { OnOk result ((g : Given P) (i : ℕ) → StandsAt P.functions g i self.old → GoesOn P.functions g to i self.new marks.old marks.new) }
         ensures breaks_off { OnErr result ((g : Given P) (i : ℕ) → StandsAt P.functions g i self.old → BreaksOff P.functions g to i marks.old marks.new) }
-        ensures keeps { OnOk result (Keeps self.new) }
+        ensures rests { OnOk result (Rests self.new) }
         ensures within { self.new.turn.steps ≤ to }
         ensures stops { OnOk result (machine_stops to self.new ≡ true) }
     {
@@ -273,7 +346,7 @@ impl<P: Program> Schedule<P> {
         requires few { to ≤ 1000000000 }
         ensures goes_on { OnOk result ((g : Given P) (i : ℕ) → StandsAt P.functions g i self.old → TurnGoesOn P.functions g to i self.new marks.old marks.new) }
         ensures breaks_off { OnErr result ((g : Given P) (i : ℕ) → StandsAt P.functions g i self.old → TurnBreaksOff P.functions g to i marks.old marks.new) }
-        ensures keeps { OnOk result (Keeps self.new) }
+        ensures rests { OnOk result (Rests self.new) }
         ensures within { self.new.turn.steps ≤ to }
         ensures stops { OnOk result ((machine_stops to self.new ≡ true) ⊎ IsBetweenTurns self.new) }
     {

@@ -9,7 +9,7 @@ ghost use Rattle.pth_model.specs.Part.{chosen, is_placed, new_rank, readies_new,
 ghost use Rattle.pth_model.specs.State.{Control, State, queue as rows};
 ghost use Rattle.pth_world.specs.Frame.{Frame, runs_after, yields_after};
 ghost use Rattle.pth_world.specs.Leading.{Leads};
-ghost use Rattle.pth_world.specs.Numbering.{HasNumbers};
+ghost use Rattle.pth_world.specs.Numbering.{HasNumbers, GivesNone};
 ghost use Rattle.pth_world.specs.Ranks.{IsUnder, KeepsRanks, greatest_return};
 ghost use Rattle.pth_world.specs.Shows.{Shows, StandsFor};
 ghost use Rattle.pth_world.specs.Sound.{IsSound, IsKnown};
@@ -113,8 +113,7 @@ fn place<P: Program>(w: &mut World<P>, t: Tid)
     ensures whole { Whole w.new }
     ensures running { w.new.scheduler.running ≡ None }
     ensures preferred { w.new.scheduler.preferred ≡ w.old.scheduler.preferred }
-    ensures made { w.new.threads.records.made ≡ w.old.threads.records.made }
-    ensures attributes { w.new.attributes ≡ w.old.attributes }
+    ensures gives { GivesNone w.old w.new }
     ensures ranks { KeepsRanks 0 w.old.threads w.new.threads }
     ensures stays { (u : ℕ) → WaitsToRun w.old.threads u → WaitsToRun w.new.threads u }
 {
@@ -148,8 +147,7 @@ pub fn end_turn<P: Program>(w: &mut World<P>, t: Tid)
     ensures whole { Whole w.new }
     ensures running { w.new.scheduler.running ≡ None }
     ensures preferred { w.new.scheduler.preferred ≡ w.old.scheduler.preferred }
-    ensures made { w.new.threads.records.made ≡ w.old.threads.records.made }
-    ensures attributes { w.new.attributes ≡ w.old.attributes }
+    ensures gives { GivesNone w.old w.new }
     ensures ranks { (roof : ℕ) → greatest_return ≤ roof → IsUnder roof w.old.threads.queues.ready → IsUnder (roof + 1) w.new.threads.queues.ready }
     ensures fresh { length w.new.threads.queues.new ≤ length w.old.threads.queues.new }
     ensures stays { (u : ℕ) → WaitsToRun w.old.threads u → WaitsToRun w.new.threads u }

@@ -8,4 +8,4 @@ use Rattle.pth_sched.proofs.turns.begin_next.Goals as goal
 pub returns-clause-frame : goal.returns-clause-frame
 returns-clause-frame g c =
     let same = c.in_ok-call.ensures.same in
-    IfOk-weaker c.begin.result _ _ (λ n frame. stepped_frame c.args.w.now c.next_call.new.self c.begin.new.w (runs_after c.args.t.0 n) (yields_after n) (c.in_ok-call.ensures.whole c.requires.whole) (ap (λ (k : WorldOf _ _ _). k.scheduler) same) (ap (λ (k : WorldOf _ _ _). k.attributes) same) (ap (λ (k : WorldOf _ _ _). k.threads.records) same) (ap (λ (k : WorldOf _ _ _). k.threads.queues) same) frame) c.begin.ensures.frame
+    IfOk-weaker c.begin.result _ _ (λ n frame. stepped_frame c.args.w.now c.next_call.new.self c.begin.new.w (runs_after c.args.t.0 n) (yields_after n) (c.in_ok-call.ensures.whole c.requires.whole) (ap (λ (k : WorldOf _ _ _). k.scheduler) same) (record { threads = ap (λ (k : WorldOf _ _ _). k.threads.records.made) same; objects = ap (λ (k : WorldOf _ _ _). k.attributes.made) same; events = ap (λ (k : WorldOf _ _ _). k.events.made) same }) (ap (λ (k : WorldOf _ _ _). k.threads.queues) same) frame) c.begin.ensures.frame

@@ -31,8 +31,8 @@ returns-then-is_some-clause-running g c = ap (λ w. w.scheduler.running) c.make_
 pub returns-then-is_some-clause-preferred : goal.returns-then-is_some-clause-preferred
 returns-then-is_some-clause-preferred g c = ap (λ w. w.scheduler.preferred) c.make_waiting.ensures.same
 
-pub returns-then-is_some-clause-made : goal.returns-then-is_some-clause-made
-returns-then-is_some-clause-made g c = c.make_waiting.ensures.threads.made
+pub returns-then-is_some-clause-gives : goal.returns-then-is_some-clause-gives
+returns-then-is_some-clause-gives g c = record { threads = c.make_waiting.ensures.threads.made; objects = ap (λ w. w.attributes.made) c.make_waiting.ensures.same; events = ap (λ w. w.events.made) c.make_waiting.ensures.same }
 
 pub returns-then-is_some-clause-ranks : goal.returns-then-is_some-clause-ranks
 returns-then-is_some-clause-ranks g c = c.make_waiting.ensures.ranks
@@ -46,8 +46,8 @@ returns-else-is_some-clause-running g c = ap (λ w. w.scheduler.running) c.put_b
 pub returns-else-is_some-clause-preferred : goal.returns-else-is_some-clause-preferred
 returns-else-is_some-clause-preferred g c = ap (λ w. w.scheduler.preferred) c.put_back.ensures.same
 
-pub returns-else-is_some-clause-made : goal.returns-else-is_some-clause-made
-returns-else-is_some-clause-made g c = c.put_back.ensures.threads.made
+pub returns-else-is_some-clause-gives : goal.returns-else-is_some-clause-gives
+returns-else-is_some-clause-gives g c = record { threads = c.put_back.ensures.threads.made; objects = ap (λ w. w.attributes.made) c.put_back.ensures.same; events = ap (λ w. w.events.made) c.put_back.ensures.same }
 
 pub returns-else-is_some-clause-ranks : goal.returns-else-is_some-clause-ranks
 returns-else-is_some-clause-ranks g c = c.put_back.ensures.ranks
@@ -57,9 +57,3 @@ returns-then-is_some-clause-stays g c = c.make_waiting.ensures.stays
 
 pub returns-else-is_some-clause-stays : goal.returns-else-is_some-clause-stays
 returns-else-is_some-clause-stays g c = c.put_back.ensures.stays
-
-pub returns-then-is_some-clause-attributes : goal.returns-then-is_some-clause-attributes
-returns-then-is_some-clause-attributes g c = ap (λ w. w.attributes) c.make_waiting.ensures.same
-
-pub returns-else-is_some-clause-attributes : goal.returns-else-is_some-clause-attributes
-returns-else-is_some-clause-attributes g c = ap (λ w. w.attributes) c.put_back.ensures.same

@@ -1,6 +1,7 @@
 use Rattle.std.proofs.Common.{sym}
 use Rattle.std.proofs.lemmas.Result.{err_from_is_err_and}
-use Rattle.pth_sched.proofs.Following.{reach-none, reach-more, reach-stop, reach-cut}
+use Rattle.pth_sched.proofs.Keeping.{stop_rests}
+use Rattle.pth_sched.proofs.Following.{made_less, reach-none, reach-more, reach-stop, reach-cut}
 use Rattle.pth_sched.proofs.schedule.Schedule.advance.Goals as goal
 
 pub loop-self-init : goal.loop-self-init
@@ -26,3 +27,9 @@ pub returns-in_err-part-clause-breaks_off : goal.returns-in_err-part-clause-brea
 returns-in_err-part-clause-breaks_off g c =
     let p = err_from_is_err_and c.from_residual.result c.from_residual.ensures.1 in
     rw p.1 (λ x i st. (let r = c.loop-self.invariant.reaches x i st in reach-cut _ x _ i _ _ _ _ r (sym (c.loop-self-test.ensures.run _ r.stands)) c.in_err-part.ensures.err))
+
+pub loop-self-smaller : goal.loop-self-smaller
+loop-self-smaller g c = made_less g.P.Program.functions _ _ _ _ c.loop-self.invariant.keeps.going.whole.sound c.in_ok-part.ensures.ok c.args.to (sym c.loop-self-test.ensures.stops)
+
+pub returns-clause-rests : goal.returns-clause-rests
+returns-clause-rests g c = stop_rests c.args.to _ (sym c.loop-self-test.ensures.stops) c.loop-self.invariant.keeps

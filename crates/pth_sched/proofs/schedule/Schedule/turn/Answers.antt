@@ -1,5 +1,7 @@
 use Rattle.std.proofs.Common.{◌≡◌, None, Some, sym, rules}
 use Rattle.std.proofs.lemmas.Result.{err_from_is_err_and, on_ok_weaker, on_err_weaker}
+use Rattle.pth_sched.proofs.Following.{made_less}
+use Rattle.pth_sched.proofs.Keeping.{on_ok_three, stop_rests}
 use Rattle.pth_sched.proofs.Turning.{turn-none, turn-more, turn-stop, turn-cut, turn-close, close-cut}
 use Rattle.pth_sched.proofs.schedule.Schedule.turn.Goals as goal
 
@@ -38,3 +40,12 @@ pub returns-in-Some-clause-breaks_off : goal.returns-in-Some-clause-breaks_off
 returns-in-Some-clause-breaks_off g c =
     let over : c.loop-self.self.turn.gave ≡ Some c.in-Some.t.0 = search rules in
     on_err_weaker c.close.result (λ cuts x i st. close-cut _ x _ i _ _ _ (c.loop-self.invariant.turns x i st) (sym c.loop-self-test.ensures.stops) _ over _ cuts) c.close.ensures.err
+
+pub loop-self-smaller : goal.loop-self-smaller
+loop-self-smaller g c = made_less g.P.Program.functions _ _ _ _ c.loop-self.invariant.keeps.going.whole.sound c.in_ok-part.ensures.ok c.args.to (sym c.loop-self-test.ensures.stops)
+
+pub returns-clause-rests : goal.returns-clause-rests
+returns-clause-rests g c = stop_rests c.args.to _ (sym c.loop-self-test.ensures.stops) c.loop-self.invariant.keeps
+
+pub returns-in-Some-clause-rests : goal.returns-in-Some-clause-rests
+returns-in-Some-clause-rests g c = on_ok_three c.close.result c.close.ensures.going c.close.ensures.ranks c.close.ensures.gave (λ going ranks gave. record { keeps = record { going = going; ranks = ranks }; closed = λ goes nobody. gave })

@@ -1,0 +1,203 @@
+-- The moments for which waiting threads wait are counted, one after another.
+use Rattle.std.proofs.Common.{◌≡◌, ◌≢◌, ◌∙◌, ℕ, ℤ, ◌==◌, ◌&&◌, ◌++◌, ◌∷◌, Bool, true, false, if◌then◌else◌, nat_lt, nat_le, min, List, [], map, Option, Some, None, option_map, inl, refl, sym, ap, ap₂, subst, append_assoc, append-nil, arith}
+use Rattle.std.proofs.Math.Nat.{min_comm}
+use Rattle.pth_base.specs.Limits.{last_moment}
+use Rattle.pth_base.specs.Program.{Functions}
+use Rattle.pth_base.specs.declared.call.Call.{Call}
+use Rattle.pth_base.specs.declared.call.Call.TheVariants as call
+use Rattle.pth_base.specs.declared.event.EvLine.{EvLine}
+use Rattle.pth_base.specs.declared.event.EvLine.TheVariants as line
+use Rattle.pth_base.specs.declared.event.EventSpec.{EventSpec}
+use Rattle.pth_base.specs.declared.query.Query.{Query}
+use Rattle.pth_base.specs.declared.query.Query.TheVariants as query
+use Rattle.pth_base.proofs.Tables.{same_self, not_same}
+use Rattle.pth_numbered.specs.Operands.{number, is_zero}
+use Rattle.pth_ring.specs.declared.event.Event.{Event}
+use Rattle.pth_ring.specs.Ring.{StandsIn, RingGoesOn, Begins, from, rest_of}
+use Rattle.pth_ring.specs.Rings.{Events}
+use Rattle.pth_model.specs.declared.awaits.Awaits.{Awaits}
+use Rattle.pth_model.specs.declared.awaits.Awaits.TheVariants.{Death, AnyDeath, Moment, Ring}
+use Rattle.pth_model.specs.declared.blocked.Blocked.{Blocked}
+use Rattle.pth_model.specs.Awaits.{awaited_by, awaits_in}
+use Rattle.pth_model.specs.Calls.{until_by, waits_until}
+use Rattle.pth_model.specs.Changes.{blocked_of}
+use Rattle.pth_model.specs.EventHandling.{chain}
+use Rattle.pth_model.specs.LibraryControl.{ctrl}
+use Rattle.pth_model.specs.Looks.{event_moment, occurs_at}
+use Rattle.pth_model.specs.Pass.{least_after, least_by, moments_of}
+use Rattle.pth_model.specs.Rows.{row_of}
+use Rattle.pth_model.specs.State.{State}
+use Rattle.pth_waits.proofs.Waking.{ring_events, no_events}
+
+-- ---- the least of a list
+
+-- the least of three does not hang on their order
+min_turned : (m n b : ℕ) → min n (min m b) ≡ min m (min n b)
+min_turned m n b = omega arith
+
+module _ (now : ℕ) where
+  abbrev counts : ℕ → Bool
+  counts m = nat_lt now m && nat_le m last_moment
+
+  -- a moment is counted where the best so far is b
+  abbrev pub sooner : Option ℕ → ℕ → Option ℕ
+  sooner b m = if counts m then least_by m b else b
+
+  sooner_by : (p q : Bool) (b : Option ℕ) (m n : ℕ) → (if q then least_by n (if p then least_by m b else b) else (if p then least_by m b else b)) ≡ (if p then least_by m (if q then least_by n b else b) else (if q then least_by n b else b))
+  sooner_by true true None m n = ap (λ (x : ℕ). Some x) (min_comm n m)
+  sooner_by true true (Some b) m n = ap (λ (x : ℕ). Some x) (min_turned m n b)
+  sooner_by true false b m n = refl
+  sooner_by false true b m n = refl
+  sooner_by false false b m n = refl
+
+  -- a list of one more
+  pub least_more : (ms : List ℕ) (m : ℕ) → least_after now (ms ++ m ∷ []) ≡ sooner (least_after now ms) m
+  least_more [] m = refl
+  least_more (x ∷ ms) m = ap (λ (b : Option ℕ). sooner b x) (least_more ms m) ∙ sooner_by (counts m) (counts x) (least_after now ms) m x
+
+  -- a moment of 0 does not count
+  zero_is_past : nat_lt now 0 ≡ false
+  zero_is_past = grind arith
+
+  pub least_zero : (ms : List ℕ) → least_after now (ms ++ 0 ∷ []) ≡ least_after now ms
+  least_zero ms = least_more ms 0 ∙ ap (λ (b : Bool). if b && nat_le 0 last_moment then least_by 0 (least_after now ms) else least_after now ms) zero_is_past
+
+-- ---- one after another
+
+-- Of all these moments the rest are left. The best is the least of those that were counted.
+pub record Counted (now : ℕ) (all rest : List ℕ) (best : Option ℕ) : Type 0 where
+  pub done : List ℕ
+  pub split : all ≡ done ++ rest
+  pub least : best ≡ least_after now done
+
+module _ (now : ℕ) (all rest : List ℕ) (best next : Option ℕ) where
+  -- more of them are counted
+  pub counts_more : (ms : List ℕ) → (c : Counted now all (ms ++ rest) best) → next ≡ least_after now (c.done ++ ms) → Counted now all rest next
+  counts_more ms c is = record { done = c.done ++ ms; split = c.split ∙ sym (append_assoc c.done ms rest); least = is }
+
+  -- one more is counted
+  pub counts_one : (m : ℕ) → Counted now all (m ∷ rest) best → next ≡ sooner now best m → Counted now all rest next
+  counts_one m c is = counts_more (m ∷ []) c (is ∙ ap (λ (b : Option ℕ). sooner now b m) c.least ∙ sym (least_more now c.done m))
+
+pub all_counted : (now : ℕ) (all rest : List ℕ) (best : Option ℕ) → rest ≡ [] → Counted now all rest best → best ≡ least_after now all
+all_counted now all rest best none c = c.least ∙ ap (least_after now) (sym (c.split ∙ ap (λ (l : List ℕ). c.done ++ l) none ∙ append-nil c.done))
+
+-- ---- round a ring
+
+-- what is kept of an event tells its moment
+event_moment_is : (o : Option Event) (spec : EventSpec) → option_map (λ (v : Event). v.spec) o ≡ Some spec → occurs_at spec ≡ event_moment o
+event_moment_is None spec is = absurd (cc is)
+event_moment_is (Some v) spec is = let e : spec ≡ v.spec = cc is in ap occurs_at e
+
+module _ (x : Events) (now e : ℕ) (start : Option ℕ) where
+  abbrev pub moments_from : List ℕ → List ℕ
+  moments_from = map (λ (i : ℕ). event_moment (x.events i))
+
+  -- the events of a ring were counted up to n, which comes next, after moments of which start is the least
+  pub record CountedRound (n : ℕ) (best : Option ℕ) : Type 0 where
+    pub within : StandsIn n (x.rings e)
+    pub counted : (ms : List ℕ) → start ≡ least_after now ms → Counted now (ms ++ moments_from (x.rings e)) (moments_from (from n (x.rings e))) best
+
+  from_first : (xs : List ℕ) → xs ≡ e ∷ rest_of xs → from e xs ≡ xs
+  from_first xs begins = rw begins (rw (same_self e) refl)
+
+  pub counts_none : Begins (x.rings e) e → CountedRound e start
+  counts_none begins = record {
+    within = subst (λ (l : List ℕ). StandsIn e l) (sym begins) (inl refl);
+    counted = λ ms is. record { done = ms; split = ap (λ (l : List ℕ). ms ++ moments_from l) (sym (from_first (x.rings e) begins)); least = is };
+  }
+
+  module _ (n m : ℕ) (best next : Option ℕ) (spec : EventSpec) (so_far : CountedRound n best)
+      (spec_is : option_map (λ (v : Event). v.spec) (x.events n) ≡ Some spec) (is : next ≡ sooner now best (occurs_at spec))
+      (goes_on : (i : ℕ) → StandsIn n (x.rings i) → RingGoesOn (x.rings i) i n m) where
+    abbrev left : List ℕ
+    left = if m == e then [] else from m (x.rings e)
+
+    goes : RingGoesOn (x.rings e) e n m
+    goes = goes_on e so_far.within
+
+    counted_now : (ms : List ℕ) → start ≡ least_after now ms → Counted now (ms ++ moments_from (x.rings e)) (moments_from left) next
+    counted_now ms h =
+        counts_one now _ (moments_from left) best next (event_moment (x.events n))
+        (subst (λ (l : List ℕ). Counted now (ms ++ moments_from (x.rings e)) (moments_from l) best) goes.rest (so_far.counted ms h))
+        (is ∙ ap (sooner now best) (event_moment_is (x.events n) spec spec_is))
+
+    -- it was the last
+    pub round_counted : m ≡ e → (ms : List ℕ) → start ≡ least_after now ms → next ≡ least_after now (ms ++ moments_from (x.rings e))
+    round_counted last ms h =
+        let none : left ≡ [] = rw (last, same_self e) refl in
+        all_counted now _ (moments_from left) next (ap moments_from none) (counted_now ms h)
+
+    -- another one comes next
+    pub counts_next : m ≢ e → CountedRound m next
+    counts_next more = record {
+      within = goes.within;
+      counted = λ ms h.
+          let some : left ≡ from m (x.rings e) = rw (not_same m e more) refl in
+          subst (λ (l : List ℕ). Counted now (ms ++ moments_from (x.rings e)) (moments_from l) next) some (counted_now ms h);
+    }
+
+-- ---- the moments of a thread
+
+-- the moment that is awaited, 0 for none
+abbrev moment_in : Awaits → ℕ
+moment_in (Moment m) = m
+moment_in a = 0
+
+none_in : (a : Awaits) → ((m : ℕ) → a ≢ Moment m) → moment_in a ≡ 0
+none_in (Moment m) other = absurd (other m refl)
+none_in a other = refl
+
+module _ {P S H : Type 0} (f : P → Functions S H) (s : State P S H) (t : ℕ) where
+  ctrl_until : (x : Query) (b : Blocked) → (ctrl s x).until b ≡ 0
+  ctrl_until query.Threads b = refl
+  ctrl_until x b = refl
+
+  chain_until : (e : ℤ) (l : EvLine) (b : Blocked) → (chain s e l).until b ≡ 0
+  chain_until e (line.Time at) b = refl
+  chain_until e l b = refl
+
+  join_until : (n : ℤ) (zero : Bool) → 0 ≡ moment_in (if zero then AnyDeath else Death n)
+  join_until n true = refl
+  join_until n false = refl
+
+  call_until : (c : Call) (b : Blocked) → (row_of f s t c).until b ≡ moment_in (awaited_by c b.moment)
+  unfolding row_of
+  call_until (call.Join n) b = join_until n (is_zero n)
+  call_until (call.Ctrl x) b = ctrl_until x b
+  call_until (call.Chain e l) b = chain_until e l b
+  call_until c b = refl
+
+  blocked_until : (o : Option Blocked) → until_by f t s o ≡ moment_in (awaits_in o)
+  blocked_until None = refl
+  blocked_until (Some b) = call_until b.call b
+
+  -- the moment for which a thread waits is that for which its call does
+  until_is : (a : Awaits) → awaits_in (blocked_of s.control t) ≡ a → waits_until f t s ≡ moment_in a
+  unfolding waits_until
+  until_is a is = blocked_until (blocked_of s.control t) ∙ ap moment_in is
+
+  abbrev moments_with : ℕ → List ℕ → List ℕ
+  moments_with m es = m ∷ map (λ e. event_moment (s.control.events.events e)) es
+
+  -- after moments of which best is the least, those of the thread are counted
+  module _ (now : ℕ) (ms : List ℕ) (best : Option ℕ) (least : best ≡ least_after now ms) where
+    pub moment_counted : (m : ℕ) → awaits_in (blocked_of s.control t) ≡ Moment m → (next : Option ℕ) → next ≡ sooner now best m → next ≡ least_after now (ms ++ moments_of f s t)
+    moment_counted m waits next counted =
+        let is : moments_of f s t ≡ m ∷ [] = ap₂ moments_with (until_is (Moment m) waits) (no_events s.control t (Moment m) waits (λ e h. cc h)) in
+        counted ∙ ap (λ (b : Option ℕ). sooner now b m) least ∙ sym (least_more now ms m) ∙ ap (λ (l : List ℕ). least_after now (ms ++ l)) (sym is)
+
+    pub ring_counted : (e : ℤ) → awaits_in (blocked_of s.control t) ≡ Ring e → (x : Events) → s.control.events ≡ x → (next : Option ℕ)
+        → ((ns : List ℕ) → best ≡ least_after now ns → next ≡ least_after now (ns ++ map (λ i. event_moment (x.events i)) (x.rings (number e))))
+        → next ≡ least_after now (ms ++ moments_of f s t)
+    ring_counted e waits x same next is =
+        let events = λ (y : Events). map (λ i. event_moment (y.events i)) (y.rings (number e)) in
+        let own : moments_of f s t ≡ 0 ∷ events s.control.events = ap₂ moments_with (until_is (Ring e) waits) (ring_events s.control t e waits) in
+        is (ms ++ 0 ∷ []) (least ∙ sym (least_zero now ms))
+        ∙ ap (least_after now) (append_assoc ms (0 ∷ []) (events x))
+        ∙ ap (λ (l : List ℕ). least_after now (ms ++ l)) (sym (own ∙ ap (λ (y : Events). 0 ∷ events y) same))
+
+    pub none_counted : (a : Awaits) → awaits_in (blocked_of s.control t) ≡ a → ((m : ℕ) → a ≢ Moment m) → ((e : ℤ) → a ≢ Ring e) → best ≡ least_after now (ms ++ moments_of f s t)
+    none_counted a waits other no_ring =
+        let is : moments_of f s t ≡ 0 ∷ [] = ap₂ moments_with (until_is a waits ∙ none_in a other) (no_events s.control t a waits no_ring) in
+        least ∙ sym (least_zero now ms) ∙ ap (λ (l : List ℕ). least_after now (ms ++ l)) (sym is)

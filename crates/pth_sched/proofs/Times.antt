@@ -1,0 +1,144 @@
+-- How time goes on.
+use Rattle.std.proofs.Common.{◌≡◌, ℕ, ◌+◌, ◌-◌, ◌<◌, ◌≤◌, ◌&&◌, min, nat_lt, nat_le, ℤ, Bool, true, false, if◌then◌else◌, List, [], ◌∷◌, Option, Some, None, refl, arith, subst}
+use Rattle.std.proofs.lemmas.Bool.Decides.{nat_tests}
+use Rattle.pth_base.specs.Limits.{last_moment}
+use Rattle.pth_base.specs.Program.{Functions}
+use Rattle.pth_queue.specs.declared.queue.Queue.{Queue}
+use Rattle.pth_model.specs.declared.blocked.Blocked.{Blocked}
+use Rattle.pth_model.specs.State.{State, Control, Turn, now_of}
+use Rattle.pth_model.specs.Transition.{◌and◌}
+use Rattle.pth_model.specs.Changes.{blocked_of, entry_of, enters, forgets, goes_on, leaves_queue, makes, or_nobody, queue_for, raises_ready, removes, sets}
+use Rattle.pth_model.specs.Pass.{moment, moments, least_by, least_after, is_ready_at}
+use Rattle.pth_model.specs.Part.{steps, placed_by, is_placed, is_put_back, is_put_waiting, turn_ends, readies, readies_all}
+use Rattle.pth_model.specs.ThreadControl.{suspends, resumes, returns_to}
+use Rattle.pth_model.specs.LibraryControl.{vanish_all_but}
+use Rattle.pth_model.specs.Ending.{leaves, is_dead_with, stops_running}
+use Rattle.pth_model.proofs.Walks.{KeptBy, step_keeps}
+use Rattle.pth_sched.specs.MachineOf.{time_left}
+
+-- ---- the moment to which idle time moves
+
+-- later than now, and no later than the last moment
+pub record IsLater (now m : ℕ) : Type 0 where
+  pub after : now < m
+  pub within : m ≤ last_moment
+
+both : (a b : Bool) → (a && b) ≡ true → (a ≡ true) × (b ≡ true)
+both true b h = (refl, h)
+both false b h = absurd (cc h)
+
+lower : (n m : ℕ) → nat_lt n m ≡ true → n < m
+lower n m h = grind (arith, nat_tests)
+
+at_most : (n m : ℕ) → nat_le n m ≡ true → n ≤ m
+at_most n m h = grind (arith, nat_tests)
+
+tested_later : (now m : ℕ) → (nat_lt now m && nat_le m last_moment) ≡ true → IsLater now m
+tested_later now m h = (let b = both (nat_lt now m) (nat_le m last_moment) h in record { after = lower now m b.0; within = at_most m last_moment b.1 })
+
+min_later : (now m n last : ℕ) → now < m → m ≤ last → now < n → n ≤ last → (now < min m n) × (min m n ≤ last)
+min_later now m n last a b c d = (omega arith, omega arith)
+
+least_later : (now m n : ℕ) → IsLater now m → IsLater now n → IsLater now (min m n)
+least_later now m n a b = (let both = min_later now m n last_moment a.after a.within b.after b.within in record { after = both.0; within = both.1 })
+
+-- the least of these moments, where one is taken or not
+of_least : (now x m : ℕ) (o : Option ℕ) → IsLater now x → ((n : ℕ) → o ≡ Some n → IsLater now n) → least_by x o ≡ Some m → IsLater now m
+of_least now x m None own rest is = (let same : x ≡ m = cc in subst (IsLater now) same own)
+of_least now x m (Some n) own rest is = (let same : min x n ≡ m = cc in subst (IsLater now) same (least_later now x n own (rest n refl)))
+
+of_tested : (now x m : ℕ) (b : Bool) (o : Option ℕ) → (b ≡ true → IsLater now x) → ((n : ℕ) → o ≡ Some n → IsLater now n) → (if b then least_by x o else o) ≡ Some m → IsLater now m
+of_tested now x m true o own rest is = of_least now x m o (own refl) rest is
+of_tested now x m false o own rest is = rest m is
+
+after_later : (now m : ℕ) (ms : List ℕ) → least_after now ms ≡ Some m → IsLater now m
+after_later now m [] is = absurd (cc is)
+after_later now m (x ∷ xs) is = of_tested now x m (nat_lt now x && nat_le x last_moment) (least_after now xs) (tested_later now x) (λ n rest. after_later now n xs rest) is
+
+pub moment_later : {P S H : Type 0} (f : P → Functions S H) (s : State P S H) (m : ℕ) → moment f s ≡ Some m → IsLater (now_of s.control) m
+moment_later f s m is = after_later (now_of s.control) m (moments f s) is
+
+-- ---- what is left of time
+
+less_left : (now m last : ℕ) → now < m → m ≤ last → last - m < last - now
+less_left now m last after within = omega arith
+
+no_more_left : (now clock last : ℕ) → last - min (now + clock) last ≤ last - now
+no_more_left now clock last = omega arith
+
+pub time_less : (now m : ℕ) → IsLater now m → time_left m < time_left now
+unfolding time_left
+time_less now m later = less_left now m last_moment later.after later.within
+
+time_still : (now clock : ℕ) → time_left (min (now + clock) last_moment) ≤ time_left now
+unfolding time_left
+time_still now clock = no_more_left now clock last_moment
+
+-- ---- the parts of a run
+
+module _ {P S H : Type 0} where
+  -- new threads become ready in no time
+  pub readied_scheduler : (ts : List ℕ) (k : Control P S H) → (readies_all ts k).scheduler ≡ k.scheduler
+  unfolding readies_all readies is_ready_at enters sets leaves_queue
+  readied_scheduler [] k = refl
+  readied_scheduler (t ∷ ts) k = readied_scheduler ts (readies t k)
+
+  placed_now : (k : Control P S H) (t : ℕ) (r : Option ℕ) (b : Option Blocked) → (placed_by t r b k).scheduler.now ≡ k.scheduler.now
+  unfolding is_put_back is_put_waiting enters sets
+  placed_now k t None b = refl
+  placed_now k t (Some r) (Some b) = refl
+  placed_now k t (Some r) None = refl
+
+  -- the end of a turn leaves no more time
+  pub ended_time : (k : Control P S H) (t : ℕ) → time_left (turn_ends t k).scheduler.now ≤ time_left k.scheduler.now
+  unfolding is_placed raises_ready
+  ended_time k t =
+      let raised = raises_ready k in
+      let placed = is_placed t raised in
+      let now : placed.scheduler.now ≡ k.scheduler.now = placed_now raised t raised.scheduler.running (blocked_of raised t) in
+      let least = time_still placed.scheduler.now placed.scheduler.clock in
+      subst (λ (n : ℕ). time_left (turn_ends t k).scheduler.now ≤ time_left n) now least
+
+module _ {P S H : Type 0} (f : P → Functions S H) (t n : ℕ) where
+  abbrev IsAt : Control P S H → Type 0
+  IsAt k = k.scheduler.now ≡ n
+
+  returned_at : (u : ℕ) (k : Control P S H) (o : Option Queue) → IsAt k → IsAt (returns_to u o k)
+  unfolding enters sets leaves_queue
+  returned_at u k None is = is
+  returned_at u k (Some q) is = is
+
+  resumed_at : (u : ℕ) (k : Control P S H) → IsAt k → IsAt (resumes u k)
+  unfolding resumes
+  resumed_at u k is = returned_at u k (queue_for (or_nobody (entry_of k u)).state) is
+
+  left_at : (v : ℤ) (k : Control P S H) → IsAt k → IsAt (leaves t v k)
+  unfolding leaves is_dead_with enters sets leaves_queue forgets
+  left_at v k is = by_joinable (or_nobody (entry_of k t)).joinable
+    where
+      by_joinable : (b : Bool) → IsAt (((if b then is_dead_with t v else removes t) and stops_running t) k)
+      by_joinable true = is
+      by_joinable false = is
+
+  calls_stay : KeptBy f t IsAt
+  unfolding goes_on makes enters sets leaves_queue forgets suspends vanish_all_but
+  calls_stay = record {
+    goes = λ u g k is. is;
+    shares = λ h k is. is;
+    spawned = λ b v of k is. is;
+    suspended = λ u k other is. is;
+    resumed = λ u k other is. resumed_at u k is;
+    preferred = λ u k known is. is;
+    removed = λ u k is. is;
+    favoured = λ b k is. is;
+    changed = λ u c k is. is;
+    added = λ x k is. is;
+    exchanged = λ u o k is. is;
+    evented = λ x k is. is;
+    left = left_at;
+    vanished = λ k is. is;
+  }
+
+  -- a step takes no time
+  pub step_at : (x : Turn) (s : State P S H) → IsAt s.control → IsAt (steps f x t s).state.control
+  step_at x s is = step_keeps f t IsAt calls_stay x s is

@@ -1,0 +1,22 @@
+use Rattle.std.proofs.Common.{refl, sym, subst}
+use Rattle.std.proofs.lemmas.Result.{on_ok_weaker, on_err_weaker}
+use Rattle.pth_sched.specs.Running.{Stands, Keeps}
+use Rattle.pth_sched.proofs.Moving.{pass_makes, pass_keeps}
+use Rattle.pth_sched.proofs.schedule.Schedule.pass.Goals as goal
+
+pub returns-clause-ok : goal.returns-clause-ok
+returns-clause-ok g c =
+    on_ok_weaker c.pass.result (λ leads x st.
+    let inside = subst (λ m. Stands m x) (sym c.self.view_is) st in
+    pass_makes _ _ g.P.Program.functions x _ _ inside refl (leads x.state inside.world)) c.pass.ensures.ok
+
+pub returns-clause-err : goal.returns-clause-err
+returns-clause-err g c =
+    on_err_weaker c.pass.result (λ cut x st.
+    let inside = subst (λ m. Stands m x) (sym c.self.view_is) st in
+    cut x.state inside.world) c.pass.ensures.err
+
+pub returns-clause-keeps : goal.returns-clause-keeps
+returns-clause-keeps g c =
+    let before = subst (λ m. Keeps m) (sym c.self.view_is) c.requires.keeps in
+    pass_keeps _ _ c.pass.result before refl c.pass.ensures.whole c.pass.ensures.scheduler c.pass.ensures.made c.pass.ensures.ranks c.pass.ensures.stays

@@ -1,0 +1,124 @@
+//! What a pass keeps while it goes over the waiting threads.
+
+ghost use Rattle.std.specs.Prelude.{◌≡◌, ◌≢◌, ℕ, List, [], ◌++◌, ◌∷◌, All, map, if◌then◌else◌, OnOk};
+ghost use Rattle.pth_model.specs.Pass.{looks, moment, to_wake, waiting};
+ghost use Rattle.pth_model.specs.State.{Control, State};
+ghost use Rattle.pth_model.specs.declared.awaits.Awaits.TheVariants.{AnyDeath};
+ghost use Rattle.pth_model.specs.Looks.{looks_at};
+ghost use Rattle.pth_model.specs.RingWaits.{awaited_events};
+ghost use Rattle.pth_threads.specs.Threads.{number_of, tid_at};
+ghost use Rattle.pth_waits.specs.Waking.{has_come, is_due};
+ghost use Rattle.pth_world.specs.Shows.{Shows, StandsFor};
+ghost use Rattle.pth_world.specs.Whole.{Whole};
+
+use crate::moments::next_moment;
+use pth_base::ids::{Micros, Slot, Tid};
+use pth_base::limits::MOST_THREADS;
+use pth_base::memory::OutOfMemory;
+use pth_base::program::Program;
+use pth_waits::joins::any_has_died;
+use pth_waits::wakes::is_to_wake;
+use pth_world::world::World;
+use std::alloc::Global;
+use std::marker::Model;
+
+/// The slots of the waiting threads, and the threads that wake: there is room for all, so that a pass takes no memory.
+#[derive(Drop)]
+pub struct PassRoom {
+    waiting: Vec<Slot>,
+    waking: Vec<Tid>,
+}
+
+impl Model for PassRoom {
+    ghost use Rattle.std.specs.Prelude.{◌≤◌, ℕ, List, map, vec_capacity};
+    ghost use Rattle.pth_base.specs.Limits.{thread_limit};
+    ghost use Rattle.pth_threads.specs.Threads.{number_of};
+
+    // The threads that wake.
+    ghost Value = { List ℕ };
+
+    ghost view = { λ a. map number_of a.waking.items };
+
+    ghost invariant = { λ a. thread_limit ≤ vec_capacity a.waiting };
+}
+
+// A waiting thread is gone over: it is listed where it is to wake.
+fn go_over<P: Program>(
+    w: &mut World<P>,
+    slot: Slot,
+    any_dead: bool,
+    waking: &mut Vec<Tid>,
+) -> Result<(), OutOfMemory>
+    requires whole { Whole w.old }
+    requires used { tid_at w.old.threads.records slot.0 ≢ 0 }
+    requires dead { (k : Control P P.State P.Shared) (t : ℕ) → Shows w.old k → any_dead ≡ has_come k t AnyDeath }
+    ensures shows { OnOk result ((k : Control P P.State P.Shared) → Shows w.old k → Shows w.new (looks_at k (awaited_events k (tid_at w.old.threads.records slot.0)))) }
+    ensures listed { OnOk result ((k : Control P P.State P.Shared) → Shows w.old k → map number_of waking.new.items ≡ map number_of waking.old.items ++ (if is_due k (tid_at w.old.threads.records slot.0) then tid_at w.old.threads.records slot.0 ∷ [] else [])) }
+    ensures made { OnOk result (w.new.events.made ≡ w.old.events.made) }
+    ensures same { OnOk result (w.new ≡ record w.old { events = w.new.events }) }
+{
+    if is_to_wake(w, slot, any_dead) {
+        waking.push(w.thread_in(slot))?;
+    }
+    Ok(())
+}
+
+// The waiting threads are gone over in their order.
+fn go_over_all<P: Program>(
+    w: &mut World<P>,
+    slots: &[Slot],
+    waking: &mut Vec<Tid>,
+) -> Result<(), OutOfMemory>
+    requires whole { Whole w.old }
+    requires used { All (λ s. tid_at w.old.threads.records s.0 ≢ 0) slots.now }
+    requires waiting { (k : Control P P.State P.Shared) → Shows w.old k → map (λ s. tid_at w.old.threads.records s.0) slots.now ≡ waiting k }
+    ensures listed { OnOk result ((s : State P P.State P.Shared) → StandsFor w.old s → map number_of waking.new.items ≡ to_wake P.functions s) }
+    ensures shows { OnOk result ((k : Control P P.State P.Shared) → Shows w.old k → Shows w.new (looks k)) }
+    ensures made { OnOk result (w.new.events.made ≡ w.old.events.made) }
+    ensures same { OnOk result (w.new ≡ record w.old { events = w.new.events }) }
+{
+    waking.clear();
+    let any_dead = any_has_died(w);
+    for slot in slots {
+        go_over(w, *slot, any_dead, waking)?;
+    }
+    Ok(())
+}
+
+impl PassRoom {
+    /// Room for as many threads as there may be.
+    pub fn new(alloc: Global) -> Result<PassRoom, OutOfMemory> {
+        let waiting = Vec::with_capacity(alloc, MOST_THREADS as usize)?;
+        let waking = Vec::with_capacity(alloc, MOST_THREADS as usize)?;
+        Ok(PassRoom { waiting, waking })
+    }
+
+    /// Looks at the events for which threads wait, and lists the waiting threads that are to wake, in their order.
+    pub fn go_over<P: Program>(&mut self, w: &mut World<P>) -> Result<(), OutOfMemory>
+        requires { Whole w.old }
+        ensures listed { OnOk result ((s : State P P.State P.Shared) → StandsFor w.old s → self.new ≡ to_wake P.functions s) }
+        ensures shows { OnOk result ((k : Control P P.State P.Shared) → Shows w.old k → Shows w.new (looks k)) }
+        ensures made { OnOk result (w.new.events.made ≡ w.old.events.made) }
+        ensures same { OnOk result (w.new ≡ record w.old { events = w.new.events }) }
+    {
+        w.waiting(&mut self.waiting);
+        go_over_all(w, self.waiting.as_slice(), &mut self.waking)
+    }
+
+    /// The least moment, in microseconds, that is later than now and for which a waiting thread waits.
+    pub fn next_moment<P: Program>(&mut self, w: &World<P>) -> Option<Micros>
+        requires { Whole w.now }
+        ensures moment { (s : State P P.State P.Shared) → StandsFor w.now s → result ≡ moment P.functions s }
+        ensures same { self.new ≡ self.old }
+    {
+        w.waiting(&mut self.waiting);
+        next_moment(w, self.waiting.as_slice())
+    }
+
+    /// The threads that were listed last.
+    pub fn waking(&self) -> &[Tid]
+        ensures { map number_of result.now ≡ self.now }
+    {
+        self.waking.as_slice()
+    }
+}
