@@ -3,7 +3,7 @@ use Rattle.std.proofs.Common.{◌≡◌, ℕ, true, List, [], ◌∷◌, Option,
 use Rattle.std.specs.Prelude.{is_some}
 use Rattle.pth_base.specs.declared.attr.AttrField.{AttrField}
 use Rattle.pth_base.specs.declared.attr.AttrField.TheVariants as field
-use Rattle.pth_grammar.specs.CallLines.{query_by, query_line, ctrl_line, field_by, field_line, set_line, library_by, library_line, attribute_by, attribute_line, thread_by, thread_line, utility_by, utility_line, cancellation_by, cancellation_line, new_event_by, new_event_line, event_by, event_line, key_by, key_line, port_by, port_line, cleanup_by, cleanup_line, mutex_by, mutex_line, rwlock_by, rwlock_line, condition_by, condition_line, barrier_by, barrier_line, io_by, io_line, chain_line, call_line}
+use Rattle.pth_grammar.specs.CallLines.{query_by, query_line, ctrl_line, number_field, field_line, set_line, library_by, library_line, attribute_by, attribute_line, thread_by, thread_line, utility_by, utility_line, cancellation_by, cancellation_line, new_event_by, new_event_line, event_by, event_line, key_by, key_line, port_by, port_line, cleanup_by, cleanup_line, mutex_by, mutex_line, rwlock_by, rwlock_line, condition_by, condition_line, barrier_by, barrier_line, io_by, io_line, chain_line, call_line}
 use Rattle.pth_grammar.specs.Forms.{query_forms, ctrl_forms, field_forms, set_forms, library_forms, attribute_forms, thread_forms, utility_forms, cancellation_forms, new_event_forms, event_forms, key_forms, port_forms, cleanup_forms, mutex_forms, rwlock_forms, condition_forms, barrier_forms, io_forms, chained_forms, chain_forms, call_forms}
 use Rattle.pth_spelling.specs.Keywords.{new_event_word}
 use Rattle.pth_grammar.specs.declared.form.Form.TheVariants as form
@@ -68,13 +68,13 @@ ctrl [] h = absurd h
 ctrl (q ∷ ws) h = query_asked (query_of q) q ws refl h
 
 field_valued : (k : Option AttrField) (a f : List ℕ) (ws : List (List ℕ)) → field_of f ≡ k → AllFine (field_forms k) (a ∷ f ∷ ws) → is_some (field_line k ws) ≡ true
-field_valued (Some field.Prio) a f ws e h = numbers1 (field_by field.Prio) ws (λ x. refl) h.1.1
+field_valued (Some field.Prio) a f ws e h = numbers1 (number_field field.Prio) ws (λ x. refl) h.1.1
 field_valued (Some field.Name) a f ws e h = row1 name _ ws h.1.1
-field_valued (Some field.Joinable) a f ws e h = numbers1 (field_by field.Joinable) ws (λ x. refl) h.1.1
-field_valued (Some field.Cancel) a f ws e h = numbers1 (field_by field.Cancel) ws (λ x. refl) h.1.1
-field_valued (Some field.Dispatches) a f ws e h = numbers1 (field_by field.Dispatches) ws (λ x. refl) h.1.1
-field_valued (Some field.State) a f ws e h = numbers1 (field_by field.State) ws (λ x. refl) h.1.1
-field_valued (Some field.Bound) a f ws e h = numbers1 (field_by field.Bound) ws (λ x. refl) h.1.1
+field_valued (Some field.Joinable) a f ws e h = numbers1 (number_field field.Joinable) ws (λ x. refl) h.1.1
+field_valued (Some field.Cancel) a f ws e h = numbers1 (number_field field.Cancel) ws (λ x. refl) h.1.1
+field_valued (Some field.Dispatches) a f ws e h = numbers1 (number_field field.Dispatches) ws (λ x. refl) h.1.1
+field_valued (Some field.State) a f ws e h = numbers1 (number_field field.State) ws (λ x. refl) h.1.1
+field_valued (Some field.Bound) a f ws e h = numbers1 (number_field field.Bound) ws (λ x. refl) h.1.1
 field_valued None a f ws e h = absurd (none_by (field_of f) e (field_word.reads f h.1.0))
 
 first_by : (k : Option AttrField) (a f : List ℕ) (ws : List (List ℕ)) → AllFine (field_forms k) (a ∷ f ∷ ws) → IsFine form.Operand a

@@ -8,7 +8,7 @@ use Rattle.pth_grammar.specs.CallLines.{call_line}
 use Rattle.pth_grammar.specs.Forms.{call_forms, act_forms, body_forms, forms_of}
 use Rattle.pth_spelling.specs.Keywords.{call_word, keyword_of, begins}
 use Rattle.pth_grammar.specs.LineMeanings.{line_by, answered_line, line_of, act_with, act_by, act_of, check_by, check_of}
-use Rattle.pth_grammar.specs.Shapes.{Shape, Unequal, Asks, asks, after_register, answers, shape_of, wrong, words_break, word_rules, words_fault}
+use Rattle.pth_grammar.specs.Shapes.{Shape, Unequal, Asks, asks, after_register, takes_answer, shape_of, wrong, words_break, word_rules, words_fault}
 use Rattle.pth_spelling.specs.WordMeanings.{register_of}
 use Rattle.pth_grammar.specs.declared.form.Form.{Form}
 use Rattle.pth_grammar.specs.declared.form.Form.TheVariants as form
@@ -73,7 +73,7 @@ no_register : (b : Bool) (o : Option Keyword) (k : Keyword) → cond b None o �
 no_register true o k h = absurd (cc)
 no_register false o k h = refl
 
-no_answer : (s : Section) (w : List ℕ) → is_some (register_of w) ≡ false → answers s w ≡ false
+no_answer : (s : Section) (w : List ℕ) → is_some (register_of w) ≡ false → takes_answer s w ≡ false
 no_answer sec.Body w h = h
 no_answer sec.Handlers w h = refl
 no_answer sec.Handler w h = refl

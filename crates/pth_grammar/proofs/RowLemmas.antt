@@ -6,13 +6,13 @@ use Rattle.pth_line.specs.declared.operand.ByteOperand.TheVariants as bytes
 use Rattle.pth_line.specs.declared.operand.Operand.{Operand}
 use Rattle.pth_line.specs.declared.operand.Value.{Value}
 use Rattle.pth_spelling.specs.Keywords.{new_event_word}
-use Rattle.pth_grammar.specs.Reading.{operands_of, values_of, read1, read2, read3, read4, read5}
+use Rattle.pth_grammar.specs.Reading.{operands_of, act_values, read1, read2, read3, read4, read5}
 use Rattle.pth_grammar.specs.Shapes.{misses}
 use Rattle.pth_grammar.specs.declared.operands.Operands.{Operands}
 use Rattle.pth_grammar.specs.declared.operands.Operands.TheVariants.{Zero, One, Two, Three}
 use Rattle.pth_grammar.specs.declared.acts.Values.{Values}
 use Rattle.pth_grammar.specs.declared.acts.Values.TheVariants as values
-use Rattle.pth_spelling.specs.WordMeanings.{natural_of, register_of, operand_of, value_of, shared_of, name_of, set_of, bytes_of, has_hex, given_of, goals_of, which_of, relation_of, field_of, state_of, mode_of, direction_of, query_of, maybe}
+use Rattle.pth_spelling.specs.WordMeanings.{natural_of, register_of, operand_of, value_of, shared_of, name_of, set_of, bytes_of, has_hex, given_of, goals_of, which_of, relation_of, field_of, thread_state_of, mode_of, direction_of, query_of, maybe}
 use Rattle.pth_grammar.specs.declared.form.Form.{Form}
 use Rattle.pth_grammar.specs.declared.form.Form.TheVariants as form
 use Rattle.pth_text.specs.declared.rule.Rule.TheVariants as rule
@@ -135,9 +135,9 @@ pub field : Reads form.Field field_of
 unfolding misses
 field = record { reads = λ w fine. sure (is_some (field_of w)) fine.listed }
 
-pub state : Reads form.State state_of
+pub state : Reads form.State thread_state_of
 unfolding misses
-state = record { reads = λ w fine. sure (is_some (state_of w)) fine.listed }
+state = record { reads = λ w fine. sure (is_some (thread_state_of w)) fine.listed }
 
 pub mode : Reads form.Mode mode_of
 unfolding misses
@@ -195,14 +195,14 @@ numbers3 f (a ∷ b ∷ c ∷ d ∷ ws) some h = absurd h.1.1.1
 
 -- ---- acts of values
 
-pub values1 : {R : Type 0} (f : Values → Option R) (ws : List (List ℕ)) → ((x : Value) → is_some (f (values.One x)) ≡ true) → AllFine (form.Value ∷ []) ws → is_some (option_and_then f (values_of ws)) ≡ true
-unfolding values_of
+pub values1 : {R : Type 0} (f : Values → Option R) (ws : List (List ℕ)) → ((x : Value) → is_some (f (values.One x)) ≡ true) → AllFine (form.Value ∷ []) ws → is_some (option_and_then f (act_values ws)) ≡ true
+unfolding act_values
 values1 f [] some h = absurd h
 values1 f (a ∷ []) some h = then_map (value_of a) (λ x. values.One x) f (value.reads a h.0) some
 values1 f (a ∷ b ∷ ws) some h = absurd h.1
 
-pub values2 : {R : Type 0} (f : Values → Option R) (ws : List (List ℕ)) → ((x y : Value) → is_some (f (values.Two x y)) ≡ true) → AllFine (form.Value ∷ form.Value ∷ []) ws → is_some (option_and_then f (values_of ws)) ≡ true
-unfolding values_of
+pub values2 : {R : Type 0} (f : Values → Option R) (ws : List (List ℕ)) → ((x y : Value) → is_some (f (values.Two x y)) ≡ true) → AllFine (form.Value ∷ form.Value ∷ []) ws → is_some (option_and_then f (act_values ws)) ≡ true
+unfolding act_values
 values2 f [] some h = absurd h
 values2 f (a ∷ []) some h = absurd h.1
 values2 f (a ∷ b ∷ []) some h = then_then (value_of a) _ f (value.reads a h.0) (λ x. then_map (value_of b) (λ y. values.Two x y) f (value.reads b h.1.0) (some x))

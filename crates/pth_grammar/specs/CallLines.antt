@@ -43,7 +43,7 @@ use Rattle.pth_grammar.specs.declared.operands.Operands.{Operands}
 use Rattle.pth_grammar.specs.declared.operands.Operands.TheVariants.{Zero, One, Two, Three}
 use Rattle.pth_spelling.specs.Keywords.{new_event_word}
 use Rattle.pth_grammar.specs.Reading.{operands_of, read1, read2, read3, read4, read5}
-use Rattle.pth_spelling.specs.WordMeanings.{operand_of, maybe, name_of, set_of, bytes_of, goals_of, which_of, field_of, state_of, mode_of, direction_of, query_of}
+use Rattle.pth_spelling.specs.WordMeanings.{operand_of, maybe, name_of, set_of, bytes_of, goals_of, which_of, field_of, thread_state_of, mode_of, direction_of, query_of}
 use Rattle.pth_spelling.specs.declared.keyword.CallWord.{CallWord}
 use Rattle.pth_spelling.specs.declared.keyword.CallWord.TheVariants as call
 use Rattle.pth_spelling.specs.declared.keyword.QueryWord.{QueryWord}
@@ -108,18 +108,18 @@ abbrev pub library_line : LibraryWord → List (List ℕ) → Option LibraryLine
 library_line libraries.Ctrl ws = option_map (λ q. library.Ctrl q) (ctrl_line ws)
 library_line k ws = option_and_then (λ o. library_by k o) (operands_of ws)
 
-abbrev pub field_by : AttrField → Operands → Option FieldLine
-field_by field.Prio (One n) = Some (value.Prio n)
-field_by field.Joinable (One n) = Some (value.Joinable n)
-field_by field.Cancel (One n) = Some (value.Cancel n)
-field_by field.Dispatches (One n) = Some (value.Dispatches n)
-field_by field.State (One n) = Some (value.State n)
-field_by field.Bound (One n) = Some (value.Bound n)
-field_by _ _ = None
+abbrev pub number_field : AttrField → Operands → Option FieldLine
+number_field field.Prio (One n) = Some (value.Prio n)
+number_field field.Joinable (One n) = Some (value.Joinable n)
+number_field field.Cancel (One n) = Some (value.Cancel n)
+number_field field.Dispatches (One n) = Some (value.Dispatches n)
+number_field field.State (One n) = Some (value.State n)
+number_field field.Bound (One n) = Some (value.Bound n)
+number_field _ _ = None
 
 abbrev pub field_line : Option AttrField → List (List ℕ) → Option FieldLine
 field_line (Some field.Name) ws = read1 name_of (λ n. value.Name n) ws
-field_line (Some k) ws = option_and_then (λ o. field_by k o) (operands_of ws)
+field_line (Some k) ws = option_and_then (λ o. number_field k o) (operands_of ws)
 field_line None ws = None
 
 abbrev pub set_line : List (List ℕ) → Option AttributeLine
@@ -183,7 +183,7 @@ new_event_by _ _ = None
 abbrev pub new_event_line : NewEventWord → List (List ℕ) → Option NewEvent
 new_event_line new_events.Fd ws = read2 goals_of operand_of (λ goals fd. new.Fd goals fd) ws
 new_event_line new_events.Select ws = read3 set_of set_of set_of (λ r w x. new.Select r w x) ws
-new_event_line new_events.Tid ws = read2 state_of operand_of (λ state tid. new.Tid state tid) ws
+new_event_line new_events.Tid ws = read2 thread_state_of operand_of (λ state tid. new.Tid state tid) ws
 new_event_line k ws = option_and_then (λ o. new_event_by k o) (operands_of ws)
 
 abbrev pub chained_line : Option NewEventWord → List (List ℕ) → Option NewEvent

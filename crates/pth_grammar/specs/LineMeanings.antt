@@ -7,7 +7,7 @@ use Rattle.pth_line.specs.declared.line.Line.{Line}
 use Rattle.pth_line.specs.declared.line.Line.TheVariants as line
 use Rattle.pth_grammar.specs.CallLines.{call_line}
 use Rattle.pth_spelling.specs.Keywords.{keyword_of, call_word}
-use Rattle.pth_grammar.specs.Reading.{values_of, read1, read2, read4}
+use Rattle.pth_grammar.specs.Reading.{act_values, read1, read2, read4}
 use Rattle.pth_grammar.specs.declared.acts.Values.{Values}
 use Rattle.pth_grammar.specs.declared.acts.Values.TheVariants as values
 use Rattle.pth_spelling.specs.WordMeanings.{natural_of, register_of, operand_of, value_of, shared_of, relation_of}
@@ -57,7 +57,7 @@ act_with _ _ = None
 
 -- an act of a keyword and values
 abbrev pub valued : Keyword → List (List ℕ) → Option ActLine
-valued k ws = option_and_then (λ v. act_with k v) (values_of ws)
+valued k ws = option_and_then (λ v. act_with k v) (act_values ws)
 
 -- by the keyword that begins it
 abbrev pub act_by : Option Keyword → List (List ℕ) → Option ActLine

@@ -35,8 +35,8 @@ operands_of (a ∷ b ∷ c ∷ []) = option_and_then (λ x. option_and_then (λ 
 operands_of (a ∷ b ∷ c ∷ d ∷ ws) = None
 
 -- the values of one word or two, where each is one
-unfoldable pub values_of : List (List ℕ) → Option Values
-values_of [] = None
-values_of (a ∷ []) = option_map (λ x. values.One x) (value_of a)
-values_of (a ∷ b ∷ []) = option_and_then (λ x. option_map (λ y. values.Two x y) (value_of b)) (value_of a)
-values_of (a ∷ b ∷ c ∷ ws) = None
+unfoldable pub act_values : List (List ℕ) → Option Values
+act_values [] = None
+act_values (a ∷ []) = option_map (λ x. values.One x) (value_of a)
+act_values (a ∷ b ∷ []) = option_and_then (λ x. option_map (λ y. values.Two x y) (value_of b)) (value_of a)
+act_values (a ∷ b ∷ c ∷ ws) = None

@@ -4,7 +4,7 @@ use Rattle.std.specs.List.{find}
 use Rattle.std.specs.Str.{bytes_eq}
 use Rattle.pth_grammar.specs.Forms.{forms_of, call_forms}
 use Rattle.pth_spelling.specs.Keywords.{begins, call_word, new_event_word}
-use Rattle.pth_spelling.specs.WordMeanings.{natural_of, operand_of, maybe, register_of, value_of, shared_of, name_of, set_of, has_hex, given_of, goals_of, which_of, relation_of, field_of, state_of, mode_of, direction_of, query_of}
+use Rattle.pth_spelling.specs.WordMeanings.{natural_of, operand_of, maybe, register_of, value_of, shared_of, name_of, set_of, has_hex, given_of, goals_of, which_of, relation_of, field_of, thread_state_of, mode_of, direction_of, query_of}
 use Rattle.pth_grammar.specs.declared.form.Form.{Form}
 use Rattle.pth_grammar.specs.declared.form.Form.TheVariants as form
 use Rattle.pth_text.specs.declared.rule.Rule.{Rule}
@@ -33,14 +33,14 @@ after_register (e ∷ []) = Short
 after_register (e ∷ k ∷ ws) = if bytes_eq e (codes "=") then asks ws (option_map (λ w. call_forms w ws) (call_word k)) else Unequal
 
 -- a register may begin a line of a body only
-abbrev pub answers : Section → List ℕ → Bool
-answers sec.Body w = is_some (register_of w)
-answers _ w = false
+abbrev pub takes_answer : Section → List ℕ → Bool
+takes_answer sec.Body w = is_some (register_of w)
+takes_answer _ w = false
 
 -- what a line of a section asks for
 unfoldable pub shape_of : Section → List (List ℕ) → Shape
 shape_of s [] = Unknown
-shape_of s (w ∷ ws) = if answers s w then after_register ws else asks ws (option_and_then (λ k. forms_of s k ws) (begins (w ∷ ws)))
+shape_of s (w ∷ ws) = if takes_answer s w then after_register ws else asks ws (option_and_then (λ k. forms_of s k ws) (begins (w ∷ ws)))
 
 -- ---- what its words break
 
@@ -48,7 +48,7 @@ shape_of s (w ∷ ws) = if answers s w then after_register ws else asks ws (opti
 abbrev pub is_listed : Form → List ℕ → Bool
 is_listed form.Relation w = is_some (relation_of w)
 is_listed form.Field w = is_some (field_of w)
-is_listed form.State w = is_some (state_of w)
+is_listed form.State w = is_some (thread_state_of w)
 is_listed form.Mode w = is_some (mode_of w)
 is_listed form.Direction w = is_some (direction_of w)
 is_listed form.Query w = is_some (query_of w)

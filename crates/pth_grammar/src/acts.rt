@@ -2,7 +2,7 @@
 
 ghost use Rattle.std.specs.Prelude.{◌≡◌, Some};
 ghost use Rattle.pth_grammar.specs.LineMeanings.{act_with, act_by};
-ghost use Rattle.pth_grammar.specs.Reading.{values_of};
+ghost use Rattle.pth_grammar.specs.Reading.{act_values};
 ghost use Rattle.pth_spelling.specs.Texts.{texts};
 ghost use Rattle.pth_spelling.specs.declared.keyword.Keyword.TheVariants as key;
 
@@ -19,9 +19,9 @@ enum Values {
 }
 
 /// The values that words stand for, where they are one or two and each is a value.
-#[tactic(auto, unfolding(crate::specs::Reading::values_of))]
+#[tactic(auto, unfolding(crate::specs::Reading::act_values))]
 fn read_values(words: &[&[u8]]) -> Option<Values>
-    ensures { result ≡ values_of (texts words.now) }
+    ensures { result ≡ act_values (texts words.now) }
 {
     match words {
         [x] => Some(Values::One(value(x)?)),

@@ -2,7 +2,7 @@
 
 ghost use Rattle.std.specs.Prelude.{◌≡◌, Some};
 ghost use Rattle.pth_base.specs.declared.attr.AttrField.TheVariants as fields;
-ghost use Rattle.pth_grammar.specs.CallLines.{field_by, field_line, set_line, attribute_by, attribute_line};
+ghost use Rattle.pth_grammar.specs.CallLines.{number_field, field_line, set_line, attribute_by, attribute_line};
 ghost use Rattle.pth_spelling.specs.Texts.{texts};
 ghost use Rattle.pth_spelling.specs.declared.keyword.AttributeWord.TheVariants as attributes;
 
@@ -13,7 +13,7 @@ use pth_spelling::keyword::AttributeWord;
 use pth_spelling::words::{field, name, operand};
 
 fn field_by(field: AttrField, numbers: Operands) -> Option<FieldLine>
-    ensures { result ≡ field_by field numbers }
+    ensures { result ≡ number_field field numbers }
 {
     match (field, numbers) {
         (AttrField::Prio, Operands::One(n)) => Some(FieldLine::Prio(n)),

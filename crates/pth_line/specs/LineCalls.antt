@@ -8,7 +8,7 @@ use Rattle.pth_base.specs.declared.event.EvLine.{EvLine}
 use Rattle.pth_base.specs.declared.event.EvLine.TheVariants as ev
 use Rattle.pth_base.specs.declared.query.Query.{Query}
 use Rattle.pth_base.specs.declared.query.Query.TheVariants as query
-use Rattle.pth_line.specs.Values.{Scope, number_in, bytes_in}
+use Rattle.pth_line.specs.Values.{Scope, operand_in, bytes_in}
 use Rattle.pth_line.specs.declared.call_line.CallLine.{CallLine}
 use Rattle.pth_line.specs.declared.call_line.CallLine.TheVariants as line
 use Rattle.pth_line.specs.declared.library_line.QueryLine.{QueryLine}
@@ -55,9 +55,9 @@ query_in s queries.Running = query.Running
 query_in s queries.Waiting = query.Waiting
 query_in s queries.Suspended = query.Suspended
 query_in s queries.Dead = query.Dead
-query_in s (queries.Favournew n) = query.Favournew (number_in s n)
-query_in s (queries.Prio t) = query.Prio (number_in s t)
-query_in s (queries.Name t) = query.Name (number_in s t)
+query_in s (queries.Favournew n) = query.Favournew (operand_in s n)
+query_in s (queries.Prio t) = query.Prio (operand_in s t)
+query_in s (queries.Name t) = query.Name (operand_in s t)
 
 -- a call that manages the library
 abbrev pub library_call : Scope → LibraryLine → Call
@@ -66,140 +66,140 @@ library_call s (libraries.Ctrl x) = call.Ctrl (query_in s x)
 
 -- a field with its number
 abbrev pub field_in : Scope → FieldLine → AttrValue
-field_in s (field.Prio n) = attr.Prio (number_in s n)
+field_in s (field.Prio n) = attr.Prio (operand_in s n)
 field_in s (field.Name name) = attr.Name name
-field_in s (field.Joinable n) = attr.Joinable (number_in s n)
-field_in s (field.Cancel n) = attr.Cancel (number_in s n)
-field_in s (field.Dispatches n) = attr.Dispatches (number_in s n)
-field_in s (field.State n) = attr.State (number_in s n)
-field_in s (field.Bound n) = attr.Bound (number_in s n)
+field_in s (field.Joinable n) = attr.Joinable (operand_in s n)
+field_in s (field.Cancel n) = attr.Cancel (operand_in s n)
+field_in s (field.Dispatches n) = attr.Dispatches (operand_in s n)
+field_in s (field.State n) = attr.State (operand_in s n)
+field_in s (field.Bound n) = attr.Bound (operand_in s n)
 
 -- a call on attribute objects
 abbrev pub attribute_call : Scope → AttributeLine → Call
 attribute_call s attributes.New = call.AttrNew
-attribute_call s (attributes.Of x) = call.AttrOf (number_in s x)
-attribute_call s (attributes.Init x) = call.AttrInit (number_in s x)
-attribute_call s (attributes.Set a v) = call.AttrSet (number_in s a) (field_in s v)
-attribute_call s (attributes.Get a f) = call.AttrGet (number_in s a) f
-attribute_call s (attributes.Destroy x) = call.AttrDestroy (number_in s x)
+attribute_call s (attributes.Of x) = call.AttrOf (operand_in s x)
+attribute_call s (attributes.Init x) = call.AttrInit (operand_in s x)
+attribute_call s (attributes.Set a v) = call.AttrSet (operand_in s a) (field_in s v)
+attribute_call s (attributes.Get a f) = call.AttrGet (operand_in s a) f
+attribute_call s (attributes.Destroy x) = call.AttrDestroy (operand_in s x)
 
 -- a call on threads
 abbrev pub thread_call : Scope → ThreadLine → Call
-thread_call s (threads.Spawn b v a) = call.Spawn (number_in s b) (number_in s v) (number_in s a)
-thread_call s (threads.Once o h v) = call.Once (number_in s o) (number_in s h) (number_in s v)
+thread_call s (threads.Spawn b v a) = call.Spawn (operand_in s b) (operand_in s v) (operand_in s a)
+thread_call s (threads.Once o h v) = call.Once (operand_in s o) (operand_in s h) (operand_in s v)
 thread_call s threads.SelfTid = call.SelfTid
-thread_call s (threads.Suspend x) = call.Suspend (number_in s x)
-thread_call s (threads.Resume x) = call.Resume (number_in s x)
-thread_call s (threads.Yield x) = call.Yield (number_in s x)
-thread_call s (threads.Nap x) = call.Nap (number_in s x)
-thread_call s (threads.Wait x) = call.Wait (number_in s x)
-thread_call s (threads.Cancel x) = call.Cancel (number_in s x)
-thread_call s (threads.Abort x) = call.Abort (number_in s x)
-thread_call s (threads.Join x) = call.Join (number_in s x)
-thread_call s (threads.Exit x) = call.Exit (number_in s x)
+thread_call s (threads.Suspend x) = call.Suspend (operand_in s x)
+thread_call s (threads.Resume x) = call.Resume (operand_in s x)
+thread_call s (threads.Yield x) = call.Yield (operand_in s x)
+thread_call s (threads.Nap x) = call.Nap (operand_in s x)
+thread_call s (threads.Wait x) = call.Wait (operand_in s x)
+thread_call s (threads.Cancel x) = call.Cancel (operand_in s x)
+thread_call s (threads.Abort x) = call.Abort (operand_in s x)
+thread_call s (threads.Join x) = call.Join (operand_in s x)
+thread_call s (threads.Exit x) = call.Exit (operand_in s x)
 
 -- a call of the utilities
 abbrev pub utility_call : Scope → UtilityLine → Call
-utility_call s (utilities.Fdmode f m) = call.Fdmode (number_in s f) (number_in s m)
-utility_call s (utilities.Timeout x) = call.Timeout (number_in s x)
+utility_call s (utilities.Fdmode f m) = call.Fdmode (operand_in s f) (operand_in s m)
+utility_call s (utilities.Timeout x) = call.Timeout (operand_in s x)
 
 -- a call on cancellation
 abbrev pub cancellation_call : Scope → CancellationLine → Call
 cancellation_call s cancellations.Point = call.CancelPoint
-cancellation_call s (cancellations.State x) = call.CancelState (number_in s x)
+cancellation_call s (cancellations.State x) = call.CancelState (operand_in s x)
 
 -- a new event that is in no ring yet
 abbrev pub new_event_call : Scope → NewEvent → Call
-new_event_call s (new.Fd goals fd) = call.EvFd goals (number_in s fd)
+new_event_call s (new.Fd goals fd) = call.EvFd goals (operand_in s fd)
 new_event_call s (new.Select r w x) = call.EvSelect r w x
-new_event_call s (new.Time x) = call.EvTime (number_in s x)
-new_event_call s (new.Msg x) = call.EvMsg (number_in s x)
-new_event_call s (new.Cond x) = call.EvCond (number_in s x)
-new_event_call s (new.Tid state tid) = call.EvTid state (number_in s tid)
-new_event_call s (new.Func check arg interval) = call.EvFunc (number_in s check) (number_in s arg) (number_in s interval)
+new_event_call s (new.Time x) = call.EvTime (operand_in s x)
+new_event_call s (new.Msg x) = call.EvMsg (operand_in s x)
+new_event_call s (new.Cond x) = call.EvCond (operand_in s x)
+new_event_call s (new.Tid state tid) = call.EvTid state (operand_in s tid)
+new_event_call s (new.Func check arg interval) = call.EvFunc (operand_in s check) (operand_in s arg) (operand_in s interval)
 
 -- a new event that is chained to a ring
 abbrev pub chained_in : Scope → NewEvent → EvLine
-chained_in s (new.Fd goals fd) = ev.Fd goals (number_in s fd)
+chained_in s (new.Fd goals fd) = ev.Fd goals (operand_in s fd)
 chained_in s (new.Select r w x) = ev.Select r w x
-chained_in s (new.Time m) = ev.Time (number_in s m)
-chained_in s (new.Msg p) = ev.Msg (number_in s p)
-chained_in s (new.Cond c) = ev.Cond (number_in s c)
-chained_in s (new.Tid state tid) = ev.Tid state (number_in s tid)
-chained_in s (new.Func check arg interval) = ev.Func (number_in s check) (number_in s arg) (number_in s interval)
+chained_in s (new.Time m) = ev.Time (operand_in s m)
+chained_in s (new.Msg p) = ev.Msg (operand_in s p)
+chained_in s (new.Cond c) = ev.Cond (operand_in s c)
+chained_in s (new.Tid state tid) = ev.Tid state (operand_in s tid)
+chained_in s (new.Func check arg interval) = ev.Func (operand_in s check) (operand_in s arg) (operand_in s interval)
 
 -- a call on events
 abbrev pub event_call : Scope → EventLine → Call
 event_call s (events.New event) = new_event_call s event
-event_call s (events.Chain e line) = call.Chain (number_in s e) (chained_in s line)
-event_call s (events.Concat e f) = call.EvConcat (number_in s e) (number_in s f)
-event_call s (events.Isolate x) = call.EvIsolate (number_in s x)
-event_call s (events.Walk e forward until_occurred) = call.EvWalk (number_in s e) forward until_occurred
-event_call s (events.Status x) = call.EvStatus (number_in s x)
-event_call s (events.Kind x) = call.EvKind (number_in s x)
-event_call s (events.Free e all) = call.EvFree (number_in s e) all
+event_call s (events.Chain e line) = call.Chain (operand_in s e) (chained_in s line)
+event_call s (events.Concat e f) = call.EvConcat (operand_in s e) (operand_in s f)
+event_call s (events.Isolate x) = call.EvIsolate (operand_in s x)
+event_call s (events.Walk e forward until_occurred) = call.EvWalk (operand_in s e) forward until_occurred
+event_call s (events.Status x) = call.EvStatus (operand_in s x)
+event_call s (events.Kind x) = call.EvKind (operand_in s x)
+event_call s (events.Free e all) = call.EvFree (operand_in s e) all
 
 -- a call on keys
 abbrev pub key_call : Scope → KeyLine → Call
 key_call s (keys.Create None) = call.KeyCreate None
-key_call s (keys.Create (Some h)) = call.KeyCreate (Some (number_in s h))
-key_call s (keys.Delete x) = call.KeyDelete (number_in s x)
-key_call s (keys.Set k v) = call.KeySet (number_in s k) (number_in s v)
-key_call s (keys.Get x) = call.KeyGet (number_in s x)
+key_call s (keys.Create (Some h)) = call.KeyCreate (Some (operand_in s h))
+key_call s (keys.Delete x) = call.KeyDelete (operand_in s x)
+key_call s (keys.Set k v) = call.KeySet (operand_in s k) (operand_in s v)
+key_call s (keys.Get x) = call.KeyGet (operand_in s x)
 
 -- a call on message ports; a reply is to the message that the thread got last
 abbrev pub port_call : Scope → PortLine → Call
 port_call s (ports.Create name) = call.PortCreate name
 port_call s (ports.Find name) = call.PortFind name
-port_call s (ports.Pending x) = call.PortPending (number_in s x)
-port_call s (ports.Put p v r) = call.PortPut (number_in s p) (number_in s v) (number_in s r)
-port_call s (ports.Get x) = call.PortGet (number_in s x)
-port_call s (ports.Reply v) = call.Reply s.frame.message (number_in s v)
-port_call s (ports.Destroy x) = call.PortDestroy (number_in s x)
+port_call s (ports.Pending x) = call.PortPending (operand_in s x)
+port_call s (ports.Put p v r) = call.PortPut (operand_in s p) (operand_in s v) (operand_in s r)
+port_call s (ports.Get x) = call.PortGet (operand_in s x)
+port_call s (ports.Reply v) = call.Reply s.frame.message (operand_in s v)
+port_call s (ports.Destroy x) = call.PortDestroy (operand_in s x)
 
 -- a call on cleanup handlers
 abbrev pub cleanup_call : Scope → CleanupLine → Call
-cleanup_call s (cleanups.Push h v) = call.CleanupPush (number_in s h) (number_in s v)
-cleanup_call s (cleanups.Pop x) = call.CleanupPop (number_in s x)
+cleanup_call s (cleanups.Push h v) = call.CleanupPush (operand_in s h) (operand_in s v)
+cleanup_call s (cleanups.Pop x) = call.CleanupPop (operand_in s x)
 
 -- a call on mutexes
 abbrev pub mutex_call : Scope → MutexLine → Call
-mutex_call s (mutexes.Init x) = call.MutexInit (number_in s x)
-mutex_call s (mutexes.Acquire m v e) = call.MutexAcquire (number_in s m) (number_in s v) (number_in s e)
-mutex_call s (mutexes.Release x) = call.MutexRelease (number_in s x)
+mutex_call s (mutexes.Init x) = call.MutexInit (operand_in s x)
+mutex_call s (mutexes.Acquire m v e) = call.MutexAcquire (operand_in s m) (operand_in s v) (operand_in s e)
+mutex_call s (mutexes.Release x) = call.MutexRelease (operand_in s x)
 
 -- a call on read-write locks
 abbrev pub rwlock_call : Scope → RwlockLine → Call
-rwlock_call s (rwlocks.Init x) = call.RwInit (number_in s x)
-rwlock_call s (rwlocks.Acquire l write v e) = call.RwAcquire (number_in s l) write (number_in s v) (number_in s e)
-rwlock_call s (rwlocks.Release x) = call.RwRelease (number_in s x)
+rwlock_call s (rwlocks.Init x) = call.RwInit (operand_in s x)
+rwlock_call s (rwlocks.Acquire l write v e) = call.RwAcquire (operand_in s l) write (operand_in s v) (operand_in s e)
+rwlock_call s (rwlocks.Release x) = call.RwRelease (operand_in s x)
 
 -- a call on conditions
 abbrev pub condition_call : Scope → ConditionLine → Call
-condition_call s (conditions.Init x) = call.CondInit (number_in s x)
-condition_call s (conditions.Await c m e) = call.CondAwait (number_in s c) (number_in s m) (number_in s e)
-condition_call s (conditions.Notify c v) = call.CondNotify (number_in s c) (number_in s v)
+condition_call s (conditions.Init x) = call.CondInit (operand_in s x)
+condition_call s (conditions.Await c m e) = call.CondAwait (operand_in s c) (operand_in s m) (operand_in s e)
+condition_call s (conditions.Notify c v) = call.CondNotify (operand_in s c) (operand_in s v)
 
 -- a call on barriers
 abbrev pub barrier_call : Scope → BarrierLine → Call
-barrier_call s (barriers.Init b n) = call.BarrierInit (number_in s b) (number_in s n)
-barrier_call s (barriers.Reach x) = call.BarrierReach (number_in s x)
+barrier_call s (barriers.Init b n) = call.BarrierInit (operand_in s b) (operand_in s n)
+barrier_call s (barriers.Reach x) = call.BarrierReach (operand_in s x)
 
 -- a call that replaces one of POSIX
 abbrev pub io_call : Scope → IoLine → Call
-io_call s (ios.Usleep x) = call.Usleep (number_in s x)
-io_call s (ios.Sleep x) = call.Sleep (number_in s x)
-io_call s (ios.Read f n) = call.Read (number_in s f) (number_in s n)
-io_call s (ios.ReadEv f n e) = call.ReadEv (number_in s f) (number_in s n) (number_in s e)
-io_call s (ios.Write f bytes) = call.Write (number_in s f) (bytes_in s.frame bytes)
-io_call s (ios.WriteEv f bytes e) = call.WriteEv (number_in s f) (bytes_in s.frame bytes) (number_in s e)
-io_call s (ios.Accept x) = call.Accept (number_in s x)
-io_call s (ios.AcceptEv f e) = call.AcceptEv (number_in s f) (number_in s e)
-io_call s (ios.Connect x) = call.Connect (number_in s x)
-io_call s (ios.ConnectEv f e) = call.ConnectEv (number_in s f) (number_in s e)
-io_call s (ios.Select r w x l) = call.Select r w x (number_in s l)
-io_call s (ios.SelectEv r w x l e) = call.SelectEv r w x (number_in s l) (number_in s e)
-io_call s (ios.Close x) = call.Close (number_in s x)
+io_call s (ios.Usleep x) = call.Usleep (operand_in s x)
+io_call s (ios.Sleep x) = call.Sleep (operand_in s x)
+io_call s (ios.Read f n) = call.Read (operand_in s f) (operand_in s n)
+io_call s (ios.ReadEv f n e) = call.ReadEv (operand_in s f) (operand_in s n) (operand_in s e)
+io_call s (ios.Write f bytes) = call.Write (operand_in s f) (bytes_in s.frame bytes)
+io_call s (ios.WriteEv f bytes e) = call.WriteEv (operand_in s f) (bytes_in s.frame bytes) (operand_in s e)
+io_call s (ios.Accept x) = call.Accept (operand_in s x)
+io_call s (ios.AcceptEv f e) = call.AcceptEv (operand_in s f) (operand_in s e)
+io_call s (ios.Connect x) = call.Connect (operand_in s x)
+io_call s (ios.ConnectEv f e) = call.ConnectEv (operand_in s f) (operand_in s e)
+io_call s (ios.Select r w x l) = call.Select r w x (operand_in s l)
+io_call s (ios.SelectEv r w x l e) = call.SelectEv r w x (operand_in s l) (operand_in s e)
+io_call s (ios.Close x) = call.Close (operand_in s x)
 
 -- the call of a line
 abbrev pub call_in : Scope → CallLine → Call

@@ -7,8 +7,8 @@ use Rattle.pth_base.specs.declared.call.Call.{Call}
 use Rattle.pth_base.specs.declared.call.Call.TheVariants as call
 use Rattle.pth_line.specs.LastAnswer.{heard}
 use Rattle.pth_line.specs.LineCalls.{call_in}
-use Rattle.pth_line.specs.Relations.{holds}
-use Rattle.pth_line.specs.Values.{Scope, scope, register_in, put_register, number_in}
+use Rattle.pth_line.specs.Relations.{holds_between}
+use Rattle.pth_line.specs.Values.{Scope, scope, register_in, put_register, operand_in}
 use Rattle.pth_line.specs.declared.cells.Cells.{Cells}
 use Rattle.pth_line.specs.declared.frame.Frame.{Frame}
 use Rattle.pth_line.specs.declared.frame.Owed.TheVariants as owed
@@ -21,29 +21,29 @@ abbrev pub at_line : ℕ → Scope → Scope
 at_line n s = record s { frame = record s.frame { line = n } }
 
 -- it goes to the next line
-abbrev pub past : Scope → Scope
-past s = at_line (s.frame.line + 1) s
+abbrev pub at_next_line : Scope → Scope
+at_next_line s = at_line (s.frame.line + 1) s
 
 -- a call, and what is left after it
 abbrev pub gives : Call → Scope → Stepped Frame Cells
 gives c s = record { call = c; state = s.frame; shared = s.cells }
 
 -- the answer of the call is to be kept
-abbrev pub owing : Option Register → Scope → Scope
-owing r s = record s { frame = record s.frame { owed = owed.Answer r } }
+abbrev pub answer_awaited : Option Register → Scope → Scope
+answer_awaited r s = record s { frame = record s.frame { owed = owed.Answer r } }
 
 -- what a line does in a thread that is past it; `add` stays at the ends of 64 bits, and `goto` goes to the line after its label where the relation holds
 abbrev pub does : Line → Scope → Stepped Frame Cells
-does (line.Set r x) s = gives call.Plain (put_register s r (number_in s x))
-does (line.Add r x) s = gives call.Plain (put_register s r (saturate_signed w64 (register_in s r +ℤ number_in s x)))
-does (line.Note x) s = gives (call.Note (number_in s x)) s
+does (line.Set r x) s = gives call.Plain (put_register s r (operand_in s x))
+does (line.Add r x) s = gives call.Plain (put_register s r (saturate_signed w64 (register_in s r +ℤ operand_in s x)))
+does (line.Note x) s = gives (call.Note (operand_in s x)) s
 does (line.Label k) s = gives call.Plain s
-does (line.Goto k to x relation y) s = gives call.Plain (if holds relation (number_in s x) (number_in s y) then at_line to s else s)
-does (line.Call r c) s = gives (call_in s c) (owing r s)
+does (line.Goto k to x relation y) s = gives call.Plain (if holds_between relation (operand_in s x) (operand_in s y) then at_line to s else s)
+does (line.Call r c) s = gives (call_in s c) (answer_awaited r s)
 
 -- a line is one step; after the last line of a body the thread ends with 0
 abbrev pub does_next : Option Line → Scope → Stepped Frame Cells
-does_next (Some l) s = does l (past s)
+does_next (Some l) s = does l (at_next_line s)
 does_next None s = gives (call.Exit (pos 0)) s
 
 -- the line at which a thread stands, and none after the last of its body

@@ -6,10 +6,10 @@ use Rattle.pth_line.specs.declared.relation.Relation.{Relation}
 use Rattle.pth_line.specs.declared.relation.Relation.TheVariants as rel
 
 -- whether a relation holds between two numbers
-abbrev pub holds : Relation → ℤ → ℤ → Bool
-holds rel.Eq a b = int_eq a b
-holds rel.Ne a b = not (int_eq a b)
-holds rel.Lt a b = lt_z a b
-holds rel.Le a b = not (lt_z b a)
-holds rel.Gt a b = lt_z b a
-holds rel.Ge a b = not (lt_z a b)
+abbrev pub holds_between : Relation → ℤ → ℤ → Bool
+holds_between rel.Eq a b = int_eq a b
+holds_between rel.Ne a b = not (int_eq a b)
+holds_between rel.Lt a b = lt_z a b
+holds_between rel.Le a b = not (lt_z b a)
+holds_between rel.Gt a b = lt_z b a
+holds_between rel.Ge a b = not (lt_z a b)

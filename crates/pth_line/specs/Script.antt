@@ -3,7 +3,7 @@ use Rattle.std.specs.Prelude.{ℕ, ℤ, pos, List, [], length, Option, Some, Non
 use Rattle.pth_base.specs.Program.{Functions, Acted}
 use Rattle.pth_base.specs.declared.act.Act.{Act}
 use Rattle.pth_base.specs.declared.act.Act.TheVariants as act
-use Rattle.pth_line.specs.Relations.{holds}
+use Rattle.pth_line.specs.Relations.{holds_between}
 use Rattle.pth_line.specs.LineSteps.{stepped}
 use Rattle.pth_line.specs.Values.{value_in}
 use Rattle.pth_line.specs.declared.act_line.ActLine.{ActLine}
@@ -39,7 +39,7 @@ first_frame body arg = record {
 -- a check that is not defined is false
 abbrev pub checked : Option Check → ℤ → Cells → Bool
 checked None arg c = false
-checked (Some k) arg c = holds k.relation (value_in c arg k.left) (value_in c arg k.right)
+checked (Some k) arg c = holds_between k.relation (value_in c arg k.left) (value_in c arg k.right)
 
 -- an act with this argument
 abbrev pub act_in : Cells → ℤ → ActLine → Act

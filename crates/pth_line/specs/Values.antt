@@ -31,10 +31,10 @@ put_register v (reg.Own k) n = record v { frame = record v.frame { registers = s
 put_register v (reg.Shared k) n = record v { cells = record { cells = slice_set v.cells.cells k n } }
 
 -- the number of an operand
-abbrev pub number_in : Scope → Operand → ℤ
-number_in v (operand.Number n) = n
-number_in v (operand.Register r) = register_in v r
-number_in v operand.Error = v.frame.error
+abbrev pub operand_in : Scope → Operand → ℤ
+operand_in v (operand.Number n) = n
+operand_in v (operand.Register r) = register_in v r
+operand_in v operand.Error = v.frame.error
 
 -- the bytes of an operand
 abbrev pub bytes_in : Frame → ByteOperand → List ℕ

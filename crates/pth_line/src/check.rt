@@ -1,7 +1,7 @@
 //! Checks.
 
 ghost use Rattle.std.specs.Prelude.{◌≡◌};
-ghost use Rattle.pth_line.specs.Relations.{holds};
+ghost use Rattle.pth_line.specs.Relations.{holds_between};
 ghost use Rattle.pth_line.specs.Values.{value_in};
 
 use crate::cells::Cells;
@@ -19,7 +19,7 @@ pub struct Check {
 impl Check {
     /// Whether the check holds with this argument.
     pub(crate) fn holds(&self, cells: &Cells, arg: &i64) -> bool
-        ensures { result ≡ holds self.now.relation (value_in cells.now arg.now self.now.left) (value_in cells.now arg.now self.now.right) }
+        ensures { result ≡ holds_between self.now.relation (value_in cells.now arg.now self.now.left) (value_in cells.now arg.now self.now.right) }
     {
         let left = self.left.number(cells, arg);
         let right = self.right.number(cells, arg);

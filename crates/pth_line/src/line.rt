@@ -39,13 +39,13 @@ pub enum Line {
 }
 
 impl Line {
-    ghost use Rattle.pth_line.specs.LineSteps.{does, past};
+    ghost use Rattle.pth_line.specs.LineSteps.{does, at_next_line};
     ghost use Rattle.pth_line.specs.Values.{scope};
 
     /// Does what the line says in a thread that stands at it, and gives the call that it makes.
     pub(crate) fn does(&self, frame: &mut Frame, cells: &mut Cells) -> Result<Call, OutOfMemory>
         requires { frame.old.line + 1 < 2 ^ 64 }
-        ensures { IfOk result (λ call. record { call = call; state = frame.new; shared = cells.new } ≡ does self.now (past (scope frame.old cells.old))) }
+        ensures { IfOk result (λ call. record { call = call; state = frame.new; shared = cells.new } ≡ does self.now (at_next_line (scope frame.old cells.old))) }
     {
         frame.line += 1;
         match self {

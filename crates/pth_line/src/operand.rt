@@ -71,11 +71,11 @@ pub enum Operand {
 }
 
 impl Operand {
-    ghost use Rattle.pth_line.specs.Values.{scope, number_in};
+    ghost use Rattle.pth_line.specs.Values.{scope, operand_in};
 
     /// The number that the operand stands for.
     pub(crate) fn number(&self, frame: &Frame, cells: &Cells) -> i64
-        ensures { result ≡ number_in (scope frame.now cells.now) self.now }
+        ensures { result ≡ operand_in (scope frame.now cells.now) self.now }
     {
         match self {
             Operand::Number(n) => *n,

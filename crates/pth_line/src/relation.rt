@@ -1,7 +1,7 @@
 //! How two numbers are compared.
 
 ghost use Rattle.std.specs.Prelude.{◌≡◌};
-ghost use Rattle.pth_line.specs.Relations.{holds};
+ghost use Rattle.pth_line.specs.Relations.{holds_between};
 
 /// A relation between two numbers.
 #[derive(Clone, Copy)]
@@ -17,7 +17,7 @@ pub enum Relation {
 impl Relation {
     /// Whether it holds between two numbers.
     pub fn holds(&self, a: i64, b: i64) -> bool
-        ensures { result ≡ holds self.now a b }
+        ensures { result ≡ holds_between self.now a b }
     {
         match self {
             Relation::Eq => a == b,

@@ -9,7 +9,7 @@ use Rattle.std.proofs.Math.Seq.{take-append_seam, drop-append_seam}
 use Rattle.pth_print.specs.declared.fault_line.Fault.{Fault}
 use Rattle.pth_print.specs.declared.fault_line.Fault.TheVariants as fault
 use Rattle.pth_line.specs.Script.{Sections}
-use Rattle.pth_script.specs.Follows.{Answers}
+use Rattle.pth_script.specs.Follows.{IsReadAs}
 use Rattle.pth_text.specs.declared.rule.Breach.TheVariants.{Limit, Of}
 use Rattle.pth_player.specs.FaultsOfErrors.{fault_of_read, fault_of_script}
 use Rattle.pth_player.specs.Objects.{AreHeld, Inputs, LosesRead, Object, ObjectCounts, ObjectRead, ObjectStood, cut, nothing, object_named, the_file, the_input}
@@ -104,7 +104,7 @@ names_none (Some name) none = absurd (none name refl)
 
 module _ (object : Object) (old new : Inputs) (bytes seen : List ℕ) (s : Result Sections Fault) where
   -- what is answered of the bytes is answered of the object
-  pub read_is : (r : Result Sections ReadErr) → ReadsBytes object old new bytes → seen ≡ bytes → Answers seen r
+  pub read_is : (r : Result Sections ReadErr) → ReadsBytes object old new bytes → seen ≡ bytes → IsReadAs seen r
       → MatchResult r (λ x. s ≡ Ok x) (λ e. IsErrAnd s (λ f. f ≡ fault_of_script e)) → ReadsScript object old new s
   read_is (Ok script) h same a m = subst (ReadsScript object old new) (sym m) (h.0, (h.1.0, h.1.1, subst (IsTheScript script) (same ∙ h.1.2) a))
   read_is (Err (script.Refused line r)) h same a m = subst (ReadsScript object old new) (sym (err_and s (fault_of_script (script.Refused line r)) m))

@@ -7,7 +7,7 @@ use Rattle.pth_streams.specs.declared.sink.SinkErr.TheVariants as sink
 use Rattle.pth_print.specs.declared.fault_line.Fault.{Fault}
 use Rattle.pth_print.specs.declared.fault_line.Fault.TheVariants as fault
 use Rattle.pth_line.specs.Script.{Sections, functions_of}
-use Rattle.pth_words.specs.CommandWords.{Answers, Asked, asked_of}
+use Rattle.pth_words.specs.CommandWords.{Chooses, Asked, asked_of}
 use Rattle.pth_words.specs.declared.choice.Choice.{Choice}
 use Rattle.pth_words.specs.declared.words.WordsErr.{WordsErr}
 use Rattle.pth_words.specs.declared.words.WordsErr.TheVariants as words
@@ -32,7 +32,7 @@ stood_refl the_input ins = refl
 stood_refl (the_file name) ins = refl
 
 -- the words ask for this
-pub is_asked : (asked : Option Asked) (q : Result Choice WordsErr) (s : Result Choice Fault) (c : Choice) → Answers asked q → MatchResult q (λ c. s ≡ Ok c) (λ x. IsErrAnd s (λ y. y ≡ fault_of_words x))
+pub is_asked : (asked : Option Asked) (q : Result Choice WordsErr) (s : Result Choice Fault) (c : Choice) → Chooses asked q → MatchResult q (λ c. s ≡ Ok c) (λ x. IsErrAnd s (λ y. y ≡ fault_of_words x))
     → s ≡ Ok c → asked ≡ Some (asked_of c)
 is_asked asked (Ok d) s c answers m is = answers ∙ ap (λ (x : Choice). Some (asked_of x)) (ok_is s d c m is)
 is_asked asked (Err x) s c answers m is = absurd (subst (λ t. IsErrAnd t (λ y. y ≡ fault_of_words x)) is m)
@@ -41,7 +41,7 @@ module _ (asked : Option Asked) (ins : Inputs) (w : Option (List ℕ)) (a : ℕ)
   abbrev before : Scene
   before = scene ins w a
 
-  unasked_by : (e : WordsErr) (e2 : Fault) → e2 ≡ fault_of_words e → Answers asked (Err e) → Ran asked before before (Err e2)
+  unasked_by : (e : WordsErr) (e2 : Fault) → e2 ≡ fault_of_words e → Chooses asked (Err e) → Ran asked before before (Err e2)
   unasked_by words.Refused e2 is h = subst (λ o. Ran o before before (Err e2)) (sym h) (subst (λ f. Ran None before before (Err f)) (sym is) (Appends-nil w, refl))
   unasked_by words.OutOfMemory e2 is h = subst (λ f. Ran asked before before (Err f)) (sym is) (out_of_memory asked)
     where
@@ -49,13 +49,13 @@ module _ (asked : Option Asked) (ins : Inputs) (w : Option (List ℕ)) (a : ℕ)
       out_of_memory None = (Appends-nil w, refl)
       out_of_memory (Some x) = (stood_refl (object_of (Some x)) ins, inl (Appends-nil w, refl))
 
-  unasked_for : (q : Result Choice WordsErr) (s : Result Choice Fault) (e : Fault) → Answers asked q → MatchResult q (λ c. s ≡ Ok c) (λ x. IsErrAnd s (λ y. y ≡ fault_of_words x)) → s ≡ Err e
+  unasked_for : (q : Result Choice WordsErr) (s : Result Choice Fault) (e : Fault) → Chooses asked q → MatchResult q (λ c. s ≡ Ok c) (λ x. IsErrAnd s (λ y. y ≡ fault_of_words x)) → s ≡ Err e
       → Ran asked before before (Err e)
   unasked_for (Ok c) s e answers m is = absurd (ok_not_err s c e m is)
   unasked_for (Err x) s e answers m is = unasked_by x e (subst (λ t. IsErrAnd t (λ y. y ≡ fault_of_words x)) is m) answers
 
   -- the words were refused, or memory ran out for them
-  pub unasked : (q : Result Choice WordsErr) (s : Result Choice Fault) (e : Fault) (r : Result Outcome Fault) → Answers asked q
+  pub unasked : (q : Result Choice WordsErr) (s : Result Choice Fault) (e : Fault) (r : Result Outcome Fault) → Chooses asked q
       → MatchResult q (λ c. s ≡ Ok c) (λ x. IsErrAnd s (λ y. y ≡ fault_of_words x)) → s ≡ Err e → IsErr r → IsErrAnd r (λ y. y ≡ e) → Ran asked before before r
   unasked q s e r answers m is h k = subst (λ y. Ran asked before before y) (sym (err_is r e h k)) (unasked_for q s e answers m is)
 

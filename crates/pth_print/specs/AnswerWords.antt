@@ -5,7 +5,7 @@ use Rattle.pth_base.specs.declared.answer.Answer.TheVariants as answer
 use Rattle.pth_base.specs.declared.errno.Errno.{Errno}
 use Rattle.pth_base.specs.declared.errno.Errno.TheVariants.{EPERM, ENOENT, ESRCH, EINTR, EIO, EBADF, EAGAIN, EACCES, EBUSY, EEXIST, EINVAL, EDEADLK, ECONNREFUSED}
 use Rattle.pth_print.specs.Sets.{set_word}
-use Rattle.pth_print.specs.WordTexts.{number, hex_word}
+use Rattle.pth_print.specs.WordTexts.{number_word, hex_word}
 
 -- the name of an error
 abbrev pub errno_word : Errno → List ℕ
@@ -26,9 +26,9 @@ errno_word ECONNREFUSED = codes "ECONNREFUSED"
 -- an answer
 abbrev pub answer_words : Answer → List (List ℕ)
 answer_words answer.None = codes "none" ∷ []
-answer_words (answer.Int n) = number n ∷ []
+answer_words (answer.Int n) = number_word n ∷ []
 answer_words (answer.Bytes bytes) = hex_word bytes ∷ []
-answer_words (answer.Sets count r w x) = number count ∷ codes "sets" ∷ set_word r.0 ∷ set_word w.0 ∷ set_word x.0 ∷ []
+answer_words (answer.Sets count r w x) = number_word count ∷ codes "sets" ∷ set_word r.0 ∷ set_word w.0 ∷ set_word x.0 ∷ []
 answer_words (answer.Text name) = name ∷ []
-answer_words (answer.Msg id value) = codes "msg" ∷ decimal id.0 ∷ codes "value" ∷ number value ∷ []
+answer_words (answer.Msg id value) = codes "msg" ∷ decimal id.0 ∷ codes "value" ∷ number_word value ∷ []
 answer_words (answer.Fail e) = errno_word e ∷ []

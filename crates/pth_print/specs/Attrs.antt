@@ -4,7 +4,7 @@ use Rattle.pth_base.specs.declared.attr.AttrField.{AttrField}
 use Rattle.pth_base.specs.declared.attr.AttrField.TheVariants as field
 use Rattle.pth_base.specs.declared.attr.AttrValue.{AttrValue}
 use Rattle.pth_base.specs.declared.attr.AttrValue.TheVariants as value
-use Rattle.pth_print.specs.WordTexts.{number}
+use Rattle.pth_print.specs.WordTexts.{number_word}
 
 -- a field
 abbrev pub field_word : AttrField → List ℕ
@@ -18,14 +18,14 @@ field_word field.Bound = codes "bound"
 
 -- a field and its value
 abbrev pub value_words : AttrValue → List (List ℕ)
-value_words (value.Prio n) = codes "prio" ∷ number n ∷ []
+value_words (value.Prio n) = codes "prio" ∷ number_word n ∷ []
 value_words (value.Name name) = codes "name" ∷ name ∷ []
-value_words (value.Joinable n) = codes "joinable" ∷ number n ∷ []
-value_words (value.Cancel n) = codes "cancel" ∷ number n ∷ []
-value_words (value.Dispatches n) = codes "dispatches" ∷ number n ∷ []
-value_words (value.State n) = codes "state" ∷ number n ∷ []
-value_words (value.Bound n) = codes "bound" ∷ number n ∷ []
+value_words (value.Joinable n) = codes "joinable" ∷ number_word n ∷ []
+value_words (value.Cancel n) = codes "cancel" ∷ number_word n ∷ []
+value_words (value.Dispatches n) = codes "dispatches" ∷ number_word n ∷ []
+value_words (value.State n) = codes "state" ∷ number_word n ∷ []
+value_words (value.Bound n) = codes "bound" ∷ number_word n ∷ []
 
 -- the call that sets a field
 abbrev pub attr_set_words : ℤ → AttrValue → List (List ℕ)
-attr_set_words a value = codes "attr_set" ∷ number a ∷ value_words value
+attr_set_words a value = codes "attr_set" ∷ number_word a ∷ value_words value

@@ -5,7 +5,7 @@ use Rattle.pth_base.specs.declared.event.EvLine.TheVariants as line
 use Rattle.pth_base.specs.declared.thread.ThreadState.{ThreadState}
 use Rattle.pth_base.specs.declared.thread.ThreadState.TheVariants.{New, Ready, Running, Waiting, Dead}
 use Rattle.pth_print.specs.Sets.{set_word}
-use Rattle.pth_print.specs.WordTexts.{number}
+use Rattle.pth_print.specs.WordTexts.{number_word}
 
 -- goals are the sum of 1 for readable, 2 for writeable and 4 for exceptional
 abbrev pub goals_word : ℕ → List ℕ
@@ -33,14 +33,14 @@ which_word all = if all then codes "all" else codes "this"
 
 -- an event line
 abbrev pub event_line_words : EvLine → List (List ℕ)
-event_line_words (line.Fd goals fd) = codes "ev_fd" ∷ goals_word goals ∷ number fd ∷ []
+event_line_words (line.Fd goals fd) = codes "ev_fd" ∷ goals_word goals ∷ number_word fd ∷ []
 event_line_words (line.Select r w x) = codes "ev_select" ∷ set_word r.0 ∷ set_word w.0 ∷ set_word x.0 ∷ []
-event_line_words (line.Time m) = codes "ev_time" ∷ number m ∷ []
-event_line_words (line.Msg p) = codes "ev_msg" ∷ number p ∷ []
-event_line_words (line.Cond c) = codes "ev_cond" ∷ number c ∷ []
-event_line_words (line.Tid state tid) = codes "ev_tid" ∷ state_word state ∷ number tid ∷ []
-event_line_words (line.Func check arg interval) = codes "ev_func" ∷ number check ∷ number arg ∷ number interval ∷ []
+event_line_words (line.Time m) = codes "ev_time" ∷ number_word m ∷ []
+event_line_words (line.Msg p) = codes "ev_msg" ∷ number_word p ∷ []
+event_line_words (line.Cond c) = codes "ev_cond" ∷ number_word c ∷ []
+event_line_words (line.Tid state tid) = codes "ev_tid" ∷ state_word state ∷ number_word tid ∷ []
+event_line_words (line.Func check arg interval) = codes "ev_func" ∷ number_word check ∷ number_word arg ∷ number_word interval ∷ []
 
 -- an event that is chained to a ring
 abbrev pub chain_words : ℤ → EvLine → List (List ℕ)
-chain_words e line = codes "chain" ∷ number e ∷ event_line_words line
+chain_words e line = codes "chain" ∷ number_word e ∷ event_line_words line

@@ -6,6 +6,6 @@ abbrev pub spaced : List (List ℕ) → List ℕ
 spaced words = flat_map (λ w. codes " " ++ w) words
 
 -- a space between each word and the next
-abbrev pub joined : List (List ℕ) → List ℕ
-joined [] = []
-joined (w ∷ ws) = w ++ spaced ws
+abbrev pub joined_words : List (List ℕ) → List ℕ
+joined_words [] = []
+joined_words (w ∷ ws) = w ++ spaced ws

@@ -7,12 +7,12 @@ use Rattle.pth_print.specs.declared.word.Word.{Word}
 use Rattle.pth_print.specs.declared.word.Word.TheVariants as word
 
 -- a number
-abbrev pub number : ℤ → List ℕ
-number n = signed_decimal n
+abbrev pub number_word : ℤ → List ℕ
+number_word n = signed_decimal n
 
 -- a thread
-abbrev pub thread : ℕ → List ℕ
-thread tid = codes "t" ++ decimal tid
+abbrev pub tid_word : ℕ → List ℕ
+tid_word tid = codes "t" ++ decimal tid
 
 -- a shared value
 abbrev pub cell : ℕ → List ℕ
@@ -23,15 +23,15 @@ abbrev pub hex_word : List ℕ → List ℕ
 hex_word bytes = codes "hex:" ++ hex_of bytes
 
 -- a word
-abbrev pub text_of : Word → List ℕ
-text_of (word.Plain text) = text.now
-text_of (word.Number n) = number n.now
-text_of (word.Natural n) = decimal n
-text_of (word.Thread tid) = thread tid.0
-text_of (word.Cell v) = cell v
-text_of (word.Set set) = set_word set.0
-text_of (word.Hex bytes) = hex_word bytes.now
+abbrev pub word_text : Word → List ℕ
+word_text (word.Plain text) = text.now
+word_text (word.Number n) = number_word n.now
+word_text (word.Natural n) = decimal n
+word_text (word.Thread tid) = tid_word tid.0
+word_text (word.Cell v) = cell v
+word_text (word.Set set) = set_word set.0
+word_text (word.Hex bytes) = hex_word bytes.now
 
 -- words, each after a space
 abbrev pub phrase_of : List Word → List ℕ
-phrase_of words = flat_map (λ w. codes " " ++ text_of w) words
+phrase_of words = flat_map (λ w. codes " " ++ word_text w) words

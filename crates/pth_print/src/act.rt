@@ -1,10 +1,10 @@
 //! Acts of handlers as words.
 
 ghost use Rattle.std.specs.Prelude.{◌∷◌, codes};
-ghost use Rattle.pth_print.specs.Adding.{Adds};
+ghost use Rattle.pth_print.specs.Adding.{AddsText};
 ghost use Rattle.pth_print.specs.AnswerWords.{answer_words};
 ghost use Rattle.pth_print.specs.MarkLines.{acted_words};
-ghost use Rattle.pth_print.specs.WordTexts.{number};
+ghost use Rattle.pth_print.specs.WordTexts.{number_word};
 ghost use Rattle.pth_print.specs.SpacedWords.{spaced};
 
 use crate::answer::add_answer_after;
@@ -24,7 +24,7 @@ fn add_act_of_two<'a>(
     answer: &Answer,
     out: &mut Text,
 ) -> Result<(), OutOfMemory>
-    ensures { Adds out.old out.new result (spaced (name.now ∷ number a.now ∷ number b.now ∷ codes "=" ∷ answer_words answer.now)) }
+    ensures { AddsText out.old out.new result (spaced (name.now ∷ number_word a.now ∷ number_word b.now ∷ codes "=" ∷ answer_words answer.now)) }
 {
     add_answer_after(
         &[Plain(name), Number(a), Number(b), Plain(b"=")],
@@ -35,7 +35,7 @@ fn add_act_of_two<'a>(
 
 /// Adds a handler's act and its answer.
 pub fn add_act(act: &Act, answer: &Answer, out: &mut Text) -> Result<(), OutOfMemory>
-    ensures { Adds out.old out.new result (spaced (acted_words act.now answer.now)) }
+    ensures { AddsText out.old out.new result (spaced (acted_words act.now answer.now)) }
 {
     match act {
         Act::Note(v) => add_one(b"note", v, out),

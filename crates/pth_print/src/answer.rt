@@ -1,6 +1,6 @@
 //! Answers as words.
 
-ghost use Rattle.pth_print.specs.Adding.{Adds};
+ghost use Rattle.pth_print.specs.Adding.{AddsText};
 ghost use Rattle.pth_print.specs.SpacedWords.{spaced};
 ghost use Rattle.pth_print.specs.WordTexts.{phrase_of};
 ghost use Rattle.pth_print.specs.AnswerWords.{answer_words, errno_word};
@@ -36,7 +36,7 @@ fn errno_word(e: Errno) -> &'static [u8]
 
 /// Adds the words of an answer, each after a space.
 fn add_answer(answer: &Answer, out: &mut Text) -> Result<(), OutOfMemory>
-    ensures { Adds out.old out.new result (spaced (answer_words answer.now)) }
+    ensures { AddsText out.old out.new result (spaced (answer_words answer.now)) }
 {
     match answer {
         Answer::None => add_words(&[Plain(b"none")], out),
@@ -61,7 +61,7 @@ pub fn add_answer_after(
     answer: &Answer,
     out: &mut Text,
 ) -> Result<(), OutOfMemory>
-    ensures { Adds out.old out.new result (phrase_of words.now ++ spaced (answer_words answer.now)) }
+    ensures { AddsText out.old out.new result (phrase_of words.now ++ spaced (answer_words answer.now)) }
 {
     add_words(words, out)?;
     add_answer(answer, out)

@@ -1,9 +1,9 @@
 //! Fields of attribute objects as words.
 
 ghost use Rattle.std.specs.Prelude.{◌≡◌, [], ◌∷◌, codes};
-ghost use Rattle.pth_print.specs.Adding.{Adds};
+ghost use Rattle.pth_print.specs.Adding.{AddsText};
 ghost use Rattle.pth_print.specs.Attrs.{field_word, attr_set_words};
-ghost use Rattle.pth_print.specs.WordTexts.{number};
+ghost use Rattle.pth_print.specs.WordTexts.{number_word};
 ghost use Rattle.pth_print.specs.SpacedWords.{spaced};
 
 use crate::word::Word::{Number, Plain};
@@ -29,7 +29,7 @@ pub fn field_word(field: AttrField) -> &'static [u8]
 
 /// Adds the words of a call that sets a field, each after a space.
 pub fn add_attr_set<'a>(a: &'a i64, value: &'a AttrValue, out: &mut Text) -> Result<(), OutOfMemory>
-    ensures { Adds out.old out.new result (spaced (attr_set_words a.now value.now)) }
+    ensures { AddsText out.old out.new result (spaced (attr_set_words a.now value.now)) }
 {
     match value {
         AttrValue::Prio(n) => add_field(a, b"prio", n, out),
@@ -52,7 +52,7 @@ pub fn add_attr_set<'a>(a: &'a i64, value: &'a AttrValue, out: &mut Text) -> Res
 
 /// Adds the words of a call that sets a field to a number, each after a space.
 fn add_field<'a>(a: &'a i64, field: &'a [u8], n: &'a i64, out: &mut Text) -> Result<(), OutOfMemory>
-    ensures { Adds out.old out.new result (spaced (codes "attr_set" ∷ number a.now ∷ field.now ∷ number n.now ∷ [])) }
+    ensures { AddsText out.old out.new result (spaced (codes "attr_set" ∷ number_word a.now ∷ field.now ∷ number_word n.now ∷ [])) }
 {
     add_words(
         &[Plain(b"attr_set"), Number(a), Plain(field), Number(n)],

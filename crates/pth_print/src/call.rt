@@ -2,7 +2,7 @@
 
 ghost use Rattle.std.specs.Prelude.{◌≡◌, None};
 ghost use Rattle.pth_base.specs.Facilities.{facility_of};
-ghost use Rattle.pth_print.specs.Adding.{Adds};
+ghost use Rattle.pth_print.specs.Adding.{AddsText};
 ghost use Rattle.pth_print.specs.SpacedWords.{spaced};
 ghost use Rattle.pth_print.specs.CallWords.{call_words};
 
@@ -28,7 +28,7 @@ use pth_text::text::Text;
 
 /// Adds the words of a call, each after a space.
 pub fn add_call(call: &Call, out: &mut Text) -> Result<(), OutOfMemory>
-    ensures { Adds out.old out.new result (spaced (call_words call.now)) }
+    ensures { AddsText out.old out.new result (spaced (call_words call.now)) }
 {
     match call.facility() {
         Some(Facility::Library) => add_library_call(call, out),
@@ -52,7 +52,7 @@ pub fn add_call(call: &Call, out: &mut Text) -> Result<(), OutOfMemory>
 /// Adds the words of a line of a body that calls nothing, each after a space.
 fn add_plain_line(call: &Call, out: &mut Text) -> Result<(), OutOfMemory>
     requires { facility_of call.now ≡ None }
-    ensures { Adds out.old out.new result (spaced (call_words call.now)) }
+    ensures { AddsText out.old out.new result (spaced (call_words call.now)) }
 {
     match call {
         Call::Plain => add_name(b"plain", out),

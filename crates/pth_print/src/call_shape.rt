@@ -1,9 +1,9 @@
 //! Words of calls, by the shapes that calls have: a name, and then what it is for.
 
 ghost use Rattle.std.specs.Prelude.{[], ◌∷◌};
-ghost use Rattle.pth_print.specs.Adding.{Adds};
+ghost use Rattle.pth_print.specs.Adding.{AddsText};
 ghost use Rattle.pth_print.specs.Sets.{set_word};
-ghost use Rattle.pth_print.specs.WordTexts.{number, hex_word};
+ghost use Rattle.pth_print.specs.WordTexts.{number_word, hex_word};
 ghost use Rattle.pth_print.specs.SpacedWords.{spaced};
 
 use crate::word::Word::{Hex, Number, Plain, Set};
@@ -14,14 +14,14 @@ use pth_text::text::Text;
 
 /// Adds a name.
 pub fn add_name(name: &[u8], out: &mut Text) -> Result<(), OutOfMemory>
-    ensures { Adds out.old out.new result (spaced (name.now ∷ [])) }
+    ensures { AddsText out.old out.new result (spaced (name.now ∷ [])) }
 {
     add_words(&[Plain(name)], out)
 }
 
 /// Adds a name and a number.
 pub fn add_one<'a>(name: &'a [u8], a: &'a i64, out: &mut Text) -> Result<(), OutOfMemory>
-    ensures { Adds out.old out.new result (spaced (name.now ∷ number a.now ∷ [])) }
+    ensures { AddsText out.old out.new result (spaced (name.now ∷ number_word a.now ∷ [])) }
 {
     add_words(&[Plain(name), Number(a)], out)
 }
@@ -33,7 +33,7 @@ pub fn add_two<'a>(
     b: &'a i64,
     out: &mut Text,
 ) -> Result<(), OutOfMemory>
-    ensures { Adds out.old out.new result (spaced (name.now ∷ number a.now ∷ number b.now ∷ [])) }
+    ensures { AddsText out.old out.new result (spaced (name.now ∷ number_word a.now ∷ number_word b.now ∷ [])) }
 {
     add_words(&[Plain(name), Number(a), Number(b)], out)
 }
@@ -46,14 +46,14 @@ pub fn add_three<'a>(
     c: &'a i64,
     out: &mut Text,
 ) -> Result<(), OutOfMemory>
-    ensures { Adds out.old out.new result (spaced (name.now ∷ number a.now ∷ number b.now ∷ number c.now ∷ [])) }
+    ensures { AddsText out.old out.new result (spaced (name.now ∷ number_word a.now ∷ number_word b.now ∷ number_word c.now ∷ [])) }
 {
     add_words(&[Plain(name), Number(a), Number(b), Number(c)], out)
 }
 
 /// Adds a name and a word.
 pub fn add_text<'a>(name: &'a [u8], text: &'a [u8], out: &mut Text) -> Result<(), OutOfMemory>
-    ensures { Adds out.old out.new result (spaced (name.now ∷ text.now ∷ [])) }
+    ensures { AddsText out.old out.new result (spaced (name.now ∷ text.now ∷ [])) }
 {
     add_words(&[Plain(name), Plain(text)], out)
 }
@@ -65,7 +65,7 @@ pub fn add_text_and_one<'a>(
     a: &'a i64,
     out: &mut Text,
 ) -> Result<(), OutOfMemory>
-    ensures { Adds out.old out.new result (spaced (name.now ∷ text.now ∷ number a.now ∷ [])) }
+    ensures { AddsText out.old out.new result (spaced (name.now ∷ text.now ∷ number_word a.now ∷ [])) }
 {
     add_words(&[Plain(name), Plain(text), Number(a)], out)
 }
@@ -77,7 +77,7 @@ pub fn add_one_and_text<'a>(
     text: &'a [u8],
     out: &mut Text,
 ) -> Result<(), OutOfMemory>
-    ensures { Adds out.old out.new result (spaced (name.now ∷ number a.now ∷ text.now ∷ [])) }
+    ensures { AddsText out.old out.new result (spaced (name.now ∷ number_word a.now ∷ text.now ∷ [])) }
 {
     add_words(&[Plain(name), Number(a), Plain(text)], out)
 }
@@ -91,7 +91,7 @@ pub fn add_taking<'a>(
     c: &'a i64,
     out: &mut Text,
 ) -> Result<(), OutOfMemory>
-    ensures { Adds out.old out.new result (spaced (name.now ∷ number a.now ∷ text.now ∷ number b.now ∷ number c.now ∷ [])) }
+    ensures { AddsText out.old out.new result (spaced (name.now ∷ number_word a.now ∷ text.now ∷ number_word b.now ∷ number_word c.now ∷ [])) }
 {
     add_words(
         &[Plain(name), Number(a), Plain(text), Number(b), Number(c)],
@@ -106,7 +106,7 @@ pub fn add_bytes<'a>(
     bytes: &'a [u8],
     out: &mut Text,
 ) -> Result<(), OutOfMemory>
-    ensures { Adds out.old out.new result (spaced (name.now ∷ number a.now ∷ hex_word bytes.now ∷ [])) }
+    ensures { AddsText out.old out.new result (spaced (name.now ∷ number_word a.now ∷ hex_word bytes.now ∷ [])) }
 {
     add_words(&[Plain(name), Number(a), Hex(bytes)], out)
 }
@@ -119,7 +119,7 @@ pub fn add_bytes_and_one<'a>(
     b: &'a i64,
     out: &mut Text,
 ) -> Result<(), OutOfMemory>
-    ensures { Adds out.old out.new result (spaced (name.now ∷ number a.now ∷ hex_word bytes.now ∷ number b.now ∷ [])) }
+    ensures { AddsText out.old out.new result (spaced (name.now ∷ number_word a.now ∷ hex_word bytes.now ∷ number_word b.now ∷ [])) }
 {
     add_words(&[Plain(name), Number(a), Hex(bytes), Number(b)], out)
 }
@@ -132,7 +132,7 @@ pub fn add_sets(
     x: FdSet,
     out: &mut Text,
 ) -> Result<(), OutOfMemory>
-    ensures { Adds out.old out.new result (spaced (name.now ∷ set_word r.0 ∷ set_word w.0 ∷ set_word x.0 ∷ [])) }
+    ensures { AddsText out.old out.new result (spaced (name.now ∷ set_word r.0 ∷ set_word w.0 ∷ set_word x.0 ∷ [])) }
 {
     add_words(&[Plain(name), Set(r), Set(w), Set(x)], out)
 }
@@ -146,7 +146,7 @@ pub fn add_sets_and_one<'a>(
     a: &'a i64,
     out: &mut Text,
 ) -> Result<(), OutOfMemory>
-    ensures { Adds out.old out.new result (spaced (name.now ∷ set_word r.0 ∷ set_word w.0 ∷ set_word x.0 ∷ number a.now ∷ [])) }
+    ensures { AddsText out.old out.new result (spaced (name.now ∷ set_word r.0 ∷ set_word w.0 ∷ set_word x.0 ∷ number_word a.now ∷ [])) }
 {
     add_words(&[Plain(name), Set(r), Set(w), Set(x), Number(a)], out)
 }
@@ -161,7 +161,7 @@ pub fn add_sets_and_two<'a>(
     b: &'a i64,
     out: &mut Text,
 ) -> Result<(), OutOfMemory>
-    ensures { Adds out.old out.new result (spaced (name.now ∷ set_word r.0 ∷ set_word w.0 ∷ set_word x.0 ∷ number a.now ∷ number b.now ∷ [])) }
+    ensures { AddsText out.old out.new result (spaced (name.now ∷ set_word r.0 ∷ set_word w.0 ∷ set_word x.0 ∷ number_word a.now ∷ number_word b.now ∷ [])) }
 {
     add_words(
         &[Plain(name), Set(r), Set(w), Set(x), Number(a), Number(b)],

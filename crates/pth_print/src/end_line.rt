@@ -3,10 +3,10 @@
 ghost use Rattle.std.specs.Prelude.{◌≡◌, ◌≢◌, ◌++◌, OnOk, OnErr, codes, flat_map, map};
 ghost use Rattle.pth_base.specs.declared.outcome.Outcome.TheVariants as outcome;
 ghost use Rattle.pth_base.specs.Cut.{IsCut};
-ghost use Rattle.pth_print.specs.Adding.{Adds};
+ghost use Rattle.pth_print.specs.Adding.{AddsText};
 ghost use Rattle.pth_print.specs.EndLines.{end_words, end_line};
-ghost use Rattle.pth_print.specs.WordTexts.{thread};
-ghost use Rattle.pth_print.specs.SpacedWords.{joined};
+ghost use Rattle.pth_print.specs.WordTexts.{tid_word};
+ghost use Rattle.pth_print.specs.SpacedWords.{joined_words};
 
 use crate::word::Word::{Natural, Number, Plain, Thread};
 use crate::word::{add_line, add_words};
@@ -17,7 +17,7 @@ use pth_text::text::Text;
 
 /// Adds threads, each after a space.
 fn add_threads(threads: &[Tid], out: &mut Text) -> Result<(), OutOfMemory>
-    ensures { Adds out.old out.new result (flat_map (λ t. codes " " ++ thread t.0) threads.now) }
+    ensures { AddsText out.old out.new result (flat_map (λ t. codes " " ++ tid_word t.0) threads.now) }
 {
     for tid in threads {
         add_words(&[Thread(*tid)], out)?;
@@ -28,7 +28,7 @@ fn add_threads(threads: &[Tid], out: &mut Text) -> Result<(), OutOfMemory>
 /// Adds the words of an outcome.
 fn add_end(o: &Outcome, n: u64, live: &[Tid], out: &mut Text) -> Result<(), OutOfMemory>
     requires { o.now ≢ outcome.OutOfMemory }
-    ensures { Adds out.old out.new result (joined (end_words o.now n (map (λ t. t.0) live.now))) }
+    ensures { AddsText out.old out.new result (joined_words (end_words o.now n (map (λ t. t.0) live.now))) }
 {
     match o {
         Outcome::Running => add_line(&Plain(b"step"), &[Plain(b"limit"), Natural(n)], out),

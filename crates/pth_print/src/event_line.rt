@@ -1,7 +1,7 @@
 //! Event lines as words.
 
 ghost use Rattle.std.specs.Prelude.{◌≡◌};
-ghost use Rattle.pth_print.specs.Adding.{Adds};
+ghost use Rattle.pth_print.specs.Adding.{AddsText};
 ghost use Rattle.pth_print.specs.SpacedWords.{spaced};
 ghost use Rattle.pth_print.specs.EventLines.{goals_word, state_word, walk_word, which_word, event_line_words, chain_words};
 
@@ -61,7 +61,7 @@ pub fn which_word(all: bool) -> &'static [u8]
 
 /// Adds the words of an event line, each after a space.
 fn add_event_line(line: &EvLine, out: &mut Text) -> Result<(), OutOfMemory>
-    ensures { Adds out.old out.new result (spaced (event_line_words line.now)) }
+    ensures { AddsText out.old out.new result (spaced (event_line_words line.now)) }
 {
     match line {
         EvLine::Fd { goals, fd } => add_text_and_one(b"ev_fd", goals_word(*goals), fd, out),
@@ -80,7 +80,7 @@ fn add_event_line(line: &EvLine, out: &mut Text) -> Result<(), OutOfMemory>
 
 /// Adds the words of a call that chains an event to a ring, each after a space.
 pub fn add_chain(e: &i64, line: &EvLine, out: &mut Text) -> Result<(), OutOfMemory>
-    ensures { Adds out.old out.new result (spaced (chain_words e.now line.now)) }
+    ensures { AddsText out.old out.new result (spaced (chain_words e.now line.now)) }
 {
     add_one(b"chain", e, out)?;
     add_event_line(line, out)

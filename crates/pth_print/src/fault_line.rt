@@ -2,7 +2,7 @@
 
 ghost use Rattle.std.specs.Prelude.{◌≡◌, ◌++◌, OnOk, OnErr};
 ghost use Rattle.pth_base.specs.Cut.{IsCut};
-ghost use Rattle.pth_print.specs.Adding.{Adds};
+ghost use Rattle.pth_print.specs.Adding.{AddsText};
 ghost use Rattle.pth_print.specs.declared.fault_line.Fault.TheVariants as fault;
 ghost use Rattle.pth_print.specs.FaultLines.{breach_name, fault_line, fault_status};
 
@@ -59,7 +59,7 @@ fn breach_name(breach: Breach) -> &'static [u8]
 
 /// Adds the line that tells of a refused input.
 fn input_line(line: u32, breach: Breach, out: &mut Text) -> Result<(), OutOfMemory>
-    ensures { Adds out.old out.new result (fault_line (fault.Input line breach)) }
+    ensures { AddsText out.old out.new result (fault_line (fault.Input line breach)) }
 {
     out.push(b"pth_play: line ")?;
     out.natural(u64::from(line))?;

@@ -4,7 +4,7 @@ ghost use Rattle.std.specs.Prelude.{◌≡◌, Some};
 ghost use Rattle.pth_base.specs.Facilities.{facility_of};
 ghost use Rattle.pth_base.specs.declared.call.Call.TheVariants as call;
 ghost use Rattle.pth_base.specs.declared.facility.Facility.TheVariants as facility;
-ghost use Rattle.pth_print.specs.Adding.{Adds};
+ghost use Rattle.pth_print.specs.Adding.{AddsText};
 ghost use Rattle.pth_print.specs.SpacedWords.{spaced};
 ghost use Rattle.pth_print.specs.CallWords.{call_words};
 
@@ -15,7 +15,7 @@ use pth_text::text::Text;
 
 /// Adds the words of a call that makes a key with a destructor or with none, each after a space.
 fn add_key_create(handler: &Option<i64>, out: &mut Text) -> Result<(), OutOfMemory>
-    ensures { Adds out.old out.new result (spaced (call_words (call.KeyCreate handler.now))) }
+    ensures { AddsText out.old out.new result (spaced (call_words (call.KeyCreate handler.now))) }
 {
     match handler {
         Some(h) => add_one(b"key_create", h, out),
@@ -26,7 +26,7 @@ fn add_key_create(handler: &Option<i64>, out: &mut Text) -> Result<(), OutOfMemo
 /// Adds the words of a call on keys, each after a space.
 pub fn add_key_call(call: &Call, out: &mut Text) -> Result<(), OutOfMemory>
     requires { facility_of call.now ≡ Some facility.Keys }
-    ensures { Adds out.old out.new result (spaced (call_words call.now)) }
+    ensures { AddsText out.old out.new result (spaced (call_words call.now)) }
 {
     match call {
         Call::KeyCreate(handler) => add_key_create(handler, out),

@@ -2,9 +2,9 @@
 
 ghost use Rattle.std.specs.Prelude.{◌≡◌, [], ◌∷◌, ◌++◌, OnOk, OnErr, codes};
 ghost use Rattle.pth_base.specs.Cut.{IsCut};
-ghost use Rattle.pth_print.specs.Adding.{Adds};
-ghost use Rattle.pth_print.specs.SpacedWords.{spaced, joined};
-ghost use Rattle.pth_print.specs.WordTexts.{thread};
+ghost use Rattle.pth_print.specs.Adding.{AddsText};
+ghost use Rattle.pth_print.specs.SpacedWords.{spaced, joined_words};
+ghost use Rattle.pth_print.specs.WordTexts.{tid_word};
 ghost use Rattle.pth_print.specs.CallWords.{call_words};
 ghost use Rattle.pth_print.specs.AnswerWords.{answer_words};
 ghost use Rattle.pth_print.specs.MarkLines.{acted_words, mark_words, mark_line};
@@ -28,7 +28,7 @@ use pth_text::text::Text;
 
 /// Adds a thread and a call.
 fn add_call_of(tid: Tid, call: &Call, out: &mut Text) -> Result<(), OutOfMemory>
-    ensures { Adds out.old out.new result (thread tid.0 ++ spaced (call_words call.now)) }
+    ensures { AddsText out.old out.new result (tid_word tid.0 ++ spaced (call_words call.now)) }
 {
     add_word(&Thread(tid), out)?;
     add_call(call, out)
@@ -36,7 +36,7 @@ fn add_call_of(tid: Tid, call: &Call, out: &mut Text) -> Result<(), OutOfMemory>
 
 /// Adds a thread, its call and what became of it.
 fn add_call_and(tid: Tid, call: &Call, word: &[u8], out: &mut Text) -> Result<(), OutOfMemory>
-    ensures { Adds out.old out.new result (joined (thread tid.0 ∷ (call_words call.now ++ word.now ∷ []))) }
+    ensures { AddsText out.old out.new result (joined_words (tid_word tid.0 ∷ (call_words call.now ++ word.now ∷ []))) }
 {
     add_call_of(tid, call, out)?;
     add_words(&[Plain(word)], out)
@@ -44,7 +44,7 @@ fn add_call_and(tid: Tid, call: &Call, word: &[u8], out: &mut Text) -> Result<()
 
 /// Adds a thread, its call and the answer.
 fn add_answered(tid: Tid, call: &Call, answer: &Answer, out: &mut Text) -> Result<(), OutOfMemory>
-    ensures { Adds out.old out.new result (joined (thread tid.0 ∷ (call_words call.now ++ codes "=" ∷ answer_words answer.now))) }
+    ensures { AddsText out.old out.new result (joined_words (tid_word tid.0 ∷ (call_words call.now ++ codes "=" ∷ answer_words answer.now))) }
 {
     add_call_of(tid, call, out)?;
     add_answer_after(&[Plain(b"=")], answer, out)
@@ -52,7 +52,7 @@ fn add_answered(tid: Tid, call: &Call, answer: &Answer, out: &mut Text) -> Resul
 
 /// Adds the thread that runs a handler, with an act of the handler.
 fn add_acted(tid: Tid, act: &Act, answer: &Answer, out: &mut Text) -> Result<(), OutOfMemory>
-    ensures { Adds out.old out.new result (joined (thread tid.0 ∷ codes "act" ∷ acted_words act.now answer.now)) }
+    ensures { AddsText out.old out.new result (joined_words (tid_word tid.0 ∷ codes "act" ∷ acted_words act.now answer.now)) }
 {
     add_line(&Thread(tid), &[Plain(b"act")], out)?;
     add_act(act, answer, out)
@@ -60,7 +60,7 @@ fn add_acted(tid: Tid, act: &Act, answer: &Answer, out: &mut Text) -> Result<(),
 
 /// Adds the words of a mark, with single spaces between them.
 fn add_mark(mark: &Mark, audit: bool, out: &mut Text) -> Result<(), OutOfMemory>
-    ensures { Adds out.old out.new result (joined (mark_words audit mark.now)) }
+    ensures { AddsText out.old out.new result (joined_words (mark_words audit mark.now)) }
 {
     match mark {
         Mark::Dispatch {

@@ -1,10 +1,10 @@
 //! Words of marks, by what marks tell, with single spaces between them.
 
 ghost use Rattle.std.specs.Prelude.{[], ◌∷◌, codes, decimal};
-ghost use Rattle.pth_print.specs.Adding.{Adds};
+ghost use Rattle.pth_print.specs.Adding.{AddsText};
 ghost use Rattle.pth_print.specs.MarkLines.{audit_words};
-ghost use Rattle.pth_print.specs.WordTexts.{number, thread};
-ghost use Rattle.pth_print.specs.SpacedWords.{spaced, joined};
+ghost use Rattle.pth_print.specs.WordTexts.{number_word, tid_word};
+ghost use Rattle.pth_print.specs.SpacedWords.{spaced, joined_words};
 
 use crate::word::Word::{Natural, Number, Plain, Thread};
 use crate::word::{add_line, add_words};
@@ -20,7 +20,7 @@ pub fn add_turn(
     rank: &i64,
     out: &mut Text,
 ) -> Result<(), OutOfMemory>
-    ensures { Adds out.old out.new result (joined (codes "turn" ∷ decimal turn ∷ codes "at" ∷ decimal at ∷ thread tid.0 ∷ codes "rank" ∷ number rank.now ∷ [])) }
+    ensures { AddsText out.old out.new result (joined_words (codes "turn" ∷ decimal turn ∷ codes "at" ∷ decimal at ∷ tid_word tid.0 ∷ codes "rank" ∷ number_word rank.now ∷ [])) }
 {
     add_line(
         &Plain(b"turn"),
@@ -38,7 +38,7 @@ pub fn add_turn(
 
 /// Adds what an audit tells of a dispatch, where it is asked for.
 pub fn add_audit(audit: bool, waited: u64, allowed: u64, out: &mut Text) -> Result<(), OutOfMemory>
-    ensures { Adds out.old out.new result (spaced (audit_words audit waited allowed)) }
+    ensures { AddsText out.old out.new result (spaced (audit_words audit waited allowed)) }
 {
     if !audit {
         return Ok(());
@@ -56,7 +56,7 @@ pub fn add_audit(audit: bool, waited: u64, allowed: u64, out: &mut Text) -> Resu
 
 /// Adds a thread and a word.
 pub fn add_thread_and(tid: Tid, word: &[u8], out: &mut Text) -> Result<(), OutOfMemory>
-    ensures { Adds out.old out.new result (joined (thread tid.0 ∷ word.now ∷ [])) }
+    ensures { AddsText out.old out.new result (joined_words (tid_word tid.0 ∷ word.now ∷ [])) }
 {
     add_line(&Thread(tid), &[Plain(word)], out)
 }
@@ -68,7 +68,7 @@ pub fn add_value<'a>(
     value: &'a i64,
     out: &mut Text,
 ) -> Result<(), OutOfMemory>
-    ensures { Adds out.old out.new result (joined (thread tid.0 ∷ word.now ∷ number value.now ∷ [])) }
+    ensures { AddsText out.old out.new result (joined_words (tid_word tid.0 ∷ word.now ∷ number_word value.now ∷ [])) }
 {
     add_line(&Thread(tid), &[Plain(word), Number(value)], out)
 }
@@ -81,7 +81,7 @@ pub fn add_object<'a>(
     object: u8,
     out: &mut Text,
 ) -> Result<(), OutOfMemory>
-    ensures { Adds out.old out.new result (joined (thread tid.0 ∷ word.now ∷ kind.now ∷ decimal object ∷ [])) }
+    ensures { AddsText out.old out.new result (joined_words (tid_word tid.0 ∷ word.now ∷ kind.now ∷ decimal object ∷ [])) }
 {
     add_line(
         &Thread(tid),
@@ -98,7 +98,7 @@ pub fn add_run<'a>(
     arg: &'a i64,
     out: &mut Text,
 ) -> Result<(), OutOfMemory>
-    ensures { Adds out.old out.new result (joined (thread tid.0 ∷ word.now ∷ decimal which ∷ codes "arg" ∷ number arg.now ∷ [])) }
+    ensures { AddsText out.old out.new result (joined_words (tid_word tid.0 ∷ word.now ∷ decimal which ∷ codes "arg" ∷ number_word arg.now ∷ [])) }
 {
     add_line(
         &Thread(tid),
@@ -114,7 +114,7 @@ pub fn add_run<'a>(
 
 /// Adds a thread, and the barrier that it leaves.
 pub fn add_withdrew(tid: Tid, barrier: u8, out: &mut Text) -> Result<(), OutOfMemory>
-    ensures { Adds out.old out.new result (joined (thread tid.0 ∷ codes "withdraws" ∷ decimal barrier ∷ [])) }
+    ensures { AddsText out.old out.new result (joined_words (tid_word tid.0 ∷ codes "withdraws" ∷ decimal barrier ∷ [])) }
 {
     add_line(
         &Thread(tid),
@@ -125,7 +125,7 @@ pub fn add_withdrew(tid: Tid, barrier: u8, out: &mut Text) -> Result<(), OutOfMe
 
 /// Adds a thread that is ready again, and its rank.
 pub fn add_woke(tid: Tid, rank: &i64, out: &mut Text) -> Result<(), OutOfMemory>
-    ensures { Adds out.old out.new result (joined (codes "wake" ∷ thread tid.0 ∷ codes "rank" ∷ number rank.now ∷ [])) }
+    ensures { AddsText out.old out.new result (joined_words (codes "wake" ∷ tid_word tid.0 ∷ codes "rank" ∷ number_word rank.now ∷ [])) }
 {
     add_line(
         &Plain(b"wake"),
@@ -136,7 +136,7 @@ pub fn add_woke(tid: Tid, rank: &i64, out: &mut Text) -> Result<(), OutOfMemory>
 
 /// Adds the moment to which time moved.
 pub fn add_moved(at: Micros, out: &mut Text) -> Result<(), OutOfMemory>
-    ensures { Adds out.old out.new result (joined (codes "idle" ∷ codes "to" ∷ decimal at ∷ [])) }
+    ensures { AddsText out.old out.new result (joined_words (codes "idle" ∷ codes "to" ∷ decimal at ∷ [])) }
 {
     add_line(&Plain(b"idle"), &[Plain(b"to"), Natural(at)], out)
 }

@@ -4,7 +4,7 @@ ghost use Rattle.std.specs.Prelude.{◌≡◌, Some};
 ghost use Rattle.pth_base.specs.Facilities.{facility_of};
 ghost use Rattle.pth_base.specs.declared.call.Call.TheVariants as call;
 ghost use Rattle.pth_base.specs.declared.facility.Facility.TheVariants as facility;
-ghost use Rattle.pth_print.specs.Adding.{Adds};
+ghost use Rattle.pth_print.specs.Adding.{AddsText};
 ghost use Rattle.pth_print.specs.SpacedWords.{spaced};
 ghost use Rattle.pth_print.specs.CallWords.{call_words};
 
@@ -16,7 +16,7 @@ use pth_text::text::Text;
 
 /// Adds the words of a call that makes a port with a name or with none, each after a space.
 fn add_port_create(name: &Option<Name>, out: &mut Text) -> Result<(), OutOfMemory>
-    ensures { Adds out.old out.new result (spaced (call_words (call.PortCreate name.now))) }
+    ensures { AddsText out.old out.new result (spaced (call_words (call.PortCreate name.now))) }
 {
     match name {
         Some(name) => add_text(b"port_create", name.as_str().as_bytes(), out),
@@ -27,7 +27,7 @@ fn add_port_create(name: &Option<Name>, out: &mut Text) -> Result<(), OutOfMemor
 /// Adds the words of a call on message ports, each after a space.
 pub fn add_port_call(call: &Call, out: &mut Text) -> Result<(), OutOfMemory>
     requires { facility_of call.now ≡ Some facility.Ports }
-    ensures { Adds out.old out.new result (spaced (call_words call.now)) }
+    ensures { AddsText out.old out.new result (spaced (call_words call.now)) }
 {
     match call {
         Call::PortCreate(name) => add_port_create(name, out),

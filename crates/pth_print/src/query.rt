@@ -1,7 +1,7 @@
 //! What the scheduler is asked, as words.
 
-ghost use Rattle.pth_print.specs.Adding.{Adds};
-ghost use Rattle.pth_print.specs.Queries.{query_words};
+ghost use Rattle.pth_print.specs.Adding.{AddsText};
+ghost use Rattle.pth_print.specs.Queries.{ctrl_words};
 ghost use Rattle.pth_print.specs.SpacedWords.{spaced};
 
 use crate::call_shape::{add_text, add_text_and_one};
@@ -11,7 +11,7 @@ use pth_text::text::Text;
 
 /// Adds the words of a query, each after a space.
 pub fn add_query(query: &Query, out: &mut Text) -> Result<(), OutOfMemory>
-    ensures { Adds out.old out.new result (spaced (query_words query.now)) }
+    ensures { AddsText out.old out.new result (spaced (ctrl_words query.now)) }
 {
     match query {
         Query::Threads => add_text(b"ctrl", b"threads", out),

@@ -3,7 +3,7 @@
 ghost use Rattle.std.specs.Prelude.{◌≡◌, Some};
 ghost use Rattle.pth_base.specs.Facilities.{facility_of};
 ghost use Rattle.pth_base.specs.declared.facility.Facility.TheVariants as facility;
-ghost use Rattle.pth_print.specs.Adding.{Adds};
+ghost use Rattle.pth_print.specs.Adding.{AddsText};
 ghost use Rattle.pth_print.specs.SpacedWords.{spaced};
 ghost use Rattle.pth_print.specs.CallWords.{call_words};
 ghost use Rattle.pth_print.specs.LockModes.{mode_word};
@@ -23,7 +23,7 @@ fn mode_word(write: bool) -> &'static [u8]
 /// Adds the words of a call on read-write locks, each after a space.
 pub fn add_rwlock_call(call: &Call, out: &mut Text) -> Result<(), OutOfMemory>
     requires { facility_of call.now ≡ Some facility.Rwlocks }
-    ensures { Adds out.old out.new result (spaced (call_words call.now)) }
+    ensures { AddsText out.old out.new result (spaced (call_words call.now)) }
 {
     match call {
         Call::RwInit(l) => add_one(b"rw_init", l, out),

@@ -1,7 +1,7 @@
 //! Sets of descriptors as words.
 
 ghost use Rattle.std.specs.Prelude.{◌≡◌, ◌≤◌, ◌++◌, take, flat_map, codes, decimal};
-ghost use Rattle.pth_print.specs.Adding.{Adds};
+ghost use Rattle.pth_print.specs.Adding.{AddsText};
 ghost use Rattle.pth_print.specs.Sets.{members_below, members_word, set_word};
 
 use pth_base::ids::FdSet;
@@ -25,7 +25,7 @@ fn list_members(set: FdSet, members: &mut [u8; 64]) -> usize
 
 /// Adds members, each after a comma.
 fn add_others(members: &[u8], out: &mut Text) -> Result<(), OutOfMemory>
-    ensures { Adds out.old out.new result (flat_map (λ f. codes "," ++ decimal f) members.now) }
+    ensures { AddsText out.old out.new result (flat_map (λ f. codes "," ++ decimal f) members.now) }
 {
     for f in members {
         out.push(b",")?;
@@ -36,7 +36,7 @@ fn add_others(members: &[u8], out: &mut Text) -> Result<(), OutOfMemory>
 
 /// Adds members with commas between them, or `-` where there is none.
 fn add_members(members: &[u8], out: &mut Text) -> Result<(), OutOfMemory>
-    ensures { Adds out.old out.new result (members_word members.now) }
+    ensures { AddsText out.old out.new result (members_word members.now) }
 {
     match members {
         [] => out.push(b"-"),
@@ -49,7 +49,7 @@ fn add_members(members: &[u8], out: &mut Text) -> Result<(), OutOfMemory>
 
 /// Adds a set.
 pub fn add_set(set: FdSet, out: &mut Text) -> Result<(), OutOfMemory>
-    ensures { Adds out.old out.new result (set_word set.0) }
+    ensures { AddsText out.old out.new result (set_word set.0) }
 {
     let mut members = [0; 64];
     let count = list_members(set, &mut members);

@@ -2,9 +2,9 @@
 
 ghost use Rattle.std.specs.Prelude.{◌≡◌, ◌++◌, OnOk, OnErr};
 ghost use Rattle.pth_base.specs.Cut.{IsCut};
-ghost use Rattle.pth_print.specs.Adding.{Adds};
+ghost use Rattle.pth_print.specs.Adding.{AddsText};
 ghost use Rattle.pth_print.specs.EndLines.{summary_words, summary_line};
-ghost use Rattle.pth_print.specs.SpacedWords.{joined};
+ghost use Rattle.pth_print.specs.SpacedWords.{joined_words};
 
 use crate::word::Word::{Natural, Plain};
 use crate::word::add_line;
@@ -20,7 +20,7 @@ fn add_summary(
     time: Micros,
     out: &mut Text,
 ) -> Result<(), OutOfMemory>
-    ensures { Adds out.old out.new result (joined (summary_words threads turns steps time)) }
+    ensures { AddsText out.old out.new result (joined_words (summary_words threads turns steps time)) }
 {
     add_line(
         &Plain(b"summary"),

@@ -3,7 +3,7 @@
 ghost use Rattle.std.specs.Prelude.{◌≡◌, Some};
 ghost use Rattle.pth_base.specs.Facilities.{facility_of};
 ghost use Rattle.pth_base.specs.declared.facility.Facility.TheVariants as facility;
-ghost use Rattle.pth_print.specs.Adding.{Adds};
+ghost use Rattle.pth_print.specs.Adding.{AddsText};
 ghost use Rattle.pth_print.specs.SpacedWords.{spaced};
 ghost use Rattle.pth_print.specs.CallWords.{call_words};
 
@@ -15,7 +15,7 @@ use pth_text::text::Text;
 /// Adds the words of a call on threads, each after a space.
 pub fn add_thread_call(call: &Call, out: &mut Text) -> Result<(), OutOfMemory>
     requires { facility_of call.now ≡ Some facility.Threads }
-    ensures { Adds out.old out.new result (spaced (call_words call.now)) }
+    ensures { AddsText out.old out.new result (spaced (call_words call.now)) }
 {
     match call {
         Call::Spawn { b, v, a } => add_three(b"spawn", b, v, a, out),

@@ -1,8 +1,8 @@
 //! Words of lines.
 
 ghost use Rattle.std.specs.Prelude.{◌++◌};
-ghost use Rattle.pth_print.specs.Adding.{Adds};
-ghost use Rattle.pth_print.specs.WordTexts.{text_of, phrase_of};
+ghost use Rattle.pth_print.specs.Adding.{AddsText};
+ghost use Rattle.pth_print.specs.WordTexts.{word_text, phrase_of};
 
 use crate::set::add_set;
 use pth_base::ids::{FdSet, Tid};
@@ -27,7 +27,7 @@ pub enum Word<'a> {
 
 /// Adds a word.
 pub fn add_word(word: &Word<'_>, out: &mut Text) -> Result<(), OutOfMemory>
-    ensures { Adds out.old out.new result (text_of word.now) }
+    ensures { AddsText out.old out.new result (word_text word.now) }
 {
     match word {
         Word::Plain(text) => out.push(text),
@@ -51,7 +51,7 @@ pub fn add_word(word: &Word<'_>, out: &mut Text) -> Result<(), OutOfMemory>
 
 /// Adds words, each after a space.
 pub fn add_words(words: &[Word<'_>], out: &mut Text) -> Result<(), OutOfMemory>
-    ensures { Adds out.old out.new result (phrase_of words.now) }
+    ensures { AddsText out.old out.new result (phrase_of words.now) }
 {
     for word in words {
         out.push(b" ")?;
@@ -62,7 +62,7 @@ pub fn add_words(words: &[Word<'_>], out: &mut Text) -> Result<(), OutOfMemory>
 
 /// Adds a word, and others each after a space.
 pub fn add_line(first: &Word<'_>, others: &[Word<'_>], out: &mut Text) -> Result<(), OutOfMemory>
-    ensures { Adds out.old out.new result (text_of first.now ++ phrase_of others.now) }
+    ensures { AddsText out.old out.new result (word_text first.now ++ phrase_of others.now) }
 {
     add_word(first, out)?;
     add_words(others, out)

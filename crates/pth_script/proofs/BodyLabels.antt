@@ -11,7 +11,7 @@ use Rattle.std.proofs.lemmas.Bool.Decides.{Decides-int_eq}
 use Rattle.std.proofs.lemmas.List.{map-append, length-map}
 use Rattle.pth_line.specs.declared.line.Line.{Line}
 use Rattle.pth_line.specs.declared.line.Line.TheVariants as line
-use Rattle.pth_script.specs.Labels.{somes, label_in, goto_in, listed, labels_in, gotos_in, has, is_label, place_after}
+use Rattle.pth_script.specs.Labels.{somes, label_in, goto_in, listed, labels_in, gotos_in, has, is_this_label, place_after}
 use Rattle.pth_script.specs.Bodies.{IsIndexed, Marks}
 
 -- ---- lists of lines
@@ -47,7 +47,7 @@ is_some_suc : (o : Option ℕ) → is_some o ≡ is_some (option_map (λ n. suc 
 is_some_suc None = refl
 is_some_suc (Some n) = refl
 
-has_line : (l : Line) (k : ℤ) (b : Bool) (o : Option ℕ) → b ≡ is_some o → (has (listed (label_in l)) k || b) ≡ is_some (cond (is_label (Some l) k) (Some 1) (option_map (λ n. suc n) o))
+has_line : (l : Line) (k : ℤ) (b : Bool) (o : Option ℕ) → b ≡ is_some o → (has (listed (label_in l)) k || b) ≡ is_some (cond (is_this_label (Some l) k) (Some 1) (option_map (λ n. suc n) o))
 has_line (line.Label n) k b o e = has_or (int_eq n k) b o e
 has_line l k b o e = e ∙ is_some_suc o
 
@@ -73,10 +73,10 @@ one_more false true n o None e = rw (e, add-one, add-one)
 one_more false false n o None e = rw e
 
 -- the place after a label is the one so far, and else the place after the last line
-pub place_push : (ls : List (Option Line)) (l : Option Line) (k : ℤ) → place_after (ls ++ l ∷ []) k ≡ option_or (place_after ls k) (last_place (is_label l k) (length ls))
+pub place_push : (ls : List (Option Line)) (l : Option Line) (k : ℤ) → place_after (ls ++ l ∷ []) k ≡ option_or (place_after ls k) (last_place (is_this_label l k) (length ls))
 unfolding place_after
 place_push [] l k = refl
-place_push (m ∷ ls) l k = one_more (is_label m k) (is_label l k) (length ls) (place_after (ls ++ l ∷ []) k) (place_after ls k) (place_push ls l k)
+place_push (m ∷ ls) l k = one_more (is_this_label m k) (is_this_label l k) (length ls) (place_after (ls ++ l ∷ []) k) (place_after ls k) (place_push ls l k)
 
 updated : (t : Bool) (n : ℕ) (o : Option ℕ) → (t ≡ true → o ≡ None) → cond t (Some (n + 1)) o ≡ option_or o (last_place t n)
 updated true n o fresh = rw (fresh refl)
@@ -101,7 +101,7 @@ unchanged : (m n : BTreeMap ℤ ℕ) (q : ℤ) (o : Option ℕ) → IsUnchanged 
 unchanged m n q o same e = unplaced (get int_cmp n q) o (ap (λ (es : List (ℤ × ℕ)). lookup (is_at (int_cmp q)) es) same ∙ e)
 
 push_by : (ls : List Line) (l : Line) (m n : BTreeMap ℤ ℕ) → IsIndexed ls m → IfSome (label_in l) (λ k. has (labels_in ls) k ≡ false) → Marks l (length ls + 1) m n
-    → (q : ℤ) → get int_cmp n q ≡ option_or (place_after (somes ls) q) (last_place (is_label (Some l) q) (length ls))
+    → (q : ℤ) → get int_cmp n q ≡ option_or (place_after (somes ls) q) (last_place (is_this_label (Some l) q) (length ls))
 push_by ls (line.Label k) m n is fresh marked q = marked.0 q ∙ label_placed (get int_cmp m q) k q (length ls) (place_after (somes ls)) (no_place ls k fresh) (is q)
 push_by ls l m n is fresh marked q = unchanged m n q (place_after (somes ls) q) marked (is q)
 
@@ -109,6 +109,6 @@ push_by ls l m n is fresh marked q = unchanged m n q (place_after (somes ls) q) 
 pub indexed_push : (ls : List Line) (l : Line) (m n : BTreeMap ℤ ℕ) → IsIndexed ls m → IfSome (label_in l) (λ k. has (labels_in ls) k ≡ false) → Marks l (length ls + 1) m n → IsIndexed (ls ++ l ∷ []) n
 indexed_push ls l m n is fresh marked q =
     push_by ls l m n is fresh marked q
-    ∙ ap (λ a. option_or (place_after (somes ls) q) (last_place (is_label (Some l) q) a)) (sym (length-map ls (λ x. Some x)))
+    ∙ ap (λ a. option_or (place_after (somes ls) q) (last_place (is_this_label (Some l) q) a)) (sym (length-map ls (λ x. Some x)))
     ∙ sym (place_push (somes ls) (Some l) q)
     ∙ ap (λ ms. place_after ms q) (sym (map-append (λ x. Some x) ls (l ∷ [])))

@@ -12,7 +12,7 @@ use Rattle.pth_line.specs.declared.act_line.ActLine.{ActLine}
 use Rattle.pth_line.specs.declared.line.Line.{Line}
 use Rattle.pth_line.specs.declared.line.Line.TheVariants as line
 use Rattle.pth_script.specs.Labels.{label_in, goto_in, listed}
-use Rattle.pth_script.specs.Seen.{Seen, past, is_handler, is_check, is_thread, is_end}
+use Rattle.pth_script.specs.Seen.{Seen, seen_past, is_handler, is_check, is_thread, is_end}
 
 -- the keyword of a line within a section
 pub record IsInner (k : Option Keyword) : Type 0 where
@@ -29,7 +29,7 @@ inner k a b c d = record { handler = a; check = b; thread = c; end = d }
 -- one line more is seen, and no label
 pub record IsAct (k : Option Keyword) : Type 0 where
   pub inner : IsInner k
-  pub past : (n : Option ℤ) (s : Seen) → past k n s ≡ record s { lines = suc s.lines }
+  pub past : (n : Option ℤ) (s : Seen) → seen_past k n s ≡ record s { lines = suc s.lines }
 
 act_key : (k : Option Keyword) (ws : List (List ℕ)) (a : ActLine) → act_by k ws ≡ Some a → IsAct k
 act_key (Some key.Note) ws a e = record { inner = inner _ refl refl refl refl; past = λ n s. refl }
@@ -55,10 +55,10 @@ act_begins (w ∷ ws) a e = act_begins_by (is_some (register_of w)) (keyword_of 
 pub record IsLine (k : Option Keyword) (n : Option ℤ) (l : Line) : Type 0 where
   pub inner : IsInner k
   pub label : (m : ℤ) → label_in l ≡ Some m → (k ≡ Some key.Label) × (n ≡ Some m)
-  pub past : (s : Seen) → past k n s ≡ record s { lines = suc s.lines; labels = s.labels ++ listed (label_in l); gotos = s.gotos ++ listed (goto_in l) }
+  pub past : (s : Seen) → seen_past k n s ≡ record s { lines = suc s.lines; labels = s.labels ++ listed (label_in l); gotos = s.gotos ++ listed (goto_in l) }
 
 -- a line that is no label and names none
-plain : (k : Option Keyword) (n : Option ℤ) (l : Line) → IsInner k → ((s : Seen) → past k n s ≡ record s { lines = suc s.lines }) → label_in l ≡ None → goto_in l ≡ None → IsLine k n l
+plain : (k : Option Keyword) (n : Option ℤ) (l : Line) → IsInner k → ((s : Seen) → seen_past k n s ≡ record s { lines = suc s.lines }) → label_in l ≡ None → goto_in l ≡ None → IsLine k n l
 plain k n l i p a b = record {
   inner = i;
   label = λ m e. absurd (cc);
@@ -94,7 +94,7 @@ module _ {R : Type 0} (P : R → Type 0) where
   by_read3 f g h build [] l p e = absurd (cc)
   by_read3 f g h build (a ∷ ws) l p e = by_then (λ x. read2 g h (build x) ws) (f a) l (λ x. by_read2 g h (build x) ws l (p x)) e
 
-no_label : (k : Option Keyword) (n : Option ℤ) (l : Line) → IsInner k → ((s : Seen) → past k n s ≡ record s { lines = suc s.lines }) → NoLabel l → IsLine k n l
+no_label : (k : Option Keyword) (n : Option ℤ) (l : Line) → IsInner k → ((s : Seen) → seen_past k n s ≡ record s { lines = suc s.lines }) → NoLabel l → IsLine k n l
 no_label k n l i p h = plain k n l i p h.0 h.1
 
 label_key : (o : Option ℤ) (l : Line) → option_map (λ k. line.Label k) o ≡ Some l → IsLine (Some key.Label) o l

@@ -3,37 +3,37 @@ use Rattle.std.proofs.Common.{◌≡◌, ℕ, Bool, true, false, cond, List, [],
 use Rattle.pth_spelling.specs.Keywords.{begins}
 use Rattle.pth_grammar.specs.LineMeanings.{check_of}
 use Rattle.pth_spelling.specs.declared.keyword.Keyword.{Keyword}
-use Rattle.pth_script.specs.Meaning.{until_end, blocks, checks_of}
-use Rattle.pth_script.specs.Drafts.{rest_of}
+use Rattle.pth_script.specs.Meaning.{until_end, sections_read, checks_of}
+use Rattle.pth_script.specs.Drafts.{rest_of_sections}
 use Rattle.pth_script.specs.Seen.{is_check, is_end}
 
 module _ {A : Type 0} (opens : Option Keyword → Bool) (read : List (List ℕ) → A) where
-  blocks_past : (ws : List (List ℕ)) (ls : List (List (List ℕ))) → opens (begins ws) ≡ false → blocks opens read (ws ∷ ls) ≡ blocks opens read ls
-  unfolding blocks
-  blocks_past ws ls h = ap (λ t. cond t (until_end read ls ∷ blocks opens read ls) (blocks opens read ls)) h
+  blocks_past : (ws : List (List ℕ)) (ls : List (List (List ℕ))) → opens (begins ws) ≡ false → sections_read opens read (ws ∷ ls) ≡ sections_read opens read ls
+  unfolding sections_read
+  blocks_past ws ls h = ap (λ t. cond t (until_end read ls ∷ sections_read opens read ls) (sections_read opens read ls)) h
 
   -- a line of the open section
-  pub rest_more : (lines : List A) (ws : List (List ℕ)) (ls : List (List (List ℕ))) → is_end (begins ws) ≡ false → opens (begins ws) ≡ false → rest_of opens read true lines (ws ∷ ls) ≡ rest_of opens read true (lines ++ read ws ∷ []) ls
+  pub rest_more : (lines : List A) (ws : List (List ℕ)) (ls : List (List (List ℕ))) → is_end (begins ws) ≡ false → opens (begins ws) ≡ false → rest_of_sections opens read true lines (ws ∷ ls) ≡ rest_of_sections opens read true (lines ++ read ws ∷ []) ls
   unfolding until_end
   rest_more lines ws ls e o =
-      (λ i. (lines ++ cond (e i) [] (read ws ∷ until_end read ls)) ∷ blocks_past ws ls o i) ∙ ap (λ t. t ∷ blocks opens read ls) (sym (append_assoc lines (read ws ∷ []) (until_end read ls)))
+      (λ i. (lines ++ cond (e i) [] (read ws ∷ until_end read ls)) ∷ blocks_past ws ls o i) ∙ ap (λ t. t ∷ sections_read opens read ls) (sym (append_assoc lines (read ws ∷ []) (until_end read ls)))
 
   -- its end
-  pub rest_end : (lines : List A) (ws : List (List ℕ)) (ls : List (List (List ℕ))) → is_end (begins ws) ≡ true → opens (begins ws) ≡ false → rest_of opens read true lines (ws ∷ ls) ≡ lines ∷ rest_of opens read false [] ls
+  pub rest_end : (lines : List A) (ws : List (List ℕ)) (ls : List (List (List ℕ))) → is_end (begins ws) ≡ true → opens (begins ws) ≡ false → rest_of_sections opens read true lines (ws ∷ ls) ≡ lines ∷ rest_of_sections opens read false [] ls
   unfolding until_end
-  rest_end lines ws ls e o = (λ i. (lines ++ cond (e i) [] (read ws ∷ until_end read ls)) ∷ blocks_past ws ls o i) ∙ ap (λ t. t ∷ blocks opens read ls) (append-nil lines)
+  rest_end lines ws ls e o = (λ i. (lines ++ cond (e i) [] (read ws ∷ until_end read ls)) ∷ blocks_past ws ls o i) ∙ ap (λ t. t ∷ sections_read opens read ls) (append-nil lines)
 
   -- a line that opens one
-  pub rest_open : (lines : List A) (ws : List (List ℕ)) (ls : List (List (List ℕ))) → opens (begins ws) ≡ true → rest_of opens read false lines (ws ∷ ls) ≡ rest_of opens read true [] ls
-  unfolding blocks
-  rest_open lines ws ls o = ap (λ t. cond t (until_end read ls ∷ blocks opens read ls) (blocks opens read ls)) o
+  pub rest_open : (lines : List A) (ws : List (List ℕ)) (ls : List (List (List ℕ))) → opens (begins ws) ≡ true → rest_of_sections opens read false lines (ws ∷ ls) ≡ rest_of_sections opens read true [] ls
+  unfolding sections_read
+  rest_open lines ws ls o = ap (λ t. cond t (until_end read ls ∷ sections_read opens read ls) (sections_read opens read ls)) o
 
   -- another line
-  pub rest_past : (lines others : List A) (ws : List (List ℕ)) (ls : List (List (List ℕ))) → opens (begins ws) ≡ false → rest_of opens read false lines (ws ∷ ls) ≡ rest_of opens read false others ls
+  pub rest_past : (lines others : List A) (ws : List (List ℕ)) (ls : List (List (List ℕ))) → opens (begins ws) ≡ false → rest_of_sections opens read false lines (ws ∷ ls) ≡ rest_of_sections opens read false others ls
   rest_past lines others ws ls o = blocks_past ws ls o
 
-  pub rest_none : (lines : List A) → rest_of opens read false lines [] ≡ []
-  unfolding blocks
+  pub rest_none : (lines : List A) → rest_of_sections opens read false lines [] ≡ []
+  unfolding sections_read
   rest_none lines = refl
 
 pub checks_past : (ws : List (List ℕ)) (ls : List (List (List ℕ))) → is_check (begins ws) ≡ false → checks_of (ws ∷ ls) ≡ checks_of ls

@@ -8,23 +8,23 @@ use Rattle.pth_spelling.specs.declared.keyword.Keyword.{Keyword}
 use Rattle.pth_spelling.specs.declared.keyword.Keyword.TheVariants as key
 use Rattle.pth_text.specs.declared.rule.Rule.{Rule}
 use Rattle.pth_text.specs.declared.rule.Rule.TheVariants as rule
-use Rattle.pth_script.specs.TextRows.{Row, is_comment}
+use Rattle.pth_script.specs.TextRows.{TextRow, is_comment}
 use Rattle.pth_script.specs.Meaning.{said}
-use Rattle.pth_script.specs.Seen.{Seen, past, leads, passes_limit, misnumbered, leaves_goto}
+use Rattle.pth_script.specs.Seen.{Seen, seen_past, leads, passes_limit, misnumbered, leaves_goto}
 use Rattle.pth_script.specs.Broken.{said_breaks, line_breaks}
 use Rattle.pth_script.specs.RuleOrder.{first_broken}
 use Rattle.pth_text.specs.declared.rule.Breach.{Breach}
 use Rattle.pth_text.specs.declared.rule.Breach.TheVariants.{Limit, Of}
 
-pub said_comment : (row : Row) (rest : List Row) → is_comment row.bytes ≡ true → said (row ∷ rest) ≡ said rest
+pub said_comment : (row : TextRow) (rest : List TextRow) → is_comment row.bytes ≡ true → said (row ∷ rest) ≡ said rest
 unfolding said
 said_comment row rest h = ap (λ t. cond t (said rest) (words_of row.bytes ∷ said rest)) h
 
-pub said_line_of : (row : Row) (rest : List Row) → is_comment row.bytes ≡ false → said (row ∷ rest) ≡ words_of row.bytes ∷ said rest
+pub said_line_of : (row : TextRow) (rest : List TextRow) → is_comment row.bytes ≡ false → said (row ∷ rest) ≡ words_of row.bytes ∷ said rest
 unfolding said
 said_line_of row rest h = ap (λ t. cond t (said rest) (words_of row.bytes ∷ said rest)) h
 
-pub past_section : (k : Option Keyword) (n : Option ℤ) (s : Seen) → (past k n s).section ≡ leads k s.section
+pub past_section : (k : Option Keyword) (n : Option ℤ) (s : Seen) → (seen_past k n s).section ≡ leads k s.section
 past_section (Some key.Handler) n s = refl
 past_section (Some key.Check) n s = refl
 past_section (Some key.Thread) n s = refl

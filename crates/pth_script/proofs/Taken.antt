@@ -16,7 +16,7 @@ use Rattle.pth_line.specs.declared.check.Check.{Check}
 use Rattle.pth_line.specs.declared.line.Line.{Line}
 use Rattle.pth_script.specs.Labels.{label_in, labels_in, has}
 use Rattle.pth_script.specs.Seen.{Seen, passes_limit, misnumbered, leaves_goto, is_check, is_end, is_handler}
-use Rattle.pth_script.specs.Drafts.{DraftParts, seen, in_handler, in_body, with_open, handler_closed, IsClosed, IsInOrder, IsFine, Takes}
+use Rattle.pth_script.specs.Drafts.{DraftParts, seen_of_draft, in_handler, in_body, with_open, handler_closed, IsClosed, IsDraftInOrder, IsFine, Takes}
 use Rattle.pth_script.proofs.Said.{BreaksNone, fine_line}
 use Rattle.pth_script.proofs.Keys.{line_begins}
 use Rattle.pth_script.proofs.Taking.{act_taken, handler_ended, line_taken, body_ended, handler_opened, body_opened, check_taken}
@@ -97,13 +97,13 @@ if_some : {P : ℤ → Type 0} (o : Option ℤ) → ((m : ℤ) → o ≡ Some m 
 if_some (Some m) f = f m refl
 if_some None f = tt
 
-module _ (d : DraftParts) (ws : List (List ℕ)) (kept : IsInOrder d) where
+module _ (d : DraftParts) (ws : List (List ℕ)) (kept : IsDraftInOrder d) where
   module _ (at : d.section ≡ sec.Handler) where
-    kept_h : IsInOrder (record d { section = sec.Handler })
-    kept_h = subst (λ s. IsInOrder (record d { section = s })) at kept
+    kept_h : IsDraftInOrder (record d { section = sec.Handler })
+    kept_h = subst (λ s. IsDraftInOrder (record d { section = s })) at kept
 
     few : IsFine d ws → is_end (begins ws) ≡ false → length d.acts + length d.body < 64
-    few fine e = few_by (begins ws) (seen d) e (ap (λ s. passes_limit s (begins ws) (seen d)) (sym at) ∙ (fine_line true (seen d) ws fine).limit)
+    few fine e = few_by (begins ws) (seen_of_draft d) e (ap (λ s. passes_limit s (begins ws) (seen_of_draft d)) (sym at) ∙ (fine_line true (seen_of_draft d) ws fine).limit)
 
     pub act_line_taken : (a : ActLine) → IsFine d ws → is_end (begins ws) ≡ false → act_of ws ≡ Some a → Takes d (record d { acts = d.acts ++ a ∷ [] }) ws
     act_line_taken a fine e reads =
@@ -114,11 +114,11 @@ module _ (d : DraftParts) (ws : List (List ℕ)) (kept : IsInOrder d) where
     handler_end_taken e = subst (λ s. Takes (record d { section = s }) (handler_closed d) ws) (sym at) (handler_ended d.handlers d.checks d.bodies d.acts d.body ws (ends_by (begins ws) e) kept_h)
 
     pub act_is_read : IsFine d ws → is_end (begins ws) ≡ false → act_of ws ≡ None → ⊥
-    act_is_read fine e none = not_none (act_of ws) (act_readable ws (ap (λ s. words_fault s ws) (sym at) ∙ (fine_line true (seen d) ws fine).words) (goes_on (begins ws) e)) none
+    act_is_read fine e none = not_none (act_of ws) (act_readable ws (ap (λ s. words_fault s ws) (sym at) ∙ (fine_line true (seen_of_draft d) ws fine).words) (goes_on (begins ws) e)) none
 
   module _ (at : d.section ≡ sec.Body) where
-    kept_b : IsInOrder (record d { section = sec.Body })
-    kept_b = subst (λ s. IsInOrder (record d { section = s })) at kept
+    kept_b : IsDraftInOrder (record d { section = sec.Body })
+    kept_b = subst (λ s. IsDraftInOrder (record d { section = s })) at kept
 
     pub body_line_taken : (l : Line) → line_of ws ≡ Some l → Takes d (record d { body = d.body ++ l ∷ [] }) ws
     body_line_taken l reads = subst (λ s. Takes (record d { section = s }) (record d { section = s; body = d.body ++ l ∷ [] }) ws) (sym at) (line_taken d.handlers d.checks d.bodies d.acts d.body ws l reads kept_b)
@@ -126,7 +126,7 @@ module _ (d : DraftParts) (ws : List (List ℕ)) (kept : IsInOrder d) where
     pub new_label : (l : Line) → IsFine d ws → line_of ws ≡ Some l → IfSome (label_in l) (λ m. has (labels_in d.body) m ≡ false)
     new_label l fine reads =
         let k = line_begins ws l reads in
-        if_some (label_in l) (λ m e. free_by (begins ws) (numbered ws) m (seen d) (k.label m e).0 (k.label m e).1 (fine_line true (seen d) ws fine).number)
+        if_some (label_in l) (λ m e. free_by (begins ws) (numbered ws) m (seen_of_draft d) (k.label m e).0 (k.label m e).1 (fine_line true (seen_of_draft d) ws fine).number)
 
     pub body_end_taken : (e : DraftParts) → IsClosed d e → is_end (begins ws) ≡ true → Takes d e ws
     body_end_taken e h end =
@@ -134,17 +134,17 @@ module _ (d : DraftParts) (ws : List (List ℕ)) (kept : IsInOrder d) where
         subst (λ p. Takes d p ws) (sym h.2) (subst (λ s. Takes (record d { section = s }) (record d { section = sec.Bodies; bodies = d.bodies ++ h.0 ∷ []; body = [] }) ws) (sym at) t)
 
     pub line_is_read : IsFine d ws → is_end (begins ws) ≡ false → line_of ws ≡ None → ⊥
-    line_is_read fine e none = not_none (line_of ws) (body_readable ws (ap (λ s. words_fault s ws) (sym at) ∙ (fine_line true (seen d) ws fine).words) (goes_on (begins ws) e)) none
+    line_is_read fine e none = not_none (line_of ws) (body_readable ws (ap (λ s. words_fault s ws) (sym at) ∙ (fine_line true (seen_of_draft d) ws fine).words) (goes_on (begins ws) e)) none
 
   module _ (no_handler : in_handler d.section ≡ false) (no_body : in_body d.section ≡ false) (fine : IsFine d ws) where
-    none : BreaksNone (passes_limit d.section (begins ws) (seen d)) (not true) (words_fault d.section ws) (misnumbered (begins ws) (numbered ws) (seen d)) (leaves_goto d.section (begins ws) (seen d))
-    none = fine_line true (seen d) ws fine
+    none : BreaksNone (passes_limit d.section (begins ws) (seen_of_draft d)) (not true) (words_fault d.section ws) (misnumbered (begins ws) (numbered ws) (seen_of_draft d)) (leaves_goto d.section (begins ws) (seen_of_draft d))
+    none = fine_line true (seen_of_draft d) ws fine
 
     few_handlers : begins ws ≡ Some key.Handler → length d.handlers < 256
-    few_handlers e = handlers_by d.section (begins ws) (seen d) (length d.handlers) no_handler no_body e (λ i. with_open (no_handler i) (length d.handlers)) none.limit
+    few_handlers e = handlers_by d.section (begins ws) (seen_of_draft d) (length d.handlers) no_handler no_body e (λ i. with_open (no_handler i) (length d.handlers)) none.limit
 
     few_bodies : begins ws ≡ Some key.Thread → length d.bodies < 256
-    few_bodies e = bodies_by d.section (begins ws) (seen d) (length d.bodies) no_handler no_body e (λ i. with_open (no_body i) (length d.bodies)) none.limit
+    few_bodies e = bodies_by d.section (begins ws) (seen_of_draft d) (length d.bodies) no_handler no_body e (λ i. with_open (no_body i) (length d.bodies)) none.limit
 
     pub handler_open_taken : is_handler (begins ws) ≡ true → Takes d (record d { section = sec.Handler }) ws
     handler_open_taken h =

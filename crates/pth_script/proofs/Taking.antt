@@ -13,8 +13,8 @@ use Rattle.pth_line.specs.declared.check.Check.{Check}
 use Rattle.pth_line.specs.declared.line.Line.{Line}
 use Rattle.pth_script.specs.Labels.{somes, labels_in, gotos_in, label_in, goto_in, listed, with_places}
 use Rattle.pth_script.specs.Meaning.{checks_of}
-use Rattle.pth_script.specs.Seen.{Seen, past, opened, is_handler, is_check, is_thread, is_end}
-use Rattle.pth_script.specs.Drafts.{DraftParts, seen, rest_of, in_handler, in_body, with_open, IsInOrder, Takes}
+use Rattle.pth_script.specs.Seen.{Seen, seen_past, opened, is_handler, is_check, is_thread, is_end}
+use Rattle.pth_script.specs.Drafts.{DraftParts, seen_of_draft, rest_of_sections, in_handler, in_body, with_open, IsDraftInOrder, Takes}
 use Rattle.pth_script.proofs.Keys.{act_begins, line_begins}
 use Rattle.pth_script.proofs.Resting.{rest_more, rest_end, rest_open, rest_past, checks_past, checks_more}
 
@@ -55,30 +55,30 @@ gotos_more (m ∷ ls) l = ap (λ t. listed (goto_in m) ++ t) (gotos_more ls l) �
 -- ---- a line within a handler
 
 module _ (hs : Handlers) (cs : List Check) (bs : Bodies) (acts : List ActLine) (ls : List Line) (ws : List (List ℕ)) where
-  pub act_taken : (a : ActLine) → act_of ws ≡ Some a → length acts < 64 → IsInOrder (draft sec.Handler hs cs bs acts ls) → Takes (draft sec.Handler hs cs bs acts ls) (draft sec.Handler hs cs bs (acts ++ a ∷ []) ls) ws
+  pub act_taken : (a : ActLine) → act_of ws ≡ Some a → length acts < 64 → IsDraftInOrder (draft sec.Handler hs cs bs acts ls) → Takes (draft sec.Handler hs cs bs acts ls) (draft sec.Handler hs cs bs (acts ++ a ∷ []) ls) ws
   act_taken a e few kept =
       let k = act_begins ws a e in
       let d = draft sec.Handler hs cs bs acts ls in
       record {
-        seen = (λ i. record (seen d) { lines = one_more acts a (length ls) i }) ∙ sym (k.past (numbered ws) (seen d));
+        seen = (λ i. record (seen_of_draft d) { lines = one_more acts a (length ls) i }) ∙ sym (k.past (numbered ws) (seen_of_draft d));
         kept = record { no_acts = λ h. absurd (cc); no_lines = kept.no_lines; few_acts = more_below acts a 64 few; short_handlers = kept.short_handlers; few_handlers = kept.few_handlers; few_bodies = kept.few_bodies };
         makes = λ rest xs ys zs m. record {
-          handlers = ap (λ t. map somes hs ++ rest_of is_handler act_of true t rest) (read_more acts a (act_of ws) e) ∙ ap (λ t. map somes hs ++ t) (sym (rest_more is_handler act_of (somes acts) ws rest k.inner.end k.inner.handler)) ∙ m.handlers;
+          handlers = ap (λ t. map somes hs ++ rest_of_sections is_handler act_of true t rest) (read_more acts a (act_of ws) e) ∙ ap (λ t. map somes hs ++ t) (sym (rest_more is_handler act_of (somes acts) ws rest k.inner.end k.inner.handler)) ∙ m.handlers;
           checks = ap (λ t. somes cs ++ t) (sym (checks_past ws rest k.inner.check)) ∙ m.checks;
           bodies = ap (λ t. map somes bs ++ map with_places t) (sym (rest_past is_thread line_of (somes ls) (somes ls) ws rest k.inner.thread)) ∙ m.bodies;
         };
       }
 
-  pub handler_ended : begins ws ≡ Some key.End → IsInOrder (draft sec.Handler hs cs bs acts ls) → Takes (draft sec.Handler hs cs bs acts ls) (draft sec.Handlers (hs ++ acts ∷ []) cs bs [] ls) ws
+  pub handler_ended : begins ws ≡ Some key.End → IsDraftInOrder (draft sec.Handler hs cs bs acts ls) → Takes (draft sec.Handler hs cs bs acts ls) (draft sec.Handlers (hs ++ acts ∷ []) cs bs [] ls) ws
   unfolding labels_in gotos_in
   handler_ended e kept =
       let d = draft sec.Handler hs cs bs acts ls in
       let none : ls ≡ [] = kept.no_lines refl in
       record {
-        seen = (λ i. record (opened sec.Handlers (seen d)) { handlers = ended hs acts i; lines = 0 + length (none i); labels = labels_in (none i); gotos = gotos_in (none i) }) ∙ sym (ap (λ k. past k (numbered ws) (seen d)) e);
+        seen = (λ i. record (opened sec.Handlers (seen_of_draft d)) { handlers = ended hs acts i; lines = 0 + length (none i); labels = labels_in (none i); gotos = gotos_in (none i) }) ∙ sym (ap (λ k. seen_past k (numbered ws) (seen_of_draft d)) e);
         kept = record { no_acts = λ h. refl; no_lines = kept.no_lines; few_acts = omega arith; short_handlers = All-append (λ (t : List ActLine). length t ≤ 64) hs (acts ∷ []) kept.short_handlers (All-cons (λ (t : List ActLine). length t ≤ 64) acts [] kept.few_acts (All-nil (λ (t : List ActLine). length t ≤ 64))); few_handlers = omega (arith, length-append hs (acts ∷ []), kept.few_handlers); few_bodies = kept.few_bodies };
         makes = λ rest xs ys zs m. record {
-          handlers = ap (λ t. t ++ rest_of is_handler act_of false [] rest) (map_push somes hs acts) ∙ append_assoc (map somes hs) (somes acts ∷ []) (rest_of is_handler act_of false [] rest) ∙ ap (λ t. map somes hs ++ t) (sym (rest_end is_handler act_of (somes acts) ws rest (ap is_end e) (ap is_handler e))) ∙ m.handlers;
+          handlers = ap (λ t. t ++ rest_of_sections is_handler act_of false [] rest) (map_push somes hs acts) ∙ append_assoc (map somes hs) (somes acts ∷ []) (rest_of_sections is_handler act_of false [] rest) ∙ ap (λ t. map somes hs ++ t) (sym (rest_end is_handler act_of (somes acts) ws rest (ap is_end e) (ap is_handler e))) ∙ m.handlers;
           checks = ap (λ t. somes cs ++ t) (sym (checks_past ws rest (ap is_check e))) ∙ m.checks;
           bodies = ap (λ t. map somes bs ++ map with_places t) (sym (rest_past is_thread line_of (somes ls) (somes ls) ws rest (ap is_thread e))) ∙ m.bodies;
         };
@@ -86,38 +86,38 @@ module _ (hs : Handlers) (cs : List Check) (bs : Bodies) (acts : List ActLine) (
 
   -- ---- a line within a body
 
-  pub line_taken : (l : Line) → line_of ws ≡ Some l → IsInOrder (draft sec.Body hs cs bs acts ls) → Takes (draft sec.Body hs cs bs acts ls) (draft sec.Body hs cs bs acts (ls ++ l ∷ [])) ws
+  pub line_taken : (l : Line) → line_of ws ≡ Some l → IsDraftInOrder (draft sec.Body hs cs bs acts ls) → Takes (draft sec.Body hs cs bs acts ls) (draft sec.Body hs cs bs acts (ls ++ l ∷ [])) ws
   line_taken l e kept =
       let k = line_begins ws l e in
       let d = draft sec.Body hs cs bs acts ls in
       record {
-        seen = (λ i. record (seen d) { lines = one_more_of (length acts) ls l i; labels = labels_more ls l i; gotos = gotos_more ls l i }) ∙ sym (k.past (seen d));
+        seen = (λ i. record (seen_of_draft d) { lines = one_more_of (length acts) ls l i; labels = labels_more ls l i; gotos = gotos_more ls l i }) ∙ sym (k.past (seen_of_draft d));
         kept = record { no_acts = kept.no_acts; no_lines = λ h. absurd (cc); few_acts = kept.few_acts; short_handlers = kept.short_handlers; few_handlers = kept.few_handlers; few_bodies = kept.few_bodies };
         makes = λ rest xs ys zs m. record {
           handlers = ap (λ t. map somes hs ++ t) (sym (rest_past is_handler act_of (somes acts) (somes acts) ws rest k.inner.handler)) ∙ m.handlers;
           checks = ap (λ t. somes cs ++ t) (sym (checks_past ws rest k.inner.check)) ∙ m.checks;
-          bodies = ap (λ t. map somes bs ++ map with_places (rest_of is_thread line_of true t rest)) (read_more ls l (line_of ws) e) ∙ ap (λ t. map somes bs ++ map with_places t) (sym (rest_more is_thread line_of (somes ls) ws rest k.inner.end k.inner.thread)) ∙ m.bodies;
+          bodies = ap (λ t. map somes bs ++ map with_places (rest_of_sections is_thread line_of true t rest)) (read_more ls l (line_of ws) e) ∙ ap (λ t. map somes bs ++ map with_places t) (sym (rest_more is_thread line_of (somes ls) ws rest k.inner.end k.inner.thread)) ∙ m.bodies;
         };
       }
 
-  pub body_ended : (body : List Line) → somes body ≡ with_places (somes ls) → begins ws ≡ Some key.End → IsInOrder (draft sec.Body hs cs bs acts ls) → Takes (draft sec.Body hs cs bs acts ls) (draft sec.Bodies hs cs (bs ++ body ∷ []) acts []) ws
+  pub body_ended : (body : List Line) → somes body ≡ with_places (somes ls) → begins ws ≡ Some key.End → IsDraftInOrder (draft sec.Body hs cs bs acts ls) → Takes (draft sec.Body hs cs bs acts ls) (draft sec.Bodies hs cs (bs ++ body ∷ []) acts []) ws
   unfolding labels_in gotos_in
   body_ended body p e kept =
       let d = draft sec.Body hs cs bs acts ls in
       let none : acts ≡ [] = kept.no_acts refl in
       record {
-        seen = (λ i. record (opened sec.Bodies (seen d)) { bodies = ended bs body i; lines = length (none i) + 0 }) ∙ sym (ap (λ k. past k (numbered ws) (seen d)) e);
+        seen = (λ i. record (opened sec.Bodies (seen_of_draft d)) { bodies = ended bs body i; lines = length (none i) + 0 }) ∙ sym (ap (λ k. seen_past k (numbered ws) (seen_of_draft d)) e);
         kept = record { no_acts = kept.no_acts; no_lines = λ h. refl; few_acts = kept.few_acts; short_handlers = kept.short_handlers; few_handlers = kept.few_handlers; few_bodies = omega (arith, length-append bs (body ∷ []), kept.few_bodies) };
         makes = λ rest xs ys zs m. record {
           handlers = ap (λ t. map somes hs ++ t) (sym (rest_past is_handler act_of (somes acts) (somes acts) ws rest (ap is_handler e))) ∙ m.handlers;
           checks = ap (λ t. somes cs ++ t) (sym (checks_past ws rest (ap is_check e))) ∙ m.checks;
-          bodies = ap (λ t. t ++ map with_places (rest_of is_thread line_of false [] rest)) (map_push somes bs body ∙ ap (λ t. map somes bs ++ t ∷ []) p) ∙ append_assoc (map somes bs) (with_places (somes ls) ∷ []) (map with_places (rest_of is_thread line_of false [] rest)) ∙ ap (λ t. map somes bs ++ map with_places t) (sym (rest_end is_thread line_of (somes ls) ws rest (ap is_end e) (ap is_thread e))) ∙ m.bodies;
+          bodies = ap (λ t. t ++ map with_places (rest_of_sections is_thread line_of false [] rest)) (map_push somes bs body ∙ ap (λ t. map somes bs ++ t ∷ []) p) ∙ append_assoc (map somes bs) (with_places (somes ls) ∷ []) (map with_places (rest_of_sections is_thread line_of false [] rest)) ∙ ap (λ t. map somes bs ++ map with_places t) (sym (rest_end is_thread line_of (somes ls) ws rest (ap is_end e) (ap is_thread e))) ∙ m.bodies;
         };
       }
 
   -- ---- a line outside of both
 
-  module _ (s : Section) (no_handler : in_handler s ≡ false) (no_body : in_body s ≡ false) (kept : IsInOrder (draft s hs cs bs acts ls)) where
+  module _ (s : Section) (no_handler : in_handler s ≡ false) (no_body : in_body s ≡ false) (kept : IsDraftInOrder (draft s hs cs bs acts ls)) where
     no_acts : acts ≡ []
     no_acts = kept.no_acts no_handler
 
@@ -125,10 +125,10 @@ module _ (hs : Handlers) (cs : List Check) (bs : Bodies) (acts : List ActLine) (
     no_lines = kept.no_lines no_body
 
     -- nothing is open
-    shut : (to : Section) → opened to (seen (draft s hs cs bs acts ls)) ≡ record { section = to; handlers = length hs; checks = length cs; bodies = length bs; lines = 0; labels = []; gotos = [] }
+    shut : (to : Section) → opened to (seen_of_draft (draft s hs cs bs acts ls)) ≡ record { section = to; handlers = length hs; checks = length cs; bodies = length bs; lines = 0; labels = []; gotos = [] }
     shut to i = record { section = to; handlers = with_open (no_handler i) (length hs); checks = length cs; bodies = with_open (no_body i) (length bs); lines = 0; labels = []; gotos = [] }
 
-    kept_in : (to : Section) → with_open (in_handler to) (length hs) ≤ 256 → with_open (in_body to) (length bs) ≤ 256 → IsInOrder (draft to hs cs bs acts ls)
+    kept_in : (to : Section) → with_open (in_handler to) (length hs) ≤ 256 → with_open (in_body to) (length bs) ≤ 256 → IsDraftInOrder (draft to hs cs bs acts ls)
     kept_in to h b = record { no_acts = λ h. no_acts; no_lines = λ h. no_lines; few_acts = kept.few_acts; short_handlers = kept.short_handlers; few_handlers = h; few_bodies = b }
 
     few_handlers : length hs ≤ 256
@@ -138,7 +138,7 @@ module _ (hs : Handlers) (cs : List Check) (bs : Bodies) (acts : List ActLine) (
     few = omega (arith, ap (λ b. with_open b (length bs)) no_body, kept.few_bodies)
 
     -- what is seen where a section was opened, or a check was read
-    seen_in : (to : Section) → seen (draft to hs cs bs acts ls) ≡ record { section = to; handlers = with_open (in_handler to) (length hs); checks = length cs; bodies = with_open (in_body to) (length bs); lines = 0; labels = []; gotos = [] }
+    seen_in : (to : Section) → seen_of_draft (draft to hs cs bs acts ls) ≡ record { section = to; handlers = with_open (in_handler to) (length hs); checks = length cs; bodies = with_open (in_body to) (length bs); lines = 0; labels = []; gotos = [] }
     unfolding labels_in gotos_in
     seen_in to i = record { section = to; handlers = with_open (in_handler to) (length hs); checks = length cs; bodies = with_open (in_body to) (length bs); lines = length (no_acts i) + length (no_lines i); labels = labels_in (no_lines i); gotos = gotos_in (no_lines i) }
 
@@ -146,12 +146,12 @@ module _ (hs : Handlers) (cs : List Check) (bs : Bodies) (acts : List ActLine) (
     handler_opened e fewer =
         let d = draft s hs cs bs acts ls in
         record {
-          seen = seen_in sec.Handler ∙ sym (ap {A = Seen} (λ t. record t { handlers = t.handlers + 1 }) (shut sec.Handler)) ∙ sym (ap (λ k. past k (numbered ws) (seen d)) e);
+          seen = seen_in sec.Handler ∙ sym (ap {A = Seen} (λ t. record t { handlers = t.handlers + 1 }) (shut sec.Handler)) ∙ sym (ap (λ k. seen_past k (numbered ws) (seen_of_draft d)) e);
           kept = kept_in sec.Handler (omega arith) few;
           makes = λ rest xs ys zs m. record {
-            handlers = ap (λ t. map somes hs ++ rest_of is_handler act_of true (somes t) rest) no_acts ∙ ap (λ t. map somes hs ++ t) (sym (rest_open is_handler act_of (somes acts) ws rest (ap is_handler e))) ∙ ap (λ b. map somes hs ++ rest_of is_handler act_of b (somes acts) (ws ∷ rest)) (sym no_handler) ∙ m.handlers;
+            handlers = ap (λ t. map somes hs ++ rest_of_sections is_handler act_of true (somes t) rest) no_acts ∙ ap (λ t. map somes hs ++ t) (sym (rest_open is_handler act_of (somes acts) ws rest (ap is_handler e))) ∙ ap (λ b. map somes hs ++ rest_of_sections is_handler act_of b (somes acts) (ws ∷ rest)) (sym no_handler) ∙ m.handlers;
             checks = ap (λ t. somes cs ++ t) (sym (checks_past ws rest (ap is_check e))) ∙ m.checks;
-            bodies = ap (λ t. map somes bs ++ map with_places t) (sym (rest_past is_thread line_of (somes ls) (somes ls) ws rest (ap is_thread e))) ∙ ap (λ b. map somes bs ++ map with_places (rest_of is_thread line_of b (somes ls) (ws ∷ rest))) (sym no_body) ∙ m.bodies;
+            bodies = ap (λ t. map somes bs ++ map with_places t) (sym (rest_past is_thread line_of (somes ls) (somes ls) ws rest (ap is_thread e))) ∙ ap (λ b. map somes bs ++ map with_places (rest_of_sections is_thread line_of b (somes ls) (ws ∷ rest))) (sym no_body) ∙ m.bodies;
           };
         }
 
@@ -159,12 +159,12 @@ module _ (hs : Handlers) (cs : List Check) (bs : Bodies) (acts : List ActLine) (
     body_opened e fewer =
         let d = draft s hs cs bs acts ls in
         record {
-          seen = seen_in sec.Body ∙ sym (ap {A = Seen} (λ t. record t { bodies = t.bodies + 1 }) (shut sec.Body)) ∙ sym (ap (λ k. past k (numbered ws) (seen d)) e);
+          seen = seen_in sec.Body ∙ sym (ap {A = Seen} (λ t. record t { bodies = t.bodies + 1 }) (shut sec.Body)) ∙ sym (ap (λ k. seen_past k (numbered ws) (seen_of_draft d)) e);
           kept = kept_in sec.Body few_handlers (omega arith);
           makes = λ rest xs ys zs m. record {
-            handlers = ap (λ t. map somes hs ++ t) (sym (rest_past is_handler act_of (somes acts) (somes acts) ws rest (ap is_handler e))) ∙ ap (λ b. map somes hs ++ rest_of is_handler act_of b (somes acts) (ws ∷ rest)) (sym no_handler) ∙ m.handlers;
+            handlers = ap (λ t. map somes hs ++ t) (sym (rest_past is_handler act_of (somes acts) (somes acts) ws rest (ap is_handler e))) ∙ ap (λ b. map somes hs ++ rest_of_sections is_handler act_of b (somes acts) (ws ∷ rest)) (sym no_handler) ∙ m.handlers;
             checks = ap (λ t. somes cs ++ t) (sym (checks_past ws rest (ap is_check e))) ∙ m.checks;
-            bodies = ap (λ t. map somes bs ++ map with_places (rest_of is_thread line_of true (somes t) rest)) no_lines ∙ ap (λ t. map somes bs ++ map with_places t) (sym (rest_open is_thread line_of (somes ls) ws rest (ap is_thread e))) ∙ ap (λ b. map somes bs ++ map with_places (rest_of is_thread line_of b (somes ls) (ws ∷ rest))) (sym no_body) ∙ m.bodies;
+            bodies = ap (λ t. map somes bs ++ map with_places (rest_of_sections is_thread line_of true (somes t) rest)) no_lines ∙ ap (λ t. map somes bs ++ map with_places t) (sym (rest_open is_thread line_of (somes ls) ws rest (ap is_thread e))) ∙ ap (λ b. map somes bs ++ map with_places (rest_of_sections is_thread line_of b (somes ls) (ws ∷ rest))) (sym no_body) ∙ m.bodies;
           };
         }
 
@@ -172,11 +172,11 @@ module _ (hs : Handlers) (cs : List Check) (bs : Bodies) (acts : List ActLine) (
     check_taken c g e =
         let d = draft s hs cs bs acts ls in
         record {
-          seen = (λ i. record (seen_in sec.Checks i) { checks = ended cs c i }) ∙ sym (ap {A = Seen} (λ t. record t { checks = t.checks + 1 }) (shut sec.Checks)) ∙ sym (ap (λ k. past k (numbered ws) (seen d)) e);
+          seen = (λ i. record (seen_in sec.Checks i) { checks = ended cs c i }) ∙ sym (ap {A = Seen} (λ t. record t { checks = t.checks + 1 }) (shut sec.Checks)) ∙ sym (ap (λ k. seen_past k (numbered ws) (seen_of_draft d)) e);
           kept = record { no_acts = λ h. no_acts; no_lines = λ h. no_lines; few_acts = kept.few_acts; short_handlers = kept.short_handlers; few_handlers = few_handlers; few_bodies = few };
           makes = λ rest xs ys zs m. record {
-            handlers = ap (λ t. map somes hs ++ t) (sym (rest_past is_handler act_of (somes acts) (somes acts) ws rest (ap is_handler e))) ∙ ap (λ b. map somes hs ++ rest_of is_handler act_of b (somes acts) (ws ∷ rest)) (sym no_handler) ∙ m.handlers;
+            handlers = ap (λ t. map somes hs ++ t) (sym (rest_past is_handler act_of (somes acts) (somes acts) ws rest (ap is_handler e))) ∙ ap (λ b. map somes hs ++ rest_of_sections is_handler act_of b (somes acts) (ws ∷ rest)) (sym no_handler) ∙ m.handlers;
             checks = ap (λ t. t ++ checks_of rest) (read_more cs c (check_of ws) g) ∙ append_assoc (somes cs) (check_of ws ∷ []) (checks_of rest) ∙ ap (λ t. somes cs ++ t) (sym (checks_more ws rest (ap is_check e))) ∙ m.checks;
-            bodies = ap (λ t. map somes bs ++ map with_places t) (sym (rest_past is_thread line_of (somes ls) (somes ls) ws rest (ap is_thread e))) ∙ ap (λ b. map somes bs ++ map with_places (rest_of is_thread line_of b (somes ls) (ws ∷ rest))) (sym no_body) ∙ m.bodies;
+            bodies = ap (λ t. map somes bs ++ map with_places t) (sym (rest_past is_thread line_of (somes ls) (somes ls) ws rest (ap is_thread e))) ∙ ap (λ b. map somes bs ++ map with_places (rest_of_sections is_thread line_of b (somes ls) (ws ∷ rest))) (sym no_body) ∙ m.bodies;
           };
         }

@@ -17,11 +17,11 @@ use Rattle.pth_line.specs.declared.check.Check.{Check}
 use Rattle.pth_line.specs.declared.line.Line.{Line}
 use Rattle.pth_line.specs.declared.line.Line.TheVariants as line
 use Rattle.pth_script.specs.Broken.{broken, places, row_breaks, end_breaks, is_first, is_long, is_open, said_breaks, IsAccepted, IsRefusal}
-use Rattle.pth_script.specs.Drafts.{DraftParts, seen, in_handler, in_body, handler_closed, IsClosed, IsFine, IsInOrder, ComesTo, Takes}
+use Rattle.pth_script.specs.Drafts.{DraftParts, seen_of_draft, in_handler, in_body, handler_closed, IsClosed, IsFine, IsDraftInOrder, ComesTo, Takes}
 use Rattle.pth_script.specs.Labels.{somes, with_places, placed_in}
 use Rattle.pth_script.specs.Meaning.{said, handlers_of, checks_of, bodies_of, IsScriptOf}
-use Rattle.pth_script.specs.TextRows.{Row, rows_of, is_comment, above}
-use Rattle.pth_script.specs.Seen.{seen_of, past, is_check, is_end, is_handler}
+use Rattle.pth_script.specs.TextRows.{TextRow, text_rows, is_comment, above}
+use Rattle.pth_script.specs.Seen.{seen_of, seen_past, is_check, is_end, is_handler}
 use Rattle.pth_script.specs.RuleOrder.{first_broken}
 use Rattle.pth_text.specs.declared.rule.Breach.{Breach}
 use Rattle.pth_text.specs.declared.rule.Breach.TheVariants.{Limit, Of}
@@ -63,7 +63,7 @@ check_begins : (k : Option Keyword) → is_check k ≡ true → k ≡ Some key.C
 check_begins (Some key.Check) h = refl
 check_begins _ h = absurd (cc)
 
-module _ (d : DraftParts) (ws : List (List ℕ)) (kept : IsInOrder d) (fine : IsFine d ws) where
+module _ (d : DraftParts) (ws : List (List ℕ)) (kept : IsDraftInOrder d) (fine : IsFine d ws) where
   abbrev Taken : Type 0
   Taken = (e : DraftParts) × Takes d e ws
 
@@ -130,16 +130,16 @@ neither_open sec.Checks h = (refl, refl)
 neither_open sec.Bodies h = (refl, refl)
 
 module _ (text : List ℕ) (accepted : IsAccepted text) where
-  row_fine : (before rest : List Row) (row : Row) → reverse before ++ row ∷ rest ≡ rows_of text → first_broken (λ b. row_breaks b before row) ≡ None
+  row_fine : (before rest : List TextRow) (row : TextRow) → reverse before ++ row ∷ rest ≡ text_rows text → first_broken (λ b. row_breaks b before row) ≡ None
   row_fine before rest row e =
       sym (at_row text before rest row e) ∙ accepted (length before + 1) (omega arith) (omega (arith, ap length e, length-append (reverse before) (row ∷ rest), length-reverse before))
 
-  end_fine : (before : List Row) → reverse before ≡ rows_of text → first_broken (λ b. end_breaks b before) ≡ None
+  end_fine : (before : List TextRow) → reverse before ≡ text_rows text → first_broken (λ b. end_breaks b before) ≡ None
   end_fine before e = sym (at_end text before e) ∙ accepted (length before + 1) (omega arith) (omega (arith, ap length e, length-reverse before))
 
   -- a line of words breaks nothing in the draft of the lines above
-  words_fine : (before rest : List Row) (row : Row) (d : DraftParts) → reverse before ++ row ∷ rest ≡ rows_of text → true ≡ not (is_first before) → is_comment row.bytes ≡ false
-      → seen d ≡ seen_of (above before) → IsFine d (words_of row.bytes)
+  words_fine : (before rest : List TextRow) (row : TextRow) (d : DraftParts) → reverse before ++ row ∷ rest ≡ text_rows text → true ≡ not (is_first before) → is_comment row.bytes ≡ false
+      → seen_of_draft d ≡ seen_of (above before) → IsFine d (words_of row.bytes)
   words_fine before rest row d e later words s =
       let none = row_fine before rest row e in
       let short = limit_first (is_long before row) _ (long_row before row) none in
@@ -150,34 +150,34 @@ module _ (text : List ℕ) (accepted : IsAccepted text) where
   module _ (hs : List (List (Option ActLine))) (cs : List (Option Check)) (bs : List (List (Option Line))) where
     -- all lines were taken, and what is left makes these sections
     pub record TakesAll : Type 0 where
-      pub before : List Row
+      pub before : List TextRow
       pub draft : DraftParts
-      pub all : reverse before ≡ rows_of text
-      pub seen : seen draft ≡ seen_of (above before)
+      pub all : reverse before ≡ text_rows text
+      pub seen : seen_of_draft draft ≡ seen_of (above before)
       pub makes : ComesTo draft [] hs cs bs
 
-    take_all : (before rest : List Row) (d : DraftParts) → reverse before ++ rest ≡ rows_of text → true ≡ not (is_first before) → seen d ≡ seen_of (above before) → IsInOrder d
+    take_all : (before rest : List TextRow) (d : DraftParts) → reverse before ++ rest ≡ text_rows text → true ≡ not (is_first before) → seen_of_draft d ≡ seen_of (above before) → IsDraftInOrder d
         → ComesTo d (said rest) hs cs bs → TakesAll
     unfolding said
     take_all before [] d e later s kept m = record { before = before; draft = d; all = sym (append-nil (reverse before)) ∙ e; seen = s; makes = m }
     take_all before (row ∷ rest) d e later s kept m = elim (cases_Bool (is_comment row.bytes)) [
-      | inl comment ↦ take_all (row ∷ before) rest d (one_more before rest (rows_of text) row e) refl (s ∙ ap seen_of (sym (above_comment before row later comment))) kept
+      | inl comment ↦ take_all (row ∷ before) rest d (one_more before rest (text_rows text) row e) refl (s ∙ ap seen_of (sym (above_comment before row later comment))) kept
           (subst (λ ls. ComesTo d ls hs cs bs) (said_comment row rest comment) m)
       | inr words ↦
           let ws = words_of row.bytes in
           let t = taken d ws kept (words_fine before rest row d e later words s) in
-          take_all (row ∷ before) rest t.0 (one_more before rest (rows_of text) row e) refl
-          (t.1.seen ∙ ap (λ x. past (begins ws) (numbered ws) x) s ∙ sym (seen_more ws (above before)) ∙ ap seen_of (sym (above_said before row later words)))
+          take_all (row ∷ before) rest t.0 (one_more before rest (text_rows text) row e) refl
+          (t.1.seen ∙ ap (λ x. seen_past (begins ws) (numbered ws) x) s ∙ sym (seen_more ws (above before)) ∙ ap seen_of (sym (above_said before row later words)))
           t.1.kept (t.1.makes (said rest) hs cs bs (subst (λ ls. ComesTo d ls hs cs bs) (said_line_of row rest words) m))
     ]
 
-  script_by : (rows : List Row) → rows_of text ≡ rows → (s : Sections) × IsScriptOf s text
+  script_by : (rows : List TextRow) → text_rows text ≡ rows → (s : Sections) × IsScriptOf s text
   script_by [] e = absurd (no_end (end_fine [] (sym e)) (end_rule []))
     where
       no_end : {o : Option Breach} → o ≡ None → o ≡ Some (Of rule.Header) → ⊥
       no_end none some = absurd (cc)
   script_by (row ∷ rest) e =
-      let ls = said (drop 1 (rows_of text)) in
+      let ls = said (drop 1 (text_rows text)) in
       let below : said rest ≡ ls = ap (λ rows. said (drop 1 rows)) (sym e) in
       let all = take_all (handlers_of ls) (checks_of ls) (bodies_of ls) (row ∷ []) rest nothing (sym e) refl (nothing_seen ∙ ap seen_of (sym (above_first [] row refl))) nothing_kept
       (subst (λ t. ComesTo nothing t (handlers_of ls) (checks_of ls) (bodies_of ls)) (sym below) (nothing_makes ls)) in
@@ -187,7 +187,7 @@ module _ (text : List ℕ) (accepted : IsAccepted text) where
 
   -- it stands for a script
   pub script_of : (s : Sections) × IsScriptOf s text
-  script_of = script_by (rows_of text) refl
+  script_of = script_by (text_rows text) refl
 
 -- ---- every text
 

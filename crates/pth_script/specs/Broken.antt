@@ -8,7 +8,7 @@ use Rattle.pth_grammar.specs.Shapes.{shape_of, words_break}
 use Rattle.pth_text.specs.declared.rule.Rule.TheVariants as rule
 use Rattle.pth_grammar.specs.declared.section.Section.{Section}
 use Rattle.pth_grammar.specs.declared.section.Section.TheVariants as sec
-use Rattle.pth_script.specs.TextRows.{Row, rows_of, size_of, is_comment, above}
+use Rattle.pth_script.specs.TextRows.{TextRow, text_rows, size_of, is_comment, above}
 use Rattle.pth_script.specs.Seen.{Seen, seen_of, passes_limit, misnumbered, leaves_goto}
 use Rattle.pth_script.specs.RuleOrder.{first_broken}
 use Rattle.pth_text.specs.declared.rule.Breach.{Breach}
@@ -37,23 +37,23 @@ said_breaks ended s ws (Of rule.Header) = false
 said_breaks ended s ws b = line_breaks b s ws
 
 -- the text's first line has no words to look at, and no comment has
-unfoldable pub says_wrong : Breach → List Row → Row → Bool
+unfoldable pub says_wrong : Breach → List TextRow → TextRow → Bool
 says_wrong b [] row = false
 says_wrong b (r ∷ rs) row = if is_comment row.bytes then false else line_breaks b (seen_of (above (r ∷ rs))) (words_of row.bytes)
 
 -- ---- a place of the text
 
 -- no line stands above
-abbrev pub is_first : List Row → Bool
+abbrev pub is_first : List TextRow → Bool
 is_first [] = true
 is_first (r ∷ rs) = false
 
 -- a byte beyond the input's limit stands above or in the line, or the line is too long
-abbrev pub is_long : List Row → Row → Bool
+abbrev pub is_long : List TextRow → TextRow → Bool
 is_long before row = nat_lt text_limit (size_of (row ∷ before)) || nat_lt line_limit (length row.bytes)
 
 -- a line breaks a rule, below the lines that stand above it, the nearest first
-unfoldable pub row_breaks : Breach → List Row → Row → Bool
+unfoldable pub row_breaks : Breach → List TextRow → TextRow → Bool
 row_breaks Limit before row = is_long before row || says_wrong Limit before row
 row_breaks (Of rule.Cut) before row = not row.ended
 row_breaks (Of rule.Header) before row = is_first before && not (bytes_eq row.bytes (codes "pth 1"))
@@ -66,14 +66,14 @@ is_open sec.Body = true
 is_open _ = false
 
 -- and so does the place after the last line
-unfoldable pub end_breaks : Breach → List Row → Bool
+unfoldable pub end_breaks : Breach → List TextRow → Bool
 end_breaks (Of rule.Header) before = is_first before
 end_breaks (Of rule.Main) before = (seen_of (above before)).bodies == 0
 end_breaks (Of rule.End) before = is_open (seen_of (above before)).section
 end_breaks _ before = false
 
 -- a line, or the place after the last one
-abbrev pub place_breaks : Breach → List Row → Option Row → Bool
+abbrev pub place_breaks : Breach → List TextRow → Option TextRow → Bool
 place_breaks b before None = end_breaks b before
 place_breaks b before (Some row) = row_breaks b before row
 
@@ -81,11 +81,11 @@ place_breaks b before (Some row) = row_breaks b before row
 
 -- the i-th line of the text breaks the rule, or the place after the last one does. Lines are numbered from 1
 unfoldable pub broken : List ℕ → ℕ → Breach → Bool
-broken text i b = place_breaks b (reverse (take (i - 1) (rows_of text))) (slice_get (rows_of text) (i - 1))
+broken text i b = place_breaks b (reverse (take (i - 1) (text_rows text))) (slice_get (text_rows text) (i - 1))
 
 -- how many places a text has
 abbrev pub places : List ℕ → ℕ
-places text = length (rows_of text) + 1
+places text = length (text_rows text) + 1
 
 -- the rule is the first that the line breaks, and no line before it breaks any
 pub record IsRefusal (text : List ℕ) (line : ℕ) (b : Breach) : Type 0 where

@@ -8,10 +8,10 @@ use Rattle.pth_line.specs.declared.act_line.ActLine.{ActLine}
 use Rattle.pth_line.specs.declared.check.Check.{Check}
 use Rattle.pth_line.specs.declared.line.Line.{Line}
 use Rattle.pth_script.specs.Labels.{somes, labels_in, gotos_in, with_places}
-use Rattle.pth_script.specs.Meaning.{until_end, blocks, checks_of}
+use Rattle.pth_script.specs.Meaning.{until_end, sections_read, checks_of}
 use Rattle.pth_spelling.specs.Keywords.{begins}
 use Rattle.pth_grammar.specs.LineMeanings.{numbered}
-use Rattle.pth_script.specs.Seen.{Seen, past, is_handler, is_thread}
+use Rattle.pth_script.specs.Seen.{Seen, seen_past, is_handler, is_thread}
 use Rattle.pth_script.specs.Broken.{said_breaks}
 use Rattle.pth_script.specs.RuleOrder.{first_broken}
 use Rattle.pth_script.specs.declared.draft.Draft.{Draft}
@@ -53,8 +53,8 @@ draft_parts d = record {
 }
 
 -- a draft as what was seen
-abbrev pub seen : DraftParts → Seen
-seen d = record {
+abbrev pub seen_of_draft : DraftParts → Seen
+seen_of_draft d = record {
   section = d.section;
   handlers = with_open (in_handler d.section) (length d.handlers);
   checks = length d.checks;
@@ -65,7 +65,7 @@ seen d = record {
 }
 
 -- no lines are kept of a section that is not open, and no limit is passed
-pub record IsInOrder (d : DraftParts) : Type 0 where
+pub record IsDraftInOrder (d : DraftParts) : Type 0 where
   pub no_acts : in_handler d.section ≡ false → d.acts ≡ []
   pub no_lines : in_body d.section ≡ false → d.body ≡ []
   pub few_acts : length d.acts ≤ 64
@@ -82,20 +82,20 @@ pub record IsClosable (d : DraftParts) : Type 0 where
 -- ---- what becomes of it
 
 -- the rest of sections, of which one may be open with some lines read
-abbrev pub rest_of : {A : Type 0} → (Option Keyword → Bool) → (List (List ℕ) → A) → Bool → List A → List (List (List ℕ)) → List (List A)
-rest_of opens read is_open lines ls = if is_open then (lines ++ until_end read ls) ∷ blocks opens read ls else blocks opens read ls
+abbrev pub rest_of_sections : {A : Type 0} → (Option Keyword → Bool) → (List (List ℕ) → A) → Bool → List A → List (List (List ℕ)) → List (List A)
+rest_of_sections opens read is_open lines ls = if is_open then (lines ++ until_end read ls) ∷ sections_read opens read ls else sections_read opens read ls
 
 -- the lines that are left make these handlers, checks and bodies of the draft
 pub record ComesTo (d : DraftParts) (ls : List (List (List ℕ))) (hs : List (List (Option ActLine))) (cs : List (Option Check)) (bs : List (List (Option Line))) : Type 0 where
-  pub handlers : map somes d.handlers ++ rest_of is_handler act_of (in_handler d.section) (somes d.acts) ls ≡ hs
+  pub handlers : map somes d.handlers ++ rest_of_sections is_handler act_of (in_handler d.section) (somes d.acts) ls ≡ hs
   pub checks : somes d.checks ++ checks_of ls ≡ cs
-  pub bodies : map somes d.bodies ++ map with_places (rest_of is_thread line_of (in_body d.section) (somes d.body) ls) ≡ bs
+  pub bodies : map somes d.bodies ++ map with_places (rest_of_sections is_thread line_of (in_body d.section) (somes d.body) ls) ≡ bs
 
 -- ---- one line more
 
 -- the words of a line break no rule
 abbrev pub IsFine : DraftParts → List (List ℕ) → Type 0
-IsFine d ws = first_broken (said_breaks true (seen d) ws) ≡ None
+IsFine d ws = first_broken (said_breaks true (seen_of_draft d) ws) ≡ None
 
 -- the handler that was open is closed
 abbrev pub handler_closed : DraftParts → DraftParts
@@ -108,7 +108,7 @@ IsClosed old new =
 
 -- the draft went over a line
 pub record Takes (old new : DraftParts) (ws : List (List ℕ)) : Type 0 where
-  pub seen : seen new ≡ past (begins ws) (numbered ws) (seen old)
-  pub kept : IsInOrder new
+  pub seen : seen_of_draft new ≡ seen_past (begins ws) (numbered ws) (seen_of_draft old)
+  pub kept : IsDraftInOrder new
   pub makes : (ls : List (List (List ℕ))) (hs : List (List (Option ActLine))) (cs : List (Option Check)) (bs : List (List (Option Line)))
       → ComesTo old (ws ∷ ls) hs cs bs → ComesTo new ls hs cs bs

@@ -4,12 +4,12 @@ use Rattle.pth_line.specs.Script.{Sections}
 use Rattle.pth_line.specs.declared.act_line.ActLine.{ActLine}
 use Rattle.pth_line.specs.declared.check.Check.{Check}
 use Rattle.pth_line.specs.declared.line.Line.{Line}
-use Rattle.pth_script.specs.TextRows.{Row, rows_of, size_of, above}
+use Rattle.pth_script.specs.TextRows.{TextRow, text_rows, size_of, above}
 use Rattle.pth_script.specs.Seen.{seen_of}
 use Rattle.pth_script.specs.RuleOrder.{first_broken}
 use Rattle.pth_script.specs.Broken.{is_first, row_breaks, broken, text_limit, IsRefusal, IsAccepted}
 use Rattle.pth_script.specs.Meaning.{said, handlers_of, checks_of, bodies_of, IsScriptOf}
-use Rattle.pth_script.specs.Drafts.{draft_parts, seen, IsInOrder, ComesTo}
+use Rattle.pth_script.specs.Drafts.{draft_parts, seen_of_draft, IsDraftInOrder, ComesTo}
 use Rattle.pth_text.specs.declared.rule.Breach.{Breach}
 use Rattle.pth_text.specs.declared.rule.Breach.TheVariants.{Limit, Of}
 use Rattle.pth_script.specs.declared.read.ReadErr.{ReadErr}
@@ -21,13 +21,13 @@ use Rattle.pth_script.specs.declared.reader.Fault.TheVariants as fault
 -- ---- the reader and the lines above
 
 -- the reader goes on below these lines
-pub record Follows (r : Reader) (before : List Row) : Type 0 where
+pub record Follows (r : Reader) (before : List TextRow) : Type 0 where
   pub started : r.started ≡ not (is_first before)
-  pub seen : seen (draft_parts r.draft) ≡ seen_of (above before)
-  pub kept : IsInOrder (draft_parts r.draft)
+  pub seen : seen_of_draft (draft_parts r.draft) ≡ seen_of (above before)
+  pub kept : IsDraftInOrder (draft_parts r.draft)
 
 -- a line was taken, or what it breaks first is told; no line up to it passes the input's limit
-abbrev pub TakesRow : Result (Unit {0}) Fault → Reader → List Row → Row → Type 0
+abbrev pub TakesRow : Result (Unit {0}) Fault → Reader → List TextRow → TextRow → Type 0
 TakesRow (Ok _) new before row = (first_broken (λ b. row_breaks b before row) ≡ None) × Follows new (row ∷ before)
 TakesRow (Err (fault.Broken b)) new before row = first_broken (λ b. row_breaks b before row) ≡ Some b
 TakesRow (Err fault.Memory) new before row = Unit {0}
@@ -35,39 +35,39 @@ TakesRow (Err fault.Memory) new before row = Unit {0}
 -- ---- the reader and the lines that are left
 
 -- the lines that the text still says
-abbrev pub left_of : Reader → List Row → List (List (List ℕ))
+abbrev pub left_of : Reader → List TextRow → List (List (List ℕ))
 left_of r rows = said (if r.started then rows else drop 1 rows)
 
 -- what an old reader makes with some lines, the new one makes with those that are left of them
-abbrev pub Drafts : Reader → Reader → List Row → List Row → Type 0
+abbrev pub Drafts : Reader → Reader → List TextRow → List TextRow → Type 0
 Drafts old new rows rest =
     (hs : List (List (Option ActLine))) (cs : List (Option Check)) (bs : List (List (Option Line)))
     → ComesTo (draft_parts old.draft) (left_of old rows) hs cs bs → ComesTo (draft_parts new.draft) (left_of new rest) hs cs bs
 
 -- a line was taken of a text whose lines up to it pass no limit on their bytes
-pub record Goes (old new : Reader) (row : Row) (result : Result (Unit {0}) Fault) : Type 0 where
-  pub takes : (before : List Row) → Follows old before → size_of (row ∷ before) ≤ text_limit → TakesRow result new before row
-  pub drafts : OnOk result ((rest : List Row) → Drafts old new (row ∷ rest) rest)
+pub record Goes (old new : Reader) (row : TextRow) (result : Result (Unit {0}) Fault) : Type 0 where
+  pub takes : (before : List TextRow) → Follows old before → size_of (row ∷ before) ≤ text_limit → TakesRow result new before row
+  pub drafts : OnOk result ((rest : List TextRow) → Drafts old new (row ∷ rest) rest)
 
 -- ---- the whole text
 
 -- A script stands for an accepted text. A refused one names the line of its refusal and the rule, or that a limit is passed there.
-abbrev pub Answers : List ℕ → Result Sections ReadErr → Type 0
-Answers text (Ok s) = IsAccepted text × IsScriptOf s text
-Answers text (Err (err.Refused line r)) = IsRefusal text line (Of r)
-Answers text (Err (err.TooLarge line)) = IsRefusal text line Limit
-Answers text (Err err.OutOfMemory) = Unit {0}
+abbrev pub IsReadAs : List ℕ → Result Sections ReadErr → Type 0
+IsReadAs text (Ok s) = IsAccepted text × IsScriptOf s text
+IsReadAs text (Err (err.Refused line r)) = IsRefusal text line (Of r)
+IsReadAs text (Err (err.TooLarge line)) = IsRefusal text line Limit
+IsReadAs text (Err err.OutOfMemory) = Unit {0}
 
 -- the error for what a line breaks
-abbrev pub refused : ℕ → Breach → ReadErr
-refused line Limit = err.TooLarge line
-refused line (Of r) = err.Refused line r
+abbrev pub breach_error : ℕ → Breach → ReadErr
+breach_error line Limit = err.TooLarge line
+breach_error line (Of r) = err.Refused line r
 
 -- Where the reader stands: it went over the lines above, which break no rule, and these bytes of the text are left.
-pub record Reads (r : Reader) (before : List Row) (text : List ℕ) (line : ℕ) (rest : List ℕ) : Type 0 where
+pub record Reads (r : Reader) (before : List TextRow) (text : List ℕ) (line : ℕ) (rest : List ℕ) : Type 0 where
   pub follows : Follows r before
-  pub whole : reverse before ++ rows_of rest ≡ rows_of text
+  pub whole : reverse before ++ text_rows rest ≡ text_rows text
   pub at : length before + 1 ≡ line
   pub gone : size_of before + length rest ≡ length text
   pub fine : (i : ℕ) → 1 ≤ i → i < line → first_broken (broken text i) ≡ None
-  pub makes : let ls = said (drop 1 (rows_of text)) in ComesTo (draft_parts r.draft) (left_of r (rows_of rest)) (handlers_of ls) (checks_of ls) (bodies_of ls)
+  pub makes : let ls = said (drop 1 (text_rows text)) in ComesTo (draft_parts r.draft) (left_of r (text_rows rest)) (handlers_of ls) (checks_of ls) (bodies_of ls)

@@ -43,14 +43,14 @@ has ns n = list_any (λ m. int_eq m n) ns
 -- ---- where a `goto` goes
 
 -- a line is this label
-abbrev pub is_label : Option Line → ℤ → Bool
-is_label (Some (line.Label n)) k = int_eq n k
-is_label _ k = false
+abbrev pub is_this_label : Option Line → ℤ → Bool
+is_this_label (Some (line.Label n)) k = int_eq n k
+is_this_label _ k = false
 
 -- the place of the line after a label, counted from 0; none where no line is this label
 unfoldable pub place_after : List (Option Line) → ℤ → Option ℕ
 place_after [] k = None
-place_after (l ∷ ls) k = if is_label l k then Some 1 else option_map (λ n. suc n) (place_after ls k)
+place_after (l ∷ ls) k = if is_this_label l k then Some 1 else option_map (λ n. suc n) (place_after ls k)
 
 -- a line of a body with these lines
 abbrev pub placed_in : List (Option Line) → Option Line → Option Line

@@ -13,17 +13,17 @@ use Rattle.pth_script.specs.Labels.{has}
 -- ---- the section of a line
 
 -- the section round the open one
-abbrev pub closed : Section → Section
-closed sec.Handler = sec.Handlers
-closed sec.Body = sec.Bodies
-closed s = s
+abbrev pub section_around : Section → Section
+section_around sec.Handler = sec.Handlers
+section_around sec.Body = sec.Bodies
+section_around s = s
 
 -- where a line leads from a section
 abbrev pub leads : Option Keyword → Section → Section
 leads (Some key.Handler) s = sec.Handler
 leads (Some key.Check) s = sec.Checks
 leads (Some key.Thread) s = sec.Body
-leads (Some key.End) s = closed s
+leads (Some key.End) s = section_around s
 leads _ s = s
 
 -- the section of the line below these
@@ -138,11 +138,11 @@ abbrev pub opened : Section → Seen → Seen
 opened to s = record s { section = to; lines = 0; labels = []; gotos = [] }
 
 -- what is seen below one line more
-abbrev pub past : Option Keyword → Option ℤ → Seen → Seen
-past (Some key.Handler) n s = record (opened sec.Handler s) { handlers = s.handlers + 1 }
-past (Some key.Check) n s = record (opened sec.Checks s) { checks = s.checks + 1 }
-past (Some key.Thread) n s = record (opened sec.Body s) { bodies = s.bodies + 1 }
-past (Some key.End) n s = opened (closed s.section) s
-past (Some key.Label) n s = record s { lines = suc s.lines; labels = s.labels ++ unwrap_or n (pos 0) ∷ [] }
-past (Some key.Goto) n s = record s { lines = suc s.lines; gotos = s.gotos ++ unwrap_or n (pos 0) ∷ [] }
-past _ n s = record s { lines = suc s.lines }
+abbrev pub seen_past : Option Keyword → Option ℤ → Seen → Seen
+seen_past (Some key.Handler) n s = record (opened sec.Handler s) { handlers = s.handlers + 1 }
+seen_past (Some key.Check) n s = record (opened sec.Checks s) { checks = s.checks + 1 }
+seen_past (Some key.Thread) n s = record (opened sec.Body s) { bodies = s.bodies + 1 }
+seen_past (Some key.End) n s = opened (section_around s.section) s
+seen_past (Some key.Label) n s = record s { lines = suc s.lines; labels = s.labels ++ unwrap_or n (pos 0) ∷ [] }
+seen_past (Some key.Goto) n s = record s { lines = suc s.lines; gotos = s.gotos ++ unwrap_or n (pos 0) ∷ [] }
+seen_past _ n s = record s { lines = suc s.lines }

@@ -4,7 +4,7 @@ ghost use Rattle.std.specs.Prelude.{◌≡◌, OnOk, [], Some, false};
 ghost use Rattle.pth_spelling.specs.Texts.{texts};
 ghost use Rattle.pth_script.specs.Broken.{said_breaks};
 ghost use Rattle.pth_grammar.specs.declared.section.Section.TheVariants as section;
-ghost use Rattle.pth_script.specs.Drafts.{draft_parts, seen, in_handler, in_body, handler_closed, IsClosed, IsFine, IsInOrder, Takes};
+ghost use Rattle.pth_script.specs.Drafts.{draft_parts, seen_of_draft, in_handler, in_body, handler_closed, IsClosed, IsFine, IsDraftInOrder, Takes};
 ghost use Rattle.pth_script.specs.Seen.{passes_limit, misnumbered, leaves_goto, is_check, is_end, is_handler};
 ghost use Rattle.pth_spelling.specs.Keywords.{begins};
 ghost use Rattle.pth_spelling.specs.declared.keyword.Keyword.TheVariants as key;
@@ -55,7 +55,7 @@ impl Draft {
 
     /// How many handlers were opened.
     fn handlers_opened(&self) -> usize
-        ensures { result ≡ (seen (draft_parts self.now)).handlers }
+        ensures { result ≡ (seen_of_draft (draft_parts self.now)).handlers }
     {
         match self.section {
             Section::Handler => self.handlers.len() + 1,
@@ -65,7 +65,7 @@ impl Draft {
 
     /// How many bodies were opened.
     pub fn bodies_opened(&self) -> usize
-        ensures { result ≡ (seen (draft_parts self.now)).bodies }
+        ensures { result ≡ (seen_of_draft (draft_parts self.now)).bodies }
     {
         match self.section {
             Section::Body => self.bodies.len() + 1,
@@ -74,8 +74,8 @@ impl Draft {
     }
 
     fn passes_limit(&self, keyword: Option<Keyword>) -> bool
-        requires { IsInOrder (draft_parts self.now) }
-        ensures { result ≡ passes_limit self.now.section keyword (seen (draft_parts self.now)) }
+        requires { IsDraftInOrder (draft_parts self.now) }
+        ensures { result ≡ passes_limit self.now.section keyword (seen_of_draft (draft_parts self.now)) }
     {
         match (self.section, keyword) {
             (Section::Handler, Some(Keyword::End)) => false,
@@ -90,8 +90,8 @@ impl Draft {
     }
 
     fn misnumbered(&self, keyword: Option<Keyword>, number: Option<i64>) -> bool
-        requires { IsInOrder (draft_parts self.now) }
-        ensures { result ≡ misnumbered keyword number (seen (draft_parts self.now)) }
+        requires { IsDraftInOrder (draft_parts self.now) }
+        ensures { result ≡ misnumbered keyword number (seen_of_draft (draft_parts self.now)) }
     {
         match (keyword, number) {
             (Some(Keyword::Handler), Some(n)) => n != self.handlers_opened() as i64,
@@ -103,7 +103,7 @@ impl Draft {
     }
 
     fn leaves_goto(&self, keyword: Option<Keyword>) -> bool
-        ensures { result ≡ leaves_goto self.now.section keyword (seen (draft_parts self.now)) }
+        ensures { result ≡ leaves_goto self.now.section keyword (seen_of_draft (draft_parts self.now)) }
     {
         match (self.section, keyword) {
             (Section::Body, Some(Keyword::End)) => !self.body.finds_labels(),
@@ -113,8 +113,8 @@ impl Draft {
 
     /// The first that a line of words breaks.
     pub fn fault(&self, words: &[&[u8]], ended: bool) -> Option<Breach>
-        requires { IsInOrder (draft_parts self.now) }
-        ensures { result ≡ first_broken (said_breaks ended (seen (draft_parts self.now)) (texts words.now)) }
+        requires { IsDraftInOrder (draft_parts self.now) }
+        ensures { result ≡ first_broken (said_breaks ended (seen_of_draft (draft_parts self.now)) (texts words.now)) }
     {
         let keyword = begins(words);
         if self.passes_limit(keyword) {
@@ -149,7 +149,7 @@ impl Draft {
     fn take_act(&mut self, words: &[&[u8]]) -> Result<(), OutOfMemory>
         requires section { self.old.section ≡ section.Handler }
         requires fine { IsFine (draft_parts self.old) (texts words.now) }
-        requires kept { IsInOrder (draft_parts self.old) }
+        requires kept { IsDraftInOrder (draft_parts self.old) }
         ensures { OnOk result (Takes (draft_parts self.old) (draft_parts self.new) (texts words.now)) }
     {
         if is_end(begins(words)) {
@@ -175,7 +175,7 @@ impl Draft {
     fn take_line(&mut self, words: &[&[u8]]) -> Result<(), OutOfMemory>
         requires section { self.old.section ≡ section.Body }
         requires fine { IsFine (draft_parts self.old) (texts words.now) }
-        requires kept { IsInOrder (draft_parts self.old) }
+        requires kept { IsDraftInOrder (draft_parts self.old) }
         ensures { OnOk result (Takes (draft_parts self.old) (draft_parts self.new) (texts words.now)) }
     {
         if is_end(begins(words)) {
@@ -193,7 +193,7 @@ impl Draft {
         requires body { in_body self.old.section ≡ false }
         requires begins { begins (texts words.now) ≡ Some key.Check }
         requires fine { IsFine (draft_parts self.old) (texts words.now) }
-        requires kept { IsInOrder (draft_parts self.old) }
+        requires kept { IsDraftInOrder (draft_parts self.old) }
         ensures { OnOk result (Takes (draft_parts self.old) (draft_parts self.new) (texts words.now)) }
     {
         if let Some(check) = check_line(words) {
@@ -208,7 +208,7 @@ impl Draft {
         requires handler { in_handler self.old.section ≡ false }
         requires body { in_body self.old.section ≡ false }
         requires fine { IsFine (draft_parts self.old) (texts words.now) }
-        requires kept { IsInOrder (draft_parts self.old) }
+        requires kept { IsDraftInOrder (draft_parts self.old) }
         ensures { OnOk result (Takes (draft_parts self.old) (draft_parts self.new) (texts words.now)) }
     {
         let keyword = begins(words);
@@ -226,7 +226,7 @@ impl Draft {
     /// Takes a line of words that breaks no rule.
     pub fn take(&mut self, words: &[&[u8]]) -> Result<(), OutOfMemory>
         requires fine { IsFine (draft_parts self.old) (texts words.now) }
-        requires kept { IsInOrder (draft_parts self.old) }
+        requires kept { IsDraftInOrder (draft_parts self.old) }
         ensures { OnOk result (Takes (draft_parts self.old) (draft_parts self.new) (texts words.now)) }
     {
         match self.section {

@@ -1,9 +1,9 @@
 //! Scripts from their text.
 
 ghost use Rattle.std.specs.Prelude.{◌≡◌, ℕ, List, []};
-ghost use Rattle.pth_script.specs.Drafts.{draft_parts, IsInOrder};
-ghost use Rattle.pth_script.specs.Follows.{Answers, Reads, refused};
-ghost use Rattle.pth_script.specs.TextRows.{Row};
+ghost use Rattle.pth_script.specs.Drafts.{draft_parts, IsDraftInOrder};
+ghost use Rattle.pth_script.specs.Follows.{IsReadAs, Reads, breach_error};
+ghost use Rattle.pth_script.specs.TextRows.{TextRow};
 
 use crate::draft::Draft;
 use crate::reader::{Fault, Reader};
@@ -30,7 +30,7 @@ pub enum ReadErr {
 
 /// The refusal of a line.
 fn refused(line: u32, breach: Breach) -> ReadErr
-    ensures { result ≡ refused line breach }
+    ensures { result ≡ breach_error line breach }
 {
     match breach {
         Breach::Limit => ReadErr::TooLarge { line },
@@ -40,8 +40,8 @@ fn refused(line: u32, breach: Breach) -> ReadErr
 
 /// The script that was read, whose last line stands above this one.
 fn finish(reader: Reader, line: u32) -> Result<Script, ReadErr>
-    requires { IsInOrder (draft_parts reader.draft) }
-    ensures { (text : List ℕ) (before : List Row) → Reads reader before text line [] → Answers text result }
+    requires { IsDraftInOrder (draft_parts reader.draft) }
+    ensures { (text : List ℕ) (before : List TextRow) → Reads reader before text line [] → IsReadAs text result }
 {
     if let Some(rule) = reader.end_fault() {
         return Err(ReadErr::Refused { line, rule });
@@ -57,7 +57,7 @@ fn finish(reader: Reader, line: u32) -> Result<Script, ReadErr>
 
 /// Reads a script. It is refused at the least line that breaks a rule, for the first such rule.
 pub fn read(alloc: Global, bytes: &[u8]) -> Result<Script, ReadErr>
-    ensures { Answers bytes.now result }
+    ensures { IsReadAs bytes.now result }
 {
     let mut reader = Reader::new(alloc);
     let mut line: u32 = 1;

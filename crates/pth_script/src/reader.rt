@@ -2,10 +2,10 @@
 
 ghost use Rattle.std.specs.Prelude.{◌≡◌, ◌≤◌, List, [], drop, length, option_map, IsNone, true, false};
 ghost use Rattle.pth_script.specs.Broken.{end_breaks, line_limit};
-ghost use Rattle.pth_script.specs.Drafts.{draft_parts, IsClosable, IsInOrder, ComesTo};
+ghost use Rattle.pth_script.specs.Drafts.{draft_parts, IsClosable, IsDraftInOrder, ComesTo};
 ghost use Rattle.pth_script.specs.Follows.{Follows, Goes, left_of};
 ghost use Rattle.pth_script.specs.Meaning.{said, handlers_of, checks_of, bodies_of};
-ghost use Rattle.pth_script.specs.TextRows.{Row, is_comment};
+ghost use Rattle.pth_script.specs.TextRows.{TextRow, is_comment};
 ghost use Rattle.pth_script.specs.RuleOrder.{first_broken};
 ghost use Rattle.pth_text.specs.declared.rule.Breach.TheVariants.{Of};
 
@@ -49,7 +49,7 @@ impl Reader {
     /// A reader of no lines yet.
     pub fn new(alloc: Global) -> Reader
         ensures follows { Follows result [] }
-        ensures makes { (rows : List Row) → ComesTo (draft_parts result.draft) (left_of result rows) (handlers_of (said (drop 1 rows))) (checks_of (said (drop 1 rows))) (bodies_of (said (drop 1 rows))) }
+        ensures makes { (rows : List TextRow) → ComesTo (draft_parts result.draft) (left_of result rows) (handlers_of (said (drop 1 rows))) (checks_of (said (drop 1 rows))) (bodies_of (said (drop 1 rows))) }
     {
         Reader {
             alloc,
@@ -79,7 +79,7 @@ impl Reader {
         requires started { self.old.started ≡ true }
         requires short { length bytes.now ≤ line_limit }
         requires said { is_comment bytes.now ≡ false }
-        requires kept { IsInOrder (draft_parts self.old.draft) }
+        requires kept { IsDraftInOrder (draft_parts self.old.draft) }
         ensures { Goes self.old self.new (record { bytes = bytes.now; ended = ended }) result }
     {
         let words = words(self.alloc, bytes)?;
@@ -93,7 +93,7 @@ impl Reader {
 
     /// Takes the next line of a text, without its LF.
     pub fn row(&mut self, bytes: &[u8], ended: bool) -> Result<(), Fault>
-        requires { IsInOrder (draft_parts self.old.draft) }
+        requires { IsDraftInOrder (draft_parts self.old.draft) }
         ensures { Goes self.old self.new (record { bytes = bytes.now; ended = ended }) result }
     {
         if bytes.len() > LINE_LIMIT {
@@ -113,7 +113,7 @@ impl Reader {
     /// The rule that the place after the last line breaks.
     pub fn end_fault(&self) -> Option<Rule>
         ensures closed { IsNone result → IsClosable (draft_parts self.now.draft) }
-        ensures first { (before : List Row) → Follows self.now before → option_map Of result ≡ first_broken (λ b. end_breaks b before) }
+        ensures first { (before : List TextRow) → Follows self.now before → option_map Of result ≡ first_broken (λ b. end_breaks b before) }
     {
         if !self.started {
             return Some(Rule::Header);

@@ -1,14 +1,14 @@
 //! Lines of a text.
 
 ghost use Rattle.std.specs.Prelude.{◌≡◌, ◌<◌, ◌∷◌, length};
-ghost use Rattle.pth_script.specs.TextRows.{rows_of, is_comment};
+ghost use Rattle.pth_script.specs.TextRows.{text_rows, is_comment};
 
 use pth_text::line::line_end;
 
 /// The first line of a text without its LF, whether an LF ends it, and the text after it.
 pub fn first_row(bytes: &[u8]) -> (&[u8], bool, &[u8])
     requires { 0 < length bytes.now }
-    ensures row { rows_of bytes.now ≡ record { bytes = result.0.now; ended = result.1 } ∷ rows_of result.2.now }
+    ensures row { text_rows bytes.now ≡ record { bytes = result.0.now; ended = result.1 } ∷ text_rows result.2.now }
     ensures shorter { length result.2.now < length bytes.now }
 {
     match line_end(bytes, 0) {

@@ -8,12 +8,12 @@ use Rattle.std.proofs.Math.Pow.{pow_mono}
 use Rattle.std.proofs.lemmas.Bool.Decides.{nat_tests}
 use Rattle.std.proofs.lemmas.Nat.{one_shl, or_disjoint}
 use Rattle.std.proofs.lemmas.Nat.Bits.{and_pow, bit_at_above}
-use Rattle.pth_text.specs.Number.{number_of}
+use Rattle.pth_text.specs.Number.{numeral_value}
 use Rattle.pth_spelling.specs.WordMeanings.{below, members_of}
 
 -- a number of a descriptor
 abbrev pub member : List ℕ → Option ℕ
-member w = option_and_then (below 64) (number_of w)
+member w = option_and_then (below 64) (numeral_value w)
 
 low_number : (z : ℤ) (k : ℕ) → below 64 z ≡ Some k → k < 64
 low_number (pos n) k e = grind (arith, nat_tests)
@@ -107,7 +107,7 @@ module _ {S : Type 0} (steps : S → Option (Bor (List ℕ)) → S → Type 0) (
 
   pub taken : Leads steps s set least whole → (x : Bor (List ℕ)) (k : ℕ) → steps s (Some x) t → member x.now ≡ Some k → least ≤ k → Leads steps t (bit_or set (1 * 2 ^ k % 2 ^ 64)) (k + 1) whole
   taken h x k step e high =
-      subst (λ n. Leads steps t n (k + 1) whole) (sym (put_member set least k h.small high (low_member (number_of x.now) k e))) (taken_by h.parts h.come h.lead h.small x k step e high)
+      subst (λ n. Leads steps t n (k + 1) whole) (sym (put_member set least k h.small high (low_member (numeral_value x.now) k e))) (taken_by h.parts h.come h.lead h.small x k step e high)
 
 pub none_before : (o : Option ℕ) → option_map (λ more. 0 + more) o ≡ o
 none_before (Some n) = ap (λ k. Some k) (omega arith)

@@ -1,6 +1,6 @@
 -- The words that begin lines.
 use Rattle.std.specs.Prelude.{ℕ, List, [], ◌∷◌, Option, Some, None, if◌then◌else◌, codes, option_and_then, option_map, is_some}
-use Rattle.pth_spelling.specs.Named.{named}
+use Rattle.pth_spelling.specs.Named.{named_in}
 use Rattle.pth_spelling.specs.WordMeanings.{register_of}
 use Rattle.pth_spelling.specs.declared.keyword.LibraryWord.{LibraryWord}
 use Rattle.pth_spelling.specs.declared.keyword.LibraryWord.TheVariants as libraries
@@ -46,7 +46,7 @@ library_words =
     ∷ []
 
 unfoldable pub library_word : List ℕ → Option LibraryWord
-library_word w = named library_words w
+library_word w = named_in library_words w
 
 abbrev pub attribute_words : List (List ℕ × AttributeWord)
 attribute_words =
@@ -59,7 +59,7 @@ attribute_words =
     ∷ []
 
 unfoldable pub attribute_word : List ℕ → Option AttributeWord
-attribute_word w = named attribute_words w
+attribute_word w = named_in attribute_words w
 
 abbrev pub thread_words : List (List ℕ × ThreadWord)
 thread_words =
@@ -78,7 +78,7 @@ thread_words =
     ∷ []
 
 unfoldable pub thread_word : List ℕ → Option ThreadWord
-thread_word w = named thread_words w
+thread_word w = named_in thread_words w
 
 abbrev pub utility_words : List (List ℕ × UtilityWord)
 utility_words =
@@ -87,7 +87,7 @@ utility_words =
     ∷ []
 
 unfoldable pub utility_word : List ℕ → Option UtilityWord
-utility_word w = named utility_words w
+utility_word w = named_in utility_words w
 
 abbrev pub cancellation_words : List (List ℕ × CancellationWord)
 cancellation_words =
@@ -96,7 +96,7 @@ cancellation_words =
     ∷ []
 
 unfoldable pub cancellation_word : List ℕ → Option CancellationWord
-cancellation_word w = named cancellation_words w
+cancellation_word w = named_in cancellation_words w
 
 abbrev pub event_words : List (List ℕ × EventWord)
 event_words =
@@ -117,7 +117,7 @@ event_words =
     ∷ []
 
 unfoldable pub event_word : List ℕ → Option EventWord
-event_word w = named event_words w
+event_word w = named_in event_words w
 
 -- the new event that the word makes
 abbrev pub new_of : EventWord → Option NewEventWord
@@ -142,7 +142,7 @@ key_words =
     ∷ []
 
 unfoldable pub key_word : List ℕ → Option KeyStorageWord
-key_word w = named key_words w
+key_word w = named_in key_words w
 
 abbrev pub port_words : List (List ℕ × PortWord)
 port_words =
@@ -156,7 +156,7 @@ port_words =
     ∷ []
 
 unfoldable pub port_word : List ℕ → Option PortWord
-port_word w = named port_words w
+port_word w = named_in port_words w
 
 abbrev pub cleanup_words : List (List ℕ × CleanupWord)
 cleanup_words =
@@ -165,7 +165,7 @@ cleanup_words =
     ∷ []
 
 unfoldable pub cleanup_word : List ℕ → Option CleanupWord
-cleanup_word w = named cleanup_words w
+cleanup_word w = named_in cleanup_words w
 
 abbrev pub mutex_words : List (List ℕ × MutexWord)
 mutex_words =
@@ -175,7 +175,7 @@ mutex_words =
     ∷ []
 
 unfoldable pub mutex_word : List ℕ → Option MutexWord
-mutex_word w = named mutex_words w
+mutex_word w = named_in mutex_words w
 
 abbrev pub rwlock_words : List (List ℕ × RwlockWord)
 rwlock_words =
@@ -185,7 +185,7 @@ rwlock_words =
     ∷ []
 
 unfoldable pub rwlock_word : List ℕ → Option RwlockWord
-rwlock_word w = named rwlock_words w
+rwlock_word w = named_in rwlock_words w
 
 abbrev pub condition_words : List (List ℕ × ConditionWord)
 condition_words =
@@ -195,7 +195,7 @@ condition_words =
     ∷ []
 
 unfoldable pub condition_word : List ℕ → Option ConditionWord
-condition_word w = named condition_words w
+condition_word w = named_in condition_words w
 
 abbrev pub barrier_words : List (List ℕ × BarrierWord)
 barrier_words =
@@ -204,7 +204,7 @@ barrier_words =
     ∷ []
 
 unfoldable pub barrier_word : List ℕ → Option BarrierWord
-barrier_word w = named barrier_words w
+barrier_word w = named_in barrier_words w
 
 abbrev pub io_words : List (List ℕ × IoWord)
 io_words =
@@ -224,7 +224,7 @@ io_words =
     ∷ []
 
 unfoldable pub io_word : List ℕ → Option IoWord
-io_word w = named io_words w
+io_word w = named_in io_words w
 
 -- the first that is there
 abbrev pub or_else : {A : Type 0} → Option A → Option A → Option A
@@ -269,7 +269,7 @@ plain_words =
     ∷ []
 
 unfoldable pub plain_word : List ℕ → Option Keyword
-plain_word w = named plain_words w
+plain_word w = named_in plain_words w
 
 unfoldable pub keyword_of : List ℕ → Option Keyword
 keyword_of w = or_else (plain_word w) (option_map (λ k. key.Call k) (call_word w))

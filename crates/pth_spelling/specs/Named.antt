@@ -4,9 +4,9 @@ use Rattle.std.specs.Borrow.{Bor}
 use Rattle.std.specs.Str.{bytes_eq}
 
 -- what a word names by a table of words: what stands in the first row of the word
-unfoldable pub named : {X : Type 0} → List (List ℕ × X) → List ℕ → Option X
-named [] word = None
-named (row ∷ rows) word = if bytes_eq word row.0 then Some row.1 else named rows word
+unfoldable pub named_in : {X : Type 0} → List (List ℕ × X) → List ℕ → Option X
+named_in [] word = None
+named_in (row ∷ rows) word = if bytes_eq word row.0 then Some row.1 else named_in rows word
 
 -- a table of the code
 abbrev pub table_of : {X : Type 0} → List (Bor (List ℕ) × X) → List (List ℕ × X)

@@ -2,14 +2,14 @@
 use Rattle.std.specs.Prelude.{ℕ, ◌+◌, ◌^◌, ◌==◌, ◌&&◌, ◌||◌, Bool, true, false, List, [], ◌∷◌, length, Option, Some, None, if◌then◌else◌, codes, option_and_then, option_map, is_some, ℤ, pos, negsuc, nat_lt, nat_le, drop, take, slice_index}
 use Rattle.std.specs.Str.{bytes_eq}
 use Rattle.std.specs.List.{slice_split, list_all}
-use Rattle.pth_spelling.specs.Named.{named}
+use Rattle.pth_spelling.specs.Named.{named_in}
 use Rattle.pth_base.specs.declared.attr.AttrField.{AttrField}
 use Rattle.pth_base.specs.declared.attr.AttrField.TheVariants as field
 use Rattle.pth_base.specs.declared.ids.FdSet.{FdSet}
 use Rattle.pth_base.specs.declared.thread.ThreadState.{ThreadState}
 use Rattle.pth_base.specs.declared.thread.ThreadState.TheVariants as state
 use Rattle.pth_text.specs.Bytes.{code}
-use Rattle.pth_text.specs.Number.{number_of}
+use Rattle.pth_text.specs.Number.{numeral_value}
 use Rattle.pth_text.specs.Hex.{hex_bytes}
 use Rattle.pth_line.specs.declared.operand.ByteOperand.{ByteOperand}
 use Rattle.pth_line.specs.declared.operand.ByteOperand.TheVariants as bytes
@@ -39,17 +39,17 @@ not_negative (negsuc k) = None
 
 -- a word that spells a number which is not negative
 unfoldable pub natural_of : List ℕ → Option ℤ
-natural_of w = option_and_then not_negative (number_of w)
+natural_of w = option_and_then not_negative (numeral_value w)
 
 -- ---- registers and operands
 
 -- `v0` to `v63`
 unfoldable pub shared_of : List ℕ → Option ℕ
-shared_of w = if slice_index w 0 == code "v" then option_and_then (below 64) (number_of (drop 1 w)) else None
+shared_of w = if slice_index w 0 == code "v" then option_and_then (below 64) (numeral_value (drop 1 w)) else None
 
 -- `a0` to `a15`
 unfoldable pub own_of : List ℕ → Option ℕ
-own_of w = if slice_index w 0 == code "a" then option_and_then (below 16) (number_of (drop 1 w)) else None
+own_of w = if slice_index w 0 == code "a" then option_and_then (below 16) (numeral_value (drop 1 w)) else None
 
 -- a register of either kind
 unfoldable pub register_of : List ℕ → Option Register
@@ -58,14 +58,14 @@ register_of w = (if is_some (own_of w) then option_map (λ k. reg.Own k) (own_of
 -- a number of a body's line: given, of the last error, or in a register
 unfoldable pub operand_of : List ℕ → Option Operand
 operand_of w =
-    if is_some (number_of w) then option_map (λ n. operand.Number n) (number_of w)
+    if is_some (numeral_value w) then option_map (λ n. operand.Number n) (numeral_value w)
     else (if bytes_eq w (codes "err") then Some operand.Error
     else option_map (λ r. operand.Register r) (register_of w))
 
 -- a number of an act or a check: given, the argument, or in a shared register
 unfoldable pub value_of : List ℕ → Option Value
 value_of w =
-    if is_some (number_of w) then option_map (λ n. value.Number n) (number_of w)
+    if is_some (numeral_value w) then option_map (λ n. value.Number n) (numeral_value w)
     else (if bytes_eq w (codes "arg") then Some value.Argument
     else option_map (λ k. value.Shared k) (shared_of w))
 
@@ -92,7 +92,7 @@ abbrev pub members_of : ℕ → List (List ℕ) → Option ℕ
 members_of least [] = Some 0
 members_of least (p ∷ ps) =
     option_and_then (λ k. if nat_le least k then option_map (λ set. 2 ^ k + set) (members_of (k + 1) ps) else None)
-    (option_and_then (below 64) (number_of p))
+    (option_and_then (below 64) (numeral_value p))
 
 -- `-` for none, or members joined by commas
 unfoldable pub set_of : List ℕ → Option FdSet
@@ -127,7 +127,7 @@ goal_words =
     ∷ []
 
 unfoldable pub goals_of : List ℕ → Option ℕ
-goals_of w = named goal_words w
+goals_of w = named_in goal_words w
 
 -- ---- words of a list
 
@@ -139,7 +139,7 @@ which_words =
     ∷ []
 
 unfoldable pub which_of : List ℕ → Option Bool
-which_of w = named which_words w
+which_of w = named_in which_words w
 
 -- a relation between two numbers
 abbrev pub relation_words : List (List ℕ × Relation)
@@ -153,7 +153,7 @@ relation_words =
     ∷ []
 
 unfoldable pub relation_of : List ℕ → Option Relation
-relation_of w = named relation_words w
+relation_of w = named_in relation_words w
 
 -- a field of an attribute object
 abbrev pub field_words : List (List ℕ × AttrField)
@@ -168,7 +168,7 @@ field_words =
     ∷ []
 
 unfoldable pub field_of : List ℕ → Option AttrField
-field_of w = named field_words w
+field_of w = named_in field_words w
 
 -- a thread's state that an event may wait for
 abbrev pub state_words : List (List ℕ × ThreadState)
@@ -179,8 +179,8 @@ state_words =
     ∷ (codes "dead", state.Dead)
     ∷ []
 
-unfoldable pub state_of : List ℕ → Option ThreadState
-state_of w = named state_words w
+unfoldable pub thread_state_of : List ℕ → Option ThreadState
+thread_state_of w = named_in state_words w
 
 -- whether a lock is taken for writing
 abbrev pub mode_words : List (List ℕ × Bool)
@@ -190,7 +190,7 @@ mode_words =
     ∷ []
 
 unfoldable pub mode_of : List ℕ → Option Bool
-mode_of w = named mode_words w
+mode_of w = named_in mode_words w
 
 -- whether a walk goes forward, and whether it goes on to an event that occurred
 abbrev pub direction_words : List (List ℕ × Direction)
@@ -202,7 +202,7 @@ direction_words =
     ∷ []
 
 unfoldable pub direction_of : List ℕ → Option Direction
-direction_of w = named direction_words w
+direction_of w = named_in direction_words w
 
 -- what the scheduler is asked
 abbrev pub query_words : List (List ℕ × QueryWord)
@@ -220,4 +220,4 @@ query_words =
     ∷ []
 
 unfoldable pub query_of : List ℕ → Option QueryWord
-query_of w = named query_words w
+query_of w = named_in query_words w

@@ -1,11 +1,11 @@
 //! Words and what they name, in tables.
 
 ghost use Rattle.std.specs.Prelude.{◌≡◌};
-ghost use Rattle.pth_spelling.specs.Named.{named, table_of};
+ghost use Rattle.pth_spelling.specs.Named.{named_in, table_of};
 
 /// What a word names by a table.
 pub fn named<T: Copy>(table: &[(&str, T)], word: &[u8]) -> Option<T>
-    ensures { result ≡ named (table_of table.now) word.now }
+    ensures { result ≡ named_in (table_of table.now) word.now }
 {
     for row in table {
         if word == row.0.as_bytes() {

@@ -14,7 +14,7 @@ use Rattle.std.proofs.lemmas.Slice.Eq.{bytes_eq-Decides}
 use Rattle.std.proofs.lemmas.Str.{IsUtf8-from_ascii}
 use Rattle.std.proofs.lemmas.Str.Parse.{IsNumeralModel, numerals_by_value, tells_all_ascii_digits, digit_from_value}
 use Rattle.pth_text.specs.Bytes.{code}
-use Rattle.pth_text.specs.Number.{is_positive, is_numeral, is_i64, number_of}
+use Rattle.pth_text.specs.Number.{is_positive, is_numeral, is_i64, numeral_value}
 
 pub all_digits : (ds : List ℕ) → list_all (λ b. is_ascii_digit b) ds ≡ all_ascii_digits ds
 all_digits [] = refl
@@ -84,16 +84,16 @@ numeral_is_text word test = IsUtf8-from_ascii word (⊎_elim
     (λ (digits : IsNumeral 10 word). IsAscii-from_digits word digits.1)
     (minus_or_digits word test))
 
-pub number_is_read : {E : Type 0} (word : List ℕ) (r : Result ℤ E) → is_numeral word ≡ true → ParsesSigned w64 10 word r → result_ok r ≡ number_of word
-unfolding number_of
+pub number_is_read : {E : Type 0} (word : List ℕ) (r : Result ℤ E) → is_numeral word ≡ true → ParsesSigned w64 10 word r → result_ok r ≡ numeral_value word
+unfolding numeral_value
 number_is_read word r test reads = read_if_fits _ _ r reads (numeral_digits word test) ∙ sym (ap (λ t. cond (t && is_i64 (signed_digits_value 10 word)) (Some (signed_digits_value 10 word)) None) test)
 
-pub number_none : (word : List ℕ) → is_numeral word ≡ false → None ≡ number_of word
-unfolding number_of
+pub number_none : (word : List ℕ) → is_numeral word ≡ false → None ≡ numeral_value word
+unfolding numeral_value
 number_none word test = sym (ap (λ t. cond (t && is_i64 (signed_digits_value 10 word)) (Some (signed_digits_value 10 word)) None) test)
 
-number_some : (word : List ℕ) (n : ℤ) → is_numeral word ≡ true → signed_digits_value 10 word ≡ n → FitsSigned w64 n → number_of word ≡ Some n
-unfolding number_of
+number_some : (word : List ℕ) (n : ℤ) → is_numeral word ≡ true → signed_digits_value 10 word ≡ n → FitsSigned w64 n → numeral_value word ≡ Some n
+unfolding numeral_value
 number_some word n test value fits = let small : is_i64 (signed_digits_value 10 word) ≡ true = rw value (fits_test n fits) in rw (test, small) (ap (λ k. Some k) value)
 
 positive_test : (ds : List ℕ) → IsNumeral 10 ds → code "0" < get_or ds 0 0 → is_positive ds ≡ true
@@ -115,7 +115,7 @@ decimal_digits m some small = let numeral = decimal_is_IsNumeral m small in (num
 minus_value : (ds : List ℕ) (m : ℕ) → digits_value 10 ds ≡ suc m → signed_digits_value 10 (code "-" ∷ ds) ≡ negsuc m
 minus_value ds m value = ap (λ k. neg_ℤ (pos k)) value
 
-pub written_number_is_read : (n : ℤ) → FitsSigned w64 n → number_of (signed_decimal n) ≡ Some n
+pub written_number_is_read : (n : ℤ) → FitsSigned w64 n → numeral_value (signed_decimal n) ≡ Some n
 written_number_is_read (pos zero) fits = let zero_word : decimal 0 ≡ code "0" ∷ [] = decimal_digit 0 (omega arith) in rw zero_word (number_some (code "0" ∷ []) (pos 0) refl refl fits)
 written_number_is_read (pos (suc m)) fits =
     let small : suc m < 2 ^ 63 = fits.sfits in

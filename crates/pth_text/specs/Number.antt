@@ -22,5 +22,5 @@ abbrev pub is_i64 : ℤ → Bool
 is_i64 n = int_le (neg_ℤ (pos (2 ^ 63))) n && int_lt n (pos (2 ^ 63))
 
 -- the number that a word spells, where it is one of 64 bits
-unfoldable pub number_of : List ℕ → Option ℤ
-number_of word = let n = signed_digits_value 10 word in if is_numeral word && is_i64 n then Some n else None
+unfoldable pub numeral_value : List ℕ → Option ℤ
+numeral_value word = let n = signed_digits_value 10 word in if is_numeral word && is_i64 n then Some n else None

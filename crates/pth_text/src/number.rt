@@ -4,7 +4,7 @@ ghost use Rattle.std.specs.Prelude.{◌≡◌, ℤ, Some, FitsSigned};
 ghost use Rattle.std.specs.Fmt.{signed_decimal};
 ghost use Rattle.std.specs.Int.{w64};
 ghost use Rattle.std.specs.Str.{all_ascii_digits};
-ghost use Rattle.pth_text.specs.Number.{is_positive, without_minus, is_numeral, number_of};
+ghost use Rattle.pth_text.specs.Number.{is_positive, without_minus, is_numeral, numeral_value};
 
 fn are_digits(bytes: &[u8]) -> bool
     ensures { result ≡ all_ascii_digits bytes.now }
@@ -38,7 +38,7 @@ fn is_numeral(word: &[u8]) -> bool
 
 /// The number that a word spells: `0`, or an optional `-`, a digit from 1 to 9 and further digits, within 64 bits.
 pub fn read_number(word: &[u8]) -> Option<i64>
-    ensures { result ≡ number_of word.now }
+    ensures { result ≡ numeral_value word.now }
 {
     // `parse` also takes a sign `+` and leading zeros.
     if !is_numeral(word) {
@@ -52,5 +52,5 @@ pub fn read_number(word: &[u8]) -> Option<i64>
 
 /// Each number is read from the word that `Text::number` adds for it.
 pub fn written_numbers_are_read()
-    ensures { (n : ℤ) → FitsSigned w64 n → number_of (signed_decimal n) ≡ Some n }
+    ensures { (n : ℤ) → FitsSigned w64 n → numeral_value (signed_decimal n) ≡ Some n }
 {}

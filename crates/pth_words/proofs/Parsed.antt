@@ -5,7 +5,7 @@ use Rattle.clap.specs.Words.{App, HasKind, Kinds, Row, Text, fault_of, is_simple
 use Rattle.clap.specs.declared.error.Error.{Error}
 use Rattle.clap.specs.declared.error.kind.ErrorKind.TheVariants.{OutOfMemory}
 use Rattle.pth_words.specs.Command.{play}
-use Rattle.pth_words.specs.CommandWords.{Asked, asked_by, asked_in, unless_refused}
+use Rattle.pth_words.specs.CommandWords.{Asked, asked_by, asked_in, unless_failed}
 
 simple : is_simple play ≡ true
 unfolding clap_on_literals play
@@ -25,7 +25,7 @@ is_free a e = ap is_simple_and_free e ∙ free
 pub taken : (a : App) (ws : List Text) (rows : List Row) (x : Asked) → a ≡ play → fault_of a ws ≡ [] → rows ≡ matches_of a ws → x ≡ asked_in rows → asked_by ws ≡ Some x
 unfolding asked_by
 taken a ws rows x e none found is =
-    ap₂ unless_refused (ap (λ (b : App). fault_of b ws) (sym e) ∙ none) (ap (λ (b : App). asked_in (matches_of b ws)) (sym e) ∙ ap asked_in (sym found)) ∙ ap (λ (y : Asked). Some y) (sym is)
+    ap₂ unless_failed (ap (λ (b : App). fault_of b ws) (sym e) ∙ none) (ap (λ (b : App). asked_in (matches_of b ws)) (sym e) ∙ ap asked_in (sym found)) ∙ ap (λ (y : Asked). Some y) (sym is)
 
 -- and one that failed, and not for want of memory
 pub refused : (a : App) (ws : List Text) (error : Error) → a ≡ play → HasKind (fault_of a ws) error → (kind_of error ≡ OutOfMemory → ⊥) → asked_by ws ≡ None
@@ -34,4 +34,4 @@ refused a ws error e has not = go (fault_of a ws) refl has
   where
     go : (kinds : Kinds) → fault_of a ws ≡ kinds → HasKind kinds error → asked_by ws ≡ None
     go [] is h = elim h [ inl memory ↦ absurd (not memory) | inr bad ↦ absurd bad ]
-    go (k ∷ ks) is h = ap (λ (l : Kinds). unless_refused l (asked_in (matches_of play ws))) (ap (λ (b : App). fault_of b ws) (sym e) ∙ is)
+    go (k ∷ ks) is h = ap (λ (l : Kinds). unless_failed l (asked_in (matches_of play ws))) (ap (λ (b : App). fault_of b ws) (sym e) ∙ is)

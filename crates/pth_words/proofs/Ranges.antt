@@ -28,14 +28,14 @@ use Rattle.clap.specs.declared.parser.matches.MatchedArg.{MatchedArg}
 use Rattle.clap.proofs.CallerLemmas.{entry_by_id, same_rules_by_id}
 use Rattle.clap.proofs.WalkLemmas.{one_text-rows}
 use Rattle.clap.proofs.ValueTestLemmas.{Accepts-accepts}
-use Rattle.pth_words.specs.Command.{file, play, steps, summary}
+use Rattle.pth_words.specs.Command.{file_rule, play, steps_rule, summary_rule}
 use Rattle.pth_words.specs.CommandWords.{Asked, asked_in, unsigned_of}
 
 -- the rules after that of the steps
 abbrev others : List Rule
-others = summary ∷ file ∷ []
+others = summary_rule ∷ file_rule ∷ []
 
-rules : play.top.rules ≡ steps ∷ others
+rules : play.top.rules ≡ steps_rule ∷ others
 unfolding play
 rules = refl
 
@@ -103,7 +103,7 @@ none_named : (more : List Arg) → list_all (λ (r : Rule). r.is_simple) (map ru
 none_named [] h = All-nil (λ (a : Arg). a.groups.items ≡ [])
 none_named (a ∷ more) h = All-cons (λ (a : Arg). a.groups.items ≡ []) a more (no_groups a (and_left _ _ h)) (none_named more (and_right _ _ h))
 
-all_simple : list_all (λ (r : Rule). r.is_simple) (steps ∷ others) ≡ true
+all_simple : list_all (λ (r : Rule). r.is_simple) (steps_rule ∷ others) ≡ true
 all_simple = refl
 
 no_auto : (a : Arg) → a.id.now ≡ codes "steps" → IsAuto a → ⊥
@@ -119,11 +119,11 @@ head_passes P how (v ∷ vs) t as_is all is =
     subst P (ap (λ (o : Option (List ℕ)). unwrap_or o t) same) (All-get_or (λ v. P v.now) (v ∷ vs) 0 v (omega arith) all)
 
 module _ (c : Command) (m : ArgMatches) (p : IsParsedFrom c m) (shape : app_of c ≡ play) where
-  named : map rule_of (args_of c) ≡ steps ∷ others
+  named : map rule_of (args_of c) ≡ steps_rule ∷ others
   named = ap (λ (a : App). a.top.rules) shape ∙ rules
 
-  abbrev args : (a : Arg) × (more : List Arg) × (args_of c ≡ a ∷ more) × (rule_of a ≡ steps) × (map rule_of more ≡ others)
-  args = begins rule_of (args_of c) steps others named
+  abbrev args : (a : Arg) × (more : List Arg) × (args_of c ≡ a ∷ more) × (rule_of a ≡ steps_rule) × (map rule_of more ≡ others)
+  args = begins rule_of (args_of c) steps_rule others named
 
   abbrev first : Arg
   first = args.0

@@ -5,20 +5,20 @@ use Rattle.clap.specs.declared.builder.ArgAction.TheVariants.{SetTrue}
 use Rattle.clap.specs.declared.builder.value_parser.ValueParser.TheVariants as parser
 
 -- how many steps a run makes at most
-abbrev pub steps : Rule
-steps = record (new_rule (codes "steps")) {
+abbrev pub steps_rule : Rule
+steps_rule = record (new_rule (codes "steps")) {
   long = Some (codes "steps");
   parser = Some (parser.Unsigned 1 1000000000);
   defaults = codes "1000000" ∷ [];
 }
 
 -- a line of counts in place of the transcript
-abbrev pub summary : Rule
-summary = record (new_rule (codes "summary")) { long = Some (codes "summary"); action = Some SetTrue }
+abbrev pub summary_rule : Rule
+summary_rule = record (new_rule (codes "summary")) { long = Some (codes "summary"); action = Some SetTrue }
 
 -- the name that stands for the script
-abbrev pub file : Rule
-file = new_rule (codes "FILE")
+abbrev pub file_rule : Rule
+file_rule = new_rule (codes "FILE")
 
 -- the command before it has options: all words are its own, and there are no flags for help and version
 abbrev pub bare : App
@@ -26,4 +26,4 @@ bare = let app = new_app (codes "pth_play") in
     record app { top = record app.top { no_binary_name = true; disable_help_flag = true } }
 
 unfoldable pub play : App
-play = with_rule (with_rule (with_rule bare steps) summary) file
+play = with_rule (with_rule (with_rule bare steps_rule) summary_rule) file_rule

@@ -25,8 +25,8 @@ abbrev pub unsigned_of : Text → Option ℕ
 unsigned_of text = if accepts false (parser.Unsigned 0 18446744073709551615) text then Some (digits_value 10 (without_leading_plus text)) else None
 
 -- the number that stands under a name
-abbrev pub number_at : Text → List Row → Option ℕ
-number_at name rows = option_and_then unsigned_of (one_of name rows)
+abbrev pub number_under : Text → List Row → Option ℕ
+number_under name rows = option_and_then unsigned_of (one_of name rows)
 
 -- whether the flag with a name is set
 abbrev pub is_set : Text → List Row → Bool
@@ -35,26 +35,26 @@ is_set name rows = option_map_or (λ text. bytes_eq text true_text) (one_of name
 -- what the rows of a parse say; the command has a default for the steps, so a number is always there
 abbrev pub asked_in : List Row → Asked
 asked_in rows = record {
-  steps = unwrap_or (number_at (codes "steps") rows) 1000000;
+  steps = unwrap_or (number_under (codes "steps") rows) 1000000;
   summary = is_set (codes "summary") rows;
   file = first_of (codes "FILE") rows;
 }
 
 -- nothing where a step of the parse fails
-abbrev pub unless_refused : Kinds → Asked → Option Asked
-unless_refused [] asked = Some asked
-unless_refused (fault ∷ faults) asked = None
+abbrev pub unless_failed : Kinds → Asked → Option Asked
+unless_failed [] asked = Some asked
+unless_failed (fault ∷ faults) asked = None
 
 -- what the words ask for; nothing where they are refused
 unfoldable pub asked_by : List Text → Option Asked
-asked_by words = unless_refused (fault_of play words) (asked_in (matches_of play words))
+asked_by words = unless_failed (fault_of play words) (asked_in (matches_of play words))
 
 -- a choice as what is asked for
 abbrev pub asked_of : Choice → Asked
 asked_of c = record { steps = c.steps; summary = c.summary; file = option_map (λ name. name.now) c.file }
 
 -- the choice is what was asked for, and `Refused` comes exactly where the words are refused, but for want of memory
-abbrev pub Answers : Option Asked → Result Choice WordsErr → Type 0
-Answers asked (Ok choice) = asked ≡ Some (asked_of choice)
-Answers asked (Err words.Refused) = asked ≡ None
-Answers asked (Err words.OutOfMemory) = Unit {0}
+abbrev pub Chooses : Option Asked → Result Choice WordsErr → Type 0
+Chooses asked (Ok choice) = asked ≡ Some (asked_of choice)
+Chooses asked (Err words.Refused) = asked ≡ None
+Chooses asked (Err words.OutOfMemory) = Unit {0}

@@ -2,13 +2,13 @@
 
 ghost use Rattle.std.specs.Prelude.{◌≡◌, IfOk, false};
 ghost use Rattle.clap.specs.Words.{app_of, rule_of};
-ghost use Rattle.pth_words.specs.Command.{bare, file, play, steps, summary};
+ghost use Rattle.pth_words.specs.Command.{bare, file_rule, play, steps_rule, summary_rule};
 
 use clap::{Arg, ArgAction, Command, value_parser};
 use std::alloc::{AllocError, Global};
 
 fn steps<'a>(alloc: Global) -> Arg<'a>
-    ensures rule { rule_of result ≡ steps }
+    ensures rule { rule_of result ≡ steps_rule }
     ensures local { result.global ≡ false }
 {
     Arg::new(alloc, "steps")
@@ -18,7 +18,7 @@ fn steps<'a>(alloc: Global) -> Arg<'a>
 }
 
 fn summary<'a>(alloc: Global) -> Arg<'a>
-    ensures rule { rule_of result ≡ summary }
+    ensures rule { rule_of result ≡ summary_rule }
     ensures local { result.global ≡ false }
 {
     Arg::new(alloc, "summary")
@@ -27,7 +27,7 @@ fn summary<'a>(alloc: Global) -> Arg<'a>
 }
 
 fn file<'a>(alloc: Global) -> Arg<'a>
-    ensures rule { rule_of result ≡ file }
+    ensures rule { rule_of result ≡ file_rule }
     ensures local { result.global ≡ false }
 {
     Arg::new(alloc, "FILE")

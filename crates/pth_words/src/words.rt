@@ -1,7 +1,7 @@
 //! The words of the command line, read by the command's definition.
 
 ghost use Rattle.std.specs.Prelude.{◌≤◌, IfOk, map, string_bytes};
-ghost use Rattle.pth_words.specs.CommandWords.{Answers, asked_by};
+ghost use Rattle.pth_words.specs.CommandWords.{Chooses, asked_by};
 
 use crate::choice::{Choice, found};
 use crate::command::command;
@@ -21,7 +21,7 @@ pub enum WordsErr {
 /// What the words after the program's name ask for. They are refused exactly where the command's definition refuses them, but
 /// for want of memory.
 pub fn read_words<'a>(alloc: Global, words: &'a Vec<String>) -> Result<Choice<'a>, WordsErr>
-    ensures answers { Answers (asked_by (map string_bytes words.now.items)) result }
+    ensures answers { Chooses (asked_by (map string_bytes words.now.items)) result }
     ensures steps { IfOk result (λ choice. (1 ≤ choice.steps) × (choice.steps ≤ 1000000000)) }
 {
     let Ok(command) = command(alloc) else {

@@ -1,7 +1,7 @@
 //! Words of a list.
 
 ghost use Rattle.std.specs.Prelude.{◌≡◌};
-ghost use Rattle.pth_spelling.specs.WordMeanings.{goals_of, which_of, relation_of, field_of, state_of, mode_of, direction_of, query_of};
+ghost use Rattle.pth_spelling.specs.WordMeanings.{goals_of, which_of, relation_of, field_of, thread_state_of, mode_of, direction_of, query_of};
 
 use crate::direction::Direction;
 use crate::keyword::QueryWord;
@@ -81,9 +81,9 @@ static STATES: [(&str, ThreadState); 4] = [
 ];
 
 /// A thread's state that an event may wait for.
-#[tactic(auto, unfolding(crate::specs::WordMeanings::state_of))]
+#[tactic(auto, unfolding(crate::specs::WordMeanings::thread_state_of))]
 pub fn state(word: &[u8]) -> Option<ThreadState>
-    ensures { result ≡ state_of word.now }
+    ensures { result ≡ thread_state_of word.now }
 {
     named(&STATES, word)
 }

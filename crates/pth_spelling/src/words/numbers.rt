@@ -1,7 +1,7 @@
 //! Words that are numbers.
 
 ghost use Rattle.std.specs.Prelude.{◌≡◌, option_and_then};
-ghost use Rattle.pth_text.specs.Number.{number_of};
+ghost use Rattle.pth_text.specs.Number.{numeral_value};
 ghost use Rattle.pth_spelling.specs.WordMeanings.{below, natural_of};
 
 use pth_text::number::read_number;
@@ -17,7 +17,7 @@ pub fn natural(word: &[u8]) -> Option<i64>
 
 /// A number that is not negative and below a limit.
 pub(crate) fn number_below(limit: u8, word: &[u8]) -> Option<u8>
-    ensures { result ≡ option_and_then (below limit) (number_of word.now) }
+    ensures { result ≡ option_and_then (below limit) (numeral_value word.now) }
 {
     let n = read_number(word)?;
     if 0 <= n && n < i64::from(limit) {

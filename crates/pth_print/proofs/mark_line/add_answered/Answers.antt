@@ -2,11 +2,11 @@ use Rattle.std.proofs.Common.{◌∷◌, codes}
 use Rattle.std.proofs.lemmas.Result.{err_from_is_err_and}
 use Rattle.pth_print.specs.AnswerWords.{answer_words}
 use Rattle.pth_print.specs.CallWords.{call_words}
-use Rattle.pth_print.specs.WordTexts.{thread}
+use Rattle.pth_print.specs.WordTexts.{tid_word}
 use Rattle.pth_print.proofs.Cuts.{joined_cut}
 use Rattle.pth_print.proofs.mark_line.add_answered.Goals as goal
 
 pub returns-in_err-add_call_of : goal.returns-in_err-add_call_of
 returns-in_err-add_call_of c =
     let p = err_from_is_err_and c.from_residual.result c.from_residual.ensures.1 in
-    joined_cut _ _ (thread c.args.tid.0) (call_words c.args.call.now) (codes "=" ∷ answer_words c.args.answer.now) c.from_residual.result p.0 p.1 c.in_err-add_call_of.ensures.err
+    joined_cut _ _ (tid_word c.args.tid.0) (call_words c.args.call.now) (codes "=" ∷ answer_words c.args.answer.now) c.from_residual.result p.0 p.1 c.in_err-add_call_of.ensures.err

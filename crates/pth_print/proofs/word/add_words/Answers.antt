@@ -2,13 +2,13 @@ use Rattle.std.proofs.Common.{ℕ, List, ◌++◌, codes}
 use Rattle.std.proofs.lemmas.Result.{err_from_is_err_and}
 use Rattle.pth_base.proofs.Cuts.{cut_none, cut_then}
 use Rattle.pth_print.proofs.Cuts.{cut_at}
-use Rattle.pth_print.specs.WordTexts.{text_of}
+use Rattle.pth_print.specs.WordTexts.{word_text}
 use Rattle.pth_print.specs.declared.word.Word.{Word}
 use Rattle.pth_print.specs.declared.word.Word.TheVariants.{Natural}
 use Rattle.pth_print.proofs.word.add_words.Goals as goal
 
 abbrev spaced_word : Word → List ℕ
-spaced_word word = codes " " ++ text_of word
+spaced_word word = codes " " ++ word_text word
 
 pub returns-in_err-push : goal.returns-in_err-push
 returns-in_err-push c =

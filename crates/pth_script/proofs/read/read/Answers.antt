@@ -1,19 +1,19 @@
 use Rattle.std.proofs.Common.{◌∙◌, ◌≤◌, ◌∷◌, [], ap, arith}
 use Rattle.std.proofs.lemmas.Bool.Decides.{nat_tests}
-use Rattle.pth_script.specs.TextRows.{Row, rows_of, size_of}
+use Rattle.pth_script.specs.TextRows.{TextRow, text_rows, size_of}
 use Rattle.pth_script.specs.Broken.{text_limit}
-use Rattle.pth_script.specs.Follows.{refused}
+use Rattle.pth_script.specs.Follows.{breach_error}
 use Rattle.pth_script.proofs.RowRules.{text_limit_is}
 use Rattle.pth_script.proofs.Runs.{broke, passes_size, breaks, reads_on, row_size_is, refused_answers, starts_reading, ends_reading, makes_cut}
 use Rattle.pth_script.proofs.read.read.Goals as goal
 
 pub lines-init : goal.lines-init
-lines-init c = ([], starts_reading c.new-reader.result c.args.bytes.now c.new-reader.ensures.follows (c.new-reader.ensures.makes (rows_of c.args.bytes.now)), omega arith, omega arith)
+lines-init c = ([], starts_reading c.new-reader.result c.args.bytes.now c.new-reader.ensures.follows (c.new-reader.ensures.makes (text_rows c.args.bytes.now)), omega arith, omega arith)
 
 pub returns-then-bytes-after-gt-TEXT_LIMIT : goal.returns-then-bytes-after-gt-TEXT_LIMIT
 returns-then-bytes-after-gt-TEXT_LIMIT c =
     let i = c.lines.invariant in
-    let row : Row = record { bytes = c.first_row-ended.result.0.now; ended = c.first_row-ended.result.1 } in
+    let row : TextRow = record { bytes = c.first_row-ended.result.0.now; ended = c.first_row-ended.result.1 } in
     let after = c.first_row-ended.result.2.now in
     let cut = c.first_row-ended.ensures.row in
     passes_size c.lines.reader i.0 c.args.bytes.now c.lines.line c.lines.rest.now i.1 row after cut (omega (arith, text_limit_is, row_size_is c.lines.reader i.0 c.args.bytes.now c.lines.line c.lines.rest.now i.1 row after cut))
@@ -21,24 +21,24 @@ returns-then-bytes-after-gt-TEXT_LIMIT c =
 pub returns-in-Err-Broken : goal.returns-in-Err-Broken
 returns-in-Err-Broken c =
     let i = c.lines.invariant in
-    let row : Row = record { bytes = c.first_row-ended.result.0.now; ended = c.first_row-ended.result.1 } in
+    let row : TextRow = record { bytes = c.first_row-ended.result.0.now; ended = c.first_row-ended.result.1 } in
     let after = c.first_row-ended.result.2.now in
     let cut = c.first_row-ended.ensures.row in
     let small : size_of (row ∷ i.0) ≤ text_limit = omega (arith, text_limit_is, row_size_is c.lines.reader i.0 c.args.bytes.now c.lines.line c.lines.rest.now i.1 row after cut) in
     let taken = c.in-Err-Broken.ensures.takes i.0 i.1.follows small in
-    refused_answers c.args.bytes.now c.lines.line c.in-Err-Broken.breach c.refused.result (c.refused.ensures ∙ ap (λ b. refused c.lines.line b) c.in-Err-Broken.breach-is)
+    refused_answers c.args.bytes.now c.lines.line c.in-Err-Broken.breach c.refused.result (c.refused.ensures ∙ ap (λ b. breach_error c.lines.line b) c.in-Err-Broken.breach-is)
     (breaks c.lines.reader i.0 c.args.bytes.now c.lines.line c.lines.rest.now i.1 row after cut c.in-Err-Broken.breach (broke c.in-Err-Broken.field-0 c.in-Err-Broken.breach c.row.new.self i.0 row c.in-Err-Broken.field-0-is taken))
 
 pub lines-preserved : goal.lines-preserved
 lines-preserved c =
     let i = c.lines.invariant in
-    let row : Row = record { bytes = c.first_row-ended.result.0.now; ended = c.first_row-ended.result.1 } in
+    let row : TextRow = record { bytes = c.first_row-ended.result.0.now; ended = c.first_row-ended.result.1 } in
     let after = c.first_row-ended.result.2.now in
     let cut = c.first_row-ended.ensures.row in
     let small : size_of (row ∷ i.0) ≤ text_limit = omega (arith, text_limit_is, row_size_is c.lines.reader i.0 c.args.bytes.now c.lines.line c.lines.rest.now i.1 row after cut) in
     let taken = c.in-Ok.ensures.takes i.0 i.1.follows small in (
       row ∷ i.0,
-      reads_on c.lines.reader i.0 c.args.bytes.now c.lines.line c.lines.rest.now i.1 row after cut c.row.new.self taken (c.in-Ok.ensures.drafts (rows_of after) _ _ _ (makes_cut c.lines.reader i.0 c.args.bytes.now c.lines.line c.lines.rest.now i.1 row after cut)),
+      reads_on c.lines.reader i.0 c.args.bytes.now c.lines.line c.lines.rest.now i.1 row after cut c.row.new.self taken (c.in-Ok.ensures.drafts (text_rows after) _ _ _ (makes_cut c.lines.reader i.0 c.args.bytes.now c.lines.line c.lines.rest.now i.1 row after cut)),
       omega (arith, c.first_row-ended.ensures.shorter),
       omega arith,
     )

@@ -1,24 +1,24 @@
 use Rattle.std.proofs.Common.{arith}
 use Rattle.std.proofs.lemmas.Grind.{common_steps}
 use Rattle.pth_spelling.specs.Texts.{texts}
-use Rattle.pth_script.specs.Drafts.{draft_parts, seen}
+use Rattle.pth_script.specs.Drafts.{draft_parts, seen_of_draft}
 use Rattle.pth_script.proofs.Said.{said_rule}
 use Rattle.pth_script.proofs.draft.Draft.fault.Goals as goal
 
 pub returns-then-passes_limit : goal.returns-then-passes_limit
-returns-then-passes_limit c = let e = said_rule c.args.ended (seen (draft_parts c.args.self.now)) (texts c.args.words.now) in grind (arith, common_steps)
+returns-then-passes_limit c = let e = said_rule c.args.ended (seen_of_draft (draft_parts c.args.self.now)) (texts c.args.words.now) in grind (arith, common_steps)
 
 pub returns-then-not-ended : goal.returns-then-not-ended
-returns-then-not-ended c = let e = said_rule c.args.ended (seen (draft_parts c.args.self.now)) (texts c.args.words.now) in grind (arith, common_steps)
+returns-then-not-ended c = let e = said_rule c.args.ended (seen_of_draft (draft_parts c.args.self.now)) (texts c.args.words.now) in grind (arith, common_steps)
 
 pub returns-in-Some : goal.returns-in-Some
-returns-in-Some c = let e = said_rule c.args.ended (seen (draft_parts c.args.self.now)) (texts c.args.words.now) in grind (arith, common_steps)
+returns-in-Some c = let e = said_rule c.args.ended (seen_of_draft (draft_parts c.args.self.now)) (texts c.args.words.now) in grind (arith, common_steps)
 
 pub returns-then-misnumbered : goal.returns-then-misnumbered
-returns-then-misnumbered c = let e = said_rule c.args.ended (seen (draft_parts c.args.self.now)) (texts c.args.words.now) in grind (arith, common_steps)
+returns-then-misnumbered c = let e = said_rule c.args.ended (seen_of_draft (draft_parts c.args.self.now)) (texts c.args.words.now) in grind (arith, common_steps)
 
 pub returns-then-leaves_goto : goal.returns-then-leaves_goto
-returns-then-leaves_goto c = let e = said_rule c.args.ended (seen (draft_parts c.args.self.now)) (texts c.args.words.now) in grind (arith, common_steps)
+returns-then-leaves_goto c = let e = said_rule c.args.ended (seen_of_draft (draft_parts c.args.self.now)) (texts c.args.words.now) in grind (arith, common_steps)
 
 pub returns : goal.returns
-returns c = let e = said_rule c.args.ended (seen (draft_parts c.args.self.now)) (texts c.args.words.now) in grind (arith, common_steps)
+returns c = let e = said_rule c.args.ended (seen_of_draft (draft_parts c.args.self.now)) (texts c.args.words.now) in grind (arith, common_steps)

@@ -1,6 +1,6 @@
 use Rattle.std.proofs.Common.{◌≡◌, ◌∙◌, ◌∷◌, arith, sym, refl, ap, subst, false, cond, not}
 use Rattle.std.proofs.lemmas.Grind.{common_steps}
-use Rattle.pth_script.specs.TextRows.{Row}
+use Rattle.pth_script.specs.TextRows.{TextRow}
 use Rattle.pth_script.specs.Broken.{is_first}
 use Rattle.pth_script.specs.Drafts.{draft_parts, ComesTo}
 use Rattle.pth_script.specs.Meaning.{said}
@@ -10,7 +10,7 @@ use Rattle.pth_script.proofs.reader.Reader.first.Goals as goal
 
 pub returns-then-not-ended : goal.returns-then-not-ended
 returns-then-not-ended c =
-    let row : Row = record { bytes = c.args.bytes.now; ended = c.args.ended } in
+    let row : TextRow = record { bytes = c.args.bytes.now; ended = c.args.ended } in
     record {
       takes = λ before f s.
           let e = first_row_rule before row (sym c.requires.started ∙ f.started) in
@@ -21,7 +21,7 @@ returns-then-not-ended c =
 
 pub returns-then-ne : goal.returns-then-ne
 returns-then-ne c =
-    let row : Row = record { bytes = c.args.bytes.now; ended = c.args.ended } in
+    let row : TextRow = record { bytes = c.args.bytes.now; ended = c.args.ended } in
     record {
       takes = λ before f s.
           let e = first_row_rule before row (sym c.requires.started ∙ f.started) in
@@ -32,7 +32,7 @@ returns-then-ne c =
 
 pub returns : goal.returns
 returns c =
-    let row : Row = record { bytes = c.args.bytes.now; ended = c.args.ended } in
+    let row : TextRow = record { bytes = c.args.bytes.now; ended = c.args.ended } in
     record {
       takes = λ before f s.
           let first : false ≡ not (is_first before) = sym c.requires.started ∙ f.started in

@@ -1,7 +1,7 @@
 use Rattle.std.proofs.Common.{◌≡◌, ◌∙◌, ◌∷◌, arith, sym, ap, subst, true, cond, not}
 use Rattle.std.specs.Prelude.{drop}
 use Rattle.std.proofs.lemmas.Grind.{common_steps}
-use Rattle.pth_script.specs.TextRows.{Row, is_comment}
+use Rattle.pth_script.specs.TextRows.{TextRow, is_comment}
 use Rattle.pth_script.specs.Broken.{is_first}
 use Rattle.pth_script.specs.Drafts.{draft_parts, ComesTo}
 use Rattle.pth_script.specs.Meaning.{said}
@@ -12,7 +12,7 @@ use Rattle.pth_script.proofs.reader.Reader.row.Goals as goal
 
 pub returns-then-bytes-gt-LINE_LIMIT : goal.returns-then-bytes-gt-LINE_LIMIT
 returns-then-bytes-gt-LINE_LIMIT c =
-    let row : Row = record { bytes = c.args.bytes.now; ended = c.args.ended } in
+    let row : TextRow = record { bytes = c.args.bytes.now; ended = c.args.ended } in
     record {
       takes = λ before f s. long_row before row (too_long before row (omega (arith, line_limit_is)));
       drafts = tt;
@@ -26,7 +26,7 @@ said-requires-clause-short c = omega (arith, line_limit_is)
 
 pub returns-then-not-ended : goal.returns-then-not-ended
 returns-then-not-ended c =
-    let row : Row = record { bytes = c.args.bytes.now; ended = c.args.ended } in
+    let row : TextRow = record { bytes = c.args.bytes.now; ended = c.args.ended } in
     record {
       takes = λ before f s.
           let later : true ≡ not (is_first before) = sym c.if-not-self.false ∙ f.started in
@@ -39,7 +39,7 @@ returns-then-not-ended c =
 
 pub returns-then-is_comment : goal.returns-then-is_comment
 returns-then-is_comment c =
-    let row : Row = record { bytes = c.args.bytes.now; ended = c.args.ended } in
+    let row : TextRow = record { bytes = c.args.bytes.now; ended = c.args.ended } in
     let comment : is_comment c.args.bytes.now ≡ true = sym c.is_comment.ensures ∙ c.if-is_comment.true in
     record {
       takes = λ before f s.

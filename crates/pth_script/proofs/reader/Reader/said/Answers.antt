@@ -5,11 +5,11 @@ use Rattle.pth_text.specs.LineWords.{words_of}
 use Rattle.pth_spelling.specs.Texts.{texts}
 use Rattle.pth_spelling.specs.Keywords.{begins}
 use Rattle.pth_grammar.specs.LineMeanings.{numbered}
-use Rattle.pth_script.specs.TextRows.{Row, above}
+use Rattle.pth_script.specs.TextRows.{TextRow, above}
 use Rattle.pth_script.specs.Broken.{is_first, said_breaks}
-use Rattle.pth_script.specs.Drafts.{draft_parts, seen, ComesTo}
+use Rattle.pth_script.specs.Drafts.{draft_parts, seen_of_draft, ComesTo}
 use Rattle.pth_script.specs.Meaning.{said}
-use Rattle.pth_script.specs.Seen.{seen_of, past}
+use Rattle.pth_script.specs.Seen.{seen_of, seen_past}
 use Rattle.pth_script.specs.RuleOrder.{first_broken}
 use Rattle.pth_script.proofs.Above.{seen_more}
 use Rattle.pth_script.proofs.RowRules.{said_row_rule, above_said, not_long}
@@ -18,7 +18,7 @@ use Rattle.pth_script.proofs.reader.Reader.said.Goals as goal
 
 pub returns-in-Some : goal.returns-in-Some
 returns-in-Some c =
-    let row : Row = record { bytes = c.args.bytes.now; ended = c.args.ended } in
+    let row : TextRow = record { bytes = c.args.bytes.now; ended = c.args.ended } in
     let w : texts c.as_slice-words.result.now ≡ words_of c.args.bytes.now = ap texts c.as_slice-words.ensures.value ∙ c.in_ok-words.ensures in
     record {
       takes = λ before f s.
@@ -32,13 +32,13 @@ take-requires-clause-fine c =
     let ws = texts c.as_slice-words.result.now in
     let d = draft_parts c.args.self.now.draft in
     let h = sym c.fault.ensures ∙ c.in_default.is in
-    let cut = (fine_line c.args.ended (seen d) ws h).cut in
+    let cut = (fine_line c.args.ended (seen_of_draft d) ws h).cut in
     let ended : c.args.ended ≡ true = grind (arith, common_steps) in
-    ap (λ b. first_broken (said_breaks b (seen d) ws)) (sym ended) ∙ h
+    ap (λ b. first_broken (said_breaks b (seen_of_draft d) ws)) (sym ended) ∙ h
 
 pub returns : goal.returns
 returns c =
-    let row : Row = record { bytes = c.args.bytes.now; ended = c.args.ended } in
+    let row : TextRow = record { bytes = c.args.bytes.now; ended = c.args.ended } in
     let w : texts c.as_slice-words.result.now ≡ words_of c.args.bytes.now = ap texts c.as_slice-words.ensures.value ∙ c.in_ok-words.ensures in
     let ws = texts c.as_slice-words.result.now in
     let t = c.in_ok-take.ensures in
@@ -48,7 +48,7 @@ returns c =
             said_row_rule before row later c.requires.said (not_long before row s c.requires.short) ∙ sym (λ i. first_broken (said_breaks c.args.ended (f.seen i) (w i))) ∙ sym c.fault.ensures ∙ c.in_default.is,
             record {
               started = c.requires.started;
-              seen = t.seen ∙ (λ i. past (begins (w i)) (numbered (w i)) (f.seen i)) ∙ sym (seen_more (words_of c.args.bytes.now) (above before)) ∙ ap seen_of (sym (above_said before row later c.requires.said));
+              seen = t.seen ∙ (λ i. seen_past (begins (w i)) (numbered (w i)) (f.seen i)) ∙ sym (seen_more (words_of c.args.bytes.now) (above before)) ∙ ap seen_of (sym (above_said before row later c.requires.said));
               kept = t.kept;
             },
           );
