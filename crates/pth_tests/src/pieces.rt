@@ -1,5 +1,6 @@
 ghost use Rattle.std.specs.Prelude.{◌≡◌, ◌≤◌, ◌+◌, IfOk};
 
+use crate::comparison::same_bytes;
 use crate::playing::{SCRIPT, TRANSCRIPT};
 use pth_base::program::Program;
 use pth_line::script::Script;
@@ -9,13 +10,14 @@ use pth_script::read::read;
 use pth_streams::sink::SureSink;
 use pth_words::choice::Choice;
 use std::alloc::Global;
+use std::process::Abort;
 use std::test::Fail;
 
 const TWO_STEPS: &str =
     "turn 1 at 0 t1 rank 0\nt1 spawn 1 9 0 = 2\nt1 yield 0 = 1\nturn 2 at 1 t2 rank 1\nstep limit 2\n";
 
 /// How many steps are made, how many between two writes, and what is written.
-static PIECES: [(u64, u64, &str); 7] = [
+const PIECES: [(u64, u64, &str); 7] = [
     (1000, 1, TRANSCRIPT),
     (1000, 2, TRANSCRIPT),
     (1000, 3, TRANSCRIPT),
@@ -33,42 +35,49 @@ pub fn machine(alloc: Global) -> Result<Machine<Script>, Fail>
     Ok(Machine::new(alloc, script)?)
 }
 
-/// Makes so many steps, and so many between two writes.
+/// Makes as many steps as the choice asks for, and so many between two writes.
 fn drive_on<P: Program>(
     alloc: Global,
     machine: &mut Machine<P>,
+    choice: &Choice<'_>,
+    piece: u64,
+    out: &mut SureSink,
+) -> bool
+    requires few { machine.old.turn.steps + choice.now.steps ≤ 1000000000 }
+    requires nonzero { 1 ≤ piece }
+{
+    drive(alloc, machine, choice, piece, out).is_ok()
+}
+
+/// Runs the script to so many steps.
+fn run_to(
+    rt: &impl Abort,
+    alloc: Global,
     steps: u64,
     piece: u64,
     out: &mut SureSink,
-) -> Result<(), Fail>
-    requires few { machine.old.turn.steps + steps ≤ 1000000000 }
-    requires nonzero { 1 ≤ piece }
-{
+) -> Result<(), Fail> {
+    assert!(rt; steps <= 1000 && piece > 0);
+    let mut machine = machine(alloc)?;
     let choice = Choice {
         steps,
         summary: false,
         file: None,
     };
-    drive(alloc, machine, &choice, piece, out)?;
+    assert!(rt; drive_on(alloc, &mut machine, &choice, piece, out));
     Ok(())
 }
 
-/// Runs the script to so many steps.
-fn run_to(alloc: Global, steps: u64, piece: u64, out: &mut SureSink) -> Result<(), Fail>
-    requires few { steps ≤ 1000 }
-    requires nonzero { 1 ≤ piece }
-{
-    let mut machine = machine(alloc)?;
-    drive_on(alloc, &mut machine, steps, piece, out)
+fn write_alike(rt: &impl Abort, alloc: Global, rows: &[(u64, u64, &str)]) -> Result<(), Fail> {
+    for (steps, piece, written) in rows {
+        let mut out = SureSink::new(alloc);
+        run_to(rt, alloc, *steps, *piece, &mut out)?;
+        same_bytes(rt, out.as_slice(), written);
+    }
+    Ok(())
 }
 
 #[test]
 fn pieces_make_one_transcript(rt: HostRuntime) -> Result<(), Fail> {
-    for (steps, piece, written) in PIECES {
-        assert!(rt; steps <= 1000 && piece > 0);
-        let mut out = SureSink::new(rt.alloc());
-        run_to(rt.alloc(), steps, piece, &mut out)?;
-        assert_eq!(rt; out.as_slice(), written.as_bytes());
-    }
-    Ok(())
+    write_alike(&rt, rt.alloc(), &PIECES)
 }

@@ -1,4 +1,4 @@
-//! `play` over objects that fail.
+//! `play` over objects that fail, as cases.
 
 use pth_player::play;
 use pth_streams::files::MemoryFiles;
@@ -15,11 +15,36 @@ pub const SCRIPT: &str =
 pub const TRANSCRIPT: &str =
     "turn 1 at 0 t1 rank 0\nt1 spawn 1 9 0 = 2\nt1 yield 0 = 1\nturn 2 at 1 t2 rank 1\nt2 ends 9\nturn 3 at 2 t1 rank 1\nt1 ends 0\nended 0\n";
 
-/// The room of a sink that has enough of it.
-pub const AMPLE: usize = 1000;
+/// What the file `y.pth` holds.
+const FILE: &str = "pth 1\nthread 0\nexit 7\nend\n";
+
+/// What the program is played on.
+#[derive(Clone, Copy)]
+pub struct Case<'a> {
+    /// Words, each behind a `|`.
+    pub line: &'a str,
+    /// What the input holds.
+    pub text: &'a str,
+    /// The calls at which the input and the file `y.pth` fail, 0 for none.
+    pub input_fails: u64,
+    pub file_fails: u64,
+    /// How many bytes the output and the error output take.
+    pub room: usize,
+    pub error_room: usize,
+}
+
+/// A case in which nothing fails.
+pub const PLAIN: Case<'static> = Case {
+    line: "",
+    text: SCRIPT,
+    input_fails: 0,
+    file_fails: 0,
+    room: 1000,
+    error_room: 1000,
+};
 
 /// The words of a line, where each stands behind a `|`.
-pub fn words_of(alloc: Global, line: &str) -> Result<Vec<String>, AllocError> {
+fn words_of(alloc: Global, line: &str) -> Result<Vec<String>, AllocError> {
     let mut words = Vec::new(alloc);
     for word in line.split('|').skip(1) {
         words.push(String::from_str(alloc, word)?)?;
@@ -34,30 +59,23 @@ fn told(alloc: Global, out: &MemorySink, status: u8, err: &MemorySink) -> Result
     Ok(format!(in alloc; "{written}status {status}\n{error}")?)
 }
 
-/// Plays, with so much room in the output and in the error output.
-pub fn played(
+fn played_on(
     alloc: Global,
     words: &Vec<String>,
     input: &mut MemorySource,
     files: &mut MemoryFiles,
-    (room, error_room): (usize, usize),
+    case: &Case<'_>,
 ) -> Result<String, Fail> {
-    let mut out = MemorySink::new(alloc, room)?;
-    let mut err = MemorySink::new(alloc, error_room)?;
+    let mut out = MemorySink::new(alloc, case.room)?;
+    let mut err = MemorySink::new(alloc, case.error_room)?;
     let status = play(alloc, words, input, files, &mut out, &mut err);
     told(alloc, &out, status, &err)
 }
 
-/// Plays an input that fails at one of its calls, under words that name no file.
-pub fn played_input(
-    alloc: Global,
-    line: &str,
-    text: &str,
-    fails: u64,
-    rooms: (usize, usize),
-) -> Result<String, Fail> {
-    let words = words_of(alloc, line)?;
-    let mut input = MemorySource::new(alloc, text.as_bytes(), &[fails])?;
-    let mut files = MemoryFiles::new(alloc, "", b"", &[])?;
-    played(alloc, &words, &mut input, &mut files, rooms)
+/// Plays a case.
+pub fn played(alloc: Global, case: &Case<'_>) -> Result<String, Fail> {
+    let words = words_of(alloc, case.line)?;
+    let mut input = MemorySource::new(alloc, case.text.as_bytes(), &[case.input_fails])?;
+    let mut files = MemoryFiles::new(alloc, "y.pth", FILE.as_bytes(), &[case.file_fails])?;
+    played_on(alloc, &words, &mut input, &mut files, case)
 }

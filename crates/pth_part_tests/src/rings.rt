@@ -1,14 +1,15 @@
 ghost use Rattle.std.specs.Prelude.{◌≡◌, ◌≤◌, IsTrue};
-ghost use Rattle.pth_ring.specs.Rings.{is_live};
+ghost use Rattle.pth_ring.specs.Rings.{is_event};
 ghost use Rattle.pth_ring.specs.Arena.{events_of};
 
+use crate::codes::{code, done, made};
+use crate::comparison::same_numbers;
 use pth_base::errno::Errno;
 use pth_base::event::EventSpec;
 use pth_base::ids::{EventId, Tid};
-use pth_base::refusal::Refusal;
 use pth_ring::rings::{Rings, Status};
+use std::alloc::Global;
 use std::process::Abort;
-use std::test::Fail;
 
 /// Rings, with a count of the events that were asked for.
 #[derive(Drop)]
@@ -27,6 +28,7 @@ enum Change {
     Claim(i64, u32),
     Unclaim(u32),
     UnclaimAt(i64),
+    UnclaimAll,
     Mark(u32, Status),
     MarkAt(i64, Status),
     LookNext(u32, u64),
@@ -43,19 +45,26 @@ enum Question {
     Occurred(u32),
     Next(u32),
     PortAfter(i64),
+    StatusAt(i64),
+    /// The event to which so many steps lead.
+    Walked(i64, u32),
 }
 
 #[derive(Clone, Copy)]
 enum Step {
     Make(i64),
     Chain(i64, i64),
+    /// So many events are chained to one, of which the last answers.
+    Fill(i64, u32),
     Change(Change),
     Ask(Question),
 }
 
-use Change::{Claim, Concat, Free, Isolate, LookNext, Mark, MarkAt, Unclaim, UnclaimAt};
-use Question::{Kind, Next, NextLook, Occurred, Port, PortAfter, Walk};
-use Step::{Ask, Chain, Make};
+use Change::{
+    Claim, Concat, Free, Isolate, LookNext, Mark, MarkAt, Unclaim, UnclaimAll, UnclaimAt,
+};
+use Question::{Kind, Next, NextLook, Occurred, Port, PortAfter, StatusAt, Walk, Walked};
+use Step::{Ask, Chain, Fill, Make};
 
 /// Steps with their answers: a number, 0 for what is done or none, and an error's number below 0.
 const ROWS: [(Step, i64); 41] = [
@@ -102,26 +111,9 @@ const ROWS: [(Step, i64); 41] = [
     (Make(13), 6),
 ];
 
-fn code(errno: Errno) -> i64 {
-    match errno {
-        Errno::ENOENT => -2,
-        Errno::EAGAIN => -11,
-        Errno::EBUSY => -16,
-        Errno::EINVAL => -22,
-        _ => -1,
-    }
-}
-
 fn number(answer: Result<EventId, Errno>) -> i64 {
     match answer {
         Ok(e) => i64::from(e.0),
-        Err(errno) => code(errno),
-    }
-}
-
-fn done(answer: Result<(), Errno>) -> i64 {
-    match answer {
-        Ok(()) => 0,
         Err(errno) => code(errno),
     }
 }
@@ -133,26 +125,26 @@ fn port(spec: &EventSpec) -> i64 {
     }
 }
 
-fn make(rt: &impl Abort, asked: &mut Asked, port: i64) -> Result<EventId, Refusal> {
+fn make(rt: &impl Abort, asked: &mut Asked, port: i64) -> i64 {
     assert!(rt; asked.count < 10_000);
     let answer = asked.rings.make(EventSpec::Msg(port));
     asked.count += 1;
-    answer
+    made(answer)
 }
 
-fn chain(rt: &impl Abort, asked: &mut Asked, port: i64, e: i64) -> Result<EventId, Refusal> {
+fn chain(rt: &impl Abort, asked: &mut Asked, port: i64, e: i64) -> i64 {
     assert!(rt; asked.count < 10_000);
     let answer = asked.rings.chain(EventSpec::Msg(port), e);
     asked.count += 1;
-    answer
+    made(answer)
 }
 
-fn made(answer: Result<EventId, Refusal>) -> i64 {
-    match answer {
-        Ok(e) => i64::from(e.0),
-        Err(Refusal::Fail(errno)) => code(errno),
-        Err(Refusal::OutOfMemory) => -12,
+fn fill(rt: &impl Abort, asked: &mut Asked, e: i64, times: u32) -> i64 {
+    let mut last = 0;
+    for _ in 0..times {
+        last = chain(rt, asked, 1, e);
     }
+    last
 }
 
 fn mark(rings: &mut Rings, e: u32, status: Status)
@@ -203,6 +195,7 @@ fn do_change(rings: &mut Rings, change: Change) -> i64
     match change {
         Unclaim(t) => rings.unclaim(Tid(t)),
         UnclaimAt(e) => rings.unclaim_at(e),
+        UnclaimAll => rings.unclaim_all(),
         Mark(e, status) => mark(rings, e, status),
         MarkAt(e, status) => mark_at(rings, e, status),
         LookNext(e, at) => look_next(rings, e, at),
@@ -213,7 +206,7 @@ fn do_change(rings: &mut Rings, change: Change) -> i64
 
 /// The answer about an event that is there.
 fn about(rings: &Rings, question: Question, e: EventId) -> i64
-    requires { IsTrue (is_live (events_of rings.now) e.0) }
+    requires { IsTrue (is_event (events_of rings.now) e.0) }
 {
     match question {
         Port(_) => port(rings.spec(e)),
@@ -232,6 +225,22 @@ fn port_after(rings: &Rings, e: i64) -> i64 {
     }
 }
 
+/// What was found of an event, by its place.
+fn status_at(rings: &Rings, e: i64) -> i64 {
+    match rings.find(e) {
+        Some(place) => rings.status_at(place) as i64,
+        None => -22,
+    }
+}
+
+fn walked(rings: &Rings, from: i64, steps: u32) -> i64 {
+    let mut at = from;
+    for _ in 0..steps {
+        at = number(rings.walk(at, true, false));
+    }
+    at
+}
+
 /// The answer to any question.
 fn ask(rings: &Rings, question: Question) -> i64 {
     match question {
@@ -245,6 +254,8 @@ fn ask(rings: &Rings, question: Question) -> i64 {
             Err(errno) => code(errno),
         },
         PortAfter(e) => port_after(rings, e),
+        StatusAt(e) => status_at(rings, e),
+        Walked(e, steps) => walked(rings, e, steps),
         Port(e) => ask_about(rings, question, e),
         NextLook(e) => ask_about(rings, question, e),
         Occurred(e) => ask_about(rings, question, e),
@@ -261,80 +272,75 @@ fn ask_about(rings: &Rings, question: Question, e: u32) -> i64 {
 
 fn make_step(rt: &impl Abort, asked: &mut Asked, step: Step) -> i64 {
     match step {
-        Make(port) => made(make(rt, asked, port)),
-        Chain(port, e) => made(chain(rt, asked, port, e)),
+        Make(port) => make(rt, asked, port),
+        Chain(port, e) => chain(rt, asked, port, e),
+        Fill(e, times) => fill(rt, asked, e, times),
         Step::Change(change) => do_change(&mut asked.rings, change),
         Ask(question) => ask(&asked.rings, question),
     }
 }
 
-#[test]
-fn rings_are_chained_joined_claimed_parted_and_freed(rt: HostRuntime) -> Result<(), Fail> {
+/// Makes steps from no events on, and compares their answers.
+fn have_answers(rt: &impl Abort, alloc: Global, rows: &[(Step, i64)]) {
     let mut asked = Asked {
-        rings: Rings::new(rt.alloc()),
+        rings: Rings::new(alloc),
         count: 0,
     };
-    for (step, wanted) in ROWS {
-        let answer = make_step(&rt, &mut asked, step);
-        assert_eq!(rt; answer, wanted);
+    for (step, wanted) in rows {
+        let answer = make_step(rt, &mut asked, *step);
+        same_numbers(rt, &[answer], &[*wanted]);
     }
-    Ok(())
-}
-
-/// Chains events before the first until there are as many as there may be.
-fn fill(rt: &impl Abort, asked: &mut Asked) -> i64 {
-    let mut last = made(make(rt, asked, 1));
-    for _ in 1..4096 {
-        last = made(chain(rt, asked, 1, 1));
-    }
-    last
-}
-
-/// The event to which so many steps lead.
-fn walked(rings: &Rings, from: i64, steps: u32) -> i64 {
-    let mut at = from;
-    for _ in 0..steps {
-        at = number(rings.walk(at, true, false));
-    }
-    at
 }
 
 #[test]
-fn a_ring_of_all_events_is_claimed_walked_and_freed(rt: HostRuntime) -> Result<(), Fail> {
-    let mut asked = Asked {
-        rings: Rings::new(rt.alloc()),
-        count: 0,
-    };
-    let filled = (fill(&rt, &mut asked), made(make(&rt, &mut asked, 2)));
-    let refused = (
-        made(chain(&rt, &mut asked, 2, 1)),
-        made(chain(&rt, &mut asked, 2, -1)),
-    );
-    let claimed = (
-        done(asked.rings.claim(9, Tid(5), 0)),
-        number(asked.rings.walk(1, true, true)),
-        walked(&asked.rings, 1, 4096),
-    );
-    mark(&mut asked.rings, 4096, Status::Occurred);
-    let found = (
-        number(asked.rings.walk(1, true, true)),
-        done(asked.rings.free(1, true)),
-    );
-    asked.rings.unclaim_at(9);
-    let freed = (
-        done(asked.rings.free(1, true)),
-        number(asked.rings.walk(4096, true, false)),
-        made(make(&rt, &mut asked, 3)),
-    );
-    assert_eq!(rt;
-        (filled, refused, claimed, found, freed),
-        (
-            (4096, -11),
-            (-11, -22),
-            (0, -2, 1),
-            (4096, -16),
-            (0, -22, 4097)
-        )
-    );
-    Ok(())
+fn rings_are_chained_joined_claimed_parted_and_freed(rt: HostRuntime) {
+    have_answers(&rt, rt.alloc(), &ROWS);
+}
+
+/// Steps on two claimed rings, with their answers.
+const CLAIMED: [(Step, i64); 14] = [
+    (Make(7), 1),
+    (Chain(8, 1), 2),
+    (Make(9), 3),
+    (Step::Change(Claim(2, 5)), 0),
+    (Step::Change(Claim(3, 6)), 0),
+    (Step::Change(MarkAt(2, Status::Failed)), 0),
+    (Ask(StatusAt(1)), 0),
+    (Ask(StatusAt(2)), 2),
+    (Ask(StatusAt(4)), -22),
+    (Step::Change(Isolate(1)), -16),
+    (Step::Change(UnclaimAll), 0),
+    (Ask(StatusAt(2)), 2),
+    (Step::Change(Isolate(1)), 2),
+    (Step::Change(Free(3, true)), 0),
+];
+
+#[test]
+fn all_claims_go_at_once(rt: HostRuntime) {
+    have_answers(&rt, rt.alloc(), &CLAIMED);
+}
+
+/// Steps on a ring of as many events as there may be, with their answers.
+const FULL: [(Step, i64); 16] = [
+    (Make(1), 1),
+    (Fill(1, 4095), 4096),
+    (Make(2), -11),
+    (Chain(2, 1), -11),
+    (Chain(2, -1), -22),
+    (Step::Change(Claim(9, 5)), 0),
+    (Ask(Walk(1, true, true)), -2),
+    (Ask(Walked(1, 4096)), 1),
+    (Step::Change(Mark(4096, Status::Occurred)), 0),
+    (Ask(Walk(1, true, true)), 4096),
+    (Step::Change(Free(1, true)), -16),
+    (Step::Change(UnclaimAt(9)), 0),
+    (Step::Change(Free(1, true)), 0),
+    (Ask(Walk(4096, true, false)), -22),
+    (Ask(Question::Status(1)), -22),
+    (Make(3), 4097),
+];
+
+#[test]
+fn a_ring_of_all_events_is_claimed_walked_and_freed(rt: HostRuntime) {
+    have_answers(&rt, rt.alloc(), &FULL);
 }

@@ -1,5 +1,6 @@
 //! Lines that no run prints.
 
+use crate::comparison::{has_line, name_of, same_bytes};
 use pth_base::act::Act;
 use pth_base::answer::Answer;
 use pth_base::bytes::Bytes;
@@ -8,7 +9,7 @@ use pth_base::errno::Errno;
 use pth_base::event::EvLine;
 use pth_base::ids::{FdSet, HandlerId, MsgId, Tid};
 use pth_base::mark::Mark;
-use pth_base::name::Name;
+use pth_base::memory::OutOfMemory;
 use pth_base::outcome::Outcome;
 use pth_base::thread::ThreadState;
 use pth_print::end_line::end_line;
@@ -212,56 +213,58 @@ const CALLS: [(Mark, &str); 6] = [
     ),
 ];
 
-fn line_of(alloc: Global, mark: &Mark, audit: bool) -> Result<Text, Fail> {
+fn line_of(alloc: Global, mark: &Mark, audit: bool) -> Result<Text, OutOfMemory> {
     let mut text = Text::new(alloc);
     mark_line(mark, audit, &mut text)?;
     Ok(text)
 }
 
 /// Compares the lines of marks.
-fn have_lines(rt: &impl Abort, alloc: Global, rows: &[(Mark, &str)]) -> Result<(), Fail> {
+fn have_lines(rt: &impl Abort, alloc: Global, rows: &[(Mark, &str)]) -> Result<(), OutOfMemory> {
     for (mark, line) in rows {
         let text = line_of(alloc, mark, false)?;
-        assert_eq!(rt; text.as_slice(), line.as_bytes(), "{line}");
+        same_bytes(rt, text.as_slice(), line);
     }
     Ok(())
 }
 
 #[test]
 fn marks_are_lines(rt: HostRuntime) -> Result<(), Fail> {
-    have_lines(&rt, rt.alloc(), &MARKS)
+    have_lines(&rt, rt.alloc(), &MARKS)?;
+    Ok(())
 }
 
 #[test]
 fn acts_are_lines(rt: HostRuntime) -> Result<(), Fail> {
-    have_lines(&rt, rt.alloc(), &ACTS)
+    have_lines(&rt, rt.alloc(), &ACTS)?;
+    Ok(())
 }
 
 #[test]
 fn calls_without_a_spelling_are_lines(rt: HostRuntime) -> Result<(), Fail> {
-    have_lines(&rt, rt.alloc(), &CALLS)
+    have_lines(&rt, rt.alloc(), &CALLS)?;
+    Ok(())
 }
+
+const DISPATCH: Mark = Mark::Dispatch {
+    turn: 8,
+    at: 91,
+    tid: Tid(1),
+    rank: 5,
+    waited: 1,
+    allowed: 18446744073709551615,
+};
 
 #[test]
 fn an_audit_tells_how_long_was_waited(rt: HostRuntime) -> Result<(), Fail> {
-    let mark = Mark::Dispatch {
-        turn: 8,
-        at: 91,
-        tid: Tid(1),
-        rank: 5,
-        waited: 1,
-        allowed: 18446744073709551615,
-    };
-    let text = line_of(rt.alloc(), &mark, true)?;
-    assert_eq!(rt;
-        text.as_slice(),
-        b"turn 8 at 91 t1 rank 5 waited 1 allowed 18446744073709551615\n".as_slice()
-    );
+    let text = line_of(rt.alloc(), &DISPATCH, true)?;
+    let wanted = "turn 8 at 91 t1 rank 5 waited 1 allowed 18446744073709551615\n";
+    same_bytes(&rt, text.as_slice(), wanted);
     Ok(())
 }
 
 const ANSWERS: [(Answer, &str); 18] = [
-    (Answer::None, "none"),
+    (Answer::None, "t1 self = none\n"),
     (
         Answer::Sets {
             count: 0,
@@ -269,7 +272,7 @@ const ANSWERS: [(Answer, &str); 18] = [
             w: FdSet(0),
             x: FdSet(0),
         },
-        "0 sets - - -",
+        "t1 self = 0 sets - - -\n",
     ),
     (
         Answer::Sets {
@@ -278,75 +281,86 @@ const ANSWERS: [(Answer, &str); 18] = [
             w: FdSet(2),
             x: FdSet(16),
         },
-        "4 sets 0,63 1 4",
+        "t1 self = 4 sets 0,63 1 4\n",
     ),
     (
         Answer::Msg {
             id: MsgId(3),
             value: -4,
         },
-        "msg 3 value -4",
+        "t1 self = msg 3 value -4\n",
     ),
     (
         Answer::Msg {
             id: MsgId(18446744073709551615),
             value: 0,
         },
-        "msg 18446744073709551615 value 0",
+        "t1 self = msg 18446744073709551615 value 0\n",
     ),
-    (Answer::Fail(Errno::EPERM), "EPERM"),
-    (Answer::Fail(Errno::ENOENT), "ENOENT"),
-    (Answer::Fail(Errno::ESRCH), "ESRCH"),
-    (Answer::Fail(Errno::EINTR), "EINTR"),
-    (Answer::Fail(Errno::EIO), "EIO"),
-    (Answer::Fail(Errno::EBADF), "EBADF"),
-    (Answer::Fail(Errno::EAGAIN), "EAGAIN"),
-    (Answer::Fail(Errno::EACCES), "EACCES"),
-    (Answer::Fail(Errno::EBUSY), "EBUSY"),
-    (Answer::Fail(Errno::EEXIST), "EEXIST"),
-    (Answer::Fail(Errno::EINVAL), "EINVAL"),
-    (Answer::Fail(Errno::EDEADLK), "EDEADLK"),
-    (Answer::Fail(Errno::ECONNREFUSED), "ECONNREFUSED"),
+    (Answer::Fail(Errno::EPERM), "t1 self = EPERM\n"),
+    (Answer::Fail(Errno::ENOENT), "t1 self = ENOENT\n"),
+    (Answer::Fail(Errno::ESRCH), "t1 self = ESRCH\n"),
+    (Answer::Fail(Errno::EINTR), "t1 self = EINTR\n"),
+    (Answer::Fail(Errno::EIO), "t1 self = EIO\n"),
+    (Answer::Fail(Errno::EBADF), "t1 self = EBADF\n"),
+    (Answer::Fail(Errno::EAGAIN), "t1 self = EAGAIN\n"),
+    (Answer::Fail(Errno::EACCES), "t1 self = EACCES\n"),
+    (Answer::Fail(Errno::EBUSY), "t1 self = EBUSY\n"),
+    (Answer::Fail(Errno::EEXIST), "t1 self = EEXIST\n"),
+    (Answer::Fail(Errno::EINVAL), "t1 self = EINVAL\n"),
+    (Answer::Fail(Errno::EDEADLK), "t1 self = EDEADLK\n"),
+    (
+        Answer::Fail(Errno::ECONNREFUSED),
+        "t1 self = ECONNREFUSED\n",
+    ),
 ];
 
-/// The line of a call that has an answer.
-fn answer_line(alloc: Global, answer: Answer) -> Result<Text, Fail> {
+/// Compares the line of a call that has an answer.
+fn is_answered(
+    rt: &impl Abort,
+    alloc: Global,
+    answer: Answer,
+    line: &str,
+) -> Result<(), OutOfMemory> {
     let mark = Mark::Answered {
         tid: Tid(1),
         call: Call::SelfTid,
         answer,
     };
-    line_of(alloc, &mark, false)
+    has_line(rt, alloc, mark, line)
+}
+
+fn are_answered(
+    rt: &impl Abort,
+    alloc: Global,
+    rows: &[(Answer, &str)],
+) -> Result<(), OutOfMemory> {
+    for (answer, line) in rows {
+        is_answered(rt, alloc, answer.copy()?, line)?;
+    }
+    Ok(())
 }
 
 #[test]
 fn answers_are_words(rt: HostRuntime) -> Result<(), Fail> {
-    for (answer, words) in &ANSWERS {
-        let text = answer_line(rt.alloc(), answer.copy()?)?;
-        let line = format!(in rt.alloc(); "t1 self = {words}\n")?;
-        assert_eq!(rt; text.as_slice(), line.as_bytes());
-    }
+    are_answered(&rt, rt.alloc(), &ANSWERS)?;
     Ok(())
 }
 
 #[test]
 fn bytes_are_words(rt: HostRuntime) -> Result<(), Fail> {
     let bytes = Bytes::from_slice(rt.alloc(), b"\x00\n\x7f\x80\xff")?;
-    let text = answer_line(rt.alloc(), Answer::Bytes(bytes))?;
-    assert_eq!(rt; text.as_slice(), b"t1 self = hex:000a7f80ff\n".as_slice());
+    let line = "t1 self = hex:000a7f80ff\n";
+    is_answered(&rt, rt.alloc(), Answer::Bytes(bytes), line)?;
     Ok(())
 }
 
 #[test]
 fn names_are_words(rt: HostRuntime) -> Result<(), Fail> {
     // of 40 bytes
-    let name = "a23456789.b23456789.c23456789.d23456789_";
-    assert!(rt; name.is_ascii());
-    let text = answer_line(rt.alloc(), Answer::Text(Name::cut(name)))?;
-    assert_eq!(rt;
-        text.as_slice(),
-        b"t1 self = a23456789.b23456789.c23456789.d23456789_\n".as_slice()
-    );
+    let name = name_of(&rt, "a23456789.b23456789.c23456789.d23456789_");
+    let line = "t1 self = a23456789.b23456789.c23456789.d23456789_\n";
+    is_answered(&rt, rt.alloc(), Answer::Text(name), line)?;
     Ok(())
 }
 
@@ -366,14 +380,23 @@ static OUTCOMES: [(Outcome, &[Tid], &str); 5] = [
     ),
 ];
 
+fn have_end_lines(
+    rt: &impl Abort,
+    alloc: Global,
+    rows: &[(Outcome, &[Tid], &str)],
+) -> Result<(), OutOfMemory> {
+    for (outcome, live, line) in rows {
+        assert!(rt; !matches!(*outcome, Outcome::OutOfMemory));
+        let mut text = Text::new(alloc);
+        end_line(outcome, u64::MAX, live, &mut text)?;
+        same_bytes(rt, text.as_slice(), line);
+    }
+    Ok(())
+}
+
 #[test]
 fn outcomes_are_lines(rt: HostRuntime) -> Result<(), Fail> {
-    for (outcome, live, line) in OUTCOMES {
-        assert!(rt; !matches!(outcome, Outcome::OutOfMemory));
-        let mut text = Text::new(rt.alloc());
-        end_line(&outcome, u64::MAX, live, &mut text)?;
-        assert_eq!(rt; text.as_slice(), line.as_bytes(), "{line}");
-    }
+    have_end_lines(&rt, rt.alloc(), &OUTCOMES)?;
     Ok(())
 }
 
@@ -381,41 +404,46 @@ fn outcomes_are_lines(rt: HostRuntime) -> Result<(), Fail> {
 fn counts_are_a_line(rt: HostRuntime) -> Result<(), Fail> {
     let mut text = Text::new(rt.alloc());
     summary_line(u64::MAX, 2, 3, u64::MAX - 1, &mut text)?;
-    assert_eq!(rt;
-        text.as_slice(),
-        b"summary threads 18446744073709551615 turns 2 steps 3 time 18446744073709551614\n".as_slice()
-    );
+    let wanted = "summary threads 18446744073709551615 turns 2 steps 3 time 18446744073709551614\n";
+    same_bytes(&rt, text.as_slice(), wanted);
     Ok(())
 }
 
+/// Rules that no script breaks yet, told of the last line that there may be.
 static RULES: [(Rule, &str); 2] = [
     (Rule::Time, "pth_play: line 4294967295: time\n"),
     (Rule::Fd, "pth_play: line 4294967295: fd\n"),
 ];
 
-#[test]
-fn rules_without_a_script_are_named(rt: HostRuntime) -> Result<(), Fail> {
-    for (rule, told) in RULES {
-        let mut text = Text::new(rt.alloc());
-        fault_line(
-            &Fault::Input {
-                line: 4294967295,
-                breach: Breach::Of(rule),
-            },
-            &mut text,
-        )?;
-        assert_eq!(rt; text.as_slice(), told.as_bytes());
+/// Compares the line of a fault.
+fn is_told(rt: &impl Abort, alloc: Global, fault: &Fault, line: &str) -> Result<(), OutOfMemory> {
+    let mut text = Text::new(alloc);
+    fault_line(fault, &mut text)?;
+    same_bytes(rt, text.as_slice(), line);
+    Ok(())
+}
+
+fn are_told(rt: &impl Abort, alloc: Global, rows: &[(Rule, &str)]) -> Result<(), OutOfMemory> {
+    for (rule, told) in rows {
+        let fault = Fault::Input {
+            line: 4294967295,
+            breach: Breach::Of(*rule),
+        };
+        is_told(rt, alloc, &fault, told)?;
     }
     Ok(())
 }
 
 #[test]
+fn rules_without_a_script_are_named(rt: HostRuntime) -> Result<(), Fail> {
+    are_told(&rt, rt.alloc(), &RULES)?;
+    Ok(())
+}
+
+#[test]
 fn want_of_memory_is_told(rt: HostRuntime) -> Result<(), Fail> {
-    let mut text = Text::new(rt.alloc());
-    fault_line(&Fault::OutOfMemory, &mut text)?;
-    assert_eq!(rt;
-        (text.as_slice(), Fault::OutOfMemory.status()),
-        (b"pth_play: out of memory\n".as_slice(), 7)
-    );
+    let fault = Fault::OutOfMemory;
+    is_told(&rt, rt.alloc(), &fault, "pth_play: out of memory\n")?;
+    assert!(rt; fault.status() == 7);
     Ok(())
 }

@@ -1,6 +1,7 @@
-use crate::playing::words_of;
+use crate::comparison::same_text;
 use pth_words::words::read_words;
-use std::alloc::Global;
+use std::alloc::{AllocError, Global};
+use std::process::Abort;
 use std::test::Fail;
 
 /// Words, each behind a `|`, and what they ask for: the number of steps, whether a summary, and the file.
@@ -53,22 +54,32 @@ static WORDS: [(&str, &str); 46] = [
     ("|-|-", "Refused"),
 ];
 
-fn asked(alloc: Global, line: &str) -> Result<String, Fail> {
-    let words = words_of(alloc, line)?;
-    let asked = match read_words(alloc, &words) {
-        Ok(choice) => {
-            format!(in alloc; "{} {} {:?}", choice.steps, choice.summary, choice.file)?
-        }
-        Err(error) => format!(in alloc; "{error}")?,
-    };
-    Ok(asked)
+fn words_of(alloc: Global, line: &str) -> Result<Vec<String>, AllocError> {
+    let mut words = Vec::new(alloc);
+    for word in line.split('|').skip(1) {
+        words.push(String::from_str(alloc, word)?)?;
+    }
+    Ok(words)
+}
+
+fn asked(alloc: Global, words: &Vec<String>) -> Result<String, AllocError> {
+    match read_words(alloc, words) {
+        Ok(choice) => { format!(in alloc; "{} {} {:?}", choice.steps, choice.summary, choice.file) }
+        Err(error) => format!(in alloc; "{error}"),
+    }
+}
+
+fn ask(rt: &impl Abort, alloc: Global, rows: &[(&str, &str)]) -> Result<(), AllocError> {
+    for (line, wanted) in rows {
+        let words = words_of(alloc, line)?;
+        let asked = asked(alloc, &words)?;
+        same_text(rt, asked.as_str(), wanted);
+    }
+    Ok(())
 }
 
 #[test]
 fn words_ask(rt: HostRuntime) -> Result<(), Fail> {
-    for (line, wanted) in WORDS {
-        let asked = asked(rt.alloc(), line)?;
-        assert_eq!(rt; asked.as_str(), wanted, "{line}");
-    }
+    ask(&rt, rt.alloc(), &WORDS)?;
     Ok(())
 }

@@ -1,17 +1,17 @@
 //! What a thread of a script keeps of an answer.
 
+use crate::comparison::{lines_of, name_of, same_bytes};
 use pth_base::answer::Answer;
 use pth_base::bytes::Bytes;
 use pth_base::errno::Errno;
 use pth_base::ids::{BodyId, FdSet, MsgId, Tid};
 use pth_base::mark::Mark;
+use pth_base::marks::Marks;
 use pth_base::memory::OutOfMemory;
-use pth_base::name::Name;
 use pth_base::program::Program;
-use pth_print::mark_line::mark_line;
 use pth_script::read::read;
-use pth_text::text::Text;
 use std::alloc::Global;
+use std::process::Abort;
 use std::test::Fail;
 
 /// The first call is answered, and the others tell what was kept: the register, the error, the bytes and the message.
@@ -22,40 +22,26 @@ fn main_of<P: Program>(alloc: Global, program: &P) -> Result<P::State, OutOfMemo
     program.start(alloc, BodyId(0), 0)
 }
 
-/// Adds the thread's next call, as one that waits.
-fn add_step<P: Program>(
-    alloc: Global,
-    program: &P,
-    state: &mut P::State,
-    shared: &mut P::Shared,
-    answer: &Answer,
-    text: &mut Text,
-) -> Result<(), OutOfMemory> {
-    let call = program.step(alloc, state, shared, answer)?;
-    mark_line(&Mark::Waits { tid: Tid(1), call }, false, text)
-}
-
-/// Adds the calls of main, whose first call has this answer.
-fn add_steps<P: Program>(
-    alloc: Global,
-    program: &P,
-    answer: &Answer,
-    text: &mut Text,
-) -> Result<(), OutOfMemory> {
+/// The calls of main, as ones that wait. The first has this answer.
+fn calls_of<P: Program>(alloc: Global, program: &P, answer: &Answer) -> Result<Marks, OutOfMemory> {
+    let mut marks = Marks::new(alloc);
     let mut shared = program.shared(alloc)?;
     let mut state = main_of(alloc, program)?;
     let none = Answer::None;
     for answer in [&none, answer, &none, &none, &none] {
-        add_step(alloc, program, &mut state, &mut shared, answer, text)?;
+        let call = program.step(alloc, &mut state, &mut shared, answer)?;
+        marks.push(Mark::Waits { tid: Tid(1), call })?;
     }
-    Ok(())
+    Ok(marks)
 }
 
-fn told(alloc: Global, answer: &Answer) -> Result<Text, Fail> {
+/// Compares the calls of a thread whose first call has this answer.
+fn is_kept(rt: &impl Abort, alloc: Global, answer: &Answer, wanted: &str) -> Result<(), Fail> {
     let script = read(alloc, SCRIPT.as_bytes())?;
-    let mut text = Text::new(alloc);
-    add_steps(alloc, &script, answer, &mut text)?;
-    Ok(text)
+    let marks = calls_of(alloc, &script, answer)?;
+    let lines = lines_of(alloc, marks.as_slice())?;
+    same_bytes(rt, lines.as_slice(), wanted);
+    Ok(())
 }
 
 const ANSWERS: [(Answer, &str); 5] = [
@@ -92,35 +78,30 @@ const ANSWERS: [(Answer, &str); 5] = [
     ),
 ];
 
-#[test]
-fn numbers_and_messages_are_kept(rt: HostRuntime) -> Result<(), Fail> {
-    for (answer, wanted) in &ANSWERS {
-        let text = told(rt.alloc(), answer)?;
-        assert_eq!(rt; text.as_slice(), wanted.as_bytes());
+fn are_kept(rt: &impl Abort, alloc: Global, rows: &[(Answer, &str)]) -> Result<(), Fail> {
+    for (answer, wanted) in rows {
+        is_kept(rt, alloc, answer, wanted)?;
     }
     Ok(())
 }
 
 #[test]
+fn numbers_and_messages_are_kept(rt: HostRuntime) -> Result<(), Fail> {
+    are_kept(&rt, rt.alloc(), &ANSWERS)
+}
+
+#[test]
 fn bytes_are_kept(rt: HostRuntime) -> Result<(), Fail> {
     let answer = Answer::Bytes(Bytes::from_slice(rt.alloc(), b"cdef")?);
-    let text = told(rt.alloc(), &answer)?;
-    assert_eq!(rt;
-        text.as_slice(),
-        b"t1 self waits\nt1 note 4 waits\nt1 note 0 waits\nt1 write 0 hex:63646566 waits\nt1 reply 0 0 waits\n".as_slice()
-    );
-    Ok(())
+    let wanted =
+        "t1 self waits\nt1 note 4 waits\nt1 note 0 waits\nt1 write 0 hex:63646566 waits\nt1 reply 0 0 waits\n";
+    is_kept(&rt, rt.alloc(), &answer, wanted)
 }
 
 #[test]
 fn a_name_counts_as_its_length(rt: HostRuntime) -> Result<(), Fail> {
-    let name = "unknown";
-    assert!(rt; name.is_ascii());
-    let answer = Answer::Text(Name::cut(name));
-    let text = told(rt.alloc(), &answer)?;
-    assert_eq!(rt;
-        text.as_slice(),
-        b"t1 self waits\nt1 note 7 waits\nt1 note 0 waits\nt1 write 0 hex: waits\nt1 reply 0 0 waits\n".as_slice()
-    );
-    Ok(())
+    let answer = Answer::Text(name_of(&rt, "unknown"));
+    let wanted =
+        "t1 self waits\nt1 note 7 waits\nt1 note 0 waits\nt1 write 0 hex: waits\nt1 reply 0 0 waits\n";
+    is_kept(&rt, rt.alloc(), &answer, wanted)
 }

@@ -1,0 +1,35 @@
+//! Tests of what needs no machine and no script's run: texts, words, lines and their printing, lists and records.
+#![tactic(auto)]
+
+#[cfg(test)]
+mod answers;
+#[cfg(test)]
+mod attributes;
+#[cfg(test)]
+mod codes;
+#[cfg(test)]
+mod comparison;
+#[cfg(test)]
+mod copies;
+#[cfg(test)]
+mod handlers;
+#[cfg(test)]
+mod lines;
+#[cfg(test)]
+mod numbered;
+#[cfg(test)]
+mod objects;
+#[cfg(test)]
+mod queue_lists;
+#[cfg(test)]
+mod queue_turns;
+#[cfg(test)]
+mod queues;
+#[cfg(test)]
+mod rings;
+#[cfg(test)]
+mod texts;
+#[cfg(test)]
+mod threads;
+#[cfg(test)]
+mod words;
