@@ -4,7 +4,7 @@ use Rattle.std.proofs.Math.ListN.{length-set}
 use Rattle.std.proofs.Math.ListN.{set as list_set}
 use Rattle.std.proofs.lemmas.Bool.Decides.{nat_tests}
 use Rattle.std.proofs.lemmas.Grind.{and_numeral, take-set_at}
-use Rattle.pth_print.specs.Sets.{contains, members_below}
+use Rattle.pth_base.specs.Descriptors.{contains, members_below}
 
 not_equal : (a b : ℕ) → ¬ (a ≡ b) → (a == b) ≡ false
 not_equal a b h = grind (arith, nat_tests)

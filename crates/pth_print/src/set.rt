@@ -2,7 +2,8 @@
 
 ghost use Rattle.std.specs.Prelude.{◌≡◌, ◌≤◌, ◌++◌, take, flat_map, codes, decimal};
 ghost use Rattle.pth_print.specs.Adding.{AddsText};
-ghost use Rattle.pth_print.specs.Sets.{members_below, members_word, set_word};
+ghost use Rattle.pth_base.specs.Descriptors.{members_below};
+ghost use Rattle.pth_print.specs.Sets.{members_word, set_word};
 
 use pth_base::ids::FdSet;
 use pth_base::memory::OutOfMemory;

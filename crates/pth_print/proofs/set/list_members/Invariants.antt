@@ -1,5 +1,5 @@
 use Rattle.std.proofs.Common.{◌≡◌, ◌≤◌, take}
-use Rattle.pth_print.specs.Sets.{members_below}
+use Rattle.pth_base.specs.Descriptors.{members_below}
 use Rattle.pth_print.proofs.set.list_members.Given as goal
 
 abbrev pub invariant-loop-f : goal.invariant-loop-f
