@@ -1,0 +1,11 @@
+pub mod Knowing
+pub mod Lists
+pub mod Arrivals
+pub mod Sound
+pub mod Coming
+pub mod Feeding
+pub mod Shown
+pub mod Questions
+pub mod Changes
+pub mod Operands
+pub mod Starting

@@ -1,0 +1,10 @@
+pub mod Entries
+pub mod Trace
+pub mod Moments
+pub mod Kernel
+pub mod Modes
+pub mod Rules
+pub mod Arrivals
+pub mod Channels
+pub mod Fields
+pub mod Kept
