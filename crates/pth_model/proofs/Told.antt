@@ -13,17 +13,20 @@ use Rattle.pth_model.specs.declared.blocked.Blocked.{Blocked}
 use Rattle.pth_model.specs.declared.progress.Progress.{Progress}
 use Rattle.pth_model.specs.Resources.{Resources, no_resources, told, told_all}
 use Rattle.pth_model.specs.LibraryControl.{ctrl}
-use Rattle.pth_model.specs.Verdict.{Verdict, Says, Yields, Blocks, Ends, Kills}
+use Rattle.pth_model.specs.Verdict.{Verdict, Says, Yields, Blocks, Ends, Kills, says, by_result}
 use Rattle.pth_model.specs.State.{State, queue, Given, Turn, start}
-use Rattle.pth_model.specs.Transition.{Transition, Piece, Last, tells, tid, controlled, ◌and_then◌, ◌and_finally◌}
-use Rattle.pth_model.specs.Changes.{blocked_of}
+use Rattle.pth_model.specs.Transition.{Transition, Piece, Change, Last, tells, tid, controlled, ◌and_then◌, ◌and_finally◌}
+use Rattle.pth_model.specs.Changes.{blocked_of, with_events}
 use Rattle.pth_model.specs.Row.{effect_of, refuses, unless_refused}
 use Rattle.pth_model.specs.Rows.{row_of}
 use Rattle.pth_model.specs.Ending.{ending}
 use Rattle.pth_model.specs.Calls.{begun, begun_by, resumed, resumed_by, tried_by, waits_by, unless_come, interrupted}
 use Rattle.pth_model.specs.RingWaits.{ring_given, has_event_come}
-use Rattle.pth_model.specs.EventHandling.{chain}
+use Rattle.pth_model.specs.EventHandling.{spec_of, made_as, make_event, chain}
 use Rattle.pth_base.specs.declared.event.EvLine.{EvLine}
+use Rattle.pth_numbered.specs.Operands.{number}
+use Rattle.pth_ring.specs.Rings.{make_answer, chain_answer, alone, chained}
+use Rattle.pth_base.specs.declared.event.EventSpec.{EventSpec}
 use Rattle.pth_base.specs.declared.event.EvLine.TheVariants as line
 use Rattle.pth_model.specs.Course.{Course}
 use Rattle.pth_model.specs.Pass.{pass, woken, all_woken, to_wake, moment}
@@ -62,18 +65,37 @@ module _ {P S H : Type 0} (f : P → Functions S H) where
     ctrl_tells s query.Threads u = refl
     ctrl_tells s x u = refl
 
+    made_tells : (spec : Option EventSpec) (v : EventSpec → Verdict) (g : EventSpec → Change P S H) → IsTold (made_as spec v g).begin.effect
+    made_tells None v g u = refl
+    made_tells (Some spec) v g u = refl
+
+    made_tells_again : (spec : Option EventSpec) (v : EventSpec → Verdict) (g : EventSpec → Change P S H) (b : Blocked) → IsTold ((made_as spec v g).again b).effect
+    made_tells_again None v g b u = refl
+    made_tells_again (Some spec) v g b u = refl
+
+    make_tells : (s : State P S H) (l : EvLine) → IsTold (make_event s l).begin.effect
+    make_tells s l = made_tells (spec_of l) (λ x. by_result says (make_answer s.control.events)) (λ x. with_events (alone x))
+
     chain_tells : (s : State P S H) (e : ℤ) (l : EvLine) → IsTold (chain s e l).begin.effect
-    chain_tells s e (line.Time at) u = refl
-    chain_tells s e l u = refl
+    chain_tells s e l = made_tells (spec_of l) (λ x. by_result says (chain_answer s.control.events (number e))) (λ x. with_events (chained x (number e)))
+
+    make_tells_again : (s : State P S H) (l : EvLine) (b : Blocked) → IsTold ((make_event s l).again b).effect
+    make_tells_again s l = made_tells_again (spec_of l) (λ x. by_result says (make_answer s.control.events)) (λ x. with_events (alone x))
 
     chain_tells_again : (s : State P S H) (e : ℤ) (l : EvLine) (b : Blocked) → IsTold ((chain s e l).again b).effect
-    chain_tells_again s e (line.Time at) b u = refl
-    chain_tells_again s e l b u = refl
+    chain_tells_again s e l = made_tells_again (spec_of l) (λ x. by_result says (chain_answer s.control.events (number e))) (λ x. with_events (chained x (number e)))
 
     -- what a call does beside its answer is a change, which is not told
     effect_tells : (s : State P S H) (c : Call) → IsTold (row_of f s t c).begin.effect
     unfolding row_of
     effect_tells s (call.Ctrl x) = ctrl_tells s x
+    effect_tells s (call.EvFd goals fd) = make_tells s (line.Fd goals fd)
+    effect_tells s (call.EvSelect r w x) = make_tells s (line.Select r w x)
+    effect_tells s (call.EvTime m) = make_tells s (line.Time m)
+    effect_tells s (call.EvMsg p) = make_tells s (line.Msg p)
+    effect_tells s (call.EvCond c) = make_tells s (line.Cond c)
+    effect_tells s (call.EvTid state n) = make_tells s (line.Tid state n)
+    effect_tells s (call.EvFunc c v l) = make_tells s (line.Func c v l)
     effect_tells s (call.Chain e l) = chain_tells s e l
     effect_tells s c = λ u. refl
 
@@ -87,6 +109,13 @@ module _ {P S H : Type 0} (f : P → Functions S H) where
     again_tells : (s : State P S H) (c : Call) (b : Blocked) → IsTold ((row_of f s t c).again b).effect
     unfolding row_of
     again_tells s (call.Ctrl x) b = ctrl_tells_again s x b
+    again_tells s (call.EvFd goals fd) b = make_tells_again s (line.Fd goals fd) b
+    again_tells s (call.EvSelect r w x) b = make_tells_again s (line.Select r w x) b
+    again_tells s (call.EvTime m) b = make_tells_again s (line.Time m) b
+    again_tells s (call.EvMsg p) b = make_tells_again s (line.Msg p) b
+    again_tells s (call.EvCond c) b = make_tells_again s (line.Cond c) b
+    again_tells s (call.EvTid state n) b = make_tells_again s (line.Tid state n) b
+    again_tells s (call.EvFunc c v l) b = make_tells_again s (line.Func c v l) b
     again_tells s (call.Chain e l) b = chain_tells_again s e l b
     again_tells s c b = λ u. refl
 

@@ -1,5 +1,5 @@
 -- What calls keep of the control, by the changes of which they are made.
-use Rattle.std.proofs.Common.{◌≡◌, ◌≢◌, ◌&&◌, ◌||◌, not, ℕ, ℤ, pos, negsuc, Bool, true, false, if◌then◌else◌, Option, Some, None, is_some, refl}
+use Rattle.std.proofs.Common.{◌≡◌, ◌≢◌, ◌==◌, ◌&&◌, ◌||◌, not, ℕ, ℤ, pos, negsuc, Bool, true, false, if◌then◌else◌, Option, Some, None, is_some, refl}
 use Rattle.std.proofs.lemmas.Bool.{not-false}
 use Rattle.pth_base.specs.Program.{Functions}
 use Rattle.pth_base.specs.declared.call.Call.{Call}
@@ -20,14 +20,17 @@ use Rattle.pth_model.specs.declared.progress.Progress.{Progress}
 use Rattle.pth_model.specs.declared.next.Next.{Next}
 use Rattle.pth_model.specs.declared.next.Next.TheVariants as next
 use Rattle.pth_numbered.specs.Operands.{number, is_zero, ◌is◌}
-use Rattle.pth_model.specs.Verdict.{Verdict, Says, Yields, Blocks, Ends, Kills, refused, ◌when◌otherwise◌}
+use Rattle.pth_model.specs.Verdict.{Verdict, Says, Yields, Blocks, Ends, Kills, refused, says, by_result, ◌when◌otherwise◌}
 use Rattle.pth_model.specs.State.{State, Control, Turn}
-use Rattle.pth_model.specs.Transition.{Piece, nothing, changes, tid}
-use Rattle.pth_model.specs.Changes.{goes_on, blocking, blocked_of, or_nobody, owing, prefers, removes, favours_new, sets, adds_object, puts_object}
+use Rattle.pth_model.specs.Transition.{Piece, Change as change_of_control, nothing, changes, tid}
+use Rattle.pth_model.specs.Changes.{goes_on, blocking, blocked_of, or_nobody, owing, prefers, removes, favours_new, sets, adds_object, puts_object, with_events, with_kernel}
 use Rattle.pth_model.specs.RingWaits.{claims, gives_back, stops_waiting, ring_given, ring_held, has_event_come}
-use Rattle.pth_model.specs.EventHandling.{chain}
-use Rattle.pth_ring.specs.Rings.{Events}
+use Rattle.pth_model.specs.EventHandling.{spec_of, made_as, make_event, chain}
+use Rattle.pth_base.specs.declared.event.EventSpec.{EventSpec}
 use Rattle.pth_base.specs.declared.event.EvLine.{EvLine}
+use Rattle.pth_kernel.specs.Kernel.{Descriptor, fd_named, with_mode}
+use Rattle.pth_kernel.specs.Modes.{sets_mode}
+use Rattle.pth_ring.specs.Rings.{Events, make_answer, chain_answer, alone, chained}
 use Rattle.pth_base.specs.declared.event.EvLine.TheVariants as line
 use Rattle.pth_model.specs.Row.{unless_refused, refuses, effect_of}
 use Rattle.pth_model.specs.ThreadControl.{thread, is_known, may_run, spawns, values_for, or_first, suspends, resumes, suspend, resume, to_join, takes_joined}
@@ -94,6 +97,7 @@ pub record KeptBy {P S H : Type 0} (f : P → Functions S H) (t : ℕ) (Q : Cont
   pub added : (x : Attribute) (k : Control P S H) → Q k → Q (adds_object x k)
   pub exchanged : (n : ℕ) (o : Option Attribute) (k : Control P S H) → Q k → Q (puts_object n o k)
   pub evented : (x : Events) (k : Control P S H) → Q k → Q (record k { events = x })
+  pub described : (ds : ℕ → Descriptor) (k : Control P S H) → Q k → Q (record k { kernel = record k.kernel { descriptors = ds } })
   pub left : (v : ℤ) (k : Control P S H) → Q k → Q (leaves t v k)
   pub vanished : (k : Control P S H) → Q k → Q (vanish_all_but t k)
 
@@ -144,9 +148,23 @@ module _ {P S H : Type 0} (f : P → Functions S H) (t : ℕ) (Q : Control P S H
       by_field None = q
       by_field (Some c) = kept.changed u.0 c s.control q
 
+  made_keeps : (s : State P S H) (spec : Option EventSpec) (v : EventSpec → Verdict) (g : EventSpec → Events → Events) → KeepsAt s (made_as spec v (λ x. with_events (g x))).begin.effect
+  made_keeps s None v g q = q
+  made_keeps s (Some x) v g q = kept.evented _ s.control q
+
+  make_keeps : (s : State P S H) (l : EvLine) → KeepsAt s (make_event s l).begin.effect
+  make_keeps s l = made_keeps s (spec_of l) (λ x. by_result says (make_answer s.control.events)) (λ x. alone x)
+
   chain_keeps : (s : State P S H) (e : ℤ) (l : EvLine) → KeepsAt s (chain s e l).begin.effect
-  chain_keeps s e (line.Time at) q = kept.evented _ s.control q
-  chain_keeps s e l q = q
+  chain_keeps s e l = made_keeps s (spec_of l) (λ x. by_result says (chain_answer s.control.events (number e))) (λ x. chained x (number e))
+
+  modes_keep : (s : State P S H) (f : ℕ) (m : ℤ) → KeepsAt s (changes (with_kernel (sets_mode f m)))
+  modes_keep s f (pos m) q = by_mode (m == 0)
+    where
+      by_mode : (b : Bool) → Q (record s.control { kernel = if b then s.control.kernel else with_mode f m s.control.kernel })
+      by_mode true = q
+      by_mode false = kept.described _ s.control q
+  modes_keep s f (negsuc m) q = q
 
   -- whether a join takes a thread or none
   joins_keeps : (s : State P S H) (o : Option ℕ) → KeepsAt s (changes (takes_joined o))
@@ -171,11 +189,19 @@ module _ {P S H : Type 0} (f : P → Functions S H) (t : ℕ) (Q : Control P S H
   does_keeps s (call.Suspend n) e q = kept.suspended (number n) s.control (suspend_other s t n e) q
   does_keeps s (call.Resume n) e q = kept.resumed (number n) s.control (resume_other s t n e) q
   does_keeps s (call.Yield n) e q = yields_keeps s n (is_zero n) refl (passes _ _ _ e).0 q
-  does_keeps s (call.EvTime at) e q = kept.evented _ s.control q
+  does_keeps s (call.EvFd goals fd) e q = make_keeps s (line.Fd goals fd) q
+  does_keeps s (call.EvSelect r w x) e q = make_keeps s (line.Select r w x) q
+  does_keeps s (call.EvTime m) e q = make_keeps s (line.Time m) q
+  does_keeps s (call.EvMsg p) e q = make_keeps s (line.Msg p) q
+  does_keeps s (call.EvCond c) e q = make_keeps s (line.Cond c) q
+  does_keeps s (call.EvTid state n) e q = make_keeps s (line.Tid state n) q
+  does_keeps s (call.EvFunc c v l) e q = make_keeps s (line.Func c v l) q
   does_keeps s (call.Chain n l) e q = chain_keeps s n l q
   does_keeps s (call.EvConcat a b) e q = kept.evented _ s.control q
   does_keeps s (call.EvIsolate a) e q = kept.evented _ s.control q
   does_keeps s (call.EvFree a all) e q = kept.evented _ s.control q
+  does_keeps s (call.Fdmode d m) e q = modes_keep s (fd_named d) m q
+  does_keeps s (call.Close d) e q = kept.described _ s.control q
   does_keeps s (call.Join n) e q = joins_keeps s (to_join s.control n) q
   does_keeps s c e q = q
 
@@ -201,13 +227,26 @@ module _ {P S H : Type 0} (f : P → Functions S H) (t : ℕ) (Q : Control P S H
   ctrl_again s query.Threads b q = q
   ctrl_again s x b q = q
 
+  made_again : (s : State P S H) (spec : Option EventSpec) (v : EventSpec → Verdict) (g : EventSpec → change_of_control P S H) (b : Blocked) → KeepsAt s ((made_as spec v g).again b).effect
+  made_again s None v g b q = q
+  made_again s (Some x) v g b q = q
+
+  make_again : (s : State P S H) (l : EvLine) (b : Blocked) → KeepsAt s ((make_event s l).again b).effect
+  make_again s l = made_again s (spec_of l) (λ x. by_result says (make_answer s.control.events)) (λ x. with_events (alone x))
+
   chain_again : (s : State P S H) (e : ℤ) (l : EvLine) (b : Blocked) → KeepsAt s ((chain s e l).again b).effect
-  chain_again s e (line.Time at) b q = q
-  chain_again s e l b q = q
+  chain_again s e l = made_again s (spec_of l) (λ x. by_result says (chain_answer s.control.events (number e))) (λ x. with_events (chained x (number e)))
 
   does_again : (s : State P S H) (c : Call) (b : Blocked) → KeepsAt s ((row_of f s t c).again b).effect
   unfolding row_of
   does_again s (call.Ctrl x) b q = ctrl_again s x b q
+  does_again s (call.EvFd goals fd) b q = make_again s (line.Fd goals fd) b q
+  does_again s (call.EvSelect r w x) b q = make_again s (line.Select r w x) b q
+  does_again s (call.EvTime m) b q = make_again s (line.Time m) b q
+  does_again s (call.EvMsg p) b q = make_again s (line.Msg p) b q
+  does_again s (call.EvCond c) b q = make_again s (line.Cond c) b q
+  does_again s (call.EvTid state n) b q = make_again s (line.Tid state n) b q
+  does_again s (call.EvFunc c v l) b q = make_again s (line.Func c v l) b q
   does_again s (call.Chain n l) b q = chain_again s n l b q
   does_again s (call.Join n) b q = joins_keeps s (to_join s.control n) q
   does_again s c b q = q

@@ -1,19 +1,21 @@
 -- Event handling: pth_event, pth_event_concat, pth_event_isolate, pth_event_walk, pth_event_status, pth_event_typeof,
 -- pth_event_free, and pth_wait. The answers stand beside the rings, with the refusals of each call in order.
-use Rattle.std.specs.Prelude.{ℕ, ℤ, nat_lt, Bool, false, Option, Some, None, if◌then◌else◌}
+use Rattle.std.specs.Prelude.{ℕ, ℤ, ◌&&◌, nat_lt, Bool, false, Option, Some, None, if◌then◌else◌}
 use Rattle.pth_base.specs.declared.answer.Answer.TheVariants.{Int}
 use Rattle.pth_base.specs.declared.errno.Errno.TheVariants.{EINVAL}
 use Rattle.pth_base.specs.declared.event.EvLine.{EvLine}
 use Rattle.pth_base.specs.declared.event.EvLine.TheVariants as line
-use Rattle.pth_base.specs.declared.event.EventSpec.TheVariants.{Time}
+use Rattle.pth_base.specs.declared.event.EventSpec.{EventSpec}
+use Rattle.pth_base.specs.declared.event.EventSpec.TheVariants as of
 use Rattle.pth_base.specs.declared.ids.EventId.{EventId}
-use Rattle.pth_numbered.specs.Operands.{number}
+use Rattle.pth_base.specs.Descriptors.{descriptor_limit}
+use Rattle.pth_numbered.specs.Operands.{number, is_below}
 use Rattle.pth_ring.specs.declared.event.Status.{Status}
 use Rattle.pth_ring.specs.declared.event.Status.TheVariants.{Pending, Occurred, Failed}
 use Rattle.pth_ring.specs.Rings.{make_answer, chain_answer, concat_answer, isolate_answer, walk_answer, status_answer, kind_answer, free_answer, claim_answer, settled_in, alone, chained, concatenated, isolated, freed, ring_freed}
-use Rattle.pth_model.specs.Verdict.{Says, refused, says, done, by_result, waits, ◌when◌otherwise◌, refused_as◌otherwise◌}
+use Rattle.pth_model.specs.Verdict.{Verdict, Says, refused, says, done, by_result, waits, ◌when◌otherwise◌, refused_as◌otherwise◌}
 use Rattle.pth_model.specs.State.{State}
-use Rattle.pth_model.specs.Transition.{silent, nothing}
+use Rattle.pth_model.specs.Transition.{Change, silent, nothing}
 use Rattle.pth_model.specs.Changes.{with_events}
 use Rattle.pth_model.specs.Row.{Row, ◌changing◌, ◌trying◌, unbuilt}
 use Rattle.pth_model.specs.Times.{is_negative, moment_of}
@@ -23,35 +25,44 @@ abbrev pub number_or_none : Option EventId → ℕ
 number_or_none None = 0
 number_or_none (Some e) = e.0
 
+-- the sum of some of 1 for readable, 2 for writeable and 4 for exceptional
+abbrev pub are_goals : ℕ → Bool
+are_goals goals = nat_lt 0 goals && nat_lt goals 8
+
 abbrev pub status_number : Status → ℕ
 status_number Pending = 0
 status_number Occurred = 1
 status_number Failed = 2
 
+-- what an event is of that a line asks for, none where its operands are refused: a negative moment (PTH_EVENT_TIME), goals or a
+-- descriptor that there can't be (PTH_EVENT_FD); events of other kinds are not built yet
+abbrev pub spec_of : EvLine → Option EventSpec
+spec_of (line.Time at) = if is_negative at then None else Some (of.Time (moment_of at))
+spec_of (line.Fd goals fd) = if are_goals goals && is_below fd descriptor_limit then Some (of.Fd goals fd) else None
+spec_of (line.Select r w x) = Some (of.Select r w x)
+spec_of (line.Msg p) = None
+spec_of (line.Cond c) = None
+spec_of (line.Tid state t) = None
+spec_of (line.Func check arg interval) = None
+
+module _ {P S H : Type 0} where
+  -- an event of what a line asks for is made, as a verdict and a change say
+  abbrev pub made_as : Option EventSpec → (EventSpec → Verdict) → (EventSpec → Change P S H) → Row P S H
+  made_as None v g = unbuilt
+  made_as (Some spec) v g = v spec changing g spec
+
 module _ {P S H : Type 0} (s : State P S H) where
-  -- pth_event of a moment (PTH_EVENT_TIME): alone in its ring, with the next number
-  abbrev pub ev_time : ℤ → Row P S H
-  ev_time at =
-      refused EINVAL when is_negative at otherwise
-      by_result says (make_answer s.control.events)
-      changing with_events (alone (Time (moment_of at)))
+  -- pth_event: alone in its ring, with the next number
+  abbrev pub make_event : EvLine → Row P S H
+  make_event l = made_as (spec_of l)
+      (λ spec. by_result says (make_answer s.control.events))
+      (λ spec. with_events (alone spec))
 
   -- the same with PTH_MODE_CHAIN: just before e in its ring
-  abbrev pub chain_time : ℤ → ℤ → Row P S H
-  chain_time e at =
-      refused EINVAL when is_negative at otherwise
-      by_result says (chain_answer s.control.events (number e))
-      changing with_events (chained (Time (moment_of at)) (number e))
-
-  -- events of other kinds are not built yet
   abbrev pub chain : ℤ → EvLine → Row P S H
-  chain e (line.Time at) = chain_time e at
-  chain e (line.Fd goals fd) = unbuilt
-  chain e (line.Select r w x) = unbuilt
-  chain e (line.Msg p) = unbuilt
-  chain e (line.Cond c) = unbuilt
-  chain e (line.Tid state t) = unbuilt
-  chain e (line.Func check arg interval) = unbuilt
+  chain e l = made_as (spec_of l)
+      (λ spec. by_result says (chain_answer s.control.events (number e)))
+      (λ spec. with_events (chained spec (number e)))
 
   -- pth_event_concat: the ring of e from e on, and then that of g from g on
   abbrev pub ev_concat : ℤ → ℤ → Row P S H

@@ -7,6 +7,8 @@ use Rattle.pth_base.specs.declared.answer.Answer.TheVariants.{Int}
 use Rattle.pth_base.specs.declared.call.Call.{Call}
 use Rattle.pth_base.specs.declared.call.Call.TheVariants.{Spawn, Suspend, Resume, Yield, Nap, Wait, Join, Exit, EvTime}
 use Rattle.pth_base.specs.declared.mark.Mark.{Mark}
+use Rattle.pth_kernel.specs.Kernel.{started}
+use Rattle.pth_model.specs.State.{Given}
 use Rattle.pth_base.specs.declared.mark.Mark.TheVariants.{Dispatch, Answered, Waits, Woke, Moved, Ended}
 use Rattle.pth_model.specs.Transition.{tid}
 
@@ -21,6 +23,10 @@ call_at zero zero = Spawn (pos 1) (pos 9) (pos 0)
 call_at zero (suc zero) = Yield (pos 0)
 call_at zero (suc (suc n)) = Exit (pos 0)
 call_at (suc b) n = Exit (pos 9)
+
+-- a program of no note, and a kernel to whose descriptors nothing comes
+abbrev pub given : Given ℕ
+given = record { program = 0; kernel = started 1 0 [] }
 
 -- the program, whose shared value is nothing of note
 abbrev pub two_bodies : ℕ → Functions Place ℕ

@@ -17,6 +17,7 @@ pub mod EventHandling
 pub mod Ending
 pub mod ThreadEnds
 pub mod Times
+pub mod Io
 pub mod Rows
 pub mod Calls
 pub mod Pass

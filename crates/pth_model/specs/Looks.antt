@@ -1,28 +1,45 @@
 -- What is found of events as they are looked at: in each pass, those for which threads wait.
-use Rattle.std.specs.Prelude.{ℕ, nat_le, Bool, false, not, List, Option, Some, None, option_map, if◌then◌else◌}
+use Rattle.std.specs.Prelude.{ℕ, ◌&&◌, ◌||◌, nat_le, Bool, false, not, List, Option, Some, None, option_map, if◌then◌else◌}
 use Rattle.pth_ring.specs.declared.event.EventSpec.{EventSpec}
 use Rattle.pth_base.specs.declared.event.EventSpec.TheVariants as of
 use Rattle.pth_ring.specs.declared.event.Event.{Event}
 use Rattle.pth_ring.specs.declared.event.Status.{Status}
-use Rattle.pth_ring.specs.declared.event.Status.TheVariants.{Pending, Occurred}
+use Rattle.pth_ring.specs.declared.event.Status.TheVariants.{Pending, Occurred, Failed}
 use Rattle.pth_ring.specs.Rings.{with_status, is_pending}
 use Rattle.pth_ring.specs.Ring.{each}
+use Rattle.pth_base.specs.Descriptors.{contains}
+use Rattle.pth_kernel.specs.Kernel.{fd_named, is_fd_live, is_readable, is_writeable, is_exceptional}
+use Rattle.pth_io.specs.Attempts.{are_all_live, is_any_ready}
 use Rattle.pth_model.specs.State.{Control, now_of}
 use Rattle.pth_model.specs.Changes.{with_events}
 
 module _ {P S H : Type 0} (k : Control P S H) where
-  -- an event of a moment occurs then, and at all later moments (PTH_EVENT_TIME); events of other kinds are not built yet
+  -- an event of descriptors never comes any more where one of them is not live (PTH_EVENT_FD, PTH_EVENT_SELECT)
+  abbrev pub is_gone : EventSpec → Bool
+  is_gone (of.Fd goals fd) = not (is_fd_live k.kernel (fd_named fd))
+  is_gone (of.Select r w x) = not (are_all_live k.kernel r.0 w.0 x.0)
+  is_gone (of.Time at) = false
+  is_gone (of.Msg p) = false
+  is_gone (of.Tid state t) = false
+  is_gone (of.Func check arg interval) = false
+  is_gone (of.Cond c) = false
+
+  -- it occurs where a descriptor is as its goals say; one of a moment occurs then, and at all later moments (PTH_EVENT_TIME);
+  -- events of other kinds are not built yet
   abbrev pub occurs : EventSpec → Bool
+  occurs (of.Fd goals fd) =
+      (contains goals 0 && is_readable k.kernel (fd_named fd))
+      || (contains goals 1 && is_writeable k.kernel (fd_named fd))
+      || (contains goals 2 && is_exceptional k.kernel (fd_named fd))
+  occurs (of.Select r w x) = is_any_ready k.kernel r.0 w.0 x.0
   occurs (of.Time at) = nat_le at (now_of k)
-  occurs (of.Fd goals fd) = false
-  occurs (of.Select r w x) = false
   occurs (of.Msg p) = false
   occurs (of.Tid state t) = false
   occurs (of.Func check arg interval) = false
   occurs (of.Cond c) = false
 
   abbrev pub found : EventSpec → Status
-  found spec = if occurs spec then Occurred else Pending
+  found spec = if is_gone spec then Failed else (if occurs spec then Occurred else Pending)
 
   -- an event that is looked at
   abbrev pub looked_at : Event → Event

@@ -1,12 +1,13 @@
 -- A pass over the waiting threads, and the moments to which time moves while nothing is ready.
-use Rattle.std.specs.Prelude.{ℕ, ℤ, pos, ◌+ℤ◌, ◌&&◌, ◌||◌, nat_lt, nat_le, min, Bool, false, List, [], ◌∷◌, filter, map, flat_map, Option, Some, None, if◌then◌else◌}
+use Rattle.std.specs.Prelude.{ℕ, ℤ, pos, ◌+ℤ◌, ◌||◌, Bool, false, List, [], ◌∷◌, ◌++◌, filter, map, flat_map, Option}
 use Rattle.std.specs.List.{list_any}
-use Rattle.pth_base.specs.Limits.{last_moment}
 use Rattle.pth_base.specs.Program.{Functions}
 use Rattle.pth_base.specs.declared.mark.Mark.TheVariants.{Woke}
 use Rattle.pth_base.specs.declared.thread.ThreadState.TheVariants as state
 use Rattle.pth_queue.specs.declared.queue.Queue.TheVariants as queue
 use Rattle.pth_threads.specs.declared.entry.Change.TheVariants as change
+use Rattle.pth_kernel.specs.Kernel.{arrival_times}
+use Rattle.pth_kernel.specs.Moments.{least_after}
 use Rattle.pth_model.specs.State.{Control, State, queue, now_of}
 use Rattle.pth_model.specs.Transition.{Piece, Change, silent, changes, tells, tid, ◌and◌, ◌and_then◌}
 use Rattle.pth_model.specs.Changes.{sets, enters, leaves_queue, prio_of, holders}
@@ -62,15 +63,6 @@ module _ {P S H : Type 0} (f : P → Functions S H) where
   abbrev pub moments : State P S H → List ℕ
   moments s = flat_map (moments_of s) (waiting s.control)
 
-abbrev pub least_by : ℕ → Option ℕ → Option ℕ
-least_by m None = Some m
-least_by m (Some n) = Some (min m n)
-
--- the least of these moments that is later than now: no call names one after the last
-abbrev pub least_after : ℕ → List ℕ → Option ℕ
-least_after now [] = None
-least_after now (m ∷ ms) = if nat_lt now m && nat_le m last_moment then least_by m (least_after now ms) else least_after now ms
-
--- the moment to which time moves while nothing is ready
+-- the moment to which time moves while nothing is ready: something comes to a descriptor, or a thread waits for it
 abbrev pub moment : {P S H : Type 0} → (P → Functions S H) → State P S H → Option ℕ
-moment f s = least_after (now_of s.control) (moments f s)
+moment f s = least_after (now_of s.control) (arrival_times s.control.kernel ++ moments f s)

@@ -4,6 +4,7 @@ use Rattle.pth_base.specs.Program.{Functions}
 use Rattle.pth_base.specs.declared.answer.Answer.TheVariants as answer
 use Rattle.pth_base.specs.declared.call.Call.{Call}
 use Rattle.pth_base.specs.declared.call.Call.TheVariants as call
+use Rattle.pth_base.specs.declared.event.EvLine.TheVariants as line
 use Rattle.pth_model.specs.Verdict.{Says, says}
 use Rattle.pth_model.specs.State.{State}
 use Rattle.pth_model.specs.Transition.{nothing}
@@ -11,9 +12,10 @@ use Rattle.pth_model.specs.Row.{Row, ◌changing◌, unbuilt}
 use Rattle.pth_model.specs.LibraryControl.{kill, ctrl}
 use Rattle.pth_model.specs.AttributeHandling.{attr_new, attr_of, attr_init, attr_set, attr_get, attr_destroy}
 use Rattle.pth_model.specs.ThreadControl.{spawn, self, suspend, resume, yield, join}
-use Rattle.pth_model.specs.EventHandling.{ev_time, chain, ev_concat, ev_isolate, ev_walk, ev_status, ev_kind, ev_free, wait}
+use Rattle.pth_model.specs.EventHandling.{make_event, chain, ev_concat, ev_isolate, ev_walk, ev_status, ev_kind, ev_free, wait}
 use Rattle.pth_model.specs.ThreadEnds.{exit}
 use Rattle.pth_model.specs.Times.{timeout, nap, usleep, sleep}
+use Rattle.pth_model.specs.Io.{fdmode, close}
 
 module _ {P S H : Type 0} (f : P → Functions S H) (s : State P S H) (t : ℕ) where
   -- the row of a call of t
@@ -38,17 +40,17 @@ module _ {P S H : Type 0} (f : P → Functions S H) (s : State P S H) (t : ℕ) 
   row_of (call.Abort n) = unbuilt
   row_of (call.Join n) = join s t n
   row_of (call.Exit v) = exit s t v
-  row_of (call.Fdmode d m) = unbuilt
+  row_of (call.Fdmode d m) = fdmode s d m
   row_of (call.Timeout l) = timeout s l
   row_of call.CancelPoint = unbuilt
   row_of (call.CancelState n) = unbuilt
-  row_of (call.EvFd goals fd) = unbuilt
-  row_of (call.EvSelect r w x) = unbuilt
-  row_of (call.EvTime m) = ev_time s m
-  row_of (call.EvMsg p) = unbuilt
-  row_of (call.EvCond c) = unbuilt
-  row_of (call.EvTid state n) = unbuilt
-  row_of (call.EvFunc c v l) = unbuilt
+  row_of (call.EvFd goals fd) = make_event s (line.Fd goals fd)
+  row_of (call.EvSelect r w x) = make_event s (line.Select r w x)
+  row_of (call.EvTime m) = make_event s (line.Time m)
+  row_of (call.EvMsg p) = make_event s (line.Msg p)
+  row_of (call.EvCond c) = make_event s (line.Cond c)
+  row_of (call.EvTid state n) = make_event s (line.Tid state n)
+  row_of (call.EvFunc c v l) = make_event s (line.Func c v l)
   row_of (call.Chain e l) = chain s e l
   row_of (call.EvConcat e g) = ev_concat s e g
   row_of (call.EvIsolate e) = ev_isolate s e
@@ -92,7 +94,7 @@ module _ {P S H : Type 0} (f : P → Functions S H) (s : State P S H) (t : ℕ) 
   row_of (call.ConnectEv d e) = unbuilt
   row_of (call.Select r w x l) = unbuilt
   row_of (call.SelectEv r w x l e) = unbuilt
-  row_of (call.Close d) = unbuilt
+  row_of (call.Close d) = close s d
   -- a plain line and a note of a body call nothing, and are told otherwise
   row_of call.Plain = Says answer.None changing nothing
   row_of (call.Note v) = says 0 changing nothing

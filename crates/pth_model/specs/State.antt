@@ -15,6 +15,7 @@ use Rattle.pth_threads.specs.declared.entry.Entry.{Entry}
 use Rattle.pth_threads.specs.declared.entry.NewThread.{NewThread}
 use Rattle.pth_model.specs.declared.progress.Progress.{Progress}
 use Rattle.pth_ring.specs.Rings.{Events, no_events}
+use Rattle.pth_kernel.specs.Kernel.{Kernel}
 use Rattle.pth_model.specs.Resources.{Resources, no_resources}
 use Rattle.pth_model.specs.Standing.{Standing, shown, raises_of}
 
@@ -48,18 +49,16 @@ pub record Scheduler : Type 0 where
   pub preferred : Option ℕ
   -- whether new threads are favoured (PTH_CTRL_FAVOURNEW)
   pub favour_new : Bool
-  -- the moment, in microseconds, and how far a turn moves it
-  pub now : ℕ
-  pub clock : ℕ
 
 -- what calls change: the program's shared value, the threads, their attribute objects, events and rings of them (pth_event_t),
--- and what the scheduler keeps
+-- the kernel with its descriptors, and what the scheduler keeps
 pub record Control (P S H : Type 0) : Type 0 where
   pub program : P
   pub shared : H
   pub threads : Threads S
   pub attributes : Attributes
   pub events : Events
+  pub kernel : Kernel
   pub scheduler : Scheduler
 
 pub record State (P S H : Type 0) : Type 0 where
@@ -68,10 +67,10 @@ pub record State (P S H : Type 0) : Type 0 where
 
 -- the moment, and how far a turn moves it, in microseconds
 abbrev pub now_of : {P S H : Type 0} → Control P S H → ℕ
-now_of k = k.scheduler.now
+now_of k = k.kernel.now
 
 abbrev pub clock_of : {P S H : Type 0} → Control P S H → ℕ
-clock_of k = k.scheduler.clock
+clock_of k = k.kernel.clock
 
 -- what a run counts from turn to turn: no call sees or changes it
 pub record Turn : Type 0 where
@@ -124,8 +123,9 @@ main_standing q = []
 -- what a run is given
 pub record Given (P : Type 0) : Type 0 where
   pub program : P
+  pub kernel : Kernel
 
--- the state from which a run starts: main alone, ready at rank 0
+-- the state from which a run starts: main alone, ready at rank 0, at the moment of the kernel
 unfoldable pub start : {P S H : Type 0} → (P → Functions S H) → Given P → State P S H
 start f g = record {
   resources = no_resources;
@@ -142,7 +142,8 @@ start f g = record {
     };
     attributes = no_attributes;
     events = no_events;
-    scheduler = record { running = None; preferred = None; favour_new = true; now = 0; clock = 1 };
+    kernel = g.kernel;
+    scheduler = record { running = None; preferred = None; favour_new = true };
   };
 }
 

@@ -2,33 +2,33 @@
 
 ghost use Rattle.std.specs.Prelude.{◌≡◌, pos};
 ghost use Rattle.pth_base.specs.declared.outcome.Outcome.TheVariants.{Ended};
-ghost use Rattle.pth_model.specs.Example.{two_bodies, its_marks, joining_bodies, joining_marks, napping_bodies, napping_marks, waiting_bodies, waiting_marks};
+ghost use Rattle.pth_model.specs.Example.{given, two_bodies, its_marks, joining_bodies, joining_marks, napping_bodies, napping_marks, waiting_bodies, waiting_marks};
 ghost use Rattle.pth_model.specs.Run.{run};
 
 /// By the definitions, a main that spawns a thread, yields to it and exits gives exactly these marks, and the run ends
 /// with main's value after nine parts.
 pub fn two_bodies_run()
-    ensures marks { (run two_bodies (record { program = 0 }) 9).marks ≡ its_marks }
-    ensures outcome { (run two_bodies (record { program = 0 }) 9).turn.outcome ≡ Ended (pos 0) }
+    ensures marks { (run two_bodies given 9).marks ≡ its_marks }
+    ensures outcome { (run two_bodies given 9).turn.outcome ≡ Ended (pos 0) }
 {}
 
 /// By the definitions, a main that suspends one of two new threads, yields to the other by name, resumes the first and joins
 /// it gives exactly these marks, and the run ends with main's value after nineteen parts.
 pub fn joining_bodies_run()
-    ensures marks { (run joining_bodies (record { program = 0 }) 19).marks ≡ joining_marks }
-    ensures outcome { (run joining_bodies (record { program = 0 }) 19).turn.outcome ≡ Ended (pos 0) }
+    ensures marks { (run joining_bodies given 19).marks ≡ joining_marks }
+    ensures outcome { (run joining_bodies given 19).turn.outcome ≡ Ended (pos 0) }
 {}
 
 /// By the definitions, a main that naps for 5 microseconds sees time move there, and the run ends with its value after seven
 /// parts.
 pub fn napping_bodies_run()
-    ensures marks { (run napping_bodies (record { program = 0 }) 7).marks ≡ napping_marks }
-    ensures outcome { (run napping_bodies (record { program = 0 }) 7).turn.outcome ≡ Ended (pos 0) }
+    ensures marks { (run napping_bodies given 7).marks ≡ napping_marks }
+    ensures outcome { (run napping_bodies given 7).turn.outcome ≡ Ended (pos 0) }
 {}
 
 /// By the definitions, a main that waits for an event of moment 8 is woken there, and the run ends with its value after eight
 /// parts.
 pub fn waiting_bodies_run()
-    ensures marks { (run waiting_bodies (record { program = 0 }) 8).marks ≡ waiting_marks }
-    ensures outcome { (run waiting_bodies (record { program = 0 }) 8).turn.outcome ≡ Ended (pos 0) }
+    ensures marks { (run waiting_bodies given 8).marks ≡ waiting_marks }
+    ensures outcome { (run waiting_bodies given 8).turn.outcome ≡ Ended (pos 0) }
 {}
