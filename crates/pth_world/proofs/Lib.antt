@@ -2,6 +2,7 @@ pub mod Slots
 pub mod SettingValues
 pub mod Showing
 pub mod Events
+pub mod Kernels
 pub mod Listed
 pub mod Places
 pub mod Sound

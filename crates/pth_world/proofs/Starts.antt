@@ -24,6 +24,7 @@ use Rattle.pth_numbered.specs.Numbered.{number_known}
 use Rattle.pth_model.specs.State.{Control, Given, queue, start, main_entry, first_thread}
 use Rattle.pth_ring.specs.Arena.{RingsOf, events_of}
 use Rattle.pth_ring.specs.Rings.{no_events}
+use Rattle.pth_kernel.specs.Kernel.{KernelOf, kernel_of}
 use Rattle.pth_model.specs.Changes.{sets, enters, leaves_queue, makes}
 use Rattle.pth_model.specs.ThreadControl.{spawns}
 use Rattle.pth_model.specs.Pass.{is_ready_at}
@@ -39,15 +40,15 @@ module _ {P S H : Type 0} (f : P → Functions S H) (program : P) (t0 : ThreadsO
     (slots : slot_of t0 ≡ (λ _. None)) (tids : tid_at t0 ≡ (λ _. 0)) (entries : entry_at t0 ≡ (λ _. None)) (none_made : t0.made ≡ 0) (no_count : count t0 ≡ 0)
     (none : table None y0 ≡ (λ _. None)) (long0 : length y0 ≡ thread_limit)
     (a0 : AttrsOf) (no_objects : object_of a0 ≡ (λ _. None)) (no_number : a0.made ≡ 0)
-    (e0 : RingsOf) (none_there : events_of e0 ≡ no_events) where
+    (e0 : RingsOf) (none_there : events_of e0 ≡ no_events) (kernel : KernelOf) where
   abbrev x0 : ThreadsBySlot S
   x0 = record { records = t0; queues = record no_queues { room = thread_limit }; progress = y0 }
 
   abbrev w0 : WorldOf P S H
-  w0 = record { program = program; shared = (f program).shared; threads = x0; attributes = a0; events = e0; scheduler = record { running = None; preferred = None; favour_new = true; now = 0; clock = 1 } }
+  w0 = record { program = program; shared = (f program).shared; threads = x0; attributes = a0; events = e0; kernel = kernel; scheduler = record { running = None; preferred = None; favour_new = true } }
 
   abbrev s0 : Control P S H
-  s0 = before_main f (record { program = program })
+  s0 = before_main f (record { program = program; kernel = kernel_of kernel })
 
   none_queued : (q : Queue) → IsQueued (tid_at t0) (rows_of q (record no_queues { room = thread_limit }))
   none_queued queue.New = tt
@@ -101,6 +102,7 @@ module _ {P S H : Type 0} (f : P → Functions S H) (program : P) (t0 : ThreadsO
     threads = record { made = sym none_made; known = rw slots refl; progress = rw slots refl; standing = none_stand };
     attributes = record { made = sym no_number; objects = sym no_objects };
     events = sym none_there;
+    kernel = refl;
     scheduler = refl;
   }
 
@@ -178,6 +180,7 @@ module _ {P S H : Type 0} (f : P → Functions S H) (g : Given P) where
       threads = record { made = sh.threads.made; known = known_is ∙ sh.threads.known; progress = sh.threads.progress; standing = λ q. queue_is q ∙ sh.threads.standing q };
       attributes = sh.attributes;
       events = sh.events;
+      kernel = sh.kernel;
       scheduler = sh.scheduler;
     };
     resources = refl;

@@ -91,6 +91,7 @@ stands_for_state w sound = record {
     };
     attributes = record { made = refl; objects = refl };
     events = refl;
+    kernel = refl;
     scheduler = refl;
   };
   resources = refl;

@@ -191,6 +191,7 @@ module _ {P S H : Type 0} (w : WorldOf P S H) (t : ℕ) (whole : Whole w) (is : 
     };
     attributes = sh.attributes;
     events = ap all_unclaimed sh.events ∙ sym unclaimed;
+    kernel = sh.kernel;
     scheduler = sh.scheduler;
   }
 

@@ -8,6 +8,7 @@ use Rattle.pth_queue.specs.declared.queue.Queue.{Queue}
 use Rattle.pth_threads.specs.Attributes.{AttrsOf, object_of}
 use Rattle.pth_threads.specs.Threads.{slot_of, tid_at, entry_at}
 use Rattle.pth_ring.specs.Arena.{events_of}
+use Rattle.pth_kernel.specs.Kernel.{kernel_of}
 use Rattle.pth_model.specs.Resources.{no_resources}
 use Rattle.pth_model.specs.Standing.{shown, raises_of}
 use Rattle.pth_model.specs.State.{State, Control, Threads, Attributes}
@@ -33,6 +34,7 @@ pub record Shows {P S H : Type 0} (w : WorldOf P S H) (k : Control P S H) : Type
   pub threads : ShowsThreads w.threads k.threads
   pub attributes : ShowsAttributes w.attributes k.attributes
   pub events : k.events ≡ events_of w.events
+  pub kernel : k.kernel ≡ kernel_of w.kernel
   pub scheduler : k.scheduler ≡ w.scheduler
 
 -- the world stands for this state: it shows the control, and threads have nothing yet that is built

@@ -8,6 +8,7 @@ use Rattle.pth_queue.specs.declared.ranked.Ranked.{Ranked}
 use Rattle.pth_threads.specs.Attributes.{object_of}
 use Rattle.pth_threads.specs.Threads.{slot_of, tid_at, entry_at}
 use Rattle.pth_ring.specs.Arena.{events_of}
+use Rattle.pth_kernel.specs.Kernel.{kernel_of}
 use Rattle.pth_model.specs.Resources.{no_resources}
 use Rattle.pth_model.specs.Standing.{Standing}
 use Rattle.pth_model.specs.State.{State}
@@ -38,6 +39,7 @@ state_of w = record {
     };
     attributes = record { made = w.attributes.made; objects = object_of w.attributes };
     events = events_of w.events;
+    kernel = kernel_of w.kernel;
     scheduler = w.scheduler;
   };
 }

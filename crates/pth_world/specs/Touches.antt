@@ -36,4 +36,5 @@ pub record KeepsRest {P S H : Type 0} (old new : WorldOf P S H) : Type 0 where
   pub program : new.program ≡ old.program
   pub attributes : new.attributes ≡ old.attributes
   pub events : new.events.made ≡ old.events.made
+  pub kernel : new.kernel ≡ old.kernel
   pub scheduler : new.scheduler ≡ old.scheduler

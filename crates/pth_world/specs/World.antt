@@ -7,6 +7,7 @@ use Rattle.pth_threads.specs.Threads.{ThreadsOf, slot_of, entry_at}
 use Rattle.pth_threads.specs.declared.entry.Entry.{Entry}
 use Rattle.pth_queue.specs.Queues.{QueuesOf}
 use Rattle.pth_ring.specs.Arena.{RingsOf}
+use Rattle.pth_kernel.specs.Kernel.{KernelOf}
 use Rattle.pth_model.specs.declared.progress.Progress.{Progress}
 use Rattle.pth_model.specs.State.{Control, Scheduler, Given, start}
 
@@ -26,6 +27,7 @@ pub record WorldOf (P S H : Type 0) : Type 0 where
   pub threads : ThreadsBySlot S
   pub attributes : AttrsOf
   pub events : RingsOf
+  pub kernel : KernelOf
   pub scheduler : Scheduler
 
 -- from what a run starts, before the main thread is made

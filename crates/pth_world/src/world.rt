@@ -8,7 +8,7 @@ ghost use Rattle.pth_world.specs.contracts.counted_queues.CountedQueues.{the_row
 ghost use Rattle.pth_world.specs.contracts.progress_table.ProgressTable.{the_row as progress_row};
 ghost use Rattle.pth_world.specs.contracts.world.World.{the_row};
 ghost use Rattle.pth_model.specs.State.{Control};
-ghost use Rattle.pth_model.specs.Changes.{runs_now, prefers, favours_new, moves_to, prio_of};
+ghost use Rattle.pth_model.specs.Changes.{runs_now, prefers, favours_new, prio_of};
 ghost use Rattle.pth_model.specs.Ending.{other_than, stops_running};
 ghost use Rattle.pth_world.specs.Shows.{Shows};
 ghost use Rattle.pth_world.specs.Sound.{IsSound, IsPrio, IsKnown};
@@ -17,6 +17,7 @@ ghost use Rattle.pth_world.specs.Whole.{Whole, WholeBut, IsAbout, IsRunner};
 mod attributes;
 mod counts;
 mod events;
+mod kernel;
 mod moves;
 mod places;
 mod progress;
@@ -27,8 +28,9 @@ mod vanishing;
 
 use crate::counted_queues::CountedQueues;
 use crate::progress_table::ProgressTable;
-use pth_base::ids::{Micros, Slot, Tid};
+use pth_base::ids::{Slot, Tid};
 use pth_base::program::Program;
+use pth_kernel::kernel::Kernel;
 use pth_queue::queue_set::QueueSet;
 use pth_ring::rings::Rings;
 use pth_threads::attrs::Attrs;
@@ -37,7 +39,7 @@ use std::alloc::Global;
 use std::marker::Model;
 
 /// The program with its threads: their records, their queues and how far each is in its program, their attribute objects,
-/// events and rings of them, and what the scheduler keeps of them.
+/// events and rings of them, the kernel, and what the scheduler keeps of them.
 #[derive(Drop)]
 pub struct World<P: Program> {
     alloc: Global,
@@ -48,11 +50,10 @@ pub struct World<P: Program> {
     progress: ProgressTable<P::State>,
     attributes: Attrs,
     events: Rings,
+    kernel: Kernel,
     running: Option<Tid>,
     preferred: Option<Tid>,
     favour_new: bool,
-    time: Micros,
-    clock: Micros,
 }
 
 impl<P: Program> Model for World<P> {
@@ -68,12 +69,11 @@ impl<P: Program> Model for World<P> {
       threads = record { records = w.threads; queues = w.queues; progress = w.progress };
       attributes = w.attributes;
       events = w.events;
+      kernel = w.kernel;
       scheduler = record {
         running = option_map number_of w.running;
         preferred = option_map number_of w.preferred;
         favour_new = w.favour_new;
-        now = w.time;
-        clock = w.clock;
       };
     } };
 }
@@ -210,28 +210,5 @@ impl<P: Program> World<P> {
         ensures whole { Whole self.old → Whole self.new }
     {
         self.favour_new = on;
-    }
-
-    /// The moment, in microseconds.
-    pub fn time(&self) -> Micros
-        ensures { result ≡ self.now.scheduler.now }
-    {
-        self.time
-    }
-
-    /// How many microseconds a turn takes.
-    pub fn clock(&self) -> Micros
-        ensures { result ≡ self.now.scheduler.clock }
-    {
-        self.clock
-    }
-
-    /// Sets the moment.
-    pub fn set_time(&mut self, time: Micros)
-        ensures same { self.new ≡ record self.old { scheduler = record self.old.scheduler { now = time } } }
-        ensures shows { (k : Control P P.State P.Shared) → Shows self.old k → Shows self.new (moves_to time k) }
-        ensures whole { Whole self.old → Whole self.new }
-    {
-        self.time = time;
     }
 }

@@ -2,6 +2,7 @@
 
 ghost use Rattle.std.specs.Prelude.{◌≡◌, ◌≢◌, ◌<◌, ◌+◌, ◌↔◌, ℕ, ℤ, Bool, false, Option, Some, None, IfSome, IfOk, OnOk, OnErr, IsErrOf, option_copied, nat_lt, pos};
 ghost use Rattle.pth_base.specs.Limits.{thread_limit};
+ghost use Rattle.pth_kernel.specs.Kernel.{kernel_of};
 ghost use Rattle.pth_queue.specs.declared.queue.Queue.TheVariants as queue;
 ghost use Rattle.pth_queue.specs.Queues.{IsNowhere, IsRank, no_queues, entered, without};
 ghost use Rattle.pth_base.specs.declared.thread.ThreadState.TheVariants as state;
@@ -29,6 +30,7 @@ use pth_base::memory::OutOfMemory;
 use pth_base::name::Name;
 use pth_base::program::Program;
 use pth_base::thread::ThreadState;
+use pth_kernel::kernel::Kernel;
 use pth_model::progress::Progress;
 use pth_queue::queue::Queue;
 use pth_ring::rings::Rings;
@@ -51,8 +53,8 @@ fn main_thread() -> NewThread
 
 impl<P: Program> World<P> {
     // The program with no threads, and with room for as many as there may be.
-    fn without_threads(alloc: Global, program: P) -> Result<World<P>, OutOfMemory>
-        ensures shows { IfOk result (λ w. Shows w (before_main P.functions (record { program = program }))) }
+    fn without_threads(alloc: Global, program: P, kernel: Kernel) -> Result<World<P>, OutOfMemory>
+        ensures shows { IfOk result (λ w. Shows w (before_main P.functions (record { program = program; kernel = kernel_of kernel }))) }
         ensures whole { IfOk result (λ w. Whole w) }
         ensures made { IfOk result (λ w. w.threads.records.made ≡ 0) }
         ensures objects { IfOk result (λ w. w.attributes.made ≡ 0) }
@@ -76,25 +78,24 @@ impl<P: Program> World<P> {
             threads,
             attributes,
             events,
+            kernel,
             queues,
             progress,
             running: None,
             preferred: None,
             favour_new: true,
-            time: 0,
-            clock: 1,
         })
     }
 
-    /// The main thread alone, ready at rank 0 (`pth_init`).
-    pub fn new(alloc: Global, program: P) -> Result<World<P>, OutOfMemory>
-        ensures stands { IfOk result (λ w. StandsFor w (start P.functions (record { program = program }))) }
+    /// The main thread alone, ready at rank 0 (`pth_init`), at the moment of the kernel.
+    pub fn new(alloc: Global, program: P, kernel: Kernel) -> Result<World<P>, OutOfMemory>
+        ensures stands { IfOk result (λ w. StandsFor w (start P.functions (record { program = program; kernel = kernel_of kernel }))) }
         ensures whole { IfOk result (λ w. Whole w) }
         ensures one { IfOk result (λ w. w.threads.records.made ≡ 1) }
         ensures no_objects { IfOk result (λ w. w.attributes.made ≡ 0) }
         ensures no_events { IfOk result (λ w. w.events.made ≡ 0) }
     {
-        let mut world = World::without_threads(alloc, program)?;
+        let mut world = World::without_threads(alloc, program, kernel)?;
         let main = match world.spawn(BodyId(0), 0, main_thread()) {
             Ok(main) => main,
             Err(AddErr::OutOfMemory) => return Err(OutOfMemory),

@@ -14,5 +14,5 @@ pub returns-clause-shows : goal.returns-clause-shows
 unfolding claims
 returns-clause-shows g c =
     let is : to_z w64 (of_z w64 c.args.e) ≡ c.args.e = omega (arith, ints) in
-    let changes = rw (c.rings_mut.ensures.value, c.time-now.ensures, is) at c.claim.ensures.changes in
-    on_ok c.claim.result changes (λ is k sh. kept_shows c.args.self.now _ (claimed (number c.args.e) (tid c.args.t.0) (now_of k)) k sh (rw sh.scheduler is))
+    let changes = rw (c.rings_mut.ensures.value, c.time-now.ensures.now, is) at c.claim.ensures.changes in
+    on_ok c.claim.result changes (λ is k sh. kept_shows c.args.self.now _ (claimed (number c.args.e) (tid c.args.t.0) (now_of k)) k sh (rw sh.kernel is))

@@ -1,10 +1,9 @@
-use Rattle.std.proofs.Common.{ap, refl}
-use Rattle.pth_model.specs.State.{Scheduler}
-use Rattle.pth_world.proofs.Scheduling.{scheduler_shows, scheduler_whole}
+use Rattle.pth_kernel.specs.Kernel.{advanced}
+use Rattle.pth_world.proofs.Kernels.{turned_shows, kernel_whole}
 use Rattle.pth_world.proofs.world.World.set_time.Goals as goal
 
 pub returns-clause-shows : goal.returns-clause-shows
-returns-clause-shows g c = rw (← c.self.view_is) (λ k sh. scheduler_shows _ _ k _ sh (ap (λ (x : Scheduler). record x { now = c.args.time }) sh.scheduler))
+returns-clause-shows g c k sh = turned_shows c.args.self.now c.advance.new.self (advanced c.args.time) k sh (rw c.kernel_mut.ensures.value at c.advance.ensures.kernel)
 
 pub returns-clause-whole : goal.returns-clause-whole
-returns-clause-whole g c = rw (← c.self.view_is) (λ whole. scheduler_whole _ _ refl whole)
+returns-clause-whole g c whole = kernel_whole c.args.self.now c.advance.new.self whole
