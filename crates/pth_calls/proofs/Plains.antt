@@ -1,5 +1,5 @@
 -- How a plain call begins, and the rows of calls that are not built.
-use Rattle.std.proofs.Common.{◌≡◌, ◌≢◌, ◌∙◌, ℕ, ap, Bool, true, false, List, [], ◌∷◌, ◌++◌, Option, Some, None, refl}
+use Rattle.std.proofs.Common.{◌≡◌, ◌≢◌, ◌∙◌, ℕ, ℤ, ap, Bool, true, false, List, [], ◌∷◌, ◌++◌, Option, Some, None, refl}
 use Rattle.pth_base.specs.Program.{Functions}
 use Rattle.pth_base.specs.Facilities.{facility_of}
 use Rattle.pth_base.specs.declared.answer.Answer.{Answer}
@@ -85,6 +85,11 @@ quiet_event_call t (call.EvKind e) a events = refl
 quiet_event_call t (call.EvFree e all) a events = refl
 quiet_event_call t c a events = absurd (cc events)
 
+-- nor does close
+pub quiet_close : (t : Tid) (d : ℤ) (a : Answer) → IsQuiet (Answered t (call.Close d) a)
+unfolding told answer_told
+quiet_close t d a = refl
+
 -- ---- the facilities of which some plain call is built
 
 abbrev has_code : Facility → Bool
@@ -93,6 +98,7 @@ has_code facility.Attributes = true
 has_code facility.Threads = true
 has_code facility.Utilities = true
 has_code facility.Events = true
+has_code facility.Io = true
 has_code x = false
 
 abbrev pub is_of_code : Option Facility → Bool
@@ -106,6 +112,7 @@ pub record IsOther (x : Facility) : Type 0 where
   pub threads : x ≢ facility.Threads
   pub utilities : x ≢ facility.Utilities
   pub events : x ≢ facility.Events
+  pub io : x ≢ facility.Io
 
 pub other_facility : (x : Facility) → IsOther x → is_of_code (Some x) ≡ false
 other_facility facility.Library other = absurd (other.library refl)
@@ -113,6 +120,7 @@ other_facility facility.Attributes other = absurd (other.attributes refl)
 other_facility facility.Threads other = absurd (other.threads refl)
 other_facility facility.Utilities other = absurd (other.utilities refl)
 other_facility facility.Events other = absurd (other.events refl)
+other_facility facility.Io other = absurd (other.io refl)
 other_facility x other = refl
 
 module _ {P S H : Type 0} (f : P → Functions S H) (s : State P S H) (t : ℕ) where
@@ -152,8 +160,15 @@ module _ {P S H : Type 0} (f : P → Functions S H) (s : State P S H) (t : ℕ) 
   unbuilt_row (call.Wait e) plain none = absurd (cc none)
   unbuilt_row (call.Join n) plain none = absurd (cc none)
   unbuilt_row (call.Exit v) plain none = absurd (cc none)
+  unbuilt_row (call.Fdmode d m) plain none = absurd (cc none)
   unbuilt_row (call.Timeout n) plain none = absurd (cc none)
+  unbuilt_row (call.EvFd goals fd) plain none = absurd (cc none)
+  unbuilt_row (call.EvSelect r w x) plain none = absurd (cc none)
   unbuilt_row (call.EvTime m) plain none = absurd (cc none)
+  unbuilt_row (call.EvMsg p) plain none = absurd (cc none)
+  unbuilt_row (call.EvCond c) plain none = absurd (cc none)
+  unbuilt_row (call.EvTid state n) plain none = absurd (cc none)
+  unbuilt_row (call.EvFunc c v l) plain none = absurd (cc none)
   unbuilt_row (call.Chain e l) plain none = absurd (cc none)
   unbuilt_row (call.EvConcat e g) plain none = absurd (cc none)
   unbuilt_row (call.EvIsolate e) plain none = absurd (cc none)
@@ -163,6 +178,7 @@ module _ {P S H : Type 0} (f : P → Functions S H) (s : State P S H) (t : ℕ) 
   unbuilt_row (call.EvFree e all) plain none = absurd (cc none)
   unbuilt_row (call.Usleep n) plain none = absurd (cc plain)
   unbuilt_row (call.Sleep n) plain none = absurd (cc plain)
+  unbuilt_row (call.Close d) plain none = absurd (cc none)
   unbuilt_row call.Plain plain none = absurd (cc plain)
   unbuilt_row (call.Note v) plain none = absurd (cc plain)
   unbuilt_row c plain none = refl
@@ -184,28 +200,20 @@ module _ {P S H : Type 0} (f : P → Functions S H) (s : State P S H) (t : ℕ) 
   unbuilt_thread_row (call.Exit v) plain threads no_spawn no_self no_suspend no_resume = absurd (cc plain)
   unbuilt_thread_row c plain threads no_spawn no_self no_suspend no_resume = absurd (cc threads)
 
-  -- and those of the utilities
-  pub unbuilt_utility_row : (c : Call) → facility_of c ≡ Some facility.Utilities → ((n : _) → c ≢ call.Timeout n) → row_of f s t c ≡ unbuilt
+  -- and those on descriptors
+  pub unbuilt_descriptor_row : (c : Call) → is_plain c ≡ true → facility_of c ≡ Some facility.Io → ((d : _) → c ≢ call.Close d) → row_of f s t c ≡ unbuilt
   unfolding row_of
-  unbuilt_utility_row (call.Fdmode d m) utilities no_timeout = refl
-  unbuilt_utility_row (call.Timeout n) utilities no_timeout = absurd (no_timeout n refl)
-  unbuilt_utility_row c utilities no_timeout = absurd (cc utilities)
-
-  -- and those on events
-  pub unbuilt_event_row : (c : Call) → facility_of c ≡ Some facility.Events → ((m : _) → c ≢ call.EvTime m) → ((e l : _) → c ≢ call.Chain e l) → ((e g : _) → c ≢ call.EvConcat e g) → ((e : _) → c ≢ call.EvIsolate e) → ((e forward until_occurred : _) → c ≢ call.EvWalk e forward until_occurred) → ((e : _) → c ≢ call.EvStatus e) → ((e : _) → c ≢ call.EvKind e) → ((e all : _) → c ≢ call.EvFree e all) → row_of f s t c ≡ unbuilt
-  unfolding row_of
-  unbuilt_event_row (call.EvFd goals fd) events no_time no_chain no_concat no_isolate no_walk no_status no_kind no_free = refl
-  unbuilt_event_row (call.EvSelect r w x) events no_time no_chain no_concat no_isolate no_walk no_status no_kind no_free = refl
-  unbuilt_event_row (call.EvTime m) events no_time no_chain no_concat no_isolate no_walk no_status no_kind no_free = absurd (no_time m refl)
-  unbuilt_event_row (call.EvMsg p) events no_time no_chain no_concat no_isolate no_walk no_status no_kind no_free = refl
-  unbuilt_event_row (call.EvCond c) events no_time no_chain no_concat no_isolate no_walk no_status no_kind no_free = refl
-  unbuilt_event_row (call.EvTid state n) events no_time no_chain no_concat no_isolate no_walk no_status no_kind no_free = refl
-  unbuilt_event_row (call.EvFunc c v l) events no_time no_chain no_concat no_isolate no_walk no_status no_kind no_free = refl
-  unbuilt_event_row (call.Chain e l) events no_time no_chain no_concat no_isolate no_walk no_status no_kind no_free = absurd (no_chain e l refl)
-  unbuilt_event_row (call.EvConcat e g) events no_time no_chain no_concat no_isolate no_walk no_status no_kind no_free = absurd (no_concat e g refl)
-  unbuilt_event_row (call.EvIsolate e) events no_time no_chain no_concat no_isolate no_walk no_status no_kind no_free = absurd (no_isolate e refl)
-  unbuilt_event_row (call.EvWalk e forward until_occurred) events no_time no_chain no_concat no_isolate no_walk no_status no_kind no_free = absurd (no_walk e forward until_occurred refl)
-  unbuilt_event_row (call.EvStatus e) events no_time no_chain no_concat no_isolate no_walk no_status no_kind no_free = absurd (no_status e refl)
-  unbuilt_event_row (call.EvKind e) events no_time no_chain no_concat no_isolate no_walk no_status no_kind no_free = absurd (no_kind e refl)
-  unbuilt_event_row (call.EvFree e all) events no_time no_chain no_concat no_isolate no_walk no_status no_kind no_free = absurd (no_free e all refl)
-  unbuilt_event_row c events no_time no_chain no_concat no_isolate no_walk no_status no_kind no_free = absurd (cc events)
+  unbuilt_descriptor_row (call.Usleep n) plain io no_close = absurd (cc plain)
+  unbuilt_descriptor_row (call.Sleep n) plain io no_close = absurd (cc plain)
+  unbuilt_descriptor_row (call.Read d n) plain io no_close = refl
+  unbuilt_descriptor_row (call.ReadEv d n e) plain io no_close = refl
+  unbuilt_descriptor_row (call.Write d b) plain io no_close = refl
+  unbuilt_descriptor_row (call.WriteEv d b e) plain io no_close = refl
+  unbuilt_descriptor_row (call.Accept d) plain io no_close = refl
+  unbuilt_descriptor_row (call.AcceptEv d e) plain io no_close = refl
+  unbuilt_descriptor_row (call.Connect d) plain io no_close = refl
+  unbuilt_descriptor_row (call.ConnectEv d e) plain io no_close = refl
+  unbuilt_descriptor_row (call.Select r w x l) plain io no_close = refl
+  unbuilt_descriptor_row (call.SelectEv r w x l e) plain io no_close = refl
+  unbuilt_descriptor_row (call.Close d) plain io no_close = absurd (no_close d refl)
+  unbuilt_descriptor_row c plain io no_close = absurd (cc io)

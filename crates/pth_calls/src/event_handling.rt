@@ -3,9 +3,11 @@
 
 ghost use Rattle.std.specs.Prelude.{◌≡◌, Some, IfOk, OnOk, false};
 ghost use Rattle.pth_base.specs.Facilities.{facility_of};
+ghost use Rattle.pth_base.specs.declared.event.EvLine.TheVariants as line;
 ghost use Rattle.pth_base.specs.declared.facility.Facility.TheVariants as facility;
 ghost use Rattle.pth_base.specs.declared.mark.Mark.TheVariants.{Answered};
-ghost use Rattle.pth_model.specs.EventHandling.{ev_time as time_row, chain_time as chain_time_row, chain as chain_row, ev_concat as concat_row, ev_isolate as isolate_row, ev_walk as walk_row, ev_status as status_row, ev_kind as kind_row, ev_free as free_row};
+ghost use Rattle.pth_calls.specs.Lines.{event_line};
+ghost use Rattle.pth_model.specs.EventHandling.{are_goals as are_goals_of, spec_of as spec_for, make_event as make_row, chain as chain_row, ev_concat as concat_row, ev_isolate as isolate_row, ev_walk as walk_row, ev_status as status_row, ev_kind as kind_row, ev_free as free_row};
 ghost use Rattle.pth_model.specs.Rows.{row_of};
 ghost use Rattle.pth_model.specs.State.{State};
 ghost use Rattle.pth_world.specs.Frame.{Frame};
@@ -25,17 +27,59 @@ use pth_model::times::moment_of;
 use pth_ring::event::Status;
 use pth_world::world::World;
 
-// pth_event with PTH_EVENT_TIME: a new event of a moment.
-fn ev_time<P: Program>(w: &mut World<P>, at: i64) -> Result<Answer, OutOfMemory>
-    requires whole { Whole w.old }
-    requires few { HasNumbers w.old }
-    ensures answered { IfOk result (λ a. IsAnswered w.old w.new a (λ (s : State P P.State P.Shared). (time_row s at).begin)) }
-    ensures frame { OnOk result (Frame w.old w.new 1 w.old.scheduler.running false) }
+// An event of a moment. None for a negative one.
+fn moment_spec(at: i64) -> Option<EventSpec>
+    ensures { result ≡ spec_for (line.Time at) }
 {
     if at < 0 {
-        return Ok(Answer::Fail(Errno::EINVAL));
+        return None;
     }
-    let spec = EventSpec::Time(moment_of(at));
+    Some(EventSpec::Time(moment_of(at)))
+}
+
+// Goals are a sum of some of 1, 2 and 4.
+fn are_goals(goals: u8) -> bool
+    ensures { result ≡ are_goals_of goals }
+{
+    0 < goals && goals < 8
+}
+
+// An event of a descriptor. None for goals or a descriptor that there can't be.
+fn descriptor_spec(goals: u8, fd: i64) -> Option<EventSpec>
+    ensures { result ≡ spec_for (line.Fd goals fd) }
+{
+    if !are_goals(goals) || fd < 0 || fd >= 64 {
+        return None;
+    }
+    Some(EventSpec::Fd { goals, fd })
+}
+
+// What an event is of that a line asks for. None where its operands are refused. Events of other kinds are not built yet.
+fn spec_of(line: &EvLine) -> Option<EventSpec>
+    ensures { result ≡ spec_for line.now }
+{
+    match line {
+        EvLine::Time(at) => moment_spec(*at),
+        EvLine::Fd { goals, fd } => descriptor_spec(*goals, *fd),
+        EvLine::Select { r, w, x } => Some(EventSpec::Select {
+            r: *r,
+            w: *w,
+            x: *x,
+        }),
+        _ => None,
+    }
+}
+
+// pth_event: a new event, alone in its ring.
+fn make_event<P: Program>(w: &mut World<P>, line: &EvLine) -> Result<Answer, OutOfMemory>
+    requires whole { Whole w.old }
+    requires few { HasNumbers w.old }
+    ensures answered { IfOk result (λ a. IsAnswered w.old w.new a (λ (s : State P P.State P.Shared). (make_row s line.now).begin)) }
+    ensures frame { OnOk result (Frame w.old w.new 1 w.old.scheduler.running false) }
+{
+    let Some(spec) = spec_of(line) else {
+        return Ok(Answer::Fail(Errno::EINVAL));
+    };
     match w.rings_mut().make(spec) {
         Ok(event) => Ok(Answer::Int(i64::from(event.0))),
         Err(refusal) => refused(refusal),
@@ -43,32 +87,18 @@ fn ev_time<P: Program>(w: &mut World<P>, at: i64) -> Result<Answer, OutOfMemory>
 }
 
 // The same with PTH_MODE_CHAIN: just before another event in its ring.
-fn chain_time<P: Program>(w: &mut World<P>, e: i64, at: i64) -> Result<Answer, OutOfMemory>
-    requires whole { Whole w.old }
-    requires few { HasNumbers w.old }
-    ensures answered { IfOk result (λ a. IsAnswered w.old w.new a (λ (s : State P P.State P.Shared). (chain_time_row s e at).begin)) }
-    ensures frame { OnOk result (Frame w.old w.new 1 w.old.scheduler.running false) }
-{
-    if at < 0 {
-        return Ok(Answer::Fail(Errno::EINVAL));
-    }
-    let spec = EventSpec::Time(moment_of(at));
-    match w.rings_mut().chain(spec, e) {
-        Ok(event) => Ok(Answer::Int(i64::from(event.0))),
-        Err(refusal) => refused(refusal),
-    }
-}
-
-// pth_event with PTH_MODE_CHAIN. Events of other kinds are not built yet.
 fn chain<P: Program>(w: &mut World<P>, e: i64, line: &EvLine) -> Result<Answer, OutOfMemory>
     requires whole { Whole w.old }
     requires few { HasNumbers w.old }
     ensures answered { IfOk result (λ a. IsAnswered w.old w.new a (λ (s : State P P.State P.Shared). (chain_row s e line.now).begin)) }
     ensures frame { OnOk result (Frame w.old w.new 1 w.old.scheduler.running false) }
 {
-    match line {
-        EvLine::Time(at) => chain_time(w, e, *at),
-        _ => Ok(Answer::Fail(Errno::EINVAL)),
+    let Some(spec) = spec_of(line) else {
+        return Ok(Answer::Fail(Errno::EINVAL));
+    };
+    match w.rings_mut().chain(spec, e) {
+        Ok(event) => Ok(Answer::Int(i64::from(event.0))),
+        Err(refusal) => refused(refusal),
     }
 }
 
@@ -141,7 +171,41 @@ fn ev_free<P: Program>(w: &mut World<P>, e: i64, all: bool) -> Answer
     done(w.rings_mut().free(e, all))
 }
 
-/// The answer of a call on events. Those of moments are built.
+// The line of a call that makes an event. None for other calls.
+fn line_of(call: &Call) -> Option<EvLine>
+    ensures { result ≡ event_line call.now }
+{
+    match call {
+        Call::EvFd { goals, fd } => Some(EvLine::Fd {
+            goals: *goals,
+            fd: *fd,
+        }),
+        Call::EvSelect { r, w, x } => Some(EvLine::Select {
+            r: *r,
+            w: *w,
+            x: *x,
+        }),
+        Call::EvTime(at) => Some(EvLine::Time(*at)),
+        Call::EvMsg(p) => Some(EvLine::Msg(*p)),
+        Call::EvCond(c) => Some(EvLine::Cond(*c)),
+        Call::EvTid { state, tid } => Some(EvLine::Tid {
+            state: *state,
+            tid: *tid,
+        }),
+        Call::EvFunc {
+            check,
+            arg,
+            interval,
+        } => Some(EvLine::Func {
+            check: *check,
+            arg: *arg,
+            interval: *interval,
+        }),
+        _ => None,
+    }
+}
+
+/// The answer of a call on events. Those of moments and of descriptors are built.
 pub(crate) fn answer_events<P: Program>(
     w: &mut World<P>,
     t: Tid,
@@ -155,8 +219,10 @@ pub(crate) fn answer_events<P: Program>(
     ensures quiet { IfOk result (λ a. IsQuiet (Answered t call.now a)) }
     ensures frame { OnOk result (Frame w.old w.new 1 (Some t.0) false) }
 {
+    if let Some(line) = line_of(call) {
+        return make_event(w, &line);
+    }
     match call {
-        Call::EvTime(at) => ev_time(w, *at),
         Call::Chain { e, line } => chain(w, *e, line),
         Call::EvConcat { e, f } => Ok(ev_concat(w, *e, *f)),
         Call::EvIsolate(e) => Ok(ev_isolate(w, *e)),
@@ -168,6 +234,6 @@ pub(crate) fn answer_events<P: Program>(
         Call::EvStatus(e) => Ok(ev_status(w, *e)),
         Call::EvKind(e) => Ok(ev_kind(w, *e)),
         Call::EvFree { e, all } => Ok(ev_free(w, *e, *all)),
-        _ => Ok(Answer::Fail(Errno::EINVAL)),
+        _ => unreachable!(),
     }
 }

@@ -3,6 +3,7 @@
 
 pub mod answering;
 pub mod attribute_handling;
+pub mod descriptors;
 pub mod event_handling;
 pub mod library_control;
 pub mod plain;

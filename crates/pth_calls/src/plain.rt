@@ -16,6 +16,7 @@ ghost use Rattle.pth_world.specs.Whole.{Whole};
 
 use crate::answering::answer_call;
 use crate::attribute_handling::answer_attributes;
+use crate::descriptors::answer_descriptors;
 use crate::event_handling::answer_events;
 use crate::library_control::answer_library;
 use crate::thread_control::answer_threads;
@@ -50,6 +51,7 @@ fn answer<P: Program>(w: &mut World<P>, t: Tid, call: &Call) -> Result<Answer, O
         Facility::Threads => answer_threads(w, t, call),
         Facility::Utilities => Ok(answer_utilities(w, call)),
         Facility::Events => answer_events(w, t, call),
+        Facility::Io => Ok(answer_descriptors(w, call)),
         _ => Ok(Answer::Fail(Errno::EINVAL)),
     }
 }

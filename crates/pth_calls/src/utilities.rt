@@ -1,13 +1,15 @@
-//! Utilities: `pth_timeout`.
+//! Utilities: `pth_fdmode`, `pth_timeout`.
 
-ghost use Rattle.std.specs.Prelude.{◌≡◌, ℕ, Some};
+ghost use Rattle.std.specs.Prelude.{◌≡◌, ℕ, Some, false};
 ghost use Rattle.pth_base.specs.Facilities.{facility_of};
 ghost use Rattle.pth_base.specs.declared.facility.Facility.TheVariants as facility;
 ghost use Rattle.pth_base.specs.declared.mark.Mark.TheVariants.{Answered};
+ghost use Rattle.pth_model.specs.Io.{fdmode as fdmode_row};
 ghost use Rattle.pth_model.specs.Rows.{row_of};
 ghost use Rattle.pth_model.specs.State.{State};
 ghost use Rattle.pth_model.specs.Times.{timeout as timeout_row};
 ghost use Rattle.pth_model.specs.Transition.{tid};
+ghost use Rattle.pth_world.specs.Frame.{Frame};
 ghost use Rattle.pth_world.specs.Leading.{IsAnswered, IsQuiet};
 ghost use Rattle.pth_world.specs.Whole.{Whole};
 
@@ -17,6 +19,18 @@ use pth_base::errno::Errno;
 use pth_base::program::Program;
 use pth_model::times::{micros, moment_after};
 use pth_world::world::World;
+
+// pth_fdmode: whether a descriptor blocks from now on, and the mode until now.
+fn fdmode<P: Program>(w: &mut World<P>, f: i64, m: i64) -> Answer
+    requires { Whole w.old }
+    ensures answered { IsAnswered w.old w.new result (λ (s : State P P.State P.Shared). (fdmode_row s f m).begin) }
+    ensures frame { Frame w.old w.new 0 w.old.scheduler.running false }
+{
+    match w.kernel_mut().mode(f, m) {
+        Ok(mode) => Answer::Int(mode),
+        Err(e) => Answer::Fail(e),
+    }
+}
 
 // pth_timeout: the moment that lies so many microseconds ahead.
 fn timeout<P: Program>(w: &World<P>, n: i64) -> Answer
@@ -30,14 +44,16 @@ fn timeout<P: Program>(w: &World<P>, n: i64) -> Answer
 }
 
 /// The answer of a call of the utilities.
-pub(crate) fn answer_utilities<P: Program>(w: &World<P>, call: &Call) -> Answer
-    requires whole { Whole w.now }
+pub(crate) fn answer_utilities<P: Program>(w: &mut World<P>, call: &Call) -> Answer
+    requires whole { Whole w.old }
     requires utilities { facility_of call.now ≡ Some facility.Utilities }
-    ensures answered { (t : ℕ) → IsAnswered w.now w.now result (λ (s : State P P.State P.Shared). (row_of P.functions s t call.now).begin) }
+    ensures answered { (t : ℕ) → IsAnswered w.old w.new result (λ (s : State P P.State P.Shared). (row_of P.functions s t call.now).begin) }
     ensures quiet { (t : ℕ) → IsQuiet (Answered (tid t) call.now result) }
+    ensures frame { Frame w.old w.new 0 w.old.scheduler.running false }
 {
     match call {
+        Call::Fdmode { f, m } => fdmode(w, *f, *m),
         Call::Timeout(n) => timeout(w, *n),
-        _ => Answer::Fail(Errno::EINVAL),
+        _ => unreachable!(),
     }
 }

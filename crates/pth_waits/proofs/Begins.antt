@@ -3,6 +3,7 @@ use Rattle.std.proofs.Common.{◌≡◌, ◌≢◌, ℕ, ℤ, ◌||◌, ◌&&◌
 use Rattle.pth_base.specs.Program.{Functions}
 use Rattle.pth_base.specs.declared.call.Call.{Call}
 use Rattle.pth_base.specs.declared.call.Call.TheVariants as call
+use Rattle.pth_base.specs.declared.event.EventSpec.{EventSpec}
 use Rattle.pth_base.specs.declared.query.Query.{Query}
 use Rattle.pth_base.specs.declared.query.Query.TheVariants as query
 use Rattle.pth_calls.specs.Plain.{is_plain}
@@ -11,14 +12,17 @@ use Rattle.pth_model.specs.declared.awaits.Awaits.TheVariants.{Death, AnyDeath}
 use Rattle.pth_model.specs.declared.blocked.Blocked.{Blocked}
 use Rattle.pth_model.specs.Awaits.{awaited_by, awaits_in}
 use Rattle.pth_model.specs.Calls.{wakes, wakes_by}
-use Rattle.pth_model.specs.Changes.{blocked_of, or_nobody}
+use Rattle.pth_model.specs.Changes.{blocked_of, or_nobody, with_events}
 use Rattle.pth_base.specs.declared.event.EvLine.{EvLine}
 use Rattle.pth_base.specs.declared.event.EvLine.TheVariants as line
-use Rattle.pth_model.specs.EventHandling.{chain}
+use Rattle.pth_model.specs.EventHandling.{spec_of, made_as, make_event, chain}
 use Rattle.pth_model.specs.LibraryControl.{ctrl}
 use Rattle.pth_numbered.specs.Operands.{number, is_zero}
 use Rattle.pth_model.specs.Rows.{row_of}
 use Rattle.pth_model.specs.State.{State}
+use Rattle.pth_model.specs.Transition.{Change}
+use Rattle.pth_model.specs.Verdict.{Verdict, says, by_result}
+use Rattle.pth_ring.specs.Rings.{make_answer, chain_answer, alone, chained}
 use Rattle.pth_model.specs.ThreadControl.{thread, is_dead_in, first_of, joinable_dead}
 use Rattle.pth_waits.specs.Blocking.{may_block}
 use Rattle.pth_waits.specs.Waking.{has_come}
@@ -52,9 +56,15 @@ module _ {P S H : Type 0} (f : P → Functions S H) (s : State P S H) (t : ℕ) 
   ctrl_never_wakes query.Threads b = refl
   ctrl_never_wakes x b = refl
 
+  made_never_wakes : (o : Option EventSpec) (v : EventSpec → Verdict) (g : EventSpec → Change P S H) (b : Blocked) → (made_as o v g).wakes b ≡ false
+  made_never_wakes None v g b = refl
+  made_never_wakes (Some x) v g b = refl
+
+  make_never_wakes : (l : EvLine) (b : Blocked) → (make_event s l).wakes b ≡ false
+  make_never_wakes l = made_never_wakes (spec_of l) (λ x. by_result says (make_answer s.control.events)) (λ x. with_events (alone x))
+
   chain_never_wakes : (e : ℤ) (l : EvLine) (b : Blocked) → (chain s e l).wakes b ≡ false
-  chain_never_wakes e (line.Time at) b = refl
-  chain_never_wakes e l b = refl
+  chain_never_wakes e l = made_never_wakes (spec_of l) (λ x. by_result says (chain_answer s.control.events (number e))) (λ x. with_events (chained x (number e)))
 
   -- a join wakes once the death that it waits for has come
   or_none : (x : Bool) → (x || false) ≡ x
@@ -74,6 +84,13 @@ module _ {P S H : Type 0} (f : P → Functions S H) (s : State P S H) (t : ℕ) 
   call_wakes (call.Exit v) b = refl
   call_wakes (call.Join n) b = join_wakes n (is_zero n)
   call_wakes (call.Ctrl x) b = ctrl_never_wakes x b
+  call_wakes (call.EvFd goals fd) b = make_never_wakes (line.Fd goals fd) b
+  call_wakes (call.EvSelect r w x) b = make_never_wakes (line.Select r w x) b
+  call_wakes (call.EvTime m) b = make_never_wakes (line.Time m) b
+  call_wakes (call.EvMsg p) b = make_never_wakes (line.Msg p) b
+  call_wakes (call.EvCond c) b = make_never_wakes (line.Cond c) b
+  call_wakes (call.EvTid state n) b = make_never_wakes (line.Tid state n) b
+  call_wakes (call.EvFunc c v l) b = make_never_wakes (line.Func c v l) b
   call_wakes (call.Chain e l) b = chain_never_wakes e l b
   call_wakes c b = refl
 

@@ -1,8 +1,10 @@
 //! What is found of events, and the rings for which threads wait.
 
-ghost use Rattle.std.specs.Prelude.{◌≡◌, ◌≢◌};
+ghost use Rattle.std.specs.Prelude.{◌≡◌, ◌≢◌, ◌<◌, ◌&&◌, ◌||◌};
 ghost use Rattle.std.specs.List.{list_any};
-ghost use Rattle.pth_model.specs.Looks.{comes, found as found_now, looks_at};
+ghost use Rattle.pth_base.specs.Descriptors.{contains};
+ghost use Rattle.pth_kernel.specs.Kernel.{kernel_of, fd_named, is_readable, is_writeable, is_exceptional};
+ghost use Rattle.pth_model.specs.Looks.{comes, found as found_now, is_gone as is_gone_now, looks_at, occurs as occurs_now};
 ghost use Rattle.pth_model.specs.State.{Control};
 ghost use Rattle.pth_numbered.specs.Numbered.{number_at};
 ghost use Rattle.pth_numbered.specs.Operands.{number};
@@ -14,22 +16,62 @@ ghost use Rattle.pth_waits.specs.Looking.{LooksAt};
 
 use pth_base::ids::Slot;
 use pth_base::program::Program;
+use pth_io::select::{are_all_live, is_any_ready};
+use pth_kernel::kernel::Kernel;
 use pth_ring::rings::{EventSpec, Status};
 use pth_world::world::World;
+
+// Whether an event never comes any more, since a descriptor of it is not live.
+fn is_gone<P: Program>(w: &World<P>, spec: &EventSpec) -> bool
+    ensures { (k : Control P P.State P.Shared) → Shows w.now k → result ≡ is_gone_now k spec.now }
+{
+    match spec {
+        EventSpec::Fd { fd, .. } => !w.kernel().is_live(*fd),
+        EventSpec::Select { r, w: writes, x } => !are_all_live(w.kernel(), *r, *writes, *x),
+        _ => false,
+    }
+}
+
+// Whether a goal is one of an event's: 0 to be readable, 1 to be writeable, 2 an exceptional condition.
+fn has_goal(goals: u8, goal: u8) -> bool
+    requires { goal < 8 }
+    ensures { result ≡ contains goals goal }
+{
+    goals >> goal & 1 == 1
+}
+
+// Whether a descriptor is as one of these goals says.
+fn is_as_goals_say(k: &Kernel, goals: u8, fd: i64) -> bool
+    ensures { result ≡ ((contains goals 0 && is_readable (kernel_of k.now) (fd_named fd)) || (contains goals 1 && is_writeable (kernel_of k.now) (fd_named fd)) || (contains goals 2 && is_exceptional (kernel_of k.now) (fd_named fd))) }
+{
+    has_goal(goals, 0) && k.readable(fd)
+        || has_goal(goals, 1) && k.writeable(fd)
+        || has_goal(goals, 2) && k.exceptional(fd)
+}
+
+// Whether an event occurs now, if no descriptor of it is gone.
+fn occurs<P: Program>(w: &World<P>, spec: &EventSpec) -> bool
+    ensures { (k : Control P P.State P.Shared) → Shows w.now k → result ≡ occurs_now k spec.now }
+{
+    match spec {
+        EventSpec::Fd { goals, fd } => is_as_goals_say(w.kernel(), *goals, *fd),
+        EventSpec::Select { r, w: writes, x } => is_any_ready(w.kernel(), *r, *writes, *x),
+        EventSpec::Time(at) => *at <= w.time(),
+        _ => false,
+    }
+}
 
 // What is found of an event as it is looked at.
 fn found<P: Program>(w: &World<P>, spec: &EventSpec) -> Status
     ensures { (k : Control P P.State P.Shared) → Shows w.now k → result ≡ found_now k spec.now }
 {
-    match spec {
-        EventSpec::Time(at) => {
-            if *at <= w.time() {
-                Status::Occurred
-            } else {
-                Status::Pending
-            }
-        }
-        _ => Status::Pending,
+    if is_gone(w, spec) {
+        return Status::Failed;
+    }
+    if occurs(w, spec) {
+        Status::Occurred
+    } else {
+        Status::Pending
     }
 }
 

@@ -1,20 +1,15 @@
-use Rattle.std.proofs.Common.{ap, SFits, w64, to_z-of_z, rules}
-use Rattle.pth_base.specs.declared.errno.Errno.TheVariants.{EINVAL}
-use Rattle.pth_model.specs.Row.{Row}
+use Rattle.std.proofs.Common.{◌∙◌, sym, SFits, w64, to_z-of_z, rules}
 use Rattle.pth_model.specs.Rows.{row_of}
-use Rattle.pth_world.proofs.Telling.{quiet-refused}
-use Rattle.pth_calls.proofs.Answers.{if_ok_all, refused_answered}
-use Rattle.pth_calls.proofs.Plains.{quiet_event_call, unbuilt_event_row}
+use Rattle.pth_calls.proofs.Answers.{if_ok_all}
+use Rattle.pth_calls.proofs.Making.{line_answered}
+use Rattle.pth_calls.proofs.Plains.{quiet_event_call}
 use Rattle.pth_calls.proofs.event_handling.answer_events.Goals as goal
 
-pub returns-in-EvTime-clause-answered : goal.returns-in-EvTime-clause-answered
-unfolding row_of
-returns-in-EvTime-clause-answered g c =
-    let m : SFits w64 c.in-EvTime.at = search rules in
-    rw c.in-EvTime.is (simp to_z-of_z at c.ev_time.ensures.answered)
+pub returns-in-Some-clause-answered : goal.returns-in-Some-clause-answered
+returns-in-Some-clause-answered g c = line_answered g.P.Program.functions c.args.w.now c.make_event.new.w c.make_event.result c.args.t.0 c.args.call.now c.in-Some.line (sym c.line_of.ensures ∙ c.in-Some.is) c.make_event.ensures.answered
 
-pub returns-in-EvTime-clause-quiet : goal.returns-in-EvTime-clause-quiet
-returns-in-EvTime-clause-quiet g c = if_ok_all c.ev_time.result _ (λ a. quiet_event_call c.args.t c.args.call.now a c.requires.events)
+pub returns-in-Some-clause-quiet : goal.returns-in-Some-clause-quiet
+returns-in-Some-clause-quiet g c = if_ok_all c.make_event.result _ (λ a. quiet_event_call c.args.t c.args.call.now a c.requires.events)
 
 pub returns-in-Chain-clause-answered : goal.returns-in-Chain-clause-answered
 unfolding row_of
@@ -79,13 +74,3 @@ returns-in-EvFree-clause-answered g c =
 
 pub returns-in-EvFree-clause-quiet : goal.returns-in-EvFree-clause-quiet
 returns-in-EvFree-clause-quiet g c = quiet_event_call c.args.t c.args.call.now c.ev_free.result c.requires.events
-
-pub returns-in_default : goal.returns-in_default
-returns-in_default g c =
-    let call = c.args.call.now in
-    let not = c.in_default in
-    record {
-      answered = refused_answered c.args.w.now EINVAL _ (λ s st. ap (λ (r : Row _ _ _). r.begin.verdict) (unbuilt_event_row g.P.Program.functions s c.args.t.0 call c.requires.events not.not-EvTime not.not-Chain not.not-EvConcat not.not-EvIsolate not.not-EvWalk not.not-EvStatus not.not-EvKind not.not-EvFree));
-      quiet = quiet-refused c.args.t call EINVAL;
-      frame = search rules;
-    }

@@ -23,6 +23,7 @@ returns-in_default-clause-answered g c =
       threads = not.not-Threads;
       utilities = not.not-Utilities;
       events = not.not-Events;
+      io = not.not-Io;
     }) in
     let none = ap is_of_code (sym c.facility.ensures ∙ c.in-Some.is) ∙ other in
     refused_answered c.args.w.now EINVAL _ (λ s st. ap (λ (r : Row _ _ _). r.begin.verdict) (unbuilt_row g.P.Program.functions s c.args.t.0 c.args.call.now c.requires.plain none))
@@ -35,3 +36,9 @@ returns-in-Utilities-clause-answered g c = c.answer_utilities.ensures.answered c
 
 pub returns-in-Utilities-clause-quiet : goal.returns-in-Utilities-clause-quiet
 returns-in-Utilities-clause-quiet g c = c.answer_utilities.ensures.quiet c.args.t.0
+
+pub returns-in-Io-clause-answered : goal.returns-in-Io-clause-answered
+returns-in-Io-clause-answered g c = c.answer_descriptors.ensures.answered c.args.t.0
+
+pub returns-in-Io-clause-quiet : goal.returns-in-Io-clause-quiet
+returns-in-Io-clause-quiet g c = c.answer_descriptors.ensures.quiet c.args.t.0

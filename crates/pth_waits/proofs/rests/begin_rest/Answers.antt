@@ -27,7 +27,7 @@ returns-clause-next g c s st =
 pub returns-clause-ok : goal.returns-clause-ok
 returns-clause-ok g c s st =
     let r = c.rest_of-rest.result in
-    let now = c.time.ensures ∙ sym (ap (λ x. x.now) st.control.scheduler) in
+    let now = c.time.ensures.now ∙ sym (ap (λ x. x.now) st.control.kernel) in
     let moment = rw now at c.moment_after-moment.ensures in
     rw (rest_begins g.P.Program.functions s c.args.t.0 c.args.call r None c.requires.call (c.rest_of-rest.ensures s c.args.t.0) c.in_default.ensures)
     (subst (λ (m : ℕ). Leads c.block.new.w c.args.marks.now c.block.new.marks (waits_by c.args.t.0 c.args.call (record no_pause { moment = m }) s)) moment (c.in_ok-block.ensures.ok s (none_claimed _ c.args.t.0 c.args.call s (rest_given c.args.call c.requires.call) st)))

@@ -10,7 +10,7 @@ pub returns-then-time-moment-clause-next : goal.returns-then-time-moment-clause-
 returns-then-time-moment-clause-next g c s st =
     let t = c.args.t.0 in
     let h = held_by (blocked_of s.control t) t c.args.call (c.requires.some s.control st.control) (c.requires.blocked s.control st.control) in
-    let now = c.time.ensures ∙ sym (ap (λ x. x.now) st.control.scheduler) in
+    let now = c.time.ensures.now ∙ sym (ap (λ x. x.now) st.control.kernel) in
     let before : c.time.result < c.args.moment = search rules in
     rw (rest_goes_on g.P.Program.functions s t c.args.call c.rest_of-rest.result h (c.rest_of-rest.ensures s t) c.args.moment (c.requires.moment s.control st.control) (rest_given c.args.call c.requires.call) (subst (λ (n : ℕ). n < c.args.moment) now before)) refl
 
@@ -18,7 +18,7 @@ pub returns-then-time-moment-clause-ok : goal.returns-then-time-moment-clause-ok
 returns-then-time-moment-clause-ok g c s st =
     let t = c.args.t.0 in
     let h = held_by (blocked_of s.control t) t c.args.call (c.requires.some s.control st.control) (c.requires.blocked s.control st.control) in
-    let now = c.time.ensures ∙ sym (ap (λ x. x.now) st.control.scheduler) in
+    let now = c.time.ensures.now ∙ sym (ap (λ x. x.now) st.control.kernel) in
     let before : c.time.result < c.args.moment = search rules in
     rw (rest_goes_on g.P.Program.functions s t c.args.call c.rest_of-rest.result h (c.rest_of-rest.ensures s t) c.args.moment (c.requires.moment s.control st.control) (rest_given c.args.call c.requires.call) (subst (λ (n : ℕ). n < c.args.moment) now before))
     (tells_leads _ s _ _ _ (quiet-waits t c.args.call h.may.call) st c.in_ok-push.ensures.ok)
@@ -27,7 +27,7 @@ pub returns-clause-next : goal.returns-clause-next
 returns-clause-next g c s st =
     let t = c.args.t.0 in
     let h = held_by (blocked_of s.control t) t c.args.call (c.requires.some s.control st.control) (c.requires.blocked s.control st.control) in
-    let now = c.time.ensures ∙ sym (ap (λ x. x.now) st.control.scheduler) in
+    let now = c.time.ensures.now ∙ sym (ap (λ x. x.now) st.control.kernel) in
     let past : c.args.moment ≤ c.time.result = search rules in
     let answer : SFits w64 (pos c.rest_of-rest.result.answer) = search rules in
     rw (rest_is_over g.P.Program.functions s t c.args.call c.rest_of-rest.result h (c.rest_of-rest.ensures s t) c.args.moment (c.requires.moment s.control st.control) (subst (λ (n : ℕ). c.args.moment ≤ n) now past))
@@ -37,7 +37,7 @@ pub returns-clause-ok : goal.returns-clause-ok
 returns-clause-ok g c s st =
     let t = c.args.t.0 in
     let h = held_by (blocked_of s.control t) t c.args.call (c.requires.some s.control st.control) (c.requires.blocked s.control st.control) in
-    let now = c.time.ensures ∙ sym (ap (λ x. x.now) st.control.scheduler) in
+    let now = c.time.ensures.now ∙ sym (ap (λ x. x.now) st.control.kernel) in
     let past : c.args.moment ≤ c.time.result = search rules in
     let answer : SFits w64 (pos c.rest_of-rest.result.answer) = search rules in
     rw (rest_is_over g.P.Program.functions s t c.args.call c.rest_of-rest.result h (c.rest_of-rest.ensures s t) c.args.moment (c.requires.moment s.control st.control) (subst (λ (n : ℕ). c.args.moment ≤ n) now past))

@@ -14,4 +14,4 @@ pub returns-in-AnyDeath : goal.returns-in-AnyDeath
 returns-in-AnyDeath g c k sh = rw c.in-AnyDeath.is (c.requires.dead k (tid_at c.args.w.now.threads.records c.args.slot.0) sh)
 
 pub returns-in-Moment : goal.returns-in-Moment
-returns-in-Moment g c k sh = rw (c.in-Moment.is, sh.scheduler) (search rules)
+returns-in-Moment g c k sh = rw (c.in-Moment.is, sh.kernel) (search rules)

@@ -1,0 +1,22 @@
+use Rattle.std.proofs.Common.{◌∙◌, sym, rules, SFits, w64, to_z-of_z}
+use Rattle.std.proofs.lemmas.Result.{IfOk-weaker}
+use Rattle.pth_numbered.specs.Operands.{number}
+use Rattle.pth_ring.specs.Rings.{chain_answer, chained}
+use Rattle.pth_model.specs.EventHandling.{spec_of}
+use Rattle.pth_calls.proofs.Making.{event_made, event_refused}
+use Rattle.pth_calls.proofs.event_handling.chain.Goals as goal
+
+pub returns-in-Ok-clause-answered : goal.returns-in-Ok-clause-answered
+returns-in-Ok-clause-answered g c =
+    let e : SFits w64 c.args.e = search rules in
+    let n : SFits w64 c.from.result = search rules in
+    let answer = rw (c.rings_mut.ensures.value, to_z-of_z) at c.in-Ok.ensures.answer in
+    let changes = rw (c.rings_mut.ensures.value, to_z-of_z) at c.in-Ok.ensures.changes in
+    rw (to_z-of_z, c.from.ensures) (event_made c.args.w.now c.chain.new.self c.in-Some.spec (λ x. chain_answer x (number c.args.e)) (λ spec. chained spec (number c.args.e)) (spec_of c.args.line.now) c.in-Ok.event (sym c.spec_of.ensures ∙ c.in-Some.is) answer changes)
+
+pub returns-in-Err-clause-answered : goal.returns-in-Err-clause-answered
+returns-in-Err-clause-answered g c =
+    let e : SFits w64 c.args.e = search rules in
+    let answer = rw (c.rings_mut.ensures.value, to_z-of_z) at c.in-Err.ensures.answer in
+    let refused = rw c.rings_mut.ensures.value at c.in-Err.ensures.refused in
+    IfOk-weaker c.refused.result _ _ (λ a. event_refused c.args.w.now c.chain.new.self c.in-Some.spec (λ x. chain_answer x (number c.args.e)) (λ spec. chained spec (number c.args.e)) (spec_of c.args.line.now) c.in-Err.refusal a (sym c.spec_of.ensures ∙ c.in-Some.is) answer refused) c.refused.ensures

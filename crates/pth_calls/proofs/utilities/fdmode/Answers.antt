@@ -1,0 +1,14 @@
+use Rattle.std.proofs.Common.{SFits, w64, to_z-of_z, rules}
+use Rattle.pth_kernel.specs.Kernel.{kernel_of, fd_named}
+use Rattle.pth_kernel.specs.Modes.{mode_answer, sets_mode}
+use Rattle.pth_model.specs.Verdict.{says, by_result}
+use Rattle.pth_calls.proofs.KernelAnswers.{kernel_refuses, error_said}
+use Rattle.pth_calls.proofs.utilities.fdmode.Goals as goal
+
+pub returns-in-Err-clause-answered : goal.returns-in-Err-clause-answered
+returns-in-Err-clause-answered g c =
+    let f : SFits w64 c.args.f = search rules in
+    let m : SFits w64 c.args.m = search rules in
+    let answer = simp (c.kernel_mut.ensures.value, to_z-of_z) at c.in-Err.ensures.answer in
+    let refused = rw c.kernel_mut.ensures.value at c.in-Err.ensures.refused in
+    kernel_refuses c.args.w.now c.mode.new.self (λ k. by_result says (mode_answer k (fd_named c.args.f) c.args.m)) (sets_mode (fd_named c.args.f) c.args.m) c.in-Err.e (error_said (mode_answer (kernel_of c.args.w.now.kernel) (fd_named c.args.f) c.args.m) c.in-Err.e answer) refused
