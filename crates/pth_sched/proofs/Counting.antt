@@ -14,19 +14,22 @@ use Rattle.pth_base.proofs.Tables.{same_self, not_same}
 use Rattle.pth_numbered.specs.Operands.{number, is_zero}
 use Rattle.pth_ring.specs.declared.event.Event.{Event}
 use Rattle.pth_ring.specs.Ring.{StandsIn, RingGoesOn, Begins, from, rest_of}
-use Rattle.pth_ring.specs.Rings.{Events}
+use Rattle.pth_ring.specs.Rings.{Events, make_answer, chain_answer, alone, chained}
+use Rattle.pth_kernel.specs.Moments.{least_after, least_by}
 use Rattle.pth_model.specs.declared.awaits.Awaits.{Awaits}
 use Rattle.pth_model.specs.declared.awaits.Awaits.TheVariants.{Death, AnyDeath, Moment, Ring}
 use Rattle.pth_model.specs.declared.blocked.Blocked.{Blocked}
 use Rattle.pth_model.specs.Awaits.{awaited_by, awaits_in}
 use Rattle.pth_model.specs.Calls.{until_by, waits_until}
-use Rattle.pth_model.specs.Changes.{blocked_of}
-use Rattle.pth_model.specs.EventHandling.{chain}
+use Rattle.pth_model.specs.Changes.{blocked_of, with_events}
+use Rattle.pth_model.specs.EventHandling.{spec_of, made_as, make_event, chain}
 use Rattle.pth_model.specs.LibraryControl.{ctrl}
 use Rattle.pth_model.specs.Looks.{event_moment, occurs_at}
-use Rattle.pth_model.specs.Pass.{least_after, least_by, moments_of}
+use Rattle.pth_model.specs.Pass.{moments_of}
 use Rattle.pth_model.specs.Rows.{row_of}
 use Rattle.pth_model.specs.State.{State}
+use Rattle.pth_model.specs.Transition.{Change}
+use Rattle.pth_model.specs.Verdict.{Verdict, says, by_result}
 use Rattle.pth_waits.proofs.Waking.{ring_events, no_events}
 
 -- ---- the least of a list
@@ -153,9 +156,15 @@ module _ {P S H : Type 0} (f : P → Functions S H) (s : State P S H) (t : ℕ) 
   ctrl_until query.Threads b = refl
   ctrl_until x b = refl
 
+  made_until : (o : Option EventSpec) (v : EventSpec → Verdict) (g : EventSpec → Change P S H) (b : Blocked) → (made_as o v g).until b ≡ 0
+  made_until None v g b = refl
+  made_until (Some x) v g b = refl
+
+  make_until : (l : EvLine) (b : Blocked) → (make_event s l).until b ≡ 0
+  make_until l = made_until (spec_of l) (λ x. by_result says (make_answer s.control.events)) (λ x. with_events (alone x))
+
   chain_until : (e : ℤ) (l : EvLine) (b : Blocked) → (chain s e l).until b ≡ 0
-  chain_until e (line.Time at) b = refl
-  chain_until e l b = refl
+  chain_until e l = made_until (spec_of l) (λ x. by_result says (chain_answer s.control.events (number e))) (λ x. with_events (chained x (number e)))
 
   join_until : (n : ℤ) (zero : Bool) → 0 ≡ moment_in (if zero then AnyDeath else Death n)
   join_until n true = refl
@@ -165,6 +174,13 @@ module _ {P S H : Type 0} (f : P → Functions S H) (s : State P S H) (t : ℕ) 
   unfolding row_of
   call_until (call.Join n) b = join_until n (is_zero n)
   call_until (call.Ctrl x) b = ctrl_until x b
+  call_until (call.EvFd goals fd) b = make_until (line.Fd goals fd) b
+  call_until (call.EvSelect r w x) b = make_until (line.Select r w x) b
+  call_until (call.EvTime m) b = make_until (line.Time m) b
+  call_until (call.EvMsg p) b = make_until (line.Msg p) b
+  call_until (call.EvCond c) b = make_until (line.Cond c) b
+  call_until (call.EvTid state n) b = make_until (line.Tid state n) b
+  call_until (call.EvFunc c v l) b = make_until (line.Func c v l) b
   call_until (call.Chain e l) b = chain_until e l b
   call_until c b = refl
 

@@ -14,11 +14,11 @@ use Rattle.pth_model.specs.declared.next.Next.TheVariants as next
 use Rattle.pth_model.specs.declared.progress.Progress.{Progress}
 use Rattle.pth_model.specs.Verdict.{Verdict, Says, Yields, Blocks, Ends, Kills, Pause, no_pause, waits, refused, says, done, by_result, ◌when◌otherwise◌, refused_as◌otherwise◌}
 use Rattle.pth_model.specs.State.{State, Control, Given, Turn, start, queue, present, main, now_of}
-use Rattle.pth_model.specs.Transition.{Piece, Went, tid, controlled}
+use Rattle.pth_model.specs.Transition.{Piece, Change, Went, tid, controlled}
 use Rattle.pth_base.specs.declared.answer.Answer.{Answer}
 use Rattle.pth_base.specs.declared.answer.Answer.TheVariants.{Int, Text, Fail}
 use Rattle.pth_base.specs.declared.errno.Errno.{Errno}
-use Rattle.pth_base.specs.declared.errno.Errno.TheVariants.{EINVAL, EAGAIN, ESRCH, EPERM, EDEADLK}
+use Rattle.pth_base.specs.declared.errno.Errno.TheVariants.{EINVAL, EAGAIN, ESRCH, EPERM, EDEADLK, EBADF}
 use Rattle.pth_base.specs.declared.query.Query.{Query}
 use Rattle.pth_base.specs.declared.query.Query.TheVariants as query
 use Rattle.pth_model.specs.ThreadControl.{spawn, values_for, suspend, resume, yield, join_attempt, joined, to_join, thread, is_known, has_room, may_run}
@@ -28,20 +28,24 @@ use Rattle.pth_model.specs.Pass.{moment}
 use Rattle.pth_model.specs.LibraryControl.{kill, ctrl, running_count}
 use Rattle.pth_model.specs.AttributeHandling.{object, answer_of}
 use Rattle.pth_threads.specs.Attributes.{create_answer, of_answer, init_answer, set_answer, get_answer, destroy_answer}
-use Rattle.pth_model.specs.Changes.{blocked_of, goes_on, entry_of, or_nobody}
+use Rattle.pth_model.specs.Changes.{blocked_of, goes_on, entry_of, or_nobody, with_events}
 use Rattle.pth_model.specs.Course.{Course}
 use Rattle.pth_model.specs.Row.{Attempt, effect_of}
 use Rattle.pth_model.specs.Rows.{row_of}
 use Rattle.pth_model.specs.Ending.{ending}
 use Rattle.pth_model.specs.ThreadEnds.{is_alone, must_wait}
 use Rattle.pth_model.specs.Calls.{begun, begun_by, resumed, resumed_by, tried_by, unless_come, interrupted}
-use Rattle.pth_model.specs.EventHandling.{chain, wait, number_or_none, status_number}
+use Rattle.pth_model.specs.EventHandling.{spec_of, made_as, make_event, chain, wait, number_or_none, status_number}
 use Rattle.pth_model.specs.RingWaits.{ring_given, has_event_come}
 use Rattle.pth_model.specs.Times.{rest, timeout, is_negative, length_of, moment_after}
-use Rattle.pth_ring.specs.Rings.{make_answer, chain_answer, concat_answer, isolate_answer, walk_answer, status_answer, kind_answer, free_answer, claim_answer, settled_in}
+use Rattle.pth_ring.specs.Rings.{make_answer, chain_answer, concat_answer, isolate_answer, walk_answer, status_answer, kind_answer, free_answer, claim_answer, settled_in, alone, chained}
 use Rattle.pth_base.specs.declared.event.EvLine.{EvLine}
 use Rattle.pth_base.specs.declared.event.EvLine.TheVariants as line
+use Rattle.pth_base.specs.declared.event.EventSpec.{EventSpec}
 use Rattle.pth_base.specs.declared.ids.EventId.{EventId}
+use Rattle.pth_kernel.specs.Kernel.{fd_named, is_fd_live}
+use Rattle.pth_kernel.specs.Modes.{mode_answer}
+use Rattle.pth_model.specs.Io.{fdmode, close}
 use Rattle.pth_model.specs.Part.{Part, Move, Take, Step, Close, Halt, next_part, part, part_by, moves, moves_by, takes, takes_by, readies_new, chosen, closes, steps, steps_by, steps_on, turn_after, gives_up, ends_run}
 use Rattle.pth_model.specs.Run.{run, IsBetween}
 use Rattle.pth_model.proofs.Runs.{parts-more, between-none, between-more}
@@ -162,16 +166,31 @@ module _ {P S H : Type 0} (f : P → Functions S H) (s : State P S H) (t : ℕ) 
   says_or_waits_on : (n : ℕ) (b : Bool) → EndsNot (says n when b otherwise waits)
   says_or_waits_on n b = when_on (says n) b waits (says_on (Int (pos n))) (blocks_on no_pause)
 
-  made_on : (at : ℤ) (r : Result ℕ Errno) → EndsNot (refused EINVAL when is_negative at otherwise by_result says r)
-  made_on at r = refused_on EINVAL (is_negative at) (by_result says r) (result_on (λ (n : ℕ). Int (pos n)) r)
+  made_on : (o : Option EventSpec) (r : Result ℕ Errno) (g : EventSpec → Change P S H) → EndsNot (made_as o (λ x. by_result says r) g).begin.verdict
+  made_on None r g = says_on (Fail EINVAL)
+  made_on (Some x) r g = result_on (λ (n : ℕ). Int (pos n)) r
+
+  make_on : (l : EvLine) → EndsNot (make_event s l).begin.verdict
+  make_on l = made_on (spec_of l) (make_answer s.control.events) (λ x. with_events (alone x))
 
   chain_on : (e : ℤ) (l : EvLine) → EndsNot (chain s e l).begin.verdict
-  chain_on e (line.Time at) v h = made_on at (chain_answer s.control.events (number e)) v h
-  chain_on e l v h = cc h
+  chain_on e l = made_on (spec_of l) (chain_answer s.control.events (number e)) (λ x. with_events (chained x (number e)))
+
+  made_again_on : (o : Option EventSpec) (r : Result ℕ Errno) (g : EventSpec → Change P S H) (b : Blocked) → EndsNot ((made_as o (λ x. by_result says r) g).again b).verdict
+  made_again_on None r g b = blocks_on no_pause
+  made_again_on (Some x) r g b = blocks_on no_pause
+
+  make_again_on : (l : EvLine) (b : Blocked) → EndsNot ((make_event s l).again b).verdict
+  make_again_on l = made_again_on (spec_of l) (make_answer s.control.events) (λ x. with_events (alone x))
 
   chain_again_on : (e : ℤ) (l : EvLine) (b : Blocked) → EndsNot ((chain s e l).again b).verdict
-  chain_again_on e (line.Time at) b v h = cc h
-  chain_again_on e l b v h = cc h
+  chain_again_on e l = made_again_on (spec_of l) (chain_answer s.control.events (number e)) (λ x. with_events (chained x (number e)))
+
+  fdmode_on : (d m : ℤ) → EndsNot (fdmode s d m).begin.verdict
+  fdmode_on d m = result_on (λ (n : ℕ). Int (pos n)) (mode_answer s.control.kernel (fd_named d) m)
+
+  close_on : (d : ℤ) → EndsNot (close s d).begin.verdict
+  close_on d = refused_on EBADF (not (is_fd_live s.control.kernel (fd_named d))) (says 1) (says_on (Int (pos 1)))
 
   wait_on : (e : ℤ) → EndsNot (wait s e).begin.verdict
   wait_on e = part_on (claim_answer s.control.events (number e)) waits (blocks_on no_pause)
@@ -212,7 +231,14 @@ module _ {P S H : Type 0} (f : P → Functions S H) (t : ℕ) (v : ℤ) where
   exits s (call.Usleep n) h = absurd (rest_on f s t 1 n 0 v h)
   exits s (call.Sleep n) h = absurd (rest_on f s t 1000000 n 0 v h)
   exits s (call.Timeout n) h = absurd (timeout_on f s t n v h)
-  exits s (call.EvTime at) h = absurd (made_on f s t at (make_answer s.control.events) v h)
+  exits s (call.Fdmode d m) h = absurd (fdmode_on f s t d m v h)
+  exits s (call.EvFd goals fd) h = absurd (make_on f s t (line.Fd goals fd) v h)
+  exits s (call.EvSelect r w x) h = absurd (make_on f s t (line.Select r w x) v h)
+  exits s (call.EvTime m) h = absurd (make_on f s t (line.Time m) v h)
+  exits s (call.EvMsg p) h = absurd (make_on f s t (line.Msg p) v h)
+  exits s (call.EvCond c) h = absurd (make_on f s t (line.Cond c) v h)
+  exits s (call.EvTid state n) h = absurd (make_on f s t (line.Tid state n) v h)
+  exits s (call.EvFunc c u l) h = absurd (make_on f s t (line.Func c u l) v h)
   exits s (call.Chain e l) h = absurd (chain_on f s t e l v h)
   exits s (call.EvConcat e g) h = absurd (result_on (λ (u : Unit {0}). Int e) (concat_answer s.control.events (number e) (number g)) v h)
   exits s (call.EvIsolate e) h = absurd (result_on (λ o. Int (pos (number_or_none o))) (isolate_answer s.control.events (number e)) v h)
@@ -221,6 +247,7 @@ module _ {P S H : Type 0} (f : P → Functions S H) (t : ℕ) (v : ℤ) where
   exits s (call.EvKind e) h = absurd (result_on (λ (n : ℕ). Int (pos n)) (kind_answer s.control.events (number e)) v h)
   exits s (call.EvFree e all) h = absurd (done_on (free_answer s.control.events (number e)) v h)
   exits s (call.Wait e) h = absurd (wait_on f s t e v h)
+  exits s (call.Close d) h = absurd (close_on f s t d v h)
   exits s c h = absurd (cc h)
 
   exits_again : (s : State P S H) (b : Blocked) (c : Call) → ((row_of f s t c).again b).verdict ≡ Ends v → (c ≡ call.Exit v) × (must_wait s.control t ≡ false)
@@ -232,6 +259,13 @@ module _ {P S H : Type 0} (f : P → Functions S H) (t : ℕ) (v : ℤ) where
   exits_again s b (call.Usleep n) h = absurd (says_or_waits_on f s t 0 (nat_le b.moment (now_of s.control)) v h)
   exits_again s b (call.Sleep n) h = absurd (says_or_waits_on f s t 0 (nat_le b.moment (now_of s.control)) v h)
   exits_again s b (call.Wait e) h = absurd (says_or_waits_on f s t (settled_in s.control.events (number e)) (nat_lt 0 (settled_in s.control.events (number e))) v h)
+  exits_again s b (call.EvFd goals fd) h = absurd (make_again_on f s t (line.Fd goals fd) b v h)
+  exits_again s b (call.EvSelect r w x) h = absurd (make_again_on f s t (line.Select r w x) b v h)
+  exits_again s b (call.EvTime m) h = absurd (make_again_on f s t (line.Time m) b v h)
+  exits_again s b (call.EvMsg p) h = absurd (make_again_on f s t (line.Msg p) b v h)
+  exits_again s b (call.EvCond c) h = absurd (make_again_on f s t (line.Cond c) b v h)
+  exits_again s b (call.EvTid state n) h = absurd (make_again_on f s t (line.Tid state n) b v h)
+  exits_again s b (call.EvFunc c u l) h = absurd (make_again_on f s t (line.Func c u l) b v h)
   exits_again s b (call.Chain e l) h = absurd (chain_again_on f s t e l b v h)
   exits_again s b c h = absurd (cc h)
 

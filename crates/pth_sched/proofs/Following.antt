@@ -1,10 +1,11 @@
 -- How a machine that makes the parts of a run follows it.
-use Rattle.std.proofs.Common.{◌≡◌, ◌≢◌, ℕ, ◌+◌, ◌<◌, ◌≤◌, List, [], ◌++◌, Bool, true, false, refl, sym, ap, ◌∙◌, arith, append_assoc, append-nil, subst}
+use Rattle.std.proofs.Common.{◌≡◌, ◌≢◌, ℕ, ◌+◌, ◌<◌, ◌≤◌, List, [], ◌++◌, Bool, true, false, refl, sym, ap, ap₂, ◌∙◌, arith, append_assoc, append-nil, subst}
 use Rattle.pth_base.specs.Program.{Functions}
 use Rattle.pth_base.specs.declared.mark.Mark.{Mark}
 use Rattle.pth_base.specs.declared.outcome.Outcome.TheVariants.{Running, OutOfMemory}
+use Rattle.pth_kernel.specs.Kernel.{Kernel}
 use Rattle.pth_model.specs.Course.{Course}
-use Rattle.pth_model.specs.State.{Given, Turn, start}
+use Rattle.pth_model.specs.State.{Given, Scheduler, Turn, start}
 use Rattle.pth_model.specs.Part.{part}
 use Rattle.pth_model.specs.Run.{run, stops_at, IsBetween}
 use Rattle.pth_model.proofs.Runs.{parts-more, between-none, between-more, none-more}
@@ -103,7 +104,9 @@ made_part f g i m v old new makes st =
 
 -- the machine is as far as the course where it stands
 left_is : {P S H : Type 0} (to : ℕ) (m : MachineOf P S H) (c : Course P S H) → Stands m c → left to m ≡ far to c
-left_is to m c st = ap (λ (x : Turn). left_at to x m.world.scheduler) (sym st.turn) ∙ ap (left_at to c.turn) (sym st.world.control.scheduler)
+left_is to m c st =
+    ap (λ (x : Turn). left_at to x m.world.scheduler.running m.world.kernel.now) (sym st.turn)
+    ∙ ap₂ (λ (x : Scheduler) (k : Kernel). left_at to c.turn x.running k.now) (sym st.world.control.scheduler) (sym st.world.control.kernel)
 
 still_runs : {P S H : Type 0} (to : ℕ) (m : MachineOf P S H) → machine_stops to m ≡ false → m.turn.outcome ≢ OutOfMemory
 still_runs to m on ended = (let halt = stops_ended to m (λ runs. cc (runs, ended)) in cc (halt, on))

@@ -15,7 +15,8 @@ use Rattle.pth_model.specs.declared.progress.Progress.{Progress}
 use Rattle.pth_model.specs.Calls.{resumed}
 use Rattle.pth_model.specs.Changes.{blocked_of}
 use Rattle.pth_model.specs.Course.{Course, within}
-use Rattle.pth_model.specs.State.{State, Control, Scheduler, Turn, main, queue}
+use Rattle.pth_kernel.specs.Kernel.{Kernel}
+use Rattle.pth_model.specs.State.{State, Control, Turn, main, queue, now_of}
 use Rattle.pth_model.specs.Transition.{silent, controlled, tid}
 use Rattle.pth_model.specs.Pass.{moment, pass}
 use Rattle.pth_model.specs.Part.{Part, Halt, Move, part, part_by, next_part, next_part_by, unless_ended, moves, takes, dispatches, steps, steps_by, steps_on, closes, runs, turn_ends, readies_new, chosen, rank_by, is_idle, owes_after, turn_after, gives_up, ends_run}
@@ -99,19 +100,19 @@ module _ {P S H : Type 0} (m : MachineOf P S H) (c : Course P S H) (st : Stands 
 
   -- a thread is dispatched
   pub take_makes : (t : ℕ) (rank : ℤ) (w u : WorldOf P S H) (time : ℕ) (old new : List Mark) → Shows w (readies_new c.state.control) → Some t ≡ chosen (readies_new c.state.control).scheduler.preferred (queue (readies_new c.state.control) queues.Ready)
-      → rank ≡ rank_by (place_in t (queue (readies_new c.state.control) queues.Ready)) → time ≡ w.scheduler.now → Shows u (runs t (readies_new c.state.control)) → new ≡ old ++ Dispatch (m.turn.turns + 1) time (tid t) rank 0 0 ∷ []
+      → rank ≡ rank_by (place_in t (queue (readies_new c.state.control) queues.Ready)) → time ≡ w.kernel.now → Shows u (runs t (readies_new c.state.control)) → new ≡ old ++ Dispatch (m.turn.turns + 1) time (tid t) rank 0 0 ∷ []
       → Makes (record { world = u; turn = record m.turn { turns = m.turn.turns + 1 } }) old new (takes c.turn c.state)
   unfolding takes dispatches told_of
   take_makes t rank w u time old new ready next rank_is time_is shows told =
       let k = readies_new c.state.control in
-      let now : k.scheduler.now ≡ time = ap (λ (x : Scheduler). x.now) ready.scheduler ∙ sym time_is in
+      let now : now_of k ≡ time = ap (λ (x : Kernel). x.now) ready.kernel ∙ sym time_is in
       rw (← next) record {
         stands = record {
           world = record { control = shows; resources = st.world.resources };
           turn = ap (λ (x : Turn). record x { turns = x.turns + 1 }) st.turn;
           memory = st.memory;
         };
-        tells = told ∙ ap (λ (x : Turn). old ++ Dispatch (x.turns + 1) time (tid t) rank 0 0 ∷ []) (sym st.turn) ∙ ap (λ (n : ℕ). old ++ Dispatch (c.turn.turns + 1) n (tid t) rank 0 0 ∷ []) (sym now) ∙ ap (λ (r : ℤ). old ++ Dispatch (c.turn.turns + 1) k.scheduler.now (tid t) r 0 0 ∷ []) rank_is;
+        tells = told ∙ ap (λ (x : Turn). old ++ Dispatch (x.turns + 1) time (tid t) rank 0 0 ∷ []) (sym st.turn) ∙ ap (λ (n : ℕ). old ++ Dispatch (c.turn.turns + 1) n (tid t) rank 0 0 ∷ []) (sym now) ∙ ap (λ (r : ℤ). old ++ Dispatch (c.turn.turns + 1) (now_of k) (tid t) r 0 0 ∷ []) rank_is;
       }
 
   -- a call that was made, and what it leads to, are a step

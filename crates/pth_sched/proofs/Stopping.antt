@@ -13,7 +13,8 @@ use Rattle.pth_queue.specs.Ranking.{insert, head_of}
 use Rattle.pth_threads.specs.declared.entry.Change.TheVariants as change
 use Rattle.pth_base.specs.declared.thread.ThreadState.TheVariants as state
 use Rattle.pth_model.specs.Course.{Course}
-use Rattle.pth_model.specs.State.{State, Control, Scheduler, Turn, Given, start, queue, now_of}
+use Rattle.pth_kernel.specs.Kernel.{Kernel}
+use Rattle.pth_model.specs.State.{State, Control, Turn, Given, start, queue, now_of}
 use Rattle.pth_model.specs.Changes.{holders, is_empty, enters, leaves_queue, moves_to, sets}
 use Rattle.pth_model.specs.Pass.{looks, is_ready_at, woken, all_woken, pass, to_wake, moment}
 use Rattle.pth_model.specs.Part.{next_part, next_part_by, unless_ended, part, part_by, moves, moves_by, takes, readies, readies_all, readies_new, chosen, is_idle, steps, steps_on, closes, turn_ends, is_placed, dispatches, runs}
@@ -24,7 +25,7 @@ use Rattle.pth_model.proofs.Runs.{parts-more, none-more}
 use Rattle.pth_world.proofs.Ranks.{length-insert}
 use Rattle.pth_sched.specs.MachineOf.{left_at, left_while, part_left, time_left}
 use Rattle.pth_sched.proofs.Parts.{turn_steps}
-use Rattle.pth_sched.proofs.Times.{IsLater, moment_later, time_less, readied_scheduler, ended_time, step_at}
+use Rattle.pth_sched.proofs.Times.{IsLater, moment_later, time_less, readied_kernel, ended_time, step_at}
 
 part_small : (g r : Option ℕ) → part_left g r ≤ 2
 part_small (Some t) r = omega arith
@@ -34,7 +35,7 @@ part_small None (Some r) = omega arith
 module _ {P S H : Type 0} where
   -- how far a run to a number of steps is from where it stops
   abbrev pub far : ℕ → Course P S H → ℕ
-  far to c = left_at to c.turn c.state.control.scheduler
+  far to c = left_at to c.turn c.state.control.scheduler.running (now_of c.state.control)
 
 far_most : (to steps n now : ℕ) (o : Outcome) → left_while to steps n now o ≤ 3 * (to - steps) + n + 1 + time_left now
 far_most to steps n now Running = omega arith
@@ -86,7 +87,7 @@ module _ {P S H : Type 0} where
       let count : length (reverse (holders new)) ≡ length new = length-reverse (holders new) ∙ length-map new (λ (r : Ranked). r.holder) in
       all_some (reverse (holders new)) k (let b = busy new (queue k queues.Ready) h in omega arith)
 
-  -- ---- what the parts leave of a scheduler
+  -- ---- what a pass leaves: the scheduler and the kernel
 
   woken_scheduler : (ts : List ℕ) (s : State P S H) → (all_woken ts s).state.control.scheduler ≡ s.control.scheduler
   unfolding all_woken woken is_ready_at enters sets leaves_queue
@@ -96,6 +97,15 @@ module _ {P S H : Type 0} where
   pass_scheduler : (f : P → Functions S H) (s : State P S H) → (pass f s).state.control.scheduler ≡ s.control.scheduler
   unfolding pass looks
   pass_scheduler f s = woken_scheduler (to_wake f s) (controlled looks s)
+
+  woken_kernel : (ts : List ℕ) (s : State P S H) → (all_woken ts s).state.control.kernel ≡ s.control.kernel
+  unfolding all_woken woken is_ready_at enters sets leaves_queue
+  woken_kernel [] s = refl
+  woken_kernel (t ∷ ts) s = woken_kernel ts (woken t s).state
+
+  pass_kernel : (f : P → Functions S H) (s : State P S H) → (pass f s).state.control.kernel ≡ s.control.kernel
+  unfolding pass looks
+  pass_kernel f s = woken_kernel (to_wake f s) (controlled looks s)
 
   placed_nobody : (k : Control P S H) (t : ℕ) → (turn_ends t k).scheduler.running ≡ None
   unfolding is_placed
@@ -113,8 +123,9 @@ module _ {P S H : Type 0} (f : P → Functions S H) where
   close_near to x t s =
       let ended = turn_ends t s.control in
       let same : (pass f (controlled (turn_ends t) s)).state.control.scheduler ≡ ended.scheduler = pass_scheduler f (controlled (turn_ends t) s) in
+      let now : now_of (pass f (controlled (turn_ends t) s)).state.control ≡ now_of ended = ap (λ (y : Kernel). y.now) (pass_kernel f (controlled (turn_ends t) s)) in
       let time = ended_time s.control t in
-      rw (same, placed_nobody s.control t) (let most = far_most to x.steps 1 ended.scheduler.now x.outcome in omega arith)
+      rw (same, now, placed_nobody s.control t) (let most = far_most to x.steps 1 (now_of ended) x.outcome in omega arith)
 
   step_near : (to : ℕ) (x : Turn) (t : ℕ) (s : State P S H) → x.steps < to → far to (steps f x t s) < 3 * (to - x.steps) + 0 + 1 + time_left (now_of s.control)
   step_near to x t s low =
@@ -129,9 +140,9 @@ module _ {P S H : Type 0} (f : P → Functions S H) where
   take_near to x s gave h =
       let k = readies_new s.control in
       let some = next_some k.scheduler.preferred (queue k queues.Ready) (ready_some s.control h) in
-      let same : k.scheduler ≡ s.control.scheduler = readied_scheduler (reverse (holders (queue s.control queues.New))) s.control in
-      let time : time_left k.scheduler.now ≡ time_left (now_of s.control) = ap (λ (y : Scheduler). time_left y.now) same in
-      rw (some.1, gave) (let most = far_most to x.steps 0 k.scheduler.now x.outcome in omega arith)
+      let same : k.kernel ≡ s.control.kernel = readied_kernel (reverse (holders (queue s.control queues.New))) s.control in
+      let time : time_left (now_of k) ≡ time_left (now_of s.control) = ap (λ (y : Kernel). time_left y.now) same in
+      rw (some.1, gave) (let most = far_most to x.steps 0 (now_of k) x.outcome in omega arith)
 
   move_near : (to : ℕ) (x : Turn) (s : State P S H) → x.gave ≡ None → s.control.scheduler.running ≡ None → far to (moves f x s) < 3 * (to - x.steps) + 1 + 1 + time_left (now_of s.control)
   unfolding moves
@@ -142,8 +153,9 @@ module _ {P S H : Type 0} (f : P → Functions S H) where
       by_moment (Some m) later =
           let at = ((changes (moves_to m) and_then tells (Moved m)) s).state in
           let same : (pass f at).state.control.scheduler ≡ at.control.scheduler = pass_scheduler f at in
+          let now : now_of (pass f at).state.control ≡ now_of at.control = ap (λ (y : Kernel). y.now) (pass_kernel f at) in
           let time = time_less (now_of s.control) m (later m refl) in
-          rw (same, nobody, gave) (let most = far_most to x.steps 1 m x.outcome in omega arith)
+          rw (same, now, nobody, gave) (let most = far_most to x.steps 1 m x.outcome in omega arith)
 
   near_by : (to : ℕ) (x : Turn) (s : State P S H) (o : Outcome) (g r : Option ℕ) (idle : Bool) → x.gave ≡ g → s.control.scheduler.running ≡ r → is_idle s.control ≡ idle
       → stops_by to x.steps (unless_ended o (next_part_by g r idle)) ≡ false → far to (part_by f x s (unless_ended o (next_part_by g r idle))) < left_while to x.steps (part_left g r) (now_of s.control) o

@@ -1,20 +1,32 @@
 -- How time goes on.
-use Rattle.std.proofs.Common.{◌≡◌, ℕ, ◌+◌, ◌-◌, ◌<◌, ◌≤◌, ◌&&◌, min, nat_lt, nat_le, ℤ, Bool, true, false, if◌then◌else◌, List, [], ◌∷◌, Option, Some, None, refl, arith, subst}
+use Rattle.std.proofs.Common.{◌≡◌, ℕ, ◌+◌, ◌-◌, ◌<◌, ◌≤◌, ◌&&◌, min, nat_lt, nat_le, ℤ, Bool, true, false, if◌then◌else◌, List, [], ◌∷◌, ◌++◌, Option, Some, None, IfSome, ◌∙◌, refl, sym, arith, subst}
 use Rattle.std.proofs.lemmas.Bool.Decides.{nat_tests}
+use Rattle.std.proofs.lemmas.Option.{IfSome_then}
 use Rattle.pth_base.specs.Limits.{last_moment}
 use Rattle.pth_base.specs.Program.{Functions}
 use Rattle.pth_queue.specs.declared.queue.Queue.{Queue}
 use Rattle.pth_model.specs.declared.blocked.Blocked.{Blocked}
-use Rattle.pth_model.specs.State.{State, Control, Turn, now_of}
+use Rattle.pth_model.specs.State.{State, Control, Turn, now_of, clock_of}
 use Rattle.pth_model.specs.Transition.{◌and◌}
 use Rattle.pth_model.specs.Changes.{blocked_of, entry_of, enters, forgets, goes_on, leaves_queue, makes, or_nobody, queue_for, raises_ready, removes, sets}
-use Rattle.pth_model.specs.Pass.{moment, moments, least_by, least_after, is_ready_at}
+use Rattle.pth_kernel.specs.Kernel.{Kernel, arrival_times}
+use Rattle.pth_kernel.specs.Moments.{least_by, least_after}
+use Rattle.pth_model.specs.Pass.{moment, moments, is_ready_at}
 use Rattle.pth_model.specs.Part.{steps, placed_by, is_placed, is_put_back, is_put_waiting, turn_ends, readies, readies_all}
 use Rattle.pth_model.specs.ThreadControl.{suspends, resumes, returns_to}
 use Rattle.pth_model.specs.LibraryControl.{vanish_all_but}
 use Rattle.pth_model.specs.Ending.{leaves, is_dead_with, stops_running}
 use Rattle.pth_model.proofs.Walks.{KeptBy, step_keeps}
+use Rattle.pth_world.specs.Shows.{StandsFor}
+use Rattle.pth_world.specs.Sound.{IsSound}
+use Rattle.pth_world.specs.StateOf.{state_of}
+use Rattle.pth_world.specs.World.{WorldOf}
+use Rattle.pth_world.proofs.StateOf.{stands_for_state}
 use Rattle.pth_sched.specs.MachineOf.{time_left}
+
+if_some : {A : Type 0} {Q : A → Type 0} (o : Option A) → ((a : A) → o ≡ Some a → Q a) → IfSome o Q
+if_some None q = tt
+if_some (Some a) q = q a refl
 
 -- ---- the moment to which idle time moves
 
@@ -56,7 +68,19 @@ after_later now m [] is = absurd (cc is)
 after_later now m (x ∷ xs) is = of_tested now x m (nat_lt now x && nat_le x last_moment) (least_after now xs) (tested_later now x) (λ n rest. after_later now n xs rest) is
 
 pub moment_later : {P S H : Type 0} (f : P → Functions S H) (s : State P S H) (m : ℕ) → moment f s ≡ Some m → IsLater (now_of s.control) m
-moment_later f s m is = after_later (now_of s.control) m (moments f s) is
+moment_later f s m is = after_later (now_of s.control) m (arrival_times s.control.kernel ++ moments f s) is
+
+-- a world knows its next moment: it is later than now, and no later than the last moment
+module _ {P S H : Type 0} (f : P → Functions S H) (w : WorldOf P S H) (o : Option ℕ) (sound : IsSound w.threads) (is : (s : State P S H) → StandsFor w s → o ≡ moment f s) where
+  known_later : IfSome o (λ m. IsLater w.kernel.now m)
+  unfolding state_of
+  known_later = if_some o (λ m here. moment_later f (state_of w) m (sym (is (state_of w) (stands_for_state w sound)) ∙ here))
+
+  pub next_later : IfSome o (λ m. w.kernel.now < m)
+  next_later = IfSome_then o known_later (λ m later. later.after)
+
+  pub next_within : IfSome o (λ m. m ≤ last_moment)
+  next_within = IfSome_then o known_later (λ m later. later.within)
 
 -- ---- what is left of time
 
@@ -83,25 +107,30 @@ module _ {P S H : Type 0} where
   readied_scheduler [] k = refl
   readied_scheduler (t ∷ ts) k = readied_scheduler ts (readies t k)
 
-  placed_now : (k : Control P S H) (t : ℕ) (r : Option ℕ) (b : Option Blocked) → (placed_by t r b k).scheduler.now ≡ k.scheduler.now
+  pub readied_kernel : (ts : List ℕ) (k : Control P S H) → (readies_all ts k).kernel ≡ k.kernel
+  unfolding readies_all readies is_ready_at enters sets leaves_queue
+  readied_kernel [] k = refl
+  readied_kernel (t ∷ ts) k = readied_kernel ts (readies t k)
+
+  placed_kernel : (k : Control P S H) (t : ℕ) (r : Option ℕ) (b : Option Blocked) → (placed_by t r b k).kernel ≡ k.kernel
   unfolding is_put_back is_put_waiting enters sets
-  placed_now k t None b = refl
-  placed_now k t (Some r) (Some b) = refl
-  placed_now k t (Some r) None = refl
+  placed_kernel k t None b = refl
+  placed_kernel k t (Some r) (Some b) = refl
+  placed_kernel k t (Some r) None = refl
 
   -- the end of a turn leaves no more time
-  pub ended_time : (k : Control P S H) (t : ℕ) → time_left (turn_ends t k).scheduler.now ≤ time_left k.scheduler.now
+  pub ended_time : (k : Control P S H) (t : ℕ) → time_left (now_of (turn_ends t k)) ≤ time_left (now_of k)
   unfolding is_placed raises_ready
   ended_time k t =
       let raised = raises_ready k in
       let placed = is_placed t raised in
-      let now : placed.scheduler.now ≡ k.scheduler.now = placed_now raised t raised.scheduler.running (blocked_of raised t) in
-      let least = time_still placed.scheduler.now placed.scheduler.clock in
-      subst (λ (n : ℕ). time_left (turn_ends t k).scheduler.now ≤ time_left n) now least
+      let same : placed.kernel ≡ k.kernel = placed_kernel raised t raised.scheduler.running (blocked_of raised t) in
+      let least = time_still (now_of placed) (clock_of placed) in
+      subst (λ (x : Kernel). time_left (now_of (turn_ends t k)) ≤ time_left x.now) same least
 
 module _ {P S H : Type 0} (f : P → Functions S H) (t n : ℕ) where
   abbrev IsAt : Control P S H → Type 0
-  IsAt k = k.scheduler.now ≡ n
+  IsAt k = now_of k ≡ n
 
   returned_at : (u : ℕ) (k : Control P S H) (o : Option Queue) → IsAt k → IsAt (returns_to u o k)
   unfolding enters sets leaves_queue
@@ -135,6 +164,7 @@ module _ {P S H : Type 0} (f : P → Functions S H) (t n : ℕ) where
     added = λ x k is. is;
     exchanged = λ u o k is. is;
     evented = λ x k is. is;
+    described = λ ds k is. is;
     left = left_at;
     vanished = λ k is. is;
   }

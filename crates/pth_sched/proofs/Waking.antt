@@ -168,5 +168,6 @@ module _ {P S H : Type 0} where
     program = ap (λ (x : WorldOf P S H). x.program) same;
     attributes = ap (λ (x : WorldOf P S H). x.attributes) same;
     events = made;
+    kernel = ap (λ (x : WorldOf P S H). x.kernel) same;
     scheduler = ap (λ (x : WorldOf P S H). x.scheduler) same;
   }

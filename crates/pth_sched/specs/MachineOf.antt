@@ -3,7 +3,7 @@ use Rattle.std.specs.Prelude.{◌≡◌, ◌≤◌, ◌+◌, ◌*◌, ◌-◌, n
 use Rattle.pth_base.specs.declared.outcome.Outcome.{Outcome}
 use Rattle.pth_base.specs.declared.outcome.Outcome.TheVariants as outcome
 use Rattle.pth_base.specs.Limits.{last_moment}
-use Rattle.pth_model.specs.State.{Scheduler, Turn}
+use Rattle.pth_model.specs.State.{Turn}
 use Rattle.pth_world.specs.World.{WorldOf}
 use Rattle.pth_world.specs.Numbering.{HasGiven}
 use Rattle.pth_world.specs.Whole.{Whole, WaitsToRun}
@@ -56,11 +56,11 @@ abbrev pub left_while : (to steps part now : ℕ) → Outcome → ℕ
 left_while to steps part now outcome.Running = 3 * (to - steps) + part + 1 + time_left now
 left_while to steps part now o = 0
 
-abbrev pub left_at : ℕ → Turn → Scheduler → ℕ
-left_at to x k = left_while to x.steps (part_left x.gave k.running) k.now x.outcome
+abbrev pub left_at : ℕ → Turn → (running : Option ℕ) → (now : ℕ) → ℕ
+left_at to x running now = left_while to x.steps (part_left x.gave running) now x.outcome
 
 abbrev pub left : {P S H : Type 0} → ℕ → MachineOf P S H → ℕ
-left to m = left_at to m.turn m.world.scheduler
+left to m = left_at to m.turn m.world.scheduler.running m.world.kernel.now
 
 -- whether a run to this number of steps goes no further: a next step would begin, or an outcome ended it
 abbrev pub machine_stops_by : ℕ → ℕ → Option ℕ → Option ℕ → Outcome → Bool

@@ -2,8 +2,9 @@
 
 ghost use Rattle.std.specs.Prelude.{◌≡◌, ◌≢◌, ◌⊎◌, ◌≤◌, ◌+◌, ◌↔◌, ℕ, [], true, false, None, map, IfOk, OnOk, OnErr};
 ghost use Rattle.pth_base.specs.Cut.{IsCut};
+ghost use Rattle.pth_kernel.specs.Kernel.{kernel_of};
 ghost use Rattle.pth_model.specs.Course.{Course, within};
-ghost use Rattle.pth_model.specs.State.{Given};
+ghost use Rattle.pth_model.specs.State.{Given, now_of};
 ghost use Rattle.pth_model.specs.Living.{live as live_threads};
 ghost use Rattle.pth_model.specs.Part.{moves};
 ghost use Rattle.pth_model.specs.Pass.{moment, pass};
@@ -18,6 +19,7 @@ use pth_base::marks::Marks;
 use pth_base::memory::OutOfMemory;
 use pth_base::outcome::Outcome;
 use pth_base::program::Program;
+use pth_kernel::kernel::Kernel;
 use pth_world::world::World;
 use std::alloc::Global;
 use std::marker::Model;
@@ -43,13 +45,13 @@ impl<P: Program> Model for Machine<P> {
 }
 
 impl<P: Program> Machine<P> {
-    /// The main thread alone, ready (`pth_init`).
-    pub fn new(alloc: Global, program: P) -> Result<Machine<P>, OutOfMemory>
-        ensures stands { IfOk result (λ m. StandsAt P.functions (record { program = program }) 0 m) }
+    /// The main thread alone, ready (`pth_init`), at the moment of the kernel.
+    pub fn new(alloc: Global, program: P, kernel: Kernel) -> Result<Machine<P>, OutOfMemory>
+        ensures stands { IfOk result (λ m. StandsAt P.functions (record { program = program; kernel = kernel_of kernel }) 0 m) }
         ensures steps { IfOk result (λ m. m.turn.steps ≡ 0) }
         ensures outcome { IfOk result (λ m. m.turn.outcome ≡ Outcome.Running) }
     {
-        let schedule = Schedule::new(alloc, program)?;
+        let schedule = Schedule::new(alloc, program, kernel)?;
         Ok(Machine {
             schedule,
             failed: false,
@@ -115,6 +117,7 @@ impl<P: Program> Machine<P> {
         ensures err { OnErr result ((c : Course P P.State P.Shared) → Stands self.old c → IsCut marks.old marks.new (pass P.functions c.state).marks) }
         ensures turn { OnOk result (self.new.turn ≡ self.old.turn) }
         ensures scheduler { OnOk result (self.new.world.scheduler ≡ self.old.world.scheduler) }
+        ensures kernel { OnOk result (self.new.world.kernel ≡ self.old.world.kernel) }
         ensures failed { OnErr result (self.new.turn.outcome ≡ Outcome.OutOfMemory) }
     {
         let passed = self.schedule.pass(marks);
@@ -123,8 +126,9 @@ impl<P: Program> Machine<P> {
     }
 
     /// One move of idle time: while nobody runs and nothing is new or ready, time moves to the least moment, in microseconds,
-    /// that is later than now and for which a thread waits, and a pass is made. Where there is none, nothing changes, and the
-    /// answer is `false`: the outcome stays Running. pth(3) has no call for it. After an error the machine may only be dropped.
+    /// that is later than now and at which something comes to a descriptor or for which a thread waits, and a pass is made.
+    /// Where there is none, nothing changes, and the answer is `false`: the outcome stays Running. pth(3) has no call for it.
+    /// After an error the machine may only be dropped.
     pub fn idle(&mut self, marks: &mut Marks) -> Result<bool, OutOfMemory>
         requires nobody { self.old.world.scheduler.running ≡ None }
         requires goes { self.old.turn.outcome ≡ Outcome.Running }
@@ -170,8 +174,8 @@ impl<P: Program> Machine<P> {
 
     /// The moment, in microseconds.
     pub fn now(&self) -> Micros
-        ensures value { result ≡ self.now.world.scheduler.now }
-        ensures state { (c : Course P P.State P.Shared) → Stands self.now c → result ≡ c.state.control.scheduler.now }
+        ensures value { result ≡ self.now.world.kernel.now }
+        ensures state { (c : Course P P.State P.Shared) → Stands self.now c → result ≡ now_of c.state.control }
     {
         self.schedule.world().time()
     }

@@ -1,9 +1,11 @@
-//! The moments for which waiting threads wait: idle time goes to the next one.
+//! The moments at which something comes to a descriptor, and those for which waiting threads wait: idle time goes to the next
+//! one.
 
-ghost use Rattle.std.specs.Prelude.{◌≡◌, ◌≢◌, ◌++◌, ◌&&◌, ℕ, List, Option, All, map, nat_lt, nat_le, if◌then◌else◌};
+ghost use Rattle.std.specs.Prelude.{◌≡◌, ◌≢◌, ◌<◌, ◌≤◌, ◌++◌, ◌&&◌, ℕ, List, Option, IfSome, All, map, nat_lt, nat_le, if◌then◌else◌};
 ghost use Rattle.pth_base.specs.Limits.{last_moment};
+ghost use Rattle.pth_kernel.specs.Moments.{least_after, least_by};
 ghost use Rattle.pth_model.specs.Looks.{event_moment, occurs_at};
-ghost use Rattle.pth_model.specs.Pass.{least_after, least_by, moment, moments_of, waiting};
+ghost use Rattle.pth_model.specs.Pass.{moment, moments_of, waiting};
 ghost use Rattle.pth_model.specs.State.{Control, State};
 ghost use Rattle.pth_numbered.specs.Numbered.{number_at};
 ghost use Rattle.pth_numbered.specs.Operands.{number};
@@ -47,7 +49,7 @@ fn occurs_at(spec: &EventSpec) -> Micros
 fn count_round<P: Program>(w: &World<P>, first: Slot, start: Option<Micros>) -> Option<Micros>
     requires used { number_at w.now.events first.0 ≢ 0 }
     requires begins { Begins ((events_of w.now.events).rings (number_at w.now.events first.0)) (number_at w.now.events first.0) }
-    ensures { (ms : List ℕ) → start ≡ least_after w.now.scheduler.now ms → result ≡ least_after w.now.scheduler.now (ms ++ map (λ e. event_moment ((events_of w.now.events).events e)) ((events_of w.now.events).rings (number_at w.now.events first.0))) }
+    ensures { (ms : List ℕ) → start ≡ least_after w.now.kernel.now ms → result ≡ least_after w.now.kernel.now (ms ++ map (λ e. event_moment ((events_of w.now.events).events e)) ((events_of w.now.events).rings (number_at w.now.events first.0))) }
 {
     let mut best = start;
     let mut at = first;
@@ -62,7 +64,7 @@ fn count_round<P: Program>(w: &World<P>, first: Slot, start: Option<Micros>) -> 
 
 // The least of the moments so far, and of those of the events of the ring of an event.
 fn count_ring<P: Program>(w: &World<P>, e: i64, best: Option<Micros>) -> Option<Micros>
-    ensures { (ms : List ℕ) → best ≡ least_after w.now.scheduler.now ms → result ≡ least_after w.now.scheduler.now (ms ++ map (λ i. event_moment ((events_of w.now.events).events i)) ((events_of w.now.events).rings (number e))) }
+    ensures { (ms : List ℕ) → best ≡ least_after w.now.kernel.now ms → result ≡ least_after w.now.kernel.now (ms ++ map (λ i. event_moment ((events_of w.now.events).events i)) ((events_of w.now.events).rings (number e))) }
 {
     match w.rings().find(e) {
         Some(first) => count_round(w, first, best),
@@ -74,7 +76,7 @@ fn count_ring<P: Program>(w: &World<P>, e: i64, best: Option<Micros>) -> Option<
 fn count_of<P: Program>(w: &World<P>, slot: Slot, best: Option<Micros>) -> Option<Micros>
     requires whole { Whole w.now }
     requires used { tid_at w.now.threads.records slot.0 ≢ 0 }
-    ensures { (s : State P P.State P.Shared) (ms : List ℕ) → StandsFor w.now s → best ≡ least_after w.now.scheduler.now ms → result ≡ least_after w.now.scheduler.now (ms ++ moments_of P.functions s (tid_at w.now.threads.records slot.0)) }
+    ensures { (s : State P P.State P.Shared) (ms : List ℕ) → StandsFor w.now s → best ≡ least_after w.now.kernel.now ms → result ≡ least_after w.now.kernel.now (ms ++ moments_of P.functions s (tid_at w.now.threads.records slot.0)) }
 {
     match w.awaits_in(slot) {
         Awaits::Moment(moment) => sooner(w.time(), best, moment),
@@ -83,15 +85,17 @@ fn count_of<P: Program>(w: &World<P>, slot: Slot, best: Option<Micros>) -> Optio
     }
 }
 
-/// The least moment, in microseconds, that is later than now and for which a waiting thread waits: its call's, or that of an event
-/// of its ring.
+/// The least moment, in microseconds, that is later than now and at which something comes to a descriptor, or for which a waiting
+/// thread waits: its call's, or that of an event of its ring.
 pub fn next_moment<P: Program>(w: &World<P>, slots: &[Slot]) -> Option<Micros>
     requires whole { Whole w.now }
     requires used { All (λ s. tid_at w.now.threads.records s.0 ≢ 0) slots.now }
     requires waiting { (k : Control P P.State P.Shared) → Shows w.now k → map (λ s. tid_at w.now.threads.records s.0) slots.now ≡ waiting k }
-    ensures { (s : State P P.State P.Shared) → StandsFor w.now s → result ≡ moment P.functions s }
+    ensures moment { (s : State P P.State P.Shared) → StandsFor w.now s → result ≡ moment P.functions s }
+    ensures later { IfSome result (λ m. w.now.kernel.now < m) }
+    ensures within { IfSome result (λ m. m ≤ last_moment) }
 {
-    let mut best = None;
+    let mut best = w.kernel().next_entry();
     for slot in slots {
         best = count_of(w, *slot, best);
     }

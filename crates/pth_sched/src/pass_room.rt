@@ -1,6 +1,7 @@
 //! What a pass keeps while it goes over the waiting threads.
 
-ghost use Rattle.std.specs.Prelude.{◌≡◌, ◌≢◌, ℕ, List, [], ◌++◌, ◌∷◌, All, map, if◌then◌else◌, OnOk};
+ghost use Rattle.std.specs.Prelude.{◌≡◌, ◌≢◌, ◌<◌, ◌≤◌, ℕ, List, [], ◌++◌, ◌∷◌, All, map, if◌then◌else◌, IfSome, OnOk};
+ghost use Rattle.pth_base.specs.Limits.{last_moment};
 ghost use Rattle.pth_model.specs.Pass.{looks, moment, to_wake, waiting};
 ghost use Rattle.pth_model.specs.State.{Control, State};
 ghost use Rattle.pth_model.specs.declared.awaits.Awaits.TheVariants.{AnyDeath};
@@ -105,10 +106,13 @@ impl PassRoom {
         go_over_all(w, self.waiting.as_slice(), &mut self.waking)
     }
 
-    /// The least moment, in microseconds, that is later than now and for which a waiting thread waits.
+    /// The least moment, in microseconds, that is later than now and at which something comes to a descriptor, or for which a
+    /// waiting thread waits.
     pub fn next_moment<P: Program>(&mut self, w: &World<P>) -> Option<Micros>
         requires { Whole w.now }
         ensures moment { (s : State P P.State P.Shared) → StandsFor w.now s → result ≡ moment P.functions s }
+        ensures later { IfSome result (λ m. w.now.kernel.now < m) }
+        ensures within { IfSome result (λ m. m ≤ last_moment) }
         ensures same { self.new ≡ self.old }
     {
         w.waiting(&mut self.waiting);

@@ -2,6 +2,8 @@
 
 ghost use Rattle.std.specs.Prelude.{◌≡◌, ◌≢◌, ◌⊎◌, ◌≤◌, ◌+◌, ◌<◌, ℕ, [], true, false, Some, None, is_some, IsSome, IfSome, IfOk, OnOk, OnErr, length};
 ghost use Rattle.pth_base.specs.Cut.{IsCut};
+ghost use Rattle.pth_base.specs.Limits.{last_moment};
+ghost use Rattle.pth_kernel.specs.Kernel.{kernel_of};
 ghost use Rattle.pth_model.specs.Changes.{goes_on};
 ghost use Rattle.pth_model.specs.Course.{Course, within};
 ghost use Rattle.pth_model.specs.Part.{is_idle, owes_after, turn_after, moves, moves_by, takes, steps, closes, part};
@@ -23,6 +25,7 @@ use pth_base::marks::Marks;
 use pth_base::memory::OutOfMemory;
 use pth_base::outcome::Outcome;
 use pth_base::program::Program;
+use pth_kernel::kernel::Kernel;
 use pth_model::next::Next;
 use pth_queue::queue::Queue;
 use pth_world::world::World;
@@ -54,15 +57,15 @@ impl<P: Program> Model for Schedule<P> {
 }
 
 impl<P: Program> Schedule<P> {
-    /// The main thread alone, ready (`pth_init`).
-    pub fn new(alloc: Global, program: P) -> Result<Schedule<P>, OutOfMemory>
-        ensures stands { IfOk result (λ m. StandsAt P.functions (record { program = program }) 0 m) }
+    /// The main thread alone, ready (`pth_init`), at the moment of the kernel.
+    pub fn new(alloc: Global, program: P, kernel: Kernel) -> Result<Schedule<P>, OutOfMemory>
+        ensures stands { IfOk result (λ m. StandsAt P.functions (record { program = program; kernel = kernel_of kernel }) 0 m) }
         ensures rests { IfOk result (λ m. Rests m) }
         ensures steps { IfOk result (λ m. m.turn.steps ≡ 0) }
         ensures outcome { IfOk result (λ m. m.turn.outcome ≡ Outcome.Running) }
     {
         let room = PassRoom::new(alloc)?;
-        let world = World::new(alloc, program)?;
+        let world = World::new(alloc, program, kernel)?;
         Ok(Schedule {
             room,
             world,
@@ -205,6 +208,7 @@ impl<P: Program> Schedule<P> {
         ensures keeps { OnOk result (Keeps self.new) }
         ensures turn { self.new.turn ≡ self.old.turn }
         ensures scheduler { OnOk result (self.new.world.scheduler ≡ self.old.world.scheduler) }
+        ensures kernel { OnOk result (self.new.world.kernel ≡ self.old.world.kernel) }
     {
         pass(&mut self.world, &mut self.room, marks)
     }
@@ -212,18 +216,21 @@ impl<P: Program> Schedule<P> {
     // Time moves to a moment, and a pass is made.
     fn move_to(&mut self, moment: Micros, marks: &mut Marks) -> Result<(), OutOfMemory>
         requires keeps { Keeps self.old }
+        requires onward { self.old.world.kernel.now ≤ moment }
+        requires within { moment ≤ last_moment }
         ensures ok { OnOk result ((c : Course P P.State P.Shared) → Stands self.old c → Makes self.new marks.old marks.new (moves_by P.functions c.turn (Some moment) c.state)) }
         ensures err { OnErr result ((c : Course P P.State P.Shared) → Stands self.old c → IsCut marks.old marks.new (moves_by P.functions c.turn (Some moment) c.state).marks) }
         ensures keeps { OnOk result (Keeps self.new) }
         ensures turn { self.new.turn ≡ self.old.turn }
-        ensures scheduler { OnOk result (self.new.world.scheduler ≡ record self.old.world.scheduler { now = moment }) }
+        ensures scheduler { OnOk result (self.new.world.scheduler ≡ self.old.world.scheduler) }
+        ensures kernel { OnOk result (self.new.world.kernel ≡ record self.old.world.kernel { now = moment }) }
     {
         self.world.set_time(moment);
         marks.push(Mark::Moved { at: moment })?;
         self.pass(marks)
     }
 
-    /// Time moves to the next moment for which a thread waits, and a pass is made; the answer is whether there is such a
+    /// Time moves to the next moment at which something comes to a descriptor or for which a thread waits, and a pass is made; the answer is whether there is such a
     /// moment. After an error the schedule may only be dropped.
     pub fn idle(&mut self, marks: &mut Marks) -> Result<bool, OutOfMemory>
         requires keeps { Keeps self.old }
@@ -244,7 +251,7 @@ impl<P: Program> Schedule<P> {
         }
     }
 
-    // Idle time moves on; where no thread waits for a moment, the run is stalled.
+    // Idle time moves on; where there is no moment to which it moves, the run is stalled.
     fn move_on(&mut self, marks: &mut Marks) -> Result<(), OutOfMemory>
         requires keeps { Keeps self.old }
         ensures ok { OnOk result ((c : Course P P.State P.Shared) → Stands self.old c → Makes self.new marks.old marks.new (moves P.functions c.turn c.state)) }

@@ -132,7 +132,7 @@ fn tick<P: Program>(w: &mut World<P>)
     ensures shows { (k : Control P P.State P.Shared) → Shows w.old k → Shows w.new (time_passes k) }
     ensures whole { Whole w.old → Whole w.new }
     ensures stays { (u : ℕ) → WaitsToRun w.old.threads u → WaitsToRun w.new.threads u }
-    ensures same { w.new ≡ record w.old { scheduler = record w.old.scheduler { now = w.new.scheduler.now } } }
+    ensures same { w.new ≡ record w.old { kernel = record w.old.kernel { now = w.new.kernel.now } } }
 {
     let time = w.time().saturating_add(w.clock());
     w.set_time(time.min(LAST_MOMENT));

@@ -5,13 +5,13 @@ use Rattle.pth_sched.proofs.Counting.{counts_none, counts_next, round_counted}
 use Rattle.pth_sched.proofs.moments.count_round.Goals as goal
 
 pub round-init : goal.round-init
-round-init g c = record { used = c.requires.used; so_far = counts_none (events_of c.args.w.now.events) c.args.w.now.scheduler.now _ c.args.start c.requires.begins }
+round-init g c = record { used = c.requires.used; so_far = counts_none (events_of c.args.w.now.events) c.args.w.now.kernel.now _ c.args.start c.requires.begins }
 
 pub returns-then-at-first : goal.returns-then-at-first
 returns-then-at-first g c =
-    round_counted (events_of c.args.w.now.events) c.args.w.now.scheduler.now _ c.args.start _ _ c.round.best c.sooner-best.result c.spec_at.result.now c.round.invariant.so_far
+    round_counted (events_of c.args.w.now.events) c.args.w.now.kernel.now _ c.args.start _ _ c.round.best c.sooner-best.result c.spec_at.result.now c.round.invariant.so_far
     (rw c.rings.ensures at c.spec_at.ensures)
-    (rw (c.time.ensures, c.occurs_at.ensures) at c.sooner-best.ensures)
+    (rw (c.time.ensures.now, c.occurs_at.ensures) at c.sooner-best.ensures)
     (rw c.rings-in-round.ensures at c.next_at-at.ensures.round)
     (ap (number_at c.args.w.now.events) c.if-at-first.true)
 
@@ -25,9 +25,9 @@ round-preserved g c =
     let more : number_at c.args.w.now.events v ≢ e = λ h. c.if-at-first.false (sym (apart c.args.first.0 (sym h))) in
     record {
       used = used;
-      so_far = counts_next x c.args.w.now.scheduler.now e c.args.start _ _ c.round.best c.sooner-best.result c.spec_at.result.now c.round.invariant.so_far
+      so_far = counts_next x c.args.w.now.kernel.now e c.args.start _ _ c.round.best c.sooner-best.result c.spec_at.result.now c.round.invariant.so_far
           (rw c.rings.ensures at c.spec_at.ensures)
-          (rw (c.time.ensures, c.occurs_at.ensures) at c.sooner-best.ensures)
+          (rw (c.time.ensures.now, c.occurs_at.ensures) at c.sooner-best.ensures)
           (rw c.rings-in-round.ensures at c.next_at-at.ensures.round)
           more;
     }

@@ -8,7 +8,7 @@ use Rattle.pth_sched.proofs.moments.count_round.Given as goal
 abbrev pub invariant-round : goal.invariant-round
 invariant-round g l = record {
   used : number_at l.fn.w.events l.at.0 ≢ 0;
-  so_far : CountedRound (events_of l.fn.w.events) l.fn.w.scheduler.now (number_at l.fn.w.events l.first.0) l.fn.start (number_at l.fn.w.events l.at.0) l.best;
+  so_far : CountedRound (events_of l.fn.w.events) l.fn.w.kernel.now (number_at l.fn.w.events l.first.0) l.fn.start (number_at l.fn.w.events l.at.0) l.best;
 }
 
 abbrev pub decreases-round : goal.decreases-round
