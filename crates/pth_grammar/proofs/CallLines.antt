@@ -6,7 +6,7 @@ use Rattle.pth_base.specs.declared.attr.AttrField.TheVariants as field
 use Rattle.pth_grammar.specs.CallLines.{query_by, query_line, ctrl_line, number_field, field_line, set_line, library_by, library_line, attribute_by, attribute_line, thread_by, thread_line, utility_by, utility_line, cancellation_by, cancellation_line, new_event_by, new_event_line, event_by, event_line, key_by, key_line, port_by, port_line, cleanup_by, cleanup_line, mutex_by, mutex_line, rwlock_by, rwlock_line, condition_by, condition_line, barrier_by, barrier_line, io_by, io_line, chain_line, call_line}
 use Rattle.pth_grammar.specs.Forms.{query_forms, ctrl_forms, field_forms, set_forms, library_forms, attribute_forms, thread_forms, utility_forms, cancellation_forms, new_event_forms, event_forms, key_forms, port_forms, cleanup_forms, mutex_forms, rwlock_forms, condition_forms, barrier_forms, io_forms, chained_forms, chain_forms, call_forms}
 use Rattle.pth_spelling.specs.Keywords.{new_event_word}
-use Rattle.pth_grammar.specs.declared.form.Form.TheVariants as form
+use Rattle.pth_forms.specs.declared.form.Form.TheVariants as form
 use Rattle.pth_spelling.specs.WordMeanings.{query_of, field_of}
 use Rattle.pth_spelling.specs.declared.keyword.QueryWord.{QueryWord}
 use Rattle.pth_spelling.specs.declared.keyword.QueryWord.TheVariants as queries
@@ -42,7 +42,9 @@ use Rattle.pth_spelling.specs.declared.keyword.IoWord.{IoWord}
 use Rattle.pth_spelling.specs.declared.keyword.IoWord.TheVariants as ios
 use Rattle.pth_spelling.specs.declared.keyword.CallWord.{CallWord}
 use Rattle.pth_spelling.specs.declared.keyword.CallWord.TheVariants as call
-use Rattle.pth_grammar.proofs.RowLemmas.{AllFine, IsFine, some_map, some_then, numbers0, numbers1, numbers2, numbers3, row1, row2, row3, row4, row5, operand, maybe_operand, name, maybe_name, set, goals, which, field as field_word, state, mode, direction, query, event, byte_operand}
+use Rattle.pth_forms.proofs.Options.{some_map, some_then}
+use Rattle.pth_forms.proofs.Fine.{AllFine, IsFine, operand, maybe_operand, name, maybe_name, set, goals, which, field as field_word, state, mode, direction, query, event, byte_operand}
+use Rattle.pth_grammar.proofs.RowLemmas.{numbers0, numbers1, numbers2, numbers3, row1, row2, row3, row4, row5}
 
 -- ---- lines whose later words depend on an earlier one
 

@@ -8,18 +8,25 @@ use Rattle.pth_grammar.specs.CallLines.{call_line}
 use Rattle.pth_grammar.specs.Forms.{call_forms, act_forms, body_forms, forms_of}
 use Rattle.pth_spelling.specs.Keywords.{call_word, keyword_of, begins}
 use Rattle.pth_grammar.specs.LineMeanings.{line_by, answered_line, line_of, act_with, act_by, act_of, check_by, check_of}
-use Rattle.pth_grammar.specs.Shapes.{Shape, Unequal, Asks, asks, after_register, takes_answer, shape_of, wrong, words_break, word_rules, words_fault}
+use Rattle.pth_grammar.specs.Shapes.{Shape, Unequal, Asks, asks, after_register, takes_answer, shape_of, words_break, word_rules, words_fault}
 use Rattle.pth_spelling.specs.WordMeanings.{register_of}
-use Rattle.pth_grammar.specs.declared.form.Form.{Form}
-use Rattle.pth_grammar.specs.declared.form.Form.TheVariants as form
+use Rattle.pth_forms.specs.declared.form.Form.{Form}
+use Rattle.pth_forms.specs.declared.form.Form.TheVariants as form
 use Rattle.pth_spelling.specs.declared.keyword.CallWord.{CallWord}
 use Rattle.pth_spelling.specs.declared.keyword.Keyword.{Keyword}
 use Rattle.pth_spelling.specs.declared.keyword.Keyword.TheVariants as key
 use Rattle.pth_text.specs.declared.rule.Rule.TheVariants as rule
+use Rattle.pth_kernel_lines.specs.declared.part.KernelPart.{KernelPart}
+use Rattle.pth_kernel_lines.specs.declared.part.KernelPart.TheVariants as part
+use Rattle.pth_kernel_lines.specs.KernelLines.{clock_line, open_line, stamp_line}
+use Rattle.pth_kernel_lines.proofs.Readable.{clock_stands, open_stands, stamp_stands}
 use Rattle.pth_grammar.specs.declared.section.Section.{Section}
 use Rattle.pth_grammar.specs.declared.section.Section.TheVariants as sec
 use Rattle.pth_grammar.proofs.CallLines.{callable}
-use Rattle.pth_grammar.proofs.RowLemmas.{AllFine, some_map, some_then, values1, values2, row1, row2, row4, natural, operand, register, value, shared, relation}
+use Rattle.pth_forms.specs.Forms.{wrong}
+use Rattle.pth_forms.proofs.Options.{some_map, some_then}
+use Rattle.pth_forms.proofs.Fine.{AllFine, natural, operand, register, value, shared, relation}
+use Rattle.pth_grammar.proofs.RowLemmas.{values1, values2, row1, row2, row4}
 
 -- ---- words that break no rule
 
@@ -79,6 +86,7 @@ no_answer sec.Handlers w h = refl
 no_answer sec.Handler w h = refl
 no_answer sec.Checks w h = refl
 no_answer sec.Bodies w h = refl
+no_answer (sec.Kernel part) w h = refl
 
 pub begun : (s : Section) (w : List ℕ) (ws : List (List ℕ)) (k : Keyword) → words_fault s (w ∷ ws) ≡ None → begins (w ∷ ws) ≡ Some k → IsBegun s k ws
 unfolding words_fault shape_of begins
@@ -178,6 +186,9 @@ checked sec.Checks ws fs e = same_some _ fs e
 checked sec.Handler ws fs e = absurd (cc)
 checked sec.Bodies ws fs e = absurd (cc)
 checked sec.Body ws fs e = absurd (cc)
+checked (sec.Kernel part.Head) ws fs e = absurd (cc)
+checked (sec.Kernel part.Opens) ws fs e = absurd (cc)
+checked (sec.Kernel part.Entries) ws fs e = absurd (cc)
 
 pub check_readable : (s : Section) (ws : List (List ℕ)) → words_fault s ws ≡ None → begins ws ≡ Some key.Check → is_some (check_of ws) ≡ true
 unfolding words_fault words_break shape_of check_of begins
@@ -185,6 +196,23 @@ check_readable s [] h e = absurd (cc)
 check_readable s (w ∷ ws) h e =
     let b = begun s w ws key.Check h e in
     check_fine ws (subst (λ fs. AllFine fs ws) (sym (checked s ws b.forms b.allowed)) b.fine)
+
+-- ---- the lines of a kernel
+
+pub clock_readable : (p : KernelPart) (ws : List (List ℕ)) → words_fault (sec.Kernel p) ws ≡ None → begins ws ≡ Some key.Clock → is_some (clock_line ws) ≡ true
+unfolding begins
+clock_readable p [] h e = absurd (cc)
+clock_readable p (w ∷ ws) h e = let b = begun (sec.Kernel p) w ws key.Clock h e in clock_stands p (w ∷ ws) b.forms e b.allowed b.fine
+
+pub open_readable : (p : KernelPart) (ws : List (List ℕ)) → words_fault (sec.Kernel p) ws ≡ None → begins ws ≡ Some key.Open → is_some (open_line ws) ≡ true
+unfolding begins
+open_readable p [] h e = absurd (cc)
+open_readable p (w ∷ ws) h e = let b = begun (sec.Kernel p) w ws key.Open h e in open_stands p (w ∷ ws) b.forms e b.allowed b.fine
+
+pub stamp_readable : (p : KernelPart) (ws : List (List ℕ)) → words_fault (sec.Kernel p) ws ≡ None → begins ws ≡ Some key.At → is_some (stamp_line ws) ≡ true
+unfolding begins
+stamp_readable p [] h e = absurd (cc)
+stamp_readable p (w ∷ ws) h e = let b = begun (sec.Kernel p) w ws key.At h e in stamp_stands p (w ∷ ws) b.forms e b.allowed b.fine
 
 -- ---- lines that begin with a keyword
 
@@ -207,4 +235,5 @@ outside_keyed sec.Handlers (w ∷ ws) n h = keyed_by sec.Handlers w ws (begins (
 outside_keyed sec.Handler (w ∷ ws) n h = keyed_by sec.Handler w ws (begins (w ∷ ws)) refl h h
 outside_keyed sec.Checks (w ∷ ws) n h = keyed_by sec.Checks w ws (begins (w ∷ ws)) refl h h
 outside_keyed sec.Bodies (w ∷ ws) n h = keyed_by sec.Bodies w ws (begins (w ∷ ws)) refl h h
+outside_keyed (sec.Kernel part) (w ∷ ws) n h = keyed_by (sec.Kernel part) w ws (begins (w ∷ ws)) refl h h
 outside_keyed sec.Body (w ∷ ws) n h = absurd (n refl)

@@ -1,5 +1,7 @@
 -- Lines that break none of the rules on words stand for something.
 use Rattle.std.specs.Prelude.{ℕ, ◌≡◌, ◌≢◌, List, Some, None, IsSome}
+use Rattle.pth_kernel_lines.specs.KernelLines.{clock_line, open_line, stamp_line}
+use Rattle.pth_kernel_lines.specs.declared.part.KernelPart.{KernelPart}
 use Rattle.pth_grammar.specs.LineMeanings.{line_of, act_of, check_of}
 use Rattle.pth_grammar.specs.Shapes.{words_fault}
 use Rattle.pth_grammar.specs.declared.section.Section.{Section}
@@ -18,3 +20,13 @@ HandlerLinesStand = (words : List (List ℕ)) → words_fault sec.Handler words 
 -- a check, in whatever section
 abbrev pub ChecksStand : Type 0
 ChecksStand = (section : Section) (words : List (List ℕ)) → words_fault section words ≡ None → begins words ≡ Some key.Check → IsSome (check_of words)
+
+-- the lines of a kernel, in whatever part of it
+abbrev pub ClocksStand : Type 0
+ClocksStand = (part : KernelPart) (words : List (List ℕ)) → words_fault (sec.Kernel part) words ≡ None → begins words ≡ Some key.Clock → IsSome (clock_line words)
+
+abbrev pub OpensStand : Type 0
+OpensStand = (part : KernelPart) (words : List (List ℕ)) → words_fault (sec.Kernel part) words ≡ None → begins words ≡ Some key.Open → IsSome (open_line words)
+
+abbrev pub StampsStand : Type 0
+StampsStand = (part : KernelPart) (words : List (List ℕ)) → words_fault (sec.Kernel part) words ≡ None → begins words ≡ Some key.At → IsSome (stamp_line words)

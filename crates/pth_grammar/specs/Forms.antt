@@ -4,8 +4,8 @@ use Rattle.pth_base.specs.declared.attr.AttrField.{AttrField}
 use Rattle.pth_base.specs.declared.attr.AttrField.TheVariants as field
 use Rattle.pth_spelling.specs.WordMeanings.{field_of, query_of}
 use Rattle.pth_spelling.specs.Keywords.{new_event_word}
-use Rattle.pth_grammar.specs.declared.form.Form.{Form}
-use Rattle.pth_grammar.specs.declared.form.Form.TheVariants as form
+use Rattle.pth_forms.specs.declared.form.Form.{Form}
+use Rattle.pth_forms.specs.declared.form.Form.TheVariants as form
 use Rattle.pth_spelling.specs.declared.keyword.QueryWord.{QueryWord}
 use Rattle.pth_spelling.specs.declared.keyword.QueryWord.TheVariants as queries
 use Rattle.pth_spelling.specs.declared.keyword.LibraryWord.{LibraryWord}
@@ -42,6 +42,7 @@ use Rattle.pth_spelling.specs.declared.keyword.CallWord.{CallWord}
 use Rattle.pth_spelling.specs.declared.keyword.CallWord.TheVariants as call
 use Rattle.pth_spelling.specs.declared.keyword.Keyword.{Keyword}
 use Rattle.pth_spelling.specs.declared.keyword.Keyword.TheVariants as key
+use Rattle.pth_kernel_lines.specs.KernelForms.{kernel_forms}
 use Rattle.pth_grammar.specs.declared.section.Section.{Section}
 use Rattle.pth_grammar.specs.declared.section.Section.TheVariants as sec
 
@@ -228,18 +229,22 @@ abbrev pub opening_forms : Keyword → Option (List Form)
 opening_forms key.Handler = Some (form.Natural ∷ [])
 opening_forms key.Check = Some (form.Natural ∷ form.Value ∷ form.Relation ∷ form.Value ∷ [])
 opening_forms key.Thread = Some (form.Natural ∷ [])
+opening_forms key.Kernel = Some []
 opening_forms _ = None
 
--- handlers come first, then checks, then bodies
+-- handlers come first, then checks, then bodies, then a kernel
 abbrev pub may_open : Section → Keyword → Option (List Form)
 may_open sec.Handlers k = opening_forms k
 may_open sec.Checks key.Check = opening_forms key.Check
 may_open sec.Checks key.Thread = opening_forms key.Thread
+may_open sec.Checks key.Kernel = opening_forms key.Kernel
 may_open sec.Bodies key.Thread = opening_forms key.Thread
+may_open sec.Bodies key.Kernel = opening_forms key.Kernel
 may_open _ _ = None
 
 -- none where the word may not begin a line of the section
 abbrev pub forms_of : Section → Keyword → List (List ℕ) → Option (List Form)
 forms_of sec.Handler k ws = act_forms k
 forms_of sec.Body k ws = body_forms k ws
+forms_of (sec.Kernel part) k ws = kernel_forms part k ws
 forms_of s k ws = may_open s k

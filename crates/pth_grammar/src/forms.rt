@@ -4,9 +4,10 @@ ghost use Rattle.std.specs.Prelude.{◌≡◌, option_map};
 ghost use Rattle.pth_grammar.specs.Forms.{query_forms, ctrl_forms, field_forms, set_forms, library_forms, attribute_forms, thread_forms, utility_forms, cancellation_forms, new_event_forms, event_forms, key_forms, port_forms, cleanup_forms, mutex_forms, rwlock_forms, condition_forms, barrier_forms, io_forms, chained_forms, chain_forms, call_forms, act_forms, body_forms, opening_forms, may_open, forms_of};
 ghost use Rattle.pth_spelling.specs.Texts.{texts};
 
-use crate::form::Form;
 use crate::section::Section;
 use pth_base::attr::AttrField;
+use pth_forms::form::Form;
+use pth_kernel_lines::forms::kernel_forms;
 use pth_spelling::first_word::new_event_word;
 use pth_spelling::keyword::{
     AttributeWord, BarrierWord, CallWord, CancellationWord, CleanupWord, ConditionWord, EventWord,
@@ -335,6 +336,7 @@ fn opening_forms(keyword: Keyword) -> Option<&'static [Form]>
         Keyword::Handler => Some(&[Form::Natural]),
         Keyword::Check => Some(&[Form::Natural, Form::Value, Form::Relation, Form::Value]),
         Keyword::Thread => Some(&[Form::Natural]),
+        Keyword::Kernel => Some(&[]),
         _ => None,
     }
 }
@@ -346,7 +348,9 @@ fn may_open(section: Section, keyword: Keyword) -> Option<&'static [Form]>
         (Section::Handlers, keyword) => opening_forms(keyword),
         (Section::Checks, Keyword::Check) => opening_forms(keyword),
         (Section::Checks, Keyword::Thread) => opening_forms(keyword),
+        (Section::Checks, Keyword::Kernel) => opening_forms(keyword),
         (Section::Bodies, Keyword::Thread) => opening_forms(keyword),
+        (Section::Bodies, Keyword::Kernel) => opening_forms(keyword),
         _ => None,
     }
 }
@@ -358,6 +362,7 @@ pub fn forms_of(section: Section, keyword: Keyword, words: &[&[u8]]) -> Option<&
     match section {
         Section::Handler => act_forms(keyword),
         Section::Body => body_forms(keyword, words),
+        Section::Kernel(part) => kernel_forms(part, keyword, words),
         _ => may_open(section, keyword),
     }
 }

@@ -10,7 +10,6 @@ mod cleanup_line;
 mod condition_line;
 mod event_line;
 pub mod fault;
-pub mod form;
 mod forms;
 mod io_line;
 mod key_line;

@@ -1,5 +1,7 @@
 //! Where a line stands.
 
+use pth_kernel_lines::part::KernelPart;
+
 /// The part of a script in which a line stands.
 #[derive(Clone, Copy)]
 pub enum Section {
@@ -13,4 +15,6 @@ pub enum Section {
     Bodies,
     /// Within a body.
     Body,
+    /// Below `kernel`, which stands below all bodies.
+    Kernel(KernelPart),
 }

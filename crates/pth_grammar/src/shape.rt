@@ -7,9 +7,9 @@ ghost use Rattle.pth_grammar.specs.Forms.{call_forms};
 ghost use Rattle.pth_grammar.specs.Shapes.{asks, after_register, shape_of};
 ghost use Rattle.pth_spelling.specs.Texts.{texts};
 
-use crate::form::Form;
 use crate::forms::{call_forms, forms_of};
 use crate::section::Section;
+use pth_forms::form::Form;
 use pth_spelling::first_word::{begins, call_word};
 use pth_spelling::words::register;
 

@@ -32,6 +32,8 @@ use Rattle.pth_spelling.specs.declared.keyword.IoWord.{IoWord}
 use Rattle.pth_spelling.specs.declared.keyword.IoWord.TheVariants as ios
 use Rattle.pth_spelling.specs.declared.keyword.NewEventWord.{NewEventWord}
 use Rattle.pth_spelling.specs.declared.keyword.NewEventWord.TheVariants as new
+use Rattle.pth_spelling.specs.declared.keyword.EntryWord.{EntryWord}
+use Rattle.pth_spelling.specs.declared.keyword.EntryWord.TheVariants as entries
 use Rattle.pth_spelling.specs.declared.keyword.CallWord.{CallWord}
 use Rattle.pth_spelling.specs.declared.keyword.CallWord.TheVariants as call
 use Rattle.pth_spelling.specs.declared.keyword.Keyword.{Keyword}
@@ -248,6 +250,23 @@ call_word w =
     (or_else (option_map (λ k. call.Barriers k) (barrier_word w))
     (option_map (λ k. call.Io k) (io_word w))))))))))))))
 
+-- ---- what comes to descriptors
+
+abbrev pub entry_words : List (List ℕ × EntryWord)
+entry_words =
+    (codes "in", entries.In)
+    ∷ (codes "eof", entries.Eof)
+    ∷ (codes "room", entries.Room)
+    ∷ (codes "conn", entries.Conn)
+    ∷ (codes "up", entries.Up)
+    ∷ (codes "refuse", entries.Refuse)
+    ∷ (codes "exc", entries.Exc)
+    ∷ (codes "err", entries.Err)
+    ∷ []
+
+unfoldable pub entry_word : List ℕ → Option EntryWord
+entry_word w = named_in entry_words w
+
 -- ---- all first words
 
 -- the words of lines that make no call
@@ -266,6 +285,10 @@ plain_words =
     ∷ (codes "notify", key.Notify)
     ∷ (codes "put", key.Put)
     ∷ (codes "setkey", key.SetKey)
+    ∷ (codes "kernel", key.Kernel)
+    ∷ (codes "clock", key.Clock)
+    ∷ (codes "open", key.Open)
+    ∷ (codes "at", key.At)
     ∷ []
 
 unfoldable pub plain_word : List ℕ → Option Keyword

@@ -2,12 +2,12 @@
 
 ghost use Rattle.std.specs.Prelude.{◌≡◌};
 ghost use Rattle.pth_spelling.specs.Texts.{texts};
-ghost use Rattle.pth_spelling.specs.Keywords.{library_word, attribute_word, thread_word, utility_word, cancellation_word, event_word, key_word, port_word, cleanup_word, mutex_word, rwlock_word, condition_word, barrier_word, io_word, new_of, new_event_word, call_word, plain_word, keyword_of, begins};
+ghost use Rattle.pth_spelling.specs.Keywords.{library_word, attribute_word, thread_word, utility_word, cancellation_word, event_word, key_word, port_word, cleanup_word, mutex_word, rwlock_word, condition_word, barrier_word, io_word, new_of, new_event_word, entry_word, call_word, plain_word, keyword_of, begins};
 
 use crate::keyword::{
-    AttributeWord, BarrierWord, CallWord, CancellationWord, CleanupWord, ConditionWord, EventWord,
-    IoWord, KeyStorageWord, Keyword, LibraryWord, MutexWord, NewEventWord, PortWord, RwlockWord,
-    ThreadWord, UtilityWord,
+    AttributeWord, BarrierWord, CallWord, CancellationWord, CleanupWord, ConditionWord, EntryWord,
+    EventWord, IoWord, KeyStorageWord, Keyword, LibraryWord, MutexWord, NewEventWord, PortWord,
+    RwlockWord, ThreadWord, UtilityWord,
 };
 use crate::named::named;
 use crate::words::register;
@@ -264,7 +264,26 @@ pub fn new_event_word(word: &[u8]) -> Option<NewEventWord>
     new_of(event_word(word)?)
 }
 
-static PLAIN_WORDS: [(&str, Keyword); 13] = [
+static ENTRY_WORDS: [(&str, EntryWord); 8] = [
+    ("in", EntryWord::In),
+    ("eof", EntryWord::Eof),
+    ("room", EntryWord::Room),
+    ("conn", EntryWord::Conn),
+    ("up", EntryWord::Up),
+    ("refuse", EntryWord::Refuse),
+    ("exc", EntryWord::Exc),
+    ("err", EntryWord::Err),
+];
+
+/// What comes to a descriptor, as a word names it.
+#[tactic(auto, unfolding(crate::specs::Keywords::entry_word))]
+pub fn entry_word(word: &[u8]) -> Option<EntryWord>
+    ensures { result ≡ entry_word word.now }
+{
+    named(&ENTRY_WORDS, word)
+}
+
+static PLAIN_WORDS: [(&str, Keyword); 17] = [
     ("handler", Keyword::Handler),
     ("check", Keyword::Check),
     ("thread", Keyword::Thread),
@@ -278,6 +297,10 @@ static PLAIN_WORDS: [(&str, Keyword); 13] = [
     ("notify", Keyword::Notify),
     ("put", Keyword::Put),
     ("setkey", Keyword::SetKey),
+    ("kernel", Keyword::Kernel),
+    ("clock", Keyword::Clock),
+    ("open", Keyword::Open),
+    ("at", Keyword::At),
 ];
 
 /// The word of a line that makes no call.

@@ -185,6 +185,19 @@ pub enum CallWord {
     Io(IoWord),
 }
 
+/// What comes to a descriptor.
+#[derive(Clone, Copy)]
+pub enum EntryWord {
+    In,
+    Eof,
+    Room,
+    Conn,
+    Up,
+    Refuse,
+    Exc,
+    Err,
+}
+
 /// The first word of a line that does not begin with a register.
 #[derive(Clone, Copy)]
 pub enum Keyword {
@@ -201,5 +214,9 @@ pub enum Keyword {
     Notify,
     Put,
     SetKey,
+    Kernel,
+    Clock,
+    Open,
+    At,
     Call(CallWord),
 }

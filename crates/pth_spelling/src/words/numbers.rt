@@ -16,7 +16,7 @@ pub fn natural(word: &[u8]) -> Option<i64>
 }
 
 /// A number that is not negative and below a limit.
-pub(crate) fn number_below(limit: u8, word: &[u8]) -> Option<u8>
+pub fn number_below(limit: u8, word: &[u8]) -> Option<u8>
     ensures { result ≡ option_and_then (below limit) (numeral_value word.now) }
 {
     let n = read_number(word)?;

@@ -1,0 +1,4 @@
+pub mod Options
+pub mod Pairs
+pub mod Wrong
+pub mod Fine

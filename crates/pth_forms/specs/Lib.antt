@@ -1,0 +1,2 @@
+pub mod KernelWords
+pub mod Forms

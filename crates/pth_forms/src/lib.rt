@@ -1,0 +1,6 @@
+//! The forms of words, and the rules that words break by their forms.
+#![tactic(auto)]
+
+pub mod form;
+pub mod kernel_words;
+pub mod rules;

@@ -1,8 +1,0 @@
-use Rattle.std.proofs.Common.{◌∙◌}
-use Rattle.pth_grammar.proofs.Pairs.{pairs_after_hex}
-use Rattle.pth_grammar.proofs.fault.has_pairs.Goals as goal
-
-pub returns-else-is_empty : goal.returns-else-is_empty
-returns-else-is_empty c =
-    let cut = c.in-Some.ensures.cases in
-    c.is_hex.ensures ∙ pairs_after_hex c.args.form c.args.word.now c.in-Some.digits.now c.in-Bytes.is cut.0 cut.1 c.if-is_empty.ensures

@@ -1,0 +1,3 @@
+pub mod KernelForms
+pub mod KernelLines
+pub mod Ranges

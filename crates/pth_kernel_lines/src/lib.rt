@@ -1,0 +1,7 @@
+//! The lines of a kernel: the forms of their words, and what they stand for.
+#![tactic(auto)]
+
+pub mod forms;
+pub mod laws;
+pub mod lines;
+pub mod part;
