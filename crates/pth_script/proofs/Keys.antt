@@ -12,7 +12,8 @@ use Rattle.pth_line.specs.declared.act_line.ActLine.{ActLine}
 use Rattle.pth_line.specs.declared.line.Line.{Line}
 use Rattle.pth_line.specs.declared.line.Line.TheVariants as line
 use Rattle.pth_script.specs.Labels.{label_in, goto_in, listed}
-use Rattle.pth_script.specs.Seen.{Seen, seen_past, is_handler, is_check, is_thread, is_end}
+use Rattle.pth_script.specs.Seen.{Seen, script_past, is_handler, is_check, is_thread, is_end, is_clock, is_opening, is_stamp}
+use Rattle.pth_script.proofs.KernelPast.{IsOutside}
 
 -- the keyword of a line within a section
 pub record IsInner (k : Option Keyword) : Type 0 where
@@ -20,28 +21,29 @@ pub record IsInner (k : Option Keyword) : Type 0 where
   pub check : is_check k ≡ false
   pub thread : is_thread k ≡ false
   pub end : is_end k ≡ false
+  pub outside : IsOutside k
 
-inner : (k : Option Keyword) → is_handler k ≡ false → is_check k ≡ false → is_thread k ≡ false → is_end k ≡ false → IsInner k
-inner k a b c d = record { handler = a; check = b; thread = c; end = d }
+inner : (k : Option Keyword) → is_handler k ≡ false → is_check k ≡ false → is_thread k ≡ false → is_end k ≡ false → is_clock k ≡ false → is_opening k ≡ false → is_stamp k ≡ false → IsInner k
+inner k a b c d e f g = record { handler = a; check = b; thread = c; end = d; outside = record { clock = e; opening = f; stamp = g } }
 
 -- ---- acts
 
 -- one line more is seen, and no label
 pub record IsAct (k : Option Keyword) : Type 0 where
   pub inner : IsInner k
-  pub past : (n : Option ℤ) (s : Seen) → seen_past k n s ≡ record s { lines = suc s.lines }
+  pub past : (n : Option ℤ) (s : Seen) → script_past k n s ≡ record s { lines = suc s.lines }
 
 act_key : (k : Option Keyword) (ws : List (List ℕ)) (a : ActLine) → act_by k ws ≡ Some a → IsAct k
-act_key (Some key.Note) ws a e = record { inner = inner _ refl refl refl refl; past = λ n s. refl }
-act_key (Some key.Set) ws a e = record { inner = inner _ refl refl refl refl; past = λ n s. refl }
-act_key (Some key.Release) ws a e = record { inner = inner _ refl refl refl refl; past = λ n s. refl }
-act_key (Some key.Notify) ws a e = record { inner = inner _ refl refl refl refl; past = λ n s. refl }
-act_key (Some key.Put) ws a e = record { inner = inner _ refl refl refl refl; past = λ n s. refl }
-act_key (Some key.SetKey) ws a e = record { inner = inner _ refl refl refl refl; past = λ n s. refl }
+act_key (Some key.Note) ws a e = record { inner = inner _ refl refl refl refl refl refl refl; past = λ n s. refl }
+act_key (Some key.Set) ws a e = record { inner = inner _ refl refl refl refl refl refl refl; past = λ n s. refl }
+act_key (Some key.Release) ws a e = record { inner = inner _ refl refl refl refl refl refl refl; past = λ n s. refl }
+act_key (Some key.Notify) ws a e = record { inner = inner _ refl refl refl refl refl refl refl; past = λ n s. refl }
+act_key (Some key.Put) ws a e = record { inner = inner _ refl refl refl refl refl refl refl; past = λ n s. refl }
+act_key (Some key.SetKey) ws a e = record { inner = inner _ refl refl refl refl refl refl refl; past = λ n s. refl }
 act_key _ ws a e = absurd (cc)
 
 act_begins_by : (b : Bool) (k : Option Keyword) (ws : List (List ℕ)) (a : ActLine) → act_by k ws ≡ Some a → IsAct (cond b None k)
-act_begins_by true k ws a e = record { inner = inner _ refl refl refl refl; past = λ n s. refl }
+act_begins_by true k ws a e = record { inner = inner _ refl refl refl refl refl refl refl; past = λ n s. refl }
 act_begins_by false k ws a e = act_key k ws a e
 
 pub act_begins : (ws : List (List ℕ)) (a : ActLine) → act_of ws ≡ Some a → IsAct (begins ws)
@@ -55,10 +57,10 @@ act_begins (w ∷ ws) a e = act_begins_by (is_some (register_of w)) (keyword_of 
 pub record IsLine (k : Option Keyword) (n : Option ℤ) (l : Line) : Type 0 where
   pub inner : IsInner k
   pub label : (m : ℤ) → label_in l ≡ Some m → (k ≡ Some key.Label) × (n ≡ Some m)
-  pub past : (s : Seen) → seen_past k n s ≡ record s { lines = suc s.lines; labels = s.labels ++ listed (label_in l); gotos = s.gotos ++ listed (goto_in l) }
+  pub past : (s : Seen) → script_past k n s ≡ record s { lines = suc s.lines; labels = s.labels ++ listed (label_in l); gotos = s.gotos ++ listed (goto_in l) }
 
 -- a line that is no label and names none
-plain : (k : Option Keyword) (n : Option ℤ) (l : Line) → IsInner k → ((s : Seen) → seen_past k n s ≡ record s { lines = suc s.lines }) → label_in l ≡ None → goto_in l ≡ None → IsLine k n l
+plain : (k : Option Keyword) (n : Option ℤ) (l : Line) → IsInner k → ((s : Seen) → script_past k n s ≡ record s { lines = suc s.lines }) → label_in l ≡ None → goto_in l ≡ None → IsLine k n l
 plain k n l i p a b = record {
   inner = i;
   label = λ m e. absurd (cc);
@@ -94,22 +96,22 @@ module _ {R : Type 0} (P : R → Type 0) where
   by_read3 f g h build [] l p e = absurd (cc)
   by_read3 f g h build (a ∷ ws) l p e = by_then (λ x. read2 g h (build x) ws) (f a) l (λ x. by_read2 g h (build x) ws l (p x)) e
 
-no_label : (k : Option Keyword) (n : Option ℤ) (l : Line) → IsInner k → ((s : Seen) → seen_past k n s ≡ record s { lines = suc s.lines }) → NoLabel l → IsLine k n l
+no_label : (k : Option Keyword) (n : Option ℤ) (l : Line) → IsInner k → ((s : Seen) → script_past k n s ≡ record s { lines = suc s.lines }) → NoLabel l → IsLine k n l
 no_label k n l i p h = plain k n l i p h.0 h.1
 
 label_key : (o : Option ℤ) (l : Line) → option_map (λ k. line.Label k) o ≡ Some l → IsLine (Some key.Label) o l
 label_key None l e = absurd (cc)
-label_key (Some k) l e = subst (λ m. IsLine (Some key.Label) (Some k) m) (from_some (line.Label k) l e) (record { inner = inner _ refl refl refl refl; label = λ m e. (refl, e); past = λ s i. record s { lines = suc s.lines; labels = s.labels ++ k ∷ []; gotos = sym (append-nil s.gotos) i } })
+label_key (Some k) l e = subst (λ m. IsLine (Some key.Label) (Some k) m) (from_some (line.Label k) l e) (record { inner = inner _ refl refl refl refl refl refl refl; label = λ m e. (refl, e); past = λ s i. record s { lines = suc s.lines; labels = s.labels ++ k ∷ []; gotos = sym (append-nil s.gotos) i } })
 
 goto_key : (o : Option ℤ) (ws : List (List ℕ)) (l : Line) → option_and_then (λ k. read3 operand_of relation_of operand_of (λ x r y. line.Goto k 0 x r y) ws) o ≡ Some l → IsLine (Some key.Goto) o l
 goto_key None ws l e = absurd (cc)
-goto_key (Some k) ws l e = by_read3 (λ m. IsLine (Some key.Goto) (Some k) m) operand_of relation_of operand_of (λ x r y. line.Goto k 0 x r y) ws l (λ x r y. record { inner = inner _ refl refl refl refl; label = λ m e. absurd (cc); past = λ s i. record s { lines = suc s.lines; labels = sym (append-nil s.labels) i; gotos = s.gotos ++ k ∷ [] } }) e
+goto_key (Some k) ws l e = by_read3 (λ m. IsLine (Some key.Goto) (Some k) m) operand_of relation_of operand_of (λ x r y. line.Goto k 0 x r y) ws l (λ x r y. record { inner = inner _ refl refl refl refl refl refl refl; label = λ m e. absurd (cc); past = λ s i. record s { lines = suc s.lines; labels = sym (append-nil s.labels) i; gotos = s.gotos ++ k ∷ [] } }) e
 
 plain_key : (k : Keyword) (w : List ℕ) (ws : List (List ℕ)) (l : Line) → plain_line k ws ≡ Some l → IsLine (Some k) (numbered (w ∷ ws)) l
 unfolding numbered
-plain_key key.Set w ws l e = no_label _ _ l (inner _ refl refl refl refl) (λ s. refl) (by_read2 NoLabel _ _ _ ws l (λ r x. (refl, refl)) e)
-plain_key key.Add w ws l e = no_label _ _ l (inner _ refl refl refl refl) (λ s. refl) (by_read2 NoLabel _ _ _ ws l (λ r x. (refl, refl)) e)
-plain_key key.Note w ws l e = no_label _ _ l (inner _ refl refl refl refl) (λ s. refl) (by_read1 NoLabel _ _ ws l (λ x. (refl, refl)) e)
+plain_key key.Set w ws l e = no_label _ _ l (inner _ refl refl refl refl refl refl refl) (λ s. refl) (by_read2 NoLabel _ _ _ ws l (λ r x. (refl, refl)) e)
+plain_key key.Add w ws l e = no_label _ _ l (inner _ refl refl refl refl refl refl refl) (λ s. refl) (by_read2 NoLabel _ _ _ ws l (λ r x. (refl, refl)) e)
+plain_key key.Note w ws l e = no_label _ _ l (inner _ refl refl refl refl refl refl refl) (λ s. refl) (by_read1 NoLabel _ _ ws l (λ x. (refl, refl)) e)
 plain_key key.Label w [] l e = absurd (cc)
 plain_key key.Label w (k ∷ []) l e = label_key (natural_of k) l e
 plain_key key.Label w (k ∷ v ∷ ws) l e = absurd (cc)
@@ -118,7 +120,7 @@ plain_key key.Goto w (k ∷ ws) l e = goto_key (natural_of k) ws l e
 plain_key _ w ws l e = absurd (cc)
 
 worded_key : (k : Option Keyword) (w : List ℕ) (ws : List (List ℕ)) (l : Line) → line_by k ws ≡ Some l → IsLine k (numbered (w ∷ ws)) l
-worded_key (Some (key.Call c)) w ws l e = no_label _ _ l (inner _ refl refl refl refl) (λ s. refl) (by1 NoLabel _ (call_line c ws) l (λ x. (refl, refl)) e)
+worded_key (Some (key.Call c)) w ws l e = no_label _ _ l (inner _ refl refl refl refl refl refl refl) (λ s. refl) (by1 NoLabel _ (call_line c ws) l (λ x. (refl, refl)) e)
 worded_key (Some key.Handler) w ws l e = plain_key key.Handler w ws l e
 worded_key (Some key.Check) w ws l e = plain_key key.Check w ws l e
 worded_key (Some key.Thread) w ws l e = plain_key key.Thread w ws l e
@@ -132,13 +134,17 @@ worded_key (Some key.Release) w ws l e = plain_key key.Release w ws l e
 worded_key (Some key.Notify) w ws l e = plain_key key.Notify w ws l e
 worded_key (Some key.Put) w ws l e = plain_key key.Put w ws l e
 worded_key (Some key.SetKey) w ws l e = plain_key key.SetKey w ws l e
+worded_key (Some key.Kernel) w ws l e = plain_key key.Kernel w ws l e
+worded_key (Some key.Clock) w ws l e = plain_key key.Clock w ws l e
+worded_key (Some key.Open) w ws l e = plain_key key.Open w ws l e
+worded_key (Some key.At) w ws l e = plain_key key.At w ws l e
 worded_key None w ws l e = absurd (cc)
 
 answered_key : (n : Option ℤ) (ws : List (List ℕ)) (l : Line) → answered_line ws ≡ Some l → IsLine None n l
 answered_key n [] l e = absurd (cc)
 answered_key n (d ∷ []) l e = absurd (cc)
 answered_key n (d ∷ q ∷ []) l e = absurd (cc)
-answered_key n (d ∷ q ∷ k ∷ ws) l e = no_label _ _ l (inner _ refl refl refl refl) (λ s. refl) (by_then NoLabel _ (register_of d) l (λ r. by1 NoLabel (λ c. line.Call (Some r) c) _ l (λ c. (refl, refl))) e)
+answered_key n (d ∷ q ∷ k ∷ ws) l e = no_label _ _ l (inner _ refl refl refl refl refl refl refl) (λ s. refl) (by_then NoLabel _ (register_of d) l (λ r. by1 NoLabel (λ c. line.Call (Some r) c) _ l (λ c. (refl, refl))) e)
 
 key_by : (b : Bool) (k : Option Keyword) (w : List ℕ) (ws : List (List ℕ)) (l : Line) → cond b (answered_line (w ∷ ws)) (line_by k ws) ≡ Some l → IsLine (cond b None k) (numbered (w ∷ ws)) l
 key_by true k w ws l e = answered_key (numbered (w ∷ ws)) (w ∷ ws) l e

@@ -3,11 +3,16 @@ pub mod Above
 pub mod RowRules
 pub mod Said
 pub mod Resting
+pub mod KernelPast
+pub mod KernelKeys
 pub mod Keys
 pub mod Taking
+pub mod TakingParts
 pub mod BodyLabels
 pub mod Taken
+pub mod TakenParts
 pub mod Starting
+pub mod GhostRules
 pub mod Runs
 pub mod Once
 pub mod Whole

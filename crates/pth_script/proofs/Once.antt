@@ -1,10 +1,11 @@
 -- A text has one refusal, or it is accepted and stands for one script.
 use Rattle.std.proofs.Common.{◌≡◌, ◌<◌, ℕ, List, [], ◌∷◌, Option, Some, None, map, refl, ap, sym, ◌∙◌, inl, inr}
 use Rattle.std.proofs.lemmas.Bool.{cases_order}
+use Rattle.pth_kernel.specs.Kernel.{Kernel, started}
 use Rattle.pth_line.specs.Script.{Sections}
 use Rattle.pth_script.specs.Broken.{broken, IsAccepted, IsRefusal}
 use Rattle.pth_script.specs.Labels.{somes}
-use Rattle.pth_script.specs.Meaning.{IsScriptOf}
+use Rattle.pth_script.specs.Meaning.{IsScriptOf, IsKernelOf}
 use Rattle.pth_script.specs.RuleOrder.{first_broken}
 use Rattle.pth_text.specs.declared.rule.Breach.{Breach}
 
@@ -59,3 +60,15 @@ one_script text s t h k = λ i. record {
   checks = one_list s.checks t.checks (h.checks ∙ sym k.checks) i;
   bodies = each_list s.bodies t.bodies (h.bodies ∙ sym k.bodies) i;
 }
+
+-- ---- kernels
+
+same_number : (m n : ℕ) → Some m ≡ Some n → m ≡ n
+same_number m n e = cc
+
+pub one_kernel : (text : List ℕ) (k l : Kernel) → IsKernelOf k text → IsKernelOf l text → k ≡ l
+one_kernel text k l h g =
+    let clock = same_number h.0 g.0 (h.3 ∙ sym g.3) in
+    let live = same_number h.1 g.1 (h.4 ∙ sym g.4) in
+    let trace = one_list h.2 g.2 (h.5 ∙ sym g.5) in
+    h.6 ∙ (λ i. started (clock i) (live i) (trace i)) ∙ sym g.6

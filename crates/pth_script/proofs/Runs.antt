@@ -1,10 +1,11 @@
 -- The loop over the lines: what its end and each of its steps say of the whole text.
-use Rattle.std.proofs.Common.{◌≡◌, ◌==◌, ℕ, ◌+◌, ◌<◌, ◌≤◌, Bool, true, false, cond, List, [], ◌∷◌, ◌++◌, length, Some, None, ap, sym, subst, ◌∙◌, refl, arith, ⊎_elim, length-append, append_assoc, append-nil}
-use Rattle.std.specs.Prelude.{reverse, Err, drop, map, Result, Ok}
+use Rattle.std.proofs.Common.{◌≡◌, ◌==◌, ℕ, ◌+◌, ◌<◌, ◌≤◌, Bool, true, false, cond, List, [], ◌∷◌, ◌++◌, length, Option, Some, None, ap, sym, subst, ◌∙◌, refl, arith, ⊎_elim, length-append, append_assoc, append-nil}
+use Rattle.std.specs.Prelude.{reverse, Err, drop, map, Result, Ok, unwrap_or, option_map}
 use Rattle.std.proofs.lemmas.List.{length-reverse}
 use Rattle.std.proofs.lemmas.Grind.{reverse_onto}
 use Rattle.std.proofs.lemmas.Bool.{cases_lt}
 use Rattle.pth_line.specs.Script.{Sections}
+use Rattle.pth_kernel.specs.Kernel.{KernelOf, started}
 use Rattle.pth_text.specs.Bytes.{code}
 use Rattle.pth_script.specs.TextRows.{TextRow, text_rows, onto_first, row_size, size_of}
 use Rattle.pth_script.specs.Broken.{broken, row_breaks, end_breaks, text_limit, IsRefusal, IsAccepted}
@@ -12,7 +13,8 @@ use Rattle.pth_script.specs.RuleOrder.{first_broken}
 use Rattle.pth_script.specs.Drafts.{DraftParts, draft_parts, in_handler, in_body, rest_of_sections, ComesTo}
 use Rattle.pth_script.specs.Follows.{Follows, TakesRow, Reads, left_of, breach_error, IsReadAs}
 use Rattle.pth_script.specs.Labels.{somes, with_places}
-use Rattle.pth_script.specs.Meaning.{said, handlers_of, checks_of, bodies_of, HasSections, IsScriptOf}
+use Rattle.pth_script.specs.KernelDrafts.{clock_with}
+use Rattle.pth_script.specs.Meaning.{Parts, said, parts_of_text, clock_said, opens_said, trace_said, HasSections, HasKernel, IsScriptOf, IsKernelOf}
 use Rattle.pth_script.specs.Seen.{is_handler, is_thread}
 use Rattle.pth_grammar.specs.LineMeanings.{act_of, line_of}
 use Rattle.pth_text.specs.declared.rule.Breach.{Breach}
@@ -114,10 +116,10 @@ module _ (r : Reader) (before : List TextRow) (text : List ℕ) (line : ℕ) (re
     passes_size h = breaks Limit (long_row before row (beyond before row h))
 
     -- what is left makes the same, its first line and the others apart
-    pub makes_cut : ComesTo (draft_parts r.draft) (left_of r (row ∷ text_rows after)) (handlers_of (said (drop 1 (text_rows text)))) (checks_of (said (drop 1 (text_rows text)))) (bodies_of (said (drop 1 (text_rows text))))
-    makes_cut = subst (λ rs. ComesTo (draft_parts r.draft) (left_of r rs) (handlers_of (said (drop 1 (text_rows text)))) (checks_of (said (drop 1 (text_rows text)))) (bodies_of (said (drop 1 (text_rows text))))) cut at.makes
+    pub makes_cut : ComesTo (draft_parts r.draft) (left_of r (row ∷ text_rows after)) (parts_of_text text)
+    makes_cut = subst (λ rs. ComesTo (draft_parts r.draft) (left_of r rs) (parts_of_text text)) cut at.makes
 
-    pub reads_on : (new : Reader) → TakesRow (Ok (tt)) new before row → ComesTo (draft_parts new.draft) (left_of new (text_rows after)) (handlers_of (said (drop 1 (text_rows text)))) (checks_of (said (drop 1 (text_rows text)))) (bodies_of (said (drop 1 (text_rows text)))) → Reads new (row ∷ before) text (line + 1) after
+    pub reads_on : (new : Reader) → TakesRow (Ok (tt)) new before row → ComesTo (draft_parts new.draft) (left_of new (text_rows after)) (parts_of_text text) → Reads new (row ∷ before) text (line + 1) after
     reads_on new t m = record {
       follows = t.1;
       whole = one_more before (text_rows after) (text_rows text) row whole;
@@ -129,14 +131,30 @@ module _ (r : Reader) (before : List TextRow) (text : List ℕ) (line : ℕ) (re
 
 -- ---- the end
 
--- a draft in which nothing is open has the sections of these lines, where no line is left
-pub sections_made : (d : DraftParts) (ls : List (List (List ℕ))) → in_handler d.section ≡ false → in_body d.section ≡ false → ComesTo d [] (handlers_of ls) (checks_of ls) (bodies_of ls)
-    → HasSections (record { handlers = d.handlers; checks = d.checks; bodies = d.bodies }) ls
-sections_made d ls h b m = record {
+-- a draft in which nothing is open has the sections of the lines, where no line is left
+pub sections_made : (d : DraftParts) (p : Parts) → in_handler d.section ≡ false → in_body d.section ≡ false → ComesTo d [] p → HasSections (record { handlers = d.handlers; checks = d.checks; bodies = d.bodies }) p
+sections_made d p h b m = record {
   handlers = sym (append-nil (map somes d.handlers)) ∙ ap (λ t. map somes d.handlers ++ t) (sym (rest_none is_handler act_of (somes d.acts))) ∙ ap (λ b. map somes d.handlers ++ rest_of_sections is_handler act_of b (somes d.acts) []) (sym h) ∙ m.handlers;
   checks = sym (append-nil (somes d.checks)) ∙ ap (λ t. somes d.checks ++ t) (sym checks_none) ∙ m.checks;
   bodies = sym (append-nil (map somes d.bodies)) ∙ ap (λ t. map somes d.bodies ++ map with_places t) (sym (rest_none is_thread line_of (somes d.body))) ∙ ap (λ b. map somes d.bodies ++ map with_places (rest_of_sections is_thread line_of b (somes d.body) [])) (sym b) ∙ m.bodies;
 }
+
+clock_made : (o : Option ℕ) → Some (unwrap_or o 1) ≡ clock_with o []
+unfolding clock_said
+clock_made (Some n) = refl
+clock_made None = refl
+
+live_made : (live : ℕ) → Some live ≡ option_map (λ set. live + set) (opens_said [])
+unfolding opens_said
+live_made live = let same : live ≡ live + 0 = omega arith in ap (λ n. Some n) same
+
+trace_made : trace_said [] ≡ []
+unfolding trace_said
+trace_made = refl
+
+-- and its kernel
+pub kernel_made : (d : DraftParts) (p : Parts) → ComesTo d [] p → HasKernel (started (unwrap_or d.kernel.clock 1) d.kernel.live.0 d.kernel.trace) p
+kernel_made d p m = (unwrap_or d.kernel.clock 1, d.kernel.live.0, d.kernel.trace, clock_made d.kernel.clock ∙ m.clock, live_made d.kernel.live.0 ∙ m.opens, sym (append-nil (somes d.kernel.trace)) ∙ ap (λ t. somes d.kernel.trace ++ t) (sym trace_made) ∙ m.trace, refl)
 
 not_started : (b : Bool) → said (cond b [] (drop 1 [])) ≡ []
 unfolding said
@@ -153,10 +171,14 @@ module _ (r : Reader) (before : List TextRow) (text : List ℕ) (line : ℕ) (at
   none_left : left_of r (text_rows []) ≡ []
   none_left = ap (λ rs. said (cond r.started rs (drop 1 rs))) no_rows ∙ not_started r.started
 
+  left : ComesTo (draft_parts r.draft) [] (parts_of_text text)
+  left = subst (λ t. ComesTo (draft_parts r.draft) t (parts_of_text text)) none_left at.makes
+
   pub stands : in_handler r.draft.section ≡ false → in_body r.draft.section ≡ false → IsScriptOf (record { handlers = r.draft.handlers.items; checks = r.draft.checks.items; bodies = r.draft.bodies.items }) text
-  stands h b =
-      let ls = said (drop 1 (text_rows text)) in
-      sections_made (draft_parts r.draft) ls h b (subst (λ t. ComesTo (draft_parts r.draft) t (handlers_of ls) (checks_of ls) (bodies_of ls)) none_left at.makes)
+  stands h b = sections_made (draft_parts r.draft) (parts_of_text text) h b left
+
+  pub kernel_stands : IsKernelOf (started (unwrap_or r.draft.kernel.clock 1) r.draft.kernel.live.0 r.draft.kernel.trace) text
+  kernel_stands = kernel_made (draft_parts r.draft) (parts_of_text text) left
 
 -- ---- answers
 
@@ -164,9 +186,9 @@ pub refused_answers : (text : List ℕ) (line : ℕ) (b : Breach) (e : ReadErr) 
 refused_answers text line Limit e h r = subst (λ e. IsReadAs text (Err e)) (sym h) r
 refused_answers text line (Of q) e h r = subst (λ e. IsReadAs text (Err e)) (sym h) r
 
-pub starts_reading : (r : Reader) (text : List ℕ) → Follows r [] → ComesTo (draft_parts r.draft) (left_of r (text_rows text)) (handlers_of (said (drop 1 (text_rows text)))) (checks_of (said (drop 1 (text_rows text)))) (bodies_of (said (drop 1 (text_rows text)))) → Reads r [] text 1 text
+pub starts_reading : (r : Reader) (text : List ℕ) → Follows r [] → ComesTo (draft_parts r.draft) (left_of r (text_rows text)) (parts_of_text text) → Reads r [] text 1 text
 unfolding size_of
 starts_reading r text f m = record { follows = f; whole = refl; at = refl; gone = omega arith; fine = λ i from below. absurd (omega arith); makes = m }
 
-pub ends_reading : (r : Reader) (before : List TextRow) (text : List ℕ) (line : ℕ) (rest : List ℕ) → Reads r before text line rest → length rest ≡ 0 → (result : Result Sections ReadErr) → ((text : List ℕ) (before : List TextRow) → Reads r before text line [] → IsReadAs text result) → IsReadAs text result
+pub ends_reading : (r : Reader) (before : List TextRow) (text : List ℕ) (line : ℕ) (rest : List ℕ) → Reads r before text line rest → length rest ≡ 0 → (result : Result (Sections × KernelOf) ReadErr) → ((text : List ℕ) (before : List TextRow) → Reads r before text line [] → IsReadAs text result) → IsReadAs text result
 ends_reading r before text line rest at h result f = f text before (nothing_left (λ t. Reads r before text line t) rest h at)

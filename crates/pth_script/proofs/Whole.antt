@@ -5,33 +5,38 @@ use Rattle.std.proofs.lemmas.Bool.{cases_Bool, cases_order, not-false}
 use Rattle.std.proofs.lemmas.List.{length-reverse}
 use Rattle.pth_text.specs.LineWords.{words_of}
 use Rattle.pth_spelling.specs.Keywords.{begins}
-use Rattle.pth_grammar.specs.LineMeanings.{act_of, check_of, line_of, numbered}
+use Rattle.pth_grammar.specs.LineMeanings.{act_of, check_of, line_of}
 use Rattle.pth_spelling.specs.declared.keyword.Keyword.{Keyword}
 use Rattle.pth_spelling.specs.declared.keyword.Keyword.TheVariants as key
 use Rattle.pth_text.specs.declared.rule.Rule.TheVariants as rule
 use Rattle.pth_grammar.specs.declared.section.Section.{Section}
 use Rattle.pth_grammar.specs.declared.section.Section.TheVariants as sec
+use Rattle.pth_kernel.specs.Kernel.{Kernel}
+use Rattle.pth_kernel_lines.specs.KernelLines.{clock_line, open_line, stamp_line}
+use Rattle.pth_kernel_lines.specs.declared.part.KernelPart.{KernelPart}
+use Rattle.pth_kernel_lines.specs.declared.part.KernelPart.TheVariants as part
 use Rattle.pth_line.specs.Script.{Sections}
-use Rattle.pth_line.specs.declared.act_line.ActLine.{ActLine}
-use Rattle.pth_line.specs.declared.check.Check.{Check}
 use Rattle.pth_line.specs.declared.line.Line.{Line}
 use Rattle.pth_line.specs.declared.line.Line.TheVariants as line
 use Rattle.pth_script.specs.Broken.{broken, places, row_breaks, end_breaks, is_first, is_long, is_open, said_breaks, IsAccepted, IsRefusal}
-use Rattle.pth_script.specs.Drafts.{DraftParts, seen_of_draft, in_handler, in_body, handler_closed, IsClosed, IsFine, IsDraftInOrder, ComesTo, Takes}
+use Rattle.pth_script.specs.Drafts.{DraftParts, seen_of_draft, in_handler, in_body, in_kernel, handler_closed, IsClosed, IsFine, IsDraftInOrder, ComesTo, Takes}
 use Rattle.pth_script.specs.Labels.{somes, with_places, placed_in}
-use Rattle.pth_script.specs.Meaning.{said, handlers_of, checks_of, bodies_of, IsScriptOf}
+use Rattle.pth_script.specs.Meaning.{Parts, said, parts_of_text, IsScriptOf, IsKernelOf}
 use Rattle.pth_script.specs.TextRows.{TextRow, text_rows, is_comment, above}
-use Rattle.pth_script.specs.Seen.{seen_of, seen_past, is_check, is_end, is_handler}
+use Rattle.pth_script.specs.Seen.{seen_of, seen_past, is_check, is_end, is_handler, is_kernel}
 use Rattle.pth_script.specs.RuleOrder.{first_broken}
 use Rattle.pth_text.specs.declared.rule.Breach.{Breach}
 use Rattle.pth_text.specs.declared.rule.Breach.TheVariants.{Limit, Of}
-use Rattle.pth_script.proofs.Above.{seen_more}
+use Rattle.pth_script.proofs.Above.{seen_more, above_nothing}
 use Rattle.pth_script.proofs.Cuts.{at_row, at_end}
 use Rattle.pth_script.proofs.RowRules.{long_row, said_row_rule, above_first, above_comment, above_said, end_rule}
-use Rattle.pth_script.proofs.Runs.{one_more, sections_made}
+use Rattle.pth_script.proofs.Runs.{one_more, sections_made, kernel_made}
 use Rattle.pth_script.proofs.Said.{fine_line, said_comment, said_line_of}
 use Rattle.pth_script.proofs.Starting.{nothing, nothing_seen, nothing_kept, nothing_makes}
-use Rattle.pth_script.proofs.Taken.{act_line_taken, handler_end_taken, act_is_read, body_line_taken, body_end_taken, line_is_read, handler_open_taken, body_open_taken, check_line_taken, check_is_read}
+use Rattle.pth_script.proofs.GhostRules.{blank, opens, stamps}
+use Rattle.pth_script.proofs.Taken.{act_line_taken, handler_end_taken, act_is_read, body_line_taken, body_end_taken, line_is_read, handler_open_taken, kernel_open_taken, body_open_taken, check_line_taken, check_is_read}
+use Rattle.pth_script.proofs.TakenParts.{clock_line_taken, open_low, open_rises, nothing_came, open_line_taken, stamp_fine, stamp_line_taken}
+use Rattle.pth_script.proofs.TakingParts.{with_clock, with_descriptor, with_stamp}
 
 -- ---- a line that breaks no rule is taken
 
@@ -85,24 +90,38 @@ module _ (d : DraftParts) (ws : List (List ℕ)) (kept : IsDraftInOrder d) (fine
     ]
   ]
 
-  opening_taken : in_handler d.section ≡ false → in_body d.section ≡ false → Taken
-  opening_taken h b = elim (cases_Bool (is_check (begins ws))) [
+  opening_taken : in_handler d.section ≡ false → in_body d.section ≡ false → in_kernel d.section ≡ false → Taken
+  opening_taken h b n = elim (cases_Bool (is_check (begins ws))) [
     | inl check ↦ let first = check_begins (begins ws) check in elim (some_or_none (check_of ws)) [
-      | inl c ↦ (record d { section = sec.Checks; checks = d.checks ++ c.0 ∷ [] }, check_line_taken d ws kept h b fine c.0 first c.1)
-      | inr none ↦ absurd (check_is_read d ws kept h b fine first none)
+      | inl c ↦ (record d { section = sec.Checks; checks = d.checks ++ c.0 ∷ [] }, check_line_taken d ws kept h b n fine c.0 first c.1)
+      | inr none ↦ absurd (check_is_read d ws kept h b n fine first none)
     ]
-    | inr other ↦ elim (cases_Bool (is_handler (begins ws))) [
-      | inl handler ↦ (record d { section = sec.Handler }, handler_open_taken d ws kept h b fine handler)
-      | inr thread ↦ (record d { section = sec.Body }, body_open_taken d ws kept h b fine thread other)
+    | inr no_check ↦ elim (cases_Bool (is_handler (begins ws))) [
+      | inl handler ↦ (record d { section = sec.Handler }, handler_open_taken d ws kept h b n fine handler)
+      | inr no_handler ↦ elim (cases_Bool (is_kernel (begins ws))) [
+        | inl kernel ↦ (record d { section = sec.Kernel part.Head }, kernel_open_taken d ws kept h b n fine kernel)
+        | inr no_kernel ↦ (record d { section = sec.Body }, body_open_taken d ws kept h b n fine (record { handler = no_handler; check = no_check; kernel = no_kernel }))
+      ]
+    ]
+  ]
+
+  part_taken : (p : KernelPart) → d.section ≡ sec.Kernel p → Taken
+  part_taken p at = elim (some_or_none (stamp_line ws)) [
+    | inl x ↦ let rules = stamps d.kernel kept.kernel x.0 (stamp_fine d ws kept p at fine x.0 x.1) in (record d { section = sec.Kernel part.Entries; kernel = with_stamp d.kernel x.0 rules.0 }, stamp_line_taken d ws kept p at fine x.0 x.1 rules.0 rules.1)
+    | inr no_stamp ↦ elim (some_or_none (open_line ws)) [
+      | inl f ↦ let rules = opens d.kernel kept.kernel f.0 (open_rises d ws kept p at fine f.0 f.1) (open_low d ws kept p at fine f.0 f.1) (nothing_came d ws kept p at fine f.0 f.1) in
+          (record d { section = sec.Kernel part.Opens; kernel = with_descriptor d.kernel f.0 rules.0 }, open_line_taken d ws kept p at fine f.0 f.1 rules.0 rules.1)
+      | inr no_open ↦ (record d { section = sec.Kernel part.Opens; kernel = with_clock d.kernel (clock_line ws) }, clock_line_taken d ws kept p at fine no_stamp no_open)
     ]
   ]
 
   taken_in : (s : Section) → d.section ≡ s → Taken
   taken_in sec.Handler e = act_taken e
   taken_in sec.Body e = line_taken e
-  taken_in sec.Handlers e = opening_taken (ap in_handler e) (ap in_body e)
-  taken_in sec.Checks e = opening_taken (ap in_handler e) (ap in_body e)
-  taken_in sec.Bodies e = opening_taken (ap in_handler e) (ap in_body e)
+  taken_in sec.Handlers e = opening_taken (ap in_handler e) (ap in_body e) (ap in_kernel e)
+  taken_in sec.Checks e = opening_taken (ap in_handler e) (ap in_body e) (ap in_kernel e)
+  taken_in sec.Bodies e = opening_taken (ap in_handler e) (ap in_body e) (ap in_kernel e)
+  taken_in (sec.Kernel p) e = part_taken p e
 
   taken : Taken
   taken = taken_in d.section refl
@@ -128,6 +147,7 @@ neither_open sec.Body h = absurd (cc)
 neither_open sec.Handlers h = (refl, refl)
 neither_open sec.Checks h = (refl, refl)
 neither_open sec.Bodies h = (refl, refl)
+neither_open (sec.Kernel p) h = (refl, refl)
 
 module _ (text : List ℕ) (accepted : IsAccepted text) where
   row_fine : (before rest : List TextRow) (row : TextRow) → reverse before ++ row ∷ rest ≡ text_rows text → first_broken (λ b. row_breaks b before row) ≡ None
@@ -147,31 +167,35 @@ module _ (text : List ℕ) (accepted : IsAccepted text) where
       let ended = sym (not-false row.ended (fine_line row.ended (seen_of (above before)) (words_of row.bytes) fine).cut) in
       (λ i. first_broken (said_breaks (ended i) (s i) (words_of row.bytes))) ∙ fine
 
-  module _ (hs : List (List (Option ActLine))) (cs : List (Option Check)) (bs : List (List (Option Line))) where
+  module _ (parts : Parts) where
     -- all lines were taken, and what is left makes these sections
     pub record TakesAll : Type 0 where
       pub before : List TextRow
       pub draft : DraftParts
       pub all : reverse before ≡ text_rows text
       pub seen : seen_of_draft draft ≡ seen_of (above before)
-      pub makes : ComesTo draft [] hs cs bs
+      pub makes : ComesTo draft [] parts
 
     take_all : (before rest : List TextRow) (d : DraftParts) → reverse before ++ rest ≡ text_rows text → true ≡ not (is_first before) → seen_of_draft d ≡ seen_of (above before) → IsDraftInOrder d
-        → ComesTo d (said rest) hs cs bs → TakesAll
+        → ComesTo d (said rest) parts → TakesAll
     unfolding said
     take_all before [] d e later s kept m = record { before = before; draft = d; all = sym (append-nil (reverse before)) ∙ e; seen = s; makes = m }
     take_all before (row ∷ rest) d e later s kept m = elim (cases_Bool (is_comment row.bytes)) [
       | inl comment ↦ take_all (row ∷ before) rest d (one_more before rest (text_rows text) row e) refl (s ∙ ap seen_of (sym (above_comment before row later comment))) kept
-          (subst (λ ls. ComesTo d ls hs cs bs) (said_comment row rest comment) m)
+          (subst (λ ls. ComesTo d ls parts) (said_comment row rest comment) m)
       | inr words ↦
           let ws = words_of row.bytes in
           let t = taken d ws kept (words_fine before rest row d e later words s) in
           take_all (row ∷ before) rest t.0 (one_more before rest (text_rows text) row e) refl
-          (t.1.seen ∙ ap (λ x. seen_past (begins ws) (numbered ws) x) s ∙ sym (seen_more ws (above before)) ∙ ap seen_of (sym (above_said before row later words)))
-          t.1.kept (t.1.makes (said rest) hs cs bs (subst (λ ls. ComesTo d ls hs cs bs) (said_line_of row rest words) m))
+          (t.1.seen ∙ ap (λ x. seen_past ws x) s ∙ sym (seen_more ws (above before)) ∙ ap seen_of (sym (above_said before row later words)))
+          t.1.kept (t.1.makes (said rest) parts (subst (λ ls. ComesTo d ls parts) (said_line_of row rest words) m))
     ]
 
-  script_by : (rows : List TextRow) → text_rows text ≡ rows → (s : Sections) × IsScriptOf s text
+  -- the script and the kernel of these lines
+  abbrev Stands : Type 0
+  Stands = (s : Sections) × (k : Kernel) × IsScriptOf s text × IsKernelOf k text
+
+  script_by : (rows : List TextRow) → text_rows text ≡ rows → Stands
   script_by [] e = absurd (no_end (end_fine [] (sym e)) (end_rule []))
     where
       no_end : {o : Option Breach} → o ≡ None → o ≡ Some (Of rule.Header) → ⊥
@@ -179,14 +203,15 @@ module _ (text : List ℕ) (accepted : IsAccepted text) where
   script_by (row ∷ rest) e =
       let ls = said (drop 1 (text_rows text)) in
       let below : said rest ≡ ls = ap (λ rows. said (drop 1 rows)) (sym e) in
-      let all = take_all (handlers_of ls) (checks_of ls) (bodies_of ls) (row ∷ []) rest nothing (sym e) refl (nothing_seen ∙ ap seen_of (sym (above_first [] row refl))) nothing_kept
-      (subst (λ t. ComesTo nothing t (handlers_of ls) (checks_of ls) (bodies_of ls)) (sym below) (nothing_makes ls)) in
+      let start = nothing blank.0 in
+      let all = take_all (parts_of_text text) (row ∷ []) rest start (sym e) refl (nothing_seen blank.0 blank.1 ∙ above_nothing ∙ ap seen_of (sym (above_first [] row refl))) (nothing_kept blank.0 blank.1)
+      (subst (λ t. ComesTo start t (parts_of_text text)) (sym below) (nothing_makes blank.0 blank.1 ls)) in
       let shut = neither_open all.draft.section
       (ap (λ x. is_open x.section) all.seen ∙ shut_by (is_first all.before) ((seen_of (above all.before)).bodies == 0) _ (sym (end_rule all.before) ∙ end_fine all.before all.all)) in
-      (record { handlers = all.draft.handlers; checks = all.draft.checks; bodies = all.draft.bodies }, sections_made all.draft ls shut.0 shut.1 all.makes)
+      (record { handlers = all.draft.handlers; checks = all.draft.checks; bodies = all.draft.bodies }, _, sections_made all.draft (parts_of_text text) shut.0 shut.1 all.makes, kernel_made all.draft (parts_of_text text) all.makes)
 
-  -- it stands for a script
-  pub script_of : (s : Sections) × IsScriptOf s text
+  -- it stands for a script and a kernel
+  pub script_of : Stands
   script_of = script_by (text_rows text) refl
 
 -- ---- every text

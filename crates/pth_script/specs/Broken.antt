@@ -5,11 +5,12 @@ use Rattle.pth_text.specs.LineWords.{words_of}
 use Rattle.pth_spelling.specs.Keywords.{begins}
 use Rattle.pth_grammar.specs.LineMeanings.{numbered}
 use Rattle.pth_grammar.specs.Shapes.{shape_of, words_break}
+use Rattle.pth_kernel_lines.specs.KernelLines.{stamp_line}
 use Rattle.pth_text.specs.declared.rule.Rule.TheVariants as rule
 use Rattle.pth_grammar.specs.declared.section.Section.{Section}
 use Rattle.pth_grammar.specs.declared.section.Section.TheVariants as sec
 use Rattle.pth_script.specs.TextRows.{TextRow, text_rows, size_of, is_comment, above}
-use Rattle.pth_script.specs.Seen.{Seen, seen_of, passes_limit, misnumbered, leaves_goto}
+use Rattle.pth_script.specs.Seen.{Seen, seen_of, passes_limit, misnumbered, leaves_goto, lacks_body, is_early, misuses_fd}
 use Rattle.pth_script.specs.RuleOrder.{first_broken}
 use Rattle.pth_text.specs.declared.rule.Breach.{Breach}
 use Rattle.pth_text.specs.declared.rule.Breach.TheVariants.{Limit, Of}
@@ -28,6 +29,9 @@ unfoldable pub line_breaks : Breach → Seen → List (List ℕ) → Bool
 line_breaks Limit s ws = passes_limit s.section (begins ws) s
 line_breaks (Of rule.Number) s ws = misnumbered (begins ws) (numbered ws) s
 line_breaks (Of rule.Label) s ws = leaves_goto s.section (begins ws) s
+line_breaks (Of rule.Main) s ws = lacks_body (begins ws) s
+line_breaks (Of rule.Time) s ws = is_early (stamp_line ws) s
+line_breaks (Of rule.Fd) s ws = misuses_fd (stamp_line ws) s
 line_breaks (Of r) s ws = words_break r (shape_of s.section ws)
 
 -- the same, with whether an LF ends the line

@@ -1,5 +1,5 @@
 -- What a draft of a script has seen, and what becomes of it with the lines that are left.
-use Rattle.std.specs.Prelude.{◌≡◌, ◌≤◌, ℕ, ◌+◌, All, Bool, true, false, List, [], ◌∷◌, ◌++◌, length, Option, None, map, if◌then◌else◌}
+use Rattle.std.specs.Prelude.{◌≡◌, ◌≤◌, ℕ, ◌+◌, All, Bool, true, false, List, [], ◌∷◌, ◌++◌, length, reverse, Option, None, option_map, map, if◌then◌else◌}
 use Rattle.pth_grammar.specs.LineMeanings.{line_of, act_of}
 use Rattle.pth_spelling.specs.declared.keyword.Keyword.{Keyword}
 use Rattle.pth_grammar.specs.declared.section.Section.{Section}
@@ -8,13 +8,14 @@ use Rattle.pth_line.specs.declared.act_line.ActLine.{ActLine}
 use Rattle.pth_line.specs.declared.check.Check.{Check}
 use Rattle.pth_line.specs.declared.line.Line.{Line}
 use Rattle.pth_script.specs.Labels.{somes, labels_in, gotos_in, with_places}
-use Rattle.pth_script.specs.Meaning.{until_end, sections_read, checks_of}
-use Rattle.pth_spelling.specs.Keywords.{begins}
-use Rattle.pth_grammar.specs.LineMeanings.{numbered}
+use Rattle.pth_script.specs.Meaning.{Parts, until_end, sections_read, checks_of, opens_said, trace_said}
+use Rattle.pth_kernel_lines.specs.declared.part.KernelPart.TheVariants as part
 use Rattle.pth_script.specs.Seen.{Seen, seen_past, is_handler, is_thread}
 use Rattle.pth_script.specs.Broken.{said_breaks}
 use Rattle.pth_script.specs.RuleOrder.{first_broken}
+use Rattle.pth_script.specs.KernelDrafts.{IsKernelInOrder, clock_with}
 use Rattle.pth_script.specs.declared.draft.Draft.{Draft}
+use Rattle.pth_script.specs.declared.kernel_draft.KernelDraft.{KernelDraft}
 
 -- ---- what was seen
 
@@ -28,6 +29,22 @@ abbrev pub in_body : Section → Bool
 in_body sec.Body = true
 in_body _ = false
 
+-- a kernel is open
+abbrev pub in_kernel : Section → Bool
+in_kernel (sec.Kernel part) = true
+in_kernel _ = false
+
+-- a line of a kernel stands above
+abbrev pub below_part : Section → Bool
+below_part (sec.Kernel part.Opens) = true
+below_part (sec.Kernel part.Entries) = true
+below_part _ = false
+
+-- something came
+abbrev pub in_entries : Section → Bool
+in_entries (sec.Kernel part.Entries) = true
+in_entries _ = false
+
 -- with the one that is open
 abbrev pub with_open : Bool → ℕ → ℕ
 with_open is_open n = if is_open then n + 1 else n
@@ -40,6 +57,7 @@ pub record DraftParts : Type 0 where
   pub bodies : List (List Line)
   pub acts : List ActLine
   pub body : List Line
+  pub kernel : KernelDraft
 
 -- those of a draft in the code
 abbrev pub draft_parts : Draft → DraftParts
@@ -50,6 +68,7 @@ draft_parts d = record {
   bodies = d.bodies.items;
   acts = d.acts;
   body = d.body;
+  kernel = d.kernel;
 }
 
 -- a draft as what was seen
@@ -62,9 +81,12 @@ seen_of_draft d = record {
   lines = length d.acts + length d.body;
   labels = labels_in d.body;
   gotos = gotos_in d.body;
+  next_open = d.kernel.next_open;
+  live = d.kernel.live.0;
+  stamps = reverse d.kernel.trace;
 }
 
--- no lines are kept of a section that is not open, and no limit is passed
+-- no lines are kept of a section that is not open, nothing is kept of a kernel above the lines that say it, and no limit is passed
 pub record IsDraftInOrder (d : DraftParts) : Type 0 where
   pub no_acts : in_handler d.section ≡ false → d.acts ≡ []
   pub no_lines : in_body d.section ≡ false → d.body ≡ []
@@ -72,6 +94,9 @@ pub record IsDraftInOrder (d : DraftParts) : Type 0 where
   pub short_handlers : All (λ (acts : List ActLine). length acts ≤ 64) d.handlers
   pub few_handlers : with_open (in_handler d.section) (length d.handlers) ≤ 256
   pub few_bodies : with_open (in_body d.section) (length d.bodies) ≤ 256
+  pub no_clock : below_part d.section ≡ false → d.kernel.clock ≡ None
+  pub no_entries : in_entries d.section ≡ false → d.kernel.trace ≡ []
+  pub kernel : IsKernelInOrder d.kernel
 
 -- nothing is open, and there is a body
 pub record IsClosable (d : DraftParts) : Type 0 where
@@ -85,11 +110,14 @@ pub record IsClosable (d : DraftParts) : Type 0 where
 abbrev pub rest_of_sections : {A : Type 0} → (Option Keyword → Bool) → (List (List ℕ) → A) → Bool → List A → List (List (List ℕ)) → List (List A)
 rest_of_sections opens read is_open lines ls = if is_open then (lines ++ until_end read ls) ∷ sections_read opens read ls else sections_read opens read ls
 
--- the lines that are left make these handlers, checks and bodies of the draft
-pub record ComesTo (d : DraftParts) (ls : List (List (List ℕ))) (hs : List (List (Option ActLine))) (cs : List (Option Check)) (bs : List (List (Option Line))) : Type 0 where
-  pub handlers : map somes d.handlers ++ rest_of_sections is_handler act_of (in_handler d.section) (somes d.acts) ls ≡ hs
-  pub checks : somes d.checks ++ checks_of ls ≡ cs
-  pub bodies : map somes d.bodies ++ map with_places (rest_of_sections is_thread line_of (in_body d.section) (somes d.body) ls) ≡ bs
+-- the lines that are left make these parts of the draft
+pub record ComesTo (d : DraftParts) (ls : List (List (List ℕ))) (p : Parts) : Type 0 where
+  pub handlers : map somes d.handlers ++ rest_of_sections is_handler act_of (in_handler d.section) (somes d.acts) ls ≡ p.handlers
+  pub checks : somes d.checks ++ checks_of ls ≡ p.checks
+  pub bodies : map somes d.bodies ++ map with_places (rest_of_sections is_thread line_of (in_body d.section) (somes d.body) ls) ≡ p.bodies
+  pub clock : clock_with d.kernel.clock ls ≡ p.clock
+  pub opens : option_map (λ set. d.kernel.live.0 + set) (opens_said ls) ≡ p.opens
+  pub trace : somes d.kernel.trace ++ trace_said ls ≡ p.trace
 
 -- ---- one line more
 
@@ -108,7 +136,6 @@ IsClosed old new =
 
 -- the draft went over a line
 pub record Takes (old new : DraftParts) (ws : List (List ℕ)) : Type 0 where
-  pub seen : seen_of_draft new ≡ seen_past (begins ws) (numbered ws) (seen_of_draft old)
+  pub seen : seen_of_draft new ≡ seen_past ws (seen_of_draft old)
   pub kept : IsDraftInOrder new
-  pub makes : (ls : List (List (List ℕ))) (hs : List (List (Option ActLine))) (cs : List (Option Check)) (bs : List (List (Option Line)))
-      → ComesTo old (ws ∷ ls) hs cs bs → ComesTo new ls hs cs bs
+  pub makes : (ls : List (List (List ℕ))) (p : Parts) → ComesTo old (ws ∷ ls) p → ComesTo new ls p

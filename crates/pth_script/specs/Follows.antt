@@ -1,14 +1,12 @@
 -- What the reader keeps of the lines that it has gone over, and what it answers.
-use Rattle.std.specs.Prelude.{◌≡◌, ◌≤◌, ◌<◌, ◌+◌, OnOk, ℕ, List, ◌∷◌, ◌++◌, length, reverse, not, Result, Ok, Err, Some, None, Option, drop, if◌then◌else◌}
+use Rattle.std.specs.Prelude.{◌≡◌, ◌≤◌, ◌<◌, ◌+◌, OnOk, ℕ, List, ◌∷◌, ◌++◌, length, reverse, not, Result, Ok, Err, Some, None, drop, if◌then◌else◌}
 use Rattle.pth_line.specs.Script.{Sections}
-use Rattle.pth_line.specs.declared.act_line.ActLine.{ActLine}
-use Rattle.pth_line.specs.declared.check.Check.{Check}
-use Rattle.pth_line.specs.declared.line.Line.{Line}
 use Rattle.pth_script.specs.TextRows.{TextRow, text_rows, size_of, above}
 use Rattle.pth_script.specs.Seen.{seen_of}
 use Rattle.pth_script.specs.RuleOrder.{first_broken}
 use Rattle.pth_script.specs.Broken.{is_first, row_breaks, broken, text_limit, IsRefusal, IsAccepted}
-use Rattle.pth_script.specs.Meaning.{said, handlers_of, checks_of, bodies_of, IsScriptOf}
+use Rattle.pth_kernel.specs.Kernel.{KernelOf, kernel_of}
+use Rattle.pth_script.specs.Meaning.{Parts, said, parts_of_text, IsScriptOf, IsKernelOf}
 use Rattle.pth_script.specs.Drafts.{draft_parts, seen_of_draft, IsDraftInOrder, ComesTo}
 use Rattle.pth_text.specs.declared.rule.Breach.{Breach}
 use Rattle.pth_text.specs.declared.rule.Breach.TheVariants.{Limit, Of}
@@ -41,8 +39,7 @@ left_of r rows = said (if r.started then rows else drop 1 rows)
 -- what an old reader makes with some lines, the new one makes with those that are left of them
 abbrev pub Drafts : Reader → Reader → List TextRow → List TextRow → Type 0
 Drafts old new rows rest =
-    (hs : List (List (Option ActLine))) (cs : List (Option Check)) (bs : List (List (Option Line)))
-    → ComesTo (draft_parts old.draft) (left_of old rows) hs cs bs → ComesTo (draft_parts new.draft) (left_of new rest) hs cs bs
+    (p : Parts) → ComesTo (draft_parts old.draft) (left_of old rows) p → ComesTo (draft_parts new.draft) (left_of new rest) p
 
 -- a line was taken of a text whose lines up to it pass no limit on their bytes
 pub record Goes (old new : Reader) (row : TextRow) (result : Result (Unit {0}) Fault) : Type 0 where
@@ -51,9 +48,10 @@ pub record Goes (old new : Reader) (row : TextRow) (result : Result (Unit {0}) F
 
 -- ---- the whole text
 
--- A script stands for an accepted text. A refused one names the line of its refusal and the rule, or that a limit is passed there.
-abbrev pub IsReadAs : List ℕ → Result Sections ReadErr → Type 0
-IsReadAs text (Ok s) = IsAccepted text × IsScriptOf s text
+-- A script and a kernel stand for an accepted text. A refused one names the line of its refusal and the rule, or that a limit is
+-- passed there.
+abbrev pub IsReadAs : List ℕ → Result (Sections × KernelOf) ReadErr → Type 0
+IsReadAs text (Ok read) = IsAccepted text × IsScriptOf read.0 text × IsKernelOf (kernel_of read.1) text
 IsReadAs text (Err (err.Refused line r)) = IsRefusal text line (Of r)
 IsReadAs text (Err (err.TooLarge line)) = IsRefusal text line Limit
 IsReadAs text (Err err.OutOfMemory) = Unit {0}
@@ -70,4 +68,4 @@ pub record Reads (r : Reader) (before : List TextRow) (text : List ℕ) (line : 
   pub at : length before + 1 ≡ line
   pub gone : size_of before + length rest ≡ length text
   pub fine : (i : ℕ) → 1 ≤ i → i < line → first_broken (broken text i) ≡ None
-  pub makes : let ls = said (drop 1 (text_rows text)) in ComesTo (draft_parts r.draft) (left_of r (text_rows rest)) (handlers_of ls) (checks_of ls) (bodies_of ls)
+  pub makes : ComesTo (draft_parts r.draft) (left_of r (text_rows rest)) (parts_of_text text)

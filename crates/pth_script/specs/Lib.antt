@@ -5,5 +5,6 @@ pub mod Bodies
 pub mod Seen
 pub mod Broken
 pub mod Meaning
+pub mod KernelDrafts
 pub mod Drafts
 pub mod Follows

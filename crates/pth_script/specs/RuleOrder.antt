@@ -9,7 +9,7 @@ use Rattle.pth_text.specs.declared.rule.Breach.TheVariants.{Limit, Of}
 abbrev pub rule_order : List Breach
 rule_order =
     Limit ∷ Of rule.Cut ∷ Of rule.Header ∷ Of rule.Word ∷ Of rule.Count ∷ Of rule.Operand ∷ Of rule.Hex ∷ Of rule.Number ∷ Of rule.Label
-    ∷ Of rule.Main ∷ Of rule.End ∷ []
+    ∷ Of rule.Main ∷ Of rule.End ∷ Of rule.Time ∷ Of rule.Fd ∷ []
 
 -- the first of the table that is broken
 unfoldable pub first_broken : (Breach → Bool) → Option Breach

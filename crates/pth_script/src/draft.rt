@@ -1,31 +1,41 @@
 //! A script that is being read.
 
-ghost use Rattle.std.specs.Prelude.{◌≡◌, OnOk, [], Some, false};
+ghost use Rattle.std.specs.Prelude.{◌≡◌, ℕ, List, [], IfOk, OnOk, unwrap_or, Some, None, true, false, if◌then◌else◌};
 ghost use Rattle.pth_spelling.specs.Texts.{texts};
-ghost use Rattle.pth_script.specs.Broken.{said_breaks};
-ghost use Rattle.pth_grammar.specs.declared.section.Section.TheVariants as section;
-ghost use Rattle.pth_script.specs.Drafts.{draft_parts, seen_of_draft, in_handler, in_body, handler_closed, IsClosed, IsFine, IsDraftInOrder, Takes};
-ghost use Rattle.pth_script.specs.Seen.{passes_limit, misnumbered, leaves_goto, is_check, is_end, is_handler};
 ghost use Rattle.pth_spelling.specs.Keywords.{begins};
 ghost use Rattle.pth_spelling.specs.declared.keyword.Keyword.TheVariants as key;
+ghost use Rattle.pth_grammar.specs.declared.section.Section.TheVariants as section;
+ghost use Rattle.pth_kernel.specs.Kernel.{kernel_of, started};
+ghost use Rattle.pth_kernel_lines.specs.KernelLines.{stamp_line};
+ghost use Rattle.pth_script.specs.Broken.{said_breaks};
+ghost use Rattle.pth_script.specs.Drafts.{draft_parts, seen_of_draft, in_handler, in_body, in_kernel, handler_closed, IsClosable, IsClosed, IsFine, IsDraftInOrder, ComesTo, Takes};
+ghost use Rattle.pth_script.specs.Meaning.{parts_of};
 ghost use Rattle.pth_script.specs.RuleOrder.{first_broken};
+ghost use Rattle.pth_script.specs.Seen.{seen_of, passes_limit, misnumbered, leaves_goto, lacks_body, is_early, misuses_fd, is_check, is_end, is_handler, is_kernel};
+ghost use Rattle.pth_text.specs.declared.rule.Rule.TheVariants as rule;
 
 use crate::body::Body;
+use crate::kernel_draft::KernelDraft;
 use pth_base::memory::OutOfMemory;
 use pth_grammar::fault::words_fault;
 use pth_grammar::lines::{act_line, check_line, line, numbered};
 use pth_grammar::section::Section;
+use pth_kernel::kernel::Kernel;
+use pth_kernel::trace::Stamp;
+use pth_kernel_lines::lines::{clock_line, open_line};
+use pth_kernel_lines::part::KernelPart;
 use pth_line::act_line::ActLine;
 use pth_line::block::Block;
 use pth_line::check::Check;
 use pth_line::line::Line;
+use pth_line::script::Script;
 use pth_spelling::first_word::begins;
 use pth_spelling::keyword::Keyword;
 use pth_text::rule::{Breach, Rule};
 use std::alloc::Global;
 use std::mem;
 
-/// The handlers, checks and bodies that are closed, and the lines of the one that is open.
+/// The handlers, checks and bodies that are closed, the lines of the one that is open, and the kernel.
 #[derive(Drop)]
 pub struct Draft {
     alloc: Global,
@@ -35,12 +45,15 @@ pub struct Draft {
     pub bodies: Vec<Block<Line>>,
     pub acts: Block<ActLine>,
     pub body: Body,
+    pub kernel: KernelDraft,
 }
 
 impl Draft {
     /// Nothing read yet.
     pub fn new(alloc: Global) -> Draft
-        ensures { draft_parts result ≡ record { section = section.Handlers; handlers = []; checks = []; bodies = []; acts = []; body = [] } }
+        ensures seen { seen_of_draft (draft_parts result) ≡ seen_of [] }
+        ensures kept { IsDraftInOrder (draft_parts result) }
+        ensures makes { (ls : List (List (List ℕ))) → ComesTo (draft_parts result) ls (parts_of ls) }
     {
         Draft {
             alloc,
@@ -50,6 +63,7 @@ impl Draft {
             bodies: Vec::new(alloc),
             acts: Block::new(alloc),
             body: Body::new(alloc),
+            kernel: KernelDraft::new(alloc),
         }
     }
 
@@ -85,6 +99,7 @@ impl Draft {
             (_, Some(Keyword::Handler)) => self.handlers_opened() >= 256,
             (_, Some(Keyword::Check)) => self.checks.len() >= 256,
             (_, Some(Keyword::Thread)) => self.bodies_opened() >= 256,
+            (_, Some(Keyword::At)) => self.kernel.is_full(),
             _ => false,
         }
     }
@@ -98,6 +113,7 @@ impl Draft {
             (Some(Keyword::Check), Some(n)) => n != self.checks.len() as i64,
             (Some(Keyword::Thread), Some(n)) => n != self.bodies_opened() as i64,
             (Some(Keyword::Label), Some(n)) => self.body.has_label(n),
+            (Some(Keyword::Open), Some(n)) => n < self.kernel.next_open as i64,
             _ => false,
         }
     }
@@ -111,9 +127,69 @@ impl Draft {
         }
     }
 
-    /// The first that a line of words breaks.
-    pub fn fault(&self, words: &[&[u8]], ended: bool) -> Option<Breach>
+    fn lacks_body(&self, keyword: Option<Keyword>) -> bool
+        ensures { result ≡ lacks_body keyword (seen_of_draft (draft_parts self.now)) }
+    {
+        match keyword {
+            Some(Keyword::Kernel) => self.bodies_opened() == 0,
+            _ => false,
+        }
+    }
+
+    fn is_early(&self, stamp: &Option<Stamp>) -> bool
         requires { IsDraftInOrder (draft_parts self.now) }
+        ensures { result ≡ is_early stamp.now (seen_of_draft (draft_parts self.now)) }
+    {
+        match stamp {
+            Some(stamp) => self.kernel.rules.is_before_last(stamp.at),
+            None => false,
+        }
+    }
+
+    fn misuses_fd(&self, stamp: &Option<Stamp>) -> bool
+        requires { IsDraftInOrder (draft_parts self.now) }
+        ensures { result ≡ misuses_fd stamp.now (seen_of_draft (draft_parts self.now)) }
+    {
+        match stamp {
+            Some(stamp) => self.kernel.rules.breaks_fd(stamp),
+            None => false,
+        }
+    }
+
+    /// The first of the rules that a line breaks by its number, by what its body names, or by what stands above a kernel.
+    fn place_fault(&self, keyword: Option<Keyword>, number: Option<i64>) -> Option<Rule>
+        requires { IsDraftInOrder (draft_parts self.now) }
+        ensures { result ≡ (if misnumbered keyword number (seen_of_draft (draft_parts self.now)) then Some rule.Number else if leaves_goto self.now.section keyword (seen_of_draft (draft_parts self.now)) then Some rule.Label else if lacks_body keyword (seen_of_draft (draft_parts self.now)) then Some rule.Main else None) }
+    {
+        if self.misnumbered(keyword, number) {
+            Some(Rule::Number)
+        } else if self.leaves_goto(keyword) {
+            Some(Rule::Label)
+        } else if self.lacks_body(keyword) {
+            Some(Rule::Main)
+        } else {
+            None
+        }
+    }
+
+    /// The first of the rules that a line breaks by what comes.
+    fn stamp_fault(&self, stamp: &Option<Stamp>) -> Option<Rule>
+        requires { IsDraftInOrder (draft_parts self.now) }
+        ensures { result ≡ (if is_early stamp.now (seen_of_draft (draft_parts self.now)) then Some rule.Time else if misuses_fd stamp.now (seen_of_draft (draft_parts self.now)) then Some rule.Fd else None) }
+    {
+        if self.is_early(stamp) {
+            Some(Rule::Time)
+        } else if self.misuses_fd(stamp) {
+            Some(Rule::Fd)
+        } else {
+            None
+        }
+    }
+
+    /// The first that a line of words breaks, where the stamp is the one that the line stands for.
+    pub fn fault(&self, words: &[&[u8]], stamp: &Option<Stamp>, ended: bool) -> Option<Breach>
+        requires stamp { stamp.now ≡ stamp_line (texts words.now) }
+        requires kept { IsDraftInOrder (draft_parts self.now) }
         ensures { result ≡ first_broken (said_breaks ended (seen_of_draft (draft_parts self.now)) (texts words.now)) }
     {
         let keyword = begins(words);
@@ -126,11 +202,11 @@ impl Draft {
         if let Some(rule) = words_fault(self.section, words) {
             return Some(Breach::Of(rule));
         }
-        if self.misnumbered(keyword, numbered(words)) {
-            return Some(Breach::Of(Rule::Number));
+        if let Some(rule) = self.place_fault(keyword, numbered(words)) {
+            return Some(Breach::Of(rule));
         }
-        if self.leaves_goto(keyword) {
-            return Some(Breach::Of(Rule::Label));
+        if let Some(rule) = self.stamp_fault(stamp) {
+            return Some(Breach::Of(rule));
         }
         None
     }
@@ -191,6 +267,7 @@ impl Draft {
     fn take_check(&mut self, words: &[&[u8]]) -> Result<(), OutOfMemory>
         requires handler { in_handler self.old.section ≡ false }
         requires body { in_body self.old.section ≡ false }
+        requires kernel { in_kernel self.old.section ≡ false }
         requires begins { begins (texts words.now) ≡ Some key.Check }
         requires fine { IsFine (draft_parts self.old) (texts words.now) }
         requires kept { IsDraftInOrder (draft_parts self.old) }
@@ -203,10 +280,11 @@ impl Draft {
         Ok(())
     }
 
-    /// Takes a line outside of handlers and bodies.
+    /// Takes a line outside of handlers, bodies and the kernel.
     fn take_opening(&mut self, words: &[&[u8]]) -> Result<(), OutOfMemory>
         requires handler { in_handler self.old.section ≡ false }
         requires body { in_body self.old.section ≡ false }
+        requires kernel { in_kernel self.old.section ≡ false }
         requires fine { IsFine (draft_parts self.old) (texts words.now) }
         requires kept { IsDraftInOrder (draft_parts self.old) }
         ensures { OnOk result (Takes (draft_parts self.old) (draft_parts self.new) (texts words.now)) }
@@ -217,14 +295,49 @@ impl Draft {
         }
         if is_handler(keyword) {
             self.section = Section::Handler;
+        } else if is_kernel(keyword) {
+            self.section = Section::Kernel(KernelPart::Head);
         } else {
             self.section = Section::Body;
         }
         Ok(())
     }
 
-    /// Takes a line of words that breaks no rule.
-    pub fn take(&mut self, words: &[&[u8]]) -> Result<(), OutOfMemory>
+    /// Takes a line of the kernel.
+    fn take_part(&mut self, words: &[&[u8]], stamp: Option<Stamp>) -> Result<(), OutOfMemory>
+        requires section { in_kernel self.old.section ≡ true }
+        requires stamp { stamp ≡ stamp_line (texts words.now) }
+        requires fine { IsFine (draft_parts self.old) (texts words.now) }
+        requires kept { IsDraftInOrder (draft_parts self.old) }
+        ensures { OnOk result (Takes (draft_parts self.old) (draft_parts self.new) (texts words.now)) }
+    {
+        if let Some(stamp) = stamp {
+            self.kernel.take_stamp(stamp)?;
+            self.section = Section::Kernel(KernelPart::Entries);
+            return Ok(());
+        }
+        self.section = Section::Kernel(KernelPart::Opens);
+        if let Some(f) = open_line(words) {
+            self.kernel.open(f);
+            return Ok(());
+        }
+        self.kernel.clock = clock_line(words);
+        Ok(())
+    }
+
+    /// The script and the kernel that were read, where nothing is open and there is a body.
+    pub fn close(self) -> Result<(Script, Kernel), OutOfMemory>
+        requires closable { IsClosable (draft_parts self) }
+        requires kept { IsDraftInOrder (draft_parts self) }
+        ensures { IfOk result (λ read. (read.0 ≡ record { handlers = self.handlers.items; checks = self.checks.items; bodies = self.bodies.items }) × (kernel_of read.1 ≡ started (unwrap_or self.kernel.clock 1) self.kernel.live.0 self.kernel.trace)) }
+    {
+        let kernel = self.kernel.close(self.alloc)?;
+        Ok((Script::new(self.handlers, self.checks, self.bodies), kernel))
+    }
+
+    /// Takes a line of words that breaks no rule, where the stamp is the one that the line stands for.
+    pub fn take(&mut self, words: &[&[u8]], stamp: Option<Stamp>) -> Result<(), OutOfMemory>
+        requires stamp { stamp ≡ stamp_line (texts words.now) }
         requires fine { IsFine (draft_parts self.old) (texts words.now) }
         requires kept { IsDraftInOrder (draft_parts self.old) }
         ensures { OnOk result (Takes (draft_parts self.old) (draft_parts self.new) (texts words.now)) }
@@ -232,6 +345,7 @@ impl Draft {
         match self.section {
             Section::Handler => self.take_act(words),
             Section::Body => self.take_line(words),
+            Section::Kernel(_) => self.take_part(words, stamp),
             _ => self.take_opening(words),
         }
     }
@@ -249,6 +363,13 @@ fn is_check(keyword: Option<Keyword>) -> bool
     ensures { result ≡ is_check keyword }
 {
     matches!(keyword, Some(Keyword::Check))
+}
+
+/// Whether a kernel begins below a line.
+fn is_kernel(keyword: Option<Keyword>) -> bool
+    ensures { result ≡ is_kernel keyword }
+{
+    matches!(keyword, Some(Keyword::Kernel))
 }
 
 /// Whether a line closes a handler or a body.

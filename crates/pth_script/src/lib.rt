@@ -3,6 +3,7 @@
 
 mod body;
 mod draft;
+mod kernel_draft;
 pub mod laws;
 pub mod read;
 mod reader;

@@ -5,9 +5,10 @@ ghost use Rattle.pth_script.specs.Drafts.{draft_parts, IsDraftInOrder};
 ghost use Rattle.pth_script.specs.Follows.{IsReadAs, Reads, breach_error};
 ghost use Rattle.pth_script.specs.TextRows.{TextRow};
 
-use crate::draft::Draft;
 use crate::reader::{Fault, Reader};
 use crate::rows::first_row;
+use pth_base::memory::OutOfMemory;
+use pth_kernel::kernel::Kernel;
 use pth_line::script::Script;
 use pth_text::rule::{Breach, Rule};
 use std::alloc::Global;
@@ -28,6 +29,16 @@ pub enum ReadErr {
     OutOfMemory,
 }
 
+impl From<OutOfMemory> for ReadErr {
+    ghost use Rattle.pth_script.specs.declared.read.ReadErr.TheVariants as err;
+
+    ghost from_gives = { λ _ e. e ≡ err.OutOfMemory };
+
+    fn from(_e: OutOfMemory) -> ReadErr {
+        ReadErr::OutOfMemory
+    }
+}
+
 /// The refusal of a line.
 fn refused(line: u32, breach: Breach) -> ReadErr
     ensures { result ≡ breach_error line breach }
@@ -38,25 +49,19 @@ fn refused(line: u32, breach: Breach) -> ReadErr
     }
 }
 
-/// The script that was read, whose last line stands above this one.
-fn finish(reader: Reader, line: u32) -> Result<Script, ReadErr>
+/// The script and the kernel that were read, whose last line stands above this one.
+fn finish(reader: Reader, line: u32) -> Result<(Script, Kernel), ReadErr>
     requires { IsDraftInOrder (draft_parts reader.draft) }
     ensures { (text : List ℕ) (before : List TextRow) → Reads reader before text line [] → IsReadAs text result }
 {
     if let Some(rule) = reader.end_fault() {
         return Err(ReadErr::Refused { line, rule });
     }
-    let Draft {
-        handlers,
-        checks,
-        bodies,
-        ..
-    } = reader.draft;
-    Ok(Script::new(handlers, checks, bodies))
+    Ok(reader.draft.close()?)
 }
 
-/// Reads a script. It is refused at the least line that breaks a rule, for the first such rule.
-pub fn read(alloc: Global, bytes: &[u8]) -> Result<Script, ReadErr>
+/// Reads a script and its kernel. It is refused at the least line that breaks a rule, for the first such rule.
+pub fn read(alloc: Global, bytes: &[u8]) -> Result<(Script, Kernel), ReadErr>
     ensures { IsReadAs bytes.now result }
 {
     let mut reader = Reader::new(alloc);

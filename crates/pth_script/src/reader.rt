@@ -4,7 +4,7 @@ ghost use Rattle.std.specs.Prelude.{◌≡◌, ◌≤◌, List, [], drop, length
 ghost use Rattle.pth_script.specs.Broken.{end_breaks, line_limit};
 ghost use Rattle.pth_script.specs.Drafts.{draft_parts, IsClosable, IsDraftInOrder, ComesTo};
 ghost use Rattle.pth_script.specs.Follows.{Follows, Goes, left_of};
-ghost use Rattle.pth_script.specs.Meaning.{said, handlers_of, checks_of, bodies_of};
+ghost use Rattle.pth_script.specs.Meaning.{said, parts_of};
 ghost use Rattle.pth_script.specs.TextRows.{TextRow, is_comment};
 ghost use Rattle.pth_script.specs.RuleOrder.{first_broken};
 ghost use Rattle.pth_text.specs.declared.rule.Breach.TheVariants.{Of};
@@ -13,6 +13,7 @@ use crate::draft::Draft;
 use crate::rows::is_comment;
 use pth_base::memory::OutOfMemory;
 use pth_grammar::section::Section;
+use pth_kernel_lines::lines::stamp_line;
 use pth_text::rule::{Breach, Rule};
 use pth_text::words::words;
 use std::alloc::Global;
@@ -49,7 +50,7 @@ impl Reader {
     /// A reader of no lines yet.
     pub fn new(alloc: Global) -> Reader
         ensures follows { Follows result [] }
-        ensures makes { (rows : List TextRow) → ComesTo (draft_parts result.draft) (left_of result rows) (handlers_of (said (drop 1 rows))) (checks_of (said (drop 1 rows))) (bodies_of (said (drop 1 rows))) }
+        ensures makes { (rows : List TextRow) → ComesTo (draft_parts result.draft) (left_of result rows) (parts_of (said (drop 1 rows))) }
     {
         Reader {
             alloc,
@@ -84,10 +85,11 @@ impl Reader {
     {
         let words = words(self.alloc, bytes)?;
         let words = words.as_slice();
-        if let Some(breach) = self.draft.fault(words, ended) {
+        let stamp = stamp_line(self.alloc, words)?;
+        if let Some(breach) = self.draft.fault(words, &stamp, ended) {
             return Err(Fault::Broken(breach));
         }
-        self.draft.take(words)?;
+        self.draft.take(words, stamp)?;
         Ok(())
     }
 
@@ -110,6 +112,7 @@ impl Reader {
         }
         self.said(bytes, ended)
     }
+
     /// The rule that the place after the last line breaks.
     pub fn end_fault(&self) -> Option<Rule>
         ensures closed { IsNone result → IsClosable (draft_parts self.now.draft) }

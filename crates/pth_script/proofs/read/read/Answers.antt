@@ -38,7 +38,7 @@ lines-preserved c =
     let small : size_of (row ∷ i.0) ≤ text_limit = omega (arith, text_limit_is, row_size_is c.lines.reader i.0 c.args.bytes.now c.lines.line c.lines.rest.now i.1 row after cut) in
     let taken = c.in-Ok.ensures.takes i.0 i.1.follows small in (
       row ∷ i.0,
-      reads_on c.lines.reader i.0 c.args.bytes.now c.lines.line c.lines.rest.now i.1 row after cut c.row.new.self taken (c.in-Ok.ensures.drafts (text_rows after) _ _ _ (makes_cut c.lines.reader i.0 c.args.bytes.now c.lines.line c.lines.rest.now i.1 row after cut)),
+      reads_on c.lines.reader i.0 c.args.bytes.now c.lines.line c.lines.rest.now i.1 row after cut c.row.new.self taken (c.in-Ok.ensures.drafts (text_rows after) _ (makes_cut c.lines.reader i.0 c.args.bytes.now c.lines.line c.lines.rest.now i.1 row after cut)),
       omega (arith, c.first_row-ended.ensures.shorter),
       omega arith,
     )

@@ -14,11 +14,11 @@ returns-then-not-ended c = let e = said_rule c.args.ended (seen_of_draft (draft_
 pub returns-in-Some : goal.returns-in-Some
 returns-in-Some c = let e = said_rule c.args.ended (seen_of_draft (draft_parts c.args.self.now)) (texts c.args.words.now) in grind (arith, common_steps)
 
-pub returns-then-misnumbered : goal.returns-then-misnumbered
-returns-then-misnumbered c = let e = said_rule c.args.ended (seen_of_draft (draft_parts c.args.self.now)) (texts c.args.words.now) in grind (arith, common_steps)
+pub returns-in-Some-place_fault : goal.returns-in-Some-place_fault
+returns-in-Some-place_fault c = let e = said_rule c.args.ended (seen_of_draft (draft_parts c.args.self.now)) (texts c.args.words.now) in grind (arith, common_steps)
 
-pub returns-then-leaves_goto : goal.returns-then-leaves_goto
-returns-then-leaves_goto c = let e = said_rule c.args.ended (seen_of_draft (draft_parts c.args.self.now)) (texts c.args.words.now) in grind (arith, common_steps)
+pub returns-in-Some-stamp_fault : goal.returns-in-Some-stamp_fault
+returns-in-Some-stamp_fault c = let e = said_rule c.args.ended (seen_of_draft (draft_parts c.args.self.now)) (texts c.args.words.now) in grind (arith, common_steps)
 
 pub returns : goal.returns
 returns c = let e = said_rule c.args.ended (seen_of_draft (draft_parts c.args.self.now)) (texts c.args.words.now) in grind (arith, common_steps)

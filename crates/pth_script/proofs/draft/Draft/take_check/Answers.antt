@@ -9,7 +9,7 @@ pub returns-in_ok-push : goal.returns-in_ok-push
 returns-in_ok-push c =
     let ws = texts c.args.words.now in
     let d = draft_parts c.args.self.now in
-    subst (λ t. Takes d (record d { section = sec.Checks; checks = t }) ws) (sym c.in_ok-push.ensures.items) (check_line_taken d ws c.requires.kept c.requires.handler c.requires.body c.requires.fine c.in-Some.check c.requires.begins (sym c.check_line.ensures ∙ c.in-Some.is))
+    subst (λ t. Takes d (record d { section = sec.Checks; checks = t }) ws) (sym c.in_ok-push.ensures.items) (check_line_taken d ws c.requires.kept c.requires.handler c.requires.body c.requires.kernel c.requires.fine c.in-Some.check c.requires.begins (sym c.check_line.ensures ∙ c.in-Some.is))
 
 pub returns-in_default : goal.returns-in_default
-returns-in_default c = absurd (check_is_read (draft_parts c.args.self.now) (texts c.args.words.now) c.requires.kept c.requires.handler c.requires.body c.requires.fine c.requires.begins (sym c.check_line.ensures ∙ c.in_default.is))
+returns-in_default c = absurd (check_is_read (draft_parts c.args.self.now) (texts c.args.words.now) c.requires.kept c.requires.handler c.requires.body c.requires.kernel c.requires.fine c.requires.begins (sym c.check_line.ensures ∙ c.in_default.is))

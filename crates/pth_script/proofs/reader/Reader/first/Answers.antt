@@ -39,5 +39,5 @@ returns c =
           let e = first_row_rule before row first in
           let n = not_long before row s c.requires.short in
           (grind (arith, common_steps), record { started = refl; seen = f.seen ∙ ap seen_of (sym (above_first before row first)); kept = f.kept });
-      drafts = λ rest hs cs bs m. subst (λ b. ComesTo (draft_parts c.args.self.now.draft) (said (cond b (row ∷ rest) rest)) hs cs bs) c.requires.started m;
+      drafts = λ rest p m. subst (λ b. ComesTo (draft_parts c.args.self.now.draft) (said (cond b (row ∷ rest) rest)) p) c.requires.started m;
     }

@@ -47,9 +47,9 @@ returns-then-is_comment c =
           let e = comment_rule before row later comment in
           let n = not_long before row s (omega (arith, line_limit_is)) in
           (grind (arith, common_steps), record { started = c.if-not-self.false; seen = f.seen ∙ ap seen_of (sym (above_comment before row later comment)); kept = f.kept });
-      drafts = λ rest hs cs bs m.
+      drafts = λ rest p m.
           let st = c.if-not-self.false in
           let d = draft_parts c.args.self.now.draft in
-          let old = subst (λ b. ComesTo d (said (cond b (row ∷ rest) rest)) hs cs bs) st m in
-          subst (λ b. ComesTo d (said (cond b rest (drop 1 rest))) hs cs bs) (sym st) (subst (λ ls. ComesTo d ls hs cs bs) (said_comment row rest comment) old);
+          let old = subst (λ b. ComesTo d (said (cond b (row ∷ rest) rest)) p) st m in
+          subst (λ b. ComesTo d (said (cond b rest (drop 1 rest))) p) (sym st) (subst (λ ls. ComesTo d ls p) (said_comment row rest comment) old);
     }

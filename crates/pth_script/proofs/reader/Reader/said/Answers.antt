@@ -3,8 +3,6 @@ use Rattle.std.specs.Prelude.{drop}
 use Rattle.std.proofs.lemmas.Grind.{common_steps}
 use Rattle.pth_text.specs.LineWords.{words_of}
 use Rattle.pth_spelling.specs.Texts.{texts}
-use Rattle.pth_spelling.specs.Keywords.{begins}
-use Rattle.pth_grammar.specs.LineMeanings.{numbered}
 use Rattle.pth_script.specs.TextRows.{TextRow, above}
 use Rattle.pth_script.specs.Broken.{is_first, said_breaks}
 use Rattle.pth_script.specs.Drafts.{draft_parts, seen_of_draft, ComesTo}
@@ -48,13 +46,13 @@ returns c =
             said_row_rule before row later c.requires.said (not_long before row s c.requires.short) ∙ sym (λ i. first_broken (said_breaks c.args.ended (f.seen i) (w i))) ∙ sym c.fault.ensures ∙ c.in_default.is,
             record {
               started = c.requires.started;
-              seen = t.seen ∙ (λ i. seen_past (begins (w i)) (numbered (w i)) (f.seen i)) ∙ sym (seen_more (words_of c.args.bytes.now) (above before)) ∙ ap seen_of (sym (above_said before row later c.requires.said));
+              seen = t.seen ∙ (λ i. seen_past (w i) (f.seen i)) ∙ sym (seen_more (words_of c.args.bytes.now) (above before)) ∙ ap seen_of (sym (above_said before row later c.requires.said));
               kept = t.kept;
             },
           );
-      drafts = λ rest hs cs bs m.
+      drafts = λ rest p m.
           let st = c.requires.started in
-          let old = subst (λ b. ComesTo (draft_parts c.args.self.now.draft) (said (cond b (row ∷ rest) rest)) hs cs bs) st m in
-          let worded = subst (λ ls. ComesTo (draft_parts c.args.self.now.draft) ls hs cs bs) (said_line_of row rest c.requires.said ∙ ap (λ v. v ∷ said rest) (sym w)) old in
-          subst (λ b. ComesTo (draft_parts c.take.new.self) (said (cond b rest (drop 1 rest))) hs cs bs) (sym st) (t.makes (said rest) hs cs bs worded);
+          let old = subst (λ b. ComesTo (draft_parts c.args.self.now.draft) (said (cond b (row ∷ rest) rest)) p) st m in
+          let worded = subst (λ ls. ComesTo (draft_parts c.args.self.now.draft) ls p) (said_line_of row rest c.requires.said ∙ ap (λ v. v ∷ said rest) (sym w)) old in
+          subst (λ b. ComesTo (draft_parts c.take.new.self) (said (cond b rest (drop 1 rest))) p) (sym st) (t.makes (said rest) p worded);
     }
