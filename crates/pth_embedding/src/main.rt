@@ -1,21 +1,24 @@
 //! How a program drives a machine: turn by turn, with a look at its threads after each turn.
 #![tactic(auto)]
 
-ghost use Rattle.std.specs.Prelude.{◌≤◌, IfOk};
+ghost use Rattle.std.specs.Prelude.{◌≡◌, ◌≤◌, IfOk};
 ghost use Rattle.pth_world.specs.Sound.{IsSound};
 
 mod errand;
 
 use crate::errand::{Errand, int_of};
 use anyhow::Result;
-use pth_base::ids::Tid;
+use pth_base::ids::{FdSet, Tid};
 use pth_base::mark::Mark;
 use pth_base::marks::Marks;
+use pth_base::memory::OutOfMemory;
 use pth_base::outcome::Outcome;
+use pth_kernel::kernel::Kernel;
+use pth_kernel::trace::Trace;
 use pth_queue::queue::Queue;
 use pth_sched::machine::Machine;
 use pth_world::world::World;
-use std::alloc::AllocError;
+use std::alloc::{AllocError, Global};
 use std::io;
 
 /// How many steps the run has at most.
@@ -95,8 +98,17 @@ fn print_turn(
     Ok(outcome)
 }
 
+/// A machine under a kernel that has no descriptors, where a turn takes one microsecond.
+#[tactic(auto, unfolding(pth_kernel::specs::Trace::first_fault_below))]
+fn machine(alloc: Global) -> Result<Machine<Errand>, OutOfMemory>
+    ensures { IfOk result (λ machine. machine.turn.steps ≡ 0) }
+{
+    let kernel = Kernel::new(alloc, 1, FdSet(0), Trace::new(alloc))?;
+    Machine::new(alloc, Errand, kernel)
+}
+
 fn main(rt: HostRuntime) -> Result<()> {
-    let mut machine = Machine::new(rt.alloc(), Errand).map_err(|_| AllocError)?;
+    let mut machine = machine(rt.alloc()).map_err(|_| AllocError)?;
     let mut marks = Marks::new(rt.alloc());
     for _ in 0..MOST_TURNS {
         match print_turn(&rt, &mut machine, &mut marks)? {

@@ -11,11 +11,12 @@ use Rattle.pth_print.specs.FaultLines.{fault_line, fault_status}
 use Rattle.pth_print.specs.declared.fault_line.Fault.{Fault}
 use Rattle.pth_print.specs.declared.fault_line.Fault.TheVariants as fault
 use Rattle.pth_line.specs.Script.{Sections, functions_of}
+use Rattle.pth_model.specs.State.{Given}
 use Rattle.pth_script.proofs.Once.{not_both}
 use Rattle.pth_text.specs.declared.rule.Breach.{Breach}
 use Rattle.pth_words.specs.CommandWords.{Asked}
 use Rattle.pth_player.specs.Objects.{AreHeld, ObjectRead, ObjectRose, ObjectStood, Scene, content, cut, object_of}
-use Rattle.pth_player.specs.Output.{Output, IsRefused, IsTheOutput, IsTheScript, given_script, outcome_status, refusal, told_output}
+use Rattle.pth_player.specs.Output.{Output, IsRefused, IsTheOutput, IsTheScript, outcome_status, refusal, told_output}
 use Rattle.pth_player.specs.Play.{Completes, DrivesScript, Ends, Faults, HoldsNoScript, IsAtHand, IsFaultStatus, IsOutputStatus, IsRunStatus, IsUnwritten, Plays, Ran, RanFor, ReadsWhole, RefusesInput, RefusesWords, Reports, TellsFault, WritesLine, WritesOutput, WritesWhole}
 use Rattle.pth_player.specs.Streams.{AppendsPart, AppendsPrefix}
 use Rattle.pth_player.proofs.Outputs.{refused_output, script_output, words_output}
@@ -83,8 +84,8 @@ module _ (old new : Scene) (status : ℕ) (w x : Option (List ℕ)) (b n : ℕ) 
     Whole = WritesWhole (Some asked) old new status w x b n
 
     -- the output of a script that stops at this part
-    abbrev run_told : Sections → ℕ → Output
-    run_told script parts = told_output asked (run functions_of (given_script script) parts)
+    abbrev run_told : Given Sections → ℕ → Output
+    run_told g parts = told_output asked (run functions_of g parts)
 
     -- the output of a refused input
     whole_refused : (line : ℕ) (breach : Breach) → RanFor asked old new (Err (fault.Input line breach)) → (status ≡ fault_status (fault.Input line breach)) × WritesLine w x b n (fault_line (fault.Input line breach)) → Whole
@@ -167,7 +168,7 @@ module _ (old new : Scene) (status : ℕ) (w x : Option (List ℕ)) (b n : ℕ) 
     abbrev Told : Option (List ℕ)
     Told = content (Some asked) old
 
-    not_refused : (bytes : List ℕ) (script : Sections) → AreHeld Told bytes → IsTheScript script (cut bytes) → IfSome Told (λ xs. IsRefused (cut xs) → ⊥)
+    not_refused : (bytes : List ℕ) (script : Given Sections) → AreHeld Told bytes → IsTheScript script (cut bytes) → IfSome Told (λ xs. IsRefused (cut xs) → ⊥)
     not_refused bytes script held stands = told (λ xs. bytes ≡ xs) (λ xs. IsRefused (cut xs) → ⊥) Told
         (λ xs e refused. not_both (cut xs) refused.0 refused.1 (subst (λ ys. IsTheScript script (cut ys)) e stands).0 refused.2) held
 
@@ -307,7 +308,7 @@ ran_out : (old new : Scene) (asked : Option Asked) (o : Outcome) → Ran asked o
 ran_out old new None o ran = absurd ran
 ran_out old new (Some asked) o ran =
     let d = ran.1 in
-    let out = told_output asked (run functions_of (given_script d.2) d.4.0) in
+    let out = told_output asked (run functions_of d.2 d.4.0) in
     (read_stood (object_of (Some asked)) old.ins new.ins ran.0, inr (d.0, d.1, d.2, d.3, (out, (d.4.0, d.4.1, refl), all_of old.written new.written out.text d.4.3, d.4.4)))
 
 -- ---- what `err` received

@@ -11,8 +11,8 @@ use Rattle.pth_script.specs.Broken.{IsRefusal}
 use Rattle.pth_text.specs.declared.rule.Breach.{Breach}
 use Rattle.pth_sched.proofs.Stopping.{run_stops}
 use Rattle.pth_script.proofs.Whole.{accepted_or_refused, script_of}
-use Rattle.pth_script.proofs.Once.{not_both, one_script, same_breach, same_line}
-use Rattle.pth_player.specs.Output.{Output, IsOutput, IsRunOutput, IsTheOutput, IsTheScript, given_script, refusal, told_output}
+use Rattle.pth_script.proofs.Once.{not_both, one_script, one_kernel, same_breach, same_line}
+use Rattle.pth_player.specs.Output.{Output, IsOutput, IsRunOutput, IsTheOutput, IsTheScript, refusal, told_output}
 use Rattle.pth_words.specs.CommandWords.{Asked}
 use Rattle.pth_player.specs.Objects.{Scene, content, cut}
 use Rattle.pth_player.specs.Play.{IsOutputStatus, WritesFault, WritesOutput}
@@ -35,14 +35,21 @@ refused_output asked bytes line b refused = (
   ],
 )
 
+-- a text stands for one script and one kernel
+one_given : (text : List ℕ) (a b : Given Sections) → IsTheScript a text → IsTheScript b text → a ≡ b
+one_given text a b x y = λ i. record {
+  program = one_script text a.program b.program x.1 y.1 i;
+  kernel = one_kernel text a.kernel b.kernel x.2 y.2 i;
+}
+
 -- that of a script
-pub script_output : (asked : Asked) (bytes : List ℕ) (script : Sections) (out : Output) → IsTheScript script (cut bytes)
-    → IsRunOutput functions_of (given_script script) asked out → IsTheOutput (Some asked) bytes out
-script_output asked bytes script out stands is = (
-  inl (script, stands, is),
+pub script_output : (asked : Asked) (bytes : List ℕ) (g : Given Sections) (out : Output) → IsTheScript g (cut bytes)
+    → IsRunOutput functions_of g asked out → IsTheOutput (Some asked) bytes out
+script_output asked bytes g out stands is = (
+  inl (g, stands, is),
   λ other o. elim o [
-    | inl i ↦ run_once functions_of (given_script script) asked other out
-        (subst (λ (s : Sections). IsRunOutput functions_of (given_script s) asked other) (one_script (cut bytes) i.0 script i.1.1 stands.1) i.2) is
+    | inl i ↦ run_once functions_of g asked other out
+        (subst (λ (h : Given Sections). IsRunOutput functions_of h asked other) (one_given (cut bytes) i.0 g i.1 stands) i.2) is
     | inr k ↦ absurd (not_both (cut bytes) k.0 k.1 stands.0 k.2)
   ],
 )
@@ -52,10 +59,11 @@ pub output_of : (asked : Option Asked) (bytes : List ℕ) → (out : Output) × 
 output_of None bytes = (refusal fault.Words, words_output bytes)
 output_of (Some asked) bytes = elim (accepted_or_refused (cut bytes)) [
   | inl accepted ↦
-      let script = script_of (cut bytes) accepted in
-      let stop = run_stops functions_of (given_script script.0) asked.steps 0 in
-      let out = told_output asked (run functions_of (given_script script.0) stop.0) in
-      (out, script_output asked bytes script.0 out (accepted, script.1) (stop.0, stop.1, refl))
+      let read = script_of (cut bytes) accepted in
+      let g : Given Sections = record { program = read.0; kernel = read.1 } in
+      let stop = run_stops functions_of g asked.steps 0 in
+      let out = told_output asked (run functions_of g stop.0) in
+      (out, script_output asked bytes g out (accepted, read.2, read.3) (stop.0, stop.1, refl))
   | inr refused ↦ (refusal (fault.Input refused.0 refused.1), refused_output asked bytes refused.0 refused.1 refused.2)
 ]
 

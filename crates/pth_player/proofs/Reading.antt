@@ -8,12 +8,13 @@ use Rattle.std.proofs.lemmas.Bool.{cases_order, not-false, not-true}
 use Rattle.std.proofs.Math.Seq.{take-append_seam, drop-append_seam}
 use Rattle.pth_print.specs.declared.fault_line.Fault.{Fault}
 use Rattle.pth_print.specs.declared.fault_line.Fault.TheVariants as fault
+use Rattle.pth_kernel.specs.Kernel.{KernelOf}
 use Rattle.pth_line.specs.Script.{Sections}
 use Rattle.pth_script.specs.Follows.{IsReadAs}
 use Rattle.pth_text.specs.declared.rule.Breach.TheVariants.{Limit, Of}
 use Rattle.pth_player.specs.FaultsOfErrors.{fault_of_read, fault_of_script}
 use Rattle.pth_player.specs.Objects.{AreHeld, Inputs, LosesRead, Object, ObjectCounts, ObjectRead, ObjectStood, cut, nothing, object_named, the_file, the_input}
-use Rattle.pth_player.specs.Output.{IsTheScript}
+use Rattle.pth_player.specs.Output.{IsTheScript, given_script}
 use Rattle.pth_script.specs.Broken.{IsRefusal, text_limit}
 use Rattle.pth_player.specs.Play.{ReadsBytes, ReadsScript}
 use Rattle.pth_player.specs.Streams.{CountsRead, TakesUpTo}
@@ -102,11 +103,11 @@ pub names_none : (o : Option (Bor (List ℕ))) → ((name : Bor (List ℕ)) → 
 names_none None none = refl
 names_none (Some name) none = absurd (none name refl)
 
-module _ (object : Object) (old new : Inputs) (bytes seen : List ℕ) (s : Result Sections Fault) where
+module _ (object : Object) (old new : Inputs) (bytes seen : List ℕ) (s : Result (Sections × KernelOf) Fault) where
   -- what is answered of the bytes is answered of the object
-  pub read_is : (r : Result Sections ReadErr) → ReadsBytes object old new bytes → seen ≡ bytes → IsReadAs seen r
+  pub read_is : (r : Result (Sections × KernelOf) ReadErr) → ReadsBytes object old new bytes → seen ≡ bytes → IsReadAs seen r
       → MatchResult r (λ x. s ≡ Ok x) (λ e. IsErrAnd s (λ f. f ≡ fault_of_script e)) → ReadsScript object old new s
-  read_is (Ok script) h same a m = subst (ReadsScript object old new) (sym m) (h.0, (h.1.0, h.1.1, subst (IsTheScript script) (same ∙ h.1.2) a))
+  read_is (Ok script) h same a m = subst (ReadsScript object old new) (sym m) (h.0, (h.1.0, h.1.1, subst (IsTheScript (given_script script)) (same ∙ h.1.2) a))
   read_is (Err (script.Refused line r)) h same a m = subst (ReadsScript object old new) (sym (err_and s (fault_of_script (script.Refused line r)) m))
       (h.0, (h.1.0, h.1.1, subst (λ t. IsRefusal t line (Of r)) (same ∙ h.1.2) a))
   read_is (Err (script.TooLarge line)) h same a m = subst (ReadsScript object old new) (sym (err_and s (fault_of_script (script.TooLarge line)) m))
@@ -120,6 +121,6 @@ unread_by object old new (Ok v) s e counts m is = absurd (ok_not_err s v e m is)
 unread_by object old new (Err read.Failed) s e counts m is = subst (λ f. ReadsScript object old new (Err f)) (sym (subst (λ t. IsErrAnd t (λ y. y ≡ fault.ReadFault)) is m)) counts
 unread_by object old new (Err read.OutOfMemory) s e counts m is = subst (λ f. ReadsScript object old new (Err f)) (sym (subst (λ t. IsErrAnd t (λ y. y ≡ fault.OutOfMemory)) is m)) counts
 
-pub unread_is : (object : Object) (old new : Inputs) (r : Result (Vec ℕ Global) ReadFault) (s : Result (Vec ℕ Global) Fault) (e : Fault) (t : Result Sections Fault) → ObjectCounts object old new r
+pub unread_is : (object : Object) (old new : Inputs) (r : Result (Vec ℕ Global) ReadFault) (s : Result (Vec ℕ Global) Fault) (e : Fault) (t : Result (Sections × KernelOf) Fault) → ObjectCounts object old new r
     → MatchResult r (λ v. s ≡ Ok v) (λ x. IsErrAnd s (λ y. y ≡ fault_of_read x)) → s ≡ Err e → IsErr t → IsErrAnd t (λ y. y ≡ e) → ReadsScript object old new t
 unread_is object old new r s e t counts m is h k = subst (ReadsScript object old new) (sym (err_is t e h k)) (unread_by object old new r s e counts m is)

@@ -6,6 +6,7 @@ use Rattle.pth_streams.specs.declared.sink.SinkErr.{SinkErr}
 use Rattle.pth_streams.specs.declared.sink.SinkErr.TheVariants as sink
 use Rattle.pth_print.specs.declared.fault_line.Fault.{Fault}
 use Rattle.pth_print.specs.declared.fault_line.Fault.TheVariants as fault
+use Rattle.pth_kernel.specs.Kernel.{KernelOf}
 use Rattle.pth_line.specs.Script.{Sections, functions_of}
 use Rattle.pth_words.specs.CommandWords.{Chooses, Asked, asked_of}
 use Rattle.pth_words.specs.declared.choice.Choice.{Choice}
@@ -82,13 +83,13 @@ module _ (asked : Option Asked) (ins : Inputs) (w : Option (List ℕ)) (a : ℕ)
       abbrev after : Scene
       after = scene later z b
 
-      drove_by : (script : Sections) (r : Result Outcome SinkErr) (s : Result Outcome Fault) → ReadsScript (object_of (Some x)) ins later (Ok script)
+      drove_by : (script : Sections × KernelOf) (r : Result Outcome SinkErr) (s : Result Outcome Fault) → ReadsScript (object_of (Some x)) ins later (Ok script)
           → Drives functions_of (given_script script) x w z a b r → MatchResult r (λ o. s ≡ Ok o) (λ e. IsErrAnd s (λ y. y ≡ fault_of_sink e)) → Ran (Some x) before after s
-      drove_by script (Ok o) s h d e = subst (λ y. Ran (Some x) before after y) (sym e) (h.0, (h.1.0, h.1.1, script, h.1.2, d))
-      drove_by script (Err sink.Failed) s h d e = subst (λ y. Ran (Some x) before after y) (sym (err_and s fault.WriteFault e)) (h.0, (h.1.0, h.1.1, script, h.1.2, d))
-      drove_by script (Err sink.OutOfMemory) s h d e = subst (λ y. Ran (Some x) before after y) (sym (err_and s fault.OutOfMemory e)) (read_stood (object_of (Some x)) ins later h.0, inr (h.1.0, h.1.1, script, h.1.2, d))
+      drove_by script (Ok o) s h d e = subst (λ y. Ran (Some x) before after y) (sym e) (h.0, (h.1.0, h.1.1, given_script script, h.1.2, d))
+      drove_by script (Err sink.Failed) s h d e = subst (λ y. Ran (Some x) before after y) (sym (err_and s fault.WriteFault e)) (h.0, (h.1.0, h.1.1, given_script script, h.1.2, d))
+      drove_by script (Err sink.OutOfMemory) s h d e = subst (λ y. Ran (Some x) before after y) (sym (err_and s fault.OutOfMemory e)) (read_stood (object_of (Some x)) ins later h.0, inr (h.1.0, h.1.1, given_script script, h.1.2, d))
 
       -- the machine was driven
-      pub drove : (script : Sections) (r : Result Outcome SinkErr) (s : Result Outcome Fault) → ReadsScript (object_of (Some x)) ins later (Ok script)
+      pub drove : (script : Sections × KernelOf) (r : Result Outcome SinkErr) (s : Result Outcome Fault) → ReadsScript (object_of (Some x)) ins later (Ok script)
           → Drives functions_of (given_script script) x w z a b r → MatchResult r (λ o. s ≡ Ok o) (λ e. IsErrAnd s (λ y. y ≡ fault_of_sink e)) → Ran asked before after s
       drove script r s h d e = subst (λ o. Ran o before after s) (sym is) (drove_by script r s h d e)

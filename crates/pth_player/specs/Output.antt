@@ -3,6 +3,7 @@ use Rattle.std.specs.Prelude.{◌≡◌, ◌⊎◌, ℕ, List, [], Option, Some,
 use Rattle.pth_base.specs.Program.{Functions}
 use Rattle.pth_base.specs.declared.outcome.Outcome.{Outcome}
 use Rattle.pth_base.specs.declared.outcome.Outcome.TheVariants as outcomes
+use Rattle.pth_kernel.specs.Kernel.{KernelOf, kernel_of}
 use Rattle.pth_model.specs.State.{Given}
 use Rattle.pth_model.specs.Course.{Course}
 use Rattle.pth_model.specs.Run.{run, GoesTo}
@@ -11,15 +12,19 @@ use Rattle.pth_print.specs.declared.fault_line.Fault.{Fault}
 use Rattle.pth_print.specs.declared.fault_line.Fault.TheVariants as fault
 use Rattle.pth_line.specs.Script.{Sections, functions_of}
 use Rattle.pth_script.specs.Broken.{IsAccepted, IsRefusal}
-use Rattle.pth_script.specs.Meaning.{IsScriptOf}
+use Rattle.pth_script.specs.Meaning.{IsScriptOf, IsKernelOf}
 use Rattle.pth_text.specs.declared.rule.Breach.{Breach}
 use Rattle.pth_words.specs.CommandWords.{Asked}
 use Rattle.pth_player.specs.Objects.{cut}
 use Rattle.pth_player.specs.Transcript.{text_of}
 
--- no line of the text breaks a rule, and it stands for this script
-abbrev pub IsTheScript : Sections → List ℕ → Type 0
-IsTheScript script text = IsAccepted text × IsScriptOf script text
+-- what the run of a text is given: the script and the kernel for which it stands
+abbrev pub given_script : Sections × KernelOf → Given Sections
+given_script read = record { program = read.0; kernel = kernel_of read.1 }
+
+-- no line of the text breaks a rule, and it stands for this script and this kernel
+abbrev pub IsTheScript : Given Sections → List ℕ → Type 0
+IsTheScript g text = IsAccepted text × IsScriptOf g.program text × IsKernelOf g.kernel text
 
 -- a line of the text, or the place after the last one, breaks a rule
 abbrev pub IsRefused : List ℕ → Type 0
@@ -59,14 +64,10 @@ module _ {P S H : Type 0} where
   abbrev pub IsRunOutput : (P → Functions S H) → Given P → Asked → Output → Type 0
   IsRunOutput f g asked out = (parts : ℕ) × GoesTo f g asked.steps 0 parts × (out ≡ told_output asked (run f g parts))
 
--- what the run of a script is given
-abbrev pub given_script : Sections → Given Sections
-given_script script = record { program = script }
-
 -- the output for an input: that of its script's run, or the refusal of the first line that breaks a rule
 abbrev pub IsInputOutput : Asked → List ℕ → Output → Type 0
 IsInputOutput asked text out =
-    ((script : Sections) × IsTheScript script text × IsRunOutput functions_of (given_script script) asked out)
+    ((g : Given Sections) × IsTheScript g text × IsRunOutput functions_of g asked out)
     ⊎ ((line : ℕ) × (b : Breach) × IsRefusal text line b × (out ≡ refusal (fault.Input line b)))
 
 -- the output for what the words ask for, where they are not refused, and the bytes of the object that they name

@@ -8,7 +8,9 @@ use Rattle.pth_streams.specs.declared.sink.SinkErr.TheVariants as sink
 use Rattle.pth_print.specs.FaultLines.{fault_line, fault_status}
 use Rattle.pth_print.specs.declared.fault_line.Fault.{Fault}
 use Rattle.pth_print.specs.declared.fault_line.Fault.TheVariants as fault
+use Rattle.pth_kernel.specs.Kernel.{KernelOf}
 use Rattle.pth_line.specs.Script.{Sections, functions_of}
+use Rattle.pth_model.specs.State.{Given}
 use Rattle.pth_script.specs.Broken.{IsRefusal}
 use Rattle.pth_text.specs.declared.rule.Breach.{Breach}
 use Rattle.pth_words.specs.CommandWords.{Asked}
@@ -23,9 +25,9 @@ use Rattle.pth_player.specs.Drive.{Drives}
 abbrev pub ReadsBytes : Object → Inputs → Inputs → List ℕ → Type 0
 ReadsBytes object old new bytes = ObjectRead object old new × ((held : List ℕ) × AreHeld (content_of object old) held × (bytes ≡ cut held))
 
--- a script was read of the object, or why not
-abbrev pub ReadsScript : Object → Inputs → Inputs → Result Sections Fault → Type 0
-ReadsScript object old new (Ok script) = ObjectRead object old new × ((bytes : List ℕ) × AreHeld (content_of object old) bytes × IsTheScript script (cut bytes))
+-- a script and its kernel were read of the object, or why not
+abbrev pub ReadsScript : Object → Inputs → Inputs → Result (Sections × KernelOf) Fault → Type 0
+ReadsScript object old new (Ok read) = ObjectRead object old new × ((bytes : List ℕ) × AreHeld (content_of object old) bytes × IsTheScript (given_script read) (cut bytes))
 ReadsScript object old new (Err (fault.Input line breach)) = ObjectRead object old new × ((bytes : List ℕ) × AreHeld (content_of object old) bytes × IsRefusal (cut bytes) line breach)
 ReadsScript object old new (Err fault.ReadFault) = ObjectRose object old new
 ReadsScript object old new (Err fault.OutOfMemory) = ObjectStood object old new
@@ -42,8 +44,8 @@ HoldsRefused asked s line breach = (bytes : List ℕ) × AreHeld (content (Some 
 
 -- the content is a script's text, and its machine was driven with this result
 abbrev pub DrivesScript : Asked → Scene → Scene → Result Outcome SinkErr → Type 0
-DrivesScript asked old new r = (bytes : List ℕ) × AreHeld (content (Some asked) old) bytes × (script : Sections) × IsTheScript script (cut bytes)
-    × Drives functions_of (given_script script) asked old.written new.written old.out_faults new.out_faults r
+DrivesScript asked old new r = (bytes : List ℕ) × AreHeld (content (Some asked) old) bytes × (g : Given Sections) × IsTheScript g (cut bytes)
+    × Drives functions_of g asked old.written new.written old.out_faults new.out_faults r
 
 -- nothing was written, and no write failed
 abbrev pub IsUnwritten : Scene → Scene → Type 0

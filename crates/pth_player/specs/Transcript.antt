@@ -7,6 +7,7 @@ use Rattle.pth_streams.specs.declared.sink.SinkErr.{SinkErr}
 use Rattle.pth_streams.specs.declared.sink.SinkErr.TheVariants as sink
 use Rattle.pth_model.specs.Course.{Course}
 use Rattle.pth_model.specs.Living.{live}
+use Rattle.pth_model.specs.State.{now_of}
 use Rattle.pth_print.specs.MarkLines.{mark_line}
 use Rattle.pth_print.specs.EndLines.{end_line, summary_line}
 use Rattle.pth_words.specs.CommandWords.{Asked}
@@ -23,7 +24,7 @@ shown_of asked marks = if asked.summary then [] else lines_of marks
 module _ {P S H : Type 0} where
   -- the line of counts: the threads ever made, the turns, the steps, and the moment
   abbrev pub counts_line : Course P S H → List ℕ
-  counts_line c = summary_line c.state.control.threads.made c.turn.turns c.turn.steps c.state.control.scheduler.now
+  counts_line c = summary_line c.state.control.threads.made c.turn.turns c.turn.steps (now_of c.state.control)
 
   -- the line of the outcome, after at most so many steps
   abbrev pub last_line : ℕ → Course P S H → List ℕ

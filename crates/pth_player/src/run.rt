@@ -1,14 +1,20 @@
 //! The words, the script and the run.
 
-ghost use Rattle.std.specs.Prelude.{map, string_bytes};
+ghost use Rattle.std.specs.Prelude.{◌≡◌, IfOk, map, string_bytes};
+ghost use Rattle.pth_line.specs.Script.{functions_of};
 ghost use Rattle.pth_words.specs.CommandWords.{asked_by};
+ghost use Rattle.pth_sched.specs.Running.{StandsAt};
 ghost use Rattle.pth_player.specs.Objects.{inputs, object_of, scene, OthersUntouched};
+ghost use Rattle.pth_player.specs.Output.{given_script};
 ghost use Rattle.pth_player.specs.Play.{Ran};
 
 use crate::drive::drive;
 use crate::faults::{fault_of_sink, fault_of_words};
 use crate::script::read_script;
+use pth_base::memory::OutOfMemory;
 use pth_base::outcome::Outcome;
+use pth_kernel::kernel::Kernel;
+use pth_line::script::Script;
 use pth_print::fault_line::Fault;
 use pth_sched::machine::Machine;
 use pth_streams::files::Files;
@@ -19,6 +25,15 @@ use std::alloc::Global;
 
 // How many steps are made between two writes.
 const PIECE: u64 = 1000;
+
+// The machine of a script on its kernel.
+fn machine_of(alloc: Global, read: (Script, Kernel)) -> Result<Machine<Script>, OutOfMemory>
+    ensures stands { IfOk result (λ m. StandsAt functions_of (given_script read) 0 m) }
+    ensures steps { IfOk result (λ m. m.turn.steps ≡ 0) }
+{
+    let (script, kernel) = read;
+    Machine::new(alloc, script, kernel)
+}
 
 /// All that the program does, but for what it tells of a fault.
 pub fn run<S: Source, F: Files, O: Sink>(
@@ -35,8 +50,8 @@ pub fn run<S: Source, F: Files, O: Sink>(
     ensures others { OthersUntouched (object_of (asked_by (map string_bytes words.now.items))) input.old input.new files.old files.new }
 {
     let choice = read_words(alloc, words).map_err(fault_of_words)?;
-    let script = read_script(alloc, choice.file, input, files)?;
-    let Ok(mut machine) = Machine::new(alloc, script) else {
+    let read = read_script(alloc, choice.file, input, files)?;
+    let Ok(mut machine) = machine_of(alloc, read) else {
         return Err(Fault::OutOfMemory);
     };
     drive(alloc, &mut machine, &choice, PIECE, out).map_err(fault_of_sink)

@@ -1,4 +1,4 @@
-//! The script that the words name, read from the input or from a file.
+//! The script that the words name, with its kernel, read from the input or from a file.
 
 ghost use Rattle.std.specs.Prelude.{IfOk, option_map};
 ghost use Rattle.pth_player.specs.Objects.{inputs, object_named, ObjectCounts, OthersUntouched};
@@ -7,6 +7,7 @@ ghost use Rattle.pth_player.specs.Play.{ReadsBytes, ReadsScript};
 
 use crate::faults::{fault_of_read, fault_of_script};
 use crate::streams::{ReadFault, read_started, read_up_to};
+use pth_kernel::kernel::Kernel;
 use pth_line::script::Script;
 use pth_print::fault_line::Fault;
 use pth_script::read::{TEXT_LIMIT, read};
@@ -47,13 +48,13 @@ fn read_bytes<S: Source, F: Files>(
     }
 }
 
-/// The script that stands under a name.
+/// The script and the kernel that stand under a name.
 pub fn read_script<S: Source, F: Files>(
     alloc: Global,
     name: Option<&str>,
     input: &mut S,
     files: &mut F,
-) -> Result<Script, Fault>
+) -> Result<(Script, Kernel), Fault>
     ensures script { ReadsScript (object_named (option_map (λ n. n.now) name.entry))
         (inputs (S.left input.old) (S.faults input.old) (F.left files.old) (F.held files.old) (F.faults files.old))
         (inputs (S.left input.new) (S.faults input.new) (F.left files.new) (F.held files.new) (F.faults files.new)) result }

@@ -12,13 +12,13 @@ returns-in_err-choice-clause-ran g c =
     unasked (asked_by (map string_bytes c.args.words.now.items)) ins (g.O.Sink.written c.args.out.now) (g.O.Sink.faults c.args.out.now) c.read_words.result c.map_err.result _ c.from_residual.result
     c.read_words.ensures.answers c.map_err.ensures.cases c.in_err-choice.was c.from_residual.ensures.0 c.from_residual.ensures.1
 
-pub returns-in_err-script-clause-ran : goal.returns-in_err-script-clause-ran
-returns-in_err-script-clause-ran g c =
+pub returns-in_err-read-clause-ran : goal.returns-in_err-read-clause-ran
+returns-in_err-read-clause-ran g c =
     let ins = inputs (g.S.Source.left c.args.input.now) (g.S.Source.faults c.args.input.now) (g.F.Files.left c.args.files.now) (g.F.Files.held c.args.files.now) (g.F.Files.faults c.args.files.now) in
     let later = inputs (g.S.Source.left c.read_script.new.input) (g.S.Source.faults c.read_script.new.input) (g.F.Files.left c.read_script.new.files) (g.F.Files.held c.read_script.new.files) (g.F.Files.faults c.read_script.new.files) in
     let asked = asked_by (map string_bytes c.args.words.now.items) in
     let is = is_asked asked c.read_words.result c.map_err.result c.in_ok-choice.choice c.read_words.ensures.answers c.map_err.ensures.cases c.in_ok-choice.was in
-    unread asked ins (g.O.Sink.written c.args.out.now) (g.O.Sink.faults c.args.out.now) later (asked_of c.in_ok-choice.choice) is _ _ c.in_err-script.ensures.script c.from_residual-in_err-script.ensures.0 c.from_residual-in_err-script.ensures.1
+    unread asked ins (g.O.Sink.written c.args.out.now) (g.O.Sink.faults c.args.out.now) later (asked_of c.in_ok-choice.choice) is _ _ c.in_err-read.ensures.script c.from_residual-in_err-read.ensures.0 c.from_residual-in_err-read.ensures.1
 
 pub returns-in_default-clause-ran : goal.returns-in_default-clause-ran
 returns-in_default-clause-ran g c =
@@ -26,7 +26,7 @@ returns-in_default-clause-ran g c =
     let later = inputs (g.S.Source.left c.read_script.new.input) (g.S.Source.faults c.read_script.new.input) (g.F.Files.left c.read_script.new.files) (g.F.Files.held c.read_script.new.files) (g.F.Files.faults c.read_script.new.files) in
     let asked = asked_by (map string_bytes c.args.words.now.items) in
     let is = is_asked asked c.read_words.result c.map_err.result c.in_ok-choice.choice c.read_words.ensures.answers c.map_err.ensures.cases c.in_ok-choice.was in
-    unmade asked ins (g.O.Sink.written c.args.out.now) (g.O.Sink.faults c.args.out.now) later (asked_of c.in_ok-choice.choice) is (read_stood _ ins later c.in_ok-script.ensures.script.0)
+    unmade asked ins (g.O.Sink.written c.args.out.now) (g.O.Sink.faults c.args.out.now) later (asked_of c.in_ok-choice.choice) is (read_stood _ ins later c.in_ok-read.ensures.script.0)
 
 pub returns-clause-ran : goal.returns-clause-ran
 returns-clause-ran g c =
@@ -35,13 +35,13 @@ returns-clause-ran g c =
     let asked = asked_by (map string_bytes c.args.words.now.items) in
     let is = is_asked asked c.read_words.result c.map_err.result c.in_ok-choice.choice c.read_words.ensures.answers c.map_err.ensures.cases c.in_ok-choice.was in
     drove asked ins (g.O.Sink.written c.args.out.now) (g.O.Sink.faults c.args.out.now) later (asked_of c.in_ok-choice.choice) is (g.O.Sink.written c.drive.new.out) (g.O.Sink.faults c.drive.new.out)
-    c.in_ok-script.script c.drive.result _ c.in_ok-script.ensures.script (c.drive.ensures.written (given_script c.in_ok-script.script) c.in-Ok.ensures.stands) c.map_err-2.ensures.cases
+    c.in_ok-read.read c.drive.result _ c.in_ok-read.ensures.script (c.drive.ensures.written (given_script c.in_ok-read.read) c.in-Ok.ensures.stands) c.map_err-2.ensures.cases
 
 pub returns-in_err-choice-clause-others : goal.returns-in_err-choice-clause-others
 returns-in_err-choice-clause-others g c = others_refl (object_of (asked_by (map string_bytes c.args.words.now.items))) c.args.input.now c.args.files.now
 
-pub returns-in_err-script-clause-others : goal.returns-in_err-script-clause-others
-returns-in_err-script-clause-others g c =
+pub returns-in_err-read-clause-others : goal.returns-in_err-read-clause-others
+returns-in_err-read-clause-others g c =
     let is = is_asked (asked_by (map string_bytes c.args.words.now.items)) c.read_words.result c.map_err.result c.in_ok-choice.choice c.read_words.ensures.answers c.map_err.ensures.cases c.in_ok-choice.was in
     subst (λ (o : Option Asked). OthersUntouched (object_of o) c.args.input.now c.read_script.new.input c.args.files.now c.read_script.new.files) (sym is) c.read_script.ensures.others
 
