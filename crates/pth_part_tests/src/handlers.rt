@@ -51,7 +51,7 @@ const ACTS: &str =
 
 #[test]
 fn a_handler_acts(rt: HostRuntime) -> Result<(), Fail> {
-    let script = read(rt.alloc(), HANDLERS.as_bytes())?;
+    let (script, _) = read(rt.alloc(), HANDLERS.as_bytes())?;
     let marks = acts_of(rt.alloc(), &script)?;
     let lines = lines_of(rt.alloc(), marks.as_slice())?;
     same_bytes(&rt, lines.as_slice(), ACTS);
@@ -83,7 +83,7 @@ fn holding(alloc: Global, script: &Script) -> Result<String, AllocError> {
 
 #[test]
 fn a_check_holds_by_its_relation(rt: HostRuntime) -> Result<(), Fail> {
-    let script = read(rt.alloc(), CHECKS.as_bytes())?;
+    let (script, _) = read(rt.alloc(), CHECKS.as_bytes())?;
     let text = holding(rt.alloc(), &script)?;
     same_text(
         &rt,

@@ -4,6 +4,8 @@
 #[cfg(test)]
 mod answers;
 #[cfg(test)]
+mod attempts;
+#[cfg(test)]
 mod attributes;
 #[cfg(test)]
 mod codes;
@@ -13,6 +15,8 @@ mod comparison;
 mod copies;
 #[cfg(test)]
 mod handlers;
+#[cfg(test)]
+mod kernels;
 #[cfg(test)]
 mod lines;
 #[cfg(test)]
@@ -31,5 +35,7 @@ mod rings;
 mod texts;
 #[cfg(test)]
 mod threads;
+#[cfg(test)]
+mod traces;
 #[cfg(test)]
 mod words;

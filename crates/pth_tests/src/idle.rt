@@ -1,14 +1,13 @@
-ghost use Rattle.std.specs.Prelude.{◌≡◌, ◌≤◌, ◌+◌, IfOk};
+ghost use Rattle.std.specs.Prelude.{◌≤◌, ◌+◌};
 
 use crate::comparison::same_text;
+use crate::pieces::machine_of;
 use pth_base::marks::Marks;
 use pth_base::outcome::Outcome;
 use pth_base::program::Program;
-use pth_line::script::Script;
 use pth_queue::queue::Queue;
 use pth_sched::machine::Machine;
-use pth_script::read::read;
-use std::alloc::{AllocError, Global};
+use std::alloc::AllocError;
 use std::process::Abort;
 use std::test::Fail;
 
@@ -18,13 +17,6 @@ const NAPS: &str = "pth 1\nthread 0\nnap 5\nnap 7\nend\n";
 /// The moment after each pass and move, and how many marks were told by then. The first turn ends at 1, and a pass wakes nobody;
 /// then time moves to the end of the nap, and wakes main.
 const MOVED: &str = "pass 1 2; idle 5 4; ";
-
-fn napping(alloc: Global) -> Result<Machine<Script>, Fail>
-    ensures { IfOk result (λ machine. machine.turn.steps ≡ 0) }
-{
-    let script = read(alloc, NAPS.as_bytes())?;
-    Ok(Machine::new(alloc, script)?)
-}
 
 /// Makes one turn, and a pass and a move of idle time after it. Whether all of these could be made.
 fn idle_on<P: Program>(
@@ -52,7 +44,7 @@ fn idle_on<P: Program>(
 
 #[test]
 fn time_moves_by_hand(rt: HostRuntime) -> Result<(), Fail> {
-    let mut machine = napping(rt.alloc())?;
+    let mut machine = machine_of(rt.alloc(), NAPS)?;
     let mut marks = Marks::new(rt.alloc());
     let mut told = String::new(rt.alloc());
     assert!(rt; idle_on(&mut machine, &mut marks, &mut told)?);

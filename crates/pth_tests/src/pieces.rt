@@ -28,11 +28,18 @@ const PIECES: [(u64, u64, &str); 7] = [
     (0, 1, "turn 1 at 0 t1 rank 0\nstep limit 0\n"),
 ];
 
+/// The machine of a text, with its kernel.
+pub fn machine_of(alloc: Global, text: &str) -> Result<Machine<Script>, Fail>
+    ensures { IfOk result (λ machine. machine.turn.steps ≡ 0) }
+{
+    let (script, kernel) = read(alloc, text.as_bytes())?;
+    Ok(Machine::new(alloc, script, kernel)?)
+}
+
 pub fn machine(alloc: Global) -> Result<Machine<Script>, Fail>
     ensures { IfOk result (λ machine. machine.turn.steps ≡ 0) }
 {
-    let script = read(alloc, SCRIPT.as_bytes())?;
-    Ok(Machine::new(alloc, script)?)
+    machine_of(alloc, SCRIPT)
 }
 
 /// Makes as many steps as the choice asks for, and so many between two writes.
