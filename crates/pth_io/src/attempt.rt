@@ -14,6 +14,21 @@ pub enum Attempt {
     NotYet,
 }
 
+impl Attempt {
+    ghost use Rattle.std.specs.Prelude.{◌≡◌};
+    ghost use Rattle.pth_io.specs.Answered.{answered};
+
+    /// The answer, where there is one.
+    pub fn answer(self) -> Option<Answer>
+        ensures { result ≡ answered self }
+    {
+        match self {
+            Attempt::Done(answer) => Some(answer),
+            Attempt::NotYet => None,
+        }
+    }
+}
+
 pub(crate) fn fails(e: Errno) -> Attempt
     ensures { answered result ≡ fails e }
 {

@@ -111,7 +111,6 @@ fn write_attempt(live: bool, faulty: bool, total: usize, done: usize, now: usize
 /// Writes to descriptor `f` what fits of the bytes from place `done` on (`pth_write`), and says how many are written then. Answered
 /// with their number once all are written. Where `f` is not open (EBADF) or has failed (EIO), with what was done before, or the error
 /// where nothing was.
-#[tactic(auto, unfolding(crate::specs::Attempts::write_after, crate::specs::Attempts::written))]
 pub fn try_write(k: &mut Kernel, f: i64, bytes: &Bytes, done: usize) -> (usize, Attempt)
     requires { done ≤ length bytes.now }
     ensures written { result.0 ≡ written (kernel_of k.old) (fd_named f) (length bytes.now) done }
@@ -119,7 +118,19 @@ pub fn try_write(k: &mut Kernel, f: i64, bytes: &Bytes, done: usize) -> (usize, 
     ensures answer { answered result.1 ≡ write_answer (kernel_of k.old) (fd_named f) (length bytes.now) done }
     ensures after { kernel_of k.new ≡ write_after (fd_named f) (length bytes.now) done (kernel_of k.old) }
 {
-    let total = bytes.as_slice().len();
+    try_write_of(k, f, bytes.as_slice().len(), done)
+}
+
+/// The same of `total` bytes, wherever they are kept: the kernel counts them alone.
+#[tactic(auto, unfolding(crate::specs::Attempts::write_after, crate::specs::Attempts::written))]
+pub fn try_write_of(k: &mut Kernel, f: i64, total: usize, done: usize) -> (usize, Attempt)
+    requires few { total < 2 ^ 63 }
+    requires part { done ≤ total }
+    ensures written { result.0 ≡ written (kernel_of k.old) (fd_named f) total done }
+    ensures within { result.0 ≤ total }
+    ensures answer { answered result.1 ≡ write_answer (kernel_of k.old) (fd_named f) total done }
+    ensures after { kernel_of k.new ≡ write_after (fd_named f) total done (kernel_of k.old) }
+{
     let more = fits(k, f, total, done);
     let attempt = write_attempt(k.is_live(f), k.faulty(f), total, done, done + more);
     k.give(f, more as u64);
