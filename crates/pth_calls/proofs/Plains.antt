@@ -178,6 +178,16 @@ module _ {P S H : Type 0} (f : P → Functions S H) (s : State P S H) (t : ℕ) 
   unbuilt_row (call.EvFree e all) plain none = absurd (cc none)
   unbuilt_row (call.Usleep n) plain none = absurd (cc plain)
   unbuilt_row (call.Sleep n) plain none = absurd (cc plain)
+  unbuilt_row (call.Read d n) plain none = absurd (cc plain)
+  unbuilt_row (call.ReadEv d n e) plain none = absurd (cc plain)
+  unbuilt_row (call.Write d b) plain none = absurd (cc plain)
+  unbuilt_row (call.WriteEv d b e) plain none = absurd (cc plain)
+  unbuilt_row (call.Accept d) plain none = absurd (cc plain)
+  unbuilt_row (call.AcceptEv d e) plain none = absurd (cc plain)
+  unbuilt_row (call.Connect d) plain none = absurd (cc plain)
+  unbuilt_row (call.ConnectEv d e) plain none = absurd (cc plain)
+  unbuilt_row (call.Select r w x l) plain none = absurd (cc plain)
+  unbuilt_row (call.SelectEv r w x l e) plain none = absurd (cc plain)
   unbuilt_row (call.Close d) plain none = absurd (cc none)
   unbuilt_row call.Plain plain none = absurd (cc plain)
   unbuilt_row (call.Note v) plain none = absurd (cc plain)
@@ -199,21 +209,3 @@ module _ {P S H : Type 0} (f : P → Functions S H) (s : State P S H) (t : ℕ) 
   unbuilt_thread_row (call.Join n) plain threads no_spawn no_self no_suspend no_resume = absurd (cc plain)
   unbuilt_thread_row (call.Exit v) plain threads no_spawn no_self no_suspend no_resume = absurd (cc plain)
   unbuilt_thread_row c plain threads no_spawn no_self no_suspend no_resume = absurd (cc threads)
-
-  -- and those on descriptors
-  pub unbuilt_descriptor_row : (c : Call) → is_plain c ≡ true → facility_of c ≡ Some facility.Io → ((d : _) → c ≢ call.Close d) → row_of f s t c ≡ unbuilt
-  unfolding row_of
-  unbuilt_descriptor_row (call.Usleep n) plain io no_close = absurd (cc plain)
-  unbuilt_descriptor_row (call.Sleep n) plain io no_close = absurd (cc plain)
-  unbuilt_descriptor_row (call.Read d n) plain io no_close = refl
-  unbuilt_descriptor_row (call.ReadEv d n e) plain io no_close = refl
-  unbuilt_descriptor_row (call.Write d b) plain io no_close = refl
-  unbuilt_descriptor_row (call.WriteEv d b e) plain io no_close = refl
-  unbuilt_descriptor_row (call.Accept d) plain io no_close = refl
-  unbuilt_descriptor_row (call.AcceptEv d e) plain io no_close = refl
-  unbuilt_descriptor_row (call.Connect d) plain io no_close = refl
-  unbuilt_descriptor_row (call.ConnectEv d e) plain io no_close = refl
-  unbuilt_descriptor_row (call.Select r w x l) plain io no_close = refl
-  unbuilt_descriptor_row (call.SelectEv r w x l e) plain io no_close = refl
-  unbuilt_descriptor_row (call.Close d) plain io no_close = absurd (no_close d refl)
-  unbuilt_descriptor_row c plain io no_close = absurd (cc io)

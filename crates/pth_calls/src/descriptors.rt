@@ -1,4 +1,4 @@
-//! Descriptors: `close`. The calls that read and write are not built yet.
+//! Descriptors: `close`.
 
 ghost use Rattle.std.specs.Prelude.{◌≡◌, ℕ, true, false, Some};
 ghost use Rattle.pth_base.specs.Facilities.{facility_of};
@@ -16,7 +16,6 @@ ghost use Rattle.pth_world.specs.Whole.{Whole};
 use crate::saying::done;
 use pth_base::answer::Answer;
 use pth_base::call::Call;
-use pth_base::errno::Errno;
 use pth_base::program::Program;
 use pth_world::world::World;
 
@@ -40,6 +39,6 @@ pub(crate) fn answer_descriptors<P: Program>(w: &mut World<P>, call: &Call) -> A
 {
     match call {
         Call::Close(f) => close(w, *f),
-        _ => Answer::Fail(Errno::EINVAL),
+        _ => unreachable!(),
     }
 }

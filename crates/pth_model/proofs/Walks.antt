@@ -1,5 +1,5 @@
 -- What calls keep of the control, by the changes of which they are made.
-use Rattle.std.proofs.Common.{◌≡◌, ◌≢◌, ◌==◌, ◌&&◌, ◌||◌, not, ℕ, ℤ, pos, negsuc, Bool, true, false, if◌then◌else◌, Option, Some, None, is_some, refl}
+use Rattle.std.proofs.Common.{◌≡◌, ◌≢◌, ◌==◌, ◌&&◌, ◌||◌, not, ℕ, ℤ, pos, negsuc, Bool, true, false, if◌then◌else◌, Option, Some, None, is_some, length, refl, sym, subst}
 use Rattle.std.proofs.lemmas.Bool.{not-false}
 use Rattle.pth_base.specs.Program.{Functions}
 use Rattle.pth_base.specs.declared.call.Call.{Call}
@@ -28,7 +28,10 @@ use Rattle.pth_model.specs.RingWaits.{claims, gives_back, stops_waiting, ring_gi
 use Rattle.pth_model.specs.EventHandling.{spec_of, made_as, make_event, chain}
 use Rattle.pth_base.specs.declared.event.EventSpec.{EventSpec}
 use Rattle.pth_base.specs.declared.event.EvLine.{EvLine}
-use Rattle.pth_kernel.specs.Kernel.{Descriptor, fd_named, with_mode}
+use Rattle.pth_kernel.specs.Kernel.{Kernel, Descriptor, fd_named, with_mode, is_fd_live, connections, earliest, connection_accepted}
+use Rattle.pth_io.specs.Attempts.{read_answer, read_after, write_after, accept_after, taken_by}
+use Rattle.pth_base.specs.declared.answer.Answer.{Answer}
+use Rattle.pth_base.specs.declared.answer.Answer.TheVariants.{Bytes}
 use Rattle.pth_kernel.specs.Modes.{sets_mode}
 use Rattle.pth_ring.specs.Rings.{Events, make_answer, chain_answer, alone, chained}
 use Rattle.pth_base.specs.declared.event.EvLine.TheVariants as line
@@ -82,6 +85,34 @@ module _ {P S H : Type 0} where
       let known = passes _ _ _ h in
       let other = passes _ _ _ known.1 in
       named_other s.control n t (not-false _ known.0) (neither (n is t) _ other.0).0
+
+-- a kernel of which the descriptors alone are other ones
+abbrev IsDescribed : Kernel → Kernel → Type 0
+IsDescribed k l = (ds : ℕ → Descriptor) × (l ≡ record k { descriptors = ds })
+
+taken_describes : (f : ℕ) (a : Option Answer) (k : Kernel) → IsDescribed k (taken_by f a k)
+taken_describes f (Some (Bytes bytes)) k = (_, refl)
+taken_describes f a k = (k.descriptors, refl)
+
+accepted_describes : (f : ℕ) (g : Option ℕ) (k : Kernel) → IsDescribed k (connection_accepted f g k)
+accepted_describes f None k = (k.descriptors, refl)
+accepted_describes f (Some g) k = (_, refl)
+
+accepts_describes : (b : Bool) (f : ℕ) (g : Option ℕ) (k : Kernel) → IsDescribed k (if b then connection_accepted f g k else k)
+accepts_describes true f g k = accepted_describes f g k
+accepts_describes false f g k = (k.descriptors, refl)
+
+read_describes : (f : ℕ) (n : ℤ) (k : Kernel) → IsDescribed k (read_after f n k)
+unfolding read_after
+read_describes f n k = taken_describes f (read_answer k f n) k
+
+write_describes : (f total done : ℕ) (k : Kernel) → IsDescribed k (write_after f total done k)
+unfolding write_after
+write_describes f total done k = (_, refl)
+
+accept_describes : (f : ℕ) (k : Kernel) → IsDescribed k (accept_after f k)
+unfolding accept_after
+accept_describes f k = accepts_describes (is_fd_live k f) f (earliest (connections k f)) k
 
 -- what of a control is kept by every change of which calls of thread t are made
 pub record KeptBy {P S H : Type 0} (f : P → Functions S H) (t : ℕ) (Q : Control P S H → Type 0) : Type 0 where
@@ -166,6 +197,10 @@ module _ {P S H : Type 0} (f : P → Functions S H) (t : ℕ) (Q : Control P S H
       by_mode false = kept.described _ s.control q
   modes_keep s f (negsuc m) q = q
 
+  -- a call that changes descriptors alone
+  describes_keep : (s : State P S H) (g : Kernel → Kernel) → IsDescribed s.control.kernel (g s.control.kernel) → KeepsAt s (changes (with_kernel g))
+  describes_keep s g d q = subst (λ (l : Kernel). Q (record s.control { kernel = l })) (sym d.1) (kept.described d.0 s.control q)
+
   -- whether a join takes a thread or none
   joins_keeps : (s : State P S H) (o : Option ℕ) → KeepsAt s (changes (takes_joined o))
   joins_keeps s None q = q
@@ -201,6 +236,12 @@ module _ {P S H : Type 0} (f : P → Functions S H) (t : ℕ) (Q : Control P S H
   does_keeps s (call.EvIsolate a) e q = kept.evented _ s.control q
   does_keeps s (call.EvFree a all) e q = kept.evented _ s.control q
   does_keeps s (call.Fdmode d m) e q = modes_keep s (fd_named d) m q
+  does_keeps s (call.Read d n) e q = describes_keep s (read_after (fd_named d) n) (read_describes (fd_named d) n s.control.kernel) q
+  does_keeps s (call.ReadEv d n x) e q = describes_keep s (read_after (fd_named d) n) (read_describes (fd_named d) n s.control.kernel) q
+  does_keeps s (call.Write d bytes) e q = describes_keep s (write_after (fd_named d) (length bytes) 0) (write_describes (fd_named d) (length bytes) 0 s.control.kernel) q
+  does_keeps s (call.WriteEv d bytes x) e q = describes_keep s (write_after (fd_named d) (length bytes) 0) (write_describes (fd_named d) (length bytes) 0 s.control.kernel) q
+  does_keeps s (call.Accept d) e q = describes_keep s (accept_after (fd_named d)) (accept_describes (fd_named d) s.control.kernel) q
+  does_keeps s (call.AcceptEv d x) e q = describes_keep s (accept_after (fd_named d)) (accept_describes (fd_named d) s.control.kernel) q
   does_keeps s (call.Close d) e q = kept.described _ s.control q
   does_keeps s (call.Join n) e q = joins_keeps s (to_join s.control n) q
   does_keeps s c e q = q
@@ -248,6 +289,12 @@ module _ {P S H : Type 0} (f : P → Functions S H) (t : ℕ) (Q : Control P S H
   does_again s (call.EvTid state n) b q = make_again s (line.Tid state n) b q
   does_again s (call.EvFunc c v l) b q = make_again s (line.Func c v l) b q
   does_again s (call.Chain n l) b q = chain_again s n l b q
+  does_again s (call.Read d n) b q = describes_keep s (read_after (fd_named d) n) (read_describes (fd_named d) n s.control.kernel) q
+  does_again s (call.ReadEv d n x) b q = describes_keep s (read_after (fd_named d) n) (read_describes (fd_named d) n s.control.kernel) q
+  does_again s (call.Write d bytes) b q = describes_keep s (write_after (fd_named d) (length bytes) b.written) (write_describes (fd_named d) (length bytes) b.written s.control.kernel) q
+  does_again s (call.WriteEv d bytes x) b q = describes_keep s (write_after (fd_named d) (length bytes) b.written) (write_describes (fd_named d) (length bytes) b.written s.control.kernel) q
+  does_again s (call.Accept d) b q = describes_keep s (accept_after (fd_named d)) (accept_describes (fd_named d) s.control.kernel) q
+  does_again s (call.AcceptEv d x) b q = describes_keep s (accept_after (fd_named d)) (accept_describes (fd_named d) s.control.kernel) q
   does_again s (call.Join n) b q = joins_keeps s (to_join s.control n) q
   does_again s c b q = q
 

@@ -10,7 +10,7 @@ use Rattle.pth_base.specs.declared.mark.Mark.TheVariants as mark
 use Rattle.pth_model.specs.declared.blocked.Blocked.{Blocked}
 use Rattle.pth_model.specs.declared.blocked.Retake.TheVariants as retake
 use Rattle.pth_model.specs.declared.next.Next.TheVariants as next
-use Rattle.pth_model.specs.Verdict.{Verdict, Pause, Says, Yields, Blocks, Ends, Kills, refused}
+use Rattle.pth_model.specs.Verdict.{Verdict, Pause, Says, Yields, Blocks, Ends, Kills, counts_or}
 use Rattle.pth_model.specs.State.{State, now_of}
 use Rattle.pth_model.specs.Transition.{Piece, Change, Last, silent, changes, tells, tid, ◌and◌, ◌and_then◌, ◌and_next◌, ◌and_finally◌}
 use Rattle.pth_model.specs.Changes.{is_blocked_by, blocked_of}
@@ -23,16 +23,16 @@ use Rattle.pth_model.specs.Rows.{row_of}
 abbrev pub blocked_from : ℕ → Call → Pause → Blocked
 blocked_from now c p = record { call = c; begin = now; moment = p.moment; written = p.written; round = p.round; retake = retake.No }
 
--- what blocks is answered EINTR
+-- what blocks is answered EINTR, or with its count where it wrote a part
 abbrev pub interrupted : Verdict → Verdict
 interrupted (Says a) = Says a
 interrupted (Yields a) = Yields a
-interrupted (Blocks p) = refused EINTR
+interrupted (Blocks p) = counts_or p.written EINTR
 interrupted (Ends v) = Ends v
 interrupted Kills = Kills
 
 module _ {P S H : Type 0} where
-  -- a call that would block on is answered EINTR where an event of the ring that it was given has come
+  -- a call that would block on is interrupted where an event of the ring that it was given has come
   abbrev pub unless_come : Bool → Attempt P S H → Attempt P S H
   unless_come false a = a
   unless_come true a = record a { verdict = interrupted a.verdict }

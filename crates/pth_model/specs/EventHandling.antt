@@ -2,7 +2,6 @@
 -- pth_event_free, and pth_wait. The answers stand beside the rings, with the refusals of each call in order.
 use Rattle.std.specs.Prelude.{ℕ, ℤ, ◌&&◌, nat_lt, Bool, false, Option, Some, None, if◌then◌else◌}
 use Rattle.pth_base.specs.declared.answer.Answer.TheVariants.{Int}
-use Rattle.pth_base.specs.declared.errno.Errno.TheVariants.{EINVAL}
 use Rattle.pth_base.specs.declared.event.EvLine.{EvLine}
 use Rattle.pth_base.specs.declared.event.EvLine.TheVariants as line
 use Rattle.pth_base.specs.declared.event.EventSpec.{EventSpec}
@@ -13,7 +12,7 @@ use Rattle.pth_numbered.specs.Operands.{number, is_below}
 use Rattle.pth_ring.specs.declared.event.Status.{Status}
 use Rattle.pth_ring.specs.declared.event.Status.TheVariants.{Pending, Occurred, Failed}
 use Rattle.pth_ring.specs.Rings.{make_answer, chain_answer, concat_answer, isolate_answer, walk_answer, status_answer, kind_answer, free_answer, claim_answer, settled_in, alone, chained, concatenated, isolated, freed, ring_freed}
-use Rattle.pth_model.specs.Verdict.{Verdict, Says, refused, says, done, by_result, waits, ◌when◌otherwise◌, refused_as◌otherwise◌}
+use Rattle.pth_model.specs.Verdict.{Verdict, Says, says, done, by_result, waits, ◌when◌otherwise◌, refused_as◌otherwise◌}
 use Rattle.pth_model.specs.State.{State}
 use Rattle.pth_model.specs.Transition.{Change, silent, nothing}
 use Rattle.pth_model.specs.Changes.{with_events}

@@ -3,9 +3,10 @@
 -- an event.
 use Rattle.std.specs.Prelude.{ℕ, zero, suc, ◌+◌, pos, false, List, [], ◌∷◌, None}
 use Rattle.pth_base.specs.Program.{Functions}
-use Rattle.pth_base.specs.declared.answer.Answer.TheVariants.{Int}
+use Rattle.pth_base.specs.declared.answer.Answer.TheVariants.{Int, Bytes}
+use Rattle.pth_kernel.specs.declared.trace.Entry.TheVariants.{Arrive}
 use Rattle.pth_base.specs.declared.call.Call.{Call}
-use Rattle.pth_base.specs.declared.call.Call.TheVariants.{Spawn, Suspend, Resume, Yield, Nap, Wait, Join, Exit, EvTime}
+use Rattle.pth_base.specs.declared.call.Call.TheVariants.{Spawn, Suspend, Resume, Yield, Nap, Wait, Join, Exit, EvTime, Read}
 use Rattle.pth_base.specs.declared.mark.Mark.{Mark}
 use Rattle.pth_kernel.specs.Kernel.{started}
 use Rattle.pth_model.specs.State.{Given}
@@ -128,5 +129,30 @@ waiting_marks =
     ∷ Woke (tid 1) (pos 1)
     ∷ Dispatch 2 8 (tid 1) (pos 1) 0 0
     ∷ Answered (tid 1) (Wait (pos 1)) (Int (pos 1))
+    ∷ Ended (tid 1) (pos 0)
+    ∷ []
+
+-- ---- a read
+
+-- one byte comes to descriptor 3, which is open from the start
+abbrev pub given_a_byte : Given ℕ
+given_a_byte = record { program = 0; kernel = started 1 8 (record { at = 5; fd = record { 0 = 3 }; what = Arrive (97 ∷ []) } ∷ []) }
+
+abbrev pub reading_call_at : ℕ → Call
+reading_call_at zero = Read (pos 3) (pos 10)
+reading_call_at (suc n) = Exit (pos 0)
+
+abbrev pub reading_bodies : ℕ → Functions Place ℕ
+reading_bodies p = record (two_bodies p) { step = λ s h answer. record { call = reading_call_at s.gone; state = record s { gone = s.gone + 1 }; shared = h } }
+
+-- time moves to the moment at which the byte comes
+abbrev pub reading_marks : List Mark
+reading_marks =
+    Dispatch 1 0 (tid 1) (pos 0) 0 0
+    ∷ Waits (tid 1) (Read (pos 3) (pos 10))
+    ∷ Moved 5
+    ∷ Woke (tid 1) (pos 1)
+    ∷ Dispatch 2 5 (tid 1) (pos 1) 0 0
+    ∷ Answered (tid 1) (Read (pos 3) (pos 10)) (Bytes (97 ∷ []))
     ∷ Ended (tid 1) (pos 0)
     ∷ []

@@ -15,14 +15,14 @@ use Rattle.pth_model.specs.Changes.{with_events}
 
 module _ {P S H : Type 0} (k : Control P S H) where
   -- an event of descriptors never comes any more where one of them is not live (PTH_EVENT_FD, PTH_EVENT_SELECT)
-  abbrev pub is_gone : EventSpec → Bool
-  is_gone (of.Fd goals fd) = not (is_fd_live k.kernel (fd_named fd))
-  is_gone (of.Select r w x) = not (are_all_live k.kernel r.0 w.0 x.0)
-  is_gone (of.Time at) = false
-  is_gone (of.Msg p) = false
-  is_gone (of.Tid state t) = false
-  is_gone (of.Func check arg interval) = false
-  is_gone (of.Cond c) = false
+  abbrev pub never_occurs : EventSpec → Bool
+  never_occurs (of.Fd goals fd) = not (is_fd_live k.kernel (fd_named fd))
+  never_occurs (of.Select r w x) = not (are_all_live k.kernel r.0 w.0 x.0)
+  never_occurs (of.Time at) = false
+  never_occurs (of.Msg p) = false
+  never_occurs (of.Tid state t) = false
+  never_occurs (of.Func check arg interval) = false
+  never_occurs (of.Cond c) = false
 
   -- it occurs where a descriptor is as its goals say; one of a moment occurs then, and at all later moments (PTH_EVENT_TIME);
   -- events of other kinds are not built yet
@@ -39,7 +39,7 @@ module _ {P S H : Type 0} (k : Control P S H) where
   occurs (of.Cond c) = false
 
   abbrev pub found : EventSpec → Status
-  found spec = if is_gone spec then Failed else (if occurs spec then Occurred else Pending)
+  found spec = if never_occurs spec then Failed else (if occurs spec then Occurred else Pending)
 
   -- an event that is looked at
   abbrev pub looked_at : Event → Event

@@ -1,18 +1,27 @@
 -- The rings of events for which threads wait. A call that was given an event claims its ring as it blocks its thread, and the
 -- claim stands at that event until the call is answered, or its thread ends.
-use Rattle.std.specs.Prelude.{ℕ, ℤ, List, [], Option, Some, None, nat_lt, Bool, false}
+use Rattle.std.specs.Prelude.{ℕ, ℤ, List, [], Option, Some, None, nat_lt, Bool, false, if◌then◌else◌}
 use Rattle.pth_base.specs.declared.call.Call.{Call}
 use Rattle.pth_base.specs.declared.call.Call.TheVariants as call
-use Rattle.pth_numbered.specs.Operands.{number}
+use Rattle.pth_numbered.specs.Operands.{number, is_zero}
 use Rattle.pth_ring.specs.Rings.{Events, claimed, with_event, with_claim, settled_in}
 use Rattle.pth_model.specs.declared.blocked.Blocked.{Blocked}
 use Rattle.pth_model.specs.State.{Control, now_of}
 use Rattle.pth_model.specs.Transition.{Change, nothing, tid, ◌and◌}
 use Rattle.pth_model.specs.Changes.{with_events, is_blocked_by, blocked_of}
 
--- the event that a call was given to wait for: of the calls that are built, pth_wait is given one
+-- the ring that a call on a descriptor was given beside it: 0 is none
+abbrev pub extra_ring : ℤ → Option ℤ
+extra_ring e = if is_zero e then None else Some e
+
+-- the event that a call was given to wait for
 abbrev pub ring_given : Call → Option ℤ
 ring_given (call.Wait e) = Some e
+ring_given (call.ReadEv f n e) = extra_ring e
+ring_given (call.WriteEv f bytes e) = extra_ring e
+ring_given (call.AcceptEv f e) = extra_ring e
+ring_given (call.ConnectEv f e) = extra_ring e
+ring_given (call.SelectEv r w x l e) = extra_ring e
 ring_given c = None
 
 abbrev pub ring_held : Option Blocked → Option ℤ

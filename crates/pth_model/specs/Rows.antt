@@ -1,5 +1,5 @@
 -- The row of each call. Its parts stand with its facility, in pth(3)'s order.
-use Rattle.std.specs.Prelude.{ℕ}
+use Rattle.std.specs.Prelude.{ℕ, None}
 use Rattle.pth_base.specs.Program.{Functions}
 use Rattle.pth_base.specs.declared.answer.Answer.TheVariants as answer
 use Rattle.pth_base.specs.declared.call.Call.{Call}
@@ -15,7 +15,8 @@ use Rattle.pth_model.specs.ThreadControl.{spawn, self, suspend, resume, yield, j
 use Rattle.pth_model.specs.EventHandling.{make_event, chain, ev_concat, ev_isolate, ev_walk, ev_status, ev_kind, ev_free, wait}
 use Rattle.pth_model.specs.ThreadEnds.{exit}
 use Rattle.pth_model.specs.Times.{timeout, nap, usleep, sleep}
-use Rattle.pth_model.specs.Io.{fdmode, close}
+use Rattle.pth_model.specs.RingWaits.{extra_ring}
+use Rattle.pth_model.specs.Io.{read, write, accept, connect, select, fdmode, close}
 
 module _ {P S H : Type 0} (f : P → Functions S H) (s : State P S H) (t : ℕ) where
   -- the row of a call of t
@@ -84,16 +85,16 @@ module _ {P S H : Type 0} (f : P → Functions S H) (s : State P S H) (t : ℕ) 
   row_of (call.BarrierReach b) = unbuilt
   row_of (call.Usleep l) = usleep s l
   row_of (call.Sleep l) = sleep s l
-  row_of (call.Read d n) = unbuilt
-  row_of (call.ReadEv d n e) = unbuilt
-  row_of (call.Write d bytes) = unbuilt
-  row_of (call.WriteEv d bytes e) = unbuilt
-  row_of (call.Accept d) = unbuilt
-  row_of (call.AcceptEv d e) = unbuilt
-  row_of (call.Connect d) = unbuilt
-  row_of (call.ConnectEv d e) = unbuilt
-  row_of (call.Select r w x l) = unbuilt
-  row_of (call.SelectEv r w x l e) = unbuilt
+  row_of (call.Read d n) = read s d n None
+  row_of (call.ReadEv d n e) = read s d n (extra_ring e)
+  row_of (call.Write d bytes) = write s d bytes None
+  row_of (call.WriteEv d bytes e) = write s d bytes (extra_ring e)
+  row_of (call.Accept d) = accept s d None
+  row_of (call.AcceptEv d e) = accept s d (extra_ring e)
+  row_of (call.Connect d) = connect s d None
+  row_of (call.ConnectEv d e) = connect s d (extra_ring e)
+  row_of (call.Select r w x l) = select s r.0 w.0 x.0 l None
+  row_of (call.SelectEv r w x l e) = select s r.0 w.0 x.0 l (extra_ring e)
   row_of (call.Close d) = close s d
   -- a plain line and a note of a body call nothing, and are told otherwise
   row_of call.Plain = Says answer.None changing nothing

@@ -1,5 +1,5 @@
 -- What an attempt at a call comes to, and how its row says so.
-use Rattle.std.specs.Prelude.{ℕ, ℤ, pos, Bool, true, false, Result, Ok, Err}
+use Rattle.std.specs.Prelude.{ℕ, nat_lt, ℤ, pos, Bool, true, false, Option, Some, None, Result, Ok, Err}
 use Rattle.pth_base.specs.declared.answer.Answer.{Answer}
 use Rattle.pth_base.specs.declared.answer.Answer.TheVariants.{Int, Fail}
 use Rattle.pth_base.specs.declared.errno.Errno.{Errno}
@@ -36,6 +36,15 @@ refused e = Says (Fail e)
 
 abbrev pub says : ℕ → Verdict
 says n = Says (Int (pos n))
+
+-- an answer, or else what follows
+abbrev pub said_or : Option Answer → Verdict → Verdict
+said_or (Some a) v = Says a
+said_or None v = v
+
+-- the count where a part was done, else an error
+abbrev pub counts_or : ℕ → Errno → Verdict
+counts_or n e = says n when nat_lt 0 n otherwise refused e
 
 -- done, with nothing to say
 abbrev pub done : Unit {0} → Verdict

@@ -3,7 +3,7 @@
 ghost use Rattle.std.specs.Prelude.{◌≡◌};
 ghost use Rattle.pth_model.specs.RingWaits.{ring_held};
 
-use crate::awaits::Awaits;
+use crate::awaits::{Awaited, awaited_by, ring_given};
 use pth_base::call::Call;
 use pth_base::ids::Micros;
 
@@ -33,37 +33,22 @@ pub fn ring_held(blocked: &Option<Blocked>) -> Option<i64>
     ensures { result ≡ ring_held blocked.now }
 {
     match blocked {
-        Some(blocked) => blocked.ring(),
+        Some(blocked) => ring_given(&blocked.call),
         None => None,
     }
 }
 
 impl Blocked {
-    ghost use Rattle.std.specs.Prelude.{◌≡◌};
-    ghost use Rattle.pth_model.specs.Awaits.{awaits_of};
-    ghost use Rattle.pth_model.specs.RingWaits.{ring_given};
+    ghost use Rattle.std.specs.Prelude.{◌≡◌, Some};
+    ghost use Rattle.pth_model.specs.Awaits.{awaited_in};
 
-    /// The event that the call was given, whose ring it claims until it is answered.
-    pub fn ring(&self) -> Option<i64>
-        ensures { result ≡ ring_given self.now.call }
+    /// What the thread waits for.
+    pub fn awaited(&self) -> Awaited
+        ensures { result ≡ awaited_in (Some self.now) }
     {
-        match &self.call {
-            Call::Wait(e) => Some(*e),
-            _ => None,
-        }
-    }
-
-    /// What the call waits for.
-    pub fn awaits(&self) -> Awaits
-        ensures { result ≡ awaits_of self.now }
-    {
-        match &self.call {
-            Call::Exit(_) => Awaits::Alone,
-            Call::Join(0) => Awaits::AnyDeath,
-            Call::Join(n) => Awaits::Death(*n),
-            Call::Nap(_) | Call::Usleep(_) | Call::Sleep(_) => Awaits::Moment(self.moment),
-            Call::Wait(e) => Awaits::Ring(*e),
-            _ => Awaits::Nothing,
+        Awaited {
+            what: awaited_by(&self.call, self.moment, self.written),
+            ring: ring_given(&self.call),
         }
     }
 }

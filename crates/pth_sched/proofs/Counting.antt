@@ -8,6 +8,7 @@ use Rattle.pth_base.specs.declared.call.Call.TheVariants as call
 use Rattle.pth_base.specs.declared.event.EvLine.{EvLine}
 use Rattle.pth_base.specs.declared.event.EvLine.TheVariants as line
 use Rattle.pth_base.specs.declared.event.EventSpec.{EventSpec}
+use Rattle.pth_base.specs.declared.ids.FdSet.{FdSet}
 use Rattle.pth_base.specs.declared.query.Query.{Query}
 use Rattle.pth_base.specs.declared.query.Query.TheVariants as query
 use Rattle.pth_base.proofs.Tables.{same_self, not_same}
@@ -16,21 +17,23 @@ use Rattle.pth_ring.specs.declared.event.Event.{Event}
 use Rattle.pth_ring.specs.Ring.{StandsIn, RingGoesOn, Begins, from, rest_of}
 use Rattle.pth_ring.specs.Rings.{Events, make_answer, chain_answer, alone, chained}
 use Rattle.pth_kernel.specs.Moments.{least_after, least_by}
-use Rattle.pth_model.specs.declared.awaits.Awaits.{Awaits}
-use Rattle.pth_model.specs.declared.awaits.Awaits.TheVariants.{Death, AnyDeath, Moment, Ring}
+use Rattle.pth_model.specs.declared.awaits.Awaited.{Awaited}
+use Rattle.pth_model.specs.declared.awaits.Awaits.TheVariants.{Death, AnyDeath, Selection}
 use Rattle.pth_model.specs.declared.blocked.Blocked.{Blocked}
-use Rattle.pth_model.specs.Awaits.{awaited_by, awaits_in}
+use Rattle.pth_model.specs.Awaits.{awaited_by, awaits_in, awaited_in}
 use Rattle.pth_model.specs.Calls.{until_by, waits_until}
 use Rattle.pth_model.specs.Changes.{blocked_of, with_events}
 use Rattle.pth_model.specs.EventHandling.{spec_of, made_as, make_event, chain}
 use Rattle.pth_model.specs.LibraryControl.{ctrl}
 use Rattle.pth_model.specs.Looks.{event_moment, occurs_at}
 use Rattle.pth_model.specs.Pass.{moments_of}
+use Rattle.pth_model.specs.RingWaits.{ring_held, events_from}
 use Rattle.pth_model.specs.Rows.{row_of}
 use Rattle.pth_model.specs.State.{State}
+use Rattle.pth_model.specs.Times.{is_negative}
 use Rattle.pth_model.specs.Transition.{Change}
 use Rattle.pth_model.specs.Verdict.{Verdict, says, by_result}
-use Rattle.pth_waits.proofs.Waking.{ring_events, no_events}
+use Rattle.pth_sched.specs.Moments.{moment_in}
 
 -- ---- the least of a list
 
@@ -57,13 +60,6 @@ module _ (now : ℕ) where
   pub least_more : (ms : List ℕ) (m : ℕ) → least_after now (ms ++ m ∷ []) ≡ sooner (least_after now ms) m
   least_more [] m = refl
   least_more (x ∷ ms) m = ap (λ (b : Option ℕ). sooner b x) (least_more ms m) ∙ sooner_by (counts m) (counts x) (least_after now ms) m x
-
-  -- a moment of 0 does not count
-  zero_is_past : nat_lt now 0 ≡ false
-  zero_is_past = grind arith
-
-  pub least_zero : (ms : List ℕ) → least_after now (ms ++ 0 ∷ []) ≡ least_after now ms
-  least_zero ms = least_more ms 0 ∙ ap (λ (b : Bool). if b && nat_le 0 last_moment then least_by 0 (least_after now ms) else least_after now ms) zero_is_past
 
 -- ---- one after another
 
@@ -142,15 +138,6 @@ module _ (x : Events) (now e : ℕ) (start : Option ℕ) where
 
 -- ---- the moments of a thread
 
--- the moment that is awaited, 0 for none
-abbrev moment_in : Awaits → ℕ
-moment_in (Moment m) = m
-moment_in a = 0
-
-none_in : (a : Awaits) → ((m : ℕ) → a ≢ Moment m) → moment_in a ≡ 0
-none_in (Moment m) other = absurd (other m refl)
-none_in a other = refl
-
 module _ {P S H : Type 0} (f : P → Functions S H) (s : State P S H) (t : ℕ) where
   ctrl_until : (x : Query) (b : Blocked) → (ctrl s x).until b ≡ 0
   ctrl_until query.Threads b = refl
@@ -170,9 +157,15 @@ module _ {P S H : Type 0} (f : P → Functions S H) (s : State P S H) (t : ℕ) 
   join_until n true = refl
   join_until n false = refl
 
-  call_until : (c : Call) (b : Blocked) → (row_of f s t c).until b ≡ moment_in (awaited_by c b.moment)
+  select_until : (r w x : FdSet) (m : ℕ) (negative : Bool) → (if negative then 0 else m) ≡ moment_in (Selection r w x (if negative then None else Some m))
+  select_until r w x m true = refl
+  select_until r w x m false = refl
+
+  call_until : (c : Call) (b : Blocked) → (row_of f s t c).until b ≡ moment_in (awaited_by c b.moment b.written)
   unfolding row_of
   call_until (call.Join n) b = join_until n (is_zero n)
+  call_until (call.Select r w x l) b = select_until r w x b.moment (is_negative l)
+  call_until (call.SelectEv r w x l e) b = select_until r w x b.moment (is_negative l)
   call_until (call.Ctrl x) b = ctrl_until x b
   call_until (call.EvFd goals fd) b = make_until (line.Fd goals fd) b
   call_until (call.EvSelect r w x) b = make_until (line.Select r w x) b
@@ -189,31 +182,31 @@ module _ {P S H : Type 0} (f : P → Functions S H) (s : State P S H) (t : ℕ) 
   blocked_until (Some b) = call_until b.call b
 
   -- the moment for which a thread waits is that for which its call does
-  until_is : (a : Awaits) → awaits_in (blocked_of s.control t) ≡ a → waits_until f t s ≡ moment_in a
+  until_is : waits_until f t s ≡ moment_in (awaits_in (blocked_of s.control t))
   unfolding waits_until
-  until_is a is = blocked_until (blocked_of s.control t) ∙ ap moment_in is
+  until_is = blocked_until (blocked_of s.control t)
 
-  abbrev moments_with : ℕ → List ℕ → List ℕ
-  moments_with m es = m ∷ map (λ e. event_moment (s.control.events.events e)) es
+  -- Moments are counted of which best is the least. Then that for which the thread's call waits is counted, where next is the
+  -- least, and those of the events of the ring that it was given, if any, where last is.
+  module _ (now : ℕ) (ms : List ℕ) (best next last : Option ℕ) (a : Awaited) (ring : Option ℤ) (x : Events)
+      (awaits : a ≡ awaited_in (blocked_of s.control t)) (given : a.ring ≡ ring) (same : s.control.events ≡ x) where
+    abbrev moments_in : Events → Option ℤ → List ℕ
+    moments_in y r = map (λ (e : ℕ). event_moment (y.events e)) (events_from y r)
 
-  -- after moments of which best is the least, those of the thread are counted
-  module _ (now : ℕ) (ms : List ℕ) (best : Option ℕ) (least : best ≡ least_after now ms) where
-    pub moment_counted : (m : ℕ) → awaits_in (blocked_of s.control t) ≡ Moment m → (next : Option ℕ) → next ≡ sooner now best m → next ≡ least_after now (ms ++ moments_of f s t)
-    moment_counted m waits next counted =
-        let is : moments_of f s t ≡ m ∷ [] = ap₂ moments_with (until_is (Moment m) waits) (no_events s.control t (Moment m) waits (λ e h. cc h)) in
-        counted ∙ ap (λ (b : Option ℕ). sooner now b m) least ∙ sym (least_more now ms m) ∙ ap (λ (l : List ℕ). least_after now (ms ++ l)) (sym is)
+    own : waits_until f t s ∷ moments_in x ring ≡ moments_of f s t
+    own =
+        let held : ring ≡ ring_held (blocked_of s.control t) = sym given ∙ ap (λ (y : Awaited). y.ring) awaits in
+        ap (λ (l : List ℕ). waits_until f t s ∷ l) (ap₂ moments_in (sym same) held)
 
-    pub ring_counted : (e : ℤ) → awaits_in (blocked_of s.control t) ≡ Ring e → (x : Events) → s.control.events ≡ x → (next : Option ℕ)
-        → ((ns : List ℕ) → best ≡ least_after now ns → next ≡ least_after now (ns ++ map (λ i. event_moment (x.events i)) (x.rings (number e))))
-        → next ≡ least_after now (ms ++ moments_of f s t)
-    ring_counted e waits x same next is =
-        let events = λ (y : Events). map (λ i. event_moment (y.events i)) (y.rings (number e)) in
-        let own : moments_of f s t ≡ 0 ∷ events s.control.events = ap₂ moments_with (until_is (Ring e) waits) (ring_events s.control t e waits) in
-        is (ms ++ 0 ∷ []) (least ∙ sym (least_zero now ms))
-        ∙ ap (least_after now) (append_assoc ms (0 ∷ []) (events x))
-        ∙ ap (λ (l : List ℕ). least_after now (ms ++ l)) (sym (own ∙ ap (λ (y : Events). 0 ∷ events y) same))
+    call_counted : best ≡ least_after now ms → next ≡ sooner now best (moment_in a.what) → next ≡ least_after now (ms ++ waits_until f t s ∷ [])
+    call_counted least is =
+        let until : moment_in a.what ≡ waits_until f t s = ap (λ (y : Awaited). moment_in y.what) awaits ∙ sym until_is in
+        is ∙ ap₂ (sooner now) least until ∙ sym (least_more now ms (waits_until f t s))
 
-    pub none_counted : (a : Awaits) → awaits_in (blocked_of s.control t) ≡ a → ((m : ℕ) → a ≢ Moment m) → ((e : ℤ) → a ≢ Ring e) → best ≡ least_after now (ms ++ moments_of f s t)
-    none_counted a waits other no_ring =
-        let is : moments_of f s t ≡ 0 ∷ [] = ap₂ moments_with (until_is a waits ∙ none_in a other) (no_events s.control t a waits no_ring) in
-        least ∙ sym (least_zero now ms) ∙ ap (λ (l : List ℕ). least_after now (ms ++ l)) (sym is)
+    pub thread_counted : best ≡ least_after now ms → next ≡ sooner now best (moment_in a.what)
+        → ((ns : List ℕ) → next ≡ least_after now ns → last ≡ least_after now (ns ++ moments_in x ring))
+        → last ≡ least_after now (ms ++ moments_of f s t)
+    thread_counted least is goes_on =
+        goes_on (ms ++ waits_until f t s ∷ []) (call_counted least is)
+        ∙ ap (least_after now) (append_assoc ms (waits_until f t s ∷ []) (moments_in x ring))
+        ∙ ap (λ (l : List ℕ). least_after now (ms ++ l)) own

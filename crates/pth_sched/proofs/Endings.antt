@@ -12,13 +12,13 @@ use Rattle.pth_model.specs.declared.blocked.Blocked.{Blocked}
 use Rattle.pth_model.specs.declared.next.Next.{Next}
 use Rattle.pth_model.specs.declared.next.Next.TheVariants as next
 use Rattle.pth_model.specs.declared.progress.Progress.{Progress}
-use Rattle.pth_model.specs.Verdict.{Verdict, Says, Yields, Blocks, Ends, Kills, Pause, no_pause, waits, refused, says, done, by_result, ◌when◌otherwise◌, refused_as◌otherwise◌}
+use Rattle.pth_model.specs.Verdict.{Verdict, Says, Yields, Blocks, Ends, Kills, Pause, no_pause, waits, refused, says, done, by_result, said_or, counts_or, ◌when◌otherwise◌, refused_as◌otherwise◌}
 use Rattle.pth_model.specs.State.{State, Control, Given, Turn, start, queue, present, main, now_of}
 use Rattle.pth_model.specs.Transition.{Piece, Change, Went, tid, controlled}
 use Rattle.pth_base.specs.declared.answer.Answer.{Answer}
 use Rattle.pth_base.specs.declared.answer.Answer.TheVariants.{Int, Text, Fail}
 use Rattle.pth_base.specs.declared.errno.Errno.{Errno}
-use Rattle.pth_base.specs.declared.errno.Errno.TheVariants.{EINVAL, EAGAIN, ESRCH, EPERM, EDEADLK, EBADF}
+use Rattle.pth_base.specs.declared.errno.Errno.TheVariants.{EINVAL, EAGAIN, EBUSY, EINTR, ESRCH, EPERM, EDEADLK, EBADF}
 use Rattle.pth_base.specs.declared.query.Query.{Query}
 use Rattle.pth_base.specs.declared.query.Query.TheVariants as query
 use Rattle.pth_model.specs.ThreadControl.{spawn, values_for, suspend, resume, yield, join_attempt, joined, to_join, thread, is_known, has_room, may_run}
@@ -36,7 +36,7 @@ use Rattle.pth_model.specs.Ending.{ending}
 use Rattle.pth_model.specs.ThreadEnds.{is_alone, must_wait}
 use Rattle.pth_model.specs.Calls.{begun, begun_by, resumed, resumed_by, tried_by, unless_come, interrupted}
 use Rattle.pth_model.specs.EventHandling.{spec_of, made_as, make_event, chain, wait, number_or_none, status_number}
-use Rattle.pth_model.specs.RingWaits.{ring_given, has_event_come}
+use Rattle.pth_model.specs.RingWaits.{extra_ring, ring_given, has_event_come}
 use Rattle.pth_model.specs.Times.{rest, timeout, is_negative, length_of, moment_after}
 use Rattle.pth_ring.specs.Rings.{make_answer, chain_answer, concat_answer, isolate_answer, walk_answer, status_answer, kind_answer, free_answer, claim_answer, settled_in, alone, chained}
 use Rattle.pth_base.specs.declared.event.EvLine.{EvLine}
@@ -45,7 +45,8 @@ use Rattle.pth_base.specs.declared.event.EventSpec.{EventSpec}
 use Rattle.pth_base.specs.declared.ids.EventId.{EventId}
 use Rattle.pth_kernel.specs.Kernel.{fd_named, is_fd_live}
 use Rattle.pth_kernel.specs.Modes.{mode_answer}
-use Rattle.pth_model.specs.Io.{fdmode, close}
+use Rattle.pth_model.specs.Awaits.{deadline_by}
+use Rattle.pth_model.specs.Io.{Trial, read_trial, write_trial, accept_trial, connect_trial, select_trial, first_select, is_no_ring, is_claimed_ring, begins_waiting, at_once, read, write, accept, connect, select_moment, select, fdmode, close}
 use Rattle.pth_model.specs.Part.{Part, Move, Take, Step, Close, Halt, next_part, part, part_by, moves, moves_by, takes, takes_by, readies_new, chosen, closes, steps, steps_by, steps_on, turn_after, gives_up, ends_run}
 use Rattle.pth_model.specs.Run.{run, IsBetween}
 use Rattle.pth_model.proofs.Runs.{parts-more, between-none, between-more}
@@ -92,6 +93,20 @@ part_on (Err e) x rest = says_on (Fail e)
 
 done_on : (r : Result (Unit {0}) Errno) → EndsNot (by_result done r)
 done_on r = result_on (λ (u : Unit {0}). Int (pos 1)) r
+
+-- nor does an answer that is there, or else what follows
+said_on : (a : Option Answer) (x : Verdict) → EndsNot x → EndsNot (said_or a x)
+said_on (Some a) x rest = says_on a
+said_on None x rest = rest
+
+counts_on : (n : ℕ) (e : Errno) → EndsNot (counts_or n e)
+counts_on n e = when_on (says n) (nat_lt 0 n) (refused e) (says_on (Int (pos n))) (says_on (Fail e))
+
+-- nor does a call on descriptors that is tried again
+tried_on : (trial : Trial) → EndsNot (said_or trial.answer (Blocks (record no_pause { written = trial.written })))
+tried_on trial =
+    let pause : Pause = record no_pause { written = trial.written } in
+    said_on trial.answer (Blocks pause) (blocks_on pause)
 
 joined_on : {P S H : Type 0} (k : Control P S H) (o : Option ℕ) → EndsNot (joined k o)
 joined_on k None = blocks_on no_pause
@@ -192,6 +207,31 @@ module _ {P S H : Type 0} (f : P → Functions S H) (s : State P S H) (t : ℕ) 
   close_on : (d : ℤ) → EndsNot (close s d).begin.verdict
   close_on d = refused_on EBADF (not (is_fd_live s.control.kernel (fd_named d))) (says 1) (says_on (Int (pos 1)))
 
+  -- calls on descriptors, in their first attempt
+  tries_on : (e : Option ℤ) (now : Bool) (moment : ℕ) (first : Trial) → EndsNot (refused EINVAL when is_no_ring s e otherwise said_or first.answer (begins_waiting s now e first.written moment))
+  tries_on e now moment first =
+      let pause : Pause = record no_pause { moment = moment; written = first.written } in
+      let waits = counts_or first.written EBUSY when is_claimed_ring s e otherwise Blocks pause in
+      let waits_on = when_on (counts_or first.written EBUSY) (is_claimed_ring s e) (Blocks pause) (counts_on first.written EBUSY) (blocks_on pause) in
+      let begins_on = when_on (counts_or first.written EAGAIN) now waits (counts_on first.written EAGAIN) waits_on in
+      let begins = begins_waiting s now e first.written moment in
+      refused_on EINVAL (is_no_ring s e) (said_or first.answer begins) (said_on first.answer begins begins_on)
+
+  read_on : (d n : ℤ) (e : Option ℤ) → EndsNot (read s d n e).begin.verdict
+  read_on d n e = tries_on e (at_once s d) 0 (read_trial s.control.kernel d n)
+
+  write_on : (d : ℤ) (bytes : List ℕ) (e : Option ℤ) → EndsNot (write s d bytes e).begin.verdict
+  write_on d bytes e = tries_on e (at_once s d) 0 (write_trial s.control.kernel d (length bytes) 0)
+
+  accept_on : (d : ℤ) (e : Option ℤ) → EndsNot (accept s d e).begin.verdict
+  accept_on d e = tries_on e (at_once s d) 0 (accept_trial s.control.kernel d)
+
+  connect_on : (d : ℤ) (e : Option ℤ) → EndsNot (connect s d e).begin.verdict
+  connect_on d e = tries_on e (at_once s d) 0 (connect_trial s.control.kernel d)
+
+  select_on : (r w x : ℕ) (l : ℤ) (e : Option ℤ) → EndsNot (select s r w x l e).begin.verdict
+  select_on r w x l e = tries_on e false (select_moment s l) (first_select s.control.kernel r w x l (deadline_by l (select_moment s l)))
+
   wait_on : (e : ℤ) → EndsNot (wait s e).begin.verdict
   wait_on e = part_on (claim_answer s.control.events (number e)) waits (blocks_on no_pause)
 
@@ -231,6 +271,16 @@ module _ {P S H : Type 0} (f : P → Functions S H) (t : ℕ) (v : ℤ) where
   exits s (call.Usleep n) h = absurd (rest_on f s t 1 n 0 v h)
   exits s (call.Sleep n) h = absurd (rest_on f s t 1000000 n 0 v h)
   exits s (call.Timeout n) h = absurd (timeout_on f s t n v h)
+  exits s (call.Read d n) h = absurd (read_on f s t d n None v h)
+  exits s (call.ReadEv d n e) h = absurd (read_on f s t d n (extra_ring e) v h)
+  exits s (call.Write d bytes) h = absurd (write_on f s t d bytes None v h)
+  exits s (call.WriteEv d bytes e) h = absurd (write_on f s t d bytes (extra_ring e) v h)
+  exits s (call.Accept d) h = absurd (accept_on f s t d None v h)
+  exits s (call.AcceptEv d e) h = absurd (accept_on f s t d (extra_ring e) v h)
+  exits s (call.Connect d) h = absurd (connect_on f s t d None v h)
+  exits s (call.ConnectEv d e) h = absurd (connect_on f s t d (extra_ring e) v h)
+  exits s (call.Select r w x l) h = absurd (select_on f s t r.0 w.0 x.0 l None v h)
+  exits s (call.SelectEv r w x l e) h = absurd (select_on f s t r.0 w.0 x.0 l (extra_ring e) v h)
   exits s (call.Fdmode d m) h = absurd (fdmode_on f s t d m v h)
   exits s (call.EvFd goals fd) h = absurd (make_on f s t (line.Fd goals fd) v h)
   exits s (call.EvSelect r w x) h = absurd (make_on f s t (line.Select r w x) v h)
@@ -259,6 +309,16 @@ module _ {P S H : Type 0} (f : P → Functions S H) (t : ℕ) (v : ℤ) where
   exits_again s b (call.Usleep n) h = absurd (says_or_waits_on f s t 0 (nat_le b.moment (now_of s.control)) v h)
   exits_again s b (call.Sleep n) h = absurd (says_or_waits_on f s t 0 (nat_le b.moment (now_of s.control)) v h)
   exits_again s b (call.Wait e) h = absurd (says_or_waits_on f s t (settled_in s.control.events (number e)) (nat_lt 0 (settled_in s.control.events (number e))) v h)
+  exits_again s b (call.Read d n) h = absurd (tried_on (read_trial s.control.kernel d n) v h)
+  exits_again s b (call.ReadEv d n e) h = absurd (tried_on (read_trial s.control.kernel d n) v h)
+  exits_again s b (call.Write d bytes) h = absurd (tried_on (write_trial s.control.kernel d (length bytes) b.written) v h)
+  exits_again s b (call.WriteEv d bytes e) h = absurd (tried_on (write_trial s.control.kernel d (length bytes) b.written) v h)
+  exits_again s b (call.Accept d) h = absurd (tried_on (accept_trial s.control.kernel d) v h)
+  exits_again s b (call.AcceptEv d e) h = absurd (tried_on (accept_trial s.control.kernel d) v h)
+  exits_again s b (call.Connect d) h = absurd (tried_on (connect_trial s.control.kernel d) v h)
+  exits_again s b (call.ConnectEv d e) h = absurd (tried_on (connect_trial s.control.kernel d) v h)
+  exits_again s b (call.Select r w x l) h = absurd (tried_on (select_trial s.control.kernel r.0 w.0 x.0 (deadline_by l b.moment)) v h)
+  exits_again s b (call.SelectEv r w x l e) h = absurd (tried_on (select_trial s.control.kernel r.0 w.0 x.0 (deadline_by l b.moment)) v h)
   exits_again s b (call.EvFd goals fd) h = absurd (make_again_on f s t (line.Fd goals fd) b v h)
   exits_again s b (call.EvSelect r w x) h = absurd (make_again_on f s t (line.Select r w x) b v h)
   exits_again s b (call.EvTime m) h = absurd (make_again_on f s t (line.Time m) b v h)
@@ -291,7 +351,7 @@ module _ {P S H : Type 0} (f : P → Functions S H) (t : ℕ) (v : ℤ) where
       by_verdict : (w : Verdict) → interrupted w ≡ Ends v → w ≡ Ends v
       by_verdict (Says x) h = absurd (cc h)
       by_verdict (Yields x) h = absurd (cc h)
-      by_verdict (Blocks p) h = absurd (cc h)
+      by_verdict (Blocks p) h = absurd (counts_on p.written EINTR v h)
       by_verdict (Ends x) h = h
       by_verdict Kills h = absurd (cc h)
 

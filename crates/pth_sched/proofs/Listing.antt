@@ -7,7 +7,7 @@ use Rattle.pth_ring.specs.declared.event.Event.{Event}
 use Rattle.pth_ring.specs.Arena.{events_of}
 use Rattle.pth_ring.specs.Ring.{each, ring_holds}
 use Rattle.pth_model.specs.declared.awaits.Awaits.{Awaits}
-use Rattle.pth_model.specs.declared.awaits.Awaits.TheVariants.{Nothing, Alone, Death, AnyDeath, Moment, Ring}
+use Rattle.pth_model.specs.declared.awaits.Awaits.TheVariants.{Nothing, AnyDeath}
 use Rattle.pth_model.specs.Awaits.{awaits_in}
 use Rattle.pth_model.specs.Changes.{blocked_of}
 use Rattle.pth_model.specs.Looks.{comes, looked_at, looks_at}
@@ -66,11 +66,7 @@ module _ {P S H : Type 0} (k : Control P S H) (xs : List ℕ) where
   pub has_come_still : (t : ℕ) (a : Awaits) → has_come seen t a ≡ has_come k t a
   unfolding is_alone joinable_dead
   has_come_still t Nothing = refl
-  has_come_still t Alone = refl
-  has_come_still t (Death n) = refl
-  has_come_still t AnyDeath = refl
-  has_come_still t (Moment m) = refl
-  has_come_still t (Ring e) = refl
+  has_come_still t a = refl
 
   due_still : (t : ℕ) → is_due seen t ≡ is_due k t
   due_still t = ap₂ (λ (a b : Bool). a || b) (has_come_still t (awaits_in (blocked_of k t))) (come_for_still t)

@@ -1,3 +1,4 @@
 pub mod MachineOf
+pub mod Moments
 pub mod Passing
 pub mod Running

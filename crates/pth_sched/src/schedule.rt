@@ -230,8 +230,8 @@ impl<P: Program> Schedule<P> {
         self.pass(marks)
     }
 
-    /// Time moves to the next moment at which something comes to a descriptor or for which a thread waits, and a pass is made; the answer is whether there is such a
-    /// moment. After an error the schedule may only be dropped.
+    /// Time moves to the next moment at which something comes to a descriptor or for which a thread waits, and a pass is made;
+    /// the answer is whether there is such a moment. After an error the schedule may only be dropped.
     pub fn idle(&mut self, marks: &mut Marks) -> Result<bool, OutOfMemory>
         requires keeps { Keeps self.old }
         ensures some { IfOk result (λ moved. (c : Course P P.State P.Shared) → Stands self.old c → is_some (moment P.functions c.state) ≡ moved) }

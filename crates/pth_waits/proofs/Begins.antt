@@ -25,19 +25,20 @@ use Rattle.pth_model.specs.Verdict.{Verdict, says, by_result}
 use Rattle.pth_ring.specs.Rings.{make_answer, chain_answer, alone, chained}
 use Rattle.pth_model.specs.ThreadControl.{thread, is_dead_in, first_of, joinable_dead}
 use Rattle.pth_waits.specs.Blocking.{may_block}
+use Rattle.pth_waits.specs.Io.{is_io}
 use Rattle.pth_waits.specs.Waking.{has_come}
 
 -- a call never blocks its thread that is none of these
-pub never_blocks : (c : Call) → ((n : ℤ) → c ≢ call.Join n) → ((v : ℤ) → c ≢ call.Exit v) → ((n : ℤ) → c ≢ call.Nap n) → ((n : ℤ) → c ≢ call.Usleep n) → ((n : ℤ) → c ≢ call.Sleep n) → ((e : ℤ) → c ≢ call.Wait e) → may_block c ≡ false
-never_blocks (call.Join n) no_join no_exit no_nap no_usleep no_sleep no_wait = absurd (no_join n refl)
-never_blocks (call.Exit v) no_join no_exit no_nap no_usleep no_sleep no_wait = absurd (no_exit v refl)
-never_blocks (call.Nap n) no_join no_exit no_nap no_usleep no_sleep no_wait = absurd (no_nap n refl)
-never_blocks (call.Usleep n) no_join no_exit no_nap no_usleep no_sleep no_wait = absurd (no_usleep n refl)
-never_blocks (call.Sleep n) no_join no_exit no_nap no_usleep no_sleep no_wait = absurd (no_sleep n refl)
-never_blocks (call.Wait e) no_join no_exit no_nap no_usleep no_sleep no_wait = absurd (no_wait e refl)
-never_blocks c no_join no_exit no_nap no_usleep no_sleep no_wait = refl
+pub never_blocks : (c : Call) → ((n : ℤ) → c ≢ call.Join n) → ((v : ℤ) → c ≢ call.Exit v) → ((n : ℤ) → c ≢ call.Nap n) → ((n : ℤ) → c ≢ call.Usleep n) → ((n : ℤ) → c ≢ call.Sleep n) → ((e : ℤ) → c ≢ call.Wait e) → is_io c ≡ false → may_block c ≡ false
+never_blocks (call.Join n) no_join no_exit no_nap no_usleep no_sleep no_wait no_io = absurd (no_join n refl)
+never_blocks (call.Exit v) no_join no_exit no_nap no_usleep no_sleep no_wait no_io = absurd (no_exit v refl)
+never_blocks (call.Nap n) no_join no_exit no_nap no_usleep no_sleep no_wait no_io = absurd (no_nap n refl)
+never_blocks (call.Usleep n) no_join no_exit no_nap no_usleep no_sleep no_wait no_io = absurd (no_usleep n refl)
+never_blocks (call.Sleep n) no_join no_exit no_nap no_usleep no_sleep no_wait no_io = absurd (no_sleep n refl)
+never_blocks (call.Wait e) no_join no_exit no_nap no_usleep no_sleep no_wait no_io = absurd (no_wait e refl)
+never_blocks c no_join no_exit no_nap no_usleep no_sleep no_wait no_io = no_io
 
--- and it is plain where it is none of these
+-- a call that never blocks its thread is plain where it is none of these
 pub is_plain_call : (c : Call) → may_block c ≡ false → c ≢ call.Kill → ((n : ℤ) → c ≢ call.Yield n) → c ≢ call.Plain → ((v : ℤ) → c ≢ call.Note v) → is_plain c ≡ true
 is_plain_call (call.Join n) never no_kill no_yield no_plain no_note = absurd (cc never)
 is_plain_call (call.Exit v) never no_kill no_yield no_plain no_note = absurd (cc never)
@@ -45,6 +46,16 @@ is_plain_call (call.Nap n) never no_kill no_yield no_plain no_note = absurd (cc 
 is_plain_call (call.Usleep n) never no_kill no_yield no_plain no_note = absurd (cc never)
 is_plain_call (call.Sleep n) never no_kill no_yield no_plain no_note = absurd (cc never)
 is_plain_call (call.Wait e) never no_kill no_yield no_plain no_note = absurd (cc never)
+is_plain_call (call.Read g n) never no_kill no_yield no_plain no_note = absurd (cc never)
+is_plain_call (call.ReadEv g n e) never no_kill no_yield no_plain no_note = absurd (cc never)
+is_plain_call (call.Write g bytes) never no_kill no_yield no_plain no_note = absurd (cc never)
+is_plain_call (call.WriteEv g bytes e) never no_kill no_yield no_plain no_note = absurd (cc never)
+is_plain_call (call.Accept g) never no_kill no_yield no_plain no_note = absurd (cc never)
+is_plain_call (call.AcceptEv g e) never no_kill no_yield no_plain no_note = absurd (cc never)
+is_plain_call (call.Connect g) never no_kill no_yield no_plain no_note = absurd (cc never)
+is_plain_call (call.ConnectEv g e) never no_kill no_yield no_plain no_note = absurd (cc never)
+is_plain_call (call.Select r w x l) never no_kill no_yield no_plain no_note = absurd (cc never)
+is_plain_call (call.SelectEv r w x l e) never no_kill no_yield no_plain no_note = absurd (cc never)
 is_plain_call call.Kill never no_kill no_yield no_plain no_note = absurd (no_kill refl)
 is_plain_call (call.Yield n) never no_kill no_yield no_plain no_note = absurd (no_yield n refl)
 is_plain_call call.Plain never no_kill no_yield no_plain no_note = absurd (no_plain refl)
@@ -79,7 +90,7 @@ module _ {P S H : Type 0} (f : P → Functions S H) (s : State P S H) (t : ℕ) 
   join_wakes n true = or_none (is_some (first_of (joinable_dead s.control)))
   join_wakes n false = by_dead (number n) (not (or_nobody (thread s.control n)).joinable) (is_dead_in (thread s.control n))
 
-  call_wakes : (c : Call) (b : Blocked) → (row_of f s t c).wakes b ≡ has_come s.control t (awaited_by c b.moment)
+  call_wakes : (c : Call) (b : Blocked) → (row_of f s t c).wakes b ≡ has_come s.control t (awaited_by c b.moment b.written)
   unfolding row_of
   call_wakes (call.Exit v) b = refl
   call_wakes (call.Join n) b = join_wakes n (is_zero n)

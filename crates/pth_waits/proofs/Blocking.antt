@@ -1,6 +1,8 @@
 -- Calls that block their threads, wait on, and are answered.
-use Rattle.std.proofs.Common.{◌≡◌, ℕ, List, ◌∷◌, [], ◌++◌, Option, Some, None, IsSome, IfSome, option_map, Bool, true, false, refl, ◌∙◌, ap, ap₂, sym, subst}
-use Rattle.pth_base.proofs.Lists.{put_none}
+use Rattle.std.proofs.Common.{◌≡◌, ℕ, List, ◌∷◌, [], ◌++◌, Option, Some, None, IsSome, IfSome, option_map, Bool, true, false, refl, ◌∙◌, ap, ap₂, sym, subst, arith}
+use Rattle.pth_base.proofs.Lists.{put_none, put_twice}
+use Rattle.pth_base.proofs.Tables.{put_here}
+use Rattle.pth_base.specs.Table.{put}
 use Rattle.pth_base.specs.Program.{Functions}
 use Rattle.pth_base.specs.declared.answer.Answer.{Answer}
 use Rattle.pth_base.specs.declared.call.Call.{Call}
@@ -17,12 +19,14 @@ use Rattle.pth_model.specs.Resources.{told, answer_told, no_resources}
 use Rattle.pth_model.specs.Row.{Attempt, effect_of}
 use Rattle.pth_model.specs.Rows.{row_of}
 use Rattle.pth_model.specs.State.{Control, State}
-use Rattle.pth_model.specs.Transition.{Transition, Went, silent, tid, tells, ◌and_then◌, ◌and_next◌, ◌and_finally◌}
+use Rattle.pth_model.specs.Transition.{Transition, Went, changes, silent, tid, tells, ◌and_then◌, ◌and_next◌, ◌and_finally◌}
 use Rattle.pth_model.specs.Verdict.{Pause, Verdict, Says, waits}
 use Rattle.pth_world.specs.World.{WorldOf}
+use Rattle.pth_world.proofs.Ranks.{ranks_none, ranks_same}
+use Rattle.pth_world.specs.Frame.{Frame}
 use Rattle.pth_world.specs.Leading.{Leads, IsQuiet}
 use Rattle.pth_world.specs.Shows.{Shows, StandsFor}
-use Rattle.pth_world.specs.Whole.{MayBlock, MayBlockAs}
+use Rattle.pth_world.specs.Whole.{Whole, MayBlock, MayBlockAs}
 use Rattle.pth_waits.specs.Blocking.{HasClaimed}
 
 -- that a thread waits changes nothing else
@@ -34,6 +38,16 @@ quiet-waits t (call.Nap n) may = refl
 quiet-waits t (call.Usleep n) may = refl
 quiet-waits t (call.Sleep n) may = refl
 quiet-waits t (call.Wait e) may = refl
+quiet-waits t (call.Read f n) may = refl
+quiet-waits t (call.ReadEv f n e) may = refl
+quiet-waits t (call.Write f bytes) may = refl
+quiet-waits t (call.WriteEv f bytes e) may = refl
+quiet-waits t (call.Accept f) may = refl
+quiet-waits t (call.AcceptEv f e) may = refl
+quiet-waits t (call.Connect f) may = refl
+quiet-waits t (call.ConnectEv f e) may = refl
+quiet-waits t (call.Select r w x l) may = refl
+quiet-waits t (call.SelectEv r w x l e) may = refl
 quiet-waits t c may = absurd may
 
 -- and neither does the answer
@@ -45,6 +59,16 @@ quiet-answered t (call.Nap n) a may = refl
 quiet-answered t (call.Usleep n) a may = refl
 quiet-answered t (call.Sleep n) a may = refl
 quiet-answered t (call.Wait e) a may = refl
+quiet-answered t (call.Read f n) a may = refl
+quiet-answered t (call.ReadEv f n e) a may = refl
+quiet-answered t (call.Write f bytes) a may = refl
+quiet-answered t (call.WriteEv f bytes e) a may = refl
+quiet-answered t (call.Accept f) a may = refl
+quiet-answered t (call.AcceptEv f e) a may = refl
+quiet-answered t (call.Connect f) a may = refl
+quiet-answered t (call.ConnectEv f e) a may = refl
+quiet-answered t (call.Select r w x l) a may = refl
+quiet-answered t (call.SelectEv r w x l e) a may = refl
 quiet-answered t c a may = absurd may
 
 -- a call that blocks already
@@ -70,6 +94,34 @@ waits_leads w s t c p old new may none sh appended =
 pub answers_leads : {P S H : Type 0} (f : P → Functions S H) (w : WorldOf P S H) (s : State P S H) (t : ℕ) (c : Call) (a : Answer) (old new : List Mark) → MayBlockAs t c → s.resources ≡ no_resources → Shows w (stops_waiting t s.control) → new ≡ old ++ Answered (tid t) c a ∷ [] → Leads w old new (answers f t c a s)
 answers_leads f w s t c a old new may none sh appended =
     record { stands = record { control = sh; resources = ap (λ k. told k (Answered (tid t) c a)) none ∙ quiet-answered t c a may }; tells = appended }
+
+-- what holds of the call that blocks
+pub held_at : {A : Type 0} (o : Option A) (Q : A → Type 0) (x : A) → o ≡ Some x → IfSome o Q → Q x
+held_at {A = A} o Q x is h = subst (λ (y : Option A). IfSome y Q) is h
+
+-- another call blocks the thread
+blocking_twice : {S : Type 0} (o : Option (Progress S)) (x y : Option Blocked) → option_map (blocking x) (option_map (blocking y) o) ≡ option_map (blocking x) o
+blocking_twice (Some p) x y = refl
+blocking_twice None x y = refl
+
+pub blocked_twice : {P S H : Type 0} (k : Control P S H) (t : ℕ) (x y : Option Blocked) → is_blocked_by t x (is_blocked_by t y k) ≡ is_blocked_by t x k
+unfolding goes_on
+blocked_twice k t x y =
+    let p = k.threads.progress in
+    let first = option_map (blocking y) (p t) in
+    ap (λ (q : ℕ → Option (Progress _)). record k { threads = record k.threads { progress = q } })
+    (ap (λ (o : Option (Progress _)). put (put p t first) t (option_map (blocking x) o)) (put_here p t first)
+    ∙ put_twice p t first (option_map (blocking x) first)
+    ∙ ap (put p t) (blocking_twice (p t) x y))
+
+-- a call that blocks its thread waits on
+pub waits_on_leads : {P S H : Type 0} (w : WorldOf P S H) (s : State P S H) (t : ℕ) (b : Blocked) (old new : List Mark) → MayBlockAs t b.call → s.resources ≡ no_resources → Shows w (is_blocked_by t (Some b) s.control) → new ≡ old ++ Waits (tid t) b.call ∷ [] → Leads w old new ((changes (is_blocked_by t (Some b)) and_then tells (Waits (tid t) b.call)) s)
+waits_on_leads w s t b old new may none sh appended =
+    record { stands = record { control = sh; resources = ap (λ k. told k (Waits (tid t) b.call)) none ∙ quiet-waits t b.call may }; tells = appended }
+
+-- a world of which the progress of threads alone is another one
+pub progress_frame : {P S H : Type 0} (w : WorldOf P S H) (p : List (Option (Progress S))) (r : Option ℕ) → w.scheduler.running ≡ r → Whole (record w { threads = record w.threads { progress = p } }) → Frame w (record w { threads = record w.threads { progress = p } }) 0 r false
+progress_frame w p r is whole = record { whole = whole; runs = is; made = record { threads = omega arith; objects = omega arith; events = omega arith }; ranks = ranks_same 0 w.threads w.threads _ refl (ranks_none w.threads); preferred = refl }
 
 -- this call blocks thread t, as it may
 pub record IsHeld (o : Option Blocked) (t : ℕ) (c : Call) : Type 0 where
@@ -102,13 +154,13 @@ module _ {P S H : Type 0} (f : P → Functions S H) (s : State P S H) (t : ℕ) 
       rw h.has (ap (λ (x : Attempt P S H). tried f t held x s) again ∙ ap (λ (x : Verdict). (effect_of a and_finally tried_by f t held x) s) is)
 
   -- it waits on, and is blocked as it was
-  pub waits_again : (row_of f s t c).again held ≡ a → has_event_come s.control.events (ring_given c) ≡ false → a.verdict ≡ waits → effect_of a s ≡ silent s → resumed f t s ≡ record { told = tells (Waits (tid t) c) s; next = next.Waits }
-  waits_again again none is idle =
+  pub waits_again : (row_of f s t c).again held ≡ a → h.blocked.written ≡ 0 → has_event_come s.control.events (ring_given c) ≡ false → a.verdict ≡ waits → effect_of a s ≡ silent s → resumed f t s ≡ record { told = tells (Waits (tid t) c) s; next = next.Waits }
+  waits_again again unwritten none is idle =
       let finally : Transition P S H → Went P S H = λ x. (let y = tried_by f t held waits x.state in record { told = record { state = y.told.state; marks = x.marks ++ y.told.marks }; next = y.next }) in
       let waits_on : Control P S H → Went P S H = λ k. record { told = tells (Waits (tid t) c) (record s { control = k }); next = next.Waits } in
       tried_as waits (ap₂ unless_come none again) is
       ∙ ap finally idle
-      ∙ ap (λ (m : ℕ). waits_on (is_blocked_by t (Some (record held { written = m })) s.control)) (sym h.may.written)
+      ∙ ap (λ (m : ℕ). waits_on (is_blocked_by t (Some (record held { written = m })) s.control)) (sym unwritten)
       ∙ ap waits_on (still_blocked s.control t held h.has)
 
   -- it is answered, and blocks the thread no longer

@@ -8,3 +8,5 @@ pub mod Searching
 pub mod Looking
 pub mod Waking
 pub mod Resting
+pub mod Unchanged
+pub mod IoCalls

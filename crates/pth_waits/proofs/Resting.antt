@@ -1,5 +1,5 @@
 -- A rest begins, and is tried again, as its row says.
-use Rattle.std.proofs.Common.{◌≡◌, ◌≤◌, ◌<◌, ℕ, nat_le, pos, ◌∙◌, Bool, true, false, Option, Some, None, IfSome, refl, ap, sym, subst, arith}
+use Rattle.std.proofs.Common.{◌≡◌, ◌≤◌, ◌<◌, ℕ, nat_le, pos, ◌∙◌, Bool, true, false, Option, None, IfSome, refl, ap, sym, arith}
 use Rattle.std.proofs.lemmas.Bool.Decides.{nat_tests}
 use Rattle.pth_base.specs.Limits.{last_moment}
 use Rattle.pth_base.specs.Program.{Functions}
@@ -19,13 +19,12 @@ use Rattle.pth_model.specs.Rows.{row_of}
 use Rattle.pth_model.specs.State.{State, now_of}
 use Rattle.pth_model.specs.Times.{is_negative, length_of, moment_after}
 use Rattle.pth_model.specs.Transition.{Piece, silent, tells, tid, ◌and_then◌, ◌and_next◌}
-use Rattle.pth_model.specs.Verdict.{Verdict, refused, says, waits, blocks_until, ◌when◌otherwise◌}
+use Rattle.pth_model.specs.Verdict.{Verdict, refused, says, said_or, waits, blocks_until, ◌when◌otherwise◌}
 use Rattle.pth_numbered.specs.Operands.{is_zero}
-use Rattle.pth_waits.specs.Attempts.{says_or}
 use Rattle.pth_waits.specs.Rests.{is_rest, RestsFor}
-use Rattle.pth_waits.proofs.Blocking.{IsHeld, waits_again, answers_again}
+use Rattle.pth_waits.proofs.Blocking.{IsHeld, held_at, waits_again, answers_again}
 use Rattle.pth_waits.specs.declared.rests.Rest.{Rest}
-use Rattle.pth_world.specs.Whole.{MayBlockAs, MayWaitUntil}
+use Rattle.pth_world.specs.Whole.{MayBlockAs, MayHaveWritten, MayWaitUntil}
 
 -- a rest may block every thread
 pub rest_may : (t : ℕ) (c : Call) → is_rest c ≡ true → MayBlockAs t c
@@ -48,6 +47,19 @@ rest_until (call.Usleep n) m is le = le
 rest_until (call.Sleep n) m is le = le
 rest_until c m is le = absurd (cc is)
 
+-- and writes nothing
+pub rest_written : (c : Call) (n : ℕ) → is_rest c ≡ true → MayHaveWritten c n → n ≡ 0
+rest_written (call.Nap i) n is may = may
+rest_written (call.Usleep i) n is may = may
+rest_written (call.Sleep i) n is may = may
+rest_written c n is may = absurd (cc is)
+
+pub rest_writes_nothing : (c : Call) → is_rest c ≡ true → MayHaveWritten c 0
+rest_writes_nothing (call.Nap i) is = refl
+rest_writes_nothing (call.Usleep i) is = refl
+rest_writes_nothing (call.Sleep i) is = refl
+rest_writes_nothing c is = absurd (cc is)
+
 -- what does nothing does nothing where it is refused
 silent_both : {P S H : Type 0} (b : Bool) → unless_refused b (silent {P = P} {S = S} {H = H}) ≡ silent
 silent_both true = refl
@@ -63,8 +75,8 @@ module _ {P S H : Type 0} (f : P → Functions S H) (s : State P S H) (t : ℕ) 
 
   -- it is answered at once, or blocks the thread until its moment
   pub rest_begins : (c : Call) (r : Rest) (o : Option Answer) → is_rest c ≡ true → RestsFor s (row_of f s t c) r
-      → ((v : Verdict) → (refused EINVAL when is_negative r.operand otherwise says r.answer when is_zero r.operand otherwise v) ≡ says_or o v)
-      → begun f t c s ≡ begun_by f t c (says_or o (blocks_until (moment_after (now_of s.control) r.length))) silent s
+      → ((v : Verdict) → (refused EINVAL when is_negative r.operand otherwise says r.answer when is_zero r.operand otherwise v) ≡ said_or o v)
+      → begun f t c s ≡ begun_by f t c (said_or o (blocks_until (moment_after (now_of s.control) r.length))) silent s
   rest_begins c r o is own once =
       let now = now_of s.control in
       let v : Verdict = refused EINVAL when is_negative r.operand otherwise says r.answer when is_zero r.operand otherwise blocks_until (moment_after now (length_of own.unit r.operand)) in
@@ -72,11 +84,7 @@ module _ {P S H : Type 0} (f : P → Functions S H) (s : State P S H) (t : ℕ) 
       ∙ ap (λ (x : Row P S H). begun_as f t c x.begin s) own.row_is
       ∙ ap (λ (e : Piece P S H). begun_by f t c v e s) (silent_both (refuses v))
       ∙ ap (λ (x : Verdict). begun_by f t c x silent s) (once (blocks_until (moment_after now (length_of own.unit r.operand))))
-      ∙ ap (λ (n : ℕ). begun_by f t c (says_or o (blocks_until (moment_after now n))) silent s) (sym own.long)
-
--- what holds of the call that blocks
-held_at : {A : Type 0} (o : Option A) (Q : A → Type 0) (x : A) → o ≡ Some x → IfSome o Q → Q x
-held_at {A = A} o Q x is h = subst (λ (y : Option A). IfSome y Q) is h
+      ∙ ap (λ (n : ℕ). begun_by f t c (said_or o (blocks_until (moment_after now n))) silent s) (sym own.long)
 
 is_ahead : (m n now : ℕ) → m ≡ n → now < n → nat_le m now ≡ false
 is_ahead m n now is before = grind (arith, nat_tests)
@@ -96,10 +104,10 @@ module _ {P S H : Type 0} (f : P → Functions S H) (s : State P S H) (t : ℕ) 
   moment_is = held_at (blocked_of s.control t) (λ (b : Blocked). b.moment ≡ m) (record h.blocked { call = c }) h.has until
 
   -- the moment has not come
-  pub rest_goes_on : ring_given c ≡ None → now_of s.control < m → resumed f t s ≡ record { told = tells (Waits (tid t) c) s; next = next.Waits }
-  rest_goes_on none before =
+  pub rest_goes_on : is_rest c ≡ true → ring_given c ≡ None → now_of s.control < m → resumed f t s ≡ record { told = tells (Waits (tid t) c) s; next = next.Waits }
+  rest_goes_on rested none before =
       let test : nat_le h.blocked.moment (now_of s.control) ≡ false = is_ahead h.blocked.moment m (now_of s.control) moment_is before in
-      waits_again f s t c h attempt again (ap (has_event_come s.control.events) none) (rw test refl) (rw test refl)
+      waits_again f s t c h attempt again (rest_written c _ rested h.may.written) (ap (has_event_come s.control.events) none) (rw test refl) (rw test refl)
 
   -- it has come
   pub rest_is_over : m ≤ now_of s.control → resumed f t s ≡ (answers f t c (Int (pos r.answer)) and_next next.Done (Int (pos r.answer))) s

@@ -37,7 +37,7 @@ module _ {P S H : Type 0} (f : P → Functions S H) (s : State P S H) (t : ℕ) 
   again = rw is refl
 
   pub wait_goes_on : nat_lt 0 come ≡ false → resumed f t s ≡ record { told = tells (Waits (tid t) (call.Wait e)) s; next = next.Waits }
-  wait_goes_on none = waits_again f s t (call.Wait e) h attempt again (rw (← is) none) (rw none refl) (rw none refl)
+  wait_goes_on none = waits_again f s t (call.Wait e) h attempt again h.may.written (rw (← is) none) (rw none refl) (rw none refl)
 
   pub wait_is_over : nat_lt 0 come ≡ true → resumed f t s ≡ (answers f t (call.Wait e) (Int (pos come)) and_next next.Done (Int (pos come))) s
   wait_is_over some =

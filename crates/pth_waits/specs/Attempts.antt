@@ -1,13 +1,7 @@
 -- What an attempt at a call comes to, as the code tells it.
 use Rattle.std.specs.Prelude.{Option, Some, None}
-use Rattle.pth_base.specs.declared.answer.Answer.{Answer}
 use Rattle.pth_base.specs.declared.errno.Errno.{Errno}
-use Rattle.pth_model.specs.Verdict.{Verdict, Says, refused}
-
--- the verdict of an answer, or else this one
-abbrev pub says_or : Option Answer → Verdict → Verdict
-says_or (Some a) v = Says a
-says_or None v = v
+use Rattle.pth_model.specs.Verdict.{Verdict, refused}
 
 -- the verdict of a refusal, or else this one
 abbrev pub refused_or : Option Errno → Verdict → Verdict

@@ -1,10 +1,11 @@
 -- Which calls may block their threads, and what stands before they do.
-use Rattle.std.specs.Prelude.{ℕ, Bool, true, false}
+use Rattle.std.specs.Prelude.{ℕ, Bool, true}
 use Rattle.pth_base.specs.declared.call.Call.{Call}
 use Rattle.pth_base.specs.declared.call.Call.TheVariants as call
 use Rattle.pth_model.specs.RingWaits.{ring_given, claims}
 use Rattle.pth_model.specs.State.{State}
 use Rattle.pth_model.specs.Transition.{controlled}
+use Rattle.pth_waits.specs.Io.{is_io}
 use Rattle.pth_world.specs.Shows.{StandsFor}
 use Rattle.pth_world.specs.World.{WorldOf}
 
@@ -16,7 +17,7 @@ may_block (call.Nap n) = true
 may_block (call.Usleep n) = true
 may_block (call.Sleep n) = true
 may_block (call.Wait e) = true
-may_block c = false
+may_block c = is_io c
 
 -- from this state, a call of thread t has claimed the ring that it was given, if any
 abbrev pub HasClaimed : {P S H : Type 0} → WorldOf P S H → ℕ → Call → State P S H → Type 0

@@ -1,5 +1,6 @@
 pub mod Attempts
 pub mod Blocking
+pub mod Io
 pub mod Rests
 pub mod Waking
 pub mod Looking

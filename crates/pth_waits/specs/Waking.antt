@@ -8,6 +8,7 @@ use Rattle.pth_model.specs.Changes.{or_nobody, blocked_of}
 use Rattle.pth_model.specs.Pass.{is_come_for}
 use Rattle.pth_model.specs.ThreadControl.{thread, is_dead_in, first_of, joinable_dead}
 use Rattle.pth_model.specs.ThreadEnds.{is_alone}
+use Rattle.pth_waits.specs.Io.{wakes_for}
 
 -- What thread t waits for has come: nothing never comes. The death of a thread that can't be joined, or is in the system no
 -- longer, is not waited for: then the join is tried again, and refused (pth_join).
@@ -19,6 +20,8 @@ has_come k t AnyDeath = is_some (first_of (joinable_dead k))
 has_come k t (Moment m) = nat_le m (now_of k)
 -- an event of a ring comes as it is looked at
 has_come k t (Ring e) = false
+-- what descriptors bring
+has_come k t a = wakes_for k.kernel a
 
 -- the thread is to wake: what its call waits for has come, or an event of the ring that it was given comes
 abbrev pub is_due : {P S H : Type 0} → Control P S H → ℕ → Bool

@@ -11,6 +11,7 @@ ghost use Rattle.pth_world.specs.Numbering.{HasNumbers};
 ghost use Rattle.pth_world.specs.Shows.{StandsFor};
 ghost use Rattle.pth_world.specs.Whole.{Whole};
 
+use crate::io::{begin_io, is_io};
 use crate::joins::begin_join;
 use crate::library_ends::kill;
 use crate::rests::begin_rest;
@@ -79,6 +80,7 @@ pub fn begin<P: Program>(
         Call::Exit(value) => begin_exit(w, t, call, value, marks),
         Call::Nap(_) | Call::Usleep(_) | Call::Sleep(_) => begin_rest(w, t, call, marks),
         Call::Wait(e) => begin_wait(w, t, call, e, marks),
+        _ if is_io(&call) => begin_io(w, t, call, marks),
         _ => begin_at_once(w, t, &call, marks),
     }
 }

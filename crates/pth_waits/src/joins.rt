@@ -9,12 +9,12 @@ ghost use Rattle.pth_model.specs.Row.{effect_of};
 ghost use Rattle.pth_model.specs.Transition.{silent};
 ghost use Rattle.pth_model.specs.State.{Control, State};
 ghost use Rattle.pth_model.specs.ThreadControl.{first_of, joinable_dead, to_join as to_join_now, joined, join_attempt};
-ghost use Rattle.pth_waits.specs.Attempts.{refused_or, says_or};
+ghost use Rattle.pth_waits.specs.Attempts.{refused_or};
 ghost use Rattle.pth_waits.specs.Waking.{has_come};
 ghost use Rattle.pth_model.specs.declared.awaits.Awaits.TheVariants.{Death, AnyDeath};
 ghost use Rattle.pth_base.specs.declared.answer.Answer.TheVariants.{Int};
 ghost use Rattle.pth_model.specs.Changes.{removes, entry_of, or_nobody};
-ghost use Rattle.pth_model.specs.Verdict.{Says, waits};
+ghost use Rattle.pth_model.specs.Verdict.{Says, said_or, waits};
 ghost use Rattle.pth_world.specs.Frame.{Frame, runs_after, yields_after};
 ghost use Rattle.pth_world.specs.Leading.{Leads, Changed};
 ghost use Rattle.pth_world.specs.Shows.{Shows, StandsFor};
@@ -136,7 +136,7 @@ fn take<P: Program>(w: &mut World<P>, other: Tid) -> i64
 fn attempt<P: Program>(w: &mut World<P>, t: Tid, n: i64) -> Option<Answer>
     requires whole { Whole w.old }
     requires runs { w.old.scheduler.running ≡ Some t.0 }
-    ensures verdict { (s : State P P.State P.Shared) → StandsFor w.old s → (join_attempt s t.0 n).verdict ≡ says_or result waits }
+    ensures verdict { (s : State P P.State P.Shared) → StandsFor w.old s → (join_attempt s t.0 n).verdict ≡ said_or result waits }
     ensures effect { (s : State P P.State P.Shared) → StandsFor w.old s → Changed w.new s (effect_of (join_attempt s t.0 n) s) }
     ensures waits { result ≡ None → (s : State P P.State P.Shared) → StandsFor w.old s → effect_of (join_attempt s t.0 n) s ≡ silent s }
     ensures frame { Frame w.old w.new 0 (Some t.0) false }
@@ -169,7 +169,7 @@ pub fn begin_join<P: Program>(
     let answer = match attempt(w, t, n) {
         Some(answer) => answer,
         None => {
-            block(w, t, call, 0, marks)?;
+            block(w, t, call, 0, 0, marks)?;
             return Ok(Next::Waits);
         }
     };

@@ -3,6 +3,7 @@
 
 pub mod begin;
 pub mod blocks;
+pub mod io;
 pub mod joins;
 pub mod library_ends;
 pub mod looks;
@@ -10,4 +11,5 @@ pub mod rests;
 pub mod resume;
 pub mod ring_waits;
 pub mod thread_ends;
+mod trials;
 pub mod wakes;

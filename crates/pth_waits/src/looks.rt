@@ -4,7 +4,7 @@ ghost use Rattle.std.specs.Prelude.{◌≡◌, ◌≢◌, ◌<◌, ◌&&◌, ◌
 ghost use Rattle.std.specs.List.{list_any};
 ghost use Rattle.pth_base.specs.Descriptors.{contains};
 ghost use Rattle.pth_kernel.specs.Kernel.{kernel_of, fd_named, is_readable, is_writeable, is_exceptional};
-ghost use Rattle.pth_model.specs.Looks.{comes, found as found_now, is_gone as is_gone_now, looks_at, occurs as occurs_now};
+ghost use Rattle.pth_model.specs.Looks.{comes, found as found_now, never_occurs as never_occurs_now, looks_at, occurs as occurs_now};
 ghost use Rattle.pth_model.specs.State.{Control};
 ghost use Rattle.pth_numbered.specs.Numbered.{number_at};
 ghost use Rattle.pth_numbered.specs.Operands.{number};
@@ -22,8 +22,8 @@ use pth_ring::rings::{EventSpec, Status};
 use pth_world::world::World;
 
 // Whether an event never comes any more, since a descriptor of it is not live.
-fn is_gone<P: Program>(w: &World<P>, spec: &EventSpec) -> bool
-    ensures { (k : Control P P.State P.Shared) → Shows w.now k → result ≡ is_gone_now k spec.now }
+fn never_occurs<P: Program>(w: &World<P>, spec: &EventSpec) -> bool
+    ensures { (k : Control P P.State P.Shared) → Shows w.now k → result ≡ never_occurs_now k spec.now }
 {
     match spec {
         EventSpec::Fd { fd, .. } => !w.kernel().is_live(*fd),
@@ -65,7 +65,7 @@ fn occurs<P: Program>(w: &World<P>, spec: &EventSpec) -> bool
 fn found<P: Program>(w: &World<P>, spec: &EventSpec) -> Status
     ensures { (k : Control P P.State P.Shared) → Shows w.now k → result ≡ found_now k spec.now }
 {
-    if is_gone(w, spec) {
+    if never_occurs(w, spec) {
         return Status::Failed;
     }
     if occurs(w, spec) {

@@ -8,9 +8,8 @@ ghost use Rattle.pth_model.specs.Changes.{blocked_of};
 ghost use Rattle.pth_model.specs.Rows.{row_of};
 ghost use Rattle.pth_model.specs.State.{Control, State};
 ghost use Rattle.pth_model.specs.Times.{is_negative};
-ghost use Rattle.pth_model.specs.Verdict.{Verdict, refused, says, ◌when◌otherwise◌};
+ghost use Rattle.pth_model.specs.Verdict.{Verdict, refused, says, said_or, ◌when◌otherwise◌};
 ghost use Rattle.pth_numbered.specs.Operands.{is_zero};
-ghost use Rattle.pth_waits.specs.Attempts.{says_or};
 ghost use Rattle.pth_waits.specs.Rests.{is_rest, RestsFor};
 ghost use Rattle.pth_world.specs.Frame.{Frame, runs_after, yields_after};
 ghost use Rattle.pth_world.specs.Leading.{Leads};
@@ -69,7 +68,7 @@ fn rest_of<P: Program>(call: &Call) -> Rest
 
 // What a call is answered as it begins: a refusal, or for no time its answer. None where it waits.
 fn answer_at_once(rest: Rest) -> Option<Answer>
-    ensures { (v : Verdict) → (refused EINVAL when is_negative rest.operand otherwise says rest.answer when is_zero rest.operand otherwise v) ≡ says_or result v }
+    ensures { (v : Verdict) → (refused EINVAL when is_negative rest.operand otherwise says rest.answer when is_zero rest.operand otherwise v) ≡ said_or result v }
 {
     if rest.operand < 0 {
         return Some(Answer::Fail(Errno::EINVAL));
@@ -101,7 +100,7 @@ pub fn begin_rest<P: Program>(
         return Ok(Next::Done(answer));
     }
     let moment = moment_after(w.time(), rest.length);
-    block(w, t, call, moment, marks)?;
+    block(w, t, call, moment, 0, marks)?;
     Ok(Next::Waits)
 }
 

@@ -9,6 +9,7 @@ ghost use Rattle.pth_world.specs.Leading.{Leads};
 ghost use Rattle.pth_world.specs.Shows.{StandsFor};
 ghost use Rattle.pth_world.specs.Whole.{Whole};
 
+use crate::io::io_again;
 use crate::joins::join_again;
 use crate::rests::rest_again;
 use crate::ring_waits::wait_again;
@@ -42,6 +43,6 @@ pub fn resume<P: Program>(w: &mut World<P>, t: Tid, marks: &mut Marks) -> Result
         Call::Usleep(n) => rest_again(w, t, Call::Usleep(n), moment, marks),
         Call::Sleep(n) => rest_again(w, t, Call::Sleep(n), moment, marks),
         Call::Wait(e) => wait_again(w, t, e, marks),
-        _ => unreachable!(),
+        _ => io_again(w, t, marks),
     }
 }

@@ -44,7 +44,7 @@ pub fn begin_wait<P: Program>(
         let answer = answer_call(t, &call, Answer::Fail(errno), marks)?;
         return Ok(Next::Done(answer));
     }
-    block(w, t, call, 0, marks)?;
+    block(w, t, call, 0, 0, marks)?;
     Ok(Next::Waits)
 }
 

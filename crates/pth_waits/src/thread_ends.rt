@@ -51,7 +51,7 @@ pub fn begin_exit<P: Program>(
     ensures frame { IfOk result (λ n. Frame w.old w.new 0 (runs_after t.0 n) (yields_after n)) }
 {
     if must_wait(w, t) {
-        block(w, t, call, 0, marks)?;
+        block(w, t, call, 0, 0, marks)?;
         return Ok(Next::Waits);
     }
     end_thread(w, t, value, marks)?;

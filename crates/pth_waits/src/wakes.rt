@@ -8,10 +8,11 @@ ghost use Rattle.pth_model.specs.declared.awaits.Awaits.TheVariants.{AnyDeath};
 ghost use Rattle.pth_threads.specs.Threads.{tid_at};
 ghost use Rattle.pth_waits.specs.Waking.{has_come, is_due};
 ghost use Rattle.pth_world.specs.Shows.{Shows};
-ghost use Rattle.pth_world.specs.Whole.{Whole};
+ghost use Rattle.pth_world.specs.Whole.{Whole, MayAwait};
 
 use crate::joins::has_died;
 use crate::looks::look_at_ring;
+use crate::trials::wakes_for;
 use pth_base::ids::Slot;
 use pth_base::program::Program;
 use pth_model::awaits::Awaits;
@@ -22,6 +23,7 @@ fn has_come<P: Program>(w: &World<P>, slot: Slot, awaits: Awaits, any_dead: bool
     requires whole { Whole w.now }
     requires used { tid_at w.now.threads.records slot.0 ≢ 0 }
     requires dead { (k : Control P P.State P.Shared) (t : ℕ) → Shows w.now k → any_dead ≡ has_come k t AnyDeath }
+    requires may { MayAwait awaits }
     ensures { (k : Control P P.State P.Shared) → Shows w.now k → result ≡ has_come k (tid_at w.now.threads.records slot.0) awaits }
 {
     match awaits {
@@ -31,6 +33,7 @@ fn has_come<P: Program>(w: &World<P>, slot: Slot, awaits: Awaits, any_dead: bool
         Awaits::AnyDeath => any_dead,
         Awaits::Moment(moment) => moment <= w.time(),
         Awaits::Ring(_) => false,
+        _ => wakes_for(w.kernel(), awaits),
     }
 }
 
@@ -45,8 +48,10 @@ pub fn is_to_wake<P: Program>(w: &mut World<P>, slot: Slot, any_dead: bool) -> b
     ensures made { w.new.events.made ≡ w.old.events.made }
     ensures same { w.new ≡ record w.old { events = w.new.events } }
 {
-    match w.awaits_in(slot) {
-        Awaits::Ring(e) => look_at_ring(w, e),
-        awaits => has_come(w, slot, awaits, any_dead),
+    let awaited = w.awaited_in(slot);
+    let come = has_come(w, slot, awaited.what, any_dead);
+    match awaited.ring {
+        Some(e) => look_at_ring(w, e) | come,
+        None => come,
     }
 }

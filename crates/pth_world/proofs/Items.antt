@@ -7,11 +7,10 @@ use Rattle.pth_base.specs.Table.{put, table}
 use Rattle.pth_base.proofs.Lists.{table_set}
 use Rattle.pth_base.proofs.Tables.{put_by}
 use Rattle.pth_base.specs.declared.answer.Answer.{Answer}
-use Rattle.pth_model.specs.declared.awaits.Awaits.{Awaits}
-use Rattle.pth_model.specs.declared.awaits.Awaits.TheVariants.{Nothing}
+use Rattle.pth_model.specs.declared.awaits.Awaited.{Awaited}
 use Rattle.pth_model.specs.declared.progress.Progress.{Progress}
 use Rattle.pth_model.specs.Changes.{blocking, owing}
-use Rattle.pth_world.specs.Progress.{awaits_at, IsKeptBeside}
+use Rattle.pth_world.specs.Progress.{awaited_at, nothing_awaited, IsAwaitedBeside}
 
 module _ {S : Type 0} (xs : List (Option (Progress S))) (u : ℕ) (long : length xs ≡ thread_limit) (low : u < thread_limit) where
   within : u < length xs
@@ -25,13 +24,13 @@ module _ {S : Type 0} (xs : List (Option (Progress S))) (u : ℕ) (long : length
   item_is o is = get_or_default xs u None o within ∙ sym is
 
 -- What is left where one thing of the list xs was changed: ys has v at u, and beside it stands what is said.
-pub record Becomes {S : Type 0} (xs ys : List (Option (Progress S))) (now after : List Awaits) (u : ℕ) (v : Option (Progress S)) : Type 0 where
+pub record Becomes {S : Type 0} (xs ys : List (Option (Progress S))) (now after : List Awaited) (u : ℕ) (v : Option (Progress S)) : Type 0 where
   pub changed : table None ys ≡ put (table None xs) u v
   pub long : length ys ≡ thread_limit
   pub beside : after ≡ now
 
 module _ {S : Type 0} (xs : List (Option (Progress S))) (u : ℕ) (long : length xs ≡ thread_limit) (low : u < thread_limit) where
-  becomes : (ys : List (Option (Progress S))) (now after : List Awaits) (o v : Option (Progress S)) → ys ≡ set xs u o → o ≡ v → after ≡ now → Becomes xs ys now after u v
+  becomes : (ys : List (Option (Progress S))) (now after : List Awaited) (o v : Option (Progress S)) → ys ≡ set xs u o → o ≡ v → after ≡ now → Becomes xs ys now after u v
   becomes ys now after o v changed is beside = record {
     changed = ap (table None) changed ∙ items-set xs u long low o ∙ ap (put (table None xs) u) is;
     long = ap length changed ∙ length-set xs u o ∙ long;
@@ -39,10 +38,10 @@ module _ {S : Type 0} (xs : List (Option (Progress S))) (u : ℕ) (long : length
   }
 
   -- something else stands there
-  pub becomes-set : (now : List Awaits) (o : Option (Progress S)) → Becomes xs (set xs u o) now now u o
+  pub becomes-set : (now : List Awaited) (o : Option (Progress S)) → Becomes xs (set xs u o) now now u o
   becomes-set now o = becomes (set xs u o) now now o o refl refl refl
 
-  module _ (f : Progress S → Progress S) (ys : List (Option (Progress S))) (now after : List Awaits) (o : Option (Progress S)) (is : o ≡ get_or xs u o) where
+  module _ (f : Progress S → Progress S) (ys : List (Option (Progress S))) (now after : List Awaited) (o : Option (Progress S)) (is : o ≡ get_or xs u o) where
     -- a continuation is changed by f
     pub becomes-some : (x : Progress S) → o ≡ Some x → ys ≡ set xs u (Some (f x)) → after ≡ now → Becomes xs ys now after u (option_map f (table None xs u))
     becomes-some x some changed beside = becomes ys now after (Some (f x)) (option_map f (table None xs u)) changed (sym (ap (option_map f) (item_is xs u long low o is ∙ some))) beside
@@ -54,43 +53,43 @@ module _ {S : Type 0} (xs : List (Option (Progress S))) (u : ℕ) (long : length
 -- ---- what stands beside
 
 -- who is owed another answer waits for the same
-pub owing_awaits : {S : Type 0} (a : Answer) (o : Option (Progress S)) → awaits_at (option_map (owing a) o) ≡ awaits_at o
-owing_awaits a (Some p) = refl
-owing_awaits a None = refl
+pub owing_awaited : {S : Type 0} (a : Answer) (o : Option (Progress S)) → awaited_at (option_map (owing a) o) ≡ awaited_at o
+owing_awaited a (Some p) = refl
+owing_awaited a None = refl
 
 -- whom no call blocks waits for nothing
-pub unblocked_awaits : {S : Type 0} (o : Option (Progress S)) → Nothing ≡ awaits_at (option_map (blocking None) o)
-unblocked_awaits (Some p) = refl
-unblocked_awaits None = refl
+pub unblocked_awaited : {S : Type 0} (o : Option (Progress S)) → nothing_awaited ≡ awaited_at (option_map (blocking None) o)
+unblocked_awaited (Some p) = refl
+unblocked_awaited None = refl
 
-module _ {S : Type 0} (xs ys : List (Option (Progress S))) (before after : List Awaits) (kept : IsKeptBeside xs before) (u : ℕ) (low : u < thread_limit) (v : Option (Progress S)) where
-  each_kept : (now : List Awaits) → length now ≡ length before → table Nothing now u ≡ awaits_at v → ((i : ℕ) → i ≢ u → table Nothing now i ≡ table Nothing before i) → Becomes xs ys now after u v → IsKeptBeside ys after
+module _ {S : Type 0} (xs ys : List (Option (Progress S))) (before after : List Awaited) (kept : IsAwaitedBeside xs before) (u : ℕ) (low : u < thread_limit) (v : Option (Progress S)) where
+  each_kept : (now : List Awaited) → length now ≡ length before → table nothing_awaited now u ≡ awaited_at v → ((i : ℕ) → i ≢ u → table nothing_awaited now i ≡ table nothing_awaited before i) → Becomes xs ys now after u v → IsAwaitedBeside ys after
   each_kept now long here other b = record {
     long = b.long;
     beside = ap length b.beside ∙ long ∙ kept.beside;
-    same = λ i. ap (λ (l : List Awaits). table Nothing l i) b.beside ∙ each i ∙ ap (λ (f : ℕ → Option (Progress S)). awaits_at (f i)) (sym b.changed);
+    same = λ i. ap (λ (l : List Awaited). table nothing_awaited l i) b.beside ∙ each i ∙ ap (λ (f : ℕ → Option (Progress S)). awaited_at (f i)) (sym b.changed);
   }
     where
-      each : (i : ℕ) → table Nothing now i ≡ awaits_at (put (table None xs) u v i)
-      each i = put_by (λ (o : Option (Progress S)). table Nothing now i ≡ awaits_at o) (table None xs) u v i
-          (λ same. ap (table Nothing now) same ∙ here)
+      each : (i : ℕ) → table nothing_awaited now i ≡ awaited_at (put (table None xs) u v i)
+      each i = put_by (λ (o : Option (Progress S)). table nothing_awaited now i ≡ awaited_at o) (table None xs) u v i
+          (λ same. ap (table nothing_awaited now) same ∙ here)
           (λ apart. other i apart ∙ kept.same i)
 
   -- what the thread there waits for is set
-  pub kept_set : (a : Awaits) → Becomes xs ys (set before u a) after u v → a ≡ awaits_at v → IsKeptBeside ys after
-  kept_set a b is = each_kept (set before u a) (length-set before u a) (get_or-set_same before u a Nothing (let beside = kept.beside in omega arith) ∙ is) (λ i apart. get_or-set_other before u i a Nothing apart) b
+  pub kept_set : (a : Awaited) → Becomes xs ys (set before u a) after u v → a ≡ awaited_at v → IsAwaitedBeside ys after
+  kept_set a b is = each_kept (set before u a) (length-set before u a) (get_or-set_same before u a nothing_awaited (let beside = kept.beside in omega arith) ∙ is) (λ i apart. get_or-set_other before u i a nothing_awaited apart) b
 
   -- it waits for the same
-  pub kept_same : Becomes xs ys before after u v → awaits_at v ≡ awaits_at (table None xs u) → IsKeptBeside ys after
+  pub kept_same : Becomes xs ys before after u v → awaited_at v ≡ awaited_at (table None xs u) → IsAwaitedBeside ys after
   kept_same b is = each_kept before refl (kept.same u ∙ sym is) (λ i apart. refl) b
 
 -- nothing stands anywhere, and nothing is waited for
-all_nothing : (n i : ℕ) → table Nothing (replicate n Nothing) i ≡ Nothing
-all_nothing n i = elim (cases_lt i n) [ inl low ↦ get_or-replicate n i Nothing Nothing low | inr high ↦ get_or_past (replicate n Nothing) i Nothing (omega (arith, length-replicate n Nothing)) ]
+all_nothing : (n i : ℕ) → table nothing_awaited (replicate n nothing_awaited) i ≡ nothing_awaited
+all_nothing n i = elim (cases_lt i n) [ inl low ↦ get_or-replicate n i nothing_awaited nothing_awaited low | inr high ↦ get_or_past (replicate n nothing_awaited) i nothing_awaited (omega (arith, length-replicate n nothing_awaited)) ]
 
-pub kept_none : {S : Type 0} (xs : List (Option (Progress S))) (awaits : List Awaits) → length xs ≡ thread_limit → table None xs ≡ (λ _. None) → awaits ≡ replicate thread_limit Nothing → IsKeptBeside xs awaits
-kept_none xs awaits long none is = record {
+pub kept_none : {S : Type 0} (xs : List (Option (Progress S))) (awaited : List Awaited) → length xs ≡ thread_limit → table None xs ≡ (λ _. None) → awaited ≡ replicate thread_limit nothing_awaited → IsAwaitedBeside xs awaited
+kept_none xs awaited long none is = record {
   long = long;
-  beside = ap length is ∙ length-replicate thread_limit Nothing;
-  same = λ u. ap (λ (l : List Awaits). table Nothing l u) is ∙ all_nothing thread_limit u ∙ sym (ap (λ (f : ℕ → Option (Progress _)). awaits_at (f u)) none);
+  beside = ap length is ∙ length-replicate thread_limit nothing_awaited;
+  same = λ u. ap (λ (l : List Awaited). table nothing_awaited l u) is ∙ all_nothing thread_limit u ∙ sym (ap (λ (f : ℕ → Option (Progress _)). awaited_at (f u)) none);
 }

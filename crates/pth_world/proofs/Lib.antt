@@ -14,6 +14,7 @@ pub mod Runnable
 pub mod QueueReads
 pub mod Walks
 pub mod Items
+pub mod Awaiting
 pub mod Ranks
 pub mod Scheduling
 pub mod Frames

@@ -1,5 +1,5 @@
 -- What holds of every world between two calls, and of each thread but one while that thread is changed.
-use Rattle.std.specs.Prelude.{◌≡◌, ◌≢◌, ◌≤◌, ℕ, Bool, true, false, Option, Some, None, IfSome}
+use Rattle.std.specs.Prelude.{◌≡◌, ◌≢◌, ◌≤◌, ◌<◌, ◌^◌, ℕ, length, Bool, true, false, Option, Some, None, IfSome}
 use Rattle.pth_base.specs.Limits.{last_moment}
 use Rattle.pth_base.specs.Table.{table}
 use Rattle.pth_base.specs.declared.call.Call.{Call}
@@ -11,6 +11,8 @@ use Rattle.pth_queue.specs.declared.queue.Queue.{Queue}
 use Rattle.pth_queue.specs.declared.queue.Queue.TheVariants as queue
 use Rattle.pth_threads.specs.Threads.{slot_of, tid_at, entry_at}
 use Rattle.pth_threads.specs.declared.entry.Entry.{Entry}
+use Rattle.pth_model.specs.declared.awaits.Awaits.{Awaits}
+use Rattle.pth_model.specs.declared.awaits.Awaits.TheVariants.{Writing}
 use Rattle.pth_model.specs.declared.blocked.Blocked.{Blocked}
 use Rattle.pth_model.specs.declared.blocked.Retake.{Retake}
 use Rattle.pth_model.specs.declared.blocked.Retake.TheVariants as retake
@@ -38,8 +40,8 @@ abbrev pub TakesNothingBack : Retake → Type 0
 TakesNothingBack retake.No = Unit {0}
 TakesNothingBack r = ⊥
 
--- which calls block which threads: of those that are built, main's exit, every join, and the calls that wait for a moment or for
--- a ring
+-- which calls block which threads: of those that are built, main's exit, every join, and the calls that wait for a moment, for a
+-- ring or for a descriptor
 abbrev pub MayBlockAs : ℕ → Call → Type 0
 MayBlockAs t (call.Exit v) = t ≡ main
 MayBlockAs t (call.Join n) = Unit {0}
@@ -47,6 +49,16 @@ MayBlockAs t (call.Nap n) = Unit {0}
 MayBlockAs t (call.Usleep n) = Unit {0}
 MayBlockAs t (call.Sleep n) = Unit {0}
 MayBlockAs t (call.Wait e) = Unit {0}
+MayBlockAs t (call.Read f n) = Unit {0}
+MayBlockAs t (call.ReadEv f n e) = Unit {0}
+MayBlockAs t (call.Write f bytes) = Unit {0}
+MayBlockAs t (call.WriteEv f bytes e) = Unit {0}
+MayBlockAs t (call.Accept f) = Unit {0}
+MayBlockAs t (call.AcceptEv f e) = Unit {0}
+MayBlockAs t (call.Connect f) = Unit {0}
+MayBlockAs t (call.ConnectEv f e) = Unit {0}
+MayBlockAs t (call.Select r w x l) = Unit {0}
+MayBlockAs t (call.SelectEv r w x l e) = Unit {0}
 MayBlockAs t c = ⊥
 
 -- until which moment a call blocks its thread: none, but for those that wait for one, which is not after the last
@@ -54,13 +66,26 @@ abbrev pub MayWaitUntil : Call → ℕ → Type 0
 MayWaitUntil (call.Nap n) m = m ≤ last_moment
 MayWaitUntil (call.Usleep n) m = m ≤ last_moment
 MayWaitUntil (call.Sleep n) m = m ≤ last_moment
+MayWaitUntil (call.Select r w x l) m = m ≤ last_moment
+MayWaitUntil (call.SelectEv r w x l e) m = m ≤ last_moment
 MayWaitUntil c m = m ≡ 0
+
+-- how many bytes a call has written that blocks its thread: none, but for a write
+abbrev pub MayHaveWritten : Call → ℕ → Type 0
+MayHaveWritten (call.Write f bytes) n = (n ≤ length bytes) × (length bytes < 2 ^ 63)
+MayHaveWritten (call.WriteEv f bytes e) n = (n ≤ length bytes) × (length bytes < 2 ^ 63)
+MayHaveWritten c n = n ≡ 0
+
+-- what a thread waits for where so much was written: of a write not more than its bytes
+abbrev pub MayAwait : Awaits → Type 0
+MayAwait (Writing f total written) = (written ≤ total) × (total < 2 ^ 63)
+MayAwait a = Unit {0}
 
 pub record MayBlock (t : ℕ) (b : Blocked) : Type 0 where
   pub call : MayBlockAs t b.call
   pub moment : MayWaitUntil b.call b.moment
-  -- it writes nothing, reaches no barrier, and takes no mutex back
-  pub written : b.written ≡ 0
+  pub written : MayHaveWritten b.call b.written
+  -- it reaches no barrier, and takes no mutex back
   pub round : b.round ≡ 0
   pub retake : TakesNothingBack b.retake
 

@@ -4,7 +4,7 @@ ghost use Rattle.std.specs.Prelude.{◌≡◌, ◌<◌, ℕ, Option, Some, None,
 ghost use Rattle.pth_base.specs.Limits.{thread_limit};
 ghost use Rattle.pth_base.specs.Table.{put, table};
 ghost use Rattle.pth_model.specs.Changes.{owed_in, blocked_in, owing, blocking};
-ghost use Rattle.pth_world.specs.Progress.{awaits_at};
+ghost use Rattle.pth_world.specs.Progress.{awaited_at};
 ghost use Rattle.pth_world.specs.StepsAt.{StepsAt};
 
 use pth_base::answer::Answer;
@@ -13,7 +13,7 @@ use pth_base::ids::Slot;
 use pth_base::limits::MOST_THREADS;
 use pth_base::memory::OutOfMemory;
 use pth_base::program::Program;
-use pth_model::awaits::Awaits;
+use pth_model::awaits::Awaited;
 use pth_model::blocked::Blocked;
 use pth_model::progress::Progress;
 use std::alloc::Global;
@@ -28,19 +28,19 @@ const SLOTS: usize = MOST_THREADS as usize;
 #[derive(Drop)]
 pub struct ProgressTable<S> {
     items: Vec<Option<Progress<S>>>,
-    awaits: Vec<Awaits>,
+    awaited: Vec<Awaited>,
 }
 
 impl<S> Model for ProgressTable<S> {
     ghost use Rattle.std.specs.Prelude.{List, Option};
     ghost use Rattle.pth_model.specs.declared.progress.Progress.{Progress};
-    ghost use Rattle.pth_world.specs.Progress.{IsKeptBeside};
+    ghost use Rattle.pth_world.specs.Progress.{IsAwaitedBeside};
 
     ghost Value = { List (Option (Progress S)) };
 
     ghost view = { λ a. a.items.items };
 
-    ghost invariant = { λ a. IsKeptBeside a.items.items a.awaits.items };
+    ghost invariant = { λ a. IsAwaitedBeside a.items.items a.awaited.items };
 }
 
 impl<S: Drop> ProgressTable<S> {
@@ -53,8 +53,8 @@ impl<S: Drop> ProgressTable<S> {
         while items.len() < SLOTS {
             items.push(None)?;
         }
-        let awaits = vec![in alloc; Awaits::Nothing; SLOTS]?;
-        Ok(ProgressTable { items, awaits })
+        let awaited = vec![in alloc; Awaited::NOTHING; SLOTS]?;
+        Ok(ProgressTable { items, awaited })
     }
 
     /// Sets how far the thread at a slot is.
@@ -63,7 +63,7 @@ impl<S: Drop> ProgressTable<S> {
         ensures set { table None self.new ≡ put (table None self.old) s.0 p }
         ensures long { length self.new ≡ thread_limit }
     {
-        self.awaits[s.0 as usize] = awaited(&p);
+        self.awaited[s.0 as usize] = awaited_in(&p);
         self.items[s.0 as usize] = p;
     }
 
@@ -76,11 +76,11 @@ impl<S: Drop> ProgressTable<S> {
     }
 
     /// What the thread at a slot waits for: nothing where no call blocks it, or no thread is there.
-    pub fn awaits(&self, s: Slot) -> Awaits
+    pub fn awaited(&self, s: Slot) -> Awaited
         requires { s.0 < thread_limit }
-        ensures { result ≡ awaits_at (table None self.now s.0) }
+        ensures { result ≡ awaited_at (table None self.now s.0) }
     {
-        self.awaits[s.0 as usize]
+        self.awaited[s.0 as usize]
     }
 
     /// Sets the call that blocks the thread at a slot.
@@ -90,7 +90,7 @@ impl<S: Drop> ProgressTable<S> {
         ensures long { length self.new ≡ thread_limit }
     {
         if let Some(p) = &mut self.items[s.0 as usize] {
-            self.awaits[s.0 as usize] = b.awaits();
+            self.awaited[s.0 as usize] = b.awaited();
             block_by(p, b);
         }
     }
@@ -102,7 +102,7 @@ impl<S: Drop> ProgressTable<S> {
         ensures set { table None self.new ≡ put (table None self.old) s.0 (option_map (blocking None) (table None self.old s.0)) }
         ensures long { length self.new ≡ thread_limit }
     {
-        self.awaits[s.0 as usize] = Awaits::Nothing;
+        self.awaited[s.0 as usize] = Awaited::NOTHING;
         match &mut self.items[s.0 as usize] {
             Some(p) => p.blocked.take(),
             None => None,
@@ -135,15 +135,15 @@ impl<S: Drop> ProgressTable<S> {
 }
 
 // What a thread waits for, if there is one.
-fn awaited<S>(p: &Option<Progress<S>>) -> Awaits
-    ensures { result ≡ awaits_at p.now }
+fn awaited_in<S>(p: &Option<Progress<S>>) -> Awaited
+    ensures { result ≡ awaited_at p.now }
 {
     match p {
         Some(p) => match &p.blocked {
-            Some(b) => b.awaits(),
-            None => Awaits::Nothing,
+            Some(b) => b.awaited(),
+            None => Awaited::NOTHING,
         },
-        None => Awaits::Nothing,
+        None => Awaited::NOTHING,
     }
 }
 

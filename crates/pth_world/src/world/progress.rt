@@ -3,14 +3,14 @@
 ghost use Rattle.std.specs.Prelude.{◌≡◌, ◌<◌, ℕ, Option, Some, None, IsSome, IfSome, IfOk, OnOk, option_copied, length};
 ghost use Rattle.pth_base.specs.Limits.{thread_limit};
 ghost use Rattle.pth_base.specs.Table.{table};
-ghost use Rattle.pth_model.specs.Awaits.{awaits_in};
+ghost use Rattle.pth_model.specs.Awaits.{awaited_in};
 ghost use Rattle.pth_model.specs.State.{Control};
 ghost use Rattle.pth_model.specs.Changes.{is_blocked_by, owes, blocked_of};
 ghost use Rattle.pth_model.specs.RingWaits.{stops_waiting};
 ghost use Rattle.pth_model.specs.Part.{step_of, stepping};
 ghost use Rattle.pth_world.specs.Shows.{Shows};
 ghost use Rattle.pth_world.specs.Sound.{IsSound, IsKnown};
-ghost use Rattle.pth_world.specs.Whole.{Whole, WholeBut, MayBlock};
+ghost use Rattle.pth_world.specs.Whole.{Whole, WholeBut, MayBlock, MayAwait};
 ghost use Rattle.pth_world.specs.Touches.{Touches, view_blocked, same_view};
 ghost use Rattle.pth_world.specs.StepsAt.{StepsAt};
 
@@ -21,7 +21,7 @@ use pth_base::call::Call;
 use pth_base::ids::{Slot, Tid};
 use pth_base::memory::OutOfMemory;
 use pth_base::program::Program;
-use pth_model::awaits::Awaits;
+use pth_model::awaits::Awaited;
 use pth_model::blocked::{Blocked, ring_held};
 
 impl<P: Program> World<P> {
@@ -40,8 +40,8 @@ impl<P: Program> World<P> {
         self.progress_mut().block(slot, b);
     }
 
-    // Takes out the call that blocks a thread; none where no call does.
-    fn take_blocked(&mut self, t: Tid) -> Option<Blocked>
+    /// Takes out the call that blocks a thread, and leaves its claim; none where no call does.
+    pub fn take_blocked(&mut self, t: Tid) -> Option<Blocked>
         requires sound { IsSound self.old.threads }
         requires known { IsKnown self.old.threads t.0 }
         ensures blocked { (k : Control P P.State P.Shared) → Shows self.old k → result ≡ blocked_of k t.0 }
@@ -56,10 +56,11 @@ impl<P: Program> World<P> {
         self.progress_mut().unblock(slot)
     }
 
-    /// No call blocks a thread any longer, and the claim of the one that did is given back.
-    pub fn unblock(&mut self, t: Tid)
+    /// No call blocks a thread any longer: the one that did, whose claim is given back; none where no call did.
+    pub fn unblock(&mut self, t: Tid) -> Option<Blocked>
         requires sound { IsSound self.old.threads }
         requires known { IsKnown self.old.threads t.0 }
+        ensures blocked { (k : Control P P.State P.Shared) → Shows self.old k → result ≡ blocked_of k t.0 }
         ensures shows { (k : Control P P.State P.Shared) → Shows self.old k → Shows self.new (stops_waiting t.0 k) }
         ensures sound { IsSound self.new.threads }
         ensures touches { Touches self.old.threads self.new.threads t.0 (view_blocked None) }
@@ -70,6 +71,7 @@ impl<P: Program> World<P> {
     {
         let blocked = self.take_blocked(t);
         self.give_back(ring_held(&blocked));
+        blocked
     }
 
     /// Sets the answer that is handed over to a thread in its next step.
@@ -104,13 +106,14 @@ impl<P: Program> World<P> {
     }
 
     /// What the call that blocks a thread waits for: nothing where no call does. It reads no call.
-    pub fn awaits(&self, t: Tid) -> Awaits
+    pub fn awaited(&self, t: Tid) -> Awaited
         requires { IsSound self.now.threads }
-        ensures { (k : Control P P.State P.Shared) → Shows self.now k → result ≡ awaits_in (blocked_of k t.0) }
+        ensures awaited { (k : Control P P.State P.Shared) → Shows self.now k → result ≡ awaited_in (blocked_of k t.0) }
+        ensures may { Whole self.now → MayAwait result.what }
     {
         match self.threads().find(t) {
-            Some(slot) => self.progress().awaits(slot),
-            None => Awaits::Nothing,
+            Some(slot) => self.progress().awaited(slot),
+            None => Awaited::NOTHING,
         }
     }
 

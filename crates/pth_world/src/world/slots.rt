@@ -3,18 +3,19 @@
 ghost use Rattle.std.specs.Prelude.{◌≡◌, ◌≢◌, ◌≤◌, All, map, vec_capacity};
 ghost use Rattle.pth_base.specs.Limits.{thread_limit};
 ghost use Rattle.pth_base.specs.declared.ids.Slot.{Slot};
-ghost use Rattle.pth_model.specs.Awaits.{awaits_in};
+ghost use Rattle.pth_model.specs.Awaits.{awaited_in as awaited};
 ghost use Rattle.pth_model.specs.Changes.{blocked_of};
 ghost use Rattle.pth_model.specs.Pass.{waiting};
 ghost use Rattle.pth_model.specs.State.{Control};
 ghost use Rattle.pth_threads.specs.Threads.{tid_at};
 ghost use Rattle.pth_world.specs.Shows.{Shows};
 ghost use Rattle.pth_world.specs.Sound.{IsSound, IsKnown};
+ghost use Rattle.pth_world.specs.Whole.{Whole, MayAwait};
 
 use crate::world::World;
 use pth_base::ids::{Slot, Tid};
 use pth_base::program::Program;
-use pth_model::awaits::Awaits;
+use pth_model::awaits::Awaited;
 use pth_queue::queue::Queue;
 
 impl<P: Program> World<P> {
@@ -41,11 +42,12 @@ impl<P: Program> World<P> {
     }
 
     /// What the thread at a slot waits for: nothing where no call blocks it. It reads no call.
-    pub fn awaits_in(&self, s: Slot) -> Awaits
+    pub fn awaited_in(&self, s: Slot) -> Awaited
         requires sound { IsSound self.now.threads }
         requires used { tid_at self.now.threads.records s.0 ≢ 0 }
-        ensures { (k : Control P P.State P.Shared) → Shows self.now k → result ≡ awaits_in (blocked_of k (tid_at self.now.threads.records s.0)) }
+        ensures awaited { (k : Control P P.State P.Shared) → Shows self.now k → result ≡ awaited (blocked_of k (tid_at self.now.threads.records s.0)) }
+        ensures may { Whole self.now → MayAwait result.what }
     {
-        self.progress().awaits(s)
+        self.progress().awaited(s)
     }
 }

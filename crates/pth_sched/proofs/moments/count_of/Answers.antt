@@ -1,19 +1,22 @@
-use Rattle.std.proofs.Common.{◌∙◌, sym, rules, SFits, w64, to_z-of_z}
+use Rattle.std.proofs.Common.{◌∙◌, Some, None, ap, sym, append-nil, rules, SFits, w64, to_z-of_z}
+use Rattle.pth_kernel.specs.Moments.{least_after}
 use Rattle.pth_ring.specs.Arena.{events_of}
-use Rattle.pth_sched.proofs.Counting.{moment_counted, ring_counted, none_counted}
+use Rattle.pth_sched.proofs.Counting.{thread_counted}
 use Rattle.pth_sched.proofs.moments.count_of.Goals as goal
 
-pub returns-in-Moment : goal.returns-in-Moment
-returns-in-Moment g c s ms st least =
-    let waits = sym (c.awaits_in.ensures s.control st.control) ∙ c.in-Moment.is in
-    moment_counted g.P.Program.functions s _ c.args.w.now.kernel.now ms c.args.best least c.in-Moment.moment waits c.sooner.result (rw c.time.ensures.now at c.sooner.ensures)
+pub returns-in-Some : goal.returns-in-Some
+returns-in-Some g c s ms st least =
+    let e : SFits w64 c.in-Some.e = search rules in
+    let now = c.args.w.now.kernel.now in
+    let awaits = c.awaited_in-awaited.ensures.awaited s.control st.control in
+    let is = rw (c.time.ensures.now, c.moment_of.ensures) at c.sooner-best.ensures in
+    thread_counted g.P.Program.functions s _ now ms c.args.best c.sooner-best.result c.count_ring.result c.awaited_in-awaited.result (Some c.in-Some.e) (events_of c.args.w.now.events) awaits c.in-Some.is st.control.events least is
+    (rw to_z-of_z at c.count_ring.ensures)
 
-pub returns-in-Ring : goal.returns-in-Ring
-returns-in-Ring g c s ms st least =
-    let e : SFits w64 c.in-Ring.e = search rules in
-    let waits = sym (c.awaits_in.ensures s.control st.control) ∙ c.in-Ring.is in
-    ring_counted g.P.Program.functions s _ c.args.w.now.kernel.now ms c.args.best least c.in-Ring.e waits (events_of c.args.w.now.events) st.control.events c.count_ring.result (rw to_z-of_z at c.count_ring.ensures)
-
-pub returns-in_default : goal.returns-in_default
-returns-in_default g c s ms st least =
-    none_counted g.P.Program.functions s _ c.args.w.now.kernel.now ms c.args.best least c.awaits_in.result (sym (c.awaits_in.ensures s.control st.control)) (λ m. c.in_default.not-Moment m) (λ e. c.in_default.not-Ring e)
+pub returns-in-None : goal.returns-in-None
+returns-in-None g c s ms st least =
+    let now = c.args.w.now.kernel.now in
+    let awaits = c.awaited_in-awaited.ensures.awaited s.control st.control in
+    let is = rw (c.time.ensures.now, c.moment_of.ensures) at c.sooner-best.ensures in
+    thread_counted g.P.Program.functions s _ now ms c.args.best c.sooner-best.result c.sooner-best.result c.awaited_in-awaited.result None (events_of c.args.w.now.events) awaits c.in-None.is st.control.events least is
+    (λ ns h. h ∙ ap (least_after now) (sym (append-nil ns)))

@@ -12,5 +12,5 @@ pub returns-clause-ok : goal.returns-clause-ok
 returns-clause-ok g c = on_ok_weaker c.push.result (λ told s st.
     let k = claims c.args.t.0 (ring_given c.args.call) s.control in
     let begin = c.time-begin.ensures.now ∙ sym (ap (λ x. x.now) st.control.kernel) in
-    let shows = subst (λ (n : ℕ). Shows c.block.new.self (is_blocked_by c.args.t.0 (Some (blocked_from n c.args.call (record no_pause { moment = c.args.moment }))) k)) begin (c.block.ensures.shows k st.control) in
+    let shows = subst (λ (n : ℕ). Shows c.block.new.self (is_blocked_by c.args.t.0 (Some (blocked_from n c.args.call (record no_pause { moment = c.args.moment; written = c.args.written }))) k)) begin (c.block.ensures.shows k st.control) in
     waits_leads _ s c.args.t.0 c.args.call _ _ _ c.requires.may st.resources shows (search rules)) c.push.ensures.ok

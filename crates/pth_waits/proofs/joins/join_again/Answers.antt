@@ -21,7 +21,7 @@ returns-in-None-clause-next g c s st =
     let h = held_by (blocked_of s.control t) t (Join c.args.n) (c.requires.some s.control st.control) (c.requires.blocked s.control st.control) in
     let verdict = (simp to_z-of_z at c.in-None.ensures.verdict) s st in
     let idle = (simp to_z-of_z at c.attempt.ensures.waits) c.in-None.is s st in
-    rw (waits_again g.P.Program.functions s t (Join c.args.n) h (join_attempt s t c.args.n) refl refl verdict idle) refl
+    rw (waits_again g.P.Program.functions s t (Join c.args.n) h (join_attempt s t c.args.n) refl h.may.written refl verdict idle) refl
 
 pub returns-in-None-clause-ok : goal.returns-in-None-clause-ok
 unfolding row_of
@@ -34,7 +34,7 @@ returns-in-None-clause-ok g c s st =
     let idle = (simp to_z-of_z at c.attempt.ensures.waits) c.in-None.is s st in
     let effect = (simp to_z-of_z at c.attempt.ensures.effect) s st in
     let shows = subst (λ (x : Transition _ _ _). Shows w x.state.control) idle effect.shows in
-    rw (waits_again g.P.Program.functions s t (Join c.args.n) h (join_attempt s t c.args.n) refl refl verdict idle)
+    rw (waits_again g.P.Program.functions s t (Join c.args.n) h (join_attempt s t c.args.n) refl h.may.written refl verdict idle)
     (tells_leads w s _ _ _ (quiet-waits t (Join c.args.n) tt) (record { control = shows; resources = st.resources }) (simp to_z-of_z at c.in_ok-push-in-None.ensures.ok))
 
 pub returns-clause-next : goal.returns-clause-next

@@ -7,7 +7,7 @@ use Rattle.pth_model.specs.declared.next.Next.TheVariants.{Done}
 use Rattle.pth_world.proofs.Telling.{tells_leads}
 use Rattle.pth_world.specs.Leading.{Leads}
 use Rattle.pth_waits.proofs.Blocking.{none_claimed, quiet-answered}
-use Rattle.pth_waits.proofs.Resting.{rest_begins, rest_given, rest_may, rest_until}
+use Rattle.pth_waits.proofs.Resting.{rest_begins, rest_given, rest_may, rest_until, rest_writes_nothing}
 use Rattle.pth_waits.proofs.rests.begin_rest.Goals as goal
 
 pub returns-in-Some-clause-next : goal.returns-in-Some-clause-next
@@ -37,3 +37,6 @@ block-requires-clause-may g c = rest_may c.args.t.0 c.args.call c.requires.call
 
 pub block-requires-clause-until : goal.block-requires-clause-until
 block-requires-clause-until g c = rest_until c.args.call _ c.requires.call (subst (λ (m : ℕ). m ≤ last_moment) (sym c.moment_after-moment.ensures) (min-le_right _ last_moment))
+
+pub block-requires-clause-written : goal.block-requires-clause-written
+block-requires-clause-written g c = rest_writes_nothing c.args.call c.requires.call

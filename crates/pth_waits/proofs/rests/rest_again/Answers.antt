@@ -12,7 +12,7 @@ returns-then-time-moment-clause-next g c s st =
     let h = held_by (blocked_of s.control t) t c.args.call (c.requires.some s.control st.control) (c.requires.blocked s.control st.control) in
     let now = c.time.ensures.now ∙ sym (ap (λ x. x.now) st.control.kernel) in
     let before : c.time.result < c.args.moment = search rules in
-    rw (rest_goes_on g.P.Program.functions s t c.args.call c.rest_of-rest.result h (c.rest_of-rest.ensures s t) c.args.moment (c.requires.moment s.control st.control) (rest_given c.args.call c.requires.call) (subst (λ (n : ℕ). n < c.args.moment) now before)) refl
+    rw (rest_goes_on g.P.Program.functions s t c.args.call c.rest_of-rest.result h (c.rest_of-rest.ensures s t) c.args.moment (c.requires.moment s.control st.control) c.requires.call (rest_given c.args.call c.requires.call) (subst (λ (n : ℕ). n < c.args.moment) now before)) refl
 
 pub returns-then-time-moment-clause-ok : goal.returns-then-time-moment-clause-ok
 returns-then-time-moment-clause-ok g c s st =
@@ -20,7 +20,7 @@ returns-then-time-moment-clause-ok g c s st =
     let h = held_by (blocked_of s.control t) t c.args.call (c.requires.some s.control st.control) (c.requires.blocked s.control st.control) in
     let now = c.time.ensures.now ∙ sym (ap (λ x. x.now) st.control.kernel) in
     let before : c.time.result < c.args.moment = search rules in
-    rw (rest_goes_on g.P.Program.functions s t c.args.call c.rest_of-rest.result h (c.rest_of-rest.ensures s t) c.args.moment (c.requires.moment s.control st.control) (rest_given c.args.call c.requires.call) (subst (λ (n : ℕ). n < c.args.moment) now before))
+    rw (rest_goes_on g.P.Program.functions s t c.args.call c.rest_of-rest.result h (c.rest_of-rest.ensures s t) c.args.moment (c.requires.moment s.control st.control) c.requires.call (rest_given c.args.call c.requires.call) (subst (λ (n : ℕ). n < c.args.moment) now before))
     (tells_leads _ s _ _ _ (quiet-waits t c.args.call h.may.call) st c.in_ok-push.ensures.ok)
 
 pub returns-clause-next : goal.returns-clause-next

@@ -14,7 +14,7 @@ unfolding row_of
 returns-then-must_wait-clause-next g c s st =
     let h = held_by (blocked_of s.control c.args.t.0) c.args.t.0 (Exit c.args.value) (c.requires.some s.control st.control) (c.requires.blocked s.control st.control) in
     let waits : must_wait s.control c.args.t.0 ≡ true = search rules in
-    rw (waits_again g.P.Program.functions s c.args.t.0 (Exit c.args.value) h (exit_attempt s c.args.t.0 c.args.value) refl refl (rw waits refl) (rw waits refl)) refl
+    rw (waits_again g.P.Program.functions s c.args.t.0 (Exit c.args.value) h (exit_attempt s c.args.t.0 c.args.value) refl h.may.written refl (rw waits refl) (rw waits refl)) refl
 
 pub returns-then-must_wait-clause-ok : goal.returns-then-must_wait-clause-ok
 unfolding row_of
@@ -22,7 +22,7 @@ returns-then-must_wait-clause-ok g c s st =
     let f : SFits w64 c.args.value = search rules in
     let h = held_by (blocked_of s.control c.args.t.0) c.args.t.0 (Exit c.args.value) (c.requires.some s.control st.control) (c.requires.blocked s.control st.control) in
     let waits : must_wait s.control c.args.t.0 ≡ true = search rules in
-    rw (waits_again g.P.Program.functions s c.args.t.0 (Exit c.args.value) h (exit_attempt s c.args.t.0 c.args.value) refl refl (rw waits refl) (rw waits refl)) (tells_leads _ s _ _ _ (quiet-waits c.args.t.0 (Exit c.args.value) h.may.call) st (search rules))
+    rw (waits_again g.P.Program.functions s c.args.t.0 (Exit c.args.value) h (exit_attempt s c.args.t.0 c.args.value) refl h.may.written refl (rw waits refl) (rw waits refl)) (tells_leads _ s _ _ _ (quiet-waits c.args.t.0 (Exit c.args.value) h.may.call) st (search rules))
 
 pub returns-in_err-end_thread-clause-err : goal.returns-in_err-end_thread-clause-err
 returns-in_err-end_thread-clause-err g c =

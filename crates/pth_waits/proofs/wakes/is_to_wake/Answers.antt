@@ -1,33 +1,41 @@
-use Rattle.std.proofs.Common.{◌∙◌, refl, sym, subst, List, ℕ, rules, SFits, w64, to_z-of_z}
+use Rattle.std.proofs.Common.{◌≡◌, ◌∙◌, ◌||◌, ap, ap₂, refl, sym, subst, Bool, List, ℕ, Some, None, rules, SFits, w64, to_z-of_z}
 use Rattle.pth_threads.specs.Threads.{tid_at}
+use Rattle.pth_model.specs.declared.awaits.Awaited.{Awaited}
+use Rattle.pth_model.specs.Awaits.{awaits_in}
+use Rattle.pth_model.specs.Changes.{blocked_of}
 use Rattle.pth_model.specs.Looks.{looks_at}
-use Rattle.pth_model.specs.RingWaits.{awaited_events}
+use Rattle.pth_model.specs.RingWaits.{awaited_events, ring_held}
+use Rattle.pth_waits.specs.Waking.{has_come}
 use Rattle.pth_world.specs.Shows.{Shows}
 use Rattle.pth_waits.proofs.Looking.{none_shows}
 use Rattle.pth_waits.proofs.Waking.{ring_events, ring_due, no_events, other_due}
 use Rattle.pth_waits.proofs.wakes.is_to_wake.Goals as goal
 
-pub returns-in-Ring-clause-shows : goal.returns-in-Ring-clause-shows
-returns-in-Ring-clause-shows g c k sh =
-    let e : SFits w64 c.in-Ring.e = search rules in
+pub returns-in-Some-clause-shows : goal.returns-in-Some-clause-shows
+returns-in-Some-clause-shows g c k sh =
+    let e : SFits w64 c.in-Some.e = search rules in
     let t = tid_at c.args.w.now.threads.records c.args.slot.0 in
-    let waits = sym (c.awaits_in.ensures k sh) ∙ c.in-Ring.is in
-    subst (λ (es : List ℕ). Shows c.look_at_ring.new.w (looks_at k es)) (sym (ring_events k t c.in-Ring.e waits)) ((rw to_z-of_z at c.look_at_ring.ensures.shows) k sh)
+    let given : ring_held (blocked_of k t) ≡ Some c.in-Some.e = sym (ap (λ (a : Awaited). a.ring) (c.awaited_in-awaited.ensures.awaited k sh)) ∙ c.in-Some.is in
+    subst (λ (es : List ℕ). Shows c.look_at_ring.new.w (looks_at k es)) (sym (ring_events k t c.in-Some.e given)) ((rw to_z-of_z at c.look_at_ring.ensures.shows) k sh)
 
-pub returns-in-Ring-clause-wakes : goal.returns-in-Ring-clause-wakes
-returns-in-Ring-clause-wakes g c k sh =
-    let e : SFits w64 c.in-Ring.e = search rules in
+pub returns-in-Some-clause-wakes : goal.returns-in-Some-clause-wakes
+returns-in-Some-clause-wakes g c k sh =
+    let e : SFits w64 c.in-Some.e = search rules in
     let t = tid_at c.args.w.now.threads.records c.args.slot.0 in
-    let waits = sym (c.awaits_in.ensures k sh) ∙ c.in-Ring.is in
-    (rw to_z-of_z at c.look_at_ring.ensures.comes) k sh ∙ sym (ring_due k t c.in-Ring.e waits)
+    let given : ring_held (blocked_of k t) ≡ Some c.in-Some.e = sym (ap (λ (a : Awaited). a.ring) (c.awaited_in-awaited.ensures.awaited k sh)) ∙ c.in-Some.is in
+    let come : c.has_come-come.result ≡ has_come k t (awaits_in (blocked_of k t)) = c.has_come-come.ensures k sh ∙ ap (λ (a : Awaited). has_come k t a.what) (c.awaited_in-awaited.ensures.awaited k sh) in
+    ap₂ (λ (a b : Bool). a || b) ((rw to_z-of_z at c.look_at_ring.ensures.comes) k sh) come ∙ sym (ring_due k t c.in-Some.e given)
 
-pub returns-in_default : goal.returns-in_default
-returns-in_default g c =
+pub returns-in-None : goal.returns-in-None
+returns-in-None g c =
     let t = tid_at c.args.w.now.threads.records c.args.slot.0 in
-    let a = c.awaits_in.result in
     record {
-      shows = λ k sh. none_shows c.args.w.now 0 k sh (awaited_events k t) (no_events k t a (sym (c.awaits_in.ensures k sh)) (λ e. c.in_default.not-Ring e));
-      wakes = λ k sh. c.has_come.ensures k sh ∙ sym (other_due k t a (sym (c.awaits_in.ensures k sh)) (λ e. c.in_default.not-Ring e));
+      shows = λ k sh.
+          let none : ring_held (blocked_of k t) ≡ None = sym (ap (λ (a : Awaited). a.ring) (c.awaited_in-awaited.ensures.awaited k sh)) ∙ c.in-None.is in
+          none_shows c.args.w.now 0 k sh (awaited_events k t) (no_events k t none);
+      wakes = λ k sh.
+          let none : ring_held (blocked_of k t) ≡ None = sym (ap (λ (a : Awaited). a.ring) (c.awaited_in-awaited.ensures.awaited k sh)) ∙ c.in-None.is in
+          c.has_come-come.ensures k sh ∙ ap (λ (a : Awaited). has_come k t a.what) (c.awaited_in-awaited.ensures.awaited k sh) ∙ sym (other_due k t none);
       made = refl;
       same = refl;
     }

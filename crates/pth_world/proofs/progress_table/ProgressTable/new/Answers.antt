@@ -14,4 +14,4 @@ loop-items-preserved g c = record {
 pub invariant_of-result : goal.invariant_of-result
 invariant_of-result g c =
     let long : length c.loop-items.items.items ≡ thread_limit = search rules in
-    kept_none c.loop-items.items.items c.in_ok-awaits.awaits.items long c.loop-items.invariant.none (c.in_ok-awaits.ensures.items_if_clones_equal (λ y is. is))
+    kept_none c.loop-items.items.items c.in_ok-awaited.awaited.items long c.loop-items.invariant.none (c.in_ok-awaited.ensures.items_if_clones_equal (λ y is. is))

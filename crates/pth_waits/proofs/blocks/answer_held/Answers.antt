@@ -1,0 +1,19 @@
+use Rattle.std.proofs.Common.{◌≡◌, ◌∙◌, Option, Some, IsSome, sym, subst}
+use Rattle.pth_model.specs.declared.blocked.Blocked.{Blocked}
+use Rattle.pth_model.specs.Changes.{blocked_of}
+use Rattle.pth_world.proofs.StateOf.{stands_for_state}
+use Rattle.pth_world.specs.Whole.{MayBlock}
+use Rattle.pth_waits.proofs.Blocking.{answers_leads, held_at}
+use Rattle.pth_waits.proofs.blocks.answer_held.Goals as goal
+
+pub unreachable-requires : goal.unreachable-requires
+unreachable-requires g c =
+    let st = stands_for_state c.args.w.now c.requires.whole.sound in
+    cc (subst (λ (o : Option Blocked). IsSome o) (sym (c.unblock.ensures.blocked _ st.control) ∙ c.in-None.is) (c.requires.some _ st.control))
+
+pub returns-clause-ok : goal.returns-clause-ok
+returns-clause-ok g c s st =
+    let t = c.args.t.0 in
+    let is : blocked_of s.control t ≡ Some c.in-Some.held = sym (c.unblock.ensures.blocked s.control st.control) ∙ c.in-Some.is in
+    let may = held_at (blocked_of s.control t) (λ (b : Blocked). MayBlock t b) c.in-Some.held is (c.requires.may s.control st.control) in
+    rw is (answers_leads g.P.Program.functions _ s t c.in-Some.held.call c.args.answer _ _ may.call st.resources (c.unblock.ensures.shows s.control st.control) c.in_ok-answer-in-Some.ensures.ok)

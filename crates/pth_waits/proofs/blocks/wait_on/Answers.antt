@@ -1,0 +1,38 @@
+use Rattle.std.proofs.Common.{◌≡◌, ◌∙◌, Option, Some, None, IsSome, false, ap, sym, subst}
+use Rattle.pth_model.specs.declared.blocked.Blocked.{Blocked}
+use Rattle.pth_model.specs.Changes.{blocked_of}
+use Rattle.pth_model.specs.State.{Control}
+use Rattle.pth_world.proofs.StateOf.{stands_for_state}
+use Rattle.pth_world.specs.Frame.{Frame}
+use Rattle.pth_world.specs.Shows.{Shows}
+use Rattle.pth_world.specs.Whole.{Whole, MayBlock, MayHaveWritten}
+use Rattle.pth_world.specs.World.{WorldOf}
+use Rattle.pth_waits.proofs.Blocking.{blocked_twice, held_at, progress_frame, waits_on_leads}
+use Rattle.pth_waits.proofs.blocks.wait_on.Goals as goal
+
+pub unreachable-requires : goal.unreachable-requires
+unreachable-requires g c =
+    let st = stands_for_state c.args.w.now c.requires.whole.sound in
+    cc (subst (λ (o : Option Blocked). IsSome o) (sym (c.take_blocked.ensures.blocked _ st.control) ∙ c.in-None.is) (c.requires.some _ st.control))
+
+pub returns-clause-ok : goal.returns-clause-ok
+returns-clause-ok g c s st =
+    let t = c.args.t.0 in
+    let held : Blocked = record c.in-Some.held { written = c.args.written } in
+    let is : blocked_of s.control t ≡ Some c.in-Some.held = sym (c.take_blocked.ensures.blocked s.control st.control) ∙ c.in-Some.is in
+    let may = held_at (blocked_of s.control t) (λ (b : Blocked). MayBlock t b × MayHaveWritten b.call c.args.written) c.in-Some.held is (c.requires.may s.control st.control) in
+    let shows = subst (λ (k : Control _ _ _). Shows c.block.new.self k) (blocked_twice s.control t (Some held) None) (c.block.ensures.shows _ (c.take_blocked.ensures.shows s.control st.control)) in
+    rw is (waits_on_leads _ s t held _ _ may.0.call st.resources shows (rw c.in_ok-copy.ensures at c.in_ok-push.ensures.ok))
+
+pub returns-clause-frame : goal.returns-clause-frame
+returns-clause-frame g c =
+    let t = c.args.t.0 in
+    let st = stands_for_state c.args.w.now c.requires.whole.sound in
+    let is = sym (c.take_blocked.ensures.blocked _ st.control) ∙ c.in-Some.is in
+    let may = held_at _ (λ (b : Blocked). MayBlock t b × MayHaveWritten b.call c.args.written) c.in-Some.held is (c.requires.may _ st.control) in
+    let may_block : MayBlock t (record c.in-Some.held { written = c.args.written }) = record { call = may.0.call; moment = may.0.moment; written = may.1; round = may.0.round; retake = may.0.retake } in
+    let whole = c.block.ensures.whole (c.take_blocked.ensures.whole c.requires.whole) may_block in
+    let p = c.block.new.self.threads.progress in
+    let same = c.block.ensures.same ∙ ap (λ (v : WorldOf _ _ _). record v { threads = record v.threads { progress = p } }) c.take_blocked.ensures.same in
+    subst (λ (v : WorldOf _ _ _). Frame c.args.w.now v 0 (Some t) false) (sym same)
+    (progress_frame c.args.w.now p (Some t) c.requires.runs (subst (λ (v : WorldOf _ _ _). Whole v) same whole))
