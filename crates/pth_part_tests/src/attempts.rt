@@ -1,5 +1,7 @@
 //! Attempts at calls on descriptors, one after the other on one kernel.
 
+ghost use Rattle.std.specs.Prelude.{◌<◌, ◌≤◌, ◌^◌};
+
 use crate::comparison::same_text;
 use crate::kernels::{go_to, kernel_of};
 use crate::traces::{Come, Row};
@@ -11,7 +13,7 @@ use pth_base::ids::FdSet;
 use pth_io::attempt::Attempt;
 use pth_io::connections::{try_accept, try_connect};
 use pth_io::select::try_select;
-use pth_io::transfers::{try_read, try_write};
+use pth_io::transfers::{try_read, try_write, try_write_of};
 use pth_kernel::kernel::Kernel;
 use std::alloc::{AllocError, Global};
 use std::process::Abort;
@@ -216,4 +218,35 @@ fn attempts_tell(
 #[test]
 fn attempts_are_answered_or_wait(rt: HostRuntime) -> Result<(), Fail> {
     attempts_tell(&rt, rt.alloc(), ATTEMPTS.as_slice())
+}
+
+/// Makes a write to descriptor 3 of which the length alone is told, and adds how much is written then, and the answer.
+fn tell_length(
+    text: &mut String,
+    k: &mut Kernel,
+    total: usize,
+    done: usize,
+) -> Result<(), AllocError>
+    requires few { total < 2 ^ 63 }
+    requires part { done ≤ total }
+{
+    let (written, attempt) = try_write_of(k, 3, total, done);
+    write!(text, "{written} ")?;
+    match attempt.answer() {
+        Some(answer) => tell_done(text, &answer)?,
+        None => text.push_str("not yet")?,
+    }
+    text.push_str("; ")
+}
+
+#[test]
+fn a_write_needs_its_length_alone(rt: HostRuntime) -> Result<(), Fail> {
+    let rows = [(0, 3, Room(3)), (1, 3, Room(9))];
+    let mut k = kernel_of(&rt, rt.alloc(), 8, rows.as_slice())?;
+    let mut text = String::new(rt.alloc());
+    tell_length(&mut text, &mut k, 5, 0)?;
+    go_to(&mut k, 1);
+    tell_length(&mut text, &mut k, 5, 3)?;
+    same_text(&rt, text.as_str(), "3 not yet; 5 5; ");
+    Ok(())
 }
