@@ -29,3 +29,12 @@ pub fn made(answer: Result<EventId, Refusal>) -> i64 {
         Err(Refusal::OutOfMemory) => -12,
     }
 }
+
+/// Where something was stored.
+pub fn stored(answer: Result<(), Refusal>) -> i64 {
+    match answer {
+        Ok(()) => 0,
+        Err(Refusal::Fail(errno)) => code(errno),
+        Err(Refusal::OutOfMemory) => -12,
+    }
+}

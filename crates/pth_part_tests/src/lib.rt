@@ -32,6 +32,8 @@ mod queues;
 #[cfg(test)]
 mod rings;
 #[cfg(test)]
+mod stores;
+#[cfg(test)]
 mod texts;
 #[cfg(test)]
 mod threads;
