@@ -136,6 +136,7 @@ module _ {P S H : Type 0} (Meant : Standing → Type 0) where
       exchanged = λ n o s k. k;
       evented = λ x s k. k;
       described = λ ds s k. k;
+      used = λ o s k. k;
       left = kept_left t;
       vanished = kept_vanished t;
     }

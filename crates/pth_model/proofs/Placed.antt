@@ -270,6 +270,7 @@ module _ {P S H : Type 0} where
     exchanged = λ n o k g. g;
     evented = λ x k g. g;
     described = λ ds k g. g;
+    used = λ o k g. g;
     left = going_left t;
     vanished = going_vanished t;
   }

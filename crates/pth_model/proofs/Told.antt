@@ -1,5 +1,5 @@
 -- Each piece of a run gives the resources what its marks say.
-use Rattle.std.proofs.Common.{◌≡◌, ◌∙◌, ℕ, ℤ, pos, zero, suc, Bool, true, false, List, [], ◌∷◌, ◌++◌, Option, Some, None, refl, ap, sym}
+use Rattle.std.proofs.Common.{◌≡◌, ◌∙◌, ℕ, ℤ, pos, zero, suc, Bool, true, false, List, [], ◌∷◌, ◌++◌, Option, Some, None, refl, ap, sym, ◌+◌, ◌*◌, not}
 use Rattle.pth_base.specs.Program.{Functions}
 use Rattle.pth_base.specs.declared.call.Call.{Call}
 use Rattle.pth_base.specs.declared.call.Call.TheVariants as call
@@ -15,16 +15,27 @@ use Rattle.pth_model.specs.Resources.{Resources, no_resources, told, told_all}
 use Rattle.pth_model.specs.LibraryControl.{ctrl}
 use Rattle.pth_model.specs.Verdict.{Verdict, Says, Yields, Blocks, Ends, Kills, says, by_result}
 use Rattle.pth_model.specs.State.{State, queue, Given, Turn, start}
-use Rattle.pth_model.specs.Transition.{Transition, Piece, Change, Last, tells, tid, controlled, ◌and_then◌, ◌and_finally◌}
-use Rattle.pth_model.specs.Changes.{blocked_of, with_events}
+use Rattle.pth_model.specs.Transition.{Transition, Piece, Change, Last, changes, tells, tid, controlled, where_so, ◌and_then◌, ◌and_finally◌}
+use Rattle.pth_model.specs.Changes.{shares, uses, blocked_of, with_events}
 use Rattle.pth_model.specs.Row.{effect_of, refuses, unless_refused}
 use Rattle.pth_model.specs.Rows.{row_of}
-use Rattle.pth_model.specs.Ending.{ending}
+use Rattle.pth_model.specs.Ending.{ending, undoes_wait, dies, runs_each, runs_cleanups, runs_destructor, runs_destructors, destructs, destructs_by, next_destructor, round_limit, first_round}
+use Rattle.pth_model.specs.declared.destructors.Due.{Due}
+use Rattle.pth_model.specs.declared.destructors.Round.{Round}
+use Rattle.pth_model.specs.Acts.{acts, acts_from, act_limit, answer_in, handled, goes_on_after, runs_handler}
+use Rattle.pth_model.specs.KeyStorage.{key_set}
+use Rattle.pth_model.specs.Cleanups.{runs_pushed, last_pushed}
+use Rattle.pth_model.specs.Resources.{handler}
+use Rattle.pth_base.specs.declared.act.Act.{Act}
+use Rattle.pth_base.specs.declared.act.Act.TheVariants as act
+use Rattle.pth_base.specs.declared.ids.HandlerId.{HandlerId}
+use Rattle.pth_store.specs.Cleanups.{PushedHandler}
+use Rattle.pth_store.specs.Keys.{key_limit}
 use Rattle.pth_model.specs.Calls.{begun, begun_by, resumed, resumed_by, tried_by, waits_by, unless_come, interrupted}
 use Rattle.pth_model.specs.RingWaits.{ring_given, has_event_come}
 use Rattle.pth_model.specs.EventHandling.{spec_of, made_as, make_event, chain}
 use Rattle.pth_base.specs.declared.event.EvLine.{EvLine}
-use Rattle.pth_numbered.specs.Operands.{number}
+use Rattle.pth_numbered.specs.Operands.{number, is_zero}
 use Rattle.pth_ring.specs.Rings.{make_answer, chain_answer, alone, chained}
 use Rattle.pth_base.specs.declared.event.EventSpec.{EventSpec}
 use Rattle.pth_base.specs.declared.event.EvLine.TheVariants as line
@@ -61,6 +72,62 @@ module _ {P S H : Type 0} where
 
 module _ {P S H : Type 0} (f : P → Functions S H) where
   module _ (t : ℕ) where
+    -- handlers, and an ending
+
+    act_told : (x : Act) → IsTold (acts {P = P} {S = S} {H = H} t x)
+    unfolding acts
+    act_told (act.SetKey k v) s =
+        let r = (key_set s k).begin in
+        then_told (effect_of r) (tells (mark.Acted (tid t) (act.SetKey k v) (answer_in r.verdict))) (unless_told (refuses r.verdict) r.effect (λ u. refl)) (λ u. refl) s
+    act_told x s = refl
+
+    look_told : (x : Option Act) (next : Piece P S H) → IsTold next → IsTold (goes_on_after t x next)
+    look_told None next known s = refl
+    look_told (Some x) next known s = then_told (acts t x) next (act_told x) known s
+
+    acts_told : (h : HandlerId) (v : ℤ) (n i : ℕ) → IsTold (acts_from f t h v n i)
+    unfolding acts_from
+    acts_told h v zero i s = refl
+    acts_told h v (suc n) i s =
+        let x = (f s.control.program).act h.0 v i s.control.shared in
+        look_told x.act (acts_from f t h v n (i + 1)) (acts_told h v n (i + 1)) (controlled (shares x.shared) s)
+
+    handler_told : (h : HandlerId) (v : ℤ) → IsTold (runs_handler f t h v)
+    handler_told h v = then_told (tells (mark.Handler (tid t) h v)) (handled f t h v) (λ u. refl) (acts_told h v (suc act_limit) 0)
+
+    each_told : (cs : List PushedHandler) → IsTold (runs_each f t cs)
+    unfolding runs_each
+    each_told [] s = refl
+    each_told (c ∷ cs) s = then_told (runs_handler f t c.0 c.1) (runs_each f t cs) (handler_told c.0 c.1) (each_told cs) s
+
+    by_due_told : (o : Option Due) (next : Round → Piece P S H) → ((r : Round) → IsTold (next r)) → IsTold (destructs_by f t o next)
+    by_due_told None next known s = refl
+    by_due_told (Some d) next known s =
+        then_told (runs_destructor f t d) (next d.round)
+        (then_told (tells (mark.Destructor (tid t) d.key d.value)) (handled f t d.handler d.value) (λ u. refl) (acts_told d.handler d.value (suc act_limit) 0))
+        (known d.round) s
+
+    destructs_told : (n : ℕ) (r : Round) → IsTold (destructs f t n r)
+    unfolding destructs
+    destructs_told zero r s = refl
+    destructs_told (suc n) r s = by_due_told (next_destructor s.resources.store.keys t r) (destructs f t n) (destructs_told n) s
+
+    ending_told : (v : ℤ) → IsTold (ending f t v)
+    unfolding ending
+    ending_told v =
+        then_told (undoes_wait t) (runs_cleanups f t and_then runs_destructors f t and_then dies t v) (λ u. refl)
+        (then_told (runs_cleanups f t) (runs_destructors f t and_then dies t v) (λ u. each_told (u.resources.store.cleanups t) u)
+        (then_told (runs_destructors f t) (dies t v) (destructs_told (round_limit * key_limit) first_round) (λ u. refl)))
+
+    pops_told : (o : Option PushedHandler) (b : Bool) → IsTold (where_so b (runs_pushed f t o))
+    pops_told o false s = refl
+    pops_told None true s = refl
+    pops_told (Some c) true s = handler_told c.0 c.1 s
+
+    once_told : (o : ℕ) (h : HandlerId) (v : ℤ) (b : Bool) → IsTold (where_so b (changes (uses o) and_then runs_handler f t h v))
+    once_told o h v false s = refl
+    once_told o h v true s = then_told (changes (uses o)) (runs_handler f t h v) (λ u. refl) (handler_told h v) s
+
     ctrl_tells : (s : State P S H) (x : Query) → IsTold (ctrl s x).begin.effect
     ctrl_tells s query.Threads u = refl
     ctrl_tells s x u = refl
@@ -97,6 +164,8 @@ module _ {P S H : Type 0} (f : P → Functions S H) where
     effect_tells s (call.EvTid state n) = make_tells s (line.Tid state n)
     effect_tells s (call.EvFunc c v l) = make_tells s (line.Func c v l)
     effect_tells s (call.Chain e l) = chain_tells s e l
+    effect_tells s (call.CleanupPop v) = pops_told (last_pushed f s t) (not (is_zero v))
+    effect_tells s (call.Once o h v) = once_told (number o) (handler h) v (not (s.control.used (number o)))
     effect_tells s c = λ u. refl
 
     effect_told : (s : State P S H) (c : Call) → IsTold (effect_of (row_of f s t c).begin)
@@ -123,11 +192,10 @@ module _ {P S H : Type 0} (f : P → Functions S H) where
     again_told s c b = unless_told (refuses ((row_of f s t c).again b).verdict) ((row_of f s t c).again b).effect (again_tells s c b)
 
     begun_by_told : (c : Call) (v : Verdict) (a : Piece P S H) → IsTold a → LastTold (begun_by f t c v a)
-    unfolding ending
     begun_by_told c (Says x) a known s = then_told a (tells (mark.Answered (tid t) c x)) known (λ u. refl) s
     begun_by_told c (Yields x) a known s = then_told a (tells (mark.Answered (tid t) c x)) known (λ u. refl) s
     begun_by_told c (Blocks p) a known s = then_told a (waits_by t c p) known (λ u. refl) s
-    begun_by_told c (Ends v) a known s = then_told a (ending f t v) known (λ u. refl) s
+    begun_by_told c (Ends v) a known s = then_told a (ending f t v) known (ending_told v) s
     begun_by_told c Kills a known s = then_told a (tells (mark.Answered (tid t) c (Int (pos 1)))) known (λ u. refl) s
 
     begun_told : (c : Call) → LastTold (begun f t c)
@@ -141,11 +209,10 @@ module _ {P S H : Type 0} (f : P → Functions S H) where
     come_told s c b true = unless_told (refuses (interrupted ((row_of f s t c).again b).verdict)) ((row_of f s t c).again b).effect (again_tells s c b)
 
     tried_by_told : (b : Blocked) (v : Verdict) → LastTold (tried_by f t b v)
-    unfolding ending
     tried_by_told b (Says x) s = refl
     tried_by_told b (Yields x) s = refl
     tried_by_told b (Blocks p) s = refl
-    tried_by_told b (Ends v) s = refl
+    tried_by_told b (Ends v) s = ending_told v s
     tried_by_told b Kills s = refl
 
     resumed_by_told : (s : State P S H) (b : Option Blocked) → Tells s.resources (resumed_by f t b s).told

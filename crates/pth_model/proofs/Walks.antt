@@ -1,5 +1,5 @@
 -- What calls keep of the control, by the changes of which they are made.
-use Rattle.std.proofs.Common.{◌≡◌, ◌≢◌, ◌==◌, ◌&&◌, ◌||◌, not, ℕ, ℤ, pos, negsuc, Bool, true, false, if◌then◌else◌, Option, Some, None, is_some, length, refl, sym, subst}
+use Rattle.std.proofs.Common.{◌≡◌, ◌≢◌, ◌==◌, ◌&&◌, ◌||◌, not, ℕ, ℤ, pos, negsuc, Bool, true, false, if◌then◌else◌, Option, Some, None, is_some, length, refl, sym, subst, zero, suc, ◌+◌, ◌*◌, List, [], ◌∷◌}
 use Rattle.std.proofs.lemmas.Bool.{not-false}
 use Rattle.pth_base.specs.Program.{Functions}
 use Rattle.pth_base.specs.declared.call.Call.{Call}
@@ -22,8 +22,8 @@ use Rattle.pth_model.specs.declared.next.Next.TheVariants as next
 use Rattle.pth_numbered.specs.Operands.{number, is_zero, ◌is◌}
 use Rattle.pth_model.specs.Verdict.{Verdict, Says, Yields, Blocks, Ends, Kills, refused, says, by_result, ◌when◌otherwise◌}
 use Rattle.pth_model.specs.State.{State, Control, Turn}
-use Rattle.pth_model.specs.Transition.{Piece, Change as change_of_control, nothing, changes, tid}
-use Rattle.pth_model.specs.Changes.{goes_on, blocking, blocked_of, or_nobody, owing, prefers, removes, favours_new, sets, adds_object, puts_object, with_events, with_kernel}
+use Rattle.pth_model.specs.Transition.{Piece, Change as change_of_control, nothing, changes, controlled, where_so, tid, ◌and_then◌}
+use Rattle.pth_model.specs.Changes.{shares, uses, goes_on, blocking, blocked_of, or_nobody, owing, prefers, removes, favours_new, sets, adds_object, puts_object, with_events, with_kernel}
 use Rattle.pth_model.specs.RingWaits.{claims, gives_back, stops_waiting, ring_given, ring_held, has_event_come}
 use Rattle.pth_model.specs.EventHandling.{spec_of, made_as, make_event, chain}
 use Rattle.pth_base.specs.declared.event.EventSpec.{EventSpec}
@@ -39,7 +39,17 @@ use Rattle.pth_model.specs.Row.{unless_refused, refuses, effect_of}
 use Rattle.pth_model.specs.ThreadControl.{thread, is_known, may_run, spawns, values_for, or_first, suspends, resumes, suspend, resume, to_join, takes_joined}
 use Rattle.pth_model.specs.LibraryControl.{ctrl, vanish_all_but}
 use Rattle.pth_model.specs.AttributeHandling.{object, sets_field, sets_value}
-use Rattle.pth_model.specs.Ending.{ending, leaves}
+use Rattle.pth_model.specs.Ending.{ending, leaves, runs_each, destructs, destructs_by, next_destructor, round_limit, first_round}
+use Rattle.pth_model.specs.declared.destructors.Due.{Due}
+use Rattle.pth_model.specs.declared.destructors.Round.{Round}
+use Rattle.pth_model.specs.Acts.{acts, acts_from, act_limit, row_of_act, goes_on_after, runs_handler}
+use Rattle.pth_model.specs.Cleanups.{runs_pushed, last_pushed}
+use Rattle.pth_model.specs.Resources.{handler}
+use Rattle.pth_base.specs.declared.act.Act.{Act}
+use Rattle.pth_base.specs.declared.act.Act.TheVariants as act
+use Rattle.pth_base.specs.declared.ids.HandlerId.{HandlerId}
+use Rattle.pth_store.specs.Cleanups.{PushedHandler}
+use Rattle.pth_store.specs.Keys.{key_limit}
 use Rattle.pth_model.specs.Rows.{row_of}
 use Rattle.pth_model.specs.Calls.{begun, begun_by, resumed, resumed_by, tried_by, unless_come, interrupted}
 use Rattle.pth_model.specs.Part.{steps, steps_by, steps_on, owes_after}
@@ -129,6 +139,7 @@ pub record KeptBy {P S H : Type 0} (f : P → Functions S H) (t : ℕ) (Q : Cont
   pub exchanged : (n : ℕ) (o : Option Attribute) (k : Control P S H) → Q k → Q (puts_object n o k)
   pub evented : (x : Events) (k : Control P S H) → Q k → Q (record k { events = x })
   pub described : (ds : ℕ → Descriptor) (k : Control P S H) → Q k → Q (record k { kernel = record k.kernel { descriptors = ds } })
+  pub used : (o : ℕ → Bool) (k : Control P S H) → Q k → Q (record k { used = o })
   pub left : (v : ℤ) (k : Control P S H) → Q k → Q (leaves t v k)
   pub vanished : (k : Control P S H) → Q k → Q (vanish_all_but t k)
 
@@ -154,9 +165,64 @@ module _ {P S H : Type 0} (f : P → Functions S H) (t : ℕ) (Q : Control P S H
   unfolding stops_waiting
   stops_keeps k q = gives_back_keeps (ring_held (blocked_of k t)) _ (kept.goes t (blocking None) k q)
 
+  -- ---- handlers, and an ending
+
+  then_keeps : (a b : Piece P S H) → Keeps a → Keeps b → Keeps (a and_then b)
+  then_keeps a b x y s q = y (a s).state (x s q)
+
+  -- an act changes nothing of the control
+  act_keeps : (x : Act) → Keeps (acts t x)
+  unfolding acts
+  act_keeps (act.SetKey k v) s q = by_refusal (refuses (row_of_act s (act.SetKey k v)).begin.verdict)
+    where
+      by_refusal : (b : Bool) → Q (unless_refused b (changes nothing) s).state.control
+      by_refusal true = q
+      by_refusal false = q
+  act_keeps x s q = q
+
+  look_keeps : (x : Option Act) (next : Piece P S H) → Keeps next → Keeps (goes_on_after t x next)
+  look_keeps None next keeps s q = q
+  look_keeps (Some x) next keeps s q = keeps (acts t x s).state (act_keeps x s q)
+
+  acts_keep : (h : HandlerId) (v : ℤ) (n i : ℕ) → Keeps (acts_from f t h v n i)
+  unfolding acts_from
+  acts_keep h v zero i s q = q
+  acts_keep h v (suc n) i s q =
+      let x = (f s.control.program).act h.0 v i s.control.shared in
+      look_keeps x.act (acts_from f t h v n (i + 1)) (acts_keep h v n (i + 1)) (controlled (shares x.shared) s) (kept.shares x.shared s.control q)
+
+  handler_keeps : (h : HandlerId) (v : ℤ) → Keeps (runs_handler f t h v)
+  handler_keeps h v s q = acts_keep h v (suc act_limit) 0 _ q
+
+  each_keep : (cs : List PushedHandler) → Keeps (runs_each f t cs)
+  unfolding runs_each
+  each_keep [] s q = q
+  each_keep (c ∷ cs) s q = then_keeps (runs_handler f t c.0 c.1) (runs_each f t cs) (handler_keeps c.0 c.1) (each_keep cs) s q
+
+  by_due_keep : (o : Option Due) (next : Round → Piece P S H) → ((r : Round) → Keeps (next r)) → Keeps (destructs_by f t o next)
+  by_due_keep None next keeps s q = q
+  by_due_keep (Some d) next keeps s q = keeps d.round _ (acts_keep d.handler d.value (suc act_limit) 0 _ q)
+
+  destructs_keep : (n : ℕ) (r : Round) → Keeps (destructs f t n r)
+  unfolding destructs
+  destructs_keep zero r s q = q
+  destructs_keep (suc n) r s q = by_due_keep (next_destructor s.resources.store.keys t r) (destructs f t n) (destructs_keep n) s q
+
   ending_keeps : (v : ℤ) → Keeps (ending f t v)
   unfolding ending
-  ending_keeps v s q = kept.left v (stops_waiting t s.control) (stops_keeps s.control q)
+  ending_keeps v s q =
+      let cleaned = each_keep (s.resources.store.cleanups t) _ (stops_keeps s.control q) in
+      kept.left v _ (destructs_keep (round_limit * key_limit) first_round _ cleaned)
+
+  -- the handler that a pop or a once runs
+  pops_keep : (o : Option PushedHandler) (b : Bool) → Keeps (where_so b (runs_pushed f t o))
+  pops_keep o false s q = q
+  pops_keep None true s q = q
+  pops_keep (Some c) true s q = handler_keeps c.0 c.1 s q
+
+  once_keeps : (o : ℕ) (h : HandlerId) (v : ℤ) (b : Bool) → Keeps (where_so b (changes (uses o) and_then runs_handler f t h v))
+  once_keeps o h v false s q = q
+  once_keeps o h v true s q = handler_keeps h v (controlled (uses o) s) (kept.used _ s.control q)
 
   unless_keeps : (s : State P S H) (b : Bool) (a : Piece P S H) → (b ≡ false → KeepsAt s a) → KeepsAt s (unless_refused b a)
   unless_keeps s true a keeps = λ q. q
@@ -244,6 +310,8 @@ module _ {P S H : Type 0} (f : P → Functions S H) (t : ℕ) (Q : Control P S H
   does_keeps s (call.AcceptEv d x) e q = describes_keep s (accept_after (fd_named d)) (accept_describes (fd_named d) s.control.kernel) q
   does_keeps s (call.Close d) e q = kept.described _ s.control q
   does_keeps s (call.Join n) e q = joins_keeps s (to_join s.control n) q
+  does_keeps s (call.CleanupPop v) e q = pops_keep (last_pushed f s t) (not (is_zero v)) s q
+  does_keeps s (call.Once o h v) e q = once_keeps (number o) (handler h) v (not (s.control.used (number o))) s q
   does_keeps s c e q = q
 
   effect_keeps : (s : State P S H) (c : Call) → KeepsAt s (effect_of (row_of f s t c).begin)

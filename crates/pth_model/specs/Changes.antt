@@ -90,6 +90,14 @@ module _ {P S H : Type 0} where
   abbrev pub with_scheduler : (Scheduler → Scheduler) → transition.Change P S H
   with_scheduler g k = record k { scheduler = g k.scheduler }
 
+  -- the program's shared value is another
+  abbrev pub shares : H → transition.Change P S H
+  shares h k = record k { shared = h }
+
+  -- a once control was used (pth_once)
+  abbrev pub uses : ℕ → transition.Change P S H
+  uses o k = record k { used = put k.used o true }
+
   -- one field of t's record is set
   unfoldable pub sets : ℕ → Change → transition.Change P S H
   sets t c = with_threads (λ x. record x { known = put x.known t (option_map (changed c) (x.known t)) })

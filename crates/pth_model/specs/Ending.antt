@@ -1,13 +1,40 @@
 -- How a thread ends (pth_exit, and the end of its body), in parts.
-use Rattle.std.specs.Prelude.{ℕ, ◌==◌, ℤ, pos, false, Option, Some, None, if◌then◌else◌}
+use Rattle.std.specs.Prelude.{ℕ, zero, suc, ◌+◌, ◌*◌, ◌==◌, nat_lt, ℤ, pos, false, List, [], ◌∷◌, Option, Some, None, if◌then◌else◌}
 use Rattle.pth_base.specs.Program.{Functions}
-use Rattle.pth_base.specs.declared.mark.Mark.TheVariants.{Ended}
+use Rattle.pth_base.specs.declared.ids.HandlerId.{HandlerId}
+use Rattle.pth_base.specs.declared.mark.Mark.TheVariants.{Destructor, Ended}
 use Rattle.pth_base.specs.declared.thread.ThreadState.TheVariants as state
 use Rattle.pth_queue.specs.declared.queue.Queue.TheVariants as queue
 use Rattle.pth_threads.specs.declared.entry.Change.TheVariants as change
-use Rattle.pth_model.specs.Transition.{Piece, Change, changes, tells, tid, ◌and◌, ◌and_then◌}
+use Rattle.pth_store.specs.Cleanups.{PushedHandler}
+use Rattle.pth_store.specs.Keys.{Tables, key_limit, first_live}
+use Rattle.pth_model.specs.declared.destructors.Due.{Due}
+use Rattle.pth_model.specs.declared.destructors.Round.{Round}
+use Rattle.pth_model.specs.Transition.{Piece, Change, silent, changes, tells, tid, ◌and◌, ◌and_then◌}
 use Rattle.pth_model.specs.Changes.{sets, enters, leaves_queue, removes, runs_now, entry_of, or_nobody}
 use Rattle.pth_model.specs.RingWaits.{stops_waiting}
+use Rattle.pth_model.specs.Acts.{handled, runs_handler}
+
+-- destructors run in rounds, each of which goes through the keys once: so many are begun at most (PTH_DESTRUCTOR_ITERATIONS)
+abbrev pub round_limit : ℕ
+round_limit = 4
+
+abbrev pub first_round : Round
+first_round = record { number = 1; from = 0 }
+
+-- a destructor that is owed a value, in a round
+abbrev pub due : ℕ → ℕ × HandlerId × ℤ → Due
+due n o = record { key = o.0; handler = o.1; value = o.2; round = record { number = n; from = o.0 + 1 } }
+
+-- by: the first key of this round to which a destructor is owed, and the first of all
+abbrev pub due_by : Round → Option (ℕ × HandlerId × ℤ) → Option (ℕ × HandlerId × ℤ) → Option Due
+due_by r (Some o) first = Some (due r.number o)
+due_by r None (Some o) = if nat_lt r.number round_limit then Some (due (r.number + 1) o) else None
+due_by r None None = None
+
+-- the next destructor of t: the first that is owed in this round, else the first of one more round
+unfoldable pub next_destructor : Tables → ℕ → Round → Option Due
+next_destructor x t r = due_by r (first_live x t r.from) (first_live x t 0)
 
 -- the thread that runs, unless it is t
 abbrev pub other_than : ℕ → Option ℕ → Option ℕ
@@ -18,6 +45,30 @@ module _ {P S H : Type 0} where
   -- its wait is undone
   abbrev pub undoes_wait : ℕ → Piece P S H
   undoes_wait t = changes (stops_waiting t)
+
+  -- its cleanups run, the last pushed first
+  unfoldable pub runs_each : (P → Functions S H) → ℕ → List PushedHandler → Piece P S H
+  runs_each f t [] s = silent s
+  runs_each f t (c ∷ cs) s = (runs_handler f t c.0 c.1 and_then runs_each f t cs) s
+
+  abbrev pub runs_cleanups : (P → Functions S H) → ℕ → Piece P S H
+  runs_cleanups f t s = runs_each f t (s.resources.store.cleanups t) s
+
+  -- its destructors run: each finds the thread's value 0, and is given the value that it had
+  abbrev pub runs_destructor : (P → Functions S H) → ℕ → Due → Piece P S H
+  runs_destructor f t d = tells (Destructor (tid t) d.key d.value) and_then handled f t d.handler d.value
+
+  abbrev pub destructs_by : (P → Functions S H) → ℕ → Option Due → (Round → Piece P S H) → Piece P S H
+  destructs_by f t None next = silent
+  destructs_by f t (Some d) next = runs_destructor f t d and_then next d.round
+
+  -- at most n destructors, from here in a round on
+  unfoldable pub destructs : (P → Functions S H) → ℕ → ℕ → Round → Piece P S H
+  destructs f t zero r s = silent s
+  destructs f t (suc n) r s = destructs_by f t (next_destructor s.resources.store.keys t r) (destructs f t n) s
+
+  abbrev pub runs_destructors : (P → Functions S H) → ℕ → Piece P S H
+  runs_destructors f t = destructs f t (round_limit * key_limit) first_round
 
   -- a joinable thread is dead, and keeps its value until it is joined
   unfoldable pub is_dead_with : ℕ → ℤ → Change P S H
@@ -40,4 +91,4 @@ module _ {P S H : Type 0} where
 
   -- a thread ends with a value
   unfoldable pub ending : (P → Functions S H) → ℕ → ℤ → Piece P S H
-  ending f t v = undoes_wait t and_then dies t v
+  ending f t v = undoes_wait t and_then runs_cleanups f t and_then runs_destructors f t and_then dies t v

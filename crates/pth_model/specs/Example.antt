@@ -1,16 +1,19 @@
 -- Runs, computed by the definitions alone: in one main spawns a thread, yields to it and exits; in another it suspends one of
--- two threads, yields to the other by name, and resumes and joins the first; in the third it naps; and in the last it waits for
--- an event.
-use Rattle.std.specs.Prelude.{ℕ, zero, suc, ◌+◌, pos, false, List, [], ◌∷◌, None}
+-- two threads, yields to the other by name, and resumes and joins the first; in the others it naps, waits for an event, reads, and
+-- ends with a cleanup handler and values under two keys.
+use Rattle.std.specs.Prelude.{ℕ, zero, suc, ◌+◌, ℤ, pos, false, List, [], ◌∷◌, ◌++◌, Option, Some, None}
 use Rattle.pth_base.specs.Program.{Functions}
+use Rattle.pth_base.specs.declared.act.Act.{Act}
+use Rattle.pth_base.specs.declared.act.Act.TheVariants as act
+use Rattle.pth_base.specs.declared.answer.Answer.TheVariants as answer
 use Rattle.pth_base.specs.declared.answer.Answer.TheVariants.{Int, Bytes}
 use Rattle.pth_kernel.specs.declared.trace.Entry.TheVariants.{Arrive}
 use Rattle.pth_base.specs.declared.call.Call.{Call}
-use Rattle.pth_base.specs.declared.call.Call.TheVariants.{Spawn, Suspend, Resume, Yield, Nap, Wait, Join, Exit, EvTime, Read}
+use Rattle.pth_base.specs.declared.call.Call.TheVariants.{Spawn, Suspend, Resume, Yield, Nap, Wait, Join, Exit, EvTime, Read, KeyCreate, KeySet, CleanupPush}
 use Rattle.pth_base.specs.declared.mark.Mark.{Mark}
 use Rattle.pth_kernel.specs.Kernel.{started}
 use Rattle.pth_model.specs.State.{Given}
-use Rattle.pth_base.specs.declared.mark.Mark.TheVariants.{Dispatch, Answered, Waits, Woke, Moved, Ended}
+use Rattle.pth_base.specs.declared.mark.Mark.TheVariants.{Dispatch, Answered, Waits, Woke, Moved, Handler, Destructor, Acted, Ended}
 use Rattle.pth_model.specs.Transition.{tid}
 
 -- where a thread stands: its body, and how many lines it has gone
@@ -156,3 +159,53 @@ reading_marks =
     ∷ Answered (tid 1) (Read (pos 3) (pos 10)) (Bytes (97 ∷ []))
     ∷ Ended (tid 1) (pos 0)
     ∷ []
+
+-- ---- an ending
+
+abbrev pub ending_call_at : ℕ → Call
+ending_call_at zero = KeyCreate (Some (pos 0))
+ending_call_at (suc zero) = KeyCreate (Some (pos 1))
+ending_call_at (suc (suc zero)) = KeySet (pos 0) (pos 1)
+ending_call_at (suc (suc (suc zero))) = KeySet (pos 1) (pos 2)
+ending_call_at (suc (suc (suc (suc zero)))) = CleanupPush (pos 2) (pos 5)
+ending_call_at (suc (suc (suc (suc (suc n))))) = Exit (pos 0)
+
+-- handlers 0 and 1 note the value and set one under the other's key, handler 2 notes its argument
+abbrev pub ending_act_at : ℕ → ℤ → ℕ → Option Act
+ending_act_at zero v zero = Some (act.Note v)
+ending_act_at zero v (suc zero) = Some (act.SetKey (pos 1) (pos 7))
+ending_act_at (suc zero) v zero = Some (act.Note v)
+ending_act_at (suc zero) v (suc zero) = Some (act.SetKey (pos 0) (pos 3))
+ending_act_at (suc (suc n)) v zero = Some (act.Note v)
+ending_act_at h v i = None
+
+abbrev pub ending_bodies : ℕ → Functions Place ℕ
+ending_bodies p = record (two_bodies p) {
+  step = λ s h answer. record { call = ending_call_at s.gone; state = record s { gone = s.gone + 1 }; shared = h };
+  act = λ handler v index h. record { act = ending_act_at handler v index; shared = h };
+}
+
+-- a destructor of key 0 with a value, and one of key 1 with 7, each with its two acts
+abbrev pub one_round : ℤ → List Mark
+one_round v =
+    Destructor (tid 1) 0 v
+    ∷ Acted (tid 1) (act.Note v) answer.None
+    ∷ Acted (tid 1) (act.SetKey (pos 1) (pos 7)) (Int (pos 1))
+    ∷ Destructor (tid 1) 1 (pos 7)
+    ∷ Acted (tid 1) (act.Note (pos 7)) answer.None
+    ∷ Acted (tid 1) (act.SetKey (pos 0) (pos 3)) (Int (pos 1))
+    ∷ []
+
+-- the handler runs, and then four rounds of destructors; the value that is set last is forgotten
+abbrev pub ending_marks : List Mark
+ending_marks =
+    Dispatch 1 0 (tid 1) (pos 0) 0 0
+    ∷ Answered (tid 1) (KeyCreate (Some (pos 0))) (Int (pos 0))
+    ∷ Answered (tid 1) (KeyCreate (Some (pos 1))) (Int (pos 1))
+    ∷ Answered (tid 1) (KeySet (pos 0) (pos 1)) (Int (pos 1))
+    ∷ Answered (tid 1) (KeySet (pos 1) (pos 2)) (Int (pos 1))
+    ∷ Answered (tid 1) (CleanupPush (pos 2) (pos 5)) (Int (pos 1))
+    ∷ Handler (tid 1) (record { 0 = 2 }) (pos 5)
+    ∷ Acted (tid 1) (act.Note (pos 5)) answer.None
+    ∷ one_round (pos 1) ++ one_round (pos 3) ++ one_round (pos 3) ++ one_round (pos 3)
+    ++ Ended (tid 1) (pos 0) ∷ []

@@ -14,6 +14,9 @@ pub mod AttributeHandling
 pub mod RingWaits
 pub mod Looks
 pub mod EventHandling
+pub mod KeyStorage
+pub mod Acts
+pub mod Cleanups
 pub mod Ending
 pub mod ThreadEnds
 pub mod Times

@@ -2,6 +2,7 @@
 -- it: `told` says for every mark what becomes of it, also for the answers of calls that are not built yet.
 use Rattle.std.specs.Prelude.{ℕ, zero, suc, ◌+◌, ◌==◌, ◌&&◌, ◌||◌, not, ℤ, pos, Bool, true, false, List, [], ◌∷◌, ◌++◌, filter, find, Option, Some, None, is_some, if◌then◌else◌}
 use Rattle.pth_base.specs.Table.{put}
+use Rattle.pth_base.specs.declared.ids.HandlerId.{HandlerId}
 use Rattle.pth_base.specs.declared.act.Act.{Act}
 use Rattle.pth_base.specs.declared.act.Act.TheVariants as act
 use Rattle.pth_base.specs.declared.answer.Answer.{Answer}
@@ -11,20 +12,15 @@ use Rattle.pth_base.specs.declared.call.Call.TheVariants as call
 use Rattle.pth_base.specs.declared.mark.Mark.{Mark}
 use Rattle.pth_base.specs.declared.mark.Mark.TheVariants as mark
 use Rattle.pth_numbered.specs.Operands.{number, handler_of}
+use Rattle.pth_store.specs.Keys.{Tables, key_named, no_keys, created, deleted, with_key_value, forgotten}
+use Rattle.pth_store.specs.Cleanups.{Stacks, no_cleanups, with_top, top_taken, emptied}
 
--- a cleanup handler that was pushed (pth_cleanup_push)
-pub record Cleanup : Type 0 where
-  pub handler : ℕ
-  pub arg : ℤ
-
--- cleanups and keys (pth_cleanup_push, pth_key_create)
+-- cleanups and keys (pth_cleanup_push, pth_key_create), of each thread by its number
 pub record Store : Type 0 where
-  -- of each thread, the last pushed first
-  pub cleanups : ℕ → List Cleanup
-  -- of each key: none where it is not live, else its destructor, if any
-  pub keys : ℕ → Option (Option ℕ)
-  -- of each key, of each thread
-  pub values : ℕ → ℕ → ℤ
+  -- its handlers, the last pushed first
+  pub cleanups : Stacks
+  -- the live keys, and its value under each
+  pub keys : Tables
 
 -- a mutex is free, or a thread has so many levels of it beyond the first (pth_mutex_acquire)
 pub data Hold : Type 0 where
@@ -62,7 +58,7 @@ pub record Resources : Type 0 where
 -- as a run starts
 abbrev pub no_resources : Resources
 no_resources = record {
-  store = record { cleanups = λ t. []; keys = λ k. None; values = λ k t. pos 0 };
+  store = record { cleanups = no_cleanups; keys = no_keys };
   holds = λ m. Free;
   locks = λ l. Readers [];
   mail = record { at = λ p. None; kept = []; made = 0 };
@@ -71,33 +67,29 @@ no_resources = record {
 
 -- cleanups and keys
 
-abbrev pub pushed : Store → ℕ → Cleanup → Store
-pushed s t c = record s { cleanups = put s.cleanups t (c ∷ s.cleanups t) }
+abbrev pub with_cleanups : (Stacks → Stacks) → Store → Store
+with_cleanups g s = record s { cleanups = g s.cleanups }
 
-abbrev pub all_but_first : {A : Type 0} → List A → List A
-all_but_first [] = []
-all_but_first (x ∷ xs) = xs
+abbrev pub with_keys : (Tables → Tables) → Store → Store
+with_keys g s = record s { keys = g s.keys }
 
-abbrev pub popped : Store → ℕ → Store
-popped s t = record s { cleanups = put s.cleanups t (all_but_first (s.cleanups t)) }
+-- the handler that an operand names
+abbrev pub handler : ℤ → HandlerId
+handler h = record { 0 = handler_of h }
 
--- a key has this life from now on, and every thread's value is 0
-abbrev pub with_key : Store → ℕ → Option (Option ℕ) → Store
-with_key s k life = record s { keys = put s.keys k life; values = put s.values k (λ t. pos 0) }
-
-abbrev pub destructor_by : Option ℤ → Option ℕ
+abbrev pub destructor_by : Option ℤ → Option HandlerId
 destructor_by None = None
-destructor_by (Some h) = Some (handler_of h)
-
-abbrev pub with_key_value : Store → ℕ → ℕ → ℤ → Store
-with_key_value s t k v = record s { values = put s.values k (put (s.values k) t v) }
+destructor_by (Some h) = Some (handler h)
 
 -- only thread t keeps its cleanups and values; or all but t
 abbrev pub store_of_only : ℕ → Store → Store
-store_of_only t s = record s { cleanups = λ u. if u == t then s.cleanups u else []; values = λ k u. if u == t then s.values k u else pos 0 }
+store_of_only t s = record {
+  cleanups = λ u. if u == t then s.cleanups u else [];
+  keys = record { keys = s.keys.keys; values = λ k u. if u == t then s.keys.values k u else pos 0 };
+}
 
 abbrev pub store_without : ℕ → Store → Store
-store_without t s = record s { cleanups = put s.cleanups t []; values = λ k. put (s.values k) t (pos 0) }
+store_without t s = record { cleanups = emptied t s.cleanups; keys = forgotten t s.keys }
 
 -- mutexes
 
@@ -244,7 +236,11 @@ of_only t k = record k {
   awaits = λ u. (u == t) && k.awaits u;
 }
 
--- an answer with a number, or with a message; every other one changes nothing
+-- an answer of 1, with a number, or with a message; every other one changes nothing
+abbrev pub on_one : Answer → Resources → Resources → Resources
+on_one (Int (pos (suc zero))) k g = g
+on_one a k g = k
+
 abbrev pub on_int : Answer → Resources → (ℤ → Resources) → Resources
 on_int (Int n) k g = g n
 on_int a k g = k
@@ -255,11 +251,11 @@ on_msg a k g = k
 
 -- a call of t is answered
 unfoldable pub answer_told : Resources → ℕ → Call → Answer → Resources
-answer_told k t (call.CleanupPush h v) a = on_int a k (λ n. with_store k (pushed k.store t (record { handler = handler_of h; arg = v })))
-answer_told k t (call.CleanupPop v) a = on_int a k (λ n. with_store k (popped k.store t))
-answer_told k t (call.KeyCreate h) a = on_int a k (λ key. with_store k (with_key k.store (number key) (Some (destructor_by h))))
-answer_told k t (call.KeyDelete key) a = on_int a k (λ n. with_store k (with_key k.store (number key) None))
-answer_told k t (call.KeySet key v) a = on_int a k (λ n. with_store k (with_key_value k.store t (number key) v))
+answer_told k t (call.CleanupPush h v) a = on_one a k (with_store k (with_cleanups (with_top t (handler h, v)) k.store))
+answer_told k t (call.CleanupPop v) a = on_one a k (with_store k (with_cleanups (top_taken t) k.store))
+answer_told k t (call.KeyCreate h) a = on_int a k (λ key. with_store k (with_keys (created (key_named key) (destructor_by h)) k.store))
+answer_told k t (call.KeyDelete key) a = on_one a k (with_store k (with_keys (deleted (key_named key)) k.store))
+answer_told k t (call.KeySet key v) a = on_one a k (with_store k (with_keys (with_key_value t (key_named key) v) k.store))
 answer_told k t (call.MutexAcquire m v e) a = on_int a k (λ n. with_hold k (number m) (one_more t (k.holds (number m))))
 answer_told k t (call.MutexRelease m) a = on_int a k (λ n. with_hold k (number m) (one_less (k.holds (number m))))
 answer_told k t (call.RwAcquire l write v e) a = on_int a k (λ n. with_lock k (number l) (lock_entered t write (k.locks (number l))))
@@ -359,7 +355,7 @@ told k (mark.Answered t c a) = answer_told k t.0 c a
 told k (mark.Acted t x a) = act_told k t.0 x a
 told k (mark.Waits t c) = wait_told k t.0 c
 told k (mark.Took t m) = retaken k t.0 m
-told k (mark.Destructor t key v) = with_store k (with_key_value k.store t.0 key (pos 0))
+told k (mark.Destructor t key v) = with_store k (with_keys (with_key_value t.0 key (pos 0)) k.store)
 told k (mark.GaveMutex t m) = with_hold k m Free
 told k (mark.GaveLock t l) = with_lock k l (parted t.0 (k.locks l))
 told k (mark.Ended t v) = end_told k t.0

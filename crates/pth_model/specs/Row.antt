@@ -50,6 +50,11 @@ module _ {P S H : Type 0} where
   abbrev pub ◌changing◌ : Verdict → Change P S H → Row P S H
   v changing g = record { begin = v trying changes g; again = λ b. waits trying silent; wakes = λ b. false; until = λ b. 0 }
 
+  -- a call that never blocks its thread, and tells what it does before its answer
+  infix 3 ◌doing◌
+  abbrev pub ◌doing◌ : Verdict → Piece P S H → Row P S H
+  v doing a = record { begin = v trying a; again = λ b. waits trying silent; wakes = λ b. false; until = λ b. 0 }
+
   -- a call that is not built yet
   abbrev pub unbuilt : Row P S H
   unbuilt = refused EINVAL changing nothing

@@ -12,6 +12,8 @@ use Rattle.pth_model.specs.Row.{Row, ◌changing◌, unbuilt}
 use Rattle.pth_model.specs.LibraryControl.{kill, ctrl}
 use Rattle.pth_model.specs.AttributeHandling.{attr_new, attr_of, attr_init, attr_set, attr_get, attr_destroy}
 use Rattle.pth_model.specs.ThreadControl.{spawn, self, suspend, resume, yield, join}
+use Rattle.pth_model.specs.KeyStorage.{key_create, key_delete, key_set, key_get}
+use Rattle.pth_model.specs.Cleanups.{cleanup_push, cleanup_pop, once}
 use Rattle.pth_model.specs.EventHandling.{make_event, chain, ev_concat, ev_isolate, ev_walk, ev_status, ev_kind, ev_free, wait}
 use Rattle.pth_model.specs.ThreadEnds.{exit}
 use Rattle.pth_model.specs.Times.{timeout, nap, usleep, sleep}
@@ -30,7 +32,7 @@ module _ {P S H : Type 0} (f : P → Functions S H) (s : State P S H) (t : ℕ) 
   row_of (call.AttrGet a x) = attr_get s a x
   row_of (call.AttrDestroy a) = attr_destroy s a
   row_of (call.Spawn b v a) = spawn f s t b v a
-  row_of (call.Once o h v) = unbuilt
+  row_of (call.Once o h v) = once f s t o h v
   row_of call.SelfTid = self s t
   row_of (call.Suspend n) = suspend s t n
   row_of (call.Resume n) = resume s t n
@@ -59,10 +61,10 @@ module _ {P S H : Type 0} (f : P → Functions S H) (s : State P S H) (t : ℕ) 
   row_of (call.EvStatus e) = ev_status s e
   row_of (call.EvKind e) = ev_kind s e
   row_of (call.EvFree e all) = ev_free s e all
-  row_of (call.KeyCreate h) = unbuilt
-  row_of (call.KeyDelete k) = unbuilt
-  row_of (call.KeySet k v) = unbuilt
-  row_of (call.KeyGet k) = unbuilt
+  row_of (call.KeyCreate h) = key_create s
+  row_of (call.KeyDelete k) = key_delete s k
+  row_of (call.KeySet k v) = key_set s k
+  row_of (call.KeyGet k) = key_get s t k
   row_of (call.PortCreate name) = unbuilt
   row_of (call.PortFind name) = unbuilt
   row_of (call.PortPending p) = unbuilt
@@ -70,8 +72,8 @@ module _ {P S H : Type 0} (f : P → Functions S H) (s : State P S H) (t : ℕ) 
   row_of (call.PortGet p) = unbuilt
   row_of (call.Reply m v) = unbuilt
   row_of (call.PortDestroy p) = unbuilt
-  row_of (call.CleanupPush h v) = unbuilt
-  row_of (call.CleanupPop v) = unbuilt
+  row_of (call.CleanupPush h v) = cleanup_push f s t
+  row_of (call.CleanupPop v) = cleanup_pop f s t v
   row_of (call.MutexInit m) = unbuilt
   row_of (call.MutexAcquire m v e) = unbuilt
   row_of (call.MutexRelease m) = unbuilt

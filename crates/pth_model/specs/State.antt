@@ -51,7 +51,7 @@ pub record Scheduler : Type 0 where
   pub favour_new : Bool
 
 -- what calls change: the program's shared value, the threads, their attribute objects, events and rings of them (pth_event_t),
--- the kernel with its descriptors, and what the scheduler keeps
+-- the kernel with its descriptors, the once controls that were used (pth_once_t), and what the scheduler keeps
 pub record Control (P S H : Type 0) : Type 0 where
   pub program : P
   pub shared : H
@@ -59,6 +59,7 @@ pub record Control (P S H : Type 0) : Type 0 where
   pub attributes : Attributes
   pub events : Events
   pub kernel : Kernel
+  pub used : ℕ → Bool
   pub scheduler : Scheduler
 
 pub record State (P S H : Type 0) : Type 0 where
@@ -91,6 +92,10 @@ present k = number_known k.threads.known k.threads.made
 -- no attribute object was made
 abbrev pub no_attributes : Attributes
 no_attributes = record { made = 0; objects = λ n. None }
+
+-- how many once controls there are
+abbrev pub once_limit : ℕ
+once_limit = 64
 
 -- the main thread's number
 abbrev pub main : ℕ
@@ -143,6 +148,7 @@ start f g = record {
     attributes = no_attributes;
     events = no_events;
     kernel = g.kernel;
+    used = λ o. false;
     scheduler = record { running = None; preferred = None; favour_new = true };
   };
 }

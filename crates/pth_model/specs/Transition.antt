@@ -1,5 +1,5 @@
 -- A state, and what was told on the way to it. A change touches the control alone, and only a mark touches the resources.
-use Rattle.std.specs.Prelude.{ℕ, List, [], ◌∷◌, ◌++◌}
+use Rattle.std.specs.Prelude.{ℕ, Bool, true, false, List, [], ◌∷◌, ◌++◌}
 use Rattle.pth_base.specs.declared.ids.Tid.{Tid}
 use Rattle.pth_base.specs.declared.mark.Mark.{Mark}
 use Rattle.pth_model.specs.declared.next.Next.{Next}
@@ -60,6 +60,11 @@ module _ {P S H : Type 0} where
       let a = first s in
       let b = second a.state in
       record { state = b.state; marks = a.marks ++ b.marks }
+
+  -- a piece, where so
+  abbrev pub where_so : Bool → Piece P S H → Piece P S H
+  where_so true a = a
+  where_so false a = silent
 
   -- a piece, and what comes next
   infix 5 ◌and_next◌

@@ -2,7 +2,7 @@
 
 ghost use Rattle.std.specs.Prelude.{◌≡◌, pos};
 ghost use Rattle.pth_base.specs.declared.outcome.Outcome.TheVariants.{Ended};
-ghost use Rattle.pth_model.specs.Example.{given, two_bodies, its_marks, joining_bodies, joining_marks, napping_bodies, napping_marks, waiting_bodies, waiting_marks, given_a_byte, reading_bodies, reading_marks};
+ghost use Rattle.pth_model.specs.Example.{given, two_bodies, its_marks, joining_bodies, joining_marks, napping_bodies, napping_marks, waiting_bodies, waiting_marks, given_a_byte, reading_bodies, reading_marks, ending_bodies, ending_marks};
 ghost use Rattle.pth_model.specs.Run.{run};
 
 /// By the definitions, a main that spawns a thread, yields to it and exits gives exactly these marks, and the run ends
@@ -37,4 +37,11 @@ pub fn waiting_bodies_run()
 pub fn reading_bodies_run()
     ensures marks { (run reading_bodies given_a_byte 7).marks ≡ reading_marks }
     ensures outcome { (run reading_bodies given_a_byte 7).turn.outcome ≡ Ended (pos 0) }
+{}
+
+/// By the definitions, a main that exits with a cleanup handler, and with values under two keys whose destructors set each other's,
+/// runs the handler and then four rounds of destructors; the run ends with its value after seven parts.
+pub fn ending_bodies_run()
+    ensures marks { (run ending_bodies given 7).marks ≡ ending_marks }
+    ensures outcome { (run ending_bodies given 7).turn.outcome ≡ Ended (pos 0) }
 {}

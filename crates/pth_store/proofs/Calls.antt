@@ -1,5 +1,5 @@
 -- The tables before and after a call.
-use Rattle.std.proofs.Common.{◌≡◌, ℕ, suc, ◌<◌, ◌≤◌, ◌+◌, ◌-◌, inl, inr, ℤ, pos, negsuc, ◌<ℤ◌, ◌≤ℤ◌, Bool, true, false, cond, List, [], ◌∷◌, length, get_or, set, map, replicate, find, filter_map, position, Option, Some, None, is_some, is_none, refl, sym, ◌∙◌, ap, arith, length-set, get_or-set_other, add-zero}
+use Rattle.std.proofs.Common.{◌≡◌, ℕ, zero, suc, ◌<◌, ◌≤◌, ◌+◌, ◌-◌, inl, inr, ℤ, pos, negsuc, ◌<ℤ◌, ◌≤ℤ◌, Bool, true, false, cond, List, [], ◌∷◌, length, get_or, set, map, replicate, find, filter_map, position, Option, Some, None, is_some, is_none, refl, sym, ◌∙◌, ap, arith, length-set, get_or-set_other, add-zero}
 use Rattle.std.specs.List.{range_with_len, position_from, slice_get, cons_option}
 use Rattle.std.proofs.lemmas.Int.{ints}
 use Rattle.std.proofs.lemmas.List.{get_or_past, get_or-replicate, length-replicate}
@@ -9,8 +9,8 @@ use mathlib.Core.Path.{fun_ext}
 use Rattle.pth_base.specs.Table.{put, table}
 use Rattle.pth_base.specs.declared.ids.HandlerId.{HandlerId}
 use Rattle.pth_base.proofs.Tables.{put_by}
-use Rattle.pth_base.proofs.Lists.{table_set}
-use Rattle.pth_store.specs.Keys.{Tables, KeysAreKept, key_limit, key_named, keys_from, owed_for, first_live, value_at_key, tables_of, no_keys, created, deleted}
+use Rattle.pth_base.proofs.Lists.{table_set, put_none}
+use Rattle.pth_store.specs.Keys.{Tables, KeysAreKept, key_limit, key_named, keys_from, owed, owed_for, first_live, value_at_key, tables_of, no_keys, created, deleted}
 use Rattle.pth_store.proofs.Rows.{value-none}
 
 -- the keys in a list
@@ -69,6 +69,19 @@ module _ (x : Tables) (s k : ℕ) where
   pub first-past : key_limit ≤ k → first_live x s k ≡ None
   first-past high = let e : key_limit - k ≡ 0 = omega arith in ap (λ (n : ℕ). slice_get (filter_map (owed_for x s) (range_with_len k n)) 0) e
 
+owed-zero : (k : ℕ) (o : Option (Option HandlerId)) → None ≡ owed k o (pos 0)
+owed-zero k (Some (Some h)) = refl
+owed-zero k (Some None) = refl
+owed-zero k None = refl
+
+-- where all values from k on are 0, nothing is owed
+pub first-zero : (x : Tables) (s n k : ℕ) → key_limit - k ≡ n → ((i : ℕ) → k ≤ i → i < key_limit → x.values i s ≡ pos 0) → first_live x s k ≡ None
+first-zero x s zero k left zeros = first-past x s k (omega (arith, left))
+first-zero x s (suc n) k left zeros =
+    let low : k < key_limit = omega (arith, left) in
+    let here : k ≤ k = omega arith in
+    first-none x s k low (owed-zero k (x.keys k) ∙ ap (owed k (x.keys k)) (sym (zeros k here low))) ∙ first-zero x s n (k + 1) (omega (arith, left)) (λ i high. zeros i (omega (arith, high)))
+
 -- ---- changes
 
 same-tables : (f g : ℕ → Option (Option HandlerId)) (v w : ℕ → ℕ → ℤ) → f ≡ g → v ≡ w → ◌≡◌ {A = Tables} (record { keys = f; values = v }) (record { keys = g; values = w })
@@ -114,8 +127,8 @@ module _ (keys : KeyList) (rows : List (List ℤ)) (h : kept keys rows) where
     pub shown-deleted : (new : List (List ℤ)) (name : ℕ) → k ≡ name → value_at_key new ≡ put (value_at_key rows) k (λ _. pos 0) → shown (set keys k None) new ≡ deleted name (shown keys rows)
     shown-deleted new name named is = same-tables _ _ _ _ (table_set keys k None None within) is ∙ ap (λ (n : ℕ). deleted n (shown keys rows)) named
 
-    pub shown-created : (d : Option HandlerId) → shown (set keys k (Some d)) rows ≡ created k d (shown keys rows)
-    shown-created d = same-tables _ _ _ _ (table_set keys k (Some d) None within) refl
+    pub shown-created : (d : Option HandlerId) → table None keys k ≡ None → shown (set keys k (Some d)) rows ≡ created k d (shown keys rows)
+    shown-created d free = same-tables _ _ _ _ (table_set keys k (Some d) None within) (sym (put_none (value_at_key rows) k (λ _. pos 0) (fun_ext (λ s. h.unset k s free))))
 
 -- ---- before any call
 

@@ -1,4 +1,4 @@
--- PushedHandler handlers, of which each slot has a stack (pth_cleanup_push, pth_cleanup_pop).
+-- Cleanup handlers, of which each slot has a stack (pth_cleanup_push, pth_cleanup_pop).
 use Rattle.std.specs.Prelude.{ℕ, ◌≤◌, ◌==◌, ℤ, Bool, if◌then◌else◌, List, [], ◌∷◌, length, map, reverse, slice_get, Option, Result, Ok, Err, Vec}
 use Rattle.std.specs.Global.{Global}
 use Rattle.pth_base.specs.Table.{put, table}
@@ -6,7 +6,7 @@ use Rattle.pth_base.specs.declared.errno.Errno.{Errno}
 use Rattle.pth_base.specs.declared.errno.Errno.TheVariants.{EAGAIN}
 use Rattle.pth_base.specs.declared.ids.HandlerId.{HandlerId}
 
--- what is with_top: a handler, and the argument that it is run with
+-- what is pushed: a handler, and the argument that it is run with
 abbrev pub PushedHandler : Type 0
 PushedHandler = HandlerId × ℤ
 
@@ -33,7 +33,7 @@ without_top (c ∷ cs) = cs
 
 -- ---- answers
 
--- a handler is with_top
+-- a handler is pushed
 abbrev pub push_answer : Stacks → ℕ → Result (Unit {0}) Errno
 push_answer x s =
     if is_full_stack (x s) then Err EAGAIN else

@@ -87,9 +87,9 @@ key_get_answer x s k =
 abbrev pub no_keys : Tables
 no_keys = record { keys = λ _. None; values = λ _ _. pos 0 }
 
--- a key is live, with this destructor or none
+-- a key is live, with this destructor or none, and no slot has a value under it
 abbrev pub created : ℕ → Option HandlerId → Tables → Tables
-created k h x = record x { keys = put x.keys k (Some h) }
+created k h x = record { keys = put x.keys k (Some h); values = put x.values k (λ _. pos 0) }
 
 -- a key is free, and no slot has a value under it
 abbrev pub deleted : ℕ → Tables → Tables

@@ -90,7 +90,6 @@ impl Keys {
     pub fn create(&mut self, h: Option<HandlerId>) -> Result<u8, Errno>
         ensures answer { result ≡ key_create_answer (tables_of self.old) }
         ensures changes { IfOk result (λ k. tables_of self.new ≡ created k h (tables_of self.old)) }
-        ensures unset { IfOk result (λ k. (tables_of self.new).values k ≡ (λ _. pos 0)) }
         ensures refused { OnErr result (self.new ≡ self.old) }
     {
         match find_free(&self.keys) {
@@ -140,7 +139,7 @@ impl Keys {
     pub fn first_live(&self, s: Slot, from: u16) -> Option<(u8, HandlerId, i64)>
         ensures { result ≡ first_live (tables_of self.now) s.0 from }
     {
-        for k in from..MOST_KEYS {
+        for k in from..values_end(&self.rows, s.0 as usize) {
             if let Some(owed) = self.owed_for(s, k) {
                 return Some(owed);
             }
@@ -186,6 +185,17 @@ fn value_at(rows: &Vec<Vec<i64>>, s: usize, k: usize) -> i64
     }
     let row = &rows[s];
     if k < row.len() { row[k] } else { 0 }
+}
+
+// The key from which on the values of a slot are 0.
+fn values_end(rows: &Vec<Vec<i64>>, s: usize) -> u16
+    ensures low { result ≤ key_limit }
+    ensures zero { (k : ℕ) → result ≤ k → k < key_limit → value_at_key (value_rows rows.now) k s ≡ pos 0 }
+{
+    if s >= rows.len() {
+        return 0;
+    }
+    rows[s].len().min(MOST_KEYS as usize) as u16
 }
 
 // Sets the value of a slot under a key.

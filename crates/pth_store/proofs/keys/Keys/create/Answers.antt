@@ -9,7 +9,7 @@ pub returns-in-Some-clause-answer : goal.returns-in-Some-clause-answer
 returns-in-Some-clause-answer c = rw (← c.self.view_is) (ap (λ (o : Option ℕ). ok_or o EAGAIN) (sym c.in-Some.is ∙ c.find_free.ensures.place ∙ free-is c.self.inside.keys c.self.invariant.many))
 
 pub returns-in-Some-clause-changes : goal.returns-in-Some-clause-changes
-returns-in-Some-clause-changes c = let many = c.self.invariant.many in let low : c.in-Some.k < key_limit = omega (arith, c.in-Some.ensures.low) in rw (← c.self.view_is) (shown-created c.self.inside.keys _ c.self.invariant c.in-Some.k low c.args.h)
+returns-in-Some-clause-changes c = let many = c.self.invariant.many in let low : c.in-Some.k < key_limit = omega (arith, c.in-Some.ensures.low) in rw (← c.self.view_is) (shown-created c.self.inside.keys _ c.self.invariant c.in-Some.k low c.args.h c.in-Some.ensures.free)
 
 pub returns-in-None-clause-answer : goal.returns-in-None-clause-answer
 returns-in-None-clause-answer c = rw (← c.self.view_is) (ap (λ (o : Option ℕ). ok_or o EAGAIN) (sym c.in-None.is ∙ c.find_free.ensures.place ∙ free-is c.self.inside.keys c.self.invariant.many))
