@@ -12,10 +12,10 @@ use Rattle.pth_world.specs.World.{WorldOf}
 -- where events alone change, what they show is what counts
 module _ {P S H : Type 0} (w : WorldOf P S H) (e : RingsOf) where
   pub events_show : (k : Control P S H) (x : Events) → Shows w k → x ≡ events_of e → Shows (record w { events = e }) (record k { events = x })
-  events_show k x sh is = record { program = sh.program; shared = sh.shared; threads = sh.threads; attributes = sh.attributes; events = is; kernel = sh.kernel; scheduler = sh.scheduler }
+  events_show k x sh is = record { program = sh.program; shared = sh.shared; threads = sh.threads; attributes = sh.attributes; events = is; kernel = sh.kernel; used = sh.used; scheduler = sh.scheduler }
 
   pub events_whole : Whole w → Whole (record w { events = e })
-  events_whole whole = record { sound = whole.sound; fits = whole.fits; runner = whole.runner }
+  events_whole whole = record { sound = whole.sound; fits = whole.fits; runner = whole.runner; stored = whole.stored }
 
   pub events_frame : (n : ℕ) → Whole w → e.made ≤ w.events.made + n → Frame w (record w { events = e }) n w.scheduler.running false
   events_frame n whole few = record {

@@ -10,10 +10,10 @@ use Rattle.pth_world.specs.World.{WorldOf}
 -- where the kernel alone changes, what it shows is what counts
 module _ {P S H : Type 0} (w : WorldOf P S H) (x : KernelOf) where
   pub kernel_shows : (k : Control P S H) (y : Kernel) → Shows w k → y ≡ kernel_of x → Shows (record w { kernel = x }) (record k { kernel = y })
-  kernel_shows k y sh is = record { program = sh.program; shared = sh.shared; threads = sh.threads; attributes = sh.attributes; events = sh.events; kernel = is; scheduler = sh.scheduler }
+  kernel_shows k y sh is = record { program = sh.program; shared = sh.shared; threads = sh.threads; attributes = sh.attributes; events = sh.events; kernel = is; used = sh.used; scheduler = sh.scheduler }
 
   pub kernel_whole : Whole w → Whole (record w { kernel = x })
-  kernel_whole whole = record { sound = whole.sound; fits = whole.fits; runner = whole.runner }
+  kernel_whole whole = record { sound = whole.sound; fits = whole.fits; runner = whole.runner; stored = whole.stored }
 
   -- a change of the kernel
   pub turned_shows : (h : Kernel → Kernel) (k : Control P S H) → Shows w k → kernel_of x ≡ h (kernel_of w.kernel) → Shows (record w { kernel = x }) (with_kernel h k)

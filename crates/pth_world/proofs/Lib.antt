@@ -23,3 +23,4 @@ pub mod StateOf
 pub mod Counting
 pub mod Heights
 pub mod Vanishing
+pub mod Stores

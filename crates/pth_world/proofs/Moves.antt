@@ -2,6 +2,7 @@
 use Rattle.std.proofs.Common.{◌≡◌, ◌≢◌, ◌==◌, ◌||◌, not, ℕ, ℤ, Bool, true, false, if◌then◌else◌, IsSome, IfSome, Option, Some, None, option_map, refl, sym, ◌∙◌, ap, subst}
 use Rattle.pth_base.specs.declared.thread.ThreadState.{ThreadState}
 use Rattle.pth_base.specs.declared.thread.ThreadState.TheVariants as state
+use Rattle.pth_base.specs.Naming.{by_slot, seen}
 use Rattle.pth_base.proofs.Namings.{seen_at}
 use Rattle.pth_base.proofs.Tables.{put_here, put_other, same_means, same_fails, same_self, not_same}
 use Rattle.pth_queue.specs.declared.queue.Queue.{Queue}
@@ -15,12 +16,15 @@ use Rattle.pth_model.specs.Changes.{queue_for, or_nobody}
 use Rattle.pth_world.specs.World.{WorldOf, ThreadsBySlot, entry_in}
 use Rattle.pth_model.specs.Ending.{other_than}
 use Rattle.pth_model.specs.Living.{is_dead}
+use Rattle.pth_model.specs.Resources.{Store, store_without}
 use Rattle.pth_model.specs.ThreadControl.{may_run}
-use Rattle.pth_world.specs.Sound.{IsSound, IsKnown}
-use Rattle.pth_world.specs.Whole.{View, view, Fits, FitsEntry, Whole, WholeBut, IsRunner, IsIn, IsBefore, Newly, Waiting, IsAbout, CanSuspend, MayBlock, MayStandIn, WaitsToRun, OfNew, OfReady, place_for}
+use Rattle.pth_world.specs.Store.{StoreOf, store_of, HasNothing}
+use Rattle.pth_world.specs.Sound.{IsSound, IsKnown, IsAlive, lives}
+use Rattle.pth_world.specs.Whole.{View, view, Fits, FitsEntry, Whole, WholeBut, IsRunner, IsIn, IsBefore, Newly, Waiting, IsAbout, CanSuspend, MayBlock, MayStandIn, StoresAlive, WaitsToRun, OfNew, OfReady, place_for}
 use Rattle.pth_world.specs.Touches.{Touches, SameThreads, view_changed, view_placed, view_blocked}
 use Rattle.pth_world.proofs.Slots.{name_is, used, some_is}
 use Rattle.pth_world.proofs.Places.{queue-without}
+use Rattle.pth_world.proofs.Stores.{nothing_left, nothing_without}
 
 -- one change of a thread after another
 pub two_touches : {S : Type 0} (u v w : ThreadsBySlot S) (t : ℕ) (f g : View → View) → SameThreads u v → Touches u v t f → Touches v w t g → Touches u w t (λ k. g (f k))
@@ -36,6 +40,42 @@ same_twice u v w a b = record { slots = b.slots ∙ a.slots; tids = b.tids ∙ a
 pub queues_alone : {P S H : Type 0} (w m : WorldOf P S H) → m ≡ record w { threads = record w.threads { queues = m.threads.queues } } → SameThreads w.threads m.threads
 queues_alone w m same = record { slots = ap (λ (k : WorldOf _ _ _). slot_of k.threads.records) same; tids = ap (λ (k : WorldOf _ _ _). tid_at k.threads.records) same; made = ap (λ (k : WorldOf _ _ _). k.threads.records.made) same }
 
+-- ---- who has something stored
+
+-- the record of another thread than the one that changed
+pub entry_kept : {S : Type 0} (w v : ThreadsBySlot S) (t r : ℕ) → IsSound w → slot_of v.records r ≡ slot_of w.records r → ((i : ℕ) → tid_at w.records i ≢ t → view v i ≡ view w i) → r ≢ t → entry_in v r ≡ entry_in w r
+unfolding seen
+entry_kept w v t r sound same others apart = ap (by_slot None (entry_at v.records)) same ∙ by_option (slot_of w.records r) refl
+  where
+    by_option : (o : Option ℕ) → slot_of w.records r ≡ o → by_slot None (entry_at v.records) o ≡ by_slot None (entry_at w.records) o
+    by_option None e = refl
+    by_option (Some i) e = ap (λ (k : View). k.entry) (others i (λ at. apart (sym (name_is w r i sound e) ∙ at)))
+
+stores_as : {P S H : Type 0} (w v : WorldOf P S H) (r : ℕ) → v.store ≡ w.store → entry_in v.threads r ≡ entry_in w.threads r → StoresAlive w r → StoresAlive v r
+stores_as w v r store entry stored dead = subst (λ (y : StoreOf). HasNothing (store_of y) r) (sym store) (stored (sym (ap lives entry) ∙ dead))
+
+-- by its slot
+own_stored : {P S H : Type 0} (w : WorldOf P S H) (t u : ℕ) → Whole w → slot_of w.threads.records t ≡ Some u → lives (view w.threads u).entry ≡ false → HasNothing (store_of w.store) t
+own_stored w t u whole e dead = whole.stored t (ap lives (seen_at None (slot_of w.threads.records) (entry_at w.threads.records) t u e) ∙ dead)
+
+-- a state that is not that of a dead thread
+lives_set : (s : ThreadState) (o : Option Entry) → is_dead s ≡ false → lives (option_map (changed (change.State s)) o) ≡ false → lives o ≡ false
+unfolding changed
+lives_set s None alive dead = dead
+lives_set s (Some d) alive dead =
+    let both : true ≡ false = sym (ap not alive) ∙ dead in
+    absurd (cc both)
+
+-- where thread t left, with what it stored
+left_stored : {P S H : Type 0} (w v : WorldOf P S H) (t r : ℕ) → IsSound w.threads → store_of v.store ≡ store_without t (store_of w.store) → ((i : ℕ) → i ≢ t → slot_of v.threads.records i ≡ slot_of w.threads.records i) → ((i : ℕ) → tid_at w.threads.records i ≢ t → view v.threads i ≡ view w.threads i) → (r ≢ t → StoresAlive w r) → StoresAlive v r
+left_stored w v t r sound store slots others stored dead = subst (λ (s : Store). HasNothing s r) (sym store) (by_own (r == t) refl)
+  where
+    by_own : (b : Bool) → (r == t) ≡ b → HasNothing (store_without t (store_of w.store)) r
+    by_own true is = subst (λ (n : ℕ). HasNothing (store_without t (store_of w.store)) n) (sym (same_means r t is)) (nothing_left (store_of w.store) t)
+    by_own false is =
+        let apart = same_fails r t is in
+        nothing_without (store_of w.store) t r (stored apart (sym (ap lives (entry_kept w.threads v.threads t r sound (slots r apart) others apart)) ∙ dead))
+
 -- a change of a thread that leaves it fitting, and the others
 module _ {P S H : Type 0} (w v : WorldOf P S H) (t u : ℕ) (g : View → View) (whole : Whole w) (e : slot_of w.threads.records t ≡ Some u) (touches : Touches w.threads v.threads t g) (own : Fits v.scheduler.running (g (view w.threads u))) (others : (i : ℕ) → tid_at w.threads.records i ≢ t → Fits w.scheduler.running (view w.threads i) → Fits v.scheduler.running (view w.threads i)) where
   at_slot : (i : ℕ) → tid_at w.threads.records i ≡ t → i ≡ u
@@ -45,8 +85,20 @@ module _ {P S H : Type 0} (w v : WorldOf P S H) (t u : ℕ) (g : View → View) 
   fits_by i true is = subst (λ (k : ℕ). Fits v.scheduler.running (view v.threads k)) (sym (at_slot i (same_means _ t is))) (subst (λ (k : View). Fits v.scheduler.running k) (sym (touches.own u e)) own)
   fits_by i false is = subst (λ (k : View). Fits v.scheduler.running k) (sym (touches.others i (same_fails _ t is))) (others i (same_fails _ t is) (whole.fits i))
 
-  pub whole_from : IsSound v.threads → IsRunner v → Whole v
-  whole_from sound runner = record { sound = sound; fits = λ i. fits_by i (tid_at w.threads.records i == t) refl; runner = runner }
+  pub whole_from : IsSound v.threads → IsRunner v → slot_of v.threads.records ≡ slot_of w.threads.records → v.store ≡ w.store → (lives (g (view w.threads u)).entry ≡ false → HasNothing (store_of w.store) t) → Whole v
+  whole_from sound runner slots store stored = record {
+    sound = sound;
+    fits = λ i. fits_by i (tid_at w.threads.records i == t) refl;
+    runner = runner;
+    stored = λ r. stored_by r (r == t) refl;
+  }
+    where
+      stored_by : (r : ℕ) (b : Bool) → (r == t) ≡ b → StoresAlive v r
+      stored_by r true is dead =
+          let own : entry_in v.threads t ≡ (g (view w.threads u)).entry = seen_at None (slot_of v.threads.records) (entry_at v.threads.records) t u (ap (λ (k : ℕ → Option ℕ). k t) slots ∙ e) ∙ ap (λ (k : View). k.entry) (touches.own u e) in
+          let gone : lives (g (view w.threads u)).entry ≡ false = ap lives (sym own) ∙ ap (λ (n : ℕ). lives (entry_in v.threads n)) (sym (same_means r t is)) ∙ dead in
+          subst (λ (n : ℕ). HasNothing (store_of v.store) n) (sym (same_means r t is)) (subst (λ (y : StoreOf). HasNothing (store_of y) t) (sym store) (stored gone))
+      stored_by r false is dead = stores_as w v r store (entry_kept w.threads v.threads t r whole.sound (ap (λ (k : ℕ → Option ℕ). k r) slots) touches.others (same_fails r t is)) (whole.stored r) dead
 
 if_some : {A : Type 0} (P Q : A → Type 0) (o : Option A) → ((x : A) → P x → Q x) → IfSome o P → IfSome o Q
 if_some P Q (Some x) f h = f x h
@@ -94,8 +146,8 @@ known_slot None known = absurd (cc known)
 pub is_in : {P S H : Type 0} (w : WorldOf P S H) (q : Queue) (t u : ℕ) → IsIn q w.threads t → slot_of w.threads.records t ≡ Some u → queue_of u w.threads.queues ≡ Some q
 is_in w q t u h e = subst (λ (o : Option ℕ). IfSome o (λ i. queue_of i w.threads.queues ≡ Some q)) e h
 
-pub make_ready_whole : {P S H : Type 0} (w m v : WorldOf P S H) (t : ℕ) (q : Queue) → Whole w → IsKnown w.threads t → IsBefore q → IsIn q w.threads t → Touches w.threads m.threads t (view_placed None) → m ≡ record w { threads = record w.threads { queues = m.threads.queues } } → Touches m.threads v.threads t (λ k. view_placed (Some queue.Ready) (view_changed (change.State state.Ready) k)) → SameThreads m.threads v.threads → v.scheduler.running ≡ m.scheduler.running → IsSound v.threads → Whole v
-make_ready_whole w m v t q whole known b stands left same entered kept runs sound =
+pub make_ready_whole : {P S H : Type 0} (w m v : WorldOf P S H) (t : ℕ) (q : Queue) → Whole w → IsKnown w.threads t → IsBefore q → IsIn q w.threads t → Touches w.threads m.threads t (view_placed None) → m ≡ record w { threads = record w.threads { queues = m.threads.queues } } → Touches m.threads v.threads t (λ k. view_placed (Some queue.Ready) (view_changed (change.State state.Ready) k)) → SameThreads m.threads v.threads → v.scheduler.running ≡ m.scheduler.running → v.store ≡ m.store → IsSound v.threads → Whole v
+make_ready_whole w m v t q whole known b stands left same entered kept runs store sound =
     let slot = known_slot (slot_of w.threads.records t) known in
     let all = queues_alone w m same in
     let running : v.scheduler.running ≡ w.scheduler.running = runs ∙ ap (λ (k : WorldOf _ _ _). k.scheduler.running) same in
@@ -104,6 +156,7 @@ make_ready_whole w m v t q whole known b stands left same entered kept runs soun
     (fits_same w.scheduler.running v.scheduler.running _ running (readied_fits w.scheduler.running q (view w.threads slot.0) b (is_in w q t slot.0 stands slot.1) (whole.fits slot.0)))
     (λ i apart f. fits_same w.scheduler.running v.scheduler.running (view w.threads i) running f)
     sound (runner_kept w v (same_twice w.threads m.threads v.threads all kept).slots running whole.runner)
+    (same_twice w.threads m.threads v.threads all kept).slots (store ∙ ap (λ (k : WorldOf _ _ _). k.store) same) (λ dead. own_stored w t slot.0 whole slot.1 (lives_set state.Ready (view w.threads slot.0).entry refl dead))
 
 -- where nobody but t is taken for the one that runs
 pub rerun_fits : (r q : Option ℕ) (t : ℕ) (o : Option Entry) (p : Option Queue) (h : Option Blocked) → IsAbout r t → IsAbout q t → tid_of o ≢ t → FitsEntry r o p h → FitsEntry q o p h
@@ -181,7 +234,7 @@ runs_by t n (Some e) p h stands named f =
     ready_awake s true h = absurd (cc h)
     ready_awake s false h = refl
 
-module _ {P S H : Type 0} (w v : WorldOf P S H) (t : ℕ) (whole : Whole w) (is : w.scheduler.running ≡ Some t) (rests : v.scheduler.running ≡ None) (sound : IsSound v.threads) where
+module _ {P S H : Type 0} (w v : WorldOf P S H) (t : ℕ) (whole : Whole w) (is : w.scheduler.running ≡ Some t) (rests : v.scheduler.running ≡ None) (sound : IsSound v.threads) (slots : slot_of v.threads.records ≡ slot_of w.threads.records) (store : v.store ≡ w.store) where
   slot_t : (u : ℕ) × (slot_of w.threads.records t ≡ Some u)
   slot_t = known_slot (slot_of w.threads.records t) (runner_known w t whole is)
 
@@ -198,21 +251,27 @@ module _ {P S H : Type 0} (w v : WorldOf P S H) (t : ℕ) (whole : Whole w) (is 
   own_fits = subst (λ (p : Option Queue). FitsEntry (Some t) (view w.threads slot_t.0).entry p (view w.threads slot_t.0).blocked) runs_t.nowhere (subst (λ (r : Option ℕ). Fits r (view w.threads slot_t.0)) is (whole.fits slot_t.0))
 
   pub back_whole : Touches w.threads v.threads t (λ k. view_placed (Some queue.Ready) (view_changed (change.State state.Ready) k)) → Whole v
-  back_whole touches = whole_from w v t slot_t.0 _ whole slot_t.1 touches (fits_same None v.scheduler.running _ rests (back_by t runs_t.entry (view w.threads slot_t.0).entry (view w.threads slot_t.0).blocked runs_t.has runs_t.awake own_fits)) others_rest sound no_runner
+  back_whole touches = whole_from w v t slot_t.0 _ whole slot_t.1 touches (fits_same None v.scheduler.running _ rests (back_by t runs_t.entry (view w.threads slot_t.0).entry (view w.threads slot_t.0).blocked runs_t.has runs_t.awake own_fits)) others_rest sound no_runner slots store (λ dead. own_stored w t slot_t.0 whole slot_t.1 (lives_set state.Ready (view w.threads slot_t.0).entry refl dead))
 
   pub waits_whole : Touches w.threads v.threads t (λ k. view_placed (Some queue.Waiting) (view_changed (change.State state.Waiting) k)) → Whole v
-  waits_whole touches = whole_from w v t slot_t.0 _ whole slot_t.1 touches (fits_same None v.scheduler.running _ rests (waits_by t runs_t.entry (view w.threads slot_t.0).entry (view w.threads slot_t.0).blocked runs_t.has runs_t.awake own_fits)) others_rest sound no_runner
+  waits_whole touches = whole_from w v t slot_t.0 _ whole slot_t.1 touches (fits_same None v.scheduler.running _ rests (waits_by t runs_t.entry (view w.threads slot_t.0).entry (view w.threads slot_t.0).blocked runs_t.has runs_t.awake own_fits)) others_rest sound no_runner slots store (λ dead. own_stored w t slot_t.0 whole slot_t.1 (lives_set state.Waiting (view w.threads slot_t.0).entry refl dead))
+
+lives_counted : (n : ℕ) (o : Option Entry) → lives o ≡ lives (option_map (changed (change.Dispatches n)) o)
+unfolding changed
+lives_counted n (Some d) = refl
+lives_counted n None = refl
 
 -- a dispatch
-pub runs_whole : {P S H : Type 0} (w v : WorldOf P S H) (t n : ℕ) → Whole w → IsKnown w.threads t → IsIn queue.Ready w.threads t → w.scheduler.running ≡ None → v.scheduler.running ≡ Some t → IsSound v.threads → slot_of v.threads.records ≡ slot_of w.threads.records → Touches w.threads v.threads t (λ k. view_changed (change.Dispatches n) (view_changed (change.State state.Running) (view_placed None k))) → Whole v
+pub runs_whole : {P S H : Type 0} (w v : WorldOf P S H) (t n : ℕ) → Whole w → IsKnown w.threads t → IsIn queue.Ready w.threads t → w.scheduler.running ≡ None → v.scheduler.running ≡ Some t → IsSound v.threads → slot_of v.threads.records ≡ slot_of w.threads.records → v.store ≡ w.store → Touches w.threads v.threads t (λ k. view_changed (change.Dispatches n) (view_changed (change.State state.Running) (view_placed None k))) → Whole v
 unfolding tid_at
-runs_whole w v t n whole known stands nobody runs sound slots touches =
+runs_whole w v t n whole known stands nobody runs sound slots store touches =
     let slot = known_slot (slot_of w.threads.records t) known in
     let own : FitsEntry (Some t) (option_map (changed (change.Dispatches n)) (option_map (changed (change.State state.Running)) (entry_at w.threads.records slot.0))) None (view w.threads slot.0).blocked
     = runs_by t n (entry_at w.threads.records slot.0) _ _ (is_in w queue.Ready t slot.0 stands slot.1) (name_is w.threads t slot.0 whole.sound slot.1) (subst (λ (r : Option ℕ). Fits r (view w.threads slot.0)) nobody (whole.fits slot.0)) in
     whole_from w v t slot.0 _ whole slot.1 touches (fits_same (Some t) v.scheduler.running _ runs own)
     (λ i apart f. rerun_others w v.scheduler.running t (about_none t w.scheduler.running nobody) (about_some t v.scheduler.running runs) i apart f)
-    sound (subst (λ (o : Option ℕ). IfSome o (IsKnown v.threads)) (sym runs) (rw slots known))
+    sound (subst (λ (o : Option ℕ). IfSome o (IsKnown v.threads)) (sym runs) (rw slots known)) slots store
+    (λ dead. own_stored w t slot.0 whole slot.1 (lives_set state.Running (view w.threads slot.0).entry refl (lives_counted n (option_map (changed (change.State state.Running)) (view w.threads slot.0).entry) ∙ dead)))
 
 pub runner_nowhere : {P S H : Type 0} (w : WorldOf P S H) (t : ℕ) → Whole w → w.scheduler.running ≡ Some t → IfSome (slot_of w.threads.records t) (λ u. IsNowhere u w.threads.queues)
 runner_nowhere w t whole is =
@@ -228,11 +287,11 @@ pub left_nowhere : {P S H : Type 0} (w m : WorldOf P S H) (t : ℕ) → SameThre
 left_nowhere w m t same h = rw same.slots (if_some (λ u. m.threads.queues ≡ without u w.threads.queues) (λ u. IsNowhere u m.threads.queues) (slot_of w.threads.records t) (λ u is. ap (queue_of u) is ∙ queue-without u w.threads.queues) h)
 
 -- a change of what a thread goes on with, which leaves it fitting
-pub progress_whole : {P S H : Type 0} (w v : WorldOf P S H) (t u : ℕ) (g : View → View) → Whole w → slot_of w.threads.records t ≡ Some u → Touches w.threads v.threads t g → IsSound v.threads → slot_of v.threads.records ≡ slot_of w.threads.records → v.scheduler.running ≡ w.scheduler.running → ((r : Option ℕ) → Fits r (view w.threads u) → Fits r (g (view w.threads u))) → Whole v
-progress_whole w v t u g whole e touches sound slots running fits =
+pub progress_whole : {P S H : Type 0} (w v : WorldOf P S H) (t u : ℕ) (g : View → View) → Whole w → slot_of w.threads.records t ≡ Some u → Touches w.threads v.threads t g → IsSound v.threads → slot_of v.threads.records ≡ slot_of w.threads.records → v.scheduler.running ≡ w.scheduler.running → v.store ≡ w.store → ((r : Option ℕ) → Fits r (view w.threads u) → Fits r (g (view w.threads u))) → (lives (g (view w.threads u)).entry ≡ false → lives (view w.threads u).entry ≡ false) → Whole v
+progress_whole w v t u g whole e touches sound slots running store fits alive =
     whole_from w v t u g whole e touches (fits_same w.scheduler.running v.scheduler.running (g (view w.threads u)) running (fits w.scheduler.running (whole.fits u)))
     (λ i apart f. fits_same w.scheduler.running v.scheduler.running (view w.threads i) running f)
-    sound (runner_kept w v slots running whole.runner)
+    sound (runner_kept w v slots running whole.runner) slots store (λ dead. own_stored w t u whole e (alive dead))
 
 blocked_entry : (r : Option ℕ) (o : Option Entry) (p : Option Queue) (h k : Option Blocked) → ((e : Entry) → o ≡ Some e → IfSome k (λ c. MayBlock e.tid.0 c)) → FitsEntry r o p h → FitsEntry r o p k
 blocked_entry r None p h k calls f = tt
@@ -294,16 +353,17 @@ module _ {P S H : Type 0} (w v : WorldOf P S H) (t u : ℕ) (whole : Whole w) (e
   unfolding tid_at
   others_stop i apart f = fits_same (other_than t w.scheduler.running) v.scheduler.running (view w.threads i) rests (stopped_fits w.scheduler.running t (entry_at w.threads.records i) _ _ apart f)
 
-  pub dead_whole : (n : ℤ) (sound : IsSound v.threads) → slot_of v.threads.records ≡ slot_of w.threads.records → Touches w.threads v.threads t (λ k. view_placed (Some queue.Dead) (view_changed (change.Value n) (view_changed (change.Suspended false) (view_changed (change.State state.Dead) (view_placed None k))))) → Whole v
+  pub dead_whole : (n : ℤ) (sound : IsSound v.threads) → v.store ≡ w.store → HasNothing (store_of w.store) t → slot_of v.threads.records ≡ slot_of w.threads.records → Touches w.threads v.threads t (λ k. view_placed (Some queue.Dead) (view_changed (change.Value n) (view_changed (change.Suspended false) (view_changed (change.State state.Dead) (view_placed None k))))) → Whole v
   unfolding tid_at
-  dead_whole n sound slots touches =
+  dead_whole n sound store nothing slots touches =
       whole_from w v t u _ whole e touches
       (fits_same (other_than t w.scheduler.running) v.scheduler.running _ rests (dead_by t n w.scheduler.running (view w.threads u).entry (view w.threads u).place (view w.threads u).blocked (name_is w.threads t u whole.sound e) (whole.fits u)))
       others_stop sound
       (subst (λ (o : Option ℕ). IfSome o (IsKnown v.threads)) (sym rests) (stopped_runner w.threads v.threads w.scheduler.running t (λ x apart known. rw slots known) whole.runner))
+      slots store (λ dead. nothing)
 
   -- t is gone
-  module _ (others : (i : ℕ) → tid_at w.threads.records i ≢ t → view v.threads i ≡ view w.threads i) (gone : RemovesThread w.threads.records v.threads.records u) where
+  module _ (others : (i : ℕ) → tid_at w.threads.records i ≢ t → view v.threads i ≡ view w.threads i) (gone : RemovesThread w.threads.records v.threads.records u) (store : store_of v.store ≡ store_without t (store_of w.store)) where
     none_at : entry_at v.threads.records u ≡ None
     none_at = ap (λ (k : ℕ → Option Entry). k u) gone.entries ∙ put_here (entry_at w.threads.records) u None
 
@@ -314,17 +374,18 @@ module _ {P S H : Type 0} (w v : WorldOf P S H) (t u : ℕ) (whole : Whole w) (e
         subst (λ (o : Option Entry). FitsEntry v.scheduler.running o (view v.threads i).place (view v.threads i).blocked) (sym none) tt
     gone_fits i false apart = subst (λ (k : View). Fits v.scheduler.running k) (sym (others i (same_fails _ t apart))) (others_stop i (same_fails _ t apart) (whole.fits i))
 
+    same_slot : (x : ℕ) → x ≢ t → slot_of v.threads.records x ≡ slot_of w.threads.records x
+    same_slot x apart = ap (λ (k : ℕ → Option ℕ). k x) gone.slots ∙ put_other (slot_of w.threads.records) (tid_at w.threads.records u) None x (λ k. apart (k ∙ name_is w.threads t u whole.sound e))
+
     still_known : (x : ℕ) → x ≢ t → IsKnown w.threads x → IsKnown v.threads x
-    still_known x apart known =
-        let name : tid_at w.threads.records u ≡ t = name_is w.threads t u whole.sound e in
-        let same : slot_of v.threads.records x ≡ slot_of w.threads.records x = ap (λ (k : ℕ → Option ℕ). k x) gone.slots ∙ put_other (slot_of w.threads.records) (tid_at w.threads.records u) None x (λ k. apart (k ∙ name)) in
-        rw same known
+    still_known x apart known = rw (same_slot x apart) known
 
     pub gone_whole : IsSound v.threads → Whole v
     gone_whole sound = record {
       sound = sound;
       fits = λ i. gone_fits i (tid_at w.threads.records i == t) refl;
       runner = subst (λ (o : Option ℕ). IfSome o (IsKnown v.threads)) (sym rests) (stopped_runner w.threads v.threads w.scheduler.running t still_known whole.runner);
+      stored = λ r. left_stored w v t r whole.sound store same_slot others (λ apart. whole.stored r);
     }
 
 -- ---- a thread that is suspended, or no longer
@@ -334,11 +395,17 @@ unfolding changed
 moved_by r q b None p h may f = tt
 moved_by r q b (Some e) p h may f = record { placed = may.0; runs = f.runs; named = f.named; awake = λ is. may.1; calls = f.calls }
 
-pub moved_whole : {P S H : Type 0} (w v : WorldOf P S H) (t u : ℕ) (q : Queue) (b : Bool) → Whole w → slot_of w.threads.records t ≡ Some u → IfSome (entry_in w.threads t) (λ e. MayStandIn q b e.state) → Touches w.threads v.threads t (λ k. view_placed (Some q) (view_changed (change.Suspended b) (view_placed None k))) → slot_of v.threads.records ≡ slot_of w.threads.records → v.scheduler.running ≡ w.scheduler.running → IsSound v.threads → Whole v
-moved_whole w v t u q b whole e may touches slots running sound =
+lives_moved : (b : Bool) (o : Option Entry) → lives o ≡ lives (option_map (changed (change.Suspended b)) o)
+unfolding changed
+lives_moved b (Some d) = refl
+lives_moved b None = refl
+
+pub moved_whole : {P S H : Type 0} (w v : WorldOf P S H) (t u : ℕ) (q : Queue) (b : Bool) → Whole w → slot_of w.threads.records t ≡ Some u → IfSome (entry_in w.threads t) (λ e. MayStandIn q b e.state) → Touches w.threads v.threads t (λ k. view_placed (Some q) (view_changed (change.Suspended b) (view_placed None k))) → slot_of v.threads.records ≡ slot_of w.threads.records → v.scheduler.running ≡ w.scheduler.running → v.store ≡ w.store → IsSound v.threads → Whole v
+moved_whole w v t u q b whole e may touches slots running store sound =
     let there = subst (λ (o : Option Entry). IfSome o (λ d. MayStandIn q b d.state)) (seen_at None (slot_of w.threads.records) (entry_at w.threads.records) t u e) may in
-    progress_whole w v t u (λ k. view_placed (Some q) (view_changed (change.Suspended b) (view_placed None k))) whole e touches sound slots running
+    progress_whole w v t u (λ k. view_placed (Some q) (view_changed (change.Suspended b) (view_placed None k))) whole e touches sound slots running store
     (λ r f. moved_by r q b (entry_at w.threads.records u) _ _ there f)
+    (λ dead. lives_moved b (entry_at w.threads.records u) ∙ dead)
 
 -- who is suspended may stand where its state says
 returns_by : (r : Option ℕ) (q : Queue) (o : Option Entry) (p : Option Queue) (h : Option Blocked) → IfSome o (λ e. e.suspended ≡ true) → IfSome o (λ e. Some q ≡ queue_for e.state) → FitsEntry r o p h → IfSome o (λ e. MayStandIn q false e.state)
@@ -426,6 +493,49 @@ dead_rests w e whole known is dead runs =
     by_state state.Dead dead is = cc is
     by_state s dead is = cc dead
 
+-- a dead thread stands in the dead queue
+pub dead_stands : {P S H : Type 0} (w : WorldOf P S H) (e : Entry) → Whole w → IsKnown w.threads e.tid.0 → Some e ≡ entry_in w.threads e.tid.0 → is_dead e.state ≡ true → IsIn queue.Dead w.threads e.tid.0
+dead_stands w e whole known is dead =
+    let slot = known_slot (slot_of w.threads.records e.tid.0) known in
+    let fits = fits_at w e.tid.0 slot.0 e whole slot.1 is in
+    let place : queue_of slot.0 w.threads.queues ≡ Some queue.Dead = fits.placed ∙ by_state e.state e.suspended dead fits.awake in
+    subst (λ (o : Option ℕ). IfSome o (λ u. queue_of u w.threads.queues ≡ Some queue.Dead)) (sym slot.1) place
+  where
+    by_state : (s : ThreadState) (b : Bool) → is_dead s ≡ true → (b ≡ true → CanSuspend s) → place_for s b ≡ Some queue.Dead
+    by_state state.Dead false dead awake = refl
+    by_state state.Dead true dead awake = absurd (awake refl)
+    by_state s b dead awake = absurd (cc dead)
+
+-- who stands there is dead
+dead_in : {P S H : Type 0} (w : WorldOf P S H) (t : ℕ) → Whole w → IsKnown w.threads t → IsIn queue.Dead w.threads t → lives (entry_in w.threads t) ≡ false
+dead_in w t whole known stands =
+    let slot = known_slot (slot_of w.threads.records t) known in
+    ap lives (seen_at None (slot_of w.threads.records) (entry_at w.threads.records) t slot.0 slot.1)
+    ∙ by_entry w.scheduler.running (view w.threads slot.0).entry (view w.threads slot.0).place (view w.threads slot.0).blocked (is_in w queue.Dead t slot.0 stands slot.1) (whole.fits slot.0)
+  where
+    by_state : (s : ThreadState) (b : Bool) → place_for s b ≡ Some queue.Dead → is_dead s ≡ true
+    by_state state.Dead b placed = refl
+    by_state s true placed = absurd (cc placed)
+    by_state state.New false placed = absurd (cc placed)
+    by_state state.Ready false placed = absurd (cc placed)
+    by_state state.Running false placed = absurd (cc placed)
+    by_state state.Waiting false placed = absurd (cc placed)
+
+    by_entry : (r : Option ℕ) (o : Option Entry) (p : Option Queue) (b : Option Blocked) → p ≡ Some queue.Dead → FitsEntry r o p b → lives o ≡ false
+    by_entry r None p b stands f = refl
+    by_entry r (Some e) p b stands f = ap not (by_state e.state e.suspended (sym f.placed ∙ stands))
+
+-- so it has nothing stored
+pub dead_nothing : {P S H : Type 0} (w : WorldOf P S H) (t : ℕ) → Whole w → IsKnown w.threads t → IsIn queue.Dead w.threads t → HasNothing (store_of w.store) t
+dead_nothing w t whole known stands = whole.stored t (dead_in w t whole known stands)
+
+-- whoever runs is alive
+pub runner_alive : {P S H : Type 0} (w : WorldOf P S H) (t : ℕ) → Whole w → w.scheduler.running ≡ Some t → IsAlive w.threads t
+runner_alive w t whole is =
+    let slot = known_slot (slot_of w.threads.records t) (runner_known w t whole is) in
+    let runs = runner_runs w t slot.0 whole is slot.1 in
+    ap lives (seen_at None (slot_of w.threads.records) (entry_at w.threads.records) t slot.0 slot.1 ∙ runs.has) ∙ ap (λ (s : ThreadState). not (is_dead s)) runs.state
+
 -- another thread that is neither dead nor suspended may be suspended
 pub can_suspend : {P S H : Type 0} (w : WorldOf P S H) (t : ℕ) (e : Entry) → Whole w → w.scheduler.running ≡ Some t → IsKnown w.threads e.tid.0 → Some e ≡ entry_in w.threads e.tid.0 → (e.tid.0 == t || is_dead e.state || e.suspended) ≡ false → IfSome (entry_in w.threads e.tid.0) (λ d. CanSuspend d.state)
 can_suspend w t e whole runs known is may =
@@ -448,11 +558,12 @@ can_suspend w t e whole runs known is may =
 -- ---- all but one thread
 
 -- t is gone, and does not run
-pub gone_but : {P S H : Type 0} (w v : WorldOf P S H) (t u : ℕ) → slot_of w.threads.records t ≡ Some u → ((i : ℕ) → tid_at w.threads.records i ≢ t → view v.threads i ≡ view w.threads i) → RemovesThread w.threads.records v.threads.records u → IsSound v.threads → v.scheduler.running ≡ w.scheduler.running → w.scheduler.running ≢ Some t → WholeBut w t → WholeBut v t
-gone_but w v t u e others gone sound running rests but = record {
+pub gone_but : {P S H : Type 0} (w v : WorldOf P S H) (t u : ℕ) → slot_of w.threads.records t ≡ Some u → ((i : ℕ) → tid_at w.threads.records i ≢ t → view v.threads i ≡ view w.threads i) → RemovesThread w.threads.records v.threads.records u → IsSound v.threads → v.scheduler.running ≡ w.scheduler.running → store_of v.store ≡ store_without t (store_of w.store) → w.scheduler.running ≢ Some t → WholeBut w t → WholeBut v t
+gone_but w v t u e others gone sound running store rests but = record {
   sound = sound;
   fits = λ i apart. fits_by i (tid_at w.threads.records i == t) refl;
   runner = rw running (by_runner w.scheduler.running rests but.runner);
+  stored = λ r apart. left_stored w v t r but.sound store same_slot others (but.stored r);
 }
   where
     none_at : entry_at v.threads.records u ≡ None
@@ -465,10 +576,11 @@ gone_but w v t u e others gone sound running rests but = record {
     fits_by i true same = subst (λ (o : Option Entry). FitsEntry v.scheduler.running o (view v.threads i).place (view v.threads i).blocked) (sym (ap (entry_at v.threads.records) (at i (same_means _ t same)) ∙ none_at)) tt
     fits_by i false apart = subst (λ (k : View). Fits v.scheduler.running k) (sym (others i (same_fails _ t apart))) (fits_same w.scheduler.running v.scheduler.running (view w.threads i) running (but.fits i (same_fails _ t apart)))
 
+    same_slot : (x : ℕ) → x ≢ t → slot_of v.threads.records x ≡ slot_of w.threads.records x
+    same_slot x apart = ap (λ (k : ℕ → Option ℕ). k x) gone.slots ∙ put_other (slot_of w.threads.records) (tid_at w.threads.records u) None x (λ k. apart (k ∙ name_is w.threads t u but.sound e))
+
     still : (x : ℕ) → x ≢ t → IsKnown w.threads x → IsKnown v.threads x
-    still x apart known =
-        let same : slot_of v.threads.records x ≡ slot_of w.threads.records x = ap (λ (k : ℕ → Option ℕ). k x) gone.slots ∙ put_other (slot_of w.threads.records) (tid_at w.threads.records u) None x (λ k. apart (k ∙ name_is w.threads t u but.sound e)) in
-        rw same known
+    still x apart known = rw (same_slot x apart) known
 
     by_runner : (r : Option ℕ) → r ≢ Some t → IfSome r (IsKnown w.threads) → IfSome r (IsKnown v.threads)
     by_runner None other known = tt
@@ -476,32 +588,38 @@ gone_but w v t u e others gone sound running rests but = record {
 
 module _ {P S H : Type 0} (w v : WorldOf P S H) (t : ℕ) where
   -- a change of t alone, whoever runs
-  pub but_kept : (g : View → View) → Touches w.threads v.threads t g → SameThreads w.threads v.threads → v.scheduler.running ≡ w.scheduler.running → IsSound v.threads → WholeBut w t → WholeBut v t
-  but_kept g touches same running sound but = record {
+  pub but_kept : (g : View → View) → Touches w.threads v.threads t g → SameThreads w.threads v.threads → v.scheduler.running ≡ w.scheduler.running → v.store ≡ w.store → IsSound v.threads → WholeBut w t → WholeBut v t
+  but_kept g touches same running store sound but = record {
     sound = sound;
     fits = λ i apart. (
         let there : tid_at w.threads.records i ≢ t = λ at. apart (ap (λ (k : ℕ → ℕ). k i) same.tids ∙ at) in
         subst (λ (k : View). Fits v.scheduler.running k) (sym (touches.others i there)) (fits_same w.scheduler.running v.scheduler.running (view w.threads i) running (but.fits i there)));
     runner = runner_kept w v same.slots running but.runner;
+    stored = λ r apart. stores_as w v r store (entry_kept w.threads v.threads t r but.sound (ap (λ (k : ℕ → Option ℕ). k r) same.slots) touches.others apart) (but.stored r apart);
   }
 
 pub whole_but : {P S H : Type 0} (w : WorldOf P S H) (t : ℕ) → Whole w → WholeBut w t
-whole_but w t whole = record { sound = whole.sound; fits = λ u apart. whole.fits u; runner = whole.runner }
+whole_but w t whole = record { sound = whole.sound; fits = λ u apart. whole.fits u; runner = whole.runner; stored = λ u apart. whole.stored u }
 
--- where t fits as well
-pub whole_again : {P S H : Type 0} (w : WorldOf P S H) (t : ℕ) → WholeBut w t → ((u : ℕ) → tid_at w.threads.records u ≡ t → Fits w.scheduler.running (view w.threads u)) → Whole w
-whole_again w t but own = record { sound = but.sound; fits = λ u. by_own u (tid_at w.threads.records u == t) refl; runner = but.runner }
+-- where t fits as well, and stores something only while it is alive
+pub whole_again : {P S H : Type 0} (w : WorldOf P S H) (t : ℕ) → WholeBut w t → ((u : ℕ) → tid_at w.threads.records u ≡ t → Fits w.scheduler.running (view w.threads u)) → StoresAlive w t → Whole w
+whole_again w t but own stored = record { sound = but.sound; fits = λ u. by_own u (tid_at w.threads.records u == t) refl; runner = but.runner; stored = λ u. stored_by u (u == t) refl }
   where
     by_own : (u : ℕ) (b : Bool) → (tid_at w.threads.records u == t) ≡ b → Fits w.scheduler.running (view w.threads u)
     by_own u true is = own u (same_means _ t is)
     by_own u false is = but.fits u (same_fails _ t is)
 
+    stored_by : (u : ℕ) (b : Bool) → (u == t) ≡ b → StoresAlive w u
+    stored_by u true is = subst (λ (n : ℕ). StoresAlive w n) (sym (same_means u t is)) stored
+    stored_by u false is = but.stored u (same_fails u t is)
+
 -- where none but t runs, before and after
-pub rerun_but : {P S H : Type 0} (w v : WorldOf P S H) (t : ℕ) → v.threads ≡ w.threads → IsAbout w.scheduler.running t → IsAbout v.scheduler.running t → IsRunner v → WholeBut w t → WholeBut v t
-rerun_but w v t same before after runner but = record {
+pub rerun_but : {P S H : Type 0} (w v : WorldOf P S H) (t : ℕ) → v.threads ≡ w.threads → v.store ≡ w.store → IsAbout w.scheduler.running t → IsAbout v.scheduler.running t → IsRunner v → WholeBut w t → WholeBut v t
+rerun_but w v t same store before after runner but = record {
   sound = rw same but.sound;
   fits = rw same (λ i apart. rerun_others w v.scheduler.running t before after i apart (but.fits i apart));
   runner = runner;
+  stored = λ r apart. stores_as w v r store (ap (λ (x : ThreadsBySlot _). entry_in x r) same) (but.stored r apart);
 }
 
 -- the call that blocks a thread is one that may

@@ -8,7 +8,7 @@ use Rattle.pth_base.specs.declared.errno.Errno.{Errno}
 use Rattle.pth_numbered.specs.Operands.{number, named}
 use Rattle.pth_queue.specs.declared.queue.Queue.{Queue}
 use Rattle.pth_threads.specs.Attributes.{AttrsOf, object_of, with_value, change_of, set_answer, Sets, KeepsSet}
-use Rattle.pth_threads.specs.Threads.{ThreadsOf, changed}
+use Rattle.pth_threads.specs.Threads.{ThreadsOf, slot_of, changed}
 use Rattle.pth_threads.specs.declared.attribute.Attribute.{Attribute}
 use Rattle.pth_threads.specs.declared.attribute.Attribute.TheVariants.{Free, Bound}
 use Rattle.pth_threads.specs.declared.entry.Change.{Change}
@@ -21,7 +21,7 @@ use Rattle.pth_model.specs.State.{Control, Attributes}
 use Rattle.pth_world.specs.Frame.{Frame}
 use Rattle.pth_world.specs.Numbering.{GivesAtMost}
 use Rattle.pth_world.specs.Shows.{Shows, ShowsThreads, ShowsAttributes}
-use Rattle.pth_world.specs.Sound.{IsSound, KeepsAttributes}
+use Rattle.pth_world.specs.Sound.{IsSound, KeepsAttributes, lives}
 use Rattle.pth_world.specs.Touches.{view_changed}
 use Rattle.pth_world.specs.Whole.{Whole, FitsEntry, Fits, view}
 use Rattle.pth_world.specs.World.{WorldOf}
@@ -35,10 +35,10 @@ use Rattle.pth_world.proofs.Views.{change_touches}
 module _ {P S H : Type 0} (w : WorldOf P S H) (y : AttrsOf) where
   -- where objects alone change, what they show is what counts
   pub objects_show : (k : Control P S H) (x : Attributes) → Shows w k → ShowsAttributes y x → Shows (record w { attributes = y }) (record k { attributes = x })
-  objects_show k x sh objects = record { program = sh.program; shared = sh.shared; threads = sh.threads; attributes = objects; events = sh.events; kernel = sh.kernel; scheduler = sh.scheduler }
+  objects_show k x sh objects = record { program = sh.program; shared = sh.shared; threads = sh.threads; attributes = objects; events = sh.events; kernel = sh.kernel; used = sh.used; scheduler = sh.scheduler }
 
   pub objects_whole : Whole w → Whole (record w { attributes = y })
-  objects_whole whole = record { sound = whole.sound; fits = whole.fits; runner = whole.runner }
+  objects_whole whole = record { sound = whole.sound; fits = whole.fits; runner = whole.runner; stored = whole.stored }
 
   pub objects_frame : (n : ℕ) → Whole w → y.made ≤ w.attributes.made + n → Frame w (record w { attributes = y }) n w.scheduler.running false
   objects_frame n whole few = record {
@@ -80,7 +80,31 @@ set_fits v c meant r (Some e) p b f = by_value v meant
     by_value (value.State n) m = absurd (cc m)
     by_value (value.Bound n) m = absurd (cc m)
 
+-- nor whether it lives
+lives_changed : (v : AttrValue) (c : Change) → change_of v ≡ Some c → (o : Option Entry) → lives o ≡ lives (option_map (changed c) o)
+unfolding changed
+lives_changed v c meant None = refl
+lives_changed v c meant (Some e) = by_value v meant
+  where
+    is : (d : Change) → Some d ≡ Some c → lives (Some e) ≡ lives (Some (changed d e)) → lives (Some e) ≡ lives (Some (changed c e))
+    is d same h = let e2 : d ≡ c = cc in subst (λ (x : Change). lives (Some e) ≡ lives (Some (changed x e))) e2 h
+
+    by_value : (v : AttrValue) → change_of v ≡ Some c → lives (Some e) ≡ lives (Some (changed c e))
+    by_value (value.Prio n) m = is _ m refl
+    by_value (value.Name n) m = is _ m refl
+    by_value (value.Joinable n) m = is _ m refl
+    by_value (value.Cancel n) m = is _ m refl
+    by_value (value.Dispatches n) m = absurd (cc m)
+    by_value (value.State n) m = absurd (cc m)
+    by_value (value.Bound n) m = absurd (cc m)
+
 -- ---- a value of an object, or of its thread
+
+-- threads keep their slots
+pub set_slots : (x y : AttrsOf) (q r : ThreadsOf) (n : ℕ) (v : AttrValue) (o : Option Attribute) → is_none o ≡ false → Sets x y q r n v o → slot_of r ≡ slot_of q
+set_slots x y q r n v None some s = absurd (cc some)
+set_slots x y q r n v (Some (Free z)) some s = ap (λ (z : ThreadsOf). slot_of z) s.1
+set_slots x y q r n v (Some (Bound t)) some s = s.1.changes.slots
 
 module _ {P S H : Type 0} (w : WorldOf P S H) (x : AttrsOf) (r : ThreadsOf) (a : ℤ) (v : AttrValue) where
   abbrev after : WorldOf P S H
@@ -99,6 +123,7 @@ module _ {P S H : Type 0} (w : WorldOf P S H) (x : AttrsOf) (r : ThreadsOf) (a :
     };
     events = sh.events;
     kernel = sh.kernel;
+    used = sh.used;
     scheduler = sh.scheduler;
   }
   shows_by (Some (Bound t)) some s sound k sh =
@@ -123,7 +148,7 @@ module _ {P S H : Type 0} (w : WorldOf P S H) (x : AttrsOf) (r : ThreadsOf) (a :
       let set = s.1 in
       let sound = change_sound w.threads whole.sound t.0 set.slot set.found r set.change (keeps_attributes set.change set.keeps) set.changes in
       let fits = λ (q : Option ℕ) (f : Fits q (view w.threads set.slot)). set_fits v set.change set.meant q (view w.threads set.slot).entry (view w.threads set.slot).place (view w.threads set.slot).blocked f in
-      progress_whole w after t.0 set.slot (view_changed set.change) whole set.found (change_touches w.threads whole.sound t.0 set.slot set.found r set.change set.changes) sound set.changes.slots refl fits
+      progress_whole w after t.0 set.slot (view_changed set.change) whole set.found (change_touches w.threads whole.sound t.0 set.slot set.found r set.change set.changes) sound set.changes.slots refl refl fits (λ dead. lives_changed v set.change set.meant (view w.threads set.slot).entry ∙ dead)
 
   pub set_frame : (o : Option Attribute) → is_none o ≡ false → Sets w.attributes x w.threads.records r (number a) v o → Whole w → Frame w after 0 w.scheduler.running false
   set_frame o some s whole = record {

@@ -1,6 +1,9 @@
 -- A world with main alone stands for the state from which a run starts.
+use Rattle.std.proofs.lemmas.Bool.{cases_lt}
 use Rattle.std.proofs.lemmas.Int.{ints}
-use Rattle.std.proofs.Common.{arith, ◌≡◌, ℕ, pos, true, false, List, length, map, IsSome, IfSome, Option, Some, None, option_map, refl, sym, ◌∙◌, ap, subst}
+use Rattle.std.proofs.lemmas.List.{get_or_past, get_or-replicate, length-replicate}
+use mathlib.Core.Path.{fun_ext}
+use Rattle.std.proofs.Common.{arith, ◌≡◌, ℕ, inl, inr, pos, true, false, List, length, map, replicate, IsSome, IfSome, Option, Some, None, option_map, refl, sym, ◌∙◌, ap, ap₂, subst}
 use Rattle.pth_base.specs.Limits.{thread_limit}
 use Rattle.pth_base.proofs.Namings.{none_some}
 use Rattle.pth_base.specs.Program.{Functions}
@@ -29,23 +32,29 @@ use Rattle.pth_model.specs.Changes.{sets, enters, leaves_queue, makes}
 use Rattle.pth_model.specs.ThreadControl.{spawns}
 use Rattle.pth_model.specs.Pass.{is_ready_at}
 use Rattle.pth_model.proofs.Orders.{shown-none}
+use Rattle.pth_store.specs.Cleanups.{Stacks, no_cleanups}
+use Rattle.pth_store.specs.Keys.{Tables, no_keys}
+use Rattle.pth_model.specs.Resources.{Store, no_resources}
+use Rattle.pth_world.specs.Store.{store_of, stored_by, HasNothing}
 use Rattle.pth_world.specs.World.{WorldOf, ThreadsBySlot, before_main}
 use Rattle.pth_world.specs.Shows.{Shows, ShowsThreads, StandsFor}
 use Rattle.pth_world.specs.Sound.{IsSound, IsPrio, IsCancel, HasAttributes, IsKnown}
 use Rattle.pth_world.specs.Whole.{IsBeforeReady, Newly, view, Fits, FitsEntry, Whole}
 use Rattle.pth_world.proofs.Showing.{not_known}
 use Rattle.pth_world.proofs.Places.{queue-entered}
+use Rattle.pth_world.proofs.Stores.{stored_none}
 
 module _ {P S H : Type 0} (f : P → Functions S H) (program : P) (t0 : ThreadsOf) (y0 : List (Option (Progress S)))
     (slots : slot_of t0 ≡ (λ _. None)) (tids : tid_at t0 ≡ (λ _. 0)) (entries : entry_at t0 ≡ (λ _. None)) (none_made : t0.made ≡ 0) (no_count : count t0 ≡ 0)
     (none : table None y0 ≡ (λ _. None)) (long0 : length y0 ≡ thread_limit)
     (a0 : AttrsOf) (no_objects : object_of a0 ≡ (λ _. None)) (no_number : a0.made ≡ 0)
-    (e0 : RingsOf) (none_there : events_of e0 ≡ no_events) (kernel : KernelOf) where
+    (e0 : RingsOf) (none_there : events_of e0 ≡ no_events) (kernel : KernelOf)
+    (T0 : Tables) (no_key : T0 ≡ no_keys) (S0 : Stacks) (no_cleanup : S0 ≡ no_cleanups) where
   abbrev x0 : ThreadsBySlot S
   x0 = record { records = t0; queues = record no_queues { room = thread_limit }; progress = y0 }
 
   abbrev w0 : WorldOf P S H
-  w0 = record { program = program; shared = (f program).shared; threads = x0; attributes = a0; events = e0; kernel = kernel; scheduler = record { running = None; preferred = None; favour_new = true } }
+  w0 = record { program = program; shared = (f program).shared; threads = x0; attributes = a0; events = e0; kernel = kernel; store = stored_by t0 T0 S0; used = replicate 64 false; scheduler = record { running = None; preferred = None; favour_new = true } }
 
   abbrev s0 : Control P S H
   s0 = before_main f (record { program = program; kernel = kernel_of kernel })
@@ -93,6 +102,9 @@ module _ {P S H : Type 0} (f : P → Functions S H) (program : P) (t0 : ThreadsO
   none_stand queue.Suspended = shown-none _
   none_stand queue.Dead = shown-none _
 
+  none_used_at : (i : ℕ) → table false (replicate 64 false) i ≡ false
+  none_used_at i = elim (cases_lt i 64) [ inl low ↦ get_or-replicate 64 i false false low | inr high ↦ get_or_past (replicate 64 false) i false (omega (arith, length-replicate 64 false)) ]
+
   -- no threads, before main is made
   pub before_shows : Shows w0 s0
   unfolding seen start
@@ -103,14 +115,22 @@ module _ {P S H : Type 0} (f : P → Functions S H) (program : P) (t0 : ThreadsO
     attributes = record { made = sym no_number; objects = sym no_objects };
     events = sym none_there;
     kernel = refl;
+    used = sym (fun_ext none_used_at);
     scheduler = refl;
   }
+
+  -- nothing is stored
+  pub before_store : store_of w0.store ≡ no_resources.store
+  before_store = ap₂ (λ (y : Tables) (z : Stacks). store_of (stored_by t0 y z)) no_key no_cleanup ∙ stored_none t0
+
+  nothing_at : (s : Store) (t : ℕ) → s ≡ no_resources.store → HasNothing s t
+  nothing_at s t is = subst (λ (y : Store). HasNothing y t) (sym is) (record { cleanups = refl; values = λ k. refl })
 
   no_fit : (v : ℕ) → Fits None (view x0 v)
   no_fit v = subst (λ (o : Option Entry). FitsEntry None o (view x0 v).place (view x0 v).blocked) (sym (ap (λ (k : ℕ → Option Entry). k v) entries)) tt
 
   pub before_whole : Whole w0
-  before_whole = record { sound = sound0; fits = no_fit; runner = tt }
+  before_whole = record { sound = sound0; fits = no_fit; runner = tt; stored = λ t dead. nothing_at (store_of w0.store) t before_store }
 
 pub first_prio : IsPrio first_thread.prio
 first_prio = record { low = grind (arith, ints); high = grind (arith, ints) }
@@ -171,9 +191,9 @@ module _ {P S H : Type 0} (f : P → Functions S H) (g : Given P) where
   queue_is queue.Dead = refl
 
   -- then the world stands for the state from which a run starts
-  pub start_stands : (w : WorldOf P S H) → Shows w with_ready_main → StandsFor w (start f g)
+  pub start_stands : (w : WorldOf P S H) → Shows w with_ready_main → store_of w.store ≡ no_resources.store → StandsFor w (start f g)
   unfolding start is_ready_at enters leaves_queue sets makes
-  start_stands w sh = record {
+  start_stands w sh none = record {
     control = record {
       program = sh.program;
       shared = sh.shared;
@@ -181,7 +201,8 @@ module _ {P S H : Type 0} (f : P → Functions S H) (g : Given P) where
       attributes = sh.attributes;
       events = sh.events;
       kernel = sh.kernel;
+      used = sh.used;
       scheduler = sh.scheduler;
     };
-    resources = refl;
+    resources = ap (λ (s : Store). record no_resources { store = s }) (sym none);
   }

@@ -92,6 +92,7 @@ stands_for_state w sound = record {
     attributes = record { made = refl; objects = refl };
     events = refl;
     kernel = refl;
+    used = refl;
     scheduler = refl;
   };
   resources = refl;

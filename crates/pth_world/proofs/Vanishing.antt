@@ -1,7 +1,8 @@
 -- Threads vanish, until one is left.
-use Rattle.std.proofs.Common.{◌≡◌, ◌≢◌, ℕ, ◌<◌, ◌==◌, Bool, true, false, if◌then◌else◌, List, [], map, length, IfSome, Option, Some, None, refl, sym, ◌∙◌, ap, ap₂, subst, arith}
+use Rattle.std.proofs.Common.{◌≡◌, ◌≢◌, ℕ, ◌<◌, ◌==◌, ℤ, pos, Bool, true, false, if◌then◌else◌, List, [], map, length, IfSome, Option, Some, None, refl, sym, ◌∙◌, ap, ap₂, subst, arith}
 use mathlib.Core.Path.{fun_ext}
 use Rattle.pth_base.specs.Table.{put}
+use Rattle.pth_base.specs.declared.ids.HandlerId.{HandlerId}
 use Rattle.pth_base.specs.declared.thread.ThreadState.{ThreadState}
 use Rattle.pth_base.specs.declared.thread.ThreadState.TheVariants as state
 use Rattle.pth_base.proofs.Tables.{put_other, same_means, same_fails, not_same}
@@ -12,6 +13,7 @@ use Rattle.pth_queue.specs.Ranking.{holds, delete, named_row}
 use Rattle.pth_queue.specs.Queues.{QueuesOf, rows_of, queue_of, without}
 use Rattle.pth_queue.proofs.Counts.{count-present, length-delete}
 use Rattle.pth_queue.proofs.Sets.{holds-queue_of}
+use Rattle.pth_store.specs.Cleanups.{Stacks}
 use Rattle.pth_ring.specs.Arena.{RingsOf, events_of}
 use Rattle.pth_ring.specs.Rings.{all_unclaimed}
 use Rattle.pth_threads.specs.Threads.{slot_of, tid_at, tid_of, entry_at, RemovesThread}
@@ -23,35 +25,51 @@ use Rattle.pth_model.specs.State.{Control}
 use Rattle.pth_model.specs.Changes.{leaves_queue, forgets, removes}
 use Rattle.pth_model.specs.Ending.{other_than}
 use Rattle.pth_model.specs.LibraryControl.{only_at, vanish_all_but}
+use Rattle.pth_model.specs.Resources.{Store, store_of_only, store_without}
 use Rattle.pth_model.proofs.Queues.{rows_without}
+use Rattle.pth_world.specs.Store.{store_of, HasNothing}
 use Rattle.pth_world.specs.World.{WorldOf}
 use Rattle.pth_world.specs.Shows.{Shows}
-use Rattle.pth_world.specs.Sound.{IsSound, IsKnown}
+use Rattle.pth_world.specs.Sound.{IsSound, IsKnown, lives}
 use Rattle.pth_world.specs.Whole.{view, FitsEntry, Whole, IsIn, place_for}
 use Rattle.pth_world.specs.Vanishing.{ShowsRest, Vanishing}
 use Rattle.pth_world.proofs.Slots.{name_is, used, some_is}
 use Rattle.pth_world.proofs.Places.{queue-nowhere}
-use Rattle.pth_world.proofs.Showing.{not_known, no_progress}
+use Rattle.pth_world.proofs.Showing.{not_here, not_known, no_progress}
 use Rattle.pth_world.proofs.Moves.{known_slot, is_in, runner_runs, gone_whole}
 use Rattle.pth_world.proofs.Ranks.{ranks_left, ranks_none, ranks_then}
 
 -- ---- what is left at one thread
 
-only_by : {A : Type 0} (t u i : ℕ) (f : ℕ → Option A) (x : Option A) (b : Bool) → u ≢ t → (i == t) ≡ b → (if b then put f u x i else None) ≡ (if b then f i else None)
-only_by t u i f x true apart is = put_other f u x i (λ same. apart (sym same ∙ same_means i t is))
-only_by t u i f x false apart is = refl
+only_by : {A : Type 0} (t u i : ℕ) (f : ℕ → A) (x d : A) (b : Bool) → u ≢ t → (i == t) ≡ b → (if b then put f u x i else d) ≡ (if b then f i else d)
+only_by t u i f x d true apart is = put_other f u x i (λ same. apart (sym same ∙ same_means i t is))
+only_by t u i f x d false apart is = refl
 
 -- a change at another thread is not seen
 only-put : {A : Type 0} (t u : ℕ) (f : ℕ → Option A) (x : Option A) → u ≢ t → only_at t (put f u x) ≡ only_at t f
-only-put t u f x apart = fun_ext (λ i. only_by t u i f x (i == t) apart refl)
+only-put t u f x apart = fun_ext (λ i. only_by t u i f x None (i == t) apart refl)
 
-alone_by : {A : Type 0} (t i : ℕ) (f : ℕ → Option A) (b : Bool) → (i == t) ≡ b → (i ≢ t → f i ≡ None) → (if b then f i else None) ≡ f i
-alone_by t i f true is none = refl
-alone_by t i f false is none = sym (none (same_fails i t is))
+alone_by : {A : Type 0} (t i : ℕ) (f : ℕ → A) (d : A) (b : Bool) → (i == t) ≡ b → (i ≢ t → f i ≡ d) → (if b then f i else d) ≡ f i
+alone_by t i f d true is none = refl
+alone_by t i f d false is none = sym (none (same_fails i t is))
 
 -- a table that has nothing at the others
 only-alone : {A : Type 0} (t : ℕ) (f : ℕ → Option A) → ((i : ℕ) → i ≢ t → f i ≡ None) → only_at t f ≡ f
-only-alone t f none = fun_ext (λ i. alone_by t i f (i == t) refl (none i))
+only-alone t f none = fun_ext (λ i. alone_by t i f None (i == t) refl (none i))
+
+-- the same of what is stored
+same_store : (a b : Stacks) (k : ℕ → Option (Option HandlerId)) (v w : ℕ → ℕ → ℤ) → a ≡ b → v ≡ w → ◌≡◌ {A = Store} (record { cleanups = a; keys = record { keys = k; values = v } }) (record { cleanups = b; keys = record { keys = k; values = w } })
+same_store a b k v w p q = ap₂ (λ (c : Stacks) (h : ℕ → ℕ → ℤ). record { cleanups = c; keys = record { keys = k; values = h } }) p q
+
+only-store : (t u : ℕ) (s : Store) → u ≢ t → store_of_only t (store_without u s) ≡ store_of_only t s
+only-store t u s apart = same_store _ _ _ _ _
+    (fun_ext (λ i. only_by t u i s.cleanups [] [] (i == t) apart refl))
+    (fun_ext (λ k. fun_ext (λ i. only_by t u i (s.keys.values k) (pos 0) (pos 0) (i == t) apart refl)))
+
+only-stored : (t : ℕ) (s : Store) → ((i : ℕ) → i ≢ t → HasNothing s i) → store_of_only t s ≡ s
+only-stored t s nothing = same_store _ _ _ _ _
+    (fun_ext (λ i. alone_by t i s.cleanups [] (i == t) refl (λ apart. (nothing i apart).cleanups)))
+    (fun_ext (λ k. fun_ext (λ i. alone_by t i (s.keys.values k) (pos 0) (i == t) refl (λ apart. (nothing i apart).values k))))
 
 -- another thread that is gone would have vanished
 vanish-removed : {P S H : Type 0} (t u : ℕ) (k : Control P S H) → u ≢ t → vanish_all_but t (removes u k) ≡ vanish_all_but t k
@@ -97,7 +115,7 @@ module _ {P S H : Type 0} (w v : WorldOf P S H) (u : ℕ) (q : Queue) (whole : W
       let both : Some q ≡ None = sym place ∙ nowhere in
       cc
 
-  module _ (sound : IsSound v.threads) (others : (i : ℕ) → tid_at w.threads.records i ≢ u → view v.threads i ≡ view w.threads i) (threads : IfSome (slot_of w.threads.records u) (λ s. RemovesThread w.threads.records v.threads.records s)) (shows : (k : Control P S H) → Shows w k → Shows v (removes u k)) (same : v ≡ record w { threads = v.threads }) where
+  module _ (sound : IsSound v.threads) (others : (i : ℕ) → tid_at w.threads.records i ≢ u → view v.threads i ≡ view w.threads i) (threads : IfSome (slot_of w.threads.records u) (λ s. RemovesThread w.threads.records v.threads.records s)) (shows : (k : Control P S H) → Shows w k → Shows v (removes u k)) (store : store_of v.store ≡ store_without u (store_of w.store)) (same : v ≡ record w { threads = v.threads; store = v.store }) where
     gone : RemovesThread w.threads.records v.threads.records slot.0
     gone = subst (λ (o : Option ℕ). IfSome o (λ s. RemovesThread w.threads.records v.threads.records s)) slot.1 threads
 
@@ -107,11 +125,12 @@ module _ {P S H : Type 0} (w v : WorldOf P S H) (u : ℕ) (q : Queue) (whole : W
     -- a thread of a queue vanishes
     pub vanish_one : Vanishing w v
     vanish_one = record {
-      whole = gone_whole w v u slot.0 whole slot.1 runs others gone sound;
+      whole = gone_whole w v u slot.0 whole slot.1 runs others gone store sound;
       shows = λ t is k sh. record { rest = removes u k; shows = shows k sh; same = vanish-removed t u k (other t is) };
       made = gone.made;
       ranks = ranks_left w.threads v.threads u known queues;
       empty = λ p none. still_empty p slot.0 w.threads.queues v.threads.queues queues_are none;
+      store = λ t is. ap (store_of_only t) store ∙ only-store t u (store_of w.store) (other t is);
       same = same;
     }
 
@@ -126,6 +145,7 @@ module _ {P S H : Type 0} where
     made = refl;
     ranks = ranks_none w.threads;
     empty = λ q none. none;
+    store = λ t is. refl;
     same = refl;
   }
 
@@ -139,7 +159,8 @@ module _ {P S H : Type 0} where
     made = b.made ∙ a.made;
     ranks = ranks_then 0 0 u.threads w.threads v.threads a.ranks b.ranks;
     empty = λ q none. b.empty q (a.empty q none);
-    same = b.same ∙ ap (λ (z : WorldOf P S H). record z { threads = v.threads }) a.same;
+    store = λ t is. b.store t (ap (λ (z : WorldOf P S H). z.scheduler.running) a.same ∙ is) ∙ a.store t is;
+    same = b.same ∙ ap (λ (z : WorldOf P S H). record z { threads = v.threads; store = v.store }) a.same;
   }
 
 -- ---- one is left
@@ -177,6 +198,10 @@ module _ {P S H : Type 0} (w : WorldOf P S H) (t : ℕ) (whole : Whole w) (is : 
   nobody : (i : ℕ) → i ≢ t → slot_of w.threads.records i ≡ None
   nobody i apart = nobody_by_slot i (slot_of w.threads.records i) apart refl
 
+  -- so nobody else has stored something
+  pub rest_store : store_of_only t (store_of w.store) ≡ store_of w.store
+  rest_store = only-stored t (store_of w.store) (λ i apart. whole.stored i (ap lives (sym (not_here w.threads i (nobody i apart)))))
+
   -- so nothing vanishes but the claims
   vanish_rest : (e : RingsOf) → events_of e ≡ all_unclaimed (events_of w.events) → (k : Control P S H) → Shows w k → Shows (record w { events = e }) (vanish_all_but t k)
   unfolding vanish_all_but shown order
@@ -192,6 +217,7 @@ module _ {P S H : Type 0} (w : WorldOf P S H) (t : ℕ) (whole : Whole w) (is : 
     attributes = sh.attributes;
     events = ap all_unclaimed sh.events ∙ sym unclaimed;
     kernel = sh.kernel;
+    used = sh.used;
     scheduler = sh.scheduler;
   }
 
@@ -211,6 +237,9 @@ module _ {P S H : Type 0} (u a b c d v : WorldOf P S H)
   none queue.Waiting = dead.empty queue.Waiting (suspended.empty queue.Waiting no_waiting)
   none queue.Suspended = dead.empty queue.Suspended no_suspended
   none queue.Dead = no_dead
+
+  pub vanish_store : (t : ℕ) → u.scheduler.running ≡ Some t → store_of v.store ≡ store_of_only t (store_of u.store)
+  vanish_store t is = sym (rest_store v t vanish_all.whole (ap (λ (z : WorldOf P S H). z.scheduler.running) vanish_all.same ∙ is) none) ∙ vanish_all.store t is
 
   pub vanish_shows : (e : RingsOf) → events_of e ≡ all_unclaimed (events_of v.events) → (t : ℕ) → u.scheduler.running ≡ Some t → (k : Control P S H) → Shows u k → Shows (record v { events = e }) (vanish_all_but t k)
   vanish_shows e unclaimed t is k sh =

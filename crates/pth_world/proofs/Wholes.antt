@@ -6,7 +6,9 @@ use Rattle.pth_base.specs.Table.{put, table}
 use Rattle.pth_base.specs.declared.answer.Answer.{Answer}
 use Rattle.pth_base.specs.declared.answer.Answer.TheVariants as answer
 use Rattle.pth_base.specs.declared.call.Call.{Call}
+use Rattle.pth_base.specs.Naming.{seen}
 use Rattle.pth_base.proofs.Lists.{put_twice}
+use Rattle.pth_base.proofs.Namings.{seen_at, seen_add}
 use Rattle.pth_base.proofs.Tables.{put_here, put_other, put_by, same_means, same_fails}
 use Rattle.pth_queue.specs.declared.queue.Queue.{Queue}
 use Rattle.pth_queue.specs.declared.queue.Queue.TheVariants as queue
@@ -20,10 +22,10 @@ use Rattle.pth_model.specs.State.{Control}
 use Rattle.pth_model.specs.Changes.{goes_on, enters, makes, owing, owed_in, blocked_in}
 use Rattle.pth_model.specs.ThreadControl.{spawns}
 use Rattle.pth_model.specs.Part.{step_of, stepping}
-use Rattle.pth_world.specs.World.{WorldOf, ThreadsBySlot}
+use Rattle.pth_world.specs.World.{WorldOf, ThreadsBySlot, entry_in}
 use Rattle.pth_world.specs.Shows.{Shows, ShowsThreads}
-use Rattle.pth_world.specs.Sound.{IsSound, IsKnown, IsPrio, IsCancel}
-use Rattle.pth_world.specs.Whole.{View, view, Fits, FitsEntry, Whole, WholeBut}
+use Rattle.pth_world.specs.Sound.{IsSound, IsKnown, IsPrio, IsCancel, lives}
+use Rattle.pth_world.specs.Whole.{View, view, Fits, FitsEntry, StoresAlive, Whole, WholeBut}
 use Rattle.pth_world.specs.Touches.{Touches, same_view}
 use Rattle.pth_world.specs.StepsAt.{StepsAt}
 use Rattle.pth_world.proofs.Moves.{progress_whole, but_kept}
@@ -110,6 +112,7 @@ module _ {P S H : Type 0} (w v : WorldOf P S H) (t u : ℕ) (sound : IsSound w.t
       attributes = sh.attributes;
       events = sh.events;
       kernel = sh.kernel;
+      used = sh.used;
       scheduler = sh.scheduler;
     })
 
@@ -126,10 +129,10 @@ module _ {P S H : Type 0} (w v : WorldOf P S H) (t u : ℕ) (sound : IsSound w.t
   next_touches = subst (λ z. Touches w.threads z t same_view) (sym threads_are) (called_touches w.threads sound t u e v.threads.progress p (after p.owed) stood.1 refl goes)
 
   pub next_whole : Whole w → Whole v
-  next_whole whole = progress_whole w v t u same_view whole e next_touches next_sound (ap (λ (z : ThreadsBySlot S). slot_of z.records) threads_are) (ap (λ (z : WorldOf P S H). z.scheduler.running) same) (λ r f. f)
+  next_whole whole = progress_whole w v t u same_view whole e next_touches next_sound (ap (λ (z : ThreadsBySlot S). slot_of z.records) threads_are) (ap (λ (z : WorldOf P S H). z.scheduler.running) same) (ap (λ (z : WorldOf P S H). z.store) same) (λ r f. f) (λ dead. dead)
 
   pub next_but : WholeBut w t → WholeBut v t
-  next_but = but_kept w v t same_view next_touches (record { slots = ap (λ (z : ThreadsBySlot S). slot_of z.records) threads_are; tids = ap (λ (z : ThreadsBySlot S). tid_at z.records) threads_are; made = ap (λ (z : ThreadsBySlot S). z.records.made) threads_are }) (ap (λ (z : WorldOf P S H). z.scheduler.running) same) next_sound
+  next_but = but_kept w v t same_view next_touches (record { slots = ap (λ (z : ThreadsBySlot S). slot_of z.records) threads_are; tids = ap (λ (z : ThreadsBySlot S). tid_at z.records) threads_are; made = ap (λ (z : ThreadsBySlot S). z.records.made) threads_are }) (ap (λ (z : WorldOf P S H). z.scheduler.running) same) (ap (λ (z : WorldOf P S H). z.store) same) next_sound
 
 -- a new thread
 module _ {P S H : Type 0} (w : WorldOf P S H) (whole : Whole w) (x : ThreadsOf) (y : List (Option (Progress S))) (z : QueuesOf) (u : ℕ) (of : NewThread) (prio : IsPrio of.prio) (cancel : IsCancel of.cancel) (c : Progress S) (bare : c.blocked ≡ None) (adds : AddsThread w.threads.records x u (made_of of (w.threads.records.made + 1))) (has : table None y ≡ put (table None w.threads.progress) u (Some c)) (long : length y ≡ thread_limit) (placed : z ≡ entered queue.New of.prio u w.threads.queues) where
@@ -200,8 +203,28 @@ module _ {P S H : Type 0} (w : WorldOf P S H) (whole : Whole w) (x : ThreadsOf) 
   fits_at i true is = subst (λ (k : View). Fits w.scheduler.running k) (sym (ap (view all.threads) (same_means i u is) ∙ view_new)) fits_new
   fits_at i false is = subst (λ (k : View). Fits w.scheduler.running k) (sym (view_old i (same_fails i u is))) (whole.fits i)
 
+  entry_new : entry_in all.threads t ≡ Some (made_of of t)
+  entry_new = seen_at None (slot_of x) (entry_at x) t u slot ∙ ap (λ (k : ℕ → Option Entry). k u) adds.entries ∙ put_here (entry_at w.threads.records) u _
+
+  entry_old : (r : ℕ) → r ≢ t → entry_in all.threads r ≡ entry_in w.threads r
+  unfolding made_of
+  entry_old r apart =
+      ap₂ (λ (a : ℕ → Option ℕ) (b : ℕ → Option Entry). seen None a b r) adds.slots adds.entries
+      ∙ ap (λ (k : ℕ → Option Entry). k r) (seen_add None (slot_of w.threads.records) (tid_at w.threads.records) (entry_at w.threads.records) t u whole.sound.tied (Some (made_of of t)) adds.unused)
+      ∙ put_other (seen None (slot_of w.threads.records) (entry_at w.threads.records)) t _ r apart
+
+  lives_new : lives (Some (made_of of t)) ≡ true
+  unfolding made_of
+  lives_new = refl
+
+  stored_by : (r : ℕ) (b : Bool) → (r == t) ≡ b → StoresAlive all r
+  stored_by r true is dead =
+      let alive : lives (entry_in all.threads r) ≡ true = ap (λ (n : ℕ). lives (entry_in all.threads n)) (same_means r t is) ∙ ap lives entry_new ∙ lives_new in
+      absurd (cc (alive, dead))
+  stored_by r false is dead = whole.stored r (ap lives (sym (entry_old r (same_fails r t is))) ∙ dead)
+
   pub spawn_whole : Whole all
-  spawn_whole = record { sound = all_sound; fits = λ i. fits_at i (i == u) refl; runner = if_some (λ r. IsKnown w.threads r) (λ r. IsSome (slot_of x r)) w.scheduler.running spawn_others whole.runner }
+  spawn_whole = record { sound = all_sound; fits = λ i. fits_at i (i == u) refl; runner = if_some (λ r. IsKnown w.threads r) (λ r. IsSome (slot_of x r)) w.scheduler.running spawn_others whole.runner; stored = λ r. stored_by r (r == t) refl }
 
 -- a refused new thread
 module _ {P S H : Type 0} (w : WorldOf P S H) (x : ThreadsOf) (same : IsSame w.threads.records x) where
@@ -225,4 +248,5 @@ module _ {P S H : Type 0} (w : WorldOf P S H) (x : ThreadsOf) (same : IsSame w.t
     sound = same_sound whole.sound;
     fits = λ u. rw same.entries (whole.fits u);
     runner = if_some (λ r. IsKnown w.threads r) (λ r. IsSome (slot_of x r)) w.scheduler.running (λ r known. rw same.slots known) whole.runner;
+    stored = λ t. rw (same.slots, same.entries) (whole.stored t);
   }

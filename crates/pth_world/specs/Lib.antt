@@ -1,3 +1,4 @@
+pub mod Store
 pub mod World
 pub mod Numbering
 pub mod Shows
@@ -7,6 +8,7 @@ pub mod Whole
 pub mod Touches
 pub mod StepsAt
 pub mod Progress
+pub mod Once
 pub mod Leading
 pub mod Walks
 pub mod Ranks

@@ -1,5 +1,5 @@
 -- A world shows a state of the machine.
-use Rattle.std.specs.Prelude.{◌≡◌, None, map}
+use Rattle.std.specs.Prelude.{◌≡◌, None, map, false}
 use Rattle.pth_base.specs.Table.{table}
 use Rattle.pth_base.specs.Naming.{seen}
 use Rattle.pth_queue.specs.Ranking.{named_row}
@@ -9,9 +9,10 @@ use Rattle.pth_threads.specs.Attributes.{AttrsOf, object_of}
 use Rattle.pth_threads.specs.Threads.{slot_of, tid_at, entry_at}
 use Rattle.pth_ring.specs.Arena.{events_of}
 use Rattle.pth_kernel.specs.Kernel.{kernel_of}
-use Rattle.pth_model.specs.Resources.{no_resources}
+use Rattle.pth_model.specs.Resources.{Resources, no_resources}
 use Rattle.pth_model.specs.Standing.{shown, raises_of}
 use Rattle.pth_model.specs.State.{State, Control, Threads, Attributes}
+use Rattle.pth_world.specs.Store.{store_of}
 use Rattle.pth_world.specs.World.{WorldOf, ThreadsBySlot}
 
 -- The threads are these under their numbers, and each queue shows the standings in order. Raises, entries, and where in the
@@ -35,9 +36,14 @@ pub record Shows {P S H : Type 0} (w : WorldOf P S H) (k : Control P S H) : Type
   pub attributes : ShowsAttributes w.attributes k.attributes
   pub events : k.events ≡ events_of w.events
   pub kernel : k.kernel ≡ kernel_of w.kernel
+  pub used : k.used ≡ table false w.used
   pub scheduler : k.scheduler ≡ w.scheduler
 
--- the world stands for this state: it shows the control, and threads have nothing yet that is built
+-- what threads have: what they stored, and of what is not built yet nothing
+abbrev pub resources_of : {P S H : Type 0} → WorldOf P S H → Resources
+resources_of w = record no_resources { store = store_of w.store }
+
+-- the world stands for this state: it shows the control, and what threads have
 pub record StandsFor {P S H : Type 0} (w : WorldOf P S H) (s : State P S H) : Type 0 where
   pub control : Shows w s.control
-  pub resources : s.resources ≡ no_resources
+  pub resources : s.resources ≡ resources_of w

@@ -9,9 +9,9 @@ use Rattle.pth_threads.specs.Attributes.{object_of}
 use Rattle.pth_threads.specs.Threads.{slot_of, tid_at, entry_at}
 use Rattle.pth_ring.specs.Arena.{events_of}
 use Rattle.pth_kernel.specs.Kernel.{kernel_of}
-use Rattle.pth_model.specs.Resources.{no_resources}
 use Rattle.pth_model.specs.Standing.{Standing}
 use Rattle.pth_model.specs.State.{State}
+use Rattle.pth_world.specs.Shows.{resources_of}
 use Rattle.pth_world.specs.World.{WorldOf}
 
 -- one who stands at a row of a queue that was never raised
@@ -25,7 +25,7 @@ entered_as rows = reverse (map standing_at rows)
 -- the state in which no queue was raised, and those who stand in each entered in its order
 unfoldable pub state_of : {P S H : Type 0} → WorldOf P S H → State P S H
 state_of w = record {
-  resources = no_resources;
+  resources = resources_of w;
   control = record {
     program = w.program;
     shared = w.shared;
@@ -40,6 +40,7 @@ state_of w = record {
     attributes = record { made = w.attributes.made; objects = object_of w.attributes };
     events = events_of w.events;
     kernel = kernel_of w.kernel;
+    used = table false w.used;
     scheduler = w.scheduler;
   };
 }

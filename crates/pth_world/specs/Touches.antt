@@ -37,4 +37,6 @@ pub record KeepsRest {P S H : Type 0} (old new : WorldOf P S H) : Type 0 where
   pub attributes : new.attributes ≡ old.attributes
   pub events : new.events.made ≡ old.events.made
   pub kernel : new.kernel ≡ old.kernel
+  pub store : new.store ≡ old.store
+  pub used : new.used ≡ old.used
   pub scheduler : new.scheduler ≡ old.scheduler

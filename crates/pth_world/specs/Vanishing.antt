@@ -4,6 +4,8 @@ use Rattle.pth_queue.specs.declared.queue.Queue.{Queue}
 use Rattle.pth_queue.specs.Queues.{rows_of}
 use Rattle.pth_model.specs.State.{Control}
 use Rattle.pth_model.specs.LibraryControl.{vanish_all_but}
+use Rattle.pth_model.specs.Resources.{store_of_only}
+use Rattle.pth_world.specs.Store.{store_of}
 use Rattle.pth_world.specs.World.{WorldOf}
 use Rattle.pth_world.specs.Ranks.{KeepsRanks}
 use Rattle.pth_world.specs.Shows.{Shows}
@@ -15,7 +17,7 @@ pub record ShowsRest {P S H : Type 0} (t : ℕ) (v : WorldOf P S H) (k : Control
   pub shows : Shows v rest
   pub same : vanish_all_but t rest ≡ vanish_all_but t k
 
--- from w to v: some threads that stood in queues are in the system no longer, and nothing else is changed
+-- from w to v: some threads that stood in queues are in the system no longer, with what they stored, and nothing else is changed
 pub record Vanishing {P S H : Type 0} (w v : WorldOf P S H) : Type 0 where
   pub whole : Whole v
   pub shows : (t : ℕ) → w.scheduler.running ≡ Some t → (k : Control P S H) → Shows w k → ShowsRest t v k
@@ -23,4 +25,6 @@ pub record Vanishing {P S H : Type 0} (w v : WorldOf P S H) : Type 0 where
   pub ranks : KeepsRanks 0 w.threads v.threads
   -- a queue that was empty still is
   pub empty : (q : Queue) → rows_of q w.threads.queues ≡ [] → rows_of q v.threads.queues ≡ []
-  pub same : v ≡ record w { threads = v.threads }
+  -- who runs keeps what it stored
+  pub store : (t : ℕ) → w.scheduler.running ≡ Some t → store_of_only t (store_of v.store) ≡ store_of_only t (store_of w.store)
+  pub same : v ≡ record w { threads = v.threads; store = v.store }

@@ -18,8 +18,9 @@ use Rattle.pth_model.specs.declared.blocked.Retake.{Retake}
 use Rattle.pth_model.specs.declared.blocked.Retake.TheVariants as retake
 use Rattle.pth_model.specs.State.{main}
 use Rattle.pth_model.specs.Changes.{blocked_in, queue_for}
-use Rattle.pth_world.specs.World.{WorldOf, ThreadsBySlot}
-use Rattle.pth_world.specs.Sound.{IsSound, IsKnown}
+use Rattle.pth_world.specs.Store.{store_of, HasNothing}
+use Rattle.pth_world.specs.World.{WorldOf, ThreadsBySlot, entry_in}
+use Rattle.pth_world.specs.Sound.{IsSound, IsKnown, lives}
 
 -- what there is at a slot
 pub record View : Type 0 where
@@ -119,17 +120,23 @@ Fits running v = FitsEntry running v.entry v.place v.blocked
 abbrev pub IsRunner : {P S H : Type 0} → WorldOf P S H → Type 0
 IsRunner w = IfSome w.scheduler.running (λ t. IsKnown w.threads t)
 
+-- a thread has something stored only while it is alive
+abbrev pub StoresAlive : {P S H : Type 0} → WorldOf P S H → ℕ → Type 0
+StoresAlive w t = lives (entry_in w.threads t) ≡ false → HasNothing (store_of w.store) t
+
 -- what holds of every world between two calls
 pub record Whole {P S H : Type 0} (w : WorldOf P S H) : Type 0 where
   pub sound : IsSound w.threads
   pub fits : (u : ℕ) → Fits w.scheduler.running (view w.threads u)
   pub runner : IsRunner w
+  pub stored : (t : ℕ) → StoresAlive w t
 
--- what holds of it while thread t is changed: all but what t itself fits
+-- what holds of it while thread t is changed: all but what t itself fits, and has stored
 pub record WholeBut {P S H : Type 0} (w : WorldOf P S H) (t : ℕ) : Type 0 where
   pub sound : IsSound w.threads
   pub fits : (u : ℕ) → tid_at w.threads.records u ≢ t → Fits w.scheduler.running (view w.threads u)
   pub runner : IsRunner w
+  pub stored : (u : ℕ) → u ≢ t → StoresAlive w u
 
 -- nobody but t runs
 abbrev pub IsAbout : Option ℕ → ℕ → Type 0

@@ -1,5 +1,5 @@
 -- What contracts see of a world: its parts, in the groups of the state, those of threads by slot.
-use Rattle.std.specs.Prelude.{ℕ, List, [], Option, None}
+use Rattle.std.specs.Prelude.{ℕ, Bool, List, [], Option, None}
 use Rattle.pth_base.specs.Naming.{seen}
 use Rattle.pth_base.specs.Program.{Functions}
 use Rattle.pth_threads.specs.Attributes.{AttrsOf}
@@ -10,6 +10,7 @@ use Rattle.pth_ring.specs.Arena.{RingsOf}
 use Rattle.pth_kernel.specs.Kernel.{KernelOf}
 use Rattle.pth_model.specs.declared.progress.Progress.{Progress}
 use Rattle.pth_model.specs.State.{Control, Scheduler, Given, start}
+use Rattle.pth_world.specs.Store.{StoreOf}
 
 -- the threads by slot: their records, where they stand, and how far each is in its program
 pub record ThreadsBySlot (S : Type 0) : Type 0 where
@@ -28,6 +29,10 @@ pub record WorldOf (P S H : Type 0) : Type 0 where
   pub attributes : AttrsOf
   pub events : RingsOf
   pub kernel : KernelOf
+  -- what threads have stored, by their numbers
+  pub store : StoreOf
+  -- by number, whether a once control was used (pth_once)
+  pub used : List Bool
   pub scheduler : Scheduler
 
 -- from what a run starts, before the main thread is made

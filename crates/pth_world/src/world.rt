@@ -2,7 +2,6 @@
 
 ghost use Rattle.std.specs.Prelude.{◌≡◌, ◌≢◌, ℕ, Option, Some, None, IfSome, IfOk, option_map, option_copied};
 ghost use Rattle.std.specs.Borrow.{Lends, sem};
-ghost use Rattle.pth_threads.specs.contracts.threads.Threads.{the_row as threads_row};
 ghost use Rattle.pth_threads.specs.Threads.{slot_of, tid_at};
 ghost use Rattle.pth_world.specs.contracts.counted_queues.CountedQueues.{the_row as queues_row};
 ghost use Rattle.pth_world.specs.contracts.progress_table.ProgressTable.{the_row as progress_row};
@@ -17,6 +16,7 @@ ghost use Rattle.pth_world.specs.Whole.{Whole, WholeBut, IsAbout, IsRunner};
 mod attributes;
 mod counts;
 mod events;
+mod handlers;
 mod kernel;
 mod moves;
 mod places;
@@ -24,6 +24,7 @@ mod progress;
 mod reads;
 mod records;
 mod slots;
+mod store;
 mod vanishing;
 
 use crate::counted_queues::CountedQueues;
@@ -33,13 +34,16 @@ use pth_base::program::Program;
 use pth_kernel::kernel::Kernel;
 use pth_queue::queue_set::QueueSet;
 use pth_ring::rings::Rings;
+use pth_store::cleanups::Cleanups;
+use pth_store::keys::Keys;
 use pth_threads::attrs::Attrs;
 use pth_threads::threads::Threads;
 use std::alloc::Global;
 use std::marker::Model;
 
 /// The program with its threads: their records, their queues and how far each is in its program, their attribute objects,
-/// events and rings of them, the kernel, and what the scheduler keeps of them.
+/// events and rings of them, the kernel, what they stored, the once controls that were used, and what the scheduler keeps of
+/// them.
 #[derive(Drop)]
 pub struct World<P: Program> {
     alloc: Global,
@@ -51,6 +55,10 @@ pub struct World<P: Program> {
     attributes: Attrs,
     events: Rings,
     kernel: Kernel,
+    // By slot. What stands at a slot that is not used counts for nothing.
+    keys: Keys,
+    cleanups: Cleanups,
+    used: [bool; 64],
     running: Option<Tid>,
     preferred: Option<Tid>,
     favour_new: bool,
@@ -59,6 +67,9 @@ pub struct World<P: Program> {
 impl<P: Program> Model for World<P> {
     ghost use Rattle.std.specs.Prelude.{option_map};
     ghost use Rattle.pth_threads.specs.Threads.{number_of};
+    ghost use Rattle.pth_store.specs.Cleanups.{stacks_of};
+    ghost use Rattle.pth_store.specs.Keys.{tables_of};
+    ghost use Rattle.pth_world.specs.Store.{stored_by};
     ghost use Rattle.pth_world.specs.World.{WorldOf};
 
     ghost Value = { WorldOf P P.State P.Shared };
@@ -70,6 +81,8 @@ impl<P: Program> Model for World<P> {
       attributes = w.attributes;
       events = w.events;
       kernel = w.kernel;
+      store = stored_by w.threads (tables_of w.keys) (stacks_of w.cleanups);
+      used = w.used;
       scheduler = record {
         running = option_map number_of w.running;
         preferred = option_map number_of w.preferred;
@@ -99,13 +112,6 @@ impl<P: Program> World<P> {
         ensures { result.now ≡ self.now.threads.progress }
     {
         &self.progress
-    }
-
-    fn threads_mut(&mut self) -> &mut Threads
-        ensures* writes_back { sem 𝓛 (Lends (the_row P.row P.State.row P.Shared.row P.Program) threads_row self.entry result (λ x. record self.old { threads = record self.old.threads { records = x } })) }
-        ensures value { result.now ≡ self.old.threads.records }
-    {
-        &mut self.threads
     }
 
     fn queues_mut(&mut self) -> &mut CountedQueues

@@ -58,6 +58,7 @@ impl<P: Program> World<P> {
         ensures answer { result ≡ set_answer (entry_in self.old.threads) (named (object_of self.old.attributes) a) v.now }
         ensures shows { OnOk result ((k : Control P P.State P.Shared) → Shows self.old k → Shows self.new (sets_value a v.now (object k a) k)) }
         ensures frame { OnOk result (Frame self.old self.new 0 self.old.scheduler.running false) }
+        ensures store { OnOk result (self.new.store ≡ self.old.store) }
         ensures refused { OnErr result (self.new ≡ self.old) }
     {
         self.attributes.set(a, v, &mut self.threads)

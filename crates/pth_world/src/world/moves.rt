@@ -15,6 +15,7 @@ ghost use Rattle.pth_model.specs.Pass.{is_ready_at};
 ghost use Rattle.pth_model.specs.Part.{is_put_back, is_put_waiting, runs};
 ghost use Rattle.pth_world.specs.Ranks.{greatest_return, KeepsRanks};
 ghost use Rattle.pth_world.specs.Shows.{Shows};
+ghost use Rattle.pth_world.specs.Store.{store_of, HasNothing};
 ghost use Rattle.pth_world.specs.Sound.{IsSound, IsPrio, IsKnown};
 ghost use Rattle.pth_world.specs.Whole.{Whole, IsIn, IsBeforeReady, CanSuspend, MayStandIn, WaitsToRun};
 ghost use Rattle.pth_world.specs.World.{entry_in};
@@ -168,11 +169,11 @@ impl<P: Program> World<P> {
         self.move_to(t, false, q);
     }
 
-    /// A thread that does not run is in the system no longer, as one that was joined (`pth_join`).
+    /// A dead thread is in the system no longer, as one that was joined (`pth_join`). It had nothing stored.
     pub fn remove(&mut self, t: Tid)
         requires whole { Whole self.old }
         requires known { IsKnown self.old.threads t.0 }
-        requires rests { self.old.scheduler.running ≢ Some t.0 }
+        requires dead { IsIn queue.Dead self.old.threads t.0 }
         ensures shows { (k : Control P P.State P.Shared) → Shows self.old k → Shows self.new (removes t.0 k) }
         ensures whole { Whole self.new }
         ensures made { self.new.threads.records.made ≡ self.old.threads.records.made }
@@ -182,10 +183,11 @@ impl<P: Program> World<P> {
         self.drop_thread(t);
     }
 
-    // A thread is dead, and keeps a value until it is joined.
+    // A thread that has nothing stored is dead, and keeps a value until it is joined.
     fn make_dead(&mut self, t: Tid, value: i64)
         requires whole { Whole self.old }
         requires known { IsKnown self.old.threads t.0 }
+        requires nothing { HasNothing (store_of self.old.store) t.0 }
         ensures shows { (k : Control P P.State P.Shared) → Shows self.old k → Shows self.new (stops_running t.0 (is_dead_with t.0 value k)) }
         ensures whole { Whole self.new }
         ensures made { self.new.threads.records.made ≡ self.old.threads.records.made }
@@ -200,10 +202,11 @@ impl<P: Program> World<P> {
         self.stop_running(t);
     }
 
-    // A thread is gone.
+    // A thread that has nothing stored is gone.
     fn make_gone(&mut self, t: Tid)
         requires whole { Whole self.old }
         requires known { IsKnown self.old.threads t.0 }
+        requires nothing { HasNothing (store_of self.old.store) t.0 }
         ensures shows { (k : Control P P.State P.Shared) → Shows self.old k → Shows self.new (stops_running t.0 (removes t.0 k)) }
         ensures whole { Whole self.new }
         ensures made { self.new.threads.records.made ≡ self.old.threads.records.made }
@@ -214,11 +217,12 @@ impl<P: Program> World<P> {
         self.stop_running(t);
     }
 
-    /// A thread ends, whoever runs: one that can be joined is dead and keeps a value until it is joined, and another is gone.
-    /// It runs no longer.
+    /// A thread that has nothing stored ends, whoever runs: one that can be joined is dead and keeps a value until it is joined,
+    /// and another is gone. It runs no longer.
     pub fn leave(&mut self, t: Tid, value: i64)
         requires whole { Whole self.old }
         requires known { IsKnown self.old.threads t.0 }
+        requires nothing { HasNothing (store_of self.old.store) t.0 }
         ensures shows { (k : Control P P.State P.Shared) → Shows self.old k → Shows self.new (leaves t.0 value k) }
         ensures whole { Whole self.new }
         ensures made { self.new.threads.records.made ≡ self.old.threads.records.made }

@@ -2,12 +2,14 @@
 
 ghost use Rattle.std.specs.Prelude.{◌≡◌, ◌≢◌, ◌<◌, ◌+◌, ◌↔◌, ℕ, ℤ, Bool, false, Option, Some, None, IfSome, IfOk, OnOk, OnErr, IsErrOf, option_copied, nat_lt, pos};
 ghost use Rattle.pth_base.specs.Limits.{thread_limit};
+ghost use Rattle.pth_base.specs.Naming.{IsTied};
 ghost use Rattle.pth_kernel.specs.Kernel.{kernel_of};
 ghost use Rattle.pth_queue.specs.declared.queue.Queue.TheVariants as queue;
 ghost use Rattle.pth_queue.specs.Queues.{IsNowhere, IsRank, no_queues, entered, without};
 ghost use Rattle.pth_base.specs.declared.thread.ThreadState.TheVariants as state;
 ghost use Rattle.pth_threads.specs.declared.entry.Change.TheVariants as change;
-ghost use Rattle.pth_threads.specs.Threads.{slot_of, tid_at, count, IsCountable, IsSame, RemovesThread};
+ghost use Rattle.pth_threads.specs.Threads.{slot_of, tid_at, count, made_of, AddsThread, ChangesThread, IsCountable, IsSame, RemovesThread};
+ghost use Rattle.pth_model.specs.Resources.{no_resources, store_without};
 ghost use Rattle.pth_model.specs.State.{Control, start, first_thread};
 ghost use Rattle.pth_model.specs.Changes.{sets, enters, removes};
 ghost use Rattle.pth_model.specs.ThreadControl.{spawns, has_room};
@@ -16,6 +18,7 @@ ghost use Rattle.pth_world.specs.World.{before_main};
 ghost use Rattle.pth_world.specs.Numbering.{HasNumbers};
 ghost use Rattle.pth_world.specs.Ranks.{KeepsRanks};
 ghost use Rattle.pth_world.specs.Shows.{Shows, StandsFor};
+ghost use Rattle.pth_world.specs.Store.{store_of, HasNothing};
 ghost use Rattle.pth_world.specs.Sound.{IsSound, IsKnown, IsPrio, IsCancel, KeepsAttributes};
 ghost use Rattle.pth_world.specs.Whole.{Whole, WholeBut, view};
 ghost use Rattle.pth_world.specs.Touches.{Touches, SameThreads, view_changed, view_placed};
@@ -24,7 +27,7 @@ use crate::counted_queues::CountedQueues;
 use crate::progress_table::ProgressTable;
 use crate::world::World;
 use pth_base::answer::Answer;
-use pth_base::ids::{BodyId, Tid};
+use pth_base::ids::{BodyId, Slot, Tid};
 use pth_base::limits::MOST_THREADS;
 use pth_base::memory::OutOfMemory;
 use pth_base::name::Name;
@@ -34,6 +37,8 @@ use pth_kernel::kernel::Kernel;
 use pth_model::progress::Progress;
 use pth_queue::queue::Queue;
 use pth_ring::rings::Rings;
+use pth_store::cleanups::Cleanups;
+use pth_store::keys::Keys;
 use pth_threads::attrs::Attrs;
 use pth_threads::entry::{AddErr, Change, Entry, NewThread};
 use pth_threads::threads::Threads;
@@ -55,6 +60,7 @@ impl<P: Program> World<P> {
     // The program with no threads, and with room for as many as there may be.
     fn without_threads(alloc: Global, program: P, kernel: Kernel) -> Result<World<P>, OutOfMemory>
         ensures shows { IfOk result (λ w. Shows w (before_main P.functions (record { program = program; kernel = kernel_of kernel }))) }
+        ensures store { IfOk result (λ w. store_of w.store ≡ no_resources.store) }
         ensures whole { IfOk result (λ w. Whole w) }
         ensures made { IfOk result (λ w. w.threads.records.made ≡ 0) }
         ensures objects { IfOk result (λ w. w.attributes.made ≡ 0) }
@@ -71,6 +77,8 @@ impl<P: Program> World<P> {
         let threads = Threads::new(alloc);
         let attributes = Attrs::new(alloc);
         let events = Rings::new(alloc);
+        let keys = Keys::new(alloc);
+        let cleanups = Cleanups::new(alloc);
         Ok(World {
             alloc,
             program,
@@ -81,6 +89,9 @@ impl<P: Program> World<P> {
             kernel,
             queues,
             progress,
+            keys,
+            cleanups,
+            used: [false; 64],
             running: None,
             preferred: None,
             favour_new: true,
@@ -105,6 +116,16 @@ impl<P: Program> World<P> {
         Ok(world)
     }
 
+    // Sets one field of the record at a slot.
+    fn change_at(&mut self, s: Slot, c: Change)
+        requires used { tid_at self.old.threads.records s.0 ≢ 0 }
+        requires countable { IsCountable c }
+        ensures changes { ChangesThread self.old.threads.records self.new.threads.records s.0 c }
+        ensures same { self.new ≡ record self.old { threads = record self.old.threads { records = self.new.threads.records } } }
+    {
+        self.threads.change(s, c);
+    }
+
     /// Sets one field of a thread's record. A changed priority counts from the next entry into a queue.
     pub fn change(&mut self, t: Tid, c: Change)
         requires sound { IsSound self.old.threads }
@@ -119,10 +140,22 @@ impl<P: Program> World<P> {
         ensures same { self.new ≡ record self.old { threads = record self.old.threads { records = self.new.threads.records } } }
     {
         let slot = self.slot(t);
-        self.threads_mut().change(slot, c);
+        self.change_at(slot, c);
     }
 
-    /// Takes a thread out of the system, with its place and its program.
+    // Takes the record of a thread out, and so what it stored.
+    fn remove_at(&mut self, t: Tid, s: Slot)
+        requires tied { IsTied (slot_of self.old.threads.records) (tid_at self.old.threads.records) }
+        requires at { slot_of self.old.threads.records t.0 ≡ Some s.0 }
+        ensures removes { RemovesThread self.old.threads.records self.new.threads.records s.0 }
+        ensures store { store_of self.new.store ≡ store_without t.0 (store_of self.old.store) }
+        ensures still { HasNothing (store_of self.old.store) t.0 → self.new.store ≡ self.old.store }
+        ensures same { self.new ≡ record self.old { threads = record self.old.threads { records = self.new.threads.records }; store = self.new.store } }
+    {
+        self.threads.remove(s);
+    }
+
+    /// Takes a thread out of the system, with its place, its program and what it stored.
     pub fn drop_thread(&mut self, t: Tid)
         requires sound { IsSound self.old.threads }
         requires known { IsKnown self.old.threads t.0 }
@@ -132,12 +165,14 @@ impl<P: Program> World<P> {
         ensures but { self.old.scheduler.running ≢ Some t.0 → WholeBut self.old t.0 → WholeBut self.new t.0 }
         ensures threads { IfSome (slot_of self.old.threads.records t.0) (λ u. RemovesThread self.old.threads.records self.new.threads.records u) }
         ensures queues { IfSome (slot_of self.old.threads.records t.0) (λ u. self.new.threads.queues ≡ without u self.old.threads.queues) }
-        ensures same { self.new ≡ record self.old { threads = self.new.threads } }
+        ensures store { store_of self.new.store ≡ store_without t.0 (store_of self.old.store) }
+        ensures still { HasNothing (store_of self.old.store) t.0 → self.new.store ≡ self.old.store }
+        ensures same { self.new ≡ record self.old { threads = self.new.threads; store = self.new.store } }
     {
         let slot = self.slot(t);
         self.take_out(t);
         self.progress_mut().set(slot, None);
-        self.threads_mut().remove(slot);
+        self.remove_at(t, slot);
     }
 
     // The first state of a thread.
@@ -155,6 +190,23 @@ impl<P: Program> World<P> {
         ensures room { (k : Control P P.State P.Shared) → Shows self.now k → result ≡ has_room k }
     {
         self.threads().count() < MOST_THREADS
+    }
+
+    // A new thread, which has stored nothing: what was left at its slot is forgotten.
+    fn add(&mut self, of: NewThread) -> Result<(Tid, Slot), AddErr>
+        requires sound { IsSound self.old.threads }
+        requires few { self.old.threads.records.made < 4294967295 }
+        ensures tid { IfOk result (λ p. p.0.0 ≡ self.old.threads.records.made + 1) }
+        ensures made { OnOk result (self.new.threads.records.made ≡ self.old.threads.records.made + 1) }
+        ensures ok { IfOk result (λ p. AddsThread self.old.threads.records self.new.threads.records p.1.0 (made_of of p.0.0)) }
+        ensures too_many { IsErrOf result AddErr.TooMany ↔ (count self.old.threads.records ≡ thread_limit) }
+        ensures err { OnErr result (IsSame self.old.threads.records self.new.threads.records) }
+        ensures same { self.new ≡ record self.old { threads = record self.old.threads { records = self.new.threads.records } } }
+    {
+        let (t, slot) = self.threads.add(of)?;
+        self.keys.forget(slot);
+        self.cleanups.forget(slot);
+        Ok((t, slot))
     }
 
     /// A new thread of this body, with this argument and these values, which enters the new queue at its base priority.
@@ -183,7 +235,7 @@ impl<P: Program> World<P> {
         }
         let state = self.start(body, arg)?;
         let prio = of.prio;
-        let (t, slot) = self.threads_mut().add(of)?;
+        let (t, slot) = self.add(of)?;
         self.progress_mut().set(
             slot,
             Some(Progress {

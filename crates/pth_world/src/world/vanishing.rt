@@ -4,8 +4,10 @@ ghost use Rattle.std.specs.Prelude.{◌≡◌, [], Some};
 ghost use Rattle.pth_queue.specs.Queues.{rows_of};
 ghost use Rattle.pth_model.specs.State.{Control};
 ghost use Rattle.pth_model.specs.LibraryControl.{vanish_all_but};
+ghost use Rattle.pth_model.specs.Resources.{store_of_only};
 ghost use Rattle.pth_world.specs.Ranks.{KeepsRanks};
 ghost use Rattle.pth_world.specs.Shows.{Shows};
+ghost use Rattle.pth_world.specs.Store.{store_of};
 ghost use Rattle.pth_world.specs.Vanishing.{Vanishing};
 ghost use Rattle.pth_world.specs.Whole.{Whole};
 
@@ -26,7 +28,8 @@ impl<P: Program> World<P> {
         }
     }
 
-    /// Takes all threads but the one that runs out of the system, and no ring is claimed any more (`pth_kill`).
+    /// Takes all threads but the one that runs out of the system, with what they stored, and no ring is claimed any more
+    /// (`pth_kill`).
     pub fn vanish_all_but(&mut self, t: Tid)
         requires whole { Whole self.old }
         requires runs { self.old.scheduler.running ≡ Some t.0 }
@@ -35,7 +38,8 @@ impl<P: Program> World<P> {
         ensures made { self.new.threads.records.made ≡ self.old.threads.records.made }
         ensures ranks { KeepsRanks 0 self.old.threads self.new.threads }
         ensures events { self.new.events.made ≡ self.old.events.made }
-        ensures same { self.new ≡ record self.old { threads = self.new.threads; events = self.new.events } }
+        ensures store { store_of self.new.store ≡ store_of_only t.0 (store_of self.old.store) }
+        ensures same { self.new ≡ record self.old { threads = self.new.threads; events = self.new.events; store = self.new.store } }
     {
         self.empty_queue(Queue::New);
         self.empty_queue(Queue::Ready);

@@ -37,6 +37,7 @@ returns-clause-whole g c =
     runs_whole w c.prefer.new.self t n c.requires.whole c.requires.known c.requires.stands c.requires.nobody running
     (subst IsSound (sym threads) c.change-2.ensures.sound)
     (ap (λ v. slot_of v.records) threads ∙ three.slots)
+    (ap (λ (k : WorldOf _ _ _). k.store) c.prefer.ensures.same ∙ ap (λ (k : WorldOf _ _ _). k.store) c.set_running.ensures.same ∙ ap (λ (k : WorldOf _ _ _). k.store) c.change-2.ensures.same ∙ ap (λ (k : WorldOf _ _ _). k.store) c.change.ensures.same ∙ ap (λ (k : WorldOf _ _ _). k.store) c.take_out.ensures.same)
     (subst (λ v. Touches w.threads v t (λ (k : View). view_changed (change.Dispatches n) (view_changed (change.State state.Running) (view_placed None k)))) (sym threads) change_two)
 
 pub returns-clause-queues : goal.returns-clause-queues

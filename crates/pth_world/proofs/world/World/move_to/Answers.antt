@@ -28,7 +28,7 @@ returns-clause-whole g c =
     let change_one = two_touches w.threads a b t (view_placed None) (view_changed (change.Suspended c.args.suspended)) one c.take_out.ensures.touches c.change.ensures.touches in
     let change_two = two_touches w.threads b z t _ (view_placed (Some c.args.q)) two change_one c.put_in.ensures.touches in
     let running = ap (λ (k : WorldOf _ _ _). k.scheduler.running) c.put_in.ensures.same ∙ ap (λ (k : WorldOf _ _ _). k.scheduler.running) c.change.ensures.same ∙ ap (λ (k : WorldOf _ _ _). k.scheduler.running) c.take_out.ensures.same in
-    moved_whole w c.put_in.new.self t slot.0 c.args.q c.args.suspended c.requires.whole slot.1 c.requires.may change_two three.slots running c.put_in.ensures.sound
+    moved_whole w c.put_in.new.self t slot.0 c.args.q c.args.suspended c.requires.whole slot.1 c.requires.may change_two three.slots running (ap (λ (k : WorldOf _ _ _). k.store) c.put_in.ensures.same ∙ ap (λ (k : WorldOf _ _ _). k.store) c.change.ensures.same ∙ ap (λ (k : WorldOf _ _ _). k.store) c.take_out.ensures.same) c.put_in.ensures.sound
 
 pub returns-clause-ranks : goal.returns-clause-ranks
 returns-clause-ranks g c = ranks_moved_in c.args.self.now.threads c.put_in.new.self.threads c.args.t.0 c.requires.known c.args.q search rules

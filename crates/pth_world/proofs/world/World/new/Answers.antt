@@ -1,5 +1,7 @@
-use Rattle.std.proofs.Common.{false}
+use Rattle.std.proofs.Common.{◌∙◌, ap, false}
 use Rattle.pth_kernel.specs.Kernel.{kernel_of}
+use Rattle.pth_world.specs.Store.{store_of}
+use Rattle.pth_world.specs.World.{WorldOf}
 use Rattle.pth_world.proofs.Starts.{with_main, main_known, main_new, start_stands}
 use Rattle.pth_world.proofs.world.World.new.Goals as goal
 
@@ -20,4 +22,5 @@ returns-clause-stands g c =
     let one = rw c.in_ok-world.ensures.made at c.in-Ok.ensures.tid in
     let shows = rw c.main_thread.ensures at (c.in-Ok.ensures.shows _ c.in_ok-world.ensures.shows) in
     let ready = rw one at (c.make_ready.ensures.shows (with_main g.P.Program.functions (record { program = c.args.program; kernel = kernel_of c.args.kernel })) false shows) in
-    start_stands g.P.Program.functions (record { program = c.args.program; kernel = kernel_of c.args.kernel }) _ ready
+    let none = c.make_ready.ensures.scheduler.store ∙ ap (λ (k : WorldOf _ _ _). k.store) c.in-Ok.ensures.same in
+    start_stands g.P.Program.functions (record { program = c.args.program; kernel = kernel_of c.args.kernel }) _ ready (ap store_of none ∙ c.in_ok-world.ensures.store)

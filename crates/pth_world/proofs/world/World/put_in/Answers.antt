@@ -23,4 +23,4 @@ returns-clause-touches g c =
     enter_touches _ c.requires.sound c.args.t.0 c.slot-slot.result.0 c.slot-slot.ensures.slot _ c.args.q c.args.rank (rw c.slot-slot.ensures.slot at c.requires.nowhere) (rw (c.queues_mut.ensures.value, to_z-of_z) at c.insert.ensures)
 
 pub returns-clause-but : goal.returns-clause-but
-returns-clause-but g c = but_kept c.args.self.now _ c.args.t.0 _ (returns-clause-touches g c) (record { slots = refl; tids = refl; made = refl }) refl (returns-clause-sound g c)
+returns-clause-but g c = but_kept c.args.self.now _ c.args.t.0 _ (returns-clause-touches g c) (record { slots = refl; tids = refl; made = refl }) refl refl (returns-clause-sound g c)

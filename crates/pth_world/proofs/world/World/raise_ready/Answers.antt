@@ -22,6 +22,7 @@ returns-clause-whole g c whole = record {
   sound = returns-clause-sound g c;
   fits = λ u. subst (λ (k : View). Fits c.args.self.now.scheduler.running k) (sym (returns-clause-views g c u)) (whole.fits u);
   runner = whole.runner;
+  stored = whole.stored;
 }
 
 pub returns-clause-but : goal.returns-clause-but
@@ -29,6 +30,7 @@ returns-clause-but g c t but = record {
   sound = returns-clause-sound g c;
   fits = λ u apart. subst (λ (k : View). Fits c.args.self.now.scheduler.running k) (sym (returns-clause-views g c u)) (but.fits u apart);
   runner = but.runner;
+  stored = but.stored;
 }
 
 pub returns-clause-stays : goal.returns-clause-stays

@@ -1,0 +1,26 @@
+use Rattle.std.proofs.Common.{◌<◌, ◌∙◌, sym, ap, arith, rules}
+use Rattle.pth_store.specs.Cleanups.{Stacks, stacks_of, without_top}
+use Rattle.pth_store.specs.Keys.{tables_of}
+use Rattle.pth_world.specs.Store.{name_limit, store_of, stored_by}
+use Rattle.pth_world.proofs.Stores.{below_answer_is, cleanups_put, nothing_popped, stored_whole}
+use Rattle.pth_world.proofs.world.World.pop_cleanup.Goals as goal
+
+pub returns-clause-answer : goal.returns-clause-answer
+returns-clause-answer g c =
+    let w = c.self.inside in
+    let e = rw (← c.self.view_is) at c.slot-slot.ensures.slot in
+    let few : c.args.t.0 < name_limit = search (arith, rules) in
+    rw (← c.self.view_is) (c.pop.ensures.answer ∙ sym (below_answer_is w.threads (tables_of w.keys) (stacks_of w.cleanups) c.args.t.0 c.slot-slot.result.0 e few 0))
+
+pub returns-clause-changes : goal.returns-clause-changes
+returns-clause-changes g c =
+    let w = c.self.inside in
+    let sound = rw (← c.self.view_is) at c.requires.sound in
+    let e = rw (← c.self.view_is) at c.slot-slot.ensures.slot in
+    let few : c.args.t.0 < name_limit = search (arith, rules) in
+    rw (← c.self.view_is) (ap (λ (y : Stacks). store_of (stored_by w.threads (tables_of w.keys) y)) c.pop.ensures.changes ∙ cleanups_put w.threads (tables_of w.keys) (stacks_of w.cleanups) c.args.t.0 c.slot-slot.result.0 sound.tied e few without_top)
+
+pub returns-clause-whole : goal.returns-clause-whole
+returns-clause-whole g c =
+    let changes = rw (← c.self.view_is) at (returns-clause-changes g c) in
+    rw (← c.self.view_is) (λ whole. stored_whole _ _ (λ u dead h. rw changes (nothing_popped _ c.args.t.0 u h)) whole)
