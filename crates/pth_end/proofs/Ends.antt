@@ -1,26 +1,59 @@
 -- A thread ends as the definitions say.
-use Rattle.std.proofs.Common.{◌≡◌, ℕ, ℤ, pos, false, List, [], ◌∷◌, ◌++◌, refl, ap, ◌∙◌}
+use Rattle.std.proofs.Common.{◌≡◌, ◌∙◌, ℕ, ℤ, false, List, [], ◌∷◌, ◌++◌, refl, ap, sym}
 use Rattle.pth_base.proofs.Lists.{put_none}
+use Rattle.pth_base.specs.Cut.{IsCut}
 use Rattle.pth_base.specs.Program.{Functions}
 use Rattle.pth_base.specs.declared.mark.Mark.{Mark}
 use Rattle.pth_base.specs.declared.mark.Mark.TheVariants.{Ended}
-use Rattle.pth_model.specs.Resources.{Cleanup, Resources, no_resources, told}
-use Rattle.pth_model.specs.State.{State}
-use Rattle.pth_model.specs.Transition.{tid}
+use Rattle.pth_model.specs.Ending.{ending, leaves, dies, runs_cleanups, runs_destructors}
+use Rattle.pth_model.specs.Resources.{Resources, Store, no_resources, store_without, told}
 use Rattle.pth_model.specs.RingWaits.{stops_waiting}
-use Rattle.pth_model.specs.Ending.{ending, leaves}
-use Rattle.pth_world.specs.World.{WorldOf}
-use Rattle.pth_world.specs.Shows.{Shows}
+use Rattle.pth_model.specs.State.{State}
+use Rattle.pth_model.specs.Transition.{controlled, tid, ◌and_then◌}
+use Rattle.pth_world.proofs.Telling.{has_still}
 use Rattle.pth_world.specs.Leading.{Leads}
-use Rattle.pth_world.specs.Leading.{IsQuiet}
+use Rattle.pth_world.specs.Shows.{Shows, StandsFor}
+use Rattle.pth_world.specs.Store.{store_of}
+use Rattle.pth_world.specs.World.{WorldOf}
+use Rattle.pth_end.proofs.Chains.{leads_then, cut_one, cut_second}
 
--- a thread that has nothing leaves nothing
-quiet-ended : (t : ℕ) (v : ℤ) → IsQuiet (Ended (tid t) v)
+-- a thread that ended has nothing
+ended_told : (x : Store) (t : ℕ) (v : ℤ) → told (record no_resources { store = x }) (Ended (tid t) v) ≡ record no_resources { store = store_without t x }
 unfolding told
-quiet-ended t v =
-    rw (put_none (λ (u : ℕ). let none : List Cleanup = [] in none) t [] refl, put_none (λ (u : ℕ). pos 0) t (pos 0) refl, put_none (λ (u : ℕ). false) t false refl) refl
+ended_told x t v = rw (put_none (λ (u : ℕ). false) t false refl) refl
 
--- the world is as the thread's end leaves it
-pub end_leads : {P S H : Type 0} (f : P → Functions S H) (w : WorldOf P S H) (s : State P S H) (t : ℕ) (v : ℤ) (old new : List Mark) → s.resources ≡ no_resources → Shows w (leaves t v (stops_waiting t s.control)) → new ≡ old ++ Ended (tid t) v ∷ [] → Leads w old new (ending f t v s)
-unfolding ending
-end_leads f w s t v old new none sh appended = record { stands = record { control = sh; resources = ap (λ (k : Resources). told k (Ended (tid t) v)) none ∙ quiet-ended t v }; tells = appended }
+-- its wait is undone
+pub wait_undone : {P S H : Type 0} (w v : WorldOf P S H) (t : ℕ) (s : State P S H) → Shows v (stops_waiting t s.control) → v.store ≡ w.store → StandsFor w s → StandsFor v (controlled (stops_waiting t) s)
+wait_undone w v t s shows stored st = record { control = shows; resources = has_still w v s stored st.resources }
+
+module _ {P S H : Type 0} (f : P → Functions S H) (t : ℕ) (v : ℤ) where
+  -- the last piece: what it stored is forgotten, and it is dead or gone
+  pub dies_leads : (w y : WorldOf P S H) (s : State P S H) (old new : List Mark) → StandsFor w s → Shows y (leaves t v s.control) → store_of y.store ≡ store_without t (store_of w.store) → new ≡ old ++ Ended (tid t) v ∷ [] → Leads y old new (dies t v s)
+  dies_leads w y s old new st shows stored appended = record {
+    stands = record {
+      control = shows;
+      resources = ap (λ (k : Resources). told k (Ended (tid t) v)) st.resources ∙ ended_told (store_of w.store) t v ∙ ap (λ (x : Store). record no_resources { store = x }) (sym stored);
+    };
+    tells = appended;
+  }
+
+  -- all of them
+  pub end_leads : (a b y : WorldOf P S H) (s : State P S H) (old m n new : List Mark) → Leads a old m (runs_cleanups f t (controlled (stops_waiting t) s)) → Leads b m n (runs_destructors f t (runs_cleanups f t (controlled (stops_waiting t) s)).state)
+      → Leads y n new (dies t v (runs_destructors f t (runs_cleanups f t (controlled (stops_waiting t) s)).state).state) → Leads y old new (ending f t v s)
+  unfolding ending
+  end_leads a b y s old m n new cleaned destructed died =
+      let s1 = controlled (stops_waiting t) s in
+      let s2 = (runs_cleanups f t s1).state in
+      let last = leads_then b y s2 (runs_destructors f t) (dies t v) m n new destructed died in
+      let all = leads_then a y s1 (runs_cleanups f t) (runs_destructors f t and_then dies t v) old m new cleaned last in
+      record { stands = all.stands; tells = all.tells }
+
+  -- it broke off as its cleanups ran
+  pub cut_cleaning : (s : State P S H) (old new : List Mark) → IsCut old new (runs_cleanups f t (controlled (stops_waiting t) s)).marks → IsCut old new (ending f t v s).marks
+  unfolding ending
+  cut_cleaning s old new cut = let c = cut_one (controlled (stops_waiting t) s) (runs_cleanups f t) (runs_destructors f t and_then dies t v) old new cut in record { first = c.first; rest = c.rest; new_is = c.new_is; whole_is = c.whole_is }
+
+  -- or later
+  pub cut_later : (a : WorldOf P S H) (s : State P S H) (old m new : List Mark) → Leads a old m (runs_cleanups f t (controlled (stops_waiting t) s)) → IsCut m new ((runs_destructors f t and_then dies t v) (runs_cleanups f t (controlled (stops_waiting t) s)).state).marks → IsCut old new (ending f t v s).marks
+  unfolding ending
+  cut_later a s old m new cleaned cut = let c = cut_second a (controlled (stops_waiting t) s) (runs_cleanups f t) (runs_destructors f t and_then dies t v) old m new cleaned cut in record { first = c.first; rest = c.rest; new_is = c.new_is; whole_is = c.whole_is }

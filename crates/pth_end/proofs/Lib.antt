@@ -1,1 +1,9 @@
+pub mod Chains
+pub mod Handled
+pub mod Acting
+pub mod Stacks
 pub mod Ends
+pub mod Dues
+pub mod Looking
+pub mod Cleaning
+pub mod Destructing

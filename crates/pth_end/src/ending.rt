@@ -7,9 +7,11 @@ ghost use Rattle.pth_model.specs.State.{State};
 ghost use Rattle.pth_world.specs.Frame.{Frame};
 ghost use Rattle.pth_world.specs.Leading.{Leads};
 ghost use Rattle.pth_world.specs.Shows.{StandsFor};
-ghost use Rattle.pth_world.specs.Sound.{IsKnown};
+ghost use Rattle.pth_world.specs.Sound.{IsAlive};
 ghost use Rattle.pth_world.specs.Whole.{Whole};
 
+use crate::cleanups::run_cleanups;
+use crate::destructors::run_destructors;
 use pth_base::ids::Tid;
 use pth_base::mark::Mark;
 use pth_base::marks::Marks;
@@ -17,8 +19,9 @@ use pth_base::memory::OutOfMemory;
 use pth_base::program::Program;
 use pth_world::world::World;
 
-/// Ends a thread with a value, whoever runs: its wait is undone, and one that can be joined is dead until it is joined, and
-/// another is gone (`pth_exit`). After an error the world may only be dropped.
+/// Ends a thread that is alive with a value, whoever runs: its wait is undone, its cleanup handlers run, the last pushed first, and
+/// then its destructors; one that can be joined is dead until it is joined, and another is gone (`pth_exit`). After an error the
+/// world may only be dropped.
 pub fn end_thread<P: Program>(
     w: &mut World<P>,
     t: Tid,
@@ -26,12 +29,15 @@ pub fn end_thread<P: Program>(
     marks: &mut Marks,
 ) -> Result<(), OutOfMemory>
     requires whole { Whole w.old }
-    requires known { IsKnown w.old.threads t.0 }
+    requires alive { IsAlive w.old.threads t.0 }
     ensures ok { OnOk result ((s : State P P.State P.Shared) → StandsFor w.old s → Leads w.new marks.old marks.new (ending P.functions t.0 value s)) }
     ensures err { OnErr result ((s : State P P.State P.Shared) → StandsFor w.old s → IsCut marks.old marks.new (ending P.functions t.0 value s).marks) }
     ensures frame { OnOk result (Frame w.old w.new 0 (other_than t.0 w.old.scheduler.running) false) }
 {
     w.unblock(t);
+    run_cleanups(w, t, marks)?;
+    run_destructors(w, t, marks)?;
+    w.forget(t);
     w.leave(t, value);
     marks.push(Mark::Ended { tid: t, value })
 }

@@ -1,4 +1,9 @@
-//! The ends of threads.
+//! How threads end, and the handlers that they run.
 #![tactic(auto)]
 
+pub mod acts;
+pub mod cleanups;
+pub mod destructors;
 pub mod ending;
+pub mod handlers;
+pub mod saying;

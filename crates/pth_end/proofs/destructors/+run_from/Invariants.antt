@@ -1,0 +1,4 @@
+use Rattle.pth_end.proofs.destructors.+run_from.Given as goal
+
+abbrev pub decreases-run_from : goal.decreases-run_from
+decreases-run_from g l = l.left

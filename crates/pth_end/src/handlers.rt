@@ -1,0 +1,83 @@
+//! Handlers, which a thread runs by making their acts.
+
+ghost use Rattle.std.specs.Prelude.{◌-◌, ◌≤◌, OnOk, OnErr};
+ghost use Rattle.pth_base.specs.Cut.{IsCut};
+ghost use Rattle.pth_end.specs.Handling.{IsHandled};
+ghost use Rattle.pth_model.specs.Acts.{acts_from, handled as handled_by, runs_handler};
+ghost use Rattle.pth_model.specs.State.{State};
+ghost use Rattle.pth_world.specs.Leading.{Leads};
+ghost use Rattle.pth_world.specs.Shows.{StandsFor};
+ghost use Rattle.pth_world.specs.Sound.{IsAlive};
+ghost use Rattle.pth_world.specs.Whole.{Whole};
+
+use crate::acts::make_act;
+use pth_base::ids::{HandlerId, Tid};
+use pth_base::mark::Mark;
+use pth_base::marks::Marks;
+use pth_base::memory::OutOfMemory;
+use pth_base::program::Program;
+use pth_world::world::World;
+
+// Makes the acts of a handler from an index on.
+fn make_acts<P: Program>(
+    w: &mut World<P>,
+    t: Tid,
+    h: HandlerId,
+    arg: i64,
+    index: u32,
+    marks: &mut Marks,
+) -> Result<(), OutOfMemory>
+    requires whole { Whole w.old }
+    requires alive { IsAlive w.old.threads t.0 }
+    requires index { index ≤ 64 }
+    ensures ok { OnOk result ((s : State P P.State P.Shared) → StandsFor w.old s → Leads w.new marks.old marks.new (acts_from P.functions t.0 h arg (65 - index) index s)) }
+    ensures err { OnErr result ((s : State P P.State P.Shared) → StandsFor w.old s → IsCut marks.old marks.new (acts_from P.functions t.0 h arg (65 - index) index s).marks) }
+    ensures handled { OnOk result (IsHandled w.old w.new) }
+{
+    let Some(act) = w.act(h, arg, index) else {
+        return Ok(());
+    };
+    make_act(w, t, act, marks)?;
+    make_acts(w, t, h, arg, index + 1, marks)
+}
+
+/// Runs a handler as a thread that is alive: all its acts, at most 64, each with its mark. That the handler runs is for the caller to
+/// tell. After an error the world may only be dropped.
+pub fn run_handler<P: Program>(
+    w: &mut World<P>,
+    t: Tid,
+    h: HandlerId,
+    arg: i64,
+    marks: &mut Marks,
+) -> Result<(), OutOfMemory>
+    requires whole { Whole w.old }
+    requires alive { IsAlive w.old.threads t.0 }
+    ensures ok { OnOk result ((s : State P P.State P.Shared) → StandsFor w.old s → Leads w.new marks.old marks.new (handled_by P.functions t.0 h arg s)) }
+    ensures err { OnErr result ((s : State P P.State P.Shared) → StandsFor w.old s → IsCut marks.old marks.new (handled_by P.functions t.0 h arg s).marks) }
+    ensures handled { OnOk result (IsHandled w.old w.new) }
+{
+    make_acts(w, t, h, arg, 0, marks)
+}
+
+/// Runs a handler that was pushed (`pth_cleanup_push`), or is run once (`pth_once`), and tells that it does. After an error the world
+/// may only be dropped.
+pub fn run_told_handler<P: Program>(
+    w: &mut World<P>,
+    t: Tid,
+    h: HandlerId,
+    arg: i64,
+    marks: &mut Marks,
+) -> Result<(), OutOfMemory>
+    requires whole { Whole w.old }
+    requires alive { IsAlive w.old.threads t.0 }
+    ensures ok { OnOk result ((s : State P P.State P.Shared) → StandsFor w.old s → Leads w.new marks.old marks.new (runs_handler P.functions t.0 h arg s)) }
+    ensures err { OnErr result ((s : State P P.State P.Shared) → StandsFor w.old s → IsCut marks.old marks.new (runs_handler P.functions t.0 h arg s).marks) }
+    ensures handled { OnOk result (IsHandled w.old w.new) }
+{
+    marks.push(Mark::Handler {
+        tid: t,
+        handler: h,
+        arg,
+    })?;
+    run_handler(w, t, h, arg, marks)
+}
