@@ -7,7 +7,8 @@ use Rattle.pth_model.specs.State.{State, Control}
 use Rattle.pth_model.specs.Transition.{Change, changes}
 use Rattle.pth_model.specs.Verdict.{Verdict, Says, by_result}
 use Rattle.pth_world.specs.Leading.{Changed, IsAnswered}
-use Rattle.pth_world.specs.Shows.{Shows, StandsFor}
+use Rattle.pth_world.specs.Shows.{Shows, StandsFor, resources_of}
+use Rattle.pth_world.proofs.Telling.{has_still}
 use Rattle.pth_world.specs.World.{WorldOf}
 
 -- the result r is that of the call, from world w to world v
@@ -19,18 +20,22 @@ module _ {P S H A : Type 0} (w v : WorldOf P S H) (say : A → Answer) (r : Stat
   abbrev IsPlain : Type 0
   IsPlain = (x : A) → refuses (said x) ≡ false
 
-  effect_by : IsPlain → (s : State P S H) (q : Result A Errno) → OnOk q (Shows v (g s s.control)) → OnErr q (Shows v s.control) → Changed v s (effect_of (by_result said q trying changes (g s)) s)
-  effect_by plain s (Ok x) shows same =
-      let Q : Bool → Type 0 = λ b. Changed v s (unless_refused b (changes (g s)) s) in
-      subst Q (sym (plain x)) (record { shows = shows; resources = refl; silent = refl })
-  effect_by plain s (Err e) shows same = record { shows = same; resources = refl; silent = refl }
+  effect_by : IsPlain → (s : State P S H) (q : Result A Errno) → OnOk q (Shows v (g s s.control)) → OnErr q (Shows v s.control) → s.resources ≡ resources_of v → Changed v (effect_of (by_result said q trying changes (g s)) s)
+  effect_by plain s (Ok x) shows same has =
+      let Q : Bool → Type 0 = λ b. Changed v (unless_refused b (changes (g s)) s) in
+      subst Q (sym (plain x)) (record { shows = shows; resources = has; silent = refl })
+  effect_by plain s (Err e) shows same has = record { shows = same; resources = has; silent = refl }
 
-  pub decided : IsPlain → (q : Result A Errno) (a : Answer) → by_result said q ≡ Says a → ((s : State P S H) → StandsFor w s → q ≡ r s) → OnOk q ((s : State P S H) → StandsFor w s → Shows v (g s s.control)) → OnErr q (v ≡ w) → IsAnswered w v a (λ s. by_result said (r s) trying changes (g s))
-  decided plain q a says is ok same = record {
+  pub decided : IsPlain → (q : Result A Errno) (a : Answer) → by_result said q ≡ Says a → ((s : State P S H) → StandsFor w s → q ≡ r s) → OnOk q ((s : State P S H) → StandsFor w s → Shows v (g s s.control)) → OnErr q (v ≡ w) → OnOk q (v.store ≡ w.store) → IsAnswered w v a (λ s. by_result said (r s) trying changes (g s))
+  decided plain q a says is ok same stored = record {
     verdict = λ s st. ap (by_result said) (sym (is s st)) ∙ says;
-    effect = λ s st. subst (λ (x : Result A Errno). Changed v s (effect_of (by_result said x trying changes (g s)) s)) (is s st) (effect_by plain s q (ok_at s st q ok) (err_at s st q same));
+    effect = λ s st. subst (λ (x : Result A Errno). Changed v (effect_of (by_result said x trying changes (g s)) s)) (is s st) (effect_by plain s q (ok_at s st q ok) (err_at s st q same) (has_still w v s (store_at q same stored) st.resources));
   }
     where
+      store_at : (x : Result A Errno) → OnErr x (v ≡ w) → OnOk x (v.store ≡ w.store) → v.store ≡ w.store
+      store_at (Ok x) h k = k
+      store_at (Err e) h k = ap (λ (z : WorldOf P S H). z.store) h
+
       ok_at : (s : State P S H) → StandsFor w s → (x : Result A Errno) → OnOk x ((u : State P S H) → StandsFor w u → Shows v (g u u.control)) → OnOk x (Shows v (g s s.control))
       ok_at s st (Ok x) h = h s st
       ok_at s st (Err e) h = tt

@@ -23,7 +23,7 @@ module _ {P S H : Type 0} (w : WorldOf P S H) (x : KernelOf) (v : Kernel → Ver
   attempt s = v s.control.kernel trying changes (with_kernel h)
 
   pub kernel_passes : (a : Answer) → refuses (Says a) ≡ false → v (kernel_of w.kernel) ≡ Says a → kernel_of x ≡ h (kernel_of w.kernel) → IsAnswered w (record w { kernel = x }) a attempt
-  kernel_passes a passes is changed = passed_answered w (record w { kernel = x }) a attempt (λ s. with_kernel h) passes (λ s st. ap v st.control.kernel ∙ is) (λ s. refl) (λ s st. turned_shows w x h s.control st.control changed)
+  kernel_passes a passes is changed = passed_answered w (record w { kernel = x }) a attempt (λ s. with_kernel h) passes (λ s st. ap v st.control.kernel ∙ is) (λ s. refl) (λ s st. turned_shows w x h s.control st.control changed) refl
 
   pub kernel_refuses : (e : Errno) → v (kernel_of w.kernel) ≡ refused e → x ≡ w.kernel → IsAnswered w (record w { kernel = x }) (Fail e) attempt
   kernel_refuses e is same =

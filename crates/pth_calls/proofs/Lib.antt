@@ -6,3 +6,4 @@ pub mod Plains
 pub mod GivenValues
 pub mod Spawning
 pub mod Yielding
+pub mod Storing

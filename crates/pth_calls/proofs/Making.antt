@@ -25,7 +25,7 @@ use Rattle.pth_world.specs.Leading.{IsAnswered}
 use Rattle.pth_world.specs.World.{WorldOf}
 use Rattle.pth_world.proofs.Events.{kept_shows}
 use Rattle.pth_calls.specs.Lines.{event_line}
-use Rattle.pth_calls.specs.Saying.{SaysRefusal}
+use Rattle.pth_end.specs.Saying.{SaysRefusal}
 use Rattle.pth_calls.proofs.Deciding.{decided}
 
 number_answered : (q : Result ℕ Errno) (e : EventId) → AnswersEvent q (Ok e) → Ok e.0 ≡ q
@@ -51,7 +51,7 @@ module _ {P S H : Type 0} (w : WorldOf P S H) (x : RingsOf) (spec : EventSpec) (
       (λ n. refl) (Ok e.0) (Int (pos e.0)) refl
       (λ s st. number_answered (r (events_of w.events)) e answers ∙ sym (ap r st.control.events))
       (λ s st. kept_shows w x (g spec) s.control st.control changed)
-      tt)
+      tt refl)
 
   pub event_refused : (o : Option EventSpec) (e : Refusal) (a : Answer) → o ≡ Some spec → AnswersEvent (r (events_of w.events)) (Err e) → x ≡ w.events → SaysRefusal e a → making o a
   event_refused o (refusal.Fail e) a is answers same says =
@@ -60,7 +60,7 @@ module _ {P S H : Type 0} (w : WorldOf P S H) (x : RingsOf) (spec : EventSpec) (
       (λ n. refl) (Err e) a (ap (λ (b : Answer). Says b) (sym says))
       (λ s st. error_answered (r (events_of w.events)) e answers ∙ sym (ap r st.control.events))
       tt
-      (ap (λ (y : RingsOf). record w { events = y }) same))
+      (ap (λ (y : RingsOf). record w { events = y }) same) tt)
   event_refused o refusal.OutOfMemory a is answers same says = absurd says
 
 module _ {P S H : Type 0} (f : P → Functions S H) where

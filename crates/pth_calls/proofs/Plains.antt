@@ -1,5 +1,5 @@
 -- How a plain call begins, and the rows of calls that are not built.
-use Rattle.std.proofs.Common.{◌≡◌, ◌≢◌, ◌∙◌, ℕ, ℤ, ap, Bool, true, false, List, [], ◌∷◌, ◌++◌, Option, Some, None, refl}
+use Rattle.std.proofs.Common.{◌≡◌, ◌≢◌, ◌∙◌, ℕ, ℤ, ap, sym, Bool, true, false, List, [], ◌∷◌, ◌++◌, Option, Some, None, refl}
 use Rattle.pth_base.specs.Program.{Functions}
 use Rattle.pth_base.specs.Facilities.{facility_of}
 use Rattle.pth_base.specs.declared.answer.Answer.{Answer}
@@ -21,74 +21,73 @@ use Rattle.pth_model.specs.Transition.{Went, tid, tells, ◌and_then◌, ◌and_
 use Rattle.pth_model.specs.Verdict.{Verdict, Says}
 use Rattle.pth_world.specs.World.{WorldOf}
 use Rattle.pth_world.specs.Shows.{StandsFor}
-use Rattle.pth_world.specs.Leading.{Leads, IsAnswered, IsQuiet}
-use Rattle.pth_calls.proofs.Answers.{changed_leads}
+use Rattle.pth_world.specs.Leading.{Leads, IsTold, IsQuiet}
 
 -- the one call of library control that ends nothing
 pub quiet_library_call : (t : Tid) (c : Call) (a : Answer) → is_plain c ≡ true → facility_of c ≡ Some facility.Library → IsQuiet (Answered t c a)
 unfolding told answer_told
-quiet_library_call t (call.Ctrl q) a plain library = refl
+quiet_library_call t (call.Ctrl q) a plain library = λ x. refl
 quiet_library_call t call.Kill a plain library = absurd (cc plain)
 quiet_library_call t c a plain library = absurd (cc library)
 
 -- calls on attribute objects touch no resource by their answers
 pub quiet_attribute_call : (t : Tid) (c : Call) (a : Answer) → facility_of c ≡ Some facility.Attributes → IsQuiet (Answered t c a)
 unfolding told answer_told
-quiet_attribute_call t call.AttrNew a attributes = refl
-quiet_attribute_call t (call.AttrOf n) a attributes = refl
-quiet_attribute_call t (call.AttrInit x) a attributes = refl
-quiet_attribute_call t (call.AttrSet x v) a attributes = refl
-quiet_attribute_call t (call.AttrGet x field) a attributes = refl
-quiet_attribute_call t (call.AttrDestroy x) a attributes = refl
+quiet_attribute_call t call.AttrNew a attributes = λ x. refl
+quiet_attribute_call t (call.AttrOf n) a attributes = λ x. refl
+quiet_attribute_call t (call.AttrInit x) a attributes = λ x. refl
+quiet_attribute_call t (call.AttrSet x v) a attributes = λ x. refl
+quiet_attribute_call t (call.AttrGet x field) a attributes = λ x. refl
+quiet_attribute_call t (call.AttrDestroy x) a attributes = λ x. refl
 quiet_attribute_call t c a attributes = absurd (cc attributes)
 
 -- and neither do calls of thread control
 pub quiet_thread_call : (t : Tid) (c : Call) (a : Answer) → facility_of c ≡ Some facility.Threads → IsQuiet (Answered t c a)
 unfolding told answer_told
-quiet_thread_call t (call.Spawn b v x) a threads = refl
-quiet_thread_call t (call.Once o h v) a threads = refl
-quiet_thread_call t call.SelfTid a threads = refl
-quiet_thread_call t (call.Suspend n) a threads = refl
-quiet_thread_call t (call.Resume n) a threads = refl
-quiet_thread_call t (call.Yield n) a threads = refl
-quiet_thread_call t (call.Nap l) a threads = refl
-quiet_thread_call t (call.Wait e) a threads = refl
-quiet_thread_call t (call.Cancel n) a threads = refl
-quiet_thread_call t (call.Abort n) a threads = refl
-quiet_thread_call t (call.Join n) a threads = refl
-quiet_thread_call t (call.Exit v) a threads = refl
+quiet_thread_call t (call.Spawn b v x) a threads = λ x. refl
+quiet_thread_call t (call.Once o h v) a threads = λ x. refl
+quiet_thread_call t call.SelfTid a threads = λ x. refl
+quiet_thread_call t (call.Suspend n) a threads = λ x. refl
+quiet_thread_call t (call.Resume n) a threads = λ x. refl
+quiet_thread_call t (call.Yield n) a threads = λ x. refl
+quiet_thread_call t (call.Nap l) a threads = λ x. refl
+quiet_thread_call t (call.Wait e) a threads = λ x. refl
+quiet_thread_call t (call.Cancel n) a threads = λ x. refl
+quiet_thread_call t (call.Abort n) a threads = λ x. refl
+quiet_thread_call t (call.Join n) a threads = λ x. refl
+quiet_thread_call t (call.Exit v) a threads = λ x. refl
 quiet_thread_call t c a threads = absurd (cc threads)
 
 -- nor do utilities
 pub quiet_utility_call : (t : Tid) (c : Call) (a : Answer) → facility_of c ≡ Some facility.Utilities → IsQuiet (Answered t c a)
 unfolding told answer_told
-quiet_utility_call t (call.Fdmode d m) a utilities = refl
-quiet_utility_call t (call.Timeout n) a utilities = refl
+quiet_utility_call t (call.Fdmode d m) a utilities = λ x. refl
+quiet_utility_call t (call.Timeout n) a utilities = λ x. refl
 quiet_utility_call t c a utilities = absurd (cc utilities)
 
 -- nor do calls on events
 pub quiet_event_call : (t : Tid) (c : Call) (a : Answer) → facility_of c ≡ Some facility.Events → IsQuiet (Answered t c a)
 unfolding told answer_told
-quiet_event_call t (call.EvFd goals fd) a events = refl
-quiet_event_call t (call.EvSelect r w x) a events = refl
-quiet_event_call t (call.EvTime m) a events = refl
-quiet_event_call t (call.EvMsg p) a events = refl
-quiet_event_call t (call.EvCond c) a events = refl
-quiet_event_call t (call.EvTid state n) a events = refl
-quiet_event_call t (call.EvFunc c v l) a events = refl
-quiet_event_call t (call.Chain e l) a events = refl
-quiet_event_call t (call.EvConcat e g) a events = refl
-quiet_event_call t (call.EvIsolate e) a events = refl
-quiet_event_call t (call.EvWalk e forward until_occurred) a events = refl
-quiet_event_call t (call.EvStatus e) a events = refl
-quiet_event_call t (call.EvKind e) a events = refl
-quiet_event_call t (call.EvFree e all) a events = refl
+quiet_event_call t (call.EvFd goals fd) a events = λ x. refl
+quiet_event_call t (call.EvSelect r w x) a events = λ x. refl
+quiet_event_call t (call.EvTime m) a events = λ x. refl
+quiet_event_call t (call.EvMsg p) a events = λ x. refl
+quiet_event_call t (call.EvCond c) a events = λ x. refl
+quiet_event_call t (call.EvTid state n) a events = λ x. refl
+quiet_event_call t (call.EvFunc c v l) a events = λ x. refl
+quiet_event_call t (call.Chain e l) a events = λ x. refl
+quiet_event_call t (call.EvConcat e g) a events = λ x. refl
+quiet_event_call t (call.EvIsolate e) a events = λ x. refl
+quiet_event_call t (call.EvWalk e forward until_occurred) a events = λ x. refl
+quiet_event_call t (call.EvStatus e) a events = λ x. refl
+quiet_event_call t (call.EvKind e) a events = λ x. refl
+quiet_event_call t (call.EvFree e all) a events = λ x. refl
 quiet_event_call t c a events = absurd (cc events)
 
 -- nor does close
 pub quiet_close : (t : Tid) (d : ℤ) (a : Answer) → IsQuiet (Answered t (call.Close d) a)
 unfolding told answer_told
-quiet_close t d a = refl
+quiet_close t d a = λ x. refl
 
 -- ---- the facilities of which some plain call is built
 
@@ -98,6 +97,8 @@ has_code facility.Attributes = true
 has_code facility.Threads = true
 has_code facility.Utilities = true
 has_code facility.Events = true
+has_code facility.Keys = true
+has_code facility.Cleanups = true
 has_code facility.Io = true
 has_code x = false
 
@@ -112,6 +113,8 @@ pub record IsOther (x : Facility) : Type 0 where
   pub threads : x ≢ facility.Threads
   pub utilities : x ≢ facility.Utilities
   pub events : x ≢ facility.Events
+  pub keys : x ≢ facility.Keys
+  pub cleanups : x ≢ facility.Cleanups
   pub io : x ≢ facility.Io
 
 pub other_facility : (x : Facility) → IsOther x → is_of_code (Some x) ≡ false
@@ -120,6 +123,8 @@ other_facility facility.Attributes other = absurd (other.attributes refl)
 other_facility facility.Threads other = absurd (other.threads refl)
 other_facility facility.Utilities other = absurd (other.utilities refl)
 other_facility facility.Events other = absurd (other.events refl)
+other_facility facility.Keys other = absurd (other.keys refl)
+other_facility facility.Cleanups other = absurd (other.cleanups refl)
 other_facility facility.Io other = absurd (other.io refl)
 other_facility x other = refl
 
@@ -137,8 +142,11 @@ module _ {P S H : Type 0} (f : P → Functions S H) (s : State P S H) (t : ℕ) 
   pub begun_answered : (c : Call) (a : Answer) → is_plain c ≡ true → (row_of f s t c).begin.verdict ≡ Says a → begun f t c s ≡ answered c a
   begun_answered c a plain is = begun_plain c plain ∙ ap (λ (v : Verdict). begun_by f t c v (effect_of (row_of f s t c).begin) s) is
 
-  pub answered_leads : (w v : WorldOf P S H) (c : Call) (a : Answer) (old new : List Mark) → IsQuiet (Answered (tid t) c a) → StandsFor w s → IsAnswered w v a (λ u. (row_of f u t c).begin) → new ≡ old ++ Answered (tid t) c a ∷ [] → Leads v old new (answered c a).told
-  answered_leads w v c a old new quiet st is appended = changed_leads v s (effect_of (row_of f s t c).begin) (Answered (tid t) c a) old new quiet st.resources (is.effect s st) appended
+  pub answered_leads : (w v : WorldOf P S H) (c : Call) (a : Answer) (old new : List Mark) → StandsFor w s → IsTold w v (Answered (tid t) c a) a (λ u. (row_of f u t c).begin) → new ≡ old ++ Answered (tid t) c a ∷ [] → Leads v old new (answered c a).told
+  answered_leads w v c a old new st is appended = record {
+    stands = is.stands s st;
+    tells = appended ∙ ap (λ (ms : List Mark). old ++ (ms ++ Answered (tid t) c a ∷ [])) (sym (is.silent s st));
+  }
 
   -- the calls of the other facilities
   pub unbuilt_row : (c : Call) → is_plain c ≡ true → is_of_code (facility_of c) ≡ false → row_of f s t c ≡ unbuilt
@@ -189,6 +197,13 @@ module _ {P S H : Type 0} (f : P → Functions S H) (s : State P S H) (t : ℕ) 
   unbuilt_row (call.Select r w x l) plain none = absurd (cc plain)
   unbuilt_row (call.SelectEv r w x l e) plain none = absurd (cc plain)
   unbuilt_row (call.Close d) plain none = absurd (cc none)
+  unbuilt_row (call.Once o h v) plain none = absurd (cc none)
+  unbuilt_row (call.KeyCreate h) plain none = absurd (cc none)
+  unbuilt_row (call.KeyDelete k) plain none = absurd (cc none)
+  unbuilt_row (call.KeySet k v) plain none = absurd (cc none)
+  unbuilt_row (call.KeyGet k) plain none = absurd (cc none)
+  unbuilt_row (call.CleanupPush h v) plain none = absurd (cc none)
+  unbuilt_row (call.CleanupPop v) plain none = absurd (cc none)
   unbuilt_row call.Plain plain none = absurd (cc plain)
   unbuilt_row (call.Note v) plain none = absurd (cc plain)
   unbuilt_row c plain none = refl
@@ -197,7 +212,7 @@ module _ {P S H : Type 0} (f : P → Functions S H) (s : State P S H) (t : ℕ) 
   pub unbuilt_thread_row : (c : Call) → is_plain c ≡ true → facility_of c ≡ Some facility.Threads → ((b v a : _) → c ≢ call.Spawn b v a) → c ≢ call.SelfTid → ((n : _) → c ≢ call.Suspend n) → ((n : _) → c ≢ call.Resume n) → row_of f s t c ≡ unbuilt
   unfolding row_of
   unbuilt_thread_row (call.Spawn b v a) plain threads no_spawn no_self no_suspend no_resume = absurd (no_spawn b v a refl)
-  unbuilt_thread_row (call.Once o h v) plain threads no_spawn no_self no_suspend no_resume = refl
+  unbuilt_thread_row (call.Once o h v) plain threads no_spawn no_self no_suspend no_resume = absurd (cc plain)
   unbuilt_thread_row call.SelfTid plain threads no_spawn no_self no_suspend no_resume = absurd (no_self refl)
   unbuilt_thread_row (call.Suspend n) plain threads no_spawn no_self no_suspend no_resume = absurd (no_suspend n refl)
   unbuilt_thread_row (call.Resume n) plain threads no_spawn no_self no_suspend no_resume = absurd (no_resume n refl)

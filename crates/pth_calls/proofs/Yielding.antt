@@ -33,4 +33,4 @@ module _ {P S H : Type 0} (f : P → Functions S H) (s : State P S H) (t : ℕ) 
 
 pub quiet-yield : (t : ℕ) (n : ℤ) → IsQuiet (Answered (tid t) (call.Yield n) (Int (pos 1)))
 unfolding told answer_told
-quiet-yield t n = refl
+quiet-yield t n = λ x. refl

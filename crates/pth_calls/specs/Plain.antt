@@ -5,7 +5,7 @@ use Rattle.pth_base.specs.declared.call.Call.TheVariants as call
 use Rattle.pth_base.specs.declared.query.Query.{Query}
 use Rattle.pth_base.specs.declared.query.Query.TheVariants as query
 
--- of those that are built: all but these; a plain line and a note call nothing
+-- of those that are built: all but these; a plain line and a note call nothing, and two run handlers before they are answered
 abbrev pub is_plain : Call → Bool
 is_plain call.Kill = false
 is_plain (call.Yield n) = false
@@ -25,6 +25,8 @@ is_plain (call.Connect f) = false
 is_plain (call.ConnectEv f e) = false
 is_plain (call.Select r w x l) = false
 is_plain (call.SelectEv r w x l e) = false
+is_plain (call.CleanupPop v) = false
+is_plain (call.Once o h v) = false
 is_plain call.Plain = false
 is_plain (call.Note v) = false
 is_plain c = true

@@ -12,7 +12,6 @@ ghost use Rattle.pth_world.specs.Leading.{IsAnswered, IsQuiet};
 ghost use Rattle.pth_world.specs.Numbering.{HasNumbers};
 ghost use Rattle.pth_world.specs.Whole.{Whole};
 
-use crate::saying::{done, refused};
 use pth_base::answer::Answer;
 use pth_base::attr::{AttrField, AttrValue};
 use pth_base::call::Call;
@@ -20,6 +19,7 @@ use pth_base::errno::Errno;
 use pth_base::ids::Tid;
 use pth_base::memory::OutOfMemory;
 use pth_base::program::Program;
+use pth_end::saying::{done, refused};
 use pth_world::world::World;
 
 // The value of a field, as an answer.

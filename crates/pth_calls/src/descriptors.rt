@@ -13,10 +13,10 @@ ghost use Rattle.pth_world.specs.Frame.{Frame};
 ghost use Rattle.pth_world.specs.Leading.{IsAnswered, IsQuiet};
 ghost use Rattle.pth_world.specs.Whole.{Whole};
 
-use crate::saying::done;
 use pth_base::answer::Answer;
 use pth_base::call::Call;
 use pth_base::program::Program;
+use pth_end::saying::done;
 use pth_world::world::World;
 
 // close: a descriptor is live never again.

@@ -15,7 +15,6 @@ ghost use Rattle.pth_world.specs.Leading.{IsAnswered, IsQuiet};
 ghost use Rattle.pth_world.specs.Numbering.{HasNumbers};
 ghost use Rattle.pth_world.specs.Whole.{Whole};
 
-use crate::saying::{done, refused};
 use pth_base::answer::Answer;
 use pth_base::call::Call;
 use pth_base::errno::Errno;
@@ -23,6 +22,7 @@ use pth_base::event::{EvLine, EventSpec};
 use pth_base::ids::Tid;
 use pth_base::memory::OutOfMemory;
 use pth_base::program::Program;
+use pth_end::saying::{done, refused};
 use pth_model::times::moment_of;
 use pth_ring::event::Status;
 use pth_world::world::World;

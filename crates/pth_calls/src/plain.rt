@@ -9,15 +9,17 @@ ghost use Rattle.pth_model.specs.Rows.{row_of};
 ghost use Rattle.pth_model.specs.State.{State};
 ghost use Rattle.pth_model.specs.declared.next.Next.TheVariants as next;
 ghost use Rattle.pth_world.specs.Frame.{Frame};
-ghost use Rattle.pth_world.specs.Leading.{Leads, IsAnswered, IsQuiet};
+ghost use Rattle.pth_world.specs.Leading.{Leads, IsTold};
 ghost use Rattle.pth_world.specs.Numbering.{HasNumbers};
 ghost use Rattle.pth_world.specs.Shows.{StandsFor};
 ghost use Rattle.pth_world.specs.Whole.{Whole};
 
 use crate::answering::answer_call;
 use crate::attribute_handling::answer_attributes;
+use crate::cleanups::answer_cleanups;
 use crate::descriptors::answer_descriptors;
 use crate::event_handling::answer_events;
+use crate::key_storage::answer_keys;
 use crate::library_control::answer_library;
 use crate::thread_control::answer_threads;
 use crate::utilities::answer_utilities;
@@ -37,8 +39,7 @@ fn answer<P: Program>(w: &mut World<P>, t: Tid, call: &Call) -> Result<Answer, O
     requires runs { w.old.scheduler.running ≡ Some t.0 }
     requires few { HasNumbers w.old }
     requires plain { is_plain call.now ≡ true }
-    ensures answered { IfOk result (λ a. IsAnswered w.old w.new a (λ (s : State P P.State P.Shared). (row_of P.functions s t.0 call.now).begin)) }
-    ensures quiet { IfOk result (λ a. IsQuiet (Answered t call.now a)) }
+    ensures told { IfOk result (λ a. IsTold w.old w.new (Answered t call.now a) a (λ (s : State P P.State P.Shared). (row_of P.functions s t.0 call.now).begin)) }
     ensures frame { OnOk result (Frame w.old w.new 1 (Some t.0) false) }
 {
     let facility = match call.facility() {
@@ -51,6 +52,8 @@ fn answer<P: Program>(w: &mut World<P>, t: Tid, call: &Call) -> Result<Answer, O
         Facility::Threads => answer_threads(w, t, call),
         Facility::Utilities => Ok(answer_utilities(w, call)),
         Facility::Events => answer_events(w, t, call),
+        Facility::Keys => answer_keys(w, t, call),
+        Facility::Cleanups => answer_cleanups(w, t, call),
         Facility::Io => Ok(answer_descriptors(w, call)),
         _ => Ok(Answer::Fail(Errno::EINVAL)),
     }

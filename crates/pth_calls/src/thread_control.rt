@@ -206,7 +206,7 @@ fn name_next<P: Program>(w: &mut World<P>, t: Tid, to: i64) -> bool
     requires whole { Whole w.old }
     requires runs { w.old.scheduler.running ≡ Some t.0 }
     ensures verdict { (s : State P P.State P.Shared) → StandsFor w.old s → (yield_row s t.0 to).begin.verdict ≡ (if result then Yields (Int (pos 1)) else refused EINVAL) }
-    ensures effect { (s : State P P.State P.Shared) → StandsFor w.old s → Changed w.new s (effect_of (yield_row s t.0 to).begin s) }
+    ensures effect { (s : State P P.State P.Shared) → StandsFor w.old s → Changed w.new (effect_of (yield_row s t.0 to).begin s) }
     ensures frame { Frame w.old w.new 0 (Some t.0) result }
 {
     if to == 0 {

@@ -1,5 +1,5 @@
 -- A run ends with main's value where main is alone.
-use Rattle.std.proofs.Common.{◌≡◌, ℕ, ◌==◌, ◌&&◌, ◌||◌, not, ◌+◌, nat_lt, nat_le, length, if◌then◌else◌, ℤ, pos, Bool, true, false, Option, Some, None, Result, Ok, Err, refl, sym, ap, ◌∙◌, subst, List, [], ◌∷◌, ◌++◌}
+use Rattle.std.proofs.Common.{◌≡◌, ℕ, ◌==◌, ◌&&◌, ◌||◌, not, ◌+◌, nat_lt, nat_le, length, if◌then◌else◌, ℤ, pos, Bool, true, false, Option, Some, None, is_none, Result, Ok, Err, refl, sym, ap, ◌∙◌, subst, append_assoc, List, [], ◌∷◌, ◌++◌}
 use Rattle.pth_base.proofs.Tables.{same_means}
 use Rattle.pth_base.specs.Program.{Functions}
 use Rattle.pth_base.specs.declared.call.Call.{Call}
@@ -13,8 +13,8 @@ use Rattle.pth_model.specs.declared.next.Next.{Next}
 use Rattle.pth_model.specs.declared.next.Next.TheVariants as next
 use Rattle.pth_model.specs.declared.progress.Progress.{Progress}
 use Rattle.pth_model.specs.Verdict.{Verdict, Says, Yields, Blocks, Ends, Kills, Pause, no_pause, waits, refused, says, done, by_result, said_or, counts_or, ◌when◌otherwise◌, refused_as◌otherwise◌}
-use Rattle.pth_model.specs.State.{State, Control, Given, Turn, start, queue, present, main, now_of}
-use Rattle.pth_model.specs.Transition.{Piece, Change, Went, tid, controlled}
+use Rattle.pth_model.specs.State.{State, Control, Given, Turn, start, queue, present, main, now_of, once_limit}
+use Rattle.pth_model.specs.Transition.{Piece, Change, Went, tid, controlled, ◌and_then◌}
 use Rattle.pth_base.specs.declared.answer.Answer.{Answer}
 use Rattle.pth_base.specs.declared.answer.Answer.TheVariants.{Int, Text, Fail}
 use Rattle.pth_base.specs.declared.errno.Errno.{Errno}
@@ -32,7 +32,10 @@ use Rattle.pth_model.specs.Changes.{blocked_of, goes_on, entry_of, or_nobody, wi
 use Rattle.pth_model.specs.Course.{Course}
 use Rattle.pth_model.specs.Row.{Attempt, effect_of}
 use Rattle.pth_model.specs.Rows.{row_of}
-use Rattle.pth_model.specs.Ending.{ending}
+use Rattle.pth_model.specs.Ending.{ending, undoes_wait, runs_cleanups, runs_destructors}
+use Rattle.pth_model.specs.Cleanups.{last_pushed}
+use Rattle.pth_store.specs.Cleanups.{push_answer}
+use Rattle.pth_store.specs.Keys.{key_create_answer, key_delete_answer, key_set_answer, key_get_answer}
 use Rattle.pth_model.specs.ThreadEnds.{is_alone, must_wait}
 use Rattle.pth_model.specs.Calls.{begun, begun_by, resumed, resumed_by, tried_by, unless_come, interrupted}
 use Rattle.pth_model.specs.EventHandling.{spec_of, made_as, make_event, chain, wait, number_or_none, status_number}
@@ -296,6 +299,13 @@ module _ {P S H : Type 0} (f : P → Functions S H) (t : ℕ) (v : ℤ) where
   exits s (call.EvStatus e) h = absurd (result_on (λ x. Int (pos (status_number x))) (status_answer s.control.events (number e)) v h)
   exits s (call.EvKind e) h = absurd (result_on (λ (n : ℕ). Int (pos n)) (kind_answer s.control.events (number e)) v h)
   exits s (call.EvFree e all) h = absurd (done_on (free_answer s.control.events (number e)) v h)
+  exits s (call.KeyCreate d) h = absurd (result_on (λ (n : ℕ). Int (pos n)) (key_create_answer s.resources.store.keys) v h)
+  exits s (call.KeyDelete k) h = absurd (done_on (key_delete_answer s.resources.store.keys k) v h)
+  exits s (call.KeySet k x) h = absurd (done_on (key_set_answer s.resources.store.keys k) v h)
+  exits s (call.KeyGet k) h = absurd (result_on (λ (x : ℤ). Int x) (key_get_answer s.resources.store.keys t k) v h)
+  exits s (call.CleanupPush d x) h = absurd (done_on (push_answer s.resources.store.cleanups t) v h)
+  exits s (call.CleanupPop x) h = absurd (refused_on EINVAL (is_none (last_pushed f s t)) (says 1) (says_on (Int (pos 1))) v h)
+  exits s (call.Once o d x) h = absurd (refused_on EINVAL (not (is_below o once_limit)) (says 1) (says_on (Int (pos 1))) v h)
   exits s (call.Wait e) h = absurd (wait_on f s t e v h)
   exits s (call.Close d) h = absurd (close_on f s t d v h)
   exits s c h = absurd (cc h)
@@ -355,17 +365,25 @@ module _ {P S H : Type 0} (f : P → Functions S H) (t : ℕ) (v : ℤ) where
       by_verdict (Ends x) h = h
       by_verdict Kills h = absurd (cc h)
 
-  ending_told : (s : State P S H) → (ending f t v s).marks ≡ End (tid t) v ∷ []
+  -- what is told last of a thread that ends
+  ending_told : (s : State P S H) → (before : List Mark) × ((ending f t v s).marks ≡ before ++ End (tid t) v ∷ [])
   unfolding ending
-  ending_told s = refl
+  ending_told s =
+      let cleaned = (undoes_wait t and_then runs_cleanups f t) s in
+      let destructed = runs_destructors f t cleaned.state in
+      (cleaned.marks ++ destructed.marks, sym (append_assoc cleaned.marks destructed.marks (End (tid t) v ∷ [])))
 
-  -- what ends its thread with v: it need not wait, and this is told
+  -- what ends its thread with v: it need not wait, and this is told last
   record EndsIt (k : Control P S H) (marks : List Mark) : Type 0 where
     free : must_wait k t ≡ false
-    told : marks ≡ End (tid t) v ∷ []
+    before : List Mark
+    told : marks ≡ before ++ End (tid t) v ∷ []
+
+  ends_by : (k : Control P S H) (marks : List Mark) (s : State P S H) → must_wait k t ≡ false → marks ≡ (ending f t v s).marks → EndsIt k marks
+  ends_by k marks s unlocked same = let last = ending_told s in record { free = unlocked; before = last.0; told = same ∙ last.1 }
 
   of_exit : (s : State P S H) (c : Call) → (c ≡ call.Exit v) × (must_wait s.control t ≡ false) → EndsIt s.control (begun f t c s).told.marks
-  of_exit s c x = subst (λ (y : Call). EndsIt s.control (begun f t y s).told.marks) (sym x.0) (record { free = x.1; told = ap (λ (w : Went P S H). w.told.marks) (exit_ends f s t v x.1) ∙ ending_told s })
+  of_exit s c x = subst (λ (y : Call). EndsIt s.control (begun f t y s).told.marks) (sym x.0) (ends_by s.control _ s x.1 (ap (λ (w : Went P S H). w.told.marks) (exit_ends f s t v x.1)))
 
   exit_began : (s : State P S H) (c : Call) → (begun f t c s).next ≡ next.Ended v → (c ≡ call.Exit v) × (must_wait s.control t ≡ false)
   unfolding begun
@@ -389,7 +407,7 @@ module _ {P S H : Type 0} (f : P → Functions S H) (t : ℕ) (v : ℤ) where
           let come = has_event_come s.control.events (ring_given b.call) in
           let a = unless_come come ((row_of f s t b.call).again b) in
           let x = exits_again s b b.call (come_verdict come ((row_of f s t b.call).again b) (tried_verdict b a.verdict (effect_of a s).state h)) in
-          record { free = x.1; told = ap (λ (w : Went P S H). w.told.marks) (again_ends f s t v b at x.0 x.1) ∙ ending_told s }
+          ends_by s.control _ s x.1 (ap (λ (w : Went P S H). w.told.marks) (again_ends f s t v b at x.0 x.1))
 
   steps_ends : (s : State P S H) → (steps_on f t s).next ≡ next.Ended v → EndsIt s.control (steps_on f t s).told.marks
   unfolding goes_on is_alone
@@ -398,7 +416,7 @@ module _ {P S H : Type 0} (f : P → Functions S H) (t : ℕ) (v : ℤ) where
       by_progress : (b : Option Blocked) (p : Option (Progress S)) → (steps_by f t b p s).next ≡ next.Ended v → EndsIt s.control (steps_by f t b p s).told.marks
       by_progress (Some b) p h = resumed_ends s h
       by_progress None None h = resumed_ends s h
-      by_progress None (Some p) h = (let b = begun_ends _ _ h in record { free = b.free; told = b.told })
+      by_progress None (Some p) h = (let b = begun_ends _ _ h in record { free = b.free; before = b.before; told = b.told })
 
 -- who is main, and whose call ended it
 turn_ended : (t : ℕ) (v : ℤ) (n : Next) (x : Turn) → x.outcome ≡ Running → (turn_after t n x).outcome ≡ Ended v → ((t == main) ≡ true) × (n ≡ next.Ended v)
@@ -419,14 +437,15 @@ module _ {P S H : Type 0} where
   record EndsMain (x : Turn) (s : State P S H) (marks : List Mark) (v : ℤ) : Type 0 where
     step : next_part s x ≡ Step main
     alone : is_alone s.control main ≡ true
-    told : marks ≡ End (tid main) v ∷ []
+    before : List Mark
+    told : marks ≡ before ++ End (tid main) v ∷ []
 
-  step_ends : (f : P → Functions S H) (x : Turn) (s : State P S H) (t : ℕ) (v : ℤ) → x.outcome ≡ Running → (steps f x t s).turn.outcome ≡ Ended v → (t ≡ main) × (is_alone s.control t ≡ true) × ((steps f x t s).marks ≡ End (tid t) v ∷ [])
+  step_ends : (f : P → Functions S H) (x : Turn) (s : State P S H) (t : ℕ) (v : ℤ) → x.outcome ≡ Running → (steps f x t s).turn.outcome ≡ Ended v → (t ≡ main) × (is_alone s.control t ≡ true) × ((before : List Mark) × ((steps f x t s).marks ≡ before ++ End (tid t) v ∷ []))
   unfolding steps
   step_ends f x s t v on e =
       let main_is = turn_ended t v (steps_on f t s).next (record x { steps = x.steps + 1 }) on e in
       let ends = steps_ends f t v s main_is.1 in
-      (same_means t main main_is.0, alone_by (t == main) (is_alone s.control t) main_is.0 ends.free, ends.told)
+      (same_means t main main_is.0, alone_by (t == main) (is_alone s.control t) main_is.0 ends.free, (ends.before, ends.told))
 
   part_ends : (f : P → Functions S H) (x : Turn) (s : State P S H) (v : ℤ) (p : Part) → next_part s x ≡ p → x.outcome ≡ Running → (part_by f x s p).turn.outcome ≡ Ended v → EndsMain x s (part_by f x s p).marks v
   unfolding moves takes closes
@@ -442,7 +461,7 @@ module _ {P S H : Type 0} where
       by_next (Some t) h = absurd (running_ended v (sym on ∙ h))
   part_ends f x s v (Step t) comes on e =
       let k = step_ends f x s t v on e in
-      record { step = comes ∙ ap Step k.0; alone = subst (λ (u : ℕ). is_alone s.control u ≡ true) k.0 k.1; told = k.2 ∙ ap (λ (u : ℕ). End (tid u) v ∷ []) k.0 }
+      record { step = comes ∙ ap Step k.0; alone = subst (λ (u : ℕ). is_alone s.control u ≡ true) k.0 k.1; before = k.2.0; told = k.2.1 ∙ ap (λ (u : ℕ). k.2.0 ++ End (tid u) v ∷ []) k.0 }
   part_ends f x s v (Close t) comes on e = absurd (running_ended v (sym on ∙ e))
   part_ends f x s v Halt comes on e = absurd (running_ended v (sym on ∙ e))
 
@@ -458,4 +477,4 @@ module _ {P S H : Type 0} where
     ends_alone = run_ends.alone
 
     pub ends_told : (before : List Mark) × IsBetween f g i (i + 1) (before ++ End (tid main) v ∷ [])
-    ends_told = ([], subst (λ (m : List Mark). IsBetween f g i (i + 1) m) run_ends.told (between-more f g i i [] (between-none f g i)))
+    ends_told = (run_ends.before, subst (λ (m : List Mark). IsBetween f g i (i + 1) m) run_ends.told (between-more f g i i [] (between-none f g i)))

@@ -15,6 +15,7 @@ use Rattle.pth_model.specs.Pass.{moment, pass}
 use Rattle.pth_model.specs.Resources.{told as told_of}
 use Rattle.pth_model.specs.State.{State, Control, Scheduler, Turn, queue}
 use Rattle.pth_model.specs.Transition.{changes, tells, ◌and_then◌}
+use Rattle.pth_world.proofs.Telling.{has_still}
 use Rattle.pth_world.specs.World.{WorldOf}
 use Rattle.pth_world.specs.Shows.{Shows}
 use Rattle.pth_world.specs.Leading.{Leads}
@@ -65,10 +66,10 @@ module _ {P S H : Type 0} where
     abbrev pub before_pass : Course P S H
     before_pass = record { state = moved t c.state; turn = c.turn; marks = [] }
 
-    pub moved_stands : (m v : MachineOf P S H) → v.turn ≡ m.turn → ((k : Control P S H) → Shows m.world k → Shows v.world (moves_to t k)) → Stands m c → Stands v before_pass
+    pub moved_stands : (m v : MachineOf P S H) → v.turn ≡ m.turn → ((k : Control P S H) → Shows m.world k → Shows v.world (moves_to t k)) → v.world.store ≡ m.world.store → Stands m c → Stands v before_pass
     unfolding told_of
-    moved_stands m v turn shows st = record {
-      world = record { control = shows c.state.control st.world.control; resources = st.world.resources };
+    moved_stands m v turn shows stored st = record {
+      world = record { control = shows c.state.control st.world.control; resources = has_still m.world v.world c.state stored st.world.resources };
       turn = st.turn ∙ sym turn;
       memory = λ e. st.memory (ap (λ (x : Turn). x.outcome) (sym turn) ∙ e);
     }

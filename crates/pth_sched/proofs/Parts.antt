@@ -21,8 +21,9 @@ use Rattle.pth_model.specs.Transition.{silent, controlled, tid}
 use Rattle.pth_model.specs.Pass.{moment, pass}
 use Rattle.pth_model.specs.Part.{Part, Halt, Move, part, part_by, next_part, next_part_by, unless_ended, moves, takes, dispatches, steps, steps_by, steps_on, closes, runs, turn_ends, readies_new, chosen, rank_by, is_idle, owes_after, turn_after, gives_up, ends_run}
 use Rattle.pth_model.specs.Resources.{told as told_of}
+use Rattle.pth_world.proofs.Telling.{has_still}
 use Rattle.pth_world.specs.World.{WorldOf}
-use Rattle.pth_world.specs.Shows.{Shows}
+use Rattle.pth_world.specs.Shows.{Shows, StandsFor}
 use Rattle.pth_world.specs.Leading.{Leads}
 use Rattle.pth_sched.specs.MachineOf.{MachineOf}
 use Rattle.pth_sched.specs.Running.{Stands, Makes}
@@ -98,17 +99,21 @@ module _ {P S H : Type 0} (m : MachineOf P S H) (c : Course P S H) (st : Stands 
     tells = leads.tells;
   }
 
+  -- a turn is over
+  pub turn_over : (t : ℕ) (v : WorldOf P S H) → Shows v (turn_ends t c.state.control) → v.store ≡ m.world.store → StandsFor v (controlled (turn_ends t) c.state)
+  turn_over t v shows stored = record { control = shows; resources = has_still m.world v c.state stored st.world.resources }
+
   -- a thread is dispatched
   pub take_makes : (t : ℕ) (rank : ℤ) (w u : WorldOf P S H) (time : ℕ) (old new : List Mark) → Shows w (readies_new c.state.control) → Some t ≡ chosen (readies_new c.state.control).scheduler.preferred (queue (readies_new c.state.control) queues.Ready)
-      → rank ≡ rank_by (place_in t (queue (readies_new c.state.control) queues.Ready)) → time ≡ w.kernel.now → Shows u (runs t (readies_new c.state.control)) → new ≡ old ++ Dispatch (m.turn.turns + 1) time (tid t) rank 0 0 ∷ []
+      → rank ≡ rank_by (place_in t (queue (readies_new c.state.control) queues.Ready)) → time ≡ w.kernel.now → Shows u (runs t (readies_new c.state.control)) → u.store ≡ m.world.store → new ≡ old ++ Dispatch (m.turn.turns + 1) time (tid t) rank 0 0 ∷ []
       → Makes (record { world = u; turn = record m.turn { turns = m.turn.turns + 1 } }) old new (takes c.turn c.state)
   unfolding takes dispatches told_of
-  take_makes t rank w u time old new ready next rank_is time_is shows told =
+  take_makes t rank w u time old new ready next rank_is time_is shows stored told =
       let k = readies_new c.state.control in
       let now : now_of k ≡ time = ap (λ (x : Kernel). x.now) ready.kernel ∙ sym time_is in
       rw (← next) record {
         stands = record {
-          world = record { control = shows; resources = st.world.resources };
+          world = record { control = shows; resources = has_still m.world u c.state stored st.world.resources };
           turn = ap (λ (x : Turn). record x { turns = x.turns + 1 }) st.turn;
           memory = st.memory;
         };
@@ -117,13 +122,13 @@ module _ {P S H : Type 0} (m : MachineOf P S H) (c : Course P S H) (st : Stands 
 
   -- a call that was made, and what it leads to, are a step
   pub step_makes : (f : P → Functions S H) (v : MachineOf P S H) (t : ℕ) (w : WorldOf P S H) (n : Next) (old new : List Mark) → n ≡ (steps_on f t c.state).next → Leads w old new (steps_on f t c.state).told
-      → ((k : Control P S H) → Shows w k → Shows v.world (owes_after t n k)) → v.turn ≡ turn_after t n (record m.turn { steps = m.turn.steps + 1 }) → v.turn.outcome ≢ OutOfMemory → Makes v old new (steps f c.turn t c.state)
+      → ((k : Control P S H) → Shows w k → Shows v.world (owes_after t n k)) → v.world.store ≡ w.store → v.turn ≡ turn_after t n (record m.turn { steps = m.turn.steps + 1 }) → v.turn.outcome ≢ OutOfMemory → Makes v old new (steps f c.turn t c.state)
   unfolding steps
-  step_makes f v t w n old new next leads settles turn memory =
+  step_makes f v t w n old new next leads settles stored turn memory =
       let went = steps_on f t c.state in
       record {
         stands = record {
-          world = record { control = subst (λ (x : Next). Shows v.world (owes_after t x went.told.state.control)) next (settles went.told.state.control leads.stands.control); resources = leads.stands.resources };
+          world = record { control = subst (λ (x : Next). Shows v.world (owes_after t x went.told.state.control)) next (settles went.told.state.control leads.stands.control); resources = has_still w v.world went.told.state stored leads.stands.resources };
           turn = ap (λ (x : Turn). turn_after t went.next (record x { steps = x.steps + 1 })) st.turn ∙ ap (λ (x : Next). turn_after t x (record m.turn { steps = m.turn.steps + 1 })) (sym next) ∙ sym turn;
           memory = memory;
         };

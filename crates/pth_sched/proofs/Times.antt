@@ -165,6 +165,7 @@ module _ {P S H : Type 0} (f : P → Functions S H) (t n : ℕ) where
     exchanged = λ u o k is. is;
     evented = λ x k is. is;
     described = λ ds k is. is;
+    used = λ o k is. is;
     left = left_at;
     vanished = λ k is. is;
   }

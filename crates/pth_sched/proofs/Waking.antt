@@ -22,6 +22,7 @@ use Rattle.pth_world.specs.Sound.{IsSound, IsKnown}
 use Rattle.pth_world.specs.Touches.{KeepsRest, SameThreads}
 use Rattle.pth_base.specs.Cut.{IsCut}
 use Rattle.pth_world.specs.Leading.{Leads}
+use Rattle.pth_world.proofs.Telling.{has_still}
 use Rattle.pth_world.proofs.QueueReads.{once_thread, stands_at}
 use Rattle.pth_world.proofs.Walks.{in-readied}
 use Rattle.pth_sched.specs.Passing.{IsWaiting, IsNotIn, WaitOnce}
@@ -29,10 +30,10 @@ use Rattle.pth_sched.specs.Passing.{IsWaiting, IsNotIn, WaitOnce}
 -- ---- one thread
 
 module _ {P S H : Type 0} where
-  pub woken_leads : (w v : WorldOf P S H) (s : State P S H) (t : ℕ) (rank : ℤ) (old new : List Mark) → StandsFor w s → rank ≡ prio_of s.control t +ℤ pos 1 → Shows v (is_ready_at t rank false s.control) → new ≡ old ++ Woke (tid t) rank ∷ [] → Leads v old new (woken t s)
+  pub woken_leads : (w v : WorldOf P S H) (s : State P S H) (t : ℕ) (rank : ℤ) (old new : List Mark) → StandsFor w s → v.store ≡ w.store → rank ≡ prio_of s.control t +ℤ pos 1 → Shows v (is_ready_at t rank false s.control) → new ≡ old ++ Woke (tid t) rank ∷ [] → Leads v old new (woken t s)
   unfolding woken told_of
-  woken_leads w v s t rank old new stands is st told = record {
-    stands = record { control = subst (λ (r : ℤ). Shows v (is_ready_at t r false s.control)) is st; resources = stands.resources };
+  woken_leads w v s t rank old new stands stored is st told = record {
+    stands = record { control = subst (λ (r : ℤ). Shows v (is_ready_at t r false s.control)) is st; resources = has_still w v s stored stands.resources };
     tells = subst (λ (r : ℤ). new ≡ old ++ Woke (tid t) r ∷ []) is told;
   }
 
@@ -143,9 +144,9 @@ module _ {P S H : Type 0} where
       }
 
   -- a pass wakes those that it listed
-  module _ (f : P → Functions S H) (w v : WorldOf P S H) (s : State P S H) (st : StandsFor w s) (ts : List ℕ) (old new : List Mark) (is : ts ≡ to_wake f s) (seen : Shows v (looks s.control)) where
+  module _ (f : P → Functions S H) (w v : WorldOf P S H) (s : State P S H) (st : StandsFor w s) (ts : List ℕ) (old new : List Mark) (is : ts ≡ to_wake f s) (seen : Shows v (looks s.control)) (stored : v.store ≡ w.store) where
     stands_seen : StandsFor v (controlled looks s)
-    stands_seen = record { control = seen; resources = st.resources }
+    stands_seen = record { control = seen; resources = has_still w v s stored st.resources }
 
     pub pass_leads : (x : WorldOf P S H) → ((u : State P S H) → StandsFor v u → Leads x old new (all_woken ts u)) → Leads x old new (pass f s)
     unfolding pass
@@ -169,5 +170,7 @@ module _ {P S H : Type 0} where
     attributes = ap (λ (x : WorldOf P S H). x.attributes) same;
     events = made;
     kernel = ap (λ (x : WorldOf P S H). x.kernel) same;
+    store = ap (λ (x : WorldOf P S H). x.store) same;
+    used = ap (λ (x : WorldOf P S H). x.used) same;
     scheduler = ap (λ (x : WorldOf P S H). x.scheduler) same;
   }

@@ -114,6 +114,7 @@ fn place<P: Program>(w: &mut World<P>, t: Tid)
     ensures running { w.new.scheduler.running ≡ None }
     ensures preferred { w.new.scheduler.preferred ≡ w.old.scheduler.preferred }
     ensures gives { GivesNone w.old w.new }
+    ensures store { w.new.store ≡ w.old.store }
     ensures ranks { KeepsRanks 0 w.old.threads w.new.threads }
     ensures stays { (u : ℕ) → WaitsToRun w.old.threads u → WaitsToRun w.new.threads u }
 {
@@ -148,6 +149,7 @@ pub fn end_turn<P: Program>(w: &mut World<P>, t: Tid)
     ensures running { w.new.scheduler.running ≡ None }
     ensures preferred { w.new.scheduler.preferred ≡ w.old.scheduler.preferred }
     ensures gives { GivesNone w.old w.new }
+    ensures store { w.new.store ≡ w.old.store }
     ensures ranks { (roof : ℕ) → greatest_return ≤ roof → IsUnder roof w.old.threads.queues.ready → IsUnder (roof + 1) w.new.threads.queues.ready }
     ensures fresh { length w.new.threads.queues.new ≤ length w.old.threads.queues.new }
     ensures stays { (u : ℕ) → WaitsToRun w.old.threads u → WaitsToRun w.new.threads u }

@@ -15,7 +15,7 @@ use Rattle.pth_model.specs.declared.progress.Progress.{Progress}
 use Rattle.pth_model.specs.Calls.{answers, blocks, interrupted, resumed, unless_come, tried, tried_by, waits_by}
 use Rattle.pth_model.specs.Changes.{blocked_of, blocked_in, blocking, goes_on, is_blocked_by}
 use Rattle.pth_model.specs.RingWaits.{ring_given, claims, stops_waiting, has_event_come}
-use Rattle.pth_model.specs.Resources.{told, answer_told, no_resources}
+use Rattle.pth_model.specs.Resources.{told, answer_told}
 use Rattle.pth_model.specs.Row.{Attempt, effect_of}
 use Rattle.pth_model.specs.Rows.{row_of}
 use Rattle.pth_model.specs.State.{Control, State}
@@ -25,50 +25,51 @@ use Rattle.pth_world.specs.World.{WorldOf}
 use Rattle.pth_world.proofs.Ranks.{ranks_none, ranks_same}
 use Rattle.pth_world.specs.Frame.{Frame}
 use Rattle.pth_world.specs.Leading.{Leads, IsQuiet}
-use Rattle.pth_world.specs.Shows.{Shows, StandsFor}
+use Rattle.pth_world.specs.Shows.{Shows, StandsFor, resources_of}
+use Rattle.pth_world.specs.Store.{store_of}
 use Rattle.pth_world.specs.Whole.{Whole, MayBlock, MayBlockAs}
 use Rattle.pth_waits.specs.Blocking.{HasClaimed}
 
 -- that a thread waits changes nothing else
 pub quiet-waits : (t : ℕ) (c : Call) → MayBlockAs t c → IsQuiet (Waits (tid t) c)
 unfolding told
-quiet-waits t (call.Exit v) may = refl
-quiet-waits t (call.Join n) may = refl
-quiet-waits t (call.Nap n) may = refl
-quiet-waits t (call.Usleep n) may = refl
-quiet-waits t (call.Sleep n) may = refl
-quiet-waits t (call.Wait e) may = refl
-quiet-waits t (call.Read f n) may = refl
-quiet-waits t (call.ReadEv f n e) may = refl
-quiet-waits t (call.Write f bytes) may = refl
-quiet-waits t (call.WriteEv f bytes e) may = refl
-quiet-waits t (call.Accept f) may = refl
-quiet-waits t (call.AcceptEv f e) may = refl
-quiet-waits t (call.Connect f) may = refl
-quiet-waits t (call.ConnectEv f e) may = refl
-quiet-waits t (call.Select r w x l) may = refl
-quiet-waits t (call.SelectEv r w x l e) may = refl
+quiet-waits t (call.Exit v) may = λ x. refl
+quiet-waits t (call.Join n) may = λ x. refl
+quiet-waits t (call.Nap n) may = λ x. refl
+quiet-waits t (call.Usleep n) may = λ x. refl
+quiet-waits t (call.Sleep n) may = λ x. refl
+quiet-waits t (call.Wait e) may = λ x. refl
+quiet-waits t (call.Read f n) may = λ x. refl
+quiet-waits t (call.ReadEv f n e) may = λ x. refl
+quiet-waits t (call.Write f bytes) may = λ x. refl
+quiet-waits t (call.WriteEv f bytes e) may = λ x. refl
+quiet-waits t (call.Accept f) may = λ x. refl
+quiet-waits t (call.AcceptEv f e) may = λ x. refl
+quiet-waits t (call.Connect f) may = λ x. refl
+quiet-waits t (call.ConnectEv f e) may = λ x. refl
+quiet-waits t (call.Select r w x l) may = λ x. refl
+quiet-waits t (call.SelectEv r w x l e) may = λ x. refl
 quiet-waits t c may = absurd may
 
 -- and neither does the answer
 pub quiet-answered : (t : ℕ) (c : Call) (a : Answer) → MayBlockAs t c → IsQuiet (Answered (tid t) c a)
 unfolding told answer_told
-quiet-answered t (call.Exit v) a may = refl
-quiet-answered t (call.Join n) a may = refl
-quiet-answered t (call.Nap n) a may = refl
-quiet-answered t (call.Usleep n) a may = refl
-quiet-answered t (call.Sleep n) a may = refl
-quiet-answered t (call.Wait e) a may = refl
-quiet-answered t (call.Read f n) a may = refl
-quiet-answered t (call.ReadEv f n e) a may = refl
-quiet-answered t (call.Write f bytes) a may = refl
-quiet-answered t (call.WriteEv f bytes e) a may = refl
-quiet-answered t (call.Accept f) a may = refl
-quiet-answered t (call.AcceptEv f e) a may = refl
-quiet-answered t (call.Connect f) a may = refl
-quiet-answered t (call.ConnectEv f e) a may = refl
-quiet-answered t (call.Select r w x l) a may = refl
-quiet-answered t (call.SelectEv r w x l e) a may = refl
+quiet-answered t (call.Exit v) a may = λ x. refl
+quiet-answered t (call.Join n) a may = λ x. refl
+quiet-answered t (call.Nap n) a may = λ x. refl
+quiet-answered t (call.Usleep n) a may = λ x. refl
+quiet-answered t (call.Sleep n) a may = λ x. refl
+quiet-answered t (call.Wait e) a may = λ x. refl
+quiet-answered t (call.Read f n) a may = λ x. refl
+quiet-answered t (call.ReadEv f n e) a may = λ x. refl
+quiet-answered t (call.Write f bytes) a may = λ x. refl
+quiet-answered t (call.WriteEv f bytes e) a may = λ x. refl
+quiet-answered t (call.Accept f) a may = λ x. refl
+quiet-answered t (call.AcceptEv f e) a may = λ x. refl
+quiet-answered t (call.Connect f) a may = λ x. refl
+quiet-answered t (call.ConnectEv f e) a may = λ x. refl
+quiet-answered t (call.Select r w x l) a may = λ x. refl
+quiet-answered t (call.SelectEv r w x l e) a may = λ x. refl
 quiet-answered t c a may = absurd may
 
 -- a call that blocks already
@@ -86,14 +87,14 @@ unfolding claims
 none_claimed w t c s none st = rw none st
 
 -- a call blocks its thread
-pub waits_leads : {P S H : Type 0} (w : WorldOf P S H) (s : State P S H) (t : ℕ) (c : Call) (p : Pause) (old new : List Mark) → MayBlockAs t c → s.resources ≡ no_resources → Shows w (blocks t c p (claims t (ring_given c) s.control)) → new ≡ old ++ Waits (tid t) c ∷ [] → Leads w old new (waits_by t c p s)
+pub waits_leads : {P S H : Type 0} (w : WorldOf P S H) (s : State P S H) (t : ℕ) (c : Call) (p : Pause) (old new : List Mark) → MayBlockAs t c → s.resources ≡ resources_of w → Shows w (blocks t c p (claims t (ring_given c) s.control)) → new ≡ old ++ Waits (tid t) c ∷ [] → Leads w old new (waits_by t c p s)
 waits_leads w s t c p old new may none sh appended =
-    record { stands = record { control = sh; resources = ap (λ k. told k (Waits (tid t) c)) none ∙ quiet-waits t c may }; tells = appended }
+    record { stands = record { control = sh; resources = ap (λ k. told k (Waits (tid t) c)) none ∙ quiet-waits t c may (store_of w.store) }; tells = appended }
 
 -- the call that blocks a thread is answered
-pub answers_leads : {P S H : Type 0} (f : P → Functions S H) (w : WorldOf P S H) (s : State P S H) (t : ℕ) (c : Call) (a : Answer) (old new : List Mark) → MayBlockAs t c → s.resources ≡ no_resources → Shows w (stops_waiting t s.control) → new ≡ old ++ Answered (tid t) c a ∷ [] → Leads w old new (answers f t c a s)
+pub answers_leads : {P S H : Type 0} (f : P → Functions S H) (w : WorldOf P S H) (s : State P S H) (t : ℕ) (c : Call) (a : Answer) (old new : List Mark) → MayBlockAs t c → s.resources ≡ resources_of w → Shows w (stops_waiting t s.control) → new ≡ old ++ Answered (tid t) c a ∷ [] → Leads w old new (answers f t c a s)
 answers_leads f w s t c a old new may none sh appended =
-    record { stands = record { control = sh; resources = ap (λ k. told k (Answered (tid t) c a)) none ∙ quiet-answered t c a may }; tells = appended }
+    record { stands = record { control = sh; resources = ap (λ k. told k (Answered (tid t) c a)) none ∙ quiet-answered t c a may (store_of w.store) }; tells = appended }
 
 -- what holds of the call that blocks
 pub held_at : {A : Type 0} (o : Option A) (Q : A → Type 0) (x : A) → o ≡ Some x → IfSome o Q → Q x
@@ -115,9 +116,9 @@ blocked_twice k t x y =
     ∙ ap (put p t) (blocking_twice (p t) x y))
 
 -- a call that blocks its thread waits on
-pub waits_on_leads : {P S H : Type 0} (w : WorldOf P S H) (s : State P S H) (t : ℕ) (b : Blocked) (old new : List Mark) → MayBlockAs t b.call → s.resources ≡ no_resources → Shows w (is_blocked_by t (Some b) s.control) → new ≡ old ++ Waits (tid t) b.call ∷ [] → Leads w old new ((changes (is_blocked_by t (Some b)) and_then tells (Waits (tid t) b.call)) s)
+pub waits_on_leads : {P S H : Type 0} (w : WorldOf P S H) (s : State P S H) (t : ℕ) (b : Blocked) (old new : List Mark) → MayBlockAs t b.call → s.resources ≡ resources_of w → Shows w (is_blocked_by t (Some b) s.control) → new ≡ old ++ Waits (tid t) b.call ∷ [] → Leads w old new ((changes (is_blocked_by t (Some b)) and_then tells (Waits (tid t) b.call)) s)
 waits_on_leads w s t b old new may none sh appended =
-    record { stands = record { control = sh; resources = ap (λ k. told k (Waits (tid t) b.call)) none ∙ quiet-waits t b.call may }; tells = appended }
+    record { stands = record { control = sh; resources = ap (λ k. told k (Waits (tid t) b.call)) none ∙ quiet-waits t b.call may (store_of w.store) }; tells = appended }
 
 -- a world of which the progress of threads alone is another one
 pub progress_frame : {P S H : Type 0} (w : WorldOf P S H) (p : List (Option (Progress S))) (r : Option ℕ) → w.scheduler.running ≡ r → Whole (record w { threads = record w.threads { progress = p } }) → Frame w (record w { threads = record w.threads { progress = p } }) 0 r false

@@ -23,7 +23,6 @@ use Rattle.pth_model.specs.RingWaits.{has_event_come, ring_given}
 use Rattle.pth_model.specs.Row.{Attempt, effect_of, refuses, unless_refused, ◌trying◌}
 use Rattle.pth_model.specs.Rows.{row_of}
 use Rattle.pth_model.specs.State.{Control, State}
-use Rattle.pth_model.specs.Resources.{no_resources}
 use Rattle.pth_model.specs.Transition.{Change, Piece, Transition, Went, changes, controlled, nothing, silent, tells, tid, ◌and_then◌}
 use Rattle.pth_model.specs.Verdict.{Verdict, Says, counts_or, refused, said_or, says, ◌when◌otherwise◌}
 use Rattle.pth_waits.proofs.Unchanged.{failed_same, idle_same}
@@ -165,8 +164,8 @@ module _ {P S H : Type 0} (f : P → Functions S H) (s : State P S H) (t : ℕ) 
       ap (λ (a : Attempt P S H). (effect_of a s).marks) (io_begin c io) ∙ no_word (refuses v) (with_kernel (first c).after)
 
   -- the world shows what its first attempt did
-  pub io_changed : (w : WorldOf P S H) (c : Call) → is_io c ≡ true → s.resources ≡ no_resources → StandsFor w (effect_of (row_of f s t c).begin s).state → Changed w s (effect_of (row_of f s t c).begin s)
-  io_changed w c io none st = record { shows = st.control; resources = st.resources ∙ sym none; silent = no_word_before c io }
+  pub io_changed : (w : WorldOf P S H) (c : Call) → is_io c ≡ true → StandsFor w (effect_of (row_of f s t c).begin s).state → Changed w (effect_of (row_of f s t c).begin s)
+  io_changed w c io st = record { shows = st.control; resources = st.resources; silent = no_word_before c io }
 
   first_tried : (c : Call) (m : ℕ) → is_refused_length kernel c ≡ false → first_trial kernel c m ≡ trial_for kernel (awaited_by c m 0)
   first_tried (call.Select r w x l) m fit = rw fit refl
@@ -277,7 +276,7 @@ io_held None t some h = absurd (cc some)
 
 -- where the kernel alone changed, the same call blocks the thread
 pub shows_before : {P S H : Type 0} (w : WorldOf P S H) (y : KernelOf) (k : Control P S H) → Shows (record w { kernel = y }) k → Shows w (record k { kernel = kernel_of w.kernel })
-shows_before w y k sh = record { program = sh.program; shared = sh.shared; threads = sh.threads; attributes = sh.attributes; events = sh.events; kernel = refl; scheduler = sh.scheduler }
+shows_before w y k sh = record { program = sh.program; shared = sh.shared; threads = sh.threads; attributes = sh.attributes; events = sh.events; kernel = refl; used = sh.used; scheduler = sh.scheduler }
 
 -- how much it has written is as much as it may have
 pub may_have_written : (c : Call) (m n i : ℕ) → is_io c ≡ true → MayHaveWritten c n → HasWritten (awaited_by c m n) i → MayHaveWritten c i

@@ -1,5 +1,5 @@
 -- A kill begins as its row says.
-use Rattle.std.proofs.Common.{◌≡◌, ℕ, ◌==◌, ◌&&◌, pos, Bool, true, false, cond, List, [], refl}
+use Rattle.std.proofs.Common.{◌≡◌, ℕ, ◌==◌, ◌&&◌, pos, Bool, true, false, refl}
 use mathlib.Core.Path.{fun_ext}
 use Rattle.pth_base.specs.Program.{Functions}
 use Rattle.pth_base.specs.declared.answer.Answer.TheVariants.{Int, Fail}
@@ -9,29 +9,21 @@ use Rattle.pth_base.specs.declared.mark.Mark.TheVariants.{Answered}
 use Rattle.pth_model.specs.declared.next.Next.TheVariants as next
 use Rattle.pth_model.specs.Calls.{begun}
 use Rattle.pth_model.specs.LibraryControl.{vanish_all_but}
-use Rattle.pth_model.specs.Resources.{Cleanup, told, answer_told}
+use Rattle.pth_model.specs.Resources.{Store, store_of_only, no_resources, told, answer_told}
 use Rattle.pth_model.specs.Rows.{row_of}
 use Rattle.pth_model.specs.State.{State, main}
 use Rattle.pth_model.specs.Transition.{tid, changes, tells, ◌and_then◌, ◌and_next◌}
-use Rattle.pth_world.specs.Leading.{IsQuiet}
-
-same_both : {A : Type 0} (b : Bool) (x : A) → cond b x x ≡ x
-same_both true x = refl
-same_both false x = refl
 
 and_false : (b : Bool) → (b && false) ≡ false
 and_false true = refl
 and_false false = refl
 
--- what nobody has, nobody loses
-pub quiet-kill : (t n : ℕ) → IsQuiet (Answered (tid t) call.Kill (Int (pos n)))
+-- only what the one thread stored is left
+pub kill-told : (x : Store) (t n : ℕ) → told (record no_resources { store = x }) (Answered (tid t) call.Kill (Int (pos n))) ≡ record no_resources { store = store_of_only t x }
 unfolding told answer_told
-quiet-kill t n =
-    let none : List Cleanup = [] in
-    let cleanups : (λ (u : ℕ). cond (u == t) none none) ≡ (λ u. none) = fun_ext (λ u. same_both (u == t) none) in
-    let values : (λ (k u : ℕ). cond (u == t) (pos 0) (pos 0)) ≡ (λ k u. pos 0) = fun_ext (λ k. fun_ext (λ u. same_both (u == t) (pos 0))) in
+kill-told x t n =
     let awaits : (λ (u : ℕ). (u == t) && false) ≡ (λ u. false) = fun_ext (λ u. and_false (u == t)) in
-    rw (cleanups, values, awaits) refl
+    rw awaits refl
 
 module _ {P S H : Type 0} (f : P → Functions S H) (s : State P S H) (t : ℕ) where
   pub kill_refused : (t == main) ≡ false → begun f t call.Kill s ≡ (tells (Answered (tid t) call.Kill (Fail EPERM)) and_next next.Done (Fail EPERM)) s

@@ -23,6 +23,8 @@ use pth_base::ids::Tid;
 use pth_base::marks::Marks;
 use pth_base::memory::OutOfMemory;
 use pth_base::program::Program;
+use pth_calls::cleanups::pop_cleanup;
+use pth_calls::once::once;
 use pth_calls::plain::begin_plain;
 use pth_calls::script_lines::note;
 use pth_calls::thread_control::yield_to;
@@ -48,6 +50,8 @@ fn begin_at_once<P: Program>(
     match call {
         Call::Kill => kill(w, t, call, marks),
         Call::Yield(to) => yield_to(w, t, call, *to, marks),
+        Call::CleanupPop(v) => pop_cleanup(w, t, call, *v, marks),
+        Call::Once { o, h, v } => once(w, t, call, *o, *h, *v, marks),
         Call::Plain => Ok(Next::Done(Answer::None)),
         Call::Note(value) => {
             note(t, *value, marks)?;
@@ -76,6 +80,7 @@ pub fn begin<P: Program>(
     ensures frame { IfOk result (λ n. Frame w.old w.new 1 (runs_after t.0 n) (yields_after n)) }
 {
     match call {
+        Call::Plain => Ok(Next::Done(Answer::None)),
         Call::Join(n) => begin_join(w, t, call, n, marks),
         Call::Exit(value) => begin_exit(w, t, call, value, marks),
         Call::Nap(_) | Call::Usleep(_) | Call::Sleep(_) => begin_rest(w, t, call, marks),

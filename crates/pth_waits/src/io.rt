@@ -130,6 +130,7 @@ fn claim_for<P: Program>(
     requires { Whole w.old }
     ensures answer { (s : State P P.State P.Shared) (written moment : ℕ) → StandsFor w.old s → is_no_ring s ring ≡ false → begins_waiting s at_once ring written moment ≡ waits_unless result moment written }
     ensures shows { OnOk result ((k : Control P P.State P.Shared) → Shows w.old k → Shows w.new (claims t.0 ring k)) }
+    ensures store { w.new.store ≡ w.old.store }
     ensures refused { OnErr result (w.new ≡ w.old) }
     ensures frame { Frame w.old w.new 0 w.old.scheduler.running false }
 {

@@ -1,6 +1,6 @@
 //! Joining: `pth_join`.
 
-ghost use Rattle.std.specs.Prelude.{◌≡◌, ◌≢◌, ℕ, false, Some, None, IfOk, IfSome, IsSome, OnOk, OnErr, option_map};
+ghost use Rattle.std.specs.Prelude.{◌≡◌, ℕ, false, Some, None, IfOk, IfSome, IsSome, OnOk, OnErr, option_map};
 ghost use Rattle.pth_base.specs.Cut.{IsCut};
 ghost use Rattle.pth_base.specs.declared.call.Call.TheVariants.{Join};
 ghost use Rattle.pth_model.specs.Calls.{begun, resumed};
@@ -19,8 +19,9 @@ ghost use Rattle.pth_world.specs.Frame.{Frame, runs_after, yields_after};
 ghost use Rattle.pth_world.specs.Leading.{Leads, Changed};
 ghost use Rattle.pth_world.specs.Shows.{Shows, StandsFor};
 ghost use Rattle.pth_world.specs.Sound.{IsSound, IsKnown};
-ghost use Rattle.pth_world.specs.Whole.{Whole, MayBlock};
+ghost use Rattle.pth_world.specs.Whole.{Whole, IsIn, MayBlock};
 ghost use Rattle.pth_threads.specs.Threads.{number_of};
+ghost use Rattle.pth_queue.specs.declared.queue.Queue.TheVariants as queue;
 
 use crate::blocks::{answer_blocked, block};
 use pth_base::answer::Answer;
@@ -53,7 +54,7 @@ fn first_joinable<P: Program>(w: &World<P>) -> Option<Tid>
     requires { Whole w.now }
     ensures first { (k : Control P P.State P.Shared) → Shows w.now k → option_map number_of result ≡ first_of (joinable_dead k) }
     ensures known { IfSome result (λ t. IsKnown w.now.threads t.0) }
-    ensures rests { IfSome result (λ t. w.now.scheduler.running ≢ Some t.0) }
+    ensures dead { IfSome result (λ t. IsIn queue.Dead w.now.threads t.0) }
 {
     let mut next = w.first(Queue::Dead);
     while let Some(t) = next {
@@ -70,7 +71,7 @@ fn to_join<P: Program>(w: &World<P>, n: i64) -> Option<Tid>
     requires { Whole w.now }
     ensures takes { (k : Control P P.State P.Shared) → Shows w.now k → option_map number_of result ≡ to_join_now k n }
     ensures known { IfSome result (λ t. IsKnown w.now.threads t.0) }
-    ensures rests { IfSome result (λ t. w.now.scheduler.running ≢ Some t.0) }
+    ensures dead { IfSome result (λ t. IsIn queue.Dead w.now.threads t.0) }
 {
     if n == 0 {
         return first_joinable(w);
@@ -119,9 +120,10 @@ fn refusal<P: Program>(w: &World<P>, t: Tid, n: i64) -> Option<Errno>
 fn take<P: Program>(w: &mut World<P>, other: Tid) -> i64
     requires whole { Whole w.old }
     requires known { IsKnown w.old.threads other.0 }
-    requires rests { w.old.scheduler.running ≢ Some other.0 }
+    requires dead { IsIn queue.Dead w.old.threads other.0 }
     ensures value { (k : Control P P.State P.Shared) → Shows w.old k → joined k (Some other.0) ≡ Says (Int result) }
     ensures shows { (k : Control P P.State P.Shared) → Shows w.old k → Shows w.new (removes other.0 k) }
+    ensures store { w.new.store ≡ w.old.store }
     ensures frame { Frame w.old w.new 0 w.old.scheduler.running false }
 {
     let value = match w.entry(other) {
@@ -137,7 +139,7 @@ fn attempt<P: Program>(w: &mut World<P>, t: Tid, n: i64) -> Option<Answer>
     requires whole { Whole w.old }
     requires runs { w.old.scheduler.running ≡ Some t.0 }
     ensures verdict { (s : State P P.State P.Shared) → StandsFor w.old s → (join_attempt s t.0 n).verdict ≡ said_or result waits }
-    ensures effect { (s : State P P.State P.Shared) → StandsFor w.old s → Changed w.new s (effect_of (join_attempt s t.0 n) s) }
+    ensures effect { (s : State P P.State P.Shared) → StandsFor w.old s → Changed w.new (effect_of (join_attempt s t.0 n) s) }
     ensures waits { result ≡ None → (s : State P P.State P.Shared) → StandsFor w.old s → effect_of (join_attempt s t.0 n) s ≡ silent s }
     ensures frame { Frame w.old w.new 0 (Some t.0) false }
 {

@@ -16,4 +16,4 @@ returns-clause-answered g c =
     (λ u. refl) c.attr_set.result c.done.result c.done.ensures
     (λ s st. rw (st.control.threads.known, st.control.attributes.objects) answer)
     (for_states c.args.w.now c.attr_set.new.self c.attr_set.result (λ k. sets_value c.args.a c.args.v.now (object k c.args.a) k) shows)
-    c.attr_set.ensures.refused
+    c.attr_set.ensures.refused c.attr_set.ensures.store

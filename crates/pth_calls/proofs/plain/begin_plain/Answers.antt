@@ -7,7 +7,7 @@ use Rattle.pth_calls.proofs.plain.begin_plain.Goals as goal
 pub returns-clause-next : goal.returns-clause-next
 returns-clause-next g c =
     let a = c.in_ok-answer.answer in
-    IfOk-weaker c.answer_call.result (λ x. x ≡ a) _ (λ x is s st. rw (begun_answered g.P.Program.functions s c.args.t.0 c.args.call.now a c.requires.plain (c.in_ok-answer.ensures.answered.verdict s st)) (ap Done is)) c.answer_call.ensures.value
+    IfOk-weaker c.answer_call.result (λ x. x ≡ a) _ (λ x is s st. rw (begun_answered g.P.Program.functions s c.args.t.0 c.args.call.now a c.requires.plain (c.in_ok-answer.ensures.told.verdict s st)) (ap Done is)) c.answer_call.ensures.value
 
 pub returns-clause-ok : goal.returns-clause-ok
 returns-clause-ok g c =
@@ -15,5 +15,5 @@ returns-clause-ok g c =
     let a = c.in_ok-answer.answer in
     let call = c.args.call.now in
     on_ok_weaker c.answer_call.result (λ told s st.
-    rw (begun_answered p s c.args.t.0 call a c.requires.plain (c.in_ok-answer.ensures.answered.verdict s st))
-    (answered_leads p s c.args.t.0 c.args.w.now c.answer.new.w call a _ _ c.in_ok-answer.ensures.quiet st c.in_ok-answer.ensures.answered told)) c.answer_call.ensures.ok
+    rw (begun_answered p s c.args.t.0 call a c.requires.plain (c.in_ok-answer.ensures.told.verdict s st))
+    (answered_leads p s c.args.t.0 c.args.w.now c.answer.new.w call a _ _ st c.in_ok-answer.ensures.told told)) c.answer_call.ensures.ok

@@ -21,7 +21,7 @@ returns-in-Spawn-clause-quiet g c = if_ok_all c.spawn.result _ (λ a. quiet_thre
 
 pub returns-in-SelfTid-clause-answered : goal.returns-in-SelfTid-clause-answered
 unfolding row_of
-returns-in-SelfTid-clause-answered g c = rw c.in-SelfTid.is (passed_answered c.args.w.now c.args.w.now _ _ (λ s. nothing) refl (λ s st. search rules) (λ s. refl) (λ s st. st.control))
+returns-in-SelfTid-clause-answered g c = rw c.in-SelfTid.is (passed_answered c.args.w.now c.args.w.now _ _ (λ s. nothing) refl (λ s st. search rules) (λ s. refl) (λ s st. st.control) refl)
 
 pub returns-in-SelfTid-clause-quiet : goal.returns-in-SelfTid-clause-quiet
 returns-in-SelfTid-clause-quiet g c = quiet_thread_call c.args.t c.args.call.now _ c.requires.threads

@@ -1,9 +1,10 @@
-use Rattle.std.proofs.Common.{◌≡◌, ◌∙◌, Ok, refl, sym, rules, SFits, w64, to_z-of_z}
+use Rattle.std.proofs.Common.{◌≡◌, ◌∙◌, Ok, refl, ap, sym, rules, SFits, w64, to_z-of_z}
 use Rattle.pth_base.specs.declared.errno.Errno.TheVariants.{EAGAIN}
 use Rattle.pth_numbered.specs.Operands.{number, is_below}
 use Rattle.pth_model.specs.State.{State}
 use Rattle.pth_model.specs.ThreadControl.{spawn, spawns, values_for, or_first}
 use Rattle.pth_world.specs.Shows.{StandsFor}
+use Rattle.pth_world.specs.World.{WorldOf}
 use Rattle.pth_calls.proofs.Answers.{passed_answered, refused_answered}
 use Rattle.pth_calls.proofs.Spawning.{body_named, spawns_same, no_room, is_made, or_first_is}
 use Rattle.pth_calls.proofs.thread_control.spawn.Goals as goal
@@ -34,3 +35,4 @@ returns-in-Ok-spawn-clause-answered g c =
     (λ s st. (
     let body = body_named c.in-Some.body.0 (number n) (is_below n (p s.control.program).bodies) (search rules) in
     spawns_same p _ s.control _ _ c.args.arg _ _ body.1 (or_first_is (values_for s.control c.args.t.0 c.args.attr) c.in-Ok.of (values s st)) ((rw to_z-of_z at c.in-Ok-spawn.ensures.shows) s.control st.control)))
+    (ap (λ (z : WorldOf _ _ _). z.store) c.in-Ok-spawn.ensures.same)

@@ -24,7 +24,7 @@ returns-then-not-name_next-clause-ok g c s st =
     let verdict = (simp (to_z-of_z, isnt) at c.name_next.ensures.verdict) s st in
     let effect = (simp to_z-of_z at c.name_next.ensures.effect) s st in
     rw (c.requires.call, yield_refused g.P.Program.functions s c.args.t.0 c.args.to (Fail EINVAL) verdict)
-    (changed_leads _ s (effect_of (yield s c.args.t.0 c.args.to).begin) _ _ _ (quiet-refused c.args.t (Yield c.args.to) EINVAL) st.resources effect (rw c.requires.call at c.in_ok-answer.ensures.ok))
+    (changed_leads _ s (effect_of (yield s c.args.t.0 c.args.to).begin) _ _ _ (quiet-refused c.args.t (Yield c.args.to) EINVAL) effect (rw c.requires.call at c.in_ok-answer.ensures.ok))
 
 pub returns-clause-next : goal.returns-clause-next
 returns-clause-next g c s st =
@@ -40,4 +40,4 @@ returns-clause-ok g c s st =
     let verdict = (simp (to_z-of_z, is) at c.name_next.ensures.verdict) s st in
     let effect = (simp to_z-of_z at c.name_next.ensures.effect) s st in
     rw (c.requires.call, yield_begun g.P.Program.functions s c.args.t.0 c.args.to (Int (pos 1)) verdict)
-    (changed_leads _ s (effect_of (yield s c.args.t.0 c.args.to).begin) _ _ _ (quiet-yield c.args.t.0 c.args.to) st.resources effect (rw c.requires.call at c.in_ok-answer-2.ensures.ok))
+    (changed_leads _ s (effect_of (yield s c.args.t.0 c.args.to).begin) _ _ _ (quiet-yield c.args.t.0 c.args.to) effect (rw c.requires.call at c.in_ok-answer-2.ensures.ok))

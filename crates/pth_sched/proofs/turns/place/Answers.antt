@@ -34,6 +34,9 @@ returns-then-is_some-clause-preferred g c = ap (λ w. w.scheduler.preferred) c.m
 pub returns-then-is_some-clause-gives : goal.returns-then-is_some-clause-gives
 returns-then-is_some-clause-gives g c = record { threads = c.make_waiting.ensures.threads.made; objects = ap (λ w. w.attributes.made) c.make_waiting.ensures.same; events = ap (λ w. w.events.made) c.make_waiting.ensures.same }
 
+pub returns-then-is_some-clause-store : goal.returns-then-is_some-clause-store
+returns-then-is_some-clause-store g c = ap (λ w. w.store) c.make_waiting.ensures.same
+
 pub returns-then-is_some-clause-ranks : goal.returns-then-is_some-clause-ranks
 returns-then-is_some-clause-ranks g c = c.make_waiting.ensures.ranks
 
@@ -48,6 +51,9 @@ returns-else-is_some-clause-preferred g c = ap (λ w. w.scheduler.preferred) c.p
 
 pub returns-else-is_some-clause-gives : goal.returns-else-is_some-clause-gives
 returns-else-is_some-clause-gives g c = record { threads = c.put_back.ensures.threads.made; objects = ap (λ w. w.attributes.made) c.put_back.ensures.same; events = ap (λ w. w.events.made) c.put_back.ensures.same }
+
+pub returns-else-is_some-clause-store : goal.returns-else-is_some-clause-store
+returns-else-is_some-clause-store g c = ap (λ w. w.store) c.put_back.ensures.same
 
 pub returns-else-is_some-clause-ranks : goal.returns-else-is_some-clause-ranks
 returns-else-is_some-clause-ranks g c = c.put_back.ensures.ranks

@@ -2,7 +2,7 @@ use Rattle.std.proofs.Common.{refl, sym, rules, SFits, w64, to_z-of_z}
 use Rattle.std.proofs.lemmas.List.{append-nil}
 use Rattle.pth_model.specs.Calls.{begun}
 use Rattle.pth_model.specs.Resources.{told}
-use Rattle.pth_world.proofs.Telling.{tells_leads}
+use Rattle.pth_world.proofs.Telling.{quiet_leads}
 use Rattle.pth_waits.proofs.Begins.{is_plain_call}
 use Rattle.pth_waits.proofs.begin.begin_at_once.Goals as goal
 
@@ -22,8 +22,8 @@ pub returns-in_ok-note-in-Note-clause-ok : goal.returns-in_ok-note-in-Note-claus
 unfolding begun told
 returns-in_ok-note-in-Note-clause-ok g c s st =
     let fits : SFits w64 c.in-Note.value = search rules in
-    rw c.in-Note.is (tells_leads _ s _ _ _ refl st (rw to_z-of_z at c.in_ok-note-in-Note.ensures.ok))
+    rw c.in-Note.is (quiet_leads _ s _ _ _ (λ x. refl) st (rw to_z-of_z at c.in_ok-note-in-Note.ensures.ok))
 
 pub begin_plain-requires-clause-plain : goal.begin_plain-requires-clause-plain
 begin_plain-requires-clause-plain g c =
-    is_plain_call c.args.call.now c.requires.never c.in_default.not-Kill c.in_default.not-Yield c.in_default.not-Plain c.in_default.not-Note
+    is_plain_call c.args.call.now c.requires.never c.in_default.not-Kill c.in_default.not-Yield c.in_default.not-Plain c.in_default.not-Note c.in_default.not-CleanupPop c.in_default.not-Once

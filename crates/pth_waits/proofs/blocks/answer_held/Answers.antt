@@ -1,8 +1,10 @@
-use Rattle.std.proofs.Common.{◌≡◌, ◌∙◌, Option, Some, IsSome, sym, subst}
+use Rattle.std.proofs.Common.{◌≡◌, ◌∙◌, Option, Some, IsSome, ap, sym, subst}
 use Rattle.pth_model.specs.declared.blocked.Blocked.{Blocked}
 use Rattle.pth_model.specs.Changes.{blocked_of}
 use Rattle.pth_world.proofs.StateOf.{stands_for_state}
 use Rattle.pth_world.specs.Whole.{MayBlock}
+use Rattle.pth_world.proofs.Telling.{has_still}
+use Rattle.pth_world.specs.World.{WorldOf}
 use Rattle.pth_waits.proofs.Blocking.{answers_leads, held_at}
 use Rattle.pth_waits.proofs.blocks.answer_held.Goals as goal
 
@@ -16,4 +18,4 @@ returns-clause-ok g c s st =
     let t = c.args.t.0 in
     let is : blocked_of s.control t ≡ Some c.in-Some.held = sym (c.unblock.ensures.blocked s.control st.control) ∙ c.in-Some.is in
     let may = held_at (blocked_of s.control t) (λ (b : Blocked). MayBlock t b) c.in-Some.held is (c.requires.may s.control st.control) in
-    rw is (answers_leads g.P.Program.functions _ s t c.in-Some.held.call c.args.answer _ _ may.call st.resources (c.unblock.ensures.shows s.control st.control) c.in_ok-answer-in-Some.ensures.ok)
+    rw is (answers_leads g.P.Program.functions _ s t c.in-Some.held.call c.args.answer _ _ may.call (has_still c.args.w.now c.unblock.new.self s (ap (λ (z : WorldOf _ _ _). z.store) c.unblock.ensures.same) st.resources) (c.unblock.ensures.shows s.control st.control) c.in_ok-answer-in-Some.ensures.ok)

@@ -7,6 +7,7 @@ use Rattle.pth_world.specs.Frame.{Frame}
 use Rattle.pth_world.specs.Shows.{Shows}
 use Rattle.pth_world.specs.Whole.{Whole, MayBlock, MayHaveWritten}
 use Rattle.pth_world.specs.World.{WorldOf}
+use Rattle.pth_world.proofs.Telling.{has_still}
 use Rattle.pth_waits.proofs.Blocking.{blocked_twice, held_at, progress_frame, waits_on_leads}
 use Rattle.pth_waits.proofs.blocks.wait_on.Goals as goal
 
@@ -22,7 +23,7 @@ returns-clause-ok g c s st =
     let is : blocked_of s.control t ≡ Some c.in-Some.held = sym (c.take_blocked.ensures.blocked s.control st.control) ∙ c.in-Some.is in
     let may = held_at (blocked_of s.control t) (λ (b : Blocked). MayBlock t b × MayHaveWritten b.call c.args.written) c.in-Some.held is (c.requires.may s.control st.control) in
     let shows = subst (λ (k : Control _ _ _). Shows c.block.new.self k) (blocked_twice s.control t (Some held) None) (c.block.ensures.shows _ (c.take_blocked.ensures.shows s.control st.control)) in
-    rw is (waits_on_leads _ s t held _ _ may.0.call st.resources shows (rw c.in_ok-copy.ensures at c.in_ok-push.ensures.ok))
+    rw is (waits_on_leads _ s t held _ _ may.0.call (has_still c.args.w.now c.block.new.self s (ap (λ (z : WorldOf _ _ _). z.store) c.block.ensures.same ∙ ap (λ (z : WorldOf _ _ _). z.store) c.take_blocked.ensures.same) st.resources) shows (rw c.in_ok-copy.ensures at c.in_ok-push.ensures.ok))
 
 pub returns-clause-frame : goal.returns-clause-frame
 returns-clause-frame g c =

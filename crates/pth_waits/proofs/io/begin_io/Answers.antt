@@ -24,7 +24,7 @@ returns-in-Some-clause-ok g c s st =
     let verdict = (rw c.in-Some.is at c.in_ok-trial.ensures.verdict) s st in
     let stands = (rw c.in-Some.is at c.in_ok-trial.ensures.stands) s st in
     rw (io_begins f s t call (Says c.in-Some.answer) c.requires.call verdict)
-    (changed_leads _ s (effect_of (row_of f s t call).begin) (Answered c.args.t call c.in-Some.answer) _ _ (quiet-answered t call c.in-Some.answer (io_may t call c.requires.call)) st.resources (io_changed f s t _ call c.requires.call st.resources stands) (rw c.in-Some.is at c.in_ok-answer.ensures.ok))
+    (changed_leads _ s (effect_of (row_of f s t call).begin) (Answered c.args.t call c.in-Some.answer) _ _ (quiet-answered t call c.in-Some.answer (io_may t call c.requires.call)) (io_changed f s t _ call c.requires.call stands) (rw c.in-Some.is at c.in_ok-answer.ensures.ok))
 
 pub returns-clause-next : goal.returns-clause-next
 returns-clause-next g c s st =

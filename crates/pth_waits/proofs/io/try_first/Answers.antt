@@ -3,6 +3,7 @@ use Rattle.pth_kernel.specs.Kernel.{Kernel}
 use Rattle.pth_model.specs.Awaits.{awaited_by}
 use Rattle.pth_model.specs.RingWaits.{ring_given}
 use Rattle.pth_waits.specs.Io.{blocks_on, is_at_once}
+use Rattle.pth_world.proofs.Telling.{has_still}
 use Rattle.pth_waits.proofs.IoCalls.{tried_now, stands_then, is_none, claims_nothing, first_said, first_waits, first_turned_away, waits_is}
 use Rattle.pth_waits.proofs.io.try_first.Goals as goal
 
@@ -51,7 +52,7 @@ returns-in-Ok-clause-stands g c s st able =
     let once = (rw c.kernel.ensures at c.is_at_once-at_once.ensures) ∙ ap (λ (k : Kernel). is_at_once k call) (sym st.control.kernel) in
     let waits = waits_is f s c.args.t.0 call c.requires.call able c.is_at_once-at_once.result c.ring_given.result x.written c.args.moment _ once ring tried.written (c.requires.moment s st) (c.in-Ok.ensures.answer _ x.written c.args.moment then (rw ring able.ring)) in
     let comes = first_waits f s c.args.t.0 call c.requires.call able c.args.moment x.written (sym tried.answer ∙ none) waits in
-    rw (none, comes.effect) (record { control = (rw ring at c.in-Ok.ensures.shows) _ then.control; resources = st.resources })
+    rw (none, comes.effect) (record { control = (rw ring at c.in-Ok.ensures.shows) _ then.control; resources = has_still c.args.w.now c.claim_for.new.w s c.in-Ok.ensures.store st.resources })
 
 pub returns-in-Err-clause-verdict : goal.returns-in-Err-clause-verdict
 returns-in-Err-clause-verdict g c s st able =

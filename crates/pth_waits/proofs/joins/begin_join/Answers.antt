@@ -23,7 +23,7 @@ returns-in-None-clause-ok g c s st =
     let verdict = (simp to_z-of_z at c.in-None.ensures.verdict) s st in
     let effect = (simp to_z-of_z at c.attempt.ensures.effect) s st in
     rw (c.requires.call, join_waits g.P.Program.functions s c.args.t.0 c.args.n verdict)
-    (changed_then c.attempt.new.w _ s (effect_of (join_attempt s c.args.t.0 c.args.n)) (waits_by c.args.t.0 (Join c.args.n) no_pause) _ _ st.resources effect (λ u su. (rw c.requires.call at c.in_ok-block-in-None.ensures.ok) u (none_claimed c.attempt.new.w c.args.t.0 (Join c.args.n) u refl su)))
+    (changed_then c.attempt.new.w _ s (effect_of (join_attempt s c.args.t.0 c.args.n)) (waits_by c.args.t.0 (Join c.args.n) no_pause) _ _ effect (λ u su. (rw c.requires.call at c.in_ok-block-in-None.ensures.ok) u (none_claimed c.attempt.new.w c.args.t.0 (Join c.args.n) u refl su)))
 
 pub returns-clause-next : goal.returns-clause-next
 returns-clause-next g c s st =
@@ -37,4 +37,4 @@ returns-clause-ok g c s st =
     let verdict = (simp to_z-of_z at c.in-Some.ensures.verdict) s st in
     let effect = (simp to_z-of_z at c.attempt.ensures.effect) s st in
     rw (c.requires.call, join_answers g.P.Program.functions s c.args.t.0 c.args.n c.in-Some.answer verdict)
-    (changed_leads _ s (effect_of (join_attempt s c.args.t.0 c.args.n)) (Answered c.args.t (Join c.args.n) c.in-Some.answer) _ _ (quiet-answered c.args.t.0 (Join c.args.n) c.in-Some.answer tt) st.resources effect (rw c.requires.call at c.in_ok-answer.ensures.ok))
+    (changed_leads _ s (effect_of (join_attempt s c.args.t.0 c.args.n)) (Answered c.args.t (Join c.args.n) c.in-Some.answer) _ _ (quiet-answered c.args.t.0 (Join c.args.n) c.in-Some.answer tt) effect (rw c.requires.call at c.in_ok-answer.ensures.ok))

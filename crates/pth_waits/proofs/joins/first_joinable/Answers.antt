@@ -1,8 +1,6 @@
 use Rattle.std.proofs.Common.{◌∙◌, Option, option_map, subst, sym}
 use Rattle.pth_base.specs.declared.ids.Tid.{Tid}
-use Rattle.pth_queue.specs.declared.queue.Queue.TheVariants.{Dead}
 use Rattle.pth_threads.specs.Threads.{number_of}
-use Rattle.pth_world.proofs.Moves.{queued_rests}
 use Rattle.pth_waits.proofs.Searching.{Searched, search_goes_on, search_finds, search_ends}
 use Rattle.pth_waits.proofs.joins.first_joinable.Goals as goal
 
@@ -10,8 +8,8 @@ pub returns-then-is_joinable-clause-first : goal.returns-then-is_joinable-clause
 returns-then-is_joinable-clause-first g c k sh =
     search_finds k c.in-Some.t.0 (sym (c.is_joinable.ensures k sh) ∙ c.if-is_joinable.true) (rw c.in-Some.is at (c.loop-next.invariant.searched k sh))
 
-pub returns-then-is_joinable-clause-rests : goal.returns-then-is_joinable-clause-rests
-returns-then-is_joinable-clause-rests g c = queued_rests c.args.w.now c.in-Some.t.0 Dead c.requires (rw c.in-Some.is at c.loop-next.invariant.stands)
+pub returns-then-is_joinable-clause-dead : goal.returns-then-is_joinable-clause-dead
+returns-then-is_joinable-clause-dead g c = rw c.in-Some.is at c.loop-next.invariant.stands
 
 pub loop-next-preserved : goal.loop-next-preserved
 loop-next-preserved g c = record {

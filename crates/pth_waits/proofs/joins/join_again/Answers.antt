@@ -1,4 +1,4 @@
-use Rattle.std.proofs.Common.{ap, subst, refl, rules, SFits, w64, to_z-of_z}
+use Rattle.std.proofs.Common.{◌≡◌, ap, subst, refl, rules, SFits, w64, to_z-of_z}
 use Rattle.pth_base.specs.declared.call.Call.TheVariants.{Join}
 use Rattle.pth_model.specs.Calls.{answers}
 use Rattle.pth_model.specs.Changes.{blocked_of}
@@ -6,9 +6,9 @@ use Rattle.pth_model.specs.Row.{effect_of}
 use Rattle.pth_model.specs.Rows.{row_of}
 use Rattle.pth_model.specs.ThreadControl.{join_attempt}
 use Rattle.pth_model.specs.Transition.{Transition}
-use Rattle.pth_world.specs.Shows.{Shows}
+use Rattle.pth_world.specs.Shows.{Shows, resources_of}
 use Rattle.pth_model.specs.declared.next.Next.TheVariants.{Done}
-use Rattle.pth_world.proofs.Telling.{tells_leads}
+use Rattle.pth_world.proofs.Telling.{quiet_leads}
 use Rattle.pth_calls.proofs.Answers.{changed_then}
 use Rattle.pth_waits.proofs.Blocking.{held_by, quiet-waits, waits_again, answers_again}
 use Rattle.pth_waits.proofs.joins.join_again.Goals as goal
@@ -34,8 +34,9 @@ returns-in-None-clause-ok g c s st =
     let idle = (simp to_z-of_z at c.attempt.ensures.waits) c.in-None.is s st in
     let effect = (simp to_z-of_z at c.attempt.ensures.effect) s st in
     let shows = subst (λ (x : Transition _ _ _). Shows w x.state.control) idle effect.shows in
+    let has = subst (λ (x : Transition _ _ _). x.state.resources ≡ resources_of w) idle effect.resources in
     rw (waits_again g.P.Program.functions s t (Join c.args.n) h (join_attempt s t c.args.n) refl h.may.written refl verdict idle)
-    (tells_leads w s _ _ _ (quiet-waits t (Join c.args.n) tt) (record { control = shows; resources = st.resources }) (simp to_z-of_z at c.in_ok-push-in-None.ensures.ok))
+    (quiet_leads w s _ _ _ (quiet-waits t (Join c.args.n) tt) (record { control = shows; resources = has }) (simp to_z-of_z at c.in_ok-push-in-None.ensures.ok))
 
 pub returns-clause-next : goal.returns-clause-next
 unfolding row_of
@@ -55,4 +56,4 @@ returns-clause-ok g c s st =
     let verdict = (simp to_z-of_z at c.in-Some.ensures.verdict) s st in
     let effect = (simp to_z-of_z at c.attempt.ensures.effect) s st in
     rw (answers_again g.P.Program.functions s t (Join c.args.n) h (join_attempt s t c.args.n) c.in-Some.answer refl verdict)
-    (changed_then c.attempt.new.w _ s (effect_of (join_attempt s t c.args.n)) (answers g.P.Program.functions t (Join c.args.n) c.in-Some.answer) _ _ st.resources effect (simp to_z-of_z at c.in_ok-answer.ensures.ok))
+    (changed_then c.attempt.new.w _ s (effect_of (join_attempt s t c.args.n)) (answers g.P.Program.functions t (Join c.args.n) c.in-Some.answer) _ _ effect (simp to_z-of_z at c.in_ok-answer.ensures.ok))

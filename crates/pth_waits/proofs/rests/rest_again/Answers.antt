@@ -1,7 +1,7 @@
 use Rattle.std.proofs.Common.{◌<◌, ◌≤◌, ◌∙◌, ap, refl, subst, sym, rules, ℕ, SFits, w64, to_z-of_z, pos}
 use Rattle.pth_model.specs.Changes.{blocked_of}
 use Rattle.pth_model.specs.declared.next.Next.TheVariants.{Done}
-use Rattle.pth_world.proofs.Telling.{tells_leads}
+use Rattle.pth_world.proofs.Telling.{quiet_leads}
 use Rattle.pth_waits.proofs.Blocking.{held_by, quiet-waits}
 use Rattle.pth_waits.proofs.Resting.{rest_given, rest_may, rest_goes_on, rest_is_over}
 use Rattle.pth_waits.proofs.rests.rest_again.Goals as goal
@@ -21,7 +21,7 @@ returns-then-time-moment-clause-ok g c s st =
     let now = c.time.ensures.now ∙ sym (ap (λ x. x.now) st.control.kernel) in
     let before : c.time.result < c.args.moment = search rules in
     rw (rest_goes_on g.P.Program.functions s t c.args.call c.rest_of-rest.result h (c.rest_of-rest.ensures s t) c.args.moment (c.requires.moment s.control st.control) c.requires.call (rest_given c.args.call c.requires.call) (subst (λ (n : ℕ). n < c.args.moment) now before))
-    (tells_leads _ s _ _ _ (quiet-waits t c.args.call h.may.call) st c.in_ok-push.ensures.ok)
+    (quiet_leads _ s _ _ _ (quiet-waits t c.args.call h.may.call) st c.in_ok-push.ensures.ok)
 
 pub returns-clause-next : goal.returns-clause-next
 returns-clause-next g c s st =

@@ -3,7 +3,8 @@ use Rattle.pth_base.specs.declared.call.Call.TheVariants.{Wait}
 use Rattle.pth_model.specs.declared.next.Next.TheVariants.{Done}
 use Rattle.pth_numbered.specs.Operands.{number}
 use Rattle.pth_ring.specs.Rings.{claim_answer}
-use Rattle.pth_world.proofs.Telling.{tells_leads, quiet-refused}
+use Rattle.pth_world.proofs.Telling.{quiet_leads, has_still, quiet-refused}
+use Rattle.pth_world.specs.World.{WorldOf}
 use Rattle.pth_waits.proofs.RingWaits.{wait_refused, wait_blocks}
 use Rattle.pth_waits.proofs.ring_waits.begin_wait.Goals as goal
 
@@ -19,7 +20,7 @@ returns-in-Err-clause-ok g c s st =
     let is : claim_answer s.control.events (number c.args.e) ≡ Err c.in-Err.errno = rw st.control.events (sym (rw to_z-of_z at c.claim.ensures.answer) ∙ c.in-Err.is) in
     let same = c.in-Err.ensures.refused in
     rw (c.requires.call, wait_refused g.P.Program.functions s c.args.t.0 c.args.e c.in-Err.errno is)
-    (tells_leads _ s _ _ _ (quiet-refused c.args.t (Wait c.args.e) c.in-Err.errno) (rw same st) (rw c.requires.call at c.in_ok-answer.ensures.ok))
+    (quiet_leads _ s _ _ _ (quiet-refused c.args.t (Wait c.args.e) c.in-Err.errno) (rw same st) (rw c.requires.call at c.in_ok-answer.ensures.ok))
 
 pub returns-clause-next : goal.returns-clause-next
 returns-clause-next g c s st =
@@ -33,4 +34,4 @@ returns-clause-ok g c s st =
     let is : claim_answer s.control.events (number c.args.e) ≡ Ok tt = rw st.control.events (sym (rw to_z-of_z at c.claim.ensures.answer) ∙ c.in_default.is) in
     let shows = (rw to_z-of_z at c.in_default.ensures.shows) s.control st.control in
     rw (c.requires.call, wait_blocks g.P.Program.functions s c.args.t.0 c.args.e tt is)
-    ((rw c.requires.call at c.in_ok-block.ensures.ok) s (record { control = shows; resources = st.resources }))
+    ((rw c.requires.call at c.in_ok-block.ensures.ok) s (record { control = shows; resources = has_still c.args.w.now c.claim.new.self s (ap (λ (z : WorldOf _ _ _). z.store) c.claim.ensures.same) st.resources }))

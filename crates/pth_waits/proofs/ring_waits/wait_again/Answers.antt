@@ -5,7 +5,7 @@ use Rattle.pth_model.specs.Changes.{blocked_of}
 use Rattle.pth_model.specs.declared.next.Next.TheVariants.{Done}
 use Rattle.pth_numbered.specs.Operands.{number}
 use Rattle.pth_ring.specs.Rings.{settled_in}
-use Rattle.pth_world.proofs.Telling.{tells_leads}
+use Rattle.pth_world.proofs.Telling.{quiet_leads}
 use Rattle.pth_waits.proofs.Blocking.{held_by, quiet-waits}
 use Rattle.pth_waits.proofs.RingWaits.{wait_goes_on, wait_is_over}
 use Rattle.pth_waits.proofs.ring_waits.wait_again.Goals as goal
@@ -27,7 +27,7 @@ returns-then-come-eq0-clause-ok g c s st =
     let come : c.settled-come.result ≡ settled_in s.control.events (number c.args.e) = rw (st.control.events, ← c.rings.ensures) (rw to_z-of_z at c.settled-come.ensures) in
     let none : nat_lt 0 c.settled-come.result ≡ false = grind (arith, nat_tests) in
     rw (wait_goes_on g.P.Program.functions s t c.args.e h c.settled-come.result come none)
-    (tells_leads _ s _ _ _ (quiet-waits t (Wait c.args.e) tt) st (simp to_z-of_z at c.in_ok-push.ensures.ok))
+    (quiet_leads _ s _ _ _ (quiet-waits t (Wait c.args.e) tt) st (simp to_z-of_z at c.in_ok-push.ensures.ok))
 
 pub returns-clause-next : goal.returns-clause-next
 returns-clause-next g c s st =

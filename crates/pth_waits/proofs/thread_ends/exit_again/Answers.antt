@@ -4,7 +4,8 @@ use Rattle.pth_base.specs.declared.call.Call.TheVariants.{Exit}
 use Rattle.pth_model.specs.Changes.{blocked_of}
 use Rattle.pth_model.specs.Rows.{row_of}
 use Rattle.pth_model.specs.ThreadEnds.{exit_attempt, must_wait}
-use Rattle.pth_world.proofs.Telling.{tells_leads}
+use Rattle.pth_world.proofs.Moves.{runner_alive}
+use Rattle.pth_world.proofs.Telling.{quiet_leads}
 use Rattle.pth_waits.proofs.Exits.{again_ends}
 use Rattle.pth_waits.proofs.Blocking.{held_by, quiet-waits, waits_again}
 use Rattle.pth_waits.proofs.thread_ends.exit_again.Goals as goal
@@ -22,7 +23,10 @@ returns-then-must_wait-clause-ok g c s st =
     let f : SFits w64 c.args.value = search rules in
     let h = held_by (blocked_of s.control c.args.t.0) c.args.t.0 (Exit c.args.value) (c.requires.some s.control st.control) (c.requires.blocked s.control st.control) in
     let waits : must_wait s.control c.args.t.0 ≡ true = search rules in
-    rw (waits_again g.P.Program.functions s c.args.t.0 (Exit c.args.value) h (exit_attempt s c.args.t.0 c.args.value) refl h.may.written refl (rw waits refl) (rw waits refl)) (tells_leads _ s _ _ _ (quiet-waits c.args.t.0 (Exit c.args.value) h.may.call) st (search rules))
+    rw (waits_again g.P.Program.functions s c.args.t.0 (Exit c.args.value) h (exit_attempt s c.args.t.0 c.args.value) refl h.may.written refl (rw waits refl) (rw waits refl)) (quiet_leads _ s _ _ _ (quiet-waits c.args.t.0 (Exit c.args.value) h.may.call) st (search rules))
+
+pub end_thread-requires-clause-alive : goal.end_thread-requires-clause-alive
+end_thread-requires-clause-alive g c = runner_alive c.args.w.now c.args.t.0 c.requires.whole c.requires.runs
 
 pub returns-in_err-end_thread-clause-err : goal.returns-in_err-end_thread-clause-err
 returns-in_err-end_thread-clause-err g c =

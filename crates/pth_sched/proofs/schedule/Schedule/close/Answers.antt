@@ -4,7 +4,7 @@ use Rattle.pth_model.specs.State.{Scheduler}
 use Rattle.pth_sched.specs.MachineOf.{IsGoing, IsRoofed}
 use Rattle.pth_sched.specs.Running.{Stands}
 use Rattle.pth_sched.proofs.Keeping.{on_ok_three, gives_rest, gives_then}
-use Rattle.pth_sched.proofs.Parts.{close_makes, closes_marks}
+use Rattle.pth_sched.proofs.Parts.{close_makes, closes_marks, turn_over}
 use Rattle.pth_sched.proofs.Roofs.{close_roofed, ready_rises}
 use Rattle.pth_sched.proofs.Going.{close_going, named_on, on_ok_four}
 use Rattle.pth_sched.proofs.schedule.Schedule.close.Goals as goal
@@ -20,13 +20,13 @@ pub returns-clause-ok : goal.returns-clause-ok
 returns-clause-ok g c =
     on_ok_weaker c.pass.result (λ leads x st.
     let inside = subst (λ m. Stands m x) (sym c.self.view_is) st in
-    close_makes _ x inside g.P.Program.functions c.args.t.0 c.pass.new.w _ _ (leads _ (record { control = c.end_turn.ensures.shows x.state.control inside.world.control; resources = inside.world.resources }))) c.pass.ensures.ok
+    close_makes _ x inside g.P.Program.functions c.args.t.0 c.pass.new.w _ _ (leads _ (turn_over _ x inside c.args.t.0 c.end_turn.new.w (c.end_turn.ensures.shows x.state.control inside.world.control) c.end_turn.ensures.store))) c.pass.ensures.ok
 
 pub returns-clause-err : goal.returns-clause-err
 returns-clause-err g c =
     on_err_weaker c.pass.result (λ cut x st.
     let inside = subst (λ m. Stands m x) (sym c.self.view_is) st in
-    rw (closes_marks g.P.Program.functions x.turn c.args.t.0 x.state) (cut _ (record { control = c.end_turn.ensures.shows x.state.control inside.world.control; resources = inside.world.resources }))) c.pass.ensures.err
+    rw (closes_marks g.P.Program.functions x.turn c.args.t.0 x.state) (cut _ (turn_over _ x inside c.args.t.0 c.end_turn.new.w (c.end_turn.ensures.shows x.state.control inside.world.control) c.end_turn.ensures.store))) c.pass.ensures.err
 
 pub returns-clause-ranks : goal.returns-clause-ranks
 returns-clause-ranks g c =

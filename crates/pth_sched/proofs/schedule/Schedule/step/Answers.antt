@@ -18,7 +18,7 @@ returns-in_err-next-clause-err g c =
 pub returns-clause-ok : goal.returns-clause-ok
 returns-clause-ok g c = λ x st.
     let inside = subst (λ m. Stands m x) (sym c.self.view_is) st in
-    step_makes _ x inside g.P.Program.functions _ c.args.t.0 c.go_on.new.w c.in_ok-next.next _ _ (c.in_ok-next.ensures.next x.state inside.world) (c.in_ok-next.ensures.ok x.state inside.world) c.settle.ensures.shows c.settle.ensures.turn (λ e. after_memory c.args.t.0 c.in_ok-next.next _ inside.memory (sym (ap (λ (x : Turn). x.outcome) c.settle.ensures.turn) ∙ e))
+    step_makes _ x inside g.P.Program.functions _ c.args.t.0 c.go_on.new.w c.in_ok-next.next _ _ (c.in_ok-next.ensures.next x.state inside.world) (c.in_ok-next.ensures.ok x.state inside.world) c.settle.ensures.shows (ap (λ w. w.store) c.settle.ensures.same) c.settle.ensures.turn (λ e. after_memory c.args.t.0 c.in_ok-next.next _ inside.memory (sym (ap (λ (x : Turn). x.outcome) c.settle.ensures.turn) ∙ e))
 
 pub returns-clause-ranks : goal.returns-clause-ranks
 returns-clause-ranks g c =

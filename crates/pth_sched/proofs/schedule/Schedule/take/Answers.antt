@@ -16,7 +16,7 @@ returns-clause-ok g c =
     on_ok_weaker c.push.result (λ tells x st.
     let inside = subst (λ m. Stands m x) (sym c.self.view_is) st in
     let ready = c.ready_new.ensures.shows x.state.control inside.world.control in
-    take_makes _ x inside c.next-t.result.0 c.ready_rank-rank.result c.ready_new.new.w c.dispatch.new.self _ _ _ ready (c.next-t.ensures.next _ ready) (c.ready_rank-rank.ensures _ ready) (c.time.ensures.now ∙ ap (λ w. w.kernel.now) c.dispatch.ensures.same) (c.dispatch.ensures.shows _ ready) tells) told
+    take_makes _ x inside c.next-t.result.0 c.ready_rank-rank.result c.ready_new.new.w c.dispatch.new.self _ _ _ ready (c.next-t.ensures.next _ ready) (c.ready_rank-rank.ensures _ ready) (c.time.ensures.now ∙ ap (λ w. w.kernel.now) c.dispatch.ensures.same) (c.dispatch.ensures.shows _ ready) (ap (λ w. w.store) c.dispatch.ensures.same ∙ c.ready_new.ensures.scheduler.store) tells) told
 
 pub returns-clause-ranks : goal.returns-clause-ranks
 returns-clause-ranks g c =

@@ -1,0 +1,209 @@
+-- Calls that change what threads store: their rows only answer, and the marks tell what they change.
+use Rattle.std.proofs.Common.{◌≡◌, ◌≢◌, ◌∙◌, ℕ, zero, suc, ℤ, pos, negsuc, IfOk, Bool, true, false, not, Option, Some, None, is_none, Result, Ok, Err, if◌then◌else◌, OnOk, OnErr, List, [], refl, ap, sym, subst}
+use Rattle.pth_base.proofs.Tables.{not_same}
+use Rattle.pth_base.specs.Cut.{IsCut}
+use Rattle.pth_base.specs.Program.{Functions}
+use Rattle.pth_base.specs.declared.answer.Answer.{Answer}
+use Rattle.pth_base.specs.declared.answer.Answer.TheVariants.{Int, Fail}
+use Rattle.pth_base.specs.declared.call.Call.TheVariants as call
+use Rattle.pth_base.specs.declared.errno.Errno.{Errno}
+use Rattle.pth_base.specs.declared.errno.Errno.TheVariants.{EINVAL}
+use Rattle.pth_base.specs.declared.ids.HandlerId.{HandlerId}
+use Rattle.pth_base.specs.declared.ids.Tid.{Tid}
+use Rattle.pth_base.specs.declared.mark.Mark.{Mark}
+use Rattle.pth_base.specs.declared.mark.Mark.TheVariants.{Answered}
+use Rattle.pth_model.specs.declared.next.Next.TheVariants as next
+use Rattle.pth_model.specs.Acts.{runs_handler}
+use Rattle.pth_model.specs.Calls.{begun, begun_by}
+use Rattle.pth_model.specs.Changes.{uses}
+use Rattle.pth_model.specs.Cleanups.{cleanup_push, last_pushed, once, runs_pushed}
+use Rattle.pth_model.specs.KeyStorage.{key_create, key_delete, key_set}
+use Rattle.pth_model.specs.Resources.{Resources, Store, destructor_by, handler, no_resources, told, answer_told, with_cleanups, with_keys}
+use Rattle.pth_model.specs.Row.{Attempt, effect_of, refuses, unless_refused, ◌trying◌}
+use Rattle.pth_model.specs.Rows.{row_of}
+use Rattle.pth_model.specs.State.{State, Control, once_limit}
+use Rattle.pth_model.specs.Transition.{Piece, Transition, Went, controlled, changes, nothing, silent, tells, tid, where_so, ◌and_then◌, ◌and_next◌}
+use Rattle.pth_model.specs.Verdict.{Verdict, Says, by_result, done, refused, says, ◌when◌otherwise◌}
+use Rattle.pth_numbered.specs.Operands.{number, is_below, is_zero}
+use Rattle.pth_store.specs.Cleanups.{PushedHandler, push_answer, top_taken, with_top}
+use Rattle.pth_store.specs.Keys.{created, deleted, key_create_answer, key_delete_answer, key_named, key_set_answer}
+use Rattle.pth_store.specs.Storing.{AnswersWithMemory}
+use Rattle.pth_world.proofs.Telling.{has_still}
+use Rattle.pth_world.specs.Leading.{IsQuiet, IsTold, Tells}
+use Rattle.pth_world.specs.Shows.{Shows, StandsFor, resources_of}
+use Rattle.pth_world.specs.Store.{store_of}
+use Rattle.pth_world.specs.World.{WorldOf}
+use Rattle.pth_end.specs.Saying.{SaysRefusal}
+use Rattle.pth_end.proofs.Chains.{cut_one}
+use Rattle.pth_end.proofs.Acting.{nothing_told, refused_tells, stored_done, stored_refused}
+use Rattle.pth_base.specs.declared.memory.OutOfMemory.{OutOfMemory}
+use Rattle.pth_base.specs.declared.refusal.Refusal.{Refusal}
+use Rattle.pth_base.specs.declared.refusal.Refusal.TheVariants as refusal
+
+module _ {P S H : Type 0} (w v : WorldOf P S H) where
+  no_word : (s : State P S H) (b : Bool) → (unless_refused b (changes nothing) s).marks ≡ []
+  no_word s true = refl
+  no_word s false = refl
+
+  -- a row that only answers, whose mark tells what threads have
+  pub stored_told : (m : Mark) (a : Answer) (verdict : State P S H → Verdict) → ((s : State P S H) → StandsFor w s → verdict s ≡ Says a) → ((k : Control P S H) → Shows w k → Shows v k) → Tells w m v → IsTold w v m a (λ s. verdict s trying changes nothing)
+  stored_told m a verdict is shows tell = record {
+    verdict = is;
+    silent = λ s st. no_word s (refuses (verdict s));
+    stands = λ s st. subst (λ x. StandsFor v x.state) (sym (nothing_told s (refuses (verdict s)) m)) (record { control = shows s.control st.control; resources = ap (λ (k : Resources). told k m) st.resources ∙ tell });
+  }
+
+  -- a key is made
+  pub created_tells : (t : Tid) (d : Option ℤ) (key : ℕ) → store_of v.store ≡ with_keys (created key (destructor_by d)) (store_of w.store) → Tells w (Answered t (call.KeyCreate d) (Int (pos key))) v
+  unfolding told answer_told
+  created_tells t d key changes = ap (λ (x : Store). record no_resources { store = x }) (sym changes)
+
+  -- a handler is pushed
+  pub pushed_tells : (t : Tid) (h x : ℤ) → store_of v.store ≡ with_cleanups (with_top t.0 (handler h, x)) (store_of w.store) → Tells w (Answered t (call.CleanupPush h x) (Int (pos 1))) v
+  unfolding told answer_told
+  pushed_tells t h x changes = ap (λ (y : Store). record no_resources { store = y }) (sym changes)
+
+  -- it is taken
+  pub popped_tells : (t : Tid) (x : ℤ) → store_of v.store ≡ with_cleanups (top_taken t.0) (store_of w.store) → Tells w (Answered t (call.CleanupPop x) (Int (pos 1))) v
+  unfolding told answer_told
+  popped_tells t x changes = ap (λ (y : Store). record no_resources { store = y }) (sym changes)
+
+  -- a key is deleted, or not
+  pub deleted_tells : (t : Tid) (k : ℤ) (r : Result (Unit {0}) Errno) (a : Answer) → by_result done r ≡ Says a → OnOk r (store_of v.store ≡ with_keys (deleted (key_named k)) (store_of w.store)) → OnErr r (v ≡ w) → Tells w (Answered t (call.KeyDelete k) a) v
+  unfolding told answer_told
+  deleted_tells t k (Ok u) (Int n) says changes same = let one : n ≡ pos 1 = cc in rw one (ap (λ (x : Store). record no_resources { store = x }) (sym changes))
+  deleted_tells t k (Err e) (Fail d) says changes same = refused_tells w v t (call.KeyDelete k) d same
+  deleted_tells t k r a says changes same = absurd (cc says)
+
+-- ---- the single calls
+
+module _ {P S H : Type 0} (w v : WorldOf P S H) (t : Tid) (shows : (k : Control P S H) → Shows w k → Shows v k) where
+  -- what the world has stored is what the states have for which it stands
+  stored_by : {A : Type 0} (r : Store → A) (a : A) → r (store_of w.store) ≡ a → (s : State P S H) → StandsFor w s → r s.resources.store ≡ a
+  stored_by r a is s st = ap (λ (k : Resources). r k.store) st.resources ∙ is
+
+  pub created_told : (d : Option ℤ) (key : ℕ) (n : ℤ) → n ≡ pos key → Ok key ≡ key_create_answer (store_of w.store).keys → store_of v.store ≡ with_keys (created key (destructor_by d)) (store_of w.store) → IsTold w v (Answered t (call.KeyCreate d) (Int n)) (Int n) (λ s. (key_create s).begin)
+  created_told d key n number is changes = subst (λ (x : ℤ). IsTold w v (Answered t (call.KeyCreate d) (Int x)) (Int x) (λ s. (key_create s).begin)) (sym number)
+      (stored_told w v (Answered t (call.KeyCreate d) (Int (pos key))) (Int (pos key)) (λ s. by_result says (key_create_answer s.resources.store.keys)) (stored_by (λ x. by_result says (key_create_answer x.keys)) _ (ap (by_result says) (sym is))) shows (created_tells w v t d key changes))
+
+  pub create_refused : (d : Option ℤ) (e : Errno) → Err e ≡ key_create_answer (store_of w.store).keys → v ≡ w → IsTold w v (Answered t (call.KeyCreate d) (Fail e)) (Fail e) (λ s. (key_create s).begin)
+  create_refused d e is same = stored_told w v (Answered t (call.KeyCreate d) (Fail e)) (Fail e) (λ s. by_result says (key_create_answer s.resources.store.keys)) (stored_by (λ x. by_result says (key_create_answer x.keys)) _ (ap (by_result says) (sym is))) shows (refused_tells w v t (call.KeyCreate d) e same)
+
+  pub deleted_told : (k : ℤ) (r : Result (Unit {0}) Errno) (a : Answer) → r ≡ key_delete_answer (store_of w.store).keys k → by_result done r ≡ Says a → OnOk r (store_of v.store ≡ with_keys (deleted (key_named k)) (store_of w.store)) → OnErr r (v ≡ w) → IsTold w v (Answered t (call.KeyDelete k) a) a (λ s. (key_delete s k).begin)
+  deleted_told k r a is says changes same = stored_told w v (Answered t (call.KeyDelete k) a) a (λ s. by_result done (key_delete_answer s.resources.store.keys k)) (stored_by (λ x. by_result done (key_delete_answer x.keys k)) _ (ap (by_result done) (sym is) ∙ says)) shows (deleted_tells w v t k r a says changes same)
+
+  pub set_told : (k x : ℤ) (a : Answer) → by_result done (key_set_answer (store_of w.store).keys k) ≡ Says a → Tells w (Answered t (call.KeySet k x) a) v → IsTold w v (Answered t (call.KeySet k x) a) a (λ s. (key_set s k).begin)
+  set_told k x a says tell = stored_told w v (Answered t (call.KeySet k x) a) a (λ s. by_result done (key_set_answer s.resources.store.keys k)) (stored_by (λ y. by_result done (key_set_answer y.keys k)) _ says) shows tell
+
+  module _ (f : P → Functions S H) (h x : ℤ) where
+    abbrev pushing : State P S H → Attempt P S H
+    pushing s = (cleanup_push f s t.0).begin
+
+    pushed_by : (a : Answer) → by_result done (push_answer (store_of w.store).cleanups t.0) ≡ Says a → Tells w (Answered t (call.CleanupPush h x) a) v → IsTold w v (Answered t (call.CleanupPush h x) a) a pushing
+    pushed_by a says tell = stored_told w v (Answered t (call.CleanupPush h x) a) a (λ s. by_result done (push_answer s.resources.store.cleanups t.0)) (stored_by (λ y. by_result done (push_answer y.cleanups t.0)) _ says) shows tell
+
+    pub push_done : (u : Unit {0}) → AnswersWithMemory (push_answer (store_of w.store).cleanups t.0) (Ok u) → store_of v.store ≡ with_cleanups (with_top t.0 (handler h, x)) (store_of w.store) → IsTold w v (Answered t (call.CleanupPush h x) (Int (pos 1))) (Int (pos 1)) pushing
+    push_done u answers changes = pushed_by (Int (pos 1)) (stored_done _ u answers) (pushed_tells w v t h x changes)
+
+    pub push_refused : (e : Refusal) (r : Result Answer OutOfMemory) → AnswersWithMemory (push_answer (store_of w.store).cleanups t.0) (Err e) → IfOk r (λ a. SaysRefusal e a) → v ≡ w → IfOk r (λ a. IsTold w v (Answered t (call.CleanupPush h x) a) a pushing)
+    push_refused (refusal.Fail e) (Ok a) answers says same = subst (λ (b : Answer). IsTold w v (Answered t (call.CleanupPush h x) b) b pushing) (sym says) (pushed_by (Fail e) (stored_refused _ e answers) (refused_tells w v t (call.CleanupPush h x) e same))
+    push_refused refusal.OutOfMemory (Ok a) answers says same = absurd says
+    push_refused e (Err o) answers says same = tt
+
+-- a value is set, or not
+pub set_told_each : {P S H : Type 0} (w v : WorldOf P S H) (t : Tid) (k x : ℤ) (r : Result Answer OutOfMemory) → IfOk r (λ a. by_result done (key_set_answer (store_of w.store).keys k) ≡ Says a) → IfOk r (λ a. Tells w (Answered t (call.KeySet k x) a) v) → OnOk r ((c : Control P S H) → Shows w c → Shows v c)
+    → IfOk r (λ a. IsTold w v (Answered t (call.KeySet k x) a) a (λ s. (key_set s k).begin))
+set_told_each w v t k x (Ok a) says tell shows = set_told w v t shows k x a says tell
+set_told_each w v t k x (Err e) says tell shows = tt
+
+-- a value that is read changes nothing
+pub quiet_get : (t : Tid) (k : ℤ) (a : Answer) → IsQuiet (Answered t (call.KeyGet k) a)
+unfolding told answer_told
+quiet_get t k a = λ x. refl
+
+-- a pop's operand is not 0
+pub is_not_zero : (v : ℤ) → v ≢ pos 0 → not (is_zero v) ≡ true
+is_not_zero (pos n) other = ap not (not_same n 0 (λ is. other (ap pos is)))
+is_not_zero (negsuc n) other = refl
+
+-- ---- pth_cleanup_pop
+
+module _ {P S H : Type 0} (f : P → Functions S H) (s : State P S H) (t : ℕ) (v : ℤ) where
+  abbrev pop_by : Option PushedHandler → Went P S H
+  pop_by o =
+      let x : Verdict = refused EINVAL when is_none o otherwise says 1 in
+      begun_by f t (call.CleanupPop v) x (unless_refused (refuses x) (where_so (not (is_zero v)) (runs_pushed f t o))) s
+
+  pub pop_refused : last_pushed f s t ≡ None → begun f t (call.CleanupPop v) s ≡ (tells (Answered (tid t) (call.CleanupPop v) (Fail EINVAL)) and_next next.Done (Fail EINVAL)) s
+  unfolding begun row_of
+  pop_refused none = ap pop_by none
+
+  pub pop_runs : (c : PushedHandler) → last_pushed f s t ≡ Some c → begun f t (call.CleanupPop v) s ≡ (where_so (not (is_zero v)) (runs_handler f t c.0 c.1) and_then tells (Answered (tid t) (call.CleanupPop v) (Int (pos 1))) and_next next.Done (Int (pos 1))) s
+  unfolding begun row_of
+  pop_runs c some = ap pop_by some
+
+-- ---- pth_once
+
+-- what a control is answered, by whether there is one and whether it was used
+pub is_first : (known used : Bool) → Ok true ≡ (if known then Ok (not used) else Err EINVAL) → (known ≡ true) × (used ≡ false)
+is_first true false h = (refl, refl)
+is_first true true h = absurd (cc h)
+is_first false used h = absurd (cc h)
+
+pub is_again : (known used : Bool) → Ok false ≡ (if known then Ok (not used) else Err EINVAL) → (known ≡ true) × (used ≡ true)
+is_again true true h = (refl, refl)
+is_again true false h = absurd (cc h)
+is_again false used h = absurd (cc h)
+
+pub is_none_such : (known used : Bool) (e : Errno) → Err e ≡ (if known then Ok (not used) else Err EINVAL) → (known ≡ false) × (e ≡ EINVAL)
+is_none_such true used e h = absurd (cc h)
+is_none_such false used e h = let same : e ≡ EINVAL = cc in (refl, same)
+
+module _ {P S H : Type 0} (f : P → Functions S H) (s : State P S H) (t : ℕ) (o h v : ℤ) where
+  abbrev verdict_by : Bool → Verdict
+  verdict_by known = refused EINVAL when not known otherwise says 1
+
+  abbrev effect_by : Bool → Bool → Transition P S H
+  effect_by known used = unless_refused (refuses (verdict_by known)) (where_so (not used) (changes (uses (number o)) and_then runs_handler f t (handler h) v)) s
+
+  pub first_verdict : is_below o once_limit ≡ true → (once f s t o h v).begin.verdict ≡ says 1
+  first_verdict known = ap verdict_by known
+
+  pub no_verdict : is_below o once_limit ≡ false → (once f s t o h v).begin.verdict ≡ refused EINVAL
+  no_verdict unknown = ap verdict_by unknown
+
+  pub first_effect : is_below o once_limit ≡ true → s.control.used (number o) ≡ false → effect_of (once f s t o h v).begin s ≡ (changes (uses (number o)) and_then runs_handler f t (handler h) v) s
+  first_effect known used = ap (λ (b : Bool). effect_by b (s.control.used (number o))) known ∙ ap (effect_by true) used
+
+  pub again_effect : is_below o once_limit ≡ true → s.control.used (number o) ≡ true → effect_of (once f s t o h v).begin s ≡ silent s
+  again_effect known used = ap (λ (b : Bool). effect_by b (s.control.used (number o))) known ∙ ap (effect_by true) used
+
+  pub no_effect : is_below o once_limit ≡ false → effect_of (once f s t o h v).begin s ≡ silent s
+  no_effect unknown = ap (λ (b : Bool). effect_by b (s.control.used (number o))) unknown
+
+  pub once_begun : (a : Answer) → (once f s t o h v).begin.verdict ≡ Says a → begun f t (call.Once o h v) s ≡ (effect_of (once f s t o h v).begin and_then tells (Answered (tid t) (call.Once o h v) a) and_next next.Done a) s
+  unfolding begun row_of
+  once_begun a is = ap (λ (x : Verdict). begun_by f t (call.Once o h v) x (effect_of (once f s t o h v).begin) s) is
+
+  -- a row of pth_once says its count, or that there is no such control
+  abbrev said_by : Bool → Answer
+  said_by true = Int (pos 1)
+  said_by false = Fail EINVAL
+
+  once_says : (known : Bool) → verdict_by known ≡ Says (said_by known)
+  once_says true = refl
+  once_says false = refl
+
+  pub once_cut : {old new : List Mark} → IsCut old new (effect_of (once f s t o h v).begin s).marks → IsCut old new (begun f t (call.Once o h v) s).told.marks
+  once_cut {old} {new} cut =
+      let a = said_by (is_below o once_limit) in
+      let is = once_begun a (once_says (is_below o once_limit)) in
+      subst (λ (x : Went P S H). IsCut old new x.told.marks) (sym is) (cut_one s (effect_of (once f s t o h v).begin) (tells (Answered (tid t) (call.Once o h v) a)) old new cut)
+
+pub use_stands : {P S H : Type 0} (w v : WorldOf P S H) (s : State P S H) (o : ℕ) → Shows v (uses o s.control) → v.store ≡ w.store → StandsFor w s → StandsFor v (controlled (uses o) s)
+use_stands w v s o shows stored st = record { control = shows; resources = has_still w v s stored st.resources }
+
+-- that a control is used is told by no resource
+pub quiet_once : (t : Tid) (o h v : ℤ) (a : Answer) → IsQuiet (Answered t (call.Once o h v) a)
+unfolding told answer_told
+quiet_once t o h v a = λ x. refl
