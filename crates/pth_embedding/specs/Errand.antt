@@ -29,20 +29,20 @@ call_of (place.Work arg) n = call.Yield (pos 0)
 call_of (place.Bring value) n = call.Exit value
 
 -- where it stands after that call
-abbrev pub next_of : Place → ℤ → Place
-next_of place.Spawn n = place.YieldToWorker
-next_of place.YieldToWorker n = place.Join n
-next_of (place.Join worker) n = place.Finish
-next_of (place.Work arg) n = place.Bring arg
-next_of p n = p
+abbrev pub place_after_call : Place → ℤ → Place
+place_after_call place.Spawn n = place.YieldToWorker
+place_after_call place.YieldToWorker n = place.Join n
+place_after_call (place.Join worker) n = place.Finish
+place_after_call (place.Work arg) n = place.Bring arg
+place_after_call p n = p
 
 -- the program; its shared value, its checks and its handlers are nothing of note
-abbrev pub functions_of : Errand → Functions Place (Unit {0})
-functions_of e = record {
+abbrev pub errand_functions : Errand → Functions Place (Unit {0})
+errand_functions e = record {
   shared = tt;
   bodies = 2;
   start = start_of;
-  step = λ p h a. record { call = call_of p (int_of a); state = next_of p (int_of a); shared = h };
+  step = λ p h a. record { call = call_of p (int_of a); state = place_after_call p (int_of a); shared = h };
   check = λ check arg h. false;
   act = λ handler arg index h. record { act = None; shared = h };
 }

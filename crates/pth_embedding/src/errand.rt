@@ -1,7 +1,7 @@
 //! A program: main sends a worker on an errand, and waits for what it brings.
 
 ghost use Rattle.std.specs.Prelude.{◌≡◌};
-ghost use Rattle.pth_embedding.specs.Errand.{functions_of, int_of};
+ghost use Rattle.pth_embedding.specs.Errand.{errand_functions, int_of};
 
 use pth_base::act::Act;
 use pth_base::answer::Answer;
@@ -37,7 +37,7 @@ impl Program for Errand {
 
     type Shared = ();
 
-    ghost functions = { functions_of };
+    ghost functions = { errand_functions };
 
     fn shared(&self, _alloc: Global) -> Result<(), OutOfMemory> {
         Ok(())

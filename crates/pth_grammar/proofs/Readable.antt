@@ -8,7 +8,7 @@ use Rattle.pth_grammar.specs.CallLines.{call_line}
 use Rattle.pth_grammar.specs.Forms.{call_forms, act_forms, body_forms, forms_of}
 use Rattle.pth_spelling.specs.Keywords.{call_word, keyword_of, begins}
 use Rattle.pth_grammar.specs.LineMeanings.{line_by, answered_line, line_of, act_with, act_by, act_of, check_by, check_of}
-use Rattle.pth_grammar.specs.Shapes.{Shape, Unequal, Asks, asks, after_register, takes_answer, shape_of, words_break, word_rules, words_fault}
+use Rattle.pth_grammar.specs.Shapes.{Shape, Unequal, Asks, shape_by_forms, after_register, takes_answer, shape_of, words_break, word_rules, words_fault}
 use Rattle.pth_spelling.specs.WordMeanings.{register_of}
 use Rattle.pth_forms.specs.declared.form.Form.{Form}
 use Rattle.pth_forms.specs.declared.form.Form.TheVariants as form
@@ -71,7 +71,7 @@ pub record IsBegun (s : Section) (k : Keyword) (ws : List (List ℕ)) : Type 0 w
   pub allowed : forms_of s k ws ≡ Some forms
   pub fine : AllFine forms ws
 
-begun_by : (s : Section) (k : Keyword) (ws : List (List ℕ)) (o : Option (List Form)) → forms_of s k ws ≡ o → IsFineShape (asks ws o) → IsBegun s k ws
+begun_by : (s : Section) (k : Keyword) (ws : List (List ℕ)) (o : Option (List Form)) → forms_of s k ws ≡ o → IsFineShape (shape_by_forms ws o) → IsBegun s k ws
 unfolding words_break
 begun_by s k ws (Some fs) e h = record { forms = fs; allowed = e; fine = all_fine fs ws h }
 begun_by s k ws None e h = absurd (cc)
@@ -93,17 +93,17 @@ unfolding words_fault shape_of begins
 begun s w ws k h e =
     let plain = no_register (is_some (register_of w)) (keyword_of w) k e in
     begun_by s k ws (forms_of s k ws) refl
-    (subst (λ o. IsFineShape (asks ws (option_and_then (λ k. forms_of s k ws) o))) e
-    (subst (λ b. IsFineShape (cond b (after_register ws) (asks ws (option_and_then (λ k. forms_of s k ws) (begins (w ∷ ws)))))) (no_answer s w plain) h))
+    (subst (λ o. IsFineShape (shape_by_forms ws (option_and_then (λ k. forms_of s k ws) o))) e
+    (subst (λ b. IsFineShape (cond b (after_register ws) (shape_by_forms ws (option_and_then (λ k. forms_of s k ws) (begins (w ∷ ws)))))) (no_answer s w plain) h))
 
 -- ---- a body's lines
 
-called_by : (o : Option CallWord) (ws : List (List ℕ)) → IsFineShape (asks ws (option_map (λ w. call_forms w ws) o)) → is_some (option_and_then (λ w. call_line w ws) o) ≡ true
+called_by : (o : Option CallWord) (ws : List (List ℕ)) → IsFineShape (shape_by_forms ws (option_map (λ w. call_forms w ws) o)) → is_some (option_and_then (λ w. call_line w ws) o) ≡ true
 unfolding words_break
 called_by (Some k) ws h = callable k ws (all_fine _ ws h)
 called_by None ws h = absurd (cc)
 
-answered_by : (b : Bool) (d e k : List ℕ) (ws : List (List ℕ)) → is_some (register_of d) ≡ true → IsFineShape (cond b (asks ws (option_map (λ w. call_forms w ws) (call_word k))) Unequal) → is_some (answered_line (d ∷ e ∷ k ∷ ws)) ≡ true
+answered_by : (b : Bool) (d e k : List ℕ) (ws : List (List ℕ)) → is_some (register_of d) ≡ true → IsFineShape (cond b (shape_by_forms ws (option_map (λ w. call_forms w ws) (call_word k))) Unequal) → is_some (answered_line (d ∷ e ∷ k ∷ ws)) ≡ true
 unfolding words_break
 answered_by true d e k ws r h = some_then (register_of d) _ r (λ x. some_map _ _ (called_by (call_word k) ws h))
 answered_by false d e k ws r h = absurd (cc)
@@ -114,7 +114,7 @@ answered d [] r h = absurd (cc)
 answered d (e ∷ []) r h = absurd (cc)
 answered d (e ∷ k ∷ ws) r h = answered_by (bytes_eq e (codes "=")) d e k ws r h
 
-plain : (k : Keyword) (ws : List (List ℕ)) → IsFineShape (asks ws (body_forms k ws)) → (k ≡ key.End → ⊥) → is_some (line_by (Some k) ws) ≡ true
+plain : (k : Keyword) (ws : List (List ℕ)) → IsFineShape (shape_by_forms ws (body_forms k ws)) → (k ≡ key.End → ⊥) → is_some (line_by (Some k) ws) ≡ true
 unfolding words_break
 plain key.Set ws h n = row2 register operand _ ws (all_fine _ ws h)
 plain key.Add ws h n = row2 register operand _ ws (all_fine _ ws h)
@@ -125,12 +125,12 @@ plain (key.Call k) ws h n = some_map _ _ (callable k ws (all_fine _ ws h))
 plain key.End ws h n = absurd (n refl)
 plain _ ws h n = absurd (cc)
 
-keyed : (o : Option Keyword) (ws : List (List ℕ)) → IsFineShape (asks ws (option_and_then (λ k. body_forms k ws) o)) → (o ≡ Some key.End → ⊥) → is_some (line_by o ws) ≡ true
+keyed : (o : Option Keyword) (ws : List (List ℕ)) → IsFineShape (shape_by_forms ws (option_and_then (λ k. body_forms k ws) o)) → (o ≡ Some key.End → ⊥) → is_some (line_by o ws) ≡ true
 unfolding words_break
 keyed (Some k) ws h n = plain k ws h (λ e. n (ap (λ k. Some k) e))
 keyed None ws h n = absurd (cc)
 
-body_by : (b : Bool) (w : List ℕ) (ws : List (List ℕ)) → is_some (register_of w) ≡ b → IsFineShape (cond b (after_register ws) (asks ws (option_and_then (λ k. body_forms k ws) (cond b None (keyword_of w))))) → (cond b None (keyword_of w) ≡ Some key.End → ⊥) → is_some (cond b (answered_line (w ∷ ws)) (line_by (keyword_of w) ws)) ≡ true
+body_by : (b : Bool) (w : List ℕ) (ws : List (List ℕ)) → is_some (register_of w) ≡ b → IsFineShape (cond b (after_register ws) (shape_by_forms ws (option_and_then (λ k. body_forms k ws) (cond b None (keyword_of w))))) → (cond b None (keyword_of w) ≡ Some key.End → ⊥) → is_some (cond b (answered_line (w ∷ ws)) (line_by (keyword_of w) ws)) ≡ true
 body_by true w ws r h n = answered w ws r h
 body_by false w ws r h n = keyed (keyword_of w) ws h n
 
@@ -141,7 +141,7 @@ body_readable (w ∷ ws) h n = body_by (is_some (register_of w)) w ws refl h n
 
 -- ---- a handler's acts
 
-acted : (k : Keyword) (ws : List (List ℕ)) → IsFineShape (asks ws (act_forms k)) → (k ≡ key.End → ⊥) → is_some (act_by (Some k) ws) ≡ true
+acted : (k : Keyword) (ws : List (List ℕ)) → IsFineShape (shape_by_forms ws (act_forms k)) → (k ≡ key.End → ⊥) → is_some (act_by (Some k) ws) ≡ true
 unfolding words_break
 acted key.Note ws h n = values1 (act_with key.Note) ws (λ x. refl) (all_fine _ ws h)
 acted key.Set ws h n = row2 shared value _ ws (all_fine _ ws h)
@@ -152,7 +152,7 @@ acted key.SetKey ws h n = values2 (act_with key.SetKey) ws (λ x y. refl) (all_f
 acted key.End ws h n = absurd (n refl)
 acted _ ws h n = absurd (cc)
 
-act_by_keyword : (b : Bool) (o : Option Keyword) (ws : List (List ℕ)) → IsFineShape (asks ws (option_and_then (λ k. act_forms k) (cond b None o))) → (cond b None o ≡ Some key.End → ⊥) → is_some (act_by o ws) ≡ true
+act_by_keyword : (b : Bool) (o : Option Keyword) (ws : List (List ℕ)) → IsFineShape (shape_by_forms ws (option_and_then (λ k. act_forms k) (cond b None o))) → (cond b None o ≡ Some key.End → ⊥) → is_some (act_by o ws) ≡ true
 unfolding words_break
 act_by_keyword false (Some k) ws h n = acted k ws h (λ e. n (ap (λ k. Some k) e))
 act_by_keyword false None ws h n = absurd (cc)
@@ -222,7 +222,7 @@ pub record IsKeyed (s : Section) (ws : List (List ℕ)) : Type 0 where
   pub first : begins ws ≡ Some keyword
   pub allowed : is_some (forms_of s keyword (drop 1 ws)) ≡ true
 
-keyed_by : (s : Section) (w : List ℕ) (ws : List (List ℕ)) (o : Option Keyword) → begins (w ∷ ws) ≡ o → IsFineShape (asks ws (option_and_then (λ k. forms_of s k ws) o)) → words_fault s (w ∷ ws) ≡ None → IsKeyed s (w ∷ ws)
+keyed_by : (s : Section) (w : List ℕ) (ws : List (List ℕ)) (o : Option Keyword) → begins (w ∷ ws) ≡ o → IsFineShape (shape_by_forms ws (option_and_then (λ k. forms_of s k ws) o)) → words_fault s (w ∷ ws) ≡ None → IsKeyed s (w ∷ ws)
 unfolding words_break
 keyed_by s w ws (Some k) e h f = record { keyword = k; first = e; allowed = ap (λ o. is_some o) (begun s w ws k f e).allowed }
 keyed_by s w ws None e h f = absurd (cc)

@@ -22,15 +22,15 @@ pub data Shape : Type 0 where
   Asks : List Form → List (List ℕ) → Shape
 
 -- the forms, where the line may begin so
-abbrev pub asks : List (List ℕ) → Option (List Form) → Shape
-asks ws None = Unknown
-asks ws (Some fs) = Asks fs ws
+abbrev pub shape_by_forms : List (List ℕ) → Option (List Form) → Shape
+shape_by_forms ws None = Unknown
+shape_by_forms ws (Some fs) = Asks fs ws
 
 -- the words after a register
 abbrev pub after_register : List (List ℕ) → Shape
 after_register [] = Short
 after_register (e ∷ []) = Short
-after_register (e ∷ k ∷ ws) = if bytes_eq e (codes "=") then asks ws (option_map (λ w. call_forms w ws) (call_word k)) else Unequal
+after_register (e ∷ k ∷ ws) = if bytes_eq e (codes "=") then shape_by_forms ws (option_map (λ w. call_forms w ws) (call_word k)) else Unequal
 
 -- a register may begin a line of a body only
 abbrev pub takes_answer : Section → List ℕ → Bool
@@ -40,7 +40,7 @@ takes_answer _ w = false
 -- what a line of a section asks for
 unfoldable pub shape_of : Section → List (List ℕ) → Shape
 shape_of s [] = Unknown
-shape_of s (w ∷ ws) = if takes_answer s w then after_register ws else asks ws (option_and_then (λ k. forms_of s k ws) (begins (w ∷ ws)))
+shape_of s (w ∷ ws) = if takes_answer s w then after_register ws else shape_by_forms ws (option_and_then (λ k. forms_of s k ws) (begins (w ∷ ws)))
 
 -- ---- what its words break
 

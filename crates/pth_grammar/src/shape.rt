@@ -4,7 +4,7 @@ ghost use Rattle.std.specs.Prelude.{◌≡◌, option_map, option_and_then};
 ghost use Rattle.pth_grammar.specs.Asked.{asked};
 ghost use Rattle.pth_spelling.specs.Keywords.{call_word};
 ghost use Rattle.pth_grammar.specs.Forms.{call_forms};
-ghost use Rattle.pth_grammar.specs.Shapes.{asks, after_register, shape_of};
+ghost use Rattle.pth_grammar.specs.Shapes.{shape_by_forms, after_register, shape_of};
 ghost use Rattle.pth_spelling.specs.Texts.{texts};
 
 use crate::forms::{call_forms, forms_of};
@@ -29,8 +29,8 @@ pub(crate) enum Shape<'a> {
     },
 }
 
-fn asks<'a>(forms: Option<&'static [Form]>, words: &'a [&'a [u8]]) -> Shape<'a>
-    ensures { asked result ≡ asks (texts words.now) (option_map (λ f. f.now) forms.entry) }
+fn shape_by_forms<'a>(forms: Option<&'static [Form]>, words: &'a [&'a [u8]]) -> Shape<'a>
+    ensures { asked result ≡ shape_by_forms (texts words.now) (option_map (λ f. f.now) forms.entry) }
 {
     match forms {
         Some(forms) => Shape::Asks { forms, words },
@@ -48,7 +48,7 @@ fn after_register<'a>(words: &'a [&'a [u8]]) -> Shape<'a>
                 return Shape::Unequal;
             }
             match call_word(word) {
-                Some(word) => asks(Some(call_forms(word, words)), words),
+                Some(word) => shape_by_forms(Some(call_forms(word, words)), words),
                 None => Shape::Unknown,
             }
         }
@@ -68,7 +68,7 @@ pub(crate) fn shape_of<'a>(section: Section, words: &'a [&'a [u8]]) -> Shape<'a>
                 return after_register(operands);
             }
             match begins(words) {
-                Some(keyword) => asks(forms_of(section, keyword, operands), operands),
+                Some(keyword) => shape_by_forms(forms_of(section, keyword, operands), operands),
                 None => Shape::Unknown,
             }
         }

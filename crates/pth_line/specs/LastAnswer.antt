@@ -56,14 +56,14 @@ abbrev pub kept : Answer → Scope → Scope
 kept a s = record s { frame = record (held a s.frame) { error = error_of a; owed = owed.Nothing } }
 
 -- and it goes to a register where the line names one
-abbrev pub answered : Option Register → Answer → Scope → Scope
-answered None a s = kept a s
-answered (Some r) a s = put_register (kept a s) r (number_of_answer a)
+abbrev pub heard_into : Option Register → Answer → Scope → Scope
+heard_into None a s = kept a s
+heard_into (Some r) a s = put_register (kept a s) r (number_of_answer a)
 
 -- what a thread keeps of an answer, by what it awaits: nothing where it made no call
 abbrev pub heard_for : Owed → Answer → Scope → Scope
 heard_for owed.Nothing a s = s
-heard_for (owed.Answer r) a s = answered r a s
+heard_for (owed.Answer r) a s = heard_into r a s
 
 -- what a thread keeps of the answer that it is handed
 unfoldable pub heard : Answer → Scope → Scope

@@ -15,7 +15,7 @@ use Rattle.pth_model.specs.State.{Given}
 use Rattle.pth_script.proofs.Once.{not_both}
 use Rattle.pth_text.specs.declared.rule.Breach.{Breach}
 use Rattle.pth_words.specs.CommandWords.{Asked}
-use Rattle.pth_player.specs.Objects.{AreHeld, ObjectRead, ObjectRose, ObjectStood, Scene, content, cut, object_of}
+use Rattle.pth_player.specs.Objects.{AreHeld, ObjectRead, ObjectRose, ObjectStood, Scene, asked_object, content, cut}
 use Rattle.pth_player.specs.Output.{Output, IsRefused, IsTheOutput, IsTheScript, outcome_status, refusal, told_output}
 use Rattle.pth_player.specs.Play.{Completes, DrivesScript, Ends, Faults, HoldsNoScript, IsAtHand, IsFaultStatus, IsOutputStatus, IsRunStatus, IsUnwritten, Plays, Ran, RanFor, ReadsWhole, RefusesInput, RefusesWords, Reports, TellsFault, WritesLine, WritesOutput, WritesWhole}
 use Rattle.pth_player.specs.Streams.{AppendsPart, AppendsPrefix}
@@ -137,12 +137,12 @@ module _ (old new : Scene) (status : ℕ) (w x : Option (List ℕ)) (b n : ℕ) 
     nothing_for (Err fault.OutOfMemory) ran ends h = grind arith
 
     read_counts : (r : Result Outcome Fault) → RanFor asked old new r → Ends r status w x b n
-        → ObjectStood (object_of (Some asked)) old.ins new.ins ⊎ (ObjectRose (object_of (Some asked)) old.ins new.ins × ((status ≡ 4) ⊎ (status ≡ 7)))
-    read_counts (Ok o) ran ends = inl (read_stood (object_of (Some asked)) old.ins new.ins ran.0)
+        → ObjectStood (asked_object (Some asked)) old.ins new.ins ⊎ (ObjectRose (asked_object (Some asked)) old.ins new.ins × ((status ≡ 4) ⊎ (status ≡ 7)))
+    read_counts (Ok o) ran ends = inl (read_stood (asked_object (Some asked)) old.ins new.ins ran.0)
     read_counts (Err fault.Words) ran ends = absurd ran
-    read_counts (Err (fault.Input line breach)) ran ends = inl (read_stood (object_of (Some asked)) old.ins new.ins ran.0)
+    read_counts (Err (fault.Input line breach)) ran ends = inl (read_stood (asked_object (Some asked)) old.ins new.ins ran.0)
     read_counts (Err fault.ReadFault) ran ends = inr (ran.0, elim ends [ inl k ↦ inl k.0 | inr k ↦ inr k.0 ])
-    read_counts (Err fault.WriteFault) ran ends = inl (read_stood (object_of (Some asked)) old.ins new.ins ran.0)
+    read_counts (Err fault.WriteFault) ran ends = inl (read_stood (asked_object (Some asked)) old.ins new.ins ran.0)
     read_counts (Err fault.OutOfMemory) ran ends = inl ran.0
 
     written_counts : (r : Result Outcome Fault) → RanFor asked old new r → Ends r status w x b n
@@ -154,7 +154,7 @@ module _ (old new : Scene) (status : ℕ) (w x : Option (List ℕ)) (b n : ℕ) 
     written_counts (Err fault.WriteFault) ran ends = inr (ran.1.4.3, elim ends [ inl k ↦ inl k.0 | inr k ↦ inr k.0 ])
     written_counts (Err fault.OutOfMemory) ran ends = elim ran.1 [ inl none ↦ inl none.1 | inr d ↦ inl d.4.3 ]
 
-    completes_for : (r : Result Outcome Fault) → RanFor asked old new r → Ends r status w x b n → (ObjectRose (object_of (Some asked)) old.ins new.ins → ⊥)
+    completes_for : (r : Result Outcome Fault) → RanFor asked old new r → Ends r status w x b n → (ObjectRose (asked_object (Some asked)) old.ins new.ins → ⊥)
         → (Rose old.out_faults new.out_faults → ⊥) → IsOutputStatus status ⊎ (status ≡ 7)
     completes_for (Ok o) ran ends read write = outcome_or_seven o status ends.0
     completes_for (Err fault.Words) ran ends read write = absurd ran
@@ -196,7 +196,7 @@ module _ (old new : Scene) (status : ℕ) (w x : Option (List ℕ)) (b n : ℕ) 
 
     -- ---- the object that is read
 
-    read_for : (r : Result Outcome Fault) → RanFor asked old new r → Ends r status w x b n → status ≢ 4 → status ≢ 7 → ObjectRead (object_of (Some asked)) old.ins new.ins
+    read_for : (r : Result Outcome Fault) → RanFor asked old new r → Ends r status w x b n → status ≢ 4 → status ≢ 7 → ObjectRead (asked_object (Some asked)) old.ins new.ins
     read_for (Ok o) ran ends not4 not7 = ran.0
     read_for (Err fault.Words) ran ends not4 not7 = absurd ran
     read_for (Err (fault.Input line breach)) ran ends not4 not7 = ran.0
@@ -204,7 +204,7 @@ module _ (old new : Scene) (status : ℕ) (w x : Option (List ℕ)) (b n : ℕ) 
     read_for (Err fault.WriteFault) ran ends not4 not7 = ran.0
     read_for (Err fault.OutOfMemory) ran ends not4 not7 = elim ends [ inl k ↦ absurd (not7 k.0) | inr k ↦ absurd (not7 k.0) ]
 
-    fails_for : (r : Result Outcome Fault) → RanFor asked old new r → Ends r status w x b n → status ≡ 4 → ObjectRose (object_of (Some asked)) old.ins new.ins
+    fails_for : (r : Result Outcome Fault) → RanFor asked old new r → Ends r status w x b n → status ≡ 4 → ObjectRose (asked_object (Some asked)) old.ins new.ins
     fails_for (Ok o) ran ends e = absurd (not_outcome o status 4 ends.0 (omega arith) (omega arith) e)
     fails_for (Err fault.Words) ran ends e = absurd ran
     fails_for (Err (fault.Input line breach)) ran ends e = absurd (other (fault.Input line breach) ends 4 (λ h. omega arith) (λ h. omega arith) e)
@@ -309,7 +309,7 @@ ran_out old new None o ran = absurd ran
 ran_out old new (Some asked) o ran =
     let d = ran.1 in
     let out = told_output asked (run functions_of d.2 d.4.0) in
-    (read_stood (object_of (Some asked)) old.ins new.ins ran.0, inr (d.0, d.1, d.2, d.3, (out, (d.4.0, d.4.1, refl), all_of old.written new.written out.text d.4.3, d.4.4)))
+    (read_stood (asked_object (Some asked)) old.ins new.ins ran.0, inr (d.0, d.1, d.2, d.3, (out, (d.4.0, d.4.1, refl), all_of old.written new.written out.text d.4.3, d.4.4)))
 
 -- ---- what `err` received
 

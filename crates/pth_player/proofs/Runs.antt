@@ -14,7 +14,7 @@ use Rattle.pth_words.specs.declared.words.WordsErr.{WordsErr}
 use Rattle.pth_words.specs.declared.words.WordsErr.TheVariants as words
 use Rattle.pth_player.specs.FaultsOfErrors.{fault_of_sink, fault_of_words}
 use Rattle.pth_player.specs.Drive.{Drives}
-use Rattle.pth_player.specs.Objects.{Inputs, Object, ObjectStood, OthersUntouched, Scene, nothing, object_of, scene, the_file, the_input}
+use Rattle.pth_player.specs.Objects.{Inputs, Object, ObjectStood, OthersUntouched, Scene, asked_object, nothing, scene, the_file, the_input}
 use Rattle.pth_player.specs.Output.{given_script}
 use Rattle.pth_player.specs.Play.{Ran, ReadsScript}
 use Rattle.pth_player.proofs.Reading.{read_stood}
@@ -48,7 +48,7 @@ module _ (asked : Option Asked) (ins : Inputs) (w : Option (List ℕ)) (a : ℕ)
     where
       out_of_memory : (o : Option Asked) → Ran o before before (Err fault.OutOfMemory)
       out_of_memory None = (Appends-nil w, refl)
-      out_of_memory (Some x) = (stood_refl (object_of (Some x)) ins, inl (Appends-nil w, refl))
+      out_of_memory (Some x) = (stood_refl (asked_object (Some x)) ins, inl (Appends-nil w, refl))
 
   unasked_for : (q : Result Choice WordsErr) (s : Result Choice Fault) (e : Fault) → Chooses asked q → MatchResult q (λ c. s ≡ Ok c) (λ x. IsErrAnd s (λ y. y ≡ fault_of_words x)) → s ≡ Err e
       → Ran asked before before (Err e)
@@ -64,7 +64,7 @@ module _ (asked : Option Asked) (ins : Inputs) (w : Option (List ℕ)) (a : ℕ)
     abbrev unwritten : Scene
     unwritten = scene later w a
 
-    unread_by : (e : Fault) → ReadsScript (object_of (Some x)) ins later (Err e) → Ran (Some x) before unwritten (Err e)
+    unread_by : (e : Fault) → ReadsScript (asked_object (Some x)) ins later (Err e) → Ran (Some x) before unwritten (Err e)
     unread_by (fault.Input line breach) h = (h.0, h.1, (Appends-nil w, refl))
     unread_by fault.ReadFault h = (h, (Appends-nil w, refl))
     unread_by fault.OutOfMemory h = (h, inl (Appends-nil w, refl))
@@ -72,24 +72,24 @@ module _ (asked : Option Asked) (ins : Inputs) (w : Option (List ℕ)) (a : ℕ)
     unread_by fault.WriteFault h = absurd h
 
     -- the object was not read, or it holds no script
-    pub unread : (e : Fault) (r : Result Outcome Fault) → ReadsScript (object_of (Some x)) ins later (Err e) → IsErr r → IsErrAnd r (λ y. y ≡ e) → Ran asked before unwritten r
+    pub unread : (e : Fault) (r : Result Outcome Fault) → ReadsScript (asked_object (Some x)) ins later (Err e) → IsErr r → IsErrAnd r (λ y. y ≡ e) → Ran asked before unwritten r
     unread e r h some k = subst (λ y. Ran asked before unwritten y) (sym (err_is r e some k)) (subst (λ o. Ran o before unwritten (Err e)) (sym is) (unread_by e h))
 
     -- memory ran out for the machine
-    pub unmade : ObjectStood (object_of (Some x)) ins later → Ran asked before unwritten (Err fault.OutOfMemory)
+    pub unmade : ObjectStood (asked_object (Some x)) ins later → Ran asked before unwritten (Err fault.OutOfMemory)
     unmade stood = subst (λ o. Ran o before unwritten (Err fault.OutOfMemory)) (sym is) (stood, inl (Appends-nil w, refl))
 
     module _ (z : Option (List ℕ)) (b : ℕ) where
       abbrev after : Scene
       after = scene later z b
 
-      drove_by : (script : Sections × KernelOf) (r : Result Outcome SinkErr) (s : Result Outcome Fault) → ReadsScript (object_of (Some x)) ins later (Ok script)
+      drove_by : (script : Sections × KernelOf) (r : Result Outcome SinkErr) (s : Result Outcome Fault) → ReadsScript (asked_object (Some x)) ins later (Ok script)
           → Drives functions_of (given_script script) x w z a b r → MatchResult r (λ o. s ≡ Ok o) (λ e. IsErrAnd s (λ y. y ≡ fault_of_sink e)) → Ran (Some x) before after s
       drove_by script (Ok o) s h d e = subst (λ y. Ran (Some x) before after y) (sym e) (h.0, (h.1.0, h.1.1, given_script script, h.1.2, d))
       drove_by script (Err sink.Failed) s h d e = subst (λ y. Ran (Some x) before after y) (sym (err_and s fault.WriteFault e)) (h.0, (h.1.0, h.1.1, given_script script, h.1.2, d))
-      drove_by script (Err sink.OutOfMemory) s h d e = subst (λ y. Ran (Some x) before after y) (sym (err_and s fault.OutOfMemory e)) (read_stood (object_of (Some x)) ins later h.0, inr (h.1.0, h.1.1, given_script script, h.1.2, d))
+      drove_by script (Err sink.OutOfMemory) s h d e = subst (λ y. Ran (Some x) before after y) (sym (err_and s fault.OutOfMemory e)) (read_stood (asked_object (Some x)) ins later h.0, inr (h.1.0, h.1.1, given_script script, h.1.2, d))
 
       -- the machine was driven
-      pub drove : (script : Sections × KernelOf) (r : Result Outcome SinkErr) (s : Result Outcome Fault) → ReadsScript (object_of (Some x)) ins later (Ok script)
+      pub drove : (script : Sections × KernelOf) (r : Result Outcome SinkErr) (s : Result Outcome Fault) → ReadsScript (asked_object (Some x)) ins later (Ok script)
           → Drives functions_of (given_script script) x w z a b r → MatchResult r (λ o. s ≡ Ok o) (λ e. IsErrAnd s (λ y. y ≡ fault_of_sink e)) → Ran asked before after s
       drove script r s h d e = subst (λ o. Ran o before after s) (sym is) (drove_by script r s h d e)

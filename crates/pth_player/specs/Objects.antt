@@ -50,9 +50,9 @@ object_named None = the_input
 object_named (Some name) = if bytes_eq name (codes "-") then the_input else the_file name
 
 -- the object that the words name; nothing is read where they are refused
-abbrev pub object_of : Option Asked → Object
-object_of None = nothing
-object_of (Some asked) = object_named asked.file
+abbrev pub asked_object : Option Asked → Object
+asked_object None = nothing
+asked_object (Some asked) = object_named asked.file
 
 -- what it holds, where that is told
 abbrev pub content_of : Object → Inputs → Option (List ℕ)
@@ -61,7 +61,7 @@ content_of the_input s = s.left
 content_of (the_file name) s = s.held name
 
 abbrev pub content : Option Asked → Scene → Option (List ℕ)
-content asked s = content_of (object_of asked) s.ins
+content asked s = content_of (asked_object asked) s.ins
 
 -- one fault of it was counted
 abbrev pub ObjectRose : Object → Inputs → Inputs → Type 0

@@ -14,7 +14,7 @@ use Rattle.pth_model.specs.State.{Given}
 use Rattle.pth_script.specs.Broken.{IsRefusal}
 use Rattle.pth_text.specs.declared.rule.Breach.{Breach}
 use Rattle.pth_words.specs.CommandWords.{Asked}
-use Rattle.pth_player.specs.Objects.{AreHeld, Inputs, Object, ObjectRead, ObjectRose, ObjectStood, Scene, content, cut, content_of, object_of}
+use Rattle.pth_player.specs.Objects.{AreHeld, Inputs, Object, ObjectRead, ObjectRose, ObjectStood, Scene, asked_object, content, cut, content_of}
 use Rattle.pth_player.specs.Streams.{AppendsPart, AppendsPrefix}
 use Rattle.pth_player.specs.Output.{Output, IsTheOutput, IsRefused, IsTheScript, given_script, outcome_status}
 use Rattle.pth_player.specs.Drive.{Drives}
@@ -53,12 +53,12 @@ IsUnwritten old new = Appends old.written new.written [] × (new.out_faults ≡ 
 
 -- what was done for these words but for the line of a fault
 abbrev pub RanFor : Asked → Scene → Scene → Result Outcome Fault → Type 0
-RanFor asked old new (Ok o) = ObjectRead (object_of (Some asked)) old.ins new.ins × DrivesScript asked old new (Ok o)
+RanFor asked old new (Ok o) = ObjectRead (asked_object (Some asked)) old.ins new.ins × DrivesScript asked old new (Ok o)
 RanFor asked old new (Err fault.Words) = ⊥
-RanFor asked old new (Err (fault.Input line breach)) = ObjectRead (object_of (Some asked)) old.ins new.ins × HoldsRefused asked old line breach × IsUnwritten old new
-RanFor asked old new (Err fault.ReadFault) = ObjectRose (object_of (Some asked)) old.ins new.ins × IsUnwritten old new
-RanFor asked old new (Err fault.WriteFault) = ObjectRead (object_of (Some asked)) old.ins new.ins × DrivesScript asked old new (Err sink.Failed)
-RanFor asked old new (Err fault.OutOfMemory) = ObjectStood (object_of (Some asked)) old.ins new.ins × (IsUnwritten old new ⊎ DrivesScript asked old new (Err sink.OutOfMemory))
+RanFor asked old new (Err (fault.Input line breach)) = ObjectRead (asked_object (Some asked)) old.ins new.ins × HoldsRefused asked old line breach × IsUnwritten old new
+RanFor asked old new (Err fault.ReadFault) = ObjectRose (asked_object (Some asked)) old.ins new.ins × IsUnwritten old new
+RanFor asked old new (Err fault.WriteFault) = ObjectRead (asked_object (Some asked)) old.ins new.ins × DrivesScript asked old new (Err sink.Failed)
+RanFor asked old new (Err fault.OutOfMemory) = ObjectStood (asked_object (Some asked)) old.ins new.ins × (IsUnwritten old new ⊎ DrivesScript asked old new (Err sink.OutOfMemory))
 
 -- where the words are refused nothing is written
 abbrev pub Ran : Option Asked → Scene → Scene → Result Outcome Fault → Type 0
@@ -96,7 +96,7 @@ IsFaultStatus status = (status ≡ 2) ⊎ ((status ≡ 3) ⊎ ((status ≡ 4) �
 
 -- with a status other than 4 and 7 the object read lost what was read of it, all or as much as the limit and a byte, and no read failed
 abbrev pub ReadsWhole : Option Asked → Scene → Scene → ℕ → Type 0
-ReadsWhole asked old new status = status ≢ 4 → status ≢ 7 → ObjectRead (object_of asked) old.ins new.ins
+ReadsWhole asked old new status = status ≢ 4 → status ≢ 7 → ObjectRead (asked_object asked) old.ins new.ins
 
 -- status 2 comes exactly where the words are refused, but for want of memory
 pub record RefusesWords (asked : Option Asked) (status : ℕ) : Type 0 where
@@ -110,7 +110,7 @@ pub record RefusesInput (asked : Option Asked) (old : Scene) (status : ℕ) : Ty
 
 -- status 4 and 5 come only from an object that failed
 pub record Faults (asked : Option Asked) (old new : Scene) (status : ℕ) : Type 0 where
-  pub read : status ≡ 4 → (asked ≢ None) × ObjectRose (object_of asked) old.ins new.ins
+  pub read : status ≡ 4 → (asked ≢ None) × ObjectRose (asked_object asked) old.ins new.ins
   pub write : status ≡ 5 → Rose old.out_faults new.out_faults
 
 -- the line of an output's fault was written, and nothing where it has none
@@ -140,10 +140,10 @@ pub record WritesOutput (asked : Option Asked) (old new : Scene) (status : ℕ) 
 -- What the counts of faults say. Each stands still or rises by one.
 pub record Completes (asked : Option Asked) (old new : Scene) (status : ℕ) (err_old err_new : Option (List ℕ)) (before now : ℕ) : Type 0 where
   -- where neither that of the object read nor that of `out` rose, the output was written whole, or memory ran out
-  pub whole : (ObjectRose (object_of asked) old.ins new.ins → ⊥) → (Rose old.out_faults new.out_faults → ⊥)
+  pub whole : (ObjectRose (asked_object asked) old.ins new.ins → ⊥) → (Rose old.out_faults new.out_faults → ⊥)
       → WritesWhole asked old new status err_old err_new before now ⊎ (status ≡ 7)
   -- that of the object read rises with 4, and may with 7
-  pub read : ObjectStood (object_of asked) old.ins new.ins ⊎ (ObjectRose (object_of asked) old.ins new.ins × ((status ≡ 4) ⊎ (status ≡ 7)))
+  pub read : ObjectStood (asked_object asked) old.ins new.ins ⊎ (ObjectRose (asked_object asked) old.ins new.ins × ((status ≡ 4) ⊎ (status ≡ 7)))
   -- that of `out` rises with 5, and may with 7
   pub written : (new.out_faults ≡ old.out_faults) ⊎ (Rose old.out_faults new.out_faults × ((status ≡ 5) ⊎ (status ≡ 7)))
 

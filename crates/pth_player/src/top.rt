@@ -2,7 +2,7 @@
 
 ghost use Rattle.std.specs.Prelude.{◌≡◌, ◌≤◌, map, string_bytes};
 ghost use Rattle.pth_words.specs.CommandWords.{asked_by};
-ghost use Rattle.pth_player.specs.Objects.{inputs, object_of, scene, OthersUntouched};
+ghost use Rattle.pth_player.specs.Objects.{asked_object, inputs, scene, OthersUntouched};
 ghost use Rattle.pth_player.specs.Play.{Ends, Plays};
 
 use crate::report::report_fault;
@@ -49,7 +49,7 @@ pub fn play<S: Source, F: Files, O: Sink, E: Sink>(
     err: &mut E,
 ) -> u8
     ensures status { result ≤ 7 }
-    ensures others { OthersUntouched (object_of (asked_by (map string_bytes words.now.items))) input.old input.new files.old files.new }
+    ensures others { OthersUntouched (asked_object (asked_by (map string_bytes words.now.items))) input.old input.new files.old files.new }
     ensures plays { Plays (asked_by (map string_bytes words.now.items))
         (scene (inputs (S.left input.old) (S.faults input.old) (F.left files.old) (F.held files.old) (F.faults files.old)) (O.written out.old) (O.faults out.old))
         (scene (inputs (S.left input.new) (S.faults input.new) (F.left files.new) (F.held files.new) (F.faults files.new)) (O.written out.new) (O.faults out.new))

@@ -7,10 +7,10 @@ use Rattle.pth_spelling.specs.declared.keyword.Keyword.TheVariants as key
 use Rattle.pth_kernel.specs.declared.trace.Stamp.{Stamp}
 use Rattle.pth_kernel_lines.specs.KernelLines.{open_line, stamp_line}
 use Rattle.pth_script.specs.TextRows.{above}
-use Rattle.pth_script.specs.Seen.{Seen, seen_of, seen_past, script_past, opens_past, stamps_past, section_of, since_mark, numbers, count_of, next_open_of, live_of, stamps_of}
+use Rattle.pth_script.specs.Seen.{Seen, seen_of, seen_past, script_past, opens_past, stamps_past, section_of, since_mark, numbers, count_of, next_open_of, open_descriptors_of, stamps_of}
 
 -- what is seen of handlers, checks and bodies
-script_by : (k : Option Keyword) (l : List (List ℕ)) (ls : List (List (List ℕ))) → begins l ≡ k → record (seen_of (l ∷ ls)) { next_open = next_open_of ls; live = live_of ls; stamps = stamps_of ls } ≡ script_past k (numbered l) (seen_of ls)
+script_by : (k : Option Keyword) (l : List (List ℕ)) (ls : List (List (List ℕ))) → begins l ≡ k → record (seen_of (l ∷ ls)) { next_open = next_open_of ls; live = open_descriptors_of ls; stamps = stamps_of ls } ≡ script_past k (numbered l) (seen_of ls)
 unfolding section_of since_mark numbers count_of
 script_by (Some key.Handler) l ls e = rw e refl
 script_by (Some key.Check) l ls e = rw e refl
@@ -31,7 +31,7 @@ stamps_by (Some x) l ls s e same = rw e (λ i. record s { stamps = x ∷ sym sam
 stamps_by None l ls s e same = rw e (λ i. record s { stamps = sym same i })
 
 pub seen_more : (l : List (List ℕ)) (ls : List (List (List ℕ))) → seen_of (l ∷ ls) ≡ seen_past l (seen_of ls)
-unfolding next_open_of live_of
+unfolding next_open_of open_descriptors_of
 seen_more l ls =
     stamps_by (stamp_line l) l ls (record (seen_of (l ∷ ls)) { stamps = stamps_of ls }) refl refl ∙ (λ i. stamps_past (stamp_line l) (opens_past (open_line l) (script_by (begins l) l ls refl i)))
 

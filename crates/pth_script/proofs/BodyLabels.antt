@@ -11,7 +11,7 @@ use Rattle.std.proofs.lemmas.Bool.Decides.{Decides-int_eq}
 use Rattle.std.proofs.lemmas.List.{map-append, length-map}
 use Rattle.pth_line.specs.declared.line.Line.{Line}
 use Rattle.pth_line.specs.declared.line.Line.TheVariants as line
-use Rattle.pth_script.specs.Labels.{somes, label_in, goto_in, listed, labels_in, gotos_in, has, is_this_label, place_after}
+use Rattle.pth_script.specs.Labels.{somes, label_in, goto_in, one_or_none, labels_in, gotos_in, has, is_this_label, place_after}
 use Rattle.pth_script.specs.Bodies.{IsIndexed, Marks}
 
 -- ---- lists of lines
@@ -19,18 +19,18 @@ use Rattle.pth_script.specs.Bodies.{IsIndexed, Marks}
 pub labels_append : (xs ys : List Line) → labels_in (xs ++ ys) ≡ labels_in xs ++ labels_in ys
 unfolding labels_in
 labels_append [] ys = refl
-labels_append (l ∷ xs) ys = ap (λ (ns : List ℤ). listed (label_in l) ++ ns) (labels_append xs ys) ∙ sym (append_assoc (listed (label_in l)) (labels_in xs) (labels_in ys))
+labels_append (l ∷ xs) ys = ap (λ (ns : List ℤ). one_or_none (label_in l) ++ ns) (labels_append xs ys) ∙ sym (append_assoc (one_or_none (label_in l)) (labels_in xs) (labels_in ys))
 
 pub gotos_append : (xs ys : List Line) → gotos_in (xs ++ ys) ≡ gotos_in xs ++ gotos_in ys
 unfolding gotos_in
 gotos_append [] ys = refl
-gotos_append (l ∷ xs) ys = ap (λ (ns : List ℤ). listed (goto_in l) ++ ns) (gotos_append xs ys) ∙ sym (append_assoc (listed (goto_in l)) (gotos_in xs) (gotos_in ys))
+gotos_append (l ∷ xs) ys = ap (λ (ns : List ℤ). one_or_none (goto_in l) ++ ns) (gotos_append xs ys) ∙ sym (append_assoc (one_or_none (goto_in l)) (gotos_in xs) (gotos_in ys))
 
 -- a test of each label that a `goto` names, line by line
-pub all_gotos : (p : ℤ → Bool) (ls : List Line) → list_all p (gotos_in ls) ≡ list_all (λ l. list_all p (listed (goto_in l))) ls
+pub all_gotos : (p : ℤ → Bool) (ls : List Line) → list_all p (gotos_in ls) ≡ list_all (λ l. list_all p (one_or_none (goto_in l))) ls
 unfolding gotos_in
 all_gotos p [] = refl
-all_gotos p (l ∷ ls) = rw (list_all-append p (listed (goto_in l)) (gotos_in ls), all_gotos p ls)
+all_gotos p (l ∷ ls) = rw (list_all-append p (one_or_none (goto_in l)) (gotos_in ls), all_gotos p ls)
 
 -- ---- a label has a place after it
 
@@ -47,14 +47,14 @@ is_some_suc : (o : Option ℕ) → is_some o ≡ is_some (option_map (λ n. suc 
 is_some_suc None = refl
 is_some_suc (Some n) = refl
 
-has_line : (l : Line) (k : ℤ) (b : Bool) (o : Option ℕ) → b ≡ is_some o → (has (listed (label_in l)) k || b) ≡ is_some (cond (is_this_label (Some l) k) (Some 1) (option_map (λ n. suc n) o))
+has_line : (l : Line) (k : ℤ) (b : Bool) (o : Option ℕ) → b ≡ is_some o → (has (one_or_none (label_in l)) k || b) ≡ is_some (cond (is_this_label (Some l) k) (Some 1) (option_map (λ n. suc n) o))
 has_line (line.Label n) k b o e = has_or (int_eq n k) b o e
 has_line l k b o e = e ∙ is_some_suc o
 
 pub has_place : (ls : List Line) (k : ℤ) → has (labels_in ls) k ≡ is_some (place_after (somes ls) k)
 unfolding labels_in place_after
 has_place [] k = refl
-has_place (l ∷ ls) k = list_any-append (λ m. int_eq m k) (listed (label_in l)) (labels_in ls) ∙ has_line l k (has (labels_in ls) k) (place_after (somes ls) k) (has_place ls k)
+has_place (l ∷ ls) k = list_any-append (λ m. int_eq m k) (one_or_none (label_in l)) (labels_in ls) ∙ has_line l k (has (labels_in ls) k) (place_after (somes ls) k) (has_place ls k)
 
 -- what the map says of a label
 pub looked_up : (o : Option (Bor ℕ)) (ls : List Line) (m : BTreeMap ℤ ℕ) (k : ℤ) → IsIndexed ls m → option_copied o ≡ get int_cmp m k → is_some o ≡ has (labels_in ls) k

@@ -11,7 +11,7 @@ use Rattle.pth_spelling.specs.declared.keyword.Keyword.TheVariants as key
 use Rattle.pth_line.specs.declared.act_line.ActLine.{ActLine}
 use Rattle.pth_line.specs.declared.line.Line.{Line}
 use Rattle.pth_line.specs.declared.line.Line.TheVariants as line
-use Rattle.pth_script.specs.Labels.{label_in, goto_in, listed}
+use Rattle.pth_script.specs.Labels.{label_in, goto_in, one_or_none}
 use Rattle.pth_script.specs.Seen.{Seen, script_past, is_handler, is_check, is_thread, is_end, is_clock, is_opening, is_stamp}
 use Rattle.pth_script.proofs.KernelPast.{IsOutside}
 
@@ -57,14 +57,14 @@ act_begins (w ∷ ws) a e = act_begins_by (is_some (register_of w)) (keyword_of 
 pub record IsLine (k : Option Keyword) (n : Option ℤ) (l : Line) : Type 0 where
   pub inner : IsInner k
   pub label : (m : ℤ) → label_in l ≡ Some m → (k ≡ Some key.Label) × (n ≡ Some m)
-  pub past : (s : Seen) → script_past k n s ≡ record s { lines = suc s.lines; labels = s.labels ++ listed (label_in l); gotos = s.gotos ++ listed (goto_in l) }
+  pub past : (s : Seen) → script_past k n s ≡ record s { lines = suc s.lines; labels = s.labels ++ one_or_none (label_in l); gotos = s.gotos ++ one_or_none (goto_in l) }
 
 -- a line that is no label and names none
 plain : (k : Option Keyword) (n : Option ℤ) (l : Line) → IsInner k → ((s : Seen) → script_past k n s ≡ record s { lines = suc s.lines }) → label_in l ≡ None → goto_in l ≡ None → IsLine k n l
 plain k n l i p a b = record {
   inner = i;
   label = λ m e. absurd (cc);
-  past = λ s. p s ∙ sym (λ i. record s { lines = suc s.lines; labels = (ap (λ t. s.labels ++ listed t) a ∙ append-nil s.labels) i; gotos = (ap (λ t. s.gotos ++ listed t) b ∙ append-nil s.gotos) i });
+  past = λ s. p s ∙ sym (λ i. record s { lines = suc s.lines; labels = (ap (λ t. s.labels ++ one_or_none t) a ∙ append-nil s.labels) i; gotos = (ap (λ t. s.gotos ++ one_or_none t) b ∙ append-nil s.gotos) i });
 }
 
 abbrev pub NoLabel : Line → Type 0

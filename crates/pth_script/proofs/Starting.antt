@@ -10,7 +10,7 @@ use Rattle.pth_script.specs.Drafts.{DraftParts, seen_of_draft, IsDraftInOrder, C
 use Rattle.pth_script.specs.KernelDrafts.{clock_with, IsKernelInOrder}
 use Rattle.pth_script.specs.Labels.{somes, labels_in, gotos_in}
 use Rattle.pth_script.specs.Meaning.{parts_of, opens_said, trace_said}
-use Rattle.pth_script.specs.Seen.{seen_of, section_of, since_mark, numbers, count_of, next_open_of, live_of, stamps_of}
+use Rattle.pth_script.specs.Seen.{seen_of, section_of, since_mark, numbers, count_of, next_open_of, open_descriptors_of, stamps_of}
 use Rattle.pth_script.specs.declared.kernel_draft.KernelDraft.{KernelDraft}
 
 abbrev pub nothing : KernelDraft → DraftParts
@@ -30,7 +30,7 @@ none_more live None e = refl
 
 module _ (k : KernelDraft) (blank : IsBlank k) where
   pub nothing_seen : seen_of_draft (nothing k) ≡ seen_of []
-  unfolding section_of since_mark numbers count_of labels_in gotos_in next_open_of live_of stamps_of
+  unfolding section_of since_mark numbers count_of labels_in gotos_in next_open_of open_descriptors_of stamps_of
   nothing_seen i = record { section = sec.Handlers; handlers = 0; checks = 0; bodies = 0; lines = 0; labels = []; gotos = []; next_open = blank.next_open i; live = blank.live i; stamps = reverse (blank.trace i) }
 
   pub nothing_kept : IsDraftInOrder (nothing k)

@@ -13,7 +13,7 @@ use Rattle.pth_kernel_lines.specs.declared.part.KernelPart.TheVariants as part
 use Rattle.pth_line.specs.declared.act_line.ActLine.{ActLine}
 use Rattle.pth_line.specs.declared.check.Check.{Check}
 use Rattle.pth_line.specs.declared.line.Line.{Line}
-use Rattle.pth_script.specs.Labels.{somes, labels_in, gotos_in, label_in, goto_in, listed, with_places}
+use Rattle.pth_script.specs.Labels.{somes, labels_in, gotos_in, label_in, goto_in, one_or_none, with_places}
 use Rattle.pth_script.specs.Meaning.{Parts, checks_of}
 use Rattle.pth_script.specs.Seen.{Seen, seen_past, opened, is_handler, is_check, is_thread, is_end}
 use Rattle.pth_script.specs.Drafts.{DraftParts, seen_of_draft, rest_of_sections, in_handler, in_body, in_kernel, in_entries, below_part, with_open, IsDraftInOrder, Takes}
@@ -47,15 +47,15 @@ one_more_of n xs x = omega (arith, length-append xs (x ∷ []))
 ended : {A : Type 0} (xs : List A) (x : A) → length (xs ++ x ∷ []) ≡ length xs + 1
 ended xs x = length-append xs (x ∷ [])
 
-labels_more : (ls : List Line) (l : Line) → labels_in (ls ++ l ∷ []) ≡ labels_in ls ++ listed (label_in l)
+labels_more : (ls : List Line) (l : Line) → labels_in (ls ++ l ∷ []) ≡ labels_in ls ++ one_or_none (label_in l)
 unfolding labels_in
-labels_more [] l = append-nil (listed (label_in l))
-labels_more (m ∷ ls) l = ap (λ t. listed (label_in m) ++ t) (labels_more ls l) ∙ sym (append_assoc (listed (label_in m)) (labels_in ls) (listed (label_in l)))
+labels_more [] l = append-nil (one_or_none (label_in l))
+labels_more (m ∷ ls) l = ap (λ t. one_or_none (label_in m) ++ t) (labels_more ls l) ∙ sym (append_assoc (one_or_none (label_in m)) (labels_in ls) (one_or_none (label_in l)))
 
-gotos_more : (ls : List Line) (l : Line) → gotos_in (ls ++ l ∷ []) ≡ gotos_in ls ++ listed (goto_in l)
+gotos_more : (ls : List Line) (l : Line) → gotos_in (ls ++ l ∷ []) ≡ gotos_in ls ++ one_or_none (goto_in l)
 unfolding gotos_in
-gotos_more [] l = append-nil (listed (goto_in l))
-gotos_more (m ∷ ls) l = ap (λ t. listed (goto_in m) ++ t) (gotos_more ls l) ∙ sym (append_assoc (listed (goto_in m)) (gotos_in ls) (listed (goto_in l)))
+gotos_more [] l = append-nil (one_or_none (goto_in l))
+gotos_more (m ∷ ls) l = ap (λ t. one_or_none (goto_in m) ++ t) (gotos_more ls l) ∙ sym (append_assoc (one_or_none (goto_in m)) (gotos_in ls) (one_or_none (goto_in l)))
 
 -- what is kept of a kernel above it
 shut_by : (s : Section) → in_kernel s ≡ false → (below_part s ≡ false) × (in_entries s ≡ false)

@@ -22,19 +22,19 @@ goto_in (line.Goto k to x r y) = Some k
 goto_in _ = None
 
 -- one thing, or none
-abbrev pub listed : {A : Type 0} → Option A → List A
-listed (Some x) = x ∷ []
-listed None = []
+abbrev pub one_or_none : {A : Type 0} → Option A → List A
+one_or_none (Some x) = x ∷ []
+one_or_none None = []
 
 -- the labels of lines
 unfoldable pub labels_in : List Line → List ℤ
 labels_in [] = []
-labels_in (l ∷ ls) = listed (label_in l) ++ labels_in ls
+labels_in (l ∷ ls) = one_or_none (label_in l) ++ labels_in ls
 
 -- the labels that lines name
 unfoldable pub gotos_in : List Line → List ℤ
 gotos_in [] = []
-gotos_in (l ∷ ls) = listed (goto_in l) ++ gotos_in ls
+gotos_in (l ∷ ls) = one_or_none (goto_in l) ++ gotos_in ls
 
 -- a number is in a list
 abbrev pub has : List ℤ → ℤ → Bool

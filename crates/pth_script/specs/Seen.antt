@@ -126,9 +126,9 @@ with_open_one (Some f) live = live + 2 ^ f
 with_open_one None live = live
 
 -- the set of the descriptors that are open from the start
-unfoldable pub live_of : List (List (List ℕ)) → ℕ
-live_of [] = 0
-live_of (l ∷ ls) = with_open_one (open_line l) (live_of ls)
+unfoldable pub open_descriptors_of : List (List (List ℕ)) → ℕ
+open_descriptors_of [] = 0
+open_descriptors_of (l ∷ ls) = with_open_one (open_line l) (open_descriptors_of ls)
 
 -- what comes, the nearest first
 unfoldable pub stamps_of : List (List (List ℕ)) → List Stamp
@@ -161,7 +161,7 @@ seen_of ls = record {
   labels = numbers is_label (since_mark ls);
   gotos = numbers is_goto (since_mark ls);
   next_open = next_open_of ls;
-  live = live_of ls;
+  live = open_descriptors_of ls;
   stamps = stamps_of ls;
 }
 

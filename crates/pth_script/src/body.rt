@@ -3,7 +3,7 @@
 ghost use Rattle.std.specs.Prelude.{◌≡◌, [], ◌∷◌, ◌++◌, List, Some, OnOk, OnErr, IfOk, IfSome, length, false};
 ghost use Rattle.std.specs.BTreeMap.{IsUnchanged};
 ghost use Rattle.std.specs.List.{list_all};
-ghost use Rattle.pth_script.specs.Labels.{somes, label_in, goto_in, listed, labels_in, gotos_in, has, with_places, placed_in};
+ghost use Rattle.pth_script.specs.Labels.{somes, label_in, goto_in, one_or_none, labels_in, gotos_in, has, with_places, placed_in};
 ghost use Rattle.pth_script.specs.Bodies.{IsIndexed, Marks};
 ghost use Rattle.pth_line.specs.declared.line.Line.{Line};
 
@@ -68,7 +68,7 @@ impl Body {
 
     /// Whether the label that a line goes to, if it goes to one, is there.
     fn finds(&self, line: &Line) -> bool
-        ensures { result ≡ list_all (λ n. has (labels_in self.now) n) (listed (goto_in line.now)) }
+        ensures { result ≡ list_all (λ n. has (labels_in self.now) n) (one_or_none (goto_in line.now)) }
     {
         match line {
             Line::Goto { label, .. } => self.has_label(*label),

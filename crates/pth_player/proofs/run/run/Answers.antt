@@ -2,7 +2,7 @@ use Rattle.std.proofs.Common.{Option, map, string_bytes, subst, sym}
 use Rattle.pth_words.specs.CommandWords.{Asked, asked_by, asked_of}
 use Rattle.pth_player.proofs.Reading.{read_stood}
 use Rattle.pth_player.proofs.Runs.{drove, is_asked, others_refl, unasked, unmade, unread}
-use Rattle.pth_player.specs.Objects.{OthersUntouched, inputs, object_of}
+use Rattle.pth_player.specs.Objects.{OthersUntouched, asked_object, inputs}
 use Rattle.pth_player.specs.Output.{given_script}
 use Rattle.pth_player.proofs.run.run.Goals as goal
 
@@ -38,19 +38,19 @@ returns-clause-ran g c =
     c.in_ok-read.read c.drive.result _ c.in_ok-read.ensures.script (c.drive.ensures.written (given_script c.in_ok-read.read) c.in-Ok.ensures.stands) c.map_err-2.ensures.cases
 
 pub returns-in_err-choice-clause-others : goal.returns-in_err-choice-clause-others
-returns-in_err-choice-clause-others g c = others_refl (object_of (asked_by (map string_bytes c.args.words.now.items))) c.args.input.now c.args.files.now
+returns-in_err-choice-clause-others g c = others_refl (asked_object (asked_by (map string_bytes c.args.words.now.items))) c.args.input.now c.args.files.now
 
 pub returns-in_err-read-clause-others : goal.returns-in_err-read-clause-others
 returns-in_err-read-clause-others g c =
     let is = is_asked (asked_by (map string_bytes c.args.words.now.items)) c.read_words.result c.map_err.result c.in_ok-choice.choice c.read_words.ensures.answers c.map_err.ensures.cases c.in_ok-choice.was in
-    subst (λ (o : Option Asked). OthersUntouched (object_of o) c.args.input.now c.read_script.new.input c.args.files.now c.read_script.new.files) (sym is) c.read_script.ensures.others
+    subst (λ (o : Option Asked). OthersUntouched (asked_object o) c.args.input.now c.read_script.new.input c.args.files.now c.read_script.new.files) (sym is) c.read_script.ensures.others
 
 pub returns-in_default-clause-others : goal.returns-in_default-clause-others
 returns-in_default-clause-others g c =
     let is = is_asked (asked_by (map string_bytes c.args.words.now.items)) c.read_words.result c.map_err.result c.in_ok-choice.choice c.read_words.ensures.answers c.map_err.ensures.cases c.in_ok-choice.was in
-    subst (λ (o : Option Asked). OthersUntouched (object_of o) c.args.input.now c.read_script.new.input c.args.files.now c.read_script.new.files) (sym is) c.read_script.ensures.others
+    subst (λ (o : Option Asked). OthersUntouched (asked_object o) c.args.input.now c.read_script.new.input c.args.files.now c.read_script.new.files) (sym is) c.read_script.ensures.others
 
 pub returns-clause-others : goal.returns-clause-others
 returns-clause-others g c =
     let is = is_asked (asked_by (map string_bytes c.args.words.now.items)) c.read_words.result c.map_err.result c.in_ok-choice.choice c.read_words.ensures.answers c.map_err.ensures.cases c.in_ok-choice.was in
-    subst (λ (o : Option Asked). OthersUntouched (object_of o) c.args.input.now c.read_script.new.input c.args.files.now c.read_script.new.files) (sym is) c.read_script.ensures.others
+    subst (λ (o : Option Asked). OthersUntouched (asked_object o) c.args.input.now c.read_script.new.input c.args.files.now c.read_script.new.files) (sym is) c.read_script.ensures.others
