@@ -123,21 +123,27 @@ module _ {P S H : Type 0} (Meant : Standing → Type 0) where
 
     kept_by_calls : (f : P → Functions S H) (t : ℕ) → KeptBy f t (Kept Meant)
     kept_by_calls f t = record {
+      calls = record {
+        shares = λ h s k. k;
+        spawned = kept_spawned f;
+        suspended = λ u s other lives k. kept_suspended u s k;
+        resumed = λ u s other k. kept_resumed u s k;
+        removed = λ n u s taken k. kept_removed u s k;
+        favoured = λ b s k. k;
+        changed = λ v u c s is k. kept_changed u c s k;
+        added = λ x s k. k;
+        exchanged = λ n o s k. k;
+        evented = λ x s none k. k;
+        described = λ ds s k. k;
+        used = λ o s k. k;
+        requested = λ u b s apart k. kept_changed u (change.Request b) s k;
+      };
       goes = kept_goes;
-      shares = λ h s k. k;
-      spawned = kept_spawned f;
-      suspended = λ u s other k. kept_suspended u s k;
-      resumed = λ u s other k. kept_resumed u s k;
-      preferred = λ u s known k. k;
-      removed = kept_removed;
-      favoured = λ b s k. k;
-      changed = kept_changed;
-      added = λ x s k. k;
-      exchanged = λ n o s k. k;
-      evented = λ x s k. k;
-      described = λ ds s k. k;
-      used = λ o s k. k;
+      claimed = λ x s k. k;
+      preferred = λ u s runs k. k;
       left = kept_left t;
+      ended = λ u v s other up k. kept_left u v s k;
+      dropped = λ u s other dead k. kept_removed u s k;
       vanished = kept_vanished t;
     }
 

@@ -49,12 +49,12 @@ stands-above t n (x ∷ xs) above low =
     let other : (x.tid == t) ≡ false = not_same x.tid t (omega arith) in
     stands-cons t x xs ∙ rw (other, stands-above t n xs above (All-tail (λ x. x.tid ≤ n) x xs low))
 
--- whose rows are shown
-pub shown-low : (raises n : ℕ) (all : List Standing) → All (λ x. x.tid ≤ n) all → All (λ t. t ≤ n) (holders (shown raises all))
+-- what holds of those that stand in a queue holds of those whose rows are shown
+pub shown-all : (P : ℕ → Type 0) (raises : ℕ) (all : List Standing) → All (λ x. P x.tid) all → All P (holders (shown raises all))
 unfolding shown
-shown-low raises n all low =
-    All-map (λ t. t ≤ n) (λ (r : Ranked). r.holder) (map (row_at raises) (order all))
-    (All-map (λ (r : Ranked). r.holder ≤ n) (row_at raises) (order all) (All-permutation (λ x. x.tid ≤ n) all (order all) (same-order all) low))
+shown-all P raises all each =
+    All-map P (λ (r : Ranked). r.holder) (map (row_at raises) (order all))
+    (All-map (λ (r : Ranked). P r.holder) (row_at raises) (order all) (All-permutation (λ x. P x.tid) all (order all) (same-order all) each))
 
 -- ---- every queue of a state
 
@@ -178,4 +178,4 @@ module _ {P S H : Type 0} where
     times-enter_other t q rank top u other = times-enter s t q rank top u ∙ rw (not_same t u other) (omega arith)
 
     pub rows-low : (q : Queue) → All (λ t. t ≤ s.threads.made) (holders (queue s q))
-    rows-low q = shown-low (raises_of s.threads.raises q) s.threads.made (s.threads.standing q) (sets.low q)
+    rows-low q = shown-all (λ t. t ≤ s.threads.made) (raises_of s.threads.raises q) (s.threads.standing q) (sets.low q)

@@ -27,20 +27,21 @@ use Rattle.pth_model.specs.Changes.{sets, enters, goes_on, leaves_queue, makes, 
 use Rattle.pth_model.specs.ThreadControl.{spawns, suspends, resumes, returns_to}
 use Rattle.pth_model.specs.LibraryControl.{vanish_all_but}
 use Rattle.pth_model.specs.Ending.{leaves, is_dead_with, other_than, stops_running}
+use Rattle.pth_model.specs.Living.{is_dead}
 use Rattle.pth_model.specs.Pass.{is_ready_at, woken, all_woken, pass, looks, waiting, is_to_wake, to_wake, moment}
 use Rattle.pth_model.specs.Part.{Part, next_part, next_part_by, unless_ended, is_idle, part, part_by, moves, moves_by, readies, readies_all, readies_new, new_rank, is_put_back, is_put_waiting, is_placed, placed_by, closes, turn_ends, takes, takes_by, dispatches, runs, chosen, steps, steps_on, turn_after, ends_run, gives_up}
 use Rattle.pth_model.specs.Run.{parts, run}
 use Rattle.pth_model.specs.Order.{times_listed, IsOnce}
-use Rattle.pth_model.proofs.Walks.{IsOther, KeptBy, step_keeps}
+use Rattle.pth_model.proofs.Walks.{IsOther, KeptBy, runs_some, step_keeps}
 use Rattle.pth_model.proofs.Once.{SetsOf, Sets, times_in, sets-enter, sets-leave, sets-thread, sets-change, sets-forget, times-above, times-enter_other, times-leave, times-leave_le, rows-low, stands-cons, at_most_one}
 
 -- where threads stand, and who runs
-record Seats : Type 0 where
-  made : ℕ
-  known : ℕ → Option Entry
-  standing : Queue → List Standing
-  preferred : Option ℕ
-  running : Option ℕ
+pub record Seats : Type 0 where
+  pub made : ℕ
+  pub known : ℕ → Option Entry
+  pub standing : Queue → List Standing
+  pub preferred : Option ℕ
+  pub running : Option ℕ
 
 -- the thread that runs stands nowhere
 record IsSeated (x : Seats) : Type 0 where
@@ -108,7 +109,7 @@ gave_after t (next.Ended v) x none u e = gives_up-own t (ends_run v (t == main) 
 gave_after t next.Killed x none u e = absurd (none_some u (sym none ∙ e))
 
 module _ {P S H : Type 0} where
-  abbrev seats : Control P S H → Seats
+  abbrev pub seats : Control P S H → Seats
   seats k = record { made = k.threads.made; known = k.threads.known; standing = k.threads.standing; preferred = k.scheduler.preferred; running = k.scheduler.running }
 
   abbrev Going : ℕ → Control P S H → Type 0
@@ -184,6 +185,41 @@ module _ {P S H : Type 0} where
       by_end true = stopped_going t (is_dead_with t v k) (sets_dead k t v g.sets g.low) g.low g.preferred g.alone
       by_end false = stopped_going t (forgets t (leaves_queue t k)) (sets-forget (leaves_queue t k) (sets-leave k g.sets t) t) g.low g.preferred g.alone
 
+  -- another thread has ended
+  going_ended : (t u : ℕ) (v : ℤ) (k : Control P S H) → IsOther t u k → is_dead (or_nobody (entry_of k u)).state ≡ false → Going t k → Going t (leaves u v k)
+  unfolding leaves is_dead_with sets enters forgets leaves_queue
+  going_ended t u v k other up g = by_end (or_nobody (entry_of k u)).joinable
+    where
+      still : (r : ℕ) → other_than u k.scheduler.running ≡ Some r → k.scheduler.running ≡ Some r
+      still r e = by_running k.scheduler.running e
+        where
+          by_running : (o : Option ℕ) → other_than u o ≡ Some r → o ≡ Some r
+          by_running None e = e
+          by_running (Some w) e = by_same (w == u) e
+            where
+              by_same : (b : Bool) → (if b then None else Some w) ≡ Some r → Some w ≡ Some r
+              by_same true e = absurd (none_some r e)
+              by_same false e = e
+
+      out_of : (r : ℕ) → k.scheduler.running ≡ Some r → times_in (leaves_queue u k) r ≡ 0
+      out_of r e = let less = times-leave_le k u r in let none = g.out r e in omega (arith, less, none)
+
+      by_end : (b : Bool) → Going t (stops_running u ((if b then is_dead_with u v else (λ (c : Control P S H). forgets u (leaves_queue u c))) k))
+      by_end true = record {
+        sets = sets_dead k u v g.sets (g.sets.numbered u other.known);
+        preferred = g.preferred;
+        low = g.low;
+        out = λ r e. let same : r ≡ t = g.alone r (still r e) in times-enter_other (leaves_queue u k) (sets-leave k g.sets u) u Dead (pos 0) false r (λ is_u. other.apart (is_u ∙ same)) ∙ out_of r (still r e);
+        alone = λ r e. g.alone r (still r e);
+      }
+      by_end false = record {
+        sets = sets-forget (leaves_queue u k) (sets-leave k g.sets u) u;
+        preferred = g.preferred;
+        low = g.low;
+        out = λ r e. out_of r (still r e);
+        alone = λ r e. g.alone r (still r e);
+      }
+
   -- t stands nowhere, and another thread that leaves its queue for one changes nothing for it
   going_moved : (t u : ℕ) (q : Queue) (c : change_type.Change) (k : Control P S H) → IsOther t u k → Going t k → Going t (enters u q (pos 0) false (sets u c (leaves_queue u k)))
   unfolding sets enters leaves_queue
@@ -257,21 +293,27 @@ module _ {P S H : Type 0} where
 
   going_kept : (f : P → Functions S H) (t : ℕ) → KeptBy f t (Going t)
   going_kept f t = record {
+    calls = record {
+      shares = λ h k g. g;
+      spawned = going_spawned f t;
+      suspended = λ u k other lives g. going_suspended t u k other g;
+      resumed = going_resumed t;
+      removed = λ n u k taken g. going_removed t u k g;
+      favoured = λ b k g. g;
+      changed = λ v u c k is g. going_changed t u c k g;
+      added = λ x k g. g;
+      exchanged = λ n o k g. g;
+      evented = λ x k none g. g;
+      described = λ ds k g. g;
+      used = λ o k g. g;
+      requested = λ u b k apart g. going_changed t u (change.Request b) k g;
+    };
     goes = going_goes t;
-    shares = λ h k g. g;
-    spawned = going_spawned f t;
-    suspended = going_suspended t;
-    resumed = going_resumed t;
-    preferred = going_preferred t;
-    removed = going_removed t;
-    favoured = λ b k g. g;
-    changed = going_changed t;
-    added = λ x k g. g;
-    exchanged = λ n o k g. g;
-    evented = λ x k g. g;
-    described = λ ds k g. g;
-    used = λ o k g. g;
+    claimed = λ x k g. g;
+    preferred = λ u k runs g. going_preferred t u k (runs_some (entry_of k u) runs) g;
     left = going_left t;
+    ended = going_ended t;
+    dropped = λ u k other dead g. going_removed t u k g;
     vanished = going_vanished t;
   }
 

@@ -1,5 +1,5 @@
 -- Each piece of a run gives the resources what its marks say.
-use Rattle.std.proofs.Common.{◌≡◌, ◌∙◌, ℕ, ℤ, pos, zero, suc, Bool, true, false, List, [], ◌∷◌, ◌++◌, Option, Some, None, refl, ap, sym, ◌+◌, ◌*◌, not}
+use Rattle.std.proofs.Common.{◌≡◌, ◌∙◌, ℕ, ℤ, pos, zero, suc, Bool, true, false, List, [], ◌∷◌, ◌++◌, Option, Some, None, refl, ap, sym, ◌+◌, ◌*◌, not, if◌then◌else◌}
 use Rattle.pth_base.specs.Program.{Functions}
 use Rattle.pth_base.specs.declared.call.Call.{Call}
 use Rattle.pth_base.specs.declared.call.Call.TheVariants as call
@@ -15,8 +15,12 @@ use Rattle.pth_model.specs.Resources.{Resources, no_resources, told, told_all}
 use Rattle.pth_model.specs.LibraryControl.{ctrl}
 use Rattle.pth_model.specs.Verdict.{Verdict, Says, Yields, Blocks, Ends, Kills, says, by_result}
 use Rattle.pth_model.specs.State.{State, queue, Given, Turn, start}
-use Rattle.pth_model.specs.Transition.{Transition, Piece, Change, Last, changes, tells, tid, controlled, where_so, ◌and_then◌, ◌and_finally◌}
-use Rattle.pth_model.specs.Changes.{shares, uses, blocked_of, with_events}
+use Rattle.pth_model.specs.Transition.{Transition, Piece, Change, Last, changes, tells, tid, controlled, where_so, ◌and◌, ◌and_then◌, ◌and_finally◌}
+use Rattle.pth_model.specs.Changes.{shares, uses, sets, removes, entry_of, or_nobody, blocked_of, with_events}
+use Rattle.pth_model.specs.Living.{is_dead}
+use Rattle.pth_model.specs.ThreadControl.{thread}
+use Rattle.pth_threads.specs.declared.entry.Change.TheVariants as change
+use Rattle.pth_model.specs.Cancellation.{canceled_value, is_asynchronous, is_to_cancel, may_be_canceled, takes_request, canceled_by_other, aborted}
 use Rattle.pth_model.specs.Row.{effect_of, refuses, unless_refused}
 use Rattle.pth_model.specs.Rows.{row_of}
 use Rattle.pth_model.specs.Ending.{ending, undoes_wait, dies, runs_each, runs_cleanups, runs_destructor, runs_destructors, destructs, destructs_by, next_destructor, round_limit, first_round}
@@ -31,7 +35,7 @@ use Rattle.pth_base.specs.declared.act.Act.TheVariants as act
 use Rattle.pth_base.specs.declared.ids.HandlerId.{HandlerId}
 use Rattle.pth_store.specs.Cleanups.{PushedHandler}
 use Rattle.pth_store.specs.Keys.{key_limit}
-use Rattle.pth_model.specs.Calls.{begun, begun_by, resumed, resumed_by, tried_by, waits_by, unless_come, interrupted}
+use Rattle.pth_model.specs.Calls.{begun, begun_by, resumed, resumed_where, canceled_by, tried_again, resumed_by, tried_by, waits_by, unless_come, interrupted}
 use Rattle.pth_model.specs.RingWaits.{ring_given, has_event_come}
 use Rattle.pth_model.specs.EventHandling.{spec_of, made_as, make_event, chain}
 use Rattle.pth_base.specs.declared.event.EvLine.{EvLine}
@@ -44,7 +48,8 @@ use Rattle.pth_model.specs.Pass.{pass, woken, all_woken, to_wake, moment}
 use Rattle.pth_model.specs.Part.{Part, Move, Take, Step, Close, Halt, part, part_by, next_part, moves, moves_by, takes, takes_by, dispatches, chosen, readies_new, steps, steps_by, closes}
 use Rattle.pth_model.specs.Run.{parts, run}
 
-told_more : (k : Resources) (xs ys : List Mark) → told_all k (xs ++ ys) ≡ told_all (told_all k xs) ys
+-- what a list tells after another
+pub told_more : (k : Resources) (xs ys : List Mark) → told_all k (xs ++ ys) ≡ told_all (told_all k xs) ys
 told_more k [] ys = refl
 told_more k (x ∷ xs) ys = told_more (told k x) xs ys
 
@@ -119,14 +124,37 @@ module _ {P S H : Type 0} (f : P → Functions S H) where
         (then_told (runs_cleanups f t) (runs_destructors f t and_then dies t v) (λ u. each_told (u.resources.store.cleanups t) u)
         (then_told (runs_destructors f t) (dies t v) (destructs_told (round_limit * key_limit) first_round) (λ u. refl)))
 
+  module _ (t : ℕ) where
+    -- calls, and steps
+
     pops_told : (o : Option PushedHandler) (b : Bool) → IsTold (where_so b (runs_pushed f t o))
     pops_told o false s = refl
     pops_told None true s = refl
-    pops_told (Some c) true s = handler_told c.0 c.1 s
+    pops_told (Some c) true s = handler_told t c.0 c.1 s
 
     once_told : (o : ℕ) (h : HandlerId) (v : ℤ) (b : Bool) → IsTold (where_so b (changes (uses o) and_then runs_handler f t h v))
     once_told o h v false s = refl
-    once_told o h v true s = then_told (changes (uses o)) (runs_handler f t h v) (λ u. refl) (handler_told h v) s
+    once_told o h v true s = then_told (changes (uses o)) (runs_handler f t h v) (λ u. refl) (handler_told t h v) s
+
+    -- another thread is canceled, or asked to end; t takes a request up
+
+    other_told : (u : ℕ) → IsTold (canceled_by_other f u)
+    other_told u = then_told (tells (mark.Canceled (tid u) None)) (ending f u canceled_value) (λ x. refl) (ending_told u canceled_value)
+
+    cancels_told : (u : ℕ) (b : Bool) → IsTold (if b then canceled_by_other f u else changes (sets u (change.Request true)))
+    cancels_told u true s = other_told u s
+    cancels_told u false s = refl
+
+    aborts_told : (u : ℕ) (b : Bool) → IsTold (if b then changes (removes u) else aborted f u)
+    aborts_told u true s = refl
+    aborts_told u false s = then_told (changes (sets u (change.Joinable false) and sets u (change.Cancel 3))) (canceled_by_other f u) (λ x. refl) (other_told u) s
+
+    takes_told : (c : Call) → IsTold (takes_request {P = P} {S = S} {H = H} t c)
+    takes_told c s = refl
+
+    points_told : (b : Bool) → IsTold (where_so b (takes_request {P = P} {S = S} {H = H} t call.CancelPoint))
+    points_told true s = refl
+    points_told false s = refl
 
     ctrl_tells : (s : State P S H) (x : Query) → IsTold (ctrl s x).begin.effect
     ctrl_tells s query.Threads u = refl
@@ -166,6 +194,9 @@ module _ {P S H : Type 0} (f : P → Functions S H) where
     effect_tells s (call.Chain e l) = chain_tells s e l
     effect_tells s (call.CleanupPop v) = pops_told (last_pushed f s t) (not (is_zero v))
     effect_tells s (call.Once o h v) = once_told (number o) (handler h) v (not (s.control.used (number o)))
+    effect_tells s (call.Cancel n) = cancels_told (number n) (is_asynchronous (or_nobody (thread s.control n)).cancel)
+    effect_tells s (call.Abort n) = aborts_told (number n) (is_dead (or_nobody (thread s.control n)).state)
+    effect_tells s call.CancelPoint = points_told (is_to_cancel (or_nobody (entry_of s.control t)))
     effect_tells s c = λ u. refl
 
     effect_told : (s : State P S H) (c : Call) → IsTold (effect_of (row_of f s t c).begin)
@@ -195,7 +226,7 @@ module _ {P S H : Type 0} (f : P → Functions S H) where
     begun_by_told c (Says x) a known s = then_told a (tells (mark.Answered (tid t) c x)) known (λ u. refl) s
     begun_by_told c (Yields x) a known s = then_told a (tells (mark.Answered (tid t) c x)) known (λ u. refl) s
     begun_by_told c (Blocks p) a known s = then_told a (waits_by t c p) known (λ u. refl) s
-    begun_by_told c (Ends v) a known s = then_told a (ending f t v) known (ending_told v) s
+    begun_by_told c (Ends v) a known s = then_told a (ending f t v) known (ending_told t v) s
     begun_by_told c Kills a known s = then_told a (tells (mark.Answered (tid t) c (Int (pos 1)))) known (λ u. refl) s
 
     begun_told : (c : Call) → LastTold (begun f t c)
@@ -212,7 +243,7 @@ module _ {P S H : Type 0} (f : P → Functions S H) where
     tried_by_told b (Says x) s = refl
     tried_by_told b (Yields x) s = refl
     tried_by_told b (Blocks p) s = refl
-    tried_by_told b (Ends v) s = ending_told v s
+    tried_by_told b (Ends v) s = ending_told t v s
     tried_by_told b Kills s = refl
 
     resumed_by_told : (s : State P S H) (b : Option Blocked) → Tells s.resources (resumed_by f t b s).told
@@ -222,9 +253,18 @@ module _ {P S H : Type 0} (f : P → Functions S H) where
         let a = unless_come come ((row_of f s t b.call).again b) in
         finally_told (effect_of a) (tried_by f t b a.verdict) (come_told s b.call b come) (tried_by_told b a.verdict) s
 
+    canceled_told : (b : Option Blocked) → LastTold (canceled_by f t b)
+    canceled_told None s = refl
+    canceled_told (Some b) s = then_told (takes_request t b.call) (ending f t canceled_value) (takes_told b.call) (ending_told t canceled_value) s
+
+    where_told : (b : Bool) → LastTold (resumed_where f t b)
+    unfolding tried_again
+    where_told true s = canceled_told (blocked_of s.control t) s
+    where_told false s = resumed_by_told s (blocked_of s.control t)
+
     resumed_told : LastTold (resumed f t)
     unfolding resumed
-    resumed_told s = resumed_by_told s (blocked_of s.control t)
+    resumed_told s = where_told (may_be_canceled s.control t) s
 
     steps_by_told : (b : Option Blocked) (p : Option (Progress S)) → LastTold (steps_by f t b p)
     steps_by_told (Some b) p s = resumed_told s

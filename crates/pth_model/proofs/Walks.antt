@@ -1,13 +1,15 @@
 -- What calls keep of the control, by the changes of which they are made.
-use Rattle.std.proofs.Common.{◌≡◌, ◌≢◌, ◌==◌, ◌&&◌, ◌||◌, not, ℕ, ℤ, pos, negsuc, Bool, true, false, if◌then◌else◌, Option, Some, None, is_some, length, refl, sym, subst, zero, suc, ◌+◌, ◌*◌, List, [], ◌∷◌}
+use Rattle.std.proofs.Common.{◌≡◌, ◌≢◌, ◌==◌, ◌&&◌, ◌||◌, not, ℕ, ℤ, pos, negsuc, Bool, true, false, if◌then◌else◌, Option, Some, None, is_some, option_map, length, refl, sym, subst, ap, ◌∙◌, zero, suc, ◌+◌, ◌*◌, List, [], ◌∷◌}
 use Rattle.std.proofs.lemmas.Bool.{not-false}
 use Rattle.pth_base.specs.Program.{Functions}
 use Rattle.pth_base.specs.declared.call.Call.{Call}
 use Rattle.pth_base.specs.declared.call.Call.TheVariants as call
 use Rattle.pth_base.specs.declared.errno.Errno.{Errno}
+use Rattle.pth_base.specs.declared.errno.Errno.TheVariants.{EINVAL, ESRCH, EPERM}
 use Rattle.pth_base.specs.declared.query.Query.{Query}
 use Rattle.pth_base.specs.declared.query.Query.TheVariants as query
-use Rattle.pth_base.proofs.Tables.{same_fails}
+use Rattle.pth_base.specs.Table.{put}
+use Rattle.pth_base.proofs.Tables.{same_fails, put_by, put_here}
 use Rattle.pth_base.specs.declared.attr.AttrValue.{AttrValue}
 use Rattle.pth_threads.specs.Attributes.{first_values, with_value, change_of}
 use Rattle.pth_threads.specs.declared.attribute.Attribute.{Attribute}
@@ -21,10 +23,10 @@ use Rattle.pth_model.specs.declared.next.Next.{Next}
 use Rattle.pth_model.specs.declared.next.Next.TheVariants as next
 use Rattle.pth_numbered.specs.Operands.{number, is_zero, ◌is◌}
 use Rattle.pth_model.specs.Verdict.{Verdict, Says, Yields, Blocks, Ends, Kills, refused, says, by_result, ◌when◌otherwise◌}
-use Rattle.pth_model.specs.State.{State, Control, Turn}
-use Rattle.pth_model.specs.Transition.{Piece, Change as change_of_control, nothing, changes, controlled, where_so, tid, ◌and_then◌}
-use Rattle.pth_model.specs.Changes.{shares, uses, goes_on, blocking, blocked_of, or_nobody, owing, prefers, removes, favours_new, sets, adds_object, puts_object, with_events, with_kernel}
-use Rattle.pth_model.specs.RingWaits.{claims, gives_back, stops_waiting, ring_given, ring_held, has_event_come}
+use Rattle.pth_model.specs.State.{State, Control, Turn, main}
+use Rattle.pth_model.specs.Transition.{Piece, Change as change_of_control, nothing, changes, tells, controlled, where_so, tid, ◌and_then◌}
+use Rattle.pth_model.specs.Changes.{shares, uses, goes_on, blocking, is_blocked_by, blocked_of, entry_of, or_nobody, owing, prefers, removes, favours_new, sets, adds_object, puts_object, with_events, with_kernel}
+use Rattle.pth_model.specs.RingWaits.{claimant, claimant_by, claims, gives_back, stops_waiting, ring_given, ring_held, has_event_come}
 use Rattle.pth_model.specs.EventHandling.{spec_of, made_as, make_event, chain}
 use Rattle.pth_base.specs.declared.event.EventSpec.{EventSpec}
 use Rattle.pth_base.specs.declared.event.EvLine.{EvLine}
@@ -33,13 +35,15 @@ use Rattle.pth_io.specs.Attempts.{read_answer, read_after, write_after, accept_a
 use Rattle.pth_base.specs.declared.answer.Answer.{Answer}
 use Rattle.pth_base.specs.declared.answer.Answer.TheVariants.{Bytes}
 use Rattle.pth_kernel.specs.Modes.{sets_mode}
-use Rattle.pth_ring.specs.Rings.{Events, make_answer, chain_answer, alone, chained}
+use Rattle.pth_ring.specs.Ring.{each, ring_holds}
+use Rattle.pth_ring.specs.Rings.{Events, pending, make_answer, chain_answer, alone, chained, freed, ring_freed}
 use Rattle.pth_base.specs.declared.event.EvLine.TheVariants as line
+use Rattle.pth_model.specs.Living.{is_dead}
 use Rattle.pth_model.specs.Row.{unless_refused, refuses, effect_of}
 use Rattle.pth_model.specs.ThreadControl.{thread, is_known, may_run, spawns, values_for, or_first, suspends, resumes, suspend, resume, to_join, takes_joined}
 use Rattle.pth_model.specs.LibraryControl.{ctrl, vanish_all_but}
 use Rattle.pth_model.specs.AttributeHandling.{object, sets_field, sets_value}
-use Rattle.pth_model.specs.Ending.{ending, leaves, runs_each, destructs, destructs_by, next_destructor, round_limit, first_round}
+use Rattle.pth_model.specs.Ending.{ending, undoes_wait, runs_cleanups, runs_destructors, leaves, runs_each, destructs, destructs_by, next_destructor, round_limit, first_round}
 use Rattle.pth_model.specs.declared.destructors.Due.{Due}
 use Rattle.pth_model.specs.declared.destructors.Round.{Round}
 use Rattle.pth_model.specs.Acts.{acts, acts_from, act_limit, row_of_act, goes_on_after, runs_handler}
@@ -51,13 +55,24 @@ use Rattle.pth_base.specs.declared.ids.HandlerId.{HandlerId}
 use Rattle.pth_store.specs.Cleanups.{PushedHandler}
 use Rattle.pth_store.specs.Keys.{key_limit}
 use Rattle.pth_model.specs.Rows.{row_of}
-use Rattle.pth_model.specs.Calls.{begun, begun_by, resumed, resumed_by, tried_by, unless_come, interrupted}
+use Rattle.pth_model.specs.Calls.{begun, begun_by, resumed, resumed_where, canceled_by, tried_again, resumed_by, tried_by, unless_come, interrupted}
+use Rattle.pth_model.specs.Cancellation.{canceled_value, is_asynchronous, is_to_cancel, may_be_canceled, takes_request, canceled_by_other, aborted}
+use Rattle.pth_base.specs.declared.mark.Mark.TheVariants as mark
+use Rattle.pth_threads.specs.Threads.{changed}
+use Rattle.pth_threads.specs.declared.entry.Change.TheVariants as change
+use Rattle.pth_base.specs.declared.attr.AttrValue.TheVariants as value
 use Rattle.pth_model.specs.Part.{steps, steps_by, steps_on, owes_after}
 
 -- another thread than t, which is in the system
 pub record IsOther {P S H : Type 0} (t u : ℕ) (k : Control P S H) : Type 0 where
   pub known : is_some (k.threads.known u) ≡ true
   pub apart : u ≢ t
+
+-- another thread, which lives
+pub record IsOtherAlive (t u : ℕ) (table : ℕ → Option Entry) : Type 0 where
+  pub known : is_some (table u) ≡ true
+  pub apart : u ≢ t
+  pub alive : is_dead (or_nobody (table u)).state ≡ false
 
 -- where a call is not refused by its first clause, the clause does not hold
 passes : (e : Errno) (b : Bool) (v : Verdict) → refuses (refused e when b otherwise v) ≡ false → (b ≡ false) × (refuses v ≡ false)
@@ -68,27 +83,59 @@ neither : (a b : Bool) → (a || b) ≡ false → (a ≡ false) × (b ≡ false)
 neither true b h = absurd (cc h)
 neither false b h = (refl, h)
 
+not_asked : {A : Type 0} → false ≡ true → A
+not_asked e = absurd (cc e)
+
 no_other : (a b : Bool) → (not false && (a || b)) ≡ false → b ≡ false
 no_other a b h = (neither a b h).1
 
-runs_some : (o : Option Entry) → may_run (or_nobody o).state ≡ true → is_some o ≡ true
+pub runs_some : (o : Option Entry) → may_run (or_nobody o).state ≡ true → is_some o ≡ true
 runs_some (Some e) h = refl
 runs_some None h = absurd (cc h)
 
 module _ {P S H : Type 0} where
-  named_other : (k : Control P S H) (n : ℤ) (t : ℕ) → is_known k n ≡ true → (n is t) ≡ false → IsOther t (number n) k
+  pub named_other : (k : Control P S H) (n : ℤ) (t : ℕ) → is_known k n ≡ true → (n is t) ≡ false → IsOther t (number n) k
   named_other k (pos m) t known other = record { known = known; apart = same_fails m t other }
   named_other k (negsuc m) t known other = absurd (cc known)
 
-  runs_known : (k : Control P S H) (n : ℤ) → may_run (or_nobody (thread k n)).state ≡ true → is_some (k.threads.known (number n)) ≡ true
-  runs_known k (pos m) h = runs_some (k.threads.known m) h
-  runs_known k (negsuc m) h = absurd (cc h)
+  named_runs : (k : Control P S H) (n : ℤ) → may_run (or_nobody (thread k n)).state ≡ true → may_run (or_nobody (entry_of k (number n))).state ≡ true
+  named_runs k (pos m) h = h
+  named_runs k (negsuc m) h = absurd (cc h)
 
   suspend_other : (s : State P S H) (t : ℕ) (n : ℤ) → refuses (suspend s t n).begin.verdict ≡ false → IsOther t (number n) s.control
   suspend_other s t n h =
       let known = passes _ _ _ h in
       let other = passes _ _ _ known.1 in
       named_other s.control n t (not-false _ known.0) (neither (n is t) _ (neither _ _ other.0).0).0
+
+  pub named_lives : (k : Control P S H) (n : ℤ) → is_known k n ≡ true → is_dead (or_nobody (thread k n)).state ≡ false → is_dead (or_nobody (entry_of k (number n))).state ≡ false
+  named_lives k (pos m) known h = h
+  named_lives k (negsuc m) known h = absurd (cc known)
+
+  suspend_lives : (s : State P S H) (t : ℕ) (n : ℤ) → refuses (suspend s t n).begin.verdict ≡ false → is_dead (or_nobody (entry_of s.control (number n))).state ≡ false
+  suspend_lives s t n h =
+      let known = passes _ _ _ h in
+      let other = passes _ _ _ known.1 in
+      named_lives s.control n (not-false _ known.0) (neither (n is t) _ (neither _ _ other.0).0).1
+
+  -- whom a cancel, or an abort, names
+  cancel_other : (s : State P S H) (t : ℕ) (n : ℤ) (v : Verdict) → refuses (refused EINVAL when n is t otherwise refused ESRCH when not (is_known s.control n) otherwise v) ≡ false → IsOther t (number n) s.control × (is_known s.control n ≡ true) × (refuses v ≡ false)
+  cancel_other s t n v h =
+      let own = passes _ _ _ h in
+      let known = passes _ _ _ own.1 in
+      (named_other s.control n t (not-false _ known.0) own.0, not-false _ known.0, known.1)
+
+  pub named_dead : (k : Control P S H) (n : ℤ) → is_known k n ≡ true → is_dead (or_nobody (thread k n)).state ≡ true → is_dead (or_nobody (entry_of k (number n))).state ≡ true
+  named_dead k (pos m) known h = h
+  named_dead k (negsuc m) known h = absurd (cc known)
+
+  cancel_lives : (s : State P S H) (t : ℕ) (n : ℤ) → refuses (refused EPERM when n is main || is_dead (or_nobody (thread s.control n)).state otherwise says 1) ≡ false → is_known s.control n ≡ true → is_dead (or_nobody (entry_of s.control (number n))).state ≡ false
+  cancel_lives s t n h known = named_lives s.control n known (neither (n is main) _ (passes _ _ _ h).0).1
+
+  -- main is not asked to end
+  cancel_apart : (s : State P S H) (n : ℤ) → refuses (refused EPERM when n is main || is_dead (or_nobody (thread s.control n)).state otherwise says 1) ≡ false → is_known s.control n ≡ true → number n ≢ main
+  cancel_apart s (pos m) h known = same_fails m main (neither (pos m is main) _ (passes _ _ _ h).0).0
+  cancel_apart s (negsuc m) h known = absurd (cc known)
 
   resume_other : (s : State P S H) (t : ℕ) (n : ℤ) → refuses (resume s t n).begin.verdict ≡ false → IsOther t (number n) s.control
   resume_other s t n h =
@@ -124,54 +171,79 @@ accept_describes : (f : ℕ) (k : Kernel) → IsDescribed k (accept_after f k)
 unfolding accept_after
 accept_describes f k = accepts_describes (is_fd_live k f) f (earliest (connections k f)) k
 
--- what of a control is kept by every change of which calls of thread t are made
-pub record KeptBy {P S H : Type 0} (f : P → Functions S H) (t : ℕ) (Q : Control P S H → Type 0) : Type 0 where
-  pub goes : (u : ℕ) (g : Progress S → Progress S) (k : Control P S H) → Q k → Q (goes_on u g k)
+-- a change of events that no claim comes of
+abbrev pub AddsNoClaim : Events → Events → Type 0
+AddsNoClaim x y = (e u : ℕ) → claimant y e ≡ Some u → claimant x e ≡ Some u
+
+no_claim : (u : ℕ) → None ≡ Some u → ⊥
+no_claim u h = cc
+
+new_unclaimed : (spec : EventSpec) (x : Events) (e u : ℕ) → claimant_by (put x.events (x.made + 1) (Some (pending spec)) e) ≡ Some u → claimant x e ≡ Some u
+new_unclaimed spec x e u = put_by (λ o. claimant_by o ≡ Some u → claimant x e ≡ Some u) x.events (x.made + 1) (Some (pending spec)) e (λ here h. absurd (no_claim u h)) (λ other h. h)
+
+each_unclaimed : (ring : List ℕ) (x : Events) (e u : ℕ) → claimant_by (each ring (λ _. None) x.events e) ≡ Some u → claimant x e ≡ Some u
+unfolding each
+each_unclaimed ring x e u h = by_member (ring_holds e ring) h
+  where
+    by_member : (b : Bool) → claimant_by (if b then None else x.events e) ≡ Some u → claimant x e ≡ Some u
+    by_member true h = absurd (no_claim u h)
+    by_member false h = h
+
+freed_unclaimed : (all : Bool) (e : ℕ) (x : Events) → AddsNoClaim x ((if all then ring_freed e else freed e) x)
+freed_unclaimed true e x i u = each_unclaimed (x.rings e) x i u
+freed_unclaimed false e x i u = put_by (λ o. claimant_by o ≡ Some u → claimant x i ≡ Some u) x.events e None i (λ here h. absurd (no_claim u h)) (λ other h. h)
+
+-- what of a control is kept by the changes that calls of thread t make, but for naming a thread, ending, and killing the run
+pub record KeptByCalls {P S H : Type 0} (f : P → Functions S H) (t : ℕ) (Q : Control P S H → Type 0) : Type 0 where
   pub shares : (h : H) (k : Control P S H) → Q k → Q (record k { shared = h })
   pub spawned : (b : ℕ) (v : ℤ) (of : NewThread) (k : Control P S H) → Q k → Q (spawns f b v of k)
-  pub suspended : (u : ℕ) (k : Control P S H) → IsOther t u k → Q k → Q (suspends u k)
+  pub suspended : (u : ℕ) (k : Control P S H) → IsOther t u k → is_dead (or_nobody (entry_of k u)).state ≡ false → Q k → Q (suspends u k)
   pub resumed : (u : ℕ) (k : Control P S H) → IsOther t u k → Q k → Q (resumes u k)
-  pub preferred : (u : ℕ) (k : Control P S H) → is_some (k.threads.known u) ≡ true → Q k → Q (prefers (Some u) k)
-  pub removed : (u : ℕ) (k : Control P S H) → Q k → Q (removes u k)
+  -- a join takes it
+  pub removed : (n : ℤ) (u : ℕ) (k : Control P S H) → to_join k n ≡ Some u → Q k → Q (removes u k)
   pub favoured : (b : Bool) (k : Control P S H) → Q k → Q (favours_new b k)
-  pub changed : (u : ℕ) (c : Change) (k : Control P S H) → Q k → Q (sets u c k)
+  -- a value is set in it (pth_attr_set)
+  pub changed : (v : AttrValue) (u : ℕ) (c : Change) (k : Control P S H) → change_of v ≡ Some c → Q k → Q (sets u c k)
   pub added : (x : Attribute) (k : Control P S H) → Q k → Q (adds_object x k)
   pub exchanged : (n : ℕ) (o : Option Attribute) (k : Control P S H) → Q k → Q (puts_object n o k)
-  pub evented : (x : Events) (k : Control P S H) → Q k → Q (record k { events = x })
+  pub evented : (x : Events) (k : Control P S H) → AddsNoClaim k.events x → Q k → Q (record k { events = x })
   pub described : (ds : ℕ → Descriptor) (k : Control P S H) → Q k → Q (record k { kernel = record k.kernel { descriptors = ds } })
   pub used : (o : ℕ → Bool) (k : Control P S H) → Q k → Q (record k { used = o })
+  -- its end is asked for, which is not main, or no longer
+  pub requested : (u : ℕ) (b : Bool) (k : Control P S H) → (b ≡ true → u ≢ main) → Q k → Q (sets u (change.Request b) k)
+
+-- and by all that they change
+pub record KeptBy {P S H : Type 0} (f : P → Functions S H) (t : ℕ) (Q : Control P S H → Type 0) : Type 0 where
+  pub calls : KeptByCalls f t Q
+  pub goes : (u : ℕ) (g : Progress S → Progress S) (k : Control P S H) → Q k → Q (goes_on u g k)
+  -- a ring is claimed, or given back
+  pub claimed : (x : Events) (k : Control P S H) → Q k → Q (record k { events = x })
+  pub preferred : (u : ℕ) (k : Control P S H) → may_run (or_nobody (entry_of k u)).state ≡ true → Q k → Q (prefers (Some u) k)
   pub left : (v : ℤ) (k : Control P S H) → Q k → Q (leaves t v k)
+  -- another thread, which lives, ends in its turn, or a dead one is removed
+  pub ended : (u : ℕ) (v : ℤ) (k : Control P S H) → IsOther t u k → is_dead (or_nobody (entry_of k u)).state ≡ false → Q k → Q (leaves u v k)
+  pub dropped : (u : ℕ) (k : Control P S H) → IsOther t u k → is_dead (or_nobody (entry_of k u)).state ≡ true → Q k → Q (removes u k)
   pub vanished : (k : Control P S H) → Q k → Q (vanish_all_but t k)
 
-module _ {P S H : Type 0} (f : P → Functions S H) (t : ℕ) (Q : Control P S H → Type 0) (kept : KeptBy f t Q) where
-  abbrev Keeps : Piece P S H → Type 0
-  Keeps a = (s : State P S H) → Q s.control → Q (a s).state.control
+-- whether a call neither names a thread, nor ends another, nor kills the run
+abbrev pub is_common : Call → Bool
+is_common call.Kill = false
+is_common (call.Yield n) = false
+is_common (call.Cancel n) = false
+is_common (call.Abort n) = false
+is_common c = true
 
-  -- where this holds of the control at which the call is made
-  abbrev KeepsAt : State P S H → Piece P S H → Type 0
-  KeepsAt s a = Q s.control → Q (a s).state.control
+-- ---- handlers, and what an ending runs: they touch the program's shared value alone
 
-  gives_back_keeps : (e : Option ℤ) (k : Control P S H) → Q k → Q (gives_back e k)
-  unfolding gives_back
-  gives_back_keeps None k q = q
-  gives_back_keeps (Some e) k q = kept.evented _ k q
+module _ {P S H : Type 0} (f : P → Functions S H) (t : ℕ) (Q : Control P S H → Type 0) (sharing : (h : H) (k : Control P S H) → Q k → Q (record k { shared = h })) where
+  abbrev Runs : Piece P S H → Type 0
+  Runs a = (s : State P S H) → Q s.control → Q (a s).state.control
 
-  claims_keeps : (e : Option ℤ) (k : Control P S H) → Q k → Q (claims t e k)
-  unfolding claims
-  claims_keeps None k q = q
-  claims_keeps (Some e) k q = kept.evented _ k q
-
-  stops_keeps : (k : Control P S H) → Q k → Q (stops_waiting t k)
-  unfolding stops_waiting
-  stops_keeps k q = gives_back_keeps (ring_held (blocked_of k t)) _ (kept.goes t (blocking None) k q)
-
-  -- ---- handlers, and an ending
-
-  then_keeps : (a b : Piece P S H) → Keeps a → Keeps b → Keeps (a and_then b)
+  then_keeps : (a b : Piece P S H) → Runs a → Runs b → Runs (a and_then b)
   then_keeps a b x y s q = y (a s).state (x s q)
 
   -- an act changes nothing of the control
-  act_keeps : (x : Act) → Keeps (acts t x)
+  act_keeps : (x : Act) → Runs (acts t x)
   unfolding acts
   act_keeps (act.SetKey k v) s q = by_refusal (refuses (row_of_act s (act.SetKey k v)).begin.verdict)
     where
@@ -180,49 +252,51 @@ module _ {P S H : Type 0} (f : P → Functions S H) (t : ℕ) (Q : Control P S H
       by_refusal false = q
   act_keeps x s q = q
 
-  look_keeps : (x : Option Act) (next : Piece P S H) → Keeps next → Keeps (goes_on_after t x next)
+  look_keeps : (x : Option Act) (next : Piece P S H) → Runs next → Runs (goes_on_after t x next)
   look_keeps None next keeps s q = q
   look_keeps (Some x) next keeps s q = keeps (acts t x s).state (act_keeps x s q)
 
-  acts_keep : (h : HandlerId) (v : ℤ) (n i : ℕ) → Keeps (acts_from f t h v n i)
+  acts_keep : (h : HandlerId) (v : ℤ) (n i : ℕ) → Runs (acts_from f t h v n i)
   unfolding acts_from
   acts_keep h v zero i s q = q
   acts_keep h v (suc n) i s q =
       let x = (f s.control.program).act h.0 v i s.control.shared in
-      look_keeps x.act (acts_from f t h v n (i + 1)) (acts_keep h v n (i + 1)) (controlled (shares x.shared) s) (kept.shares x.shared s.control q)
+      look_keeps x.act (acts_from f t h v n (i + 1)) (acts_keep h v n (i + 1)) (controlled (shares x.shared) s) (sharing x.shared s.control q)
 
-  handler_keeps : (h : HandlerId) (v : ℤ) → Keeps (runs_handler f t h v)
+  handler_keeps : (h : HandlerId) (v : ℤ) → Runs (runs_handler f t h v)
   handler_keeps h v s q = acts_keep h v (suc act_limit) 0 _ q
 
-  each_keep : (cs : List PushedHandler) → Keeps (runs_each f t cs)
+  each_keep : (cs : List PushedHandler) → Runs (runs_each f t cs)
   unfolding runs_each
   each_keep [] s q = q
   each_keep (c ∷ cs) s q = then_keeps (runs_handler f t c.0 c.1) (runs_each f t cs) (handler_keeps c.0 c.1) (each_keep cs) s q
 
-  by_due_keep : (o : Option Due) (next : Round → Piece P S H) → ((r : Round) → Keeps (next r)) → Keeps (destructs_by f t o next)
+  by_due_keep : (o : Option Due) (next : Round → Piece P S H) → ((r : Round) → Runs (next r)) → Runs (destructs_by f t o next)
   by_due_keep None next keeps s q = q
   by_due_keep (Some d) next keeps s q = keeps d.round _ (acts_keep d.handler d.value (suc act_limit) 0 _ q)
 
-  destructs_keep : (n : ℕ) (r : Round) → Keeps (destructs f t n r)
+  destructs_keep : (n : ℕ) (r : Round) → Runs (destructs f t n r)
   unfolding destructs
   destructs_keep zero r s q = q
   destructs_keep (suc n) r s q = by_due_keep (next_destructor s.resources.store.keys t r) (destructs f t n) (destructs_keep n) s q
 
-  ending_keeps : (v : ℤ) → Keeps (ending f t v)
-  unfolding ending
-  ending_keeps v s q =
-      let cleaned = each_keep (s.resources.store.cleanups t) _ (stops_keeps s.control q) in
-      kept.left v _ (destructs_keep (round_limit * key_limit) first_round _ cleaned)
+module _ {P S H : Type 0} (f : P → Functions S H) (t : ℕ) (Q : Control P S H → Type 0) (kept : KeptByCalls f t Q) where
+  abbrev Keeps : Piece P S H → Type 0
+  Keeps a = (s : State P S H) → Q s.control → Q (a s).state.control
+
+  -- where this holds of the control at which the call is made
+  abbrev KeepsAt : State P S H → Piece P S H → Type 0
+  KeepsAt s a = Q s.control → Q (a s).state.control
 
   -- the handler that a pop or a once runs
   pops_keep : (o : Option PushedHandler) (b : Bool) → Keeps (where_so b (runs_pushed f t o))
   pops_keep o false s q = q
   pops_keep None true s q = q
-  pops_keep (Some c) true s q = handler_keeps c.0 c.1 s q
+  pops_keep (Some c) true s q = handler_keeps f t Q kept.shares c.0 c.1 s q
 
   once_keeps : (o : ℕ) (h : HandlerId) (v : ℤ) (b : Bool) → Keeps (where_so b (changes (uses o) and_then runs_handler f t h v))
   once_keeps o h v false s q = q
-  once_keeps o h v true s q = handler_keeps h v (controlled (uses o) s) (kept.used _ s.control q)
+  once_keeps o h v true s q = handler_keeps f t Q kept.shares h v (controlled (uses o) s) (kept.used _ s.control q)
 
   unless_keeps : (s : State P S H) (b : Bool) (a : Piece P S H) → (b ≡ false → KeepsAt s a) → KeepsAt s (unless_refused b a)
   unless_keeps s true a keeps = λ q. q
@@ -239,21 +313,21 @@ module _ {P S H : Type 0} (f : P → Functions S H) (t : ℕ) (Q : Control P S H
   sets_keeps : (s : State P S H) (a : ℤ) (v : AttrValue) (o : Option Attribute) → KeepsAt s (changes (sets_value a v o))
   sets_keeps s a v None q = q
   sets_keeps s a v (Some (Free x)) q = kept.exchanged (number a) (Some (Free (with_value v x))) s.control q
-  sets_keeps s a v (Some (Bound u)) q = by_field (change_of v)
+  sets_keeps s a v (Some (Bound u)) q = by_field (change_of v) refl
     where
-      by_field : (c : Option Change) → Q (sets_field u.0 c s.control)
-      by_field None = q
-      by_field (Some c) = kept.changed u.0 c s.control q
+      by_field : (c : Option Change) → change_of v ≡ c → Q (sets_field u.0 c s.control)
+      by_field None same = q
+      by_field (Some c) same = kept.changed v u.0 c s.control same q
 
-  made_keeps : (s : State P S H) (spec : Option EventSpec) (v : EventSpec → Verdict) (g : EventSpec → Events → Events) → KeepsAt s (made_as spec v (λ x. with_events (g x))).begin.effect
-  made_keeps s None v g q = q
-  made_keeps s (Some x) v g q = kept.evented _ s.control q
+  made_keeps : (s : State P S H) (spec : Option EventSpec) (v : EventSpec → Verdict) (g : EventSpec → Events → Events) → ((x : EventSpec) → AddsNoClaim s.control.events (g x s.control.events)) → KeepsAt s (made_as spec v (λ x. with_events (g x))).begin.effect
+  made_keeps s None v g none q = q
+  made_keeps s (Some x) v g none q = kept.evented _ s.control (none x) q
 
   make_keeps : (s : State P S H) (l : EvLine) → KeepsAt s (make_event s l).begin.effect
-  make_keeps s l = made_keeps s (spec_of l) (λ x. by_result says (make_answer s.control.events)) (λ x. alone x)
+  make_keeps s l = made_keeps s (spec_of l) (λ x. by_result says (make_answer s.control.events)) (λ x. alone x) (λ x. new_unclaimed x s.control.events)
 
   chain_keeps : (s : State P S H) (e : ℤ) (l : EvLine) → KeepsAt s (chain s e l).begin.effect
-  chain_keeps s e l = made_keeps s (spec_of l) (λ x. by_result says (chain_answer s.control.events (number e))) (λ x. chained x (number e))
+  chain_keeps s e l = made_keeps s (spec_of l) (λ x. by_result says (chain_answer s.control.events (number e))) (λ x. chained x (number e)) (λ x. new_unclaimed x s.control.events)
 
   modes_keep : (s : State P S H) (f : ℕ) (m : ℤ) → KeepsAt s (changes (with_kernel (sets_mode f m)))
   modes_keep s f (pos m) q = by_mode (m == 0)
@@ -268,67 +342,63 @@ module _ {P S H : Type 0} (f : P → Functions S H) (t : ℕ) (Q : Control P S H
   describes_keep s g d q = subst (λ (l : Kernel). Q (record s.control { kernel = l })) (sym d.1) (kept.described d.0 s.control q)
 
   -- whether a join takes a thread or none
-  joins_keeps : (s : State P S H) (o : Option ℕ) → KeepsAt s (changes (takes_joined o))
-  joins_keeps s None q = q
-  joins_keeps s (Some u) q = kept.removed u s.control q
+  joins_keeps : (s : State P S H) (n : ℤ) (o : Option ℕ) → to_join s.control n ≡ o → KeepsAt s (changes (takes_joined o))
+  joins_keeps s n None same q = q
+  joins_keeps s n (Some u) same q = kept.removed n u s.control same q
 
-  yields_keeps : (s : State P S H) (n : ℤ) (b : Bool) → is_zero n ≡ b → (not b && ((or_nobody (thread s.control n)).suspended || not (may_run (or_nobody (thread s.control n)).state))) ≡ false → KeepsAt s (changes (if b then nothing else prefers (Some (number n))))
-  yields_keeps s n true e h q = q
-  yields_keeps s n false e h q = kept.preferred (number n) s.control (runs_known s.control n (not-false _ (no_other _ _ h))) q
+  -- t takes a request up, or sets its cancel state
+  points_keep : (s : State P S H) (b : Bool) → KeepsAt s (where_so b (takes_request t call.CancelPoint))
+  points_keep s false q = q
+  points_keep s true q = kept.requested t false s.control (λ e. not_asked e) q
+
+  states_keep : (s : State P S H) (n : ℤ) (b : Bool) → KeepsAt s (changes (if b then nothing else sets t (change.Cancel (number n))))
+  states_keep s n true q = q
+  states_keep s n false q = kept.changed (value.Cancel n) t (change.Cancel (number n)) s.control refl q
 
   -- what a call does, where it is not refused
-  does_keeps : (s : State P S H) (c : Call) → refuses (row_of f s t c).begin.verdict ≡ false → KeepsAt s (row_of f s t c).begin.effect
+  does_keeps : (s : State P S H) (c : Call) → is_common c ≡ true → refuses (row_of f s t c).begin.verdict ≡ false → KeepsAt s (row_of f s t c).begin.effect
   unfolding row_of
-  does_keeps s call.Kill e q = kept.vanished s.control q
-  does_keeps s (call.Ctrl x) e q = ctrl_keeps s x q
-  does_keeps s call.AttrNew e q = kept.added (Free first_values) s.control q
-  does_keeps s (call.AttrOf n) e q = kept.added (Bound (tid (number n))) s.control q
-  does_keeps s (call.AttrInit a) e q = kept.exchanged (number a) (Some (Free first_values)) s.control q
-  does_keeps s (call.AttrSet a v) e q = sets_keeps s a v (object s.control a) q
-  does_keeps s (call.AttrDestroy a) e q = kept.exchanged (number a) None s.control q
-  does_keeps s (call.Spawn b v a) e q = kept.spawned (number b) v (or_first (values_for s.control t a)) s.control q
-  does_keeps s (call.Suspend n) e q = kept.suspended (number n) s.control (suspend_other s t n e) q
-  does_keeps s (call.Resume n) e q = kept.resumed (number n) s.control (resume_other s t n e) q
-  does_keeps s (call.Yield n) e q = yields_keeps s n (is_zero n) refl (passes _ _ _ e).0 q
-  does_keeps s (call.EvFd goals fd) e q = make_keeps s (line.Fd goals fd) q
-  does_keeps s (call.EvSelect r w x) e q = make_keeps s (line.Select r w x) q
-  does_keeps s (call.EvTime m) e q = make_keeps s (line.Time m) q
-  does_keeps s (call.EvMsg p) e q = make_keeps s (line.Msg p) q
-  does_keeps s (call.EvCond c) e q = make_keeps s (line.Cond c) q
-  does_keeps s (call.EvTid state n) e q = make_keeps s (line.Tid state n) q
-  does_keeps s (call.EvFunc c v l) e q = make_keeps s (line.Func c v l) q
-  does_keeps s (call.Chain n l) e q = chain_keeps s n l q
-  does_keeps s (call.EvConcat a b) e q = kept.evented _ s.control q
-  does_keeps s (call.EvIsolate a) e q = kept.evented _ s.control q
-  does_keeps s (call.EvFree a all) e q = kept.evented _ s.control q
-  does_keeps s (call.Fdmode d m) e q = modes_keep s (fd_named d) m q
-  does_keeps s (call.Read d n) e q = describes_keep s (read_after (fd_named d) n) (read_describes (fd_named d) n s.control.kernel) q
-  does_keeps s (call.ReadEv d n x) e q = describes_keep s (read_after (fd_named d) n) (read_describes (fd_named d) n s.control.kernel) q
-  does_keeps s (call.Write d bytes) e q = describes_keep s (write_after (fd_named d) (length bytes) 0) (write_describes (fd_named d) (length bytes) 0 s.control.kernel) q
-  does_keeps s (call.WriteEv d bytes x) e q = describes_keep s (write_after (fd_named d) (length bytes) 0) (write_describes (fd_named d) (length bytes) 0 s.control.kernel) q
-  does_keeps s (call.Accept d) e q = describes_keep s (accept_after (fd_named d)) (accept_describes (fd_named d) s.control.kernel) q
-  does_keeps s (call.AcceptEv d x) e q = describes_keep s (accept_after (fd_named d)) (accept_describes (fd_named d) s.control.kernel) q
-  does_keeps s (call.Close d) e q = kept.described _ s.control q
-  does_keeps s (call.Join n) e q = joins_keeps s (to_join s.control n) q
-  does_keeps s (call.CleanupPop v) e q = pops_keep (last_pushed f s t) (not (is_zero v)) s q
-  does_keeps s (call.Once o h v) e q = once_keeps (number o) (handler h) v (not (s.control.used (number o))) s q
-  does_keeps s c e q = q
+  does_keeps s call.Kill common e q = absurd (cc common)
+  does_keeps s (call.Yield n) common e q = absurd (cc common)
+  does_keeps s (call.Cancel n) common e q = absurd (cc common)
+  does_keeps s (call.Abort n) common e q = absurd (cc common)
+  does_keeps s call.CancelPoint common e q = points_keep s (is_to_cancel (or_nobody (entry_of s.control t))) q
+  does_keeps s (call.CancelState n) common e q = states_keep s n (is_zero n) q
+  does_keeps s (call.Ctrl x) common e q = ctrl_keeps s x q
+  does_keeps s call.AttrNew common e q = kept.added (Free first_values) s.control q
+  does_keeps s (call.AttrOf n) common e q = kept.added (Bound (tid (number n))) s.control q
+  does_keeps s (call.AttrInit a) common e q = kept.exchanged (number a) (Some (Free first_values)) s.control q
+  does_keeps s (call.AttrSet a v) common e q = sets_keeps s a v (object s.control a) q
+  does_keeps s (call.AttrDestroy a) common e q = kept.exchanged (number a) None s.control q
+  does_keeps s (call.Spawn b v a) common e q = kept.spawned (number b) v (or_first (values_for s.control t a)) s.control q
+  does_keeps s (call.Suspend n) common e q = kept.suspended (number n) s.control (suspend_other s t n e) (suspend_lives s t n e) q
+  does_keeps s (call.Resume n) common e q = kept.resumed (number n) s.control (resume_other s t n e) q
+  does_keeps s (call.EvFd goals fd) common e q = make_keeps s (line.Fd goals fd) q
+  does_keeps s (call.EvSelect r w x) common e q = make_keeps s (line.Select r w x) q
+  does_keeps s (call.EvTime m) common e q = make_keeps s (line.Time m) q
+  does_keeps s (call.EvMsg p) common e q = make_keeps s (line.Msg p) q
+  does_keeps s (call.EvCond c) common e q = make_keeps s (line.Cond c) q
+  does_keeps s (call.EvTid state n) common e q = make_keeps s (line.Tid state n) q
+  does_keeps s (call.EvFunc c v l) common e q = make_keeps s (line.Func c v l) q
+  does_keeps s (call.Chain n l) common e q = chain_keeps s n l q
+  does_keeps s (call.EvConcat a b) common e q = kept.evented _ s.control (λ i u h. h) q
+  does_keeps s (call.EvIsolate a) common e q = kept.evented _ s.control (λ i u h. h) q
+  does_keeps s (call.EvFree a all) common e q = kept.evented _ s.control (freed_unclaimed all (number a) s.control.events) q
+  does_keeps s (call.Fdmode d m) common e q = modes_keep s (fd_named d) m q
+  does_keeps s (call.Read d n) common e q = describes_keep s (read_after (fd_named d) n) (read_describes (fd_named d) n s.control.kernel) q
+  does_keeps s (call.ReadEv d n x) common e q = describes_keep s (read_after (fd_named d) n) (read_describes (fd_named d) n s.control.kernel) q
+  does_keeps s (call.Write d bytes) common e q = describes_keep s (write_after (fd_named d) (length bytes) 0) (write_describes (fd_named d) (length bytes) 0 s.control.kernel) q
+  does_keeps s (call.WriteEv d bytes x) common e q = describes_keep s (write_after (fd_named d) (length bytes) 0) (write_describes (fd_named d) (length bytes) 0 s.control.kernel) q
+  does_keeps s (call.Accept d) common e q = describes_keep s (accept_after (fd_named d)) (accept_describes (fd_named d) s.control.kernel) q
+  does_keeps s (call.AcceptEv d x) common e q = describes_keep s (accept_after (fd_named d)) (accept_describes (fd_named d) s.control.kernel) q
+  does_keeps s (call.Close d) common e q = kept.described _ s.control q
+  does_keeps s (call.Join n) common e q = joins_keeps s n (to_join s.control n) refl q
+  does_keeps s (call.CleanupPop v) common e q = pops_keep (last_pushed f s t) (not (is_zero v)) s q
+  does_keeps s (call.Once o h v) common e q = once_keeps (number o) (handler h) v (not (s.control.used (number o))) s q
+  does_keeps s c common e q = q
 
-  effect_keeps : (s : State P S H) (c : Call) → KeepsAt s (effect_of (row_of f s t c).begin)
-  effect_keeps s c = unless_keeps s (refuses (row_of f s t c).begin.verdict) (row_of f s t c).begin.effect (does_keeps s c)
-
-  begun_by_keeps : (c : Call) (v : Verdict) (a : Piece P S H) (s : State P S H) → KeepsAt s a → Q s.control → Q (begun_by f t c v a s).told.state.control
-  begun_by_keeps c (Says x) a s keeps q = keeps q
-  begun_by_keeps c (Yields x) a s keeps q = keeps q
-  begun_by_keeps c (Blocks p) a s keeps q = kept.goes t _ (claims t (ring_given c) (a s).state.control) (claims_keeps (ring_given c) (a s).state.control (keeps q))
-  begun_by_keeps c (Ends v) a s keeps q = ending_keeps v (a s).state (keeps q)
-  begun_by_keeps c Kills a s keeps q = keeps q
-
-  begun_keeps : (c : Call) (s : State P S H) → Q s.control → Q (begun f t c s).told.state.control
-  unfolding begun
-  begun_keeps call.Plain s q = q
-  begun_keeps (call.Note v) s q = q
-  begun_keeps c s q = begun_by_keeps c (row_of f s t c).begin.verdict (effect_of (row_of f s t c).begin) s (effect_keeps s c) q
+  pub effect_keeps : (s : State P S H) (c : Call) → is_common c ≡ true → KeepsAt s (effect_of (row_of f s t c).begin)
+  effect_keeps s c common = unless_keeps s (refuses (row_of f s t c).begin.verdict) (row_of f s t c).begin.effect (does_keeps s c common)
 
   -- ---- a call is tried again
 
@@ -363,32 +433,174 @@ module _ {P S H : Type 0} (f : P → Functions S H) (t : ℕ) (Q : Control P S H
   does_again s (call.WriteEv d bytes x) b q = describes_keep s (write_after (fd_named d) (length bytes) b.written) (write_describes (fd_named d) (length bytes) b.written s.control.kernel) q
   does_again s (call.Accept d) b q = describes_keep s (accept_after (fd_named d)) (accept_describes (fd_named d) s.control.kernel) q
   does_again s (call.AcceptEv d x) b q = describes_keep s (accept_after (fd_named d)) (accept_describes (fd_named d) s.control.kernel) q
-  does_again s (call.Join n) b q = joins_keeps s (to_join s.control n) q
+  does_again s (call.Join n) b q = joins_keeps s n (to_join s.control n) refl q
   does_again s c b q = q
 
   again_keeps : (s : State P S H) (c : Call) (b : Blocked) → KeepsAt s (effect_of ((row_of f s t c).again b))
   again_keeps s c b = unless_keeps s (refuses ((row_of f s t c).again b).verdict) ((row_of f s t c).again b).effect (λ e q. does_again s c b q)
 
-  come_keeps : (s : State P S H) (c : Call) (b : Blocked) (come : Bool) → KeepsAt s (effect_of (unless_come come ((row_of f s t c).again b)))
+  pub come_keeps : (s : State P S H) (c : Call) (b : Blocked) (come : Bool) → KeepsAt s (effect_of (unless_come come ((row_of f s t c).again b)))
   come_keeps s c b false q = again_keeps s c b q
   come_keeps s c b true q = unless_keeps s (refuses (interrupted ((row_of f s t c).again b).verdict)) ((row_of f s t c).again b).effect (λ e q. does_again s c b q) q
 
+module _ {P S H : Type 0} (f : P → Functions S H) (t : ℕ) (Q : Control P S H → Type 0) (kept : KeptBy f t Q) where
+  gives_back_keeps : (e : Option ℤ) (k : Control P S H) → Q k → Q (gives_back e k)
+  unfolding gives_back
+  gives_back_keeps None k q = q
+  gives_back_keeps (Some e) k q = kept.claimed _ k q
+
+  claims_keeps : (e : Option ℤ) (k : Control P S H) → Q k → Q (claims t e k)
+  unfolding claims
+  claims_keeps None k q = q
+  claims_keeps (Some e) k q = kept.claimed _ k q
+
+  stops_keeps : (u : ℕ) (k : Control P S H) → Q k → Q (stops_waiting u k)
+  unfolding stops_waiting
+  stops_keeps u k q = gives_back_keeps (ring_held (blocked_of k u)) _ (kept.goes u (blocking None) k q)
+
+  back_known : (e : Option ℤ) (k : Control P S H) → (gives_back e k).threads.known ≡ k.threads.known
+  unfolding gives_back
+  back_known None k = refl
+  back_known (Some e) k = refl
+
+  stops_known : (u : ℕ) (k : Control P S H) → (stops_waiting u k).threads.known ≡ k.threads.known
+  unfolding stops_waiting goes_on
+  stops_known u k = back_known (ring_held (blocked_of k u)) (is_blocked_by u None k)
+
+  -- u's wait is undone, and its handlers and destructors run: no record changes
+  ran_keeps : (u : ℕ) (s : State P S H) → Q s.control → let k = ((undoes_wait u and_then runs_cleanups f u and_then runs_destructors f u) s).state.control in Q k × (k.threads.known ≡ s.control.threads.known)
+  ran_keeps u s q =
+      let R : Control P S H → Type 0 = λ k. Q k × (k.threads.known ≡ s.control.threads.known) in
+      let sharing : (h : H) (k : Control P S H) → R k → R (record k { shared = h }) = λ h k r. (kept.calls.shares h k r.0, r.1) in
+      destructs_keep f u R sharing (round_limit * key_limit) first_round _ (each_keep f u R sharing (s.resources.store.cleanups u) _ (stops_keeps u s.control q, stops_known u s.control))
+
+  ending_keeps : (v : ℤ) (s : State P S H) → Q s.control → Q (ending f t v s).state.control
+  unfolding ending
+  ending_keeps v s q = kept.left v _ (ran_keeps t s q).0
+
+  other_ends_keeps : (u : ℕ) (v : ℤ) (s : State P S H) → IsOtherAlive t u s.control.threads.known → Q s.control → Q (ending f u v s).state.control
+  unfolding ending
+  other_ends_keeps u v s other q =
+      let r = ran_keeps u s q in
+      let after = subst (IsOtherAlive t u) (sym r.1) other in
+      kept.ended u v _ (record { known = after.known; apart = after.apart }) after.alive r.0
+
+  -- ---- a call begins
+
+  yields_keeps : (s : State P S H) (n : ℤ) (b : Bool) → is_zero n ≡ b → (not b && ((or_nobody (thread s.control n)).suspended || not (may_run (or_nobody (thread s.control n)).state))) ≡ false → Q s.control → Q ((if b then nothing else prefers (Some (number n))) s.control)
+  yields_keeps s n true e h q = q
+  yields_keeps s n false e h q = kept.preferred (number n) s.control (named_runs s.control n (not-false _ (no_other _ _ h))) q
+
+  -- another thread is canceled, or asked to end
+  cancels_keep : (s : State P S H) (n : ℤ) → refuses (row_of f s t (call.Cancel n)).begin.verdict ≡ false → Q s.control → Q ((row_of f s t (call.Cancel n)).begin.effect s).state.control
+  unfolding row_of
+  cancels_keep s n h q =
+      let other = cancel_other s t n _ h in
+      by_state (is_asynchronous (or_nobody (thread s.control n)).cancel) (cancel_apart s n other.2 other.1) (record { known = other.0.known; apart = other.0.apart; alive = cancel_lives s t n other.2 other.1 })
+    where
+      by_state : (b : Bool) → number n ≢ main → IsOtherAlive t (number n) s.control.threads.known → Q ((if b then canceled_by_other f (number n) else changes (sets (number n) (change.Request true))) s).state.control
+      by_state true apart other = other_ends_keeps (number n) canceled_value (tells (mark.Canceled (tid (number n)) None) s).state other q
+      by_state false apart other = kept.calls.requested (number n) true s.control (λ e. apart) q
+
+  set_alive : (u : ℕ) (c : Change) (known : ℕ → Option Entry) → ((e : Entry) → (changed c e).state ≡ e.state) → IsOtherAlive t u known → IsOtherAlive t u (put known u (option_map (changed c) (known u)))
+  set_alive u c known same other = record {
+    known = ap is_some (put_here known u (option_map (changed c) (known u))) ∙ by_some (known u) ∙ other.known;
+    apart = other.apart;
+    alive = ap (λ o. is_dead (or_nobody o).state) (put_here known u (option_map (changed c) (known u))) ∙ by_state (known u) ∙ other.alive;
+  }
+    where
+      by_some : (o : Option Entry) → is_some (option_map (changed c) o) ≡ is_some o
+      by_some None = refl
+      by_some (Some e) = refl
+
+      by_state : (o : Option Entry) → is_dead (or_nobody (option_map (changed c) o)).state ≡ is_dead (or_nobody o).state
+      by_state None = refl
+      by_state (Some e) = ap is_dead (same e)
+
+  aborted_keeps : (u : ℕ) (s : State P S H) → IsOtherAlive t u s.control.threads.known → Q s.control → Q (aborted f u s).state.control
+  unfolding sets changed
+  aborted_keeps u s other q =
+      let k = sets u (change.Joinable false) s.control in
+      let j = sets u (change.Cancel 3) k in
+      let one : Q k = kept.calls.changed (value.Joinable (pos 0)) u (change.Joinable false) s.control refl q in
+      let two : Q j = kept.calls.changed (value.Cancel (pos 3)) u (change.Cancel 3) k refl one in
+      other_ends_keeps u canceled_value _ (set_alive u (change.Cancel 3) k.threads.known (λ e. refl) (set_alive u (change.Joinable false) s.control.threads.known (λ e. refl) other)) two
+
+  aborts_keep : (s : State P S H) (n : ℤ) → refuses (row_of f s t (call.Abort n)).begin.verdict ≡ false → Q s.control → Q ((row_of f s t (call.Abort n)).begin.effect s).state.control
+  unfolding row_of
+  aborts_keep s n h q =
+      let other = cancel_other s t n _ h in
+      by_death (is_dead (or_nobody (thread s.control n)).state) refl other.0 other.1
+    where
+      by_death : (b : Bool) → is_dead (or_nobody (thread s.control n)).state ≡ b → IsOther t (number n) s.control → is_known s.control n ≡ true → Q ((if b then changes (removes (number n)) else aborted f (number n)) s).state.control
+      by_death true dead other known = kept.dropped (number n) s.control other (named_dead s.control n known dead) q
+      by_death false up other known = aborted_keeps (number n) s (record { known = other.known; apart = other.apart; alive = named_lives s.control n known up }) q
+
+  any_keeps : (s : State P S H) (c : Call) → Q s.control → Q (effect_of (row_of f s t c).begin s).state.control
+  unfolding row_of
+  any_keeps s call.Kill q = by_refusal (refuses (row_of f s t call.Kill).begin.verdict)
+    where
+      by_refusal : (b : Bool) → Q (unless_refused b (changes (vanish_all_but t)) s).state.control
+      by_refusal true = q
+      by_refusal false = kept.vanished s.control q
+  any_keeps s (call.Yield n) q = by_refusal (refuses (row_of f s t (call.Yield n)).begin.verdict) refl
+    where
+      by_refusal : (b : Bool) → refuses (row_of f s t (call.Yield n)).begin.verdict ≡ b → Q (unless_refused b (row_of f s t (call.Yield n)).begin.effect s).state.control
+      by_refusal true same = q
+      by_refusal false same = yields_keeps s n (is_zero n) refl (passes _ _ _ same).0 q
+  any_keeps s (call.Cancel n) q = by_refusal (refuses (row_of f s t (call.Cancel n)).begin.verdict) refl
+    where
+      by_refusal : (b : Bool) → refuses (row_of f s t (call.Cancel n)).begin.verdict ≡ b → Q (unless_refused b (row_of f s t (call.Cancel n)).begin.effect s).state.control
+      by_refusal true same = q
+      by_refusal false same = cancels_keep s n same q
+  any_keeps s (call.Abort n) q = by_refusal (refuses (row_of f s t (call.Abort n)).begin.verdict) refl
+    where
+      by_refusal : (b : Bool) → refuses (row_of f s t (call.Abort n)).begin.verdict ≡ b → Q (unless_refused b (row_of f s t (call.Abort n)).begin.effect s).state.control
+      by_refusal true same = q
+      by_refusal false same = aborts_keep s n same q
+  any_keeps s c q = effect_keeps f t Q kept.calls s c refl q
+
+  begun_by_keeps : (c : Call) (v : Verdict) (a : Piece P S H) (s : State P S H) → Q (a s).state.control → Q (begun_by f t c v a s).told.state.control
+  begun_by_keeps c (Says x) a s q = q
+  begun_by_keeps c (Yields x) a s q = q
+  begun_by_keeps c (Blocks p) a s q = kept.goes t _ (claims t (ring_given c) (a s).state.control) (claims_keeps (ring_given c) (a s).state.control q)
+  begun_by_keeps c (Ends v) a s q = ending_keeps v (a s).state q
+  begun_by_keeps c Kills a s q = q
+
+  begun_keeps : (c : Call) (s : State P S H) → Q s.control → Q (begun f t c s).told.state.control
+  unfolding begun
+  begun_keeps call.Plain s q = q
+  begun_keeps (call.Note v) s q = q
+  begun_keeps c s q = begun_by_keeps c (row_of f s t c).begin.verdict (effect_of (row_of f s t c).begin) s (any_keeps s c q)
+
+  -- ---- a call is tried again
+
   tried_by_keeps : (b : Blocked) (v : Verdict) (s : State P S H) → Q s.control → Q (tried_by f t b v s).told.state.control
-  tried_by_keeps b (Says x) s q = stops_keeps s.control q
-  tried_by_keeps b (Yields x) s q = stops_keeps s.control q
+  tried_by_keeps b (Says x) s q = stops_keeps t s.control q
+  tried_by_keeps b (Yields x) s q = stops_keeps t s.control q
   tried_by_keeps b (Blocks p) s q = kept.goes t _ s.control q
   tried_by_keeps b (Ends v) s q = ending_keeps v s q
-  tried_by_keeps b Kills s q = stops_keeps s.control q
+  tried_by_keeps b Kills s q = stops_keeps t s.control q
 
   resumed_by_keeps : (s : State P S H) (b : Option Blocked) → Q s.control → Q (resumed_by f t b s).told.state.control
   resumed_by_keeps s None q = q
   resumed_by_keeps s (Some b) q =
-      let a = unless_come (has_event_come s.control.events (ring_given b.call)) ((row_of f s t b.call).again b) in
-      tried_by_keeps b a.verdict (effect_of a s).state (come_keeps s b.call b (has_event_come s.control.events (ring_given b.call)) q)
+      let come = has_event_come s.control.events (ring_given b.call) in
+      let a = unless_come come ((row_of f s t b.call).again b) in
+      tried_by_keeps b a.verdict (effect_of a s).state (come_keeps f t Q kept.calls s b.call b come q)
+
+  canceled_keeps : (b : Option Blocked) (s : State P S H) → Q s.control → Q (canceled_by f t b s).told.state.control
+  canceled_keeps None s q = q
+  canceled_keeps (Some b) s q = ending_keeps canceled_value (takes_request t b.call s).state (kept.calls.requested t false s.control (λ e. not_asked e) q)
+
+  where_keeps : (b : Bool) (s : State P S H) → Q s.control → Q (resumed_where f t b s).told.state.control
+  unfolding tried_again
+  where_keeps true s q = canceled_keeps (blocked_of s.control t) s q
+  where_keeps false s q = resumed_by_keeps s (blocked_of s.control t) q
 
   resumed_keeps : (s : State P S H) → Q s.control → Q (resumed f t s).told.state.control
   unfolding resumed
-  resumed_keeps s q = resumed_by_keeps s (blocked_of s.control t) q
+  resumed_keeps s q = where_keeps (may_be_canceled s.control t) s q
 
   -- ---- a step
 
@@ -396,7 +608,7 @@ module _ {P S H : Type 0} (f : P → Functions S H) (t : ℕ) (Q : Control P S H
   steps_by_keeps (Some b) p s q = resumed_keeps s q
   steps_by_keeps None (Some p) s q =
       let x = (f s.control.program).step p.state s.control.shared p.owed in
-      begun_keeps x.call _ (kept.goes t _ (record s.control { shared = x.shared }) (kept.shares x.shared s.control q))
+      begun_keeps x.call _ (kept.goes t _ (record s.control { shared = x.shared }) (kept.calls.shares x.shared s.control q))
   steps_by_keeps None None s q = resumed_keeps s q
 
   owes_keeps : (n : Next) (k : Control P S H) → Q k → Q (owes_after t n k)

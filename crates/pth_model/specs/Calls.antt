@@ -17,6 +17,7 @@ use Rattle.pth_model.specs.Changes.{is_blocked_by, blocked_of}
 use Rattle.pth_model.specs.RingWaits.{ring_given, claims, stops_waiting, has_event_come}
 use Rattle.pth_model.specs.Row.{Attempt, effect_of}
 use Rattle.pth_model.specs.Ending.{ending}
+use Rattle.pth_model.specs.Cancellation.{canceled_value, may_be_canceled, canceled_in}
 use Rattle.pth_model.specs.Rows.{row_of}
 
 -- a call that blocks from a moment on
@@ -87,8 +88,21 @@ module _ {P S H : Type 0} (f : P → Functions S H) (t : ℕ) where
   resumed_by (Some b) = λ s. tried b (unless_come (has_event_come s.control.events (ring_given b.call)) ((row_of f s t b.call).again b)) s
 
   -- the call that blocks t is tried again
+  unfoldable pub tried_again : Last P S H
+  tried_again s = resumed_by (blocked_of s.control t) s
+
+  -- t is canceled in the call that blocks it
+  abbrev pub canceled_by : Option Blocked → Last P S H
+  canceled_by None = silent and_next next.Waits
+  canceled_by (Some b) = canceled_in f t b.call and_next next.Ended canceled_value
+
+  abbrev pub resumed_where : Bool → Last P S H
+  resumed_where true s = canceled_by (blocked_of s.control t) s
+  resumed_where false s = tried_again s
+
+  -- t goes on where a call blocks it: it is canceled where it may be, and else its call is tried again
   unfoldable pub resumed : Last P S H
-  resumed s = resumed_by (blocked_of s.control t) s
+  resumed s = resumed_where (may_be_canceled s.control t) s
 
   abbrev pub wakes_by : State P S H → Option Blocked → Bool
   wakes_by s None = false

@@ -18,6 +18,7 @@ pub mod KeyStorage
 pub mod Acts
 pub mod Cleanups
 pub mod Ending
+pub mod Cancellation
 pub mod ThreadEnds
 pub mod Times
 pub mod Io

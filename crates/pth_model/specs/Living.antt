@@ -1,5 +1,5 @@
 -- The threads in the system that are not dead.
-use Rattle.std.specs.Prelude.{ℕ, zero, suc, ◌++◌, Bool, true, false, List, [], ◌∷◌, Option, Some, None, if◌then◌else◌}
+use Rattle.std.specs.Prelude.{ℕ, zero, suc, ◌++◌, not, nat_lt, Bool, true, false, List, [], ◌∷◌, Option, Some, None, if◌then◌else◌}
 use Rattle.pth_base.specs.declared.thread.ThreadState.{ThreadState}
 use Rattle.pth_base.specs.declared.thread.ThreadState.TheVariants as state
 use Rattle.pth_threads.specs.declared.entry.Entry.{Entry}
@@ -8,6 +8,16 @@ use Rattle.pth_model.specs.State.{State}
 abbrev pub is_dead : ThreadState → Bool
 is_dead state.Dead = true
 is_dead s = false
+
+-- a thread is in the system, and not dead
+abbrev pub lives : Option Entry → Bool
+lives None = false
+lives (Some e) = not (is_dead e.state)
+
+-- of so many threads that were made, one has this number
+abbrev pub is_made : (made : ℕ) → ℕ → Bool
+is_made made zero = false
+is_made made (suc t) = nat_lt t made
 
 -- a thread's number, where it is in the system and not dead
 abbrev pub if_live : ℕ → Option Entry → List ℕ

@@ -13,6 +13,7 @@ use Rattle.pth_model.specs.Transition.{Piece, Change, silent, changes, tells, ti
 use Rattle.pth_model.specs.Changes.{sets, enters, leaves_queue, prio_of, holders}
 use Rattle.pth_model.specs.RingWaits.{awaited_events}
 use Rattle.pth_model.specs.Looks.{comes, looks_at, event_moment}
+use Rattle.pth_model.specs.Cancellation.{may_be_canceled}
 use Rattle.pth_model.specs.Calls.{wakes, waits_until}
 
 module _ {P S H : Type 0} where
@@ -44,9 +45,9 @@ module _ {P S H : Type 0} where
   all_woken (t ∷ ts) s = (woken t and_then all_woken ts) s
 
 module _ {P S H : Type 0} (f : P → Functions S H) where
-  -- a waiting thread's call has what it waits for, or an event of the ring that it was given comes
+  -- a waiting thread's call has what it waits for, or an event of the ring that it was given comes, or it may be canceled
   abbrev pub is_to_wake : State P S H → ℕ → Bool
-  is_to_wake s t = wakes f t s || is_come_for s.control t
+  is_to_wake s t = wakes f t s || is_come_for s.control t || may_be_canceled s.control t
 
   -- those of the waiting threads, in their order
   unfoldable pub to_wake : State P S H → List ℕ

@@ -1,6 +1,6 @@
 -- What threads have, as laws of transcripts read it: cleanups, key values, mutexes, locks and messages. Marks alone change
 -- it: `told` says for every mark what becomes of it, also for the answers of calls that are not built yet.
-use Rattle.std.specs.Prelude.{ℕ, zero, suc, ◌+◌, ◌==◌, ◌&&◌, ◌||◌, not, ℤ, pos, Bool, true, false, List, [], ◌∷◌, ◌++◌, filter, find, Option, Some, None, is_some, if◌then◌else◌}
+use Rattle.std.specs.Prelude.{◌≡◌, ℕ, zero, suc, ◌+◌, ◌==◌, ◌&&◌, ◌||◌, not, ℤ, pos, Bool, true, false, List, [], ◌∷◌, ◌++◌, filter, find, Option, Some, None, is_some, if◌then◌else◌}
 use Rattle.pth_base.specs.Table.{put}
 use Rattle.pth_base.specs.declared.ids.HandlerId.{HandlerId}
 use Rattle.pth_base.specs.declared.act.Act.{Act}
@@ -21,6 +21,11 @@ pub record Store : Type 0 where
   pub cleanups : Stacks
   -- the live keys, and its value under each
   pub keys : Tables
+
+-- a thread has nothing: no handler, and no value but 0
+pub record HasNothing (s : Store) (t : ℕ) : Type 0 where
+  pub cleanups : s.cleanups t ≡ []
+  pub values : (k : ℕ) → s.keys.values k t ≡ pos 0
 
 -- a mutex is free, or a thread has so many levels of it beyond the first (pth_mutex_acquire)
 pub data Hold : Type 0 where

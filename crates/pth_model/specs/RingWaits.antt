@@ -1,9 +1,11 @@
 -- The rings of events for which threads wait. A call that was given an event claims its ring as it blocks its thread, and the
 -- claim stands at that event until the call is answered, or its thread ends.
-use Rattle.std.specs.Prelude.{ℕ, ℤ, List, [], Option, Some, None, nat_lt, Bool, false, if◌then◌else◌}
+use Rattle.std.specs.Prelude.{ℕ, ℤ, List, [], Option, Some, None, option_map, nat_lt, Bool, false, if◌then◌else◌}
+use Rattle.pth_base.specs.declared.ids.Tid.{Tid}
 use Rattle.pth_base.specs.declared.call.Call.{Call}
 use Rattle.pth_base.specs.declared.call.Call.TheVariants as call
 use Rattle.pth_numbered.specs.Operands.{number, is_zero}
+use Rattle.pth_ring.specs.declared.event.Event.{Event}
 use Rattle.pth_ring.specs.Rings.{Events, claimed, with_event, with_claim, settled_in}
 use Rattle.pth_model.specs.declared.blocked.Blocked.{Blocked}
 use Rattle.pth_model.specs.State.{Control, now_of}
@@ -32,6 +34,14 @@ ring_held (Some b) = ring_given b.call
 abbrev pub events_from : Events → Option ℤ → List ℕ
 events_from x None = []
 events_from x (Some e) = x.rings (number e)
+
+-- the thread whose claim stands at an event
+abbrev pub claimant_by : Option Event → Option ℕ
+claimant_by None = None
+claimant_by (Some v) = option_map (λ (t : Tid). t.0) v.claim
+
+abbrev pub claimant : Events → ℕ → Option ℕ
+claimant x e = claimant_by (x.events e)
 
 -- whether one of them is not pending any more
 abbrev pub has_event_come : Events → Option ℤ → Bool

@@ -15,6 +15,7 @@ use Rattle.pth_model.specs.ThreadControl.{spawn, self, suspend, resume, yield, j
 use Rattle.pth_model.specs.KeyStorage.{key_create, key_delete, key_set, key_get}
 use Rattle.pth_model.specs.Cleanups.{cleanup_push, cleanup_pop, once}
 use Rattle.pth_model.specs.EventHandling.{make_event, chain, ev_concat, ev_isolate, ev_walk, ev_status, ev_kind, ev_free, wait}
+use Rattle.pth_model.specs.Cancellation.{cancel_state, cancel_point, cancel, abort}
 use Rattle.pth_model.specs.ThreadEnds.{exit}
 use Rattle.pth_model.specs.Times.{timeout, nap, usleep, sleep}
 use Rattle.pth_model.specs.RingWaits.{extra_ring}
@@ -39,14 +40,14 @@ module _ {P S H : Type 0} (f : P → Functions S H) (s : State P S H) (t : ℕ) 
   row_of (call.Yield n) = yield s t n
   row_of (call.Nap l) = nap s l
   row_of (call.Wait e) = wait s e
-  row_of (call.Cancel n) = unbuilt
-  row_of (call.Abort n) = unbuilt
+  row_of (call.Cancel n) = cancel f s t n
+  row_of (call.Abort n) = abort f s t n
   row_of (call.Join n) = join s t n
   row_of (call.Exit v) = exit s t v
   row_of (call.Fdmode d m) = fdmode s d m
   row_of (call.Timeout l) = timeout s l
-  row_of call.CancelPoint = unbuilt
-  row_of (call.CancelState n) = unbuilt
+  row_of call.CancelPoint = cancel_point s t
+  row_of (call.CancelState n) = cancel_state s t n
   row_of (call.EvFd goals fd) = make_event s (line.Fd goals fd)
   row_of (call.EvSelect r w x) = make_event s (line.Select r w x)
   row_of (call.EvTime m) = make_event s (line.Time m)
