@@ -1,0 +1,230 @@
+-- An ending, walked: its handlers from the last pushed to the first, its destructors to the last that is due, and its mark.
+use Rattle.std.proofs.Common.{◌≡◌, ◌≢◌, ℕ, zero, suc, ◌+◌, ◌-◌, ◌*◌, ◌<◌, ◌≤◌, if◌then◌else◌, Bool, true, false, ℤ, negsuc, List, [], ◌∷◌, ◌++◌, inl, inr, Option, Some, None, refl, sym, ◌∙◌, ap, subst, arith, append_assoc, append-nil}
+use Rattle.pth_base.specs.Program.{Functions}
+use Rattle.pth_base.specs.Table.{put}
+use Rattle.pth_base.specs.declared.mark.Mark.TheVariants as mark
+use Rattle.pth_base.proofs.Tables.{same_self, put_here, put_other}
+use Rattle.pth_store.specs.Cleanups.{PushedHandler}
+use Rattle.pth_store.specs.Keys.{Tables, key_limit}
+use Rattle.pth_threads.specs.declared.entry.Entry.{Entry}
+use Rattle.pth_model.specs.declared.destructors.Due.{Due}
+use Rattle.pth_model.specs.declared.destructors.Round.{Round}
+use Rattle.pth_model.specs.Resources.{Resources, told}
+use Rattle.pth_model.specs.State.{State, Control}
+use Rattle.pth_model.specs.Transition.{Piece, tells, tid, ◌and_then◌}
+use Rattle.pth_model.specs.Ending.{round_limit, first_round, next_destructor, other_than, stops_running, is_dead_with, undoes_wait, runs_each, runs_cleanups, runs_destructor, destructs_by, destructs, runs_destructors, leaves, dies, ending}
+use Rattle.pth_model.specs.Changes.{sets, enters, leaves_queue, forgets, removes, goes_on, is_blocked_by, blocked_of, or_nobody, entry_of}
+use Rattle.pth_model.specs.RingWaits.{claimant, gives_back, stops_waiting, ring_held}
+use Rattle.pth_model.specs.Acts.{handled, runs_handler}
+use Rattle.pth_model.specs.Living.{lives, is_made}
+use Rattle.pth_model.proofs.Placed.{Seats, seats}
+use Rattle.pth_laws.specs.Book.{Book, Closed, BlockRun, ran_by, ran_nothing, with_handler, with_destructor}
+use Rattle.pth_laws.specs.Destructors.{IsNextDue}
+use Rattle.pth_laws.proofs.NextDue.{next_is}
+use Rattle.pth_laws.proofs.Living.{IsLiving, Living, living-up, living_left}
+use Rattle.pth_laws.proofs.Claims.{HasClaims, stopped_apart, claims_stop, claims_left, left_other, stopped_known}
+use Rattle.pth_laws.proofs.Awaits.{HasAwaits, awaits_stop, awaits_left}
+use Rattle.pth_laws.proofs.Said.{value_self}
+use Rattle.pth_laws.proofs.Walk.{Walk, IsMarked, walk_tells, walk_then, walk_to}
+use Rattle.pth_laws.proofs.Handlers.{IsRunning, run_up, block_open, handled_walk, handler_walk}
+
+-- ---- no destructor is left after the rounds that there may be
+
+-- what is left of the rounds and their keys
+abbrev pub keys_left : Round → ℕ
+keys_left r = (round_limit - r.number) * key_limit + (key_limit - r.from)
+
+due_left : (x : Tables) (t : ℕ) (r : Round) (d : Due) → next_destructor x t r ≡ Some d → keys_left d.round < keys_left r
+due_left x t r d h = by_round (next_is x t r d h)
+  where
+    by_round : IsNextDue x t r d → keys_left d.round < keys_left r
+    by_round (inl here) =
+        let low = here.0.low in
+        let high = here.0.high in
+        let behind = here.0.behind in
+        let same = here.1 in
+        omega (arith, low, high, behind, same)
+    by_round (inr next) =
+        let high = next.first.high in
+        let behind = next.first.behind in
+        let fewer = next.fewer in
+        let more = next.more in
+        omega (arith, high, behind, fewer, more)
+
+none_left : (x : Tables) (t : ℕ) (r : Round) → keys_left r ≤ 0 → next_destructor x t r ≡ None
+none_left x t r none = by_due (next_destructor x t r) refl
+  where
+    by_due : (o : Option Due) → next_destructor x t r ≡ o → next_destructor x t r ≡ None
+    by_due None h = h
+    by_due (Some d) h = let less = due_left x t r d h in absurd (omega (arith, less, none))
+
+-- ---- handlers and destructors
+
+-- what ran so far in an ending: these handlers, and the destructors up to here in the rounds
+abbrev pub so_far : List PushedHandler → Round → BlockRun
+so_far hs r = record { handlers = hs; round = r; is_fine = true }
+
+pub one_more_ran : (hs : List PushedHandler) (c : PushedHandler) → with_handler c (so_far hs first_round) ≡ so_far (hs ++ c ∷ []) first_round
+unfolding with_handler
+one_more_ran hs c = refl
+
+next_ran : (hs : List PushedHandler) (r : Round) (d : Due) → with_destructor (Some d) d.key d.value (so_far hs r) ≡ so_far hs d.round
+unfolding with_destructor
+next_ran hs r d = rw (same_self d.key, value_self d.value) refl
+
+module _ {P S H : Type 0} (f : P → Functions S H) (n t : ℕ) (over dropped : ℕ → Bool) (up : over t ≡ false) (made : is_made n t ≡ true) (had : Resources) (y : Control P S H) where
+  abbrev RunsSo : List PushedHandler → Round → Book → State P S H → Type 0
+  RunsSo hs r = IsRunning t over dropped had y (so_far hs r)
+
+  each_walk : (cs hs : List PushedHandler) (b : Book) (s : State P S H) → RunsSo hs first_round b s → Walk n b (RunsSo (hs ++ cs) first_round) (runs_each f t cs s)
+  unfolding runs_each
+  each_walk [] hs b s w = record { law = tt; post = subst (λ (l : List PushedHandler). RunsSo l first_round b s) (sym (append-nil hs)) w }
+  each_walk (c ∷ cs) hs b s w =
+      walk_then n (RunsSo (hs ++ c ∷ []) first_round) (RunsSo (hs ++ c ∷ cs) first_round) b (runs_handler f t c.0 c.1) (runs_each f t cs) s
+      (subst (λ (x : BlockRun). Walk n b (IsRunning t over dropped had y x) (runs_handler f t c.0 c.1 s)) (one_more_ran hs c) (handler_walk f n t over dropped up made had y (so_far hs first_round) c.0 c.1 b s w))
+      (λ d v. walk_to n (RunsSo ((hs ++ c ∷ []) ++ cs) first_round) (RunsSo (hs ++ c ∷ cs) first_round) d (runs_each f t cs (runs_handler f t c.0 c.1 s).state)
+      (λ e u. subst (λ (l : List PushedHandler). RunsSo l first_round e u) (append_assoc hs (c ∷ []) cs))
+      (each_walk cs (hs ++ c ∷ []) d (runs_handler f t c.0 c.1 s).state v))
+
+  -- all destructors ran
+  pub record IsDone (hs : List PushedHandler) (b : Book) (s : State P S H) : Type 0 where
+    pub round : Round
+    pub runs : RunsSo hs round b s
+    pub all : next_destructor s.resources.store.keys t round ≡ None
+
+  due_walk : (hs : List PushedHandler) (r : Round) (o : Option Due) (next : Round → Piece P S H) (b : Book) (s : State P S H) → next_destructor s.resources.store.keys t r ≡ o → RunsSo hs r b s → ((d : Due) → o ≡ Some d → (c : Book) (u : State P S H) → RunsSo hs d.round c u → Walk n c (IsDone hs) (next d.round u)) → Walk n b (IsDone hs) (destructs_by f t o next s)
+  unfolding told
+  due_walk hs r None next b s found w goes = record { law = tt; post = record { round = r; runs = w; all = found } }
+  due_walk hs r (Some d) next b s found w goes =
+      let m = mark.Destructor (tid t) d.key d.value in
+      let x = ran_by b.block t in
+      let seen : next_destructor b.resources.store.keys t x.round ≡ Some d = ap (λ (k : Resources). next_destructor k.store.keys t x.round) w.resources ∙ ap (λ (z : BlockRun). next_destructor s.resources.store.keys t z.round) w.ran ∙ found in
+      walk_then n (RunsSo hs d.round) (IsDone hs) b (runs_destructor f t d) (next d.round) s
+      (walk_then n (RunsSo hs d.round) (RunsSo hs d.round) b (tells m) (handled f t d.handler d.value) s
+      (walk_tells n (RunsSo hs d.round) b m s (((run_up f n t over dropped up made had y (so_far hs r) b s w, tt), tt, tt), made) (record {
+        resources = ap (λ (k : Resources). told k m) w.resources;
+        ended = w.ended;
+        cancelled = w.cancelled;
+        ran = block_open t (with_destructor (next_destructor b.resources.store.keys t x.round) d.key d.value x) ∙ ap (λ (o : Option Due). with_destructor o d.key d.value x) seen ∙ ap (with_destructor (Some d) d.key d.value) w.ran ∙ next_ran hs r d;
+        cleanups = w.cleanups;
+        awaits = w.awaits;
+        control = w.control;
+      }))
+      (λ c v. handled_walk f n t over dropped up made had y (so_far hs d.round) d.handler d.value c (tells m s).state v))
+      (λ c v. goes d refl c (runs_destructor f t d s).state v)
+
+  destructs_walk : (hs : List PushedHandler) (many : ℕ) (r : Round) (b : Book) (s : State P S H) → keys_left r ≤ many → RunsSo hs r b s → Walk n b (IsDone hs) (destructs f t many r s)
+  unfolding destructs
+  destructs_walk hs zero r b s low w = record { law = tt; post = record { round = r; runs = w; all = none_left s.resources.store.keys t r low } }
+  destructs_walk hs (suc many) r b s low w =
+      due_walk hs r (next_destructor s.resources.store.keys t r) (destructs f t many) b s refl w
+      (λ d found c u v. destructs_walk hs many d.round c u (let less = due_left s.resources.store.keys t r d found in omega (arith, less, low)) v)
+
+-- ---- the whole ending
+
+module _ {P S H : Type 0} where
+  returned_seats : (e : Option ℤ) (k : Control P S H) → seats (gives_back e k) ≡ seats k
+  unfolding gives_back
+  returned_seats None k = refl
+  returned_seats (Some e) k = refl
+
+  pub stops_seats : (t : ℕ) (k : Control P S H) → seats (stops_waiting t k) ≡ seats k
+  unfolding stops_waiting goes_on
+  stops_seats t k = returned_seats (ring_held (blocked_of k t)) (is_blocked_by t None k)
+
+-- t has ended, and of the others none
+pub record HasEnded {P S H : Type 0} (n t : ℕ) (b : Book) (s : State P S H) (c : Book) (u : State P S H) : Type 0 where
+  pub resources : c.resources ≡ u.resources
+  pub ended : c.ended ≡ put b.ended t true
+  pub cancelled : c.cancelled ≡ b.cancelled
+  pub closed : c.block ≡ Closed
+  pub living : Living n (put b.ended t true) u.control
+  pub claims : HasClaims u.control
+  pub awaits : HasAwaits u.resources.awaits u.control
+  pub stays : (i : ℕ) → i ≢ t → u.resources.awaits i ≡ s.resources.awaits i
+  pub others : (i : ℕ) → i ≢ t → u.control.threads.known i ≡ s.control.threads.known i
+  pub running : u.control.scheduler.running ≡ other_than t s.control.scheduler.running
+  pub preferred : u.control.scheduler.preferred ≡ s.control.scheduler.preferred
+
+module _ {P S H : Type 0} (n t : ℕ) where
+  left_scheduler : (v : ℤ) (k : Control P S H) → ((leaves t v k).scheduler.running ≡ other_than t k.scheduler.running) × ((leaves t v k).scheduler.preferred ≡ k.scheduler.preferred)
+  unfolding leaves is_dead_with sets enters forgets leaves_queue
+  left_scheduler v k = by_joinable (or_nobody (entry_of k t)).joinable
+    where
+      by_joinable : (b : Bool) → ((stops_running t ((if b then is_dead_with t v else removes t) k)).scheduler.running ≡ other_than t k.scheduler.running) × ((stops_running t ((if b then is_dead_with t v else removes t) k)).scheduler.preferred ≡ k.scheduler.preferred)
+      by_joinable true = (refl, refl)
+      by_joinable false = (refl, refl)
+
+  module _ (f : P → Functions S H) (v : ℤ) (b : Book) (s : State P S H) (alive : lives (s.control.threads.known t) ≡ true) (living : Living n b.ended s.control) (claims : HasClaims s.control) (awaits : HasAwaits s.resources.awaits s.control) (made : is_made n t ≡ true) (value : b.cancelled t ≡ true → v ≡ negsuc 0) where
+    abbrev pushed : List PushedHandler
+    pushed = s.resources.store.cleanups t
+
+    -- the control once its wait is undone
+    abbrev undone : Control P S H
+    undone = stops_waiting t s.control
+
+    up : b.ended t ≡ false
+    up = living-up n b.ended s.control.threads.made s.control.threads.known s.control.threads.standing living t alive
+
+    abbrev Done : Book → State P S H → Type 0
+    Done = IsDone f n t b.ended b.cancelled up made s.resources undone pushed
+
+    dies_walk : (c : Book) (u : State P S H) → Done c u → Walk n c (HasEnded n t b s) (dies t v u)
+    unfolding told
+    dies_walk c u done =
+        let w = done.runs in
+        let x = ran_by c.block t in
+        let m = mark.Ended (tid t) v in
+        let same = stops_seats t s.control in
+        let living_now : Living n b.ended u.control = subst (Living n b.ended) (sym w.control) (subst (λ (z : Seats). IsLiving n b.ended z.made z.known z.standing) (sym same) living) in
+        let alive_now : lives (u.control.threads.known t) ≡ true = ap (λ (k : Control P S H). lives (k.threads.known t)) w.control ∙ ap (λ (z : Seats). lives (z.known t)) same ∙ alive in
+        let claims_now : HasClaims u.control = subst HasClaims (sym w.control) (claims_stop t s.control claims) in
+        let scheduled = left_scheduler v u.control in
+        let over_now : (told u.resources m).awaits t ≡ false = put_here u.resources.awaits t false in
+        let await_stays : (i : ℕ) → i ≢ t → (told u.resources m).awaits i ≡ s.resources.awaits i = λ i apart. put_other u.resources.awaits t false i apart ∙ ap (λ (o : ℕ → Bool). o i) w.awaits in
+        let awaits_now : HasAwaits (told u.resources m).awaits u.control = subst (HasAwaits (told u.resources m).awaits) (sym w.control) (awaits_stop t s.resources.awaits (told u.resources m).awaits s.control over_now await_stays awaits) in
+        let law : IsMarked n c m = (
+          (
+            (
+              run_up f n t b.ended b.cancelled up made s.resources undone (so_far pushed done.round) c u w,
+              record {
+                handlers = ap (λ (z : BlockRun). z.handlers) w.ran ∙ sym w.cleanups ∙ ap (λ (r : Resources). r.store.cleanups t) (sym w.resources);
+                destructors = ap (λ (z : BlockRun). z.is_fine) w.ran;
+                all = ap (λ (r : Resources). next_destructor r.store.keys t x.round) w.resources ∙ ap (λ (z : BlockRun). next_destructor u.resources.store.keys t z.round) w.ran ∙ done.all;
+                value = λ h. value (ap (λ (e : ℕ → Bool). e t) (sym w.cancelled) ∙ h);
+              },
+            ),
+            tt,
+            tt,
+          ),
+          made,
+        ) in
+        record {
+          law = (law, tt);
+          post = record {
+            resources = ap (λ (r : Resources). told r m) w.resources;
+            ended = ap (λ (e : ℕ → Bool). put e t true) w.ended;
+            cancelled = w.cancelled;
+            closed = refl;
+            living = living_left n b.ended t v u.control alive_now living_now;
+            claims = claims_left t v u.control (λ e i h. (stopped_apart t s.control claims e i (ap (λ (k : Control P S H). claimant k.events e) (sym w.control) ∙ h)).1) claims_now;
+            others = λ i apart. left_other t v u.control i apart ∙ ap (λ (k : Control P S H). k.threads.known i) w.control ∙ ap (λ (known : ℕ → Option Entry). known i) (stopped_known t s.control);
+            stays = await_stays;
+            awaits = awaits_left (told u.resources m).awaits t v u.control over_now awaits_now;
+            running = scheduled.0 ∙ ap (λ (k : Control P S H). other_than t k.scheduler.running) w.control ∙ ap (λ (z : Seats). other_than t z.running) same;
+            preferred = scheduled.1 ∙ ap (λ (k : Control P S H). k.scheduler.preferred) w.control ∙ ap (λ (z : Seats). z.preferred) same;
+          };
+        }
+
+    pub ending_walk : b.resources ≡ s.resources → ran_by b.block t ≡ ran_nothing → Walk n b (HasEnded n t b s) (ending f t v s)
+    unfolding ending
+    ending_walk same fresh =
+        let So = RunsSo f n t b.ended b.cancelled up made s.resources undone in
+        let s1 = (undoes_wait t s).state in
+        walk_then n (So [] first_round) (HasEnded n t b s) b (undoes_wait t) (runs_cleanups f t and_then runs_destructors f t and_then dies t v) s
+        (record { law = tt; post = record { resources = same; ended = refl; cancelled = refl; ran = fresh; cleanups = refl; awaits = refl; control = refl } })
+        (λ c1 w1. walk_then n (So pushed first_round) (HasEnded n t b s) c1 (runs_cleanups f t) (runs_destructors f t and_then dies t v) s1
+        (each_walk f n t b.ended b.cancelled up made s.resources undone pushed [] c1 s1 w1)
+        (λ c2 w2. let s2 = (runs_cleanups f t s1).state in walk_then n Done (HasEnded n t b s) c2 (runs_destructors f t) (dies t v) s2
+        (destructs_walk f n t b.ended b.cancelled up made s.resources undone pushed (round_limit * key_limit) first_round c2 s2 (omega arith) w2)
+        (λ c3 done. dies_walk c3 (runs_destructors f t s2).state done)))

@@ -1,0 +1,202 @@
+-- Every run is lawful, and its states fit its marks.
+use Rattle.std.proofs.Common.{◌≡◌, ◌≢◌, ℕ, zero, suc, ◌≤◌, ◌&&◌, not, Bool, true, false, pos, List, [], ◌∷◌, ◌++◌, All, Option, Some, None, is_some, refl, sym, ◌∙◌, ◌⊎◌, inl, inr, ap, subst, arith, append-nil}
+use Rattle.std.proofs.lemmas.List.Elements.{All-nil, All-cons, All-append, All-weaker}
+use Rattle.std.proofs.lemmas.Bool.Decides.{nat_tests}
+use Rattle.pth_base.specs.Program.{Functions}
+use Rattle.pth_base.specs.Table.{put}
+use Rattle.pth_base.specs.declared.mark.Mark.{Mark}
+use Rattle.pth_base.specs.declared.outcome.Outcome.{Outcome}
+use Rattle.pth_base.specs.declared.outcome.Outcome.TheVariants as outcome
+use Rattle.pth_base.proofs.Tables.{put_by}
+use Rattle.pth_queue.specs.declared.queue.Queue.{Queue}
+use Rattle.pth_queue.specs.declared.queue.Queue.TheVariants.{New, Ready, Waiting, Suspended, Dead}
+use Rattle.pth_model.specs.Standing.{Standing, is_queue, raises_of}
+use Rattle.pth_model.specs.State.{State, Given, Turn, start, no_turn, main, main_entry, main_standing}
+use Rattle.pth_model.specs.Course.{Course, followed}
+use Rattle.pth_model.specs.declared.progress.Progress.{Progress}
+use Rattle.pth_model.specs.Changes.{blocked_in}
+use Rattle.pth_model.specs.Living.{lives, is_made}
+use Rattle.pth_model.specs.Part.{part, part_by, next_part, next_part_by, unless_ended, is_idle}
+use Rattle.pth_model.specs.Resources.{HasNothing}
+use Rattle.pth_model.specs.Run.{parts, run}
+use Rattle.pth_model.proofs.Once.{shown-all}
+use Rattle.pth_laws.specs.Book.{Book, empty_book, after, book_of}
+use Rattle.pth_laws.specs.Clean.{IsClean}
+use Rattle.pth_laws.specs.Laws.{EachMark, IsLawful, IsOrderlyMark, Orderly, thread_of}
+use Rattle.pth_laws.specs.Valid.{Lives, IsValid, IsTiedTo, IsOver, is_awaiting}
+use Rattle.pth_laws.proofs.Living.{true_false, made_more, both, not_true, runs_alive}
+use Rattle.pth_laws.proofs.Walk.{IsOfMade, IsMarked, each-weaker, each-append, book-append}
+use Rattle.pth_laws.proofs.Parts.{IsSettled, PartWalk, none_some, part_walk}
+use Rattle.pth_laws.proofs.Leftovers.{each_empty}
+
+abbrev IsKilled : Outcome → Type 0
+IsKilled o = o ≡ outcome.Killed
+
+-- the marks of a run so far: they are lawful, and unless it was killed its state fits them
+pub record IsLawfulRun {P S H : Type 0} (c : Course P S H) : Type 0 where
+  pub law : EachMark IsLawful empty_book c.marks
+  pub made : (IsKilled c.turn.outcome → ⊥) → All (λ m. IsOfMade c.state.control.threads.made (thread_of m)) c.marks
+  pub settled : (IsKilled c.turn.outcome → ⊥) → IsSettled c.state.control.threads.made (book_of empty_book c.marks) c.state c.turn
+
+each_made : (n : ℕ) (b : Book) (ms : List Mark) → EachMark (IsMarked n) b ms → All (λ m. IsOfMade n (thread_of m)) ms
+each_made n b [] law = All-nil (λ m. IsOfMade n (thread_of m))
+each_made n b (m ∷ ms) law = All-cons (λ x. IsOfMade n (thread_of x)) m ms law.0.1 (each_made n (after b m) ms law.1)
+
+of_more : (n k : ℕ) (o : Option ℕ) → n ≤ k → IsOfMade n o → IsOfMade k o
+of_more n k None le h = tt
+of_more n k (Some t) le h = made_more n k t le h
+
+-- ---- the start
+
+alone_lives : (t : ℕ) → t ≡ main → lives (put (λ (u : ℕ). None) main (Some main_entry) t) ≡ true
+unfolding put
+alone_lives t same = rw same refl
+
+main_over : (t : ℕ) → false ≡ (is_made 1 t && not (lives (put (λ u. None) main (Some main_entry) t)))
+main_over t = put_by (λ o. false ≡ (is_made 1 t && not (lives o))) (λ u. None) main (Some main_entry) t (λ here. rw here refl) (λ other. unmade t other)
+  where
+    unmade : (t : ℕ) → t ≢ main → false ≡ (is_made 1 t && true)
+    unmade zero other = refl
+    unmade (suc zero) other = absurd (other refl)
+    unmade (suc (suc t)) other = grind (arith, nat_tests)
+
+main_known : (t : ℕ) → is_some (put (λ u. None) main (Some main_entry) t) ≡ true → is_made 1 t ≡ true
+main_known t = put_by (λ o. is_some o ≡ true → is_made 1 t ≡ true) (λ u. None) main (Some main_entry) t (λ here h. rw here refl) (λ other h. absurd (true_false (sym h)))
+
+main_stands : (q : Queue) → is_queue q Dead ≡ false → All (λ (z : Standing). lives (put (λ u. None) main (Some main_entry) z.tid) ≡ true) (main_standing q)
+main_stands Ready living = All-cons (λ (z : Standing). lives (put (λ u. None) main (Some main_entry) z.tid) ≡ true) (record { tid = main; rank = pos 0; since = 0; entry = 0; top = false }) [] (alone_lives main refl) (All-nil (λ (z : Standing). lives (put (λ u. None) main (Some main_entry) z.tid) ≡ true))
+main_stands New living = All-nil (λ (z : Standing). lives (put (λ u. None) main (Some main_entry) z.tid) ≡ true)
+main_stands Waiting living = All-nil (λ (z : Standing). lives (put (λ u. None) main (Some main_entry) z.tid) ≡ true)
+main_stands Suspended living = All-nil (λ (z : Standing). lives (put (λ u. None) main (Some main_entry) z.tid) ≡ true)
+main_stands Dead living = absurd (true_false living)
+
+-- ---- every run
+
+module _ {P S H : Type 0} (f : P → Functions S H) where
+  start_settled : (g : Given P) → IsSettled 1 empty_book (start f g) no_turn
+  unfolding start
+  start_settled g = record {
+    resources = refl;
+    closed = refl;
+    cancelled = λ t up. refl;
+    living = record { grown = omega arith; numbered = main_known; over = main_over; stands = main_stands; dead = All-nil (λ (z : Standing). false ≡ true) };
+    claims = λ e t h. absurd (none_some t h);
+    awaits = λ t. (put_by (λ (o : Option (Progress S)). false ≡ is_awaiting (blocked_in o)) (λ u. None) main _ t (λ here. refl) (λ other. refl), λ awaiting. absurd (true_false (sym awaiting)));
+    runs = λ t h. absurd (none_some t h);
+    gave = λ t g. absurd (none_some t g);
+    preferred = λ t h. absurd (none_some t h);
+    unnamed = λ t h g. refl;
+  }
+
+  -- n threads were made, and now there are more
+  rebased : (b : Book) (s : State P S H) (x : Turn) (n : ℕ) → IsSettled n b s x → IsSettled s.control.threads.made b s x
+  rebased b s x n z = record {
+    resources = z.resources;
+    closed = z.closed;
+    cancelled = z.cancelled;
+    living = record { grown = omega arith; numbered = z.living.numbered; over = z.living.over; stands = z.living.stands; dead = z.living.dead };
+    claims = z.claims;
+    awaits = z.awaits;
+    runs = z.runs;
+    gave = z.gave;
+    preferred = z.preferred;
+    unnamed = z.unnamed;
+  }
+
+  -- a run that was killed goes no further
+  killed_halts : (c : Course P S H) → IsKilled c.turn.outcome → ((part f c.turn c.state).marks ≡ []) × IsKilled (part f c.turn c.state).turn.outcome
+  unfolding part next_part
+  killed_halts c killed = by_outcome c.turn.outcome refl killed
+    where
+      by_outcome : (o : Outcome) → c.turn.outcome ≡ o → IsKilled o → ((part_by f c.turn c.state (unless_ended o (next_part_by c.turn.gave c.state.control.scheduler.running (is_idle c.state.control)))).marks ≡ []) × IsKilled (part_by f c.turn c.state (unless_ended o (next_part_by c.turn.gave c.state.control.scheduler.running (is_idle c.state.control)))).turn.outcome
+      by_outcome outcome.Running same k = absurd (cc k)
+      by_outcome o same k = (refl, killed)
+
+  goes_on_killed : (c : Course P S H) → IsKilled c.turn.outcome → IsLawfulRun c → IsLawfulRun (followed c (part f c.turn c.state))
+  goes_on_killed c killed l =
+      let h = killed_halts c killed in
+      record {
+        law = subst (λ ms. EachMark IsLawful empty_book (c.marks ++ ms)) (sym h.0) (subst (EachMark IsLawful empty_book) (sym (append-nil c.marks)) l.law);
+        made = λ on. absurd (on h.1);
+        settled = λ on. absurd (on h.1);
+      }
+
+  goes_on_settled : (c : Course P S H) → (IsKilled c.turn.outcome → ⊥) → IsLawfulRun c → IsLawfulRun (followed c (part f c.turn c.state))
+  goes_on_settled c on l =
+      let n = c.state.control.threads.made in
+      let b = book_of empty_book c.marks in
+      let next = part f c.turn c.state in
+      let w : PartWalk n b next = part_walk n f c.turn b c.state refl (l.settled on) in
+      record {
+        law = each-append IsLawful empty_book c.marks next.marks l.law (each-weaker (IsMarked n) IsLawful (λ d m h. h.0) b next.marks w.law);
+        made = λ still.
+            let grown = (w.post still).living.grown in
+            let more : (m : Mark) → IsOfMade n (thread_of m) → IsOfMade next.state.control.threads.made (thread_of m) = λ m h. of_more n next.state.control.threads.made (thread_of m) grown h in
+            All-append (λ m. IsOfMade next.state.control.threads.made (thread_of m)) c.marks next.marks
+            (All-weaker (λ m. IsOfMade n (thread_of m)) (λ m. IsOfMade next.state.control.threads.made (thread_of m)) more c.marks (l.made on))
+            (All-weaker (λ m. IsOfMade n (thread_of m)) (λ m. IsOfMade next.state.control.threads.made (thread_of m)) more next.marks (each_made n b next.marks w.law));
+        settled = λ still. subst (λ (d : Book). IsSettled next.state.control.threads.made d next.state next.turn) (sym (book-append empty_book c.marks next.marks)) (rebased (book_of b next.marks) next.state next.turn n (w.post still));
+      }
+
+  goes_on_by : (o : Outcome) (c : Course P S H) → c.turn.outcome ≡ o → IsLawfulRun c → IsLawfulRun (followed c (part f c.turn c.state))
+  goes_on_by outcome.Killed c same l = goes_on_killed c same l
+  goes_on_by o c same l = goes_on_settled c (λ killed. not_killed (sym same ∙ killed)) l
+    where
+      not_killed : IsKilled o → ⊥
+      not_killed h = cc
+
+  run_lawful : (g : Given P) (i : ℕ) → IsLawfulRun (run f g i)
+  unfolding parts
+  run_lawful g zero = record { law = tt; made = λ on. All-nil (λ m. IsOfMade (start f g).control.threads.made (thread_of m)); settled = λ on. rebased empty_book (start f g) no_turn 1 (start_settled g) }
+  run_lawful g (suc i) = goes_on_by (run f g i).turn.outcome (run f g i) refl (run_lawful g i)
+
+  -- ---- what is told of every run
+
+  pub run_orderly : (g : Given P) (i : ℕ) → Orderly (run f g i).marks
+  run_orderly g i = each-weaker IsLawful IsOrderlyMark (λ b m h. h.0) empty_book (run f g i).marks (run_lawful g i).law
+
+  pub run_tied : (g : Given P) (i : ℕ) → (IsKilled (run f g i).turn.outcome → ⊥) → IsTiedTo (run f g i).state (run f g i).marks
+  run_tied g i on =
+      let c = run f g i in
+      let l = run_lawful g i in
+      let z = l.settled on in
+      let n = c.state.control.threads.made in
+      record {
+        unmade = λ t none. All-weaker (λ m. IsOfMade n (thread_of m)) (λ m. thread_of m ≢ Some t) (λ m h same. true_false (sym (subst (IsOfMade n) same h) ∙ none)) c.marks (l.made on);
+        ended = λ t there. z.living.over t ∙ ap (λ b. b && not (lives (c.state.control.threads.known t))) there;
+        resources = z.resources;
+        cancelled = λ t alive. z.cancelled t (z.living.over t ∙ ap (λ b. is_made n t && not b) alive ∙ and_false (is_made n t));
+        closed = z.closed;
+      }
+    where
+      and_false : (b : Bool) → (b && false) ≡ false
+      and_false true = refl
+      and_false false = refl
+
+  pub run_clean : (g : Given P) (i : ℕ) → (IsKilled (run f g i).turn.outcome → ⊥) → IsClean (run f g i).state
+  run_clean g i on = record { claims = ((run_lawful g i).settled on).claims }
+
+  pub run_valid : (g : Given P) (i : ℕ) → (IsKilled (run f g i).turn.outcome → ⊥) → IsValid (run f g i).state (run f g i).turn
+  run_valid g i on =
+      let c = run f g i in
+      let l = run_lawful g i in
+      let z = l.settled on in
+      let k = c.state.control in
+      record {
+        made = z.living.numbered;
+        stands = λ q living. shown-all (Lives c.state) (raises_of k.threads.raises q) (k.threads.standing q) (z.living.stands q living);
+        runs = λ t h. runs_alive (k.threads.known t) (z.runs t h);
+        preferred = z.preferred;
+        gave = λ t g. by_gave t (z.gave t g);
+        unnamed = z.unnamed;
+        awaits = λ t. (z.awaits t).0;
+        empty = λ t over. subst (λ r. HasNothing r.store t) z.resources (each_empty empty_book c.marks (run_orderly g i) (λ u h. absurd (true_false (sym h))) t (z.living.over t ∙ rw (over.made, over.gone) refl));
+      }
+    where
+      by_gave : (t : ℕ) → ((run f g i).state.control.scheduler.running ≡ Some t) ⊎ (((run f g i).state.control.scheduler.running ≡ None) × ((book_of empty_book (run f g i).marks).ended t ≡ true)) → ((run f g i).state.control.scheduler.running ≡ Some t) ⊎ IsOver (run f g i).state t
+      by_gave t (inl runs) = inl runs
+      by_gave t (inr rests) =
+          let k = (run f g i).state.control in
+          let living = ((run_lawful g i).settled on).living in
+          let over = both (is_made k.threads.made t) (not (lives (k.threads.known t))) (sym (living.over t) ∙ rests.1) in
+          inr (record { made = over.0; gone = not_true (lives (k.threads.known t)) over.1 })

@@ -1,0 +1,14 @@
+pub mod Refused
+pub mod Living
+pub mod Going
+pub mod Awaits
+pub mod Claims
+pub mod Walk
+pub mod Handlers
+pub mod Endings
+pub mod Steps
+pub mod Parts
+pub mod Leftovers
+pub mod EveryRun
+pub mod Said
+pub mod NextDue

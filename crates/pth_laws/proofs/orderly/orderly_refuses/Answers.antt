@@ -1,0 +1,17 @@
+use Rattle.pth_laws.proofs.Refused.{not_first_out, none_missing, none_left, no_answer, nothing_later}
+use Rattle.pth_laws.proofs.orderly.orderly_refuses.Goals as goal
+
+pub returns-clause-order : goal.returns-clause-order
+returns-clause-order c = not_first_out
+
+pub returns-clause-handler : goal.returns-clause-handler
+returns-clause-handler c = none_missing
+
+pub returns-clause-destructor : goal.returns-clause-destructor
+returns-clause-destructor c = none_left
+
+pub returns-clause-cancelled : goal.returns-clause-cancelled
+returns-clause-cancelled c = no_answer
+
+pub returns-clause-ended : goal.returns-clause-ended
+returns-clause-ended c = nothing_later

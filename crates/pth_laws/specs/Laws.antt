@@ -1,0 +1,100 @@
+-- The laws of the marks of whole runs.
+use Rattle.std.specs.Prelude.{◌≡◌, ℕ, zero, suc, ℤ, pos, negsuc, true, false, List, [], ◌∷◌, Option, Some, None}
+use Rattle.pth_base.specs.declared.answer.Answer.{Answer}
+use Rattle.pth_base.specs.declared.answer.Answer.TheVariants.{Int}
+use Rattle.pth_base.specs.declared.call.Call.{Call}
+use Rattle.pth_base.specs.declared.call.Call.TheVariants as call
+use Rattle.pth_base.specs.declared.mark.Mark.{Mark}
+use Rattle.pth_base.specs.declared.mark.Mark.TheVariants as mark
+use Rattle.pth_numbered.specs.Operands.{is_zero}
+use Rattle.pth_store.specs.Cleanups.{PushedHandler}
+use Rattle.pth_model.specs.Ending.{next_destructor}
+use Rattle.pth_laws.specs.Book.{Book, empty_book, after, ran_by}
+
+-- A holds of each mark, and of the book of the marks before it
+abbrev pub EachMark : (Book → Mark → Type 0) → Book → List Mark → Type 0
+EachMark A b [] = Unit {0}
+EachMark A b (m ∷ ms) = A b m × EachMark A (after b m) ms
+
+-- the thread of a mark
+abbrev pub thread_of : Mark → Option ℕ
+thread_of (mark.Dispatch turn at t rank waited allowed) = Some t.0
+thread_of (mark.Answered t c a) = Some t.0
+thread_of (mark.Waits t c) = Some t.0
+thread_of (mark.Retakes t c) = Some t.0
+thread_of (mark.Canceled t c) = Some t.0
+thread_of (mark.Took t m) = Some t.0
+thread_of (mark.Withdrew t n) = Some t.0
+thread_of (mark.Handler t h v) = Some t.0
+thread_of (mark.Destructor t key v) = Some t.0
+thread_of (mark.Acted t x a) = Some t.0
+thread_of (mark.GaveMutex t m) = Some t.0
+thread_of (mark.GaveLock t l) = Some t.0
+thread_of (mark.Ended t v) = Some t.0
+thread_of (mark.Noted t v) = Some t.0
+thread_of (mark.Woke t rank) = Some t.0
+thread_of (mark.Moved at) = None
+
+-- ---- orderly
+
+-- a thread that has ended has no mark more
+abbrev pub HasNotEnded : Book → Option ℕ → Type 0
+HasNotEnded b None = Unit {0}
+HasNotEnded b (Some t) = b.ended t ≡ false
+
+-- one handler ran, the last that is pending
+abbrev pub RanLast : List PushedHandler → List PushedHandler → Type 0
+RanLast ran [] = ⊥
+RanLast ran (c ∷ cs) = ran ≡ c ∷ []
+
+-- a cleanup_pop that is answered 1, and not of 0, ran its handler
+abbrev pub IsPopOrderly : Book → ℕ → Call → Answer → Type 0
+IsPopOrderly b t (call.CleanupPop v) (Int (pos (suc zero))) = is_zero v ≡ false → RanLast (ran_by b.block t).handlers (b.resources.store.cleanups t)
+IsPopOrderly b t c a = Unit {0}
+
+-- a thread that ends ran its handlers, the last pushed first, and then its destructors, until none was due in four rounds
+pub record IsEndOrderly (b : Book) (t : ℕ) (v : ℤ) : Type 0 where
+  pub handlers : (ran_by b.block t).handlers ≡ b.resources.store.cleanups t
+  pub destructors : (ran_by b.block t).is_fine ≡ true
+  pub all : next_destructor b.resources.store.keys t (ran_by b.block t).round ≡ None
+  -- one that was cancelled has the value -1
+  pub value : b.cancelled t ≡ true → v ≡ negsuc 0
+
+-- who was cancelled has no answer, no note and no wait told
+abbrev pub IsUncancelled : Book → ℕ → Type 0
+IsUncancelled b t = b.cancelled t ≡ false
+
+abbrev pub IsInItsOrder : Book → Mark → Type 0
+IsInItsOrder b (mark.Answered t c a) = IsUncancelled b t.0 × IsPopOrderly b t.0 c a
+IsInItsOrder b (mark.Noted t v) = IsUncancelled b t.0
+IsInItsOrder b (mark.Waits t c) = IsUncancelled b t.0
+IsInItsOrder b (mark.Ended t v) = IsEndOrderly b t.0 v
+IsInItsOrder b m = Unit {0}
+
+abbrev pub IsOrderlyMark : Book → Mark → Type 0
+IsOrderlyMark b m = HasNotEnded b (thread_of m) × IsInItsOrder b m
+
+-- these marks are orderly
+abbrev pub Orderly : List Mark → Type 0
+Orderly marks = EachMark IsOrderlyMark empty_book marks
+
+-- ---- exclusive: no call on mutexes and read-write locks is built yet, and no mark is held to anything
+
+abbrev pub IsExclusiveMark : Book → Mark → Type 0
+IsExclusiveMark b m = Unit {0}
+
+abbrev pub Exclusive : List Mark → Type 0
+Exclusive marks = EachMark IsExclusiveMark empty_book marks
+
+-- ---- in order: no call on message ports is built yet, and no mark is held to anything
+
+abbrev pub IsMarkInOrder : Book → Mark → Type 0
+IsMarkInOrder b m = Unit {0}
+
+abbrev pub InOrder : List Mark → Type 0
+InOrder marks = EachMark IsMarkInOrder empty_book marks
+
+-- ---- all of them
+
+abbrev pub IsLawful : Book → Mark → Type 0
+IsLawful b m = IsOrderlyMark b m × IsExclusiveMark b m × IsMarkInOrder b m

@@ -1,0 +1,64 @@
+-- What holds of each state of a run, unless a pth_kill ended it, and how it fits the marks that led to it.
+use Rattle.std.specs.Prelude.{◌≡◌, ◌≢◌, ◌⊎◌, ℕ, Bool, true, false, not, List, All, Option, Some, None, is_some}
+use Rattle.pth_base.specs.declared.call.Call.{Call}
+use Rattle.pth_base.specs.declared.call.Call.TheVariants as call
+use Rattle.pth_base.specs.declared.mark.Mark.{Mark}
+use Rattle.pth_queue.specs.declared.queue.Queue.{Queue}
+use Rattle.pth_queue.specs.declared.queue.Queue.TheVariants.{Dead}
+use Rattle.pth_model.specs.Resources.{HasNothing}
+use Rattle.pth_model.specs.Standing.{is_queue}
+use Rattle.pth_model.specs.State.{State, Turn, queue}
+use Rattle.pth_model.specs.declared.blocked.Blocked.{Blocked}
+use Rattle.pth_model.specs.Changes.{holders, blocked_of}
+use Rattle.pth_model.specs.Living.{lives, is_made}
+use Rattle.pth_laws.specs.Book.{Closed, empty_book, book_of}
+use Rattle.pth_laws.specs.Laws.{thread_of}
+
+-- whether a call waits at a condition (pth_cond_await)
+abbrev pub is_await : Call → Bool
+is_await (call.CondAwait c m e) = true
+is_await c = false
+
+abbrev pub is_awaiting : Option Blocked → Bool
+is_awaiting None = false
+is_awaiting (Some b) = is_await b.call
+
+module _ {P S H : Type 0} (s : State P S H) where
+  abbrev pub Lives : ℕ → Type 0
+  Lives t = lives (s.control.threads.known t) ≡ true
+
+  -- it was made, and does not live any more
+  pub record IsOver (t : ℕ) : Type 0 where
+    pub made : is_made s.control.threads.made t ≡ true
+    pub gone : lives (s.control.threads.known t) ≡ false
+
+  -- who takes part lives, and who is over has nothing stored
+  pub record IsValid (x : Turn) : Type 0 where
+    -- who is in the system was made
+    pub made : (t : ℕ) → is_some (s.control.threads.known t) ≡ true → is_made s.control.threads.made t ≡ true
+    -- whoever is new, ready, waiting or suspended lives
+    pub stands : (q : Queue) → is_queue q Dead ≡ false → All Lives (holders (queue s.control q))
+    -- so does who runs, and who is to run next by a yield that named it
+    pub runs : (t : ℕ) → s.control.scheduler.running ≡ Some t → Lives t
+    pub preferred : (t : ℕ) → s.control.scheduler.preferred ≡ Some t → Lives t
+    -- who gave up control runs still, or is over
+    pub gave : (t : ℕ) → x.gave ≡ Some t → (s.control.scheduler.running ≡ Some t) ⊎ IsOver t
+    -- no yield is open while a thread makes its steps
+    pub unnamed : (t : ℕ) → s.control.scheduler.running ≡ Some t → x.gave ≡ None → s.control.scheduler.preferred ≡ None
+    -- who waits at a condition, or has not its mutex again, is whom a pth_cond_await blocks
+    pub awaits : (t : ℕ) → s.resources.awaits t ≡ is_awaiting (blocked_of s.control t)
+    -- who is over has no cleanups and no values
+    pub empty : (t : ℕ) → IsOver t → HasNothing s.resources.store t
+
+  -- the marks that led to a state fit it
+  pub record IsTiedTo (marks : List Mark) : Type 0 where
+    -- a thread that was not made has no mark
+    pub unmade : (t : ℕ) → is_made s.control.threads.made t ≡ false → All (λ m. thread_of m ≢ Some t) marks
+    -- one that was made has ended exactly where it does not live
+    pub ended : (t : ℕ) → is_made s.control.threads.made t ≡ true → (book_of empty_book marks).ended t ≡ not (lives (s.control.threads.known t))
+    -- what threads have is what the marks tell: cleanups, keys and values
+    pub resources : (book_of empty_book marks).resources ≡ s.resources
+    -- who lives was not cancelled
+    pub cancelled : (t : ℕ) → Lives t → (book_of empty_book marks).cancelled t ≡ false
+    -- the marks do not end within a block of a thread
+    pub closed : (book_of empty_book marks).block ≡ Closed

@@ -1,0 +1,32 @@
+//! Laws of every run of every program.
+
+ghost use Rattle.std.specs.Prelude.{◌≢◌, ℕ};
+ghost use Rattle.pth_base.specs.declared.outcome.Outcome.TheVariants.{Killed};
+ghost use Rattle.pth_model.specs.Run.{run};
+ghost use Rattle.pth_model.specs.State.{Given};
+ghost use Rattle.pth_laws.specs.Clean.{IsClean};
+ghost use Rattle.pth_laws.specs.Laws.{Orderly};
+ghost use Rattle.pth_laws.specs.Valid.{IsTiedTo, IsValid};
+
+use pth_base::program::Program;
+
+/// The marks of every run, wherever it stands, are orderly: a thread that ended ran the handlers that it had pushed and not
+/// popped, the last pushed first, and then its destructors, until none was due in four rounds; a handler that a pop runs is the
+/// last that is pending; a thread that was cancelled is answered nothing more, and ends with -1; and a thread that has ended has
+/// no mark more.
+pub fn every_run_is_orderly<P: Program>()
+    ensures { (g : Given P) (i : ℕ) → Orderly (run P.functions g i).marks }
+{}
+
+/// Each state of a run fits the marks that led to it, unless a `pth_kill` ended the run: who has ended, and what threads have, can
+/// be read off a transcript. And who runs, who is named by a yield, and whoever stands in a queue but that of the dead, lives.
+pub fn every_run_is_tied<P: Program>()
+    ensures tied { (g : Given P) (i : ℕ) → (run P.functions g i).turn.outcome ≢ Killed → IsTiedTo (run P.functions g i).state (run P.functions g i).marks }
+    ensures valid { (g : Given P) (i : ℕ) → (run P.functions g i).turn.outcome ≢ Killed → IsValid (run P.functions g i).state (run P.functions g i).turn }
+{}
+
+/// Nothing of a wait stays behind, however its thread ended: by an exit, by a request that it took up at a cancellation point, or in
+/// another thread's turn (`pth_cancel`, `pth_abort`). A claim on a ring is that of a thread that lives, and whose call made it.
+pub fn every_run_is_clean<P: Program>()
+    ensures { (g : Given P) (i : ℕ) → (run P.functions g i).turn.outcome ≢ Killed → IsClean (run P.functions g i).state }
+{}
