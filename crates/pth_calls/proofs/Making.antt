@@ -24,7 +24,7 @@ use Rattle.pth_model.specs.Verdict.{Says, says, by_result}
 use Rattle.pth_world.specs.Leading.{IsAnswered}
 use Rattle.pth_world.specs.World.{WorldOf}
 use Rattle.pth_world.proofs.Events.{kept_shows}
-use Rattle.pth_calls.specs.Lines.{event_line}
+use Rattle.pth_calls.specs.Lines.{unchained_event_line}
 use Rattle.pth_end.specs.Saying.{SaysRefusal}
 use Rattle.pth_calls.proofs.Deciding.{decided}
 
@@ -71,7 +71,7 @@ module _ {P S H : Type 0} (f : P → Functions S H) where
   line_row l s = make_event s l
 
   -- a call that makes an event has the row of its line
-  made_row : (t : ℕ) (c : Call) (l : EvLine) → event_line c ≡ Some l → row_at t c ≡ line_row l
+  made_row : (t : ℕ) (c : Call) (l : EvLine) → unchained_event_line c ≡ Some l → row_at t c ≡ line_row l
   unfolding row_of
   made_row t (call.EvFd goals fd) l is = let e : line.Fd goals fd ≡ l = cc is in ap line_row e
   made_row t (call.EvSelect r w x) l is = let e : line.Select r w x ≡ l = cc is in ap line_row e
@@ -82,5 +82,5 @@ module _ {P S H : Type 0} (f : P → Functions S H) where
   made_row t (call.EvFunc c v d) l is = let e : line.Func c v d ≡ l = cc is in ap line_row e
   made_row t c l is = absurd (cc is)
 
-  pub line_answered : (w v : WorldOf P S H) (q : Result Answer OutOfMemory) (t : ℕ) (c : Call) (l : EvLine) → event_line c ≡ Some l → IfOk q (λ a. IsAnswered w v a (λ s. (make_event s l).begin)) → IfOk q (λ a. IsAnswered w v a (λ s. (row_of f s t c).begin))
+  pub line_answered : (w v : WorldOf P S H) (q : Result Answer OutOfMemory) (t : ℕ) (c : Call) (l : EvLine) → unchained_event_line c ≡ Some l → IfOk q (λ a. IsAnswered w v a (λ s. (make_event s l).begin)) → IfOk q (λ a. IsAnswered w v a (λ s. (row_of f s t c).begin))
   line_answered w v q t c l is answered = subst (λ (r : State P S H → Row P S H). IfOk q (λ a. IsAnswered w v a (λ s. (r s).begin))) (sym (made_row t c l is)) answered

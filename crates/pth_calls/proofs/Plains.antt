@@ -95,6 +95,7 @@ abbrev has_code : Facility → Bool
 has_code facility.Library = true
 has_code facility.Attributes = true
 has_code facility.Threads = true
+has_code facility.Cancellation = true
 has_code facility.Utilities = true
 has_code facility.Events = true
 has_code facility.Keys = true
@@ -111,6 +112,7 @@ pub record IsOther (x : Facility) : Type 0 where
   pub library : x ≢ facility.Library
   pub attributes : x ≢ facility.Attributes
   pub threads : x ≢ facility.Threads
+  pub cancellation : x ≢ facility.Cancellation
   pub utilities : x ≢ facility.Utilities
   pub events : x ≢ facility.Events
   pub keys : x ≢ facility.Keys
@@ -121,6 +123,7 @@ pub other_facility : (x : Facility) → IsOther x → is_of_code (Some x) ≡ fa
 other_facility facility.Library other = absurd (other.library refl)
 other_facility facility.Attributes other = absurd (other.attributes refl)
 other_facility facility.Threads other = absurd (other.threads refl)
+other_facility facility.Cancellation other = absurd (other.cancellation refl)
 other_facility facility.Utilities other = absurd (other.utilities refl)
 other_facility facility.Events other = absurd (other.events refl)
 other_facility facility.Keys other = absurd (other.keys refl)
@@ -166,6 +169,10 @@ module _ {P S H : Type 0} (f : P → Functions S H) (s : State P S H) (t : ℕ) 
   unbuilt_row (call.Yield n) plain none = absurd (cc none)
   unbuilt_row (call.Nap n) plain none = absurd (cc none)
   unbuilt_row (call.Wait e) plain none = absurd (cc none)
+  unbuilt_row (call.CancelState n) plain none = absurd (cc none)
+  unbuilt_row call.CancelPoint plain none = absurd (cc none)
+  unbuilt_row (call.Cancel n) plain none = absurd (cc none)
+  unbuilt_row (call.Abort n) plain none = absurd (cc none)
   unbuilt_row (call.Join n) plain none = absurd (cc none)
   unbuilt_row (call.Exit v) plain none = absurd (cc none)
   unbuilt_row (call.Fdmode d m) plain none = absurd (cc none)
@@ -207,20 +214,3 @@ module _ {P S H : Type 0} (f : P → Functions S H) (s : State P S H) (t : ℕ) 
   unbuilt_row call.Plain plain none = absurd (cc plain)
   unbuilt_row (call.Note v) plain none = absurd (cc plain)
   unbuilt_row c plain none = refl
-
-  -- and those of thread control
-  pub unbuilt_thread_row : (c : Call) → is_plain c ≡ true → facility_of c ≡ Some facility.Threads → ((b v a : _) → c ≢ call.Spawn b v a) → c ≢ call.SelfTid → ((n : _) → c ≢ call.Suspend n) → ((n : _) → c ≢ call.Resume n) → row_of f s t c ≡ unbuilt
-  unfolding row_of
-  unbuilt_thread_row (call.Spawn b v a) plain threads no_spawn no_self no_suspend no_resume = absurd (no_spawn b v a refl)
-  unbuilt_thread_row (call.Once o h v) plain threads no_spawn no_self no_suspend no_resume = absurd (cc plain)
-  unbuilt_thread_row call.SelfTid plain threads no_spawn no_self no_suspend no_resume = absurd (no_self refl)
-  unbuilt_thread_row (call.Suspend n) plain threads no_spawn no_self no_suspend no_resume = absurd (no_suspend n refl)
-  unbuilt_thread_row (call.Resume n) plain threads no_spawn no_self no_suspend no_resume = absurd (no_resume n refl)
-  unbuilt_thread_row (call.Yield n) plain threads no_spawn no_self no_suspend no_resume = absurd (cc plain)
-  unbuilt_thread_row (call.Nap n) plain threads no_spawn no_self no_suspend no_resume = absurd (cc plain)
-  unbuilt_thread_row (call.Wait e) plain threads no_spawn no_self no_suspend no_resume = absurd (cc plain)
-  unbuilt_thread_row (call.Cancel n) plain threads no_spawn no_self no_suspend no_resume = refl
-  unbuilt_thread_row (call.Abort n) plain threads no_spawn no_self no_suspend no_resume = refl
-  unbuilt_thread_row (call.Join n) plain threads no_spawn no_self no_suspend no_resume = absurd (cc plain)
-  unbuilt_thread_row (call.Exit v) plain threads no_spawn no_self no_suspend no_resume = absurd (cc plain)
-  unbuilt_thread_row c plain threads no_spawn no_self no_suspend no_resume = absurd (cc threads)

@@ -1,5 +1,5 @@
 -- Calls that change what threads store: their rows only answer, and the marks tell what they change.
-use Rattle.std.proofs.Common.{◌≡◌, ◌≢◌, ◌∙◌, ℕ, zero, suc, ℤ, pos, negsuc, IfOk, Bool, true, false, not, Option, Some, None, is_none, Result, Ok, Err, if◌then◌else◌, OnOk, OnErr, List, [], refl, ap, sym, subst}
+use Rattle.std.proofs.Common.{◌≡◌, ◌≢◌, ◌∙◌, ℕ, ℤ, pos, negsuc, IfOk, Bool, true, false, not, Option, Some, None, is_none, Result, Ok, Err, if◌then◌else◌, OnOk, OnErr, List, [], refl, ap, sym, subst}
 use Rattle.pth_base.proofs.Tables.{not_same}
 use Rattle.pth_base.specs.Cut.{IsCut}
 use Rattle.pth_base.specs.Program.{Functions}
@@ -8,7 +8,6 @@ use Rattle.pth_base.specs.declared.answer.Answer.TheVariants.{Int, Fail}
 use Rattle.pth_base.specs.declared.call.Call.TheVariants as call
 use Rattle.pth_base.specs.declared.errno.Errno.{Errno}
 use Rattle.pth_base.specs.declared.errno.Errno.TheVariants.{EINVAL}
-use Rattle.pth_base.specs.declared.ids.HandlerId.{HandlerId}
 use Rattle.pth_base.specs.declared.ids.Tid.{Tid}
 use Rattle.pth_base.specs.declared.mark.Mark.{Mark}
 use Rattle.pth_base.specs.declared.mark.Mark.TheVariants.{Answered}
@@ -22,7 +21,7 @@ use Rattle.pth_model.specs.Resources.{Resources, Store, destructor_by, handler, 
 use Rattle.pth_model.specs.Row.{Attempt, effect_of, refuses, unless_refused, ◌trying◌}
 use Rattle.pth_model.specs.Rows.{row_of}
 use Rattle.pth_model.specs.State.{State, Control, once_limit}
-use Rattle.pth_model.specs.Transition.{Piece, Transition, Went, controlled, changes, nothing, silent, tells, tid, where_so, ◌and_then◌, ◌and_next◌}
+use Rattle.pth_model.specs.Transition.{Transition, Went, controlled, changes, nothing, silent, tells, tid, where_so, ◌and_then◌, ◌and_next◌}
 use Rattle.pth_model.specs.Verdict.{Verdict, Says, by_result, done, refused, says, ◌when◌otherwise◌}
 use Rattle.pth_numbered.specs.Operands.{number, is_below, is_zero}
 use Rattle.pth_store.specs.Cleanups.{PushedHandler, push_answer, top_taken, with_top}
@@ -30,7 +29,7 @@ use Rattle.pth_store.specs.Keys.{created, deleted, key_create_answer, key_delete
 use Rattle.pth_store.specs.Storing.{AnswersWithMemory}
 use Rattle.pth_world.proofs.Telling.{has_still}
 use Rattle.pth_world.specs.Leading.{IsQuiet, IsTold, Tells}
-use Rattle.pth_world.specs.Shows.{Shows, StandsFor, resources_of}
+use Rattle.pth_world.specs.Shows.{Shows, StandsFor}
 use Rattle.pth_world.specs.Store.{store_of}
 use Rattle.pth_world.specs.World.{WorldOf}
 use Rattle.pth_end.specs.Saying.{SaysRefusal}

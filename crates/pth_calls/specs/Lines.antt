@@ -6,12 +6,12 @@ use Rattle.pth_base.specs.declared.event.EvLine.{EvLine}
 use Rattle.pth_base.specs.declared.event.EvLine.TheVariants as line
 
 -- pth_event without PTH_MODE_CHAIN
-abbrev pub event_line : Call → Option EvLine
-event_line (call.EvFd goals fd) = Some (line.Fd goals fd)
-event_line (call.EvSelect r w x) = Some (line.Select r w x)
-event_line (call.EvTime m) = Some (line.Time m)
-event_line (call.EvMsg p) = Some (line.Msg p)
-event_line (call.EvCond c) = Some (line.Cond c)
-event_line (call.EvTid state n) = Some (line.Tid state n)
-event_line (call.EvFunc c v l) = Some (line.Func c v l)
-event_line c = None
+abbrev pub unchained_event_line : Call → Option EvLine
+unchained_event_line (call.EvFd goals fd) = Some (line.Fd goals fd)
+unchained_event_line (call.EvSelect r w x) = Some (line.Select r w x)
+unchained_event_line (call.EvTime m) = Some (line.Time m)
+unchained_event_line (call.EvMsg p) = Some (line.Msg p)
+unchained_event_line (call.EvCond c) = Some (line.Cond c)
+unchained_event_line (call.EvTid state n) = Some (line.Tid state n)
+unchained_event_line (call.EvFunc c v l) = Some (line.Func c v l)
+unchained_event_line c = None

@@ -6,7 +6,7 @@ ghost use Rattle.pth_base.specs.Facilities.{facility_of};
 ghost use Rattle.pth_base.specs.declared.event.EvLine.TheVariants as line;
 ghost use Rattle.pth_base.specs.declared.facility.Facility.TheVariants as facility;
 ghost use Rattle.pth_base.specs.declared.mark.Mark.TheVariants.{Answered};
-ghost use Rattle.pth_calls.specs.Lines.{event_line};
+ghost use Rattle.pth_calls.specs.Lines.{unchained_event_line};
 ghost use Rattle.pth_model.specs.EventHandling.{are_goals as are_goals_of, spec_of as spec_for, make_event as make_row, chain as chain_row, ev_concat as concat_row, ev_isolate as isolate_row, ev_walk as walk_row, ev_status as status_row, ev_kind as kind_row, ev_free as free_row};
 ghost use Rattle.pth_model.specs.Rows.{row_of};
 ghost use Rattle.pth_model.specs.State.{State};
@@ -173,7 +173,7 @@ fn ev_free<P: Program>(w: &mut World<P>, e: i64, all: bool) -> Answer
 
 // The line of a call that makes an event. None for other calls.
 fn line_of(call: &Call) -> Option<EvLine>
-    ensures { result ≡ event_line call.now }
+    ensures { result ≡ unchained_event_line call.now }
 {
     match call {
         Call::EvFd { goals, fd } => Some(EvLine::Fd {

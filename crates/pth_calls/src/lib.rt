@@ -3,6 +3,7 @@
 
 pub mod answering;
 pub mod attribute_handling;
+pub mod cancellation;
 pub mod cleanups;
 pub mod descriptors;
 pub mod event_handling;

@@ -16,6 +16,7 @@ ghost use Rattle.pth_world.specs.Whole.{Whole};
 
 use crate::answering::answer_call;
 use crate::attribute_handling::answer_attributes;
+use crate::cancellation::answer_cancellation;
 use crate::cleanups::answer_cleanups;
 use crate::descriptors::answer_descriptors;
 use crate::event_handling::answer_events;
@@ -50,6 +51,7 @@ fn answer<P: Program>(w: &mut World<P>, t: Tid, call: &Call) -> Result<Answer, O
         Facility::Library => Ok(answer_library(w, t, call)),
         Facility::Attributes => answer_attributes(w, t, call),
         Facility::Threads => answer_threads(w, t, call),
+        Facility::Cancellation => Ok(answer_cancellation(w, t, call)),
         Facility::Utilities => Ok(answer_utilities(w, call)),
         Facility::Events => answer_events(w, t, call),
         Facility::Keys => answer_keys(w, t, call),

@@ -190,7 +190,7 @@ pub(crate) fn answer_threads<P: Program>(
         Call::SelfTid => Ok(Answer::Int(t.0 as i64)),
         Call::Suspend(n) => Ok(suspend(w, t, *n)),
         Call::Resume(n) => Ok(resume(w, t, *n)),
-        _ => Ok(Answer::Fail(Errno::EINVAL)),
+        _ => unreachable!(),
     }
 }
 

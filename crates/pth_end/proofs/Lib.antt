@@ -7,3 +7,4 @@ pub mod Dues
 pub mod Looking
 pub mod Cleaning
 pub mod Destructing
+pub mod Cancelling

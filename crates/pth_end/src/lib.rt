@@ -2,6 +2,7 @@
 #![tactic(auto)]
 
 pub mod acts;
+pub mod cancellation;
 pub mod cleanups;
 pub mod destructors;
 pub mod ending;

@@ -1,14 +1,15 @@
 -- Changes of attribute objects, and values that are set through them.
-use Rattle.std.proofs.Common.{◌≡◌, ◌∙◌, ℕ, ◌+◌, ◌≤◌, ℤ, false, Option, Some, None, is_none, option_map, Result, Ok, Err, OnOk, refl, sym, ap, subst, arith}
+use Rattle.std.proofs.Common.{◌≡◌, ◌∙◌, IsSome, ℕ, ◌+◌, ◌≤◌, ℤ, false, Option, Some, None, is_none, option_map, Result, Ok, Err, OnOk, refl, sym, ap, subst, arith}
 use Rattle.std.proofs.lemmas.Int.{ints}
 use Rattle.pth_base.specs.Table.{put}
+use Rattle.pth_base.proofs.Namings.{seen_at}
 use Rattle.pth_base.specs.declared.attr.AttrValue.{AttrValue}
 use Rattle.pth_base.specs.declared.attr.AttrValue.TheVariants as value
 use Rattle.pth_base.specs.declared.errno.Errno.{Errno}
 use Rattle.pth_numbered.specs.Operands.{number, named}
 use Rattle.pth_queue.specs.declared.queue.Queue.{Queue}
 use Rattle.pth_threads.specs.Attributes.{AttrsOf, object_of, with_value, change_of, set_answer, Sets, KeepsSet}
-use Rattle.pth_threads.specs.Threads.{ThreadsOf, slot_of, changed}
+use Rattle.pth_threads.specs.Threads.{ThreadsOf, slot_of, entry_at, changed}
 use Rattle.pth_threads.specs.declared.attribute.Attribute.{Attribute}
 use Rattle.pth_threads.specs.declared.attribute.Attribute.TheVariants.{Free, Bound}
 use Rattle.pth_threads.specs.declared.entry.Change.{Change}
@@ -21,13 +22,14 @@ use Rattle.pth_model.specs.State.{Control, Attributes}
 use Rattle.pth_world.specs.Frame.{Frame}
 use Rattle.pth_world.specs.Numbering.{GivesAtMost}
 use Rattle.pth_world.specs.Shows.{Shows, ShowsThreads, ShowsAttributes}
-use Rattle.pth_world.specs.Sound.{IsSound, KeepsAttributes, lives}
-use Rattle.pth_world.specs.Touches.{view_changed}
-use Rattle.pth_world.specs.Whole.{Whole, FitsEntry, Fits, view}
-use Rattle.pth_world.specs.World.{WorldOf}
+use Rattle.pth_world.specs.Sound.{IsSound, IsKnown, IsAlive, KeepsAttributes, lives}
+use Rattle.pth_world.specs.Touches.{Touches, SameThreads, IsAside, view_changed}
+use Rattle.pth_world.specs.Whole.{Whole, FitsEntry, Fits, View, view}
+use Rattle.pth_world.specs.World.{WorldOf, ThreadsBySlot}
 use Rattle.pth_world.proofs.Moves.{progress_whole}
 use Rattle.pth_world.proofs.Showing.{of_threads, change_shows}
 use Rattle.pth_world.proofs.Sound.{change_sound}
+use Rattle.pth_world.proofs.Stores.{alive_known}
 use Rattle.pth_world.proofs.Views.{change_touches}
 
 -- ---- objects alone
@@ -51,6 +53,9 @@ module _ {P S H : Type 0} (w : WorldOf P S H) (y : AttrsOf) where
 
 -- ---- a value of a thread
 
+is_aside : (d c : Change) → Some d ≡ Some c → IsAside d → IsAside c
+is_aside d c same aside = let e : d ≡ c = cc in subst IsAside e aside
+
 keeps_attributes : (c : Change) → KeepsSet c → KeepsAttributes c
 keeps_attributes (change.Prio prio) set = record { low = (let h = set.low in omega (arith, ints)); high = (let h = set.high in omega (arith, ints)) }
 keeps_attributes (change.Cancel cancel) set = record { low = set.low; high = set.high }
@@ -62,41 +67,60 @@ keeps_attributes (change.Suspended b) set = tt
 keeps_attributes (change.Dispatches n) set = tt
 keeps_attributes (change.Value n) set = tt
 
--- none of these values says where a thread stands, and whether it runs
-set_fits : (v : AttrValue) (c : Change) → change_of v ≡ Some c → (r : Option ℕ) (o : Option Entry) (p : Option Queue) (b : Option Blocked) → FitsEntry r o p b → FitsEntry r (option_map (changed c) o) p b
+-- such a field says nothing of where a thread stands, and whether it runs
+aside_fits : (c : Change) → IsAside c → (r : Option ℕ) (o : Option Entry) (p : Option Queue) (b : Option Blocked) → FitsEntry r o p b → FitsEntry r (option_map (changed c) o) p b
 unfolding changed
-set_fits v c meant r None p b f = tt
-set_fits v c meant r (Some e) p b f = by_value v meant
-  where
-    is : (d : Change) → Some d ≡ Some c → FitsEntry r (Some (changed d e)) p b → FitsEntry r (Some (changed c e)) p b
-    is d same h = let e2 : d ≡ c = cc in subst (λ (x : Change). FitsEntry r (Some (changed x e)) p b) e2 h
-
-    by_value : (v : AttrValue) → change_of v ≡ Some c → FitsEntry r (Some (changed c e)) p b
-    by_value (value.Prio n) m = is _ m (record { placed = f.placed; runs = f.runs; named = f.named; awake = f.awake; calls = f.calls })
-    by_value (value.Name n) m = is _ m (record { placed = f.placed; runs = f.runs; named = f.named; awake = f.awake; calls = f.calls })
-    by_value (value.Joinable n) m = is _ m (record { placed = f.placed; runs = f.runs; named = f.named; awake = f.awake; calls = f.calls })
-    by_value (value.Cancel n) m = is _ m (record { placed = f.placed; runs = f.runs; named = f.named; awake = f.awake; calls = f.calls })
-    by_value (value.Dispatches n) m = absurd (cc m)
-    by_value (value.State n) m = absurd (cc m)
-    by_value (value.Bound n) m = absurd (cc m)
+aside_fits c aside r None p b f = tt
+aside_fits (change.State s) aside r (Some e) p b f = absurd aside
+aside_fits (change.Suspended x) aside r (Some e) p b f = absurd aside
+aside_fits c aside r (Some e) p b f = record { placed = f.placed; runs = f.runs; named = f.named; awake = f.awake; calls = f.calls }
 
 -- nor whether it lives
-lives_changed : (v : AttrValue) (c : Change) → change_of v ≡ Some c → (o : Option Entry) → lives o ≡ lives (option_map (changed c) o)
+aside_lives : (c : Change) → IsAside c → (o : Option Entry) → lives o ≡ lives (option_map (changed c) o)
 unfolding changed
-lives_changed v c meant None = refl
-lives_changed v c meant (Some e) = by_value v meant
-  where
-    is : (d : Change) → Some d ≡ Some c → lives (Some e) ≡ lives (Some (changed d e)) → lives (Some e) ≡ lives (Some (changed c e))
-    is d same h = let e2 : d ≡ c = cc in subst (λ (x : Change). lives (Some e) ≡ lives (Some (changed x e))) e2 h
+aside_lives c aside None = refl
+aside_lives (change.State s) aside (Some e) = absurd aside
+aside_lives c aside (Some e) = refl
 
-    by_value : (v : AttrValue) → change_of v ≡ Some c → lives (Some e) ≡ lives (Some (changed c e))
-    by_value (value.Prio n) m = is _ m refl
-    by_value (value.Name n) m = is _ m refl
-    by_value (value.Joinable n) m = is _ m refl
-    by_value (value.Cancel n) m = is _ m refl
-    by_value (value.Dispatches n) m = absurd (cc m)
-    by_value (value.State n) m = absurd (cc m)
-    by_value (value.Bound n) m = absurd (cc m)
+-- a value that is set through an object is such a field
+meant_aside : (v : AttrValue) (c : Change) → change_of v ≡ Some c → IsAside c
+meant_aside (value.Prio n) c m = is_aside _ c m tt
+meant_aside (value.Name n) c m = is_aside _ c m tt
+meant_aside (value.Joinable n) c m = is_aside _ c m tt
+meant_aside (value.Cancel n) c m = is_aside _ c m tt
+meant_aside v c m = absurd (cc m)
+
+-- ---- one such field
+
+module _ {P S H : Type 0} (w : WorldOf P S H) (r : ThreadsOf) where
+  abbrev with_records : WorldOf P S H
+  with_records = record w { threads = record w.threads { records = r } }
+
+  field_whole : (t u : ℕ) (c : Change) → IsAside c → Whole w → slot_of w.threads.records t ≡ Some u → Touches w.threads with_records.threads t (view_changed c) → IsSound with_records.threads → slot_of r ≡ slot_of w.threads.records → Whole with_records
+  field_whole t u c aside whole at touches sound slots =
+      progress_whole w with_records t u (view_changed c) whole at touches sound slots refl refl
+      (λ q f. aside_fits c aside q (view w.threads u).entry (view w.threads u).place (view w.threads u).blocked f)
+      (λ dead. aside_lives c aside (view w.threads u).entry ∙ dead)
+
+  pub field_frame : (t u : ℕ) (c : Change) → IsAside c → Whole w → slot_of w.threads.records t ≡ Some u → Touches w.threads with_records.threads t (view_changed c) → IsSound with_records.threads → SameThreads w.threads with_records.threads → Frame w with_records 0 w.scheduler.running false
+  field_frame t u c aside whole at touches sound same = record {
+    whole = field_whole t u c aside whole at touches sound same.slots;
+    runs = refl;
+    made = record { threads = (let e = same.made in omega arith); objects = omega arith; events = omega arith };
+    ranks = record { under = λ roof low h. h; fresh = omega arith };
+    preferred = refl;
+  }
+
+-- a field of a thread in the system was set
+pub known_frame : {P S H : Type 0} (w v : WorldOf P S H) (t : ℕ) (c : Change) → IsAside c → Whole w → IsKnown w.threads t → Touches w.threads v.threads t (view_changed c) → IsSound v.threads → SameThreads w.threads v.threads → v ≡ record w { threads = record w.threads { records = v.threads.records } } → Frame w v 0 w.scheduler.running false
+known_frame {P = P} {S = S} {H = H} w v t c aside whole known touches sound same is = by_slot (slot_of w.threads.records t) refl known
+  where
+    threads : v.threads ≡ record w.threads { records = v.threads.records }
+    threads = ap (λ (x : WorldOf P S H). x.threads) is
+
+    by_slot : (o : Option ℕ) → slot_of w.threads.records t ≡ o → IsSome o → Frame w v 0 w.scheduler.running false
+    by_slot None none some = absurd (cc some)
+    by_slot (Some u) at some = subst (λ (x : WorldOf P S H). Frame w x 0 w.scheduler.running false) (sym is) (field_frame w v.threads.records t u c aside whole at (subst (λ x. Touches w.threads x t (view_changed c)) threads touches) (subst IsSound threads sound) (subst (SameThreads w.threads) threads same))
 
 -- ---- a value of an object, or of its thread
 
@@ -147,8 +171,8 @@ module _ {P S H : Type 0} (w : WorldOf P S H) (x : AttrsOf) (r : ThreadsOf) (a :
   set_whole (Some (Bound t)) some s whole =
       let set = s.1 in
       let sound = change_sound w.threads whole.sound t.0 set.slot set.found r set.change (keeps_attributes set.change set.keeps) set.changes in
-      let fits = λ (q : Option ℕ) (f : Fits q (view w.threads set.slot)). set_fits v set.change set.meant q (view w.threads set.slot).entry (view w.threads set.slot).place (view w.threads set.slot).blocked f in
-      progress_whole w after t.0 set.slot (view_changed set.change) whole set.found (change_touches w.threads whole.sound t.0 set.slot set.found r set.change set.changes) sound set.changes.slots refl refl fits (λ dead. lives_changed v set.change set.meant (view w.threads set.slot).entry ∙ dead)
+      let fits = λ (q : Option ℕ) (f : Fits q (view w.threads set.slot)). aside_fits set.change (meant_aside v set.change set.meant) q (view w.threads set.slot).entry (view w.threads set.slot).place (view w.threads set.slot).blocked f in
+      progress_whole w after t.0 set.slot (view_changed set.change) whole set.found (change_touches w.threads whole.sound t.0 set.slot set.found r set.change set.changes) sound set.changes.slots refl refl fits (λ dead. aside_lives set.change (meant_aside v set.change set.meant) (view w.threads set.slot).entry ∙ dead)
 
   pub set_frame : (o : Option Attribute) → is_none o ≡ false → Sets w.attributes x w.threads.records r (number a) v o → Whole w → Frame w after 0 w.scheduler.running false
   set_frame o some s whole = record {
@@ -167,3 +191,14 @@ some_set known (Some x) v u h = refl
 pub where_set : {X Q : Type 0} (result : Result (Unit {0}) Errno) (known : ℕ → Option Entry) (o : Option Attribute) (v : AttrValue) → result ≡ set_answer known o v → OnOk result X → (is_none o ≡ false → X → Q) → OnOk result Q
 where_set (Ok u) known o v is x f = f (some_set known o v u is) x
 where_set (Err e) known o v is x f = tt
+
+-- and it lives where it did
+pub field_alive : {S : Type 0} (x y : ThreadsBySlot S) (t : ℕ) (c : Change) → IsAside c → Touches x y t (view_changed c) → slot_of y.records ≡ slot_of x.records → IsAlive x t → IsAlive y t
+field_alive x y t c aside touches same alive = by_slot (slot_of x.records t) refl
+  where
+    by_slot : (o : Option ℕ) → slot_of x.records t ≡ o → IsAlive y t
+    by_slot None none = let some = subst IsSome none (alive_known x t alive) in absurd (cc some)
+    by_slot (Some u) at =
+        let was = seen_at None (slot_of x.records) (entry_at x.records) t u at in
+        let now = seen_at None (slot_of y.records) (entry_at y.records) t u (ap (λ (f : ℕ → Option ℕ). f t) same ∙ at) in
+        ap lives now ∙ ap (λ (v : View). lives v.entry) (touches.own u at) ∙ sym (aside_lives c aside (entry_at x.records u)) ∙ sym (ap lives was) ∙ alive

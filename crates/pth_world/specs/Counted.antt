@@ -33,14 +33,14 @@ abbrev pub AreAlike : ℤ → ℤ → Type 0
 AreAlike a b = int_wrap w64 a ≡ int_wrap w64 b
 
 -- a rank is the height of its slot and the raises of its queue: the height is the rank on entry, less the raises before it
-abbrev pub IsTold : List ℤ → ℤ → Ranked → Type 0
-IsTold heights raises r = AreAlike (table (pos 0) heights r.holder +ℤ raises) r.rank
+abbrev pub IsRaisedHeight : List ℤ → ℤ → Ranked → Type 0
+IsRaisedHeight heights raises r = AreAlike (table (pos 0) heights r.holder +ℤ raises) r.rank
 
-abbrev pub Tells : QueuesOf → PerQueue ℤ → List ℤ → Type 0
-Tells queues raises heights = (q : Queue) → All (IsTold heights (kept_of q raises)) (rows_of q queues)
+abbrev pub AreRaisedHeights : QueuesOf → PerQueue ℤ → List ℤ → Type 0
+AreRaisedHeights queues raises heights = (q : Queue) → All (IsRaisedHeight heights (kept_of q raises)) (rows_of q queues)
 
-pub record IsCounted (queues : QueuesOf) (lengths : PerQueue ℕ) (raises : PerQueue ℤ) (heights : List ℤ) : Type 0 where
+pub record AreKeptBeside (queues : QueuesOf) (lengths : PerQueue ℕ) (raises : PerQueue ℤ) (heights : List ℤ) : Type 0 where
   pub counts : AreCounted queues lengths
   -- each slot that may be used has a height
   pub room : queues.room ≤ length heights
-  pub tells : Tells queues raises heights
+  pub tells : AreRaisedHeights queues raises heights

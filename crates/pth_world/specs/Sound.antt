@@ -1,5 +1,5 @@
 -- What every change of a world's threads keeps.
-use Rattle.std.specs.Prelude.{◌≡◌, ◌≢◌, ◌<◌, ◌≤◌, ℕ, ℤ, pos, neg_ℤ, ◌≤ℤ◌, Bool, true, false, not, length, Option, Some, None, IsSome}
+use Rattle.std.specs.Prelude.{◌≡◌, ◌≢◌, ◌<◌, ◌≤◌, ℕ, ℤ, pos, neg_ℤ, ◌≤ℤ◌, true, length, Some, None, IsSome}
 use Rattle.pth_base.specs.Limits.{thread_limit}
 use Rattle.pth_base.specs.Table.{table}
 use Rattle.pth_base.specs.Naming.{IsTied, seen}
@@ -11,7 +11,7 @@ use Rattle.pth_threads.specs.declared.entry.Change.{Change}
 use Rattle.pth_threads.specs.declared.entry.Change.TheVariants as change
 use Rattle.pth_threads.specs.declared.entry.Entry.{Entry}
 use Rattle.pth_numbered.specs.Numbered.{number_known}
-use Rattle.pth_model.specs.Living.{is_dead}
+pub use Rattle.pth_model.specs.Living.{lives}
 use Rattle.pth_world.specs.World.{ThreadsBySlot, entry_in}
 
 -- slots that are not used have nothing
@@ -61,11 +61,6 @@ pub record IsSound {S : Type 0} (x : ThreadsBySlot S) : Type 0 where
 -- the thread is in the system
 abbrev pub IsKnown : {S : Type 0} → ThreadsBySlot S → ℕ → Type 0
 IsKnown x t = IsSome (slot_of x.records t)
-
--- the record is of a thread that is not dead
-abbrev pub lives : Option Entry → Bool
-lives None = false
-lives (Some e) = not (is_dead e.state)
 
 -- the thread is in the system, and not dead
 abbrev pub IsAlive : {S : Type 0} → ThreadsBySlot S → ℕ → Type 0

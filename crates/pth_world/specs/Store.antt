@@ -1,5 +1,5 @@
 -- What threads have stored, as data: contracts see it by the numbers of threads, and the code keeps it by slot.
-use Rattle.std.specs.Prelude.{◌≡◌, ℕ, ℤ, pos, List, [], map, Option, None}
+use Rattle.std.specs.Prelude.{ℕ, ℤ, pos, List, [], map, Option, None}
 use Rattle.std.specs.List.{range_with_len}
 use Rattle.pth_base.specs.Naming.{seen}
 use Rattle.pth_base.specs.Table.{table}
@@ -8,6 +8,7 @@ use Rattle.pth_threads.specs.Threads.{ThreadsOf, slot_of}
 use Rattle.pth_store.specs.Keys.{Tables}
 use Rattle.pth_store.specs.Cleanups.{PushedHandler, Stacks}
 use Rattle.pth_model.specs.Resources.{Store}
+pub use Rattle.pth_model.specs.Resources.{HasNothing}
 
 -- numbers of threads, and the keys that operands name, are below
 abbrev pub name_limit : ℕ
@@ -39,8 +40,3 @@ stored_by x keys cleanups = record {
   keys = listed keys.keys;
   values = listed (λ k. listed (seen (pos 0) (slot_of x) (keys.values k)));
 }
-
--- a thread has nothing: no handler, and no value but 0
-pub record HasNothing (s : Store) (t : ℕ) : Type 0 where
-  pub cleanups : s.cleanups t ≡ []
-  pub values : (k : ℕ) → s.keys.values k t ≡ pos 0

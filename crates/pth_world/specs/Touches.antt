@@ -3,6 +3,7 @@ use Rattle.std.specs.Prelude.{◌≡◌, ◌≢◌, ℕ, Option, Some, option_ma
 use Rattle.pth_queue.specs.declared.queue.Queue.{Queue}
 use Rattle.pth_threads.specs.Threads.{slot_of, tid_at, changed}
 use Rattle.pth_threads.specs.declared.entry.Change.{Change}
+use Rattle.pth_threads.specs.declared.entry.Change.TheVariants as change
 use Rattle.pth_model.specs.declared.blocked.Blocked.{Blocked}
 use Rattle.pth_world.specs.World.{WorldOf, ThreadsBySlot}
 use Rattle.pth_world.specs.Whole.{View, view}
@@ -11,6 +12,12 @@ use Rattle.pth_world.specs.Whole.{View, view}
 pub record Touches {S : Type 0} (old new : ThreadsBySlot S) (t : ℕ) (change : View → View) : Type 0 where
   pub own : (u : ℕ) → slot_of old.records t ≡ Some u → view new u ≡ change (view old u)
   pub others : (u : ℕ) → tid_at old.records u ≢ t → view new u ≡ view old u
+
+-- a field that says neither a thread's state nor where it stands
+abbrev pub IsAside : Change → Type 0
+IsAside (change.State state) = ⊥
+IsAside (change.Suspended b) = ⊥
+IsAside c = Unit {0}
 
 -- the changes: a field of the record is set, the thread stands in another queue or in none, or another call blocks it
 abbrev pub view_changed : Change → View → View

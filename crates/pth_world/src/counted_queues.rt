@@ -81,11 +81,11 @@ impl Model for CountedQueues {
 
     ghost Value = { QueuesOf };
 
-    ghost use Rattle.pth_world.specs.Counted.{IsCounted};
+    ghost use Rattle.pth_world.specs.Counted.{AreKeptBeside};
 
     ghost view = { λ s. s.queues };
 
-    ghost invariant = { λ s. IsCounted s.queues s.lengths s.raises s.heights.items };
+    ghost invariant = { λ s. AreKeptBeside s.queues s.lengths s.raises s.heights.items };
 }
 
 impl CountedQueues {

@@ -19,9 +19,10 @@ ghost use Rattle.pth_world.specs.Numbering.{HasNumbers};
 ghost use Rattle.pth_world.specs.Ranks.{KeepsRanks};
 ghost use Rattle.pth_world.specs.Shows.{Shows, StandsFor};
 ghost use Rattle.pth_world.specs.Store.{store_of, HasNothing};
-ghost use Rattle.pth_world.specs.Sound.{IsSound, IsKnown, IsPrio, IsCancel, KeepsAttributes};
+ghost use Rattle.pth_world.specs.Sound.{IsSound, IsKnown, IsAlive, IsPrio, IsCancel, KeepsAttributes};
+ghost use Rattle.pth_world.specs.Frame.{Frame};
 ghost use Rattle.pth_world.specs.Whole.{Whole, WholeBut, view};
-ghost use Rattle.pth_world.specs.Touches.{Touches, SameThreads, view_changed, view_placed};
+ghost use Rattle.pth_world.specs.Touches.{Touches, SameThreads, IsAside, view_changed, view_placed};
 
 use crate::counted_queues::CountedQueues;
 use crate::progress_table::ProgressTable;
@@ -141,6 +142,24 @@ impl<P: Program> World<P> {
     {
         let slot = self.slot(t);
         self.change_at(slot, c);
+    }
+
+    /// Sets a field of a thread's record that says neither its state nor where it stands: what it was given, and whether its end
+    /// was asked for.
+    pub fn set_field(&mut self, t: Tid, c: Change)
+        requires whole { Whole self.old }
+        requires known { IsKnown self.old.threads t.0 }
+        requires attributes { KeepsAttributes c }
+        requires countable { IsCountable c }
+        requires aside { IsAside c }
+        ensures shows { (k : Control P P.State P.Shared) → Shows self.old k → Shows self.new (sets t.0 c k) }
+        ensures touches { Touches self.old.threads self.new.threads t.0 (view_changed c) }
+        ensures alive { IsAlive self.old.threads t.0 → IsAlive self.new.threads t.0 }
+        ensures frame { Frame self.old self.new 0 self.old.scheduler.running false }
+        ensures store { self.new.store ≡ self.old.store }
+        ensures threads { SameThreads self.old.threads self.new.threads }
+    {
+        self.change(t, c);
     }
 
     // Takes the record of a thread out, and so what it stored.

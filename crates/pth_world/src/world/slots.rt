@@ -1,6 +1,6 @@
 //! Threads by the slots at which they are kept, as long as they are in the system.
 
-ghost use Rattle.std.specs.Prelude.{◌≡◌, ◌≢◌, ◌≤◌, All, map, vec_capacity};
+ghost use Rattle.std.specs.Prelude.{◌≡◌, ◌≢◌, ◌≤◌, Some, All, map, vec_capacity};
 ghost use Rattle.pth_base.specs.Limits.{thread_limit};
 ghost use Rattle.pth_base.specs.declared.ids.Slot.{Slot};
 ghost use Rattle.pth_model.specs.Awaits.{awaited_in as awaited};
@@ -17,6 +17,7 @@ use pth_base::ids::{Slot, Tid};
 use pth_base::program::Program;
 use pth_model::awaits::Awaited;
 use pth_queue::queue::Queue;
+use pth_threads::entry::Entry;
 
 impl<P: Program> World<P> {
     /// The slots of the waiting threads in their order, in place of what `into` holds, which has room for all. It takes no
@@ -39,6 +40,16 @@ impl<P: Program> World<P> {
         ensures known { IsKnown self.now.threads result.0 }
     {
         self.threads().get(s).tid
+    }
+
+    /// The record of the thread at a slot.
+    pub fn entry_at(&self, s: Slot) -> &Entry
+        requires sound { IsSound self.now.threads }
+        requires used { tid_at self.now.threads.records s.0 ≢ 0 }
+        ensures entry { (k : Control P P.State P.Shared) → Shows self.now k → k.threads.known (tid_at self.now.threads.records s.0) ≡ Some result.now }
+        ensures tid { result.now.tid.0 ≡ tid_at self.now.threads.records s.0 }
+    {
+        self.threads().get(s)
     }
 
     /// What the thread at a slot waits for: nothing where no call blocks it. It reads no call.

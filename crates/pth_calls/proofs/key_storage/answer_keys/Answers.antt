@@ -1,4 +1,4 @@
-use Rattle.std.proofs.Common.{◌≡◌, Some, SFits, w64, to_z-of_z, rules}
+use Rattle.std.proofs.Common.{SFits, w64, to_z-of_z, rules}
 use Rattle.pth_model.specs.Rows.{row_of}
 use Rattle.pth_world.proofs.Moves.{runner_alive}
 use Rattle.pth_calls.proofs.Answers.{answered_told}

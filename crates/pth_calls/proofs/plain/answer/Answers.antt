@@ -20,6 +20,7 @@ returns-in_default-clause-told g c =
       library = not.not-Library;
       attributes = not.not-Attributes;
       threads = not.not-Threads;
+      cancellation = not.not-Cancellation;
       utilities = not.not-Utilities;
       events = not.not-Events;
       keys = not.not-Keys;
@@ -47,3 +48,6 @@ returns-in-Utilities-clause-told g c = answered_told c.args.w.now c.answer_utili
 
 pub returns-in-Io-clause-told : goal.returns-in-Io-clause-told
 returns-in-Io-clause-told g c = answered_told c.args.w.now c.answer_descriptors.new.w _ _ _ (c.answer_descriptors.ensures.quiet c.args.t.0) (c.answer_descriptors.ensures.answered c.args.t.0)
+
+pub returns-in-Cancellation-clause-told : goal.returns-in-Cancellation-clause-told
+returns-in-Cancellation-clause-told g c = answered_told c.args.w.now c.answer_cancellation.new.w _ _ _ c.answer_cancellation.ensures.quiet c.answer_cancellation.ensures.answered

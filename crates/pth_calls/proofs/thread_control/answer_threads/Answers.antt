@@ -1,11 +1,8 @@
-use Rattle.std.proofs.Common.{refl, ap, rules, SFits, w64, to_z-of_z}
-use Rattle.pth_base.specs.declared.errno.Errno.TheVariants.{EINVAL}
-use Rattle.pth_model.specs.Row.{Row}
+use Rattle.std.proofs.Common.{refl, rules, SFits, w64, to_z-of_z}
 use Rattle.pth_model.specs.Rows.{row_of}
 use Rattle.pth_model.specs.Transition.{nothing}
-use Rattle.pth_world.proofs.Telling.{quiet-refused}
-use Rattle.pth_calls.proofs.Answers.{if_ok_all, passed_answered, refused_answered}
-use Rattle.pth_calls.proofs.Plains.{quiet_thread_call, unbuilt_thread_row}
+use Rattle.pth_calls.proofs.Answers.{if_ok_all, passed_answered}
+use Rattle.pth_calls.proofs.Plains.{quiet_thread_call}
 use Rattle.pth_calls.proofs.thread_control.answer_threads.Goals as goal
 
 pub returns-in-Spawn-clause-answered : goal.returns-in-Spawn-clause-answered
@@ -43,12 +40,3 @@ returns-in-Resume-clause-answered g c =
 
 pub returns-in-Resume-clause-quiet : goal.returns-in-Resume-clause-quiet
 returns-in-Resume-clause-quiet g c = quiet_thread_call c.args.t c.args.call.now _ c.requires.threads
-
-pub returns-in_default : goal.returns-in_default
-returns-in_default g c =
-    let call = c.args.call.now in
-    record {
-      answered = refused_answered c.args.w.now EINVAL _ (λ s st. ap (λ (r : Row _ _ _). r.begin.verdict) (unbuilt_thread_row g.P.Program.functions s c.args.t.0 call c.requires.plain c.requires.threads c.in_default.not-Spawn c.in_default.not-SelfTid c.in_default.not-Suspend c.in_default.not-Resume));
-      quiet = quiet-refused c.args.t call EINVAL;
-      frame = search rules;
-    }

@@ -1,0 +1,28 @@
+-- Ends by cancellation: what is changed and told before them.
+use Rattle.std.proofs.Common.{◌≡◌, ℕ, false, Option, refl, subst}
+use Rattle.pth_base.specs.declared.call.Call.{Call}
+use Rattle.pth_base.specs.declared.ids.Tid.{Tid}
+use Rattle.pth_base.specs.declared.mark.Mark.TheVariants.{Canceled}
+use Rattle.pth_model.specs.Resources.{told}
+use Rattle.pth_model.specs.State.{State}
+use Rattle.pth_model.specs.Transition.{Change, controlled}
+use Rattle.pth_world.proofs.Telling.{has_still}
+use Rattle.pth_world.specs.Leading.{IsQuiet}
+use Rattle.pth_model.specs.Ending.{other_than}
+use Rattle.pth_world.proofs.Frames.{frame_then}
+use Rattle.pth_world.specs.Frame.{Frame}
+use Rattle.pth_world.specs.Shows.{Shows, StandsFor}
+use Rattle.pth_world.specs.World.{WorldOf}
+
+-- that a thread is canceled changes nothing of what threads have
+pub quiet_canceled : (t : Tid) (c : Option Call) → IsQuiet (Canceled t c)
+unfolding told
+quiet_canceled t c = λ x. refl
+
+-- the control was changed, and nothing else is stored
+pub change_stands : {P S H : Type 0} (w v : WorldOf P S H) (g : Change P S H) (s : State P S H) → Shows v (g s.control) → v.store ≡ w.store → StandsFor w s → StandsFor v (controlled g s)
+change_stands w v g s shows stored st = record { control = shows; resources = has_still w v s stored st.resources }
+
+-- a thread ends once its record was changed
+pub ends_then : {P S H : Type 0} (u v w : WorldOf P S H) (t : ℕ) → Frame u v 0 u.scheduler.running false → Frame v w 0 (other_than t v.scheduler.running) false → Frame u w 0 (other_than t u.scheduler.running) false
+ends_then u v w t changed ends = subst (λ (r : Option ℕ). Frame u w 0 (other_than t r) false) changed.runs (frame_then 0 0 u v w u.scheduler.running (other_than t v.scheduler.running) false changed ends)

@@ -1,0 +1,82 @@
+//! Ends that a thread was asked for, or is made to take: `pth_cancel`, `pth_abort`, `pth_cancel_point`.
+
+ghost use Rattle.std.specs.Prelude.{◌≡◌, false, Some, OnOk, OnErr};
+ghost use Rattle.pth_base.specs.Cut.{IsCut};
+ghost use Rattle.pth_model.specs.Cancellation.{aborted, canceled_by_other, canceled_in};
+ghost use Rattle.pth_model.specs.Ending.{other_than};
+ghost use Rattle.pth_model.specs.State.{State};
+ghost use Rattle.pth_world.specs.Frame.{Frame};
+ghost use Rattle.pth_world.specs.Leading.{Leads};
+ghost use Rattle.pth_world.specs.Shows.{StandsFor};
+ghost use Rattle.pth_world.specs.Sound.{IsAlive};
+ghost use Rattle.pth_world.specs.Whole.{Whole};
+
+use crate::ending::end_thread;
+use pth_base::call::Call;
+use pth_base::ids::Tid;
+use pth_base::mark::Mark;
+use pth_base::marks::Marks;
+use pth_base::memory::OutOfMemory;
+use pth_base::program::Program;
+use pth_threads::entry::Change;
+use pth_world::world::World;
+
+/// What a thread that is canceled ends with (`PTH_CANCELED`).
+pub const CANCELED: i64 = -1;
+
+/// Cancels a thread that is alive in another thread's turn: that is told without a call, and then the thread ends. After an error
+/// the world may only be dropped.
+pub fn cancel_from_outside<P: Program>(
+    w: &mut World<P>,
+    t: Tid,
+    marks: &mut Marks,
+) -> Result<(), OutOfMemory>
+    requires whole { Whole w.old }
+    requires alive { IsAlive w.old.threads t.0 }
+    ensures ok { OnOk result ((s : State P P.State P.Shared) → StandsFor w.old s → Leads w.new marks.old marks.new (canceled_by_other P.functions t.0 s)) }
+    ensures err { OnErr result ((s : State P P.State P.Shared) → StandsFor w.old s → IsCut marks.old marks.new (canceled_by_other P.functions t.0 s).marks) }
+    ensures frame { OnOk result (Frame w.old w.new 0 (other_than t.0 w.old.scheduler.running) false) }
+{
+    marks.push(Mark::Canceled { tid: t, call: None })?;
+    end_thread(w, t, CANCELED, marks)
+}
+
+/// Cancels the thread that runs in a call of its own: its request is taken up, that is told with the call, and then it ends. After
+/// an error the world may only be dropped.
+pub fn cancel_within<P: Program>(
+    w: &mut World<P>,
+    t: Tid,
+    call: Call,
+    marks: &mut Marks,
+) -> Result<(), OutOfMemory>
+    requires whole { Whole w.old }
+    requires runs { w.old.scheduler.running ≡ Some t.0 }
+    ensures ok { OnOk result ((s : State P P.State P.Shared) → StandsFor w.old s → Leads w.new marks.old marks.new (canceled_in P.functions t.0 call s)) }
+    ensures err { OnErr result ((s : State P P.State P.Shared) → StandsFor w.old s → IsCut marks.old marks.new (canceled_in P.functions t.0 call s).marks) }
+    ensures frame { OnOk result (Frame w.old w.new 0 (other_than t.0 w.old.scheduler.running) false) }
+{
+    w.set_field(t, Change::Request(false));
+    marks.push(Mark::Canceled {
+        tid: t,
+        call: Some(call),
+    })?;
+    end_thread(w, t, CANCELED, marks)
+}
+
+/// Makes a thread that is alive end now, whatever its cancel state is: it can be joined no longer, and so it is gone. After an error
+/// the world may only be dropped.
+pub fn abort_thread<P: Program>(
+    w: &mut World<P>,
+    t: Tid,
+    marks: &mut Marks,
+) -> Result<(), OutOfMemory>
+    requires whole { Whole w.old }
+    requires alive { IsAlive w.old.threads t.0 }
+    ensures ok { OnOk result ((s : State P P.State P.Shared) → StandsFor w.old s → Leads w.new marks.old marks.new (aborted P.functions t.0 s)) }
+    ensures err { OnErr result ((s : State P P.State P.Shared) → StandsFor w.old s → IsCut marks.old marks.new (aborted P.functions t.0 s).marks) }
+    ensures frame { OnOk result (Frame w.old w.new 0 (other_than t.0 w.old.scheduler.running) false) }
+{
+    w.set_field(t, Change::Joinable(false));
+    w.set_field(t, Change::Cancel(3));
+    cancel_from_outside(w, t, marks)
+}
