@@ -39,30 +39,34 @@ never_blocks (call.Wait e) no_join no_exit no_nap no_usleep no_sleep no_wait no_
 never_blocks c no_join no_exit no_nap no_usleep no_sleep no_wait no_io = no_io
 
 -- a call that never blocks its thread is plain where it is none of these
-pub is_plain_call : (c : Call) → may_block c ≡ false → c ≢ call.Kill → ((n : ℤ) → c ≢ call.Yield n) → c ≢ call.Plain → ((v : ℤ) → c ≢ call.Note v) → ((v : ℤ) → c ≢ call.CleanupPop v) → ((o h v : ℤ) → c ≢ call.Once o h v) → is_plain c ≡ true
-is_plain_call (call.Join n) never no_kill no_yield no_plain no_note no_pop no_once = absurd (cc never)
-is_plain_call (call.Exit v) never no_kill no_yield no_plain no_note no_pop no_once = absurd (cc never)
-is_plain_call (call.Nap n) never no_kill no_yield no_plain no_note no_pop no_once = absurd (cc never)
-is_plain_call (call.Usleep n) never no_kill no_yield no_plain no_note no_pop no_once = absurd (cc never)
-is_plain_call (call.Sleep n) never no_kill no_yield no_plain no_note no_pop no_once = absurd (cc never)
-is_plain_call (call.Wait e) never no_kill no_yield no_plain no_note no_pop no_once = absurd (cc never)
-is_plain_call (call.Read g n) never no_kill no_yield no_plain no_note no_pop no_once = absurd (cc never)
-is_plain_call (call.ReadEv g n e) never no_kill no_yield no_plain no_note no_pop no_once = absurd (cc never)
-is_plain_call (call.Write g bytes) never no_kill no_yield no_plain no_note no_pop no_once = absurd (cc never)
-is_plain_call (call.WriteEv g bytes e) never no_kill no_yield no_plain no_note no_pop no_once = absurd (cc never)
-is_plain_call (call.Accept g) never no_kill no_yield no_plain no_note no_pop no_once = absurd (cc never)
-is_plain_call (call.AcceptEv g e) never no_kill no_yield no_plain no_note no_pop no_once = absurd (cc never)
-is_plain_call (call.Connect g) never no_kill no_yield no_plain no_note no_pop no_once = absurd (cc never)
-is_plain_call (call.ConnectEv g e) never no_kill no_yield no_plain no_note no_pop no_once = absurd (cc never)
-is_plain_call (call.Select r w x l) never no_kill no_yield no_plain no_note no_pop no_once = absurd (cc never)
-is_plain_call (call.SelectEv r w x l e) never no_kill no_yield no_plain no_note no_pop no_once = absurd (cc never)
-is_plain_call call.Kill never no_kill no_yield no_plain no_note no_pop no_once = absurd (no_kill refl)
-is_plain_call (call.Yield n) never no_kill no_yield no_plain no_note no_pop no_once = absurd (no_yield n refl)
-is_plain_call call.Plain never no_kill no_yield no_plain no_note no_pop no_once = absurd (no_plain refl)
-is_plain_call (call.Note v) never no_kill no_yield no_plain no_note no_pop no_once = absurd (no_note v refl)
-is_plain_call (call.CleanupPop v) never no_kill no_yield no_plain no_note no_pop no_once = absurd (no_pop v refl)
-is_plain_call (call.Once o h v) never no_kill no_yield no_plain no_note no_pop no_once = absurd (no_once o h v refl)
-is_plain_call c never no_kill no_yield no_plain no_note no_pop no_once = refl
+pub is_plain_call : (c : Call) → may_block c ≡ false → c ≢ call.Kill → ((n : ℤ) → c ≢ call.Yield n) → c ≢ call.Plain → ((v : ℤ) → c ≢ call.Note v) → ((v : ℤ) → c ≢ call.CleanupPop v) → ((o h v : ℤ) → c ≢ call.Once o h v)
+    → ((n : ℤ) → c ≢ call.Cancel n) → ((n : ℤ) → c ≢ call.Abort n) → c ≢ call.CancelPoint → is_plain c ≡ true
+is_plain_call (call.Join n) never no_kill no_yield no_plain no_note no_pop no_once no_cancel no_abort no_point = absurd (cc never)
+is_plain_call (call.Exit v) never no_kill no_yield no_plain no_note no_pop no_once no_cancel no_abort no_point = absurd (cc never)
+is_plain_call (call.Nap n) never no_kill no_yield no_plain no_note no_pop no_once no_cancel no_abort no_point = absurd (cc never)
+is_plain_call (call.Usleep n) never no_kill no_yield no_plain no_note no_pop no_once no_cancel no_abort no_point = absurd (cc never)
+is_plain_call (call.Sleep n) never no_kill no_yield no_plain no_note no_pop no_once no_cancel no_abort no_point = absurd (cc never)
+is_plain_call (call.Wait e) never no_kill no_yield no_plain no_note no_pop no_once no_cancel no_abort no_point = absurd (cc never)
+is_plain_call (call.Read g n) never no_kill no_yield no_plain no_note no_pop no_once no_cancel no_abort no_point = absurd (cc never)
+is_plain_call (call.ReadEv g n e) never no_kill no_yield no_plain no_note no_pop no_once no_cancel no_abort no_point = absurd (cc never)
+is_plain_call (call.Write g bytes) never no_kill no_yield no_plain no_note no_pop no_once no_cancel no_abort no_point = absurd (cc never)
+is_plain_call (call.WriteEv g bytes e) never no_kill no_yield no_plain no_note no_pop no_once no_cancel no_abort no_point = absurd (cc never)
+is_plain_call (call.Accept g) never no_kill no_yield no_plain no_note no_pop no_once no_cancel no_abort no_point = absurd (cc never)
+is_plain_call (call.AcceptEv g e) never no_kill no_yield no_plain no_note no_pop no_once no_cancel no_abort no_point = absurd (cc never)
+is_plain_call (call.Connect g) never no_kill no_yield no_plain no_note no_pop no_once no_cancel no_abort no_point = absurd (cc never)
+is_plain_call (call.ConnectEv g e) never no_kill no_yield no_plain no_note no_pop no_once no_cancel no_abort no_point = absurd (cc never)
+is_plain_call (call.Select r w x l) never no_kill no_yield no_plain no_note no_pop no_once no_cancel no_abort no_point = absurd (cc never)
+is_plain_call (call.SelectEv r w x l e) never no_kill no_yield no_plain no_note no_pop no_once no_cancel no_abort no_point = absurd (cc never)
+is_plain_call call.Kill never no_kill no_yield no_plain no_note no_pop no_once no_cancel no_abort no_point = absurd (no_kill refl)
+is_plain_call (call.Yield n) never no_kill no_yield no_plain no_note no_pop no_once no_cancel no_abort no_point = absurd (no_yield n refl)
+is_plain_call call.Plain never no_kill no_yield no_plain no_note no_pop no_once no_cancel no_abort no_point = absurd (no_plain refl)
+is_plain_call (call.Note v) never no_kill no_yield no_plain no_note no_pop no_once no_cancel no_abort no_point = absurd (no_note v refl)
+is_plain_call (call.CleanupPop v) never no_kill no_yield no_plain no_note no_pop no_once no_cancel no_abort no_point = absurd (no_pop v refl)
+is_plain_call (call.Once o h v) never no_kill no_yield no_plain no_note no_pop no_once no_cancel no_abort no_point = absurd (no_once o h v refl)
+is_plain_call (call.Cancel n) never no_kill no_yield no_plain no_note no_pop no_once no_cancel no_abort no_point = absurd (no_cancel n refl)
+is_plain_call (call.Abort n) never no_kill no_yield no_plain no_note no_pop no_once no_cancel no_abort no_point = absurd (no_abort n refl)
+is_plain_call call.CancelPoint never no_kill no_yield no_plain no_note no_pop no_once no_cancel no_abort no_point = absurd (no_point refl)
+is_plain_call c never no_kill no_yield no_plain no_note no_pop no_once no_cancel no_abort no_point = refl
 
 module _ {P S H : Type 0} (f : P → Functions S H) (s : State P S H) (t : ℕ) where
   ctrl_never_wakes : (x : Query) (b : Blocked) → (ctrl s x).wakes b ≡ false

@@ -4,7 +4,7 @@ use Rattle.pth_base.specs.Program.{Functions}
 use Rattle.pth_base.specs.declared.call.Call.TheVariants as call
 use Rattle.pth_model.specs.declared.blocked.Blocked.{Blocked}
 use Rattle.pth_model.specs.declared.next.Next.TheVariants as next
-use Rattle.pth_model.specs.Calls.{begun, resumed, waits_by}
+use Rattle.pth_model.specs.Calls.{begun, tried_again, waits_by}
 use Rattle.pth_model.specs.Changes.{blocked_of}
 use Rattle.pth_model.specs.Ending.{ending}
 use Rattle.pth_model.specs.Rows.{row_of}
@@ -21,6 +21,6 @@ module _ {P S H : Type 0} (f : P → Functions S H) (s : State P S H) (t : ℕ) 
   unfolding begun row_of
   exit_waits waits = rw waits refl
 
-  pub again_ends : (b : Blocked) → blocked_of s.control t ≡ Some b → b.call ≡ call.Exit v → must_wait s.control t ≡ false → resumed f t s ≡ record { told = ending f t v s; next = next.Ended v }
-  unfolding resumed row_of
+  pub again_ends : (b : Blocked) → blocked_of s.control t ≡ Some b → b.call ≡ call.Exit v → must_wait s.control t ≡ false → tried_again f t s ≡ record { told = ending f t v s; next = next.Ended v }
+  unfolding tried_again row_of
   again_ends b has its alone = rw (has, its, alone) refl

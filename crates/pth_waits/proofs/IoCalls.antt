@@ -16,7 +16,7 @@ use Rattle.pth_model.specs.declared.awaits.Awaits.{Awaits}
 use Rattle.pth_model.specs.declared.blocked.Blocked.{Blocked}
 use Rattle.pth_model.specs.declared.next.Next.TheVariants as next
 use Rattle.pth_model.specs.Awaits.{awaited_by, awaits_in}
-use Rattle.pth_model.specs.Calls.{answers, begun, begun_as, begun_by, resumed, tried_by, unless_come}
+use Rattle.pth_model.specs.Calls.{answers, begun, begun_as, begun_by, tried_again, tried_by, unless_come}
 use Rattle.pth_model.specs.Changes.{blocked_of, is_blocked_by, with_kernel}
 use Rattle.pth_model.specs.Io.{Trial, begins_waiting, is_no_ring}
 use Rattle.pth_model.specs.RingWaits.{has_event_come, ring_given}
@@ -324,8 +324,8 @@ module _ {P S H : Type 0} (f : P → Functions S H) (s : State P S H) (t : ℕ) 
   ends_as x v = (let y = tried_by f t b v x.state in record { told = record { state = y.told.state; marks = x.marks ++ y.told.marks }; next = y.next })
 
   -- it comes to its verdict, from the state after the attempt
-  resumed_as : (v : Verdict) → verdict ≡ v → resumed f t s ≡ tried_by f t b v then
-  unfolding resumed
+  resumed_as : (v : Verdict) → verdict ≡ v → tried_again f t s ≡ tried_by f t b v then
+  unfolding tried_again
   resumed_as v is =
       let attempt : Attempt P S H = verdict trying changes (with_kernel again.after) in
       rw has (
@@ -333,8 +333,8 @@ module _ {P S H : Type 0} (f : P → Functions S H) (s : State P S H) (t : ℕ) 
       ∙ ap (λ (x : Transition P S H). ends_as x verdict) (effect_is s again.after verdict (refused_by come again.answer refl))
       ∙ ap (λ (x : Verdict). ends_as (changes (with_kernel again.after) s) x) is)
 
-  pub resumed_says : (a : Answer) → verdict ≡ Says a → resumed f t s ≡ record { told = answers f t b.call a then; next = next.Done a }
+  pub resumed_says : (a : Answer) → verdict ≡ Says a → tried_again f t s ≡ record { told = answers f t b.call a then; next = next.Done a }
   resumed_says a is = resumed_as (Says a) is
 
-  pub resumed_waits : (n : ℕ) → verdict ≡ blocks_on 0 n → resumed f t s ≡ record { told = (changes (is_blocked_by t (Some (record b { written = n }))) and_then tells (Waits (tid t) b.call)) then; next = next.Waits }
+  pub resumed_waits : (n : ℕ) → verdict ≡ blocks_on 0 n → tried_again f t s ≡ record { told = (changes (is_blocked_by t (Some (record b { written = n }))) and_then tells (Waits (tid t) b.call)) then; next = next.Waits }
   resumed_waits n is = resumed_as (blocks_on 0 n) is

@@ -10,3 +10,4 @@ pub mod Waking
 pub mod Resting
 pub mod Unchanged
 pub mod IoCalls
+pub mod Canceling

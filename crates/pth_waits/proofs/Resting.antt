@@ -11,7 +11,7 @@ use Rattle.pth_base.specs.declared.errno.Errno.TheVariants.{EINVAL}
 use Rattle.pth_base.specs.declared.mark.Mark.TheVariants.{Waits}
 use Rattle.pth_model.specs.declared.blocked.Blocked.{Blocked}
 use Rattle.pth_model.specs.declared.next.Next.TheVariants as next
-use Rattle.pth_model.specs.Calls.{answers, begun, begun_as, begun_by, resumed}
+use Rattle.pth_model.specs.Calls.{answers, begun, begun_as, begun_by, tried_again}
 use Rattle.pth_model.specs.Changes.{blocked_of}
 use Rattle.pth_model.specs.RingWaits.{ring_given, has_event_come}
 use Rattle.pth_model.specs.Row.{Attempt, Row, refuses, unless_refused, ◌trying◌}
@@ -104,13 +104,13 @@ module _ {P S H : Type 0} (f : P → Functions S H) (s : State P S H) (t : ℕ) 
   moment_is = held_at (blocked_of s.control t) (λ (b : Blocked). b.moment ≡ m) (record h.blocked { call = c }) h.has until
 
   -- the moment has not come
-  pub rest_goes_on : is_rest c ≡ true → ring_given c ≡ None → now_of s.control < m → resumed f t s ≡ record { told = tells (Waits (tid t) c) s; next = next.Waits }
+  pub rest_goes_on : is_rest c ≡ true → ring_given c ≡ None → now_of s.control < m → tried_again f t s ≡ record { told = tells (Waits (tid t) c) s; next = next.Waits }
   rest_goes_on rested none before =
       let test : nat_le h.blocked.moment (now_of s.control) ≡ false = is_ahead h.blocked.moment m (now_of s.control) moment_is before in
       waits_again f s t c h attempt again (rest_written c _ rested h.may.written) (ap (has_event_come s.control.events) none) (rw test refl) (rw test refl)
 
   -- it has come
-  pub rest_is_over : m ≤ now_of s.control → resumed f t s ≡ (answers f t c (Int (pos r.answer)) and_next next.Done (Int (pos r.answer))) s
+  pub rest_is_over : m ≤ now_of s.control → tried_again f t s ≡ (answers f t c (Int (pos r.answer)) and_next next.Done (Int (pos r.answer))) s
   rest_is_over past =
       let test : nat_le h.blocked.moment (now_of s.control) ≡ true = is_past h.blocked.moment m (now_of s.control) moment_is past in
       let answer : Answer = Int (pos r.answer) in

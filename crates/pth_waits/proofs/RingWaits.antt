@@ -7,7 +7,7 @@ use Rattle.pth_base.specs.declared.call.Call.TheVariants as call
 use Rattle.pth_base.specs.declared.errno.Errno.{Errno}
 use Rattle.pth_base.specs.declared.mark.Mark.TheVariants.{Answered, Waits}
 use Rattle.pth_model.specs.declared.next.Next.TheVariants as next
-use Rattle.pth_model.specs.Calls.{answers, begun, resumed, waits_by}
+use Rattle.pth_model.specs.Calls.{answers, begun, tried_again, waits_by}
 use Rattle.pth_model.specs.Changes.{blocked_of}
 use Rattle.pth_model.specs.Row.{Attempt, ◌trying◌}
 use Rattle.pth_model.specs.Rows.{row_of}
@@ -36,10 +36,10 @@ module _ {P S H : Type 0} (f : P → Functions S H) (s : State P S H) (t : ℕ) 
   unfolding row_of
   again = rw is refl
 
-  pub wait_goes_on : nat_lt 0 come ≡ false → resumed f t s ≡ record { told = tells (Waits (tid t) (call.Wait e)) s; next = next.Waits }
+  pub wait_goes_on : nat_lt 0 come ≡ false → tried_again f t s ≡ record { told = tells (Waits (tid t) (call.Wait e)) s; next = next.Waits }
   wait_goes_on none = waits_again f s t (call.Wait e) h attempt again h.may.written (rw (← is) none) (rw none refl) (rw none refl)
 
-  pub wait_is_over : nat_lt 0 come ≡ true → resumed f t s ≡ (answers f t (call.Wait e) (Int (pos come)) and_next next.Done (Int (pos come))) s
+  pub wait_is_over : nat_lt 0 come ≡ true → tried_again f t s ≡ (answers f t (call.Wait e) (Int (pos come)) and_next next.Done (Int (pos come))) s
   wait_is_over some =
       let answer : Answer = Int (pos come) in
       answers_again f s t (call.Wait e) h attempt answer again (rw some refl) ∙ rw some refl

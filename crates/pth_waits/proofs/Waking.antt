@@ -4,13 +4,14 @@ use Rattle.std.specs.List.{list_any}
 use Rattle.pth_base.specs.Program.{Functions}
 use Rattle.pth_model.specs.declared.awaits.Awaits.{Awaits}
 use Rattle.pth_model.specs.Awaits.{awaits_in}
+use Rattle.pth_model.specs.Cancellation.{may_be_canceled}
 use Rattle.pth_model.specs.Changes.{blocked_of}
 use Rattle.pth_model.specs.RingWaits.{ring_held, events_from, awaited_events}
 use Rattle.pth_model.specs.Looks.{comes}
 use Rattle.pth_model.specs.Pass.{is_come_for, is_to_wake}
 use Rattle.pth_model.specs.State.{Control, State}
 use Rattle.pth_numbered.specs.Operands.{number}
-use Rattle.pth_waits.specs.Waking.{has_come, is_due}
+use Rattle.pth_waits.specs.Waking.{has_come, has_its_due, is_due}
 use Rattle.pth_waits.proofs.Begins.{wakes_when}
 
 or_false : (b : Bool) → (b || false) ≡ b
@@ -32,7 +33,7 @@ module _ {P S H : Type 0} (k : Control P S H) (t : ℕ) where
     pub ring_events : awaited_events k t ≡ k.events.rings (number e)
     ring_events = ap (events_from k.events) given
 
-    pub ring_due : is_due k t ≡ (list_any (λ i. comes k (k.events.events i)) (k.events.rings (number e)) || has_come k t awaited)
+    pub ring_due : has_its_due k t ≡ (list_any (λ i. comes k (k.events.events i)) (k.events.rings (number e)) || has_come k t awaited)
     unfolding is_come_for
     ring_due =
         ap (λ (es : List ℕ). has_come k t awaited || list_any (λ i. comes k (k.events.events i)) es) ring_events
@@ -43,12 +44,18 @@ module _ {P S H : Type 0} (k : Control P S H) (t : ℕ) where
     pub no_events : awaited_events k t ≡ []
     no_events = ap (events_from k.events) none
 
-    pub other_due : is_due k t ≡ has_come k t awaited
+    pub other_due : has_its_due k t ≡ has_come k t awaited
     unfolding is_come_for
     other_due =
         ap (λ (es : List ℕ). has_come k t awaited || list_any (λ i. comes k (k.events.events i)) es) no_events
         ∙ or_false (has_come k t awaited)
 
+or_or : (a b c : Bool) → (a || b || c) ≡ ((a || b) || c)
+or_or true b c = refl
+or_or false b c = refl
+
 -- a pass wakes those that are due
 pub due_is : {P S H : Type 0} (f : P → Functions S H) (s : State P S H) (t : ℕ) → is_to_wake f s t ≡ is_due s.control t
-due_is f s t = ap (λ (b : Bool). b || is_come_for s.control t) (wakes_when f s t (awaits_in (blocked_of s.control t)) refl)
+due_is f s t =
+    let k = s.control in
+    ap (λ (b : Bool). b || is_come_for k t || may_be_canceled k t) (wakes_when f s t (awaits_in (blocked_of k t)) refl) ∙ or_or (has_come k t (awaits_in (blocked_of k t))) (is_come_for k t) (may_be_canceled k t)

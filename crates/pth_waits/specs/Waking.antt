@@ -4,6 +4,7 @@ use Rattle.pth_model.specs.declared.awaits.Awaits.{Awaits}
 use Rattle.pth_model.specs.declared.awaits.Awaits.TheVariants.{Nothing, Alone, Death, AnyDeath, Moment, Ring}
 use Rattle.pth_model.specs.State.{Control, now_of}
 use Rattle.pth_model.specs.Awaits.{awaits_in}
+use Rattle.pth_model.specs.Cancellation.{may_be_canceled}
 use Rattle.pth_model.specs.Changes.{or_nobody, blocked_of}
 use Rattle.pth_model.specs.Pass.{is_come_for}
 use Rattle.pth_model.specs.ThreadControl.{thread, is_dead_in, first_of, joinable_dead}
@@ -23,6 +24,10 @@ has_come k t (Ring e) = false
 -- what descriptors bring
 has_come k t a = wakes_for k.kernel a
 
--- the thread is to wake: what its call waits for has come, or an event of the ring that it was given comes
+-- what its call waits for has come, or an event of the ring that it was given comes
+abbrev pub has_its_due : {P S H : Type 0} → Control P S H → ℕ → Bool
+has_its_due k t = has_come k t (awaits_in (blocked_of k t)) || is_come_for k t
+
+-- the thread is to wake: it has its due, or it may be canceled
 abbrev pub is_due : {P S H : Type 0} → Control P S H → ℕ → Bool
-is_due k t = has_come k t (awaits_in (blocked_of k t)) || is_come_for k t
+is_due k t = has_its_due k t || may_be_canceled k t

@@ -11,6 +11,7 @@ ghost use Rattle.pth_world.specs.Numbering.{HasNumbers};
 ghost use Rattle.pth_world.specs.Shows.{StandsFor};
 ghost use Rattle.pth_world.specs.Whole.{Whole};
 
+use crate::cancellation::cancel_point;
 use crate::io::{begin_io, is_io};
 use crate::joins::begin_join;
 use crate::library_ends::kill;
@@ -23,6 +24,7 @@ use pth_base::ids::Tid;
 use pth_base::marks::Marks;
 use pth_base::memory::OutOfMemory;
 use pth_base::program::Program;
+use pth_calls::cancellation::{abort, cancel};
 use pth_calls::cleanups::pop_cleanup;
 use pth_calls::once::once;
 use pth_calls::plain::begin_plain;
@@ -50,6 +52,9 @@ fn begin_at_once<P: Program>(
     match call {
         Call::Kill => kill(w, t, call, marks),
         Call::Yield(to) => yield_to(w, t, call, *to, marks),
+        Call::Cancel(n) => cancel(w, t, call, *n, marks),
+        Call::Abort(n) => abort(w, t, call, *n, marks),
+        Call::CancelPoint => cancel_point(w, t, call, marks),
         Call::CleanupPop(v) => pop_cleanup(w, t, call, *v, marks),
         Call::Once { o, h, v } => once(w, t, call, *o, *h, *v, marks),
         Call::Plain => Ok(Next::Done(Answer::None)),

@@ -3,6 +3,7 @@
 
 pub mod begin;
 pub mod blocks;
+pub mod cancellation;
 pub mod io;
 pub mod joins;
 pub mod library_ends;

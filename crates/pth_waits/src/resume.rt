@@ -1,14 +1,16 @@
-//! How the call that blocks a thread is tried again.
+//! How a thread goes on that a call blocks: it is canceled in it, or the call is tried again.
 
 ghost use Rattle.std.specs.Prelude.{◌≡◌, Some, IfOk, OnOk, OnErr};
 ghost use Rattle.pth_base.specs.Cut.{IsCut};
-ghost use Rattle.pth_model.specs.Calls.{resumed};
+ghost use Rattle.pth_model.specs.Calls.{canceled_by, resumed, tried_again};
+ghost use Rattle.pth_model.specs.Changes.{blocked_of};
 ghost use Rattle.pth_model.specs.State.{State};
 ghost use Rattle.pth_world.specs.Frame.{Frame, runs_after, yields_after};
 ghost use Rattle.pth_world.specs.Leading.{Leads};
 ghost use Rattle.pth_world.specs.Shows.{StandsFor};
 ghost use Rattle.pth_world.specs.Whole.{Whole};
 
+use crate::cancellation::may_be_canceled;
 use crate::io::io_again;
 use crate::joins::join_again;
 use crate::rests::rest_again;
@@ -19,16 +21,17 @@ use pth_base::ids::Tid;
 use pth_base::marks::Marks;
 use pth_base::memory::OutOfMemory;
 use pth_base::program::Program;
+use pth_end::cancellation::{CANCELED, cancel_within};
 use pth_model::next::Next;
 use pth_world::world::World;
 
-/// Tries the call that blocks the thread that runs again. After an error the world may only be dropped.
-pub fn resume<P: Program>(w: &mut World<P>, t: Tid, marks: &mut Marks) -> Result<Next, OutOfMemory>
+// Tries the call that blocks the thread that runs again.
+fn try_again<P: Program>(w: &mut World<P>, t: Tid, marks: &mut Marks) -> Result<Next, OutOfMemory>
     requires whole { Whole w.old }
     requires runs { w.old.scheduler.running ≡ Some t.0 }
-    ensures next { IfOk result (λ n. (s : State P P.State P.Shared) → StandsFor w.old s → n ≡ (resumed P.functions t.0 s).next) }
-    ensures ok { OnOk result ((s : State P P.State P.Shared) → StandsFor w.old s → Leads w.new marks.old marks.new (resumed P.functions t.0 s).told) }
-    ensures err { OnErr result ((s : State P P.State P.Shared) → StandsFor w.old s → IsCut marks.old marks.new (resumed P.functions t.0 s).told.marks) }
+    ensures next { IfOk result (λ n. (s : State P P.State P.Shared) → StandsFor w.old s → n ≡ (tried_again P.functions t.0 s).next) }
+    ensures ok { OnOk result ((s : State P P.State P.Shared) → StandsFor w.old s → Leads w.new marks.old marks.new (tried_again P.functions t.0 s).told) }
+    ensures err { OnErr result ((s : State P P.State P.Shared) → StandsFor w.old s → IsCut marks.old marks.new (tried_again P.functions t.0 s).told.marks) }
     ensures frame { IfOk result (λ n. Frame w.old w.new 0 (runs_after t.0 n) (yields_after n)) }
 {
     let blocked = match w.blocked(t) {
@@ -45,4 +48,41 @@ pub fn resume<P: Program>(w: &mut World<P>, t: Tid, marks: &mut Marks) -> Result
         Call::Wait(e) => wait_again(w, t, e, marks),
         _ => io_again(w, t, marks),
     }
+}
+
+// Cancels the thread that runs in the call that blocks it.
+fn cancel_blocked<P: Program>(
+    w: &mut World<P>,
+    t: Tid,
+    marks: &mut Marks,
+) -> Result<Next, OutOfMemory>
+    requires whole { Whole w.old }
+    requires runs { w.old.scheduler.running ≡ Some t.0 }
+    ensures next { IfOk result (λ n. (s : State P P.State P.Shared) → StandsFor w.old s → n ≡ (canceled_by P.functions t.0 (blocked_of s.control t.0) s).next) }
+    ensures ok { OnOk result ((s : State P P.State P.Shared) → StandsFor w.old s → Leads w.new marks.old marks.new (canceled_by P.functions t.0 (blocked_of s.control t.0) s).told) }
+    ensures err { OnErr result ((s : State P P.State P.Shared) → StandsFor w.old s → IsCut marks.old marks.new (canceled_by P.functions t.0 (blocked_of s.control t.0) s).told.marks) }
+    ensures frame { IfOk result (λ n. Frame w.old w.new 0 (runs_after t.0 n) (yields_after n)) }
+{
+    let Some(blocked) = w.blocked(t) else {
+        return Ok(Next::Waits);
+    };
+    let call = blocked.call.copy()?;
+    cancel_within(w, t, call, marks)?;
+    Ok(Next::Ended(CANCELED))
+}
+
+/// Goes on with the thread that runs where a call blocks it: the thread is canceled in it where it may be
+/// ([`may_be_canceled`]), and else the call is tried again. After an error the world may only be dropped.
+pub fn resume<P: Program>(w: &mut World<P>, t: Tid, marks: &mut Marks) -> Result<Next, OutOfMemory>
+    requires whole { Whole w.old }
+    requires runs { w.old.scheduler.running ≡ Some t.0 }
+    ensures next { IfOk result (λ n. (s : State P P.State P.Shared) → StandsFor w.old s → n ≡ (resumed P.functions t.0 s).next) }
+    ensures ok { OnOk result ((s : State P P.State P.Shared) → StandsFor w.old s → Leads w.new marks.old marks.new (resumed P.functions t.0 s).told) }
+    ensures err { OnErr result ((s : State P P.State P.Shared) → StandsFor w.old s → IsCut marks.old marks.new (resumed P.functions t.0 s).told.marks) }
+    ensures frame { IfOk result (λ n. Frame w.old w.new 0 (runs_after t.0 n) (yields_after n)) }
+{
+    if may_be_canceled(w, t) {
+        return cancel_blocked(w, t, marks);
+    }
+    try_again(w, t, marks)
 }

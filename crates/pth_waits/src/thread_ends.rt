@@ -3,7 +3,7 @@
 ghost use Rattle.std.specs.Prelude.{◌≡◌, true, Some, IfOk, IfSome, IsSome, OnOk, OnErr};
 ghost use Rattle.pth_base.specs.Cut.{IsCut};
 ghost use Rattle.pth_base.specs.declared.call.Call.TheVariants.{Exit};
-ghost use Rattle.pth_model.specs.Calls.{begun, resumed};
+ghost use Rattle.pth_model.specs.Calls.{begun, tried_again};
 ghost use Rattle.pth_model.specs.Changes.{blocked_of};
 ghost use Rattle.pth_model.specs.State.{Control, State, main};
 ghost use Rattle.pth_model.specs.ThreadEnds.{must_wait as must_wait_now};
@@ -69,9 +69,9 @@ pub fn exit_again<P: Program>(
     requires runs { w.old.scheduler.running ≡ Some t.0 }
     requires blocked { (k : Control P P.State P.Shared) → Shows w.old k → IfSome (blocked_of k t.0) (λ b. (b.call ≡ Exit value) × MayBlock t.0 b) }
     requires some { (k : Control P P.State P.Shared) → Shows w.old k → IsSome (blocked_of k t.0) }
-    ensures next { IfOk result (λ n. (s : State P P.State P.Shared) → StandsFor w.old s → n ≡ (resumed P.functions t.0 s).next) }
-    ensures ok { OnOk result ((s : State P P.State P.Shared) → StandsFor w.old s → Leads w.new marks.old marks.new (resumed P.functions t.0 s).told) }
-    ensures err { OnErr result ((s : State P P.State P.Shared) → StandsFor w.old s → IsCut marks.old marks.new (resumed P.functions t.0 s).told.marks) }
+    ensures next { IfOk result (λ n. (s : State P P.State P.Shared) → StandsFor w.old s → n ≡ (tried_again P.functions t.0 s).next) }
+    ensures ok { OnOk result ((s : State P P.State P.Shared) → StandsFor w.old s → Leads w.new marks.old marks.new (tried_again P.functions t.0 s).told) }
+    ensures err { OnErr result ((s : State P P.State P.Shared) → StandsFor w.old s → IsCut marks.old marks.new (tried_again P.functions t.0 s).told.marks) }
     ensures frame { IfOk result (λ n. Frame w.old w.new 0 (runs_after t.0 n) (yields_after n)) }
 {
     if must_wait(w, t) {

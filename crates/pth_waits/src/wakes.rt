@@ -6,10 +6,11 @@ ghost use Rattle.pth_model.specs.RingWaits.{awaited_events};
 ghost use Rattle.pth_model.specs.State.{Control};
 ghost use Rattle.pth_model.specs.declared.awaits.Awaits.TheVariants.{AnyDeath};
 ghost use Rattle.pth_threads.specs.Threads.{tid_at};
-ghost use Rattle.pth_waits.specs.Waking.{has_come, is_due};
+ghost use Rattle.pth_waits.specs.Waking.{has_come, has_its_due, is_due};
 ghost use Rattle.pth_world.specs.Shows.{Shows};
 ghost use Rattle.pth_world.specs.Whole.{Whole, MayAwait};
 
+use crate::cancellation::may_be_canceled_at;
 use crate::joins::has_died;
 use crate::looks::look_at_ring;
 use crate::trials::wakes_for;
@@ -37,6 +38,25 @@ fn has_come<P: Program>(w: &World<P>, slot: Slot, awaits: Awaits, any_dead: bool
     }
 }
 
+// Whether what the blocked thread at a slot waits for has come, where the events of the ring for which it waits are looked at, if it
+// waits for one.
+fn has_come_for<P: Program>(w: &mut World<P>, slot: Slot, any_dead: bool) -> bool
+    requires whole { Whole w.old }
+    requires used { tid_at w.old.threads.records slot.0 ≢ 0 }
+    requires dead { (k : Control P P.State P.Shared) (t : ℕ) → Shows w.old k → any_dead ≡ has_come k t AnyDeath }
+    ensures shows { (k : Control P P.State P.Shared) → Shows w.old k → Shows w.new (looks_at k (awaited_events k (tid_at w.old.threads.records slot.0))) }
+    ensures wakes { (k : Control P P.State P.Shared) → Shows w.old k → result ≡ has_its_due k (tid_at w.old.threads.records slot.0) }
+    ensures made { w.new.events.made ≡ w.old.events.made }
+    ensures same { w.new ≡ record w.old { events = w.new.events } }
+{
+    let awaited = w.awaited_in(slot);
+    let come = has_come(w, slot, awaited.what, any_dead);
+    match awaited.ring {
+        Some(e) => look_at_ring(w, e) | come,
+        None => come,
+    }
+}
+
 /// Whether the blocked thread at a slot is to wake, where the events of the ring for which it waits are looked at, if it waits for
 /// one. `any_dead` tells whether a thread that can be joined has died.
 pub fn is_to_wake<P: Program>(w: &mut World<P>, slot: Slot, any_dead: bool) -> bool
@@ -48,10 +68,7 @@ pub fn is_to_wake<P: Program>(w: &mut World<P>, slot: Slot, any_dead: bool) -> b
     ensures made { w.new.events.made ≡ w.old.events.made }
     ensures same { w.new ≡ record w.old { events = w.new.events } }
 {
-    let awaited = w.awaited_in(slot);
-    let come = has_come(w, slot, awaited.what, any_dead);
-    match awaited.ring {
-        Some(e) => look_at_ring(w, e) | come,
-        None => come,
-    }
+    let canceled = may_be_canceled_at(w, slot);
+    let come = has_come_for(w, slot, any_dead);
+    come || canceled
 }

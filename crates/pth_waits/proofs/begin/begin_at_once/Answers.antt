@@ -26,4 +26,4 @@ returns-in_ok-note-in-Note-clause-ok g c s st =
 
 pub begin_plain-requires-clause-plain : goal.begin_plain-requires-clause-plain
 begin_plain-requires-clause-plain g c =
-    is_plain_call c.args.call.now c.requires.never c.in_default.not-Kill c.in_default.not-Yield c.in_default.not-Plain c.in_default.not-Note c.in_default.not-CleanupPop c.in_default.not-Once
+    is_plain_call c.args.call.now c.requires.never c.in_default.not-Kill c.in_default.not-Yield c.in_default.not-Plain c.in_default.not-Note c.in_default.not-CleanupPop c.in_default.not-Once c.in_default.not-Cancel c.in_default.not-Abort c.in_default.not-CancelPoint

@@ -9,7 +9,7 @@ use Rattle.pth_waits.specs.Waking.{has_come}
 use Rattle.pth_world.specs.Shows.{Shows}
 use Rattle.pth_waits.proofs.Looking.{none_shows}
 use Rattle.pth_waits.proofs.Waking.{ring_events, ring_due, no_events, other_due}
-use Rattle.pth_waits.proofs.wakes.is_to_wake.Goals as goal
+use Rattle.pth_waits.proofs.wakes.has_come_for.Goals as goal
 
 pub returns-in-Some-clause-shows : goal.returns-in-Some-clause-shows
 returns-in-Some-clause-shows g c k sh =

@@ -1,0 +1,51 @@
+-- When a thread may be canceled, and how a cancellation point begins.
+use Rattle.std.proofs.Common.{◌≡◌, ℕ, pos, Bool, true, false, ap, refl}
+use Rattle.pth_base.specs.Program.{Functions}
+use Rattle.pth_base.specs.declared.answer.Answer.TheVariants.{Int}
+use Rattle.pth_base.specs.declared.call.Call.TheVariants as call
+use Rattle.pth_base.specs.declared.mark.Mark.TheVariants.{Answered}
+use Rattle.pth_base.specs.declared.ids.Tid.{Tid}
+use Rattle.pth_model.specs.declared.next.Next.TheVariants as next
+use Rattle.pth_model.specs.Calls.{begun, canceled_by, resumed, resumed_where, tried_again}
+use Rattle.pth_model.specs.Cancellation.{canceled_in, canceled_value, is_at_point, is_to_cancel, may_be_canceled}
+use Rattle.pth_model.specs.Changes.{entry_of, or_nobody, blocked_of}
+use Rattle.pth_model.specs.Resources.{told, answer_told}
+use Rattle.pth_model.specs.Rows.{row_of}
+use Rattle.pth_model.specs.State.{Control, State}
+use Rattle.pth_model.specs.Transition.{Went, silent, tells, tid, ◌and_then◌, ◌and_next◌}
+use Rattle.pth_world.specs.Leading.{IsQuiet}
+
+module _ {P S H : Type 0} (k : Control P S H) (t : ℕ) where
+  pub not_asked : is_to_cancel (or_nobody (entry_of k t)) ≡ false → false ≡ may_be_canceled k t
+  unfolding may_be_canceled
+  not_asked none = rw none refl
+
+  pub asked_at : (b : Bool) → is_to_cancel (or_nobody (entry_of k t)) ≡ true → b ≡ is_at_point (blocked_of k t) → b ≡ may_be_canceled k t
+  unfolding may_be_canceled
+  asked_at b asked at = rw asked at
+
+module _ {P S H : Type 0} (f : P → Functions S H) (s : State P S H) (t : ℕ) where
+  pub point_ends : is_to_cancel (or_nobody (entry_of s.control t)) ≡ true → begun f t call.CancelPoint s ≡ record { told = canceled_in f t call.CancelPoint s; next = next.Ended canceled_value }
+  unfolding begun row_of
+  point_ends asked = rw asked refl
+
+  abbrev pub goes_on_from : Went P S H
+  goes_on_from = (silent and_then tells (Answered (tid t) call.CancelPoint (Int (pos 1))) and_next next.Done (Int (pos 1))) s
+
+  pub point_says : is_to_cancel (or_nobody (entry_of s.control t)) ≡ false → begun f t call.CancelPoint s ≡ goes_on_from
+  unfolding begun row_of
+  point_says none = rw none refl
+
+pub quiet_point : (t : Tid) → IsQuiet (Answered t call.CancelPoint (Int (pos 1)))
+unfolding told answer_told
+quiet_point t = λ x. refl
+
+-- a thread that a call blocks goes on
+module _ {P S H : Type 0} (f : P → Functions S H) (s : State P S H) (t : ℕ) where
+  pub resumed_canceled : may_be_canceled s.control t ≡ true → resumed f t s ≡ canceled_by f t (blocked_of s.control t) s
+  unfolding resumed
+  resumed_canceled may = ap (λ (b : Bool). resumed_where f t b s) may
+
+  pub resumed_again : may_be_canceled s.control t ≡ false → resumed f t s ≡ tried_again f t s
+  unfolding resumed
+  resumed_again may = ap (λ (b : Bool). resumed_where f t b s) may

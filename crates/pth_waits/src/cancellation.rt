@@ -1,0 +1,109 @@
+//! Whether a thread is canceled in the call that blocks it, and `pth_cancel_point`.
+
+ghost use Rattle.std.specs.Prelude.{◌≡◌, ◌≢◌, Some, IfOk, OnOk, OnErr};
+ghost use Rattle.pth_base.specs.Cut.{IsCut};
+ghost use Rattle.pth_base.specs.declared.call.Call.TheVariants.{CancelPoint};
+ghost use Rattle.pth_model.specs.Calls.{begun};
+ghost use Rattle.pth_model.specs.Cancellation.{is_point as is_point_call, is_to_cancel as is_to_cancel_by, may_be_canceled as may_be_canceled_in};
+ghost use Rattle.pth_model.specs.Changes.{entry_of, or_nobody};
+ghost use Rattle.pth_model.specs.State.{Control, State};
+ghost use Rattle.pth_threads.specs.Threads.{tid_at};
+ghost use Rattle.pth_world.specs.Frame.{Frame, runs_after, yields_after};
+ghost use Rattle.pth_world.specs.Leading.{Leads};
+ghost use Rattle.pth_world.specs.Shows.{Shows, StandsFor};
+ghost use Rattle.pth_world.specs.Sound.{IsSound};
+ghost use Rattle.pth_world.specs.Whole.{Whole};
+
+use crate::io::is_io;
+use pth_base::answer::Answer;
+use pth_base::call::Call;
+use pth_base::ids::{Slot, Tid};
+use pth_base::marks::Marks;
+use pth_base::memory::OutOfMemory;
+use pth_base::program::Program;
+use pth_calls::answering::answer_call;
+use pth_end::cancellation::{CANCELED, cancel_within};
+use pth_model::next::Next;
+use pth_threads::entry::Entry;
+use pth_world::world::World;
+
+// Whether a thread lets itself be canceled and was asked to end.
+fn is_to_cancel(it: &Entry) -> bool
+    ensures { result ≡ is_to_cancel_by it.now }
+{
+    it.request && (it.cancel == 1 || it.cancel == 3)
+}
+
+// Whether a call is a cancellation point while it blocks its thread: all that block but pth_exit.
+fn is_point(call: &Call) -> bool
+    ensures { result ≡ is_point_call call.now }
+{
+    match call {
+        Call::Join(_) => true,
+        Call::Wait(_) => true,
+        Call::Nap(_) | Call::Usleep(_) | Call::Sleep(_) => true,
+        _ => is_io(call),
+    }
+}
+
+// The same of a thread by its number; false where there is none.
+fn is_asked<P: Program>(w: &World<P>, t: Tid) -> bool
+    requires { IsSound w.now.threads }
+    ensures { (k : Control P P.State P.Shared) → Shows w.now k → result ≡ is_to_cancel_by (or_nobody (entry_of k t.0)) }
+{
+    match w.entry(t) {
+        Some(it) => is_to_cancel(it),
+        None => false,
+    }
+}
+
+/// Whether a thread was asked to end, lets itself be canceled, and is blocked in a cancellation point.
+pub fn may_be_canceled<P: Program>(w: &World<P>, t: Tid) -> bool
+    requires { Whole w.now }
+    ensures { (k : Control P P.State P.Shared) → Shows w.now k → result ≡ may_be_canceled_in k t.0 }
+{
+    if !is_asked(w, t) {
+        return false;
+    }
+    match w.blocked(t) {
+        Some(blocked) => is_point(&blocked.call),
+        None => false,
+    }
+}
+
+/// The same of the thread at a slot. Where it need not end, its record alone is read.
+pub fn may_be_canceled_at<P: Program>(w: &World<P>, slot: Slot) -> bool
+    requires whole { Whole w.now }
+    requires used { tid_at w.now.threads.records slot.0 ≢ 0 }
+    ensures { (k : Control P P.State P.Shared) → Shows w.now k → result ≡ may_be_canceled_in k (tid_at w.now.threads.records slot.0) }
+{
+    let it = w.entry_at(slot);
+    if !is_to_cancel(it) {
+        return false;
+    }
+    may_be_canceled(w, it.tid)
+}
+
+/// `pth_cancel_point`: the thread ends where it was asked to and lets itself be canceled. After an error the world may only be
+/// dropped.
+pub fn cancel_point<P: Program>(
+    w: &mut World<P>,
+    t: Tid,
+    call: &Call,
+    marks: &mut Marks,
+) -> Result<Next, OutOfMemory>
+    requires whole { Whole w.old }
+    requires runs { w.old.scheduler.running ≡ Some t.0 }
+    requires call { call.now ≡ CancelPoint }
+    ensures next { IfOk result (λ n. (s : State P P.State P.Shared) → StandsFor w.old s → n ≡ (begun P.functions t.0 call.now s).next) }
+    ensures ok { OnOk result ((s : State P P.State P.Shared) → StandsFor w.old s → Leads w.new marks.old marks.new (begun P.functions t.0 call.now s).told) }
+    ensures err { OnErr result ((s : State P P.State P.Shared) → StandsFor w.old s → IsCut marks.old marks.new (begun P.functions t.0 call.now s).told.marks) }
+    ensures frame { IfOk result (λ n. Frame w.old w.new 0 (runs_after t.0 n) (yields_after n)) }
+{
+    if is_asked(w, t) {
+        cancel_within(w, t, Call::CancelPoint, marks)?;
+        return Ok(Next::Ended(CANCELED));
+    }
+    let answer = answer_call(t, call, Answer::Int(1), marks)?;
+    Ok(Next::Done(answer))
+}
