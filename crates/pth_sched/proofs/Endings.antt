@@ -26,6 +26,7 @@ use Rattle.pth_model.specs.Living.{is_dead}
 use Rattle.pth_numbered.specs.Operands.{named, number, is_below, is_zero, ◌is◌, ◌is_from◌to◌}
 use Rattle.pth_model.specs.Pass.{moment}
 use Rattle.pth_model.specs.LibraryControl.{kill, ctrl, running_count}
+use Rattle.pth_model.specs.Cancellation.{canceled_value, is_to_cancel, is_at_point, may_be_canceled, cancel_state, cancel, abort}
 use Rattle.pth_model.specs.AttributeHandling.{object, answer_of}
 use Rattle.pth_threads.specs.Attributes.{create_answer, of_answer, init_answer, set_answer, get_answer, destroy_answer}
 use Rattle.pth_model.specs.Changes.{blocked_of, goes_on, entry_of, or_nobody, with_events}
@@ -37,7 +38,7 @@ use Rattle.pth_model.specs.Cleanups.{last_pushed}
 use Rattle.pth_store.specs.Cleanups.{push_answer}
 use Rattle.pth_store.specs.Keys.{key_create_answer, key_delete_answer, key_set_answer, key_get_answer}
 use Rattle.pth_model.specs.ThreadEnds.{is_alone, must_wait}
-use Rattle.pth_model.specs.Calls.{begun, begun_by, resumed, resumed_by, tried_by, unless_come, interrupted}
+use Rattle.pth_model.specs.Calls.{begun, begun_by, resumed, resumed_where, tried_again, resumed_by, tried_by, unless_come, interrupted}
 use Rattle.pth_model.specs.EventHandling.{spec_of, made_as, make_event, chain, wait, number_or_none, status_number}
 use Rattle.pth_model.specs.RingWaits.{extra_ring, ring_given, has_event_come}
 use Rattle.pth_model.specs.Times.{rest, timeout, is_negative, length_of, moment_after}
@@ -54,6 +55,7 @@ use Rattle.pth_model.specs.Part.{Part, Move, Take, Step, Close, Halt, next_part,
 use Rattle.pth_model.specs.Run.{run, IsBetween}
 use Rattle.pth_model.proofs.Runs.{parts-more, between-none, between-more}
 use Rattle.pth_waits.proofs.Exits.{exit_ends, again_ends}
+use Rattle.pth_sched.proofs.Unasked.{IsUnasked, unasked_run, unasked_main}
 
 running_ended : (v : ℤ) → Running ≡ Ended v → ⊥
 running_ended v h = cc
@@ -152,6 +154,24 @@ module _ {P S H : Type 0} (f : P → Functions S H) (s : State P S H) (t : ℕ) 
   kill_on : EndsNot (kill s t).begin.verdict
   kill_on = refused_on EPERM (not (t == main)) Kills kills_on
 
+  state_on : (n : ℤ) → EndsNot (cancel_state s t n).begin.verdict
+  state_on n =
+      let old = Int (pos (or_nobody (entry_of s.control t)).cancel) in
+      refused_on EINVAL (not (n is_from pos 0 to pos 4)) (Says old) (says_on old)
+
+  cancel_on : (n : ℤ) → EndsNot (cancel f s t n).begin.verdict
+  cancel_on n =
+      let unknown = not (is_known s.control n) in
+      let may = n is main || is_dead (or_nobody (thread s.control n)).state in
+      refused_on EINVAL (n is t) (refused ESRCH when unknown otherwise refused EPERM when may otherwise says 1)
+      (refused_on ESRCH unknown (refused EPERM when may otherwise says 1) (refused_on EPERM may (says 1) (says_on (Int (pos 1)))))
+
+  abort_on : (n : ℤ) → EndsNot (abort f s t n).begin.verdict
+  abort_on n =
+      let unknown = not (is_known s.control n) in
+      refused_on EINVAL (n is t) (refused ESRCH when unknown otherwise refused EPERM when n is main otherwise says 1)
+      (refused_on ESRCH unknown (refused EPERM when n is main otherwise says 1) (refused_on EPERM (n is main) (says 1) (says_on (Int (pos 1)))))
+
   ctrl_on : (q : Query) → EndsNot (ctrl s q).begin.verdict
   ctrl_on (query.Favournew n) =
       let old = Int (pos (if s.control.scheduler.favour_new then 1 else 0)) in
@@ -246,6 +266,11 @@ exit_on : (b : Bool) (x v : ℤ) → (waits when b otherwise Ends x) ≡ Ends v 
 exit_on true x v h = absurd (cc h)
 exit_on false x v h = (cc, refl)
 
+-- a point ends a thread only where it is to be canceled
+point_on : (b : Bool) → b ≡ false → EndsNot (Ends canceled_value when b otherwise says 1)
+point_on false up = says_on (Int (pos 1))
+point_on true up = absurd (cc up)
+
 -- where main need not wait, it is alone
 alone_by : (p q : Bool) → p ≡ true → (p && not q) ≡ false → q ≡ true
 alone_by true true h k = refl
@@ -253,62 +278,69 @@ alone_by true false h k = absurd (cc k)
 alone_by false q h k = absurd (cc h)
 
 module _ {P S H : Type 0} (f : P → Functions S H) (t : ℕ) (v : ℤ) where
-  -- only an exit ends its thread, and only where it need not wait
-  exits : (s : State P S H) (c : Call) → (row_of f s t c).begin.verdict ≡ Ends v → (c ≡ call.Exit v) × (must_wait s.control t ≡ false)
+  -- of a thread that is not to be canceled, only an exit ends it, and only where it need not wait
+  abbrev IsUp : State P S H → Type 0
+  IsUp s = is_to_cancel (or_nobody (entry_of s.control t)) ≡ false
+
+  exits : (s : State P S H) (c : Call) → IsUp s → (row_of f s t c).begin.verdict ≡ Ends v → (c ≡ call.Exit v) × (must_wait s.control t ≡ false)
   unfolding row_of
-  exits s (call.Exit x) h = let e = exit_on (must_wait s.control t) x v h in (ap call.Exit e.0, e.1)
-  exits s call.Kill h = absurd (kill_on f s t v h)
-  exits s (call.Ctrl q) h = absurd (ctrl_on f s t q v h)
-  exits s call.AttrNew h = absurd (result_on (λ (n : ℕ). Int (pos n)) (create_answer s.control.attributes.objects s.control.attributes.made) v h)
-  exits s (call.AttrOf n) h = absurd (result_on (λ (m : ℕ). Int (pos m)) (of_answer (named s.control.threads.known n) s.control.attributes.objects s.control.attributes.made) v h)
-  exits s (call.AttrInit a) h = absurd (done_on (init_answer (object s.control a)) v h)
-  exits s (call.AttrSet a x) h = absurd (done_on (set_answer s.control.threads.known (object s.control a) x) v h)
-  exits s (call.AttrGet a field) h = absurd (result_on answer_of (get_answer s.control.threads.known (object s.control a) field) v h)
-  exits s (call.AttrDestroy a) h = absurd (done_on (destroy_answer (object s.control a)) v h)
-  exits s (call.Spawn b u a) h = absurd (spawn_on f s t b u a v h)
-  exits s (call.Suspend n) h = absurd (suspend_on f s t n v h)
-  exits s (call.Resume n) h = absurd (resume_on f s t n v h)
-  exits s (call.Yield n) h = absurd (yield_on f s t n v h)
-  exits s (call.Join n) h = absurd (join_on f s t n v h)
-  exits s (call.Nap n) h = absurd (rest_on f s t 1 n 1 v h)
-  exits s (call.Usleep n) h = absurd (rest_on f s t 1 n 0 v h)
-  exits s (call.Sleep n) h = absurd (rest_on f s t 1000000 n 0 v h)
-  exits s (call.Timeout n) h = absurd (timeout_on f s t n v h)
-  exits s (call.Read d n) h = absurd (read_on f s t d n None v h)
-  exits s (call.ReadEv d n e) h = absurd (read_on f s t d n (extra_ring e) v h)
-  exits s (call.Write d bytes) h = absurd (write_on f s t d bytes None v h)
-  exits s (call.WriteEv d bytes e) h = absurd (write_on f s t d bytes (extra_ring e) v h)
-  exits s (call.Accept d) h = absurd (accept_on f s t d None v h)
-  exits s (call.AcceptEv d e) h = absurd (accept_on f s t d (extra_ring e) v h)
-  exits s (call.Connect d) h = absurd (connect_on f s t d None v h)
-  exits s (call.ConnectEv d e) h = absurd (connect_on f s t d (extra_ring e) v h)
-  exits s (call.Select r w x l) h = absurd (select_on f s t r.0 w.0 x.0 l None v h)
-  exits s (call.SelectEv r w x l e) h = absurd (select_on f s t r.0 w.0 x.0 l (extra_ring e) v h)
-  exits s (call.Fdmode d m) h = absurd (fdmode_on f s t d m v h)
-  exits s (call.EvFd goals fd) h = absurd (make_on f s t (line.Fd goals fd) v h)
-  exits s (call.EvSelect r w x) h = absurd (make_on f s t (line.Select r w x) v h)
-  exits s (call.EvTime m) h = absurd (make_on f s t (line.Time m) v h)
-  exits s (call.EvMsg p) h = absurd (make_on f s t (line.Msg p) v h)
-  exits s (call.EvCond c) h = absurd (make_on f s t (line.Cond c) v h)
-  exits s (call.EvTid state n) h = absurd (make_on f s t (line.Tid state n) v h)
-  exits s (call.EvFunc c u l) h = absurd (make_on f s t (line.Func c u l) v h)
-  exits s (call.Chain e l) h = absurd (chain_on f s t e l v h)
-  exits s (call.EvConcat e g) h = absurd (result_on (λ (u : Unit {0}). Int e) (concat_answer s.control.events (number e) (number g)) v h)
-  exits s (call.EvIsolate e) h = absurd (result_on (λ o. Int (pos (number_or_none o))) (isolate_answer s.control.events (number e)) v h)
-  exits s (call.EvWalk e forward until) h = absurd (result_on (λ (x : EventId). Int (pos x.0)) (walk_answer s.control.events (number e) forward until) v h)
-  exits s (call.EvStatus e) h = absurd (result_on (λ x. Int (pos (status_number x))) (status_answer s.control.events (number e)) v h)
-  exits s (call.EvKind e) h = absurd (result_on (λ (n : ℕ). Int (pos n)) (kind_answer s.control.events (number e)) v h)
-  exits s (call.EvFree e all) h = absurd (done_on (free_answer s.control.events (number e)) v h)
-  exits s (call.KeyCreate d) h = absurd (result_on (λ (n : ℕ). Int (pos n)) (key_create_answer s.resources.store.keys) v h)
-  exits s (call.KeyDelete k) h = absurd (done_on (key_delete_answer s.resources.store.keys k) v h)
-  exits s (call.KeySet k x) h = absurd (done_on (key_set_answer s.resources.store.keys k) v h)
-  exits s (call.KeyGet k) h = absurd (result_on (λ (x : ℤ). Int x) (key_get_answer s.resources.store.keys t k) v h)
-  exits s (call.CleanupPush d x) h = absurd (done_on (push_answer s.resources.store.cleanups t) v h)
-  exits s (call.CleanupPop x) h = absurd (refused_on EINVAL (is_none (last_pushed f s t)) (says 1) (says_on (Int (pos 1))) v h)
-  exits s (call.Once o d x) h = absurd (refused_on EINVAL (not (is_below o once_limit)) (says 1) (says_on (Int (pos 1))) v h)
-  exits s (call.Wait e) h = absurd (wait_on f s t e v h)
-  exits s (call.Close d) h = absurd (close_on f s t d v h)
-  exits s c h = absurd (cc h)
+  exits s (call.Exit x) up h = let e = exit_on (must_wait s.control t) x v h in (ap call.Exit e.0, e.1)
+  exits s call.Kill up h = absurd (kill_on f s t v h)
+  exits s (call.CancelState n) up h = absurd (state_on f s t n v h)
+  exits s call.CancelPoint up h = absurd (point_on _ up v h)
+  exits s (call.Cancel n) up h = absurd (cancel_on f s t n v h)
+  exits s (call.Abort n) up h = absurd (abort_on f s t n v h)
+  exits s (call.Ctrl q) up h = absurd (ctrl_on f s t q v h)
+  exits s call.AttrNew up h = absurd (result_on (λ (n : ℕ). Int (pos n)) (create_answer s.control.attributes.objects s.control.attributes.made) v h)
+  exits s (call.AttrOf n) up h = absurd (result_on (λ (m : ℕ). Int (pos m)) (of_answer (named s.control.threads.known n) s.control.attributes.objects s.control.attributes.made) v h)
+  exits s (call.AttrInit a) up h = absurd (done_on (init_answer (object s.control a)) v h)
+  exits s (call.AttrSet a x) up h = absurd (done_on (set_answer s.control.threads.known (object s.control a) x) v h)
+  exits s (call.AttrGet a field) up h = absurd (result_on answer_of (get_answer s.control.threads.known (object s.control a) field) v h)
+  exits s (call.AttrDestroy a) up h = absurd (done_on (destroy_answer (object s.control a)) v h)
+  exits s (call.Spawn b u a) up h = absurd (spawn_on f s t b u a v h)
+  exits s (call.Suspend n) up h = absurd (suspend_on f s t n v h)
+  exits s (call.Resume n) up h = absurd (resume_on f s t n v h)
+  exits s (call.Yield n) up h = absurd (yield_on f s t n v h)
+  exits s (call.Join n) up h = absurd (join_on f s t n v h)
+  exits s (call.Nap n) up h = absurd (rest_on f s t 1 n 1 v h)
+  exits s (call.Usleep n) up h = absurd (rest_on f s t 1 n 0 v h)
+  exits s (call.Sleep n) up h = absurd (rest_on f s t 1000000 n 0 v h)
+  exits s (call.Timeout n) up h = absurd (timeout_on f s t n v h)
+  exits s (call.Read d n) up h = absurd (read_on f s t d n None v h)
+  exits s (call.ReadEv d n e) up h = absurd (read_on f s t d n (extra_ring e) v h)
+  exits s (call.Write d bytes) up h = absurd (write_on f s t d bytes None v h)
+  exits s (call.WriteEv d bytes e) up h = absurd (write_on f s t d bytes (extra_ring e) v h)
+  exits s (call.Accept d) up h = absurd (accept_on f s t d None v h)
+  exits s (call.AcceptEv d e) up h = absurd (accept_on f s t d (extra_ring e) v h)
+  exits s (call.Connect d) up h = absurd (connect_on f s t d None v h)
+  exits s (call.ConnectEv d e) up h = absurd (connect_on f s t d (extra_ring e) v h)
+  exits s (call.Select r w x l) up h = absurd (select_on f s t r.0 w.0 x.0 l None v h)
+  exits s (call.SelectEv r w x l e) up h = absurd (select_on f s t r.0 w.0 x.0 l (extra_ring e) v h)
+  exits s (call.Fdmode d m) up h = absurd (fdmode_on f s t d m v h)
+  exits s (call.EvFd goals fd) up h = absurd (make_on f s t (line.Fd goals fd) v h)
+  exits s (call.EvSelect r w x) up h = absurd (make_on f s t (line.Select r w x) v h)
+  exits s (call.EvTime m) up h = absurd (make_on f s t (line.Time m) v h)
+  exits s (call.EvMsg p) up h = absurd (make_on f s t (line.Msg p) v h)
+  exits s (call.EvCond c) up h = absurd (make_on f s t (line.Cond c) v h)
+  exits s (call.EvTid state n) up h = absurd (make_on f s t (line.Tid state n) v h)
+  exits s (call.EvFunc c u l) up h = absurd (make_on f s t (line.Func c u l) v h)
+  exits s (call.Chain e l) up h = absurd (chain_on f s t e l v h)
+  exits s (call.EvConcat e g) up h = absurd (result_on (λ (u : Unit {0}). Int e) (concat_answer s.control.events (number e) (number g)) v h)
+  exits s (call.EvIsolate e) up h = absurd (result_on (λ o. Int (pos (number_or_none o))) (isolate_answer s.control.events (number e)) v h)
+  exits s (call.EvWalk e forward until) up h = absurd (result_on (λ (x : EventId). Int (pos x.0)) (walk_answer s.control.events (number e) forward until) v h)
+  exits s (call.EvStatus e) up h = absurd (result_on (λ x. Int (pos (status_number x))) (status_answer s.control.events (number e)) v h)
+  exits s (call.EvKind e) up h = absurd (result_on (λ (n : ℕ). Int (pos n)) (kind_answer s.control.events (number e)) v h)
+  exits s (call.EvFree e all) up h = absurd (done_on (free_answer s.control.events (number e)) v h)
+  exits s (call.KeyCreate d) up h = absurd (result_on (λ (n : ℕ). Int (pos n)) (key_create_answer s.resources.store.keys) v h)
+  exits s (call.KeyDelete k) up h = absurd (done_on (key_delete_answer s.resources.store.keys k) v h)
+  exits s (call.KeySet k x) up h = absurd (done_on (key_set_answer s.resources.store.keys k) v h)
+  exits s (call.KeyGet k) up h = absurd (result_on (λ (x : ℤ). Int x) (key_get_answer s.resources.store.keys t k) v h)
+  exits s (call.CleanupPush d x) up h = absurd (done_on (push_answer s.resources.store.cleanups t) v h)
+  exits s (call.CleanupPop x) up h = absurd (refused_on EINVAL (is_none (last_pushed f s t)) (says 1) (says_on (Int (pos 1))) v h)
+  exits s (call.Once o d x) up h = absurd (refused_on EINVAL (not (is_below o once_limit)) (says 1) (says_on (Int (pos 1))) v h)
+  exits s (call.Wait e) up h = absurd (wait_on f s t e v h)
+  exits s (call.Close d) up h = absurd (close_on f s t d v h)
+  exits s c up h = absurd (cc h)
 
   exits_again : (s : State P S H) (b : Blocked) (c : Call) → ((row_of f s t c).again b).verdict ≡ Ends v → (c ≡ call.Exit v) × (must_wait s.control t ≡ false)
   unfolding row_of
@@ -385,23 +417,24 @@ module _ {P S H : Type 0} (f : P → Functions S H) (t : ℕ) (v : ℤ) where
   of_exit : (s : State P S H) (c : Call) → (c ≡ call.Exit v) × (must_wait s.control t ≡ false) → EndsIt s.control (begun f t c s).told.marks
   of_exit s c x = subst (λ (y : Call). EndsIt s.control (begun f t y s).told.marks) (sym x.0) (ends_by s.control _ s x.1 (ap (λ (w : Went P S H). w.told.marks) (exit_ends f s t v x.1)))
 
-  exit_began : (s : State P S H) (c : Call) → (begun f t c s).next ≡ next.Ended v → (c ≡ call.Exit v) × (must_wait s.control t ≡ false)
+  exit_began : (s : State P S H) (c : Call) → IsUp s → (begun f t c s).next ≡ next.Ended v → (c ≡ call.Exit v) × (must_wait s.control t ≡ false)
   unfolding begun
-  exit_began s call.Plain e = absurd (cc e)
-  exit_began s (call.Note x) e = absurd (cc e)
-  exit_began s c e = exits s c (begun_verdict c (row_of f s t c).begin.verdict (effect_of (row_of f s t c).begin) s e)
+  exit_began s call.Plain up e = absurd (cc e)
+  exit_began s (call.Note x) up e = absurd (cc e)
+  exit_began s c up e = exits s c up (begun_verdict c (row_of f s t c).begin.verdict (effect_of (row_of f s t c).begin) s e)
 
-  begun_ends : (c : Call) (s : State P S H) → (begun f t c s).next ≡ next.Ended v → EndsIt s.control (begun f t c s).told.marks
-  begun_ends c s e = of_exit s c (exit_began s c e)
+  begun_ends : (c : Call) (s : State P S H) → IsUp s → (begun f t c s).next ≡ next.Ended v → EndsIt s.control (begun f t c s).told.marks
+  begun_ends c s up e = of_exit s c (exit_began s c up e)
 
-  resumed_as : (s : State P S H) → resumed f t s ≡ resumed_by f t (blocked_of s.control t) s
-  unfolding resumed
-  resumed_as s = refl
+  resumed_as : (s : State P S H) → IsUp s → resumed f t s ≡ tried_again f t s
+  unfolding resumed may_be_canceled
+  resumed_as s up = ap (λ (b : Bool). resumed_where f t (b && is_at_point (blocked_of s.control t)) s) up
 
-  resumed_ends : (s : State P S H) → (resumed f t s).next ≡ next.Ended v → EndsIt s.control (resumed f t s).told.marks
-  resumed_ends s e = by_blocked (blocked_of s.control t) refl (ap (λ (w : Went P S H). w.next) (sym (resumed_as s)) ∙ e)
+  tried_ends : (s : State P S H) → (tried_again f t s).next ≡ next.Ended v → EndsIt s.control (tried_again f t s).told.marks
+  unfolding tried_again
+  tried_ends s e = by_blocked (blocked_of s.control t) refl e
     where
-      by_blocked : (o : Option Blocked) → blocked_of s.control t ≡ o → (resumed_by f t o s).next ≡ next.Ended v → EndsIt s.control (resumed f t s).told.marks
+      by_blocked : (o : Option Blocked) → blocked_of s.control t ≡ o → (resumed_by f t o s).next ≡ next.Ended v → EndsIt s.control (tried_again f t s).told.marks
       by_blocked None at h = absurd (cc h)
       by_blocked (Some b) at h =
           let come = has_event_come s.control.events (ring_given b.call) in
@@ -409,14 +442,19 @@ module _ {P S H : Type 0} (f : P → Functions S H) (t : ℕ) (v : ℤ) where
           let x = exits_again s b b.call (come_verdict come ((row_of f s t b.call).again b) (tried_verdict b a.verdict (effect_of a s).state h)) in
           ends_by s.control _ s x.1 (ap (λ (w : Went P S H). w.told.marks) (again_ends f s t v b at x.0 x.1))
 
-  steps_ends : (s : State P S H) → (steps_on f t s).next ≡ next.Ended v → EndsIt s.control (steps_on f t s).told.marks
+  resumed_ends : (s : State P S H) → IsUp s → (resumed f t s).next ≡ next.Ended v → EndsIt s.control (resumed f t s).told.marks
+  resumed_ends s up e =
+      let tried = tried_ends s (ap (λ (w : Went P S H). w.next) (sym (resumed_as s up)) ∙ e) in
+      record { free = tried.free; before = tried.before; told = ap (λ (w : Went P S H). w.told.marks) (resumed_as s up) ∙ tried.told }
+
+  steps_ends : (s : State P S H) → IsUp s → (steps_on f t s).next ≡ next.Ended v → EndsIt s.control (steps_on f t s).told.marks
   unfolding goes_on is_alone
-  steps_ends s e = by_progress (blocked_of s.control t) (s.control.threads.progress t) e
+  steps_ends s up e = by_progress (blocked_of s.control t) (s.control.threads.progress t) e
     where
       by_progress : (b : Option Blocked) (p : Option (Progress S)) → (steps_by f t b p s).next ≡ next.Ended v → EndsIt s.control (steps_by f t b p s).told.marks
-      by_progress (Some b) p h = resumed_ends s h
-      by_progress None None h = resumed_ends s h
-      by_progress None (Some p) h = (let b = begun_ends _ _ h in record { free = b.free; before = b.before; told = b.told })
+      by_progress (Some b) p h = resumed_ends s up h
+      by_progress None None h = resumed_ends s up h
+      by_progress None (Some p) h = (let b = begun_ends _ _ up h in record { free = b.free; before = b.before; told = b.told })
 
 -- who is main, and whose call ended it
 turn_ended : (t : ℕ) (v : ℤ) (n : Next) (x : Turn) → x.outcome ≡ Running → (turn_after t n x).outcome ≡ Ended v → ((t == main) ≡ true) × (n ≡ next.Ended v)
@@ -440,35 +478,36 @@ module _ {P S H : Type 0} where
     before : List Mark
     told : marks ≡ before ++ End (tid main) v ∷ []
 
-  step_ends : (f : P → Functions S H) (x : Turn) (s : State P S H) (t : ℕ) (v : ℤ) → x.outcome ≡ Running → (steps f x t s).turn.outcome ≡ Ended v → (t ≡ main) × (is_alone s.control t ≡ true) × ((before : List Mark) × ((steps f x t s).marks ≡ before ++ End (tid t) v ∷ []))
+  step_ends : (f : P → Functions S H) (x : Turn) (s : State P S H) (t : ℕ) (v : ℤ) → IsUnasked s.control → x.outcome ≡ Running → (steps f x t s).turn.outcome ≡ Ended v → (t ≡ main) × (is_alone s.control t ≡ true) × ((before : List Mark) × ((steps f x t s).marks ≡ before ++ End (tid t) v ∷ []))
   unfolding steps
-  step_ends f x s t v on e =
+  step_ends f x s t v unasked on e =
       let main_is = turn_ended t v (steps_on f t s).next (record x { steps = x.steps + 1 }) on e in
-      let ends = steps_ends f t v s main_is.1 in
-      (same_means t main main_is.0, alone_by (t == main) (is_alone s.control t) main_is.0 ends.free, (ends.before, ends.told))
+      let same = same_means t main main_is.0 in
+      let ends = steps_ends f t v s (subst (λ (u : ℕ). is_to_cancel (or_nobody (entry_of s.control u)) ≡ false) (sym same) (unasked_main s.control unasked)) main_is.1 in
+      (same, alone_by (t == main) (is_alone s.control t) main_is.0 ends.free, (ends.before, ends.told))
 
-  part_ends : (f : P → Functions S H) (x : Turn) (s : State P S H) (v : ℤ) (p : Part) → next_part s x ≡ p → x.outcome ≡ Running → (part_by f x s p).turn.outcome ≡ Ended v → EndsMain x s (part_by f x s p).marks v
+  part_ends : (f : P → Functions S H) (x : Turn) (s : State P S H) (v : ℤ) (p : Part) → IsUnasked s.control → next_part s x ≡ p → x.outcome ≡ Running → (part_by f x s p).turn.outcome ≡ Ended v → EndsMain x s (part_by f x s p).marks v
   unfolding moves takes closes
-  part_ends f x s v Move comes on e = by_moment (moment f s) e
+  part_ends f x s v Move unasked comes on e = by_moment (moment f s) e
     where
       by_moment : (o : Option ℕ) → (moves_by f x o s).turn.outcome ≡ Ended v → EndsMain x s (moves_by f x o s).marks v
       by_moment None h = absurd (cc h)
       by_moment (Some m) h = absurd (running_ended v (sym on ∙ h))
-  part_ends f x s v Take comes on e = by_next (chosen (readies_new s.control).scheduler.preferred (queue (readies_new s.control) queues.Ready)) e
+  part_ends f x s v Take unasked comes on e = by_next (chosen (readies_new s.control).scheduler.preferred (queue (readies_new s.control) queues.Ready)) e
     where
       by_next : (o : Option ℕ) → (takes_by x o (controlled readies_new s)).turn.outcome ≡ Ended v → EndsMain x s (takes_by x o (controlled readies_new s)).marks v
       by_next None h = absurd (running_ended v (sym on ∙ h))
       by_next (Some t) h = absurd (running_ended v (sym on ∙ h))
-  part_ends f x s v (Step t) comes on e =
-      let k = step_ends f x s t v on e in
+  part_ends f x s v (Step t) unasked comes on e =
+      let k = step_ends f x s t v unasked on e in
       record { step = comes ∙ ap Step k.0; alone = subst (λ (u : ℕ). is_alone s.control u ≡ true) k.0 k.1; before = k.2.0; told = k.2.1 ∙ ap (λ (u : ℕ). k.2.0 ++ End (tid u) v ∷ []) k.0 }
-  part_ends f x s v (Close t) comes on e = absurd (running_ended v (sym on ∙ e))
-  part_ends f x s v Halt comes on e = absurd (running_ended v (sym on ∙ e))
+  part_ends f x s v (Close t) unasked comes on e = absurd (running_ended v (sym on ∙ e))
+  part_ends f x s v Halt unasked comes on e = absurd (running_ended v (sym on ∙ e))
 
   module _ (f : P → Functions S H) (g : Given P) (i : ℕ) (v : ℤ) (on : (run f g i).turn.outcome ≡ Running) (e : (run f g (i + 1)).turn.outcome ≡ Ended v) where
     run_ends : EndsMain (run f g i).turn (run f g i).state (part f (run f g i).turn (run f g i).state).marks v
     unfolding part
-    run_ends = part_ends f (run f g i).turn (run f g i).state v (next_part (run f g i).state (run f g i).turn) refl on (subst (λ (x : Course P S H). x.turn.outcome ≡ Ended v) (parts-more f (start f g) i) e)
+    run_ends = part_ends f (run f g i).turn (run f g i).state v (next_part (run f g i).state (run f g i).turn) (unasked_run f g i) refl on (subst (λ (x : Course P S H). x.turn.outcome ≡ Ended v) (parts-more f (start f g) i) e)
 
     pub ends_step : next_part (run f g i).state (run f g i).turn ≡ Step main
     ends_step = run_ends.step

@@ -14,4 +14,5 @@ pub mod Showing
 pub mod Stopping
 pub mod Times
 pub mod Turning
+pub mod Unasked
 pub mod Waking

@@ -19,6 +19,7 @@ use Rattle.pth_model.specs.ThreadEnds.{is_alone}
 use Rattle.pth_world.specs.Shows.{Shows}
 use Rattle.pth_world.specs.World.{WorldOf}
 use Rattle.pth_world.proofs.Events.{events_show}
+use Rattle.pth_model.specs.Cancellation.{may_be_canceled}
 use Rattle.pth_waits.specs.Waking.{has_come, is_due}
 use Rattle.pth_waits.proofs.Waking.{due_is}
 
@@ -68,8 +69,12 @@ module _ {P S H : Type 0} (k : Control P S H) (xs : List ℕ) where
   has_come_still t Nothing = refl
   has_come_still t a = refl
 
+  canceled_still : (t : ℕ) → may_be_canceled seen t ≡ may_be_canceled k t
+  unfolding may_be_canceled
+  canceled_still t = refl
+
   due_still : (t : ℕ) → is_due seen t ≡ is_due k t
-  due_still t = ap₂ (λ (a b : Bool). a || b) (has_come_still t (awaits_in (blocked_of k t))) (come_for_still t)
+  due_still t = ap₂ (λ (a b : Bool). a || b) (ap₂ (λ (a b : Bool). a || b) (has_come_still t (awaits_in (blocked_of k t))) (come_for_still t)) (canceled_still t)
 
   -- one look, and then another, are one look
   look_twice : (a b : Bool) (o : Option Event) → (if b then option_map (looked_at seen) (if a then look o else o) else (if a then look o else o)) ≡ (if a || b then look o else o)

@@ -141,32 +141,38 @@ module _ {P S H : Type 0} (f : P → Functions S H) (t n : ℕ) where
   unfolding resumes
   resumed_at u k is = returned_at u k (queue_for (or_nobody (entry_of k u)).state) is
 
-  left_at : (v : ℤ) (k : Control P S H) → IsAt k → IsAt (leaves t v k)
+  left_at : (u : ℕ) (v : ℤ) (k : Control P S H) → IsAt k → IsAt (leaves u v k)
   unfolding leaves is_dead_with enters sets leaves_queue forgets
-  left_at v k is = by_joinable (or_nobody (entry_of k t)).joinable
+  left_at u v k is = by_joinable (or_nobody (entry_of k u)).joinable
     where
-      by_joinable : (b : Bool) → IsAt (((if b then is_dead_with t v else removes t) and stops_running t) k)
+      by_joinable : (b : Bool) → IsAt (((if b then is_dead_with u v else removes u) and stops_running u) k)
       by_joinable true = is
       by_joinable false = is
 
   calls_stay : KeptBy f t IsAt
   unfolding goes_on makes enters sets leaves_queue forgets suspends vanish_all_but
   calls_stay = record {
+    calls = record {
+      shares = λ h k is. is;
+      spawned = λ b v of k is. is;
+      suspended = λ u k other lives is. is;
+      resumed = λ u k other is. resumed_at u k is;
+      removed = λ n u k taken is. is;
+      favoured = λ b k is. is;
+      changed = λ v u c k set is. is;
+      added = λ x k is. is;
+      exchanged = λ u o k is. is;
+      evented = λ x k none is. is;
+      described = λ ds k is. is;
+      used = λ o k is. is;
+      requested = λ u b k apart is. is;
+    };
     goes = λ u g k is. is;
-    shares = λ h k is. is;
-    spawned = λ b v of k is. is;
-    suspended = λ u k other is. is;
-    resumed = λ u k other is. resumed_at u k is;
-    preferred = λ u k known is. is;
-    removed = λ u k is. is;
-    favoured = λ b k is. is;
-    changed = λ u c k is. is;
-    added = λ x k is. is;
-    exchanged = λ u o k is. is;
-    evented = λ x k is. is;
-    described = λ ds k is. is;
-    used = λ o k is. is;
-    left = left_at;
+    claimed = λ x k is. is;
+    preferred = λ u k runs is. is;
+    left = left_at t;
+    ended = λ u v k other up is. left_at u v k is;
+    dropped = λ u k other dead is. is;
     vanished = λ k is. is;
   }
 
