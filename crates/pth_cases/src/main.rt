@@ -1,7 +1,8 @@
 //! Plays scripts in memory, and prints what each run writes and the status that it comes to.
 //!
-//! Each word of the program is one command line of `pth_play`, and the last of its words names a file. A `.texts` has many
-//! scripts, one in each line (`escapes`); another file is one script.
+//! Each word of the program is one command line of `pth_play`, and the last of its words names a file. A `.texts` and a `.runs`
+//! have many scripts, one in each line (`escapes`); another file is one script. Of a `.texts` the last line of each run is printed,
+//! and of the others all lines.
 #![tactic(auto)]
 
 mod escapes;
@@ -22,26 +23,35 @@ fn print_run(rt: &(impl Print + AllocGlobal), line: &str, script: &str) -> Resul
     Ok(())
 }
 
-/// Prints for each text of a list its status and the last line that its run writes. A line that begins with `--` is a
-/// heading.
-fn print_texts(rt: &(impl Print + AllocGlobal), line: &str, list: &str) -> Result<()> {
+/// Which of the lines that a run writes are printed.
+#[derive(Clone, Copy)]
+enum Shown {
+    All,
+    Last,
+}
+
+/// Prints what comes of each text of a list, and its status. A line that begins with `--` is a heading.
+fn print_list(rt: &(impl Print + AllocGlobal), line: &str, list: &str, shown: Shown) -> Result<()> {
     println!(rt; "== {line}")?;
     for text in list.lines() {
         if text.starts_with("--") {
             println!(rt; "{text}")?;
         } else if !text.is_empty() {
-            print_text(rt, line, text)?;
+            print_text(rt, line, text, shown)?;
         }
     }
     Ok(())
 }
 
-fn print_text(rt: &(impl Print + AllocGlobal), line: &str, text: &str) -> Result<()> {
+fn print_text(rt: &(impl Print + AllocGlobal), line: &str, text: &str, shown: Shown) -> Result<()> {
     let script = unescaped(rt.alloc(), text)?;
     let played = play_script(rt.alloc(), line, script.as_str()).map_err(|_| AllocError)?;
     let written = played.written(rt.alloc())?;
     let last = written.lines().last().unwrap_or("");
-    println!(rt; "{text} -> {} {last}", played.status)?;
+    match shown {
+        Shown::All => println!(rt; "{text}\n{written}status {}", played.status)?,
+        Shown::Last => println!(rt; "{text} -> {} {last}", played.status)?,
+    }
     Ok(())
 }
 
@@ -49,7 +59,9 @@ fn print_file<R: Print + Files + AllocGlobal>(rt: &R, line: &str) -> Result<()> 
     let name = last_word(line);
     let content = fs::read_to_string(rt, name)?;
     if name.ends_with(".texts") {
-        print_texts(rt, line, content.as_str())
+        print_list(rt, line, content.as_str(), Shown::Last)
+    } else if name.ends_with(".runs") {
+        print_list(rt, line, content.as_str(), Shown::All)
     } else {
         print_run(rt, line, content.as_str())
     }
