@@ -8,8 +8,10 @@ pub fn code(errno: Errno) -> i64 {
     match errno {
         Errno::ENOENT => -2,
         Errno::EAGAIN => -11,
+        Errno::EACCES => -13,
         Errno::EBUSY => -16,
         Errno::EINVAL => -22,
+        Errno::EDEADLK => -35,
         _ => -1,
     }
 }

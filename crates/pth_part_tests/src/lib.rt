@@ -20,6 +20,8 @@ mod kernels;
 #[cfg(test)]
 mod lines;
 #[cfg(test)]
+mod locks;
+#[cfg(test)]
 mod numbered;
 #[cfg(test)]
 mod objects;

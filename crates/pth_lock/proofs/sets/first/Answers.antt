@@ -1,0 +1,6 @@
+use Rattle.std.proofs.Common.{arith}
+use Rattle.pth_lock.proofs.Bits.{contains-first}
+use Rattle.pth_lock.proofs.sets.first.Goals as goal
+
+pub returns-clause-member : goal.returns-clause-member
+returns-clause-member c = contains-first c.args.set c.requires (omega arith)

@@ -1,0 +1,8 @@
+//! What threads lock, by slot: mutexes and read-write locks.
+#![tactic(auto)]
+
+pub mod holds;
+pub mod mutexes;
+mod objects;
+pub mod rwlocks;
+mod sets;
