@@ -68,7 +68,5 @@ pub fn is_to_wake<P: Program>(w: &mut World<P>, slot: Slot, any_dead: bool) -> b
     ensures made { w.new.events.made ≡ w.old.events.made }
     ensures same { w.new ≡ record w.old { events = w.new.events } }
 {
-    let canceled = may_be_canceled_at(w, slot);
-    let come = has_come_for(w, slot, any_dead);
-    come || canceled
+    has_come_for(w, slot, any_dead) || may_be_canceled_at(w, slot)
 }
