@@ -43,3 +43,10 @@ module _ (set k : ℕ) (low : k < 64) where
 -- the first object of a set
 pub contains-first : (set : ℕ) → 0 < set → set < 2 ^ 64 → contains set (count_trailing_zeros 64 set) ≡ true
 contains-first set some fits = ap (λ (b : ℕ). b == 1) (bit_at-trailing_zeros w64 set some fits).1
+
+pub contains-before_first : (set : ℕ) → 0 < set → set < 2 ^ 64 → (k : ℕ) → k < count_trailing_zeros 64 set → contains set k ≡ false
+contains-before_first set some fits k before = ap (λ (b : ℕ). b == 1) ((bit_at-trailing_zeros w64 set some fits).2 k before)
+
+-- there are no objects from 64 on
+pub contains-past : (set : ℕ) → set < 2 ^ 64 → (k : ℕ) → 64 ≤ k → contains set k ≡ false
+contains-past set fits k high = ap (λ (b : ℕ). b == 1) (bit_at_above set 64 k fits high)

@@ -5,4 +5,4 @@ pub mod holds;
 pub mod mutexes;
 mod objects;
 pub mod rwlocks;
-mod sets;
+pub mod sets;

@@ -1,6 +1,6 @@
-//! Sets of objects, as the bits of a number, and one such set for each slot.
+//! Sets of objects, as the bits of a number: bit k stands for object k. And one such set for each slot.
 
-ghost use Rattle.std.specs.Prelude.{◌≡◌, ◌<◌, true, false, length, IfOk};
+ghost use Rattle.std.specs.Prelude.{◌≡◌, ◌<◌, ℕ, true, false, length, IfOk};
 ghost use Rattle.pth_base.specs.Limits.{thread_limit};
 ghost use Rattle.pth_base.specs.Table.{put};
 ghost use Rattle.pth_lock.specs.Objects.{object_limit};
@@ -28,8 +28,8 @@ fn with(set: u64, k: usize) -> u64
     set | 1 << k
 }
 
-// The set without an object.
-pub(crate) fn without(set: u64, k: usize) -> u64
+/// The set without an object.
+pub fn without(set: u64, k: usize) -> u64
     requires { k < object_limit }
     ensures objects { contains result ≡ put (contains set) k false }
     ensures less { contains set k ≡ true → result < set }
@@ -37,11 +37,12 @@ pub(crate) fn without(set: u64, k: usize) -> u64
     set & !(1 << k)
 }
 
-// The first object of a set that is not empty.
-pub(crate) fn first(set: u64) -> usize
+/// The least object of a set that is not empty.
+pub fn first(set: u64) -> usize
     requires { 0 < set }
     ensures low { result < object_limit }
     ensures member { contains set result ≡ true }
+    ensures least { (k : ℕ) → k < result → contains set k ≡ false }
 {
     set.trailing_zeros() as usize
 }

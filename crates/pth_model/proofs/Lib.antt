@@ -1,3 +1,5 @@
+pub mod Nothing
+pub mod Awaiting
 pub mod Orders
 pub mod Queues
 pub mod Runs

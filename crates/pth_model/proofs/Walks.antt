@@ -43,7 +43,10 @@ use Rattle.pth_model.specs.Row.{unless_refused, refuses, effect_of}
 use Rattle.pth_model.specs.ThreadControl.{thread, is_known, may_run, spawns, values_for, or_first, suspends, resumes, suspend, resume, to_join, takes_joined}
 use Rattle.pth_model.specs.LibraryControl.{ctrl, vanish_all_but}
 use Rattle.pth_model.specs.AttributeHandling.{object, sets_field, sets_value}
-use Rattle.pth_model.specs.Ending.{ending, undoes_wait, runs_cleanups, runs_destructors, leaves, runs_each, destructs, destructs_by, next_destructor, round_limit, first_round}
+use Rattle.pth_lock.specs.Objects.{object_limit}
+use Rattle.pth_lock.specs.Mutexes.{has}
+use Rattle.pth_lock.specs.RwLocks.{holds}
+use Rattle.pth_model.specs.Ending.{ending, undoes_wait, runs_cleanups, runs_destructors, gives_mutexes, gives_locks, gives_all, leaves, runs_each, destructs, destructs_by, next_destructor, round_limit, first_round}
 use Rattle.pth_model.specs.declared.destructors.Due.{Due}
 use Rattle.pth_model.specs.declared.destructors.Round.{Round}
 use Rattle.pth_model.specs.Acts.{acts, acts_from, act_limit, row_of_act, goes_on_after, runs_handler}
@@ -245,7 +248,12 @@ module _ {P S H : Type 0} (f : P → Functions S H) (t : ℕ) (Q : Control P S H
   -- an act changes nothing of the control
   act_keeps : (x : Act) → Runs (acts t x)
   unfolding acts
-  act_keeps (act.SetKey k v) s q = by_refusal (refuses (row_of_act s (act.SetKey k v)).begin.verdict)
+  act_keeps (act.SetKey k v) s q = by_refusal (refuses (row_of_act s t (act.SetKey k v)).begin.verdict)
+    where
+      by_refusal : (b : Bool) → Q (unless_refused b (changes nothing) s).state.control
+      by_refusal true = q
+      by_refusal false = q
+  act_keeps (act.Release m) s q = by_refusal (refuses (row_of_act s t (act.Release m)).begin.verdict)
     where
       by_refusal : (b : Bool) → Q (unless_refused b (changes nothing) s).state.control
       by_refusal true = q
@@ -467,12 +475,34 @@ module _ {P S H : Type 0} (f : P → Functions S H) (t : ℕ) (Q : Control P S H
   unfolding stops_waiting goes_on
   stops_known u k = back_known (ring_held (blocked_of k u)) (is_blocked_by u None k)
 
-  -- u's wait is undone, and its handlers and destructors run: no record changes
-  ran_keeps : (u : ℕ) (s : State P S H) → Q s.control → let k = ((undoes_wait u and_then runs_cleanups f u and_then runs_destructors f u) s).state.control in Q k × (k.threads.known ≡ s.control.threads.known)
+  -- what u has is given up: nothing of the control changes
+  mutexes_given : (u n m : ℕ) (s : State P S H) → (gives_mutexes u n m s).state.control ≡ s.control
+  unfolding gives_mutexes
+  mutexes_given u zero m s = refl
+  mutexes_given u (suc n) m s = mutexes_given u n (m + 1) _ ∙ by_having (has u (s.resources.store.mutexes m))
+    where
+      by_having : (b : Bool) → (where_so b (tells (mark.GaveMutex (tid u) m)) s).state.control ≡ s.control
+      by_having true = refl
+      by_having false = refl
+
+  locks_given : (u n l : ℕ) (s : State P S H) → (gives_locks u n l s).state.control ≡ s.control
+  unfolding gives_locks
+  locks_given u zero l s = refl
+  locks_given u (suc n) l s = locks_given u n (l + 1) _ ∙ by_holding (holds s.resources.store.rw_locks u l)
+    where
+      by_holding : (b : Bool) → (where_so b (tells (mark.GaveLock (tid u) l)) s).state.control ≡ s.control
+      by_holding true = refl
+      by_holding false = refl
+
+  all_given : (u : ℕ) (s : State P S H) → (gives_all u s).state.control ≡ s.control
+  all_given u s = locks_given u object_limit 0 _ ∙ mutexes_given u object_limit 0 s
+
+  -- u's wait is undone, its handlers and destructors run, and what it has is given up: no record changes
+  ran_keeps : (u : ℕ) (s : State P S H) → Q s.control → let k = ((undoes_wait u and_then runs_cleanups f u and_then runs_destructors f u and_then gives_all u) s).state.control in Q k × (k.threads.known ≡ s.control.threads.known)
   ran_keeps u s q =
       let R : Control P S H → Type 0 = λ k. Q k × (k.threads.known ≡ s.control.threads.known) in
       let sharing : (h : H) (k : Control P S H) → R k → R (record k { shared = h }) = λ h k r. (kept.calls.shares h k r.0, r.1) in
-      destructs_keep f u R sharing (round_limit * key_limit) first_round _ (each_keep f u R sharing (s.resources.store.cleanups u) _ (stops_keeps u s.control q, stops_known u s.control))
+      subst R (sym (all_given u _)) (destructs_keep f u R sharing (round_limit * key_limit) first_round _ (each_keep f u R sharing (s.resources.store.cleanups u) _ (stops_keeps u s.control q, stops_known u s.control)))
 
   ending_keeps : (v : ℤ) (s : State P S H) → Q s.control → Q (ending f t v s).state.control
   unfolding ending

@@ -13,6 +13,7 @@ use Rattle.pth_model.specs.Transition.{Piece, silent, nothing, changes, tells, t
 use Rattle.pth_model.specs.Changes.{shares}
 use Rattle.pth_model.specs.Row.{Row, Attempt, effect_of, ◌changing◌, unbuilt}
 use Rattle.pth_model.specs.KeyStorage.{key_set}
+use Rattle.pth_model.specs.Mutexes.{mutex_release}
 
 -- how many acts a handler may have
 abbrev pub act_limit : ℕ
@@ -27,21 +28,21 @@ answer_in (Ends v) = answer.None
 answer_in Kills = answer.None
 
 module _ {P S H : Type 0} where
-  -- the row of an act: a note and a shared value that is set call nothing, and the calls of the others are not built yet
-  abbrev pub row_of_act : State P S H → Act → Row P S H
-  row_of_act s (act.Note v) = Says answer.None changing nothing
-  row_of_act s (act.Set n v) = Says answer.None changing nothing
-  row_of_act s (act.Release m) = unbuilt
-  row_of_act s (act.Notify c v) = unbuilt
-  row_of_act s (act.Put p v) = unbuilt
-  row_of_act s (act.SetKey k v) = key_set s k
+  -- the row of an act of t: a note and a shared value that is set call nothing, and the calls of two are not built yet
+  abbrev pub row_of_act : State P S H → ℕ → Act → Row P S H
+  row_of_act s t (act.Note v) = Says answer.None changing nothing
+  row_of_act s t (act.Set n v) = Says answer.None changing nothing
+  row_of_act s t (act.Release m) = mutex_release s t m
+  row_of_act s t (act.Notify c v) = unbuilt
+  row_of_act s t (act.Put p v) = unbuilt
+  row_of_act s t (act.SetKey k v) = key_set s k
 
   abbrev pub acts_by : ℕ → Act → Attempt P S H → Piece P S H
   acts_by t x a = effect_of a and_then tells (Acted (tid t) x (answer_in a.verdict))
 
   -- an act of t is made, and told with its answer
   unfoldable pub acts : ℕ → Act → Piece P S H
-  acts t x s = acts_by t x (row_of_act s x).begin s
+  acts t x s = acts_by t x (row_of_act s t x).begin s
 
   -- after a look at a handler: its act, if any, and then what follows
   abbrev pub goes_on_after : ℕ → Option Act → Piece P S H → Piece P S H

@@ -3,7 +3,7 @@ use Rattle.std.specs.Prelude.{ℕ, ◌<◌, ◌^◌, ℤ, length, Option, Some, 
 use Rattle.pth_base.specs.declared.call.Call.{Call}
 use Rattle.pth_base.specs.declared.call.Call.TheVariants as call
 use Rattle.pth_model.specs.declared.awaits.Awaits.{Awaits}
-use Rattle.pth_model.specs.declared.awaits.Awaits.TheVariants.{Nothing, Alone, Death, AnyDeath, Moment, Ring, Reading, Writing, Connection, ConnectAnswer, Selection}
+use Rattle.pth_model.specs.declared.awaits.Awaits.TheVariants.{Nothing, Alone, Death, AnyDeath, Moment, Ring, Reading, Writing, Connection, ConnectAnswer, Selection, Mutex, Lock}
 use Rattle.pth_model.specs.declared.blocked.Blocked.{Blocked}
 use Rattle.pth_numbered.specs.Operands.{is_zero}
 use Rattle.pth_model.specs.declared.awaits.Awaited.{Awaited}
@@ -32,6 +32,12 @@ awaited_of_descriptors (call.Select r w x l) moment written = Selection r w x (d
 awaited_of_descriptors (call.SelectEv r w x l e) moment written = Selection r w x (deadline_by l moment)
 awaited_of_descriptors c moment written = Nothing
 
+-- pth_mutex_acquire waits for its mutex, and pth_rwlock_acquire for its lock
+abbrev pub awaited_of_locks : Call → (moment written : ℕ) → Awaits
+awaited_of_locks (call.MutexAcquire m v e) moment written = Mutex m
+awaited_of_locks (call.RwAcquire l write v e) moment written = Lock l write
+awaited_of_locks c moment written = awaited_of_descriptors c moment written
+
 -- pth_exit waits to be alone; pth_nap, pth_usleep and pth_sleep wait for their moment, and pth_wait for its ring
 abbrev pub awaited_by : Call → (moment written : ℕ) → Awaits
 awaited_by (call.Exit v) moment written = Alone
@@ -40,7 +46,7 @@ awaited_by (call.Nap n) moment written = Moment moment
 awaited_by (call.Usleep n) moment written = Moment moment
 awaited_by (call.Sleep n) moment written = Moment moment
 awaited_by (call.Wait e) moment written = Ring e
-awaited_by c moment written = awaited_of_descriptors c moment written
+awaited_by c moment written = awaited_of_locks c moment written
 
 -- the bytes of a call are counted below 2^63
 abbrev pub IsCounted : Call → Type 0

@@ -50,6 +50,8 @@ is_point (call.Connect d) = true
 is_point (call.ConnectEv d e) = true
 is_point (call.Select r w x l) = true
 is_point (call.SelectEv r w x l e) = true
+is_point (call.MutexAcquire m v e) = true
+is_point (call.RwAcquire l write v e) = true
 is_point c = false
 
 abbrev pub is_at_point : Option Blocked → Bool

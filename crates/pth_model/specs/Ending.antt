@@ -2,15 +2,18 @@
 use Rattle.std.specs.Prelude.{ℕ, zero, suc, ◌+◌, ◌*◌, ◌==◌, nat_lt, ℤ, pos, false, List, [], ◌∷◌, Option, Some, None, if◌then◌else◌}
 use Rattle.pth_base.specs.Program.{Functions}
 use Rattle.pth_base.specs.declared.ids.HandlerId.{HandlerId}
-use Rattle.pth_base.specs.declared.mark.Mark.TheVariants.{Destructor, Ended}
+use Rattle.pth_base.specs.declared.mark.Mark.TheVariants.{Destructor, GaveMutex, GaveLock, Ended}
 use Rattle.pth_base.specs.declared.thread.ThreadState.TheVariants as state
 use Rattle.pth_queue.specs.declared.queue.Queue.TheVariants as queue
 use Rattle.pth_threads.specs.declared.entry.Change.TheVariants as change
+use Rattle.pth_lock.specs.Objects.{object_limit}
+use Rattle.pth_lock.specs.Mutexes.{has}
+use Rattle.pth_lock.specs.RwLocks.{holds}
 use Rattle.pth_store.specs.Cleanups.{PushedHandler}
 use Rattle.pth_store.specs.Keys.{Tables, key_limit, first_live}
 use Rattle.pth_model.specs.declared.destructors.Due.{Due}
 use Rattle.pth_model.specs.declared.destructors.Round.{Round}
-use Rattle.pth_model.specs.Transition.{Piece, Change, silent, changes, tells, tid, ◌and◌, ◌and_then◌}
+use Rattle.pth_model.specs.Transition.{Piece, Change, silent, changes, tells, tid, where_so, ◌and◌, ◌and_then◌}
 use Rattle.pth_model.specs.Changes.{sets, enters, leaves_queue, removes, runs_now, entry_of, or_nobody}
 use Rattle.pth_model.specs.RingWaits.{stops_waiting}
 use Rattle.pth_model.specs.Acts.{handled, runs_handler}
@@ -70,6 +73,19 @@ module _ {P S H : Type 0} where
   abbrev pub runs_destructors : (P → Functions S H) → ℕ → Piece P S H
   runs_destructors f t = destructs f t (round_limit * key_limit) first_round
 
+  -- it gives up the mutexes that it has, the least first, each with all its levels; so many from here on are looked at
+  unfoldable pub gives_mutexes : ℕ → (n m : ℕ) → Piece P S H
+  gives_mutexes t zero m s = silent s
+  gives_mutexes t (suc n) m s = (where_so (has t (s.resources.store.mutexes m)) (tells (GaveMutex (tid t) m)) and_then gives_mutexes t n (m + 1)) s
+
+  -- and so the read-write locks that it holds
+  unfoldable pub gives_locks : ℕ → (n l : ℕ) → Piece P S H
+  gives_locks t zero l s = silent s
+  gives_locks t (suc n) l s = (where_so (holds s.resources.store.rw_locks t l) (tells (GaveLock (tid t) l)) and_then gives_locks t n (l + 1)) s
+
+  abbrev pub gives_all : ℕ → Piece P S H
+  gives_all t = gives_mutexes t object_limit 0 and_then gives_locks t object_limit 0
+
   -- a joinable thread is dead, and keeps its value until it is joined
   unfoldable pub is_dead_with : ℕ → ℤ → Change P S H
   is_dead_with t v =
@@ -91,4 +107,4 @@ module _ {P S H : Type 0} where
 
   -- a thread ends with a value
   unfoldable pub ending : (P → Functions S H) → ℕ → ℤ → Piece P S H
-  ending f t v = undoes_wait t and_then runs_cleanups f t and_then runs_destructors f t and_then dies t v
+  ending f t v = undoes_wait t and_then runs_cleanups f t and_then runs_destructors f t and_then gives_all t and_then dies t v

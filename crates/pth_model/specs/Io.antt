@@ -1,20 +1,19 @@
 -- Generalized I/O: pth_read, pth_write, pth_accept, pth_connect, pth_select, each with and without a ring of events, and the
 -- closing of a descriptor; and the modes of descriptors (pth_fdmode). What one attempt comes to stands beside the attempts.
-use Rattle.std.specs.Prelude.{ℕ, length, ◌&&◌, ◌||◌, not, nat_lt, ℤ, negsuc, int_lt, Bool, false, List, Option, Some, None, is_some, if◌then◌else◌}
+use Rattle.std.specs.Prelude.{ℕ, length, ◌&&◌, ◌||◌, not, nat_lt, ℤ, negsuc, int_lt, Bool, false, List, Option, Some, is_some, if◌then◌else◌}
 use Rattle.pth_base.specs.declared.answer.Answer.{Answer}
 use Rattle.pth_base.specs.declared.answer.Answer.TheVariants.{Fail}
 use Rattle.pth_base.specs.declared.errno.Errno.TheVariants.{EINVAL, EBADF, EAGAIN, EBUSY}
-use Rattle.pth_numbered.specs.Operands.{number}
 use Rattle.pth_kernel.specs.Kernel.{Kernel, fd_named, is_fd_live, is_nonblocking, room, fd_closed}
 use Rattle.pth_kernel.specs.Modes.{mode_answer, sets_mode}
 use Rattle.pth_io.specs.Attempts.{read_answer, read_after, write_answer, written, write_after, accept_answer, accept_after, connect_answer, select_answer, are_all_live}
-use Rattle.pth_ring.specs.Rings.{is_event, is_claimed}
 use Rattle.pth_model.specs.declared.blocked.Blocked.{Blocked}
 use Rattle.pth_model.specs.Verdict.{Verdict, Blocks, no_pause, refused, says, said_or, counts_or, by_result, ◌when◌otherwise◌}
 use Rattle.pth_model.specs.State.{State, now_of}
 use Rattle.pth_model.specs.Transition.{changes}
 use Rattle.pth_model.specs.Changes.{with_kernel}
 use Rattle.pth_model.specs.Row.{Row, ◌changing◌, ◌trying◌}
+use Rattle.pth_model.specs.RingWaits.{is_no_ring, is_claimed_ring}
 use Rattle.pth_model.specs.Awaits.{deadline_by}
 use Rattle.pth_model.specs.Times.{is_negative, length_of, moment_after}
 
@@ -63,28 +62,19 @@ module _ (k : Kernel) where
       asks (if is_too_short l && are_all_live k r w x then Some (Fail EINVAL) else select_answer k r w x deadline)
 
 module _ {P S H : Type 0} (s : State P S H) where
-  -- a call was given a ring that is none, or that is claimed
-  abbrev pub is_no_ring : Option ℤ → Bool
-  is_no_ring None = false
-  is_no_ring (Some e) = not (is_event s.control.events (number e))
-
-  abbrev pub is_claimed_ring : Option ℤ → Bool
-  is_claimed_ring None = false
-  is_claimed_ring (Some e) = is_claimed s.control.events (number e)
-
   -- where it is not yet: on a descriptor that doesn't block, or with a ring that is claimed, the call is answered at once, with
   -- its count where a part was written; else it blocks its thread
   abbrev pub begins_waiting : (at_once : Bool) → Option ℤ → (done : ℕ) → (moment : ℕ) → Verdict
   begins_waiting at_once e done moment =
       counts_or done EAGAIN when at_once otherwise
-      counts_or done EBUSY when is_claimed_ring e otherwise
+      counts_or done EBUSY when is_claimed_ring s e otherwise
       Blocks (record no_pause { moment = moment; written = done })
 
   -- A call on descriptors begins with an attempt, unless its ring is none. Once it blocks its thread it is tried again, and waits
   -- on with what it has written. The thread is woken once the call is answered, and waits for no moment.
   abbrev pub tries : Option ℤ → (at_once : Bool) → (moment : ℕ) → Trial → (Blocked → Trial) → Row P S H
   tries e at_once moment first again = record {
-    begin = (refused EINVAL when is_no_ring e otherwise said_or first.answer (begins_waiting at_once e first.written moment)) trying changes (with_kernel first.after);
+    begin = (refused EINVAL when is_no_ring s e otherwise said_or first.answer (begins_waiting at_once e first.written moment)) trying changes (with_kernel first.after);
     again = λ b. said_or (again b).answer (Blocks (record no_pause { written = (again b).written })) trying changes (with_kernel (again b).after);
     wakes = λ b. is_some (again b).answer;
     until = λ b. 0;

@@ -15,6 +15,8 @@ pub mod RingWaits
 pub mod Looks
 pub mod EventHandling
 pub mod KeyStorage
+pub mod Mutexes
+pub mod Rwlocks
 pub mod Acts
 pub mod Cleanups
 pub mod Ending

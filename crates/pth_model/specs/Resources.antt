@@ -12,30 +12,30 @@ use Rattle.pth_base.specs.declared.call.Call.TheVariants as call
 use Rattle.pth_base.specs.declared.mark.Mark.{Mark}
 use Rattle.pth_base.specs.declared.mark.Mark.TheVariants as mark
 use Rattle.pth_numbered.specs.Operands.{number, handler_of}
+use Rattle.pth_lock.specs.Objects.{object_named}
+use Rattle.pth_lock.specs.Mutexes.{MutexTable, no_mutexes, mutex_initialised, mutex_taken, mutex_released, mutexes_left, free_mutex, has, is_anothers}
+use Rattle.pth_lock.specs.RwLocks.{LockTables, no_locks, lock_initialised, lock_taken, lock_released, locks_left, holds, is_one}
 use Rattle.pth_store.specs.Keys.{Tables, key_named, no_keys, created, deleted, with_key_value, forgotten}
 use Rattle.pth_store.specs.Cleanups.{Stacks, no_cleanups, with_top, top_taken, emptied}
 
--- cleanups and keys (pth_cleanup_push, pth_key_create), of each thread by its number
+-- cleanups and keys (pth_cleanup_push, pth_key_create), mutexes and read-write locks (pth_mutex_init, pth_rwlock_init), of each
+-- thread by its number
 pub record Store : Type 0 where
   -- its handlers, the last pushed first
   pub cleanups : Stacks
   -- the live keys, and its value under each
   pub keys : Tables
+  -- the mutexes that are initialised, and who has them
+  pub mutexes : MutexTable
+  -- the locks that are initialised, and who holds them
+  pub rw_locks : LockTables
 
--- a thread has nothing: no handler, and no value but 0
+-- a thread has nothing: no handler, no value but 0, no mutex and no lock
 pub record HasNothing (s : Store) (t : ℕ) : Type 0 where
   pub cleanups : s.cleanups t ≡ []
   pub values : (k : ℕ) → s.keys.values k t ≡ pos 0
-
--- a mutex is free, or a thread has so many levels of it beyond the first (pth_mutex_acquire)
-pub data Hold : Type 0 where
-  Free : Hold
-  Held : (thread extra : ℕ) → Hold
-
--- a read-write lock has readers, or a writer (pth_rwlock_acquire)
-pub data LockHold : Type 0 where
-  Readers : List ℕ → LockHold
-  Writer : ℕ → LockHold
+  pub mutexes : (m : ℕ) → has t (s.mutexes m) ≡ false
+  pub locks : (l : ℕ) → holds s.rw_locks t l ≡ false
 
 -- a message: its number, its value, and the port for the reply, 0 for none (pth_message_t)
 pub record Message : Type 0 where
@@ -54,8 +54,6 @@ pub record Mail : Type 0 where
 
 pub record Resources : Type 0 where
   pub store : Store
-  pub holds : ℕ → Hold
-  pub locks : ℕ → LockHold
   pub mail : Mail
   -- who waits at a condition, and has not its mutex again (pth_cond_await)
   pub awaits : ℕ → Bool
@@ -63,9 +61,7 @@ pub record Resources : Type 0 where
 -- as a run starts
 abbrev pub no_resources : Resources
 no_resources = record {
-  store = record { cleanups = no_cleanups; keys = no_keys };
-  holds = λ m. Free;
-  locks = λ l. Readers [];
+  store = record { cleanups = no_cleanups; keys = no_keys; mutexes = no_mutexes; rw_locks = no_locks };
   mail = record { at = λ p. None; kept = []; made = 0 };
   awaits = λ t. false;
 }
@@ -78,6 +74,12 @@ with_cleanups g s = record s { cleanups = g s.cleanups }
 abbrev pub with_keys : (Tables → Tables) → Store → Store
 with_keys g s = record s { keys = g s.keys }
 
+abbrev pub with_mutexes : (MutexTable → MutexTable) → Store → Store
+with_mutexes g s = record s { mutexes = g s.mutexes }
+
+abbrev pub with_rw_locks : (LockTables → LockTables) → Store → Store
+with_rw_locks g s = record s { rw_locks = g s.rw_locks }
+
 -- the handler that an operand names
 abbrev pub handler : ℤ → HandlerId
 handler h = record { 0 = handler_of h }
@@ -86,77 +88,39 @@ abbrev pub destructor_by : Option ℤ → Option HandlerId
 destructor_by None = None
 destructor_by (Some h) = Some (handler h)
 
--- only thread t keeps its cleanups and values; or all but t
+-- mutexes and read-write locks
+
+-- only thread t keeps its own; or nobody has the mutex any longer
+abbrev pub mutexes_of_only : ℕ → MutexTable → MutexTable
+mutexes_of_only t x m = if is_anothers t (x m) then free_mutex else x m
+
+abbrev pub mutex_freed : ℕ → MutexTable → MutexTable
+mutex_freed m x = put x m free_mutex
+
+abbrev pub locks_of_only : ℕ → LockTables → LockTables
+locks_of_only t x = record x {
+  writer = λ l. if is_one t (x.writer l) then x.writer l else None;
+  reads = λ l u. (u == t) && x.reads l u;
+  readers = λ l. if x.reads l t then 1 else 0;
+}
+
+-- only thread t keeps what it has; or all but t
+
 abbrev pub store_of_only : ℕ → Store → Store
 store_of_only t s = record {
   cleanups = λ u. if u == t then s.cleanups u else [];
   keys = record { keys = s.keys.keys; values = λ k u. if u == t then s.keys.values k u else pos 0 };
+  mutexes = mutexes_of_only t s.mutexes;
+  rw_locks = locks_of_only t s.rw_locks;
 }
 
 abbrev pub store_without : ℕ → Store → Store
-store_without t s = record { cleanups = emptied t s.cleanups; keys = forgotten t s.keys }
-
--- mutexes
-
-abbrev pub one_more : ℕ → Hold → Hold
-one_more t Free = Held t 0
-one_more t (Held u n) = Held u (n + 1)
-
-abbrev pub one_less : Hold → Hold
-one_less Free = Free
-one_less (Held u zero) = Free
-one_less (Held u (suc n)) = Held u n
-
-abbrev pub levels : ℕ → Hold → ℕ
-levels t Free = 0
-levels t (Held u n) = if u == t then n + 1 else 0
-
--- free, or thread t has it
-abbrev pub may_have : ℕ → Hold → Bool
-may_have t Free = true
-may_have t (Held u n) = u == t
-
-abbrev pub is_free : Hold → Bool
-is_free Free = true
-is_free (Held u n) = false
-
-abbrev pub hold_of_only : ℕ → Hold → Hold
-hold_of_only t Free = Free
-hold_of_only t (Held u n) = if u == t then Held u n else Free
-
--- read-write locks
-
-abbrev pub is_among : ℕ → List ℕ → Bool
-is_among t [] = false
-is_among t (u ∷ us) = (u == t) || is_among t us
-
-abbrev pub holds_lock : ℕ → LockHold → Bool
-holds_lock t (Readers ts) = is_among t ts
-holds_lock t (Writer u) = u == t
-
-abbrev pub is_unheld : LockHold → Bool
-is_unheld (Readers []) = true
-is_unheld (Readers (t ∷ ts)) = false
-is_unheld (Writer u) = false
-
--- to read where nobody writes, to write where nobody holds it
-abbrev pub may_enter : (write : Bool) → LockHold → Bool
-may_enter true h = is_unheld h
-may_enter false (Readers ts) = true
-may_enter false (Writer u) = false
-
-abbrev pub lock_entered : ℕ → (write : Bool) → LockHold → LockHold
-lock_entered t true h = Writer t
-lock_entered t false (Readers ts) = Readers (t ∷ ts)
-lock_entered t false (Writer u) = Writer u
-
-abbrev pub parted : ℕ → LockHold → LockHold
-parted t (Readers ts) = Readers (filter (λ u. not (u == t)) ts)
-parted t (Writer u) = if u == t then Readers [] else Writer u
-
-abbrev pub lock_of_only : ℕ → LockHold → LockHold
-lock_of_only t (Readers ts) = Readers (filter (λ u. u == t) ts)
-lock_of_only t (Writer u) = if u == t then Writer u else Readers []
+store_without t s = record {
+  cleanups = emptied t s.cleanups;
+  keys = forgotten t s.keys;
+  mutexes = mutexes_left t s.mutexes;
+  rw_locks = locks_left t s.rw_locks;
+}
 
 -- messages
 
@@ -215,29 +179,21 @@ module _ (k : Resources) where
   abbrev pub with_mail : Mail → Resources
   with_mail q = record k { mail = q }
 
-  abbrev pub with_hold : ℕ → Hold → Resources
-  with_hold m h = record k { holds = put k.holds m h }
-
-  abbrev pub with_lock : ℕ → LockHold → Resources
-  with_lock l h = record k { locks = put k.locks l h }
-
   abbrev pub awaiting : ℕ → Bool → Resources
   awaiting t b = record k { awaits = put k.awaits t b }
 
 -- t has its mutex again, and awaits no more
 abbrev pub retaken : Resources → ℕ → ℕ → Resources
-retaken k t m = awaiting (with_hold k m (one_more t (k.holds m))) t false
+retaken k t m = awaiting (with_store k (with_mutexes (mutex_taken t m) k.store)) t false
 
 -- t gives a level of its mutex back, and awaits from now on
 abbrev pub let_go : Resources → ℕ → ℕ → Resources
-let_go k t m = awaiting (with_hold k m (one_less (k.holds m))) t true
+let_go k t m = awaiting (with_store k (with_mutexes (mutex_released t m) k.store)) t true
 
 -- only what thread t has is left (pth_kill)
 abbrev pub of_only : ℕ → Resources → Resources
 of_only t k = record k {
   store = store_of_only t k.store;
-  holds = λ m. hold_of_only t (k.holds m);
-  locks = λ l. lock_of_only t (k.locks l);
   awaits = λ u. (u == t) && k.awaits u;
 }
 
@@ -261,10 +217,12 @@ answer_told k t (call.CleanupPop v) a = on_one a k (with_store k (with_cleanups 
 answer_told k t (call.KeyCreate h) a = on_int a k (λ key. with_store k (with_keys (created (key_named key) (destructor_by h)) k.store))
 answer_told k t (call.KeyDelete key) a = on_one a k (with_store k (with_keys (deleted (key_named key)) k.store))
 answer_told k t (call.KeySet key v) a = on_one a k (with_store k (with_keys (with_key_value t (key_named key) v) k.store))
-answer_told k t (call.MutexAcquire m v e) a = on_int a k (λ n. with_hold k (number m) (one_more t (k.holds (number m))))
-answer_told k t (call.MutexRelease m) a = on_int a k (λ n. with_hold k (number m) (one_less (k.holds (number m))))
-answer_told k t (call.RwAcquire l write v e) a = on_int a k (λ n. with_lock k (number l) (lock_entered t write (k.locks (number l))))
-answer_told k t (call.RwRelease l) a = on_int a k (λ n. with_lock k (number l) (parted t (k.locks (number l))))
+answer_told k t (call.MutexInit m) a = on_int a k (λ n. with_store k (with_mutexes (mutex_initialised (object_named m)) k.store))
+answer_told k t (call.MutexAcquire m v e) a = on_int a k (λ n. with_store k (with_mutexes (mutex_taken t (object_named m)) k.store))
+answer_told k t (call.MutexRelease m) a = on_int a k (λ n. with_store k (with_mutexes (mutex_released t (object_named m)) k.store))
+answer_told k t (call.RwInit l) a = on_int a k (λ n. with_store k (with_rw_locks (lock_initialised (object_named l)) k.store))
+answer_told k t (call.RwAcquire l write v e) a = on_int a k (λ n. with_store k (with_rw_locks (lock_taken t write (object_named l)) k.store))
+answer_told k t (call.RwRelease l) a = on_int a k (λ n. with_store k (with_rw_locks (lock_released t (object_named l)) k.store))
 -- whatever the answer is, once it awaits
 answer_told k t (call.CondAwait c m e) a = if k.awaits t then retaken k t (number m) else k
 answer_told k t (call.PortCreate name) a = on_int a k (λ p. with_mail k (with_port (number p) k.mail))
@@ -315,8 +273,6 @@ answer_told k t (call.KeyGet x) a = k
 answer_told k t (call.PortFind x) a = k
 answer_told k t (call.PortPending x) a = k
 answer_told k t (call.Once x y z) a = k
-answer_told k t (call.MutexInit x) a = k
-answer_told k t (call.RwInit x) a = k
 answer_told k t (call.CondInit x) a = k
 answer_told k t (call.CondNotify x y) a = k
 answer_told k t (call.BarrierInit x y) a = k
@@ -350,7 +306,7 @@ abbrev pub wait_told : Resources → ℕ → Call → Resources
 wait_told k t (call.CondAwait c m e) = if k.awaits t then k else let_go k t (number m)
 wait_told k t c = k
 
--- t has ended: no cleanup and no value is left, and it awaits nothing
+-- t has ended: no cleanup, no value, no mutex and no lock is left, and it awaits nothing
 abbrev pub end_told : Resources → ℕ → Resources
 end_told k t = record k { store = store_without t k.store; awaits = put k.awaits t false }
 
@@ -361,8 +317,8 @@ told k (mark.Acted t x a) = act_told k t.0 x a
 told k (mark.Waits t c) = wait_told k t.0 c
 told k (mark.Took t m) = retaken k t.0 m
 told k (mark.Destructor t key v) = with_store k (with_keys (with_key_value t.0 key (pos 0)) k.store)
-told k (mark.GaveMutex t m) = with_hold k m Free
-told k (mark.GaveLock t l) = with_lock k l (parted t.0 (k.locks l))
+told k (mark.GaveMutex t m) = with_store k (with_mutexes (mutex_freed m) k.store)
+told k (mark.GaveLock t l) = with_store k (with_rw_locks (lock_released t.0 l) k.store)
 told k (mark.Ended t v) = end_told k t.0
 told k (mark.Dispatch turn at t rank waited allowed) = k
 told k (mark.Canceled t c) = k

@@ -1,14 +1,14 @@
 -- The rings of events for which threads wait. A call that was given an event claims its ring as it blocks its thread, and the
 -- claim stands at that event until the call is answered, or its thread ends.
-use Rattle.std.specs.Prelude.{ℕ, ℤ, List, [], Option, Some, None, option_map, nat_lt, Bool, false, if◌then◌else◌}
+use Rattle.std.specs.Prelude.{ℕ, ℤ, List, [], Option, Some, None, option_map, nat_lt, not, Bool, false, if◌then◌else◌}
 use Rattle.pth_base.specs.declared.ids.Tid.{Tid}
 use Rattle.pth_base.specs.declared.call.Call.{Call}
 use Rattle.pth_base.specs.declared.call.Call.TheVariants as call
 use Rattle.pth_numbered.specs.Operands.{number, is_zero}
 use Rattle.pth_ring.specs.declared.event.Event.{Event}
-use Rattle.pth_ring.specs.Rings.{Events, claimed, with_event, with_claim, settled_in}
+use Rattle.pth_ring.specs.Rings.{Events, claimed, with_event, with_claim, settled_in, is_event, is_claimed}
 use Rattle.pth_model.specs.declared.blocked.Blocked.{Blocked}
-use Rattle.pth_model.specs.State.{Control, now_of}
+use Rattle.pth_model.specs.State.{State, Control, now_of}
 use Rattle.pth_model.specs.Transition.{Change, nothing, tid, ◌and◌}
 use Rattle.pth_model.specs.Changes.{with_events, is_blocked_by, blocked_of}
 
@@ -24,6 +24,8 @@ ring_given (call.WriteEv f bytes e) = extra_ring e
 ring_given (call.AcceptEv f e) = extra_ring e
 ring_given (call.ConnectEv f e) = extra_ring e
 ring_given (call.SelectEv r w x l e) = extra_ring e
+ring_given (call.MutexAcquire m v e) = extra_ring e
+ring_given (call.RwAcquire l write v e) = extra_ring e
 ring_given c = None
 
 abbrev pub ring_held : Option Blocked → Option ℤ
@@ -66,3 +68,13 @@ module _ {P S H : Type 0} where
   -- no call blocks t any longer, and the claim of the one that did is given back
   unfoldable pub stops_waiting : ℕ → Change P S H
   stops_waiting t k = (is_blocked_by t None and gives_back (ring_held (blocked_of k t))) k
+
+module _ {P S H : Type 0} (s : State P S H) where
+  -- a call was given a ring that is none, or that is claimed
+  abbrev pub is_no_ring : Option ℤ → Bool
+  is_no_ring None = false
+  is_no_ring (Some e) = not (is_event s.control.events (number e))
+
+  abbrev pub is_claimed_ring : Option ℤ → Bool
+  is_claimed_ring None = false
+  is_claimed_ring (Some e) = is_claimed s.control.events (number e)

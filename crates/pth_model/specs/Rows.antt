@@ -16,6 +16,8 @@ use Rattle.pth_model.specs.KeyStorage.{key_create, key_delete, key_set, key_get}
 use Rattle.pth_model.specs.Cleanups.{cleanup_push, cleanup_pop, once}
 use Rattle.pth_model.specs.EventHandling.{make_event, chain, ev_concat, ev_isolate, ev_walk, ev_status, ev_kind, ev_free, wait}
 use Rattle.pth_model.specs.Cancellation.{cancel_state, cancel_point, cancel, abort}
+use Rattle.pth_model.specs.Mutexes.{mutex_init, mutex_acquire, mutex_release}
+use Rattle.pth_model.specs.Rwlocks.{rw_init, rw_acquire, rw_release}
 use Rattle.pth_model.specs.ThreadEnds.{exit}
 use Rattle.pth_model.specs.Times.{timeout, nap, usleep, sleep}
 use Rattle.pth_model.specs.RingWaits.{extra_ring}
@@ -75,12 +77,12 @@ module _ {P S H : Type 0} (f : P → Functions S H) (s : State P S H) (t : ℕ) 
   row_of (call.PortDestroy p) = unbuilt
   row_of (call.CleanupPush h v) = cleanup_push f s t
   row_of (call.CleanupPop v) = cleanup_pop f s t v
-  row_of (call.MutexInit m) = unbuilt
-  row_of (call.MutexAcquire m v e) = unbuilt
-  row_of (call.MutexRelease m) = unbuilt
-  row_of (call.RwInit l) = unbuilt
-  row_of (call.RwAcquire l w v e) = unbuilt
-  row_of (call.RwRelease l) = unbuilt
+  row_of (call.MutexInit m) = mutex_init s m
+  row_of (call.MutexAcquire m v e) = mutex_acquire s t m v e
+  row_of (call.MutexRelease m) = mutex_release s t m
+  row_of (call.RwInit l) = rw_init s l
+  row_of (call.RwAcquire l write v e) = rw_acquire s t l write v e
+  row_of (call.RwRelease l) = rw_release s t l
   row_of (call.CondInit c) = unbuilt
   row_of (call.CondAwait c m e) = unbuilt
   row_of (call.CondNotify c v) = unbuilt

@@ -1,7 +1,7 @@
 //! What a blocked thread waits for.
 
 ghost use Rattle.std.specs.Prelude.{◌≡◌};
-ghost use Rattle.pth_model.specs.Awaits.{awaited_by as awaited, awaited_of_descriptors, deadline_by, IsCounted};
+ghost use Rattle.pth_model.specs.Awaits.{awaited_by as awaited, awaited_of_descriptors, awaited_of_locks, deadline_by, IsCounted};
 ghost use Rattle.pth_model.specs.RingWaits.{extra_ring, ring_given as given};
 
 use pth_base::call::Call;
@@ -44,6 +44,13 @@ pub enum Awaits {
         x: FdSet,
         deadline: Option<Micros>,
     },
+    /// That nobody has the mutex that an operand names (`pth_mutex_acquire`).
+    Mutex(i64),
+    /// That the read-write lock that an operand names lets in who writes, or who reads (`pth_rwlock_acquire`).
+    Lock {
+        l: i64,
+        write: bool,
+    },
 }
 
 /// What a thread waits for, and the event whose ring its call was given, if any.
@@ -72,6 +79,21 @@ pub fn awaited_by(call: &Call, moment: Micros, written: usize) -> Awaits
         Call::Join(n) => Awaits::Death(*n),
         Call::Nap(_) | Call::Usleep(_) | Call::Sleep(_) => Awaits::Moment(moment),
         Call::Wait(e) => Awaits::Ring(*e),
+        _ => awaited_of_locks(call, moment, written),
+    }
+}
+
+// What a call on mutexes and read-write locks waits for, or one on descriptors.
+fn awaited_of_locks(call: &Call, moment: Micros, written: usize) -> Awaits
+    ensures awaits { result ≡ awaited_of_locks call.now moment written }
+    ensures counted { IsCounted call.now }
+{
+    match call {
+        Call::MutexAcquire { m, .. } => Awaits::Mutex(*m),
+        Call::RwAcquire { l, write, .. } => Awaits::Lock {
+            l: *l,
+            write: *write,
+        },
         _ => awaited_of_descriptors(call, moment, written),
     }
 }
@@ -117,7 +139,9 @@ pub fn ring_given(call: &Call) -> Option<i64>
         | Call::WriteEv { e, .. }
         | Call::AcceptEv { e, .. }
         | Call::ConnectEv { e, .. }
-        | Call::SelectEv { e, .. } => extra_ring(*e),
+        | Call::SelectEv { e, .. }
+        | Call::MutexAcquire { e, .. }
+        | Call::RwAcquire { e, .. } => extra_ring(*e),
         _ => None,
     }
 }
