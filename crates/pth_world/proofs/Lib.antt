@@ -23,4 +23,7 @@ pub mod StateOf
 pub mod Counting
 pub mod Heights
 pub mod Vanishing
+pub mod Listings
+pub mod Locked
+pub mod Alone
 pub mod Stores

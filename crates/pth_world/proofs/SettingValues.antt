@@ -9,7 +9,7 @@ use Rattle.pth_base.specs.declared.errno.Errno.{Errno}
 use Rattle.pth_numbered.specs.Operands.{number, named}
 use Rattle.pth_queue.specs.declared.queue.Queue.{Queue}
 use Rattle.pth_threads.specs.Attributes.{AttrsOf, object_of, with_value, change_of, set_answer, Sets, KeepsSet}
-use Rattle.pth_threads.specs.Threads.{ThreadsOf, slot_of, entry_at, changed}
+use Rattle.pth_threads.specs.Threads.{ThreadsOf, slot_of, tid_at, entry_at, changed}
 use Rattle.pth_threads.specs.declared.attribute.Attribute.{Attribute}
 use Rattle.pth_threads.specs.declared.attribute.Attribute.TheVariants.{Free, Bound}
 use Rattle.pth_threads.specs.declared.entry.Change.{Change}
@@ -129,6 +129,11 @@ pub set_slots : (x y : AttrsOf) (q r : ThreadsOf) (n : ℕ) (v : AttrValue) (o :
 set_slots x y q r n v None some s = absurd (cc some)
 set_slots x y q r n v (Some (Free z)) some s = ap (λ (z : ThreadsOf). slot_of z) s.1
 set_slots x y q r n v (Some (Bound t)) some s = s.1.changes.slots
+
+pub set_tids : (x y : AttrsOf) (q r : ThreadsOf) (n : ℕ) (v : AttrValue) (o : Option Attribute) → is_none o ≡ false → Sets x y q r n v o → tid_at r ≡ tid_at q
+set_tids x y q r n v None some s = absurd (cc some)
+set_tids x y q r n v (Some (Free z)) some s = ap (λ (z : ThreadsOf). tid_at z) s.1
+set_tids x y q r n v (Some (Bound t)) some s = s.1.changes.tids
 
 module _ {P S H : Type 0} (w : WorldOf P S H) (x : AttrsOf) (r : ThreadsOf) (a : ℤ) (v : AttrValue) where
   abbrev after : WorldOf P S H

@@ -3,7 +3,7 @@ use Rattle.std.proofs.lemmas.Bool.{cases_lt}
 use Rattle.std.proofs.lemmas.Int.{ints}
 use Rattle.std.proofs.lemmas.List.{get_or_past, get_or-replicate, length-replicate}
 use mathlib.Core.Path.{fun_ext}
-use Rattle.std.proofs.Common.{arith, ◌≡◌, ℕ, inl, inr, pos, true, false, List, length, map, replicate, IsSome, IfSome, Option, Some, None, option_map, refl, sym, ◌∙◌, ap, ap₂, subst}
+use Rattle.std.proofs.Common.{arith, ◌≡◌, ℕ, inl, inr, pos, true, false, List, length, map, replicate, IsSome, IfSome, Option, Some, None, option_map, refl, sym, ◌∙◌, ap, subst}
 use Rattle.pth_base.specs.Limits.{thread_limit}
 use Rattle.pth_base.proofs.Namings.{none_some}
 use Rattle.pth_base.specs.Program.{Functions}
@@ -42,19 +42,21 @@ use Rattle.pth_world.specs.Sound.{IsSound, IsPrio, IsCancel, HasAttributes, IsKn
 use Rattle.pth_world.specs.Whole.{IsBeforeReady, Newly, view, Fits, FitsEntry, Whole}
 use Rattle.pth_world.proofs.Showing.{not_known}
 use Rattle.pth_world.proofs.Places.{queue-entered}
-use Rattle.pth_world.proofs.Stores.{stored_none}
+use Rattle.pth_lock.specs.Mutexes.{MutexTable, no_mutexes}
+use Rattle.pth_lock.specs.RwLocks.{LockTables, no_locks}
+use Rattle.pth_world.proofs.Stores.{forgets, stored_none}
 
 module _ {P S H : Type 0} (f : P → Functions S H) (program : P) (t0 : ThreadsOf) (y0 : List (Option (Progress S)))
     (slots : slot_of t0 ≡ (λ _. None)) (tids : tid_at t0 ≡ (λ _. 0)) (entries : entry_at t0 ≡ (λ _. None)) (none_made : t0.made ≡ 0) (no_count : count t0 ≡ 0)
     (none : table None y0 ≡ (λ _. None)) (long0 : length y0 ≡ thread_limit)
     (a0 : AttrsOf) (no_objects : object_of a0 ≡ (λ _. None)) (no_number : a0.made ≡ 0)
     (e0 : RingsOf) (none_there : events_of e0 ≡ no_events) (kernel : KernelOf)
-    (T0 : Tables) (no_key : T0 ≡ no_keys) (S0 : Stacks) (no_cleanup : S0 ≡ no_cleanups) where
+    (T0 : Tables) (no_key : T0 ≡ no_keys) (S0 : Stacks) (no_cleanup : S0 ≡ no_cleanups) (M0 : MutexTable) (no_mutex : M0 ≡ no_mutexes) (L0 : LockTables) (no_lock : L0 ≡ no_locks) where
   abbrev x0 : ThreadsBySlot S
   x0 = record { records = t0; queues = record no_queues { room = thread_limit }; progress = y0 }
 
   abbrev w0 : WorldOf P S H
-  w0 = record { program = program; shared = (f program).shared; threads = x0; attributes = a0; events = e0; kernel = kernel; store = stored_by t0 T0 S0; used = replicate 64 false; scheduler = record { running = None; preferred = None; favour_new = true } }
+  w0 = record { program = program; shared = (f program).shared; threads = x0; attributes = a0; events = e0; kernel = kernel; store = stored_by t0 T0 S0 M0 L0; used = replicate 64 false; scheduler = record { running = None; preferred = None; favour_new = true } }
 
   abbrev s0 : Control P S H
   s0 = before_main f (record { program = program; kernel = kernel_of kernel })
@@ -121,10 +123,10 @@ module _ {P S H : Type 0} (f : P → Functions S H) (program : P) (t0 : ThreadsO
 
   -- nothing is stored
   pub before_store : store_of w0.store ≡ no_resources.store
-  before_store = ap₂ (λ (y : Tables) (z : Stacks). store_of (stored_by t0 y z)) no_key no_cleanup ∙ stored_none t0
+  before_store = forgets t0 no_key no_cleanup no_mutex no_lock ∙ stored_none t0
 
   nothing_at : (s : Store) (t : ℕ) → s ≡ no_resources.store → HasNothing s t
-  nothing_at s t is = subst (λ (y : Store). HasNothing y t) (sym is) (record { cleanups = refl; values = λ k. refl })
+  nothing_at s t is = subst (λ (y : Store). HasNothing y t) (sym is) (record { cleanups = refl; values = λ k. refl; mutexes = λ m. refl; locks = λ l. refl })
 
   no_fit : (v : ℕ) → Fits None (view x0 v)
   no_fit v = subst (λ (o : Option Entry). FitsEntry None o (view x0 v).place (view x0 v).blocked) (sym (ap (λ (k : ℕ → Option Entry). k v) entries)) tt

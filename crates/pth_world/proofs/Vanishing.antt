@@ -1,11 +1,10 @@
 -- Threads vanish, until one is left.
-use Rattle.std.proofs.Common.{◌≡◌, ◌≢◌, ℕ, ◌<◌, ◌==◌, ℤ, pos, Bool, true, false, if◌then◌else◌, List, [], map, length, IfSome, Option, Some, None, refl, sym, ◌∙◌, ap, ap₂, subst, arith}
+use Rattle.std.proofs.Common.{◌≡◌, ◌≢◌, ℕ, ◌<◌, ◌==◌, ◌&&◌, not, ℤ, pos, Bool, true, false, if◌then◌else◌, List, [], map, length, IfSome, Option, Some, None, refl, sym, ◌∙◌, ap, ap₂, subst, arith}
 use mathlib.Core.Path.{fun_ext}
 use Rattle.pth_base.specs.Table.{put}
-use Rattle.pth_base.specs.declared.ids.HandlerId.{HandlerId}
 use Rattle.pth_base.specs.declared.thread.ThreadState.{ThreadState}
 use Rattle.pth_base.specs.declared.thread.ThreadState.TheVariants as state
-use Rattle.pth_base.proofs.Tables.{put_other, same_means, same_fails, not_same}
+use Rattle.pth_base.proofs.Tables.{put_other, same_means, same_fails, same_self, not_same}
 use Rattle.pth_queue.specs.declared.queue.Queue.{Queue}
 use Rattle.pth_queue.specs.declared.queue.Queue.TheVariants as queue
 use Rattle.pth_queue.specs.declared.ranked.Ranked.{Ranked}
@@ -13,7 +12,10 @@ use Rattle.pth_queue.specs.Ranking.{holds, delete, named_row}
 use Rattle.pth_queue.specs.Queues.{QueuesOf, rows_of, queue_of, without}
 use Rattle.pth_queue.proofs.Counts.{count-present, length-delete}
 use Rattle.pth_queue.proofs.Sets.{holds-queue_of}
+use Rattle.pth_lock.specs.Mutexes.{Mutex, MutexTable, free_mutex, has, is_anothers}
+use Rattle.pth_lock.specs.RwLocks.{LockTables, is_one, locks_left, without_slot}
 use Rattle.pth_store.specs.Cleanups.{Stacks}
+use Rattle.pth_store.specs.Keys.{Tables}
 use Rattle.pth_ring.specs.Arena.{RingsOf, events_of}
 use Rattle.pth_ring.specs.Rings.{all_unclaimed}
 use Rattle.pth_threads.specs.Threads.{slot_of, tid_at, tid_of, entry_at, RemovesThread}
@@ -25,19 +27,21 @@ use Rattle.pth_model.specs.State.{Control}
 use Rattle.pth_model.specs.Changes.{leaves_queue, forgets, removes}
 use Rattle.pth_model.specs.Ending.{other_than}
 use Rattle.pth_model.specs.LibraryControl.{only_at, vanish_all_but}
-use Rattle.pth_model.specs.Resources.{Store, store_of_only, store_without}
+use Rattle.pth_model.specs.Resources.{Store, locks_of_only, store_of_only, store_without}
 use Rattle.pth_model.proofs.Queues.{rows_without}
 use Rattle.pth_world.specs.Store.{store_of, HasNothing}
 use Rattle.pth_world.specs.World.{WorldOf}
 use Rattle.pth_world.specs.Shows.{Shows}
 use Rattle.pth_world.specs.Sound.{IsSound, IsKnown, lives}
 use Rattle.pth_world.specs.Whole.{view, FitsEntry, Whole, IsIn, place_for}
-use Rattle.pth_world.specs.Vanishing.{ShowsRest, Vanishing}
+use Rattle.pth_world.specs.Vanishing.{ReadsAlone, ShowsRest, Vanishing}
 use Rattle.pth_world.proofs.Slots.{name_is, used, some_is}
 use Rattle.pth_world.proofs.Places.{queue-nowhere}
 use Rattle.pth_world.proofs.Showing.{not_here, not_known, no_progress}
 use Rattle.pth_world.proofs.Moves.{known_slot, is_in, runner_runs, gone_whole}
 use Rattle.pth_world.proofs.Ranks.{ranks_left, ranks_none, ranks_then}
+use Rattle.pth_world.proofs.Locked.{neither}
+use Rattle.pth_world.proofs.Stores.{spare_nothing}
 
 -- ---- what is left at one thread
 
@@ -57,19 +61,86 @@ alone_by t i f d false is none = sym (none (same_fails i t is))
 only-alone : {A : Type 0} (t : ℕ) (f : ℕ → Option A) → ((i : ℕ) → i ≢ t → f i ≡ None) → only_at t f ≡ f
 only-alone t f none = fun_ext (λ i. alone_by t i f None (i == t) refl (none i))
 
--- the same of what is stored
-same_store : (a b : Stacks) (k : ℕ → Option (Option HandlerId)) (v w : ℕ → ℕ → ℤ) → a ≡ b → v ≡ w → ◌≡◌ {A = Store} (record { cleanups = a; keys = record { keys = k; values = v } }) (record { cleanups = b; keys = record { keys = k; values = w } })
-same_store a b k v w p q = ap₂ (λ (c : Stacks) (h : ℕ → ℕ → ℤ). record { cleanups = c; keys = record { keys = k; values = h } }) p q
+-- ---- what is stored
+
+same_store : {a b : Stacks} {c d : Tables} {m n : MutexTable} {k l : LockTables} → a ≡ b → c ≡ d → m ≡ n → k ≡ l → ◌≡◌ {A = Store} (record { cleanups = a; keys = c; mutexes = m; rw_locks = k }) (record { cleanups = b; keys = d; mutexes = n; rw_locks = l })
+same_store p q r o = λ i. record { cleanups = p i; keys = q i; mutexes = r i; rw_locks = o i }
+
+same_locks : {j : ℕ → Bool} {v w : ℕ → Option ℕ} {f g : ℕ → ℕ → Bool} {m n : ℕ → ℕ} → v ≡ w → f ≡ g → m ≡ n → ◌≡◌ {A = LockTables} (record { initialised = j; writer = v; reads = f; readers = m }) (record { initialised = j; writer = w; reads = g; readers = n })
+same_locks {j = j} p q r = λ i. record { initialised = j; writer = p i; reads = q i; readers = r i }
+
+-- the mutexes of one thread, after another gave its own back
+only-mutex : (t u : ℕ) (x : Mutex) → u ≢ t → (if is_anothers t (if has u x then free_mutex else x) then free_mutex else (if has u x then free_mutex else x)) ≡ (if is_anothers t x then free_mutex else x)
+only-mutex t u None apart = refl
+only-mutex t u (Some None) apart = refl
+only-mutex t u (Some (Some o)) apart = by_owner (o.owner == u) (o.owner == t) refl refl
+  where
+    by_owner : (his mine : Bool) → (o.owner == u) ≡ his → (o.owner == t) ≡ mine → (if is_anothers t (if his then free_mutex else Some (Some o)) then free_mutex else (if his then free_mutex else Some (Some o))) ≡ (if not mine then free_mutex else Some (Some o))
+    by_owner true true is same = absurd (apart (sym (same_means o.owner u is) ∙ same_means o.owner t same))
+    by_owner true false is other = refl
+    by_owner false mine is e = ap (λ (b : Bool). if not b then free_mutex else Some (Some o)) e
+
+-- who writes, and whether one thread reads
+only-writer : (t u : ℕ) (w : Option ℕ) → u ≢ t → (if is_one t (without_slot u w) then without_slot u w else None) ≡ (if is_one t w then w else None)
+only-writer t u None apart = refl
+only-writer t u (Some o) apart = by_writer (o == u) (o == t) refl refl
+  where
+    by_writer : (his mine : Bool) → (o == u) ≡ his → (o == t) ≡ mine → (if is_one t (if his then None else Some o) then (if his then None else Some o) else None) ≡ (if mine then Some o else None)
+    by_writer true true is same = absurd (apart (sym (same_means o u is) ∙ same_means o t same))
+    by_writer true false is other = refl
+    by_writer false mine is e = ap (λ (b : Bool). if b then Some o else None) e
+
+reads_by : (t u i : ℕ) (f : ℕ → Bool) (b : Bool) → u ≢ t → (i == t) ≡ b → (b && put f u false i) ≡ (b && f i)
+reads_by t u i f true apart is = put_other f u false i (λ same. apart (sym same ∙ same_means i t is))
+reads_by t u i f false apart is = refl
+
+only-locks : (t u : ℕ) (x : LockTables) → u ≢ t → locks_of_only t (locks_left u x) ≡ locks_of_only t x
+only-locks t u x apart = same_locks
+    (fun_ext (λ l. only-writer t u (x.writer l) apart))
+    (fun_ext (λ l. fun_ext (λ i. reads_by t u i (x.reads l) (i == t) apart refl)))
+    (fun_ext (λ l. ap (λ (b : Bool). if b then 1 else 0) (put_other (x.reads l) u false t (λ same. apart (sym same)))))
 
 only-store : (t u : ℕ) (s : Store) → u ≢ t → store_of_only t (store_without u s) ≡ store_of_only t s
-only-store t u s apart = same_store _ _ _ _ _
+only-store t u s apart = same_store
     (fun_ext (λ i. only_by t u i s.cleanups [] [] (i == t) apart refl))
-    (fun_ext (λ k. fun_ext (λ i. only_by t u i (s.keys.values k) (pos 0) (pos 0) (i == t) apart refl)))
+    (ap (λ (v : ℕ → ℕ → ℤ). record { keys = s.keys.keys; values = v }) (fun_ext (λ k. fun_ext (λ i. only_by t u i (s.keys.values k) (pos 0) (pos 0) (i == t) apart refl))))
+    (fun_ext (λ m. only-mutex t u (s.mutexes m) apart))
+    (only-locks t u s.rw_locks apart)
 
-only-stored : (t : ℕ) (s : Store) → ((i : ℕ) → i ≢ t → HasNothing s i) → store_of_only t s ≡ s
-only-stored t s nothing = same_store _ _ _ _ _
+-- where nobody else has anything
+own-mutex : (t : ℕ) (x : Mutex) → ((i : ℕ) → i ≢ t → has i x ≡ false) → (if is_anothers t x then free_mutex else x) ≡ x
+own-mutex t None none = refl
+own-mutex t (Some None) none = refl
+own-mutex t (Some (Some o)) none = by_owner (o.owner == t) refl
+  where
+    by_owner : (mine : Bool) → (o.owner == t) ≡ mine → (if not mine then free_mutex else Some (Some o)) ≡ Some (Some o)
+    by_owner true is = refl
+    by_owner false is = absurd (cc (same_self o.owner, none o.owner (same_fails o.owner t is)))
+
+own-writer : (t : ℕ) (w : Option ℕ) → ((i : ℕ) → i ≢ t → is_one i w ≡ false) → (if is_one t w then w else None) ≡ w
+own-writer t None none = refl
+own-writer t (Some o) none = by_writer (o == t) refl
+  where
+    by_writer : (mine : Bool) → (o == t) ≡ mine → (if mine then Some o else None) ≡ Some o
+    by_writer true is = refl
+    by_writer false is = absurd (cc (same_self o, none o (same_fails o t is)))
+
+own-reads : (t i : ℕ) (f : ℕ → Bool) (b : Bool) → (i == t) ≡ b → (i ≢ t → f i ≡ false) → (b && f i) ≡ f i
+own-reads t i f true is none = refl
+own-reads t i f false is none = sym (none (same_fails i t is))
+
+only-stored : (t : ℕ) (s : Store) → ((i : ℕ) → i ≢ t → HasNothing s i) → ((l : ℕ) → s.rw_locks.readers l ≡ (if s.rw_locks.reads l t then 1 else 0)) → store_of_only t s ≡ s
+only-stored t s nothing counted = same_store
     (fun_ext (λ i. alone_by t i s.cleanups [] (i == t) refl (λ apart. (nothing i apart).cleanups)))
-    (fun_ext (λ k. fun_ext (λ i. alone_by t i (s.keys.values k) (pos 0) (i == t) refl (λ apart. (nothing i apart).values k))))
+    (ap (λ (v : ℕ → ℕ → ℤ). record { keys = s.keys.keys; values = v }) (fun_ext (λ k. fun_ext (λ i. alone_by t i (s.keys.values k) (pos 0) (i == t) refl (λ apart. (nothing i apart).values k)))))
+    (fun_ext (λ m. own-mutex t (s.mutexes m) (λ i apart. (nothing i apart).mutexes m)))
+    (same_locks
+    (fun_ext (λ l. own-writer t (s.rw_locks.writer l) (λ i apart. (held l i apart).0)))
+    (fun_ext (λ l. fun_ext (λ i. own-reads t i (s.rw_locks.reads l) (i == t) refl (λ apart. (held l i apart).1))))
+    (fun_ext (λ l. sym (counted l))))
+  where
+    held : (l i : ℕ) → i ≢ t → (is_one i (s.rw_locks.writer l) ≡ false) × (s.rw_locks.reads l i ≡ false)
+    held l i apart = neither (is_one i (s.rw_locks.writer l)) (s.rw_locks.reads l i) ((nothing i apart).locks l)
 
 -- another thread that is gone would have vanished
 vanish-removed : {P S H : Type 0} (t u : ℕ) (k : Control P S H) → u ≢ t → vanish_all_but t (removes u k) ≡ vanish_all_but t k
@@ -199,8 +270,10 @@ module _ {P S H : Type 0} (w : WorldOf P S H) (t : ℕ) (whole : Whole w) (is : 
   nobody i apart = nobody_by_slot i (slot_of w.threads.records i) apart refl
 
   -- so nobody else has stored something
-  pub rest_store : store_of_only t (store_of w.store) ≡ store_of w.store
-  rest_store = only-stored t (store_of w.store) (λ i apart. whole.stored i (ap lives (sym (not_here w.threads i (nobody i apart)))))
+  pub rest_store : ReadsAlone w t → store_of_only t (store_of w.store) ≡ store_of w.store
+  rest_store counted =
+      let nothing : (i : ℕ) → i ≢ t → HasNothing (store_of w.store) i = λ i apart. whole.stored i (ap lives (sym (not_here w.threads i (nobody i apart)))) in
+      only-stored t (store_of w.store) nothing (counted nobody (spare_nothing w whole))
 
   -- so nothing vanishes but the claims
   vanish_rest : (e : RingsOf) → events_of e ≡ all_unclaimed (events_of w.events) → (k : Control P S H) → Shows w k → Shows (record w { events = e }) (vanish_all_but t k)
@@ -238,10 +311,14 @@ module _ {P S H : Type 0} (u a b c d v : WorldOf P S H)
   none queue.Suspended = dead.empty queue.Suspended no_suspended
   none queue.Dead = no_dead
 
-  pub vanish_store : (t : ℕ) → u.scheduler.running ≡ Some t → store_of v.store ≡ store_of_only t (store_of u.store)
-  vanish_store t is = sym (rest_store v t vanish_all.whole (ap (λ (z : WorldOf P S H). z.scheduler.running) vanish_all.same ∙ is) none) ∙ vanish_all.store t is
+  -- who runs still does
+  pub vanish_runs : (t : ℕ) → u.scheduler.running ≡ Some t → v.scheduler.running ≡ Some t
+  vanish_runs t is = ap (λ (z : WorldOf P S H). z.scheduler.running) vanish_all.same ∙ is
+
+  pub vanish_store : (t : ℕ) → u.scheduler.running ≡ Some t → ReadsAlone v t → store_of v.store ≡ store_of_only t (store_of u.store)
+  vanish_store t is counted = sym (rest_store v t vanish_all.whole (vanish_runs t is) none counted) ∙ vanish_all.store t is
 
   pub vanish_shows : (e : RingsOf) → events_of e ≡ all_unclaimed (events_of v.events) → (t : ℕ) → u.scheduler.running ≡ Some t → (k : Control P S H) → Shows u k → Shows (record v { events = e }) (vanish_all_but t k)
   vanish_shows e unclaimed t is k sh =
       let x : ShowsRest t v k = vanish_all.shows t is k sh in
-      subst (λ (j : Control P S H). Shows (record v { events = e }) j) x.same (vanish_rest v t vanish_all.whole (ap (λ (z : WorldOf P S H). z.scheduler.running) vanish_all.same ∙ is) none e unclaimed x.rest x.shows)
+      subst (λ (j : Control P S H). Shows (record v { events = e }) j) x.same (vanish_rest v t vanish_all.whole (vanish_runs t is) none e unclaimed x.rest x.shows)

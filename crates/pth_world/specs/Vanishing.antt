@@ -1,11 +1,12 @@
 -- Threads that do not run vanish one by one.
-use Rattle.std.specs.Prelude.{◌≡◌, ℕ, Some, []}
+use Rattle.std.specs.Prelude.{◌≡◌, ◌≢◌, ℕ, if◌then◌else◌, Some, None, []}
 use Rattle.pth_queue.specs.declared.queue.Queue.{Queue}
 use Rattle.pth_queue.specs.Queues.{rows_of}
 use Rattle.pth_model.specs.State.{Control}
 use Rattle.pth_model.specs.LibraryControl.{vanish_all_but}
 use Rattle.pth_model.specs.Resources.{store_of_only}
-use Rattle.pth_world.specs.Store.{store_of}
+use Rattle.pth_threads.specs.Threads.{slot_of}
+use Rattle.pth_world.specs.Store.{store_of, HasNothing}
 use Rattle.pth_world.specs.World.{WorldOf}
 use Rattle.pth_world.specs.Ranks.{KeepsRanks}
 use Rattle.pth_world.specs.Shows.{Shows}
@@ -28,3 +29,10 @@ pub record Vanishing {P S H : Type 0} (w v : WorldOf P S H) : Type 0 where
   -- who runs keeps what it stored
   pub store : (t : ℕ) → w.scheduler.running ≡ Some t → store_of_only t (store_of v.store) ≡ store_of_only t (store_of w.store)
   pub same : v ≡ record w { threads = v.threads; store = v.store }
+
+-- where t is alone in the system, and nothing is held by nobody, it is every reader of each lock
+abbrev pub ReadsAlone : {P S H : Type 0} → WorldOf P S H → ℕ → Type 0
+ReadsAlone w t =
+    ((i : ℕ) → i ≢ t → slot_of w.threads.records i ≡ None)
+    → HasNothing (store_of w.store) 0
+    → (l : ℕ) → (store_of w.store).rw_locks.readers l ≡ (if (store_of w.store).rw_locks.reads l t then 1 else 0)

@@ -42,7 +42,7 @@ TakesNothingBack retake.No = Unit {0}
 TakesNothingBack r = ⊥
 
 -- which calls block which threads: of those that are built, main's exit, every join, and the calls that wait for a moment, for a
--- ring or for a descriptor
+-- ring, for a descriptor, for a mutex or for a lock
 abbrev pub MayBlockAs : ℕ → Call → Type 0
 MayBlockAs t (call.Exit v) = t ≡ main
 MayBlockAs t (call.Join n) = Unit {0}
@@ -60,6 +60,8 @@ MayBlockAs t (call.Connect f) = Unit {0}
 MayBlockAs t (call.ConnectEv f e) = Unit {0}
 MayBlockAs t (call.Select r w x l) = Unit {0}
 MayBlockAs t (call.SelectEv r w x l e) = Unit {0}
+MayBlockAs t (call.MutexAcquire m v e) = Unit {0}
+MayBlockAs t (call.RwAcquire l write v e) = Unit {0}
 MayBlockAs t c = ⊥
 
 -- until which moment a call blocks its thread: none, but for those that wait for one, which is not after the last

@@ -18,6 +18,7 @@ mod counts;
 mod events;
 mod handlers;
 mod kernel;
+mod locks;
 mod moves;
 mod places;
 mod progress;
@@ -32,6 +33,8 @@ use crate::progress_table::ProgressTable;
 use pth_base::ids::{Slot, Tid};
 use pth_base::program::Program;
 use pth_kernel::kernel::Kernel;
+use pth_lock::mutexes::Mutexes;
+use pth_lock::rwlocks::RwLocks;
 use pth_queue::queue_set::QueueSet;
 use pth_ring::rings::Rings;
 use pth_store::cleanups::Cleanups;
@@ -42,8 +45,8 @@ use std::alloc::Global;
 use std::marker::Model;
 
 /// The program with its threads: their records, their queues and how far each is in its program, their attribute objects,
-/// events and rings of them, the kernel, what they stored, the once controls that were used, and what the scheduler keeps of
-/// them.
+/// events and rings of them, the kernel, what they stored and locked, the once controls that were used, and what the scheduler
+/// keeps of them.
 #[derive(Drop)]
 pub struct World<P: Program> {
     alloc: Global,
@@ -58,6 +61,8 @@ pub struct World<P: Program> {
     // By slot. What stands at a slot that is not used counts for nothing.
     keys: Keys,
     cleanups: Cleanups,
+    mutexes: Mutexes,
+    rw_locks: RwLocks,
     used: [bool; 64],
     running: Option<Tid>,
     preferred: Option<Tid>,
@@ -69,6 +74,8 @@ impl<P: Program> Model for World<P> {
     ghost use Rattle.pth_threads.specs.Threads.{number_of};
     ghost use Rattle.pth_store.specs.Cleanups.{stacks_of};
     ghost use Rattle.pth_store.specs.Keys.{tables_of};
+    ghost use Rattle.pth_lock.specs.Mutexes.{mutexes_of};
+    ghost use Rattle.pth_lock.specs.RwLocks.{tables_of as locks_of};
     ghost use Rattle.pth_world.specs.Store.{stored_by};
     ghost use Rattle.pth_world.specs.World.{WorldOf};
 
@@ -81,7 +88,7 @@ impl<P: Program> Model for World<P> {
       attributes = w.attributes;
       events = w.events;
       kernel = w.kernel;
-      store = stored_by w.threads (tables_of w.keys) (stacks_of w.cleanups);
+      store = stored_by w.threads (tables_of w.keys) (stacks_of w.cleanups) (mutexes_of w.mutexes) (locks_of w.rw_locks);
       used = w.used;
       scheduler = record {
         running = option_map number_of w.running;

@@ -35,6 +35,8 @@ use pth_base::name::Name;
 use pth_base::program::Program;
 use pth_base::thread::ThreadState;
 use pth_kernel::kernel::Kernel;
+use pth_lock::mutexes::Mutexes;
+use pth_lock::rwlocks::RwLocks;
 use pth_model::progress::Progress;
 use pth_queue::queue::Queue;
 use pth_ring::rings::Rings;
@@ -80,6 +82,8 @@ impl<P: Program> World<P> {
         let events = Rings::new(alloc);
         let keys = Keys::new(alloc);
         let cleanups = Cleanups::new(alloc);
+        let mutexes = Mutexes::new(alloc)?;
+        let rw_locks = RwLocks::new(alloc)?;
         Ok(World {
             alloc,
             program,
@@ -92,6 +96,8 @@ impl<P: Program> World<P> {
             progress,
             keys,
             cleanups,
+            mutexes,
+            rw_locks,
             used: [false; 64],
             running: None,
             preferred: None,
@@ -162,7 +168,7 @@ impl<P: Program> World<P> {
         self.change(t, c);
     }
 
-    // Takes the record of a thread out, and so what it stored.
+    // Takes the record of a thread out, and so what it stored and locked.
     fn remove_at(&mut self, t: Tid, s: Slot)
         requires tied { IsTied (slot_of self.old.threads.records) (tid_at self.old.threads.records) }
         requires at { slot_of self.old.threads.records t.0 ≡ Some s.0 }
@@ -171,6 +177,8 @@ impl<P: Program> World<P> {
         ensures still { HasNothing (store_of self.old.store) t.0 → self.new.store ≡ self.old.store }
         ensures same { self.new ≡ record self.old { threads = record self.old.threads { records = self.new.threads.records }; store = self.new.store } }
     {
+        self.mutexes.release_all(s);
+        self.rw_locks.release_all(s);
         self.threads.remove(s);
     }
 
@@ -215,6 +223,7 @@ impl<P: Program> World<P> {
     fn add(&mut self, of: NewThread) -> Result<(Tid, Slot), AddErr>
         requires sound { IsSound self.old.threads }
         requires few { self.old.threads.records.made < 4294967295 }
+        requires spare { HasNothing (store_of self.old.store) 0 }
         ensures tid { IfOk result (λ p. p.0.0 ≡ self.old.threads.records.made + 1) }
         ensures made { OnOk result (self.new.threads.records.made ≡ self.old.threads.records.made + 1) }
         ensures ok { IfOk result (λ p. AddsThread self.old.threads.records self.new.threads.records p.1.0 (made_of of p.0.0)) }

@@ -59,7 +59,7 @@ impl<P: Program> World<P> {
         self.cleanups.below_top(slot, n)
     }
 
-    /// A thread has nothing stored any more: no handler, and under each key 0.
+    /// A thread has nothing any more: no handler, under each key 0, no mutex and no lock.
     pub fn forget(&mut self, t: Tid)
         requires sound { IsSound self.old.threads }
         requires known { IsKnown self.old.threads t.0 }
@@ -72,6 +72,8 @@ impl<P: Program> World<P> {
         let slot = self.slot(t);
         self.keys.forget(slot);
         self.cleanups.forget(slot);
+        self.mutexes.release_all(slot);
+        self.rw_locks.release_all(slot);
     }
 
     /// The least free key is live from now on, with a destructor or none, and each thread's value under it is 0

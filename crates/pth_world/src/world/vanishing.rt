@@ -7,8 +7,9 @@ ghost use Rattle.pth_model.specs.LibraryControl.{vanish_all_but};
 ghost use Rattle.pth_model.specs.Resources.{store_of_only};
 ghost use Rattle.pth_world.specs.Ranks.{KeepsRanks};
 ghost use Rattle.pth_world.specs.Shows.{Shows};
+ghost use Rattle.pth_world.specs.Sound.{IsSound, IsKnown};
 ghost use Rattle.pth_world.specs.Store.{store_of};
-ghost use Rattle.pth_world.specs.Vanishing.{Vanishing};
+ghost use Rattle.pth_world.specs.Vanishing.{ReadsAlone, Vanishing};
 ghost use Rattle.pth_world.specs.Whole.{Whole};
 
 use crate::world::World;
@@ -26,6 +27,16 @@ impl<P: Program> World<P> {
         while let Some(t) = self.first(q) {
             self.drop_thread(t);
         }
+    }
+
+    // The locks count their readers.
+    fn count_readers(&self, t: Tid)
+        requires sound { IsSound self.now.threads }
+        requires known { IsKnown self.now.threads t.0 }
+        ensures { ReadsAlone self.now t.0 }
+    {
+        let _slot = self.slot(t);
+        let _counted = self.rw_locks.is_free(0, false);
     }
 
     /// Takes all threads but the one that runs out of the system, with what they stored, and no ring is claimed any more
@@ -46,6 +57,7 @@ impl<P: Program> World<P> {
         self.empty_queue(Queue::Waiting);
         self.empty_queue(Queue::Suspended);
         self.empty_queue(Queue::Dead);
+        self.count_readers(t);
         self.rings_mut().unclaim_all();
     }
 }

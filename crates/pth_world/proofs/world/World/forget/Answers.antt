@@ -1,8 +1,10 @@
-use Rattle.std.proofs.Common.{◌<◌, ◌∙◌, ap₂, arith, rules}
-use Rattle.pth_store.specs.Cleanups.{Stacks, stacks_of}
-use Rattle.pth_store.specs.Keys.{Tables, tables_of}
-use Rattle.pth_world.specs.Store.{name_limit, store_of, stored_by}
-use Rattle.pth_world.proofs.Stores.{forgotten_is, nothing_left, nothing_without, stored_whole}
+use Rattle.std.proofs.Common.{◌<◌, ◌∙◌, arith, rules}
+use Rattle.pth_lock.specs.Mutexes.{mutexes_of}
+use Rattle.pth_lock.specs.RwLocks.{tables_of as locks_of}
+use Rattle.pth_store.specs.Cleanups.{stacks_of}
+use Rattle.pth_store.specs.Keys.{tables_of}
+use Rattle.pth_world.specs.Store.{name_limit, store_of}
+use Rattle.pth_world.proofs.Stores.{forgets, forgotten_is, nothing_left, nothing_without, stored_whole}
 use Rattle.pth_world.proofs.world.World.forget.Goals as goal
 
 pub returns-clause-changes : goal.returns-clause-changes
@@ -11,10 +13,10 @@ returns-clause-changes g c =
     let sound = rw (← c.self.view_is) at c.requires.sound in
     let e = rw (← c.self.view_is) at c.slot-slot.ensures.slot in
     let few : c.args.t.0 < name_limit = search (arith, rules) in
-    rw (← c.self.view_is) (ap₂ (λ (y : Tables) (z : Stacks). store_of (stored_by w.threads y z)) c.forget.ensures c.forget-2.ensures ∙ forgotten_is w.threads (tables_of w.keys) (stacks_of w.cleanups) c.args.t.0 c.slot-slot.result.0 sound.tied e few)
+    rw (← c.self.view_is) (forgets w.threads c.forget.ensures c.forget-2.ensures c.release_all.ensures.changes c.release_all-2.ensures.changes ∙ forgotten_is w.threads (tables_of w.keys) (stacks_of w.cleanups) (mutexes_of w.mutexes) (locks_of w.rw_locks) c.args.t.0 c.slot-slot.result.0 sound.tied e few)
 
 pub returns-clause-nothing : goal.returns-clause-nothing
-returns-clause-nothing g c = rw (returns-clause-changes g c) (nothing_left _ c.args.t.0)
+returns-clause-nothing g c = rw (returns-clause-changes g c) (nothing_left (store_of c.args.self.now.store) c.args.t.0)
 
 pub returns-clause-whole : goal.returns-clause-whole
 returns-clause-whole g c =

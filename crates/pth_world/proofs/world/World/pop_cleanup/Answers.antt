@@ -1,4 +1,6 @@
 use Rattle.std.proofs.Common.{◌<◌, ◌∙◌, sym, ap, arith, rules}
+use Rattle.pth_lock.specs.Mutexes.{mutexes_of}
+use Rattle.pth_lock.specs.RwLocks.{tables_of as locks_of}
 use Rattle.pth_store.specs.Cleanups.{Stacks, stacks_of, without_top}
 use Rattle.pth_store.specs.Keys.{tables_of}
 use Rattle.pth_world.specs.Store.{name_limit, store_of, stored_by}
@@ -10,7 +12,7 @@ returns-clause-answer g c =
     let w = c.self.inside in
     let e = rw (← c.self.view_is) at c.slot-slot.ensures.slot in
     let few : c.args.t.0 < name_limit = search (arith, rules) in
-    rw (← c.self.view_is) (c.pop.ensures.answer ∙ sym (below_answer_is w.threads (tables_of w.keys) (stacks_of w.cleanups) c.args.t.0 c.slot-slot.result.0 e few 0))
+    rw (← c.self.view_is) (c.pop.ensures.answer ∙ sym (below_answer_is w.threads (tables_of w.keys) (stacks_of w.cleanups) (mutexes_of w.mutexes) (locks_of w.rw_locks) c.args.t.0 c.slot-slot.result.0 e few 0))
 
 pub returns-clause-changes : goal.returns-clause-changes
 returns-clause-changes g c =
@@ -18,7 +20,7 @@ returns-clause-changes g c =
     let sound = rw (← c.self.view_is) at c.requires.sound in
     let e = rw (← c.self.view_is) at c.slot-slot.ensures.slot in
     let few : c.args.t.0 < name_limit = search (arith, rules) in
-    rw (← c.self.view_is) (ap (λ (y : Stacks). store_of (stored_by w.threads (tables_of w.keys) y)) c.pop.ensures.changes ∙ cleanups_put w.threads (tables_of w.keys) (stacks_of w.cleanups) c.args.t.0 c.slot-slot.result.0 sound.tied e few without_top)
+    rw (← c.self.view_is) (ap (λ (y : Stacks). store_of (stored_by w.threads (tables_of w.keys) y (mutexes_of w.mutexes) (locks_of w.rw_locks))) c.pop.ensures.changes ∙ cleanups_put w.threads (tables_of w.keys) (stacks_of w.cleanups) (mutexes_of w.mutexes) (locks_of w.rw_locks) c.args.t.0 c.slot-slot.result.0 sound.tied e few without_top)
 
 pub returns-clause-whole : goal.returns-clause-whole
 returns-clause-whole g c =

@@ -6,7 +6,11 @@ use Rattle.pth_world.proofs.Places.{unused-nowhere}
 use Rattle.pth_base.proofs.Results.{on_err}
 use Rattle.pth_world.proofs.Wholes.{same_whole, spawn_shows, spawn_whole, spawn_others, spawn_queues, spawn_ranks}
 use Rattle.pth_threads.specs.Threads.{tid_at}
+use Rattle.pth_world.proofs.Stores.{spare_nothing}
 use Rattle.pth_world.proofs.world.World.spawn.Goals as goal
+
+pub add-requires-clause-spare : goal.add-requires-clause-spare
+add-requires-clause-spare g c = spare_nothing c.args.self.now c.requires.whole
 
 pub returns-in_err-t-clause-whole_still : goal.returns-in_err-t-clause-whole_still
 returns-in_err-t-clause-whole_still g c = on_err _ (subst Whole (sym c.add.ensures.same) (same_whole c.args.self.now _ c.in_err-t.ensures.err c.requires.whole))

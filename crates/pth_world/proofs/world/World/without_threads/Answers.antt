@@ -2,10 +2,10 @@ use Rattle.pth_world.proofs.Starts.{before_shows, before_store, before_whole}
 use Rattle.pth_world.proofs.world.World.without_threads.Goals as goal
 
 pub returns-clause-shows : goal.returns-clause-shows
-returns-clause-shows g c = rw (c.in_ok-shared.ensures, c.in_ok-reserve.ensures.ok, c.new-queues.ensures) (before_shows g.P.Program.functions c.args.program c.new-threads.result c.in_ok-progress.progress c.new-threads.ensures.slots c.new-threads.ensures.tids c.new-threads.ensures.entries c.new-threads.ensures.made c.new-threads.ensures.count c.in_ok-progress.ensures.none c.in_ok-progress.ensures.long c.new-attributes.result c.new-attributes.ensures.objects c.new-attributes.ensures.made c.new-events.result c.new-events.ensures c.args.kernel _ c.new-keys.ensures _ c.new-cleanups.ensures)
+returns-clause-shows g c = rw (c.in_ok-shared.ensures, c.in_ok-reserve.ensures.ok, c.new-queues.ensures) (before_shows g.P.Program.functions c.args.program c.new-threads.result c.in_ok-progress.progress c.new-threads.ensures.slots c.new-threads.ensures.tids c.new-threads.ensures.entries c.new-threads.ensures.made c.new-threads.ensures.count c.in_ok-progress.ensures.none c.in_ok-progress.ensures.long c.new-attributes.result c.new-attributes.ensures.objects c.new-attributes.ensures.made c.new-events.result c.new-events.ensures c.args.kernel _ c.new-keys.ensures _ c.new-cleanups.ensures _ c.in_ok-mutexes.ensures _ c.in_ok-rw_locks.ensures)
 
 pub returns-clause-whole : goal.returns-clause-whole
-returns-clause-whole g c = rw (c.in_ok-shared.ensures, c.in_ok-reserve.ensures.ok, c.new-queues.ensures) (before_whole g.P.Program.functions c.args.program c.new-threads.result c.in_ok-progress.progress c.new-threads.ensures.slots c.new-threads.ensures.tids c.new-threads.ensures.entries c.new-threads.ensures.made c.new-threads.ensures.count c.in_ok-progress.ensures.none c.in_ok-progress.ensures.long c.new-attributes.result c.new-attributes.ensures.objects c.new-attributes.ensures.made c.new-events.result c.new-events.ensures c.args.kernel _ c.new-keys.ensures _ c.new-cleanups.ensures)
+returns-clause-whole g c = rw (c.in_ok-shared.ensures, c.in_ok-reserve.ensures.ok, c.new-queues.ensures) (before_whole g.P.Program.functions c.args.program c.new-threads.result c.in_ok-progress.progress c.new-threads.ensures.slots c.new-threads.ensures.tids c.new-threads.ensures.entries c.new-threads.ensures.made c.new-threads.ensures.count c.in_ok-progress.ensures.none c.in_ok-progress.ensures.long c.new-attributes.result c.new-attributes.ensures.objects c.new-attributes.ensures.made c.new-events.result c.new-events.ensures c.args.kernel _ c.new-keys.ensures _ c.new-cleanups.ensures _ c.in_ok-mutexes.ensures _ c.in_ok-rw_locks.ensures)
 
 pub returns-clause-store : goal.returns-clause-store
-returns-clause-store g c = before_store g.P.Program.functions c.args.program c.new-threads.result c.in_ok-progress.progress c.new-threads.ensures.slots c.new-threads.ensures.tids c.new-threads.ensures.entries c.new-threads.ensures.made c.new-threads.ensures.count c.in_ok-progress.ensures.none c.in_ok-progress.ensures.long c.new-attributes.result c.new-attributes.ensures.objects c.new-attributes.ensures.made c.new-events.result c.new-events.ensures c.args.kernel _ c.new-keys.ensures _ c.new-cleanups.ensures
+returns-clause-store g c = before_store g.P.Program.functions c.args.program c.new-threads.result c.in_ok-progress.progress c.new-threads.ensures.slots c.new-threads.ensures.tids c.new-threads.ensures.entries c.new-threads.ensures.made c.new-threads.ensures.count c.in_ok-progress.ensures.none c.in_ok-progress.ensures.long c.new-attributes.result c.new-attributes.ensures.objects c.new-attributes.ensures.made c.new-events.result c.new-events.ensures c.args.kernel _ c.new-keys.ensures _ c.new-cleanups.ensures _ c.in_ok-mutexes.ensures _ c.in_ok-rw_locks.ensures

@@ -1,0 +1,48 @@
+use Rattle.std.proofs.Common.{◌≡◌, ◌<◌, ◌∙◌, ap, sym, subst, arith, rules}
+use Rattle.std.proofs.lemmas.Int.{ints}
+use mir.Syntax.{w64}
+use mir.Val.{to_z, of_z}
+use Rattle.pth_lock.specs.Objects.{object_named}
+use Rattle.pth_lock.specs.Mutexes.{mutexes_of}
+use Rattle.pth_lock.specs.RwLocks.{LockTables, LocksOf, tables_of as locks_of}
+use Rattle.pth_store.specs.Cleanups.{stacks_of}
+use Rattle.pth_store.specs.Keys.{tables_of}
+use Rattle.pth_model.specs.Resources.{Store}
+use Rattle.pth_model.proofs.Nothing.{no_lock_taken}
+use Rattle.pth_world.specs.Store.{name_limit, store_of, stored_by, HasNothing}
+use Rattle.pth_world.proofs.Events.{on_ok}
+use Rattle.pth_world.proofs.Locked.{object_low, lock_take_is, lock_taken_read}
+use Rattle.pth_world.proofs.Stores.{alive_apart, alive_known, either, locks_set, nothing_in_locks, stored_whole}
+use Rattle.pth_world.proofs.world.World.take_lock.Goals as goal
+
+pub slot-slot-requires : goal.slot-slot-requires
+slot-slot-requires g c = alive_known c.args.self.now.threads c.args.t.0 c.requires.alive
+
+pub returns-clause-answer : goal.returns-clause-answer
+returns-clause-answer g c =
+    let w = c.self.inside in
+    let sound = rw (← c.self.view_is) at c.requires.sound in
+    let e = rw (← c.self.view_is) at c.slot-slot.ensures.slot in
+    let few : c.args.t.0 < name_limit = search (arith, rules) in
+    let is_number : to_z w64 (of_z w64 c.args.l) ≡ c.args.l = omega (arith, ints) in
+    let low : object_named c.args.l < name_limit = object_low c.args.l (omega (arith, ints)) in
+    rw (← c.self.view_is) ((rw is_number at c.try_take.ensures.answer) ∙ sym (lock_take_is w.threads (locks_of w.rw_locks) c.args.t.0 c.slot-slot.result.0 sound.tied e few c.args.write c.args.l low))
+
+pub returns-clause-changes : goal.returns-clause-changes
+returns-clause-changes g c =
+    let w = c.self.inside in
+    let sound = rw (← c.self.view_is) at c.requires.sound in
+    let e = rw (← c.self.view_is) at c.slot-slot.ensures.slot in
+    let few : c.args.t.0 < name_limit = search (arith, rules) in
+    let is_number : to_z w64 (of_z w64 c.args.l) ≡ c.args.l = omega (arith, ints) in
+    let low : object_named c.args.l < name_limit = object_low c.args.l (omega (arith, ints)) in
+    rw (← c.self.view_is) (on_ok c.try_take.result (rw is_number at c.try_take.ensures.changes) (λ is. ap (λ (z : LockTables). store_of (stored_by w.threads (tables_of w.keys) (stacks_of w.cleanups) (mutexes_of w.mutexes) z)) is ∙ locks_set w.threads (tables_of w.keys) (stacks_of w.cleanups) (mutexes_of w.mutexes) (locks_of w.rw_locks) _ _ (lock_taken_read w.threads (locks_of w.rw_locks) c.args.t.0 c.slot-slot.result.0 sound.tied e few c.args.write (object_named c.args.l) low)))
+
+pub returns-clause-whole : goal.returns-clause-whole
+returns-clause-whole g c =
+    let w = c.self.inside in
+    let changes = rw (← c.self.view_is) at (returns-clause-changes g c) in
+    let alive = rw (← c.self.view_is) at c.requires.alive in
+    rw (← c.self.view_is) (λ whole. stored_whole _ _ (λ u dead h. either c.try_take.result changes c.try_take.ensures.refused
+    (λ is. subst (λ (s : Store). HasNothing s u) (sym is) (nothing_in_locks _ u _ h (no_lock_taken u (store_of (stored_by w.threads (tables_of w.keys) (stacks_of w.cleanups) (mutexes_of w.mutexes) (locks_of w.rw_locks))).rw_locks c.args.t.0 c.args.write (object_named c.args.l) (alive_apart w.threads c.args.t.0 u alive dead) h.locks)))
+    (λ is. subst (λ (y : LocksOf). HasNothing (store_of (stored_by w.threads (tables_of w.keys) (stacks_of w.cleanups) (mutexes_of w.mutexes) (locks_of y))) u) (sym is) h)) whole)
