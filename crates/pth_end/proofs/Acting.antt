@@ -1,5 +1,5 @@
 -- Acts, and the looks at a handler that find them.
-use Rattle.std.proofs.Common.{◌≡◌, ◌∙◌, ◌+◌, ◌-◌, ◌≤◌, ℕ, suc, ℤ, pos, Bool, true, false, Result, Ok, Err, IfOk, refl, ap, sym, subst, arith}
+use Rattle.std.proofs.Common.{◌≡◌, ◌∙◌, ◌+◌, ◌-◌, ◌≤◌, ℕ, suc, ℤ, pos, Bool, true, false, Result, Ok, Err, IfOk, OnOk, OnErr, refl, ap, sym, subst, arith}
 use Rattle.pth_base.specs.Program.{Functions, Acted as ActOf}
 use Rattle.pth_base.specs.declared.act.Act.{Act}
 use Rattle.pth_base.specs.declared.act.Act.TheVariants as act
@@ -9,6 +9,8 @@ use Rattle.pth_base.specs.declared.ids.HandlerId.{HandlerId}
 use Rattle.pth_base.specs.declared.mark.Mark.{Mark}
 use Rattle.pth_base.specs.declared.mark.Mark.TheVariants.{Acted, Answered, Handler}
 use Rattle.pth_base.specs.declared.refusal.Refusal.TheVariants as refusal
+use Rattle.pth_lock.specs.Mutexes.{mutex_released}
+use Rattle.pth_lock.specs.Objects.{object_named}
 use Rattle.pth_model.specs.Acts.{acts, acts_from, answer_in, goes_on_after, row_of_act}
 use Rattle.pth_model.specs.Changes.{shares}
 use Rattle.pth_model.specs.Row.{refuses, unless_refused}
@@ -24,7 +26,7 @@ use Rattle.pth_base.specs.declared.call.Call.TheVariants as call
 use Rattle.pth_base.specs.declared.ids.Tid.{Tid}
 use Rattle.pth_base.specs.declared.memory.OutOfMemory.{OutOfMemory}
 use Rattle.pth_base.specs.declared.refusal.Refusal.{Refusal}
-use Rattle.pth_model.specs.Resources.{Store, no_resources, told, answer_told, act_told, with_keys}
+use Rattle.pth_model.specs.Resources.{Store, no_resources, told, answer_told, act_told, with_keys, with_mutexes}
 use Rattle.pth_world.proofs.Telling.{quiet-refused}
 use Rattle.pth_world.specs.Leading.{IsQuiet, Tells}
 use Rattle.pth_world.specs.Store.{store_of}
@@ -47,12 +49,13 @@ nothing_told s false m = refl
 
 module _ {P S H : Type 0} (t : ℕ) (s : State P S H) where
   -- an act does nothing but what its mark tells
-  pub act_is : (x : Act) → acts t x s ≡ tells (Acted (tid t) x (answer_in (row_of_act s x).begin.verdict)) s
+  pub act_is : (x : Act) → acts t x s ≡ tells (Acted (tid t) x (answer_in (row_of_act s t x).begin.verdict)) s
   unfolding acts
   act_is x = by_act x
     where
-      by_act : (y : Act) → acts t y s ≡ tells (Acted (tid t) y (answer_in (row_of_act s y).begin.verdict)) s
-      by_act (act.SetKey k v) = nothing_told s (refuses (row_of_act s (act.SetKey k v)).begin.verdict) (Acted (tid t) (act.SetKey k v) (answer_in (row_of_act s (act.SetKey k v)).begin.verdict))
+      by_act : (y : Act) → acts t y s ≡ tells (Acted (tid t) y (answer_in (row_of_act s t y).begin.verdict)) s
+      by_act (act.SetKey k v) = nothing_told s (refuses (row_of_act s t (act.SetKey k v)).begin.verdict) (Acted (tid t) (act.SetKey k v) (answer_in (row_of_act s t (act.SetKey k v)).begin.verdict))
+      by_act (act.Release m) = nothing_told s (refuses (row_of_act s t (act.Release m)).begin.verdict) (Acted (tid t) (act.Release m) (answer_in (row_of_act s t (act.Release m)).begin.verdict))
       by_act y = refl
 
 -- how many looks are left
@@ -82,10 +85,6 @@ pub quiet_set : (t : Tid) (n : ℕ) (v : ℤ) → IsQuiet (Acted t (act.Set n v)
 unfolding told act_told
 quiet_set t n v = λ x. refl
 
-pub quiet_release : (t : Tid) (m : ℤ) (e : Errno) → IsQuiet (Acted t (act.Release m) (Fail e))
-unfolding told act_told answer_told
-quiet_release t m e = λ x. refl
-
 pub quiet_notify : (t : Tid) (c v : ℤ) (e : Errno) → IsQuiet (Acted t (act.Notify c v) (Fail e))
 unfolding told act_told
 quiet_notify t c v e = λ x. refl
@@ -108,6 +107,16 @@ module _ {P S H : Type 0} (w v : WorldOf P S H) where
   -- a refused call changes nothing
   pub refused_tells : (t : Tid) (c : Call) (e : Errno) → v ≡ w → Tells w (Answered t c (Fail e)) v
   refused_tells t c e same = subst (λ (z : WorldOf P S H). Tells w (Answered t c (Fail e)) z) (sym same) (quiet-refused t c e (store_of w.store))
+
+  -- a call that has nothing to say changes what is stored, where it is not refused
+  pub done_tells : (t : Tid) (c : Call) (g : Store → Store) → ((x : Store) → told (record no_resources { store = x }) (Answered t c (Int (pos 1))) ≡ record no_resources { store = g x }) → (r : Result (Unit {0}) Errno) (a : Answer) → by_result done r ≡ Says a → OnOk r (store_of v.store ≡ g (store_of w.store)) → OnErr r (v ≡ w) → Tells w (Answered t c a) v
+  done_tells t c g tells_one (Ok u) a says changes same = let one : Int (pos 1) ≡ a = cc in subst (λ (b : Answer). Tells w (Answered t c b) v) one (tells_one (store_of w.store) ∙ ap (λ (y : Store). record no_resources { store = y }) (sym changes))
+  done_tells t c g tells_one (Err e) a says changes same = let fails : Fail e ≡ a = cc in subst (λ (b : Answer). Tells w (Answered t c b) v) fails (refused_tells t c e same)
+
+  -- a mutex is released, or not
+  pub released_tells : (t : Tid) (m : ℤ) (r : Result (Unit {0}) Errno) (a : Answer) → by_result done r ≡ Says a → OnOk r (store_of v.store ≡ with_mutexes (mutex_released t.0 (object_named m)) (store_of w.store)) → OnErr r (v ≡ w) → Tells w (Answered t (call.MutexRelease m) a) v
+  unfolding told answer_told
+  released_tells t m = done_tells t (call.MutexRelease m) (with_mutexes (mutex_released t.0 (object_named m))) (λ x. refl)
 
   pub refusal_tells : (t : Tid) (c : Call) (e : Refusal) (r : Result Answer OutOfMemory) → IfOk r (λ a. SaysRefusal e a) → v ≡ w → IfOk r (λ a. Tells w (Answered t c a) v)
   refusal_tells t c (refusal.Fail e) (Ok a) says same = subst (λ (b : Answer). Tells w (Answered t c b) v) (sym says) (refused_tells t c e same)

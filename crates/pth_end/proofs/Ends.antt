@@ -5,11 +5,11 @@ use Rattle.pth_base.specs.Cut.{IsCut}
 use Rattle.pth_base.specs.Program.{Functions}
 use Rattle.pth_base.specs.declared.mark.Mark.{Mark}
 use Rattle.pth_base.specs.declared.mark.Mark.TheVariants.{Ended}
-use Rattle.pth_model.specs.Ending.{ending, leaves, dies, runs_cleanups, runs_destructors}
+use Rattle.pth_model.specs.Ending.{ending, leaves, dies, gives_all, runs_cleanups, runs_destructors}
 use Rattle.pth_model.specs.Resources.{Resources, Store, no_resources, store_without, told}
 use Rattle.pth_model.specs.RingWaits.{stops_waiting}
 use Rattle.pth_model.specs.State.{State}
-use Rattle.pth_model.specs.Transition.{controlled, tid, ◌and_then◌}
+use Rattle.pth_model.specs.Transition.{Piece, controlled, tid, ◌and_then◌}
 use Rattle.pth_world.proofs.Telling.{has_still}
 use Rattle.pth_world.specs.Leading.{Leads}
 use Rattle.pth_world.specs.Shows.{Shows, StandsFor}
@@ -37,23 +37,40 @@ module _ {P S H : Type 0} (f : P → Functions S H) (t : ℕ) (v : ℤ) where
     tells = appended;
   }
 
+  -- what comes after its handlers, and after its destructors
+  abbrev pub leaving : Piece P S H
+  leaving = gives_all t and_then dies t v
+
+  abbrev pub after_cleanups : Piece P S H
+  after_cleanups = runs_destructors f t and_then leaving
+
+  -- the state after its handlers, and after its destructors
+  abbrev pub cleaned_state : State P S H → State P S H
+  cleaned_state s = (runs_cleanups f t (controlled (stops_waiting t) s)).state
+
+  abbrev pub destructed_state : State P S H → State P S H
+  destructed_state s = (runs_destructors f t (cleaned_state s)).state
+
   -- all of them
-  pub end_leads : (a b y : WorldOf P S H) (s : State P S H) (old m n new : List Mark) → Leads a old m (runs_cleanups f t (controlled (stops_waiting t) s)) → Leads b m n (runs_destructors f t (runs_cleanups f t (controlled (stops_waiting t) s)).state)
-      → Leads y n new (dies t v (runs_destructors f t (runs_cleanups f t (controlled (stops_waiting t) s)).state).state) → Leads y old new (ending f t v s)
+  pub end_leads : (a b c y : WorldOf P S H) (s : State P S H) (old m n o new : List Mark) → Leads a old m (runs_cleanups f t (controlled (stops_waiting t) s)) → Leads b m n (runs_destructors f t (cleaned_state s))
+      → Leads c n o (gives_all t (destructed_state s)) → Leads y o new (dies t v (gives_all t (destructed_state s)).state) → Leads y old new (ending f t v s)
   unfolding ending
-  end_leads a b y s old m n new cleaned destructed died =
-      let s1 = controlled (stops_waiting t) s in
-      let s2 = (runs_cleanups f t s1).state in
-      let last = leads_then b y s2 (runs_destructors f t) (dies t v) m n new destructed died in
-      let all = leads_then a y s1 (runs_cleanups f t) (runs_destructors f t and_then dies t v) old m new cleaned last in
+  end_leads a b c y s old m n o new cleaned destructed gave died =
+      let last = leads_then c y (destructed_state s) (gives_all t) (dies t v) n o new gave died in
+      let later = leads_then b y (cleaned_state s) (runs_destructors f t) leaving m n new destructed last in
+      let all = leads_then a y (controlled (stops_waiting t) s) (runs_cleanups f t) after_cleanups old m new cleaned later in
       record { stands = all.stands; tells = all.tells }
 
   -- it broke off as its cleanups ran
   pub cut_cleaning : (s : State P S H) (old new : List Mark) → IsCut old new (runs_cleanups f t (controlled (stops_waiting t) s)).marks → IsCut old new (ending f t v s).marks
   unfolding ending
-  cut_cleaning s old new cut = let c = cut_one (controlled (stops_waiting t) s) (runs_cleanups f t) (runs_destructors f t and_then dies t v) old new cut in record { first = c.first; rest = c.rest; new_is = c.new_is; whole_is = c.whole_is }
+  cut_cleaning s old new cut = let c = cut_one (controlled (stops_waiting t) s) (runs_cleanups f t) after_cleanups old new cut in record { first = c.first; rest = c.rest; new_is = c.new_is; whole_is = c.whole_is }
 
   -- or later
-  pub cut_later : (a : WorldOf P S H) (s : State P S H) (old m new : List Mark) → Leads a old m (runs_cleanups f t (controlled (stops_waiting t) s)) → IsCut m new ((runs_destructors f t and_then dies t v) (runs_cleanups f t (controlled (stops_waiting t) s)).state).marks → IsCut old new (ending f t v s).marks
+  pub cut_later : (a : WorldOf P S H) (s : State P S H) (old m new : List Mark) → Leads a old m (runs_cleanups f t (controlled (stops_waiting t) s)) → IsCut m new (after_cleanups (cleaned_state s)).marks → IsCut old new (ending f t v s).marks
   unfolding ending
-  cut_later a s old m new cleaned cut = let c = cut_second a (controlled (stops_waiting t) s) (runs_cleanups f t) (runs_destructors f t and_then dies t v) old m new cleaned cut in record { first = c.first; rest = c.rest; new_is = c.new_is; whole_is = c.whole_is }
+  cut_later a s old m new cleaned cut = let c = cut_second a (controlled (stops_waiting t) s) (runs_cleanups f t) after_cleanups old m new cleaned cut in record { first = c.first; rest = c.rest; new_is = c.new_is; whole_is = c.whole_is }
+
+  -- it broke off as it gave up what it had, or where its end was told
+  pub cut_giving : (b : WorldOf P S H) (s : State P S H) (m n new : List Mark) → Leads b m n (runs_destructors f t (cleaned_state s)) → IsCut n new (leaving (destructed_state s)).marks → IsCut m new (after_cleanups (cleaned_state s)).marks
+  cut_giving b s m n new destructed cut = cut_second b (cleaned_state s) (runs_destructors f t) leaving m n new destructed cut

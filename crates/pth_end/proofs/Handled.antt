@@ -4,13 +4,17 @@ use Rattle.pth_end.specs.Handling.{IsHandled}
 use Rattle.pth_world.proofs.Ranks.{ranks_none, ranks_same}
 use Rattle.pth_world.specs.Frame.{Frame}
 use Rattle.pth_world.specs.Sound.{IsAlive}
-use Rattle.pth_world.specs.Store.{StoreOf}
+use Rattle.pth_world.specs.Store.{StoreOf, store_of}
 use Rattle.pth_world.specs.Whole.{Whole}
 use Rattle.pth_world.specs.World.{WorldOf, ThreadsBySlot}
 
 module _ {P S H : Type 0} where
   pub handled_none : (w : WorldOf P S H) → Whole w → IsHandled w w
   handled_none w whole = record { whole = whole; same = refl; cleanups = refl }
+
+  -- something else is stored, but no other cleanup
+  pub handled_stored : (w v : WorldOf P S H) → Whole v → v ≡ record w { store = v.store } → (store_of v.store).cleanups ≡ (store_of w.store).cleanups → IsHandled w v
+  handled_stored w v whole same cleanups = record { whole = whole; same = same ∙ ap (λ (h : H). record w { shared = h; store = v.store }) (sym (ap (λ (x : WorldOf P S H). x.shared) same)); cleanups = cleanups }
 
   pub handled_then : (u v w : WorldOf P S H) → IsHandled u v → IsHandled v w → IsHandled u w
   handled_then u v w a b = record {

@@ -8,3 +8,4 @@ pub mod Looking
 pub mod Cleaning
 pub mod Destructing
 pub mod Cancelling
+pub mod Sweeping

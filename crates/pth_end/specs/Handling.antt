@@ -1,10 +1,10 @@
--- What the acts of handlers leave of a world.
+-- What the acts of handlers leave of a world, and what an ending thread gives up.
 use Rattle.std.specs.Prelude.{◌≡◌}
 use Rattle.pth_world.specs.Store.{store_of}
 use Rattle.pth_world.specs.Whole.{Whole}
 use Rattle.pth_world.specs.World.{WorldOf}
 
--- from w to v: the shared value and values under keys changed, and nothing else
+-- from w to v: the shared value, values under keys, mutexes and locks changed, and nothing else
 pub record IsHandled {P S H : Type 0} (w v : WorldOf P S H) : Type 0 where
   pub whole : Whole v
   pub same : v ≡ record w { shared = v.shared; store = v.store }

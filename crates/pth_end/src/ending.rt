@@ -12,6 +12,7 @@ ghost use Rattle.pth_world.specs.Whole.{Whole};
 
 use crate::cleanups::run_cleanups;
 use crate::destructors::run_destructors;
+use crate::giving::give_all;
 use pth_base::ids::Tid;
 use pth_base::mark::Mark;
 use pth_base::marks::Marks;
@@ -20,8 +21,8 @@ use pth_base::program::Program;
 use pth_world::world::World;
 
 /// Ends a thread that is alive with a value, whoever runs: its wait is undone, its cleanup handlers run, the last pushed first, and
-/// then its destructors; one that can be joined is dead until it is joined, and another is gone (`pth_exit`). After an error the
-/// world may only be dropped.
+/// then its destructors, and it gives up its mutexes and read-write locks; one that can be joined is dead until it is joined, and
+/// another is gone (`pth_exit`). After an error the world may only be dropped.
 pub fn end_thread<P: Program>(
     w: &mut World<P>,
     t: Tid,
@@ -37,6 +38,7 @@ pub fn end_thread<P: Program>(
     w.unblock(t);
     run_cleanups(w, t, marks)?;
     run_destructors(w, t, marks)?;
+    give_all(w, t, marks)?;
     w.forget(t);
     w.leave(t, value);
     marks.push(Mark::Ended { tid: t, value })

@@ -6,5 +6,6 @@ pub mod cancellation;
 pub mod cleanups;
 pub mod destructors;
 pub mod ending;
+pub mod giving;
 pub mod handlers;
 pub mod saying;

@@ -2,7 +2,7 @@ use Rattle.std.proofs.Common.{inl, inr, SFits, w64, to_z-of_z, rules}
 use Rattle.pth_base.specs.declared.errno.Errno.TheVariants.{EINVAL}
 use Rattle.pth_model.specs.Resources.{told, act_told}
 use Rattle.pth_world.specs.Store.{store_of}
-use Rattle.pth_end.proofs.Acting.{quiet_note, quiet_set, quiet_release, quiet_notify, quiet_put}
+use Rattle.pth_end.proofs.Acting.{quiet_note, quiet_set, quiet_notify, quiet_put}
 use Rattle.pth_end.proofs.acts.answer_act.Goals as goal
 
 pub returns-in-Note-clause-tells : goal.returns-in-Note-clause-tells
@@ -19,8 +19,13 @@ returns-in-SetKey-clause-tells g c =
     rw c.in-SetKey.is (simp to_z-of_z at c.set_key.ensures.tells)
 
 pub returns-in-Release-clause-tells : goal.returns-in-Release-clause-tells
-returns-in-Release-clause-tells g c = elim c.in-Release.is [
-  | inl (m, is) ↦ rw is (quiet_release c.args.t m EINVAL (store_of c.args.w.now.store))
-  | inr (inl (n, v, is)) ↦ rw is (quiet_notify c.args.t n v EINVAL (store_of c.args.w.now.store))
-  | inr (inr (p, v, is)) ↦ rw is (quiet_put c.args.t p v EINVAL (store_of c.args.w.now.store))
+unfolding told act_told
+returns-in-Release-clause-tells g c =
+    let m : SFits w64 c.in-Release.m = search rules in
+    rw c.in-Release.is (simp to_z-of_z at c.release_mutex.ensures.tells)
+
+pub returns-in-Notify-clause-tells : goal.returns-in-Notify-clause-tells
+returns-in-Notify-clause-tells g c = elim c.in-Notify.is [
+  | inl (n, v, is) ↦ rw is (quiet_notify c.args.t n v EINVAL (store_of c.args.w.now.store))
+  | inr (p, v, is) ↦ rw is (quiet_put c.args.t p v EINVAL (store_of c.args.w.now.store))
 ]

@@ -1,12 +1,12 @@
 use Rattle.std.proofs.Common.{◌∙◌, ap, SFits, w64, to_z-of_z, rules}
 use Rattle.std.proofs.lemmas.Result.{err_from_is_err_and, on_ok_weaker, on_err_weaker}
 use Rattle.pth_base.proofs.Cuts.{cut_none}
-use Rattle.pth_model.specs.Ending.{dies, runs_destructors}
+use Rattle.pth_model.specs.Ending.{dies, gives_all, runs_destructors}
 use Rattle.pth_world.proofs.Stores.{alive_known}
 use Rattle.pth_world.specs.Store.{store_of}
 use Rattle.pth_world.specs.World.{WorldOf}
 use Rattle.pth_end.proofs.Chains.{cut_one, cut_second}
-use Rattle.pth_end.proofs.Ends.{wait_undone, dies_leads, end_leads, cut_cleaning, cut_later}
+use Rattle.pth_end.proofs.Ends.{wait_undone, dies_leads, end_leads, cut_cleaning, cut_giving, cut_later, leaving}
 use Rattle.pth_end.proofs.ending.end_thread.Goals as goal
 
 pub unblock-requires-clause-known : goal.unblock-requires-clause-known
@@ -14,12 +14,12 @@ unblock-requires-clause-known g c = alive_known c.args.w.now.threads c.args.t.0 
 
 pub forget-requires-clause-known : goal.forget-requires-clause-known
 forget-requires-clause-known g c =
-    let records = ap (λ (z : WorldOf _ _ _). z.threads.records) c.in_ok-run_destructors.ensures.handled.same ∙ ap (λ (z : WorldOf _ _ _). z.threads.records) c.in_ok-run_cleanups.ensures.handled.same ∙ ap (λ (z : WorldOf _ _ _). z.threads.records) c.unblock.ensures.same in
+    let records = ap (λ (z : WorldOf _ _ _). z.threads.records) c.in_ok-give_all.ensures.handled.same ∙ ap (λ (z : WorldOf _ _ _). z.threads.records) c.in_ok-run_destructors.ensures.handled.same ∙ ap (λ (z : WorldOf _ _ _). z.threads.records) c.in_ok-run_cleanups.ensures.handled.same ∙ ap (λ (z : WorldOf _ _ _). z.threads.records) c.unblock.ensures.same in
     rw records (alive_known c.args.w.now.threads c.args.t.0 c.requires.alive)
 
 pub leave-requires-clause-known : goal.leave-requires-clause-known
 leave-requires-clause-known g c =
-    let records = ap (λ (z : WorldOf _ _ _). z.threads.records) c.forget.ensures.same ∙ ap (λ (z : WorldOf _ _ _). z.threads.records) c.in_ok-run_destructors.ensures.handled.same ∙ ap (λ (z : WorldOf _ _ _). z.threads.records) c.in_ok-run_cleanups.ensures.handled.same ∙ ap (λ (z : WorldOf _ _ _). z.threads.records) c.unblock.ensures.same in
+    let records = ap (λ (z : WorldOf _ _ _). z.threads.records) c.forget.ensures.same ∙ ap (λ (z : WorldOf _ _ _). z.threads.records) c.in_ok-give_all.ensures.handled.same ∙ ap (λ (z : WorldOf _ _ _). z.threads.records) c.in_ok-run_destructors.ensures.handled.same ∙ ap (λ (z : WorldOf _ _ _). z.threads.records) c.in_ok-run_cleanups.ensures.handled.same ∙ ap (λ (z : WorldOf _ _ _). z.threads.records) c.unblock.ensures.same in
     rw records (alive_known c.args.w.now.threads c.args.t.0 c.requires.alive)
 
 pub returns-in_err-run_cleanups-clause-err : goal.returns-in_err-run_cleanups-clause-err
@@ -36,7 +36,18 @@ returns-in_err-run_destructors-clause-err g c =
     rw p.1 (λ s st.
     let waits = wait_undone c.args.w.now c.unblock.new.self c.args.t.0 s (c.unblock.ensures.shows s.control st.control) (ap (λ (z : WorldOf _ _ _). z.store) c.unblock.ensures.same) st in
     let cleaned = c.in_ok-run_cleanups.ensures.ok _ waits in
-    cut_later f c.args.t.0 c.args.value c.run_cleanups.new.w s _ _ _ cleaned (cut_one _ (runs_destructors f c.args.t.0) (dies c.args.t.0 c.args.value) _ _ (c.in_err-run_destructors.ensures.err _ cleaned.stands)))
+    cut_later f c.args.t.0 c.args.value c.run_cleanups.new.w s _ _ _ cleaned (cut_one _ (runs_destructors f c.args.t.0) (leaving f c.args.t.0 c.args.value) _ _ (c.in_err-run_destructors.ensures.err _ cleaned.stands)))
+
+pub returns-in_err-give_all-clause-err : goal.returns-in_err-give_all-clause-err
+returns-in_err-give_all-clause-err g c =
+    let f = g.P.Program.functions in
+    let p = err_from_is_err_and c.from_residual-in_err-give_all.result c.from_residual-in_err-give_all.ensures.1 in
+    rw p.1 (λ s st.
+    let waits = wait_undone c.args.w.now c.unblock.new.self c.args.t.0 s (c.unblock.ensures.shows s.control st.control) (ap (λ (z : WorldOf _ _ _). z.store) c.unblock.ensures.same) st in
+    let cleaned = c.in_ok-run_cleanups.ensures.ok _ waits in
+    let destructed = c.in_ok-run_destructors.ensures.ok _ cleaned.stands in
+    cut_later f c.args.t.0 c.args.value c.run_cleanups.new.w s _ _ _ cleaned (cut_giving f c.args.t.0 c.args.value c.run_destructors.new.w s _ _ _ destructed
+    (cut_one _ (gives_all c.args.t.0) (dies c.args.t.0 c.args.value) _ _ (c.in_err-give_all.ensures.err _ destructed.stands))))
 
 pub returns-clause-ok : goal.returns-clause-ok
 returns-clause-ok g c =
@@ -47,9 +58,10 @@ returns-clause-ok g c =
     let waits = wait_undone c.args.w.now c.unblock.new.self c.args.t.0 s (c.unblock.ensures.shows s.control st.control) (ap (λ (z : WorldOf _ _ _). z.store) c.unblock.ensures.same) st in
     let cleaned = c.in_ok-run_cleanups.ensures.ok _ waits in
     let destructed = c.in_ok-run_destructors.ensures.ok _ cleaned.stands in
+    let gave = c.in_ok-give_all.ensures.ok _ destructed.stands in
     let stored = ap (λ (z : WorldOf _ _ _). store_of z.store) c.leave.ensures.same ∙ c.forget.ensures.changes in
-    let died = dies_leads f c.args.t.0 c.args.value c.run_destructors.new.w c.leave.new.self _ _ _ destructed.stands (left _ (c.forget.ensures.shows _ destructed.stands.control)) stored told in
-    end_leads f c.args.t.0 c.args.value c.run_cleanups.new.w c.run_destructors.new.w c.leave.new.self s _ _ _ _ cleaned destructed died) (simp to_z-of_z at c.push.ensures.ok)
+    let died = dies_leads f c.args.t.0 c.args.value c.give_all.new.w c.leave.new.self _ _ _ gave.stands (left _ (c.forget.ensures.shows _ gave.stands.control)) stored told in
+    end_leads f c.args.t.0 c.args.value c.run_cleanups.new.w c.run_destructors.new.w c.give_all.new.w c.leave.new.self s _ _ _ _ _ cleaned destructed gave died) (simp to_z-of_z at c.push.ensures.ok)
 
 pub returns-clause-err : goal.returns-clause-err
 returns-clause-err g c =
@@ -58,4 +70,6 @@ returns-clause-err g c =
     let waits = wait_undone c.args.w.now c.unblock.new.self c.args.t.0 s (c.unblock.ensures.shows s.control st.control) (ap (λ (z : WorldOf _ _ _). z.store) c.unblock.ensures.same) st in
     let cleaned = c.in_ok-run_cleanups.ensures.ok _ waits in
     let destructed = c.in_ok-run_destructors.ensures.ok _ cleaned.stands in
-    cut_later f c.args.t.0 c.args.value c.run_cleanups.new.w s _ _ _ cleaned (cut_second c.run_destructors.new.w _ (runs_destructors f c.args.t.0) (dies c.args.t.0 c.args.value) _ _ _ destructed (cut_none _ _ _ same))) c.push.ensures.err
+    let gave = c.in_ok-give_all.ensures.ok _ destructed.stands in
+    cut_later f c.args.t.0 c.args.value c.run_cleanups.new.w s _ _ _ cleaned (cut_giving f c.args.t.0 c.args.value c.run_destructors.new.w s _ _ _ destructed
+    (cut_second c.give_all.new.w _ (gives_all c.args.t.0) (dies c.args.t.0 c.args.value) _ _ _ gave (cut_none _ _ _ same)))) c.push.ensures.err

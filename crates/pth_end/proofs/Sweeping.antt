@@ -1,0 +1,322 @@
+-- A thread gives up what it has, one after another.
+use Rattle.std.proofs.Common.{◌≡◌, ◌≢◌, ℕ, zero, suc, ◌+◌, ◌^◌, ◌<◌, ◌≤◌, ◌||◌, Bool, true, false, cond, if◌then◌else◌, ◌⊎◌, inl, inr, List, [], ◌∷◌, ◌++◌, map, filter, Option, None, refl, sym, ◌∙◌, ap, ap₂, subst, append_assoc, arith}
+use Rattle.std.specs.List.{range_with_len}
+use Rattle.std.proofs.lemmas.Bool.{cases_lt}
+use mathlib.Core.Path.{fun_ext}
+use Rattle.pth_base.specs.Cut.{IsCut}
+use Rattle.pth_base.specs.Table.{put}
+use Rattle.pth_base.specs.declared.ids.Tid.{Tid}
+use Rattle.pth_base.specs.declared.mark.Mark.{Mark}
+use Rattle.pth_base.specs.declared.mark.Mark.TheVariants.{GaveMutex, GaveLock}
+use Rattle.pth_base.proofs.Cuts.{cut_then}
+use Rattle.pth_base.proofs.Lists.{put_none, put_twice}
+use Rattle.pth_base.proofs.Tables.{put_here, put_other, put_by}
+use Rattle.pth_lock.specs.Objects.{object_limit}
+use Rattle.pth_lock.specs.Mutexes.{Mutex, MutexTable, free_mutex, has, mutexes_left}
+use Rattle.pth_lock.specs.RwLocks.{LockTables, holds, is_one, lock_released, locks_left, readers_without, without_slot}
+use Rattle.pth_lock.specs.Sets.{contains}
+use Rattle.pth_lock.proofs.Bits.{contains-past}
+use Rattle.pth_lock.proofs.Sweeps.{by_place}
+use Rattle.pth_model.specs.Ending.{gives_mutexes, gives_locks}
+use Rattle.pth_model.specs.Resources.{Resources, Store, told, mutex_freed, no_resources, with_store, with_mutexes, with_rw_locks}
+use Rattle.pth_model.specs.State.{State}
+use Rattle.pth_model.specs.Transition.{Piece, Transition, silent, tells, tid, where_so, ◌and_then◌}
+use Rattle.pth_world.specs.Leading.{Leads}
+use Rattle.pth_world.specs.Shows.{Shows, StandsFor}
+use Rattle.pth_world.specs.Store.{store_of}
+use Rattle.pth_world.specs.World.{WorldOf}
+use Rattle.pth_world.proofs.Locked.{neither}
+use Rattle.pth_end.specs.Giving.{given, all_given}
+use Rattle.pth_end.specs.declared.giving.Held.{Held}
+use Rattle.pth_end.specs.declared.giving.Held.TheVariants as held
+
+-- ---- numbers in a row that pass a test
+
+-- by the numbers that are looked at
+filter_same : (p q : ℕ → Bool) (n m : ℕ) → ((i : ℕ) → m ≤ i → p i ≡ q i) → filter p (range_with_len m n) ≡ filter q (range_with_len m n)
+filter_same p q zero m same = refl
+filter_same p q (suc n) m same =
+    ap (λ (b : Bool). cond b (m ∷ filter p (range_with_len (m + 1) n)) (filter p (range_with_len (m + 1) n))) (same m (omega arith))
+    ∙ ap (λ (xs : List ℕ). cond (q m) (m ∷ xs) xs) (filter_same p q n (m + 1) (λ i high. same i (omega (arith, high))))
+
+filter_none : (p : ℕ → Bool) (n m : ℕ) → ((i : ℕ) → p i ≡ false) → filter p (range_with_len m n) ≡ []
+filter_none p zero m none = refl
+filter_none p (suc n) m none = ap (λ (b : Bool). cond b (m ∷ filter p (range_with_len (m + 1) n)) (filter p (range_with_len (m + 1) n))) (none m) ∙ filter_none p n (m + 1) none
+
+apart_above : (k i : ℕ) → k + 1 ≤ i → i ≢ k
+apart_above k i high = omega (arith, high)
+
+-- the least one first, and then the others
+filter_first : (p : ℕ → Bool) (k n m : ℕ) → m ≤ k → k < m + n → p k ≡ true → ((i : ℕ) → i < k → p i ≡ false) → filter p (range_with_len m n) ≡ k ∷ filter (put p k false) (range_with_len m n)
+filter_first p k zero m low high member least = absurd (omega (arith, low, high))
+filter_first p k (suc n) m low high member least = by_place (cases_lt m k) (λ less. filter_first p k n (m + 1) (omega (arith, less)) (omega (arith, high)) member least)
+  where
+    rest : (ℕ → Bool) → List ℕ
+    rest q = filter q (range_with_len (m + 1) n)
+
+    by_place : (m < k) ⊎ (k ≤ m) → (m < k → rest p ≡ k ∷ rest (put p k false)) → cond (p m) (m ∷ rest p) (rest p) ≡ k ∷ cond (put p k false m) (m ∷ rest (put p k false)) (rest (put p k false))
+    by_place (inl less) later =
+        let apart : m ≢ k = omega (arith, less) in
+        let out : p m ≡ false = least m less in
+        ap (λ (b : Bool). cond b (m ∷ rest p) (rest p)) out ∙ later less ∙ ap (λ (b : Bool). k ∷ cond b (m ∷ rest (put p k false)) (rest (put p k false))) (sym (put_other p k false m apart ∙ out))
+    by_place (inr above) later =
+        let same : m ≡ k = omega (arith, low, above) in
+        ap (λ (b : Bool). cond b (m ∷ rest p) (rest p)) (ap p same ∙ member)
+        ∙ ap₂ (λ (i : ℕ) (xs : List ℕ). i ∷ xs) same (filter_same p (put p k false) n (m + 1) (λ i high. sym (put_other p k false i (apart_above k i (omega (arith, high, same))))))
+        ∙ ap (λ (b : Bool). k ∷ cond b (m ∷ rest (put p k false)) (rest (put p k false))) (sym (ap (put p k false) same ∙ put_here p k false))
+
+-- ---- what is told
+
+module _ (h : Held) (t : Tid) where
+  -- of nothing
+  pub none_given : (set : ℕ → Bool) → ((k : ℕ) → set k ≡ false) → all_given h t set ≡ []
+  unfolding all_given
+  none_given set none = ap (map (given h t)) (filter_none set object_limit 0 none)
+
+  -- of the least one first
+  first_given : (set less : ℕ → Bool) (k : ℕ) → k < object_limit → set k ≡ true → ((i : ℕ) → i < k → set i ≡ false) → less ≡ put set k false → all_given h t set ≡ given h t k ∷ all_given h t less
+  unfolding all_given
+  first_given set less k low member least is =
+      ap (map (given h t)) (filter_first set k object_limit 0 (omega arith) low member least)
+      ∙ ap (λ (q : ℕ → Bool). given h t k ∷ all_given h t q) (sym is)
+
+  -- it was told, and then the others
+  module _ (set less : ℕ → Bool) (k : ℕ) (low : k < object_limit) (member : set k ≡ true) (least : (i : ℕ) → i < k → set i ≡ false) (is : less ≡ put set k false) (m : Mark) (one : m ≡ given h t k) (old mid new : List Mark) (appended : mid ≡ old ++ m ∷ []) where
+    head : mid ≡ old ++ given h t k ∷ []
+    head = appended ∙ ap (λ (x : Mark). old ++ x ∷ []) one
+
+    all_is : all_given h t set ≡ given h t k ∷ all_given h t less
+    all_is = first_given set less k low member least is
+
+    pub given_then : new ≡ mid ++ all_given h t less → new ≡ old ++ all_given h t set
+    given_then rest = rest ∙ ap (λ (xs : List Mark). xs ++ all_given h t less) head ∙ append_assoc old (given h t k ∷ []) (all_given h t less) ∙ ap (λ (xs : List Mark). old ++ xs) (sym all_is)
+
+    pub given_cut : IsCut mid new (all_given h t less) → IsCut old new (all_given h t set)
+    given_cut cut = subst (λ (xs : List Mark). IsCut old new xs) (sym all_is) (cut_then old mid new (given h t k ∷ []) (all_given h t less) head cut)
+
+-- ---- a sweep: of each number in a row that passes a test a mark is told, after which it does not
+
+module _ {P S H : Type 0} (mark : ℕ → Mark) (test : Store → ℕ → Bool) (step : ℕ → Store → Store) (all : Store → Store) (gives : ℕ → ℕ → Piece P S H)
+    (none : (m : ℕ) (s : State P S H) → gives 0 m s ≡ silent s)
+    (more : (n m : ℕ) (s : State P S H) → gives (suc n) m s ≡ (where_so (test s.resources.store m) (tells (mark m)) and_then gives n (m + 1)) s)
+    (tell : (k : Resources) (m : ℕ) → told k (mark m) ≡ with_store k (step m k.store))
+    (left : (x : Store) (m i : ℕ) → test (step m x) i ≡ put (test x) m false i)
+    (rest : (x : Store) (m : ℕ) → test x m ≡ true → all (step m x) ≡ all x)
+    (still : (x : Store) → ((i : ℕ) → test x i ≡ false) → all x ≡ x) where
+  abbrev marks_of : Store → ℕ → ℕ → List Mark
+  marks_of x n m = map mark (filter (test x) (range_with_len m n))
+
+  -- the resources are these once all was given up
+  abbrev swept : State P S H → Resources → ℕ → ℕ → List Mark → Transition P S H
+  swept s k n m first = record { state = record s { resources = with_store k (all k.store) }; marks = first ++ marks_of k.store n m }
+
+  abbrev Within : Store → ℕ → ℕ → Type 0
+  Within x n m = (i : ℕ) → test x i ≡ true → (m ≤ i) × (i < m + n)
+
+  outside : (x : Store) (m i : ℕ) (b : Bool) → Within x zero m → test x i ≡ b → b ≡ false
+  outside x m i true within is = absurd (omega (arith, (within i is).0, (within i is).1))
+  outside x m i false within is = refl
+
+  -- behind the first one
+  narrower : (x : Store) (n m : ℕ) → Within x (suc n) m → test x m ≡ false → Within x n (m + 1)
+  narrower x n m within out i is =
+      let apart : m ≢ i = λ same. cc (out, ap (test x) same ∙ is) in
+      let at = within i is in
+      (omega (arith, at.0, apart), omega (arith, at.1))
+
+  narrower_put : (x : Store) (n m : ℕ) → Within x (suc n) m → Within (step m x) n (m + 1)
+  narrower_put x n m within i is = put_by (λ (b : Bool). b ≡ true → (m + 1 ≤ i) × (i < m + 1 + n)) (test x) m false i
+      (λ here no. absurd (cc no))
+      (λ apart member. let at = within i member in (omega (arith, at.0, apart), omega (arith, at.1)))
+      (sym (left x m i) ∙ is)
+
+  pub sweep : (n m : ℕ) (s : State P S H) → Within s.resources.store n m → gives n m s ≡ swept s s.resources n m []
+  sweep zero m s within = none m s ∙ ap (λ (x : Store). record { state = record s { resources = with_store s.resources x }; marks = [] }) (sym (still s.resources.store (λ i. by_outside i)))
+    where
+      by_outside : (i : ℕ) → test s.resources.store i ≡ false
+      by_outside i = outside s.resources.store m i (test s.resources.store i) within refl
+  sweep (suc n) m s within =
+      more n m s
+      ∙ by_test (test s.resources.store m) refl
+      (λ out. sweep n (m + 1) s (narrower s.resources.store n m within out))
+      (sweep n (m + 1) (tells (mark m) s).state (subst (λ (k : Resources). Within k.store n (m + 1)) (sym (tell s.resources m)) (narrower_put s.resources.store n m within)))
+    where
+      behind : (s' : State P S H) → Transition P S H
+      behind s' = gives n (m + 1) s'
+
+      by_test : (b : Bool) → test s.resources.store m ≡ b → (test s.resources.store m ≡ false → behind s ≡ swept s s.resources n (m + 1) []) → behind (tells (mark m) s).state ≡ swept s (told s.resources (mark m)) n (m + 1) []
+          → (where_so b (tells (mark m)) and_then gives n (m + 1)) s ≡ swept s s.resources (suc n) m []
+      by_test false out skip go =
+          skip out ∙ ap (λ (b : Bool). record { state = record s { resources = with_store s.resources (all s.resources.store) }; marks = map mark (cond b (m ∷ filter (test s.resources.store) (range_with_len (m + 1) n)) (filter (test s.resources.store) (range_with_len (m + 1) n))) }) (sym out)
+      by_test true member skip go =
+          ap (λ (x : Transition P S H). record { state = x.state; marks = mark m ∷ x.marks }) go
+          ∙ ap (λ (k : Resources). swept s k n (m + 1) (mark m ∷ [])) (tell s.resources m)
+          ∙ ap₂ (λ (y : Store) (ms : List Mark). record { state = record s { resources = with_store s.resources y }; marks = mark m ∷ ms }) (rest s.resources.store m member)
+          (ap (map mark) (filter_same (test (step m s.resources.store)) (test s.resources.store) n (m + 1) (λ i high. left s.resources.store m i ∙ put_other (test s.resources.store) m false i (apart_above m i high))))
+          ∙ ap (λ (b : Bool). record { state = record s { resources = with_store s.resources (all s.resources.store) }; marks = map mark (cond b (m ∷ filter (test s.resources.store) (range_with_len (m + 1) n)) (filter (test s.resources.store) (range_with_len (m + 1) n))) }) (sym member)
+
+-- ---- sets of 64 bits
+
+-- none from 64 on
+abbrev IsSmall : (ℕ → Bool) → Type 0
+IsSmall test = (i : ℕ) → test i ≡ true → i < object_limit
+
+within : (test : ℕ → Bool) → IsSmall test → (i : ℕ) → test i ≡ true → (0 ≤ i) × (i < 0 + object_limit)
+within test small i is = let low = small i is in (omega arith, omega (arith, low))
+
+small_by : (set i : ℕ) → set < 2 ^ 64 → contains set i ≡ true → (i < object_limit) ⊎ (object_limit ≤ i) → i < object_limit
+small_by set i fits member (inl low) = low
+small_by set i fits member (inr high) = absurd (cc (contains-past set fits i high, member))
+
+small_set : (set : ℕ) (test : ℕ → Bool) → set < 2 ^ 64 → contains set ≡ test → IsSmall test
+small_set set test fits is i member = small_by set i fits (ap (λ (f : ℕ → Bool). f i) is ∙ member) (cases_lt i object_limit)
+
+-- ---- mutexes
+
+module _ (t : ℕ) where
+  abbrev mutex_test : Store → ℕ → Bool
+  mutex_test x m = has t (x.mutexes m)
+
+  abbrev give_mutex : ℕ → Store → Store
+  give_mutex m x = with_mutexes (mutex_freed m) x
+
+  left_mutex : (x : Store) (m i : ℕ) → mutex_test (give_mutex m x) i ≡ put (mutex_test x) m false i
+  left_mutex x m = by_place (λ (i : ℕ). mutex_test (give_mutex m x) i ≡ put (mutex_test x) m false i) m
+      (ap (has t) (put_here x.mutexes m free_mutex) ∙ sym (put_here (mutex_test x) m false))
+      (λ i apart. ap (has t) (put_other x.mutexes m free_mutex i apart) ∙ sym (put_other (mutex_test x) m false i apart))
+
+  rest_mutex : (x : Store) (m : ℕ) → mutex_test x m ≡ true → with_mutexes (mutexes_left t) (give_mutex m x) ≡ with_mutexes (mutexes_left t) x
+  rest_mutex x m member = ap (λ (y : MutexTable). with_mutexes (λ _. y) x) (fun_ext (by_place (λ (i : ℕ). mutexes_left t (put x.mutexes m free_mutex) i ≡ mutexes_left t x.mutexes i) m
+      (ap (λ (y : Mutex). if has t y then free_mutex else y) (put_here x.mutexes m free_mutex) ∙ sym (ap (λ (b : Bool). if b then free_mutex else x.mutexes m) member))
+      (λ i apart. ap (λ (y : Mutex). if has t y then free_mutex else y) (put_other x.mutexes m free_mutex i apart))))
+
+  still_mutex : (x : Store) → ((i : ℕ) → mutex_test x i ≡ false) → with_mutexes (mutexes_left t) x ≡ x
+  still_mutex x none = ap (λ (y : MutexTable). with_mutexes (λ _. y) x) (fun_ext (λ i. ap (λ (b : Bool). if b then free_mutex else x.mutexes i) (none i)))
+
+  mutex_told : (k : Resources) (m : ℕ) → told k (GaveMutex (tid t) m) ≡ with_store k (give_mutex m k.store)
+  unfolding told
+  mutex_told k m = refl
+
+  -- ---- read-write locks
+
+  abbrev lock_test : Store → ℕ → Bool
+  lock_test x l = holds x.rw_locks t l
+
+  abbrev give_lock : ℕ → Store → Store
+  give_lock l x = with_rw_locks (lock_released t l) x
+
+  same_locks : {j : ℕ → Bool} {v w : ℕ → Option ℕ} {f g : ℕ → ℕ → Bool} {m n : ℕ → ℕ} → v ≡ w → f ≡ g → m ≡ n → ◌≡◌ {A = LockTables} (record { initialised = j; writer = v; reads = f; readers = m }) (record { initialised = j; writer = w; reads = g; readers = n })
+  same_locks {j = j} p q r = λ i. record { initialised = j; writer = p i; reads = q i; readers = r i }
+
+  not_one : (w : Option ℕ) (b : Bool) → is_one t w ≡ b → is_one t (if b then None else w) ≡ false
+  not_one w true is = refl
+  not_one w false is = is
+
+  none_twice : (w : Option ℕ) (b : Bool) → is_one t w ≡ b → without_slot t (if b then None else w) ≡ (if b then None else w)
+  none_twice w true is = refl
+  none_twice w false is = ap (λ (b : Bool). if b then None else w) is
+
+  left_lock : (x : Store) (l i : ℕ) → lock_test (give_lock l x) i ≡ put (lock_test x) l false i
+  left_lock x l =
+      let k = x.rw_locks in
+      let w = without_slot t (k.writer l) in
+      let r = put (k.reads l) t false in
+      by_place (λ (i : ℕ). lock_test (give_lock l x) i ≡ put (lock_test x) l false i) l
+      (ap₂ (λ (v : Option ℕ) (f : ℕ → Bool). is_one t v || f t) (put_here k.writer l w) (put_here k.reads l r)
+      ∙ ap₂ (λ (b c : Bool). b || c) (not_one (k.writer l) (is_one t (k.writer l)) refl) (put_here (k.reads l) t false)
+      ∙ sym (put_here (lock_test x) l false))
+      (λ i apart. ap₂ (λ (v : Option ℕ) (f : ℕ → Bool). is_one t v || f t) (put_other k.writer l w i apart) (put_other k.reads l r i apart) ∙ sym (put_other (lock_test x) l false i apart))
+
+  rest_lock : (x : Store) (l : ℕ) → lock_test x l ≡ true → with_rw_locks (locks_left t) (give_lock l x) ≡ with_rw_locks (locks_left t) x
+  rest_lock x l member =
+      let k = x.rw_locks in
+      let w = without_slot t (k.writer l) in
+      let r = put (k.reads l) t false in
+      let n = readers_without (k.reads l t) (k.readers l) in
+      ap (λ (y : LockTables). with_rw_locks (λ _. y) x) (same_locks
+      (fun_ext (by_place (λ (i : ℕ). without_slot t (put k.writer l w i) ≡ without_slot t (k.writer i)) l
+      (ap (without_slot t) (put_here k.writer l w) ∙ none_twice (k.writer l) (is_one t (k.writer l)) refl)
+      (λ i apart. ap (without_slot t) (put_other k.writer l w i apart))))
+      (fun_ext (by_place (λ (i : ℕ). put (put k.reads l r i) t false ≡ put (k.reads i) t false) l
+      (ap (λ (f : ℕ → Bool). put f t false) (put_here k.reads l r) ∙ put_twice (k.reads l) t false false)
+      (λ i apart. ap (λ (f : ℕ → Bool). put f t false) (put_other k.reads l r i apart))))
+      (fun_ext (by_place (λ (i : ℕ). readers_without (put k.reads l r i t) (put k.readers l n i) ≡ readers_without (k.reads i t) (k.readers i)) l
+      (ap₂ (λ (b : Bool) (m : ℕ). readers_without b m) (ap (λ (f : ℕ → Bool). f t) (put_here k.reads l r) ∙ put_here (k.reads l) t false) (put_here k.readers l n))
+      (λ i apart. ap₂ (λ (b : Bool) (m : ℕ). readers_without b m) (ap (λ (f : ℕ → Bool). f t) (put_other k.reads l r i apart)) (put_other k.readers l n i apart)))))
+
+  still_lock : (x : Store) → ((i : ℕ) → lock_test x i ≡ false) → with_rw_locks (locks_left t) x ≡ x
+  still_lock x none =
+      let k = x.rw_locks in
+      let held : (i : ℕ) → (is_one t (k.writer i) ≡ false) × (k.reads i t ≡ false) = λ i. neither (is_one t (k.writer i)) (k.reads i t) (none i) in
+      ap (λ (y : LockTables). with_rw_locks (λ _. y) x) (same_locks
+      (fun_ext (λ i. ap (λ (b : Bool). if b then None else k.writer i) (held i).0))
+      (fun_ext (λ i. put_none (k.reads i) t false (held i).1))
+      (fun_ext (λ i. ap (λ (b : Bool). readers_without b (k.readers i)) (held i).1)))
+
+  lock_told : (k : Resources) (l : ℕ) → told k (GaveLock (tid t) l) ≡ with_store k (give_lock l k.store)
+  unfolding told
+  lock_told k l = refl
+
+  -- ---- all of them
+
+  module _ {P S H : Type 0} where
+    no_mutexes_more : (m : ℕ) (s : State P S H) → gives_mutexes t 0 m s ≡ silent s
+    unfolding gives_mutexes
+    no_mutexes_more m s = refl
+
+    more_mutexes : (n m : ℕ) (s : State P S H) → gives_mutexes t (suc n) m s ≡ (where_so (mutex_test s.resources.store m) (tells (GaveMutex (tid t) m)) and_then gives_mutexes t n (m + 1)) s
+    unfolding gives_mutexes
+    more_mutexes n m s = refl
+
+    no_locks_more : (m : ℕ) (s : State P S H) → gives_locks t 0 m s ≡ silent s
+    unfolding gives_locks
+    no_locks_more m s = refl
+
+    more_locks : (n m : ℕ) (s : State P S H) → gives_locks t (suc n) m s ≡ (where_so (lock_test s.resources.store m) (tells (GaveLock (tid t) m)) and_then gives_locks t n (m + 1)) s
+    unfolding gives_locks
+    more_locks n m s = refl
+
+    mutexes_swept : (s : State P S H) → IsSmall (mutex_test s.resources.store) → gives_mutexes t object_limit 0 s ≡ record { state = record s { resources = with_store s.resources (with_mutexes (mutexes_left t) s.resources.store) }; marks = all_given held.Mutex (tid t) (mutex_test s.resources.store) }
+    unfolding all_given
+    mutexes_swept s small = sweep (GaveMutex (tid t)) mutex_test give_mutex (with_mutexes (mutexes_left t)) (gives_mutexes t) no_mutexes_more more_mutexes mutex_told left_mutex rest_mutex still_mutex object_limit 0 s (within (mutex_test s.resources.store) small)
+
+    locks_swept : (s : State P S H) → IsSmall (lock_test s.resources.store) → gives_locks t object_limit 0 s ≡ record { state = record s { resources = with_store s.resources (with_rw_locks (locks_left t) s.resources.store) }; marks = all_given held.RwLock (tid t) (lock_test s.resources.store) }
+    unfolding all_given
+    locks_swept s small = sweep (GaveLock (tid t)) lock_test give_lock (with_rw_locks (locks_left t)) (gives_locks t) no_locks_more more_locks lock_told left_lock rest_lock still_lock object_limit 0 s (within (lock_test s.resources.store) small)
+
+    module _ (w v : WorldOf P S H) (s : State P S H) (st : StandsFor w s) (set : ℕ) (fits : set < 2 ^ 64) (old new : List Mark) where
+      module _ (had : (m : ℕ) → contains set m ≡ mutex_test (store_of w.store) m) where
+        mutex_set : contains set ≡ mutex_test s.resources.store
+        mutex_set = fun_ext had ∙ ap (λ (k : Resources). mutex_test k.store) (sym st.resources)
+
+        mutexes_are : gives_mutexes t object_limit 0 s ≡ record { state = record s { resources = with_store s.resources (with_mutexes (mutexes_left t) s.resources.store) }; marks = all_given held.Mutex (tid t) (contains set) }
+        mutexes_are =
+            mutexes_swept s (small_set set (mutex_test s.resources.store) fits mutex_set)
+            ∙ ap (λ (f : ℕ → Bool). record { state = record s { resources = with_store s.resources (with_mutexes (mutexes_left t) s.resources.store) }; marks = all_given held.Mutex (tid t) f }) (sym mutex_set)
+
+        pub mutexes_cut : IsCut old new (all_given held.Mutex (tid t) (contains set)) → IsCut old new (gives_mutexes t object_limit 0 s).marks
+        mutexes_cut cut = subst (λ (x : Transition P S H). IsCut old new x.marks) (sym mutexes_are) cut
+
+        pub mutexes_lead : store_of v.store ≡ with_mutexes (mutexes_left t) (store_of w.store) → Shows v s.control → new ≡ old ++ all_given held.Mutex (tid t) (contains set) → Leads v old new (gives_mutexes t object_limit 0 s)
+        mutexes_lead changes shows appended = subst (λ (x : Transition P S H). Leads v old new x) (sym mutexes_are) (record {
+          stands = record { control = shows; resources = ap (λ (k : Resources). with_store k (with_mutexes (mutexes_left t) k.store)) st.resources ∙ ap (λ (y : Store). record no_resources { store = y }) (sym changes) };
+          tells = appended;
+        })
+
+      module _ (holding : (l : ℕ) → contains set l ≡ lock_test (store_of w.store) l) where
+        lock_set : contains set ≡ lock_test s.resources.store
+        lock_set = fun_ext holding ∙ ap (λ (k : Resources). lock_test k.store) (sym st.resources)
+
+        locks_are : gives_locks t object_limit 0 s ≡ record { state = record s { resources = with_store s.resources (with_rw_locks (locks_left t) s.resources.store) }; marks = all_given held.RwLock (tid t) (contains set) }
+        locks_are =
+            locks_swept s (small_set set (lock_test s.resources.store) fits lock_set)
+            ∙ ap (λ (f : ℕ → Bool). record { state = record s { resources = with_store s.resources (with_rw_locks (locks_left t) s.resources.store) }; marks = all_given held.RwLock (tid t) f }) (sym lock_set)
+
+        pub locks_cut : IsCut old new (all_given held.RwLock (tid t) (contains set)) → IsCut old new (gives_locks t object_limit 0 s).marks
+        locks_cut cut = subst (λ (x : Transition P S H). IsCut old new x.marks) (sym locks_are) cut
+
+        pub locks_lead : store_of v.store ≡ with_rw_locks (locks_left t) (store_of w.store) → Shows v s.control → new ≡ old ++ all_given held.RwLock (tid t) (contains set) → Leads v old new (gives_locks t object_limit 0 s)
+        locks_lead changes shows appended = subst (λ (x : Transition P S H). Leads v old new x) (sym locks_are) (record {
+          stands = record { control = shows; resources = ap (λ (k : Resources). with_store k (with_rw_locks (locks_left t) k.store)) st.resources ∙ ap (λ (y : Store). record no_resources { store = y }) (sym changes) };
+          tells = appended;
+        })
