@@ -100,6 +100,8 @@ has_code facility.Utilities = true
 has_code facility.Events = true
 has_code facility.Keys = true
 has_code facility.Cleanups = true
+has_code facility.Mutexes = true
+has_code facility.Rwlocks = true
 has_code facility.Io = true
 has_code x = false
 
@@ -117,6 +119,8 @@ pub record IsOther (x : Facility) : Type 0 where
   pub events : x ≢ facility.Events
   pub keys : x ≢ facility.Keys
   pub cleanups : x ≢ facility.Cleanups
+  pub mutexes : x ≢ facility.Mutexes
+  pub rwlocks : x ≢ facility.Rwlocks
   pub io : x ≢ facility.Io
 
 pub other_facility : (x : Facility) → IsOther x → is_of_code (Some x) ≡ false
@@ -128,6 +132,8 @@ other_facility facility.Utilities other = absurd (other.utilities refl)
 other_facility facility.Events other = absurd (other.events refl)
 other_facility facility.Keys other = absurd (other.keys refl)
 other_facility facility.Cleanups other = absurd (other.cleanups refl)
+other_facility facility.Mutexes other = absurd (other.mutexes refl)
+other_facility facility.Rwlocks other = absurd (other.rwlocks refl)
 other_facility facility.Io other = absurd (other.io refl)
 other_facility x other = refl
 
@@ -211,6 +217,12 @@ module _ {P S H : Type 0} (f : P → Functions S H) (s : State P S H) (t : ℕ) 
   unbuilt_row (call.KeyGet k) plain none = absurd (cc none)
   unbuilt_row (call.CleanupPush h v) plain none = absurd (cc none)
   unbuilt_row (call.CleanupPop v) plain none = absurd (cc none)
+  unbuilt_row (call.MutexInit m) plain none = absurd (cc none)
+  unbuilt_row (call.MutexAcquire m v e) plain none = absurd (cc none)
+  unbuilt_row (call.MutexRelease m) plain none = absurd (cc none)
+  unbuilt_row (call.RwInit l) plain none = absurd (cc none)
+  unbuilt_row (call.RwAcquire l write v e) plain none = absurd (cc none)
+  unbuilt_row (call.RwRelease l) plain none = absurd (cc none)
   unbuilt_row call.Plain plain none = absurd (cc plain)
   unbuilt_row (call.Note v) plain none = absurd (cc plain)
   unbuilt_row c plain none = refl

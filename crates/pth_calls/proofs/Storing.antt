@@ -5,19 +5,25 @@ use Rattle.pth_base.specs.Cut.{IsCut}
 use Rattle.pth_base.specs.Program.{Functions}
 use Rattle.pth_base.specs.declared.answer.Answer.{Answer}
 use Rattle.pth_base.specs.declared.answer.Answer.TheVariants.{Int, Fail}
+use Rattle.pth_base.specs.declared.call.Call.{Call}
 use Rattle.pth_base.specs.declared.call.Call.TheVariants as call
 use Rattle.pth_base.specs.declared.errno.Errno.{Errno}
 use Rattle.pth_base.specs.declared.errno.Errno.TheVariants.{EINVAL}
 use Rattle.pth_base.specs.declared.ids.Tid.{Tid}
 use Rattle.pth_base.specs.declared.mark.Mark.{Mark}
 use Rattle.pth_base.specs.declared.mark.Mark.TheVariants.{Answered}
+use Rattle.pth_lock.specs.Mutexes.{mutex_init_answer, mutex_initialised, mutex_release_answer}
+use Rattle.pth_lock.specs.Objects.{object_named}
+use Rattle.pth_lock.specs.RwLocks.{lock_init_answer, lock_initialised, lock_release_answer, lock_released}
 use Rattle.pth_model.specs.declared.next.Next.TheVariants as next
 use Rattle.pth_model.specs.Acts.{runs_handler}
 use Rattle.pth_model.specs.Calls.{begun, begun_by}
 use Rattle.pth_model.specs.Changes.{uses}
 use Rattle.pth_model.specs.Cleanups.{cleanup_push, last_pushed, once, runs_pushed}
 use Rattle.pth_model.specs.KeyStorage.{key_create, key_delete, key_set}
-use Rattle.pth_model.specs.Resources.{Resources, Store, destructor_by, handler, no_resources, told, answer_told, with_cleanups, with_keys}
+use Rattle.pth_model.specs.Mutexes.{mutex_init, mutex_release}
+use Rattle.pth_model.specs.Rwlocks.{rw_init, rw_release}
+use Rattle.pth_model.specs.Resources.{Resources, Store, destructor_by, handler, no_resources, told, answer_told, with_cleanups, with_keys, with_mutexes, with_rw_locks}
 use Rattle.pth_model.specs.Row.{Attempt, effect_of, refuses, unless_refused, ◌trying◌}
 use Rattle.pth_model.specs.Rows.{row_of}
 use Rattle.pth_model.specs.State.{State, Control, once_limit}
@@ -34,7 +40,7 @@ use Rattle.pth_world.specs.Store.{store_of}
 use Rattle.pth_world.specs.World.{WorldOf}
 use Rattle.pth_end.specs.Saying.{SaysRefusal}
 use Rattle.pth_end.proofs.Chains.{cut_one}
-use Rattle.pth_end.proofs.Acting.{nothing_told, refused_tells, stored_done, stored_refused}
+use Rattle.pth_end.proofs.Acting.{done_tells, nothing_told, refused_tells, stored_done, stored_refused}
 use Rattle.pth_base.specs.declared.memory.OutOfMemory.{OutOfMemory}
 use Rattle.pth_base.specs.declared.refusal.Refusal.{Refusal}
 use Rattle.pth_base.specs.declared.refusal.Refusal.TheVariants as refusal
@@ -67,13 +73,6 @@ module _ {P S H : Type 0} (w v : WorldOf P S H) where
   unfolding told answer_told
   popped_tells t x changes = ap (λ (y : Store). record no_resources { store = y }) (sym changes)
 
-  -- a key is deleted, or not
-  pub deleted_tells : (t : Tid) (k : ℤ) (r : Result (Unit {0}) Errno) (a : Answer) → by_result done r ≡ Says a → OnOk r (store_of v.store ≡ with_keys (deleted (key_named k)) (store_of w.store)) → OnErr r (v ≡ w) → Tells w (Answered t (call.KeyDelete k) a) v
-  unfolding told answer_told
-  deleted_tells t k (Ok u) (Int n) says changes same = let one : n ≡ pos 1 = cc in rw one (ap (λ (x : Store). record no_resources { store = x }) (sym changes))
-  deleted_tells t k (Err e) (Fail d) says changes same = refused_tells w v t (call.KeyDelete k) d same
-  deleted_tells t k r a says changes same = absurd (cc says)
-
 -- ---- the single calls
 
 module _ {P S H : Type 0} (w v : WorldOf P S H) (t : Tid) (shows : (k : Control P S H) → Shows w k → Shows v k) where
@@ -88,8 +87,32 @@ module _ {P S H : Type 0} (w v : WorldOf P S H) (t : Tid) (shows : (k : Control 
   pub create_refused : (d : Option ℤ) (e : Errno) → Err e ≡ key_create_answer (store_of w.store).keys → v ≡ w → IsTold w v (Answered t (call.KeyCreate d) (Fail e)) (Fail e) (λ s. (key_create s).begin)
   create_refused d e is same = stored_told w v (Answered t (call.KeyCreate d) (Fail e)) (Fail e) (λ s. by_result says (key_create_answer s.resources.store.keys)) (stored_by (λ x. by_result says (key_create_answer x.keys)) _ (ap (by_result says) (sym is))) shows (refused_tells w v t (call.KeyCreate d) e same)
 
+  -- a call that has nothing to say, by the answer of what is stored, and what it changes there
+  pub done_told : (c : Call) (answer : Store → Result (Unit {0}) Errno) (g : Store → Store) → ((x : Store) → told (record no_resources { store = x }) (Answered t c (Int (pos 1))) ≡ record no_resources { store = g x })
+      → (r : Result (Unit {0}) Errno) (a : Answer) → r ≡ answer (store_of w.store) → by_result done r ≡ Says a → OnOk r (store_of v.store ≡ g (store_of w.store)) → OnErr r (v ≡ w) → IsTold w v (Answered t c a) a (λ s. by_result done (answer s.resources.store) trying changes nothing)
+  done_told c answer g one r a is says changes same = stored_told w v (Answered t c a) a (λ s. by_result done (answer s.resources.store)) (stored_by (λ x. by_result done (answer x)) _ (ap (by_result done) (sym is) ∙ says)) shows (done_tells w v t c g one r a says changes same)
+
+  -- a key is deleted, or not
   pub deleted_told : (k : ℤ) (r : Result (Unit {0}) Errno) (a : Answer) → r ≡ key_delete_answer (store_of w.store).keys k → by_result done r ≡ Says a → OnOk r (store_of v.store ≡ with_keys (deleted (key_named k)) (store_of w.store)) → OnErr r (v ≡ w) → IsTold w v (Answered t (call.KeyDelete k) a) a (λ s. (key_delete s k).begin)
-  deleted_told k r a is says changes same = stored_told w v (Answered t (call.KeyDelete k) a) a (λ s. by_result done (key_delete_answer s.resources.store.keys k)) (stored_by (λ x. by_result done (key_delete_answer x.keys k)) _ (ap (by_result done) (sym is) ∙ says)) shows (deleted_tells w v t k r a says changes same)
+  unfolding told answer_told
+  deleted_told k = done_told (call.KeyDelete k) (λ x. key_delete_answer x.keys k) (with_keys (deleted (key_named k))) (λ x. refl)
+
+  -- a mutex is initialised, or not; and so a lock
+  pub mutex_initialised_told : (m : ℤ) (r : Result (Unit {0}) Errno) (a : Answer) → r ≡ mutex_init_answer (store_of w.store).mutexes m → by_result done r ≡ Says a → OnOk r (store_of v.store ≡ with_mutexes (mutex_initialised (object_named m)) (store_of w.store)) → OnErr r (v ≡ w) → IsTold w v (Answered t (call.MutexInit m) a) a (λ s. (mutex_init s m).begin)
+  unfolding told answer_told
+  mutex_initialised_told m = done_told (call.MutexInit m) (λ x. mutex_init_answer x.mutexes m) (with_mutexes (mutex_initialised (object_named m))) (λ x. refl)
+
+  pub lock_initialised_told : (l : ℤ) (r : Result (Unit {0}) Errno) (a : Answer) → r ≡ lock_init_answer (store_of w.store).rw_locks l → by_result done r ≡ Says a → OnOk r (store_of v.store ≡ with_rw_locks (lock_initialised (object_named l)) (store_of w.store)) → OnErr r (v ≡ w) → IsTold w v (Answered t (call.RwInit l) a) a (λ s. (rw_init s l).begin)
+  unfolding told answer_told
+  lock_initialised_told l = done_told (call.RwInit l) (λ x. lock_init_answer x.rw_locks l) (with_rw_locks (lock_initialised (object_named l))) (λ x. refl)
+
+  -- a lock is released, or not; and so a mutex
+  pub lock_released_told : (l : ℤ) (r : Result (Unit {0}) Errno) (a : Answer) → r ≡ lock_release_answer (store_of w.store).rw_locks t.0 l → by_result done r ≡ Says a → OnOk r (store_of v.store ≡ with_rw_locks (lock_released t.0 (object_named l)) (store_of w.store)) → OnErr r (v ≡ w) → IsTold w v (Answered t (call.RwRelease l) a) a (λ s. (rw_release s t.0 l).begin)
+  unfolding told answer_told
+  lock_released_told l = done_told (call.RwRelease l) (λ x. lock_release_answer x.rw_locks t.0 l) (with_rw_locks (lock_released t.0 (object_named l))) (λ x. refl)
+
+  pub mutex_released_told : (m : ℤ) (a : Answer) → by_result done (mutex_release_answer (store_of w.store).mutexes t.0 m) ≡ Says a → Tells w (Answered t (call.MutexRelease m) a) v → IsTold w v (Answered t (call.MutexRelease m) a) a (λ s. (mutex_release s t.0 m).begin)
+  mutex_released_told m a says tell = stored_told w v (Answered t (call.MutexRelease m) a) a (λ s. by_result done (mutex_release_answer s.resources.store.mutexes t.0 m)) (stored_by (λ y. by_result done (mutex_release_answer y.mutexes t.0 m)) _ says) shows tell
 
   pub set_told : (k x : ℤ) (a : Answer) → by_result done (key_set_answer (store_of w.store).keys k) ≡ Says a → Tells w (Answered t (call.KeySet k x) a) v → IsTold w v (Answered t (call.KeySet k x) a) a (λ s. (key_set s k).begin)
   set_told k x a says tell = stored_told w v (Answered t (call.KeySet k x) a) a (λ s. by_result done (key_set_answer s.resources.store.keys k)) (stored_by (λ y. by_result done (key_set_answer y.keys k)) _ says) shows tell

@@ -22,6 +22,8 @@ use crate::descriptors::answer_descriptors;
 use crate::event_handling::answer_events;
 use crate::key_storage::answer_keys;
 use crate::library_control::answer_library;
+use crate::mutexes::answer_mutexes;
+use crate::rwlocks::answer_rwlocks;
 use crate::thread_control::answer_threads;
 use crate::utilities::answer_utilities;
 use pth_base::answer::Answer;
@@ -56,6 +58,8 @@ fn answer<P: Program>(w: &mut World<P>, t: Tid, call: &Call) -> Result<Answer, O
         Facility::Events => answer_events(w, t, call),
         Facility::Keys => answer_keys(w, t, call),
         Facility::Cleanups => answer_cleanups(w, t, call),
+        Facility::Mutexes => Ok(answer_mutexes(w, t, call)),
+        Facility::Rwlocks => Ok(answer_rwlocks(w, t, call)),
         Facility::Io => Ok(answer_descriptors(w, call)),
         _ => Ok(Answer::Fail(Errno::EINVAL)),
     }

@@ -33,14 +33,19 @@ use Rattle.pth_model.specs.Changes.{blocked_of, goes_on, entry_of, or_nobody, wi
 use Rattle.pth_model.specs.Course.{Course}
 use Rattle.pth_model.specs.Row.{Attempt, effect_of}
 use Rattle.pth_model.specs.Rows.{row_of}
-use Rattle.pth_model.specs.Ending.{ending, undoes_wait, runs_cleanups, runs_destructors}
+use Rattle.pth_model.specs.Ending.{ending, undoes_wait, gives_all, runs_cleanups, runs_destructors}
 use Rattle.pth_model.specs.Cleanups.{last_pushed}
 use Rattle.pth_store.specs.Cleanups.{push_answer}
 use Rattle.pth_store.specs.Keys.{key_create_answer, key_delete_answer, key_set_answer, key_get_answer}
 use Rattle.pth_model.specs.ThreadEnds.{is_alone, must_wait}
 use Rattle.pth_model.specs.Calls.{begun, begun_by, resumed, resumed_where, tried_again, resumed_by, tried_by, unless_come, interrupted}
 use Rattle.pth_model.specs.EventHandling.{spec_of, made_as, make_event, chain, wait, number_or_none, status_number}
-use Rattle.pth_model.specs.RingWaits.{extra_ring, ring_given, has_event_come}
+use Rattle.pth_model.specs.RingWaits.{extra_ring, ring_given, has_event_come, is_no_ring, is_claimed_ring}
+use Rattle.pth_lock.specs.Mutexes.{is_anothers, level_limit, levels_of, mutex_init_answer, mutex_release_answer}
+use Rattle.pth_lock.specs.Objects.{object_named}
+use Rattle.pth_lock.specs.RwLocks.{holds, lock_init_answer, lock_release_answer}
+use Rattle.pth_model.specs.Mutexes.{begins_acquiring, is_free, mutex}
+use Rattle.pth_model.specs.Rwlocks.{begins_entering, is_lock, is_open, lets_in}
 use Rattle.pth_model.specs.Times.{rest, timeout, is_negative, length_of, moment_after}
 use Rattle.pth_ring.specs.Rings.{make_answer, chain_answer, concat_answer, isolate_answer, walk_answer, status_answer, kind_answer, free_answer, claim_answer, settled_in, alone, chained}
 use Rattle.pth_base.specs.declared.event.EvLine.{EvLine}
@@ -50,7 +55,7 @@ use Rattle.pth_base.specs.declared.ids.EventId.{EventId}
 use Rattle.pth_kernel.specs.Kernel.{fd_named, is_fd_live}
 use Rattle.pth_kernel.specs.Modes.{mode_answer}
 use Rattle.pth_model.specs.Awaits.{deadline_by}
-use Rattle.pth_model.specs.Io.{Trial, read_trial, write_trial, accept_trial, connect_trial, select_trial, first_select, is_no_ring, is_claimed_ring, begins_waiting, at_once, read, write, accept, connect, select_moment, select, fdmode, close}
+use Rattle.pth_model.specs.Io.{Trial, read_trial, write_trial, accept_trial, connect_trial, select_trial, first_select, begins_waiting, at_once, read, write, accept, connect, select_moment, select, fdmode, close}
 use Rattle.pth_model.specs.Part.{Part, Move, Take, Step, Close, Halt, next_part, part, part_by, moves, moves_by, takes, takes_by, readies_new, chosen, closes, steps, steps_by, steps_on, turn_after, gives_up, ends_run}
 use Rattle.pth_model.specs.Run.{run, IsBetween}
 use Rattle.pth_model.proofs.Runs.{parts-more, between-none, between-more}
@@ -258,6 +263,28 @@ module _ {P S H : Type 0} (f : P → Functions S H) (s : State P S H) (t : ℕ) 
   wait_on : (e : ℤ) → EndsNot (wait s e).begin.verdict
   wait_on e = part_on (claim_answer s.control.events (number e)) waits (blocks_on no_pause)
 
+  -- calls that take a mutex or a lock, or wait for it
+  turned_on : (b : Bool) → EndsNot (refused EBUSY when b otherwise waits)
+  turned_on b = refused_on EBUSY b waits (blocks_on no_pause)
+
+  taken_on : (b c : Bool) → EndsNot (says 1 when b otherwise refused EBUSY when c otherwise waits)
+  taken_on b c = when_on (says 1) b (refused EBUSY when c otherwise waits) (says_on (Int (pos 1))) (turned_on c)
+
+  acquire_on : (m u e : ℤ) → EndsNot (begins_acquiring s t m u e)
+  acquire_on m u e =
+      let busy = not (is_zero u) || is_claimed_ring s (extra_ring e) in
+      let mine = not (is_anothers t (mutex s m)) in
+      let full = levels_of t (mutex s m) == level_limit in
+      let rest = says 1 when mine otherwise refused EBUSY when busy otherwise waits in
+      refused_on EINVAL (is_none (mutex s m) || is_no_ring s (extra_ring e)) (refused EAGAIN when full otherwise rest) (refused_on EAGAIN full rest (taken_on mine busy))
+
+  enter_on : (l : ℤ) (write : Bool) (u e : ℤ) → EndsNot (begins_entering s t l write u e)
+  enter_on l write u e =
+      let busy = not (is_zero u) || is_claimed_ring s (extra_ring e) in
+      let held = holds s.resources.store.rw_locks t (object_named l) in
+      let rest = says 1 when lets_in s write l otherwise refused EBUSY when busy otherwise waits in
+      refused_on EINVAL (not (is_lock s l) || is_no_ring s (extra_ring e)) (refused EDEADLK when held otherwise rest) (refused_on EDEADLK held rest (taken_on (lets_in s write l) busy))
+
   ctrl_again_on : (q : Query) (b : Blocked) → EndsNot ((ctrl s q).again b).verdict
   ctrl_again_on query.Threads b v h = cc h
   ctrl_again_on q b v h = cc h
@@ -340,6 +367,12 @@ module _ {P S H : Type 0} (f : P → Functions S H) (t : ℕ) (v : ℤ) where
   exits s (call.Once o d x) up h = absurd (refused_on EINVAL (not (is_below o once_limit)) (says 1) (says_on (Int (pos 1))) v h)
   exits s (call.Wait e) up h = absurd (wait_on f s t e v h)
   exits s (call.Close d) up h = absurd (close_on f s t d v h)
+  exits s (call.MutexInit m) up h = absurd (done_on (mutex_init_answer s.resources.store.mutexes m) v h)
+  exits s (call.MutexAcquire m u e) up h = absurd (acquire_on f s t m u e v h)
+  exits s (call.MutexRelease m) up h = absurd (done_on (mutex_release_answer s.resources.store.mutexes t m) v h)
+  exits s (call.RwInit l) up h = absurd (done_on (lock_init_answer s.resources.store.rw_locks l) v h)
+  exits s (call.RwAcquire l write u e) up h = absurd (enter_on f s t l write u e v h)
+  exits s (call.RwRelease l) up h = absurd (done_on (lock_release_answer s.resources.store.rw_locks t l) v h)
   exits s c up h = absurd (cc h)
 
   exits_again : (s : State P S H) (b : Blocked) (c : Call) → ((row_of f s t c).again b).verdict ≡ Ends v → (c ≡ call.Exit v) × (must_wait s.control t ≡ false)
@@ -351,6 +384,8 @@ module _ {P S H : Type 0} (f : P → Functions S H) (t : ℕ) (v : ℤ) where
   exits_again s b (call.Usleep n) h = absurd (says_or_waits_on f s t 0 (nat_le b.moment (now_of s.control)) v h)
   exits_again s b (call.Sleep n) h = absurd (says_or_waits_on f s t 0 (nat_le b.moment (now_of s.control)) v h)
   exits_again s b (call.Wait e) h = absurd (says_or_waits_on f s t (settled_in s.control.events (number e)) (nat_lt 0 (settled_in s.control.events (number e))) v h)
+  exits_again s b (call.MutexAcquire m u e) h = absurd (says_or_waits_on f s t 1 (is_free s m) v h)
+  exits_again s b (call.RwAcquire l write u e) h = absurd (says_or_waits_on f s t 1 (is_open s write l && not (holds s.resources.store.rw_locks t (object_named l))) v h)
   exits_again s b (call.Read d n) h = absurd (tried_on (read_trial s.control.kernel d n) v h)
   exits_again s b (call.ReadEv d n e) h = absurd (tried_on (read_trial s.control.kernel d n) v h)
   exits_again s b (call.Write d bytes) h = absurd (tried_on (write_trial s.control.kernel d (length bytes) b.written) v h)
@@ -403,7 +438,9 @@ module _ {P S H : Type 0} (f : P → Functions S H) (t : ℕ) (v : ℤ) where
   ending_told s =
       let cleaned = (undoes_wait t and_then runs_cleanups f t) s in
       let destructed = runs_destructors f t cleaned.state in
-      (cleaned.marks ++ destructed.marks, sym (append_assoc cleaned.marks destructed.marks (End (tid t) v ∷ [])))
+      let gave = gives_all t destructed.state in
+      let last = End (tid t) v ∷ [] in
+      (cleaned.marks ++ (destructed.marks ++ gave.marks), ap (λ (ms : List Mark). cleaned.marks ++ ms) (sym (append_assoc destructed.marks gave.marks last)) ∙ sym (append_assoc cleaned.marks (destructed.marks ++ gave.marks) last))
 
   -- what ends its thread with v: it need not wait, and this is told last
   record EndsIt (k : Control P S H) (marks : List Mark) : Type 0 where

@@ -7,20 +7,22 @@ use Rattle.pth_ring.specs.declared.event.Event.{Event}
 use Rattle.pth_ring.specs.Arena.{events_of}
 use Rattle.pth_ring.specs.Ring.{each, ring_holds}
 use Rattle.pth_model.specs.declared.awaits.Awaits.{Awaits}
-use Rattle.pth_model.specs.declared.awaits.Awaits.TheVariants.{Nothing, AnyDeath}
+use Rattle.pth_model.specs.declared.awaits.Awaits.TheVariants.{Nothing}
 use Rattle.pth_model.specs.Awaits.{awaits_in}
 use Rattle.pth_model.specs.Changes.{blocked_of}
 use Rattle.pth_model.specs.Looks.{comes, looked_at, looks_at}
 use Rattle.pth_model.specs.Pass.{is_come_for, looks, to_wake, waiting}
+use Rattle.pth_model.specs.Resources.{Resources, Store}
 use Rattle.pth_model.specs.RingWaits.{awaited_events}
 use Rattle.pth_model.specs.State.{Control, State}
 use Rattle.pth_model.specs.ThreadControl.{joinable_dead}
 use Rattle.pth_model.specs.ThreadEnds.{is_alone}
-use Rattle.pth_world.specs.Shows.{Shows}
+use Rattle.pth_world.specs.Shows.{Shows, StandsFor}
+use Rattle.pth_world.specs.Store.{store_of}
 use Rattle.pth_world.specs.World.{WorldOf}
 use Rattle.pth_world.proofs.Events.{events_show}
 use Rattle.pth_model.specs.Cancellation.{may_be_canceled}
-use Rattle.pth_waits.specs.Waking.{has_come, is_due}
+use Rattle.pth_waits.specs.Waking.{has_any_died, has_come, is_due}
 use Rattle.pth_waits.proofs.Waking.{due_is}
 
 -- ---- lists
@@ -64,17 +66,17 @@ module _ {P S H : Type 0} (k : Control P S H) (xs : List ℕ) where
   unfolding is_come_for each
   come_for_still t = ap (λ (p : ℕ → Bool). list_any p (awaited_events k t)) (fun_ext (λ e. comes_still (ring_holds e xs) (k.events.events e)))
 
-  pub has_come_still : (t : ℕ) (a : Awaits) → has_come seen t a ≡ has_come k t a
+  pub has_come_still : (x : Store) (t : ℕ) (a : Awaits) → has_come x seen t a ≡ has_come x k t a
   unfolding is_alone joinable_dead
-  has_come_still t Nothing = refl
-  has_come_still t a = refl
+  has_come_still x t Nothing = refl
+  has_come_still x t a = refl
 
   canceled_still : (t : ℕ) → may_be_canceled seen t ≡ may_be_canceled k t
   unfolding may_be_canceled
   canceled_still t = refl
 
-  due_still : (t : ℕ) → is_due seen t ≡ is_due k t
-  due_still t = ap₂ (λ (a b : Bool). a || b) (ap₂ (λ (a b : Bool). a || b) (has_come_still t (awaits_in (blocked_of k t))) (come_for_still t)) (canceled_still t)
+  due_still : (x : Store) (t : ℕ) → is_due x seen t ≡ is_due x k t
+  due_still x t = ap₂ (λ (a b : Bool). a || b) (ap₂ (λ (a b : Bool). a || b) (has_come_still x t (awaits_in (blocked_of k t))) (come_for_still t)) (canceled_still t)
 
   -- one look, and then another, are one look
   look_twice : (a b : Bool) (o : Option Event) → (if b then option_map (looked_at seen) (if a then look o else o) else (if a then look o else o)) ≡ (if a || b then look o else o)
@@ -101,7 +103,7 @@ pub record GoneOver {P S H : Type 0} (old now : WorldOf P S H) (ts rest list : L
   pub done : List ℕ
   pub split : ts ≡ done ++ rest
   pub shows : (k : Control P S H) → Shows old k → Shows now (looks_at k (flat_map (awaited_events k) done))
-  pub listed : (k : Control P S H) → Shows old k → list ≡ filter (is_due k) done
+  pub listed : (k : Control P S H) → Shows old k → list ≡ filter (is_due (store_of old.store) k) done
   pub made : now.events.made ≡ old.events.made
   pub same : now ≡ record old { events = now.events }
 
@@ -121,16 +123,16 @@ module _ {P S H : Type 0} (old : WorldOf P S H) where
   }
 
   -- whether a thread that can be joined has died does not hang on events
-  pub dead_still : (now : WorldOf P S H) (any : Bool) → now ≡ record old { events = now.events } → ((k : Control P S H) (t : ℕ) → Shows old k → any ≡ has_come k t AnyDeath) → (k : Control P S H) (t : ℕ) → Shows now k → any ≡ has_come k t AnyDeath
+  pub dead_still : (now : WorldOf P S H) (any : Bool) → now ≡ record old { events = now.events } → ((k : Control P S H) → Shows old k → any ≡ has_any_died k) → (k : Control P S H) → Shows now k → any ≡ has_any_died k
   unfolding joinable_dead
-  dead_still now any same dead k t sh =
+  dead_still now any same dead k sh =
       let there : Shows (record old { events = now.events }) k = subst (λ (w : WorldOf P S H). Shows w k) same sh in
-      dead (record k { events = events_of old.events }) t (events_show (record old { events = now.events }) old.events k _ there refl)
+      dead (record k { events = events_of old.events }) (events_show (record old { events = now.events }) old.events k _ there refl)
 
   module _ (now x : WorldOf P S H) (ts rest list more : List ℕ) (t : ℕ) (so_far : GoneOver old now ts (t ∷ rest) list)
       (shows : (k : Control P S H) → Shows now k → Shows x (looks_at k (awaited_events k t)))
       (made : x.events.made ≡ now.events.made) (same : x ≡ record now { events = x.events })
-      (is : (k : Control P S H) → Shows now k → more ≡ list ++ (if is_due k t then t ∷ [] else [])) where
+      (is : (k : Control P S H) → Shows now k → more ≡ list ++ (if is_due (store_of old.store) k t then t ∷ [] else [])) where
     abbrev events : Control P S H → List ℕ
     events k = flat_map (awaited_events k) so_far.done
 
@@ -143,8 +145,8 @@ module _ {P S H : Type 0} (old : WorldOf P S H) where
           (shows (looks_at k (events k)) (so_far.shows k sh));
       listed = λ k sh.
           is (looks_at k (events k)) (so_far.shows k sh)
-          ∙ ap₂ (λ (l : List ℕ) (b : Bool). l ++ (if b then t ∷ [] else [])) (so_far.listed k sh) (due_still k (events k) t)
-          ∙ sym (kept (is_due k) so_far.done (t ∷ []));
+          ∙ ap₂ (λ (l : List ℕ) (b : Bool). l ++ (if b then t ∷ [] else [])) (so_far.listed k sh) (due_still k (events k) (store_of old.store) t)
+          ∙ sym (kept (is_due (store_of old.store) k) so_far.done (t ∷ []));
       made = made ∙ so_far.made;
       same = same ∙ ap (λ (w : WorldOf P S H). record w { events = x.events }) so_far.same;
     }
@@ -158,9 +160,10 @@ module _ {P S H : Type 0} (old : WorldOf P S H) where
     unfolding looks
     gone_shows k sh is = subst (λ (l : List ℕ). Shows now (looks_at k (flat_map (awaited_events k) l))) (all_done ∙ is) (all.shows k sh)
 
-    pub gone_listed : (f : P → Functions S H) (s : State P S H) → Shows old s.control → ts ≡ waiting s.control → list ≡ to_wake f s
+    pub gone_listed : (f : P → Functions S H) (s : State P S H) → StandsFor old s → ts ≡ waiting s.control → list ≡ to_wake f s
     unfolding to_wake
-    gone_listed f s sh is =
-        all.listed s.control sh
-        ∙ ap (filter (is_due s.control)) (all_done ∙ is)
+    gone_listed f s st is =
+        all.listed s.control st.control
+        ∙ ap (filter (is_due (store_of old.store) s.control)) (all_done ∙ is)
+        ∙ ap (λ (k : Resources). filter (is_due k.store s.control) (waiting s.control)) (sym st.resources)
         ∙ ap (λ (p : ℕ → Bool). filter p (waiting s.control)) (sym (fun_ext (due_is f s)))

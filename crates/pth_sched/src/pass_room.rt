@@ -4,12 +4,12 @@ ghost use Rattle.std.specs.Prelude.{◌≡◌, ◌≢◌, ◌<◌, ◌≤◌, �
 ghost use Rattle.pth_base.specs.Limits.{last_moment};
 ghost use Rattle.pth_model.specs.Pass.{looks, moment, to_wake, waiting};
 ghost use Rattle.pth_model.specs.State.{Control, State};
-ghost use Rattle.pth_model.specs.declared.awaits.Awaits.TheVariants.{AnyDeath};
 ghost use Rattle.pth_model.specs.Looks.{looks_at};
 ghost use Rattle.pth_model.specs.RingWaits.{awaited_events};
 ghost use Rattle.pth_threads.specs.Threads.{number_of, tid_at};
-ghost use Rattle.pth_waits.specs.Waking.{has_come, is_due};
+ghost use Rattle.pth_waits.specs.Waking.{has_any_died, is_due};
 ghost use Rattle.pth_world.specs.Shows.{Shows, StandsFor};
+ghost use Rattle.pth_world.specs.Store.{store_of};
 ghost use Rattle.pth_world.specs.Whole.{Whole};
 
 use crate::moments::next_moment;
@@ -52,9 +52,9 @@ fn go_over<P: Program>(
 ) -> Result<(), OutOfMemory>
     requires whole { Whole w.old }
     requires used { tid_at w.old.threads.records slot.0 ≢ 0 }
-    requires dead { (k : Control P P.State P.Shared) (t : ℕ) → Shows w.old k → any_dead ≡ has_come k t AnyDeath }
+    requires dead { (k : Control P P.State P.Shared) → Shows w.old k → any_dead ≡ has_any_died k }
     ensures shows { OnOk result ((k : Control P P.State P.Shared) → Shows w.old k → Shows w.new (looks_at k (awaited_events k (tid_at w.old.threads.records slot.0)))) }
-    ensures listed { OnOk result ((k : Control P P.State P.Shared) → Shows w.old k → map number_of waking.new.items ≡ map number_of waking.old.items ++ (if is_due k (tid_at w.old.threads.records slot.0) then tid_at w.old.threads.records slot.0 ∷ [] else [])) }
+    ensures listed { OnOk result ((k : Control P P.State P.Shared) → Shows w.old k → map number_of waking.new.items ≡ map number_of waking.old.items ++ (if is_due (store_of w.old.store) k (tid_at w.old.threads.records slot.0) then tid_at w.old.threads.records slot.0 ∷ [] else [])) }
     ensures made { OnOk result (w.new.events.made ≡ w.old.events.made) }
     ensures same { OnOk result (w.new ≡ record w.old { events = w.new.events }) }
 {

@@ -29,14 +29,16 @@ use Rattle.pth_waits.specs.Io.{is_io}
 use Rattle.pth_waits.specs.Waking.{has_come}
 
 -- a call never blocks its thread that is none of these
-pub never_blocks : (c : Call) → ((n : ℤ) → c ≢ call.Join n) → ((v : ℤ) → c ≢ call.Exit v) → ((n : ℤ) → c ≢ call.Nap n) → ((n : ℤ) → c ≢ call.Usleep n) → ((n : ℤ) → c ≢ call.Sleep n) → ((e : ℤ) → c ≢ call.Wait e) → is_io c ≡ false → may_block c ≡ false
-never_blocks (call.Join n) no_join no_exit no_nap no_usleep no_sleep no_wait no_io = absurd (no_join n refl)
-never_blocks (call.Exit v) no_join no_exit no_nap no_usleep no_sleep no_wait no_io = absurd (no_exit v refl)
-never_blocks (call.Nap n) no_join no_exit no_nap no_usleep no_sleep no_wait no_io = absurd (no_nap n refl)
-never_blocks (call.Usleep n) no_join no_exit no_nap no_usleep no_sleep no_wait no_io = absurd (no_usleep n refl)
-never_blocks (call.Sleep n) no_join no_exit no_nap no_usleep no_sleep no_wait no_io = absurd (no_sleep n refl)
-never_blocks (call.Wait e) no_join no_exit no_nap no_usleep no_sleep no_wait no_io = absurd (no_wait e refl)
-never_blocks c no_join no_exit no_nap no_usleep no_sleep no_wait no_io = no_io
+pub never_blocks : (c : Call) → ((n : ℤ) → c ≢ call.Join n) → ((v : ℤ) → c ≢ call.Exit v) → ((n : ℤ) → c ≢ call.Nap n) → ((n : ℤ) → c ≢ call.Usleep n) → ((n : ℤ) → c ≢ call.Sleep n) → ((e : ℤ) → c ≢ call.Wait e) → ((m v e : ℤ) → c ≢ call.MutexAcquire m v e) → ((l : ℤ) (write : Bool) (v e : ℤ) → c ≢ call.RwAcquire l write v e) → is_io c ≡ false → may_block c ≡ false
+never_blocks (call.Join n) no_join no_exit no_nap no_usleep no_sleep no_wait no_mutex no_lock no_io = absurd (no_join n refl)
+never_blocks (call.Exit v) no_join no_exit no_nap no_usleep no_sleep no_wait no_mutex no_lock no_io = absurd (no_exit v refl)
+never_blocks (call.Nap n) no_join no_exit no_nap no_usleep no_sleep no_wait no_mutex no_lock no_io = absurd (no_nap n refl)
+never_blocks (call.Usleep n) no_join no_exit no_nap no_usleep no_sleep no_wait no_mutex no_lock no_io = absurd (no_usleep n refl)
+never_blocks (call.Sleep n) no_join no_exit no_nap no_usleep no_sleep no_wait no_mutex no_lock no_io = absurd (no_sleep n refl)
+never_blocks (call.Wait e) no_join no_exit no_nap no_usleep no_sleep no_wait no_mutex no_lock no_io = absurd (no_wait e refl)
+never_blocks (call.MutexAcquire m v e) no_join no_exit no_nap no_usleep no_sleep no_wait no_mutex no_lock no_io = absurd (no_mutex m v e refl)
+never_blocks (call.RwAcquire l write v e) no_join no_exit no_nap no_usleep no_sleep no_wait no_mutex no_lock no_io = absurd (no_lock l write v e refl)
+never_blocks c no_join no_exit no_nap no_usleep no_sleep no_wait no_mutex no_lock no_io = no_io
 
 -- a call that never blocks its thread is plain where it is none of these
 pub is_plain_call : (c : Call) → may_block c ≡ false → c ≢ call.Kill → ((n : ℤ) → c ≢ call.Yield n) → c ≢ call.Plain → ((v : ℤ) → c ≢ call.Note v) → ((v : ℤ) → c ≢ call.CleanupPop v) → ((o h v : ℤ) → c ≢ call.Once o h v)
@@ -47,6 +49,8 @@ is_plain_call (call.Nap n) never no_kill no_yield no_plain no_note no_pop no_onc
 is_plain_call (call.Usleep n) never no_kill no_yield no_plain no_note no_pop no_once no_cancel no_abort no_point = absurd (cc never)
 is_plain_call (call.Sleep n) never no_kill no_yield no_plain no_note no_pop no_once no_cancel no_abort no_point = absurd (cc never)
 is_plain_call (call.Wait e) never no_kill no_yield no_plain no_note no_pop no_once no_cancel no_abort no_point = absurd (cc never)
+is_plain_call (call.MutexAcquire m v e) never no_kill no_yield no_plain no_note no_pop no_once no_cancel no_abort no_point = absurd (cc never)
+is_plain_call (call.RwAcquire l write v e) never no_kill no_yield no_plain no_note no_pop no_once no_cancel no_abort no_point = absurd (cc never)
 is_plain_call (call.Read g n) never no_kill no_yield no_plain no_note no_pop no_once no_cancel no_abort no_point = absurd (cc never)
 is_plain_call (call.ReadEv g n e) never no_kill no_yield no_plain no_note no_pop no_once no_cancel no_abort no_point = absurd (cc never)
 is_plain_call (call.Write g bytes) never no_kill no_yield no_plain no_note no_pop no_once no_cancel no_abort no_point = absurd (cc never)
@@ -92,11 +96,11 @@ module _ {P S H : Type 0} (f : P → Functions S H) (s : State P S H) (t : ℕ) 
   by_dead m x true = refl
   by_dead m x false = refl
 
-  join_wakes : (n : ℤ) (zero : Bool) → (is_some (if zero then first_of (joinable_dead s.control) else (if is_dead_in (thread s.control n) then Some (number n) else None)) || (not zero && not (or_nobody (thread s.control n)).joinable)) ≡ has_come s.control t (if zero then AnyDeath else Death n)
+  join_wakes : (n : ℤ) (zero : Bool) → (is_some (if zero then first_of (joinable_dead s.control) else (if is_dead_in (thread s.control n) then Some (number n) else None)) || (not zero && not (or_nobody (thread s.control n)).joinable)) ≡ has_come s.resources.store s.control t (if zero then AnyDeath else Death n)
   join_wakes n true = or_none (is_some (first_of (joinable_dead s.control)))
   join_wakes n false = by_dead (number n) (not (or_nobody (thread s.control n)).joinable) (is_dead_in (thread s.control n))
 
-  call_wakes : (c : Call) (b : Blocked) → (row_of f s t c).wakes b ≡ has_come s.control t (awaited_by c b.moment b.written)
+  call_wakes : (c : Call) (b : Blocked) → (row_of f s t c).wakes b ≡ has_come s.resources.store s.control t (awaited_by c b.moment b.written)
   unfolding row_of
   call_wakes (call.Exit v) b = refl
   call_wakes (call.Join n) b = join_wakes n (is_zero n)
@@ -111,11 +115,11 @@ module _ {P S H : Type 0} (f : P → Functions S H) (s : State P S H) (t : ℕ) 
   call_wakes (call.Chain e l) b = chain_never_wakes e l b
   call_wakes c b = refl
 
-  blocked_wakes : (o : Option Blocked) → wakes_by f t s o ≡ has_come s.control t (awaits_in o)
+  blocked_wakes : (o : Option Blocked) → wakes_by f t s o ≡ has_come s.resources.store s.control t (awaits_in o)
   blocked_wakes None = refl
   blocked_wakes (Some b) = call_wakes b.call b
 
   -- a blocked thread wakes exactly when what it waits for has come
-  pub wakes_when : (a : Awaits) → a ≡ awaits_in (blocked_of s.control t) → wakes f t s ≡ has_come s.control t a
+  pub wakes_when : (a : Awaits) → a ≡ awaits_in (blocked_of s.control t) → wakes f t s ≡ has_come s.resources.store s.control t a
   unfolding wakes
-  wakes_when a is = blocked_wakes (blocked_of s.control t) ∙ ap (has_come s.control t) (sym is)
+  wakes_when a is = blocked_wakes (blocked_of s.control t) ∙ ap (has_come s.resources.store s.control t) (sym is)

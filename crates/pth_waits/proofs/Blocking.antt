@@ -28,7 +28,8 @@ use Rattle.pth_world.specs.Leading.{Leads, IsQuiet}
 use Rattle.pth_world.specs.Shows.{Shows, StandsFor, resources_of}
 use Rattle.pth_world.specs.Store.{store_of}
 use Rattle.pth_world.specs.Whole.{Whole, MayBlock, MayBlockAs}
-use Rattle.pth_waits.specs.Blocking.{HasClaimed}
+use Rattle.pth_waits.specs.Blocking.{HasClaimed, StandsOnce}
+use Rattle.pth_waits.specs.Locking.{is_locking}
 
 -- that a thread waits changes nothing else
 pub quiet-waits : (t : ℕ) (c : Call) → MayBlockAs t c → IsQuiet (Waits (tid t) c)
@@ -49,28 +50,40 @@ quiet-waits t (call.Connect f) may = λ x. refl
 quiet-waits t (call.ConnectEv f e) may = λ x. refl
 quiet-waits t (call.Select r w x l) may = λ x. refl
 quiet-waits t (call.SelectEv r w x l e) may = λ x. refl
+quiet-waits t (call.MutexAcquire m v e) may = λ x. refl
+quiet-waits t (call.RwAcquire l write v e) may = λ x. refl
 quiet-waits t c may = absurd may
 
--- and neither does the answer
-pub quiet-answered : (t : ℕ) (c : Call) (a : Answer) → MayBlockAs t c → IsQuiet (Answered (tid t) c a)
+-- and neither does the answer, where it takes no mutex and no lock
+pub quiet-answered : (t : ℕ) (c : Call) (a : Answer) → MayBlockAs t c → is_locking c ≡ false → IsQuiet (Answered (tid t) c a)
 unfolding told answer_told
-quiet-answered t (call.Exit v) a may = λ x. refl
-quiet-answered t (call.Join n) a may = λ x. refl
-quiet-answered t (call.Nap n) a may = λ x. refl
-quiet-answered t (call.Usleep n) a may = λ x. refl
-quiet-answered t (call.Sleep n) a may = λ x. refl
-quiet-answered t (call.Wait e) a may = λ x. refl
-quiet-answered t (call.Read f n) a may = λ x. refl
-quiet-answered t (call.ReadEv f n e) a may = λ x. refl
-quiet-answered t (call.Write f bytes) a may = λ x. refl
-quiet-answered t (call.WriteEv f bytes e) a may = λ x. refl
-quiet-answered t (call.Accept f) a may = λ x. refl
-quiet-answered t (call.AcceptEv f e) a may = λ x. refl
-quiet-answered t (call.Connect f) a may = λ x. refl
-quiet-answered t (call.ConnectEv f e) a may = λ x. refl
-quiet-answered t (call.Select r w x l) a may = λ x. refl
-quiet-answered t (call.SelectEv r w x l e) a may = λ x. refl
-quiet-answered t c a may = absurd may
+quiet-answered t (call.Exit v) a may quiet = λ x. refl
+quiet-answered t (call.Join n) a may quiet = λ x. refl
+quiet-answered t (call.Nap n) a may quiet = λ x. refl
+quiet-answered t (call.Usleep n) a may quiet = λ x. refl
+quiet-answered t (call.Sleep n) a may quiet = λ x. refl
+quiet-answered t (call.Wait e) a may quiet = λ x. refl
+quiet-answered t (call.Read f n) a may quiet = λ x. refl
+quiet-answered t (call.ReadEv f n e) a may quiet = λ x. refl
+quiet-answered t (call.Write f bytes) a may quiet = λ x. refl
+quiet-answered t (call.WriteEv f bytes e) a may quiet = λ x. refl
+quiet-answered t (call.Accept f) a may quiet = λ x. refl
+quiet-answered t (call.AcceptEv f e) a may quiet = λ x. refl
+quiet-answered t (call.Connect f) a may quiet = λ x. refl
+quiet-answered t (call.ConnectEv f e) a may quiet = λ x. refl
+quiet-answered t (call.Select r w x l) a may quiet = λ x. refl
+quiet-answered t (call.SelectEv r w x l e) a may quiet = λ x. refl
+quiet-answered t (call.MutexAcquire m v e) a may quiet = absurd (cc quiet)
+quiet-answered t (call.RwAcquire l write v e) a may quiet = absurd (cc quiet)
+quiet-answered t c a may quiet = absurd may
+
+module _ {P S H : Type 0} (w : WorldOf P S H) (s : State P S H) (m : Mark) (quiet : IsQuiet m) where
+  pub quiet_told : s.resources ≡ resources_of w → told s.resources m ≡ resources_of w
+  quiet_told has = ap (λ k. told k m) has ∙ quiet (store_of w.store)
+
+  -- the world still stands for the state once that is told
+  pub quiet_once : StandsFor w s → StandsOnce w m s
+  quiet_once st = record { control = st.control; resources = quiet_told st.resources }
 
 -- a call that blocks already
 still_blocks : {S : Type 0} (b : Blocked) (o : Option (Progress S)) → blocked_in o ≡ Some b → o ≡ option_map (blocking (Some b)) o
@@ -92,9 +105,8 @@ waits_leads w s t c p old new may none sh appended =
     record { stands = record { control = sh; resources = ap (λ k. told k (Waits (tid t) c)) none ∙ quiet-waits t c may (store_of w.store) }; tells = appended }
 
 -- the call that blocks a thread is answered
-pub answers_leads : {P S H : Type 0} (f : P → Functions S H) (w : WorldOf P S H) (s : State P S H) (t : ℕ) (c : Call) (a : Answer) (old new : List Mark) → MayBlockAs t c → s.resources ≡ resources_of w → Shows w (stops_waiting t s.control) → new ≡ old ++ Answered (tid t) c a ∷ [] → Leads w old new (answers f t c a s)
-answers_leads f w s t c a old new may none sh appended =
-    record { stands = record { control = sh; resources = ap (λ k. told k (Answered (tid t) c a)) none ∙ quiet-answered t c a may (store_of w.store) }; tells = appended }
+pub answers_leads : {P S H : Type 0} (f : P → Functions S H) (w : WorldOf P S H) (s : State P S H) (t : ℕ) (c : Call) (a : Answer) (old new : List Mark) → told s.resources (Answered (tid t) c a) ≡ resources_of w → Shows w (stops_waiting t s.control) → new ≡ old ++ Answered (tid t) c a ∷ [] → Leads w old new (answers f t c a s)
+answers_leads f w s t c a old new tell sh appended = record { stands = record { control = sh; resources = tell }; tells = appended }
 
 -- what holds of the call that blocks
 pub held_at : {A : Type 0} (o : Option A) (Q : A → Type 0) (x : A) → o ≡ Some x → IfSome o Q → Q x

@@ -18,8 +18,8 @@ use Rattle.pth_model.specs.declared.next.Next.TheVariants as next
 use Rattle.pth_model.specs.Awaits.{awaited_by, awaits_in}
 use Rattle.pth_model.specs.Calls.{answers, begun, begun_as, begun_by, tried_again, tried_by, unless_come}
 use Rattle.pth_model.specs.Changes.{blocked_of, is_blocked_by, with_kernel}
-use Rattle.pth_model.specs.Io.{Trial, begins_waiting, is_no_ring}
-use Rattle.pth_model.specs.RingWaits.{has_event_come, ring_given}
+use Rattle.pth_model.specs.Io.{Trial, begins_waiting}
+use Rattle.pth_model.specs.RingWaits.{has_event_come, is_no_ring, ring_given}
 use Rattle.pth_model.specs.Row.{Attempt, effect_of, refuses, unless_refused, ◌trying◌}
 use Rattle.pth_model.specs.Rows.{row_of}
 use Rattle.pth_model.specs.State.{Control, State}
@@ -27,6 +27,7 @@ use Rattle.pth_model.specs.Transition.{Change, Piece, Transition, Went, changes,
 use Rattle.pth_model.specs.Verdict.{Verdict, Says, counts_or, refused, said_or, says, ◌when◌otherwise◌}
 use Rattle.pth_waits.proofs.Unchanged.{failed_same, idle_same}
 use Rattle.pth_waits.specs.Io.{HasWritten, IsTriable, IsTried, blocks_on, claims_unless, first_trial, is_at_once, is_io, is_refused_length, moment_for, unless_interrupted, trial_for}
+use Rattle.pth_waits.specs.Locking.{is_locking}
 use Rattle.pth_waits.specs.declared.trials.Trial.{Trial as Tried}
 use Rattle.pth_world.proofs.Kernels.{turned_shows}
 use Rattle.pth_world.specs.Leading.{Changed, Leads}
@@ -250,6 +251,12 @@ io_may t (call.Select r w x l) io = tt
 io_may t (call.SelectEv r w x l e) io = tt
 io_may t c io = absurd (cc io)
 
+-- and waits for no mutex and no lock
+pub io_open : (c : Call) → is_io c ≡ true → is_locking c ≡ false
+io_open (call.MutexAcquire m v e) io = absurd (cc io)
+io_open (call.RwAcquire l write v e) io = absurd (cc io)
+io_open c io = refl
+
 -- a change without a word, and then a piece of which a call says where it leads
 pub then_leads : {P S H : Type 0} (w : WorldOf P S H) (s : State P S H) (a b : Piece P S H) (old new : List Mark) → (a s).marks ≡ [] → Leads w old new (b (a s).state) → Leads w old new ((a and_then b) s)
 then_leads w s a b old new none l = record {
@@ -293,7 +300,7 @@ may_have_written (call.SelectEv r w x l e) m n i io may written = written
 may_have_written c m n i io may written = absurd (cc io)
 
 -- an event of the ring changes the verdict alone
-interrupted_attempt : {P S H : Type 0} (come : Bool) (v : Verdict) (e : Piece P S H) → unless_come come (v trying e) ≡ (unless_interrupted come v trying e)
+pub interrupted_attempt : {P S H : Type 0} (come : Bool) (v : Verdict) (e : Piece P S H) → unless_come come (v trying e) ≡ (unless_interrupted come v trying e)
 interrupted_attempt true v e = refl
 interrupted_attempt false v e = refl
 

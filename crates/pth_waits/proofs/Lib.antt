@@ -11,3 +11,4 @@ pub mod Resting
 pub mod Unchanged
 pub mod IoCalls
 pub mod Canceling
+pub mod Takes

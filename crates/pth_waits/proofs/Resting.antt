@@ -21,6 +21,7 @@ use Rattle.pth_model.specs.Times.{is_negative, length_of, moment_after}
 use Rattle.pth_model.specs.Transition.{Piece, silent, tells, tid, ◌and_then◌, ◌and_next◌}
 use Rattle.pth_model.specs.Verdict.{Verdict, refused, says, said_or, waits, blocks_until, ◌when◌otherwise◌}
 use Rattle.pth_numbered.specs.Operands.{is_zero}
+use Rattle.pth_waits.specs.Locking.{is_locking}
 use Rattle.pth_waits.specs.Rests.{is_rest, RestsFor}
 use Rattle.pth_waits.proofs.Blocking.{IsHeld, held_at, waits_again, answers_again}
 use Rattle.pth_waits.specs.declared.rests.Rest.{Rest}
@@ -32,6 +33,12 @@ rest_may t (call.Nap n) is = tt
 rest_may t (call.Usleep n) is = tt
 rest_may t (call.Sleep n) is = tt
 rest_may t c is = absurd (cc is)
+
+-- it waits for no mutex and no lock
+pub rest_open : (c : Call) → is_rest c ≡ true → is_locking c ≡ false
+rest_open (call.MutexAcquire m v e) is = absurd (cc is)
+rest_open (call.RwAcquire l write v e) is = absurd (cc is)
+rest_open c is = refl
 
 -- it is given no ring
 pub rest_given : (c : Call) → is_rest c ≡ true → ring_given c ≡ None

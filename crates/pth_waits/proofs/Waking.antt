@@ -6,6 +6,7 @@ use Rattle.pth_model.specs.declared.awaits.Awaits.{Awaits}
 use Rattle.pth_model.specs.Awaits.{awaits_in}
 use Rattle.pth_model.specs.Cancellation.{may_be_canceled}
 use Rattle.pth_model.specs.Changes.{blocked_of}
+use Rattle.pth_model.specs.Resources.{Store}
 use Rattle.pth_model.specs.RingWaits.{ring_held, events_from, awaited_events}
 use Rattle.pth_model.specs.Looks.{comes}
 use Rattle.pth_model.specs.Pass.{is_come_for, is_to_wake}
@@ -24,7 +25,7 @@ or_turned true false = refl
 or_turned false true = refl
 or_turned false false = refl
 
-module _ {P S H : Type 0} (k : Control P S H) (t : ℕ) where
+module _ {P S H : Type 0} (x : Store) (k : Control P S H) (t : ℕ) where
   abbrev pub awaited : Awaits
   awaited = awaits_in (blocked_of k t)
 
@@ -33,29 +34,30 @@ module _ {P S H : Type 0} (k : Control P S H) (t : ℕ) where
     pub ring_events : awaited_events k t ≡ k.events.rings (number e)
     ring_events = ap (events_from k.events) given
 
-    pub ring_due : has_its_due k t ≡ (list_any (λ i. comes k (k.events.events i)) (k.events.rings (number e)) || has_come k t awaited)
+    pub ring_due : has_its_due x k t ≡ (list_any (λ i. comes k (k.events.events i)) (k.events.rings (number e)) || has_come x k t awaited)
     unfolding is_come_for
     ring_due =
-        ap (λ (es : List ℕ). has_come k t awaited || list_any (λ i. comes k (k.events.events i)) es) ring_events
-        ∙ or_turned (has_come k t awaited) (list_any (λ i. comes k (k.events.events i)) (k.events.rings (number e)))
+        ap (λ (es : List ℕ). has_come x k t awaited || list_any (λ i. comes k (k.events.events i)) es) ring_events
+        ∙ or_turned (has_come x k t awaited) (list_any (λ i. comes k (k.events.events i)) (k.events.rings (number e)))
 
   -- it was given none
   module _ (none : ring_held (blocked_of k t) ≡ None) where
     pub no_events : awaited_events k t ≡ []
     no_events = ap (events_from k.events) none
 
-    pub other_due : has_its_due k t ≡ has_come k t awaited
+    pub other_due : has_its_due x k t ≡ has_come x k t awaited
     unfolding is_come_for
     other_due =
-        ap (λ (es : List ℕ). has_come k t awaited || list_any (λ i. comes k (k.events.events i)) es) no_events
-        ∙ or_false (has_come k t awaited)
+        ap (λ (es : List ℕ). has_come x k t awaited || list_any (λ i. comes k (k.events.events i)) es) no_events
+        ∙ or_false (has_come x k t awaited)
 
 or_or : (a b c : Bool) → (a || b || c) ≡ ((a || b) || c)
 or_or true b c = refl
 or_or false b c = refl
 
 -- a pass wakes those that are due
-pub due_is : {P S H : Type 0} (f : P → Functions S H) (s : State P S H) (t : ℕ) → is_to_wake f s t ≡ is_due s.control t
+pub due_is : {P S H : Type 0} (f : P → Functions S H) (s : State P S H) (t : ℕ) → is_to_wake f s t ≡ is_due s.resources.store s.control t
 due_is f s t =
     let k = s.control in
-    ap (λ (b : Bool). b || is_come_for k t || may_be_canceled k t) (wakes_when f s t (awaits_in (blocked_of k t)) refl) ∙ or_or (has_come k t (awaits_in (blocked_of k t))) (is_come_for k t) (may_be_canceled k t)
+    let x = s.resources.store in
+    ap (λ (b : Bool). b || is_come_for k t || may_be_canceled k t) (wakes_when f s t (awaits_in (blocked_of k t)) refl) ∙ or_or (has_come x k t (awaits_in (blocked_of k t))) (is_come_for k t) (may_be_canceled k t)

@@ -10,8 +10,8 @@ use Rattle.pth_model.specs.declared.awaits.Awaits.{Awaits}
 use Rattle.pth_model.specs.declared.awaits.Awaits.TheVariants.{Reading, Writing, Connection, ConnectAnswer, Selection}
 use Rattle.pth_model.specs.Awaits.{awaited_by, deadline_by}
 use Rattle.pth_model.specs.Calls.{interrupted}
-use Rattle.pth_model.specs.Io.{Trial, asks, read_trial, write_trial, accept_trial, connect_trial, select_trial, first_select, select_moment, is_too_short, is_no_ring}
-use Rattle.pth_model.specs.RingWaits.{ring_given, claims}
+use Rattle.pth_model.specs.Io.{Trial, asks, read_trial, write_trial, accept_trial, connect_trial, select_trial, first_select, select_moment, is_too_short}
+use Rattle.pth_model.specs.RingWaits.{ring_given, claims, is_no_ring}
 use Rattle.pth_model.specs.State.{State}
 use Rattle.pth_model.specs.Transition.{Change, nothing}
 use Rattle.pth_model.specs.Verdict.{Verdict, Blocks, no_pause, counts_or}

@@ -15,6 +15,7 @@ use crate::cancellation::cancel_point;
 use crate::io::{begin_io, is_io};
 use crate::joins::begin_join;
 use crate::library_ends::kill;
+use crate::locking::begin_locking;
 use crate::rests::begin_rest;
 use crate::ring_waits::begin_wait;
 use crate::thread_ends::begin_exit;
@@ -90,6 +91,7 @@ pub fn begin<P: Program>(
         Call::Exit(value) => begin_exit(w, t, call, value, marks),
         Call::Nap(_) | Call::Usleep(_) | Call::Sleep(_) => begin_rest(w, t, call, marks),
         Call::Wait(e) => begin_wait(w, t, call, e, marks),
+        Call::MutexAcquire { .. } | Call::RwAcquire { .. } => begin_locking(w, t, call, marks),
         _ if is_io(&call) => begin_io(w, t, call, marks),
         _ => begin_at_once(w, t, &call, marks),
     }

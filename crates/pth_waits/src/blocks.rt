@@ -5,10 +5,11 @@ ghost use Rattle.pth_model.specs.Calls.{answers, waits_by};
 ghost use Rattle.pth_model.specs.Changes.{blocked_of, is_blocked_by};
 ghost use Rattle.pth_model.specs.State.{Control, State};
 ghost use Rattle.pth_model.specs.Transition.{changes, tells, tid, ◌and_then◌};
-ghost use Rattle.pth_base.specs.declared.mark.Mark.TheVariants.{Waits as WaitsFor};
+ghost use Rattle.pth_base.specs.declared.mark.Mark.TheVariants.{Answered, Waits as WaitsFor};
 ghost use Rattle.pth_model.specs.declared.next.Next.TheVariants.{Done, Waits as Waiting};
 ghost use Rattle.pth_model.specs.Verdict.{no_pause};
-ghost use Rattle.pth_waits.specs.Blocking.{HasClaimed};
+ghost use Rattle.pth_waits.specs.Blocking.{HasClaimed, StandsOnce};
+ghost use Rattle.pth_waits.specs.Locking.{is_locking};
 ghost use Rattle.pth_world.specs.Frame.{Frame};
 ghost use Rattle.pth_world.specs.Leading.{Leads};
 ghost use Rattle.pth_world.specs.Shows.{Shows, StandsFor};
@@ -64,8 +65,8 @@ pub(crate) fn block<P: Program>(
     marks.push(mark)
 }
 
-/// The call that blocks the thread that runs is answered, and blocks it no longer; its claim is given back. After an error the
-/// world may only be dropped.
+/// The call that blocks the thread that runs is answered, and blocks it no longer; its claim is given back. What threads have is
+/// already as the answer tells. After an error the world may only be dropped.
 pub(crate) fn answer_blocked<P: Program>(
     w: &mut World<P>,
     t: Tid,
@@ -75,9 +76,8 @@ pub(crate) fn answer_blocked<P: Program>(
 ) -> Result<Answer, OutOfMemory>
     requires whole { Whole w.old }
     requires runs { w.old.scheduler.running ≡ Some t.0 }
-    requires may { MayBlockAs t.0 call.now }
     ensures value { IfOk result (λ a. a ≡ answer) }
-    ensures ok { OnOk result ((s : State P P.State P.Shared) → StandsFor w.old s → Leads w.new marks.old marks.new (answers P.functions t.0 call.now answer s)) }
+    ensures ok { OnOk result ((s : State P P.State P.Shared) → StandsOnce w.old (Answered t call.now answer) s → Leads w.new marks.old marks.new (answers P.functions t.0 call.now answer s)) }
     ensures err { OnErr result (marks.new ≡ marks.old) }
     ensures frame { OnOk result (Frame w.old w.new 0 (Some t.0) false) }
 {
@@ -96,7 +96,7 @@ pub(crate) fn answer_held<P: Program>(
     requires whole { Whole w.old }
     requires runs { w.old.scheduler.running ≡ Some t.0 }
     requires some { (k : Control P P.State P.Shared) → Shows w.old k → IsSome (blocked_of k t.0) }
-    requires may { (k : Control P P.State P.Shared) → Shows w.old k → IfSome (blocked_of k t.0) (λ b. MayBlock t.0 b) }
+    requires may { (k : Control P P.State P.Shared) → Shows w.old k → IfSome (blocked_of k t.0) (λ b. MayBlock t.0 b × (is_locking b.call ≡ false)) }
     ensures next { IfOk result (λ n. n ≡ Done answer) }
     ensures ok { OnOk result ((s : State P P.State P.Shared) → StandsFor w.old s → IfSome (blocked_of s.control t.0) (λ b. Leads w.new marks.old marks.new (answers P.functions t.0 b.call answer s))) }
     ensures err { OnErr result (marks.new ≡ marks.old) }

@@ -42,6 +42,7 @@ fn is_point(call: &Call) -> bool
         Call::Join(_) => true,
         Call::Wait(_) => true,
         Call::Nap(_) | Call::Usleep(_) | Call::Sleep(_) => true,
+        Call::MutexAcquire { .. } | Call::RwAcquire { .. } => true,
         _ => is_io(call),
     }
 }

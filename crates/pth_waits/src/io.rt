@@ -6,8 +6,8 @@ ghost use Rattle.pth_base.specs.Limits.{last_moment};
 ghost use Rattle.pth_kernel.specs.Kernel.{kernel_of};
 ghost use Rattle.pth_model.specs.Calls.{begun, tried_again};
 ghost use Rattle.pth_model.specs.Changes.{blocked_of};
-ghost use Rattle.pth_model.specs.Io.{is_no_ring, begins_waiting, select_moment};
-ghost use Rattle.pth_model.specs.RingWaits.{claims, has_event_come, ring_given as given};
+ghost use Rattle.pth_model.specs.Io.{begins_waiting, select_moment};
+ghost use Rattle.pth_model.specs.RingWaits.{claims, has_event_come, is_no_ring, ring_given as given};
 ghost use Rattle.pth_model.specs.Row.{effect_of};
 ghost use Rattle.pth_model.specs.Rows.{row_of};
 ghost use Rattle.pth_model.specs.State.{Control, State};
@@ -57,8 +57,8 @@ pub(crate) fn is_io(call: &Call) -> bool
     )
 }
 
-// Whether an event that a call was given is none.
-fn is_no_ring<P: Program>(w: &World<P>, ring: Option<i64>) -> bool
+/// Whether an event that a call was given is none.
+pub(crate) fn is_no_ring<P: Program>(w: &World<P>, ring: Option<i64>) -> bool
     ensures { (s : State P P.State P.Shared) → StandsFor w.now s → result ≡ is_no_ring s ring }
 {
     match ring {
@@ -120,8 +120,8 @@ fn moment_for<P: Program>(w: &World<P>, call: &Call) -> Micros
     }
 }
 
-// Claims the ring that a call was given for a wait: EAGAIN where its descriptor doesn't block, and EBUSY where the ring is claimed.
-fn claim_for<P: Program>(
+/// Claims the ring that a call was given for a wait: EAGAIN where its descriptor doesn't block, and EBUSY where the ring is claimed.
+pub(crate) fn claim_for<P: Program>(
     w: &mut World<P>,
     t: Tid,
     at_once: bool,
@@ -224,8 +224,8 @@ pub fn begin_io<P: Program>(
     Ok(Next::Waits)
 }
 
-// Whether an event of a ring is not pending.
-fn has_event_come(rings: &Rings, ring: Option<i64>) -> bool
+/// Whether an event of a ring is not pending.
+pub(crate) fn has_event_come(rings: &Rings, ring: Option<i64>) -> bool
     ensures { result ≡ has_event_come (events_of rings.now) ring }
 {
     match ring {

@@ -10,8 +10,7 @@ ghost use Rattle.pth_model.specs.Transition.{silent};
 ghost use Rattle.pth_model.specs.State.{Control, State};
 ghost use Rattle.pth_model.specs.ThreadControl.{first_of, joinable_dead, to_join as to_join_now, joined, join_attempt};
 ghost use Rattle.pth_waits.specs.Attempts.{refused_or};
-ghost use Rattle.pth_waits.specs.Waking.{has_come};
-ghost use Rattle.pth_model.specs.declared.awaits.Awaits.TheVariants.{Death, AnyDeath};
+ghost use Rattle.pth_waits.specs.Waking.{has_any_died, has_died as has_died_in};
 ghost use Rattle.pth_base.specs.declared.answer.Answer.TheVariants.{Int};
 ghost use Rattle.pth_model.specs.Changes.{removes, entry_of, or_nobody};
 ghost use Rattle.pth_model.specs.Verdict.{Says, said_or, waits};
@@ -212,7 +211,7 @@ pub fn join_again<P: Program>(
 /// Whether the thread that a join names has died, or can be joined no longer.
 pub(crate) fn has_died<P: Program>(w: &World<P>, n: i64) -> bool
     requires { Whole w.now }
-    ensures { (k : Control P P.State P.Shared) (t : ℕ) → Shows w.now k → result ≡ has_come k t (Death n) }
+    ensures { (k : Control P P.State P.Shared) → Shows w.now k → result ≡ has_died_in k n }
 {
     match w.named(n) {
         Some(it) => is_dead(it.state) || !it.joinable,
@@ -223,7 +222,7 @@ pub(crate) fn has_died<P: Program>(w: &World<P>, n: i64) -> bool
 /// Whether a thread that can be joined has died.
 pub fn any_has_died<P: Program>(w: &World<P>) -> bool
     requires { Whole w.now }
-    ensures { (k : Control P P.State P.Shared) (t : ℕ) → Shows w.now k → result ≡ has_come k t AnyDeath }
+    ensures { (k : Control P P.State P.Shared) → Shows w.now k → result ≡ has_any_died k }
 {
     first_joinable(w).is_some()
 }

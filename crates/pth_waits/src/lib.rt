@@ -7,6 +7,7 @@ pub mod cancellation;
 pub mod io;
 pub mod joins;
 pub mod library_ends;
+pub mod locking;
 pub mod looks;
 pub mod rests;
 pub mod resume;

@@ -13,6 +13,7 @@ ghost use Rattle.pth_world.specs.Whole.{Whole};
 use crate::cancellation::may_be_canceled;
 use crate::io::io_again;
 use crate::joins::join_again;
+use crate::locking::lock_again;
 use crate::rests::rest_again;
 use crate::ring_waits::wait_again;
 use crate::thread_ends::exit_again;
@@ -46,6 +47,10 @@ fn try_again<P: Program>(w: &mut World<P>, t: Tid, marks: &mut Marks) -> Result<
         Call::Usleep(n) => rest_again(w, t, Call::Usleep(n), moment, marks),
         Call::Sleep(n) => rest_again(w, t, Call::Sleep(n), moment, marks),
         Call::Wait(e) => wait_again(w, t, e, marks),
+        Call::MutexAcquire { m, v, e } => lock_again(w, t, Call::MutexAcquire { m, v, e }, marks),
+        Call::RwAcquire { l, write, v, e } => {
+            lock_again(w, t, Call::RwAcquire { l, write, v, e }, marks)
+        }
         _ => io_again(w, t, marks),
     }
 }

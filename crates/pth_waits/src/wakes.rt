@@ -4,14 +4,15 @@ ghost use Rattle.std.specs.Prelude.{◌≡◌, ◌≢◌, ℕ};
 ghost use Rattle.pth_model.specs.Looks.{looks_at};
 ghost use Rattle.pth_model.specs.RingWaits.{awaited_events};
 ghost use Rattle.pth_model.specs.State.{Control};
-ghost use Rattle.pth_model.specs.declared.awaits.Awaits.TheVariants.{AnyDeath};
 ghost use Rattle.pth_threads.specs.Threads.{tid_at};
-ghost use Rattle.pth_waits.specs.Waking.{has_come, has_its_due, is_due};
+ghost use Rattle.pth_waits.specs.Waking.{has_any_died, has_come, has_its_due, is_due};
 ghost use Rattle.pth_world.specs.Shows.{Shows};
+ghost use Rattle.pth_world.specs.Store.{store_of};
 ghost use Rattle.pth_world.specs.Whole.{Whole, MayAwait};
 
 use crate::cancellation::may_be_canceled_at;
 use crate::joins::has_died;
+use crate::locking::{is_free_mutex, is_open_lock};
 use crate::looks::look_at_ring;
 use crate::trials::wakes_for;
 use pth_base::ids::Slot;
@@ -23,9 +24,9 @@ use pth_world::world::World;
 fn has_come<P: Program>(w: &World<P>, slot: Slot, awaits: Awaits, any_dead: bool) -> bool
     requires whole { Whole w.now }
     requires used { tid_at w.now.threads.records slot.0 ≢ 0 }
-    requires dead { (k : Control P P.State P.Shared) (t : ℕ) → Shows w.now k → any_dead ≡ has_come k t AnyDeath }
+    requires dead { (k : Control P P.State P.Shared) → Shows w.now k → any_dead ≡ has_any_died k }
     requires may { MayAwait awaits }
-    ensures { (k : Control P P.State P.Shared) → Shows w.now k → result ≡ has_come k (tid_at w.now.threads.records slot.0) awaits }
+    ensures { (k : Control P P.State P.Shared) → Shows w.now k → result ≡ has_come (store_of w.now.store) k (tid_at w.now.threads.records slot.0) awaits }
 {
     match awaits {
         Awaits::Nothing => false,
@@ -34,6 +35,8 @@ fn has_come<P: Program>(w: &World<P>, slot: Slot, awaits: Awaits, any_dead: bool
         Awaits::AnyDeath => any_dead,
         Awaits::Moment(moment) => moment <= w.time(),
         Awaits::Ring(_) => false,
+        Awaits::Mutex(m) => is_free_mutex(w, m),
+        Awaits::Lock { l, write } => is_open_lock(w, l, write),
         _ => wakes_for(w.kernel(), awaits),
     }
 }
@@ -43,9 +46,9 @@ fn has_come<P: Program>(w: &World<P>, slot: Slot, awaits: Awaits, any_dead: bool
 fn has_come_for<P: Program>(w: &mut World<P>, slot: Slot, any_dead: bool) -> bool
     requires whole { Whole w.old }
     requires used { tid_at w.old.threads.records slot.0 ≢ 0 }
-    requires dead { (k : Control P P.State P.Shared) (t : ℕ) → Shows w.old k → any_dead ≡ has_come k t AnyDeath }
+    requires dead { (k : Control P P.State P.Shared) → Shows w.old k → any_dead ≡ has_any_died k }
     ensures shows { (k : Control P P.State P.Shared) → Shows w.old k → Shows w.new (looks_at k (awaited_events k (tid_at w.old.threads.records slot.0))) }
-    ensures wakes { (k : Control P P.State P.Shared) → Shows w.old k → result ≡ has_its_due k (tid_at w.old.threads.records slot.0) }
+    ensures wakes { (k : Control P P.State P.Shared) → Shows w.old k → result ≡ has_its_due (store_of w.old.store) k (tid_at w.old.threads.records slot.0) }
     ensures made { w.new.events.made ≡ w.old.events.made }
     ensures same { w.new ≡ record w.old { events = w.new.events } }
 {
@@ -62,9 +65,9 @@ fn has_come_for<P: Program>(w: &mut World<P>, slot: Slot, any_dead: bool) -> boo
 pub fn is_to_wake<P: Program>(w: &mut World<P>, slot: Slot, any_dead: bool) -> bool
     requires whole { Whole w.old }
     requires used { tid_at w.old.threads.records slot.0 ≢ 0 }
-    requires dead { (k : Control P P.State P.Shared) (t : ℕ) → Shows w.old k → any_dead ≡ has_come k t AnyDeath }
+    requires dead { (k : Control P P.State P.Shared) → Shows w.old k → any_dead ≡ has_any_died k }
     ensures shows { (k : Control P P.State P.Shared) → Shows w.old k → Shows w.new (looks_at k (awaited_events k (tid_at w.old.threads.records slot.0))) }
-    ensures wakes { (k : Control P P.State P.Shared) → Shows w.old k → result ≡ is_due k (tid_at w.old.threads.records slot.0) }
+    ensures wakes { (k : Control P P.State P.Shared) → Shows w.old k → result ≡ is_due (store_of w.old.store) k (tid_at w.old.threads.records slot.0) }
     ensures made { w.new.events.made ≡ w.old.events.made }
     ensures same { w.new ≡ record w.old { events = w.new.events } }
 {

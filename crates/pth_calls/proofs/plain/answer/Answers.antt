@@ -25,6 +25,8 @@ returns-in_default-clause-told g c =
       events = not.not-Events;
       keys = not.not-Keys;
       cleanups = not.not-Cleanups;
+      mutexes = not.not-Mutexes;
+      rwlocks = not.not-Rwlocks;
       io = not.not-Io;
     }) in
     let none = ap is_of_code (sym c.facility.ensures ∙ c.in-Some.is) ∙ other in

@@ -14,4 +14,4 @@ returns-in-Plain-clause-ok g c s st = rw c.in-Plain.is (record { stands = st; te
 
 pub begin_at_once-requires-clause-never : goal.begin_at_once-requires-clause-never
 begin_at_once-requires-clause-never g c =
-    never_blocks c.args.call c.in_default.not-Join c.in_default.not-Exit c.in_default.not-Nap c.in_default.not-Usleep c.in_default.not-Sleep c.in_default.not-Wait (sym c.is_io.ensures ∙ c.if-is_io.false)
+    never_blocks c.args.call c.in_default.not-Join c.in_default.not-Exit c.in_default.not-Nap c.in_default.not-Usleep c.in_default.not-Sleep c.in_default.not-Wait c.in_default.not-MutexAcquire c.in_default.not-RwAcquire (sym c.is_io.ensures ∙ c.if-is_io.false)

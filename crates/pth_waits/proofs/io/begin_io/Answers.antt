@@ -8,7 +8,7 @@ use Rattle.pth_model.specs.declared.next.Next.TheVariants.{Done}
 use Rattle.pth_calls.proofs.Answers.{changed_leads}
 use Rattle.pth_waits.specs.Io.{blocks_on}
 use Rattle.pth_waits.proofs.Blocking.{quiet-answered}
-use Rattle.pth_waits.proofs.IoCalls.{io_begins, io_changed, io_may, no_word_before, then_leads}
+use Rattle.pth_waits.proofs.IoCalls.{io_begins, io_changed, io_may, io_open, no_word_before, then_leads}
 use Rattle.pth_waits.proofs.io.begin_io.Goals as goal
 
 pub returns-in-Some-clause-next : goal.returns-in-Some-clause-next
@@ -24,7 +24,7 @@ returns-in-Some-clause-ok g c s st =
     let verdict = (rw c.in-Some.is at c.in_ok-trial.ensures.verdict) s st in
     let stands = (rw c.in-Some.is at c.in_ok-trial.ensures.stands) s st in
     rw (io_begins f s t call (Says c.in-Some.answer) c.requires.call verdict)
-    (changed_leads _ s (effect_of (row_of f s t call).begin) (Answered c.args.t call c.in-Some.answer) _ _ (quiet-answered t call c.in-Some.answer (io_may t call c.requires.call)) (io_changed f s t _ call c.requires.call stands) (rw c.in-Some.is at c.in_ok-answer.ensures.ok))
+    (changed_leads _ s (effect_of (row_of f s t call).begin) (Answered c.args.t call c.in-Some.answer) _ _ (quiet-answered t call c.in-Some.answer (io_may t call c.requires.call) (io_open call c.requires.call)) (io_changed f s t _ call c.requires.call stands) (rw c.in-Some.is at c.in_ok-answer.ensures.ok))
 
 pub returns-clause-next : goal.returns-clause-next
 returns-clause-next g c s st =

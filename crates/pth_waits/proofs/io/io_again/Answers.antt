@@ -1,4 +1,4 @@
-use Rattle.std.proofs.Common.{◌∙◌, Option, IfSome, ap, ap₂, sym, subst}
+use Rattle.std.proofs.Common.{◌≡◌, ◌∙◌, false, Option, IfSome, ap, ap₂, sym, subst}
 use Rattle.std.proofs.lemmas.Result.{IfOk-weaker}
 use Rattle.pth_model.specs.declared.awaits.Awaited.{Awaited}
 use Rattle.pth_model.specs.declared.blocked.Blocked.{Blocked}
@@ -6,8 +6,9 @@ use Rattle.pth_model.specs.Awaits.{awaited_in}
 use Rattle.pth_model.specs.Changes.{blocked_of}
 use Rattle.pth_model.specs.RingWaits.{has_event_come}
 use Rattle.pth_world.specs.Whole.{MayBlock, MayHaveWritten}
+use Rattle.pth_waits.specs.Locking.{is_locking}
 use Rattle.pth_waits.proofs.Blocking.{held_at}
-use Rattle.pth_waits.proofs.IoCalls.{then_on_ok, tried_now, stands_then, io_held, shows_before, may_have_written, verdict_is, resumed_says, resumed_waits}
+use Rattle.pth_waits.proofs.IoCalls.{io_open, then_on_ok, tried_now, stands_then, io_held, shows_before, may_have_written, verdict_is, resumed_says, resumed_waits}
 use Rattle.pth_waits.proofs.io.io_again.Goals as goal
 
 pub answer_held-requires-clause-some : goal.answer_held-requires-clause-some
@@ -17,7 +18,7 @@ pub answer_held-requires-clause-may : goal.answer_held-requires-clause-may
 answer_held-requires-clause-may g c k sh =
     let old = shows_before c.args.w.now c.try_awaited.new.k k sh in
     let h = io_held (blocked_of k c.args.t.0) c.args.t.0 (c.requires.some _ old) (c.requires.blocked _ old) in
-    subst (λ (o : Option Blocked). IfSome o (λ b. MayBlock c.args.t.0 b)) (sym h.has) h.may
+    subst (λ (o : Option Blocked). IfSome o (λ b. MayBlock c.args.t.0 b × (is_locking b.call ≡ false))) (sym h.has) (h.may, io_open h.blocked.call h.io)
 
 pub wait_on-requires-clause-some : goal.wait_on-requires-clause-some
 wait_on-requires-clause-some g c k sh = c.requires.some _ (shows_before c.args.w.now c.try_awaited.new.k k sh)

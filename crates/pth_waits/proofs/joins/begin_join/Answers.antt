@@ -37,4 +37,4 @@ returns-clause-ok g c s st =
     let verdict = (simp to_z-of_z at c.in-Some.ensures.verdict) s st in
     let effect = (simp to_z-of_z at c.attempt.ensures.effect) s st in
     rw (c.requires.call, join_answers g.P.Program.functions s c.args.t.0 c.args.n c.in-Some.answer verdict)
-    (changed_leads _ s (effect_of (join_attempt s c.args.t.0 c.args.n)) (Answered c.args.t (Join c.args.n) c.in-Some.answer) _ _ (quiet-answered c.args.t.0 (Join c.args.n) c.in-Some.answer tt) effect (rw c.requires.call at c.in_ok-answer.ensures.ok))
+    (changed_leads _ s (effect_of (join_attempt s c.args.t.0 c.args.n)) (Answered c.args.t (Join c.args.n) c.in-Some.answer) _ _ (quiet-answered c.args.t.0 (Join c.args.n) c.in-Some.answer tt refl) effect (rw c.requires.call at c.in_ok-answer.ensures.ok))

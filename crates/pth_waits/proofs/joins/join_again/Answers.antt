@@ -10,7 +10,7 @@ use Rattle.pth_world.specs.Shows.{Shows, resources_of}
 use Rattle.pth_model.specs.declared.next.Next.TheVariants.{Done}
 use Rattle.pth_world.proofs.Telling.{quiet_leads}
 use Rattle.pth_calls.proofs.Answers.{changed_then}
-use Rattle.pth_waits.proofs.Blocking.{held_by, quiet-waits, waits_again, answers_again}
+use Rattle.pth_waits.proofs.Blocking.{held_by, quiet-answered, quiet_once, quiet-waits, waits_again, answers_again}
 use Rattle.pth_waits.proofs.joins.join_again.Goals as goal
 
 pub returns-in-None-clause-next : goal.returns-in-None-clause-next
@@ -56,4 +56,4 @@ returns-clause-ok g c s st =
     let verdict = (simp to_z-of_z at c.in-Some.ensures.verdict) s st in
     let effect = (simp to_z-of_z at c.attempt.ensures.effect) s st in
     rw (answers_again g.P.Program.functions s t (Join c.args.n) h (join_attempt s t c.args.n) c.in-Some.answer refl verdict)
-    (changed_then c.attempt.new.w _ s (effect_of (join_attempt s t c.args.n)) (answers g.P.Program.functions t (Join c.args.n) c.in-Some.answer) _ _ effect (simp to_z-of_z at c.in_ok-answer.ensures.ok))
+    (changed_then c.attempt.new.w _ s (effect_of (join_attempt s t c.args.n)) (answers g.P.Program.functions t (Join c.args.n) c.in-Some.answer) _ _ effect (λ u su. (simp to_z-of_z at c.in_ok-answer.ensures.ok) u (quiet_once c.attempt.new.w u _ (quiet-answered t (Join c.args.n) c.in-Some.answer tt refl) su)))

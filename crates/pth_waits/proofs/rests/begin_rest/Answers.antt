@@ -7,7 +7,7 @@ use Rattle.pth_model.specs.declared.next.Next.TheVariants.{Done}
 use Rattle.pth_world.proofs.Telling.{quiet_leads}
 use Rattle.pth_world.specs.Leading.{Leads}
 use Rattle.pth_waits.proofs.Blocking.{none_claimed, quiet-answered}
-use Rattle.pth_waits.proofs.Resting.{rest_begins, rest_given, rest_may, rest_until, rest_writes_nothing}
+use Rattle.pth_waits.proofs.Resting.{rest_begins, rest_given, rest_may, rest_open, rest_until, rest_writes_nothing}
 use Rattle.pth_waits.proofs.rests.begin_rest.Goals as goal
 
 pub returns-in-Some-clause-next : goal.returns-in-Some-clause-next
@@ -18,7 +18,7 @@ returns-in-Some-clause-next g c s st =
 pub returns-in-Some-clause-ok : goal.returns-in-Some-clause-ok
 returns-in-Some-clause-ok g c s st =
     rw (rest_begins g.P.Program.functions s c.args.t.0 c.args.call c.rest_of-rest.result (Some c.in-Some.answer) c.requires.call (c.rest_of-rest.ensures s c.args.t.0) c.in-Some.ensures)
-    (quiet_leads _ s _ _ _ (quiet-answered c.args.t.0 c.args.call c.in-Some.answer (rest_may c.args.t.0 c.args.call c.requires.call)) st c.in_ok-answer.ensures.ok)
+    (quiet_leads _ s _ _ _ (quiet-answered c.args.t.0 c.args.call c.in-Some.answer (rest_may c.args.t.0 c.args.call c.requires.call) (rest_open c.args.call c.requires.call)) st c.in_ok-answer.ensures.ok)
 
 pub returns-clause-next : goal.returns-clause-next
 returns-clause-next g c s st =

@@ -2,8 +2,8 @@ use Rattle.std.proofs.Common.{◌<◌, ◌≤◌, ◌∙◌, ap, refl, subst, sy
 use Rattle.pth_model.specs.Changes.{blocked_of}
 use Rattle.pth_model.specs.declared.next.Next.TheVariants.{Done}
 use Rattle.pth_world.proofs.Telling.{quiet_leads}
-use Rattle.pth_waits.proofs.Blocking.{held_by, quiet-waits}
-use Rattle.pth_waits.proofs.Resting.{rest_given, rest_may, rest_goes_on, rest_is_over}
+use Rattle.pth_waits.proofs.Blocking.{held_by, quiet-answered, quiet_once, quiet-waits}
+use Rattle.pth_waits.proofs.Resting.{rest_given, rest_may, rest_open, rest_goes_on, rest_is_over}
 use Rattle.pth_waits.proofs.rests.rest_again.Goals as goal
 
 pub returns-then-time-moment-clause-next : goal.returns-then-time-moment-clause-next
@@ -41,7 +41,4 @@ returns-clause-ok g c s st =
     let past : c.args.moment ≤ c.time.result = search rules in
     let answer : SFits w64 (pos c.rest_of-rest.result.answer) = search rules in
     rw (rest_is_over g.P.Program.functions s t c.args.call c.rest_of-rest.result h (c.rest_of-rest.ensures s t) c.args.moment (c.requires.moment s.control st.control) (subst (λ (n : ℕ). c.args.moment ≤ n) now past))
-    ((simp (to_z-of_z, c.from.ensures) at c.in_ok-answer.ensures.ok) s st)
-
-pub answer_blocked-requires-clause-may : goal.answer_blocked-requires-clause-may
-answer_blocked-requires-clause-may g c = rest_may c.args.t.0 c.args.call c.requires.call
+    ((simp (to_z-of_z, c.from.ensures) at c.in_ok-answer.ensures.ok) s (quiet_once c.args.w.now s _ (quiet-answered t c.args.call _ (rest_may t c.args.call c.requires.call) (rest_open c.args.call c.requires.call)) st))

@@ -6,7 +6,7 @@ use Rattle.pth_model.specs.declared.next.Next.TheVariants.{Done}
 use Rattle.pth_numbered.specs.Operands.{number}
 use Rattle.pth_ring.specs.Rings.{settled_in}
 use Rattle.pth_world.proofs.Telling.{quiet_leads}
-use Rattle.pth_waits.proofs.Blocking.{held_by, quiet-waits}
+use Rattle.pth_waits.proofs.Blocking.{held_by, quiet-answered, quiet_once, quiet-waits}
 use Rattle.pth_waits.proofs.RingWaits.{wait_goes_on, wait_is_over}
 use Rattle.pth_waits.proofs.ring_waits.wait_again.Goals as goal
 
@@ -49,4 +49,4 @@ returns-clause-ok g c s st =
     let come : c.settled-come.result ≡ settled_in s.control.events (number c.args.e) = rw (st.control.events, ← c.rings.ensures) (rw to_z-of_z at c.settled-come.ensures) in
     let some : nat_lt 0 c.settled-come.result ≡ true = grind (arith, nat_tests) in
     rw (wait_is_over g.P.Program.functions s t c.args.e h c.settled-come.result come some)
-    ((simp (to_z-of_z, c.from.ensures) at c.in_ok-answer.ensures.ok) s st)
+    ((simp (to_z-of_z, c.from.ensures) at c.in_ok-answer.ensures.ok) s (quiet_once c.args.w.now s _ (quiet-answered t (Wait c.args.e) _ tt refl) st))
