@@ -37,17 +37,17 @@ use Rattle.pth_laws.proofs.Going.{set_lives}
 -- ---- threads
 
 module _ {P S H : Type 0} (w : ℕ → Bool) where
-  -- w tells of exactly those who live and whom a pth_cond_await blocks
+  -- w tells of exactly those who live and whom a pth_cond_await blocks: nobody yet, since that call is not built
   abbrev pub HasAwaits : Control P S H → Type 0
-  HasAwaits k = (u : ℕ) → (w u ≡ is_awaiting (blocked_of k u)) × (w u ≡ true → lives (k.threads.known u) ≡ true)
+  HasAwaits k = (u : ℕ) → (w u ≡ is_awaiting (blocked_of k u)) × (w u ≡ true → lives (k.threads.known u) ≡ true) × (w u ≡ false)
 
   pub awaits_set : (u : ℕ) (c : change_type.Change) (k : Control P S H) → ((e : Entry) → k.threads.known u ≡ Some e → is_dead (changed c e).state ≡ is_dead e.state) → HasAwaits k → HasAwaits (sets u c k)
   unfolding sets
-  awaits_set u c k safe has v = ((has v).0, λ on. set_lives u c k.threads.known safe v ((has v).1 on))
+  awaits_set u c k safe has v = ((has v).0, (λ on. set_lives u c k.threads.known safe v ((has v).1 on)), (has v).2)
 
   pub awaits_moved : (u : ℕ) (c : change_type.Change) (q : Queue) (rank : ℤ) (top : Bool) (k : Control P S H) → ((e : Entry) → k.threads.known u ≡ Some e → is_dead (changed c e).state ≡ is_dead e.state) → HasAwaits k → HasAwaits (enters u q rank top (sets u c (leaves_queue u k)))
   unfolding sets enters leaves_queue
-  awaits_moved u c q rank top k safe has v = ((has v).0, λ on. set_lives u c k.threads.known safe v ((has v).1 on))
+  awaits_moved u c q rank top k safe has v = ((has v).0, (λ on. set_lives u c k.threads.known safe v ((has v).1 on)), (has v).2)
 
   pub awaits_enter : (u : ℕ) (q : Queue) (rank : ℤ) (top : Bool) (k : Control P S H) → HasAwaits k → HasAwaits (enters u q rank top k)
   unfolding enters
@@ -69,8 +69,8 @@ module _ {P S H : Type 0} (w : ℕ → Bool) where
   unfolding resumes
   awaits_resumed u k has = awaits_returned u (queue_for (or_nobody (entry_of k u)).state) k has
 
-  pub awaits_as : (v : ℕ → Bool) (k : Control P S H) → ((u : ℕ) → v u ≡ w u) → HasAwaits k → (u : ℕ) → (v u ≡ is_awaiting (blocked_of k u)) × (v u ≡ true → lives (k.threads.known u) ≡ true)
-  awaits_as v k same has u = (same u ∙ (has u).0, λ on. (has u).1 (sym (same u) ∙ on))
+  pub awaits_as : (v : ℕ → Bool) (k : Control P S H) → ((u : ℕ) → v u ≡ w u) → HasAwaits k → (u : ℕ) → (v u ≡ is_awaiting (blocked_of k u)) × (v u ≡ true → lives (k.threads.known u) ≡ true) × (v u ≡ false)
+  awaits_as v k same has u = (same u ∙ (has u).0, (λ on. (has u).1 (sym (same u) ∙ on)), same u ∙ (has u).2)
 
   -- who does not live awaits nothing
   pub awaits_none : (k : Control P S H) (u : ℕ) → lives (k.threads.known u) ≡ false → HasAwaits k → w u ≡ false
@@ -82,10 +82,11 @@ module _ {P S H : Type 0} (w : ℕ → Bool) where
 
   -- another record under a number, where nothing awaits: no call blocks that thread
   renewed : (u : ℕ) (e : Option Entry) (p : Option (Progress S)) (k : Control P S H) → w u ≡ false → blocked_in p ≡ None → HasAwaits k
-      → (v : ℕ) → (w v ≡ is_awaiting (blocked_in (put k.threads.progress u p v))) × (w v ≡ true → lives (put k.threads.known u e v) ≡ true)
+      → (v : ℕ) → (w v ≡ is_awaiting (blocked_in (put k.threads.progress u p v))) × (w v ≡ true → lives (put k.threads.known u e v) ≡ true) × (w v ≡ false)
   renewed u e p k none free has v = (
     put_by (λ (o : Option (Progress S)). w v ≡ is_awaiting (blocked_in o)) k.threads.progress u p v (λ here. ap w here ∙ none ∙ sym (ap is_awaiting free)) (λ apart. (has v).0),
-    λ on. put_by (λ o. lives o ≡ true) k.threads.known u e v (λ here. absurd (true_false (sym on ∙ ap w here ∙ none))) (λ apart. (has v).1 on),
+    (λ on. put_by (λ o. lives o ≡ true) k.threads.known u e v (λ here. absurd (true_false (sym on ∙ ap w here ∙ none))) (λ apart. (has v).1 on)),
+    (has v).2,
   )
 
   pub awaits_removed : (u : ℕ) (k : Control P S H) → w u ≡ false → HasAwaits k → HasAwaits (removes u k)
@@ -99,7 +100,7 @@ module _ {P S H : Type 0} (w : ℕ → Bool) where
   -- a thread that awaits nothing dies
   awaits_dead : (u : ℕ) (v : ℤ) (k : Control P S H) → w u ≡ false → HasAwaits k → HasAwaits (is_dead_with u v k)
   unfolding is_dead_with sets enters leaves_queue
-  awaits_dead u v k none has i = ((has i).0, λ on. let apart : i ≢ u = λ same. true_false (sym on ∙ ap w same ∙ none) in ap lives (put_other _ u _ i apart ∙ put_other _ u _ i apart ∙ put_other k.threads.known u _ i apart) ∙ (has i).1 on)
+  awaits_dead u v k none has i = ((has i).0, (λ on. let apart : i ≢ u = λ same. true_false (sym on ∙ ap w same ∙ none) in ap lives (put_other _ u _ i apart ∙ put_other _ u _ i apart ∙ put_other k.threads.known u _ i apart) ∙ (has i).1 on), (has i).2)
 
   pub awaits_left : (u : ℕ) (v : ℤ) (k : Control P S H) → w u ≡ false → HasAwaits k → HasAwaits (leaves u v k)
   unfolding leaves
@@ -112,7 +113,7 @@ module _ {P S H : Type 0} (w : ℕ → Bool) where
   -- u goes on in its program, and no call blocks it that did not
   pub awaits_go : (u : ℕ) (g : Progress S → Progress S) (k : Control P S H) → ((p : Progress S) → (g p).blocked ≡ p.blocked) → HasAwaits k → HasAwaits (goes_on u g k)
   unfolding goes_on
-  awaits_go u g k same has v = ((has v).0 ∙ sym (ap is_awaiting kept), (has v).1)
+  awaits_go u g k same has v = ((has v).0 ∙ sym (ap is_awaiting kept), (has v).1, (has v).2)
     where
       by_progress : (p : Option (Progress S)) → blocked_in (option_map g p) ≡ blocked_in p
       by_progress None = refl
@@ -127,15 +128,24 @@ module _ {P S H : Type 0} (w : ℕ → Bool) where
 
 -- ---- another call blocks t, or none
 
+-- nobody awaits, where t does not and the others are as they were
+none_awaits : (t : ℕ) (w v : ℕ → Bool) → v t ≡ false → ((u : ℕ) → u ≢ t → v u ≡ w u) → ((u : ℕ) → w u ≡ false) → (u : ℕ) → v u ≡ false
+none_awaits t w v none others before u = by_same (u == t) refl
+  where
+    by_same : (b : Bool) → (u == t) ≡ b → v u ≡ false
+    by_same true same = ap v (same_means u t same) ∙ none
+    by_same false other = others u (same_fails u t other) ∙ before u
+
 module _ {P S H : Type 0} (t : ℕ) where
   -- one that awaits exactly where these marks tell it of t
-  pub awaits_block : (w v : ℕ → Bool) (o : Option Blocked) (k : Control P S H) (p : Progress S) → k.threads.progress t ≡ Some p → v t ≡ is_awaiting o → (v t ≡ true → lives (k.threads.known t) ≡ true) → ((u : ℕ) → u ≢ t → v u ≡ w u) → HasAwaits w k → HasAwaits v (is_blocked_by t o k)
+  pub awaits_block : (w v : ℕ → Bool) (o : Option Blocked) (k : Control P S H) (p : Progress S) → k.threads.progress t ≡ Some p → v t ≡ is_awaiting o → (v t ≡ true → lives (k.threads.known t) ≡ true) → v t ≡ false → ((u : ℕ) → u ≢ t → v u ≡ w u) → HasAwaits w k → HasAwaits v (is_blocked_by t o k)
   unfolding goes_on
-  awaits_block w v o k p on fits alive others has u = (
+  awaits_block w v o k p on fits alive none others has u = (
     put_by (λ (z : Option (Progress S)). v u ≡ is_awaiting (blocked_in z)) k.threads.progress t (option_map (blocking o) (k.threads.progress t)) u
         (λ here. ap v here ∙ fits ∙ sym (ap (λ (z : Option (Progress S)). is_awaiting (blocked_in (option_map (blocking o) z))) on))
         (λ apart. others u apart ∙ (has u).0),
-    λ awaiting. by_same (u == t) refl awaiting,
+    (λ awaiting. by_same (u == t) refl awaiting),
+    none_awaits t w v none others (λ i. (has i).2) u,
   )
     where
       by_same : (b : Bool) → (u == t) ≡ b → v u ≡ true → lives (k.threads.known u) ≡ true
@@ -154,12 +164,12 @@ module _ {P S H : Type 0} (t : ℕ) where
   claim_threads (Some e) k = refl
 
   -- a call begins to block t
-  pub awaits_begun : (w v : ℕ → Bool) (c : Call) (y : Pause) (e : Option ℤ) (k : Control P S H) (p : Progress S) → k.threads.progress t ≡ Some p → v t ≡ is_await c → lives (k.threads.known t) ≡ true → ((u : ℕ) → u ≢ t → v u ≡ w u) → HasAwaits w k
+  pub awaits_begun : (w v : ℕ → Bool) (c : Call) (y : Pause) (e : Option ℤ) (k : Control P S H) (p : Progress S) → k.threads.progress t ≡ Some p → v t ≡ is_await c → lives (k.threads.known t) ≡ true → v t ≡ false → ((u : ℕ) → u ≢ t → v u ≡ w u) → HasAwaits w k
       → HasAwaits v (blocks t c y (claims t e k))
-  awaits_begun w v c y e k p on fits alive others has =
+  awaits_begun w v c y e k p on fits alive none others has =
       let j = claims t e k in
       let same = claim_threads e k in
-      awaits_block w v (Some (blocked_from (now_of j) c y)) j p (ap (λ (x : Threads S). x.progress t) same ∙ on) fits (λ awaiting. ap (λ (x : Threads S). lives (x.known t)) same ∙ alive) others (awaits_claim w e k has)
+      awaits_block w v (Some (blocked_from (now_of j) c y)) j p (ap (λ (x : Threads S). x.progress t) same ∙ on) fits (λ awaiting. ap (λ (x : Threads S). lives (x.known t)) same ∙ alive) none others (awaits_claim w e k has)
 
   awaits_back : (w : ℕ → Bool) (e : Option ℤ) (k : Control P S H) → HasAwaits w k → HasAwaits w (gives_back e k)
   unfolding gives_back
@@ -179,7 +189,8 @@ module _ {P S H : Type 0} (t : ℕ) where
         put_by (λ (z : Option (Progress S)). v u ≡ is_awaiting (blocked_in z)) k.threads.progress t (option_map (blocking None) (k.threads.progress t)) u
             (λ here. ap v here ∙ none ∙ sym (ap is_awaiting (by_progress (k.threads.progress t))))
             (λ apart. others u apart ∙ (has u).0),
-        λ awaiting. let apart : u ≢ t = λ same. true_false (sym awaiting ∙ ap v same ∙ none) in (has u).1 (sym (others u apart) ∙ awaiting),
+        (λ awaiting. let apart : u ≢ t = λ same. true_false (sym awaiting ∙ ap v same ∙ none) in (has u).1 (sym (others u apart) ∙ awaiting)),
+        none_awaits t w v none others (λ i. (has i).2) u,
       )
 
 -- ---- marks
@@ -209,8 +220,10 @@ module _ (k : Resources) (t : ℕ) where
   answer_keeps (call.KeyCreate h) a on other = on_int_awaits a k _ (λ n. refl)
   answer_keeps (call.KeyDelete key) a on other = on_one_awaits a k _ refl
   answer_keeps (call.KeySet key v) a on other = on_one_awaits a k _ refl
+  answer_keeps (call.MutexInit m) a on other = on_int_awaits a k _ (λ n. refl)
   answer_keeps (call.MutexAcquire m v e) a on other = on_int_awaits a k _ (λ n. refl)
   answer_keeps (call.MutexRelease m) a on other = on_int_awaits a k _ (λ n. refl)
+  answer_keeps (call.RwInit l) a on other = on_int_awaits a k _ (λ n. refl)
   answer_keeps (call.RwAcquire l write v e) a on other = on_int_awaits a k _ (λ n. refl)
   answer_keeps (call.RwRelease l) a on other = on_int_awaits a k _ (λ n. refl)
   answer_keeps (call.PortCreate name) a on other = on_int_awaits a k _ (λ n. refl)

@@ -1,9 +1,14 @@
 -- An ending, walked: its handlers from the last pushed to the first, its destructors to the last that is due, and its mark.
 use Rattle.std.proofs.Common.{◌≡◌, ◌≢◌, ℕ, zero, suc, ◌+◌, ◌-◌, ◌*◌, ◌<◌, ◌≤◌, if◌then◌else◌, Bool, true, false, ℤ, negsuc, List, [], ◌∷◌, ◌++◌, inl, inr, Option, Some, None, refl, sym, ◌∙◌, ap, subst, arith, append_assoc, append-nil}
+use Rattle.std.proofs.lemmas.Bool.{cases_lt}
 use Rattle.pth_base.specs.Program.{Functions}
 use Rattle.pth_base.specs.Table.{put}
+use Rattle.pth_base.specs.declared.mark.Mark.{Mark}
 use Rattle.pth_base.specs.declared.mark.Mark.TheVariants as mark
-use Rattle.pth_base.proofs.Tables.{same_self, put_here, put_other}
+use Rattle.pth_base.proofs.Tables.{same_self, put_by, put_here, put_other}
+use Rattle.pth_lock.specs.Objects.{object_limit}
+use Rattle.pth_lock.specs.Mutexes.{free_mutex, has}
+use Rattle.pth_lock.specs.RwLocks.{holds}
 use Rattle.pth_store.specs.Cleanups.{PushedHandler}
 use Rattle.pth_store.specs.Keys.{Tables, key_limit}
 use Rattle.pth_threads.specs.declared.entry.Entry.{Entry}
@@ -11,19 +16,22 @@ use Rattle.pth_model.specs.declared.destructors.Due.{Due}
 use Rattle.pth_model.specs.declared.destructors.Round.{Round}
 use Rattle.pth_model.specs.Resources.{Resources, told}
 use Rattle.pth_model.specs.State.{State, Control}
-use Rattle.pth_model.specs.Transition.{Piece, tells, tid, ◌and_then◌}
-use Rattle.pth_model.specs.Ending.{round_limit, first_round, next_destructor, other_than, stops_running, is_dead_with, undoes_wait, runs_each, runs_cleanups, runs_destructor, destructs_by, destructs, runs_destructors, leaves, dies, ending}
+use Rattle.pth_model.specs.Transition.{Piece, tells, tid, where_so, ◌and_then◌}
+use Rattle.pth_model.specs.Ending.{round_limit, first_round, next_destructor, other_than, stops_running, is_dead_with, undoes_wait, runs_each, runs_cleanups, runs_destructor, destructs_by, destructs, runs_destructors, gives_mutexes, gives_locks, gives_all, leaves, dies, ending}
 use Rattle.pth_model.specs.Changes.{sets, enters, leaves_queue, forgets, removes, goes_on, is_blocked_by, blocked_of, or_nobody, entry_of}
 use Rattle.pth_model.specs.RingWaits.{claimant, gives_back, stops_waiting, ring_held}
 use Rattle.pth_model.specs.Acts.{handled, runs_handler}
 use Rattle.pth_model.specs.Living.{lives, is_made}
 use Rattle.pth_model.proofs.Placed.{Seats, seats}
-use Rattle.pth_laws.specs.Book.{Book, Closed, BlockRun, ran_by, ran_nothing, with_handler, with_destructor}
+use Rattle.pth_laws.specs.Book.{Book, Closed, BlockRun, after, ran_by, ran_nothing, with_handler, with_destructor}
+use Rattle.pth_laws.specs.Laws.{HasMutex, HoldsLock}
 use Rattle.pth_laws.specs.Destructors.{IsNextDue}
 use Rattle.pth_laws.proofs.NextDue.{next_is}
 use Rattle.pth_laws.proofs.Living.{IsLiving, Living, living-up, living_left}
 use Rattle.pth_laws.proofs.Claims.{HasClaims, stopped_apart, claims_stop, claims_left, left_other, stopped_known}
 use Rattle.pth_laws.proofs.Awaits.{HasAwaits, awaits_stop, awaits_left}
+use Rattle.pth_laws.proofs.Locked.{no_mutex, no_lock}
+use Rattle.pth_laws.proofs.Held.{out_released, out_given}
 use Rattle.pth_laws.proofs.Said.{value_self}
 use Rattle.pth_laws.proofs.Walk.{Walk, IsMarked, walk_tells, walk_then, walk_to}
 use Rattle.pth_laws.proofs.Handlers.{IsRunning, run_up, block_open, handled_walk, handler_walk}
@@ -101,7 +109,7 @@ module _ {P S H : Type 0} (f : P → Functions S H) (n t : ℕ) (over dropped : 
       let seen : next_destructor b.resources.store.keys t x.round ≡ Some d = ap (λ (k : Resources). next_destructor k.store.keys t x.round) w.resources ∙ ap (λ (z : BlockRun). next_destructor s.resources.store.keys t z.round) w.ran ∙ found in
       walk_then n (RunsSo hs d.round) (IsDone hs) b (runs_destructor f t d) (next d.round) s
       (walk_then n (RunsSo hs d.round) (RunsSo hs d.round) b (tells m) (handled f t d.handler d.value) s
-      (walk_tells n (RunsSo hs d.round) b m s (((run_up f n t over dropped up made had y (so_far hs r) b s w, tt), tt, tt), made) (record {
+      (walk_tells n (RunsSo hs d.round) b m s (λ locked. (((run_up f n t over dropped up made had y (so_far hs r) b s w, tt), tt, tt), made)) (record {
         resources = ap (λ (k : Resources). told k m) w.resources;
         ended = w.ended;
         cancelled = w.cancelled;
@@ -119,6 +127,84 @@ module _ {P S H : Type 0} (f : P → Functions S H) (n t : ℕ) (over dropped : 
   destructs_walk hs (suc many) r b s low w =
       due_walk hs r (next_destructor s.resources.store.keys t r) (destructs f t many) b s refl w
       (λ d found c u v. destructs_walk hs many d.round c u (let less = due_left s.resources.store.keys t r d found in omega (arith, less, low)) v)
+
+  -- what t has is given up: it has none of these mutexes, and holds none of these locks
+  pub record IsGiven (hs : List PushedHandler) (mutexes locks : ℕ) (b : Book) (s : State P S H) : Type 0 where
+    pub done : IsDone hs b s
+    pub none : (m : ℕ) → m < mutexes → has t (s.resources.store.mutexes m) ≡ false
+    pub out : (l : ℕ) → l < locks → holds s.resources.store.rw_locks t l ≡ false
+
+  -- one mark more of those that an end gives back
+  given_so : (hs : List PushedHandler) (m : Mark) (b : Book) (s : State P S H) → (told s.resources m).store.cleanups ≡ s.resources.store.cleanups → (told s.resources m).store.keys ≡ s.resources.store.keys → (told s.resources m).awaits ≡ s.resources.awaits → (after b m).ended ≡ b.ended → (after b m).cancelled ≡ b.cancelled → ran_by (after b m).block t ≡ ran_by b.block t → IsDone hs b s → IsDone hs (after b m) (tells m s).state
+  given_so hs m b s cleanups keys awaits ended cancelled ran d =
+      let w = d.runs in
+      record {
+        round = d.round;
+        runs = record {
+          resources = ap (λ (k : Resources). told k m) w.resources;
+          ended = ended ∙ w.ended;
+          cancelled = cancelled ∙ w.cancelled;
+          ran = ran ∙ w.ran;
+          cleanups = ap (λ (c : ℕ → List PushedHandler). c t) cleanups ∙ w.cleanups;
+          awaits = awaits ∙ w.awaits;
+          control = w.control;
+        };
+        all = ap (λ (k : Tables). next_destructor k t d.round) keys ∙ d.all;
+      }
+
+  gives_one : (hs : List PushedHandler) (m : ℕ) (had_it : Bool) (b : Book) (s : State P S H) → has t (s.resources.store.mutexes m) ≡ had_it → IsGiven hs m 0 b s → Walk n b (IsGiven hs (m + 1) 0) (where_so had_it (tells (mark.GaveMutex (tid t) m)) s)
+  unfolding told
+  gives_one hs m false b s had_not d = record {
+    law = tt;
+    post = record { done = d.done; none = λ i low. elim (cases_lt i m) [ inl below ↦ d.none i below | inr above ↦ (let same : i ≡ m = omega (arith, low, above) in ap (λ (j : ℕ). has t (s.resources.store.mutexes j)) same ∙ had_not) ]; out = d.out };
+  }
+  gives_one hs m true b s had_it d =
+      let w = d.done.runs in
+      let law : HasMutex b.resources t m = ap (λ (k : Resources). has t (k.store.mutexes m)) w.resources ∙ had_it in
+      walk_tells n (IsGiven hs (m + 1) 0) b (mark.GaveMutex (tid t) m) s (λ locked. (((run_up f n t over dropped up made had y (so_far hs d.done.round) b s w, tt), law, tt), made)) (record {
+        done = given_so hs (mark.GaveMutex (tid t) m) b s refl refl refl refl refl (block_open t (ran_by b.block t)) d.done;
+        none = λ i low. put_by (λ z. has t z ≡ false) s.resources.store.mutexes m free_mutex i (λ here. refl) (λ other. d.none i (omega (arith, low, other)));
+        out = d.out;
+      })
+
+  gives_lock : (hs : List PushedHandler) (l : ℕ) (held : Bool) (b : Book) (s : State P S H) → holds s.resources.store.rw_locks t l ≡ held → IsGiven hs object_limit l b s → Walk n b (IsGiven hs object_limit (l + 1)) (where_so held (tells (mark.GaveLock (tid t) l)) s)
+  unfolding told
+  gives_lock hs l false b s had_not d = record {
+    law = tt;
+    post = record { done = d.done; none = d.none; out = λ i low. elim (cases_lt i l) [ inl below ↦ d.out i below | inr above ↦ (let same : i ≡ l = omega (arith, low, above) in ap (λ (j : ℕ). holds s.resources.store.rw_locks t j) same ∙ had_not) ] };
+  }
+  gives_lock hs l true b s had_it d =
+      let w = d.done.runs in
+      let law : HoldsLock b.resources t l = ap (λ (k : Resources). holds k.store.rw_locks t l) w.resources ∙ had_it in
+      walk_tells n (IsGiven hs object_limit (l + 1)) b (mark.GaveLock (tid t) l) s (λ locked. (((run_up f n t over dropped up made had y (so_far hs d.done.round) b s w, tt), law, tt), made)) (record {
+        done = given_so hs (mark.GaveLock (tid t) l) b s refl refl refl refl refl (block_open t (ran_by b.block t)) d.done;
+        none = d.none;
+        out = λ i low. elim (cases_lt i l) [ inl below ↦ out_released t s.resources.store.rw_locks i t l (d.out i below) | inr above ↦ out_given t s.resources.store.rw_locks i l (omega (arith, low, above)) ];
+      })
+
+  mutexes_walk : (hs : List PushedHandler) (many m top : ℕ) (b : Book) (s : State P S H) → m + many ≡ top → IsGiven hs m 0 b s → Walk n b (IsGiven hs top 0) (gives_mutexes t many m s)
+  unfolding gives_mutexes
+  mutexes_walk hs zero m top b s end d = record { law = tt; post = let same : m ≡ top = omega (arith, end) in subst (λ (i : ℕ). IsGiven hs i 0 b s) same d }
+  mutexes_walk hs (suc many) m top b s end d =
+      let one : Piece P S H = where_so (has t (s.resources.store.mutexes m)) (tells (mark.GaveMutex (tid t) m)) in
+      walk_then n (IsGiven hs (m + 1) 0) (IsGiven hs top 0) b one (gives_mutexes t many (m + 1)) s (gives_one hs m (has t (s.resources.store.mutexes m)) b s refl d) (λ c v. mutexes_walk hs many (m + 1) top c (one s).state (omega (arith, end)) v)
+
+  locks_walk : (hs : List PushedHandler) (many l top : ℕ) (b : Book) (s : State P S H) → l + many ≡ top → IsGiven hs object_limit l b s → Walk n b (IsGiven hs object_limit top) (gives_locks t many l s)
+  unfolding gives_locks
+  locks_walk hs zero l top b s end d = record { law = tt; post = let same : l ≡ top = omega (arith, end) in subst (λ (i : ℕ). IsGiven hs object_limit i b s) same d }
+  locks_walk hs (suc many) l top b s end d =
+      let one : Piece P S H = where_so (holds s.resources.store.rw_locks t l) (tells (mark.GaveLock (tid t) l)) in
+      walk_then n (IsGiven hs object_limit (l + 1)) (IsGiven hs object_limit top) b one (gives_locks t many (l + 1)) s (gives_lock hs l (holds s.resources.store.rw_locks t l) b s refl d) (λ c v. locks_walk hs many (l + 1) top c (one s).state (omega (arith, end)) v)
+
+  -- and all of them
+  abbrev pub HasGiven : List PushedHandler → Book → State P S H → Type 0
+  HasGiven hs = IsGiven hs object_limit object_limit
+
+  gives_walk : (hs : List PushedHandler) (b : Book) (s : State P S H) → IsDone hs b s → Walk n b (HasGiven hs) (gives_all t s)
+  gives_walk hs b s d =
+      walk_then n (IsGiven hs object_limit 0) (HasGiven hs) b (gives_mutexes t object_limit 0) (gives_locks t object_limit 0) s
+      (mutexes_walk hs object_limit 0 object_limit b s (omega arith) (record { done = d; none = λ i low. absurd (omega (arith, low)); out = λ i low. absurd (omega (arith, low)) }))
+      (λ c v. locks_walk hs object_limit 0 object_limit c (gives_mutexes t object_limit 0 s).state (omega arith) v)
 
 -- ---- the whole ending
 
@@ -169,9 +255,13 @@ module _ {P S H : Type 0} (n t : ℕ) where
     abbrev Done : Book → State P S H → Type 0
     Done = IsDone f n t b.ended b.cancelled up made s.resources undone pushed
 
-    dies_walk : (c : Book) (u : State P S H) → Done c u → Walk n c (HasEnded n t b s) (dies t v u)
+    abbrev Given : Book → State P S H → Type 0
+    Given = HasGiven f n t b.ended b.cancelled up made s.resources undone pushed
+
+    dies_walk : (c : Book) (u : State P S H) → Given c u → Walk n c (HasEnded n t b s) (dies t v u)
     unfolding told
-    dies_walk c u done =
+    dies_walk c u given =
+        let done = given.done in
         let w = done.runs in
         let x = ran_by c.block t in
         let m = mark.Ended (tid t) v in
@@ -183,7 +273,7 @@ module _ {P S H : Type 0} (n t : ℕ) where
         let over_now : (told u.resources m).awaits t ≡ false = put_here u.resources.awaits t false in
         let await_stays : (i : ℕ) → i ≢ t → (told u.resources m).awaits i ≡ s.resources.awaits i = λ i apart. put_other u.resources.awaits t false i apart ∙ ap (λ (o : ℕ → Bool). o i) w.awaits in
         let awaits_now : HasAwaits (told u.resources m).awaits u.control = subst (HasAwaits (told u.resources m).awaits) (sym w.control) (awaits_stop t s.resources.awaits (told u.resources m).awaits s.control over_now await_stays awaits) in
-        let law : IsMarked n c m = (
+        let law : IsMarked n c m = λ locked. (
           (
             (
               run_up f n t b.ended b.cancelled up made s.resources undone (so_far pushed done.round) c u w,
@@ -194,7 +284,10 @@ module _ {P S H : Type 0} (n t : ℕ) where
                 value = λ h. value (ap (λ (e : ℕ → Bool). e t) (sym w.cancelled) ∙ h);
               },
             ),
-            tt,
+            record {
+              mutexes = no_mutex c.resources locked t (λ i low. ap (λ (k : Resources). has t (k.store.mutexes i)) w.resources ∙ given.none i low);
+              locks = no_lock c.resources locked t (λ i low. ap (λ (k : Resources). holds k.store.rw_locks t i) w.resources ∙ given.out i low);
+            },
             tt,
           ),
           made,
@@ -221,10 +314,12 @@ module _ {P S H : Type 0} (n t : ℕ) where
     ending_walk same fresh =
         let So = RunsSo f n t b.ended b.cancelled up made s.resources undone in
         let s1 = (undoes_wait t s).state in
-        walk_then n (So [] first_round) (HasEnded n t b s) b (undoes_wait t) (runs_cleanups f t and_then runs_destructors f t and_then dies t v) s
+        walk_then n (So [] first_round) (HasEnded n t b s) b (undoes_wait t) (runs_cleanups f t and_then runs_destructors f t and_then gives_all t and_then dies t v) s
         (record { law = tt; post = record { resources = same; ended = refl; cancelled = refl; ran = fresh; cleanups = refl; awaits = refl; control = refl } })
-        (λ c1 w1. walk_then n (So pushed first_round) (HasEnded n t b s) c1 (runs_cleanups f t) (runs_destructors f t and_then dies t v) s1
+        (λ c1 w1. walk_then n (So pushed first_round) (HasEnded n t b s) c1 (runs_cleanups f t) (runs_destructors f t and_then gives_all t and_then dies t v) s1
         (each_walk f n t b.ended b.cancelled up made s.resources undone pushed [] c1 s1 w1)
-        (λ c2 w2. let s2 = (runs_cleanups f t s1).state in walk_then n Done (HasEnded n t b s) c2 (runs_destructors f t) (dies t v) s2
+        (λ c2 w2. let s2 = (runs_cleanups f t s1).state in walk_then n Done (HasEnded n t b s) c2 (runs_destructors f t) (gives_all t and_then dies t v) s2
         (destructs_walk f n t b.ended b.cancelled up made s.resources undone pushed (round_limit * key_limit) first_round c2 s2 (omega arith) w2)
-        (λ c3 done. dies_walk c3 (runs_destructors f t s2).state done)))
+        (λ c3 done. let s3 = (runs_destructors f t s2).state in walk_then n Given (HasEnded n t b s) c3 (gives_all t) (dies t v) s3
+        (gives_walk f n t b.ended b.cancelled up made s.resources undone pushed c3 s3 done)
+        (λ c4 given. dies_walk c4 (gives_all t s3).state given))))

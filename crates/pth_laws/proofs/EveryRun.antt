@@ -17,17 +17,18 @@ use Rattle.pth_model.specs.declared.progress.Progress.{Progress}
 use Rattle.pth_model.specs.Changes.{blocked_in}
 use Rattle.pth_model.specs.Living.{lives, is_made}
 use Rattle.pth_model.specs.Part.{part, part_by, next_part, next_part_by, unless_ended, is_idle}
-use Rattle.pth_model.specs.Resources.{HasNothing}
+use Rattle.pth_model.specs.Resources.{Resources, HasNothing}
 use Rattle.pth_model.specs.Run.{parts, run}
 use Rattle.pth_model.proofs.Once.{shown-all}
 use Rattle.pth_laws.specs.Book.{Book, empty_book, after, book_of}
 use Rattle.pth_laws.specs.Clean.{IsClean}
-use Rattle.pth_laws.specs.Laws.{EachMark, IsLawful, IsOrderlyMark, Orderly, thread_of}
+use Rattle.pth_laws.specs.Laws.{EachMark, IsLawful, IsOrderlyMark, IsExclusiveMark, Orderly, Exclusive, thread_of}
 use Rattle.pth_laws.specs.Valid.{Lives, IsValid, IsTiedTo, IsOver, is_awaiting}
 use Rattle.pth_laws.proofs.Living.{true_false, made_more, both, not_true, runs_alive}
-use Rattle.pth_laws.proofs.Walk.{IsOfMade, IsMarked, each-weaker, each-append, book-append}
+use Rattle.pth_laws.proofs.Locked.{Locked, has_some, locked_none, locked_along}
+use Rattle.pth_laws.proofs.Walk.{IsOfMade, IsLawfulOf, each_lawful, each-weaker, each-append, book-append}
 use Rattle.pth_laws.proofs.Parts.{IsSettled, PartWalk, none_some, part_walk}
-use Rattle.pth_laws.proofs.Leftovers.{each_empty}
+use Rattle.pth_laws.proofs.Leftovers.{each_empty, unmarked_nothing}
 
 abbrev IsKilled : Outcome → Type 0
 IsKilled o = o ≡ outcome.Killed
@@ -38,7 +39,7 @@ pub record IsLawfulRun {P S H : Type 0} (c : Course P S H) : Type 0 where
   pub made : (IsKilled c.turn.outcome → ⊥) → All (λ m. IsOfMade c.state.control.threads.made (thread_of m)) c.marks
   pub settled : (IsKilled c.turn.outcome → ⊥) → IsSettled c.state.control.threads.made (book_of empty_book c.marks) c.state c.turn
 
-each_made : (n : ℕ) (b : Book) (ms : List Mark) → EachMark (IsMarked n) b ms → All (λ m. IsOfMade n (thread_of m)) ms
+each_made : (n : ℕ) (b : Book) (ms : List Mark) → EachMark (IsLawfulOf n) b ms → All (λ m. IsOfMade n (thread_of m)) ms
 each_made n b [] law = All-nil (λ m. IsOfMade n (thread_of m))
 each_made n b (m ∷ ms) law = All-cons (λ x. IsOfMade n (thread_of x)) m ms law.0.1 (each_made n (after b m) ms law.1)
 
@@ -81,7 +82,7 @@ module _ {P S H : Type 0} (f : P → Functions S H) where
     cancelled = λ t up. refl;
     living = record { grown = omega arith; numbered = main_known; over = main_over; stands = main_stands; dead = All-nil (λ (z : Standing). false ≡ true) };
     claims = λ e t h. absurd (none_some t h);
-    awaits = λ t. (put_by (λ (o : Option (Progress S)). false ≡ is_awaiting (blocked_in o)) (λ u. None) main _ t (λ here. refl) (λ other. refl), λ awaiting. absurd (true_false (sym awaiting)));
+    awaits = λ t. (put_by (λ (o : Option (Progress S)). false ≡ is_awaiting (blocked_in o)) (λ u. None) main _ t (λ here. refl) (λ other. refl), (λ awaiting. absurd (true_false (sym awaiting))), refl);
     runs = λ t h. absurd (none_some t h);
     gave = λ t g. absurd (none_some t g);
     preferred = λ t h. absurd (none_some t h);
@@ -127,14 +128,16 @@ module _ {P S H : Type 0} (f : P → Functions S H) where
       let b = book_of empty_book c.marks in
       let next = part f c.turn c.state in
       let w : PartWalk n b next = part_walk n f c.turn b c.state refl (l.settled on) in
+      let locked : Locked b.resources = locked_along empty_book c.marks (each-weaker IsLawful IsExclusiveMark (λ d m h. h.1) empty_book c.marks l.law) locked_none in
+      let law : EachMark (IsLawfulOf n) b next.marks = each_lawful n b next.marks locked w.law in
       record {
-        law = each-append IsLawful empty_book c.marks next.marks l.law (each-weaker (IsMarked n) IsLawful (λ d m h. h.0) b next.marks w.law);
+        law = each-append IsLawful empty_book c.marks next.marks l.law (each-weaker (IsLawfulOf n) IsLawful (λ d m h. h.0) b next.marks law);
         made = λ still.
             let grown = (w.post still).living.grown in
             let more : (m : Mark) → IsOfMade n (thread_of m) → IsOfMade next.state.control.threads.made (thread_of m) = λ m h. of_more n next.state.control.threads.made (thread_of m) grown h in
             All-append (λ m. IsOfMade next.state.control.threads.made (thread_of m)) c.marks next.marks
             (All-weaker (λ m. IsOfMade n (thread_of m)) (λ m. IsOfMade next.state.control.threads.made (thread_of m)) more c.marks (l.made on))
-            (All-weaker (λ m. IsOfMade n (thread_of m)) (λ m. IsOfMade next.state.control.threads.made (thread_of m)) more next.marks (each_made n b next.marks w.law));
+            (All-weaker (λ m. IsOfMade n (thread_of m)) (λ m. IsOfMade next.state.control.threads.made (thread_of m)) more next.marks (each_made n b next.marks law));
         settled = λ still. subst (λ (d : Book). IsSettled next.state.control.threads.made d next.state next.turn) (sym (book-append empty_book c.marks next.marks)) (rebased (book_of b next.marks) next.state next.turn n (w.post still));
       }
 
@@ -155,6 +158,9 @@ module _ {P S H : Type 0} (f : P → Functions S H) where
   pub run_orderly : (g : Given P) (i : ℕ) → Orderly (run f g i).marks
   run_orderly g i = each-weaker IsLawful IsOrderlyMark (λ b m h. h.0) empty_book (run f g i).marks (run_lawful g i).law
 
+  pub run_exclusive : (g : Given P) (i : ℕ) → Exclusive (run f g i).marks
+  run_exclusive g i = each-weaker IsLawful IsExclusiveMark (λ b m h. h.1) empty_book (run f g i).marks (run_lawful g i).law
+
   pub run_tied : (g : Given P) (i : ℕ) → (IsKilled (run f g i).turn.outcome → ⊥) → IsTiedTo (run f g i).state (run f g i).marks
   run_tied g i on =
       let c = run f g i in
@@ -172,9 +178,6 @@ module _ {P S H : Type 0} (f : P → Functions S H) where
       and_false : (b : Bool) → (b && false) ≡ false
       and_false true = refl
       and_false false = refl
-
-  pub run_clean : (g : Given P) (i : ℕ) → (IsKilled (run f g i).turn.outcome → ⊥) → IsClean (run f g i).state
-  run_clean g i on = record { claims = ((run_lawful g i).settled on).claims }
 
   pub run_valid : (g : Given P) (i : ℕ) → (IsKilled (run f g i).turn.outcome → ⊥) → IsValid (run f g i).state (run f g i).turn
   run_valid g i on =
@@ -200,3 +203,33 @@ module _ {P S H : Type 0} (f : P → Functions S H) where
           let living = ((run_lawful g i).settled on).living in
           let over = both (is_made k.threads.made t) (not (lives (k.threads.known t))) (sym (living.over t) ∙ rests.1) in
           inr (record { made = over.0; gone = not_true (lives (k.threads.known t)) over.1 })
+
+  -- who does not live has nothing: it is over, or was not made
+  nothing_left : (g : Given P) (i : ℕ) → (IsKilled (run f g i).turn.outcome → ⊥) → (t : ℕ) → lives ((run f g i).state.control.threads.known t) ≡ false → HasNothing (run f g i).state.resources.store t
+  nothing_left g i on t gone = by_made (is_made (run f g i).state.control.threads.made t) refl
+    where
+      by_made : (b : Bool) → is_made (run f g i).state.control.threads.made t ≡ b → HasNothing (run f g i).state.resources.store t
+      by_made true made = (run_valid g i on).empty t (record { made = made; gone = gone })
+      by_made false unmade =
+          let tied = run_tied g i on in
+          subst (λ (r : Resources). HasNothing r.store t) tied.resources (unmarked_nothing t empty_book (run f g i).marks (tied.unmade t unmade) (record { cleanups = refl; values = λ k. refl; mutexes = λ m. refl; locks = λ l. refl }))
+
+  pub run_clean : (g : Given P) (i : ℕ) → (IsKilled (run f g i).turn.outcome → ⊥) → IsClean (run f g i).state
+  run_clean g i on = record {
+    claims = ((run_lawful g i).settled on).claims;
+    mutexes = λ m t had. (alive t (λ nothing. true_false (sym had ∙ nothing.mutexes m)), locked.mutexes m (has_some t (s.resources.store.mutexes m) had));
+    locks = λ l t held. (alive t (λ nothing. true_false (sym held ∙ nothing.locks l)), locked.locks l (locked.held l t held));
+  }
+    where
+      s : State P S H
+      s = (run f g i).state
+
+      locked : Locked s.resources
+      locked = subst Locked ((run_lawful g i).settled on).resources (locked_along empty_book (run f g i).marks (run_exclusive g i) locked_none)
+
+      alive : (t : ℕ) → (HasNothing s.resources.store t → ⊥) → lives (s.control.threads.known t) ≡ true
+      alive t something = by_life (lives (s.control.threads.known t)) refl
+        where
+          by_life : (b : Bool) → lives (s.control.threads.known t) ≡ b → lives (s.control.threads.known t) ≡ true
+          by_life true h = h
+          by_life false h = absurd (something (nothing_left g i on t h))

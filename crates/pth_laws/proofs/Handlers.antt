@@ -5,6 +5,7 @@ use Rattle.pth_base.specs.declared.act.Act.{Act}
 use Rattle.pth_base.specs.declared.act.Act.TheVariants as act
 use Rattle.pth_base.specs.declared.answer.Answer.{Answer}
 use Rattle.pth_base.specs.declared.answer.Answer.TheVariants as answer
+use Rattle.pth_base.specs.declared.call.Call.TheVariants as call
 use Rattle.pth_base.specs.declared.ids.HandlerId.{HandlerId}
 use Rattle.pth_base.specs.declared.mark.Mark.{Mark}
 use Rattle.pth_base.specs.declared.mark.Mark.TheVariants as mark
@@ -14,11 +15,14 @@ use Rattle.pth_model.specs.Resources.{Resources, told, act_told, answer_told}
 use Rattle.pth_model.specs.State.{State, Control}
 use Rattle.pth_model.specs.Transition.{Piece, changes, tells, tid, nothing, controlled, ◌and_then◌}
 use Rattle.pth_model.specs.Changes.{shares}
+use Rattle.pth_model.specs.Mutexes.{mutex_release}
 use Rattle.pth_model.specs.Row.{unless_refused, refuses}
 use Rattle.pth_model.specs.Acts.{acts, acts_from, act_limit, answer_in, row_of_act, handled, goes_on_after, runs_handler}
 use Rattle.pth_model.specs.Living.{is_made}
 use Rattle.pth_laws.specs.Book.{Book, Open, BlockRun, ran_by, with_handler}
+use Rattle.pth_laws.specs.Laws.{IsAnswerExclusive, IsExclusiveMark}
 use Rattle.pth_laws.proofs.Awaits.{act_awaits}
+use Rattle.pth_laws.proofs.Locking.{release_said}
 use Rattle.pth_laws.proofs.Walk.{Walk, walk_tells, walk_then}
 
 pub block_open : (t : ℕ) (x : BlockRun) → ran_by (Open t x) t ≡ x
@@ -46,12 +50,20 @@ pub record IsRunning {P S H : Type 0} (t : ℕ) (over dropped : ℕ → Bool) (h
 
 module _ {P S H : Type 0} where
   -- an act is a mark: nothing else changes
-  acts_tell : (t : ℕ) (x : Act) (s : State P S H) → acts t x s ≡ tells (mark.Acted (tid t) x (answer_in (row_of_act s x).begin.verdict)) s
+  acts_tell : (t : ℕ) (x : Act) (s : State P S H) → acts t x s ≡ tells (mark.Acted (tid t) x (answer_in (row_of_act s t x).begin.verdict)) s
   unfolding acts
-  acts_tell t (act.SetKey k v) s = by_refusal (refuses (row_of_act s (act.SetKey k v)).begin.verdict)
+  acts_tell t (act.SetKey k v) s = by_refusal (refuses (row_of_act s t (act.SetKey k v)).begin.verdict)
     where
       m : Mark
-      m = mark.Acted (tid t) (act.SetKey k v) (answer_in (row_of_act s (act.SetKey k v)).begin.verdict)
+      m = mark.Acted (tid t) (act.SetKey k v) (answer_in (row_of_act s t (act.SetKey k v)).begin.verdict)
+
+      by_refusal : (b : Bool) → (unless_refused b (changes nothing) and_then tells m) s ≡ tells m s
+      by_refusal true = refl
+      by_refusal false = refl
+  acts_tell t (act.Release i) s = by_refusal (refuses (row_of_act s t (act.Release i)).begin.verdict)
+    where
+      m : Mark
+      m = mark.Acted (tid t) (act.Release i) (answer_in (row_of_act s t (act.Release i)).begin.verdict)
 
       by_refusal : (b : Bool) → (unless_refused b (changes nothing) and_then tells m) s ≡ tells m s
       by_refusal true = refl
@@ -65,12 +77,20 @@ module _ {P S H : Type 0} where
     pub run_up : (x : BlockRun) (b : Book) (s : State P S H) → Runs x b s → b.ended t ≡ false
     run_up x b s w = ap (λ (e : ℕ → Bool). e t) w.ended ∙ up
 
+    -- a mutex is given back by who has it
+    releases : (b : Book) (s : State P S H) (m : ℤ) → b.resources ≡ s.resources → IsAnswerExclusive b.resources t (call.MutexRelease m) (answer_in (mutex_release s t m).begin.verdict)
+    releases b s m same = subst (λ (r : Resources). IsAnswerExclusive r t (call.MutexRelease m) (answer_in (mutex_release s t m).begin.verdict)) (sym same) (release_said s.resources t m)
+
+    act_exclusive : (b : Book) (s : State P S H) (a : Act) → b.resources ≡ s.resources → IsExclusiveMark b (mark.Acted (tid t) a (answer_in (row_of_act s t a).begin.verdict))
+    act_exclusive b s (act.Release m) same = releases b s m same
+    act_exclusive b s a same = tt
+
     act_walk : (x : BlockRun) (a : Act) (b : Book) (s : State P S H) → Runs x b s → Walk n b (Runs x) (acts t a s)
     unfolding told
     act_walk x a b s w =
-        let r = answer_in (row_of_act s a).begin.verdict in
+        let r = answer_in (row_of_act s t a).begin.verdict in
         subst (Walk n b (Runs x)) (sym (acts_tell t a s))
-        (walk_tells n (Runs x) b (mark.Acted (tid t) a r) s (((run_up x b s w, tt), tt, tt), made) (record {
+        (walk_tells n (Runs x) b (mark.Acted (tid t) a r) s (λ locked. (((run_up x b s w, tt), act_exclusive b s a w.resources, tt), made)) (record {
           resources = ap (λ k. told k (mark.Acted (tid t) a r)) w.resources;
           ended = w.ended;
           cancelled = w.cancelled;
@@ -101,7 +121,7 @@ module _ {P S H : Type 0} where
     unfolding told
     handler_walk x h v b s w =
         walk_then n (Runs (with_handler (h, v) x)) (Runs (with_handler (h, v) x)) b (tells (mark.Handler (tid t) h v)) (handled f t h v) s
-        (walk_tells n (Runs (with_handler (h, v) x)) b (mark.Handler (tid t) h v) s (((run_up x b s w, tt), tt, tt), made) (record {
+        (walk_tells n (Runs (with_handler (h, v) x)) b (mark.Handler (tid t) h v) s (λ locked. (((run_up x b s w, tt), tt, tt), made)) (record {
           resources = w.resources;
           ended = w.ended;
           cancelled = w.cancelled;

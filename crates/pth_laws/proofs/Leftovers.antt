@@ -1,5 +1,6 @@
 -- Who has ended has nothing stored: no mark of another thread stores anything for it.
-use Rattle.std.proofs.Common.{◌≡◌, ◌≢◌, ℕ, zero, suc, ◌==◌, Bool, true, false, if◌then◌else◌, ℤ, pos, List, [], ◌∷◌, Option, Some, None, refl, sym, ◌∙◌, ap, subst}
+use Rattle.std.proofs.Common.{◌≡◌, ◌≢◌, ℕ, zero, suc, ◌==◌, Bool, true, false, if◌then◌else◌, ℤ, pos, List, [], ◌∷◌, All, Option, Some, None, refl, sym, ◌∙◌, ap, subst}
+use Rattle.std.proofs.lemmas.List.Elements.{All-head, All-tail}
 use Rattle.pth_base.specs.Table.{put}
 use Rattle.pth_base.specs.declared.act.Act.{Act}
 use Rattle.pth_base.specs.declared.act.Act.TheVariants as act
@@ -13,6 +14,11 @@ use Rattle.pth_base.proofs.Tables.{same_means, same_fails, put_by, put_here, put
 use Rattle.pth_store.specs.Cleanups.{PushedHandler}
 use Rattle.pth_store.specs.Keys.{key_named}
 use Rattle.pth_model.specs.Resources.{Resources, Store, HasNothing, told, answer_told, act_told, on_one, on_int, on_msg, store_of_only, wait_told, end_told}
+use Rattle.pth_lock.specs.Objects.{object_named}
+use Rattle.pth_lock.specs.Mutexes.{MutexTable}
+use Rattle.pth_lock.specs.RwLocks.{LockTables}
+use Rattle.pth_numbered.specs.Operands.{number}
+use Rattle.pth_model.proofs.Nothing.{NoMutex, NoLock, no_mutex_initialised, no_mutex_taken, no_mutex_released, no_mutex_left, no_mutex_only, no_mutex_more, no_lock_initialised, no_lock_taken, no_lock_released, no_lock_left, no_lock_only, no_lock_more}
 use Rattle.pth_laws.specs.Book.{Book, after, book_of}
 use Rattle.pth_laws.specs.Laws.{EachMark, HasNotEnded, thread_of, IsOrderlyMark}
 use Rattle.pth_laws.proofs.Living.{true_false}
@@ -51,7 +57,7 @@ module _ (t : ℕ) where
   unset_values s key none k = put_by (λ (row : ℕ → ℤ). row t ≡ pos 0) s.keys.values key (λ i. pos 0) k (λ here. refl) (λ other. none k)
 
   only_nothing : (u : ℕ) (s : Store) → HasNothing s t → HasNothing (store_of_only u s) t
-  only_nothing u s h = record { cleanups = none_by (t == u); values = λ k. zero_by (t == u) k }
+  only_nothing u s h = record { cleanups = none_by (t == u); values = λ k. zero_by (t == u) k; mutexes = no_mutex_only t u s.mutexes h.mutexes; locks = no_lock_only t s.rw_locks u h.locks }
     where
       none_by : (b : Bool) → (if b then s.cleanups t else []) ≡ []
       none_by true = h.cleanups
@@ -61,19 +67,28 @@ module _ (t : ℕ) where
       zero_by true k = h.values k
       zero_by false k = refl
 
+  -- mutexes, or locks, become others, of which t has none
+  other_mutexes : (s : Store) (x : MutexTable) → HasNothing s t → NoMutex t x → HasNothing (record s { mutexes = x }) t
+  other_mutexes s x h none = record { cleanups = h.cleanups; values = h.values; mutexes = none; locks = h.locks }
+
+  other_locks : (s : Store) (x : LockTables) → HasNothing s t → NoLock t x → HasNothing (record s { rw_locks = x }) t
+  other_locks s x h none = record { cleanups = h.cleanups; values = h.values; mutexes = h.mutexes; locks = none }
+
   -- a call of another thread is answered
   answer_nothing : (k : Resources) (u : ℕ) (c : Call) (a : Answer) → t ≢ u → Nothing k → Nothing (answer_told k u c a)
   unfolding answer_told
-  answer_nothing k u (call.CleanupPush h v) a apart none = on_one_nothing a k _ none (record { cleanups = other_cleanups k.store u _ apart none.cleanups; values = none.values })
-  answer_nothing k u (call.CleanupPop v) a apart none = on_one_nothing a k _ none (record { cleanups = other_cleanups k.store u _ apart none.cleanups; values = none.values })
-  answer_nothing k u (call.KeyCreate h) a apart none = on_int_nothing a k _ none (λ key. record { cleanups = none.cleanups; values = unset_values k.store (key_named key) none.values })
-  answer_nothing k u (call.KeyDelete key) a apart none = on_one_nothing a k _ none (record { cleanups = none.cleanups; values = unset_values k.store (key_named key) none.values })
-  answer_nothing k u (call.KeySet key v) a apart none = on_one_nothing a k _ none (record { cleanups = none.cleanups; values = other_values k.store u (key_named key) v apart none.values })
-  answer_nothing k u (call.MutexAcquire m v e) a apart none = on_int_nothing a k _ none (λ n. none)
-  answer_nothing k u (call.MutexRelease m) a apart none = on_int_nothing a k _ none (λ n. none)
-  answer_nothing k u (call.RwAcquire l write v e) a apart none = on_int_nothing a k _ none (λ n. none)
-  answer_nothing k u (call.RwRelease l) a apart none = on_int_nothing a k _ none (λ n. none)
-  answer_nothing k u (call.CondAwait c m e) a apart none = test_nothing (k.awaits u) _ k none none
+  answer_nothing k u (call.CleanupPush h v) a apart none = on_one_nothing a k _ none (record { cleanups = other_cleanups k.store u _ apart none.cleanups; values = none.values; mutexes = none.mutexes; locks = none.locks })
+  answer_nothing k u (call.CleanupPop v) a apart none = on_one_nothing a k _ none (record { cleanups = other_cleanups k.store u _ apart none.cleanups; values = none.values; mutexes = none.mutexes; locks = none.locks })
+  answer_nothing k u (call.KeyCreate h) a apart none = on_int_nothing a k _ none (λ key. record { cleanups = none.cleanups; values = unset_values k.store (key_named key) none.values; mutexes = none.mutexes; locks = none.locks })
+  answer_nothing k u (call.KeyDelete key) a apart none = on_one_nothing a k _ none (record { cleanups = none.cleanups; values = unset_values k.store (key_named key) none.values; mutexes = none.mutexes; locks = none.locks })
+  answer_nothing k u (call.KeySet key v) a apart none = on_one_nothing a k _ none (record { cleanups = none.cleanups; values = other_values k.store u (key_named key) v apart none.values; mutexes = none.mutexes; locks = none.locks })
+  answer_nothing k u (call.MutexInit m) a apart none = on_int_nothing a k _ none (λ n. other_mutexes k.store _ none (no_mutex_initialised t (object_named m) k.store.mutexes none.mutexes))
+  answer_nothing k u (call.MutexAcquire m v e) a apart none = on_int_nothing a k _ none (λ n. other_mutexes k.store _ none (no_mutex_taken t u (object_named m) k.store.mutexes apart none.mutexes))
+  answer_nothing k u (call.MutexRelease m) a apart none = on_int_nothing a k _ none (λ n. other_mutexes k.store _ none (no_mutex_released t u (object_named m) k.store.mutexes apart none.mutexes))
+  answer_nothing k u (call.RwInit l) a apart none = on_int_nothing a k _ none (λ n. other_locks k.store _ none (no_lock_initialised t k.store.rw_locks (object_named l) none.locks))
+  answer_nothing k u (call.RwAcquire l write v e) a apart none = on_int_nothing a k _ none (λ n. other_locks k.store _ none (no_lock_taken t k.store.rw_locks u write (object_named l) apart none.locks))
+  answer_nothing k u (call.RwRelease l) a apart none = on_int_nothing a k _ none (λ n. other_locks k.store _ none (no_lock_released t k.store.rw_locks u (object_named l) none.locks))
+  answer_nothing k u (call.CondAwait c m e) a apart none = test_nothing (k.awaits u) _ k (other_mutexes k.store _ none (no_mutex_taken t u (number m) k.store.mutexes apart none.mutexes)) none
   answer_nothing k u (call.PortCreate name) a apart none = on_int_nothing a k _ none (λ n. none)
   answer_nothing k u (call.PortPut p v r) a apart none = on_int_nothing a k _ none (λ n. none)
   answer_nothing k u (call.PortGet p) a apart none = on_msg_nothing a k _ none none
@@ -89,22 +104,25 @@ module _ (t : ℕ) where
   act_nothing k u (act.SetKey key v) a apart none = answer_nothing k u (call.KeySet key v) a apart none
   act_nothing k u x a apart none = none
 
-  wait_nothing : (k : Resources) (u : ℕ) (c : Call) → Nothing k → Nothing (wait_told k u c)
-  wait_nothing k u (call.CondAwait c m e) none = test_nothing (k.awaits u) k _ none none
-  wait_nothing k u c none = none
+  wait_nothing : (k : Resources) (u : ℕ) (c : Call) → t ≢ u → Nothing k → Nothing (wait_told k u c)
+  wait_nothing k u (call.CondAwait c m e) apart none = test_nothing (k.awaits u) k _ none (other_mutexes k.store _ none (no_mutex_released t u (number m) k.store.mutexes apart none.mutexes))
+  wait_nothing k u c apart none = none
 
   -- any mark of another thread, and the end of this one
   told_nothing : (k : Resources) (m : Mark) → thread_of m ≢ Some t → Nothing k → Nothing (told k m)
   unfolding told
   told_nothing k (mark.Answered u c a) apart none = answer_nothing k u.0 c a (λ same. apart (ap Some (sym same))) none
   told_nothing k (mark.Acted u x a) apart none = act_nothing k u.0 x a (λ same. apart (ap Some (sym same))) none
-  told_nothing k (mark.Waits u c) apart none = wait_nothing k u.0 c none
-  told_nothing k (mark.Destructor u key v) apart none = record { cleanups = none.cleanups; values = other_values k.store u.0 key (pos 0) (λ same. apart (ap Some (sym same))) none.values }
-  told_nothing k (mark.Ended u v) apart none = record { cleanups = other_cleanups k.store u.0 [] (λ same. apart (ap Some (sym same))) none.cleanups; values = λ key. put_other (k.store.keys.values key) u.0 (pos 0) t (λ same. apart (ap Some (sym same))) ∙ none.values key }
+  told_nothing k (mark.Waits u c) apart none = wait_nothing k u.0 c (λ same. apart (ap Some (sym same))) none
+  told_nothing k (mark.Took u m) apart none = other_mutexes k.store _ none (no_mutex_taken t u.0 m k.store.mutexes (λ same. apart (ap Some (sym same))) none.mutexes)
+  told_nothing k (mark.GaveMutex u m) apart none = other_mutexes k.store _ none (no_mutex_initialised t m k.store.mutexes none.mutexes)
+  told_nothing k (mark.GaveLock u l) apart none = other_locks k.store _ none (no_lock_released t k.store.rw_locks u.0 l none.locks)
+  told_nothing k (mark.Destructor u key v) apart none = record { cleanups = none.cleanups; values = other_values k.store u.0 key (pos 0) (λ same. apart (ap Some (sym same))) none.values; mutexes = none.mutexes; locks = none.locks }
+  told_nothing k (mark.Ended u v) apart none = record { cleanups = other_cleanups k.store u.0 [] (λ same. apart (ap Some (sym same))) none.cleanups; values = λ key. put_other (k.store.keys.values key) u.0 (pos 0) t (λ same. apart (ap Some (sym same))) ∙ none.values key; mutexes = no_mutex_left t u.0 k.store.mutexes none.mutexes; locks = no_lock_left t k.store.rw_locks u.0 none.locks }
   told_nothing k m apart none = none
 
 ended_nothing : (k : Resources) (t : ℕ) → HasNothing (end_told k t).store t
-ended_nothing k t = record { cleanups = put_here k.store.cleanups t []; values = λ key. put_here (k.store.keys.values key) t (pos 0) }
+ended_nothing k t = record { cleanups = put_here k.store.cleanups t []; values = λ key. put_here (k.store.keys.values key) t (pos 0); mutexes = no_mutex_more t k.store.mutexes; locks = no_lock_more t k.store.rw_locks }
 
 -- ---- all marks
 
@@ -129,3 +147,8 @@ after_empty b m h empty t over = told_nothing t b.resources m (no_mark_of b (thr
 pub each_empty : (b : Book) (ms : List Mark) → EachMark IsOrderlyMark b ms → AreEmpty b → AreEmpty (book_of b ms)
 each_empty b [] law empty = empty
 each_empty b (m ∷ ms) law empty = each_empty (after b m) ms law.1 (after_empty b m law.0.0 empty)
+
+-- a thread that no mark is of has nothing more afterwards
+pub unmarked_nothing : (t : ℕ) (b : Book) (ms : List Mark) → All (λ m. thread_of m ≢ Some t) ms → HasNothing b.resources.store t → HasNothing (book_of b ms).resources.store t
+unmarked_nothing t b [] none h = h
+unmarked_nothing t b (m ∷ ms) none h = unmarked_nothing t (after b m) ms (All-tail (λ x. thread_of x ≢ Some t) m ms none) (told_nothing t b.resources m (All-head (λ x. thread_of x ≢ Some t) m ms none) h)

@@ -1,6 +1,10 @@
 pub mod Refused
 pub mod Living
 pub mod Going
+pub mod Held
+pub mod Locked
+pub mod Counted
+pub mod Locking
 pub mod Awaits
 pub mod Claims
 pub mod Walk
@@ -11,4 +15,6 @@ pub mod Parts
 pub mod Leftovers
 pub mod EveryRun
 pub mod Said
+pub mod Shares
+pub mod SaidExclusive
 pub mod NextDue

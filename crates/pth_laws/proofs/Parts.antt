@@ -150,7 +150,7 @@ module _ {P S H : Type 0} (n : ℕ) where
       let rank = prio_of s.control t +ℤ pos 1 in
       let x = rest_ready t rank false b s up r in
       record {
-        law = ((((up.1, tt), tt, tt), up.0), tt);
+        law = ((λ locked. (((up.1, tt), tt, tt), up.0)), tt);
         post = (refl, record { resources = x.resources; closed = refl; cancelled = x.cancelled; made = x.made; living = x.living; claims = x.claims; awaits = x.awaits; running = x.running; preferred = x.preferred });
       }
 
@@ -190,7 +190,7 @@ module _ {P S H : Type 0} (n : ℕ) where
       let c = sets t (change.State state.Running) a in
       let lc : Living n b.ended c = living_sets n b.ended t (change.State state.Running) a (state_safe state.Running refl (k.threads.known t) alive) (living_leaves n b.ended t k r.living) in
       record {
-        law = ((((up.1, tt), tt, tt), up.0), tt);
+        law = ((λ locked. (((up.1, tt), tt, tt), up.0)), tt);
         post = λ on. record {
           resources = r.resources;
           closed = refl;
@@ -227,7 +227,7 @@ module _ {P S H : Type 0} (n : ℕ) where
       let a = controlled (moves_to m) s in
       let c = after b (mark.Moved m) in
       let w = pass_walk f c a (record { resources = r.resources; closed = refl; cancelled = r.cancelled; made = r.made; living = r.living; claims = r.claims; awaits = r.awaits; running = r.running; preferred = r.preferred }) in
-      record { law = ((((tt, tt), tt, tt), tt), w.law); post = λ on. rest_settles (book_of c (pass f a).marks) (pass f a).state x none w.post }
+      record { law = ((λ locked. (((tt, tt), tt, tt), tt)), w.law); post = λ on. rest_settles (book_of c (pass f a).marks) (pass f a).state x none w.post }
 
   -- ---- a turn is closed
 

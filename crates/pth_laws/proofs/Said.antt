@@ -31,7 +31,7 @@ use Rattle.pth_laws.specs.Said.{is_end_of, is_cancellation_of, is_call_of, is_of
 
 -- ---- tests
 
-same_either_way : (m n : ℕ) → (m == n) ≡ (n == m)
+pub same_either_way : (m n : ℕ) → (m == n) ≡ (n == m)
 same_either_way m n = grind (arith, nat_tests)
 
 not_zero : (n : ℕ) → (n + 1 == 0) ≡ false
@@ -125,8 +125,10 @@ module _ (t : ℕ) where
   answered_more k u (call.KeyCreate h) a = kept_int k a _ (λ n. refl)
   answered_more k u (call.KeyDelete key) a = kept_one k a _ refl
   answered_more k u (call.KeySet key v) a = kept_one k a _ refl
+  answered_more k u (call.MutexInit m) a = kept_int k a _ (λ n. refl)
   answered_more k u (call.MutexAcquire m v e) a = kept_int k a _ (λ n. refl)
   answered_more k u (call.MutexRelease m) a = kept_int k a _ (λ n. refl)
+  answered_more k u (call.RwInit l) a = kept_int k a _ (λ n. refl)
   answered_more k u (call.RwAcquire l write v e) a = kept_int k a _ (λ n. refl)
   answered_more k u (call.RwRelease l) a = kept_int k a _ (λ n. refl)
   answered_more k u (call.CondAwait c m e) a = kept_if (k.awaits u.0) k _ k refl refl
@@ -429,10 +431,10 @@ module _ (before : List Mark) where
 -- ---- each mark of a list
 
 -- A holds wherever a mark stands
-abbrev AtEach : (Book → Mark → Type 0) → Book → List Mark → Type 0
+abbrev pub AtEach : (Book → Mark → Type 0) → Book → List Mark → Type 0
 AtEach A b marks = (before later : List Mark) (m : Mark) → marks ≡ before ++ m ∷ later → A (book_of b before) m
 
-at_each : (A : Book → Mark → Type 0) (b : Book) (marks : List Mark) → EachMark A b marks → AtEach A b marks
+pub at_each : (A : Book → Mark → Type 0) (b : Book) (marks : List Mark) → EachMark A b marks → AtEach A b marks
 at_each A b [] h [] later m e = absurd cc
 at_each A b [] h (x ∷ before) later m e = absurd cc
 at_each A b (x ∷ marks) h [] later m e = let is : x ≡ m = cc in subst (A b) is h.0

@@ -50,11 +50,12 @@ use Rattle.pth_model.specs.declared.progress.Progress.{Progress}
 use Rattle.pth_model.proofs.Placed.{seats}
 use Rattle.pth_model.proofs.Walks.{is_common, effect_keeps, come_keeps, named_other, named_lives, named_dead}
 use Rattle.pth_laws.specs.Book.{Book, Block, Closed, BlockRun, ran_by, ran_nothing, with_handler, after, book_of}
-use Rattle.pth_laws.specs.Laws.{EachMark, IsPopOrderly, RanLast}
+use Rattle.pth_laws.specs.Laws.{EachMark, IsPopOrderly, RanLast, IsAnswerExclusive}
 use Rattle.pth_laws.proofs.Living.{Living, true_false, request_state, living-up, living-made}
 use Rattle.pth_laws.proofs.Going.{IsGoing, Going, going_alive, going_set, going_removed, known_lives, set_lives}
 use Rattle.pth_laws.specs.Valid.{is_await, is_awaiting}
 use Rattle.pth_laws.proofs.Awaits.{HasAwaits, kills, awaits_as, awaits_none, awaits_set, awaits_removed, awaits_go, awaits_begun, awaits_block, awaits_stop, answer_awaits, wait_awaits, refusal_awaits}
+use Rattle.pth_laws.proofs.Locking.{IsVerdictExclusive, wait_exclusive, begins_exclusive, again_exclusive}
 use Rattle.pth_laws.proofs.Claims.{HasClaims, Holding, holding_kept, claims_go, claims_set, claims_removed, claims_block, claims_wait_on, claims_stop}
 use Rattle.pth_laws.proofs.Walk.{Walk, IsMarked, walk_tells, walk_then, walk_to, walk_finally}
 use Rattle.pth_laws.proofs.Handlers.{IsRunning, handler_walk}
@@ -156,6 +157,11 @@ is_asking c = false
 asking_pops : (t : ℕ) (b : Book) (c : Call) → is_asking c ≡ true → IsPopOrderly b t c (answer.Int (pos 1))
 asking_pops t b (call.CleanupPop v) asking = absurd (true_false (sym asking))
 asking_pops t b c asking = tt
+
+asking_exclusive : (t : ℕ) (b : Book) (c : Call) (a : Answer) → is_asking c ≡ true → IsAnswerExclusive b.resources t c a
+asking_exclusive t b (call.Cancel n) a asking = tt
+asking_exclusive t b (call.Abort n) a asking = tt
+asking_exclusive t b c a asking = absurd (true_false (sym asking))
 
 asking_on : (c : Call) → is_asking c ≡ true → kills c ≡ false
 asking_on call.Kill asking = absurd (true_false (sym asking))
@@ -270,19 +276,19 @@ module _ {P S H : Type 0} (f : P → Functions S H) (n t : ℕ) (made : is_made 
     fits = w.fits;
   }
 
-  answer_walk : (x : Next) (k : Call) (a : Answer) (c : Book) (u : State P S H) → IsPopOrderly c t k a → ((d : Book) (v : State P S H) → d.block ≡ Closed → Within d v → After x d v) → Telling (mark.Answered (tid t) k a) c u
+  answer_walk : (x : Next) (k : Call) (a : Answer) (c : Book) (u : State P S H) → IsPopOrderly c t k a → IsAnswerExclusive c.resources t k a → ((d : Book) (v : State P S H) → d.block ≡ Closed → Within d v → After x d v) → Telling (mark.Answered (tid t) k a) c u
       → Walk n c (After x) (tells (mark.Answered (tid t) k a) u)
-  answer_walk x k a c u pop leaves w =
+  answer_walk x k a c u pop exclusive leaves w =
       let m = mark.Answered (tid t) k a in
       let o = (told u.resources m).awaits in
-      walk_tells n (After x) c m u (((within_up o c u w, (within_calm o c u w, pop)), tt, tt), made) (leaves (after c m) (tells m u).state refl (told_within m c u refl refl w))
+      walk_tells n (After x) c m u (λ locked. (((within_up o c u w, (within_calm o c u w, pop)), exclusive, tt), made)) (leaves (after c m) (tells m u).state refl (told_within m c u refl refl w))
 
-  wait_walk : (k : Call) (c : Book) (u : State P S H) → Telling (mark.Waits (tid t) k) c u → Walk n c (After next.Waits) (tells (mark.Waits (tid t) k) u)
-  wait_walk k c u w =
+  wait_walk : (k : Call) (c : Book) (u : State P S H) → is_await k ≡ false → Telling (mark.Waits (tid t) k) c u → Walk n c (After next.Waits) (tells (mark.Waits (tid t) k) u)
+  wait_walk k c u other w =
       let m = mark.Waits (tid t) k in
       let o = (told u.resources m).awaits in
       let v = told_within m c u refl refl w in
-      walk_tells n (After next.Waits) c m u (((within_up o c u w, within_calm o c u w), tt, tt), made) (within_stepped next.Waits (after c m) (tells m u).state refl (left_running (after c m) (tells m u).state v) tt v)
+      walk_tells n (After next.Waits) c m u (λ locked. (((within_up o c u w, within_calm o c u w), wait_exclusive c t k other, tt), made)) (within_stepped next.Waits (after c m) (tells m u).state refl (left_running (after c m) (tells m u).state v) tt v)
 
   -- a change that keeps t going
   change_within : (g : Change P S H) (o : ℕ → Bool) (c : Book) (u : State P S H) → Going n c.ended t (g u.control) → HasClaims (g u.control) → HasAwaits o (g u.control) → Within c u → IsWithin n t c o (controlled g u)
@@ -362,7 +368,7 @@ module _ {P S H : Type 0} (f : P → Functions S H) (n t : ℕ) (made : is_made 
       (going_set n c.ended t t (change.Request false) u.control (request_state false) w.going)
       (claims_set t (change.Request false) u.control (λ e h. ap is_dead (request_state false e)) w.claims)
       (awaits_set u.resources.awaits t (change.Request false) u.control (λ e h. ap is_dead (request_state false e)) w.fits) in
-      record { law = ((((within_up u.resources.awaits c u w, tt), tt, tt), made), x.law); post = x.post }
+      record { law = ((λ locked. (((within_up u.resources.awaits c u w, tt), tt, tt), made)), x.law); post = x.post }
 
   -- t goes on, and awaits nothing
   abbrev GoesOn : Book → State P S H → Type 0
@@ -394,7 +400,7 @@ module _ {P S H : Type 0} (f : P → Functions S H) (n t : ℕ) (made : is_made 
         h.stays t apart ∙ idle,
       ))
       (ending_walk n u f canceled_value d a alive w.going.living w.claims w.fits there (λ h. refl) (ap (λ (r : Resources). told r m) w.resources) (fresh_by u d.block refl)) in
-      record { law = ((((up, tt), tt, tt), there), x.law); post = x.post }
+      record { law = ((λ locked. (((up, tt), tt, tt), there)), x.law); post = x.post }
 
   -- ---- a call begins
 
@@ -419,36 +425,36 @@ module _ {P S H : Type 0} (f : P → Functions S H) (n t : ℕ) (made : is_made 
   unfolding goes_on
   going_blocks ended k y u going = subst (IsGoing n ended t) (sym (claims_seats (ring_given k) u.control)) going
 
-  blocks_telling : (k : Call) (y : Pause) (p : Progress S) (c : Book) (u : State P S H) → u.control.threads.progress t ≡ Some p → p.blocked ≡ None → Within c u → Telling (mark.Waits (tid t) k) c (controlled (λ j. blocks t k y (claims t (ring_given k) j)) u)
+  blocks_telling : (k : Call) (y : Pause) (p : Progress S) (c : Book) (u : State P S H) → u.control.threads.progress t ≡ Some p → p.blocked ≡ None → is_await k ≡ false → Within c u → Telling (mark.Waits (tid t) k) c (controlled (λ j. blocks t k y (claims t (ring_given k) j)) u)
   unfolding told
-  blocks_telling k y p c u on free w =
+  blocks_telling k y p c u on free other w =
       let alive = going_alive n c.ended t u.control w.going in
       let tells = wait_awaits u.resources t k (λ awaits. absurd (true_false (sym awaits ∙ idle_in c u p on free w))) in
       let o = (wait_told u.resources t k).awaits in
       change_within (λ j. blocks t k y (claims t (ring_given k) j)) o c u (going_blocks c.ended k y u w.going) (claims_block t k y u.control p on free alive w.claims)
-      (awaits_begun t u.resources.awaits o k y (ring_given k) u.control p on tells.0 alive tells.1 w.fits) w
+      (awaits_begun t u.resources.awaits o k y (ring_given k) u.control p on tells.0 alive (tells.0 ∙ other) tells.1 w.fits) w
 
   -- as the verdict says, of a call whose effect tells nothing
-  verdict_walk : (k : Call) (v : Verdict) (a : Piece P S H) (p : Progress S) (c : Book) (s : State P S H) → is_quiet k ≡ true → kills k ≡ false → c.block ≡ Closed → p.blocked ≡ None → Walk n c (Quiet (Some p) c) (a s) → Walk n c (After (begun_by f t k v a s).next) (begun_by f t k v a s).told
-  verdict_walk k (Says x) a p c s quiet on closed free w =
+  verdict_walk : (k : Call) (v : Verdict) (a : Piece P S H) (p : Progress S) (c : Book) (s : State P S H) → is_quiet k ≡ true → kills k ≡ false → IsVerdictExclusive c.resources t k v → c.block ≡ Closed → p.blocked ≡ None → Walk n c (Quiet (Some p) c) (a s) → Walk n c (After (begun_by f t k v a s).next) (begun_by f t k v a s).told
+  verdict_walk k (Says x) a p c s quiet on exclusive closed free w =
       walk_then n (Quiet (Some p) c) (After (next.Done x)) c a (tells (mark.Answered (tid t) k x)) s w
-      (λ d h. subst (λ (e : Book). Walk n e (After (next.Done x)) (tells (mark.Answered (tid t) k x) (a s).state)) (sym h.0) (answer_walk (next.Done x) k x c (a s).state (no_pop c t k x quiet) (λ e u. done_stepped x e u) (answering k x c (a s).state on (idle_in c (a s).state p h.2 free h.1) h.1)))
-  verdict_walk k (Yields x) a p c s quiet on closed free w =
+      (λ d h. subst (λ (e : Book). Walk n e (After (next.Done x)) (tells (mark.Answered (tid t) k x) (a s).state)) (sym h.0) (answer_walk (next.Done x) k x c (a s).state (no_pop c t k x quiet) exclusive (λ e u. done_stepped x e u) (answering k x c (a s).state on (idle_in c (a s).state p h.2 free h.1) h.1)))
+  verdict_walk k (Yields x) a p c s quiet on exclusive closed free w =
       walk_then n (Quiet (Some p) c) (After (next.Yields x)) c a (tells (mark.Answered (tid t) k x)) s w
-      (λ d h. subst (λ (e : Book). Walk n e (After (next.Yields x)) (tells (mark.Answered (tid t) k x) (a s).state)) (sym h.0) (answer_walk (next.Yields x) k x c (a s).state (no_pop c t k x quiet) (λ e u. yields_stepped x e u) (answering k x c (a s).state on (idle_in c (a s).state p h.2 free h.1) h.1)))
-  verdict_walk k (Blocks y) a p c s quiet on closed free w =
+      (λ d h. subst (λ (e : Book). Walk n e (After (next.Yields x)) (tells (mark.Answered (tid t) k x) (a s).state)) (sym h.0) (answer_walk (next.Yields x) k x c (a s).state (no_pop c t k x quiet) exclusive (λ e u. yields_stepped x e u) (answering k x c (a s).state on (idle_in c (a s).state p h.2 free h.1) h.1)))
+  verdict_walk k (Blocks y) a p c s quiet on exclusive closed free w =
       walk_then n (Quiet (Some p) c) (After next.Waits) c a (waits_by t k y) s w
       (λ d h. subst (λ (e : Book). Walk n e (After next.Waits) (waits_by t k y (a s).state)) (sym h.0) (
       let u = (a s).state in
       let g : Change P S H = λ j. blocks t k y (claims t (ring_given k) j) in
-      let x = wait_walk k c (controlled g u) (blocks_telling k y p c u h.2 free h.1) in
+      let x = wait_walk k c (controlled g u) exclusive (blocks_telling k y p c u h.2 free exclusive h.1) in
       record { law = x.law; post = x.post }))
-  verdict_walk k (Ends v) a p c s quiet on closed free w =
+  verdict_walk k (Ends v) a p c s quiet on exclusive closed free w =
       walk_then n (Quiet (Some p) c) (After (next.Ended v)) c a (ending f t v) s w
       (λ d h. subst (λ (e : Book). Walk n e (After (next.Ended v)) (ending f t v (a s).state)) (sym h.0) (end_walk v c (a s).state (fresh_by t c.block closed) h.1))
-  verdict_walk k Kills a p c s quiet on closed free w =
+  verdict_walk k Kills a p c s quiet on exclusive closed free w =
       walk_then n (Quiet (Some p) c) (After next.Killed) c a (tells (mark.Answered (tid t) k (answer.Int (pos 1)))) s w
-      (λ d h. subst (λ (e : Book). Walk n e (After next.Killed) (tells (mark.Answered (tid t) k (answer.Int (pos 1))) (a s).state)) (sym h.0) (answer_walk next.Killed k (answer.Int (pos 1)) c (a s).state (no_pop c t k (answer.Int (pos 1)) quiet) (λ e u closed within. tt) (answering k (answer.Int (pos 1)) c (a s).state on (idle_in c (a s).state p h.2 free h.1) h.1)))
+      (λ d h. subst (λ (e : Book). Walk n e (After next.Killed) (tells (mark.Answered (tid t) k (answer.Int (pos 1))) (a s).state)) (sym h.0) (answer_walk next.Killed k (answer.Int (pos 1)) c (a s).state (no_pop c t k (answer.Int (pos 1)) quiet) exclusive (λ e u closed within. tt) (answering k (answer.Int (pos 1)) c (a s).state on (idle_in c (a s).state p h.2 free h.1) h.1)))
 
   not_killing : (k : Call) → is_common k ≡ true → kills k ≡ false
   not_killing call.Kill common = absurd (true_false (sym common))
@@ -458,13 +464,14 @@ module _ {P S H : Type 0} (f : P → Functions S H) (n t : ℕ) (made : is_made 
   common_walk : (k : Call) (p : Progress S) (c : Book) (s : State P S H) → is_common k ≡ true → is_quiet k ≡ true → c.block ≡ Closed → s.control.threads.progress t ≡ Some p → p.blocked ≡ None → Within c s → Walk n c (After (begun_as f t k (row_of f s t k).begin s).next) (begun_as f t k (row_of f s t k).begin s).told
   common_walk k p c s common quiet closed on free w =
       let a = (row_of f s t k).begin in
-      verdict_walk k a.verdict (effect_of a) p c s quiet (not_killing k common) closed free
+      verdict_walk k a.verdict (effect_of a) p c s quiet (not_killing k common)
+      (subst (λ (r : Resources). IsVerdictExclusive r t k a.verdict) (sym w.resources) (begins_exclusive f s t k (idle_in c s p on free w))) closed free
       (quiet_within (Some p) (effect_of a) c s (unless_silent (refuses a.verdict) a.effect s (effect_silent f t s k quiet)) (effect_keeps f t (Holding n c.ended s.resources.awaits t (Some p)) (holding_kept n c.ended s.resources.awaits t (Some p) f) s k common (w.going, w.claims, on, w.fits)) w)
 
   -- pth_kill
   kill_walk : (refuse : Bool) (c : Book) (s : State P S H) → Within c s → let v = refused EPERM when refuse otherwise Kills in let r = begun_by f t call.Kill v (unless_refused (refuses v) (changes (vanish_all_but t))) s in Walk n c (After r.next) r.told
-  kill_walk true c s w = answer_walk (next.Done (answer.Fail EPERM)) call.Kill (answer.Fail EPERM) c s tt (λ e u. done_stepped (answer.Fail EPERM) e u) (refusing EPERM c s w)
-  kill_walk false c s w = record { law = ((((within_up s.resources.awaits c s w, (within_calm s.resources.awaits c s w, tt)), tt, tt), made), tt); post = tt }
+  kill_walk true c s w = answer_walk (next.Done (answer.Fail EPERM)) call.Kill (answer.Fail EPERM) c s tt tt (λ e u. done_stepped (answer.Fail EPERM) e u) (refusing EPERM c s w)
+  kill_walk false c s w = record { law = ((λ locked. (((within_up s.resources.awaits c s w, (within_calm s.resources.awaits c s w, tt)), tt, tt), made)), tt); post = tt }
 
   -- pth_yield: who is named lives
   named_runs : (m : ℤ) (s : State P S H) → may_run (or_nobody (thread s.control m)).state ≡ true → lives (s.control.threads.known (number m)) ≡ true
@@ -473,12 +480,12 @@ module _ {P S H : Type 0} (f : P → Functions S H) (n t : ℕ) (made : is_made 
 
   yields_walk : (m : ℤ) (zero : Bool) (c : Book) (s : State P S H) → (zero ≡ false → lives (s.control.threads.known (number m)) ≡ true) → s.resources.awaits t ≡ false → Within c s → Walk n c (After (next.Yields (answer.Int (pos 1)))) ((changes (if zero then nothing else prefers (Some (number m))) and_then tells (mark.Answered (tid t) (call.Yield m) (answer.Int (pos 1)))) s)
   yields_walk m true c s alive idle w =
-      let x = answer_walk (next.Yields (answer.Int (pos 1))) (call.Yield m) (answer.Int (pos 1)) c s tt (λ e u. yields_stepped (answer.Int (pos 1)) e u) (answering (call.Yield m) (answer.Int (pos 1)) c s refl idle w) in
+      let x = answer_walk (next.Yields (answer.Int (pos 1))) (call.Yield m) (answer.Int (pos 1)) c s tt tt (λ e u. yields_stepped (answer.Int (pos 1)) e u) (answering (call.Yield m) (answer.Int (pos 1)) c s refl idle w) in
       record { law = x.law; post = x.post }
   yields_walk m false c s alive idle w =
       let k = mark.Answered (tid t) (call.Yield m) (answer.Int (pos 1)) in
       record {
-        law = ((((within_up s.resources.awaits c s w, (within_calm s.resources.awaits c s w, tt)), tt, tt), made), tt);
+        law = ((λ locked. (((within_up s.resources.awaits c s w, (within_calm s.resources.awaits c s w, tt)), tt, tt), made)), tt);
         post = record {
           resources = ap (λ (r : Resources). told r k) w.resources;
           closed = refl;
@@ -492,12 +499,12 @@ module _ {P S H : Type 0} (f : P → Functions S H) (n t : ℕ) (made : is_made 
       }
 
   yield_walk : (m : ℤ) (refuse : Bool) (c : Book) (s : State P S H) → (not (is_zero m) && ((or_nobody (thread s.control m)).suspended || not (may_run (or_nobody (thread s.control m)).state))) ≡ refuse → s.resources.awaits t ≡ false → Within c s → let v = refused EINVAL when refuse otherwise Yields (answer.Int (pos 1)) in let r = begun_by f t (call.Yield m) v (unless_refused (refuses v) (changes (if is_zero m then nothing else prefers (Some (number m))))) s in Walk n c (After r.next) r.told
-  yield_walk m true c s is_refused idle w = answer_walk (next.Done (answer.Fail EINVAL)) (call.Yield m) (answer.Fail EINVAL) c s tt (λ e u. done_stepped (answer.Fail EINVAL) e u) (answering (call.Yield m) (answer.Fail EINVAL) c s refl idle w)
+  yield_walk m true c s is_refused idle w = answer_walk (next.Done (answer.Fail EINVAL)) (call.Yield m) (answer.Fail EINVAL) c s tt tt (λ e u. done_stepped (answer.Fail EINVAL) e u) (answering (call.Yield m) (answer.Fail EINVAL) c s refl idle w)
   yield_walk m false c s is_refused idle w = yields_walk m (is_zero m) c s (λ other. named_runs m s (passed (is_zero m) (or_nobody (thread s.control m)).suspended (may_run (or_nobody (thread s.control m)).state) other is_refused)) idle w
 
   -- a handler within a call, and the call's answer
-  handled_call : (k : Call) (h : HandlerId) (v : ℤ) (c : Book) (s : State P S H) → c.block ≡ Closed → ((d : Book) (u : State P S H) → (ran_by d.block t).handlers ≡ (h, v) ∷ [] → d.resources.store.cleanups t ≡ s.resources.store.cleanups t → IsPopOrderly d t k (answer.Int (pos 1))) → kills k ≡ false → s.resources.awaits t ≡ false → Within c s → Walk n c (After (next.Done (answer.Int (pos 1)))) ((runs_handler f t h v and_then tells (mark.Answered (tid t) k (answer.Int (pos 1)))) s)
-  handled_call k h v c s closed pops on idle w =
+  handled_call : (k : Call) (h : HandlerId) (v : ℤ) (c : Book) (s : State P S H) → c.block ≡ Closed → ((d : Book) (u : State P S H) → (ran_by d.block t).handlers ≡ (h, v) ∷ [] → d.resources.store.cleanups t ≡ s.resources.store.cleanups t → IsPopOrderly d t k (answer.Int (pos 1))) → ((d : Book) → IsAnswerExclusive d.resources t k (answer.Int (pos 1))) → kills k ≡ false → s.resources.awaits t ≡ false → Within c s → Walk n c (After (next.Done (answer.Int (pos 1)))) ((runs_handler f t h v and_then tells (mark.Answered (tid t) k (answer.Int (pos 1)))) s)
+  handled_call k h v c s closed pops exclusive on idle w =
       let one = with_handler (h, v) ran_nothing in
       let Ran = IsRunning {P = P} {S = S} {H = H} t c.ended c.cancelled s.resources s.control one in
       walk_then n Ran (After (next.Done (answer.Int (pos 1)))) c (runs_handler f t h v) (tells (mark.Answered (tid t) k (answer.Int (pos 1)))) s
@@ -505,7 +512,7 @@ module _ {P S H : Type 0} (f : P → Functions S H) (n t : ℕ) (made : is_made 
       (λ d x.
       let u = (runs_handler f t h v s).state in
       answer_walk (next.Done (answer.Int (pos 1))) k (answer.Int (pos 1)) d u
-      (pops d u (ap (λ (z : BlockRun). z.handlers) x.ran ∙ ran_one (h, v)) (ap (λ (r : Resources). r.store.cleanups t) x.resources ∙ x.cleanups))
+      (pops d u (ap (λ (z : BlockRun). z.handlers) x.ran ∙ ran_one (h, v)) (ap (λ (r : Resources). r.store.cleanups t) x.resources ∙ x.cleanups)) (exclusive d)
       (λ e y. done_stepped (answer.Int (pos 1)) e y)
       (answering k (answer.Int (pos 1)) d u on (ap (λ (o : ℕ → Bool). o t) x.awaits ∙ idle) (record {
         resources = x.resources;
@@ -518,30 +525,30 @@ module _ {P S H : Type 0} (f : P → Functions S H) (n t : ℕ) (made : is_made 
   -- pth_cleanup_pop
   popped_walk : (v : ℤ) (run : Bool) (p : PushedHandler) (c : Book) (s : State P S H) → not (is_zero v) ≡ run → pop_answer s.resources.store.cleanups t ≡ Some p → c.block ≡ Closed → s.resources.awaits t ≡ false → Within c s → Walk n c (After (next.Done (answer.Int (pos 1)))) ((where_so run (runs_pushed f t (Some p)) and_then tells (mark.Answered (tid t) (call.CleanupPop v) (answer.Int (pos 1)))) s)
   popped_walk v false p c s runs last closed idle w =
-      let x = answer_walk (next.Done (answer.Int (pos 1))) (call.CleanupPop v) (answer.Int (pos 1)) c s (λ other. absurd (true_false (sym (ap not other) ∙ runs))) (λ e u. done_stepped (answer.Int (pos 1)) e u) (answering (call.CleanupPop v) (answer.Int (pos 1)) c s refl idle w) in
+      let x = answer_walk (next.Done (answer.Int (pos 1))) (call.CleanupPop v) (answer.Int (pos 1)) c s (λ other. absurd (true_false (sym (ap not other) ∙ runs))) tt (λ e u. done_stepped (answer.Int (pos 1)) e u) (answering (call.CleanupPop v) (answer.Int (pos 1)) c s refl idle w) in
       record { law = x.law; post = x.post }
   popped_walk v true p c s runs last closed idle w =
       handled_call (call.CleanupPop v) p.0 p.1 c s closed
-      (λ d u ran pushed other. ran_last (ran_by d.block t).handlers (d.resources.store.cleanups t) p ran (ap (λ (cs : List PushedHandler). slice_get cs 0) pushed ∙ last)) refl idle w
+      (λ d u ran pushed other. ran_last (ran_by d.block t).handlers (d.resources.store.cleanups t) p ran (ap (λ (cs : List PushedHandler). slice_get cs 0) pushed ∙ last)) (λ d. tt) refl idle w
 
   pop_walk : (v : ℤ) (o : Option PushedHandler) (c : Book) (s : State P S H) → pop_answer s.resources.store.cleanups t ≡ o → c.block ≡ Closed → s.resources.awaits t ≡ false → Within c s → let y = refused EINVAL when is_none o otherwise says 1 in let r = begun_by f t (call.CleanupPop v) y (unless_refused (refuses y) (where_so (not (is_zero v)) (runs_pushed f t o))) s in Walk n c (After r.next) r.told
-  pop_walk v None c s last closed idle w = answer_walk (next.Done (answer.Fail EINVAL)) (call.CleanupPop v) (answer.Fail EINVAL) c s tt (λ e u. done_stepped (answer.Fail EINVAL) e u) (answering (call.CleanupPop v) (answer.Fail EINVAL) c s refl idle w)
+  pop_walk v None c s last closed idle w = answer_walk (next.Done (answer.Fail EINVAL)) (call.CleanupPop v) (answer.Fail EINVAL) c s tt tt (λ e u. done_stepped (answer.Fail EINVAL) e u) (answering (call.CleanupPop v) (answer.Fail EINVAL) c s refl idle w)
   pop_walk v (Some p) c s last closed idle w = popped_walk v (not (is_zero v)) p c s refl last closed idle w
 
   -- pth_once
   once_walk : (o h v : ℤ) (refuse run : Bool) (c : Book) (s : State P S H) → c.block ≡ Closed → s.resources.awaits t ≡ false → Within c s → let y = refused EINVAL when refuse otherwise says 1 in let r = begun_by f t (call.Once o h v) y (unless_refused (refuses y) (where_so run (changes (uses (number o)) and_then runs_handler f t (handler h) v))) s in Walk n c (After r.next) r.told
-  once_walk o h v true run c s closed idle w = answer_walk (next.Done (answer.Fail EINVAL)) (call.Once o h v) (answer.Fail EINVAL) c s tt (λ e u. done_stepped (answer.Fail EINVAL) e u) (answering (call.Once o h v) (answer.Fail EINVAL) c s refl idle w)
+  once_walk o h v true run c s closed idle w = answer_walk (next.Done (answer.Fail EINVAL)) (call.Once o h v) (answer.Fail EINVAL) c s tt tt (λ e u. done_stepped (answer.Fail EINVAL) e u) (answering (call.Once o h v) (answer.Fail EINVAL) c s refl idle w)
   once_walk o h v false false c s closed idle w =
-      let x = answer_walk (next.Done (answer.Int (pos 1))) (call.Once o h v) (answer.Int (pos 1)) c s tt (λ e u. done_stepped (answer.Int (pos 1)) e u) (answering (call.Once o h v) (answer.Int (pos 1)) c s refl idle w) in
+      let x = answer_walk (next.Done (answer.Int (pos 1))) (call.Once o h v) (answer.Int (pos 1)) c s tt tt (λ e u. done_stepped (answer.Int (pos 1)) e u) (answering (call.Once o h v) (answer.Int (pos 1)) c s refl idle w) in
       record { law = x.law; post = x.post }
   once_walk o h v false true c s closed idle w =
-      let x = handled_call (call.Once o h v) (handler h) v c (controlled (uses (number o)) s) closed (λ d u ran pushed. tt) refl idle (change_within (uses (number o)) s.resources.awaits c s w.going w.claims w.fits w) in
+      let x = handled_call (call.Once o h v) (handler h) v c (controlled (uses (number o)) s) closed (λ d u ran pushed. tt) (λ d. tt) refl idle (change_within (uses (number o)) s.resources.awaits c s w.going w.claims w.fits w) in
       record { law = x.law; post = x.post }
 
   -- pth_cancel_point
   point_walk : (asked : Bool) (c : Book) (s : State P S H) → c.block ≡ Closed → s.resources.awaits t ≡ false → Within c s → let v = Ends canceled_value when asked otherwise says 1 in let r = begun_by f t call.CancelPoint v (unless_refused (refuses v) (where_so asked (takes_request t call.CancelPoint))) s in Walk n c (After r.next) r.told
   point_walk false c s closed idle w =
-      let x = answer_walk (next.Done (answer.Int (pos 1))) call.CancelPoint (answer.Int (pos 1)) c s tt (λ e u. done_stepped (answer.Int (pos 1)) e u) (answering call.CancelPoint (answer.Int (pos 1)) c s refl idle w) in
+      let x = answer_walk (next.Done (answer.Int (pos 1))) call.CancelPoint (answer.Int (pos 1)) c s tt tt (λ e u. done_stepped (answer.Int (pos 1)) e u) (answering call.CancelPoint (answer.Int (pos 1)) c s refl idle w) in
       record { law = x.law; post = x.post }
   point_walk true c s closed idle w =
       let x = canceled_walk call.CancelPoint c s w in
@@ -551,7 +558,7 @@ module _ {P S H : Type 0} (f : P → Functions S H) (n t : ℕ) (made : is_made 
   then_answer : (k : Call) (a : Piece P S H) (c : Book) (s : State P S H) → is_asking k ≡ true → Walk n c GoesOn (a s) → Walk n c (After (next.Done (answer.Int (pos 1)))) ((a and_then tells (mark.Answered (tid t) k (answer.Int (pos 1)))) s)
   then_answer k a c s asking w =
       walk_then n GoesOn (After (next.Done (answer.Int (pos 1)))) c a (tells (mark.Answered (tid t) k (answer.Int (pos 1)))) s w
-      (λ d h. answer_walk (next.Done (answer.Int (pos 1))) k (answer.Int (pos 1)) d (a s).state (asking_pops t d k asking) (λ e u. done_stepped (answer.Int (pos 1)) e u) (answering k (answer.Int (pos 1)) d (a s).state (asking_on k asking) h.2 h.1))
+      (λ d h. answer_walk (next.Done (answer.Int (pos 1))) k (answer.Int (pos 1)) d (a s).state (asking_pops t d k asking) (asking_exclusive t d k (answer.Int (pos 1)) asking) (λ e u. done_stepped (answer.Int (pos 1)) e u) (answering k (answer.Int (pos 1)) d (a s).state (asking_on k asking) h.2 h.1))
 
   -- pth_cancel, once it is not refused
   cancels_walk : (m : ℤ) (now : Bool) (c : Book) (s : State P S H) → t ≢ number m → lives (s.control.threads.known (number m)) ≡ true → is_made n (number m) ≡ true → c.block ≡ Closed → s.resources.awaits t ≡ false → Within c s → Walk n c GoesOn ((if now then canceled_by_other f (number m) else changes (sets (number m) (change.Request true))) s)
@@ -591,7 +598,7 @@ module _ {P S H : Type 0} (f : P → Functions S H) (n t : ℕ) (made : is_made 
       }
 
   refused_walk : (k : Call) (e : Errno) (c : Book) (s : State P S H) → is_asking k ≡ true → s.resources.awaits t ≡ false → Within c s → Walk n c (After (next.Done (answer.Fail e))) (tells (mark.Answered (tid t) k (answer.Fail e)) s)
-  refused_walk k e c s asking idle w = answer_walk (next.Done (answer.Fail e)) k (answer.Fail e) c s (asking_fails t c k e asking) (λ d u. done_stepped (answer.Fail e) d u) (answering k (answer.Fail e) c s (asking_on k asking) idle w)
+  refused_walk k e c s asking idle w = answer_walk (next.Done (answer.Fail e)) k (answer.Fail e) c s (asking_fails t c k e asking) (asking_exclusive t c k (answer.Fail e) asking) (λ d u. done_stepped (answer.Fail e) d u) (answering k (answer.Fail e) c s (asking_on k asking) idle w)
 
   -- pth_cancel
   cancel_walk : (m : ℤ) (own unknown barred : Bool) (c : Book) (s : State P S H) → (m is t) ≡ own → not (is_known s.control m) ≡ unknown → (m is main || is_dead (or_nobody (thread s.control m)).state) ≡ barred → s.control.threads.made ≡ n → c.block ≡ Closed → s.resources.awaits t ≡ false → Within c s → let v = refused EINVAL when own otherwise refused ESRCH when unknown otherwise refused EPERM when barred otherwise says 1 in let r = begun_by f t (call.Cancel m) v (unless_refused (refuses v) (if is_asynchronous (or_nobody (thread s.control m)).cancel then canceled_by_other f (number m) else changes (sets (number m) (change.Request true)))) s in Walk n c (After r.next) r.told
@@ -625,7 +632,7 @@ module _ {P S H : Type 0} (f : P → Functions S H) (n t : ℕ) (made : is_made 
   begun_walk (call.Note v) p c s born closed on free w =
       let m = mark.Noted (tid t) v in
       let o = s.resources.awaits in
-      walk_tells n (After (next.Done (answer.Int (pos 0)))) c m s (((within_up o c s w, within_calm o c s w), tt, tt), made) (done_stepped (answer.Int (pos 0)) (after c m) (tells m s).state refl (told_within m c s refl refl w))
+      walk_tells n (After (next.Done (answer.Int (pos 0)))) c m s (λ locked. (((within_up o c s w, within_calm o c s w), tt, tt), made)) (done_stepped (answer.Int (pos 0)) (after c m) (tells m s).state refl (told_within m c s refl refl w))
   begun_walk call.Kill p c s born closed on free w = kill_walk (not (t == main)) c s w
   begun_walk (call.Yield m) p c s born closed on free w = yield_walk m (not (is_zero m) && ((or_nobody (thread s.control m)).suspended || not (may_run (or_nobody (thread s.control m)).state))) c s refl (idle_in c s p on free w) w
   begun_walk (call.CleanupPop v) p c s born closed on free w = pop_walk v (last_pushed f s t) c s refl closed (idle_in c s p on free w) w
@@ -652,30 +659,30 @@ module _ {P S H : Type 0} (f : P → Functions S H) (n t : ℕ) (made : is_made 
   awaits_by : (d : Blocked) (p : Progress S) (c : Book) (u : State P S H) → u.control.threads.progress t ≡ Some p → p.blocked ≡ Some d → Within c u → u.resources.awaits t ≡ true → is_await d.call ≡ true
   awaits_by d p c u on blocked w awaiting = sym ((w.fits t).0 ∙ ap (λ z. is_awaiting (blocked_in z)) on ∙ ap is_awaiting blocked) ∙ awaiting
 
-  answers_walk : (x : Next) (k : Call) (a : Answer) (c : Book) (u : State P S H) → IsPopOrderly c t k a × (kills k ≡ false) → (u.resources.awaits t ≡ true → is_await k ≡ true) → ((d : Book) (v : State P S H) → d.block ≡ Closed → Within d v → After x d v) → Within c u → Walk n c (After x) (answers f t k a u)
+  answers_walk : (x : Next) (k : Call) (a : Answer) (c : Book) (u : State P S H) → IsPopOrderly c t k a × (kills k ≡ false) → IsAnswerExclusive c.resources t k a → (u.resources.awaits t ≡ true → is_await k ≡ true) → ((d : Book) (v : State P S H) → d.block ≡ Closed → Within d v → After x d v) → Within c u → Walk n c (After x) (answers f t k a u)
   unfolding told
-  answers_walk x k a c u pop by leaves w =
+  answers_walk x k a c u pop exclusive by leaves w =
       let tells = answer_awaits u.resources t k a pop.1 by in
       let o = (answer_told u.resources t k a).awaits in
-      let y = answer_walk x k a c (controlled (stops_waiting t) u) pop.0 leaves
+      let y = answer_walk x k a c (controlled (stops_waiting t) u) pop.0 exclusive leaves
       (change_within (stops_waiting t) o c u (going_stops c.ended u w.going) (claims_stop t u.control w.claims) (awaits_stop t u.resources.awaits o u.control tells.0 tells.1 w.fits) w) in
       record { law = y.law; post = y.post }
 
-  tried_walk : (d : Blocked) (v : Verdict) (p : Progress S) (c : Book) (u : State P S H) → (is_blocking v ≡ false → (a : Answer) → IsPopOrderly c t d.call a × (kills d.call ≡ false)) → c.block ≡ Closed → u.control.threads.progress t ≡ Some p → p.blocked ≡ Some d → Within c u → Walk n c (After (tried_by f t d v u).next) (tried_by f t d v u).told
+  tried_walk : (d : Blocked) (v : Verdict) (p : Progress S) (c : Book) (u : State P S H) → (is_blocking v ≡ false → (a : Answer) → IsPopOrderly c t d.call a × (kills d.call ≡ false)) → IsVerdictExclusive c.resources t d.call v → c.block ≡ Closed → u.control.threads.progress t ≡ Some p → p.blocked ≡ Some d → Within c u → Walk n c (After (tried_by f t d v u).next) (tried_by f t d v u).told
   unfolding told
-  tried_walk d (Says a) p c u pops closed on blocked w = answers_walk (next.Done a) d.call a c u (pops refl a) (awaits_by d p c u on blocked w) (λ e s. done_stepped a e s) w
-  tried_walk d (Yields a) p c u pops closed on blocked w = answers_walk (next.Yields a) d.call a c u (pops refl a) (awaits_by d p c u on blocked w) (λ e s. yields_stepped a e s) w
-  tried_walk d (Blocks y) p c u pops closed on blocked w =
+  tried_walk d (Says a) p c u pops exclusive closed on blocked w = answers_walk (next.Done a) d.call a c u (pops refl a) exclusive (awaits_by d p c u on blocked w) (λ e s. done_stepped a e s) w
+  tried_walk d (Yields a) p c u pops exclusive closed on blocked w = answers_walk (next.Yields a) d.call a c u (pops refl a) exclusive (awaits_by d p c u on blocked w) (λ e s. yields_stepped a e s) w
+  tried_walk d (Blocks y) p c u pops exclusive closed on blocked w =
       let now : Blocked = record d { written = y.written } in
       let g : Change P S H = is_blocked_by t (Some now) in
       let tells = wait_awaits u.resources t d.call (awaits_by d p c u on blocked w) in
       let o = (wait_told u.resources t d.call).awaits in
-      let x = wait_walk d.call c (controlled g u)
+      let x = wait_walk d.call c (controlled g u) exclusive
       (change_within g o c u (going_waits_on c.ended (Some now) u w.going) (claims_wait_on t d y.written u.control p on blocked w.claims)
-      (awaits_block t u.resources.awaits o (Some now) u.control p on tells.0 (λ awaiting. going_alive n c.ended t u.control w.going) tells.1 w.fits) w) in
+      (awaits_block t u.resources.awaits o (Some now) u.control p on tells.0 (λ awaiting. going_alive n c.ended t u.control w.going) (tells.0 ∙ exclusive) tells.1 w.fits) w) in
       record { law = x.law; post = x.post }
-  tried_walk d (Ends v) p c u pops closed on blocked w = end_walk v c u (fresh_by t c.block closed) w
-  tried_walk d Kills p c u pops closed on blocked w = answers_walk next.Killed d.call (answer.Int (pos 1)) c u (pops refl (answer.Int (pos 1))) (awaits_by d p c u on blocked w) (λ e s h x. tt) w
+  tried_walk d (Ends v) p c u pops exclusive closed on blocked w = end_walk v c u (fresh_by t c.block closed) w
+  tried_walk d Kills p c u pops exclusive closed on blocked w = answers_walk next.Killed d.call (answer.Int (pos 1)) c u (pops refl (answer.Int (pos 1))) exclusive (awaits_by d p c u on blocked w) (λ e s h x. tt) w
 
   -- a pop and a kill never wait, and would wait on
   again_pops : (s : State P S H) (d : Blocked) (c : Book) (k : Call) → is_blocking (unless_come (has_event_come s.control.events (ring_given k)) ((row_of f s t k).again d)).verdict ≡ false → (a : Answer) → IsPopOrderly c t k a × (kills k ≡ false)
@@ -696,10 +703,12 @@ module _ {P S H : Type 0} (f : P → Functions S H) (n t : ℕ) (made : is_made 
   resumed_walk d p c s closed on blocked w =
       let come = has_event_come s.control.events (ring_given d.call) in
       let a = unless_come come ((row_of f s t d.call).again d) in
+      let other : is_await d.call ≡ false = sym (ap (λ z. is_awaiting (blocked_in z)) on ∙ ap is_awaiting blocked) ∙ sym (w.fits t).0 ∙ (w.fits t).2 in
+      let exclusive : IsVerdictExclusive c.resources t d.call a.verdict = subst (λ (r : Resources). IsVerdictExclusive r t d.call a.verdict) (sym w.resources) (again_exclusive f s t d.call d come other) in
       let holding = come_keeps f t (Holding n c.ended s.resources.awaits t (Some p)) (holding_kept n c.ended s.resources.awaits t (Some p) f) s d.call d come (w.going, w.claims, on, w.fits) in
       walk_finally n (Quiet (Some p) c) (After (tried_by f t d a.verdict (effect_of a s).state).next) c (effect_of a) (tried_by f t d a.verdict) s
       (quiet_within (Some p) (effect_of a) c s (come_silent s d.call d come) holding w)
-      (λ e h. subst (λ (z : Book). Walk n z (After (tried_by f t d a.verdict (effect_of a s).state).next) (tried_by f t d a.verdict (effect_of a s).state).told) (sym h.0) (tried_walk d a.verdict p c (effect_of a s).state (again_pops s d c d.call) closed h.2 blocked h.1))
+      (λ e h. subst (λ (z : Book). Walk n z (After (tried_by f t d a.verdict (effect_of a s).state).next) (tried_by f t d a.verdict (effect_of a s).state).told) (sym h.0) (tried_walk d a.verdict p c (effect_of a s).state (again_pops s d c d.call) exclusive closed h.2 blocked h.1))
 
   -- ---- a step
 

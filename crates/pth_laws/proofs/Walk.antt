@@ -1,4 +1,5 @@
--- A piece of the machine, walked along with what its marks say: each mark is lawful, and of a thread that was made.
+-- A piece of the machine, walked along with what its marks say: each mark is lawful where those before it are, and of a thread that
+-- was made.
 use Rattle.std.proofs.Common.{◌≡◌, ℕ, true, List, [], ◌∷◌, ◌++◌, Option, Some, None, refl, sym, subst}
 use Rattle.pth_base.specs.declared.mark.Mark.{Mark}
 use Rattle.pth_model.specs.State.{State}
@@ -6,6 +7,7 @@ use Rattle.pth_model.specs.Transition.{Transition, Piece, Last, tells, ◌and_th
 use Rattle.pth_model.specs.Living.{is_made}
 use Rattle.pth_laws.specs.Book.{Book, after, book_of}
 use Rattle.pth_laws.specs.Laws.{EachMark, IsLawful, thread_of}
+use Rattle.pth_laws.proofs.Locked.{Locked, locked_after}
 
 -- ---- what each mark of a list is
 
@@ -28,8 +30,17 @@ abbrev pub IsOfMade : ℕ → Option ℕ → Type 0
 IsOfMade n None = Unit {0}
 IsOfMade n (Some t) = is_made n t ≡ true
 
+abbrev pub IsLawfulOf : ℕ → Book → Mark → Type 0
+IsLawfulOf n b m = IsLawful b m × IsOfMade n (thread_of m)
+
+-- where those before it leave the mutexes and the locks in order
 abbrev pub IsMarked : ℕ → Book → Mark → Type 0
-IsMarked n b m = IsLawful b m × IsOfMade n (thread_of m)
+IsMarked n b m = Locked b.resources → IsLawfulOf n b m
+
+-- the marks before each one are lawful themselves
+pub each_lawful : (n : ℕ) (b : Book) (ms : List Mark) → Locked b.resources → EachMark (IsMarked n) b ms → EachMark (IsLawfulOf n) b ms
+each_lawful n b [] locked h = tt
+each_lawful n b (m ∷ ms) locked h = let law = h.0 locked in (law, each_lawful n (after b m) ms (locked_after b m law.0.1 locked) h.1)
 
 -- from a book on the marks are lawful, and Q holds of the book and the state that come of them
 pub record Walk {P S H : Type 0} (n : ℕ) (b : Book) (Q : Book → State P S H → Type 0) (x : Transition P S H) : Type 0 where

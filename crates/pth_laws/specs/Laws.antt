@@ -1,14 +1,19 @@
 -- The laws of the marks of whole runs.
-use Rattle.std.specs.Prelude.{◌≡◌, ℕ, zero, suc, ℤ, pos, negsuc, true, false, List, [], ◌∷◌, Option, Some, None}
+use Rattle.std.specs.Prelude.{◌≡◌, ◌<◌, ℕ, zero, suc, ℤ, pos, negsuc, Bool, true, false, List, [], ◌∷◌, Option, Some, None, is_some}
+use Rattle.pth_base.specs.declared.act.Act.TheVariants as act
 use Rattle.pth_base.specs.declared.answer.Answer.{Answer}
 use Rattle.pth_base.specs.declared.answer.Answer.TheVariants.{Int}
 use Rattle.pth_base.specs.declared.call.Call.{Call}
 use Rattle.pth_base.specs.declared.call.Call.TheVariants as call
 use Rattle.pth_base.specs.declared.mark.Mark.{Mark}
 use Rattle.pth_base.specs.declared.mark.Mark.TheVariants as mark
-use Rattle.pth_numbered.specs.Operands.{is_zero}
+use Rattle.pth_numbered.specs.Operands.{number, is_zero}
+use Rattle.pth_lock.specs.Objects.{object_limit, object_named}
+use Rattle.pth_lock.specs.Mutexes.{has, is_anothers}
+use Rattle.pth_lock.specs.RwLocks.{holds, may_enter}
 use Rattle.pth_store.specs.Cleanups.{PushedHandler}
 use Rattle.pth_model.specs.Ending.{next_destructor}
+use Rattle.pth_model.specs.Resources.{Resources}
 use Rattle.pth_laws.specs.Book.{Book, empty_book, after, ran_by}
 
 -- A holds of each mark, and of the book of the marks before it
@@ -78,11 +83,67 @@ IsOrderlyMark b m = HasNotEnded b (thread_of m) × IsInItsOrder b m
 abbrev pub Orderly : List Mark → Type 0
 Orderly marks = EachMark IsOrderlyMark empty_book marks
 
--- ---- exclusive: no call on mutexes and read-write locks is built yet, and no mark is held to anything
+-- ---- exclusive
+
+module _ (k : Resources) where
+  -- a mutex that is initialised is one of 0 to 63, and was not initialised before
+  pub record IsNewMutex (m : ℕ) : Type 0 where
+    pub known : m < object_limit
+    pub new : is_some (k.store.mutexes m) ≡ false
+
+  -- t takes a level of a mutex: it is initialised, and no other thread has it
+  pub record MayTake (t m : ℕ) : Type 0 where
+    pub initialised : is_some (k.store.mutexes m) ≡ true
+    pub free : is_anothers t (k.store.mutexes m) ≡ false
+
+  -- t gives a level of a mutex back, or all: it has the mutex
+  abbrev pub HasMutex : (t m : ℕ) → Type 0
+  HasMutex t m = has t (k.store.mutexes m) ≡ true
+
+  -- a lock that is initialised is one of 0 to 63, and was not initialised before
+  pub record IsNewLock (l : ℕ) : Type 0 where
+    pub known : l < object_limit
+    pub new : k.store.rw_locks.initialised l ≡ false
+
+  -- t enters a lock: it is initialised, t does not hold it yet, and nobody writes; and to write, nobody reads either
+  pub record MayEnter (t l : ℕ) (write : Bool) : Type 0 where
+    pub initialised : k.store.rw_locks.initialised l ≡ true
+    pub out : holds k.store.rw_locks t l ≡ false
+    pub enters : may_enter k.store.rw_locks write l ≡ true
+
+  -- t gives a lock back: it holds it
+  abbrev pub HoldsLock : (t l : ℕ) → Type 0
+  HoldsLock t l = holds k.store.rw_locks t l ≡ true
+
+  -- t has no mutex, and holds no lock
+  pub record HoldsNothing (t : ℕ) : Type 0 where
+    pub mutexes : (m : ℕ) → has t (k.store.mutexes m) ≡ false
+    pub locks : (l : ℕ) → holds k.store.rw_locks t l ≡ false
+
+-- a call of t is answered, by what threads have before its answer
+abbrev pub IsAnswerExclusive : Resources → ℕ → Call → Answer → Type 0
+IsAnswerExclusive k t (call.MutexInit m) (Int n) = IsNewMutex k (object_named m)
+IsAnswerExclusive k t (call.MutexAcquire m v e) (Int n) = MayTake k t (object_named m)
+IsAnswerExclusive k t (call.MutexRelease m) (Int n) = HasMutex k t (object_named m)
+IsAnswerExclusive k t (call.RwInit l) (Int n) = IsNewLock k (object_named l)
+IsAnswerExclusive k t (call.RwAcquire l write v e) (Int n) = MayEnter k t (object_named l) write
+IsAnswerExclusive k t (call.RwRelease l) (Int n) = HoldsLock k t (object_named l)
+-- a cond_await takes its mutex back with its answer, unless it has it again already
+IsAnswerExclusive k t (call.CondAwait c m e) a = k.awaits t ≡ true → MayTake k t (number m)
+IsAnswerExclusive k t c a = Unit {0}
 
 abbrev pub IsExclusiveMark : Book → Mark → Type 0
+IsExclusiveMark b (mark.Answered t c a) = IsAnswerExclusive b.resources t.0 c a
+IsExclusiveMark b (mark.Acted t (act.Release m) a) = IsAnswerExclusive b.resources t.0 (call.MutexRelease m) a
+-- a cond_await that begins to await gives a level back
+IsExclusiveMark b (mark.Waits t (call.CondAwait c m e)) = b.resources.awaits t.0 ≡ false → HasMutex b.resources t.0 (number m)
+IsExclusiveMark b (mark.Took t m) = MayTake b.resources t.0 m
+IsExclusiveMark b (mark.GaveMutex t m) = HasMutex b.resources t.0 m
+IsExclusiveMark b (mark.GaveLock t l) = HoldsLock b.resources t.0 l
+IsExclusiveMark b (mark.Ended t v) = HoldsNothing b.resources t.0
 IsExclusiveMark b m = Unit {0}
 
+-- no two threads have a mutex, no writer meets another holder of a lock, and a thread that ends has given up what it had
 abbrev pub Exclusive : List Mark → Type 0
 Exclusive marks = EachMark IsExclusiveMark empty_book marks
 

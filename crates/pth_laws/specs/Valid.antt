@@ -32,7 +32,7 @@ module _ {P S H : Type 0} (s : State P S H) where
     pub made : is_made s.control.threads.made t ≡ true
     pub gone : lives (s.control.threads.known t) ≡ false
 
-  -- who takes part lives, and who is over has nothing stored
+  -- who takes part lives, and who is over has nothing
   pub record IsValid (x : Turn) : Type 0 where
     -- who is in the system was made
     pub made : (t : ℕ) → is_some (s.control.threads.known t) ≡ true → is_made s.control.threads.made t ≡ true
@@ -47,7 +47,7 @@ module _ {P S H : Type 0} (s : State P S H) where
     pub unnamed : (t : ℕ) → s.control.scheduler.running ≡ Some t → x.gave ≡ None → s.control.scheduler.preferred ≡ None
     -- who waits at a condition, or has not its mutex again, is whom a pth_cond_await blocks
     pub awaits : (t : ℕ) → s.resources.awaits t ≡ is_awaiting (blocked_of s.control t)
-    -- who is over has no cleanups and no values
+    -- who is over has nothing: no cleanup, no value, no mutex and no lock
     pub empty : (t : ℕ) → IsOver t → HasNothing s.resources.store t
 
   -- the marks that led to a state fit it
@@ -56,7 +56,7 @@ module _ {P S H : Type 0} (s : State P S H) where
     pub unmade : (t : ℕ) → is_made s.control.threads.made t ≡ false → All (λ m. thread_of m ≢ Some t) marks
     -- one that was made has ended exactly where it does not live
     pub ended : (t : ℕ) → is_made s.control.threads.made t ≡ true → (book_of empty_book marks).ended t ≡ not (lives (s.control.threads.known t))
-    -- what threads have is what the marks tell: cleanups, keys and values
+    -- what threads have is what the marks tell: cleanups, keys, values, mutexes and locks
     pub resources : (book_of empty_book marks).resources ≡ s.resources
     -- who lives was not cancelled
     pub cancelled : (t : ℕ) → Lives t → (book_of empty_book marks).cancelled t ≡ false

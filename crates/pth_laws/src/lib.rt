@@ -2,5 +2,6 @@
 #![tactic(auto)]
 
 pub mod destructors;
+pub mod exclusive;
 pub mod orderly;
 pub mod runs;

@@ -5,7 +5,7 @@ ghost use Rattle.pth_base.specs.declared.outcome.Outcome.TheVariants.{Killed};
 ghost use Rattle.pth_model.specs.Run.{run};
 ghost use Rattle.pth_model.specs.State.{Given};
 ghost use Rattle.pth_laws.specs.Clean.{IsClean};
-ghost use Rattle.pth_laws.specs.Laws.{Orderly};
+ghost use Rattle.pth_laws.specs.Laws.{Exclusive, Orderly};
 ghost use Rattle.pth_laws.specs.Valid.{IsTiedTo, IsValid};
 
 use pth_base::program::Program;
@@ -18,6 +18,14 @@ pub fn every_run_is_orderly<P: Program>()
     ensures { (g : Given P) (i : ℕ) → Orderly (run P.functions g i).marks }
 {}
 
+/// The marks of every run, wherever it stands, are exclusive, also where a `pth_kill` ended the run: no two threads have a mutex, and
+/// who gives a level of one back has it; no thread that writes under a lock meets another that holds it, and who gives a lock back
+/// holds it; what is taken was initialised before, once, and is one of 0 to 63; and a thread that ends has no mutex and no lock left,
+/// however it ended.
+pub fn every_run_is_exclusive<P: Program>()
+    ensures { (g : Given P) (i : ℕ) → Exclusive (run P.functions g i).marks }
+{}
+
 /// Each state of a run fits the marks that led to it, unless a `pth_kill` ended the run: who has ended, and what threads have, can
 /// be read off a transcript. And who runs, who is named by a yield, and whoever stands in a queue but that of the dead, lives.
 pub fn every_run_is_tied<P: Program>()
@@ -25,8 +33,9 @@ pub fn every_run_is_tied<P: Program>()
     ensures valid { (g : Given P) (i : ℕ) → (run P.functions g i).turn.outcome ≢ Killed → IsValid (run P.functions g i).state (run P.functions g i).turn }
 {}
 
-/// Nothing of a wait stays behind, however its thread ended: by an exit, by a request that it took up at a cancellation point, or in
-/// another thread's turn (`pth_cancel`, `pth_abort`). A claim on a ring is that of a thread that lives, and whose call made it.
+/// Nothing of a wait stays behind, and nothing that a thread has, however the thread ended: by an exit, by a request that it took up at
+/// a cancellation point, or in another thread's turn (`pth_cancel`, `pth_abort`). A claim on a ring is that of a thread that lives,
+/// and whose call made it; and a thread that has a mutex, or holds a lock, lives, and these are among 0 to 63.
 pub fn every_run_is_clean<P: Program>()
     ensures { (g : Given P) (i : ℕ) → (run P.functions g i).turn.outcome ≢ Killed → IsClean (run P.functions g i).state }
 {}

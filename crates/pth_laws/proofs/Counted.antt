@@ -1,0 +1,50 @@
+-- Who reads under a lock is counted: by one number for all who do, however many threads there may be.
+use Rattle.std.proofs.Common.{◌≡◌, ℕ, ◌+◌, ◌≤◌, ◌==◌, ◌&&◌, Bool, true, false, if◌then◌else◌, refl, sym, ◌∙◌, ap, subst, arith}
+use Rattle.pth_base.specs.Table.{put}
+use Rattle.pth_base.proofs.Lists.{put_none}
+use Rattle.pth_base.proofs.Tables.{put_is, same_self, not_same}
+use Rattle.pth_lock.proofs.Counts.{count_more, count_less, count_none, none_counted}
+use Rattle.pth_lock.specs.RwLocks.{count_below, readers_without}
+
+-- so many pass a test, of all below any number that is great enough
+pub record IsCounted (test : ℕ → Bool) (many : ℕ) : Type 0 where
+  pub bound : ℕ
+  pub counts : (n : ℕ) → bound ≤ n → count_below test n ≡ many
+
+pub counted_none : IsCounted (λ u. false) 0
+counted_none = record { bound = 0; counts = λ n low. count_none (λ u. false) n (λ u. refl) }
+
+-- one more, or one less
+pub counted_more : (f : ℕ → Bool) (many t : ℕ) → f t ≡ false → IsCounted f many → IsCounted (put f t true) (many + 1)
+counted_more f many t out h = record {
+  bound = h.bound + t + 1;
+  counts = λ n low. count_more f t n (omega (arith, low)) out ∙ ap (λ (c : ℕ). c + 1) (h.counts n (omega (arith, low)));
+}
+
+pub counted_less : (f : ℕ → Bool) (many t : ℕ) → IsCounted f many → IsCounted (put f t false) (readers_without (f t) many)
+counted_less f many t h = by_test (f t) refl
+  where
+    by_test : (b : Bool) → f t ≡ b → IsCounted (put f t false) (readers_without b many)
+    by_test true member = record {
+      bound = h.bound + t + 1;
+      counts = λ n low. let less = count_less f t n (omega (arith, low)) member in let all = h.counts n (omega (arith, low)) in omega (arith, less, all);
+    }
+    by_test false out = subst (λ (g : ℕ → Bool). IsCounted g many) (sym (put_none f t false out)) h
+
+-- t alone
+pub counted_only : (f : ℕ → Bool) (t : ℕ) → IsCounted (λ u. (u == t) && f u) (if f t then 1 else 0)
+counted_only f t = subst (λ (g : ℕ → Bool). IsCounted g (if f t then 1 else 0)) (sym alone) (by_test (f t))
+  where
+    alone : (λ (u : ℕ). (u == t) && f u) ≡ put (λ u. false) t (f t)
+    alone = put_is (λ u. false) (λ u. (u == t) && f u) t (f t) (rw (same_self t) refl) (λ i apart. rw (not_same i t apart) refl)
+
+    by_test : (b : Bool) → IsCounted (put (λ u. false) t b) (if b then 1 else 0)
+    by_test true = counted_more (λ u. false) 0 t refl counted_none
+    by_test false = subst (λ (g : ℕ → Bool). IsCounted g 0) (sym (put_none (λ u. false) t false refl)) counted_none
+
+-- where they are none, none passes; and the other way round
+pub none_passes : (f : ℕ → Bool) (many : ℕ) → IsCounted f many → many ≡ 0 → (t : ℕ) → f t ≡ false
+none_passes f many h none t = none_counted f t (h.bound + t + 1) (omega arith) (h.counts (h.bound + t + 1) (omega arith) ∙ none)
+
+pub none_counts : (f : ℕ → Bool) (many : ℕ) → IsCounted f many → ((t : ℕ) → f t ≡ false) → many ≡ 0
+none_counts f many h none = sym (h.counts h.bound (omega arith)) ∙ count_none f h.bound none

@@ -1,0 +1,196 @@
+-- What calls on mutexes and locks come to is exclusive, by the tests of their rows.
+use Rattle.std.proofs.Common.{◌≡◌, ◌<◌, ℕ, ◌==◌, ◌&&◌, ◌||◌, not, nat_lt, Bool, true, false, if◌then◌else◌, ℤ, pos, Option, Some, None, is_some, is_none, Ok, Err, refl, sym, ◌∙◌, arith}
+use Rattle.std.proofs.lemmas.Bool.{not-false}
+use Rattle.std.proofs.lemmas.Bool.Decides.{nat_tests}
+use Rattle.pth_base.specs.Program.{Functions}
+use Rattle.pth_base.specs.declared.answer.Answer.{Answer}
+use Rattle.pth_base.specs.declared.answer.Answer.TheVariants as answer
+use Rattle.pth_base.specs.declared.call.Call.{Call}
+use Rattle.pth_base.specs.declared.call.Call.TheVariants as call
+use Rattle.pth_base.specs.declared.errno.Errno.TheVariants.{EACCES, EAGAIN, EBUSY, EDEADLK, EINVAL}
+use Rattle.pth_base.specs.declared.mark.Mark.TheVariants as mark
+use Rattle.pth_numbered.specs.Operands.{is_zero}
+use Rattle.pth_lock.specs.Objects.{object_limit, object_named, is_object}
+use Rattle.pth_lock.specs.Mutexes.{Mutex, has, is_anothers, owner_of, levels_of, level_limit, release_answer}
+use Rattle.pth_lock.specs.RwLocks.{LockTables, holds, may_enter, is_held}
+use Rattle.pth_model.specs.declared.blocked.Blocked.{Blocked}
+use Rattle.pth_model.specs.Acts.{answer_in}
+use Rattle.pth_model.specs.Calls.{unless_come}
+use Rattle.pth_model.specs.Resources.{Resources}
+use Rattle.pth_model.specs.RingWaits.{extra_ring, is_no_ring, is_claimed_ring}
+use Rattle.pth_model.specs.Rows.{row_of}
+use Rattle.pth_model.specs.State.{State}
+use Rattle.pth_model.specs.Transition.{Piece, silent, tid}
+use Rattle.pth_model.specs.Verdict.{Verdict, Says, Yields, Blocks, Ends, Kills, refused, says, waits, done, by_result, ◌when◌otherwise◌}
+use Rattle.pth_laws.specs.Book.{Book}
+use Rattle.pth_laws.specs.Laws.{IsAnswerExclusive, IsExclusiveMark}
+use Rattle.pth_laws.proofs.Living.{true_false, both, not_true}
+use Rattle.pth_laws.specs.Valid.{is_await}
+
+-- calls on mutexes and locks
+abbrev pub is_locking : Call → Bool
+is_locking (call.MutexInit m) = true
+is_locking (call.MutexAcquire m v e) = true
+is_locking (call.MutexRelease m) = true
+is_locking (call.RwInit l) = true
+is_locking (call.RwAcquire l write v e) = true
+is_locking (call.RwRelease l) = true
+is_locking (call.CondAwait c m e) = true
+is_locking c = false
+
+-- what a verdict on a call of t tells is exclusive; a pth_cond_await blocks nobody
+abbrev pub IsVerdictExclusive : Resources → ℕ → Call → Verdict → Type 0
+IsVerdictExclusive k t c (Says a) = IsAnswerExclusive k t c a
+IsVerdictExclusive k t c (Yields a) = IsAnswerExclusive k t c a
+IsVerdictExclusive k t c (Blocks p) = is_await c ≡ false
+IsVerdictExclusive k t c (Ends v) = Unit {0}
+IsVerdictExclusive k t c Kills = IsAnswerExclusive k t c (answer.Int (pos 1))
+
+-- a call that blocks tells a wait
+pub wait_exclusive : (b : Book) (t : ℕ) (c : Call) → is_await c ≡ false → IsExclusiveMark b (mark.Waits (tid t) c)
+wait_exclusive b t (call.CondAwait c m e) other = absurd (true_false other)
+wait_exclusive b t c other = tt
+
+some_of : {A : Type 0} (o : Option A) → is_none o ≡ false → is_some o ≡ true
+some_of None h = absurd (true_false h)
+some_of (Some a) h = refl
+
+-- a mutex that nobody has is no other thread's
+free_is : (t : ℕ) (z : Mutex) → is_none (owner_of z) ≡ true → is_anothers t z ≡ false
+free_is t None h = refl
+free_is t (Some None) h = refl
+free_is t (Some (Some o)) h = absurd (true_false (sym h))
+
+-- one that somebody has, and no other thread, is its own
+own_is : (t : ℕ) (z : Mutex) → is_none (owner_of z) ≡ false → is_anothers t z ≡ false → has t z ≡ true
+own_is t None h other = absurd (true_false h)
+own_is t (Some None) h other = absurd (true_false h)
+own_is t (Some (Some o)) h other = not-false _ other
+
+below : (m : ℤ) → not (is_object m) ≡ false → object_named m < object_limit
+below m h = let low : nat_lt (object_named m) object_limit ≡ true = not-false _ h in grind (arith, nat_tests)
+
+module _ (k : Resources) (t : ℕ) where
+  other_answer : (c : Call) (a : Answer) → is_locking c ≡ false → IsAnswerExclusive k t c a
+  other_answer (call.MutexInit m) a h = absurd (true_false h)
+  other_answer (call.MutexAcquire m v e) a h = absurd (true_false h)
+  other_answer (call.MutexRelease m) a h = absurd (true_false h)
+  other_answer (call.RwInit l) a h = absurd (true_false h)
+  other_answer (call.RwAcquire l write v e) a h = absurd (true_false h)
+  other_answer (call.RwRelease l) a h = absurd (true_false h)
+  other_answer (call.CondAwait c m e) a h = absurd (true_false h)
+  other_answer c a h = tt
+
+  other_wait : (c : Call) → is_locking c ≡ false → is_await c ≡ false
+  other_wait (call.CondAwait c m e) h = absurd (true_false h)
+  other_wait c h = refl
+
+  -- any other call
+  pub other_exclusive : (c : Call) (v : Verdict) → is_locking c ≡ false → IsVerdictExclusive k t c v
+  other_exclusive c (Says a) h = other_answer c a h
+  other_exclusive c (Yields a) h = other_answer c a h
+  other_exclusive c (Blocks p) h = other_wait c h
+  other_exclusive c (Ends v) h = tt
+  other_exclusive c Kills h = other_answer c (answer.Int (pos 1)) h
+
+  abbrev z : ℤ → Mutex
+  z m = k.store.mutexes (object_named m)
+
+  abbrev x : LockTables
+  x = k.store.rw_locks
+
+  init_exclusive : (m : ℤ) (a b : Bool) → not (is_object m) ≡ a → is_some (z m) ≡ b → IsVerdictExclusive k t (call.MutexInit m) (by_result done (if a then Err EINVAL else if b then Err EBUSY else Ok tt))
+  init_exclusive m true b unknown was = tt
+  init_exclusive m false true unknown was = tt
+  init_exclusive m false false unknown was = record { known = below m unknown; new = was }
+
+  acquire_exclusive : (m v e : ℤ) (a ring b c d : Bool) → is_none (z m) ≡ a → not (is_anothers t (z m)) ≡ c → IsVerdictExclusive k t (call.MutexAcquire m v e) (refused EINVAL when a || ring otherwise refused EAGAIN when b otherwise says 1 when c otherwise refused EBUSY when d otherwise waits)
+  acquire_exclusive m v e true ring b c d none free = tt
+  acquire_exclusive m v e false true b c d none free = tt
+  acquire_exclusive m v e false false true c d none free = tt
+  acquire_exclusive m v e false false false true d none free = record { initialised = some_of (z m) none; free = not_true _ free }
+  acquire_exclusive m v e false false false false true none free = tt
+  acquire_exclusive m v e false false false false false none free = refl
+
+  release_exclusive : (m : ℤ) (a b c : Bool) → is_none (z m) ≡ a → is_none (owner_of (z m)) ≡ b → is_anothers t (z m) ≡ c → IsVerdictExclusive k t (call.MutexRelease m) (by_result done (if a then Err EINVAL else if b then Err EDEADLK else if c then Err EACCES else Ok tt))
+  release_exclusive m true b c none free other = tt
+  release_exclusive m false true c none free other = tt
+  release_exclusive m false false true none free other = tt
+  release_exclusive m false false false none free other = own_is t (z m) free other
+
+  -- and so an act of a handler
+  release_act : (m : ℤ) (a b c : Bool) → is_none (z m) ≡ a → is_none (owner_of (z m)) ≡ b → is_anothers t (z m) ≡ c → IsAnswerExclusive k t (call.MutexRelease m) (answer_in (by_result done (if a then Err EINVAL else if b then Err EDEADLK else if c then Err EACCES else Ok tt)))
+  release_act m true b c none free other = tt
+  release_act m false true c none free other = tt
+  release_act m false false true none free other = tt
+  release_act m false false false none free other = own_is t (z m) free other
+
+  pub release_said : (m : ℤ) → IsAnswerExclusive k t (call.MutexRelease m) (answer_in (by_result done (release_answer t (z m))))
+  release_said m = release_act m (is_none (z m)) (is_none (owner_of (z m))) (is_anothers t (z m)) refl refl refl
+
+  lock_init_exclusive : (l : ℤ) (a b : Bool) → not (is_object l) ≡ a → x.initialised (object_named l) ≡ b → IsVerdictExclusive k t (call.RwInit l) (by_result done (if a then Err EINVAL else if b then Err EBUSY else Ok tt))
+  lock_init_exclusive l true b unknown was = tt
+  lock_init_exclusive l false true unknown was = tt
+  lock_init_exclusive l false false unknown was = record { known = below l unknown; new = was }
+
+  enter_exclusive : (l : ℤ) (write : Bool) (v e : ℤ) (a ring b c d : Bool) → not (x.initialised (object_named l)) ≡ a → holds x t (object_named l) ≡ b → may_enter x write (object_named l) ≡ c → IsVerdictExclusive k t (call.RwAcquire l write v e) (refused EINVAL when a || ring otherwise refused EDEADLK when b otherwise says 1 when c otherwise refused EBUSY when d otherwise waits)
+  enter_exclusive l write v e true ring b c d none held may = tt
+  enter_exclusive l write v e false true b c d none held may = tt
+  enter_exclusive l write v e false false true c d none held may = tt
+  enter_exclusive l write v e false false false true d none held may = record { initialised = not-false _ none; out = held; enters = may }
+  enter_exclusive l write v e false false false false true none held may = tt
+  enter_exclusive l write v e false false false false false none held may = refl
+
+  lock_release_exclusive : (l : ℤ) (a b c : Bool) → not (holds x t (object_named l)) ≡ c → IsVerdictExclusive k t (call.RwRelease l) (by_result done (if a then Err EINVAL else if b then Err EDEADLK else if c then Err EACCES else Ok tt))
+  lock_release_exclusive l true b c held = tt
+  lock_release_exclusive l false true c held = tt
+  lock_release_exclusive l false false true held = tt
+  lock_release_exclusive l false false false held = not-false _ held
+
+module _ {P S H : Type 0} (f : P → Functions S H) (s : State P S H) (t : ℕ) where
+  abbrev r : Resources
+  r = s.resources
+
+  -- a call begins
+  pub begins_exclusive : (c : Call) → r.awaits t ≡ false → IsVerdictExclusive r t c (row_of f s t c).begin.verdict
+  unfolding row_of
+  begins_exclusive (call.MutexInit m) idle = init_exclusive r t m (not (is_object m)) (is_some (z r t m)) refl refl
+  begins_exclusive (call.MutexAcquire m v e) idle = acquire_exclusive r t m v e (is_none (z r t m)) (is_no_ring s (extra_ring e)) (levels_of t (z r t m) == level_limit) (not (is_anothers t (z r t m))) (not (is_zero v) || is_claimed_ring s (extra_ring e)) refl refl
+  begins_exclusive (call.MutexRelease m) idle = release_exclusive r t m (is_none (z r t m)) (is_none (owner_of (z r t m))) (is_anothers t (z r t m)) refl refl refl
+  begins_exclusive (call.RwInit l) idle = lock_init_exclusive r t l (not (is_object l)) (r.store.rw_locks.initialised (object_named l)) refl refl
+  begins_exclusive (call.RwAcquire l write v e) idle = enter_exclusive r t l write v e (not (r.store.rw_locks.initialised (object_named l))) (is_no_ring s (extra_ring e)) (holds r.store.rw_locks t (object_named l)) (may_enter r.store.rw_locks write (object_named l)) (not (is_zero v) || is_claimed_ring s (extra_ring e)) refl refl refl
+  begins_exclusive (call.RwRelease l) idle = lock_release_exclusive r t l (not (r.store.rw_locks.initialised (object_named l))) (not (is_held r.store.rw_locks (object_named l))) (not (holds r.store.rw_locks t (object_named l))) refl
+  begins_exclusive (call.CondAwait c m e) idle = λ awaits. absurd (true_false (sym awaits ∙ idle))
+  begins_exclusive c idle = other_exclusive r t c (row_of f s t c).begin.verdict refl
+
+  -- a call is tried again
+
+  acquires_again : (m v e : ℤ) (come b : Bool) (a : Piece P S H) → (not (is_none (z r t m)) && is_none (owner_of (z r t m))) ≡ b → IsVerdictExclusive r t (call.MutexAcquire m v e) (unless_come come (record { verdict = says 1 when b otherwise waits; effect = a })).verdict
+  acquires_again m v e false true a is = let h = both _ _ is in record { initialised = some_of (z r t m) (not_true _ h.0); free = free_is t (z r t m) h.1 }
+  acquires_again m v e true true a is = let h = both _ _ is in record { initialised = some_of (z r t m) (not_true _ h.0); free = free_is t (z r t m) h.1 }
+  acquires_again m v e false false a is = refl
+  acquires_again m v e true false a is = tt
+
+  abbrev locks : LockTables
+  locks = r.store.rw_locks
+
+  enters_again : (l : ℤ) (write : Bool) (v e : ℤ) (come b : Bool) (a : Piece P S H) → ((locks.initialised (object_named l) && may_enter locks write (object_named l)) && not (holds locks t (object_named l))) ≡ b → IsVerdictExclusive r t (call.RwAcquire l write v e) (unless_come come (record { verdict = says 1 when b otherwise waits; effect = a })).verdict
+  enters_again l write v e false true a is = let h = both _ _ is in let g = both _ _ h.0 in record { initialised = g.0; out = not_true _ h.1; enters = g.1 }
+  enters_again l write v e true true a is = let h = both _ _ is in let g = both _ _ h.0 in record { initialised = g.0; out = not_true _ h.1; enters = g.1 }
+  enters_again l write v e false false a is = refl
+  enters_again l write v e true false a is = tt
+
+  pub again_exclusive : (c : Call) (b : Blocked) (come : Bool) → is_await c ≡ false → IsVerdictExclusive r t c (unless_come come ((row_of f s t c).again b)).verdict
+  unfolding row_of
+  again_exclusive (call.MutexAcquire m v e) b come other = acquires_again m v e come (not (is_none (z r t m)) && is_none (owner_of (z r t m))) silent refl
+  again_exclusive (call.RwAcquire l write v e) b come other = enters_again l write v e come ((locks.initialised (object_named l) && may_enter locks write (object_named l)) && not (holds locks t (object_named l))) silent refl
+  again_exclusive (call.MutexInit m) b false other = refl
+  again_exclusive (call.MutexInit m) b true other = tt
+  again_exclusive (call.MutexRelease m) b false other = refl
+  again_exclusive (call.MutexRelease m) b true other = tt
+  again_exclusive (call.RwInit l) b false other = refl
+  again_exclusive (call.RwInit l) b true other = tt
+  again_exclusive (call.RwRelease l) b false other = refl
+  again_exclusive (call.RwRelease l) b true other = tt
+  again_exclusive (call.CondAwait c m e) b come other = absurd (true_false other)
+  again_exclusive c b come other = other_exclusive r t c (unless_come come ((row_of f s t c).again b)).verdict refl

@@ -1,0 +1,5 @@
+use Rattle.pth_laws.proofs.SaidExclusive.{exclusive_after}
+use Rattle.pth_laws.proofs.exclusive.exclusive_marks_exclude.Goals as goal
+
+pub returns : goal.returns
+returns c = exclusive_after
