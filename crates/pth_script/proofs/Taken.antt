@@ -48,21 +48,21 @@ not_none : {A : Type 0} (o : Option A) → is_some o ≡ true → o ≡ None →
 not_none (Some x) h e = absurd (cc)
 not_none None h e = absurd (cc)
 
-handlers_by : (s : Section) (k : Option Keyword) (x : Seen) (n : ℕ) → in_handler s ≡ false → in_body s ≡ false → k ≡ Some key.Handler → x.handlers ≡ n → passes_limit s k x ≡ false → n < 256
-handlers_by sec.Handler k x n h b e m p = absurd (cc)
-handlers_by sec.Body k x n h b e m p = absurd (cc)
-handlers_by sec.Handlers k x n h b e m p = below_limit x.handlers n m (ap (λ k. passes_limit sec.Handlers k x) (sym e) ∙ p)
-handlers_by sec.Checks k x n h b e m p = below_limit x.handlers n m (ap (λ k. passes_limit sec.Checks k x) (sym e) ∙ p)
-handlers_by sec.Bodies k x n h b e m p = below_limit x.handlers n m (ap (λ k. passes_limit sec.Bodies k x) (sym e) ∙ p)
-handlers_by (sec.Kernel q) k x n h b e m p = below_limit x.handlers n m (ap (λ k. passes_limit (sec.Kernel q) k x) (sym e) ∙ p)
+handlers_by : (s : Section) (k : Option Keyword) (x : Seen) (n : ℕ) → in_handler s ≡ false → in_body s ≡ false → in_kernel s ≡ false → k ≡ Some key.Handler → x.handlers ≡ n → passes_limit s k x ≡ false → n < 256
+handlers_by sec.Handler k x n h b y e m p = absurd (cc)
+handlers_by sec.Body k x n h b y e m p = absurd (cc)
+handlers_by sec.Handlers k x n h b y e m p = below_limit x.handlers n m (ap (λ k. passes_limit sec.Handlers k x) (sym e) ∙ p)
+handlers_by sec.Checks k x n h b y e m p = below_limit x.handlers n m (ap (λ k. passes_limit sec.Checks k x) (sym e) ∙ p)
+handlers_by sec.Bodies k x n h b y e m p = below_limit x.handlers n m (ap (λ k. passes_limit sec.Bodies k x) (sym e) ∙ p)
+handlers_by (sec.Kernel q) k x n h b y e m p = absurd (cc)
 
-bodies_by : (s : Section) (k : Option Keyword) (x : Seen) (n : ℕ) → in_handler s ≡ false → in_body s ≡ false → k ≡ Some key.Thread → x.bodies ≡ n → passes_limit s k x ≡ false → n < 256
-bodies_by sec.Handler k x n h b e m p = absurd (cc)
-bodies_by sec.Body k x n h b e m p = absurd (cc)
-bodies_by sec.Handlers k x n h b e m p = below_limit x.bodies n m (ap (λ k. passes_limit sec.Handlers k x) (sym e) ∙ p)
-bodies_by sec.Checks k x n h b e m p = below_limit x.bodies n m (ap (λ k. passes_limit sec.Checks k x) (sym e) ∙ p)
-bodies_by sec.Bodies k x n h b e m p = below_limit x.bodies n m (ap (λ k. passes_limit sec.Bodies k x) (sym e) ∙ p)
-bodies_by (sec.Kernel q) k x n h b e m p = below_limit x.bodies n m (ap (λ k. passes_limit (sec.Kernel q) k x) (sym e) ∙ p)
+bodies_by : (s : Section) (k : Option Keyword) (x : Seen) (n : ℕ) → in_handler s ≡ false → in_body s ≡ false → in_kernel s ≡ false → k ≡ Some key.Thread → x.bodies ≡ n → passes_limit s k x ≡ false → n < 256
+bodies_by sec.Handler k x n h b y e m p = absurd (cc)
+bodies_by sec.Body k x n h b y e m p = absurd (cc)
+bodies_by sec.Handlers k x n h b y e m p = below_limit x.bodies n m (ap (λ k. passes_limit sec.Handlers k x) (sym e) ∙ p)
+bodies_by sec.Checks k x n h b y e m p = below_limit x.bodies n m (ap (λ k. passes_limit sec.Checks k x) (sym e) ∙ p)
+bodies_by sec.Bodies k x n h b y e m p = below_limit x.bodies n m (ap (λ k. passes_limit sec.Bodies k x) (sym e) ∙ p)
+bodies_by (sec.Kernel q) k x n h b y e m p = absurd (cc)
 
 opens_handler : (k : Option Keyword) → is_handler k ≡ true → k ≡ Some key.Handler
 opens_handler (Some key.Handler) h = refl
@@ -163,10 +163,10 @@ module _ (d : DraftParts) (ws : List (List ℕ)) (kept : IsDraftInOrder d) where
     none = fine_line true (seen_of_draft d) ws fine
 
     few_handlers : begins ws ≡ Some key.Handler → length d.handlers < 256
-    few_handlers e = handlers_by d.section (begins ws) (seen_of_draft d) (length d.handlers) no_handler no_body e (λ i. with_open (no_handler i) (length d.handlers)) none.limit
+    few_handlers e = handlers_by d.section (begins ws) (seen_of_draft d) (length d.handlers) no_handler no_body no_kernel e (λ i. with_open (no_handler i) (length d.handlers)) none.limit
 
     few_bodies : begins ws ≡ Some key.Thread → length d.bodies < 256
-    few_bodies e = bodies_by d.section (begins ws) (seen_of_draft d) (length d.bodies) no_handler no_body e (λ i. with_open (no_body i) (length d.bodies)) none.limit
+    few_bodies e = bodies_by d.section (begins ws) (seen_of_draft d) (length d.bodies) no_handler no_body no_kernel e (λ i. with_open (no_body i) (length d.bodies)) none.limit
 
     pub handler_open_taken : is_handler (begins ws) ≡ true → Takes d (record d { section = sec.Handler }) ws
     handler_open_taken h =

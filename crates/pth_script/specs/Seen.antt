@@ -167,16 +167,17 @@ seen_of ls = record {
 
 -- ---- the rules that look above
 
--- one more than the open section may have, or than the text may have
+-- one more than the open section may have, or than the text may have. In a kernel only an `at` line counts
 abbrev pub passes_limit : Section → Option Keyword → Seen → Bool
 passes_limit sec.Handler (Some key.End) s = false
 passes_limit sec.Handler _ s = nat_le 64 s.lines
 passes_limit sec.Body (Some key.End) s = false
 passes_limit sec.Body _ s = nat_le 4096 s.lines
+passes_limit (sec.Kernel part) (Some key.At) s = is_full_of_stamps s.stamps
+passes_limit (sec.Kernel part) _ s = false
 passes_limit _ (Some key.Handler) s = nat_le 256 s.handlers
 passes_limit _ (Some key.Check) s = nat_le 256 s.checks
 passes_limit _ (Some key.Thread) s = nat_le 256 s.bodies
-passes_limit _ (Some key.At) s = is_full_of_stamps s.stamps
 passes_limit _ _ s = false
 
 -- its number is not the next one, or is there already, or doesn't rise

@@ -87,6 +87,7 @@ impl Draft {
         }
     }
 
+    /// Whether the open section, or the text, has no room for a line that begins so. In a kernel only an `at` line counts.
     fn passes_limit(&self, keyword: Option<Keyword>) -> bool
         requires { IsDraftInOrder (draft_parts self.now) }
         ensures { result ≡ passes_limit self.now.section keyword (seen_of_draft (draft_parts self.now)) }
@@ -96,10 +97,11 @@ impl Draft {
             (Section::Handler, _) => self.acts.len() >= 64,
             (Section::Body, Some(Keyword::End)) => false,
             (Section::Body, _) => self.body.len() >= 4096,
+            (Section::Kernel(_), Some(Keyword::At)) => self.kernel.is_full(),
+            (Section::Kernel(_), _) => false,
             (_, Some(Keyword::Handler)) => self.handlers_opened() >= 256,
             (_, Some(Keyword::Check)) => self.checks.len() >= 256,
             (_, Some(Keyword::Thread)) => self.bodies_opened() >= 256,
-            (_, Some(Keyword::At)) => self.kernel.is_full(),
             _ => false,
         }
     }
