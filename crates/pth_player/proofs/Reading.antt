@@ -15,7 +15,8 @@ use Rattle.pth_text.specs.declared.rule.Breach.TheVariants.{Limit, Of}
 use Rattle.pth_player.specs.FaultsOfErrors.{fault_of_read, fault_of_script}
 use Rattle.pth_player.specs.Objects.{AreHeld, Inputs, LosesRead, Object, ObjectCounts, ObjectRead, ObjectStood, cut, nothing, object_named, the_file, the_input}
 use Rattle.pth_player.specs.Output.{IsTheScript, given_script}
-use Rattle.pth_script.specs.Broken.{IsRefusal, text_limit}
+use Rattle.pth_script.specs.Broken.{IsRefusal}
+use Rattle.pth_script.specs.Limits.{text_limit}
 use Rattle.pth_player.specs.Play.{ReadsBytes, ReadsScript}
 use Rattle.pth_player.specs.Streams.{CountsRead, TakesUpTo}
 use Rattle.pth_player.specs.declared.streams.ReadFault.{ReadFault}

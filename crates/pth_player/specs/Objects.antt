@@ -2,7 +2,7 @@
 use Rattle.std.specs.Prelude.{◌≡◌, ◌+◌, ℕ, List, [], Option, Some, None, IfSome, Result, Ok, Err, codes, drop, take, if◌then◌else◌}
 use Rattle.std.specs.Str.{bytes_eq}
 use Rattle.pth_streams.specs.Faults.{Rose}
-use Rattle.pth_script.specs.Broken.{text_limit}
+use Rattle.pth_script.specs.Limits.{text_limit}
 use Rattle.pth_words.specs.CommandWords.{Asked}
 use Rattle.pth_player.specs.declared.streams.ReadFault.{ReadFault}
 use Rattle.pth_player.specs.declared.streams.ReadFault.TheVariants as read

@@ -1,6 +1,7 @@
 //! A machine run for a number of steps, and its transcript written piece by piece.
 
 ghost use Rattle.std.specs.Prelude.{◌≡◌, ◌≢◌, ◌≤◌, ◌+◌, ◌++◌, ◌⊎◌, IsFalse, IsTrue, OnOk};
+ghost use Rattle.pth_base.specs.Limits.{most_steps};
 ghost use Rattle.pth_model.specs.Course.{Course};
 ghost use Rattle.pth_model.specs.State.{Given};
 ghost use Rattle.pth_sched.specs.Running.{Stands, StandsAt};
@@ -117,7 +118,7 @@ pub fn drive<P: Program, O: Sink>(
     out: &mut O,
 ) -> Result<Outcome, SinkErr>
     requires nonzero { 1 ≤ piece }
-    requires few { machine.old.turn.steps + choice.now.steps ≤ 1000000000 }
+    requires few { machine.old.turn.steps + choice.now.steps ≤ most_steps }
     ensures written { (g : Given P) → StandsAt P.functions g 0 machine.old → Drives P.functions g (asked_of choice.now) (O.written out.old) (O.written out.new) (O.faults out.old) (O.faults out.new) result }
 {
     let mut marks = Marks::new(alloc);

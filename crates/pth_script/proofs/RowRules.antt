@@ -7,7 +7,8 @@ use Rattle.pth_text.specs.LineWords.{words_of}
 use Rattle.pth_text.specs.declared.rule.Rule.TheVariants as rule
 use Rattle.pth_script.specs.TextRows.{TextRow, is_comment, above, size_of}
 use Rattle.pth_script.specs.Seen.{seen_of}
-use Rattle.pth_script.specs.Broken.{row_breaks, says_wrong, said_breaks, is_first, is_long, end_breaks, is_open, text_limit, line_limit}
+use Rattle.pth_script.specs.Broken.{row_breaks, says_wrong, said_breaks, is_first, is_long, end_breaks, is_open}
+use Rattle.pth_script.specs.Limits.{text_limit, line_limit}
 use Rattle.pth_script.specs.RuleOrder.{first_broken}
 use Rattle.pth_text.specs.declared.rule.Breach.TheVariants.{Limit, Of}
 

@@ -8,7 +8,8 @@ use Rattle.pth_line.specs.Script.{Sections}
 use Rattle.pth_kernel.specs.Kernel.{KernelOf, started}
 use Rattle.pth_text.specs.Bytes.{code}
 use Rattle.pth_script.specs.TextRows.{TextRow, text_rows, onto_first, row_size, size_of}
-use Rattle.pth_script.specs.Broken.{broken, row_breaks, end_breaks, text_limit, IsRefusal, IsAccepted}
+use Rattle.pth_script.specs.Broken.{broken, row_breaks, end_breaks, IsRefusal, IsAccepted}
+use Rattle.pth_script.specs.Limits.{text_limit}
 use Rattle.pth_script.specs.RuleOrder.{first_broken}
 use Rattle.pth_script.specs.Drafts.{DraftParts, draft_parts, in_handler, in_body, rest_of_sections, ComesTo}
 use Rattle.pth_script.specs.Follows.{Follows, TakesRow, Reads, left_of, breach_error, IsReadAs}

@@ -6,6 +6,7 @@ use Rattle.pth_grammar.specs.declared.section.Section.TheVariants as sec
 use Rattle.pth_line.specs.declared.act_line.ActLine.{ActLine}
 use Rattle.pth_line.specs.declared.check.Check.{Check}
 use Rattle.pth_line.specs.declared.line.Line.{Line}
+use Rattle.pth_script.specs.Limits.{act_limit}
 use Rattle.pth_script.specs.Drafts.{DraftParts, seen_of_draft, IsDraftInOrder, ComesTo}
 use Rattle.pth_script.specs.KernelDrafts.{clock_with, IsKernelInOrder}
 use Rattle.pth_script.specs.Labels.{somes, labels_in, gotos_in}
@@ -34,7 +35,7 @@ module _ (k : KernelDraft) (blank : IsBlank k) where
   nothing_seen i = record { section = sec.Handlers; handlers = 0; checks = 0; bodies = 0; lines = 0; labels = []; gotos = []; next_open = blank.next_open i; live = blank.live i; stamps = reverse (blank.trace i) }
 
   pub nothing_kept : IsDraftInOrder (nothing k)
-  nothing_kept = record { no_acts = λ h. refl; no_lines = λ h. refl; few_acts = omega arith; short_handlers = All-nil (λ (t : List ActLine). length t ≤ 64); few_handlers = omega arith; few_bodies = omega arith; no_clock = λ h. blank.clock; no_entries = λ h. blank.trace; kernel = blank.kept }
+  nothing_kept = record { no_acts = λ h. refl; no_lines = λ h. refl; few_acts = omega arith; short_handlers = All-nil (λ (t : List ActLine). length t ≤ act_limit); few_handlers = omega arith; few_bodies = omega arith; no_clock = λ h. blank.clock; no_entries = λ h. blank.trace; kernel = blank.kept }
 
   pub nothing_makes : (ls : List (List (List ℕ))) → ComesTo (nothing k) ls (parts_of ls)
   nothing_makes ls = record { handlers = refl; checks = refl; bodies = refl; clock = ap (λ o. clock_with o ls) blank.clock; opens = none_more k.live.0 (opens_said ls) blank.live; trace = ap (λ t. somes t ++ trace_said ls) blank.trace }

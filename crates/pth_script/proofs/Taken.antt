@@ -16,14 +16,15 @@ use Rattle.pth_line.specs.declared.act_line.ActLine.{ActLine}
 use Rattle.pth_line.specs.declared.check.Check.{Check}
 use Rattle.pth_line.specs.declared.line.Line.{Line}
 use Rattle.pth_script.specs.Labels.{label_in, labels_in, has}
+use Rattle.pth_script.specs.Limits.{handler_limit, body_limit, act_limit}
 use Rattle.pth_script.specs.Seen.{Seen, passes_limit, misnumbered, is_check, is_end, is_handler, is_kernel}
 use Rattle.pth_script.specs.Drafts.{DraftParts, seen_of_draft, in_handler, in_body, in_kernel, with_open, handler_closed, IsClosed, IsDraftInOrder, IsFine, Takes}
 use Rattle.pth_script.proofs.Said.{BreaksNone, fine_line}
 use Rattle.pth_script.proofs.Keys.{line_begins}
 use Rattle.pth_script.proofs.Taking.{act_taken, handler_ended, line_taken, body_ended, handler_opened, body_opened, kernel_opened, check_taken}
 
-below_limit : (m n : ℕ) → m ≡ n → nat_le 256 m ≡ false → n < 256
-below_limit m n e h = grind (arith, nat_tests)
+below_limit : (most m n : ℕ) → m ≡ n → nat_le most m ≡ false → n < most
+below_limit most m n e h = grind (arith, nat_tests)
 
 not_body : (s : Section) → in_body s ≡ false → s ≡ sec.Body → ⊥
 not_body sec.Body h e = absurd (cc)
@@ -32,7 +33,7 @@ not_body _ h e = absurd (cc)
 true_not_false : true ≡ false → ⊥
 true_not_false e = absurd (cc)
 
-few_by : (k : Option Keyword) (s : Seen) → is_end k ≡ false → passes_limit sec.Handler k s ≡ false → s.lines < 64
+few_by : (k : Option Keyword) (s : Seen) → is_end k ≡ false → passes_limit sec.Handler k s ≡ false → s.lines < act_limit
 few_by (Some key.End) s e h = absurd (cc)
 few_by _ s e h = grind (arith, nat_tests)
 
@@ -48,20 +49,20 @@ not_none : {A : Type 0} (o : Option A) → is_some o ≡ true → o ≡ None →
 not_none (Some x) h e = absurd (cc)
 not_none None h e = absurd (cc)
 
-handlers_by : (s : Section) (k : Option Keyword) (x : Seen) (n : ℕ) → in_handler s ≡ false → in_body s ≡ false → in_kernel s ≡ false → k ≡ Some key.Handler → x.handlers ≡ n → passes_limit s k x ≡ false → n < 256
+handlers_by : (s : Section) (k : Option Keyword) (x : Seen) (n : ℕ) → in_handler s ≡ false → in_body s ≡ false → in_kernel s ≡ false → k ≡ Some key.Handler → x.handlers ≡ n → passes_limit s k x ≡ false → n < handler_limit
 handlers_by sec.Handler k x n h b y e m p = absurd (cc)
 handlers_by sec.Body k x n h b y e m p = absurd (cc)
-handlers_by sec.Handlers k x n h b y e m p = below_limit x.handlers n m (ap (λ k. passes_limit sec.Handlers k x) (sym e) ∙ p)
-handlers_by sec.Checks k x n h b y e m p = below_limit x.handlers n m (ap (λ k. passes_limit sec.Checks k x) (sym e) ∙ p)
-handlers_by sec.Bodies k x n h b y e m p = below_limit x.handlers n m (ap (λ k. passes_limit sec.Bodies k x) (sym e) ∙ p)
+handlers_by sec.Handlers k x n h b y e m p = below_limit handler_limit x.handlers n m (ap (λ k. passes_limit sec.Handlers k x) (sym e) ∙ p)
+handlers_by sec.Checks k x n h b y e m p = below_limit handler_limit x.handlers n m (ap (λ k. passes_limit sec.Checks k x) (sym e) ∙ p)
+handlers_by sec.Bodies k x n h b y e m p = below_limit handler_limit x.handlers n m (ap (λ k. passes_limit sec.Bodies k x) (sym e) ∙ p)
 handlers_by (sec.Kernel q) k x n h b y e m p = absurd (cc)
 
-bodies_by : (s : Section) (k : Option Keyword) (x : Seen) (n : ℕ) → in_handler s ≡ false → in_body s ≡ false → in_kernel s ≡ false → k ≡ Some key.Thread → x.bodies ≡ n → passes_limit s k x ≡ false → n < 256
+bodies_by : (s : Section) (k : Option Keyword) (x : Seen) (n : ℕ) → in_handler s ≡ false → in_body s ≡ false → in_kernel s ≡ false → k ≡ Some key.Thread → x.bodies ≡ n → passes_limit s k x ≡ false → n < body_limit
 bodies_by sec.Handler k x n h b y e m p = absurd (cc)
 bodies_by sec.Body k x n h b y e m p = absurd (cc)
-bodies_by sec.Handlers k x n h b y e m p = below_limit x.bodies n m (ap (λ k. passes_limit sec.Handlers k x) (sym e) ∙ p)
-bodies_by sec.Checks k x n h b y e m p = below_limit x.bodies n m (ap (λ k. passes_limit sec.Checks k x) (sym e) ∙ p)
-bodies_by sec.Bodies k x n h b y e m p = below_limit x.bodies n m (ap (λ k. passes_limit sec.Bodies k x) (sym e) ∙ p)
+bodies_by sec.Handlers k x n h b y e m p = below_limit body_limit x.bodies n m (ap (λ k. passes_limit sec.Handlers k x) (sym e) ∙ p)
+bodies_by sec.Checks k x n h b y e m p = below_limit body_limit x.bodies n m (ap (λ k. passes_limit sec.Checks k x) (sym e) ∙ p)
+bodies_by sec.Bodies k x n h b y e m p = below_limit body_limit x.bodies n m (ap (λ k. passes_limit sec.Bodies k x) (sym e) ∙ p)
 bodies_by (sec.Kernel q) k x n h b y e m p = absurd (cc)
 
 opens_handler : (k : Option Keyword) → is_handler k ≡ true → k ≡ Some key.Handler
@@ -124,12 +125,12 @@ module _ (d : DraftParts) (ws : List (List ℕ)) (kept : IsDraftInOrder d) where
     kept_h : IsDraftInOrder (record d { section = sec.Handler })
     kept_h = subst (λ s. IsDraftInOrder (record d { section = s })) at kept
 
-    few : IsFine d ws → is_end (begins ws) ≡ false → length d.acts + length d.body < 64
+    few : IsFine d ws → is_end (begins ws) ≡ false → length d.acts + length d.body < act_limit
     few fine e = few_by (begins ws) (seen_of_draft d) e (ap (λ s. passes_limit s (begins ws) (seen_of_draft d)) (sym at) ∙ (fine_line true (seen_of_draft d) ws fine).limit)
 
     pub act_line_taken : (a : ActLine) → IsFine d ws → is_end (begins ws) ≡ false → act_of ws ≡ Some a → Takes d (record d { acts = d.acts ++ a ∷ [] }) ws
     act_line_taken a fine e reads =
-        let small : length d.acts < 64 = omega (arith, few fine e) in
+        let small : length d.acts < act_limit = omega (arith, few fine e) in
         subst (λ s. Takes (record d { section = s }) (record d { section = s; acts = d.acts ++ a ∷ [] }) ws) (sym at) (act_taken d.handlers d.checks d.bodies d.acts d.body d.kernel ws a reads small kept_h)
 
     pub handler_end_taken : is_end (begins ws) ≡ true → Takes d (handler_closed d) ws
@@ -162,10 +163,10 @@ module _ (d : DraftParts) (ws : List (List ℕ)) (kept : IsDraftInOrder d) where
     none : BreaksNone true (seen_of_draft d) ws
     none = fine_line true (seen_of_draft d) ws fine
 
-    few_handlers : begins ws ≡ Some key.Handler → length d.handlers < 256
+    few_handlers : begins ws ≡ Some key.Handler → length d.handlers < handler_limit
     few_handlers e = handlers_by d.section (begins ws) (seen_of_draft d) (length d.handlers) no_handler no_body no_kernel e (λ i. with_open (no_handler i) (length d.handlers)) none.limit
 
-    few_bodies : begins ws ≡ Some key.Thread → length d.bodies < 256
+    few_bodies : begins ws ≡ Some key.Thread → length d.bodies < body_limit
     few_bodies e = bodies_by d.section (begins ws) (seen_of_draft d) (length d.bodies) no_handler no_body no_kernel e (λ i. with_open (no_body i) (length d.bodies)) none.limit
 
     pub handler_open_taken : is_handler (begins ws) ≡ true → Takes d (record d { section = sec.Handler }) ws

@@ -13,6 +13,7 @@ use Rattle.pth_kernel_lines.specs.declared.part.KernelPart.TheVariants as part
 use Rattle.pth_line.specs.declared.act_line.ActLine.{ActLine}
 use Rattle.pth_line.specs.declared.check.Check.{Check}
 use Rattle.pth_line.specs.declared.line.Line.{Line}
+use Rattle.pth_script.specs.Limits.{handler_limit, body_limit, act_limit}
 use Rattle.pth_script.specs.Labels.{somes, labels_in, gotos_in, label_in, goto_in, one_or_none, with_places}
 use Rattle.pth_script.specs.Meaning.{Parts, checks_of}
 use Rattle.pth_script.specs.Seen.{Seen, seen_past, opened, is_handler, is_check, is_thread, is_end}
@@ -69,13 +70,13 @@ shut_by sec.Body h = (refl, refl)
 -- ---- a line within a handler
 
 module _ (hs : Handlers) (cs : List Check) (bs : Bodies) (acts : List ActLine) (ls : List Line) (kd : KernelDraft) (ws : List (List ℕ)) where
-  pub act_taken : (a : ActLine) → act_of ws ≡ Some a → length acts < 64 → IsDraftInOrder (draft sec.Handler hs cs bs acts ls kd) → Takes (draft sec.Handler hs cs bs acts ls kd) (draft sec.Handler hs cs bs (acts ++ a ∷ []) ls kd) ws
+  pub act_taken : (a : ActLine) → act_of ws ≡ Some a → length acts < act_limit → IsDraftInOrder (draft sec.Handler hs cs bs acts ls kd) → Takes (draft sec.Handler hs cs bs acts ls kd) (draft sec.Handler hs cs bs (acts ++ a ∷ []) ls kd) ws
   act_taken a e few kept =
       let k = act_begins ws a e in
       let d = draft sec.Handler hs cs bs acts ls kd in
       record {
         seen = (λ i. record (seen_of_draft d) { lines = one_more acts a (length ls) i }) ∙ sym (script_only ws (seen_of_draft d) k.inner.outside.opening k.inner.outside.stamp ∙ k.past (numbered ws) (seen_of_draft d));
-        kept = record { no_acts = λ h. absurd (cc); no_lines = kept.no_lines; few_acts = more_below acts a 64 few; short_handlers = kept.short_handlers; few_handlers = kept.few_handlers; few_bodies = kept.few_bodies; no_clock = kept.no_clock; no_entries = kept.no_entries; kernel = kept.kernel };
+        kept = record { no_acts = λ h. absurd (cc); no_lines = kept.no_lines; few_acts = more_below acts a act_limit few; short_handlers = kept.short_handlers; few_handlers = kept.few_handlers; few_bodies = kept.few_bodies; no_clock = kept.no_clock; no_entries = kept.no_entries; kernel = kept.kernel };
         makes = λ rest parts m. let past = kernel_past ws rest kd parts k.inner.outside (kernel_comes d (ws ∷ rest) parts m) in record {
           handlers = ap (λ t. map somes hs ++ rest_of_sections is_handler act_of true t rest) (read_more acts a (act_of ws) e) ∙ ap (λ t. map somes hs ++ t) (sym (rest_more is_handler act_of (somes acts) ws rest k.inner.end k.inner.handler)) ∙ m.handlers;
           checks = ap (λ t. somes cs ++ t) (sym (checks_past ws rest k.inner.check)) ∙ m.checks;
@@ -93,7 +94,7 @@ module _ (hs : Handlers) (cs : List Check) (bs : Bodies) (acts : List ActLine) (
       let none : ls ≡ [] = kept.no_lines refl in
       record {
         seen = (λ i. record (opened sec.Handlers (seen_of_draft d)) { handlers = ended hs acts i; lines = 0 + length (none i); labels = labels_in (none i); gotos = gotos_in (none i) }) ∙ sym (past_by ws (seen_of_draft d) _ e refl refl);
-        kept = record { no_acts = λ h. refl; no_lines = kept.no_lines; few_acts = omega arith; short_handlers = All-append (λ (t : List ActLine). length t ≤ 64) hs (acts ∷ []) kept.short_handlers (All-cons (λ (t : List ActLine). length t ≤ 64) acts [] kept.few_acts (All-nil (λ (t : List ActLine). length t ≤ 64))); few_handlers = omega (arith, length-append hs (acts ∷ []), kept.few_handlers); few_bodies = kept.few_bodies; no_clock = kept.no_clock; no_entries = kept.no_entries; kernel = kept.kernel };
+        kept = record { no_acts = λ h. refl; no_lines = kept.no_lines; few_acts = omega arith; short_handlers = All-append (λ (t : List ActLine). length t ≤ act_limit) hs (acts ∷ []) kept.short_handlers (All-cons (λ (t : List ActLine). length t ≤ act_limit) acts [] kept.few_acts (All-nil (λ (t : List ActLine). length t ≤ act_limit))); few_handlers = omega (arith, length-append hs (acts ∷ []), kept.few_handlers); few_bodies = kept.few_bodies; no_clock = kept.no_clock; no_entries = kept.no_entries; kernel = kept.kernel };
         makes = λ rest parts m. let past = kernel_past ws rest kd parts (outside_by ws _ e refl refl refl) (kernel_comes d (ws ∷ rest) parts m) in record {
           handlers = ap (λ t. t ++ rest_of_sections is_handler act_of false [] rest) (map_push somes hs acts) ∙ append_assoc (map somes hs) (somes acts ∷ []) (rest_of_sections is_handler act_of false [] rest) ∙ ap (λ t. map somes hs ++ t) (sym (rest_end is_handler act_of (somes acts) ws rest (ap is_end e) (ap is_handler e))) ∙ m.handlers;
           checks = ap (λ t. somes cs ++ t) (sym (checks_past ws rest (ap is_check e))) ∙ m.checks;
@@ -154,10 +155,10 @@ module _ (hs : Handlers) (cs : List Check) (bs : Bodies) (acts : List ActLine) (
     shut : (to : Section) → opened to (seen_of_draft (draft s hs cs bs acts ls kd)) ≡ record { section = to; handlers = length hs; checks = length cs; bodies = length bs; lines = 0; labels = []; gotos = []; next_open = kd.next_open; live = kd.live.0; stamps = reverse kd.trace }
     shut to i = record { section = to; handlers = with_open (no_handler i) (length hs); checks = length cs; bodies = with_open (no_body i) (length bs); lines = 0; labels = []; gotos = []; next_open = kd.next_open; live = kd.live.0; stamps = reverse kd.trace }
 
-    few_handlers : length hs ≤ 256
+    few_handlers : length hs ≤ handler_limit
     few_handlers = omega (arith, ap (λ b. with_open b (length hs)) no_handler, kept.few_handlers)
 
-    few : length bs ≤ 256
+    few : length bs ≤ body_limit
     few = omega (arith, ap (λ b. with_open b (length bs)) no_body, kept.few_bodies)
 
     -- what is seen where a section was opened, or a check was read
@@ -196,7 +197,7 @@ module _ (hs : Handlers) (cs : List Check) (bs : Bodies) (acts : List ActLine) (
       no_entries : kd.trace ≡ []
       no_entries = kept.no_entries (shut_by s no_kernel).1
 
-      kept_in : (to : Section) → with_open (in_handler to) (length hs) ≤ 256 → with_open (in_body to) (length bs) ≤ 256 → IsDraftInOrder (draft to hs cs bs acts ls kd)
+      kept_in : (to : Section) → with_open (in_handler to) (length hs) ≤ handler_limit → with_open (in_body to) (length bs) ≤ body_limit → IsDraftInOrder (draft to hs cs bs acts ls kd)
       kept_in to h b = record { no_acts = λ h. no_acts; no_lines = λ h. no_lines; few_acts = kept.few_acts; short_handlers = kept.short_handlers; few_handlers = h; few_bodies = b; no_clock = λ h. no_clock; no_entries = λ h. no_entries; kernel = kept.kernel }
 
       pub kernel_opened : begins ws ≡ Some key.Kernel → Takes (draft s hs cs bs acts ls kd) (draft (sec.Kernel part.Head) hs cs bs acts ls kd) ws
@@ -204,7 +205,7 @@ module _ (hs : Handlers) (cs : List Check) (bs : Bodies) (acts : List ActLine) (
           part_taken part.Head kd (past_by ws (seen_of_draft (draft s hs cs bs acts ls kd)) _ e refl refl) (ap is_handler e) (ap is_check e) (ap is_thread e) (λ h. no_clock) (λ h. no_entries) kept.kernel
           (λ rest p m. kernel_past ws rest kd p (outside_by ws _ e refl refl refl) m)
 
-      pub handler_opened : begins ws ≡ Some key.Handler → length hs < 256 → Takes (draft s hs cs bs acts ls kd) (draft sec.Handler hs cs bs acts ls kd) ws
+      pub handler_opened : begins ws ≡ Some key.Handler → length hs < handler_limit → Takes (draft s hs cs bs acts ls kd) (draft sec.Handler hs cs bs acts ls kd) ws
       handler_opened e fewer =
           let d = draft s hs cs bs acts ls kd in
           record {
@@ -220,7 +221,7 @@ module _ (hs : Handlers) (cs : List Check) (bs : Bodies) (acts : List ActLine) (
             };
           }
 
-      pub body_opened : begins ws ≡ Some key.Thread → length bs < 256 → Takes (draft s hs cs bs acts ls kd) (draft sec.Body hs cs bs acts ls kd) ws
+      pub body_opened : begins ws ≡ Some key.Thread → length bs < body_limit → Takes (draft s hs cs bs acts ls kd) (draft sec.Body hs cs bs acts ls kd) ws
       body_opened e fewer =
           let d = draft s hs cs bs acts ls kd in
           record {

@@ -9,18 +9,12 @@ use Rattle.pth_kernel_lines.specs.KernelLines.{stamp_line}
 use Rattle.pth_text.specs.declared.rule.Rule.TheVariants as rule
 use Rattle.pth_grammar.specs.declared.section.Section.{Section}
 use Rattle.pth_grammar.specs.declared.section.Section.TheVariants as sec
+use Rattle.pth_script.specs.Limits.{text_limit, line_limit}
 use Rattle.pth_script.specs.TextRows.{TextRow, text_rows, size_of, is_comment, above}
 use Rattle.pth_script.specs.Seen.{Seen, seen_of, passes_limit, misnumbered, leaves_goto, lacks_body, is_early, misuses_fd}
 use Rattle.pth_script.specs.RuleOrder.{first_broken}
 use Rattle.pth_text.specs.declared.rule.Breach.{Breach}
 use Rattle.pth_text.specs.declared.rule.Breach.TheVariants.{Limit, Of}
-
--- the bytes that an input may have, and a line without its LF
-unfoldable pub text_limit : ℕ
-text_limit = 16777216
-
-unfoldable pub line_limit : ℕ
-line_limit = 8192
 
 -- ---- a line of words
 

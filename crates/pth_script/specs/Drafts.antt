@@ -8,6 +8,7 @@ use Rattle.pth_line.specs.declared.act_line.ActLine.{ActLine}
 use Rattle.pth_line.specs.declared.check.Check.{Check}
 use Rattle.pth_line.specs.declared.line.Line.{Line}
 use Rattle.pth_script.specs.Labels.{somes, labels_in, gotos_in, with_places}
+use Rattle.pth_script.specs.Limits.{handler_limit, body_limit, act_limit}
 use Rattle.pth_script.specs.Meaning.{Parts, until_end, sections_read, checks_of, opens_said, trace_said}
 use Rattle.pth_kernel_lines.specs.declared.part.KernelPart.TheVariants as part
 use Rattle.pth_script.specs.Seen.{Seen, seen_past, is_handler, is_thread}
@@ -90,10 +91,10 @@ seen_of_draft d = record {
 pub record IsDraftInOrder (d : DraftParts) : Type 0 where
   pub no_acts : in_handler d.section ≡ false → d.acts ≡ []
   pub no_lines : in_body d.section ≡ false → d.body ≡ []
-  pub few_acts : length d.acts ≤ 64
-  pub short_handlers : All (λ (acts : List ActLine). length acts ≤ 64) d.handlers
-  pub few_handlers : with_open (in_handler d.section) (length d.handlers) ≤ 256
-  pub few_bodies : with_open (in_body d.section) (length d.bodies) ≤ 256
+  pub few_acts : length d.acts ≤ act_limit
+  pub short_handlers : All (λ (acts : List ActLine). length acts ≤ act_limit) d.handlers
+  pub few_handlers : with_open (in_handler d.section) (length d.handlers) ≤ handler_limit
+  pub few_bodies : with_open (in_body d.section) (length d.bodies) ≤ body_limit
   pub no_clock : below_part d.section ≡ false → d.kernel.clock ≡ None
   pub no_entries : in_entries d.section ≡ false → d.kernel.trace ≡ []
   pub kernel : IsKernelInOrder d.kernel

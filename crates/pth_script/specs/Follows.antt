@@ -4,7 +4,8 @@ use Rattle.pth_line.specs.Script.{Sections}
 use Rattle.pth_script.specs.TextRows.{TextRow, text_rows, size_of, above}
 use Rattle.pth_script.specs.Seen.{seen_of}
 use Rattle.pth_script.specs.RuleOrder.{first_broken}
-use Rattle.pth_script.specs.Broken.{is_first, row_breaks, broken, text_limit, IsRefusal, IsAccepted}
+use Rattle.pth_script.specs.Broken.{is_first, row_breaks, broken, IsRefusal, IsAccepted}
+use Rattle.pth_script.specs.Limits.{text_limit}
 use Rattle.pth_kernel.specs.Kernel.{KernelOf, kernel_of}
 use Rattle.pth_script.specs.Meaning.{Parts, said, parts_of_text, IsScriptOf, IsKernelOf}
 use Rattle.pth_script.specs.Drafts.{draft_parts, seen_of_draft, IsDraftInOrder, ComesTo}

@@ -1,3 +1,4 @@
+pub mod Limits
 pub mod TextRows
 pub mod RuleOrder
 pub mod Labels

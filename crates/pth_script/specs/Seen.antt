@@ -13,6 +13,7 @@ use Rattle.pth_kernel.specs.Trace.{is_before_last, breaks_fd, is_full_of_stamps}
 use Rattle.pth_kernel_lines.specs.declared.part.KernelPart.TheVariants as part
 use Rattle.pth_kernel_lines.specs.KernelLines.{open_line, stamp_line}
 use Rattle.pth_script.specs.Labels.{has}
+use Rattle.pth_script.specs.Limits.{handler_limit, check_limit, body_limit, act_limit, body_line_limit}
 
 -- ---- the section of a line
 
@@ -170,14 +171,14 @@ seen_of ls = record {
 -- one more than the open section may have, or than the text may have. In a kernel only an `at` line counts
 abbrev pub passes_limit : Section → Option Keyword → Seen → Bool
 passes_limit sec.Handler (Some key.End) s = false
-passes_limit sec.Handler _ s = nat_le 64 s.lines
+passes_limit sec.Handler _ s = nat_le act_limit s.lines
 passes_limit sec.Body (Some key.End) s = false
-passes_limit sec.Body _ s = nat_le 4096 s.lines
+passes_limit sec.Body _ s = nat_le body_line_limit s.lines
 passes_limit (sec.Kernel part) (Some key.At) s = is_full_of_stamps s.stamps
 passes_limit (sec.Kernel part) _ s = false
-passes_limit _ (Some key.Handler) s = nat_le 256 s.handlers
-passes_limit _ (Some key.Check) s = nat_le 256 s.checks
-passes_limit _ (Some key.Thread) s = nat_le 256 s.bodies
+passes_limit _ (Some key.Handler) s = nat_le handler_limit s.handlers
+passes_limit _ (Some key.Check) s = nat_le check_limit s.checks
+passes_limit _ (Some key.Thread) s = nat_le body_limit s.bodies
 passes_limit _ _ s = false
 
 -- its number is not the next one, or is there already, or doesn't rise

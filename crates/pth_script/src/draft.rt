@@ -16,6 +16,7 @@ ghost use Rattle.pth_text.specs.declared.rule.Rule.TheVariants as rule;
 
 use crate::body::Body;
 use crate::kernel_draft::KernelDraft;
+use crate::limits::{MOST_ACTS, MOST_BODIES, MOST_CHECKS, MOST_HANDLERS, MOST_LINES};
 use pth_base::memory::OutOfMemory;
 use pth_grammar::fault::words_fault;
 use pth_grammar::lines::{act_line, check_line, line, numbered};
@@ -94,14 +95,14 @@ impl Draft {
     {
         match (self.section, keyword) {
             (Section::Handler, Some(Keyword::End)) => false,
-            (Section::Handler, _) => self.acts.len() >= 64,
+            (Section::Handler, _) => self.acts.len() >= MOST_ACTS,
             (Section::Body, Some(Keyword::End)) => false,
-            (Section::Body, _) => self.body.len() >= 4096,
+            (Section::Body, _) => self.body.len() >= MOST_LINES,
             (Section::Kernel(_), Some(Keyword::At)) => self.kernel.is_full(),
             (Section::Kernel(_), _) => false,
-            (_, Some(Keyword::Handler)) => self.handlers_opened() >= 256,
-            (_, Some(Keyword::Check)) => self.checks.len() >= 256,
-            (_, Some(Keyword::Thread)) => self.bodies_opened() >= 256,
+            (_, Some(Keyword::Handler)) => self.handlers_opened() >= MOST_HANDLERS,
+            (_, Some(Keyword::Check)) => self.checks.len() >= MOST_CHECKS,
+            (_, Some(Keyword::Thread)) => self.bodies_opened() >= MOST_BODIES,
             _ => false,
         }
     }

@@ -5,6 +5,7 @@ mod body;
 mod draft;
 mod kernel_draft;
 pub mod laws;
+pub mod limits;
 pub mod read;
 mod reader;
 mod rows;

@@ -5,6 +5,7 @@ ghost use Rattle.pth_script.specs.Drafts.{draft_parts, IsDraftInOrder};
 ghost use Rattle.pth_script.specs.Follows.{IsReadAs, Reads, breach_error};
 ghost use Rattle.pth_script.specs.TextRows.{TextRow};
 
+use crate::limits::TEXT_LIMIT;
 use crate::reader::{Fault, Reader};
 use crate::rows::first_row;
 use pth_base::memory::OutOfMemory;
@@ -13,9 +14,6 @@ use pth_line::script::Script;
 use pth_text::rule::{Breach, Rule};
 use std::alloc::Global;
 use thiserror::Error;
-
-/// How many bytes an input may have. What stands after one byte more need not be read.
-pub const TEXT_LIMIT: usize = 16_777_216;
 
 /// Why no script was read: a line breaks a rule or passes a limit, or memory ran out. Lines are numbered from 1, and the
 /// place after the last line counts as a line.

@@ -1,15 +1,17 @@
 //! A reader of lines.
 
 ghost use Rattle.std.specs.Prelude.{◌≡◌, ◌≤◌, List, [], drop, length, option_map, IsNone, true, false};
-ghost use Rattle.pth_script.specs.Broken.{end_breaks, line_limit};
+ghost use Rattle.pth_script.specs.Broken.{end_breaks};
 ghost use Rattle.pth_script.specs.Drafts.{draft_parts, IsClosable, IsDraftInOrder, ComesTo};
 ghost use Rattle.pth_script.specs.Follows.{Follows, Goes, left_of};
+ghost use Rattle.pth_script.specs.Limits.{line_limit};
 ghost use Rattle.pth_script.specs.Meaning.{said, parts_of};
 ghost use Rattle.pth_script.specs.TextRows.{TextRow, is_comment};
 ghost use Rattle.pth_script.specs.RuleOrder.{first_broken};
 ghost use Rattle.pth_text.specs.declared.rule.Breach.TheVariants.{Of};
 
 use crate::draft::Draft;
+use crate::limits::LINE_LIMIT;
 use crate::rows::is_comment;
 use pth_base::memory::OutOfMemory;
 use pth_grammar::section::Section;
@@ -17,9 +19,6 @@ use pth_kernel_lines::lines::stamp_line;
 use pth_text::rule::{Breach, Rule};
 use pth_text::words::words;
 use std::alloc::Global;
-
-// A line has at most so many bytes, without its LF.
-const LINE_LIMIT: usize = 8192;
 
 /// Why a line was not taken.
 #[derive(Clone, Copy, Debug, PartialEq, Eq)]

@@ -1,4 +1,5 @@
 ghost use Rattle.std.specs.Prelude.{◌≤◌, ◌+◌};
+ghost use Rattle.pth_base.specs.Limits.{most_steps};
 
 use crate::comparison::same_text;
 use crate::pieces::machine_of;
@@ -32,7 +33,7 @@ fn idle_on<P: Program>(
     marks: &mut Marks,
     text: &mut String,
 ) -> Result<bool, AllocError>
-    requires few { machine.old.turn.steps + 100 ≤ 1000000000 }
+    requires few { machine.old.turn.steps + 100 ≤ most_steps }
 {
     match machine.turn(100, marks) {
         Outcome::Running => {}
@@ -85,7 +86,7 @@ fn pass_after_idle<P: Program>(
     marks: &mut Marks,
     text: &mut String,
 ) -> Result<bool, AllocError>
-    requires few { machine.old.turn.steps + 10 ≤ 1000000000 }
+    requires few { machine.old.turn.steps + 10 ≤ most_steps }
 {
     match machine.turn(10, marks) {
         Outcome::Running => {}

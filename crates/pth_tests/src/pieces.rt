@@ -1,4 +1,5 @@
 ghost use Rattle.std.specs.Prelude.{◌≡◌, ◌≤◌, ◌+◌, IfOk};
+ghost use Rattle.pth_base.specs.Limits.{most_steps};
 
 use crate::comparison::same_bytes;
 use crate::playing::{SCRIPT, TRANSCRIPT};
@@ -50,7 +51,7 @@ fn drive_on<P: Program>(
     piece: u64,
     out: &mut SureSink,
 ) -> bool
-    requires few { machine.old.turn.steps + choice.now.steps ≤ 1000000000 }
+    requires few { machine.old.turn.steps + choice.now.steps ≤ most_steps }
     requires nonzero { 1 ≤ piece }
 {
     drive(alloc, machine, choice, piece, out).is_ok()

@@ -1,4 +1,5 @@
 ghost use Rattle.std.specs.Prelude.{◌≤◌, ◌+◌};
+ghost use Rattle.pth_base.specs.Limits.{most_steps};
 
 use crate::comparison::same_text;
 use crate::pieces::machine;
@@ -14,7 +15,7 @@ const TURNS: &str = "2 3; 3 5; 4 7; 4 7; ";
 
 /// Makes a turn of at most 100 steps.
 fn turn_on<P: Program>(machine: &mut Machine<P>, marks: &mut Marks)
-    requires few { machine.old.turn.steps + 100 ≤ 1000000000 }
+    requires few { machine.old.turn.steps + 100 ≤ most_steps }
 {
     let _outcome = machine.turn(100, marks);
 }

@@ -10,6 +10,7 @@ use Rattle.std.specs.Str.Parse.{digits_value, without_leading_plus}
 use Rattle.std.proofs.lemmas.Slice.Eq.{bytes_eq-Decides}
 use Rattle.std.proofs.lemmas.Bool.{eqb-true}
 use Rattle.std.proofs.lemmas.List.Elements.{All-cons, All-get_or, All-nil, All-weaker}
+use Rattle.pth_base.specs.Limits.{most_steps}
 use Rattle.clap.specs.Words.{Accepts, App, IsParsedFrom, Rule, app_of, args_of, found_of, groups_of, matched_of, one_of, parser_of, read_as, reading_of, rows_of, rule_of}
 use Rattle.clap.specs.ValueTests.{accepts}
 use Rattle.clap.specs.Built.{IsAuto, NamesNoGroup, SameRules}
@@ -28,7 +29,7 @@ use Rattle.clap.specs.declared.parser.matches.MatchedArg.{MatchedArg}
 use Rattle.clap.proofs.CallerLemmas.{entry_by_id, same_rules_by_id}
 use Rattle.clap.proofs.WalkLemmas.{one_text-rows}
 use Rattle.clap.proofs.ValueTestLemmas.{Accepts-accepts}
-use Rattle.pth_words.specs.Command.{file_rule, play, steps_rule, summary_rule}
+use Rattle.pth_words.specs.Command.{default_steps, file_rule, play, steps_rule, summary_rule}
 use Rattle.pth_words.specs.CommandWords.{Asked, asked_in, unsigned_of}
 
 -- the rules after that of the steps
@@ -67,15 +68,15 @@ no_groups : (a : Arg) → (rule_of a).is_simple ≡ true → a.groups.items ≡ 
 no_groups a h = none_in a.groups.items (and_left _ _ (and_right _ _ (and_right _ _ h)))
 
 -- the number that a text reads as, where it lies in the range
-number_in : (t : List ℕ) → Accepts false (parser.Unsigned 1 1000000000) t → (n : ℕ) × (unsigned_of t ≡ Some n) × (1 ≤ n) × (n ≤ 1000000000)
+number_in : (t : List ℕ) → Accepts false (parser.Unsigned 1 most_steps) t → (n : ℕ) × (unsigned_of t ≡ Some n) × (1 ≤ n) × (n ≤ most_steps)
 number_in t h =
     let test : accepts false (parser.Unsigned 0 18446744073709551615) t ≡ true =
     Accepts-accepts false (parser.Unsigned 0 18446744073709551615) t (h.0, h.1, omega arith, let most = h.3 in omega arith) in
     (digits_value 10 (without_leading_plus t), rw test refl, h.2, h.3)
 
--- the number under a name, or the number where nothing is said
-within : (o : Option (List ℕ)) → ((t : List ℕ) → o ≡ Some t → Accepts false (parser.Unsigned 1 1000000000) t)
-    → (1 ≤ unwrap_or (option_and_then unsigned_of o) 1000000) × (unwrap_or (option_and_then unsigned_of o) 1000000 ≤ 1000000000)
+-- the number under a name, or the number if nothing is said
+within : (o : Option (List ℕ)) → ((t : List ℕ) → o ≡ Some t → Accepts false (parser.Unsigned 1 most_steps) t)
+    → (1 ≤ unwrap_or (option_and_then unsigned_of o) default_steps) × (unwrap_or (option_and_then unsigned_of o) default_steps ≤ most_steps)
 within None h = (omega arith, omega arith)
 within (Some t) h =
     let n = number_in t (h t refl) in
@@ -149,7 +150,7 @@ module _ (c : Command) (m : ArgMatches) (p : IsParsedFrom c m) (shape : app_of c
   first_id : first.id.now ≡ codes "steps"
   first_id = ap (λ (r : Rule). r.id) args.3
 
-  first_parser : first.value_parser ≡ Some (parser.Unsigned 1 1000000000)
+  first_parser : first.value_parser ≡ Some (parser.Unsigned 1 most_steps)
   first_parser = ap (λ (r : Rule). r.parser) args.3
 
   -- no other argument has its name
@@ -167,11 +168,11 @@ module _ (c : Command) (m : ArgMatches) (p : IsParsedFrom c m) (shape : app_of c
       (same_rules_by_id c m p 0 first (subst (λ (l : List Arg). 0 < length l) (sym args.2) (omega arith)) alone own j x lt at
       (subst (λ (t : List ℕ). bytes_eq x.id.now t ≡ true) (sym (ap (λ (a : Arg). a.id.now) (at_first first) ∙ first_id)) same))
 
-  parser_by_id : (x : Arg) → SameRules first x → parser_of x ≡ parser.Unsigned 1 1000000000
-  parser_by_id x s = ap parser_of_value (s.parser (parser.Unsigned 1 1000000000) first_parser)
+  parser_by_id : (x : Arg) → SameRules first x → parser_of x ≡ parser.Unsigned 1 most_steps
+  parser_by_id x s = ap parser_of_value (s.parser (parser.Unsigned 1 most_steps) first_parser)
 
   -- a value of it passed its parser
-  passes : (v : List ℕ) → PassesArg p.built (codes "steps") v → Accepts false (parser.Unsigned 1 1000000000) v
+  passes : (v : List ℕ) → PassesArg p.built (codes "steps") v → Accepts false (parser.Unsigned 1 most_steps) v
   passes v pass = subst (λ (q : ValueParser). Accepts pass.1.ignore_case q v) (parser_by_id pass.1 (rules_by_id pass.0 pass.1 pass.2 pass.3 pass.4.0)) pass.4.1
 
   -- and is read as it was written
@@ -185,25 +186,25 @@ module _ (c : Command) (m : ArgMatches) (p : IsParsedFrom c m) (shape : app_of c
   ]
 
   passed_by : (e : Entry) → e.0.now ≡ codes "steps" → EntryPasses p.built e → (t : List ℕ) → option_map (λ s. read_as e.1.reading s.now) (slice_get e.1.vals.items 0) ≡ Some t
-      → Accepts false (parser.Unsigned 1 1000000000) t
-  passed_by e named pass t is = head_passes (Accepts false (parser.Unsigned 1 1000000000)) e.1.reading e.1.vals.items t
+      → Accepts false (parser.Unsigned 1 most_steps) t
+  passed_by e named pass t is = head_passes (Accepts false (parser.Unsigned 1 most_steps)) e.1.reading e.1.vals.items t
       (elim pass.4 [ inl g ↦ absurd (not_group e named pass g) | inr any ↦ reads e.1.reading (subst (λ (id : List ℕ). HasReading p.built id e.1.reading) named any) ])
       (elim pass.0 [
         | inl g ↦ absurd (not_group e named pass g)
-        | inr all ↦ All-weaker (λ v. PassesArg p.built e.0.now v.now) (λ v. Accepts false (parser.Unsigned 1 1000000000) v.now)
+        | inr all ↦ All-weaker (λ v. PassesArg p.built e.0.now v.now) (λ v. Accepts false (parser.Unsigned 1 most_steps) v.now)
             (λ v pass. passes v.now (subst (λ (id : List ℕ). PassesArg p.built id v.now) named pass)) e.1.vals.items all
       ])
       is
 
   -- the text that the parse found under its name passed its parser
   passed : (o : Option MatchedArg) → matched_of (found_of m) (codes "steps") ≡ o → (t : List ℕ)
-      → option_and_then (λ a. option_map (λ s. read_as a.reading s.now) (slice_get a.vals.items 0)) o ≡ Some t → Accepts false (parser.Unsigned 1 1000000000) t
+      → option_and_then (λ a. option_map (λ s. read_as a.reading s.now) (slice_get a.vals.items 0)) o ≡ Some t → Accepts false (parser.Unsigned 1 most_steps) t
   passed None found t is = cc
   passed (Some x) found t is =
       let e = entry_by_id (EntryPasses p.built) (found_of m).entries.items (codes "steps") x (p.parsed (p.from.globals ∙ no_globals)).values found in
       passed_by e.0 ((bytes_eq-Decides e.0.0.now (codes "steps")).0 e.2) e.3 t (subst (λ (a : MatchedArg). option_map (λ s. read_as a.reading s.now) (slice_get a.vals.items 0) ≡ Some t) (sym e.1) is)
 
   -- so the number of steps is in its range
-  pub steps_within : (x : Asked) → x ≡ asked_in (rows_of (found_of m)) → (1 ≤ x.steps) × (x.steps ≤ 1000000000)
-  steps_within x is = subst (λ (n : ℕ). (1 ≤ n) × (n ≤ 1000000000)) (sym (ap (λ (x : Asked). x.steps) is))
+  pub steps_within : (x : Asked) → x ≡ asked_in (rows_of (found_of m)) → (1 ≤ x.steps) × (x.steps ≤ most_steps)
+  steps_within x is = subst (λ (n : ℕ). (1 ≤ n) × (n ≤ most_steps)) (sym (ap (λ (x : Asked). x.steps) is))
       (within (one_of (codes "steps") (rows_of (found_of m))) (λ t text. passed (matched_of (found_of m) (codes "steps")) refl t (one_text-rows (found_of m) (codes "steps") ∙ text)))

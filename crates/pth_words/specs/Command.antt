@@ -1,15 +1,23 @@
 -- The command `pth_play [--steps N] [--summary] [FILE]`, as clap's description of it.
-use Rattle.std.specs.Prelude.{true, [], ◌∷◌, Some, codes}
-use Rattle.clap.specs.Words.{App, Rule, new_app, new_rule, with_rule}
+use Rattle.std.specs.Prelude.{ℕ, true, [], ◌∷◌, Some, codes}
+use Rattle.pth_base.specs.Limits.{most_steps}
+use Rattle.clap.specs.Words.{App, Rule, Text, new_app, new_rule, with_rule}
 use Rattle.clap.specs.declared.builder.ArgAction.TheVariants.{SetTrue}
 use Rattle.clap.specs.declared.builder.value_parser.ValueParser.TheVariants as parser
+
+-- how many steps a run makes at most if the words do not say it: as a number, and as a word
+abbrev pub default_steps : ℕ
+default_steps = 1000000
+
+abbrev pub default_text : Text
+default_text = codes "1000000"
 
 -- how many steps a run makes at most
 abbrev pub steps_rule : Rule
 steps_rule = record (new_rule (codes "steps")) {
   long = Some (codes "steps");
-  parser = Some (parser.Unsigned 1 1000000000);
-  defaults = codes "1000000" ∷ [];
+  parser = Some (parser.Unsigned 1 most_steps);
+  defaults = default_text ∷ [];
 }
 
 -- a line of counts in place of the transcript

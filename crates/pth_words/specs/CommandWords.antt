@@ -6,7 +6,7 @@ use Rattle.std.specs.Str.Parse.{digits_value, true_text, without_leading_plus}
 use Rattle.clap.specs.ValueTests.{accepts}
 use Rattle.clap.specs.Words.{Kinds, Row, Text, fault_of, first_of, matches_of, one_of}
 use Rattle.clap.specs.declared.builder.value_parser.ValueParser.TheVariants as parser
-use Rattle.pth_words.specs.Command.{play}
+use Rattle.pth_words.specs.Command.{play, default_steps}
 use Rattle.pth_words.specs.declared.choice.Choice.{Choice}
 use Rattle.pth_words.specs.declared.words.WordsErr.{WordsErr}
 use Rattle.pth_words.specs.declared.words.WordsErr.TheVariants as words
@@ -35,7 +35,7 @@ is_set name rows = option_map_or (λ text. bytes_eq text true_text) (one_of name
 -- what the rows of a parse say; the command has a default for the steps, so a number is always there
 abbrev pub asked_in : List Row → Asked
 asked_in rows = record {
-  steps = unwrap_or (number_under (codes "steps") rows) 1000000;
+  steps = unwrap_or (number_under (codes "steps") rows) default_steps;
   summary = is_set (codes "summary") rows;
   file = first_of (codes "FILE") rows;
 }

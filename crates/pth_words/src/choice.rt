@@ -6,10 +6,13 @@ ghost use Rattle.pth_words.specs.CommandWords.{asked_in, asked_of};
 
 use clap::ArgMatches;
 
+/// How many steps a run makes at most if the words do not say it.
+const DEFAULT_STEPS: u64 = 1_000_000;
+
 /// What the words of the command line ask for.
 #[derive(Clone, Copy, Debug, PartialEq, Eq)]
 pub struct Choice<'a> {
-    /// How many steps the run makes at most (`--steps`): 1 to 1,000,000,000, and 1,000,000 where nothing is said.
+    /// How many steps the run makes at most (`--steps`): 1 to 1,000,000,000, and 1,000,000 if the words do not say it.
     pub steps: u64,
     /// Whether a line of counts stands in place of the transcript (`--summary`).
     pub summary: bool,
@@ -23,7 +26,7 @@ pub fn found<'a>(matches: &ArgMatches<'a>) -> Choice<'a>
 {
     // The command has this number of steps as a default, so one is always found.
     Choice {
-        steps: matches.get_one::<u64>("steps").unwrap_or(1_000_000),
+        steps: matches.get_one::<u64>("steps").unwrap_or(DEFAULT_STEPS),
         summary: matches.get_one::<bool>("summary").unwrap_or(false),
         file: matches.get_str("FILE"),
     }

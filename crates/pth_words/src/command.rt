@@ -5,7 +5,11 @@ ghost use Rattle.clap.specs.Words.{app_of, rule_of};
 ghost use Rattle.pth_words.specs.Command.{bare, file_rule, play, steps_rule, summary_rule};
 
 use clap::{Arg, ArgAction, Command, value_parser};
+use pth_base::limits::MOST_STEPS;
 use std::alloc::{AllocError, Global};
+
+/// How many steps a run makes at most if the words do not say it, as a word.
+const DEFAULT_TEXT: &str = "1000000";
 
 fn steps<'a>(alloc: Global) -> Arg<'a>
     ensures rule { rule_of result ≡ steps_rule }
@@ -13,8 +17,8 @@ fn steps<'a>(alloc: Global) -> Arg<'a>
 {
     Arg::new(alloc, "steps")
         .long("steps")
-        .value_parser(value_parser!(u64).range(1..=1_000_000_000))
-        .default_value("1000000")
+        .value_parser(value_parser!(u64).range(1..=MOST_STEPS as i64))
+        .default_value(DEFAULT_TEXT)
 }
 
 fn summary<'a>(alloc: Global) -> Arg<'a>

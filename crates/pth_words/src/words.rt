@@ -1,6 +1,7 @@
 //! The words of the command line, read by the command's definition.
 
 ghost use Rattle.std.specs.Prelude.{◌≤◌, IfOk, map, string_bytes};
+ghost use Rattle.pth_base.specs.Limits.{most_steps};
 ghost use Rattle.pth_words.specs.CommandWords.{Chooses, asked_by};
 
 use crate::choice::{Choice, found};
@@ -22,7 +23,7 @@ pub enum WordsErr {
 /// for want of memory.
 pub fn read_words<'a>(alloc: Global, words: &'a Vec<String>) -> Result<Choice<'a>, WordsErr>
     ensures answers { Chooses (asked_by (map string_bytes words.now.items)) result }
-    ensures steps { IfOk result (λ choice. (1 ≤ choice.steps) × (choice.steps ≤ 1000000000)) }
+    ensures steps { IfOk result (λ choice. (1 ≤ choice.steps) × (choice.steps ≤ most_steps)) }
 {
     let Ok(command) = command(alloc) else {
         return Err(WordsErr::OutOfMemory);

@@ -1,7 +1,7 @@
 use Rattle.std.proofs.Common.{◌∙◌, ◌≤◌, ◌∷◌, [], ap, arith}
 use Rattle.std.proofs.lemmas.Bool.Decides.{nat_tests}
 use Rattle.pth_script.specs.TextRows.{TextRow, text_rows, size_of}
-use Rattle.pth_script.specs.Broken.{text_limit}
+use Rattle.pth_script.specs.Limits.{text_limit}
 use Rattle.pth_script.specs.Follows.{breach_error}
 use Rattle.pth_script.proofs.RowRules.{text_limit_is}
 use Rattle.pth_script.proofs.Runs.{broke, passes_size, breaks, reads_on, row_size_is, refused_answers, starts_reading, ends_reading, makes_cut}

@@ -4,6 +4,7 @@ use Rattle.std.specs.Str.{bytes_eq}
 use Rattle.std.specs.Str.Parse.{ParsesUnsigned, ParsesBool, ExplainsUnsignedError, HasUnsignedDigitsIfOk, true_text}
 use Rattle.clap.specs.Words.{found_of, one_text}
 use Rattle.clap.proofs.WalkLemmas.{first_value-rows, one_text-rows}
+use Rattle.pth_words.specs.Command.{default_steps}
 use Rattle.pth_words.specs.CommandWords.{unsigned_of}
 use Rattle.pth_words.proofs.Getters.{number_read, flag_read}
 use Rattle.pth_words.proofs.choice.found.Goals as goal
@@ -14,7 +15,7 @@ returns c =
     let number = number_read (λ bs r. ParsesUnsigned 64 10 bs r × ExplainsUnsignedError 10 bs r × HasUnsignedDigitsIfOk bs r)
     (one_text f (codes "steps")) c.get_one.result (λ u x g. g.0) c.get_one.ensures.none c.get_one.ensures.value in
     let flag = flag_read ParsesBool (one_text f (codes "summary")) c.get_one-2.result (λ u x g. g) c.get_one-2.ensures.none c.get_one-2.ensures.value in
-    let steps = c.unwrap_or.ensures ∙ ap (λ (o : Option ℕ). unwrap_or o 1000000) (number ∙ ap (option_and_then unsigned_of) (one_text-rows f (codes "steps"))) in
+    let steps = c.unwrap_or.ensures ∙ ap (λ (o : Option ℕ). unwrap_or o default_steps) (number ∙ ap (option_and_then unsigned_of) (one_text-rows f (codes "steps"))) in
     let summary = c.unwrap_or-2.ensures ∙ flag ∙ ap (λ (o : Option (List ℕ)). option_map_or (λ text. bytes_eq text true_text) o false) (one_text-rows f (codes "summary")) in
     let file = c.get_str.ensures ∙ first_value-rows f (codes "FILE") in
     λ i. record { steps = steps i; summary = summary i; file = file i }
