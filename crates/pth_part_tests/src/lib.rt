@@ -10,6 +10,8 @@ mod attributes;
 #[cfg(test)]
 mod codes;
 #[cfg(test)]
+mod command_line;
+#[cfg(test)]
 mod comparison;
 #[cfg(test)]
 mod copies;
@@ -41,5 +43,3 @@ mod texts;
 mod threads;
 #[cfg(test)]
 mod traces;
-#[cfg(test)]
-mod words;

@@ -9,7 +9,7 @@ use Rattle.pth_model.specs.Run.{run, IsBetween}
 use Rattle.pth_model.proofs.Runs.{between-more, between-none}
 use Rattle.pth_print.specs.MarkLines.{mark_line}
 use Rattle.pth_model.specs.Course.{Course}
-use Rattle.pth_words.specs.CommandWords.{Asked}
+use Rattle.pth_command.specs.CommandLine.{Asked}
 use Rattle.pth_player.specs.Transcript.{counts_line, ending_of, last_line, lines_of, shown_of, text_of}
 
 lines_more : (xs ys : List Mark) → lines_of (xs ++ ys) ≡ lines_of xs ++ lines_of ys

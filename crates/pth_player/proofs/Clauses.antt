@@ -14,7 +14,7 @@ use Rattle.pth_line.specs.Script.{Sections, functions_of}
 use Rattle.pth_model.specs.State.{Given}
 use Rattle.pth_script.proofs.Once.{not_both}
 use Rattle.pth_text.specs.declared.rule.Breach.{Breach}
-use Rattle.pth_words.specs.CommandWords.{Asked}
+use Rattle.pth_command.specs.CommandLine.{Asked}
 use Rattle.pth_player.specs.Objects.{AreHeld, ObjectRead, ObjectRose, ObjectStood, Scene, asked_object, content, cut}
 use Rattle.pth_player.specs.Output.{Output, IsRefused, IsTheOutput, IsTheScript, outcome_status, refusal, told_output}
 use Rattle.pth_player.specs.Play.{Completes, DrivesScript, Ends, Faults, HoldsNoScript, IsAtHand, IsFaultStatus, IsOutputStatus, IsRunStatus, IsUnwritten, Plays, Ran, RanFor, ReadsWhole, RefusesInput, RefusesWords, Reports, TellsFault, WritesLine, WritesOutput, WritesWhole}

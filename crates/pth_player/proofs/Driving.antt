@@ -22,7 +22,7 @@ use Rattle.pth_sched.specs.MachineOf.{MachineOf}
 use Rattle.pth_sched.specs.Running.{Stands, StandsAt, GoesOn}
 use Rattle.pth_sched.proofs.Stopping.{run_stops}
 use Rattle.pth_threads.specs.Threads.{number_of}
-use Rattle.pth_words.specs.CommandWords.{Asked}
+use Rattle.pth_command.specs.CommandLine.{Asked}
 use Rattle.pth_player.specs.Drive.{Drives}
 use Rattle.pth_player.specs.Output.{Output, IsRunOutput, told_output}
 use Rattle.pth_player.specs.Streams.{AppendsPart, AppendsPrefix}

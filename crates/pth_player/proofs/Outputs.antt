@@ -13,7 +13,7 @@ use Rattle.pth_sched.proofs.Stopping.{run_stops}
 use Rattle.pth_script.proofs.Whole.{accepted_or_refused, script_of}
 use Rattle.pth_script.proofs.Once.{not_both, one_script, one_kernel, same_breach, same_line}
 use Rattle.pth_player.specs.Output.{Output, IsOutput, IsRunOutput, IsTheOutput, IsTheScript, refusal, told_output}
-use Rattle.pth_words.specs.CommandWords.{Asked}
+use Rattle.pth_command.specs.CommandLine.{Asked}
 use Rattle.pth_player.specs.Objects.{Scene, content, cut}
 use Rattle.pth_player.specs.Play.{IsOutputStatus, WritesFault, WritesOutput}
 use Rattle.pth_player.specs.Streams.{AppendsPart}

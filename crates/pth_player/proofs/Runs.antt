@@ -8,10 +8,10 @@ use Rattle.pth_print.specs.declared.fault_line.Fault.{Fault}
 use Rattle.pth_print.specs.declared.fault_line.Fault.TheVariants as fault
 use Rattle.pth_kernel.specs.Kernel.{KernelOf}
 use Rattle.pth_line.specs.Script.{Sections, functions_of}
-use Rattle.pth_words.specs.CommandWords.{Chooses, Asked, asked_of}
-use Rattle.pth_words.specs.declared.choice.Choice.{Choice}
-use Rattle.pth_words.specs.declared.words.WordsErr.{WordsErr}
-use Rattle.pth_words.specs.declared.words.WordsErr.TheVariants as words
+use Rattle.pth_command.specs.CommandLine.{Chooses, Asked, asked_of}
+use Rattle.pth_command.specs.declared.choice.Choice.{Choice}
+use Rattle.pth_command.specs.declared.command_line.WordsErr.{WordsErr}
+use Rattle.pth_command.specs.declared.command_line.WordsErr.TheVariants as words
 use Rattle.pth_player.specs.FaultsOfErrors.{fault_of_sink, fault_of_words}
 use Rattle.pth_player.specs.Drive.{Drives}
 use Rattle.pth_player.specs.Objects.{Inputs, Object, ObjectStood, OthersUntouched, Scene, asked_object, nothing, scene, the_file, the_input}

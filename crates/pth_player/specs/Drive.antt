@@ -8,7 +8,7 @@ use Rattle.pth_streams.specs.declared.sink.SinkErr.{SinkErr}
 use Rattle.pth_streams.specs.declared.sink.SinkErr.TheVariants as sink
 use Rattle.pth_model.specs.State.{Given}
 use Rattle.pth_model.specs.Run.{run, GoesTo}
-use Rattle.pth_words.specs.CommandWords.{Asked}
+use Rattle.pth_command.specs.CommandLine.{Asked}
 use Rattle.pth_player.specs.Output.{Output, IsRunOutput, told_output}
 use Rattle.pth_player.specs.Streams.{AppendsPart, AppendsPrefix}
 

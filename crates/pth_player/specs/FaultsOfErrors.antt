@@ -6,8 +6,8 @@ use Rattle.pth_print.specs.declared.fault_line.Fault.TheVariants as fault
 use Rattle.pth_text.specs.declared.rule.Breach.TheVariants.{Limit, Of}
 use Rattle.pth_script.specs.declared.read.ReadErr.{ReadErr}
 use Rattle.pth_script.specs.declared.read.ReadErr.TheVariants as script
-use Rattle.pth_words.specs.declared.words.WordsErr.{WordsErr}
-use Rattle.pth_words.specs.declared.words.WordsErr.TheVariants as words
+use Rattle.pth_command.specs.declared.command_line.WordsErr.{WordsErr}
+use Rattle.pth_command.specs.declared.command_line.WordsErr.TheVariants as words
 use Rattle.pth_player.specs.declared.streams.ReadFault.{ReadFault}
 use Rattle.pth_player.specs.declared.streams.ReadFault.TheVariants as read
 

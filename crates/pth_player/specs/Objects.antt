@@ -3,7 +3,7 @@ use Rattle.std.specs.Prelude.{◌≡◌, ◌+◌, ℕ, List, [], Option, Some, N
 use Rattle.std.specs.Str.{bytes_eq}
 use Rattle.pth_streams.specs.Faults.{Rose}
 use Rattle.pth_script.specs.Limits.{text_limit}
-use Rattle.pth_words.specs.CommandWords.{Asked}
+use Rattle.pth_command.specs.CommandLine.{Asked}
 use Rattle.pth_player.specs.declared.streams.ReadFault.{ReadFault}
 use Rattle.pth_player.specs.declared.streams.ReadFault.TheVariants as read
 

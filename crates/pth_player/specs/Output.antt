@@ -14,7 +14,7 @@ use Rattle.pth_line.specs.Script.{Sections, functions_of}
 use Rattle.pth_script.specs.Broken.{IsAccepted, IsRefusal}
 use Rattle.pth_script.specs.Meaning.{IsScriptOf, IsKernelOf}
 use Rattle.pth_text.specs.declared.rule.Breach.{Breach}
-use Rattle.pth_words.specs.CommandWords.{Asked}
+use Rattle.pth_command.specs.CommandLine.{Asked}
 use Rattle.pth_player.specs.Objects.{cut}
 use Rattle.pth_player.specs.Transcript.{text_of}
 

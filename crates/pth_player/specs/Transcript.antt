@@ -10,7 +10,7 @@ use Rattle.pth_model.specs.Living.{live}
 use Rattle.pth_model.specs.State.{now_of}
 use Rattle.pth_print.specs.MarkLines.{mark_line}
 use Rattle.pth_print.specs.EndLines.{end_line, summary_line}
-use Rattle.pth_words.specs.CommandWords.{Asked}
+use Rattle.pth_command.specs.CommandLine.{Asked}
 use Rattle.pth_player.specs.Streams.{AppendsPart, AppendsPrefix}
 
 -- the lines of marks

@@ -5,7 +5,7 @@ ghost use Rattle.pth_base.specs.Limits.{most_steps};
 ghost use Rattle.pth_model.specs.Course.{Course};
 ghost use Rattle.pth_model.specs.State.{Given};
 ghost use Rattle.pth_sched.specs.Running.{Stands, StandsAt};
-ghost use Rattle.pth_words.specs.CommandWords.{asked_of};
+ghost use Rattle.pth_command.specs.CommandLine.{asked_of};
 ghost use Rattle.pth_player.specs.Drive.{Drives};
 ghost use Rattle.pth_player.specs.Transcript.{counts_of, ending_of, lines_of, shown_of, WritesPiece};
 
@@ -15,13 +15,13 @@ use pth_base::marks::Marks;
 use pth_base::memory::OutOfMemory;
 use pth_base::outcome::Outcome;
 use pth_base::program::Program;
+use pth_command::choice::Choice;
 use pth_print::end_line::end_line;
 use pth_print::mark_line::mark_line;
 use pth_print::summary_line::summary_line;
 use pth_sched::machine::Machine;
 use pth_streams::sink::{Sink, SinkErr};
 use pth_text::text::Text;
-use pth_words::choice::Choice;
 use std::alloc::Global;
 
 /// Adds the lines of marks.

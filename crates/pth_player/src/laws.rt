@@ -2,7 +2,7 @@
 
 ghost use Rattle.std.specs.Prelude.{ℕ, List, Option};
 ghost use Rattle.pth_player.specs.Output.{Output, IsTheOutput};
-ghost use Rattle.pth_words.specs.CommandWords.{Asked};
+ghost use Rattle.pth_command.specs.CommandLine.{Asked};
 
 /// Whatever the words ask for and whatever bytes are read, there is an output for them, and no other.
 pub fn every_input_has_one_output()

@@ -2,7 +2,7 @@
 
 ghost use Rattle.std.specs.Prelude.{◌≡◌, IfOk, map, string_bytes};
 ghost use Rattle.pth_line.specs.Script.{functions_of};
-ghost use Rattle.pth_words.specs.CommandWords.{asked_by};
+ghost use Rattle.pth_command.specs.CommandLine.{asked_by};
 ghost use Rattle.pth_sched.specs.Running.{StandsAt};
 ghost use Rattle.pth_player.specs.Objects.{asked_object, inputs, scene, OthersUntouched};
 ghost use Rattle.pth_player.specs.Output.{given_script};
@@ -13,6 +13,7 @@ use crate::faults::{fault_of_sink, fault_of_words};
 use crate::script::read_script;
 use pth_base::memory::OutOfMemory;
 use pth_base::outcome::Outcome;
+use pth_command::command_line::read_words;
 use pth_kernel::kernel::Kernel;
 use pth_line::script::Script;
 use pth_print::fault_line::Fault;
@@ -20,7 +21,6 @@ use pth_sched::machine::Machine;
 use pth_streams::files::Files;
 use pth_streams::sink::Sink;
 use pth_streams::source::Source;
-use pth_words::words::read_words;
 use std::alloc::Global;
 
 // How many steps are made between two writes.

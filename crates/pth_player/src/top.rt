@@ -1,7 +1,7 @@
 //! The top call.
 
 ghost use Rattle.std.specs.Prelude.{◌≡◌, ◌≤◌, map, string_bytes};
-ghost use Rattle.pth_words.specs.CommandWords.{asked_by};
+ghost use Rattle.pth_command.specs.CommandLine.{asked_by};
 ghost use Rattle.pth_player.specs.Objects.{asked_object, inputs, scene, OthersUntouched};
 ghost use Rattle.pth_player.specs.Play.{Ends, Plays};
 

@@ -1,7 +1,7 @@
 use Rattle.std.proofs.Common.{◌≡◌, ◌+◌, []}
 use Rattle.pth_model.specs.State.{Given}
 use Rattle.pth_sched.specs.Running.{StandsAt}
-use Rattle.pth_words.specs.CommandWords.{asked_of}
+use Rattle.pth_command.specs.CommandLine.{asked_of}
 use Rattle.pth_player.proofs.Driving.{Underway}
 use Rattle.pth_player.proofs.drive.drive.Given as goal
 

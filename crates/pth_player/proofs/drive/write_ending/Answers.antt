@@ -1,4 +1,4 @@
-use Rattle.pth_words.specs.CommandWords.{asked_of}
+use Rattle.pth_command.specs.CommandLine.{asked_of}
 use Rattle.pth_player.proofs.Driving.{cut_before, ending_is, piece_of}
 use Rattle.pth_player.proofs.drive.write_ending.Goals as goal
 

@@ -1,5 +1,5 @@
 use Rattle.std.proofs.Common.{Option, map, string_bytes, subst, sym}
-use Rattle.pth_words.specs.CommandWords.{Asked, asked_by, asked_of}
+use Rattle.pth_command.specs.CommandLine.{Asked, asked_by, asked_of}
 use Rattle.pth_player.proofs.Reading.{read_stood}
 use Rattle.pth_player.proofs.Runs.{drove, is_asked, others_refl, unasked, unmade, unread}
 use Rattle.pth_player.specs.Objects.{OthersUntouched, asked_object, inputs}

@@ -1,5 +1,5 @@
 use Rattle.std.proofs.Common.{map, string_bytes}
-use Rattle.pth_words.specs.CommandWords.{asked_by}
+use Rattle.pth_command.specs.CommandLine.{asked_by}
 use Rattle.pth_player.proofs.Clauses.{plays}
 use Rattle.pth_player.specs.Objects.{inputs, scene}
 use Rattle.pth_player.proofs.top.play.Goals as goal

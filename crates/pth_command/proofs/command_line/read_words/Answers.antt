@@ -1,8 +1,8 @@
 use Rattle.std.proofs.Common.{◌∙◌, sym, map, string_bytes, ap}
-use Rattle.pth_words.specs.CommandWords.{asked_by}
-use Rattle.pth_words.proofs.Parsed.{is_plain, is_free, taken, refused}
-use Rattle.pth_words.proofs.Ranges.{steps_within}
-use Rattle.pth_words.proofs.words.read_words.Goals as goal
+use Rattle.pth_command.specs.CommandLine.{asked_by}
+use Rattle.pth_command.proofs.Parsed.{is_plain, is_free, taken, refused}
+use Rattle.pth_command.proofs.Ranges.{steps_within}
+use Rattle.pth_command.proofs.command_line.read_words.Goals as goal
 
 pub returns-in-Ok-try_get_matches_from : goal.returns-in-Ok-try_get_matches_from
 returns-in-Ok-try_get_matches_from c =

@@ -6,10 +6,10 @@ use Rattle.std.specs.Str.Parse.{digits_value, true_text, without_leading_plus}
 use Rattle.clap.specs.ValueTests.{accepts}
 use Rattle.clap.specs.Words.{Kinds, Row, Text, fault_of, first_of, matches_of, one_of}
 use Rattle.clap.specs.declared.builder.value_parser.ValueParser.TheVariants as parser
-use Rattle.pth_words.specs.Command.{play, default_steps}
-use Rattle.pth_words.specs.declared.choice.Choice.{Choice}
-use Rattle.pth_words.specs.declared.words.WordsErr.{WordsErr}
-use Rattle.pth_words.specs.declared.words.WordsErr.TheVariants as words
+use Rattle.pth_command.specs.Command.{play, default_steps}
+use Rattle.pth_command.specs.declared.choice.Choice.{Choice}
+use Rattle.pth_command.specs.declared.command_line.WordsErr.{WordsErr}
+use Rattle.pth_command.specs.declared.command_line.WordsErr.TheVariants as words
 
 -- what is asked for
 pub record Asked : Type 0 where

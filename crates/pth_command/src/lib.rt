@@ -3,4 +3,4 @@
 
 pub mod choice;
 mod command;
-pub mod words;
+pub mod command_line;

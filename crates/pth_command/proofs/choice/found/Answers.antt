@@ -4,10 +4,10 @@ use Rattle.std.specs.Str.{bytes_eq}
 use Rattle.std.specs.Str.Parse.{ParsesUnsigned, ParsesBool, ExplainsUnsignedError, HasUnsignedDigitsIfOk, true_text}
 use Rattle.clap.specs.Words.{found_of, one_text}
 use Rattle.clap.proofs.WalkLemmas.{first_value-rows, one_text-rows}
-use Rattle.pth_words.specs.Command.{default_steps}
-use Rattle.pth_words.specs.CommandWords.{unsigned_of}
-use Rattle.pth_words.proofs.Getters.{number_read, flag_read}
-use Rattle.pth_words.proofs.choice.found.Goals as goal
+use Rattle.pth_command.specs.Command.{default_steps}
+use Rattle.pth_command.specs.CommandLine.{unsigned_of}
+use Rattle.pth_command.proofs.Getters.{number_read, flag_read}
+use Rattle.pth_command.proofs.choice.found.Goals as goal
 
 pub returns : goal.returns
 returns c =

@@ -2,7 +2,7 @@
 
 ghost use Rattle.std.specs.Prelude.{◌≡◌};
 ghost use Rattle.clap.specs.Words.{found_of, rows_of};
-ghost use Rattle.pth_words.specs.CommandWords.{asked_in, asked_of};
+ghost use Rattle.pth_command.specs.CommandLine.{asked_in, asked_of};
 
 use clap::ArgMatches;
 

@@ -4,8 +4,8 @@ use Rattle.clap.proofs.OnLiterals.{clap_on_literals}
 use Rattle.clap.specs.Words.{App, HasKind, Kinds, Row, Text, fault_of, is_simple, is_simple_and_free, kind_of, matches_of}
 use Rattle.clap.specs.declared.error.Error.{Error}
 use Rattle.clap.specs.declared.error.kind.ErrorKind.TheVariants.{OutOfMemory}
-use Rattle.pth_words.specs.Command.{play}
-use Rattle.pth_words.specs.CommandWords.{Asked, asked_by, asked_in, unless_failed}
+use Rattle.pth_command.specs.Command.{play}
+use Rattle.pth_command.specs.CommandLine.{Asked, asked_by, asked_in, unless_failed}
 
 simple : is_simple play ≡ true
 unfolding clap_on_literals play

@@ -2,7 +2,7 @@
 
 ghost use Rattle.std.specs.Prelude.{◌≤◌, IfOk, map, string_bytes};
 ghost use Rattle.pth_base.specs.Limits.{most_steps};
-ghost use Rattle.pth_words.specs.CommandWords.{Chooses, asked_by};
+ghost use Rattle.pth_command.specs.CommandLine.{Chooses, asked_by};
 
 use crate::choice::{Choice, found};
 use crate::command::command;

@@ -1,8 +1,8 @@
 use Rattle.std.proofs.Common.{◌∙◌, ap₂}
 use Rattle.std.proofs.lemmas.Result.{IfOk-weaker}
 use Rattle.clap.specs.Words.{with_rule}
-use Rattle.pth_words.specs.Command.{play}
-use Rattle.pth_words.proofs.command.command.Goals as goal
+use Rattle.pth_command.specs.Command.{play}
+use Rattle.pth_command.proofs.command.command.Goals as goal
 
 pub returns : goal.returns
 unfolding play

@@ -1,5 +1,5 @@
 use crate::comparison::same_text;
-use pth_words::words::read_words;
+use pth_command::command_line::read_words;
 use std::alloc::{AllocError, Global};
 use std::process::Abort;
 use std::test::Fail;

@@ -12,7 +12,7 @@ use Rattle.clap.specs.ValueTests.{accepts}
 use Rattle.clap.proofs.ValueTestLemmas.{accepts-Accepts, Accepts-accepts}
 use Rattle.clap.specs.declared.builder.value_parser.ValueParser.TheVariants as vp
 use Rattle.clap.specs.declared.builder.value_parser.ValueParser.{ValueParser}
-use Rattle.pth_words.specs.CommandWords.{unsigned_of}
+use Rattle.pth_command.specs.CommandLine.{unsigned_of}
 
 abbrev u64_parser : ValueParser
 u64_parser = vp.Unsigned 0 18446744073709551615

@@ -2,7 +2,7 @@
 
 ghost use Rattle.std.specs.Prelude.{◌≡◌, IfOk, false};
 ghost use Rattle.clap.specs.Words.{app_of, rule_of};
-ghost use Rattle.pth_words.specs.Command.{bare, file_rule, play, steps_rule, summary_rule};
+ghost use Rattle.pth_command.specs.Command.{bare, file_rule, play, steps_rule, summary_rule};
 
 use clap::{Arg, ArgAction, Command, value_parser};
 use pth_base::limits::MOST_STEPS;
