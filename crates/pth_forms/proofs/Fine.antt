@@ -1,13 +1,13 @@
 -- Words that have their forms stand for something.
 use Rattle.std.proofs.Common.{◌≡◌, ℕ, Bool, true, false, not, ◌||◌, List, [], ◌∷◌, Option, Some, None, refl}
-use Rattle.std.specs.Prelude.{is_some, option_map, codes, drop, if◌then◌else◌}
+use Rattle.std.specs.Prelude.{is_some, option_and_then, option_map, codes, drop, if◌then◌else◌}
 use Rattle.std.specs.Str.{bytes_eq}
 use Rattle.pth_line.specs.declared.operand.ByteOperand.TheVariants as bytes
 use Rattle.pth_text.specs.Hex.{hex_bytes}
+use Rattle.pth_text.specs.Number.{numeral_value}
 use Rattle.pth_text.specs.declared.rule.Rule.TheVariants as rule
 use Rattle.pth_spelling.specs.Keywords.{new_event_word, entry_word}
-use Rattle.pth_spelling.specs.WordMeanings.{natural_of, register_of, operand_of, value_of, shared_of, name_of, set_of, bytes_of, has_hex, given_of, goals_of, which_of, relation_of, field_of, thread_state_of, mode_of, direction_of, query_of, maybe}
-use Rattle.pth_forms.specs.KernelWords.{ticks_of, time_of, descriptor_of, room_of}
+use Rattle.pth_spelling.specs.WordMeanings.{natural_of, number_from, descriptor_of, register_of, operand_of, value_of, shared_of, name_of, set_of, bytes_of, has_hex, given_of, goals_of, which_of, relation_of, field_of, thread_state_of, mode_of, direction_of, query_of, maybe}
 use Rattle.pth_forms.specs.Forms.{misses}
 use Rattle.pth_forms.specs.declared.form.Form.{Form}
 use Rattle.pth_forms.specs.declared.form.Form.TheVariants as form
@@ -109,21 +109,13 @@ pub event : Reads form.Event new_event_word
 unfolding misses
 event = record { reads = λ w fine. sure (is_some (new_event_word w)) fine.listed }
 
-pub clock : Reads form.Clock ticks_of
+pub within : (least most : ℕ) → Reads (form.Within least most) (λ w. option_and_then (number_from least most) (numeral_value w))
 unfolding misses
-clock = record { reads = λ w fine. sure (is_some (ticks_of w)) fine.formed }
-
-pub time : Reads form.Time time_of
-unfolding misses
-time = record { reads = λ w fine. sure (is_some (time_of w)) fine.formed }
+within least most = record { reads = λ w fine. sure (is_some (option_and_then (number_from least most) (numeral_value w))) fine.formed }
 
 pub descriptor : Reads form.Descriptor descriptor_of
 unfolding misses
 descriptor = record { reads = λ w fine. sure (is_some (descriptor_of w)) fine.formed }
-
-pub room : Reads form.Room room_of
-unfolding misses
-room = record { reads = λ w fine. sure (is_some (room_of w)) fine.formed }
 
 pub entry : Reads form.Entry entry_word
 unfolding misses

@@ -1,12 +1,12 @@
 -- The rules that words break by their forms.
-use Rattle.std.specs.Prelude.{ℕ, Bool, true, false, ◌||◌, not, List, [], ◌∷◌, codes, is_some, drop}
+use Rattle.std.specs.Prelude.{ℕ, Bool, true, false, ◌||◌, not, List, [], ◌∷◌, codes, is_some, drop, option_and_then}
 use Rattle.std.specs.Str.{bytes_eq}
 use Rattle.pth_text.specs.Hex.{hex_bytes}
+use Rattle.pth_text.specs.Number.{numeral_value}
 use Rattle.pth_text.specs.declared.rule.Rule.{Rule}
 use Rattle.pth_text.specs.declared.rule.Rule.TheVariants as rule
 use Rattle.pth_spelling.specs.Keywords.{new_event_word, entry_word}
-use Rattle.pth_spelling.specs.WordMeanings.{natural_of, operand_of, maybe, register_of, value_of, shared_of, name_of, set_of, has_hex, given_of, goals_of, which_of, relation_of, field_of, thread_state_of, mode_of, direction_of, query_of}
-use Rattle.pth_forms.specs.KernelWords.{ticks_of, time_of, descriptor_of, room_of}
+use Rattle.pth_spelling.specs.WordMeanings.{natural_of, number_from, descriptor_of, operand_of, maybe, register_of, value_of, shared_of, name_of, set_of, has_hex, given_of, goals_of, which_of, relation_of, field_of, thread_state_of, mode_of, direction_of, query_of}
 use Rattle.pth_forms.specs.declared.form.Form.{Form}
 use Rattle.pth_forms.specs.declared.form.Form.TheVariants as form
 
@@ -22,14 +22,6 @@ is_listed form.Event w = is_some (new_event_word w)
 is_listed form.Entry w = is_some (entry_word w)
 is_listed _ w = true
 
--- the range of a number of a kernel's line
-abbrev pub has_kernel_form : Form → List ℕ → Bool
-has_kernel_form form.Clock w = is_some (ticks_of w)
-has_kernel_form form.Time w = is_some (time_of w)
-has_kernel_form form.Descriptor w = is_some (descriptor_of w)
-has_kernel_form form.Room w = is_some (room_of w)
-has_kernel_form _ w = true
-
 -- the form and range of other words; pairs of digits are looked at by themselves
 abbrev pub has_form : Form → List ℕ → Bool
 has_form form.Natural w = is_some (natural_of w)
@@ -44,7 +36,9 @@ has_form form.Set w = is_some (set_of w)
 has_form form.Bytes w = bytes_eq w (codes "buf") || has_hex w
 has_form form.Goals w = is_some (goals_of w)
 has_form form.Which w = is_some (which_of w)
-has_form f w = has_kernel_form f w
+has_form (form.Within least most) w = is_some (option_and_then (number_from least most) (numeral_value w))
+has_form form.Descriptor w = is_some (descriptor_of w)
+has_form _ w = true
 
 -- pairs of digits, alone or after `hex:`
 abbrev pub has_pairs : Form → List ℕ → Bool

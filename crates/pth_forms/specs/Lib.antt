@@ -1,2 +1,1 @@
-pub mod KernelWords
 pub mod Forms

@@ -41,16 +41,12 @@ pub enum Form {
     Query,
     /// The first word of an event line.
     Event,
-    /// How many microseconds a turn takes: a number from 0 to 1,000,000.
-    Clock,
-    /// A time in microseconds: a number from 0 to 10^15.
-    Time,
+    /// A number from `least` to `most`.
+    Within { least: u64, most: u64 },
     /// A descriptor: a number from 0 to 63.
     Descriptor,
     /// What comes to a descriptor.
     Entry,
-    /// Room for bytes to write: a number from 1 to 10^9.
-    Room,
     /// 1 to 2048 pairs of digits.
     Pairs,
 }

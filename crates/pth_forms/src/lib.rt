@@ -2,5 +2,4 @@
 #![tactic(auto)]
 
 pub mod form;
-pub mod kernel_words;
 pub mod rules;

@@ -1,16 +1,15 @@
 //! The rules that words break by their forms.
 
 ghost use Rattle.std.specs.Prelude.{◌≡◌};
-ghost use Rattle.pth_forms.specs.Forms.{is_listed, has_kernel_form, has_form, has_pairs, misses, wrong};
+ghost use Rattle.pth_forms.specs.Forms.{is_listed, has_form, has_pairs, misses, wrong};
 ghost use Rattle.pth_forms.specs.declared.form.Form.TheVariants as form;
 ghost use Rattle.pth_spelling.specs.Texts.{texts};
 
 use crate::form::Form;
-use crate::kernel_words::{clock, descriptor, room, time};
 use pth_spelling::first_word::{entry_word, new_event_word};
 use pth_spelling::words::{
-    direction, field, goals, maybe_name, maybe_operand, mode, name, natural, operand, query,
-    register, relation, set, shared, state, value, which,
+    descriptor, direction, field, goals, maybe_name, maybe_operand, mode, name, natural,
+    number_within, operand, query, register, relation, set, shared, state, value, which,
 };
 use pth_text::hex::is_hex;
 use pth_text::rule::Rule;
@@ -32,19 +31,6 @@ fn is_listed(form: Form, word: &[u8]) -> bool
     }
 }
 
-/// Whether a number of a kernel's line is in its range.
-fn has_kernel_form(form: Form, word: &[u8]) -> bool
-    ensures { result ≡ has_kernel_form form word.now }
-{
-    match form {
-        Form::Clock => clock(word).is_some(),
-        Form::Time => time(word).is_some(),
-        Form::Descriptor => descriptor(word).is_some(),
-        Form::Room => room(word).is_some(),
-        _ => true,
-    }
-}
-
 /// Whether another word has its form and range.
 fn has_form(form: Form, word: &[u8]) -> bool
     ensures { result ≡ has_form form word.now }
@@ -62,7 +48,9 @@ fn has_form(form: Form, word: &[u8]) -> bool
         Form::Bytes => word == b"buf".as_slice() || word.starts_with(b"hex:"),
         Form::Goals => goals(word).is_some(),
         Form::Which => which(word).is_some(),
-        _ => has_kernel_form(form, word),
+        Form::Within { least, most } => number_within(least, most, word).is_some(),
+        Form::Descriptor => descriptor(word).is_some(),
+        _ => true,
     }
 }
 

@@ -1,6 +1,7 @@
 -- A line of a kernel whose words have their forms stands for something.
 use Rattle.std.proofs.Common.{◌≡◌, ℕ, true, List, [], ◌∷◌, drop, Option, Some, None, refl, sym, subst}
 use Rattle.std.specs.Prelude.{is_some}
+use Rattle.pth_kernel.specs.Trace.{latest_time, most_room, most_clock}
 use Rattle.pth_spelling.specs.Keywords.{begins, entry_word}
 use Rattle.pth_spelling.specs.declared.keyword.EntryWord.{EntryWord}
 use Rattle.pth_spelling.specs.declared.keyword.EntryWord.TheVariants as entries
@@ -8,11 +9,28 @@ use Rattle.pth_spelling.specs.declared.keyword.Keyword.TheVariants as key
 use Rattle.pth_forms.specs.declared.form.Form.{Form}
 use Rattle.pth_forms.specs.declared.form.Form.TheVariants as form
 use Rattle.pth_forms.proofs.Options.{some_map, some_then}
-use Rattle.pth_forms.proofs.Fine.{AllFine, IsFine, clock, time, descriptor, room, entry, pairs}
-use Rattle.pth_kernel_lines.specs.KernelForms.{entry_forms, at_forms, kernel_forms}
+use Rattle.pth_forms.proofs.Fine.{AllFine, IsFine, Reads, within, descriptor, entry, pairs}
+use Rattle.pth_kernel_lines.specs.KernelNumbers.{ticks_of, time_of, room_of}
+use Rattle.pth_kernel_lines.specs.KernelForms.{clock_form, time_form, room_form, entry_forms, at_forms, kernel_forms}
 use Rattle.pth_kernel_lines.specs.KernelLines.{clock_by, clock_line, opening_by, open_line, entry_alone, entry_with, entry_by, stamp_of, stamp_by, stamp_line}
 use Rattle.pth_kernel_lines.specs.declared.part.KernelPart.{KernelPart}
 use Rattle.pth_kernel_lines.specs.declared.part.KernelPart.TheVariants as part
+
+-- ---- numbers
+
+clock : Reads clock_form ticks_of
+unfolding ticks_of
+clock = within 0 most_clock
+
+time : Reads time_form time_of
+unfolding time_of
+time = within 0 latest_time
+
+room : Reads room_form room_of
+unfolding room_of
+room = within 1 most_room
+
+-- ---- forms
 
 -- words that have the forms of a line have the same forms by another name
 same_forms : (fs gs : List Form) (ws : List (List ℕ)) → Some fs ≡ Some gs → AllFine gs ws → AllFine fs ws
@@ -20,7 +38,7 @@ same_forms fs gs ws e h = let same : gs ≡ fs = cc in subst (λ fs. AllFine fs 
 
 -- ---- the clock
 
-one_clock : (ws : List (List ℕ)) → AllFine (form.Clock ∷ []) ws → is_some (clock_by (Some key.Clock) ws) ≡ true
+one_clock : (ws : List (List ℕ)) → AllFine (clock_form ∷ []) ws → is_some (clock_by (Some key.Clock) ws) ≡ true
 one_clock [] h = absurd h
 one_clock (w ∷ []) h = clock.reads w h.0
 one_clock (w ∷ v ∷ ws) h = absurd h.1
@@ -67,7 +85,7 @@ no_entry (Some k) e h = absurd (cc)
 
 entry_words : (o : Option EntryWord) (t f e : List ℕ) (ws : List (List ℕ)) → entry_word e ≡ o → AllFine (entry_forms o) (t ∷ f ∷ e ∷ ws) → is_some (entry_by o ws) ≡ true
 entry_words (Some entries.In) t f e ws k h = with entries.In form.Pairs ws (λ w fine. some_map _ _ (pairs.reads w fine)) h.1.1.1
-entry_words (Some entries.Room) t f e ws k h = with entries.Room form.Room ws (λ w fine. some_map _ _ (room.reads w fine)) h.1.1.1
+entry_words (Some entries.Room) t f e ws k h = with entries.Room room_form ws (λ w fine. some_map _ _ (room.reads w fine)) h.1.1.1
 entry_words (Some entries.Conn) t f e ws k h = with entries.Conn form.Descriptor ws (λ w fine. some_map _ _ (descriptor.reads w fine)) h.1.1.1
 entry_words (Some entries.Eof) t f e ws k h = alone entries.Eof ws refl h.1.1.1
 entry_words (Some entries.Up) t f e ws k h = alone entries.Up ws refl h.1.1.1
@@ -76,7 +94,7 @@ entry_words (Some entries.Exc) t f e ws k h = alone entries.Exc ws refl h.1.1.1
 entry_words (Some entries.Err) t f e ws k h = alone entries.Err ws refl h.1.1.1
 entry_words None t f e ws k h = absurd (no_entry (entry_word e) k (entry.reads e h.1.1.0))
 
-when_and_where : (o : Option EntryWord) (t f e : List ℕ) (ws : List (List ℕ)) → AllFine (entry_forms o) (t ∷ f ∷ e ∷ ws) → IsFine form.Time t × IsFine form.Descriptor f
+when_and_where : (o : Option EntryWord) (t f e : List ℕ) (ws : List (List ℕ)) → AllFine (entry_forms o) (t ∷ f ∷ e ∷ ws) → IsFine time_form t × IsFine form.Descriptor f
 when_and_where (Some entries.In) t f e ws h = (h.0, h.1.0)
 when_and_where (Some entries.Room) t f e ws h = (h.0, h.1.0)
 when_and_where (Some entries.Conn) t f e ws h = (h.0, h.1.0)

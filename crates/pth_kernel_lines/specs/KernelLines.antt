@@ -9,7 +9,8 @@ use Rattle.pth_spelling.specs.declared.keyword.EntryWord.{EntryWord}
 use Rattle.pth_spelling.specs.declared.keyword.EntryWord.TheVariants as entries
 use Rattle.pth_spelling.specs.declared.keyword.Keyword.{Keyword}
 use Rattle.pth_spelling.specs.declared.keyword.Keyword.TheVariants as key
-use Rattle.pth_forms.specs.KernelWords.{ticks_of, time_of, descriptor_of, room_of}
+use Rattle.pth_spelling.specs.WordMeanings.{descriptor_of}
+use Rattle.pth_kernel_lines.specs.KernelNumbers.{ticks_of, time_of, room_of}
 
 -- ---- the clock, and what is open from the start
 

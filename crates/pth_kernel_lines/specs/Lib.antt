@@ -1,3 +1,4 @@
+pub mod KernelNumbers
 pub mod KernelForms
 pub mod KernelLines
 pub mod Ranges

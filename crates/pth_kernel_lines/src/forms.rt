@@ -6,17 +6,36 @@ ghost use Rattle.pth_spelling.specs.Texts.{texts};
 
 use crate::part::KernelPart;
 use pth_forms::form::Form;
+use pth_kernel::trace::{LATEST_TIME, MOST_CLOCK, MOST_ROOM};
 use pth_spelling::first_word::entry_word;
 use pth_spelling::keyword::{EntryWord, Keyword};
+
+/// How many microseconds a turn takes.
+const CLOCK: Form = Form::Within {
+    least: 0,
+    most: MOST_CLOCK,
+};
+
+/// The time of a stamp, in microseconds.
+const TIME: Form = Form::Within {
+    least: 0,
+    most: LATEST_TIME,
+};
+
+/// For how many bytes more there is room.
+const ROOM: Form = Form::Within {
+    least: 1,
+    most: MOST_ROOM,
+};
 
 fn entry_forms(entry: Option<EntryWord>) -> &'static [Form]
     ensures { result.now ≡ entry_forms entry }
 {
     match entry {
-        Some(EntryWord::In) => &[Form::Time, Form::Descriptor, Form::Entry, Form::Pairs],
-        Some(EntryWord::Room) => &[Form::Time, Form::Descriptor, Form::Entry, Form::Room],
-        Some(EntryWord::Conn) => &[Form::Time, Form::Descriptor, Form::Entry, Form::Descriptor],
-        _ => &[Form::Time, Form::Descriptor, Form::Entry],
+        Some(EntryWord::In) => &[TIME, Form::Descriptor, Form::Entry, Form::Pairs],
+        Some(EntryWord::Room) => &[TIME, Form::Descriptor, Form::Entry, ROOM],
+        Some(EntryWord::Conn) => &[TIME, Form::Descriptor, Form::Entry, Form::Descriptor],
+        _ => &[TIME, Form::Descriptor, Form::Entry],
     }
 }
 
@@ -25,7 +44,7 @@ fn at_forms(words: &[&[u8]]) -> &'static [Form]
 {
     match words {
         [_, _, entry, ..] => entry_forms(entry_word(entry)),
-        _ => &[Form::Time, Form::Descriptor, Form::Entry],
+        _ => &[TIME, Form::Descriptor, Form::Entry],
     }
 }
 
@@ -34,7 +53,7 @@ pub fn kernel_forms(part: KernelPart, keyword: Keyword, words: &[&[u8]]) -> Opti
     ensures { option_map (λ f. f.now) result ≡ kernel_forms part keyword (texts words.now) }
 {
     match (part, keyword) {
-        (KernelPart::Head, Keyword::Clock) => Some(&[Form::Clock]),
+        (KernelPart::Head, Keyword::Clock) => Some(&[CLOCK]),
         (KernelPart::Head | KernelPart::Opens, Keyword::Open) => Some(&[Form::Descriptor]),
         (_, Keyword::At) => Some(at_forms(words)),
         _ => None,

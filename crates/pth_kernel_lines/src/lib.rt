@@ -4,4 +4,5 @@
 pub mod forms;
 pub mod laws;
 pub mod lines;
+mod numbers;
 pub mod part;

@@ -4,12 +4,13 @@ ghost use Rattle.std.specs.Prelude.{◌≡◌, IfOk};
 ghost use Rattle.pth_kernel_lines.specs.KernelLines.{clock_line, open_line, entry_alone, entry_with, entry_by, stamp_of, stamp_line};
 ghost use Rattle.pth_spelling.specs.Texts.{texts};
 
+use crate::numbers::{clock, room, time};
 use pth_base::ids::{Fd, Micros};
 use pth_base::memory::OutOfMemory;
-use pth_forms::kernel_words::{clock, descriptor, room, time};
 use pth_kernel::trace::{Entry, Stamp};
 use pth_spelling::first_word::{begins, entry_word};
 use pth_spelling::keyword::{EntryWord, Keyword};
+use pth_spelling::words::descriptor;
 use pth_text::hex::read_hex;
 use std::alloc::Global;
 

@@ -4,10 +4,9 @@ use Rattle.std.specs.Prelude.{is_some, option_and_then, pos, negsuc}
 use Rattle.pth_base.specs.Descriptors.{descriptor_limit}
 use Rattle.pth_text.specs.Number.{numeral_value}
 use Rattle.pth_spelling.specs.Keywords.{begins}
-use Rattle.pth_spelling.specs.WordMeanings.{natural_of, not_negative, below}
+use Rattle.pth_spelling.specs.WordMeanings.{natural_of, not_negative, below, descriptor_of}
 use Rattle.pth_spelling.specs.declared.keyword.Keyword.{Keyword}
 use Rattle.pth_spelling.specs.declared.keyword.Keyword.TheVariants as key
-use Rattle.pth_forms.specs.KernelWords.{descriptor_of}
 use Rattle.pth_grammar.specs.LineMeanings.{numbered}
 use Rattle.pth_grammar.specs.declared.section.Section.TheVariants as sec
 use Rattle.pth_kernel.specs.declared.trace.Stamp.{Stamp}

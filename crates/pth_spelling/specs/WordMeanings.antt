@@ -1,8 +1,10 @@
 -- What single words stand for.
 use Rattle.std.specs.Prelude.{ℕ, ◌+◌, ◌^◌, ◌==◌, ◌&&◌, ◌||◌, Bool, true, false, List, [], ◌∷◌, length, Option, Some, None, if◌then◌else◌, codes, option_and_then, option_map, is_some, ℤ, pos, negsuc, nat_lt, nat_le, drop, take, slice_index}
+use Rattle.std.specs.Int.{is_in_range}
 use Rattle.std.specs.Str.{bytes_eq}
 use Rattle.std.specs.List.{slice_split, list_all}
 use Rattle.pth_spelling.specs.Named.{named_in}
+use Rattle.pth_base.specs.Descriptors.{descriptor_limit}
 use Rattle.pth_base.specs.declared.attr.AttrField.{AttrField}
 use Rattle.pth_base.specs.declared.attr.AttrField.TheVariants as field
 use Rattle.pth_base.specs.declared.ids.FdSet.{FdSet}
@@ -31,6 +33,15 @@ use Rattle.pth_line.specs.declared.relation.Relation.TheVariants as rel
 abbrev pub below : ℕ → ℤ → Option ℕ
 below n (pos k) = if nat_lt k n then Some k else None
 below n (negsuc k) = None
+
+-- a number from low to high
+abbrev pub number_from : (low high : ℕ) → ℤ → Option ℕ
+number_from low high (pos k) = if is_in_range low high k then Some k else None
+number_from low high (negsuc k) = None
+
+-- a descriptor
+unfoldable pub descriptor_of : List ℕ → Option ℕ
+descriptor_of w = option_and_then (below descriptor_limit) (numeral_value w)
 
 -- a number that is not negative
 abbrev pub not_negative : ℤ → Option ℤ

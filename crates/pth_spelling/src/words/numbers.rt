@@ -2,7 +2,7 @@
 
 ghost use Rattle.std.specs.Prelude.{◌≡◌, option_and_then};
 ghost use Rattle.pth_text.specs.Number.{numeral_value};
-ghost use Rattle.pth_spelling.specs.WordMeanings.{below, natural_of};
+ghost use Rattle.pth_spelling.specs.WordMeanings.{below, descriptor_of, natural_of, number_from};
 
 use pth_text::number::read_number;
 
@@ -25,4 +25,24 @@ pub fn number_below(limit: u8, word: &[u8]) -> Option<u8>
     } else {
         None
     }
+}
+
+/// The number of a descriptor, from 0 to 63.
+#[tactic(auto, unfolding(crate::specs::WordMeanings::descriptor_of))]
+pub fn descriptor(word: &[u8]) -> Option<u8>
+    ensures { result ≡ descriptor_of word.now }
+{
+    number_below(64, word)
+}
+
+/// A number from `low` to `high`.
+pub fn number_within(low: u64, high: u64, word: &[u8]) -> Option<u64>
+    ensures { result ≡ option_and_then (number_from low high) (numeral_value word.now) }
+{
+    let n = read_number(word)?;
+    if n < 0 {
+        return None;
+    }
+    let n = n as u64;
+    if low <= n && n <= high { Some(n) } else { None }
 }
