@@ -1,10 +1,10 @@
 -- What is asked of a descriptor of a kernel is read of what is kept for it.
-use Rattle.std.proofs.Common.{◌≡◌, ℕ, ◌==◌, ◌-◌, ltb, Bool, ◌&&◌, ◌||◌, [], length, filter_map, flat_map, Option, None, is_some, refl, sym, ◌∙◌, ap, ap₂, arith}
+use Rattle.std.proofs.Common.{◌≡◌, ℕ, ◌==◌, ◌-◌, ltb, Bool, true, false, if◌then◌else◌, ◌&&◌, ◌||◌, [], length, filter_map, flat_map, Option, None, is_some, refl, sym, ◌∙◌, ap, ap₂, arith}
 use Rattle.std.proofs.lemmas.Bool.Decides.{nat_tests}
 use Rattle.std.proofs.lemmas.List.{drop_all}
 use Rattle.pth_kernel.specs.declared.arrived.Arrived.{Arrived}
-use Rattle.pth_kernel.specs.Entries.{bytes_brought, connection_brought, is_eof, is_exception, is_failure}
-use Rattle.pth_kernel.specs.Kernel.{Descriptor, Kernel, came_to, came, unread, room, connections, connected, is_fd_live, is_at_end, is_faulty, has_connection, is_readable, is_writeable, is_exceptional, is_connect_settled, is_nonblocking}
+use Rattle.pth_kernel.specs.Entries.{bytes_brought, connection_brought, settling_brought, is_eof, is_exception, is_failure}
+use Rattle.pth_kernel.specs.Kernel.{Descriptor, Kernel, came_to, came, earliest, unread, room, connections, connected, is_fd_live, is_at_end, is_faulty, has_connection, is_readable, is_writeable, is_exceptional, is_connect_settled, is_nonblocking}
 use Rattle.pth_kernel.specs.Arrivals.{arrived_of}
 use Rattle.pth_kernel.specs.Channels.{ChannelOf, has_bytes, has_room_left, has_waiting}
 use Rattle.pth_kernel.specs.Kept.{IsChannelOf, IsUnknown}
@@ -12,6 +12,10 @@ use Rattle.pth_kernel.proofs.Lists.{is_left}
 
 more-room : (given room : ℕ) → ltb given room ≡ ltb 0 (room - given)
 more-room given room = grind (arith, nat_tests)
+
+settled_while : (live : Bool) (o : Option Bool) (failed : Bool) → (live && (is_some o || failed)) ≡ (live && (is_some (if live then o else None) || failed))
+settled_while true o failed = refl
+settled_while false o failed = refl
 
 module _ (k : Kernel) (f : ℕ) (x : ChannelOf) (s : IsChannelOf k f x) where
   pub live : x.used.live ≡ is_fd_live k f
@@ -29,9 +33,9 @@ module _ (k : Kernel) (f : ℕ) (x : ChannelOf) (s : IsChannelOf k f x) where
   unfolding arrived_of
   failed = ap (λ (a : Arrived). a.failed) s.arrived
 
-  pub answered : x.arrived.settled ≡ connected k f
+  pub answered : (if x.used.live then x.arrived.settled else None) ≡ connected k f
   unfolding arrived_of connected
-  answered = ap (λ (a : Arrived). a.settled) s.arrived
+  answered = ap₂ (λ (b : Bool) (o : Option Bool). if b then o else None) live (ap (λ (a : Arrived). a.settled) s.arrived)
 
   some_left : has_bytes x ≡ ltb 0 (length (unread k f))
   unfolding arrived_of unread
@@ -64,7 +68,7 @@ module _ (k : Kernel) (f : ℕ) (x : ChannelOf) (s : IsChannelOf k f x) where
   nonblock = ap (λ (d : Descriptor). d.live && (d.mode == 2)) s.used
 
   pub settled : (x.used.live && (is_some x.arrived.settled || x.arrived.failed)) ≡ is_connect_settled k f
-  settled = ap₂ (λ (a b : Bool). a && b) live (ap₂ (λ (o : Option Bool) (b : Bool). is_some o || b) answered failed)
+  settled = settled_while x.used.live x.arrived.settled x.arrived.failed ∙ ap₂ (λ (a b : Bool). a && b) live (ap₂ (λ (o : Option Bool) (b : Bool). is_some o || b) answered failed)
 
   pub writeable : (x.used.live && (has_room_left x || x.arrived.failed)) ≡ is_writeable k f
   writeable = ap₂ (λ (a b : Bool). a && b) live (ap₂ (λ (a b : Bool). a || b) some_room failed)
@@ -77,7 +81,7 @@ module _ (k : Kernel) (f : ℕ) (x : ChannelOf) (s : IsChannelOf k f x) where
 module _ (k : Kernel) (f : ℕ) (u : IsUnknown k f) where
   pub nothing_answered : None ≡ connected k f
   unfolding connected
-  nothing_answered = rw u.came refl
+  nothing_answered = ap (λ (d : Descriptor). if d.live then earliest (filter_map settling_brought (came_to k f)) else None) (sym u.used)
 
   pub no_bytes : [] ≡ unread k f
   unfolding unread

@@ -1,5 +1,5 @@
 -- What a kernel shows of its descriptors at a moment: filters of the whole trace, less what threads have taken.
-use Rattle.std.specs.Prelude.{ℕ, ◌+◌, ◌-◌, ◌==◌, ◌&&◌, ◌||◌, nat_lt, nat_le, ℤ, pos, negsuc, Bool, true, false, List, [], ◌∷◌, length, drop, map, filter, filter_map, flat_map, sum_by, Option, Some, None, is_some}
+use Rattle.std.specs.Prelude.{ℕ, ◌+◌, ◌-◌, ◌==◌, ◌&&◌, ◌||◌, nat_lt, nat_le, ℤ, pos, negsuc, Bool, true, false, List, [], ◌∷◌, length, drop, map, filter, filter_map, flat_map, sum_by, Option, Some, None, is_some, if◌then◌else◌}
 use Rattle.std.specs.List.{list_any}
 use Rattle.pth_base.specs.Table.{put, table}
 use Rattle.pth_base.specs.Descriptors.{contains, descriptor_limit}
@@ -64,12 +64,12 @@ module _ (k : Kernel) where
   unfoldable pub connections : ℕ → List ℕ
   connections f = drop (k.descriptors f).accepted (filter_map connection_brought (came_to f))
 
-  -- the first of `up` and `refuse`
-  unfoldable pub connected : ℕ → Option Bool
-  connected f = earliest (filter_map settling_brought (came_to f))
-
   abbrev pub is_fd_live : ℕ → Bool
   is_fd_live f = (k.descriptors f).live
+
+  -- the first of `up` and `refuse` that came to a live descriptor
+  unfoldable pub connected : ℕ → Option Bool
+  connected f = if is_fd_live f then earliest (filter_map settling_brought (came_to f)) else None
 
   abbrev pub is_at_end : ℕ → Bool
   is_at_end f = is_fd_live f && came is_eof f

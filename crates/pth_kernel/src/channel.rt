@@ -103,9 +103,9 @@ impl Channel {
     }
 
     pub(crate) fn connected(&self) -> Option<bool>
-        ensures { result ≡ self.now.arrived.settled }
+        ensures { result ≡ (if self.now.used.live then self.now.arrived.settled else None) }
     {
-        self.arrived.settled
+        if self.live { self.arrived.settled } else { None }
     }
 
     pub(crate) fn is_readable(&self) -> bool

@@ -222,7 +222,8 @@ impl Kernel {
         }
     }
 
-    /// Whether a `connect` was taken or refused. None where neither came.
+    /// Whether the connection of a descriptor stands (`up`) or was refused (`refuse`), whichever came first. None exactly if the
+    /// descriptor is not open, or neither came by now.
     pub fn connected(&self, f: i64) -> Option<bool>
         ensures { result ≡ connected (kernel_of self.now) (fd_named f) }
     {
