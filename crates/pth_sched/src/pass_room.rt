@@ -1,6 +1,6 @@
 //! What a pass keeps while it goes over the waiting threads.
 
-ghost use Rattle.std.specs.Prelude.{◌≡◌, ◌≢◌, ◌<◌, ◌≤◌, ℕ, List, [], ◌++◌, ◌∷◌, All, map, if◌then◌else◌, IfSome, OnOk};
+ghost use Rattle.std.specs.Prelude.{◌≡◌, ◌≢◌, ◌<◌, ◌≤◌, ◌+◌, ℕ, List, [], ◌++◌, ◌∷◌, All, map, length, if◌then◌else◌, IfSome, vec_capacity};
 ghost use Rattle.pth_base.specs.Limits.{last_moment};
 ghost use Rattle.pth_model.specs.Pass.{looks, moment, to_wake, waiting};
 ghost use Rattle.pth_model.specs.State.{Control, State};
@@ -23,7 +23,8 @@ use pth_world::world::World;
 use std::alloc::Global;
 use std::marker::Model;
 
-/// The slots of the waiting threads, and the threads that wake: there is room for all, so that a pass takes no memory.
+/// The slots of the waiting threads, and the threads that wake. There is room for as many of both as there may be threads, so
+/// that to find who wakes takes no memory.
 #[derive(Drop)]
 pub struct PassRoom {
     waiting: Vec<Slot>,
@@ -40,50 +41,44 @@ impl Model for PassRoom {
 
     ghost view = { λ a. map number_of a.waking.items };
 
-    ghost invariant = { λ a. thread_limit ≤ vec_capacity a.waiting };
+    ghost invariant = { λ a. (thread_limit ≤ vec_capacity a.waiting) × (thread_limit ≤ vec_capacity a.waking) };
 }
 
-// A waiting thread is gone over: it is listed where it is to wake.
-fn go_over<P: Program>(
-    w: &mut World<P>,
-    slot: Slot,
-    any_dead: bool,
-    waking: &mut Vec<Tid>,
-) -> Result<(), OutOfMemory>
+// A waiting thread is gone over: it is listed if it is to wake.
+fn go_over<P: Program>(w: &mut World<P>, slot: Slot, any_dead: bool, waking: &mut Vec<Tid>)
     requires whole { Whole w.old }
     requires used { tid_at w.old.threads.records slot.0 ≢ 0 }
     requires dead { (k : Control P P.State P.Shared) → Shows w.old k → any_dead ≡ has_any_died k }
-    ensures shows { OnOk result ((k : Control P P.State P.Shared) → Shows w.old k → Shows w.new (looks_at k (awaited_events k (tid_at w.old.threads.records slot.0)))) }
-    ensures listed { OnOk result ((k : Control P P.State P.Shared) → Shows w.old k → map number_of waking.new.items ≡ map number_of waking.old.items ++ (if is_due (store_of w.old.store) k (tid_at w.old.threads.records slot.0) then tid_at w.old.threads.records slot.0 ∷ [] else [])) }
-    ensures made { OnOk result (w.new.events.made ≡ w.old.events.made) }
-    ensures same { OnOk result (w.new ≡ record w.old { events = w.new.events }) }
+    requires room { length waking.old.items < vec_capacity waking.old }
+    ensures shows { (k : Control P P.State P.Shared) → Shows w.old k → Shows w.new (looks_at k (awaited_events k (tid_at w.old.threads.records slot.0))) }
+    ensures listed { (k : Control P P.State P.Shared) → Shows w.old k → map number_of waking.new.items ≡ map number_of waking.old.items ++ (if is_due (store_of w.old.store) k (tid_at w.old.threads.records slot.0) then tid_at w.old.threads.records slot.0 ∷ [] else []) }
+    ensures one { length waking.new.items ≤ length waking.old.items + 1 }
+    ensures room { vec_capacity waking.old ≤ vec_capacity waking.new }
+    ensures made { w.new.events.made ≡ w.old.events.made }
+    ensures same { w.new ≡ record w.old { events = w.new.events } }
 {
     if is_to_wake(w, slot, any_dead) {
-        waking.push(w.thread_in(slot))?;
+        waking.push(w.thread_in(slot)).unwrap();
     }
-    Ok(())
 }
 
 // The waiting threads are gone over in their order.
-fn go_over_all<P: Program>(
-    w: &mut World<P>,
-    slots: &[Slot],
-    waking: &mut Vec<Tid>,
-) -> Result<(), OutOfMemory>
+fn go_over_all<P: Program>(w: &mut World<P>, slots: &[Slot], waking: &mut Vec<Tid>)
     requires whole { Whole w.old }
     requires used { All (λ s. tid_at w.old.threads.records s.0 ≢ 0) slots.now }
     requires waiting { (k : Control P P.State P.Shared) → Shows w.old k → map (λ s. tid_at w.old.threads.records s.0) slots.now ≡ waiting k }
-    ensures listed { OnOk result ((s : State P P.State P.Shared) → StandsFor w.old s → map number_of waking.new.items ≡ to_wake P.functions s) }
-    ensures shows { OnOk result ((k : Control P P.State P.Shared) → Shows w.old k → Shows w.new (looks k)) }
-    ensures made { OnOk result (w.new.events.made ≡ w.old.events.made) }
-    ensures same { OnOk result (w.new ≡ record w.old { events = w.new.events }) }
+    requires room { length slots.now ≤ vec_capacity waking.old }
+    ensures listed { (s : State P P.State P.Shared) → StandsFor w.old s → map number_of waking.new.items ≡ to_wake P.functions s }
+    ensures shows { (k : Control P P.State P.Shared) → Shows w.old k → Shows w.new (looks k) }
+    ensures room { vec_capacity waking.old ≤ vec_capacity waking.new }
+    ensures made { w.new.events.made ≡ w.old.events.made }
+    ensures same { w.new ≡ record w.old { events = w.new.events } }
 {
     waking.clear();
     let any_dead = any_has_died(w);
     for slot in slots {
-        go_over(w, *slot, any_dead, waking)?;
+        go_over(w, *slot, any_dead, waking);
     }
-    Ok(())
 }
 
 impl PassRoom {
@@ -95,15 +90,15 @@ impl PassRoom {
     }
 
     /// Looks at the events for which threads wait, and lists the waiting threads that are to wake, in their order.
-    pub fn go_over<P: Program>(&mut self, w: &mut World<P>) -> Result<(), OutOfMemory>
+    pub fn go_over<P: Program>(&mut self, w: &mut World<P>)
         requires { Whole w.old }
-        ensures listed { OnOk result ((s : State P P.State P.Shared) → StandsFor w.old s → self.new ≡ to_wake P.functions s) }
-        ensures shows { OnOk result ((k : Control P P.State P.Shared) → Shows w.old k → Shows w.new (looks k)) }
-        ensures made { OnOk result (w.new.events.made ≡ w.old.events.made) }
-        ensures same { OnOk result (w.new ≡ record w.old { events = w.new.events }) }
+        ensures listed { (s : State P P.State P.Shared) → StandsFor w.old s → self.new ≡ to_wake P.functions s }
+        ensures shows { (k : Control P P.State P.Shared) → Shows w.old k → Shows w.new (looks k) }
+        ensures made { w.new.events.made ≡ w.old.events.made }
+        ensures same { w.new ≡ record w.old { events = w.new.events } }
     {
         w.waiting(&mut self.waiting);
-        go_over_all(w, self.waiting.as_slice(), &mut self.waking)
+        go_over_all(w, self.waiting.as_slice(), &mut self.waking);
     }
 
     /// The least moment, in microseconds, that is later than now and at which something comes to a descriptor, or for which a

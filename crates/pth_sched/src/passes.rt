@@ -93,6 +93,6 @@ pub fn pass<P: Program>(
     ensures ranks { OnOk result (KeepsRanks 0 w.old.threads w.new.threads) }
     ensures stays { OnOk result ((u : ℕ) → WaitsToRun w.old.threads u → WaitsToRun w.new.threads u) }
 {
-    room.go_over(w)?;
+    room.go_over(w);
     wake_all(w, room.waking(), marks)
 }

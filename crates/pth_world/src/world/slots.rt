@@ -1,6 +1,6 @@
 //! Threads by the slots at which they are kept, as long as they are in the system.
 
-ghost use Rattle.std.specs.Prelude.{◌≡◌, ◌≢◌, ◌≤◌, Some, All, map, vec_capacity};
+ghost use Rattle.std.specs.Prelude.{◌≡◌, ◌≢◌, ◌≤◌, Some, All, length, map, vec_capacity};
 ghost use Rattle.pth_base.specs.Limits.{thread_limit};
 ghost use Rattle.pth_base.specs.declared.ids.Slot.{Slot};
 ghost use Rattle.pth_model.specs.Awaits.{awaited_in as awaited};
@@ -27,6 +27,7 @@ impl<P: Program> World<P> {
         requires room { thread_limit ≤ vec_capacity into.old }
         ensures waiting { (k : Control P P.State P.Shared) → Shows self.now k → map (λ s. tid_at self.now.threads.records s.0) into.new.items ≡ waiting k }
         ensures used { All (λ s. tid_at self.now.threads.records s.0 ≢ 0) into.new.items }
+        ensures few { length into.new.items ≤ thread_limit }
         ensures room { vec_capacity into.old ≤ vec_capacity into.new }
     {
         self.queues().slots(Queue::Waiting, into);
