@@ -7,4 +7,4 @@ pub mod GivenValues
 pub mod Spawning
 pub mod Yielding
 pub mod Storing
-pub mod Cancelling
+pub mod Canceling

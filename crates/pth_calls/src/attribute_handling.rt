@@ -57,7 +57,7 @@ fn attr_of<P: Program>(w: &mut World<P>, n: i64) -> Result<Answer, OutOfMemory>
     ensures answered { IfOk result (λ a. IsAnswered w.old w.new a (λ (s : State P P.State P.Shared). (of_row s n).begin)) }
     ensures frame { OnOk result (Frame w.old w.new 1 w.old.scheduler.running false) }
 {
-    let t = match w.named(n) {
+    let t = match w.known(n) {
         Some(it) => it.tid,
         None => return Ok(Answer::Fail(Errno::ESRCH)),
     };

@@ -8,7 +8,7 @@ ghost use Rattle.pth_base.specs.declared.facility.Facility.TheVariants as facili
 ghost use Rattle.pth_base.specs.declared.mark.Mark.TheVariants.{Answered};
 ghost use Rattle.pth_calls.specs.Plain.{is_plain};
 ghost use Rattle.pth_model.specs.Calls.{begun};
-ghost use Rattle.pth_model.specs.Cancellation.{abort as abort_row, aborts, cancel as cancel_row, cancel_state as cancel_state_row, ends_or_asks, is_asynchronous};
+ghost use Rattle.pth_model.specs.Cancellation.{abort as abort_row, aborts, cancel as cancel_row, cancel_state as cancel_state_row, ends_or_asks, is_asynchronous as is_asynchronous_state};
 ghost use Rattle.pth_model.specs.Ending.{other_than};
 ghost use Rattle.pth_model.specs.Row.{◌trying◌};
 ghost use Rattle.pth_model.specs.Rows.{row_of};
@@ -26,11 +26,12 @@ use crate::answering::answer_call;
 use pth_base::answer::Answer;
 use pth_base::call::Call;
 use pth_base::errno::Errno;
-use pth_base::ids::Tid;
+use pth_base::ids::{MAIN, Tid};
 use pth_base::marks::Marks;
 use pth_base::memory::OutOfMemory;
 use pth_base::program::Program;
 use pth_end::cancellation::{abort_thread, cancel_from_outside};
+use pth_model::cancel_states::is_asynchronous;
 use pth_model::living::is_dead;
 use pth_model::next::Next;
 use pth_threads::entry::Change;
@@ -93,9 +94,9 @@ fn end_or_ask<P: Program>(
     requires alive { IsAlive w.old.threads t.0 }
     ensures ok { OnOk result ((s : State P P.State P.Shared) → StandsFor w.old s → Leads w.new marks.old marks.new (ends_or_asks P.functions t.0 cancel s)) }
     ensures err { OnErr result ((s : State P P.State P.Shared) → StandsFor w.old s → IsCut marks.old marks.new (ends_or_asks P.functions t.0 cancel s).marks) }
-    ensures frame { OnOk result (Frame w.old w.new 0 (if is_asynchronous cancel then other_than t.0 w.old.scheduler.running else w.old.scheduler.running) false) }
+    ensures frame { OnOk result (Frame w.old w.new 0 (if is_asynchronous_state cancel then other_than t.0 w.old.scheduler.running else w.old.scheduler.running) false) }
 {
-    if cancel == 3 {
+    if is_asynchronous(cancel) {
         return cancel_from_outside(w, t, marks);
     }
     w.set_field(t, Change::Request(true));
@@ -114,10 +115,10 @@ fn to_cancel<P: Program>(w: &World<P>, t: Tid, n: i64) -> Result<(Tid, u8), Errn
     if n == i64::from(t.0) {
         return Err(Errno::EINVAL);
     }
-    let Some(it) = w.named(n) else {
+    let Some(it) = w.known(n) else {
         return Err(Errno::ESRCH);
     };
-    if it.tid == Tid(1) || is_dead(it.state) {
+    if it.tid == Tid(MAIN) || is_dead(it.state) {
         return Err(Errno::EPERM);
     }
     Ok((it.tid, it.cancel))
@@ -137,10 +138,10 @@ fn to_abort<P: Program>(w: &World<P>, t: Tid, n: i64) -> Result<(Tid, bool), Err
     if n == i64::from(t.0) {
         return Err(Errno::EINVAL);
     }
-    let Some(it) = w.named(n) else {
+    let Some(it) = w.known(n) else {
         return Err(Errno::ESRCH);
     };
-    if it.tid == Tid(1) {
+    if it.tid == Tid(MAIN) {
         return Err(Errno::EPERM);
     }
     Ok((it.tid, is_dead(it.state)))

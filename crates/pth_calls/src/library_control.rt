@@ -63,7 +63,7 @@ fn prio<P: Program>(w: &World<P>, n: i64) -> Answer
     requires { Whole w.now }
     ensures { IsAnswered w.now w.now result (λ (s : State P P.State P.Shared). (ctrl_row s (Query.Prio n)).begin) }
 {
-    match w.named(n) {
+    match w.known(n) {
         Some(it) => Answer::Int(it.prio),
         None => Answer::Fail(Errno::ESRCH),
     }
@@ -74,7 +74,7 @@ fn name<P: Program>(w: &World<P>, n: i64) -> Answer
     requires { Whole w.now }
     ensures { IsAnswered w.now w.now result (λ (s : State P P.State P.Shared). (ctrl_row s (Query.Name n)).begin) }
 {
-    match w.named(n) {
+    match w.known(n) {
         Some(it) => Answer::Text(it.name.copy()),
         None => Answer::Fail(Errno::ESRCH),
     }

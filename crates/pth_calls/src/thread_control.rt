@@ -132,7 +132,7 @@ fn suspend<P: Program>(w: &mut World<P>, t: Tid, n: i64) -> Answer
     ensures answered { IsAnswered w.old w.new result (λ (s : State P P.State P.Shared). (suspend_row s t.0 n).begin) }
     ensures frame { Frame w.old w.new 1 (Some t.0) false }
 {
-    let it = match w.named(n) {
+    let it = match w.known(n) {
         Some(it) => it,
         None => return Answer::Fail(Errno::ESRCH),
     };
@@ -158,7 +158,7 @@ fn resume<P: Program>(w: &mut World<P>, t: Tid, n: i64) -> Answer
     ensures answered { IsAnswered w.old w.new result (λ (s : State P P.State P.Shared). (resume_row s t.0 n).begin) }
     ensures frame { Frame w.old w.new 1 (Some t.0) false }
 {
-    let it = match w.named(n) {
+    let it = match w.known(n) {
         Some(it) => it,
         None => return Answer::Fail(Errno::ESRCH),
     };
@@ -212,7 +212,7 @@ fn name_next<P: Program>(w: &mut World<P>, t: Tid, to: i64) -> bool
     if to == 0 {
         return true;
     }
-    let it = match w.named(to) {
+    let it = match w.known(to) {
         Some(it) => it,
         None => return false,
     };
@@ -220,7 +220,7 @@ fn name_next<P: Program>(w: &mut World<P>, t: Tid, to: i64) -> bool
         return false;
     }
     let other = it.tid;
-    w.prefer(Some(other));
+    w.name_next(Some(other));
     true
 }
 

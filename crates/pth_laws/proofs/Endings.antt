@@ -109,10 +109,10 @@ module _ {P S H : Type 0} (f : P → Functions S H) (n t : ℕ) (over dropped : 
       let seen : next_destructor b.resources.store.keys t x.round ≡ Some d = ap (λ (k : Resources). next_destructor k.store.keys t x.round) w.resources ∙ ap (λ (z : BlockRun). next_destructor s.resources.store.keys t z.round) w.ran ∙ found in
       walk_then n (RunsSo hs d.round) (IsDone hs) b (runs_destructor f t d) (next d.round) s
       (walk_then n (RunsSo hs d.round) (RunsSo hs d.round) b (tells m) (handled f t d.handler d.value) s
-      (walk_tells n (RunsSo hs d.round) b m s (λ locked. (((run_up f n t over dropped up made had y (so_far hs r) b s w, tt), tt, tt), made)) (record {
+      (walk_tells n (RunsSo hs d.round) b m s (λ locked. (((run_up f n t over dropped up made had y (so_far hs r) b s w, tt), tt), made)) (record {
         resources = ap (λ (k : Resources). told k m) w.resources;
         ended = w.ended;
-        cancelled = w.cancelled;
+        canceled = w.canceled;
         ran = block_open t (with_destructor (next_destructor b.resources.store.keys t x.round) d.key d.value x) ∙ ap (λ (o : Option Due). with_destructor o d.key d.value x) seen ∙ ap (with_destructor (Some d) d.key d.value) w.ran ∙ next_ran hs r d;
         cleanups = w.cleanups;
         awaits = w.awaits;
@@ -135,15 +135,15 @@ module _ {P S H : Type 0} (f : P → Functions S H) (n t : ℕ) (over dropped : 
     pub out : (l : ℕ) → l < locks → holds s.resources.store.rw_locks t l ≡ false
 
   -- one mark more of those that an end gives back
-  given_so : (hs : List PushedHandler) (m : Mark) (b : Book) (s : State P S H) → (told s.resources m).store.cleanups ≡ s.resources.store.cleanups → (told s.resources m).store.keys ≡ s.resources.store.keys → (told s.resources m).awaits ≡ s.resources.awaits → (after b m).ended ≡ b.ended → (after b m).cancelled ≡ b.cancelled → ran_by (after b m).block t ≡ ran_by b.block t → IsDone hs b s → IsDone hs (after b m) (tells m s).state
-  given_so hs m b s cleanups keys awaits ended cancelled ran d =
+  given_so : (hs : List PushedHandler) (m : Mark) (b : Book) (s : State P S H) → (told s.resources m).store.cleanups ≡ s.resources.store.cleanups → (told s.resources m).store.keys ≡ s.resources.store.keys → (told s.resources m).awaits ≡ s.resources.awaits → (after b m).ended ≡ b.ended → (after b m).canceled ≡ b.canceled → ran_by (after b m).block t ≡ ran_by b.block t → IsDone hs b s → IsDone hs (after b m) (tells m s).state
+  given_so hs m b s cleanups keys awaits ended canceled ran d =
       let w = d.runs in
       record {
         round = d.round;
         runs = record {
           resources = ap (λ (k : Resources). told k m) w.resources;
           ended = ended ∙ w.ended;
-          cancelled = cancelled ∙ w.cancelled;
+          canceled = canceled ∙ w.canceled;
           ran = ran ∙ w.ran;
           cleanups = ap (λ (c : ℕ → List PushedHandler). c t) cleanups ∙ w.cleanups;
           awaits = awaits ∙ w.awaits;
@@ -161,7 +161,7 @@ module _ {P S H : Type 0} (f : P → Functions S H) (n t : ℕ) (over dropped : 
   gives_one hs m true b s had_it d =
       let w = d.done.runs in
       let law : HasMutex b.resources t m = ap (λ (k : Resources). has t (k.store.mutexes m)) w.resources ∙ had_it in
-      walk_tells n (IsGiven hs (m + 1) 0) b (mark.GaveMutex (tid t) m) s (λ locked. (((run_up f n t over dropped up made had y (so_far hs d.done.round) b s w, tt), law, tt), made)) (record {
+      walk_tells n (IsGiven hs (m + 1) 0) b (mark.GaveMutex (tid t) m) s (λ locked. (((run_up f n t over dropped up made had y (so_far hs d.done.round) b s w, tt), law), made)) (record {
         done = given_so hs (mark.GaveMutex (tid t) m) b s refl refl refl refl refl (block_open t (ran_by b.block t)) d.done;
         none = λ i low. put_by (λ z. has t z ≡ false) s.resources.store.mutexes m free_mutex i (λ here. refl) (λ other. d.none i (omega (arith, low, other)));
         out = d.out;
@@ -176,7 +176,7 @@ module _ {P S H : Type 0} (f : P → Functions S H) (n t : ℕ) (over dropped : 
   gives_lock hs l true b s had_it d =
       let w = d.done.runs in
       let law : HoldsLock b.resources t l = ap (λ (k : Resources). holds k.store.rw_locks t l) w.resources ∙ had_it in
-      walk_tells n (IsGiven hs object_limit (l + 1)) b (mark.GaveLock (tid t) l) s (λ locked. (((run_up f n t over dropped up made had y (so_far hs d.done.round) b s w, tt), law, tt), made)) (record {
+      walk_tells n (IsGiven hs object_limit (l + 1)) b (mark.GaveLock (tid t) l) s (λ locked. (((run_up f n t over dropped up made had y (so_far hs d.done.round) b s w, tt), law), made)) (record {
         done = given_so hs (mark.GaveLock (tid t) l) b s refl refl refl refl refl (block_open t (ran_by b.block t)) d.done;
         none = d.none;
         out = λ i low. elim (cases_lt i l) [ inl below ↦ out_released t s.resources.store.rw_locks i t l (d.out i below) | inr above ↦ out_given t s.resources.store.rw_locks i l (omega (arith, low, above)) ];
@@ -222,7 +222,7 @@ module _ {P S H : Type 0} where
 pub record HasEnded {P S H : Type 0} (n t : ℕ) (b : Book) (s : State P S H) (c : Book) (u : State P S H) : Type 0 where
   pub resources : c.resources ≡ u.resources
   pub ended : c.ended ≡ put b.ended t true
-  pub cancelled : c.cancelled ≡ b.cancelled
+  pub canceled : c.canceled ≡ b.canceled
   pub closed : c.block ≡ Closed
   pub living : Living n (put b.ended t true) u.control
   pub claims : HasClaims u.control
@@ -241,7 +241,7 @@ module _ {P S H : Type 0} (n t : ℕ) where
       by_joinable true = (refl, refl)
       by_joinable false = (refl, refl)
 
-  module _ (f : P → Functions S H) (v : ℤ) (b : Book) (s : State P S H) (alive : lives (s.control.threads.known t) ≡ true) (living : Living n b.ended s.control) (claims : HasClaims s.control) (awaits : HasAwaits s.resources.awaits s.control) (made : is_made n t ≡ true) (value : b.cancelled t ≡ true → v ≡ negsuc 0) where
+  module _ (f : P → Functions S H) (v : ℤ) (b : Book) (s : State P S H) (alive : lives (s.control.threads.known t) ≡ true) (living : Living n b.ended s.control) (claims : HasClaims s.control) (awaits : HasAwaits s.resources.awaits s.control) (made : is_made n t ≡ true) (value : b.canceled t ≡ true → v ≡ negsuc 0) where
     abbrev pushed : List PushedHandler
     pushed = s.resources.store.cleanups t
 
@@ -253,10 +253,10 @@ module _ {P S H : Type 0} (n t : ℕ) where
     up = living-up n b.ended s.control.threads.made s.control.threads.known s.control.threads.standing living t alive
 
     abbrev Done : Book → State P S H → Type 0
-    Done = IsDone f n t b.ended b.cancelled up made s.resources undone pushed
+    Done = IsDone f n t b.ended b.canceled up made s.resources undone pushed
 
     abbrev Given : Book → State P S H → Type 0
-    Given = HasGiven f n t b.ended b.cancelled up made s.resources undone pushed
+    Given = HasGiven f n t b.ended b.canceled up made s.resources undone pushed
 
     dies_walk : (c : Book) (u : State P S H) → Given c u → Walk n c (HasEnded n t b s) (dies t v u)
     unfolding told
@@ -276,19 +276,18 @@ module _ {P S H : Type 0} (n t : ℕ) where
         let law : IsMarked n c m = λ locked. (
           (
             (
-              run_up f n t b.ended b.cancelled up made s.resources undone (so_far pushed done.round) c u w,
+              run_up f n t b.ended b.canceled up made s.resources undone (so_far pushed done.round) c u w,
               record {
                 handlers = ap (λ (z : BlockRun). z.handlers) w.ran ∙ sym w.cleanups ∙ ap (λ (r : Resources). r.store.cleanups t) (sym w.resources);
                 destructors = ap (λ (z : BlockRun). z.is_fine) w.ran;
                 all = ap (λ (r : Resources). next_destructor r.store.keys t x.round) w.resources ∙ ap (λ (z : BlockRun). next_destructor u.resources.store.keys t z.round) w.ran ∙ done.all;
-                value = λ h. value (ap (λ (e : ℕ → Bool). e t) (sym w.cancelled) ∙ h);
+                value = λ h. value (ap (λ (e : ℕ → Bool). e t) (sym w.canceled) ∙ h);
               },
             ),
             record {
               mutexes = no_mutex c.resources locked t (λ i low. ap (λ (k : Resources). has t (k.store.mutexes i)) w.resources ∙ given.none i low);
               locks = no_lock c.resources locked t (λ i low. ap (λ (k : Resources). holds k.store.rw_locks t i) w.resources ∙ given.out i low);
             },
-            tt,
           ),
           made,
         ) in
@@ -297,7 +296,7 @@ module _ {P S H : Type 0} (n t : ℕ) where
           post = record {
             resources = ap (λ (r : Resources). told r m) w.resources;
             ended = ap (λ (e : ℕ → Bool). put e t true) w.ended;
-            cancelled = w.cancelled;
+            canceled = w.canceled;
             closed = refl;
             living = living_left n b.ended t v u.control alive_now living_now;
             claims = claims_left t v u.control (λ e i h. (stopped_apart t s.control claims e i (ap (λ (k : Control P S H). claimant k.events e) (sym w.control) ∙ h)).1) claims_now;
@@ -312,14 +311,14 @@ module _ {P S H : Type 0} (n t : ℕ) where
     pub ending_walk : b.resources ≡ s.resources → ran_by b.block t ≡ ran_nothing → Walk n b (HasEnded n t b s) (ending f t v s)
     unfolding ending
     ending_walk same fresh =
-        let So = RunsSo f n t b.ended b.cancelled up made s.resources undone in
+        let So = RunsSo f n t b.ended b.canceled up made s.resources undone in
         let s1 = (undoes_wait t s).state in
         walk_then n (So [] first_round) (HasEnded n t b s) b (undoes_wait t) (runs_cleanups f t and_then runs_destructors f t and_then gives_all t and_then dies t v) s
-        (record { law = tt; post = record { resources = same; ended = refl; cancelled = refl; ran = fresh; cleanups = refl; awaits = refl; control = refl } })
+        (record { law = tt; post = record { resources = same; ended = refl; canceled = refl; ran = fresh; cleanups = refl; awaits = refl; control = refl } })
         (λ c1 w1. walk_then n (So pushed first_round) (HasEnded n t b s) c1 (runs_cleanups f t) (runs_destructors f t and_then gives_all t and_then dies t v) s1
-        (each_walk f n t b.ended b.cancelled up made s.resources undone pushed [] c1 s1 w1)
+        (each_walk f n t b.ended b.canceled up made s.resources undone pushed [] c1 s1 w1)
         (λ c2 w2. let s2 = (runs_cleanups f t s1).state in walk_then n Done (HasEnded n t b s) c2 (runs_destructors f t) (gives_all t and_then dies t v) s2
-        (destructs_walk f n t b.ended b.cancelled up made s.resources undone pushed (round_limit * key_limit) first_round c2 s2 (omega arith) w2)
+        (destructs_walk f n t b.ended b.canceled up made s.resources undone pushed (round_limit * key_limit) first_round c2 s2 (omega arith) w2)
         (λ c3 done. let s3 = (runs_destructors f t s2).state in walk_then n Given (HasEnded n t b s) c3 (gives_all t) (dies t v) s3
-        (gives_walk f n t b.ended b.cancelled up made s.resources undone pushed c3 s3 done)
+        (gives_walk f n t b.ended b.canceled up made s.resources undone pushed c3 s3 done)
         (λ c4 given. dies_walk c4 (gives_all t s3).state given))))

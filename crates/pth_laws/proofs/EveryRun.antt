@@ -79,7 +79,7 @@ module _ {P S H : Type 0} (f : P → Functions S H) where
   start_settled g = record {
     resources = refl;
     closed = refl;
-    cancelled = λ t up. refl;
+    canceled = λ t up. refl;
     living = record { grown = omega arith; numbered = main_known; over = main_over; stands = main_stands; dead = All-nil (λ (z : Standing). false ≡ true) };
     claims = λ e t h. absurd (none_some t h);
     awaits = λ t. (put_by (λ (o : Option (Progress S)). false ≡ is_awaiting (blocked_in o)) (λ u. None) main _ t (λ here. refl) (λ other. refl), (λ awaiting. absurd (true_false (sym awaiting))), refl);
@@ -94,7 +94,7 @@ module _ {P S H : Type 0} (f : P → Functions S H) where
   rebased b s x n z = record {
     resources = z.resources;
     closed = z.closed;
-    cancelled = z.cancelled;
+    canceled = z.canceled;
     living = record { grown = omega arith; numbered = z.living.numbered; over = z.living.over; stands = z.living.stands; dead = z.living.dead };
     claims = z.claims;
     awaits = z.awaits;
@@ -171,7 +171,7 @@ module _ {P S H : Type 0} (f : P → Functions S H) where
         unmade = λ t none. All-weaker (λ m. IsOfMade n (thread_of m)) (λ m. thread_of m ≢ Some t) (λ m h same. true_false (sym (subst (IsOfMade n) same h) ∙ none)) c.marks (l.made on);
         ended = λ t there. z.living.over t ∙ ap (λ b. b && not (lives (c.state.control.threads.known t))) there;
         resources = z.resources;
-        cancelled = λ t alive. z.cancelled t (z.living.over t ∙ ap (λ b. is_made n t && not b) alive ∙ and_false (is_made n t));
+        canceled = λ t alive. z.canceled t (z.living.over t ∙ ap (λ b. is_made n t && not b) alive ∙ and_false (is_made n t));
         closed = z.closed;
       }
     where

@@ -37,12 +37,12 @@ act_cleanups k t (act.Release m) (answer.Int v) = refl
 act_cleanups k t (act.Put p v) (answer.Int w) = refl
 act_cleanups k t x a = refl
 
--- what stays the same while t runs handlers: who has ended, who was cancelled, its cleanups, who awaits, and the control but
+-- what stays the same while t runs handlers: who has ended, who was canceled, its cleanups, who awaits, and the control but
 -- for the program's shared value; and what it has run so far
 pub record IsRunning {P S H : Type 0} (t : ℕ) (over dropped : ℕ → Bool) (had : Resources) (y : Control P S H) (x : BlockRun) (b : Book) (s : State P S H) : Type 0 where
   pub resources : b.resources ≡ s.resources
   pub ended : b.ended ≡ over
-  pub cancelled : b.cancelled ≡ dropped
+  pub canceled : b.canceled ≡ dropped
   pub ran : ran_by b.block t ≡ x
   pub cleanups : s.resources.store.cleanups t ≡ had.store.cleanups t
   pub awaits : s.resources.awaits ≡ had.awaits
@@ -90,10 +90,10 @@ module _ {P S H : Type 0} where
     act_walk x a b s w =
         let r = answer_in (row_of_act s t a).begin.verdict in
         subst (Walk n b (Runs x)) (sym (acts_tell t a s))
-        (walk_tells n (Runs x) b (mark.Acted (tid t) a r) s (λ locked. (((run_up x b s w, tt), act_exclusive b s a w.resources, tt), made)) (record {
+        (walk_tells n (Runs x) b (mark.Acted (tid t) a r) s (λ locked. (((run_up x b s w, tt), act_exclusive b s a w.resources), made)) (record {
           resources = ap (λ k. told k (mark.Acted (tid t) a r)) w.resources;
           ended = w.ended;
-          cancelled = w.cancelled;
+          canceled = w.canceled;
           ran = block_open t (ran_by b.block t) ∙ w.ran;
           cleanups = ap (λ (c : ℕ → List PushedHandler). c t) (act_cleanups s.resources t a r) ∙ w.cleanups;
           awaits = act_awaits s.resources t a r ∙ w.awaits;
@@ -109,7 +109,7 @@ module _ {P S H : Type 0} where
     acts_walk x h v zero i b s w = record { law = tt; post = w }
     acts_walk x h v (suc looks) i b s w =
         let found = (f s.control.program).act h.0 v i s.control.shared in
-        let goes = look_walk x found.act (acts_from f t h v looks (i + 1)) (acts_walk x h v looks (i + 1)) b (controlled (shares found.shared) s) (record { resources = w.resources; ended = w.ended; cancelled = w.cancelled; ran = w.ran; cleanups = w.cleanups; awaits = w.awaits; control = ap (λ (k : Control P S H). record k { shared = found.shared }) w.control }) in
+        let goes = look_walk x found.act (acts_from f t h v looks (i + 1)) (acts_walk x h v looks (i + 1)) b (controlled (shares found.shared) s) (record { resources = w.resources; ended = w.ended; canceled = w.canceled; ran = w.ran; cleanups = w.cleanups; awaits = w.awaits; control = ap (λ (k : Control P S H). record k { shared = found.shared }) w.control }) in
         record { law = goes.law; post = goes.post }
 
     -- a handler's acts
@@ -121,10 +121,10 @@ module _ {P S H : Type 0} where
     unfolding told
     handler_walk x h v b s w =
         walk_then n (Runs (with_handler (h, v) x)) (Runs (with_handler (h, v) x)) b (tells (mark.Handler (tid t) h v)) (handled f t h v) s
-        (walk_tells n (Runs (with_handler (h, v) x)) b (mark.Handler (tid t) h v) s (λ locked. (((run_up x b s w, tt), tt, tt), made)) (record {
+        (walk_tells n (Runs (with_handler (h, v) x)) b (mark.Handler (tid t) h v) s (λ locked. (((run_up x b s w, tt), tt), made)) (record {
           resources = w.resources;
           ended = w.ended;
-          cancelled = w.cancelled;
+          canceled = w.canceled;
           ran = block_open t (with_handler (h, v) (ran_by b.block t)) ∙ ap (with_handler (h, v)) w.ran;
           cleanups = w.cleanups;
           awaits = w.awaits;

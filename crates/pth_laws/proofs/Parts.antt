@@ -47,7 +47,7 @@ IsUp n ended t = (is_made n t ≡ true) × (ended t ≡ false)
 pub record IsSettled {P S H : Type 0} (n : ℕ) (b : Book) (s : State P S H) (x : Turn) : Type 0 where
   pub resources : b.resources ≡ s.resources
   pub closed : b.block ≡ Closed
-  pub cancelled : (t : ℕ) → b.ended t ≡ false → b.cancelled t ≡ false
+  pub canceled : (t : ℕ) → b.ended t ≡ false → b.canceled t ≡ false
   pub living : Living n b.ended s.control
   pub claims : HasClaims s.control
   pub awaits : HasAwaits s.resources.awaits s.control
@@ -60,7 +60,7 @@ pub record IsSettled {P S H : Type 0} (n : ℕ) (b : Book) (s : State P S H) (x 
 pub record IsResting {P S H : Type 0} (n : ℕ) (b : Book) (s : State P S H) : Type 0 where
   pub resources : b.resources ≡ s.resources
   pub closed : b.block ≡ Closed
-  pub cancelled : (t : ℕ) → b.ended t ≡ false → b.cancelled t ≡ false
+  pub canceled : (t : ℕ) → b.ended t ≡ false → b.canceled t ≡ false
   pub made : s.control.threads.made ≡ n
   pub living : Living n b.ended s.control
   pub claims : HasClaims s.control
@@ -108,7 +108,7 @@ module _ {P S H : Type 0} (n : ℕ) where
   rest_settles b s x none r = record {
     resources = r.resources;
     closed = r.closed;
-    cancelled = r.cancelled;
+    canceled = r.canceled;
     living = r.living;
     claims = r.claims;
     awaits = r.awaits;
@@ -133,7 +133,7 @@ module _ {P S H : Type 0} (n : ℕ) where
   rest_ready t rank top b s up r = record {
     resources = r.resources;
     closed = r.closed;
-    cancelled = r.cancelled;
+    canceled = r.canceled;
     made = r.made;
     living = living_ready n b.ended t rank top s.control (alive_up b s r t up) r.living;
     claims = claims_moved t (change.State state.Ready) Ready rank top s.control (state_safe state.Ready refl (s.control.threads.known t) (alive_up b s r t up)) r.claims;
@@ -150,8 +150,8 @@ module _ {P S H : Type 0} (n : ℕ) where
       let rank = prio_of s.control t +ℤ pos 1 in
       let x = rest_ready t rank false b s up r in
       record {
-        law = ((λ locked. (((up.1, tt), tt, tt), up.0)), tt);
-        post = (refl, record { resources = x.resources; closed = refl; cancelled = x.cancelled; made = x.made; living = x.living; claims = x.claims; awaits = x.awaits; running = x.running; preferred = x.preferred });
+        law = ((λ locked. (((up.1, tt), tt), up.0)), tt);
+        post = (refl, record { resources = x.resources; closed = refl; canceled = x.canceled; made = x.made; living = x.living; claims = x.claims; awaits = x.awaits; running = x.running; preferred = x.preferred });
       }
 
   all_woken_walk : (ts : List ℕ) (b : Book) (s : State P S H) → All (IsUp n b.ended) ts → IsResting n b s → Walk n b (IsResting n) (all_woken ts s)
@@ -166,19 +166,19 @@ module _ {P S H : Type 0} (n : ℕ) where
   unfolding pass to_wake looks
   pass_walk f b s r =
       let looked = claims_look s.control r.claims in
-      let w = all_woken_walk (to_wake f s) b (controlled looks s) (All-filter (is_to_wake f s) (IsUp n b.ended) (waiting s.control) (rows_up Waiting b s refl r)) (record { resources = r.resources; closed = r.closed; cancelled = r.cancelled; made = r.made; living = r.living; claims = looked; awaits = awaits_look s.resources.awaits s.control r.awaits; running = r.running; preferred = r.preferred }) in
+      let w = all_woken_walk (to_wake f s) b (controlled looks s) (All-filter (is_to_wake f s) (IsUp n b.ended) (waiting s.control) (rows_up Waiting b s refl r)) (record { resources = r.resources; closed = r.closed; canceled = r.canceled; made = r.made; living = r.living; claims = looked; awaits = awaits_look s.resources.awaits s.control r.awaits; running = r.running; preferred = r.preferred }) in
       record { law = w.law; post = w.post }
 
   -- ---- a dispatch
 
   rest_readies : (ts : List ℕ) (b : Book) (s : State P S H) → All (IsUp n b.ended) ts → IsResting n b s → IsResting n b (controlled (readies_all ts) s)
   unfolding readies_all readies
-  rest_readies [] b s up r = record { resources = r.resources; closed = r.closed; cancelled = r.cancelled; made = r.made; living = r.living; claims = r.claims; awaits = r.awaits; running = r.running; preferred = r.preferred }
+  rest_readies [] b s up r = record { resources = r.resources; closed = r.closed; canceled = r.canceled; made = r.made; living = r.living; claims = r.claims; awaits = r.awaits; running = r.running; preferred = r.preferred }
   rest_readies (t ∷ ts) b s up r =
       let a = controlled (readies t) s in
       let k = rest_ready t (new_rank s.control) s.control.scheduler.favour_new b s (All-head (IsUp n b.ended) t ts up) r in
-      let x = rest_readies ts b a (All-tail (IsUp n b.ended) t ts up) (record { resources = k.resources; closed = k.closed; cancelled = k.cancelled; made = k.made; living = k.living; claims = k.claims; awaits = k.awaits; running = k.running; preferred = k.preferred }) in
-      record { resources = x.resources; closed = x.closed; cancelled = x.cancelled; made = x.made; living = x.living; claims = x.claims; awaits = x.awaits; running = x.running; preferred = x.preferred }
+      let x = rest_readies ts b a (All-tail (IsUp n b.ended) t ts up) (record { resources = k.resources; closed = k.closed; canceled = k.canceled; made = k.made; living = k.living; claims = k.claims; awaits = k.awaits; running = k.running; preferred = k.preferred }) in
+      record { resources = x.resources; closed = x.closed; canceled = x.canceled; made = x.made; living = x.living; claims = x.claims; awaits = x.awaits; running = x.running; preferred = x.preferred }
 
   dispatch_walk : (x : Turn) (t : ℕ) (b : Book) (s : State P S H) → x.gave ≡ None → IsUp n b.ended t → IsResting n b s → PartWalk n b (takes_by x (Some t) s)
   unfolding dispatches runs sets leaves_queue told
@@ -190,11 +190,11 @@ module _ {P S H : Type 0} (n : ℕ) where
       let c = sets t (change.State state.Running) a in
       let lc : Living n b.ended c = living_sets n b.ended t (change.State state.Running) a (state_safe state.Running refl (k.threads.known t) alive) (living_leaves n b.ended t k r.living) in
       record {
-        law = ((λ locked. (((up.1, tt), tt, tt), up.0)), tt);
+        law = ((λ locked. (((up.1, tt), tt), up.0)), tt);
         post = λ on. record {
           resources = r.resources;
           closed = refl;
-          cancelled = r.cancelled;
+          canceled = r.canceled;
           living = living_sets n b.ended t (change.Dispatches count) c (λ e h. dispatch_safe count e) lc;
           claims = claims_set t (change.Dispatches count) c (λ e h. dispatch_safe count e) (claims_set t (change.State state.Running) a (state_safe state.Running refl (k.threads.known t) alive) (claims_leave t k r.claims));
           awaits = awaits_set s.resources.awaits t (change.Dispatches count) c (λ e h. dispatch_safe count e) (awaits_set s.resources.awaits t (change.State state.Running) a (state_safe state.Running refl (k.threads.known t) alive) (awaits_leave s.resources.awaits t k r.awaits));
@@ -226,8 +226,8 @@ module _ {P S H : Type 0} (n : ℕ) where
   moved_walk f x (Some m) b s none r =
       let a = controlled (moves_to m) s in
       let c = after b (mark.Moved m) in
-      let w = pass_walk f c a (record { resources = r.resources; closed = refl; cancelled = r.cancelled; made = r.made; living = r.living; claims = r.claims; awaits = r.awaits; running = r.running; preferred = r.preferred }) in
-      record { law = ((λ locked. (((tt, tt), tt, tt), tt)), w.law); post = λ on. rest_settles (book_of c (pass f a).marks) (pass f a).state x none w.post }
+      let w = pass_walk f c a (record { resources = r.resources; closed = refl; canceled = r.canceled; made = r.made; living = r.living; claims = r.claims; awaits = r.awaits; running = r.running; preferred = r.preferred }) in
+      record { law = ((λ locked. (((tt, tt), tt), tt)), w.law); post = λ on. rest_settles (book_of c (pass f a).marks) (pass f a).state x none w.post }
 
   -- ---- a turn is closed
 
@@ -268,7 +268,7 @@ module _ {P S H : Type 0} (n : ℕ) where
       record {
         resources = z.resources;
         closed = z.closed;
-        cancelled = z.cancelled;
+        canceled = z.canceled;
         made = p.made ∙ made;
         living = p.living;
         claims = p.claims;
@@ -312,7 +312,7 @@ module _ {P S H : Type 0} (n : ℕ) where
   owed_settles t (next.Done a) c u y none h on = record {
     resources = h.resources;
     closed = h.closed;
-    cancelled = h.calm;
+    canceled = h.calm;
     living = h.living;
     claims = claims_owed t (next.Done a) u.control h.claims;
     awaits = awaits_owed u.resources.awaits t (next.Done a) u.control h.awaits;
@@ -324,7 +324,7 @@ module _ {P S H : Type 0} (n : ℕ) where
   owed_settles t (next.Yields a) c u y none h on = record {
     resources = h.resources;
     closed = h.closed;
-    cancelled = h.calm;
+    canceled = h.calm;
     living = h.living;
     claims = claims_owed t (next.Yields a) u.control h.claims;
     awaits = awaits_owed u.resources.awaits t (next.Yields a) u.control h.awaits;
@@ -336,7 +336,7 @@ module _ {P S H : Type 0} (n : ℕ) where
   owed_settles t next.Waits c u y none h on = record {
     resources = h.resources;
     closed = h.closed;
-    cancelled = h.calm;
+    canceled = h.calm;
     living = h.living;
     claims = claims_owed t next.Waits u.control h.claims;
     awaits = awaits_owed u.resources.awaits t next.Waits u.control h.awaits;
@@ -348,7 +348,7 @@ module _ {P S H : Type 0} (n : ℕ) where
   owed_settles t (next.Ended value) c u y none h on = record {
     resources = h.resources;
     closed = h.closed;
-    cancelled = h.calm;
+    canceled = h.calm;
     living = h.living;
     claims = claims_owed t (next.Ended value) u.control h.claims;
     awaits = awaits_owed u.resources.awaits t (next.Ended value) u.control h.awaits;
@@ -365,7 +365,7 @@ module _ {P S H : Type 0} (n : ℕ) where
       let alive = runs_alive (s.control.threads.known t) (z.runs t running) in
       let there : is_made n t ≡ true = ap (λ m. is_made m t) (sym made) ∙ living-made n b.ended s.control.threads.made s.control.threads.known s.control.threads.standing z.living t alive in
       let going : Going n b.ended t s.control = record { living = z.living; runs = z.runs t running; running = running; preferred = z.unnamed t running none } in
-      let w = step_walk f n t there b s made z.closed (record { resources = z.resources; calm = z.cancelled; going = going; claims = z.claims; fits = z.awaits }) in
+      let w = step_walk f n t there b s made z.closed (record { resources = z.resources; calm = z.canceled; going = going; claims = z.claims; fits = z.awaits }) in
       record { law = w.law; post = λ on. owed_settles t (steps_on f t s).next (book_of b (steps_on f t s).told.marks) (steps_on f t s).told.state (record x { steps = x.steps + 1 }) none w.post on }
 
   -- ---- any part
@@ -374,7 +374,7 @@ module _ {P S H : Type 0} (n : ℕ) where
   settled_rests x b s rests made z = record {
     resources = z.resources;
     closed = z.closed;
-    cancelled = z.cancelled;
+    canceled = z.canceled;
     made = made;
     living = z.living;
     claims = z.claims;

@@ -25,8 +25,8 @@ use Rattle.pth_model.specs.declared.destructors.Round.{Round}
 use Rattle.pth_model.specs.Ending.{round_limit, due, due_by, next_destructor}
 use Rattle.pth_model.specs.Resources.{Resources, no_resources, handler, on_one, on_int, on_msg, told, answer_told, act_told, told_all}
 use Rattle.pth_model.proofs.Told.{told_more}
-use Rattle.pth_laws.specs.Book.{Book, BlockRun, Open, empty_book, book_of, after, block_after, ended_after, cancelled_after, ran_nothing, ran_by, is_before_destructors, is_value, with_handler, with_destructor}
-use Rattle.pth_laws.specs.Laws.{EachMark, thread_of, HasNotEnded, RanLast, IsPopOrderly, IsEndOrderly, IsUncancelled, IsInItsOrder, IsOrderlyMark, Orderly}
+use Rattle.pth_laws.specs.Book.{Book, BlockRun, Open, empty_book, book_of, after, block_after, ended_after, canceled_after, ran_nothing, ran_by, is_before_destructors, is_value, with_handler, with_destructor}
+use Rattle.pth_laws.specs.Laws.{EachMark, thread_of, HasNotEnded, RanLast, IsPopOrderly, IsEndOrderly, IsUncanceled, IsInItsOrder, IsOrderlyMark, Orderly}
 use Rattle.pth_laws.specs.Said.{is_end_of, is_cancellation_of, is_call_of, is_of_block, block_at_end, before_block, pending_after, pending_handlers, handlers_in, AreHandlersFirst, IsSequence, IsSaidOf, IsSaid}
 
 -- ---- tests
@@ -52,7 +52,7 @@ first_fails : (a b : Bool) → (a && b) ≡ false → b ≡ true → a ≡ false
 first_fails true b h all = absurd (true≢false (sym all ∙ h))
 first_fails false b h all = refl
 
--- ---- who has ended, and who was cancelled
+-- ---- who has ended, and who was canceled
 
 -- a flag of each thread that its marks of one kind set
 flag_along : (flag : Book → ℕ → Bool) (sets : ℕ → Mark → Bool) → ((b : Book) (m : Mark) (t : ℕ) → flag (after b m) t ≡ (flag b t || sets t m))
@@ -74,9 +74,9 @@ ended_more : (e : ℕ → Bool) (m : Mark) (t : ℕ) → ended_after e m t ≡ (
 ended_more e (mark.Ended u v) t = flagged e u.0 t
 ended_more e m t = sym (or-false (e t))
 
-cancelled_more : (e : ℕ → Bool) (m : Mark) (t : ℕ) → cancelled_after e m t ≡ (e t || is_cancellation_of t m)
-cancelled_more e (mark.Canceled u c) t = flagged e u.0 t
-cancelled_more e m t = sym (or-false (e t))
+canceled_more : (e : ℕ → Bool) (m : Mark) (t : ℕ) → canceled_after e m t ≡ (e t || is_cancellation_of t m)
+canceled_more e (mark.Canceled u c) t = flagged e u.0 t
+canceled_more e m t = sym (or-false (e t))
 
 -- ---- what threads have
 
@@ -341,11 +341,11 @@ not_ended : (b : Book) (o : Option ℕ) → ((t : ℕ) → o ≡ Some t → b.en
 not_ended b None h = tt
 not_ended b (Some t) h = h t refl
 
-step_uncancelled : (b : Book) (t : ℕ) (m : Mark) → is_call_of t m ≡ true → IsInItsOrder b m → IsUncancelled b t
-step_uncancelled b t (mark.Answered u c a) e h = subst (IsUncancelled b) (same_means u.0 t e) h.0
-step_uncancelled b t (mark.Waits u c) e h = subst (IsUncancelled b) (same_means u.0 t e) h
-step_uncancelled b t (mark.Noted u v) e h = subst (IsUncancelled b) (same_means u.0 t e) h
-step_uncancelled b t m e h = absurd (false≢true e)
+step_uncanceled : (b : Book) (t : ℕ) (m : Mark) → is_call_of t m ≡ true → IsInItsOrder b m → IsUncanceled b t
+step_uncanceled b t (mark.Answered u c a) e h = subst (IsUncanceled b) (same_means u.0 t e) h.0
+step_uncanceled b t (mark.Waits u c) e h = subst (IsUncanceled b) (same_means u.0 t e) h
+step_uncanceled b t (mark.Noted u v) e h = subst (IsUncanceled b) (same_means u.0 t e) h
+step_uncanceled b t m e h = absurd (false≢true e)
 
 pop_orderly : (b : Book) (t : ℕ) (c : Call) (a : Answer) → ((v : ℤ) → c ≡ call.CleanupPop v → a ≡ Int (pos 1) → is_zero v ≡ false → RanLast (ran_by b.block t).handlers (b.resources.store.cleanups t)) → IsPopOrderly b t c a
 pop_orderly b t (call.CleanupPop v) (Int (pos (suc zero))) h = h v refl refl
@@ -358,8 +358,8 @@ module _ (before : List Mark) where
   ended_is : (t : ℕ) → book.ended t ≡ list_any (is_end_of t) before
   ended_is t = flag_along (λ b. b.ended) is_end_of (λ b. ended_more b.ended) t empty_book before
 
-  cancelled_is : (t : ℕ) → book.cancelled t ≡ list_any (is_cancellation_of t) before
-  cancelled_is t = flag_along (λ b. b.cancelled) is_cancellation_of (λ b. cancelled_more b.cancelled) t empty_book before
+  canceled_is : (t : ℕ) → book.canceled t ≡ list_any (is_cancellation_of t) before
+  canceled_is t = flag_along (λ b. b.canceled) is_cancellation_of (λ b. canceled_more b.canceled) t empty_book before
 
   module _ (t : ℕ) where
     abbrev start : Resources
@@ -391,7 +391,7 @@ module _ (before : List Mark) where
     end_fine : (v : ℤ) → IsEndOrderly book t v → IsFine
     end_fine v h = (fine_along t start ran_nothing block).0 (record { fine = ap (λ (x : BlockRun). x.is_fine) (sym run_is) ∙ h.destructors; none = sym next_is ∙ h.all })
 
-    end_orderly : (v : ℤ) → (book.cancelled t ≡ true → v ≡ negsuc 0) → handlers_in block ≡ pending_handlers t before → IsFine → IsEndOrderly book t v
+    end_orderly : (v : ℤ) → (book.canceled t ≡ true → v ≡ negsuc 0) → handlers_in block ≡ pending_handlers t before → IsFine → IsEndOrderly book t v
     end_orderly v value handlers g =
         let e = (fine_along t start ran_nothing block).1 g in
         record { handlers = handlers_are ∙ (handlers ∙ sym pending_are); destructors = ap (λ (x : BlockRun). x.is_fine) run_is ∙ e.fine; all = next_is ∙ e.none; value = value }
@@ -399,8 +399,8 @@ module _ (before : List Mark) where
   to_said : (m : Mark) → IsOrderlyMark book m → IsSaidOf before m
   to_said m h = record {
     no_mark_after_end = λ t is. sym (ended_is t) ∙ subst (HasNotEnded book) is h.0;
-    no_call_after_cancellation = λ t is. sym (cancelled_is t) ∙ step_uncancelled book t m is h.1;
-    cancelled_ends_with_minus_one = λ t v is cancelled. (ended t v is).value (cancelled_is t.0 ∙ cancelled);
+    no_call_after_cancellation = λ t is. sym (canceled_is t) ∙ step_uncanceled book t m is h.1;
+    canceled_ends_with_minus_one = λ t v is canceled. (ended t v is).value (canceled_is t.0 ∙ canceled);
     pop_runs_last_pending = λ t v is some. rw (handlers_are t.0, pending_are t.0) at ((subst (IsInItsOrder book) is h.1).1 some);
     end_runs_all_pending = λ t v is. sym (handlers_are t.0) ∙ ((ended t v is).handlers ∙ pending_are t.0);
     end_runs_handlers_first = λ t v is. (end_fine t.0 v (ended t v is)).order.first refl;
@@ -410,18 +410,18 @@ module _ (before : List Mark) where
       ended : (t : Tid) (v : ℤ) → m ≡ mark.Ended t v → IsEndOrderly book t.0 v
       ended t v is = subst (IsInItsOrder book) is h.1
 
-  uncancelled : (t : ℕ) (m : Mark) → IsSaidOf before m → is_call_of t m ≡ true → IsUncancelled book t
-  uncancelled t m s is = cancelled_is t ∙ s.no_call_after_cancellation t is
+  uncanceled : (t : ℕ) (m : Mark) → IsSaidOf before m → is_call_of t m ≡ true → IsUncanceled book t
+  uncanceled t m s is = canceled_is t ∙ s.no_call_after_cancellation t is
 
   in_order : (m : Mark) → IsSaidOf before m → IsInItsOrder book m
   in_order (mark.Answered t c a) s = (
-    uncancelled t.0 (mark.Answered t c a) s (same_self t.0),
+    uncanceled t.0 (mark.Answered t c a) s (same_self t.0),
     pop_orderly book t.0 c a (λ v pops one some. rw (handlers_are t.0, pending_are t.0) (s.pop_runs_last_pending t v (ap₂ (mark.Answered t) pops one) some)),
   )
-  in_order (mark.Noted t v) s = uncancelled t.0 (mark.Noted t v) s (same_self t.0)
-  in_order (mark.Waits t c) s = uncancelled t.0 (mark.Waits t c) s (same_self t.0)
+  in_order (mark.Noted t v) s = uncanceled t.0 (mark.Noted t v) s (same_self t.0)
+  in_order (mark.Waits t c) s = uncanceled t.0 (mark.Waits t c) s (same_self t.0)
   in_order (mark.Ended t v) s =
-      end_orderly t.0 v (λ cancelled. s.cancelled_ends_with_minus_one t v refl (sym (cancelled_is t.0) ∙ cancelled)) (s.end_runs_all_pending t v refl)
+      end_orderly t.0 v (λ canceled. s.canceled_ends_with_minus_one t v refl (sym (canceled_is t.0) ∙ canceled)) (s.end_runs_all_pending t v refl)
       (record { fine = refl; order = record { first = λ _. s.end_runs_handlers_first t v refl; later = λ e. absurd (true≢false e) }; sequence = s.end_runs_all_destructors t v refl })
   in_order m s = tt
 

@@ -44,7 +44,7 @@ use Rattle.pth_model.specs.Acts.{runs_handler}
 use Rattle.pth_model.specs.Cleanups.{runs_pushed, last_pushed}
 use Rattle.pth_model.specs.Ending.{ending, other_than}
 use Rattle.pth_model.specs.Rows.{row_of}
-use Rattle.pth_model.specs.Calls.{begun, begun_by, begun_as, blocks, answers, resumed, resumed_where, canceled_by, tried_again, resumed_by, tried_by, unless_come, interrupted, waits_by}
+use Rattle.pth_model.specs.Calls.{begun, begun_by, begun_as, blocks, answers, gone_on, gone_on_where, canceled_by, tried_again, tried_again_by, tried_by, unless_come, interrupted, waits_by}
 use Rattle.pth_model.specs.Part.{steps_on, steps_by, stepping}
 use Rattle.pth_model.specs.declared.progress.Progress.{Progress}
 use Rattle.pth_model.proofs.Placed.{seats}
@@ -101,9 +101,9 @@ ran_last : (ran cs : List PushedHandler) (c : PushedHandler) → ran ≡ c ∷ [
 ran_last ran [] c h last = absurd (cc last)
 ran_last ran (d ∷ cs) c h last = let same : d ≡ c = cc in h ∙ ap (λ (x : PushedHandler). x ∷ []) (sym same)
 
--- who has not ended was not cancelled
+-- who has not ended was not canceled
 abbrev pub AreCalm : Book → Type 0
-AreCalm b = (v : ℕ) → b.ended v ≡ false → b.cancelled v ≡ false
+AreCalm b = (v : ℕ) → b.ended v ≡ false → b.canceled v ≡ false
 
 -- who ended has ended by the marks
 abbrev pub IsGone : ℕ → Next → Book → Type 0
@@ -250,7 +250,7 @@ module _ {P S H : Type 0} (f : P → Functions S H) (n t : ℕ) (made : is_made 
   within_up : (o : ℕ → Bool) (c : Book) (u : State P S H) → IsWithin n t c o u → c.ended t ≡ false
   within_up o c u w = living-up n c.ended u.control.threads.made u.control.threads.known u.control.threads.standing w.going.living t (going_alive n c.ended t u.control w.going)
 
-  within_calm : (o : ℕ → Bool) (c : Book) (u : State P S H) → IsWithin n t c o u → c.cancelled t ≡ false
+  within_calm : (o : ℕ → Bool) (c : Book) (u : State P S H) → IsWithin n t c o u → c.canceled t ≡ false
   within_calm o c u w = w.calm t (within_up o c u w)
 
   -- where t goes on running, or gives up control
@@ -267,10 +267,10 @@ module _ {P S H : Type 0} (f : P → Functions S H) (n t : ℕ) (made : is_made 
   left_yielding c u a w = (w.going.running, w.going.runs, λ v named. absurd (none_named u.control.scheduler.preferred v w.going.preferred named))
 
   -- a mark that closes the block of t, and says nothing of threads
-  told_within : (m : Mark) (c : Book) (u : State P S H) → (after c m).ended ≡ c.ended → (after c m).cancelled ≡ c.cancelled → Telling m c u → Within (after c m) (tells m u).state
-  told_within m c u ended cancelled w = record {
+  told_within : (m : Mark) (c : Book) (u : State P S H) → (after c m).ended ≡ c.ended → (after c m).canceled ≡ c.canceled → Telling m c u → Within (after c m) (tells m u).state
+  told_within m c u ended canceled w = record {
     resources = ap (λ (k : Resources). told k m) w.resources;
-    calm = λ i h. ap (λ (e : ℕ → Bool). e i) cancelled ∙ w.calm i (ap (λ (e : ℕ → Bool). e i) (sym ended) ∙ h);
+    calm = λ i h. ap (λ (e : ℕ → Bool). e i) canceled ∙ w.calm i (ap (λ (e : ℕ → Bool). e i) (sym ended) ∙ h);
     going = subst (λ (e : ℕ → Bool). Going n e t u.control) (sym ended) w.going;
     claims = w.claims;
     fits = w.fits;
@@ -281,14 +281,14 @@ module _ {P S H : Type 0} (f : P → Functions S H) (n t : ℕ) (made : is_made 
   answer_walk x k a c u pop exclusive leaves w =
       let m = mark.Answered (tid t) k a in
       let o = (told u.resources m).awaits in
-      walk_tells n (After x) c m u (λ locked. (((within_up o c u w, (within_calm o c u w, pop)), exclusive, tt), made)) (leaves (after c m) (tells m u).state refl (told_within m c u refl refl w))
+      walk_tells n (After x) c m u (λ locked. (((within_up o c u w, (within_calm o c u w, pop)), exclusive), made)) (leaves (after c m) (tells m u).state refl (told_within m c u refl refl w))
 
   wait_walk : (k : Call) (c : Book) (u : State P S H) → is_await k ≡ false → Telling (mark.Waits (tid t) k) c u → Walk n c (After next.Waits) (tells (mark.Waits (tid t) k) u)
   wait_walk k c u other w =
       let m = mark.Waits (tid t) k in
       let o = (told u.resources m).awaits in
       let v = told_within m c u refl refl w in
-      walk_tells n (After next.Waits) c m u (λ locked. (((within_up o c u w, within_calm o c u w), wait_exclusive c t k other, tt), made)) (within_stepped next.Waits (after c m) (tells m u).state refl (left_running (after c m) (tells m u).state v) tt v)
+      walk_tells n (After next.Waits) c m u (λ locked. (((within_up o c u w, within_calm o c u w), wait_exclusive c t k other), made)) (within_stepped next.Waits (after c m) (tells m u).state refl (left_running (after c m) (tells m u).state v) tt v)
 
   -- a change that keeps t going
   change_within : (g : Change P S H) (o : ℕ → Bool) (c : Book) (u : State P S H) → Going n c.ended t (g u.control) → HasClaims (g u.control) → HasAwaits o (g u.control) → Within c u → IsWithin n t c o (controlled g u)
@@ -333,18 +333,18 @@ module _ {P S H : Type 0} (f : P → Functions S H) (n t : ℕ) (made : is_made 
   other_stays u None apart h = absurd (cc h)
   other_stays u (Some w) apart h = let same : w ≡ t = cc in rw (same, not_same t u apart) refl
 
-  -- who has ended may have been cancelled
-  ended_calm : (u : ℕ) (c d : Book) → ((v : ℕ) → v ≢ u → c.ended v ≡ false → c.cancelled v ≡ false) → d.ended ≡ put c.ended u true → d.cancelled ≡ c.cancelled → AreCalm d
-  ended_calm u c d calm ended cancelled v h = ap (λ (e : ℕ → Bool). e v) cancelled ∙ put_by (λ (o : Bool). o ≡ false → c.cancelled v ≡ false) c.ended u true v (λ here yes. absurd (true_false yes)) (λ apart still. calm v apart still) (ap (λ (e : ℕ → Bool). e v) (sym ended) ∙ h)
+  -- who has ended may have been canceled
+  ended_calm : (u : ℕ) (c d : Book) → ((v : ℕ) → v ≢ u → c.ended v ≡ false → c.canceled v ≡ false) → d.ended ≡ put c.ended u true → d.canceled ≡ c.canceled → AreCalm d
+  ended_calm u c d calm ended canceled v h = ap (λ (e : ℕ → Bool). e v) canceled ∙ put_by (λ (o : Bool). o ≡ false → c.canceled v ≡ false) c.ended u true v (λ here yes. absurd (true_false yes)) (λ apart still. calm v apart still) (ap (λ (e : ℕ → Bool). e v) (sym ended) ∙ h)
 
   -- t's ending, where all others are calm
-  last_walk : (v : ℤ) (c : Book) (u : State P S H) → c.resources ≡ u.resources → ran_by c.block t ≡ ran_nothing → ((i : ℕ) → i ≢ t → c.ended i ≡ false → c.cancelled i ≡ false) → (c.cancelled t ≡ true → v ≡ negsuc 0) → Going n c.ended t u.control → HasClaims u.control → HasAwaits u.resources.awaits u.control → Walk n c (After (next.Ended v)) (ending f t v u)
+  last_walk : (v : ℤ) (c : Book) (u : State P S H) → c.resources ≡ u.resources → ran_by c.block t ≡ ran_nothing → ((i : ℕ) → i ≢ t → c.ended i ≡ false → c.canceled i ≡ false) → (c.canceled t ≡ true → v ≡ negsuc 0) → Going n c.ended t u.control → HasClaims u.control → HasAwaits u.resources.awaits u.control → Walk n c (After (next.Ended v)) (ending f t v u)
   last_walk v c u same fresh calm value going claims fits =
       walk_to n (HasEnded n t c u) (After (next.Ended v)) c (ending f t v u)
       (λ d s e. record {
         resources = e.resources;
         closed = e.closed;
-        calm = ended_calm t c d calm e.ended e.cancelled;
+        calm = ended_calm t c d calm e.ended e.canceled;
         living = subst (λ (o : ℕ → Bool). Living n o s.control) (sym e.ended) e.living;
         claims = e.claims;
         awaits = e.awaits;
@@ -364,11 +364,11 @@ module _ {P S H : Type 0} (f : P → Functions S H) (n t : ℕ) (made : is_made 
       let g : Change P S H = sets t (change.Request false) in
       let d = after c m in
       let x = last_walk canceled_value d (controlled g u) (ap (λ (r : Resources). told r m) w.resources) (fresh_by t d.block refl)
-      (λ i apart h. put_other c.cancelled t true i apart ∙ w.calm i h) (λ h. refl)
+      (λ i apart h. put_other c.canceled t true i apart ∙ w.calm i h) (λ h. refl)
       (going_set n c.ended t t (change.Request false) u.control (request_state false) w.going)
       (claims_set t (change.Request false) u.control (λ e h. ap is_dead (request_state false e)) w.claims)
       (awaits_set u.resources.awaits t (change.Request false) u.control (λ e h. ap is_dead (request_state false e)) w.fits) in
-      record { law = ((λ locked. (((within_up u.resources.awaits c u w, tt), tt, tt), made)), x.law); post = x.post }
+      record { law = ((λ locked. (((within_up u.resources.awaits c u w, tt), tt), made)), x.law); post = x.post }
 
   -- t goes on, and awaits nothing
   abbrev GoesOn : Book → State P S H → Type 0
@@ -387,7 +387,7 @@ module _ {P S H : Type 0} (f : P → Functions S H) (n t : ℕ) (made : is_made 
         h.closed,
         record {
           resources = h.resources;
-          calm = ended_calm u d e (λ i other still. put_other c.cancelled u true i other ∙ w.calm i still) h.ended h.cancelled;
+          calm = ended_calm u d e (λ i other still. put_other c.canceled u true i other ∙ w.calm i still) h.ended h.canceled;
           going = subst (λ (o : ℕ → Bool). Going n o t y.control) (sym h.ended) (record {
             living = h.living;
             runs = ap (λ (o : Option Entry). (or_nobody o).state) (h.others t apart) ∙ w.going.runs;
@@ -400,7 +400,7 @@ module _ {P S H : Type 0} (f : P → Functions S H) (n t : ℕ) (made : is_made 
         h.stays t apart ∙ idle,
       ))
       (ending_walk n u f canceled_value d a alive w.going.living w.claims w.fits there (λ h. refl) (ap (λ (r : Resources). told r m) w.resources) (fresh_by u d.block refl)) in
-      record { law = ((λ locked. (((up, tt), tt, tt), there)), x.law); post = x.post }
+      record { law = ((λ locked. (((up, tt), tt), there)), x.law); post = x.post }
 
   -- ---- a call begins
 
@@ -471,7 +471,7 @@ module _ {P S H : Type 0} (f : P → Functions S H) (n t : ℕ) (made : is_made 
   -- pth_kill
   kill_walk : (refuse : Bool) (c : Book) (s : State P S H) → Within c s → let v = refused EPERM when refuse otherwise Kills in let r = begun_by f t call.Kill v (unless_refused (refuses v) (changes (vanish_all_but t))) s in Walk n c (After r.next) r.told
   kill_walk true c s w = answer_walk (next.Done (answer.Fail EPERM)) call.Kill (answer.Fail EPERM) c s tt tt (λ e u. done_stepped (answer.Fail EPERM) e u) (refusing EPERM c s w)
-  kill_walk false c s w = record { law = ((λ locked. (((within_up s.resources.awaits c s w, (within_calm s.resources.awaits c s w, tt)), tt, tt), made)), tt); post = tt }
+  kill_walk false c s w = record { law = ((λ locked. (((within_up s.resources.awaits c s w, (within_calm s.resources.awaits c s w, tt)), tt), made)), tt); post = tt }
 
   -- pth_yield: who is named lives
   named_runs : (m : ℤ) (s : State P S H) → may_run (or_nobody (thread s.control m)).state ≡ true → lives (s.control.threads.known (number m)) ≡ true
@@ -485,7 +485,7 @@ module _ {P S H : Type 0} (f : P → Functions S H) (n t : ℕ) (made : is_made 
   yields_walk m false c s alive idle w =
       let k = mark.Answered (tid t) (call.Yield m) (answer.Int (pos 1)) in
       record {
-        law = ((λ locked. (((within_up s.resources.awaits c s w, (within_calm s.resources.awaits c s w, tt)), tt, tt), made)), tt);
+        law = ((λ locked. (((within_up s.resources.awaits c s w, (within_calm s.resources.awaits c s w, tt)), tt), made)), tt);
         post = record {
           resources = ap (λ (r : Resources). told r k) w.resources;
           closed = refl;
@@ -506,9 +506,9 @@ module _ {P S H : Type 0} (f : P → Functions S H) (n t : ℕ) (made : is_made 
   handled_call : (k : Call) (h : HandlerId) (v : ℤ) (c : Book) (s : State P S H) → c.block ≡ Closed → ((d : Book) (u : State P S H) → (ran_by d.block t).handlers ≡ (h, v) ∷ [] → d.resources.store.cleanups t ≡ s.resources.store.cleanups t → IsPopOrderly d t k (answer.Int (pos 1))) → ((d : Book) → IsAnswerExclusive d.resources t k (answer.Int (pos 1))) → kills k ≡ false → s.resources.awaits t ≡ false → Within c s → Walk n c (After (next.Done (answer.Int (pos 1)))) ((runs_handler f t h v and_then tells (mark.Answered (tid t) k (answer.Int (pos 1)))) s)
   handled_call k h v c s closed pops exclusive on idle w =
       let one = with_handler (h, v) ran_nothing in
-      let Ran = IsRunning {P = P} {S = S} {H = H} t c.ended c.cancelled s.resources s.control one in
+      let Ran = IsRunning {P = P} {S = S} {H = H} t c.ended c.canceled s.resources s.control one in
       walk_then n Ran (After (next.Done (answer.Int (pos 1)))) c (runs_handler f t h v) (tells (mark.Answered (tid t) k (answer.Int (pos 1)))) s
-      (handler_walk f n t c.ended c.cancelled (within_up s.resources.awaits c s w) made s.resources s.control ran_nothing h v c s (record { resources = w.resources; ended = refl; cancelled = refl; ran = fresh_by t c.block closed; cleanups = refl; awaits = refl; control = refl }))
+      (handler_walk f n t c.ended c.canceled (within_up s.resources.awaits c s w) made s.resources s.control ran_nothing h v c s (record { resources = w.resources; ended = refl; canceled = refl; ran = fresh_by t c.block closed; cleanups = refl; awaits = refl; control = refl }))
       (λ d x.
       let u = (runs_handler f t h v s).state in
       answer_walk (next.Done (answer.Int (pos 1))) k (answer.Int (pos 1)) d u
@@ -516,7 +516,7 @@ module _ {P S H : Type 0} (f : P → Functions S H) (n t : ℕ) (made : is_made 
       (λ e y. done_stepped (answer.Int (pos 1)) e y)
       (answering k (answer.Int (pos 1)) d u on (ap (λ (o : ℕ → Bool). o t) x.awaits ∙ idle) (record {
         resources = x.resources;
-        calm = λ i h. ap (λ (e : ℕ → Bool). e i) x.cancelled ∙ w.calm i (ap (λ (e : ℕ → Bool). e i) (sym x.ended) ∙ h);
+        calm = λ i h. ap (λ (e : ℕ → Bool). e i) x.canceled ∙ w.calm i (ap (λ (e : ℕ → Bool). e i) (sym x.ended) ∙ h);
         going = subst (λ (e : ℕ → Bool). Going n e t u.control) (sym x.ended) (subst (Going n c.ended t) (sym x.control) w.going);
         claims = subst HasClaims (sym x.control) w.claims;
         fits = subst (HasAwaits u.resources.awaits) (sym x.control) (awaits_as s.resources.awaits u.resources.awaits s.control (λ i. ap (λ (o : ℕ → Bool). o i) x.awaits) w.fits);
@@ -632,7 +632,7 @@ module _ {P S H : Type 0} (f : P → Functions S H) (n t : ℕ) (made : is_made 
   begun_walk (call.Note v) p c s born closed on free w =
       let m = mark.Noted (tid t) v in
       let o = s.resources.awaits in
-      walk_tells n (After (next.Done (answer.Int (pos 0)))) c m s (λ locked. (((within_up o c s w, within_calm o c s w), tt, tt), made)) (done_stepped (answer.Int (pos 0)) (after c m) (tells m s).state refl (told_within m c s refl refl w))
+      walk_tells n (After (next.Done (answer.Int (pos 0)))) c m s (λ locked. (((within_up o c s w, within_calm o c s w), tt), made)) (done_stepped (answer.Int (pos 0)) (after c m) (tells m s).state refl (told_within m c s refl refl w))
   begun_walk call.Kill p c s born closed on free w = kill_walk (not (t == main)) c s w
   begun_walk (call.Yield m) p c s born closed on free w = yield_walk m (not (is_zero m) && ((or_nobody (thread s.control m)).suspended || not (may_run (or_nobody (thread s.control m)).state))) c s refl (idle_in c s p on free w) w
   begun_walk (call.CleanupPop v) p c s born closed on free w = pop_walk v (last_pushed f s t) c s refl closed (idle_in c s p on free w) w
@@ -696,11 +696,11 @@ module _ {P S H : Type 0} (f : P → Functions S H) (n t : ℕ) (made : is_made 
   come_silent s k d true = unless_silent (refuses (interrupted ((row_of f s t k).again d).verdict)) ((row_of f s t k).again d).effect s (again_silent f t s k d)
 
   -- nothing blocks t, and nothing is done
-  idle_walk : (c : Book) (s : State P S H) → c.block ≡ Closed → Within c s → Walk n c (After (resumed_by f t None s).next) (resumed_by f t None s).told
+  idle_walk : (c : Book) (s : State P S H) → c.block ≡ Closed → Within c s → Walk n c (After (tried_again_by f t None s).next) (tried_again_by f t None s).told
   idle_walk c s closed w = record { law = tt; post = within_stepped next.Waits c s closed (left_running c s w) tt w }
 
-  resumed_walk : (d : Blocked) (p : Progress S) (c : Book) (s : State P S H) → c.block ≡ Closed → s.control.threads.progress t ≡ Some p → p.blocked ≡ Some d → Within c s → Walk n c (After (resumed_by f t (Some d) s).next) (resumed_by f t (Some d) s).told
-  resumed_walk d p c s closed on blocked w =
+  tried_again_walk : (d : Blocked) (p : Progress S) (c : Book) (s : State P S H) → c.block ≡ Closed → s.control.threads.progress t ≡ Some p → p.blocked ≡ Some d → Within c s → Walk n c (After (tried_again_by f t (Some d) s).next) (tried_again_by f t (Some d) s).told
+  tried_again_walk d p c s closed on blocked w =
       let come = has_event_come s.control.events (ring_given d.call) in
       let a = unless_come come ((row_of f s t d.call).again d) in
       let other : is_await d.call ≡ false = sym (ap (λ z. is_awaiting (blocked_in z)) on ∙ ap is_awaiting blocked) ∙ sym (w.fits t).0 ∙ (w.fits t).2 in
@@ -731,17 +731,17 @@ module _ {P S H : Type 0} (f : P → Functions S H) (n t : ℕ) (made : is_made 
   stepped_progress x k p on = put_here k.threads.progress t _ ∙ ap (option_map (λ (y : Progress S). record y { state = x.state; owed = answer.None })) on
 
   -- a call that blocks t is tried again, or t is canceled in it
-  blocked_walk : (now : Bool) (o : Option Blocked) (c : Book) (s : State P S H) → blocked_of s.control t ≡ o → c.block ≡ Closed → Within c s → ((d : Blocked) → o ≡ Some d → (p : Progress S) × (s.control.threads.progress t ≡ Some p) × (p.blocked ≡ Some d)) → Walk n c (After (resumed_where f t now s).next) (resumed_where f t now s).told
+  blocked_walk : (now : Bool) (o : Option Blocked) (c : Book) (s : State P S H) → blocked_of s.control t ≡ o → c.block ≡ Closed → Within c s → ((d : Blocked) → o ≡ Some d → (p : Progress S) × (s.control.threads.progress t ≡ Some p) × (p.blocked ≡ Some d)) → Walk n c (After (gone_on_where f t now s).next) (gone_on_where f t now s).told
   unfolding tried_again
   blocked_walk true None c s at closed w on = subst (λ (o : Option Blocked). Walk n c (After (canceled_by f t o s).next) (canceled_by f t o s).told) (sym at) (idle_walk c s closed w)
   blocked_walk true (Some d) c s at closed w on = subst (λ (o : Option Blocked). Walk n c (After (canceled_by f t o s).next) (canceled_by f t o s).told) (sym at) (canceled_walk d.call c s w)
-  blocked_walk false None c s at closed w on = subst (λ (o : Option Blocked). Walk n c (After (resumed_by f t o s).next) (resumed_by f t o s).told) (sym at) (idle_walk c s closed w)
+  blocked_walk false None c s at closed w on = subst (λ (o : Option Blocked). Walk n c (After (tried_again_by f t o s).next) (tried_again_by f t o s).told) (sym at) (idle_walk c s closed w)
   blocked_walk false (Some d) c s at closed w on =
       let p = on d refl in
-      subst (λ (o : Option Blocked). Walk n c (After (resumed_by f t o s).next) (resumed_by f t o s).told) (sym at) (resumed_walk d p.0 c s closed p.1 p.2 w)
+      subst (λ (o : Option Blocked). Walk n c (After (tried_again_by f t o s).next) (tried_again_by f t o s).told) (sym at) (tried_again_walk d p.0 c s closed p.1 p.2 w)
 
   by_walk : (q : Option (Progress S)) (c : Book) (s : State P S H) → s.control.threads.made ≡ n → c.block ≡ Closed → s.control.threads.progress t ≡ q → Within c s → Walk n c (After (steps_by f t (blocked_in q) q s).next) (steps_by f t (blocked_in q) q s).told
-  unfolding resumed
+  unfolding gone_on
   by_walk None c s born closed on w = blocked_walk (may_be_canceled s.control t) None c s (ap blocked_in on) closed w (λ d h. absurd (none_blocked d h))
   by_walk (Some p) c s born closed on w = by_blocked p.blocked refl
     where

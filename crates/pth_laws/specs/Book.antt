@@ -1,4 +1,4 @@
--- What a list of marks says: what threads have, who has ended, who was cancelled, and which block of marks is open.
+-- What a list of marks says: what threads have, who has ended, who was canceled, and which block of marks is open.
 use Rattle.std.specs.Prelude.{ℕ, ◌==◌, ◌&&◌, ℤ, int_le, Bool, true, false, List, [], ◌∷◌, ◌++◌, Option, Some, None, if◌then◌else◌}
 use Rattle.pth_base.specs.Table.{put}
 use Rattle.pth_base.specs.declared.mark.Mark.{Mark}
@@ -52,19 +52,19 @@ with_destructor (Some d) key v x = record x { round = d.round; is_fine = x.is_fi
 pub record Book : Type 0 where
   pub resources : Resources
   pub ended : ℕ → Bool
-  pub cancelled : ℕ → Bool
+  pub canceled : ℕ → Bool
   pub block : Block
 
 abbrev pub empty_book : Book
-empty_book = record { resources = no_resources; ended = λ t. false; cancelled = λ t. false; block = Closed }
+empty_book = record { resources = no_resources; ended = λ t. false; canceled = λ t. false; block = Closed }
 
 abbrev pub ended_after : (ℕ → Bool) → Mark → ℕ → Bool
 ended_after e (mark.Ended t v) = put e t.0 true
 ended_after e m = e
 
-abbrev pub cancelled_after : (ℕ → Bool) → Mark → ℕ → Bool
-cancelled_after e (mark.Canceled t c) = put e t.0 true
-cancelled_after e m = e
+abbrev pub canceled_after : (ℕ → Bool) → Mark → ℕ → Bool
+canceled_after e (mark.Canceled t c) = put e t.0 true
+canceled_after e m = e
 
 -- marks of handlers, destructors and acts, and of what an end gives back, open a block or go on with it; every other mark closes it
 abbrev pub block_after : Book → Mark → Block
@@ -83,7 +83,7 @@ abbrev pub after : Book → Mark → Book
 after b m = record {
   resources = told b.resources m;
   ended = ended_after b.ended m;
-  cancelled = cancelled_after b.cancelled m;
+  canceled = canceled_after b.canceled m;
   block = block_after b m;
 }
 

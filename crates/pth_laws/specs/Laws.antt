@@ -62,17 +62,17 @@ pub record IsEndOrderly (b : Book) (t : ℕ) (v : ℤ) : Type 0 where
   pub handlers : (ran_by b.block t).handlers ≡ b.resources.store.cleanups t
   pub destructors : (ran_by b.block t).is_fine ≡ true
   pub all : next_destructor b.resources.store.keys t (ran_by b.block t).round ≡ None
-  -- one that was cancelled has the value -1
-  pub value : b.cancelled t ≡ true → v ≡ negsuc 0
+  -- one that was canceled has the value -1
+  pub value : b.canceled t ≡ true → v ≡ negsuc 0
 
--- who was cancelled has no answer, no note and no wait told
-abbrev pub IsUncancelled : Book → ℕ → Type 0
-IsUncancelled b t = b.cancelled t ≡ false
+-- who was canceled has no answer, no note and no wait told
+abbrev pub IsUncanceled : Book → ℕ → Type 0
+IsUncanceled b t = b.canceled t ≡ false
 
 abbrev pub IsInItsOrder : Book → Mark → Type 0
-IsInItsOrder b (mark.Answered t c a) = IsUncancelled b t.0 × IsPopOrderly b t.0 c a
-IsInItsOrder b (mark.Noted t v) = IsUncancelled b t.0
-IsInItsOrder b (mark.Waits t c) = IsUncancelled b t.0
+IsInItsOrder b (mark.Answered t c a) = IsUncanceled b t.0 × IsPopOrderly b t.0 c a
+IsInItsOrder b (mark.Noted t v) = IsUncanceled b t.0
+IsInItsOrder b (mark.Waits t c) = IsUncanceled b t.0
 IsInItsOrder b (mark.Ended t v) = IsEndOrderly b t.0 v
 IsInItsOrder b m = Unit {0}
 
@@ -147,15 +147,7 @@ IsExclusiveMark b m = Unit {0}
 abbrev pub Exclusive : List Mark → Type 0
 Exclusive marks = EachMark IsExclusiveMark empty_book marks
 
--- ---- in order: no call on message ports is built yet, and no mark is held to anything
-
-abbrev pub IsMarkInOrder : Book → Mark → Type 0
-IsMarkInOrder b m = Unit {0}
-
-abbrev pub InOrder : List Mark → Type 0
-InOrder marks = EachMark IsMarkInOrder empty_book marks
-
--- ---- all of them
+-- ---- both of them
 
 abbrev pub IsLawful : Book → Mark → Type 0
-IsLawful b m = IsOrderlyMark b m × IsExclusiveMark b m × IsMarkInOrder b m
+IsLawful b m = IsOrderlyMark b m × IsExclusiveMark b m

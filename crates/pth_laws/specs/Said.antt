@@ -1,5 +1,5 @@
 -- What orderly marks are, in sentences on lists of marks: what a thread has run where it ends (pth_exit), and where it pops a
--- handler (pth_cleanup_pop), and what one that was cancelled does not do (pth_cancel).
+-- handler (pth_cleanup_pop), and what one that was canceled does not do (pth_cancel).
 use Rattle.std.specs.Prelude.{◌≡◌, ℕ, zero, suc, ◌==◌, ℤ, pos, negsuc, Bool, true, false, if◌then◌else◌, List, [], ◌∷◌, ◌++◌, fold, Some, None}
 use Rattle.std.specs.List.{list_any, list_all}
 use Rattle.pth_base.specs.declared.answer.Answer.TheVariants.{Int}
@@ -22,7 +22,7 @@ abbrev pub is_end_of : ℕ → Mark → Bool
 is_end_of t (mark.Ended u v) = u.0 == t
 is_end_of t m = false
 
--- t is cancelled
+-- t is canceled
 abbrev pub is_cancellation_of : ℕ → Mark → Bool
 is_cancellation_of t (mark.Canceled u c) = u.0 == t
 is_cancellation_of t m = false
@@ -98,10 +98,10 @@ IsSequence t k r (m ∷ ms) = IsSequence t (told k m) r ms
 pub record IsSaidOf (before : List Mark) (m : Mark) : Type 0 where
   -- a thread that has ended has no mark more
   pub no_mark_after_end : (t : ℕ) → thread_of m ≡ Some t → list_any (is_end_of t) before ≡ false
-  -- a thread that was cancelled notes nothing more, and none of its calls is answered or waits
+  -- a thread that was canceled notes nothing more, and none of its calls is answered or waits
   pub no_call_after_cancellation : (t : ℕ) → is_call_of t m ≡ true → list_any (is_cancellation_of t) before ≡ false
-  -- a thread that was cancelled ends with the value -1
-  pub cancelled_ends_with_minus_one : (t : Tid) (v : ℤ) → m ≡ mark.Ended t v → list_any (is_cancellation_of t.0) before ≡ true → v ≡ negsuc 0
+  -- a thread that was canceled ends with the value -1
+  pub canceled_ends_with_minus_one : (t : Tid) (v : ℤ) → m ≡ mark.Ended t v → list_any (is_cancellation_of t.0) before ≡ true → v ≡ negsuc 0
   -- where a cleanup_pop, not of 0, is answered 1, its thread has just run one handler: the last that is pending
   pub pop_runs_last_pending : (t : Tid) (v : ℤ) → m ≡ mark.Answered t (call.CleanupPop v) (Int (pos 1)) → is_zero v ≡ false → RanLast (handlers_in (block_at_end t.0 before)) (pending_handlers t.0 before)
   -- where a thread ends, it has just run all its pending handlers, the last pushed first

@@ -58,7 +58,7 @@ module _ {P S H : Type 0} (s : State P S H) where
     pub ended : (t : ℕ) → is_made s.control.threads.made t ≡ true → (book_of empty_book marks).ended t ≡ not (lives (s.control.threads.known t))
     -- what threads have is what the marks tell: cleanups, keys, values, mutexes and locks
     pub resources : (book_of empty_book marks).resources ≡ s.resources
-    -- who lives was not cancelled
-    pub cancelled : (t : ℕ) → Lives t → (book_of empty_book marks).cancelled t ≡ false
+    -- who lives was not canceled
+    pub canceled : (t : ℕ) → Lives t → (book_of empty_book marks).canceled t ≡ false
     -- the marks do not end within a block of a thread
     pub closed : (book_of empty_book marks).block ≡ Closed

@@ -12,12 +12,12 @@ pub fn orderly_refuses()
     ensures order { Orderly first_in_first_out → ⊥ }
     ensures handler { Orderly a_handler_is_missing → ⊥ }
     ensures destructor { Orderly a_destructor_is_left → ⊥ }
-    ensures cancelled { Orderly an_answer_after_a_cancellation → ⊥ }
+    ensures canceled { Orderly an_answer_after_a_cancellation → ⊥ }
     ensures ended { Orderly a_mark_after_the_end → ⊥ }
 {}
 
 /// Marks are orderly exactly where this holds of each of them, by the marks before it: a thread that has ended has no mark more;
-/// one that was cancelled is answered nothing, waits for no call's answer and notes nothing, and ends with -1; where a `cleanup_pop`
+/// one that was canceled is answered nothing, waits for no call's answer and notes nothing, and ends with -1; where a `cleanup_pop`
 /// of a value that is not 0 is answered 1, its thread has just run the last pending handler; and a thread that ends has just run
 /// all its pending handlers, the last pushed first, and then its destructors, until none was due in four rounds. The marks that
 /// stand just before are a block of the thread, and with those before the block they are all.

@@ -12,7 +12,7 @@ use pth_base::program::Program;
 
 /// The marks of every run, wherever it stands, are orderly: a thread that ended ran the handlers that it had pushed and not
 /// popped, the last pushed first, and then its destructors, until none was due in four rounds; a handler that a pop runs is the
-/// last that is pending; a thread that was cancelled is answered nothing more, and ends with -1; and a thread that has ended has
+/// last that is pending; a thread that was canceled is answered nothing more, and ends with -1; and a thread that has ended has
 /// no mark more.
 pub fn every_run_is_orderly<P: Program>()
     ensures { (g : Given P) (i : ℕ) → Orderly (run P.functions g i).marks }

@@ -39,7 +39,7 @@ use Rattle.pth_base.specs.declared.act.Act.TheVariants as act
 use Rattle.pth_base.specs.declared.ids.HandlerId.{HandlerId}
 use Rattle.pth_store.specs.Cleanups.{PushedHandler}
 use Rattle.pth_store.specs.Keys.{key_limit}
-use Rattle.pth_model.specs.Calls.{begun, begun_by, resumed, resumed_where, canceled_by, tried_again, resumed_by, tried_by, waits_by, unless_come, interrupted}
+use Rattle.pth_model.specs.Calls.{begun, begun_by, gone_on, gone_on_where, canceled_by, tried_again, tried_again_by, tried_by, waits_by, unless_come, interrupted}
 use Rattle.pth_model.specs.RingWaits.{ring_given, has_event_come}
 use Rattle.pth_model.specs.EventHandling.{spec_of, made_as, make_event, chain}
 use Rattle.pth_base.specs.declared.event.EvLine.{EvLine}
@@ -272,9 +272,9 @@ module _ {P S H : Type 0} (f : P → Functions S H) where
     tried_by_told b (Ends v) s = ending_told t v s
     tried_by_told b Kills s = refl
 
-    resumed_by_told : (s : State P S H) (b : Option Blocked) → Tells s.resources (resumed_by f t b s).told
-    resumed_by_told s None = refl
-    resumed_by_told s (Some b) =
+    tried_again_by_told : (s : State P S H) (b : Option Blocked) → Tells s.resources (tried_again_by f t b s).told
+    tried_again_by_told s None = refl
+    tried_again_by_told s (Some b) =
         let come = has_event_come s.control.events (ring_given b.call) in
         let a = unless_come come ((row_of f s t b.call).again b) in
         finally_told (effect_of a) (tried_by f t b a.verdict) (come_told s b.call b come) (tried_by_told b a.verdict) s
@@ -283,18 +283,18 @@ module _ {P S H : Type 0} (f : P → Functions S H) where
     canceled_told None s = refl
     canceled_told (Some b) s = then_told (takes_request t b.call) (ending f t canceled_value) (takes_told b.call) (ending_told t canceled_value) s
 
-    where_told : (b : Bool) → LastTold (resumed_where f t b)
+    where_told : (b : Bool) → LastTold (gone_on_where f t b)
     unfolding tried_again
     where_told true s = canceled_told (blocked_of s.control t) s
-    where_told false s = resumed_by_told s (blocked_of s.control t)
+    where_told false s = tried_again_by_told s (blocked_of s.control t)
 
-    resumed_told : LastTold (resumed f t)
-    unfolding resumed
-    resumed_told s = where_told (may_be_canceled s.control t) s
+    gone_on_told : LastTold (gone_on f t)
+    unfolding gone_on
+    gone_on_told s = where_told (may_be_canceled s.control t) s
 
     steps_by_told : (b : Option Blocked) (p : Option (Progress S)) → LastTold (steps_by f t b p)
-    steps_by_told (Some b) p s = resumed_told s
-    steps_by_told None None s = resumed_told s
+    steps_by_told (Some b) p s = gone_on_told s
+    steps_by_told None None s = gone_on_told s
     steps_by_told None (Some p) s = begun_told _ _
 
     steps_told : (x : Turn) (s : State P S H) → (steps f x t s).state.resources ≡ told_all s.resources (steps f x t s).marks

@@ -58,7 +58,7 @@ use Rattle.pth_base.specs.declared.ids.HandlerId.{HandlerId}
 use Rattle.pth_store.specs.Cleanups.{PushedHandler}
 use Rattle.pth_store.specs.Keys.{key_limit}
 use Rattle.pth_model.specs.Rows.{row_of}
-use Rattle.pth_model.specs.Calls.{begun, begun_by, resumed, resumed_where, canceled_by, tried_again, resumed_by, tried_by, unless_come, interrupted}
+use Rattle.pth_model.specs.Calls.{begun, begun_by, gone_on, gone_on_where, canceled_by, tried_again, tried_again_by, tried_by, unless_come, interrupted}
 use Rattle.pth_model.specs.Cancellation.{canceled_value, is_asynchronous, is_to_cancel, may_be_canceled, takes_request, canceled_by_other, aborted}
 use Rattle.pth_base.specs.declared.mark.Mark.TheVariants as mark
 use Rattle.pth_threads.specs.Threads.{changed}
@@ -612,9 +612,9 @@ module _ {P S H : Type 0} (f : P → Functions S H) (t : ℕ) (Q : Control P S H
   tried_by_keeps b (Ends v) s q = ending_keeps v s q
   tried_by_keeps b Kills s q = stops_keeps t s.control q
 
-  resumed_by_keeps : (s : State P S H) (b : Option Blocked) → Q s.control → Q (resumed_by f t b s).told.state.control
-  resumed_by_keeps s None q = q
-  resumed_by_keeps s (Some b) q =
+  tried_again_by_keeps : (s : State P S H) (b : Option Blocked) → Q s.control → Q (tried_again_by f t b s).told.state.control
+  tried_again_by_keeps s None q = q
+  tried_again_by_keeps s (Some b) q =
       let come = has_event_come s.control.events (ring_given b.call) in
       let a = unless_come come ((row_of f s t b.call).again b) in
       tried_by_keeps b a.verdict (effect_of a s).state (come_keeps f t Q kept.calls s b.call b come q)
@@ -623,23 +623,23 @@ module _ {P S H : Type 0} (f : P → Functions S H) (t : ℕ) (Q : Control P S H
   canceled_keeps None s q = q
   canceled_keeps (Some b) s q = ending_keeps canceled_value (takes_request t b.call s).state (kept.calls.requested t false s.control (λ e. not_asked e) q)
 
-  where_keeps : (b : Bool) (s : State P S H) → Q s.control → Q (resumed_where f t b s).told.state.control
+  where_keeps : (b : Bool) (s : State P S H) → Q s.control → Q (gone_on_where f t b s).told.state.control
   unfolding tried_again
   where_keeps true s q = canceled_keeps (blocked_of s.control t) s q
-  where_keeps false s q = resumed_by_keeps s (blocked_of s.control t) q
+  where_keeps false s q = tried_again_by_keeps s (blocked_of s.control t) q
 
-  resumed_keeps : (s : State P S H) → Q s.control → Q (resumed f t s).told.state.control
-  unfolding resumed
-  resumed_keeps s q = where_keeps (may_be_canceled s.control t) s q
+  gone_on_keeps : (s : State P S H) → Q s.control → Q (gone_on f t s).told.state.control
+  unfolding gone_on
+  gone_on_keeps s q = where_keeps (may_be_canceled s.control t) s q
 
   -- ---- a step
 
   steps_by_keeps : (b : Option Blocked) (p : Option (Progress S)) (s : State P S H) → Q s.control → Q (steps_by f t b p s).told.state.control
-  steps_by_keeps (Some b) p s q = resumed_keeps s q
+  steps_by_keeps (Some b) p s q = gone_on_keeps s q
   steps_by_keeps None (Some p) s q =
       let x = (f s.control.program).step p.state s.control.shared p.owed in
       begun_keeps x.call _ (kept.goes t _ (record s.control { shared = x.shared }) (kept.calls.shares x.shared s.control q))
-  steps_by_keeps None None s q = resumed_keeps s q
+  steps_by_keeps None None s q = gone_on_keeps s q
 
   owes_keeps : (n : Next) (k : Control P S H) → Q k → Q (owes_after t n k)
   owes_keeps (next.Done a) k q = kept.goes t (owing a) k q

@@ -83,26 +83,26 @@ module _ {P S H : Type 0} (f : P → Functions S H) (t : ℕ) where
   abbrev pub tried : Blocked → Attempt P S H → Last P S H
   tried b a = effect_of a and_finally tried_by b a.verdict
 
-  abbrev pub resumed_by : Option Blocked → Last P S H
-  resumed_by None = silent and_next next.Waits
-  resumed_by (Some b) = λ s. tried b (unless_come (has_event_come s.control.events (ring_given b.call)) ((row_of f s t b.call).again b)) s
+  abbrev pub tried_again_by : Option Blocked → Last P S H
+  tried_again_by None = silent and_next next.Waits
+  tried_again_by (Some b) = λ s. tried b (unless_come (has_event_come s.control.events (ring_given b.call)) ((row_of f s t b.call).again b)) s
 
   -- the call that blocks t is tried again
   unfoldable pub tried_again : Last P S H
-  tried_again s = resumed_by (blocked_of s.control t) s
+  tried_again s = tried_again_by (blocked_of s.control t) s
 
   -- t is canceled in the call that blocks it
   abbrev pub canceled_by : Option Blocked → Last P S H
   canceled_by None = silent and_next next.Waits
   canceled_by (Some b) = canceled_in f t b.call and_next next.Ended canceled_value
 
-  abbrev pub resumed_where : Bool → Last P S H
-  resumed_where true s = canceled_by (blocked_of s.control t) s
-  resumed_where false s = tried_again s
+  abbrev pub gone_on_where : Bool → Last P S H
+  gone_on_where true s = canceled_by (blocked_of s.control t) s
+  gone_on_where false s = tried_again s
 
-  -- t goes on where a call blocks it: it is canceled where it may be, and else its call is tried again
-  unfoldable pub resumed : Last P S H
-  resumed s = resumed_where (may_be_canceled s.control t) s
+  -- t, which a call blocks, goes on: it is canceled if it may be, and else its call is tried again
+  unfoldable pub gone_on : Last P S H
+  gone_on s = gone_on_where (may_be_canceled s.control t) s
 
   abbrev pub wakes_by : State P S H → Option Blocked → Bool
   wakes_by s None = false

@@ -22,12 +22,19 @@ use Rattle.pth_model.specs.Ending.{ending}
 abbrev pub canceled_value : ℤ
 canceled_value = negsuc 0
 
--- the cancel states in which a thread lets itself be canceled (PTH_CANCEL_ENABLE): 1 at cancellation points, 3 at any moment
+-- the cancel states in which a thread lets itself be canceled (PTH_CANCEL_ENABLE), at cancellation points or at any moment
+-- (PTH_CANCEL_DEFERRED, PTH_CANCEL_ASYNCHRONOUS)
+abbrev pub enabled_deferred : ℕ
+enabled_deferred = 1
+
+abbrev pub enabled_asynchronous : ℕ
+enabled_asynchronous = 3
+
 abbrev pub is_enabled : ℕ → Bool
-is_enabled n = (n == 1) || (n == 3)
+is_enabled n = (n == enabled_deferred) || (n == enabled_asynchronous)
 
 abbrev pub is_asynchronous : ℕ → Bool
-is_asynchronous n = n == 3
+is_asynchronous n = n == enabled_asynchronous
 
 -- it was asked to end, and lets itself be canceled
 abbrev pub is_to_cancel : Entry → Bool

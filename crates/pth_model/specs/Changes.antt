@@ -69,9 +69,6 @@ module _ {P S H : Type 0} where
   abbrev pub prio_of : Control P S H → ℕ → ℤ
   prio_of k t = (or_nobody (k.threads.known t)).prio
 
-  abbrev pub owed_to : Control P S H → ℕ → Answer
-  owed_to k t = owed_in (k.threads.progress t)
-
   abbrev pub blocked_of : Control P S H → ℕ → Option Blocked
   blocked_of k t = blocked_in (k.threads.progress t)
 

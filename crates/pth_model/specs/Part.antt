@@ -18,7 +18,7 @@ use Rattle.pth_model.specs.declared.next.Next.TheVariants as next
 use Rattle.pth_model.specs.State.{State, Control, Turn, queue, main, now_of, clock_of}
 use Rattle.pth_model.specs.Transition.{Piece, Change, Last, Went, silent, nothing, controlled, changes, tells, tid, ◌and◌, ◌and_then◌, ◌and_finally◌}
 use Rattle.pth_model.specs.Changes.{sets, goes_on, owes, enters, leaves_queue, raises_ready, runs_now, prefers, moves_to, entry_of, prio_of, blocked_of, or_nobody, holders, is_empty}
-use Rattle.pth_model.specs.Calls.{begun, resumed}
+use Rattle.pth_model.specs.Calls.{begun, gone_on}
 use Rattle.pth_model.specs.Pass.{pass, moment, is_ready_at}
 use Rattle.pth_model.specs.Course.{Course, within}
 
@@ -183,9 +183,9 @@ module _ {P S H : Type 0} (f : P → Functions S H) where
 
   -- by: what of t is blocked, and how far it is
   abbrev pub steps_by : ℕ → Option Blocked → Option (Progress S) → Last P S H
-  steps_by t (Some b) p = resumed f t
+  steps_by t (Some b) p = gone_on f t
   steps_by t None (Some p) = steps_from t p
-  steps_by t None None = resumed f t
+  steps_by t None None = gone_on f t
 
   abbrev pub steps_on : ℕ → Last P S H
   steps_on t s = steps_by t (blocked_of s.control t) (s.control.threads.progress t) s

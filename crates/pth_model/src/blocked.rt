@@ -13,7 +13,7 @@ pub enum Retake {
     No,
     One,
     Intr,
-    Cancelled,
+    Canceled,
 }
 
 /// A call that blocks its thread: since when, the moment it waits for, the bytes that it wrote so far, the round of its

@@ -3,6 +3,7 @@
 
 pub mod awaits;
 pub mod blocked;
+pub mod cancel_states;
 pub mod destructors;
 pub mod example;
 pub mod living;

@@ -38,7 +38,7 @@ use Rattle.pth_model.specs.Cleanups.{last_pushed}
 use Rattle.pth_store.specs.Cleanups.{push_answer}
 use Rattle.pth_store.specs.Keys.{key_create_answer, key_delete_answer, key_set_answer, key_get_answer}
 use Rattle.pth_model.specs.ThreadEnds.{is_alone, must_wait}
-use Rattle.pth_model.specs.Calls.{begun, begun_by, resumed, resumed_where, tried_again, resumed_by, tried_by, unless_come, interrupted}
+use Rattle.pth_model.specs.Calls.{begun, begun_by, gone_on, gone_on_where, tried_again, tried_again_by, tried_by, unless_come, interrupted}
 use Rattle.pth_model.specs.EventHandling.{spec_of, made_as, make_event, chain, wait, number_or_none, status_number}
 use Rattle.pth_model.specs.RingWaits.{extra_ring, ring_given, has_event_come, is_no_ring, is_claimed_ring}
 use Rattle.pth_lock.specs.Mutexes.{is_anothers, level_limit, levels_of, mutex_init_answer, mutex_release_answer}
@@ -463,15 +463,15 @@ module _ {P S H : Type 0} (f : P → Functions S H) (t : ℕ) (v : ℤ) where
   begun_ends : (c : Call) (s : State P S H) → IsUp s → (begun f t c s).next ≡ next.Ended v → EndsIt s.control (begun f t c s).told.marks
   begun_ends c s up e = of_exit s c (exit_began s c up e)
 
-  resumed_as : (s : State P S H) → IsUp s → resumed f t s ≡ tried_again f t s
-  unfolding resumed may_be_canceled
-  resumed_as s up = ap (λ (b : Bool). resumed_where f t (b && is_at_point (blocked_of s.control t)) s) up
+  gone_on_as : (s : State P S H) → IsUp s → gone_on f t s ≡ tried_again f t s
+  unfolding gone_on may_be_canceled
+  gone_on_as s up = ap (λ (b : Bool). gone_on_where f t (b && is_at_point (blocked_of s.control t)) s) up
 
   tried_ends : (s : State P S H) → (tried_again f t s).next ≡ next.Ended v → EndsIt s.control (tried_again f t s).told.marks
   unfolding tried_again
   tried_ends s e = by_blocked (blocked_of s.control t) refl e
     where
-      by_blocked : (o : Option Blocked) → blocked_of s.control t ≡ o → (resumed_by f t o s).next ≡ next.Ended v → EndsIt s.control (tried_again f t s).told.marks
+      by_blocked : (o : Option Blocked) → blocked_of s.control t ≡ o → (tried_again_by f t o s).next ≡ next.Ended v → EndsIt s.control (tried_again f t s).told.marks
       by_blocked None at h = absurd (cc h)
       by_blocked (Some b) at h =
           let come = has_event_come s.control.events (ring_given b.call) in
@@ -479,18 +479,18 @@ module _ {P S H : Type 0} (f : P → Functions S H) (t : ℕ) (v : ℤ) where
           let x = exits_again s b b.call (come_verdict come ((row_of f s t b.call).again b) (tried_verdict b a.verdict (effect_of a s).state h)) in
           ends_by s.control _ s x.1 (ap (λ (w : Went P S H). w.told.marks) (again_ends f s t v b at x.0 x.1))
 
-  resumed_ends : (s : State P S H) → IsUp s → (resumed f t s).next ≡ next.Ended v → EndsIt s.control (resumed f t s).told.marks
-  resumed_ends s up e =
-      let tried = tried_ends s (ap (λ (w : Went P S H). w.next) (sym (resumed_as s up)) ∙ e) in
-      record { free = tried.free; before = tried.before; told = ap (λ (w : Went P S H). w.told.marks) (resumed_as s up) ∙ tried.told }
+  gone_on_ends : (s : State P S H) → IsUp s → (gone_on f t s).next ≡ next.Ended v → EndsIt s.control (gone_on f t s).told.marks
+  gone_on_ends s up e =
+      let tried = tried_ends s (ap (λ (w : Went P S H). w.next) (sym (gone_on_as s up)) ∙ e) in
+      record { free = tried.free; before = tried.before; told = ap (λ (w : Went P S H). w.told.marks) (gone_on_as s up) ∙ tried.told }
 
   steps_ends : (s : State P S H) → IsUp s → (steps_on f t s).next ≡ next.Ended v → EndsIt s.control (steps_on f t s).told.marks
   unfolding goes_on is_alone
   steps_ends s up e = by_progress (blocked_of s.control t) (s.control.threads.progress t) e
     where
       by_progress : (b : Option Blocked) (p : Option (Progress S)) → (steps_by f t b p s).next ≡ next.Ended v → EndsIt s.control (steps_by f t b p s).told.marks
-      by_progress (Some b) p h = resumed_ends s up h
-      by_progress None None h = resumed_ends s up h
+      by_progress (Some b) p h = gone_on_ends s up h
+      by_progress None None h = gone_on_ends s up h
       by_progress None (Some p) h = (let b = begun_ends _ _ up h in record { free = b.free; before = b.before; told = b.told })
 
 -- who is main, and whose call ended it

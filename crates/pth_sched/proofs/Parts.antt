@@ -12,7 +12,7 @@ use Rattle.pth_model.specs.declared.blocked.Blocked.{Blocked}
 use Rattle.pth_model.specs.declared.next.Next.{Next}
 use Rattle.pth_model.specs.declared.next.Next.TheVariants as next
 use Rattle.pth_model.specs.declared.progress.Progress.{Progress}
-use Rattle.pth_model.specs.Calls.{resumed}
+use Rattle.pth_model.specs.Calls.{gone_on}
 use Rattle.pth_model.specs.Changes.{blocked_of}
 use Rattle.pth_model.specs.Course.{Course, within}
 use Rattle.pth_kernel.specs.Kernel.{Kernel}
@@ -144,10 +144,10 @@ unfolding steps
 steps_marks f x t s = refl
 
 -- a thread that a call blocks tries it again
-pub steps_again : {P S H : Type 0} (f : P → Functions S H) (t : ℕ) (s : State P S H) → is_some (blocked_of s.control t) ≡ true → steps_on f t s ≡ resumed f t s
+pub steps_again : {P S H : Type 0} (f : P → Functions S H) (t : ℕ) (s : State P S H) → is_some (blocked_of s.control t) ≡ true → steps_on f t s ≡ gone_on f t s
 steps_again {S = S} f t s blocked = by_blocked (blocked_of s.control t) (s.control.threads.progress t) blocked
   where
-    by_blocked : (b : Option Blocked) (p : Option (Progress S)) → is_some b ≡ true → steps_by f t b p s ≡ resumed f t s
+    by_blocked : (b : Option Blocked) (p : Option (Progress S)) → is_some b ≡ true → steps_by f t b p s ≡ gone_on f t s
     by_blocked (Some b) p some = refl
     by_blocked None p some = absurd (cc some)
 

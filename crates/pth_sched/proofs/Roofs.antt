@@ -2,6 +2,7 @@
 use Rattle.std.proofs.Common.{◌≡◌, ℕ, ◌+◌, ◌^◌, ◌<◌, ◌≤◌, pos, ◌≤ℤ◌, List, [], ◌∷◌, map, length, Option, Some, None, refl, sym, ◌∙◌, ap, subst, arith}
 use Rattle.std.proofs.lemmas.Int.{ints}
 use Rattle.std.proofs.lemmas.List.Elements.{All-head, All-nil, All-cons}
+use Rattle.pth_base.specs.Limits.{most_steps}
 use Rattle.pth_base.specs.Program.{Functions}
 use Rattle.pth_queue.specs.declared.ranked.Ranked.{Ranked}
 use Rattle.pth_queue.specs.declared.queue.Queue.TheVariants as queues
@@ -34,7 +35,7 @@ can_rise roof (x ∷ xs) low under =
 
 module _ {P S H : Type 0} (m : MachineOf P S H) where
   -- the roof is far below the greatest rank
-  pub roof_low : IsGoing m → (r : IsRoofed m) → m.turn.steps ≤ 1000000000 → r.roof + length m.world.threads.queues.new < 2 ^ 40
+  pub roof_low : IsGoing m → (r : IsRoofed m) → m.turn.steps ≤ most_steps → r.roof + length m.world.threads.queues.new < 2 ^ 40
   roof_low going r few =
       let a = r.few in
       let c = going.turns in
@@ -42,11 +43,11 @@ module _ {P S H : Type 0} (m : MachineOf P S H) where
       let top : 2000000023 < 2 ^ 40 = omega arith in
       omega arith
 
-  pub has_room : IsGoing m → IsRoofed m → m.turn.steps ≤ 1000000000 → HasRoom m.world.threads.queues
+  pub has_room : IsGoing m → IsRoofed m → m.turn.steps ≤ most_steps → HasRoom m.world.threads.queues
   has_room going r few = record { roof = r.roof; low = r.low; under = r.under; few = (let low = roof_low going r few in omega arith) }
 
   -- so every ready thread may rise
-  pub ready_rises : IsGoing m → IsRoofed m → m.turn.steps ≤ 1000000000 → CanRise m.world.threads.queues.ready
+  pub ready_rises : IsGoing m → IsRoofed m → m.turn.steps ≤ most_steps → CanRise m.world.threads.queues.ready
   ready_rises going r few = can_rise r.roof m.world.threads.queues.ready (let low = roof_low going r few in omega arith) r.under
 
 module _ {P S H : Type 0} (m v : MachineOf P S H) where

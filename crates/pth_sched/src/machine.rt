@@ -2,6 +2,7 @@
 
 ghost use Rattle.std.specs.Prelude.{◌≡◌, ◌≢◌, ◌⊎◌, ◌≤◌, ◌+◌, ◌↔◌, ℕ, [], true, false, None, map, IfOk, OnOk, OnErr};
 ghost use Rattle.pth_base.specs.Cut.{IsCut};
+ghost use Rattle.pth_base.specs.Limits.{most_steps};
 ghost use Rattle.pth_kernel.specs.Kernel.{kernel_of};
 ghost use Rattle.pth_model.specs.Course.{Course, within};
 ghost use Rattle.pth_model.specs.State.{Given, now_of};
@@ -72,7 +73,7 @@ impl<P: Program> Machine<P> {
     /// Makes the next `n` steps, and goes on by the parts after them that are no steps. Fewer steps are made where the run
     /// ends before. After an outcome that ends the run it answers the same again, and tells nothing.
     pub fn advance(&mut self, n: u64, marks: &mut Marks) -> Outcome
-        requires few { self.old.turn.steps + n ≤ 1000000000 }
+        requires few { self.old.turn.steps + n ≤ most_steps }
         ensures goes_on { result ≢ Outcome.OutOfMemory → (g : Given P) (i : ℕ) → StandsAt P.functions g i self.old → GoesOn P.functions g (self.old.turn.steps + n) i self.new marks.old marks.new }
         ensures breaks_off { result ≡ Outcome.OutOfMemory → (g : Given P) (i : ℕ) → StandsAt P.functions g i self.old → BreaksOff P.functions g (self.old.turn.steps + n) i marks.old marks.new }
         ensures running { (result ≡ Outcome.Running) ↔ ((self.new.turn.steps ≡ self.old.turn.steps + n) × IsAtStep self.new) }
@@ -91,7 +92,7 @@ impl<P: Program> Machine<P> {
 
     /// Goes on as `advance` does, and no further than to the end of a turn: it stops also after the first Close that it makes.
     pub fn turn(&mut self, n: u64, marks: &mut Marks) -> Outcome
-        requires few { self.old.turn.steps + n ≤ 1000000000 }
+        requires few { self.old.turn.steps + n ≤ most_steps }
         ensures goes_on { result ≢ Outcome.OutOfMemory → (g : Given P) (i : ℕ) → StandsAt P.functions g i self.old → TurnGoesOn P.functions g (self.old.turn.steps + n) i self.new marks.old marks.new }
         ensures breaks_off { result ≡ Outcome.OutOfMemory → (g : Given P) (i : ℕ) → StandsAt P.functions g i self.old → TurnBreaksOff P.functions g (self.old.turn.steps + n) i marks.old marks.new }
         ensures running { (result ≡ Outcome.Running) ↔ (((self.new.turn.steps ≡ self.old.turn.steps + n) × IsAtStep self.new) ⊎ IsBetweenTurns self.new) }

@@ -2,7 +2,7 @@
 
 ghost use Rattle.std.specs.Prelude.{◌≡◌, ◌≢◌, ◌⊎◌, ◌≤◌, ◌+◌, ◌<◌, ℕ, [], true, false, Some, None, is_some, IsSome, IfSome, IfOk, OnOk, OnErr, length};
 ghost use Rattle.pth_base.specs.Cut.{IsCut};
-ghost use Rattle.pth_base.specs.Limits.{last_moment};
+ghost use Rattle.pth_base.specs.Limits.{last_moment, most_steps};
 ghost use Rattle.pth_kernel.specs.Kernel.{kernel_of};
 ghost use Rattle.pth_model.specs.Changes.{goes_on};
 ghost use Rattle.pth_model.specs.Course.{Course, within};
@@ -108,7 +108,7 @@ impl<P: Program> Schedule<P> {
     fn take(&mut self, marks: &mut Marks) -> Result<(), OutOfMemory>
         requires going { IsGoing self.old }
         requires ranks { IsRoofed self.old }
-        requires few { self.old.turn.steps ≤ 1000000000 }
+        requires few { self.old.turn.steps ≤ most_steps }
         requires nobody { self.old.world.scheduler.running ≡ None }
         requires over { self.old.turn.gave ≡ None }
         requires some { 0 < length self.old.world.threads.queues.ready + length self.old.world.threads.queues.new }
@@ -163,7 +163,7 @@ impl<P: Program> Schedule<P> {
     fn step(&mut self, t: Tid, marks: &mut Marks) -> Result<(), OutOfMemory>
         requires going { IsGoing self.old }
         requires ranks { IsRoofed self.old }
-        requires few { self.old.turn.steps ≤ 1000000000 }
+        requires few { self.old.turn.steps ≤ most_steps }
         requires runs { self.old.world.scheduler.running ≡ Some t.0 }
         requires over { self.old.turn.gave ≡ None }
         ensures ok { OnOk result ((c : Course P P.State P.Shared) → Stands self.old c → Makes self.new marks.old marks.new (steps P.functions c.turn t.0 c.state)) }
@@ -184,7 +184,7 @@ impl<P: Program> Schedule<P> {
     fn close(&mut self, t: Tid, marks: &mut Marks) -> Result<(), OutOfMemory>
         requires going { IsGoing self.old }
         requires ranks { IsRoofed self.old }
-        requires few { self.old.turn.steps ≤ 1000000000 }
+        requires few { self.old.turn.steps ≤ most_steps }
         requires over { self.old.turn.gave ≡ Some t.0 }
         ensures ok { OnOk result ((c : Course P P.State P.Shared) → Stands self.old c → Makes self.new marks.old marks.new (closes P.functions c.turn t.0 c.state)) }
         ensures err { OnErr result ((c : Course P P.State P.Shared) → Stands self.old c → IsCut marks.old marks.new (closes P.functions c.turn t.0 c.state).marks) }
@@ -277,7 +277,7 @@ impl<P: Program> Schedule<P> {
     // The part that comes next while nobody runs: a thread is taken, or where nothing is new or ready, idle time moves on.
     fn take_or_move(&mut self, marks: &mut Marks) -> Result<(), OutOfMemory>
         requires keeps { Keeps self.old }
-        requires few { self.old.turn.steps ≤ 1000000000 }
+        requires few { self.old.turn.steps ≤ most_steps }
         requires goes { self.old.turn.outcome ≡ Outcome.Running }
         requires over { self.old.turn.gave ≡ None }
         requires nobody { self.old.world.scheduler.running ≡ None }
@@ -296,7 +296,7 @@ impl<P: Program> Schedule<P> {
     // One part of the run.
     fn part(&mut self, marks: &mut Marks) -> Result<(), OutOfMemory>
         requires keeps { Keeps self.old }
-        requires few { self.old.turn.steps ≤ 1000000000 }
+        requires few { self.old.turn.steps ≤ most_steps }
         ensures ok { OnOk result ((c : Course P P.State P.Shared) → Stands self.old c → Makes self.new marks.old marks.new (part P.functions c.turn c.state)) }
         ensures err { OnErr result ((c : Course P P.State P.Shared) → Stands self.old c → IsCut marks.old marks.new (part P.functions c.turn c.state).marks) }
         ensures going { OnOk result (IsGoing self.new) }
@@ -333,7 +333,7 @@ impl<P: Program> Schedule<P> {
     pub fn advance(&mut self, to: u64, marks: &mut Marks) -> Result<(), OutOfMemory>
         requires keeps { Keeps self.old }
         requires more { self.old.turn.steps ≤ to }
-        requires few { to ≤ 1000000000 }
+        requires few { to ≤ most_steps }
         ensures goes_on { OnOk result ((g : Given P) (i : ℕ) → StandsAt P.functions g i self.old → GoesOn P.functions g to i self.new marks.old marks.new) }
         ensures breaks_off { OnErr result ((g : Given P) (i : ℕ) → StandsAt P.functions g i self.old → BreaksOff P.functions g to i marks.old marks.new) }
         ensures rests { OnOk result (Rests self.new) }
@@ -350,7 +350,7 @@ impl<P: Program> Schedule<P> {
     pub fn turn(&mut self, to: u64, marks: &mut Marks) -> Result<(), OutOfMemory>
         requires keeps { Keeps self.old }
         requires more { self.old.turn.steps ≤ to }
-        requires few { to ≤ 1000000000 }
+        requires few { to ≤ most_steps }
         ensures goes_on { OnOk result ((g : Given P) (i : ℕ) → StandsAt P.functions g i self.old → TurnGoesOn P.functions g to i self.new marks.old marks.new) }
         ensures breaks_off { OnErr result ((g : Given P) (i : ℕ) → StandsAt P.functions g i self.old → TurnBreaksOff P.functions g to i marks.old marks.new) }
         ensures rests { OnOk result (Rests self.new) }

@@ -67,7 +67,7 @@ pub fn next<P: Program>(w: &World<P>) -> Tid
     ensures known { IsKnown w.now.threads result.0 }
     ensures ready { IsIn queue.Ready w.now.threads result.0 }
 {
-    match w.preferred().or(w.first(Queue::Ready)) {
+    match w.named().or(w.first(Queue::Ready)) {
         Some(t) => t,
         None => unreachable!(),
     }

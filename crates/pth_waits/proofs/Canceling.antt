@@ -6,7 +6,7 @@ use Rattle.pth_base.specs.declared.call.Call.TheVariants as call
 use Rattle.pth_base.specs.declared.mark.Mark.TheVariants.{Answered}
 use Rattle.pth_base.specs.declared.ids.Tid.{Tid}
 use Rattle.pth_model.specs.declared.next.Next.TheVariants as next
-use Rattle.pth_model.specs.Calls.{begun, canceled_by, resumed, resumed_where, tried_again}
+use Rattle.pth_model.specs.Calls.{begun, canceled_by, gone_on, gone_on_where, tried_again}
 use Rattle.pth_model.specs.Cancellation.{canceled_in, canceled_value, is_at_point, is_to_cancel, may_be_canceled}
 use Rattle.pth_model.specs.Changes.{entry_of, or_nobody, blocked_of}
 use Rattle.pth_model.specs.Resources.{told, answer_told}
@@ -42,10 +42,10 @@ quiet_point t = λ x. refl
 
 -- a thread that a call blocks goes on
 module _ {P S H : Type 0} (f : P → Functions S H) (s : State P S H) (t : ℕ) where
-  pub resumed_canceled : may_be_canceled s.control t ≡ true → resumed f t s ≡ canceled_by f t (blocked_of s.control t) s
-  unfolding resumed
-  resumed_canceled may = ap (λ (b : Bool). resumed_where f t b s) may
+  pub gone_on_canceled : may_be_canceled s.control t ≡ true → gone_on f t s ≡ canceled_by f t (blocked_of s.control t) s
+  unfolding gone_on
+  gone_on_canceled may = ap (λ (b : Bool). gone_on_where f t b s) may
 
-  pub resumed_again : may_be_canceled s.control t ≡ false → resumed f t s ≡ tried_again f t s
-  unfolding resumed
-  resumed_again may = ap (λ (b : Bool). resumed_where f t b s) may
+  pub gone_on_again : may_be_canceled s.control t ≡ false → gone_on f t s ≡ tried_again f t s
+  unfolding gone_on
+  gone_on_again may = ap (λ (b : Bool). gone_on_where f t b s) may

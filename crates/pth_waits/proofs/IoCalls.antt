@@ -331,9 +331,9 @@ module _ {P S H : Type 0} (f : P → Functions S H) (s : State P S H) (t : ℕ) 
   ends_as x v = (let y = tried_by f t b v x.state in record { told = record { state = y.told.state; marks = x.marks ++ y.told.marks }; next = y.next })
 
   -- it comes to its verdict, from the state after the attempt
-  resumed_as : (v : Verdict) → verdict ≡ v → tried_again f t s ≡ tried_by f t b v then
+  gone_on_as : (v : Verdict) → verdict ≡ v → tried_again f t s ≡ tried_by f t b v then
   unfolding tried_again
-  resumed_as v is =
+  gone_on_as v is =
       let attempt : Attempt P S H = verdict trying changes (with_kernel again.after) in
       rw has (
       ap (λ (a : Attempt P S H). ends_as (effect_of a s) a.verdict) (ap (unless_come come) (io_again f s t b.call b io) ∙ interrupted_attempt come _ _)
@@ -341,7 +341,7 @@ module _ {P S H : Type 0} (f : P → Functions S H) (s : State P S H) (t : ℕ) 
       ∙ ap (λ (x : Verdict). ends_as (changes (with_kernel again.after) s) x) is)
 
   pub resumed_says : (a : Answer) → verdict ≡ Says a → tried_again f t s ≡ record { told = answers f t b.call a then; next = next.Done a }
-  resumed_says a is = resumed_as (Says a) is
+  resumed_says a is = gone_on_as (Says a) is
 
   pub resumed_waits : (n : ℕ) → verdict ≡ blocks_on 0 n → tried_again f t s ≡ record { told = (changes (is_blocked_by t (Some (record b { written = n }))) and_then tells (Waits (tid t) b.call)) then; next = next.Waits }
-  resumed_waits n is = resumed_as (blocks_on 0 n) is
+  resumed_waits n is = gone_on_as (blocks_on 0 n) is

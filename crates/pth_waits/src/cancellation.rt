@@ -23,6 +23,7 @@ use pth_base::memory::OutOfMemory;
 use pth_base::program::Program;
 use pth_calls::answering::answer_call;
 use pth_end::cancellation::{CANCELED, cancel_within};
+use pth_model::cancel_states::is_enabled;
 use pth_model::next::Next;
 use pth_threads::entry::Entry;
 use pth_world::world::World;
@@ -31,7 +32,7 @@ use pth_world::world::World;
 fn is_to_cancel(it: &Entry) -> bool
     ensures { result ≡ is_to_cancel_by it.now }
 {
-    it.request && (it.cancel == 1 || it.cancel == 3)
+    it.request && is_enabled(it.cancel)
 }
 
 // Whether a call is a cancellation point while it blocks its thread: all that block but pth_exit.

@@ -75,7 +75,7 @@ fn to_join<P: Program>(w: &World<P>, n: i64) -> Option<Tid>
     if n == 0 {
         return first_joinable(w);
     }
-    match w.named(n) {
+    match w.known(n) {
         Some(it) => {
             if is_dead(it.state) {
                 Some(it.tid)
@@ -103,7 +103,7 @@ fn refusal<P: Program>(w: &World<P>, t: Tid, n: i64) -> Option<Errno>
             None
         };
     }
-    match w.named(n) {
+    match w.known(n) {
         Some(it) => {
             if it.joinable {
                 None
@@ -213,7 +213,7 @@ pub(crate) fn has_died<P: Program>(w: &World<P>, n: i64) -> bool
     requires { Whole w.now }
     ensures { (k : Control P P.State P.Shared) → Shows w.now k → result ≡ has_died_in k n }
 {
-    match w.named(n) {
+    match w.known(n) {
         Some(it) => is_dead(it.state) || !it.joinable,
         None => true,
     }

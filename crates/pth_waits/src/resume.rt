@@ -1,8 +1,10 @@
-//! How a thread goes on that a call blocks: it is canceled in it, or the call is tried again.
+//! How a thread that a call blocks goes on: it is canceled in the call, or the call is tried again.
+//!
+//! `resume` here is not `pth_resume`, which takes back a `pth_suspend` and stands in `thread_control.rt` of `pth_calls`.
 
 ghost use Rattle.std.specs.Prelude.{◌≡◌, Some, IfOk, OnOk, OnErr};
 ghost use Rattle.pth_base.specs.Cut.{IsCut};
-ghost use Rattle.pth_model.specs.Calls.{canceled_by, resumed, tried_again};
+ghost use Rattle.pth_model.specs.Calls.{canceled_by, gone_on, tried_again};
 ghost use Rattle.pth_model.specs.Changes.{blocked_of};
 ghost use Rattle.pth_model.specs.State.{State};
 ghost use Rattle.pth_world.specs.Frame.{Frame, runs_after, yields_after};
@@ -76,14 +78,14 @@ fn cancel_blocked<P: Program>(
     Ok(Next::Ended(CANCELED))
 }
 
-/// Goes on with the thread that runs where a call blocks it: the thread is canceled in it where it may be
+/// Goes on with the thread that runs, which a call blocks: the thread is canceled in the call if it may be
 /// ([`may_be_canceled`]), and else the call is tried again. After an error the world may only be dropped.
 pub fn resume<P: Program>(w: &mut World<P>, t: Tid, marks: &mut Marks) -> Result<Next, OutOfMemory>
     requires whole { Whole w.old }
     requires runs { w.old.scheduler.running ≡ Some t.0 }
-    ensures next { IfOk result (λ n. (s : State P P.State P.Shared) → StandsFor w.old s → n ≡ (resumed P.functions t.0 s).next) }
-    ensures ok { OnOk result ((s : State P P.State P.Shared) → StandsFor w.old s → Leads w.new marks.old marks.new (resumed P.functions t.0 s).told) }
-    ensures err { OnErr result ((s : State P P.State P.Shared) → StandsFor w.old s → IsCut marks.old marks.new (resumed P.functions t.0 s).told.marks) }
+    ensures next { IfOk result (λ n. (s : State P P.State P.Shared) → StandsFor w.old s → n ≡ (gone_on P.functions t.0 s).next) }
+    ensures ok { OnOk result ((s : State P P.State P.Shared) → StandsFor w.old s → Leads w.new marks.old marks.new (gone_on P.functions t.0 s).told) }
+    ensures err { OnErr result ((s : State P P.State P.Shared) → StandsFor w.old s → IsCut marks.old marks.new (gone_on P.functions t.0 s).told.marks) }
     ensures frame { IfOk result (λ n. Frame w.old w.new 0 (runs_after t.0 n) (yields_after n)) }
 {
     if may_be_canceled(w, t) {

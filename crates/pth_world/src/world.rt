@@ -193,15 +193,15 @@ impl<P: Program> World<P> {
         }
     }
 
-    /// The thread that the last yield named, and none where it named none (`pth_yield`).
-    pub fn preferred(&self) -> Option<Tid>
+    /// The thread that the last yield named, which is dispatched next; none if it named none (`pth_yield`).
+    pub fn named(&self) -> Option<Tid>
         ensures { option_map number_of result ≡ self.now.scheduler.preferred }
     {
         self.preferred
     }
 
-    /// Names the thread that is taken next.
-    pub fn prefer(&mut self, t: Option<Tid>)
+    /// Names the thread that is dispatched next, or none (`pth_yield`).
+    pub fn name_next(&mut self, t: Option<Tid>)
         ensures same { self.new ≡ record self.old { scheduler = record self.old.scheduler { preferred = option_map number_of t } } }
         ensures shows { (k : Control P P.State P.Shared) → Shows self.old k → Shows self.new (prefers (option_map number_of t) k) }
         ensures whole { Whole self.old → Whole self.new }

@@ -69,7 +69,7 @@ impl<P: Program> World<P> {
         self.change(t, Change::State(ThreadState::Running));
         self.change(t, Change::Dispatches(one_more(dispatches)));
         self.set_running(Some(t));
-        self.prefer(None);
+        self.name_next(None);
     }
 
     /// The thread that runs is ready again, at its base priority.

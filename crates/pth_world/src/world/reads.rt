@@ -41,8 +41,8 @@ impl<P: Program> World<P> {
         }
     }
 
-    /// The record of the thread that an operand names; none where it names no thread in the system.
-    pub fn named(&self, n: i64) -> Option<&Entry>
+    /// The record of the thread in the system that an operand names; none if no thread in the system has this number.
+    pub fn known(&self, n: i64) -> Option<&Entry>
         requires { IsSound self.now.threads }
         ensures entry { (k : Control P P.State P.Shared) → Shows self.now k → option_copied result ≡ named k.threads.known n }
         ensures here { IfSome result (λ e. Some e.now ≡ entry_in self.now.threads e.now.tid.0) }

@@ -9,7 +9,7 @@ use Rattle.pth_model.specs.Transition.{tells}
 use Rattle.pth_model.specs.declared.next.Next.TheVariants.{Done}
 use Rattle.pth_world.proofs.Telling.{quiet_leads, quiet-refused}
 use Rattle.pth_end.proofs.Chains.{leads_then, cut_one, cut_second}
-use Rattle.pth_calls.proofs.Cancelling.{abort_begun, abort_refused, quiet_abort}
+use Rattle.pth_calls.proofs.Canceling.{abort_begun, abort_refused, quiet_abort}
 use Rattle.pth_calls.proofs.cancellation.abort.Goals as goal
 
 pub returns-in-Err-clause-next : goal.returns-in-Err-clause-next

@@ -1,6 +1,6 @@
 use Rattle.std.proofs.Common.{SFits, w64, to_z-of_z, rules}
 use Rattle.pth_model.specs.Rows.{row_of}
-use Rattle.pth_calls.proofs.Cancelling.{quiet_cancellation}
+use Rattle.pth_calls.proofs.Canceling.{quiet_cancellation}
 use Rattle.pth_calls.proofs.cancellation.answer_cancellation.Goals as goal
 
 pub returns-clause-answered : goal.returns-clause-answered

@@ -9,7 +9,7 @@ use Rattle.pth_model.specs.Transition.{tells}
 use Rattle.pth_model.specs.declared.next.Next.TheVariants.{Done}
 use Rattle.pth_world.proofs.Telling.{quiet_leads, quiet-refused}
 use Rattle.pth_end.proofs.Chains.{leads_then, cut_one, cut_second}
-use Rattle.pth_calls.proofs.Cancelling.{cancel_begun, cancel_refused, quiet_cancel}
+use Rattle.pth_calls.proofs.Canceling.{cancel_begun, cancel_refused, quiet_cancel}
 use Rattle.pth_calls.proofs.cancellation.cancel.Goals as goal
 
 pub returns-in-Err-clause-next : goal.returns-in-Err-clause-next

@@ -1,5 +1,5 @@
 use Rattle.std.proofs.Common.{◌≡◌, ◌∙◌, pos, sym, SFits, w64, to_z, of_z, to_z-of_z, rules}
-use Rattle.pth_calls.proofs.Cancelling.{sets_answered, stays_answered}
+use Rattle.pth_calls.proofs.Canceling.{sets_answered, stays_answered}
 use Rattle.pth_calls.proofs.cancellation.set_cancel_state.Goals as goal
 
 pub returns-then-state-ne0-clause-answered : goal.returns-then-state-ne0-clause-answered

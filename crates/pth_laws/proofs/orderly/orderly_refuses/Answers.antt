@@ -10,8 +10,8 @@ returns-clause-handler c = none_missing
 pub returns-clause-destructor : goal.returns-clause-destructor
 returns-clause-destructor c = none_left
 
-pub returns-clause-cancelled : goal.returns-clause-cancelled
-returns-clause-cancelled c = no_answer
+pub returns-clause-canceled : goal.returns-clause-canceled
+returns-clause-canceled c = no_answer
 
 pub returns-clause-ended : goal.returns-clause-ended
 returns-clause-ended c = nothing_later

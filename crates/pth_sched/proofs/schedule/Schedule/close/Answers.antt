@@ -1,5 +1,6 @@
 use Rattle.std.proofs.Common.{◌≡◌, ◌≤◌, ◌∙◌, Some, ap, refl, sym, subst}
 use Rattle.std.proofs.lemmas.Result.{on_ok_weaker, on_err_weaker}
+use Rattle.pth_base.specs.Limits.{most_steps}
 use Rattle.pth_model.specs.State.{Scheduler}
 use Rattle.pth_sched.specs.MachineOf.{IsGoing, IsRoofed}
 use Rattle.pth_sched.specs.Running.{Stands}
@@ -13,7 +14,7 @@ pub end_turn-requires-clause-rise : goal.end_turn-requires-clause-rise
 end_turn-requires-clause-rise g c =
     let going = subst (λ m. IsGoing m) (sym c.self.view_is) c.requires.going in
     let roofed = subst (λ m. IsRoofed m) (sym c.self.view_is) c.requires.ranks in
-    let few = subst (λ m. m.turn.steps ≤ 1000000000) (sym c.self.view_is) c.requires.few in
+    let few = subst (λ m. m.turn.steps ≤ most_steps) (sym c.self.view_is) c.requires.few in
     ready_rises _ going roofed few
 
 pub returns-clause-ok : goal.returns-clause-ok

@@ -17,7 +17,7 @@ unfolding runs leaves_queue
 returns-clause-shows g c k sh =
     let a = c.take_out.ensures.shows k sh in
     let d = ap (λ o. (or_nobody o).dispatches) (c.in-Some.ensures.entry _ a) in
-    rw (← d, ← c.one_more.ensures) (c.prefer.ensures.shows _ (c.set_running.ensures.shows _ (c.change-2.ensures.shows _ (c.change.ensures.shows _ a))))
+    rw (← d, ← c.one_more.ensures) (c.name_next.ensures.shows _ (c.set_running.ensures.shows _ (c.change-2.ensures.shows _ (c.change.ensures.shows _ a))))
 
 pub returns-clause-whole : goal.returns-clause-whole
 returns-clause-whole g c =
@@ -32,18 +32,18 @@ returns-clause-whole g c =
     let three = same_twice w.threads y z two c.change-2.ensures.threads in
     let change_one = two_touches w.threads x y t (view_placed None) (view_changed (change.State state.Running)) one c.take_out.ensures.touches c.change.ensures.touches in
     let change_two = two_touches w.threads y z t _ (view_changed (change.Dispatches n)) two change_one c.change-2.ensures.touches in
-    let threads = ap (λ (k : WorldOf _ _ _). k.threads) c.prefer.ensures.same ∙ ap (λ (k : WorldOf _ _ _). k.threads) c.set_running.ensures.same in
-    let running = ap (λ (k : WorldOf _ _ _). k.scheduler.running) c.prefer.ensures.same ∙ ap (λ (k : WorldOf _ _ _). k.scheduler.running) c.set_running.ensures.same in
-    runs_whole w c.prefer.new.self t n c.requires.whole c.requires.known c.requires.stands c.requires.nobody running
+    let threads = ap (λ (k : WorldOf _ _ _). k.threads) c.name_next.ensures.same ∙ ap (λ (k : WorldOf _ _ _). k.threads) c.set_running.ensures.same in
+    let running = ap (λ (k : WorldOf _ _ _). k.scheduler.running) c.name_next.ensures.same ∙ ap (λ (k : WorldOf _ _ _). k.scheduler.running) c.set_running.ensures.same in
+    runs_whole w c.name_next.new.self t n c.requires.whole c.requires.known c.requires.stands c.requires.nobody running
     (subst IsSound (sym threads) c.change-2.ensures.sound)
     (ap (λ v. slot_of v.records) threads ∙ three.slots)
-    (ap (λ (k : WorldOf _ _ _). k.store) c.prefer.ensures.same ∙ ap (λ (k : WorldOf _ _ _). k.store) c.set_running.ensures.same ∙ ap (λ (k : WorldOf _ _ _). k.store) c.change-2.ensures.same ∙ ap (λ (k : WorldOf _ _ _). k.store) c.change.ensures.same ∙ ap (λ (k : WorldOf _ _ _). k.store) c.take_out.ensures.same)
+    (ap (λ (k : WorldOf _ _ _). k.store) c.name_next.ensures.same ∙ ap (λ (k : WorldOf _ _ _). k.store) c.set_running.ensures.same ∙ ap (λ (k : WorldOf _ _ _). k.store) c.change-2.ensures.same ∙ ap (λ (k : WorldOf _ _ _). k.store) c.change.ensures.same ∙ ap (λ (k : WorldOf _ _ _). k.store) c.take_out.ensures.same)
     (subst (λ v. Touches w.threads v t (λ (k : View). view_changed (change.Dispatches n) (view_changed (change.State state.Running) (view_placed None k)))) (sym threads) change_two)
 
 pub returns-clause-queues : goal.returns-clause-queues
 returns-clause-queues g c =
-    let queues = ap (λ (k : WorldOf _ _ _). k.threads.queues) c.prefer.ensures.same ∙ ap (λ (k : WorldOf _ _ _). k.threads.queues) c.set_running.ensures.same ∙ ap (λ (k : WorldOf _ _ _). k.threads.queues) c.change-2.ensures.same ∙ ap (λ (k : WorldOf _ _ _). k.threads.queues) c.change.ensures.same in
+    let queues = ap (λ (k : WorldOf _ _ _). k.threads.queues) c.name_next.ensures.same ∙ ap (λ (k : WorldOf _ _ _). k.threads.queues) c.set_running.ensures.same ∙ ap (λ (k : WorldOf _ _ _). k.threads.queues) c.change-2.ensures.same ∙ ap (λ (k : WorldOf _ _ _). k.threads.queues) c.change.ensures.same in
     rw queues c.take_out.ensures.queues
 
 pub returns-clause-ranks : goal.returns-clause-ranks
-returns-clause-ranks g c = ranks_left c.args.self.now.threads c.prefer.new.self.threads c.args.t.0 c.requires.known (returns-clause-queues g c)
+returns-clause-ranks g c = ranks_left c.args.self.now.threads c.name_next.new.self.threads c.args.t.0 c.requires.known (returns-clause-queues g c)
