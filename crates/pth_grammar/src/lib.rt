@@ -1,4 +1,9 @@
 //! What the lines of a script stand for, and the rules on their words.
+//!
+//! `line`, `act_line` and `check_line` give what `specs/LineMeanings.antt` says. `words_fault` gives the first of
+//! the rules `word`, `count`, `operand` and `hex` that the words of a line break in its section, and none if they
+//! break none; the words that each line must have are a table (`specs/Forms.antt`). A line that breaks none of them
+//! stands for something (`laws`).
 #![tactic(auto)]
 
 mod acts;

@@ -1,4 +1,8 @@
 //! The lines of a script, and what each does in a thread that runs it.
+//!
+//! As a `Program` a script equals `functions_of` its handlers, checks and bodies: each step keeps what the answer
+//! of the thread's last call gives it, and makes one line. A call line makes the call of its name with each operand
+//! replaced by its number. Only want of memory refuses.
 #![tactic(auto)]
 
 pub mod act_line;

@@ -1,4 +1,10 @@
 //! The thread machine in plain terms: its definitions are in `specs/`, and the types here are what they speak of.
+//!
+//! The definitions claim nothing by themselves. What is proved of them: in every state of every run each queue
+//! shows exactly those who stand there, the greater rank first and at equal ranks the earlier entry, and no thread
+//! stands in two places (`standings`); what threads have is what the marks of the run tell (`resources`); and six
+//! runs are computed (`example`). The functions for moments, lengths and what a blocked call waits for equal their
+//! definitions for all operands, and none wraps.
 #![tactic(auto)]
 
 pub mod awaits;

@@ -1,4 +1,5 @@
-//! Tests of what needs no machine and no script's run: texts, words, lines and their printing, lists and records.
+//! Tests of parts, which need no machine: texts, words and lines, lists and records, stores, rings, locks and
+//! kernels.
 #![tactic(auto)]
 
 #[cfg(test)]

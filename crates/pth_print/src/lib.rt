@@ -1,4 +1,7 @@
 //! The lines that a run prints.
+//!
+//! `mark_line`, `end_line`, `summary_line` and `fault_line` add exactly the line that `specs/` defines. If memory
+//! runs out they have added a beginning of it. `Fault::status` is the exit status of a fault.
 #![tactic(auto)]
 
 mod act;

@@ -1,4 +1,10 @@
 //! Scripts: their text, and the program that they are.
+//!
+//! Unless memory runs out, `read` gives a script and a kernel for which the text stands if no line breaks a rule or
+//! a limit, and else the first line that does, or the place after the last line, with the first rule that is broken
+//! there. Each rule is a predicate on the whole text and the number of a line (`specs/Broken.antt`). Every text is
+//! accepted or refused, and not both, and has at most one script, one kernel and one refusal
+//! (`every_text_has_one_meaning`).
 #![tactic(auto)]
 
 mod body;

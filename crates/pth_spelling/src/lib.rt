@@ -1,4 +1,8 @@
 //! How the words of a script's lines are spelled, and what each stands for by itself.
+//!
+//! What a word stands for equals its definition: `keyword` is `keyword_of`, `call_word` is `call_word`
+//! (`specs/Keywords.antt`); `operand` is `operand_of`, `register` is `register_of`, and so the others
+//! (`specs/WordMeanings.antt`).
 #![tactic(auto)]
 
 pub mod direction;

@@ -91,7 +91,7 @@ impl Text {
         self.bytes.as_slice()
     }
 
-    /// Takes all bytes out, and keeps their room.
+    /// Takes all bytes out. Their room is kept for the next ones, which no clause says.
     pub fn clear(&mut self)
         ensures { self.new ≡ [] }
     {

@@ -1,4 +1,4 @@
-//! The queues, with lengths and ranks at hand.
+//! The queues, with the length of each and the rank of each slot beside them. That they are read without a walk no clause says.
 
 ghost use Rattle.std.specs.Prelude.{◌≡◌, ◌-◌, ◌<◌, ◌≤◌, ◌++◌, pos, max, Some, IsSome, IsSomeAnd, OnOk, OnErr, length, replicate};
 ghost use Rattle.pth_queue.specs.Ranking.{increase};

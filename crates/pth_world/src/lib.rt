@@ -1,4 +1,12 @@
 //! All the state of a run: the program with its threads, by slot.
+//!
+//! A world *shows* a control of the definitions: the same threads under their numbers, and each queue in order. A
+//! change of a world is the definitions' change of each control that it showed before (`shows`), or of what threads
+//! stored (`changes`). Beside this a clause says what stays: the world's other parts (`same`), what other threads
+//! have (`touches`, `others`), and what holds of every sound or whole world (`sound`, `whole`, `but`). A read is
+//! what the control has. Refused, a change shows what was shown before. After want of memory in `next_call` nothing
+//! is said of the world.
+//! `CountedQueues` has the clauses of a `QueueSet`, and tells the length of a queue and the rank of a slot.
 #![tactic(auto)]
 
 pub mod counted_queues;
