@@ -105,7 +105,11 @@ impl Channel {
     pub(crate) fn connected(&self) -> Option<bool>
         ensures { result ≡ (if self.now.used.live then self.now.arrived.settled else None) }
     {
-        if self.live { self.arrived.settled } else { None }
+        if self.live {
+            self.arrived.settled
+        } else {
+            None
+        }
     }
 
     pub(crate) fn is_readable(&self) -> bool

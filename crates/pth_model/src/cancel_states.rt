@@ -5,6 +5,7 @@ ghost use Rattle.std.specs.Prelude.{◌≡◌};
 ghost use Rattle.pth_model.specs.Cancellation.{is_asynchronous, is_enabled};
 
 const ENABLED_DEFERRED: u8 = 1;
+
 const ENABLED_ASYNCHRONOUS: u8 = 3;
 
 /// Whether a thread in this state lets itself be canceled (`PTH_CANCEL_ENABLE`), be it at cancellation points or at any moment.

@@ -45,7 +45,6 @@ enum Question {
     Occurred(u32),
     Next(u32),
     PortAfter(i64),
-    StatusAt(i64),
     /// The event to which so many steps lead.
     Walked(i64, u32),
 }
@@ -63,7 +62,7 @@ enum Step {
 use Change::{
     Claim, Concat, Free, Isolate, LookNext, Mark, MarkAt, Unclaim, UnclaimAll, UnclaimAt,
 };
-use Question::{Kind, Next, NextLook, Occurred, Port, PortAfter, StatusAt, Walk, Walked};
+use Question::{Kind, Next, NextLook, Occurred, Port, PortAfter, Walk, Walked};
 use Step::{Ask, Chain, Fill, Make};
 
 /// Steps with their answers: a number, 0 for what is done or none, and an error's number below 0.
@@ -225,14 +224,6 @@ fn port_after(rings: &Rings, e: i64) -> i64 {
     }
 }
 
-/// What was found of an event, by its place.
-fn status_at(rings: &Rings, e: i64) -> i64 {
-    match rings.find(e) {
-        Some(place) => rings.status_at(place) as i64,
-        None => -22,
-    }
-}
-
 fn walked(rings: &Rings, from: i64, steps: u32) -> i64 {
     let mut at = from;
     for _ in 0..steps {
@@ -254,7 +245,6 @@ fn ask(rings: &Rings, question: Question) -> i64 {
             Err(errno) => code(errno),
         },
         PortAfter(e) => port_after(rings, e),
-        StatusAt(e) => status_at(rings, e),
         Walked(e, steps) => walked(rings, e, steps),
         Port(e) => ask_about(rings, question, e),
         NextLook(e) => ask_about(rings, question, e),
@@ -305,12 +295,12 @@ const CLAIMED: [(Step, i64); 14] = [
     (Step::Change(Claim(2, 5)), 0),
     (Step::Change(Claim(3, 6)), 0),
     (Step::Change(MarkAt(2, Status::Failed)), 0),
-    (Ask(StatusAt(1)), 0),
-    (Ask(StatusAt(2)), 2),
-    (Ask(StatusAt(4)), -22),
+    (Ask(Question::Status(1)), 0),
+    (Ask(Question::Status(2)), 2),
+    (Ask(Question::Status(4)), -22),
     (Step::Change(Isolate(1)), -16),
     (Step::Change(UnclaimAll), 0),
-    (Ask(StatusAt(2)), 2),
+    (Ask(Question::Status(2)), 2),
     (Step::Change(Isolate(1)), 2),
     (Step::Change(Free(3, true)), 0),
 ];

@@ -357,14 +357,6 @@ impl Rings {
         &event_of(&self.nodes, place).spec
     }
 
-    /// What was found when the event at a place was last looked at.
-    pub fn status_at(&self, place: Slot) -> Status
-        requires { number_at self.now place.0 ≢ 0 }
-        ensures { option_map (λ (v : Event). v.status) ((events_of self.now).events (number_at self.now place.0)) ≡ Some result }
-    {
-        event_of(&self.nodes, place).status
-    }
-
     /// The place of the next event.
     pub fn next_at(&self, place: Slot) -> Slot
         requires { number_at self.now place.0 ≢ 0 }

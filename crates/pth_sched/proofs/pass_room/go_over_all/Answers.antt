@@ -46,27 +46,27 @@ go_over-requires-clause-dead g c = dead_still c.args.w.now c.loop-slot.w c.any_h
 pub loop-slot-preserved : goal.loop-slot-preserved
 loop-slot-preserved g c = record {
   over = (
-    let name = λ (s : Slot). tid_at c.args.w.now.threads.records s.0 in
-    let split = drop_more c.args.slots.now c.loop-slot.slot-index (record { 0 = 0 }) c.loop-slot-test.true in
-    let threads = ap (λ (w : WorldOf _ _ _). w.threads) c.loop-slot.invariant.over.same in
-    let so_far = subst (λ (l : List Slot). GoneOver c.args.w.now c.loop-slot.w (map name c.args.slots.now) (map name l) (map number_of c.loop-slot.waking.items)) split c.loop-slot.invariant.over in
-    let e = c.go_over.ensures in
-    let named = λ (x : ThreadsBySlot _). tid_at x.records (slice_index_or c.args.slots.now c.loop-slot.slot-index (record { 0 = 0 })).0 in
-    let stored = ap (λ (w : WorldOf _ _ _). w.store) c.loop-slot.invariant.over.same in
-    let is = ap (λ (x : ThreadsBySlot _). tid_at x.records (slice_index_or c.args.slots.now c.loop-slot.slot-index (record { 0 = 0 })).0) threads in
-    gone_more c.args.w.now c.loop-slot.w c.go_over.new.w _ _ _ _ _ so_far
-    (subst (λ (t : ℕ). (k : Control _ _ _) → Shows c.loop-slot.w k → Shows c.go_over.new.w (looks_at k (awaited_events k t))) is e.shows)
-    e.made e.same
-    (subst (λ (t : ℕ). (k : Control _ _ _) → Shows c.loop-slot.w k → map number_of c.go_over.new.waking.items ≡ map number_of c.loop-slot.waking.items ++ (if is_due (store_of c.args.w.now.store) k t then t ∷ [] else [])) is
-    (subst (λ (y : StoreOf). (k : Control _ _ _) → Shows c.loop-slot.w k → map number_of c.go_over.new.waking.items ≡ map number_of c.loop-slot.waking.items ++ (if is_due (store_of y) k (named c.loop-slot.w.threads) then named c.loop-slot.w.threads ∷ [] else [])) stored e.listed)));
+      let name = λ (s : Slot). tid_at c.args.w.now.threads.records s.0 in
+      let split = drop_more c.args.slots.now c.loop-slot.slot-index (record { 0 = 0 }) c.loop-slot-test.true in
+      let threads = ap (λ (w : WorldOf _ _ _). w.threads) c.loop-slot.invariant.over.same in
+      let so_far = subst (λ (l : List Slot). GoneOver c.args.w.now c.loop-slot.w (map name c.args.slots.now) (map name l) (map number_of c.loop-slot.waking.items)) split c.loop-slot.invariant.over in
+      let e = c.go_over.ensures in
+      let named = λ (x : ThreadsBySlot _). tid_at x.records (slice_index_or c.args.slots.now c.loop-slot.slot-index (record { 0 = 0 })).0 in
+      let stored = ap (λ (w : WorldOf _ _ _). w.store) c.loop-slot.invariant.over.same in
+      let is = ap (λ (x : ThreadsBySlot _). tid_at x.records (slice_index_or c.args.slots.now c.loop-slot.slot-index (record { 0 = 0 })).0) threads in
+      gone_more c.args.w.now c.loop-slot.w c.go_over.new.w _ _ _ _ _ so_far
+      (subst (λ (t : ℕ). (k : Control _ _ _) → Shows c.loop-slot.w k → Shows c.go_over.new.w (looks_at k (awaited_events k t))) is e.shows)
+      e.made e.same
+      (subst (λ (t : ℕ). (k : Control _ _ _) → Shows c.loop-slot.w k → map number_of c.go_over.new.waking.items ≡ map number_of c.loop-slot.waking.items ++ (if is_due (store_of c.args.w.now.store) k t then t ∷ [] else [])) is
+      (subst (λ (y : StoreOf). (k : Control _ _ _) → Shows c.loop-slot.w k → map number_of c.go_over.new.waking.items ≡ map number_of c.loop-slot.waking.items ++ (if is_due (store_of y) k (named c.loop-slot.w.threads) then named c.loop-slot.w.threads ∷ [] else [])) stored e.listed)));
   few = (
-    let so_far = c.loop-slot.invariant.few in
-    let one = c.go_over.ensures.one in
-    omega arith);
+      let so_far = c.loop-slot.invariant.few in
+      let one = c.go_over.ensures.one in
+      omega arith);
   room = (
-    let so_far = c.loop-slot.invariant.room in
-    let kept = c.go_over.ensures.room in
-    omega arith);
+      let so_far = c.loop-slot.invariant.room in
+      let kept = c.go_over.ensures.room in
+      omega arith);
 }
 
 pub returns-clause-listed : goal.returns-clause-listed
