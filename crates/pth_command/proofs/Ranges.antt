@@ -67,7 +67,7 @@ none_in xs h = nil_from_length xs (eqb-true (length xs) 0 h)
 no_groups : (a : Arg) → (rule_of a).is_simple ≡ true → a.groups.items ≡ []
 no_groups a h = none_in a.groups.items (and_left _ _ (and_right _ _ (and_right _ _ h)))
 
--- the number that a text reads as, where it lies in the range
+-- the number that a text reads as, if it lies in the range
 number_in : (t : List ℕ) → Accepts false (parser.Unsigned 1 most_steps) t → (n : ℕ) × (unsigned_of t ≡ Some n) × (1 ≤ n) × (n ≤ most_steps)
 number_in t h =
     let test : accepts false (parser.Unsigned 0 18446744073709551615) t ≡ true =
@@ -82,7 +82,7 @@ within (Some t) h =
     let n = number_in t (h t refl) in
     rw n.1 (n.2, n.3)
 
--- a rule of this name stands among those of the arguments where an argument has it
+-- a rule of this name stands among those of the arguments if an argument has it
 any_at : (more : List Arg) (t : List ℕ) (j : ℕ) (e : Arg) → j < length more → bytes_eq (slice_index_or more j e).id.now t ≡ true → list_any (λ r. bytes_eq r.id t) (map rule_of more) ≡ true
 any_at [] t j e lt same = absurd (omega arith)
 any_at (a ∷ more) t zero e lt same = rw same refl

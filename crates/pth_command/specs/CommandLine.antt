@@ -40,12 +40,12 @@ asked_in rows = record {
   file = first_of (codes "FILE") rows;
 }
 
--- nothing where a step of the parse fails
+-- nothing if a step of the parse fails
 abbrev pub unless_failed : Kinds → Asked → Option Asked
 unless_failed [] asked = Some asked
 unless_failed (fault ∷ faults) asked = None
 
--- what the words ask for; nothing where they are refused
+-- what the words ask for; nothing if they are refused
 unfoldable pub asked_by : List Text → Option Asked
 asked_by words = unless_failed (fault_of play words) (asked_in (matches_of play words))
 
@@ -53,7 +53,7 @@ asked_by words = unless_failed (fault_of play words) (asked_in (matches_of play 
 abbrev pub asked_of : Choice → Asked
 asked_of c = record { steps = c.steps; summary = c.summary; file = option_map (λ name. name.now) c.file }
 
--- the choice is what was asked for, and `Refused` comes exactly where the words are refused, but for want of memory
+-- the choice is what was asked for, and `Refused` comes exactly if the words are refused, but for want of memory
 abbrev pub Chooses : Option Asked → Result Choice WordsErr → Type 0
 Chooses asked (Ok choice) = asked ≡ Some (asked_of choice)
 Chooses asked (Err words.Refused) = asked ≡ None

@@ -19,7 +19,7 @@ pub enum WordsErr {
     OutOfMemory,
 }
 
-/// What the words after the program's name ask for. They are refused exactly where the command's definition refuses them, but
+/// What the words after the program's name ask for. They are refused exactly if the command's definition refuses them, but
 /// for want of memory.
 pub fn read_words<'a>(alloc: Global, words: &'a Vec<String>) -> Result<Choice<'a>, WordsErr>
     ensures answers { Chooses (asked_by (map string_bytes words.now.items)) result }

@@ -36,7 +36,7 @@ at_forms (t ∷ []) = time_form ∷ form.Descriptor ∷ form.Entry ∷ []
 at_forms (t ∷ f ∷ []) = time_form ∷ form.Descriptor ∷ form.Entry ∷ []
 at_forms (t ∷ f ∷ e ∷ ws) = entry_forms (entry_word e)
 
--- none where the word may not begin a line of the part: the clock comes first, then what is open, then what comes
+-- none if the word may not begin a line of the part: the clock comes first, then what is open, then what comes
 abbrev pub kernel_forms : KernelPart → Keyword → List (List ℕ) → Option (List Form)
 kernel_forms part.Head key.Clock ws = Some (clock_form ∷ [])
 kernel_forms part.Head key.Open ws = Some (form.Descriptor ∷ [])

@@ -48,7 +48,7 @@ fn at_forms(words: &[&[u8]]) -> &'static [Form]
     }
 }
 
-/// The forms of the words after a keyword, or none where it may not begin a line of the part.
+/// The forms of the words after a keyword, or none if it may not begin a line of the part.
 pub fn kernel_forms(part: KernelPart, keyword: Keyword, words: &[&[u8]]) -> Option<&'static [Form]>
     ensures { option_map (λ f. f.now) result ≡ kernel_forms part keyword (texts words.now) }
 {

@@ -1,4 +1,4 @@
--- The limits of a script's text. How many `at` lines a kernel may have stands with what comes to it.
+-- The limits of a script's text. `pth_kernel` has that of the `at` lines.
 use Rattle.std.specs.Prelude.{ℕ}
 
 -- the bytes that an input may have, and a line without its LF

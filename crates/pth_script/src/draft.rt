@@ -189,7 +189,7 @@ impl Draft {
         }
     }
 
-    /// The first that a line of words breaks, where the stamp is the one that the line stands for.
+    /// The first that a line of words breaks. The stamp is the one that the line stands for.
     pub fn fault(&self, words: &[&[u8]], stamp: &Option<Stamp>, ended: bool) -> Option<Breach>
         requires stamp { stamp.now ≡ stamp_line (texts words.now) }
         requires kept { IsDraftInOrder (draft_parts self.now) }
@@ -328,7 +328,7 @@ impl Draft {
         Ok(())
     }
 
-    /// The script and the kernel that were read, where nothing is open and there is a body.
+    /// The script and the kernel that were read, if nothing is open and there is a body.
     pub fn close(self) -> Result<(Script, Kernel), OutOfMemory>
         requires closable { IsClosable (draft_parts self) }
         requires kept { IsDraftInOrder (draft_parts self) }
@@ -338,7 +338,7 @@ impl Draft {
         Ok((Script::new(self.handlers, self.checks, self.bodies), kernel))
     }
 
-    /// Takes a line of words that breaks no rule, where the stamp is the one that the line stands for.
+    /// Takes a line of words that breaks no rule. The stamp is the one that the line stands for.
     pub fn take(&mut self, words: &[&[u8]], stamp: Option<Stamp>) -> Result<(), OutOfMemory>
         requires stamp { stamp ≡ stamp_line (texts words.now) }
         requires fine { IsFine (draft_parts self.old) (texts words.now) }

@@ -79,7 +79,7 @@ impl KernelDraft {
         self.trace.add(&mut self.rules, stamp)
     }
 
-    /// The kernel that was read. A turn takes 1 microsecond where no line says how many.
+    /// The kernel that was read. A turn takes 1 microsecond if no line says how many.
     pub fn close(self, alloc: Global) -> Result<Kernel, OutOfMemory>
         requires { IsKernelInOrder self }
         ensures { IfOk result (λ k. kernel_of k ≡ started (unwrap_or self.clock 1) self.live.0 self.trace) }

@@ -1,4 +1,4 @@
-//! The limits of a script's text. How many `at` lines a kernel may have stands with what comes to it.
+//! The limits of a script's text. `pth_kernel` has that of the `at` lines.
 
 /// How many bytes an input may have. What stands after one byte more need not be read.
 pub const TEXT_LIMIT: usize = 16_777_216;
