@@ -139,7 +139,7 @@ fn told(
 }
 
 /// The descriptors that are open from the start, what comes, what is done, and what is told of it.
-static KERNELS: [(u64, &[Row], &[Act], &str); 8] = [
+static KERNELS: [(u64, &[Row], &[Act], &str); 9] = [
     // bytes come at their time, and stay until they are taken
     (
         8,
@@ -208,6 +208,22 @@ static KERNELS: [(u64, &[Row], &[Act], &str); 8] = [
         &[(1, 3, In(b"a"))],
         &[At(1), Close(3), Show(3), Close(3), Mode(3, 2)],
         "; 1;  1 0 -; -9; -9; ",
+    ),
+    // a connect has an answer only while its descriptor is live
+    (
+        24,
+        &[(1, 3, Up), (1, 4, Refuse), (1, 3, Conn(5)), (1, 5, Up)],
+        &[
+            At(1),
+            Show(5),
+            Accept(3),
+            Show(5),
+            Close(3),
+            Close(4),
+            Show(3),
+            Show(4),
+        ],
+        ";  0 0 -; 5; ls 0 0 up; 1; 1;  0 0 -;  0 0 -; ",
     ),
     // modes
     (

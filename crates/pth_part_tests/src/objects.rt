@@ -1,8 +1,13 @@
+ghost use Rattle.std.specs.Prelude.{IfOk, ◌≤◌};
+
 use crate::comparison::{same_bytes, same_numbers, same_text};
 use pth_streams::files::{Files, MemoryFiles, SureFiles};
+use pth_streams::reading::Reading;
 use pth_streams::sink::{MemorySink, Sink, SureSink};
 use pth_streams::source::{MemorySource, Source, SureSource};
+use pth_streams::writing::Writing;
 use std::alloc::{AllocError, Global};
+use std::io::{self, Error, ErrorKind, Read, Write};
 use std::process::Abort;
 use std::test::Fail;
 
@@ -122,4 +127,83 @@ fn a_sink_grows(rt: HostRuntime) {
     let mut sink = SureSink::new(rt.alloc());
     have_writes(&rt, &mut sink, &[4, 4]);
     same_bytes(&rt, sink.as_slice(), "abcdabcd");
+}
+
+/// A reader and a writer of std whose first call fails: with an error, or for none by moving no byte. Each later call moves as many
+/// bytes as there were calls, if there are so many.
+#[derive(Drop)]
+struct FailsOnce {
+    error: Option<ErrorKind>,
+    calls: usize,
+}
+
+impl FailsOnce {
+    fn new(error: Option<ErrorKind>) -> FailsOnce {
+        FailsOnce { error, calls: 0 }
+    }
+
+    /// The answer of the next call, over so many bytes.
+    fn answer(&mut self, len: usize) -> io::Result<usize>
+        ensures { IfOk result (λ n. n ≤ len) }
+    {
+        self.calls = self.calls.saturating_add(1);
+        if self.calls > 1 {
+            return Ok(len.min(self.calls));
+        }
+        match self.error {
+            Some(kind) => Err(Error::from(kind)),
+            None => Ok(0),
+        }
+    }
+}
+
+impl Read for FailsOnce {
+    fn read(&mut self, buf: &mut [u8]) -> io::Result<usize> {
+        self.answer(buf.len())
+    }
+}
+
+impl Write for FailsOnce {
+    fn write(&mut self, buf: &[u8]) -> io::Result<usize> {
+        self.answer(buf.len())
+    }
+
+    fn flush(&mut self) -> io::Result<()> {
+        Ok(())
+    }
+}
+
+const ERRORS: [Option<ErrorKind>; 2] = [Some(ErrorKind::Interrupted), Some(ErrorKind::WouldBlock)];
+
+/// Compares what three reads give: the first fails, and the second is the reader's second call.
+fn have_failed_reads(
+    rt: &impl Abort,
+    alloc: Global,
+    errors: &[Option<ErrorKind>],
+) -> Result<(), AllocError> {
+    for error in errors {
+        let mut source = Reading::new(FailsOnce::new(*error));
+        have_reads(rt, alloc, &mut source, 3, "failed 2 0 3 0 ")?;
+    }
+    Ok(())
+}
+
+#[test]
+fn a_reading_is_not_tried_again(rt: HostRuntime) -> Result<(), Fail> {
+    have_failed_reads(&rt, rt.alloc(), &ERRORS)?;
+    Ok(())
+}
+
+/// Compares what two writes take: the first fails, and the second is the writer's second call.
+fn have_failed_writes(rt: &impl Abort, errors: &[Option<ErrorKind>]) {
+    for error in errors {
+        let mut sink = Writing::new(FailsOnce::new(*error));
+        have_writes(rt, &mut sink, &[-1, 2]);
+    }
+}
+
+#[test]
+fn a_writing_is_not_tried_again(rt: HostRuntime) {
+    have_failed_writes(&rt, &ERRORS);
+    have_failed_writes(&rt, &[None]);
 }
