@@ -7,5 +7,5 @@ pub mod Dues
 pub mod Looking
 pub mod Cleaning
 pub mod Destructing
-pub mod Cancelling
+pub mod Canceling
 pub mod Sweeping

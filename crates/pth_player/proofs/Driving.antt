@@ -62,11 +62,15 @@ none_told f g = refl
 no_steps_of : {P S H : Type 0} (f : P → Functions S H) (g : Given P) (m : MachineOf P S H) → StandsAt f g 0 m → m.turn.steps ≡ 0
 no_steps_of f g m stands = ap (λ (x : Turn). x.steps) (sym stands.turn) ∙ none_made f g
 
-within : (first made left n total size : ℕ) → first ≡ 0 → made + left ≡ first + total → n ≡ min left size → made + n ≤ total
-within first made left n total size none h most = omega arith
+-- no more steps are asked for than are left
+pub not_more : (n most left size : ℕ) → n ≤ most → most ≡ min left size → n ≤ left
+not_more n most left size few is = omega arith
 
-spent : (first made left n total size : ℕ) → first ≡ 0 → made + left ≡ first + total → n ≡ min left size → left - n ≡ 0 → made + n ≡ total
-spent first made left n total size none h most e = omega arith
+within : (first made left n total : ℕ) → first ≡ 0 → made + left ≡ first + total → n ≤ left → made + n ≤ total
+within first made left n total none h few = omega arith
+
+spent : (first made left n total : ℕ) → first ≡ 0 → made + left ≡ first + total → n ≤ left → left - n ≡ 0 → made + n ≡ total
+spent first made left n total none h few e = omega arith
 
 none_of_none : (b : Bool) → (if b then [] else lines_of []) ≡ []
 none_of_none true = refl
@@ -146,25 +150,25 @@ module _ {P S H : Type 0} (f : P → Functions S H) (g : Given P) (asked : Asked
     )
 
     -- after the next piece, whose marks are `seen` and not yet written
-    pub piece : (first k : MachineOf P S H) (left n size : ℕ) (clear marks seen : List Mark) → StandsAt f g 0 first → m.turn.steps + left ≡ first.turn.steps + asked.steps → n ≡ min left size
+    pub piece : (first k : MachineOf P S H) (left n : ℕ) (clear marks seen : List Mark) → StandsAt f g 0 first → m.turn.steps + left ≡ first.turn.steps + asked.steps → n ≤ left
         → clear ≡ [] → seen ≡ marks → (u : Underway m a b []) → GoesOn f g (m.turn.steps + n) u.at k clear marks → Stopped (m.turn.steps + n) k a b seen
-    piece first k left n size clear marks seen stands made most none is u go =
-        subst (Stopped (m.turn.steps + n) k a b) (sym is) (goes_on n k clear marks (within first.turn.steps m.turn.steps left n asked.steps size (no_steps_of f g first stands) made most) none u go)
+    piece first k left n clear marks seen stands made few none is u go =
+        subst (Stopped (m.turn.steps + n) k a b) (sym is) (goes_on n k clear marks (within first.turn.steps m.turn.steps left n asked.steps (no_steps_of f g first stands) made few) none u go)
 
     -- and where its lines were written
-    pub onward : (first k : MachineOf P S H) (left n size : ℕ) (clear marks seen : List Mark) (c : Option (List ℕ)) → StandsAt f g 0 first → m.turn.steps + left ≡ first.turn.steps + asked.steps
-        → n ≡ min left size → clear ≡ [] → seen ≡ marks → (u : Underway m a b []) → GoesOn f g (m.turn.steps + n) u.at k clear marks → Appends b c (shown_of asked seen)
+    pub onward : (first k : MachineOf P S H) (left n : ℕ) (clear marks seen : List Mark) (c : Option (List ℕ)) → StandsAt f g 0 first → m.turn.steps + left ≡ first.turn.steps + asked.steps
+        → n ≤ left → clear ≡ [] → seen ≡ marks → (u : Underway m a b []) → GoesOn f g (m.turn.steps + n) u.at k clear marks → Appends b c (shown_of asked seen)
         → Stopped (m.turn.steps + n) k a c []
-    onward first k left n size clear marks seen c stands made most none is u go w =
-        wrote k (m.turn.steps + n) a b c seen w (piece first k left n size clear marks seen stands made most none is u go)
+    onward first k left n clear marks seen c stands made few none is u go w =
+        wrote k (m.turn.steps + n) a b c seen w (piece first k left n clear marks seen stands made few none is u go)
 
     -- the run stops there for good
-    pub at_end : (first : MachineOf P S H) (before left n size : ℕ) (o : Outcome) (pending : List Mark) → StandsAt f g 0 first → before + left ≡ first.turn.steps + asked.steps → n ≡ min left size
+    pub at_end : (first : MachineOf P S H) (before left n : ℕ) (o : Outcome) (pending : List Mark) → StandsAt f g 0 first → before + left ≡ first.turn.steps + asked.steps → n ≤ left
         → o ≡ m.turn.outcome → (left - n ≡ 0) ⊎ (o ≢ outcomes.Running) → Stopped (before + n) m a b pending → Stopped asked.steps m a b pending
-    at_end first before left n size o pending stands made most is over s = (
+    at_end first before left n o pending stands made few is over s = (
       s.0,
       elim over [
-        | inl none ↦ subst (λ (to : ℕ). stops to (run f g s.0.at) ≡ true) (spent first.turn.steps before left n asked.steps size (no_steps_of f g first stands) made most none) s.1
+        | inl none ↦ subst (λ (to : ℕ). stops to (run f g s.0.at) ≡ true) (spent first.turn.steps before left n asked.steps (no_steps_of f g first stands) made few none) s.1
         | inr halts ↦ ended_stops asked.steps (run f g s.0.at) (λ e. halts (is ∙ ap (λ (x : Turn). x.outcome) (sym s.0.stands.turn) ∙ e))
       ],
     )
@@ -271,8 +275,8 @@ pub cut_before : (a : Option (List ℕ)) (f : ℕ) (text : List ℕ) (r : Result
 cut_before a f text r h k = subst (WritesPiece a a f f text) (sym (err_is r sink.OutOfMemory h k)) (none_of a text, refl)
 
 -- as many steps as were asked for are made, and are left
-pub still_left : (made now left n total size : ℕ) → now ≡ made + n → made + left ≡ total → n ≡ min left size → now + (left - n) ≡ total
-still_left made now left n total size a b e = omega arith
+pub still_left : (made now left n total : ℕ) → now ≡ made + n → made + left ≡ total → n ≤ left → now + (left - n) ≡ total
+still_left made now left n total a b few = omega arith
 
 piece_by : (a b : Option (List ℕ)) (f g : ℕ) (text : List ℕ) (r : Result (Unit {0}) SinkErr) → OnOk r (Appends a b text) → OnErr r (AppendsPart a b text) → CountsSink f g r → WritesPiece a b f g text r
 piece_by a b f g text (Ok x) all part counts = (all, counts)

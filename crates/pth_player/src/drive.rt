@@ -4,7 +4,7 @@ ghost use Rattle.std.specs.Prelude.{◌≡◌, ◌≢◌, ◌≤◌, ◌+◌, �
 ghost use Rattle.pth_base.specs.Limits.{most_steps};
 ghost use Rattle.pth_model.specs.Course.{Course};
 ghost use Rattle.pth_model.specs.State.{Given};
-ghost use Rattle.pth_sched.specs.Running.{Stands, StandsAt};
+ghost use Rattle.pth_sched.specs.Running.{GoesOn, Stands, StandsAt};
 ghost use Rattle.pth_command.specs.CommandLine.{asked_of};
 ghost use Rattle.pth_player.specs.Drive.{Drives};
 ghost use Rattle.pth_player.specs.Transcript.{counts_of, ending_of, lines_of, shown_of, WritesPiece};
@@ -23,6 +23,12 @@ use pth_sched::machine::Machine;
 use pth_streams::sink::{Sink, SinkErr};
 use pth_text::text::Text;
 use std::alloc::Global;
+
+/// How many marks are told before they are written, but for those of the last few steps: one step may tell 83,000.
+const MOST_MARKS: usize = 4096;
+
+/// How many steps are made before the marks are counted.
+const STRIDE: u64 = 4;
 
 /// Adds the lines of marks.
 fn add_lines(marks: &[Mark], text: &mut Text) -> Result<(), OutOfMemory>
@@ -103,13 +109,36 @@ fn is_over(left: u64, outcome: Outcome) -> bool
     }
 }
 
-/// Makes as many of the machine's next steps as the choice asks for, fewer where its run ends before, and writes what the
+/// Makes some of the machine's next steps: at most `n`, and no more once `MOST_MARKS` marks were told, but for the last few.
+/// The answer has the outcome, and how many steps the machine was asked for.
+fn some_steps<P: Program>(machine: &mut Machine<P>, n: u64, marks: &mut Marks) -> (Outcome, u64)
+    requires few { machine.old.turn.steps + n ≤ most_steps }
+    ensures within { result.1 ≤ n }
+    ensures some { 1 ≤ n → 1 ≤ result.1 }
+    ensures goes_on { result.0 ≢ Outcome.OutOfMemory → (g : Given P) (i : ℕ) → StandsAt P.functions g i machine.old → GoesOn P.functions g (machine.old.turn.steps + result.1) i machine.new marks.old marks.new }
+    ensures running { result.0 ≡ Outcome.Running → machine.new.turn.steps ≡ machine.old.turn.steps + result.1 }
+    ensures outcome { result.0 ≡ machine.new.turn.outcome }
+{
+    let mut asked = n.min(STRIDE);
+    let mut outcome = machine.advance(asked, marks);
+    'strides: loop {
+        if is_over(n - asked, outcome) || marks.as_slice().len() >= MOST_MARKS {
+            return (outcome, asked);
+        }
+        let more = (n - asked).min(STRIDE);
+        outcome = machine.advance(more, marks);
+        asked += more;
+    }
+}
+
+/// Makes as many of the machine's next steps as the choice asks for, fewer if its run ends before, and writes what the
 /// choice asks for: its transcript, or a summary.
 ///
-/// `piece` steps are made between two writes. The marks and the text of so many are kept at a time.
+/// Between two writes at most `piece` steps are made, and no more once 4,096 marks were told, but for the last few. The marks
+/// and the text of so many are kept at a time.
 ///
 /// A machine that stands at the start of a run writes the text of what that run tells to so many steps, and nothing else.
-/// Where the sink fails or memory ends, a beginning of that is written.
+/// If the sink fails or memory ends, a beginning of that is written.
 pub fn drive<P: Program, O: Sink>(
     alloc: Global,
     machine: &mut Machine<P>,
@@ -125,15 +154,14 @@ pub fn drive<P: Program, O: Sink>(
     let mut text = Text::new(alloc);
     let mut left = choice.steps;
     'pieces: loop {
-        let n = left.min(piece);
         marks.clear();
-        let outcome = machine.advance(n, &mut marks);
+        let (outcome, asked) = some_steps(machine, left.min(piece), &mut marks);
         match outcome {
             Outcome::OutOfMemory => return Err(SinkErr::OutOfMemory),
             _ => {}
         }
         write_marks(marks.as_slice(), choice, &mut text, out)?;
-        left -= n;
+        left -= asked;
         if is_over(left, outcome) {
             write_ending(alloc, machine, outcome, choice, &mut text, out)?;
             return Ok(outcome);

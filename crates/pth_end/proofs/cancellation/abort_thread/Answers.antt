@@ -4,7 +4,7 @@ use Rattle.pth_threads.specs.declared.entry.Change.TheVariants as change
 use Rattle.pth_model.specs.Changes.{sets}
 use Rattle.pth_model.specs.Transition.{controlled}
 use Rattle.pth_world.proofs.Stores.{alive_known}
-use Rattle.pth_end.proofs.Cancelling.{change_stands, ends_then}
+use Rattle.pth_end.proofs.Canceling.{change_stands, ends_then}
 use Rattle.pth_end.proofs.cancellation.abort_thread.Goals as goal
 
 pub set_field-requires-clause-known : goal.set_field-requires-clause-known

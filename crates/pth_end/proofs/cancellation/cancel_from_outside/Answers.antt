@@ -5,7 +5,7 @@ use Rattle.pth_model.specs.Cancellation.{canceled_value}
 use Rattle.pth_model.specs.Ending.{ending}
 use Rattle.pth_model.specs.Transition.{tells}
 use Rattle.pth_world.proofs.Telling.{quiet_leads}
-use Rattle.pth_end.proofs.Cancelling.{quiet_canceled}
+use Rattle.pth_end.proofs.Canceling.{quiet_canceled}
 use Rattle.pth_end.proofs.Chains.{leads_then, cut_second}
 use Rattle.pth_end.proofs.cancellation.cancel_from_outside.Goals as goal
 

@@ -9,7 +9,7 @@ use Rattle.pth_model.specs.Transition.{controlled}
 use Rattle.pth_world.proofs.Moves.{runner_alive}
 use Rattle.pth_world.proofs.Stores.{alive_known}
 use Rattle.pth_world.proofs.Telling.{quiet_leads}
-use Rattle.pth_end.proofs.Cancelling.{quiet_canceled, change_stands, ends_then}
+use Rattle.pth_end.proofs.Canceling.{quiet_canceled, change_stands, ends_then}
 use Rattle.pth_end.proofs.Chains.{leads_then, cut_second}
 use Rattle.pth_end.proofs.cancellation.cancel_within.Goals as goal
 
