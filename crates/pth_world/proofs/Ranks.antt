@@ -98,6 +98,10 @@ module _ {S : Type 0} (w v : ThreadsBySlot S) (t : ℕ) (known : IsKnown w t) wh
   pub ranks_back : IfSome (slot_of w.records t) (λ u. (prio : ℤ) × IsPrio prio × (v.queues ≡ entered queue.Ready prio u w.queues)) → KeepsRanks 0 w v
   ranks_back h = at_slot (λ u. (prio : ℤ) × IsPrio prio × (v.queues ≡ entered queue.Ready prio u w.queues)) h (λ u is. ranks_by w v _ is.2 (λ roof low under. under-insert roof (record { rank = is.0; holder = u }) w.queues.ready (low_rank is.0 roof (prio_low is.0 is.1) low) under) (omega arith))
 
+  -- a thread waits that stood in no queue
+  pub ranks_waits : IfSome (slot_of w.records t) (λ u. (prio : ℤ) × IsPrio prio × (v.queues ≡ entered queue.Waiting prio u w.queues)) → KeepsRanks 0 w v
+  ranks_waits h = at_slot (λ u. (prio : ℤ) × IsPrio prio × (v.queues ≡ entered queue.Waiting prio u w.queues)) h (λ u is. ranks_by w v _ is.2 (λ roof low under. under) (omega arith))
+
   -- a thread is ready that stood in another queue
   pub ranks_ready : (rank : ℤ) → rank ≤ℤ pos greatest_return → IfSome (slot_of w.records t) (λ u. v.queues ≡ entered queue.Ready rank u (without u w.queues)) → KeepsRanks 0 w v
   ranks_ready rank low h = at_slot (λ u. v.queues ≡ entered queue.Ready rank u (without u w.queues)) h (λ u is. ranks_by w v _ is (λ roof high under. under-insert roof (record { rank = rank; holder = u }) (delete u w.queues.ready) (low_rank rank roof low high) (under-delete roof u w.queues.ready under)) (length-deleted u w.queues.new))
@@ -140,3 +144,8 @@ ranks_new w v u rank is = record {
   under = λ roof low h. subst (λ (x : QueuesOf). IsUnder roof x.ready) (sym is) h;
   fresh = (let n : length v.queues.new ≡ length (insert (record { rank = rank; holder = u }) w.queues.new) = ap (λ (x : QueuesOf). length x.new) is in omega (arith, length-insert (record { rank = rank; holder = u }) w.queues.new));
 }
+
+-- a thread is ready at its base priority
+pub ready_at : (o : Option ℕ) (x y : QueuesOf) (prio : ℤ) → IsPrio prio → IfSome o (λ u. y ≡ entered queue.Ready prio u x) → IfSome o (λ u. (p : ℤ) × IsPrio p × (y ≡ entered queue.Ready p u x))
+ready_at (Some u) x y prio is h = (prio, is, h)
+ready_at None x y prio is h = tt

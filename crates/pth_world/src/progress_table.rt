@@ -89,9 +89,12 @@ impl<S: Drop> ProgressTable<S> {
         ensures set { table None self.new ≡ put (table None self.old) s.0 (option_map (blocking (Some b)) (table None self.old s.0)) }
         ensures long { length self.new ≡ thread_limit }
     {
-        if let Some(p) = &mut self.items[s.0 as usize] {
-            self.awaited[s.0 as usize] = b.awaited();
-            block_by(p, b);
+        match &mut self.items[s.0 as usize] {
+            Some(p) => {
+                self.awaited[s.0 as usize] = b.awaited();
+                block_by(p, b);
+            }
+            None => let_go(b),
         }
     }
 
@@ -146,6 +149,9 @@ fn awaited_in<S>(p: &Option<Progress<S>>) -> Awaited
         None => Awaited::NOTHING,
     }
 }
+
+// Lets a call go that blocks nobody.
+fn let_go(_b: Blocked) {}
 
 // Sets the call that blocks a thread.
 fn block_by<S>(p: &mut Progress<S>, b: Blocked)

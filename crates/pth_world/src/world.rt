@@ -47,7 +47,6 @@ use std::marker::Model;
 /// The program with its threads: their records, their queues and how far each is in its program, their attribute objects,
 /// events and rings of them, the kernel, what they stored and locked, the once controls that were used, and what the scheduler
 /// keeps of them.
-#[derive(Drop)]
 pub struct World<P: Program> {
     alloc: Global,
     program: P,
@@ -67,6 +66,31 @@ pub struct World<P: Program> {
     running: Option<Tid>,
     preferred: Option<Tid>,
     favour_new: bool,
+}
+
+// By hand: a derived one is written out, down to each `Vec`, in the proof of each function that may let a world go.
+impl<P: Program> Drop for World<P> {
+    fn drop(self) {
+        let World {
+            alloc: _,
+            program: _,
+            shared: _,
+            threads: _,
+            queues: _,
+            progress: _,
+            attributes: _,
+            events: _,
+            kernel: _,
+            keys: _,
+            cleanups: _,
+            mutexes: _,
+            rw_locks: _,
+            used: _,
+            running: _,
+            preferred: _,
+            favour_new: _,
+        } = self;
+    }
 }
 
 impl<P: Program> Model for World<P> {

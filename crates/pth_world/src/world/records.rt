@@ -1,9 +1,12 @@
 //! The records of threads: changes, new threads, and threads that are gone.
 
-ghost use Rattle.std.specs.Prelude.{◌≡◌, ◌≢◌, ◌<◌, ◌+◌, ◌↔◌, ℕ, ℤ, Bool, false, Option, Some, None, IfSome, IfOk, OnOk, OnErr, IsErrOf, option_copied, nat_lt, pos};
+ghost use Rattle.std.specs.Prelude.{◌≡◌, ◌≢◌, ◌<◌, ◌+◌, ◌↔◌, ℕ, ℤ, Bool, false, Option, Some, None, IfSome, IfOk, OnOk, OnErr, IsErrOf, option_copied, nat_lt, pos, length};
 ghost use Rattle.pth_base.specs.Limits.{thread_limit};
 ghost use Rattle.pth_base.specs.Naming.{IsTied};
+ghost use Rattle.pth_base.specs.Table.{table};
 ghost use Rattle.pth_kernel.specs.Kernel.{kernel_of};
+ghost use Rattle.pth_lock.specs.Mutexes.{mutexes_of, no_mutexes};
+ghost use Rattle.pth_lock.specs.RwLocks.{tables_of, no_locks};
 ghost use Rattle.pth_queue.specs.declared.queue.Queue.TheVariants as queue;
 ghost use Rattle.pth_queue.specs.Queues.{IsNowhere, IsRank, no_queues, entered, without};
 ghost use Rattle.pth_base.specs.declared.thread.ThreadState.TheVariants as state;
@@ -59,7 +62,96 @@ fn main_thread() -> NewThread
     }
 }
 
+// The parts of a world that take memory as they are made.
+#[derive(Drop)]
+struct Room<S> {
+    queues: CountedQueues,
+    progress: ProgressTable<S>,
+    mutexes: Mutexes,
+    rw_locks: RwLocks,
+}
+
+// The queues, with room for as many threads as there may be.
+fn reserved_queues(alloc: Global) -> Result<CountedQueues, OutOfMemory>
+    ensures { IfOk result (λ q. q ≡ record no_queues { room = thread_limit }) }
+{
+    let mut queues = CountedQueues::new(alloc);
+    queues.reserve(MOST_THREADS)?;
+    Ok(queues)
+}
+
+// Such parts, which keep nothing yet.
+fn make_room<S: Drop>(alloc: Global) -> Result<Room<S>, OutOfMemory>
+    ensures queues { IfOk result (λ r. r.queues ≡ record no_queues { room = thread_limit }) }
+    ensures none { IfOk result (λ r. table None r.progress ≡ (λ _. None)) }
+    ensures long { IfOk result (λ r. length r.progress ≡ thread_limit) }
+    ensures mutexes { IfOk result (λ r. mutexes_of r.mutexes ≡ no_mutexes) }
+    ensures locks { IfOk result (λ r. tables_of r.rw_locks ≡ no_locks) }
+{
+    let queues = reserved_queues(alloc)?;
+    let progress = ProgressTable::new(alloc)?;
+    let mutexes = Mutexes::new(alloc)?;
+    let rw_locks = RwLocks::new(alloc)?;
+    Ok(Room {
+        queues,
+        progress,
+        mutexes,
+        rw_locks,
+    })
+}
+
 impl<P: Program> World<P> {
+    // The program with no threads, over parts that keep nothing and have room for as many as there may be.
+    fn over(
+        alloc: Global,
+        program: P,
+        shared: P::Shared,
+        kernel: Kernel,
+        room: Room<P::State>,
+    ) -> World<P>
+        requires shared { shared ≡ (P.functions program).shared }
+        requires bodies { 0 < (P.functions program).bodies }
+        requires queues { room.queues ≡ record no_queues { room = thread_limit } }
+        requires none { table None room.progress ≡ (λ _. None) }
+        requires long { length room.progress ≡ thread_limit }
+        requires mutexes { mutexes_of room.mutexes ≡ no_mutexes }
+        requires locks { tables_of room.rw_locks ≡ no_locks }
+        ensures shows { Shows result (before_main P.functions (record { program = program; kernel = kernel_of kernel })) }
+        ensures store { store_of result.store ≡ no_resources.store }
+        ensures whole { Whole result }
+        ensures made { result.threads.records.made ≡ 0 }
+        ensures objects { result.attributes.made ≡ 0 }
+        ensures events { result.events.made ≡ 0 }
+        ensures count { count result.threads.records ≡ 0 }
+        ensures queues { result.threads.queues ≡ record no_queues { room = thread_limit } }
+        ensures bodies { 0 < (P.functions result.program).bodies }
+    {
+        let threads = Threads::new(alloc);
+        let attributes = Attrs::new(alloc);
+        let events = Rings::new(alloc);
+        let keys = Keys::new(alloc);
+        let cleanups = Cleanups::new(alloc);
+        World {
+            alloc,
+            program,
+            shared,
+            threads,
+            attributes,
+            events,
+            kernel,
+            queues: room.queues,
+            progress: room.progress,
+            keys,
+            cleanups,
+            mutexes: room.mutexes,
+            rw_locks: room.rw_locks,
+            used: [false; 64],
+            running: None,
+            preferred: None,
+            favour_new: true,
+        }
+    }
+
     // The program with no threads, and with room for as many as there may be.
     fn without_threads(alloc: Global, program: P, kernel: Kernel) -> Result<World<P>, OutOfMemory>
         ensures shows { IfOk result (λ w. Shows w (before_main P.functions (record { program = program; kernel = kernel_of kernel }))) }
@@ -74,35 +166,8 @@ impl<P: Program> World<P> {
     {
         let shared = program.shared(alloc)?;
         let _some = program.bodies();
-        let mut queues = CountedQueues::new(alloc);
-        queues.reserve(MOST_THREADS)?;
-        let progress = ProgressTable::new(alloc)?;
-        let threads = Threads::new(alloc);
-        let attributes = Attrs::new(alloc);
-        let events = Rings::new(alloc);
-        let keys = Keys::new(alloc);
-        let cleanups = Cleanups::new(alloc);
-        let mutexes = Mutexes::new(alloc)?;
-        let rw_locks = RwLocks::new(alloc)?;
-        Ok(World {
-            alloc,
-            program,
-            shared,
-            threads,
-            attributes,
-            events,
-            kernel,
-            queues,
-            progress,
-            keys,
-            cleanups,
-            mutexes,
-            rw_locks,
-            used: [false; 64],
-            running: None,
-            preferred: None,
-            favour_new: true,
-        })
+        let room = make_room(alloc)?;
+        Ok(World::over(alloc, program, shared, kernel, room))
     }
 
     /// The main thread alone, ready at rank 0 (`pth_init`), at the moment of the kernel.

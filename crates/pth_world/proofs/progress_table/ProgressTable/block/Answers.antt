@@ -6,22 +6,15 @@ use Rattle.pth_world.specs.Progress.{awaited_at}
 use Rattle.pth_world.proofs.Items.{Becomes, becomes-set, becomes-some, becomes-none, kept_set}
 use Rattle.pth_world.proofs.progress_table.ProgressTable.block.Given as given
 use Rattle.pth_world.proofs.progress_table.ProgressTable.block.Goals as goal
-use Rattle.pth_world.proofs.progress_table.ProgressTable.block.Goals.{in-Write-1, in-WriteEv-1, in-Kill-1}
 
 pub returns-in-Some-clause-set : goal.returns-in-Some-clause-set
 returns-in-Some-clause-set g c =
     rw (← c.self.view_is) (becomes-some c.self.inside.items.items c.args.s.0 c.self.invariant.long c.requires (blocking (Some c.args.b)) _ c.self.inside.awaited.items c.self.inside.awaited.items c.index_mut.result.now c.index_mut.ensures.value
     c.in-Some.p c.in-Some.is (ap (λ (p : Progress g.row.S.Denot). set c.self.inside.items.items c.args.s.0 (Some p)) c.block_by.ensures) refl).changed
 
-same : (g : given.Over) (c : goal.Joined-b g) → Becomes c.self.inside.items.items c.match-b.self c.self.inside.awaited.items c.self.inside.awaited.items c.args.s.0 (option_map (blocking (Some c.args.b)) (table None c.self.inside.items.items c.args.s.0))
-same g c = elim c.match-b.branch [
-  | in-Write-1 w ↦ becomes-none c.self.inside.items.items c.args.s.0 c.self.invariant.long c.requires (blocking (Some c.args.b)) _ c.self.inside.awaited.items c.self.inside.awaited.items c.index_mut.result.now c.index_mut.ensures.value c.in_default.is w.self-is refl
-  | in-WriteEv-1 w ↦ becomes-none c.self.inside.items.items c.args.s.0 c.self.invariant.long c.requires (blocking (Some c.args.b)) _ c.self.inside.awaited.items c.self.inside.awaited.items c.index_mut.result.now c.index_mut.ensures.value c.in_default.is w.self-is refl
-  | in-Kill-1 w ↦ becomes-none c.self.inside.items.items c.args.s.0 c.self.invariant.long c.requires (blocking (Some c.args.b)) _ c.self.inside.awaited.items c.self.inside.awaited.items c.index_mut.result.now c.index_mut.ensures.value c.in_default.is w.self-is refl
-]
-
-pub returns-in_default-clause-set : goal.returns-in_default-clause-set
-returns-in_default-clause-set g c = rw (← c.self.view_is) (same g c).changed
+pub returns-in-None-clause-set : goal.returns-in-None-clause-set
+returns-in-None-clause-set g c =
+    rw (← c.self.view_is) (becomes-none c.self.inside.items.items c.args.s.0 c.self.invariant.long c.requires (blocking (Some c.args.b)) _ c.self.inside.awaited.items c.self.inside.awaited.items c.index_mut.result.now c.index_mut.ensures.value c.in-None.is refl refl).changed
 
 pub invariant_of-self : goal.invariant_of-self
 invariant_of-self g c =

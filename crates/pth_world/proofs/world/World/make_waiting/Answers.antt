@@ -4,7 +4,8 @@ use Rattle.pth_model.specs.Changes.{sets, enters, runs_now}
 use Rattle.pth_model.specs.Part.{is_put_waiting}
 use Rattle.pth_world.specs.World.{WorldOf}
 use Rattle.pth_world.specs.Touches.{Touches}
-use Rattle.pth_world.proofs.Moves.{runner_nowhere, waits_whole}
+use Rattle.pth_world.proofs.Moves.{runner_nowhere, runner_known, waits_whole}
+use Rattle.pth_world.proofs.Ranks.{ranks_waits}
 use Rattle.pth_world.proofs.Runnable.{runner_apart, stays_touched}
 use Rattle.pth_world.proofs.world.World.make_waiting.Goals as goal
 
@@ -29,3 +30,12 @@ returns-clause-stays g c =
     stays_touched c.args.self.now.threads c.put_waiting.new.self.threads (c.put_waiting.ensures.threads.slots ∙ ap (λ k. slot_of k.records) threads) c.args.t.0 _ c.requires.whole.sound
     (subst (λ x. Touches x c.put_waiting.new.self.threads c.args.t.0 _) threads c.put_waiting.ensures.touches)
     (λ i is a. runner_apart c.args.self.now c.args.t.0 i _ c.requires.whole c.requires.runs is a)
+
+pub returns-clause-threads : goal.returns-clause-threads
+returns-clause-threads g c = rw c.set_running.ensures.same at c.put_waiting.ensures.threads
+
+pub returns-clause-queues : goal.returns-clause-queues
+returns-clause-queues g c = rw c.set_running.ensures.same at c.put_waiting.ensures.queues
+
+pub returns-clause-ranks : goal.returns-clause-ranks
+returns-clause-ranks g c = ranks_waits c.args.self.now.threads c.put_waiting.new.self.threads c.args.t.0 (runner_known c.args.self.now c.args.t.0 c.requires.whole c.requires.runs) (rw c.set_running.ensures.same at c.put_waiting.ensures.queues)

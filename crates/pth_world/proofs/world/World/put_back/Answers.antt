@@ -6,7 +6,7 @@ use Rattle.pth_world.specs.World.{WorldOf}
 use Rattle.pth_world.specs.Touches.{Touches}
 use Rattle.pth_world.proofs.Slots.{prio_fits}
 use Rattle.pth_world.proofs.Moves.{runner_nowhere, runner_known, back_whole}
-use Rattle.pth_world.proofs.Ranks.{ranks_back}
+use Rattle.pth_world.proofs.Ranks.{ranks_back, ready_at}
 use Rattle.pth_world.proofs.Runnable.{among_ready, stays_touched}
 use Rattle.pth_world.proofs.world.World.put_back.Goals as goal
 
@@ -36,3 +36,11 @@ returns-clause-stays g c =
     stays_touched c.args.self.now.threads c.put_ready.new.self.threads (c.put_ready.ensures.threads.slots ∙ ap (λ k. slot_of k.records) threads) c.args.t.0 _ c.requires.whole.sound
     (subst (λ x. Touches x c.put_ready.new.self.threads c.args.t.0 _) threads c.put_ready.ensures.touches)
     (λ i is a. among_ready)
+
+pub returns-clause-threads : goal.returns-clause-threads
+returns-clause-threads g c = rw c.set_running.ensures.same at c.put_ready.ensures.threads
+
+pub returns-clause-queues : goal.returns-clause-queues
+returns-clause-queues g c =
+    let f : SFits w64 c.prio-prio.result = prio_fits _ c.prio-prio.ensures.low in
+    ready_at _ _ _ _ c.prio-prio.ensures.low (rw (c.set_running.ensures.same, to_z-of_z) at c.put_ready.ensures.queues)
