@@ -28,7 +28,7 @@ use Rattle.pth_threads.specs.declared.entry.Entry.{Entry}
 use Rattle.pth_world.specs.Leading.{IsAnswered, IsQuiet}
 use Rattle.pth_world.specs.Shows.{Shows}
 use Rattle.pth_world.specs.World.{WorldOf}
-use Rattle.pth_calls.proofs.Answers.{passed_answered}
+use Rattle.pth_end.proofs.Answers.{passed_answered}
 
 pub quiet_cancellation : (t : Tid) (c : Call) (a : Answer) → facility_of c ≡ Some facility.Cancellation → IsQuiet (Answered t c a)
 unfolding told answer_told

@@ -15,7 +15,7 @@ use Rattle.pth_model.specs.Verdict.{Verdict, Says, refused, says, done, by_resul
 use Rattle.pth_world.specs.Leading.{IsAnswered}
 use Rattle.pth_world.specs.World.{WorldOf}
 use Rattle.pth_world.proofs.Kernels.{turned_shows}
-use Rattle.pth_calls.proofs.Answers.{refused_answered, passed_answered}
+use Rattle.pth_end.proofs.Answers.{refused_answered, passed_answered}
 
 -- a verdict by the kernel alone, and a change of it alone
 module _ {P S H : Type 0} (w : WorldOf P S H) (x : KernelOf) (v : Kernel → Verdict) (h : Kernel → Kernel) where

@@ -1,4 +1,3 @@
-pub mod Answers
 pub mod Deciding
 pub mod KernelAnswers
 pub mod Making

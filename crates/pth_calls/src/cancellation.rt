@@ -22,7 +22,6 @@ ghost use Rattle.pth_world.specs.Shows.{StandsFor};
 ghost use Rattle.pth_world.specs.Sound.{IsAlive, IsKnown};
 ghost use Rattle.pth_world.specs.Whole.{Whole, IsIn};
 
-use crate::answering::answer_call;
 use pth_base::answer::Answer;
 use pth_base::call::Call;
 use pth_base::errno::Errno;
@@ -30,6 +29,7 @@ use pth_base::ids::{MAIN, Tid};
 use pth_base::marks::Marks;
 use pth_base::memory::OutOfMemory;
 use pth_base::program::Program;
+use pth_end::answering::answer_call;
 use pth_end::cancellation::{abort_thread, cancel_from_outside};
 use pth_model::cancel_states::is_asynchronous;
 use pth_model::living::is_dead;

@@ -20,7 +20,6 @@ ghost use Rattle.pth_world.specs.Shows.{StandsFor};
 ghost use Rattle.pth_world.specs.Sound.{IsAlive};
 ghost use Rattle.pth_world.specs.Whole.{Whole};
 
-use crate::answering::answer_call;
 use crate::handler_numbers::handler_named;
 use pth_base::answer::Answer;
 use pth_base::call::Call;
@@ -29,6 +28,7 @@ use pth_base::ids::{HandlerId, Tid};
 use pth_base::marks::Marks;
 use pth_base::memory::OutOfMemory;
 use pth_base::program::Program;
+use pth_end::answering::answer_call;
 use pth_end::handlers::run_told_handler;
 use pth_end::saying::refused;
 use pth_model::next::Next;

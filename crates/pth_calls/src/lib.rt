@@ -1,4 +1,4 @@
-//! Calls that never block their thread, and end neither it nor the run; and what all calls tell.
+//! Calls that never block their thread, and end neither it nor the run.
 //!
 //! For every whole world, and every state for which it stands: `begin_plain` begins each call that only changes the
 //! world and is answered; a call that is not built is answered EINVAL. `yield_to` gives up control. `pop_cleanup`
@@ -8,7 +8,6 @@
 //! world may only be dropped.
 #![tactic(auto)]
 
-pub mod answering;
 pub mod attribute_handling;
 pub mod cancellation;
 pub mod cleanups;

@@ -13,7 +13,6 @@ ghost use Rattle.pth_world.specs.Leading.{Leads};
 ghost use Rattle.pth_world.specs.Shows.{StandsFor};
 ghost use Rattle.pth_world.specs.Whole.{Whole};
 
-use crate::answering::answer_call;
 use crate::handler_numbers::handler_named;
 use pth_base::answer::Answer;
 use pth_base::call::Call;
@@ -21,6 +20,7 @@ use pth_base::ids::Tid;
 use pth_base::marks::Marks;
 use pth_base::memory::OutOfMemory;
 use pth_base::program::Program;
+use pth_end::answering::answer_call;
 use pth_end::handlers::run_told_handler;
 use pth_model::next::Next;
 use pth_world::world::World;

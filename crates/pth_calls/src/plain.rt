@@ -14,7 +14,6 @@ ghost use Rattle.pth_world.specs.Numbering.{HasNumbers};
 ghost use Rattle.pth_world.specs.Shows.{StandsFor};
 ghost use Rattle.pth_world.specs.Whole.{Whole};
 
-use crate::answering::answer_call;
 use crate::attribute_handling::answer_attributes;
 use crate::cancellation::answer_cancellation;
 use crate::cleanups::answer_cleanups;
@@ -34,6 +33,7 @@ use pth_base::ids::Tid;
 use pth_base::marks::Marks;
 use pth_base::memory::OutOfMemory;
 use pth_base::program::Program;
+use pth_end::answering::answer_call;
 use pth_world::world::World;
 
 // The answer of a call, which does what its row says.

@@ -24,7 +24,6 @@ ghost use Rattle.pth_world.specs.Shows.{StandsFor};
 ghost use Rattle.pth_world.specs.Sound.{IsPrio, IsCancel};
 ghost use Rattle.pth_world.specs.Whole.{Whole};
 
-use crate::answering::answer_call;
 use pth_base::answer::Answer;
 use pth_base::call::Call;
 use pth_base::errno::Errno;
@@ -33,6 +32,7 @@ use pth_base::marks::Marks;
 use pth_base::memory::OutOfMemory;
 use pth_base::program::Program;
 use pth_base::thread::ThreadState;
+use pth_end::answering::answer_call;
 use pth_model::living::is_dead;
 use pth_model::next::Next;
 use pth_threads::entry::{AddErr, Entry, NewThread};

@@ -6,10 +6,11 @@
 //! `cancel_from_outside`, `cancel_within` and `abort_thread` tell of a cancellation and end a thread so with -1.
 //! `run_handler` makes the acts of a handler, each as its call by the thread. The world then stands for the state
 //! to which the definition leads, and exactly its marks were appended; after want of memory a beginning of them,
-//! and the world may only be dropped.
+//! and the world may only be dropped. `answer_call` tells the answer of any call.
 #![tactic(auto)]
 
 pub mod acts;
+pub mod answering;
 pub mod cancellation;
 pub mod cleanups;
 pub mod destructors;

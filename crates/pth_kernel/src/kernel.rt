@@ -22,7 +22,6 @@ use std::marker::Model;
 /// A kernel of which a trace says what comes to its descriptors, and when. What has come waits until threads take it.
 ///
 /// Only `new` and `take` need memory. A question reads counts, and `advance` goes over each stamp once in a run.
-#[derive(Drop)]
 pub struct Kernel {
     alloc: Global,
     trace: Trace,
@@ -44,6 +43,20 @@ impl Model for Kernel {
     ghost view = { λ k. record { trace = k.trace; now = k.moment; clock = k.clock; descriptors = map (λ (x : ChannelOf). x.used) k.channels.items } };
 
     ghost invariant = { λ k. IsKeptBeside k.trace k.moment k.clock k.place k.channels.items };
+}
+
+// By hand, so that letting one go is one call in each proof.
+impl Drop for Kernel {
+    fn drop(self) {
+        let Kernel {
+            alloc: _,
+            trace: _,
+            place: _,
+            moment: _,
+            clock: _,
+            channels: _,
+        } = self;
+    }
 }
 
 impl Kernel {

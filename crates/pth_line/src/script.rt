@@ -20,7 +20,6 @@ use std::alloc::Global;
 use std::marker::Model;
 
 /// A script of 1 to 256 bodies, with handlers of at most 64 acts.
-#[derive(Drop)]
 pub struct Script {
     handlers: Vec<Block<ActLine>>,
     checks: Vec<Check>,
@@ -36,6 +35,17 @@ impl Model for Script {
     ghost view = { λ s. record { handlers = s.handlers.items; checks = s.checks.items; bodies = s.bodies.items } };
 
     ghost invariant = { λ s. (1 ≤ length s.bodies.items) × (length s.bodies.items ≤ 256) × All (λ acts. length acts ≤ 64) s.handlers.items };
+}
+
+// By hand, so that letting one go is one call in each proof.
+impl Drop for Script {
+    fn drop(self) {
+        let Script {
+            handlers: _,
+            checks: _,
+            bodies: _,
+        } = self;
+    }
 }
 
 impl Script {

@@ -48,7 +48,6 @@ pub fn first(set: u64) -> usize
 }
 
 // For each slot a set of objects.
-#[derive(Drop)]
 pub(crate) struct SlotSets {
     sets: Vec<u64>,
 }
@@ -62,6 +61,13 @@ impl Model for SlotSets {
     ghost view = { λ a. a.sets.items };
 
     ghost invariant = { λ a. length a.sets.items ≡ thread_limit };
+}
+
+// By hand, so that letting one go is one call in each proof.
+impl Drop for SlotSets {
+    fn drop(self) {
+        let SlotSets { sets: _ } = self;
+    }
 }
 
 impl SlotSets {

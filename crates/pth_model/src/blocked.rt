@@ -18,7 +18,6 @@ pub enum Retake {
 
 /// A call that blocks its thread: since when, the moment it waits for, the bytes that it wrote so far, the round of its
 /// arrival at a barrier, and whether it takes its mutex back.
-#[derive(Drop)]
 pub struct Blocked {
     pub call: Call,
     pub begin: Micros,
@@ -26,6 +25,20 @@ pub struct Blocked {
     pub written: usize,
     pub round: u64,
     pub retake: Retake,
+}
+
+// By hand, so that letting one go is one call in each proof.
+impl Drop for Blocked {
+    fn drop(self) {
+        let Blocked {
+            call: _,
+            begin: _,
+            moment: _,
+            written: _,
+            round: _,
+            retake: _,
+        } = self;
+    }
 }
 
 /// The event that was given to the call that blocks a thread, if any.

@@ -26,7 +26,6 @@ use std::marker::Model;
 pub const MOST_EVENTS: u32 = 4096;
 
 /// Events (`pth_event_t`), each in a ring, numbered upwards from 1. No number is used again.
-#[derive(Drop)]
 pub struct Rings {
     nodes: Numbered<Node>,
 }
@@ -39,6 +38,13 @@ impl Model for Rings {
     ghost view = { λ a. a.nodes };
 
     ghost invariant = { λ a. AreLinked a.nodes };
+}
+
+// By hand, so that letting one go is one call in each proof.
+impl Drop for Rings {
+    fn drop(self) {
+        let Rings { nodes: _ } = self;
+    }
 }
 
 impl Rings {

@@ -1,3 +1,4 @@
+pub mod Begins
 pub mod Counting
 pub mod Cutting
 pub mod Endings

@@ -26,7 +26,6 @@ use std::alloc::Global;
 use std::marker::Model;
 
 /// A program that runs, in pieces of as many steps as are asked for.
-#[derive(Drop)]
 pub struct Machine<P: Program> {
     schedule: Schedule<P>,
     failed: bool,
@@ -43,6 +42,16 @@ impl<P: Program> Model for Machine<P> {
     ghost view = { λ m. record m.schedule { turn = record m.schedule.turn { outcome = if m.failed then OutOfMemory else m.schedule.turn.outcome } } };
 
     ghost invariant = { λ m. (m.failed ≡ false → Rests m.schedule) };
+}
+
+// By hand, so that letting one go is one call in each proof.
+impl<P: Program> Drop for Machine<P> {
+    fn drop(self) {
+        let Machine {
+            schedule: _,
+            failed: _,
+        } = self;
+    }
 }
 
 impl<P: Program> Machine<P> {

@@ -17,6 +17,7 @@ ghost use Rattle.pth_world.specs.Touches.{KeepsRest};
 ghost use Rattle.pth_world.specs.Whole.{Whole, IsIn, WaitsToRun};
 ghost use Rattle.pth_sched.specs.Passing.{HasRoom, IsReady};
 
+use crate::begin::begin;
 use pth_base::ids::Tid;
 use pth_base::limits::LAST_MOMENT;
 use pth_base::marks::Marks;
@@ -24,7 +25,6 @@ use pth_base::memory::OutOfMemory;
 use pth_base::program::Program;
 use pth_model::next::Next;
 use pth_queue::queue::Queue;
-use pth_waits::begin::begin;
 use pth_waits::resume::resume;
 use pth_world::world::World;
 

@@ -24,7 +24,6 @@ use std::marker::Model;
 pub const MOST_ATTRS: u32 = 4096;
 
 /// The attribute objects (`pth_attr_t`), numbered upwards from 1. No number is used again.
-#[derive(Drop)]
 pub struct Attrs {
     objects: Numbered<Attribute>,
 }
@@ -37,6 +36,13 @@ impl Model for Attrs {
     ghost view = { λ a. a.objects };
 
     ghost invariant = { λ a. AreKept a.objects };
+}
+
+// By hand, so that letting one go is one call in each proof.
+impl Drop for Attrs {
+    fn drop(self) {
+        let Attrs { objects: _ } = self;
+    }
 }
 
 impl Attrs {

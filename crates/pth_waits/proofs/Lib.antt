@@ -1,6 +1,6 @@
 pub mod Blocking
 pub mod Exits
-pub mod Begins
+pub mod Waits
 pub mod Joining
 pub mod Kills
 pub mod RingWaits

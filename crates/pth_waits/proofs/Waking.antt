@@ -13,7 +13,7 @@ use Rattle.pth_model.specs.Pass.{is_come_for, is_to_wake}
 use Rattle.pth_model.specs.State.{Control, State}
 use Rattle.pth_numbered.specs.Operands.{number}
 use Rattle.pth_waits.specs.Waking.{has_come, has_its_due, is_due}
-use Rattle.pth_waits.proofs.Begins.{wakes_when}
+use Rattle.pth_waits.proofs.Waits.{wakes_when}
 
 or_false : (b : Bool) → (b || false) ≡ b
 or_false true = refl

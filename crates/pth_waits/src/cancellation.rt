@@ -21,7 +21,7 @@ use pth_base::ids::{Slot, Tid};
 use pth_base::marks::Marks;
 use pth_base::memory::OutOfMemory;
 use pth_base::program::Program;
-use pth_calls::answering::answer_call;
+use pth_end::answering::answer_call;
 use pth_end::cancellation::{CANCELED, cancel_within};
 use pth_model::cancel_states::is_enabled;
 use pth_model::next::Next;

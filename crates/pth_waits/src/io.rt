@@ -29,7 +29,7 @@ use pth_base::ids::{Micros, Tid};
 use pth_base::marks::Marks;
 use pth_base::memory::OutOfMemory;
 use pth_base::program::Program;
-use pth_calls::answering::answer_call;
+use pth_end::answering::answer_call;
 use pth_io::select::are_all_live;
 use pth_kernel::kernel::Kernel;
 use pth_model::awaits::{awaited_by, ring_given};
@@ -39,7 +39,7 @@ use pth_ring::rings::Rings;
 use pth_world::world::World;
 
 /// Whether a call waits for a descriptor.
-pub(crate) fn is_io(call: &Call) -> bool
+pub fn is_io(call: &Call) -> bool
     ensures { result ≡ is_io call.now }
 {
     matches!(

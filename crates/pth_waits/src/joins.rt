@@ -31,7 +31,7 @@ use pth_base::mark::Mark;
 use pth_base::marks::Marks;
 use pth_base::memory::OutOfMemory;
 use pth_base::program::Program;
-use pth_calls::answering::answer_call;
+use pth_end::answering::answer_call;
 use pth_model::living::is_dead;
 use pth_model::next::Next;
 use pth_queue::queue::Queue;

@@ -1,16 +1,15 @@
-//! How each call begins, how a call that blocks its thread is tried again, and whether a blocked thread is to wake.
+//! How the calls that may block their thread begin, how they are tried again, and whether a blocked thread is to wake.
 //!
-//! For every whole world, and every state for which it stands: `begin` begins any call of the thread that runs, as
-//! `begun` says, and `resume` goes on with a thread that a call blocks, as `gone_on` says: it is canceled in the
-//! call if it may be, and else the call is tried again. What comes next for the thread, the new state and the marks
-//! are the definition's; after want of memory a beginning of the marks was told, and the world may only be dropped.
-//! Here stand the calls that may block their thread (`joins`, `rests`, `ring_waits`, `io`, `locking`, main's exit
-//! in `thread_ends`), and those that end it or the run (`thread_ends`, `cancellation`, `library_ends`).
+//! For every whole world, and every state for which it stands: the calls that may block their thread (`joins`, `rests`,
+//! `ring_waits`, `io`, `locking`, main's exit in `thread_ends`), and those that end it or the run (`thread_ends`,
+//! `cancellation`, `library_ends`), begin as `begun` says. `resume` goes on with a thread that a call blocks, as
+//! `gone_on` says: it is canceled in the call if it may be, and else the call is tried again. What comes next for the
+//! thread, the new state and the marks are the definition's; after want of memory a beginning of the marks was told,
+//! and the world may only be dropped.
 //! `is_to_wake` looks at the events of the ring of a blocked thread, and answers whether what its call waits for
 //! has come, one of these events is not pending, or it may be canceled.
 #![tactic(auto)]
 
-pub mod begin;
 pub mod blocks;
 pub mod cancellation;
 pub mod io;

@@ -13,15 +13,12 @@ pub mod Moves
 pub mod Runnable
 pub mod QueueReads
 pub mod Walks
-pub mod Items
 pub mod Awaiting
 pub mod Ranks
 pub mod Scheduling
 pub mod Frames
 pub mod Telling
 pub mod StateOf
-pub mod Counting
-pub mod Heights
 pub mod Vanishing
 pub mod Listings
 pub mod Locked

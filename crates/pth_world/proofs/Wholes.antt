@@ -27,7 +27,7 @@ use Rattle.pth_world.specs.Shows.{Shows, ShowsThreads}
 use Rattle.pth_world.specs.Sound.{IsSound, IsKnown, IsPrio, IsCancel, lives}
 use Rattle.pth_world.specs.Whole.{View, view, Fits, FitsEntry, StoresAlive, Whole, WholeBut}
 use Rattle.pth_world.specs.Touches.{Touches, same_view}
-use Rattle.pth_world.specs.StepsAt.{StepsAt}
+use Rattle.pth_tables.specs.StepsAt.{StepsAt}
 use Rattle.pth_world.proofs.Moves.{progress_whole, but_kept}
 use Rattle.pth_world.proofs.Slots.{prio_rank, used}
 use Rattle.pth_world.proofs.Showing.{of_threads, add_shows, enter_shows, progress_shows, progress_is}

@@ -6,12 +6,9 @@ pub mod StateOf
 pub mod Sound
 pub mod Whole
 pub mod Touches
-pub mod StepsAt
-pub mod Progress
 pub mod Once
 pub mod Leading
 pub mod Walks
 pub mod Ranks
 pub mod Frame
-pub mod Counted
 pub mod Vanishing

@@ -6,9 +6,6 @@
 //! have (`touches`, `others`), and what holds of every sound or whole world (`sound`, `whole`, `but`). A read is
 //! what the control has. Refused, a change shows what was shown before. After want of memory in `next_call` nothing
 //! is said of the world.
-//! `CountedQueues` has the clauses of a `QueueSet`, and tells the length of a queue and the rank of a slot.
 #![tactic(auto)]
 
-pub mod counted_queues;
-pub mod progress_table;
 pub mod world;

@@ -28,8 +28,6 @@ mod slots;
 mod store;
 mod vanishing;
 
-use crate::counted_queues::CountedQueues;
-use crate::progress_table::ProgressTable;
 use pth_base::ids::{Slot, Tid};
 use pth_base::program::Program;
 use pth_kernel::kernel::Kernel;
@@ -39,6 +37,8 @@ use pth_queue::queue_set::QueueSet;
 use pth_ring::rings::Rings;
 use pth_store::cleanups::Cleanups;
 use pth_store::keys::Keys;
+use pth_tables::counted_queues::CountedQueues;
+use pth_tables::progress_table::ProgressTable;
 use pth_threads::attrs::Attrs;
 use pth_threads::threads::Threads;
 use std::alloc::Global;

@@ -12,9 +12,8 @@ ghost use Rattle.pth_world.specs.Shows.{Shows};
 ghost use Rattle.pth_world.specs.Sound.{IsSound, IsKnown};
 ghost use Rattle.pth_world.specs.Whole.{Whole, WholeBut, MayBlock, MayAwait};
 ghost use Rattle.pth_world.specs.Touches.{Touches, view_blocked, same_view};
-ghost use Rattle.pth_world.specs.StepsAt.{StepsAt};
+ghost use Rattle.pth_tables.specs.StepsAt.{StepsAt};
 
-use crate::progress_table::step_at;
 use crate::world::World;
 use pth_base::answer::Answer;
 use pth_base::call::Call;
@@ -23,6 +22,7 @@ use pth_base::memory::OutOfMemory;
 use pth_base::program::Program;
 use pth_model::awaits::Awaited;
 use pth_model::blocked::{Blocked, ring_held};
+use pth_tables::progress_table::step_at;
 
 impl<P: Program> World<P> {
     /// Sets the call that blocks a thread.

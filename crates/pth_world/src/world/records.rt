@@ -27,8 +27,6 @@ ghost use Rattle.pth_world.specs.Frame.{Frame};
 ghost use Rattle.pth_world.specs.Whole.{Whole, WholeBut, view};
 ghost use Rattle.pth_world.specs.Touches.{Touches, SameThreads, IsAside, view_changed, view_placed};
 
-use crate::counted_queues::CountedQueues;
-use crate::progress_table::ProgressTable;
 use crate::world::World;
 use pth_base::answer::Answer;
 use pth_base::ids::{BodyId, Slot, Tid};
@@ -45,6 +43,8 @@ use pth_queue::queue::Queue;
 use pth_ring::rings::Rings;
 use pth_store::cleanups::Cleanups;
 use pth_store::keys::Keys;
+use pth_tables::counted_queues::CountedQueues;
+use pth_tables::progress_table::ProgressTable;
 use pth_threads::attrs::Attrs;
 use pth_threads::entry::{AddErr, Change, Entry, NewThread};
 use pth_threads::threads::Threads;

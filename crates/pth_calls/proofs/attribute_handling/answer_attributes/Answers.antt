@@ -1,6 +1,6 @@
 use Rattle.std.proofs.Common.{SFits, w64, to_z-of_z, rules}
 use Rattle.pth_model.specs.Rows.{row_of}
-use Rattle.pth_calls.proofs.Answers.{if_ok_all}
+use Rattle.pth_end.proofs.Answers.{if_ok_all}
 use Rattle.pth_calls.proofs.Plains.{quiet_attribute_call}
 use Rattle.pth_calls.proofs.attribute_handling.answer_attributes.Goals as goal
 

@@ -1,6 +1,6 @@
 use Rattle.std.proofs.Common.{◌∙◌, sym, SFits, w64, to_z-of_z, rules}
 use Rattle.pth_model.specs.Rows.{row_of}
-use Rattle.pth_calls.proofs.Answers.{if_ok_all}
+use Rattle.pth_end.proofs.Answers.{if_ok_all}
 use Rattle.pth_calls.proofs.Making.{line_answered}
 use Rattle.pth_calls.proofs.Plains.{quiet_event_call}
 use Rattle.pth_calls.proofs.event_handling.answer_events.Goals as goal

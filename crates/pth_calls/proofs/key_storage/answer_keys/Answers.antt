@@ -1,7 +1,7 @@
 use Rattle.std.proofs.Common.{SFits, w64, to_z-of_z, rules}
 use Rattle.pth_model.specs.Rows.{row_of}
 use Rattle.pth_world.proofs.Moves.{runner_alive}
-use Rattle.pth_calls.proofs.Answers.{answered_told}
+use Rattle.pth_end.proofs.Answers.{answered_told}
 use Rattle.pth_calls.proofs.Storing.{set_told_each, quiet_get}
 use Rattle.pth_calls.proofs.key_storage.answer_keys.Goals as goal
 

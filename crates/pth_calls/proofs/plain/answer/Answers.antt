@@ -3,7 +3,7 @@ use Rattle.pth_base.specs.declared.errno.Errno.TheVariants.{EINVAL}
 use Rattle.pth_model.specs.Row.{Row}
 use Rattle.pth_world.proofs.Telling.{quiet-refused}
 use Rattle.pth_base.specs.declared.mark.Mark.TheVariants.{Answered}
-use Rattle.pth_calls.proofs.Answers.{refused_answered, answered_told, each_told}
+use Rattle.pth_end.proofs.Answers.{refused_answered, answered_told, each_told}
 use Rattle.pth_calls.proofs.Plains.{is_of_code, other_facility, unbuilt_row}
 use Rattle.pth_calls.proofs.plain.answer.Goals as goal
 

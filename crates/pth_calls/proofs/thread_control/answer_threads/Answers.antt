@@ -1,7 +1,7 @@
 use Rattle.std.proofs.Common.{refl, rules, SFits, w64, to_z-of_z}
 use Rattle.pth_model.specs.Rows.{row_of}
 use Rattle.pth_model.specs.Transition.{nothing}
-use Rattle.pth_calls.proofs.Answers.{if_ok_all, passed_answered}
+use Rattle.pth_end.proofs.Answers.{if_ok_all, passed_answered}
 use Rattle.pth_calls.proofs.Plains.{quiet_thread_call}
 use Rattle.pth_calls.proofs.thread_control.answer_threads.Goals as goal
 

@@ -5,7 +5,7 @@ use Rattle.pth_model.specs.State.{State}
 use Rattle.pth_model.specs.ThreadControl.{spawn, spawns, values_for, or_first}
 use Rattle.pth_world.specs.Shows.{StandsFor}
 use Rattle.pth_world.specs.World.{WorldOf}
-use Rattle.pth_calls.proofs.Answers.{passed_answered, refused_answered}
+use Rattle.pth_end.proofs.Answers.{passed_answered, refused_answered}
 use Rattle.pth_calls.proofs.Spawning.{body_named, spawns_same, no_room, is_made, or_first_is}
 use Rattle.pth_calls.proofs.thread_control.spawn.Goals as goal
 

@@ -6,7 +6,7 @@ use Rattle.pth_model.specs.Row.{effect_of}
 use Rattle.pth_model.specs.ThreadControl.{yield}
 use Rattle.pth_model.specs.declared.next.Next.TheVariants.{Done, Yields}
 use Rattle.pth_world.proofs.Telling.{quiet-refused}
-use Rattle.pth_calls.proofs.Answers.{changed_leads}
+use Rattle.pth_end.proofs.Answers.{changed_leads}
 use Rattle.pth_calls.proofs.Yielding.{yield_begun, yield_refused, quiet-yield}
 use Rattle.pth_calls.proofs.thread_control.yield_to.Goals as goal
 

@@ -5,7 +5,7 @@ use Rattle.pth_model.specs.Row.{effect_of}
 use Rattle.pth_model.specs.Rows.{row_of}
 use Rattle.pth_model.specs.Verdict.{Says, no_pause}
 use Rattle.pth_model.specs.declared.next.Next.TheVariants.{Done}
-use Rattle.pth_calls.proofs.Answers.{changed_leads}
+use Rattle.pth_end.proofs.Answers.{changed_leads}
 use Rattle.pth_waits.specs.Io.{blocks_on}
 use Rattle.pth_waits.proofs.Blocking.{quiet-answered}
 use Rattle.pth_waits.proofs.IoCalls.{io_begins, io_changed, io_may, io_open, no_word_before, then_leads}

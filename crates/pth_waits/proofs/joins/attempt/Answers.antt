@@ -5,7 +5,7 @@ use Rattle.pth_model.specs.ThreadControl.{to_join, takes_joined, join_attempt}
 use Rattle.pth_model.specs.Verdict.{Says}
 use Rattle.pth_threads.specs.Threads.{number_of}
 use Rattle.pth_world.proofs.Telling.{has_still}
-use Rattle.pth_calls.proofs.Answers.{passed_changes}
+use Rattle.pth_end.proofs.Answers.{passed_changes}
 use Rattle.pth_waits.proofs.joins.attempt.Goals as goal
 
 pub returns-in-Some-to_join-clause-effect : goal.returns-in-Some-to_join-clause-effect

@@ -6,7 +6,7 @@ use Rattle.pth_model.specs.Row.{effect_of}
 use Rattle.pth_model.specs.ThreadControl.{join_attempt}
 use Rattle.pth_model.specs.Verdict.{no_pause}
 use Rattle.pth_model.specs.declared.next.Next.TheVariants.{Done}
-use Rattle.pth_calls.proofs.Answers.{changed_leads, changed_then}
+use Rattle.pth_end.proofs.Answers.{changed_leads, changed_then}
 use Rattle.pth_waits.proofs.Blocking.{none_claimed, quiet-answered}
 use Rattle.pth_waits.proofs.Joining.{join_answers, join_waits}
 use Rattle.pth_waits.proofs.joins.begin_join.Goals as goal

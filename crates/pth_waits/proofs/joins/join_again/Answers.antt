@@ -9,7 +9,7 @@ use Rattle.pth_model.specs.Transition.{Transition}
 use Rattle.pth_world.specs.Shows.{Shows, resources_of}
 use Rattle.pth_model.specs.declared.next.Next.TheVariants.{Done}
 use Rattle.pth_world.proofs.Telling.{quiet_leads}
-use Rattle.pth_calls.proofs.Answers.{changed_then}
+use Rattle.pth_end.proofs.Answers.{changed_then}
 use Rattle.pth_waits.proofs.Blocking.{held_by, quiet-answered, quiet_once, quiet-waits, waits_again, answers_again}
 use Rattle.pth_waits.proofs.joins.join_again.Goals as goal
 

@@ -1,0 +1,98 @@
+//! How a call begins.
+
+ghost use Rattle.std.specs.Prelude.{◌≡◌, false, Some, IfOk, OnOk, OnErr};
+ghost use Rattle.pth_base.specs.Cut.{IsCut};
+ghost use Rattle.pth_model.specs.Calls.{begun};
+ghost use Rattle.pth_model.specs.State.{State};
+ghost use Rattle.pth_waits.specs.Blocking.{may_block};
+ghost use Rattle.pth_world.specs.Frame.{Frame, runs_after, yields_after};
+ghost use Rattle.pth_world.specs.Leading.{Leads};
+ghost use Rattle.pth_world.specs.Numbering.{HasNumbers};
+ghost use Rattle.pth_world.specs.Shows.{StandsFor};
+ghost use Rattle.pth_world.specs.Whole.{Whole};
+
+use pth_base::answer::Answer;
+use pth_base::call::Call;
+use pth_base::ids::Tid;
+use pth_base::marks::Marks;
+use pth_base::memory::OutOfMemory;
+use pth_base::program::Program;
+use pth_calls::cancellation::{abort, cancel};
+use pth_calls::cleanups::pop_cleanup;
+use pth_calls::once::once;
+use pth_calls::plain::begin_plain;
+use pth_calls::script_lines::note;
+use pth_calls::thread_control::yield_to;
+use pth_model::next::Next;
+use pth_waits::cancellation::cancel_point;
+use pth_waits::io::{begin_io, is_io};
+use pth_waits::joins::begin_join;
+use pth_waits::library_ends::kill;
+use pth_waits::locking::begin_locking;
+use pth_waits::rests::begin_rest;
+use pth_waits::ring_waits::begin_wait;
+use pth_waits::thread_ends::begin_exit;
+use pth_world::world::World;
+
+// Begins a call that never blocks its thread. After an error the world may only be dropped.
+fn begin_at_once<P: Program>(
+    w: &mut World<P>,
+    t: Tid,
+    call: &Call,
+    marks: &mut Marks,
+) -> Result<Next, OutOfMemory>
+    requires whole { Whole w.old }
+    requires runs { w.old.scheduler.running ≡ Some t.0 }
+    requires few { HasNumbers w.old }
+    requires never { may_block call.now ≡ false }
+    ensures next { IfOk result (λ n. (s : State P P.State P.Shared) → StandsFor w.old s → n ≡ (begun P.functions t.0 call.now s).next) }
+    ensures ok { OnOk result ((s : State P P.State P.Shared) → StandsFor w.old s → Leads w.new marks.old marks.new (begun P.functions t.0 call.now s).told) }
+    ensures err { OnErr result ((s : State P P.State P.Shared) → StandsFor w.old s → IsCut marks.old marks.new (begun P.functions t.0 call.now s).told.marks) }
+    ensures frame { IfOk result (λ n. Frame w.old w.new 1 (runs_after t.0 n) (yields_after n)) }
+{
+    match call {
+        Call::Kill => kill(w, t, call, marks),
+        Call::Yield(to) => yield_to(w, t, call, *to, marks),
+        Call::Cancel(n) => cancel(w, t, call, *n, marks),
+        Call::Abort(n) => abort(w, t, call, *n, marks),
+        Call::CancelPoint => cancel_point(w, t, call, marks),
+        Call::CleanupPop(v) => pop_cleanup(w, t, call, *v, marks),
+        Call::Once { o, h, v } => once(w, t, call, *o, *h, *v, marks),
+        Call::Plain => Ok(Next::Done(Answer::None)),
+        Call::Note(value) => {
+            note(t, *value, marks)?;
+            Ok(Next::Done(Answer::Int(0)))
+        }
+        _ => {
+            let answer = begin_plain(w, t, call, marks)?;
+            Ok(Next::Done(answer))
+        }
+    }
+}
+
+/// Begins a call of the thread that runs, and tells of it. After an error the world may only be dropped.
+pub fn begin<P: Program>(
+    w: &mut World<P>,
+    t: Tid,
+    call: Call,
+    marks: &mut Marks,
+) -> Result<Next, OutOfMemory>
+    requires whole { Whole w.old }
+    requires runs { w.old.scheduler.running ≡ Some t.0 }
+    requires few { HasNumbers w.old }
+    ensures next { IfOk result (λ n. (s : State P P.State P.Shared) → StandsFor w.old s → n ≡ (begun P.functions t.0 call s).next) }
+    ensures ok { OnOk result ((s : State P P.State P.Shared) → StandsFor w.old s → Leads w.new marks.old marks.new (begun P.functions t.0 call s).told) }
+    ensures err { OnErr result ((s : State P P.State P.Shared) → StandsFor w.old s → IsCut marks.old marks.new (begun P.functions t.0 call s).told.marks) }
+    ensures frame { IfOk result (λ n. Frame w.old w.new 1 (runs_after t.0 n) (yields_after n)) }
+{
+    match &call {
+        Call::Plain => Ok(Next::Done(Answer::None)),
+        &Call::Join(n) => begin_join(w, t, call, n, marks),
+        &Call::Exit(value) => begin_exit(w, t, call, value, marks),
+        Call::Nap(_) | Call::Usleep(_) | Call::Sleep(_) => begin_rest(w, t, call, marks),
+        &Call::Wait(e) => begin_wait(w, t, call, e, marks),
+        Call::MutexAcquire { .. } | Call::RwAcquire { .. } => begin_locking(w, t, call, marks),
+        _ if is_io(&call) => begin_io(w, t, call, marks),
+        _ => begin_at_once(w, t, &call, marks),
+    }
+}
