@@ -29,7 +29,7 @@ use pth_base::ids::{MAIN, Tid};
 use pth_base::marks::Marks;
 use pth_base::memory::OutOfMemory;
 use pth_base::program::Program;
-use pth_end::answering::answer_call;
+use pth_end::answering::done;
 use pth_end::cancellation::{abort_thread, cancel_from_outside};
 use pth_model::cancel_states::is_asynchronous;
 use pth_model::living::is_dead;
@@ -189,13 +189,11 @@ pub fn cancel<P: Program>(
     let (other, state) = match to_cancel(w, t, n) {
         Ok(it) => it,
         Err(e) => {
-            let answer = answer_call(t, call, Answer::Fail(e), marks)?;
-            return Ok(Next::Done(answer));
+            return done(t, call, Answer::Fail(e), marks);
         }
     };
     end_or_ask(w, other, state, marks)?;
-    let answer = answer_call(t, call, Answer::Int(1), marks)?;
-    Ok(Next::Done(answer))
+    done(t, call, Answer::Int(1), marks)
 }
 
 /// `pth_abort`: a dead thread is in the system no longer, and another ends now, whatever its cancel state is, and is gone. EINVAL
@@ -218,11 +216,9 @@ pub fn abort<P: Program>(
     let (other, dead) = match to_abort(w, t, n) {
         Ok(it) => it,
         Err(e) => {
-            let answer = answer_call(t, call, Answer::Fail(e), marks)?;
-            return Ok(Next::Done(answer));
+            return done(t, call, Answer::Fail(e), marks);
         }
     };
     drop_or_abort(w, other, dead, marks)?;
-    let answer = answer_call(t, call, Answer::Int(1), marks)?;
-    Ok(Next::Done(answer))
+    done(t, call, Answer::Int(1), marks)
 }

@@ -28,7 +28,7 @@ use pth_base::ids::{HandlerId, Tid};
 use pth_base::marks::Marks;
 use pth_base::memory::OutOfMemory;
 use pth_base::program::Program;
-use pth_end::answering::answer_call;
+use pth_end::answering::done;
 use pth_end::handlers::run_told_handler;
 use pth_end::saying::refused;
 use pth_model::next::Next;
@@ -95,11 +95,9 @@ pub fn pop_cleanup<P: Program>(
     ensures frame { IfOk result (λ n. Frame w.old w.new 0 (runs_after t.0 n) (yields_after n)) }
 {
     let Some((h, arg)) = w.cleanup_below(t, 0) else {
-        let answer = answer_call(t, call, Answer::Fail(Errno::EINVAL), marks)?;
-        return Ok(Next::Done(answer));
+        return done(t, call, Answer::Fail(Errno::EINVAL), marks);
     };
     run_popped(w, t, v, h, arg, marks)?;
     w.pop_cleanup(t);
-    let answer = answer_call(t, call, Answer::Int(1), marks)?;
-    Ok(Next::Done(answer))
+    done(t, call, Answer::Int(1), marks)
 }

@@ -20,7 +20,7 @@ use pth_base::ids::Tid;
 use pth_base::marks::Marks;
 use pth_base::memory::OutOfMemory;
 use pth_base::program::Program;
-use pth_end::answering::answer_call;
+use pth_end::answering::done;
 use pth_end::handlers::run_told_handler;
 use pth_model::next::Next;
 use pth_world::world::World;
@@ -71,6 +71,5 @@ pub fn once<P: Program>(
     ensures frame { IfOk result (λ n. Frame w.old w.new 0 (runs_after t.0 n) (yields_after n)) }
 {
     let answer = use_control(w, t, o, h, v, marks)?;
-    let answer = answer_call(t, call, answer, marks)?;
-    Ok(Next::Done(answer))
+    done(t, call, answer, marks)
 }

@@ -32,7 +32,7 @@ use pth_base::marks::Marks;
 use pth_base::memory::OutOfMemory;
 use pth_base::program::Program;
 use pth_base::thread::ThreadState;
-use pth_end::answering::answer_call;
+use pth_end::answering::{answer_call, done};
 use pth_model::living::is_dead;
 use pth_model::next::Next;
 use pth_threads::entry::{AddErr, Entry, NewThread};
@@ -242,8 +242,7 @@ pub fn yield_to<P: Program>(
     ensures frame { IfOk result (λ n. Frame w.old w.new 0 (runs_after t.0 n) (yields_after n)) }
 {
     if !name_next(w, t, to) {
-        let answer = answer_call(t, call, Answer::Fail(Errno::EINVAL), marks)?;
-        return Ok(Next::Done(answer));
+        return done(t, call, Answer::Fail(Errno::EINVAL), marks);
     }
     let answer = answer_call(t, call, Answer::Int(1), marks)?;
     Ok(Next::Yields(answer))
