@@ -8,7 +8,7 @@ use Rattle.pth_queue.specs.declared.ranked.Ranked.{Ranked}
 use Rattle.pth_queue.specs.declared.queue.Queue.TheVariants as queues
 use Rattle.pth_queue.specs.Ranking.{is_of, delete, favour_top, last_of, named_row}
 use Rattle.pth_queue.specs.Queues.{QueuesOf, without, entered}
-use Rattle.pth_queue.proofs.Counts.{count-cons}
+use Rattle.pth_queue.proofs.Counts.{count-cons, length-insert}
 use Rattle.pth_threads.specs.Threads.{slot_of, tid_at}
 use Rattle.pth_base.specs.declared.thread.ThreadState.TheVariants as state
 use Rattle.pth_threads.specs.declared.entry.Change.TheVariants as change
@@ -23,7 +23,7 @@ use Rattle.pth_world.specs.Sound.{IsSound, IsKnown}
 use Rattle.pth_world.specs.Whole.{IsIn}
 use Rattle.pth_world.specs.Ranks.{IsUnder, greatest_return}
 use Rattle.pth_world.proofs.QueueReads.{once_thread}
-use Rattle.pth_world.proofs.Ranks.{under-roof, under-insert, under-delete, length-insert}
+use Rattle.pth_world.proofs.Ranks.{under-roof, under-insert, under-delete}
 use Rattle.pth_sched.specs.Passing.{HasRoom}
 use Rattle.pth_sched.proofs.Keeping.{new_shorter, some_new}
 

@@ -22,7 +22,7 @@ use Rattle.pth_model.specs.Run.{run, stops, stops_at, stops_by, GoesTo}
 use Rattle.pth_model.specs.Transition.{controlled, changes, tells, ◌and_then◌}
 use Rattle.pth_model.proofs.Queues.{queue-enter}
 use Rattle.pth_model.proofs.Runs.{parts-more, none-more}
-use Rattle.pth_world.proofs.Ranks.{length-insert}
+use Rattle.pth_queue.proofs.Counts.{length-insert}
 use Rattle.pth_sched.specs.MachineOf.{left_at, left_while, part_left, time_left}
 use Rattle.pth_sched.proofs.Parts.{turn_steps}
 use Rattle.pth_sched.proofs.Times.{IsLater, moment_later, time_less, readied_kernel, ended_time, step_at}

@@ -4,17 +4,12 @@ use Rattle.std.proofs.lemmas.List.{length-map}
 use Rattle.pth_queue.specs.declared.queue.Queue.{Queue}
 use Rattle.pth_queue.specs.declared.queue.Queue.TheVariants.{New, Ready, Waiting, Suspended, Dead}
 use Rattle.pth_queue.specs.declared.ranked.Ranked.{Ranked}
-use Rattle.pth_queue.specs.Ranking.{is_of, insert, delete, increase, raised, named_row}
+use Rattle.pth_queue.specs.Ranking.{is_of, insert, delete, increase, raised}
 use Rattle.pth_queue.specs.Queues.{QueuesOf, no_queues, rows_of, with_rows, queue_of, entered, without, IsOrderly}
-use Rattle.pth_queue.proofs.Counts.{fewer, length-delete, count-present}
+use Rattle.pth_queue.proofs.Counts.{fewer, length-insert, length-delete, count-present}
 use Rattle.pth_queue.proofs.Sets.{once_in, holds-queue_of, deleted_is}
-use Rattle.pth_threads.specs.Threads.{tid_at}
-use Rattle.pth_model.specs.State.{Control, queue}
 use Rattle.pth_tables.specs.declared.counted_queues.PerQueue.{PerQueue}
 use Rattle.pth_tables.specs.Counted.{kept_of, with_kept, AreCounted}
-use Rattle.pth_world.specs.World.{WorldOf}
-use Rattle.pth_world.specs.Shows.{Shows}
-use Rattle.pth_world.proofs.Ranks.{length-insert}
 
 -- a queue has no more rows than there are slots
 pub few_rows : (q : Queue) (x : QueuesOf) → IsOrderly x → length (rows_of q x) ≤ 4096
@@ -98,7 +93,3 @@ module _ (v : QueuesOf) (x : QueuesOf) (y : PerQueue ℕ) (counts : AreCounted x
 
       pub counts_without : v ≡ without s x → z ≡ with_kept q (n - 1) y → AreCounted v z
       counts_without is set = both (delete s (rows_of q x)) (n - 1) (omega (arith, length-delete s (rows_of q x), present, once_in q s x o, counts q)) (is ∙ sym (deleted_is q s x o present)) set
-
--- a queue that is shown is as long as that of the world
-pub length_shown : {P S H : Type 0} (w : WorldOf P S H) (k : Control P S H) (q : Queue) → Shows w k → length (rows_of q w.threads.queues) ≡ length (queue k q)
-length_shown w k q sh = sym (ap (λ (l : List Ranked). length l) (sh.threads.standing q) ∙ length-map (rows_of q w.threads.queues) (named_row (tid_at w.threads.records)))

@@ -1,6 +1,7 @@
 -- Reads of the queues by thread.
-use Rattle.std.proofs.Common.{◌≡◌, ◌≢◌, ℕ, ◌==◌, ◌+◌, ◌≤◌, Bool, true, false, cond, ◌&&◌, ◌||◌, if◌then◌else◌, ℤ, List, [], ◌∷◌, ◌++◌, map, count_by, Option, Some, None, IfSome, IsSomeAnd, option_map, refl, sym, ◌∙◌, ap, subst, arith, pos, neg_ℤ, ◌≤ℤ◌, ◌^◌}
+use Rattle.std.proofs.Common.{◌≡◌, ◌≢◌, ℕ, ◌==◌, ◌+◌, ◌≤◌, Bool, true, false, cond, ◌&&◌, ◌||◌, if◌then◌else◌, ℤ, List, [], ◌∷◌, ◌++◌, map, length, count_by, Option, Some, None, IfSome, IsSomeAnd, option_map, refl, sym, ◌∙◌, ap, subst, arith, pos, neg_ℤ, ◌≤ℤ◌, ◌^◌}
 use Rattle.std.proofs.lemmas.Int.{ints}
+use Rattle.std.proofs.lemmas.List.{length-map}
 use Rattle.std.proofs.lemmas.List.Elements.{All-head}
 use Rattle.pth_base.specs.declared.ids.Slot.{Slot}
 use Rattle.pth_base.specs.Naming.{IsTied}
@@ -21,8 +22,8 @@ use Rattle.pth_model.specs.Part.{rank_by}
 use Rattle.pth_model.specs.State.{Control, queue}
 use Rattle.pth_model.specs.Changes.{holders}
 use Rattle.pth_model.specs.ThreadEnds.{only, is_alone}
-use Rattle.pth_world.specs.World.{ThreadsBySlot}
-use Rattle.pth_world.specs.Shows.{ShowsThreads}
+use Rattle.pth_world.specs.World.{WorldOf, ThreadsBySlot}
+use Rattle.pth_world.specs.Shows.{Shows, ShowsThreads}
 use Rattle.pth_world.specs.Sound.{IsSound}
 use Rattle.pth_world.proofs.Places.{unused-holds}
 
@@ -215,3 +216,7 @@ alone_true s t v = four_true (only t (holders (queue s queue_is.New))) (only t (
 pub alone_false : {P S H : Type 0} (s : Control P S H) (t : ℕ) (v : Bool) → only_three s t ≡ false → v ≡ false → v ≡ is_alone s t
 unfolding is_alone
 alone_false s t v = four_false (only t (holders (queue s queue_is.New))) (only t (holders (queue s queue_is.Ready))) (only t (holders (queue s queue_is.Waiting))) (only t (holders (queue s queue_is.Suspended))) v
+
+-- a queue that is shown is as long as that of the world
+pub length_shown : {P S H : Type 0} (w : WorldOf P S H) (k : Control P S H) (q : Queue) → Shows w k → length (rows_of q w.threads.queues) ≡ length (queue k q)
+length_shown w k q sh = sym (ap (λ (l : List Ranked). length l) (sh.threads.standing q) ∙ length-map (rows_of q w.threads.queues) (named_row (tid_at w.threads.records)))

@@ -7,7 +7,7 @@ use Rattle.pth_queue.specs.declared.queue.Queue.{Queue}
 use Rattle.pth_queue.specs.declared.queue.Queue.TheVariants as queue
 use Rattle.pth_queue.specs.Ranking.{is_of, insert, delete, increase, raised}
 use Rattle.pth_queue.specs.Queues.{QueuesOf, entered, without}
-use Rattle.pth_queue.proofs.Counts.{length-delete}
+use Rattle.pth_queue.proofs.Counts.{length-insert, length-delete}
 use Rattle.pth_queue.proofs.Orders.{All-insert}
 use Rattle.pth_threads.specs.Threads.{slot_of}
 use Rattle.pth_world.specs.World.{ThreadsBySlot}
@@ -35,15 +35,6 @@ under-increase roof rows under = All-map (λ r. r.rank ≤ℤ pos (roof + 1)) ra
   where
     one_more : (r : Ranked) → r.rank ≤ℤ pos roof → (raised r).rank ≤ℤ pos (roof + 1)
     one_more r k = omega (arith, ints)
-
--- a row more
-pub length-insert : (e : Ranked) (rows : List Ranked) → length (insert e rows) ≡ length rows + 1
-length-insert e [] = refl
-length-insert e (x ∷ xs) = by_rank (int_lt x.rank e.rank) (length-insert e xs)
-  where
-    by_rank : (b : Bool) → length (insert e xs) ≡ length xs + 1 → length (if b then e ∷ x ∷ xs else x ∷ insert e xs) ≡ length (x ∷ xs) + 1
-    by_rank true h = omega arith
-    by_rank false h = omega arith
 
 -- no change
 pub ranks_none : {S : Type 0} (w : ThreadsBySlot S) → KeepsRanks 0 w w

@@ -1,7 +1,7 @@
 use Rattle.std.proofs.Common.{◌∙◌, ap, length}
 use Rattle.pth_queue.specs.Queues.{rows_of}
 use Rattle.pth_world.specs.World.{WorldOf}
-use Rattle.pth_tables.proofs.Counting.{length_shown}
+use Rattle.pth_world.proofs.QueueReads.{length_shown}
 use Rattle.pth_world.proofs.world.World.count_in.Goals as goal
 
 pub returns : goal.returns
