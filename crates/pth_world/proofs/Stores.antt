@@ -19,6 +19,7 @@ use Rattle.pth_store.specs.Keys.{Tables, key_limit, key_named, is_key, key_creat
 use Rattle.pth_model.specs.Resources.{Store, no_resources, store_without, with_cleanups, with_keys, with_mutexes, with_rw_locks}
 use Rattle.pth_model.specs.State.{Control}
 use Rattle.pth_world.specs.World.{WorldOf, ThreadsBySlot, entry_in}
+use Rattle.pth_world.specs.Keeps.{KeepsAllButStore}
 use Rattle.pth_world.specs.Shows.{Shows}
 use Rattle.pth_world.specs.Sound.{IsAlive, IsKnown, lives}
 use Rattle.pth_world.specs.Whole.{Whole}
@@ -280,6 +281,10 @@ module _ {P S H : Type 0} (w : WorldOf P S H) where
 
   pub stored_shows : (y : StoreOf) (k : Control P S H) → Shows w k → Shows (record w { store = y }) k
   stored_shows y k sh = record { program = sh.program; shared = sh.shared; threads = sh.threads; attributes = sh.attributes; events = sh.events; kernel = sh.kernel; used = sh.used; scheduler = sh.scheduler }
+
+  -- all but the store is kept, if who is not alive has come to nothing
+  pub stored_keeps : (y : StoreOf) → ((u : ℕ) → lives (entry_in w.threads u) ≡ false → HasNothing (store_of w.store) u → HasNothing (store_of y) u) → KeepsAllButStore w (record w { store = y })
+  stored_keeps y keeps = record { shows = stored_shows y; whole = stored_whole y keeps; same = refl }
 
 -- a slot that is not used holds nothing
 pub spare_nothing : {P S H : Type 0} (w : WorldOf P S H) → Whole w → HasNothing (store_of w.store) 0

@@ -11,4 +11,5 @@ pub mod Leading
 pub mod Walks
 pub mod Ranks
 pub mod Frame
+pub mod Keeps
 pub mod Vanishing

@@ -6,11 +6,9 @@ ghost use Rattle.pth_lock.specs.Objects.{object_named};
 ghost use Rattle.pth_lock.specs.RwLocks.{holds, lock_free_answer, lock_init_answer, lock_initialised, lock_release_answer, lock_released, lock_take_answer, lock_taken, locks_left};
 ghost use Rattle.pth_lock.specs.Sets.{contains};
 ghost use Rattle.pth_model.specs.Resources.{with_mutexes, with_rw_locks};
-ghost use Rattle.pth_model.specs.State.{Control};
-ghost use Rattle.pth_world.specs.Shows.{Shows};
+ghost use Rattle.pth_world.specs.Keeps.{KeepsAllButStore};
 ghost use Rattle.pth_world.specs.Sound.{IsSound, IsKnown, IsAlive};
 ghost use Rattle.pth_world.specs.Store.{store_of};
-ghost use Rattle.pth_world.specs.Whole.{Whole};
 
 use crate::world::World;
 use pth_base::errno::Errno;
@@ -23,9 +21,7 @@ impl<P: Program> World<P> {
         ensures answer { result ≡ mutex_init_answer (store_of self.old.store).mutexes m }
         ensures changes { OnOk result (store_of self.new.store ≡ with_mutexes (mutex_initialised (object_named m)) (store_of self.old.store)) }
         ensures refused { OnErr result (self.new ≡ self.old) }
-        ensures shows { (k : Control P P.State P.Shared) → Shows self.old k → Shows self.new k }
-        ensures whole { Whole self.old → Whole self.new }
-        ensures same { self.new ≡ record self.old { store = self.new.store } }
+        ensures keeps { KeepsAllButStore self.old self.new }
     {
         self.mutexes.init(m)
     }
@@ -38,9 +34,7 @@ impl<P: Program> World<P> {
         ensures answer { result ≡ mutex_take_answer (store_of self.old.store).mutexes t.0 m }
         ensures changes { OnOk result (store_of self.new.store ≡ with_mutexes (mutex_taken t.0 (object_named m)) (store_of self.old.store)) }
         ensures refused { OnErr result (self.new ≡ self.old) }
-        ensures shows { (k : Control P P.State P.Shared) → Shows self.old k → Shows self.new k }
-        ensures whole { Whole self.old → Whole self.new }
-        ensures same { self.new ≡ record self.old { store = self.new.store } }
+        ensures keeps { KeepsAllButStore self.old self.new }
     {
         let slot = self.slot(t);
         self.mutexes.try_take(m, slot)
@@ -54,9 +48,7 @@ impl<P: Program> World<P> {
         ensures answer { result ≡ mutex_release_answer (store_of self.old.store).mutexes t.0 m }
         ensures changes { OnOk result (store_of self.new.store ≡ with_mutexes (mutex_released t.0 (object_named m)) (store_of self.old.store)) }
         ensures refused { OnErr result (self.new ≡ self.old) }
-        ensures shows { (k : Control P P.State P.Shared) → Shows self.old k → Shows self.new k }
-        ensures whole { Whole self.old → Whole self.new }
-        ensures same { self.new ≡ record self.old { store = self.new.store } }
+        ensures keeps { KeepsAllButStore self.old self.new }
     {
         let slot = self.slot(t);
         self.mutexes.release(m, slot)
@@ -68,9 +60,7 @@ impl<P: Program> World<P> {
         requires alive { IsAlive self.old.threads t.0 }
         ensures had { (m : ℕ) → contains result m ≡ has t.0 ((store_of self.old.store).mutexes m) }
         ensures changes { store_of self.new.store ≡ with_mutexes (mutexes_left t.0) (store_of self.old.store) }
-        ensures shows { (k : Control P P.State P.Shared) → Shows self.old k → Shows self.new k }
-        ensures whole { Whole self.old → Whole self.new }
-        ensures same { self.new ≡ record self.old { store = self.new.store } }
+        ensures keeps { KeepsAllButStore self.old self.new }
     {
         let slot = self.slot(t);
         self.mutexes.release_all(slot)
@@ -89,9 +79,7 @@ impl<P: Program> World<P> {
         ensures answer { result ≡ lock_init_answer (store_of self.old.store).rw_locks l }
         ensures changes { OnOk result (store_of self.new.store ≡ with_rw_locks (lock_initialised (object_named l)) (store_of self.old.store)) }
         ensures refused { OnErr result (self.new ≡ self.old) }
-        ensures shows { (k : Control P P.State P.Shared) → Shows self.old k → Shows self.new k }
-        ensures whole { Whole self.old → Whole self.new }
-        ensures same { self.new ≡ record self.old { store = self.new.store } }
+        ensures keeps { KeepsAllButStore self.old self.new }
     {
         self.rw_locks.init(l)
     }
@@ -104,9 +92,7 @@ impl<P: Program> World<P> {
         ensures answer { result ≡ lock_take_answer (store_of self.old.store).rw_locks t.0 write l }
         ensures changes { OnOk result (store_of self.new.store ≡ with_rw_locks (lock_taken t.0 write (object_named l)) (store_of self.old.store)) }
         ensures refused { OnErr result (self.new ≡ self.old) }
-        ensures shows { (k : Control P P.State P.Shared) → Shows self.old k → Shows self.new k }
-        ensures whole { Whole self.old → Whole self.new }
-        ensures same { self.new ≡ record self.old { store = self.new.store } }
+        ensures keeps { KeepsAllButStore self.old self.new }
     {
         let slot = self.slot(t);
         self.rw_locks.try_take(l, write, slot)
@@ -120,9 +106,7 @@ impl<P: Program> World<P> {
         ensures answer { result ≡ lock_release_answer (store_of self.old.store).rw_locks t.0 l }
         ensures changes { OnOk result (store_of self.new.store ≡ with_rw_locks (lock_released t.0 (object_named l)) (store_of self.old.store)) }
         ensures refused { OnErr result (self.new ≡ self.old) }
-        ensures shows { (k : Control P P.State P.Shared) → Shows self.old k → Shows self.new k }
-        ensures whole { Whole self.old → Whole self.new }
-        ensures same { self.new ≡ record self.old { store = self.new.store } }
+        ensures keeps { KeepsAllButStore self.old self.new }
     {
         let slot = self.slot(t);
         self.rw_locks.release(l, slot)
@@ -134,9 +118,7 @@ impl<P: Program> World<P> {
         requires alive { IsAlive self.old.threads t.0 }
         ensures held { (l : ℕ) → contains result l ≡ holds (store_of self.old.store).rw_locks t.0 l }
         ensures changes { store_of self.new.store ≡ with_rw_locks (locks_left t.0) (store_of self.old.store) }
-        ensures shows { (k : Control P P.State P.Shared) → Shows self.old k → Shows self.new k }
-        ensures whole { Whole self.old → Whole self.new }
-        ensures same { self.new ≡ record self.old { store = self.new.store } }
+        ensures keeps { KeepsAllButStore self.old self.new }
     {
         let slot = self.slot(t);
         self.rw_locks.release_all(slot)

@@ -2,14 +2,12 @@
 
 ghost use Rattle.std.specs.Prelude.{◌≡◌, ◌≤◌, true, pos, length, OnOk, OnErr, IfOk};
 ghost use Rattle.pth_model.specs.Resources.{store_without, with_cleanups, with_keys};
-ghost use Rattle.pth_model.specs.State.{Control};
 ghost use Rattle.pth_store.specs.Cleanups.{below_top_answer, cleanup_limit, pop_answer, push_answer, top_taken, with_top};
 ghost use Rattle.pth_store.specs.Keys.{created, deleted, first_live, is_key, key_create_answer, key_delete_answer, key_get_answer, key_named, key_set_answer, with_key_value};
 ghost use Rattle.pth_store.specs.Storing.{AnswersWithMemory};
-ghost use Rattle.pth_world.specs.Shows.{Shows};
+ghost use Rattle.pth_world.specs.Keeps.{KeepsAllButStore};
 ghost use Rattle.pth_world.specs.Sound.{IsSound, IsKnown, IsAlive};
 ghost use Rattle.pth_world.specs.Store.{store_of, HasNothing};
-ghost use Rattle.pth_world.specs.Whole.{Whole};
 
 use crate::world::World;
 use pth_base::errno::Errno;
@@ -26,9 +24,7 @@ impl<P: Program> World<P> {
         ensures answer { AnswersWithMemory (push_answer (store_of self.old.store).cleanups t.0) result }
         ensures changes { OnOk result (store_of self.new.store ≡ with_cleanups (with_top t.0 (h, arg)) (store_of self.old.store)) }
         ensures refused { OnErr result (self.new ≡ self.old) }
-        ensures shows { (k : Control P P.State P.Shared) → Shows self.old k → Shows self.new k }
-        ensures whole { Whole self.old → Whole self.new }
-        ensures same { self.new ≡ record self.old { store = self.new.store } }
+        ensures keeps { KeepsAllButStore self.old self.new }
     {
         let slot = self.slot(t);
         self.cleanups.push(slot, h, arg)
@@ -40,9 +36,7 @@ impl<P: Program> World<P> {
         requires known { IsKnown self.old.threads t.0 }
         ensures answer { result ≡ pop_answer (store_of self.old.store).cleanups t.0 }
         ensures changes { store_of self.new.store ≡ with_cleanups (top_taken t.0) (store_of self.old.store) }
-        ensures shows { (k : Control P P.State P.Shared) → Shows self.old k → Shows self.new k }
-        ensures whole { Whole self.old → Whole self.new }
-        ensures same { self.new ≡ record self.old { store = self.new.store } }
+        ensures keeps { KeepsAllButStore self.old self.new }
     {
         let slot = self.slot(t);
         self.cleanups.pop(slot)
@@ -65,9 +59,7 @@ impl<P: Program> World<P> {
         requires known { IsKnown self.old.threads t.0 }
         ensures changes { store_of self.new.store ≡ store_without t.0 (store_of self.old.store) }
         ensures nothing { HasNothing (store_of self.new.store) t.0 }
-        ensures shows { (k : Control P P.State P.Shared) → Shows self.old k → Shows self.new k }
-        ensures whole { Whole self.old → Whole self.new }
-        ensures same { self.new ≡ record self.old { store = self.new.store } }
+        ensures keeps { KeepsAllButStore self.old self.new }
     {
         let slot = self.slot(t);
         self.keys.forget(slot);
@@ -82,9 +74,7 @@ impl<P: Program> World<P> {
         ensures answer { result ≡ key_create_answer (store_of self.old.store).keys }
         ensures changes { IfOk result (λ k. store_of self.new.store ≡ with_keys (created k h) (store_of self.old.store)) }
         ensures refused { OnErr result (self.new ≡ self.old) }
-        ensures shows { (k : Control P P.State P.Shared) → Shows self.old k → Shows self.new k }
-        ensures whole { Whole self.old → Whole self.new }
-        ensures same { self.new ≡ record self.old { store = self.new.store } }
+        ensures keeps { KeepsAllButStore self.old self.new }
     {
         self.keys.create(h)
     }
@@ -94,9 +84,7 @@ impl<P: Program> World<P> {
         ensures answer { result ≡ key_delete_answer (store_of self.old.store).keys k }
         ensures changes { OnOk result (store_of self.new.store ≡ with_keys (deleted (key_named k)) (store_of self.old.store)) }
         ensures refused { OnErr result (self.new ≡ self.old) }
-        ensures shows { (k : Control P P.State P.Shared) → Shows self.old k → Shows self.new k }
-        ensures whole { Whole self.old → Whole self.new }
-        ensures same { self.new ≡ record self.old { store = self.new.store } }
+        ensures keeps { KeepsAllButStore self.old self.new }
     {
         self.keys.delete(k)
     }
@@ -108,9 +96,7 @@ impl<P: Program> World<P> {
         ensures answer { AnswersWithMemory (key_set_answer (store_of self.old.store).keys k) result }
         ensures changes { OnOk result (store_of self.new.store ≡ with_keys (with_key_value t.0 (key_named k) v) (store_of self.old.store)) }
         ensures refused { OnErr result (self.new ≡ self.old) }
-        ensures shows { (k : Control P P.State P.Shared) → Shows self.old k → Shows self.new k }
-        ensures whole { Whole self.old → Whole self.new }
-        ensures same { self.new ≡ record self.old { store = self.new.store } }
+        ensures keeps { KeepsAllButStore self.old self.new }
     {
         let slot = self.slot(t);
         self.keys.set(slot, k, v)
@@ -142,9 +128,7 @@ impl<P: Program> World<P> {
         requires live { is_key (store_of self.old.store).keys k ≡ true }
         ensures changes { OnOk result (store_of self.new.store ≡ with_keys (with_key_value t.0 k (pos 0)) (store_of self.old.store)) }
         ensures refused { OnErr result (self.new ≡ self.old) }
-        ensures shows { (k : Control P P.State P.Shared) → Shows self.old k → Shows self.new k }
-        ensures whole { Whole self.old → Whole self.new }
-        ensures same { self.new ≡ record self.old { store = self.new.store } }
+        ensures keeps { KeepsAllButStore self.old self.new }
     {
         match self.set_key(t, i64::from(k), 0) {
             Ok(()) => Ok(()),

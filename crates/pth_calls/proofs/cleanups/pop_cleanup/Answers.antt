@@ -69,6 +69,6 @@ returns-clause-ok g c s st =
     let first = ran s st in
     let m = Answered c.args.t (CleanupPop c.args.v) (Int (pos 1)) in
     let tell = popped_tells c.run_popped.new.w c.pop_cleanup.new.self c.args.t c.args.v c.pop_cleanup.ensures.changes in
-    let last = tells_leads c.run_popped.new.w c.pop_cleanup.new.self m _ tell first.stands (c.pop_cleanup.ensures.shows _ first.stands.control) _ _ (rw c.requires.call at c.in_ok-answer-2.ensures.ok) in
+    let last = tells_leads c.run_popped.new.w c.pop_cleanup.new.self m _ tell first.stands (c.pop_cleanup.ensures.keeps.shows _ first.stands.control) _ _ (rw c.requires.call at c.in_ok-answer-2.ensures.ok) in
     rw (c.requires.call, pop_runs f s c.args.t.0 c.args.v (c.in-Some.h, c.in-Some.arg) some)
     (leads_then c.run_popped.new.w c.pop_cleanup.new.self s (where_so (not (is_zero c.args.v)) (runs_handler f c.args.t.0 c.in-Some.h c.in-Some.arg)) (tells m) _ _ _ first last)

@@ -1,7 +1,9 @@
 use Rattle.std.proofs.Common.{SFits, w64, to_z-of_z, rules}
+use Rattle.std.proofs.lemmas.Result.{on_ok_weaker}
 use Rattle.pth_model.specs.Rows.{row_of}
 use Rattle.pth_world.proofs.Moves.{runner_alive}
 use Rattle.pth_end.proofs.Answers.{answered_told}
+use Rattle.pth_end.proofs.Handled.{handled_frame}
 use Rattle.pth_calls.proofs.Storing.{set_told_each, quiet_get}
 use Rattle.pth_calls.proofs.key_storage.answer_keys.Goals as goal
 
@@ -25,6 +27,9 @@ returns-in-KeySet-clause-told g c =
     let v : SFits w64 c.in-KeySet.v = search rules in
     let set = simp to_z-of_z at c.set_key.ensures in
     rw c.in-KeySet.is (set_told_each c.args.w.now c.set_key.new.w c.args.t c.in-KeySet.k c.in-KeySet.v c.set_key.result set.answer set.tells set.shows)
+
+pub returns-in-KeySet-clause-frame : goal.returns-in-KeySet-clause-frame
+returns-in-KeySet-clause-frame g c = on_ok_weaker c.set_key.result (λ set. handled_frame c.args.w.now _ c.requires.runs c.set_key.new.w set) c.set_key.ensures.handled
 
 pub returns-in-KeyGet-clause-told : goal.returns-in-KeyGet-clause-told
 unfolding row_of

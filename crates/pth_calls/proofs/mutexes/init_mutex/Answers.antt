@@ -1,4 +1,5 @@
 use Rattle.std.proofs.Common.{SFits, w64, to_z-of_z, rules}
+use Rattle.pth_end.proofs.Handled.{stored_frame}
 use Rattle.pth_calls.proofs.Storing.{mutex_initialised_told}
 use Rattle.pth_calls.proofs.mutexes.init_mutex.Goals as goal
 
@@ -6,4 +7,7 @@ pub returns-clause-told : goal.returns-clause-told
 returns-clause-told g c =
     let m : SFits w64 c.args.m = search rules in
     let call = simp to_z-of_z at c.init_mutex.ensures in
-    mutex_initialised_told c.args.w.now c.init_mutex.new.self c.args.t call.shows c.args.m c.init_mutex.result c.done.result call.answer c.done.ensures call.changes call.refused
+    mutex_initialised_told c.args.w.now c.init_mutex.new.self c.args.t call.keeps.shows c.args.m c.init_mutex.result c.done.result call.answer c.done.ensures call.changes call.refused
+
+pub returns-clause-frame : goal.returns-clause-frame
+returns-clause-frame g c = stored_frame c.args.w.now _ c.requires.runs c.init_mutex.new.self c.requires.whole c.init_mutex.ensures.keeps

@@ -19,7 +19,7 @@ forget-requires-clause-known g c =
 
 pub leave-requires-clause-known : goal.leave-requires-clause-known
 leave-requires-clause-known g c =
-    let records = ap (λ (z : WorldOf _ _ _). z.threads.records) c.forget.ensures.same ∙ ap (λ (z : WorldOf _ _ _). z.threads.records) c.in_ok-give_all.ensures.handled.same ∙ ap (λ (z : WorldOf _ _ _). z.threads.records) c.in_ok-run_destructors.ensures.handled.same ∙ ap (λ (z : WorldOf _ _ _). z.threads.records) c.in_ok-run_cleanups.ensures.handled.same ∙ ap (λ (z : WorldOf _ _ _). z.threads.records) c.unblock.ensures.same in
+    let records = ap (λ (z : WorldOf _ _ _). z.threads.records) c.forget.ensures.keeps.same ∙ ap (λ (z : WorldOf _ _ _). z.threads.records) c.in_ok-give_all.ensures.handled.same ∙ ap (λ (z : WorldOf _ _ _). z.threads.records) c.in_ok-run_destructors.ensures.handled.same ∙ ap (λ (z : WorldOf _ _ _). z.threads.records) c.in_ok-run_cleanups.ensures.handled.same ∙ ap (λ (z : WorldOf _ _ _). z.threads.records) c.unblock.ensures.same in
     rw records (alive_known c.args.w.now.threads c.args.t.0 c.requires.alive)
 
 pub returns-in_err-run_cleanups-clause-err : goal.returns-in_err-run_cleanups-clause-err
@@ -60,7 +60,7 @@ returns-clause-ok g c =
     let destructed = c.in_ok-run_destructors.ensures.ok _ cleaned.stands in
     let gave = c.in_ok-give_all.ensures.ok _ destructed.stands in
     let stored = ap (λ (z : WorldOf _ _ _). store_of z.store) c.leave.ensures.same ∙ c.forget.ensures.changes in
-    let died = dies_leads f c.args.t.0 c.args.value c.give_all.new.w c.leave.new.self _ _ _ gave.stands (left _ (c.forget.ensures.shows _ gave.stands.control)) stored told in
+    let died = dies_leads f c.args.t.0 c.args.value c.give_all.new.w c.leave.new.self _ _ _ gave.stands (left _ (c.forget.ensures.keeps.shows _ gave.stands.control)) stored told in
     end_leads f c.args.t.0 c.args.value c.run_cleanups.new.w c.run_destructors.new.w c.give_all.new.w c.leave.new.self s _ _ _ _ _ cleaned destructed gave died) (simp to_z-of_z at c.push.ensures.ok)
 
 pub returns-clause-err : goal.returns-clause-err

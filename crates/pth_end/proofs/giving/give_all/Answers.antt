@@ -19,9 +19,9 @@ returns-clause-ok g c = on_ok_weaker c.tell_given-2.result (λ told s st.
     let t = c.args.t.0 in
     let m = c.release_mutexes-mutexes in
     let l = c.release_locks-locks in
-    let first = mutexes_lead t c.args.w.now m.new.self s st m.result (omega arith) _ _ m.ensures.had m.ensures.changes (m.ensures.shows s.control st.control) c.in_ok-tell_given.ensures.ok in
+    let first = mutexes_lead t c.args.w.now m.new.self s st m.result (omega arith) _ _ m.ensures.had m.ensures.changes (m.ensures.keeps.shows s.control st.control) c.in_ok-tell_given.ensures.ok in
     let s2 = (gives_mutexes t object_limit 0 s).state in
-    let second = locks_lead t m.new.self l.new.self s2 first.stands l.result (omega arith) _ _ l.ensures.held l.ensures.changes (l.ensures.shows s2.control first.stands.control) told in
+    let second = locks_lead t m.new.self l.new.self s2 first.stands l.result (omega arith) _ _ l.ensures.held l.ensures.changes (l.ensures.keeps.shows s2.control first.stands.control) told in
     leads_then m.new.self l.new.self s (gives_mutexes t object_limit 0) (gives_locks t object_limit 0) _ _ _ first second) c.tell_given-2.ensures.ok
 
 pub returns-clause-err : goal.returns-clause-err
@@ -29,7 +29,7 @@ returns-clause-err g c = on_err_weaker c.tell_given-2.result (λ cut s st.
     let t = c.args.t.0 in
     let m = c.release_mutexes-mutexes in
     let l = c.release_locks-locks in
-    let first = mutexes_lead t c.args.w.now m.new.self s st m.result (omega arith) _ _ m.ensures.had m.ensures.changes (m.ensures.shows s.control st.control) c.in_ok-tell_given.ensures.ok in
+    let first = mutexes_lead t c.args.w.now m.new.self s st m.result (omega arith) _ _ m.ensures.had m.ensures.changes (m.ensures.keeps.shows s.control st.control) c.in_ok-tell_given.ensures.ok in
     let s2 = (gives_mutexes t object_limit 0 s).state in
     cut_second m.new.self s (gives_mutexes t object_limit 0) (gives_locks t object_limit 0) _ _ _ first
     (locks_cut t m.new.self l.new.self s2 first.stands l.result (omega arith) _ _ l.ensures.held cut)) c.tell_given-2.ensures.err
@@ -38,6 +38,6 @@ pub returns-clause-handled : goal.returns-clause-handled
 returns-clause-handled g c =
     let m = c.release_mutexes-mutexes in
     let l = c.release_locks-locks in
-    let first = handled_stored c.args.w.now m.new.self (m.ensures.whole c.requires.whole) m.ensures.same (ap (λ (x : Store). x.cleanups) m.ensures.changes) in
-    let second = handled_stored m.new.self l.new.self (l.ensures.whole first.whole) l.ensures.same (ap (λ (x : Store). x.cleanups) l.ensures.changes) in
+    let first = handled_stored c.args.w.now m.new.self c.requires.whole m.ensures.keeps (ap (λ (x : Store). x.cleanups) m.ensures.changes) in
+    let second = handled_stored m.new.self l.new.self first.whole l.ensures.keeps (ap (λ (x : Store). x.cleanups) l.ensures.changes) in
     on_ok_weaker c.tell_given-2.result (λ told. handled_then _ _ _ first second) c.tell_given-2.ensures.ok

@@ -8,7 +8,7 @@ use Rattle.pth_lock.specs.RwLocks.{LockTables, tables_of as locks_of}
 use Rattle.pth_store.specs.Cleanups.{Stacks, stacks_of}
 use Rattle.pth_store.specs.Keys.{KeysOf, Tables, tables_of, created}
 use Rattle.pth_world.specs.Store.{name_limit, store_of, stored_by, HasNothing}
-use Rattle.pth_world.proofs.Stores.{create_answer_is, created_is, nothing_under, stored_whole}
+use Rattle.pth_world.proofs.Stores.{create_answer_is, created_is, nothing_under, stored_keeps}
 use Rattle.pth_world.proofs.world.World.create_key.Goals as goal
 
 pub returns-clause-answer : goal.returns-clause-answer
@@ -32,8 +32,8 @@ returns-clause-changes g c =
     let w = c.self.inside in
     rw (← c.self.view_is) (changes w.threads w.keys c.create.new.self (stacks_of w.cleanups) (mutexes_of w.mutexes) (locks_of w.rw_locks) c.args.h c.create.result (λ k is. search (arith, rules)) c.create.ensures.changes)
 
-pub returns-clause-whole : goal.returns-clause-whole
-returns-clause-whole g c =
+pub returns-clause-keeps : goal.returns-clause-keeps
+returns-clause-keeps g c =
     let w = c.self.inside in
     let is = rw (← c.self.view_is) at (returns-clause-changes g c) in
-    rw (← c.self.view_is) (λ whole. stored_whole _ _ (λ u dead h. kept w.threads w.keys c.create.new.self (stacks_of w.cleanups) (mutexes_of w.mutexes) (locks_of w.rw_locks) c.args.h c.create.result u h is c.create.ensures.refused) whole)
+    rw (← c.self.view_is) (stored_keeps _ _ (λ u dead h. kept w.threads w.keys c.create.new.self (stacks_of w.cleanups) (mutexes_of w.mutexes) (locks_of w.rw_locks) c.args.h c.create.result u h is c.create.ensures.refused))

@@ -8,7 +8,7 @@ use Rattle.pth_store.specs.Cleanups.{stacks_of}
 use Rattle.pth_store.specs.Keys.{KeysOf, Tables, tables_of, key_named}
 use Rattle.pth_model.specs.Resources.{Store}
 use Rattle.pth_world.specs.Store.{name_limit, store_of, stored_by, HasNothing}
-use Rattle.pth_world.proofs.Stores.{named_low, delete_answer_is, deleted_is, nothing_under, stored_whole, either}
+use Rattle.pth_world.proofs.Stores.{named_low, delete_answer_is, deleted_is, nothing_under, stored_keeps, either}
 use Rattle.pth_world.proofs.Events.{on_ok}
 use Rattle.pth_world.proofs.world.World.delete_key.Goals as goal
 
@@ -26,10 +26,10 @@ returns-clause-changes g c =
     let low : key_named c.args.k < name_limit = named_low c.args.k (omega (arith, ints)) in
     rw (← c.self.view_is) (on_ok c.delete.result (rw is_key at c.delete.ensures.changes) (λ is. ap (λ (y : Tables). store_of (stored_by w.threads y (stacks_of w.cleanups) (mutexes_of w.mutexes) (locks_of w.rw_locks))) is ∙ deleted_is w.threads (tables_of w.keys) (stacks_of w.cleanups) (mutexes_of w.mutexes) (locks_of w.rw_locks) (key_named c.args.k) low))
 
-pub returns-clause-whole : goal.returns-clause-whole
-returns-clause-whole g c =
+pub returns-clause-keeps : goal.returns-clause-keeps
+returns-clause-keeps g c =
     let w = c.self.inside in
     let changes = rw (← c.self.view_is) at (returns-clause-changes g c) in
-    rw (← c.self.view_is) (λ whole. stored_whole _ _ (λ u dead h. either c.delete.result changes c.delete.ensures.refused
+    rw (← c.self.view_is) (stored_keeps _ _ (λ u dead h. either c.delete.result changes c.delete.ensures.refused
     (λ is. subst (λ (s : Store). HasNothing s u) (sym is) (nothing_under _ (key_named c.args.k) None u h))
-    (λ is. subst (λ (y : KeysOf). HasNothing (store_of (stored_by w.threads (tables_of y) (stacks_of w.cleanups) (mutexes_of w.mutexes) (locks_of w.rw_locks))) u) (sym is) h)) whole)
+    (λ is. subst (λ (y : KeysOf). HasNothing (store_of (stored_by w.threads (tables_of y) (stacks_of w.cleanups) (mutexes_of w.mutexes) (locks_of w.rw_locks))) u) (sym is) h)))

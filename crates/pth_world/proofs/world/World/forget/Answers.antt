@@ -4,7 +4,7 @@ use Rattle.pth_lock.specs.RwLocks.{tables_of as locks_of}
 use Rattle.pth_store.specs.Cleanups.{stacks_of}
 use Rattle.pth_store.specs.Keys.{tables_of}
 use Rattle.pth_world.specs.Store.{name_limit, store_of}
-use Rattle.pth_world.proofs.Stores.{forgets, forgotten_is, nothing_left, nothing_without, stored_whole}
+use Rattle.pth_world.proofs.Stores.{forgets, forgotten_is, nothing_left, nothing_without, stored_keeps}
 use Rattle.pth_world.proofs.world.World.forget.Goals as goal
 
 pub returns-clause-changes : goal.returns-clause-changes
@@ -18,7 +18,7 @@ returns-clause-changes g c =
 pub returns-clause-nothing : goal.returns-clause-nothing
 returns-clause-nothing g c = rw (returns-clause-changes g c) (nothing_left (store_of c.args.self.now.store) c.args.t.0)
 
-pub returns-clause-whole : goal.returns-clause-whole
-returns-clause-whole g c =
+pub returns-clause-keeps : goal.returns-clause-keeps
+returns-clause-keeps g c =
     let changes = rw (← c.self.view_is) at (returns-clause-changes g c) in
-    rw (← c.self.view_is) (λ whole. stored_whole _ _ (λ u dead h. rw changes (nothing_without _ c.args.t.0 u h)) whole)
+    rw (← c.self.view_is) (stored_keeps _ _ (λ u dead h. rw changes (nothing_without _ c.args.t.0 u h)))

@@ -4,7 +4,7 @@ use Rattle.pth_lock.specs.RwLocks.{tables_of as locks_of}
 use Rattle.pth_store.specs.Cleanups.{Stacks, stacks_of, without_top}
 use Rattle.pth_store.specs.Keys.{tables_of}
 use Rattle.pth_world.specs.Store.{name_limit, store_of, stored_by}
-use Rattle.pth_world.proofs.Stores.{below_answer_is, cleanups_put, nothing_popped, stored_whole}
+use Rattle.pth_world.proofs.Stores.{below_answer_is, cleanups_put, nothing_popped, stored_keeps}
 use Rattle.pth_world.proofs.world.World.pop_cleanup.Goals as goal
 
 pub returns-clause-answer : goal.returns-clause-answer
@@ -22,7 +22,7 @@ returns-clause-changes g c =
     let few : c.args.t.0 < name_limit = search (arith, rules) in
     rw (← c.self.view_is) (ap (λ (y : Stacks). store_of (stored_by w.threads (tables_of w.keys) y (mutexes_of w.mutexes) (locks_of w.rw_locks))) c.pop.ensures.changes ∙ cleanups_put w.threads (tables_of w.keys) (stacks_of w.cleanups) (mutexes_of w.mutexes) (locks_of w.rw_locks) c.args.t.0 c.slot-slot.result.0 sound.tied e few without_top)
 
-pub returns-clause-whole : goal.returns-clause-whole
-returns-clause-whole g c =
+pub returns-clause-keeps : goal.returns-clause-keeps
+returns-clause-keeps g c =
     let changes = rw (← c.self.view_is) at (returns-clause-changes g c) in
-    rw (← c.self.view_is) (λ whole. stored_whole _ _ (λ u dead h. rw changes (nothing_popped _ c.args.t.0 u h)) whole)
+    rw (← c.self.view_is) (stored_keeps _ _ (λ u dead h. rw changes (nothing_popped _ c.args.t.0 u h)))

@@ -7,7 +7,7 @@ use Rattle.pth_lock.specs.RwLocks.{tables_of as locks_of}
 use Rattle.pth_store.specs.Cleanups.{PushedHandler, Stacks, stacks_of}
 use Rattle.pth_store.specs.Keys.{tables_of}
 use Rattle.pth_world.specs.Store.{name_limit, store_of, stored_by, HasNothing}
-use Rattle.pth_world.proofs.Stores.{alive_apart, alive_known, push_answer_is, cleanups_put, nothing_pushed, stored_whole, either}
+use Rattle.pth_world.proofs.Stores.{alive_apart, alive_known, push_answer_is, cleanups_put, nothing_pushed, stored_keeps, either}
 use Rattle.pth_model.specs.Resources.{Store}
 use Rattle.pth_store.specs.Storing.{AnswersWithMemory}
 use Rattle.pth_world.proofs.Events.{on_ok}
@@ -33,11 +33,11 @@ returns-clause-changes g c =
     let push : List PushedHandler → List PushedHandler = λ l. (c.args.h, c.args.arg) ∷ l in
     rw (← c.self.view_is) (on_ok c.push.result (rw is_arg at c.push.ensures.changes) (λ is. ap (λ (y : Stacks). store_of (stored_by w.threads (tables_of w.keys) y (mutexes_of w.mutexes) (locks_of w.rw_locks))) is ∙ cleanups_put w.threads (tables_of w.keys) (stacks_of w.cleanups) (mutexes_of w.mutexes) (locks_of w.rw_locks) c.args.t.0 c.slot-slot.result.0 sound.tied e few push))
 
-pub returns-clause-whole : goal.returns-clause-whole
-returns-clause-whole g c =
+pub returns-clause-keeps : goal.returns-clause-keeps
+returns-clause-keeps g c =
     let w = c.self.inside in
     let changes = rw (← c.self.view_is) at (returns-clause-changes g c) in
     let alive = rw (← c.self.view_is) at c.requires.alive in
-    rw (← c.self.view_is) (λ whole. stored_whole _ _ (λ u dead h. either c.push.result changes c.push.ensures.refused
+    rw (← c.self.view_is) (stored_keeps _ _ (λ u dead h. either c.push.result changes c.push.ensures.refused
     (λ is. subst (λ (s : Store). HasNothing s u) (sym is) (nothing_pushed _ c.args.t.0 u _ (alive_apart w.threads c.args.t.0 u alive dead) h))
-    (λ is. subst (λ (y : Stacks). HasNothing (store_of (stored_by w.threads (tables_of w.keys) y (mutexes_of w.mutexes) (locks_of w.rw_locks))) u) (sym is) h)) whole)
+    (λ is. subst (λ (y : Stacks). HasNothing (store_of (stored_by w.threads (tables_of w.keys) y (mutexes_of w.mutexes) (locks_of w.rw_locks))) u) (sym is) h)))

@@ -6,7 +6,7 @@ use Rattle.pth_store.specs.Keys.{tables_of}
 use Rattle.pth_model.proofs.Nothing.{no_lock_left}
 use Rattle.pth_world.specs.Store.{name_limit, store_of, stored_by}
 use Rattle.pth_world.proofs.Locked.{held_each, locks_left_read}
-use Rattle.pth_world.proofs.Stores.{alive_known, locks_set, nothing_in_locks, stored_whole}
+use Rattle.pth_world.proofs.Stores.{alive_known, locks_set, nothing_in_locks, stored_keeps}
 use Rattle.pth_world.proofs.world.World.release_locks.Goals as goal
 
 pub slot-slot-requires : goal.slot-slot-requires
@@ -29,8 +29,8 @@ returns-clause-changes g c =
     rw (← c.self.view_is) (ap (λ (z : LockTables). store_of (stored_by w.threads (tables_of w.keys) (stacks_of w.cleanups) (mutexes_of w.mutexes) z)) c.release_all.ensures.changes
     ∙ locks_set w.threads (tables_of w.keys) (stacks_of w.cleanups) (mutexes_of w.mutexes) (locks_of w.rw_locks) _ _ (locks_left_read w.threads (locks_of w.rw_locks) c.args.t.0 c.slot-slot.result.0 sound.tied e few))
 
-pub returns-clause-whole : goal.returns-clause-whole
-returns-clause-whole g c =
+pub returns-clause-keeps : goal.returns-clause-keeps
+returns-clause-keeps g c =
     let w = c.self.inside in
     let changes = rw (← c.self.view_is) at (returns-clause-changes g c) in
-    rw (← c.self.view_is) (λ whole. stored_whole _ _ (λ u dead h. rw changes (nothing_in_locks _ u _ h (no_lock_left u (store_of (stored_by w.threads (tables_of w.keys) (stacks_of w.cleanups) (mutexes_of w.mutexes) (locks_of w.rw_locks))).rw_locks c.args.t.0 h.locks))) whole)
+    rw (← c.self.view_is) (stored_keeps _ _ (λ u dead h. rw changes (nothing_in_locks _ u _ h (no_lock_left u (store_of (stored_by w.threads (tables_of w.keys) (stacks_of w.cleanups) (mutexes_of w.mutexes) (locks_of w.rw_locks))).rw_locks c.args.t.0 h.locks))))

@@ -6,7 +6,7 @@ use Rattle.pth_store.specs.Keys.{tables_of}
 use Rattle.pth_model.proofs.Nothing.{no_mutex_left}
 use Rattle.pth_world.specs.Store.{store_of, stored_by}
 use Rattle.pth_world.proofs.Locked.{had_each, mutexes_left_read}
-use Rattle.pth_world.proofs.Stores.{alive_known, mutexes_set, nothing_in_mutexes, stored_whole}
+use Rattle.pth_world.proofs.Stores.{alive_known, mutexes_set, nothing_in_mutexes, stored_keeps}
 use Rattle.pth_world.proofs.world.World.release_mutexes.Goals as goal
 
 pub slot-slot-requires : goal.slot-slot-requires
@@ -27,7 +27,7 @@ returns-clause-changes g c =
     rw (← c.self.view_is) (ap (λ (z : MutexTable). store_of (stored_by w.threads (tables_of w.keys) (stacks_of w.cleanups) z (locks_of w.rw_locks))) c.release_all.ensures.changes
     ∙ mutexes_set w.threads (tables_of w.keys) (stacks_of w.cleanups) (mutexes_of w.mutexes) (locks_of w.rw_locks) _ _ (mutexes_left_read w.threads (mutexes_of w.mutexes) c.args.t.0 c.slot-slot.result.0 sound.tied e))
 
-pub returns-clause-whole : goal.returns-clause-whole
-returns-clause-whole g c =
+pub returns-clause-keeps : goal.returns-clause-keeps
+returns-clause-keeps g c =
     let changes = rw (← c.self.view_is) at (returns-clause-changes g c) in
-    rw (← c.self.view_is) (λ whole. stored_whole _ _ (λ u dead h. rw changes (nothing_in_mutexes _ u _ h (no_mutex_left u c.args.t.0 _ h.mutexes))) whole)
+    rw (← c.self.view_is) (stored_keeps _ _ (λ u dead h. rw changes (nothing_in_mutexes _ u _ h (no_mutex_left u c.args.t.0 _ h.mutexes))))

@@ -8,7 +8,7 @@ use Rattle.pth_store.specs.Cleanups.{stacks_of}
 use Rattle.pth_store.specs.Keys.{Tables, tables_of, key_named}
 use Rattle.pth_model.specs.Resources.{Store}
 use Rattle.pth_world.specs.Store.{name_limit, store_of, stored_by, HasNothing}
-use Rattle.pth_world.proofs.Stores.{alive_apart, alive_known, named_low, set_answer_is, value_put, nothing_set, stored_whole, either}
+use Rattle.pth_world.proofs.Stores.{alive_apart, alive_known, named_low, set_answer_is, value_put, nothing_set, stored_keeps, either}
 use Rattle.pth_store.specs.Storing.{AnswersWithMemory}
 use Rattle.pth_world.proofs.Events.{on_ok}
 use Rattle.pth_world.proofs.world.World.set_key.Goals as goal
@@ -34,11 +34,11 @@ returns-clause-changes g c =
     let is_value : to_z w64 (of_z w64 c.args.v) ≡ c.args.v = omega (arith, ints) in
     rw (← c.self.view_is) (on_ok c.set.result (rw (is_key, is_value) at c.set.ensures.changes) (λ is. ap (λ (y : Tables). store_of (stored_by w.threads y (stacks_of w.cleanups) (mutexes_of w.mutexes) (locks_of w.rw_locks))) is ∙ value_put w.threads (tables_of w.keys) (stacks_of w.cleanups) (mutexes_of w.mutexes) (locks_of w.rw_locks) c.args.t.0 c.slot-slot.result.0 sound.tied e few (key_named c.args.k) c.args.v low))
 
-pub returns-clause-whole : goal.returns-clause-whole
-returns-clause-whole g c =
+pub returns-clause-keeps : goal.returns-clause-keeps
+returns-clause-keeps g c =
     let w = c.self.inside in
     let changes = rw (← c.self.view_is) at (returns-clause-changes g c) in
     let alive = rw (← c.self.view_is) at c.requires.alive in
-    rw (← c.self.view_is) (λ whole. stored_whole _ _ (λ u dead h. either c.set.result changes c.set.ensures.same
+    rw (← c.self.view_is) (stored_keeps _ _ (λ u dead h. either c.set.result changes c.set.ensures.same
     (λ is. subst (λ (s : Store). HasNothing s u) (sym is) (nothing_set _ c.args.t.0 u (key_named c.args.k) c.args.v (alive_apart w.threads c.args.t.0 u alive dead) h))
-    (λ is. subst (λ (y : Tables). HasNothing (store_of (stored_by w.threads y (stacks_of w.cleanups) (mutexes_of w.mutexes) (locks_of w.rw_locks))) u) (sym is) h)) whole)
+    (λ is. subst (λ (y : Tables). HasNothing (store_of (stored_by w.threads y (stacks_of w.cleanups) (mutexes_of w.mutexes) (locks_of w.rw_locks))) u) (sym is) h)))

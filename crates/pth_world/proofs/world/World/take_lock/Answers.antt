@@ -12,7 +12,7 @@ use Rattle.pth_model.proofs.Nothing.{no_lock_taken}
 use Rattle.pth_world.specs.Store.{name_limit, store_of, stored_by, HasNothing}
 use Rattle.pth_world.proofs.Events.{on_ok}
 use Rattle.pth_world.proofs.Locked.{object_low, lock_take_is, lock_taken_read}
-use Rattle.pth_world.proofs.Stores.{alive_apart, alive_known, either, locks_set, nothing_in_locks, stored_whole}
+use Rattle.pth_world.proofs.Stores.{alive_apart, alive_known, either, locks_set, nothing_in_locks, stored_keeps}
 use Rattle.pth_world.proofs.world.World.take_lock.Goals as goal
 
 pub slot-slot-requires : goal.slot-slot-requires
@@ -38,11 +38,11 @@ returns-clause-changes g c =
     let low : object_named c.args.l < name_limit = object_low c.args.l (omega (arith, ints)) in
     rw (← c.self.view_is) (on_ok c.try_take.result (rw is_number at c.try_take.ensures.changes) (λ is. ap (λ (z : LockTables). store_of (stored_by w.threads (tables_of w.keys) (stacks_of w.cleanups) (mutexes_of w.mutexes) z)) is ∙ locks_set w.threads (tables_of w.keys) (stacks_of w.cleanups) (mutexes_of w.mutexes) (locks_of w.rw_locks) _ _ (lock_taken_read w.threads (locks_of w.rw_locks) c.args.t.0 c.slot-slot.result.0 sound.tied e few c.args.write (object_named c.args.l) low)))
 
-pub returns-clause-whole : goal.returns-clause-whole
-returns-clause-whole g c =
+pub returns-clause-keeps : goal.returns-clause-keeps
+returns-clause-keeps g c =
     let w = c.self.inside in
     let changes = rw (← c.self.view_is) at (returns-clause-changes g c) in
     let alive = rw (← c.self.view_is) at c.requires.alive in
-    rw (← c.self.view_is) (λ whole. stored_whole _ _ (λ u dead h. either c.try_take.result changes c.try_take.ensures.refused
+    rw (← c.self.view_is) (stored_keeps _ _ (λ u dead h. either c.try_take.result changes c.try_take.ensures.refused
     (λ is. subst (λ (s : Store). HasNothing s u) (sym is) (nothing_in_locks _ u _ h (no_lock_taken u (store_of (stored_by w.threads (tables_of w.keys) (stacks_of w.cleanups) (mutexes_of w.mutexes) (locks_of w.rw_locks))).rw_locks c.args.t.0 c.args.write (object_named c.args.l) (alive_apart w.threads c.args.t.0 u alive dead) h.locks)))
-    (λ is. subst (λ (y : LocksOf). HasNothing (store_of (stored_by w.threads (tables_of w.keys) (stacks_of w.cleanups) (mutexes_of w.mutexes) (locks_of y))) u) (sym is) h)) whole)
+    (λ is. subst (λ (y : LocksOf). HasNothing (store_of (stored_by w.threads (tables_of w.keys) (stacks_of w.cleanups) (mutexes_of w.mutexes) (locks_of y))) u) (sym is) h)))
