@@ -3,7 +3,7 @@ use Rattle.std.proofs.lemmas.Bool.{cases_lt}
 use Rattle.std.proofs.lemmas.Int.{ints}
 use Rattle.std.proofs.lemmas.List.{get_or_past, get_or-replicate, length-replicate}
 use mathlib.Core.Path.{fun_ext}
-use Rattle.std.proofs.Common.{arith, ◌≡◌, ℕ, inl, inr, pos, true, false, List, length, map, replicate, IsSome, IfSome, Option, Some, None, option_map, refl, sym, ◌∙◌, ap, subst}
+use Rattle.std.proofs.Common.{arith, ◌≡◌, ◌<◌, ℕ, inl, inr, pos, true, false, List, length, map, replicate, IsSome, IfSome, Option, Some, None, option_map, refl, sym, ◌∙◌, ap, subst}
 use Rattle.pth_base.specs.Limits.{thread_limit}
 use Rattle.pth_base.proofs.Namings.{none_some}
 use Rattle.pth_base.specs.Program.{Functions}
@@ -26,7 +26,7 @@ use Rattle.pth_model.specs.Standing.{put_behind, order, shown}
 use Rattle.pth_numbered.specs.Numbered.{number_known}
 use Rattle.pth_model.specs.State.{Control, Given, queue, start, main_entry, first_thread}
 use Rattle.pth_ring.specs.Arena.{RingsOf, events_of}
-use Rattle.pth_ring.specs.Rings.{no_events}
+use Rattle.pth_ring.specs.Rings.{Events, no_events}
 use Rattle.pth_kernel.specs.Kernel.{KernelOf, kernel_of}
 use Rattle.pth_model.specs.Changes.{sets, enters, leaves_queue, makes}
 use Rattle.pth_model.specs.ThreadControl.{spawns}
@@ -35,6 +35,7 @@ use Rattle.pth_model.proofs.Orders.{shown-none}
 use Rattle.pth_store.specs.Cleanups.{Stacks, no_cleanups}
 use Rattle.pth_store.specs.Keys.{Tables, no_keys}
 use Rattle.pth_model.specs.Resources.{Store, no_resources}
+use Rattle.pth_world.specs.Beginnings.{IsBeforeMain}
 use Rattle.pth_world.specs.Store.{store_of, stored_by, HasNothing}
 use Rattle.pth_world.specs.World.{WorldOf, ThreadsBySlot, before_main}
 use Rattle.pth_world.specs.Shows.{Shows, ShowsThreads, StandsFor}
@@ -133,6 +134,19 @@ module _ {P S H : Type 0} (f : P → Functions S H) (program : P) (t0 : ThreadsO
 
   pub before_whole : Whole w0
   before_whole = record { sound = sound0; fits = no_fit; runner = tt; stored = λ t dead. nothing_at (store_of w0.store) t before_store }
+
+  pub begins_empty : 0 < (f program).bodies → IsBeforeMain f (record { program = program; kernel = kernel_of kernel }) w0
+  begins_empty some = record {
+    shows = before_shows;
+    store = before_store;
+    whole = before_whole;
+    made = none_made;
+    objects = no_number;
+    events = ap (λ (y : Events). y.made) none_there;
+    count = no_count;
+    queues = refl;
+    bodies = some;
+  }
 
 pub first_prio : IsPrio first_thread.prio
 first_prio = record { low = grind (arith, ints); high = grind (arith, ints) }

@@ -12,4 +12,5 @@ pub mod Walks
 pub mod Ranks
 pub mod Frame
 pub mod Keeps
+pub mod Beginnings
 pub mod Vanishing

@@ -1,23 +1,22 @@
 //! The records of threads: changes, new threads, and threads that are gone.
 
-ghost use Rattle.std.specs.Prelude.{◌≡◌, ◌≢◌, ◌<◌, ◌+◌, ◌↔◌, ℕ, ℤ, Bool, false, Option, Some, None, IfSome, IfOk, OnOk, OnErr, IsErrOf, option_copied, nat_lt, pos, length};
+ghost use Rattle.std.specs.Prelude.{◌≡◌, ◌≢◌, ◌<◌, ◌+◌, ◌↔◌, ℕ, ℤ, Bool, false, Option, Some, None, IfSome, IfOk, OnOk, OnErr, IsErrOf, option_copied, nat_lt, pos};
 ghost use Rattle.pth_base.specs.Limits.{thread_limit};
 ghost use Rattle.pth_base.specs.Naming.{IsTied};
-ghost use Rattle.pth_base.specs.Table.{table};
 ghost use Rattle.pth_kernel.specs.Kernel.{kernel_of};
-ghost use Rattle.pth_lock.specs.Mutexes.{mutexes_of, no_mutexes};
-ghost use Rattle.pth_lock.specs.RwLocks.{tables_of, no_locks};
+ghost use Rattle.pth_lock.specs.Mutexes.{mutexes_of};
+ghost use Rattle.pth_lock.specs.RwLocks.{tables_of};
 ghost use Rattle.pth_queue.specs.declared.queue.Queue.TheVariants as queue;
 ghost use Rattle.pth_queue.specs.Queues.{IsNowhere, IsRank, no_queues, entered, without};
 ghost use Rattle.pth_base.specs.declared.thread.ThreadState.TheVariants as state;
 ghost use Rattle.pth_threads.specs.declared.entry.Change.TheVariants as change;
 ghost use Rattle.pth_threads.specs.Threads.{slot_of, tid_at, count, made_of, AddsThread, ChangesThread, IsCountable, IsSame, RemovesThread};
-ghost use Rattle.pth_model.specs.Resources.{no_resources, store_without};
+ghost use Rattle.pth_model.specs.Resources.{store_without};
 ghost use Rattle.pth_model.specs.State.{Control, start, first_thread};
 ghost use Rattle.pth_model.specs.Changes.{sets, enters, removes};
 ghost use Rattle.pth_model.specs.ThreadControl.{spawns, has_room};
 ghost use Rattle.pth_model.specs.Part.{is_put_waiting};
-ghost use Rattle.pth_world.specs.World.{before_main};
+ghost use Rattle.pth_world.specs.Beginnings.{AreEmpty, IsBeforeMain};
 ghost use Rattle.pth_world.specs.Numbering.{HasNumbers};
 ghost use Rattle.pth_world.specs.Ranks.{KeepsRanks};
 ghost use Rattle.pth_world.specs.Shows.{Shows, StandsFor};
@@ -82,11 +81,7 @@ fn reserved_queues(alloc: Global) -> Result<CountedQueues, OutOfMemory>
 
 // Such parts, which keep nothing yet.
 fn make_room<S: Drop>(alloc: Global) -> Result<Room<S>, OutOfMemory>
-    ensures queues { IfOk result (λ r. r.queues ≡ record no_queues { room = thread_limit }) }
-    ensures none { IfOk result (λ r. table None r.progress ≡ (λ _. None)) }
-    ensures long { IfOk result (λ r. length r.progress ≡ thread_limit) }
-    ensures mutexes { IfOk result (λ r. mutexes_of r.mutexes ≡ no_mutexes) }
-    ensures locks { IfOk result (λ r. tables_of r.rw_locks ≡ no_locks) }
+    ensures { IfOk result (λ r. AreEmpty r.queues r.progress (mutexes_of r.mutexes) (tables_of r.rw_locks)) }
 {
     let queues = reserved_queues(alloc)?;
     let progress = ProgressTable::new(alloc)?;
@@ -111,20 +106,8 @@ impl<P: Program> World<P> {
     ) -> World<P>
         requires shared { shared ≡ (P.functions program).shared }
         requires bodies { 0 < (P.functions program).bodies }
-        requires queues { room.queues ≡ record no_queues { room = thread_limit } }
-        requires none { table None room.progress ≡ (λ _. None) }
-        requires long { length room.progress ≡ thread_limit }
-        requires mutexes { mutexes_of room.mutexes ≡ no_mutexes }
-        requires locks { tables_of room.rw_locks ≡ no_locks }
-        ensures shows { Shows result (before_main P.functions (record { program = program; kernel = kernel_of kernel })) }
-        ensures store { store_of result.store ≡ no_resources.store }
-        ensures whole { Whole result }
-        ensures made { result.threads.records.made ≡ 0 }
-        ensures objects { result.attributes.made ≡ 0 }
-        ensures events { result.events.made ≡ 0 }
-        ensures count { count result.threads.records ≡ 0 }
-        ensures queues { result.threads.queues ≡ record no_queues { room = thread_limit } }
-        ensures bodies { 0 < (P.functions result.program).bodies }
+        requires empty { AreEmpty room.queues room.progress (mutexes_of room.mutexes) (tables_of room.rw_locks) }
+        ensures { IsBeforeMain P.functions (record { program = program; kernel = kernel_of kernel }) result }
     {
         let threads = Threads::new(alloc);
         let attributes = Attrs::new(alloc);
@@ -154,15 +137,7 @@ impl<P: Program> World<P> {
 
     // The program with no threads, and with room for as many as there may be.
     fn without_threads(alloc: Global, program: P, kernel: Kernel) -> Result<World<P>, OutOfMemory>
-        ensures shows { IfOk result (λ w. Shows w (before_main P.functions (record { program = program; kernel = kernel_of kernel }))) }
-        ensures store { IfOk result (λ w. store_of w.store ≡ no_resources.store) }
-        ensures whole { IfOk result (λ w. Whole w) }
-        ensures made { IfOk result (λ w. w.threads.records.made ≡ 0) }
-        ensures objects { IfOk result (λ w. w.attributes.made ≡ 0) }
-        ensures events { IfOk result (λ w. w.events.made ≡ 0) }
-        ensures count { IfOk result (λ w. count w.threads.records ≡ 0) }
-        ensures queues { IfOk result (λ w. w.threads.queues ≡ record no_queues { room = thread_limit }) }
-        ensures bodies { IfOk result (λ w. 0 < (P.functions w.program).bodies) }
+        ensures { IfOk result (λ w. IsBeforeMain P.functions (record { program = program; kernel = kernel_of kernel }) w) }
     {
         let shared = program.shared(alloc)?;
         let _some = program.bodies();
