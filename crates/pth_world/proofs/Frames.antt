@@ -1,8 +1,9 @@
 -- Frames of calls, one after another.
-use Rattle.std.proofs.Common.{◌≡◌, ℕ, ◌+◌, ◌≤◌, Bool, true, false, Option, inl, inr, refl, ◌∙◌, arith}
+use Rattle.std.proofs.Common.{◌≡◌, ℕ, ◌+◌, ◌≤◌, Bool, true, false, Option, inl, inr, refl, ap, ◌∙◌, arith}
 use Rattle.pth_world.specs.World.{WorldOf}
 use Rattle.pth_world.specs.Whole.{Whole}
 use Rattle.pth_world.specs.Frame.{Frame, Names}
+use Rattle.pth_world.specs.Keeps.{MovesThreads}
 use Rattle.pth_world.specs.Numbering.{GivesAtMost}
 use Rattle.pth_world.proofs.Ranks.{ranks_none, ranks_then, ranks_more}
 
@@ -26,6 +27,20 @@ module _ {P S H : Type 0} where
   -- nothing was done
   pub frame_none : (w : WorldOf P S H) → Whole w → Frame w w 0 w.scheduler.running false
   frame_none w whole = record { whole = whole; runs = refl; made = record { threads = omega arith; objects = omega arith; events = omega arith }; ranks = ranks_none w.threads; preferred = refl }
+
+  -- threads have moved
+  pub moved_frame : (n : ℕ) (w v : WorldOf P S H) (q r : Option ℕ) → q ≡ r → MovesThreads w v n q → Frame w v n r false
+  moved_frame n w v q r is moves = record {
+    whole = moves.whole;
+    runs = ap (λ (k : WorldOf P S H). k.scheduler.running) moves.same ∙ is;
+    made = record {
+      threads = (let e = moves.made in omega arith);
+      objects = (let e = ap (λ (k : WorldOf P S H). k.attributes.made) moves.same in omega arith);
+      events = (let e = ap (λ (k : WorldOf P S H). k.events.made) moves.same in omega arith);
+    };
+    ranks = moves.ranks;
+    preferred = ap (λ (k : WorldOf P S H). k.scheduler.preferred) moves.same;
+  }
 
   -- one after another
   pub frame_then : (n m : ℕ) (u v w : WorldOf P S H) (q r : Option ℕ) (yields : Bool) → Frame u v n q false → Frame v w m r yields → Frame u w (n + m) r yields

@@ -40,6 +40,20 @@ same_twice u v w a b = record { slots = b.slots ∙ a.slots; tids = b.tids ∙ a
 pub queues_alone : {P S H : Type 0} (w m : WorldOf P S H) → m ≡ record w { threads = record w.threads { queues = m.threads.queues } } → SameThreads w.threads m.threads
 queues_alone w m same = record { slots = ap (λ (k : WorldOf _ _ _). slot_of k.threads.records) same; tids = ap (λ (k : WorldOf _ _ _). tid_at k.threads.records) same; made = ap (λ (k : WorldOf _ _ _). k.threads.records.made) same }
 
+-- the threads changed alone
+pub threads_alone : {P S H : Type 0} (w v : WorldOf P S H) (x : ThreadsBySlot S) → v ≡ record w { threads = x } → v ≡ record w { threads = v.threads }
+threads_alone {P} {S} {H} w v x same = same ∙ ap (λ (y : ThreadsBySlot S). record w { threads = y }) (sym (ap (λ (k : WorldOf P S H). k.threads) same))
+
+pub threads_then : {P S H : Type 0} (u v w : WorldOf P S H) → v ≡ record u { threads = v.threads } → w ≡ record v { threads = w.threads } → w ≡ record u { threads = w.threads }
+threads_then {P} {S} {H} u v w a b = b ∙ ap (λ (k : WorldOf P S H). record k { threads = w.threads }) a
+
+-- and then one of them runs no longer
+pub stopped_then : {P S H : Type 0} (t : ℕ) (u v w : WorldOf P S H) → v ≡ record u { threads = v.threads } → w ≡ record v { scheduler = record v.scheduler { running = other_than t v.scheduler.running } } → w ≡ record u { threads = w.threads; scheduler = record u.scheduler { running = other_than t u.scheduler.running } }
+stopped_then {P} {S} {H} t u v w moved stopped =
+    stopped
+    ∙ ap (λ (k : WorldOf P S H). record k { scheduler = record k.scheduler { running = other_than t k.scheduler.running } }) moved
+    ∙ ap (λ (x : ThreadsBySlot S). record u { threads = x; scheduler = record u.scheduler { running = other_than t u.scheduler.running } }) (sym (ap (λ (k : WorldOf P S H). k.threads) stopped))
+
 -- ---- who has something stored
 
 -- the record of another thread than the one that changed

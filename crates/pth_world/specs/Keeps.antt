@@ -1,6 +1,7 @@
--- What a change of what threads have stored leaves of a world.
-use Rattle.std.specs.Prelude.{◌≡◌}
+-- What a change of what threads have stored leaves of a world, and what a move of threads leaves of it.
+use Rattle.std.specs.Prelude.{◌≡◌, ℕ, Option}
 use Rattle.pth_model.specs.State.{Control}
+use Rattle.pth_world.specs.Ranks.{KeepsRanks}
 use Rattle.pth_world.specs.Shows.{Shows}
 use Rattle.pth_world.specs.Whole.{Whole}
 use Rattle.pth_world.specs.World.{WorldOf}
@@ -13,3 +14,13 @@ pub record KeepsAllButStore {P S H : Type 0} (w v : WorldOf P S H) : Type 0 wher
   pub whole : Whole w → Whole v
   -- the rest is as it was
   pub same : v ≡ record w { store = v.store }
+
+-- from w to v, threads have moved or are gone, at most so many more are new, and this one runs, if any
+pub record MovesThreads {P S H : Type 0} (w v : WorldOf P S H) (more : ℕ) (running : Option ℕ) : Type 0 where
+  pub whole : Whole v
+  -- no thread was made
+  pub made : v.threads.records.made ≡ w.threads.records.made
+  -- no ready thread is lifted above the others
+  pub ranks : KeepsRanks more w.threads v.threads
+  -- the rest is as it was
+  pub same : v ≡ record w { threads = v.threads; scheduler = record w.scheduler { running = running } }

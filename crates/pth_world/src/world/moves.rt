@@ -13,6 +13,7 @@ ghost use Rattle.pth_model.specs.ThreadControl.{suspends, resumes};
 ghost use Rattle.pth_model.specs.Ending.{is_dead_with, leaves, other_than, stops_running};
 ghost use Rattle.pth_model.specs.Pass.{is_ready_at};
 ghost use Rattle.pth_model.specs.Part.{is_put_back, is_put_waiting, runs};
+ghost use Rattle.pth_world.specs.Keeps.{MovesThreads};
 ghost use Rattle.pth_world.specs.Ranks.{greatest_return, KeepsRanks};
 ghost use Rattle.pth_world.specs.Shows.{Shows};
 ghost use Rattle.pth_world.specs.Store.{store_of, HasNothing};
@@ -111,10 +112,7 @@ impl<P: Program> World<P> {
         requires known { IsKnown self.old.threads t.0 }
         requires may { IfSome (entry_in self.old.threads t.0) (λ e. MayStandIn q suspended e.state) }
         ensures shows { (k : Control P P.State P.Shared) → Shows self.old k → Shows self.new (enters t.0 q (pos 0) false (sets t.0 (change.Suspended suspended) (leaves_queue t.0 k))) }
-        ensures whole { Whole self.new }
-        ensures made { self.new.threads.records.made ≡ self.old.threads.records.made }
-        ensures ranks { KeepsRanks 1 self.old.threads self.new.threads }
-        ensures same { self.new ≡ record self.old { threads = self.new.threads } }
+        ensures moves { MovesThreads self.old self.new 1 self.old.scheduler.running }
     {
         self.take_out(t);
         self.change(t, Change::Suspended(suspended));
@@ -127,10 +125,7 @@ impl<P: Program> World<P> {
         requires known { IsKnown self.old.threads t.0 }
         requires can { IfSome (entry_in self.old.threads t.0) (λ e. CanSuspend e.state) }
         ensures shows { (k : Control P P.State P.Shared) → Shows self.old k → Shows self.new (suspends t.0 k) }
-        ensures whole { Whole self.new }
-        ensures made { self.new.threads.records.made ≡ self.old.threads.records.made }
-        ensures ranks { KeepsRanks 1 self.old.threads self.new.threads }
-        ensures same { self.new ≡ record self.old { threads = self.new.threads } }
+        ensures moves { MovesThreads self.old self.new 1 self.old.scheduler.running }
     {
         self.move_to(t, true, Queue::Suspended);
     }
@@ -160,10 +155,7 @@ impl<P: Program> World<P> {
         requires known { IsKnown self.old.threads t.0 }
         requires suspended { IfSome (entry_in self.old.threads t.0) (λ e. e.suspended ≡ true) }
         ensures shows { (k : Control P P.State P.Shared) → Shows self.old k → Shows self.new (resumes t.0 k) }
-        ensures whole { Whole self.new }
-        ensures made { self.new.threads.records.made ≡ self.old.threads.records.made }
-        ensures ranks { KeepsRanks 1 self.old.threads self.new.threads }
-        ensures same { self.new ≡ record self.old { threads = self.new.threads } }
+        ensures moves { MovesThreads self.old self.new 1 self.old.scheduler.running }
     {
         let q = self.queue_of_state(t);
         self.move_to(t, false, q);
@@ -175,10 +167,7 @@ impl<P: Program> World<P> {
         requires known { IsKnown self.old.threads t.0 }
         requires dead { IsIn queue.Dead self.old.threads t.0 }
         ensures shows { (k : Control P P.State P.Shared) → Shows self.old k → Shows self.new (removes t.0 k) }
-        ensures whole { Whole self.new }
-        ensures made { self.new.threads.records.made ≡ self.old.threads.records.made }
-        ensures ranks { KeepsRanks 0 self.old.threads self.new.threads }
-        ensures same { self.new ≡ record self.old { threads = self.new.threads } }
+        ensures moves { MovesThreads self.old self.new 0 self.old.scheduler.running }
     {
         self.drop_thread(t);
     }
@@ -189,10 +178,7 @@ impl<P: Program> World<P> {
         requires known { IsKnown self.old.threads t.0 }
         requires nothing { HasNothing (store_of self.old.store) t.0 }
         ensures shows { (k : Control P P.State P.Shared) → Shows self.old k → Shows self.new (stops_running t.0 (is_dead_with t.0 value k)) }
-        ensures whole { Whole self.new }
-        ensures made { self.new.threads.records.made ≡ self.old.threads.records.made }
-        ensures ranks { KeepsRanks 0 self.old.threads self.new.threads }
-        ensures same { self.new ≡ record self.old { threads = self.new.threads; scheduler = record self.old.scheduler { running = other_than t.0 self.old.scheduler.running } } }
+        ensures moves { MovesThreads self.old self.new 0 (other_than t.0 self.old.scheduler.running) }
     {
         self.take_out(t);
         self.change(t, Change::State(ThreadState::Dead));
@@ -208,10 +194,7 @@ impl<P: Program> World<P> {
         requires known { IsKnown self.old.threads t.0 }
         requires nothing { HasNothing (store_of self.old.store) t.0 }
         ensures shows { (k : Control P P.State P.Shared) → Shows self.old k → Shows self.new (stops_running t.0 (removes t.0 k)) }
-        ensures whole { Whole self.new }
-        ensures made { self.new.threads.records.made ≡ self.old.threads.records.made }
-        ensures ranks { KeepsRanks 0 self.old.threads self.new.threads }
-        ensures same { self.new ≡ record self.old { threads = self.new.threads; scheduler = record self.old.scheduler { running = other_than t.0 self.old.scheduler.running } } }
+        ensures moves { MovesThreads self.old self.new 0 (other_than t.0 self.old.scheduler.running) }
     {
         self.drop_thread(t);
         self.stop_running(t);
@@ -224,10 +207,7 @@ impl<P: Program> World<P> {
         requires known { IsKnown self.old.threads t.0 }
         requires nothing { HasNothing (store_of self.old.store) t.0 }
         ensures shows { (k : Control P P.State P.Shared) → Shows self.old k → Shows self.new (leaves t.0 value k) }
-        ensures whole { Whole self.new }
-        ensures made { self.new.threads.records.made ≡ self.old.threads.records.made }
-        ensures ranks { KeepsRanks 0 self.old.threads self.new.threads }
-        ensures same { self.new ≡ record self.old { threads = self.new.threads; scheduler = record self.old.scheduler { running = other_than t.0 self.old.scheduler.running } } }
+        ensures moves { MovesThreads self.old self.new 0 (other_than t.0 self.old.scheduler.running) }
     {
         let joinable = match self.entry(t) {
             Some(entry) => entry.joinable,

@@ -59,7 +59,7 @@ returns-clause-ok g c =
     let cleaned = c.in_ok-run_cleanups.ensures.ok _ waits in
     let destructed = c.in_ok-run_destructors.ensures.ok _ cleaned.stands in
     let gave = c.in_ok-give_all.ensures.ok _ destructed.stands in
-    let stored = ap (λ (z : WorldOf _ _ _). store_of z.store) c.leave.ensures.same ∙ c.forget.ensures.changes in
+    let stored = ap (λ (z : WorldOf _ _ _). store_of z.store) c.leave.ensures.moves.same ∙ c.forget.ensures.changes in
     let died = dies_leads f c.args.t.0 c.args.value c.give_all.new.w c.leave.new.self _ _ _ gave.stands (left _ (c.forget.ensures.keeps.shows _ gave.stands.control)) stored told in
     end_leads f c.args.t.0 c.args.value c.run_cleanups.new.w c.run_destructors.new.w c.give_all.new.w c.leave.new.self s _ _ _ _ _ cleaned destructed gave died) (simp to_z-of_z at c.push.ensures.ok)
 

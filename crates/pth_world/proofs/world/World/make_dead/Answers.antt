@@ -8,7 +8,7 @@ use Rattle.pth_world.specs.World.{WorldOf}
 use Rattle.pth_world.specs.Sound.{IsSound}
 use Rattle.pth_world.specs.Whole.{View}
 use Rattle.pth_world.specs.Touches.{Touches, view_placed, view_changed}
-use Rattle.pth_world.proofs.Moves.{dead_whole, known_slot, left_nowhere, nowhere_after, two_touches, same_twice, queues_alone}
+use Rattle.pth_world.proofs.Moves.{dead_whole, known_slot, left_nowhere, nowhere_after, two_touches, same_twice, queues_alone, stopped_then, threads_alone, threads_then}
 use Rattle.pth_world.proofs.Ranks.{ranks_dead}
 use Rattle.pth_world.proofs.world.World.make_dead.Goals as goal
 
@@ -29,8 +29,8 @@ returns-clause-shows g c k sh =
     let b = (rw to_z-of_z at c.change-3.ensures.shows) _ a in
     c.stop_running.ensures.shows _ (c.put_in.ensures.shows _ false b)
 
-pub returns-clause-whole : goal.returns-clause-whole
-returns-clause-whole g c =
+pub returns-clause-moves : goal.returns-clause-moves
+returns-clause-moves g c =
     let f : SFits w64 c.args.value = search rules in
     let w = c.args.self.now in
     let t = c.args.t.0 in
@@ -50,12 +50,17 @@ returns-clause-whole g c =
     let change_three = two_touches w.threads d e t _ (view_changed (change.Value c.args.value)) three change_two (rw to_z-of_z at c.change-3.ensures.touches) in
     let change_four = two_touches w.threads e z t _ (view_placed (Some queue.Dead)) four change_three c.put_in.ensures.touches in
     let threads = ap (λ (k : WorldOf _ _ _). k.threads) c.stop_running.ensures.same in
-    dead_whole w c.stop_running.new.self t slot.0 c.requires.whole slot.1 search rules c.args.value
-    (subst IsSound (sym threads) c.put_in.ensures.sound)
-    (ap (λ (k : WorldOf _ _ _). k.store) c.stop_running.ensures.same ∙ ap (λ (k : WorldOf _ _ _). k.store) c.put_in.ensures.same ∙ ap (λ (k : WorldOf _ _ _). k.store) c.change-3.ensures.same ∙ ap (λ (k : WorldOf _ _ _). k.store) c.change-2.ensures.same ∙ ap (λ (k : WorldOf _ _ _). k.store) c.change.ensures.same ∙ ap (λ (k : WorldOf _ _ _). k.store) c.take_out.ensures.same)
-    c.requires.nothing
-    (ap (λ x. slot_of x.records) threads ∙ five.slots)
-    (subst (λ x. Touches w.threads x t (λ (k : View). view_placed (Some queue.Dead) (view_changed (change.Value c.args.value) (view_changed (change.Suspended false) (view_changed (change.State state.Dead) (view_placed None k)))))) (sym threads) change_four)
-
-pub returns-clause-ranks : goal.returns-clause-ranks
-returns-clause-ranks g c = ranks_dead c.args.self.now.threads c.stop_running.new.self.threads c.args.t.0 c.requires.known (pos 0) search rules
+    let left = threads_then w c.take_out.new.self c.change.new.self (threads_alone _ _ _ c.take_out.ensures.same) (threads_alone _ _ _ c.change.ensures.same) in
+    let changed = threads_then w c.change-2.new.self c.change-3.new.self (threads_then _ _ _ left (threads_alone _ _ _ c.change-2.ensures.same)) (threads_alone _ _ _ c.change-3.ensures.same) in
+    record {
+      whole =
+          dead_whole w c.stop_running.new.self t slot.0 c.requires.whole slot.1 search rules c.args.value
+          (subst IsSound (sym threads) c.put_in.ensures.sound)
+          (ap (λ (k : WorldOf _ _ _). k.store) c.stop_running.ensures.same ∙ ap (λ (k : WorldOf _ _ _). k.store) c.put_in.ensures.same ∙ ap (λ (k : WorldOf _ _ _). k.store) c.change-3.ensures.same ∙ ap (λ (k : WorldOf _ _ _). k.store) c.change-2.ensures.same ∙ ap (λ (k : WorldOf _ _ _). k.store) c.change.ensures.same ∙ ap (λ (k : WorldOf _ _ _). k.store) c.take_out.ensures.same)
+          c.requires.nothing
+          (ap (λ x. slot_of x.records) threads ∙ five.slots)
+          (subst (λ x. Touches w.threads x t (λ (k : View). view_placed (Some queue.Dead) (view_changed (change.Value c.args.value) (view_changed (change.Suspended false) (view_changed (change.State state.Dead) (view_placed None k)))))) (sym threads) change_four);
+      made = ap (λ x. x.records.made) threads ∙ five.made;
+      ranks = ranks_dead c.args.self.now.threads c.stop_running.new.self.threads c.args.t.0 c.requires.known (pos 0) (search rules);
+      same = stopped_then t w c.put_in.new.self c.stop_running.new.self (threads_then _ _ _ changed (threads_alone _ _ _ c.put_in.ensures.same)) c.stop_running.ensures.same;
+    }

@@ -3,7 +3,7 @@ use Rattle.pth_threads.specs.Threads.{slot_of}
 use Rattle.pth_threads.specs.declared.entry.Change.TheVariants as change
 use Rattle.pth_world.specs.World.{WorldOf}
 use Rattle.pth_world.specs.Touches.{view_placed, view_changed}
-use Rattle.pth_world.proofs.Moves.{moved_whole, known_slot, left_nowhere, nowhere_after, two_touches, same_twice, queues_alone}
+use Rattle.pth_world.proofs.Moves.{moved_whole, known_slot, left_nowhere, nowhere_after, two_touches, same_twice, queues_alone, threads_alone, threads_then}
 use Rattle.pth_world.proofs.Ranks.{ranks_moved_in}
 use Rattle.pth_world.proofs.world.World.move_to.Goals as goal
 
@@ -14,8 +14,8 @@ put_in-requires-clause-nowhere g c =
     nowhere_after m c.change.new.self c.args.t.0 c.change.ensures.threads (ap (λ (k : WorldOf _ _ _). k.threads.queues) c.change.ensures.same)
     (left_nowhere w m c.args.t.0 (queues_alone w m c.take_out.ensures.same) c.take_out.ensures.queues)
 
-pub returns-clause-whole : goal.returns-clause-whole
-returns-clause-whole g c =
+pub returns-clause-moves : goal.returns-clause-moves
+returns-clause-moves g c =
     let w = c.args.self.now in
     let t = c.args.t.0 in
     let a = c.take_out.new.self.threads in
@@ -28,7 +28,10 @@ returns-clause-whole g c =
     let change_one = two_touches w.threads a b t (view_placed None) (view_changed (change.Suspended c.args.suspended)) one c.take_out.ensures.touches c.change.ensures.touches in
     let change_two = two_touches w.threads b z t _ (view_placed (Some c.args.q)) two change_one c.put_in.ensures.touches in
     let running = ap (λ (k : WorldOf _ _ _). k.scheduler.running) c.put_in.ensures.same ∙ ap (λ (k : WorldOf _ _ _). k.scheduler.running) c.change.ensures.same ∙ ap (λ (k : WorldOf _ _ _). k.scheduler.running) c.take_out.ensures.same in
-    moved_whole w c.put_in.new.self t slot.0 c.args.q c.args.suspended c.requires.whole slot.1 c.requires.may change_two three.slots running (ap (λ (k : WorldOf _ _ _). k.store) c.put_in.ensures.same ∙ ap (λ (k : WorldOf _ _ _). k.store) c.change.ensures.same ∙ ap (λ (k : WorldOf _ _ _). k.store) c.take_out.ensures.same) c.put_in.ensures.sound
-
-pub returns-clause-ranks : goal.returns-clause-ranks
-returns-clause-ranks g c = ranks_moved_in c.args.self.now.threads c.put_in.new.self.threads c.args.t.0 c.requires.known c.args.q search rules
+    record {
+      whole =
+          moved_whole w c.put_in.new.self t slot.0 c.args.q c.args.suspended c.requires.whole slot.1 c.requires.may change_two three.slots running (ap (λ (k : WorldOf _ _ _). k.store) c.put_in.ensures.same ∙ ap (λ (k : WorldOf _ _ _). k.store) c.change.ensures.same ∙ ap (λ (k : WorldOf _ _ _). k.store) c.take_out.ensures.same) c.put_in.ensures.sound;
+      made = three.made;
+      ranks = ranks_moved_in c.args.self.now.threads c.put_in.new.self.threads c.args.t.0 c.requires.known c.args.q (search rules);
+      same = threads_then _ _ _ (threads_then _ _ _ (threads_alone _ _ _ c.take_out.ensures.same) (threads_alone _ _ _ c.change.ensures.same)) (threads_alone _ _ _ c.put_in.ensures.same);
+    }

@@ -1,0 +1,5 @@
+use Rattle.pth_world.proofs.Frames.{moved_frame}
+use Rattle.pth_calls.proofs.thread_control.resume.Goals as goal
+
+pub returns-clause-frame : goal.returns-clause-frame
+returns-clause-frame g c = moved_frame 1 c.args.w.now c.resume.new.self _ _ c.requires.runs c.resume.ensures.moves
