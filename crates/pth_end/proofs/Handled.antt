@@ -17,6 +17,14 @@ module _ {P S H : Type 0} where
   pub handled_stored : (w v : WorldOf P S H) → Whole w → KeepsAllButStore w v → (store_of v.store).cleanups ≡ (store_of w.store).cleanups → IsHandled w v
   handled_stored w v whole keeps cleanups = record { whole = keeps.whole whole; same = keeps.same ∙ ap (λ (h : H). record w { shared = h; store = v.store }) (sym (ap (λ (x : WorldOf P S H). x.shared) keeps.same)); cleanups = cleanups }
 
+  -- another shared value was set
+  pub handled_shared : (w v : WorldOf P S H) → Whole v → v ≡ record w { shared = v.shared } → IsHandled w v
+  handled_shared w v whole same = record {
+    whole = whole;
+    same = same ∙ ap (λ (y : StoreOf). record w { shared = v.shared; store = y }) (sym (ap (λ (x : WorldOf P S H). x.store) same));
+    cleanups = ap (λ (x : WorldOf P S H). (store_of x.store).cleanups) same;
+  }
+
   pub handled_then : (u v w : WorldOf P S H) → IsHandled u v → IsHandled v w → IsHandled u w
   handled_then u v w a b = record {
     whole = b.whole;

@@ -8,7 +8,7 @@ use Rattle.pth_world.proofs.Stores.{alive_known}
 use Rattle.pth_world.specs.Leading.{Leads}
 use Rattle.pth_world.specs.Store.{store_of}
 use Rattle.pth_end.proofs.Cleaning.{none_runs, one_runs, one_cut, rest_cut}
-use Rattle.pth_end.proofs.Handled.{still_alive}
+use Rattle.pth_end.proofs.Handled.{handled_none, handled_then, still_alive}
 use Rattle.pth_end.proofs.Stacks.{drop_some, drop_none, stands_low}
 use Rattle.pth_end.proofs.cleanups.+run_below.Goals as goal
 
@@ -62,3 +62,9 @@ returns-clause-err g t c =
     let later = cut (runs_handler f c.args.t.0 c.in-Some.h c.in-Some.arg s).state first.stands in
     rest_cut f c.args.t.0 s (drop c.args.n stack) (c.in-Some.h, c.in-Some.arg) (drop (c.args.n + 1) stack) is c.run_told_handler.new.w _ _ _ first
     (subst (λ (l : List PushedHandler). IsCut c.run_told_handler.new.marks c.run_below.new.marks (runs_each f c.args.t.0 l (runs_handler f c.args.t.0 c.in-Some.h c.in-Some.arg s).state).marks) same later)) c.run_below.ensures.err
+
+pub returns-in_default-clause-handled : goal.returns-in_default-clause-handled
+returns-in_default-clause-handled g t c = handled_none c.args.w.now c.requires.whole
+
+pub returns-clause-handled : goal.returns-clause-handled
+returns-clause-handled g t c = on_ok_weaker c.run_below.result (λ rest. handled_then _ _ _ c.in_ok-run_told_handler.ensures.handled rest) c.run_below.ensures.handled

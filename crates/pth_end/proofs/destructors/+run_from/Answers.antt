@@ -1,7 +1,7 @@
 use Rattle.std.proofs.Common.{◌<◌, ◌-◌, ◌∙◌, sym, arith, rules}
 use Rattle.std.proofs.lemmas.Result.{err_from_is_err_and, on_ok_weaker, on_err_weaker}
 use Rattle.pth_end.proofs.Destructing.{none_runs, no_more, one_runs, one_cut, rest_cut, one_less}
-use Rattle.pth_end.proofs.Handled.{still_alive}
+use Rattle.pth_end.proofs.Handled.{handled_none, handled_then, still_alive}
 use Rattle.pth_end.proofs.destructors.+run_from.Goals as goal
 
 pub returns-then-left-eq0-clause-ok : goal.returns-then-left-eq0-clause-ok
@@ -33,3 +33,12 @@ returns-clause-err g t c =
     on_err_weaker c.run_from.result (λ cut s st.
     let first = c.in_ok-run_destructor.ensures.ok s st in
     rest_cut g.P.Program.functions c.args.t.0 c.args.w.now s st c.args.round c.in-Some.due c.args.left (c.args.left - 1) (one_less c.args.left some) (sym c.next_destructor.ensures.next ∙ c.in-Some.is) c.run_destructor.new.w _ _ _ first (cut _ first.stands)) c.run_from.ensures.err
+
+pub returns-then-left-eq0-clause-handled : goal.returns-then-left-eq0-clause-handled
+returns-then-left-eq0-clause-handled g t c = handled_none c.args.w.now c.requires.whole
+
+pub returns-in_default-clause-handled : goal.returns-in_default-clause-handled
+returns-in_default-clause-handled g t c = handled_none c.args.w.now c.requires.whole
+
+pub returns-clause-handled : goal.returns-clause-handled
+returns-clause-handled g t c = on_ok_weaker c.run_from.result (λ rest. handled_then _ _ _ c.in_ok-run_destructor.ensures.handled rest) c.run_from.ensures.handled

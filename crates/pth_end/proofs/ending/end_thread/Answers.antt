@@ -6,7 +6,8 @@ use Rattle.pth_world.proofs.Stores.{alive_known}
 use Rattle.pth_world.specs.Store.{store_of}
 use Rattle.pth_world.specs.World.{WorldOf}
 use Rattle.pth_end.proofs.Chains.{cut_one, cut_second}
-use Rattle.pth_end.proofs.Ends.{wait_undone, dies_leads, end_leads, cut_cleaning, cut_giving, cut_later, leaving}
+use Rattle.pth_end.proofs.Ends.{wait_undone, dies_leads, end_frame, end_leads, cut_cleaning, cut_giving, cut_later, leaving, undone_frame}
+use Rattle.pth_end.proofs.Handled.{handled_then, if_answered}
 use Rattle.pth_end.proofs.ending.end_thread.Goals as goal
 
 pub unblock-requires-clause-known : goal.unblock-requires-clause-known
@@ -73,3 +74,11 @@ returns-clause-err g c =
     let gave = c.in_ok-give_all.ensures.ok _ destructed.stands in
     cut_later f c.args.t.0 c.args.value c.run_cleanups.new.w s _ _ _ cleaned (cut_giving f c.args.t.0 c.args.value c.run_destructors.new.w s _ _ _ destructed
     (cut_second c.give_all.new.w _ (gives_all c.args.t.0) (dies c.args.t.0 c.args.value) _ _ _ gave (cut_none _ _ _ same)))) c.push.ensures.err
+
+pub returns-clause-frame : goal.returns-clause-frame
+returns-clause-frame g c =
+    let a = c.unblock.new.self in
+    let undone = undone_frame c.args.w.now a (c.unblock.ensures.whole c.requires.whole) c.unblock.ensures.made c.unblock.ensures.same in
+    let cleaned = handled_then a _ _ c.in_ok-run_cleanups.ensures.handled c.in_ok-run_destructors.ensures.handled in
+    let handled = handled_then a _ _ cleaned c.in_ok-give_all.ensures.handled in
+    if_answered c.push.result (end_frame c.args.w.now a c.args.t.0 c.give_all.new.w c.forget.new.self c.leave.new.self undone handled c.forget.ensures.keeps c.leave.ensures.moves)

@@ -2,7 +2,7 @@ use Rattle.std.proofs.Common.{◌<◌, inl, inr, ap, arith, rules, SFits, w64, t
 use Rattle.std.proofs.lemmas.Bool.{cases_lt}
 use Rattle.std.proofs.lemmas.Result.{err_from_is_err_and, on_ok_weaker, on_err_weaker}
 use Rattle.pth_world.specs.World.{WorldOf}
-use Rattle.pth_end.proofs.Handled.{still_alive}
+use Rattle.pth_end.proofs.Handled.{handled_shared, handled_then, still_alive}
 use Rattle.pth_end.proofs.Looking.{looked_stands, no_act, act_then, act_cut, rest_cut}
 use Rattle.pth_end.proofs.handlers.+make_acts.Goals as goal
 
@@ -11,6 +11,9 @@ returns-in_default-clause-ok g t c s st =
     let x : SFits w64 c.args.arg = search rules in
     let act = simp to_z-of_z at c.act.ensures in
     no_act g.P.Program.functions c.args.w.now c.act.new.self c.args.t.0 c.args.h c.args.arg c.args.index c.requires.index c.act.result act.act s st (act.shows s.control st.control) (ap (λ (z : WorldOf _ _ _). z.store) c.act.ensures.same) _ c.in_default.is
+
+pub returns-in_default-clause-handled : goal.returns-in_default-clause-handled
+returns-in_default-clause-handled g t c = handled_shared c.args.w.now c.act.new.self (c.act.ensures.whole c.requires.whole) c.act.ensures.same
 
 pub returns-in_err-make_act-clause-err : goal.returns-in_err-make_act-clause-err
 returns-in_err-make_act-clause-err g t c =
@@ -46,3 +49,8 @@ returns-clause-err g t c =
     let stands = looked_stands g.P.Program.functions c.args.w.now c.act.new.self c.args.t.0 c.args.h c.args.arg c.args.index c.requires.index c.act.result act.act s st (act.shows s.control st.control) stored in
     let first = c.in_ok-make_act.ensures.ok _ stands in
     rest_cut g.P.Program.functions c.args.w.now c.act.new.self c.args.t.0 c.args.h c.args.arg c.args.index c.requires.index c.act.result act.act s st (act.shows s.control st.control) stored c.in-Some.act c.in-Some.is c.make_act.new.w _ _ _ first (cut _ first.stands)) (simp to_z-of_z at c.make_acts.ensures.err)
+
+pub returns-clause-handled : goal.returns-clause-handled
+returns-clause-handled g t c =
+    let looked = handled_shared c.args.w.now c.act.new.self (c.act.ensures.whole c.requires.whole) c.act.ensures.same in
+    on_ok_weaker c.make_acts.result (λ rest. handled_then _ _ _ (handled_then _ _ _ looked c.in_ok-make_act.ensures.handled) rest) c.make_acts.ensures.handled
