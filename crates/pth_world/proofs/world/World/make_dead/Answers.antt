@@ -50,8 +50,8 @@ returns-clause-moves g c =
     let change_three = two_touches w.threads d e t _ (view_changed (change.Value c.args.value)) three change_two (rw to_z-of_z at c.change-3.ensures.touches) in
     let change_four = two_touches w.threads e z t _ (view_placed (Some queue.Dead)) four change_three c.put_in.ensures.touches in
     let threads = ap (λ (k : WorldOf _ _ _). k.threads) c.stop_running.ensures.same in
-    let left = threads_then w c.take_out.new.self c.change.new.self (threads_alone _ _ _ c.take_out.ensures.same) (threads_alone _ _ _ c.change.ensures.same) in
-    let changed = threads_then w c.change-2.new.self c.change-3.new.self (threads_then _ _ _ left (threads_alone _ _ _ c.change-2.ensures.same)) (threads_alone _ _ _ c.change-3.ensures.same) in
+    let left = threads_then w c.take_out.new.self c.change.new.self (threads_alone w c.take_out.new.self _ c.take_out.ensures.same) (threads_alone c.take_out.new.self c.change.new.self _ c.change.ensures.same) in
+    let changed = threads_then w c.change-2.new.self c.change-3.new.self (threads_then w c.change.new.self c.change-2.new.self left (threads_alone c.change.new.self c.change-2.new.self _ c.change-2.ensures.same)) (threads_alone c.change-2.new.self c.change-3.new.self _ c.change-3.ensures.same) in
     record {
       whole =
           dead_whole w c.stop_running.new.self t slot.0 c.requires.whole slot.1 search rules c.args.value
@@ -62,5 +62,5 @@ returns-clause-moves g c =
           (subst (λ x. Touches w.threads x t (λ (k : View). view_placed (Some queue.Dead) (view_changed (change.Value c.args.value) (view_changed (change.Suspended false) (view_changed (change.State state.Dead) (view_placed None k)))))) (sym threads) change_four);
       made = ap (λ x. x.records.made) threads ∙ five.made;
       ranks = ranks_dead c.args.self.now.threads c.stop_running.new.self.threads c.args.t.0 c.requires.known (pos 0) (search rules);
-      same = stopped_then t w c.put_in.new.self c.stop_running.new.self (threads_then _ _ _ changed (threads_alone _ _ _ c.put_in.ensures.same)) c.stop_running.ensures.same;
+      same = stopped_then t w c.put_in.new.self c.stop_running.new.self (threads_then w c.change-3.new.self c.put_in.new.self changed (threads_alone c.change-3.new.self c.put_in.new.self _ c.put_in.ensures.same)) c.stop_running.ensures.same;
     }
