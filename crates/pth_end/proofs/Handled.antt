@@ -47,6 +47,9 @@ module _ {P S H : Type 0} (w : WorldOf P S H) (r : Option ℕ) (runs : w.schedul
   pub stored_frame : (v : WorldOf P S H) → Whole w → KeepsAllButStore w v → Frame w v 0 r false
   stored_frame v whole keeps = subst (λ (z : WorldOf P S H). Frame w z 0 r false) (sym keeps.same) (frame_by w.shared v.store w.used (subst (λ (z : WorldOf P S H). Whole z) keeps.same (keeps.whole whole)))
 
+  pub used_frame : (v : WorldOf P S H) → Whole v → v ≡ record w { used = v.used } → Frame w v 0 r false
+  used_frame v whole same = subst (λ (z : WorldOf P S H). Frame w z 0 r false) (sym same) (frame_by w.shared w.store v.used (subst (λ (z : WorldOf P S H). Whole z) same whole))
+
   pub handled_frame : (v : WorldOf P S H) → IsHandled w v → Frame w v 0 r false
   handled_frame v h = subst (λ (z : WorldOf P S H). Frame w z 0 r false) (sym h.same) (frame_by v.shared v.store w.used (subst (λ (z : WorldOf P S H). Whole z) h.same h.whole))
 

@@ -1,5 +1,5 @@
 -- Frames of calls, one after another.
-use Rattle.std.proofs.Common.{◌≡◌, ℕ, ◌+◌, ◌≤◌, Bool, true, false, Option, inl, inr, refl, ap, ◌∙◌, arith}
+use Rattle.std.proofs.Common.{◌≡◌, ℕ, ◌+◌, ◌≤◌, Bool, true, false, Option, inl, inr, refl, ap, sym, subst, ◌∙◌, arith}
 use Rattle.pth_world.specs.World.{WorldOf}
 use Rattle.pth_world.specs.Whole.{Whole}
 use Rattle.pth_world.specs.Frame.{Frame, Names}
@@ -28,6 +28,18 @@ module _ {P S H : Type 0} where
   pub frame_none : (w : WorldOf P S H) → Whole w → Frame w w 0 w.scheduler.running false
   frame_none w whole = record { whole = whole; runs = refl; made = record { threads = omega arith; objects = omega arith; events = omega arith }; ranks = ranks_none w.threads; preferred = refl }
 
+  pub still_frame : (n : ℕ) (w : WorldOf P S H) (r : Option ℕ) → w.scheduler.running ≡ r → Whole w → Frame w w n r false
+  still_frame n w r is whole = record {
+    whole = whole;
+    runs = is;
+    made = record { threads = omega arith; objects = omega arith; events = omega arith };
+    ranks = ranks_more 0 n w.threads w.threads (omega arith) (ranks_none w.threads);
+    preferred = refl;
+  }
+
+  pub refused_frame : (n : ℕ) (w v : WorldOf P S H) (r : Option ℕ) → w.scheduler.running ≡ r → Whole w → v ≡ w → Frame w v n r false
+  refused_frame n w v r is whole same = subst (λ (z : WorldOf P S H). Frame w z n r false) (sym same) (still_frame n w r is whole)
+
   -- threads have moved
   pub moved_frame : (n : ℕ) (w v : WorldOf P S H) (q r : Option ℕ) → q ≡ r → MovesThreads w v n q → Frame w v n r false
   moved_frame n w v q r is moves = record {
@@ -55,3 +67,7 @@ module _ {P S H : Type 0} where
   -- as many as are said, or fewer
   pub frame_more : (n m : ℕ) (w v : WorldOf P S H) (r : Option ℕ) (yields : Bool) → n ≤ m → Frame w v n r yields → Frame w v m r yields
   frame_more n m w v r yields le a = record { whole = a.whole; runs = a.runs; made = gives_more n m w v le a.made; ranks = ranks_more n m w.threads v.threads le a.ranks; preferred = a.preferred }
+
+  -- who runs is known
+  pub frame_as : (n m : ℕ) (w v : WorldOf P S H) (q r : Option ℕ) → n ≤ m → q ≡ r → Frame w v n q false → Frame w v m r false
+  frame_as n m w v q r le is a = frame_more n m w v r false le (subst (λ (o : Option ℕ). Frame w v n o false) is a)

@@ -1,4 +1,4 @@
-use Rattle.std.proofs.Common.{pos, ap, SFits, w64, to_z-of_z, rules}
+use Rattle.std.proofs.Common.{pos, ap, SFits, w64, to_z-of_z, rules, arith}
 use Rattle.std.proofs.lemmas.Result.{err_from_is_err_and}
 use Rattle.pth_base.proofs.Cuts.{cut_none}
 use Rattle.pth_base.specs.declared.answer.Answer.TheVariants.{Int}
@@ -10,6 +10,8 @@ use Rattle.pth_model.specs.declared.next.Next.TheVariants.{Done}
 use Rattle.pth_world.proofs.Telling.{quiet_leads, quiet-refused}
 use Rattle.pth_end.proofs.Chains.{leads_then, cut_one, cut_second}
 use Rattle.pth_calls.proofs.Canceling.{abort_begun, abort_refused, quiet_abort}
+use Rattle.pth_world.proofs.Frames.{frame_as, still_frame}
+use Rattle.pth_calls.proofs.Framing.{runs_unless}
 use Rattle.pth_calls.proofs.cancellation.abort.Goals as goal
 
 pub returns-in-Err-clause-next : goal.returns-in-Err-clause-next
@@ -61,3 +63,9 @@ returns-clause-ok g c s st =
     let first = c.in_ok-drop_or_abort.ensures.ok s st in
     let last = quiet_leads c.drop_or_abort.new.w (a s).state m _ _ (quiet_abort c.args.t c.args.n (Int (pos 1))) first.stands (rw c.requires.call at c.in_ok-answer.ensures.ok) in
     rw (c.requires.call, abort_begun f s c.args.t.0 c.args.n a (names s st)) (leads_then c.drop_or_abort.new.w c.drop_or_abort.new.w s a (tells m) _ _ _ first last)
+
+pub returns-in-Err-clause-frame : goal.returns-in-Err-clause-frame
+returns-in-Err-clause-frame g c = still_frame 0 c.args.w.now _ c.requires.runs c.requires.whole
+
+pub returns-clause-frame : goal.returns-clause-frame
+returns-clause-frame g c = frame_as 0 0 c.args.w.now c.drop_or_abort.new.w _ _ (omega arith) (runs_unless _ c.args.t.0 c.in-Ok.it.0.0 c.args.w.now.scheduler.running c.requires.runs c.in-Ok.ensures.other) c.in_ok-drop_or_abort.ensures.frame

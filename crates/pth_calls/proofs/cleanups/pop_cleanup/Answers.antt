@@ -1,4 +1,4 @@
-use Rattle.std.proofs.Common.{◌∙◌, not, pos, sym, ap, SFits, w64, to_z-of_z, rules}
+use Rattle.std.proofs.Common.{◌∙◌, not, pos, sym, ap, SFits, w64, to_z-of_z, rules, Some, false}
 use Rattle.std.proofs.lemmas.Result.{err_from_is_err_and}
 use Rattle.pth_base.proofs.Cuts.{cut_none}
 use Rattle.pth_base.specs.declared.call.Call.TheVariants.{CleanupPop}
@@ -14,6 +14,8 @@ use Rattle.pth_store.specs.Cleanups.{pop_answer}
 use Rattle.pth_world.proofs.Telling.{quiet_leads, quiet-refused, tells_leads}
 use Rattle.pth_end.proofs.Chains.{leads_then, cut_one, cut_second}
 use Rattle.pth_calls.proofs.Storing.{pop_refused, pop_runs, popped_tells}
+use Rattle.pth_world.proofs.Frames.{frame_then, still_frame}
+use Rattle.pth_end.proofs.Handled.{handled_frame, stored_frame}
 use Rattle.pth_calls.proofs.cleanups.pop_cleanup.Goals as goal
 
 pub returns-in_default-clause-next : goal.returns-in_default-clause-next
@@ -72,3 +74,13 @@ returns-clause-ok g c s st =
     let last = tells_leads c.run_popped.new.w c.pop_cleanup.new.self m _ tell first.stands (c.pop_cleanup.ensures.keeps.shows _ first.stands.control) _ _ (rw c.requires.call at c.in_ok-answer-2.ensures.ok) in
     rw (c.requires.call, pop_runs f s c.args.t.0 c.args.v (c.in-Some.h, c.in-Some.arg) some)
     (leads_then c.run_popped.new.w c.pop_cleanup.new.self s (where_so (not (is_zero c.args.v)) (runs_handler f c.args.t.0 c.in-Some.h c.in-Some.arg)) (tells m) _ _ _ first last)
+
+pub returns-in_default-clause-frame : goal.returns-in_default-clause-frame
+returns-in_default-clause-frame g c = still_frame 0 c.args.w.now _ c.requires.runs c.requires.whole
+
+pub returns-clause-frame : goal.returns-clause-frame
+returns-clause-frame g c =
+    let t = c.args.t.0 in
+    let ran = handled_frame c.args.w.now (Some t) c.requires.runs c.run_popped.new.w c.in_ok-run_popped.ensures.handled in
+    let popped = stored_frame c.run_popped.new.w (Some t) ran.runs c.pop_cleanup.new.self ran.whole c.pop_cleanup.ensures.keeps in
+    frame_then 0 0 c.args.w.now c.run_popped.new.w c.pop_cleanup.new.self (Some t) (Some t) false ran popped

@@ -1,9 +1,12 @@
-use Rattle.std.proofs.Common.{◌∙◌, sym, rules, SFits, w64, to_z-of_z}
+use Rattle.std.proofs.Common.{◌∙◌, sym, rules, SFits, w64, to_z-of_z, arith, refl}
 use Rattle.std.proofs.lemmas.Result.{IfOk-weaker}
 use Rattle.pth_numbered.specs.Operands.{number}
 use Rattle.pth_ring.specs.Rings.{chain_answer, chained}
 use Rattle.pth_model.specs.EventHandling.{spec_of}
 use Rattle.pth_calls.proofs.Making.{event_made, event_refused}
+use Rattle.pth_world.proofs.Frames.{still_frame}
+use Rattle.pth_end.proofs.Handled.{if_answered}
+use Rattle.pth_calls.proofs.Framing.{rings_frame}
 use Rattle.pth_calls.proofs.event_handling.chain.Goals as goal
 
 pub returns-in-Ok-clause-answered : goal.returns-in-Ok-clause-answered
@@ -20,3 +23,18 @@ returns-in-Err-clause-answered g c =
     let answer = rw (c.rings_mut.ensures.value, to_z-of_z) at c.in-Err.ensures.answer in
     let refused = rw c.rings_mut.ensures.value at c.in-Err.ensures.refused in
     IfOk-weaker c.refused.result _ _ (λ a. event_refused c.args.w.now c.chain.new.self c.in-Some.spec (λ x. chain_answer x (number c.args.e)) (λ spec. chained spec (number c.args.e)) (spec_of c.args.line.now) c.in-Err.refusal a (sym c.spec_of.ensures ∙ c.in-Some.is) answer refused) c.refused.ensures
+
+pub returns-in_default-clause-frame : goal.returns-in_default-clause-frame
+returns-in_default-clause-frame g c = still_frame 1 c.args.w.now _ refl c.requires.whole
+
+pub returns-in-Ok-clause-frame : goal.returns-in-Ok-clause-frame
+returns-in-Ok-clause-frame g c =
+    let changes = rw c.rings_mut.ensures.value at c.chain.ensures.changes in
+    let refused = rw c.rings_mut.ensures.value at c.chain.ensures.refused in
+    rings_frame c.args.w.now c.requires.whole 1 c.chain.new.self _ c.chain.result changes refused (omega arith)
+
+pub returns-in-Err-clause-frame : goal.returns-in-Err-clause-frame
+returns-in-Err-clause-frame g c =
+    let changes = rw c.rings_mut.ensures.value at c.chain.ensures.changes in
+    let refused = rw c.rings_mut.ensures.value at c.chain.ensures.refused in
+    if_answered c.refused.result (rings_frame c.args.w.now c.requires.whole 1 c.chain.new.self _ c.chain.result changes refused (omega arith))

@@ -1,10 +1,12 @@
-use Rattle.std.proofs.Common.{◌≡◌, ◌∙◌, Ok, true, false, sym, ap, append-nil, SFits, w64, to_z-of_z, rules}
+use Rattle.std.proofs.Common.{◌≡◌, ◌∙◌, Ok, true, false, sym, ap, append-nil, SFits, w64, to_z-of_z, rules, Some}
 use Rattle.std.proofs.lemmas.Result.{err_from_is_err_and}
 use Rattle.pth_numbered.specs.Operands.{number, is_below}
 use Rattle.pth_model.specs.State.{once_limit}
 use Rattle.pth_world.proofs.Moves.{runner_alive}
 use Rattle.pth_world.specs.World.{WorldOf}
 use Rattle.pth_calls.proofs.Storing.{is_first, is_again, is_none_such, no_verdict, first_effect, again_effect, no_effect, use_stands}
+use Rattle.pth_world.proofs.Frames.{frame_then}
+use Rattle.pth_end.proofs.Handled.{handled_frame, used_frame}
 use Rattle.pth_calls.proofs.once.use_control.Goals as goal
 
 pub run_told_handler-requires-clause-alive : goal.run_told_handler-requires-clause-alive
@@ -64,3 +66,16 @@ returns-in-Err-clause-ok g c s st =
     let none = is_none_such (is_below c.args.o once_limit) (s.control.used (number c.args.o)) c.in-Err.e (sym c.in-Err.is ∙ once.answer s.control st.control) in
     let same = once.still (λ other. absurd (cc (c.in-Err.is, other))) in
     rw (no_effect g.P.Program.functions s c.args.t.0 c.args.o c.args.h c.args.v none.0, same) (record { stands = st; tells = sym (append-nil _) })
+
+pub returns-in_ok-run_told_handler-in-Ok-true-clause-frame : goal.returns-in_ok-run_told_handler-in-Ok-true-clause-frame
+returns-in_ok-run_told_handler-in-Ok-true-clause-frame g c =
+    let t = c.args.t.0 in
+    let used = used_frame c.args.w.now (Some c.args.t.0) c.requires.runs c.once.new.self (c.once.ensures.whole c.requires.whole) c.once.ensures.same in
+    let ran = handled_frame c.once.new.self (Some t) used.runs c.run_told_handler.new.w c.in_ok-run_told_handler-in-Ok-true.ensures.handled in
+    frame_then 0 0 c.args.w.now c.once.new.self c.run_told_handler.new.w (Some t) (Some t) false used ran
+
+pub returns-in-Ok-false-clause-frame : goal.returns-in-Ok-false-clause-frame
+returns-in-Ok-false-clause-frame g c = used_frame c.args.w.now (Some c.args.t.0) c.requires.runs c.once.new.self (c.once.ensures.whole c.requires.whole) c.once.ensures.same
+
+pub returns-in-Err-clause-frame : goal.returns-in-Err-clause-frame
+returns-in-Err-clause-frame g c = used_frame c.args.w.now (Some c.args.t.0) c.requires.runs c.once.new.self (c.once.ensures.whole c.requires.whole) c.once.ensures.same

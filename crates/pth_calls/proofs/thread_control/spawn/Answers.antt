@@ -7,6 +7,8 @@ use Rattle.pth_world.specs.Shows.{StandsFor}
 use Rattle.pth_world.specs.World.{WorldOf}
 use Rattle.pth_end.proofs.Answers.{passed_answered, refused_answered}
 use Rattle.pth_calls.proofs.Spawning.{body_named, spawns_same, no_room, is_made, or_first_is}
+use Rattle.pth_world.proofs.Frames.{still_frame}
+use Rattle.pth_calls.proofs.Framing.{spawned_frame}
 use Rattle.pth_calls.proofs.thread_control.spawn.Goals as goal
 
 pub returns-then-not-has_room-clause-answered : goal.returns-then-not-has_room-clause-answered
@@ -36,3 +38,15 @@ returns-in-Ok-spawn-clause-answered g c =
     let body = body_named c.in-Some.body.0 (number n) (is_below n (p s.control.program).bodies) (search rules) in
     spawns_same p _ s.control _ _ c.args.arg _ _ body.1 (or_first_is (values_for s.control c.args.t.0 c.args.attr) c.in-Ok.of (values s st)) ((rw to_z-of_z at c.in-Ok-spawn.ensures.shows) s.control st.control)))
     (ap (λ (z : WorldOf _ _ _). z.store) c.in-Ok-spawn.ensures.same)
+
+pub returns-in_default-clause-frame : goal.returns-in_default-clause-frame
+returns-in_default-clause-frame g c = still_frame 1 c.args.w.now _ c.requires.runs c.requires.whole
+
+pub returns-in-Err-clause-frame : goal.returns-in-Err-clause-frame
+returns-in-Err-clause-frame g c = still_frame 1 c.args.w.now _ c.requires.runs c.requires.whole
+
+pub returns-then-not-has_room-clause-frame : goal.returns-then-not-has_room-clause-frame
+returns-then-not-has_room-clause-frame g c = still_frame 1 c.args.w.now _ c.requires.runs c.requires.whole
+
+pub returns-in-Ok-spawn-clause-frame : goal.returns-in-Ok-spawn-clause-frame
+returns-in-Ok-spawn-clause-frame g c = spawned_frame c.args.w.now c.spawn.new.self _ c.requires.runs c.in-Ok-spawn.ensures.whole c.in-Ok-spawn.ensures.made c.in-Ok-spawn.ensures.ranks c.in-Ok-spawn.ensures.same
