@@ -3,8 +3,8 @@
 ghost use Rattle.std.specs.Prelude.{◌≡◌, ◌≢◌, ℕ, Option, Some, None, IfSome, IfOk, option_map, option_copied};
 ghost use Rattle.std.specs.Borrow.{Lends, sem};
 ghost use Rattle.pth_threads.specs.Threads.{slot_of, tid_at};
-ghost use Rattle.pth_world.specs.contracts.counted_queues.CountedQueues.{the_row as queues_row};
-ghost use Rattle.pth_world.specs.contracts.progress_table.ProgressTable.{the_row as progress_row};
+ghost use Rattle.pth_tables.specs.contracts.counted_queues.CountedQueues.{the_row as queues_row};
+ghost use Rattle.pth_tables.specs.contracts.progress_table.ProgressTable.{the_row as progress_row};
 ghost use Rattle.pth_world.specs.contracts.world.World.{the_row};
 ghost use Rattle.pth_model.specs.State.{Control};
 ghost use Rattle.pth_model.specs.Changes.{runs_now, prefers, favours_new, prio_of};
