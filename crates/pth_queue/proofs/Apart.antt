@@ -1,16 +1,16 @@
 -- What the nodes of orderly queues tell, and where a slot that enters or leaves changes them.
 use Rattle.std.proofs.Common.{◌≡◌, ◌≢◌, ℕ, ◌+◌, ◌<◌, ◌≤◌, ◌==◌, ◌||◌, ◌↔◌, Bool, true, false, cond, if◌then◌else◌, int_lt, List, [], ◌∷◌, ◌++◌, ℤ, ◌-ℤ◌, Option, Some, None, IsSome, IfSome, option_map, option_and_then, count_by, refl, sym, ap, ◌∙◌, subst, inl, inr, arith, eq-eqb, ne_eqb, append_assoc}
 use Rattle.std.proofs.lemmas.Bool.{cases_eq}
+use Rattle.pth_base.specs.Chain.{StandsIn, Distinct, last_or}
 use Rattle.pth_queue.specs.declared.queue.Queue.{Queue}
 use Rattle.pth_queue.specs.declared.queue.Queue.TheVariants.{New, Ready, Waiting, Suspended, Dead}
 use Rattle.pth_queue.specs.declared.node.Node.{Node}
 use Rattle.pth_queue.specs.declared.ranked.Ranked.{Ranked}
-use Rattle.pth_queue.specs.Ring.{Has, Distinct, last_or}
 use Rattle.pth_queue.specs.Ranking.{is_of, insert, delete, holds, head_of, last_of, after_in}
 use Rattle.pth_queue.specs.Queues.{QueuesOf, rows_of, with_rows, queue_of, after_of, IsNowhere, IsRank, IsOrderly, entered, without}
 use Rattle.pth_queue.specs.Arena.{slots_of}
 use Rattle.pth_queue.specs.Nodes.{IsApart, a_node, gap_of, next_of, node_in, node_of, prev_of}
-use Rattle.pth_queue.proofs.Rings.{distinct-apart}
+use Rattle.pth_base.proofs.Chains.{distinct-apart}
 use Rattle.pth_queue.proofs.Counts.{count-cons, count-present}
 use Rattle.pth_queue.proofs.Standing.{queue_of-holds}
 use Rattle.pth_queue.proofs.Sets.{IsOrderly-entered, deleted_is, holds-queue_of, once_in, rows_of-with}
@@ -30,7 +30,7 @@ distinct-once : (rows : List Ranked) → ((s : ℕ) → count_by (is_of s) rows 
 distinct-once [] once = tt
 distinct-once (x ∷ xs) once = (
   λ y h k.
-      let more : 1 ≤ count_by (is_of x.holder) xs = count-present x.holder xs (has-holds x.holder xs (subst (λ z. Has z (slots_of xs)) k h)) in
+      let more : 1 ≤ count_by (is_of x.holder) xs = count-present x.holder xs (has-holds x.holder xs (subst (λ z. StandsIn z (slots_of xs)) k h)) in
       let two : count_by (is_of x.holder) (x ∷ xs) ≡ 1 + count_by (is_of x.holder) xs = count-cons x.holder x xs ∙ ap (λ (b : Bool). cond b 1 0 + count_by (is_of x.holder) xs) (eq-eqb x.holder x.holder refl) in
       let one : count_by (is_of x.holder) (x ∷ xs) ≤ 1 = once x.holder in
       omega arith,

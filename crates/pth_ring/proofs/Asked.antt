@@ -6,14 +6,15 @@ use Rattle.std.proofs.lemmas.List.Sums.{sum_by-cons, count_by-le-length}
 use Rattle.std.proofs.lemmas.Bool.{cases_eq}
 use Rattle.pth_base.specs.declared.ids.EventId.{EventId}
 use Rattle.pth_base.specs.Naming.{by_slot}
+use Rattle.pth_base.specs.Chain.{StandsIn}
 use Rattle.pth_base.proofs.Namings.{none_some}
+use Rattle.pth_base.proofs.Chains.{StandsIn-turn, StandsIn-append_cases}
 use Rattle.pth_numbered.specs.Numbered.{thing_at, number_at, slot_of}
 use Rattle.pth_ring.specs.declared.node.Node.{Node}
-use Rattle.pth_ring.specs.Ring.{StandsIn, RingGoesOn, from, ring_holds, head_event, turned_once}
+use Rattle.pth_ring.specs.Ring.{RingGoesOn, from, ring_holds, head_event, turned_once}
 use Rattle.pth_ring.specs.Links.{next_place, prev_place, event_at, ring, IsLinked}
 use Rattle.pth_ring.specs.Rings.{event_limit, event_id, has_claim, has_occurred, is_settled, is_claimed, settled_in, event_after, candidates, walk_end}
 use Rattle.pth_ring.specs.Arena.{RingsOf, rings_by_number, ring_of, event_of, events_of, AreLinked}
-use Rattle.pth_ring.proofs.Lists.{StandsIn-turn, StandsIn-append_cases}
 use Rattle.pth_ring.proofs.Calls.{ring-alone, ring-more}
 use Rattle.pth_ring.proofs.Flips.{flip, flip-next, flip-linked, flip-live, flip-ring}
 use Rattle.pth_ring.proofs.Going.{ring-few, on-next, goes-on}

@@ -3,14 +3,15 @@ use Rattle.std.proofs.Common.{◌≡◌, ◌≢◌, ◌<◌, ℕ, List, [], ◌�
 use Rattle.std.proofs.lemmas.Bool.{cases_eq}
 use mathlib.Core.Path.{fun_ext}
 use Rattle.pth_base.specs.Table.{put}
+use Rattle.pth_base.specs.Chain.{StandsIn}
 use Rattle.pth_base.proofs.Tables.{put_here, put_other}
+use Rattle.pth_base.proofs.Chains.{stands_or_not}
 use Rattle.pth_numbered.specs.Numbered.{thing_at, number_at, slot_of}
 use Rattle.pth_ring.specs.declared.event.Event.{Event}
-use Rattle.pth_ring.specs.Ring.{StandsIn, each}
+use Rattle.pth_ring.specs.Ring.{each}
 use Rattle.pth_ring.specs.Links.{next_place, event_at, ring, places_left}
 use Rattle.pth_ring.specs.Rings.{awaited, ring_awaited}
 use Rattle.pth_ring.specs.Arena.{RingsOf, events_of, AreLinked, SamePlaces, Becomes, Remakes}
-use Rattle.pth_ring.proofs.Lists.{has_or_not}
 use Rattle.pth_ring.proofs.Turns.{each-in, each-out}
 use Rattle.pth_ring.proofs.Going.{on-next, places_left-start, places_left-last, places_left-step, places_left-shorter}
 use Rattle.pth_ring.proofs.Named.{each-named}
@@ -30,7 +31,7 @@ twice now None = refl
 
 -- what becomes of an event, whether it is one of these or not
 becomes_again : (now : ℕ) (l : List ℕ) (g : ℕ → Option Event) (y : ℕ) (o : Option Event) → g y ≡ o → again now (g y) ≡ o → each l (again now) g y ≡ o
-becomes_again now l g y o p q = elim (has_or_not y l) [ inl h ↦ each-in l (again now) g y h ∙ q | inr out ↦ each-out l (again now) g y out ∙ p ]
+becomes_again now l g y o p q = elim (stands_or_not y l) [ inl h ↦ each-in l (again now) g y h ∙ q | inr out ↦ each-out l (again now) g y out ∙ p ]
 
 at : (now : ℕ) (l : List ℕ) (f : ℕ → Option Event) (y : ℕ) → awaited_in now l f y ≡ each l (again now) f y
 at now [] f y = sym (each-out [] (again now) f y (λ h. h))
@@ -51,7 +52,7 @@ at now (z ∷ l) f y = at now l (put f z (again now (f z))) y ∙ elim (cases_eq
     other : y ≢ z → each l (again now) (put f z (again now (f z))) y ≡ each (z ∷ l) (again now) f y
     other n =
         let got : put f z (again now (f z)) y ≡ f y = put_other f z (again now (f z)) y n in
-        elim (has_or_not y l) [
+        elim (stands_or_not y l) [
           | inl h ↦ each-in l (again now) (put f z (again now (f z))) y h ∙ ap (again now) got ∙ sym (each-in (z ∷ l) (again now) f y (inr h))
           | inr out ↦ each-out l (again now) (put f z (again now (f z))) y out ∙ got ∙ sym (each-out (z ∷ l) (again now) f y (away n out))
         ]

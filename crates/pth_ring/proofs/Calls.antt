@@ -1,13 +1,13 @@
 -- What each change of the nodes is to the rings.
 use Rattle.std.proofs.Common.{◌≡◌, ◌≢◌, ℕ, ◌==◌, true, List, [], ◌∷◌, Option, Some, None, IsSome, refl, sym, ◌∙◌, inl, inr, subst}
-use Rattle.std.proofs.lemmas.Bool.{cases_eq}
 use mathlib.Core.Path.{fun_ext}
 use Rattle.pth_base.specs.Table.{put}
 use Rattle.pth_base.proofs.Tables.{put_here, put_other, put_is, same_self}
+use Rattle.pth_base.proofs.Chains.{stands_or_not, closed-next}
 use Rattle.pth_ring.specs.declared.node.Node.{Node}
 use Rattle.pth_ring.specs.Ring.{turned, circle, rest_of, head_event}
-use Rattle.pth_ring.specs.Links.{next_place, event_at, ring, IsLinkedRing, IsLinked, Splices}
-use Rattle.pth_ring.proofs.Lists.{has_or_not, not_in_one}
+use Rattle.pth_ring.specs.Links.{next_place, prev_place, event_at, ring, IsLinkedRing, IsLinked, Splices}
+use Rattle.pth_ring.proofs.Lists.{not_in_one}
 use Rattle.pth_ring.proofs.Turns.{circle-in, circle-out}
 use Rattle.pth_ring.proofs.Circles.{ring-is, ring-in}
 use Rattle.pth_ring.proofs.Changes.{parted-linked, parted-ring}
@@ -38,7 +38,7 @@ module _ (x : ℕ → Option Node) (e : ℕ) (linked : IsLinked x) (live : IsSom
   more h = let c = linked.circle e live in more_by x e c.0 c.1 h
 
   pub live-next : IsSome (event_at x (next_place x e))
-  live-next = elim (cases_eq (next_place x e) e) [ inl h ↦ subst (λ v. IsSome (event_at x v)) (sym h) live | inr n ↦ (more n).circle.live (next_place x e) (inr (inl refl)) ]
+  live-next = let c = linked.circle e live in c.1.live (next_place x e) (closed-next (next_place x) (prev_place x) (e ∷ c.0) e c.1.links (inl refl))
 
   pub ring-alone : next_place x e ≡ e → ring x e ≡ e ∷ []
   ring-alone h = ring-is x e [] (alone h)
@@ -47,7 +47,7 @@ module _ (x : ℕ → Option Node) (e : ℕ) (linked : IsLinked x) (live : IsSom
   ring-more n = ring-is x e (next_place x e ∷ (more n).rest) (more n).circle
 
   same_at : (f : ℕ) → IsLinkedRing x (e ∷ []) → ring x f ≡ circle (e ∷ []) (circle [] (ring x)) f
-  same_at f c = elim (has_or_not f (e ∷ [])) [
+  same_at f c = elim (stands_or_not f (e ∷ [])) [
     | inl h ↦ ring-in x (e ∷ []) f c h ∙ sym (circle-in (e ∷ []) (circle [] (ring x)) f h)
     | inr out ↦ sym (circle-out (e ∷ []) (circle [] (ring x)) f out ∙ circle-out [] (ring x) f (λ h. h))
   ]

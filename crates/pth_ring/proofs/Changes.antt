@@ -1,14 +1,16 @@
 -- What the writes make of the rings.
 use Rattle.std.proofs.Common.{◌≡◌, ◌≢◌, ◌<◌, ℕ, List, [], ◌∷◌, ◌++◌, Option, Some, None, IsSome, refl, sym, ◌∙◌, ap₂, inl, inr, subst}
 use Rattle.pth_base.specs.Table.{put}
+use Rattle.pth_base.specs.Chain.{StandsIn, Distinct, last_or, ClosedChain}
 use Rattle.pth_base.proofs.Tables.{put_here, put_other}
+use Rattle.pth_base.proofs.Chains.{StandsIn-last, StandsIn-append_left, StandsIn-append_right, StandsIn-append_cases, distinct-join, chain-last, closed-prev}
 use Rattle.pth_ring.specs.declared.event.Event.{Event}
 use Rattle.pth_ring.specs.declared.node.Node.{Node}
-use Rattle.pth_ring.specs.Ring.{StandsIn, NoneTwice, circle}
-use Rattle.pth_ring.specs.Links.{Links, next_place, prev_place, event_at, ring, IsLinkedRing, IsLinked, Splices}
+use Rattle.pth_ring.specs.Ring.{circle}
+use Rattle.pth_ring.specs.Links.{next_place, prev_place, event_at, ring, IsLinkedRing, IsLinked, Splices}
 use Rattle.pth_ring.specs.Rings.{event_limit}
-use Rattle.pth_ring.proofs.Lists.{last_or, StandsIn-last, StandsIn-append_left, StandsIn-append_right, StandsIn-append_cases, distinct-join}
-use Rattle.pth_ring.proofs.Chains.{Crosses, chain-last, cross_next_other, cross_prev_other, cross-joins, cross-parts}
+use Rattle.pth_ring.proofs.Lists.{in_one, not_in_one}
+use Rattle.pth_ring.proofs.Crossings.{Crosses, cross_next_other, cross_prev_other, cross-joins, cross-parts}
 use Rattle.pth_ring.proofs.Turns.{circle-out}
 use Rattle.pth_ring.proofs.Circles.{ring-is, same-circle, IsReadOrGone, Remakes, remade-ring, remade-linked, circle-read}
 
@@ -16,8 +18,7 @@ use Rattle.pth_ring.proofs.Circles.{ring-is, same-circle, IsReadOrGone, Remakes,
 pub live-prev : (x : ℕ → Option Node) (e : ℕ) → IsLinked x → IsSome (event_at x e) → IsSome (event_at x (prev_place x e))
 live-prev x e linked live =
     let c = linked.circle e live in
-    let l = chain-last (next_place x) (prev_place x) e c.0 e c.1.links in
-    rw l (c.1.live (last_or e c.0) (StandsIn-last e c.0))
+    c.1.live (prev_place x e) (closed-prev (next_place x) (prev_place x) (e ∷ c.0) e c.1.links (inl refl))
 
 crosses : (x z : ℕ → Option Node) (a b : ℕ) → Splices x z a b → Crosses (next_place x) (prev_place x) (next_place z) (prev_place z) a b
 crosses x z a b s = record { next = s.next; prev = s.prev }
@@ -28,7 +29,7 @@ module _ (x z : ℕ → Option Node) (a b : ℕ) (xs ys : List ℕ) (linked : Is
   abbrev both : List ℕ
   both = (a ∷ xs) ++ (b ∷ ys)
 
-  distinct_both : NoneTwice both
+  distinct_both : Distinct both
   distinct_both = distinct-join (a ∷ xs) (b ∷ ys) ca.distinct cb.distinct (λ u hu v hv k. apart (same-circle x (a ∷ xs) (b ∷ ys) u a ca cb hu (subst (λ w. StandsIn w (b ∷ ys)) (sym k) hv) (inl refl)))
 
   live_both : (y : ℕ) → StandsIn y both → IsSome (event_at x y)
@@ -84,7 +85,7 @@ module _ (x z : ℕ → Option Node) (e b : ℕ) (ys : List ℕ) (linked : IsLin
   abbrev parts : ℕ → List ℕ
   parts = circle (e ∷ []) (circle (b ∷ ys) (ring x))
 
-  parted : Links (next_place z) (prev_place z) (e ∷ []) × Links (next_place z) (prev_place z) (b ∷ ys)
+  parted : ClosedChain (next_place z) (prev_place z) (e ∷ []) × ClosedChain (next_place z) (prev_place z) (b ∷ ys)
   parted = cross-parts (next_place x) (prev_place x) (next_place z) (prev_place z) e b (crosses x z e b s) [] ys c.distinct c.links
 
   circle_alone : IsLinkedRing z (e ∷ [])
@@ -101,18 +102,10 @@ module _ (x z : ℕ → Option Node) (e b : ℕ) (ys : List ℕ) (linked : IsLin
 
   part_read : (y : ℕ) → StandsIn y (e ∷ b ∷ ys) → IsReadOrGone z y (parts y)
   part_read y (inl k) = circle-read z (e ∷ []) (circle (b ∷ ys) (ring x)) y circle_alone (inl k)
-  part_read y (inr h) = subst (IsReadOrGone z y) (sym (circle-out (e ∷ []) (circle (b ∷ ys) (ring x)) y (other y (c.distinct.0 y h)))) (circle-read z (b ∷ ys) (ring x) y circle_rest h)
-    where
-      other : (y : ℕ) → y ≢ e → StandsIn y (e ∷ []) → ⊥
-      other y n (inl k) = n k
-      other y n (inr h) = h
+  part_read y (inr h) = subst (IsReadOrGone z y) (sym (circle-out (e ∷ []) (circle (b ∷ ys) (ring x)) y (not_in_one y e (c.distinct.0 y h)))) (circle-read z (b ∷ ys) (ring x) y circle_rest h)
 
   part_other : (y : ℕ) → (StandsIn y (e ∷ b ∷ ys) → ⊥) → parts y ≡ ring x y
-  part_other y out = circle-out (e ∷ []) (circle (b ∷ ys) (ring x)) y (other y out) ∙ circle-out (b ∷ ys) (ring x) y (λ h. out (inr h))
-    where
-      other : (y : ℕ) → (StandsIn y (e ∷ b ∷ ys) → ⊥) → StandsIn y (e ∷ []) → ⊥
-      other y n (inl k) = n (inl k)
-      other y n (inr h) = h
+  part_other y out = circle-out (e ∷ []) (circle (b ∷ ys) (ring x)) y (not_in_one y e (λ k. out (inl k))) ∙ circle-out (b ∷ ys) (ring x) y (λ h. out (inr h))
 
   parted_remakes : Remakes x z (e ∷ b ∷ ys) parts
   parted_remakes = record {
@@ -154,17 +147,13 @@ module _ (x y : ℕ → Option Node) (e : ℕ) (v : Event) (linked : IsLinked x)
       gone : (o : Option Event) → o ≡ None → IsSome o → ⊥
       gone o n s = cc
 
-  is_new : (u : ℕ) → StandsIn u (e ∷ []) → u ≡ e
-  is_new u (inl k) = k
-  is_new u (inr h) = absurd h
-
   new_remakes : Remakes x y (e ∷ []) (circle (e ∷ []) (ring x))
   new_remakes = record {
     next = λ u out. rw next_y (put_other (next_place x) e e u (not_new u out));
     prev = λ u out. rw prev_y (put_other (prev_place x) e e u (not_new u out));
     event = λ u out. rw event_y (put_other (event_at x) e (Some v) u (not_new u out));
-    closed = λ c i u f hu h hf. absurd (not_live (subst (λ w. IsSome (event_at x w)) (is_new u h) (i.live u hu)));
-    low = λ f h. subst (λ w. w < event_limit) (sym (is_new f h)) low;
+    closed = λ c i u f hu h hf. absurd (not_live (subst (λ w. IsSome (event_at x w)) (in_one u e h) (i.live u hu)));
+    low = λ f h. subst (λ w. w < event_limit) (sym (in_one f e h)) low;
     inside = λ f h. circle-read y (e ∷ []) (ring x) f circle_new h;
     outside = λ f out. circle-out (e ∷ []) (ring x) f out;
   }
@@ -181,10 +170,6 @@ module _ (x z : ℕ → Option Node) (e : ℕ) (linked : IsLinked x) (alone : Is
   gone_at : event_at z e ≡ None
   gone_at = rw event_z (put_here (event_at x) e None)
 
-  only : (u : ℕ) → StandsIn u (e ∷ []) → u ≡ e
-  only u (inl k) = k
-  only u (inr h) = absurd h
-
   gone_remakes : Remakes x z (e ∷ []) (put (ring x) e [])
   gone_remakes = record {
     next = λ u out. rw next_z (put_other (next_place x) e 0 u (λ k. out (inl k)));
@@ -192,7 +177,7 @@ module _ (x z : ℕ → Option Node) (e : ℕ) (linked : IsLinked x) (alone : Is
     event = λ u out. rw event_z (put_other (event_at x) e None u (λ k. out (inl k)));
     closed = λ c i u f hu h hf. same-circle x c (e ∷ []) u f i alone hu h hf;
     low = λ f h. linked.low f (alone.live f h);
-    inside = λ f h. inr (rw (only f h) gone_at, rw (only f h) (put_here (ring x) e []));
+    inside = λ f h. inr (rw (in_one f e h) gone_at, rw (in_one f e h) (put_here (ring x) e []));
     outside = λ f out. put_other (ring x) e [] f (λ k. out (inl k));
   }
 

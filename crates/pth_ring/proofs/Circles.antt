@@ -1,21 +1,17 @@
 -- The circles that linked nodes make, and what a change of one leaves of the others.
-use Rattle.std.proofs.Common.{◌≡◌, ◌≢◌, ◌⊎◌, ◌<◌, ◌≤◌, ℕ, zero, suc, ◌==◌, eqb, true, false, List, [], ◌∷◌, ◌++◌, length, Option, Some, None, IsSome, refl, sym, ◌∙◌, ap, inl, inr, subst, arith}
-use Rattle.std.proofs.lemmas.Bool.{cases_Bool}
-use Rattle.std.specs.List.{IsDistinct, list_any, AllByRecursion}
-use Rattle.std.proofs.lemmas.Map.Steps.{length-le_from_distinct_below}
-use Rattle.std.proofs.Common.{ne_eqb, eqb-true}
+use Rattle.std.proofs.Common.{◌≡◌, ◌≢◌, ◌⊎◌, ◌<◌, ℕ, zero, suc, ◌==◌, true, false, List, [], ◌∷◌, ◌++◌, length, Option, Some, None, IsSome, refl, sym, ◌∙◌, ap, inl, inr, subst, arith}
 use mathlib.Core.Path.{fun_ext}
+use Rattle.pth_base.specs.Chain.{StandsIn, Chain}
 use Rattle.pth_base.proofs.Tables.{same_self, not_same}
+use Rattle.pth_base.proofs.Chains.{stands_or_not, StandsIn-turn, distinct-turn, distinct-few, closed-turn, closed-frame}
 use Rattle.pth_ring.specs.declared.event.Event.{Event}
 use Rattle.pth_ring.specs.declared.node.Node.{Node}
-use Rattle.pth_ring.specs.Ring.{StandsIn, NoneTwice, turned, circle}
-use Rattle.pth_ring.specs.Links.{LinksAlong, places_along, next_place, prev_place, event_at, ring, if_some, IsLinkedRing, IsLinked}
+use Rattle.pth_ring.specs.Ring.{turned, circle}
+use Rattle.pth_ring.specs.Links.{places_along, next_place, prev_place, event_at, ring, if_some, IsLinkedRing, IsLinked}
 use Rattle.pth_ring.specs.Rings.{event_limit}
-use Rattle.pth_ring.proofs.Lists.{has_or_not, StandsIn-turn, distinct-turn}
-use Rattle.pth_ring.proofs.Chains.{links-turn, links-frame}
 use Rattle.pth_ring.proofs.Turns.{split, turned-is, StandsIn-turned, StandsIn-unturned, circle-in}
 
-pub places_along-is : (n p : ℕ → ℕ) (fuel a : ℕ) (xs : List ℕ) (b : ℕ) → length xs < fuel → LinksAlong n p a xs b → ((y : ℕ) → StandsIn y xs → y ≢ b) → places_along n fuel b a ≡ a ∷ xs
+pub places_along-is : (n p : ℕ → ℕ) (fuel a : ℕ) (xs : List ℕ) (b : ℕ) → length xs < fuel → Chain n p a xs b → ((y : ℕ) → StandsIn y xs → y ≢ b) → places_along n fuel b a ≡ a ∷ xs
 unfolding places_along
 places_along-is n p zero a xs b f c ne = absurd (omega arith)
 places_along-is n p (suc fuel) a [] b f c ne =
@@ -25,23 +21,6 @@ places_along-is n p (suc fuel) a (x ∷ xs) b f c ne =
     let t : (n a == b) ≡ false = not_same (n a) b (λ k. ne x (inl refl) (sym c.0 ∙ k)) in
     rw t (ap (λ l. a ∷ l) (ap (places_along n fuel b) c.0 ∙ places_along-is n p fuel x xs b (omega arith) c.2 (λ y k. ne y (inr k))))
 
--- as std has it
-is_distinct : (xs : List ℕ) → NoneTwice xs → IsDistinct eqb xs
-unfolding IsDistinct
-is_distinct [] d = tt
-is_distinct (x ∷ xs) d = (apart x xs d.0, is_distinct xs d.1)
-  where
-    apart : (x : ℕ) (xs : List ℕ) → ((y : ℕ) → StandsIn y xs → y ≢ x) → AllByRecursion (λ y. eqb x y ≡ false) xs
-    apart x [] h = tt
-    apart x (y ∷ ys) h = (ne_eqb x y (λ k. h y (inl refl) (sym k)), apart x ys (λ z k. h z (inr k)))
-
-has_from_any : (q : ℕ) (xs : List ℕ) → list_any (eqb q) xs ≡ true → StandsIn q xs
-has_from_any q [] h = cc
-has_from_any q (x ∷ xs) h = elim (cases_Bool (eqb q x)) [ inl t ↦ inl (eqb-true q x t) | inr f ↦ inr (has_from_any q xs (rw f at h)) ]
-
-pub few : (xs : List ℕ) (n : ℕ) → NoneTwice xs → ((y : ℕ) → StandsIn y xs → y < n) → length xs ≤ n
-few xs n d low = length-le_from_distinct_below xs n (is_distinct xs d) (λ z k. low z (has_from_any z xs k))
-
 some_stays : (o : Option Event) (l : List ℕ) → IsSome o → if_some o l ≡ l
 some_stays (Some _) l h = refl
 some_stays None l h = cc
@@ -49,7 +28,7 @@ some_stays None l h = cc
 pub ring-is : (x : ℕ → Option Node) (e : ℕ) (xs : List ℕ) → IsLinkedRing x (e ∷ xs) → ring x e ≡ e ∷ xs
 unfolding ring
 ring-is x e xs c =
-    let f = few (e ∷ xs) event_limit c.distinct c.low in
+    let f = distinct-few (e ∷ xs) event_limit c.distinct c.low in
     some_stays (event_at x e) _ (c.live e (inl refl)) ∙ places_along-is (next_place x) (prev_place x) event_limit e xs e (omega arith) c.links c.distinct.0
 
 none_stays : (o : Option Event) (l : List ℕ) → o ≡ None → if_some o l ≡ []
@@ -74,7 +53,7 @@ circle-turn x xs e c h =
       rest = s.back ++ s.front;
       is = turned-is e xs s;
       circle = record {
-        links = links-turn (next_place x) (prev_place x) s.front (e ∷ s.back) d.links;
+        links = closed-turn (next_place x) (prev_place x) s.front (e ∷ s.back) d.links;
         distinct = distinct-turn s.front (e ∷ s.back) d.distinct;
         live = λ y k. d.live y (StandsIn-turn y (e ∷ s.back) s.front k);
         low = λ y k. d.low y (StandsIn-turn y (e ∷ s.back) s.front k);
@@ -95,7 +74,7 @@ same-circle x xs ys y e c d hx hy h =
 
 pub circle-frame : (x z : ℕ → Option Node) (c : List ℕ) → IsLinkedRing x c → ((y : ℕ) → StandsIn y c → next_place z y ≡ next_place x y) → ((y : ℕ) → StandsIn y c → prev_place z y ≡ prev_place x y) → ((y : ℕ) → StandsIn y c → event_at z y ≡ event_at x y) → IsLinkedRing z c
 circle-frame x z c i n p e = record {
-  links = links-frame (next_place x) (prev_place x) (next_place z) (prev_place z) c i.links n p;
+  links = closed-frame (next_place x) (prev_place x) (next_place z) (prev_place z) c i.links n p;
   distinct = i.distinct;
   live = λ y h. subst IsSome (sym (e y h)) (i.live y h);
   low = i.low;
@@ -128,7 +107,7 @@ module _ (x z : ℕ → Option Node) (touched : List ℕ) (g : ℕ → List ℕ)
   read_out e None was out = inr (r.event e out ∙ was, ring-none x e was)
 
   read : (e : ℕ) → IsReadOrGone z e (g e)
-  read e = elim (has_or_not e touched) [ inl h ↦ r.inside e h | inr out ↦ subst (IsReadOrGone z e) (sym (r.outside e out)) (read_out e (event_at x e) refl out) ]
+  read e = elim (stands_or_not e touched) [ inl h ↦ r.inside e h | inr out ↦ subst (IsReadOrGone z e) (sym (r.outside e out)) (read_out e (event_at x e) refl out) ]
 
   read_is : (e : ℕ) (l : List ℕ) → IsReadOrGone z e l → ring z e ≡ l
   read_is e l (inl i) = ring-read z e l i
@@ -146,7 +125,7 @@ module _ (x z : ℕ → Option Node) (touched : List ℕ) (g : ℕ → List ℕ)
 
   pub remade-linked : IsLinked z
   remade-linked = record {
-    low = λ e live. elim (has_or_not e touched) [ inl h ↦ r.low e h | inr out ↦ linked.low e (subst IsSome (r.event e out) live) ];
+    low = λ e live. elim (stands_or_not e touched) [ inl h ↦ r.low e h | inr out ↦ linked.low e (subst IsSome (r.event e out) live) ];
     circle = λ e live. live_circle e (g e) (read e) live;
   }
 

@@ -6,15 +6,17 @@ use mathlib.Core.Path.{fun_ext}
 use Rattle.pth_base.proofs.Tables.{put_here, put_other}
 use Rattle.pth_base.proofs.Lists.{put_twice}
 use Rattle.pth_base.proofs.Namings.{none_some, seen_add, seen_drop}
+use Rattle.pth_base.proofs.Chains.{stands_or_not, StandsIn-append_right}
 use Rattle.pth_base.specs.declared.event.EventSpec.{EventSpec}
+use Rattle.pth_base.specs.Chain.{StandsIn}
 use Rattle.pth_numbered.specs.Numbered.{IsKept, Adds, Removes, thing_at, number_at, slot_of}
 use Rattle.pth_ring.specs.declared.event.Event.{Event}
 use Rattle.pth_ring.specs.declared.node.Node.{Node}
-use Rattle.pth_ring.specs.Ring.{StandsIn, ring_holds, circle, rest_of}
+use Rattle.pth_ring.specs.Ring.{ring_holds, circle, rest_of}
 use Rattle.pth_ring.specs.Links.{next_place, prev_place, event_at, id_at, ring, IsLinkedRing, IsLinked}
 use Rattle.pth_ring.specs.Rings.{event_limit, Events, pending, alone, chained, concatenated, isolated, freed}
 use Rattle.pth_ring.specs.Arena.{RingsOf, rings_by_number, ring_of, event_of, events_of, AreLinked, SamePlaces, Becomes, IsMade, IsChained, IsDropped, IsFreed}
-use Rattle.pth_ring.proofs.Lists.{has_or_not, ring_holds-out, not_in_one, StandsIn-append_right}
+use Rattle.pth_ring.proofs.Lists.{ring_holds-out, not_in_one}
 use Rattle.pth_ring.proofs.Turns.{circle-in, circle-out}
 use Rattle.pth_ring.proofs.Circles.{ring-is, ring-none, same-circle}
 use Rattle.pth_ring.proofs.Writes.{next_put, prev_put, id_put, event_put}
@@ -251,7 +253,7 @@ module _ (x mid : RingsOf) (spec : EventSpec) (e u : ℕ) (k : AreLinked x) (use
   apart-new = ap₂ ring_holds number_e ring_u ∙ ring_holds-out (number_at x e) (j ∷ []) (not_in_one (number_at x e) j number_other)
 
   over : (l : List ℕ) (f : ℕ) → circle (l ++ j ∷ []) (circle (j ∷ []) (ring_of x)) f ≡ circle (l ++ j ∷ []) (ring_of x) f
-  over l f = elim (has_or_not f (l ++ j ∷ [])) [
+  over l f = elim (stands_or_not f (l ++ j ∷ [])) [
     | inl h ↦ circle-in (l ++ j ∷ []) (circle (j ∷ []) (ring_of x)) f h ∙ sym (circle-in (l ++ j ∷ []) (ring_of x) f h)
     | inr out ↦ circle-out (l ++ j ∷ []) (circle (j ∷ []) (ring_of x)) f out ∙ circle-out (j ∷ []) (ring_of x) f (λ h. out (StandsIn-append_right f l (j ∷ []) h)) ∙ sym (circle-out (l ++ j ∷ []) (ring_of x) f out)
   ]

@@ -1,12 +1,13 @@
 -- The same rings read backwards.
 use Rattle.std.proofs.Common.{◌≡◌, ℕ, List, [], ◌∷◌, ◌++◌, reverse, Option, Some, None, IsSome, refl, sym, ◌∙◌, ap, inl, inr}
 use mathlib.Core.Path.{fun_ext}
+use Rattle.pth_base.specs.Chain.{StandsIn, Distinct, Chain}
 use Rattle.pth_ring.specs.declared.node.Node.{Node}
 use Rattle.std.proofs.lemmas.List.{reverse-append}
-use Rattle.pth_ring.specs.Ring.{StandsIn, NoneTwice, turned_once}
-use Rattle.pth_ring.specs.Links.{LinksAlong, node_next, node_prev, node_event, next_place, prev_place, event_at, ring, IsLinkedRing, IsLinked}
-use Rattle.pth_ring.proofs.Lists.{StandsIn-append_cases, distinct-join}
-use Rattle.pth_ring.proofs.Chains.{chain-join}
+use Rattle.pth_ring.specs.Ring.{turned_once}
+use Rattle.pth_ring.specs.Links.{node_next, node_prev, node_event, next_place, prev_place, event_at, ring, IsLinkedRing, IsLinked}
+use Rattle.pth_base.proofs.Chains.{StandsIn-append_cases, distinct-join, chain-join}
+use Rattle.pth_ring.proofs.Lists.{in_one}
 use Rattle.pth_ring.proofs.Circles.{ring-is}
 
 abbrev reversed : List ℕ → List ℕ
@@ -48,7 +49,7 @@ pub flip-event : (x : ℕ → Option Node) → event_at (flip x) ≡ event_at x
 unfolding flip event_at
 flip-event x = fun_ext (λ e. event_swapped (x e))
 
-chain-back : (n p : ℕ → ℕ) (a : ℕ) (xs : List ℕ) (b : ℕ) → LinksAlong n p a xs b → LinksAlong p n b (reversed xs) a
+chain-back : (n p : ℕ → ℕ) (a : ℕ) (xs : List ℕ) (b : ℕ) → Chain n p a xs b → Chain p n b (reversed xs) a
 chain-back n p a [] b h = (h.1, h.0)
 chain-back n p a (x ∷ xs) b h = chain-join p n b (reversed xs) x [] a (chain-back n p x xs b h.2) (h.1, h.0)
 
@@ -56,13 +57,9 @@ StandsIn-reversed : (y : ℕ) (xs : List ℕ) → StandsIn y (reversed xs) → S
 StandsIn-reversed y [] h = h
 StandsIn-reversed y (x ∷ xs) h = elim (StandsIn-append_cases y (reversed xs) (x ∷ []) h) [ inl l ↦ inr (StandsIn-reversed y xs l) | inr (inl k) ↦ inl k | inr (inr z) ↦ absurd z ]
 
-distinct-reversed : (xs : List ℕ) → NoneTwice xs → NoneTwice (reversed xs)
+distinct-reversed : (xs : List ℕ) → Distinct xs → Distinct (reversed xs)
 distinct-reversed [] d = tt
-distinct-reversed (x ∷ xs) d = distinct-join (reversed xs) (x ∷ []) (distinct-reversed xs d.1) ((λ y h. absurd h), tt) (λ a ha b hb k. d.0 a (StandsIn-reversed a xs ha) (k ∙ one b x hb))
-  where
-    one : (b x : ℕ) → StandsIn b (x ∷ []) → b ≡ x
-    one b x (inl k) = k
-    one b x (inr z) = absurd z
+distinct-reversed (x ∷ xs) d = distinct-join (reversed xs) (x ∷ []) (distinct-reversed xs d.1) ((λ y h. absurd h), tt) (λ a ha b hb k. d.0 a (StandsIn-reversed a xs ha) (k ∙ in_one b x hb))
 
 flip-circle : (x : ℕ → Option Node) (e : ℕ) (rest : List ℕ) → IsLinkedRing x (e ∷ rest) → IsLinkedRing (flip x) (e ∷ reversed rest)
 flip-circle x e rest c = record {

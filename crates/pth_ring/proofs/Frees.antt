@@ -3,14 +3,14 @@ use Rattle.std.proofs.Common.{◌≡◌, ◌≢◌, ◌<◌, ℕ, ◌==◌, true
 use Rattle.std.proofs.lemmas.Bool.{cases_eq}
 use mathlib.Core.Path.{fun_ext}
 use Rattle.pth_base.specs.Table.{put}
+use Rattle.pth_base.specs.Chain.{StandsIn}
 use Rattle.pth_base.proofs.Tables.{put_here, put_other, same_self, not_same}
+use Rattle.pth_base.proofs.Chains.{stands_or_not, StandsIn-turn, distinct-turn, StandsIn-append_right, StandsIn-append_cases, closed-turn}
 use Rattle.pth_numbered.specs.Numbered.{thing_at, number_at, slot_of}
-use Rattle.pth_ring.specs.Ring.{StandsIn, circle, rest_of, from, before, turned, each}
+use Rattle.pth_ring.specs.Ring.{circle, rest_of, from, before, turned, each}
 use Rattle.pth_ring.specs.Links.{next_place, prev_place, ring, IsLinkedRing}
 use Rattle.pth_ring.specs.Rings.{Events, ring_freed, freed}
 use Rattle.pth_ring.specs.Arena.{RingsOf, ring_of, events_of, AreLinked, IsFreed}
-use Rattle.pth_ring.proofs.Lists.{has_or_not, StandsIn-turn, distinct-turn, StandsIn-append_right, StandsIn-append_cases}
-use Rattle.pth_ring.proofs.Chains.{links-turn}
 use Rattle.pth_ring.proofs.Turns.{circle-in, circle-out, each-in, each-out}
 use Rattle.pth_ring.proofs.Circles.{ring-is}
 use Rattle.pth_ring.proofs.Calls.{HasNext, more, ring-alone}
@@ -59,7 +59,7 @@ each-less {A = A} d e n ys f g here other = fun_ext at
     away y out m (inr (inr h)) = out (inr h)
 
     at : (y : ℕ) → each (e ∷ ys) (λ _. d) g y ≡ each (e ∷ n ∷ ys) (λ _. d) f y
-    at y = elim (has_or_not y (e ∷ ys)) [
+    at y = elim (stands_or_not y (e ∷ ys)) [
       | inl h ↦ each-in (e ∷ ys) (λ _. d) g y h ∙ sym (each-in (e ∷ n ∷ ys) (λ _. d) f y (wide y h))
       | inr out ↦ each-out (e ∷ ys) (λ _. d) g y out ∙ elim (cases_eq y n) [
         | inl k ↦ ap g k ∙ here ∙ sym (each-in (e ∷ n ∷ ys) (λ _. d) f y (inr (inl k)))
@@ -131,7 +131,7 @@ module _ (x z : RingsOf) (e n : ℕ) (k : AreLinked x) (used_e : number_at x e �
 
     ring_n : ring (thing_at x) n ≡ n ∷ (ys ++ e ∷ [])
     ring_n = ring-is (thing_at x) n (ys ++ e ∷ []) (record {
-      links = links-turn (next_place (thing_at x)) (prev_place (thing_at x)) (e ∷ []) (n ∷ ys) circle_x.links;
+      links = closed-turn (next_place (thing_at x)) (prev_place (thing_at x)) (e ∷ []) (n ∷ ys) circle_x.links;
       distinct = distinct-turn (e ∷ []) (n ∷ ys) circle_x.distinct;
       live = λ y h. circle_x.live y (StandsIn-turn y (n ∷ ys) (e ∷ []) h);
       low = λ y h. circle_x.low y (StandsIn-turn y (n ∷ ys) (e ∷ []) h);

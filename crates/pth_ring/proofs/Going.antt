@@ -3,34 +3,30 @@ use Rattle.std.proofs.Common.{◌≡◌, ◌≢◌, ◌<◌, ◌≤◌, ◌+◌,
 use Rattle.std.specs.List.{list_any}
 use Rattle.std.proofs.lemmas.Bool.{cases_eq}
 use Rattle.std.proofs.lemmas.List.Sums.{sum_by-cons}
+use Rattle.pth_base.specs.Chain.{StandsIn, Chain}
 use Rattle.pth_ring.specs.declared.node.Node.{Node}
-use Rattle.pth_ring.specs.Ring.{StandsIn, from, rest_of, turned_once}
-use Rattle.pth_ring.specs.Links.{LinksAlong, next_place, prev_place, event_at, ring, IsLinkedRing, IsLinked, places_left}
+use Rattle.pth_ring.specs.Ring.{from, rest_of, turned_once}
+use Rattle.pth_ring.specs.Links.{next_place, prev_place, event_at, ring, IsLinkedRing, IsLinked, places_left}
 use Rattle.pth_ring.specs.Rings.{event_limit}
 use Rattle.pth_base.proofs.Tables.{same_self, not_same}
-use Rattle.pth_ring.proofs.Lists.{StandsIn-append_right}
-use Rattle.pth_ring.proofs.Chains.{chain-split}
+use Rattle.pth_base.proofs.Chains.{StandsIn-append_right, distinct-few, chain-split, closed-next}
 use Rattle.pth_ring.proofs.Turns.{split}
-use Rattle.pth_ring.proofs.Circles.{places_along-is, few, ring-is}
+use Rattle.pth_ring.proofs.Circles.{places_along-is, ring-is}
 
 -- what is left of a ring from one of its members on
 pub record Along (x : ℕ → Option Node) (e at : ℕ) : Type 0 where
   pub back : List ℕ
   pub is : places_left x e at ≡ at ∷ back
   pub from_is : from at (ring x e) ≡ at ∷ back
-  pub chain : LinksAlong (next_place x) (prev_place x) at back e
+  pub chain : Chain (next_place x) (prev_place x) at back e
   pub away : (y : ℕ) → StandsIn y back → y ≢ e
   pub short : length back < event_limit
-  pub inside : (y : ℕ) → StandsIn y (at ∷ back) → StandsIn y (ring x e)
 
 module _ (x : ℕ → Option Node) (e : ℕ) (rest : List ℕ) (c : IsLinkedRing x (e ∷ rest)) where
   short_rest : length rest < event_limit
-  short_rest = let f = few (e ∷ rest) event_limit c.distinct c.low in omega arith
+  short_rest = let f = distinct-few (e ∷ rest) event_limit c.distinct c.low in omega arith
 
-  in_ring : (y : ℕ) → StandsIn y (e ∷ rest) → StandsIn y (ring x e)
-  in_ring y h = subst (StandsIn y) (sym (ring-is x e rest c)) h
-
-  left_by : (at : ℕ) (back : List ℕ) → LinksAlong (next_place x) (prev_place x) at back e → ((y : ℕ) → StandsIn y back → y ≢ e) → length back < event_limit → places_left x e at ≡ at ∷ back
+  left_by : (at : ℕ) (back : List ℕ) → Chain (next_place x) (prev_place x) at back e → ((y : ℕ) → StandsIn y back → y ≢ e) → length back < event_limit → places_left x e at ≡ at ∷ back
   unfolding places_left
   left_by at back h away short = places_along-is (next_place x) (prev_place x) event_limit at back e short h away
 
@@ -38,15 +34,14 @@ module _ (x : ℕ → Option Node) (e : ℕ) (rest : List ℕ) (c : IsLinkedRing
   along_by [] back at h reads =
       let same : e ≡ at = cc in
       let tail : rest ≡ back = cc in
-      subst (Along x e) same (record { back = rest; is = left_by e rest c.links c.distinct.0 short_rest; from_is = ap (λ (w : ℕ). from w (ring x e)) same ∙ reads ∙ ap₂ (λ (w : ℕ) (l : List ℕ). w ∷ l) (sym same) (sym tail); chain = c.links; away = c.distinct.0; short = short_rest; inside = in_ring })
+      subst (Along x e) same (record { back = rest; is = left_by e rest c.links c.distinct.0 short_rest; from_is = ap (λ (w : ℕ). from w (ring x e)) same ∙ reads ∙ ap₂ (λ (w : ℕ) (l : List ℕ). w ∷ l) (sym same) (sym tail); chain = c.links; away = c.distinct.0; short = short_rest })
   along_by (f ∷ front) back at h reads =
       let same : e ≡ f = cc in
       let tail : rest ≡ front ++ at ∷ back = cc in
-      let chain : LinksAlong (next_place x) (prev_place x) at back e = (chain-split (next_place x) (prev_place x) e front at back e (subst (λ l. LinksAlong (next_place x) (prev_place x) e l e) tail c.links)).1 in
-      let there : (y : ℕ) → StandsIn y (at ∷ back) → StandsIn y rest = λ y k. subst (StandsIn y) (sym tail) (StandsIn-append_right y front (at ∷ back) k) in
-      let away : (y : ℕ) → StandsIn y back → y ≢ e = λ y k. c.distinct.0 y (there y (inr k)) in
+      let chain : Chain (next_place x) (prev_place x) at back e = (chain-split (next_place x) (prev_place x) e front at back e (subst (λ l. Chain (next_place x) (prev_place x) e l e) tail c.links)).1 in
+      let away : (y : ℕ) → StandsIn y back → y ≢ e = λ y k. c.distinct.0 y (subst (StandsIn y) (sym tail) (StandsIn-append_right y front (at ∷ back) (inr k))) in
       let short : length back < event_limit = (let a = length-append front (at ∷ back) in let b = ap length tail in let d = short_rest in omega arith) in
-      record { back = back; is = left_by at back chain away short; from_is = reads; chain = chain; away = away; short = short; inside = λ y k. in_ring y (inr (there y k)) }
+      record { back = back; is = left_by at back chain away short; from_is = reads; chain = chain; away = away; short = short }
 
 module _ (x : ℕ → Option Node) (e : ℕ) (linked : IsLinked x) (live : IsSome (event_at x e)) where
   pub along : (at : ℕ) → StandsIn at (ring x e) → Along x e at
@@ -64,14 +59,14 @@ module _ (x : ℕ → Option Node) (e : ℕ) (linked : IsLinked x) (live : IsSom
   pub places_left-start : places_left x e e ≡ ring x e
   places_left-start = let c = linked.circle e live in left_by x e c.0 c.1 e c.0 c.1.links c.1.distinct.0 (short_rest x e c.0 c.1) ∙ sym (ring-is x e c.0 c.1)
 
-  last_by : (at : ℕ) (back : List ℕ) → LinksAlong (next_place x) (prev_place x) at back e → ((y : ℕ) → StandsIn y back → y ≢ e) → next_place x at ≡ e → back ≡ []
+  last_by : (at : ℕ) (back : List ℕ) → Chain (next_place x) (prev_place x) at back e → ((y : ℕ) → StandsIn y back → y ≢ e) → next_place x at ≡ e → back ≡ []
   last_by at [] h away n = refl
   last_by at (y ∷ ys) h away n = absurd (away y (inl refl) (sym h.0 ∙ n))
 
   pub places_left-last : (at : ℕ) → StandsIn at (ring x e) → next_place x at ≡ e → places_left x e at ≡ at ∷ []
   places_left-last at h n = let a = along at h in a.is ∙ ap (λ l. at ∷ l) (last_by at a.back a.chain a.away n)
 
-  step_by : (at : ℕ) (back : List ℕ) → LinksAlong (next_place x) (prev_place x) at back e → ((y : ℕ) → StandsIn y back → y ≢ e) → length back < event_limit → next_place x at ≢ e → places_left x e (next_place x at) ≡ back
+  step_by : (at : ℕ) (back : List ℕ) → Chain (next_place x) (prev_place x) at back e → ((y : ℕ) → StandsIn y back → y ≢ e) → length back < event_limit → next_place x at ≢ e → places_left x e (next_place x at) ≡ back
   step_by at [] h away short n = absurd (n h.0)
   step_by at (y ∷ ys) h away short n =
       let c = linked.circle e live in
@@ -80,18 +75,17 @@ module _ (x : ℕ → Option Node) (e : ℕ) (linked : IsLinked x) (live : IsSom
   pub places_left-step : (at : ℕ) → StandsIn at (ring x e) → next_place x at ≢ e → places_left x e at ≡ at ∷ places_left x e (next_place x at)
   places_left-step at h n = let a = along at h in a.is ∙ ap (λ l. at ∷ l) (sym (step_by at a.back a.chain a.away a.short n))
 
-  on_by : (at : ℕ) (back : List ℕ) → LinksAlong (next_place x) (prev_place x) at back e → ((y : ℕ) → StandsIn y (at ∷ back) → StandsIn y (ring x e)) → StandsIn (next_place x at) (ring x e)
-  on_by at [] h there = subst (λ y. StandsIn y (ring x e)) (sym h.0) on-start
-  on_by at (y ∷ ys) h there = subst (λ y. StandsIn y (ring x e)) (sym h.0) (there y (inr (inl refl)))
-
   pub on-next : (at : ℕ) → StandsIn at (ring x e) → StandsIn (next_place x at) (ring x e)
-  on-next at h = let a = along at h in on_by at a.back a.chain a.inside
+  on-next at h =
+      let c = linked.circle e live in
+      let is = ring-is x e c.0 c.1 in
+      subst (StandsIn (next_place x at)) (sym is) (closed-next (next_place x) (prev_place x) (e ∷ c.0) at c.1.links (subst (StandsIn at) is h))
 
   pub places_left-shorter : (at : ℕ) → StandsIn at (ring x e) → next_place x at ≢ e → length (places_left x e (next_place x at)) < length (places_left x e at)
   places_left-shorter at h n = let a = ap length (places_left-step at h n) in omega arith
 
   pub ring-few : length (ring x e) ≤ event_limit
-  ring-few = let c = linked.circle e live in rw (ring-is x e c.0 c.1) (few (e ∷ c.0) event_limit c.1.distinct (λ y h. linked.low y (c.1.live y h)))
+  ring-few = let c = linked.circle e live in rw (ring-is x e c.0 c.1) (distinct-few (e ∷ c.0) event_limit c.1.distinct (λ y h. linked.low y (c.1.live y h)))
 
 -- the ring goes on from one of its members with the next
 module _ (x : ℕ → Option Node) (e : ℕ) (linked : IsLinked x) (live : IsSome (event_at x e)) (at : ℕ) (on : StandsIn at (ring x e)) where

@@ -2,11 +2,13 @@
 use Rattle.std.proofs.Common.{◌≡◌, ◌≢◌, ℕ, true, false, List, [], ◌∷◌, ◌++◌, map, Option, Some, None, option_map, refl, sym, ◌∙◌, ap, ap₂, inl, inr, subst}
 use Rattle.pth_numbered.specs.Numbered.{thing_at, number_at, slot_of}
 use Rattle.pth_base.specs.declared.ids.EventId.{EventId}
-use Rattle.pth_ring.specs.Ring.{StandsIn, ring_holds, circle, rest_of, head_event}
+use Rattle.pth_base.specs.Chain.{StandsIn}
+use Rattle.pth_ring.specs.Ring.{ring_holds, circle, rest_of, head_event}
 use Rattle.pth_ring.specs.Links.{next_place, prev_place, event_at, ring, Splices}
 use Rattle.pth_ring.specs.Rings.{Events, event_id, concatenated, isolated}
 use Rattle.pth_ring.specs.Arena.{RingsOf, rings_by_number, ring_of, events_of, AreLinked, SamePlaces, Becomes}
-use Rattle.pth_ring.proofs.Lists.{StandsIn-append_cases, ring_holds-in}
+use Rattle.pth_base.proofs.Chains.{StandsIn-append_cases}
+use Rattle.pth_ring.proofs.Lists.{ring_holds-in}
 use Rattle.pth_ring.proofs.Changes.{live-prev, joined-linked, joined-ring}
 use Rattle.pth_ring.proofs.Calls.{part-linked, part-ring, part-none, first-none, first-some, live-next}
 use Rattle.pth_ring.proofs.Named.{AllUsed, map-append, rings_by_number-circle, ring_holds-named, head_event-named, rest-named}

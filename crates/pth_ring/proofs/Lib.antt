@@ -1,5 +1,5 @@
 pub mod Lists
-pub mod Chains
+pub mod Crossings
 pub mod Turns
 pub mod Circles
 pub mod Writes

@@ -5,10 +5,11 @@ use Rattle.std.proofs.lemmas.Bool.{cases_eq}
 use mathlib.Core.Path.{fun_ext}
 use Rattle.pth_base.specs.Table.{put}
 use Rattle.pth_base.specs.Naming.{IsTied, by_slot, seen}
+use Rattle.pth_base.specs.Chain.{StandsIn}
 use Rattle.pth_base.proofs.Tables.{same_self, not_same, put_here, put_other}
-use Rattle.pth_ring.specs.Ring.{StandsIn, ring_holds, from, before, turned, circle, each, rest_of, head_event, turned_once}
+use Rattle.pth_base.proofs.Chains.{stands_or_not}
+use Rattle.pth_ring.specs.Ring.{ring_holds, from, before, turned, circle, each, rest_of, head_event, turned_once}
 use Rattle.pth_ring.specs.Arena.{rings_by_number}
-use Rattle.pth_ring.proofs.Lists.{has_or_not}
 use Rattle.pth_ring.proofs.Turns.{circle-in, circle-out, each-in, each-out}
 
 -- each of these places has a number
@@ -78,7 +79,7 @@ module _ (s : ℕ → Option ℕ) (t : ℕ → ℕ) (tied : IsTied s t) where
     where
       out : StandsIn n (map t xs) → ⊥
       out h = let w = named_has n xs h in no_slot n w.0 is (ap s w.1 ∙ tied.slot w.0 (all w.0 w.2))
-  named_at xs r n (Some u) is all = elim (has_or_not u xs) [
+  named_at xs r n (Some u) is all = elim (stands_or_not u xs) [
     | inl h ↦ ap (map t) (circle-in xs r u h) ∙ sym (turned_named u xs (all u h) all) ∙ ap (λ w. turned w (map t xs)) number ∙ sym (circle-in (map t xs) (rings_by_number s t r) n (subst (λ w. StandsIn w (map t xs)) number (has_named u xs h)))
     | inr out ↦ ap (map t) (circle-out xs r u out) ∙ sym (circle-out (map t xs) (rings_by_number s t r) n (away out) ∙ ap (λ o. map t (by_slot [] r o)) is)
   ]
@@ -111,7 +112,7 @@ module _ (s : ℕ → Option ℕ) (t : ℕ → ℕ) (tied : IsTied s t) where
     where
       out : StandsIn n (map t xs) → ⊥
       out h = let w = named_has n xs h in no_slot n w.0 is (ap s w.1 ∙ tied.slot w.0 (all w.0 w.2))
-  each_at {A = A} d xs g f n (Some u) is all = elim (has_or_not u xs) [
+  each_at {A = A} d xs g f n (Some u) is all = elim (stands_or_not u xs) [
     | inl h ↦ each-in xs g f u h ∙ sym (each-in (map t xs) g (seen d s f) n (subst (λ w. StandsIn w (map t xs)) number (has_named u xs h)) ∙ ap g (ap (by_slot d f) is))
     | inr out ↦ each-out xs g f u out ∙ sym (each-out (map t xs) g (seen d s f) n (away out) ∙ ap (by_slot d f) is)
   ]

@@ -1,11 +1,12 @@
 -- Linked nodes seen by the numbers of their events.
 use Rattle.std.proofs.Common.{◌≡◌, ◌≢◌, ℕ, true, List, [], ◌∷◌, map, Option, Some, None, IsSome, is_some, refl, sym, ◌∙◌, ap, subst}
 use Rattle.pth_base.specs.Naming.{by_slot, seen}
+use Rattle.pth_base.specs.Chain.{StandsIn}
 use Rattle.pth_base.proofs.Namings.{seen_at}
 use Rattle.pth_numbered.specs.Numbered.{thing_at, number_at, slot_of}
 use Rattle.pth_ring.specs.declared.event.Event.{Event}
 use Rattle.pth_ring.specs.declared.node.Node.{Node}
-use Rattle.pth_ring.specs.Ring.{StandsIn, Begins, rest_of}
+use Rattle.pth_ring.specs.Ring.{Begins, rest_of}
 use Rattle.pth_ring.specs.Links.{node_event, event_at, ring, IsLinked}
 use Rattle.pth_ring.specs.Rings.{Events, is_event}
 use Rattle.pth_ring.specs.Arena.{RingsOf, rings_by_number, ring_of, event_of, events_of, AreLinked, SamePlaces, Becomes}

@@ -1,9 +1,11 @@
 -- A circle read from another of its members.
 use Rattle.std.proofs.Common.{◌≡◌, ◌≢◌, ℕ, ◌==◌, true, false, List, [], ◌∷◌, ◌++◌, refl, sym, ◌∙◌, ap, ap₂, inl, inr, subst}
 use Rattle.std.proofs.lemmas.Bool.{cases_eq}
+use Rattle.pth_base.specs.Chain.{StandsIn}
 use Rattle.pth_base.proofs.Tables.{same_self, not_same}
-use Rattle.pth_ring.specs.Ring.{StandsIn, from, before, turned, circle, each}
-use Rattle.pth_ring.proofs.Lists.{ring_holds-in, ring_holds-out, StandsIn-turn}
+use Rattle.pth_base.proofs.Chains.{StandsIn-turn}
+use Rattle.pth_ring.specs.Ring.{from, before, turned, circle, each}
+use Rattle.pth_ring.proofs.Lists.{ring_holds-in, ring_holds-out}
 
 pub record Split (e : ℕ) (xs : List ℕ) : Type 0 where
   pub front : List ℕ

@@ -1,9 +1,9 @@
 -- Nodes that name the ones before and after them, by place.
 use Rattle.std.specs.Prelude.{◌≡◌, ◌<◌, ◌==◌, ℕ, zero, suc, if◌then◌else◌, List, [], ◌∷◌, Option, Some, None, IsSome}
 use Rattle.pth_base.specs.Table.{put}
+use Rattle.pth_base.specs.Chain.{StandsIn, Distinct, ClosedChain}
 use Rattle.pth_ring.specs.declared.event.Event.{Event}
 use Rattle.pth_ring.specs.declared.node.Node.{Node}
-use Rattle.pth_ring.specs.Ring.{StandsIn, NoneTwice}
 use Rattle.pth_ring.specs.Rings.{event_limit}
 
 abbrev pub node_next : Option Node → ℕ
@@ -37,16 +37,6 @@ id_at x u = node_id (x u)
 unfoldable pub event_at : (ℕ → Option Node) → ℕ → Option Event
 event_at x u = node_event (x u)
 
--- from a over these to b, each names the next, and each next the one before
-abbrev pub LinksAlong : (ℕ → ℕ) → (ℕ → ℕ) → ℕ → List ℕ → ℕ → Type 0
-LinksAlong next prev a [] b = (next a ≡ b) × (prev b ≡ a)
-LinksAlong next prev a (x ∷ xs) b = (next a ≡ x) × (prev x ≡ a) × LinksAlong next prev x xs b
-
--- the same round
-abbrev pub Links : (ℕ → ℕ) → (ℕ → ℕ) → List ℕ → Type 0
-Links next prev [] = Unit {0}
-Links next prev (x ∷ xs) = LinksAlong next prev x xs x
-
 -- from u along the links until they lead to the end
 unfoldable pub places_along : (ℕ → ℕ) → ℕ → ℕ → ℕ → List ℕ
 places_along next zero end u = []
@@ -66,8 +56,8 @@ places_left x u at = places_along (next_place x) event_limit u at
 
 -- these places are linked in a circle
 pub record IsLinkedRing (x : ℕ → Option Node) (xs : List ℕ) : Type 0 where
-  pub links : Links (next_place x) (prev_place x) xs
-  pub distinct : NoneTwice xs
+  pub links : ClosedChain (next_place x) (prev_place x) xs
+  pub distinct : Distinct xs
   pub live : (y : ℕ) → StandsIn y xs → IsSome (event_at x y)
   pub low : (y : ℕ) → StandsIn y xs → y < event_limit
 

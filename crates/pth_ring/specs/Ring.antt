@@ -1,20 +1,11 @@
 -- Rings as lists: a ring is the list of its events, read from one of them on.
-use Rattle.std.specs.Prelude.{◌≡◌, ◌≢◌, ◌⊎◌, ◌==◌, ℕ, Bool, if◌then◌else◌, List, [], ◌∷◌, ◌++◌, Option, Some, None}
+use Rattle.std.specs.Prelude.{◌≡◌, ◌==◌, ℕ, Bool, if◌then◌else◌, List, [], ◌∷◌, ◌++◌, Option, Some, None}
 use Rattle.std.specs.List.{list_any}
+use Rattle.pth_base.specs.Chain.{StandsIn}
 
--- e stands in the list
-abbrev pub StandsIn : ℕ → List ℕ → Type 0
-StandsIn e [] = ⊥
-StandsIn e (x ∷ xs) = (e ≡ x) ⊎ StandsIn e xs
-
--- the same as a test
+-- whether e stands in the list
 abbrev pub ring_holds : ℕ → List ℕ → Bool
 ring_holds e xs = list_any (λ x. x == e) xs
-
--- nothing stands twice
-abbrev pub NoneTwice : List ℕ → Type 0
-NoneTwice [] = Unit {0}
-NoneTwice (x ∷ xs) = ((y : ℕ) → StandsIn y xs → y ≢ x) × NoneTwice xs
 
 -- the list from e on, and what stands before e
 abbrev pub from : ℕ → List ℕ → List ℕ

@@ -4,7 +4,8 @@ ghost use Rattle.std.specs.Prelude.{◌≡◌, ◌≢◌, ◌<◌, ℕ, IsTrue, 
 ghost use Rattle.std.specs.Result.{result_err};
 ghost use Rattle.pth_numbered.specs.Operands.{number};
 ghost use Rattle.pth_numbered.specs.Numbered.{number_at};
-ghost use Rattle.pth_ring.specs.Ring.{StandsIn, Begins, RingGoesOn, ring_holds};
+ghost use Rattle.pth_base.specs.Chain.{StandsIn};
+ghost use Rattle.pth_ring.specs.Ring.{Begins, RingGoesOn, ring_holds};
 ghost use Rattle.pth_ring.specs.Rings.{kind_of, is_event, settled_in, event_after, ring_refusal, concat_refusal, make_answer, chain_answer, concat_answer, isolate_answer, free_answer, claim_answer, walk_answer, status_answer, kind_answer, AnswersEvent, no_events, alone, chained, concatenated, isolated, freed, ring_freed, claimed, unclaimed, all_unclaimed, with_event, with_status, with_next_look, with_claim};
 ghost use Rattle.pth_ring.specs.Arena.{events_of};
 

@@ -11,10 +11,11 @@ use Rattle.pth_base.specs.declared.event.EventSpec.{EventSpec}
 use Rattle.pth_base.specs.declared.ids.FdSet.{FdSet}
 use Rattle.pth_base.specs.declared.query.Query.{Query}
 use Rattle.pth_base.specs.declared.query.Query.TheVariants as query
+use Rattle.pth_base.specs.Chain.{StandsIn}
 use Rattle.pth_base.proofs.Tables.{same_self, not_same}
 use Rattle.pth_numbered.specs.Operands.{number, is_zero}
 use Rattle.pth_ring.specs.declared.event.Event.{Event}
-use Rattle.pth_ring.specs.Ring.{StandsIn, RingGoesOn, Begins, from, rest_of}
+use Rattle.pth_ring.specs.Ring.{RingGoesOn, Begins, from, rest_of}
 use Rattle.pth_ring.specs.Rings.{Events, make_answer, chain_answer, alone, chained}
 use Rattle.pth_kernel.specs.Moments.{least_after, least_by}
 use Rattle.pth_model.specs.declared.awaits.Awaited.{Awaited}

@@ -5,11 +5,12 @@ use Rattle.std.proofs.lemmas.List.{append_assoc}
 use mathlib.Core.Path.{fun_ext}
 use Rattle.pth_base.specs.Table.{put}
 use Rattle.pth_base.specs.declared.event.EventSpec.{EventSpec}
+use Rattle.pth_base.specs.Chain.{StandsIn}
 use Rattle.pth_base.proofs.Tables.{put_is, same_self, not_same}
 use Rattle.pth_numbered.specs.Numbered.{number_at}
 use Rattle.pth_ring.specs.declared.event.Event.{Event}
 use Rattle.pth_ring.specs.Arena.{RingsOf, events_of}
-use Rattle.pth_ring.specs.Ring.{StandsIn, RingGoesOn, Begins, from, rest_of, each, ring_holds}
+use Rattle.pth_ring.specs.Ring.{RingGoesOn, Begins, from, rest_of, each, ring_holds}
 use Rattle.pth_ring.specs.Rings.{Events, is_pending, with_event, with_status}
 use Rattle.pth_model.specs.Looks.{comes, found, looked_at, looks_at}
 use Rattle.pth_model.specs.State.{Control}

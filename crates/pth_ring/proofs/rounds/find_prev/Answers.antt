@@ -1,7 +1,7 @@
 use Rattle.std.proofs.Common.{◌≡◌, ◌∙◌, sym, ap, Option, IsSome, ℕ, find}
+use Rattle.pth_base.specs.Chain.{StandsIn}
 use Rattle.pth_numbered.specs.Numbered.{thing_at}
 use Rattle.pth_ring.specs.declared.node.Node.{Node}
-use Rattle.pth_ring.specs.Ring.{StandsIn}
 use Rattle.pth_ring.specs.Links.{next_place, prev_place, event_at, ring, IsLinked}
 use Rattle.pth_ring.specs.Rings.{has_occurred}
 use Rattle.pth_ring.proofs.Flips.{flip, flip-next, flip-event, flip-linked, flip-live, flip-ring}
