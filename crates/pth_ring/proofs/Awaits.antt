@@ -60,10 +60,6 @@ at now (z ∷ l) f y = at now l (put f z (again now (f z))) y ∙ elim (cases_eq
 awaited-each : (now : ℕ) (l : List ℕ) (f : ℕ → Option Event) → awaited_in now l f ≡ each l (again now) f
 awaited-each now l f = fun_ext (λ y. at now l f y)
 
-some_again : (now : ℕ) (o : Option Event) → IsSome o → IsSome (again now o)
-some_again now (Some v) h = refl
-some_again now None h = cc
-
 -- ---- a step
 
 module _ (x z : RingsOf) (now e u : ℕ) (k : AreLinked x) (used_e : number_at x e ≢ 0) (on : StandsIn u (ring (thing_at x) e)) (r : Remakes x z u (awaited now)) where

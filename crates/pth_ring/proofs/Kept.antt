@@ -49,10 +49,6 @@ module _ (x z : ℕ → Option Node) (linked : IsLinked x) (s : SameLinks x z) w
   same_ring : ring z ≡ ring x
   same_ring = fun_ext (λ e. same_at e (none_or_some (event_at x e)))
 
-some_stays : (g : Event → Event) (o : Option Event) → IsSome o → IsSome (option_map g o)
-some_stays g (Some v) h = refl
-some_stays g None h = cc
-
 -- another event is written
 module _ (x y : RingsOf) (u : ℕ) (a b : Node) (g : Event → Event) (k : AreLinked x) (used_u : number_at x u ≢ 0) (was : thing_at x u ≡ Some a) (writes : Changes x y u b) where
   written : SamePlaces x y → next_place (thing_at y) ≡ next_place (thing_at x) → prev_place (thing_at y) ≡ prev_place (thing_at x) → event_at (thing_at y) ≡ put (event_at (thing_at x)) u (Some b.event) → b.event ≡ g a.event → Remakes x y u g

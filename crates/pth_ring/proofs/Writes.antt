@@ -37,9 +37,6 @@ module _ {A : Type 0} (x y : NumberedOf A) (u : ℕ) (a b : A) (was : thing_at x
   some : (o : Option A) (c : A) → o ≡ Some c → o ≡ None → ⊥
   some o c e n = cc
 
-  is_some : (o : Option A) (c : A) → o ≡ Some c → IsSome o
-  is_some o c e = cc
-
   pub kept-changed : IsKept x → IsKept y
   kept-changed kept = record {
     tied = rw (writes.slots, writes.numbers) kept.tied;
