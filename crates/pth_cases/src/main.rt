@@ -2,13 +2,15 @@
 //!
 //! Each word of the program is one command line of `pth_play`, and the last of its words names a file. A `.texts` and a `.runs`
 //! have many scripts, one in each line (`escapes`); another file is one script. Of a `.texts` the last line of each run is printed,
-//! and of the others all lines.
+//! and of the others all lines. A `.objects` has runs over objects that fail (`objects`).
 #![tactic(auto)]
 
 mod escapes;
+mod objects;
 mod played;
 
 use crate::escapes::unescaped;
+use crate::objects::print_objects;
 use crate::played::{last_word, play_script};
 use anyhow::Result;
 use std::alloc::AllocError;
@@ -62,6 +64,9 @@ fn print_file<R: Print + Files + AllocGlobal>(rt: &R, line: &str) -> Result<()> 
         print_list(rt, line, content.as_str(), Shown::Last)
     } else if name.ends_with(".runs") {
         print_list(rt, line, content.as_str(), Shown::All)
+    } else if name.ends_with(".objects") {
+        println!(rt; "== {line}")?;
+        print_objects(rt, content.as_str())
     } else {
         print_run(rt, line, content.as_str())
     }

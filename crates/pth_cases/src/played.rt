@@ -3,7 +3,7 @@
 use anyhow::Result;
 use pth_base::memory::OutOfMemory;
 use pth_player::play;
-use pth_streams::files::MemoryFiles;
+use pth_streams::files::SureFiles;
 use pth_streams::sink::SureSink;
 use pth_streams::source::SureSource;
 use std::alloc::{AllocError, Global};
@@ -46,7 +46,7 @@ fn words_of(alloc: Global, line: &str) -> Result<Vec<String>, AllocError> {
 fn play_files(
     alloc: Global,
     words: &Vec<String>,
-    files: &mut MemoryFiles,
+    files: &mut SureFiles,
 ) -> Result<Played, OutOfMemory> {
     let mut input = SureSource::new(alloc, b"")?;
     let mut out = SureSink::new(alloc);
@@ -55,9 +55,9 @@ fn play_files(
     Ok(Played { status, out, err })
 }
 
-/// Plays a script under the words of a line, the last of which is the name of the one file that there is.
+/// Plays a script, which stands under every name, under the words of a line.
 pub fn play_script(alloc: Global, line: &str, script: &str) -> Result<Played, OutOfMemory> {
     let words = words_of(alloc, line)?;
-    let mut files = MemoryFiles::new(alloc, last_word(line), script.as_bytes(), &[])?;
+    let mut files = SureFiles::new(alloc, script.as_bytes())?;
     play_files(alloc, &words, &mut files)
 }
