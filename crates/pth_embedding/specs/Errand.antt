@@ -25,7 +25,8 @@ call_of place.Spawn n = call.Spawn (pos 1) (pos 9) (pos 0)
 call_of place.YieldToWorker n = call.Yield n
 call_of (place.Join worker) n = call.Join worker
 call_of place.Finish n = call.Exit n
-call_of (place.Work arg) n = call.Yield (pos 0)
+call_of (place.Work arg) n = call.Nap (pos 5)
+call_of (place.Fetch arg) n = call.Read (pos 3) (pos 10)
 call_of (place.Bring value) n = call.Exit value
 
 -- where it stands after that call
@@ -33,7 +34,8 @@ abbrev pub place_after_call : Place → ℤ → Place
 place_after_call place.Spawn n = place.YieldToWorker
 place_after_call place.YieldToWorker n = place.Join n
 place_after_call (place.Join worker) n = place.Finish
-place_after_call (place.Work arg) n = place.Bring arg
+place_after_call (place.Work arg) n = place.Fetch arg
+place_after_call (place.Fetch arg) n = place.Bring arg
 place_after_call p n = p
 
 -- the program; its shared value, its checks and its handlers are nothing of note

@@ -26,8 +26,10 @@ pub enum Place {
     Join(i64),
     /// Main is handed the worker's value, and exits with it.
     Finish,
-    /// The worker has this argument, and yields.
+    /// The worker has this argument, and naps.
     Work(i64),
+    /// The worker reads of a descriptor.
+    Fetch(i64),
     /// The worker exits with this value.
     Bring(i64),
 }
@@ -67,7 +69,8 @@ impl Program for Errand {
             Place::YieldToWorker => (Call::Yield(n), Place::Join(n)),
             Place::Join(worker) => (Call::Join(worker), Place::Finish),
             Place::Finish => (Call::Exit(n), Place::Finish),
-            Place::Work(arg) => (Call::Yield(0), Place::Bring(arg)),
+            Place::Work(arg) => (Call::Nap(5), Place::Fetch(arg)),
+            Place::Fetch(arg) => (Call::Read { f: 3, n: 10 }, Place::Bring(arg)),
             Place::Bring(value) => (Call::Exit(value), Place::Bring(value)),
         };
         *place = next;

@@ -1,20 +1,22 @@
-//! How a program drives a machine: turn by turn, with a look at its threads after each turn.
+//! How a program drives a machine: turn by turn, with a look at its threads after each turn, and between two turns by hand.
 #![tactic(auto)]
 
-ghost use Rattle.std.specs.Prelude.{◌≡◌, ◌≤◌, IfOk};
+ghost use Rattle.std.specs.Prelude.{◌≡◌, ◌≤◌, None, IfOk, OnOk};
 ghost use Rattle.pth_world.specs.Sound.{IsSound};
 
 mod errand;
 
 use crate::errand::{Errand, int_of};
-use anyhow::Result;
-use pth_base::ids::{FdSet, Tid};
+use anyhow::{Result, ensure};
+use pth_base::answer::Answer;
+use pth_base::bytes::Bytes;
+use pth_base::ids::{Fd, FdSet, Tid};
 use pth_base::mark::Mark;
 use pth_base::marks::Marks;
 use pth_base::memory::OutOfMemory;
 use pth_base::outcome::Outcome;
 use pth_kernel::kernel::Kernel;
-use pth_kernel::trace::Trace;
+use pth_kernel::trace::{Entry, Stamp, Trace};
 use pth_queue::queue::Queue;
 use pth_sched::machine::Machine;
 use pth_world::world::World;
@@ -27,18 +29,36 @@ const MOST_STEPS: u64 = 1000;
 /// How many turns the run has at most.
 const MOST_TURNS: u32 = 100;
 
+/// The descriptors that are open from the start: 3 alone.
+const OPEN: FdSet = FdSet(8);
+
 /// Prints what a machine told.
 fn print_mark(rt: &(impl Print + AllocGlobal), mark: &Mark) -> io::Result<()> {
     match mark {
         Mark::Dispatch { turn, tid, .. } => println!(rt; "turn {turn}: thread {} runs", tid.0),
-        Mark::Answered { tid, answer, .. } => {
-            println!(rt; "thread {} is answered {}", tid.0, int_of(answer))
-        }
+        Mark::Answered { tid, answer, .. } => print_answer(rt, *tid, answer),
         Mark::Waits { tid, .. } => println!(rt; "thread {} waits", tid.0),
         Mark::Woke { tid, .. } => println!(rt; "thread {} waits no longer", tid.0),
         Mark::Ended { tid, value } => println!(rt; "thread {} ends with {value}", tid.0),
+        Mark::Moved { at } => println!(rt; "time moves to {at}"),
         _ => Ok(()),
     }
+}
+
+fn print_answer(rt: &(impl Print + AllocGlobal), tid: Tid, answer: &Answer) -> io::Result<()> {
+    match answer {
+        Answer::Bytes(bytes) => {
+            println!(rt; "thread {} reads {} bytes", tid.0, bytes.as_slice().len())
+        }
+        _ => println!(rt; "thread {} is answered {}", tid.0, int_of(answer)),
+    }
+}
+
+fn print_marks(rt: &(impl Print + AllocGlobal), marks: &[Mark]) -> io::Result<()> {
+    for mark in marks {
+        print_mark(rt, mark)?;
+    }
+    Ok(())
 }
 
 /// Prints the record of a thread, where it has one: it has none once it was joined.
@@ -77,7 +97,7 @@ fn print_world(rt: &(impl Print + AllocGlobal), world: &World<Errand>) -> io::Re
     Ok(())
 }
 
-/// Makes a turn, and prints what it told and how the threads are then.
+/// Makes a turn, and prints what it told, how many steps were made, and how the threads are then.
 fn print_turn(
     rt: &(impl Print + AllocGlobal),
     machine: &mut Machine<Errand>,
@@ -85,34 +105,85 @@ fn print_turn(
 ) -> Result<Outcome>
     requires few { machine.old.turn.steps ≤ MOST_STEPS }
     ensures few { IfOk result (λ outcome. machine.new.turn.steps ≤ MOST_STEPS) }
+    ensures outcome { IfOk result (λ outcome. outcome ≡ machine.new.turn.outcome) }
 {
     marks.clear();
     let outcome = machine.turn(MOST_STEPS - machine.steps(), marks);
-    for mark in marks.as_slice() {
-        print_mark(rt, mark)?;
-    }
+    print_marks(rt, marks.as_slice())?;
     if outcome == Outcome::OutOfMemory {
         return Err(AllocError.into());
     }
+    println!(rt; "  {} steps", machine.steps())?;
     print_world(rt, machine.world())?;
     Ok(outcome)
 }
 
-/// A machine under a kernel that has no descriptors, where a turn takes one microsecond.
-#[tactic(auto, unfolding(pth_kernel::specs::Trace::first_fault_below))]
-fn machine(alloc: Global) -> Result<Machine<Errand>, OutOfMemory>
+/// Moves time on if no thread can run.
+fn idle(machine: &mut Machine<Errand>, marks: &mut Marks) -> Result<(), OutOfMemory>
+    requires nobody { machine.old.world.scheduler.running ≡ None }
+    requires goes { machine.old.turn.outcome ≡ Outcome.Running }
+    ensures nobody { OnOk result (machine.new.world.scheduler.running ≡ None) }
+    ensures turn { OnOk result (machine.new.turn ≡ machine.old.turn) }
+{
+    let world = machine.world();
+    if world.is_empty(Queue::New) && world.is_empty(Queue::Ready) {
+        let _moved = machine.idle(marks)?;
+    }
+    Ok(())
+}
+
+/// Does by hand what the next turn would begin with: time moves on if no thread can run. A pass after it wakes nobody more.
+fn print_idle(
+    rt: &(impl Print + AllocGlobal),
+    machine: &mut Machine<Errand>,
+    marks: &mut Marks,
+) -> Result<()>
+    requires few { machine.old.turn.steps ≤ MOST_STEPS }
+    requires goes { machine.old.turn.outcome ≡ Outcome.Running }
+    ensures few { OnOk result (machine.new.turn.steps ≤ MOST_STEPS) }
+{
+    if machine.world().running().is_some() {
+        return Ok(());
+    }
+    marks.clear();
+    idle(machine, marks).map_err(|_| AllocError)?;
+    print_marks(rt, marks.as_slice())?;
+    marks.clear();
+    machine.pass(marks).map_err(|_| AllocError)?;
+    let woken = marks.as_slice().len();
+    println!(rt; "at {} a pass wakes {woken}", machine.now())?;
+    Ok(())
+}
+
+/// Four bytes come to descriptor 3 at moment 50.
+fn trace(alloc: Global) -> Result<Trace, OutOfMemory> {
+    let what = Entry::Arrive(Bytes::from_slice(alloc, b"news")?);
+    let mut trace = Trace::new(alloc);
+    trace.push(Stamp {
+        at: 50,
+        fd: Fd(3),
+        what,
+    })?;
+    Ok(trace)
+}
+
+/// A machine under a kernel where a turn takes one microsecond.
+fn machine(alloc: Global) -> Result<Machine<Errand>>
     ensures { IfOk result (λ machine. machine.turn.steps ≡ 0) }
 {
-    let kernel = Kernel::new(alloc, 1, FdSet(0), Trace::new(alloc))?;
-    Machine::new(alloc, Errand, kernel)
+    let trace = trace(alloc).map_err(|_| AllocError)?;
+    ensure!(trace.first_fault(OPEN).is_none(), "a stamp breaks a rule");
+    let kernel = Kernel::new(alloc, 1, OPEN, trace).map_err(|_| AllocError)?;
+    let machine = Machine::new(alloc, Errand, kernel).map_err(|_| AllocError)?;
+    Ok(machine)
 }
 
 fn main(rt: HostRuntime) -> Result<()> {
-    let mut machine = machine(rt.alloc()).map_err(|_| AllocError)?;
+    let mut machine = machine(rt.alloc())?;
     let mut marks = Marks::new(rt.alloc());
     for _ in 0..MOST_TURNS {
         match print_turn(&rt, &mut machine, &mut marks)? {
-            Outcome::Running => {}
+            Outcome::Running => print_idle(&rt, &mut machine, &mut marks)?,
             Outcome::Ended(value) => {
                 println!(rt; "main ended with {value}")?;
                 break;
