@@ -1,10 +1,9 @@
-//! What a thread of a script keeps of an answer.
+//! What a thread of a script keeps of a message, which no call is answered yet.
 
-use crate::comparison::{lines_of, name_of, same_bytes};
+use crate::comparison::same_bytes;
+use crate::lines::lines_of;
 use pth_base::answer::Answer;
-use pth_base::bytes::Bytes;
-use pth_base::errno::Errno;
-use pth_base::ids::{BodyId, FdSet, MsgId, Tid};
+use pth_base::ids::{BodyId, MsgId, Tid};
 use pth_base::mark::Mark;
 use pth_base::marks::Marks;
 use pth_base::memory::OutOfMemory;
@@ -44,64 +43,27 @@ fn is_kept(rt: &impl Abort, alloc: Global, answer: &Answer, wanted: &str) -> Res
     Ok(())
 }
 
-const ANSWERS: [(Answer, &str); 5] = [
+/// Messages, and the calls after them. A number past those of a register stays the greatest.
+static MESSAGES: [(MsgId, &str); 2] = [
     (
-        Answer::Int(-4),
-        "t1 self waits\nt1 note -4 waits\nt1 note 0 waits\nt1 write 0 hex: waits\nt1 reply 0 0 waits\n",
-    ),
-    (
-        Answer::Sets {
-            count: 3,
-            r: FdSet(6),
-            w: FdSet(0),
-            x: FdSet(1),
-        },
-        "t1 self waits\nt1 note 3 waits\nt1 note 0 waits\nt1 write 0 hex: waits\nt1 reply 0 0 waits\n",
-    ),
-    (
-        Answer::Msg {
-            id: MsgId(12),
-            value: -8,
-        },
+        MsgId(12),
         "t1 self waits\nt1 note -8 waits\nt1 note 0 waits\nt1 write 0 hex: waits\nt1 reply 12 0 waits\n",
     ),
     (
-        Answer::Msg {
-            id: MsgId(18446744073709551615),
-            value: -8,
-        },
+        MsgId(18446744073709551615),
         "t1 self waits\nt1 note -8 waits\nt1 note 0 waits\nt1 write 0 hex: waits\nt1 reply 9223372036854775807 0 waits\n",
-    ),
-    (
-        Answer::Fail(Errno::ECONNREFUSED),
-        "t1 self waits\nt1 note -1 waits\nt1 note 111 waits\nt1 write 0 hex: waits\nt1 reply 0 0 waits\n",
     ),
 ];
 
-fn are_kept(rt: &impl Abort, alloc: Global, rows: &[(Answer, &str)]) -> Result<(), Fail> {
-    for (answer, wanted) in rows {
-        is_kept(rt, alloc, answer, wanted)?;
+fn are_kept(rt: &impl Abort, alloc: Global, rows: &[(MsgId, &str)]) -> Result<(), Fail> {
+    for (id, wanted) in rows {
+        let answer = Answer::Msg { id: *id, value: -8 };
+        is_kept(rt, alloc, &answer, wanted)?;
     }
     Ok(())
 }
 
 #[test]
-fn numbers_and_messages_are_kept(rt: HostRuntime) -> Result<(), Fail> {
-    are_kept(&rt, rt.alloc(), &ANSWERS)
-}
-
-#[test]
-fn bytes_are_kept(rt: HostRuntime) -> Result<(), Fail> {
-    let answer = Answer::Bytes(Bytes::from_slice(rt.alloc(), b"cdef")?);
-    let wanted =
-        "t1 self waits\nt1 note 4 waits\nt1 note 0 waits\nt1 write 0 hex:63646566 waits\nt1 reply 0 0 waits\n";
-    is_kept(&rt, rt.alloc(), &answer, wanted)
-}
-
-#[test]
-fn a_name_counts_as_its_length(rt: HostRuntime) -> Result<(), Fail> {
-    let answer = Answer::Text(name_of(&rt, "unknown"));
-    let wanted =
-        "t1 self waits\nt1 note 7 waits\nt1 note 0 waits\nt1 write 0 hex: waits\nt1 reply 0 0 waits\n";
-    is_kept(&rt, rt.alloc(), &answer, wanted)
+fn messages_are_kept(rt: HostRuntime) -> Result<(), Fail> {
+    are_kept(&rt, rt.alloc(), &MESSAGES)
 }

@@ -1,46 +1,19 @@
-//! Tests of parts, which need no machine: texts, words and lines, lists and records, stores, rings, locks and
-//! kernels.
+//! Tests of parts, which need no machine: what no run comes to, and calls that take memory.
 #![tactic(auto)]
 
 #[cfg(test)]
+mod adapters;
+#[cfg(test)]
 mod answers;
 #[cfg(test)]
-mod attempts;
-#[cfg(test)]
-mod attributes;
-#[cfg(test)]
-mod codes;
-#[cfg(test)]
-mod command_line;
+mod checks;
 #[cfg(test)]
 mod comparison;
 #[cfg(test)]
-mod copies;
-#[cfg(test)]
-mod handlers;
-#[cfg(test)]
-mod kernels;
-#[cfg(test)]
 mod lines;
 #[cfg(test)]
-mod locks;
+mod memory;
 #[cfg(test)]
 mod numbered;
 #[cfg(test)]
-mod objects;
-#[cfg(test)]
-mod queue_lists;
-#[cfg(test)]
-mod queue_turns;
-#[cfg(test)]
 mod queues;
-#[cfg(test)]
-mod rings;
-#[cfg(test)]
-mod stores;
-#[cfg(test)]
-mod texts;
-#[cfg(test)]
-mod threads;
-#[cfg(test)]
-mod traces;

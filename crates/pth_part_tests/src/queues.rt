@@ -1,17 +1,80 @@
 //! Queues after changes: the slots of a queue in order, and the nodes of the first slots.
 
-ghost use Rattle.std.specs.Prelude.{◌≤◌};
+ghost use Rattle.std.specs.Prelude.{◌≡◌, ◌≤◌};
 
 use crate::comparison::same_text;
-use crate::queue_turns::{Turn, put, queues_after, slot_number};
 use Turn::{Enter, First, Raise};
 use pth_base::ids::Slot;
+use pth_base::memory::OutOfMemory;
 use pth_queue::node::Node;
 use pth_queue::queue::Queue;
 use pth_queue::queue_set::QueueSet;
 use std::alloc::{AllocError, Global};
 use std::process::Abort;
 use std::test::Fail;
+
+/// What is done to queues. Each change tests first what its call requires.
+#[derive(Clone, Copy)]
+enum Turn {
+    Enter(Queue, i64, u32),
+    First(Queue),
+    Raise(Queue),
+}
+
+/// Enters a slot.
+fn put(rt: &impl Abort, set: &mut QueueSet, queue: Queue, rank: i64, slot: Slot)
+    requires { 8 ≤ set.old.room }
+{
+    assert!(rt; slot.0 < 8);
+    assert!(rt; -10 < rank && rank < 10);
+    assert!(rt; set.queue_of(slot).is_none());
+    set.insert(queue, rank, slot);
+}
+
+fn enter(
+    rt: &impl Abort,
+    set: &mut QueueSet,
+    queue: Queue,
+    rank: i64,
+    slot: u32,
+) -> Result<(), OutOfMemory> {
+    set.reserve(8)?;
+    put(rt, set, queue, rank, Slot(slot));
+    Ok(())
+}
+
+fn raise(rt: &impl Abort, set: &mut QueueSet, queue: Queue) {
+    assert!(rt; set.favour_top(queue) < 100);
+    set.increase(queue);
+}
+
+fn change(rt: &impl Abort, set: &mut QueueSet, turn: Turn) -> Result<(), OutOfMemory> {
+    match turn {
+        Turn::Enter(queue, rank, slot) => enter(rt, set, queue, rank, slot)?,
+        Turn::First(queue) => {
+            let _first = set.delmax(queue);
+        }
+        Turn::Raise(queue) => raise(rt, set, queue),
+    }
+    Ok(())
+}
+
+/// Queues after these changes.
+fn queues_after(rt: &impl Abort, alloc: Global, turns: &[Turn]) -> Result<QueueSet, OutOfMemory> {
+    let mut set = QueueSet::new(alloc);
+    for turn in turns {
+        change(rt, &mut set, *turn)?;
+    }
+    Ok(set)
+}
+
+/// The number of a slot, and -1 for none.
+fn slot_number(slot: Option<Slot>) -> i64 {
+    match slot {
+        Some(slot) => i64::from(slot.0),
+        None => -1,
+    }
+}
 
 fn tell_place(
     text: &mut String,
@@ -25,7 +88,7 @@ fn tell_place(
 }
 
 /// Adds the slots of a queue, each with its rank and place, by a walk from the head; then its tail, and the rank above all.
-pub fn tell_queue(text: &mut String, set: &QueueSet, queue: Queue) -> Result<(), AllocError> {
+fn tell_queue(text: &mut String, set: &QueueSet, queue: Queue) -> Result<(), AllocError> {
     let mut at = set.head(queue);
     for _ in 0..9 {
         let Some(slot) = at else {
@@ -125,41 +188,4 @@ fn stand(rt: &impl Abort, alloc: Global, rows: &[(&[Turn], &str)]) -> Result<(),
 #[test]
 fn nodes_keep_ranks_and_order(rt: HostRuntime) -> Result<(), Fail> {
     stand(&rt, rt.alloc(), &ROWS)
-}
-
-/// Adds the slots of a queue by their list.
-fn tell_slots(
-    alloc: Global,
-    text: &mut String,
-    set: &QueueSet,
-    queue: Queue,
-) -> Result<(), AllocError>
-    requires { set.now.room ≤ 8 }
-{
-    let mut slots = Vec::with_capacity(alloc, 8)?;
-    set.slots(queue, &mut slots);
-    for slot in &slots {
-        write!(text, "{}, ", slot.0)?;
-    }
-    Ok(())
-}
-
-/// Two slots of the ready queue, and what their list tells.
-fn slots_told(rt: &impl Abort, alloc: Global) -> Result<String, Fail> {
-    let mut set = QueueSet::new(alloc);
-    set.reserve(8)?;
-    put(rt, &mut set, Queue::Ready, 1, Slot(5));
-    put(rt, &mut set, Queue::Ready, 3, Slot(2));
-    let mut text = String::new(alloc);
-    tell_slots(alloc, &mut text, &set, Queue::Ready)?;
-    text.push_str("; ")?;
-    tell_slots(alloc, &mut text, &set, Queue::Dead)?;
-    Ok(text)
-}
-
-#[test]
-fn slots_are_listed_in_order(rt: HostRuntime) -> Result<(), Fail> {
-    let told = slots_told(&rt, rt.alloc())?;
-    same_text(&rt, told.as_str(), "2, 5, ; ");
-    Ok(())
 }
