@@ -1,11 +1,12 @@
 -- Calls that a part decides: refused with its error, or answered as its result says.
-use Rattle.std.proofs.Common.{◌≡◌, ◌∙◌, Bool, false, Result, Ok, Err, OnOk, OnErr, refl, sym, ap, subst}
+use Rattle.std.proofs.Common.{◌≡◌, ◌∙◌, ℕ, ℤ, pos, Bool, false, Result, Ok, Err, OnOk, OnErr, refl, sym, ap, subst}
 use Rattle.pth_base.specs.declared.answer.Answer.{Answer}
+use Rattle.pth_base.specs.declared.answer.Answer.TheVariants.{Int}
 use Rattle.pth_base.specs.declared.errno.Errno.{Errno}
-use Rattle.pth_model.specs.Row.{refuses, unless_refused, effect_of, ◌trying◌}
+use Rattle.pth_model.specs.Row.{Row, refuses, unless_refused, effect_of, ◌trying◌, ◌changing◌}
 use Rattle.pth_model.specs.State.{State, Control}
-use Rattle.pth_model.specs.Transition.{Change, changes}
-use Rattle.pth_model.specs.Verdict.{Verdict, Says, by_result}
+use Rattle.pth_model.specs.Transition.{Change, changes, nothing}
+use Rattle.pth_model.specs.Verdict.{Verdict, Says, says, by_result}
 use Rattle.pth_world.specs.Leading.{Changed, IsAnswered}
 use Rattle.pth_world.specs.Shows.{Shows, StandsFor, resources_of}
 use Rattle.pth_world.proofs.Telling.{has_still}
@@ -43,6 +44,13 @@ module _ {P S H A : Type 0} (w v : WorldOf P S H) (say : A → Answer) (r : Stat
       err_at : (s : State P S H) → StandsFor w s → (x : Result A Errno) → OnErr x (v ≡ w) → OnErr x (Shows v s.control)
       err_at s st (Ok x) h = tt
       err_at s st (Err e) h = subst (λ (z : WorldOf P S H). Shows z s.control) (sym h) st.control
+
+-- a call that only says a number
+pub number_said : {P S H : Type 0} (w : WorldOf P S H) (row : State P S H → Row P S H) (n : ℕ) (x : ℤ) → x ≡ pos n → ((s : State P S H) → StandsFor w s → row s ≡ (says n changing nothing)) → IsAnswered w w (Int x) (λ s. (row s).begin)
+number_said {P} {S} {H} w row n x is said = record {
+  verdict = λ s st. ap (λ (r : Row P S H). r.begin.verdict) (said s st) ∙ ap (λ (z : ℤ). Says (Int z)) (sym is);
+  effect = λ s st. subst (λ (r : Row P S H). Changed w (effect_of r.begin s)) (sym (said s st)) (record { shows = st.control; resources = st.resources; silent = refl });
+}
 
 -- what holds of every control that is shown holds of every state
 pub for_states : {P S H A : Type 0} (w v : WorldOf P S H) (q : Result A Errno) (g : Control P S H → Control P S H) → OnOk q ((k : Control P S H) → Shows w k → Shows v (g k)) → OnOk q ((s : State P S H) → StandsFor w s → Shows v (g s.control))

@@ -1,10 +1,12 @@
 -- What single calls leave of a world.
 use Rattle.std.proofs.Common.{◌≡◌, ◌≢◌, ◌∙◌, ◌+◌, ◌≤◌, ℕ, Bool, true, false, Option, Some, Result, Ok, Err, OnOk, OnErr, if◌then◌else◌, refl, ap, sym, subst, arith}
+use Rattle.pth_kernel.specs.Kernel.{KernelOf}
 use Rattle.pth_model.specs.Ending.{other_than}
 use Rattle.pth_ring.specs.Arena.{RingsOf, events_of}
 use Rattle.pth_ring.specs.Rings.{Events}
 use Rattle.pth_threads.specs.Attributes.{AttrsOf}
 use Rattle.pth_world.proofs.Events.{events_frame}
+use Rattle.pth_world.proofs.Kernels.{kernel_whole}
 use Rattle.pth_world.proofs.Moves.{rests_still}
 use Rattle.pth_world.proofs.Ranks.{ranks_none}
 use Rattle.pth_world.proofs.SettingValues.{objects_frame}
@@ -38,12 +40,22 @@ module _ {P S H : Type 0} (w : WorldOf P S H) (whole : Whole w) where
 
   -- the objects changed, or not, and none was made
   pub kept_objects_frame : {A E : Type 0} (y : AttrsOf) (q : Result A E) → OnOk q (y.made ≡ w.attributes.made) → OnErr q (y ≡ w.attributes) → Frame w (record w { attributes = y }) 0 w.scheduler.running false
-  kept_objects_frame y (Ok x) made refused = objects_frame w y 0 whole (let is = made in omega arith)
+  kept_objects_frame y (Ok x) made refused = objects_frame w y 0 whole (let is : y.made ≡ w.attributes.made = made in omega arith)
   kept_objects_frame y (Err e) made refused = objects_frame w y 0 whole (let is = ap (λ (k : AttrsOf). k.made) refused in omega arith)
 
   -- one was made
   pub object_made_frame : (v : WorldOf P S H) → v ≡ record w { attributes = v.attributes } → v.attributes.made ≡ w.attributes.made + 1 → Frame w v 1 w.scheduler.running false
   object_made_frame v same made = subst (λ (z : WorldOf P S H). Frame w z 1 w.scheduler.running false) (sym same) (objects_frame w v.attributes 1 whole (let is = made in omega arith))
+
+-- the kernel changed alone
+pub kernel_frame : {P S H : Type 0} (w : WorldOf P S H) (x : KernelOf) → Whole w → Frame w (record w { kernel = x }) 0 w.scheduler.running false
+kernel_frame w x whole = record {
+  whole = kernel_whole w x whole;
+  runs = refl;
+  made = record { threads = omega arith; objects = omega arith; events = omega arith };
+  ranks = ranks_none w.threads;
+  preferred = refl;
+}
 
 -- new threads are favoured, or not
 pub favoured_frame : {P S H : Type 0} (w v : WorldOf P S H) (on : Bool) → Whole v → v ≡ record w { scheduler = record w.scheduler { favour_new = on } } → Frame w v 0 w.scheduler.running false

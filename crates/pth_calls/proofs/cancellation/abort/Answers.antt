@@ -68,4 +68,4 @@ pub returns-in-Err-clause-frame : goal.returns-in-Err-clause-frame
 returns-in-Err-clause-frame g c = still_frame 0 c.args.w.now _ c.requires.runs c.requires.whole
 
 pub returns-clause-frame : goal.returns-clause-frame
-returns-clause-frame g c = frame_as 0 0 c.args.w.now c.drop_or_abort.new.w _ _ (omega arith) (runs_unless _ c.args.t.0 c.in-Ok.it.0.0 c.args.w.now.scheduler.running c.requires.runs c.in-Ok.ensures.other) c.in_ok-drop_or_abort.ensures.frame
+returns-clause-frame g c = frame_as 0 0 c.args.w.now c.drop_or_abort.new.w _ _ (omega arith) (runs_unless c.in-Ok.it.1 c.args.t.0 c.in-Ok.it.0.0 c.args.w.now.scheduler.running c.requires.runs c.in-Ok.ensures.other) c.in_ok-drop_or_abort.ensures.frame

@@ -7,8 +7,10 @@ use Rattle.pth_calls.proofs.cancellation.drop_or_abort.Goals as goal
 pub returns-then-dead-clause-ok : goal.returns-then-dead-clause-ok
 returns-then-dead-clause-ok g c s st =
     let stored = ap (λ (z : WorldOf _ _ _). z.store) c.remove.ensures.moves.same in
-    let stands = record { control = c.remove.ensures.shows s.control st.control; resources = has_still c.args.w.now c.remove.new.self s stored st.resources } in
-    rw c.if-dead.true (record { stands = stands; tells = sym (append-nil _) })
+    rw c.if-dead.true (record {
+      stands = record { control = c.remove.ensures.shows s.control st.control; resources = has_still c.args.w.now c.remove.new.self s stored st.resources };
+      tells = sym (append-nil _);
+    })
 
 pub returns-then-dead-clause-frame : goal.returns-then-dead-clause-frame
 returns-then-dead-clause-frame g c = rw c.if-dead.true (moved_frame 0 c.args.w.now c.remove.new.self _ _ refl c.remove.ensures.moves)

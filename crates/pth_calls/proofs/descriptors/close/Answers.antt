@@ -1,6 +1,7 @@
 use Rattle.std.proofs.Common.{SFits, w64, to_z-of_z, rules}
 use Rattle.pth_kernel.specs.Kernel.{fd_named}
 use Rattle.pth_calls.proofs.KernelAnswers.{close_answered}
+use Rattle.pth_calls.proofs.Framing.{kernel_frame}
 use Rattle.pth_calls.proofs.descriptors.close.Goals as goal
 
 pub returns-clause-answered : goal.returns-clause-answered
@@ -10,3 +11,6 @@ returns-clause-answered g c =
     let closed = rw (c.kernel_mut.ensures.value, to_z-of_z) at c.close.ensures.closed in
     let refused = rw c.kernel_mut.ensures.value at c.close.ensures.refused in
     close_answered c.args.w.now c.close.new.self (fd_named c.args.f) c.close.result c.done.result c.done.ensures refusal closed refused
+
+pub returns-clause-frame : goal.returns-clause-frame
+returns-clause-frame g c = kernel_frame c.args.w.now c.close.new.self c.requires

@@ -1,5 +1,3 @@
-use Rattle.std.proofs.Common.{refl}
-use Rattle.pth_world.proofs.Frames.{still_frame}
 use Rattle.pth_calls.proofs.Framing.{favoured_frame}
 use Rattle.pth_calls.proofs.library_control.favour_new.Goals as goal
 

@@ -1,10 +1,12 @@
-use Rattle.std.proofs.Common.{◌∙◌, ap, sym}
+use Rattle.std.proofs.Common.{◌∙◌, ap, sym, arith, refl}
 use Rattle.pth_base.specs.declared.errno.Errno.TheVariants.{EINVAL}
 use Rattle.pth_model.specs.Row.{Row}
 use Rattle.pth_world.proofs.Telling.{quiet-refused}
 use Rattle.pth_base.specs.declared.mark.Mark.TheVariants.{Answered}
 use Rattle.pth_end.proofs.Answers.{refused_answered, answered_told, each_told}
 use Rattle.pth_calls.proofs.Plains.{is_of_code, other_facility, unbuilt_row}
+use Rattle.std.proofs.lemmas.Result.{on_ok_weaker}
+use Rattle.pth_world.proofs.Frames.{frame_as, still_frame}
 use Rattle.pth_calls.proofs.plain.answer.Goals as goal
 
 pub returns-in-None-clause-told : goal.returns-in-None-clause-told
@@ -53,3 +55,30 @@ returns-in-Io-clause-told g c = answered_told c.args.w.now c.answer_descriptors.
 
 pub returns-in-Cancellation-clause-told : goal.returns-in-Cancellation-clause-told
 returns-in-Cancellation-clause-told g c = answered_told c.args.w.now c.answer_cancellation.new.w _ _ _ c.answer_cancellation.ensures.quiet c.answer_cancellation.ensures.answered
+
+pub returns-in-None-clause-frame : goal.returns-in-None-clause-frame
+returns-in-None-clause-frame g c = still_frame 1 c.args.w.now _ c.requires.runs c.requires.whole
+
+pub returns-in_default-clause-frame : goal.returns-in_default-clause-frame
+returns-in_default-clause-frame g c = still_frame 1 c.args.w.now _ c.requires.runs c.requires.whole
+
+pub returns-in-Cancellation-clause-frame : goal.returns-in-Cancellation-clause-frame
+returns-in-Cancellation-clause-frame g c = frame_as 0 1 c.args.w.now c.answer_cancellation.new.w _ _ (omega arith) refl c.answer_cancellation.ensures.frame
+
+pub returns-in-Utilities-clause-frame : goal.returns-in-Utilities-clause-frame
+returns-in-Utilities-clause-frame g c = frame_as 0 1 c.args.w.now c.answer_utilities.new.w _ _ (omega arith) c.requires.runs c.answer_utilities.ensures.frame
+
+pub returns-in-Keys-clause-frame : goal.returns-in-Keys-clause-frame
+returns-in-Keys-clause-frame g c = on_ok_weaker c.answer_keys.result (λ told. frame_as 0 1 c.args.w.now c.answer_keys.new.w _ _ (omega arith) refl told) c.answer_keys.ensures.frame
+
+pub returns-in-Cleanups-clause-frame : goal.returns-in-Cleanups-clause-frame
+returns-in-Cleanups-clause-frame g c = on_ok_weaker c.answer_cleanups.result (λ told. frame_as 0 1 c.args.w.now c.answer_cleanups.new.w _ _ (omega arith) refl told) c.answer_cleanups.ensures.frame
+
+pub returns-in-Mutexes-clause-frame : goal.returns-in-Mutexes-clause-frame
+returns-in-Mutexes-clause-frame g c = frame_as 0 1 c.args.w.now c.answer_mutexes.new.w _ _ (omega arith) refl c.answer_mutexes.ensures.frame
+
+pub returns-in-Rwlocks-clause-frame : goal.returns-in-Rwlocks-clause-frame
+returns-in-Rwlocks-clause-frame g c = frame_as 0 1 c.args.w.now c.answer_rwlocks.new.w _ _ (omega arith) refl c.answer_rwlocks.ensures.frame
+
+pub returns-in-Io-clause-frame : goal.returns-in-Io-clause-frame
+returns-in-Io-clause-frame g c = frame_as 0 1 c.args.w.now c.answer_descriptors.new.w _ _ (omega arith) c.requires.runs c.answer_descriptors.ensures.frame

@@ -41,3 +41,13 @@ returns-clause-ok g c s st =
     let effect = (simp to_z-of_z at c.name_next.ensures.effect) s st in
     rw (c.requires.call, yield_begun g.P.Program.functions s c.args.t.0 c.args.to (Int (pos 1)) verdict)
     (changed_leads _ s (effect_of (yield s c.args.t.0 c.args.to).begin) _ _ _ (quiet-yield c.args.t.0 c.args.to) effect (rw c.requires.call at c.in_ok-answer-2.ensures.ok))
+
+pub returns-then-not-name_next-clause-frame : goal.returns-then-not-name_next-clause-frame
+returns-then-not-name_next-clause-frame g c =
+    let isnt : c.name_next.result ≡ false = search rules in
+    rw isnt at c.name_next.ensures.frame
+
+pub returns-clause-frame : goal.returns-clause-frame
+returns-clause-frame g c =
+    let is : c.name_next.result ≡ true = search rules in
+    rw is at c.name_next.ensures.frame

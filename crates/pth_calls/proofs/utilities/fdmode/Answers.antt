@@ -3,6 +3,7 @@ use Rattle.pth_kernel.specs.Kernel.{kernel_of, fd_named}
 use Rattle.pth_kernel.specs.Modes.{mode_answer, sets_mode}
 use Rattle.pth_model.specs.Verdict.{says, by_result}
 use Rattle.pth_calls.proofs.KernelAnswers.{kernel_refuses, error_said}
+use Rattle.pth_calls.proofs.Framing.{kernel_frame}
 use Rattle.pth_calls.proofs.utilities.fdmode.Goals as goal
 
 pub returns-in-Err-clause-answered : goal.returns-in-Err-clause-answered
@@ -12,3 +13,9 @@ returns-in-Err-clause-answered g c =
     let answer = simp (c.kernel_mut.ensures.value, to_z-of_z) at c.in-Err.ensures.answer in
     let refused = rw c.kernel_mut.ensures.value at c.in-Err.ensures.refused in
     kernel_refuses c.args.w.now c.mode.new.self (λ k. by_result says (mode_answer k (fd_named c.args.f) c.args.m)) (sets_mode (fd_named c.args.f) c.args.m) c.in-Err.e (error_said (mode_answer (kernel_of c.args.w.now.kernel) (fd_named c.args.f) c.args.m) c.in-Err.e answer) refused
+
+pub returns-in-Ok-clause-frame : goal.returns-in-Ok-clause-frame
+returns-in-Ok-clause-frame g c = kernel_frame c.args.w.now c.mode.new.self c.requires
+
+pub returns-in-Err-clause-frame : goal.returns-in-Err-clause-frame
+returns-in-Err-clause-frame g c = kernel_frame c.args.w.now c.mode.new.self c.requires
