@@ -16,18 +16,18 @@ use Rattle.pth_script.proofs.Once.{not_both}
 use Rattle.pth_text.specs.declared.rule.Breach.{Breach}
 use Rattle.pth_command.specs.CommandLine.{Asked}
 use Rattle.pth_player.specs.Objects.{AreHeld, ObjectRead, ObjectRose, ObjectStood, Scene, asked_object, content, cut}
-use Rattle.pth_player.specs.Output.{Output, IsRefused, IsTheOutput, IsTheScript, outcome_status, refusal, told_output}
-use Rattle.pth_player.specs.Play.{Completes, DrivesScript, Ends, Faults, HoldsNoScript, IsAtHand, IsFaultStatus, IsOutputStatus, IsRunStatus, IsUnwritten, Plays, Ran, RanFor, ReadsWhole, RefusesInput, RefusesWords, Reports, TellsFault, WritesLine, WritesOutput, WritesWhole}
-use Rattle.pth_player.specs.Streams.{AppendsPart, AppendsPrefix}
+use Rattle.pth_player.specs.Output.{Output, IsRefused, IsTheScript, outcome_status, refusal, told_output}
+use Rattle.pth_player.specs.Play.{Completes, DrivesScript, Ends, Faults, HoldsNoScript, IsAtHand, IsFaultStatus, IsOutputStatus, IsRunStatus, IsUnwritten, Plays, Ran, RanFor, ReadsWhole, RefusesInput, RefusesWords, Reports, TellsFault, TopCall, WritesLine, WritesOutput, WritesPart, WritesPrefix, WritesWhole}
+use Rattle.pth_player.specs.Streams.{AppendsPrefix, Received}
 use Rattle.pth_player.proofs.Outputs.{refused_output, script_output, words_output}
 use Rattle.pth_player.proofs.Pieces.{all_of, none_after, part_is_prefix}
 use Rattle.pth_player.proofs.Reading.{read_stood}
 use Rattle.pth_player.proofs.Results.{always, told}
 
--- a fault other than this one has this status only where memory ran out
-not_status : (f : Fault) (status : ℕ) (old new : Option (List ℕ)) (b n : ℕ) → Reports f status old new b n → (k : ℕ) → k ≢ fault_status f → k ≢ 7 → status ≡ k → ⊥
-not_status f status old new b n (inl h) k other not7 e = other (sym e ∙ h.0)
-not_status f status old new b n (inr h) k other not7 e = not7 (sym e ∙ h.0)
+-- a fault other than this one has this status only if memory ran out
+not_status : (f : Fault) (status : ℕ) (old new : Received) → Reports f status old new → (k : ℕ) → k ≢ fault_status f → k ≢ 7 → status ≡ k → ⊥
+not_status f status old new (inl h) k other not7 e = other (sym e ∙ h.0)
+not_status f status old new (inr h) k other not7 e = not7 (sym e ∙ h.0)
 
 not_outcome : (o : Outcome) (status k : ℕ) → status ≡ outcome_status o → 1 < k → k < 6 → status ≡ k → ⊥
 not_outcome outcomes.Running status k e lo hi h = omega arith
@@ -36,8 +36,8 @@ not_outcome outcomes.Killed status k e lo hi h = omega arith
 not_outcome outcomes.Stalled status k e lo hi h = omega arith
 not_outcome outcomes.OutOfMemory status k e lo hi h = omega arith
 
-not_run : (f : Fault) (status : ℕ) (old new : Option (List ℕ)) (b n : ℕ) → Reports f status old new b n → IsRunStatus status → ⊥
-not_run f status old new b n ends h = grind arith
+not_run : (f : Fault) (status : ℕ) (old new : Received) → Reports f status old new → IsRunStatus status → ⊥
+not_run f status old new ends h = grind arith
 
 not_fault : (o : Outcome) (status : ℕ) → status ≡ outcome_status o → IsFaultStatus status → ⊥
 not_fault outcomes.Running status e h = grind arith
@@ -60,40 +60,38 @@ outcome_or_seven outcomes.OutOfMemory status e = inr e
 not_whole : (status : ℕ) → (status ≡ 4) ⊎ ((status ≡ 5) ⊎ (status ≡ 7)) → IsOutputStatus status → ⊥
 not_whole status is h = grind arith
 
-module _ (old new : Scene) (status : ℕ) (w x : Option (List ℕ)) (b n : ℕ) where
+module _ (old new : Scene) (status : ℕ) (w x : Received) where
+  -- the call, for what its words ask for
+  abbrev of : Option Asked → TopCall
+  of asked = record { asked = asked; old = old; new = new; err_old = w; err_new = x; status = status }
+
   abbrev Nothing : Type 0
   Nothing = (status ≡ 2) ⊎ ((status ≡ 3) ⊎ (status ≡ 4))
 
   not_nothing : Nothing → status ≢ 7
   not_nothing h e = grind arith
 
-  other : (f : Fault) → Reports f status w x b n → (k : ℕ) → k ≢ fault_status f → k ≢ 7 → status ≡ k → ⊥
-  other f = not_status f status w x b n
+  other : (f : Fault) → Reports f status w x → (k : ℕ) → k ≢ fault_status f → k ≢ 7 → status ≡ k → ⊥
+  other f = not_status f status w x
 
   abbrev Refusal : Type 0
   Refusal = (status ≡ 3) ⊎ ((status ≡ 4) ⊎ (status ≡ 7))
 
-  abbrev PartOf : Option Asked → Type 0
-  PartOf asked = (bytes : List ℕ) × AreHeld (content asked old) bytes × (out : Output) × IsTheOutput asked bytes out × AppendsPart old.written new.written out.text
-
-  abbrev BeginningOf : Option Asked → Type 0
-  BeginningOf asked = (bytes : List ℕ) × AreHeld (content asked old) bytes × (out : Output) × IsTheOutput asked bytes out × AppendsPrefix old.written new.written out.text
-
   module _ (asked : Asked) where
     abbrev Whole : Type 0
-    Whole = WritesWhole (Some asked) old new status w x b n
+    Whole = WritesWhole (of (Some asked))
 
     -- the output of a script that stops at this part
     abbrev run_told : Given Sections → ℕ → Output
     run_told g parts = told_output asked (run functions_of g parts)
 
     -- the output of a refused input
-    whole_refused : (line : ℕ) (breach : Breach) → RanFor asked old new (Err (fault.Input line breach)) → (status ≡ fault_status (fault.Input line breach)) × WritesLine w x b n (fault_line (fault.Input line breach)) → Whole
+    whole_refused : (line : ℕ) (breach : Breach) → RanFor asked old new (Err (fault.Input line breach)) → (status ≡ fault_status (fault.Input line breach)) × WritesLine w x (fault_line (fault.Input line breach)) → Whole
     whole_refused line breach ran k =
         let h = ran.1 in
         (h.0, h.1, refusal (fault.Input line breach), refused_output asked h.0 line breach h.2, k.0, ran.2.0, k.1)
 
-    whole_for : (r : Result Outcome Fault) → RanFor asked old new r → Ends r status w x b n → IsOutputStatus status → Whole
+    whole_for : (r : Result Outcome Fault) → RanFor asked old new r → Ends r status w x → IsOutputStatus status → Whole
     whole_for (Ok o) ran ends h =
         let d = ran.1 in
         let out = run_told d.2 d.4.0 in
@@ -107,7 +105,7 @@ module _ (old new : Scene) (status : ℕ) (w x : Option (List ℕ)) (b n : ℕ) 
     whole_for (Err fault.WriteFault) ran ends h = elim ends [ inl k ↦ absurd (not_whole status (inr (inl k.0)) h) | inr k ↦ absurd (not_whole status (inr (inr k.0)) h) ]
     whole_for (Err fault.OutOfMemory) ran ends h = elim ends [ inl k ↦ absurd (not_whole status (inr (inr k.0)) h) | inr k ↦ absurd (not_whole status (inr (inr k.0)) h) ]
 
-    part_for : (r : Result Outcome Fault) → RanFor asked old new r → Ends r status w x b n → status ≡ 5 → PartOf (Some asked)
+    part_for : (r : Result Outcome Fault) → RanFor asked old new r → Ends r status w x → status ≡ 5 → WritesPart (of (Some asked))
     part_for (Ok o) ran ends e = absurd (not_outcome o status 5 ends.0 (omega arith) (omega arith) e)
     part_for (Err fault.Words) ran ends e = absurd ran
     part_for (Err (fault.Input line breach)) ran ends e = absurd (other (fault.Input line breach) ends 5 (λ h. omega arith) (λ h. omega arith) e)
@@ -115,20 +113,20 @@ module _ (old new : Scene) (status : ℕ) (w x : Option (List ℕ)) (b n : ℕ) 
     part_for (Err fault.WriteFault) ran ends e = let d = ran.1 in (d.0, d.1, d.4.0, script_output asked d.0 d.2 d.4.0 d.3 d.4.1, d.4.2)
     part_for (Err fault.OutOfMemory) ran ends e = absurd (other fault.OutOfMemory ends 5 (λ h. omega arith) (λ h. omega arith) e)
 
-    beginning_for : (r : Result Outcome Fault) → RanFor asked old new r → Ends r status w x b n → status ≡ 7 → Appends old.written new.written [] ⊎ BeginningOf (Some asked)
+    beginning_for : (r : Result Outcome Fault) → RanFor asked old new r → Ends r status w x → status ≡ 7 → Appends old.out.written new.out.written [] ⊎ WritesPrefix (of (Some asked))
     beginning_for (Ok o) ran ends e =
         let d = ran.1 in
         let out = run_told d.2 d.4.0 in
-        inr (d.0, d.1, out, script_output asked d.0 d.2 out d.3 (d.4.0, d.4.1, refl), all_of old.written new.written out.text d.4.3)
+        inr (d.0, d.1, out, script_output asked d.0 d.2 out d.3 (d.4.0, d.4.1, refl), all_of old.out.written new.out.written out.text d.4.3)
     beginning_for (Err fault.Words) ran ends e = absurd ran
     beginning_for (Err (fault.Input line breach)) ran ends e = inl ran.2.0
     beginning_for (Err fault.ReadFault) ran ends e = inl ran.1.0
     beginning_for (Err fault.WriteFault) ran ends e =
         let d = ran.1 in
-        inr (d.0, d.1, d.4.0, script_output asked d.0 d.2 d.4.0 d.3 d.4.1, part_is_prefix old.written new.written d.4.0.text d.4.2)
+        inr (d.0, d.1, d.4.0, script_output asked d.0 d.2 d.4.0 d.3 d.4.1, part_is_prefix old.out.written new.out.written d.4.0.text d.4.2)
     beginning_for (Err fault.OutOfMemory) ran ends e = elim ran.1 [ inl none ↦ inl none.0 | inr d ↦ inr (d.0, d.1, d.4.0, script_output asked d.0 d.2 d.4.0 d.3 d.4.1, d.4.2) ]
 
-    nothing_for : (r : Result Outcome Fault) → RanFor asked old new r → Ends r status w x b n → Nothing → IsUnwritten old new
+    nothing_for : (r : Result Outcome Fault) → RanFor asked old new r → Ends r status w x → Nothing → IsUnwritten old.out new.out
     nothing_for (Ok o) ran ends h = absurd (not_fault o status ends.0 (elim h [ inl two ↦ inl two | inr k ↦ elim k [ inl three ↦ inr (inl three) | inr four ↦ inr (inr (inl four)) ] ]))
     nothing_for (Err fault.Words) ran ends h = absurd ran
     nothing_for (Err (fault.Input line breach)) ran ends h = ran.2
@@ -136,7 +134,7 @@ module _ (old new : Scene) (status : ℕ) (w x : Option (List ℕ)) (b n : ℕ) 
     nothing_for (Err fault.WriteFault) ran ends h = grind arith
     nothing_for (Err fault.OutOfMemory) ran ends h = grind arith
 
-    read_counts : (r : Result Outcome Fault) → RanFor asked old new r → Ends r status w x b n
+    read_counts : (r : Result Outcome Fault) → RanFor asked old new r → Ends r status w x
         → ObjectStood (asked_object (Some asked)) old.ins new.ins ⊎ (ObjectRose (asked_object (Some asked)) old.ins new.ins × ((status ≡ 4) ⊎ (status ≡ 7)))
     read_counts (Ok o) ran ends = inl (read_stood (asked_object (Some asked)) old.ins new.ins ran.0)
     read_counts (Err fault.Words) ran ends = absurd ran
@@ -145,8 +143,8 @@ module _ (old new : Scene) (status : ℕ) (w x : Option (List ℕ)) (b n : ℕ) 
     read_counts (Err fault.WriteFault) ran ends = inl (read_stood (asked_object (Some asked)) old.ins new.ins ran.0)
     read_counts (Err fault.OutOfMemory) ran ends = inl ran.0
 
-    written_counts : (r : Result Outcome Fault) → RanFor asked old new r → Ends r status w x b n
-        → (new.out_faults ≡ old.out_faults) ⊎ (Rose old.out_faults new.out_faults × ((status ≡ 5) ⊎ (status ≡ 7)))
+    written_counts : (r : Result Outcome Fault) → RanFor asked old new r → Ends r status w x
+        → (new.out.faults ≡ old.out.faults) ⊎ (Rose old.out.faults new.out.faults × ((status ≡ 5) ⊎ (status ≡ 7)))
     written_counts (Ok o) ran ends = inl ran.1.4.4
     written_counts (Err fault.Words) ran ends = absurd ran
     written_counts (Err (fault.Input line breach)) ran ends = inl ran.2.1
@@ -154,8 +152,8 @@ module _ (old new : Scene) (status : ℕ) (w x : Option (List ℕ)) (b n : ℕ) 
     written_counts (Err fault.WriteFault) ran ends = inr (ran.1.4.3, elim ends [ inl k ↦ inl k.0 | inr k ↦ inr k.0 ])
     written_counts (Err fault.OutOfMemory) ran ends = elim ran.1 [ inl none ↦ inl none.1 | inr d ↦ inl d.4.3 ]
 
-    completes_for : (r : Result Outcome Fault) → RanFor asked old new r → Ends r status w x b n → (ObjectRose (asked_object (Some asked)) old.ins new.ins → ⊥)
-        → (Rose old.out_faults new.out_faults → ⊥) → IsOutputStatus status ⊎ (status ≡ 7)
+    completes_for : (r : Result Outcome Fault) → RanFor asked old new r → Ends r status w x → (ObjectRose (asked_object (Some asked)) old.ins new.ins → ⊥)
+        → (Rose old.out.faults new.out.faults → ⊥) → IsOutputStatus status ⊎ (status ≡ 7)
     completes_for (Ok o) ran ends read write = outcome_or_seven o status ends.0
     completes_for (Err fault.Words) ran ends read write = absurd ran
     completes_for (Err (fault.Input line breach)) ran ends read write = elim ends [ inl k ↦ inl (inr (inr k.0)) | inr k ↦ inr k.0 ]
@@ -178,7 +176,7 @@ module _ (old new : Scene) (status : ℕ) (w x : Option (List ℕ)) (b n : ℕ) 
     accepted_with : (r : Result Outcome SinkErr) → DrivesScript asked old new r → IfSome Told (λ bytes. IsRefused (cut bytes) → Refusal)
     accepted_with r d = told (λ xs. IsRefused (cut xs) → ⊥) (λ xs. IsRefused (cut xs) → Refusal) Told (λ xs no refused. absurd (no refused)) (not_refused d.0 d.2 d.1 d.3)
 
-    refuses_for : (r : Result Outcome Fault) → RanFor asked old new r → Ends r status w x b n → IfSome Told (λ bytes. IsRefused (cut bytes) → Refusal)
+    refuses_for : (r : Result Outcome Fault) → RanFor asked old new r → Ends r status w x → IfSome Told (λ bytes. IsRefused (cut bytes) → Refusal)
     refuses_for (Ok o) ran ends = accepted_with (Ok o) ran.1
     refuses_for (Err fault.Words) ran ends = absurd ran
     refuses_for (Err (fault.Input line breach)) ran ends = refused_with (elim ends [ inl k ↦ inl k.0 | inr k ↦ inr (inr k.0) ])
@@ -186,7 +184,7 @@ module _ (old new : Scene) (status : ℕ) (w x : Option (List ℕ)) (b n : ℕ) 
     refuses_for (Err fault.WriteFault) ran ends = accepted_with (Err sink.Failed) ran.1
     refuses_for (Err fault.OutOfMemory) ran ends = refused_with (elim ends [ inl k ↦ inr (inr k.0) | inr k ↦ inr (inr k.0) ])
 
-    holds_none : (r : Result Outcome Fault) → RanFor asked old new r → Ends r status w x b n → status ≡ 3 → HoldsNoScript (Some asked) old
+    holds_none : (r : Result Outcome Fault) → RanFor asked old new r → Ends r status w x → status ≡ 3 → HoldsNoScript (Some asked) old
     holds_none (Ok o) ran ends e = absurd (not_outcome o status 3 ends.0 (omega arith) (omega arith) e)
     holds_none (Err fault.Words) ran ends e = absurd ran
     holds_none (Err (fault.Input line breach)) ran ends e = (ran.1.0, ran.1.1, (line, breach, ran.1.2))
@@ -196,7 +194,7 @@ module _ (old new : Scene) (status : ℕ) (w x : Option (List ℕ)) (b n : ℕ) 
 
     -- ---- the object that is read
 
-    read_for : (r : Result Outcome Fault) → RanFor asked old new r → Ends r status w x b n → status ≢ 4 → status ≢ 7 → ObjectRead (asked_object (Some asked)) old.ins new.ins
+    read_for : (r : Result Outcome Fault) → RanFor asked old new r → Ends r status w x → status ≢ 4 → status ≢ 7 → ObjectRead (asked_object (Some asked)) old.ins new.ins
     read_for (Ok o) ran ends not4 not7 = ran.0
     read_for (Err fault.Words) ran ends not4 not7 = absurd ran
     read_for (Err (fault.Input line breach)) ran ends not4 not7 = ran.0
@@ -204,7 +202,7 @@ module _ (old new : Scene) (status : ℕ) (w x : Option (List ℕ)) (b n : ℕ) 
     read_for (Err fault.WriteFault) ran ends not4 not7 = ran.0
     read_for (Err fault.OutOfMemory) ran ends not4 not7 = elim ends [ inl k ↦ absurd (not7 k.0) | inr k ↦ absurd (not7 k.0) ]
 
-    fails_for : (r : Result Outcome Fault) → RanFor asked old new r → Ends r status w x b n → status ≡ 4 → ObjectRose (asked_object (Some asked)) old.ins new.ins
+    fails_for : (r : Result Outcome Fault) → RanFor asked old new r → Ends r status w x → status ≡ 4 → ObjectRose (asked_object (Some asked)) old.ins new.ins
     fails_for (Ok o) ran ends e = absurd (not_outcome o status 4 ends.0 (omega arith) (omega arith) e)
     fails_for (Err fault.Words) ran ends e = absurd ran
     fails_for (Err (fault.Input line breach)) ran ends e = absurd (other (fault.Input line breach) ends 4 (λ h. omega arith) (λ h. omega arith) e)
@@ -212,7 +210,7 @@ module _ (old new : Scene) (status : ℕ) (w x : Option (List ℕ)) (b n : ℕ) 
     fails_for (Err fault.WriteFault) ran ends e = absurd (other fault.WriteFault ends 4 (λ h. omega arith) (λ h. omega arith) e)
     fails_for (Err fault.OutOfMemory) ran ends e = absurd (other fault.OutOfMemory ends 4 (λ h. omega arith) (λ h. omega arith) e)
 
-    write_fails_for : (r : Result Outcome Fault) → RanFor asked old new r → Ends r status w x b n → status ≡ 5 → Rose old.out_faults new.out_faults
+    write_fails_for : (r : Result Outcome Fault) → RanFor asked old new r → Ends r status w x → status ≡ 5 → Rose old.out.faults new.out.faults
     write_fails_for (Ok o) ran ends e = absurd (not_outcome o status 5 ends.0 (omega arith) (omega arith) e)
     write_fails_for (Err fault.Words) ran ends e = absurd ran
     write_fails_for (Err (fault.Input line breach)) ran ends e = absurd (other (fault.Input line breach) ends 5 (λ h. omega arith) (λ h. omega arith) e)
@@ -220,7 +218,7 @@ module _ (old new : Scene) (status : ℕ) (w x : Option (List ℕ)) (b n : ℕ) 
     write_fails_for (Err fault.WriteFault) ran ends e = ran.1.4.3
     write_fails_for (Err fault.OutOfMemory) ran ends e = absurd (other fault.OutOfMemory ends 5 (λ h. omega arith) (λ h. omega arith) e)
 
-    two_for : (r : Result Outcome Fault) → RanFor asked old new r → Ends r status w x b n → status ≡ 2 → ⊥
+    two_for : (r : Result Outcome Fault) → RanFor asked old new r → Ends r status w x → status ≡ 2 → ⊥
     two_for (Ok o) ran ends e = not_outcome o status 2 ends.0 (omega arith) (omega arith) e
     two_for (Err fault.Words) ran ends e = ran
     two_for (Err (fault.Input line breach)) ran ends e = other (fault.Input line breach) ends 2 (λ h. omega arith) (λ h. omega arith) e
@@ -230,8 +228,8 @@ module _ (old new : Scene) (status : ℕ) (w x : Option (List ℕ)) (b n : ℕ) 
 
   -- ---- words that are refused: their fault, or want of memory, with nothing written
 
-  refused_or_memory : (r : Result Outcome Fault) → Ran None old new r → Ends r status w x b n
-      → ((r ≡ Err fault.Words) × (status ≡ 2) × WritesLine w x b n (fault_line fault.Words)) ⊎ (status ≡ 7)
+  refused_or_memory : (r : Result Outcome Fault) → Ran None old new r → Ends r status w x
+      → ((r ≡ Err fault.Words) × (status ≡ 2) × WritesLine w x (fault_line fault.Words)) ⊎ (status ≡ 7)
   refused_or_memory (Ok o) ran ends = absurd ran
   refused_or_memory (Err fault.Words) ran ends = elim ends [ inl k ↦ inl (refl, k.0, k.1) | inr k ↦ inr k.0 ]
   refused_or_memory (Err (fault.Input line breach)) ran ends = absurd ran
@@ -239,7 +237,7 @@ module _ (old new : Scene) (status : ℕ) (w x : Option (List ℕ)) (b n : ℕ) 
   refused_or_memory (Err fault.WriteFault) ran ends = absurd ran
   refused_or_memory (Err fault.OutOfMemory) ran ends = elim ends [ inl k ↦ inr k.0 | inr k ↦ inr k.0 ]
 
-  none_unwritten : (r : Result Outcome Fault) → Ran None old new r → IsUnwritten old new
+  none_unwritten : (r : Result Outcome Fault) → Ran None old new r → IsUnwritten old.out new.out
   none_unwritten (Ok o) ran = absurd ran
   none_unwritten (Err fault.Words) ran = ran
   none_unwritten (Err (fault.Input line breach)) ran = absurd ran
@@ -247,12 +245,12 @@ module _ (old new : Scene) (status : ℕ) (w x : Option (List ℕ)) (b n : ℕ) 
   none_unwritten (Err fault.WriteFault) ran = absurd ran
   none_unwritten (Err fault.OutOfMemory) ran = ran
 
-  not_refused_words : (r : Result Outcome Fault) → Ran None old new r → Ends r status w x b n → status ≢ 2 → status ≢ 7 → ⊥
+  not_refused_words : (r : Result Outcome Fault) → Ran None old new r → Ends r status w x → status ≢ 2 → status ≢ 7 → ⊥
   not_refused_words r ran ends not2 not7 = elim (refused_or_memory r ran ends) [ inl k ↦ not2 k.1 | inr k ↦ not7 k ]
 
   -- ---- the clauses
 
-  writes_output : (asked : Option Asked) (r : Result Outcome Fault) → Ran asked old new r → Ends r status w x b n → WritesOutput asked old new status w x b n
+  writes_output : (asked : Option Asked) (r : Result Outcome Fault) → Ran asked old new r → Ends r status w x → WritesOutput (of asked)
   writes_output (Some asked) r ran ends = record {
     whole = whole_for asked r ran ends;
     part = part_for asked r ran ends;
@@ -269,7 +267,7 @@ module _ (old new : Scene) (status : ℕ) (w x : Option (List ℕ)) (b n : ℕ) 
     nothing = λ h. none_unwritten r ran;
   }
 
-  completes : (asked : Option Asked) (r : Result Outcome Fault) → Ran asked old new r → Ends r status w x b n → Completes asked old new status w x b n
+  completes : (asked : Option Asked) (r : Result Outcome Fault) → Ran asked old new r → Ends r status w x → Completes (of asked)
   completes (Some asked) r ran ends = record {
     whole = λ read write. elim (completes_for asked r ran ends read write) [ inl out ↦ inl (whole_for asked r ran ends out) | inr seven ↦ inr seven ];
     read = read_counts asked r ran ends;
@@ -281,22 +279,22 @@ module _ (old new : Scene) (status : ℕ) (w x : Option (List ℕ)) (b n : ℕ) 
     written = inl (none_unwritten r ran).1;
   }
 
-  reads_whole : (asked : Option Asked) (r : Result Outcome Fault) → Ran asked old new r → Ends r status w x b n → ReadsWhole asked old new status
+  reads_whole : (asked : Option Asked) (r : Result Outcome Fault) → Ran asked old new r → Ends r status w x → ReadsWhole (of asked)
   reads_whole (Some asked) r ran ends not4 not7 = read_for asked r ran ends not4 not7
   reads_whole None r ran ends not4 not7 = tt
 
-  refuses_words : (asked : Option Asked) (r : Result Outcome Fault) → Ran asked old new r → Ends r status w x b n → RefusesWords asked status
+  refuses_words : (asked : Option Asked) (r : Result Outcome Fault) → Ran asked old new r → Ends r status w x → RefusesWords (of asked)
   refuses_words (Some asked) r ran ends = record { only = λ e. absurd (two_for asked r ran ends e); always = λ e. absurd (cc) }
   refuses_words None r ran ends = record { only = λ e. refl; always = λ e. elim (refused_or_memory r ran ends) [ inl k ↦ inl k.1 | inr seven ↦ inr seven ] }
 
   some_is : (asked : Asked) → Some asked ≢ None
   some_is asked e = cc
 
-  refuses_input : (asked : Option Asked) (r : Result Outcome Fault) → Ran asked old new r → Ends r status w x b n → RefusesInput asked old status
+  refuses_input : (asked : Option Asked) (r : Result Outcome Fault) → Ran asked old new r → Ends r status w x → RefusesInput (of asked)
   refuses_input (Some asked) r ran ends = record { only = λ e. (some_is asked, holds_none asked r ran ends e); always = λ some. refuses_for asked r ran ends }
   refuses_input None r ran ends = record { only = λ e. absurd (not_refused_words r ran ends (λ two. omega arith) (λ seven. omega arith)); always = λ some. absurd (some refl) }
 
-  fails : (asked : Option Asked) (r : Result Outcome Fault) → Ran asked old new r → Ends r status w x b n → Faults asked old new status
+  fails : (asked : Option Asked) (r : Result Outcome Fault) → Ran asked old new r → Ends r status w x → Faults (of asked)
   fails (Some asked) r ran ends = record { read = λ e. (some_is asked, fails_for asked r ran ends e); write = write_fails_for asked r ran ends }
   fails None r ran ends = record {
     read = λ e. absurd (not_refused_words r ran ends (λ two. omega arith) (λ seven. omega arith));
@@ -309,45 +307,50 @@ ran_out old new None o ran = absurd ran
 ran_out old new (Some asked) o ran =
     let d = ran.1 in
     let out = told_output asked (run functions_of d.2 d.4.0) in
-    (read_stood (asked_object (Some asked)) old.ins new.ins ran.0, inr (d.0, d.1, d.2, d.3, (out, (d.4.0, d.4.1, refl), all_of old.written new.written out.text d.4.3, d.4.4)))
+    (read_stood (asked_object (Some asked)) old.ins new.ins ran.0, inr (d.0, d.1, d.2, d.3, (out, (d.4.0, d.4.1, refl), all_of old.out.written new.out.written out.text d.4.3, d.4.4)))
 
 -- ---- what `err` received
 
-module _ (old new : Scene) (asked : Option Asked) (status : ℕ) (w x : Option (List ℕ)) (b n : ℕ) where
-  at_hand : (f : Fault) → Ran asked old new (Err f) → IsAtHand asked old new f
-  at_hand f ran = ran
-
-  quiet : (r : Result Outcome Fault) → Ends r status w x b n → IsRunStatus status → Appends w x [] × (n ≡ b)
+module _ (call : TopCall) where
+  quiet : (r : Result Outcome Fault) → Ends r call.status call.err_old call.err_new → IsRunStatus call.status → IsUnwritten call.err_old call.err_new
   quiet (Ok o) ends h = ends.1
-  quiet (Err f) ends h = absurd (not_run f status w x b n ends h)
+  quiet (Err f) ends h = absurd (not_run f call.status call.err_old call.err_new ends h)
 
-  loud : (r : Result Outcome Fault) → Ran asked old new r → Ends r status w x b n → IsFaultStatus status
-      → (f : Fault) × IsAtHand asked old new f × (status ≡ fault_status f) × WritesLine w x b n (fault_line f)
-  loud (Ok o) ran ends h = absurd (not_fault o status ends.0 h)
-  loud (Err f) ran ends h = elim ends [ inl k ↦ (f, at_hand f ran, k.0, k.1) | inr k ↦ absurd (not_seven status h k.0) ]
+  loud : (r : Result Outcome Fault) → Ran call.asked call.old call.new r → Ends r call.status call.err_old call.err_new → IsFaultStatus call.status
+      → (f : Fault) × IsAtHand call f × (call.status ≡ fault_status f) × WritesLine call.err_old call.err_new (fault_line f)
+  loud (Ok o) ran ends h = absurd (not_fault o call.status ends.0 h)
+  loud (Err f) ran ends h = elim ends [ inl k ↦ (f, ran, k.0, k.1) | inr k ↦ absurd (not_seven call.status h k.0) ]
 
-  memory : (r : Result Outcome Fault) → Ran asked old new r → Ends r status w x b n → status ≡ 7 → (f : Fault) × IsAtHand asked old new f × AppendsPrefix w x (fault_line f)
-  memory (Ok o) ran ends h = (fault.OutOfMemory, at_hand fault.OutOfMemory (ran_out old new asked o ran), none_after w x (fault_line fault.OutOfMemory) ends.1.0)
+  memory : (r : Result Outcome Fault) → Ran call.asked call.old call.new r → Ends r call.status call.err_old call.err_new → call.status ≡ 7
+      → (f : Fault) × IsAtHand call f × AppendsPrefix call.err_old.written call.err_new.written (fault_line f)
+  memory (Ok o) ran ends h = (
+    fault.OutOfMemory,
+    ran_out call.old call.new call.asked o ran,
+    none_after call.err_old.written call.err_new.written (fault_line fault.OutOfMemory) ends.1.0,
+  )
   memory (Err f) ran ends h = (
     f,
-    at_hand f ran,
+    ran,
     elim ends [
-      | inl k ↦ elim k.1 [ inl p ↦ all_of w x (fault_line f) p.0 | inr p ↦ part_is_prefix w x (fault_line f) p.0 ]
+      | inl k ↦ elim k.1 [
+        | inl p ↦ all_of call.err_old.written call.err_new.written (fault_line f) p.0
+        | inr p ↦ part_is_prefix call.err_old.written call.err_new.written (fault_line f) p.0
+      ]
       | inr k ↦ k.1.0
     ],
   )
 
-  tells_fault : (r : Result Outcome Fault) → Ran asked old new r → Ends r status w x b n → TellsFault asked old new status w x b n
+  tells_fault : (r : Result Outcome Fault) → Ran call.asked call.old call.new r → Ends r call.status call.err_old call.err_new → TellsFault call
   tells_fault r ran ends = record { quiet = quiet r ends; loud = loud r ran ends; memory = memory r ran ends }
 
--- what the call did
-pub plays : (old new : Scene) (status : ℕ) (w x : Option (List ℕ)) (b n : ℕ) (asked : Option Asked) (r : Result Outcome Fault) → Ran asked old new r → Ends r status w x b n → Plays asked old new status w x b n
-plays old new status w x b n asked r ran ends = record {
-  reads_whole = reads_whole old new status w x b n asked r ran ends;
-  refuses_words = refuses_words old new status w x b n asked r ran ends;
-  refuses_input = refuses_input old new status w x b n asked r ran ends;
-  faults = fails old new status w x b n asked r ran ends;
-  writes_output = writes_output old new status w x b n asked r ran ends;
-  completes = completes old new status w x b n asked r ran ends;
-  fault_line = tells_fault old new asked status w x b n r ran ends;
-}
+  -- what the call did
+  pub plays : (r : Result Outcome Fault) → Ran call.asked call.old call.new r → Ends r call.status call.err_old call.err_new → Plays call
+  plays r ran ends = record {
+    reads_whole = reads_whole call.old call.new call.status call.err_old call.err_new call.asked r ran ends;
+    refuses_words = refuses_words call.old call.new call.status call.err_old call.err_new call.asked r ran ends;
+    refuses_input = refuses_input call.old call.new call.status call.err_old call.err_new call.asked r ran ends;
+    faults = fails call.old call.new call.status call.err_old call.err_new call.asked r ran ends;
+    writes_output = writes_output call.old call.new call.status call.err_old call.err_new call.asked r ran ends;
+    completes = completes call.old call.new call.status call.err_old call.err_new call.asked r ran ends;
+    fault_line = tells_fault r ran ends;
+  }

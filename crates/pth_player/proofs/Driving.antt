@@ -26,7 +26,7 @@ use Rattle.pth_threads.specs.Threads.{number_of}
 use Rattle.pth_command.specs.CommandLine.{Asked}
 use Rattle.pth_player.specs.Drive.{Drives}
 use Rattle.pth_player.specs.Output.{Output, IsRunOutput, told_output}
-use Rattle.pth_player.specs.Streams.{AppendsPart, AppendsPrefix}
+use Rattle.pth_player.specs.Streams.{AppendsPart, AppendsPrefix, received}
 use Rattle.pth_player.specs.Transcript.{WritesPiece, counts_of, ending_of, last_line, lines_of, shown_of}
 use Rattle.pth_player.proofs.Beginnings.{run_begins, shown_more, text_parts}
 use Rattle.pth_player.proofs.Results.{err_is}
@@ -202,8 +202,8 @@ module _ {P S H : Type 0} (f : P → Functions S H) (g : Given P) (asked : Asked
 
     -- memory ended before the last marks were written
     pub cut_by_memory : (pending : List Mark) (i j : ℕ) (r : Result Outcome SinkErr) → Underway m a b pending → j ≡ i → IsErr r → IsErrAnd r (λ e. e ≡ sink.OutOfMemory)
-        → Drives f g asked a b i j r
-    cut_by_memory pending i j r u stood h k = subst (Drives f g asked a b i j) (sym (err_is r sink.OutOfMemory h k)) (
+        → Drives f g asked (received a i) (received b j) r
+    cut_by_memory pending i j r u stood h k = subst (Drives f g asked (received a i) (received b j)) (sym (err_is r sink.OutOfMemory h k)) (
       whole,
       whole_is,
       let t = goes_further pending u in subst (AppendsPrefix a b) t.1 (prefix_then a b b (shown_of asked u.done) (shown_of asked pending) t.0 u.written (none_of b (shown_of asked pending))),
@@ -211,7 +211,7 @@ module _ {P S H : Type 0} (f : P → Functions S H) (g : Given P) (asked : Asked
     )
 
     module _ (c : Option (List ℕ)) (i j k : ℕ) where
-      cut_in_lines_by : (pending : List Mark) (x : SinkErr) → Underway m a b pending → j ≡ i → WritesPiece b c j k (shown_of asked pending) (Err x) → Drives f g asked a c i k (Err x)
+      cut_in_lines_by : (pending : List Mark) (x : SinkErr) → Underway m a b pending → j ≡ i → WritesPiece (received b j) (received c k) (shown_of asked pending) (Err x) → Drives f g asked (received a i) (received c k) (Err x)
       cut_in_lines_by pending sink.Failed u stood w = (
         whole,
         whole_is,
@@ -226,13 +226,13 @@ module _ {P S H : Type 0} (f : P → Functions S H) (g : Given P) (asked : Asked
       )
 
       -- the lines of the last marks were not written whole
-      pub cut_in_lines : (pending : List Mark) (x : SinkErr) (r : Result Outcome SinkErr) → Underway m a b pending → j ≡ i → WritesPiece b c j k (shown_of asked pending) (Err x)
-          → IsErr r → IsErrAnd r (λ e. e ≡ x) → Drives f g asked a c i k r
-      cut_in_lines pending x r u stood w is e = subst (Drives f g asked a c i k) (sym (err_is r x is e)) (cut_in_lines_by pending x u stood w)
+      pub cut_in_lines : (pending : List Mark) (x : SinkErr) (r : Result Outcome SinkErr) → Underway m a b pending → j ≡ i → WritesPiece (received b j) (received c k) (shown_of asked pending) (Err x)
+          → IsErr r → IsErrAnd r (λ e. e ≡ x) → Drives f g asked (received a i) (received c k) r
+      cut_in_lines pending x r u stood w is e = subst (Drives f g asked (received a i) (received c k)) (sym (err_is r x is e)) (cut_in_lines_by pending x u stood w)
 
       -- at the end, where what is written last is that of the state
       module _ (o : Outcome) (r : Result (Unit {0}) SinkErr) (s : Stopped asked.steps m a b []) (is : o ≡ m.turn.outcome)
-          (writes : (t : Course P S H) → Stands m t → WritesPiece b c j k (ending_of asked t) r) where
+          (writes : (t : Course P S H) → Stands m t → WritesPiece (received b j) (received c k) (ending_of asked t) r) where
         abbrev last : Course P S H
         last = (run f g s.0.at)
 
@@ -255,7 +255,7 @@ module _ {P S H : Type 0} (f : P → Functions S H) (g : Given P) (asked : Asked
         cut_is : shown_of asked s.0.done ++ (ending_of asked last ++ []) ≡ out.text
         cut_is = ap (λ (l : List ℕ). shown_of asked s.0.done ++ l) (append-nil (ending_of asked last)) ∙ text_is
 
-        cut_in_end_by : (x : SinkErr) → j ≡ i → WritesPiece b c j k (ending_of asked last) (Err x) → Drives f g asked a c i k (Err x)
+        cut_in_end_by : (x : SinkErr) → j ≡ i → WritesPiece (received b j) (received c k) (ending_of asked last) (Err x) → Drives f g asked (received a i) (received c k) (Err x)
         cut_in_end_by sink.Failed stood w = (
           out,
           out_is,
@@ -270,14 +270,14 @@ module _ {P S H : Type 0} (f : P → Functions S H) (g : Given P) (asked : Asked
         )
 
         -- the end was not written whole
-        pub cut_in_end : (x : SinkErr) (d : Result Outcome SinkErr) → j ≡ i → r ≡ Err x → IsErr d → IsErrAnd d (λ e. e ≡ x) → Drives f g asked a c i k d
+        pub cut_in_end : (x : SinkErr) (d : Result Outcome SinkErr) → j ≡ i → r ≡ Err x → IsErr d → IsErrAnd d (λ e. e ≡ x) → Drives f g asked (received a i) (received c k) d
         cut_in_end x d stood w h e =
-            subst (Drives f g asked a c i k) (sym (err_is d x h e)) (cut_in_end_by x stood (subst (WritesPiece b c j k (ending_of asked last)) w (writes last s.0.stands)))
+            subst (Drives f g asked (received a i) (received c k)) (sym (err_is d x h e)) (cut_in_end_by x stood (subst (WritesPiece (received b j) (received c k) (ending_of asked last)) w (writes last s.0.stands)))
 
         -- all was written
-        pub finished : (x : Unit {0}) → j ≡ i → r ≡ Ok x → Drives f g asked a c i k (Ok o)
+        pub finished : (x : Unit {0}) → j ≡ i → r ≡ Ok x → Drives f g asked (received a i) (received c k) (Ok o)
         finished x stood w =
-            let wrote = subst (WritesPiece b c j k (ending_of asked last)) w (writes last s.0.stands) in (
+            let wrote = subst (WritesPiece (received b j) (received c k) (ending_of asked last)) w (writes last s.0.stands) in (
               s.0.at,
               here,
               outcome_is,
@@ -286,22 +286,22 @@ module _ {P S H : Type 0} (f : P → Functions S H) (g : Given P) (asked : Asked
             )
 
 -- memory ran out before a piece was written
-pub cut_before : (a : Option (List ℕ)) (f : ℕ) (text : List ℕ) (r : Result (Unit {0}) SinkErr) → IsErr r → IsErrAnd r (λ e. e ≡ sink.OutOfMemory) → WritesPiece a a f f text r
-cut_before a f text r h k = subst (WritesPiece a a f f text) (sym (err_is r sink.OutOfMemory h k)) (none_of a text, refl)
+pub cut_before : (a : Option (List ℕ)) (f : ℕ) (text : List ℕ) (r : Result (Unit {0}) SinkErr) → IsErr r → IsErrAnd r (λ e. e ≡ sink.OutOfMemory) → WritesPiece (received a f) (received a f) text r
+cut_before a f text r h k = subst (WritesPiece (received a f) (received a f) text) (sym (err_is r sink.OutOfMemory h k)) (none_of a text, refl)
 
 -- as many steps as were asked for are made, and are left
 pub still_left : (made now left n total : ℕ) → now ≡ made + n → made + left ≡ total → n ≤ left → now + (left - n) ≡ total
 still_left made now left n total a b few = omega arith
 
-piece_by : (a b : Option (List ℕ)) (f g : ℕ) (text : List ℕ) (r : Result (Unit {0}) SinkErr) → OnOk r (Appends a b text) → OnErr r (AppendsPart a b text) → CountsSink f g r → WritesPiece a b f g text r
+piece_by : (a b : Option (List ℕ)) (f g : ℕ) (text : List ℕ) (r : Result (Unit {0}) SinkErr) → OnOk r (Appends a b text) → OnErr r (AppendsPart a b text) → CountsSink f g r → WritesPiece (received a f) (received b g) text r
 piece_by a b f g text (Ok x) all part counts = (all, counts)
 piece_by a b f g text (Err sink.Failed) all part counts = (part, counts)
 piece_by a b f g text (Err sink.OutOfMemory) all part counts = (part_is_prefix a b text part, counts)
 
 -- what is written of these bytes is written of the text that they are
 pub piece_of : (a b : Option (List ℕ)) (f g : ℕ) (text : List ℕ) (r : Result (Unit {0}) SinkErr) {bytes : List ℕ} → bytes ≡ text → OnOk r (Appends a b bytes) → OnErr r (AppendsPart a b bytes)
-    → CountsSink f g r → WritesPiece a b f g text r
-piece_of a b f g text r {bytes} is all part counts = subst (λ (l : List ℕ). WritesPiece a b f g l r) is (piece_by a b f g bytes r all part counts)
+    → CountsSink f g r → WritesPiece (received a f) (received b g) text r
+piece_of a b f g text r {bytes} is all part counts = subst (λ (l : List ℕ). WritesPiece (received a f) (received b g) l r) is (piece_by a b f g bytes r all part counts)
 
 -- what was made at the end is what is to be written there
 pub ending_is : {P S H : Type 0} (asked : Asked) (m : MachineOf P S H) (c : Course P S H) (o : Outcome) (seen threads : List Tid) (clear counts text bytes : List ℕ) → Stands m c → o ≡ m.turn.outcome

@@ -14,8 +14,8 @@ use Rattle.pth_script.proofs.Whole.{accepted_or_refused, script_of}
 use Rattle.pth_script.proofs.Once.{not_both, one_script, one_kernel, same_breach, same_line}
 use Rattle.pth_player.specs.Output.{Output, IsOutput, IsRunOutput, IsTheOutput, IsTheScript, refusal, told_output}
 use Rattle.pth_command.specs.CommandLine.{Asked}
-use Rattle.pth_player.specs.Objects.{Scene, content, cut}
-use Rattle.pth_player.specs.Play.{IsOutputStatus, WritesFault, WritesOutput}
+use Rattle.pth_player.specs.Objects.{content, cut}
+use Rattle.pth_player.specs.Play.{IsOutputStatus, TopCall, WritesFault, WritesOutput}
 use Rattle.pth_player.specs.Streams.{AppendsPart}
 
 pub run_once : {P S H : Type 0} (f : P → Functions S H) (g : Given P) (asked : Asked) (one two : Output) → IsRunOutput f g asked one → IsRunOutput f g asked two → one ≡ two
@@ -67,20 +67,23 @@ output_of (Some asked) bytes = elim (accepted_or_refused (cut bytes)) [
   | inr refused ↦ (refusal (fault.Input refused.0 refused.1), refused_output asked bytes refused.0 refused.1 refused.2)
 ]
 
--- where the content is told, and for every output that it has: this is the status, this text was appended, and this fault's line was written
-pub exactly : (asked : Option Asked) (old new : Scene) (status : ℕ) (w x : Option (List ℕ)) (b n : ℕ) (bytes : List ℕ) (out : Output) → WritesOutput asked old new status w x b n
-    → content asked old ≡ Some bytes → IsOutput asked bytes out → IsOutputStatus status → (status ≡ out.status) × Appends old.written new.written out.text × WritesFault w x b n out.fault
-exactly asked old new status w x b n bytes out writes held is s =
+-- if the content is told, and for every output that it has: this is the status, this text was appended, and this fault's line was written
+pub exactly : (call : TopCall) (bytes : List ℕ) (out : Output) → WritesOutput call → content call.asked call.old ≡ Some bytes → IsOutput call.asked bytes out → IsOutputStatus call.status
+    → (call.status ≡ out.status) × Appends call.old.out.written call.new.out.written out.text × WritesFault call.err_old call.err_new out.fault
+exactly call bytes out writes held is s =
     let h = writes.whole s in
     let same : h.0 ≡ bytes = subst (λ (o : Option (List ℕ)). IfSome o (λ xs. h.0 ≡ xs)) held h.1 in
-    let one : out ≡ h.2 = h.3.1 out (subst (λ (b : List ℕ). IsOutput asked b out) (sym same) is) in
-    (h.4 ∙ ap (λ (o : Output). o.status) (sym one), subst (λ (o : Output). Appends old.written new.written o.text) (sym one) h.5, subst (λ (o : Output). WritesFault w x b n o.fault) (sym one) h.6)
+    let one : out ≡ h.2 = h.3.1 out (subst (λ (b : List ℕ). IsOutput call.asked b out) (sym same) is) in (
+      h.4 ∙ ap (λ (o : Output). o.status) (sym one),
+      subst (λ (o : Output). Appends call.old.out.written call.new.out.written o.text) (sym one) h.5,
+      subst (λ (o : Output). WritesFault call.err_old call.err_new o.fault) (sym one) h.6,
+    )
 
 -- and with status 5 a beginning of this text was appended, and not the whole
-pub partly : (asked : Option Asked) (old new : Scene) (status : ℕ) (w x : Option (List ℕ)) (b n : ℕ) (bytes : List ℕ) (out : Output) → WritesOutput asked old new status w x b n
-    → content asked old ≡ Some bytes → IsOutput asked bytes out → status ≡ 5 → AppendsPart old.written new.written out.text
-partly asked old new status w x b n bytes out writes held is s =
+pub partly : (call : TopCall) (bytes : List ℕ) (out : Output) → WritesOutput call → content call.asked call.old ≡ Some bytes → IsOutput call.asked bytes out → call.status ≡ 5
+    → AppendsPart call.old.out.written call.new.out.written out.text
+partly call bytes out writes held is s =
     let h = writes.part s in
     let same : h.0 ≡ bytes = subst (λ (o : Option (List ℕ)). IfSome o (λ xs. h.0 ≡ xs)) held h.1 in
-    let one : out ≡ h.2 = h.3.1 out (subst (λ (b : List ℕ). IsOutput asked b out) (sym same) is) in
-    subst (λ (o : Output). AppendsPart old.written new.written o.text) (sym one) h.4
+    let one : out ≡ h.2 = h.3.1 out (subst (λ (b : List ℕ). IsOutput call.asked b out) (sym same) is) in
+    subst (λ (o : Output). AppendsPart call.old.out.written call.new.out.written o.text) (sym one) h.4

@@ -1,4 +1,4 @@
--- What reading up to a number of bytes gives, where the bytes are told.
+-- What reading up to a number of bytes gives, if the bytes are told.
 use Rattle.std.proofs.Common.{◌≡◌, ◌∙◌, ◌≤◌, ℕ, List, [], ◌++◌, length, take, drop, Bool, true, false, not, codes, if◌then◌else◌, option_map, Option, Some, None, Result, Ok, Err, IfSome, IfOk, IsErr, IsErrAnd, Vec, Global, MatchResult, ap, sym, refl, subst, arith, inl, inr, append-nil}
 use Rattle.std.specs.Borrow.{Bor}
 use Rattle.std.specs.Str.{bytes_eq}

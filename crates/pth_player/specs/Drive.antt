@@ -1,5 +1,5 @@
 -- What driving a machine writes.
-use Rattle.std.specs.Prelude.{◌≡◌, ℕ, List, Option, Result, Ok, Err}
+use Rattle.std.specs.Prelude.{◌≡◌, ℕ, Result, Ok, Err}
 use Rattle.std.specs.Io.KnownBytes.{Appends}
 use Rattle.pth_streams.specs.Faults.{Rose}
 use Rattle.pth_base.specs.Program.{Functions}
@@ -10,12 +10,15 @@ use Rattle.pth_model.specs.State.{Given}
 use Rattle.pth_model.specs.Run.{run, GoesTo}
 use Rattle.pth_command.specs.CommandLine.{Asked}
 use Rattle.pth_player.specs.Output.{Output, IsRunOutput, told_output}
-use Rattle.pth_player.specs.Streams.{AppendsPart, AppendsPrefix}
+use Rattle.pth_player.specs.Streams.{AppendsPart, AppendsPrefix, Received}
 
--- The run stops with this outcome, and the text of its output was written. Where the sink failed a part of it was written,
--- and one fault counted; where memory ended a beginning.
-abbrev pub Drives : {P S H : Type 0} → (P → Functions S H) → Given P → Asked → Option (List ℕ) → Option (List ℕ) → ℕ → ℕ → Result Outcome SinkErr → Type 0
-Drives f g asked old new before now (Ok o) =
-    (parts : ℕ) × GoesTo f g asked.steps 0 parts × (o ≡ (run f g parts).turn.outcome) × Appends old new (told_output asked (run f g parts)).text × (now ≡ before)
-Drives f g asked old new before now (Err sink.Failed) = (out : Output) × IsRunOutput f g asked out × AppendsPart old new out.text × Rose before now
-Drives f g asked old new before now (Err sink.OutOfMemory) = (out : Output) × IsRunOutput f g asked out × AppendsPrefix old new out.text × (now ≡ before)
+-- The run stops with this outcome, and the text of its output was written. If the sink failed a part of it was written, and
+-- one fault counted; if memory ended a beginning.
+abbrev pub Drives : {P S H : Type 0} → (P → Functions S H) → Given P → Asked → Received → Received → Result Outcome SinkErr → Type 0
+Drives f g asked old new (Ok o) =
+    (parts : ℕ) × GoesTo f g asked.steps 0 parts × (o ≡ (run f g parts).turn.outcome)
+    × Appends old.written new.written (told_output asked (run f g parts)).text × (new.faults ≡ old.faults)
+Drives f g asked old new (Err sink.Failed) =
+    (out : Output) × IsRunOutput f g asked out × AppendsPart old.written new.written out.text × Rose old.faults new.faults
+Drives f g asked old new (Err sink.OutOfMemory) =
+    (out : Output) × IsRunOutput f g asked out × AppendsPrefix old.written new.written out.text × (new.faults ≡ old.faults)

@@ -4,6 +4,7 @@ use Rattle.std.specs.Str.{bytes_eq}
 use Rattle.pth_streams.specs.Faults.{Rose}
 use Rattle.pth_script.specs.Limits.{text_limit}
 use Rattle.pth_command.specs.CommandLine.{Asked}
+use Rattle.pth_player.specs.Streams.{Received}
 use Rattle.pth_player.specs.declared.streams.ReadFault.{ReadFault}
 use Rattle.pth_player.specs.declared.streams.ReadFault.TheVariants as read
 
@@ -22,8 +23,7 @@ pub record Inputs : Type 0 where
 -- and what the output tells beside them
 pub record Scene : Type 0 where
   pub ins : Inputs
-  pub written : Option (List ℕ)
-  pub out_faults : ℕ
+  pub out : Received
 
 abbrev pub inputs : Option (List ℕ) → ℕ → Option (List ℕ) → (List ℕ → Option (List ℕ)) → ℕ → Inputs
 inputs left faults file_left held file_faults = record {
@@ -34,8 +34,8 @@ inputs left faults file_left held file_faults = record {
   file_faults = file_faults;
 }
 
-abbrev pub scene : Inputs → Option (List ℕ) → ℕ → Scene
-scene ins written out_faults = record { ins = ins; written = written; out_faults = out_faults }
+abbrev pub scene : Inputs → Received → Scene
+scene ins out = record { ins = ins; out = out }
 
 -- ---- the object read
 
@@ -49,12 +49,12 @@ abbrev pub object_named : Option (List ℕ) → Object
 object_named None = the_input
 object_named (Some name) = if bytes_eq name (codes "-") then the_input else the_file name
 
--- the object that the words name; nothing is read where they are refused
+-- the object that the words name; nothing is read if they are refused
 abbrev pub asked_object : Option Asked → Object
 asked_object None = nothing
 asked_object (Some asked) = object_named asked.file
 
--- what it holds, where that is told
+-- what it holds, if that is told
 abbrev pub content_of : Object → Inputs → Option (List ℕ)
 content_of nothing s = Some []
 content_of the_input s = s.left
@@ -69,7 +69,7 @@ ObjectRose nothing old new = ⊥
 ObjectRose the_input old new = Rose old.faults new.faults
 ObjectRose (the_file name) old new = Rose old.file_faults new.file_faults
 
--- what was read of these bytes is lost, where they are told: all, or as much as the limit and a byte
+-- what was read of these bytes is lost, if they are told: all, or as much as the limit and a byte
 abbrev pub LosesRead : Option (List ℕ) → Option (List ℕ) → Type 0
 LosesRead old new = IfSome old (λ bytes. new ≡ Some (drop (text_limit + 1) bytes))
 
@@ -91,12 +91,12 @@ OthersUntouched nothing input later files after = (later ≡ input) × (after �
 OthersUntouched the_input input later files after = after ≡ files
 OthersUntouched (the_file name) input later files after = later ≡ input
 
--- its count stands still, and rises by one where a read failed
+-- its count rises by one if a read failed, and stands still otherwise
 abbrev pub ObjectCounts : {T : Type 0} → Object → Inputs → Inputs → Result T ReadFault → Type 0
 ObjectCounts object old new (Ok x) = ObjectStood object old new
 ObjectCounts object old new (Err read.Failed) = ObjectRose object old new
 ObjectCounts object old new (Err read.OutOfMemory) = ObjectStood object old new
 
--- these are the bytes that the object read holds, where that is told, and some bytes where it is not
+-- these are the bytes that the object read holds, if that is told, and some bytes if it is not
 abbrev pub AreHeld : Option (List ℕ) → List ℕ → Type 0
 AreHeld held bytes = IfSome held (λ xs. bytes ≡ xs)

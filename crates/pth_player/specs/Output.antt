@@ -36,7 +36,7 @@ pub record Output : Type 0 where
   pub fault : Option (List ℕ)
   pub status : ℕ
 
--- the output where a fault comes before a run
+-- the output if a fault comes before a run
 abbrev pub refusal : Fault → Output
 refusal f = record { text = []; fault = Some (fault_line f); status = fault_status f }
 
@@ -60,7 +60,7 @@ module _ {P S H : Type 0} where
     status = outcome_status c.turn.outcome;
   }
 
-  -- the output of a run to the number of steps that is asked for: what is told where the run stops
+  -- the output of a run to the number of steps that is asked for: what is told when the run stops
   abbrev pub IsRunOutput : (P → Functions S H) → Given P → Asked → Output → Type 0
   IsRunOutput f g asked out = (parts : ℕ) × GoesTo f g asked.steps 0 parts × (out ≡ told_output asked (run f g parts))
 
@@ -70,7 +70,7 @@ IsInputOutput asked text out =
     ((g : Given Sections) × IsTheScript g text × IsRunOutput functions_of g asked out)
     ⊎ ((line : ℕ) × (b : Breach) × IsRefusal text line b × (out ≡ refusal (fault.Input line b)))
 
--- the output for what the words ask for, where they are not refused, and the bytes of the object that they name
+-- the output for what the words ask for, if they are not refused, and the bytes of the object that they name
 abbrev pub IsOutput : Option Asked → List ℕ → Output → Type 0
 IsOutput None bytes out = out ≡ refusal fault.Words
 IsOutput (Some asked) bytes out = IsInputOutput asked (cut bytes) out

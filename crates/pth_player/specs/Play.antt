@@ -15,7 +15,7 @@ use Rattle.pth_script.specs.Broken.{IsRefusal}
 use Rattle.pth_text.specs.declared.rule.Breach.{Breach}
 use Rattle.pth_command.specs.CommandLine.{Asked}
 use Rattle.pth_player.specs.Objects.{AreHeld, Inputs, Object, ObjectRead, ObjectRose, ObjectStood, Scene, asked_object, content, cut, content_of}
-use Rattle.pth_player.specs.Streams.{AppendsPart, AppendsPrefix}
+use Rattle.pth_player.specs.Streams.{AppendsPart, AppendsPrefix, Received}
 use Rattle.pth_player.specs.Output.{Output, IsTheOutput, IsRefused, IsTheScript, given_script, outcome_status}
 use Rattle.pth_player.specs.Drive.{Drives}
 
@@ -27,8 +27,10 @@ ReadsBytes object old new bytes = ObjectRead object old new × ((held : List ℕ
 
 -- a script and its kernel were read of the object, or why not
 abbrev pub ReadsScript : Object → Inputs → Inputs → Result (Sections × KernelOf) Fault → Type 0
-ReadsScript object old new (Ok read) = ObjectRead object old new × ((bytes : List ℕ) × AreHeld (content_of object old) bytes × IsTheScript (given_script read) (cut bytes))
-ReadsScript object old new (Err (fault.Input line breach)) = ObjectRead object old new × ((bytes : List ℕ) × AreHeld (content_of object old) bytes × IsRefusal (cut bytes) line breach)
+ReadsScript object old new (Ok read) =
+    ObjectRead object old new × ((bytes : List ℕ) × AreHeld (content_of object old) bytes × IsTheScript (given_script read) (cut bytes))
+ReadsScript object old new (Err (fault.Input line breach)) =
+    ObjectRead object old new × ((bytes : List ℕ) × AreHeld (content_of object old) bytes × IsRefusal (cut bytes) line breach)
 ReadsScript object old new (Err fault.ReadFault) = ObjectRose object old new
 ReadsScript object old new (Err fault.OutOfMemory) = ObjectStood object old new
 ReadsScript object old new (Err fault.Words) = ⊥
@@ -45,42 +47,47 @@ HoldsRefused asked s line breach = (bytes : List ℕ) × AreHeld (content (Some 
 -- the content is a script's text, and its machine was driven with this result
 abbrev pub DrivesScript : Asked → Scene → Scene → Result Outcome SinkErr → Type 0
 DrivesScript asked old new r = (bytes : List ℕ) × AreHeld (content (Some asked) old) bytes × (g : Given Sections) × IsTheScript g (cut bytes)
-    × Drives functions_of g asked old.written new.written old.out_faults new.out_faults r
+    × Drives functions_of g asked old.out new.out r
 
 -- nothing was written, and no write failed
-abbrev pub IsUnwritten : Scene → Scene → Type 0
-IsUnwritten old new = Appends old.written new.written [] × (new.out_faults ≡ old.out_faults)
+abbrev pub IsUnwritten : Received → Received → Type 0
+IsUnwritten old new = Appends old.written new.written [] × (new.faults ≡ old.faults)
 
 -- what was done for these words but for the line of a fault
 abbrev pub RanFor : Asked → Scene → Scene → Result Outcome Fault → Type 0
 RanFor asked old new (Ok o) = ObjectRead (asked_object (Some asked)) old.ins new.ins × DrivesScript asked old new (Ok o)
 RanFor asked old new (Err fault.Words) = ⊥
-RanFor asked old new (Err (fault.Input line breach)) = ObjectRead (asked_object (Some asked)) old.ins new.ins × HoldsRefused asked old line breach × IsUnwritten old new
-RanFor asked old new (Err fault.ReadFault) = ObjectRose (asked_object (Some asked)) old.ins new.ins × IsUnwritten old new
+RanFor asked old new (Err (fault.Input line breach)) =
+    ObjectRead (asked_object (Some asked)) old.ins new.ins × HoldsRefused asked old line breach × IsUnwritten old.out new.out
+RanFor asked old new (Err fault.ReadFault) = ObjectRose (asked_object (Some asked)) old.ins new.ins × IsUnwritten old.out new.out
 RanFor asked old new (Err fault.WriteFault) = ObjectRead (asked_object (Some asked)) old.ins new.ins × DrivesScript asked old new (Err sink.Failed)
-RanFor asked old new (Err fault.OutOfMemory) = ObjectStood (asked_object (Some asked)) old.ins new.ins × (IsUnwritten old new ⊎ DrivesScript asked old new (Err sink.OutOfMemory))
+RanFor asked old new (Err fault.OutOfMemory) =
+    ObjectStood (asked_object (Some asked)) old.ins new.ins × (IsUnwritten old.out new.out ⊎ DrivesScript asked old new (Err sink.OutOfMemory))
 
--- where the words are refused nothing is written
+-- if the words are refused nothing is written
 abbrev pub Ran : Option Asked → Scene → Scene → Result Outcome Fault → Type 0
 Ran (Some asked) old new r = RanFor asked old new r
-Ran None old new (Err fault.Words) = IsUnwritten old new
-Ran None old new (Err fault.OutOfMemory) = IsUnwritten old new
+Ran None old new (Err fault.Words) = IsUnwritten old.out new.out
+Ran None old new (Err fault.OutOfMemory) = IsUnwritten old.out new.out
 Ran None old new r = ⊥
 
 -- the line was written whole, or a part of it and one fault counted
-abbrev pub WritesLine : Option (List ℕ) → Option (List ℕ) → ℕ → ℕ → List ℕ → Type 0
-WritesLine old new before now line = (Appends old new line × (now ≡ before)) ⊎ (AppendsPart old new line × Rose before now)
+abbrev pub WritesLine : Received → Received → List ℕ → Type 0
+WritesLine old new line =
+    (Appends old.written new.written line × (new.faults ≡ old.faults)) ⊎ (AppendsPart old.written new.written line × Rose old.faults new.faults)
 
 -- the fault is reported by its status and its line, or memory ran out for the line
-abbrev pub Reports : Fault → ℕ → Option (List ℕ) → Option (List ℕ) → ℕ → ℕ → Type 0
-Reports f status old new before now = ((status ≡ fault_status f) × WritesLine old new before now (fault_line f)) ⊎ ((status ≡ 7) × (AppendsPrefix old new (fault_line f) × (now ≡ before)))
+abbrev pub Reports : Fault → ℕ → Received → Received → Type 0
+Reports f status old new =
+    ((status ≡ fault_status f) × WritesLine old new (fault_line f))
+    ⊎ ((status ≡ 7) × (AppendsPrefix old.written new.written (fault_line f) × (new.faults ≡ old.faults)))
 
 -- how the call ends: a run by its status alone, a fault with its line
-abbrev pub Ends : Result Outcome Fault → ℕ → Option (List ℕ) → Option (List ℕ) → ℕ → ℕ → Type 0
-Ends (Ok o) status old new before now = (status ≡ outcome_status o) × (Appends old new [] × (now ≡ before))
-Ends (Err f) status old new before now = Reports f status old new before now
+abbrev pub Ends : Result Outcome Fault → ℕ → Received → Received → Type 0
+Ends (Ok o) status old new = (status ≡ outcome_status o) × IsUnwritten old new
+Ends (Err f) status old new = Reports f status old new
 
--- ---- the clauses
+-- ---- statuses
 
 -- the status of a run that was written whole
 abbrev pub IsRunStatus : ℕ → Type 0
@@ -94,85 +101,116 @@ IsOutputStatus status = IsRunStatus status ⊎ ((status ≡ 2) ⊎ (status ≡ 3
 abbrev pub IsFaultStatus : ℕ → Type 0
 IsFaultStatus status = (status ≡ 2) ⊎ ((status ≡ 3) ⊎ ((status ≡ 4) ⊎ (status ≡ 5)))
 
+-- ---- the clauses
+
+-- One call of `play`: what its words ask for, none if they are refused; what the input, the files and `out` told before it
+-- and tell after it; what `err` told; and the status with which it ends.
+pub record TopCall : Type 0 where
+  pub asked : Option Asked
+  pub old : Scene
+  pub new : Scene
+  pub err_old : Received
+  pub err_new : Received
+  pub status : ℕ
+
+-- one fault of the object read was counted
+abbrev pub CountsReadFault : TopCall → Type 0
+CountsReadFault call = ObjectRose (asked_object call.asked) call.old.ins call.new.ins
+
+-- one fault of `out` was counted
+abbrev pub CountsWriteFault : TopCall → Type 0
+CountsWriteFault call = Rose call.old.out.faults call.new.out.faults
+
 -- with a status other than 4 and 7 the object read lost what was read of it, all or as much as the limit and a byte, and no read failed
-abbrev pub ReadsWhole : Option Asked → Scene → Scene → ℕ → Type 0
-ReadsWhole asked old new status = status ≢ 4 → status ≢ 7 → ObjectRead (asked_object asked) old.ins new.ins
+abbrev pub ReadsWhole : TopCall → Type 0
+ReadsWhole call = call.status ≢ 4 → call.status ≢ 7 → ObjectRead (asked_object call.asked) call.old.ins call.new.ins
 
--- status 2 comes exactly where the words are refused, but for want of memory
-pub record RefusesWords (asked : Option Asked) (status : ℕ) : Type 0 where
-  pub only : status ≡ 2 → asked ≡ None
-  pub always : asked ≡ None → (status ≡ 2) ⊎ (status ≡ 7)
+-- status 2 comes exactly if the words are refused, but for want of memory
+pub record RefusesWords (call : TopCall) : Type 0 where
+  pub only : call.status ≡ 2 → call.asked ≡ None
+  pub always : call.asked ≡ None → (call.status ≡ 2) ⊎ (call.status ≡ 7)
 
--- status 3 comes exactly where the content is no script's text, but for a read that fails and want of memory
-pub record RefusesInput (asked : Option Asked) (old : Scene) (status : ℕ) : Type 0 where
-  pub only : status ≡ 3 → (asked ≢ None) × HoldsNoScript asked old
-  pub always : asked ≢ None → IfSome (content asked old) (λ bytes. IsRefused (cut bytes) → (status ≡ 3) ⊎ ((status ≡ 4) ⊎ (status ≡ 7)))
+-- status 3 comes exactly if the content is no script's text, but for a read that fails and want of memory
+pub record RefusesInput (call : TopCall) : Type 0 where
+  pub only : call.status ≡ 3 → (call.asked ≢ None) × HoldsNoScript call.asked call.old
+  pub always : call.asked ≢ None
+      → IfSome (content call.asked call.old) (λ bytes. IsRefused (cut bytes) → (call.status ≡ 3) ⊎ ((call.status ≡ 4) ⊎ (call.status ≡ 7)))
 
 -- status 4 and 5 come only from an object that failed
-pub record Faults (asked : Option Asked) (old new : Scene) (status : ℕ) : Type 0 where
-  pub read : status ≡ 4 → (asked ≢ None) × ObjectRose (asked_object asked) old.ins new.ins
-  pub write : status ≡ 5 → Rose old.out_faults new.out_faults
+pub record Faults (call : TopCall) : Type 0 where
+  pub read : call.status ≡ 4 → (call.asked ≢ None) × CountsReadFault call
+  pub write : call.status ≡ 5 → CountsWriteFault call
 
--- the line of an output's fault was written, and nothing where it has none
-abbrev pub WritesFault : Option (List ℕ) → Option (List ℕ) → ℕ → ℕ → Option (List ℕ) → Type 0
-WritesFault old new before now None = Appends old new []
-WritesFault old new before now (Some line) = WritesLine old new before now line
+-- the line of an output's fault was written, and nothing if it has none
+abbrev pub WritesFault : Received → Received → Option (List ℕ) → Type 0
+WritesFault old new None = Appends old.written new.written []
+WritesFault old new (Some line) = WritesLine old new line
 
 -- The status is that of the output for the words and the bytes that the object read holds, its whole text was appended,
 -- and the line of its fault was written to `err`.
-abbrev pub WritesWhole : Option Asked → Scene → Scene → ℕ → Option (List ℕ) → Option (List ℕ) → ℕ → ℕ → Type 0
-WritesWhole asked old new status err_old err_new before now =
-    (bytes : List ℕ) × AreHeld (content asked old) bytes × (out : Output) × IsTheOutput asked bytes out × (status ≡ out.status)
-    × Appends old.written new.written out.text × WritesFault err_old err_new before now out.fault
+abbrev pub WritesWhole : TopCall → Type 0
+WritesWhole call =
+    (bytes : List ℕ) × AreHeld (content call.asked call.old) bytes × (out : Output) × IsTheOutput call.asked bytes out × (call.status ≡ out.status)
+    × Appends call.old.out.written call.new.out.written out.text × WritesFault call.err_old call.err_new out.fault
 
--- What was appended, by the status, where `bytes` are what the object read holds.
-pub record WritesOutput (asked : Option Asked) (old new : Scene) (status : ℕ) (err_old err_new : Option (List ℕ)) (before now : ℕ) : Type 0 where
+-- a beginning of the output's text was appended, and not the whole
+abbrev pub WritesPart : TopCall → Type 0
+WritesPart call =
+    (bytes : List ℕ) × AreHeld (content call.asked call.old) bytes × (out : Output) × IsTheOutput call.asked bytes out
+    × AppendsPart call.old.out.written call.new.out.written out.text
+
+-- a beginning of the output's text was appended
+abbrev pub WritesPrefix : TopCall → Type 0
+WritesPrefix call =
+    (bytes : List ℕ) × AreHeld (content call.asked call.old) bytes × (out : Output) × IsTheOutput call.asked bytes out
+    × AppendsPrefix call.old.out.written call.new.out.written out.text
+
+-- what was written to `out`, by the status
+pub record WritesOutput (call : TopCall) : Type 0 where
   -- 0, 1, 2, 3, 6
-  pub whole : IsOutputStatus status → WritesWhole asked old new status err_old err_new before now
+  pub whole : IsOutputStatus call.status → WritesWhole call
   -- 5: a beginning of the output's text, and not the whole
-  pub part : status ≡ 5
-      → (bytes : List ℕ) × AreHeld (content asked old) bytes × (out : Output) × IsTheOutput asked bytes out × AppendsPart old.written new.written out.text
+  pub part : call.status ≡ 5 → WritesPart call
   -- 7: nothing, or a beginning of the output's text
-  pub beginning : status ≡ 7 → Appends old.written new.written []
-      ⊎ ((bytes : List ℕ) × AreHeld (content asked old) bytes × (out : Output) × IsTheOutput asked bytes out × AppendsPrefix old.written new.written out.text)
-  pub nothing : (status ≡ 2) ⊎ ((status ≡ 3) ⊎ (status ≡ 4)) → IsUnwritten old new
+  pub beginning : call.status ≡ 7 → Appends call.old.out.written call.new.out.written [] ⊎ WritesPrefix call
+  pub nothing : (call.status ≡ 2) ⊎ ((call.status ≡ 3) ⊎ (call.status ≡ 4)) → IsUnwritten call.old.out call.new.out
 
 -- What the counts of faults say. Each stands still or rises by one.
-pub record Completes (asked : Option Asked) (old new : Scene) (status : ℕ) (err_old err_new : Option (List ℕ)) (before now : ℕ) : Type 0 where
-  -- where neither that of the object read nor that of `out` rose, the output was written whole, or memory ran out
-  pub whole : (ObjectRose (asked_object asked) old.ins new.ins → ⊥) → (Rose old.out_faults new.out_faults → ⊥)
-      → WritesWhole asked old new status err_old err_new before now ⊎ (status ≡ 7)
+pub record Completes (call : TopCall) : Type 0 where
+  -- if neither that of the object read nor that of `out` rose, the output was written whole, or memory ran out
+  pub whole : (CountsReadFault call → ⊥) → (CountsWriteFault call → ⊥) → WritesWhole call ⊎ (call.status ≡ 7)
   -- that of the object read rises with 4, and may with 7
-  pub read : ObjectStood (asked_object asked) old.ins new.ins ⊎ (ObjectRose (asked_object asked) old.ins new.ins × ((status ≡ 4) ⊎ (status ≡ 7)))
+  pub read : ObjectStood (asked_object call.asked) call.old.ins call.new.ins ⊎ (CountsReadFault call × ((call.status ≡ 4) ⊎ (call.status ≡ 7)))
   -- that of `out` rises with 5, and may with 7
-  pub written : (new.out_faults ≡ old.out_faults) ⊎ (Rose old.out_faults new.out_faults × ((status ≡ 5) ⊎ (status ≡ 7)))
+  pub written : (call.new.out.faults ≡ call.old.out.faults) ⊎ (CountsWriteFault call × ((call.status ≡ 5) ⊎ (call.status ≡ 7)))
 
 -- what was done came to this fault
-abbrev pub IsAtHand : Option Asked → Scene → Scene → Fault → Type 0
-IsAtHand asked old new f = Ran asked old new (Err f)
+abbrev pub IsAtHand : TopCall → Fault → Type 0
+IsAtHand call f = Ran call.asked call.old call.new (Err f)
 
--- what standard error received: nothing after a run, the line of the fault at hand, or a beginning of its line where memory ran out
-pub record TellsFault (asked : Option Asked) (old new : Scene) (status : ℕ) (err_old err_new : Option (List ℕ)) (before now : ℕ) : Type 0 where
-  pub quiet : IsRunStatus status → Appends err_old err_new [] × (now ≡ before)
-  pub loud : IsFaultStatus status → (f : Fault) × IsAtHand asked old new f × (status ≡ fault_status f) × WritesLine err_old err_new before now (fault_line f)
-  pub memory : status ≡ 7 → (f : Fault) × IsAtHand asked old new f × AppendsPrefix err_old err_new (fault_line f)
+-- what `err` received: nothing after a run, the line of the fault at hand, or a beginning of its line if memory ran out
+pub record TellsFault (call : TopCall) : Type 0 where
+  pub quiet : IsRunStatus call.status → IsUnwritten call.err_old call.err_new
+  pub loud : IsFaultStatus call.status
+      → (f : Fault) × IsAtHand call f × (call.status ≡ fault_status f) × WritesLine call.err_old call.err_new (fault_line f)
+  pub memory : call.status ≡ 7 → (f : Fault) × IsAtHand call f × AppendsPrefix call.err_old.written call.err_new.written (fault_line f)
 
 -- ---- the call
 
 -- What the call did by its status, for what the words ask and the objects that it was handed.
-pub record Plays (asked : Option Asked) (old new : Scene) (status : ℕ) (err_old err_new : Option (List ℕ)) (before now : ℕ) : Type 0 where
+pub record Plays (call : TopCall) : Type 0 where
   -- with a status other than 4 and 7 the object read lost what was read of it, and no read of it failed
-  pub reads_whole : ReadsWhole asked old new status
-  -- status 2 comes exactly where the words are refused
-  pub refuses_words : RefusesWords asked status
-  -- status 3 comes exactly where the object read has no script's text
-  pub refuses_input : RefusesInput asked old status
-  -- status 4 and 5 come only where a count rose
-  pub faults : Faults asked old new status
+  pub reads_whole : ReadsWhole call
+  -- status 2 comes exactly if the words are refused
+  pub refuses_words : RefusesWords call
+  -- status 3 comes exactly if the object read has no script's text
+  pub refuses_input : RefusesInput call
+  -- status 4 and 5 come only if a count rose
+  pub faults : Faults call
   -- The status, what was written and the fault's line are those of the output for the words and the bytes of the object
-  -- read. Where the sink failed (5) or memory ended (7), a beginning was written.
-  pub writes_output : WritesOutput asked old new status err_old err_new before now
-  -- where no count rose, the output was written whole, or memory ran out; and how far the counts rose
-  pub completes : Completes asked old new status err_old err_new before now
+  -- read. If the sink failed (5) or memory ended (7), a beginning was written.
+  pub writes_output : WritesOutput call
+  -- if no count rose, the output was written whole, or memory ran out; and how far the counts rose
+  pub completes : Completes call
   -- what standard error received
-  pub fault_line : TellsFault asked old new status err_old err_new before now
+  pub fault_line : TellsFault call

@@ -1,5 +1,5 @@
 -- The text of a run, and what is written of it.
-use Rattle.std.specs.Prelude.{◌≡◌, ◌++◌, ℕ, List, [], Option, Result, Ok, Err, false, flat_map, if◌then◌else◌}
+use Rattle.std.specs.Prelude.{◌≡◌, ◌++◌, ℕ, List, [], Result, Ok, Err, false, flat_map, if◌then◌else◌}
 use Rattle.std.specs.Io.KnownBytes.{Appends}
 use Rattle.pth_streams.specs.Faults.{Rose}
 use Rattle.pth_base.specs.declared.mark.Mark.{Mark}
@@ -11,7 +11,7 @@ use Rattle.pth_model.specs.State.{now_of}
 use Rattle.pth_print.specs.MarkLines.{mark_line}
 use Rattle.pth_print.specs.EndLines.{end_line, summary_line}
 use Rattle.pth_command.specs.CommandLine.{Asked}
-use Rattle.pth_player.specs.Streams.{AppendsPart, AppendsPrefix}
+use Rattle.pth_player.specs.Streams.{AppendsPart, AppendsPrefix, Received}
 
 -- the lines of marks
 abbrev pub lines_of : List Mark → List ℕ
@@ -30,12 +30,12 @@ module _ {P S H : Type 0} where
   abbrev pub last_line : ℕ → Course P S H → List ℕ
   last_line steps c = end_line c.turn.outcome steps (live c.state)
 
-  -- The text of a run that came so far: the lines of all marks and the line of the outcome. Where a summary is asked for,
-  -- the line of counts stands in place of the marks'.
+  -- The text of a run that came so far: the lines of all marks and the line of the outcome. If a summary is asked for, the
+  -- line of counts stands in place of the marks'.
   abbrev pub text_of : Asked → Course P S H → List ℕ
   text_of asked c = (if asked.summary then counts_line c else lines_of c.marks) ++ last_line asked.steps c
 
-  -- the line of counts where a summary is asked for
+  -- the line of counts if a summary is asked for
   abbrev pub counts_of : Asked → Course P S H → List ℕ
   counts_of asked c = if asked.summary then counts_line c else []
 
@@ -43,8 +43,8 @@ module _ {P S H : Type 0} where
   abbrev pub ending_of : Asked → Course P S H → List ℕ
   ending_of asked c = counts_of asked c ++ last_line asked.steps c
 
--- the piece was written whole, or not the whole of it where the sink failed, or a beginning where memory ran out
-abbrev pub WritesPiece : Option (List ℕ) → Option (List ℕ) → ℕ → ℕ → List ℕ → Result (Unit {0}) SinkErr → Type 0
-WritesPiece old new before now piece (Ok x) = Appends old new piece × (now ≡ before)
-WritesPiece old new before now piece (Err sink.Failed) = AppendsPart old new piece × Rose before now
-WritesPiece old new before now piece (Err sink.OutOfMemory) = AppendsPrefix old new piece × (now ≡ before)
+-- the piece was written whole, or not the whole of it if the sink failed, or a beginning if memory ran out
+abbrev pub WritesPiece : Received → Received → List ℕ → Result (Unit {0}) SinkErr → Type 0
+WritesPiece old new piece (Ok x) = Appends old.written new.written piece × (new.faults ≡ old.faults)
+WritesPiece old new piece (Err sink.Failed) = AppendsPart old.written new.written piece × Rose old.faults new.faults
+WritesPiece old new piece (Err sink.OutOfMemory) = AppendsPrefix old.written new.written piece × (new.faults ≡ old.faults)

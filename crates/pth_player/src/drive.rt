@@ -7,6 +7,7 @@ ghost use Rattle.pth_model.specs.State.{Given};
 ghost use Rattle.pth_sched.specs.Running.{GoesOn, Stands, StandsAt};
 ghost use Rattle.pth_command.specs.CommandLine.{asked_of};
 ghost use Rattle.pth_player.specs.Drive.{Drives};
+ghost use Rattle.pth_player.specs.Streams.{received};
 ghost use Rattle.pth_player.specs.Transcript.{counts_of, ending_of, lines_of, shown_of, WritesPiece};
 
 use crate::streams::write_all;
@@ -47,7 +48,10 @@ fn write_marks<O: Sink>(
     text: &mut Text,
     out: &mut O,
 ) -> Result<(), SinkErr>
-    ensures { WritesPiece (O.written out.old) (O.written out.new) (O.faults out.old) (O.faults out.new) (shown_of (asked_of choice.now) marks.now) result }
+    ensures { WritesPiece
+        (received (O.written out.old) (O.faults out.old))
+        (received (O.written out.new) (O.faults out.new))
+        (shown_of (asked_of choice.now) marks.now) result }
 {
     text.clear();
     if !choice.summary {
@@ -56,7 +60,7 @@ fn write_marks<O: Sink>(
     write_all(out, text.as_slice())
 }
 
-/// Adds the line of counts where a summary is asked for.
+/// Adds the line of counts if a summary is asked for.
 fn add_counts<P: Program>(
     machine: &Machine<P>,
     choice: &Choice<'_>,
@@ -87,8 +91,10 @@ fn write_ending<P: Program, O: Sink>(
 ) -> Result<(), SinkErr>
     requires memory { outcome ≢ Outcome.OutOfMemory }
     requires outcome { outcome ≡ machine.now.turn.outcome }
-    ensures { (c : Course P P.State P.Shared) → Stands machine.now c
-        → WritesPiece (O.written out.old) (O.written out.new) (O.faults out.old) (O.faults out.new) (ending_of (asked_of choice.now) c) result }
+    ensures { (c : Course P P.State P.Shared) → Stands machine.now c → WritesPiece
+        (received (O.written out.old) (O.faults out.old))
+        (received (O.written out.new) (O.faults out.new))
+        (ending_of (asked_of choice.now) c) result }
 {
     let live = machine.live(alloc)?;
     text.clear();
@@ -148,7 +154,10 @@ pub fn drive<P: Program, O: Sink>(
 ) -> Result<Outcome, SinkErr>
     requires nonzero { 1 ≤ piece }
     requires few { machine.old.turn.steps + choice.now.steps ≤ most_steps }
-    ensures written { (g : Given P) → StandsAt P.functions g 0 machine.old → Drives P.functions g (asked_of choice.now) (O.written out.old) (O.written out.new) (O.faults out.old) (O.faults out.new) result }
+    ensures written { (g : Given P) → StandsAt P.functions g 0 machine.old
+        → Drives P.functions g (asked_of choice.now)
+        (received (O.written out.old) (O.faults out.old))
+        (received (O.written out.new) (O.faults out.new)) result }
 {
     let mut marks = Marks::new(alloc);
     let mut text = Text::new(alloc);

@@ -1,6 +1,7 @@
 //! What is told of a fault.
 
 ghost use Rattle.pth_player.specs.Play.{Reports};
+ghost use Rattle.pth_player.specs.Streams.{received};
 
 use crate::streams::write_all;
 use pth_print::fault_line::{Fault, fault_line};
@@ -8,10 +9,12 @@ use pth_streams::sink::{Sink, SinkErr};
 use pth_text::text::Text;
 use std::alloc::Global;
 
-/// Writes the fault's line, and answers its status. A sink that fails changes nothing of the status. Where memory runs out for
-/// the line it is 7.
+/// Writes the fault's line, and answers its status. A sink that fails changes nothing of the status. If memory runs out for the
+/// line it is 7.
 pub fn report_fault<E: Sink>(alloc: Global, fault: Fault, err: &mut E) -> u8
-    ensures { Reports fault result (E.written err.old) (E.written err.new) (E.faults err.old) (E.faults err.new) }
+    ensures { Reports fault result
+        (received (E.written err.old) (E.faults err.old))
+        (received (E.written err.new) (E.faults err.new)) }
 {
     let mut text = Text::new(alloc);
     if fault_line(&fault, &mut text).is_err() {

@@ -7,6 +7,7 @@ ghost use Rattle.pth_sched.specs.Running.{StandsAt};
 ghost use Rattle.pth_player.specs.Objects.{asked_object, inputs, scene, OthersUntouched};
 ghost use Rattle.pth_player.specs.Output.{given_script};
 ghost use Rattle.pth_player.specs.Play.{Ran};
+ghost use Rattle.pth_player.specs.Streams.{received};
 
 use crate::drive::drive;
 use crate::faults::{fault_of_sink, fault_of_words};
@@ -44,10 +45,15 @@ pub fn run<S: Source, F: Files, O: Sink>(
     out: &mut O,
 ) -> Result<Outcome, Fault>
     ensures ran { Ran (asked_by (map string_bytes words.now.items))
-        (scene (inputs (S.left input.old) (S.faults input.old) (F.left files.old) (F.held files.old) (F.faults files.old)) (O.written out.old) (O.faults out.old))
-        (scene (inputs (S.left input.new) (S.faults input.new) (F.left files.new) (F.held files.new) (F.faults files.new)) (O.written out.new) (O.faults out.new))
+        (scene (inputs (S.left input.old) (S.faults input.old)
+        (F.left files.old) (F.held files.old) (F.faults files.old))
+        (received (O.written out.old) (O.faults out.old)))
+        (scene (inputs (S.left input.new) (S.faults input.new)
+        (F.left files.new) (F.held files.new) (F.faults files.new))
+        (received (O.written out.new) (O.faults out.new)))
         result }
-    ensures others { OthersUntouched (asked_object (asked_by (map string_bytes words.now.items))) input.old input.new files.old files.new }
+    ensures others { OthersUntouched (asked_object (asked_by (map string_bytes words.now.items)))
+        input.old input.new files.old files.new }
 {
     let choice = read_words(alloc, words).map_err(fault_of_words)?;
     let read = read_script(alloc, choice.file, input, files)?;

@@ -4,6 +4,7 @@ ghost use Rattle.std.specs.Prelude.{◌≡◌, ◌≤◌, map, string_bytes};
 ghost use Rattle.pth_command.specs.CommandLine.{asked_by};
 ghost use Rattle.pth_player.specs.Objects.{asked_object, inputs, scene, OthersUntouched};
 ghost use Rattle.pth_player.specs.Play.{Ends, Plays};
+ghost use Rattle.pth_player.specs.Streams.{received};
 
 use crate::report::report_fault;
 use crate::run::run;
@@ -16,7 +17,9 @@ use std::alloc::Global;
 
 /// The status of a run, with the line of a fault on `err`.
 fn finish<E: Sink>(alloc: Global, ran: Result<Outcome, Fault>, err: &mut E) -> u8
-    ensures { Ends ran result (E.written err.old) (E.written err.new) (E.faults err.old) (E.faults err.new) }
+    ensures { Ends ran result
+        (received (E.written err.old) (E.faults err.old))
+        (received (E.written err.new) (E.faults err.new)) }
 {
     match ran {
         Ok(Outcome::Ended(_)) => 0,
@@ -33,13 +36,13 @@ fn finish<E: Sink>(alloc: Global, ran: Result<Outcome, Fault>, err: &mut E) -> u
 /// result is the exit status.
 ///
 /// `asked_by` says what the words ask for, and which are refused. The script is read from the file that they name, or from
-/// `input` where they name none or `-`. The transcript or the summary is written to `out`, and the line of a fault to
+/// `input` if they name none or `-`. The transcript or the summary is written to `out`, and the line of a fault to
 /// `err`.
 ///
 /// `IsOutput` says what the output is for what is asked and the bytes of the script: the text of what the script's run
 /// tells, with a status, or a refusal. With status 0, 1, 2, 3 and 6 exactly the text of this output was written, and the
-/// status and the fault's line are the output's. It comes to another status only where the object read or `out` failed,
-/// or where memory ran out. `Plays` says this and what else holds by the status, fact by fact.
+/// status and the fault's line are the output's. It comes to another status only if the object read or `out` failed, or
+/// memory ran out. `Plays` says this and what else holds by the status, fact by fact.
 pub fn play<S: Source, F: Files, O: Sink, E: Sink>(
     alloc: Global,
     words: &Vec<String>,
@@ -49,11 +52,20 @@ pub fn play<S: Source, F: Files, O: Sink, E: Sink>(
     err: &mut E,
 ) -> u8
     ensures status { result ≤ 7 }
-    ensures others { OthersUntouched (asked_object (asked_by (map string_bytes words.now.items))) input.old input.new files.old files.new }
-    ensures plays { Plays (asked_by (map string_bytes words.now.items))
-        (scene (inputs (S.left input.old) (S.faults input.old) (F.left files.old) (F.held files.old) (F.faults files.old)) (O.written out.old) (O.faults out.old))
-        (scene (inputs (S.left input.new) (S.faults input.new) (F.left files.new) (F.held files.new) (F.faults files.new)) (O.written out.new) (O.faults out.new))
-        result (E.written err.old) (E.written err.new) (E.faults err.old) (E.faults err.new) }
+    ensures others { OthersUntouched (asked_object (asked_by (map string_bytes words.now.items)))
+        input.old input.new files.old files.new }
+    ensures plays { Plays (record {
+      asked = asked_by (map string_bytes words.now.items);
+      old = scene (inputs (S.left input.old) (S.faults input.old)
+          (F.left files.old) (F.held files.old) (F.faults files.old))
+          (received (O.written out.old) (O.faults out.old));
+      new = scene (inputs (S.left input.new) (S.faults input.new)
+          (F.left files.new) (F.held files.new) (F.faults files.new))
+          (received (O.written out.new) (O.faults out.new));
+      err_old = received (E.written err.old) (E.faults err.old);
+      err_new = received (E.written err.new) (E.faults err.new);
+      status = result;
+    }) }
 {
     let ran = run(alloc, words, input, files, out);
     finish(alloc, ran, err)

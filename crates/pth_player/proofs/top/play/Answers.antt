@@ -2,12 +2,14 @@ use Rattle.std.proofs.Common.{map, string_bytes}
 use Rattle.pth_command.specs.CommandLine.{asked_by}
 use Rattle.pth_player.proofs.Clauses.{plays}
 use Rattle.pth_player.specs.Objects.{inputs, scene}
+use Rattle.pth_player.specs.Streams.{received}
 use Rattle.pth_player.proofs.top.play.Goals as goal
 
 pub returns-clause-plays : goal.returns-clause-plays
 returns-clause-plays g c =
     let i = inputs (g.S.Source.left c.args.input.now) (g.S.Source.faults c.args.input.now) (g.F.Files.left c.args.files.now) (g.F.Files.held c.args.files.now) (g.F.Files.faults c.args.files.now) in
     let j = inputs (g.S.Source.left c.run-ran.new.input) (g.S.Source.faults c.run-ran.new.input) (g.F.Files.left c.run-ran.new.files) (g.F.Files.held c.run-ran.new.files) (g.F.Files.faults c.run-ran.new.files) in
-    let old = scene i (g.O.Sink.written c.args.out.now) (g.O.Sink.faults c.args.out.now) in
-    let new = scene j (g.O.Sink.written c.run-ran.new.out) (g.O.Sink.faults c.run-ran.new.out) in
-    plays old new _ _ _ _ _ (asked_by (map string_bytes c.args.words.now.items)) c.run-ran.result c.run-ran.ensures.ran c.finish.ensures
+    let old = scene i (received (g.O.Sink.written c.args.out.now) (g.O.Sink.faults c.args.out.now)) in
+    let new = scene j (received (g.O.Sink.written c.run-ran.new.out) (g.O.Sink.faults c.run-ran.new.out)) in
+    let asked = asked_by (map string_bytes c.args.words.now.items) in
+    plays (record { asked = asked; old = old; new = new; err_old = _; err_new = _; status = _ }) c.run-ran.result c.run-ran.ensures.ran c.finish.ensures
