@@ -39,7 +39,8 @@ module _ {P S H : Type 0} (f : P → Functions S H) (g : Given P) where
       let t = told_from i k in
       (t.0 ++ (part f (run f g (i + k)).turn (run f g (i + k)).state).marks, subst (λ (n : ℕ). IsBetween f g i n (t.0 ++ (part f (run f g (i + k)).turn (run f g (i + k)).state).marks)) (sym e) (between-more f g i (i + k) t.0 t.1))
 
-  told_to : (i j : ℕ) → i ≤ j → (told : List Mark) × IsBetween f g i j told
+  -- what is told up to a later part
+  pub told_to : (i j : ℕ) → i ≤ j → (told : List Mark) × IsBetween f g i j told
   told_to i j le = let e : i + (j - i) ≡ j = omega arith in let t = told_from i (j - i) in (t.0, subst (λ (n : ℕ). IsBetween f g i n t.0) e t.1)
 
   begins_by : (asked : Asked) (xs told all : List Mark) (after : List ℕ) → all ≡ xs ++ told → (rest : List ℕ) × (shown_of asked xs ++ rest ≡ shown_of asked all ++ after)

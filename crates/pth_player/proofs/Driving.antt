@@ -1,5 +1,5 @@
 -- What a drive has written of a run.
-use Rattle.std.proofs.Common.{◌≡◌, ◌≢◌, ◌∙◌, ◌+◌, ◌-◌, ◌⊎◌, ◌<◌, ◌≤◌, ℕ, zero, suc, List, [], ◌++◌, Option, Result, Ok, Err, IsErr, IsErrAnd, OnOk, OnErr, ap, ap₂, sym, refl, subst, append-nil, append_assoc, arith, inl, inr, map, min, Bool, true, false, if◌then◌else◌}
+use Rattle.std.proofs.Common.{◌≡◌, ◌≢◌, ◌∙◌, ◌+◌, ◌-◌, ◌⊎◌, ◌<◌, ◌≤◌, ℕ, List, [], ◌++◌, Option, Result, Ok, Err, IsErr, IsErrAnd, OnOk, OnErr, ap, ap₂, sym, refl, subst, append-nil, append_assoc, arith, inl, inr, map, min, Bool, true, false, if◌then◌else◌}
 use Rattle.std.proofs.lemmas.Bool.{cases_lt}
 use Rattle.std.proofs.KnownBytes.{Appends-nil, Appends-trans}
 use Rattle.std.specs.Io.KnownBytes.{Appends}
@@ -20,7 +20,6 @@ use Rattle.pth_print.specs.EndLines.{end_line}
 use Rattle.pth_base.specs.declared.ids.Tid.{Tid}
 use Rattle.pth_sched.specs.MachineOf.{MachineOf}
 use Rattle.pth_sched.specs.Running.{Stands, StandsAt, GoesOn}
-use Rattle.pth_sched.proofs.Cutting.{goes_joined}
 use Rattle.pth_sched.proofs.Stopping.{run_stops}
 use Rattle.pth_threads.specs.Threads.{number_of}
 use Rattle.pth_command.specs.CommandLine.{Asked}
@@ -62,20 +61,6 @@ none_told f g = refl
 
 no_steps_of : {P S H : Type 0} (f : P → Functions S H) (g : Given P) (m : MachineOf P S H) → StandsAt f g 0 m → m.turn.steps ≡ 0
 no_steps_of f g m stands = ap (λ (x : Turn). x.steps) (sym stands.turn) ∙ none_made f g
-
--- a machine that goes on for n steps and is still running, and then for k steps, goes on for n + k
-pub strides_joined : {P S H : Type 0} (f : P → Functions S H) (m t u : MachineOf P S H) (n k : ℕ) (a b c : List Mark)
-    → ((g : Given P) (i : ℕ) → StandsAt f g i m → GoesOn f g (m.turn.steps + n) i t a b) → t.turn.steps ≡ m.turn.steps + n
-    → ((g : Given P) (i : ℕ) → StandsAt f g i t → GoesOn f g (t.turn.steps + k) i u b c)
-    → (g : Given P) (i : ℕ) → StandsAt f g i m → GoesOn f g (m.turn.steps + (n + k)) i u a c
-strides_joined f m t u n k a b c before made next g i stands =
-    let first = before g i stands in
-    goes_joined f g i n k m t u a b c first (λ on. made) (next g first.part first.stands)
-
--- some steps are left while it is not over
-pub still_some : (left : ℕ) (over : Bool) → (left ≡ 0 → over ≡ true) → over ≡ false → 1 ≤ left
-still_some zero over last going = absurd (true_false (sym (last refl) ∙ going))
-still_some (suc n) over last going = omega arith
 
 -- no more steps are asked for than are left
 pub not_more : (n most left size : ℕ) → n ≤ most → most ≡ min left size → n ≤ left

@@ -6,3 +6,4 @@ pub mod Pieces
 pub mod Reading
 pub mod Results
 pub mod Runs
+pub mod Strides

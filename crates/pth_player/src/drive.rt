@@ -1,12 +1,12 @@
 //! A machine run for a number of steps, and its transcript written piece by piece.
 
-ghost use Rattle.std.specs.Prelude.{◌≡◌, ◌≢◌, ◌≤◌, ◌-◌, ◌+◌, ◌++◌, ◌⊎◌, ℕ, IsFalse, IsTrue, OnOk};
+ghost use Rattle.std.specs.Prelude.{◌≡◌, ◌≢◌, ◌<◌, ◌≤◌, ◌-◌, ◌+◌, ◌++◌, ◌⊎◌, ℕ, IsFalse, IsTrue, OnOk};
 ghost use Rattle.pth_base.specs.Limits.{most_steps};
 ghost use Rattle.pth_model.specs.Course.{Course};
 ghost use Rattle.pth_model.specs.State.{Given};
 ghost use Rattle.pth_sched.specs.Running.{GoesOn, Stands, StandsAt};
 ghost use Rattle.pth_command.specs.CommandLine.{asked_of};
-ghost use Rattle.pth_player.specs.Drive.{Drives};
+ghost use Rattle.pth_player.specs.Drive.{Drives, TellsFewer};
 ghost use Rattle.pth_player.specs.Streams.{received};
 ghost use Rattle.pth_player.specs.Transcript.{counts_of, ending_of, lines_of, shown_of, WritesPiece};
 
@@ -25,7 +25,7 @@ use pth_streams::sink::{Sink, SinkErr};
 use pth_text::text::Text;
 use std::alloc::Global;
 
-/// How many marks are told before they are written, but for those of the last few steps: one step may tell 83,000.
+/// Fewer marks than these are told before they are written, but for those of the last `STRIDE` steps: one step may tell 83,000.
 const MOST_MARKS: usize = 4096;
 
 /// How many steps are made before the marks are counted.
@@ -115,13 +115,18 @@ fn is_over(left: u64, outcome: Outcome) -> bool
     }
 }
 
-/// Makes some of the machine's next steps: at most `n`, and no more once `MOST_MARKS` marks were told, but for the last few.
+/// Makes some of the machine's next steps: at most `n`. Before the last `STRIDE` of them fewer than `MOST_MARKS` marks were told.
 /// The answer has the outcome, and how many steps the machine was asked for.
 fn some_steps<P: Program>(machine: &mut Machine<P>, n: u64, marks: &mut Marks) -> (Outcome, u64)
     requires few { machine.old.turn.steps + n ≤ most_steps }
     ensures within { result.1 ≤ n }
     ensures some { 1 ≤ n → 1 ≤ result.1 }
     ensures goes_on { result.0 ≢ Outcome.OutOfMemory → (g : Given P) (i : ℕ) → StandsAt P.functions g i machine.old → GoesOn P.functions g (machine.old.turn.steps + result.1) i machine.new marks.old marks.new }
+    // `STRIDE` steps before the end of a longer piece fewer than `MOST_MARKS` marks were told
+    ensures few_marks { STRIDE < result.1
+        → (g : Given P) (i : ℕ) → StandsAt P.functions g i machine.old
+        → TellsFewer P.functions g (machine.old.turn.steps + (result.1 - STRIDE)) i
+        marks.old MOST_MARKS }
     ensures running { result.0 ≡ Outcome.Running → machine.new.turn.steps ≡ machine.old.turn.steps + result.1 }
     ensures outcome { result.0 ≡ machine.new.turn.outcome }
 {
@@ -140,8 +145,9 @@ fn some_steps<P: Program>(machine: &mut Machine<P>, n: u64, marks: &mut Marks) -
 /// Makes as many of the machine's next steps as the choice asks for, fewer if its run ends before, and writes what the
 /// choice asks for: its transcript, or a summary.
 ///
-/// Between two writes at most `piece` steps are made, and no more once 4,096 marks were told, but for the last few. The marks
-/// and the text of so many are kept at a time.
+/// Between two writes `some_steps` makes at most `piece` steps, and tells fewer than 4,096 marks and those of four steps more.
+/// The marks and the text of so many are kept at a time. The clauses of `some_steps` say so, and none of `drive`, which
+/// speaks of all that is written.
 ///
 /// A machine that stands at the start of a run writes the text of what that run tells to so many steps, and nothing else.
 /// If the sink fails or memory ends, a beginning of that is written.
