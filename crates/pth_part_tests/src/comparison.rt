@@ -9,7 +9,3 @@ pub fn same_text(rt: &impl Abort, told: &str, wanted: &str) {
 pub fn same_bytes(rt: &impl Abort, told: &[u8], wanted: &str) {
     assert_eq!(rt; told, wanted.as_bytes(), "{wanted}");
 }
-
-pub fn same_numbers(rt: &impl Abort, told: &[i64], wanted: &[i64]) {
-    assert_eq!(rt; told, wanted);
-}
