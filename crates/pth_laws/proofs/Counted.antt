@@ -1,8 +1,7 @@
 -- Who reads under a lock is counted: by one number for all who do, however many threads there may be.
-use Rattle.std.proofs.Common.{◌≡◌, ℕ, ◌+◌, ◌≤◌, ◌==◌, ◌&&◌, Bool, true, false, if◌then◌else◌, refl, sym, ◌∙◌, ap, subst, arith}
+use Rattle.std.proofs.Common.{◌≡◌, ℕ, ◌+◌, ◌≤◌, Bool, true, false, refl, sym, ◌∙◌, ap, subst, arith}
 use Rattle.pth_base.specs.Table.{put}
 use Rattle.pth_base.proofs.Lists.{put_none}
-use Rattle.pth_base.proofs.Tables.{put_is, same_self, not_same}
 use Rattle.pth_lock.proofs.Counts.{count_more, count_less, count_none, none_counted}
 use Rattle.pth_lock.specs.RwLocks.{count_below, readers_without}
 
@@ -30,17 +29,6 @@ counted_less f many t h = by_test (f t) refl
       counts = λ n low. let less = count_less f t n (omega (arith, low)) member in let all = h.counts n (omega (arith, low)) in omega (arith, less, all);
     }
     by_test false out = subst (λ (g : ℕ → Bool). IsCounted g many) (sym (put_none f t false out)) h
-
--- t alone
-pub counted_only : (f : ℕ → Bool) (t : ℕ) → IsCounted (λ u. (u == t) && f u) (if f t then 1 else 0)
-counted_only f t = subst (λ (g : ℕ → Bool). IsCounted g (if f t then 1 else 0)) (sym alone) (by_test (f t))
-  where
-    alone : (λ (u : ℕ). (u == t) && f u) ≡ put (λ u. false) t (f t)
-    alone = put_is (λ u. false) (λ u. (u == t) && f u) t (f t) (rw (same_self t) refl) (λ i apart. rw (not_same i t apart) refl)
-
-    by_test : (b : Bool) → IsCounted (put (λ u. false) t b) (if b then 1 else 0)
-    by_test true = counted_more (λ u. false) 0 t refl counted_none
-    by_test false = subst (λ (g : ℕ → Bool). IsCounted g 0) (sym (put_none (λ u. false) t false refl)) counted_none
 
 -- where they are none, none passes; and the other way round
 pub none_passes : (f : ℕ → Bool) (many : ℕ) → IsCounted f many → many ≡ 0 → (t : ℕ) → f t ≡ false

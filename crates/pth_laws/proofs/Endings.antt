@@ -23,8 +23,8 @@ use Rattle.pth_model.specs.RingWaits.{claimant, gives_back, stops_waiting, ring_
 use Rattle.pth_model.specs.Acts.{handled, runs_handler}
 use Rattle.pth_model.specs.Living.{lives, is_made}
 use Rattle.pth_model.proofs.Placed.{Seats, seats}
-use Rattle.pth_laws.specs.Book.{Book, Closed, BlockRun, after, ran_by, ran_nothing, with_handler, with_destructor}
-use Rattle.pth_laws.specs.Laws.{HasMutex, HoldsLock}
+use Rattle.pth_laws.proofs.Book.{Book, Closed, BlockRun, after, ran_by, ran_nothing, with_handler, with_destructor}
+use Rattle.pth_laws.proofs.Laws.{HasMutex, HoldsLock}
 use Rattle.pth_laws.specs.Destructors.{IsNextDue}
 use Rattle.pth_laws.proofs.NextDue.{next_is}
 use Rattle.pth_laws.proofs.Living.{IsLiving, Living, living-up, living_left}
@@ -32,7 +32,7 @@ use Rattle.pth_laws.proofs.Claims.{HasClaims, stopped_apart, claims_stop, claims
 use Rattle.pth_laws.proofs.Awaits.{HasAwaits, awaits_stop, awaits_left}
 use Rattle.pth_laws.proofs.Locked.{no_mutex, no_lock}
 use Rattle.pth_laws.proofs.Held.{out_released, out_given}
-use Rattle.pth_laws.proofs.Said.{value_self}
+use Rattle.pth_laws.proofs.OrderlyMarks.{value_self}
 use Rattle.pth_laws.proofs.Walk.{Walk, IsMarked, walk_tells, walk_then, walk_to}
 use Rattle.pth_laws.proofs.Handlers.{IsRunning, run_up, block_open, handled_walk, handler_walk}
 

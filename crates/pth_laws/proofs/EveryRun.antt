@@ -1,5 +1,6 @@
 -- Every run is lawful, and its states fit its marks.
-use Rattle.std.proofs.Common.{◌≡◌, ◌≢◌, ℕ, zero, suc, ◌≤◌, ◌&&◌, not, Bool, true, false, pos, List, [], ◌∷◌, ◌++◌, All, Option, Some, None, is_some, refl, sym, ◌∙◌, ◌⊎◌, inl, inr, ap, subst, arith, append-nil}
+use Rattle.std.proofs.Common.{◌≡◌, ◌≢◌, ℕ, zero, suc, ◌≤◌, ◌&&◌, ◌||◌, not, Bool, true, false, ℤ, pos, negsuc, List, [], ◌∷◌, ◌++◌, All, Option, Some, None, is_some, refl, sym, ◌∙◌, ◌⊎◌, inl, inr, ap, ap₂, subst, arith, append-nil}
+use Rattle.std.specs.List.{list_any}
 use Rattle.std.proofs.lemmas.List.Elements.{All-nil, All-cons, All-append, All-weaker}
 use Rattle.std.proofs.lemmas.Bool.Decides.{nat_tests}
 use Rattle.pth_base.specs.Program.{Functions}
@@ -7,7 +8,9 @@ use Rattle.pth_base.specs.Table.{put}
 use Rattle.pth_base.specs.declared.mark.Mark.{Mark}
 use Rattle.pth_base.specs.declared.outcome.Outcome.{Outcome}
 use Rattle.pth_base.specs.declared.outcome.Outcome.TheVariants as outcome
-use Rattle.pth_base.proofs.Tables.{put_by}
+use Rattle.pth_base.proofs.Tables.{put_by, same_means}
+use Rattle.pth_lock.specs.Mutexes.{Mutex, has, levels_of}
+use Rattle.pth_lock.specs.RwLocks.{is_one}
 use Rattle.pth_queue.specs.declared.queue.Queue.{Queue}
 use Rattle.pth_queue.specs.declared.queue.Queue.TheVariants.{New, Ready, Waiting, Suspended, Dead}
 use Rattle.pth_model.specs.Standing.{Standing, is_queue, raises_of}
@@ -20,15 +23,25 @@ use Rattle.pth_model.specs.Part.{part, part_by, next_part, next_part_by, unless_
 use Rattle.pth_model.specs.Resources.{Resources, HasNothing}
 use Rattle.pth_model.specs.Run.{parts, run}
 use Rattle.pth_model.proofs.Once.{shown-all}
-use Rattle.pth_laws.specs.Book.{Book, empty_book, after, book_of}
+use Rattle.pth_laws.proofs.Book.{Book, empty_book, after, book_of, is_kill}
 use Rattle.pth_laws.specs.Clean.{IsClean}
-use Rattle.pth_laws.specs.Laws.{EachMark, IsLawful, IsOrderlyMark, IsExclusiveMark, Orderly, Exclusive, thread_of}
-use Rattle.pth_laws.specs.Valid.{Lives, IsValid, IsTiedTo, IsOver, is_awaiting}
+use Rattle.pth_laws.proofs.Laws.{EachMark, IsLawful, IsExclusiveMark}
+use Rattle.pth_laws.specs.Marks.{thread_of}
+use Rattle.pth_laws.specs.Marks.{at_number}
+use Rattle.pth_laws.specs.Orderly.{Orderly, key_at}
+use Rattle.pth_laws.specs.Exclusive.{Exclusive}
+use Rattle.pth_laws.specs.Initialised.{Initialised}
+use Rattle.pth_laws.specs.Tied.{IsTiedTo}
+use Rattle.pth_laws.specs.Valid.{Lives, IsValid, IsOver, is_awaiting}
 use Rattle.pth_laws.proofs.Living.{true_false, made_more, both, not_true, runs_alive}
 use Rattle.pth_laws.proofs.Locked.{Locked, has_some, locked_none, locked_along}
 use Rattle.pth_laws.proofs.Walk.{IsOfMade, IsLawfulOf, each_lawful, each-weaker, each-append, book-append}
 use Rattle.pth_laws.proofs.Parts.{IsSettled, PartWalk, none_some, part_walk}
 use Rattle.pth_laws.proofs.Leftovers.{each_empty, unmarked_nothing}
+use Rattle.pth_laws.proofs.KeyMarks.{KeysFit, keys_fit_none, keys_fit_along}
+use Rattle.pth_laws.proofs.OrderlyMarks.{lawful_orderly, unkilled, ended_told, canceled_is, pending_are, closed_along}
+use Rattle.pth_laws.proofs.Shares.{not_had}
+use Rattle.pth_laws.proofs.ExclusiveMarks.{Fits, fits_none, fits_along, levels_are, reads_are, writes_are, lawful_exclusive, lawful_initialised}
 
 abbrev IsKilled : Outcome → Type 0
 IsKilled o = o ≡ outcome.Killed
@@ -156,28 +169,24 @@ module _ {P S H : Type 0} (f : P → Functions S H) where
   -- ---- what is told of every run
 
   pub run_orderly : (g : Given P) (i : ℕ) → Orderly (run f g i).marks
-  run_orderly g i = each-weaker IsLawful IsOrderlyMark (λ b m h. h.0) empty_book (run f g i).marks (run_lawful g i).law
+  run_orderly g i = lawful_orderly (run f g i).marks (run_lawful g i).law
 
   pub run_exclusive : (g : Given P) (i : ℕ) → Exclusive (run f g i).marks
-  run_exclusive g i = each-weaker IsLawful IsExclusiveMark (λ b m h. h.1) empty_book (run f g i).marks (run_lawful g i).law
+  run_exclusive g i = lawful_exclusive (run f g i).marks (run_lawful g i).law
 
-  pub run_tied : (g : Given P) (i : ℕ) → (IsKilled (run f g i).turn.outcome → ⊥) → IsTiedTo (run f g i).state (run f g i).marks
-  run_tied g i on =
+  pub run_initialised : (g : Given P) (i : ℕ) → Initialised (run f g i).marks
+  run_initialised g i = lawful_initialised (run f g i).marks (run_lawful g i).law
+
+  -- ---- of a run that was not killed
+
+  nobody_killed : (g : Given P) (i : ℕ) → (IsKilled (run f g i).turn.outcome → ⊥) → list_any is_kill (run f g i).marks ≡ false
+  nobody_killed g i on = unkilled (run f g i).marks 0 (((run_lawful g i).settled on).living.over 0)
+
+  unmade : (g : Given P) (i : ℕ) → (IsKilled (run f g i).turn.outcome → ⊥) → (t : ℕ) → is_made (run f g i).state.control.threads.made t ≡ false → All (λ m. thread_of m ≢ Some t) (run f g i).marks
+  unmade g i on t none =
       let c = run f g i in
-      let l = run_lawful g i in
-      let z = l.settled on in
       let n = c.state.control.threads.made in
-      record {
-        unmade = λ t none. All-weaker (λ m. IsOfMade n (thread_of m)) (λ m. thread_of m ≢ Some t) (λ m h same. true_false (sym (subst (IsOfMade n) same h) ∙ none)) c.marks (l.made on);
-        ended = λ t there. z.living.over t ∙ ap (λ b. b && not (lives (c.state.control.threads.known t))) there;
-        resources = z.resources;
-        canceled = λ t alive. z.canceled t (z.living.over t ∙ ap (λ b. is_made n t && not b) alive ∙ and_false (is_made n t));
-        closed = z.closed;
-      }
-    where
-      and_false : (b : Bool) → (b && false) ≡ false
-      and_false true = refl
-      and_false false = refl
+      All-weaker (λ m. IsOfMade n (thread_of m)) (λ m. thread_of m ≢ Some t) (λ m h same. true_false (sym (subst (IsOfMade n) same h) ∙ none)) c.marks ((run_lawful g i).made on)
 
   pub run_valid : (g : Given P) (i : ℕ) → (IsKilled (run f g i).turn.outcome → ⊥) → IsValid (run f g i).state (run f g i).turn
   run_valid g i on =
@@ -193,7 +202,7 @@ module _ {P S H : Type 0} (f : P → Functions S H) where
         gave = λ t g. by_gave t (z.gave t g);
         unnamed = z.unnamed;
         awaits = λ t. (z.awaits t).0;
-        empty = λ t over. subst (λ r. HasNothing r.store t) z.resources (each_empty empty_book c.marks (run_orderly g i) (λ u h. absurd (true_false (sym h))) t (z.living.over t ∙ rw (over.made, over.gone) refl));
+        empty = λ t over. subst (λ r. HasNothing r.store t) z.resources (each_empty empty_book c.marks l.law (nobody_killed g i on) (λ u h. absurd (true_false (sym h))) t (z.living.over t ∙ rw (over.made, over.gone) refl));
       }
     where
       by_gave : (t : ℕ) → ((run f g i).state.control.scheduler.running ≡ Some t) ⊎ (((run f g i).state.control.scheduler.running ≡ None) × ((book_of empty_book (run f g i).marks).ended t ≡ true)) → ((run f g i).state.control.scheduler.running ≡ Some t) ⊎ IsOver (run f g i).state t
@@ -210,9 +219,81 @@ module _ {P S H : Type 0} (f : P → Functions S H) where
     where
       by_made : (b : Bool) → is_made (run f g i).state.control.threads.made t ≡ b → HasNothing (run f g i).state.resources.store t
       by_made true made = (run_valid g i on).empty t (record { made = made; gone = gone })
-      by_made false unmade =
-          let tied = run_tied g i on in
-          subst (λ (r : Resources). HasNothing r.store t) tied.resources (unmarked_nothing t empty_book (run f g i).marks (tied.unmade t unmade) (record { cleanups = refl; values = λ k. refl; mutexes = λ m. refl; locks = λ l. refl }))
+      by_made false none =
+          subst (λ (r : Resources). HasNothing r.store t) ((run_lawful g i).settled on).resources (unmarked_nothing t empty_book (run f g i).marks (unmade g i on t none) (record { cleanups = refl; values = λ k. refl; mutexes = λ m. refl; locks = λ l. refl }))
+
+  -- who has a mutex is one thread
+  same_owner : (t u : ℕ) (z : Mutex) → has t z ≡ true → has u z ≡ true → t ≡ u
+  same_owner t u None a b = absurd (true_false (sym a))
+  same_owner t u (Some None) a b = absurd (true_false (sym a))
+  same_owner t u (Some (Some o)) a b = sym (same_means o.owner t a) ∙ same_means o.owner u b
+
+  writes_some : (t : ℕ) (w : Option ℕ) → is_one t w ≡ true → is_some w ≡ true
+  writes_some t None h = absurd (true_false (sym h))
+  writes_some t (Some v) h = refl
+
+  module _ (g : Given P) (i : ℕ) (on : IsKilled (run f g i).turn.outcome → ⊥) where
+    abbrev marks : List Mark
+    marks = (run f g i).marks
+
+    abbrev s : State P S H
+    s = (run f g i).state
+
+    abbrev book : Book
+    book = book_of empty_book marks
+
+    settled : IsSettled s.control.threads.made book s (run f g i).turn
+    settled = (run_lawful g i).settled on
+
+    same : book.resources ≡ s.resources
+    same = settled.resources
+
+    none : list_any is_kill marks ≡ false
+    none = nobody_killed g i on
+
+    fit : Fits s.resources marks
+    fit = subst (λ (k : Resources). Fits k marks) same (fits_along empty_book [] marks none (run_lawful g i).law fits_none)
+
+    fit_keys : (t : ℕ) → KeysFit t s.resources.store.keys marks
+    fit_keys t = subst (λ (k : Resources). KeysFit t k.store.keys marks) same (keys_fit_along t empty_book [] marks none (run_lawful g i).law (keys_fit_none t))
+
+    keys_in : (key : ℤ) → key_at key marks ≡ at_number None s.resources.store.keys.keys key
+    keys_in (pos key) = (fit_keys 0).keys key
+    keys_in (negsuc key) = (fit_keys 0).low key
+
+    no_level : (t : ℕ) → HasNothing s.resources.store t → (m : ℤ) → levels_of t (at_number None s.resources.store.mutexes m) ≡ 0
+    no_level t nothing (pos m) = not_had t (s.resources.store.mutexes m) (nothing.mutexes m)
+    no_level t nothing (negsuc m) = refl
+
+    no_hold : (t : ℕ) → HasNothing s.resources.store t → (l : ℤ) → (is_one t (at_number None s.resources.store.rw_locks.writer l) || at_number false (λ k. s.resources.store.rw_locks.reads k t) l) ≡ false
+    no_hold t nothing (pos l) = nothing.locks l
+    no_hold t nothing (negsuc l) = refl
+
+    uncanceled : (t : ℕ) → Lives s t → book.canceled t ≡ false
+    uncanceled t alive = settled.canceled t (settled.living.over t ∙ (ap (λ b. is_made s.control.threads.made t && not b) alive ∙ and_false (is_made s.control.threads.made t)))
+      where
+        and_false : (b : Bool) → (b && false) ≡ false
+        and_false true = refl
+        and_false false = refl
+
+    pub run_tied : IsTiedTo s marks
+    run_tied = record {
+      unmade = unmade g i on;
+      ended = λ t there. sym (ended_told marks t none) ∙ (settled.living.over t ∙ ap (λ b. b && not (lives (s.control.threads.known t))) there);
+      canceled = λ t alive. sym (canceled_is marks t) ∙ uncanceled t alive;
+      closed = λ t. closed_along t empty_book marks settled.closed;
+      cleanups = λ t. sym (pending_are marks none t) ∙ ap (λ (k : Resources). k.store.cleanups t) same;
+      keys = keys_in;
+      values = λ t. (fit_keys t).values;
+      mutexes = levels_are s.resources marks fit;
+      readers = reads_are s.resources marks fit;
+      writers = writes_are s.resources marks fit;
+      awaiting = λ t. fit.awaiting t ∙ (settled.awaits t).0;
+      gone_has_no_level = λ t m gone. levels_are s.resources marks fit t m ∙ no_level t (nothing_left g i on t gone) m;
+      gone_holds_no_lock = λ t l gone. ap₂ (λ (x y : Bool). x || y) (writes_are s.resources marks fit t l) (reads_are s.resources marks fit t l) ∙ no_hold t (nothing_left g i on t gone) l;
+      one_owner = λ t u m. same_owner t u (s.resources.store.mutexes m);
+      one_hold = λ t u l writing. fit.sound.alone l (writes_some t (s.resources.store.rw_locks.writer l) writing) u;
+    }
 
   pub run_clean : (g : Given P) (i : ℕ) → (IsKilled (run f g i).turn.outcome → ⊥) → IsClean (run f g i).state
   run_clean g i on = record {
@@ -225,7 +306,7 @@ module _ {P S H : Type 0} (f : P → Functions S H) where
       s = (run f g i).state
 
       locked : Locked s.resources
-      locked = subst Locked ((run_lawful g i).settled on).resources (locked_along empty_book (run f g i).marks (run_exclusive g i) locked_none)
+      locked = subst Locked ((run_lawful g i).settled on).resources (locked_along empty_book (run f g i).marks (each-weaker IsLawful IsExclusiveMark (λ b m h. h.1) empty_book (run f g i).marks (run_lawful g i).law) locked_none)
 
       alive : (t : ℕ) → (HasNothing s.resources.store t → ⊥) → lives (s.control.threads.known t) ≡ true
       alive t something = by_life (lives (s.control.threads.known t)) refl

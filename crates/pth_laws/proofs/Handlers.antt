@@ -19,8 +19,8 @@ use Rattle.pth_model.specs.Mutexes.{mutex_release}
 use Rattle.pth_model.specs.Row.{unless_refused, refuses}
 use Rattle.pth_model.specs.Acts.{acts, acts_from, act_limit, answer_in, row_of_act, handled, goes_on_after, runs_handler}
 use Rattle.pth_model.specs.Living.{is_made}
-use Rattle.pth_laws.specs.Book.{Book, Open, BlockRun, ran_by, with_handler}
-use Rattle.pth_laws.specs.Laws.{IsAnswerExclusive, IsExclusiveMark}
+use Rattle.pth_laws.proofs.Book.{Book, Open, BlockRun, ran_by, with_handler}
+use Rattle.pth_laws.proofs.Laws.{IsAnswerExclusive, IsExclusiveMark}
 use Rattle.pth_laws.proofs.Awaits.{act_awaits}
 use Rattle.pth_laws.proofs.Locking.{release_said}
 use Rattle.pth_laws.proofs.Walk.{Walk, walk_tells, walk_then}

@@ -1,5 +1,6 @@
 -- Who has ended has nothing stored: no mark of another thread stores anything for it.
 use Rattle.std.proofs.Common.{◌≡◌, ◌≢◌, ℕ, zero, suc, ◌==◌, Bool, true, false, if◌then◌else◌, ℤ, pos, List, [], ◌∷◌, All, Option, Some, None, refl, sym, ◌∙◌, ap, subst}
+use Rattle.std.specs.List.{list_any}
 use Rattle.std.proofs.lemmas.List.Elements.{All-head, All-tail}
 use Rattle.pth_base.specs.Table.{put}
 use Rattle.pth_base.specs.declared.act.Act.{Act}
@@ -19,8 +20,10 @@ use Rattle.pth_lock.specs.Mutexes.{MutexTable}
 use Rattle.pth_lock.specs.RwLocks.{LockTables}
 use Rattle.pth_numbered.specs.Operands.{number}
 use Rattle.pth_model.proofs.Nothing.{NoMutex, NoLock, no_mutex_initialised, no_mutex_taken, no_mutex_released, no_mutex_left, no_mutex_only, no_mutex_more, no_lock_initialised, no_lock_taken, no_lock_released, no_lock_left, no_lock_only, no_lock_more}
-use Rattle.pth_laws.specs.Book.{Book, after, book_of}
-use Rattle.pth_laws.specs.Laws.{EachMark, HasNotEnded, thread_of, IsOrderlyMark}
+use Rattle.pth_laws.proofs.Book.{Book, is_kill, after, book_of}
+use Rattle.pth_laws.proofs.Laws.{EachMark, HasNotEnded, IsLawful}
+use Rattle.pth_laws.specs.Marks.{thread_of}
+use Rattle.pth_laws.proofs.Held.{neither}
 use Rattle.pth_laws.proofs.Living.{true_false}
 
 -- ---- one mark
@@ -133,20 +136,22 @@ no_mark_of : (b : Book) (o : Option ℕ) (t : ℕ) → HasNotEnded b o → b.end
 no_mark_of b None t h over same = absurd (cc same)
 no_mark_of b (Some u) t h over same = let here : u ≡ t = cc in true_false (sym over ∙ ap b.ended (sym here) ∙ h)
 
-after_empty : (b : Book) (m : Mark) → HasNotEnded b (thread_of m) → AreEmpty b → AreEmpty (after b m)
+after_empty : (b : Book) (m : Mark) → HasNotEnded b (thread_of m) → is_kill m ≡ false → AreEmpty b → AreEmpty (after b m)
 unfolding told
-after_empty b (mark.Ended u v) h empty t over = by_same (t == u.0) refl
+after_empty b (mark.Ended u v) h on empty t over = by_same (t == u.0) refl
   where
     by_same : (x : Bool) → (t == u.0) ≡ x → HasNothing (end_told b.resources u.0).store t
     by_same true same = subst (λ (i : ℕ). HasNothing (end_told b.resources u.0).store i) (sym (same_means t u.0 same)) (ended_nothing b.resources u.0)
     by_same false apart =
         let before : b.ended t ≡ true = sym (put_other b.ended u.0 true t (same_fails t u.0 apart)) ∙ over in
         told_nothing t b.resources (mark.Ended u v) (no_mark_of b (Some u.0) t h before) (empty t before)
-after_empty b m h empty t over = told_nothing t b.resources m (no_mark_of b (thread_of m) t h over) (empty t over)
+after_empty b (mark.Answered u call.Kill (answer.Int n)) h on empty t over = absurd (true_false on)
+after_empty b m h on empty t over = told_nothing t b.resources m (no_mark_of b (thread_of m) t h over) (empty t over)
 
-pub each_empty : (b : Book) (ms : List Mark) → EachMark IsOrderlyMark b ms → AreEmpty b → AreEmpty (book_of b ms)
-each_empty b [] law empty = empty
-each_empty b (m ∷ ms) law empty = each_empty (after b m) ms law.1 (after_empty b m law.0.0 empty)
+-- of a run that goes on
+pub each_empty : (b : Book) (ms : List Mark) → EachMark IsLawful b ms → list_any is_kill ms ≡ false → AreEmpty b → AreEmpty (book_of b ms)
+each_empty b [] law on empty = empty
+each_empty b (m ∷ ms) law on empty = let (first, rest) = neither (is_kill m) (list_any is_kill ms) on in each_empty (after b m) ms law.1 rest (after_empty b m law.0.0.0 first empty)
 
 -- a thread that no mark is of has nothing more afterwards
 pub unmarked_nothing : (t : ℕ) (b : Book) (ms : List Mark) → All (λ m. thread_of m ≢ Some t) ms → HasNothing b.resources.store t → HasNothing (book_of b ms).resources.store t

@@ -1,3 +1,6 @@
+pub mod Book
+pub mod Laws
+pub mod Numbers
 pub mod Refused
 pub mod Living
 pub mod Going
@@ -14,7 +17,10 @@ pub mod Steps
 pub mod Parts
 pub mod Leftovers
 pub mod EveryRun
-pub mod Said
+pub mod Prefixes
+pub mod KeyMarks
+pub mod OrderlyMarks
 pub mod Shares
-pub mod SaidExclusive
+pub mod ExclusiveMarks
 pub mod NextDue
+pub mod Excludes

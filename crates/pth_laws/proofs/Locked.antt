@@ -14,8 +14,8 @@ use Rattle.pth_lock.specs.Objects.{object_limit, object_named}
 use Rattle.pth_lock.specs.Mutexes.{Mutex, MutexTable, free_mutex, has, is_anothers, mutexes_left}
 use Rattle.pth_lock.specs.RwLocks.{LockTables, holds, is_one, lock_initialised, lock_released, lock_taken, locks_left}
 use Rattle.pth_model.specs.Resources.{Resources, no_resources, mutexes_of_only, locks_of_only, on_one, on_int, on_msg, told, answer_told, act_told, retaken, let_go}
-use Rattle.pth_laws.specs.Book.{Book, after, book_of}
-use Rattle.pth_laws.specs.Laws.{EachMark, IsAnswerExclusive, IsExclusiveMark, MayTake}
+use Rattle.pth_laws.proofs.Book.{Book, after, book_of}
+use Rattle.pth_laws.proofs.Laws.{EachMark, IsAnswerExclusive, IsExclusiveMark, MayTake}
 use Rattle.pth_laws.proofs.Living.{true_false}
 use Rattle.pth_laws.proofs.Held.{out_released, out_left, out_only}
 
@@ -140,19 +140,19 @@ module _ (k : Resources) (locked : Locked k) where
   answer_locked t (call.KeyCreate h) a law = locked_int a _ (λ n. locked)
   answer_locked t (call.KeyDelete key) a law = locked_one a _ locked
   answer_locked t (call.KeySet key v) a law = locked_one a _ locked
-  answer_locked t (call.MutexInit m) (answer.Int n) law = locked_put x y locked (object_named m) free_mutex law.known
+  answer_locked t (call.MutexInit m) (answer.Int n) law = locked_put x y locked (object_named m) free_mutex law.1.known
   answer_locked t (call.MutexInit m) a law = locked
-  answer_locked t (call.MutexAcquire m v e) (answer.Int n) law = locked_at x y locked (object_named m) _ law.initialised
+  answer_locked t (call.MutexAcquire m v e) (answer.Int n) law = locked_at x y locked (object_named m) _ law.1.initialised
   answer_locked t (call.MutexAcquire m v e) a law = locked
-  answer_locked t (call.MutexRelease m) (answer.Int n) law = locked_at x y locked (object_named m) _ (has_some t (x (object_named m)) law)
+  answer_locked t (call.MutexRelease m) (answer.Int n) law = locked_at x y locked (object_named m) _ (has_some t (x (object_named m)) law.1)
   answer_locked t (call.MutexRelease m) a law = locked
-  answer_locked t (call.RwInit l) (answer.Int n) law = lock_begins x y locked (object_named l) law.known
+  answer_locked t (call.RwInit l) (answer.Int n) law = lock_begins x y locked (object_named l) law.1.known
   answer_locked t (call.RwInit l) a law = locked
-  answer_locked t (call.RwAcquire l write v e) (answer.Int n) law = entered x y locked t write (object_named l) law.initialised
+  answer_locked t (call.RwAcquire l write v e) (answer.Int n) law = entered x y locked t write (object_named l) law.1.initialised
   answer_locked t (call.RwAcquire l write v e) a law = locked
   answer_locked t (call.RwRelease l) (answer.Int n) law = less x y locked (lock_released t (object_named l) y) refl (λ i u. out_released u y i t (object_named l))
   answer_locked t (call.RwRelease l) a law = locked
-  answer_locked t (call.CondAwait c m e) a law = took_back t (number m) (k.awaits t) refl law
+  answer_locked t (call.CondAwait c m e) a law = took_back t (number m) (k.awaits t) refl (λ on. (law on).1)
   answer_locked t (call.PortCreate name) a law = locked_int a _ (λ n. locked)
   answer_locked t (call.PortPut p v r) a law = locked_int a _ (λ n. locked)
   answer_locked t (call.PortGet p) a law = locked_msg a _ locked
@@ -168,7 +168,7 @@ locked_after b (mark.Answered t c a) law locked = answer_locked b.resources lock
 locked_after b (mark.Acted t (act.Release m) a) law locked = answer_locked b.resources locked t.0 (call.MutexRelease m) a law
 locked_after b (mark.Acted t (act.Put p v) a) law locked = answer_locked b.resources locked t.0 (call.PortPut p v (pos 0)) a tt
 locked_after b (mark.Acted t (act.SetKey key v) a) law locked = answer_locked b.resources locked t.0 (call.KeySet key v) a tt
-locked_after b (mark.Waits t (call.CondAwait c m e)) law locked = gave_back b.resources locked t.0 (number m) (b.resources.awaits t.0) refl law
+locked_after b (mark.Waits t (call.CondAwait c m e)) law locked = gave_back b.resources locked t.0 (number m) (b.resources.awaits t.0) refl (λ on. (law on).1)
 locked_after b (mark.Took t m) law locked = locked_at b.resources.store.mutexes b.resources.store.rw_locks locked m _ law.initialised
 locked_after b (mark.GaveMutex t m) law locked = locked_at b.resources.store.mutexes b.resources.store.rw_locks locked m _ (has_some t.0 (b.resources.store.mutexes m) law)
 locked_after b (mark.GaveLock t l) law locked = less b.resources.store.mutexes b.resources.store.rw_locks locked (lock_released t.0 l b.resources.store.rw_locks) refl (λ i u. out_released u b.resources.store.rw_locks i t.0 l)

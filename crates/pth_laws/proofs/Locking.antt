@@ -1,5 +1,7 @@
 -- What calls on mutexes and locks come to is exclusive, by the tests of their rows.
-use Rattle.std.proofs.Common.{◌≡◌, ◌<◌, ℕ, ◌==◌, ◌&&◌, ◌||◌, not, nat_lt, Bool, true, false, if◌then◌else◌, ℤ, pos, Option, Some, None, is_some, is_none, Ok, Err, refl, sym, ◌∙◌, arith}
+use Rattle.std.proofs.Common.{◌≡◌, ◌<◌, ◌≤◌, ℕ, zero, suc, ◌+◌, ◌-◌, ◌==◌, ◌&&◌, ◌||◌, not, nat_lt, Bool, true, false, cond, if◌then◌else◌, ℤ, pos, find, Option, Some, None, is_some, is_none, Ok, Err, refl, sym, ◌∙◌, arith}
+use Rattle.std.specs.List.{range_with_len}
+use Rattle.std.specs.Option.{ok_or}
 use Rattle.std.proofs.lemmas.Bool.{not-false}
 use Rattle.std.proofs.lemmas.Bool.Decides.{nat_tests}
 use Rattle.pth_base.specs.Program.{Functions}
@@ -13,6 +15,7 @@ use Rattle.pth_numbered.specs.Operands.{is_zero}
 use Rattle.pth_lock.specs.Objects.{object_limit, object_named, is_object}
 use Rattle.pth_lock.specs.Mutexes.{Mutex, has, is_anothers, owner_of, levels_of, level_limit, release_answer}
 use Rattle.pth_lock.specs.RwLocks.{LockTables, holds, may_enter, is_held}
+use Rattle.pth_store.specs.Keys.{Tables, free_key, keys_from, key_limit}
 use Rattle.pth_model.specs.declared.blocked.Blocked.{Blocked}
 use Rattle.pth_model.specs.Acts.{answer_in}
 use Rattle.pth_model.specs.Calls.{unless_come}
@@ -22,12 +25,12 @@ use Rattle.pth_model.specs.Rows.{row_of}
 use Rattle.pth_model.specs.State.{State}
 use Rattle.pth_model.specs.Transition.{Piece, silent, tid}
 use Rattle.pth_model.specs.Verdict.{Verdict, Says, Yields, Blocks, Ends, Kills, refused, says, waits, done, by_result, ◌when◌otherwise◌}
-use Rattle.pth_laws.specs.Book.{Book}
-use Rattle.pth_laws.specs.Laws.{IsAnswerExclusive, IsExclusiveMark}
+use Rattle.pth_laws.proofs.Book.{Book}
+use Rattle.pth_laws.proofs.Laws.{IsAnswerExclusive, IsExclusiveMark}
 use Rattle.pth_laws.proofs.Living.{true_false, both, not_true}
 use Rattle.pth_laws.specs.Valid.{is_await}
 
--- calls on mutexes and locks
+-- calls on mutexes and locks, and the one that makes keys
 abbrev pub is_locking : Call → Bool
 is_locking (call.MutexInit m) = true
 is_locking (call.MutexAcquire m v e) = true
@@ -36,6 +39,7 @@ is_locking (call.RwInit l) = true
 is_locking (call.RwAcquire l write v e) = true
 is_locking (call.RwRelease l) = true
 is_locking (call.CondAwait c m e) = true
+is_locking (call.KeyCreate h) = true
 is_locking c = false
 
 -- what a verdict on a call of t tells is exclusive; a pth_cond_await blocks nobody
@@ -70,6 +74,22 @@ own_is t (Some (Some o)) h other = not-false _ other
 below : (m : ℤ) → not (is_object m) ≡ false → object_named m < object_limit
 below m h = let low : nat_lt (object_named m) object_limit ≡ true = not-false _ h in grind (arith, nat_tests)
 
+-- what is found from a number on, of so many, is one of these
+found_below : (test : ℕ → Bool) (n k i : ℕ) → find test (range_with_len k n) ≡ Some i → i < k + n
+found_below test zero k i h = absurd (cc h)
+found_below test (suc n) k i h = by_test (test k) h (found_below test n (k + 1) i)
+  where
+    by_test : (b : Bool) → cond b (Some k) (find test (range_with_len (k + 1) n)) ≡ Some i → (find test (range_with_len (k + 1) n) ≡ Some i → i < k + 1 + n) → i < k + suc n
+    by_test true h later = let same : k ≡ i = cc in omega (arith, same)
+    by_test false h later = let below = later h in omega (arith, below)
+
+found_key : (test : ℕ → Bool) (from i : ℕ) → from ≤ key_limit → find test (keys_from from) ≡ Some i → i < key_limit
+found_key test from i low h = let below = found_below test (key_limit - from) from i h in omega (arith, below, low)
+
+-- a key that is found free is one of those that there may be
+free_below : (x : Tables) (i : ℕ) → free_key x ≡ Some i → i < key_limit
+free_below x i free = found_key (λ k. is_none (x.keys k)) 0 i (omega arith) free
+
 module _ (k : Resources) (t : ℕ) where
   other_answer : (c : Call) (a : Answer) → is_locking c ≡ false → IsAnswerExclusive k t c a
   other_answer (call.MutexInit m) a h = absurd (true_false h)
@@ -79,6 +99,7 @@ module _ (k : Resources) (t : ℕ) where
   other_answer (call.RwAcquire l write v e) a h = absurd (true_false h)
   other_answer (call.RwRelease l) a h = absurd (true_false h)
   other_answer (call.CondAwait c m e) a h = absurd (true_false h)
+  other_answer (call.KeyCreate x) a h = absurd (true_false h)
   other_answer c a h = tt
 
   other_wait : (c : Call) → is_locking c ≡ false → is_await c ≡ false
@@ -102,13 +123,13 @@ module _ (k : Resources) (t : ℕ) where
   init_exclusive : (m : ℤ) (a b : Bool) → not (is_object m) ≡ a → is_some (z m) ≡ b → IsVerdictExclusive k t (call.MutexInit m) (by_result done (if a then Err EINVAL else if b then Err EBUSY else Ok tt))
   init_exclusive m true b unknown was = tt
   init_exclusive m false true unknown was = tt
-  init_exclusive m false false unknown was = record { known = below m unknown; new = was }
+  init_exclusive m false false unknown was = (refl, record { known = below m unknown; new = was })
 
   acquire_exclusive : (m v e : ℤ) (a ring b c d : Bool) → is_none (z m) ≡ a → not (is_anothers t (z m)) ≡ c → IsVerdictExclusive k t (call.MutexAcquire m v e) (refused EINVAL when a || ring otherwise refused EAGAIN when b otherwise says 1 when c otherwise refused EBUSY when d otherwise waits)
   acquire_exclusive m v e true ring b c d none free = tt
   acquire_exclusive m v e false true b c d none free = tt
   acquire_exclusive m v e false false true c d none free = tt
-  acquire_exclusive m v e false false false true d none free = record { initialised = some_of (z m) none; free = not_true _ free }
+  acquire_exclusive m v e false false false true d none free = (refl, record { initialised = some_of (z m) none; free = not_true _ free })
   acquire_exclusive m v e false false false false true none free = tt
   acquire_exclusive m v e false false false false false none free = refl
 
@@ -116,14 +137,14 @@ module _ (k : Resources) (t : ℕ) where
   release_exclusive m true b c none free other = tt
   release_exclusive m false true c none free other = tt
   release_exclusive m false false true none free other = tt
-  release_exclusive m false false false none free other = own_is t (z m) free other
+  release_exclusive m false false false none free other = (refl, own_is t (z m) free other)
 
   -- and so an act of a handler
   release_act : (m : ℤ) (a b c : Bool) → is_none (z m) ≡ a → is_none (owner_of (z m)) ≡ b → is_anothers t (z m) ≡ c → IsAnswerExclusive k t (call.MutexRelease m) (answer_in (by_result done (if a then Err EINVAL else if b then Err EDEADLK else if c then Err EACCES else Ok tt)))
   release_act m true b c none free other = tt
   release_act m false true c none free other = tt
   release_act m false false true none free other = tt
-  release_act m false false false none free other = own_is t (z m) free other
+  release_act m false false false none free other = (refl, own_is t (z m) free other)
 
   pub release_said : (m : ℤ) → IsAnswerExclusive k t (call.MutexRelease m) (answer_in (by_result done (release_answer t (z m))))
   release_said m = release_act m (is_none (z m)) (is_none (owner_of (z m))) (is_anothers t (z m)) refl refl refl
@@ -131,13 +152,13 @@ module _ (k : Resources) (t : ℕ) where
   lock_init_exclusive : (l : ℤ) (a b : Bool) → not (is_object l) ≡ a → x.initialised (object_named l) ≡ b → IsVerdictExclusive k t (call.RwInit l) (by_result done (if a then Err EINVAL else if b then Err EBUSY else Ok tt))
   lock_init_exclusive l true b unknown was = tt
   lock_init_exclusive l false true unknown was = tt
-  lock_init_exclusive l false false unknown was = record { known = below l unknown; new = was }
+  lock_init_exclusive l false false unknown was = (refl, record { known = below l unknown; new = was })
 
   enter_exclusive : (l : ℤ) (write : Bool) (v e : ℤ) (a ring b c d : Bool) → not (x.initialised (object_named l)) ≡ a → holds x t (object_named l) ≡ b → may_enter x write (object_named l) ≡ c → IsVerdictExclusive k t (call.RwAcquire l write v e) (refused EINVAL when a || ring otherwise refused EDEADLK when b otherwise says 1 when c otherwise refused EBUSY when d otherwise waits)
   enter_exclusive l write v e true ring b c d none held may = tt
   enter_exclusive l write v e false true b c d none held may = tt
   enter_exclusive l write v e false false true c d none held may = tt
-  enter_exclusive l write v e false false false true d none held may = record { initialised = not-false _ none; out = held; enters = may }
+  enter_exclusive l write v e false false false true d none held may = (refl, record { initialised = not-false _ none; out = held; enters = may })
   enter_exclusive l write v e false false false false true none held may = tt
   enter_exclusive l write v e false false false false false none held may = refl
 
@@ -145,7 +166,12 @@ module _ (k : Resources) (t : ℕ) where
   lock_release_exclusive l true b c held = tt
   lock_release_exclusive l false true c held = tt
   lock_release_exclusive l false false true held = tt
-  lock_release_exclusive l false false false held = not-false _ held
+  lock_release_exclusive l false false false held = (refl, not-false _ held)
+
+  -- a key that is made is the least that is free
+  create_exclusive : (h : Option ℤ) (o : Option ℕ) → free_key k.store.keys ≡ o → IsVerdictExclusive k t (call.KeyCreate h) (by_result says (ok_or o EAGAIN))
+  create_exclusive h None free = tt
+  create_exclusive h (Some i) free = (i, refl, free_below k.store.keys i free)
 
 module _ {P S H : Type 0} (f : P → Functions S H) (s : State P S H) (t : ℕ) where
   abbrev r : Resources
@@ -161,13 +187,14 @@ module _ {P S H : Type 0} (f : P → Functions S H) (s : State P S H) (t : ℕ) 
   begins_exclusive (call.RwAcquire l write v e) idle = enter_exclusive r t l write v e (not (r.store.rw_locks.initialised (object_named l))) (is_no_ring s (extra_ring e)) (holds r.store.rw_locks t (object_named l)) (may_enter r.store.rw_locks write (object_named l)) (not (is_zero v) || is_claimed_ring s (extra_ring e)) refl refl refl
   begins_exclusive (call.RwRelease l) idle = lock_release_exclusive r t l (not (r.store.rw_locks.initialised (object_named l))) (not (is_held r.store.rw_locks (object_named l))) (not (holds r.store.rw_locks t (object_named l))) refl
   begins_exclusive (call.CondAwait c m e) idle = λ awaits. absurd (true_false (sym awaits ∙ idle))
+  begins_exclusive (call.KeyCreate h) idle = create_exclusive r t h (free_key r.store.keys) refl
   begins_exclusive c idle = other_exclusive r t c (row_of f s t c).begin.verdict refl
 
   -- a call is tried again
 
   acquires_again : (m v e : ℤ) (come b : Bool) (a : Piece P S H) → (not (is_none (z r t m)) && is_none (owner_of (z r t m))) ≡ b → IsVerdictExclusive r t (call.MutexAcquire m v e) (unless_come come (record { verdict = says 1 when b otherwise waits; effect = a })).verdict
-  acquires_again m v e false true a is = let h = both _ _ is in record { initialised = some_of (z r t m) (not_true _ h.0); free = free_is t (z r t m) h.1 }
-  acquires_again m v e true true a is = let h = both _ _ is in record { initialised = some_of (z r t m) (not_true _ h.0); free = free_is t (z r t m) h.1 }
+  acquires_again m v e false true a is = let h = both _ _ is in (refl, record { initialised = some_of (z r t m) (not_true _ h.0); free = free_is t (z r t m) h.1 })
+  acquires_again m v e true true a is = let h = both _ _ is in (refl, record { initialised = some_of (z r t m) (not_true _ h.0); free = free_is t (z r t m) h.1 })
   acquires_again m v e false false a is = refl
   acquires_again m v e true false a is = tt
 
@@ -175,8 +202,8 @@ module _ {P S H : Type 0} (f : P → Functions S H) (s : State P S H) (t : ℕ) 
   locks = r.store.rw_locks
 
   enters_again : (l : ℤ) (write : Bool) (v e : ℤ) (come b : Bool) (a : Piece P S H) → ((locks.initialised (object_named l) && may_enter locks write (object_named l)) && not (holds locks t (object_named l))) ≡ b → IsVerdictExclusive r t (call.RwAcquire l write v e) (unless_come come (record { verdict = says 1 when b otherwise waits; effect = a })).verdict
-  enters_again l write v e false true a is = let h = both _ _ is in let g = both _ _ h.0 in record { initialised = g.0; out = not_true _ h.1; enters = g.1 }
-  enters_again l write v e true true a is = let h = both _ _ is in let g = both _ _ h.0 in record { initialised = g.0; out = not_true _ h.1; enters = g.1 }
+  enters_again l write v e false true a is = let h = both _ _ is in let g = both _ _ h.0 in (refl, record { initialised = g.0; out = not_true _ h.1; enters = g.1 })
+  enters_again l write v e true true a is = let h = both _ _ is in let g = both _ _ h.0 in (refl, record { initialised = g.0; out = not_true _ h.1; enters = g.1 })
   enters_again l write v e false false a is = refl
   enters_again l write v e true false a is = tt
 
@@ -192,5 +219,7 @@ module _ {P S H : Type 0} (f : P → Functions S H) (s : State P S H) (t : ℕ) 
   again_exclusive (call.RwInit l) b true other = tt
   again_exclusive (call.RwRelease l) b false other = refl
   again_exclusive (call.RwRelease l) b true other = tt
+  again_exclusive (call.KeyCreate h) b false other = refl
+  again_exclusive (call.KeyCreate h) b true other = tt
   again_exclusive (call.CondAwait c m e) b come other = absurd (true_false other)
   again_exclusive c b come other = other_exclusive r t c (unless_come come ((row_of f s t c).again b)).verdict refl

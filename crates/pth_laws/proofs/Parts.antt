@@ -30,8 +30,8 @@ use Rattle.pth_model.specs.Pass.{pass, looks, waiting, is_to_wake, to_wake, woke
 use Rattle.pth_model.specs.Course.{Course}
 use Rattle.pth_model.specs.Part.{Part, next_part, next_part_by, unless_ended, is_idle, chosen, turn_after, readies, readies_all, readies_new, new_rank, runs, dispatches, takes, takes_by, owes_after, steps, steps_on, is_put_back, is_put_waiting, placed_by, is_placed, turn_ends, closes, moves, moves_by, part, part_by}
 use Rattle.pth_model.proofs.Once.{shown-all}
-use Rattle.pth_laws.specs.Book.{Book, Closed, after, book_of}
-use Rattle.pth_laws.specs.Laws.{EachMark}
+use Rattle.pth_laws.proofs.Book.{Book, Closed, after, book_of}
+use Rattle.pth_laws.proofs.Laws.{EachMark}
 use Rattle.pth_laws.proofs.Living.{Living, true_false, runs_alive, state_safe, changed_lives, living-up, living-made, living-alive, living_leaves, living_sets, living_enters, living_ready}
 use Rattle.pth_laws.proofs.Going.{Going}
 use Rattle.pth_laws.proofs.Awaits.{HasAwaits, awaits_set, awaits_moved, awaits_enter, awaits_leave, awaits_go, awaits_look}

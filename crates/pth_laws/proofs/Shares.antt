@@ -1,5 +1,5 @@
 -- What one exclusive mark does to mutexes and locks is what its sentence says of each thread: its levels, and what it holds.
-use Rattle.std.proofs.Common.{◌≡◌, ◌≢◌, ◌<◌, ℕ, zero, suc, ◌+◌, ◌-◌, ◌==◌, ◌&&◌, ◌||◌, not, Bool, true, false, if◌then◌else◌, ℤ, pos, Option, Some, None, is_some, refl, sym, ◌∙◌, ap, arith}
+use Rattle.std.proofs.Common.{◌≡◌, ◌≢◌, ◌<◌, ℕ, zero, suc, ◌+◌, ◌-◌, ◌==◌, ◌&&◌, ◌||◌, not, Bool, true, false, if◌then◌else◌, ℤ, pos, negsuc, Option, Some, None, is_some, refl, sym, ◌∙◌, ap, subst, arith}
 use Rattle.std.proofs.Math.Bool.{or-false}
 use Rattle.std.proofs.lemmas.Bool.{not-false}
 use Rattle.pth_base.specs.Table.{put}
@@ -15,16 +15,18 @@ use Rattle.pth_base.proofs.Tables.{same_means, same_fails, not_same, put_by}
 use Rattle.pth_numbered.specs.Operands.{number}
 use Rattle.pth_lock.specs.Objects.{object_named}
 use Rattle.pth_lock.specs.Mutexes.{Mutex, MutexTable, free_mutex, has, is_anothers, levels_of, mutex_with, mutexes_left}
-use Rattle.pth_lock.specs.RwLocks.{LockTables, is_one, is_written, is_read, may_enter, lock_initialised, lock_released, lock_taken, locks_left, without_slot, readers_without}
-use Rattle.pth_model.specs.Resources.{Resources, mutexes_of_only, locks_of_only, on_one, on_int, on_msg, told, act_told, answer_told, retaken, let_go}
-use Rattle.pth_laws.specs.Book.{Book}
-use Rattle.pth_laws.specs.Laws.{IsAnswerExclusive, IsExclusiveMark, MayTake, MayEnter, HasMutex}
-use Rattle.pth_laws.specs.SaidExclusive.{Share, levels_after, awaits_after, held_after, initialises_mutex, initialises_lock}
-use Rattle.pth_laws.proofs.Counted.{IsCounted, counted_more, counted_less, counted_only, none_passes}
+use Rattle.pth_lock.specs.RwLocks.{LockTables, holds, is_one, is_written, is_read, may_enter, lock_initialised, lock_released, lock_taken, locks_left, without_slot, readers_without}
+use Rattle.pth_model.specs.Resources.{Resources, on_one, on_int, on_msg, told, act_told, answer_told, retaken, let_go}
+use Rattle.pth_laws.proofs.Book.{Book, is_kill}
+use Rattle.pth_laws.proofs.Laws.{IsFromZero, IsAnswerExclusive, IsExclusiveMark, MayTake, MayEnter, HasMutex}
+use Rattle.pth_laws.specs.Marks.{is_same}
+use Rattle.pth_laws.specs.Exclusive.{Share, levels_after, awaits_after, held_after}
+use Rattle.pth_laws.specs.Initialised.{initialises_mutex, initialises_lock}
+use Rattle.pth_laws.proofs.Counted.{IsCounted, counted_more, counted_less, none_passes}
 use Rattle.pth_laws.proofs.Held.{neither}
 use Rattle.pth_laws.proofs.Living.{true_false, not_true}
-use Rattle.pth_laws.proofs.Locked.{has_some, others_some}
-use Rattle.pth_laws.proofs.Said.{same_either_way}
+use Rattle.pth_laws.proofs.Locked.{Locked, has_some}
+use Rattle.pth_laws.proofs.OrderlyMarks.{same_either_way, or_true}
 
 -- ---- one mutex
 
@@ -37,11 +39,6 @@ pub not_had : (t : ℕ) (z : Mutex) → has t z ≡ false → levels_of t z ≡ 
 not_had t None h = refl
 not_had t (Some None) h = refl
 not_had t (Some (Some o)) h = rw h refl
-
-others_not_had : (t : ℕ) (z : Mutex) → is_anothers t z ≡ true → levels_of t z ≡ 0
-others_not_had t None h = refl
-others_not_had t (Some None) h = refl
-others_not_had t (Some (Some o)) h = not_had t (Some (Some o)) (not_true _ h)
 
 -- where no other thread than u has it, the others have no level
 pub others_have_none : (u t : ℕ) (z : Mutex) → is_anothers u z ≡ false → t ≢ u → levels_of t z ≡ 0
@@ -108,14 +105,6 @@ flag_set : (f : ℕ → Bool) (u t : ℕ) (v : Bool) → (if u == t then v else 
 unfolding put
 flag_set f u t v = rw (same_either_way u t) refl
 
--- the flags of all but u are gone
-flag_only : (u t : ℕ) (b : Bool) → (if not (u == t) then false else b) ≡ ((t == u) && b)
-flag_only u t b = rw (same_either_way t u) (by_test (u == t))
-  where
-    by_test : (c : Bool) → (if not c then false else b) ≡ (c && b)
-    by_test true = refl
-    by_test false = refl
-
 -- u's own flag stands for each thread's, where a mark is u's
 flag_of : (f : ℕ → Bool) (u t i o : ℕ) (b : Bool) → f u ≡ b → (f t && ((i == o) && (u == t))) ≡ (b && ((i == o) && (u == t)))
 flag_of f u t i o b is = by_test (u == t) refl
@@ -134,9 +123,22 @@ flag_of f u t i o b is = by_test (u == t) refl
     by_test true same = ap (λ v. v && ((i == o) && true)) (ap f (sym (same_means u t same)) ∙ is)
     by_test false other = no_mark (f t) (i == o) b
 
-or_true : (b : Bool) → (b || true) ≡ true
-or_true true = refl
-or_true false = refl
+-- where u's flag is not set, a mark of u is of no thread whose flag is
+no_flag : (f : ℕ → Bool) (u t : ℕ) (q : Bool) → f u ≡ false → (f t && (q && (u == t))) ≡ false
+no_flag f u t q is = by_test (u == t) refl
+  where
+    unset : (p q : Bool) → p ≡ false → (p && q) ≡ false
+    unset true q h = absurd (true_false h)
+    unset false q h = refl
+
+    apart : (p q : Bool) → (p && (q && false)) ≡ false
+    apart true true = refl
+    apart true false = refl
+    apart false q = refl
+
+    by_test : (c : Bool) → (u == t) ≡ c → (f t && (q && c)) ≡ false
+    by_test true same = unset (f t) (q && true) (ap f (sym (same_means u t same)) ∙ is)
+    by_test false other = apart (f t) q
 
 -- ---- the writer of a lock
 
@@ -152,16 +154,6 @@ writer_left u t w = by_test (u == t) (is_one u w) refl refl
     by_test true true same is = refl
     by_test true false same is = sym (ap (λ v. is_one v w) (sym (same_means u t same)) ∙ is)
     by_test false true other is = one_other u t w is (λ same. same_fails u t other (sym same))
-    by_test false false other is = refl
-
--- nobody but u writes any longer
-writer_only : (u t : ℕ) (w : Option ℕ) → (if not (u == t) then false else is_one t w) ≡ is_one t (if is_one u w then w else None)
-writer_only u t w = by_test (u == t) (is_one u w) refl refl
-  where
-    by_test : (b c : Bool) → (u == t) ≡ b → is_one u w ≡ c → (if not b then false else is_one t w) ≡ is_one t (if c then w else None)
-    by_test true true same is = refl
-    by_test true false same is = ap (λ v. is_one v w) (sym (same_means u t same)) ∙ is
-    by_test false true other is = sym (one_other u t w is (λ same. same_fails u t other (sym same)))
     by_test false false other is = refl
 
 pub no_writer : (w : Option ℕ) (t : ℕ) → is_some w ≡ false → is_one t w ≡ false
@@ -193,18 +185,10 @@ module _ (y : LockTables) (l : ℕ) (counted : IsCounted (y.reads l) (y.readers 
       no_reader true h = refl
       no_reader false h = absurd (true_false h)
 
--- u leaves a lock, or all others do
+-- u leaves a lock
 left_alone : (u : ℕ) (w : Option ℕ) (r : ℕ → Bool) → IsAlone w r → IsAlone (without_slot u w) (put r u false)
 left_alone u None r alone h v = absurd (true_false (sym h))
 left_alone u (Some o) r alone h v = put_by (λ (b : Bool). b ≡ false) r u false v (λ same. refl) (λ apart. alone refl v)
-
-only_alone : (u : ℕ) (w : Option ℕ) (r : ℕ → Bool) → IsAlone w r → IsAlone (if is_one u w then w else None) (λ v. (v == u) && r v)
-only_alone u None r alone h v = absurd (true_false (sym h))
-only_alone u (Some o) r alone h v = by_test (v == u)
-  where
-    by_test : (b : Bool) → (b && r v) ≡ false
-    by_test true = alone refl v
-    by_test false = refl
 
 module _ (k : Resources) where
   abbrev mutexes : MutexTable
@@ -218,25 +202,25 @@ module _ (k : Resources) where
 
   -- after m the mutexes are these, and who awaits
   pub record MutexStep (x : MutexTable) (w : ℕ → Bool) (m : Mark) : Type 0 where
-    pub levels : (t i : ℕ) → levels_after t i (share_in t i) m ≡ levels_of t (x i)
+    pub levels : (t i : ℕ) → levels_after t (pos i) (share_in t i) m ≡ levels_of t (x i)
     pub awaits : (t : ℕ) → awaits_after t (k.awaits t) m ≡ w t
-    pub known : (i : ℕ) → (is_some (k.store.mutexes i) || initialises_mutex i m) ≡ is_some (x i)
+    pub known : (i : ℕ) → (is_some (k.store.mutexes i) || initialises_mutex (pos i) m) ≡ is_some (x i)
     pub positive : (t i : ℕ) → HasLevel t (x i)
 
   -- and the locks
   pub record LockStep (y : LockTables) (m : Mark) : Type 0 where
-    pub known : (l : ℕ) → (k.store.rw_locks.initialised l || initialises_lock l m) ≡ y.initialised l
-    pub reads : (t l : ℕ) → held_after t l false (k.store.rw_locks.reads l t) m ≡ y.reads l t
-    pub writes : (t l : ℕ) → held_after t l true (is_one t (k.store.rw_locks.writer l)) m ≡ is_one t (y.writer l)
+    pub known : (l : ℕ) → (k.store.rw_locks.initialised l || initialises_lock (pos l) m) ≡ y.initialised l
+    pub reads : (t l : ℕ) → held_after t (pos l) false (k.store.rw_locks.reads l t) m ≡ y.reads l t
+    pub writes : (t l : ℕ) → held_after t (pos l) true (is_one t (k.store.rw_locks.writer l)) m ≡ is_one t (y.writer l)
     pub counted : (l : ℕ) → IsCounted (y.reads l) (y.readers l)
     pub alone : (l : ℕ) → IsAlone (y.writer l) (y.reads l)
 
   abbrev pub Step : Resources → Mark → Type 0
   Step r m = MutexStep r.store.mutexes r.awaits m × LockStep r.store.rw_locks m
 
-  module _ (sound : IsSound k.store.mutexes k.store.rw_locks) where
+  module _ (sound : IsSound k.store.mutexes k.store.rw_locks) (locked : Locked k) where
     -- nothing of mutexes, or of locks, changes
-    mutexes_still : (m : Mark) → ((t i : ℕ) (x : Share) → levels_after t i x m ≡ x.had) → ((t : ℕ) (b : Bool) → awaits_after t b m ≡ b) → ((i : ℕ) → initialises_mutex i m ≡ false) → MutexStep mutexes k.awaits m
+    mutexes_still : (m : Mark) → ((t i : ℕ) (x : Share) → levels_after t (pos i) x m ≡ x.had) → ((t : ℕ) (b : Bool) → awaits_after t b m ≡ b) → ((i : ℕ) → initialises_mutex (pos i) m ≡ false) → MutexStep mutexes k.awaits m
     mutexes_still m same awaits new = record {
       levels = λ t i. same t i (share_in t i);
       awaits = λ t. awaits t (k.awaits t);
@@ -244,7 +228,7 @@ module _ (k : Resources) where
       positive = sound.positive;
     }
 
-    locks_still : (m : Mark) → ((t l : ℕ) (w b : Bool) → held_after t l w b m ≡ b) → ((l : ℕ) → initialises_lock l m ≡ false) → LockStep locks m
+    locks_still : (m : Mark) → ((t l : ℕ) (w b : Bool) → held_after t (pos l) w b m ≡ b) → ((l : ℕ) → initialises_lock (pos l) m ≡ false) → LockStep locks m
     locks_still m same new = record {
       known = λ l. ap (λ b. locks.initialised l || b) (new l) ∙ or-false (locks.initialised l);
       reads = λ t l. same t l false (locks.reads l t);
@@ -253,7 +237,7 @@ module _ (k : Resources) where
       alone = sound.alone;
     }
 
-    quiet : (m : Mark) → ((t i : ℕ) (x : Share) → levels_after t i x m ≡ x.had) → ((t : ℕ) (b : Bool) → awaits_after t b m ≡ b) → ((i : ℕ) → initialises_mutex i m ≡ false) → ((t l : ℕ) (w b : Bool) → held_after t l w b m ≡ b) → ((l : ℕ) → initialises_lock l m ≡ false) → Step k m
+    quiet : (m : Mark) → ((t i : ℕ) (x : Share) → levels_after t (pos i) x m ≡ x.had) → ((t : ℕ) (b : Bool) → awaits_after t b m ≡ b) → ((i : ℕ) → initialises_mutex (pos i) m ≡ false) → ((t l : ℕ) (w b : Bool) → held_after t (pos l) w b m ≡ b) → ((l : ℕ) → initialises_lock (pos l) m ≡ false) → Step k m
     quiet m same awaits new held begun = (mutexes_still m same awaits new, locks_still m held begun)
 
     step_one : (a : Answer) (g : Resources) (m : Mark) → Step k m → Step g m → Step (on_one a k g) m
@@ -269,7 +253,7 @@ module _ (k : Resources) where
     step_msg a g m none some = none
 
     -- u's levels of mutex o become others, where no other thread has it
-    changed : (u o : ℕ) (n : ℕ → ℕ → ℕ) (w : ℕ → Bool) (m : Mark) → is_anothers u (mutexes o) ≡ false → is_some (mutexes o) ≡ true → ((t i : ℕ) → levels_after t i (share_in t i) m ≡ (if (i == o) && (u == t) then n t i else levels_of t (mutexes i))) → ((t : ℕ) → awaits_after t (k.awaits t) m ≡ w t) → ((i : ℕ) → initialises_mutex i m ≡ false) → MutexStep (put mutexes o (mutex_with u (n u o))) w m
+    changed : (u o : ℕ) (n : ℕ → ℕ → ℕ) (w : ℕ → Bool) (m : Mark) → is_anothers u (mutexes o) ≡ false → is_some (mutexes o) ≡ true → ((t i : ℕ) → levels_after t (pos i) (share_in t i) m ≡ (if (i == o) && (u == t) then n t i else levels_of t (mutexes i))) → ((t : ℕ) → awaits_after t (k.awaits t) m ≡ w t) → ((i : ℕ) → initialises_mutex (pos i) m ≡ false) → MutexStep (put mutexes o (mutex_with u (n u o))) w m
     changed u o n w m free some levels awaits new = record {
       levels = λ t i. levels t i ∙ put_test (λ (b : Bool) (z : Mutex). (if b && (u == t) then n t i else levels_of t (mutexes i)) ≡ levels_of t z) mutexes o (mutex_with u (n u o)) i (λ here. at t i here (u == t) refl ∙ sym (with_levels t u (n u o))) (λ other. refl);
       awaits = awaits;
@@ -281,19 +265,19 @@ module _ (k : Resources) where
         at t i here true same = let own = same_means u t same in ap (n t) here ∙ ap (λ v. n v o) (sym own) ∙ sym (rw same refl)
         at t i here false other = ap (λ j. levels_of t (mutexes j)) here ∙ others_have_none u t (mutexes o) free (λ same. same_fails u t other (sym same)) ∙ sym (rw other refl)
 
-    taken_so : (u o : ℕ) (w : ℕ → Bool) (m : Mark) → MayTake k u o → ((t i : ℕ) → levels_after t i (share_in t i) m ≡ (if (i == o) && (u == t) then levels_of t (mutexes i) + 1 else levels_of t (mutexes i))) → ((t : ℕ) → awaits_after t (k.awaits t) m ≡ w t) → ((i : ℕ) → initialises_mutex i m ≡ false) → MutexStep (put mutexes o (mutex_with u (levels_of u (mutexes o) + 1))) w m
+    taken_so : (u o : ℕ) (w : ℕ → Bool) (m : Mark) → MayTake k u o → ((t i : ℕ) → levels_after t (pos i) (share_in t i) m ≡ (if (i == o) && (u == t) then levels_of t (mutexes i) + 1 else levels_of t (mutexes i))) → ((t : ℕ) → awaits_after t (k.awaits t) m ≡ w t) → ((i : ℕ) → initialises_mutex (pos i) m ≡ false) → MutexStep (put mutexes o (mutex_with u (levels_of u (mutexes o) + 1))) w m
     taken_so u o w m law levels awaits new = changed u o (λ t i. levels_of t (mutexes i) + 1) w m law.free law.initialised levels awaits new
 
-    released_so : (u o : ℕ) (w : ℕ → Bool) (m : Mark) → HasMutex k u o → ((t i : ℕ) → levels_after t i (share_in t i) m ≡ (if (i == o) && (u == t) then levels_of t (mutexes i) - 1 else levels_of t (mutexes i))) → ((t : ℕ) → awaits_after t (k.awaits t) m ≡ w t) → ((i : ℕ) → initialises_mutex i m ≡ false) → MutexStep (put mutexes o (mutex_with u (levels_of u (mutexes o) - 1))) w m
+    released_so : (u o : ℕ) (w : ℕ → Bool) (m : Mark) → HasMutex k u o → ((t i : ℕ) → levels_after t (pos i) (share_in t i) m ≡ (if (i == o) && (u == t) then levels_of t (mutexes i) - 1 else levels_of t (mutexes i))) → ((t : ℕ) → awaits_after t (k.awaits t) m ≡ w t) → ((i : ℕ) → initialises_mutex (pos i) m ≡ false) → MutexStep (put mutexes o (mutex_with u (levels_of u (mutexes o) - 1))) w m
     released_so u o w m law levels awaits new = changed u o (λ t i. levels_of t (mutexes i) - 1) w m (own_is_no_others u (mutexes o) law) (has_some u (mutexes o) law) levels awaits new
 
     -- a mutex is initialised
-    begun : (u : Tid) (m n : ℤ) → is_some (mutexes (object_named m)) ≡ false → MutexStep (put mutexes (object_named m) free_mutex) k.awaits (mark.Answered u (call.MutexInit m) (Int n))
-    begun u m n new = record {
-      levels = λ t i. put_by (λ (z : Mutex). levels_of t (mutexes i) ≡ levels_of t z) mutexes (object_named m) free_mutex i (λ here. no_levels t (mutexes i) (ap (λ j. is_some (mutexes j)) here ∙ new)) (λ other. refl);
+    begun : (u : Tid) (o : ℕ) → is_some (mutexes o) ≡ false → MutexStep (put mutexes o free_mutex) k.awaits (mark.Answered u (call.MutexInit (pos o)) (Int (pos 1)))
+    begun u o new = record {
+      levels = λ t i. put_by (λ (z : Mutex). levels_of t (mutexes i) ≡ levels_of t z) mutexes o free_mutex i (λ here. no_levels t (mutexes i) (ap (λ j. is_some (mutexes j)) here ∙ new)) (λ other. refl);
       awaits = λ t. refl;
-      known = λ i. put_test (λ (b : Bool) (z : Mutex). (is_some (mutexes i) || b) ≡ is_some z) mutexes (object_named m) free_mutex i (λ here. or_true (is_some (mutexes i))) (λ other. or-false (is_some (mutexes i)));
-      positive = λ t i. put_by (HasLevel t) mutexes (object_named m) free_mutex i (λ here had. absurd (true_false (sym had))) (λ other. sound.positive t i);
+      known = λ i. put_test (λ (b : Bool) (z : Mutex). (is_some (mutexes i) || b) ≡ is_some z) mutexes o free_mutex i (λ here. or_true (is_some (mutexes i))) (λ other. or-false (is_some (mutexes i)));
+      positive = λ t i. put_by (HasLevel t) mutexes o free_mutex i (λ here had. absurd (true_false (sym had))) (λ other. sound.positive t i);
     }
 
     -- u awaits as it did
@@ -304,15 +288,15 @@ module _ (k : Resources) where
         by_test true same = sym is ∙ ap k.awaits (same_means u t same)
         by_test false other = refl
 
-    answers_await : (u : Tid) (c m e : ℤ) (a : Answer) (b : Bool) → k.awaits u.0 ≡ b → (k.awaits u.0 ≡ true → MayTake k u.0 (number m)) → Step (if b then retaken k u.0 (number m) else k) (mark.Answered u (call.CondAwait c m e) a)
-    answers_await u c m e a true is law = (
-      taken_so u.0 (number m) (put k.awaits u.0 false) (mark.Answered u (call.CondAwait c m e) a) (law is)
+    answers_await : (u : Tid) (c m e : ℤ) (a : Answer) (b : Bool) → k.awaits u.0 ≡ b → (k.awaits u.0 ≡ true → IsFromZero m × MayTake k u.0 (number m)) → Step (if b then retaken k u.0 (number m) else k) (mark.Answered u (call.CondAwait c m e) a)
+    answers_await u c m e a true is law = subst (λ (z : ℤ). Step (retaken k u.0 (number m)) (mark.Answered u (call.CondAwait c z e) a)) (sym (law is).0) (
+      taken_so u.0 (number m) (put k.awaits u.0 false) (mark.Answered u (call.CondAwait c (pos (number m)) e) a) (law is).1
           (λ t i. ap (λ (b : Bool). if b then levels_of t (mutexes i) + 1 else levels_of t (mutexes i)) (flag_of k.awaits u.0 t i (number m) true is)) (λ t. flag_set k.awaits u.0 t false) (λ i. refl),
-      locks_still (mark.Answered u (call.CondAwait c m e) a) (λ t l w b. refl) (λ l. refl),
+      locks_still (mark.Answered u (call.CondAwait c (pos (number m)) e) a) (λ t l w b. refl) (λ l. refl),
     )
     answers_await u c m e a false is law = (
       record {
-        levels = λ t i. ap (λ (b : Bool). if b then levels_of t (mutexes i) + 1 else levels_of t (mutexes i)) (flag_of k.awaits u.0 t i (number m) false is);
+        levels = λ t i. ap (λ (b : Bool). if b then levels_of t (mutexes i) + 1 else levels_of t (mutexes i)) (no_flag k.awaits u.0 t (is_same (pos i) m) is);
         awaits = λ t. awaits_as_before u.0 t false is;
         known = λ i. or-false (is_some (mutexes i));
         positive = sound.positive;
@@ -320,119 +304,76 @@ module _ (k : Resources) where
       locks_still (mark.Answered u (call.CondAwait c m e) a) (λ t l w b. refl) (λ l. refl),
     )
 
-    waits_await : (u : Tid) (c m e : ℤ) (b : Bool) → k.awaits u.0 ≡ b → (k.awaits u.0 ≡ false → HasMutex k u.0 (number m)) → Step (if b then k else let_go k u.0 (number m)) (mark.Waits u (call.CondAwait c m e))
+    waits_await : (u : Tid) (c m e : ℤ) (b : Bool) → k.awaits u.0 ≡ b → (k.awaits u.0 ≡ false → IsFromZero m × HasMutex k u.0 (number m)) → Step (if b then k else let_go k u.0 (number m)) (mark.Waits u (call.CondAwait c m e))
     waits_await u c m e true is law = (
       record {
-        levels = λ t i. ap (λ (b : Bool). if b then levels_of t (mutexes i) - 1 else levels_of t (mutexes i)) (flag_of (λ v. not (k.awaits v)) u.0 t i (number m) false (ap not is));
+        levels = λ t i. ap (λ (b : Bool). if b then levels_of t (mutexes i) - 1 else levels_of t (mutexes i)) (no_flag (λ v. not (k.awaits v)) u.0 t (is_same (pos i) m) (ap not is));
         awaits = λ t. awaits_as_before u.0 t true is;
         known = λ i. or-false (is_some (mutexes i));
         positive = sound.positive;
       },
       locks_still (mark.Waits u (call.CondAwait c m e)) (λ t l w b. refl) (λ l. refl),
     )
-    waits_await u c m e false is law = (
-      released_so u.0 (number m) (put k.awaits u.0 true) (mark.Waits u (call.CondAwait c m e)) (law is)
+    waits_await u c m e false is law = subst (λ (z : ℤ). Step (let_go k u.0 (number m)) (mark.Waits u (call.CondAwait c z e))) (sym (law is).0) (
+      released_so u.0 (number m) (put k.awaits u.0 true) (mark.Waits u (call.CondAwait c (pos (number m)) e)) (law is).1
           (λ t i. ap (λ (b : Bool). if b then levels_of t (mutexes i) - 1 else levels_of t (mutexes i)) (flag_of (λ v. not (k.awaits v)) u.0 t i (number m) true (ap not is))) (λ t. flag_set k.awaits u.0 t true) (λ i. refl),
-      locks_still (mark.Waits u (call.CondAwait c m e)) (λ t l w b. refl) (λ l. refl),
+      locks_still (mark.Waits u (call.CondAwait c (pos (number m)) e)) (λ t l w b. refl) (λ l. refl),
     )
 
-    -- u ends
-    ends_mutexes : (u : Tid) (v : ℤ) → MutexStep (mutexes_left u.0 mutexes) (put k.awaits u.0 false) (mark.Ended u v)
-    ends_mutexes u v = record {
-      levels = λ t i. left t i (u.0 == t) (has u.0 (mutexes i)) refl refl;
+    -- u ends, and has nothing
+    ends_mutexes : (u : Tid) (v : ℤ) → ((i : ℕ) → has u.0 (mutexes i) ≡ false) → MutexStep (mutexes_left u.0 mutexes) (put k.awaits u.0 false) (mark.Ended u v)
+    ends_mutexes u v none = record {
+      levels = λ t i. ap (levels_of t) (same i);
       awaits = λ t. flag_set k.awaits u.0 t false;
-      known = λ i. or-false (is_some (mutexes i)) ∙ some i (has u.0 (mutexes i)) refl;
-      positive = λ t i. levels_left t i (has u.0 (mutexes i));
+      known = λ i. or-false (is_some (mutexes i)) ∙ ap is_some (same i);
+      positive = λ t i. subst (HasLevel t) (same i) (sound.positive t i);
     }
       where
-        left : (t i : ℕ) (b c : Bool) → (u.0 == t) ≡ b → has u.0 (mutexes i) ≡ c → (if b then 0 else levels_of t (mutexes i)) ≡ levels_of t (if c then free_mutex else mutexes i)
-        left t i true true same had = refl
-        left t i true false same had = sym (not_had t (mutexes i) (ap (λ v. has v (mutexes i)) (sym (same_means u.0 t same)) ∙ had))
-        left t i false true other had = others_have_none u.0 t (mutexes i) (own_is_no_others u.0 (mutexes i) had) (λ same. same_fails u.0 t other (sym same))
-        left t i false false other had = refl
+        same : (i : ℕ) → mutexes i ≡ mutexes_left u.0 mutexes i
+        same i = rw (none i) refl
 
-        some : (i : ℕ) (c : Bool) → has u.0 (mutexes i) ≡ c → is_some (mutexes i) ≡ is_some (if c then free_mutex else mutexes i)
-        some i true had = has_some u.0 (mutexes i) had
-        some i false had = refl
-
-        levels_left : (t i : ℕ) (c : Bool) → HasLevel t (if c then free_mutex else mutexes i)
-        levels_left t i true had = absurd (true_false (sym had))
-        levels_left t i false had = sound.positive t i had
-
-    ends_locks : (u : Tid) (v : ℤ) → LockStep (locks_left u.0 locks) (mark.Ended u v)
-    ends_locks u v = record {
+    ends_locks : (u : Tid) (v : ℤ) → ((l : ℕ) → holds locks u.0 l ≡ false) → LockStep (locks_left u.0 locks) (mark.Ended u v)
+    ends_locks u v none = record {
       known = λ l. or-false (locks.initialised l);
-      reads = λ t l. flag_set (locks.reads l) u.0 t false;
-      writes = λ t l. writer_left u.0 t (locks.writer l);
+      reads = λ t l. put_by (λ (b : Bool). locks.reads l t ≡ b) (locks.reads l) u.0 false t (λ here. ap (locks.reads l) here ∙ (neither _ _ (none l)).1) (λ other. refl);
+      writes = λ t l. ap (is_one t) (sym (ap (λ (b : Bool). if b then None else locks.writer l) (neither _ _ (none l)).0));
       counted = λ l. counted_less (locks.reads l) (locks.readers l) u.0 (sound.counted l);
       alone = λ l. left_alone u.0 (locks.writer l) (locks.reads l) (sound.alone l);
     }
 
-    -- u kills the run
-    kills_mutexes : (u : Tid) (n : ℤ) → MutexStep (mutexes_of_only u.0 mutexes) (λ t. (t == u.0) && k.awaits t) (mark.Answered u call.Kill (Int n))
-    kills_mutexes u n = record {
-      levels = λ t i. left t i (u.0 == t) (is_anothers u.0 (mutexes i)) refl refl;
-      awaits = λ t. flag_only u.0 t (k.awaits t);
-      known = λ i. or-false (is_some (mutexes i)) ∙ some i (is_anothers u.0 (mutexes i)) refl;
-      positive = λ t i. levels_left t i (is_anothers u.0 (mutexes i));
-    }
-      where
-        left : (t i : ℕ) (b c : Bool) → (u.0 == t) ≡ b → is_anothers u.0 (mutexes i) ≡ c → (if not b then 0 else levels_of t (mutexes i)) ≡ levels_of t (if c then free_mutex else mutexes i)
-        left t i true true same other = others_not_had t (mutexes i) (ap (λ v. is_anothers v (mutexes i)) (sym (same_means u.0 t same)) ∙ other)
-        left t i true false same other = refl
-        left t i false true apart other = refl
-        left t i false false apart other = sym (others_have_none u.0 t (mutexes i) other (λ same. same_fails u.0 t apart (sym same)))
-
-        some : (i : ℕ) (c : Bool) → is_anothers u.0 (mutexes i) ≡ c → is_some (mutexes i) ≡ is_some (if c then free_mutex else mutexes i)
-        some i true other = others_some u.0 (mutexes i) other
-        some i false other = refl
-
-        levels_left : (t i : ℕ) (c : Bool) → HasLevel t (if c then free_mutex else mutexes i)
-        levels_left t i true had = absurd (true_false (sym had))
-        levels_left t i false had = sound.positive t i had
-
-    kills_locks : (u : Tid) (n : ℤ) → LockStep (locks_of_only u.0 locks) (mark.Answered u call.Kill (Int n))
-    kills_locks u n = record {
-      known = λ l. or-false (locks.initialised l);
-      reads = λ t l. flag_only u.0 t (locks.reads l t);
-      writes = λ t l. writer_only u.0 t (locks.writer l);
-      counted = λ l. counted_only (locks.reads l) u.0;
-      alone = λ l. only_alone u.0 (locks.writer l) (locks.reads l) (sound.alone l);
-    }
-
     -- a lock is initialised, entered and left
-    lock_begun : (u : Tid) (l n : ℤ) → LockStep (lock_initialised (object_named l) locks) (mark.Answered u (call.RwInit l) (Int n))
-    lock_begun u l n = record {
-      known = λ i. put_test (λ (b z : Bool). (locks.initialised i || b) ≡ z) locks.initialised (object_named l) true i (λ here. or_true (locks.initialised i)) (λ other. or-false (locks.initialised i));
+    lock_begun : (u : Tid) (o : ℕ) → LockStep (lock_initialised o locks) (mark.Answered u (call.RwInit (pos o)) (Int (pos 1)))
+    lock_begun u o = record {
+      known = λ i. put_test (λ (b z : Bool). (locks.initialised i || b) ≡ z) locks.initialised o true i (λ here. or_true (locks.initialised i)) (λ other. or-false (locks.initialised i));
       reads = λ t i. refl;
       writes = λ t i. refl;
       counted = sound.counted;
       alone = sound.alone;
     }
 
-    written_so : (u : Tid) (l v e n : ℤ) → is_written locks (object_named l) ≡ false → ((t : ℕ) → locks.reads (object_named l) t ≡ false) → LockStep (lock_taken u.0 true (object_named l) locks) (mark.Answered u (call.RwAcquire l true v e) (Int n))
-    written_so u l v e n free unread = record {
+    written_so : (u : Tid) (o : ℕ) (v e : ℤ) → is_written locks o ≡ false → ((t : ℕ) → locks.reads o t ≡ false) → LockStep (lock_taken u.0 true o locks) (mark.Answered u (call.RwAcquire (pos o) true v e) (Int (pos 1)))
+    written_so u o v e free unread = record {
       known = λ i. or-false (locks.initialised i);
       reads = λ t i. refl;
-      writes = λ t i. put_test (λ (b : Bool) (w : Option ℕ). (if b && (u.0 == t) then true else is_one t (locks.writer i)) ≡ is_one t w) locks.writer (object_named l) (Some u.0) i (λ here. at t i here (u.0 == t)) (λ other. refl);
+      writes = λ t i. put_test (λ (b : Bool) (w : Option ℕ). (if b && (u.0 == t) then true else is_one t (locks.writer i)) ≡ is_one t w) locks.writer o (Some u.0) i (λ here. at t i here (u.0 == t)) (λ other. refl);
       counted = sound.counted;
-      alone = λ i. put_by (λ (w : Option ℕ). IsAlone w (locks.reads i)) locks.writer (object_named l) (Some u.0) i (λ here h t. ap (λ j. locks.reads j t) here ∙ unread t) (λ other. sound.alone i);
+      alone = λ i. put_by (λ (w : Option ℕ). IsAlone w (locks.reads i)) locks.writer o (Some u.0) i (λ here h t. ap (λ j. locks.reads j t) here ∙ unread t) (λ other. sound.alone i);
     }
       where
-        at : (t i : ℕ) → i ≡ object_named l → (b : Bool) → (if b then true else is_one t (locks.writer i)) ≡ b
+        at : (t i : ℕ) → i ≡ o → (b : Bool) → (if b then true else is_one t (locks.writer i)) ≡ b
         at t i here true = refl
-        at t i here false = ap (λ j. is_one t (locks.writer j)) here ∙ no_writer (locks.writer (object_named l)) t free
+        at t i here false = ap (λ j. is_one t (locks.writer j)) here ∙ no_writer (locks.writer o) t free
 
-    read_so : (u : Tid) (l v e n : ℤ) → is_written locks (object_named l) ≡ false → locks.reads (object_named l) u.0 ≡ false → LockStep (lock_taken u.0 false (object_named l) locks) (mark.Answered u (call.RwAcquire l false v e) (Int n))
-    read_so u l v e n free out = record {
+    read_so : (u : Tid) (o : ℕ) (v e : ℤ) → is_written locks o ≡ false → locks.reads o u.0 ≡ false → LockStep (lock_taken u.0 false o locks) (mark.Answered u (call.RwAcquire (pos o) false v e) (Int (pos 1)))
+    read_so u o v e free out = record {
       known = λ i. or-false (locks.initialised i);
-      reads = λ t i. put_test (λ (b : Bool) (r : ℕ → Bool). (if b && (u.0 == t) then true else locks.reads i t) ≡ r t) locks.reads (object_named l) (put (locks.reads (object_named l)) u.0 true) i (λ here. ap (λ j. if u.0 == t then true else locks.reads j t) here ∙ flag_set (locks.reads (object_named l)) u.0 t true) (λ other. refl);
+      reads = λ t i. put_test (λ (b : Bool) (r : ℕ → Bool). (if b && (u.0 == t) then true else locks.reads i t) ≡ r t) locks.reads o (put (locks.reads o) u.0 true) i (λ here. ap (λ j. if u.0 == t then true else locks.reads j t) here ∙ flag_set (locks.reads o) u.0 t true) (λ other. refl);
       writes = λ t i. refl;
-      counted = λ i. put_both IsCounted locks.reads locks.readers (object_named l) (put (locks.reads (object_named l)) u.0 true) (locks.readers (object_named l) + 1) i (λ here. counted_more (locks.reads (object_named l)) (locks.readers (object_named l)) u.0 out (sound.counted (object_named l))) (λ other. sound.counted i);
-      alone = λ i. put_by (λ (r : ℕ → Bool). IsAlone (locks.writer i) r) locks.reads (object_named l) (put (locks.reads (object_named l)) u.0 true) i (λ here h t. absurd (true_false (sym h ∙ ap (is_written locks) here ∙ free))) (λ other. sound.alone i);
+      counted = λ i. put_both IsCounted locks.reads locks.readers o (put (locks.reads o) u.0 true) (locks.readers o + 1) i (λ here. counted_more (locks.reads o) (locks.readers o) u.0 out (sound.counted o)) (λ other. sound.counted i);
+      alone = λ i. put_by (λ (r : ℕ → Bool). IsAlone (locks.writer i) r) locks.reads o (put (locks.reads o) u.0 true) i (λ here h t. absurd (true_false (sym h ∙ ap (is_written locks) here ∙ free))) (λ other. sound.alone i);
     }
 
-    left_so : (u o : ℕ) (m : Mark) → ((t i : ℕ) (w b : Bool) → held_after t i w b m ≡ (if (i == o) && (u == t) then false else b)) → ((i : ℕ) → initialises_lock i m ≡ false) → LockStep (lock_released u o locks) m
+    left_so : (u o : ℕ) (m : Mark) → ((t i : ℕ) (w b : Bool) → held_after t (pos i) w b m ≡ (if (i == o) && (u == t) then false else b)) → ((i : ℕ) → initialises_lock (pos i) m ≡ false) → LockStep (lock_released u o locks) m
     left_so u o m held new = record {
       known = λ i. ap (λ b. locks.initialised i || b) (new i) ∙ or-false (locks.initialised i);
       reads = λ t i. held t i false (locks.reads i t) ∙ put_test (λ (b : Bool) (r : ℕ → Bool). (if b && (u == t) then false else locks.reads i t) ≡ r t) locks.reads o (put (locks.reads o) u false) i (λ here. ap (λ j. if u == t then false else locks.reads j t) here ∙ flag_set (locks.reads o) u t false) (λ other. refl);
@@ -447,38 +388,61 @@ module _ (k : Resources) where
 
     -- ---- any mark
 
-    answered : (u : Tid) (c : Call) (a : Answer) → IsAnswerExclusive k u.0 c a → Step (answer_told k u.0 c a) (mark.Answered u c a)
-    unfolding answer_told
-    answered u (call.MutexInit m) (Int n) law = (begun u m n law.new, locks_still (mark.Answered u (call.MutexInit m) (Int n)) (λ t l w b. refl) (λ l. refl))
-    answered u (call.MutexAcquire m v e) (Int n) law = (taken_so u.0 (object_named m) k.awaits (mark.Answered u (call.MutexAcquire m v e) (Int n)) law (λ t i. refl) (λ t. refl) (λ i. refl), locks_still (mark.Answered u (call.MutexAcquire m v e) (Int n)) (λ t l w b. refl) (λ l. refl))
-    answered u (call.MutexRelease m) (Int n) law = (released_so u.0 (object_named m) k.awaits (mark.Answered u (call.MutexRelease m) (Int n)) law (λ t i. refl) (λ t. refl) (λ i. refl), locks_still (mark.Answered u (call.MutexRelease m) (Int n)) (λ t l w b. refl) (λ l. refl))
-    answered u (call.RwInit l) (Int n) law = (mutexes_still (mark.Answered u (call.RwInit l) (Int n)) (λ t i x. refl) (λ t b. refl) (λ i. refl), lock_begun u l n)
-    answered u (call.RwAcquire l true v e) (Int n) law = (mutexes_still (mark.Answered u (call.RwAcquire l true v e) (Int n)) (λ t i x. refl) (λ t b. refl) (λ i. refl), written_so u l v e n (unwritten u.0 (object_named l) true law) (entry_alone locks (object_named l) (sound.counted (object_named l)) law.enters))
-    answered u (call.RwAcquire l false v e) (Int n) law = (mutexes_still (mark.Answered u (call.RwAcquire l false v e) (Int n)) (λ t i x. refl) (λ t b. refl) (λ i. refl), read_so u l v e n (unwritten u.0 (object_named l) false law) (neither _ _ law.out).1)
-    answered u (call.RwRelease l) (Int n) law = (mutexes_still (mark.Answered u (call.RwRelease l) (Int n)) (λ t i x. refl) (λ t b. refl) (λ i. refl), left_so u.0 (object_named l) (mark.Answered u (call.RwRelease l) (Int n)) (λ t i w b. refl) (λ i. refl))
-    answered u (call.CondAwait c m e) a law = answers_await u c m e a (k.awaits u.0) refl law
-    answered u call.Kill (Int n) law = (kills_mutexes u n, kills_locks u n)
-    answered u (call.CleanupPush h v) a law = let m = mark.Answered u (call.CleanupPush h v) a in let q : Step k m = quiet m (λ t i x. refl) (λ t b. refl) (λ i. refl) (λ t l w b. refl) (λ l. refl) in step_one a _ m q q
-    answered u (call.CleanupPop v) a law = let m = mark.Answered u (call.CleanupPop v) a in let q : Step k m = quiet m (λ t i x. refl) (λ t b. refl) (λ i. refl) (λ t l w b. refl) (λ l. refl) in step_one a _ m q q
-    answered u (call.KeyCreate h) a law = let m = mark.Answered u (call.KeyCreate h) a in let q : Step k m = quiet m (λ t i x. refl) (λ t b. refl) (λ i. refl) (λ t l w b. refl) (λ l. refl) in step_int a _ m q (λ n. q)
-    answered u (call.KeyDelete key) a law = let m = mark.Answered u (call.KeyDelete key) a in let q : Step k m = quiet m (λ t i x. refl) (λ t b. refl) (λ i. refl) (λ t l w b. refl) (λ l. refl) in step_one a _ m q q
-    answered u (call.KeySet key v) a law = let m = mark.Answered u (call.KeySet key v) a in let q : Step k m = quiet m (λ t i x. refl) (λ t b. refl) (λ i. refl) (λ t l w b. refl) (λ l. refl) in step_one a _ m q q
-    answered u (call.PortCreate name) a law = let m = mark.Answered u (call.PortCreate name) a in let q : Step k m = quiet m (λ t i x. refl) (λ t b. refl) (λ i. refl) (λ t l w b. refl) (λ l. refl) in step_int a _ m q (λ n. q)
-    answered u (call.PortPut p v r) a law = let m = mark.Answered u (call.PortPut p v r) a in let q : Step k m = quiet m (λ t i x. refl) (λ t b. refl) (λ i. refl) (λ t l w b. refl) (λ l. refl) in step_int a _ m q (λ n. q)
-    answered u (call.PortGet p) a law = let m = mark.Answered u (call.PortGet p) a in let q : Step k m = quiet m (λ t i x. refl) (λ t b. refl) (λ i. refl) (λ t l w b. refl) (λ l. refl) in step_msg a _ m q q
-    answered u (call.Reply i v) a law = let m = mark.Answered u (call.Reply i v) a in let q : Step k m = quiet m (λ t i x. refl) (λ t b. refl) (λ i. refl) (λ t l w b. refl) (λ l. refl) in step_int a _ m q (λ n. q)
-    answered u (call.PortDestroy p) a law = let m = mark.Answered u (call.PortDestroy p) a in let q : Step k m = quiet m (λ t i x. refl) (λ t b. refl) (λ i. refl) (λ t l w b. refl) (λ l. refl) in step_int a _ m q (λ n. q)
-    answered u c a law = quiet (mark.Answered u c a) (λ t i x. refl) (λ t b. refl) (λ i. refl) (λ t l w b. refl) (λ l. refl)
+    -- an operand that names nothing would be initialised
+    no_mutex : (o : ℕ) → is_some (mutexes (object_named (negsuc o))) ≡ true → ⊥
+    no_mutex o some = let below = locked.mutexes (object_named (negsuc o)) some in absurd (omega (arith, below))
 
-pub told_step : (b : Book) → IsSound b.resources.store.mutexes b.resources.store.rw_locks → (m : Mark) → IsExclusiveMark b m → Step b.resources (told b.resources m) m
+    no_lock : (o : ℕ) → locks.initialised (object_named (negsuc o)) ≡ true → ⊥
+    no_lock o some = let below = locked.locks (object_named (negsuc o)) some in absurd (omega (arith, below))
+
+    -- an answer to a call on mutexes and locks is 1
+    by_one : (u : Tid) (c : Call) (n : ℤ) → n ≡ pos 1 → Step (answer_told k u.0 c (Int (pos 1))) (mark.Answered u c (Int (pos 1))) → Step (answer_told k u.0 c (Int n)) (mark.Answered u c (Int n))
+    by_one u c n one h = subst (λ (z : ℤ). Step (answer_told k u.0 c (Int z)) (mark.Answered u c (Int z))) (sym one) h
+
+    answered : (u : Tid) (c : Call) (a : Answer) → is_kill (mark.Answered u c a) ≡ false → IsAnswerExclusive k u.0 c a → Step (answer_told k u.0 c a) (mark.Answered u c a)
+    unfolding answer_told
+    answered u (call.MutexInit (pos o)) (Int n) on law = let m = mark.Answered u (call.MutexInit (pos o)) (Int (pos 1)) in by_one u (call.MutexInit (pos o)) n law.0 (begun u o law.1.new, locks_still m (λ t l w b. refl) (λ l. refl))
+    answered u (call.MutexInit (negsuc o)) (Int n) on law = let below = law.1.known in absurd (omega (arith, below))
+    answered u (call.MutexAcquire (pos o) v e) (Int n) on law = let m = mark.Answered u (call.MutexAcquire (pos o) v e) (Int (pos 1)) in by_one u (call.MutexAcquire (pos o) v e) n law.0 (taken_so u.0 o k.awaits m law.1 (λ t i. refl) (λ t. refl) (λ i. refl), locks_still m (λ t l w b. refl) (λ l. refl))
+    answered u (call.MutexAcquire (negsuc o) v e) (Int n) on law = absurd (no_mutex o law.1.initialised)
+    answered u (call.MutexRelease (pos o)) (Int n) on law = let m = mark.Answered u (call.MutexRelease (pos o)) (Int (pos 1)) in by_one u (call.MutexRelease (pos o)) n law.0 (released_so u.0 o k.awaits m law.1 (λ t i. refl) (λ t. refl) (λ i. refl), locks_still m (λ t l w b. refl) (λ l. refl))
+    answered u (call.MutexRelease (negsuc o)) (Int n) on law = absurd (no_mutex o (has_some u.0 (mutexes (object_named (negsuc o))) law.1))
+    answered u (call.RwInit (pos o)) (Int n) on law = let m = mark.Answered u (call.RwInit (pos o)) (Int (pos 1)) in by_one u (call.RwInit (pos o)) n law.0 (mutexes_still m (λ t i x. refl) (λ t b. refl) (λ i. refl), lock_begun u o)
+    answered u (call.RwInit (negsuc o)) (Int n) on law = let below = law.1.known in absurd (omega (arith, below))
+    answered u (call.RwAcquire (pos o) true v e) (Int n) on law = let m = mark.Answered u (call.RwAcquire (pos o) true v e) (Int (pos 1)) in by_one u (call.RwAcquire (pos o) true v e) n law.0 (mutexes_still m (λ t i x. refl) (λ t b. refl) (λ i. refl), written_so u o v e (unwritten u.0 o true law.1) (entry_alone locks o (sound.counted o) law.1.enters))
+    answered u (call.RwAcquire (pos o) false v e) (Int n) on law = let m = mark.Answered u (call.RwAcquire (pos o) false v e) (Int (pos 1)) in by_one u (call.RwAcquire (pos o) false v e) n law.0 (mutexes_still m (λ t i x. refl) (λ t b. refl) (λ i. refl), read_so u o v e (unwritten u.0 o false law.1) (neither _ _ law.1.out).1)
+    answered u (call.RwAcquire (negsuc o) true v e) (Int n) on law = absurd (no_lock o law.1.initialised)
+    answered u (call.RwAcquire (negsuc o) false v e) (Int n) on law = absurd (no_lock o law.1.initialised)
+    answered u (call.RwRelease (pos o)) (Int n) on law = let m = mark.Answered u (call.RwRelease (pos o)) (Int (pos 1)) in by_one u (call.RwRelease (pos o)) n law.0 (mutexes_still m (λ t i x. refl) (λ t b. refl) (λ i. refl), left_so u.0 o m (λ t i w b. refl) (λ i. refl))
+    answered u (call.RwRelease (negsuc o)) (Int n) on law = absurd (no_lock o (locked.held (object_named (negsuc o)) u.0 law.1))
+    answered u (call.CondAwait c m e) a on law = answers_await u c m e a (k.awaits u.0) refl law
+    answered u call.Kill (Int n) on law = absurd (true_false on)
+    answered u (call.CleanupPush h v) a on law = let m = mark.Answered u (call.CleanupPush h v) a in let q : Step k m = quiet m (λ t i x. refl) (λ t b. refl) (λ i. refl) (λ t l w b. refl) (λ l. refl) in step_one a _ m q q
+    answered u (call.CleanupPop v) a on law = let m = mark.Answered u (call.CleanupPop v) a in let q : Step k m = quiet m (λ t i x. refl) (λ t b. refl) (λ i. refl) (λ t l w b. refl) (λ l. refl) in step_one a _ m q q
+    answered u (call.KeyCreate h) a on law = let m = mark.Answered u (call.KeyCreate h) a in let q : Step k m = quiet m (λ t i x. refl) (λ t b. refl) (λ i. refl) (λ t l w b. refl) (λ l. refl) in step_int a _ m q (λ n. q)
+    answered u (call.KeyDelete key) a on law = let m = mark.Answered u (call.KeyDelete key) a in let q : Step k m = quiet m (λ t i x. refl) (λ t b. refl) (λ i. refl) (λ t l w b. refl) (λ l. refl) in step_one a _ m q q
+    answered u (call.KeySet key v) a on law = let m = mark.Answered u (call.KeySet key v) a in let q : Step k m = quiet m (λ t i x. refl) (λ t b. refl) (λ i. refl) (λ t l w b. refl) (λ l. refl) in step_one a _ m q q
+    answered u (call.PortCreate name) a on law = let m = mark.Answered u (call.PortCreate name) a in let q : Step k m = quiet m (λ t i x. refl) (λ t b. refl) (λ i. refl) (λ t l w b. refl) (λ l. refl) in step_int a _ m q (λ n. q)
+    answered u (call.PortPut p v r) a on law = let m = mark.Answered u (call.PortPut p v r) a in let q : Step k m = quiet m (λ t i x. refl) (λ t b. refl) (λ i. refl) (λ t l w b. refl) (λ l. refl) in step_int a _ m q (λ n. q)
+    answered u (call.PortGet p) a on law = let m = mark.Answered u (call.PortGet p) a in let q : Step k m = quiet m (λ t i x. refl) (λ t b. refl) (λ i. refl) (λ t l w b. refl) (λ l. refl) in step_msg a _ m q q
+    answered u (call.Reply i v) a on law = let m = mark.Answered u (call.Reply i v) a in let q : Step k m = quiet m (λ t i x. refl) (λ t b. refl) (λ i. refl) (λ t l w b. refl) (λ l. refl) in step_int a _ m q (λ n. q)
+    answered u (call.PortDestroy p) a on law = let m = mark.Answered u (call.PortDestroy p) a in let q : Step k m = quiet m (λ t i x. refl) (λ t b. refl) (λ i. refl) (λ t l w b. refl) (λ l. refl) in step_int a _ m q (λ n. q)
+    answered u c a on law = quiet (mark.Answered u c a) (λ t i x. refl) (λ t b. refl) (λ i. refl) (λ t l w b. refl) (λ l. refl)
+
+pub told_step : (b : Book) → IsSound b.resources.store.mutexes b.resources.store.rw_locks → Locked b.resources → (m : Mark) → is_kill m ≡ false → IsExclusiveMark b m → Step b.resources (told b.resources m) m
 unfolding told act_told answer_told
-told_step b sound (mark.Answered u c a) law = answered b.resources sound u c a law
-told_step b sound (mark.Acted u (act.Release i) (Int n)) law = let k = b.resources in let m = mark.Acted u (act.Release i) (Int n) in (released_so k sound u.0 (object_named i) k.awaits m law (λ t i. refl) (λ t. refl) (λ i. refl), locks_still k sound m (λ t l w b. refl) (λ l. refl))
-told_step b sound (mark.Acted u (act.Put p v) a) law = let k = b.resources in let m = mark.Acted u (act.Put p v) a in let q : Step k k m = quiet k sound m (λ t i x. refl) (λ t b. refl) (λ i. refl) (λ t l w b. refl) (λ l. refl) in step_int k sound a _ m q (λ n. q)
-told_step b sound (mark.Acted u (act.SetKey key v) a) law = let k = b.resources in let m = mark.Acted u (act.SetKey key v) a in let q : Step k k m = quiet k sound m (λ t i x. refl) (λ t b. refl) (λ i. refl) (λ t l w b. refl) (λ l. refl) in step_one k sound a _ m q q
-told_step b sound (mark.Waits u (call.CondAwait c m e)) law = waits_await b.resources sound u c m e (b.resources.awaits u.0) refl law
-told_step b sound (mark.Took u i) law = let k = b.resources in let m = mark.Took u i in (taken_so k sound u.0 i (put k.awaits u.0 false) m law (λ t i. refl) (λ t. flag_set k.awaits u.0 t false) (λ i. refl), locks_still k sound m (λ t l w b. refl) (λ l. refl))
-told_step b sound (mark.GaveMutex u i) law = let k = b.resources in let m = mark.GaveMutex u i in (changed k sound u.0 i (λ t j. 0) k.awaits m (own_is_no_others u.0 (k.store.mutexes i) law) (has_some u.0 (k.store.mutexes i) law) (λ t i. refl) (λ t. refl) (λ i. refl), locks_still k sound m (λ t l w b. refl) (λ l. refl))
-told_step b sound (mark.GaveLock u l) law = let k = b.resources in let m = mark.GaveLock u l in (mutexes_still k sound m (λ t i x. refl) (λ t b. refl) (λ i. refl), left_so k sound u.0 l m (λ t i w b. refl) (λ i. refl))
-told_step b sound (mark.Ended u v) law = (ends_mutexes b.resources sound u v, ends_locks b.resources sound u v)
-told_step b sound m law = quiet b.resources sound m (λ t i x. refl) (λ t b. refl) (λ i. refl) (λ t l w b. refl) (λ l. refl)
+told_step b sound locked (mark.Answered u c a) on law = answered b.resources sound locked u c a on law
+told_step b sound locked (mark.Acted u (act.Release (pos o)) (Int n)) on law =
+    let k = b.resources in
+    let m = mark.Acted u (act.Release (pos o)) (Int (pos 1)) in
+    let h : Step k (told k m) m = (released_so k sound locked u.0 o k.awaits m law.1 (λ t i. refl) (λ t. refl) (λ i. refl), locks_still k sound locked m (λ t l w b. refl) (λ l. refl)) in
+    subst (λ (z : ℤ). Step k (told k (mark.Acted u (act.Release (pos o)) (Int z))) (mark.Acted u (act.Release (pos o)) (Int z))) (sym law.0) h
+told_step b sound locked (mark.Acted u (act.Release (negsuc o)) (Int n)) on law = absurd (no_mutex b.resources sound locked o (has_some u.0 (b.resources.store.mutexes (object_named (negsuc o))) law.1))
+told_step b sound locked (mark.Acted u (act.Put p v) a) on law = let k = b.resources in let m = mark.Acted u (act.Put p v) a in let q : Step k k m = quiet k sound locked m (λ t i x. refl) (λ t b. refl) (λ i. refl) (λ t l w b. refl) (λ l. refl) in step_int k sound locked a _ m q (λ n. q)
+told_step b sound locked (mark.Acted u (act.SetKey key v) a) on law = let k = b.resources in let m = mark.Acted u (act.SetKey key v) a in let q : Step k k m = quiet k sound locked m (λ t i x. refl) (λ t b. refl) (λ i. refl) (λ t l w b. refl) (λ l. refl) in step_one k sound locked a _ m q q
+told_step b sound locked (mark.Waits u (call.CondAwait c m e)) on law = waits_await b.resources sound locked u c m e (b.resources.awaits u.0) refl law
+told_step b sound locked (mark.Took u i) on law = let k = b.resources in let m = mark.Took u i in (taken_so k sound locked u.0 i (put k.awaits u.0 false) m law (λ t i. refl) (λ t. flag_set k.awaits u.0 t false) (λ i. refl), locks_still k sound locked m (λ t l w b. refl) (λ l. refl))
+told_step b sound locked (mark.GaveMutex u i) on law = let k = b.resources in let m = mark.GaveMutex u i in (changed k sound locked u.0 i (λ t j. 0) k.awaits m (own_is_no_others u.0 (k.store.mutexes i) law) (has_some u.0 (k.store.mutexes i) law) (λ t i. refl) (λ t. refl) (λ i. refl), locks_still k sound locked m (λ t l w b. refl) (λ l. refl))
+told_step b sound locked (mark.GaveLock u l) on law = let k = b.resources in let m = mark.GaveLock u l in (mutexes_still k sound locked m (λ t i x. refl) (λ t b. refl) (λ i. refl), left_so k sound locked u.0 l m (λ t i w b. refl) (λ i. refl))
+told_step b sound locked (mark.Ended u v) on law = (ends_mutexes b.resources sound locked u v law.mutexes, ends_locks b.resources sound locked u v law.locks)
+told_step b sound locked m on law = quiet b.resources sound locked m (λ t i x. refl) (λ t b. refl) (λ i. refl) (λ t l w b. refl) (λ l. refl)

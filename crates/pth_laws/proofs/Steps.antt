@@ -49,8 +49,9 @@ use Rattle.pth_model.specs.Part.{steps_on, steps_by, stepping}
 use Rattle.pth_model.specs.declared.progress.Progress.{Progress}
 use Rattle.pth_model.proofs.Placed.{seats}
 use Rattle.pth_model.proofs.Walks.{is_common, effect_keeps, come_keeps, named_other, named_lives, named_dead}
-use Rattle.pth_laws.specs.Book.{Book, Block, Closed, BlockRun, ran_by, ran_nothing, with_handler, after, book_of}
-use Rattle.pth_laws.specs.Laws.{EachMark, IsPopOrderly, RanLast, IsAnswerExclusive}
+use Rattle.pth_laws.proofs.Book.{Book, Block, Closed, BlockRun, ran_by, ran_nothing, with_handler, after, ended_after, book_of}
+use Rattle.pth_laws.proofs.Laws.{EachMark, IsPopOrderly, IsAnswerExclusive}
+use Rattle.pth_laws.specs.Orderly.{RanLast}
 use Rattle.pth_laws.proofs.Living.{Living, true_false, request_state, living-up, living-made}
 use Rattle.pth_laws.proofs.Going.{IsGoing, Going, going_alive, going_set, going_removed, known_lives, set_lives}
 use Rattle.pth_laws.specs.Valid.{is_await, is_awaiting}
@@ -276,12 +277,17 @@ module _ {P S H : Type 0} (f : P → Functions S H) (n t : ℕ) (made : is_made 
     fits = w.fits;
   }
 
-  answer_walk : (x : Next) (k : Call) (a : Answer) (c : Book) (u : State P S H) → IsPopOrderly c t k a → IsAnswerExclusive c.resources t k a → ((d : Book) (v : State P S H) → d.block ≡ Closed → Within d v → After x d v) → Telling (mark.Answered (tid t) k a) c u
+  -- a call that is not pth_kill ends nobody by its answer
+  on_goes : (e : ℕ → Bool) (k : Call) (a : Answer) → kills k ≡ false → ended_after e (mark.Answered (tid t) k a) ≡ e
+  on_goes e call.Kill a on = absurd (true_false on)
+  on_goes e k a on = refl
+
+  answer_walk : (x : Next) (k : Call) (a : Answer) (c : Book) (u : State P S H) → ended_after c.ended (mark.Answered (tid t) k a) ≡ c.ended → IsPopOrderly c t k a → IsAnswerExclusive c.resources t k a → ((d : Book) (v : State P S H) → d.block ≡ Closed → Within d v → After x d v) → Telling (mark.Answered (tid t) k a) c u
       → Walk n c (After x) (tells (mark.Answered (tid t) k a) u)
-  answer_walk x k a c u pop exclusive leaves w =
+  answer_walk x k a c u goes pop exclusive leaves w =
       let m = mark.Answered (tid t) k a in
       let o = (told u.resources m).awaits in
-      walk_tells n (After x) c m u (λ locked. (((within_up o c u w, (within_calm o c u w, pop)), exclusive), made)) (leaves (after c m) (tells m u).state refl (told_within m c u refl refl w))
+      walk_tells n (After x) c m u (λ locked. (((within_up o c u w, (within_calm o c u w, pop)), exclusive), made)) (leaves (after c m) (tells m u).state refl (told_within m c u goes refl w))
 
   wait_walk : (k : Call) (c : Book) (u : State P S H) → is_await k ≡ false → Telling (mark.Waits (tid t) k) c u → Walk n c (After next.Waits) (tells (mark.Waits (tid t) k) u)
   wait_walk k c u other w =
@@ -438,10 +444,10 @@ module _ {P S H : Type 0} (f : P → Functions S H) (n t : ℕ) (made : is_made 
   verdict_walk : (k : Call) (v : Verdict) (a : Piece P S H) (p : Progress S) (c : Book) (s : State P S H) → is_quiet k ≡ true → kills k ≡ false → IsVerdictExclusive c.resources t k v → c.block ≡ Closed → p.blocked ≡ None → Walk n c (Quiet (Some p) c) (a s) → Walk n c (After (begun_by f t k v a s).next) (begun_by f t k v a s).told
   verdict_walk k (Says x) a p c s quiet on exclusive closed free w =
       walk_then n (Quiet (Some p) c) (After (next.Done x)) c a (tells (mark.Answered (tid t) k x)) s w
-      (λ d h. subst (λ (e : Book). Walk n e (After (next.Done x)) (tells (mark.Answered (tid t) k x) (a s).state)) (sym h.0) (answer_walk (next.Done x) k x c (a s).state (no_pop c t k x quiet) exclusive (λ e u. done_stepped x e u) (answering k x c (a s).state on (idle_in c (a s).state p h.2 free h.1) h.1)))
+      (λ d h. subst (λ (e : Book). Walk n e (After (next.Done x)) (tells (mark.Answered (tid t) k x) (a s).state)) (sym h.0) (answer_walk (next.Done x) k x c (a s).state (on_goes c.ended k x on) (no_pop c t k x quiet) exclusive (λ e u. done_stepped x e u) (answering k x c (a s).state on (idle_in c (a s).state p h.2 free h.1) h.1)))
   verdict_walk k (Yields x) a p c s quiet on exclusive closed free w =
       walk_then n (Quiet (Some p) c) (After (next.Yields x)) c a (tells (mark.Answered (tid t) k x)) s w
-      (λ d h. subst (λ (e : Book). Walk n e (After (next.Yields x)) (tells (mark.Answered (tid t) k x) (a s).state)) (sym h.0) (answer_walk (next.Yields x) k x c (a s).state (no_pop c t k x quiet) exclusive (λ e u. yields_stepped x e u) (answering k x c (a s).state on (idle_in c (a s).state p h.2 free h.1) h.1)))
+      (λ d h. subst (λ (e : Book). Walk n e (After (next.Yields x)) (tells (mark.Answered (tid t) k x) (a s).state)) (sym h.0) (answer_walk (next.Yields x) k x c (a s).state (on_goes c.ended k x on) (no_pop c t k x quiet) exclusive (λ e u. yields_stepped x e u) (answering k x c (a s).state on (idle_in c (a s).state p h.2 free h.1) h.1)))
   verdict_walk k (Blocks y) a p c s quiet on exclusive closed free w =
       walk_then n (Quiet (Some p) c) (After next.Waits) c a (waits_by t k y) s w
       (λ d h. subst (λ (e : Book). Walk n e (After next.Waits) (waits_by t k y (a s).state)) (sym h.0) (
@@ -454,7 +460,7 @@ module _ {P S H : Type 0} (f : P → Functions S H) (n t : ℕ) (made : is_made 
       (λ d h. subst (λ (e : Book). Walk n e (After (next.Ended v)) (ending f t v (a s).state)) (sym h.0) (end_walk v c (a s).state (fresh_by t c.block closed) h.1))
   verdict_walk k Kills a p c s quiet on exclusive closed free w =
       walk_then n (Quiet (Some p) c) (After next.Killed) c a (tells (mark.Answered (tid t) k (answer.Int (pos 1)))) s w
-      (λ d h. subst (λ (e : Book). Walk n e (After next.Killed) (tells (mark.Answered (tid t) k (answer.Int (pos 1))) (a s).state)) (sym h.0) (answer_walk next.Killed k (answer.Int (pos 1)) c (a s).state (no_pop c t k (answer.Int (pos 1)) quiet) exclusive (λ e u closed within. tt) (answering k (answer.Int (pos 1)) c (a s).state on (idle_in c (a s).state p h.2 free h.1) h.1)))
+      (λ d h. subst (λ (e : Book). Walk n e (After next.Killed) (tells (mark.Answered (tid t) k (answer.Int (pos 1))) (a s).state)) (sym h.0) (answer_walk next.Killed k (answer.Int (pos 1)) c (a s).state (on_goes c.ended k (answer.Int (pos 1)) on) (no_pop c t k (answer.Int (pos 1)) quiet) exclusive (λ e u closed within. tt) (answering k (answer.Int (pos 1)) c (a s).state on (idle_in c (a s).state p h.2 free h.1) h.1)))
 
   not_killing : (k : Call) → is_common k ≡ true → kills k ≡ false
   not_killing call.Kill common = absurd (true_false (sym common))
@@ -470,7 +476,7 @@ module _ {P S H : Type 0} (f : P → Functions S H) (n t : ℕ) (made : is_made 
 
   -- pth_kill
   kill_walk : (refuse : Bool) (c : Book) (s : State P S H) → Within c s → let v = refused EPERM when refuse otherwise Kills in let r = begun_by f t call.Kill v (unless_refused (refuses v) (changes (vanish_all_but t))) s in Walk n c (After r.next) r.told
-  kill_walk true c s w = answer_walk (next.Done (answer.Fail EPERM)) call.Kill (answer.Fail EPERM) c s tt tt (λ e u. done_stepped (answer.Fail EPERM) e u) (refusing EPERM c s w)
+  kill_walk true c s w = answer_walk (next.Done (answer.Fail EPERM)) call.Kill (answer.Fail EPERM) c s refl tt tt (λ e u. done_stepped (answer.Fail EPERM) e u) (refusing EPERM c s w)
   kill_walk false c s w = record { law = ((λ locked. (((within_up s.resources.awaits c s w, (within_calm s.resources.awaits c s w, tt)), tt), made)), tt); post = tt }
 
   -- pth_yield: who is named lives
@@ -480,7 +486,7 @@ module _ {P S H : Type 0} (f : P → Functions S H) (n t : ℕ) (made : is_made 
 
   yields_walk : (m : ℤ) (zero : Bool) (c : Book) (s : State P S H) → (zero ≡ false → lives (s.control.threads.known (number m)) ≡ true) → s.resources.awaits t ≡ false → Within c s → Walk n c (After (next.Yields (answer.Int (pos 1)))) ((changes (if zero then nothing else prefers (Some (number m))) and_then tells (mark.Answered (tid t) (call.Yield m) (answer.Int (pos 1)))) s)
   yields_walk m true c s alive idle w =
-      let x = answer_walk (next.Yields (answer.Int (pos 1))) (call.Yield m) (answer.Int (pos 1)) c s tt tt (λ e u. yields_stepped (answer.Int (pos 1)) e u) (answering (call.Yield m) (answer.Int (pos 1)) c s refl idle w) in
+      let x = answer_walk (next.Yields (answer.Int (pos 1))) (call.Yield m) (answer.Int (pos 1)) c s refl tt tt (λ e u. yields_stepped (answer.Int (pos 1)) e u) (answering (call.Yield m) (answer.Int (pos 1)) c s refl idle w) in
       record { law = x.law; post = x.post }
   yields_walk m false c s alive idle w =
       let k = mark.Answered (tid t) (call.Yield m) (answer.Int (pos 1)) in
@@ -499,7 +505,7 @@ module _ {P S H : Type 0} (f : P → Functions S H) (n t : ℕ) (made : is_made 
       }
 
   yield_walk : (m : ℤ) (refuse : Bool) (c : Book) (s : State P S H) → (not (is_zero m) && ((or_nobody (thread s.control m)).suspended || not (may_run (or_nobody (thread s.control m)).state))) ≡ refuse → s.resources.awaits t ≡ false → Within c s → let v = refused EINVAL when refuse otherwise Yields (answer.Int (pos 1)) in let r = begun_by f t (call.Yield m) v (unless_refused (refuses v) (changes (if is_zero m then nothing else prefers (Some (number m))))) s in Walk n c (After r.next) r.told
-  yield_walk m true c s is_refused idle w = answer_walk (next.Done (answer.Fail EINVAL)) (call.Yield m) (answer.Fail EINVAL) c s tt tt (λ e u. done_stepped (answer.Fail EINVAL) e u) (answering (call.Yield m) (answer.Fail EINVAL) c s refl idle w)
+  yield_walk m true c s is_refused idle w = answer_walk (next.Done (answer.Fail EINVAL)) (call.Yield m) (answer.Fail EINVAL) c s refl tt tt (λ e u. done_stepped (answer.Fail EINVAL) e u) (answering (call.Yield m) (answer.Fail EINVAL) c s refl idle w)
   yield_walk m false c s is_refused idle w = yields_walk m (is_zero m) c s (λ other. named_runs m s (passed (is_zero m) (or_nobody (thread s.control m)).suspended (may_run (or_nobody (thread s.control m)).state) other is_refused)) idle w
 
   -- a handler within a call, and the call's answer
@@ -511,7 +517,7 @@ module _ {P S H : Type 0} (f : P → Functions S H) (n t : ℕ) (made : is_made 
       (handler_walk f n t c.ended c.canceled (within_up s.resources.awaits c s w) made s.resources s.control ran_nothing h v c s (record { resources = w.resources; ended = refl; canceled = refl; ran = fresh_by t c.block closed; cleanups = refl; awaits = refl; control = refl }))
       (λ d x.
       let u = (runs_handler f t h v s).state in
-      answer_walk (next.Done (answer.Int (pos 1))) k (answer.Int (pos 1)) d u
+      answer_walk (next.Done (answer.Int (pos 1))) k (answer.Int (pos 1)) d u (on_goes d.ended k (answer.Int (pos 1)) on)
       (pops d u (ap (λ (z : BlockRun). z.handlers) x.ran ∙ ran_one (h, v)) (ap (λ (r : Resources). r.store.cleanups t) x.resources ∙ x.cleanups)) (exclusive d)
       (λ e y. done_stepped (answer.Int (pos 1)) e y)
       (answering k (answer.Int (pos 1)) d u on (ap (λ (o : ℕ → Bool). o t) x.awaits ∙ idle) (record {
@@ -525,21 +531,21 @@ module _ {P S H : Type 0} (f : P → Functions S H) (n t : ℕ) (made : is_made 
   -- pth_cleanup_pop
   popped_walk : (v : ℤ) (run : Bool) (p : PushedHandler) (c : Book) (s : State P S H) → not (is_zero v) ≡ run → pop_answer s.resources.store.cleanups t ≡ Some p → c.block ≡ Closed → s.resources.awaits t ≡ false → Within c s → Walk n c (After (next.Done (answer.Int (pos 1)))) ((where_so run (runs_pushed f t (Some p)) and_then tells (mark.Answered (tid t) (call.CleanupPop v) (answer.Int (pos 1)))) s)
   popped_walk v false p c s runs last closed idle w =
-      let x = answer_walk (next.Done (answer.Int (pos 1))) (call.CleanupPop v) (answer.Int (pos 1)) c s (λ other. absurd (true_false (sym (ap not other) ∙ runs))) tt (λ e u. done_stepped (answer.Int (pos 1)) e u) (answering (call.CleanupPop v) (answer.Int (pos 1)) c s refl idle w) in
+      let x = answer_walk (next.Done (answer.Int (pos 1))) (call.CleanupPop v) (answer.Int (pos 1)) c s refl (λ other. absurd (true_false (sym (ap not other) ∙ runs))) tt (λ e u. done_stepped (answer.Int (pos 1)) e u) (answering (call.CleanupPop v) (answer.Int (pos 1)) c s refl idle w) in
       record { law = x.law; post = x.post }
   popped_walk v true p c s runs last closed idle w =
       handled_call (call.CleanupPop v) p.0 p.1 c s closed
       (λ d u ran pushed other. ran_last (ran_by d.block t).handlers (d.resources.store.cleanups t) p ran (ap (λ (cs : List PushedHandler). slice_get cs 0) pushed ∙ last)) (λ d. tt) refl idle w
 
   pop_walk : (v : ℤ) (o : Option PushedHandler) (c : Book) (s : State P S H) → pop_answer s.resources.store.cleanups t ≡ o → c.block ≡ Closed → s.resources.awaits t ≡ false → Within c s → let y = refused EINVAL when is_none o otherwise says 1 in let r = begun_by f t (call.CleanupPop v) y (unless_refused (refuses y) (where_so (not (is_zero v)) (runs_pushed f t o))) s in Walk n c (After r.next) r.told
-  pop_walk v None c s last closed idle w = answer_walk (next.Done (answer.Fail EINVAL)) (call.CleanupPop v) (answer.Fail EINVAL) c s tt tt (λ e u. done_stepped (answer.Fail EINVAL) e u) (answering (call.CleanupPop v) (answer.Fail EINVAL) c s refl idle w)
+  pop_walk v None c s last closed idle w = answer_walk (next.Done (answer.Fail EINVAL)) (call.CleanupPop v) (answer.Fail EINVAL) c s refl tt tt (λ e u. done_stepped (answer.Fail EINVAL) e u) (answering (call.CleanupPop v) (answer.Fail EINVAL) c s refl idle w)
   pop_walk v (Some p) c s last closed idle w = popped_walk v (not (is_zero v)) p c s refl last closed idle w
 
   -- pth_once
   once_walk : (o h v : ℤ) (refuse run : Bool) (c : Book) (s : State P S H) → c.block ≡ Closed → s.resources.awaits t ≡ false → Within c s → let y = refused EINVAL when refuse otherwise says 1 in let r = begun_by f t (call.Once o h v) y (unless_refused (refuses y) (where_so run (changes (uses (number o)) and_then runs_handler f t (handler h) v))) s in Walk n c (After r.next) r.told
-  once_walk o h v true run c s closed idle w = answer_walk (next.Done (answer.Fail EINVAL)) (call.Once o h v) (answer.Fail EINVAL) c s tt tt (λ e u. done_stepped (answer.Fail EINVAL) e u) (answering (call.Once o h v) (answer.Fail EINVAL) c s refl idle w)
+  once_walk o h v true run c s closed idle w = answer_walk (next.Done (answer.Fail EINVAL)) (call.Once o h v) (answer.Fail EINVAL) c s refl tt tt (λ e u. done_stepped (answer.Fail EINVAL) e u) (answering (call.Once o h v) (answer.Fail EINVAL) c s refl idle w)
   once_walk o h v false false c s closed idle w =
-      let x = answer_walk (next.Done (answer.Int (pos 1))) (call.Once o h v) (answer.Int (pos 1)) c s tt tt (λ e u. done_stepped (answer.Int (pos 1)) e u) (answering (call.Once o h v) (answer.Int (pos 1)) c s refl idle w) in
+      let x = answer_walk (next.Done (answer.Int (pos 1))) (call.Once o h v) (answer.Int (pos 1)) c s refl tt tt (λ e u. done_stepped (answer.Int (pos 1)) e u) (answering (call.Once o h v) (answer.Int (pos 1)) c s refl idle w) in
       record { law = x.law; post = x.post }
   once_walk o h v false true c s closed idle w =
       let x = handled_call (call.Once o h v) (handler h) v c (controlled (uses (number o)) s) closed (λ d u ran pushed. tt) (λ d. tt) refl idle (change_within (uses (number o)) s.resources.awaits c s w.going w.claims w.fits w) in
@@ -548,7 +554,7 @@ module _ {P S H : Type 0} (f : P → Functions S H) (n t : ℕ) (made : is_made 
   -- pth_cancel_point
   point_walk : (asked : Bool) (c : Book) (s : State P S H) → c.block ≡ Closed → s.resources.awaits t ≡ false → Within c s → let v = Ends canceled_value when asked otherwise says 1 in let r = begun_by f t call.CancelPoint v (unless_refused (refuses v) (where_so asked (takes_request t call.CancelPoint))) s in Walk n c (After r.next) r.told
   point_walk false c s closed idle w =
-      let x = answer_walk (next.Done (answer.Int (pos 1))) call.CancelPoint (answer.Int (pos 1)) c s tt tt (λ e u. done_stepped (answer.Int (pos 1)) e u) (answering call.CancelPoint (answer.Int (pos 1)) c s refl idle w) in
+      let x = answer_walk (next.Done (answer.Int (pos 1))) call.CancelPoint (answer.Int (pos 1)) c s refl tt tt (λ e u. done_stepped (answer.Int (pos 1)) e u) (answering call.CancelPoint (answer.Int (pos 1)) c s refl idle w) in
       record { law = x.law; post = x.post }
   point_walk true c s closed idle w =
       let x = canceled_walk call.CancelPoint c s w in
@@ -558,7 +564,7 @@ module _ {P S H : Type 0} (f : P → Functions S H) (n t : ℕ) (made : is_made 
   then_answer : (k : Call) (a : Piece P S H) (c : Book) (s : State P S H) → is_asking k ≡ true → Walk n c GoesOn (a s) → Walk n c (After (next.Done (answer.Int (pos 1)))) ((a and_then tells (mark.Answered (tid t) k (answer.Int (pos 1)))) s)
   then_answer k a c s asking w =
       walk_then n GoesOn (After (next.Done (answer.Int (pos 1)))) c a (tells (mark.Answered (tid t) k (answer.Int (pos 1)))) s w
-      (λ d h. answer_walk (next.Done (answer.Int (pos 1))) k (answer.Int (pos 1)) d (a s).state (asking_pops t d k asking) (asking_exclusive t d k (answer.Int (pos 1)) asking) (λ e u. done_stepped (answer.Int (pos 1)) e u) (answering k (answer.Int (pos 1)) d (a s).state (asking_on k asking) h.2 h.1))
+      (λ d h. answer_walk (next.Done (answer.Int (pos 1))) k (answer.Int (pos 1)) d (a s).state (on_goes d.ended k (answer.Int (pos 1)) (asking_on k asking)) (asking_pops t d k asking) (asking_exclusive t d k (answer.Int (pos 1)) asking) (λ e u. done_stepped (answer.Int (pos 1)) e u) (answering k (answer.Int (pos 1)) d (a s).state (asking_on k asking) h.2 h.1))
 
   -- pth_cancel, once it is not refused
   cancels_walk : (m : ℤ) (now : Bool) (c : Book) (s : State P S H) → t ≢ number m → lives (s.control.threads.known (number m)) ≡ true → is_made n (number m) ≡ true → c.block ≡ Closed → s.resources.awaits t ≡ false → Within c s → Walk n c GoesOn ((if now then canceled_by_other f (number m) else changes (sets (number m) (change.Request true))) s)
@@ -598,7 +604,7 @@ module _ {P S H : Type 0} (f : P → Functions S H) (n t : ℕ) (made : is_made 
       }
 
   refused_walk : (k : Call) (e : Errno) (c : Book) (s : State P S H) → is_asking k ≡ true → s.resources.awaits t ≡ false → Within c s → Walk n c (After (next.Done (answer.Fail e))) (tells (mark.Answered (tid t) k (answer.Fail e)) s)
-  refused_walk k e c s asking idle w = answer_walk (next.Done (answer.Fail e)) k (answer.Fail e) c s (asking_fails t c k e asking) (asking_exclusive t c k (answer.Fail e) asking) (λ d u. done_stepped (answer.Fail e) d u) (answering k (answer.Fail e) c s (asking_on k asking) idle w)
+  refused_walk k e c s asking idle w = answer_walk (next.Done (answer.Fail e)) k (answer.Fail e) c s (on_goes c.ended k (answer.Fail e) (asking_on k asking)) (asking_fails t c k e asking) (asking_exclusive t c k (answer.Fail e) asking) (λ d u. done_stepped (answer.Fail e) d u) (answering k (answer.Fail e) c s (asking_on k asking) idle w)
 
   -- pth_cancel
   cancel_walk : (m : ℤ) (own unknown barred : Bool) (c : Book) (s : State P S H) → (m is t) ≡ own → not (is_known s.control m) ≡ unknown → (m is main || is_dead (or_nobody (thread s.control m)).state) ≡ barred → s.control.threads.made ≡ n → c.block ≡ Closed → s.resources.awaits t ≡ false → Within c s → let v = refused EINVAL when own otherwise refused ESRCH when unknown otherwise refused EPERM when barred otherwise says 1 in let r = begun_by f t (call.Cancel m) v (unless_refused (refuses v) (if is_asynchronous (or_nobody (thread s.control m)).cancel then canceled_by_other f (number m) else changes (sets (number m) (change.Request true)))) s in Walk n c (After r.next) r.told
@@ -664,7 +670,7 @@ module _ {P S H : Type 0} (f : P → Functions S H) (n t : ℕ) (made : is_made 
   answers_walk x k a c u pop exclusive by leaves w =
       let tells = answer_awaits u.resources t k a pop.1 by in
       let o = (answer_told u.resources t k a).awaits in
-      let y = answer_walk x k a c (controlled (stops_waiting t) u) pop.0 exclusive leaves
+      let y = answer_walk x k a c (controlled (stops_waiting t) u) (on_goes c.ended k a pop.1) pop.0 exclusive leaves
       (change_within (stops_waiting t) o c u (going_stops c.ended u w.going) (claims_stop t u.control w.claims) (awaits_stop t u.resources.awaits o u.control tells.0 tells.1 w.fits) w) in
       record { law = y.law; post = y.post }
 

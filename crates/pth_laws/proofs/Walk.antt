@@ -5,8 +5,9 @@ use Rattle.pth_base.specs.declared.mark.Mark.{Mark}
 use Rattle.pth_model.specs.State.{State}
 use Rattle.pth_model.specs.Transition.{Transition, Piece, Last, tells, ◌and_then◌, ◌and_finally◌}
 use Rattle.pth_model.specs.Living.{is_made}
-use Rattle.pth_laws.specs.Book.{Book, after, book_of}
-use Rattle.pth_laws.specs.Laws.{EachMark, IsLawful, thread_of}
+use Rattle.pth_laws.proofs.Book.{Book, after, book_of}
+use Rattle.pth_laws.proofs.Laws.{EachMark, IsLawful}
+use Rattle.pth_laws.specs.Marks.{thread_of}
 use Rattle.pth_laws.proofs.Locked.{Locked, locked_after}
 
 -- ---- what each mark of a list is

@@ -1,5 +1,5 @@
--- Lists of marks that no run tells.
-use Rattle.std.specs.Prelude.{ℕ, pos, Bool, true, false, List, [], ◌∷◌, None, Some}
+-- Lists of marks that no run tells. Some a law refuses, others it takes.
+use Rattle.std.specs.Prelude.{ℕ, ℤ, pos, negsuc, Bool, true, false, List, [], ◌∷◌, None, Some}
 use Rattle.pth_base.specs.declared.answer.Answer.TheVariants.{Int}
 use Rattle.pth_base.specs.declared.call.Call.{Call}
 use Rattle.pth_base.specs.declared.call.Call.TheVariants as call
@@ -10,6 +10,9 @@ use Rattle.pth_base.specs.declared.ids.Tid.{Tid}
 
 abbrev pub one : Tid
 one = record { 0 = 1 }
+
+abbrev pub two : Tid
+two = record { 0 = 2 }
 
 abbrev pub handler_of_number : ℕ → HandlerId
 handler_of_number n = record { 0 = n }
@@ -34,31 +37,40 @@ an_answer_after_a_cancellation = mark.Canceled one None ∷ mark.Answered one ca
 abbrev pub a_mark_after_the_end : List Mark
 a_mark_after_the_end = mark.Ended one (pos 0) ∷ mark.Noted one (pos 3) ∷ []
 
--- ---- mutexes and locks
+-- thread 1 pushes a handler, thread 2 kills the run, and thread 1 ends without its handler
+abbrev pub an_end_after_a_kill : List Mark
+an_end_after_a_kill = mark.Answered one (call.CleanupPush (pos 0) (pos 5)) (Int (pos 1)) ∷ mark.Answered two call.Kill (Int (pos 1)) ∷ mark.Ended one (pos 0) ∷ []
 
-abbrev pub two : Tid
-two = record { 0 = 2 }
+-- a key 300 with a destructor has a value
+abbrev pub a_key_out_of_range_is_left : List Mark
+a_key_out_of_range_is_left = mark.Answered one (call.KeyCreate (Some (pos 0))) (Int (pos 300)) ∷ mark.Answered one (call.KeySet (pos 300) (pos 7)) (Int (pos 1)) ∷ mark.Ended one (pos 0) ∷ []
+
+-- its destructor runs
+abbrev pub a_key_out_of_range_is_destroyed : List Mark
+a_key_out_of_range_is_destroyed = mark.Answered one (call.KeyCreate (Some (pos 0))) (Int (pos 300)) ∷ mark.Answered one (call.KeySet (pos 300) (pos 7)) (Int (pos 1)) ∷ mark.Destructor one 300 (pos 7) ∷ mark.Ended one (pos 0) ∷ []
+
+-- ---- mutexes and locks
 
 -- a call is answered 1
 abbrev pub done_by : Tid → Call → Mark
 done_by t c = mark.Answered t c (Int (pos 1))
 
--- mutex 0, and lock 0, is initialised by thread 1
+-- thread 1 initialises mutex 0, or lock 0
 abbrev pub with_mutex : List Mark → List Mark
 with_mutex rest = done_by one (call.MutexInit (pos 0)) ∷ rest
 
 abbrev pub with_lock : List Mark → List Mark
 with_lock rest = done_by one (call.RwInit (pos 0)) ∷ rest
 
--- t takes it; t enters to write, or to read
-abbrev pub takes_it : Tid → Mark
-takes_it t = done_by t (call.MutexAcquire (pos 0) (pos 0) (pos 0))
+-- t takes a mutex; t enters lock 0 to write, or to read
+abbrev pub takes_mutex : Tid → ℤ → Mark
+takes_mutex t m = done_by t (call.MutexAcquire m (pos 0) (pos 0))
 
 abbrev pub enters_it : Tid → Bool → Mark
 enters_it t write = done_by t (call.RwAcquire (pos 0) write (pos 0) (pos 0))
 
 abbrev pub two_owners : List Mark
-two_owners = with_mutex (takes_it one ∷ takes_it two ∷ [])
+two_owners = with_mutex (takes_mutex one (pos 0) ∷ takes_mutex two (pos 0) ∷ [])
 
 abbrev pub a_release_without_a_level : List Mark
 a_release_without_a_level = with_mutex (done_by one (call.MutexRelease (pos 0)) ∷ [])
@@ -67,10 +79,39 @@ abbrev pub a_writer_beside_a_reader : List Mark
 a_writer_beside_a_reader = with_lock (enters_it one false ∷ enters_it two true ∷ [])
 
 abbrev pub a_mutex_at_an_end : List Mark
-a_mutex_at_an_end = with_mutex (takes_it one ∷ mark.Ended one (pos 0) ∷ [])
+a_mutex_at_an_end = with_mutex (takes_mutex one (pos 0) ∷ mark.Ended one (pos 0) ∷ [])
 
 abbrev pub a_lock_at_an_end : List Mark
 a_lock_at_an_end = with_lock (enters_it one false ∷ mark.Ended one (pos 0) ∷ [])
 
+-- thread 2 has a mutex as thread 1 kills the run, and still as it ends
+abbrev pub a_kill_keeps_levels : List Mark
+a_kill_keeps_levels = with_mutex (takes_mutex two (pos 0) ∷ done_by one call.Kill ∷ mark.Ended two (pos 0) ∷ [])
+
+-- a release that is not answered 1 gives nothing back
+abbrev pub a_release_answered_seven : List Mark
+a_release_answered_seven = with_mutex (takes_mutex one (pos 0) ∷ mark.Answered one (call.MutexRelease (pos 0)) (Int (pos 7)) ∷ mark.Ended one (pos 0) ∷ [])
+
 abbrev pub a_mutex_that_was_not_initialised : List Mark
-a_mutex_that_was_not_initialised = takes_it one ∷ []
+a_mutex_that_was_not_initialised = takes_mutex one (pos 0) ∷ []
+
+abbrev pub a_mutex_is_initialised_twice : List Mark
+a_mutex_is_initialised_twice = with_mutex (with_mutex [])
+
+abbrev pub a_mutex_out_of_range : List Mark
+a_mutex_out_of_range = done_by one (call.MutexInit (pos 70)) ∷ takes_mutex one (pos 70) ∷ []
+
+-- an acquire that is not answered 1 takes nothing
+abbrev pub an_acquire_answered_two : List Mark
+an_acquire_answered_two = with_mutex (takes_mutex one (pos 0) ∷ mark.Answered two (call.MutexAcquire (pos 0) (pos 0) (pos 0)) (Int (pos 2)) ∷ [])
+
+abbrev pub a_reader_reads_again : List Mark
+a_reader_reads_again = with_lock (enters_it one false ∷ enters_it one false ∷ [])
+
+-- mutex -1 and mutex -2 are two
+abbrev pub two_numbers_below_zero : List Mark
+two_numbers_below_zero = takes_mutex one (negsuc 0) ∷ takes_mutex two (negsuc 1) ∷ []
+
+-- a cond_await of mutex -1 gives a level of mutex -1 back
+abbrev pub an_await_of_a_number_below_zero : List Mark
+an_await_of_a_number_below_zero = takes_mutex one (negsuc 0) ∷ mark.Waits one (call.CondAwait (pos 0) (negsuc 0) (pos 0)) ∷ []

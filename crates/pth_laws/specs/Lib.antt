@@ -1,8 +1,9 @@
-pub mod Book
-pub mod Laws
+pub mod Marks
+pub mod Orderly
+pub mod Exclusive
+pub mod Initialised
 pub mod Destructors
-pub mod Said
-pub mod SaidExclusive
 pub mod Valid
+pub mod Tied
 pub mod Clean
 pub mod Examples

@@ -1,8 +1,7 @@
--- What holds of each state of a run, unless a pth_kill ended it, and how it fits the marks that led to it.
-use Rattle.std.specs.Prelude.{◌≡◌, ◌≢◌, ◌⊎◌, ℕ, Bool, true, false, not, List, All, Option, Some, None, is_some}
+-- What holds of each state of a run, unless a pth_kill ended it.
+use Rattle.std.specs.Prelude.{◌≡◌, ◌⊎◌, ℕ, Bool, true, false, All, Option, Some, None, is_some}
 use Rattle.pth_base.specs.declared.call.Call.{Call}
 use Rattle.pth_base.specs.declared.call.Call.TheVariants as call
-use Rattle.pth_base.specs.declared.mark.Mark.{Mark}
 use Rattle.pth_queue.specs.declared.queue.Queue.{Queue}
 use Rattle.pth_queue.specs.declared.queue.Queue.TheVariants.{Dead}
 use Rattle.pth_model.specs.Resources.{HasNothing}
@@ -11,8 +10,6 @@ use Rattle.pth_model.specs.State.{State, Turn, queue}
 use Rattle.pth_model.specs.declared.blocked.Blocked.{Blocked}
 use Rattle.pth_model.specs.Changes.{holders, blocked_of}
 use Rattle.pth_model.specs.Living.{lives, is_made}
-use Rattle.pth_laws.specs.Book.{Closed, empty_book, book_of}
-use Rattle.pth_laws.specs.Laws.{thread_of}
 
 -- whether a call waits at a condition (pth_cond_await)
 abbrev pub is_await : Call → Bool
@@ -49,16 +46,3 @@ module _ {P S H : Type 0} (s : State P S H) where
     pub awaits : (t : ℕ) → s.resources.awaits t ≡ is_awaiting (blocked_of s.control t)
     -- who is over has nothing: no cleanup, no value, no mutex and no lock
     pub empty : (t : ℕ) → IsOver t → HasNothing s.resources.store t
-
-  -- the marks that led to a state fit it
-  pub record IsTiedTo (marks : List Mark) : Type 0 where
-    -- a thread that was not made has no mark
-    pub unmade : (t : ℕ) → is_made s.control.threads.made t ≡ false → All (λ m. thread_of m ≢ Some t) marks
-    -- one that was made has ended exactly where it does not live
-    pub ended : (t : ℕ) → is_made s.control.threads.made t ≡ true → (book_of empty_book marks).ended t ≡ not (lives (s.control.threads.known t))
-    -- what threads have is what the marks tell: cleanups, keys, values, mutexes and locks
-    pub resources : (book_of empty_book marks).resources ≡ s.resources
-    -- who lives was not canceled
-    pub canceled : (t : ℕ) → Lives t → (book_of empty_book marks).canceled t ≡ false
-    -- the marks do not end within a block of a thread
-    pub closed : (book_of empty_book marks).block ≡ Closed

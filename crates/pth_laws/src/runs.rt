@@ -5,8 +5,11 @@ ghost use Rattle.pth_base.specs.declared.outcome.Outcome.TheVariants.{Killed};
 ghost use Rattle.pth_model.specs.Run.{run};
 ghost use Rattle.pth_model.specs.State.{Given};
 ghost use Rattle.pth_laws.specs.Clean.{IsClean};
-ghost use Rattle.pth_laws.specs.Laws.{Exclusive, Orderly};
-ghost use Rattle.pth_laws.specs.Valid.{IsTiedTo, IsValid};
+ghost use Rattle.pth_laws.specs.Exclusive.{Exclusive};
+ghost use Rattle.pth_laws.specs.Initialised.{Initialised};
+ghost use Rattle.pth_laws.specs.Orderly.{Orderly};
+ghost use Rattle.pth_laws.specs.Tied.{IsTiedTo};
+ghost use Rattle.pth_laws.specs.Valid.{IsValid};
 
 use pth_base::program::Program;
 
@@ -20,10 +23,15 @@ pub fn every_run_is_orderly<P: Program>()
 
 /// The marks of every run, wherever it stands, are exclusive, also where a `pth_kill` ended the run: no two threads have a mutex, and
 /// who gives a level of one back has it; no thread that writes under a lock meets another that holds it, and who gives a lock back
-/// holds it; what is taken was initialised before, once, and is one of 0 to 63; and a thread that ends has no mutex and no lock left,
-/// however it ended.
+/// holds it; and a thread that ends has no mutex and no lock left, however it ended.
 pub fn every_run_is_exclusive<P: Program>()
     ensures { (g : Given P) (i : ℕ) → Exclusive (run P.functions g i).marks }
+{}
+
+/// In the marks of every run, wherever it stands, what a thread takes was initialised before, once, and is one of 0 to 63, and no thread
+/// enters a lock that it holds.
+pub fn every_run_initialises<P: Program>()
+    ensures { (g : Given P) (i : ℕ) → Initialised (run P.functions g i).marks }
 {}
 
 /// Each state of a run fits the marks that led to it, unless a `pth_kill` ended the run: who has ended, and what threads have, can

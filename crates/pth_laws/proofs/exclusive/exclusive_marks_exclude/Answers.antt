@@ -1,4 +1,4 @@
-use Rattle.pth_laws.proofs.SaidExclusive.{exclusive_after}
+use Rattle.pth_laws.proofs.Excludes.{exclusive_after}
 use Rattle.pth_laws.proofs.exclusive.exclusive_marks_exclude.Goals as goal
 
 pub returns : goal.returns

@@ -1,6 +1,9 @@
--- What a list of marks says: what threads have, who has ended, who was canceled, and which block of marks is open.
+-- What a list of marks says, as a run goes on with it: what threads have by the marks, as the state has it, who has ended, who was
+-- canceled, and which block of marks is open.
 use Rattle.std.specs.Prelude.{ℕ, ◌==◌, ◌&&◌, ℤ, int_le, Bool, true, false, List, [], ◌∷◌, ◌++◌, Option, Some, None, if◌then◌else◌}
 use Rattle.pth_base.specs.Table.{put}
+use Rattle.pth_base.specs.declared.answer.Answer.TheVariants.{Int}
+use Rattle.pth_base.specs.declared.call.Call.TheVariants as call
 use Rattle.pth_base.specs.declared.mark.Mark.{Mark}
 use Rattle.pth_base.specs.declared.mark.Mark.TheVariants as mark
 use Rattle.pth_store.specs.Cleanups.{PushedHandler}
@@ -58,13 +61,20 @@ pub record Book : Type 0 where
 abbrev pub empty_book : Book
 empty_book = record { resources = no_resources; ended = λ t. false; canceled = λ t. false; block = Closed }
 
+-- a kill ends all
 abbrev pub ended_after : (ℕ → Bool) → Mark → ℕ → Bool
 ended_after e (mark.Ended t v) = put e t.0 true
+ended_after e (mark.Answered t call.Kill (Int n)) = λ u. true
 ended_after e m = e
 
 abbrev pub canceled_after : (ℕ → Bool) → Mark → ℕ → Bool
 canceled_after e (mark.Canceled t c) = put e t.0 true
 canceled_after e m = e
+
+-- a kill of the run
+abbrev pub is_kill : Mark → Bool
+is_kill (mark.Answered t call.Kill (Int n)) = true
+is_kill m = false
 
 -- marks of handlers, destructors and acts, and of what an end gives back, open a block or go on with it; every other mark closes it
 abbrev pub block_after : Book → Mark → Block

@@ -1,4 +1,5 @@
--- The laws of the marks of whole runs.
+-- What the walk along a run keeps of each mark, by the book of the marks before it. It is more than orderly, exclusive and initialised
+-- marks are: answers are those that calls give, and numbers are in range.
 use Rattle.std.specs.Prelude.{◌≡◌, ◌<◌, ℕ, zero, suc, ℤ, pos, negsuc, Bool, true, false, List, [], ◌∷◌, Option, Some, None, is_some}
 use Rattle.pth_base.specs.declared.act.Act.TheVariants as act
 use Rattle.pth_base.specs.declared.answer.Answer.{Answer}
@@ -11,34 +12,17 @@ use Rattle.pth_numbered.specs.Operands.{number, is_zero}
 use Rattle.pth_lock.specs.Objects.{object_limit, object_named}
 use Rattle.pth_lock.specs.Mutexes.{has, is_anothers}
 use Rattle.pth_lock.specs.RwLocks.{holds, may_enter}
-use Rattle.pth_store.specs.Cleanups.{PushedHandler}
+use Rattle.pth_store.specs.Keys.{key_limit}
 use Rattle.pth_model.specs.Ending.{next_destructor}
 use Rattle.pth_model.specs.Resources.{Resources}
-use Rattle.pth_laws.specs.Book.{Book, empty_book, after, ran_by}
+use Rattle.pth_laws.specs.Marks.{thread_of}
+use Rattle.pth_laws.specs.Orderly.{RanLast}
+use Rattle.pth_laws.proofs.Book.{Book, after, ran_by}
 
 -- A holds of each mark, and of the book of the marks before it
 abbrev pub EachMark : (Book → Mark → Type 0) → Book → List Mark → Type 0
 EachMark A b [] = Unit {0}
 EachMark A b (m ∷ ms) = A b m × EachMark A (after b m) ms
-
--- the thread of a mark
-abbrev pub thread_of : Mark → Option ℕ
-thread_of (mark.Dispatch turn at t rank waited allowed) = Some t.0
-thread_of (mark.Answered t c a) = Some t.0
-thread_of (mark.Waits t c) = Some t.0
-thread_of (mark.Retakes t c) = Some t.0
-thread_of (mark.Canceled t c) = Some t.0
-thread_of (mark.Took t m) = Some t.0
-thread_of (mark.Withdrew t n) = Some t.0
-thread_of (mark.Handler t h v) = Some t.0
-thread_of (mark.Destructor t key v) = Some t.0
-thread_of (mark.Acted t x a) = Some t.0
-thread_of (mark.GaveMutex t m) = Some t.0
-thread_of (mark.GaveLock t l) = Some t.0
-thread_of (mark.Ended t v) = Some t.0
-thread_of (mark.Noted t v) = Some t.0
-thread_of (mark.Woke t rank) = Some t.0
-thread_of (mark.Moved at) = None
 
 -- ---- orderly
 
@@ -46,11 +30,6 @@ thread_of (mark.Moved at) = None
 abbrev pub HasNotEnded : Book → Option ℕ → Type 0
 HasNotEnded b None = Unit {0}
 HasNotEnded b (Some t) = b.ended t ≡ false
-
--- one handler ran, the last that is pending
-abbrev pub RanLast : List PushedHandler → List PushedHandler → Type 0
-RanLast ran [] = ⊥
-RanLast ran (c ∷ cs) = ran ≡ c ∷ []
 
 -- a cleanup_pop that is answered 1, and not of 0, ran its handler
 abbrev pub IsPopOrderly : Book → ℕ → Call → Answer → Type 0
@@ -78,10 +57,6 @@ IsInItsOrder b m = Unit {0}
 
 abbrev pub IsOrderlyMark : Book → Mark → Type 0
 IsOrderlyMark b m = HasNotEnded b (thread_of m) × IsInItsOrder b m
-
--- these marks are orderly
-abbrev pub Orderly : List Mark → Type 0
-Orderly marks = EachMark IsOrderlyMark empty_book marks
 
 -- ---- exclusive
 
@@ -120,32 +95,37 @@ module _ (k : Resources) where
     pub mutexes : (m : ℕ) → has t (k.store.mutexes m) ≡ false
     pub locks : (l : ℕ) → holds k.store.rw_locks t l ≡ false
 
--- a call of t is answered, by what threads have before its answer
+-- an operand is one of the numbers from 0 on
+abbrev pub IsFromZero : ℤ → Type 0
+IsFromZero m = m ≡ pos (number m)
+
+-- a number is that of a key
+abbrev pub IsKey : ℤ → Type 0
+IsKey n = (i : ℕ) × (n ≡ pos i) × (i < key_limit)
+
+-- a call of t is answered, by what threads have before its answer: a call on a mutex or a lock with 1
 abbrev pub IsAnswerExclusive : Resources → ℕ → Call → Answer → Type 0
-IsAnswerExclusive k t (call.MutexInit m) (Int n) = IsNewMutex k (object_named m)
-IsAnswerExclusive k t (call.MutexAcquire m v e) (Int n) = MayTake k t (object_named m)
-IsAnswerExclusive k t (call.MutexRelease m) (Int n) = HasMutex k t (object_named m)
-IsAnswerExclusive k t (call.RwInit l) (Int n) = IsNewLock k (object_named l)
-IsAnswerExclusive k t (call.RwAcquire l write v e) (Int n) = MayEnter k t (object_named l) write
-IsAnswerExclusive k t (call.RwRelease l) (Int n) = HoldsLock k t (object_named l)
+IsAnswerExclusive k t (call.MutexInit m) (Int n) = (n ≡ pos 1) × IsNewMutex k (object_named m)
+IsAnswerExclusive k t (call.MutexAcquire m v e) (Int n) = (n ≡ pos 1) × MayTake k t (object_named m)
+IsAnswerExclusive k t (call.MutexRelease m) (Int n) = (n ≡ pos 1) × HasMutex k t (object_named m)
+IsAnswerExclusive k t (call.RwInit l) (Int n) = (n ≡ pos 1) × IsNewLock k (object_named l)
+IsAnswerExclusive k t (call.RwAcquire l write v e) (Int n) = (n ≡ pos 1) × MayEnter k t (object_named l) write
+IsAnswerExclusive k t (call.RwRelease l) (Int n) = (n ≡ pos 1) × HoldsLock k t (object_named l)
 -- a cond_await takes its mutex back with its answer, unless it has it again already
-IsAnswerExclusive k t (call.CondAwait c m e) a = k.awaits t ≡ true → MayTake k t (number m)
+IsAnswerExclusive k t (call.CondAwait c m e) a = k.awaits t ≡ true → IsFromZero m × MayTake k t (number m)
+IsAnswerExclusive k t (call.KeyCreate h) (Int n) = IsKey n
 IsAnswerExclusive k t c a = Unit {0}
 
 abbrev pub IsExclusiveMark : Book → Mark → Type 0
 IsExclusiveMark b (mark.Answered t c a) = IsAnswerExclusive b.resources t.0 c a
 IsExclusiveMark b (mark.Acted t (act.Release m) a) = IsAnswerExclusive b.resources t.0 (call.MutexRelease m) a
 -- a cond_await that begins to await gives a level back
-IsExclusiveMark b (mark.Waits t (call.CondAwait c m e)) = b.resources.awaits t.0 ≡ false → HasMutex b.resources t.0 (number m)
+IsExclusiveMark b (mark.Waits t (call.CondAwait c m e)) = b.resources.awaits t.0 ≡ false → IsFromZero m × HasMutex b.resources t.0 (number m)
 IsExclusiveMark b (mark.Took t m) = MayTake b.resources t.0 m
 IsExclusiveMark b (mark.GaveMutex t m) = HasMutex b.resources t.0 m
 IsExclusiveMark b (mark.GaveLock t l) = HoldsLock b.resources t.0 l
 IsExclusiveMark b (mark.Ended t v) = HoldsNothing b.resources t.0
 IsExclusiveMark b m = Unit {0}
-
--- no two threads have a mutex, no writer meets another holder of a lock, and a thread that ends has given up what it had
-abbrev pub Exclusive : List Mark → Type 0
-Exclusive marks = EachMark IsExclusiveMark empty_book marks
 
 -- ---- both of them
 
