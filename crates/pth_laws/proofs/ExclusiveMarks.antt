@@ -13,7 +13,7 @@ use Rattle.pth_base.specs.declared.mark.Mark.TheVariants as mark
 use Rattle.pth_base.proofs.Tables.{same_means}
 use Rattle.pth_numbered.specs.Operands.{number}
 use Rattle.pth_lock.specs.Objects.{object_named}
-use Rattle.pth_lock.specs.Mutexes.{has, levels_of}
+use Rattle.pth_lock.specs.Mutexes.{levels_of}
 use Rattle.pth_lock.specs.RwLocks.{is_one}
 use Rattle.pth_model.specs.Resources.{Resources, told}
 use Rattle.pth_laws.specs.Marks.{is_same, at_number, thread_of, is_end_of}

@@ -1,5 +1,5 @@
 -- Numbers that name things.
-use Rattle.std.proofs.Common.{◌≡◌, ◌<◌, ℤ, pos, negsuc, true, false, refl, ap, arith}
+use Rattle.std.proofs.Common.{◌≡◌, ◌<◌, ℤ, pos, negsuc, true, refl, ap, arith}
 use Rattle.std.proofs.lemmas.Bool.{false≢true}
 use Rattle.pth_base.proofs.Tables.{same_means}
 use Rattle.pth_lock.specs.Objects.{object_limit, object_named}
