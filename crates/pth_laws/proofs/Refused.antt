@@ -16,7 +16,7 @@ use Rattle.pth_laws.specs.Orderly.{Orderly, IsOrderlyAt, pending_handlers, handl
 use Rattle.pth_laws.specs.Exclusive.{Exclusive, is_of, awaits, takes, gives, gives_up, levels, enters, leaves, reads, writes, IsExclusiveAt}
 use Rattle.pth_laws.specs.Initialised.{Initialised, initialises_mutex, IsInitialisedAt}
 use Rattle.pth_laws.specs.Examples
-use Rattle.pth_laws.specs.Examples.{one, two, handler_of_number, done_by, takes_mutex, enters_it}
+use Rattle.pth_laws.specs.Examples.{one, two, handler_of_number, done_by, takes_mutex, enters_it, awaits_it}
 use Rattle.pth_laws.proofs.Living.{both}
 use Rattle.pth_laws.proofs.Numbers.{same_number}
 use Rattle.pth_laws.proofs.Prefixes.{said_each}
@@ -170,6 +170,32 @@ a_level_to_give h = let some = (h (begun ∷ []) [] (done_by one (call.MutexRele
 
 pub no_reader_beside : Exclusive Examples.a_writer_beside_a_reader → ⊥
 no_reader_beside h = differ ((h (lock_begun ∷ enters_it one false ∷ []) [] (enters_it two true) refl).writer_meets_no_reader 2 1 (pos 0) refl)
+
+pub no_writer_beside : Exclusive Examples.a_reader_beside_a_writer → ⊥
+no_writer_beside h = differ ((h (lock_begun ∷ enters_it one true ∷ []) [] (enters_it two false) refl).meets_no_writer 2 1 (pos 0) false refl)
+
+pub no_other_leaves : Exclusive Examples.a_lock_left_by_another → ⊥
+no_other_leaves h = differ (sym ((h (lock_begun ∷ enters_it one false ∷ []) [] (done_by two (call.RwRelease (pos 0))) refl).leaver_holds 2 (pos 0) refl))
+
+pub all_given_up : Exclusive Examples.a_release_after_all_was_given_up → ⊥
+all_given_up h = let some = (h (begun ∷ takes_mutex one (pos 0) ∷ takes_mutex one (pos 0) ∷ mark.GaveMutex one 0 ∷ []) [] (done_by one (call.MutexRelease (pos 0))) refl).giver_has_level 1 (pos 0) refl in omega (arith, some)
+
+-- a thread that awaits
+
+pub a_level_to_await : Exclusive Examples.an_await_without_a_level → ⊥
+a_level_to_await h = let some = (h (begun ∷ []) [] (mark.Waits one awaits_it) refl).giver_has_level 1 (pos 0) refl in omega (arith, some)
+
+pub takes_back_alone : Exclusive Examples.a_mutex_taken_back_beside_an_owner → ⊥
+takes_back_alone h = one_is_zero ((h (begun ∷ takes_mutex two (pos 0) ∷ []) [] (mark.Took one 0) refl).taker_is_alone 1 2 (pos 0) refl (λ same. omega (arith, same)))
+
+pub answered_alone : Exclusive Examples.an_await_answered_beside_an_owner → ⊥
+answered_alone h = one_is_zero ((h (begun ∷ takes_mutex one (pos 0) ∷ mark.Waits one awaits_it ∷ takes_mutex two (pos 0) ∷ []) [] (done_by one awaits_it) refl).taker_is_alone 1 2 (pos 0) refl (λ same. omega (arith, same)))
+
+pub takes_back_once : Exclusive Examples.a_mutex_taken_back_once → ⊥
+takes_back_once h =
+    let before = begun ∷ takes_mutex one (pos 0) ∷ mark.Waits one awaits_it ∷ mark.Took one 0 ∷ done_by one awaits_it ∷ done_by one (call.MutexRelease (pos 0)) ∷ [] in
+    let some = (h before [] (done_by one (call.MutexRelease (pos 0))) refl).giver_has_level 1 (pos 0) refl in
+    omega (arith, some)
 
 pub no_mutex_left : Exclusive Examples.a_mutex_at_an_end → ⊥
 no_mutex_left h = one_is_zero ((h (begun ∷ takes_mutex one (pos 0) ∷ []) [] end_of_one refl).end_has_no_level 1 (pos 0) refl)

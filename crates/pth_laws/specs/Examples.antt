@@ -78,6 +78,17 @@ a_release_without_a_level = with_mutex (done_by one (call.MutexRelease (pos 0)) 
 abbrev pub a_writer_beside_a_reader : List Mark
 a_writer_beside_a_reader = with_lock (enters_it one false ∷ enters_it two true ∷ [])
 
+abbrev pub a_reader_beside_a_writer : List Mark
+a_reader_beside_a_writer = with_lock (enters_it one true ∷ enters_it two false ∷ [])
+
+-- thread 1 reads, and thread 2 gives the lock back
+abbrev pub a_lock_left_by_another : List Mark
+a_lock_left_by_another = with_lock (enters_it one false ∷ done_by two (call.RwRelease (pos 0)) ∷ [])
+
+-- thread 1 gives up a mutex of which it has two levels, and then releases it
+abbrev pub a_release_after_all_was_given_up : List Mark
+a_release_after_all_was_given_up = with_mutex (takes_mutex one (pos 0) ∷ takes_mutex one (pos 0) ∷ mark.GaveMutex one 0 ∷ done_by one (call.MutexRelease (pos 0)) ∷ [])
+
 abbrev pub a_mutex_at_an_end : List Mark
 a_mutex_at_an_end = with_mutex (takes_mutex one (pos 0) ∷ mark.Ended one (pos 0) ∷ [])
 
@@ -91,6 +102,26 @@ a_kill_keeps_levels = with_mutex (takes_mutex two (pos 0) ∷ done_by one call.K
 -- a release that is not answered 1 gives nothing back
 abbrev pub a_release_answered_seven : List Mark
 a_release_answered_seven = with_mutex (takes_mutex one (pos 0) ∷ mark.Answered one (call.MutexRelease (pos 0)) (Int (pos 7)) ∷ mark.Ended one (pos 0) ∷ [])
+
+-- a cond_await with mutex 0
+abbrev pub awaits_it : Call
+awaits_it = call.CondAwait (pos 0) (pos 0) (pos 0)
+
+abbrev pub an_await_without_a_level : List Mark
+an_await_without_a_level = with_mutex (mark.Waits one awaits_it ∷ [])
+
+-- thread 2 has the mutex that thread 1 takes back
+abbrev pub a_mutex_taken_back_beside_an_owner : List Mark
+a_mutex_taken_back_beside_an_owner = with_mutex (takes_mutex two (pos 0) ∷ mark.Took one 0 ∷ [])
+
+-- thread 2 has the mutex as the cond_await of thread 1, which awaits, is answered
+abbrev pub an_await_answered_beside_an_owner : List Mark
+an_await_answered_beside_an_owner = with_mutex (takes_mutex one (pos 0) ∷ mark.Waits one awaits_it ∷ takes_mutex two (pos 0) ∷ done_by one awaits_it ∷ [])
+
+-- thread 1 has its mutex again before its cond_await is answered, and so one level alone
+abbrev pub a_mutex_taken_back_once : List Mark
+a_mutex_taken_back_once =
+    with_mutex (takes_mutex one (pos 0) ∷ mark.Waits one awaits_it ∷ mark.Took one 0 ∷ done_by one awaits_it ∷ done_by one (call.MutexRelease (pos 0)) ∷ done_by one (call.MutexRelease (pos 0)) ∷ [])
 
 abbrev pub a_mutex_that_was_not_initialised : List Mark
 a_mutex_that_was_not_initialised = takes_mutex one (pos 0) ∷ []
