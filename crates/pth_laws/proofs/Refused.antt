@@ -1,6 +1,7 @@
 -- Lists that laws refuse, and lists that they take.
-use Rattle.std.proofs.Common.{◌≡◌, ◌≢◌, ◌<◌, ℕ, ◌==◌, pos, negsuc, Bool, true, false, List, [], ◌∷◌, length, nat_le, ℤ, int_le, refl, ap, sym, ◌∙◌, subst, if◌then◌else◌, inl, inr, Some, None, arith}
+use Rattle.std.proofs.Common.{◌≡◌, ◌≢◌, ◌<◌, ◌≤◌, ◌⊎◌, ℕ, ◌==◌, pos, negsuc, Bool, true, false, List, [], ◌∷◌, length, nat_le, ℤ, int_le, refl, ap, sym, ◌∙◌, subst, if◌then◌else◌, inl, inr, Some, None, arith}
 use Rattle.std.specs.List.{list_any}
+use Rattle.pth_base.specs.declared.act.Act.TheVariants as act
 use Rattle.pth_base.specs.declared.answer.Answer.TheVariants.{Int}
 use Rattle.pth_base.specs.declared.call.Call.TheVariants as call
 use Rattle.pth_base.specs.declared.ids.HandlerId.{HandlerId}
@@ -12,11 +13,11 @@ use Rattle.pth_numbered.specs.Operands.{is_zero}
 use Rattle.pth_store.specs.Cleanups.{PushedHandler}
 use Rattle.pth_model.specs.Resources.{handler}
 use Rattle.pth_laws.specs.Marks.{is_same, is_end_of, is_cancellation_of, before_block, block_at_end}
-use Rattle.pth_laws.specs.Orderly.{Orderly, IsOrderlyAt, pending_handlers, handlers_in, AreHandlersFirst, value_of, key_at, first_stage, Owes, IsLeast, IsSequence}
+use Rattle.pth_laws.specs.Orderly.{Orderly, IsOrderlyAt, pending_handlers, handlers_in, AreHandlersFirst, value_of, key_at, first_stage, Owes, NoneOwes, IsLeast, IsNext, IsNoneNext, IsSequence}
 use Rattle.pth_laws.specs.Exclusive.{Exclusive, is_of, awaits, takes, gives, gives_up, levels, enters, leaves, reads, writes, IsExclusiveAt}
 use Rattle.pth_laws.specs.Initialised.{Initialised, initialises_mutex, IsInitialisedAt}
 use Rattle.pth_laws.specs.Examples
-use Rattle.pth_laws.specs.Examples.{one, two, handler_of_number, done_by, takes_mutex, enters_it, awaits_it}
+use Rattle.pth_laws.specs.Examples.{one, two, handler_of_number, done_by, takes_mutex, enters_it, awaits_it, with_value}
 use Rattle.pth_laws.proofs.Living.{both}
 use Rattle.pth_laws.proofs.Numbers.{same_number}
 use Rattle.pth_laws.proofs.Prefixes.{said_each}
@@ -75,6 +76,72 @@ unfolding block_at_end handlers_in first_argument
 not_first_out h =
     let before = pushed (pos 5) ∷ pushed (pos 6) ∷ mark.Handler one (handler_of_number 0) (pos 5) ∷ mark.Handler one (handler_of_number 0) (pos 6) ∷ [] in
     differ (ap (λ (cs : List PushedHandler). int_le (first_argument cs) (pos 5)) ((h before [] end_of_one refl).end_runs_all_pending one (pos 0) refl))
+
+pub ends_with_minus_one : Orderly Examples.a_canceled_thread_ends_with_0 → ⊥
+ends_with_minus_one h = let value : pos 0 ≡ negsuc 0 = (h (mark.Canceled one None ∷ []) [] end_of_one refl).canceled_ends_with_minus_one one (pos 0) refl refl in cc
+
+pub pop_runs : Orderly Examples.a_pop_runs_nothing → ⊥
+unfolding block_at_end handlers_in
+pop_runs h = differ (ap (λ (cs : List PushedHandler). nat_le 1 (length cs)) (sym ((h (pushed (pos 5) ∷ []) [] (done_by one (call.CleanupPop (pos 1))) refl).pop_runs_last_pending one (pos 1) refl refl)))
+
+pub handlers_first : Orderly Examples.a_handler_after_a_destructor → ⊥
+unfolding block_at_end handlers_in AreHandlersFirst
+handlers_first h =
+    let before = pushed (pos 5) ∷ with_value 0 7 (mark.Destructor one 0 (pos 7) ∷ mark.Handler one (handler_of_number 0) (pos 5) ∷ []) in
+    differ (ap (λ (cs : List PushedHandler). nat_le 1 (length cs)) ((h before [] end_of_one refl).end_runs_handlers_first one (pos 0) refl))
+
+-- where thread 1 has values under keys 0 and 1, key 1 is not the least
+abbrev two_valued : List Mark
+two_valued = with_value 0 7 (with_value 1 8 [])
+
+not_least : IsLeast 1 two_valued None (pos 1) (pos 8) → ⊥
+not_least x = differ (sym (x.least (pos 0) (handler (pos 0)) (pos 7) refl (record { live = refl; value = refl; set = refl })))
+
+pub least_first : Orderly Examples.a_later_destructor_first → ⊥
+unfolding before_block block_at_end IsSequence
+least_first h =
+    let all = (h (with_value 0 7 (with_value 1 8 (mark.Destructor one 1 (pos 8) ∷ mark.Destructor one 0 (pos 7) ∷ []))) [] end_of_one refl).end_runs_all_destructors one (pos 0) refl in
+    by_next all.0 all.1
+  where
+    by_next : (rounds : ℕ) → IsNext 1 two_valued first_stage (pos 1) (pos 8) rounds → ⊥
+    by_next rounds (inl due) = not_least due.0
+    by_next rounds (inr due) = not_least due.first
+
+-- thread 1 has the value 7 under key 0, and no other
+other_value : IsLeast 1 (with_value 0 7 []) None (pos 0) (pos 8) → ⊥
+other_value x = differ (ap (λ (v : ℤ). int_le v (pos 7)) x.owes.value)
+
+pub same_value : Orderly Examples.a_destructor_of_another_value → ⊥
+unfolding before_block block_at_end IsSequence
+same_value h =
+    let all = (h (with_value 0 7 (mark.Destructor one 0 (pos 8) ∷ [])) [] end_of_one refl).end_runs_all_destructors one (pos 0) refl in
+    by_next all.0 all.1
+  where
+    by_next : (rounds : ℕ) → IsNext 1 (with_value 0 7 []) first_stage (pos 0) (pos 8) rounds → ⊥
+    by_next rounds (inl due) = other_value due.0
+    by_next rounds (inr due) = other_value due.first
+
+abbrev set_more : Mark
+set_more = mark.Acted one (act.SetKey (pos 0) (pos 9)) (Int (pos 1))
+
+abbrev valued_again : List Mark
+valued_again = with_value 0 7 (mark.Destructor one 0 (pos 7) ∷ set_more ∷ [])
+
+-- after the first destructor of the first round another round may begin
+one_more : (rounds : ℕ) → IsNext 1 (with_value 0 7 []) first_stage (pos 0) (pos 7) rounds → IsNoneNext 1 valued_again (record { rounds = rounds; last = Some (pos 0) }) → ⊥
+one_more rounds next none = by_end none.1
+  where
+    few : IsNext 1 (with_value 0 7 []) first_stage (pos 0) (pos 7) rounds → rounds ≤ 2
+    few (inl due) = let same = due.1 in omega (arith, same)
+    few (inr due) = let more = due.more in omega (arith, more)
+
+    by_end : (4 ≤ rounds) ⊎ NoneOwes 1 valued_again None → ⊥
+    by_end (inl many) = let below = few next in omega (arith, many, below)
+    by_end (inr nothing) = nothing (pos 0) (handler (pos 0)) (pos 9) refl (record { live = refl; value = refl; set = refl })
+
+pub set_again : Orderly Examples.a_value_is_set_again → ⊥
+unfolding before_block block_at_end IsSequence
+set_again h = let all = (h valued_again [] end_of_one refl).end_runs_all_destructors one (pos 0) refl in one_more all.0 all.1 all.2
 
 -- ---- orderly, though no run tells it
 

@@ -1,6 +1,7 @@
 -- Lists of marks that no run tells. Some a law refuses, others it takes.
 use Rattle.std.specs.Prelude.{ℕ, ℤ, pos, negsuc, Bool, true, false, List, [], ◌∷◌, None, Some}
 use Rattle.pth_base.specs.declared.answer.Answer.TheVariants.{Int}
+use Rattle.pth_base.specs.declared.act.Act.TheVariants as act
 use Rattle.pth_base.specs.declared.call.Call.{Call}
 use Rattle.pth_base.specs.declared.call.Call.TheVariants as call
 use Rattle.pth_base.specs.declared.mark.Mark.{Mark}
@@ -36,6 +37,31 @@ an_answer_after_a_cancellation = mark.Canceled one None ∷ mark.Answered one ca
 
 abbrev pub a_mark_after_the_end : List Mark
 a_mark_after_the_end = mark.Ended one (pos 0) ∷ mark.Noted one (pos 3) ∷ []
+
+abbrev pub a_canceled_thread_ends_with_0 : List Mark
+a_canceled_thread_ends_with_0 = mark.Canceled one None ∷ mark.Ended one (pos 0) ∷ []
+
+-- a pop that should run its handler
+abbrev pub a_pop_runs_nothing : List Mark
+a_pop_runs_nothing = mark.Answered one (call.CleanupPush (pos 0) (pos 5)) (Int (pos 1)) ∷ mark.Answered one (call.CleanupPop (pos 1)) (Int (pos 1)) ∷ []
+
+-- thread 1 makes key k with a destructor, and has the value v under it
+abbrev pub with_value : (k v : ℕ) → List Mark → List Mark
+with_value k v rest = mark.Answered one (call.KeyCreate (Some (pos 0))) (Int (pos k)) ∷ mark.Answered one (call.KeySet (pos k) (pos v)) (Int (pos 1)) ∷ rest
+
+abbrev pub a_handler_after_a_destructor : List Mark
+a_handler_after_a_destructor =
+    mark.Answered one (call.CleanupPush (pos 0) (pos 5)) (Int (pos 1)) ∷ with_value 0 7 (mark.Destructor one 0 (pos 7) ∷ mark.Handler one (handler_of_number 0) (pos 5) ∷ mark.Ended one (pos 0) ∷ [])
+
+abbrev pub a_later_destructor_first : List Mark
+a_later_destructor_first = with_value 0 7 (with_value 1 8 (mark.Destructor one 1 (pos 8) ∷ mark.Destructor one 0 (pos 7) ∷ mark.Ended one (pos 0) ∷ []))
+
+abbrev pub a_destructor_of_another_value : List Mark
+a_destructor_of_another_value = with_value 0 7 (mark.Destructor one 0 (pos 8) ∷ mark.Ended one (pos 0) ∷ [])
+
+-- a destructor sets the value of its key again, and runs no more
+abbrev pub a_value_is_set_again : List Mark
+a_value_is_set_again = with_value 0 7 (mark.Destructor one 0 (pos 7) ∷ mark.Acted one (act.SetKey (pos 0) (pos 9)) (Int (pos 1)) ∷ mark.Ended one (pos 0) ∷ [])
 
 -- thread 1 pushes a handler, thread 2 kills the run, and thread 1 ends without its handler
 abbrev pub an_end_after_a_kill : List Mark
