@@ -8,6 +8,9 @@ pub mod Held
 pub mod Locked
 pub mod Counted
 pub mod Locking
+pub mod Allowed
+pub mod Along
+pub mod Ranged
 pub mod Awaits
 pub mod Claims
 pub mod Walk

@@ -7,3 +7,5 @@ pub mod Valid
 pub mod Tied
 pub mod Clean
 pub mod Examples
+pub mod Waits
+pub mod Priorities

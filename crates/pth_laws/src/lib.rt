@@ -12,3 +12,4 @@ pub mod exclusive;
 pub mod initialised;
 pub mod orderly;
 pub mod runs;
+pub mod states;

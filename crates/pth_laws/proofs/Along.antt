@@ -1,0 +1,635 @@
+-- What every part of a run keeps of a state, by the changes and the marks of which parts are made. Beside each stands what is known as it
+-- is made.
+use Rattle.std.proofs.Common.{◌≡◌, ℕ, zero, suc, ◌+◌, ◌*◌, not, min, Bool, true, false, if◌then◌else◌, ℤ, pos, ◌+ℤ◌, neg_ℤ, List, [], ◌∷◌, reverse, Option, Some, None, is_none, option_map, refl, sym, ◌∙◌, ap, Result, Ok, Err, arith}
+use Rattle.std.proofs.lemmas.Int.{ints}
+use Rattle.pth_base.specs.Limits.{last_count, last_moment}
+use Rattle.pth_base.specs.Program.{Functions}
+use Rattle.pth_base.specs.declared.act.Act.{Act}
+use Rattle.pth_base.specs.declared.act.Act.TheVariants as act
+use Rattle.pth_base.specs.declared.answer.Answer.{Answer}
+use Rattle.pth_base.specs.declared.answer.Answer.TheVariants as answer
+use Rattle.pth_base.specs.declared.attr.AttrValue.{AttrValue}
+use Rattle.pth_base.specs.declared.attr.AttrValue.TheVariants as value
+use Rattle.pth_base.specs.declared.call.Call.{Call}
+use Rattle.pth_base.specs.declared.call.Call.TheVariants as call
+use Rattle.pth_base.specs.declared.errno.Errno.{Errno}
+use Rattle.pth_base.specs.declared.errno.Errno.TheVariants.{EINVAL, EPERM, ESRCH}
+use Rattle.pth_base.specs.declared.event.EventSpec.{EventSpec}
+use Rattle.pth_base.specs.declared.event.EvLine.{EvLine}
+use Rattle.pth_base.specs.declared.event.EvLine.TheVariants as line
+use Rattle.pth_base.specs.declared.ids.EventId.{EventId}
+use Rattle.pth_base.specs.declared.ids.HandlerId.{HandlerId}
+use Rattle.pth_base.specs.declared.ids.Tid.{Tid}
+use Rattle.pth_base.specs.declared.mark.Mark.{Mark}
+use Rattle.pth_base.specs.declared.mark.Mark.TheVariants as mark
+use Rattle.pth_base.specs.declared.query.Query.{Query}
+use Rattle.pth_base.specs.declared.query.Query.TheVariants as query
+use Rattle.pth_base.specs.declared.thread.ThreadState.{ThreadState}
+use Rattle.pth_base.specs.declared.thread.ThreadState.TheVariants as state
+use Rattle.pth_base.proofs.Tables.{put_here}
+use Rattle.pth_kernel.specs.Kernel.{Kernel, advanced}
+use Rattle.pth_lock.specs.Objects.{object_limit}
+use Rattle.pth_lock.specs.Mutexes.{has}
+use Rattle.pth_lock.specs.RwLocks.{holds}
+use Rattle.pth_numbered.specs.Operands.{number, is_zero, ◌is◌, ◌is_from◌to◌}
+use Rattle.pth_queue.specs.Ranking.{place_in}
+use Rattle.pth_queue.specs.declared.queue.Queue.{Queue}
+use Rattle.pth_queue.specs.declared.queue.Queue.TheVariants.{New, Ready, Waiting, Suspended, Dead}
+use Rattle.pth_ring.specs.Ring.{head_event, rest_of}
+use Rattle.pth_ring.specs.Rings.{Events, event_id, make_answer, chain_answer, unless, ring_refusal, concat_refusal, alone, chained, concatenated, isolated, freed, ring_freed}
+use Rattle.pth_store.specs.Cleanups.{PushedHandler}
+use Rattle.pth_store.specs.Keys.{key_limit}
+use Rattle.pth_threads.specs.Attributes.{IsSetPrio, first_values, with_value, change_of, is_gone, is_fixed, is_in_range, set_answer}
+use Rattle.pth_threads.specs.declared.attribute.Attribute.{Attribute}
+use Rattle.pth_threads.specs.declared.attribute.Attribute.TheVariants.{Free, Bound}
+use Rattle.pth_threads.specs.declared.entry.Change as change_of_record
+use Rattle.pth_threads.specs.declared.entry.Change.TheVariants as change
+use Rattle.pth_threads.specs.declared.entry.Entry.{Entry}
+use Rattle.pth_threads.specs.declared.entry.NewThread.{NewThread}
+use Rattle.pth_model.specs.declared.blocked.Blocked.{Blocked}
+use Rattle.pth_model.specs.declared.destructors.Due.{Due}
+use Rattle.pth_model.specs.declared.destructors.Round.{Round}
+use Rattle.pth_model.specs.declared.next.Next.{Next}
+use Rattle.pth_model.specs.declared.next.Next.TheVariants as next
+use Rattle.pth_model.specs.declared.progress.Progress.{Progress}
+use Rattle.pth_model.specs.Resources.{handler}
+use Rattle.pth_model.specs.Standing.{Standing}
+use Rattle.pth_model.specs.State.{State, Given, Scheduler, Turn, start, queue, now_of, clock_of}
+use Rattle.pth_model.specs.Transition.{Piece, Change, nothing, changes, tells, tid, controlled, where_so, ◌and_then◌}
+use Rattle.pth_model.specs.Changes.{shares, uses, sets, goes_on, owing, is_blocked_by, enters, leaves_queue, raises_ready, makes, forgets, removes, adds_object, puts_object, with_threads, with_events, with_kernel, with_scheduler, moves_to, prefers, runs_now, blocked_in, blocked_of, or_nobody, entry_of, prio_of, queue_for, holders}
+use Rattle.pth_model.specs.Verdict.{Verdict, Pause, Says, Yields, Blocks, Ends, Kills, says, done, by_result}
+use Rattle.pth_model.specs.Row.{unless_refused, refuses, effect_of}
+use Rattle.pth_model.specs.RingWaits.{claims, ring_given, stops_waiting, has_event_come}
+use Rattle.pth_model.specs.Acts.{acts, acts_from, act_limit, answer_in, row_of_act, goes_on_after, runs_handler}
+use Rattle.pth_model.specs.Cleanups.{runs_pushed, last_pushed}
+use Rattle.pth_model.specs.Ending.{ending, undoes_wait, runs_each, runs_cleanups, destructs, destructs_by, runs_destructors, gives_mutexes, gives_locks, dies, leaves, is_dead_with, other_than, stops_running, next_destructor, round_limit, first_round}
+use Rattle.pth_model.specs.ThreadControl.{thread, spawns, suspends, resumes, returns_to, values_for, or_first, to_join, takes_joined}
+use Rattle.pth_model.specs.LibraryControl.{ctrl, vanish_all_but}
+use Rattle.pth_model.specs.AttributeHandling.{object, sets_field, sets_value}
+use Rattle.pth_model.specs.EventHandling.{spec_of, made_as, make_event, number_or_none}
+use Rattle.pth_model.specs.Cancellation.{canceled_value, is_asynchronous, is_to_cancel, may_be_canceled, takes_request, canceled_by_other, aborted}
+use Rattle.pth_model.specs.Living.{is_dead}
+use Rattle.pth_model.specs.Rows.{row_of}
+use Rattle.pth_model.specs.Calls.{begun, begun_by, blocks, gone_on, gone_on_where, canceled_by, tried_again, tried_again_by, tried_by, unless_come, interrupted}
+use Rattle.pth_model.specs.Pass.{pass, looks, to_wake, woken, all_woken, is_ready_at, moment}
+use Rattle.pth_model.specs.Part.{rank_by, Part, Move, Take, Step, Close, Halt, part, part_by, next_part, chosen, readies, readies_all, readies_new, runs, dispatches, takes, takes_by, owes_after, steps, steps_on, steps_by, is_put_back, is_put_waiting, placed_by, is_placed, turn_ends, closes, moves, moves_by}
+use Rattle.pth_model.specs.Run.{parts, run}
+use Rattle.pth_laws.proofs.Living.{true_false}
+use Rattle.pth_laws.proofs.Allowed.{IsFree, IsToTell, MayWait, IsAllowed, IsAllowedAgain, allowed, allowed_again}
+
+-- a change of a record that leaves its base priority in its range
+abbrev pub IsPrioSafe : change_of_record.Change → Type 0
+IsPrioSafe (change.Prio prio) = IsSetPrio prio
+IsPrioSafe c = Unit {0}
+
+-- the changes of events and rings that calls make
+pub data Arrangement : Type 0 where
+  Alone : EventSpec → Arrangement
+  Chained : EventSpec → ℕ → Arrangement
+  Joined : (a b : ℕ) → Arrangement
+  Isolated : ℕ → Arrangement
+  Freed : ℕ → Arrangement
+  RingFreed : ℕ → Arrangement
+
+abbrev pub arranged : Arrangement → Events → Events
+arranged (Alone spec) = alone spec
+arranged (Chained spec e) = chained spec e
+arranged (Joined a b) = concatenated a b
+arranged (Isolated e) = isolated e
+arranged (Freed e) = freed e
+arranged (RingFreed e) = ring_freed e
+
+-- none of the rings is claimed, and each event is there
+abbrev pub MayArrange : Events → Arrangement → Type 0
+MayArrange x (Alone spec) = Unit {0}
+MayArrange x (Chained spec e) = ring_refusal x e ≡ None
+MayArrange x (Joined a b) = concat_refusal x a b ≡ None
+MayArrange x (Isolated e) = ring_refusal x e ≡ None
+MayArrange x (Freed e) = ring_refusal x e ≡ None
+MayArrange x (RingFreed e) = ring_refusal x e ≡ None
+
+pub record KeptAlong {P S H : Type 0} (f : P → Functions S H) (R : State P S H → Type 0) : Type 0 where
+  -- the program's shared value, the places in queues, what the scheduler keeps, the kernel, and what was used once
+  pub shared : (h : H) (s : State P S H) → R s → R (controlled (shares h) s)
+  pub placed : (standing : Queue → List Standing) (entries raises : ℕ) (s : State P S H) → R s → R (controlled (with_threads (λ x. record x { standing = standing; entries = entries; raises = raises })) s)
+  pub scheduled : (x : Scheduler) (s : State P S H) → R s → R (controlled (with_scheduler (λ y. x)) s)
+  pub timed : (x : Kernel) (s : State P S H) → R s → R (controlled (with_kernel (λ y. x)) s)
+  pub used : (o : ℕ → Bool) (s : State P S H) → R s → R (controlled (λ k. record k { used = o }) s)
+  -- the records of threads
+  pub set : (t : ℕ) (c : change_of_record.Change) (s : State P S H) → IsPrioSafe c → R s → R (controlled (sets t c) s)
+  pub made : (t b : ℕ) (v a : ℤ) (s : State P S H) → R s → R (controlled (makes f b v (or_first (values_for s.control t a))) s)
+  pub forgotten : (t : ℕ) (s : State P S H) → R s → R (controlled (forgets t) s)
+  pub vanished : (t : ℕ) (s : State P S H) → IsFree t s → R s → R (controlled (vanish_all_but t) s)
+  -- attribute objects
+  pub added : (s : State P S H) → R s → R (controlled (adds_object (Free first_values)) s)
+  pub bound : (t : Tid) (s : State P S H) → R s → R (controlled (adds_object (Bound t)) s)
+  pub renewed : (n : ℕ) (s : State P S H) → R s → R (controlled (puts_object n (Some (Free first_values))) s)
+  pub valued : (a : ℤ) (v : AttrValue) (x : NewThread) (s : State P S H) → object s.control a ≡ Some (Free x) → is_in_range v ≡ true → R s → R (controlled (puts_object (number a) (Some (Free (with_value v x)))) s)
+  pub destroyed : (n : ℕ) (s : State P S H) → R s → R (controlled (puts_object n None) s)
+  -- events, and looks at them
+  pub arranges : (x : Arrangement) (s : State P S H) → MayArrange s.control.events x → R s → R (controlled (with_events (arranged x)) s)
+  pub looked : (s : State P S H) → R s → R (controlled looks s)
+  -- how far threads are, and what blocks them
+  pub goes : (t : ℕ) (g : Progress S → Progress S) (s : State P S H) → ((p : Progress S) → (g p).blocked ≡ p.blocked) → R s → R (controlled (goes_on t g) s)
+  pub blocked : (t : ℕ) (c : Call) (p : Pause) (s : State P S H) → IsFree t s → MayWait t c s → R s → R (controlled (λ k. blocks t c p (claims t (ring_given c) k)) s)
+  pub waits_on : (t w : ℕ) (b : Blocked) (s : State P S H) → blocked_of s.control t ≡ Some b → R s → R (controlled (is_blocked_by t (Some (record b { written = w }))) s)
+  pub stopped : (t : ℕ) (s : State P S H) → R s → R (controlled (stops_waiting t) s)
+  -- a mark is told
+  pub told : (m : Mark) (s : State P S H) → IsToTell m s → R s → R (tells m s).state
+
+-- ---- what verdicts say of calls that they do not refuse
+
+no_refusal : {A : Type 0} (r : Option Errno) (x : Result A Errno) (v : A → Verdict) → refuses (by_result v (unless r x)) ≡ false → r ≡ None
+no_refusal None x v h = refl
+no_refusal (Some e) x v h = absurd (true_false h)
+
+-- a value that is set is in its range
+set_passes : (known : ℕ → Option Entry) (o : Option Attribute) (v : AttrValue) → refuses (by_result done (set_answer known o v)) ≡ false → is_in_range v ≡ true
+set_passes known o v h = by_tests (is_none o) (is_gone known o) (is_fixed v) (is_in_range v) h
+  where
+    by_tests : (none gone fixed inside : Bool) → refuses (by_result done (if none then Err EINVAL else (if gone then Err ESRCH else (if fixed then Err EPERM else (if not inside then Err EINVAL else Ok tt))))) ≡ false → inside ≡ true
+    by_tests true gone fixed inside h = absurd (true_false h)
+    by_tests false true fixed inside h = absurd (true_false h)
+    by_tests false false true inside h = absurd (true_false h)
+    by_tests false false false false h = absurd (true_false h)
+    by_tests false false false true h = refl
+
+pub prio_in_range : (n : ℤ) → (n is_from neg_ℤ (pos 5) to pos 5) ≡ true → IsSetPrio n
+prio_in_range n h = record { low = grind (arith, ints); high = grind (arith, ints) }
+
+module _ {P S H : Type 0} (f : P → Functions S H) (R : State P S H → Type 0) (kept : KeptAlong f R) where
+  abbrev Keeps : Piece P S H → Type 0
+  Keeps a = (s : State P S H) → R s → R (a s).state
+
+  abbrev Stays : Change P S H → Type 0
+  Stays g = (s : State P S H) → R s → R (controlled g s)
+
+  then_keeps : (a b : Piece P S H) → Keeps a → Keeps b → Keeps (a and_then b)
+  then_keeps a b x y s r = y (a s).state (x s r)
+
+  -- ---- changes of queues and records
+
+  enters_keeps : (t : ℕ) (q : Queue) (rank : ℤ) (top : Bool) → Stays (enters t q rank top)
+  unfolding enters
+  enters_keeps t q rank top s r = kept.placed _ _ _ s r
+
+  leaves_queue_keeps : (t : ℕ) → Stays (leaves_queue t)
+  unfolding leaves_queue
+  leaves_queue_keeps t s r = kept.placed _ _ _ s r
+
+  raises_keeps : Stays raises_ready
+  unfolding raises_ready
+  raises_keeps s r = kept.placed _ _ _ s r
+
+  runs_now_keeps : (o : Option ℕ) → Stays (runs_now o)
+  runs_now_keeps o s r = kept.scheduled (record s.control.scheduler { running = o }) s r
+
+  prefers_keeps : (o : Option ℕ) → Stays (prefers o)
+  prefers_keeps o s r = kept.scheduled (record s.control.scheduler { preferred = o }) s r
+
+  moves_to_keeps : (m : ℕ) → Stays (moves_to m)
+  moves_to_keeps m s r = kept.timed (advanced m s.control.kernel) s r
+
+  removes_keeps : (t : ℕ) → Stays (removes t)
+  removes_keeps t s r = kept.forgotten t (controlled (leaves_queue t) s) (leaves_queue_keeps t s r)
+
+  moved_keeps : (t : ℕ) (c : change_of_record.Change) (q : Queue) (rank : ℤ) (top : Bool) → IsPrioSafe c → Stays (λ k. enters t q rank top (sets t c (leaves_queue t k)))
+  moved_keeps t c q rank top safe s r =
+      let a = controlled (leaves_queue t) s in
+      enters_keeps t q rank top (controlled (sets t c) a) (kept.set t c a safe (leaves_queue_keeps t s r))
+
+  suspends_keeps : (t : ℕ) → Stays (suspends t)
+  unfolding suspends
+  suspends_keeps t s r = moved_keeps t (change.Suspended true) Suspended (pos 0) false tt s r
+
+  returns_keeps : (t : ℕ) (q : Option Queue) → Stays (returns_to t q)
+  returns_keeps t None s r = r
+  returns_keeps t (Some q) s r = moved_keeps t (change.Suspended false) q (pos 0) false tt s r
+
+  resumes_keeps : (t : ℕ) → Stays (resumes t)
+  unfolding resumes
+  resumes_keeps t s r = returns_keeps t (queue_for (or_nobody (entry_of s.control t)).state) s r
+
+  ready_keeps : (t : ℕ) (rank : ℤ) (top : Bool) → Stays (is_ready_at t rank top)
+  unfolding is_ready_at
+  ready_keeps t rank top s r = moved_keeps t (change.State state.Ready) Ready rank top tt s r
+
+  dead_keeps : (t : ℕ) (v : ℤ) → Stays (is_dead_with t v)
+  unfolding is_dead_with
+  dead_keeps t v s r =
+      let a = controlled (leaves_queue t) s in
+      let b = controlled (sets t (change.State state.Dead)) a in
+      let c = controlled (sets t (change.Suspended false)) b in
+      let d = controlled (sets t (change.Value v)) c in
+      enters_keeps t Dead (pos 0) false d (kept.set t (change.Value v) c tt (kept.set t (change.Suspended false) b tt (kept.set t (change.State state.Dead) a tt (leaves_queue_keeps t s r))))
+
+  left_keeps : (t : ℕ) (v : ℤ) → Stays (leaves t v)
+  unfolding leaves
+  left_keeps t v s r = by_joinable (or_nobody (entry_of s.control t)).joinable
+    where
+      by_joinable : (b : Bool) → R (controlled (λ k. stops_running t ((if b then is_dead_with t v else removes t) k)) s)
+      by_joinable true = let a = controlled (is_dead_with t v) s in runs_now_keeps (other_than t a.control.scheduler.running) a (dead_keeps t v s r)
+      by_joinable false = let a = controlled (removes t) s in runs_now_keeps (other_than t a.control.scheduler.running) a (removes_keeps t s r)
+
+  spawns_keep : (t b : ℕ) (v a : ℤ) (s : State P S H) → R s → R (controlled (spawns f b v (or_first (values_for s.control t a))) s)
+  spawns_keep t b v a s r =
+      let of = or_first (values_for s.control t a) in
+      enters_keeps (s.control.threads.made + 1) New of.prio false (controlled (makes f b v of) s) (kept.made t b v a s r)
+
+  -- ---- handlers and ends
+
+  act_keeps : (t : ℕ) (x : Act) → Keeps (acts t x)
+  unfolding acts
+  act_keeps t (act.SetKey k v) s r = by_refusal (refuses (row_of_act s t (act.SetKey k v)).begin.verdict)
+    where
+      m : Mark
+      m = mark.Acted (tid t) (act.SetKey k v) (answer_in (row_of_act s t (act.SetKey k v)).begin.verdict)
+
+      by_refusal : (b : Bool) → R ((unless_refused b (changes nothing) and_then tells m) s).state
+      by_refusal true = kept.told m s tt r
+      by_refusal false = kept.told m s tt r
+  act_keeps t (act.Release i) s r = by_refusal (refuses (row_of_act s t (act.Release i)).begin.verdict)
+    where
+      m : Mark
+      m = mark.Acted (tid t) (act.Release i) (answer_in (row_of_act s t (act.Release i)).begin.verdict)
+
+      by_refusal : (b : Bool) → R ((unless_refused b (changes nothing) and_then tells m) s).state
+      by_refusal true = kept.told m s tt r
+      by_refusal false = kept.told m s tt r
+  act_keeps t x s r = kept.told (mark.Acted (tid t) x (answer_in (row_of_act s t x).begin.verdict)) s tt r
+
+  look_keeps : (t : ℕ) (x : Option Act) (next : Piece P S H) → Keeps next → Keeps (goes_on_after t x next)
+  look_keeps t None next keeps s r = r
+  look_keeps t (Some x) next keeps s r = keeps (acts t x s).state (act_keeps t x s r)
+
+  acts_keep : (t : ℕ) (h : HandlerId) (v : ℤ) (n i : ℕ) → Keeps (acts_from f t h v n i)
+  unfolding acts_from
+  acts_keep t h v zero i s r = r
+  acts_keep t h v (suc n) i s r =
+      let x = (f s.control.program).act h.0 v i s.control.shared in
+      look_keeps t x.act (acts_from f t h v n (i + 1)) (acts_keep t h v n (i + 1)) (controlled (shares x.shared) s) (kept.shared x.shared s r)
+
+  handler_keeps : (t : ℕ) (h : HandlerId) (v : ℤ) → Keeps (runs_handler f t h v)
+  handler_keeps t h v s r =
+      let m = mark.Handler (tid t) h v in
+      acts_keep t h v (suc act_limit) 0 (tells m s).state (kept.told m s tt r)
+
+  each_keep : (t : ℕ) (cs : List PushedHandler) → Keeps (runs_each f t cs)
+  unfolding runs_each
+  each_keep t [] s r = r
+  each_keep t (c ∷ cs) s r = then_keeps (runs_handler f t c.0 c.1) (runs_each f t cs) (handler_keeps t c.0 c.1) (each_keep t cs) s r
+
+  due_keeps : (t : ℕ) (o : Option Due) (next : Round → Piece P S H) → ((i : Round) → Keeps (next i)) → Keeps (destructs_by f t o next)
+  due_keeps t None next keeps s r = r
+  due_keeps t (Some d) next keeps s r =
+      let m = mark.Destructor (tid t) d.key d.value in
+      keeps d.round _ (acts_keep t d.handler d.value (suc act_limit) 0 (tells m s).state (kept.told m s tt r))
+
+  destructs_keep : (t n : ℕ) (i : Round) → Keeps (destructs f t n i)
+  unfolding destructs
+  destructs_keep t zero i s r = r
+  destructs_keep t (suc n) i s r = due_keeps t (next_destructor s.resources.store.keys t i) (destructs f t n) (destructs_keep t n) s r
+
+  mutexes_keep : (t n m : ℕ) → Keeps (gives_mutexes t n m)
+  unfolding gives_mutexes
+  mutexes_keep t zero m s r = r
+  mutexes_keep t (suc n) m s r = mutexes_keep t n (m + 1) (where_so (has t (s.resources.store.mutexes m)) (tells (mark.GaveMutex (tid t) m)) s).state (by_having (has t (s.resources.store.mutexes m)))
+    where
+      by_having : (b : Bool) → R (where_so b (tells (mark.GaveMutex (tid t) m)) s).state
+      by_having true = kept.told (mark.GaveMutex (tid t) m) s tt r
+      by_having false = r
+
+  locks_keep : (t n l : ℕ) → Keeps (gives_locks t n l)
+  unfolding gives_locks
+  locks_keep t zero l s r = r
+  locks_keep t (suc n) l s r = locks_keep t n (l + 1) (where_so (holds s.resources.store.rw_locks t l) (tells (mark.GaveLock (tid t) l)) s).state (by_holding (holds s.resources.store.rw_locks t l))
+    where
+      by_holding : (b : Bool) → R (where_so b (tells (mark.GaveLock (tid t) l)) s).state
+      by_holding true = kept.told (mark.GaveLock (tid t) l) s tt r
+      by_holding false = r
+
+  dies_keeps : (t : ℕ) (v : ℤ) → Keeps (dies t v)
+  dies_keeps t v s r = kept.told (mark.Ended (tid t) v) (controlled (leaves t v) s) tt (left_keeps t v s r)
+
+  ending_keeps : (t : ℕ) (v : ℤ) → Keeps (ending f t v)
+  unfolding ending
+  ending_keeps t v s r =
+      let s1 = (undoes_wait t s).state in
+      let s2 = (runs_cleanups f t s1).state in
+      let s3 = (runs_destructors f t s2).state in
+      let s4 = (gives_mutexes t object_limit 0 s3).state in
+      let s5 = (gives_locks t object_limit 0 s4).state in
+      dies_keeps t v s5 (locks_keep t object_limit 0 s4 (mutexes_keep t object_limit 0 s3 (destructs_keep t (round_limit * key_limit) first_round s2 (each_keep t (s1.resources.store.cleanups t) s1 (kept.stopped t s r)))))
+
+  -- ---- a call begins
+
+  module _ (t : ℕ) where
+    -- if this holds of the state at which the call is made
+    abbrev KeepsAt : State P S H → Piece P S H → Type 0
+    KeepsAt s a = R s → R (a s).state
+
+    unless_keeps : (s : State P S H) (b : Bool) (a : Piece P S H) → (b ≡ false → KeepsAt s a) → KeepsAt s (unless_refused b a)
+    unless_keeps s true a keeps = λ r. r
+    unless_keeps s false a keeps = keeps refl
+
+    pops_keep : (o : Option PushedHandler) (b : Bool) → Keeps (where_so b (runs_pushed f t o))
+    pops_keep o false s r = r
+    pops_keep None true s r = r
+    pops_keep (Some c) true s r = handler_keeps t c.0 c.1 s r
+
+    once_keeps : (o : ℕ) (h : HandlerId) (v : ℤ) (b : Bool) → Keeps (where_so b (changes (uses o) and_then runs_handler f t h v))
+    once_keeps o h v false s r = r
+    once_keeps o h v true s r = handler_keeps t h v (controlled (uses o) s) (kept.used _ s r)
+
+    ctrl_keeps : (s : State P S H) (x : Query) → KeepsAt s (ctrl s x).begin.effect
+    ctrl_keeps s (query.Favournew n) r = kept.scheduled _ s r
+    ctrl_keeps s query.Threads r = r
+    ctrl_keeps s x r = r
+
+    -- a value is set in an object, or in a thread
+    fields_keep : (s : State P S H) (u : ℕ) (v : AttrValue) → is_in_range v ≡ true → KeepsAt s (changes (sets_field u (change_of v)))
+    fields_keep s u (value.Prio n) inside r = kept.set u (change.Prio n) s (prio_in_range n inside) r
+    fields_keep s u (value.Name name) inside r = kept.set u (change.Name name) s tt r
+    fields_keep s u (value.Joinable n) inside r = kept.set u (change.Joinable (n is 1)) s tt r
+    fields_keep s u (value.Cancel n) inside r = kept.set u (change.Cancel (number n)) s tt r
+    fields_keep s u v inside r = r
+
+    values_keep : (s : State P S H) (a : ℤ) (v : AttrValue) (o : Option Attribute) → object s.control a ≡ o → is_in_range v ≡ true → KeepsAt s (changes (sets_value a v o))
+    values_keep s a v None same inside r = r
+    values_keep s a v (Some (Free x)) same inside r = kept.valued a v x s same inside r
+    values_keep s a v (Some (Bound u)) same inside r = fields_keep s u.0 v inside r
+
+    made_keeps : (s : State P S H) (spec : Option EventSpec) (v : EventSpec → Verdict) (g : EventSpec → Arrangement) → ((x : EventSpec) → refuses (v x) ≡ false → MayArrange s.control.events (g x)) → refuses (made_as {P = P} {S = S} {H = H} spec v (λ x. with_events (arranged (g x)))).begin.verdict ≡ false → KeepsAt s (made_as spec v (λ x. with_events (arranged (g x)))).begin.effect
+    made_keeps s None v g may e r = r
+    made_keeps s (Some x) v g may e r = kept.arranges (g x) s (may x e) r
+
+    make_keeps : (s : State P S H) (l : EvLine) → let x = (made_as {P = P} {S = S} {H = H} (spec_of l) (λ spec. by_result says (make_answer s.control.events)) (λ spec. with_events (arranged (Alone spec)))).begin in refuses x.verdict ≡ false → KeepsAt s x.effect
+    make_keeps s l e r = made_keeps s (spec_of l) (λ spec. by_result says (make_answer s.control.events)) Alone (λ x h. tt) e r
+
+    chain_keeps : (s : State P S H) (i : ℤ) (l : EvLine) → let x = (made_as {P = P} {S = S} {H = H} (spec_of l) (λ spec. by_result says (chain_answer s.control.events (number i))) (λ spec. with_events (arranged (Chained spec (number i))))).begin in refuses x.verdict ≡ false → KeepsAt s x.effect
+    chain_keeps s i l e r = made_keeps s (spec_of l) (λ spec. by_result says (chain_answer s.control.events (number i))) (λ spec. Chained spec (number i)) (λ x h. no_refusal (ring_refusal s.control.events (number i)) (make_answer s.control.events) says h) e r
+
+    freed_keeps : (s : State P S H) (i : ℕ) (all : Bool) → ring_refusal s.control.events i ≡ None → KeepsAt s (changes (with_events (if all then ring_freed i else freed i)))
+    freed_keeps s i true may r = kept.arranges (RingFreed i) s may r
+    freed_keeps s i false may r = kept.arranges (Freed i) s may r
+
+    points_keep : (s : State P S H) (b : Bool) → KeepsAt s (where_so b (takes_request t call.CancelPoint))
+    points_keep s false r = r
+    points_keep s true r = kept.told (mark.Canceled (tid t) (Some call.CancelPoint)) (controlled (sets t (change.Request false)) s) tt (kept.set t (change.Request false) s tt r)
+
+    states_keep : (s : State P S H) (n : ℤ) (b : Bool) → KeepsAt s (changes (if b then nothing else sets t (change.Cancel (number n))))
+    states_keep s n true r = r
+    states_keep s n false r = kept.set t (change.Cancel (number n)) s tt r
+
+    joins_keep : (s : State P S H) (o : Option ℕ) → KeepsAt s (changes (takes_joined o))
+    joins_keep s None r = r
+    joins_keep s (Some u) r = removes_keeps u s r
+
+    yields_keep : (s : State P S H) (n : ℤ) (b : Bool) → KeepsAt s (changes (if b then nothing else prefers (Some (number n))))
+    yields_keep s n true r = r
+    yields_keep s n false r = prefers_keeps (Some (number n)) s r
+
+    other_keeps : (u : ℕ) → Keeps (canceled_by_other f u)
+    other_keeps u s r =
+        let m = mark.Canceled (tid u) None in
+        ending_keeps u canceled_value (tells m s).state (kept.told m s tt r)
+
+    asks_keep : (s : State P S H) (u : ℕ) (b : Bool) → KeepsAt s (if b then canceled_by_other f u else changes (sets u (change.Request true)))
+    asks_keep s u true r = other_keeps u s r
+    asks_keep s u false r = kept.set u (change.Request true) s tt r
+
+    aborts_keep : (s : State P S H) (u : ℕ) (dead : Bool) → KeepsAt s (if dead then changes (removes u) else aborted f u)
+    aborts_keep s u true r = removes_keeps u s r
+    aborts_keep s u false r =
+        let a = controlled (sets u (change.Joinable false)) s in
+        other_keeps u (controlled (sets u (change.Cancel 3)) a) (kept.set u (change.Cancel 3) a tt (kept.set u (change.Joinable false) s tt r))
+
+    -- what a call does that is not refused
+    does_keeps : (s : State P S H) (c : Call) → IsFree t s → refuses (row_of f s t c).begin.verdict ≡ false → KeepsAt s (row_of f s t c).begin.effect
+    unfolding row_of
+    does_keeps s call.Kill free e r = kept.vanished t s free r
+    does_keeps s (call.Yield n) free e r = yields_keep s n (is_zero n) r
+    does_keeps s (call.Cancel n) free e r = asks_keep s (number n) (is_asynchronous (or_nobody (thread s.control n)).cancel) r
+    does_keeps s (call.Abort n) free e r = aborts_keep s (number n) (is_dead (or_nobody (thread s.control n)).state) r
+    does_keeps s call.CancelPoint free e r = points_keep s (is_to_cancel (or_nobody (entry_of s.control t))) r
+    does_keeps s (call.CancelState n) free e r = states_keep s n (is_zero n) r
+    does_keeps s (call.Ctrl x) free e r = ctrl_keeps s x r
+    does_keeps s call.AttrNew free e r = kept.added s r
+    does_keeps s (call.AttrOf n) free e r = kept.bound (tid (number n)) s r
+    does_keeps s (call.AttrInit a) free e r = kept.renewed (number a) s r
+    does_keeps s (call.AttrSet a v) free e r = values_keep s a v (object s.control a) refl (set_passes s.control.threads.known (object s.control a) v e) r
+    does_keeps s (call.AttrDestroy a) free e r = kept.destroyed (number a) s r
+    does_keeps s (call.Spawn b v a) free e r = spawns_keep t (number b) v a s r
+    does_keeps s (call.Suspend n) free e r = suspends_keeps (number n) s r
+    does_keeps s (call.Resume n) free e r = resumes_keeps (number n) s r
+    does_keeps s (call.EvFd goals fd) free e r = make_keeps s (line.Fd goals fd) e r
+    does_keeps s (call.EvSelect a b c) free e r = make_keeps s (line.Select a b c) e r
+    does_keeps s (call.EvTime m) free e r = make_keeps s (line.Time m) e r
+    does_keeps s (call.EvMsg p) free e r = make_keeps s (line.Msg p) e r
+    does_keeps s (call.EvCond c) free e r = make_keeps s (line.Cond c) e r
+    does_keeps s (call.EvTid at n) free e r = make_keeps s (line.Tid at n) e r
+    does_keeps s (call.EvFunc c v l) free e r = make_keeps s (line.Func c v l) e r
+    does_keeps s (call.Chain i l) free e r = chain_keeps s i l e r
+    does_keeps s (call.EvConcat a b) free e r = kept.arranges (Joined (number a) (number b)) s (no_refusal {A = Unit {0}} (concat_refusal s.control.events (number a) (number b)) (Ok tt) (λ u. Says (answer.Int a)) e) r
+    does_keeps s (call.EvIsolate i) free e r = kept.arranges (Isolated (number i)) s (no_refusal {A = Option EventId} (ring_refusal s.control.events (number i)) (Ok (option_map event_id (head_event (rest_of (s.control.events.rings (number i)))))) (λ o. says (number_or_none o)) e) r
+    does_keeps s (call.EvFree i all) free e r = freed_keeps s (number i) all (no_refusal {A = Unit {0}} (ring_refusal s.control.events (number i)) (Ok tt) done e) r
+    does_keeps s (call.Fdmode d m) free e r = kept.timed _ s r
+    does_keeps s (call.Read d n) free e r = kept.timed _ s r
+    does_keeps s (call.ReadEv d n x) free e r = kept.timed _ s r
+    does_keeps s (call.Write d bytes) free e r = kept.timed _ s r
+    does_keeps s (call.WriteEv d bytes x) free e r = kept.timed _ s r
+    does_keeps s (call.Accept d) free e r = kept.timed _ s r
+    does_keeps s (call.AcceptEv d x) free e r = kept.timed _ s r
+    does_keeps s (call.Close d) free e r = kept.timed _ s r
+    does_keeps s (call.Join n) free e r = joins_keep s (to_join s.control n) r
+    does_keeps s (call.CleanupPop v) free e r = pops_keep (last_pushed f s t) (not (is_zero v)) s r
+    does_keeps s (call.Once o h v) free e r = once_keeps (number o) (handler h) v (not (s.control.used (number o))) s r
+    does_keeps s c free e r = r
+
+    -- as the verdict says, after the effect
+    begun_by_keeps : (c : Call) (v : Verdict) (a : Piece P S H) (s : State P S H) → IsAllowed t c v (a s).state → R (a s).state → R (begun_by f t c v a s).told.state
+    begun_by_keeps c (Says x) a s may r = kept.told (mark.Answered (tid t) c x) (a s).state may r
+    begun_by_keeps c (Yields x) a s may r = kept.told (mark.Answered (tid t) c x) (a s).state may r
+    begun_by_keeps c (Blocks p) a s may r = kept.told (mark.Waits (tid t) c) (controlled (λ k. blocks t c p (claims t (ring_given c) k)) (a s).state) tt (kept.blocked t c p (a s).state may.0 may.1 r)
+    begun_by_keeps c (Ends v) a s may r = ending_keeps t v (a s).state r
+    begun_by_keeps c Kills a s may r = kept.told (mark.Answered (tid t) c (answer.Int (pos 1))) (a s).state may r
+
+    begun_keeps : (c : Call) (s : State P S H) → IsFree t s → R s → R (begun f t c s).told.state
+    unfolding begun
+    begun_keeps call.Plain s free r = r
+    begun_keeps (call.Note v) s free r = kept.told (mark.Noted (tid t) v) s tt r
+    begun_keeps c s free r =
+        let a = (row_of f s t c).begin in
+        begun_by_keeps c a.verdict (effect_of a) s (allowed f t s c free) (unless_keeps s (refuses a.verdict) a.effect (does_keeps s c free) r)
+
+    -- ---- a call is tried again
+
+    ctrl_again : (s : State P S H) (x : Query) (b : Blocked) → KeepsAt s ((ctrl s x).again b).effect
+    ctrl_again s query.Threads b r = r
+    ctrl_again s x b r = r
+
+    made_again : (s : State P S H) (spec : Option EventSpec) (v : EventSpec → Verdict) (g : EventSpec → Change P S H) (b : Blocked) → KeepsAt s ((made_as spec v g).again b).effect
+    made_again s None v g b r = r
+    made_again s (Some x) v g b r = r
+
+    make_again : (s : State P S H) (l : EvLine) (b : Blocked) → KeepsAt s ((make_event s l).again b).effect
+    make_again s l b r = made_again s (spec_of l) (λ x. by_result says (make_answer s.control.events)) (λ x. with_events (alone x)) b r
+
+    does_again : (s : State P S H) (c : Call) (b : Blocked) → KeepsAt s ((row_of f s t c).again b).effect
+    unfolding row_of
+    does_again s (call.Ctrl x) b r = ctrl_again s x b r
+    does_again s (call.EvFd goals fd) b r = make_again s (line.Fd goals fd) b r
+    does_again s (call.EvSelect i w x) b r = make_again s (line.Select i w x) b r
+    does_again s (call.EvTime m) b r = make_again s (line.Time m) b r
+    does_again s (call.EvMsg p) b r = make_again s (line.Msg p) b r
+    does_again s (call.EvCond c) b r = make_again s (line.Cond c) b r
+    does_again s (call.EvTid at n) b r = make_again s (line.Tid at n) b r
+    does_again s (call.EvFunc c v l) b r = make_again s (line.Func c v l) b r
+    does_again s (call.Chain i l) b r = made_again s (spec_of l) (λ x. by_result says (chain_answer s.control.events (number i))) (λ x. with_events (chained x (number i))) b r
+    does_again s (call.Read d n) b r = kept.timed _ s r
+    does_again s (call.ReadEv d n x) b r = kept.timed _ s r
+    does_again s (call.Write d bytes) b r = kept.timed _ s r
+    does_again s (call.WriteEv d bytes x) b r = kept.timed _ s r
+    does_again s (call.Accept d) b r = kept.timed _ s r
+    does_again s (call.AcceptEv d x) b r = kept.timed _ s r
+    does_again s (call.Join n) b r = joins_keep s (to_join s.control n) r
+    does_again s c b r = r
+
+    come_keeps : (s : State P S H) (c : Call) (b : Blocked) (come : Bool) → KeepsAt s (effect_of (unless_come come ((row_of f s t c).again b)))
+    come_keeps s c b false r = unless_keeps s (refuses ((row_of f s t c).again b).verdict) ((row_of f s t c).again b).effect (λ e. does_again s c b) r
+    come_keeps s c b true r = unless_keeps s (refuses (interrupted ((row_of f s t c).again b).verdict)) ((row_of f s t c).again b).effect (λ e. does_again s c b) r
+
+    answers_keep : (c : Call) (a : Answer) (s : State P S H) → IsToTell (mark.Answered (tid t) c a) (controlled (stops_waiting t) s) → R s → R (tells (mark.Answered (tid t) c a) (controlled (stops_waiting t) s)).state
+    answers_keep c a s may r = kept.told (mark.Answered (tid t) c a) (controlled (stops_waiting t) s) may (kept.stopped t s r)
+
+    tried_by_keeps : (b : Blocked) (v : Verdict) (s : State P S H) → IsAllowedAgain t b.call b v s → R s → R (tried_by f t b v s).told.state
+    tried_by_keeps b (Says x) s may r = answers_keep b.call x s may r
+    tried_by_keeps b (Yields x) s may r = answers_keep b.call x s may r
+    tried_by_keeps b (Blocks p) s may r = kept.told (mark.Waits (tid t) b.call) (controlled (is_blocked_by t (Some (record b { written = p.written }))) s) tt (kept.waits_on t p.written b s may r)
+    tried_by_keeps b (Ends v) s may r = ending_keeps t v s r
+    tried_by_keeps b Kills s may r = answers_keep b.call (answer.Int (pos 1)) s may r
+
+    tried_again_keeps : (s : State P S H) (o : Option Blocked) → blocked_of s.control t ≡ o → R s → R (tried_again_by f t o s).told.state
+    tried_again_keeps s None at r = r
+    tried_again_keeps s (Some b) at r =
+        let come = has_event_come s.control.events (ring_given b.call) in
+        let a = unless_come come ((row_of f s t b.call).again b) in
+        tried_by_keeps b a.verdict (effect_of a s).state (allowed_again f t s b.call b come at) (come_keeps s b.call b come r)
+
+    canceled_keeps : (o : Option Blocked) (s : State P S H) → R s → R (canceled_by f t o s).told.state
+    canceled_keeps None s r = r
+    canceled_keeps (Some b) s r =
+        let m = mark.Canceled (tid t) (Some b.call) in
+        let a = controlled (sets t (change.Request false)) s in
+        ending_keeps t canceled_value (tells m a).state (kept.told m a tt (kept.set t (change.Request false) s tt r))
+
+    where_keeps : (b : Bool) (s : State P S H) → R s → R (gone_on_where f t b s).told.state
+    unfolding tried_again
+    where_keeps true s r = canceled_keeps (blocked_of s.control t) s r
+    where_keeps false s r = tried_again_keeps s (blocked_of s.control t) refl r
+
+    gone_on_keeps : (s : State P S H) → R s → R (gone_on f t s).told.state
+    unfolding gone_on
+    gone_on_keeps s r = where_keeps (may_be_canceled s.control t) s r
+
+    -- ---- a step
+
+    stepped_free : (g : Progress S → Progress S) (s : State P S H) (p : Progress S) → s.control.threads.progress t ≡ Some p → (g p).blocked ≡ None → IsFree t (controlled (goes_on t g) s)
+    unfolding goes_on
+    stepped_free g s p at free = ap blocked_in (put_here s.control.threads.progress t (option_map g (s.control.threads.progress t))) ∙ ap (λ o. blocked_in (option_map g o)) at ∙ free
+
+    steps_by_keeps : (b : Option Blocked) (o : Option (Progress S)) (s : State P S H) → blocked_of s.control t ≡ b → s.control.threads.progress t ≡ o → R s → R (steps_by f t b o s).told.state
+    steps_by_keeps (Some b) o s is_blocked at r = gone_on_keeps s r
+    steps_by_keeps None None s is_blocked at r = gone_on_keeps s r
+    steps_by_keeps None (Some p) s is_blocked at r =
+        let x = (f s.control.program).step p.state s.control.shared p.owed in
+        let g : Progress S → Progress S = λ y. record y { state = x.state; owed = answer.None } in
+        let a = controlled (shares x.shared) s in
+        begun_keeps x.call (controlled (goes_on t g) a) (stepped_free g a p at (sym (ap blocked_in at) ∙ is_blocked)) (kept.goes t g a (λ y. refl) (kept.shared x.shared s r))
+
+    owes_keeps : (n : Next) → Stays (owes_after t n)
+    owes_keeps (next.Done a) s r = kept.goes t (owing a) s (λ p. refl) r
+    owes_keeps (next.Yields a) s r = kept.goes t (owing a) s (λ p. refl) r
+    owes_keeps next.Waits s r = r
+    owes_keeps (next.Ended v) s r = r
+    owes_keeps next.Killed s r = r
+
+    step_keeps : (x : Turn) (s : State P S H) → R s → R (steps f x t s).state
+    unfolding steps
+    step_keeps x s r =
+        let w = steps_on f t s in
+        owes_keeps w.next w.told.state (steps_by_keeps (blocked_of s.control t) (s.control.threads.progress t) s refl refl r)
+
+  -- ---- the other parts
+
+  woken_keeps : (ts : List ℕ) → Keeps (all_woken ts)
+  unfolding all_woken woken
+  woken_keeps [] s r = r
+  woken_keeps (t ∷ ts) s r =
+      let rank = prio_of s.control t +ℤ pos 1 in
+      woken_keeps ts (woken t s).state (kept.told (mark.Woke (tid t) rank) (controlled (is_ready_at t rank false) s) tt (ready_keeps t rank false s r))
+
+  pass_keeps : Keeps (pass f)
+  unfolding pass
+  pass_keeps s r = woken_keeps (to_wake f s) (controlled looks s) (kept.looked s r)
+
+  readies_keep : (ts : List ℕ) → Stays (readies_all ts)
+  unfolding readies_all readies
+  readies_keep [] s r = r
+  readies_keep (t ∷ ts) s r = readies_keep ts (controlled (readies t) s) (ready_keeps t _ _ s r)
+
+  taken_keeps : (x : Turn) (o : Option ℕ) (s : State P S H) → R s → R (takes_by x o s).state
+  unfolding dispatches runs
+  taken_keeps x None s r = r
+  taken_keeps x (Some t) s r =
+      let a = controlled (leaves_queue t) s in
+      let b = controlled (sets t (change.State state.Running)) a in
+      let n = min ((or_nobody (entry_of s.control t)).dispatches + 1) last_count in
+      let c = controlled (sets t (change.Dispatches n)) b in
+      let d = controlled (runs_now (Some t)) c in
+      let m = mark.Dispatch (x.turns + 1) (now_of s.control) (tid t) (rank_by (place_in t (queue s.control Ready))) 0 0 in
+      kept.told m (controlled (prefers None) d) tt (prefers_keeps None d (runs_now_keeps (Some t) c (kept.set t (change.Dispatches n) b tt (kept.set t (change.State state.Running) a tt (leaves_queue_keeps t s r)))))
+
+  takes_keeps : (x : Turn) (s : State P S H) → R s → R (takes x s).state
+  unfolding takes
+  takes_keeps x s r =
+      let a = controlled readies_new s in
+      taken_keeps x (chosen a.control.scheduler.preferred (queue a.control Ready)) a (readies_keep (reverse (holders (queue s.control New))) s r)
+
+  put_keeps : (t : ℕ) (at : ThreadState) (q : Queue) (s : State P S H) → R s → R (controlled (λ k. enters t q (prio_of k t) false (sets t (change.State at) k)) s)
+  put_keeps t at q s r = enters_keeps t q (prio_of s.control t) false (controlled (sets t (change.State at)) s) (kept.set t (change.State at) s tt r)
+
+  placed_keeps : (t : ℕ) (o : Option ℕ) (b : Option Blocked) → Stays (placed_by t o b)
+  unfolding is_put_back is_put_waiting
+  placed_keeps t None b s r = r
+  placed_keeps t (Some u) (Some b) s r = put_keeps t state.Waiting Waiting s r
+  placed_keeps t (Some u) None s r = put_keeps t state.Ready Ready s r
+
+  closes_keeps : (x : Turn) (t : ℕ) (s : State P S H) → R s → R (closes f x t s).state
+  unfolding closes is_placed raises_ready
+  closes_keeps x t s r =
+      let a = controlled raises_ready s in
+      let b = controlled (placed_by t s.control.scheduler.running (blocked_of s.control t)) a in
+      let c = controlled (runs_now None) b in
+      pass_keeps (controlled (turn_ends t) s) (moves_to_keeps (min (now_of c.control + clock_of c.control) last_moment) c (runs_now_keeps None b (placed_keeps t s.control.scheduler.running (blocked_of s.control t) a (raises_keeps s r))))
+
+  moves_keeps : (x : Turn) (o : Option ℕ) (s : State P S H) → R s → R (moves_by f x o s).state
+  moves_keeps x None s r = r
+  moves_keeps x (Some m) s r =
+      let a = controlled (moves_to m) s in
+      pass_keeps (tells (mark.Moved m) a).state (kept.told (mark.Moved m) a tt (moves_to_keeps m s r))
+
+  part_keeps : (x : Turn) (s : State P S H) (p : Part) → R s → R (part_by f x s p).state
+  unfolding moves
+  part_keeps x s Move r = moves_keeps x (moment f s) s r
+  part_keeps x s Take r = takes_keeps x s r
+  part_keeps x s (Step t) r = step_keeps t x s r
+  part_keeps x s (Close t) r = closes_keeps x t s r
+  part_keeps x s Halt r = r
+
+  -- ---- a run
+
+  pub run_keeps : (g : Given P) → R (start f g) → (i : ℕ) → R (run f g i).state
+  unfolding parts part
+  run_keeps g begins zero = begins
+  run_keeps g begins (suc i) = part_keeps (run f g i).turn (run f g i).state (next_part (run f g i).state (run f g i).turn) (run_keeps g begins i)

@@ -1,0 +1,14 @@
+//! Laws of the states of every run of every program.
+
+ghost use Rattle.std.specs.Prelude.{ℕ};
+ghost use Rattle.pth_model.specs.Run.{run};
+ghost use Rattle.pth_model.specs.State.{Given};
+ghost use Rattle.pth_laws.specs.Priorities.{HasBasePriorities};
+
+use pth_base::program::Program;
+
+/// In each state of a run every base priority is from -5 to 5: that of each thread in the system, and that of each attribute object,
+/// as the first ones are, and as `pth_attr_set`, `pth_attr_init` and `pth_spawn` leave them.
+pub fn every_run_keeps_base_priorities<P: Program>()
+    ensures { (g : Given P) (i : ℕ) → HasBasePriorities (run P.functions g i).state }
+{}
