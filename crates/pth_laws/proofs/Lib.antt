@@ -11,6 +11,8 @@ pub mod Locking
 pub mod Allowed
 pub mod Along
 pub mod Ranged
+pub mod Circles
+pub mod Claimed
 pub mod Awaits
 pub mod Claims
 pub mod Walk

@@ -9,3 +9,4 @@ pub mod Clean
 pub mod Examples
 pub mod Waits
 pub mod Priorities
+pub mod Rings

@@ -4,6 +4,7 @@ ghost use Rattle.std.specs.Prelude.{ℕ};
 ghost use Rattle.pth_model.specs.Run.{run};
 ghost use Rattle.pth_model.specs.State.{Given};
 ghost use Rattle.pth_laws.specs.Priorities.{HasBasePriorities};
+ghost use Rattle.pth_laws.specs.Rings.{AreRingsCircles, AreRingsHeld};
 
 use pth_base::program::Program;
 
@@ -11,4 +12,11 @@ use pth_base::program::Program;
 /// as the first ones are, and as `pth_attr_set`, `pth_attr_init` and `pth_spawn` leave them.
 pub fn every_run_keeps_base_priorities<P: Program>()
     ensures { (g : Given P) (i : ℕ) → HasBasePriorities (run P.functions g i).state }
+{}
+
+/// Who is blocked by a call that was given an event has the claim on its ring, until the call is answered or the thread ends. No ring
+/// has two claims, so no two threads wait for one ring. And each event of a ring has the same ring, read from it on.
+pub fn every_run_holds_rings<P: Program>()
+    ensures held { (g : Given P) (i : ℕ) → AreRingsHeld (run P.functions g i).state }
+    ensures circles { (g : Given P) (i : ℕ) → AreRingsCircles (run P.functions g i).state }
 {}
