@@ -9,4 +9,5 @@ pub mod Clean
 pub mod Examples
 pub mod Waits
 pub mod Priorities
+pub mod Holders
 pub mod Rings

@@ -3,6 +3,7 @@
 ghost use Rattle.std.specs.Prelude.{ℕ};
 ghost use Rattle.pth_model.specs.Run.{run};
 ghost use Rattle.pth_model.specs.State.{Given};
+ghost use Rattle.pth_laws.specs.Holders.{AreHoldersApart};
 ghost use Rattle.pth_laws.specs.Priorities.{HasBasePriorities};
 ghost use Rattle.pth_laws.specs.Rings.{AreRingsCircles, AreRingsHeld};
 
@@ -19,4 +20,9 @@ pub fn every_run_keeps_base_priorities<P: Program>()
 pub fn every_run_holds_rings<P: Program>()
     ensures held { (g : Given P) (i : ℕ) → AreRingsHeld (run P.functions g i).state }
     ensures circles { (g : Given P) (i : ℕ) → AreRingsCircles (run P.functions g i).state }
+{}
+
+/// No thread has two holds of one read-write lock, and if one writes under it, its hold is the only one.
+pub fn every_run_keeps_holders_apart<P: Program>()
+    ensures { (g : Given P) (i : ℕ) → AreHoldersApart (run P.functions g i).state }
 {}
