@@ -11,6 +11,7 @@ pub mod Locking
 pub mod Allowed
 pub mod Along
 pub mod Ranged
+pub mod Waiting
 pub mod Alone
 pub mod Circles
 pub mod Claimed

@@ -6,6 +6,7 @@ ghost use Rattle.pth_model.specs.State.{Given};
 ghost use Rattle.pth_laws.specs.Holders.{AreHoldersApart};
 ghost use Rattle.pth_laws.specs.Priorities.{HasBasePriorities};
 ghost use Rattle.pth_laws.specs.Rings.{AreRingsCircles, AreRingsHeld};
+ghost use Rattle.pth_laws.specs.Waits.{AllWaitRightly};
 
 use pth_base::program::Program;
 
@@ -25,4 +26,10 @@ pub fn every_run_holds_rings<P: Program>()
 /// No thread has two holds of one read-write lock, and if one writes under it, its hold is the only one.
 pub fn every_run_keeps_holders_apart<P: Program>()
     ensures { (g : Given P) (i : ℕ) → AreHoldersApart (run P.functions g i).state }
+{}
+
+/// Who is blocked by a `mutex_acquire` or an `rw_acquire` waits for a mutex or a lock that is initialised, and holds no lock for which
+/// it waits. The rows of these calls ask for both as they are tried again, and find them so in every run.
+pub fn every_run_waits_rightly<P: Program>()
+    ensures { (g : Given P) (i : ℕ) → AllWaitRightly (run P.functions g i).state }
 {}

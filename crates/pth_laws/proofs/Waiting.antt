@@ -1,0 +1,287 @@
+-- Who is blocked waits for a mutex or a lock that is there, and holds no lock for which it waits.
+use Rattle.std.proofs.Common.{◌≡◌, ◌≢◌, ℕ, zero, suc, ◌+◌, ◌==◌, Bool, true, false, if◌then◌else◌, ℤ, pos, Option, Some, None, is_some, option_map, refl, sym, subst, ◌∙◌, ap}
+use Rattle.pth_base.specs.Program.{Functions}
+use Rattle.pth_base.specs.Table.{put}
+use Rattle.pth_base.specs.declared.act.Act.TheVariants as act
+use Rattle.pth_base.specs.declared.answer.Answer.{Answer}
+use Rattle.pth_base.specs.declared.answer.Answer.TheVariants as answer
+use Rattle.pth_base.specs.declared.call.Call.{Call}
+use Rattle.pth_base.specs.declared.call.Call.TheVariants as call
+use Rattle.pth_base.specs.declared.mark.Mark.{Mark}
+use Rattle.pth_base.specs.declared.mark.Mark.TheVariants as mark
+use Rattle.pth_base.proofs.Tables.{put_by, not_same}
+use Rattle.pth_numbered.specs.Operands.{number}
+use Rattle.pth_lock.specs.Objects.{object_named}
+use Rattle.pth_lock.specs.Mutexes.{Mutex, MutexTable, free_mutex, mutex_with, levels_of, has, is_anothers}
+use Rattle.pth_lock.specs.RwLocks.{LockTables, holds, is_one, lock_initialised, lock_released, lock_taken}
+use Rattle.pth_threads.specs.declared.entry.Change as change_of_record
+use Rattle.pth_model.specs.declared.blocked.Blocked.{Blocked}
+use Rattle.pth_model.specs.declared.progress.Progress.{Progress}
+use Rattle.pth_model.specs.Resources.{Resources, on_one, on_int, on_msg, told, answer_told, act_told, retaken, let_go, of_only}
+use Rattle.pth_model.specs.State.{State, Given, start, main, now_of}
+use Rattle.pth_model.specs.Transition.{controlled, tells}
+use Rattle.pth_model.specs.Changes.{sets, goes_on, blocking, is_blocked_by, makes, forgets, blocked_in, blocked_of}
+use Rattle.pth_model.specs.RingWaits.{claims, gives_back, ring_given, ring_held, stops_waiting}
+use Rattle.pth_model.specs.ThreadControl.{values_for, or_first}
+use Rattle.pth_model.specs.LibraryControl.{vanish_all_but}
+use Rattle.pth_model.specs.Calls.{blocked_from}
+use Rattle.pth_model.specs.Pass.{looks}
+use Rattle.pth_model.specs.Run.{run}
+use Rattle.pth_laws.specs.Waits.{WaitsRightly, AllWaitRightly}
+use Rattle.pth_laws.proofs.Held.{neither, both_not, out_released, out_left, out_only}
+use Rattle.pth_laws.proofs.Allowed.{IsToTell}
+use Rattle.pth_laws.proofs.Along.{KeptAlong, run_keeps}
+
+-- what is initialised stays so, and who is out of a lock stays out: thread u, from tables x and y to tables z and w
+pub record StaysOut (u : ℕ) (x : MutexTable) (y : LockTables) (z : MutexTable) (w : LockTables) : Type 0 where
+  pub mutexes : (m : ℕ) → is_some (x m) ≡ true → is_some (z m) ≡ true
+  pub locks : (l : ℕ) → y.initialised l ≡ true → w.initialised l ≡ true
+  pub out : (l : ℕ) → holds y u l ≡ false → holds w u l ≡ false
+
+abbrev Stays : ℕ → Resources → Resources → Type 0
+Stays u k j = StaysOut u k.store.mutexes k.store.rw_locks j.store.mutexes j.store.rw_locks
+
+-- a mark by which u enters no lock
+abbrev EntersNot : ℕ → Mark → Type 0
+EntersNot u (mark.Answered t (call.RwAcquire l write v e) (answer.Int n)) = u ≢ t.0
+EntersNot u m = Unit {0}
+
+mutex_there : (t n : ℕ) → is_some (mutex_with t n) ≡ true
+mutex_there t n = by_test (n == 0)
+  where
+    by_test : (b : Bool) → is_some (if b then free_mutex else Some (Some (record { owner = t; levels = n }))) ≡ true
+    by_test true = refl
+    by_test false = refl
+
+-- ---- changes of the tables
+
+module _ (u : ℕ) (x : MutexTable) (y : LockTables) where
+  same_tables : StaysOut u x y x y
+  same_tables = record { mutexes = λ m h. h; locks = λ l h. h; out = λ l h. h }
+
+  with_mutex : (z : MutexTable) → ((m : ℕ) → is_some (x m) ≡ true → is_some (z m) ≡ true) → StaysOut u x y z y
+  with_mutex z there = record { mutexes = there; locks = λ l h. h; out = λ l h. h }
+
+  -- a mutex is put that is there
+  stays_put : (m : ℕ) (z : Mutex) → is_some z ≡ true → StaysOut u x y (put x m z) y
+  stays_put m z there = with_mutex (put x m z) (λ i h. put_by (λ o. is_some o ≡ true) x m z i (λ here. there) (λ other. h))
+
+  free_or : (b : Bool) (o : Mutex) → is_some o ≡ true → is_some (if b then free_mutex else o) ≡ true
+  free_or true o h = refl
+  free_or false o h = h
+
+  stays_initialised : (l : ℕ) → StaysOut u x y x (lock_initialised l y)
+  stays_initialised l = record { mutexes = λ m h. h; locks = λ i h. put_by (λ (b : Bool). b ≡ true) y.initialised l true i (λ here. refl) (λ other. h); out = λ i h. h }
+
+  stays_released : (t l : ℕ) → StaysOut u x y x (lock_released t l y)
+  stays_released t l = record { mutexes = λ m h. h; locks = λ i h. h; out = λ i h. out_released u y i t l h }
+
+  -- another one enters
+  stays_taken : (t : ℕ) (write : Bool) (l : ℕ) → u ≢ t → StaysOut u x y x (lock_taken t write l y)
+  stays_taken t true l apart = record {
+    mutexes = λ m h. h;
+    locks = λ i h. h;
+    out = λ i h.
+        let was = neither (is_one u (y.writer i)) (y.reads i u) h in
+        both_not _ _ (put_by (λ o. is_one u o ≡ false) y.writer l (Some t) i (λ here. not_same t u (λ same. apart (sym same))) (λ other. was.0)) was.1;
+  }
+  stays_taken t false l apart = record {
+    mutexes = λ m h. h;
+    locks = λ i h. h;
+    out = λ i h.
+        let was = neither (is_one u (y.writer i)) (y.reads i u) h in
+        both_not _ _ was.0 (put_by (λ (r : ℕ → Bool). r u ≡ false) y.reads l (put (y.reads l) t true) i
+        (λ here. put_by (λ (b : Bool). b ≡ false) (y.reads l) t true u (λ same. absurd (apart same)) (λ other. ap (λ (j : ℕ). y.reads j u) (sym here) ∙ was.1))
+        (λ other. was.1));
+  }
+
+-- ---- marks
+
+module _ (u : ℕ) (k : Resources) where
+  stays_same : Stays u k k
+  stays_same = same_tables u k.store.mutexes k.store.rw_locks
+
+  stays_one : (a : Answer) (g : Resources) → Stays u k g → Stays u k (on_one a k g)
+  stays_one (answer.Int (pos (suc zero))) g h = h
+  stays_one a g h = stays_same
+
+  stays_int : (a : Answer) (g : ℤ → Resources) → ((n : ℤ) → Stays u k (g n)) → Stays u k (on_int a k g)
+  stays_int (answer.Int n) g h = h n
+  stays_int a g h = stays_same
+
+  stays_msg : (a : Answer) (g : Resources) → Stays u k g → Stays u k (on_msg a k g)
+  stays_msg (answer.Msg id v) g h = h
+  stays_msg a g h = stays_same
+
+  stays_at : (m t n : ℕ) → StaysOut u k.store.mutexes k.store.rw_locks (put k.store.mutexes m (mutex_with t n)) k.store.rw_locks
+  stays_at m t n = stays_put u k.store.mutexes k.store.rw_locks m (mutex_with t n) (mutex_there t n)
+
+  took_back : (t m : ℕ) (b : Bool) → Stays u k (if b then retaken k t m else k)
+  took_back t m true = stays_at m t (levels_of t (k.store.mutexes m) + 1)
+  took_back t m false = stays_same
+
+  gave_back : (t m : ℕ) (b : Bool) → Stays u k (if b then k else let_go k t m)
+  gave_back t m true = stays_same
+  gave_back t m false = stays_at m t _
+
+  only_stays : (t : ℕ) → Stays u k (of_only t k)
+  only_stays t = record {
+    mutexes = λ m h. free_or u k.store.mutexes k.store.rw_locks (is_anothers t (k.store.mutexes m)) (k.store.mutexes m) h;
+    locks = λ l h. h;
+    out = λ l h. out_only u k.store.rw_locks l t h;
+  }
+
+  answer_stays : (t : ℕ) (c : Call) (a : Answer) → EntersNot u (mark.Answered (record { 0 = t }) c a) → Stays u k (answer_told k t c a)
+  unfolding answer_told
+  answer_stays t (call.CleanupPush h v) a other = stays_one a _ stays_same
+  answer_stays t (call.CleanupPop v) a other = stays_one a _ stays_same
+  answer_stays t (call.KeyCreate h) a other = stays_int a _ (λ n. stays_same)
+  answer_stays t (call.KeyDelete key) a other = stays_one a _ stays_same
+  answer_stays t (call.KeySet key v) a other = stays_one a _ stays_same
+  answer_stays t (call.MutexInit m) a other = stays_int a _ (λ n. stays_put u k.store.mutexes k.store.rw_locks (object_named m) free_mutex refl)
+  answer_stays t (call.MutexAcquire m v e) a other = stays_int a _ (λ n. stays_at (object_named m) t _)
+  answer_stays t (call.MutexRelease m) a other = stays_int a _ (λ n. stays_at (object_named m) t _)
+  answer_stays t (call.RwInit l) a other = stays_int a _ (λ n. stays_initialised u k.store.mutexes k.store.rw_locks (object_named l))
+  answer_stays t (call.RwAcquire l write v e) (answer.Int n) other = stays_taken u k.store.mutexes k.store.rw_locks t write (object_named l) other
+  answer_stays t (call.RwAcquire l write v e) a other = stays_same
+  answer_stays t (call.RwRelease l) a other = stays_int a _ (λ n. stays_released u k.store.mutexes k.store.rw_locks t (object_named l))
+  answer_stays t (call.CondAwait c m e) a other = took_back t (number m) (k.awaits t)
+  answer_stays t (call.PortCreate name) a other = stays_int a _ (λ n. stays_same)
+  answer_stays t (call.PortPut p v r) a other = stays_int a _ (λ n. stays_same)
+  answer_stays t (call.PortGet p) a other = stays_msg a _ stays_same
+  answer_stays t (call.Reply m v) a other = stays_int a _ (λ n. stays_same)
+  answer_stays t (call.PortDestroy p) a other = stays_int a _ (λ n. stays_same)
+  answer_stays t call.Kill a other = stays_int a _ (λ n. only_stays t)
+  answer_stays t c a other = stays_same
+
+  told_stays : (m : Mark) → EntersNot u m → Stays u k (told k m)
+  unfolding told act_told
+  told_stays (mark.Answered t c a) other = answer_stays t.0 c a other
+  told_stays (mark.Acted t (act.Release m) a) other = answer_stays t.0 (call.MutexRelease m) a tt
+  told_stays (mark.Acted t (act.Put p v) a) other = answer_stays t.0 (call.PortPut p v (pos 0)) a tt
+  told_stays (mark.Acted t (act.SetKey key v) a) other = answer_stays t.0 (call.KeySet key v) a tt
+  told_stays (mark.Waits t (call.CondAwait c m e)) other = gave_back t.0 (number m) (k.awaits t.0)
+  told_stays (mark.Took t m) other = stays_at m t.0 (levels_of t.0 (k.store.mutexes m) + 1)
+  told_stays (mark.GaveMutex t m) other = stays_put u k.store.mutexes k.store.rw_locks m free_mutex refl
+  told_stays (mark.GaveLock t l) other = stays_released u k.store.mutexes k.store.rw_locks t.0 l
+  told_stays (mark.Ended t v) other = record {
+    mutexes = λ m h. free_or u k.store.mutexes k.store.rw_locks (has t.0 (k.store.mutexes m)) (k.store.mutexes m) h;
+    locks = λ l h. h;
+    out = λ l h. out_left u k.store.rw_locks l t.0 h;
+  }
+  told_stays m other = stays_same
+
+-- ---- who waits
+
+rightly_stays : (u : ℕ) (k j : Resources) (c : Call) → Stays u k j → WaitsRightly k u c → WaitsRightly j u c
+rightly_stays u k j (call.MutexAcquire m v e) stays h = stays.mutexes (object_named m) h
+rightly_stays u k j (call.RwAcquire l write v e) stays h = (stays.locks (object_named l) h.0, stays.out (object_named l) h.1)
+rightly_stays u k j c stays h = tt
+
+abbrev Rightly : Resources → ℕ → Option Blocked → Type 0
+Rightly k t None = Unit {0}
+Rightly k t (Some b) = WaitsRightly k t b.call
+
+none_blocked : (b : Blocked) → None ≡ Some b → ⊥
+none_blocked b h = cc
+
+module _ {P S H : Type 0} where
+  abbrev AreRightly : State P S H → Type 0
+  AreRightly s = (t : ℕ) → Rightly s.resources t (blocked_of s.control t)
+
+  rightly_set : (t : ℕ) (c : change_of_record.Change) (s : State P S H) → AreRightly s → AreRightly (controlled (sets t c) s)
+  unfolding sets
+  rightly_set t c s r = r
+
+  rightly_made : (f : P → Functions S H) (t b : ℕ) (v a : ℤ) (s : State P S H) → AreRightly s → AreRightly (controlled (makes f b v (or_first (values_for s.control t a))) s)
+  unfolding makes
+  rightly_made f t b v a s r u = put_by (λ o. Rightly s.resources u (blocked_in o)) s.control.threads.progress (s.control.threads.made + 1) _ u (λ here. tt) (λ other. r u)
+
+  rightly_forgotten : (t : ℕ) (s : State P S H) → AreRightly s → AreRightly (controlled (forgets t) s)
+  unfolding forgets
+  rightly_forgotten t s r u = put_by (λ o. Rightly s.resources u (blocked_in o)) s.control.threads.progress t None u (λ here. tt) (λ other. r u)
+
+  rightly_vanished : (t : ℕ) (s : State P S H) → AreRightly s → AreRightly (controlled (vanish_all_but t) s)
+  unfolding vanish_all_but
+  rightly_vanished t s r u = by_number (u == t)
+    where
+      by_number : (b : Bool) → Rightly s.resources u (blocked_in (if b then s.control.threads.progress u else None))
+      by_number true = r u
+      by_number false = tt
+
+  rightly_looked : (s : State P S H) → AreRightly s → AreRightly (controlled looks s)
+  unfolding looks
+  rightly_looked s r = r
+
+  -- t goes on, with this of what blocks it
+  rightly_goes : (t : ℕ) (g : Progress S → Progress S) (s : State P S H) → ((p : Progress S) → s.control.threads.progress t ≡ Some p → Rightly s.resources t (g p).blocked) → AreRightly s → AreRightly (controlled (goes_on t g) s)
+  unfolding goes_on
+  rightly_goes t g s own r u =
+      put_by (λ o. Rightly s.resources u (blocked_in o)) s.control.threads.progress t (option_map g (s.control.threads.progress t)) u
+      (λ here. subst (λ (v : ℕ). Rightly s.resources v (blocked_in (option_map g (s.control.threads.progress t)))) (sym here) (by_progress (s.control.threads.progress t) own))
+      (λ other. r u)
+    where
+      by_progress : (o : Option (Progress S)) → ((p : Progress S) → o ≡ Some p → Rightly s.resources t (g p).blocked) → Rightly s.resources t (blocked_in (option_map g o))
+      by_progress None own = tt
+      by_progress (Some p) own = own p refl
+
+  rightly_claimed : (t : ℕ) (e : Option ℤ) (s : State P S H) → AreRightly s → AreRightly (controlled (claims t e) s)
+  unfolding claims
+  rightly_claimed t None s r = r
+  rightly_claimed t (Some e) s r = r
+
+  rightly_returned : (e : Option ℤ) (s : State P S H) → AreRightly s → AreRightly (controlled (gives_back e) s)
+  unfolding gives_back
+  rightly_returned None s r = r
+  rightly_returned (Some e) s r = r
+
+  rightly_stopped : (t : ℕ) (s : State P S H) → AreRightly s → AreRightly (controlled (stops_waiting t) s)
+  unfolding stops_waiting
+  rightly_stopped t s r = rightly_returned (ring_held (blocked_of s.control t)) (controlled (is_blocked_by t None) s) (rightly_goes t (blocking None) s (λ p at. tt) r)
+
+  -- who is blocked enters no lock
+  enters_not : (m : Mark) (s : State P S H) (u : ℕ) (b : Blocked) → IsToTell m s → blocked_of s.control u ≡ Some b → EntersNot u m
+  enters_not (mark.Answered t (call.RwAcquire l write v e) (answer.Int n)) s u b may at = λ same. none_blocked b (sym may.free ∙ ap (blocked_of s.control) (sym same) ∙ at)
+  enters_not m s u b may at = tt
+
+  rightly_told : (m : Mark) (s : State P S H) → IsToTell m s → AreRightly s → AreRightly (tells m s).state
+  rightly_told m s may r u = by_blocked (blocked_of s.control u) refl (r u)
+    where
+      by_blocked : (o : Option Blocked) → blocked_of s.control u ≡ o → Rightly s.resources u o → Rightly (told s.resources m) u o
+      by_blocked None at h = tt
+      by_blocked (Some b) at h = rightly_stays u s.resources (told s.resources m) b.call (told_stays u s.resources m (enters_not m s u b may at)) h
+
+  blocked_at : (s : State P S H) (t : ℕ) (o : Option Blocked) → blocked_of s.control t ≡ o → AreRightly s → Rightly s.resources t o
+  blocked_at s t o at r = subst (Rightly s.resources t) at (r t)
+
+  rightly_kept : (f : P → Functions S H) → KeptAlong f AreRightly
+  rightly_kept f = record {
+    shared = λ h s r. r;
+    placed = λ standing entries raises s r. r;
+    scheduled = λ x s r. r;
+    timed = λ x s r. r;
+    used = λ o s r. r;
+    set = λ t c s safe r. rightly_set t c s r;
+    made = λ t b v a s r. rightly_made f t b v a s r;
+    forgotten = λ t s r. rightly_forgotten t s r;
+    vanished = λ t s free r. rightly_vanished t s r;
+    added = λ s r. r;
+    bound = λ t s r. r;
+    renewed = λ n s r. r;
+    valued = λ a v x s there inside r. r;
+    destroyed = λ n s r. r;
+    arranges = λ x s may r. r;
+    looked = λ s r. rightly_looked s r;
+    goes = λ t g s same r. rightly_goes t g s (λ p at. subst (Rightly s.resources t) (sym (same p)) (blocked_at s t p.blocked (ap blocked_in at) r)) r;
+    blocked = λ t c p s free may r. rightly_goes t (blocking (Some (blocked_from (now_of (claims t (ring_given c) s.control)) c p))) (controlled (claims t (ring_given c)) s) (λ x at. may.rightly) (rightly_claimed t (ring_given c) s r);
+    waits_on = λ t w b s at r. rightly_goes t (blocking (Some (record b { written = w }))) s (λ p here. blocked_at s t (Some b) at r) r;
+    stopped = λ t s r. rightly_stopped t s r;
+    told = λ m s may r. rightly_told m s may r;
+  }
+
+  rightly_start : (f : P → Functions S H) (g : Given P) → AreRightly (start f g)
+  unfolding start
+  rightly_start f g t = put_by (λ (o : Option (Progress S)). Rightly (start f g).resources t (blocked_in o)) (λ u. None) main _ t (λ here. tt) (λ other. tt)
+
+  pub run_rightly : (f : P → Functions S H) (g : Given P) (i : ℕ) → AllWaitRightly (run f g i).state
+  run_rightly f g i t b at = blocked_at (run f g i).state t (Some b) at (run_keeps f AreRightly (rightly_kept f) g (rightly_start f g) i)
