@@ -15,6 +15,7 @@ pub mod Waiting
 pub mod Alone
 pub mod Circles
 pub mod Claimed
+pub mod Refusing
 pub mod Awaits
 pub mod Claims
 pub mod Walk

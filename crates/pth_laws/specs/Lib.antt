@@ -11,3 +11,4 @@ pub mod Waits
 pub mod Priorities
 pub mod Holders
 pub mod Rings
+pub mod Refusals

@@ -11,5 +11,6 @@ pub mod destructors;
 pub mod exclusive;
 pub mod initialised;
 pub mod orderly;
+pub mod refusals;
 pub mod runs;
 pub mod states;
