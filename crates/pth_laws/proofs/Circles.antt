@@ -8,9 +8,11 @@ use Rattle.pth_base.specs.declared.event.EventSpec.{EventSpec}
 use Rattle.pth_base.specs.declared.ids.Tid.{Tid}
 use Rattle.pth_base.proofs.Tables.{put_by, put_here, put_other, same_self, not_same}
 use Rattle.pth_ring.specs.declared.event.Event.{Event}
-use Rattle.pth_ring.specs.Ring.{StandsIn, NoneTwice, ring_holds, from, before, turned, circle, rest_of}
+use Rattle.pth_base.specs.Chain.{StandsIn, Distinct}
+use Rattle.pth_ring.specs.Ring.{ring_holds, from, before, turned, circle, rest_of}
 use Rattle.pth_ring.specs.Rings.{Events, pending, is_event, is_claimed, has_claim, ring_refusal, concat_refusal, alone, chained, concatenated, isolated, freed, ring_freed}
-use Rattle.pth_ring.proofs.Lists.{has_or_not, ring_holds-in, StandsIn-append_left, StandsIn-append_right, StandsIn-append_cases, distinct-apart, distinct-join, distinct-turn}
+use Rattle.pth_base.proofs.Chains.{stands_or_not, StandsIn-append_left, StandsIn-append_right, StandsIn-append_cases, distinct-apart, distinct-join, distinct-turn}
+use Rattle.pth_ring.proofs.Lists.{ring_holds-in}
 use Rattle.pth_ring.proofs.Turns.{split, turned-is, StandsIn-turned, StandsIn-unturned, circle-in, circle-out, each-in, each-out}
 use Rattle.pth_model.specs.RingWaits.{claimant, claimant_by}
 use Rattle.pth_laws.proofs.Living.{true_false}
@@ -19,10 +21,10 @@ use Rattle.pth_laws.proofs.Along.{Arrangement, Alone, Chained, Joined, Isolated,
 
 -- ---- lists
 
-pub turned_once : (e : ℕ) (xs : List ℕ) → StandsIn e xs → NoneTwice xs → NoneTwice (turned e xs)
+pub turned_once : (e : ℕ) (xs : List ℕ) → StandsIn e xs → Distinct xs → Distinct (turned e xs)
 turned_once e xs h once =
     let s = split e xs h in
-    subst NoneTwice (sym (turned-is e xs s)) (distinct-turn s.front (e ∷ s.back) (subst NoneTwice s.is once))
+    subst Distinct (sym (turned-is e xs s)) (distinct-turn s.front (e ∷ s.back) (subst Distinct s.is once))
 
 from_at : (g : ℕ) (p q : List ℕ) → (StandsIn g p → ⊥) → from g (p ++ g ∷ q) ≡ g ∷ q
 from_at g [] q out = rw (same_self g) refl
@@ -37,7 +39,7 @@ unfolding turned
 turned_at g p q out = ap₂ (λ (a b : List ℕ). a ++ b) (from_at g p q out) (before_at g p q out)
 
 -- where two lists have no number in common, and none twice, it is the same which comes first
-turned_swapped : (g : ℕ) (a b : List ℕ) → NoneTwice (a ++ b) → StandsIn g a → turned g (b ++ a) ≡ turned g (a ++ b)
+turned_swapped : (g : ℕ) (a b : List ℕ) → Distinct (a ++ b) → StandsIn g a → turned g (b ++ a) ≡ turned g (a ++ b)
 turned_swapped g a b once h =
     let s = split g a h in
     let p = s.front in
@@ -45,18 +47,18 @@ turned_swapped g a b once h =
     let apart : (x : ℕ) → StandsIn x a → (y : ℕ) → StandsIn y b → x ≢ y = distinct-apart a b once in
     let out_b : StandsIn g b → ⊥ = λ k. apart g h g k refl in
     let left : a ++ b ≡ p ++ g ∷ (q ++ b) = ap (λ (l : List ℕ). l ++ b) s.is ∙ append_assoc p (g ∷ q) b in
-    let once_left : NoneTwice (p ++ g ∷ (q ++ b)) = subst NoneTwice left once in
+    let once_left : Distinct (p ++ g ∷ (q ++ b)) = subst Distinct left once in
     let out_p : StandsIn g p → ⊥ = λ k. distinct-apart p (g ∷ (q ++ b)) once_left g k g (inl refl) refl in
     let right : b ++ a ≡ (b ++ p) ++ g ∷ q = ap (λ (l : List ℕ). b ++ l) s.is ∙ sym (append_assoc b p (g ∷ q)) in
     let out_bp : StandsIn g (b ++ p) → ⊥ = λ k. elim (StandsIn-append_cases g b p k) [ inl i ↦ out_b i | inr i ↦ out_p i ] in
     ap (turned g) right ∙ turned_at g (b ++ p) q out_bp ∙ ap (λ (l : List ℕ). g ∷ l) (sym (append_assoc q b p)) ∙ sym (turned_at g p (q ++ b) out_p) ∙ ap (turned g) (sym left)
 
-pub turned_again : (e g : ℕ) (xs : List ℕ) → NoneTwice xs → StandsIn e xs → StandsIn g xs → turned g (turned e xs) ≡ turned g xs
+pub turned_again : (e g : ℕ) (xs : List ℕ) → Distinct xs → StandsIn e xs → StandsIn g xs → turned g (turned e xs) ≡ turned g xs
 turned_again e g xs once h k =
     let s = split e xs h in
     let a = s.front in
     let b = e ∷ s.back in
-    let once_ab : NoneTwice (a ++ b) = subst NoneTwice s.is once in
+    let once_ab : Distinct (a ++ b) = subst Distinct s.is once in
     ap (turned g) (turned-is e xs s)
     ∙ elim (StandsIn-append_cases g a b (subst (StandsIn g) s.is k)) [
       | inl i ↦ turned_swapped g a b once_ab i
@@ -72,7 +74,7 @@ pub record AreCircles (x : Events) : Type 0 where
   pub own : (e g : ℕ) → StandsIn g (x.rings e) → StandsIn e (x.rings e)
   -- the ring of another event of a ring is this ring, read from that event on
   pub turns : (e g : ℕ) → StandsIn g (x.rings e) → x.rings g ≡ turned g (x.rings e)
-  pub once : (e : ℕ) → NoneTwice (x.rings e)
+  pub once : (e : ℕ) → Distinct (x.rings e)
   -- who stands in a ring was made
   pub low : (e g : ℕ) → StandsIn g (x.rings e) → g ≤ x.made
 
@@ -85,7 +87,7 @@ pub record IsSame (x y : Events) (e : ℕ) : Type 0 where
 -- it is one of these alone, which no thread claims
 pub record IsFresh (x y : Events) (e : ℕ) : Type 0 where
   pub members : List ℕ
-  pub once : NoneTwice members
+  pub once : Distinct members
   pub within : StandsIn e members
   pub turns : (g : ℕ) → StandsIn g members → y.rings g ≡ turned g members
   pub low : (g : ℕ) → StandsIn g members → g ≤ y.made
@@ -99,7 +101,7 @@ pub record IsGone (x y : Events) (e : ℕ) : Type 0 where
 abbrev pub Comes : Events → Events → ℕ → Type 0
 Comes x y e = IsSame x y e ⊎ (IsFresh x y e ⊎ IsGone x y e)
 
-none_twice : NoneTwice []
+none_twice : Distinct []
 none_twice = tt
 
 pub circles_come : (x y : Events) → AreCircles x → x.made ≤ y.made → ((e : ℕ) → Comes x y e) → AreCircles y
@@ -126,10 +128,10 @@ circles_come x y c more comes = record { here = λ e h. here_by e h (comes e); o
     turns_by e g h (inr (inl s)) = let k = inside e g s h in s.turns g k ∙ sym (turned_again e g s.members s.once s.within k) ∙ ap (turned g) (sym (s.turns e s.within))
     turns_by e g h (inr (inr s)) = absurd (nowhere g (y.rings e) s.ring h)
 
-    once_by : (e : ℕ) → Comes x y e → NoneTwice (y.rings e)
-    once_by e (inl s) = subst NoneTwice (sym s.ring) (c.once e)
-    once_by e (inr (inl s)) = subst NoneTwice (sym (s.turns e s.within)) (turned_once e s.members s.within s.once)
-    once_by e (inr (inr s)) = subst NoneTwice (sym s.ring) none_twice
+    once_by : (e : ℕ) → Comes x y e → Distinct (y.rings e)
+    once_by e (inl s) = subst Distinct (sym s.ring) (c.once e)
+    once_by e (inr (inl s)) = subst Distinct (sym (s.turns e s.within)) (turned_once e s.members s.within s.once)
+    once_by e (inr (inr s)) = subst Distinct (sym s.ring) none_twice
 
     low_by : (e g : ℕ) → StandsIn g (y.rings e) → Comes x y e → g ≤ y.made
     low_by e g h (inl s) = let k = c.low e g (subst (StandsIn g) s.ring h) in omega (arith, k, more)
@@ -185,8 +187,8 @@ module _ (x : Events) (c : AreCircles x) where
   begins : (e : ℕ) → StandsIn e (x.rings e) → x.rings e ≡ e ∷ rest_of (x.rings e)
   begins e h = let s = split e (x.rings e) h in let is = c.turns e e h ∙ turned-is e (x.rings e) s in is ∙ ap (λ (l : List ℕ). e ∷ rest_of l) (sym is)
 
-  rest_once : (e : ℕ) → StandsIn e (x.rings e) → ((y : ℕ) → StandsIn y (rest_of (x.rings e)) → y ≢ e) × NoneTwice (rest_of (x.rings e))
-  rest_once e h = let once : NoneTwice (e ∷ rest_of (x.rings e)) = subst NoneTwice (begins e h) (c.once e) in (once.0, once.1)
+  rest_once : (e : ℕ) → StandsIn e (x.rings e) → ((y : ℕ) → StandsIn y (rest_of (x.rings e)) → y ≢ e) × Distinct (rest_of (x.rings e))
+  rest_once e h = let once : Distinct (e ∷ rest_of (x.rings e)) = subst Distinct (begins e h) (c.once e) in (once.0, once.1)
 
   in_rest : (e g : ℕ) → StandsIn e (x.rings e) → StandsIn g (rest_of (x.rings e)) → StandsIn g (x.rings e)
   in_rest e g h k = subst (StandsIn g) (sym (begins e h)) (inr k)
@@ -247,7 +249,7 @@ module _ (x : Events) (c : AreCircles x) where
     own_a = c.here a there
 
     chained_comes : (spec : EventSpec) (e : ℕ) → Comes x (chained spec a x) e
-    chained_comes spec e = elim (has_or_not e (x.rings a ++ (x.made + 1) ∷ [])) [
+    chained_comes spec e = elim (stands_or_not e (x.rings a ++ (x.made + 1) ∷ [])) [
       | inl within ↦ inr (inl (record {
         members = x.rings a ++ (x.made + 1) ∷ [];
         once = distinct-join (x.rings a) ((x.made + 1) ∷ []) (c.once a) ((λ y h. absurd h), none_twice) (λ i h j k same. not_both i j h k same);
@@ -289,7 +291,7 @@ module _ (x : Events) (c : AreCircles x) where
         low = λ g h. is_low g h;
         unclaimed = unclaimed_in x a e free (subst (λ (i : ℕ). StandsIn i (x.rings a)) (sym own) own_a);
       }))
-      | inr other ↦ by_rest other (has_or_not e (rest_of (x.rings a)))
+      | inr other ↦ by_rest other (stands_or_not e (rest_of (x.rings a)))
     ]
       where
         is_low : (g : ℕ) → StandsIn g (a ∷ []) → g ≤ x.made
@@ -322,7 +324,7 @@ module _ (x : Events) (c : AreCircles x) where
         ring = ap (put (circle (rest_of (x.rings a)) x.rings) a []) own ∙ put_here (circle (rest_of (x.rings a)) x.rings) a [];
         no_event = ap (λ (i : ℕ). is_some (put x.events a None i)) own ∙ ap is_some (put_here x.events a None);
       }))
-      | inr other ↦ by_rest other (has_or_not e (rest_of (x.rings a)))
+      | inr other ↦ by_rest other (stands_or_not e (rest_of (x.rings a)))
     ]
       where
         outside : (g : ℕ) → (StandsIn g (x.rings a) → ⊥) → put (circle (rest_of (x.rings a)) x.rings) a [] g ≡ x.rings g
@@ -342,7 +344,7 @@ module _ (x : Events) (c : AreCircles x) where
             inl (record { ring = outside e out_a; mates = λ g h. outside g (λ k. apart a e g out_a h k); there = λ h. ap is_some (sym (put_other x.events a None e other)) ∙ h })
 
     ring_freed_comes : (e : ℕ) → Comes x (ring_freed a x) e
-    ring_freed_comes e = elim (has_or_not e (x.rings a)) [
+    ring_freed_comes e = elim (stands_or_not e (x.rings a)) [
       | inl within ↦ inr (inr (record { ring = each-in (x.rings a) (λ (l : List ℕ). []) x.rings e within; no_event = ap is_some (each-in (x.rings a) (λ (o : Option Event). None) x.events e within) }))
       | inr out ↦ inl (record {
         ring = each-out (x.rings a) (λ (l : List ℕ). []) x.rings e out;
@@ -357,13 +359,13 @@ module _ (x : Events) (c : AreCircles x) where
     freed_claims e = put_by (λ o. claimant_by o ≡ claimant x e) x.events a None e (λ here. sym (unclaimed_in x a a free own_a) ∙ ap (claimant x) (sym here)) (λ other. refl)
 
     ring_freed_claims : (e : ℕ) → claimant (ring_freed a x) e ≡ claimant x e
-    ring_freed_claims e = elim (has_or_not e (x.rings a)) [
+    ring_freed_claims e = elim (stands_or_not e (x.rings a)) [
       | inl within ↦ ap claimant_by (each-in (x.rings a) (λ (o : Option Event). None) x.events e within) ∙ sym (unclaimed_in x a e free within)
       | inr out ↦ ap claimant_by (each-out (x.rings a) (λ (o : Option Event). None) x.events e out)
     ]
 
   joined_comes : (a b : ℕ) → concat_refusal x a b ≡ None → (e : ℕ) → Comes x (concatenated a b x) e
-  joined_comes a b may e = elim (has_or_not e (x.rings a ++ x.rings b)) [
+  joined_comes a b may e = elim (stands_or_not e (x.rings a ++ x.rings b)) [
     | inl within ↦ inr (inl (record {
       members = x.rings a ++ x.rings b;
       once = distinct-join (x.rings a) (x.rings b) (c.once a) (c.once b) (λ i h j k same. apart b a i out_b h (subst (λ (n : ℕ). StandsIn n (x.rings b)) (sym same) k));

@@ -8,9 +8,11 @@ use Rattle.pth_base.specs.declared.ids.Tid.{Tid}
 use Rattle.pth_base.proofs.Tables.{put_by, put_here, put_other, same_means}
 use Rattle.pth_numbered.specs.Operands.{number}
 use Rattle.pth_ring.specs.declared.event.Event.{Event}
-use Rattle.pth_ring.specs.Ring.{StandsIn, NoneTwice, ring_holds, turned, each}
+use Rattle.pth_base.specs.Chain.{StandsIn, Distinct}
+use Rattle.pth_ring.specs.Ring.{ring_holds, turned, each}
 use Rattle.pth_ring.specs.Rings.{Events, is_event, is_claimed, with_claim, with_event, ring_awaited, awaited, claimed, all_unclaimed}
-use Rattle.pth_ring.proofs.Lists.{has_or_not, ring_holds-in, ring_holds-out}
+use Rattle.pth_base.proofs.Chains.{stands_or_not}
+use Rattle.pth_ring.proofs.Lists.{ring_holds-in, ring_holds-out}
 use Rattle.pth_ring.proofs.Turns.{StandsIn-turned}
 use Rattle.pth_threads.specs.declared.entry.Change as change_of_record
 use Rattle.pth_model.specs.declared.blocked.Blocked.{Blocked}
@@ -60,7 +62,7 @@ circles_as x y rings made same c =
       here = λ e h. subst (StandsIn e) (sym (at e)) (c.here e (sym (same e) ∙ h));
       own = λ e g h. subst (StandsIn e) (sym (at e)) (c.own e g (subst (StandsIn g) (at e) h));
       turns = λ e g h. subst (λ (r : ℕ → List ℕ). r g ≡ turned g (r e)) (sym rings) (c.turns e g (subst (StandsIn g) (at e) h));
-      once = λ e. subst NoneTwice (sym (at e)) (c.once e);
+      once = λ e. subst Distinct (sym (at e)) (c.once e);
       low = λ e g h. subst (λ (n : ℕ). g ≤ n) (sym made) (c.low e g (subst (StandsIn g) (at e) h));
     }
 
@@ -187,7 +189,7 @@ module _ (x : Events) (waits : ℕ → Option ℕ) (r : Fits x waits) where
 
 -- a test is what stands in a list
 stands : (g : ℕ) (xs : List ℕ) → ring_holds g xs ≡ true → StandsIn g xs
-stands g xs h = elim (has_or_not g xs) [ inl k ↦ k | inr out ↦ absurd (true_false (sym h ∙ ring_holds-out g xs out)) ]
+stands g xs h = elim (stands_or_not g xs) [ inl k ↦ k | inr out ↦ absurd (true_false (sym h ∙ ring_holds-out g xs out)) ]
 
 -- ---- states
 

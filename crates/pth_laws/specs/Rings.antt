@@ -1,6 +1,7 @@
 -- Rings of events, and the claims of threads that wait for them (pth_wait, and the calls that are given a ring beside).
 use Rattle.std.specs.Prelude.{◌≡◌, ℕ, true, Some}
-use Rattle.pth_ring.specs.Ring.{NoneTwice, ring_holds, turned}
+use Rattle.pth_base.specs.Chain.{Distinct}
+use Rattle.pth_ring.specs.Ring.{ring_holds, turned}
 use Rattle.pth_ring.specs.Rings.{is_event}
 use Rattle.pth_model.specs.Changes.{blocked_of}
 use Rattle.pth_model.specs.RingWaits.{claimant}
@@ -19,6 +20,6 @@ pub record AreRingsCircles {P S H : Type 0} (s : State P S H) : Type 0 where
   -- an event stands in its ring
   pub own : (e : ℕ) → is_event s.control.events e ≡ true → ring_holds e (s.control.events.rings e) ≡ true
   -- nothing stands in a ring twice
-  pub once : (e : ℕ) → NoneTwice (s.control.events.rings e)
+  pub once : (e : ℕ) → Distinct (s.control.events.rings e)
   -- the ring of another event of a ring is this ring, read from that event on
   pub rotated : (e g : ℕ) → ring_holds g (s.control.events.rings e) ≡ true → s.control.events.rings g ≡ turned g (s.control.events.rings e)
