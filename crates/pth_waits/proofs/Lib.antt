@@ -12,3 +12,9 @@ pub mod Unchanged
 pub mod IoCalls
 pub mod Canceling
 pub mod Takes
+pub mod Arrivals
+pub mod Dormancy
+pub mod Kernels
+pub mod Rounding
+pub mod Standing
+pub mod Untaken

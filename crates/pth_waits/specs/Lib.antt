@@ -5,3 +5,4 @@ pub mod Rests
 pub mod Locking
 pub mod Waking
 pub mod Looking
+pub mod Dormant

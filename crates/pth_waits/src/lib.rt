@@ -12,6 +12,7 @@
 
 pub mod blocks;
 pub mod cancellation;
+pub mod dormant;
 pub mod io;
 pub mod joins;
 pub mod library_ends;

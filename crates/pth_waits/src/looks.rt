@@ -40,8 +40,8 @@ fn has_goal(goals: u8, goal: u8) -> bool
     goals >> goal & 1 == 1
 }
 
-// Whether a descriptor is as one of these goals says.
-fn is_as_goals_say(k: &Kernel, goals: u8, fd: i64) -> bool
+/// Whether a descriptor is as one of these goals says.
+pub(crate) fn is_as_goals_say(k: &Kernel, goals: u8, fd: i64) -> bool
     ensures { result ≡ ((contains goals 0 && is_readable (kernel_of k.now) (fd_named fd)) || (contains goals 1 && is_writeable (kernel_of k.now) (fd_named fd)) || (contains goals 2 && is_exceptional (kernel_of k.now) (fd_named fd))) }
 {
     has_goal(goals, 0) && k.readable(fd)

@@ -1,0 +1,87 @@
+-- Until the next arrival, what descriptors bring stays away, and events of descriptors stay pending.
+use Rattle.std.proofs.Common.{◌≡◌, ◌∙◌, ℕ, ◌+◌, ◌<◌, ◌≤◌, ◌&&◌, ◌||◌, not, min, nat_le, Bool, true, false, if◌then◌else◌, ℤ, List, map, All, Option, Some, None, refl, sym, ap, subst, arith}
+use Rattle.std.proofs.lemmas.Bool.Decides.{nat_tests}
+use Rattle.pth_base.specs.Limits.{last_moment}
+use Rattle.pth_base.specs.Descriptors.{contains}
+use Rattle.pth_base.specs.declared.event.EventSpec.{EventSpec}
+use Rattle.pth_base.specs.declared.ids.FdSet.{FdSet}
+use Rattle.pth_base.specs.declared.event.EventSpec.TheVariants as of
+use Rattle.pth_kernel.specs.declared.trace.Stamp.{Stamp}
+use Rattle.pth_kernel.specs.Kernel.{Kernel, advanced, arrival_times, next_time, fd_named, is_fd_live, is_readable, is_writeable, is_exceptional}
+use Rattle.pth_kernel.specs.Moments.{least_after}
+use Rattle.pth_io.specs.Attempts.{are_all_live, is_any_ready, is_past}
+use Rattle.pth_ring.specs.declared.event.Status.{Status}
+use Rattle.pth_ring.specs.declared.event.Status.TheVariants.{Pending, Occurred, Failed}
+use Rattle.pth_model.specs.declared.awaits.Awaits.{Awaits}
+use Rattle.pth_model.specs.declared.awaits.Awaits.TheVariants.{Nothing, Alone, Death, AnyDeath, Moment, Ring, Reading, Writing, Connection, ConnectAnswer, Selection, Mutex, Lock}
+use Rattle.pth_model.specs.State.{Control, now_of}
+use Rattle.pth_model.specs.Changes.{moves_to}
+use Rattle.pth_model.specs.Looks.{found}
+use Rattle.pth_model.specs.Resources.{Store}
+use Rattle.pth_waits.specs.Io.{wakes_for}
+use Rattle.pth_waits.specs.Dormant.{IsFoundPending, StaysAway, bound, deadline_in}
+use Rattle.pth_waits.specs.Waking.{has_come}
+use Rattle.pth_waits.proofs.Kernels.{IsSame, HasNoDeadline, all_still, any_still, exceptional_still, readable_still, wakes_still, writeable_still}
+
+module _ {P S H : Type 0} (k : Control P S H) (until : ℕ) (soon : until ≤ bound (next_time k.kernel)) (within : until ≤ last_moment + 1) where
+  pub still : (n : ℕ) → now_of k ≤ n → n < until → All (IsSame (now_of k) n) k.kernel.trace
+  still n later early = all_still (now_of k) n later (omega arith) k.kernel.trace (omega arith)
+
+  -- an event of descriptors
+  pub fd_pending : (goals : ℕ) (fd : ℤ) → found k (of.Fd goals fd) ≡ Pending → IsFoundPending k until (of.Fd goals fd)
+  fd_pending goals fd is = λ n later early.
+      let all = still n later early in
+      rw (readable_still k.kernel n all (fd_named fd), writeable_still k.kernel n all (fd_named fd), exceptional_still k.kernel n all (fd_named fd)) is
+
+  pub select_pending : (r w y : FdSet) → found k (of.Select r w y) ≡ Pending → IsFoundPending k until (of.Select r w y)
+  select_pending r w y is = λ n later early. rw (any_still k.kernel n (still n later early) r.0 w.0 y.0) is
+
+  -- a deadline that has not come, and does not come before
+  pub no_deadline : (n m : ℕ) → now_of k ≤ n → n < m → is_past (advanced n k.kernel) (Some m) ≡ is_past k.kernel (Some m)
+  no_deadline n m later early = grind (arith, nat_tests)
+
+  pub descriptors_away : (n : ℕ) (a : Awaits) → (later : now_of k ≤ n) → (early : n < until) → HasNoDeadline k.kernel n (still n later early) a → wakes_for k.kernel a ≡ false → wakes_for (moves_to n k).kernel a ≡ false
+  descriptors_away n a later early deadline is = wakes_still k.kernel n (still n later early) a deadline ∙ is
+
+-- by the least of the next arrival and the deadline
+module _ (k : Kernel) (a : Awaits) (is : wakes_for k a ≡ false) (arrival until : ℕ) (soon : arrival ≤ bound (next_time k)) (within : arrival ≤ last_moment + 1) (least : until ≡ min arrival (deadline_in a)) where
+  all_at : (n : ℕ) → k.now ≤ n → n < until → All (IsSame k.now n) k.trace
+  all_at n later early = all_still k.now n later (omega (arith, least)) k.trace (omega (arith, least))
+
+  past_by : (n m : ℕ) → k.now ≤ n → n < m → is_past (advanced n k) (Some m) ≡ is_past k (Some m)
+  past_by n m later early = grind (arith, nat_tests)
+
+  no_deadline_by : (n : ℕ) (later : k.now ≤ n) (early : n < until) → (b : Awaits) → n < deadline_in b → HasNoDeadline k n (all_at n later early) b
+  no_deadline_by n later early (Selection r w x (Some m)) h = past_by n m later h
+  no_deadline_by n later early (Selection r w x None) h = refl
+  no_deadline_by n later early b h = tt
+
+  pub until_deadline : (n : ℕ) → k.now ≤ n → n < until → wakes_for (advanced n k) a ≡ false
+  until_deadline n later early = wakes_still k n (all_at n later early) a (no_deadline_by n later early a (omega (arith, least))) ∙ is
+
+-- what stays away that is awaited at descriptors
+pub descriptors_stay : {P S H : Type 0} (x : Store) (k : Control P S H) (until t : ℕ) (a : Awaits) → (a ≡ Alone → ⊥) → (a ≡ AnyDeath → ⊥) → ((n : ℤ) → a ≡ Death n → ⊥) → ((m : ℕ) → a ≡ Moment m → ⊥) → ((m : ℤ) → a ≡ Mutex m → ⊥) → ((l : ℤ) (write : Bool) → a ≡ Lock l write → ⊥)
+    → (z : Kernel) → k.kernel ≡ z → ((n : ℕ) → z.now ≤ n → n < until → wakes_for (advanced n z) a ≡ false) → StaysAway x k until t a
+descriptors_stay x k until t Alone a b c d e f z is away = absurd (a refl)
+descriptors_stay x k until t AnyDeath a b c d e f z is away = absurd (b refl)
+descriptors_stay x k until t (Death n) a b c d e f z is away = absurd (c n refl)
+descriptors_stay x k until t (Moment m) a b c d e f z is away = absurd (d m refl)
+descriptors_stay x k until t (Mutex m) a b c d e f z is away = absurd (e m refl)
+descriptors_stay x k until t (Lock l write) a b c d e f z is away = absurd (f l write refl)
+descriptors_stay x k until t Nothing a b c d e f z is away = λ n l h. refl
+descriptors_stay x k until t (Ring r) a b c d e f z is away = λ n l h. refl
+descriptors_stay x k until t o a b c d e f z is away = subst (λ (y : Kernel). (n : ℕ) → y.now ≤ n → n < until → wakes_for (advanced n y) o ≡ false) (sym is) away
+
+found_by : (live occurs : Bool) → live ≡ true → occurs ≡ false → (if not live then Failed else (if occurs then Occurred else Pending)) ≡ Pending
+found_by live occurs a b = rw (a, b) refl
+
+-- an event of descriptors is found pending where none is gone, and none is as it says
+module _ {P S H : Type 0} (k : Control P S H) (until : ℕ) (z : Kernel) (is : k.kernel ≡ z) (soon : until ≤ bound (next_time z)) (within : until ≤ last_moment + 1) where
+  soon_here : until ≤ bound (next_time k.kernel)
+  soon_here = subst (λ (y : Kernel). until ≤ bound (next_time y)) (sym is) soon
+
+  pub fd_waits : (goals : ℕ) (fd : ℤ) → is_fd_live z (fd_named fd) ≡ true → ((contains goals 0 && is_readable z (fd_named fd)) || (contains goals 1 && is_writeable z (fd_named fd)) || (contains goals 2 && is_exceptional z (fd_named fd))) ≡ false → IsFoundPending k until (of.Fd goals fd)
+  fd_waits goals fd live none = fd_pending k until soon_here within goals fd (subst (λ (y : Kernel). found (record k { kernel = y }) (of.Fd goals fd) ≡ Pending) (sym is) (found_by _ _ live none))
+
+  pub select_waits : (r w y : FdSet) → are_all_live z r.0 w.0 y.0 ≡ true → is_any_ready z r.0 w.0 y.0 ≡ false → IsFoundPending k until (of.Select r w y)
+  select_waits r w y live none = select_pending k until soon_here within r w y (subst (λ (q : Kernel). found (record k { kernel = q }) (of.Select r w y) ≡ Pending) (sym is) (found_by _ _ live none))

@@ -1,0 +1,165 @@
+-- What keeps threads dormant, and what dormant threads leave of a pass.
+use Rattle.std.proofs.Common.{◌≡◌, ◌≢◌, ◌∙◌, ℕ, ◌==◌, ◌<◌, ◌≤◌, ◌||◌, ◌&&◌, not, min, nat_le, Bool, true, false, cond, ℤ, List, [], ◌∷◌, ◌++◌, filter, flat_map, Option, Some, None, option_map, All, refl, sym, ap, ap₂, subst, arith}
+use Rattle.std.proofs.lemmas.Bool.Decides.{nat_tests}
+use Rattle.std.specs.List.{list_any}
+use Rattle.std.proofs.lemmas.List.Elements.{All-head, All-tail, All-weaker, All-append, All-cons, All-nil}
+use mathlib.Core.Path.{fun_ext}
+use Rattle.pth_ring.specs.declared.event.Event.{Event}
+use Rattle.pth_ring.specs.declared.event.Status.TheVariants.{Pending}
+use Rattle.pth_ring.specs.Ring.{each, ring_holds}
+use Rattle.pth_ring.specs.Rings.{Events, is_pending, with_status}
+use Rattle.pth_base.specs.declared.event.EventSpec.{EventSpec}
+use Rattle.pth_kernel.specs.Kernel.{Kernel, advanced}
+use Rattle.pth_model.specs.declared.blocked.Blocked.{Blocked}
+use Rattle.pth_model.specs.declared.awaits.Awaits.{Awaits}
+use Rattle.pth_model.specs.declared.awaits.Awaits.TheVariants.{Nothing, Alone, Death, AnyDeath, Moment, Ring, Reading, Writing, Connection, ConnectAnswer, Selection, Mutex, Lock}
+use Rattle.pth_model.specs.State.{Control, State, now_of, main}
+use Rattle.pth_model.specs.declared.awaits.Awaited.{Awaited}
+use Rattle.pth_numbered.specs.Operands.{number}
+use Rattle.pth_model.specs.Awaits.{awaits_in, awaited_in}
+use Rattle.pth_model.specs.Cancellation.{may_be_canceled}
+use Rattle.pth_model.specs.Changes.{blocked_of, entry_of, moves_to}
+use Rattle.pth_model.specs.Looks.{comes, found, looked_at, looks_at}
+use Rattle.pth_model.specs.Pass.{is_come_for, looks, waiting}
+use Rattle.pth_model.specs.Resources.{Store}
+use Rattle.pth_model.specs.RingWaits.{awaited_events, events_from, ring_held}
+use Rattle.pth_model.specs.ThreadEnds.{is_alone}
+use Rattle.pth_waits.specs.Waking.{has_any_died, has_come, has_died, has_its_due, is_due}
+use Rattle.pth_waits.specs.Io.{wakes_for}
+use Rattle.pth_waits.specs.Dormant.{ArePending, FindsPending, IsDormant, StaysAway, StaysPending, is_left_to_join}
+
+-- ---- at a moment before, a dormant thread is not to wake
+
+module _ {P S H : Type 0} (x : Store) (k : Control P S H) (until : ℕ) (early : now_of k < until) where
+  away_now : (t : ℕ) (a : Awaits) → is_alone k main ≡ false → (((u : ℕ) → is_left_to_join (entry_of k u) ≡ false) → has_any_died k ≡ false) → StaysAway x k until t a → has_come x k t a ≡ false
+  away_now t Alone alone none away = rw away alone
+  away_now t AnyDeath alone none away = none away
+  away_now t a alone none away = away (now_of k) (omega arith) early
+
+  found_now : (o : Option Event) → StaysPending k until o → comes k o ≡ false
+  found_now None s = refl
+  found_now (Some v) s = rw (s.1 (now_of k) (omega arith) early) refl
+
+  none_come : (es : List ℕ) → All (λ e. StaysPending k until (k.events.events e)) es → list_any (λ e. comes k (k.events.events e)) es ≡ false
+  none_come [] all = refl
+  none_come (e ∷ es) all =
+      let here = found_now (k.events.events e) (All-head (λ i. StaysPending k until (k.events.events i)) e es all) in
+      rw here (none_come es (All-tail (λ i. StaysPending k until (k.events.events i)) e es all))
+
+  both_false : (a b c : Bool) → a ≡ false → b ≡ false → c ≡ false → ((a || b) || c) ≡ false
+  both_false a b c h i j = rw (h, i, j) refl
+
+  -- where main is not alone, and no thread is left to join if no record is that of one
+  pub dormant_not_due : (t : ℕ) → is_alone k main ≡ false → (((u : ℕ) → is_left_to_join (entry_of k u) ≡ false) → has_any_died k ≡ false) → IsDormant x k until t → is_due x k t ≡ false
+  unfolding is_come_for
+  dormant_not_due t alone none q = both_false _ _ _ (away_now t _ alone none q.away) (none_come _ q.pending) q.unasked
+
+  -- and a look at its events finds what was found before
+  pub looked_same : (o : Option Event) → StaysPending k until o → option_map (looked_at k) o ≡ o
+  looked_same None s = refl
+  looked_same (Some v) s = rw (s.1 (now_of k) (omega arith) early) (ap (λ st. Some (with_status st v)) (sym s.0))
+
+-- ---- what keeps a thread dormant
+
+-- Of t and of what it may wait for all is as it was, but that time went on: what is not dead still lives, and can be joined.
+module _ {P S H : Type 0} where
+  pub record KeepsDormant (x : Store) (k : Control P S H) (y : Store) (j : Control P S H) (t : ℕ) : Type 0 where
+    pub now : ℕ
+    pub later : now_of k ≤ now
+    pub kernel : j.kernel ≡ advanced now k.kernel
+    pub events : j.events ≡ k.events
+    pub mutexes : y.mutexes ≡ x.mutexes
+    pub locks : y.rw_locks ≡ x.rw_locks
+    pub blocked : blocked_of j t ≡ blocked_of k t
+    pub died : (n : ℤ) → has_died k n ≡ false → has_died j n ≡ false
+    pub left : ((u : ℕ) → is_left_to_join (entry_of k u) ≡ false) → (u : ℕ) → is_left_to_join (entry_of j u) ≡ false
+    pub asked : may_be_canceled k t ≡ false → may_be_canceled j t ≡ false
+
+  module _ (x : Store) (k : Control P S H) (y : Store) (j : Control P S H) (t : ℕ) (same : KeepsDormant x k y j t) (until : ℕ) where
+    -- at each later moment
+    moved_kernel : (n : ℕ) → (moves_to n j).kernel ≡ (moves_to n k).kernel
+    moved_kernel n = ap (advanced n) same.kernel
+
+    onward : (n : ℕ) → now_of j ≤ n → now_of k ≤ n
+    onward n h = (let e : now_of j ≡ same.now = ap (λ (z : Kernel). z.now) same.kernel in let l = same.later in omega arith)
+
+    at_moved : (a : Awaits) (n : ℕ) → wakes_for (moves_to n k).kernel a ≡ false → wakes_for (moves_to n j).kernel a ≡ false
+    at_moved a n is = subst (λ (z : Kernel). wakes_for z a ≡ false) (sym (moved_kernel n)) is
+
+    away_kept : (a : Awaits) → StaysAway x k until t a → StaysAway y j until t a
+    away_kept Alone away = away
+    away_kept AnyDeath away = same.left away
+    away_kept Nothing away = λ n h l. refl
+    away_kept (Death d) away = λ n h l. same.died d (away n (onward n h) l)
+    away_kept (Moment m) away = λ n h l. away n (onward n h) l
+    away_kept (Ring e) away = λ n h l. refl
+    away_kept (Mutex m) away = λ n h l. rw same.mutexes (away n (onward n h) l)
+    away_kept (Lock o write) away = λ n h l. rw same.locks (away n (onward n h) l)
+    away_kept a away = λ n h l. at_moved a n (away n (onward n h) l)
+
+    found_moved : (n : ℕ) (z : EventSpec) → found (moves_to n k) z ≡ Pending → found (moves_to n j) z ≡ Pending
+    found_moved n z is = subst (λ (q : Kernel). found (record j { kernel = q }) z ≡ Pending) (sym (moved_kernel n)) is
+
+    pending_kept : (o : Option Event) → StaysPending k until o → StaysPending j until o
+    pending_kept None s = tt
+    pending_kept (Some v) s = (s.0, λ n h l. found_moved n v.spec (s.1 n (onward n h) l))
+
+    all_pending : (es : List ℕ) → All (λ e. StaysPending k until (k.events.events e)) es → All (λ e. StaysPending j until (j.events.events e)) es
+    all_pending es all = rw same.events (All-weaker (λ e. StaysPending k until (k.events.events e)) (λ e. StaysPending j until (k.events.events e)) (λ e h. pending_kept (k.events.events e) h) es all)
+
+    pub dormant_kept : IsDormant x k until t → IsDormant y j until t
+    dormant_kept q = record {
+      away = subst (λ (o : Option Blocked). StaysAway y j until t (awaits_in o)) (sym same.blocked) (away_kept (awaits_in (blocked_of k t)) q.away);
+      pending = subst (λ (o : Option Blocked). All (λ e. StaysPending j until (j.events.events e)) (events_from j.events (ring_held o))) (sym same.blocked)
+          (subst (λ (z : Events). All (λ e. StaysPending j until (j.events.events e)) (events_from z (ring_held (blocked_of k t)))) (sym same.events) (all_pending (awaited_events k t) q.pending));
+      unasked = same.asked q.unasked;
+    }
+
+  -- and until an earlier moment
+  module _ (k : Control P S H) (until sooner : ℕ) (less : sooner ≤ until) where
+    pub sooner_pending : (o : Option Event) → StaysPending k until o → StaysPending k sooner o
+    sooner_pending None s = tt
+    sooner_pending (Some v) s = (s.0, λ n h l. s.1 n h (omega arith))
+
+    pub sooner_found : (o : Option Event) → FindsPending k until o → FindsPending k sooner o
+    sooner_found None s = tt
+    sooner_found (Some v) s = λ n h l. s n h (omega arith)
+
+  module _ (x : Store) (k : Control P S H) (t until sooner : ℕ) (less : sooner ≤ until) where
+    sooner_away : (a : Awaits) → StaysAway x k until t a → StaysAway x k sooner t a
+    sooner_away Alone away = away
+    sooner_away AnyDeath away = away
+    sooner_away Nothing away = λ n h l. refl
+    sooner_away (Ring e) away = λ n h l. refl
+    sooner_away a away = λ n h l. away n h (omega arith)
+
+    pub dormant_sooner : IsDormant x k until t → IsDormant x k sooner t
+    dormant_sooner q = record {
+      away = sooner_away (awaits_in (blocked_of k t)) q.away;
+      pending = All-weaker (λ e. StaysPending k until (k.events.events e)) (λ e. StaysPending k sooner (k.events.events e)) (λ e h. sooner_pending k until sooner less (k.events.events e) h) (awaited_events k t) q.pending;
+      unasked = q.unasked;
+    }
+
+  -- ---- by what is read of a thread
+
+  module _ (x : Store) (k : Control P S H) (t until : ℕ) (a : Awaited) (is : a ≡ awaited_in (blocked_of k t)) (away : StaysAway x k until t a.what) (unasked : may_be_canceled k t ≡ false) where
+    -- it was given no ring
+    pub dormant_bare : a.ring ≡ None → IsDormant x k until t
+    dormant_bare none =
+        let ring : ring_held (blocked_of k t) ≡ None = ap (λ (b : Awaited). b.ring) (sym is) ∙ none in
+        record {
+          away = subst (λ (b : Awaited). StaysAway x k until t b.what) is away;
+          pending = subst (λ (o : Option ℤ). ArePending k until (events_from k.events o)) (sym ring) (All-nil (λ e. StaysPending k until (k.events.events e)));
+          unasked = unasked;
+        }
+
+    -- it was given a ring
+    pub dormant_beside : (own : ℕ) (e : ℤ) → a.ring ≡ Some e → ArePending k own (k.events.rings (number e)) → IsDormant x k (min until own) t
+    dormant_beside own e some pending =
+        let ring : ring_held (blocked_of k t) ≡ Some e = ap (λ (b : Awaited). b.ring) (sym is) ∙ some in
+        record {
+          away = sooner_away x k t until (min until own) (omega arith) (awaits_in (blocked_of k t)) (subst (λ (b : Awaited). StaysAway x k until t b.what) is away);
+          pending = subst (λ (o : Option ℤ). ArePending k (min until own) (events_from k.events o)) (sym ring)
+              (All-weaker (λ i. StaysPending k own (k.events.events i)) (λ i. StaysPending k (min until own) (k.events.events i)) (λ i h. sooner_pending k own (min until own) (omega arith) (k.events.events i) h) (k.events.rings (number e)) pending);
+          unasked = unasked;
+        }

@@ -1,0 +1,116 @@
+-- The events of a ring are gone over, as long as all would be found pending.
+use Rattle.std.proofs.Common.{◌≡◌, ◌≢◌, ◌∙◌, ℕ, ◌+◌, ◌==◌, ◌<◌, ◌≤◌, ◌++◌, ◌∷◌, not, Bool, true, false, cond, if◌then◌else◌, min, List, [], fold, length, All, Option, Some, None, option_map, inl, refl, sym, ap, subst, append_assoc, append-nil, arith}
+use Rattle.std.proofs.lemmas.List.Elements.{All-append, All-cons, All-head, All-nil, All-tail, All-weaker}
+use Rattle.pth_base.proofs.Tables.{same_self, not_same}
+use Rattle.pth_base.specs.declared.event.EventSpec.{EventSpec}
+use Rattle.pth_numbered.specs.Numbered.{number_at}
+use Rattle.pth_ring.specs.declared.event.Event.{Event}
+use Rattle.pth_ring.specs.declared.event.Status.{Status}
+use Rattle.pth_ring.specs.declared.event.Status.TheVariants.{Pending, Occurred, Failed}
+use Rattle.pth_ring.specs.Arena.{events_of}
+use Rattle.pth_ring.specs.Ring.{StandsIn, RingGoesOn, Begins, from, rest_of}
+use Rattle.pth_ring.specs.Rings.{Events, is_pending, is_settled, settled_in}
+use Rattle.pth_model.specs.State.{Control}
+use Rattle.pth_world.specs.Shows.{Shows}
+use Rattle.pth_world.specs.World.{WorldOf}
+use Rattle.pth_waits.specs.Dormant.{AreFoundPending, ArePending, FindsPending, IsFoundPending, StaysPending}
+use Rattle.pth_waits.proofs.Dormancy.{sooner_found}
+
+module _ {P S H : Type 0} (k : Control P S H) (until : ℕ) where
+  -- by what is kept of an event
+  pub finds_by : (o : Option Event) (spec : EventSpec) → option_map (λ (v : Event). v.spec) o ≡ Some spec → IsFoundPending k until spec → FindsPending k until o
+  finds_by None spec is found = absurd (cc is)
+  finds_by (Some v) spec is found = (let e : spec ≡ v.spec = cc is in subst (IsFoundPending k until) e found)
+
+  -- ---- none of them is settled
+
+  pending_is : (s : Status) → not (is_pending s) ≡ false → s ≡ Pending
+  pending_is Pending h = refl
+  pending_is Occurred h = absurd (cc h)
+  pending_is Failed h = absurd (cc h)
+
+  stays_by : (o : Option Event) → is_settled o ≡ false → FindsPending k until o → StaysPending k until o
+  stays_by None pending finds = tt
+  stays_by (Some v) pending finds = (pending_is v.status pending, finds)
+
+  abbrev counts : ℕ → ℕ → ℕ
+  counts n e = n + cond (is_settled (k.events.events e)) 1 0
+
+  zero_by : (n : ℕ) (b : Bool) → n + cond b 1 0 ≡ 0 → (n ≡ 0) × (b ≡ false)
+  zero_by n true none = absurd (omega (arith, none))
+  zero_by n false none = (omega (arith, none), refl)
+
+  none_counted : (n : ℕ) (es : List ℕ) → fold counts n es ≡ 0 → (n ≡ 0) × All (λ e. is_settled (k.events.events e) ≡ false) es
+  none_counted n [] none = (none, All-nil (λ e. is_settled (k.events.events e) ≡ false))
+  none_counted n (e ∷ es) none =
+      let rest = none_counted (counts n e) es none in
+      let one = zero_by n (is_settled (k.events.events e)) rest.0 in
+      (one.0, All-cons (λ i. is_settled (k.events.events i) ≡ false) e es one.1 rest.1)
+
+  all_stay : (es : List ℕ) → All (λ e. is_settled (k.events.events e) ≡ false) es → AreFoundPending k until es → ArePending k until es
+  all_stay [] none finds = All-nil (λ e. StaysPending k until (k.events.events e))
+  all_stay (e ∷ es) none finds =
+      All-cons (λ i. StaysPending k until (k.events.events i)) e es
+      (stays_by (k.events.events e) (All-head (λ i. is_settled (k.events.events i) ≡ false) e es none) (All-head (λ i. FindsPending k until (k.events.events i)) e es finds))
+      (all_stay es (All-tail (λ i. is_settled (k.events.events i) ≡ false) e es none) (All-tail (λ i. FindsPending k until (k.events.events i)) e es finds))
+
+  pub ring_stays : (e : ℕ) → settled_in k.events e ≡ 0 → AreFoundPending k until (k.events.rings e) → ArePending k until (k.events.rings e)
+  ring_stays e none finds = all_stay (k.events.rings e) (none_counted 0 (k.events.rings e) none).1 finds
+
+-- ---- round a ring
+
+module _ {P S H : Type 0} (w : WorldOf P S H) (e : ℕ) where
+  abbrev ring : List ℕ
+  ring = (events_of w.events).rings e
+
+  -- the events of a ring up to n, which comes next, would be found pending until a moment
+  pub record PendingRound (n until : ℕ) : Type 0 where
+    pub done : List ℕ
+    pub split : ring ≡ done ++ from n ring
+    pub within : StandsIn n ring
+    pub pending : (k : Control P S H) → Shows w k → AreFoundPending k until done
+
+  from_first : (xs : List ℕ) → xs ≡ e ∷ rest_of xs → from e xs ≡ xs
+  from_first xs begins = rw begins (rw (same_self e) refl)
+
+  pub pends_none : (until : ℕ) → Begins ring e → PendingRound e until
+  pends_none until begins = record {
+    done = [];
+    split = sym (from_first ring begins);
+    within = subst (λ (l : List ℕ). StandsIn e l) (sym begins) (inl refl);
+    pending = λ k sh. All-nil (λ i. FindsPending k until (k.events.events i));
+  }
+
+  -- an event of a place, by what the world has of it
+  pub finds_at : (n own : ℕ) (spec : EventSpec) → option_map (λ (v : Event). v.spec) ((events_of w.events).events n) ≡ Some spec → ((k : Control P S H) → Shows w k → IsFoundPending k own spec) → (k : Control P S H) → Shows w k → FindsPending k own (k.events.events n)
+  finds_at n own spec is found k sh = finds_by k own (k.events.events n) spec (ap (λ (y : Events). option_map (λ (v : Event). v.spec) (y.events n)) sh.events ∙ is) (found k sh)
+
+  module _ (n m until own : ℕ) (so_far : PendingRound n until) (here : (k : Control P S H) → Shows w k → FindsPending k own (k.events.events n))
+      (goes_on : (i : ℕ) → StandsIn n ((events_of w.events).rings i) → RingGoesOn ((events_of w.events).rings i) i n m) where
+    goes : RingGoesOn ring e n m
+    goes = goes_on e so_far.within
+
+    more_pending : (k : Control P S H) → Shows w k → AreFoundPending k (min until own) (so_far.done ++ n ∷ [])
+    more_pending k sh =
+        All-append (λ i. FindsPending k (min until own) (k.events.events i)) so_far.done (n ∷ [])
+        (All-weaker (λ i. FindsPending k until (k.events.events i)) (λ i. FindsPending k (min until own) (k.events.events i)) (λ i h. sooner_found k until (min until own) (omega arith) (k.events.events i) h) so_far.done (so_far.pending k sh))
+        (All-cons (λ i. FindsPending k (min until own) (k.events.events i)) n [] (sooner_found k own (min until own) (omega arith) (k.events.events n) (here k sh)) (All-nil (λ i. FindsPending k (min until own) (k.events.events i))))
+
+    pub pends_next : m ≢ e → PendingRound m (min until own)
+    pends_next more = record {
+      done = so_far.done ++ n ∷ [];
+      split = so_far.split ∙ ap (λ (l : List ℕ). so_far.done ++ l) (goes.rest ∙ rw (not_same m e more) refl) ∙ sym (append_assoc so_far.done (n ∷ []) (from m ring));
+      within = goes.within;
+      pending = more_pending;
+    }
+
+    pub pends_less : m ≢ e → length (from m ring) < length (from n ring)
+    pends_less more =
+        let next : (if m == e then [] else from m ring) ≡ from m ring = rw (not_same m e more) refl in
+        let is : length (from n ring) ≡ length (n ∷ from m ring) = ap (λ (l : List ℕ). length l) (goes.rest ∙ ap (λ (l : List ℕ). n ∷ l) next) in
+        omega (arith, is)
+
+    pub pends_all : m ≡ e → (k : Control P S H) → Shows w k → AreFoundPending k (min until own) (k.events.rings e)
+    pends_all last k sh =
+        let all : so_far.done ++ n ∷ [] ≡ ring = sym (so_far.split ∙ ap (λ (l : List ℕ). so_far.done ++ l) (goes.rest ∙ rw (last, same_self e) refl)) in
+        subst (AreFoundPending k (min until own)) (all ∙ sym (ap (λ (y : Events). y.rings e) sh.events)) (more_pending k sh)

@@ -1,0 +1,31 @@
+use Rattle.std.proofs.Common.{◌≢◌, ℕ, ap, sym, subst}
+use Rattle.pth_numbered.specs.Numbered.{number_at}
+use Rattle.pth_waits.specs.Dormant.{AreFoundPending}
+use Rattle.pth_waits.proofs.Rounding.{PendingRound, finds_at, pends_none, pends_next, pends_all}
+use Rattle.pth_waits.proofs.dormant.round_until.Goals as goal
+
+pub round-init : goal.round-init
+round-init g c = record { used = c.requires.used; so_far = pends_none c.args.w.now _ _ c.requires.begins }
+
+pub returns-then-at-first : goal.returns-then-at-first
+returns-then-at-first g c = λ k sh.
+    let w = c.args.w.now in
+    let e = number_at w.events c.args.first.0 in
+    let here = finds_at w e _ c.found_until.result c.spec_at.result.now (rw c.rings.ensures at c.spec_at.ensures) c.found_until.ensures in
+    subst (λ (u : ℕ). AreFoundPending k u (k.events.rings e)) (sym c.min-until.ensures)
+    (pends_all w e _ _ c.round.until c.found_until.result c.round.invariant.so_far here (rw c.rings-in-round.ensures at c.next_at-at.ensures.round) (ap (number_at w.events) c.if-at-first.true) k sh)
+
+pub round-preserved : goal.round-preserved
+round-preserved g c =
+    let w = c.args.w.now in
+    let v = c.next_at-at.result.0 in
+    let e = number_at w.events c.args.first.0 in
+    let used = rw c.rings-in-round.ensures at c.next_at-at.ensures.used in
+    let apart = rw c.rings-in-round.ensures at c.next_at-at.ensures.apart in
+    let more : number_at w.events v ≢ e = λ h. c.if-at-first.false (sym (apart c.args.first.0 (sym h))) in
+    let here = finds_at w e _ c.found_until.result c.spec_at.result.now (rw c.rings.ensures at c.spec_at.ensures) c.found_until.ensures in
+    record {
+      used = used;
+      so_far = subst (PendingRound w e (number_at w.events v)) (sym c.min-until.ensures)
+          (pends_next w e _ _ c.round.until c.found_until.result c.round.invariant.so_far here (rw c.rings-in-round.ensures at c.next_at-at.ensures.round) more);
+    }

@@ -1,0 +1,66 @@
+-- Until when a blocked thread is not to wake, if nothing changes but time.
+use Rattle.std.specs.Prelude.{◌≡◌, ℕ, ◌<◌, ◌≤◌, ◌+◌, ◌&&◌, Bool, false, List, Option, Some, None, All}
+use Rattle.pth_base.specs.declared.event.EventSpec.{EventSpec}
+use Rattle.pth_base.specs.Limits.{last_moment}
+use Rattle.pth_threads.specs.declared.entry.Entry.{Entry}
+use Rattle.pth_ring.specs.declared.event.Event.{Event}
+use Rattle.pth_ring.specs.declared.event.Status.TheVariants.{Pending}
+use Rattle.pth_model.specs.declared.awaits.Awaits.{Awaits}
+use Rattle.pth_model.specs.declared.awaits.Awaits.TheVariants.{Alone, AnyDeath, Selection}
+use Rattle.pth_model.specs.State.{Control, now_of, main}
+use Rattle.pth_model.specs.Awaits.{awaits_in}
+use Rattle.pth_model.specs.Cancellation.{may_be_canceled}
+use Rattle.pth_model.specs.Changes.{blocked_of, entry_of, moves_to, or_nobody}
+use Rattle.pth_model.specs.Looks.{found}
+use Rattle.pth_model.specs.Resources.{Store}
+use Rattle.pth_model.specs.RingWaits.{awaited_events}
+use Rattle.pth_model.specs.ThreadControl.{is_dead_in}
+use Rattle.pth_waits.specs.Waking.{has_come}
+
+-- the next arrival, or what is after the last moment
+abbrev pub bound : Option ℕ → ℕ
+bound None = last_moment + 1
+bound (Some m) = m
+
+-- the deadline of what is awaited at descriptors, or what is after the last moment
+abbrev pub deadline_in : Awaits → ℕ
+deadline_in (Selection r w x (Some m)) = m
+deadline_in a = last_moment + 1
+
+-- a dead thread that can be joined
+abbrev pub is_left_to_join : Option Entry → Bool
+is_left_to_join o = is_dead_in o && (or_nobody o).joinable
+
+module _ {P S H : Type 0} (k : Control P S H) (until : ℕ) where
+  -- at each moment from now on and before that one an event would be found pending
+  abbrev pub IsFoundPending : EventSpec → Type 0
+  IsFoundPending spec = (n : ℕ) → now_of k ≤ n → n < until → found (moves_to n k) spec ≡ Pending
+
+  abbrev pub FindsPending : Option Event → Type 0
+  FindsPending None = Unit {0}
+  FindsPending (Some v) = IsFoundPending v.spec
+
+  -- and is pending already
+  abbrev pub StaysPending : Option Event → Type 0
+  StaysPending None = Unit {0}
+  StaysPending (Some v) = (v.status ≡ Pending) × IsFoundPending v.spec
+
+  abbrev pub AreFoundPending : List ℕ → Type 0
+  AreFoundPending es = All (λ e. FindsPending (k.events.events e)) es
+
+  abbrev pub ArePending : List ℕ → Type 0
+  ArePending es = All (λ e. StaysPending (k.events.events e)) es
+
+module _ {P S H : Type 0} (x : Store) (k : Control P S H) (until : ℕ) where
+  -- At each moment from now on and before that one, what t waits for has not come. Who waits for any death is told by the records
+  -- of all threads. To be alone only main waits: whether it is, is told by no moment.
+  abbrev pub StaysAway : ℕ → Awaits → Type 0
+  StaysAway t Alone = t ≡ main
+  StaysAway t AnyDeath = (u : ℕ) → is_left_to_join (entry_of k u) ≡ false
+  StaysAway t a = (n : ℕ) → now_of k ≤ n → n < until → has_come x (moves_to n k) t a ≡ false
+
+  -- t is not to wake before a moment, if nothing changes but time and who is alone, and a look at its ring changes nothing
+  pub record IsDormant (t : ℕ) : Type 0 where
+    pub away : StaysAway t (awaits_in (blocked_of k t))
+    pub pending : ArePending k until (awaited_events k t)
+    pub unasked : may_be_canceled k t ≡ false

@@ -1,0 +1,181 @@
+//! Until when blocked threads are not to wake, if nothing changes but time.
+
+ghost use Rattle.std.specs.Prelude.{◌≡◌, ◌≢◌, ◌<◌, ◌≤◌, ◌+◌, ℕ, false};
+ghost use Rattle.pth_base.specs.Limits.{last_moment};
+ghost use Rattle.pth_kernel.specs.Kernel.{advanced, kernel_of, next_time};
+ghost use Rattle.pth_model.specs.State.{Control};
+ghost use Rattle.pth_numbered.specs.Numbered.{number_at};
+ghost use Rattle.pth_numbered.specs.Operands.{number};
+ghost use Rattle.pth_ring.specs.Arena.{events_of};
+ghost use Rattle.pth_ring.specs.Ring.{Begins};
+ghost use Rattle.pth_threads.specs.Threads.{tid_at};
+ghost use Rattle.pth_waits.specs.Dormant.{AreFoundPending, ArePending, IsDormant, IsFoundPending, StaysAway, bound, deadline_in};
+ghost use Rattle.pth_waits.specs.Io.{wakes_for};
+ghost use Rattle.pth_world.specs.Shows.{Shows};
+ghost use Rattle.pth_world.specs.Store.{store_of};
+ghost use Rattle.pth_world.specs.Whole.{MayAwait, Whole};
+
+use crate::cancellation::may_be_canceled_at;
+use crate::joins::{any_has_died, has_died};
+use crate::locking::{is_free_mutex, is_open_lock};
+use crate::looks::is_as_goals_say;
+use crate::trials::wakes_for;
+use pth_base::ids::{FdSet, MAIN, Micros, Slot};
+use pth_base::limits::LAST_MOMENT;
+use pth_base::program::Program;
+use pth_io::select::{are_all_live, is_any_ready};
+use pth_kernel::kernel::Kernel;
+use pth_model::awaits::Awaits;
+use pth_ring::rings::EventSpec;
+use pth_world::world::World;
+
+/// After the last moment.
+pub const NEVER: Micros = LAST_MOMENT + 1;
+
+// Until when something stays away that time does not bring.
+fn never_unless(here: bool) -> Micros
+    ensures { 0 < result → here ≡ false }
+{
+    if here { 0 } else { NEVER }
+}
+
+// Until when nothing comes to a descriptor.
+fn next_arrival(k: &Kernel) -> Micros
+    ensures arrival { result ≤ bound (next_time (kernel_of k.now)) }
+    ensures within { result ≤ last_moment + 1 }
+{
+    match k.next_entry() {
+        Some(at) => at.min(NEVER),
+        None => NEVER,
+    }
+}
+
+// The deadline of what is awaited at descriptors.
+fn deadline_of(awaits: Awaits) -> Micros
+    ensures { result ≡ deadline_in awaits }
+{
+    match awaits {
+        Awaits::Selection {
+            deadline: Some(moment),
+            ..
+        } => moment,
+        _ => NEVER,
+    }
+}
+
+// Until when a thread does not have what it waits for at descriptors.
+fn descriptors_until(k: &Kernel, awaits: Awaits) -> Micros
+    requires may { MayAwait awaits }
+    ensures { (n : ℕ) → k.now.now ≤ n → n < result → wakes_for (advanced n (kernel_of k.now)) awaits ≡ false }
+{
+    if wakes_for(k, awaits) {
+        return 0;
+    }
+    next_arrival(k).min(deadline_of(awaits))
+}
+
+// Until when the thread at a slot does not have what its call waits for.
+fn awaits_until<P: Program>(w: &World<P>, slot: Slot, awaits: Awaits) -> Micros
+    requires whole { Whole w.now }
+    requires used { tid_at w.now.threads.records slot.0 ≢ 0 }
+    requires may { MayAwait awaits }
+    ensures { (k : Control P P.State P.Shared) → Shows w.now k → 0 < result → StaysAway (store_of w.now.store) k result (tid_at w.now.threads.records slot.0) awaits }
+{
+    match awaits {
+        Awaits::Nothing => NEVER,
+        Awaits::Alone => never_unless(w.thread_in(slot).0 != MAIN),
+        Awaits::Death(n) => never_unless(has_died(w, n)),
+        Awaits::AnyDeath => never_unless(any_has_died(w)),
+        Awaits::Moment(moment) => moment,
+        Awaits::Ring(_) => NEVER,
+        Awaits::Mutex(m) => never_unless(is_free_mutex(w, m)),
+        Awaits::Lock { l, write } => never_unless(is_open_lock(w, l, write)),
+        _ => descriptors_until(w.kernel(), awaits),
+    }
+}
+
+// Until when an event of a descriptor is found pending.
+fn fd_until<P: Program>(w: &World<P>, goals: u8, fd: i64) -> Micros
+    ensures { (k : Control P P.State P.Shared) → Shows w.now k → IsFoundPending k result (EventSpec.Fd goals fd) }
+{
+    if !w.kernel().is_live(fd) {
+        return 0;
+    }
+    if is_as_goals_say(w.kernel(), goals, fd) {
+        return 0;
+    }
+    next_arrival(w.kernel())
+}
+
+// Until when an event of sets of descriptors is found pending.
+fn select_until<P: Program>(w: &World<P>, r: FdSet, writes: FdSet, x: FdSet) -> Micros
+    ensures { (k : Control P P.State P.Shared) → Shows w.now k → IsFoundPending k result (EventSpec.Select r writes x) }
+{
+    if !are_all_live(w.kernel(), r, writes, x) {
+        return 0;
+    }
+    if is_any_ready(w.kernel(), r, writes, x) {
+        return 0;
+    }
+    next_arrival(w.kernel())
+}
+
+// Until when an event is found pending.
+fn found_until<P: Program>(w: &World<P>, spec: &EventSpec) -> Micros
+    ensures { (k : Control P P.State P.Shared) → Shows w.now k → IsFoundPending k result spec.now }
+{
+    match spec {
+        EventSpec::Time(at) => *at,
+        EventSpec::Fd { goals, fd } => fd_until(w, *goals, *fd),
+        EventSpec::Select { r, w: writes, x } => select_until(w, *r, *writes, *x),
+        _ => NEVER,
+    }
+}
+
+// Until when the events of a ring would be found pending, from a place on and round.
+fn round_until<P: Program>(w: &World<P>, first: Slot) -> Micros
+    requires used { number_at w.now.events first.0 ≢ 0 }
+    requires begins { Begins ((events_of w.now.events).rings (number_at w.now.events first.0)) (number_at w.now.events first.0) }
+    ensures { (k : Control P P.State P.Shared) → Shows w.now k → AreFoundPending k result (k.events.rings (number_at w.now.events first.0)) }
+{
+    let mut until = NEVER;
+    let mut at = first;
+    'round: loop {
+        until = until.min(found_until(w, w.rings().spec_at(at)));
+        at = w.rings().next_at(at);
+        if at.0 == first.0 {
+            return until;
+        }
+    }
+}
+
+// Until when all events of the ring of an event are pending.
+fn ring_until<P: Program>(w: &World<P>, e: i64) -> Micros
+    ensures { (k : Control P P.State P.Shared) → Shows w.now k → 0 < result → ArePending k result (k.events.rings (number e)) }
+{
+    if w.rings().settled(e) > 0 {
+        return 0;
+    }
+    match w.rings().find(e) {
+        Some(first) => round_until(w, first),
+        None => NEVER,
+    }
+}
+
+/// Before this moment the thread at a slot is not to wake, if nothing changes but time, and a look at its ring finds what was found
+/// before; 0 where it may be to wake now.
+pub fn dormant_until<P: Program>(w: &World<P>, slot: Slot) -> Micros
+    requires whole { Whole w.now }
+    requires used { tid_at w.now.threads.records slot.0 ≢ 0 }
+    ensures { (k : Control P P.State P.Shared) → Shows w.now k → 0 < result → IsDormant (store_of w.now.store) k result (tid_at w.now.threads.records slot.0) }
+{
+    if may_be_canceled_at(w, slot) {
+        return 0;
+    }
+    let awaited = w.awaited_in(slot);
+    let until = awaits_until(w, slot, awaited.what);
+    match awaited.ring {
+        Some(e) => until.min(ring_until(w, e)),
+        None => until,
+    }
+}
