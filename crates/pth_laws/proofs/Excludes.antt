@@ -86,7 +86,7 @@ module _ (before : List Mark) (m : Mark) where
       by_tests false false c none h = h
 
   module _ (said : IsExclusiveAt before m) (x : IsExclusiveAfter before) where
-    -- who took no level, where another one has one, has none
+    -- who took no level has none, if another one has one
     others_none : (t u : ℕ) (i : ℤ) → 0 < levels t i more → u ≢ t → takes u i (awaits u before) m ≡ false → levels u i before ≡ 0
     others_none t u i some apart none = by_bool (takes t i (awaits t before) m)
         (λ taking. said.taker_is_alone t u i taking apart)

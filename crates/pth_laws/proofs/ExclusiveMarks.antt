@@ -108,7 +108,7 @@ module _ (b : Book) (locked : Locked b.resources) where
 negative : (P : ℕ → ℕ → Type 0) (t j : ℕ) → IsAt P t (negsuc j) → ⊥
 negative P t j at = let is : negsuc j ≡ pos at.object = at.is in cc
 
--- what fails where it would say something
+-- what fails if it would say something
 fails : (p : Bool) → (p ≡ true → ⊥) → p ≡ false
 fails true h = absurd (h refl)
 fails false h = refl

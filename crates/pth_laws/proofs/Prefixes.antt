@@ -21,7 +21,7 @@ module _ (A : Book → Mark → Type 0) where
       let all : EachMark A b (before ++ m ∷ later) = subst (EachMark A b) e h in
       (each_before b before (m ∷ later) all, (each_later b before (m ∷ later) all).0)
 
--- where a test fails on a list, so does one that holds less often
+-- if a test fails on a list, so does one that holds less often
 pub none_of : (p r : Mark → Bool) → ((m : Mark) → r m ≡ false → p m ≡ false) → (ms : List Mark) → list_any r ms ≡ false → list_any p ms ≡ false
 none_of p r f [] h = refl
 none_of p r f (m ∷ ms) h = let (first, rest) = neither (r m) (list_any r ms) h in both_not _ _ (f m first) (none_of p r f ms rest)

@@ -90,7 +90,7 @@ handlers_first h =
     let before = pushed (pos 5) ∷ with_value 0 7 (mark.Destructor one 0 (pos 7) ∷ mark.Handler one (handler_of_number 0) (pos 5) ∷ []) in
     differ (ap (λ (cs : List PushedHandler). nat_le 1 (length cs)) ((h before [] end_of_one refl).end_runs_handlers_first one (pos 0) refl))
 
--- where thread 1 has values under keys 0 and 1, key 1 is not the least
+-- if thread 1 has values under keys 0 and 1, key 1 is not the least
 abbrev two_valued : List Mark
 two_valued = with_value 0 7 (with_value 1 8 [])
 
@@ -160,7 +160,7 @@ valued = key_made ∷ key_valued ∷ []
 abbrev destroyed : List Mark
 destroyed = key_made ∷ key_valued ∷ key_destroyed ∷ []
 
--- a mark that neither ends a thread nor pops a handler, where no thread has ended or was canceled
+-- a mark that neither ends a thread nor pops a handler, if no thread has ended or was canceled
 plain_orderly : (before : List Mark) (m : Mark) → ((t : ℕ) → list_any (is_end_of t) before ≡ false) → ((t : ℕ) → list_any (is_cancellation_of t) before ≡ false)
     → ((t : Tid) (v : ℤ) → m ≡ mark.Ended t v → ⊥) → ((t : Tid) (v : ℤ) → m ≡ mark.Answered t (call.CleanupPop v) (Int (pos 1)) → ⊥) → IsOrderlyAt before m
 plain_orderly before m ended canceled not_end not_pop = record {
@@ -344,7 +344,7 @@ two_taken = said_each IsExclusiveAt Examples.an_acquire_answered_two (
   ),
 )
 
--- a reader where nobody writes
+-- a reader, if nobody writes
 reads_exclusive : (before : List Mark) → ((u : ℕ) (l : ℤ) → writes u l before ≡ false) → IsExclusiveAt before (enters_it one false)
 reads_exclusive before none = exclusive_by before (enters_it one false) (record {
   alone = λ t u i h. absurd (differ (sym h));

@@ -25,7 +25,7 @@ module _ (x : Tables) (t : ℕ) where
     pub least : NoneOwes from d.key
     pub behind : d.round.from ≡ d.key + 1
 
-  -- one more round begins, where none is due any more in this one and fewer than four began
+  -- one more round begins, if none is due any more in this one and fewer than four began
   pub record IsOfNextRound (r : Round) (d : Due) : Type 0 where
     pub over : NoneOwes r.from key_limit
     pub fewer : r.number < round_limit

@@ -126,7 +126,7 @@ Exclusive marks = (before later : List Mark) (m : Mark) → marks ≡ before ++ 
 
 -- ---- what they come to
 
--- after these marks no two threads have a mutex, and where a thread writes under a lock no other one holds it
+-- after these marks no two threads have a mutex, and if a thread writes under a lock no other one holds it
 pub record IsExclusiveAfter (marks : List Mark) : Type 0 where
   pub one_owner : (t u : ℕ) (i : ℤ) → 0 < levels t i marks → u ≢ t → levels u i marks ≡ 0
   pub writer_is_alone : (t u : ℕ) (l : ℤ) → writes t l marks ≡ true → u ≢ t → is_holder u l marks ≡ false

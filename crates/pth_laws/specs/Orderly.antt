@@ -56,7 +56,7 @@ key_after key x (mark.Answered u (call.KeyCreate h) (Int k)) = if is_same key k 
 key_after key x (mark.Answered u (call.KeyDelete k) (Int (pos (suc zero)))) = if is_same key k then None else x
 key_after key x m = x
 
--- a key after these marks: none where it is not live, and else its destructor, if it has one
+-- a key after these marks: none if it is not live, and else its destructor, if it has one
 abbrev pub key_at : ℤ → List Mark → Option (Option HandlerId)
 key_at key marks = fold (key_after key) None marks
 
@@ -71,7 +71,7 @@ value_after t key v (mark.Destructor u k x) = if is_same key (pos k) && (u.0 == 
 value_after t key v (mark.Ended u x) = if u.0 == t then pos 0 else v
 value_after t key v m = v
 
--- t's value under a key after these marks, 0 where none was set
+-- t's value under a key after these marks, 0 if none was set
 abbrev pub value_of : (t : ℕ) (key : ℤ) → List Mark → ℤ
 value_of t key marks = fold (value_after t key) (pos 0) marks
 
@@ -112,7 +112,7 @@ module _ (t : ℕ) (marks : List Mark) where
     pub owes : Owes key destructor v
     pub least : (k : ℤ) (h : HandlerId) (x : ℤ) → is_later last k ≡ true → Owes k h x → int_le key k ≡ true
 
-  -- one more round begins, where none is owed any more in this one and fewer than four began
+  -- one more round begins, if none is owed any more in this one and fewer than four began
   pub record IsOfNextRound (x : Stage) (key v : ℤ) (rounds : ℕ) : Type 0 where
     pub over : NoneOwes x.last
     pub fewer : x.rounds < round_limit
@@ -145,13 +145,13 @@ pub record IsOrderlyAt (before : List Mark) (m : Mark) : Type 0 where
   pub no_call_after_cancellation : (t : ℕ) → is_call_of t m ≡ true → list_any (is_cancellation_of t) before ≡ false
   -- a thread that was canceled ends with the value -1
   pub canceled_ends_with_minus_one : (t : Tid) (v : ℤ) → m ≡ mark.Ended t v → list_any (is_cancellation_of t.0) before ≡ true → v ≡ negsuc 0
-  -- where a cleanup_pop, not of 0, is answered 1, its thread has just run one handler: the last that is pending
+  -- if a cleanup_pop, not of 0, is answered 1, its thread has just run one handler: the last that is pending
   pub pop_runs_last_pending : (t : Tid) (v : ℤ) → m ≡ mark.Answered t (call.CleanupPop v) (Int (pos 1)) → is_zero v ≡ false → RanLast (handlers_in (block_at_end t.0 before)) (pending_handlers t.0 before)
-  -- where a thread ends, it has just run all its pending handlers, the last pushed first
+  -- a thread that ends has just run all its pending handlers, the last pushed first
   pub end_runs_all_pending : (t : Tid) (v : ℤ) → m ≡ mark.Ended t v → handlers_in (block_at_end t.0 before) ≡ pending_handlers t.0 before
-  -- where a thread ends, it has run its handlers before its destructors
+  -- a thread that ends has run its handlers before its destructors
   pub end_runs_handlers_first : (t : Tid) (v : ℤ) → m ≡ mark.Ended t v → AreHandlersFirst (block_at_end t.0 before)
-  -- where a thread ends, it has run its destructors one by one, from the first round on, until none was owed
+  -- a thread that ends has run its destructors one by one, from the first round on, until none was owed
   pub end_runs_all_destructors : (t : Tid) (v : ℤ) → m ≡ mark.Ended t v → IsSequence t.0 (before_block t.0 before) first_stage (block_at_end t.0 before)
 
 -- wherever a mark stands in these marks, that is said of it

@@ -17,7 +17,7 @@ use Rattle.pth_laws.specs.Valid.{Lives, is_awaiting}
 pub record IsTiedTo {P S H : Type 0} (s : State P S H) (marks : List Mark) : Type 0 where
   -- a thread that was not made has no mark
   pub unmade : (t : ℕ) → is_made s.control.threads.made t ≡ false → All (λ m. thread_of m ≢ Some t) marks
-  -- one that was made has an end among the marks exactly where it does not live
+  -- one that was made has an end among the marks exactly if it does not live
   pub ended : (t : ℕ) → is_made s.control.threads.made t ≡ true → list_any (is_end_of t) marks ≡ not (lives (s.control.threads.known t))
   -- who lives was not canceled
   pub canceled : (t : ℕ) → Lives s t → list_any (is_cancellation_of t) marks ≡ false
@@ -32,12 +32,12 @@ pub record IsTiedTo {P S H : Type 0} (s : State P S H) (marks : List Mark) : Typ
   pub mutexes : (t : ℕ) (i : ℤ) → levels t i marks ≡ levels_of t (at_number None s.resources.store.mutexes i)
   pub readers : (t : ℕ) (l : ℤ) → reads t l marks ≡ at_number false (λ k. s.resources.store.rw_locks.reads k t) l
   pub writers : (t : ℕ) (l : ℤ) → writes t l marks ≡ is_one t (at_number None s.resources.store.rw_locks.writer l)
-  -- a thread awaits exactly where the call that blocks it is a pth_cond_await
+  -- a thread awaits exactly if the call that blocks it is a pth_cond_await
   pub awaiting : (t : ℕ) → awaits t marks ≡ is_awaiting (blocked_of s.control t)
   -- a thread that does not live has no level of a mutex, and holds no lock
   pub gone_has_no_level : (t : ℕ) (i : ℤ) → lives (s.control.threads.known t) ≡ false → levels t i marks ≡ 0
   pub gone_holds_no_lock : (t : ℕ) (l : ℤ) → lives (s.control.threads.known t) ≡ false → is_holder t l marks ≡ false
   -- all levels of a mutex are those of one thread
   pub one_owner : (t u i : ℕ) → has t (s.resources.store.mutexes i) ≡ true → has u (s.resources.store.mutexes i) ≡ true → t ≡ u
-  -- where a thread writes under a lock nobody reads, neither it nor another
+  -- if a thread writes under a lock nobody reads there, neither it nor another
   pub one_hold : (t u l : ℕ) → is_one t (s.resources.store.rw_locks.writer l) ≡ true → s.resources.store.rw_locks.reads l u ≡ false

@@ -8,7 +8,7 @@ ghost use Rattle.pth_model.specs.declared.destructors.Round.{Round};
 ghost use Rattle.pth_store.specs.Keys.{Tables};
 
 /// The destructor that is due next, as endings and the laws on them have it, is that of the least key behind the last one in this
-/// round whose destructor is owed a value; where there is none, that of the least such key of all, in one more round, if fewer than
+/// round whose destructor is owed a value; if there is none, that of the least such key of all, in one more round, if fewer than
 /// four began; and else there is none (`pth_key_create`, `PTH_DESTRUCTOR_ITERATIONS`).
 pub fn destructors_are_due()
     ensures next { (x : Tables) (t : ℕ) (r : Round) (d : Due) → next_destructor x t r ≡ Some d → IsNextDue x t r d }

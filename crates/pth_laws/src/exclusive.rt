@@ -44,7 +44,7 @@ pub fn exclusive_takes()
     ensures awaits { Exclusive an_await_of_a_number_below_zero }
 {}
 
-/// Wherever exclusive marks stand, no two threads have a mutex, and where a thread writes under a lock no other thread holds it.
+/// Wherever exclusive marks stand, no two threads have a mutex, and if a thread writes under a lock no other thread holds it.
 pub fn exclusive_marks_exclude()
     ensures { (before later : List Mark) → Exclusive (before ++ later) → IsExclusiveAfter before }
 {}

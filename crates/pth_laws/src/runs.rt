@@ -21,7 +21,7 @@ pub fn every_run_is_orderly<P: Program>()
     ensures { (g : Given P) (i : ℕ) → Orderly (run P.functions g i).marks }
 {}
 
-/// The marks of every run, wherever it stands, are exclusive, also where a `pth_kill` ended the run: no two threads have a mutex, and
+/// The marks of every run, wherever it stands, are exclusive, also if a `pth_kill` ended the run: no two threads have a mutex, and
 /// who gives a level of one back has it; no thread that writes under a lock meets another that holds it, and who gives a lock back
 /// holds it; and a thread that ends has no mutex and no lock left, however it ended.
 pub fn every_run_is_exclusive<P: Program>()
