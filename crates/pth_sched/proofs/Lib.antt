@@ -1,4 +1,7 @@
 pub mod Begins
+pub mod CalmSteps
+pub mod CalmWorlds
+pub mod Calming
 pub mod Counting
 pub mod Cutting
 pub mod Endings
@@ -7,6 +10,7 @@ pub mod Going
 pub mod Keeping
 pub mod Listing
 pub mod Living
+pub mod Mildness
 pub mod Moving
 pub mod Parts
 pub mod Readying
@@ -16,4 +20,5 @@ pub mod Stopping
 pub mod Times
 pub mod Turning
 pub mod Unasked
+pub mod Waiting
 pub mod Waking

@@ -9,9 +9,11 @@
 #![tactic(auto)]
 
 pub mod begin;
+mod calm;
 pub mod laws;
 mod live;
 pub mod machine;
+mod mild;
 mod moments;
 mod pass_room;
 mod passes;

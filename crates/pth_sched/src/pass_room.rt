@@ -11,12 +11,14 @@ ghost use Rattle.pth_waits.specs.Waking.{has_any_died, is_due};
 ghost use Rattle.pth_world.specs.Shows.{Shows, StandsFor};
 ghost use Rattle.pth_world.specs.Store.{store_of};
 ghost use Rattle.pth_world.specs.Whole.{Whole};
+ghost use Rattle.pth_sched.specs.Calm.{AreDormant};
 
 use crate::moments::next_moment;
 use pth_base::ids::{Micros, Slot, Tid};
 use pth_base::limits::MOST_THREADS;
 use pth_base::memory::OutOfMemory;
 use pth_base::program::Program;
+use pth_waits::dormant::{NEVER, dormant_until};
 use pth_waits::joins::any_has_died;
 use pth_waits::wakes::is_to_wake;
 use pth_world::world::World;
@@ -81,6 +83,24 @@ fn go_over_all<P: Program>(w: &mut World<P>, slots: &[Slot], waking: &mut Vec<Ti
     }
 }
 
+// Before this moment none of the waiting threads, which stand at these slots, is to wake, if nothing changes but time; 0 where one
+// may be to wake now.
+fn all_dormant_until<P: Program>(w: &World<P>, slots: &[Slot]) -> Micros
+    requires whole { Whole w.now }
+    requires used { All (λ s. tid_at w.now.threads.records s.0 ≢ 0) slots.now }
+    requires waiting { (k : Control P P.State P.Shared) → Shows w.now k → map (λ s. tid_at w.now.threads.records s.0) slots.now ≡ waiting k }
+    ensures { (k : Control P P.State P.Shared) → Shows w.now k → 0 < result → AreDormant (store_of w.now.store) k result }
+{
+    let mut until = NEVER;
+    for slot in slots {
+        until = until.min(dormant_until(w, *slot));
+        if until <= w.time() {
+            return 0;
+        }
+    }
+    until
+}
+
 impl PassRoom {
     /// Room for as many threads as there may be.
     pub fn new(alloc: Global) -> Result<PassRoom, OutOfMemory> {
@@ -99,6 +119,17 @@ impl PassRoom {
     {
         w.waiting(&mut self.waiting);
         go_over_all(w, self.waiting.as_slice(), &mut self.waking);
+    }
+
+    /// Before this moment no waiting thread is to wake, if nothing changes but time, and a look at their rings finds what was found
+    /// before; 0 where one may be to wake now.
+    pub fn dormant_until<P: Program>(&mut self, w: &World<P>) -> Micros
+        requires { Whole w.now }
+        ensures dormant { (k : Control P P.State P.Shared) → Shows w.now k → 0 < result → AreDormant (store_of w.now.store) k result }
+        ensures same { self.new ≡ self.old }
+    {
+        w.waiting(&mut self.waiting);
+        all_dormant_until(w, self.waiting.as_slice())
     }
 
     /// The least moment, in microseconds, that is later than now and at which something comes to a descriptor, or for which a

@@ -1,26 +1,31 @@
 //! Passes over the waiting threads.
 
-ghost use Rattle.std.specs.Prelude.{◌≡◌, ◌≢◌, ℕ, pos, neg_ℤ, ◌+ℤ◌, ◌≤ℤ◌, map, OnOk, OnErr};
+ghost use Rattle.std.specs.Prelude.{◌≡◌, ◌≢◌, ◌<◌, ℕ, true, pos, neg_ℤ, ◌+ℤ◌, ◌≤ℤ◌, map, OnOk, OnErr};
 ghost use Rattle.pth_queue.specs.declared.queue.Queue.TheVariants as queue;
 ghost use Rattle.pth_threads.specs.Threads.{number_of};
 ghost use Rattle.pth_base.specs.Cut.{IsCut};
-ghost use Rattle.pth_model.specs.Changes.{prio_of};
+ghost use Rattle.pth_model.specs.Changes.{entry_of, prio_of};
 ghost use Rattle.pth_model.specs.Pass.{pass, woken, all_woken};
 ghost use Rattle.pth_model.specs.State.{Control, State};
 ghost use Rattle.pth_world.specs.Leading.{Leads};
 ghost use Rattle.pth_world.specs.Ranks.{KeepsRanks, greatest_return};
 ghost use Rattle.pth_world.specs.Shows.{Shows, StandsFor};
 ghost use Rattle.pth_world.specs.Sound.{IsSound, IsKnown};
+ghost use Rattle.pth_world.specs.Store.{store_of};
 ghost use Rattle.pth_world.specs.Touches.{KeepsRest};
 ghost use Rattle.pth_world.specs.Whole.{Whole, IsIn, WaitsToRun};
+ghost use Rattle.pth_waits.specs.Dormant.{IsDormant};
+ghost use Rattle.pth_sched.specs.Calm.{AreDormant, Calms, CalmsBut, is_among_waiting};
 ghost use Rattle.pth_sched.specs.Passing.{IsWaiting, WaitOnce};
 
+use crate::calm::Calm;
 use crate::pass_room::PassRoom;
-use pth_base::ids::Tid;
+use pth_base::ids::{MAIN, Micros, Tid};
 use pth_base::mark::Mark;
 use pth_base::marks::Marks;
 use pth_base::memory::OutOfMemory;
 use pth_base::program::Program;
+use pth_waits::dormant::{NEVER, dormant_until};
 use pth_world::world::World;
 
 // The rank at which a woken thread is ready: one above its base priority.
@@ -95,4 +100,68 @@ pub fn pass<P: Program>(
 {
     room.go_over(w);
     wake_all(w, room.waking(), marks)
+}
+
+// Before this moment a thread, if it waits, is not to wake, if nothing changes but time.
+fn own_dormant_until<P: Program>(w: &World<P>, t: Tid) -> Micros
+    requires whole { Whole w.now }
+    ensures { (k : Control P P.State P.Shared) → Shows w.now k → 0 < result → is_among_waiting (entry_of k t.0) ≡ true → IsDormant (store_of w.now.store) k result t.0 }
+{
+    match w.threads().find(t) {
+        Some(slot) => dormant_until(w, slot),
+        None => NEVER,
+    }
+}
+
+// Until when no thread that waits is to wake, as far as it is known once thread t has given up control: of the others by what was
+// known, and else, if nothing stirred in this turn, by a look at all.
+fn known_until<P: Program>(w: &World<P>, room: &mut PassRoom, calm: Calm, t: Tid) -> Micros
+    requires whole { Whole w.now }
+    requires calm { CalmsBut t.0 w.now calm.until }
+    ensures dormant { (k : Control P P.State P.Shared) → Shows w.now k → 0 < result → AreDormant (store_of w.now.store) k result }
+    ensures same { room.new ≡ room.old }
+{
+    if calm.until == 0 {
+        return if calm.stirred {
+            0
+        } else {
+            room.dormant_until(w)
+        };
+    }
+    calm.until.min(own_dormant_until(w, t))
+}
+
+/// A pass at the end of the turn of thread t. If it is known that no thread is to wake, none is gone over. If it was asked in vain, it
+/// is not asked at the end of the next turn.
+pub fn pass_unless_calm<P: Program>(
+    w: &mut World<P>,
+    room: &mut PassRoom,
+    calm: &mut Calm,
+    t: Tid,
+    marks: &mut Marks,
+) -> Result<(), OutOfMemory>
+    requires whole { Whole w.old }
+    requires calm { CalmsBut t.0 w.old calm.old.until }
+    ensures ok { OnOk result ((s : State P P.State P.Shared) → StandsFor w.old s → Leads w.new marks.old marks.new (pass P.functions s)) }
+    ensures err { OnErr result ((s : State P P.State P.Shared) → StandsFor w.old s → IsCut marks.old marks.new (pass P.functions s).marks) }
+    ensures whole { OnOk result (Whole w.new) }
+    ensures scheduler { OnOk result (KeepsRest w.old w.new) }
+    ensures made { OnOk result (w.new.threads.records.made ≡ w.old.threads.records.made) }
+    ensures ranks { OnOk result (KeepsRanks 0 w.old.threads w.new.threads) }
+    ensures stays { OnOk result ((u : ℕ) → WaitsToRun w.old.threads u → WaitsToRun w.new.threads u) }
+    ensures calm { Calms w.new calm.new.until }
+{
+    let until = known_until(w, room, *calm, t);
+    if w.time() < until && !w.is_alone(Tid(MAIN)) {
+        *calm = Calm {
+            until,
+            stirred: false,
+        };
+        return Ok(());
+    }
+    *calm = Calm {
+        until: 0,
+        stirred: calm.until == 0 && !calm.stirred,
+    };
+    pass(w, room, marks)
 }

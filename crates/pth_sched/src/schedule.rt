@@ -16,8 +16,9 @@ ghost use Rattle.pth_world.specs.Whole.{Whole};
 ghost use Rattle.pth_sched.specs.MachineOf.{IsGoing, IsRoofed, machine_stops};
 ghost use Rattle.pth_sched.specs.Running.{Stands, StandsAt, Keeps, Rests, Makes, GoesOn, BreaksOff, TurnGoesOn, TurnBreaksOff, IsBetweenTurns};
 
+use crate::calm::Calm;
 use crate::pass_room::PassRoom;
-use crate::passes::pass;
+use crate::passes::{pass, pass_unless_calm};
 use crate::turns::{end_turn, go_on, next, ready_new};
 use pth_base::ids::{MAIN, Micros, Tid};
 use pth_base::mark::Mark;
@@ -36,6 +37,7 @@ use std::marker::Model;
 pub struct Schedule<P: Program> {
     room: PassRoom,
     world: World<P>,
+    calm: Calm,
     gave: Option<Tid>,
     turns: u64,
     steps: u64,
@@ -45,6 +47,7 @@ pub struct Schedule<P: Program> {
 impl<P: Program> Model for Schedule<P> {
     ghost use Rattle.std.specs.Prelude.{option_map};
     ghost use Rattle.pth_threads.specs.Threads.{number_of};
+    ghost use Rattle.pth_sched.specs.Calm.{Calms};
     ghost use Rattle.pth_sched.specs.MachineOf.{MachineOf};
 
     ghost Value = { MachineOf P P.State P.Shared };
@@ -53,6 +56,8 @@ impl<P: Program> Model for Schedule<P> {
       world = m.world;
       turn = record { turns = m.turns; steps = m.steps; gave = option_map number_of m.gave; outcome = m.outcome };
     } };
+
+    ghost invariant = { λ m. Calms m.world m.calm.until };
 }
 
 // By hand, so that letting one go is one call in each proof.
@@ -82,6 +87,10 @@ impl<P: Program> Schedule<P> {
         Ok(Schedule {
             room,
             world,
+            calm: Calm {
+                until: 0,
+                stirred: false,
+            },
             gave: None,
             turns: 0,
             steps: 0,
@@ -186,7 +195,7 @@ impl<P: Program> Schedule<P> {
         ensures steps { OnOk result (self.new.turn.steps ≡ self.old.turn.steps + 1) }
         ensures still { OnErr result (self.new.turn.steps ≡ self.old.turn.steps) }
     {
-        let next = go_on(&mut self.world, t, marks)?;
+        let next = go_on(&mut self.world, &mut self.calm, t, marks)?;
         self.steps += 1;
         self.settle(t, next);
         Ok(())
@@ -210,7 +219,7 @@ impl<P: Program> Schedule<P> {
     {
         end_turn(&mut self.world, t);
         self.gave = None;
-        pass(&mut self.world, &mut self.room, marks)
+        pass_unless_calm(&mut self.world, &mut self.room, &mut self.calm, t, marks)
     }
 
     /// A pass over the waiting threads. After an error the schedule may only be dropped.
@@ -223,6 +232,10 @@ impl<P: Program> Schedule<P> {
         ensures scheduler { OnOk result (self.new.world.scheduler ≡ self.old.world.scheduler) }
         ensures kernel { OnOk result (self.new.world.kernel ≡ self.old.world.kernel) }
     {
+        self.calm = Calm {
+            until: 0,
+            stirred: false,
+        };
         pass(&mut self.world, &mut self.room, marks)
     }
 
@@ -238,6 +251,10 @@ impl<P: Program> Schedule<P> {
         ensures scheduler { OnOk result (self.new.world.scheduler ≡ self.old.world.scheduler) }
         ensures kernel { OnOk result (self.new.world.kernel ≡ record self.old.world.kernel { now = moment }) }
     {
+        self.calm = Calm {
+            until: 0,
+            stirred: false,
+        };
         self.world.set_time(moment);
         marks.push(Mark::Moved { at: moment })?;
         self.pass(marks)

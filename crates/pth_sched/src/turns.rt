@@ -4,7 +4,9 @@ ghost use Rattle.std.specs.Prelude.{◌≡◌, ◌≢◌, ◌≤◌, ◌+◌, �
 ghost use Rattle.pth_queue.specs.Queues.{CanRise};
 ghost use Rattle.pth_queue.specs.declared.queue.Queue.TheVariants as queue;
 ghost use Rattle.pth_base.specs.Cut.{IsCut};
-ghost use Rattle.pth_model.specs.Changes.{raises_ready};
+ghost use Rattle.pth_base.specs.Limits.{last_moment};
+ghost use Rattle.pth_model.specs.Calls.{gone_on};
+ghost use Rattle.pth_model.specs.Changes.{blocked_of, raises_ready};
 ghost use Rattle.pth_model.specs.Part.{chosen, is_placed, new_rank, readies_new, steps_from, steps_on, time_passes, turn_ends};
 ghost use Rattle.pth_model.specs.State.{Control, State, queue as rows};
 ghost use Rattle.pth_world.specs.Frame.{Frame, runs_after, yields_after};
@@ -15,9 +17,13 @@ ghost use Rattle.pth_world.specs.Shows.{Shows, StandsFor};
 ghost use Rattle.pth_world.specs.Sound.{IsSound, IsKnown};
 ghost use Rattle.pth_world.specs.Touches.{KeepsRest};
 ghost use Rattle.pth_world.specs.Whole.{Whole, IsIn, WaitsToRun};
+ghost use Rattle.pth_sched.specs.Calm.{Calms};
+ghost use Rattle.pth_sched.specs.Mild.{is_patient as is_patient_in};
 ghost use Rattle.pth_sched.specs.Passing.{HasRoom, IsReady};
 
 use crate::begin::begin;
+use crate::calm::Calm;
+use crate::mild::{begins_mildly, calm_after, is_mild, waits_mildly};
 use pth_base::ids::Tid;
 use pth_base::limits::LAST_MOMENT;
 use pth_base::marks::Marks;
@@ -74,7 +80,12 @@ pub fn next<P: Program>(w: &World<P>) -> Tid
 }
 
 // The thread that runs begins the program's next call. After an error the world may only be dropped.
-fn begin_next<P: Program>(w: &mut World<P>, t: Tid, marks: &mut Marks) -> Result<Next, OutOfMemory>
+fn begin_next<P: Program>(
+    w: &mut World<P>,
+    calm: &mut Calm,
+    t: Tid,
+    marks: &mut Marks,
+) -> Result<Next, OutOfMemory>
     requires whole { Whole w.old }
     requires runs { w.old.scheduler.running ≡ Some t.0 }
     requires few { HasNumbers w.old }
@@ -83,14 +94,68 @@ fn begin_next<P: Program>(w: &mut World<P>, t: Tid, marks: &mut Marks) -> Result
     ensures err { OnErr result ((s : State P P.State P.Shared) → StandsFor w.old s → IfSome (s.control.threads.progress t.0) (λ p. IsCut marks.old marks.new (steps_from P.functions t.0 p s).told.marks)) }
     ensures some { (s : State P P.State P.Shared) → StandsFor w.old s → IsSome (s.control.threads.progress t.0) }
     ensures frame { IfOk result (λ n. Frame w.old w.new 1 (runs_after t.0 n) (yields_after n)) }
+    ensures calm { OnOk result (Calms w.old calm.old.until → Calms w.new calm.new.until) }
+    ensures lost { OnErr result (calm.new.until ≡ 0) }
 {
+    let was = *calm;
+    *calm = Calm {
+        until: 0,
+        stirred: true,
+    };
     let call = w.next_call(t)?;
-    begin(w, t, call, marks)
+    let mild = is_mild(&call);
+    let patient = begins_mildly(&call);
+    let next = begin(w, t, call, marks)?;
+    *calm = calm_after(was, mild, patient, &next);
+    Ok(next)
+}
+
+// The thread that runs tries the call that blocks it again. After an error the world may only be dropped.
+fn resume_blocked<P: Program>(
+    w: &mut World<P>,
+    calm: &mut Calm,
+    t: Tid,
+    marks: &mut Marks,
+) -> Result<Next, OutOfMemory>
+    requires whole { Whole w.old }
+    requires runs { w.old.scheduler.running ≡ Some t.0 }
+    ensures next { IfOk result (λ n. (s : State P P.State P.Shared) → StandsFor w.old s → n ≡ (gone_on P.functions t.0 s).next) }
+    ensures ok { OnOk result ((s : State P P.State P.Shared) → StandsFor w.old s → Leads w.new marks.old marks.new (gone_on P.functions t.0 s).told) }
+    ensures err { OnErr result ((s : State P P.State P.Shared) → StandsFor w.old s → IsCut marks.old marks.new (gone_on P.functions t.0 s).told.marks) }
+    ensures frame { IfOk result (λ n. Frame w.old w.new 0 (runs_after t.0 n) (yields_after n)) }
+    ensures calm { OnOk result (Calms w.old calm.old.until → Calms w.new calm.new.until) }
+    ensures lost { OnErr result (calm.new.until ≡ 0) }
+{
+    let was = *calm;
+    *calm = Calm {
+        until: 0,
+        stirred: true,
+    };
+    let patient = is_patient(w, t);
+    let next = resume(w, t, marks)?;
+    *calm = calm_after(was, false, patient, &next);
+    Ok(next)
+}
+
+// Whether the call that blocks a thread is mild where it waits on.
+fn is_patient<P: Program>(w: &World<P>, t: Tid) -> bool
+    requires { Whole w.now }
+    ensures { (k : Control P P.State P.Shared) → Shows w.now k → result ≡ is_patient_in (blocked_of k t.0) }
+{
+    match w.blocked(t) {
+        Some(blocked) => waits_mildly(&blocked.call),
+        None => false,
+    }
 }
 
 /// The thread that runs tries the call that blocks it again, or begins the program's next call. After an error the world may
 /// only be dropped.
-pub fn go_on<P: Program>(w: &mut World<P>, t: Tid, marks: &mut Marks) -> Result<Next, OutOfMemory>
+pub fn go_on<P: Program>(
+    w: &mut World<P>,
+    calm: &mut Calm,
+    t: Tid,
+    marks: &mut Marks,
+) -> Result<Next, OutOfMemory>
     requires whole { Whole w.old }
     requires runs { w.old.scheduler.running ≡ Some t.0 }
     requires few { HasNumbers w.old }
@@ -98,11 +163,13 @@ pub fn go_on<P: Program>(w: &mut World<P>, t: Tid, marks: &mut Marks) -> Result<
     ensures ok { OnOk result ((s : State P P.State P.Shared) → StandsFor w.old s → Leads w.new marks.old marks.new (steps_on P.functions t.0 s).told) }
     ensures err { OnErr result ((s : State P P.State P.Shared) → StandsFor w.old s → IsCut marks.old marks.new (steps_on P.functions t.0 s).told.marks) }
     ensures frame { IfOk result (λ n. Frame w.old w.new 1 (runs_after t.0 n) (yields_after n)) }
+    ensures calm { OnOk result (Calms w.old calm.old.until → Calms w.new calm.new.until) }
+    ensures lost { OnErr result (calm.new.until ≡ 0) }
 {
     if w.blocked(t).is_some() {
-        return resume(w, t, marks);
+        return resume_blocked(w, calm, t, marks);
     }
-    begin_next(w, t, marks)
+    begin_next(w, calm, t, marks)
 }
 
 // The thread that gave up control is put back, unless it has ended.
@@ -153,7 +220,9 @@ pub fn end_turn<P: Program>(w: &mut World<P>, t: Tid)
     ensures ranks { (roof : ℕ) → greatest_return ≤ roof → IsUnder roof w.old.threads.queues.ready → IsUnder (roof + 1) w.new.threads.queues.ready }
     ensures fresh { length w.new.threads.queues.new ≤ length w.old.threads.queues.new }
     ensures stays { (u : ℕ) → WaitsToRun w.old.threads u → WaitsToRun w.new.threads u }
+    ensures within { w.old.kernel.now ≤ last_moment }
 {
+    let _ = w.time();
     w.raise_ready();
     place(w, t);
     tick(w);

@@ -8,7 +8,8 @@ use Rattle.pth_ring.specs.declared.event.Event.{Event}
 use Rattle.pth_ring.specs.declared.event.Status.{Status}
 use Rattle.pth_ring.specs.declared.event.Status.TheVariants.{Pending, Occurred, Failed}
 use Rattle.pth_ring.specs.Arena.{events_of}
-use Rattle.pth_ring.specs.Ring.{StandsIn, RingGoesOn, Begins, from, rest_of}
+use Rattle.pth_base.specs.Chain.{StandsIn}
+use Rattle.pth_ring.specs.Ring.{RingGoesOn, Begins, from, rest_of}
 use Rattle.pth_ring.specs.Rings.{Events, is_pending, is_settled, settled_in}
 use Rattle.pth_model.specs.State.{Control}
 use Rattle.pth_world.specs.Shows.{Shows}

@@ -34,3 +34,6 @@ returns-clause-going g c =
     let over = subst (λ m. m.turn.gave ≡ None) (sym c.self.view_is) c.requires.over in
     let runs = subst (λ m. m.world.scheduler.running ≡ Some c.args.t.0) (sym c.self.view_is) c.requires.runs in
     step_going _ _ before c.args.t.0 c.in_ok-next.next c.go_on.new.w over runs c.in_ok-next.ensures.frame c.settle.ensures.whole c.settle.ensures.same c.settle.ensures.turn
+
+pub invariant_of-self-2 : goal.invariant_of-self-2
+invariant_of-self-2 g c = λ some. c.in_ok-next.ensures.calm c.self.invariant some

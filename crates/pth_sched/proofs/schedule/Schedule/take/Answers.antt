@@ -7,6 +7,7 @@ use Rattle.pth_sched.proofs.Parts.{take_makes}
 use Rattle.pth_sched.proofs.Roofs.{take_roofed}
 use Rattle.pth_sched.proofs.Keeping.{gives_rest, gives_then}
 use Rattle.pth_sched.proofs.Going.{named_on, named_ready, take_going}
+use Rattle.pth_sched.proofs.CalmWorlds.{take_calm}
 use Rattle.pth_sched.proofs.schedule.Schedule.take.Goals as goal
 
 pub returns-clause-ok : goal.returns-clause-ok
@@ -36,3 +37,8 @@ returns-clause-going g c =
     let nobody = subst (λ m. m.world.scheduler.running ≡ None) (sym c.self.view_is) c.requires.nobody in
     let gave = subst (λ m. m.turn.gave ≡ None) (sym c.self.view_is) c.requires.over in
     on_ok_weaker c.push.result (λ tells. take_going _ _ inside c.next-t.result.0 nobody c.dispatch.ensures.whole (ap (λ w. w.scheduler.running) c.dispatch.ensures.same) (ap (λ w. w.scheduler.preferred) c.dispatch.ensures.same) (gives_then _ _ _ (gives_rest _ _ c.ready_new.ensures.scheduler c.ready_new.ensures.made) (record { threads = c.dispatch.ensures.threads.made; objects = ap (λ w. w.attributes.made) c.dispatch.ensures.same; events = ap (λ w. w.events.made) c.dispatch.ensures.same })) gave refl refl) c.push.ensures.ok
+
+pub invariant_of-self : goal.invariant_of-self
+invariant_of-self g c = λ some.
+    let nobody = subst (λ m. m.world.scheduler.running ≡ None) (sym c.self.view_is) c.requires.nobody in
+    take_calm _ _ (c.self.invariant some) c.ready_new.new.w c.dispatch.new.self c.next-t.result.0 nobody c.ready_new.ensures.shows c.dispatch.ensures.shows (ap (λ w. w.store) c.dispatch.ensures.same ∙ c.ready_new.ensures.scheduler.store)

@@ -1,0 +1,182 @@
+-- What keeps a world calm.
+use Rattle.std.proofs.Common.{◌≡◌, ◌≢◌, ◌∙◌, ℕ, ◌==◌, ◌<◌, ◌≤◌, ◌+◌, ◌||◌, ◌&&◌, not, min, IfSome, Bool, true, false, if◌then◌else◌, List, [], ◌∷◌, ◌++◌, map, filter, All, Option, Some, None, refl, sym, ap, subst, arith, append-nil, ◌⊎◌, inl, inr}
+use Rattle.std.proofs.lemmas.Bool.{cases_Bool}
+use Rattle.std.proofs.lemmas.List.Elements.{All-head, All-tail, All-weaker}
+use Rattle.pth_base.proofs.Tables.{same_self, same_means, same_fails}
+use mathlib.Core.Path.{fun_ext}
+use Rattle.pth_base.proofs.Namings.{seen_at}
+use Rattle.pth_base.specs.Limits.{last_moment}
+use Rattle.pth_base.specs.Naming.{by_slot, seen}
+use Rattle.pth_base.specs.Program.{Functions}
+use Rattle.pth_base.specs.declared.mark.Mark.{Mark}
+use Rattle.pth_base.specs.declared.thread.ThreadState.{ThreadState}
+use Rattle.pth_base.specs.declared.thread.ThreadState.TheVariants as state
+use Rattle.pth_kernel.specs.Kernel.{Kernel, kernel_of}
+use Rattle.pth_queue.specs.declared.queue.Queue.{Queue}
+use Rattle.pth_queue.specs.declared.queue.Queue.TheVariants as queue
+use Rattle.pth_queue.specs.declared.ranked.Ranked.{Ranked}
+use Rattle.pth_queue.specs.Ranking.{holds, is_of, named_row}
+use Rattle.pth_queue.specs.Queues.{queue_of}
+use Rattle.pth_threads.specs.Threads.{entry_at, slot_of, tid_at, tid_of}
+use Rattle.pth_threads.specs.declared.entry.Entry.{Entry}
+use Rattle.pth_model.specs.declared.blocked.Blocked.{Blocked}
+use Rattle.pth_model.specs.declared.progress.Progress.{Progress}
+use Rattle.pth_model.specs.State.{Control, State, Scheduler, now_of, main}
+use Rattle.pth_model.specs.Cancellation.{may_be_canceled}
+use Rattle.pth_model.specs.Changes.{blocked_in, blocked_of, entry_of, holders}
+use Rattle.pth_model.specs.Part.{readies_new, runs, turn_ends}
+use Rattle.pth_model.specs.Pass.{is_to_wake, looks, waiting, to_wake, pass, all_woken}
+use Rattle.pth_model.specs.Resources.{Resources, Store}
+use Rattle.pth_model.specs.ThreadEnds.{is_alone}
+use Rattle.pth_model.specs.Transition.{Transition, silent, controlled, changes, ◌and_then◌}
+use Rattle.pth_world.specs.Leading.{Leads}
+use Rattle.pth_world.specs.Shows.{Shows, StandsFor, resources_of}
+use Rattle.pth_world.specs.Store.{store_of}
+use Rattle.pth_world.specs.Whole.{Whole, FitsEntry, place_for}
+use Rattle.pth_world.specs.World.{WorldOf}
+use Rattle.pth_world.specs.StateOf.{state_of}
+use Rattle.pth_world.proofs.StateOf.{stands_for_state}
+use Rattle.pth_world.proofs.Telling.{has_still}
+use Rattle.pth_waits.specs.Waking.{is_due, has_died}
+use Rattle.pth_waits.specs.Dormant.{IsDormant}
+use Rattle.pth_sched.specs.Calm.{IsCalm, IsCalmBut, IsCalmUntil, IsCalmButUntil, Calms, CalmsBut, AreDormant, is_among_waiting, waits_in}
+use Rattle.pth_waits.proofs.Standing.{none_died}
+use Rattle.pth_waits.proofs.Dormancy.{KeepsDormant, dormant_kept, dormant_sooner}
+use Rattle.pth_sched.proofs.Calming.{IsMild, mild_calm, readied_calm, readied_nobody, dispatched_calm, turn_over_calm}
+use Rattle.pth_sched.proofs.Waiting.{all_wait, none_due, none_looked}
+
+module _ {P S H : Type 0} (w : WorldOf P S H) where
+  -- ---- two controls that a world shows
+
+  module _ (k j : Control P S H) (sk : Shows w k) (sj : Shows w j) where
+    same_known : j.threads.known ≡ k.threads.known
+    same_known = sj.threads.known ∙ sym sk.threads.known
+
+    same_progress : j.threads.progress ≡ k.threads.progress
+    same_progress = sj.threads.progress ∙ sym sk.threads.progress
+
+    same_blocked : (u : ℕ) → blocked_of j u ≡ blocked_of k u
+    same_blocked u = ap (λ (f : ℕ → Option (Progress S)). blocked_in (f u)) same_progress
+
+    same_asked : (u : ℕ) → may_be_canceled k u ≡ false → may_be_canceled j u ≡ false
+    unfolding may_be_canceled
+    same_asked u h = rw (same_known, same_blocked u) h
+
+    pub seen_dormant : (x : Store) (until u : ℕ) → IsDormant x k until u → IsDormant x j until u
+    seen_dormant x until u q = dormant_kept x k x j u (record {
+      now = now_of k;
+      later = omega arith;
+      kernel = sj.kernel ∙ sym sk.kernel;
+      events = sj.events ∙ sym sk.events;
+      mutexes = refl;
+      locks = refl;
+      blocked = same_blocked u;
+      died = λ n h. rw same_known h;
+      left = λ none u. rw same_known (none u);
+      asked = same_asked u;
+    }) until q
+
+    pub seen_among : (u : ℕ) → is_among_waiting (entry_of j u) ≡ true → is_among_waiting (entry_of k u) ≡ true
+    seen_among u h = subst (λ (f : ℕ → Option Entry). is_among_waiting (f u) ≡ true) same_known h
+
+  -- the store that a state has
+  store_is : (s : State P S H) → StandsFor w s → s.resources.store ≡ store_of w.store
+  store_is s st = ap (λ (x : Resources). x.store) st.resources
+
+  pub but_dormant : (t until : ℕ) (calm : IsCalmButUntil t w until) (k : Control P S H) → Shows w k → (u : ℕ) → u ≢ t → is_among_waiting (entry_of k u) ≡ true → IsDormant (store_of w.store) k until u
+  but_dormant t until calm k sh u apart waits =
+      subst (λ (x : Store). IsDormant x k until u) (store_is calm.state calm.stands)
+      (seen_dormant calm.state.control k calm.stands.control sh calm.state.resources.store until u (calm.calm u apart (seen_among calm.state.control k calm.stands.control sh u waits)))
+
+  -- all are dormant where the others are, and t is
+  pub are_dormant : (t until own : ℕ) → (0 < until → IsCalmButUntil t w until) → (k : Control P S H) → Shows w k → (0 < own → is_among_waiting (entry_of k t) ≡ true → IsDormant (store_of w.store) k own t) → 0 < min until own → AreDormant (store_of w.store) k (min until own)
+  are_dormant t until own calms k sh dormant some u waits = elim (cases_Bool (u == t)) [
+    | inl same ↦ (let e : u ≡ t = same_means u t same in
+        subst (λ (v : ℕ). IsDormant (store_of w.store) k (min until own) v) (sym e)
+        (dormant_sooner (store_of w.store) k t own (min until own) (omega arith) (dormant (omega arith) (subst (λ (v : ℕ). is_among_waiting (entry_of k v) ≡ true) e waits))))
+    | inr apart ↦ dormant_sooner (store_of w.store) k u until (min until own) (omega arith) (but_dormant t until (calms (omega arith)) k sh u (same_fails u t apart) waits)
+  ]
+
+  -- where all are dormant, the world is calm
+  pub dormant_calms : (until : ℕ) → Whole w → ((k : Control P S H) → Shows w k → AreDormant (store_of w.store) k until) → IsCalmUntil w until
+  dormant_calms until whole dormant =
+      let stands = stands_for_state w whole.sound in
+      record {
+        state = state_of w;
+        stands = stands;
+        calm = λ u other waits. subst (λ (x : Store). IsDormant x (state_of w).control until u) (sym (store_is (state_of w) stands)) (dormant (state_of w).control stands.control u waits);
+      }
+
+  -- and a pass changes nothing
+  module _ (f : P → Functions S H) (s : State P S H) (st : StandsFor w s) (whole : Whole w) (until : ℕ) (early : w.kernel.now < until) (dormant : AreDormant (store_of w.store) s.control until)
+      (alone : is_alone s.control main ≡ false) (due : (u : ℕ) → is_to_wake f s u ≡ is_due s.resources.store s.control u) where
+    early_now : now_of s.control < until
+    early_now = (let e : now_of s.control ≡ w.kernel.now = ap (λ (z : Kernel). z.now) st.control.kernel in omega arith)
+
+    all_dormant : All (IsDormant (store_of w.store) s.control until) (waiting s.control)
+    all_dormant = All-weaker (λ u. is_among_waiting (entry_of s.control u) ≡ true) (IsDormant (store_of w.store) s.control until) dormant (waiting s.control) (all_wait w whole s.control st.control)
+
+    none_wakes : to_wake f s ≡ []
+    unfolding to_wake
+    none_wakes =
+        ap (λ (p : ℕ → Bool). filter p (waiting s.control)) (fun_ext due)
+        ∙ ap (λ (x : Store). filter (is_due x s.control) (waiting s.control)) (store_is s st)
+        ∙ none_due (store_of w.store) s.control until early_now all_dormant alone (none_died w whole s.control st.control)
+
+    pub pass_leads_nowhere : (old : List Mark) → Leads w old old (pass f s)
+    unfolding pass all_woken
+    pass_leads_nowhere old =
+        let looked = none_looked (store_of w.store) s.control until early_now all_dormant in
+        subst (λ (l : List ℕ). Leads w old old ((changes looks and_then all_woken l) s)) (sym none_wakes) (record {
+          stands = record { control = subst (λ (k : Control P S H). Shows w k) (sym looked) st.control; resources = st.resources };
+          tells = sym (append-nil old);
+        })
+
+-- ---- what the parts of a turn leave
+
+module _ {P S H : Type 0} (w : WorldOf P S H) (until : ℕ) (calm : IsCalmUntil w until) where
+  running_is : (r : Option ℕ) → w.scheduler.running ≡ r → calm.state.control.scheduler.running ≡ r
+  running_is r is = ap (λ (x : Scheduler). x.running) calm.stands.control.scheduler ∙ is
+
+  -- the new threads become ready, and one is dispatched
+  pub take_calm : (u v : WorldOf P S H) (t : ℕ) → w.scheduler.running ≡ None → ((k : Control P S H) → Shows w k → Shows u (readies_new k)) → ((k : Control P S H) → Shows u k → Shows v (runs t k)) → v.store ≡ w.store → IsCalmUntil v until
+  take_calm u v t nobody ready dispatch stored =
+      let k = calm.state.control in
+      record {
+        state = controlled (λ j. runs t (readies_new j)) calm.state;
+        stands = record { control = dispatch (readies_new k) (ready k calm.stands.control); resources = has_still w v calm.state stored calm.stands.resources };
+        calm = dispatched_calm calm.state.resources.store (readies_new k) until t (readied_nobody k _ (running_is None nobody)) (readied_calm calm.state.resources.store k until _ (running_is None nobody) calm.calm);
+      }
+
+  -- a step that is mild
+  pub mild_calms : (v : WorldOf P S H) (t : ℕ) (r : State P S H) → w.scheduler.running ≡ Some t → StandsFor v r → IsMild t calm.state r → IsCalmUntil v until
+  mild_calms v t r runs stands mild = record {
+    state = r;
+    stands = stands;
+    calm = mild_calm t calm.state r until mild (running_is (Some t) runs) calm.calm;
+  }
+
+  -- the end of a turn
+  pub turn_over_calms : (v : WorldOf P S H) (t : ℕ) → ((r : ℕ) → w.scheduler.running ≡ Some r → r ≡ t) → ((k : Control P S H) → Shows w k → Shows v (turn_ends t k)) → v.store ≡ w.store → w.kernel.now ≤ last_moment → IsCalmButUntil t v until
+  turn_over_calms v t own shows stored within =
+      let k = calm.state.control in
+      record {
+        state = controlled (turn_ends t) calm.state;
+        stands = record { control = shows k calm.stands.control; resources = has_still w v calm.state stored calm.stands.resources };
+        calm = turn_over_calm calm.state.resources.store k t (λ r is. own r (sym (running_is w.scheduler.running refl) ∙ is)) until (let e : now_of k ≡ w.kernel.now = ap (λ (z : Kernel). z.now) calm.stands.control.kernel in omega arith) calm.calm;
+      }
+
+-- who is not in the system does not wait
+pub gone_waits : {P S H : Type 0} (w : WorldOf P S H) (k : Control P S H) (t : ℕ) → Shows w k → slot_of w.threads.records t ≡ None → is_among_waiting (entry_of k t) ≡ true → ⊥
+unfolding seen
+gone_waits w k t sh none waits =
+    let is = ap (λ (f : ℕ → Option Entry). f t) sh.threads.known ∙ ap (λ (o : Option ℕ). by_slot None (entry_at w.threads.records) o) none in
+    cc (sym (ap (λ (o : Option Entry). is_among_waiting o) is) ∙ waits)
+
+-- of moment 0 nothing is said
+pub calms_nothing : {P S H : Type 0} (w : WorldOf P S H) (until : ℕ) → until ≡ 0 → Calms w until
+calms_nothing w until none some = absurd (omega (arith, none))
+
+pub own_by : (t : ℕ) (o : Option ℕ) → IfSome o (λ r. r ≡ t) → (r : ℕ) → o ≡ Some r → r ≡ t
+own_by t None own r is = absurd (cc is)
+own_by t (Some x) own r is = (let e : x ≡ r = cc is in sym e ∙ own)

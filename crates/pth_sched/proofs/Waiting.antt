@@ -1,0 +1,98 @@
+-- A pass over threads that are dormant changes nothing.
+use Rattle.std.proofs.Common.{◌≡◌, ◌≢◌, ◌∙◌, ℕ, ◌==◌, ◌<◌, ◌||◌, ◌&&◌, not, Bool, true, false, cond, if◌then◌else◌, List, [], ◌∷◌, ◌++◌, map, filter, flat_map, All, Option, Some, None, option_map, refl, sym, ap, subst}
+use Rattle.std.proofs.lemmas.List.Elements.{All-append, All-head, All-nil, All-tail, All-weaker}
+use mathlib.Core.Path.{fun_ext}
+use Rattle.pth_base.proofs.Tables.{same_means}
+use Rattle.pth_base.specs.declared.thread.ThreadState.{ThreadState}
+use Rattle.pth_base.specs.declared.thread.ThreadState.TheVariants as state
+use Rattle.pth_queue.specs.declared.queue.Queue.TheVariants as queue
+use Rattle.pth_ring.specs.declared.event.Event.{Event}
+use Rattle.pth_ring.specs.Ring.{each, ring_holds}
+use Rattle.pth_threads.specs.declared.entry.Entry.{Entry}
+use Rattle.pth_model.specs.State.{Control, now_of, main}
+use Rattle.pth_model.specs.Changes.{entry_of}
+use Rattle.pth_model.specs.Looks.{looked_at, looks_at}
+use Rattle.pth_model.specs.Pass.{looks, waiting}
+use Rattle.pth_model.specs.Resources.{Store}
+use Rattle.pth_model.specs.RingWaits.{awaited_events}
+use Rattle.pth_model.specs.ThreadEnds.{is_alone}
+use Rattle.pth_world.specs.Shows.{Shows}
+use Rattle.pth_world.specs.Whole.{Whole, place_for}
+use Rattle.pth_world.specs.World.{WorldOf}
+use Rattle.pth_waits.specs.Dormant.{IsDormant, StaysPending, is_left_to_join}
+use Rattle.pth_waits.specs.Waking.{has_any_died, is_due}
+use Rattle.pth_waits.proofs.Dormancy.{dormant_not_due, looked_same}
+use Rattle.pth_waits.proofs.Standing.{all_stand, of_standing, place_in}
+use Rattle.pth_sched.specs.Calm.{is_among_waiting, waits_in}
+
+-- ---- who stands in the waiting queue waits, and the reverse
+
+waits_by_place : (o : Option Entry) → place_in o ≡ Some queue.Waiting → is_among_waiting o ≡ true
+waits_by_place None is = absurd (cc is)
+waits_by_place (Some e) is = by_state e.state e.suspended is
+  where
+    by_state : (x : ThreadState) (suspended : Bool) → place_for x suspended ≡ Some queue.Waiting → (waits_in x && not suspended) ≡ true
+    by_state x true h = absurd (cc h)
+    by_state state.New false h = absurd (cc h)
+    by_state state.Ready false h = absurd (cc h)
+    by_state state.Running false h = absurd (cc h)
+    by_state state.Waiting false h = refl
+    by_state state.Dead false h = absurd (cc h)
+
+place_by_waits : (o : Option Entry) → is_among_waiting o ≡ true → place_in o ≡ Some queue.Waiting
+place_by_waits None waits = absurd (cc waits)
+place_by_waits (Some e) waits = by_state e.state e.suspended waits
+  where
+    by_state : (x : ThreadState) (suspended : Bool) → (waits_in x && not suspended) ≡ true → place_for x suspended ≡ Some queue.Waiting
+    by_state state.Waiting true h = absurd (cc h)
+    by_state state.Waiting false h = refl
+    by_state state.New suspended h = absurd (cc h)
+    by_state state.Ready suspended h = absurd (cc h)
+    by_state state.Running suspended h = absurd (cc h)
+    by_state state.Dead suspended h = absurd (cc h)
+
+module _ {P S H : Type 0} (w : WorldOf P S H) (whole : Whole w) (k : Control P S H) (sh : Shows w k) where
+  pub all_wait : All (λ u. is_among_waiting (entry_of k u) ≡ true) (waiting k)
+  all_wait =
+      All-weaker (λ u. place_in (entry_of k u) ≡ Some queue.Waiting) (λ u. is_among_waiting (entry_of k u) ≡ true) (λ u. waits_by_place (entry_of k u)) (waiting k)
+      (all_stand w whole k sh queue.Waiting)
+
+  pub of_waiting : (Q : ℕ → Type 0) → All Q (waiting k) → (u : ℕ) → is_among_waiting (entry_of k u) ≡ true → Q u
+  of_waiting Q all u waits = of_standing w whole k sh queue.Waiting Q all u (place_by_waits (entry_of k u) waits)
+
+-- ---- where all that wait are dormant
+
+none_kept : (p : ℕ → Bool) (xs : List ℕ) → All (λ x. p x ≡ false) xs → filter p xs ≡ []
+none_kept p [] all = refl
+none_kept p (x ∷ xs) all = rw (All-head (λ y. p y ≡ false) x xs all) (none_kept p xs (All-tail (λ y. p y ≡ false) x xs all))
+
+all_flat : {A : Type 0} (Q : ℕ → Type 0) (h : A → List ℕ) (xs : List A) → All (λ x. All Q (h x)) xs → All Q (flat_map h xs)
+all_flat Q h [] all = All-nil Q
+all_flat Q h (x ∷ xs) all = All-append Q (h x) (flat_map h xs) (All-head (λ y. All Q (h y)) x xs all) (all_flat Q h xs (All-tail (λ y. All Q (h y)) x xs all))
+
+-- a table changed at some places, where the change leaves all as it is
+module _ {A : Type 0} (g : A → A) (f : ℕ → A) where
+  by_test : (e x : ℕ) (b : Bool) → (x == e) ≡ b → g (f x) ≡ f x → (c : Bool) → (if c then g (f e) else f e) ≡ f e → (if b || c then g (f e) else f e) ≡ f e
+  by_test e x true is here c rest = subst (λ (n : ℕ). g (f n) ≡ f n) (same_means x e is) here
+  by_test e x false is here c rest = rest
+
+  same_at : (e : ℕ) (xs : List ℕ) → All (λ x. g (f x) ≡ f x) xs → (if ring_holds e xs then g (f e) else f e) ≡ f e
+  same_at e [] all = refl
+  same_at e (x ∷ xs) all = by_test e x (x == e) refl (All-head (λ y. g (f y) ≡ f y) x xs all) (ring_holds e xs) (same_at e xs (All-tail (λ y. g (f y) ≡ f y) x xs all))
+
+  pub each_same : (xs : List ℕ) → All (λ x. g (f x) ≡ f x) xs → each xs g f ≡ f
+  unfolding each
+  each_same xs all = fun_ext (λ e. same_at e xs all)
+
+module _ {P S H : Type 0} (x : Store) (k : Control P S H) (until : ℕ) (early : now_of k < until) (all : All (IsDormant x k until) (waiting k)) where
+  pub none_due : is_alone k main ≡ false → (((u : ℕ) → is_left_to_join (entry_of k u) ≡ false) → has_any_died k ≡ false) → filter (is_due x k) (waiting k) ≡ []
+  none_due alone none = none_kept (is_due x k) (waiting k) (All-weaker (IsDormant x k until) (λ u. is_due x k u ≡ false) (λ u q. dormant_not_due x k until early u alone none q) (waiting k) all)
+
+  pub none_looked : looks k ≡ k
+  unfolding looks
+  none_looked =
+      ap (λ (f : ℕ → Option Event). record k { events = record k.events { events = f } })
+      (each_same (option_map (looked_at k)) k.events.events (flat_map (awaited_events k) (waiting k))
+      (all_flat (λ e. option_map (looked_at k) (k.events.events e) ≡ k.events.events e) (awaited_events k) (waiting k)
+      (All-weaker (IsDormant x k until) (λ u. All (λ e. option_map (looked_at k) (k.events.events e) ≡ k.events.events e) (awaited_events k u))
+      (λ u q. All-weaker (λ e. StaysPending k until (k.events.events e)) (λ e. option_map (looked_at k) (k.events.events e) ≡ k.events.events e) (λ e h. looked_same x k until early (k.events.events e) h) (awaited_events k u) q.pending) (waiting k) all)))

@@ -1,0 +1,50 @@
+-- Until when no thread that waits is to wake, if nothing changes but time.
+use Rattle.std.specs.Prelude.{◌≡◌, ◌≢◌, ℕ, ◌<◌, ◌&&◌, not, Bool, true, false, Option, Some, None}
+use Rattle.pth_base.specs.declared.thread.ThreadState.{ThreadState}
+use Rattle.pth_base.specs.declared.thread.ThreadState.TheVariants as state
+use Rattle.pth_threads.specs.declared.entry.Entry.{Entry}
+use Rattle.pth_model.specs.State.{Control, State}
+use Rattle.pth_world.specs.Shows.{StandsFor}
+use Rattle.pth_world.specs.World.{WorldOf}
+use Rattle.pth_model.specs.Changes.{entry_of}
+use Rattle.pth_model.specs.Resources.{Store}
+use Rattle.pth_waits.specs.Dormant.{IsDormant}
+
+abbrev pub waits_in : ThreadState → Bool
+waits_in state.Waiting = true
+waits_in s = false
+
+-- a thread that waits, and is not suspended
+abbrev pub is_among_waiting : Option Entry → Bool
+is_among_waiting None = false
+is_among_waiting (Some e) = waits_in e.state && not e.suspended
+
+-- all threads that wait are dormant, but the one that runs
+abbrev pub IsCalm : {P S H : Type 0} → Store → Control P S H → ℕ → Type 0
+IsCalm x k until = (u : ℕ) → k.scheduler.running ≢ Some u → is_among_waiting (entry_of k u) ≡ true → IsDormant x k until u
+
+-- and all but thread t
+abbrev pub IsCalmBut : {P S H : Type 0} → ℕ → Store → Control P S H → ℕ → Type 0
+IsCalmBut t x k until = (u : ℕ) → u ≢ t → is_among_waiting (entry_of k u) ≡ true → IsDormant x k until u
+
+-- The threads of a world that wait are dormant until a moment, but the one that runs; where the moment is 0, nothing is said.
+pub record IsCalmUntil {P S H : Type 0} (w : WorldOf P S H) (until : ℕ) : Type 0 where
+  pub state : State P S H
+  pub stands : StandsFor w state
+  pub calm : IsCalm state.resources.store state.control until
+
+abbrev pub Calms : {P S H : Type 0} → WorldOf P S H → ℕ → Type 0
+Calms w until = 0 < until → IsCalmUntil w until
+
+-- the same of all but thread t
+pub record IsCalmButUntil {P S H : Type 0} (t : ℕ) (w : WorldOf P S H) (until : ℕ) : Type 0 where
+  pub state : State P S H
+  pub stands : StandsFor w state
+  pub calm : IsCalmBut t state.resources.store state.control until
+
+abbrev pub CalmsBut : {P S H : Type 0} → ℕ → WorldOf P S H → ℕ → Type 0
+CalmsBut t w until = 0 < until → IsCalmButUntil t w until
+
+-- every thread that waits is dormant
+abbrev pub AreDormant : {P S H : Type 0} → Store → Control P S H → ℕ → Type 0
+AreDormant x k until = (u : ℕ) → is_among_waiting (entry_of k u) ≡ true → IsDormant x k until u
