@@ -1,5 +1,5 @@
 -- Who is blocked waits for a mutex or a lock that is there, and holds no lock for which it waits.
-use Rattle.std.proofs.Common.{◌≡◌, ◌≢◌, ℕ, zero, suc, ◌+◌, ◌==◌, Bool, true, false, if◌then◌else◌, ℤ, pos, Option, Some, None, is_some, option_map, refl, sym, subst, ◌∙◌, ap}
+use Rattle.std.proofs.Common.{◌≡◌, ◌≢◌, ℕ, zero, suc, ◌+◌, ◌==◌, ◌&&◌, not, Bool, true, false, if◌then◌else◌, ℤ, pos, Option, Some, None, is_some, is_none, option_map, refl, sym, subst, ◌∙◌, ap}
 use Rattle.pth_base.specs.Program.{Functions}
 use Rattle.pth_base.specs.Table.{put}
 use Rattle.pth_base.specs.declared.act.Act.TheVariants as act
@@ -12,7 +12,7 @@ use Rattle.pth_base.specs.declared.mark.Mark.TheVariants as mark
 use Rattle.pth_base.proofs.Tables.{put_by, not_same}
 use Rattle.pth_numbered.specs.Operands.{number}
 use Rattle.pth_lock.specs.Objects.{object_named}
-use Rattle.pth_lock.specs.Mutexes.{Mutex, MutexTable, free_mutex, mutex_with, levels_of, has, is_anothers}
+use Rattle.pth_lock.specs.Mutexes.{Mutex, MutexTable, free_mutex, owner_of, mutex_with, levels_of, has, is_anothers}
 use Rattle.pth_lock.specs.RwLocks.{LockTables, holds, is_one, lock_initialised, lock_released, lock_taken}
 use Rattle.pth_threads.specs.declared.entry.Change as change_of_record
 use Rattle.pth_model.specs.declared.blocked.Blocked.{Blocked}
@@ -21,13 +21,18 @@ use Rattle.pth_model.specs.Resources.{Resources, on_one, on_int, on_msg, told, a
 use Rattle.pth_model.specs.State.{State, Given, start, main, now_of}
 use Rattle.pth_model.specs.Transition.{controlled, tells}
 use Rattle.pth_model.specs.Changes.{sets, goes_on, blocking, is_blocked_by, makes, forgets, blocked_in, blocked_of}
+use Rattle.pth_model.specs.Verdict.{says, waits, ◌when◌otherwise◌}
 use Rattle.pth_model.specs.RingWaits.{claims, gives_back, ring_given, ring_held, stops_waiting}
+use Rattle.pth_model.specs.Mutexes.{mutex}
+use Rattle.pth_model.specs.Rows.{row_of}
+use Rattle.pth_model.specs.Rwlocks.{is_lock, lets_in}
 use Rattle.pth_model.specs.ThreadControl.{values_for, or_first}
 use Rattle.pth_model.specs.LibraryControl.{vanish_all_but}
 use Rattle.pth_model.specs.Calls.{blocked_from}
 use Rattle.pth_model.specs.Pass.{looks}
 use Rattle.pth_model.specs.Run.{run}
-use Rattle.pth_laws.specs.Waits.{WaitsRightly, AllWaitRightly}
+use Rattle.pth_laws.specs.Waits.{WaitsRightly, AllWaitRightly, AsksNoMore, AllAskNoMore}
+use Rattle.pth_laws.proofs.Living.{true_false}
 use Rattle.pth_laws.proofs.Held.{neither, both_not, out_released, out_left, out_only}
 use Rattle.pth_laws.proofs.Allowed.{IsToTell}
 use Rattle.pth_laws.proofs.Along.{KeptAlong, run_keeps}
@@ -185,6 +190,21 @@ Rightly k t (Some b) = WaitsRightly k t b.call
 none_blocked : (b : Blocked) → None ≡ Some b → ⊥
 none_blocked b h = cc
 
+-- ---- what rows ask of it
+
+free_there : (o : Mutex) → is_some o ≡ true → (not (is_none o) && is_none (owner_of o)) ≡ is_none (owner_of o)
+free_there None h = absurd (true_false (sym h))
+free_there (Some o) h = refl
+
+let_in_there : (known lets held : Bool) → known ≡ true → held ≡ false → ((known && lets) && not held) ≡ lets
+let_in_there true true false a b = refl
+let_in_there true false false a b = refl
+let_in_there known lets true a b = absurd (true_false b)
+let_in_there false lets held a b = absurd (true_false (sym a))
+
+as_tested : (a b : Bool) → a ≡ b → (says 1 when a otherwise waits) ≡ (says 1 when b otherwise waits)
+as_tested a b same = ap (λ (x : Bool). says 1 when x otherwise waits) same
+
 module _ {P S H : Type 0} where
   abbrev AreRightly : State P S H → Type 0
   AreRightly s = (t : ℕ) → Rightly s.resources t (blocked_of s.control t)
@@ -285,3 +305,15 @@ module _ {P S H : Type 0} where
 
   pub run_rightly : (f : P → Functions S H) (g : Given P) (i : ℕ) → AllWaitRightly (run f g i).state
   run_rightly f g i t b at = blocked_at (run f g i).state t (Some b) at (run_keeps f AreRightly (rightly_kept f) g (rightly_start f g) i)
+
+  asks_no_more : (f : P → Functions S H) (s : State P S H) (t : ℕ) (b : Blocked) (c : Call) → WaitsRightly s.resources t c → AsksNoMore f s t b c
+  unfolding row_of
+  asks_no_more f s t b (call.MutexAcquire m v e) h = let free = free_there (mutex s m) h in record { again = as_tested _ _ free; wakes = free }
+  asks_no_more f s t b (call.RwAcquire l write v e) h = record {
+    again = as_tested _ _ (let_in_there (is_lock s l) (lets_in s write l) (holds s.resources.store.rw_locks t (object_named l)) h.0 h.1);
+    wakes = ap (λ (known : Bool). known && lets_in s write l) h.0;
+  }
+  asks_no_more f s t b c h = tt
+
+  pub run_asks : (f : P → Functions S H) (g : Given P) (i : ℕ) → AllAskNoMore f (run f g i).state
+  run_asks f g i t b at = asks_no_more f (run f g i).state t b b.call (run_rightly f g i t b at)

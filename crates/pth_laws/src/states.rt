@@ -6,7 +6,7 @@ ghost use Rattle.pth_model.specs.State.{Given};
 ghost use Rattle.pth_laws.specs.Holders.{AreHoldersApart};
 ghost use Rattle.pth_laws.specs.Priorities.{HasBasePriorities};
 ghost use Rattle.pth_laws.specs.Rings.{AreRingsCircles, AreRingsHeld};
-ghost use Rattle.pth_laws.specs.Waits.{AllWaitRightly};
+ghost use Rattle.pth_laws.specs.Waits.{AllAskNoMore, AllWaitRightly};
 
 use pth_base::program::Program;
 
@@ -29,7 +29,9 @@ pub fn every_run_keeps_holders_apart<P: Program>()
 {}
 
 /// Who is blocked by a `mutex_acquire` or an `rw_acquire` waits for a mutex or a lock that is initialised, and holds no lock for which
-/// it waits. The rows of these calls ask for both as they are tried again, and find them so in every run.
+/// it waits. The rows of these calls ask for this too, as they are tried again and as a pass looks for whom to wake: so in every run they
+/// ask of the mutex no more than that nobody has it, and of the lock no more than that it lets the thread in.
 pub fn every_run_waits_rightly<P: Program>()
-    ensures { (g : Given P) (i : ℕ) → AllWaitRightly (run P.functions g i).state }
+    ensures rightly { (g : Given P) (i : ℕ) → AllWaitRightly (run P.functions g i).state }
+    ensures rows { (g : Given P) (i : ℕ) → AllAskNoMore P.functions (run P.functions g i).state }
 {}
