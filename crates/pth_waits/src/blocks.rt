@@ -22,7 +22,7 @@ use pth_base::mark::Mark;
 use pth_base::marks::Marks;
 use pth_base::memory::OutOfMemory;
 use pth_base::program::Program;
-use pth_end::answering::done;
+use pth_end::answering::answer_call;
 use pth_model::blocked::{Blocked, Retake};
 use pth_model::next::Next;
 use pth_world::world::World;
@@ -73,16 +73,16 @@ pub(crate) fn answer_blocked<P: Program>(
     call: &Call,
     answer: Answer,
     marks: &mut Marks,
-) -> Result<Next, OutOfMemory>
+) -> Result<Answer, OutOfMemory>
     requires whole { Whole w.old }
     requires runs { w.old.scheduler.running ≡ Some t.0 }
-    ensures next { IfOk result (λ n. n ≡ Done answer) }
+    ensures value { IfOk result (λ a. a ≡ answer) }
     ensures ok { OnOk result ((s : State P P.State P.Shared) → StandsOnce w.old (Answered t call.now answer) s → Leads w.new marks.old marks.new (answers P.functions t.0 call.now answer s)) }
     ensures err { OnErr result (marks.new ≡ marks.old) }
     ensures frame { OnOk result (Frame w.old w.new 0 (Some t.0) false) }
 {
     w.unblock(t);
-    done(t, call, answer, marks)
+    answer_call(t, call, answer, marks)
 }
 
 /// The call that blocks the thread that runs is answered, and blocks it no longer; its claim is given back. After an error the world
@@ -103,7 +103,10 @@ pub(crate) fn answer_held<P: Program>(
     ensures frame { OnOk result (Frame w.old w.new 0 (Some t.0) false) }
 {
     match w.unblock(t) {
-        Some(held) => { done(t, &held.call, answer, marks) }
+        Some(held) => {
+            let answer = answer_call(t, &held.call, answer, marks)?;
+            Ok(Next::Done(answer))
+        }
         None => unreachable!(),
     }
 }

@@ -31,7 +31,7 @@ use pth_base::mark::Mark;
 use pth_base::marks::Marks;
 use pth_base::memory::OutOfMemory;
 use pth_base::program::Program;
-use pth_end::answering::done;
+use pth_end::answering::answer_call;
 use pth_model::living::is_dead;
 use pth_model::next::Next;
 use pth_queue::queue::Queue;
@@ -174,7 +174,8 @@ pub fn begin_join<P: Program>(
             return Ok(Next::Waits);
         }
     };
-    done(t, &call, answer, marks)
+    let answer = answer_call(t, &call, answer, marks)?;
+    Ok(Next::Done(answer))
 }
 
 /// A join, tried again. After an error the world may only be dropped.
@@ -203,7 +204,8 @@ pub fn join_again<P: Program>(
             return Ok(Next::Waits);
         }
     };
-    answer_blocked(w, t, &Call::Join(n), answer, marks)
+    let answer = answer_blocked(w, t, &Call::Join(n), answer, marks)?;
+    Ok(Next::Done(answer))
 }
 
 /// Whether the thread that a join names has died, or can be joined no longer.
