@@ -66,6 +66,7 @@ impl<P: Program> Drop for Schedule<P> {
         let Schedule {
             room: _,
             world: _,
+            calm: _,
             gave: _,
             turns: _,
             steps: _,
