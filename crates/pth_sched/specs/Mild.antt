@@ -7,17 +7,25 @@ use Rattle.pth_model.specs.declared.next.Next.{Next}
 use Rattle.pth_model.specs.declared.next.Next.TheVariants as next
 use Rattle.pth_model.specs.RingWaits.{ring_given}
 
--- whatever it comes to
+-- whatever it comes to: it asks and changes nothing, or gives control up
 abbrev pub is_mild : Call → Bool
 is_mild call.Plain = true
 is_mild (call.Note v) = true
 is_mild call.SelfTid = true
 is_mild (call.Yield n) = true
+is_mild (call.Ctrl q) = true
+is_mild (call.AttrGet a field) = true
+is_mild (call.Timeout n) = true
+is_mild (call.EvWalk e forward until_occurred) = true
+is_mild (call.EvStatus e) = true
+is_mild (call.EvKind e) = true
+is_mild (call.KeyGet k) = true
 is_mild c = false
 
 -- where it waits on, tried again
 abbrev pub waits_mildly : Call → Bool
 waits_mildly (call.Exit v) = true
+waits_mildly (call.Join n) = true
 waits_mildly (call.Wait e) = true
 waits_mildly (call.Nap n) = true
 waits_mildly (call.Usleep n) = true

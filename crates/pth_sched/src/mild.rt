@@ -14,6 +14,8 @@ pub fn is_mild(call: &Call) -> bool
 {
     match call {
         Call::Plain | Call::Note(_) | Call::SelfTid | Call::Yield(_) => true,
+        Call::Ctrl(_) | Call::AttrGet { .. } | Call::Timeout(_) | Call::KeyGet(_) => true,
+        Call::EvWalk { .. } | Call::EvStatus(_) | Call::EvKind(_) => true,
         _ => false,
     }
 }
@@ -23,7 +25,7 @@ pub fn waits_mildly(call: &Call) -> bool
     ensures { result ≡ waits call.now }
 {
     match call {
-        Call::Exit(_) | Call::Wait(_) => true,
+        Call::Exit(_) | Call::Join(_) | Call::Wait(_) => true,
         Call::Nap(_) | Call::Usleep(_) | Call::Sleep(_) => true,
         Call::MutexAcquire { .. } | Call::RwAcquire { .. } => true,
         _ => false,
