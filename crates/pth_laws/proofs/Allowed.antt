@@ -42,7 +42,7 @@ use Rattle.pth_model.specs.LibraryControl.{ctrl}
 use Rattle.pth_model.specs.EventHandling.{spec_of, made_as, make_event}
 use Rattle.pth_model.specs.ThreadControl.{thread, is_known, spawns, suspends, resumes, returns_to, to_join, takes_joined, joined}
 use Rattle.pth_model.specs.Rows.{row_of}
-use Rattle.pth_model.specs.Calls.{unless_come, interrupted}
+use Rattle.pth_model.specs.Calls.{unless_settled, interrupted}
 use Rattle.pth_model.proofs.Walks.{KeptByCalls, is_common, effect_keeps}
 use Rattle.pth_laws.specs.Waits.{WaitsRightly}
 use Rattle.pth_laws.proofs.Living.{true_false}
@@ -402,7 +402,7 @@ module _ {P S H : Type 0} (f : P → Functions S H) (t : ℕ) where
 
   -- a lock is entered once t waits no longer
   rw_again : (s : State P S H) (l : ℤ) (write : Bool) (v e : ℤ) (b : Blocked) (come known open_to held : Bool) → is_lock s l ≡ known → lets_in s write l ≡ open_to → holds s.resources.store.rw_locks t (object_named l) ≡ held → blocked_of s.control t ≡ Some b
-      → let a = unless_come come (says 1 when (known && open_to) && not held otherwise waits trying silent) in IsAllowedAgain t (call.RwAcquire l write v e) b a.verdict (effect_of a s).state
+      → let a = unless_settled come (says 1 when (known && open_to) && not held otherwise waits trying silent) in IsAllowedAgain t (call.RwAcquire l write v e) b a.verdict (effect_of a s).state
   rw_again s l write v e b false true true false is_known is_open_to is_held at = record { free = stopped_free t s; out = is_held; open_to = is_open_to }
   rw_again s l write v e b true true true false is_known is_open_to is_held at = record { free = stopped_free t s; out = is_held; open_to = is_open_to }
   rw_again s l write v e b false true true true is_known is_open_to is_held at = at
@@ -412,13 +412,13 @@ module _ {P S H : Type 0} (f : P → Functions S H) (t : ℕ) where
   rw_again s l write v e b false false open_to held is_known is_open_to is_held at = at
   rw_again s l write v e b true false open_to held is_known is_open_to is_held at = tt
 
-  other_again : (s : State P S H) (c : Call) (b : Blocked) (come : Bool) → is_entering c ≡ false → blocked_of s.control t ≡ Some b → let a = unless_come come ((row_of f s t c).again b) in IsAllowedAgain t c b a.verdict (effect_of a s).state
+  other_again : (s : State P S H) (c : Call) (b : Blocked) (come : Bool) → is_entering c ≡ false → blocked_of s.control t ≡ Some b → let a = unless_settled come ((row_of f s t c).again b) in IsAllowedAgain t c b a.verdict (effect_of a s).state
   other_again s c b false other at = again_by t c b ((row_of f s t c).again b).verdict (effect_of ((row_of f s t c).again b) s).state other (λ blocks. again_here s c b blocks ∙ at)
   other_again s c b true other at =
-      let a = unless_come true ((row_of f s t c).again b) in
+      let a = unless_settled true ((row_of f s t c).again b) in
       again_by t c b a.verdict (effect_of a s).state other (λ blocks. absurd (true_false (sym blocks ∙ interrupted_answers ((row_of f s t c).again b).verdict)))
 
-  pub allowed_again : (s : State P S H) (c : Call) (b : Blocked) (come : Bool) → blocked_of s.control t ≡ Some b → let a = unless_come come ((row_of f s t c).again b) in IsAllowedAgain t c b a.verdict (effect_of a s).state
+  pub allowed_again : (s : State P S H) (c : Call) (b : Blocked) (come : Bool) → blocked_of s.control t ≡ Some b → let a = unless_settled come ((row_of f s t c).again b) in IsAllowedAgain t c b a.verdict (effect_of a s).state
   unfolding row_of
   allowed_again s (call.RwAcquire l write v e) b come at = rw_again s l write v e b come (is_lock s l) (lets_in s write l) (holds s.resources.store.rw_locks t (object_named l)) refl refl refl at
   allowed_again s c b come at = other_again s c b come refl at

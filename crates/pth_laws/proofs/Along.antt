@@ -59,7 +59,7 @@ use Rattle.pth_model.specs.Transition.{Piece, Change, nothing, changes, tells, t
 use Rattle.pth_model.specs.Changes.{shares, uses, sets, goes_on, owing, is_blocked_by, enters, leaves_queue, raises_ready, makes, forgets, removes, adds_object, puts_object, with_threads, with_events, with_kernel, with_scheduler, moves_to, prefers, runs_now, blocked_in, blocked_of, or_nobody, entry_of, prio_of, queue_for, holders}
 use Rattle.pth_model.specs.Verdict.{Verdict, Pause, Says, Yields, Blocks, Ends, Kills, says, done, by_result}
 use Rattle.pth_model.specs.Row.{unless_refused, refuses, effect_of}
-use Rattle.pth_model.specs.RingWaits.{claims, ring_given, stops_waiting, has_event_come}
+use Rattle.pth_model.specs.RingWaits.{claims, ring_given, stops_waiting, has_settled}
 use Rattle.pth_model.specs.Acts.{acts, acts_from, act_limit, answer_in, row_of_act, goes_on_after, runs_handler}
 use Rattle.pth_model.specs.Cleanups.{runs_pushed, last_pushed}
 use Rattle.pth_model.specs.Ending.{ending, undoes_wait, runs_each, runs_cleanups, destructs, destructs_by, runs_destructors, gives_mutexes, gives_locks, dies, leaves, is_dead_with, other_than, stops_running, next_destructor, round_limit, first_round}
@@ -70,7 +70,7 @@ use Rattle.pth_model.specs.EventHandling.{spec_of, made_as, make_event, number_o
 use Rattle.pth_model.specs.Cancellation.{canceled_value, is_asynchronous, is_to_cancel, may_be_canceled, takes_request, canceled_by_other, aborted}
 use Rattle.pth_model.specs.Living.{is_dead}
 use Rattle.pth_model.specs.Rows.{row_of}
-use Rattle.pth_model.specs.Calls.{begun, begun_by, blocks, gone_on, gone_on_where, canceled_by, tried_again, tried_again_by, tried_by, unless_come, interrupted}
+use Rattle.pth_model.specs.Calls.{begun, begun_by, blocks, gone_on, gone_on_where, canceled_by, tried_again, tried_again_by, tried_by, unless_settled, interrupted}
 use Rattle.pth_model.specs.Pass.{pass, looks, to_wake, woken, all_woken, is_ready_at, moment}
 use Rattle.pth_model.specs.Part.{rank_by, Part, Move, Take, Step, Close, Halt, part, part_by, next_part, chosen, readies, readies_all, readies_new, runs, dispatches, takes, takes_by, owes_after, steps, steps_on, steps_by, is_put_back, is_put_waiting, placed_by, is_placed, turn_ends, closes, moves, moves_by}
 use Rattle.pth_model.specs.Run.{parts, run}
@@ -495,7 +495,7 @@ module _ {P S H : Type 0} (f : P → Functions S H) (R : State P S H → Type 0)
     does_again s (call.Join n) b r = joins_keep s (to_join s.control n) r
     does_again s c b r = r
 
-    come_keeps : (s : State P S H) (c : Call) (b : Blocked) (come : Bool) → KeepsAt s (effect_of (unless_come come ((row_of f s t c).again b)))
+    come_keeps : (s : State P S H) (c : Call) (b : Blocked) (come : Bool) → KeepsAt s (effect_of (unless_settled come ((row_of f s t c).again b)))
     come_keeps s c b false r = unless_keeps s (refuses ((row_of f s t c).again b).verdict) ((row_of f s t c).again b).effect (λ e. does_again s c b) r
     come_keeps s c b true r = unless_keeps s (refuses (interrupted ((row_of f s t c).again b).verdict)) ((row_of f s t c).again b).effect (λ e. does_again s c b) r
 
@@ -512,8 +512,8 @@ module _ {P S H : Type 0} (f : P → Functions S H) (R : State P S H → Type 0)
     tried_again_keeps : (s : State P S H) (o : Option Blocked) → blocked_of s.control t ≡ o → R s → R (tried_again_by f t o s).told.state
     tried_again_keeps s None at r = r
     tried_again_keeps s (Some b) at r =
-        let come = has_event_come s.control.events (ring_given b.call) in
-        let a = unless_come come ((row_of f s t b.call).again b) in
+        let come = has_settled s.control.events (ring_given b.call) in
+        let a = unless_settled come ((row_of f s t b.call).again b) in
         tried_by_keeps b a.verdict (effect_of a s).state (allowed_again f t s b.call b come at) (come_keeps s b.call b come r)
 
     canceled_keeps : (o : Option Blocked) (s : State P S H) → R s → R (canceled_by f t o s).told.state

@@ -18,7 +18,7 @@ use Rattle.pth_lock.specs.RwLocks.{LockTables, holds, may_enter, is_held}
 use Rattle.pth_store.specs.Keys.{Tables, free_key, keys_from, key_limit}
 use Rattle.pth_model.specs.declared.blocked.Blocked.{Blocked}
 use Rattle.pth_model.specs.Acts.{answer_in}
-use Rattle.pth_model.specs.Calls.{unless_come}
+use Rattle.pth_model.specs.Calls.{unless_settled}
 use Rattle.pth_model.specs.Resources.{Resources}
 use Rattle.pth_model.specs.RingWaits.{extra_ring, is_no_ring, is_claimed_ring}
 use Rattle.pth_model.specs.Rows.{row_of}
@@ -192,7 +192,7 @@ module _ {P S H : Type 0} (f : P → Functions S H) (s : State P S H) (t : ℕ) 
 
   -- a call is tried again
 
-  acquires_again : (m v e : ℤ) (come b : Bool) (a : Piece P S H) → (not (is_none (z r t m)) && is_none (owner_of (z r t m))) ≡ b → IsVerdictExclusive r t (call.MutexAcquire m v e) (unless_come come (record { verdict = says 1 when b otherwise waits; effect = a })).verdict
+  acquires_again : (m v e : ℤ) (come b : Bool) (a : Piece P S H) → (not (is_none (z r t m)) && is_none (owner_of (z r t m))) ≡ b → IsVerdictExclusive r t (call.MutexAcquire m v e) (unless_settled come (record { verdict = says 1 when b otherwise waits; effect = a })).verdict
   acquires_again m v e false true a is = let h = both _ _ is in (refl, record { initialised = some_of (z r t m) (not_true _ h.0); free = free_is t (z r t m) h.1 })
   acquires_again m v e true true a is = let h = both _ _ is in (refl, record { initialised = some_of (z r t m) (not_true _ h.0); free = free_is t (z r t m) h.1 })
   acquires_again m v e false false a is = refl
@@ -201,13 +201,13 @@ module _ {P S H : Type 0} (f : P → Functions S H) (s : State P S H) (t : ℕ) 
   abbrev locks : LockTables
   locks = r.store.rw_locks
 
-  enters_again : (l : ℤ) (write : Bool) (v e : ℤ) (come b : Bool) (a : Piece P S H) → ((locks.initialised (object_named l) && may_enter locks write (object_named l)) && not (holds locks t (object_named l))) ≡ b → IsVerdictExclusive r t (call.RwAcquire l write v e) (unless_come come (record { verdict = says 1 when b otherwise waits; effect = a })).verdict
+  enters_again : (l : ℤ) (write : Bool) (v e : ℤ) (come b : Bool) (a : Piece P S H) → ((locks.initialised (object_named l) && may_enter locks write (object_named l)) && not (holds locks t (object_named l))) ≡ b → IsVerdictExclusive r t (call.RwAcquire l write v e) (unless_settled come (record { verdict = says 1 when b otherwise waits; effect = a })).verdict
   enters_again l write v e false true a is = let h = both _ _ is in let g = both _ _ h.0 in (refl, record { initialised = g.0; out = not_true _ h.1; enters = g.1 })
   enters_again l write v e true true a is = let h = both _ _ is in let g = both _ _ h.0 in (refl, record { initialised = g.0; out = not_true _ h.1; enters = g.1 })
   enters_again l write v e false false a is = refl
   enters_again l write v e true false a is = tt
 
-  pub again_exclusive : (c : Call) (b : Blocked) (come : Bool) → is_await c ≡ false → IsVerdictExclusive r t c (unless_come come ((row_of f s t c).again b)).verdict
+  pub again_exclusive : (c : Call) (b : Blocked) (come : Bool) → is_await c ≡ false → IsVerdictExclusive r t c (unless_settled come ((row_of f s t c).again b)).verdict
   unfolding row_of
   again_exclusive (call.MutexAcquire m v e) b come other = acquires_again m v e come (not (is_none (z r t m)) && is_none (owner_of (z r t m))) silent refl
   again_exclusive (call.RwAcquire l write v e) b come other = enters_again l write v e come ((locks.initialised (object_named l) && may_enter locks write (object_named l)) && not (holds locks t (object_named l))) silent refl
@@ -222,4 +222,4 @@ module _ {P S H : Type 0} (f : P → Functions S H) (s : State P S H) (t : ℕ) 
   again_exclusive (call.KeyCreate h) b false other = refl
   again_exclusive (call.KeyCreate h) b true other = tt
   again_exclusive (call.CondAwait c m e) b come other = absurd (true_false other)
-  again_exclusive c b come other = other_exclusive r t c (unless_come come ((row_of f s t c).again b)).verdict refl
+  again_exclusive c b come other = other_exclusive r t c (unless_settled come ((row_of f s t c).again b)).verdict refl

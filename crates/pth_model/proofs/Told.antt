@@ -39,8 +39,8 @@ use Rattle.pth_base.specs.declared.act.Act.TheVariants as act
 use Rattle.pth_base.specs.declared.ids.HandlerId.{HandlerId}
 use Rattle.pth_store.specs.Cleanups.{PushedHandler}
 use Rattle.pth_store.specs.Keys.{key_limit}
-use Rattle.pth_model.specs.Calls.{begun, begun_by, gone_on, gone_on_where, canceled_by, tried_again, tried_again_by, tried_by, waits_by, unless_come, interrupted}
-use Rattle.pth_model.specs.RingWaits.{ring_given, has_event_come}
+use Rattle.pth_model.specs.Calls.{begun, begun_by, gone_on, gone_on_where, canceled_by, tried_again, tried_again_by, tried_by, waits_by, unless_settled, interrupted}
+use Rattle.pth_model.specs.RingWaits.{ring_given, has_settled}
 use Rattle.pth_model.specs.EventHandling.{spec_of, made_as, make_event, chain}
 use Rattle.pth_base.specs.declared.event.EvLine.{EvLine}
 use Rattle.pth_numbered.specs.Operands.{number, is_zero}
@@ -261,7 +261,7 @@ module _ {P S H : Type 0} (f : P → Functions S H) where
     begun_told (call.Note v) s = refl
     begun_told c s = begun_by_told c (row_of f s t c).begin.verdict (effect_of (row_of f s t c).begin) (effect_told s c) s
 
-    come_told : (s : State P S H) (c : Call) (b : Blocked) (come : Bool) → IsTold (effect_of (unless_come come ((row_of f s t c).again b)))
+    come_told : (s : State P S H) (c : Call) (b : Blocked) (come : Bool) → IsTold (effect_of (unless_settled come ((row_of f s t c).again b)))
     come_told s c b false = again_told s c b
     come_told s c b true = unless_told (refuses (interrupted ((row_of f s t c).again b).verdict)) ((row_of f s t c).again b).effect (again_tells s c b)
 
@@ -275,8 +275,8 @@ module _ {P S H : Type 0} (f : P → Functions S H) where
     tried_again_by_told : (s : State P S H) (b : Option Blocked) → Tells s.resources (tried_again_by f t b s).told
     tried_again_by_told s None = refl
     tried_again_by_told s (Some b) =
-        let come = has_event_come s.control.events (ring_given b.call) in
-        let a = unless_come come ((row_of f s t b.call).again b) in
+        let come = has_settled s.control.events (ring_given b.call) in
+        let a = unless_settled come ((row_of f s t b.call).again b) in
         finally_told (effect_of a) (tried_by f t b a.verdict) (come_told s b.call b come) (tried_by_told b a.verdict) s
 
     canceled_told : (b : Option Blocked) → LastTold (canceled_by f t b)

@@ -26,7 +26,7 @@ use Rattle.pth_model.specs.Verdict.{Verdict, Says, Yields, Blocks, Ends, Kills, 
 use Rattle.pth_model.specs.State.{State, Control, Turn, main}
 use Rattle.pth_model.specs.Transition.{Piece, Change as change_of_control, nothing, changes, tells, controlled, where_so, tid, ◌and_then◌}
 use Rattle.pth_model.specs.Changes.{shares, uses, goes_on, blocking, is_blocked_by, blocked_of, entry_of, or_nobody, owing, prefers, removes, favours_new, sets, adds_object, puts_object, with_events, with_kernel}
-use Rattle.pth_model.specs.RingWaits.{claimant, claimant_by, claims, gives_back, stops_waiting, ring_given, ring_held, has_event_come}
+use Rattle.pth_model.specs.RingWaits.{claimant, claimant_by, claims, gives_back, stops_waiting, ring_given, ring_held, has_settled}
 use Rattle.pth_model.specs.EventHandling.{spec_of, made_as, make_event, chain}
 use Rattle.pth_base.specs.declared.event.EventSpec.{EventSpec}
 use Rattle.pth_base.specs.declared.event.EvLine.{EvLine}
@@ -58,7 +58,7 @@ use Rattle.pth_base.specs.declared.ids.HandlerId.{HandlerId}
 use Rattle.pth_store.specs.Cleanups.{PushedHandler}
 use Rattle.pth_store.specs.Keys.{key_limit}
 use Rattle.pth_model.specs.Rows.{row_of}
-use Rattle.pth_model.specs.Calls.{begun, begun_by, gone_on, gone_on_where, canceled_by, tried_again, tried_again_by, tried_by, unless_come, interrupted}
+use Rattle.pth_model.specs.Calls.{begun, begun_by, gone_on, gone_on_where, canceled_by, tried_again, tried_again_by, tried_by, unless_settled, interrupted}
 use Rattle.pth_model.specs.Cancellation.{canceled_value, is_asynchronous, is_to_cancel, may_be_canceled, takes_request, canceled_by_other, aborted}
 use Rattle.pth_base.specs.declared.mark.Mark.TheVariants as mark
 use Rattle.pth_threads.specs.Threads.{changed}
@@ -447,7 +447,7 @@ module _ {P S H : Type 0} (f : P → Functions S H) (t : ℕ) (Q : Control P S H
   again_keeps : (s : State P S H) (c : Call) (b : Blocked) → KeepsAt s (effect_of ((row_of f s t c).again b))
   again_keeps s c b = unless_keeps s (refuses ((row_of f s t c).again b).verdict) ((row_of f s t c).again b).effect (λ e q. does_again s c b q)
 
-  pub come_keeps : (s : State P S H) (c : Call) (b : Blocked) (come : Bool) → KeepsAt s (effect_of (unless_come come ((row_of f s t c).again b)))
+  pub come_keeps : (s : State P S H) (c : Call) (b : Blocked) (come : Bool) → KeepsAt s (effect_of (unless_settled come ((row_of f s t c).again b)))
   come_keeps s c b false q = again_keeps s c b q
   come_keeps s c b true q = unless_keeps s (refuses (interrupted ((row_of f s t c).again b).verdict)) ((row_of f s t c).again b).effect (λ e q. does_again s c b q) q
 
@@ -615,8 +615,8 @@ module _ {P S H : Type 0} (f : P → Functions S H) (t : ℕ) (Q : Control P S H
   tried_again_by_keeps : (s : State P S H) (b : Option Blocked) → Q s.control → Q (tried_again_by f t b s).told.state.control
   tried_again_by_keeps s None q = q
   tried_again_by_keeps s (Some b) q =
-      let come = has_event_come s.control.events (ring_given b.call) in
-      let a = unless_come come ((row_of f s t b.call).again b) in
+      let come = has_settled s.control.events (ring_given b.call) in
+      let a = unless_settled come ((row_of f s t b.call).again b) in
       tried_by_keeps b a.verdict (effect_of a s).state (come_keeps f t Q kept.calls s b.call b come q)
 
   canceled_keeps : (b : Option Blocked) (s : State P S H) → Q s.control → Q (canceled_by f t b s).told.state.control

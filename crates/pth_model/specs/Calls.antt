@@ -14,7 +14,7 @@ use Rattle.pth_model.specs.Verdict.{Verdict, Pause, Says, Yields, Blocks, Ends, 
 use Rattle.pth_model.specs.State.{State, now_of}
 use Rattle.pth_model.specs.Transition.{Piece, Change, Last, silent, changes, tells, tid, ◌and◌, ◌and_then◌, ◌and_next◌, ◌and_finally◌}
 use Rattle.pth_model.specs.Changes.{is_blocked_by, blocked_of}
-use Rattle.pth_model.specs.RingWaits.{ring_given, claims, stops_waiting, has_event_come}
+use Rattle.pth_model.specs.RingWaits.{ring_given, claims, stops_waiting, has_settled}
 use Rattle.pth_model.specs.Row.{Attempt, effect_of}
 use Rattle.pth_model.specs.Ending.{ending}
 use Rattle.pth_model.specs.Cancellation.{canceled_value, may_be_canceled, canceled_in}
@@ -34,9 +34,9 @@ interrupted Kills = Kills
 
 module _ {P S H : Type 0} where
   -- a call that would block on is interrupted where an event of the ring that it was given has come
-  abbrev pub unless_come : Bool → Attempt P S H → Attempt P S H
-  unless_come false a = a
-  unless_come true a = record a { verdict = interrupted a.verdict }
+  abbrev pub unless_settled : Bool → Attempt P S H → Attempt P S H
+  unless_settled false a = a
+  unless_settled true a = record a { verdict = interrupted a.verdict }
 
 module _ {P S H : Type 0} (t : ℕ) where
   abbrev pub blocks : Call → Pause → Change P S H
@@ -85,7 +85,7 @@ module _ {P S H : Type 0} (f : P → Functions S H) (t : ℕ) where
 
   abbrev pub tried_again_by : Option Blocked → Last P S H
   tried_again_by None = silent and_next next.Waits
-  tried_again_by (Some b) = λ s. tried b (unless_come (has_event_come s.control.events (ring_given b.call)) ((row_of f s t b.call).again b)) s
+  tried_again_by (Some b) = λ s. tried b (unless_settled (has_settled s.control.events (ring_given b.call)) ((row_of f s t b.call).again b)) s
 
   -- the call that blocks t is tried again
   unfoldable pub tried_again : Last P S H

@@ -38,9 +38,9 @@ use Rattle.pth_model.specs.Cleanups.{last_pushed}
 use Rattle.pth_store.specs.Cleanups.{push_answer}
 use Rattle.pth_store.specs.Keys.{key_create_answer, key_delete_answer, key_set_answer, key_get_answer}
 use Rattle.pth_model.specs.ThreadEnds.{is_alone, must_wait}
-use Rattle.pth_model.specs.Calls.{begun, begun_by, gone_on, gone_on_where, tried_again, tried_again_by, tried_by, unless_come, interrupted}
+use Rattle.pth_model.specs.Calls.{begun, begun_by, gone_on, gone_on_where, tried_again, tried_again_by, tried_by, unless_settled, interrupted}
 use Rattle.pth_model.specs.EventHandling.{spec_of, made_as, make_event, chain, wait, number_or_none, status_number}
-use Rattle.pth_model.specs.RingWaits.{extra_ring, ring_given, has_event_come, is_no_ring, is_claimed_ring}
+use Rattle.pth_model.specs.RingWaits.{extra_ring, ring_given, has_settled, is_no_ring, is_claimed_ring}
 use Rattle.pth_lock.specs.Mutexes.{is_anothers, level_limit, levels_of, mutex_init_answer, mutex_release_answer}
 use Rattle.pth_lock.specs.Objects.{object_named}
 use Rattle.pth_lock.specs.RwLocks.{holds, lock_init_answer, lock_release_answer}
@@ -421,7 +421,7 @@ module _ {P S H : Type 0} (f : P → Functions S H) (t : ℕ) (v : ℤ) where
   tried_verdict b Kills s e = absurd (cc e)
 
   -- what blocks is interrupted, and nothing else
-  come_verdict : (come : Bool) (a : Attempt P S H) → (unless_come come a).verdict ≡ Ends v → a.verdict ≡ Ends v
+  come_verdict : (come : Bool) (a : Attempt P S H) → (unless_settled come a).verdict ≡ Ends v → a.verdict ≡ Ends v
   come_verdict false a e = e
   come_verdict true a e = by_verdict a.verdict e
     where
@@ -474,8 +474,8 @@ module _ {P S H : Type 0} (f : P → Functions S H) (t : ℕ) (v : ℤ) where
       by_blocked : (o : Option Blocked) → blocked_of s.control t ≡ o → (tried_again_by f t o s).next ≡ next.Ended v → EndsIt s.control (tried_again f t s).told.marks
       by_blocked None at h = absurd (cc h)
       by_blocked (Some b) at h =
-          let come = has_event_come s.control.events (ring_given b.call) in
-          let a = unless_come come ((row_of f s t b.call).again b) in
+          let come = has_settled s.control.events (ring_given b.call) in
+          let a = unless_settled come ((row_of f s t b.call).again b) in
           let x = exits_again s b b.call (come_verdict come ((row_of f s t b.call).again b) (tried_verdict b a.verdict (effect_of a s).state h)) in
           ends_by s.control _ s x.1 (ap (λ (w : Went P S H). w.told.marks) (again_ends f s t v b at x.0 x.1))
 

@@ -11,7 +11,7 @@ use Rattle.pth_model.specs.declared.awaits.Awaits.TheVariants.{Nothing}
 use Rattle.pth_model.specs.Awaits.{awaits_in}
 use Rattle.pth_model.specs.Changes.{blocked_of}
 use Rattle.pth_model.specs.Looks.{comes, looked_at, looks_at}
-use Rattle.pth_model.specs.Pass.{is_come_for, looks, to_wake, waiting}
+use Rattle.pth_model.specs.Pass.{comes_for, looks, to_wake, waiting}
 use Rattle.pth_model.specs.Resources.{Resources, Store}
 use Rattle.pth_model.specs.RingWaits.{awaited_events}
 use Rattle.pth_model.specs.State.{Control, State}
@@ -62,8 +62,8 @@ module _ {P S H : Type 0} (k : Control P S H) (xs : List ℕ) where
   comes_still true (Some x) = refl
   comes_still false (Some x) = refl
 
-  come_for_still : (t : ℕ) → is_come_for seen t ≡ is_come_for k t
-  unfolding is_come_for each
+  come_for_still : (t : ℕ) → comes_for seen t ≡ comes_for k t
+  unfolding comes_for each
   come_for_still t = ap (λ (p : ℕ → Bool). list_any p (awaited_events k t)) (fun_ext (λ e. comes_still (ring_holds e xs) (k.events.events e)))
 
   pub has_come_still : (x : Store) (t : ℕ) (a : Awaits) → has_come x seen t a ≡ has_come x k t a

@@ -30,10 +30,10 @@ use Rattle.pth_model.specs.State.{Control, State, now_of, present, queue}
 use Rattle.pth_model.specs.Transition.{Change, Piece, silent, nothing, controlled, changes, tells, tid, ◌and_then◌}
 use Rattle.pth_model.specs.Changes.{blocked_of, blocked_in, favours_new, goes_on, is_blocked_by, or_nobody, prefers}
 use Rattle.pth_model.specs.Cancellation.{may_be_canceled}
-use Rattle.pth_model.specs.Calls.{begun, begun_by, gone_on, gone_on_where, tried_again_by, canceled_by, tried, tried_again, interrupted, unless_come, waits_by, blocked_from}
+use Rattle.pth_model.specs.Calls.{begun, begun_by, gone_on, gone_on_where, tried_again_by, canceled_by, tried, tried_again, interrupted, unless_settled, waits_by, blocked_from}
 use Rattle.pth_model.specs.Part.{owes_after, stepping}
 use Rattle.pth_model.specs.Resources.{Resources, told, answer_told, wait_told}
-use Rattle.pth_model.specs.RingWaits.{ring_given, claims, has_event_come}
+use Rattle.pth_model.specs.RingWaits.{ring_given, claims, has_settled}
 use Rattle.pth_model.specs.Row.{Attempt, effect_of, refuses, unless_refused, ◌trying◌}
 use Rattle.pth_model.specs.Rows.{row_of}
 use Rattle.pth_model.specs.Verdict.{Verdict, Pause, Says, Yields, Blocks, Ends, Kills, by_result, no_pause, refused, says, ◌when◌otherwise◌}
@@ -192,14 +192,14 @@ module _ {P S H : Type 0} (t : ℕ) where
     tried_mild b (Ends v) same waits = absurd (cc waits)
     tried_mild b Kills same waits = absurd (cc waits)
 
-    come_mild : (b : Blocked) (come : Bool) (v : Verdict) → ((x : Resources) → wait_told x t b.call ≡ x) → is_waiting (tried f t b (unless_come come (v trying silent)) s).next ≡ true → IsMild t s (tried f t b (unless_come come (v trying silent)) s).told.state
+    come_mild : (b : Blocked) (come : Bool) (v : Verdict) → ((x : Resources) → wait_told x t b.call ≡ x) → is_waiting (tried f t b (unless_settled come (v trying silent)) s).next ≡ true → IsMild t s (tried f t b (unless_settled come (v trying silent)) s).told.state
     come_mild b true v same waits = tried_mild b (interrupted v) same waits
     come_mild b false v same waits = tried_mild b v same waits
 
     -- a join that blocks on takes nobody
     joins_on_by : (b : Blocked) (come i j d : Bool) (o : Option ℕ) → ((x : Resources) → wait_told x t b.call ≡ x)
-        → is_waiting (tried f t b (unless_come come (refused EDEADLK when i otherwise refused ESRCH when j otherwise refused EINVAL when d otherwise joined s.control o trying changes (takes_joined o))) s).next ≡ true
-        → IsMild t s (tried f t b (unless_come come (refused EDEADLK when i otherwise refused ESRCH when j otherwise refused EINVAL when d otherwise joined s.control o trying changes (takes_joined o))) s).told.state
+        → is_waiting (tried f t b (unless_settled come (refused EDEADLK when i otherwise refused ESRCH when j otherwise refused EINVAL when d otherwise joined s.control o trying changes (takes_joined o))) s).next ≡ true
+        → IsMild t s (tried f t b (unless_settled come (refused EDEADLK when i otherwise refused ESRCH when j otherwise refused EINVAL when d otherwise joined s.control o trying changes (takes_joined o))) s).told.state
     joins_on_by b true true j d o same waits = absurd (cc waits)
     joins_on_by b true false true d o same waits = absurd (cc waits)
     joins_on_by b true false false true o same waits = absurd (cc waits)
@@ -222,8 +222,8 @@ module _ {P S H : Type 0} (t : ℕ) where
     told_nothing (call.RwAcquire l write v e) mild x = refl
     told_nothing c mild x = absurd (cc mild)
 
-    again_mild : (c : Call) (b : Blocked) (come : Bool) → waits_mildly c ≡ true → ((x : Resources) → wait_told x t b.call ≡ x) → is_waiting (tried f t b (unless_come come ((row_of f s t c).again b)) s).next ≡ true
-        → IsMild t s (tried f t b (unless_come come ((row_of f s t c).again b)) s).told.state
+    again_mild : (c : Call) (b : Blocked) (come : Bool) → waits_mildly c ≡ true → ((x : Resources) → wait_told x t b.call ≡ x) → is_waiting (tried f t b (unless_settled come ((row_of f s t c).again b)) s).next ≡ true
+        → IsMild t s (tried f t b (unless_settled come ((row_of f s t c).again b)) s).told.state
     unfolding row_of
     again_mild (call.Exit v) b come mild same waits = come_mild b come _ same waits
     again_mild (call.Wait e) b come mild same waits = come_mild b come _ same waits
@@ -236,7 +236,7 @@ module _ {P S H : Type 0} (t : ℕ) where
     again_mild c b come mild same waits = absurd (cc mild)
 
     goes_on_by : (b : Blocked) → waits_mildly b.call ≡ true → is_waiting (tried_again_by f t (Some b) s).next ≡ true → IsMild t s (tried_again_by f t (Some b) s).told.state
-    goes_on_by b mild waits = again_mild b.call b (has_event_come s.control.events (ring_given b.call)) mild (told_nothing b.call mild) waits
+    goes_on_by b mild waits = again_mild b.call b (has_settled s.control.events (ring_given b.call)) mild (told_nothing b.call mild) waits
 
     goes_on_where : (canceled : Bool) (b : Blocked) → blocked_of s.control t ≡ Some b → waits_mildly b.call ≡ true → is_waiting (gone_on_where f t canceled s).next ≡ true → IsMild t s (gone_on_where f t canceled s).told.state
     unfolding tried_again

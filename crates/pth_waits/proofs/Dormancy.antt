@@ -20,7 +20,7 @@ use Rattle.pth_model.specs.Awaits.{awaits_in, awaited_in}
 use Rattle.pth_model.specs.Cancellation.{may_be_canceled}
 use Rattle.pth_model.specs.Changes.{blocked_of, entry_of, moves_to}
 use Rattle.pth_model.specs.Looks.{comes, found, looked_at, looks_at}
-use Rattle.pth_model.specs.Pass.{is_come_for, looks, waiting}
+use Rattle.pth_model.specs.Pass.{comes_for, looks, waiting}
 use Rattle.pth_model.specs.Resources.{Store}
 use Rattle.pth_model.specs.RingWaits.{awaited_events, events_from, ring_held}
 use Rattle.pth_model.specs.ThreadEnds.{is_alone}
@@ -51,7 +51,7 @@ module _ {P S H : Type 0} (x : Store) (k : Control P S H) (until : ℕ) (early :
 
   -- where main is not alone, and no thread is left to join if no record is that of one
   pub dormant_not_due : (t : ℕ) → is_alone k main ≡ false → (((u : ℕ) → is_left_to_join (entry_of k u) ≡ false) → has_any_died k ≡ false) → IsDormant x k until t → is_due x k t ≡ false
-  unfolding is_come_for
+  unfolding comes_for
   dormant_not_due t alone none q = both_false _ _ _ (away_now t _ alone none q.away) (none_come _ q.pending) q.unasked
 
   -- and a look at its events finds what was found before

@@ -14,11 +14,11 @@ use Rattle.pth_lock.specs.Objects.{object_named}
 use Rattle.pth_lock.specs.RwLocks.{holds, may_enter, lock_take_answer}
 use Rattle.pth_model.specs.declared.blocked.Blocked.{Blocked}
 use Rattle.pth_model.specs.declared.next.Next.TheVariants as next
-use Rattle.pth_model.specs.Calls.{begun, begun_as, begun_by, tried_again, tried_by, unless_come}
+use Rattle.pth_model.specs.Calls.{begun, begun_as, begun_by, tried_again, tried_by, unless_settled}
 use Rattle.pth_model.specs.Changes.{blocked_of}
 use Rattle.pth_model.specs.Mutexes.{mutex}
 use Rattle.pth_model.specs.Resources.{Store, no_resources, told, answer_told}
-use Rattle.pth_model.specs.RingWaits.{extra_ring, has_event_come, is_claimed_ring, is_no_ring, ring_given}
+use Rattle.pth_model.specs.RingWaits.{extra_ring, has_settled, is_claimed_ring, is_no_ring, ring_given}
 use Rattle.pth_model.specs.Row.{Attempt, effect_of, refuses, unless_refused, ◌trying◌}
 use Rattle.pth_model.specs.Rows.{row_of}
 use Rattle.pth_model.specs.Rwlocks.{is_lock, lets_in}
@@ -158,7 +158,7 @@ module _ {P S H : Type 0} (f : P → Functions S H) (s : State P S H) (t : ℕ) 
     held = record h.blocked { call = c }
 
     abbrev come : Bool
-    come = has_event_come s.control.events (ring_given c)
+    come = has_settled s.control.events (ring_given c)
 
     abbrev pub again_verdict : Verdict
     again_verdict = unless_interrupted come (says 1 when is_to_take s.resources.store t c otherwise waits)
@@ -171,7 +171,7 @@ module _ {P S H : Type 0} (f : P → Functions S H) (s : State P S H) (t : ℕ) 
 
     tried_as : tried_again f t s ≡ went (again_verdict trying silent)
     unfolding tried_again
-    tried_as = rw h.has (ap went (ap (unless_come come) (again_is c held is) ∙ interrupted_attempt come _ _))
+    tried_as = rw h.has (ap went (ap (unless_settled come) (again_is c held is) ∙ interrupted_attempt come _ _))
 
     pub taken_again : (a : Answer) → again_verdict ≡ Says a → tried_again f t s ≡ tried_by f t held (Says a) s
     taken_again a verdict =

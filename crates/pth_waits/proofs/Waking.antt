@@ -9,7 +9,7 @@ use Rattle.pth_model.specs.Changes.{blocked_of}
 use Rattle.pth_model.specs.Resources.{Store}
 use Rattle.pth_model.specs.RingWaits.{ring_held, events_from, awaited_events}
 use Rattle.pth_model.specs.Looks.{comes}
-use Rattle.pth_model.specs.Pass.{is_come_for, is_to_wake}
+use Rattle.pth_model.specs.Pass.{comes_for, is_to_wake}
 use Rattle.pth_model.specs.State.{Control, State}
 use Rattle.pth_numbered.specs.Operands.{number}
 use Rattle.pth_waits.specs.Waking.{has_come, has_its_due, is_due}
@@ -35,7 +35,7 @@ module _ {P S H : Type 0} (x : Store) (k : Control P S H) (t : ℕ) where
     ring_events = ap (events_from k.events) given
 
     pub ring_due : has_its_due x k t ≡ (list_any (λ i. comes k (k.events.events i)) (k.events.rings (number e)) || has_come x k t awaited)
-    unfolding is_come_for
+    unfolding comes_for
     ring_due =
         ap (λ (es : List ℕ). has_come x k t awaited || list_any (λ i. comes k (k.events.events i)) es) ring_events
         ∙ or_turned (has_come x k t awaited) (list_any (λ i. comes k (k.events.events i)) (k.events.rings (number e)))
@@ -46,7 +46,7 @@ module _ {P S H : Type 0} (x : Store) (k : Control P S H) (t : ℕ) where
     no_events = ap (events_from k.events) none
 
     pub other_due : has_its_due x k t ≡ has_come x k t awaited
-    unfolding is_come_for
+    unfolding comes_for
     other_due =
         ap (λ (es : List ℕ). has_come x k t awaited || list_any (λ i. comes k (k.events.events i)) es) no_events
         ∙ or_false (has_come x k t awaited)
@@ -60,4 +60,4 @@ pub due_is : {P S H : Type 0} (f : P → Functions S H) (s : State P S H) (t : �
 due_is f s t =
     let k = s.control in
     let x = s.resources.store in
-    ap (λ (b : Bool). b || is_come_for k t || may_be_canceled k t) (wakes_when f s t (awaits_in (blocked_of k t)) refl) ∙ or_or (has_come x k t (awaits_in (blocked_of k t))) (is_come_for k t) (may_be_canceled k t)
+    ap (λ (b : Bool). b || comes_for k t || may_be_canceled k t) (wakes_when f s t (awaits_in (blocked_of k t)) refl) ∙ or_or (has_come x k t (awaits_in (blocked_of k t))) (comes_for k t) (may_be_canceled k t)

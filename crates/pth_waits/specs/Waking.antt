@@ -6,7 +6,7 @@ use Rattle.pth_model.specs.State.{Control, now_of}
 use Rattle.pth_model.specs.Awaits.{awaits_in}
 use Rattle.pth_model.specs.Cancellation.{may_be_canceled}
 use Rattle.pth_model.specs.Changes.{or_nobody, blocked_of}
-use Rattle.pth_model.specs.Pass.{is_come_for}
+use Rattle.pth_model.specs.Pass.{comes_for}
 use Rattle.pth_model.specs.Resources.{Store}
 use Rattle.pth_model.specs.ThreadControl.{thread, is_dead_in, first_of, joinable_dead}
 use Rattle.pth_model.specs.ThreadEnds.{is_alone}
@@ -38,7 +38,7 @@ has_come x k t a = wakes_for k.kernel a
 
 -- what its call waits for has come, or an event of the ring that it was given comes
 abbrev pub has_its_due : {P S H : Type 0} → Store → Control P S H → ℕ → Bool
-has_its_due x k t = has_come x k t (awaits_in (blocked_of k t)) || is_come_for k t
+has_its_due x k t = has_come x k t (awaits_in (blocked_of k t)) || comes_for k t
 
 -- the thread is to wake: it has its due, or it may be canceled
 abbrev pub is_due : {P S H : Type 0} → Store → Control P S H → ℕ → Bool

@@ -7,7 +7,7 @@ ghost use Rattle.pth_kernel.specs.Kernel.{kernel_of};
 ghost use Rattle.pth_model.specs.Calls.{begun, tried_again};
 ghost use Rattle.pth_model.specs.Changes.{blocked_of};
 ghost use Rattle.pth_model.specs.Io.{begins_waiting, select_moment};
-ghost use Rattle.pth_model.specs.RingWaits.{claims, has_event_come, is_no_ring, ring_given as given};
+ghost use Rattle.pth_model.specs.RingWaits.{claims, has_settled, is_no_ring, ring_given as given};
 ghost use Rattle.pth_model.specs.Row.{effect_of};
 ghost use Rattle.pth_model.specs.Rows.{row_of};
 ghost use Rattle.pth_model.specs.State.{Control, State};
@@ -225,8 +225,8 @@ pub fn begin_io<P: Program>(
 }
 
 /// Whether an event of a ring is not pending.
-pub(crate) fn has_event_come(rings: &Rings, ring: Option<i64>) -> bool
-    ensures { result ≡ has_event_come (events_of rings.now) ring }
+pub(crate) fn has_settled(rings: &Rings, ring: Option<i64>) -> bool
+    ensures { result ≡ has_settled (events_of rings.now) ring }
 {
     match ring {
         Some(e) => rings.settled(e) > 0,
@@ -251,8 +251,8 @@ pub fn io_again<P: Program>(
     ensures frame { IfOk result (λ n. Frame w.old w.new 0 (runs_after t.0 n) (yields_after n)) }
 {
     let awaited = w.awaited(t);
-    let come = has_event_come(w.rings(), awaited.ring);
-    let trial = try_awaited(w.kernel_mut(), awaited.what)?.unless_come(come);
+    let come = has_settled(w.rings(), awaited.ring);
+    let trial = try_awaited(w.kernel_mut(), awaited.what)?.unless_settled(come);
     match trial.answer {
         Some(answer) => answer_held(w, t, answer, marks),
         None => wait_on(w, t, trial.written, marks),

@@ -10,7 +10,7 @@ ghost use Rattle.pth_lock.specs.Objects.{object_named};
 ghost use Rattle.pth_model.specs.Calls.{begun, tried_again};
 ghost use Rattle.pth_model.specs.Changes.{blocked_of};
 ghost use Rattle.pth_model.specs.Resources.{with_mutexes};
-ghost use Rattle.pth_model.specs.RingWaits.{has_event_come as has_come_in, is_claimed_ring, is_no_ring as is_none_in, ring_given as given};
+ghost use Rattle.pth_model.specs.RingWaits.{has_settled as has_come_in, is_claimed_ring, is_no_ring as is_none_in, ring_given as given};
 ghost use Rattle.pth_model.specs.Rows.{row_of};
 ghost use Rattle.pth_model.specs.State.{Control, State};
 ghost use Rattle.pth_model.specs.Verdict.{refused, said_or, says, waits, ◌when◌otherwise◌};
@@ -25,7 +25,7 @@ ghost use Rattle.pth_world.specs.Store.{store_of};
 ghost use Rattle.pth_world.specs.Whole.{Whole, MayBlock};
 
 use crate::blocks::{answer_blocked, block};
-use crate::io::{claim_for, has_event_come, is_no_ring};
+use crate::io::{claim_for, has_settled, is_no_ring};
 use pth_base::answer::Answer;
 use pth_base::call::Call;
 use pth_base::errno::Errno;
@@ -216,7 +216,7 @@ fn answer_again<P: Program>(w: &mut World<P>, t: Tid, call: &Call) -> Option<Ans
     if take_awaited(w, t, call) {
         return Some(Answer::Int(1));
     }
-    if has_event_come(w.rings(), ring_given(call)) {
+    if has_settled(w.rings(), ring_given(call)) {
         return Some(Answer::Fail(Errno::EINTR));
     }
     None
