@@ -1,6 +1,6 @@
 -- What every part of a run keeps of a state, by the changes and the marks of which parts are made. Beside each stands what is known as it
 -- is made.
-use Rattle.std.proofs.Common.{◌≡◌, ℕ, zero, suc, ◌+◌, ◌*◌, not, min, Bool, true, false, if◌then◌else◌, ℤ, pos, ◌+ℤ◌, neg_ℤ, List, [], ◌∷◌, reverse, Option, Some, None, is_none, option_map, refl, sym, ◌∙◌, ap, Result, Ok, Err, arith}
+use Rattle.std.proofs.Common.{◌≡◌, ℕ, zero, suc, ◌+◌, ◌*◌, not, min, Bool, true, false, if◌then◌else◌, ℤ, pos, ◌+ℤ◌, List, [], ◌∷◌, reverse, Option, Some, None, is_none, option_map, refl, sym, ◌∙◌, ap, Result, Ok, Err, arith}
 use Rattle.std.proofs.lemmas.Int.{ints}
 use Rattle.pth_base.specs.Limits.{last_count, last_moment}
 use Rattle.pth_base.specs.Program.{Functions}
@@ -39,7 +39,7 @@ use Rattle.pth_ring.specs.Ring.{head_event, rest_of}
 use Rattle.pth_ring.specs.Rings.{Events, event_id, make_answer, chain_answer, unless, ring_refusal, concat_refusal, alone, chained, concatenated, isolated, freed, ring_freed}
 use Rattle.pth_store.specs.Cleanups.{PushedHandler}
 use Rattle.pth_store.specs.Keys.{key_limit}
-use Rattle.pth_threads.specs.Attributes.{IsSetPrio, first_values, with_value, change_of, is_gone, is_fixed, is_in_range, set_answer}
+use Rattle.pth_threads.specs.Attributes.{IsSetPrio, first_values, least_priority, with_value, change_of, is_gone, is_fixed, is_in_range, set_answer, top_priority}
 use Rattle.pth_threads.specs.declared.attribute.Attribute.{Attribute}
 use Rattle.pth_threads.specs.declared.attribute.Attribute.TheVariants.{Free, Bound}
 use Rattle.pth_threads.specs.declared.entry.Change as change_of_record
@@ -154,7 +154,7 @@ set_passes known o v h = by_tests (is_none o) (is_gone known o) (is_fixed v) (is
     by_tests false false false false h = absurd (true_false h)
     by_tests false false false true h = refl
 
-pub prio_in_range : (n : ℤ) → (n is_from neg_ℤ (pos 5) to pos 5) ≡ true → IsSetPrio n
+pub prio_in_range : (n : ℤ) → (n is_from least_priority to top_priority) ≡ true → IsSetPrio n
 prio_in_range n h = record { low = grind (arith, ints); high = grind (arith, ints) }
 
 module _ {P S H : Type 0} (f : P → Functions S H) (R : State P S H → Type 0) (kept : KeptAlong f R) where
