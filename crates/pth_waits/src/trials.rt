@@ -103,6 +103,7 @@ pub(crate) fn try_awaited(k: &mut Kernel, awaits: Awaits) -> Result<Trial, OutOf
 }
 
 /// Whether a thread is woken that waits for this at descriptors: where it is answered, or a part of it can be written.
+#[inline(always)]
 pub(crate) fn wakes_for(k: &Kernel, awaits: Awaits) -> bool
     requires may { MayAwait awaits }
     ensures { result ≡ wakes_for (kernel_of k.now) awaits }
