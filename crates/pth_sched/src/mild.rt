@@ -1,6 +1,6 @@
 //! Which calls leave all other threads, and what they wait for, as they are.
 
-ghost use Rattle.std.specs.Prelude.{◌≡◌, ◌&&◌, ◌||◌, if◌then◌else◌};
+ghost use Rattle.std.specs.Prelude.{◌≡◌, ◌&&◌, if◌then◌else◌};
 ghost use Rattle.pth_sched.specs.Mild.{begins_mildly as begins, is_mild as mild, is_waiting as waits_on, waits_mildly as waits};
 
 use crate::calm::Calm;
@@ -48,11 +48,11 @@ fn is_waiting(next: &Next) -> bool
     }
 }
 
-/// What is known after a call that is mild, or where it waits, or neither.
-pub fn calm_after(was: Calm, mild: bool, patient: bool, next: &Next) -> Calm
-    ensures { result.until ≡ (if mild || (patient && waits_on next.now) then was.until else 0) }
+/// What is known after a call that is mild where it waits, or not mild.
+pub fn calm_after(was: Calm, patient: bool, next: &Next) -> Calm
+    ensures { result.until ≡ (if patient && waits_on next.now then was.until else 0) }
 {
-    if mild || patient && is_waiting(next) {
+    if patient && is_waiting(next) {
         was
     } else {
         Calm {
