@@ -37,6 +37,7 @@ use pth_world::world::World;
 
 // Begins a call that never blocks its thread, and is none of a line's own and no yield. After an error the world may only be
 // dropped.
+#[inline(always)]
 fn begin_told<P: Program>(
     w: &mut World<P>,
     t: Tid,
@@ -97,6 +98,7 @@ pub(crate) fn begin_at_once<P: Program>(
 }
 
 /// Begins a call of the thread that runs, and tells of it. After an error the world may only be dropped.
+#[inline(always)]
 pub fn begin<P: Program>(
     w: &mut World<P>,
     t: Tid,

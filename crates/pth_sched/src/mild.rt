@@ -9,6 +9,7 @@ use pth_model::awaits::ring_given;
 use pth_model::next::Next;
 
 /// Whether a call is mild whatever it comes to.
+#[inline(always)]
 pub fn is_mild(call: &Call) -> bool
     ensures { result ≡ mild call.now }
 {
@@ -21,6 +22,7 @@ pub fn is_mild(call: &Call) -> bool
 }
 
 /// Whether a call is mild where it waits on, tried again.
+#[inline(always)]
 pub fn waits_mildly(call: &Call) -> bool
     ensures { result ≡ waits call.now }
 {
@@ -33,12 +35,14 @@ pub fn waits_mildly(call: &Call) -> bool
 }
 
 /// Whether a call is mild where it begins to wait: it claims no ring.
+#[inline(always)]
 pub fn begins_mildly(call: &Call) -> bool
     ensures { result ≡ begins call.now }
 {
     waits_mildly(call) && ring_given(call).is_none()
 }
 
+#[inline(always)]
 fn is_waiting(next: &Next) -> bool
     ensures { result ≡ waits_on next.now }
 {
@@ -49,6 +53,7 @@ fn is_waiting(next: &Next) -> bool
 }
 
 /// What is known after a call that is mild where it waits, or not mild.
+#[inline(always)]
 pub fn calm_after(was: Calm, patient: bool, next: &Next) -> Calm
     ensures { result.until ≡ (if patient && waits_on next.now then was.until else 0) }
 {

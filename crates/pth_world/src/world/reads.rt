@@ -25,6 +25,7 @@ use pth_threads::entry::Entry;
 
 impl<P: Program> World<P> {
     /// The record of a thread; none where it is not in the system.
+    #[inline(always)]
     pub fn entry(&self, t: Tid) -> Option<&Entry>
         requires { IsSound self.now.threads }
         ensures entry { (k : Control P P.State P.Shared) → Shows self.now k → option_copied result ≡ k.threads.known t.0 }
@@ -167,6 +168,7 @@ impl<P: Program> World<P> {
     }
 
     /// Whether no other thread than t is new, ready, waiting or suspended.
+    #[inline(always)]
     pub fn is_alone(&self, t: Tid) -> bool
         requires { IsSound self.now.threads }
         ensures { (k : Control P P.State P.Shared) → Shows self.now k → result ≡ is_alone k t.0 }
