@@ -41,7 +41,7 @@ use Rattle.pth_waits.specs.Waking.{is_due, has_died}
 use Rattle.pth_waits.specs.Dormant.{IsDormant}
 use Rattle.pth_sched.specs.Calm.{IsCalm, IsCalmBut, IsCalmUntil, IsCalmButUntil, Calms, CalmsBut, AreDormant, is_among_waiting, waits_in}
 use Rattle.pth_waits.proofs.Standing.{none_died}
-use Rattle.pth_waits.proofs.Dormancy.{KeepsDormant, dormant_kept, dormant_sooner}
+use Rattle.pth_waits.proofs.Dormancy.{KeepsDormant, dormant_kept, dormant_sooner, equal_pending}
 use Rattle.pth_sched.proofs.Calming.{IsMild, mild_calm, readied_calm, readied_nobody, dispatched_calm, turn_over_calm}
 use Rattle.pth_sched.proofs.Waiting.{all_wait, none_due, none_looked}
 
@@ -67,7 +67,7 @@ module _ {P S H : Type 0} (w : WorldOf P S H) where
       now = now_of k;
       later = omega arith;
       kernel = sj.kernel ∙ sym sk.kernel;
-      events = sj.events ∙ sym sk.events;
+      events = equal_pending k.events j.events (sj.events ∙ sym sk.events);
       mutexes = refl;
       locks = refl;
       blocked = same_blocked u;

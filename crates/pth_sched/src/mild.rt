@@ -1,12 +1,14 @@
-//! Which calls leave all other threads, and what they wait for, as they are.
+//! Which calls leave what all other threads wait for as it is.
 
 ghost use Rattle.std.specs.Prelude.{◌≡◌, ◌&&◌, ◌||◌, if◌then◌else◌};
-ghost use Rattle.pth_sched.specs.Mild.{begins_mildly as begins, is_mild as mild, is_waiting as waits_on, waits_mildly as waits};
+ghost use Rattle.pth_kernel.specs.Kernel.{kernel_of};
+ghost use Rattle.pth_sched.specs.Mild.{is_mild as mild, is_waiting as waits_on, waits_mildly as waits};
 
 use crate::calm::Calm;
 use pth_base::call::Call;
-use pth_model::awaits::ring_given;
+use pth_base::program::Program;
 use pth_model::next::Next;
+use pth_world::world::World;
 
 /// Whether a call is mild whatever it comes to.
 pub fn is_mild(call: &Call) -> bool
@@ -20,23 +22,21 @@ pub fn is_mild(call: &Call) -> bool
     }
 }
 
-/// Whether a call is mild where it waits on, tried again.
-pub fn waits_mildly(call: &Call) -> bool
-    ensures { result ≡ waits call.now }
+/// Whether a call is mild if it begins to wait, or waits on as it is tried again: it takes nothing, and a write finds no room.
+pub fn waits_mildly<P: Program>(w: &World<P>, call: &Call) -> bool
+    ensures { result ≡ waits (kernel_of w.now.kernel) call.now }
 {
     match call {
         Call::Exit(_) | Call::Join(_) | Call::Wait(_) => true,
         Call::Nap(_) | Call::Usleep(_) | Call::Sleep(_) => true,
         Call::MutexAcquire { .. } | Call::RwAcquire { .. } => true,
+        Call::Read { .. } | Call::ReadEv { .. } => true,
+        Call::Accept(_) | Call::AcceptEv { .. } => true,
+        Call::Connect(_) | Call::ConnectEv { .. } => true,
+        Call::Select { .. } | Call::SelectEv { .. } => true,
+        Call::Write { f, .. } | Call::WriteEv { f, .. } => w.kernel().room(*f) == 0,
         _ => false,
     }
-}
-
-/// Whether a call is mild where it begins to wait: it claims no ring.
-pub fn begins_mildly(call: &Call) -> bool
-    ensures { result ≡ begins call.now }
-{
-    waits_mildly(call) && ring_given(call).is_none()
 }
 
 fn is_waiting(next: &Next) -> bool

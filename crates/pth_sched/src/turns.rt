@@ -5,6 +5,7 @@ ghost use Rattle.pth_queue.specs.Queues.{CanRise};
 ghost use Rattle.pth_queue.specs.declared.queue.Queue.TheVariants as queue;
 ghost use Rattle.pth_base.specs.Cut.{IsCut};
 ghost use Rattle.pth_base.specs.Limits.{last_moment};
+ghost use Rattle.pth_kernel.specs.Kernel.{kernel_of};
 ghost use Rattle.pth_model.specs.Calls.{gone_on};
 ghost use Rattle.pth_model.specs.Changes.{blocked_of, raises_ready};
 ghost use Rattle.pth_model.specs.Part.{chosen, is_placed, new_rank, readies_new, steps_from, steps_on, time_passes, turn_ends};
@@ -23,7 +24,7 @@ ghost use Rattle.pth_sched.specs.Passing.{HasRoom, IsReady};
 
 use crate::begin::begin;
 use crate::calm::Calm;
-use crate::mild::{begins_mildly, calm_after, is_mild, waits_mildly};
+use crate::mild::{calm_after, is_mild, waits_mildly};
 use pth_base::ids::Tid;
 use pth_base::limits::LAST_MOMENT;
 use pth_base::marks::Marks;
@@ -104,7 +105,7 @@ fn begin_next<P: Program>(
     };
     let call = w.next_call(t)?;
     let mild = is_mild(&call);
-    let patient = begins_mildly(&call);
+    let patient = waits_mildly(w, &call);
     let next = begin(w, t, call, marks)?;
     *calm = calm_after(was, mild, patient, &next);
     Ok(next)
@@ -137,13 +138,13 @@ fn resume_blocked<P: Program>(
     Ok(next)
 }
 
-// Whether the call that blocks a thread is mild where it waits on.
+// Whether the call that blocks a thread is mild if it waits on.
 fn is_patient<P: Program>(w: &World<P>, t: Tid) -> bool
     requires { Whole w.now }
-    ensures { (k : Control P P.State P.Shared) → Shows w.now k → result ≡ is_patient_in (blocked_of k t.0) }
+    ensures { (k : Control P P.State P.Shared) → Shows w.now k → result ≡ is_patient_in (kernel_of w.now.kernel) (blocked_of k t.0) }
 {
     match w.blocked(t) {
-        Some(blocked) => waits_mildly(&blocked.call),
+        Some(blocked) => waits_mildly(w, &blocked.call),
         None => false,
     }
 }

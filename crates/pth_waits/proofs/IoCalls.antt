@@ -105,7 +105,7 @@ module _ {P S H : Type 0} (f : P → Functions S H) (s : State P S H) (t : ℕ) 
   abbrev first : Call → Trial
   first c = first_trial kernel c (moment_for s c)
 
-  io_begin : (c : Call) → is_io c ≡ true → (row_of f s t c).begin ≡ ((refused EINVAL when is_no_ring s (ring_given c) otherwise said_or (first c).answer (begins_waiting s (is_at_once kernel c) (ring_given c) (first c).written (moment_for s c))) trying changes (with_kernel (first c).after))
+  pub io_begin : (c : Call) → is_io c ≡ true → (row_of f s t c).begin ≡ ((refused EINVAL when is_no_ring s (ring_given c) otherwise said_or (first c).answer (begins_waiting s (is_at_once kernel c) (ring_given c) (first c).written (moment_for s c))) trying changes (with_kernel (first c).after))
   unfolding row_of
   io_begin (call.Read g n) io = refl
   io_begin (call.ReadEv g n e) io = refl
