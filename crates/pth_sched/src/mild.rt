@@ -1,6 +1,6 @@
 //! Which calls leave what all other threads wait for as it is.
 
-ghost use Rattle.std.specs.Prelude.{◌≡◌, ◌&&◌, ◌||◌, if◌then◌else◌};
+ghost use Rattle.std.specs.Prelude.{◌≡◌, ◌&&◌, ◌||◌, true, if◌then◌else◌};
 ghost use Rattle.pth_kernel.specs.Kernel.{kernel_of};
 ghost use Rattle.pth_sched.specs.Mild.{is_mild as mild, is_waiting as waits_on, waits_mildly as waits};
 
@@ -50,7 +50,8 @@ fn is_waiting(next: &Next) -> bool
 
 /// What is known after a call that is mild, or where it waits, or neither.
 pub fn calm_after(was: Calm, mild: bool, patient: bool, next: &Next) -> Calm
-    ensures { result.until ≡ (if mild || (patient && waits_on next.now) then was.until else 0) }
+    ensures until { result.until ≡ (if mild || (patient && waits_on next.now) then was.until else 0) }
+    ensures stirred { result.stirred ≡ (if mild || (patient && waits_on next.now) then was.stirred else true) }
 {
     if mild || patient && is_waiting(next) {
         was
