@@ -1,5 +1,5 @@
 -- Steps that are mild leave a world calm.
-use Rattle.std.proofs.Common.{◌≡◌, ◌≢◌, ◌∙◌, ℕ, ◌<◌, ◌||◌, ◌&&◌, is_some, Bool, true, false, if◌then◌else◌, List, Option, Some, None, IsSome, IfSome, refl, sym, ap, subst, arith, ◌⊎◌, inl, inr}
+use Rattle.std.proofs.Common.{◌≡◌, ◌∙◌, ℕ, ◌<◌, ◌||◌, ◌&&◌, is_some, Bool, true, false, if◌then◌else◌, List, Option, Some, None, IsSome, IfSome, refl, sym, ap, subst, arith, ◌⊎◌, inl, inr}
 use Rattle.pth_base.specs.Program.{Functions}
 use Rattle.pth_base.specs.declared.call.Call.{Call}
 use Rattle.pth_base.specs.declared.mark.Mark.{Mark}

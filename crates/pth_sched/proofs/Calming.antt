@@ -1,21 +1,18 @@
 -- What keeps a state calm: dispatches, what ends a turn, and mild steps.
-use Rattle.std.proofs.Common.{◌≡◌, ◌≢◌, ◌∙◌, ℕ, ◌==◌, ◌+◌, ◌<◌, ◌≤◌, ◌||◌, ◌&&◌, not, min, Bool, true, false, if◌then◌else◌, ℤ, pos, negsuc, List, [], ◌∷◌, Option, Some, None, option_map, ◌⊎◌, inl, inr, refl, sym, ap, subst, arith}
-use Rattle.std.proofs.lemmas.Bool.{cases_Bool}
+use Rattle.std.proofs.Common.{◌≡◌, ◌≢◌, ◌∙◌, ℕ, ◌+◌, ◌≤◌, ◌||◌, not, min, Bool, true, false, ℤ, pos, negsuc, List, [], ◌∷◌, Option, Some, None, option_map, refl, sym, ap, subst, arith}
 use Rattle.pth_base.specs.Limits.{last_moment}
 use Rattle.pth_base.specs.Table.{put}
-use Rattle.pth_base.proofs.Tables.{put_here, put_other, put_by, same_self, not_same}
+use Rattle.pth_base.proofs.Tables.{put_other, put_by}
 use Rattle.pth_base.specs.declared.thread.ThreadState.{ThreadState}
 use Rattle.pth_base.specs.declared.thread.ThreadState.TheVariants as state
-use Rattle.pth_kernel.specs.Kernel.{Kernel, advanced}
+use Rattle.pth_kernel.specs.Kernel.{advanced}
 use Rattle.pth_threads.specs.Threads.{changed}
-use Rattle.pth_threads.specs.declared.entry.Change.{Change}
 use Rattle.pth_threads.specs.declared.entry.Change.TheVariants as change
 use Rattle.pth_threads.specs.declared.entry.Entry.{Entry}
 use Rattle.pth_model.specs.declared.blocked.Blocked.{Blocked}
 use Rattle.pth_model.specs.State.{Control, State, now_of, clock_of}
-use Rattle.pth_model.specs.Transition.{◌and◌}
-use Rattle.pth_model.specs.Changes.{blocked_of, entry_of, or_nobody, sets, goes_on, leaves_queue, enters, raises_ready, runs_now}
-use Rattle.pth_model.specs.Cancellation.{is_to_cancel, is_at_point, may_be_canceled}
+use Rattle.pth_model.specs.Changes.{blocked_of, entry_of, or_nobody, sets, leaves_queue, enters, raises_ready, runs_now}
+use Rattle.pth_model.specs.Cancellation.{is_to_cancel, may_be_canceled}
 use Rattle.pth_model.specs.Resources.{Store}
 use Rattle.pth_model.specs.ThreadControl.{is_dead_in}
 use Rattle.pth_model.specs.Pass.{is_ready_at}
@@ -23,7 +20,7 @@ use Rattle.pth_model.specs.Part.{runs, readies, readies_all, is_placed, placed_b
 use Rattle.pth_waits.specs.Waking.{has_died}
 use Rattle.pth_waits.specs.Dormant.{IsDormant, is_left_to_join}
 use Rattle.pth_sched.specs.Calm.{IsCalm, IsCalmBut, is_among_waiting}
-use Rattle.pth_waits.proofs.Dormancy.{KeepsDormant, KeepsPending, dormant_kept, pending_then, same_pending}
+use Rattle.pth_waits.proofs.Dormancy.{KeepsPending, dormant_kept, pending_then, same_pending}
 
 -- ---- records of threads
 

@@ -1,15 +1,14 @@
 -- The calls that are mild leave all other threads, and what they wait for, as they are.
-use Rattle.std.proofs.Common.{◌≡◌, ◌≢◌, ◌∙◌, ℕ, ◌==◌, ◌||◌, ◌&&◌, not, Bool, true, false, if◌then◌else◌, ℤ, pos, List, [], ◌∷◌, length, Option, Some, None, Result, Ok, Err, option_map, refl, sym, ap, subst}
+use Rattle.std.proofs.Common.{◌≡◌, ◌∙◌, ℕ, not, Bool, true, false, if◌then◌else◌, ℤ, pos, length, Option, Some, None, Result, Ok, Err, refl, sym, ap, subst}
 use Rattle.pth_base.specs.Program.{Functions, Stepped}
-use Rattle.pth_base.specs.Table.{put}
 use Rattle.pth_base.proofs.Tables.{put_other, same_means}
 use Rattle.pth_base.specs.declared.answer.Answer.{Answer}
-use Rattle.pth_base.specs.declared.answer.Answer.TheVariants.{Int, Text, Fail}
+use Rattle.pth_base.specs.declared.answer.Answer.TheVariants.{Int, Text}
 use Rattle.pth_base.specs.declared.call.Call.{Call}
 use Rattle.pth_base.specs.declared.call.Call.TheVariants as call
 use Rattle.pth_base.specs.declared.errno.Errno.{Errno}
 use Rattle.pth_base.specs.declared.errno.Errno.TheVariants.{EDEADLK, EINVAL, ESRCH}
-use Rattle.pth_base.specs.declared.mark.Mark.TheVariants.{Answered, Waits as WaitsMark}
+use Rattle.pth_base.specs.declared.mark.Mark.TheVariants.{Answered}
 use Rattle.pth_base.specs.declared.query.Query.{Query}
 use Rattle.pth_base.specs.declared.query.Query.TheVariants as query
 use Rattle.pth_base.specs.declared.ids.EventId.{EventId}
@@ -29,9 +28,9 @@ use Rattle.pth_model.specs.declared.next.Next.TheVariants as next
 use Rattle.pth_model.specs.declared.progress.Progress.{Progress}
 use Rattle.pth_queue.specs.declared.queue.Queue.TheVariants as queues
 use Rattle.pth_model.specs.LibraryControl.{running_count}
-use Rattle.pth_model.specs.State.{Control, State, now_of, present, queue}
-use Rattle.pth_model.specs.Transition.{Change, Piece, Went, silent, nothing, controlled, changes, tells, tid, ◌and_then◌}
-use Rattle.pth_model.specs.Changes.{blocked_of, blocked_in, favours_new, goes_on, is_blocked_by, or_nobody, prefers, with_kernel}
+use Rattle.pth_model.specs.State.{State, now_of, present, queue}
+use Rattle.pth_model.specs.Transition.{Went, silent, nothing, controlled, changes, tells, tid, ◌and_then◌}
+use Rattle.pth_model.specs.Changes.{blocked_of, blocked_in, favours_new, goes_on, or_nobody, prefers, with_kernel}
 use Rattle.pth_model.specs.Cancellation.{may_be_canceled}
 use Rattle.pth_model.specs.Calls.{begun, begun_as, begun_by, gone_on, gone_on_where, tried_again_by, canceled_by, tried, tried_again, interrupted, unless_come, waits_by, blocked_from}
 use Rattle.pth_model.specs.Part.{owes_after, stepping}
