@@ -6,9 +6,8 @@ ghost use Rattle.pth_sched.specs.Mild.{is_mild as mild, is_waiting as waits_on, 
 
 use crate::calm::Calm;
 use pth_base::call::Call;
-use pth_base::program::Program;
+use pth_kernel::kernel::Kernel;
 use pth_model::next::Next;
-use pth_world::world::World;
 
 /// Whether a call is mild whatever it comes to.
 pub fn is_mild(call: &Call) -> bool
@@ -23,8 +22,8 @@ pub fn is_mild(call: &Call) -> bool
 }
 
 /// Whether a call is mild if it begins to wait, or waits on as it is tried again: it takes nothing, and a write finds no room.
-pub fn waits_mildly<P: Program>(w: &World<P>, call: &Call) -> bool
-    ensures { result ≡ waits (kernel_of w.now.kernel) call.now }
+pub fn waits_mildly(kernel: &Kernel, call: &Call) -> bool
+    ensures { result ≡ waits (kernel_of kernel.now) call.now }
 {
     match call {
         Call::Exit(_) | Call::Join(_) | Call::Wait(_) => true,
@@ -34,7 +33,7 @@ pub fn waits_mildly<P: Program>(w: &World<P>, call: &Call) -> bool
         Call::Accept(_) | Call::AcceptEv { .. } => true,
         Call::Connect(_) | Call::ConnectEv { .. } => true,
         Call::Select { .. } | Call::SelectEv { .. } => true,
-        Call::Write { f, .. } | Call::WriteEv { f, .. } => w.kernel().room(*f) == 0,
+        Call::Write { f, .. } | Call::WriteEv { f, .. } => kernel.room(*f) == 0,
         _ => false,
     }
 }

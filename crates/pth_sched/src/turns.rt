@@ -105,7 +105,7 @@ fn begin_next<P: Program>(
     };
     let call = w.next_call(t)?;
     let mild = is_mild(&call);
-    let patient = waits_mildly(w, &call);
+    let patient = waits_mildly(w.kernel(), &call);
     let next = begin(w, t, call, marks)?;
     *calm = calm_after(was, mild, patient, &next);
     Ok(next)
@@ -144,7 +144,7 @@ fn is_patient<P: Program>(w: &World<P>, t: Tid) -> bool
     ensures { (k : Control P P.State P.Shared) → Shows w.now k → result ≡ is_patient_in (kernel_of w.now.kernel) (blocked_of k t.0) }
 {
     match w.blocked(t) {
-        Some(blocked) => waits_mildly(w, &blocked.call),
+        Some(blocked) => waits_mildly(w.kernel(), &blocked.call),
         None => false,
     }
 }

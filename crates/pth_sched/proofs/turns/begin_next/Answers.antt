@@ -12,5 +12,5 @@ returns-clause-frame g c =
 
 pub returns-clause-calm : goal.returns-clause-calm
 returns-clause-calm g c = λ calms.
-    calms_by c.begin.new.w _ c.args.calm.now.until c.calm_after.result.until (rw (c.is_mild-mild.ensures, c.waits_mildly-patient.ensures) at c.calm_after.ensures.until)
+    calms_by c.begin.new.w _ c.args.calm.now.until c.calm_after.result.until (rw (c.is_mild-mild.ensures, c.waits_mildly-patient.ensures, c.kernel.ensures) at c.calm_after.ensures.until)
     (λ test some. begun_calms g.P.Program.functions c.args.w.now c.begin.new.w c.args.calm.now.until c.args.t.0 (calms some) c.requires.runs c.next_call.new.self c.in_ok-call.call c.in_ok-next.next _ _ (ap (λ (k : WorldOf _ _ _). k.store) c.in_ok-call.ensures.same) c.in_ok-next.ensures.next c.in_ok-next.ensures.ok test (λ r st. c.next_call.ensures.some r.control st.control) c.in_ok-call.ensures.shows)
