@@ -136,6 +136,20 @@ waits_on_leads w s t b old new may none sh appended =
 pub progress_frame : {P S H : Type 0} (w : WorldOf P S H) (p : List (Option (Progress S))) (r : Option ℕ) → w.scheduler.running ≡ r → Whole (record w { threads = record w.threads { progress = p } }) → Frame w (record w { threads = record w.threads { progress = p } }) 0 r false
 progress_frame w p r is whole = record { whole = whole; runs = is; made = record { threads = omega arith; objects = omega arith; events = omega arith }; ranks = ranks_same 0 w.threads w.threads _ refl (ranks_none w.threads); preferred = refl }
 
+-- no call blocks the thread any longer
+pub unblocked_frame : {P S H : Type 0} (w v : WorldOf P S H) (r : Option ℕ) → w.scheduler.running ≡ r → Whole v → v.events.made ≡ w.events.made → v ≡ record w { threads = record w.threads { progress = v.threads.progress }; events = v.events } → Frame w v 0 r false
+unblocked_frame {P} {S} {H} w v r is whole made same = record {
+  whole = whole;
+  runs = ap (λ (z : WorldOf P S H). z.scheduler.running) same ∙ is;
+  made = record {
+    threads = (let e = ap (λ (z : WorldOf P S H). z.threads.records.made) same in omega arith);
+    objects = (let e = ap (λ (z : WorldOf P S H). z.attributes.made) same in omega arith);
+    events = (let e = made in omega arith);
+  };
+  ranks = ranks_same 0 w.threads w.threads v.threads (ap (λ (z : WorldOf P S H). z.threads.queues) same) (ranks_none w.threads);
+  preferred = ap (λ (z : WorldOf P S H). z.scheduler.preferred) same;
+}
+
 -- this call blocks thread t, as it may
 pub record IsHeld (o : Option Blocked) (t : ℕ) (c : Call) : Type 0 where
   pub blocked : Blocked

@@ -29,7 +29,7 @@ use pth_base::ids::{Micros, Tid};
 use pth_base::marks::Marks;
 use pth_base::memory::OutOfMemory;
 use pth_base::program::Program;
-use pth_end::answering::answer_call;
+use pth_end::answering::done;
 use pth_io::select::are_all_live;
 use pth_kernel::kernel::Kernel;
 use pth_model::awaits::{awaited_by, ring_given};
@@ -217,8 +217,7 @@ pub fn begin_io<P: Program>(
     let moment = moment_for(w, &call);
     let trial = begin_trial(w, t, &call, moment)?;
     if let Some(answer) = trial.answer {
-        let answer = answer_call(t, &call, answer, marks)?;
-        return Ok(Next::Done(answer));
+        return done(t, &call, answer, marks);
     }
     block(w, t, call, moment, trial.written, marks)?;
     Ok(Next::Waits)

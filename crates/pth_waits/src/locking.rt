@@ -34,7 +34,7 @@ use pth_base::mark::Mark;
 use pth_base::marks::Marks;
 use pth_base::memory::OutOfMemory;
 use pth_base::program::Program;
-use pth_end::answering::answer_call;
+use pth_end::answering::done;
 use pth_model::awaits::ring_given;
 use pth_model::next::Next;
 use pth_world::world::World;
@@ -161,8 +161,7 @@ pub fn begin_locking<P: Program>(
     ensures frame { IfOk result (λ n. Frame w.old w.new 0 (runs_after t.0 n) (yields_after n)) }
 {
     if let Some(answer) = begin_taking(w, t, &call) {
-        let answer = answer_call(t, &call, answer, marks)?;
-        return Ok(Next::Done(answer));
+        return done(t, &call, answer, marks);
     }
     block(w, t, call, 0, 0, marks)?;
     Ok(Next::Waits)
@@ -241,8 +240,7 @@ pub fn lock_again<P: Program>(
     ensures frame { IfOk result (λ n. Frame w.old w.new 0 (runs_after t.0 n) (yields_after n)) }
 {
     if let Some(answer) = answer_again(w, t, &call) {
-        let answer = answer_blocked(w, t, &call, answer, marks)?;
-        return Ok(Next::Done(answer));
+        return answer_blocked(w, t, &call, answer, marks);
     }
     marks.push(Mark::Waits { tid: t, call })?;
     Ok(Next::Waits)

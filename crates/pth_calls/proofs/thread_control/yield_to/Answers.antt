@@ -8,7 +8,7 @@ use Rattle.pth_model.specs.ThreadControl.{yield}
 use Rattle.pth_model.specs.declared.next.Next.TheVariants.{Yields}
 use Rattle.pth_world.proofs.Telling.{quiet-refused}
 use Rattle.pth_end.proofs.Answers.{changed_leads}
-use Rattle.pth_calls.proofs.Framing.{done_frame}
+use Rattle.pth_end.proofs.Framing.{done_frame}
 use Rattle.pth_calls.proofs.Yielding.{yield_begun, yield_refused, quiet-yield}
 use Rattle.pth_calls.proofs.thread_control.yield_to.Goals as goal
 
