@@ -37,10 +37,11 @@ use Rattle.pth_world.specs.World.{WorldOf}
 use Rattle.pth_world.specs.StateOf.{state_of}
 use Rattle.pth_world.proofs.StateOf.{stands_for_state}
 use Rattle.pth_world.proofs.Telling.{has_still}
-use Rattle.pth_waits.specs.Waking.{is_due, has_died}
+use Rattle.pth_waits.specs.Waking.{has_died}
 use Rattle.pth_waits.specs.Dormant.{IsDormant}
 use Rattle.pth_sched.specs.Calm.{IsCalm, IsCalmBut, IsCalmUntil, IsCalmButUntil, Calms, CalmsBut, AreDormant, is_among_waiting, waits_in}
 use Rattle.pth_waits.proofs.Standing.{none_died}
+use Rattle.pth_waits.proofs.Waking.{is_due}
 use Rattle.pth_waits.proofs.Dormancy.{KeepsDormant, dormant_kept, dormant_sooner}
 use Rattle.pth_sched.proofs.Calming.{IsMild, mild_calm, readied_calm, readied_nobody, dispatched_calm, turn_over_calm}
 use Rattle.pth_sched.proofs.Waiting.{all_wait, none_due, none_looked}

@@ -20,9 +20,10 @@ use Rattle.pth_world.specs.Shows.{Shows}
 use Rattle.pth_world.specs.Whole.{Whole, place_for}
 use Rattle.pth_world.specs.World.{WorldOf}
 use Rattle.pth_waits.specs.Dormant.{IsDormant, StaysPending, is_left_to_join}
-use Rattle.pth_waits.specs.Waking.{has_any_died, is_due}
+use Rattle.pth_waits.specs.Waking.{has_any_died}
 use Rattle.pth_waits.proofs.Dormancy.{dormant_not_due, looked_same}
 use Rattle.pth_waits.proofs.Standing.{all_stand, of_standing, place_in}
+use Rattle.pth_waits.proofs.Waking.{is_due}
 use Rattle.pth_sched.specs.Calm.{is_among_waiting, waits_in}
 
 -- ---- who stands in the waiting queue waits, and the reverse

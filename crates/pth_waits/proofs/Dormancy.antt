@@ -24,9 +24,10 @@ use Rattle.pth_model.specs.Pass.{is_come_for, looks, waiting}
 use Rattle.pth_model.specs.Resources.{Store}
 use Rattle.pth_model.specs.RingWaits.{awaited_events, events_from, ring_held}
 use Rattle.pth_model.specs.ThreadEnds.{is_alone}
-use Rattle.pth_waits.specs.Waking.{has_any_died, has_come, has_died, has_its_due, is_due}
+use Rattle.pth_waits.specs.Waking.{has_any_died, has_come, has_died}
 use Rattle.pth_waits.specs.Io.{wakes_for}
 use Rattle.pth_waits.specs.Dormant.{ArePending, FindsPending, IsDormant, StaysAway, StaysPending, is_left_to_join}
+use Rattle.pth_waits.proofs.Waking.{is_due}
 
 -- ---- at a moment before, a dormant thread is not to wake
 
