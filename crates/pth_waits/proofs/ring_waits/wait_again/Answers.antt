@@ -1,4 +1,4 @@
-use Rattle.std.proofs.Common.{◌≡◌, nat_lt, pos, true, false, ap, refl, rules, SFits, w64, to_z-of_z, arith}
+use Rattle.std.proofs.Common.{◌≡◌, nat_lt, pos, true, false, refl, rules, SFits, w64, to_z-of_z, arith}
 use Rattle.std.proofs.lemmas.Result.{IfOk-weaker, on_ok_weaker}
 use Rattle.std.proofs.lemmas.Bool.Decides.{nat_tests}
 use Rattle.pth_base.specs.declared.call.Call.TheVariants.{Wait}
