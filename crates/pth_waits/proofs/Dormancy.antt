@@ -1,26 +1,23 @@
 -- What keeps threads dormant, and what dormant threads leave of a pass.
-use Rattle.std.proofs.Common.{◌≡◌, ◌≢◌, ◌∙◌, ℕ, ◌==◌, ◌<◌, ◌≤◌, ◌||◌, ◌&&◌, not, min, nat_le, Bool, true, false, cond, ℤ, List, [], ◌∷◌, ◌++◌, filter, flat_map, Option, Some, None, option_map, All, refl, sym, ap, ap₂, subst, arith}
-use Rattle.std.proofs.lemmas.Bool.Decides.{nat_tests}
+use Rattle.std.proofs.Common.{◌≡◌, ◌∙◌, ℕ, ◌<◌, ◌≤◌, ◌||◌, min, Bool, false, ℤ, List, [], ◌∷◌, Option, Some, None, option_map, All, refl, sym, ap, subst, arith}
 use Rattle.std.specs.List.{list_any}
-use Rattle.std.proofs.lemmas.List.Elements.{All-head, All-tail, All-weaker, All-append, All-cons, All-nil}
-use mathlib.Core.Path.{fun_ext}
+use Rattle.std.proofs.lemmas.List.Elements.{All-head, All-tail, All-weaker, All-nil}
 use Rattle.pth_ring.specs.declared.event.Event.{Event}
 use Rattle.pth_ring.specs.declared.event.Status.TheVariants.{Pending}
-use Rattle.pth_ring.specs.Ring.{each, ring_holds}
-use Rattle.pth_ring.specs.Rings.{Events, is_pending, with_status}
+use Rattle.pth_ring.specs.Rings.{Events, with_status}
 use Rattle.pth_base.specs.declared.event.EventSpec.{EventSpec}
 use Rattle.pth_kernel.specs.Kernel.{Kernel, advanced}
 use Rattle.pth_model.specs.declared.blocked.Blocked.{Blocked}
 use Rattle.pth_model.specs.declared.awaits.Awaits.{Awaits}
-use Rattle.pth_model.specs.declared.awaits.Awaits.TheVariants.{Nothing, Alone, Death, AnyDeath, Moment, Ring, Reading, Writing, Connection, ConnectAnswer, Selection, Mutex, Lock}
-use Rattle.pth_model.specs.State.{Control, State, now_of, main}
+use Rattle.pth_model.specs.declared.awaits.Awaits.TheVariants.{Nothing, Alone, Death, AnyDeath, Moment, Ring, Mutex, Lock}
+use Rattle.pth_model.specs.State.{Control, now_of, main}
 use Rattle.pth_model.specs.declared.awaits.Awaited.{Awaited}
 use Rattle.pth_numbered.specs.Operands.{number}
 use Rattle.pth_model.specs.Awaits.{awaits_in, awaited_in}
 use Rattle.pth_model.specs.Cancellation.{may_be_canceled}
 use Rattle.pth_model.specs.Changes.{blocked_of, entry_of, moves_to}
-use Rattle.pth_model.specs.Looks.{comes, found, looked_at, looks_at}
-use Rattle.pth_model.specs.Pass.{is_come_for, looks, waiting}
+use Rattle.pth_model.specs.Looks.{comes, found, looked_at}
+use Rattle.pth_model.specs.Pass.{is_come_for}
 use Rattle.pth_model.specs.Resources.{Store}
 use Rattle.pth_model.specs.RingWaits.{awaited_events, events_from, ring_held}
 use Rattle.pth_model.specs.ThreadEnds.{is_alone}
