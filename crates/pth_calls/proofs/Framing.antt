@@ -1,10 +1,7 @@
 -- What single calls leave of a world.
-use Rattle.std.proofs.Common.{◌≡◌, ◌≢◌, ◌∙◌, ◌+◌, ◌≤◌, ℕ, Bool, true, false, Option, Some, Result, Ok, Err, IfOk, OnOk, OnErr, if◌then◌else◌, refl, ap, sym, subst, arith}
-use Rattle.pth_base.specs.declared.answer.Answer.{Answer}
+use Rattle.std.proofs.Common.{◌≡◌, ◌≢◌, ◌∙◌, ◌+◌, ◌≤◌, ℕ, Bool, true, false, Option, Some, Result, Ok, Err, OnOk, OnErr, if◌then◌else◌, refl, ap, sym, subst, arith}
 use Rattle.pth_kernel.specs.Kernel.{KernelOf}
 use Rattle.pth_model.specs.Ending.{other_than}
-use Rattle.pth_model.specs.declared.next.Next.{Next}
-use Rattle.pth_model.specs.declared.next.Next.TheVariants.{Done}
 use Rattle.pth_ring.specs.Arena.{RingsOf, events_of}
 use Rattle.pth_ring.specs.Rings.{Events}
 use Rattle.pth_threads.specs.Attributes.{AttrsOf}
@@ -13,7 +10,7 @@ use Rattle.pth_world.proofs.Kernels.{kernel_whole}
 use Rattle.pth_world.proofs.Moves.{rests_still}
 use Rattle.pth_world.proofs.Ranks.{ranks_none}
 use Rattle.pth_world.proofs.SettingValues.{objects_frame}
-use Rattle.pth_world.specs.Frame.{Frame, runs_after, yields_after}
+use Rattle.pth_world.specs.Frame.{Frame}
 use Rattle.pth_world.specs.Ranks.{KeepsRanks}
 use Rattle.pth_world.specs.Whole.{Whole}
 use Rattle.pth_world.specs.World.{WorldOf}
@@ -70,11 +67,6 @@ favoured_frame {P} {S} {H} w v on whole same =
       ranks = ranks_none w.threads;
       preferred = refl;
     })
-
--- the call is answered, and its thread goes on
-pub done_frame : {P S H E : Type 0} (w v : WorldOf P S H) (t : ℕ) (q : Result Next E) (a : Answer) → IfOk q (λ n. n ≡ Done a) → Frame w v 0 (Some t) false → IfOk q (λ n. Frame w v 0 (runs_after t n) (yields_after n))
-done_frame w v t (Ok n) a is f = subst (λ (k : Next). Frame w v 0 (runs_after t k) (yields_after k)) (sym is) f
-done_frame w v t (Err e) a is f = tt
 
 -- a thread was made
 pub spawned_frame : {P S H : Type 0} (w v : WorldOf P S H) (r : Option ℕ) → w.scheduler.running ≡ r → Whole v → v.threads.records.made ≡ w.threads.records.made + 1 → KeepsRanks 1 w.threads v.threads → v ≡ record w { threads = v.threads } → Frame w v 1 r false

@@ -28,11 +28,12 @@ use pth_base::answer::Answer;
 use pth_base::call::Call;
 use pth_base::errno::Errno;
 use pth_base::ids::{BodyId, Tid};
+use pth_base::mark::Mark;
 use pth_base::marks::Marks;
 use pth_base::memory::OutOfMemory;
 use pth_base::program::Program;
 use pth_base::thread::ThreadState;
-use pth_end::answering::{answer_call, done};
+use pth_end::answering::done;
 use pth_model::living::is_dead;
 use pth_model::next::Next;
 use pth_threads::entry::{AddErr, Entry, NewThread};
@@ -226,6 +227,7 @@ fn name_next<P: Program>(w: &mut World<P>, t: Tid, to: i64) -> bool
 
 /// `pth_yield`: gives up control, to a thread that is new or ready, or for 0 to nobody in particular. After an error the world
 /// may only be dropped.
+#[inline(always)]
 pub fn yield_to<P: Program>(
     w: &mut World<P>,
     t: Tid,
@@ -244,6 +246,10 @@ pub fn yield_to<P: Program>(
     if !name_next(w, t, to) {
         return done(t, call, Answer::Fail(Errno::EINVAL), marks);
     }
-    let answer = answer_call(t, call, Answer::Int(1), marks)?;
-    Ok(Next::Yields(answer))
+    marks.push(Mark::Answered {
+        tid: t,
+        call: Call::Yield(to),
+        answer: Answer::Int(1),
+    })?;
+    Ok(Next::Yields(Answer::Int(1)))
 }

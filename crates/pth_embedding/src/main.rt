@@ -2,7 +2,7 @@
 #![tactic(auto)]
 
 ghost use Rattle.std.specs.Prelude.{◌≡◌, ◌≤◌, None, IfOk, OnOk};
-ghost use Rattle.pth_world.specs.Sound.{IsSound};
+ghost use Rattle.pth_world.specs.Whole.{Whole};
 
 mod errand;
 
@@ -15,10 +15,12 @@ use pth_base::mark::Mark;
 use pth_base::marks::Marks;
 use pth_base::memory::OutOfMemory;
 use pth_base::outcome::Outcome;
+use pth_base::thread::ThreadState;
 use pth_kernel::kernel::Kernel;
 use pth_kernel::trace::{Entry, Stamp, Trace};
 use pth_queue::queue::Queue;
 use pth_sched::machine::Machine;
+use pth_waits::wakes::wakes;
 use pth_world::world::World;
 use std::alloc::{AllocError, Global};
 use std::io;
@@ -61,19 +63,32 @@ fn print_marks(rt: &(impl Print + AllocGlobal), marks: &[Mark]) -> io::Result<()
     Ok(())
 }
 
+/// Of a thread that waits, whether what it waits for has come.
+fn wait_of(world: &World<Errand>, t: Tid, state: ThreadState) -> &'static str
+    requires { Whole world.now }
+{
+    match state {
+        ThreadState::Waiting if wakes(world, t) => " for what has come",
+        ThreadState::Waiting => " for what has not come",
+        _ => "",
+    }
+}
+
 /// Prints the record of a thread, where it has one: it has none once it was joined.
 fn print_thread(
     rt: &(impl Print + AllocGlobal),
     world: &World<Errand>,
     number: u32,
 ) -> io::Result<()>
-    requires { IsSound world.now.threads }
+    requires { Whole world.now }
 {
     match world.entry(Tid(number)) {
         Some(entry) => {
             println!(rt;
-                "  thread {number}: {:?}, dispatches {}",
-                entry.state, entry.dispatches
+                "  thread {number}: {:?}{}, dispatches {}",
+                entry.state,
+                wait_of(world, entry.tid, entry.state),
+                entry.dispatches
             )
         }
         None => println!(rt; "  thread {number}: gone"),
@@ -82,7 +97,7 @@ fn print_thread(
 
 /// Prints who runs, how many threads stand in each queue, and the record of each thread that was made.
 fn print_world(rt: &(impl Print + AllocGlobal), world: &World<Errand>) -> io::Result<()>
-    requires { IsSound world.now.threads }
+    requires { Whole world.now }
 {
     match world.running() {
         Some(t) => println!(rt; "  thread {} runs on", t.0)?,

@@ -1,5 +1,6 @@
 pub mod Answers
 pub mod Chains
+pub mod Framing
 pub mod Handled
 pub mod Acting
 pub mod Stacks

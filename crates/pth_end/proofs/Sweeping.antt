@@ -17,10 +17,10 @@ use Rattle.pth_lock.specs.RwLocks.{LockTables, holds, is_one, lock_released, loc
 use Rattle.pth_lock.specs.Sets.{contains}
 use Rattle.pth_lock.proofs.Bits.{contains-past}
 use Rattle.pth_lock.proofs.Sweeps.{by_place}
-use Rattle.pth_model.specs.Ending.{gives_mutexes, gives_locks}
+use Rattle.pth_model.specs.Ending.{gives_mutexes, gives_locks, locks_held, mutexes_had}
 use Rattle.pth_model.specs.Resources.{Resources, Store, told, mutex_freed, no_resources, with_store, with_mutexes, with_rw_locks}
 use Rattle.pth_model.specs.State.{State}
-use Rattle.pth_model.specs.Transition.{Piece, Transition, silent, tells, tid, where_so, ◌and_then◌}
+use Rattle.pth_model.specs.Transition.{Transition, tells, tells_each, tid}
 use Rattle.pth_world.specs.Leading.{Leads}
 use Rattle.pth_world.specs.Shows.{Shows, StandsFor}
 use Rattle.pth_world.specs.Store.{store_of}
@@ -96,64 +96,62 @@ module _ (h : Held) (t : Tid) where
 
 -- ---- a sweep: of each number in a row that passes a test a mark is told, after which it does not
 
-module _ {P S H : Type 0} (mark : ℕ → Mark) (test : Store → ℕ → Bool) (step : ℕ → Store → Store) (all : Store → Store) (gives : ℕ → ℕ → Piece P S H)
-    (none : (m : ℕ) (s : State P S H) → gives 0 m s ≡ silent s)
-    (more : (n m : ℕ) (s : State P S H) → gives (suc n) m s ≡ (where_so (test s.resources.store m) (tells (mark m)) and_then gives n (m + 1)) s)
+module _ (mark : ℕ → Mark) (test : Store → ℕ → Bool) (step : ℕ → Store → Store) (all : Store → Store)
     (tell : (k : Resources) (m : ℕ) → told k (mark m) ≡ with_store k (step m k.store))
     (left : (x : Store) (m i : ℕ) → test (step m x) i ≡ put (test x) m false i)
     (rest : (x : Store) (m : ℕ) → test x m ≡ true → all (step m x) ≡ all x)
     (still : (x : Store) → ((i : ℕ) → test x i ≡ false) → all x ≡ x) where
-  abbrev marks_of : Store → ℕ → ℕ → List Mark
-  marks_of x n m = map mark (filter (test x) (range_with_len m n))
+  -- those from m on pass if p says so, and no others do
+  record Stands (p : ℕ → Bool) (n m : ℕ) (x : Store) : Type 0 where
+    same : (i : ℕ) → m ≤ i → test x i ≡ p i
+    within : (i : ℕ) → test x i ≡ true → (m ≤ i) × (i < m + n)
 
-  -- the resources are these once all was given up
-  abbrev swept : State P S H → Resources → ℕ → ℕ → List Mark → Transition P S H
-  swept s k n m first = record { state = record s { resources = with_store k (all k.store) }; marks = first ++ marks_of k.store n m }
+  outside : (p : ℕ → Bool) (x : Store) (m i : ℕ) (b : Bool) → Stands p zero m x → test x i ≡ b → b ≡ false
+  outside p x m i true h is = absurd (omega (arith, (h.within i is).0, (h.within i is).1))
+  outside p x m i false h is = refl
 
-  abbrev Within : Store → ℕ → ℕ → Type 0
-  Within x n m = (i : ℕ) → test x i ≡ true → (m ≤ i) × (i < m + n)
+  -- behind one that does not pass, or passes no more
+  skipped : (p : ℕ → Bool) (x : Store) (n m : ℕ) → Stands p (suc n) m x → test x m ≡ false → Stands p n (m + 1) x
+  skipped p x n m h out = record {
+    same = λ i high. h.same i (omega (arith, high));
+    within = λ i is.
+        let apart : m ≢ i = λ here. cc (out, ap (test x) here ∙ is) in
+        let at = h.within i is in
+        (omega (arith, at.0, apart), omega (arith, at.1));
+  }
 
-  outside : (x : Store) (m i : ℕ) (b : Bool) → Within x zero m → test x i ≡ b → b ≡ false
-  outside x m i true within is = absurd (omega (arith, (within i is).0, (within i is).1))
-  outside x m i false within is = refl
+  stepped : (p : ℕ → Bool) (x : Store) (n m : ℕ) → Stands p (suc n) m x → Stands p n (m + 1) (step m x)
+  stepped p x n m h = record {
+    same = λ i high. left x m i ∙ put_other (test x) m false i (apart_above m i high) ∙ h.same i (omega (arith, high));
+    within = λ i is. put_by (λ (b : Bool). b ≡ true → (m + 1 ≤ i) × (i < m + 1 + n)) (test x) m false i
+        (λ here no. absurd (cc no))
+        (λ apart member. let at = h.within i member in (omega (arith, at.0, apart), omega (arith, at.1)))
+        (sym (left x m i) ∙ is);
+  }
 
-  -- behind the first one
-  narrower : (x : Store) (n m : ℕ) → Within x (suc n) m → test x m ≡ false → Within x n (m + 1)
-  narrower x n m within out i is =
-      let apart : m ≢ i = λ same. cc (out, ap (test x) same ∙ is) in
-      let at = within i is in
-      (omega (arith, at.0, apart), omega (arith, at.1))
+  module _ {P S H : Type 0} where
+    -- once all was given up
+    abbrev swept : State P S H → Resources → List Mark → Transition P S H
+    swept s k ms = record { state = record s { resources = with_store k (all k.store) }; marks = ms }
 
-  narrower_put : (x : Store) (n m : ℕ) → Within x (suc n) m → Within (step m x) n (m + 1)
-  narrower_put x n m within i is = put_by (λ (b : Bool). b ≡ true → (m + 1 ≤ i) × (i < m + 1 + n)) (test x) m false i
-      (λ here no. absurd (cc no))
-      (λ apart member. let at = within i member in (omega (arith, at.0, apart), omega (arith, at.1)))
-      (sym (left x m i) ∙ is)
+    sweep : (p : ℕ → Bool) (n m : ℕ) (s : State P S H) → Stands p n m s.resources.store → let ms = map mark (filter p (range_with_len m n)) in tells_each ms s ≡ swept s s.resources ms
+    unfolding tells_each
+    sweep p zero m s h = ap (λ (x : Store). record { state = record s { resources = with_store s.resources x }; marks = [] }) (sym (still s.resources.store (λ i. outside p s.resources.store m i (test s.resources.store i) h refl)))
+    sweep p (suc n) m s h =
+        by_test (p m) (h.same m (omega arith))
+        (λ out. sweep p n (m + 1) s (skipped p s.resources.store n m h out))
+        (sweep p n (m + 1) (tells (mark m) s).state (subst (λ (k : Resources). Stands p n (m + 1) k.store) (sym (tell s.resources m)) (stepped p s.resources.store n m h)))
+      where
+        rest_of : List ℕ
+        rest_of = filter p (range_with_len (m + 1) n)
 
-  pub sweep : (n m : ℕ) (s : State P S H) → Within s.resources.store n m → gives n m s ≡ swept s s.resources n m []
-  sweep zero m s within = none m s ∙ ap (λ (x : Store). record { state = record s { resources = with_store s.resources x }; marks = [] }) (sym (still s.resources.store (λ i. by_outside i)))
-    where
-      by_outside : (i : ℕ) → test s.resources.store i ≡ false
-      by_outside i = outside s.resources.store m i (test s.resources.store i) within refl
-  sweep (suc n) m s within =
-      more n m s
-      ∙ by_test (test s.resources.store m) refl
-      (λ out. sweep n (m + 1) s (narrower s.resources.store n m within out))
-      (sweep n (m + 1) (tells (mark m) s).state (subst (λ (k : Resources). Within k.store n (m + 1)) (sym (tell s.resources m)) (narrower_put s.resources.store n m within)))
-    where
-      behind : (s' : State P S H) → Transition P S H
-      behind s' = gives n (m + 1) s'
-
-      by_test : (b : Bool) → test s.resources.store m ≡ b → (test s.resources.store m ≡ false → behind s ≡ swept s s.resources n (m + 1) []) → behind (tells (mark m) s).state ≡ swept s (told s.resources (mark m)) n (m + 1) []
-          → (where_so b (tells (mark m)) and_then gives n (m + 1)) s ≡ swept s s.resources (suc n) m []
-      by_test false out skip go =
-          skip out ∙ ap (λ (b : Bool). record { state = record s { resources = with_store s.resources (all s.resources.store) }; marks = map mark (cond b (m ∷ filter (test s.resources.store) (range_with_len (m + 1) n)) (filter (test s.resources.store) (range_with_len (m + 1) n))) }) (sym out)
-      by_test true member skip go =
-          ap (λ (x : Transition P S H). record { state = x.state; marks = mark m ∷ x.marks }) go
-          ∙ ap (λ (k : Resources). swept s k n (m + 1) (mark m ∷ [])) (tell s.resources m)
-          ∙ ap₂ (λ (y : Store) (ms : List Mark). record { state = record s { resources = with_store s.resources y }; marks = mark m ∷ ms }) (rest s.resources.store m member)
-          (ap (map mark) (filter_same (test (step m s.resources.store)) (test s.resources.store) n (m + 1) (λ i high. left s.resources.store m i ∙ put_other (test s.resources.store) m false i (apart_above m i high))))
-          ∙ ap (λ (b : Bool). record { state = record s { resources = with_store s.resources (all s.resources.store) }; marks = map mark (cond b (m ∷ filter (test s.resources.store) (range_with_len (m + 1) n)) (filter (test s.resources.store) (range_with_len (m + 1) n))) }) (sym member)
+        by_test : (b : Bool) → test s.resources.store m ≡ b → (test s.resources.store m ≡ false → tells_each (map mark rest_of) s ≡ swept s s.resources (map mark rest_of)) → tells_each (map mark rest_of) (tells (mark m) s).state ≡ swept s (told s.resources (mark m)) (map mark rest_of)
+            → let ms = map mark (cond b (m ∷ rest_of) rest_of) in tells_each ms s ≡ swept s s.resources ms
+        by_test false out skip go = skip out
+        by_test true member skip go =
+            ap (λ (x : Transition P S H). record { state = x.state; marks = mark m ∷ x.marks }) go
+            ∙ ap (λ (k : Resources). swept s k (mark m ∷ map mark rest_of)) (tell s.resources m)
+            ∙ ap (λ (y : Store). record { state = record s { resources = with_store s.resources y }; marks = mark m ∷ map mark rest_of }) (rest s.resources.store m member)
 
 -- ---- sets of 64 bits
 
@@ -260,44 +258,32 @@ module _ (t : ℕ) where
   -- ---- all of them
 
   module _ {P S H : Type 0} where
-    no_mutexes_more : (m : ℕ) (s : State P S H) → gives_mutexes t 0 m s ≡ silent s
-    unfolding gives_mutexes
-    no_mutexes_more m s = refl
+    mutexes_swept : (s : State P S H) → IsSmall (mutex_test s.resources.store) → gives_mutexes t s ≡ record { state = record s { resources = with_store s.resources (with_mutexes (mutexes_left t) s.resources.store) }; marks = all_given held.Mutex (tid t) (mutex_test s.resources.store) }
+    unfolding all_given mutexes_had
+    mutexes_swept s small =
+        sweep (GaveMutex (tid t)) mutex_test give_mutex (with_mutexes (mutexes_left t)) mutex_told left_mutex rest_mutex still_mutex (mutex_test s.resources.store) object_limit 0 s
+        (record { same = λ i high. refl; within = within (mutex_test s.resources.store) small })
 
-    more_mutexes : (n m : ℕ) (s : State P S H) → gives_mutexes t (suc n) m s ≡ (where_so (mutex_test s.resources.store m) (tells (GaveMutex (tid t) m)) and_then gives_mutexes t n (m + 1)) s
-    unfolding gives_mutexes
-    more_mutexes n m s = refl
-
-    no_locks_more : (m : ℕ) (s : State P S H) → gives_locks t 0 m s ≡ silent s
-    unfolding gives_locks
-    no_locks_more m s = refl
-
-    more_locks : (n m : ℕ) (s : State P S H) → gives_locks t (suc n) m s ≡ (where_so (lock_test s.resources.store m) (tells (GaveLock (tid t) m)) and_then gives_locks t n (m + 1)) s
-    unfolding gives_locks
-    more_locks n m s = refl
-
-    mutexes_swept : (s : State P S H) → IsSmall (mutex_test s.resources.store) → gives_mutexes t object_limit 0 s ≡ record { state = record s { resources = with_store s.resources (with_mutexes (mutexes_left t) s.resources.store) }; marks = all_given held.Mutex (tid t) (mutex_test s.resources.store) }
-    unfolding all_given
-    mutexes_swept s small = sweep (GaveMutex (tid t)) mutex_test give_mutex (with_mutexes (mutexes_left t)) (gives_mutexes t) no_mutexes_more more_mutexes mutex_told left_mutex rest_mutex still_mutex object_limit 0 s (within (mutex_test s.resources.store) small)
-
-    locks_swept : (s : State P S H) → IsSmall (lock_test s.resources.store) → gives_locks t object_limit 0 s ≡ record { state = record s { resources = with_store s.resources (with_rw_locks (locks_left t) s.resources.store) }; marks = all_given held.RwLock (tid t) (lock_test s.resources.store) }
-    unfolding all_given
-    locks_swept s small = sweep (GaveLock (tid t)) lock_test give_lock (with_rw_locks (locks_left t)) (gives_locks t) no_locks_more more_locks lock_told left_lock rest_lock still_lock object_limit 0 s (within (lock_test s.resources.store) small)
+    locks_swept : (s : State P S H) → IsSmall (lock_test s.resources.store) → gives_locks t s ≡ record { state = record s { resources = with_store s.resources (with_rw_locks (locks_left t) s.resources.store) }; marks = all_given held.RwLock (tid t) (lock_test s.resources.store) }
+    unfolding all_given locks_held
+    locks_swept s small =
+        sweep (GaveLock (tid t)) lock_test give_lock (with_rw_locks (locks_left t)) lock_told left_lock rest_lock still_lock (lock_test s.resources.store) object_limit 0 s
+        (record { same = λ i high. refl; within = within (lock_test s.resources.store) small })
 
     module _ (w v : WorldOf P S H) (s : State P S H) (st : StandsFor w s) (set : ℕ) (fits : set < 2 ^ 64) (old new : List Mark) where
       module _ (had : (m : ℕ) → contains set m ≡ mutex_test (store_of w.store) m) where
         mutex_set : contains set ≡ mutex_test s.resources.store
         mutex_set = fun_ext had ∙ ap (λ (k : Resources). mutex_test k.store) (sym st.resources)
 
-        mutexes_are : gives_mutexes t object_limit 0 s ≡ record { state = record s { resources = with_store s.resources (with_mutexes (mutexes_left t) s.resources.store) }; marks = all_given held.Mutex (tid t) (contains set) }
+        mutexes_are : gives_mutexes t s ≡ record { state = record s { resources = with_store s.resources (with_mutexes (mutexes_left t) s.resources.store) }; marks = all_given held.Mutex (tid t) (contains set) }
         mutexes_are =
             mutexes_swept s (small_set set (mutex_test s.resources.store) fits mutex_set)
             ∙ ap (λ (f : ℕ → Bool). record { state = record s { resources = with_store s.resources (with_mutexes (mutexes_left t) s.resources.store) }; marks = all_given held.Mutex (tid t) f }) (sym mutex_set)
 
-        pub mutexes_cut : IsCut old new (all_given held.Mutex (tid t) (contains set)) → IsCut old new (gives_mutexes t object_limit 0 s).marks
+        pub mutexes_cut : IsCut old new (all_given held.Mutex (tid t) (contains set)) → IsCut old new (gives_mutexes t s).marks
         mutexes_cut cut = subst (λ (x : Transition P S H). IsCut old new x.marks) (sym mutexes_are) cut
 
-        pub mutexes_lead : store_of v.store ≡ with_mutexes (mutexes_left t) (store_of w.store) → Shows v s.control → new ≡ old ++ all_given held.Mutex (tid t) (contains set) → Leads v old new (gives_mutexes t object_limit 0 s)
+        pub mutexes_lead : store_of v.store ≡ with_mutexes (mutexes_left t) (store_of w.store) → Shows v s.control → new ≡ old ++ all_given held.Mutex (tid t) (contains set) → Leads v old new (gives_mutexes t s)
         mutexes_lead changes shows appended = subst (λ (x : Transition P S H). Leads v old new x) (sym mutexes_are) (record {
           stands = record { control = shows; resources = ap (λ (k : Resources). with_store k (with_mutexes (mutexes_left t) k.store)) st.resources ∙ ap (λ (y : Store). record no_resources { store = y }) (sym changes) };
           tells = appended;
@@ -307,15 +293,15 @@ module _ (t : ℕ) where
         lock_set : contains set ≡ lock_test s.resources.store
         lock_set = fun_ext holding ∙ ap (λ (k : Resources). lock_test k.store) (sym st.resources)
 
-        locks_are : gives_locks t object_limit 0 s ≡ record { state = record s { resources = with_store s.resources (with_rw_locks (locks_left t) s.resources.store) }; marks = all_given held.RwLock (tid t) (contains set) }
+        locks_are : gives_locks t s ≡ record { state = record s { resources = with_store s.resources (with_rw_locks (locks_left t) s.resources.store) }; marks = all_given held.RwLock (tid t) (contains set) }
         locks_are =
             locks_swept s (small_set set (lock_test s.resources.store) fits lock_set)
             ∙ ap (λ (f : ℕ → Bool). record { state = record s { resources = with_store s.resources (with_rw_locks (locks_left t) s.resources.store) }; marks = all_given held.RwLock (tid t) f }) (sym lock_set)
 
-        pub locks_cut : IsCut old new (all_given held.RwLock (tid t) (contains set)) → IsCut old new (gives_locks t object_limit 0 s).marks
+        pub locks_cut : IsCut old new (all_given held.RwLock (tid t) (contains set)) → IsCut old new (gives_locks t s).marks
         locks_cut cut = subst (λ (x : Transition P S H). IsCut old new x.marks) (sym locks_are) cut
 
-        pub locks_lead : store_of v.store ≡ with_rw_locks (locks_left t) (store_of w.store) → Shows v s.control → new ≡ old ++ all_given held.RwLock (tid t) (contains set) → Leads v old new (gives_locks t object_limit 0 s)
+        pub locks_lead : store_of v.store ≡ with_rw_locks (locks_left t) (store_of w.store) → Shows v s.control → new ≡ old ++ all_given held.RwLock (tid t) (contains set) → Leads v old new (gives_locks t s)
         locks_lead changes shows appended = subst (λ (x : Transition P S H). Leads v old new x) (sym locks_are) (record {
           stands = record { control = shows; resources = ap (λ (k : Resources). with_store k (with_rw_locks (locks_left t) k.store)) st.resources ∙ ap (λ (y : Store). record no_resources { store = y }) (sym changes) };
           tells = appended;

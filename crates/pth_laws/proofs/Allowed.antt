@@ -1,5 +1,5 @@
 -- What is known as a call is answered, or as it blocks its thread: its row said so.
-use Rattle.std.proofs.Common.{◌≡◌, ℕ, ◌+◌, ◌==◌, nat_lt, ◌&&◌, ◌||◌, not, Bool, true, false, if◌then◌else◌, ℤ, pos, length, Option, Some, None, is_none, is_some, option_map, refl, sym, ◌∙◌, ap, subst, Ok}
+use Rattle.std.proofs.Common.{◌≡◌, ℕ, ◌+◌, ◌==◌, nat_lt, ◌&&◌, ◌||◌, not, Bool, true, false, if◌then◌else◌, ℤ, pos, length, Option, Some, None, is_none, is_some, option_map, refl, sym, ◌∙◌, ap, subst, Ok, Err}
 use Rattle.pth_base.specs.Program.{Functions}
 use Rattle.pth_base.specs.declared.answer.Answer.{Answer}
 use Rattle.pth_base.specs.declared.answer.Answer.TheVariants as answer
@@ -26,7 +26,7 @@ use Rattle.pth_threads.specs.declared.entry.Change.TheVariants as change
 use Rattle.pth_threads.specs.declared.entry.NewThread.{NewThread}
 use Rattle.pth_model.specs.declared.blocked.Blocked.{Blocked}
 use Rattle.pth_model.specs.declared.progress.Progress.{Progress}
-use Rattle.pth_model.specs.Verdict.{Verdict, Pause, Says, Yields, Blocks, Ends, Kills, refused, says, waits, no_pause, said_or, counts_or, by_result, ◌when◌otherwise◌, refused_as◌otherwise◌}
+use Rattle.pth_model.specs.Verdict.{Verdict, Pause, Says, Yields, Blocks, Ends, Kills, refused, says, waits, no_pause, said_or, counts_or, by_result, taken_or, ◌when◌otherwise◌, refused_as◌otherwise◌}
 use Rattle.pth_model.specs.Resources.{Resources}
 use Rattle.pth_model.specs.Io.{Trial, tries, at_once, read_trial, write_trial, accept_trial, connect_trial, select_trial, first_select, select_moment}
 use Rattle.pth_model.specs.Awaits.{deadline_by}
@@ -42,7 +42,7 @@ use Rattle.pth_model.specs.LibraryControl.{ctrl}
 use Rattle.pth_model.specs.EventHandling.{spec_of, made_as, make_event}
 use Rattle.pth_model.specs.ThreadControl.{thread, is_known, spawns, suspends, resumes, returns_to, to_join, takes_joined, joined}
 use Rattle.pth_model.specs.Rows.{row_of}
-use Rattle.pth_model.specs.Calls.{unless_come, interrupted}
+use Rattle.pth_model.specs.Calls.{unless_settled, interrupted}
 use Rattle.pth_model.proofs.Walks.{KeptByCalls, is_common, effect_keeps}
 use Rattle.pth_laws.specs.Waits.{WaitsRightly}
 use Rattle.pth_laws.proofs.Living.{true_false}
@@ -301,25 +301,25 @@ module _ {P S H : Type 0} (f : P → Functions S H) (t : ℕ) where
       let passed = ring_passes s.control.events (number e) refusal in
       (free, ring_waits t s s (call.Wait e) (Some e) refl refl (ap not passed.0) passed.1 tt)
 
-  acquire_allowed : (s : State P S H) (m v e : ℤ) (none no_ring full open_to tries has : Bool) → is_none (mutex s m) ≡ none → is_no_ring s (extra_ring e) ≡ no_ring → is_claimed_ring s (extra_ring e) ≡ has → IsFree t s
-      → IsAllowed t (call.MutexAcquire m v e) (refused EINVAL when none || no_ring otherwise refused EAGAIN when full otherwise says 1 when open_to otherwise refused EBUSY when tries || has otherwise waits) s
-  acquire_allowed s m v e true no_ring full open_to tries has is_none_so is_ring is_has free = tt
-  acquire_allowed s m v e false true full open_to tries has is_none_so is_ring is_has free = tt
-  acquire_allowed s m v e false false true open_to tries has is_none_so is_ring is_has free = tt
-  acquire_allowed s m v e false false false true tries has is_none_so is_ring is_has free = tt
-  acquire_allowed s m v e false false false false true has is_none_so is_ring is_has free = tt
-  acquire_allowed s m v e false false false false false true is_none_so is_ring is_has free = tt
-  acquire_allowed s m v e false false false false false false is_none_so is_ring is_has free = (free, ring_waits t s s (call.MutexAcquire m v e) (extra_ring e) refl refl is_ring is_has (not_none (mutex s m) is_none_so))
+  acquire_allowed : (s : State P S H) (m v e : ℤ) (no_ring none full others tries has : Bool) → is_none (mutex s m) ≡ none → is_no_ring s (extra_ring e) ≡ no_ring → is_claimed_ring s (extra_ring e) ≡ has → IsFree t s
+      → IsAllowed t (call.MutexAcquire m v e) (refused EINVAL when no_ring otherwise taken_or (if none then Err EINVAL else if full then Err EAGAIN else if others then Err EBUSY else Ok tt) (refused EBUSY when tries || has otherwise waits)) s
+  acquire_allowed s m v e true none full others tries has is_none_so is_ring is_has free = tt
+  acquire_allowed s m v e false true full others tries has is_none_so is_ring is_has free = tt
+  acquire_allowed s m v e false false true others tries has is_none_so is_ring is_has free = tt
+  acquire_allowed s m v e false false false false tries has is_none_so is_ring is_has free = tt
+  acquire_allowed s m v e false false false true true has is_none_so is_ring is_has free = tt
+  acquire_allowed s m v e false false false true false true is_none_so is_ring is_has free = tt
+  acquire_allowed s m v e false false false true false false is_none_so is_ring is_has free = (free, ring_waits t s s (call.MutexAcquire m v e) (extra_ring e) refl refl is_ring is_has (not_none (mutex s m) is_none_so))
 
-  enter_allowed : (s : State P S H) (l : ℤ) (write : Bool) (v e : ℤ) (known no_ring held open_to tries has : Bool) → is_lock s l ≡ known → is_no_ring s (extra_ring e) ≡ no_ring → holds s.resources.store.rw_locks t (object_named l) ≡ held → lets_in s write l ≡ open_to → is_claimed_ring s (extra_ring e) ≡ has → IsFree t s
-      → IsAllowed t (call.RwAcquire l write v e) (refused EINVAL when not known || no_ring otherwise refused EDEADLK when held otherwise says 1 when open_to otherwise refused EBUSY when tries || has otherwise waits) s
-  enter_allowed s l write v e false no_ring held open_to tries has is_known is_ring is_held is_open_to is_has free = tt
-  enter_allowed s l write v e true true held open_to tries has is_known is_ring is_held is_open_to is_has free = tt
-  enter_allowed s l write v e true false true open_to tries has is_known is_ring is_held is_open_to is_has free = tt
-  enter_allowed s l write v e true false false true tries has is_known is_ring is_held is_open_to is_has free = record { free = free; out = is_held; open_to = is_open_to }
-  enter_allowed s l write v e true false false false true has is_known is_ring is_held is_open_to is_has free = tt
-  enter_allowed s l write v e true false false false false true is_known is_ring is_held is_open_to is_has free = tt
-  enter_allowed s l write v e true false false false false false is_known is_ring is_held is_open_to is_has free = (free, ring_waits t s s (call.RwAcquire l write v e) (extra_ring e) refl refl is_ring is_has (is_known, is_held))
+  enter_allowed : (s : State P S H) (l : ℤ) (write : Bool) (v e : ℤ) (no_ring known held open_to tries has : Bool) → is_lock s l ≡ known → is_no_ring s (extra_ring e) ≡ no_ring → holds s.resources.store.rw_locks t (object_named l) ≡ held → lets_in s write l ≡ open_to → is_claimed_ring s (extra_ring e) ≡ has → IsFree t s
+      → IsAllowed t (call.RwAcquire l write v e) (refused EINVAL when no_ring otherwise taken_or (if not known then Err EINVAL else if held then Err EDEADLK else if not open_to then Err EBUSY else Ok tt) (refused EBUSY when tries || has otherwise waits)) s
+  enter_allowed s l write v e true known held open_to tries has is_known is_ring is_held is_open_to is_has free = tt
+  enter_allowed s l write v e false false held open_to tries has is_known is_ring is_held is_open_to is_has free = tt
+  enter_allowed s l write v e false true true open_to tries has is_known is_ring is_held is_open_to is_has free = tt
+  enter_allowed s l write v e false true false true tries has is_known is_ring is_held is_open_to is_has free = record { free = free; out = is_held; open_to = is_open_to }
+  enter_allowed s l write v e false true false false true has is_known is_ring is_held is_open_to is_has free = tt
+  enter_allowed s l write v e false true false false false true is_known is_ring is_held is_open_to is_has free = tt
+  enter_allowed s l write v e false true false false false false is_known is_ring is_held is_open_to is_has free = (free, ring_waits t s s (call.RwAcquire l write v e) (extra_ring e) refl refl is_ring is_has (is_known, is_held))
 
   pub allowed : (s : State P S H) (c : Call) → IsFree t s → IsAllowed t c (row_of f s t c).begin.verdict (effect_of (row_of f s t c).begin s).state
   unfolding row_of
@@ -347,10 +347,10 @@ module _ {P S H : Type 0} (f : P → Functions S H) (t : ℕ) where
       tries_allowed s (call.SelectEv r w x l e) (extra_ring e) false moment (first_select s.control.kernel r.0 w.0 x.0 l (deadline_by l moment)) (λ b. select_trial s.control.kernel r.0 w.0 x.0 (deadline_by l b.moment)) refl refl (free_after s (call.SelectEv r w x l e) refl free) (λ k. tt)
   allowed s (call.MutexAcquire m v e) free =
       let verdict = (row_of f s t (call.MutexAcquire m v e)).begin.verdict in
-      subst (IsAllowed t (call.MutexAcquire m v e) verdict) (sym (silent_unless (refuses verdict) s)) (acquire_allowed s m v e (is_none (mutex s m)) (is_no_ring s (extra_ring e)) _ _ _ (is_claimed_ring s (extra_ring e)) refl refl refl free)
+      subst (IsAllowed t (call.MutexAcquire m v e) verdict) (sym (silent_unless (refuses verdict) s)) (acquire_allowed s m v e (is_no_ring s (extra_ring e)) (is_none (mutex s m)) _ _ _ (is_claimed_ring s (extra_ring e)) refl refl refl free)
   allowed s (call.RwAcquire l write v e) free =
       let verdict = (row_of f s t (call.RwAcquire l write v e)).begin.verdict in
-      subst (IsAllowed t (call.RwAcquire l write v e) verdict) (sym (silent_unless (refuses verdict) s)) (enter_allowed s l write v e (is_lock s l) (is_no_ring s (extra_ring e)) (holds s.resources.store.rw_locks t (object_named l)) (lets_in s write l) _ (is_claimed_ring s (extra_ring e)) refl refl refl refl refl free)
+      subst (IsAllowed t (call.RwAcquire l write v e) verdict) (sym (silent_unless (refuses verdict) s)) (enter_allowed s l write v e (is_no_ring s (extra_ring e)) (is_lock s l) (holds s.resources.store.rw_locks t (object_named l)) (lets_in s write l) _ (is_claimed_ring s (extra_ring e)) refl refl refl refl refl free)
   allowed s c free = allowed_by t c (row_of f s t c).begin.verdict (effect_of (row_of f s t c).begin s).state refl (λ blocks. (free_after s c refl free, waits_plainly t c (effect_of (row_of f s t c).begin s).state refl))
 
   -- ---- a call is tried again
@@ -402,7 +402,7 @@ module _ {P S H : Type 0} (f : P → Functions S H) (t : ℕ) where
 
   -- a lock is entered once t waits no longer
   rw_again : (s : State P S H) (l : ℤ) (write : Bool) (v e : ℤ) (b : Blocked) (come known open_to held : Bool) → is_lock s l ≡ known → lets_in s write l ≡ open_to → holds s.resources.store.rw_locks t (object_named l) ≡ held → blocked_of s.control t ≡ Some b
-      → let a = unless_come come (says 1 when (known && open_to) && not held otherwise waits trying silent) in IsAllowedAgain t (call.RwAcquire l write v e) b a.verdict (effect_of a s).state
+      → let a = unless_settled come (says 1 when (known && open_to) && not held otherwise waits trying silent) in IsAllowedAgain t (call.RwAcquire l write v e) b a.verdict (effect_of a s).state
   rw_again s l write v e b false true true false is_known is_open_to is_held at = record { free = stopped_free t s; out = is_held; open_to = is_open_to }
   rw_again s l write v e b true true true false is_known is_open_to is_held at = record { free = stopped_free t s; out = is_held; open_to = is_open_to }
   rw_again s l write v e b false true true true is_known is_open_to is_held at = at
@@ -412,13 +412,13 @@ module _ {P S H : Type 0} (f : P → Functions S H) (t : ℕ) where
   rw_again s l write v e b false false open_to held is_known is_open_to is_held at = at
   rw_again s l write v e b true false open_to held is_known is_open_to is_held at = tt
 
-  other_again : (s : State P S H) (c : Call) (b : Blocked) (come : Bool) → is_entering c ≡ false → blocked_of s.control t ≡ Some b → let a = unless_come come ((row_of f s t c).again b) in IsAllowedAgain t c b a.verdict (effect_of a s).state
+  other_again : (s : State P S H) (c : Call) (b : Blocked) (come : Bool) → is_entering c ≡ false → blocked_of s.control t ≡ Some b → let a = unless_settled come ((row_of f s t c).again b) in IsAllowedAgain t c b a.verdict (effect_of a s).state
   other_again s c b false other at = again_by t c b ((row_of f s t c).again b).verdict (effect_of ((row_of f s t c).again b) s).state other (λ blocks. again_here s c b blocks ∙ at)
   other_again s c b true other at =
-      let a = unless_come true ((row_of f s t c).again b) in
+      let a = unless_settled true ((row_of f s t c).again b) in
       again_by t c b a.verdict (effect_of a s).state other (λ blocks. absurd (true_false (sym blocks ∙ interrupted_answers ((row_of f s t c).again b).verdict)))
 
-  pub allowed_again : (s : State P S H) (c : Call) (b : Blocked) (come : Bool) → blocked_of s.control t ≡ Some b → let a = unless_come come ((row_of f s t c).again b) in IsAllowedAgain t c b a.verdict (effect_of a s).state
+  pub allowed_again : (s : State P S H) (c : Call) (b : Blocked) (come : Bool) → blocked_of s.control t ≡ Some b → let a = unless_settled come ((row_of f s t c).again b) in IsAllowedAgain t c b a.verdict (effect_of a s).state
   unfolding row_of
   allowed_again s (call.RwAcquire l write v e) b come at = rw_again s l write v e b come (is_lock s l) (lets_in s write l) (holds s.resources.store.rw_locks t (object_named l)) refl refl refl at
   allowed_again s c b come at = other_again s c b come refl at

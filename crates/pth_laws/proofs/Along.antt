@@ -1,6 +1,6 @@
 -- What every part of a run keeps of a state, by the changes and the marks of which parts are made. Beside each stands what is known as it
 -- is made.
-use Rattle.std.proofs.Common.{◌≡◌, ℕ, zero, suc, ◌+◌, ◌*◌, not, min, Bool, true, false, if◌then◌else◌, ℤ, pos, ◌+ℤ◌, neg_ℤ, List, [], ◌∷◌, reverse, Option, Some, None, is_none, option_map, refl, sym, ◌∙◌, ap, Result, Ok, Err, arith}
+use Rattle.std.proofs.Common.{◌≡◌, ℕ, zero, suc, ◌+◌, ◌*◌, not, min, Bool, true, false, if◌then◌else◌, ℤ, pos, ◌+ℤ◌, List, [], ◌∷◌, map, reverse, Option, Some, None, is_none, option_map, refl, sym, ◌∙◌, ap, Result, Ok, Err, arith}
 use Rattle.std.proofs.lemmas.Int.{ints}
 use Rattle.pth_base.specs.Limits.{last_count, last_moment}
 use Rattle.pth_base.specs.Program.{Functions}
@@ -28,9 +28,6 @@ use Rattle.pth_base.specs.declared.thread.ThreadState.{ThreadState}
 use Rattle.pth_base.specs.declared.thread.ThreadState.TheVariants as state
 use Rattle.pth_base.proofs.Tables.{put_here}
 use Rattle.pth_kernel.specs.Kernel.{Kernel, advanced}
-use Rattle.pth_lock.specs.Objects.{object_limit}
-use Rattle.pth_lock.specs.Mutexes.{has}
-use Rattle.pth_lock.specs.RwLocks.{holds}
 use Rattle.pth_numbered.specs.Operands.{number, is_zero, ◌is◌, ◌is_from◌to◌}
 use Rattle.pth_queue.specs.Ranking.{place_in}
 use Rattle.pth_queue.specs.declared.queue.Queue.{Queue}
@@ -39,7 +36,7 @@ use Rattle.pth_ring.specs.Ring.{head_event, rest_of}
 use Rattle.pth_ring.specs.Rings.{Events, event_id, make_answer, chain_answer, unless, ring_refusal, concat_refusal, alone, chained, concatenated, isolated, freed, ring_freed}
 use Rattle.pth_store.specs.Cleanups.{PushedHandler}
 use Rattle.pth_store.specs.Keys.{key_limit}
-use Rattle.pth_threads.specs.Attributes.{IsSetPrio, first_values, with_value, change_of, is_gone, is_fixed, is_in_range, set_answer}
+use Rattle.pth_threads.specs.Attributes.{IsSetPrio, first_values, least_priority, with_value, change_of, is_gone, is_fixed, is_in_range, set_answer, top_priority}
 use Rattle.pth_threads.specs.declared.attribute.Attribute.{Attribute}
 use Rattle.pth_threads.specs.declared.attribute.Attribute.TheVariants.{Free, Bound}
 use Rattle.pth_threads.specs.declared.entry.Change as change_of_record
@@ -55,14 +52,14 @@ use Rattle.pth_model.specs.declared.progress.Progress.{Progress}
 use Rattle.pth_model.specs.Resources.{handler}
 use Rattle.pth_model.specs.Standing.{Standing}
 use Rattle.pth_model.specs.State.{State, Given, Scheduler, Turn, start, queue, now_of, clock_of}
-use Rattle.pth_model.specs.Transition.{Piece, Change, nothing, changes, tells, tid, controlled, where_so, ◌and_then◌}
+use Rattle.pth_model.specs.Transition.{Piece, Change, nothing, changes, tells, tells_each, tid, controlled, where_so, ◌and_then◌}
 use Rattle.pth_model.specs.Changes.{shares, uses, sets, goes_on, owing, is_blocked_by, enters, leaves_queue, raises_ready, makes, forgets, removes, adds_object, puts_object, with_threads, with_events, with_kernel, with_scheduler, moves_to, prefers, runs_now, blocked_in, blocked_of, or_nobody, entry_of, prio_of, queue_for, holders}
 use Rattle.pth_model.specs.Verdict.{Verdict, Pause, Says, Yields, Blocks, Ends, Kills, says, done, by_result}
 use Rattle.pth_model.specs.Row.{unless_refused, refuses, effect_of}
-use Rattle.pth_model.specs.RingWaits.{claims, ring_given, stops_waiting, has_event_come}
+use Rattle.pth_model.specs.RingWaits.{claims, ring_given, stops_waiting, has_settled}
 use Rattle.pth_model.specs.Acts.{acts, acts_from, act_limit, answer_in, row_of_act, goes_on_after, runs_handler}
 use Rattle.pth_model.specs.Cleanups.{runs_pushed, last_pushed}
-use Rattle.pth_model.specs.Ending.{ending, undoes_wait, runs_each, runs_cleanups, destructs, destructs_by, runs_destructors, gives_mutexes, gives_locks, dies, leaves, is_dead_with, other_than, stops_running, next_destructor, round_limit, first_round}
+use Rattle.pth_model.specs.Ending.{ending, undoes_wait, runs_each, runs_cleanups, destructs, destructs_by, runs_destructors, mutexes_had, locks_held, gives_mutexes, gives_locks, dies, leaves, is_dead_with, other_than, stops_running, next_destructor, round_limit, first_round}
 use Rattle.pth_model.specs.ThreadControl.{thread, spawns, suspends, resumes, returns_to, values_for, or_first, to_join, takes_joined}
 use Rattle.pth_model.specs.LibraryControl.{ctrl, vanish_all_but}
 use Rattle.pth_model.specs.AttributeHandling.{object, sets_field, sets_value}
@@ -70,7 +67,7 @@ use Rattle.pth_model.specs.EventHandling.{spec_of, made_as, make_event, number_o
 use Rattle.pth_model.specs.Cancellation.{canceled_value, is_asynchronous, is_to_cancel, may_be_canceled, takes_request, canceled_by_other, aborted}
 use Rattle.pth_model.specs.Living.{is_dead}
 use Rattle.pth_model.specs.Rows.{row_of}
-use Rattle.pth_model.specs.Calls.{begun, begun_by, blocks, gone_on, gone_on_where, canceled_by, tried_again, tried_again_by, tried_by, unless_come, interrupted}
+use Rattle.pth_model.specs.Calls.{begun, begun_by, blocks, gone_on, gone_on_where, canceled_by, tried_again, tried_again_by, tried_by, unless_settled, interrupted}
 use Rattle.pth_model.specs.Pass.{pass, looks, to_wake, woken, all_woken, is_ready_at, moment}
 use Rattle.pth_model.specs.Part.{rank_by, Part, Move, Take, Step, Close, Halt, part, part_by, next_part, chosen, readies, readies_all, readies_new, runs, dispatches, takes, takes_by, owes_after, steps, steps_on, steps_by, is_put_back, is_put_waiting, placed_by, is_placed, turn_ends, closes, moves, moves_by}
 use Rattle.pth_model.specs.Run.{parts, run}
@@ -154,7 +151,7 @@ set_passes known o v h = by_tests (is_none o) (is_gone known o) (is_fixed v) (is
     by_tests false false false false h = absurd (true_false h)
     by_tests false false false true h = refl
 
-pub prio_in_range : (n : ℤ) → (n is_from neg_ℤ (pos 5) to pos 5) ≡ true → IsSetPrio n
+pub prio_in_range : (n : ℤ) → (n is_from least_priority to top_priority) ≡ true → IsSetPrio n
 prio_in_range n h = record { low = grind (arith, ints); high = grind (arith, ints) }
 
 module _ {P S H : Type 0} (f : P → Functions S H) (R : State P S H → Type 0) (kept : KeptAlong f R) where
@@ -290,23 +287,15 @@ module _ {P S H : Type 0} (f : P → Functions S H) (R : State P S H → Type 0)
   destructs_keep t zero i s r = r
   destructs_keep t (suc n) i s r = due_keeps t (next_destructor s.resources.store.keys t i) (destructs f t n) (destructs_keep t n) s r
 
-  mutexes_keep : (t n m : ℕ) → Keeps (gives_mutexes t n m)
-  unfolding gives_mutexes
-  mutexes_keep t zero m s r = r
-  mutexes_keep t (suc n) m s r = mutexes_keep t n (m + 1) (where_so (has t (s.resources.store.mutexes m)) (tells (mark.GaveMutex (tid t) m)) s).state (by_having (has t (s.resources.store.mutexes m)))
-    where
-      by_having : (b : Bool) → R (where_so b (tells (mark.GaveMutex (tid t) m)) s).state
-      by_having true = kept.told (mark.GaveMutex (tid t) m) s tt r
-      by_having false = r
+  mutexes_keep : (t : ℕ) (had : List ℕ) → Keeps (tells_each (map (mark.GaveMutex (tid t)) had))
+  unfolding tells_each
+  mutexes_keep t [] s r = r
+  mutexes_keep t (m ∷ had) s r = mutexes_keep t had (tells (mark.GaveMutex (tid t) m) s).state (kept.told (mark.GaveMutex (tid t) m) s tt r)
 
-  locks_keep : (t n l : ℕ) → Keeps (gives_locks t n l)
-  unfolding gives_locks
-  locks_keep t zero l s r = r
-  locks_keep t (suc n) l s r = locks_keep t n (l + 1) (where_so (holds s.resources.store.rw_locks t l) (tells (mark.GaveLock (tid t) l)) s).state (by_holding (holds s.resources.store.rw_locks t l))
-    where
-      by_holding : (b : Bool) → R (where_so b (tells (mark.GaveLock (tid t) l)) s).state
-      by_holding true = kept.told (mark.GaveLock (tid t) l) s tt r
-      by_holding false = r
+  locks_keep : (t : ℕ) (held : List ℕ) → Keeps (tells_each (map (mark.GaveLock (tid t)) held))
+  unfolding tells_each
+  locks_keep t [] s r = r
+  locks_keep t (l ∷ held) s r = locks_keep t held (tells (mark.GaveLock (tid t) l) s).state (kept.told (mark.GaveLock (tid t) l) s tt r)
 
   dies_keeps : (t : ℕ) (v : ℤ) → Keeps (dies t v)
   dies_keeps t v s r = kept.told (mark.Ended (tid t) v) (controlled (leaves t v) s) tt (left_keeps t v s r)
@@ -317,9 +306,9 @@ module _ {P S H : Type 0} (f : P → Functions S H) (R : State P S H → Type 0)
       let s1 = (undoes_wait t s).state in
       let s2 = (runs_cleanups f t s1).state in
       let s3 = (runs_destructors f t s2).state in
-      let s4 = (gives_mutexes t object_limit 0 s3).state in
-      let s5 = (gives_locks t object_limit 0 s4).state in
-      dies_keeps t v s5 (locks_keep t object_limit 0 s4 (mutexes_keep t object_limit 0 s3 (destructs_keep t (round_limit * key_limit) first_round s2 (each_keep t (s1.resources.store.cleanups t) s1 (kept.stopped t s r)))))
+      let s4 = (gives_mutexes t s3).state in
+      let s5 = (gives_locks t s4).state in
+      dies_keeps t v s5 (locks_keep t (locks_held t s4.resources.store.rw_locks) s4 (mutexes_keep t (mutexes_had t s3.resources.store.mutexes) s3 (destructs_keep t (round_limit * key_limit) first_round s2 (each_keep t (s1.resources.store.cleanups t) s1 (kept.stopped t s r)))))
 
   -- ---- a call begins
 
@@ -495,7 +484,7 @@ module _ {P S H : Type 0} (f : P → Functions S H) (R : State P S H → Type 0)
     does_again s (call.Join n) b r = joins_keep s (to_join s.control n) r
     does_again s c b r = r
 
-    come_keeps : (s : State P S H) (c : Call) (b : Blocked) (come : Bool) → KeepsAt s (effect_of (unless_come come ((row_of f s t c).again b)))
+    come_keeps : (s : State P S H) (c : Call) (b : Blocked) (come : Bool) → KeepsAt s (effect_of (unless_settled come ((row_of f s t c).again b)))
     come_keeps s c b false r = unless_keeps s (refuses ((row_of f s t c).again b).verdict) ((row_of f s t c).again b).effect (λ e. does_again s c b) r
     come_keeps s c b true r = unless_keeps s (refuses (interrupted ((row_of f s t c).again b).verdict)) ((row_of f s t c).again b).effect (λ e. does_again s c b) r
 
@@ -512,8 +501,8 @@ module _ {P S H : Type 0} (f : P → Functions S H) (R : State P S H → Type 0)
     tried_again_keeps : (s : State P S H) (o : Option Blocked) → blocked_of s.control t ≡ o → R s → R (tried_again_by f t o s).told.state
     tried_again_keeps s None at r = r
     tried_again_keeps s (Some b) at r =
-        let come = has_event_come s.control.events (ring_given b.call) in
-        let a = unless_come come ((row_of f s t b.call).again b) in
+        let come = has_settled s.control.events (ring_given b.call) in
+        let a = unless_settled come ((row_of f s t b.call).again b) in
         tried_by_keeps b a.verdict (effect_of a s).state (allowed_again f t s b.call b come at) (come_keeps s b.call b come r)
 
     canceled_keeps : (o : Option Blocked) (s : State P S H) → R s → R (canceled_by f t o s).told.state

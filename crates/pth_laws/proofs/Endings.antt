@@ -1,5 +1,6 @@
 -- An ending, walked: its handlers from the last pushed to the first, its destructors to the last that is due, and its mark.
-use Rattle.std.proofs.Common.{◌≡◌, ◌≢◌, ℕ, zero, suc, ◌+◌, ◌-◌, ◌*◌, ◌<◌, ◌≤◌, if◌then◌else◌, Bool, true, false, ℤ, negsuc, List, [], ◌∷◌, ◌++◌, inl, inr, Option, Some, None, refl, sym, ◌∙◌, ap, subst, arith, append_assoc, append-nil}
+use Rattle.std.proofs.Common.{◌≡◌, ◌≢◌, ℕ, zero, suc, ◌+◌, ◌-◌, ◌*◌, ◌<◌, ◌≤◌, ◌||◌, if◌then◌else◌, cond, Bool, true, false, ℤ, negsuc, List, [], ◌∷◌, ◌++◌, map, filter, inl, inr, Option, Some, None, refl, sym, ◌∙◌, ap, ap₂, subst, arith, append_assoc, append-nil}
+use Rattle.std.specs.List.{range_with_len}
 use Rattle.std.proofs.lemmas.Bool.{cases_lt}
 use Rattle.pth_base.specs.Program.{Functions}
 use Rattle.pth_base.specs.Table.{put}
@@ -8,7 +9,7 @@ use Rattle.pth_base.specs.declared.mark.Mark.TheVariants as mark
 use Rattle.pth_base.proofs.Tables.{same_self, put_by, put_here, put_other}
 use Rattle.pth_lock.specs.Objects.{object_limit}
 use Rattle.pth_lock.specs.Mutexes.{free_mutex, has}
-use Rattle.pth_lock.specs.RwLocks.{holds}
+use Rattle.pth_lock.specs.RwLocks.{holds, is_one, without_slot}
 use Rattle.pth_store.specs.Cleanups.{PushedHandler}
 use Rattle.pth_store.specs.Keys.{Tables, key_limit}
 use Rattle.pth_threads.specs.declared.entry.Entry.{Entry}
@@ -16,8 +17,8 @@ use Rattle.pth_model.specs.declared.destructors.Due.{Due}
 use Rattle.pth_model.specs.declared.destructors.Round.{Round}
 use Rattle.pth_model.specs.Resources.{Resources, told}
 use Rattle.pth_model.specs.State.{State, Control}
-use Rattle.pth_model.specs.Transition.{Piece, tells, tid, where_so, ◌and_then◌}
-use Rattle.pth_model.specs.Ending.{round_limit, first_round, next_destructor, other_than, stops_running, is_dead_with, undoes_wait, runs_each, runs_cleanups, runs_destructor, destructs_by, destructs, runs_destructors, gives_mutexes, gives_locks, gives_all, leaves, dies, ending}
+use Rattle.pth_model.specs.Transition.{Piece, tells, tells_each, tid, ◌and_then◌}
+use Rattle.pth_model.specs.Ending.{round_limit, first_round, next_destructor, other_than, stops_running, is_dead_with, undoes_wait, runs_each, runs_cleanups, runs_destructor, destructs_by, destructs, runs_destructors, mutexes_had, locks_held, gives_mutexes, gives_locks, gives_all, leaves, dies, ending}
 use Rattle.pth_model.specs.Changes.{sets, enters, leaves_queue, forgets, removes, goes_on, is_blocked_by, blocked_of, or_nobody, entry_of}
 use Rattle.pth_model.specs.RingWaits.{claimant, gives_back, stops_waiting, ring_held}
 use Rattle.pth_model.specs.Acts.{handled, runs_handler}
@@ -152,13 +153,13 @@ module _ {P S H : Type 0} (f : P → Functions S H) (n t : ℕ) (over dropped : 
         all = ap (λ (k : Tables). next_destructor k t d.round) keys ∙ d.all;
       }
 
-  gives_one : (hs : List PushedHandler) (m : ℕ) (had_it : Bool) (b : Book) (s : State P S H) → has t (s.resources.store.mutexes m) ≡ had_it → IsGiven hs m 0 b s → Walk n b (IsGiven hs (m + 1) 0) (where_so had_it (tells (mark.GaveMutex (tid t) m)) s)
+  -- it has not this one, or gives it up
+  has_not : (hs : List PushedHandler) (m : ℕ) (b : Book) (s : State P S H) → has t (s.resources.store.mutexes m) ≡ false → IsGiven hs m 0 b s → IsGiven hs (m + 1) 0 b s
+  has_not hs m b s had_not d = record { done = d.done; none = λ i low. elim (cases_lt i m) [ inl below ↦ d.none i below | inr above ↦ (let same : i ≡ m = omega (arith, low, above) in ap (λ (j : ℕ). has t (s.resources.store.mutexes j)) same ∙ had_not) ]; out = d.out }
+
+  gives_one : (hs : List PushedHandler) (m : ℕ) (b : Book) (s : State P S H) → has t (s.resources.store.mutexes m) ≡ true → IsGiven hs m 0 b s → Walk n b (IsGiven hs (m + 1) 0) (tells (mark.GaveMutex (tid t) m) s)
   unfolding told
-  gives_one hs m false b s had_not d = record {
-    law = tt;
-    post = record { done = d.done; none = λ i low. elim (cases_lt i m) [ inl below ↦ d.none i below | inr above ↦ (let same : i ≡ m = omega (arith, low, above) in ap (λ (j : ℕ). has t (s.resources.store.mutexes j)) same ∙ had_not) ]; out = d.out };
-  }
-  gives_one hs m true b s had_it d =
+  gives_one hs m b s had_it d =
       let w = d.done.runs in
       let law : HasMutex b.resources t m = ap (λ (k : Resources). has t (k.store.mutexes m)) w.resources ∙ had_it in
       walk_tells n (IsGiven hs (m + 1) 0) b (mark.GaveMutex (tid t) m) s (λ locked. (((run_up f n t over dropped up made had y (so_far hs d.done.round) b s w, tt), law), made)) (record {
@@ -167,13 +168,34 @@ module _ {P S H : Type 0} (f : P → Functions S H) (n t : ℕ) (over dropped : 
         out = d.out;
       })
 
-  gives_lock : (hs : List PushedHandler) (l : ℕ) (held : Bool) (b : Book) (s : State P S H) → holds s.resources.store.rw_locks t l ≡ held → IsGiven hs object_limit l b s → Walk n b (IsGiven hs object_limit (l + 1)) (where_so held (tells (mark.GaveLock (tid t) l)) s)
+  -- it has the others still
+  others_had : (s : State P S H) (m i : ℕ) → i ≢ m → has t ((tells (mark.GaveMutex (tid t) m) s).state.resources.store.mutexes i) ≡ has t (s.resources.store.mutexes i)
   unfolding told
-  gives_lock hs l false b s had_not d = record {
-    law = tt;
-    post = record { done = d.done; none = d.none; out = λ i low. elim (cases_lt i l) [ inl below ↦ d.out i below | inr above ↦ (let same : i ≡ l = omega (arith, low, above) in ap (λ (j : ℕ). holds s.resources.store.rw_locks t j) same ∙ had_not) ] };
-  }
-  gives_lock hs l true b s had_it d =
+  others_had s m i apart = ap (has t) (put_other s.resources.store.mutexes m free_mutex i apart)
+
+  -- p: what it has of them as it begins
+  mutexes_walk : (p : ℕ → Bool) (hs : List PushedHandler) (many m top : ℕ) (b : Book) (s : State P S H) → m + many ≡ top → ((i : ℕ) → m ≤ i → has t (s.resources.store.mutexes i) ≡ p i) → IsGiven hs m 0 b s → Walk n b (IsGiven hs top 0) (tells_each (map (mark.GaveMutex (tid t)) (filter p (range_with_len m many))) s)
+  unfolding tells_each
+  mutexes_walk p hs zero m top b s end same d = record { law = tt; post = let last : m ≡ top = omega (arith, end) in subst (λ (i : ℕ). IsGiven hs i 0 b s) last d }
+  mutexes_walk p hs (suc many) m top b s end same d = by_test (p m) (same m (omega arith)) (λ c u. mutexes_walk p hs many (m + 1) top c u (omega (arith, end)))
+    where
+      rest : List ℕ
+      rest = filter p (range_with_len (m + 1) many)
+
+      by_test : (here : Bool) → has t (s.resources.store.mutexes m) ≡ here → ((c : Book) (u : State P S H) → ((i : ℕ) → m + 1 ≤ i → has t (u.resources.store.mutexes i) ≡ p i) → IsGiven hs (m + 1) 0 c u → Walk n c (IsGiven hs top 0) (tells_each (map (mark.GaveMutex (tid t)) rest) u))
+          → Walk n b (IsGiven hs top 0) (tells_each (map (mark.GaveMutex (tid t)) (cond here (m ∷ rest) rest)) s)
+      by_test false had_not later = later b s (λ i above. same i (omega (arith, above))) (has_not hs m b s had_not d)
+      by_test true had_it later =
+          let one : Piece P S H = tells (mark.GaveMutex (tid t) m) in
+          walk_then n (IsGiven hs (m + 1) 0) (IsGiven hs top 0) b one (tells_each (map (mark.GaveMutex (tid t)) rest)) s (gives_one hs m b s had_it d)
+          (λ c v. later c (one s).state (λ i above. others_had s m i (omega (arith, above)) ∙ same i (omega (arith, above))) v)
+
+  holds_not : (hs : List PushedHandler) (l : ℕ) (b : Book) (s : State P S H) → holds s.resources.store.rw_locks t l ≡ false → IsGiven hs object_limit l b s → IsGiven hs object_limit (l + 1) b s
+  holds_not hs l b s had_not d = record { done = d.done; none = d.none; out = λ i low. elim (cases_lt i l) [ inl below ↦ d.out i below | inr above ↦ (let same : i ≡ l = omega (arith, low, above) in ap (λ (j : ℕ). holds s.resources.store.rw_locks t j) same ∙ had_not) ] }
+
+  gives_lock : (hs : List PushedHandler) (l : ℕ) (b : Book) (s : State P S H) → holds s.resources.store.rw_locks t l ≡ true → IsGiven hs object_limit l b s → Walk n b (IsGiven hs object_limit (l + 1)) (tells (mark.GaveLock (tid t) l) s)
+  unfolding told
+  gives_lock hs l b s had_it d =
       let w = d.done.runs in
       let law : HoldsLock b.resources t l = ap (λ (k : Resources). holds k.store.rw_locks t l) w.resources ∙ had_it in
       walk_tells n (IsGiven hs object_limit (l + 1)) b (mark.GaveLock (tid t) l) s (λ locked. (((run_up f n t over dropped up made had y (so_far hs d.done.round) b s w, tt), law), made)) (record {
@@ -182,29 +204,46 @@ module _ {P S H : Type 0} (f : P → Functions S H) (n t : ℕ) (over dropped : 
         out = λ i low. elim (cases_lt i l) [ inl below ↦ out_released t s.resources.store.rw_locks i t l (d.out i below) | inr above ↦ out_given t s.resources.store.rw_locks i l (omega (arith, low, above)) ];
       })
 
-  mutexes_walk : (hs : List PushedHandler) (many m top : ℕ) (b : Book) (s : State P S H) → m + many ≡ top → IsGiven hs m 0 b s → Walk n b (IsGiven hs top 0) (gives_mutexes t many m s)
-  unfolding gives_mutexes
-  mutexes_walk hs zero m top b s end d = record { law = tt; post = let same : m ≡ top = omega (arith, end) in subst (λ (i : ℕ). IsGiven hs i 0 b s) same d }
-  mutexes_walk hs (suc many) m top b s end d =
-      let one : Piece P S H = where_so (has t (s.resources.store.mutexes m)) (tells (mark.GaveMutex (tid t) m)) in
-      walk_then n (IsGiven hs (m + 1) 0) (IsGiven hs top 0) b one (gives_mutexes t many (m + 1)) s (gives_one hs m (has t (s.resources.store.mutexes m)) b s refl d) (λ c v. mutexes_walk hs many (m + 1) top c (one s).state (omega (arith, end)) v)
+  others_held : (s : State P S H) (l i : ℕ) → i ≢ l → holds (tells (mark.GaveLock (tid t) l) s).state.resources.store.rw_locks t i ≡ holds s.resources.store.rw_locks t i
+  unfolding told
+  others_held s l i apart =
+      let x = s.resources.store.rw_locks in
+      ap₂ (λ (w : Option ℕ) (r : ℕ → Bool). is_one t w || r t) (put_other x.writer l (without_slot t (x.writer l)) i apart) (put_other x.reads l (put (x.reads l) t false) i apart)
 
-  locks_walk : (hs : List PushedHandler) (many l top : ℕ) (b : Book) (s : State P S H) → l + many ≡ top → IsGiven hs object_limit l b s → Walk n b (IsGiven hs object_limit top) (gives_locks t many l s)
-  unfolding gives_locks
-  locks_walk hs zero l top b s end d = record { law = tt; post = let same : l ≡ top = omega (arith, end) in subst (λ (i : ℕ). IsGiven hs object_limit i b s) same d }
-  locks_walk hs (suc many) l top b s end d =
-      let one : Piece P S H = where_so (holds s.resources.store.rw_locks t l) (tells (mark.GaveLock (tid t) l)) in
-      walk_then n (IsGiven hs object_limit (l + 1)) (IsGiven hs object_limit top) b one (gives_locks t many (l + 1)) s (gives_lock hs l (holds s.resources.store.rw_locks t l) b s refl d) (λ c v. locks_walk hs many (l + 1) top c (one s).state (omega (arith, end)) v)
+  locks_walk : (p : ℕ → Bool) (hs : List PushedHandler) (many l top : ℕ) (b : Book) (s : State P S H) → l + many ≡ top → ((i : ℕ) → l ≤ i → holds s.resources.store.rw_locks t i ≡ p i) → IsGiven hs object_limit l b s → Walk n b (IsGiven hs object_limit top) (tells_each (map (mark.GaveLock (tid t)) (filter p (range_with_len l many))) s)
+  unfolding tells_each
+  locks_walk p hs zero l top b s end same d = record { law = tt; post = let last : l ≡ top = omega (arith, end) in subst (λ (i : ℕ). IsGiven hs object_limit i b s) last d }
+  locks_walk p hs (suc many) l top b s end same d = by_test (p l) (same l (omega arith)) (λ c u. locks_walk p hs many (l + 1) top c u (omega (arith, end)))
+    where
+      rest : List ℕ
+      rest = filter p (range_with_len (l + 1) many)
+
+      by_test : (here : Bool) → holds s.resources.store.rw_locks t l ≡ here → ((c : Book) (u : State P S H) → ((i : ℕ) → l + 1 ≤ i → holds u.resources.store.rw_locks t i ≡ p i) → IsGiven hs object_limit (l + 1) c u → Walk n c (IsGiven hs object_limit top) (tells_each (map (mark.GaveLock (tid t)) rest) u))
+          → Walk n b (IsGiven hs object_limit top) (tells_each (map (mark.GaveLock (tid t)) (cond here (l ∷ rest) rest)) s)
+      by_test false had_not later = later b s (λ i above. same i (omega (arith, above))) (holds_not hs l b s had_not d)
+      by_test true had_it later =
+          let one : Piece P S H = tells (mark.GaveLock (tid t) l) in
+          walk_then n (IsGiven hs object_limit (l + 1)) (IsGiven hs object_limit top) b one (tells_each (map (mark.GaveLock (tid t)) rest)) s (gives_lock hs l b s had_it d)
+          (λ c v. later c (one s).state (λ i above. others_held s l i (omega (arith, above)) ∙ same i (omega (arith, above))) v)
 
   -- and all of them
   abbrev pub HasGiven : List PushedHandler → Book → State P S H → Type 0
   HasGiven hs = IsGiven hs object_limit object_limit
 
+  all_mutexes_walk : (hs : List PushedHandler) (b : Book) (s : State P S H) → IsDone hs b s → Walk n b (IsGiven hs object_limit 0) (gives_mutexes t s)
+  unfolding mutexes_had
+  all_mutexes_walk hs b s d =
+      mutexes_walk (λ m. has t (s.resources.store.mutexes m)) hs object_limit 0 object_limit b s (omega arith) (λ i above. refl)
+      (record { done = d; none = λ i low. absurd (omega (arith, low)); out = λ i low. absurd (omega (arith, low)) })
+
+  all_locks_walk : (hs : List PushedHandler) (b : Book) (s : State P S H) → IsGiven hs object_limit 0 b s → Walk n b (HasGiven hs) (gives_locks t s)
+  unfolding locks_held
+  all_locks_walk hs b s d = locks_walk (holds s.resources.store.rw_locks t) hs object_limit 0 object_limit b s (omega arith) (λ i above. refl) d
+
   gives_walk : (hs : List PushedHandler) (b : Book) (s : State P S H) → IsDone hs b s → Walk n b (HasGiven hs) (gives_all t s)
   gives_walk hs b s d =
-      walk_then n (IsGiven hs object_limit 0) (HasGiven hs) b (gives_mutexes t object_limit 0) (gives_locks t object_limit 0) s
-      (mutexes_walk hs object_limit 0 object_limit b s (omega arith) (record { done = d; none = λ i low. absurd (omega (arith, low)); out = λ i low. absurd (omega (arith, low)) }))
-      (λ c v. locks_walk hs object_limit 0 object_limit c (gives_mutexes t object_limit 0 s).state (omega arith) v)
+      walk_then n (IsGiven hs object_limit 0) (HasGiven hs) b (gives_mutexes t) (gives_locks t) s (all_mutexes_walk hs b s d)
+      (λ c v. all_locks_walk hs c (gives_mutexes t s).state v)
 
 -- ---- the whole ending
 

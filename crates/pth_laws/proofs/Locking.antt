@@ -18,13 +18,13 @@ use Rattle.pth_lock.specs.RwLocks.{LockTables, holds, may_enter, is_held}
 use Rattle.pth_store.specs.Keys.{Tables, free_key, keys_from, key_limit}
 use Rattle.pth_model.specs.declared.blocked.Blocked.{Blocked}
 use Rattle.pth_model.specs.Acts.{answer_in}
-use Rattle.pth_model.specs.Calls.{unless_come}
+use Rattle.pth_model.specs.Calls.{unless_settled}
 use Rattle.pth_model.specs.Resources.{Resources}
 use Rattle.pth_model.specs.RingWaits.{extra_ring, is_no_ring, is_claimed_ring}
 use Rattle.pth_model.specs.Rows.{row_of}
 use Rattle.pth_model.specs.State.{State}
 use Rattle.pth_model.specs.Transition.{Piece, silent, tid}
-use Rattle.pth_model.specs.Verdict.{Verdict, Says, Yields, Blocks, Ends, Kills, refused, says, waits, done, by_result, ◌when◌otherwise◌}
+use Rattle.pth_model.specs.Verdict.{Verdict, Says, Yields, Blocks, Ends, Kills, refused, says, waits, done, by_result, taken_or, ◌when◌otherwise◌}
 use Rattle.pth_laws.proofs.Book.{Book}
 use Rattle.pth_laws.proofs.Laws.{IsAnswerExclusive, IsExclusiveMark}
 use Rattle.pth_laws.proofs.Living.{true_false, both, not_true}
@@ -125,13 +125,13 @@ module _ (k : Resources) (t : ℕ) where
   init_exclusive m false true unknown was = tt
   init_exclusive m false false unknown was = (refl, record { known = below m unknown; new = was })
 
-  acquire_exclusive : (m v e : ℤ) (a ring b c d : Bool) → is_none (z m) ≡ a → not (is_anothers t (z m)) ≡ c → IsVerdictExclusive k t (call.MutexAcquire m v e) (refused EINVAL when a || ring otherwise refused EAGAIN when b otherwise says 1 when c otherwise refused EBUSY when d otherwise waits)
-  acquire_exclusive m v e true ring b c d none free = tt
-  acquire_exclusive m v e false true b c d none free = tt
-  acquire_exclusive m v e false false true c d none free = tt
-  acquire_exclusive m v e false false false true d none free = (refl, record { initialised = some_of (z m) none; free = not_true _ free })
-  acquire_exclusive m v e false false false false true none free = tt
-  acquire_exclusive m v e false false false false false none free = refl
+  acquire_exclusive : (m v e : ℤ) (ring a b c d : Bool) → is_none (z m) ≡ a → is_anothers t (z m) ≡ c → IsVerdictExclusive k t (call.MutexAcquire m v e) (refused EINVAL when ring otherwise taken_or (if a then Err EINVAL else if b then Err EAGAIN else if c then Err EBUSY else Ok tt) (refused EBUSY when d otherwise waits))
+  acquire_exclusive m v e true a b c d none other = tt
+  acquire_exclusive m v e false true b c d none other = tt
+  acquire_exclusive m v e false false true c d none other = tt
+  acquire_exclusive m v e false false false true true none other = tt
+  acquire_exclusive m v e false false false true false none other = refl
+  acquire_exclusive m v e false false false false d none other = (refl, record { initialised = some_of (z m) none; free = other })
 
   release_exclusive : (m : ℤ) (a b c : Bool) → is_none (z m) ≡ a → is_none (owner_of (z m)) ≡ b → is_anothers t (z m) ≡ c → IsVerdictExclusive k t (call.MutexRelease m) (by_result done (if a then Err EINVAL else if b then Err EDEADLK else if c then Err EACCES else Ok tt))
   release_exclusive m true b c none free other = tt
@@ -154,13 +154,13 @@ module _ (k : Resources) (t : ℕ) where
   lock_init_exclusive l false true unknown was = tt
   lock_init_exclusive l false false unknown was = (refl, record { known = below l unknown; new = was })
 
-  enter_exclusive : (l : ℤ) (write : Bool) (v e : ℤ) (a ring b c d : Bool) → not (x.initialised (object_named l)) ≡ a → holds x t (object_named l) ≡ b → may_enter x write (object_named l) ≡ c → IsVerdictExclusive k t (call.RwAcquire l write v e) (refused EINVAL when a || ring otherwise refused EDEADLK when b otherwise says 1 when c otherwise refused EBUSY when d otherwise waits)
-  enter_exclusive l write v e true ring b c d none held may = tt
-  enter_exclusive l write v e false true b c d none held may = tt
-  enter_exclusive l write v e false false true c d none held may = tt
-  enter_exclusive l write v e false false false true d none held may = (refl, record { initialised = not-false _ none; out = held; enters = may })
-  enter_exclusive l write v e false false false false true none held may = tt
-  enter_exclusive l write v e false false false false false none held may = refl
+  enter_exclusive : (l : ℤ) (write : Bool) (v e : ℤ) (ring a b c d : Bool) → not (x.initialised (object_named l)) ≡ a → holds x t (object_named l) ≡ b → not (may_enter x write (object_named l)) ≡ c → IsVerdictExclusive k t (call.RwAcquire l write v e) (refused EINVAL when ring otherwise taken_or (if a then Err EINVAL else if b then Err EDEADLK else if c then Err EBUSY else Ok tt) (refused EBUSY when d otherwise waits))
+  enter_exclusive l write v e true a b c d none held out = tt
+  enter_exclusive l write v e false true b c d none held out = tt
+  enter_exclusive l write v e false false true c d none held out = tt
+  enter_exclusive l write v e false false false true true none held out = tt
+  enter_exclusive l write v e false false false true false none held out = refl
+  enter_exclusive l write v e false false false false d none held out = (refl, record { initialised = not-false _ none; out = held; enters = not-false _ out })
 
   lock_release_exclusive : (l : ℤ) (a b c : Bool) → not (holds x t (object_named l)) ≡ c → IsVerdictExclusive k t (call.RwRelease l) (by_result done (if a then Err EINVAL else if b then Err EDEADLK else if c then Err EACCES else Ok tt))
   lock_release_exclusive l true b c held = tt
@@ -181,10 +181,10 @@ module _ {P S H : Type 0} (f : P → Functions S H) (s : State P S H) (t : ℕ) 
   pub begins_exclusive : (c : Call) → r.awaits t ≡ false → IsVerdictExclusive r t c (row_of f s t c).begin.verdict
   unfolding row_of
   begins_exclusive (call.MutexInit m) idle = init_exclusive r t m (not (is_object m)) (is_some (z r t m)) refl refl
-  begins_exclusive (call.MutexAcquire m v e) idle = acquire_exclusive r t m v e (is_none (z r t m)) (is_no_ring s (extra_ring e)) (levels_of t (z r t m) == level_limit) (not (is_anothers t (z r t m))) (not (is_zero v) || is_claimed_ring s (extra_ring e)) refl refl
+  begins_exclusive (call.MutexAcquire m v e) idle = acquire_exclusive r t m v e (is_no_ring s (extra_ring e)) (is_none (z r t m)) (levels_of t (z r t m) == level_limit) (is_anothers t (z r t m)) (not (is_zero v) || is_claimed_ring s (extra_ring e)) refl refl
   begins_exclusive (call.MutexRelease m) idle = release_exclusive r t m (is_none (z r t m)) (is_none (owner_of (z r t m))) (is_anothers t (z r t m)) refl refl refl
   begins_exclusive (call.RwInit l) idle = lock_init_exclusive r t l (not (is_object l)) (r.store.rw_locks.initialised (object_named l)) refl refl
-  begins_exclusive (call.RwAcquire l write v e) idle = enter_exclusive r t l write v e (not (r.store.rw_locks.initialised (object_named l))) (is_no_ring s (extra_ring e)) (holds r.store.rw_locks t (object_named l)) (may_enter r.store.rw_locks write (object_named l)) (not (is_zero v) || is_claimed_ring s (extra_ring e)) refl refl refl
+  begins_exclusive (call.RwAcquire l write v e) idle = enter_exclusive r t l write v e (is_no_ring s (extra_ring e)) (not (r.store.rw_locks.initialised (object_named l))) (holds r.store.rw_locks t (object_named l)) (not (may_enter r.store.rw_locks write (object_named l))) (not (is_zero v) || is_claimed_ring s (extra_ring e)) refl refl refl
   begins_exclusive (call.RwRelease l) idle = lock_release_exclusive r t l (not (r.store.rw_locks.initialised (object_named l))) (not (is_held r.store.rw_locks (object_named l))) (not (holds r.store.rw_locks t (object_named l))) refl
   begins_exclusive (call.CondAwait c m e) idle = λ awaits. absurd (true_false (sym awaits ∙ idle))
   begins_exclusive (call.KeyCreate h) idle = create_exclusive r t h (free_key r.store.keys) refl
@@ -192,7 +192,7 @@ module _ {P S H : Type 0} (f : P → Functions S H) (s : State P S H) (t : ℕ) 
 
   -- a call is tried again
 
-  acquires_again : (m v e : ℤ) (come b : Bool) (a : Piece P S H) → (not (is_none (z r t m)) && is_none (owner_of (z r t m))) ≡ b → IsVerdictExclusive r t (call.MutexAcquire m v e) (unless_come come (record { verdict = says 1 when b otherwise waits; effect = a })).verdict
+  acquires_again : (m v e : ℤ) (come b : Bool) (a : Piece P S H) → (not (is_none (z r t m)) && is_none (owner_of (z r t m))) ≡ b → IsVerdictExclusive r t (call.MutexAcquire m v e) (unless_settled come (record { verdict = says 1 when b otherwise waits; effect = a })).verdict
   acquires_again m v e false true a is = let h = both _ _ is in (refl, record { initialised = some_of (z r t m) (not_true _ h.0); free = free_is t (z r t m) h.1 })
   acquires_again m v e true true a is = let h = both _ _ is in (refl, record { initialised = some_of (z r t m) (not_true _ h.0); free = free_is t (z r t m) h.1 })
   acquires_again m v e false false a is = refl
@@ -201,13 +201,13 @@ module _ {P S H : Type 0} (f : P → Functions S H) (s : State P S H) (t : ℕ) 
   abbrev locks : LockTables
   locks = r.store.rw_locks
 
-  enters_again : (l : ℤ) (write : Bool) (v e : ℤ) (come b : Bool) (a : Piece P S H) → ((locks.initialised (object_named l) && may_enter locks write (object_named l)) && not (holds locks t (object_named l))) ≡ b → IsVerdictExclusive r t (call.RwAcquire l write v e) (unless_come come (record { verdict = says 1 when b otherwise waits; effect = a })).verdict
+  enters_again : (l : ℤ) (write : Bool) (v e : ℤ) (come b : Bool) (a : Piece P S H) → ((locks.initialised (object_named l) && may_enter locks write (object_named l)) && not (holds locks t (object_named l))) ≡ b → IsVerdictExclusive r t (call.RwAcquire l write v e) (unless_settled come (record { verdict = says 1 when b otherwise waits; effect = a })).verdict
   enters_again l write v e false true a is = let h = both _ _ is in let g = both _ _ h.0 in (refl, record { initialised = g.0; out = not_true _ h.1; enters = g.1 })
   enters_again l write v e true true a is = let h = both _ _ is in let g = both _ _ h.0 in (refl, record { initialised = g.0; out = not_true _ h.1; enters = g.1 })
   enters_again l write v e false false a is = refl
   enters_again l write v e true false a is = tt
 
-  pub again_exclusive : (c : Call) (b : Blocked) (come : Bool) → is_await c ≡ false → IsVerdictExclusive r t c (unless_come come ((row_of f s t c).again b)).verdict
+  pub again_exclusive : (c : Call) (b : Blocked) (come : Bool) → is_await c ≡ false → IsVerdictExclusive r t c (unless_settled come ((row_of f s t c).again b)).verdict
   unfolding row_of
   again_exclusive (call.MutexAcquire m v e) b come other = acquires_again m v e come (not (is_none (z r t m)) && is_none (owner_of (z r t m))) silent refl
   again_exclusive (call.RwAcquire l write v e) b come other = enters_again l write v e come ((locks.initialised (object_named l) && may_enter locks write (object_named l)) && not (holds locks t (object_named l))) silent refl
@@ -222,4 +222,4 @@ module _ {P S H : Type 0} (f : P → Functions S H) (s : State P S H) (t : ℕ) 
   again_exclusive (call.KeyCreate h) b false other = refl
   again_exclusive (call.KeyCreate h) b true other = tt
   again_exclusive (call.CondAwait c m e) b come other = absurd (true_false other)
-  again_exclusive c b come other = other_exclusive r t c (unless_come come ((row_of f s t c).again b)).verdict refl
+  again_exclusive c b come other = other_exclusive r t c (unless_settled come ((row_of f s t c).again b)).verdict refl

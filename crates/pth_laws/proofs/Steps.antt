@@ -33,7 +33,7 @@ use Rattle.pth_model.specs.Transition.{Piece, Change, changes, tells, tid, contr
 use Rattle.pth_model.specs.Changes.{goes_on, sets, removes, is_blocked_by, or_nobody, entry_of, prefers, uses, blocked_in, blocked_of}
 use Rattle.pth_model.specs.Living.{is_dead, lives, is_made}
 use Rattle.pth_model.specs.Row.{unless_refused, refuses, effect_of}
-use Rattle.pth_model.specs.RingWaits.{claims, ring_given, stops_waiting, has_event_come}
+use Rattle.pth_model.specs.RingWaits.{claims, ring_given, stops_waiting, has_settled}
 use Rattle.pth_model.specs.LibraryControl.{ctrl, vanish_all_but}
 use Rattle.pth_model.specs.EventHandling.{spec_of, made_as}
 use Rattle.pth_model.specs.ThreadControl.{thread, is_known, may_run}
@@ -44,7 +44,7 @@ use Rattle.pth_model.specs.Acts.{runs_handler}
 use Rattle.pth_model.specs.Cleanups.{runs_pushed, last_pushed}
 use Rattle.pth_model.specs.Ending.{ending, other_than}
 use Rattle.pth_model.specs.Rows.{row_of}
-use Rattle.pth_model.specs.Calls.{begun, begun_by, begun_as, blocks, answers, gone_on, gone_on_where, canceled_by, tried_again, tried_again_by, tried_by, unless_come, interrupted, waits_by}
+use Rattle.pth_model.specs.Calls.{begun, begun_by, begun_as, blocks, answers, gone_on, gone_on_where, canceled_by, tried_again, tried_again_by, tried_by, unless_settled, interrupted, waits_by}
 use Rattle.pth_model.specs.Part.{steps_on, steps_by, stepping}
 use Rattle.pth_model.specs.declared.progress.Progress.{Progress}
 use Rattle.pth_model.proofs.Placed.{seats}
@@ -691,13 +691,13 @@ module _ {P S H : Type 0} (f : P → Functions S H) (n t : ℕ) (made : is_made 
   tried_walk d Kills p c u pops exclusive closed on blocked w = answers_walk next.Killed d.call (answer.Int (pos 1)) c u (pops refl (answer.Int (pos 1))) exclusive (awaits_by d p c u on blocked w) (λ e s h x. tt) w
 
   -- a pop and a kill never wait, and would wait on
-  again_pops : (s : State P S H) (d : Blocked) (c : Book) (k : Call) → is_blocking (unless_come (has_event_come s.control.events (ring_given k)) ((row_of f s t k).again d)).verdict ≡ false → (a : Answer) → IsPopOrderly c t k a × (kills k ≡ false)
+  again_pops : (s : State P S H) (d : Blocked) (c : Book) (k : Call) → is_blocking (unless_settled (has_settled s.control.events (ring_given k)) ((row_of f s t k).again d)).verdict ≡ false → (a : Answer) → IsPopOrderly c t k a × (kills k ≡ false)
   unfolding row_of
   again_pops s d c (call.CleanupPop v) h a = absurd (true_false h)
   again_pops s d c call.Kill h a = absurd (true_false h)
   again_pops s d c k h a = (tt, refl)
 
-  come_silent : (s : State P S H) (k : Call) (d : Blocked) (come : Bool) → IsSilent (effect_of (unless_come come ((row_of f s t k).again d))) s
+  come_silent : (s : State P S H) (k : Call) (d : Blocked) (come : Bool) → IsSilent (effect_of (unless_settled come ((row_of f s t k).again d))) s
   come_silent s k d false = unless_silent (refuses ((row_of f s t k).again d).verdict) ((row_of f s t k).again d).effect s (again_silent f t s k d)
   come_silent s k d true = unless_silent (refuses (interrupted ((row_of f s t k).again d).verdict)) ((row_of f s t k).again d).effect s (again_silent f t s k d)
 
@@ -707,8 +707,8 @@ module _ {P S H : Type 0} (f : P → Functions S H) (n t : ℕ) (made : is_made 
 
   tried_again_walk : (d : Blocked) (p : Progress S) (c : Book) (s : State P S H) → c.block ≡ Closed → s.control.threads.progress t ≡ Some p → p.blocked ≡ Some d → Within c s → Walk n c (After (tried_again_by f t (Some d) s).next) (tried_again_by f t (Some d) s).told
   tried_again_walk d p c s closed on blocked w =
-      let come = has_event_come s.control.events (ring_given d.call) in
-      let a = unless_come come ((row_of f s t d.call).again d) in
+      let come = has_settled s.control.events (ring_given d.call) in
+      let a = unless_settled come ((row_of f s t d.call).again d) in
       let other : is_await d.call ≡ false = sym (ap (λ z. is_awaiting (blocked_in z)) on ∙ ap is_awaiting blocked) ∙ sym (w.fits t).0 ∙ (w.fits t).2 in
       let exclusive : IsVerdictExclusive c.resources t d.call a.verdict = subst (λ (r : Resources). IsVerdictExclusive r t d.call a.verdict) (sym w.resources) (again_exclusive f s t d.call d come other) in
       let holding = come_keeps f t (Holding n c.ended s.resources.awaits t (Some p)) (holding_kept n c.ended s.resources.awaits t (Some p) f) s d.call d come (w.going, w.claims, on, w.fits) in

@@ -6,7 +6,7 @@ use Rattle.pth_threads.specs.declared.entry.Entry.{Entry}
 use Rattle.pth_threads.specs.declared.entry.NewThread.{NewThread}
 use Rattle.pth_model.specs.State.{State}
 
--- each base priority is from -5 to 5
+-- each base priority is one that can be set
 pub record HasBasePriorities {P S H : Type 0} (s : State P S H) : Type 0 where
   -- that of a thread in the system
   pub threads : (t : ℕ) (e : Entry) → s.control.threads.known t ≡ Some e → IsSetPrio e.prio

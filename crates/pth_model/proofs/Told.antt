@@ -15,7 +15,7 @@ use Rattle.pth_model.specs.Resources.{Resources, no_resources, told, told_all}
 use Rattle.pth_model.specs.LibraryControl.{ctrl}
 use Rattle.pth_model.specs.Verdict.{Verdict, Says, Yields, Blocks, Ends, Kills, says, by_result}
 use Rattle.pth_model.specs.State.{State, queue, Given, Turn, start}
-use Rattle.pth_model.specs.Transition.{Transition, Piece, Change, Last, changes, tells, tid, controlled, where_so, ◌and◌, ◌and_then◌, ◌and_finally◌}
+use Rattle.pth_model.specs.Transition.{Transition, Piece, Change, Last, changes, tells, tells_each, tid, controlled, where_so, ◌and◌, ◌and_then◌, ◌and_finally◌}
 use Rattle.pth_model.specs.Changes.{shares, uses, sets, removes, entry_of, or_nobody, blocked_of, with_events}
 use Rattle.pth_model.specs.Living.{is_dead}
 use Rattle.pth_model.specs.ThreadControl.{thread}
@@ -23,9 +23,6 @@ use Rattle.pth_threads.specs.declared.entry.Change.TheVariants as change
 use Rattle.pth_model.specs.Cancellation.{canceled_value, is_asynchronous, is_to_cancel, may_be_canceled, takes_request, canceled_by_other, aborted}
 use Rattle.pth_model.specs.Row.{effect_of, refuses, unless_refused}
 use Rattle.pth_model.specs.Rows.{row_of}
-use Rattle.pth_lock.specs.Objects.{object_limit}
-use Rattle.pth_lock.specs.Mutexes.{has}
-use Rattle.pth_lock.specs.RwLocks.{holds}
 use Rattle.pth_model.specs.Mutexes.{mutex_release}
 use Rattle.pth_model.specs.Ending.{ending, undoes_wait, dies, runs_each, runs_cleanups, runs_destructor, runs_destructors, destructs, destructs_by, next_destructor, round_limit, first_round, gives_mutexes, gives_locks, gives_all}
 use Rattle.pth_model.specs.declared.destructors.Due.{Due}
@@ -39,8 +36,8 @@ use Rattle.pth_base.specs.declared.act.Act.TheVariants as act
 use Rattle.pth_base.specs.declared.ids.HandlerId.{HandlerId}
 use Rattle.pth_store.specs.Cleanups.{PushedHandler}
 use Rattle.pth_store.specs.Keys.{key_limit}
-use Rattle.pth_model.specs.Calls.{begun, begun_by, gone_on, gone_on_where, canceled_by, tried_again, tried_again_by, tried_by, waits_by, unless_come, interrupted}
-use Rattle.pth_model.specs.RingWaits.{ring_given, has_event_come}
+use Rattle.pth_model.specs.Calls.{begun, begun_by, gone_on, gone_on_where, canceled_by, tried_again, tried_again_by, tried_by, waits_by, unless_settled, interrupted}
+use Rattle.pth_model.specs.RingWaits.{ring_given, has_settled}
 use Rattle.pth_model.specs.EventHandling.{spec_of, made_as, make_event, chain}
 use Rattle.pth_base.specs.declared.event.EvLine.{EvLine}
 use Rattle.pth_numbered.specs.Operands.{number, is_zero}
@@ -124,23 +121,10 @@ module _ {P S H : Type 0} (f : P → Functions S H) where
     destructs_told zero r s = refl
     destructs_told (suc n) r s = by_due_told (next_destructor s.resources.store.keys t r) (destructs f t n) (destructs_told n) s
 
-    telling_told : (b : Bool) (m : Mark) → IsTold {P = P} {S = S} {H = H} (where_so b (tells m))
-    telling_told true m s = refl
-    telling_told false m s = refl
-
-    mutexes_told : (n m : ℕ) → IsTold {P = P} {S = S} {H = H} (gives_mutexes t n m)
-    unfolding gives_mutexes
-    mutexes_told zero m s = refl
-    mutexes_told (suc n) m s =
-        let had = has t (s.resources.store.mutexes m) in
-        then_told (where_so had (tells (mark.GaveMutex (tid t) m))) (gives_mutexes t n (m + 1)) (telling_told had (mark.GaveMutex (tid t) m)) (mutexes_told n (m + 1)) s
-
-    locks_told : (n l : ℕ) → IsTold {P = P} {S = S} {H = H} (gives_locks t n l)
-    unfolding gives_locks
-    locks_told zero l s = refl
-    locks_told (suc n) l s =
-        let held = holds s.resources.store.rw_locks t l in
-        then_told (where_so held (tells (mark.GaveLock (tid t) l))) (gives_locks t n (l + 1)) (telling_told held (mark.GaveLock (tid t) l)) (locks_told n (l + 1)) s
+    marks_told : (ms : List Mark) → IsTold {P = P} {S = S} {H = H} (tells_each ms)
+    unfolding tells_each
+    marks_told [] s = refl
+    marks_told (m ∷ ms) s = then_told (tells m) (tells_each ms) (λ u. refl) (marks_told ms) s
 
     ending_told : (v : ℤ) → IsTold (ending f t v)
     unfolding ending
@@ -148,7 +132,7 @@ module _ {P S H : Type 0} (f : P → Functions S H) where
         then_told (undoes_wait t) (runs_cleanups f t and_then runs_destructors f t and_then gives_all t and_then dies t v) (λ u. refl)
         (then_told (runs_cleanups f t) (runs_destructors f t and_then gives_all t and_then dies t v) (λ u. each_told (u.resources.store.cleanups t) u)
         (then_told (runs_destructors f t) (gives_all t and_then dies t v) (destructs_told (round_limit * key_limit) first_round)
-        (then_told (gives_all t) (dies t v) (then_told (gives_mutexes t object_limit 0) (gives_locks t object_limit 0) (mutexes_told object_limit 0) (locks_told object_limit 0)) (λ u. refl))))
+        (then_told (gives_all t) (dies t v) (then_told (gives_mutexes t) (gives_locks t) (λ u. marks_told _ u) (λ u. marks_told _ u)) (λ u. refl))))
 
   module _ (t : ℕ) where
     -- calls, and steps
@@ -261,7 +245,7 @@ module _ {P S H : Type 0} (f : P → Functions S H) where
     begun_told (call.Note v) s = refl
     begun_told c s = begun_by_told c (row_of f s t c).begin.verdict (effect_of (row_of f s t c).begin) (effect_told s c) s
 
-    come_told : (s : State P S H) (c : Call) (b : Blocked) (come : Bool) → IsTold (effect_of (unless_come come ((row_of f s t c).again b)))
+    come_told : (s : State P S H) (c : Call) (b : Blocked) (come : Bool) → IsTold (effect_of (unless_settled come ((row_of f s t c).again b)))
     come_told s c b false = again_told s c b
     come_told s c b true = unless_told (refuses (interrupted ((row_of f s t c).again b).verdict)) ((row_of f s t c).again b).effect (again_tells s c b)
 
@@ -275,8 +259,8 @@ module _ {P S H : Type 0} (f : P → Functions S H) where
     tried_again_by_told : (s : State P S H) (b : Option Blocked) → Tells s.resources (tried_again_by f t b s).told
     tried_again_by_told s None = refl
     tried_again_by_told s (Some b) =
-        let come = has_event_come s.control.events (ring_given b.call) in
-        let a = unless_come come ((row_of f s t b.call).again b) in
+        let come = has_settled s.control.events (ring_given b.call) in
+        let a = unless_settled come ((row_of f s t b.call).again b) in
         finally_told (effect_of a) (tried_by f t b a.verdict) (come_told s b.call b come) (tried_by_told b a.verdict) s
 
     canceled_told : (b : Option Blocked) → LastTold (canceled_by f t b)

@@ -24,9 +24,9 @@ use Rattle.pth_model.specs.declared.next.Next.TheVariants as next
 use Rattle.pth_numbered.specs.Operands.{number, is_zero, ◌is◌}
 use Rattle.pth_model.specs.Verdict.{Verdict, Says, Yields, Blocks, Ends, Kills, refused, says, by_result, ◌when◌otherwise◌}
 use Rattle.pth_model.specs.State.{State, Control, Turn, main}
-use Rattle.pth_model.specs.Transition.{Piece, Change as change_of_control, nothing, changes, tells, controlled, where_so, tid, ◌and_then◌}
+use Rattle.pth_model.specs.Transition.{Piece, Change as change_of_control, nothing, changes, tells, tells_each, controlled, where_so, tid, ◌and_then◌}
 use Rattle.pth_model.specs.Changes.{shares, uses, goes_on, blocking, is_blocked_by, blocked_of, entry_of, or_nobody, owing, prefers, removes, favours_new, sets, adds_object, puts_object, with_events, with_kernel}
-use Rattle.pth_model.specs.RingWaits.{claimant, claimant_by, claims, gives_back, stops_waiting, ring_given, ring_held, has_event_come}
+use Rattle.pth_model.specs.RingWaits.{claimant, claimant_by, claims, gives_back, stops_waiting, ring_given, ring_held, has_settled}
 use Rattle.pth_model.specs.EventHandling.{spec_of, made_as, make_event, chain}
 use Rattle.pth_base.specs.declared.event.EventSpec.{EventSpec}
 use Rattle.pth_base.specs.declared.event.EvLine.{EvLine}
@@ -43,10 +43,7 @@ use Rattle.pth_model.specs.Row.{unless_refused, refuses, effect_of}
 use Rattle.pth_model.specs.ThreadControl.{thread, is_known, may_run, spawns, values_for, or_first, suspends, resumes, suspend, resume, to_join, takes_joined}
 use Rattle.pth_model.specs.LibraryControl.{ctrl, vanish_all_but}
 use Rattle.pth_model.specs.AttributeHandling.{object, sets_field, sets_value}
-use Rattle.pth_lock.specs.Objects.{object_limit}
-use Rattle.pth_lock.specs.Mutexes.{has}
-use Rattle.pth_lock.specs.RwLocks.{holds}
-use Rattle.pth_model.specs.Ending.{ending, undoes_wait, runs_cleanups, runs_destructors, gives_mutexes, gives_locks, gives_all, leaves, runs_each, destructs, destructs_by, next_destructor, round_limit, first_round}
+use Rattle.pth_model.specs.Ending.{ending, undoes_wait, runs_cleanups, runs_destructors, gives_mutexes, gives_all, leaves, runs_each, destructs, destructs_by, next_destructor, round_limit, first_round}
 use Rattle.pth_model.specs.declared.destructors.Due.{Due}
 use Rattle.pth_model.specs.declared.destructors.Round.{Round}
 use Rattle.pth_model.specs.Acts.{acts, acts_from, act_limit, row_of_act, goes_on_after, runs_handler}
@@ -58,8 +55,9 @@ use Rattle.pth_base.specs.declared.ids.HandlerId.{HandlerId}
 use Rattle.pth_store.specs.Cleanups.{PushedHandler}
 use Rattle.pth_store.specs.Keys.{key_limit}
 use Rattle.pth_model.specs.Rows.{row_of}
-use Rattle.pth_model.specs.Calls.{begun, begun_by, gone_on, gone_on_where, canceled_by, tried_again, tried_again_by, tried_by, unless_come, interrupted}
+use Rattle.pth_model.specs.Calls.{begun, begun_by, gone_on, gone_on_where, canceled_by, tried_again, tried_again_by, tried_by, unless_settled, interrupted}
 use Rattle.pth_model.specs.Cancellation.{canceled_value, is_asynchronous, is_to_cancel, may_be_canceled, takes_request, canceled_by_other, aborted}
+use Rattle.pth_base.specs.declared.mark.Mark.{Mark}
 use Rattle.pth_base.specs.declared.mark.Mark.TheVariants as mark
 use Rattle.pth_threads.specs.Threads.{changed}
 use Rattle.pth_threads.specs.declared.entry.Change.TheVariants as change
@@ -447,7 +445,7 @@ module _ {P S H : Type 0} (f : P → Functions S H) (t : ℕ) (Q : Control P S H
   again_keeps : (s : State P S H) (c : Call) (b : Blocked) → KeepsAt s (effect_of ((row_of f s t c).again b))
   again_keeps s c b = unless_keeps s (refuses ((row_of f s t c).again b).verdict) ((row_of f s t c).again b).effect (λ e q. does_again s c b q)
 
-  pub come_keeps : (s : State P S H) (c : Call) (b : Blocked) (come : Bool) → KeepsAt s (effect_of (unless_come come ((row_of f s t c).again b)))
+  pub come_keeps : (s : State P S H) (c : Call) (b : Blocked) (come : Bool) → KeepsAt s (effect_of (unless_settled come ((row_of f s t c).again b)))
   come_keeps s c b false q = again_keeps s c b q
   come_keeps s c b true q = unless_keeps s (refuses (interrupted ((row_of f s t c).again b).verdict)) ((row_of f s t c).again b).effect (λ e q. does_again s c b q) q
 
@@ -476,26 +474,13 @@ module _ {P S H : Type 0} (f : P → Functions S H) (t : ℕ) (Q : Control P S H
   stops_known u k = back_known (ring_held (blocked_of k u)) (is_blocked_by u None k)
 
   -- what u has is given up: nothing of the control changes
-  mutexes_given : (u n m : ℕ) (s : State P S H) → (gives_mutexes u n m s).state.control ≡ s.control
-  unfolding gives_mutexes
-  mutexes_given u zero m s = refl
-  mutexes_given u (suc n) m s = mutexes_given u n (m + 1) _ ∙ by_having (has u (s.resources.store.mutexes m))
-    where
-      by_having : (b : Bool) → (where_so b (tells (mark.GaveMutex (tid u) m)) s).state.control ≡ s.control
-      by_having true = refl
-      by_having false = refl
-
-  locks_given : (u n l : ℕ) (s : State P S H) → (gives_locks u n l s).state.control ≡ s.control
-  unfolding gives_locks
-  locks_given u zero l s = refl
-  locks_given u (suc n) l s = locks_given u n (l + 1) _ ∙ by_holding (holds s.resources.store.rw_locks u l)
-    where
-      by_holding : (b : Bool) → (where_so b (tells (mark.GaveLock (tid u) l)) s).state.control ≡ s.control
-      by_holding true = refl
-      by_holding false = refl
+  marks_given : (ms : List Mark) (s : State P S H) → (tells_each ms s).state.control ≡ s.control
+  unfolding tells_each
+  marks_given [] s = refl
+  marks_given (m ∷ ms) s = marks_given ms (tells m s).state
 
   all_given : (u : ℕ) (s : State P S H) → (gives_all u s).state.control ≡ s.control
-  all_given u s = locks_given u object_limit 0 _ ∙ mutexes_given u object_limit 0 s
+  all_given u s = marks_given _ (gives_mutexes u s).state ∙ marks_given _ s
 
   -- u's wait is undone, its handlers and destructors run, and what it has is given up: no record changes
   ran_keeps : (u : ℕ) (s : State P S H) → Q s.control → let k = ((undoes_wait u and_then runs_cleanups f u and_then runs_destructors f u and_then gives_all u) s).state.control in Q k × (k.threads.known ≡ s.control.threads.known)
@@ -615,8 +600,8 @@ module _ {P S H : Type 0} (f : P → Functions S H) (t : ℕ) (Q : Control P S H
   tried_again_by_keeps : (s : State P S H) (b : Option Blocked) → Q s.control → Q (tried_again_by f t b s).told.state.control
   tried_again_by_keeps s None q = q
   tried_again_by_keeps s (Some b) q =
-      let come = has_event_come s.control.events (ring_given b.call) in
-      let a = unless_come come ((row_of f s t b.call).again b) in
+      let come = has_settled s.control.events (ring_given b.call) in
+      let a = unless_settled come ((row_of f s t b.call).again b) in
       tried_by_keeps b a.verdict (effect_of a s).state (come_keeps f t Q kept.calls s b.call b come q)
 
   canceled_keeps : (b : Option Blocked) (s : State P S H) → Q s.control → Q (canceled_by f t b s).told.state.control

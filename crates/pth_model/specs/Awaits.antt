@@ -1,4 +1,4 @@
--- What a call that blocks its thread waits for.
+-- What a blocked call waits for.
 use Rattle.std.specs.Prelude.{ℕ, ◌<◌, ◌^◌, ℤ, length, Option, Some, None, if◌then◌else◌}
 use Rattle.pth_base.specs.declared.call.Call.{Call}
 use Rattle.pth_base.specs.declared.call.Call.TheVariants as call
@@ -54,6 +54,7 @@ IsCounted (call.Write f bytes) = length bytes < 2 ^ 63
 IsCounted (call.WriteEv f bytes e) = length bytes < 2 ^ 63
 IsCounted c = Unit {0}
 
+-- what the blocked call waits for
 abbrev pub awaits_of : Blocked → Awaits
 awaits_of b = awaited_by b.call b.moment b.written
 

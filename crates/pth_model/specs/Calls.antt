@@ -14,7 +14,7 @@ use Rattle.pth_model.specs.Verdict.{Verdict, Pause, Says, Yields, Blocks, Ends, 
 use Rattle.pth_model.specs.State.{State, now_of}
 use Rattle.pth_model.specs.Transition.{Piece, Change, Last, silent, changes, tells, tid, ◌and◌, ◌and_then◌, ◌and_next◌, ◌and_finally◌}
 use Rattle.pth_model.specs.Changes.{is_blocked_by, blocked_of}
-use Rattle.pth_model.specs.RingWaits.{ring_given, claims, stops_waiting, has_event_come}
+use Rattle.pth_model.specs.RingWaits.{ring_given, claims, stops_waiting, has_settled}
 use Rattle.pth_model.specs.Row.{Attempt, effect_of}
 use Rattle.pth_model.specs.Ending.{ending}
 use Rattle.pth_model.specs.Cancellation.{canceled_value, may_be_canceled, canceled_in}
@@ -24,19 +24,7 @@ use Rattle.pth_model.specs.Rows.{row_of}
 abbrev pub blocked_from : ℕ → Call → Pause → Blocked
 blocked_from now c p = record { call = c; begin = now; moment = p.moment; written = p.written; round = p.round; retake = retake.No }
 
--- what blocks is answered EINTR, or with its count where it wrote a part
-abbrev pub interrupted : Verdict → Verdict
-interrupted (Says a) = Says a
-interrupted (Yields a) = Yields a
-interrupted (Blocks p) = counts_or p.written EINTR
-interrupted (Ends v) = Ends v
-interrupted Kills = Kills
-
-module _ {P S H : Type 0} where
-  -- a call that would block on is interrupted where an event of the ring that it was given has come
-  abbrev pub unless_come : Bool → Attempt P S H → Attempt P S H
-  unless_come false a = a
-  unless_come true a = record a { verdict = interrupted a.verdict }
+-- ---- a call begins
 
 module _ {P S H : Type 0} (t : ℕ) where
   abbrev pub blocks : Call → Pause → Change P S H
@@ -47,8 +35,6 @@ module _ {P S H : Type 0} (t : ℕ) where
   waits_by c p = changes (claims t (ring_given c) and blocks c p) and_then tells (mark.Waits (tid t) c)
 
 module _ {P S H : Type 0} (f : P → Functions S H) (t : ℕ) where
-  -- a call begins
-
   -- as the verdict says, after the effect
   abbrev pub begun_by : Call → Verdict → Piece P S H → Last P S H
   begun_by c (Says a) effect = effect and_then tells (mark.Answered (tid t) c a) and_next next.Done a
@@ -66,13 +52,36 @@ module _ {P S H : Type 0} (f : P → Functions S H) (t : ℕ) where
   begun (call.Note v) = tells (mark.Noted (tid t) v) and_next next.Done (answer.Int (pos 0))
   begun c = λ s. begun_as c (row_of f s t c).begin s
 
-  -- a call that blocks t is tried again
+-- ---- A thread that a call blocks goes on. It is canceled in the blocked call if it may be, and else the call is tried again: what
+-- would block on is interrupted if an event of its ring is settled, and the verdict says the rest.
 
-  -- it blocks t no longer, and is answered
+module _ {P S H : Type 0} (f : P → Functions S H) (t : ℕ) where
+  -- t is canceled in the blocked call
+  abbrev pub canceled_by : Option Blocked → Last P S H
+  canceled_by None = silent and_next next.Waits
+  canceled_by (Some b) = canceled_in f t b.call and_next next.Ended canceled_value
+
+-- the blocked call is answered EINTR in place of blocking on, or with its count if it wrote a part
+abbrev pub interrupted : Verdict → Verdict
+interrupted (Blocks p) = counts_or p.written EINTR
+interrupted (Says a) = Says a
+interrupted (Yields a) = Yields a
+interrupted (Ends v) = Ends v
+interrupted Kills = Kills
+
+module _ {P S H : Type 0} where
+  -- that is, if its ring has settled
+  abbrev pub unless_settled : Bool → Attempt P S H → Attempt P S H
+  unless_settled false a = a
+  unless_settled true a = record a { verdict = interrupted a.verdict }
+
+module _ {P S H : Type 0} (f : P → Functions S H) (t : ℕ) where
+  -- the blocked call is answered, and blocks t no longer
   abbrev pub answers : Call → Answer → Piece P S H
   answers c a = changes (stops_waiting t) and_then tells (mark.Answered (tid t) c a)
 
-  -- as the verdict says, after the effect; a call that blocks on keeps what it wrote so far
+  -- The verdict on the blocked call: if it blocks on, it keeps what it wrote so far. No row yields or kills as it is tried again,
+  -- so the lines of these two only say the same as when a call begins.
   abbrev pub tried_by : Blocked → Verdict → Last P S H
   tried_by b (Says a) = answers b.call a and_next next.Done a
   tried_by b (Yields a) = answers b.call a and_next next.Yields a
@@ -85,22 +94,17 @@ module _ {P S H : Type 0} (f : P → Functions S H) (t : ℕ) where
 
   abbrev pub tried_again_by : Option Blocked → Last P S H
   tried_again_by None = silent and_next next.Waits
-  tried_again_by (Some b) = λ s. tried b (unless_come (has_event_come s.control.events (ring_given b.call)) ((row_of f s t b.call).again b)) s
+  tried_again_by (Some b) = λ s. tried b (unless_settled (has_settled s.control.events (ring_given b.call)) ((row_of f s t b.call).again b)) s
 
-  -- the call that blocks t is tried again
+  -- the blocked call is tried again
   unfoldable pub tried_again : Last P S H
   tried_again s = tried_again_by (blocked_of s.control t) s
 
-  -- t is canceled in the call that blocks it
-  abbrev pub canceled_by : Option Blocked → Last P S H
-  canceled_by None = silent and_next next.Waits
-  canceled_by (Some b) = canceled_in f t b.call and_next next.Ended canceled_value
-
   abbrev pub gone_on_where : Bool → Last P S H
-  gone_on_where true s = canceled_by (blocked_of s.control t) s
+  gone_on_where true s = canceled_by f t (blocked_of s.control t) s
   gone_on_where false s = tried_again s
 
-  -- t, which a call blocks, goes on: it is canceled if it may be, and else its call is tried again
+  -- t goes on: it is canceled if it may be, and else the blocked call is tried again
   unfoldable pub gone_on : Last P S H
   gone_on s = gone_on_where (may_be_canceled s.control t) s
 
@@ -108,7 +112,7 @@ module _ {P S H : Type 0} (f : P → Functions S H) (t : ℕ) where
   wakes_by s None = false
   wakes_by s (Some b) = (row_of f s t b.call).wakes b
 
-  -- whether the call that blocks t has what it waits for
+  -- whether the blocked call has what it waits for
   unfoldable pub wakes : State P S H → Bool
   wakes s = wakes_by s (blocked_of s.control t)
 

@@ -61,6 +61,7 @@ is_point (call.MutexAcquire m v e) = true
 is_point (call.RwAcquire l write v e) = true
 is_point c = false
 
+-- the blocked call is one
 abbrev pub is_at_point : Option Blocked → Bool
 is_at_point None = false
 is_at_point (Some b) = is_point b.call

@@ -1,5 +1,6 @@
 -- How a thread ends (pth_exit, and the end of its body), in parts.
-use Rattle.std.specs.Prelude.{ℕ, zero, suc, ◌+◌, ◌*◌, ◌==◌, nat_lt, ℤ, pos, false, List, [], ◌∷◌, Option, Some, None, if◌then◌else◌}
+use Rattle.std.specs.Prelude.{ℕ, zero, suc, ◌+◌, ◌*◌, ◌==◌, nat_lt, ℤ, pos, false, List, [], ◌∷◌, map, filter, Option, Some, None, if◌then◌else◌}
+use Rattle.std.specs.List.{range_with_len}
 use Rattle.pth_base.specs.Program.{Functions}
 use Rattle.pth_base.specs.declared.ids.HandlerId.{HandlerId}
 use Rattle.pth_base.specs.declared.mark.Mark.TheVariants.{Destructor, GaveMutex, GaveLock, Ended}
@@ -7,13 +8,13 @@ use Rattle.pth_base.specs.declared.thread.ThreadState.TheVariants as state
 use Rattle.pth_queue.specs.declared.queue.Queue.TheVariants as queue
 use Rattle.pth_threads.specs.declared.entry.Change.TheVariants as change
 use Rattle.pth_lock.specs.Objects.{object_limit}
-use Rattle.pth_lock.specs.Mutexes.{has}
-use Rattle.pth_lock.specs.RwLocks.{holds}
+use Rattle.pth_lock.specs.Mutexes.{MutexTable, has}
+use Rattle.pth_lock.specs.RwLocks.{LockTables, holds}
 use Rattle.pth_store.specs.Cleanups.{PushedHandler}
 use Rattle.pth_store.specs.Keys.{Tables, key_limit, first_live}
 use Rattle.pth_model.specs.declared.destructors.Due.{Due}
 use Rattle.pth_model.specs.declared.destructors.Round.{Round}
-use Rattle.pth_model.specs.Transition.{Piece, Change, silent, changes, tells, tid, where_so, ◌and◌, ◌and_then◌}
+use Rattle.pth_model.specs.Transition.{Piece, Change, silent, changes, tells, tells_each, tid, ◌and◌, ◌and_then◌}
 use Rattle.pth_model.specs.Changes.{sets, enters, leaves_queue, removes, runs_now, entry_of, or_nobody}
 use Rattle.pth_model.specs.RingWaits.{stops_waiting}
 use Rattle.pth_model.specs.Acts.{handled, runs_handler}
@@ -44,6 +45,14 @@ abbrev pub other_than : ℕ → Option ℕ → Option ℕ
 other_than t None = None
 other_than t (Some u) = if u == t then None else Some u
 
+-- the mutexes that a thread has, the least first
+unfoldable pub mutexes_had : ℕ → MutexTable → List ℕ
+mutexes_had t x = filter (λ m. has t (x m)) (range_with_len 0 object_limit)
+
+-- the read-write locks that it holds, the least first
+unfoldable pub locks_held : ℕ → LockTables → List ℕ
+locks_held t x = filter (holds x t) (range_with_len 0 object_limit)
+
 module _ {P S H : Type 0} where
   -- its wait is undone
   abbrev pub undoes_wait : ℕ → Piece P S H
@@ -73,18 +82,16 @@ module _ {P S H : Type 0} where
   abbrev pub runs_destructors : (P → Functions S H) → ℕ → Piece P S H
   runs_destructors f t = destructs f t (round_limit * key_limit) first_round
 
-  -- it gives up the mutexes that it has, the least first, each with all its levels; so many from here on are looked at
-  unfoldable pub gives_mutexes : ℕ → (n m : ℕ) → Piece P S H
-  gives_mutexes t zero m s = silent s
-  gives_mutexes t (suc n) m s = (where_so (has t (s.resources.store.mutexes m)) (tells (GaveMutex (tid t) m)) and_then gives_mutexes t n (m + 1)) s
+  -- it gives up the mutexes that it has, each with all its levels
+  abbrev pub gives_mutexes : ℕ → Piece P S H
+  gives_mutexes t s = tells_each (map (GaveMutex (tid t)) (mutexes_had t s.resources.store.mutexes)) s
 
-  -- and so the read-write locks that it holds
-  unfoldable pub gives_locks : ℕ → (n l : ℕ) → Piece P S H
-  gives_locks t zero l s = silent s
-  gives_locks t (suc n) l s = (where_so (holds s.resources.store.rw_locks t l) (tells (GaveLock (tid t) l)) and_then gives_locks t n (l + 1)) s
+  -- and the read-write locks that it holds
+  abbrev pub gives_locks : ℕ → Piece P S H
+  gives_locks t s = tells_each (map (GaveLock (tid t)) (locks_held t s.resources.store.rw_locks)) s
 
   abbrev pub gives_all : ℕ → Piece P S H
-  gives_all t = gives_mutexes t object_limit 0 and_then gives_locks t object_limit 0
+  gives_all t = gives_mutexes t and_then gives_locks t
 
   -- a joinable thread is dead, and keeps its value until it is joined
   unfoldable pub is_dead_with : ℕ → ℤ → Change P S H

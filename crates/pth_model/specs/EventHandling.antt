@@ -102,14 +102,14 @@ module _ {P S H : Type 0} (s : State P S H) where
   -- pth_wait: the ring is claimed, and waited for until some of its events are not pending: how many
   abbrev pub wait : ℤ → Row P S H
   wait e =
-      let come = settled_in s.control.events (number e) in
+      let settled = settled_in s.control.events (number e) in
       record {
         begin =
             refused_as claim_answer s.control.events (number e) otherwise
             waits
             trying silent;
         again = λ b.
-            says come when nat_lt 0 come otherwise
+            says settled when nat_lt 0 settled otherwise
             waits
             trying silent;
         wakes = λ b. false;

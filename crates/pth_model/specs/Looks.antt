@@ -49,7 +49,7 @@ module _ {P S H : Type 0} (k : Control P S H) where
   abbrev pub looks_at : List ℕ → Control P S H
   looks_at es = with_events (λ x. record x { events = each es (option_map looked_at) x.events }) k
 
-  -- whether an event is not pending then
+  -- whether an event is found not to be pending, if it is looked at now
   abbrev pub comes : Option Event → Bool
   comes None = false
   comes (Some x) = not (is_pending (found x.spec))

@@ -1,10 +1,10 @@
 -- Mutexes: pth_mutex_init, pth_mutex_acquire, pth_mutex_release. What becomes of a mutex is told by the answers.
-use Rattle.std.specs.Prelude.{ℕ, ◌||◌, ◌&&◌, not, ◌==◌, ℤ, Bool, is_none}
-use Rattle.pth_base.specs.declared.errno.Errno.TheVariants.{EINVAL, EAGAIN, EBUSY}
+use Rattle.std.specs.Prelude.{ℕ, ◌||◌, ◌&&◌, not, ℤ, Bool, is_none}
+use Rattle.pth_base.specs.declared.errno.Errno.TheVariants.{EINVAL, EBUSY}
 use Rattle.pth_numbered.specs.Operands.{is_zero}
 use Rattle.pth_lock.specs.Objects.{object_named}
-use Rattle.pth_lock.specs.Mutexes.{Mutex, owner_of, levels_of, is_anothers, level_limit, mutex_init_answer, mutex_release_answer}
-use Rattle.pth_model.specs.Verdict.{Verdict, refused, says, waits, done, by_result, ◌when◌otherwise◌}
+use Rattle.pth_lock.specs.Mutexes.{Mutex, owner_of, mutex_init_answer, mutex_take_answer, mutex_release_answer}
+use Rattle.pth_model.specs.Verdict.{Verdict, refused, says, waits, done, by_result, taken_or, ◌when◌otherwise◌}
 use Rattle.pth_model.specs.State.{State}
 use Rattle.pth_model.specs.Transition.{silent, nothing}
 use Rattle.pth_model.specs.Row.{Row, ◌changing◌, ◌trying◌}
@@ -27,11 +27,9 @@ module _ {P S H : Type 0} (s : State P S H) (t : ℕ) where
   -- pth_mutex_acquire: one level more of a mutex that is free or t's own; else t waits, unless it only tries
   abbrev pub begins_acquiring : (m v e : ℤ) → Verdict
   begins_acquiring m v e =
-      refused EINVAL when is_none (mutex s m) || is_no_ring s (extra_ring e) otherwise
-      refused EAGAIN when levels_of t (mutex s m) == level_limit otherwise
-      says 1 when not (is_anothers t (mutex s m)) otherwise
-      refused EBUSY when not (is_zero v) || is_claimed_ring s (extra_ring e) otherwise
-      waits
+      refused EINVAL when is_no_ring s (extra_ring e) otherwise
+      taken_or (mutex_take_answer s.resources.store.mutexes t m)
+      (refused EBUSY when not (is_zero v) || is_claimed_ring s (extra_ring e) otherwise waits)
 
   -- tried again: one level, where it is free
   abbrev pub mutex_acquire : (m v e : ℤ) → Row P S H

@@ -21,9 +21,9 @@ module _ {P S H : Type 0} where
   abbrev pub waiting : Control P S H → List ℕ
   waiting k = holders (queue k queue.Waiting)
 
-  -- whether an event of the ring for which t waits comes
-  unfoldable pub is_come_for : Control P S H → ℕ → Bool
-  is_come_for k t = list_any (λ e. comes k (k.events.events e)) (awaited_events k t)
+  -- whether an event comes of the ring for which t waits
+  unfoldable pub comes_for : Control P S H → ℕ → Bool
+  comes_for k t = list_any (λ e. comes k (k.events.events e)) (awaited_events k t)
 
   -- the events of the rings for which threads wait are looked at
   unfoldable pub looks : Change P S H
@@ -45,9 +45,10 @@ module _ {P S H : Type 0} where
   all_woken (t ∷ ts) s = (woken t and_then all_woken ts) s
 
 module _ {P S H : Type 0} (f : P → Functions S H) where
-  -- a waiting thread's call has what it waits for, or an event of the ring that it was given comes, or it may be canceled
+  -- the blocked call of a waiting thread has what it waits for, or an event comes of the ring that it was given, or the thread may
+  -- be canceled
   abbrev pub is_to_wake : State P S H → ℕ → Bool
-  is_to_wake s t = wakes f t s || is_come_for s.control t || may_be_canceled s.control t
+  is_to_wake s t = wakes f t s || comes_for s.control t || may_be_canceled s.control t
 
   -- those of the waiting threads, in their order
   unfoldable pub to_wake : State P S H → List ℕ

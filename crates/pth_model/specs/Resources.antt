@@ -170,7 +170,7 @@ sent_back (m ∷ ms) q = sent_back ms (sent m.reply (record m { reply = 0 }) q)
 abbrev pub closed_port : ℕ → Mail → Mail
 closed_port p q = sent_back (messages_of (q.at p)) (record q { at = put q.at p None })
 
--- what marks say, by the resource that they change
+-- what marks say
 
 module _ (k : Resources) where
   abbrev pub with_store : Store → Resources
@@ -182,13 +182,29 @@ module _ (k : Resources) where
   abbrev pub awaiting : ℕ → Bool → Resources
   awaiting t b = record k { awaits = put k.awaits t b }
 
+  -- the resources of one facility become others, and all else stays
+  abbrev pub cleanups_become : (Stacks → Stacks) → Resources
+  cleanups_become g = with_store (with_cleanups g k.store)
+
+  abbrev pub keys_become : (Tables → Tables) → Resources
+  keys_become g = with_store (with_keys g k.store)
+
+  abbrev pub mutexes_become : (MutexTable → MutexTable) → Resources
+  mutexes_become g = with_store (with_mutexes g k.store)
+
+  abbrev pub locks_become : (LockTables → LockTables) → Resources
+  locks_become g = with_store (with_rw_locks g k.store)
+
+  abbrev pub mail_becomes : (Mail → Mail) → Resources
+  mail_becomes g = with_mail (g k.mail)
+
 -- t has its mutex again, and awaits no more
 abbrev pub retaken : Resources → ℕ → ℕ → Resources
-retaken k t m = awaiting (with_store k (with_mutexes (mutex_taken t m) k.store)) t false
+retaken k t m = awaiting (mutexes_become k (mutex_taken t m)) t false
 
 -- t gives a level of its mutex back, and awaits from now on
 abbrev pub let_go : Resources → ℕ → ℕ → Resources
-let_go k t m = awaiting (with_store k (with_mutexes (mutex_released t m) k.store)) t true
+let_go k t m = awaiting (mutexes_become k (mutex_released t m)) t true
 
 -- only what thread t has is left (pth_kill)
 abbrev pub of_only : ℕ → Resources → Resources
@@ -210,28 +226,28 @@ abbrev pub on_msg : Answer → Resources → Resources → Resources
 on_msg (Msg id v) k g = g
 on_msg a k g = k
 
--- a call of t is answered
+-- A call of t is answered: first those calls whose answers change what threads have, by facility, and then all others. What the
+-- handlers and the ends of those change is told by marks of its own.
 unfoldable pub answer_told : Resources → ℕ → Call → Answer → Resources
-answer_told k t (call.CleanupPush h v) a = on_one a k (with_store k (with_cleanups (with_top t (handler h, v)) k.store))
-answer_told k t (call.CleanupPop v) a = on_one a k (with_store k (with_cleanups (top_taken t) k.store))
-answer_told k t (call.KeyCreate h) a = on_int a k (λ key. with_store k (with_keys (created (key_named key) (destructor_by h)) k.store))
-answer_told k t (call.KeyDelete key) a = on_one a k (with_store k (with_keys (deleted (key_named key)) k.store))
-answer_told k t (call.KeySet key v) a = on_one a k (with_store k (with_keys (with_key_value t (key_named key) v) k.store))
-answer_told k t (call.MutexInit m) a = on_int a k (λ n. with_store k (with_mutexes (mutex_initialised (object_named m)) k.store))
-answer_told k t (call.MutexAcquire m v e) a = on_int a k (λ n. with_store k (with_mutexes (mutex_taken t (object_named m)) k.store))
-answer_told k t (call.MutexRelease m) a = on_int a k (λ n. with_store k (with_mutexes (mutex_released t (object_named m)) k.store))
-answer_told k t (call.RwInit l) a = on_int a k (λ n. with_store k (with_rw_locks (lock_initialised (object_named l)) k.store))
-answer_told k t (call.RwAcquire l write v e) a = on_int a k (λ n. with_store k (with_rw_locks (lock_taken t write (object_named l)) k.store))
-answer_told k t (call.RwRelease l) a = on_int a k (λ n. with_store k (with_rw_locks (lock_released t (object_named l)) k.store))
+answer_told k t (call.CleanupPush h v) a = on_one a k (cleanups_become k (with_top t (handler h, v)))
+answer_told k t (call.CleanupPop v) a = on_one a k (cleanups_become k (top_taken t))
+answer_told k t (call.KeyCreate h) a = on_int a k (λ key. keys_become k (created (key_named key) (destructor_by h)))
+answer_told k t (call.KeyDelete key) a = on_one a k (keys_become k (deleted (key_named key)))
+answer_told k t (call.KeySet key v) a = on_one a k (keys_become k (with_key_value t (key_named key) v))
+answer_told k t (call.MutexInit m) a = on_int a k (λ n. mutexes_become k (mutex_initialised (object_named m)))
+answer_told k t (call.MutexAcquire m v e) a = on_int a k (λ n. mutexes_become k (mutex_taken t (object_named m)))
+answer_told k t (call.MutexRelease m) a = on_int a k (λ n. mutexes_become k (mutex_released t (object_named m)))
+answer_told k t (call.RwInit l) a = on_int a k (λ n. locks_become k (lock_initialised (object_named l)))
+answer_told k t (call.RwAcquire l write v e) a = on_int a k (λ n. locks_become k (lock_taken t write (object_named l)))
+answer_told k t (call.RwRelease l) a = on_int a k (λ n. locks_become k (lock_released t (object_named l)))
 -- whatever the answer is, once it awaits
 answer_told k t (call.CondAwait c m e) a = if k.awaits t then retaken k t (number m) else k
-answer_told k t (call.PortCreate name) a = on_int a k (λ p. with_mail k (with_port (number p) k.mail))
-answer_told k t (call.PortPut p v r) a = on_int a k (λ n. with_mail k (put_to (number p) v (number r) k.mail))
-answer_told k t (call.PortGet p) a = on_msg a k (with_mail k (got (number p) (messages_of (k.mail.at (number p))) k.mail))
-answer_told k t (call.Reply m v) a = on_int a k (λ n. with_mail k (replied v (kept_message k.mail (number m)) k.mail))
-answer_told k t (call.PortDestroy p) a = on_int a k (λ n. with_mail k (closed_port (number p) k.mail))
+answer_told k t (call.PortCreate name) a = on_int a k (λ p. mail_becomes k (with_port (number p)))
+answer_told k t (call.PortPut p v r) a = on_int a k (λ n. mail_becomes k (put_to (number p) v (number r)))
+answer_told k t (call.PortGet p) a = on_msg a k (mail_becomes k (got (number p) (messages_of (k.mail.at (number p)))))
+answer_told k t (call.Reply m v) a = on_int a k (λ n. mail_becomes k (replied v (kept_message k.mail (number m))))
+answer_told k t (call.PortDestroy p) a = on_int a k (λ n. mail_becomes k (closed_port (number p)))
 answer_told k t call.Kill a = on_int a k (λ n. of_only t k)
--- these touch no resource by their answers; what their handlers and ends touch is told by marks of its own
 answer_told k t (call.Ctrl x) a = k
 answer_told k t call.AttrNew a = k
 answer_told k t (call.AttrOf x) a = k
@@ -316,9 +332,9 @@ told k (mark.Answered t c a) = answer_told k t.0 c a
 told k (mark.Acted t x a) = act_told k t.0 x a
 told k (mark.Waits t c) = wait_told k t.0 c
 told k (mark.Took t m) = retaken k t.0 m
-told k (mark.Destructor t key v) = with_store k (with_keys (with_key_value t.0 key (pos 0)) k.store)
-told k (mark.GaveMutex t m) = with_store k (with_mutexes (mutex_freed m) k.store)
-told k (mark.GaveLock t l) = with_store k (with_rw_locks (lock_released t.0 l) k.store)
+told k (mark.Destructor t key v) = keys_become k (with_key_value t.0 key (pos 0))
+told k (mark.GaveMutex t m) = mutexes_become k (mutex_freed m)
+told k (mark.GaveLock t l) = locks_become k (lock_released t.0 l)
 told k (mark.Ended t v) = end_told k t.0
 told k (mark.Dispatch turn at t rank waited allowed) = k
 told k (mark.Canceled t c) = k

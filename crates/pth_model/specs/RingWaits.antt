@@ -1,5 +1,8 @@
 -- The rings of events for which threads wait. A call that was given an event claims its ring as it blocks its thread, and the
 -- claim stands at that event until the call is answered, or its thread ends.
+--
+-- An event is settled if the last look found it not pending, and a ring has settled if one of its events is (`has_settled`). An
+-- event comes if a look would find it so now (`comes`), and comes for the thread that waits for its ring (`comes_for`).
 use Rattle.std.specs.Prelude.{ℕ, ℤ, List, [], Option, Some, None, option_map, nat_lt, not, Bool, false, if◌then◌else◌}
 use Rattle.pth_base.specs.declared.ids.Tid.{Tid}
 use Rattle.pth_base.specs.declared.call.Call.{Call}
@@ -12,11 +15,11 @@ use Rattle.pth_model.specs.State.{State, Control, now_of}
 use Rattle.pth_model.specs.Transition.{Change, nothing, tid, ◌and◌}
 use Rattle.pth_model.specs.Changes.{with_events, is_blocked_by, blocked_of}
 
--- the ring that a call on a descriptor was given beside it: 0 is none
+-- the ring that a call was given beside what else it waits for: 0 is none
 abbrev pub extra_ring : ℤ → Option ℤ
 extra_ring e = if is_zero e then None else Some e
 
--- the event that a call was given to wait for
+-- the ring that a call was given, by one of its events
 abbrev pub ring_given : Call → Option ℤ
 ring_given (call.Wait e) = Some e
 ring_given (call.ReadEv f n e) = extra_ring e
@@ -28,11 +31,12 @@ ring_given (call.MutexAcquire m v e) = extra_ring e
 ring_given (call.RwAcquire l write v e) = extra_ring e
 ring_given c = None
 
+-- the ring that the blocked call was given
 abbrev pub ring_held : Option Blocked → Option ℤ
 ring_held None = None
 ring_held (Some b) = ring_given b.call
 
--- the events of its ring, from that event on
+-- the events of a ring, from the event that was given on
 abbrev pub events_from : Events → Option ℤ → List ℕ
 events_from x None = []
 events_from x (Some e) = x.rings (number e)
@@ -45,10 +49,10 @@ claimant_by (Some v) = option_map (λ (t : Tid). t.0) v.claim
 abbrev pub claimant : Events → ℕ → Option ℕ
 claimant x e = claimant_by (x.events e)
 
--- whether one of them is not pending any more
-abbrev pub has_event_come : Events → Option ℤ → Bool
-has_event_come x None = false
-has_event_come x (Some e) = nat_lt 0 (settled_in x (number e))
+-- one of the events of a ring is settled
+abbrev pub has_settled : Events → Option ℤ → Bool
+has_settled x None = false
+has_settled x (Some e) = nat_lt 0 (settled_in x (number e))
 
 module _ {P S H : Type 0} where
   -- the events of the ring for which t waits
@@ -65,7 +69,8 @@ module _ {P S H : Type 0} where
   gives_back None = nothing
   gives_back (Some e) = with_events (with_event (with_claim None) (number e))
 
-  -- no call blocks t any longer, and the claim of the one that did is given back
+  -- no call blocks t any longer, and the claim of the blocked call is given back: the call is answered (`answers`), or t ends
+  -- (`undoes_wait`)
   unfoldable pub stops_waiting : ℕ → Change P S H
   stops_waiting t k = (is_blocked_by t None and gives_back (ring_held (blocked_of k t))) k
 

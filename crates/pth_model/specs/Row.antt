@@ -45,7 +45,7 @@ module _ {P S H : Type 0} where
   abbrev pub ◌trying◌ : Verdict → Piece P S H → Attempt P S H
   v trying a = record { verdict = v; effect = a }
 
-  -- a call that never blocks its thread, and changes the control or nothing
+  -- a call that never blocks its thread, and changes the control or nothing: so it is never tried again
   infix 3 ◌changing◌
   abbrev pub ◌changing◌ : Verdict → Change P S H → Row P S H
   v changing g = record { begin = v trying changes g; again = λ b. waits trying silent; wakes = λ b. false; until = λ b. 0 }

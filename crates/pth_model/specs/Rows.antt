@@ -101,6 +101,6 @@ module _ {P S H : Type 0} (f : P → Functions S H) (s : State P S H) (t : ℕ) 
   row_of (call.Select r w x l) = select s r.0 w.0 x.0 l None
   row_of (call.SelectEv r w x l e) = select s r.0 w.0 x.0 l (extra_ring e)
   row_of (call.Close d) = close s d
-  -- a plain line and a note of a body call nothing, and are told otherwise
+  -- a plain line and a note call nothing: `begun` tells them without a row, and these two stand here so that no call is left out
   row_of call.Plain = Says answer.None changing nothing
   row_of (call.Note v) = says 0 changing nothing

@@ -1,10 +1,10 @@
 -- Read-write locks: pth_rwlock_init, pth_rwlock_acquire, pth_rwlock_release. What becomes of a lock is told by the answers.
 use Rattle.std.specs.Prelude.{ℕ, ◌||◌, ◌&&◌, not, ℤ, Bool}
-use Rattle.pth_base.specs.declared.errno.Errno.TheVariants.{EINVAL, EBUSY, EDEADLK}
+use Rattle.pth_base.specs.declared.errno.Errno.TheVariants.{EINVAL, EBUSY}
 use Rattle.pth_numbered.specs.Operands.{is_zero}
 use Rattle.pth_lock.specs.Objects.{object_named}
-use Rattle.pth_lock.specs.RwLocks.{holds, may_enter, lock_init_answer, lock_release_answer}
-use Rattle.pth_model.specs.Verdict.{Verdict, refused, says, waits, done, by_result, ◌when◌otherwise◌}
+use Rattle.pth_lock.specs.RwLocks.{holds, may_enter, lock_init_answer, lock_take_answer, lock_release_answer}
+use Rattle.pth_model.specs.Verdict.{Verdict, refused, says, waits, done, by_result, taken_or, ◌when◌otherwise◌}
 use Rattle.pth_model.specs.State.{State}
 use Rattle.pth_model.specs.Transition.{silent, nothing}
 use Rattle.pth_model.specs.Row.{Row, ◌changing◌, ◌trying◌}
@@ -31,11 +31,9 @@ module _ {P S H : Type 0} (s : State P S H) (t : ℕ) where
   -- pth_rwlock_acquire, to write or to read: t enters, or it waits, unless it only tries
   abbrev pub begins_entering : ℤ → Bool → (v e : ℤ) → Verdict
   begins_entering l write v e =
-      refused EINVAL when not (is_lock s l) || is_no_ring s (extra_ring e) otherwise
-      refused EDEADLK when holds s.resources.store.rw_locks t (object_named l) otherwise
-      says 1 when lets_in s write l otherwise
-      refused EBUSY when not (is_zero v) || is_claimed_ring s (extra_ring e) otherwise
-      waits
+      refused EINVAL when is_no_ring s (extra_ring e) otherwise
+      taken_or (lock_take_answer s.resources.store.rw_locks t write l)
+      (refused EBUSY when not (is_zero v) || is_claimed_ring s (extra_ring e) otherwise waits)
 
   -- tried again: t enters, where it may, and does not hold it
   abbrev pub rw_acquire : ℤ → Bool → (v e : ℤ) → Row P S H

@@ -61,6 +61,11 @@ module _ {P S H : Type 0} where
       let b = second a.state in
       record { state = b.state; marks = a.marks ++ b.marks }
 
+  -- these marks are told, one after another
+  unfoldable pub tells_each : List Mark → Piece P S H
+  tells_each [] s = silent s
+  tells_each (m ∷ ms) s = (tells m and_then tells_each ms) s
+
   -- a piece, where so
   abbrev pub where_so : Bool → Piece P S H → Piece P S H
   where_so true a = a

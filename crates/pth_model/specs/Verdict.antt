@@ -3,6 +3,7 @@ use Rattle.std.specs.Prelude.{ℕ, nat_lt, ℤ, pos, Bool, true, false, Option, 
 use Rattle.pth_base.specs.declared.answer.Answer.{Answer}
 use Rattle.pth_base.specs.declared.answer.Answer.TheVariants.{Int, Fail}
 use Rattle.pth_base.specs.declared.errno.Errno.{Errno}
+use Rattle.pth_base.specs.declared.errno.Errno.TheVariants.{EBUSY}
 
 -- what a call that blocks its thread waits with
 pub record Pause : Type 0 where
@@ -60,6 +61,12 @@ infixr 4 refused_as◌otherwise◌
 abbrev pub refused_as◌otherwise◌ : {A : Type 0} → Result A Errno → Verdict → Verdict
 refused_as Ok x otherwise w = w
 refused_as Err e otherwise w = refused e
+
+-- by what a part answers to who takes something: it is taken; or it is another's, and what follows decides; or it is refused
+abbrev pub taken_or : Result (Unit {0}) Errno → Verdict → Verdict
+taken_or (Ok u) v = says 1
+taken_or (Err EBUSY) v = v
+taken_or (Err e) v = refused e
 
 -- for no moment
 abbrev pub no_pause : Pause

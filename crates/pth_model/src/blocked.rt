@@ -17,7 +17,8 @@ pub enum Retake {
 }
 
 /// A call that blocks its thread: since when, the moment it waits for, the bytes that it wrote so far, the round of its
-/// arrival at a barrier, and whether it takes its mutex back.
+/// arrival at a barrier, and whether it takes its mutex back. No call that is built reads `begin`, `round` or `retake`: the first
+/// tells since when a thread waits, and the others are for barriers and conditions.
 pub struct Blocked {
     pub call: Call,
     pub begin: Micros,

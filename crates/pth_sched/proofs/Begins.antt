@@ -5,6 +5,7 @@ use Rattle.pth_base.specs.declared.call.Call.TheVariants as call
 use Rattle.pth_calls.specs.Plain.{is_plain}
 use Rattle.pth_waits.specs.Blocking.{may_block}
 use Rattle.pth_waits.specs.Io.{is_io}
+use Rattle.pth_sched.specs.Mild.{is_mild}
 
 -- a call never blocks its thread that is none of these
 pub never_blocks : (c : Call) → ((n : ℤ) → c ≢ call.Join n) → ((v : ℤ) → c ≢ call.Exit v) → ((n : ℤ) → c ≢ call.Nap n) → ((n : ℤ) → c ≢ call.Usleep n) → ((n : ℤ) → c ≢ call.Sleep n) → ((e : ℤ) → c ≢ call.Wait e) → ((m v e : ℤ) → c ≢ call.MutexAcquire m v e) → ((l : ℤ) (write : Bool) (v e : ℤ) → c ≢ call.RwAcquire l write v e) → is_io c ≡ false → may_block c ≡ false
@@ -49,3 +50,25 @@ is_plain_call (call.Cancel n) never no_kill no_yield no_plain no_note no_pop no_
 is_plain_call (call.Abort n) never no_kill no_yield no_plain no_note no_pop no_once no_cancel no_abort no_point = absurd (no_abort n refl)
 is_plain_call call.CancelPoint never no_kill no_yield no_plain no_note no_pop no_once no_cancel no_abort no_point = absurd (no_point refl)
 is_plain_call c never no_kill no_yield no_plain no_note no_pop no_once no_cancel no_abort no_point = refl
+
+-- a call that is mild whatever it comes to never blocks its thread
+pub mild_never : (c : Call) → is_mild c ≡ true → may_block c ≡ false
+mild_never (call.Join n) mild = absurd (cc mild)
+mild_never (call.Exit v) mild = absurd (cc mild)
+mild_never (call.Nap n) mild = absurd (cc mild)
+mild_never (call.Usleep n) mild = absurd (cc mild)
+mild_never (call.Sleep n) mild = absurd (cc mild)
+mild_never (call.Wait e) mild = absurd (cc mild)
+mild_never (call.MutexAcquire m v e) mild = absurd (cc mild)
+mild_never (call.RwAcquire l write v e) mild = absurd (cc mild)
+mild_never (call.Read g n) mild = absurd (cc mild)
+mild_never (call.ReadEv g n e) mild = absurd (cc mild)
+mild_never (call.Write g bytes) mild = absurd (cc mild)
+mild_never (call.WriteEv g bytes e) mild = absurd (cc mild)
+mild_never (call.Accept g) mild = absurd (cc mild)
+mild_never (call.AcceptEv g e) mild = absurd (cc mild)
+mild_never (call.Connect g) mild = absurd (cc mild)
+mild_never (call.ConnectEv g e) mild = absurd (cc mild)
+mild_never (call.Select r w x l) mild = absurd (cc mild)
+mild_never (call.SelectEv r w x l e) mild = absurd (cc mild)
+mild_never c mild = refl

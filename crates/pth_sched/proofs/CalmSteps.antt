@@ -1,8 +1,9 @@
 -- Steps that are mild leave a world calm.
-use Rattle.std.proofs.Common.{◌≡◌, ◌≢◌, ◌∙◌, ℕ, ◌<◌, ◌||◌, ◌&&◌, is_none, is_some, Bool, true, false, if◌then◌else◌, List, Option, Some, None, IsSome, IfSome, refl, sym, ap, subst, arith, ◌⊎◌, inl, inr}
+use Rattle.std.proofs.Common.{◌≡◌, ◌∙◌, ℕ, ◌<◌, ◌||◌, ◌&&◌, is_some, Bool, true, false, if◌then◌else◌, List, Option, Some, None, IsSome, IfSome, refl, sym, ap, subst, arith, ◌⊎◌, inl, inr}
 use Rattle.pth_base.specs.Program.{Functions}
 use Rattle.pth_base.specs.declared.call.Call.{Call}
 use Rattle.pth_base.specs.declared.mark.Mark.{Mark}
+use Rattle.pth_kernel.specs.Kernel.{Kernel, kernel_of}
 use Rattle.pth_model.specs.declared.blocked.Blocked.{Blocked}
 use Rattle.pth_model.specs.declared.next.Next.{Next}
 use Rattle.pth_model.specs.declared.progress.Progress.{Progress}
@@ -11,20 +12,15 @@ use Rattle.pth_model.specs.Transition.{Went, controlled}
 use Rattle.pth_model.specs.Calls.{begun, gone_on}
 use Rattle.pth_model.specs.Changes.{blocked_of}
 use Rattle.pth_model.specs.Part.{owes_after, step_of, stepping, steps_by, steps_from, steps_on}
-use Rattle.pth_model.specs.RingWaits.{ring_given}
 use Rattle.pth_world.specs.Leading.{Leads}
 use Rattle.pth_world.specs.Shows.{Shows, StandsFor}
 use Rattle.pth_world.specs.World.{WorldOf}
 use Rattle.pth_world.proofs.Telling.{has_still}
 use Rattle.pth_sched.specs.Calm.{IsCalmUntil, Calms}
-use Rattle.pth_sched.specs.Mild.{begins_mildly, is_mild, is_patient, is_waiting, waits_mildly}
+use Rattle.pth_sched.specs.Mild.{is_mild, is_patient, is_waiting, waits_mildly}
 use Rattle.pth_sched.proofs.Calming.{IsMild, mild_then}
 use Rattle.pth_sched.proofs.CalmWorlds.{mild_calms}
 use Rattle.pth_sched.proofs.Mildness.{begins_mild, is_mild_begun, owes_mild, goes_on_mild, stepping_mild}
-
-none_is : {A : Type 0} (o : Option A) → is_none o ≡ true → o ≡ None
-none_is None h = refl
-none_is (Some x) h = absurd (cc h)
 
 both : (a b : Bool) → (a && b) ≡ true → (a ≡ true) × (b ≡ true)
 both true b h = (refl, h)
@@ -45,31 +41,31 @@ module _ {P S H : Type 0} where
     s = calm.state
 
     -- a call begins
-    begun_by_test : (r : State P S H) (call : Call) (n : Next) → n ≡ (begun f t call r).next → (is_mild call || (begins_mildly call && is_waiting n)) ≡ true → IsMild t r (begun f t call r).told.state
-    begun_by_test r call n next test = elim (either (is_mild call) (begins_mildly call && is_waiting n) test) [
+    begun_by_test : (r : State P S H) (call : Call) (n : Next) → n ≡ (begun f t call r).next → (is_mild call || (waits_mildly r.control.kernel call && is_waiting n)) ≡ true → IsMild t r (begun f t call r).told.state
+    begun_by_test r call n next test = elim (either (is_mild call) (waits_mildly r.control.kernel call && is_waiting n) test) [
       | inl mild ↦ is_mild_begun t f r call mild
-      | inr waits ↦ (let a = both (begins_mildly call) (is_waiting n) waits in let b = both (waits_mildly call) (is_none (ring_given call)) a.0 in
-          begins_mild t f r call b.0 (none_is (ring_given call) b.1) (subst (λ (x : Next). is_waiting x ≡ true) next a.1))
+      | inr waits ↦ (let a = both (waits_mildly r.control.kernel call) (is_waiting n) waits in begins_mild t f r call a.0 (subst (λ (x : Next). is_waiting x ≡ true) next a.1))
     ]
 
     module _ (u : WorldOf P S H) (call : Call) (n : Next) (old new : List Mark) (stored : u.store ≡ w.store)
         (next : (r : State P S H) → StandsFor u r → n ≡ (begun f t call r).next) (leads : (r : State P S H) → StandsFor u r → Leads v old new (begun f t call r).told)
-        (test : (is_mild call || (begins_mildly call && is_waiting n)) ≡ true) where
+        (test : (is_mild call || (waits_mildly (kernel_of u.kernel) call && is_waiting n)) ≡ true) where
       begun_from : (o : Option (Progress S)) → IsSome o → IfSome o (λ p. Shows u (stepping t (step_of f s.control p) s.control)) → IsCalmUntil v until
       begun_from None some shows = absurd (cc some)
       begun_from (Some p) some shows =
           let x = step_of f s.control p in
           let r = controlled (stepping t x) s in
           let stands : StandsFor u r = record { control = shows; resources = has_still w u s stored calm.stands.resources } in
-          mild_calms w until calm v t (begun f t call r).told.state runs (leads r stands).stands (mild_then t s r _ (stepping_mild t x s) (begun_by_test r call n (next r stands) test))
+          let tested = subst (λ (k : Kernel). (is_mild call || (waits_mildly k call && is_waiting n)) ≡ true) (sym shows.kernel) test in
+          mild_calms w until calm v t (begun f t call r).told.state runs (leads r stands).stands (mild_then t s r _ (stepping_mild t x s) (begun_by_test r call n (next r stands) tested))
 
       pub begun_calms : ((r : State P S H) → StandsFor w r → IsSome (r.control.threads.progress t)) → ((k : Control P S H) → Shows w k → IfSome (k.threads.progress t) (λ p. Shows u (stepping t (step_of f k p) k))) → IsCalmUntil v until
       begun_calms some shows = begun_from (s.control.threads.progress t) (some s calm.stands) (shows s.control calm.stands.control)
 
     -- a call is tried again
-    module _ (patient : Bool) (n : Next) (old new : List Mark) (is : (k : Control P S H) → Shows w k → patient ≡ is_patient (blocked_of k t))
+    module _ (patient : Bool) (n : Next) (old new : List Mark) (is : (k : Control P S H) → Shows w k → patient ≡ is_patient (kernel_of w.kernel) (blocked_of k t))
         (next : (r : State P S H) → StandsFor w r → n ≡ (gone_on f t r).next) (leads : (r : State P S H) → StandsFor w r → Leads v old new (gone_on f t r).told) where
-      gone_on_by_test : (o : Option Blocked) → blocked_of s.control t ≡ o → is_patient o ≡ true → is_waiting (gone_on f t s).next ≡ true → IsMild t s (gone_on f t s).told.state
+      gone_on_by_test : (o : Option Blocked) → blocked_of s.control t ≡ o → is_patient s.control.kernel o ≡ true → is_waiting (gone_on f t s).next ≡ true → IsMild t s (gone_on f t s).told.state
       gone_on_by_test None blocked mild waits = absurd (cc mild)
       gone_on_by_test (Some b) blocked mild waits = goes_on_mild t f s b blocked mild waits
 
@@ -77,7 +73,7 @@ module _ {P S H : Type 0} where
       gone_on_calms test =
           let a = both patient (is_waiting n) test in
           mild_calms w until calm v t (gone_on f t s).told.state runs (leads s calm.stands).stands
-          (gone_on_by_test (blocked_of s.control t) refl (sym (is s.control calm.stands.control) ∙ a.0) (subst (λ (x : Next). is_waiting x ≡ true) (next s calm.stands) a.1))
+          (gone_on_by_test (blocked_of s.control t) refl (ap (λ (k : Kernel). is_patient k (blocked_of s.control t)) calm.stands.control.kernel ∙ sym (is s.control calm.stands.control) ∙ a.0) (subst (λ (x : Next). is_waiting x ≡ true) (next s calm.stands) a.1))
 
   -- t is handed over what it is owed
   pub owed_calms : (w v : WorldOf P S H) (until t : ℕ) (n : Next) → IsCalmUntil w until → w.scheduler.running ≡ Some t → ((k : Control P S H) → Shows w k → Shows v (owes_after t n k)) → v.store ≡ w.store → IsCalmUntil v until

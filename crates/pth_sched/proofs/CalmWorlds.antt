@@ -1,47 +1,39 @@
 -- What keeps a world calm.
-use Rattle.std.proofs.Common.{◌≡◌, ◌≢◌, ◌∙◌, ℕ, ◌==◌, ◌<◌, ◌≤◌, ◌+◌, ◌||◌, ◌&&◌, not, min, IfSome, Bool, true, false, if◌then◌else◌, List, [], ◌∷◌, ◌++◌, map, filter, All, Option, Some, None, refl, sym, ap, subst, arith, append-nil, ◌⊎◌, inl, inr}
+use Rattle.std.proofs.Common.{◌≡◌, ◌≢◌, ◌∙◌, ℕ, ◌==◌, ◌<◌, ◌≤◌, min, IfSome, Bool, true, false, List, [], filter, All, Option, Some, None, refl, sym, ap, subst, arith, append-nil, inl, inr}
 use Rattle.std.proofs.lemmas.Bool.{cases_Bool}
-use Rattle.std.proofs.lemmas.List.Elements.{All-head, All-tail, All-weaker}
-use Rattle.pth_base.proofs.Tables.{same_self, same_means, same_fails}
+use Rattle.std.proofs.lemmas.List.Elements.{All-weaker}
+use Rattle.pth_base.proofs.Tables.{same_means, same_fails}
 use mathlib.Core.Path.{fun_ext}
-use Rattle.pth_base.proofs.Namings.{seen_at}
 use Rattle.pth_base.specs.Limits.{last_moment}
 use Rattle.pth_base.specs.Naming.{by_slot, seen}
 use Rattle.pth_base.specs.Program.{Functions}
 use Rattle.pth_base.specs.declared.mark.Mark.{Mark}
-use Rattle.pth_base.specs.declared.thread.ThreadState.{ThreadState}
-use Rattle.pth_base.specs.declared.thread.ThreadState.TheVariants as state
-use Rattle.pth_kernel.specs.Kernel.{Kernel, kernel_of}
-use Rattle.pth_queue.specs.declared.queue.Queue.{Queue}
-use Rattle.pth_queue.specs.declared.queue.Queue.TheVariants as queue
-use Rattle.pth_queue.specs.declared.ranked.Ranked.{Ranked}
-use Rattle.pth_queue.specs.Ranking.{holds, is_of, named_row}
-use Rattle.pth_queue.specs.Queues.{queue_of}
-use Rattle.pth_threads.specs.Threads.{entry_at, slot_of, tid_at, tid_of}
+use Rattle.pth_kernel.specs.Kernel.{Kernel}
+use Rattle.pth_threads.specs.Threads.{entry_at, slot_of}
 use Rattle.pth_threads.specs.declared.entry.Entry.{Entry}
-use Rattle.pth_model.specs.declared.blocked.Blocked.{Blocked}
 use Rattle.pth_model.specs.declared.progress.Progress.{Progress}
 use Rattle.pth_model.specs.State.{Control, State, Scheduler, now_of, main}
 use Rattle.pth_model.specs.Cancellation.{may_be_canceled}
-use Rattle.pth_model.specs.Changes.{blocked_in, blocked_of, entry_of, holders}
+use Rattle.pth_model.specs.Changes.{blocked_in, blocked_of, entry_of}
 use Rattle.pth_model.specs.Part.{readies_new, runs, turn_ends}
 use Rattle.pth_model.specs.Pass.{is_to_wake, looks, waiting, to_wake, pass, all_woken}
 use Rattle.pth_model.specs.Resources.{Resources, Store}
 use Rattle.pth_model.specs.ThreadEnds.{is_alone}
-use Rattle.pth_model.specs.Transition.{Transition, silent, controlled, changes, ◌and_then◌}
+use Rattle.pth_model.specs.Transition.{controlled, changes, ◌and_then◌}
 use Rattle.pth_world.specs.Leading.{Leads}
-use Rattle.pth_world.specs.Shows.{Shows, StandsFor, resources_of}
+use Rattle.pth_world.specs.Shows.{Shows, StandsFor}
 use Rattle.pth_world.specs.Store.{store_of}
-use Rattle.pth_world.specs.Whole.{Whole, FitsEntry, place_for}
+use Rattle.pth_world.specs.Whole.{Whole}
 use Rattle.pth_world.specs.World.{WorldOf}
 use Rattle.pth_world.specs.StateOf.{state_of}
 use Rattle.pth_world.proofs.StateOf.{stands_for_state}
 use Rattle.pth_world.proofs.Telling.{has_still}
-use Rattle.pth_waits.specs.Waking.{is_due, has_died}
+use Rattle.pth_waits.specs.Waking.{has_died}
 use Rattle.pth_waits.specs.Dormant.{IsDormant}
-use Rattle.pth_sched.specs.Calm.{IsCalm, IsCalmBut, IsCalmUntil, IsCalmButUntil, Calms, CalmsBut, AreDormant, is_among_waiting, waits_in}
+use Rattle.pth_sched.specs.Calm.{IsCalmUntil, IsCalmButUntil, Calms, AreDormant, is_among_waiting}
 use Rattle.pth_waits.proofs.Standing.{none_died}
-use Rattle.pth_waits.proofs.Dormancy.{KeepsDormant, dormant_kept, dormant_sooner}
+use Rattle.pth_waits.proofs.Waking.{is_due}
+use Rattle.pth_waits.proofs.Dormancy.{dormant_kept, dormant_sooner, equal_pending}
 use Rattle.pth_sched.proofs.Calming.{IsMild, mild_calm, readied_calm, readied_nobody, dispatched_calm, turn_over_calm}
 use Rattle.pth_sched.proofs.Waiting.{all_wait, none_due, none_looked}
 
@@ -67,7 +59,7 @@ module _ {P S H : Type 0} (w : WorldOf P S H) where
       now = now_of k;
       later = omega arith;
       kernel = sj.kernel ∙ sym sk.kernel;
-      events = sj.events ∙ sym sk.events;
+      events = equal_pending k.events j.events (sj.events ∙ sym sk.events);
       mutexes = refl;
       locks = refl;
       blocked = same_blocked u;

@@ -1,21 +1,18 @@
 -- What keeps a state calm: dispatches, what ends a turn, and mild steps.
-use Rattle.std.proofs.Common.{◌≡◌, ◌≢◌, ◌∙◌, ℕ, ◌==◌, ◌+◌, ◌<◌, ◌≤◌, ◌||◌, ◌&&◌, not, min, Bool, true, false, if◌then◌else◌, ℤ, pos, negsuc, List, [], ◌∷◌, Option, Some, None, option_map, ◌⊎◌, inl, inr, refl, sym, ap, subst, arith}
-use Rattle.std.proofs.lemmas.Bool.{cases_Bool}
+use Rattle.std.proofs.Common.{◌≡◌, ◌≢◌, ◌∙◌, ℕ, ◌+◌, ◌≤◌, ◌||◌, not, min, Bool, true, false, ℤ, pos, negsuc, List, [], ◌∷◌, Option, Some, None, option_map, refl, sym, ap, subst, arith}
 use Rattle.pth_base.specs.Limits.{last_moment}
 use Rattle.pth_base.specs.Table.{put}
-use Rattle.pth_base.proofs.Tables.{put_here, put_other, put_by, same_self, not_same}
+use Rattle.pth_base.proofs.Tables.{put_other, put_by}
 use Rattle.pth_base.specs.declared.thread.ThreadState.{ThreadState}
 use Rattle.pth_base.specs.declared.thread.ThreadState.TheVariants as state
-use Rattle.pth_kernel.specs.Kernel.{Kernel, advanced}
+use Rattle.pth_kernel.specs.Kernel.{advanced}
 use Rattle.pth_threads.specs.Threads.{changed}
-use Rattle.pth_threads.specs.declared.entry.Change.{Change}
 use Rattle.pth_threads.specs.declared.entry.Change.TheVariants as change
 use Rattle.pth_threads.specs.declared.entry.Entry.{Entry}
 use Rattle.pth_model.specs.declared.blocked.Blocked.{Blocked}
 use Rattle.pth_model.specs.State.{Control, State, now_of, clock_of}
-use Rattle.pth_model.specs.Transition.{◌and◌}
-use Rattle.pth_model.specs.Changes.{blocked_of, entry_of, or_nobody, sets, goes_on, leaves_queue, enters, raises_ready, runs_now}
-use Rattle.pth_model.specs.Cancellation.{is_to_cancel, is_at_point, may_be_canceled}
+use Rattle.pth_model.specs.Changes.{blocked_of, entry_of, or_nobody, sets, leaves_queue, enters, raises_ready, runs_now}
+use Rattle.pth_model.specs.Cancellation.{is_to_cancel, may_be_canceled}
 use Rattle.pth_model.specs.Resources.{Store}
 use Rattle.pth_model.specs.ThreadControl.{is_dead_in}
 use Rattle.pth_model.specs.Pass.{is_ready_at}
@@ -23,7 +20,7 @@ use Rattle.pth_model.specs.Part.{runs, readies, readies_all, is_placed, placed_b
 use Rattle.pth_waits.specs.Waking.{has_died}
 use Rattle.pth_waits.specs.Dormant.{IsDormant, is_left_to_join}
 use Rattle.pth_sched.specs.Calm.{IsCalm, IsCalmBut, is_among_waiting}
-use Rattle.pth_waits.proofs.Dormancy.{KeepsDormant, dormant_kept}
+use Rattle.pth_waits.proofs.Dormancy.{KeepsPending, dormant_kept, pending_then, same_pending}
 
 -- ---- records of threads
 
@@ -96,7 +93,7 @@ module _ {P S H : Type 0} where
     pub now : ℕ
     pub later : now_of k ≤ now
     pub kernel : j.kernel ≡ advanced now k.kernel
-    pub events : j.events ≡ k.events
+    pub events : KeepsPending k.events j.events
     pub mutexes : y.mutexes ≡ x.mutexes
     pub locks : y.rw_locks ≡ x.rw_locks
     pub tame : (u : ℕ) → IsTame (entry_of k u) (entry_of j u)
@@ -138,7 +135,7 @@ module _ {P S H : Type 0} where
       now = now_of k;
       later = omega arith;
       kernel = refl;
-      events = refl;
+      events = same_pending k.events;
       mutexes = refl;
       locks = refl;
       tame = tame_put k.threads.known t _ (tame_state state.Ready Ready (k.threads.known t));
@@ -155,7 +152,7 @@ module _ {P S H : Type 0} where
           now = now_of k;
           later = omega arith;
           kernel = refl;
-          events = refl;
+          events = same_pending k.events;
           mutexes = refl;
           locks = refl;
           tame = λ u. tame_then (k.threads.known u) (first u) _
@@ -210,7 +207,7 @@ module _ {P S H : Type 0} where
       now = min (now_of k + clock_of k) last_moment;
       later = later_now (now_of k) (clock_of k) within;
       kernel = refl;
-      events = refl;
+      events = same_pending k.events;
       mutexes = refl;
       locks = refl;
       tame = λ u. tame_same (k.threads.known u);
@@ -220,7 +217,7 @@ module _ {P S H : Type 0} where
       now = min (now_of k + clock_of k) last_moment;
       later = later_now (now_of k) (clock_of k) within;
       kernel = refl;
-      events = refl;
+      events = same_pending k.events;
       mutexes = refl;
       locks = refl;
       tame = tame_put k.threads.known t _ (tame_state state.Ready Ready (k.threads.known t));
@@ -230,7 +227,7 @@ module _ {P S H : Type 0} where
       now = min (now_of k + clock_of k) last_moment;
       later = later_now (now_of k) (clock_of k) within;
       kernel = refl;
-      events = refl;
+      events = same_pending k.events;
       mutexes = refl;
       locks = refl;
       tame = tame_put k.threads.known t _ (tame_state state.Waiting Waiting (k.threads.known t));
@@ -244,25 +241,25 @@ module _ {P S H : Type 0} where
 
   -- ---- steps that are mild
 
-  -- but for t, which runs, of threads and of what they wait for all is as it was
+  -- but for t, which runs, of threads and of what they wait for all is as it was, and events are pending as they were, or more
   pub record IsMild (t : ℕ) (s r : State P S H) : Type 0 where
     pub known : r.control.threads.known ≡ s.control.threads.known
     pub running : r.control.scheduler.running ≡ s.control.scheduler.running
     pub kernel : r.control.kernel ≡ s.control.kernel
-    pub events : r.control.events ≡ s.control.events
+    pub events : KeepsPending s.control.events r.control.events
     pub mutexes : r.resources.store.mutexes ≡ s.resources.store.mutexes
     pub locks : r.resources.store.rw_locks ≡ s.resources.store.rw_locks
     pub blocked : (u : ℕ) → u ≢ t → blocked_of r.control u ≡ blocked_of s.control u
 
   pub mild_same : (t : ℕ) (s : State P S H) → IsMild t s s
-  mild_same t s = record { known = refl; running = refl; kernel = refl; events = refl; mutexes = refl; locks = refl; blocked = λ u apart. refl }
+  mild_same t s = record { known = refl; running = refl; kernel = refl; events = same_pending s.control.events; mutexes = refl; locks = refl; blocked = λ u apart. refl }
 
   pub mild_then : (t : ℕ) (s r q : State P S H) → IsMild t s r → IsMild t r q → IsMild t s q
   mild_then t s r q a b = record {
     known = b.known ∙ a.known;
     running = b.running ∙ a.running;
     kernel = b.kernel ∙ a.kernel;
-    events = b.events ∙ a.events;
+    events = pending_then s.control.events r.control.events q.control.events a.events b.events;
     mutexes = b.mutexes ∙ a.mutexes;
     locks = b.locks ∙ a.locks;
     blocked = λ u apart. b.blocked u apart ∙ a.blocked u apart;

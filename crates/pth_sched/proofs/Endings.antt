@@ -12,7 +12,7 @@ use Rattle.pth_model.specs.declared.blocked.Blocked.{Blocked}
 use Rattle.pth_model.specs.declared.next.Next.{Next}
 use Rattle.pth_model.specs.declared.next.Next.TheVariants as next
 use Rattle.pth_model.specs.declared.progress.Progress.{Progress}
-use Rattle.pth_model.specs.Verdict.{Verdict, Says, Yields, Blocks, Ends, Kills, Pause, no_pause, waits, refused, says, done, by_result, said_or, counts_or, ◌when◌otherwise◌, refused_as◌otherwise◌}
+use Rattle.pth_model.specs.Verdict.{Verdict, Says, Yields, Blocks, Ends, Kills, Pause, no_pause, waits, refused, says, done, by_result, said_or, counts_or, taken_or, ◌when◌otherwise◌, refused_as◌otherwise◌}
 use Rattle.pth_model.specs.State.{State, Control, Given, Turn, start, queue, present, main, now_of, once_limit}
 use Rattle.pth_model.specs.Transition.{Piece, Change, Went, tid, controlled, ◌and_then◌}
 use Rattle.pth_base.specs.declared.answer.Answer.{Answer}
@@ -38,14 +38,14 @@ use Rattle.pth_model.specs.Cleanups.{last_pushed}
 use Rattle.pth_store.specs.Cleanups.{push_answer}
 use Rattle.pth_store.specs.Keys.{key_create_answer, key_delete_answer, key_set_answer, key_get_answer}
 use Rattle.pth_model.specs.ThreadEnds.{is_alone, must_wait}
-use Rattle.pth_model.specs.Calls.{begun, begun_by, gone_on, gone_on_where, tried_again, tried_again_by, tried_by, unless_come, interrupted}
+use Rattle.pth_model.specs.Calls.{begun, begun_by, gone_on, gone_on_where, tried_again, tried_again_by, tried_by, unless_settled, interrupted}
 use Rattle.pth_model.specs.EventHandling.{spec_of, made_as, make_event, chain, wait, number_or_none, status_number}
-use Rattle.pth_model.specs.RingWaits.{extra_ring, ring_given, has_event_come, is_no_ring, is_claimed_ring}
-use Rattle.pth_lock.specs.Mutexes.{is_anothers, level_limit, levels_of, mutex_init_answer, mutex_release_answer}
+use Rattle.pth_model.specs.RingWaits.{extra_ring, ring_given, has_settled, is_no_ring, is_claimed_ring}
+use Rattle.pth_lock.specs.Mutexes.{mutex_init_answer, mutex_release_answer, mutex_take_answer}
 use Rattle.pth_lock.specs.Objects.{object_named}
-use Rattle.pth_lock.specs.RwLocks.{holds, lock_init_answer, lock_release_answer}
-use Rattle.pth_model.specs.Mutexes.{begins_acquiring, is_free, mutex}
-use Rattle.pth_model.specs.Rwlocks.{begins_entering, is_lock, is_open, lets_in}
+use Rattle.pth_lock.specs.RwLocks.{holds, lock_init_answer, lock_release_answer, lock_take_answer}
+use Rattle.pth_model.specs.Mutexes.{begins_acquiring, is_free}
+use Rattle.pth_model.specs.Rwlocks.{begins_entering, is_open}
 use Rattle.pth_model.specs.Times.{rest, timeout, is_negative, length_of, moment_after}
 use Rattle.pth_ring.specs.Rings.{make_answer, chain_answer, concat_answer, isolate_answer, walk_answer, status_answer, kind_answer, free_answer, claim_answer, settled_in, alone, chained}
 use Rattle.pth_base.specs.declared.event.EvLine.{EvLine}
@@ -267,23 +267,22 @@ module _ {P S H : Type 0} (f : P → Functions S H) (s : State P S H) (t : ℕ) 
   turned_on : (b : Bool) → EndsNot (refused EBUSY when b otherwise waits)
   turned_on b = refused_on EBUSY b waits (blocks_on no_pause)
 
-  taken_on : (b c : Bool) → EndsNot (says 1 when b otherwise refused EBUSY when c otherwise waits)
-  taken_on b c = when_on (says 1) b (refused EBUSY when c otherwise waits) (says_on (Int (pos 1))) (turned_on c)
+  taken_on : (r : Result (Unit {0}) Errno) (b : Bool) → EndsNot (taken_or r (refused EBUSY when b otherwise waits))
+  taken_on (Ok u) b = says_on (Int (pos 1))
+  taken_on (Err EBUSY) b = turned_on b
+  taken_on (Err e) b = says_on (Fail e)
 
   acquire_on : (m u e : ℤ) → EndsNot (begins_acquiring s t m u e)
   acquire_on m u e =
       let busy = not (is_zero u) || is_claimed_ring s (extra_ring e) in
-      let mine = not (is_anothers t (mutex s m)) in
-      let full = levels_of t (mutex s m) == level_limit in
-      let rest = says 1 when mine otherwise refused EBUSY when busy otherwise waits in
-      refused_on EINVAL (is_none (mutex s m) || is_no_ring s (extra_ring e)) (refused EAGAIN when full otherwise rest) (refused_on EAGAIN full rest (taken_on mine busy))
+      let answer = mutex_take_answer s.resources.store.mutexes t m in
+      refused_on EINVAL (is_no_ring s (extra_ring e)) (taken_or answer (refused EBUSY when busy otherwise waits)) (taken_on answer busy)
 
   enter_on : (l : ℤ) (write : Bool) (u e : ℤ) → EndsNot (begins_entering s t l write u e)
   enter_on l write u e =
       let busy = not (is_zero u) || is_claimed_ring s (extra_ring e) in
-      let held = holds s.resources.store.rw_locks t (object_named l) in
-      let rest = says 1 when lets_in s write l otherwise refused EBUSY when busy otherwise waits in
-      refused_on EINVAL (not (is_lock s l) || is_no_ring s (extra_ring e)) (refused EDEADLK when held otherwise rest) (refused_on EDEADLK held rest (taken_on (lets_in s write l) busy))
+      let answer = lock_take_answer s.resources.store.rw_locks t write l in
+      refused_on EINVAL (is_no_ring s (extra_ring e)) (taken_or answer (refused EBUSY when busy otherwise waits)) (taken_on answer busy)
 
   ctrl_again_on : (q : Query) (b : Blocked) → EndsNot ((ctrl s q).again b).verdict
   ctrl_again_on query.Threads b v h = cc h
@@ -421,7 +420,7 @@ module _ {P S H : Type 0} (f : P → Functions S H) (t : ℕ) (v : ℤ) where
   tried_verdict b Kills s e = absurd (cc e)
 
   -- what blocks is interrupted, and nothing else
-  come_verdict : (come : Bool) (a : Attempt P S H) → (unless_come come a).verdict ≡ Ends v → a.verdict ≡ Ends v
+  come_verdict : (come : Bool) (a : Attempt P S H) → (unless_settled come a).verdict ≡ Ends v → a.verdict ≡ Ends v
   come_verdict false a e = e
   come_verdict true a e = by_verdict a.verdict e
     where
@@ -474,8 +473,8 @@ module _ {P S H : Type 0} (f : P → Functions S H) (t : ℕ) (v : ℤ) where
       by_blocked : (o : Option Blocked) → blocked_of s.control t ≡ o → (tried_again_by f t o s).next ≡ next.Ended v → EndsIt s.control (tried_again f t s).told.marks
       by_blocked None at h = absurd (cc h)
       by_blocked (Some b) at h =
-          let come = has_event_come s.control.events (ring_given b.call) in
-          let a = unless_come come ((row_of f s t b.call).again b) in
+          let come = has_settled s.control.events (ring_given b.call) in
+          let a = unless_settled come ((row_of f s t b.call).again b) in
           let x = exits_again s b b.call (come_verdict come ((row_of f s t b.call).again b) (tried_verdict b a.verdict (effect_of a s).state h)) in
           ends_by s.control _ s x.1 (ap (λ (w : Went P S H). w.told.marks) (again_ends f s t v b at x.0 x.1))
 

@@ -1,4 +1,4 @@
--- The waiting threads are gone over: the events of their rings are looked at, and those that are due are listed.
+-- The waiting threads are gone over: the events of their rings are looked at, and those that are to wake are listed.
 use Rattle.std.proofs.Common.{◌≡◌, ◌∙◌, ℕ, Bool, true, false, cond, ◌||◌, if◌then◌else◌, List, [], ◌∷◌, ◌++◌, filter, flat_map, Option, Some, None, option_map, refl, sym, ap, ap₂, subst, ◌==◌, append_assoc, append-nil}
 use Rattle.std.specs.List.{list_any}
 use mathlib.Core.Path.{fun_ext}
@@ -11,19 +11,19 @@ use Rattle.pth_model.specs.declared.awaits.Awaits.TheVariants.{Nothing}
 use Rattle.pth_model.specs.Awaits.{awaits_in}
 use Rattle.pth_model.specs.Changes.{blocked_of}
 use Rattle.pth_model.specs.Looks.{comes, looked_at, looks_at}
-use Rattle.pth_model.specs.Pass.{is_come_for, looks, to_wake, waiting}
-use Rattle.pth_model.specs.Resources.{Resources, Store}
+use Rattle.pth_model.specs.Pass.{comes_for, is_to_wake, looks, to_wake, waiting}
+use Rattle.pth_model.specs.Resources.{Store}
 use Rattle.pth_model.specs.RingWaits.{awaited_events}
 use Rattle.pth_model.specs.State.{Control, State}
 use Rattle.pth_model.specs.ThreadControl.{joinable_dead}
 use Rattle.pth_model.specs.ThreadEnds.{is_alone}
 use Rattle.pth_world.specs.Shows.{Shows, StandsFor}
-use Rattle.pth_world.specs.Store.{store_of}
 use Rattle.pth_world.specs.World.{WorldOf}
 use Rattle.pth_world.proofs.Events.{events_show}
+use Rattle.pth_world.proofs.Telling.{has_still}
 use Rattle.pth_model.specs.Cancellation.{may_be_canceled}
-use Rattle.pth_waits.specs.Waking.{has_any_died, has_come, is_due}
-use Rattle.pth_waits.proofs.Waking.{due_is}
+use Rattle.pth_waits.specs.Waking.{has_any_died, has_come}
+use Rattle.pth_waits.proofs.Waking.{due_is, is_due}
 
 -- ---- lists
 
@@ -62,8 +62,8 @@ module _ {P S H : Type 0} (k : Control P S H) (xs : List ℕ) where
   comes_still true (Some x) = refl
   comes_still false (Some x) = refl
 
-  come_for_still : (t : ℕ) → is_come_for seen t ≡ is_come_for k t
-  unfolding is_come_for each
+  come_for_still : (t : ℕ) → comes_for seen t ≡ comes_for k t
+  unfolding comes_for each
   come_for_still t = ap (λ (p : ℕ → Bool). list_any p (awaited_events k t)) (fun_ext (λ e. comes_still (ring_holds e xs) (k.events.events e)))
 
   pub has_come_still : (x : Store) (t : ℕ) (a : Awaits) → has_come x seen t a ≡ has_come x k t a
@@ -95,64 +95,75 @@ module _ {P S H : Type 0} (k : Control P S H) (xs : List ℕ) where
       ap (λ (f : ℕ → Option Event). record k { events = record k.events { events = f } })
       (fun_ext (λ e. look_twice (ring_holds e xs) (ring_holds e ys) (k.events.events e) ∙ ap (λ (b : Bool). if b then look (k.events.events e) else k.events.events e) (sym (holds_both e xs ys))))
 
+-- who is to wake does not hang on what was looked at
+to_wake_still : {P S H : Type 0} (f : P → Functions S H) (s : State P S H) (xs : List ℕ) (t : ℕ) → is_to_wake f (record s { control = looks_at s.control xs }) t ≡ is_to_wake f s t
+to_wake_still f s xs t = due_is f (record s { control = looks_at s.control xs }) t ∙ due_still s.control xs s.resources.store t ∙ sym (due_is f s t)
+
 -- ---- the threads, one after another
 
 -- Of the threads ts some were gone over, and rest are left: the events for which the former wait were looked at, and those of them
--- that are due are listed.
-pub record GoneOver {P S H : Type 0} (old now : WorldOf P S H) (ts rest list : List ℕ) : Type 0 where
+-- that are to wake are listed.
+pub record GoneOver {P S H : Type 0} (f : P → Functions S H) (old now : WorldOf P S H) (ts rest list : List ℕ) : Type 0 where
   pub done : List ℕ
   pub split : ts ≡ done ++ rest
   pub shows : (k : Control P S H) → Shows old k → Shows now (looks_at k (flat_map (awaited_events k) done))
-  pub listed : (k : Control P S H) → Shows old k → list ≡ filter (is_due (store_of old.store) k) done
+  pub listed : (s : State P S H) → StandsFor old s → list ≡ filter (is_to_wake f s) done
   pub made : now.events.made ≡ old.events.made
   pub same : now ≡ record old { events = now.events }
 
-module _ {P S H : Type 0} (old : WorldOf P S H) where
-  none_seen : (k : Control P S H) → k ≡ looks_at k []
-  unfolding each
-  none_seen k = ap (λ (f : ℕ → Option Event). record k { events = record k.events { events = f } }) (fun_ext (λ e. refl))
+none_seen : {P S H : Type 0} (k : Control P S H) → k ≡ looks_at k []
+unfolding each
+none_seen k = ap (λ (f : ℕ → Option Event). record k { events = record k.events { events = f } }) (fun_ext (λ e. refl))
 
-  pub gone_none : (ts : List ℕ) → GoneOver old old ts ts []
+-- whether a thread that can be joined has died does not hang on events
+pub dead_still : {P S H : Type 0} (old now : WorldOf P S H) (any : Bool) → now ≡ record old { events = now.events } → ((k : Control P S H) → Shows old k → any ≡ has_any_died k) → (k : Control P S H) → Shows now k → any ≡ has_any_died k
+unfolding joinable_dead
+dead_still {P} {S} {H} old now any same dead k sh =
+    let there : Shows (record old { events = now.events }) k = subst (λ (w : WorldOf P S H). Shows w k) same sh in
+    dead (record k { events = events_of old.events }) (events_show (record old { events = now.events }) old.events k _ there refl)
+
+module _ {P S H : Type 0} (f : P → Functions S H) (old : WorldOf P S H) where
+  pub gone_none : (ts : List ℕ) → GoneOver f old old ts ts []
   gone_none ts = record {
     done = [];
     split = refl;
     shows = λ k sh. subst (λ (j : Control P S H). Shows old j) (none_seen k) sh;
-    listed = λ k sh. refl;
+    listed = λ s st. refl;
     made = refl;
     same = refl;
   }
 
-  -- whether a thread that can be joined has died does not hang on events
-  pub dead_still : (now : WorldOf P S H) (any : Bool) → now ≡ record old { events = now.events } → ((k : Control P S H) → Shows old k → any ≡ has_any_died k) → (k : Control P S H) → Shows now k → any ≡ has_any_died k
-  unfolding joinable_dead
-  dead_still now any same dead k sh =
-      let there : Shows (record old { events = now.events }) k = subst (λ (w : WorldOf P S H). Shows w k) same sh in
-      dead (record k { events = events_of old.events }) (events_show (record old { events = now.events }) old.events k _ there refl)
-
-  module _ (now x : WorldOf P S H) (ts rest list more : List ℕ) (t : ℕ) (so_far : GoneOver old now ts (t ∷ rest) list)
+  module _ (now x : WorldOf P S H) (ts rest list more : List ℕ) (t : ℕ) (so_far : GoneOver f old now ts (t ∷ rest) list)
       (shows : (k : Control P S H) → Shows now k → Shows x (looks_at k (awaited_events k t)))
       (made : x.events.made ≡ now.events.made) (same : x ≡ record now { events = x.events })
-      (is : (k : Control P S H) → Shows now k → more ≡ list ++ (if is_due (store_of old.store) k t then t ∷ [] else [])) where
+      (is : (s : State P S H) → StandsFor now s → more ≡ list ++ (if is_to_wake f s t then t ∷ [] else [])) where
     abbrev events : Control P S H → List ℕ
     events k = flat_map (awaited_events k) so_far.done
 
-    pub gone_more : GoneOver old x ts rest more
+    -- the world that was left stands for the state in which what was gone over was looked at
+    stands_seen : (s : State P S H) → StandsFor old s → StandsFor now (record s { control = looks_at s.control (events s.control) })
+    stands_seen s st = record {
+      control = so_far.shows s.control st.control;
+      resources = has_still old now s (ap (λ (w : WorldOf P S H). w.store) so_far.same) st.resources;
+    }
+
+    pub gone_more : GoneOver f old x ts rest more
     gone_more = record {
       done = so_far.done ++ t ∷ [];
       split = so_far.split ∙ sym (append_assoc so_far.done (t ∷ []) rest);
       shows = λ k sh. subst (λ (j : Control P S H). Shows x j)
           (looks_then k (events k) (awaited_events k t) ∙ ap (looks_at k) (sym (flat_more (awaited_events k) so_far.done t)))
           (shows (looks_at k (events k)) (so_far.shows k sh));
-      listed = λ k sh.
-          is (looks_at k (events k)) (so_far.shows k sh)
-          ∙ ap₂ (λ (l : List ℕ) (b : Bool). l ++ (if b then t ∷ [] else [])) (so_far.listed k sh) (due_still k (events k) (store_of old.store) t)
-          ∙ sym (kept (is_due (store_of old.store) k) so_far.done (t ∷ []));
+      listed = λ s st.
+          is (record s { control = looks_at s.control (events s.control) }) (stands_seen s st)
+          ∙ ap₂ (λ (l : List ℕ) (b : Bool). l ++ (if b then t ∷ [] else [])) (so_far.listed s st) (to_wake_still f s (events s.control) t)
+          ∙ sym (kept (is_to_wake f s) so_far.done (t ∷ []));
       made = made ∙ so_far.made;
       same = same ∙ ap (λ (w : WorldOf P S H). record w { events = x.events }) so_far.same;
     }
 
   -- all were gone over
-  module _ (now : WorldOf P S H) (ts list : List ℕ) (all : GoneOver old now ts [] list) where
+  module _ (now : WorldOf P S H) (ts list : List ℕ) (all : GoneOver f old now ts [] list) where
     all_done : all.done ≡ ts
     all_done = sym (all.split ∙ append-nil all.done)
 
@@ -160,10 +171,6 @@ module _ {P S H : Type 0} (old : WorldOf P S H) where
     unfolding looks
     gone_shows k sh is = subst (λ (l : List ℕ). Shows now (looks_at k (flat_map (awaited_events k) l))) (all_done ∙ is) (all.shows k sh)
 
-    pub gone_listed : (f : P → Functions S H) (s : State P S H) → StandsFor old s → ts ≡ waiting s.control → list ≡ to_wake f s
+    pub gone_listed : (s : State P S H) → StandsFor old s → ts ≡ waiting s.control → list ≡ to_wake f s
     unfolding to_wake
-    gone_listed f s st is =
-        all.listed s.control st.control
-        ∙ ap (filter (is_due (store_of old.store) s.control)) (all_done ∙ is)
-        ∙ ap (λ (k : Resources). filter (is_due k.store s.control) (waiting s.control)) (sym st.resources)
-        ∙ ap (λ (p : ℕ → Bool). filter p (waiting s.control)) (sym (fun_ext (due_is f s)))
+    gone_listed s st is = all.listed s st ∙ ap (filter (is_to_wake f s)) (all_done ∙ is)

@@ -1,5 +1,5 @@
 -- A pass over threads that are dormant changes nothing.
-use Rattle.std.proofs.Common.{◌≡◌, ◌≢◌, ◌∙◌, ℕ, ◌==◌, ◌<◌, ◌||◌, ◌&&◌, not, Bool, true, false, cond, if◌then◌else◌, List, [], ◌∷◌, ◌++◌, map, filter, flat_map, All, Option, Some, None, option_map, refl, sym, ap, subst}
+use Rattle.std.proofs.Common.{◌≡◌, ℕ, ◌==◌, ◌<◌, ◌||◌, ◌&&◌, not, Bool, true, false, if◌then◌else◌, List, [], ◌∷◌, filter, flat_map, All, Option, Some, None, option_map, refl, ap, subst}
 use Rattle.std.proofs.lemmas.List.Elements.{All-append, All-head, All-nil, All-tail, All-weaker}
 use mathlib.Core.Path.{fun_ext}
 use Rattle.pth_base.proofs.Tables.{same_means}
@@ -11,7 +11,7 @@ use Rattle.pth_ring.specs.Ring.{each, ring_holds}
 use Rattle.pth_threads.specs.declared.entry.Entry.{Entry}
 use Rattle.pth_model.specs.State.{Control, now_of, main}
 use Rattle.pth_model.specs.Changes.{entry_of}
-use Rattle.pth_model.specs.Looks.{looked_at, looks_at}
+use Rattle.pth_model.specs.Looks.{looked_at}
 use Rattle.pth_model.specs.Pass.{looks, waiting}
 use Rattle.pth_model.specs.Resources.{Store}
 use Rattle.pth_model.specs.RingWaits.{awaited_events}
@@ -20,9 +20,10 @@ use Rattle.pth_world.specs.Shows.{Shows}
 use Rattle.pth_world.specs.Whole.{Whole, place_for}
 use Rattle.pth_world.specs.World.{WorldOf}
 use Rattle.pth_waits.specs.Dormant.{IsDormant, StaysPending, is_left_to_join}
-use Rattle.pth_waits.specs.Waking.{has_any_died, is_due}
+use Rattle.pth_waits.specs.Waking.{has_any_died}
 use Rattle.pth_waits.proofs.Dormancy.{dormant_not_due, looked_same}
 use Rattle.pth_waits.proofs.Standing.{all_stand, of_standing, place_in}
+use Rattle.pth_waits.proofs.Waking.{is_due}
 use Rattle.pth_sched.specs.Calm.{is_among_waiting, waits_in}
 
 -- ---- who stands in the waiting queue waits, and the reverse

@@ -1,11 +1,11 @@
--- Which calls leave all other threads, and what they wait for, as they are.
-use Rattle.std.specs.Prelude.{Bool, true, false, ◌&&◌, is_none, Option, Some, None}
+-- Which calls leave what all other threads wait for as it is.
+use Rattle.std.specs.Prelude.{◌==◌, Bool, true, false, Option, Some, None}
+use Rattle.pth_kernel.specs.Kernel.{Kernel, fd_named, room}
 use Rattle.pth_model.specs.declared.blocked.Blocked.{Blocked}
 use Rattle.pth_base.specs.declared.call.Call.{Call}
 use Rattle.pth_base.specs.declared.call.Call.TheVariants as call
 use Rattle.pth_model.specs.declared.next.Next.{Next}
 use Rattle.pth_model.specs.declared.next.Next.TheVariants as next
-use Rattle.pth_model.specs.RingWaits.{ring_given}
 
 -- whatever it comes to: it asks and changes nothing, or gives control up
 abbrev pub is_mild : Call → Bool
@@ -22,27 +22,33 @@ is_mild (call.EvKind e) = true
 is_mild (call.KeyGet k) = true
 is_mild c = false
 
--- where it waits on, tried again
-abbrev pub waits_mildly : Call → Bool
-waits_mildly (call.Exit v) = true
-waits_mildly (call.Join n) = true
-waits_mildly (call.Wait e) = true
-waits_mildly (call.Nap n) = true
-waits_mildly (call.Usleep n) = true
-waits_mildly (call.Sleep n) = true
-waits_mildly (call.MutexAcquire m v e) = true
-waits_mildly (call.RwAcquire l write v e) = true
-waits_mildly c = false
-
--- where it begins to wait: it claims no ring
-abbrev pub begins_mildly : Call → Bool
-begins_mildly c = waits_mildly c && is_none (ring_given c)
+-- where it begins to wait, or waits on as it is tried again: it takes nothing, and a write finds no room
+abbrev pub waits_mildly : Kernel → Call → Bool
+waits_mildly k (call.Exit v) = true
+waits_mildly k (call.Join n) = true
+waits_mildly k (call.Wait e) = true
+waits_mildly k (call.Nap n) = true
+waits_mildly k (call.Usleep n) = true
+waits_mildly k (call.Sleep n) = true
+waits_mildly k (call.MutexAcquire m v e) = true
+waits_mildly k (call.RwAcquire l write v e) = true
+waits_mildly k (call.Read f n) = true
+waits_mildly k (call.ReadEv f n e) = true
+waits_mildly k (call.Write f bytes) = room k (fd_named f) == 0
+waits_mildly k (call.WriteEv f bytes e) = room k (fd_named f) == 0
+waits_mildly k (call.Accept f) = true
+waits_mildly k (call.AcceptEv f e) = true
+waits_mildly k (call.Connect f) = true
+waits_mildly k (call.ConnectEv f e) = true
+waits_mildly k (call.Select r w x l) = true
+waits_mildly k (call.SelectEv r w x l e) = true
+waits_mildly k c = false
 
 abbrev pub is_waiting : Next → Bool
 is_waiting next.Waits = true
 is_waiting n = false
 
 -- the call that blocks a thread is mild where it waits on
-abbrev pub is_patient : Option Blocked → Bool
-is_patient None = false
-is_patient (Some b) = waits_mildly b.call
+abbrev pub is_patient : Kernel → Option Blocked → Bool
+is_patient k None = false
+is_patient k (Some b) = waits_mildly k b.call

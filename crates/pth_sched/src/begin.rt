@@ -1,7 +1,8 @@
 //! How a call begins.
 
-ghost use Rattle.std.specs.Prelude.{◌≡◌, false, Some, IfOk, OnOk, OnErr};
+ghost use Rattle.std.specs.Prelude.{◌≡◌, ◌≢◌, ℤ, false, Some, IfOk, OnOk, OnErr};
 ghost use Rattle.pth_base.specs.Cut.{IsCut};
+ghost use Rattle.pth_base.specs.declared.call.Call.TheVariants.{Plain, Yield};
 ghost use Rattle.pth_model.specs.Calls.{begun};
 ghost use Rattle.pth_model.specs.State.{State};
 ghost use Rattle.pth_waits.specs.Blocking.{may_block};
@@ -34,8 +35,47 @@ use pth_waits::ring_waits::begin_wait;
 use pth_waits::thread_ends::begin_exit;
 use pth_world::world::World;
 
-// Begins a call that never blocks its thread. After an error the world may only be dropped.
-fn begin_at_once<P: Program>(
+// Begins a call that never blocks its thread, and is none of a line's own and no yield. After an error the world may only be
+// dropped.
+#[inline(always)]
+fn begin_told<P: Program>(
+    w: &mut World<P>,
+    t: Tid,
+    call: &Call,
+    marks: &mut Marks,
+) -> Result<Next, OutOfMemory>
+    requires whole { Whole w.old }
+    requires runs { w.old.scheduler.running ≡ Some t.0 }
+    requires few { HasNumbers w.old }
+    requires never { may_block call.now ≡ false }
+    requires not_plain { call.now ≢ Plain }
+    requires no_yield { (n : ℤ) → call.now ≢ Yield n }
+    ensures next { IfOk result (λ n. (s : State P P.State P.Shared) → StandsFor w.old s → n ≡ (begun P.functions t.0 call.now s).next) }
+    ensures ok { OnOk result ((s : State P P.State P.Shared) → StandsFor w.old s → Leads w.new marks.old marks.new (begun P.functions t.0 call.now s).told) }
+    ensures err { OnErr result ((s : State P P.State P.Shared) → StandsFor w.old s → IsCut marks.old marks.new (begun P.functions t.0 call.now s).told.marks) }
+    ensures frame { IfOk result (λ n. Frame w.old w.new 1 (runs_after t.0 n) (yields_after n)) }
+{
+    match call {
+        Call::Kill => kill(w, t, call, marks),
+        Call::Cancel(n) => cancel(w, t, call, *n, marks),
+        Call::Abort(n) => abort(w, t, call, *n, marks),
+        Call::CancelPoint => cancel_point(w, t, call, marks),
+        Call::CleanupPop(v) => pop_cleanup(w, t, call, *v, marks),
+        Call::Once { o, h, v } => once(w, t, call, *o, *h, *v, marks),
+        Call::Note(value) => {
+            note(t, *value, marks)?;
+            Ok(Next::Done(Answer::Int(0)))
+        }
+        _ => {
+            let answer = begin_plain(w, t, call, marks)?;
+            Ok(Next::Done(answer))
+        }
+    }
+}
+
+/// Begins a call that never blocks its thread, and tells of it. After an error the world may only be dropped.
+#[inline(always)]
+pub(crate) fn begin_at_once<P: Program>(
     w: &mut World<P>,
     t: Tid,
     call: &Call,
@@ -51,26 +91,14 @@ fn begin_at_once<P: Program>(
     ensures frame { IfOk result (λ n. Frame w.old w.new 1 (runs_after t.0 n) (yields_after n)) }
 {
     match call {
-        Call::Kill => kill(w, t, call, marks),
-        Call::Yield(to) => yield_to(w, t, call, *to, marks),
-        Call::Cancel(n) => cancel(w, t, call, *n, marks),
-        Call::Abort(n) => abort(w, t, call, *n, marks),
-        Call::CancelPoint => cancel_point(w, t, call, marks),
-        Call::CleanupPop(v) => pop_cleanup(w, t, call, *v, marks),
-        Call::Once { o, h, v } => once(w, t, call, *o, *h, *v, marks),
         Call::Plain => Ok(Next::Done(Answer::None)),
-        Call::Note(value) => {
-            note(t, *value, marks)?;
-            Ok(Next::Done(Answer::Int(0)))
-        }
-        _ => {
-            let answer = begin_plain(w, t, call, marks)?;
-            Ok(Next::Done(answer))
-        }
+        Call::Yield(to) => yield_to(w, t, call, *to, marks),
+        _ => begin_told(w, t, call, marks),
     }
 }
 
 /// Begins a call of the thread that runs, and tells of it. After an error the world may only be dropped.
+#[inline(always)]
 pub fn begin<P: Program>(
     w: &mut World<P>,
     t: Tid,
@@ -86,7 +114,6 @@ pub fn begin<P: Program>(
     ensures frame { IfOk result (λ n. Frame w.old w.new 1 (runs_after t.0 n) (yields_after n)) }
 {
     match &call {
-        Call::Plain => Ok(Next::Done(Answer::None)),
         &Call::Join(n) => begin_join(w, t, call, n, marks),
         &Call::Exit(value) => begin_exit(w, t, call, value, marks),
         Call::Nap(_) | Call::Usleep(_) | Call::Sleep(_) => begin_rest(w, t, call, marks),

@@ -10,7 +10,7 @@ ghost use Rattle.pth_model.specs.Living.{live as live_threads};
 ghost use Rattle.pth_model.specs.Part.{moves};
 ghost use Rattle.pth_model.specs.Pass.{moment, pass};
 ghost use Rattle.pth_threads.specs.Threads.{number_of};
-ghost use Rattle.pth_world.specs.Sound.{IsSound};
+ghost use Rattle.pth_world.specs.Whole.{Whole};
 ghost use Rattle.pth_sched.specs.Running.{Stands, StandsAt, Makes, MakesPart, GoesOn, BreaksOff, TurnGoesOn, TurnBreaksOff, IsAtStep, IsBetweenTurns};
 
 use crate::live::live;
@@ -190,10 +190,11 @@ impl<P: Program> Machine<P> {
         self.schedule.world().time()
     }
 
-    /// The program with its threads, which is sound as long as memory lasts, so that its threads can be read.
+    /// The program with its threads, of which as long as memory lasts all holds that holds of a world between two calls, so that
+    /// it can be asked for its threads and for what they wait for.
     pub fn world(&self) -> &World<P>
         ensures world { result.now ≡ self.now.world }
-        ensures sound { self.now.turn.outcome ≢ Outcome.OutOfMemory → IsSound result.now.threads }
+        ensures whole { self.now.turn.outcome ≢ Outcome.OutOfMemory → Whole result.now }
     {
         self.schedule.world()
     }

@@ -2,12 +2,12 @@
 
 ghost use Rattle.std.specs.Prelude.{◌≡◌, ◌≢◌, ◌<◌, ◌≤◌, ◌+◌, ℕ, List, [], ◌++◌, ◌∷◌, All, map, length, if◌then◌else◌, IfSome, vec_capacity};
 ghost use Rattle.pth_base.specs.Limits.{last_moment};
-ghost use Rattle.pth_model.specs.Pass.{looks, moment, to_wake, waiting};
+ghost use Rattle.pth_model.specs.Pass.{is_to_wake, looks, moment, to_wake, waiting};
 ghost use Rattle.pth_model.specs.State.{Control, State};
 ghost use Rattle.pth_model.specs.Looks.{looks_at};
 ghost use Rattle.pth_model.specs.RingWaits.{awaited_events};
 ghost use Rattle.pth_threads.specs.Threads.{number_of, tid_at};
-ghost use Rattle.pth_waits.specs.Waking.{has_any_died, is_due};
+ghost use Rattle.pth_waits.specs.Waking.{has_any_died};
 ghost use Rattle.pth_world.specs.Shows.{Shows, StandsFor};
 ghost use Rattle.pth_world.specs.Store.{store_of};
 ghost use Rattle.pth_world.specs.Whole.{Whole};
@@ -53,7 +53,7 @@ fn go_over<P: Program>(w: &mut World<P>, slot: Slot, any_dead: bool, waking: &mu
     requires dead { (k : Control P P.State P.Shared) → Shows w.old k → any_dead ≡ has_any_died k }
     requires room { length waking.old.items < vec_capacity waking.old }
     ensures shows { (k : Control P P.State P.Shared) → Shows w.old k → Shows w.new (looks_at k (awaited_events k (tid_at w.old.threads.records slot.0))) }
-    ensures listed { (k : Control P P.State P.Shared) → Shows w.old k → map number_of waking.new.items ≡ map number_of waking.old.items ++ (if is_due (store_of w.old.store) k (tid_at w.old.threads.records slot.0) then tid_at w.old.threads.records slot.0 ∷ [] else []) }
+    ensures listed { (s : State P P.State P.Shared) → StandsFor w.old s → map number_of waking.new.items ≡ map number_of waking.old.items ++ (if is_to_wake P.functions s (tid_at w.old.threads.records slot.0) then tid_at w.old.threads.records slot.0 ∷ [] else []) }
     ensures one { length waking.new.items ≤ length waking.old.items + 1 }
     ensures room { vec_capacity waking.old ≤ vec_capacity waking.new }
     ensures made { w.new.events.made ≡ w.old.events.made }

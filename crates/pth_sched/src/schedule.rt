@@ -196,7 +196,13 @@ impl<P: Program> Schedule<P> {
         ensures steps { OnOk result (self.new.turn.steps ≡ self.old.turn.steps + 1) }
         ensures still { OnErr result (self.new.turn.steps ≡ self.old.turn.steps) }
     {
-        let next = go_on(&mut self.world, &mut self.calm, t, marks)?;
+        let next = match go_on(&mut self.world, &mut self.calm, t, marks) {
+            Ok(next) => next,
+            Err(e) => {
+                self.calm.until = 0;
+                return Err(e);
+            }
+        };
         self.steps += 1;
         self.settle(t, next);
         Ok(())

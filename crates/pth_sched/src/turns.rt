@@ -1,11 +1,12 @@
 //! What the parts of a turn do to the world.
 
-ghost use Rattle.std.specs.Prelude.{◌≡◌, ◌≢◌, ◌≤◌, ◌+◌, ◌^◌, ◌<◌, ℕ, pos, neg_ℤ, ◌≤ℤ◌, [], Some, None, IfSome, IsSome, IfOk, OnOk, OnErr, length, reverse};
+ghost use Rattle.std.specs.Prelude.{◌≡◌, ◌≢◌, ◌≤◌, ◌+◌, ◌^◌, ◌<◌, ◌&&◌, if◌then◌else◌, ℕ, pos, neg_ℤ, ◌≤ℤ◌, [], Some, None, IfSome, IsSome, IfOk, OnOk, OnErr, length, reverse};
 ghost use Rattle.pth_queue.specs.Queues.{CanRise};
 ghost use Rattle.pth_queue.specs.declared.queue.Queue.TheVariants as queue;
 ghost use Rattle.pth_base.specs.Cut.{IsCut};
 ghost use Rattle.pth_base.specs.Limits.{last_moment};
-ghost use Rattle.pth_model.specs.Calls.{gone_on};
+ghost use Rattle.pth_kernel.specs.Kernel.{kernel_of};
+ghost use Rattle.pth_model.specs.Calls.{begun, gone_on};
 ghost use Rattle.pth_model.specs.Changes.{blocked_of, raises_ready};
 ghost use Rattle.pth_model.specs.Part.{chosen, is_placed, new_rank, readies_new, steps_from, steps_on, time_passes, turn_ends};
 ghost use Rattle.pth_model.specs.State.{Control, State, queue as rows};
@@ -18,12 +19,13 @@ ghost use Rattle.pth_world.specs.Sound.{IsSound, IsKnown};
 ghost use Rattle.pth_world.specs.Touches.{KeepsRest};
 ghost use Rattle.pth_world.specs.Whole.{Whole, IsIn, WaitsToRun};
 ghost use Rattle.pth_sched.specs.Calm.{Calms};
-ghost use Rattle.pth_sched.specs.Mild.{is_patient as is_patient_in};
+ghost use Rattle.pth_sched.specs.Mild.{is_patient as is_patient_in, is_waiting as waits_on, waits_mildly as waits_mildly_in};
 ghost use Rattle.pth_sched.specs.Passing.{HasRoom, IsReady};
 
-use crate::begin::begin;
+use crate::begin::{begin, begin_at_once};
 use crate::calm::Calm;
-use crate::mild::{begins_mildly, calm_after, is_mild, waits_mildly};
+use crate::mild::{calm_after, is_mild, waits_mildly};
+use pth_base::call::Call;
 use pth_base::ids::Tid;
 use pth_base::limits::LAST_MOMENT;
 use pth_base::marks::Marks;
@@ -79,6 +81,29 @@ pub fn next<P: Program>(w: &World<P>) -> Tid
     }
 }
 
+// Begins a call that is not mild, or is mild only if it waits. After an error the world may only be dropped.
+fn begin_unmild<P: Program>(
+    w: &mut World<P>,
+    calm: &mut Calm,
+    t: Tid,
+    call: Call,
+    marks: &mut Marks,
+) -> Result<Next, OutOfMemory>
+    requires whole { Whole w.old }
+    requires runs { w.old.scheduler.running ≡ Some t.0 }
+    requires few { HasNumbers w.old }
+    ensures next { IfOk result (λ n. (s : State P P.State P.Shared) → StandsFor w.old s → n ≡ (begun P.functions t.0 call s).next) }
+    ensures ok { OnOk result ((s : State P P.State P.Shared) → StandsFor w.old s → Leads w.new marks.old marks.new (begun P.functions t.0 call s).told) }
+    ensures err { OnErr result ((s : State P P.State P.Shared) → StandsFor w.old s → IsCut marks.old marks.new (begun P.functions t.0 call s).told.marks) }
+    ensures frame { IfOk result (λ n. Frame w.old w.new 1 (runs_after t.0 n) (yields_after n)) }
+    ensures kept { IfOk result (λ n. calm.new.until ≡ (if waits_mildly_in (kernel_of w.old.kernel) call && waits_on n then calm.old.until else 0)) }
+{
+    let patient = waits_mildly(w.kernel(), &call);
+    let next = begin(w, t, call, marks)?;
+    *calm = calm_after(*calm, patient, &next);
+    Ok(next)
+}
+
 // The thread that runs begins the program's next call. After an error the world may only be dropped.
 fn begin_next<P: Program>(
     w: &mut World<P>,
@@ -95,19 +120,12 @@ fn begin_next<P: Program>(
     ensures some { (s : State P P.State P.Shared) → StandsFor w.old s → IsSome (s.control.threads.progress t.0) }
     ensures frame { IfOk result (λ n. Frame w.old w.new 1 (runs_after t.0 n) (yields_after n)) }
     ensures calm { OnOk result (Calms w.old calm.old.until → Calms w.new calm.new.until) }
-    ensures lost { OnErr result (calm.new.until ≡ 0) }
 {
-    let was = *calm;
-    *calm = Calm {
-        until: 0,
-        stirred: true,
-    };
     let call = w.next_call(t)?;
-    let mild = is_mild(&call);
-    let patient = begins_mildly(&call);
-    let next = begin(w, t, call, marks)?;
-    *calm = calm_after(was, mild, patient, &next);
-    Ok(next)
+    if is_mild(&call) {
+        return begin_at_once(w, t, &call, marks);
+    }
+    begin_unmild(w, calm, t, call, marks)
 }
 
 // The thread that runs tries the call that blocks it again. After an error the world may only be dropped.
@@ -124,26 +142,20 @@ fn resume_blocked<P: Program>(
     ensures err { OnErr result ((s : State P P.State P.Shared) → StandsFor w.old s → IsCut marks.old marks.new (gone_on P.functions t.0 s).told.marks) }
     ensures frame { IfOk result (λ n. Frame w.old w.new 0 (runs_after t.0 n) (yields_after n)) }
     ensures calm { OnOk result (Calms w.old calm.old.until → Calms w.new calm.new.until) }
-    ensures lost { OnErr result (calm.new.until ≡ 0) }
 {
-    let was = *calm;
-    *calm = Calm {
-        until: 0,
-        stirred: true,
-    };
     let patient = is_patient(w, t);
     let next = resume(w, t, marks)?;
-    *calm = calm_after(was, false, patient, &next);
+    *calm = calm_after(*calm, patient, &next);
     Ok(next)
 }
 
-// Whether the call that blocks a thread is mild where it waits on.
+// Whether the call that blocks a thread is mild if it waits on.
 fn is_patient<P: Program>(w: &World<P>, t: Tid) -> bool
     requires { Whole w.now }
-    ensures { (k : Control P P.State P.Shared) → Shows w.now k → result ≡ is_patient_in (blocked_of k t.0) }
+    ensures { (k : Control P P.State P.Shared) → Shows w.now k → result ≡ is_patient_in (kernel_of w.now.kernel) (blocked_of k t.0) }
 {
     match w.blocked(t) {
-        Some(blocked) => waits_mildly(&blocked.call),
+        Some(blocked) => waits_mildly(w.kernel(), &blocked.call),
         None => false,
     }
 }
@@ -164,7 +176,6 @@ pub fn go_on<P: Program>(
     ensures err { OnErr result ((s : State P P.State P.Shared) → StandsFor w.old s → IsCut marks.old marks.new (steps_on P.functions t.0 s).told.marks) }
     ensures frame { IfOk result (λ n. Frame w.old w.new 1 (runs_after t.0 n) (yields_after n)) }
     ensures calm { OnOk result (Calms w.old calm.old.until → Calms w.new calm.new.until) }
-    ensures lost { OnErr result (calm.new.until ≡ 0) }
 {
     if w.blocked(t).is_some() {
         return resume_blocked(w, calm, t, marks);

@@ -136,9 +136,16 @@ is_fixed (value.Name name) = false
 is_fixed (value.Joinable n) = false
 is_fixed (value.Cancel n) = false
 
+-- the greatest base priority that can be set, and the least (PTH_PRIO_MAX, PTH_PRIO_MIN)
+abbrev pub top_priority : ℤ
+top_priority = pos 5
+
+abbrev pub least_priority : ℤ
+least_priority = neg_ℤ (pos 5)
+
 -- the values that a field takes
 abbrev pub is_in_range : AttrValue → Bool
-is_in_range (value.Prio n) = n is_from neg_ℤ (pos 5) to pos 5
+is_in_range (value.Prio n) = n is_from least_priority to top_priority
 is_in_range (value.Name name) = true
 is_in_range (value.Joinable n) = n is_from pos 0 to pos 1
 is_in_range (value.Cancel n) = n is_from pos 1 to pos 4
@@ -166,10 +173,10 @@ change_of (value.Dispatches n) = None
 change_of (value.State n) = None
 change_of (value.Bound n) = None
 
--- a priority that can be set
+-- a base priority that can be set
 pub record IsSetPrio (prio : ℤ) : Type 0 where
-  pub low : neg_ℤ (pos 5) ≤ℤ prio
-  pub high : prio ≤ℤ pos 5
+  pub low : least_priority ≤ℤ prio
+  pub high : prio ≤ℤ top_priority
 
 -- a cancel state that can be set
 pub record IsSetCancel (cancel : ℕ) : Type 0 where

@@ -12,6 +12,11 @@ use crate::entry::{Change, Entry, NewThread, ThreadState};
 use pth_base::attr::{AttrField, AttrValue};
 use pth_base::errno::Errno;
 
+// The greatest base priority that can be set, and the least (`PTH_PRIO_MAX`, `PTH_PRIO_MIN`).
+const TOP_PRIORITY: i64 = 5;
+
+const LEAST_PRIORITY: i64 = -5;
+
 // 1 for what holds, and 0 for what doesn't.
 fn number_of_flag(on: bool) -> i64
     ensures { result ≡ flag on }
@@ -81,7 +86,7 @@ pub(crate) fn check(v: &AttrValue) -> Result<(), Errno>
     ensures range { OnOk result (is_in_range v.now ≡ true) }
 {
     match v {
-        AttrValue::Prio(n) => within(*n, -5, 5),
+        AttrValue::Prio(n) => within(*n, LEAST_PRIORITY, TOP_PRIORITY),
         AttrValue::Name(_) => Ok(()),
         AttrValue::Joinable(n) => within(*n, 0, 1),
         AttrValue::Cancel(n) => within(*n, 1, 4),

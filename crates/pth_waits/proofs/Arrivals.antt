@@ -1,26 +1,21 @@
 -- Until the next arrival, what descriptors bring stays away, and events of descriptors stay pending.
-use Rattle.std.proofs.Common.{◌≡◌, ◌∙◌, ℕ, ◌+◌, ◌<◌, ◌≤◌, ◌&&◌, ◌||◌, not, min, nat_le, Bool, true, false, if◌then◌else◌, ℤ, List, map, All, Option, Some, None, refl, sym, ap, subst, arith}
+use Rattle.std.proofs.Common.{◌≡◌, ◌∙◌, ℕ, ◌+◌, ◌<◌, ◌≤◌, ◌&&◌, ◌||◌, not, min, Bool, true, false, if◌then◌else◌, ℤ, All, Some, None, refl, sym, subst, arith}
 use Rattle.std.proofs.lemmas.Bool.Decides.{nat_tests}
 use Rattle.pth_base.specs.Limits.{last_moment}
 use Rattle.pth_base.specs.Descriptors.{contains}
-use Rattle.pth_base.specs.declared.event.EventSpec.{EventSpec}
 use Rattle.pth_base.specs.declared.ids.FdSet.{FdSet}
 use Rattle.pth_base.specs.declared.event.EventSpec.TheVariants as of
-use Rattle.pth_kernel.specs.declared.trace.Stamp.{Stamp}
-use Rattle.pth_kernel.specs.Kernel.{Kernel, advanced, arrival_times, next_time, fd_named, is_fd_live, is_readable, is_writeable, is_exceptional}
-use Rattle.pth_kernel.specs.Moments.{least_after}
+use Rattle.pth_kernel.specs.Kernel.{Kernel, advanced, next_time, fd_named, is_fd_live, is_readable, is_writeable, is_exceptional}
 use Rattle.pth_io.specs.Attempts.{are_all_live, is_any_ready, is_past}
-use Rattle.pth_ring.specs.declared.event.Status.{Status}
 use Rattle.pth_ring.specs.declared.event.Status.TheVariants.{Pending, Occurred, Failed}
 use Rattle.pth_model.specs.declared.awaits.Awaits.{Awaits}
-use Rattle.pth_model.specs.declared.awaits.Awaits.TheVariants.{Nothing, Alone, Death, AnyDeath, Moment, Ring, Reading, Writing, Connection, ConnectAnswer, Selection, Mutex, Lock}
+use Rattle.pth_model.specs.declared.awaits.Awaits.TheVariants.{Nothing, Alone, Death, AnyDeath, Moment, Ring, Selection, Mutex, Lock}
 use Rattle.pth_model.specs.State.{Control, now_of}
 use Rattle.pth_model.specs.Changes.{moves_to}
 use Rattle.pth_model.specs.Looks.{found}
 use Rattle.pth_model.specs.Resources.{Store}
 use Rattle.pth_waits.specs.Io.{wakes_for}
 use Rattle.pth_waits.specs.Dormant.{IsFoundPending, StaysAway, bound, deadline_in}
-use Rattle.pth_waits.specs.Waking.{has_come}
 use Rattle.pth_waits.proofs.Kernels.{IsSame, HasNoDeadline, all_still, any_still, exceptional_still, readable_still, wakes_still, writeable_still}
 
 module _ {P S H : Type 0} (k : Control P S H) (until : ℕ) (soon : until ≤ bound (next_time k.kernel)) (within : until ≤ last_moment + 1) where

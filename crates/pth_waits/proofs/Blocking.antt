@@ -12,9 +12,9 @@ use Rattle.pth_base.specs.declared.mark.Mark.TheVariants.{Answered, Waits}
 use Rattle.pth_model.specs.declared.blocked.Blocked.{Blocked}
 use Rattle.pth_model.specs.declared.next.Next.TheVariants as next
 use Rattle.pth_model.specs.declared.progress.Progress.{Progress}
-use Rattle.pth_model.specs.Calls.{answers, blocks, interrupted, tried_again, unless_come, tried, tried_by, waits_by}
+use Rattle.pth_model.specs.Calls.{answers, blocks, interrupted, tried_again, unless_settled, tried, tried_by, waits_by}
 use Rattle.pth_model.specs.Changes.{blocked_of, blocked_in, blocking, goes_on, is_blocked_by}
-use Rattle.pth_model.specs.RingWaits.{ring_given, claims, stops_waiting, has_event_come}
+use Rattle.pth_model.specs.RingWaits.{ring_given, claims, stops_waiting, has_settled}
 use Rattle.pth_model.specs.Resources.{told, answer_told}
 use Rattle.pth_model.specs.Row.{Attempt, effect_of}
 use Rattle.pth_model.specs.Rows.{row_of}
@@ -136,6 +136,20 @@ waits_on_leads w s t b old new may none sh appended =
 pub progress_frame : {P S H : Type 0} (w : WorldOf P S H) (p : List (Option (Progress S))) (r : Option ℕ) → w.scheduler.running ≡ r → Whole (record w { threads = record w.threads { progress = p } }) → Frame w (record w { threads = record w.threads { progress = p } }) 0 r false
 progress_frame w p r is whole = record { whole = whole; runs = is; made = record { threads = omega arith; objects = omega arith; events = omega arith }; ranks = ranks_same 0 w.threads w.threads _ refl (ranks_none w.threads); preferred = refl }
 
+-- no call blocks the thread any longer
+pub unblocked_frame : {P S H : Type 0} (w v : WorldOf P S H) (r : Option ℕ) → w.scheduler.running ≡ r → Whole v → v.events.made ≡ w.events.made → v ≡ record w { threads = record w.threads { progress = v.threads.progress }; events = v.events } → Frame w v 0 r false
+unblocked_frame {P} {S} {H} w v r is whole made same = record {
+  whole = whole;
+  runs = ap (λ (z : WorldOf P S H). z.scheduler.running) same ∙ is;
+  made = record {
+    threads = (let e = ap (λ (z : WorldOf P S H). z.threads.records.made) same in omega arith);
+    objects = (let e = ap (λ (z : WorldOf P S H). z.attributes.made) same in omega arith);
+    events = (let e = made in omega arith);
+  };
+  ranks = ranks_same 0 w.threads w.threads v.threads (ap (λ (z : WorldOf P S H). z.threads.queues) same) (ranks_none w.threads);
+  preferred = ap (λ (z : WorldOf P S H). z.scheduler.preferred) same;
+}
+
 -- this call blocks thread t, as it may
 pub record IsHeld (o : Option Blocked) (t : ℕ) (c : Call) : Type 0 where
   pub blocked : Blocked
@@ -151,7 +165,7 @@ held_by (Some b) t c some h = record {
 held_by None t c some h = absurd (cc some)
 
 -- what doesn't block is not interrupted
-answered_on : {P S H : Type 0} (b : Bool) (a : Attempt P S H) → interrupted a.verdict ≡ a.verdict → unless_come b a ≡ a
+answered_on : {P S H : Type 0} (b : Bool) (a : Attempt P S H) → interrupted a.verdict ≡ a.verdict → unless_settled b a ≡ a
 answered_on true a same = ap (λ (v : Verdict). record a { verdict = v }) same
 answered_on false a same = refl
 
@@ -161,17 +175,17 @@ module _ {P S H : Type 0} (f : P → Functions S H) (s : State P S H) (t : ℕ) 
   held = record h.blocked { call = c }
 
   -- it is tried again
-  tried_as : (v : Verdict) → unless_come (has_event_come s.control.events (ring_given c)) ((row_of f s t c).again held) ≡ a → a.verdict ≡ v → tried_again f t s ≡ (effect_of a and_finally tried_by f t held v) s
+  tried_as : (v : Verdict) → unless_settled (has_settled s.control.events (ring_given c)) ((row_of f s t c).again held) ≡ a → a.verdict ≡ v → tried_again f t s ≡ (effect_of a and_finally tried_by f t held v) s
   unfolding tried_again
   tried_as v again is =
       rw h.has (ap (λ (x : Attempt P S H). tried f t held x s) again ∙ ap (λ (x : Verdict). (effect_of a and_finally tried_by f t held x) s) is)
 
   -- it waits on, and is blocked as it was
-  pub waits_again : (row_of f s t c).again held ≡ a → h.blocked.written ≡ 0 → has_event_come s.control.events (ring_given c) ≡ false → a.verdict ≡ waits → effect_of a s ≡ silent s → tried_again f t s ≡ record { told = tells (Waits (tid t) c) s; next = next.Waits }
+  pub waits_again : (row_of f s t c).again held ≡ a → h.blocked.written ≡ 0 → has_settled s.control.events (ring_given c) ≡ false → a.verdict ≡ waits → effect_of a s ≡ silent s → tried_again f t s ≡ record { told = tells (Waits (tid t) c) s; next = next.Waits }
   waits_again again unwritten none is idle =
       let finally : Transition P S H → Went P S H = λ x. (let y = tried_by f t held waits x.state in record { told = record { state = y.told.state; marks = x.marks ++ y.told.marks }; next = y.next }) in
       let waits_on : Control P S H → Went P S H = λ k. record { told = tells (Waits (tid t) c) (record s { control = k }); next = next.Waits } in
-      tried_as waits (ap₂ unless_come none again) is
+      tried_as waits (ap₂ unless_settled none again) is
       ∙ ap finally idle
       ∙ ap (λ (m : ℕ). waits_on (is_blocked_by t (Some (record held { written = m })) s.control)) (sym unwritten)
       ∙ ap waits_on (still_blocked s.control t held h.has)
@@ -179,6 +193,6 @@ module _ {P S H : Type 0} (f : P → Functions S H) (s : State P S H) (t : ℕ) 
   -- it is answered, and blocks the thread no longer
   pub answers_again : (x : Answer) → (row_of f s t c).again held ≡ a → a.verdict ≡ Says x → tried_again f t s ≡ (effect_of a and_then answers f t c x and_next next.Done x) s
   answers_again x again is =
-      let come = has_event_come s.control.events (ring_given c) in
+      let come = has_settled s.control.events (ring_given c) in
       let same : interrupted a.verdict ≡ a.verdict = rw is refl in
-      tried_as (Says x) (ap (unless_come come) again ∙ answered_on come a same) is
+      tried_as (Says x) (ap (unless_settled come) again ∙ answered_on come a same) is

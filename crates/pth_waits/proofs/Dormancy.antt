@@ -1,5 +1,5 @@
 -- What keeps threads dormant, and what dormant threads leave of a pass.
-use Rattle.std.proofs.Common.{◌≡◌, ◌≢◌, ◌∙◌, ℕ, ◌==◌, ◌<◌, ◌≤◌, ◌||◌, ◌&&◌, not, min, nat_le, Bool, true, false, cond, ℤ, List, [], ◌∷◌, ◌++◌, filter, flat_map, Option, Some, None, option_map, All, refl, sym, ap, ap₂, subst, arith}
+use Rattle.std.proofs.Common.{◌≡◌, ◌≢◌, ◌∙◌, ℕ, ◌==◌, ◌<◌, ◌≤◌, ◌||◌, ◌&&◌, not, min, nat_le, Bool, true, false, cond, if◌then◌else◌, ℤ, List, [], ◌∷◌, ◌++◌, filter, flat_map, Option, Some, None, option_map, All, refl, sym, ap, ap₂, subst, arith}
 use Rattle.std.proofs.lemmas.Bool.Decides.{nat_tests}
 use Rattle.std.specs.List.{list_any}
 use Rattle.std.proofs.lemmas.List.Elements.{All-head, All-tail, All-weaker, All-append, All-cons, All-nil}
@@ -7,8 +7,10 @@ use mathlib.Core.Path.{fun_ext}
 use Rattle.pth_ring.specs.declared.event.Event.{Event}
 use Rattle.pth_ring.specs.declared.event.Status.TheVariants.{Pending}
 use Rattle.pth_ring.specs.Ring.{each, ring_holds}
-use Rattle.pth_ring.specs.Rings.{Events, is_pending, with_status}
+use Rattle.pth_ring.specs.Rings.{Events, awaited, claimed, is_pending, ring_awaited, with_claim, with_status}
 use Rattle.pth_base.specs.declared.event.EventSpec.{EventSpec}
+use Rattle.pth_base.specs.declared.ids.Tid.{Tid}
+use Rattle.pth_base.proofs.Tables.{put_by}
 use Rattle.pth_kernel.specs.Kernel.{Kernel, advanced}
 use Rattle.pth_model.specs.declared.blocked.Blocked.{Blocked}
 use Rattle.pth_model.specs.declared.awaits.Awaits.{Awaits}
@@ -20,13 +22,14 @@ use Rattle.pth_model.specs.Awaits.{awaits_in, awaited_in}
 use Rattle.pth_model.specs.Cancellation.{may_be_canceled}
 use Rattle.pth_model.specs.Changes.{blocked_of, entry_of, moves_to}
 use Rattle.pth_model.specs.Looks.{comes, found, looked_at, looks_at}
-use Rattle.pth_model.specs.Pass.{is_come_for, looks, waiting}
+use Rattle.pth_model.specs.Pass.{comes_for, looks, waiting}
 use Rattle.pth_model.specs.Resources.{Store}
 use Rattle.pth_model.specs.RingWaits.{awaited_events, events_from, ring_held}
 use Rattle.pth_model.specs.ThreadEnds.{is_alone}
-use Rattle.pth_waits.specs.Waking.{has_any_died, has_come, has_died, has_its_due, is_due}
+use Rattle.pth_waits.specs.Waking.{has_any_died, has_come, has_died}
 use Rattle.pth_waits.specs.Io.{wakes_for}
 use Rattle.pth_waits.specs.Dormant.{ArePending, FindsPending, IsDormant, StaysAway, StaysPending, is_left_to_join}
+use Rattle.pth_waits.proofs.Waking.{is_due}
 
 -- ---- at a moment before, a dormant thread is not to wake
 
@@ -51,7 +54,7 @@ module _ {P S H : Type 0} (x : Store) (k : Control P S H) (until : ℕ) (early :
 
   -- where main is not alone, and no thread is left to join if no record is that of one
   pub dormant_not_due : (t : ℕ) → is_alone k main ≡ false → (((u : ℕ) → is_left_to_join (entry_of k u) ≡ false) → has_any_died k ≡ false) → IsDormant x k until t → is_due x k t ≡ false
-  unfolding is_come_for
+  unfolding comes_for
   dormant_not_due t alone none q = both_false _ _ _ (away_now t _ alone none q.away) (none_come _ q.pending) q.unasked
 
   -- and a look at its events finds what was found before
@@ -59,15 +62,70 @@ module _ {P S H : Type 0} (x : Store) (k : Control P S H) (until : ℕ) (early :
   looked_same None s = refl
   looked_same (Some v) s = rw (s.1 (now_of k) (omega arith) early) (ap (λ st. Some (with_status st v)) (sym s.0))
 
+-- ---- events that stay pending
+
+-- an event is there where one was, of the same, and pending where it was
+abbrev pub StillPending : Option Event → Option Event → Type 0
+StillPending None p = p ≡ None
+StillPending (Some v) None = ⊥
+StillPending (Some v) (Some u) = (u.spec ≡ v.spec) × (v.status ≡ Pending → u.status ≡ Pending)
+
+-- rings are as they were, and what was pending of their events is
+pub record KeepsPending (x y : Events) : Type 0 where
+  pub rings : y.rings ≡ x.rings
+  pub pending : (e : ℕ) → StillPending (x.events e) (y.events e)
+
+still_same : (o : Option Event) → StillPending o o
+still_same None = refl
+still_same (Some v) = (refl, λ h. h)
+
+still_then : (o p q : Option Event) → StillPending o p → StillPending p q → StillPending o q
+still_then None p q a b = subst (λ (r : Option Event). StillPending r q) a b
+still_then (Some v) None q a b = absurd a
+still_then (Some v) (Some u) None a b = absurd b
+still_then (Some v) (Some u) (Some z) a b = (b.0 ∙ a.0, λ h. b.1 (a.1 h))
+
+pub same_pending : (x : Events) → KeepsPending x x
+same_pending x = record { rings = refl; pending = λ e. still_same (x.events e) }
+
+pub equal_pending : (x y : Events) → y ≡ x → KeepsPending x y
+equal_pending x y is = subst (λ (z : Events). KeepsPending x z) (sym is) (same_pending x)
+
+pub pending_then : (x y z : Events) → KeepsPending x y → KeepsPending y z → KeepsPending x z
+pending_then x y z a b = record { rings = b.rings ∙ a.rings; pending = λ e. still_then (x.events e) (y.events e) (z.events e) (a.pending e) (b.pending e) }
+
+-- a claim leaves what was pending so, whoever waits for it
+still_awaited : (now : ℕ) (here : Bool) (o : Option Event) → StillPending o (if here then option_map (awaited now) o else o)
+still_awaited now true None = refl
+still_awaited now true (Some v) = (refl, λ h. refl)
+still_awaited now false o = still_same o
+
+still_claimed : (c : Option Tid) (o : Option Event) → StillPending o (option_map (with_claim c) o)
+still_claimed c None = refl
+still_claimed c (Some v) = (refl, λ h. h)
+
+pub claimed_pending : (x : Events) (e : ℕ) (t : Tid) (now : ℕ) → KeepsPending x (claimed e t now x)
+unfolding each
+claimed_pending x e t now =
+    let first = (ring_awaited e now x).events in
+    let claim = option_map (with_claim (Some t)) (first e) in
+    record {
+      rings = refl;
+      pending = λ i. still_then (x.events i) (first i) _ (still_awaited now (ring_holds i (x.rings e)) (x.events i)) (put_by (λ v. StillPending (first i) v) first e claim i
+          (λ same. subst (λ (n : ℕ). StillPending (first n) claim) (sym same) (still_claimed (Some t) (first e)))
+          (λ apart. still_same (first i)));
+    }
+
 -- ---- what keeps a thread dormant
 
--- Of t and of what it may wait for all is as it was, but that time went on: what is not dead still lives, and can be joined.
+-- Of t and of what it may wait for all is as it was, but that time went on and rings were claimed: what is not dead still lives, and
+-- can be joined.
 module _ {P S H : Type 0} where
   pub record KeepsDormant (x : Store) (k : Control P S H) (y : Store) (j : Control P S H) (t : ℕ) : Type 0 where
     pub now : ℕ
     pub later : now_of k ≤ now
     pub kernel : j.kernel ≡ advanced now k.kernel
-    pub events : j.events ≡ k.events
+    pub events : KeepsPending k.events j.events
     pub mutexes : y.mutexes ≡ x.mutexes
     pub locks : y.rw_locks ≡ x.rw_locks
     pub blocked : blocked_of j t ≡ blocked_of k t
@@ -100,18 +158,23 @@ module _ {P S H : Type 0} where
     found_moved : (n : ℕ) (z : EventSpec) → found (moves_to n k) z ≡ Pending → found (moves_to n j) z ≡ Pending
     found_moved n z is = subst (λ (q : Kernel). found (record j { kernel = q }) z ≡ Pending) (sym (moved_kernel n)) is
 
-    pending_kept : (o : Option Event) → StaysPending k until o → StaysPending j until o
-    pending_kept None s = tt
-    pending_kept (Some v) s = (s.0, λ n h l. found_moved n v.spec (s.1 n (onward n h) l))
+    pending_kept : (o p : Option Event) → StillPending o p → StaysPending k until o → StaysPending j until p
+    pending_kept None p still s = subst (λ (q : Option Event). StaysPending j until q) (sym still) tt
+    pending_kept (Some v) None still s = absurd still
+    pending_kept (Some v) (Some u) still s = (still.1 s.0, λ n h l. found_moved n u.spec (subst (λ (z : EventSpec). found (moves_to n k) z ≡ Pending) (sym still.0) (s.1 n (onward n h) l)))
 
     all_pending : (es : List ℕ) → All (λ e. StaysPending k until (k.events.events e)) es → All (λ e. StaysPending j until (j.events.events e)) es
-    all_pending es all = rw same.events (All-weaker (λ e. StaysPending k until (k.events.events e)) (λ e. StaysPending j until (k.events.events e)) (λ e h. pending_kept (k.events.events e) h) es all)
+    all_pending es all = All-weaker (λ e. StaysPending k until (k.events.events e)) (λ e. StaysPending j until (j.events.events e)) (λ e h. pending_kept (k.events.events e) (j.events.events e) (same.events.pending e) h) es all
+
+    same_from : (o : Option ℤ) → events_from j.events o ≡ events_from k.events o
+    same_from None = refl
+    same_from (Some e) = ap (λ (r : ℕ → List ℕ). r (number e)) same.events.rings
 
     pub dormant_kept : IsDormant x k until t → IsDormant y j until t
     dormant_kept q = record {
       away = subst (λ (o : Option Blocked). StaysAway y j until t (awaits_in o)) (sym same.blocked) (away_kept (awaits_in (blocked_of k t)) q.away);
       pending = subst (λ (o : Option Blocked). All (λ e. StaysPending j until (j.events.events e)) (events_from j.events (ring_held o))) (sym same.blocked)
-          (subst (λ (z : Events). All (λ e. StaysPending j until (j.events.events e)) (events_from z (ring_held (blocked_of k t)))) (sym same.events) (all_pending (awaited_events k t) q.pending));
+          (subst (λ (es : List ℕ). All (λ e. StaysPending j until (j.events.events e)) es) (sym (same_from (ring_held (blocked_of k t)))) (all_pending (awaited_events k t) q.pending));
       unasked = same.asked q.unasked;
     }
 

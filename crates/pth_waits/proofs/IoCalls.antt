@@ -16,10 +16,10 @@ use Rattle.pth_model.specs.declared.awaits.Awaits.{Awaits}
 use Rattle.pth_model.specs.declared.blocked.Blocked.{Blocked}
 use Rattle.pth_model.specs.declared.next.Next.TheVariants as next
 use Rattle.pth_model.specs.Awaits.{awaited_by, awaits_in}
-use Rattle.pth_model.specs.Calls.{answers, begun, begun_as, begun_by, tried_again, tried_by, unless_come}
+use Rattle.pth_model.specs.Calls.{answers, begun, begun_as, begun_by, tried_again, tried_by, unless_settled}
 use Rattle.pth_model.specs.Changes.{blocked_of, is_blocked_by, with_kernel}
 use Rattle.pth_model.specs.Io.{Trial, begins_waiting}
-use Rattle.pth_model.specs.RingWaits.{has_event_come, is_no_ring, ring_given}
+use Rattle.pth_model.specs.RingWaits.{has_settled, is_no_ring, ring_given}
 use Rattle.pth_model.specs.Row.{Attempt, effect_of, refuses, unless_refused, ◌trying◌}
 use Rattle.pth_model.specs.Rows.{row_of}
 use Rattle.pth_model.specs.State.{Control, State}
@@ -105,7 +105,7 @@ module _ {P S H : Type 0} (f : P → Functions S H) (s : State P S H) (t : ℕ) 
   abbrev first : Call → Trial
   first c = first_trial kernel c (moment_for s c)
 
-  io_begin : (c : Call) → is_io c ≡ true → (row_of f s t c).begin ≡ ((refused EINVAL when is_no_ring s (ring_given c) otherwise said_or (first c).answer (begins_waiting s (is_at_once kernel c) (ring_given c) (first c).written (moment_for s c))) trying changes (with_kernel (first c).after))
+  pub io_begin : (c : Call) → is_io c ≡ true → (row_of f s t c).begin ≡ ((refused EINVAL when is_no_ring s (ring_given c) otherwise said_or (first c).answer (begins_waiting s (is_at_once kernel c) (ring_given c) (first c).written (moment_for s c))) trying changes (with_kernel (first c).after))
   unfolding row_of
   io_begin (call.Read g n) io = refl
   io_begin (call.ReadEv g n e) io = refl
@@ -300,7 +300,7 @@ may_have_written (call.SelectEv r w x l e) m n i io may written = written
 may_have_written c m n i io may written = absurd (cc io)
 
 -- an event of the ring changes the verdict alone
-pub interrupted_attempt : {P S H : Type 0} (come : Bool) (v : Verdict) (e : Piece P S H) → unless_come come (v trying e) ≡ (unless_interrupted come v trying e)
+pub interrupted_attempt : {P S H : Type 0} (come : Bool) (v : Verdict) (e : Piece P S H) → unless_settled come (v trying e) ≡ (unless_interrupted come v trying e)
 interrupted_attempt true v e = refl
 interrupted_attempt false v e = refl
 
@@ -309,7 +309,7 @@ module _ {P S H : Type 0} (f : P → Functions S H) (s : State P S H) (t : ℕ) 
   again = trial_for s.control.kernel (awaits_in (Some b))
 
   abbrev pub come : Bool
-  come = has_event_come s.control.events (ring_given b.call)
+  come = has_settled s.control.events (ring_given b.call)
 
   abbrev pub verdict : Verdict
   verdict = unless_interrupted come (said_or again.answer (blocks_on 0 again.written))
@@ -336,7 +336,7 @@ module _ {P S H : Type 0} (f : P → Functions S H) (s : State P S H) (t : ℕ) 
   gone_on_as v is =
       let attempt : Attempt P S H = verdict trying changes (with_kernel again.after) in
       rw has (
-      ap (λ (a : Attempt P S H). ends_as (effect_of a s) a.verdict) (ap (unless_come come) (io_again f s t b.call b io) ∙ interrupted_attempt come _ _)
+      ap (λ (a : Attempt P S H). ends_as (effect_of a s) a.verdict) (ap (unless_settled come) (io_again f s t b.call b io) ∙ interrupted_attempt come _ _)
       ∙ ap (λ (x : Transition P S H). ends_as x verdict) (effect_is s again.after verdict (refused_by come again.answer refl))
       ∙ ap (λ (x : Verdict). ends_as (changes (with_kernel again.after) s) x) is)
 

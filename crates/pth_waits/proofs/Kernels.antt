@@ -1,5 +1,5 @@
 -- While nothing comes to a descriptor, every question to the kernel is answered as before.
-use Rattle.std.proofs.Common.{◌≡◌, ◌≢◌, ◌∙◌, ℕ, ◌==◌, ◌+◌, ◌-◌, ◌<◌, ◌≤◌, ◌&&◌, ◌||◌, not, min, nat_lt, nat_le, Bool, true, false, cond, if◌then◌else◌, ℤ, List, [], ◌∷◌, map, filter, flat_map, drop, length, All, Option, Some, None, is_some, refl, sym, ap, ap₂, subst, arith}
+use Rattle.std.proofs.Common.{◌≡◌, ◌∙◌, ℕ, ◌==◌, ◌+◌, ◌<◌, ◌≤◌, ◌&&◌, ◌||◌, not, nat_lt, nat_le, Bool, true, false, cond, if◌then◌else◌, ℤ, List, [], ◌∷◌, map, filter, All, Option, Some, None, is_some, refl, ap, arith}
 use Rattle.std.proofs.lemmas.Bool.Decides.{nat_tests}
 use Rattle.std.proofs.lemmas.List.Elements.{All-cons, All-head, All-nil, All-tail}
 use Rattle.std.specs.List.{list_any, list_all}
@@ -8,13 +8,12 @@ use Rattle.pth_base.specs.declared.errno.Errno.TheVariants.{EBADF}
 use mathlib.Core.Path.{fun_ext}
 use Rattle.pth_base.specs.Limits.{last_moment}
 use Rattle.pth_base.specs.declared.answer.Answer.{Answer}
-use Rattle.pth_kernel.specs.declared.trace.Entry.{Entry}
 use Rattle.pth_kernel.specs.declared.trace.Stamp.{Stamp}
-use Rattle.pth_kernel.specs.Kernel.{Kernel, advanced, arrival_times, came, came_to, unread, room, connections, connected, is_fd_live, fd_named, is_readable, is_writeable, is_exceptional}
+use Rattle.pth_kernel.specs.Kernel.{Kernel, advanced, came_to, unread, room, connections, connected, is_fd_live, fd_named, is_readable, is_writeable, is_exceptional}
 use Rattle.pth_kernel.specs.Moments.{least_after, least_by}
 use Rattle.pth_io.specs.Attempts.{read_answer, write_answer, accept_answer, connect_answer, select_answer, is_any_ready, is_past, sets_answer, fails, not_yet, ◌when◌otherwise◌}
 use Rattle.pth_model.specs.declared.awaits.Awaits.{Awaits}
-use Rattle.pth_model.specs.declared.awaits.Awaits.TheVariants.{Nothing, Alone, Death, AnyDeath, Moment, Ring, Reading, Writing, Connection, ConnectAnswer, Selection, Mutex, Lock}
+use Rattle.pth_model.specs.declared.awaits.Awaits.TheVariants.{Reading, Writing, Connection, ConnectAnswer, Selection}
 use Rattle.pth_waits.specs.Io.{wakes_for}
 use Rattle.pth_waits.specs.Dormant.{bound}
 

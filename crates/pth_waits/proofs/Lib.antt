@@ -17,4 +17,3 @@ pub mod Dormancy
 pub mod Kernels
 pub mod Rounding
 pub mod Standing
-pub mod Untaken

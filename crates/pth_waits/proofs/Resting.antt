@@ -13,7 +13,7 @@ use Rattle.pth_model.specs.declared.blocked.Blocked.{Blocked}
 use Rattle.pth_model.specs.declared.next.Next.TheVariants as next
 use Rattle.pth_model.specs.Calls.{answers, begun, begun_as, begun_by, tried_again}
 use Rattle.pth_model.specs.Changes.{blocked_of}
-use Rattle.pth_model.specs.RingWaits.{ring_given, has_event_come}
+use Rattle.pth_model.specs.RingWaits.{ring_given, has_settled}
 use Rattle.pth_model.specs.Row.{Attempt, Row, refuses, unless_refused, ◌trying◌}
 use Rattle.pth_model.specs.Rows.{row_of}
 use Rattle.pth_model.specs.State.{State, now_of}
@@ -114,7 +114,7 @@ module _ {P S H : Type 0} (f : P → Functions S H) (s : State P S H) (t : ℕ) 
   pub rest_goes_on : is_rest c ≡ true → ring_given c ≡ None → now_of s.control < m → tried_again f t s ≡ record { told = tells (Waits (tid t) c) s; next = next.Waits }
   rest_goes_on rested none before =
       let test : nat_le h.blocked.moment (now_of s.control) ≡ false = is_ahead h.blocked.moment m (now_of s.control) moment_is before in
-      waits_again f s t c h attempt again (rest_written c _ rested h.may.written) (ap (has_event_come s.control.events) none) (rw test refl) (rw test refl)
+      waits_again f s t c h attempt again (rest_written c _ rested h.may.written) (ap (has_settled s.control.events) none) (rw test refl) (rw test refl)
 
   -- it has come
   pub rest_is_over : m ≤ now_of s.control → tried_again f t s ≡ (answers f t c (Int (pos r.answer)) and_next next.Done (Int (pos r.answer))) s

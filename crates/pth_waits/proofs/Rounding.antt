@@ -1,9 +1,8 @@
 -- The events of a ring are gone over, as long as all would be found pending.
-use Rattle.std.proofs.Common.{◌≡◌, ◌≢◌, ◌∙◌, ℕ, ◌+◌, ◌==◌, ◌<◌, ◌≤◌, ◌++◌, ◌∷◌, not, Bool, true, false, cond, if◌then◌else◌, min, List, [], fold, length, All, Option, Some, None, option_map, inl, refl, sym, ap, subst, append_assoc, append-nil, arith}
+use Rattle.std.proofs.Common.{◌≡◌, ◌≢◌, ◌∙◌, ℕ, ◌+◌, ◌==◌, ◌<◌, ◌++◌, ◌∷◌, not, Bool, true, false, cond, if◌then◌else◌, min, List, [], fold, length, All, Option, Some, None, option_map, inl, refl, sym, ap, subst, append_assoc, arith}
 use Rattle.std.proofs.lemmas.List.Elements.{All-append, All-cons, All-head, All-nil, All-tail, All-weaker}
 use Rattle.pth_base.proofs.Tables.{same_self, not_same}
 use Rattle.pth_base.specs.declared.event.EventSpec.{EventSpec}
-use Rattle.pth_numbered.specs.Numbered.{number_at}
 use Rattle.pth_ring.specs.declared.event.Event.{Event}
 use Rattle.pth_ring.specs.declared.event.Status.{Status}
 use Rattle.pth_ring.specs.declared.event.Status.TheVariants.{Pending, Occurred, Failed}

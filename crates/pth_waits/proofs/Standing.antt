@@ -1,5 +1,5 @@
 -- Who stands in a queue, told by the records of threads.
-use Rattle.std.proofs.Common.{◌≡◌, ◌≢◌, ◌∙◌, ℕ, ◌==◌, ◌||◌, ◌&&◌, not, is_some, Bool, true, false, cond, if◌then◌else◌, List, [], ◌∷◌, filter, map, All, Option, Some, None, refl, sym, ap, subst}
+use Rattle.std.proofs.Common.{◌≡◌, ◌≢◌, ◌∙◌, ℕ, ◌||◌, ◌&&◌, is_some, Bool, true, false, cond, if◌then◌else◌, List, [], ◌∷◌, filter, map, All, Option, Some, None, refl, sym, ap, subst}
 use Rattle.std.proofs.lemmas.List.Elements.{All-cons, All-head, All-nil, All-tail}
 use Rattle.pth_base.proofs.Tables.{same_self, same_means}
 use Rattle.pth_base.specs.declared.thread.ThreadState.{ThreadState}

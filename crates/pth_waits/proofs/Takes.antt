@@ -1,30 +1,27 @@
 -- Calls that wait for a mutex or a lock begin, and are tried again, as their rows say.
-use Rattle.std.proofs.Common.{◌≡◌, ◌≢◌, ◌∙◌, ◌==◌, ◌||◌, ◌&&◌, not, ℕ, ℤ, pos, Bool, true, false, is_none, is_ok, ◌++◌, Result, Ok, Err, if◌then◌else◌, refl, sym, ap}
+use Rattle.std.proofs.Common.{◌≡◌, ◌≢◌, ◌∙◌, ◌||◌, ◌&&◌, not, ℕ, ℤ, pos, Bool, true, false, is_ok, ◌++◌, Result, Ok, Err, if◌then◌else◌, refl, sym, ap}
 use Rattle.pth_base.specs.Program.{Functions}
 use Rattle.pth_base.specs.declared.answer.Answer.{Answer}
 use Rattle.pth_base.specs.declared.answer.Answer.TheVariants.{Int}
 use Rattle.pth_base.specs.declared.call.Call.{Call}
 use Rattle.pth_base.specs.declared.call.Call.TheVariants as call
 use Rattle.pth_base.specs.declared.errno.Errno.{Errno}
-use Rattle.pth_base.specs.declared.errno.Errno.TheVariants.{EINVAL, EAGAIN, EBUSY, EDEADLK}
+use Rattle.pth_base.specs.declared.errno.Errno.TheVariants.{EINVAL, EBUSY, EDEADLK}
 use Rattle.pth_base.specs.declared.ids.Tid.{Tid}
 use Rattle.pth_base.specs.declared.mark.Mark.TheVariants.{Answered, Waits}
-use Rattle.pth_lock.specs.Mutexes.{is_anothers, level_limit, levels_of}
 use Rattle.pth_lock.specs.Objects.{object_named}
 use Rattle.pth_lock.specs.RwLocks.{holds, may_enter, lock_take_answer}
 use Rattle.pth_model.specs.declared.blocked.Blocked.{Blocked}
 use Rattle.pth_model.specs.declared.next.Next.TheVariants as next
-use Rattle.pth_model.specs.Calls.{begun, begun_as, begun_by, tried_again, tried_by, unless_come}
+use Rattle.pth_model.specs.Calls.{begun, begun_as, begun_by, tried_again, tried_by, unless_settled}
 use Rattle.pth_model.specs.Changes.{blocked_of}
-use Rattle.pth_model.specs.Mutexes.{mutex}
 use Rattle.pth_model.specs.Resources.{Store, no_resources, told, answer_told}
-use Rattle.pth_model.specs.RingWaits.{extra_ring, has_event_come, is_claimed_ring, is_no_ring, ring_given}
+use Rattle.pth_model.specs.RingWaits.{has_settled, is_claimed_ring, is_no_ring, ring_given}
 use Rattle.pth_model.specs.Row.{Attempt, effect_of, refuses, unless_refused, ◌trying◌}
 use Rattle.pth_model.specs.Rows.{row_of}
-use Rattle.pth_model.specs.Rwlocks.{is_lock, lets_in}
 use Rattle.pth_model.specs.State.{State}
 use Rattle.pth_model.specs.Transition.{Piece, Went, silent, tells, tid}
-use Rattle.pth_model.specs.Verdict.{Verdict, Says, refused, says, waits, ◌when◌otherwise◌}
+use Rattle.pth_model.specs.Verdict.{Verdict, Says, refused, says, taken_or, waits, ◌when◌otherwise◌}
 use Rattle.pth_world.specs.Leading.{Tells}
 use Rattle.pth_world.specs.Store.{store_of}
 use Rattle.pth_world.specs.Whole.{MayBlockAs, MayHaveWritten, MayWaitUntil}
@@ -32,24 +29,7 @@ use Rattle.pth_world.specs.World.{WorldOf}
 use Rattle.pth_waits.proofs.Blocking.{IsHeld, waits_again}
 use Rattle.pth_waits.proofs.IoCalls.{interrupted_attempt}
 use Rattle.pth_waits.specs.Io.{unless_interrupted}
-use Rattle.pth_waits.specs.Locking.{is_locking, is_open_lock, is_to_take, only_tries, taken, taken_or, taking}
-
--- what keeps a thread from a mutex, and from a lock, in the order of the rows
-mutex_by : (none ring full others : Bool) (v : Verdict) → (refused EINVAL when none || ring otherwise refused EAGAIN when full otherwise says 1 when not others otherwise v) ≡ (refused EINVAL when ring otherwise taken_or (if none then Err EINVAL else if full then Err EAGAIN else if others then Err EBUSY else Ok tt) v)
-mutex_by true true full others v = refl
-mutex_by true false full others v = refl
-mutex_by false true full others v = refl
-mutex_by false false true others v = refl
-mutex_by false false false true v = refl
-mutex_by false false false false v = refl
-
-lock_by : (known ring held free : Bool) (v : Verdict) → (refused EINVAL when not known || ring otherwise refused EDEADLK when held otherwise says 1 when free otherwise v) ≡ (refused EINVAL when ring otherwise taken_or (if not known then Err EINVAL else if held then Err EDEADLK else if not free then Err EBUSY else Ok tt) v)
-lock_by false true held free v = refl
-lock_by false false held free v = refl
-lock_by true true held free v = refl
-lock_by true false true free v = refl
-lock_by true false false true v = refl
-lock_by true false false false v = refl
+use Rattle.pth_waits.specs.Locking.{is_locking, is_open_lock, is_to_take, only_tries, taken, taking}
 
 -- an error that is answered as it is
 pub tries_refused : (e : Errno) → taken_or (Err e) (refused EBUSY) ≡ refused e
@@ -109,8 +89,8 @@ module _ {P S H : Type 0} (f : P → Functions S H) (s : State P S H) (t : ℕ) 
 
   begin_is : (c : Call) → is_locking c ≡ true → (row_of f s t c).begin ≡ (begins c trying silent)
   unfolding row_of
-  begin_is (call.MutexAcquire m v e) is = ap (λ (x : Verdict). x trying silent) (mutex_by (is_none (mutex s m)) (is_no_ring s (extra_ring e)) (levels_of t (mutex s m) == level_limit) (is_anothers t (mutex s m)) (turned_away (call.MutexAcquire m v e)))
-  begin_is (call.RwAcquire l write v e) is = ap (λ (x : Verdict). x trying silent) (lock_by (is_lock s l) (is_no_ring s (extra_ring e)) (holds s.resources.store.rw_locks t (object_named l)) (lets_in s write l) (turned_away (call.RwAcquire l write v e)))
+  begin_is (call.MutexAcquire m v e) is = refl
+  begin_is (call.RwAcquire l write v e) is = refl
   begin_is c is = absurd (cc is)
 
   begun_is : (c : Call) → is_locking c ≡ true → begun f t c s ≡ begun_as f t c (row_of f s t c).begin s
@@ -158,7 +138,7 @@ module _ {P S H : Type 0} (f : P → Functions S H) (s : State P S H) (t : ℕ) 
     held = record h.blocked { call = c }
 
     abbrev come : Bool
-    come = has_event_come s.control.events (ring_given c)
+    come = has_settled s.control.events (ring_given c)
 
     abbrev pub again_verdict : Verdict
     again_verdict = unless_interrupted come (says 1 when is_to_take s.resources.store t c otherwise waits)
@@ -171,7 +151,7 @@ module _ {P S H : Type 0} (f : P → Functions S H) (s : State P S H) (t : ℕ) 
 
     tried_as : tried_again f t s ≡ went (again_verdict trying silent)
     unfolding tried_again
-    tried_as = rw h.has (ap went (ap (unless_come come) (again_is c held is) ∙ interrupted_attempt come _ _))
+    tried_as = rw h.has (ap went (ap (unless_settled come) (again_is c held is) ∙ interrupted_attempt come _ _))
 
     pub taken_again : (a : Answer) → again_verdict ≡ Says a → tried_again f t s ≡ tried_by f t held (Says a) s
     taken_again a verdict =

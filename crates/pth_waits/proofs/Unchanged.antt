@@ -1,12 +1,12 @@
 -- Attempts at calls on descriptors that leave the kernel as it was.
-use Rattle.std.proofs.Common.{◌≡◌, ℕ, ◌+◌, ◌==◌, ◌&&◌, not, Bool, true, false, Option, Some, None, if◌then◌else◌, refl, sym, ap, arith}
+use Rattle.std.proofs.Common.{◌≡◌, ℕ, ◌+◌, ◌-◌, ◌==◌, ◌&&◌, min, not, Bool, true, false, Option, Some, None, if◌then◌else◌, refl, sym, ap, arith}
 use Rattle.pth_base.specs.declared.answer.Answer.TheVariants.{Fail}
 use Rattle.pth_base.specs.declared.errno.Errno.{Errno}
 use Rattle.pth_base.specs.declared.errno.Errno.TheVariants.{EBADF, EIO}
 use Rattle.pth_io.specs.Attempts.{◌when◌otherwise◌, answered_or, counts, counts_or, fails, fits, not_yet, number_answer, read_after, write_answer, write_after, written, accept_answer, accept_after, taken_by}
 use Rattle.pth_kernel.proofs.Changes.{unchanged}
 use Rattle.pth_kernel.specs.Entries.{is_failure}
-use Rattle.pth_kernel.specs.Kernel.{Kernel, Descriptor, came, connection_accepted, connections, earliest, fd_named, is_fd_live, room_used}
+use Rattle.pth_kernel.specs.Kernel.{Kernel, Descriptor, came, connection_accepted, connections, earliest, fd_named, is_fd_live, room, room_used}
 use Rattle.pth_model.specs.declared.awaits.Awaits.{Awaits}
 use Rattle.pth_model.specs.declared.awaits.Awaits.TheVariants.{Reading, Writing, Connection}
 use Rattle.pth_waits.specs.Io.{trial_for}
@@ -35,6 +35,15 @@ module _ (k : Kernel) (f total done : ℕ) where
   write_idle : written k f total done ≡ 0 → write_after f total done k ≡ k
   unfolding written write_after
   write_idle none = gives_none (omega (arith, none))
+
+  fits_none : (takes : Bool) → room k f ≡ 0 → (if takes then min (room k f) (total - done) else 0) ≡ 0
+  fits_none true none = omega (arith, none)
+  fits_none false none = refl
+
+  -- for which there is no room
+  write_without_room : room k f ≡ 0 → write_after f total done k ≡ k
+  unfolding write_after
+  write_without_room none = gives_none (fits_none (is_fd_live k f && not (came k is_failure f)) none)
 
 -- ---- accepts
 
@@ -65,3 +74,15 @@ idle_same k (Reading f n) is none = ap (λ (x : Option _). taken_by (fd_named f)
 idle_same k (Writing f total done) is none = write_idle k (fd_named f) total done none
 idle_same k (Connection f) is none = awaited_by (is_fd_live k (fd_named f)) (came k is_failure (fd_named f)) (earliest (connections k (fd_named f))) (fd_named f) k is
 idle_same k a is none = refl
+
+-- there is no room for what is written
+abbrev pub HasNoRoom : Kernel → Awaits → Type 0
+HasNoRoom k (Writing f total done) = room k (fd_named f) ≡ 0
+HasNoRoom k a = Unit {0}
+
+-- one that has no answer and no room neither, whatever was written before
+pub waiting_same : (k : Kernel) (a : Awaits) → (trial_for k a).answer ≡ None → HasNoRoom k a → (trial_for k a).after k ≡ k
+waiting_same k (Reading f n) is none = idle_same k (Reading f n) is refl
+waiting_same k (Writing f total done) is none = write_without_room k (fd_named f) total done none
+waiting_same k (Connection f) is none = idle_same k (Connection f) is refl
+waiting_same k a is none = refl

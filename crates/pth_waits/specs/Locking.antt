@@ -1,14 +1,13 @@
 -- Calls that wait for a mutex or for a read-write lock, as the code tells of them.
-use Rattle.std.specs.Prelude.{ℕ, ◌&&◌, not, ℤ, Bool, true, false, is_none, Result, Ok, Err}
+use Rattle.std.specs.Prelude.{ℕ, ◌&&◌, not, ℤ, Bool, true, false, is_none, Result, Err}
 use Rattle.pth_base.specs.declared.call.Call.{Call}
 use Rattle.pth_base.specs.declared.call.Call.TheVariants as call
 use Rattle.pth_base.specs.declared.errno.Errno.{Errno}
-use Rattle.pth_base.specs.declared.errno.Errno.TheVariants.{EINVAL, EBUSY}
+use Rattle.pth_base.specs.declared.errno.Errno.TheVariants.{EINVAL}
 use Rattle.pth_lock.specs.Mutexes.{owner_of, mutex_take_answer, mutex_taken}
 use Rattle.pth_lock.specs.Objects.{object_named}
 use Rattle.pth_lock.specs.RwLocks.{holds, may_enter, lock_take_answer, lock_taken}
 use Rattle.pth_model.specs.Resources.{Store, with_mutexes, with_rw_locks}
-use Rattle.pth_model.specs.Verdict.{Verdict, refused, says}
 use Rattle.pth_numbered.specs.Operands.{is_zero}
 
 -- pth_mutex_acquire and pth_rwlock_acquire
@@ -49,9 +48,3 @@ module _ (x : Store) where
   taken t (call.MutexAcquire m v e) = with_mutexes (mutex_taken t (object_named m)) x
   taken t (call.RwAcquire l write v e) = with_rw_locks (lock_taken t write (object_named l)) x
   taken t c = x
-
--- what an attempt to take it comes to: it is answered, unless another has it
-abbrev pub taken_or : Result (Unit {0}) Errno → Verdict → Verdict
-taken_or (Ok u) v = says 1
-taken_or (Err EBUSY) v = v
-taken_or (Err e) v = refused e

@@ -3,10 +3,7 @@ use Rattle.std.specs.Prelude.{ℕ, ◌||◌, not, nat_le, ℤ, Bool, false, is_s
 use Rattle.pth_model.specs.declared.awaits.Awaits.{Awaits}
 use Rattle.pth_model.specs.declared.awaits.Awaits.TheVariants.{Nothing, Alone, Death, AnyDeath, Moment, Ring, Mutex, Lock}
 use Rattle.pth_model.specs.State.{Control, now_of}
-use Rattle.pth_model.specs.Awaits.{awaits_in}
-use Rattle.pth_model.specs.Cancellation.{may_be_canceled}
-use Rattle.pth_model.specs.Changes.{or_nobody, blocked_of}
-use Rattle.pth_model.specs.Pass.{is_come_for}
+use Rattle.pth_model.specs.Changes.{or_nobody}
 use Rattle.pth_model.specs.Resources.{Store}
 use Rattle.pth_model.specs.ThreadControl.{thread, is_dead_in, first_of, joinable_dead}
 use Rattle.pth_model.specs.ThreadEnds.{is_alone}
@@ -35,11 +32,3 @@ has_come x k t (Mutex m) = is_free_mutex x m
 has_come x k t (Lock l write) = is_open_lock x write l
 -- what descriptors bring
 has_come x k t a = wakes_for k.kernel a
-
--- what its call waits for has come, or an event of the ring that it was given comes
-abbrev pub has_its_due : {P S H : Type 0} → Store → Control P S H → ℕ → Bool
-has_its_due x k t = has_come x k t (awaits_in (blocked_of k t)) || is_come_for k t
-
--- the thread is to wake: it has its due, or it may be canceled
-abbrev pub is_due : {P S H : Type 0} → Store → Control P S H → ℕ → Bool
-is_due x k t = has_its_due x k t || may_be_canceled k t

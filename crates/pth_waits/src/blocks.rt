@@ -10,7 +10,7 @@ ghost use Rattle.pth_model.specs.declared.next.Next.TheVariants.{Done, Waits as 
 ghost use Rattle.pth_model.specs.Verdict.{no_pause};
 ghost use Rattle.pth_waits.specs.Blocking.{HasClaimed, StandsOnce};
 ghost use Rattle.pth_waits.specs.Locking.{is_locking};
-ghost use Rattle.pth_world.specs.Frame.{Frame};
+ghost use Rattle.pth_world.specs.Frame.{Frame, runs_after, yields_after};
 ghost use Rattle.pth_world.specs.Leading.{Leads};
 ghost use Rattle.pth_world.specs.Shows.{Shows, StandsFor};
 ghost use Rattle.pth_world.specs.Whole.{Whole, MayBlock, MayBlockAs, MayHaveWritten, MayWaitUntil};
@@ -22,7 +22,7 @@ use pth_base::mark::Mark;
 use pth_base::marks::Marks;
 use pth_base::memory::OutOfMemory;
 use pth_base::program::Program;
-use pth_end::answering::answer_call;
+use pth_end::answering::done;
 use pth_model::blocked::{Blocked, Retake};
 use pth_model::next::Next;
 use pth_world::world::World;
@@ -73,16 +73,16 @@ pub(crate) fn answer_blocked<P: Program>(
     call: &Call,
     answer: Answer,
     marks: &mut Marks,
-) -> Result<Answer, OutOfMemory>
+) -> Result<Next, OutOfMemory>
     requires whole { Whole w.old }
     requires runs { w.old.scheduler.running ≡ Some t.0 }
-    ensures value { IfOk result (λ a. a ≡ answer) }
+    ensures next { IfOk result (λ n. n ≡ Done answer) }
     ensures ok { OnOk result ((s : State P P.State P.Shared) → StandsOnce w.old (Answered t call.now answer) s → Leads w.new marks.old marks.new (answers P.functions t.0 call.now answer s)) }
     ensures err { OnErr result (marks.new ≡ marks.old) }
-    ensures frame { OnOk result (Frame w.old w.new 0 (Some t.0) false) }
+    ensures frame { IfOk result (λ n. Frame w.old w.new 0 (runs_after t.0 n) (yields_after n)) }
 {
     w.unblock(t);
-    answer_call(t, call, answer, marks)
+    done(t, call, answer, marks)
 }
 
 /// The call that blocks the thread that runs is answered, and blocks it no longer; its claim is given back. After an error the world
@@ -103,10 +103,7 @@ pub(crate) fn answer_held<P: Program>(
     ensures frame { OnOk result (Frame w.old w.new 0 (Some t.0) false) }
 {
     match w.unblock(t) {
-        Some(held) => {
-            let answer = answer_call(t, &held.call, answer, marks)?;
-            Ok(Next::Done(answer))
-        }
+        Some(held) => done(t, &held.call, answer, marks),
         None => unreachable!(),
     }
 }

@@ -21,7 +21,7 @@ use pth_base::ids::{Slot, Tid};
 use pth_base::marks::Marks;
 use pth_base::memory::OutOfMemory;
 use pth_base::program::Program;
-use pth_end::answering::answer_call;
+use pth_end::answering::done;
 use pth_end::cancellation::{CANCELED, cancel_within};
 use pth_model::cancel_states::is_enabled;
 use pth_model::next::Next;
@@ -106,6 +106,5 @@ pub fn cancel_point<P: Program>(
         cancel_within(w, t, Call::CancelPoint, marks)?;
         return Ok(Next::Ended(CANCELED));
     }
-    let answer = answer_call(t, call, Answer::Int(1), marks)?;
-    Ok(Next::Done(answer))
+    done(t, call, Answer::Int(1), marks)
 }

@@ -7,7 +7,7 @@ ghost use Rattle.pth_kernel.specs.Kernel.{kernel_of};
 ghost use Rattle.pth_model.specs.Calls.{begun, tried_again};
 ghost use Rattle.pth_model.specs.Changes.{blocked_of};
 ghost use Rattle.pth_model.specs.Io.{begins_waiting, select_moment};
-ghost use Rattle.pth_model.specs.RingWaits.{claims, has_event_come, is_no_ring, ring_given as given};
+ghost use Rattle.pth_model.specs.RingWaits.{claims, has_settled, is_no_ring, ring_given as given};
 ghost use Rattle.pth_model.specs.Row.{effect_of};
 ghost use Rattle.pth_model.specs.Rows.{row_of};
 ghost use Rattle.pth_model.specs.State.{Control, State};
@@ -29,7 +29,7 @@ use pth_base::ids::{Micros, Tid};
 use pth_base::marks::Marks;
 use pth_base::memory::OutOfMemory;
 use pth_base::program::Program;
-use pth_end::answering::answer_call;
+use pth_end::answering::done;
 use pth_io::select::are_all_live;
 use pth_kernel::kernel::Kernel;
 use pth_model::awaits::{awaited_by, ring_given};
@@ -217,16 +217,15 @@ pub fn begin_io<P: Program>(
     let moment = moment_for(w, &call);
     let trial = begin_trial(w, t, &call, moment)?;
     if let Some(answer) = trial.answer {
-        let answer = answer_call(t, &call, answer, marks)?;
-        return Ok(Next::Done(answer));
+        return done(t, &call, answer, marks);
     }
     block(w, t, call, moment, trial.written, marks)?;
     Ok(Next::Waits)
 }
 
 /// Whether an event of a ring is not pending.
-pub(crate) fn has_event_come(rings: &Rings, ring: Option<i64>) -> bool
-    ensures { result ≡ has_event_come (events_of rings.now) ring }
+pub(crate) fn has_settled(rings: &Rings, ring: Option<i64>) -> bool
+    ensures { result ≡ has_settled (events_of rings.now) ring }
 {
     match ring {
         Some(e) => rings.settled(e) > 0,
@@ -251,8 +250,8 @@ pub fn io_again<P: Program>(
     ensures frame { IfOk result (λ n. Frame w.old w.new 0 (runs_after t.0 n) (yields_after n)) }
 {
     let awaited = w.awaited(t);
-    let come = has_event_come(w.rings(), awaited.ring);
-    let trial = try_awaited(w.kernel_mut(), awaited.what)?.unless_come(come);
+    let come = has_settled(w.rings(), awaited.ring);
+    let trial = try_awaited(w.kernel_mut(), awaited.what)?.unless_settled(come);
     match trial.answer {
         Some(answer) => answer_held(w, t, answer, marks),
         None => wait_on(w, t, trial.written, marks),

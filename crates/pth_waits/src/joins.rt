@@ -31,7 +31,7 @@ use pth_base::mark::Mark;
 use pth_base::marks::Marks;
 use pth_base::memory::OutOfMemory;
 use pth_base::program::Program;
-use pth_end::answering::answer_call;
+use pth_end::answering::done;
 use pth_model::living::is_dead;
 use pth_model::next::Next;
 use pth_queue::queue::Queue;
@@ -174,8 +174,7 @@ pub fn begin_join<P: Program>(
             return Ok(Next::Waits);
         }
     };
-    let answer = answer_call(t, &call, answer, marks)?;
-    Ok(Next::Done(answer))
+    done(t, &call, answer, marks)
 }
 
 /// A join, tried again. After an error the world may only be dropped.
@@ -204,8 +203,7 @@ pub fn join_again<P: Program>(
             return Ok(Next::Waits);
         }
     };
-    let answer = answer_blocked(w, t, &Call::Join(n), answer, marks)?;
-    Ok(Next::Done(answer))
+    answer_blocked(w, t, &Call::Join(n), answer, marks)
 }
 
 /// Whether the thread that a join names has died, or can be joined no longer.

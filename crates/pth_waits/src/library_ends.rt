@@ -17,7 +17,7 @@ use pth_base::ids::{MAIN, Tid};
 use pth_base::marks::Marks;
 use pth_base::memory::OutOfMemory;
 use pth_base::program::Program;
-use pth_end::answering::answer_call;
+use pth_end::answering::{answer_call, done};
 use pth_model::next::Next;
 use pth_world::world::World;
 
@@ -38,8 +38,7 @@ pub fn kill<P: Program>(
     ensures frame { IfOk result (λ n. Frame w.old w.new 0 (runs_after t.0 n) (yields_after n)) }
 {
     if t.0 != MAIN {
-        let answer = answer_call(t, call, Answer::Fail(Errno::EPERM), marks)?;
-        return Ok(Next::Done(answer));
+        return done(t, call, Answer::Fail(Errno::EPERM), marks);
     }
     w.vanish_all_but(t);
     answer_call(t, call, Answer::Int(1), marks)?;

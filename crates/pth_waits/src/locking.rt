@@ -10,13 +10,13 @@ ghost use Rattle.pth_lock.specs.Objects.{object_named};
 ghost use Rattle.pth_model.specs.Calls.{begun, tried_again};
 ghost use Rattle.pth_model.specs.Changes.{blocked_of};
 ghost use Rattle.pth_model.specs.Resources.{with_mutexes};
-ghost use Rattle.pth_model.specs.RingWaits.{has_event_come as has_come_in, is_claimed_ring, is_no_ring as is_none_in, ring_given as given};
+ghost use Rattle.pth_model.specs.RingWaits.{has_settled as has_come_in, is_claimed_ring, is_no_ring as is_none_in, ring_given as given};
 ghost use Rattle.pth_model.specs.Rows.{row_of};
 ghost use Rattle.pth_model.specs.State.{Control, State};
-ghost use Rattle.pth_model.specs.Verdict.{refused, said_or, says, waits, ◌when◌otherwise◌};
+ghost use Rattle.pth_model.specs.Verdict.{refused, said_or, says, taken_or, waits, ◌when◌otherwise◌};
 ghost use Rattle.pth_waits.specs.Blocking.{StandsOnce};
 ghost use Rattle.pth_waits.specs.Io.{claims_unless, unless_interrupted};
-ghost use Rattle.pth_waits.specs.Locking.{is_free_mutex as is_free, is_locking, is_open_lock as is_open, is_to_take, only_tries as only_tries_in, taken, taken_or, taking};
+ghost use Rattle.pth_waits.specs.Locking.{is_free_mutex as is_free, is_locking, is_open_lock as is_open, is_to_take, only_tries as only_tries_in, taken, taking};
 ghost use Rattle.pth_world.specs.Frame.{Frame, runs_after, yields_after};
 ghost use Rattle.pth_world.specs.Leading.{Leads, Tells};
 ghost use Rattle.pth_world.specs.Shows.{Shows, StandsFor};
@@ -25,7 +25,7 @@ ghost use Rattle.pth_world.specs.Store.{store_of};
 ghost use Rattle.pth_world.specs.Whole.{Whole, MayBlock};
 
 use crate::blocks::{answer_blocked, block};
-use crate::io::{claim_for, has_event_come, is_no_ring};
+use crate::io::{claim_for, has_settled, is_no_ring};
 use pth_base::answer::Answer;
 use pth_base::call::Call;
 use pth_base::errno::Errno;
@@ -34,7 +34,7 @@ use pth_base::mark::Mark;
 use pth_base::marks::Marks;
 use pth_base::memory::OutOfMemory;
 use pth_base::program::Program;
-use pth_end::answering::answer_call;
+use pth_end::answering::done;
 use pth_model::awaits::ring_given;
 use pth_model::next::Next;
 use pth_world::world::World;
@@ -161,8 +161,7 @@ pub fn begin_locking<P: Program>(
     ensures frame { IfOk result (λ n. Frame w.old w.new 0 (runs_after t.0 n) (yields_after n)) }
 {
     if let Some(answer) = begin_taking(w, t, &call) {
-        let answer = answer_call(t, &call, answer, marks)?;
-        return Ok(Next::Done(answer));
+        return done(t, &call, answer, marks);
     }
     block(w, t, call, 0, 0, marks)?;
     Ok(Next::Waits)
@@ -216,7 +215,7 @@ fn answer_again<P: Program>(w: &mut World<P>, t: Tid, call: &Call) -> Option<Ans
     if take_awaited(w, t, call) {
         return Some(Answer::Int(1));
     }
-    if has_event_come(w.rings(), ring_given(call)) {
+    if has_settled(w.rings(), ring_given(call)) {
         return Some(Answer::Fail(Errno::EINTR));
     }
     None
@@ -241,8 +240,7 @@ pub fn lock_again<P: Program>(
     ensures frame { IfOk result (λ n. Frame w.old w.new 0 (runs_after t.0 n) (yields_after n)) }
 {
     if let Some(answer) = answer_again(w, t, &call) {
-        let answer = answer_blocked(w, t, &call, answer, marks)?;
-        return Ok(Next::Done(answer));
+        return answer_blocked(w, t, &call, answer, marks);
     }
     marks.push(Mark::Waits { tid: t, call })?;
     Ok(Next::Waits)

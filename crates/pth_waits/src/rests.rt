@@ -25,7 +25,7 @@ use pth_base::mark::Mark;
 use pth_base::marks::Marks;
 use pth_base::memory::OutOfMemory;
 use pth_base::program::Program;
-use pth_end::answering::answer_call;
+use pth_end::answering::done;
 use pth_model::next::Next;
 use pth_model::times::{micros, moment_after, seconds};
 use pth_world::world::World;
@@ -96,8 +96,7 @@ pub fn begin_rest<P: Program>(
 {
     let rest = rest_of::<P>(&call);
     if let Some(answer) = answer_at_once(rest) {
-        let answer = answer_call(t, &call, answer, marks)?;
-        return Ok(Next::Done(answer));
+        return done(t, &call, answer, marks);
     }
     let moment = moment_after(w.time(), rest.length);
     block(w, t, call, moment, 0, marks)?;
@@ -128,6 +127,5 @@ pub fn rest_again<P: Program>(
         marks.push(Mark::Waits { tid: t, call })?;
         return Ok(Next::Waits);
     }
-    let answer = answer_blocked(w, t, &call, Answer::Int(i64::from(rest.answer)), marks)?;
-    Ok(Next::Done(answer))
+    answer_blocked(w, t, &call, Answer::Int(i64::from(rest.answer)), marks)
 }

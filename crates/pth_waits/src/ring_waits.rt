@@ -19,7 +19,7 @@ use pth_base::mark::Mark;
 use pth_base::marks::Marks;
 use pth_base::memory::OutOfMemory;
 use pth_base::program::Program;
-use pth_end::answering::answer_call;
+use pth_end::answering::done;
 use pth_model::next::Next;
 use pth_world::world::World;
 
@@ -41,8 +41,7 @@ pub fn begin_wait<P: Program>(
     ensures frame { IfOk result (λ n. Frame w.old w.new 0 (runs_after t.0 n) (yields_after n)) }
 {
     if let Err(errno) = w.claim(t, e) {
-        let answer = answer_call(t, &call, Answer::Fail(errno), marks)?;
-        return Ok(Next::Done(answer));
+        return done(t, &call, Answer::Fail(errno), marks);
     }
     block(w, t, call, 0, 0, marks)?;
     Ok(Next::Waits)
@@ -73,6 +72,5 @@ pub fn wait_again<P: Program>(
         })?;
         return Ok(Next::Waits);
     }
-    let answer = answer_blocked(w, t, &Call::Wait(e), Answer::Int(i64::from(come)), marks)?;
-    Ok(Next::Done(answer))
+    answer_blocked(w, t, &Call::Wait(e), Answer::Int(i64::from(come)), marks)
 }

@@ -45,7 +45,7 @@ impl Trial {
 
     /// Where it is not yet and an event of the ring has come, it is answered: with the count where a part was written, else with
     /// EINTR.
-    pub(crate) fn unless_come(self, come: bool) -> Trial
+    pub(crate) fn unless_settled(self, come: bool) -> Trial
         requires { self.written < 2 ^ 63 }
         ensures answer { said_or result.answer (blocks_on 0 self.written) ≡ unless_interrupted come (said_or self.answer (blocks_on 0 self.written)) }
         ensures written { result.written ≡ self.written }
@@ -103,6 +103,7 @@ pub(crate) fn try_awaited(k: &mut Kernel, awaits: Awaits) -> Result<Trial, OutOf
 }
 
 /// Whether a thread is woken that waits for this at descriptors: where it is answered, or a part of it can be written.
+#[inline(always)]
 pub(crate) fn wakes_for(k: &Kernel, awaits: Awaits) -> bool
     requires may { MayAwait awaits }
     ensures { result ≡ wakes_for (kernel_of k.now) awaits }

@@ -1,21 +1,23 @@
 //! Which blocked threads have what they wait for.
 
-ghost use Rattle.std.specs.Prelude.{◌≡◌, ◌≢◌, ℕ};
+ghost use Rattle.std.specs.Prelude.{◌≡◌, ◌≢◌, ◌||◌, ℕ};
+ghost use Rattle.pth_model.specs.Calls.{wakes};
 ghost use Rattle.pth_model.specs.Looks.{looks_at};
+ghost use Rattle.pth_model.specs.Pass.{comes_for, is_to_wake};
 ghost use Rattle.pth_model.specs.RingWaits.{awaited_events};
-ghost use Rattle.pth_model.specs.State.{Control};
+ghost use Rattle.pth_model.specs.State.{Control, State};
 ghost use Rattle.pth_threads.specs.Threads.{tid_at};
-ghost use Rattle.pth_waits.specs.Waking.{has_any_died, has_come, has_its_due, is_due};
-ghost use Rattle.pth_world.specs.Shows.{Shows};
+ghost use Rattle.pth_waits.specs.Waking.{has_any_died, has_come};
+ghost use Rattle.pth_world.specs.Shows.{Shows, StandsFor};
 ghost use Rattle.pth_world.specs.Store.{store_of};
 ghost use Rattle.pth_world.specs.Whole.{Whole, MayAwait};
 
 use crate::cancellation::may_be_canceled_at;
-use crate::joins::has_died;
+use crate::joins::{any_has_died, has_died};
 use crate::locking::{is_free_mutex, is_open_lock};
 use crate::looks::look_at_ring;
 use crate::trials::wakes_for;
-use pth_base::ids::Slot;
+use pth_base::ids::{Slot, Tid};
 use pth_base::program::Program;
 use pth_model::awaits::Awaits;
 use pth_world::world::World;
@@ -41,6 +43,17 @@ fn has_come<P: Program>(w: &World<P>, slot: Slot, awaits: Awaits, any_dead: bool
     }
 }
 
+/// Whether the call that blocks a thread has what it waits for; false if no call blocks it.
+pub fn wakes<P: Program>(w: &World<P>, t: Tid) -> bool
+    requires { Whole w.now }
+    ensures { (s : State P P.State P.Shared) → StandsFor w.now s → result ≡ wakes P.functions t.0 s }
+{
+    match w.threads().find(t) {
+        Some(slot) => has_come(w, slot, w.awaited_in(slot).what, any_has_died(w)),
+        None => false,
+    }
+}
+
 // Whether what the blocked thread at a slot waits for has come, where the events of the ring for which it waits are looked at, if it
 // waits for one.
 fn has_come_for<P: Program>(w: &mut World<P>, slot: Slot, any_dead: bool) -> bool
@@ -48,7 +61,7 @@ fn has_come_for<P: Program>(w: &mut World<P>, slot: Slot, any_dead: bool) -> boo
     requires used { tid_at w.old.threads.records slot.0 ≢ 0 }
     requires dead { (k : Control P P.State P.Shared) → Shows w.old k → any_dead ≡ has_any_died k }
     ensures shows { (k : Control P P.State P.Shared) → Shows w.old k → Shows w.new (looks_at k (awaited_events k (tid_at w.old.threads.records slot.0))) }
-    ensures wakes { (k : Control P P.State P.Shared) → Shows w.old k → result ≡ has_its_due (store_of w.old.store) k (tid_at w.old.threads.records slot.0) }
+    ensures wakes { (s : State P P.State P.Shared) → StandsFor w.old s → result ≡ (wakes P.functions (tid_at w.old.threads.records slot.0) s || comes_for s.control (tid_at w.old.threads.records slot.0)) }
     ensures made { w.new.events.made ≡ w.old.events.made }
     ensures same { w.new ≡ record w.old { events = w.new.events } }
 {
@@ -67,7 +80,7 @@ pub fn is_to_wake<P: Program>(w: &mut World<P>, slot: Slot, any_dead: bool) -> b
     requires used { tid_at w.old.threads.records slot.0 ≢ 0 }
     requires dead { (k : Control P P.State P.Shared) → Shows w.old k → any_dead ≡ has_any_died k }
     ensures shows { (k : Control P P.State P.Shared) → Shows w.old k → Shows w.new (looks_at k (awaited_events k (tid_at w.old.threads.records slot.0))) }
-    ensures wakes { (k : Control P P.State P.Shared) → Shows w.old k → result ≡ is_due (store_of w.old.store) k (tid_at w.old.threads.records slot.0) }
+    ensures wakes { (s : State P P.State P.Shared) → StandsFor w.old s → result ≡ is_to_wake P.functions s (tid_at w.old.threads.records slot.0) }
     ensures made { w.new.events.made ≡ w.old.events.made }
     ensures same { w.new ≡ record w.old { events = w.new.events } }
 {

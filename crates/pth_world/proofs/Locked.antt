@@ -9,6 +9,8 @@ use Rattle.pth_base.specs.Naming.{IsTied, seen}
 use Rattle.pth_base.specs.Table.{put, table}
 use Rattle.pth_base.specs.declared.errno.Errno.{Errno}
 use Rattle.pth_base.specs.declared.errno.Errno.TheVariants.{EACCES, EBUSY, EINVAL, EDEADLK}
+use Rattle.pth_base.specs.declared.ids.Slot.{Slot}
+use Rattle.pth_base.specs.declared.ids.Tid.{Tid}
 use Rattle.pth_base.proofs.Lists.{ap_put, put_none}
 use Rattle.pth_base.proofs.Namings.{none_some, seen_at, seen_put}
 use Rattle.pth_base.proofs.Tables.{put_here, put_other, same_fails, same_means, same_self}
@@ -17,13 +19,17 @@ use Rattle.pth_threads.specs.declared.entry.Entry.{Entry}
 use Rattle.pth_lock.specs.Objects.{object_named, is_object}
 use Rattle.pth_lock.specs.Sets.{contains}
 use Rattle.pth_lock.proofs.Bits.{contains-past}
-use Rattle.pth_lock.specs.Mutexes.{mutex_init_answer, mutex_free_answer, mutex_take_answer, mutex_release_answer, Mutex, MutexTable, free_mutex, has, levels_of, mutex_with, owner_of, take_answer, release_answer, mutex_initialised, mutex_taken, mutex_released, mutexes_left}
+use Rattle.pth_lock.specs.Mutexes.{mutex_init_answer, mutex_free_answer, mutex_owner_answer, mutex_take_answer, mutex_release_answer, Mutex, MutexTable, free_mutex, has, levels_of, mutex_with, owner_of, take_answer, release_answer, mutex_initialised, mutex_taken, mutex_released, mutexes_left, slot_numbered}
 use Rattle.pth_lock.specs.RwLocks.{lock_init_answer, lock_free_answer, lock_take_answer, lock_release_answer, LockTables, holds, is_one, is_written, lock_initialised, lock_taken, lock_released, locks_left, no_locks, readers_without, without_slot}
-use Rattle.pth_world.specs.Store.{LocksOf, name_limit, listed, locked_by, locks_of, named_mutex, named_reads, any_unused}
+use Rattle.pth_world.specs.Store.{LocksOf, name_limit, listed, locked_by, locks_of, named_mutex, named_reads, any_unused, owner_answer}
+use Rattle.pth_model.specs.Transition.{tid}
 use Rattle.pth_world.proofs.Listings.{to_at, to_past, to_put, to_none, to_same, seen_gone, seen_new, seen_nothing, read, read_past, read_here, read_one, read_each, none_read}
 
 some_same : (a b : ℕ) → Some a ≡ Some b → a ≡ b
 some_same a b h = cc
+
+some_slot : (a b : Slot) → ◌≡◌ {A = Result (Option Slot) Errno} (Ok (Some a)) (Ok (Some b)) → a ≡ b
+some_slot a b h = cc
 
 -- an object that an operand names
 pub object_low : (o : ℤ) → o <ℤ pos name_limit → object_named o < name_limit
@@ -242,6 +248,31 @@ module _ (x : ThreadsOf) (M : MutexTable) where
   mutex_free_is m low =
       ap (λ (b : Bool). if b then Err EINVAL else Ok (is_none (owner_of (read_mutexes (object_named m))))) (ap (λ (y : Mutex). is_none y) (mutex_at (object_named m) low) ∙ not_some (M (object_named m)))
       ∙ ap (λ (b : Bool). if is_none (M (object_named m)) then Err EINVAL else Ok b) (unowned_mutex (object_named m) low)
+
+  -- the owner at a slot, by number
+  abbrev pub named_owner : Result (Option Slot) Errno → Result (Option Tid) Errno
+  named_owner (Ok o) = Ok (option_map (λ (u : Slot). tid (tid_at x u.0)) o)
+  named_owner (Err e) = Err e
+
+  mutex_owner_is : (m : ℤ) → object_named m < name_limit → owner_answer read_mutexes m ≡ named_owner (mutex_owner_answer M m)
+  mutex_owner_is m low = ap (λ (y : Mutex). if is_none y then Err EINVAL else Ok (option_map tid (owner_of y))) (mutex_at (object_named m) low) ∙ by_mutex (M (object_named m))
+    where
+      by_mutex : (y : Mutex) → (if is_none (named_mutex (tid_at x) y) then Err EINVAL else Ok (option_map tid (owner_of (named_mutex (tid_at x) y)))) ≡ named_owner (if is_none y then Err EINVAL else Ok (option_map slot_numbered (owner_of y)))
+      by_mutex (Some (Some o)) = refl
+      by_mutex (Some None) = refl
+      by_mutex None = refl
+
+  pub owner_named : (m : ℤ) → object_named m < name_limit → (r : Result (Option Slot) Errno) → r ≡ mutex_owner_answer M m → named_owner r ≡ owner_answer read_mutexes m
+  owner_named m low r is = ap named_owner is ∙ sym (mutex_owner_is m low)
+
+  -- if thread 0 has nothing, an owner is somebody
+  pub owner_used : (m : ℤ) (u : Slot) → object_named m < name_limit → Ok (Some u) ≡ mutex_owner_answer M m → ((i : ℕ) → has 0 (read_mutexes i) ≡ false) → tid_at x u.0 ≢ 0
+  owner_used m u low is spare = by_mutex (M (object_named m)) is (sym (ap (has 0) (mutex_at (object_named m) low)) ∙ spare (object_named m))
+    where
+      by_mutex : (y : Mutex) → Ok (Some u) ≡ (if is_none y then Err EINVAL else Ok (option_map slot_numbered (owner_of y))) → has 0 (named_mutex (tid_at x) y) ≡ false → tid_at x u.0 ≢ 0
+      by_mutex (Some (Some o)) is used = λ zero. same_fails (tid_at x o.owner) 0 used (ap (λ (v : Slot). tid_at x v.0) (some_slot (slot_numbered o.owner) u (sym is)) ∙ zero)
+      by_mutex (Some None) is used = absurd (cc is)
+      by_mutex None is used = absurd (cc is)
 
   module _ (t u : ℕ) (tied : IsTied (slot_of x) (tid_at x)) (e : slot_of x t ≡ Some u) where
     pub mutex_take_is : (m : ℤ) → object_named m < name_limit → mutex_take_answer read_mutexes t m ≡ mutex_take_answer M u m

@@ -15,8 +15,13 @@ use Rattle.pth_model.specs.State.{State, Control, Threads, Attributes}
 use Rattle.pth_world.specs.Store.{store_of}
 use Rattle.pth_world.specs.World.{WorldOf, ThreadsBySlot}
 
--- The threads are these under their numbers, and each queue shows the standings in order. Raises, entries, and where in the
--- order of entries a thread stands are not shown: in their place each queue's order and ranks are.
+-- The threads are these under their numbers, and each queue shows the standings in order. Not shown of standings
+-- are three things:
+-- - raises of the ready queue, and those before an entry: a rank shows how many came between the two;
+-- - numbers of entries: the order of equal ranks shows which entry was earlier;
+-- - whether one entered at Top: the rank alone is shown.
+-- So a world stands for states that differ in these, and contracts are said of each of them. What they are in the states of a
+-- run, `queues_are_in_order` (`pth_model`) says.
 pub record ShowsThreads {S : Type 0} (x : ThreadsBySlot S) (k : Threads S) : Type 0 where
   pub made : k.made ≡ x.records.made
   pub known : k.known ≡ seen None (slot_of x.records) (entry_at x.records)

@@ -18,7 +18,7 @@ use Rattle.pth_world.specs.World.{ThreadsBySlot, entry_in}
 abbrev pub IsBare : {A : Type 0} → A → (ℕ → ℕ) → (ℕ → A) → Type 0
 IsBare d tid_at f = (u : ℕ) → tid_at u ≡ 0 → f u ≡ d
 
--- a base priority
+-- a base priority as a world keeps it: that it is one that can be set (`IsSetPrio`) is a law of runs
 pub record IsPrio (prio : ℤ) : Type 0 where
   pub low : neg_ℤ (pos 20) ≤ℤ prio
   pub high : prio ≤ℤ pos 20

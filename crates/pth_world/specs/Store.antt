@@ -1,19 +1,28 @@
--- What threads have, as data: contracts see it by the numbers of threads, and the code keeps it by slot.
-use Rattle.std.specs.Prelude.{ℕ, zero, suc, ◌==◌, ◌&&◌, ◌||◌, ℤ, pos, Bool, false, List, [], map, Option, Some, None, option_map, if◌then◌else◌}
+-- What threads have, as contracts see it: by the numbers of threads. The code keeps it by slot.
+--
+-- What a contract sees of a world is data, and a function is none. So a table is seen here as a list of what it has at each number
+-- that a thread, a key or an object can have, all those below `name_limit`. `listed` makes the list of a table, and `table` reads
+-- it as one again. Such a list stands in statements alone: nothing makes one.
+use Rattle.std.specs.Prelude.{ℕ, zero, suc, ◌==◌, ◌&&◌, ◌||◌, ℤ, pos, Bool, false, List, [], map, Option, Some, None, is_none, option_map, Result, Ok, Err, if◌then◌else◌}
 use Rattle.std.specs.List.{range_with_len}
 use Rattle.pth_base.specs.Naming.{seen}
 use Rattle.pth_base.specs.Table.{table}
+use Rattle.pth_base.specs.declared.errno.Errno.{Errno}
+use Rattle.pth_base.specs.declared.errno.Errno.TheVariants.{EINVAL}
 use Rattle.pth_base.specs.declared.ids.HandlerId.{HandlerId}
+use Rattle.pth_base.specs.declared.ids.Tid.{Tid}
 use Rattle.pth_base.specs.Limits.{thread_limit}
 use Rattle.pth_threads.specs.Threads.{ThreadsOf, slot_of, tid_at}
-use Rattle.pth_lock.specs.Mutexes.{Mutex, MutexTable}
+use Rattle.pth_lock.specs.Mutexes.{Mutex, MutexTable, owner_of}
+use Rattle.pth_lock.specs.Objects.{object_named}
 use Rattle.pth_lock.specs.RwLocks.{LockTables}
 use Rattle.pth_store.specs.Keys.{Tables}
 use Rattle.pth_store.specs.Cleanups.{PushedHandler, Stacks}
 use Rattle.pth_model.specs.Resources.{Store}
+use Rattle.pth_model.specs.Transition.{tid}
 pub use Rattle.pth_model.specs.Resources.{HasNothing}
 
--- numbers of threads, and the keys that operands name, are below
+-- the numbers of threads are below, and the keys and objects that operands name
 abbrev pub name_limit : ℕ
 name_limit = 9223372036854775808
 
@@ -53,6 +62,9 @@ store_of x = record {
   rw_locks = locks_of x.rw_locks;
 }
 
+-- What stands at a slot that is not used counts as that of thread 0, which is nobody. A world that is whole has nothing for a thread
+-- that is not alive (`StoresAlive`): so it has nothing at such a slot, and a thread that is made there begins with nothing.
+
 -- a mutex, its owner by number: 0 where the slot is not used
 abbrev pub named_mutex : (ℕ → ℕ) → Mutex → Mutex
 named_mutex tid_at (Some (Some o)) = Some (Some (record { owner = tid_at o.owner; levels = o.levels }))
@@ -85,3 +97,9 @@ stored_by x keys cleanups mutexes locks = record {
   mutexes = listed (λ m. named_mutex (tid_at x) (mutexes m));
   rw_locks = locked_by x locks;
 }
+
+-- who has a mutex
+abbrev pub owner_answer : MutexTable → ℤ → Result (Option Tid) Errno
+owner_answer x m =
+    if is_none (x (object_named m)) then Err EINVAL else
+    Ok (option_map tid (owner_of (x (object_named m))))

@@ -8,4 +8,5 @@
 //! Refused, a change shows what was shown before. After want of memory in `next_call` nothing is said of the world.
 #![tactic(auto)]
 
+pub mod laws;
 pub mod world;

@@ -126,6 +126,7 @@ impl<P: Program> World<P> {
     ghost use Rattle.pth_threads.specs.Threads.{number_of};
 
     /// The records of the threads.
+    #[inline(always)]
     pub fn threads(&self) -> &Threads
         ensures { result.now ≡ self.now.threads.records }
     {
@@ -133,18 +134,21 @@ impl<P: Program> World<P> {
     }
 
     /// The queues.
+    #[inline(always)]
     pub fn queues(&self) -> &QueueSet
         ensures { result.now ≡ self.now.threads.queues }
     {
         self.queues.queues()
     }
 
+    #[inline(always)]
     fn progress(&self) -> &ProgressTable<P::State>
         ensures { result.now ≡ self.now.threads.progress }
     {
         &self.progress
     }
 
+    #[inline(always)]
     fn queues_mut(&mut self) -> &mut CountedQueues
         ensures* writes_back { sem 𝓛 (Lends (the_row P.row P.State.row P.Shared.row P.Program) queues_row self.entry result (λ x. record self.old { threads = record self.old.threads { queues = x } })) }
         ensures value { result.now ≡ self.old.threads.queues }
@@ -152,6 +156,7 @@ impl<P: Program> World<P> {
         &mut self.queues
     }
 
+    #[inline(always)]
     fn progress_mut(&mut self) -> &mut ProgressTable<P::State>
         ensures* writes_back { sem 𝓛 (Lends (the_row P.row P.State.row P.Shared.row P.Program) (progress_row P.State.row) self.entry result (λ x. record self.old { threads = record self.old.threads { progress = x } })) }
         ensures value { result.now ≡ self.old.threads.progress }
@@ -160,6 +165,7 @@ impl<P: Program> World<P> {
     }
 
     // The slot of a thread in the system.
+    #[inline(always)]
     fn slot(&self, t: Tid) -> Slot
         requires { IsKnown self.now.threads t.0 }
         ensures slot { slot_of self.now.threads.records t.0 ≡ Some result.0 }
@@ -171,14 +177,14 @@ impl<P: Program> World<P> {
         }
     }
 
-    // The base priority of a thread.
-    fn prio(&self, t: Tid) -> i64
+    // The base priority of the thread at a slot.
+    #[inline(always)]
+    fn prio(&self, t: Tid, slot: Slot) -> i64
         requires sound { IsSound self.now.threads }
-        requires known { IsKnown self.now.threads t.0 }
+        requires at { slot_of self.now.threads.records t.0 ≡ Some slot.0 }
         ensures prio { (k : Control P P.State P.Shared) → Shows self.now k → result ≡ prio_of k t.0 }
         ensures low { IsPrio result }
     {
-        let slot = self.slot(t);
         self.threads().get(slot).prio
     }
 

@@ -8,7 +8,8 @@ ghost use Rattle.pth_lock.specs.Sets.{contains};
 ghost use Rattle.pth_model.specs.Resources.{with_mutexes, with_rw_locks};
 ghost use Rattle.pth_world.specs.Keeps.{KeepsAllButStore};
 ghost use Rattle.pth_world.specs.Sound.{IsSound, IsKnown, IsAlive};
-ghost use Rattle.pth_world.specs.Store.{store_of};
+ghost use Rattle.pth_world.specs.Store.{owner_answer, store_of};
+ghost use Rattle.pth_world.specs.Whole.{Whole};
 
 use crate::world::World;
 use pth_base::errno::Errno;
@@ -71,6 +72,18 @@ impl<P: Program> World<P> {
         ensures { result ≡ mutex_free_answer (store_of self.now.store).mutexes m }
     {
         self.mutexes.is_free(m)
+    }
+
+    /// Who has a mutex, None if it is free: EINVAL if it is not initialised.
+    pub fn mutex_owner(&self, m: i64) -> Result<Option<Tid>, Errno>
+        requires { Whole self.now }
+        ensures { result ≡ owner_answer (store_of self.now.store).mutexes m }
+    {
+        match self.mutexes.owner(m) {
+            Ok(Some(slot)) => Ok(Some(self.thread_in(slot))),
+            Ok(None) => Ok(None),
+            Err(errno) => Err(errno),
+        }
     }
 
     /// A read-write lock can be taken from now on (`pth_rwlock_init`): EINVAL where it is not one from 0 to 63, EBUSY where it is

@@ -62,13 +62,11 @@ impl<P: Program> World<P> {
         ensures ranks { KeepsRanks 0 self.old.threads self.new.threads }
         ensures same { self.new ≡ record self.old { threads = self.new.threads; scheduler = record self.old.scheduler { running = Some t.0; preferred = None } } }
     {
-        self.take_out(t);
-        let dispatches = match self.entry(t) {
-            Some(entry) => entry.dispatches,
-            None => unreachable!(),
-        };
-        self.change(t, Change::State(ThreadState::Running));
-        self.change(t, Change::Dispatches(one_more(dispatches)));
+        let slot = self.slot(t);
+        self.take_from(t, slot);
+        let dispatches = self.record_of(t, slot).dispatches;
+        self.change_of(t, slot, Change::State(ThreadState::Running));
+        self.change_of(t, slot, Change::Dispatches(one_more(dispatches)));
         self.set_running(Some(t));
         self.name_next(None);
     }
@@ -85,9 +83,10 @@ impl<P: Program> World<P> {
         ensures stays { (u : ℕ) → WaitsToRun self.old.threads u → WaitsToRun self.new.threads u }
         ensures same { self.new ≡ record self.old { threads = self.new.threads; scheduler = record self.old.scheduler { running = None } } }
     {
-        let prio = self.prio(t);
+        let slot = self.slot(t);
+        let prio = self.prio(t, slot);
         self.set_running(None);
-        self.put_ready(t, prio);
+        self.put_ready_at(t, slot, prio);
     }
 
     /// The thread that runs waits, at its base priority.

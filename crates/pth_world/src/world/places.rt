@@ -13,7 +13,7 @@ ghost use Rattle.pth_world.specs.Whole.{Whole, WholeBut, WaitsToRun, view};
 ghost use Rattle.pth_world.specs.Touches.{Touches, view_placed};
 
 use crate::world::World;
-use pth_base::ids::Tid;
+use pth_base::ids::{Slot, Tid};
 use pth_base::program::Program;
 use pth_queue::queue::Queue;
 
@@ -32,6 +32,23 @@ impl<P: Program> World<P> {
         ensures same { self.new ≡ record self.old { threads = record self.old.threads { queues = self.new.threads.queues } } }
     {
         let slot = self.slot(t);
+        self.put_at(t, slot, q, rank);
+    }
+
+    // Puts the thread at a slot, which stands nowhere, into a queue at a rank, and leaves its state.
+    #[inline(always)]
+    pub(crate) fn put_at(&mut self, t: Tid, slot: Slot, q: Queue, rank: i64)
+        requires sound { IsSound self.old.threads }
+        requires at { slot_of self.old.threads.records t.0 ≡ Some slot.0 }
+        requires nowhere { IfSome (slot_of self.old.threads.records t.0) (λ u. IsNowhere u self.old.threads.queues) }
+        requires rank { IsRank rank }
+        ensures shows { (k : Control P P.State P.Shared) (top : Bool) → Shows self.old k → Shows self.new (enters t.0 q rank top k) }
+        ensures sound { IsSound self.new.threads }
+        ensures touches { Touches self.old.threads self.new.threads t.0 (view_placed (Some q)) }
+        ensures but { WholeBut self.old t.0 → WholeBut self.new t.0 }
+        ensures queues { IfSome (slot_of self.old.threads.records t.0) (λ u. self.new.threads.queues ≡ entered q rank u self.old.threads.queues) }
+        ensures same { self.new ≡ record self.old { threads = record self.old.threads { queues = self.new.threads.queues } } }
+    {
         self.queues_mut().insert(q, rank, slot);
     }
 
@@ -47,6 +64,21 @@ impl<P: Program> World<P> {
         ensures same { self.new ≡ record self.old { threads = record self.old.threads { queues = self.new.threads.queues } } }
     {
         let slot = self.slot(t);
+        self.take_from(t, slot);
+    }
+
+    // Takes the thread at a slot out of its queue, if it stands in one, and leaves its state.
+    #[inline(always)]
+    pub(crate) fn take_from(&mut self, t: Tid, slot: Slot)
+        requires sound { IsSound self.old.threads }
+        requires at { slot_of self.old.threads.records t.0 ≡ Some slot.0 }
+        ensures shows { (k : Control P P.State P.Shared) → Shows self.old k → Shows self.new (leaves_queue t.0 k) }
+        ensures sound { IsSound self.new.threads }
+        ensures touches { Touches self.old.threads self.new.threads t.0 (view_placed None) }
+        ensures but { WholeBut self.old t.0 → WholeBut self.new t.0 }
+        ensures queues { IfSome (slot_of self.old.threads.records t.0) (λ u. self.new.threads.queues ≡ without u self.old.threads.queues) }
+        ensures same { self.new ≡ record self.old { threads = record self.old.threads { queues = self.new.threads.queues } } }
+    {
         match self.queues().queue_of(slot) {
             Some(_) => {
                 self.queues_mut().delete(slot);

@@ -91,6 +91,7 @@ impl<P: Program> World<P> {
     }
 
     /// The call that blocks a thread; none where no call does.
+    #[inline(always)]
     pub fn blocked(&self, t: Tid) -> Option<&Blocked>
         requires { IsSound self.now.threads }
         ensures blocked { (k : Control P P.State P.Shared) → Shows self.now k → option_copied result ≡ blocked_of k t.0 }

@@ -5,7 +5,7 @@ ghost use Rattle.pth_queue.specs.declared.queue.Queue.TheVariants as queue;
 ghost use Rattle.pth_queue.specs.declared.ranked.Ranked.{Ranked};
 ghost use Rattle.pth_queue.specs.Ranking.{holds, head_of, last_of, place_in, favour_top};
 ghost use Rattle.pth_queue.specs.Queues.{rows_of};
-ghost use Rattle.pth_threads.specs.Threads.{tid_at, number_of};
+ghost use Rattle.pth_threads.specs.Threads.{slot_of, tid_at, number_of};
 ghost use Rattle.pth_model.specs.State.{Control, queue};
 ghost use Rattle.pth_model.specs.Changes.{holders, is_empty};
 ghost use Rattle.pth_model.specs.Part.{rank_by};
@@ -25,6 +25,7 @@ use pth_threads::entry::Entry;
 
 impl<P: Program> World<P> {
     /// The record of a thread; none where it is not in the system.
+    #[inline(always)]
     pub fn entry(&self, t: Tid) -> Option<&Entry>
         requires { IsSound self.now.threads }
         ensures entry { (k : Control P P.State P.Shared) → Shows self.now k → option_copied result ≡ k.threads.known t.0 }
@@ -39,6 +40,16 @@ impl<P: Program> World<P> {
             Some(slot) => Some(self.threads().get(slot)),
             None => None,
         }
+    }
+
+    // The record of the thread at a slot.
+    #[inline(always)]
+    pub(crate) fn record_of(&self, t: Tid, slot: Slot) -> &Entry
+        requires sound { IsSound self.now.threads }
+        requires at { slot_of self.now.threads.records t.0 ≡ Some slot.0 }
+        ensures { (k : Control P P.State P.Shared) → Shows self.now k → Some result.now ≡ k.threads.known t.0 }
+    {
+        self.threads().get(slot)
     }
 
     /// The record of the thread in the system that an operand names; none if no thread in the system has this number.
@@ -60,6 +71,7 @@ impl<P: Program> World<P> {
     }
 
     // The thread whose slot stands in a queue.
+    #[inline(always)]
     fn thread_at(&self, slot: Option<Slot>, q: Queue) -> Option<Tid>
         requires sound { IsSound self.now.threads }
         requires holds { IfSome slot (λ u. holds u.0 (rows_of q self.now.threads.queues) ≡ true) }
@@ -74,6 +86,7 @@ impl<P: Program> World<P> {
     }
 
     /// The first thread of a queue (`pth_pqueue_head`).
+    #[inline(always)]
     pub fn first(&self, q: Queue) -> Option<Tid>
         requires sound { IsSound self.now.threads }
         ensures none { result ≡ None → rows_of q self.now.threads.queues ≡ [] }
@@ -85,6 +98,7 @@ impl<P: Program> World<P> {
     }
 
     /// The last thread of a queue (`pth_pqueue_tail`).
+    #[inline(always)]
     pub fn last(&self, q: Queue) -> Option<Tid>
         requires sound { IsSound self.now.threads }
         ensures none { result ≡ None → rows_of q self.now.threads.queues ≡ [] }
@@ -107,6 +121,7 @@ impl<P: Program> World<P> {
     }
 
     /// Whether no thread stands in a queue.
+    #[inline(always)]
     pub fn is_empty(&self, q: Queue) -> bool
         requires { IsSound self.now.threads }
         ensures empty { (k : Control P P.State P.Shared) → Shows self.now k → result ≡ is_empty (queue k q) }
@@ -141,6 +156,7 @@ impl<P: Program> World<P> {
     }
 
     // Whether no other thread than t stands in a queue.
+    #[inline(always)]
     fn is_only(&self, t: Tid, q: Queue) -> bool
         requires { IsSound self.now.threads }
         ensures { (k : Control P P.State P.Shared) → Shows self.now k → result ≡ only t.0 (holders (queue k q)) }
@@ -152,6 +168,7 @@ impl<P: Program> World<P> {
     }
 
     /// Whether no other thread than t is new, ready, waiting or suspended.
+    #[inline(always)]
     pub fn is_alone(&self, t: Tid) -> bool
         requires { IsSound self.now.threads }
         ensures { (k : Control P P.State P.Shared) → Shows self.now k → result ≡ is_alone k t.0 }

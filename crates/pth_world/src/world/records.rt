@@ -164,6 +164,7 @@ impl<P: Program> World<P> {
     }
 
     // Sets one field of the record at a slot.
+    #[inline(always)]
     fn change_at(&mut self, s: Slot, c: Change)
         requires used { tid_at self.old.threads.records s.0 ≢ 0 }
         requires countable { IsCountable c }
@@ -187,6 +188,23 @@ impl<P: Program> World<P> {
         ensures same { self.new ≡ record self.old { threads = record self.old.threads { records = self.new.threads.records } } }
     {
         let slot = self.slot(t);
+        self.change_of(t, slot, c);
+    }
+
+    // Sets one field of the record of the thread at a slot.
+    #[inline(always)]
+    pub(crate) fn change_of(&mut self, t: Tid, slot: Slot, c: Change)
+        requires sound { IsSound self.old.threads }
+        requires at { slot_of self.old.threads.records t.0 ≡ Some slot.0 }
+        requires attributes { KeepsAttributes c }
+        requires countable { IsCountable c }
+        ensures shows { (k : Control P P.State P.Shared) → Shows self.old k → Shows self.new (sets t.0 c k) }
+        ensures sound { IsSound self.new.threads }
+        ensures touches { Touches self.old.threads self.new.threads t.0 (view_changed c) }
+        ensures but { WholeBut self.old t.0 → WholeBut self.new t.0 }
+        ensures threads { SameThreads self.old.threads self.new.threads }
+        ensures same { self.new ≡ record self.old { threads = record self.old.threads { records = self.new.threads.records } } }
+    {
         self.change_at(slot, c);
     }
 
@@ -330,8 +348,27 @@ impl<P: Program> World<P> {
         ensures queues { IfSome (slot_of self.old.threads.records t.0) (λ u. self.new.threads.queues ≡ entered queue.Ready rank u self.old.threads.queues) }
         ensures same { self.new ≡ record self.old { threads = record self.old.threads { records = self.new.threads.records; queues = self.new.threads.queues } } }
     {
-        self.change(t, Change::State(ThreadState::Ready));
-        self.put_in(t, Queue::Ready, rank);
+        let slot = self.slot(t);
+        self.put_ready_at(t, slot, rank);
+    }
+
+    // Makes the thread at a slot ready, and puts it into the ready queue at a rank.
+    #[inline(always)]
+    pub(crate) fn put_ready_at(&mut self, t: Tid, slot: Slot, rank: i64)
+        requires sound { IsSound self.old.threads }
+        requires at { slot_of self.old.threads.records t.0 ≡ Some slot.0 }
+        requires nowhere { IfSome (slot_of self.old.threads.records t.0) (λ u. IsNowhere u self.old.threads.queues) }
+        requires rank { IsRank rank }
+        ensures shows { (k : Control P P.State P.Shared) (top : Bool) → Shows self.old k → Shows self.new (enters t.0 queue.Ready rank top (sets t.0 (change.State state.Ready) k)) }
+        ensures sound { IsSound self.new.threads }
+        ensures touches { Touches self.old.threads self.new.threads t.0 (λ v. view_placed (Some queue.Ready) (view_changed (change.State state.Ready) v)) }
+        ensures but { WholeBut self.old t.0 → WholeBut self.new t.0 }
+        ensures threads { SameThreads self.old.threads self.new.threads }
+        ensures queues { IfSome (slot_of self.old.threads.records t.0) (λ u. self.new.threads.queues ≡ entered queue.Ready rank u self.old.threads.queues) }
+        ensures same { self.new ≡ record self.old { threads = record self.old.threads { records = self.new.threads.records; queues = self.new.threads.queues } } }
+    {
+        self.change_of(t, slot, Change::State(ThreadState::Ready));
+        self.put_at(t, slot, Queue::Ready, rank);
     }
 
     /// Makes a thread wait, and puts it into the waiting queue at its base priority.
@@ -347,8 +384,9 @@ impl<P: Program> World<P> {
         ensures queues { IfSome (slot_of self.old.threads.records t.0) (λ u. (prio : ℤ) × IsPrio prio × (self.new.threads.queues ≡ entered queue.Waiting prio u self.old.threads.queues)) }
         ensures same { self.new ≡ record self.old { threads = record self.old.threads { records = self.new.threads.records; queues = self.new.threads.queues } } }
     {
-        let prio = self.prio(t);
-        self.change(t, Change::State(ThreadState::Waiting));
-        self.put_in(t, Queue::Waiting, prio);
+        let slot = self.slot(t);
+        let prio = self.prio(t, slot);
+        self.change_of(t, slot, Change::State(ThreadState::Waiting));
+        self.put_at(t, slot, Queue::Waiting, prio);
     }
 }

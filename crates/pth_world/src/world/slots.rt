@@ -34,6 +34,7 @@ impl<P: Program> World<P> {
     }
 
     /// The thread at a slot.
+    #[inline(always)]
     pub fn thread_in(&self, s: Slot) -> Tid
         requires sound { IsSound self.now.threads }
         requires used { tid_at self.now.threads.records s.0 ≢ 0 }
@@ -44,6 +45,7 @@ impl<P: Program> World<P> {
     }
 
     /// The record of the thread at a slot.
+    #[inline(always)]
     pub fn entry_at(&self, s: Slot) -> &Entry
         requires sound { IsSound self.now.threads }
         requires used { tid_at self.now.threads.records s.0 ≢ 0 }
@@ -54,6 +56,7 @@ impl<P: Program> World<P> {
     }
 
     /// What the thread at a slot waits for: nothing where no call blocks it. It reads no call.
+    #[inline(always)]
     pub fn awaited_in(&self, s: Slot) -> Awaited
         requires sound { IsSound self.now.threads }
         requires used { tid_at self.now.threads.records s.0 ≢ 0 }

@@ -10,7 +10,8 @@ use Rattle.pth_world.proofs.Telling.{quiet_leads, quiet-refused}
 use Rattle.pth_end.proofs.Chains.{leads_then, cut_one, cut_second}
 use Rattle.pth_calls.proofs.Canceling.{abort_begun, abort_refused, quiet_abort}
 use Rattle.pth_world.proofs.Frames.{frame_as, still_frame}
-use Rattle.pth_calls.proofs.Framing.{done_frame, runs_unless}
+use Rattle.pth_end.proofs.Framing.{done_frame}
+use Rattle.pth_calls.proofs.Framing.{runs_unless}
 use Rattle.pth_calls.proofs.cancellation.abort.Goals as goal
 
 pub returns-in-Err-clause-next : goal.returns-in-Err-clause-next

@@ -10,7 +10,8 @@ use Rattle.pth_world.proofs.Telling.{quiet_leads, quiet-refused}
 use Rattle.pth_end.proofs.Chains.{leads_then, cut_one, cut_second}
 use Rattle.pth_calls.proofs.Canceling.{cancel_begun, cancel_refused, quiet_cancel}
 use Rattle.pth_world.proofs.Frames.{frame_as, still_frame}
-use Rattle.pth_calls.proofs.Framing.{done_frame, runs_if}
+use Rattle.pth_end.proofs.Framing.{done_frame}
+use Rattle.pth_calls.proofs.Framing.{runs_if}
 use Rattle.pth_calls.proofs.cancellation.cancel.Goals as goal
 
 pub returns-in-Err-clause-next : goal.returns-in-Err-clause-next

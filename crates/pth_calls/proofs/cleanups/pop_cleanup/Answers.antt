@@ -12,7 +12,7 @@ use Rattle.pth_numbered.specs.Operands.{is_zero}
 use Rattle.pth_store.specs.Cleanups.{pop_answer}
 use Rattle.pth_world.proofs.Telling.{quiet_leads, quiet-refused, tells_leads}
 use Rattle.pth_end.proofs.Chains.{leads_then, cut_one, cut_second}
-use Rattle.pth_calls.proofs.Framing.{done_frame}
+use Rattle.pth_end.proofs.Framing.{done_frame}
 use Rattle.pth_calls.proofs.Storing.{pop_refused, pop_runs, popped_tells}
 use Rattle.pth_world.proofs.Frames.{frame_then, still_frame}
 use Rattle.pth_end.proofs.Handled.{handled_frame, stored_frame}

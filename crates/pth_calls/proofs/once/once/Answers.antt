@@ -8,7 +8,7 @@ use Rattle.pth_model.specs.Row.{effect_of}
 use Rattle.pth_model.specs.Transition.{tells}
 use Rattle.pth_world.proofs.Telling.{quiet_leads}
 use Rattle.pth_end.proofs.Chains.{leads_then, cut_second}
-use Rattle.pth_calls.proofs.Framing.{done_frame}
+use Rattle.pth_end.proofs.Framing.{done_frame}
 use Rattle.pth_calls.proofs.Storing.{once_begun, once_cut, quiet_once}
 use Rattle.pth_calls.proofs.once.once.Goals as goal
 

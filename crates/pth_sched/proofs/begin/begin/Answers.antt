@@ -1,16 +1,6 @@
-use Rattle.std.proofs.Common.{◌∙◌, refl, sym}
-use Rattle.std.proofs.lemmas.List.{append-nil}
-use Rattle.pth_model.specs.Calls.{begun}
+use Rattle.std.proofs.Common.{◌∙◌, sym}
 use Rattle.pth_sched.proofs.Begins.{never_blocks}
 use Rattle.pth_sched.proofs.begin.begin.Goals as goal
-
-pub returns-in-Plain-clause-next : goal.returns-in-Plain-clause-next
-unfolding begun
-returns-in-Plain-clause-next g c s st = rw c.in-Plain.is refl
-
-pub returns-in-Plain-clause-ok : goal.returns-in-Plain-clause-ok
-unfolding begun
-returns-in-Plain-clause-ok g c s st = rw c.in-Plain.is (record { stands = st; tells = sym (append-nil _) })
 
 pub begin_at_once-requires-clause-never : goal.begin_at_once-requires-clause-never
 begin_at_once-requires-clause-never g c =

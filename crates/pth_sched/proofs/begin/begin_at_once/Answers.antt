@@ -1,9 +1,6 @@
-use Rattle.std.proofs.Common.{refl, sym, rules, SFits, w64, to_z-of_z}
+use Rattle.std.proofs.Common.{refl, sym}
 use Rattle.std.proofs.lemmas.List.{append-nil}
 use Rattle.pth_model.specs.Calls.{begun}
-use Rattle.pth_model.specs.Resources.{told}
-use Rattle.pth_world.proofs.Telling.{quiet_leads}
-use Rattle.pth_sched.proofs.Begins.{is_plain_call}
 use Rattle.pth_sched.proofs.begin.begin_at_once.Goals as goal
 
 pub returns-in-Plain-clause-next : goal.returns-in-Plain-clause-next
@@ -14,16 +11,8 @@ pub returns-in-Plain-clause-ok : goal.returns-in-Plain-clause-ok
 unfolding begun
 returns-in-Plain-clause-ok g c s st = rw c.in-Plain.is (record { stands = st; tells = sym (append-nil _) })
 
-pub returns-in_ok-note-in-Note-clause-next : goal.returns-in_ok-note-in-Note-clause-next
-unfolding begun
-returns-in_ok-note-in-Note-clause-next g c s st = rw c.in-Note.is refl
+pub begin_told-requires-clause-not_plain : goal.begin_told-requires-clause-not_plain
+begin_told-requires-clause-not_plain g c = c.in_default.not-Plain
 
-pub returns-in_ok-note-in-Note-clause-ok : goal.returns-in_ok-note-in-Note-clause-ok
-unfolding begun told
-returns-in_ok-note-in-Note-clause-ok g c s st =
-    let fits : SFits w64 c.in-Note.value = search rules in
-    rw c.in-Note.is (quiet_leads _ s _ _ _ (λ x. refl) st (rw to_z-of_z at c.in_ok-note-in-Note.ensures.ok))
-
-pub begin_plain-requires-clause-plain : goal.begin_plain-requires-clause-plain
-begin_plain-requires-clause-plain g c =
-    is_plain_call c.args.call.now c.requires.never c.in_default.not-Kill c.in_default.not-Yield c.in_default.not-Plain c.in_default.not-Note c.in_default.not-CleanupPop c.in_default.not-Once c.in_default.not-Cancel c.in_default.not-Abort c.in_default.not-CancelPoint
+pub begin_told-requires-clause-no_yield : goal.begin_told-requires-clause-no_yield
+begin_told-requires-clause-no_yield g c = c.in_default.not-Yield

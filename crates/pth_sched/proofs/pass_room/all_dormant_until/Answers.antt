@@ -1,9 +1,8 @@
-use Rattle.std.proofs.Common.{◌≡◌, ◌<◌, ◌+◌, ℕ, All, map, take, min, length, slice_index_or, sym, subst, arith}
+use Rattle.std.proofs.Common.{◌≡◌, ◌<◌, ◌+◌, ℕ, All, take, min, sym, subst, arith}
 use Rattle.std.proofs.lemmas.List.{take_all}
 use Rattle.std.proofs.lemmas.List.Elements.{All-map, All-more, All-weaker}
 use Rattle.pth_base.specs.declared.ids.Slot.{Slot}
 use Rattle.pth_threads.specs.Threads.{tid_at}
-use Rattle.pth_model.specs.Pass.{waiting}
 use Rattle.pth_world.specs.Store.{store_of}
 use Rattle.pth_waits.specs.Dormant.{IsDormant}
 use Rattle.pth_waits.proofs.Dormancy.{dormant_sooner}

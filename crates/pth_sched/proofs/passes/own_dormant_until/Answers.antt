@@ -1,4 +1,3 @@
-use Rattle.std.proofs.Common.{◌∙◌, ap}
 use Rattle.pth_sched.proofs.CalmWorlds.{gone_waits}
 use Rattle.pth_sched.proofs.passes.own_dormant_until.Goals as goal
 

@@ -1,7 +1,8 @@
-use Rattle.std.proofs.Common.{◌∙◌, ap, sym, refl}
-use Rattle.std.proofs.lemmas.Result.{err_from_is_err_and}
-use Rattle.pth_model.specs.declared.next.Next.TheVariants.{Done}
+use Rattle.std.proofs.Common.{◌∙◌, sym, refl}
+use Rattle.std.proofs.lemmas.Result.{IfOk-weaker, err_from_is_err_and, on_ok_weaker}
+use Rattle.pth_world.proofs.Frames.{still_frame}
 use Rattle.pth_world.proofs.Telling.{quiet_leads}
+use Rattle.pth_end.proofs.Framing.{done_frame}
 use Rattle.pth_waits.proofs.Canceling.{point_ends, point_says, quiet_point}
 use Rattle.pth_waits.proofs.cancellation.cancel_point.Goals as goal
 
@@ -17,9 +18,13 @@ pub returns-then-is_asked-clause-ok : goal.returns-then-is_asked-clause-ok
 returns-then-is_asked-clause-ok g c s st = rw (c.requires.call, point_ends g.P.Program.functions s c.args.t.0 (sym (c.is_asked.ensures s.control st.control) ∙ c.if-is_asked.true)) (c.in_ok-cancel_within.ensures.ok s st)
 
 pub returns-clause-next : goal.returns-clause-next
-returns-clause-next g c s st = rw (c.requires.call, point_says g.P.Program.functions s c.args.t.0 (sym (c.is_asked.ensures s.control st.control) ∙ c.if-is_asked.false)) (ap Done c.in_ok-answer.ensures.value)
+returns-clause-next g c =
+    IfOk-weaker c.done.result _ _ (λ next is s st. rw (c.requires.call, point_says g.P.Program.functions s c.args.t.0 (sym (c.is_asked.ensures s.control st.control) ∙ c.if-is_asked.false)) is) c.done.ensures.next
 
 pub returns-clause-ok : goal.returns-clause-ok
-returns-clause-ok g c s st =
+returns-clause-ok g c = on_ok_weaker c.done.result (λ told s st.
     rw (c.requires.call, point_says g.P.Program.functions s c.args.t.0 (sym (c.is_asked.ensures s.control st.control) ∙ c.if-is_asked.false))
-    (quiet_leads c.args.w.now s _ _ _ (quiet_point c.args.t) st (rw c.requires.call at c.in_ok-answer.ensures.ok))
+    (quiet_leads c.args.w.now s _ _ _ (quiet_point c.args.t) st (rw c.requires.call at told))) c.done.ensures.ok
+
+pub returns-clause-frame : goal.returns-clause-frame
+returns-clause-frame g c = done_frame c.args.w.now c.args.w.now c.args.t.0 c.done.result _ c.done.ensures.next (still_frame 0 c.args.w.now _ c.requires.runs c.requires.whole)

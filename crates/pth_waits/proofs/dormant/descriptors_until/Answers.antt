@@ -1,6 +1,5 @@
 use Rattle.std.proofs.Common.{◌∙◌, sym}
 use Rattle.pth_kernel.specs.Kernel.{kernel_of}
-use Rattle.pth_waits.specs.Dormant.{deadline_in}
 use Rattle.pth_waits.proofs.Arrivals.{until_deadline}
 use Rattle.pth_waits.proofs.dormant.descriptors_until.Goals as goal
 

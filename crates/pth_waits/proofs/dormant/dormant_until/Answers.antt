@@ -1,5 +1,4 @@
-use Rattle.std.proofs.Common.{◌≡◌, ◌<◌, ◌∙◌, ℕ, false, sym, subst, rules, SFits, w64, to_z-of_z, arith}
-use Rattle.pth_model.specs.Cancellation.{may_be_canceled}
+use Rattle.std.proofs.Common.{◌<◌, ◌∙◌, ℕ, sym, subst, rules, SFits, w64, to_z-of_z, arith}
 use Rattle.pth_threads.specs.Threads.{tid_at}
 use Rattle.pth_world.specs.Store.{store_of}
 use Rattle.pth_waits.specs.Dormant.{IsDormant}

@@ -1,7 +1,7 @@
 use Rattle.std.proofs.Common.{◌≡◌, ◌∙◌, ℕ, ap, sym, subst, arith, rules, SFits, w64, to_z-of_z}
 use Rattle.pth_numbered.specs.Operands.{number}
 use Rattle.pth_ring.specs.Rings.{Events, settled_in}
-use Rattle.pth_waits.specs.Dormant.{ArePending, AreFoundPending}
+use Rattle.pth_waits.specs.Dormant.{AreFoundPending}
 use Rattle.pth_waits.proofs.Rounding.{ring_stays}
 use Rattle.pth_waits.proofs.dormant.ring_until.Goals as goal
 

@@ -1,26 +1,32 @@
 use Rattle.std.proofs.Common.{◌≡◌, ◌==◌, true, false, pos, refl, ap, sym, ◌∙◌, rules}
+use Rattle.std.proofs.lemmas.Result.{IfOk-weaker, on_ok_weaker}
 use Rattle.pth_base.specs.declared.answer.Answer.TheVariants.{Int}
 use Rattle.pth_base.specs.declared.call.Call.TheVariants.{Kill}
 use Rattle.pth_base.specs.declared.errno.Errno.TheVariants.{EPERM}
 use Rattle.pth_base.specs.declared.mark.Mark.TheVariants.{Answered}
 use Rattle.pth_model.specs.Resources.{Store, no_resources, told}
 use Rattle.pth_model.specs.State.{main}
-use Rattle.pth_model.specs.declared.next.Next.TheVariants.{Done}
+use Rattle.pth_world.proofs.Frames.{still_frame}
 use Rattle.pth_world.proofs.Telling.{quiet_leads, quiet-refused}
 use Rattle.pth_world.specs.Store.{store_of}
+use Rattle.pth_end.proofs.Framing.{done_frame}
 use Rattle.pth_waits.proofs.Kills.{kill_refused, kill_ends, kill-told}
 use Rattle.pth_waits.proofs.library_ends.kill.Goals as goal
 
 pub returns-then-t-ne-MAIN-clause-next : goal.returns-then-t-ne-MAIN-clause-next
-returns-then-t-ne-MAIN-clause-next g c s st =
+returns-then-t-ne-MAIN-clause-next g c =
     let other : (c.args.t.0 == main) ≡ false = search rules in
-    rw (c.requires.call, kill_refused g.P.Program.functions s c.args.t.0 other) (ap Done c.in_ok-answer.ensures.value)
+    IfOk-weaker c.done.result _ _ (λ next is s st. rw (c.requires.call, kill_refused g.P.Program.functions s c.args.t.0 other) is) c.done.ensures.next
 
 pub returns-then-t-ne-MAIN-clause-ok : goal.returns-then-t-ne-MAIN-clause-ok
-returns-then-t-ne-MAIN-clause-ok g c s st =
+returns-then-t-ne-MAIN-clause-ok g c =
     let other : (c.args.t.0 == main) ≡ false = search rules in
+    on_ok_weaker c.done.result (λ told s st.
     rw (c.requires.call, kill_refused g.P.Program.functions s c.args.t.0 other)
-    (quiet_leads _ s _ _ _ (quiet-refused c.args.t Kill EPERM) st (rw c.requires.call at c.in_ok-answer.ensures.ok))
+    (quiet_leads c.args.w.now s _ _ _ (quiet-refused c.args.t Kill EPERM) st (rw c.requires.call at told))) c.done.ensures.ok
+
+pub returns-then-t-ne-MAIN-clause-frame : goal.returns-then-t-ne-MAIN-clause-frame
+returns-then-t-ne-MAIN-clause-frame g c = done_frame c.args.w.now c.args.w.now c.args.t.0 c.done.result _ c.done.ensures.next (still_frame 0 c.args.w.now _ c.requires.runs c.requires.whole)
 
 pub returns-clause-next : goal.returns-clause-next
 returns-clause-next g c s st =

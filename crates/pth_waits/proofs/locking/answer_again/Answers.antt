@@ -10,5 +10,5 @@ take_awaited-requires-clause-alive g c = runner_alive c.args.w.now c.args.t.0 c.
 pub returns-then-take_awaited-clause-tells : goal.returns-then-take_awaited-clause-tells
 returns-then-take_awaited-clause-tells g c = taken_tells c.args.w.now c.take_awaited.new.w c.args.t c.args.call.now c.requires.locking (c.take_awaited.ensures.changes c.if-take_awaited.true)
 
-pub returns-then-has_event_come-clause-tells : goal.returns-then-has_event_come-clause-tells
-returns-then-has_event_come-clause-tells g c = refused_tells c.args.w.now c.take_awaited.new.w c.args.t c.args.call.now EINTR (c.take_awaited.ensures.kept c.if-take_awaited.false)
+pub returns-then-has_settled-clause-tells : goal.returns-then-has_settled-clause-tells
+returns-then-has_settled-clause-tells g c = refused_tells c.args.w.now c.take_awaited.new.w c.args.t c.args.call.now EINTR (c.take_awaited.ensures.kept c.if-take_awaited.false)
