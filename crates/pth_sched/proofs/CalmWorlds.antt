@@ -28,7 +28,6 @@ use Rattle.pth_world.specs.World.{WorldOf}
 use Rattle.pth_world.specs.StateOf.{state_of}
 use Rattle.pth_world.proofs.StateOf.{stands_for_state}
 use Rattle.pth_world.proofs.Telling.{has_still}
-use Rattle.pth_waits.specs.Waking.{has_died}
 use Rattle.pth_waits.specs.Dormant.{IsDormant}
 use Rattle.pth_sched.specs.Calm.{IsCalmUntil, IsCalmButUntil, Calms, AreDormant, is_among_waiting}
 use Rattle.pth_waits.proofs.Standing.{none_died}

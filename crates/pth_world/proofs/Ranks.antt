@@ -1,5 +1,5 @@
 -- What changes of the queues do to the ranks of the ready queue.
-use Rattle.std.proofs.Common.{◌≡◌, ℕ, ◌+◌, ◌≤◌, ℤ, pos, ◌≤ℤ◌, Bool, true, false, not, if◌then◌else◌, int_lt, List, [], ◌∷◌, length, IsSome, IfSome, Option, Some, None, refl, sym, ap, subst, arith}
+use Rattle.std.proofs.Common.{◌≡◌, ℕ, ◌+◌, ◌≤◌, ℤ, pos, ◌≤ℤ◌, not, List, length, IsSome, IfSome, Option, Some, None, sym, ap, subst, arith}
 use Rattle.std.proofs.lemmas.Int.{ints}
 use Rattle.std.proofs.lemmas.List.Elements.{All-weaker, All-filter, All-map}
 use Rattle.pth_queue.specs.declared.ranked.Ranked.{Ranked}

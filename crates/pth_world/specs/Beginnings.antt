@@ -1,5 +1,5 @@
 -- The parts of a world that has no thread yet, and such a world.
-use Rattle.std.specs.Prelude.{◌≡◌, ◌<◌, ℕ, List, length, Option, None}
+use Rattle.std.specs.Prelude.{◌≡◌, ◌<◌, List, length, Option, None}
 use Rattle.pth_base.specs.Limits.{thread_limit}
 use Rattle.pth_base.specs.Program.{Functions}
 use Rattle.pth_base.specs.Table.{table}

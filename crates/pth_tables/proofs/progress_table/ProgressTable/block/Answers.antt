@@ -1,9 +1,8 @@
-use Rattle.std.proofs.Common.{◌∙◌, Some, None, option_map, refl, sym, ap, set}
-use Rattle.pth_base.specs.Table.{table}
+use Rattle.std.proofs.Common.{◌∙◌, Some, refl, sym, ap, set}
 use Rattle.pth_model.specs.declared.progress.Progress.{Progress}
 use Rattle.pth_model.specs.Changes.{blocking}
 use Rattle.pth_tables.specs.Progress.{awaited_at}
-use Rattle.pth_tables.proofs.Items.{Becomes, becomes-set, becomes-some, becomes-none, kept_set}
+use Rattle.pth_tables.proofs.Items.{becomes-set, becomes-some, becomes-none, kept_set}
 use Rattle.pth_tables.proofs.progress_table.ProgressTable.block.Given as given
 use Rattle.pth_tables.proofs.progress_table.ProgressTable.block.Goals as goal
 
