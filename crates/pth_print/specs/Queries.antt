@@ -4,15 +4,26 @@ use Rattle.pth_base.specs.declared.query.Query.{Query}
 use Rattle.pth_base.specs.declared.query.Query.TheVariants as query
 use Rattle.pth_print.specs.WordTexts.{number_word}
 
+-- what is asked
+abbrev pub query_word : Query → List ℕ
+query_word query.Threads = codes "threads"
+query_word query.New = codes "new"
+query_word query.Ready = codes "ready"
+query_word query.Running = codes "running"
+query_word query.Waiting = codes "waiting"
+query_word query.Suspended = codes "suspended"
+query_word query.Dead = codes "dead"
+query_word (query.Favournew n) = codes "favournew"
+query_word (query.Prio t) = codes "prio"
+query_word (query.Name t) = codes "name"
+
+-- and what it is asked of
+abbrev pub query_operands : Query → List (List ℕ)
+query_operands (query.Favournew n) = number_word n ∷ []
+query_operands (query.Prio t) = number_word t ∷ []
+query_operands (query.Name t) = number_word t ∷ []
+query_operands q = []
+
 -- a query
 abbrev pub ctrl_words : Query → List (List ℕ)
-ctrl_words query.Threads = codes "ctrl" ∷ codes "threads" ∷ []
-ctrl_words query.New = codes "ctrl" ∷ codes "new" ∷ []
-ctrl_words query.Ready = codes "ctrl" ∷ codes "ready" ∷ []
-ctrl_words query.Running = codes "ctrl" ∷ codes "running" ∷ []
-ctrl_words query.Waiting = codes "ctrl" ∷ codes "waiting" ∷ []
-ctrl_words query.Suspended = codes "ctrl" ∷ codes "suspended" ∷ []
-ctrl_words query.Dead = codes "ctrl" ∷ codes "dead" ∷ []
-ctrl_words (query.Favournew n) = codes "ctrl" ∷ codes "favournew" ∷ number_word n ∷ []
-ctrl_words (query.Prio t) = codes "ctrl" ∷ codes "prio" ∷ number_word t ∷ []
-ctrl_words (query.Name t) = codes "ctrl" ∷ codes "name" ∷ number_word t ∷ []
+ctrl_words q = codes "ctrl" ∷ query_word q ∷ query_operands q

@@ -38,21 +38,26 @@ fn errno_word(e: Errno) -> &'static [u8]
 fn add_answer(answer: &Answer, out: &mut Text) -> Result<(), OutOfMemory>
     ensures { AddsText out.old out.new result (spaced (answer_words answer.now)) }
 {
-    match answer {
-        Answer::None => add_words(&[Plain(b"none")], out),
-        Answer::Int(n) => add_words(&[Number(n)], out),
-        Answer::Bytes(bytes) => add_words(&[Hex(bytes.as_slice())], out),
-        Answer::Sets { count, r, w, x } => add_words(
-            &[Number(count), Plain(b"sets"), Set(*r), Set(*w), Set(*x)],
-            out,
-        ),
-        Answer::Text(name) => add_words(&[Plain(name.as_str().as_bytes())], out),
-        Answer::Msg { id, value } => add_words(
-            &[Plain(b"msg"), Natural(id.0), Plain(b"value"), Number(value)],
-            out,
-        ),
-        Answer::Fail(e) => add_words(&[Plain(errno_word(*e))], out),
-    }
+    let word = match answer {
+        Answer::None => Plain(b"none"),
+        Answer::Int(n) => Number(n),
+        Answer::Bytes(bytes) => Hex(bytes.as_slice()),
+        Answer::Text(name) => Plain(name.as_str().as_bytes()),
+        Answer::Fail(e) => Plain(errno_word(*e)),
+        Answer::Sets { count, r, w, x } => {
+            return add_words(
+                &[Number(count), Plain(b"sets"), Set(*r), Set(*w), Set(*x)],
+                out,
+            );
+        }
+        Answer::Msg { id, value } => {
+            return add_words(
+                &[Plain(b"msg"), Natural(id.0), Plain(b"value"), Number(value)],
+                out,
+            );
+        }
+    };
+    add_words(&[word], out)
 }
 
 /// Adds words and those of an answer, each after a space.
