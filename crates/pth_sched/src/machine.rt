@@ -18,7 +18,7 @@ use crate::schedule::Schedule;
 use pth_base::ids::{Micros, Tid};
 use pth_base::marks::Marks;
 use pth_base::memory::OutOfMemory;
-use pth_base::outcome::Outcome;
+pub use pth_base::outcome::Outcome;
 use pth_base::program::Program;
 use pth_kernel::kernel::Kernel;
 use pth_world::world::World;

@@ -25,7 +25,7 @@ use pth_base::marks::Marks;
 use pth_base::memory::OutOfMemory;
 use pth_base::program::Program;
 use pth_end::cancellation::{CANCELED, cancel_within};
-use pth_model::next::Next;
+pub use pth_model::next::Next;
 use pth_world::world::World;
 
 // Tries the call that blocks the thread that runs again.
