@@ -1,12 +1,15 @@
 -- Until the next arrival, what descriptors bring stays away, and events of descriptors stay pending.
-use Rattle.std.proofs.Common.{◌≡◌, ◌∙◌, ℕ, ◌+◌, ◌<◌, ◌≤◌, ◌&&◌, ◌||◌, not, min, Bool, true, false, if◌then◌else◌, ℤ, All, Some, None, refl, sym, subst, arith}
+use Rattle.std.proofs.Common.{◌≡◌, ◌∙◌, ℕ, ◌+◌, ◌<◌, ◌≤◌, ◌&&◌, ◌||◌, not, min, nat_lt, nat_le, is_some, Bool, true, false, if◌then◌else◌, ℤ, List, [], ◌∷◌, filter, All, Option, Some, None, refl, sym, subst, arith}
 use Rattle.std.proofs.lemmas.Bool.Decides.{nat_tests}
 use Rattle.pth_base.specs.Limits.{last_moment}
-use Rattle.pth_base.specs.Descriptors.{contains}
+use Rattle.pth_base.specs.Descriptors.{contains, members}
 use Rattle.pth_base.specs.declared.ids.FdSet.{FdSet}
+use Rattle.pth_base.specs.declared.answer.Answer.{Answer}
 use Rattle.pth_base.specs.declared.event.EventSpec.TheVariants as of
+use Rattle.pth_base.specs.declared.errno.Errno.TheVariants.{EBADF}
 use Rattle.pth_kernel.specs.Kernel.{Kernel, advanced, next_time, fd_named, is_fd_live, is_readable, is_writeable, is_exceptional}
-use Rattle.pth_io.specs.Attempts.{are_all_live, is_any_ready, is_past}
+use Rattle.pth_kernel.specs.Moments.{least_after, least_by}
+use Rattle.pth_io.specs.Attempts.{are_all_live, is_any_ready, is_past, select_answer, sets_answer, fails, not_yet, ◌when◌otherwise◌}
 use Rattle.pth_ring.specs.declared.event.Status.TheVariants.{Pending, Occurred, Failed}
 use Rattle.pth_model.specs.declared.awaits.Awaits.{Awaits}
 use Rattle.pth_model.specs.declared.awaits.Awaits.TheVariants.{Nothing, Alone, Death, AnyDeath, Moment, Ring, Selection, Mutex, Lock}
@@ -80,3 +83,64 @@ module _ {P S H : Type 0} (k : Control P S H) (until : ℕ) (z : Kernel) (is : k
 
   pub select_waits : (r w y : FdSet) → are_all_live z r.0 w.0 y.0 ≡ true → is_any_ready z r.0 w.0 y.0 ≡ false → IsFoundPending k until (of.Select r w y)
   select_waits r w y live none = select_pending k until soon_here within r w y (subst (λ (q : Kernel). found (record k { kernel = q }) (of.Select r w y) ≡ Pending) (sym is) (found_by _ _ live none))
+
+-- ---- and all of it is later than now
+
+-- later than now, and at most just after the last moment
+abbrev pub IsAhead : ℕ → ℕ → Type 0
+IsAhead now m = (now < m) × (m ≤ last_moment + 1)
+
+counted : (now m : ℕ) → (nat_lt now m && nat_le m last_moment) ≡ true → (now < m) × (m ≤ last_moment)
+counted now m h = (grind (arith, nat_tests), grind (arith, nat_tests))
+
+ahead_by : (now m : ℕ) (b : Bool) (o : Option ℕ) → (nat_lt now m && nat_le m last_moment) ≡ b → IsAhead now (bound o) → IsAhead now (bound (if b then least_by m o else o))
+ahead_by now m true None is h = (let c = counted now m is in (c.0, omega (arith, c.1)))
+ahead_by now m true (Some q) is h = (let c = counted now m is in (omega (arith, c.0, h.0), omega (arith, c.1)))
+ahead_by now m false o is h = h
+
+least_ahead : (now : ℕ) → now ≤ last_moment → (ms : List ℕ) → IsAhead now (bound (least_after now ms))
+least_ahead now within [] = (omega arith, omega arith)
+least_ahead now within (m ∷ ms) = ahead_by now m (nat_lt now m && nat_le m last_moment) (least_after now ms) refl (least_ahead now within ms)
+
+-- by what a kernel says
+pub next_ahead : (k : Kernel) (now : ℕ) (o : Option ℕ) → now ≡ k.now → now ≤ last_moment → o ≡ next_time k → IsAhead k.now (bound o)
+next_ahead k now o same within is = subst (λ (p : Option ℕ). IsAhead k.now (bound p)) (sym is) (least_ahead k.now (omega (arith, same)) _)
+
+pub at_most : (m n : ℕ) → m ≡ n → m ≤ n
+at_most m n is = omega (arith, is)
+
+-- a moment that has not come
+pub not_come : (now m : ℕ) → nat_le m now ≡ false → now < m
+not_come now m is = grind (arith, nat_tests)
+
+no_deadline_yet : (a b past : Bool) (x y : Answer) → is_some (fails EBADF when a otherwise Some x when b otherwise Some y when past otherwise not_yet) ≡ false → past ≡ false
+no_deadline_yet true b past x y is = absurd (cc is)
+no_deadline_yet false true past x y is = absurd (cc is)
+no_deadline_yet false false true x y is = absurd (cc is)
+no_deadline_yet false false false x y is = refl
+
+-- nor has the deadline of what is awaited
+pub deadline_later : (k : Kernel) (a : Awaits) → k.now < last_moment + 1 → wakes_for k a ≡ false → k.now < deadline_in a
+unfolding select_answer
+deadline_later k (Selection r w x (Some m)) within is =
+    not_come k.now m (no_deadline_yet (not (are_all_live k r.0 w.0 x.0)) (is_any_ready k r.0 w.0 x.0) (nat_le m k.now)
+    (sets_answer k (filter (is_readable k) (members r.0)) (filter (is_writeable k) (members w.0)) (filter (is_exceptional k) (members x.0))) (sets_answer k [] [] []) is)
+deadline_later k a within is = within
+
+pending_says : (live occurs : Bool) → (if not live then Failed else (if occurs then Occurred else Pending)) ≡ Pending → (live ≡ true) × (occurs ≡ false)
+pending_says true true is = absurd (cc is)
+pending_says true false is = (refl, refl)
+pending_says false occurs is = absurd (cc is)
+
+-- what is found pending says that none is gone, and none is as it says
+module _ {P S H : Type 0} (k : Control P S H) (z : Kernel) (is : k.kernel ≡ z) where
+  pub fd_says : (goals : ℕ) (fd : ℤ) → found k (of.Fd goals fd) ≡ Pending
+      → (is_fd_live z (fd_named fd) ≡ true) × (((contains goals 0 && is_readable z (fd_named fd)) || (contains goals 1 && is_writeable z (fd_named fd)) || (contains goals 2 && is_exceptional z (fd_named fd))) ≡ false)
+  fd_says goals fd pending = pending_says _ _ (subst (λ (y : Kernel). found (record k { kernel = y }) (of.Fd goals fd) ≡ Pending) is pending)
+
+  pub select_says : (r w y : FdSet) → found k (of.Select r w y) ≡ Pending → (are_all_live z r.0 w.0 y.0 ≡ true) × (is_any_ready z r.0 w.0 y.0 ≡ false)
+  select_says r w y pending = pending_says _ _ (subst (λ (q : Kernel). found (record k { kernel = q }) (of.Select r w y) ≡ Pending) is pending)
+
+  -- the moment of an event
+  pub time_says : (at : ℕ) → found k (of.Time at) ≡ Pending → z.now < at
+  time_says at pending = not_come z.now at (pending_says true (nat_le at z.now) (subst (λ (q : Kernel). found (record k { kernel = q }) (of.Time at) ≡ Pending) is pending)).1

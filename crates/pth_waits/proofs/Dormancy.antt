@@ -1,28 +1,27 @@
 -- What keeps threads dormant, and what dormant threads leave of a pass.
-use Rattle.std.proofs.Common.{◌≡◌, ◌≢◌, ◌∙◌, ℕ, ◌==◌, ◌<◌, ◌≤◌, ◌||◌, ◌&&◌, not, min, nat_le, Bool, true, false, cond, if◌then◌else◌, ℤ, List, [], ◌∷◌, ◌++◌, filter, flat_map, Option, Some, None, option_map, All, refl, sym, ap, ap₂, subst, arith}
-use Rattle.std.proofs.lemmas.Bool.Decides.{nat_tests}
+use Rattle.std.proofs.Common.{◌≡◌, ◌∙◌, ℕ, ◌+◌, ◌<◌, ◌≤◌, ◌||◌, min, Bool, true, false, if◌then◌else◌, ℤ, List, [], ◌∷◌, Option, Some, None, option_map, All, refl, sym, ap, subst, arith}
 use Rattle.std.specs.List.{list_any}
-use Rattle.std.proofs.lemmas.List.Elements.{All-head, All-tail, All-weaker, All-append, All-cons, All-nil}
-use mathlib.Core.Path.{fun_ext}
+use Rattle.std.proofs.lemmas.List.Elements.{All-head, All-tail, All-weaker, All-nil}
 use Rattle.pth_ring.specs.declared.event.Event.{Event}
 use Rattle.pth_ring.specs.declared.event.Status.TheVariants.{Pending}
 use Rattle.pth_ring.specs.Ring.{each, ring_holds}
-use Rattle.pth_ring.specs.Rings.{Events, awaited, claimed, is_pending, ring_awaited, with_claim, with_status}
+use Rattle.pth_ring.specs.Rings.{Events, awaited, claimed, ring_awaited, with_claim, with_status}
+use Rattle.pth_base.specs.Limits.{last_moment}
 use Rattle.pth_base.specs.declared.event.EventSpec.{EventSpec}
 use Rattle.pth_base.specs.declared.ids.Tid.{Tid}
 use Rattle.pth_base.proofs.Tables.{put_by}
 use Rattle.pth_kernel.specs.Kernel.{Kernel, advanced}
 use Rattle.pth_model.specs.declared.blocked.Blocked.{Blocked}
 use Rattle.pth_model.specs.declared.awaits.Awaits.{Awaits}
-use Rattle.pth_model.specs.declared.awaits.Awaits.TheVariants.{Nothing, Alone, Death, AnyDeath, Moment, Ring, Reading, Writing, Connection, ConnectAnswer, Selection, Mutex, Lock}
-use Rattle.pth_model.specs.State.{Control, State, now_of, main}
+use Rattle.pth_model.specs.declared.awaits.Awaits.TheVariants.{Nothing, Alone, Death, AnyDeath, Moment, Ring, Mutex, Lock}
+use Rattle.pth_model.specs.State.{Control, now_of, main}
 use Rattle.pth_model.specs.declared.awaits.Awaited.{Awaited}
 use Rattle.pth_numbered.specs.Operands.{number}
 use Rattle.pth_model.specs.Awaits.{awaits_in, awaited_in}
 use Rattle.pth_model.specs.Cancellation.{may_be_canceled}
 use Rattle.pth_model.specs.Changes.{blocked_of, entry_of, moves_to}
-use Rattle.pth_model.specs.Looks.{comes, found, looked_at, looks_at}
-use Rattle.pth_model.specs.Pass.{comes_for, looks, waiting}
+use Rattle.pth_model.specs.Looks.{comes, found, looked_at}
+use Rattle.pth_model.specs.Pass.{comes_for}
 use Rattle.pth_model.specs.Resources.{Store}
 use Rattle.pth_model.specs.RingWaits.{awaited_events, events_from, ring_held}
 use Rattle.pth_model.specs.ThreadEnds.{is_alone}
@@ -61,6 +60,11 @@ module _ {P S H : Type 0} (x : Store) (k : Control P S H) (until : ℕ) (early :
   pub looked_same : (o : Option Event) → StaysPending k until o → option_map (looked_at k) o ≡ o
   looked_same None s = refl
   looked_same (Some v) s = rw (s.1 (now_of k) (omega arith) early) (ap (λ st. Some (with_status st v)) (sym s.0))
+
+-- something that time does not bring is not here, if it stays away until any moment
+pub is_not_here : (here : Bool) (until : ℕ) → until ≡ (if here then 0 else last_moment + 1) → 0 < until → here ≡ false
+is_not_here true until is some = absurd (omega (arith, is))
+is_not_here false until is some = refl
 
 -- ---- events that stay pending
 
@@ -226,3 +230,13 @@ module _ {P S H : Type 0} where
               (All-weaker (λ i. StaysPending k own (k.events.events i)) (λ i. StaysPending k (min until own) (k.events.events i)) (λ i h. sooner_pending k own (min until own) (omega arith) (k.events.events i) h) (k.events.rings (number e)) pending);
           unasked = unasked;
         }
+
+  -- and the reverse
+  module _ (x : Store) (k : Control P S H) (t until : ℕ) (a : Awaited) (is : a ≡ awaited_in (blocked_of k t)) (q : IsDormant x k until t) where
+    pub dormant_away : StaysAway x k until t a.what
+    dormant_away = subst (λ (b : Awaited). StaysAway x k until t b.what) (sym is) q.away
+
+    pub dormant_pending : (e : ℤ) → a.ring ≡ Some e → ArePending k until (k.events.rings (number e))
+    dormant_pending e some =
+        let ring : ring_held (blocked_of k t) ≡ Some e = ap (λ (b : Awaited). b.ring) (sym is) ∙ some in
+        subst (λ (o : Option ℤ). ArePending k until (events_from k.events o)) ring q.pending

@@ -1,19 +1,21 @@
 -- The events of a ring are gone over, as long as all would be found pending.
-use Rattle.std.proofs.Common.{◌≡◌, ◌≢◌, ◌∙◌, ℕ, ◌+◌, ◌==◌, ◌<◌, ◌++◌, ◌∷◌, not, Bool, true, false, cond, if◌then◌else◌, min, List, [], fold, length, All, Option, Some, None, option_map, inl, refl, sym, ap, subst, append_assoc, arith}
+use Rattle.std.proofs.Common.{◌≡◌, ◌≢◌, ◌∙◌, ℕ, ◌+◌, ◌==◌, ◌<◌, ◌++◌, ◌∷◌, not, Bool, true, false, cond, if◌then◌else◌, min, List, [], fold, length, All, Option, Some, None, option_map, inl, inr, refl, sym, ap, subst, append_assoc, arith}
 use Rattle.std.proofs.lemmas.List.Elements.{All-append, All-cons, All-head, All-nil, All-tail, All-weaker}
 use Rattle.pth_base.proofs.Tables.{same_self, not_same}
 use Rattle.pth_base.specs.declared.event.EventSpec.{EventSpec}
 use Rattle.pth_ring.specs.declared.event.Event.{Event}
+use Rattle.pth_kernel.specs.Kernel.{Kernel}
 use Rattle.pth_ring.specs.declared.event.Status.{Status}
 use Rattle.pth_ring.specs.declared.event.Status.TheVariants.{Pending, Occurred, Failed}
 use Rattle.pth_ring.specs.Arena.{events_of}
 use Rattle.pth_base.specs.Chain.{StandsIn}
 use Rattle.pth_ring.specs.Ring.{RingGoesOn, Begins, from, rest_of}
 use Rattle.pth_ring.specs.Rings.{Events, is_pending, is_settled, settled_in}
-use Rattle.pth_model.specs.State.{Control}
+use Rattle.pth_model.specs.Looks.{found}
+use Rattle.pth_model.specs.State.{Control, now_of}
 use Rattle.pth_world.specs.Shows.{Shows}
 use Rattle.pth_world.specs.World.{WorldOf}
-use Rattle.pth_waits.specs.Dormant.{AreFoundPending, ArePending, FindsPending, IsFoundPending, StaysPending}
+use Rattle.pth_waits.specs.Dormant.{AreFoundPending, ArePending, FindsPending, IsFoundPending, StaysPending, after_now}
 use Rattle.pth_waits.proofs.Dormancy.{sooner_found}
 
 module _ {P S H : Type 0} (k : Control P S H) (until : ℕ) where
@@ -57,11 +59,50 @@ module _ {P S H : Type 0} (k : Control P S H) (until : ℕ) where
   pub ring_stays : (e : ℕ) → settled_in k.events e ≡ 0 → AreFoundPending k until (k.events.rings e) → ArePending k until (k.events.rings e)
   ring_stays e none finds = all_stay (k.events.rings e) (none_counted 0 (k.events.rings e) none).1 finds
 
+-- ---- and the reverse
+
+module _ {P S H : Type 0} (k : Control P S H) where
+  -- an event that is found pending now
+  pub found_by_now : (o : Option Event) (spec : EventSpec) → option_map (λ (v : Event). v.spec) o ≡ Some spec → FindsPending k (after_now k) o → found k spec ≡ Pending
+  found_by_now None spec is finds = absurd (cc is)
+  found_by_now (Some v) spec is finds = (let e : v.spec ≡ spec = cc is in subst (λ (z : EventSpec). found k z ≡ Pending) e (finds (now_of k) (omega arith) (omega arith)))
+
+  none_settled_by : (until : ℕ) (o : Option Event) → StaysPending k until o → is_settled o ≡ false
+  none_settled_by until None stays = refl
+  none_settled_by until (Some v) stays = rw stays.0 refl
+
+  same_count : (until n : ℕ) (es : List ℕ) → ArePending k until es → fold (λ n e. n + cond (is_settled (k.events.events e)) 1 0) n es ≡ n
+  same_count until n [] all = refl
+  same_count until n (e ∷ es) all =
+      let here = none_settled_by until (k.events.events e) (All-head (λ i. StaysPending k until (k.events.events i)) e es all) in
+      let one : n + cond (is_settled (k.events.events e)) 1 0 ≡ n = rw here (omega arith) in
+      ap (λ (m : ℕ). fold (λ n e. n + cond (is_settled (k.events.events e)) 1 0) m es) one ∙ same_count until n es (All-tail (λ i. StaysPending k until (k.events.events i)) e es all)
+
+  -- where all are pending, none is settled, and all would be found so
+  pub none_settled : (until e : ℕ) → ArePending k until (k.events.rings e) → settled_in k.events e ≡ 0
+  none_settled until e all = same_count until 0 (k.events.rings e) all
+
+  finds_of : (until : ℕ) (o : Option Event) → StaysPending k until o → FindsPending k until o
+  finds_of until None stays = tt
+  finds_of until (Some v) stays = stays.1
+
+  pub all_found : (until : ℕ) (es : List ℕ) → ArePending k until es → AreFoundPending k until es
+  all_found until es all = All-weaker (λ e. StaysPending k until (k.events.events e)) (λ e. FindsPending k until (k.events.events e)) (λ e h. finds_of until (k.events.events e) h) es all
+
+stands_all : (Q : ℕ → Type 0) (n : ℕ) (es : List ℕ) → All Q es → StandsIn n es → Q n
+stands_all Q n [] all stands = absurd stands
+stands_all Q n (e ∷ es) all (inl is) = subst Q (sym is) (All-head Q e es all)
+stands_all Q n (e ∷ es) all (inr stands) = stands_all Q n es (All-tail Q e es all) stands
+
 -- ---- round a ring
 
 module _ {P S H : Type 0} (w : WorldOf P S H) (e : ℕ) where
   abbrev ring : List ℕ
   ring = (events_of w.events).rings e
+
+  -- a moment is later than now, if the events of the ring would be found pending now
+  abbrev pub IsLater : ℕ → Type 0
+  IsLater until = (k : Control P S H) → Shows w k → AreFoundPending k (after_now k) ring → now_of k < until
 
   -- the events of a ring up to n, which comes next, would be found pending until a moment
   pub record PendingRound (n until : ℕ) : Type 0 where
@@ -69,23 +110,30 @@ module _ {P S H : Type 0} (w : WorldOf P S H) (e : ℕ) where
     pub split : ring ≡ done ++ from n ring
     pub within : StandsIn n ring
     pub pending : (k : Control P S H) → Shows w k → AreFoundPending k until done
+    pub later : IsLater until
 
   from_first : (xs : List ℕ) → xs ≡ e ∷ rest_of xs → from e xs ≡ xs
   from_first xs begins = rw begins (rw (same_self e) refl)
 
-  pub pends_none : (until : ℕ) → Begins ring e → PendingRound e until
-  pends_none until begins = record {
+  pub pends_none : (until : ℕ) → Begins ring e → w.kernel.now < until → PendingRound e until
+  pends_none until begins later = record {
     done = [];
     split = sym (from_first ring begins);
     within = subst (λ (l : List ℕ). StandsIn e l) (sym begins) (inl refl);
     pending = λ k sh. All-nil (λ i. FindsPending k until (k.events.events i));
+    later = λ k sh finds. (let e : now_of k ≡ w.kernel.now = ap (λ (z : Kernel). z.now) sh.kernel in omega arith);
   }
 
   -- an event of a place, by what the world has of it
   pub finds_at : (n own : ℕ) (spec : EventSpec) → option_map (λ (v : Event). v.spec) ((events_of w.events).events n) ≡ Some spec → ((k : Control P S H) → Shows w k → IsFoundPending k own spec) → (k : Control P S H) → Shows w k → FindsPending k own (k.events.events n)
   finds_at n own spec is found k sh = finds_by k own (k.events.events n) spec (ap (λ (y : Events). option_map (λ (v : Event). v.spec) (y.events n)) sh.events ∙ is) (found k sh)
 
-  module _ (n m until own : ℕ) (so_far : PendingRound n until) (here : (k : Control P S H) → Shows w k → FindsPending k own (k.events.events n))
+  -- and by what it is told of it
+  pub later_at : (n own : ℕ) (spec : EventSpec) → option_map (λ (v : Event). v.spec) ((events_of w.events).events n) ≡ Some spec → StandsIn n ring → ((k : Control P S H) → Shows w k → found k spec ≡ Pending → now_of k < own) → IsLater own
+  later_at n own spec is stands found k sh finds =
+      found k sh (found_by_now k (k.events.events n) spec (ap (λ (y : Events). option_map (λ (v : Event). v.spec) (y.events n)) sh.events ∙ is) (stands_all (λ i. FindsPending k (after_now k) (k.events.events i)) n ring finds stands))
+
+  module _ (n m until own : ℕ) (so_far : PendingRound n until) (later : IsLater own) (here : (k : Control P S H) → Shows w k → FindsPending k own (k.events.events n))
       (goes_on : (i : ℕ) → StandsIn n ((events_of w.events).rings i) → RingGoesOn ((events_of w.events).rings i) i n m) where
     goes : RingGoesOn ring e n m
     goes = goes_on e so_far.within
@@ -96,12 +144,17 @@ module _ {P S H : Type 0} (w : WorldOf P S H) (e : ℕ) where
         (All-weaker (λ i. FindsPending k until (k.events.events i)) (λ i. FindsPending k (min until own) (k.events.events i)) (λ i h. sooner_found k until (min until own) (omega arith) (k.events.events i) h) so_far.done (so_far.pending k sh))
         (All-cons (λ i. FindsPending k (min until own) (k.events.events i)) n [] (sooner_found k own (min until own) (omega arith) (k.events.events n) (here k sh)) (All-nil (λ i. FindsPending k (min until own) (k.events.events i))))
 
+    -- and the least is later than now, if both are
+    more_later : IsLater (min until own)
+    more_later k sh finds = (let a = so_far.later k sh finds in let b = later k sh finds in omega (arith, a, b))
+
     pub pends_next : m ≢ e → PendingRound m (min until own)
     pends_next more = record {
       done = so_far.done ++ n ∷ [];
       split = so_far.split ∙ ap (λ (l : List ℕ). so_far.done ++ l) (goes.rest ∙ rw (not_same m e more) refl) ∙ sym (append_assoc so_far.done (n ∷ []) (from m ring));
       within = goes.within;
       pending = more_pending;
+      later = more_later;
     }
 
     pub pends_less : m ≢ e → length (from m ring) < length (from n ring)
@@ -109,6 +162,9 @@ module _ {P S H : Type 0} (w : WorldOf P S H) (e : ℕ) where
         let next : (if m == e then [] else from m ring) ≡ from m ring = rw (not_same m e more) refl in
         let is : length (from n ring) ≡ length (n ∷ from m ring) = ap (λ (l : List ℕ). length l) (goes.rest ∙ ap (λ (l : List ℕ). n ∷ l) next) in
         omega (arith, is)
+
+    pub all_later : (k : Control P S H) → Shows w k → AreFoundPending k (after_now k) (k.events.rings e) → now_of k < min until own
+    all_later k sh finds = more_later k sh (subst (AreFoundPending k (after_now k)) (ap (λ (y : Events). y.rings e) sh.events) finds)
 
     pub pends_all : m ≡ e → (k : Control P S H) → Shows w k → AreFoundPending k (min until own) (k.events.rings e)
     pends_all last k sh =

@@ -27,6 +27,10 @@ abbrev pub deadline_in : Awaits → ℕ
 deadline_in (Selection r w x (Some m)) = m
 deadline_in a = last_moment + 1
 
+-- until which moment something holds, if it is known of now alone
+abbrev pub after_now : {P S H : Type 0} → Control P S H → ℕ
+after_now k = now_of k + 1
+
 -- a dead thread that can be joined
 abbrev pub is_left_to_join : Option Entry → Bool
 is_left_to_join o = is_dead_in o && (or_nobody o).joinable

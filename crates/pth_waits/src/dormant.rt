@@ -1,15 +1,17 @@
 //! Until when blocked threads are not to wake, if nothing changes but time.
 
-ghost use Rattle.std.specs.Prelude.{◌≡◌, ◌≢◌, ◌<◌, ◌≤◌, ◌+◌, ℕ, false};
+ghost use Rattle.std.specs.Prelude.{◌≡◌, ◌≢◌, ◌<◌, ◌≤◌, ◌+◌, ℕ, false, if◌then◌else◌};
 ghost use Rattle.pth_base.specs.Limits.{last_moment};
 ghost use Rattle.pth_kernel.specs.Kernel.{advanced, kernel_of, next_time};
-ghost use Rattle.pth_model.specs.State.{Control};
+ghost use Rattle.pth_model.specs.Looks.{found};
+ghost use Rattle.pth_model.specs.State.{Control, now_of};
 ghost use Rattle.pth_numbered.specs.Numbered.{number_at};
 ghost use Rattle.pth_numbered.specs.Operands.{number};
 ghost use Rattle.pth_ring.specs.Arena.{events_of};
 ghost use Rattle.pth_ring.specs.Ring.{Begins};
+ghost use Rattle.pth_ring.specs.declared.event.Status.TheVariants.{Pending};
 ghost use Rattle.pth_threads.specs.Threads.{tid_at};
-ghost use Rattle.pth_waits.specs.Dormant.{AreFoundPending, ArePending, IsDormant, IsFoundPending, StaysAway, bound, deadline_in};
+ghost use Rattle.pth_waits.specs.Dormant.{AreFoundPending, ArePending, IsDormant, IsFoundPending, StaysAway, after_now, bound, deadline_in};
 ghost use Rattle.pth_waits.specs.Io.{wakes_for};
 ghost use Rattle.pth_world.specs.Shows.{Shows};
 ghost use Rattle.pth_world.specs.Store.{store_of};
@@ -29,23 +31,35 @@ use pth_model::awaits::Awaits;
 use pth_ring::rings::EventSpec;
 use pth_world::world::World;
 
-/// After the last moment.
-pub const NEVER: Micros = LAST_MOMENT + 1;
+// After the last moment.
+const NEVER: Micros = LAST_MOMENT + 1;
+
+/// After the last moment, and so after now.
+pub fn never<P: Program>(w: &World<P>) -> Micros
+    ensures never { result ≡ last_moment + 1 }
+    ensures later { w.now.kernel.now < result }
+{
+    prove!(w.time() <= LAST_MOMENT);
+    NEVER
+}
 
 // Until when something stays away that time does not bring.
-fn never_unless(here: bool) -> Micros
-    ensures { 0 < result → here ≡ false }
+fn never_unless<P: Program>(w: &World<P>, here: bool) -> Micros
+    ensures until { result ≡ (if here then 0 else last_moment + 1) }
+    ensures later { here ≡ false → w.now.kernel.now < result }
 {
-    if here { 0 } else { NEVER }
+    if here { 0 } else { never(w) }
 }
 
 // Until when nothing comes to a descriptor.
 fn next_arrival(k: &Kernel) -> Micros
-    ensures arrival { result ≤ bound (next_time (kernel_of k.now)) }
+    ensures arrival { result ≡ bound (next_time (kernel_of k.now)) }
     ensures within { result ≤ last_moment + 1 }
+    ensures later { k.now.now < result }
 {
+    prove!(k.now() <= LAST_MOMENT);
     match k.next_entry() {
-        Some(at) => at.min(NEVER),
+        Some(at) => at,
         None => NEVER,
     }
 }
@@ -66,7 +80,8 @@ fn deadline_of(awaits: Awaits) -> Micros
 // Until when a thread does not have what it waits for at descriptors.
 fn descriptors_until(k: &Kernel, awaits: Awaits) -> Micros
     requires may { MayAwait awaits }
-    ensures { (n : ℕ) → k.now.now ≤ n → n < result → wakes_for (advanced n (kernel_of k.now)) awaits ≡ false }
+    ensures away { (n : ℕ) → k.now.now ≤ n → n < result → wakes_for (advanced n (kernel_of k.now)) awaits ≡ false }
+    ensures later { wakes_for (kernel_of k.now) awaits ≡ false → k.now.now < result }
 {
     if wakes_for(k, awaits) {
         return 0;
@@ -79,24 +94,26 @@ fn awaits_until<P: Program>(w: &World<P>, slot: Slot, awaits: Awaits) -> Micros
     requires whole { Whole w.now }
     requires used { tid_at w.now.threads.records slot.0 ≢ 0 }
     requires may { MayAwait awaits }
-    ensures { (k : Control P P.State P.Shared) → Shows w.now k → 0 < result → StaysAway (store_of w.now.store) k result (tid_at w.now.threads.records slot.0) awaits }
+    ensures away { (k : Control P P.State P.Shared) → Shows w.now k → 0 < result → StaysAway (store_of w.now.store) k result (tid_at w.now.threads.records slot.0) awaits }
+    ensures later { (k : Control P P.State P.Shared) → Shows w.now k → StaysAway (store_of w.now.store) k (after_now k) (tid_at w.now.threads.records slot.0) awaits → now_of k < result }
 {
     match awaits {
-        Awaits::Nothing => NEVER,
-        Awaits::Alone => never_unless(w.thread_in(slot).0 != MAIN),
-        Awaits::Death(n) => never_unless(has_died(w, n)),
-        Awaits::AnyDeath => never_unless(any_has_died(w)),
+        Awaits::Nothing => never(w),
+        Awaits::Alone => never_unless(w, w.thread_in(slot).0 != MAIN),
+        Awaits::Death(n) => never_unless(w, has_died(w, n)),
+        Awaits::AnyDeath => never_unless(w, any_has_died(w)),
         Awaits::Moment(moment) => moment,
-        Awaits::Ring(_) => NEVER,
-        Awaits::Mutex(m) => never_unless(is_free_mutex(w, m)),
-        Awaits::Lock { l, write } => never_unless(is_open_lock(w, l, write)),
+        Awaits::Ring(_) => never(w),
+        Awaits::Mutex(m) => never_unless(w, is_free_mutex(w, m)),
+        Awaits::Lock { l, write } => never_unless(w, is_open_lock(w, l, write)),
         _ => descriptors_until(w.kernel(), awaits),
     }
 }
 
 // Until when an event of a descriptor is found pending.
 fn fd_until<P: Program>(w: &World<P>, goals: u8, fd: i64) -> Micros
-    ensures { (k : Control P P.State P.Shared) → Shows w.now k → IsFoundPending k result (EventSpec.Fd goals fd) }
+    ensures pending { (k : Control P P.State P.Shared) → Shows w.now k → IsFoundPending k result (EventSpec.Fd goals fd) }
+    ensures later { (k : Control P P.State P.Shared) → Shows w.now k → found k (EventSpec.Fd goals fd) ≡ Pending → now_of k < result }
 {
     if !w.kernel().is_live(fd) {
         return 0;
@@ -109,7 +126,8 @@ fn fd_until<P: Program>(w: &World<P>, goals: u8, fd: i64) -> Micros
 
 // Until when an event of sets of descriptors is found pending.
 fn select_until<P: Program>(w: &World<P>, r: FdSet, writes: FdSet, x: FdSet) -> Micros
-    ensures { (k : Control P P.State P.Shared) → Shows w.now k → IsFoundPending k result (EventSpec.Select r writes x) }
+    ensures pending { (k : Control P P.State P.Shared) → Shows w.now k → IsFoundPending k result (EventSpec.Select r writes x) }
+    ensures later { (k : Control P P.State P.Shared) → Shows w.now k → found k (EventSpec.Select r writes x) ≡ Pending → now_of k < result }
 {
     if !are_all_live(w.kernel(), r, writes, x) {
         return 0;
@@ -122,13 +140,14 @@ fn select_until<P: Program>(w: &World<P>, r: FdSet, writes: FdSet, x: FdSet) -> 
 
 // Until when an event is found pending.
 fn found_until<P: Program>(w: &World<P>, spec: &EventSpec) -> Micros
-    ensures { (k : Control P P.State P.Shared) → Shows w.now k → IsFoundPending k result spec.now }
+    ensures pending { (k : Control P P.State P.Shared) → Shows w.now k → IsFoundPending k result spec.now }
+    ensures later { (k : Control P P.State P.Shared) → Shows w.now k → found k spec.now ≡ Pending → now_of k < result }
 {
     match spec {
         EventSpec::Time(at) => *at,
         EventSpec::Fd { goals, fd } => fd_until(w, *goals, *fd),
         EventSpec::Select { r, w: writes, x } => select_until(w, *r, *writes, *x),
-        _ => NEVER,
+        _ => never(w),
     }
 }
 
@@ -136,9 +155,10 @@ fn found_until<P: Program>(w: &World<P>, spec: &EventSpec) -> Micros
 fn round_until<P: Program>(w: &World<P>, first: Slot) -> Micros
     requires used { number_at w.now.events first.0 ≢ 0 }
     requires begins { Begins ((events_of w.now.events).rings (number_at w.now.events first.0)) (number_at w.now.events first.0) }
-    ensures { (k : Control P P.State P.Shared) → Shows w.now k → AreFoundPending k result (k.events.rings (number_at w.now.events first.0)) }
+    ensures pending { (k : Control P P.State P.Shared) → Shows w.now k → AreFoundPending k result (k.events.rings (number_at w.now.events first.0)) }
+    ensures later { (k : Control P P.State P.Shared) → Shows w.now k → AreFoundPending k (after_now k) (k.events.rings (number_at w.now.events first.0)) → now_of k < result }
 {
-    let mut until = NEVER;
+    let mut until = never(w);
     let mut at = first;
     'round: loop {
         until = until.min(found_until(w, w.rings().spec_at(at)));
@@ -151,14 +171,15 @@ fn round_until<P: Program>(w: &World<P>, first: Slot) -> Micros
 
 // Until when all events of the ring of an event are pending.
 fn ring_until<P: Program>(w: &World<P>, e: i64) -> Micros
-    ensures { (k : Control P P.State P.Shared) → Shows w.now k → 0 < result → ArePending k result (k.events.rings (number e)) }
+    ensures pending { (k : Control P P.State P.Shared) → Shows w.now k → 0 < result → ArePending k result (k.events.rings (number e)) }
+    ensures later { (k : Control P P.State P.Shared) → Shows w.now k → ArePending k (after_now k) (k.events.rings (number e)) → now_of k < result }
 {
     if w.rings().settled(e) > 0 {
         return 0;
     }
     match w.rings().find(e) {
         Some(first) => round_until(w, first),
-        None => NEVER,
+        None => never(w),
     }
 }
 
@@ -167,7 +188,8 @@ fn ring_until<P: Program>(w: &World<P>, e: i64) -> Micros
 pub fn dormant_until<P: Program>(w: &World<P>, slot: Slot) -> Micros
     requires whole { Whole w.now }
     requires used { tid_at w.now.threads.records slot.0 ≢ 0 }
-    ensures { (k : Control P P.State P.Shared) → Shows w.now k → 0 < result → IsDormant (store_of w.now.store) k result (tid_at w.now.threads.records slot.0) }
+    ensures dormant { (k : Control P P.State P.Shared) → Shows w.now k → 0 < result → IsDormant (store_of w.now.store) k result (tid_at w.now.threads.records slot.0) }
+    ensures later { (k : Control P P.State P.Shared) → Shows w.now k → IsDormant (store_of w.now.store) k (after_now k) (tid_at w.now.threads.records slot.0) → now_of k < result }
 {
     if may_be_canceled_at(w, slot) {
         return 0;

@@ -1,10 +1,10 @@
 use Rattle.std.proofs.Common.{◌∙◌, sym}
 use Rattle.pth_kernel.specs.Kernel.{kernel_of}
-use Rattle.pth_waits.proofs.Arrivals.{select_waits}
+use Rattle.pth_waits.proofs.Arrivals.{at_most, select_waits}
 use Rattle.pth_waits.proofs.dormant.select_until.Goals as goal
 
-pub returns : goal.returns
-returns g c = λ k sh.
+pub returns-clause-pending : goal.returns-clause-pending
+returns-clause-pending g c = λ k sh.
     let live = rw c.kernel.ensures at c.are_all_live.ensures in
     let ready = rw c.kernel-2.ensures at c.is_any_ready.ensures in
-    select_waits k c.next_arrival.result (kernel_of c.args.w.now.kernel) sh.kernel (rw c.kernel-3.ensures at c.next_arrival.ensures.arrival) c.next_arrival.ensures.within c.args.r c.args.writes c.args.x (sym live ∙ c.if-not-are_all_live.false) (sym ready ∙ c.if-is_any_ready.false)
+    select_waits k c.next_arrival.result (kernel_of c.args.w.now.kernel) sh.kernel (at_most _ _ (rw c.kernel-3.ensures at c.next_arrival.ensures.arrival)) c.next_arrival.ensures.within c.args.r c.args.writes c.args.x (sym live ∙ c.if-not-are_all_live.false) (sym ready ∙ c.if-is_any_ready.false)
