@@ -17,3 +17,4 @@ pub mod Dormancy
 pub mod Kernels
 pub mod Rounding
 pub mod Standing
+pub mod Undue

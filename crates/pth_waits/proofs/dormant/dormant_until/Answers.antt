@@ -4,6 +4,7 @@ use Rattle.pth_model.specs.State.{now_of}
 use Rattle.pth_world.specs.Store.{store_of}
 use Rattle.pth_waits.specs.Dormant.{IsDormant, after_now}
 use Rattle.pth_waits.proofs.Dormancy.{dormant_away, dormant_bare, dormant_beside, dormant_pending}
+use Rattle.pth_waits.proofs.Undue.{undue_dormant}
 use Rattle.pth_waits.proofs.dormant.dormant_until.Goals as goal
 
 pub returns-in-Some-clause-dormant : goal.returns-in-Some-clause-dormant
@@ -36,3 +37,17 @@ pub returns-in-None-clause-later : goal.returns-in-None-clause-later
 returns-in-None-clause-later g c = λ k sh q.
     let t = tid_at c.args.w.now.threads.records c.args.slot.0 in
     c.awaits_until-until.ensures.later k sh (dormant_away (store_of c.args.w.now.store) k t (after_now k) c.awaited_in-awaited.result (c.awaited_in-awaited.ensures.awaited k sh) q)
+
+pub returns-in-Some-clause-told : goal.returns-in-Some-clause-told
+returns-in-Some-clause-told g c = λ s st undue settled.
+    returns-in-Some-clause-later g c s.control st.control (undue_dormant g.P.Program.functions c.args.w.now c.requires.whole s st c.args.slot.0 c.requires.used undue settled)
+
+pub returns-in-None-clause-told : goal.returns-in-None-clause-told
+returns-in-None-clause-told g c = λ s st undue settled.
+    returns-in-None-clause-later g c s.control st.control (undue_dormant g.P.Program.functions c.args.w.now c.requires.whole s st c.args.slot.0 c.requires.used undue settled)
+
+pub returns-then-may_be_canceled_at-clause-told : goal.returns-then-may_be_canceled_at-clause-told
+returns-then-may_be_canceled_at-clause-told g c = λ s st undue settled.
+    let q = undue_dormant g.P.Program.functions c.args.w.now c.requires.whole s st c.args.slot.0 c.requires.used undue settled in
+    let asked = sym (c.may_be_canceled_at.ensures s.control st.control) ∙ c.if-may_be_canceled_at.true in
+    absurd (cc (sym q.unasked ∙ asked))

@@ -1,0 +1,117 @@
+-- A thread that is not to wake is dormant now, if no event of its ring is settled.
+use Rattle.std.proofs.Common.{◌≡◌, ◌≢◌, ◌∙◌, ℕ, ◌<◌, ◌≤◌, ◌||◌, not, nat_lt, ℤ, Bool, true, false, if◌then◌else◌, List, [], ◌∷◌, Option, Some, None, IfSome, refl, sym, ap, subst, arith}
+use Rattle.std.proofs.lemmas.Bool.Decides.{nat_tests}
+use Rattle.std.proofs.lemmas.List.Elements.{All-cons, All-nil}
+use Rattle.std.specs.List.{list_any}
+use Rattle.pth_base.specs.Program.{Functions}
+use Rattle.pth_base.specs.declared.call.Call.{Call}
+use Rattle.pth_base.specs.declared.call.Call.TheVariants as call
+use Rattle.pth_ring.specs.declared.event.Event.{Event}
+use Rattle.pth_ring.specs.declared.event.Status.{Status}
+use Rattle.pth_ring.specs.declared.event.Status.TheVariants.{Pending, Occurred, Failed}
+use Rattle.pth_ring.specs.Rings.{is_pending}
+use Rattle.pth_numbered.specs.Operands.{number, is_zero}
+use Rattle.pth_threads.specs.Threads.{slot_of, tid_at}
+use Rattle.pth_model.specs.declared.awaits.Awaits.{Awaits}
+use Rattle.pth_model.specs.declared.awaits.Awaits.TheVariants.{Nothing, Alone, Death, AnyDeath, Ring}
+use Rattle.pth_model.specs.declared.blocked.Blocked.{Blocked}
+use Rattle.pth_model.specs.Awaits.{awaited_by, awaits_in}
+use Rattle.pth_model.specs.Changes.{blocked_in, blocked_of, moves_to}
+use Rattle.pth_model.specs.Looks.{comes, found}
+use Rattle.pth_model.specs.Pass.{comes_for, is_to_wake}
+use Rattle.pth_model.specs.RingWaits.{events_from, has_settled, ring_held}
+use Rattle.pth_model.specs.State.{Control, State, main, now_of}
+use Rattle.pth_world.specs.Shows.{StandsFor}
+use Rattle.pth_world.specs.Store.{store_of}
+use Rattle.pth_world.specs.Whole.{MayBlock, MayBlockAs, Whole, view}
+use Rattle.pth_world.specs.World.{WorldOf}
+use Rattle.pth_world.proofs.Moves.{blocked_may}
+use Rattle.pth_world.proofs.Showing.{progress_is}
+use Rattle.pth_waits.specs.Waking.{has_come}
+use Rattle.pth_waits.specs.Dormant.{AreFoundPending, ArePending, FindsPending, IsDormant, StaysAway, StaysPending, after_now}
+use Rattle.pth_waits.proofs.Rounding.{ring_stays}
+use Rattle.pth_waits.proofs.Standing.{none_left}
+use Rattle.pth_waits.proofs.Waking.{wakes_in}
+
+neither : (a b c : Bool) → (a || b || c) ≡ false → (a ≡ false) × (b ≡ false) × (c ≡ false)
+neither true b c is = absurd (cc is)
+neither false true c is = absurd (cc is)
+neither false false true is = absurd (cc is)
+neither false false false is = (refl, refl, refl)
+
+none_of : (a b : Bool) → (a || b) ≡ false → (a ≡ false) × (b ≡ false)
+none_of true b is = absurd (cc is)
+none_of false true is = absurd (cc is)
+none_of false false is = (refl, refl)
+
+none_by : (n : ℕ) → nat_lt 0 n ≡ false → n ≡ 0
+none_by n is = grind (arith, nat_tests)
+
+pending_by : (s : Status) → not (is_pending s) ≡ false → s ≡ Pending
+pending_by Pending is = refl
+pending_by Occurred is = absurd (cc is)
+pending_by Failed is = absurd (cc is)
+
+-- only main waits to be alone
+not_alone : (zero : Bool) (i : ℤ) → (if zero then AnyDeath else Death i) ≡ Alone → ⊥
+not_alone true i is = cc is
+not_alone false i is = cc is
+
+alone_by : (t : ℕ) (c : Call) (m n : ℕ) → MayBlockAs t c → awaited_by c m n ≡ Alone → t ≡ main
+alone_by t (call.Exit v) m n may is = may
+alone_by t (call.Join i) m n may is = absurd (not_alone (is_zero i) i is)
+alone_by t c m n may is = absurd (cc is)
+
+main_waits : (t : ℕ) (o : Option Blocked) → IfSome o (λ b. MayBlock t b) → awaits_in o ≡ Alone → t ≡ main
+main_waits t None may is = absurd (cc is)
+main_waits t (Some b) may is = alone_by t b.call b.moment b.written may.call is
+
+module _ {P S H : Type 0} (k : Control P S H) where
+  same_now : (n : ℕ) → now_of k ≤ n → n < after_now k → now_of k ≡ n
+  same_now n later early = omega arith
+
+  found_now : (o : Option Event) → comes k o ≡ false → FindsPending k (after_now k) o
+  found_now None is = tt
+  found_now (Some v) is = λ n later early. subst (λ (m : ℕ). found (moves_to m k) v.spec ≡ Pending) (same_now n later early) (pending_by (found k v.spec) is)
+
+  all_found_now : (es : List ℕ) → list_any (λ e. comes k (k.events.events e)) es ≡ false → AreFoundPending k (after_now k) es
+  all_found_now [] none = All-nil (λ e. FindsPending k (after_now k) (k.events.events e))
+  all_found_now (e ∷ es) none =
+      let both = none_of (comes k (k.events.events e)) (list_any (λ i. comes k (k.events.events i)) es) none in
+      All-cons (λ i. FindsPending k (after_now k) (k.events.events i)) e es (found_now (k.events.events e) both.0) (all_found_now es both.1)
+
+  pending_now : (o : Option ℤ) → has_settled k.events o ≡ false → list_any (λ e. comes k (k.events.events e)) (events_from k.events o) ≡ false → ArePending k (after_now k) (events_from k.events o)
+  pending_now None settled none = All-nil (λ e. StaysPending k (after_now k) (k.events.events e))
+  pending_now (Some e) settled none = ring_stays k (after_now k) (number e) (none_by _ settled) (all_found_now (k.events.rings (number e)) none)
+
+module _ {P S H : Type 0} (f : P → Functions S H) (w : WorldOf P S H) (whole : Whole w) (s : State P S H) (st : StandsFor w s) (u : ℕ) (used : tid_at w.threads.records u ≢ 0) where
+  abbrev k : Control P S H
+  k = s.control
+
+  abbrev t : ℕ
+  t = tid_at w.threads.records u
+
+  stands : slot_of w.threads.records t ≡ Some u
+  stands = whole.sound.tied.slot u used
+
+  may : IfSome (blocked_of k t) (λ b. MayBlock t b)
+  may =
+      let is : blocked_of k t ≡ (view w.threads u).blocked = ap blocked_in (progress_is w.threads k t u whole.sound stands st.control.threads) in
+      subst (λ (o : Option Blocked). IfSome o (λ b. MayBlock t b)) (sym is) (blocked_may w t u whole stands)
+
+  away_now : (a : Awaits) → has_come (store_of w.store) k t a ≡ false → (a ≡ Alone → t ≡ main) → StaysAway (store_of w.store) k (after_now k) t a
+  away_now Alone is alone = alone refl
+  away_now AnyDeath is alone = none_left w whole k st.control is
+  away_now Nothing is alone = λ n later early. refl
+  away_now (Ring e) is alone = λ n later early. refl
+  away_now a is alone = λ n later early. subst (λ (m : ℕ). has_come (store_of w.store) (moves_to m k) t a ≡ false) (same_now k n later early) is
+
+  pub undue_dormant : is_to_wake f s t ≡ false → has_settled k.events (ring_held (blocked_of k t)) ≡ false → IsDormant (store_of w.store) k (after_now k) t
+  unfolding comes_for
+  undue_dormant undue settled =
+      let each = neither _ _ _ undue in
+      record {
+        away = away_now (awaits_in (blocked_of k t)) (sym (wakes_in f w s st t) ∙ each.0) (main_waits t (blocked_of k t) may);
+        pending = pending_now k (ring_held (blocked_of k t)) settled each.1;
+        unasked = each.2;
+      }
