@@ -1,8 +1,9 @@
 -- A pass over threads that are dormant changes nothing.
-use Rattle.std.proofs.Common.{◌≡◌, ℕ, ◌==◌, ◌<◌, ◌||◌, ◌&&◌, not, Bool, true, false, if◌then◌else◌, List, [], ◌∷◌, filter, flat_map, All, Option, Some, None, option_map, refl, ap, subst}
-use Rattle.std.proofs.lemmas.List.Elements.{All-append, All-head, All-nil, All-tail, All-weaker}
+use Rattle.std.proofs.Common.{◌≡◌, ℕ, ◌==◌, ◌<◌, ◌||◌, ◌&&◌, not, Bool, true, false, if◌then◌else◌, List, [], ◌∷◌, length, map, slice_index_or, filter, flat_map, All, Option, Some, None, option_map, refl, sym, ap, subst}
+use Rattle.std.proofs.lemmas.List.Elements.{All-append, All-cons, All-get_or, All-head, All-nil, All-tail, All-weaker}
 use mathlib.Core.Path.{fun_ext}
 use Rattle.pth_base.proofs.Tables.{same_means}
+use Rattle.pth_base.specs.declared.ids.Slot.{Slot}
 use Rattle.pth_base.specs.declared.thread.ThreadState.{ThreadState}
 use Rattle.pth_base.specs.declared.thread.ThreadState.TheVariants as state
 use Rattle.pth_queue.specs.declared.queue.Queue.TheVariants as queue
@@ -52,6 +53,10 @@ place_by_waits (Some e) waits = by_state e.state e.suspended waits
     by_state state.Running suspended h = absurd (cc h)
     by_state state.Dead suspended h = absurd (cc h)
 
+unmapped : (Q : ℕ → Type 0) (name : Slot → ℕ) (xs : List Slot) → All Q (map name xs) → All (λ (x : Slot). Q (name x)) xs
+unmapped Q name [] all = All-nil (λ (x : Slot). Q (name x))
+unmapped Q name (x ∷ xs) all = All-cons (λ (y : Slot). Q (name y)) x xs (All-head Q (name x) (map name xs) all) (unmapped Q name xs (All-tail Q (name x) (map name xs) all))
+
 module _ {P S H : Type 0} (w : WorldOf P S H) (whole : Whole w) (k : Control P S H) (sh : Shows w k) where
   pub all_wait : All (λ u. is_among_waiting (entry_of k u) ≡ true) (waiting k)
   all_wait =
@@ -60,6 +65,12 @@ module _ {P S H : Type 0} (w : WorldOf P S H) (whole : Whole w) (k : Control P S
 
   pub of_waiting : (Q : ℕ → Type 0) → All Q (waiting k) → (u : ℕ) → is_among_waiting (entry_of k u) ≡ true → Q u
   of_waiting Q all u waits = of_standing w whole k sh queue.Waiting Q all u (place_by_waits (entry_of k u) waits)
+
+  -- what holds of each that waits holds of the one at a slot
+  pub at_slot : (Q : ℕ → Type 0) → ((u : ℕ) → is_among_waiting (entry_of k u) ≡ true → Q u) → (name : Slot → ℕ) (xs : List Slot) → map name xs ≡ waiting k → (i : ℕ) → i < length xs → Q (name (slice_index_or xs i (record { 0 = 0 })))
+  at_slot Q each name xs wait i within =
+      let all = All-weaker (λ u. is_among_waiting (entry_of k u) ≡ true) Q each (waiting k) all_wait in
+      All-get_or (λ (x : Slot). Q (name x)) xs i (record { 0 = 0 }) within (unmapped Q name xs (subst (All Q) (sym wait) all))
 
 -- ---- where all that wait are dormant
 

@@ -3,10 +3,11 @@
 ghost use Rattle.std.specs.Prelude.{◌≡◌, ◌≢◌, ◌<◌, ◌≤◌, ◌+◌, ℕ, List, [], ◌++◌, ◌∷◌, All, map, length, if◌then◌else◌, IfSome, vec_capacity};
 ghost use Rattle.pth_base.specs.Limits.{last_moment};
 ghost use Rattle.pth_model.specs.Pass.{is_to_wake, looks, moment, to_wake, waiting};
-ghost use Rattle.pth_model.specs.State.{Control, State};
+ghost use Rattle.pth_model.specs.State.{Control, State, now_of};
 ghost use Rattle.pth_model.specs.Looks.{looks_at};
 ghost use Rattle.pth_model.specs.RingWaits.{awaited_events};
 ghost use Rattle.pth_threads.specs.Threads.{number_of, tid_at};
+ghost use Rattle.pth_waits.specs.Dormant.{after_now};
 ghost use Rattle.pth_waits.specs.Waking.{has_any_died};
 ghost use Rattle.pth_world.specs.Shows.{Shows, StandsFor};
 ghost use Rattle.pth_world.specs.Store.{store_of};
@@ -18,7 +19,7 @@ use pth_base::ids::{Micros, Slot, Tid};
 use pth_base::limits::MOST_THREADS;
 use pth_base::memory::OutOfMemory;
 use pth_base::program::Program;
-use pth_waits::dormant::{NEVER, dormant_until};
+use pth_waits::dormant::{dormant_until, never};
 use pth_waits::joins::any_has_died;
 use pth_waits::wakes::is_to_wake;
 use pth_world::world::World;
@@ -89,9 +90,10 @@ fn all_dormant_until<P: Program>(w: &World<P>, slots: &[Slot]) -> Micros
     requires whole { Whole w.now }
     requires used { All (λ s. tid_at w.now.threads.records s.0 ≢ 0) slots.now }
     requires waiting { (k : Control P P.State P.Shared) → Shows w.now k → map (λ s. tid_at w.now.threads.records s.0) slots.now ≡ waiting k }
-    ensures { (k : Control P P.State P.Shared) → Shows w.now k → 0 < result → AreDormant (store_of w.now.store) k result }
+    ensures dormant { (k : Control P P.State P.Shared) → Shows w.now k → 0 < result → AreDormant (store_of w.now.store) k result }
+    ensures later { (k : Control P P.State P.Shared) → Shows w.now k → AreDormant (store_of w.now.store) k (after_now k) → now_of k < result }
 {
-    let mut until = NEVER;
+    let mut until = never(w);
     for slot in slots {
         until = until.min(dormant_until(w, *slot));
         if until <= w.time() {
@@ -126,6 +128,7 @@ impl PassRoom {
     pub fn dormant_until<P: Program>(&mut self, w: &World<P>) -> Micros
         requires { Whole w.now }
         ensures dormant { (k : Control P P.State P.Shared) → Shows w.now k → 0 < result → AreDormant (store_of w.now.store) k result }
+        ensures later { (k : Control P P.State P.Shared) → Shows w.now k → AreDormant (store_of w.now.store) k (after_now k) → now_of k < result }
         ensures same { self.new ≡ self.old }
     {
         w.waiting(&mut self.waiting);

@@ -1,12 +1,12 @@
 //! Passes over the waiting threads.
 
-ghost use Rattle.std.specs.Prelude.{◌≡◌, ◌≢◌, ◌<◌, ℕ, true, pos, neg_ℤ, ◌+ℤ◌, ◌≤ℤ◌, map, OnOk, OnErr};
+ghost use Rattle.std.specs.Prelude.{◌≡◌, ◌≢◌, ◌<◌, ℕ, true, false, pos, neg_ℤ, ◌+ℤ◌, ◌≤ℤ◌, map, OnOk, OnErr};
 ghost use Rattle.pth_queue.specs.declared.queue.Queue.TheVariants as queue;
 ghost use Rattle.pth_threads.specs.Threads.{number_of};
 ghost use Rattle.pth_base.specs.Cut.{IsCut};
 ghost use Rattle.pth_model.specs.Changes.{entry_of, prio_of};
 ghost use Rattle.pth_model.specs.Pass.{pass, woken, all_woken};
-ghost use Rattle.pth_model.specs.State.{Control, State};
+ghost use Rattle.pth_model.specs.State.{Control, State, now_of};
 ghost use Rattle.pth_world.specs.Leading.{Leads};
 ghost use Rattle.pth_world.specs.Ranks.{KeepsRanks, greatest_return};
 ghost use Rattle.pth_world.specs.Shows.{Shows, StandsFor};
@@ -14,7 +14,7 @@ ghost use Rattle.pth_world.specs.Sound.{IsSound, IsKnown};
 ghost use Rattle.pth_world.specs.Store.{store_of};
 ghost use Rattle.pth_world.specs.Touches.{KeepsRest};
 ghost use Rattle.pth_world.specs.Whole.{Whole, IsIn, WaitsToRun};
-ghost use Rattle.pth_waits.specs.Dormant.{IsDormant};
+ghost use Rattle.pth_waits.specs.Dormant.{IsDormant, after_now};
 ghost use Rattle.pth_sched.specs.Calm.{AreDormant, Calms, CalmsBut, is_among_waiting};
 ghost use Rattle.pth_sched.specs.Passing.{IsWaiting, WaitOnce};
 
@@ -25,7 +25,7 @@ use pth_base::mark::Mark;
 use pth_base::marks::Marks;
 use pth_base::memory::OutOfMemory;
 use pth_base::program::Program;
-use pth_waits::dormant::{NEVER, dormant_until};
+use pth_waits::dormant::{dormant_until, never};
 use pth_world::world::World;
 
 // The rank at which a woken thread is ready: one above its base priority.
@@ -105,11 +105,12 @@ pub fn pass<P: Program>(
 // Before this moment a thread, if it waits, is not to wake, if nothing changes but time.
 fn own_dormant_until<P: Program>(w: &World<P>, t: Tid) -> Micros
     requires whole { Whole w.now }
-    ensures { (k : Control P P.State P.Shared) → Shows w.now k → 0 < result → is_among_waiting (entry_of k t.0) ≡ true → IsDormant (store_of w.now.store) k result t.0 }
+    ensures dormant { (k : Control P P.State P.Shared) → Shows w.now k → 0 < result → is_among_waiting (entry_of k t.0) ≡ true → IsDormant (store_of w.now.store) k result t.0 }
+    ensures later { (k : Control P P.State P.Shared) → Shows w.now k → IsDormant (store_of w.now.store) k (after_now k) t.0 → now_of k < result }
 {
     match w.threads().find(t) {
         Some(slot) => dormant_until(w, slot),
-        None => NEVER,
+        None => never(w),
     }
 }
 
@@ -119,6 +120,8 @@ fn known_until<P: Program>(w: &World<P>, room: &mut PassRoom, calm: Calm, t: Tid
     requires whole { Whole w.now }
     requires calm { CalmsBut t.0 w.now calm.until }
     ensures dormant { (k : Control P P.State P.Shared) → Shows w.now k → 0 < result → AreDormant (store_of w.now.store) k result }
+    ensures asked { (k : Control P P.State P.Shared) → Shows w.now k → calm.until ≡ 0 → calm.stirred ≡ false → AreDormant (store_of w.now.store) k (after_now k) → now_of k < result }
+    ensures later { (k : Control P P.State P.Shared) → Shows w.now k → now_of k < calm.until → IsDormant (store_of w.now.store) k (after_now k) t.0 → now_of k < result }
     ensures same { room.new ≡ room.old }
 {
     if calm.until == 0 {
