@@ -1,6 +1,6 @@
 //! Passes over the waiting threads.
 
-ghost use Rattle.std.specs.Prelude.{◌≡◌, ◌≢◌, ◌<◌, ℕ, true, false, pos, neg_ℤ, ◌+ℤ◌, ◌≤ℤ◌, map, OnOk, OnErr};
+ghost use Rattle.std.specs.Prelude.{◌≡◌, ◌≢◌, ◌<◌, ℕ, true, false, pos, neg_ℤ, ◌+ℤ◌, ◌≤ℤ◌, map, Some, OnOk, OnErr};
 ghost use Rattle.pth_queue.specs.declared.queue.Queue.TheVariants as queue;
 ghost use Rattle.pth_threads.specs.Threads.{number_of};
 ghost use Rattle.pth_base.specs.Cut.{IsCut};
@@ -25,6 +25,8 @@ use pth_base::mark::Mark;
 use pth_base::marks::Marks;
 use pth_base::memory::OutOfMemory;
 use pth_base::program::Program;
+use pth_base::thread::ThreadState;
+use pth_threads::entry::Entry;
 use pth_waits::dormant::{dormant_until, never};
 use pth_world::world::World;
 
@@ -102,6 +104,16 @@ pub fn pass<P: Program>(
     wake_all(w, room.waking(), marks)
 }
 
+// Whether a thread waits, and is not suspended.
+fn is_waiting(entry: &Entry) -> bool
+    ensures { result ≡ is_among_waiting (Some entry.now) }
+{
+    match entry.state {
+        ThreadState::Waiting => !entry.suspended,
+        _ => false,
+    }
+}
+
 // Before this moment a thread, if it waits, is not to wake, if nothing changes but time.
 fn own_dormant_until<P: Program>(w: &World<P>, t: Tid) -> Micros
     requires whole { Whole w.now }
@@ -109,7 +121,12 @@ fn own_dormant_until<P: Program>(w: &World<P>, t: Tid) -> Micros
     ensures later { (k : Control P P.State P.Shared) → Shows w.now k → IsDormant (store_of w.now.store) k (after_now k) t.0 → now_of k < result }
 {
     match w.threads().find(t) {
-        Some(slot) => dormant_until(w, slot),
+        Some(slot) => {
+            if !is_waiting(w.entry_at(slot)) {
+                return never(w);
+            }
+            dormant_until(w, slot)
+        }
         None => never(w),
     }
 }
