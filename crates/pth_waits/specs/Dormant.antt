@@ -1,5 +1,6 @@
 -- Until when a blocked thread is not to wake, if nothing changes but time.
 use Rattle.std.specs.Prelude.{◌≡◌, ℕ, ◌<◌, ◌≤◌, ◌+◌, ◌&&◌, Bool, false, List, Option, Some, None, All}
+use Rattle.pth_base.specs.Program.{Functions}
 use Rattle.pth_base.specs.declared.event.EventSpec.{EventSpec}
 use Rattle.pth_base.specs.Limits.{last_moment}
 use Rattle.pth_threads.specs.declared.entry.Entry.{Entry}
@@ -7,13 +8,14 @@ use Rattle.pth_ring.specs.declared.event.Event.{Event}
 use Rattle.pth_ring.specs.declared.event.Status.TheVariants.{Pending}
 use Rattle.pth_model.specs.declared.awaits.Awaits.{Awaits}
 use Rattle.pth_model.specs.declared.awaits.Awaits.TheVariants.{Alone, AnyDeath, Selection}
-use Rattle.pth_model.specs.State.{Control, now_of, main}
+use Rattle.pth_model.specs.State.{Control, State, now_of, main}
 use Rattle.pth_model.specs.Awaits.{awaits_in}
 use Rattle.pth_model.specs.Cancellation.{may_be_canceled}
 use Rattle.pth_model.specs.Changes.{blocked_of, entry_of, moves_to, or_nobody}
 use Rattle.pth_model.specs.Looks.{found}
 use Rattle.pth_model.specs.Resources.{Store}
-use Rattle.pth_model.specs.RingWaits.{awaited_events}
+use Rattle.pth_model.specs.Pass.{is_to_wake}
+use Rattle.pth_model.specs.RingWaits.{awaited_events, has_settled, ring_held}
 use Rattle.pth_model.specs.ThreadControl.{is_dead_in}
 use Rattle.pth_waits.specs.Waking.{has_come}
 
@@ -68,3 +70,9 @@ module _ {P S H : Type 0} (x : Store) (k : Control P S H) (until : ℕ) where
     pub away : StaysAway t (awaits_in (blocked_of k t))
     pub pending : ArePending k until (awaited_events k t)
     pub unasked : may_be_canceled k t ≡ false
+
+module _ {P S H : Type 0} (f : P → Functions S H) (s : State P S H) where
+  -- t is not to wake, and no event of its ring is settled
+  pub record IsUndue (t : ℕ) : Type 0 where
+    pub unwoken : is_to_wake f s t ≡ false
+    pub unsettled : has_settled s.control.events (ring_held (blocked_of s.control t)) ≡ false

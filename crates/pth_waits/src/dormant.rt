@@ -3,10 +3,7 @@
 ghost use Rattle.std.specs.Prelude.{◌≡◌, ◌≢◌, ◌<◌, ◌≤◌, ◌+◌, ℕ, false, if◌then◌else◌};
 ghost use Rattle.pth_base.specs.Limits.{last_moment};
 ghost use Rattle.pth_kernel.specs.Kernel.{advanced, kernel_of, next_time};
-ghost use Rattle.pth_model.specs.Changes.{blocked_of};
 ghost use Rattle.pth_model.specs.Looks.{found};
-ghost use Rattle.pth_model.specs.Pass.{is_to_wake};
-ghost use Rattle.pth_model.specs.RingWaits.{has_settled, ring_held};
 ghost use Rattle.pth_model.specs.State.{Control, State, now_of};
 ghost use Rattle.pth_numbered.specs.Numbered.{number_at};
 ghost use Rattle.pth_numbered.specs.Operands.{number};
@@ -14,7 +11,7 @@ ghost use Rattle.pth_ring.specs.Arena.{events_of};
 ghost use Rattle.pth_ring.specs.Ring.{Begins};
 ghost use Rattle.pth_ring.specs.declared.event.Status.TheVariants.{Pending};
 ghost use Rattle.pth_threads.specs.Threads.{tid_at};
-ghost use Rattle.pth_waits.specs.Dormant.{AreFoundPending, ArePending, IsDormant, IsFoundPending, StaysAway, after_now, bound, deadline_in};
+ghost use Rattle.pth_waits.specs.Dormant.{AreFoundPending, ArePending, IsDormant, IsFoundPending, IsUndue, StaysAway, after_now, bound, deadline_in};
 ghost use Rattle.pth_waits.specs.Io.{wakes_for};
 ghost use Rattle.pth_world.specs.Shows.{Shows, StandsFor};
 ghost use Rattle.pth_world.specs.Store.{store_of};
@@ -193,7 +190,7 @@ pub fn dormant_until<P: Program>(w: &World<P>, slot: Slot) -> Micros
     requires used { tid_at w.now.threads.records slot.0 ≢ 0 }
     ensures dormant { (k : Control P P.State P.Shared) → Shows w.now k → 0 < result → IsDormant (store_of w.now.store) k result (tid_at w.now.threads.records slot.0) }
     ensures later { (k : Control P P.State P.Shared) → Shows w.now k → IsDormant (store_of w.now.store) k (after_now k) (tid_at w.now.threads.records slot.0) → now_of k < result }
-    ensures told { (s : State P P.State P.Shared) → StandsFor w.now s → is_to_wake P.functions s (tid_at w.now.threads.records slot.0) ≡ false → has_settled s.control.events (ring_held (blocked_of s.control (tid_at w.now.threads.records slot.0))) ≡ false → now_of s.control < result }
+    ensures told { (s : State P P.State P.Shared) → StandsFor w.now s → IsUndue P.functions s (tid_at w.now.threads.records slot.0) → now_of s.control < result }
 {
     if may_be_canceled_at(w, slot) {
         return 0;

@@ -39,15 +39,15 @@ returns-in-None-clause-later g c = λ k sh q.
     c.awaits_until-until.ensures.later k sh (dormant_away (store_of c.args.w.now.store) k t (after_now k) c.awaited_in-awaited.result (c.awaited_in-awaited.ensures.awaited k sh) q)
 
 pub returns-in-Some-clause-told : goal.returns-in-Some-clause-told
-returns-in-Some-clause-told g c = λ s st undue settled.
-    returns-in-Some-clause-later g c s.control st.control (undue_dormant g.P.Program.functions c.args.w.now c.requires.whole s st c.args.slot.0 c.requires.used undue settled)
+returns-in-Some-clause-told g c = λ s st quiet.
+    returns-in-Some-clause-later g c s.control st.control (undue_dormant g.P.Program.functions c.args.w.now c.requires.whole s st c.args.slot.0 c.requires.used quiet.unwoken quiet.unsettled)
 
 pub returns-in-None-clause-told : goal.returns-in-None-clause-told
-returns-in-None-clause-told g c = λ s st undue settled.
-    returns-in-None-clause-later g c s.control st.control (undue_dormant g.P.Program.functions c.args.w.now c.requires.whole s st c.args.slot.0 c.requires.used undue settled)
+returns-in-None-clause-told g c = λ s st quiet.
+    returns-in-None-clause-later g c s.control st.control (undue_dormant g.P.Program.functions c.args.w.now c.requires.whole s st c.args.slot.0 c.requires.used quiet.unwoken quiet.unsettled)
 
 pub returns-then-may_be_canceled_at-clause-told : goal.returns-then-may_be_canceled_at-clause-told
-returns-then-may_be_canceled_at-clause-told g c = λ s st undue settled.
-    let q = undue_dormant g.P.Program.functions c.args.w.now c.requires.whole s st c.args.slot.0 c.requires.used undue settled in
+returns-then-may_be_canceled_at-clause-told g c = λ s st quiet.
+    let q = undue_dormant g.P.Program.functions c.args.w.now c.requires.whole s st c.args.slot.0 c.requires.used quiet.unwoken quiet.unsettled in
     let asked = sym (c.may_be_canceled_at.ensures s.control st.control) ∙ c.if-may_be_canceled_at.true in
     absurd (cc (sym q.unasked ∙ asked))
