@@ -13,13 +13,13 @@ use Rattle.pth_base.specs.declared.ids.Slot.{Slot}
 use Rattle.pth_base.specs.declared.ids.Tid.{Tid}
 use Rattle.pth_base.proofs.Lists.{ap_put, put_none}
 use Rattle.pth_base.proofs.Namings.{none_some, seen_at, seen_put}
-use Rattle.pth_base.proofs.Tables.{put_here, put_other, same_fails, same_means, same_self}
+use Rattle.pth_base.proofs.Tables.{not_same, put_here, put_is, put_other, same_fails, same_means, same_self}
 use Rattle.pth_threads.specs.Threads.{ThreadsOf, slot_of, tid_at, AddsThread, RemovesThread}
 use Rattle.pth_threads.specs.declared.entry.Entry.{Entry}
 use Rattle.pth_lock.specs.Objects.{object_named, is_object}
 use Rattle.pth_lock.specs.Sets.{contains}
 use Rattle.pth_lock.proofs.Bits.{contains-past}
-use Rattle.pth_lock.specs.Mutexes.{mutex_init_answer, mutex_free_answer, mutex_owner_answer, mutex_take_answer, mutex_release_answer, Mutex, MutexTable, free_mutex, has, levels_of, mutex_with, owner_of, take_answer, release_answer, mutex_initialised, mutex_taken, mutex_released, mutexes_left, slot_numbered}
+use Rattle.pth_lock.specs.Mutexes.{mutex_init_answer, mutex_free_answer, mutex_owner_answer, mutex_take_answer, mutex_release_answer, Mutex, MutexTable, Ownership, free_mutex, has, levels_of, mutex_with, owner_of, take_answer, release_answer, mutex_initialised, mutex_taken, mutex_released, mutexes_left, slot_numbered}
 use Rattle.pth_lock.specs.RwLocks.{lock_init_answer, lock_free_answer, lock_take_answer, lock_release_answer, LockTables, holds, is_one, is_written, lock_initialised, lock_taken, lock_released, locks_left, no_locks, readers_without, without_slot}
 use Rattle.pth_world.specs.Store.{LocksOf, name_limit, listed, locked_by, locks_of, named_mutex, named_reads, any_unused, owner_answer}
 use Rattle.pth_model.specs.Transition.{tid}
@@ -77,6 +77,54 @@ unused-empty f r (suc n) none = unused-suc f r n ∙ ap (λ (b : Bool). b || any
     by_use true is = none n (omega arith) (same_means (f n) 0 is)
     by_use false is = refl
 
+-- ---- what is asked of a mutex by slot and by thread
+
+-- the answers are the same of every mutex, if they are of one that is had, a free one and none
+asked_same : {A : Type 0} (tid_at : ℕ → ℕ) (f g : Mutex → A)
+    → ((o : Ownership) → f (named_mutex tid_at (Some (Some o))) ≡ g (Some (Some o)))
+    → f free_mutex ≡ g free_mutex
+    → f None ≡ g None
+    → (y : Mutex) → f (named_mutex tid_at y) ≡ g y
+asked_same tid_at f g owned free none (Some (Some o)) = owned o
+asked_same tid_at f g owned free none (Some None) = free
+asked_same tid_at f g owned free none None = none
+
+-- a function of one of two
+of_if : {A B : Type 0} (f : A → B) (b : Bool) (y z : A) → f (if b then y else z) ≡ (if b then f y else f z)
+of_if f true y z = refl
+of_if f false y z = refl
+
+-- ---- a table by slot, as it is read by thread
+
+-- `named` says by thread what an entry says by slot
+module _ {A B : Type 0} (d : B) (named : A → B) where
+  abbrev shown : (ℕ → A) → ℕ → B
+  shown F = table d (listed (λ i. named (F i)))
+
+  shown_at : (F : ℕ → A) (i : ℕ) → i < name_limit → shown F i ≡ named (F i)
+  shown_at F i low = to_at d name_limit (λ j. named (F j)) i low
+
+  -- a change of one entry by slot is a change of it by thread
+  changed : (F : ℕ → A) (i : ℕ) (y : A) (z : B) → i < name_limit → named y ≡ z → shown (put F i y) ≡ put (shown F) i z
+  changed F i y z low is =
+      ap (λ (f : ℕ → B). table d (listed f)) (ap_put named F i y)
+      ∙ to_put d name_limit (λ j. named (F j)) i (named y) low
+      ∙ ap (put (shown F) i) is
+
+  -- and so is a change of each
+  each_changed : (F G : ℕ → A) (g : ℕ → B → B)
+      → ((i : ℕ) → i < name_limit → named (G i) ≡ g i (named (F i)))
+      → ((i : ℕ) → g i d ≡ d)
+      → shown G ≡ (λ i. g i (shown F i))
+  each_changed F G g here past = fun_ext (λ i. by_name i (cases_lt i name_limit))
+    where
+      by_name : (i : ℕ) → (i < name_limit) ⊎ (name_limit ≤ i) → shown G i ≡ g i (shown F i)
+      by_name i (inl low) = shown_at G i low ∙ here i low ∙ ap (g i) (sym (shown_at F i low))
+      by_name i (inr high) =
+          to_past d name_limit (λ j. named (G j)) i high
+          ∙ sym (past i)
+          ∙ ap (g i) (sym (to_past d name_limit (λ j. named (F j)) i high))
+
 -- ---- at the slot of a thread
 
 module _ (x : ThreadsOf) (t u : ℕ) (tied : IsTied (slot_of x) (tid_at x)) (e : slot_of x t ≡ Some u) where
@@ -99,11 +147,7 @@ module _ (x : ThreadsOf) (t u : ℕ) (tied : IsTied (slot_of x) (tid_at x)) (e :
     where
       by_slot : (b : Bool) → (o == u) ≡ b → (tid_at x o == t) ≡ b
       by_slot true is = ap (λ (k : ℕ). tid_at x k == t) (same_means o u is) ∙ ap (λ (k : ℕ). k == t) at ∙ same_self t
-      by_slot false is = by_number (tid_at x o == t) refl (apart_by o (same_fails o u is))
-        where
-          by_number : (b : Bool) → (tid_at x o == t) ≡ b → tid_at x o ≢ t → (tid_at x o == t) ≡ false
-          by_number true same apart = absurd (apart (same_means (tid_at x o) t same))
-          by_number false same apart = same
+      by_slot false is = not_same (tid_at x o) t (apart_by o (same_fails o u is))
 
   -- ---- a mutex
 
@@ -111,38 +155,13 @@ module _ (x : ThreadsOf) (t u : ℕ) (tied : IsTied (slot_of x) (tid_at x)) (e :
   named y = named_mutex (tid_at x) y
 
   has_same : (y : Mutex) → has t (named y) ≡ has u y
-  has_same (Some (Some o)) = same_owner o.owner
-  has_same (Some None) = refl
-  has_same None = refl
-
-  levels_same : (y : Mutex) → levels_of t (named y) ≡ levels_of u y
-  levels_same (Some (Some o)) = ap (λ (b : Bool). if b then o.levels else 0) (same_owner o.owner)
-  levels_same (Some None) = refl
-  levels_same None = refl
-
-  take_same : (y : Mutex) → take_answer t (named y) ≡ take_answer u y
-  take_same (Some (Some o)) = rw (same_owner o.owner) refl
-  take_same (Some None) = refl
-  take_same None = refl
-
-  release_same : (y : Mutex) → release_answer t (named y) ≡ release_answer u y
-  release_same (Some (Some o)) = rw (same_owner o.owner) refl
-  release_same (Some None) = refl
-  release_same None = refl
+  has_same = asked_same (tid_at x) (has t) (has u) (λ o. same_owner o.owner) refl refl
 
   with_named : (n : ℕ) → named (mutex_with u n) ≡ mutex_with t n
-  with_named n = by_test (n == 0)
-    where
-      by_test : (b : Bool) → named (if b then free_mutex else Some (Some (record { owner = u; levels = n }))) ≡ (if b then free_mutex else Some (Some (record { owner = t; levels = n })))
-      by_test true = refl
-      by_test false = ap (λ (k : ℕ). Some (Some (record { owner = k; levels = n }))) at
+  with_named n = of_if named (n == 0) free_mutex _ ∙ ap (λ (k : ℕ). if n == 0 then free_mutex else Some (Some (record { owner = k; levels = n }))) at
 
   left_named : (y : Mutex) → named (if has u y then free_mutex else y) ≡ (if has t (named y) then free_mutex else named y)
-  left_named y = by_test (has u y) ∙ ap (λ (b : Bool). if b then free_mutex else named y) (sym (has_same y))
-    where
-      by_test : (b : Bool) → named (if b then free_mutex else y) ≡ (if b then free_mutex else named y)
-      by_test true = refl
-      by_test false = refl
+  left_named y = of_if named (has u y) free_mutex y ∙ ap (λ (b : Bool). if b then free_mutex else named y) (sym (has_same y))
 
   -- ---- a lock
 
@@ -151,18 +170,10 @@ module _ (x : ThreadsOf) (t u : ℕ) (tied : IsTied (slot_of x) (tid_at x)) (e :
   one_same None = refl
 
   left_writer : (w : Option ℕ) → option_map (tid_at x) (without_slot u w) ≡ without_slot t (option_map (tid_at x) w)
-  left_writer w = by_test (is_one u w) ∙ ap (λ (b : Bool). if b then None else option_map (tid_at x) w) (sym (one_same w))
-    where
-      by_test : (b : Bool) → option_map (tid_at x) (if b then None else w) ≡ (if b then None else option_map (tid_at x) w)
-      by_test true = refl
-      by_test false = refl
+  left_writer w = of_if (option_map (tid_at x)) (is_one u w) None w ∙ ap (λ (b : Bool). if b then None else option_map (tid_at x) w) (sym (one_same w))
 
   reads_same : (r : ℕ → Bool) → named_reads x r t ≡ r u
-  reads_same r = by_zero (t == 0) refl
-    where
-      by_zero : (b : Bool) → (t == 0) ≡ b → (if b then any_unused (tid_at x) r thread_limit else seen false (slot_of x) r t) ≡ r u
-      by_zero true same = absurd (numbered (same_means t 0 same))
-      by_zero false same = seen_at false (slot_of x) r t u e
+  reads_same r = ap (λ (b : Bool). if b then any_unused (tid_at x) r thread_limit else seen false (slot_of x) r t) (not_same t 0 numbered) ∙ seen_at false (slot_of x) r t u e
 
   -- a slot that is used counts for no other one
   unused_put : (r : ℕ → Bool) (b : Bool) → any_unused (tid_at x) (put r u b) thread_limit ≡ any_unused (tid_at x) r thread_limit
@@ -171,83 +182,43 @@ module _ (x : ThreadsOf) (t u : ℕ) (tied : IsTied (slot_of x) (tid_at x)) (e :
       by_slot : (i : ℕ) (c : Bool) → (i == u) ≡ c → ((tid_at x i == 0) && put r u b i) ≡ ((tid_at x i == 0) && r i)
       by_slot i false apart = ap (λ (v : Bool). (tid_at x i == 0) && v) (put_other r u b i (same_fails i u apart))
       by_slot i true same =
-          let used : (tid_at x i == 0) ≡ false = ap (λ (k : ℕ). k == 0) (ap (tid_at x) (same_means i u same) ∙ at) ∙ not_zero (t == 0) refl in
+          let used : (tid_at x i == 0) ≡ false = ap (λ (k : ℕ). k == 0) (ap (tid_at x) (same_means i u same) ∙ at) ∙ not_same t 0 numbered in
           ap (λ (v : Bool). v && put r u b i) used ∙ ap (λ (v : Bool). v && r i) (sym used)
-        where
-          not_zero : (c : Bool) → (t == 0) ≡ c → (t == 0) ≡ false
-          not_zero true is = absurd (numbered (same_means t 0 is))
-          not_zero false is = is
 
   reads_put : (r : ℕ → Bool) (b : Bool) → named_reads x (put r u b) ≡ put (named_reads x r) t b
-  reads_put r b = fun_ext (λ n. by_zero n (n == 0) refl)
-    where
-      by_zero : (n : ℕ) (c : Bool) → (n == 0) ≡ c → named_reads x (put r u b) n ≡ put (named_reads x r) t b n
-      by_zero n true is =
-          let zero_is : n ≡ 0 = same_means n 0 is in
-          let apart : n ≢ t = λ same. numbered (sym same ∙ zero_is) in
-          ap (λ (c : Bool). if c then any_unused (tid_at x) (put r u b) thread_limit else seen false (slot_of x) (put r u b) n) is
-          ∙ unused_put r b
-          ∙ ap (λ (c : Bool). if c then any_unused (tid_at x) r thread_limit else seen false (slot_of x) r n) (sym is)
-          ∙ sym (put_other (named_reads x r) t b n apart)
-      by_zero n false is =
-          ap (λ (c : Bool). if c then any_unused (tid_at x) (put r u b) thread_limit else seen false (slot_of x) (put r u b) n) is
-          ∙ ap (λ (f : ℕ → Bool). f n) (seen_put false (slot_of x) (tid_at x) r t u b tied e)
-          ∙ by_number (n == t) refl
-        where
-          by_number : (c : Bool) → (n == t) ≡ c → put (seen false (slot_of x) r) t b n ≡ put (named_reads x r) t b n
-          by_number true same =
-              ap (put (seen false (slot_of x) r) t b) (same_means n t same) ∙ put_here (seen false (slot_of x) r) t b
-              ∙ sym (ap (put (named_reads x r) t b) (same_means n t same) ∙ put_here (named_reads x r) t b)
-          by_number false other =
-              put_other (seen false (slot_of x) r) t b n (same_fails n t other)
-              ∙ ap (λ (c : Bool). if c then any_unused (tid_at x) r thread_limit else seen false (slot_of x) r n) (sym is)
-              ∙ sym (put_other (named_reads x r) t b n (same_fails n t other))
+  reads_put r b = put_is _ _ t b (reads_same (put r u b) ∙ put_here r u b) (λ n apart.
+      let other : seen false (slot_of x) (put r u b) n ≡ seen false (slot_of x) r n =
+      ap (λ (f : ℕ → Bool). f n) (seen_put false (slot_of x) (tid_at x) r t u b tied e) ∙ put_other (seen false (slot_of x) r) t b n apart in
+      λ i. if n == 0 then unused_put r b i else other i)
 
 -- ---- the tables that are read
 
 module _ (x : ThreadsOf) (M : MutexTable) where
   abbrev pub read_mutexes : MutexTable
-  read_mutexes = table None (listed (λ m. named_mutex (tid_at x) (M m)))
+  read_mutexes = shown None (named_mutex (tid_at x)) M
 
   pub mutex_at : (m : ℕ) → m < name_limit → read_mutexes m ≡ named_mutex (tid_at x) (M m)
-  mutex_at m low = to_at None name_limit (λ m. named_mutex (tid_at x) (M m)) m low
+  mutex_at m low = shown_at None (named_mutex (tid_at x)) M m low
 
-  some_named : (y : Mutex) → is_some (named_mutex (tid_at x) y) ≡ is_some y
-  some_named (Some (Some o)) = refl
-  some_named (Some None) = refl
-  some_named None = refl
+  asked_read : {A : Type 0} (f g : Mutex → A)
+      → ((o : Ownership) → f (named_mutex (tid_at x) (Some (Some o))) ≡ g (Some (Some o)))
+      → f free_mutex ≡ g free_mutex
+      → f None ≡ g None
+      → (m : ℕ) → m < name_limit → f (read_mutexes m) ≡ g (M m)
+  asked_read f g owned free none m low = ap f (mutex_at m low) ∙ asked_same (tid_at x) f g owned free none (M m)
 
-  owned_named : (y : Mutex) → is_none (owner_of (named_mutex (tid_at x) y)) ≡ is_none (owner_of y)
-  owned_named (Some (Some o)) = refl
-  owned_named (Some None) = refl
-  owned_named None = refl
-
-  pub mutex_put : (m : ℕ) (y : Mutex) → m < name_limit → table None (listed (λ i. named_mutex (tid_at x) (put M m y i))) ≡ put read_mutexes m (named_mutex (tid_at x) y)
-  mutex_put m y low =
-      ap (λ (f : ℕ → Mutex). table None (listed f)) (ap_put (named_mutex (tid_at x)) M m y)
-      ∙ to_put None name_limit (λ i. named_mutex (tid_at x) (M i)) m (named_mutex (tid_at x) y) low
-
-  pub initialised_read : (m : ℕ) → m < name_limit → table None (listed (λ i. named_mutex (tid_at x) (mutex_initialised m M i))) ≡ mutex_initialised m read_mutexes
-  initialised_read m low = mutex_put m free_mutex low
-
-  pub known_mutex : (m : ℕ) → m < name_limit → is_some (read_mutexes m) ≡ is_some (M m)
-  known_mutex m low = ap (λ (y : Mutex). is_some y) (mutex_at m low) ∙ some_named (M m)
-
-  pub unowned_mutex : (m : ℕ) → m < name_limit → is_none (owner_of (read_mutexes m)) ≡ is_none (owner_of (M m))
-  unowned_mutex m low = ap (λ (y : Mutex). is_none (owner_of y)) (mutex_at m low) ∙ owned_named (M m)
+  pub initialised_read : (m : ℕ) → m < name_limit → shown None (named_mutex (tid_at x)) (mutex_initialised m M) ≡ mutex_initialised m read_mutexes
+  initialised_read m low = changed None (named_mutex (tid_at x)) M m free_mutex _ low refl
 
   pub mutex_init_is : (m : ℤ) → object_named m < name_limit → mutex_init_answer read_mutexes m ≡ mutex_init_answer M m
-  mutex_init_is m low = ap (λ (b : Bool). if not (is_object m) then Err EINVAL else if b then Err EBUSY else Ok tt) (known_mutex (object_named m) low)
-
-  not_some : (y : Mutex) → is_none (named_mutex (tid_at x) y) ≡ is_none y
-  not_some (Some (Some o)) = refl
-  not_some (Some None) = refl
-  not_some None = refl
+  mutex_init_is m low =
+      let answer : Mutex → Result (Unit {0}) Errno = λ y. if not (is_object m) then Err EINVAL else if is_some y then Err EBUSY else Ok tt in
+      asked_read answer answer (λ o. refl) refl refl (object_named m) low
 
   pub mutex_free_is : (m : ℤ) → object_named m < name_limit → mutex_free_answer read_mutexes m ≡ mutex_free_answer M m
   mutex_free_is m low =
-      ap (λ (b : Bool). if b then Err EINVAL else Ok (is_none (owner_of (read_mutexes (object_named m))))) (ap (λ (y : Mutex). is_none y) (mutex_at (object_named m) low) ∙ not_some (M (object_named m)))
-      ∙ ap (λ (b : Bool). if is_none (M (object_named m)) then Err EINVAL else Ok b) (unowned_mutex (object_named m) low)
+      let answer : Mutex → Result Bool Errno = λ y. if is_none y then Err EINVAL else Ok (is_none (owner_of y)) in
+      asked_read answer answer (λ o. refl) refl refl (object_named m) low
 
   -- the owner at a slot, by number
   abbrev pub named_owner : Result (Option Slot) Errno → Result (Option Tid) Errno
@@ -255,12 +226,10 @@ module _ (x : ThreadsOf) (M : MutexTable) where
   named_owner (Err e) = Err e
 
   mutex_owner_is : (m : ℤ) → object_named m < name_limit → owner_answer read_mutexes m ≡ named_owner (mutex_owner_answer M m)
-  mutex_owner_is m low = ap (λ (y : Mutex). if is_none y then Err EINVAL else Ok (option_map tid (owner_of y))) (mutex_at (object_named m) low) ∙ by_mutex (M (object_named m))
-    where
-      by_mutex : (y : Mutex) → (if is_none (named_mutex (tid_at x) y) then Err EINVAL else Ok (option_map tid (owner_of (named_mutex (tid_at x) y)))) ≡ named_owner (if is_none y then Err EINVAL else Ok (option_map slot_numbered (owner_of y)))
-      by_mutex (Some (Some o)) = refl
-      by_mutex (Some None) = refl
-      by_mutex None = refl
+  mutex_owner_is m low = asked_read
+      (λ y. if is_none y then Err EINVAL else Ok (option_map tid (owner_of y)))
+      (λ y. named_owner (if is_none y then Err EINVAL else Ok (option_map slot_numbered (owner_of y))))
+      (λ o. refl) refl refl (object_named m) low
 
   pub owner_named : (m : ℤ) → object_named m < name_limit → (r : Result (Option Slot) Errno) → r ≡ mutex_owner_answer M m → named_owner r ≡ owner_answer read_mutexes m
   owner_named m low r is = ap named_owner is ∙ sym (mutex_owner_is m low)
@@ -276,19 +245,21 @@ module _ (x : ThreadsOf) (M : MutexTable) where
 
   module _ (t u : ℕ) (tied : IsTied (slot_of x) (tid_at x)) (e : slot_of x t ≡ Some u) where
     pub mutex_take_is : (m : ℤ) → object_named m < name_limit → mutex_take_answer read_mutexes t m ≡ mutex_take_answer M u m
-    mutex_take_is m low = ap (take_answer t) (mutex_at (object_named m) low) ∙ take_same x t u tied e (M (object_named m))
+    mutex_take_is m low = asked_read (take_answer t) (take_answer u) (λ o. rw (same_owner x t u tied e o.owner) refl) refl refl (object_named m) low
 
     pub mutex_release_is : (m : ℤ) → object_named m < name_limit → mutex_release_answer read_mutexes t m ≡ mutex_release_answer M u m
-    mutex_release_is m low = ap (release_answer t) (mutex_at (object_named m) low) ∙ release_same x t u tied e (M (object_named m))
+    mutex_release_is m low = asked_read (release_answer t) (release_answer u) (λ o. rw (same_owner x t u tied e o.owner) refl) refl refl (object_named m) low
 
     levels_read : (m : ℕ) → m < name_limit → levels_of u (M m) ≡ levels_of t (read_mutexes m)
-    levels_read m low = sym (ap (levels_of t) (mutex_at m low) ∙ levels_same x t u tied e (M m))
+    levels_read m low = sym (asked_read (levels_of t) (levels_of u) (λ o. ap (λ (b : Bool). if b then o.levels else 0) (same_owner x t u tied e o.owner)) refl refl m low)
 
-    pub taken_read : (m : ℕ) → m < name_limit → table None (listed (λ i. named_mutex (tid_at x) (mutex_taken u m M i))) ≡ mutex_taken t m read_mutexes
-    taken_read m low = mutex_put m _ low ∙ ap (put read_mutexes m) (with_named x t u tied e (levels_of u (M m) + 1) ∙ ap (λ (n : ℕ). mutex_with t (n + 1)) (levels_read m low))
+    pub taken_read : (m : ℕ) → m < name_limit → shown None (named_mutex (tid_at x)) (mutex_taken u m M) ≡ mutex_taken t m read_mutexes
+    taken_read m low = changed None (named_mutex (tid_at x)) M m _ _ low
+        (with_named x t u tied e (levels_of u (M m) + 1) ∙ ap (λ (n : ℕ). mutex_with t (n + 1)) (levels_read m low))
 
-    pub released_read : (m : ℕ) → m < name_limit → table None (listed (λ i. named_mutex (tid_at x) (mutex_released u m M i))) ≡ mutex_released t m read_mutexes
-    released_read m low = mutex_put m _ low ∙ ap (put read_mutexes m) (with_named x t u tied e (levels_of u (M m) - 1) ∙ ap (λ (n : ℕ). mutex_with t (n - 1)) (levels_read m low))
+    pub released_read : (m : ℕ) → m < name_limit → shown None (named_mutex (tid_at x)) (mutex_released u m M) ≡ mutex_released t m read_mutexes
+    released_read m low = changed None (named_mutex (tid_at x)) M m _ _ low
+        (with_named x t u tied e (levels_of u (M m) - 1) ∙ ap (λ (n : ℕ). mutex_with t (n - 1)) (levels_read m low))
 
     pub has_read : (m : ℕ) → m < name_limit → has t (read_mutexes m) ≡ has u (M m)
     has_read m low = ap (has t) (mutex_at m low) ∙ has_same x t u tied e (M m)
@@ -301,25 +272,24 @@ module _ (x : ThreadsOf) (M : MutexTable) where
         by_name (inl low) = had m ∙ sym (has_read m low)
         by_name (inr high) = contains-past set fits m (omega (arith, high)) ∙ ap (has t) (sym (to_past None name_limit (λ i. named_mutex (tid_at x) (M i)) m high))
 
-    left_at : (m : ℕ) → (m < name_limit) ⊎ (name_limit ≤ m) → table None (listed (λ i. named_mutex (tid_at x) (mutexes_left u M i))) m ≡ mutexes_left t read_mutexes m
-    left_at m (inl low) = to_at None name_limit (λ i. named_mutex (tid_at x) (mutexes_left u M i)) m low ∙ left_named x t u tied e (M m) ∙ ap (λ (y : Mutex). if has t y then free_mutex else y) (sym (mutex_at m low))
-    left_at m (inr high) = to_past None name_limit (λ i. named_mutex (tid_at x) (mutexes_left u M i)) m high ∙ ap (λ (y : Mutex). if has t y then free_mutex else y) (sym (to_past None name_limit (λ i. named_mutex (tid_at x) (M i)) m high))
-
-    pub mutexes_left_read : table None (listed (λ i. named_mutex (tid_at x) (mutexes_left u M i))) ≡ mutexes_left t read_mutexes
-    mutexes_left_read = fun_ext (λ m. left_at m (cases_lt m name_limit))
+    pub mutexes_left_read : shown None (named_mutex (tid_at x)) (mutexes_left u M) ≡ mutexes_left t read_mutexes
+    mutexes_left_read = each_changed None (named_mutex (tid_at x)) M (mutexes_left u M)
+        (λ m y. if has t y then free_mutex else y)
+        (λ m low. left_named x t u tied e (M m))
+        (λ m. refl)
 
     -- the thread is gone
     module _ (y : ThreadsOf) (gone : RemovesThread x y u) where
       others_named : (z : Mutex) (b : Bool) → has u z ≡ b → named_mutex (tid_at y) (if b then free_mutex else z) ≡ named_mutex (tid_at x) (if b then free_mutex else z)
       others_named z true is = refl
-      others_named (Some (Some o)) false is = ap (λ (k : ℕ). Some (Some (record { owner = k; levels = o.levels }))) (ap (λ (f : ℕ → ℕ). f o.owner) gone.tids ∙ put_other (tid_at x) u 0 o.owner (same_fails o.owner u is))
+      others_named (Some (Some o)) false is = ap (λ (k : ℕ). Some (Some (record { owner = k; levels = o.levels }))) ((λ i. gone.tids i o.owner) ∙ put_other (tid_at x) u 0 o.owner (same_fails o.owner u is))
       others_named (Some None) false is = refl
       others_named None false is = refl
 
       gone_named : ◌≡◌ {A = ℕ → Mutex} (λ i. named_mutex (tid_at y) (mutexes_left u M i)) (λ i. named_mutex (tid_at x) (mutexes_left u M i))
       gone_named = fun_ext (λ i. others_named (M i) (has u (M i)) refl)
 
-      pub mutexes_gone_read : table None (listed (λ i. named_mutex (tid_at y) (mutexes_left u M i))) ≡ mutexes_left t read_mutexes
+      pub mutexes_gone_read : shown None (named_mutex (tid_at y)) (mutexes_left u M) ≡ mutexes_left t read_mutexes
       mutexes_gone_read = ap (λ (f : ℕ → Mutex). table None (listed f)) gone_named ∙ mutexes_left_read
 
       pub mutexes_still : ((m : ℕ) → has t (read_mutexes m) ≡ false) → listed (λ i. named_mutex (tid_at y) (mutexes_left u M i)) ≡ listed (λ i. named_mutex (tid_at x) (M i))
@@ -334,7 +304,7 @@ module _ (x : ThreadsOf) (M : MutexTable) where
       by_owner : (z : Mutex) → has 0 (named_mutex (tid_at x) z) ≡ false → named_mutex (tid_at y) z ≡ named_mutex (tid_at x) z
       by_owner (Some (Some o)) used =
           let apart : o.owner ≢ u = λ same. same_fails (tid_at x o.owner) 0 used (ap (tid_at x) same ∙ adds.unused) in
-          ap (λ (k : ℕ). Some (Some (record { owner = k; levels = o.levels }))) (ap (λ (f : ℕ → ℕ). f o.owner) adds.tids ∙ put_other (tid_at x) u d.tid.0 o.owner apart)
+          ap (λ (k : ℕ). Some (Some (record { owner = k; levels = o.levels }))) ((λ i. adds.tids i o.owner) ∙ put_other (tid_at x) u d.tid.0 o.owner apart)
       by_owner (Some None) used = refl
       by_owner None used = refl
 
@@ -375,18 +345,16 @@ module _ (x : ThreadsOf) (L : LockTables) where
   read_lock l low = ap (λ (n : ℕ). not (n == 0)) (readers_at l low)
 
   pub lock_init_is : (l : ℤ) → object_named l < name_limit → lock_init_answer read_locks l ≡ lock_init_answer L l
-  lock_init_is l low = ap (λ (b : Bool). if not (is_object l) then Err EINVAL else if b then Err EBUSY else Ok tt) (known_lock (object_named l) low)
+  lock_init_is l low = λ i. if not (is_object l) then Err EINVAL else if known_lock (object_named l) low i then Err EBUSY else Ok tt
 
   -- by: a lock is initialised, written under and read
   abbrev may_by : Bool → Bool → Bool → Bool
   may_by write written read = if write then not (written || read) else not written
 
   pub lock_free_is : (write : Bool) (l : ℤ) → object_named l < name_limit → lock_free_answer read_locks write l ≡ lock_free_answer L write l
-  lock_free_is write l low =
-      let k = object_named l in
-      ap (λ (b : Bool). if not b then Err EINVAL else Ok (may_by write (is_written read_locks k) (not (read_locks.readers k == 0)))) (known_lock k low)
-      ∙ ap (λ (b : Bool). if not (L.initialised k) then Err EINVAL else Ok (may_by write b (not (read_locks.readers k == 0)))) (written_lock k low)
-      ∙ ap (λ (b : Bool). if not (L.initialised k) then Err EINVAL else Ok (may_by write (is_written L k) b)) (read_lock k low)
+  lock_free_is write l low = let k = object_named l in λ i.
+      if not (known_lock k low i) then Err EINVAL else
+      Ok (may_by write (written_lock k low i) (read_lock k low i))
 
   pub lock_initialised_read : (l : ℕ) → l < name_limit → locks_of (locked_by x (lock_initialised l L)) ≡ lock_initialised l read_locks
   lock_initialised_read l low = same_tables (to_put false name_limit L.initialised l true low) refl refl refl
@@ -394,8 +362,8 @@ module _ (x : ThreadsOf) (L : LockTables) where
   -- the slots are the same
   pub locks_same : (y : ThreadsOf) → slot_of y ≡ slot_of x → tid_at y ≡ tid_at x → locked_by y L ≡ locked_by x L
   locks_same y slots tids = same_locks refl
-      (ap (λ (f : ℕ → ℕ). listed (λ l. option_map f (L.writer l))) tids)
-      (ap (λ (h : ℕ → ℕ → Bool). listed (λ l. listed (h l))) (fun_ext (λ l. fun_ext (λ n. ap (λ (f : ℕ → ℕ). if n == 0 then any_unused f (L.reads l) thread_limit else seen false (slot_of y) (L.reads l) n) tids ∙ ap (λ (g : ℕ → Option ℕ). if n == 0 then any_unused (tid_at x) (L.reads l) thread_limit else seen false g (L.reads l) n) slots))))
+      (λ i. listed (λ l. option_map (tids i) (L.writer l)))
+      (λ i. listed (λ l. listed (λ n. if n == 0 then any_unused (tids i) (L.reads l) thread_limit else seen false (slots i) (L.reads l) n)))
       refl
 
   module _ (t u : ℕ) (tied : IsTied (slot_of x) (tid_at x)) (e : slot_of x t ≡ Some u) (few : t < name_limit) where
@@ -403,10 +371,7 @@ module _ (x : ThreadsOf) (L : LockTables) where
     reads_at l low = read_here false R l t low few ∙ reads_same x t u tied e (L.reads l)
 
     pub holds_lock : (l : ℕ) → l < name_limit → holds read_locks t l ≡ holds L u l
-    holds_lock l low =
-        ap (λ (w : Option ℕ). is_one t w || read_locks.reads l t) (writer_at l low)
-        ∙ ap (λ (b : Bool). b || read_locks.reads l t) (one_same x t u tied e (L.writer l))
-        ∙ ap (λ (b : Bool). is_one u (L.writer l) || b) (reads_at l low)
+    holds_lock l low = let writes = ap (is_one t) (writer_at l low) ∙ one_same x t u tied e (L.writer l) in λ i. writes i || reads_at l low i
 
     -- a set of the locks that it holds
     pub held_each : (set : ℕ) → set < 2 ^ 64 → ((l : ℕ) → contains set l ≡ holds L u l) → (l : ℕ) → contains set l ≡ holds read_locks t l
@@ -419,64 +384,55 @@ module _ (x : ThreadsOf) (L : LockTables) where
             ∙ sym (ap (λ (w : Option ℕ). is_one t w || read_locks.reads l t) (to_past None name_limit W l high) ∙ ap (λ (f : ℕ → Bool). f t) (read_past false R l high) ∙ get_or_past [] t false (omega arith))
 
     pub lock_take_is : (write : Bool) (l : ℤ) → object_named l < name_limit → lock_take_answer read_locks t write l ≡ lock_take_answer L u write l
-    lock_take_is write l low =
-        let k = object_named l in
-        let take : Bool → Bool → Bool → Bool → Result (Unit {0}) Errno = λ known held written read. if not known then Err EINVAL else if held then Err EDEADLK else if not (may_by write written read) then Err EBUSY else Ok tt in
-        ap (λ (b : Bool). take b (holds read_locks t k) (is_written read_locks k) (not (read_locks.readers k == 0))) (known_lock k low)
-        ∙ ap (λ (b : Bool). take (L.initialised k) b (is_written read_locks k) (not (read_locks.readers k == 0))) (holds_lock k low)
-        ∙ ap (λ (b : Bool). take (L.initialised k) (holds L u k) b (not (read_locks.readers k == 0))) (written_lock k low)
-        ∙ ap (λ (b : Bool). take (L.initialised k) (holds L u k) (is_written L k) b) (read_lock k low)
+    lock_take_is write l low = let k = object_named l in λ i.
+        if not (known_lock k low i) then Err EINVAL else
+        if holds_lock k low i then Err EDEADLK else
+        if not (may_by write (written_lock k low i) (read_lock k low i)) then Err EBUSY else
+        Ok tt
 
     pub lock_release_is : (l : ℤ) → object_named l < name_limit → lock_release_answer read_locks t l ≡ lock_release_answer L u l
-    lock_release_is l low =
-        let k = object_named l in
-        let release : Bool → Bool → Bool → Bool → Result (Unit {0}) Errno = λ known written read held. if not known then Err EINVAL else if not (written || read) then Err EDEADLK else if not held then Err EACCES else Ok tt in
-        ap (λ (b : Bool). release b (is_written read_locks k) (not (read_locks.readers k == 0)) (holds read_locks t k)) (known_lock k low)
-        ∙ ap (λ (b : Bool). release (L.initialised k) b (not (read_locks.readers k == 0)) (holds read_locks t k)) (written_lock k low)
-        ∙ ap (λ (b : Bool). release (L.initialised k) (is_written L k) b (holds read_locks t k)) (read_lock k low)
-        ∙ ap (release (L.initialised k) (is_written L k) (not (L.readers k == 0))) (holds_lock k low)
+    lock_release_is l low = let k = object_named l in λ i.
+        if not (known_lock k low i) then Err EINVAL else
+        if not (written_lock k low i || read_lock k low i) then Err EDEADLK else
+        if not (holds_lock k low i) then Err EACCES else
+        Ok tt
+
+    reads_changed : (b : Bool) (l : ℕ) → l < name_limit → read false (λ i. named_reads x (put L.reads l (put (L.reads l) u b) i)) ≡ put read_locks.reads l (put (read_locks.reads l) t b)
+    reads_changed b l low = ap (read false) (ap_put (named_reads x) L.reads l (put (L.reads l) u b) ∙ ap (put R l) (reads_put x t u tied e (L.reads l) b)) ∙ read_one false R l t b low few
 
     pub lock_taken_read : (write : Bool) (l : ℕ) → l < name_limit → locks_of (locked_by x (lock_taken u write l L)) ≡ lock_taken t write l read_locks
     lock_taken_read true l low = same_tables refl
-        (ap (λ (f : ℕ → Option ℕ). table None (listed f)) (ap_put (λ (w : Option ℕ). option_map (tid_at x) w) L.writer l (Some u)) ∙ to_put None name_limit W l (Some (tid_at x u)) low ∙ ap (λ (k : ℕ). put read_locks.writer l (Some k)) (at x t u tied e))
+        (changed None (option_map (tid_at x)) L.writer l (Some u) (Some t) low (ap Some (at x t u tied e)))
         refl refl
     lock_taken_read false l low = same_tables refl refl
-        (ap (read false) (ap_put (named_reads x) L.reads l (put (L.reads l) u true) ∙ ap (put R l) (reads_put x t u tied e (L.reads l) true)) ∙ read_one false R l t true low few)
-        (to_put 0 name_limit L.readers l (L.readers l + 1) low ∙ ap (λ (n : ℕ). put read_locks.readers l (n + 1)) (sym (readers_at l low)))
+        (reads_changed true l low)
+        (changed 0 (λ n. n) L.readers l _ _ low (ap (λ (n : ℕ). n + 1) (sym (readers_at l low))))
 
     pub lock_released_read : (l : ℕ) → l < name_limit → locks_of (locked_by x (lock_released u l L)) ≡ lock_released t l read_locks
     lock_released_read l low = same_tables refl
-        (ap (λ (f : ℕ → Option ℕ). table None (listed f)) (ap_put (λ (w : Option ℕ). option_map (tid_at x) w) L.writer l (without_slot u (L.writer l)))
-        ∙ to_put None name_limit W l _ low
-        ∙ ap (put read_locks.writer l) (left_writer x t u tied e (L.writer l) ∙ ap (without_slot t) (sym (writer_at l low))))
-        (ap (read false) (ap_put (named_reads x) L.reads l (put (L.reads l) u false) ∙ ap (put R l) (reads_put x t u tied e (L.reads l) false)) ∙ read_one false R l t false low few)
-        (to_put 0 name_limit L.readers l _ low
-        ∙ ap (put read_locks.readers l) (ap (λ (b : Bool). readers_without b (L.readers l)) (sym (reads_at l low)) ∙ ap (readers_without (read_locks.reads l t)) (sym (readers_at l low))))
+        (changed None (option_map (tid_at x)) L.writer l _ _ low (left_writer x t u tied e (L.writer l) ∙ ap (without_slot t) (sym (writer_at l low))))
+        (reads_changed false l low)
+        (changed 0 (λ n. n) L.readers l _ _ low (λ i. readers_without (sym (reads_at l low) i) (sym (readers_at l low) i)))
 
-    -- at each lock
-    writers_left : (l : ℕ) → (l < name_limit) ⊎ (name_limit ≤ l) → table None (listed (λ i. option_map (tid_at x) (without_slot u (L.writer i)))) l ≡ without_slot t (read_locks.writer l)
-    writers_left l (inl low) = to_at None name_limit _ l low ∙ left_writer x t u tied e (L.writer l) ∙ ap (without_slot t) (sym (writer_at l low))
-    writers_left l (inr high) = to_past None name_limit _ l high ∙ ap (without_slot t) (sym (to_past None name_limit W l high))
-
-    readers_left : (l : ℕ) → (l < name_limit) ⊎ (name_limit ≤ l) → table 0 (listed (λ i. readers_without (L.reads i u) (L.readers i))) l ≡ readers_without (read_locks.reads l t) (read_locks.readers l)
-    readers_left l (inl low) = to_at 0 name_limit _ l low ∙ ap (λ (b : Bool). readers_without b (L.readers l)) (sym (reads_at l low)) ∙ ap (readers_without (read_locks.reads l t)) (sym (readers_at l low))
-    readers_left l (inr high) = to_past 0 name_limit _ l high ∙ sym (none_less (read_locks.reads l t)) ∙ ap (readers_without (read_locks.reads l t)) (sym (to_past 0 name_limit L.readers l high))
+    pub locks_left_read : locks_of (locked_by x (locks_left u L)) ≡ locks_left t read_locks
+    locks_left_read = same_tables refl
+        (each_changed None (option_map (tid_at x)) L.writer _ (λ l. without_slot t)
+        (λ l low. left_writer x t u tied e (L.writer l))
+        (λ l. refl))
+        (ap (read false) (fun_ext (λ l. reads_put x t u tied e (L.reads l) false)) ∙ read_each false R t few)
+        (each_changed 0 (λ n. n) L.readers _ (λ l. readers_without (read_locks.reads l t))
+        (λ l low. ap (λ (b : Bool). readers_without b (L.readers l)) (sym (reads_at l low)))
+        (λ l. none_less (read_locks.reads l t)))
       where
         none_less : (b : Bool) → readers_without b 0 ≡ 0
         none_less true = refl
         none_less false = refl
 
-    reads_left : read false (λ l. named_reads x (put (L.reads l) u false)) ≡ (λ l. put (read_locks.reads l) t false)
-    reads_left = ap (read false) (fun_ext (λ l. reads_put x t u tied e (L.reads l) false)) ∙ read_each false R t few
-
-    pub locks_left_read : locks_of (locked_by x (locks_left u L)) ≡ locks_left t read_locks
-    locks_left_read = same_tables refl (fun_ext (λ l. writers_left l (cases_lt l name_limit))) reads_left (fun_ext (λ l. readers_left l (cases_lt l name_limit)))
-
     -- the thread is gone
     module _ (y : ThreadsOf) (gone : RemovesThread x y u) where
       others_write : (w : Option ℕ) (b : Bool) → is_one u w ≡ b → option_map (tid_at y) (if b then None else w) ≡ option_map (tid_at x) (if b then None else w)
       others_write w true is = refl
-      others_write (Some o) false is = ap Some (ap (λ (f : ℕ → ℕ). f o) gone.tids ∙ put_other (tid_at x) u 0 o (same_fails o u is))
+      others_write (Some o) false is = ap Some ((λ i. gone.tids i o) ∙ put_other (tid_at x) u 0 o (same_fails o u is))
       others_write None false is = refl
 
       slots_gone : slot_of y ≡ put (slot_of x) t None
@@ -490,9 +446,7 @@ module _ (x : ThreadsOf) (L : LockTables) where
           and_none false = refl
 
           by_slot : (i : ℕ) (c : Bool) → (i == u) ≡ c → ((tid_at y i == 0) && put r u false i) ≡ ((tid_at x i == 0) && put r u false i)
-          by_slot i true same =
-              let none : put r u false i ≡ false = ap (put r u false) (same_means i u same) ∙ put_here r u false in
-              ap (λ (v : Bool). (tid_at y i == 0) && v) none ∙ and_none (tid_at y i == 0) ∙ sym (ap (λ (v : Bool). (tid_at x i == 0) && v) none ∙ and_none (tid_at x i == 0))
+          by_slot i true same = rw (ap (put r u false) (same_means i u same) ∙ put_here r u false) (and_none (tid_at y i == 0) ∙ sym (and_none (tid_at x i == 0)))
           by_slot i false apart = ap (λ (k : ℕ). (k == 0) && put r u false i) (ap (λ (f : ℕ → ℕ). f i) gone.tids ∙ put_other (tid_at x) u 0 i (same_fails i u apart))
 
       seen_gone_at : (r : ℕ → Bool) → seen false (slot_of y) (put r u false) ≡ seen false (slot_of x) (put r u false)
@@ -503,7 +457,7 @@ module _ (x : ThreadsOf) (L : LockTables) where
           ∙ put_none (seen false (slot_of x) F) t false (seen_at false (slot_of x) F t u e ∙ put_here r u false)
 
       reads_gone : (l : ℕ) → named_reads y (put (L.reads l) u false) ≡ named_reads x (put (L.reads l) u false)
-      reads_gone l = fun_ext (λ n. ap (λ (b : Bool). if n == 0 then b else seen false (slot_of y) (put (L.reads l) u false) n) (unused_gone (L.reads l)) ∙ ap (λ (f : ℕ → Bool). if n == 0 then any_unused (tid_at x) (put (L.reads l) u false) thread_limit else f n) (seen_gone_at (L.reads l)))
+      reads_gone l = fun_ext (λ n. λ i. if n == 0 then unused_gone (L.reads l) i else seen_gone_at (L.reads l) i n)
 
       gone_locked : locked_by y (locks_left u L) ≡ locked_by x (locks_left u L)
       gone_locked = same_locks refl
@@ -536,7 +490,7 @@ module _ (x : ThreadsOf) (L : LockTables) where
       by_writer : (w : Option ℕ) → is_one 0 (option_map (tid_at x) w) ≡ false → option_map (tid_at y) w ≡ option_map (tid_at x) w
       by_writer (Some o) used =
           let apart : o ≢ u = λ same. same_fails (tid_at x o) 0 used (ap (tid_at x) same ∙ adds.unused) in
-          ap Some (ap (λ (f : ℕ → ℕ). f o) adds.tids ∙ put_other (tid_at x) u d.tid.0 o apart)
+          ap Some ((λ i. adds.tids i o) ∙ put_other (tid_at x) u d.tid.0 o apart)
       by_writer None used = refl
 
       spare_reads : (l : ℕ) → l < name_limit → any_unused (tid_at x) (L.reads l) thread_limit ≡ false
