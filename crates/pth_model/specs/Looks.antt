@@ -5,7 +5,7 @@ use Rattle.pth_base.specs.declared.event.EventSpec.TheVariants as of
 use Rattle.pth_ring.specs.declared.event.Event.{Event}
 use Rattle.pth_ring.specs.declared.event.Status.{Status}
 use Rattle.pth_ring.specs.declared.event.Status.TheVariants.{Pending, Occurred, Failed}
-use Rattle.pth_ring.specs.Rings.{with_status, is_pending}
+use Rattle.pth_ring.specs.Rings.{with_status, is_settled}
 use Rattle.pth_ring.specs.Ring.{each}
 use Rattle.pth_base.specs.Descriptors.{contains}
 use Rattle.pth_kernel.specs.Kernel.{fd_named, is_fd_live, is_readable, is_writeable, is_exceptional}
@@ -49,10 +49,9 @@ module _ {P S H : Type 0} (k : Control P S H) where
   abbrev pub looks_at : List ℕ → Control P S H
   looks_at es = with_events (λ x. record x { events = each es (option_map looked_at) x.events }) k
 
-  -- whether an event is found not to be pending, if it is looked at now
+  -- whether an event is settled, if it is looked at now
   abbrev pub comes : Option Event → Bool
-  comes None = false
-  comes (Some x) = not (is_pending (found x.spec))
+  comes o = is_settled (option_map looked_at o)
 
 -- the moment at which an event occurs, 0 where none is known
 abbrev pub occurs_at : EventSpec → ℕ
