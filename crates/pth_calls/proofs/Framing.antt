@@ -6,12 +6,14 @@ use Rattle.pth_ring.specs.Arena.{RingsOf, events_of}
 use Rattle.pth_ring.specs.Rings.{Events}
 use Rattle.pth_threads.specs.Attributes.{AttrsOf}
 use Rattle.pth_world.proofs.Events.{events_frame}
+use Rattle.pth_world.proofs.Frames.{gives_none}
 use Rattle.pth_world.proofs.Kernels.{kernel_whole}
 use Rattle.pth_world.proofs.Moves.{rests_still}
 use Rattle.pth_world.proofs.Ranks.{ranks_none}
 use Rattle.pth_world.proofs.SettingValues.{objects_frame}
 use Rattle.pth_world.specs.Frame.{Frame}
 use Rattle.pth_world.specs.Ranks.{KeepsRanks}
+use Rattle.pth_world.specs.Numbering.{Thread, Object, Event, Numbers, no_numbers, one_of}
 use Rattle.pth_world.specs.Whole.{Whole}
 use Rattle.pth_world.specs.World.{WorldOf}
 
@@ -34,50 +36,50 @@ runs_if false t u r is other = is
 
 module _ {P S H : Type 0} (w : WorldOf P S H) (whole : Whole w) where
   -- the rings changed, or not
-  pub rings_frame : {A E : Type 0} (n : ℕ) (x : RingsOf) (now : Events) (q : Result A E) → OnOk q (events_of x ≡ now) → OnErr q (x ≡ w.events) → now.made ≤ w.events.made + n → Frame w (record w { events = x }) n w.scheduler.running false
+  pub rings_frame : {A E : Type 0} (n : Numbers) (x : RingsOf) (now : Events) (q : Result A E) → OnOk q (events_of x ≡ now) → OnErr q (x ≡ w.events) → now.made ≤ w.events.made + n Event → Frame w (record w { events = x }) n w.scheduler.running false
   rings_frame n x now (Ok y) changed refused few = events_frame w x n whole (let is = ap (λ (k : Events). k.made) changed in omega arith)
   rings_frame n x now (Err d) changed refused few = events_frame w x n whole (let is = ap (λ (k : RingsOf). k.made) refused in omega arith)
 
   -- the objects changed, or not, and none was made
-  pub kept_objects_frame : {A E : Type 0} (y : AttrsOf) (q : Result A E) → OnOk q (y.made ≡ w.attributes.made) → OnErr q (y ≡ w.attributes) → Frame w (record w { attributes = y }) 0 w.scheduler.running false
-  kept_objects_frame y (Ok x) made refused = objects_frame w y 0 whole (let is : y.made ≡ w.attributes.made = made in omega arith)
-  kept_objects_frame y (Err e) made refused = objects_frame w y 0 whole (let is = ap (λ (k : AttrsOf). k.made) refused in omega arith)
+  pub kept_objects_frame : {A E : Type 0} (y : AttrsOf) (q : Result A E) → OnOk q (y.made ≡ w.attributes.made) → OnErr q (y ≡ w.attributes) → Frame w (record w { attributes = y }) no_numbers w.scheduler.running false
+  kept_objects_frame y (Ok x) made refused = objects_frame w y no_numbers whole (let is : y.made ≡ w.attributes.made = made in omega arith)
+  kept_objects_frame y (Err e) made refused = objects_frame w y no_numbers whole (let is = ap (λ (k : AttrsOf). k.made) refused in omega arith)
 
   -- one was made
-  pub object_made_frame : (v : WorldOf P S H) → v ≡ record w { attributes = v.attributes } → v.attributes.made ≡ w.attributes.made + 1 → Frame w v 1 w.scheduler.running false
-  object_made_frame v same made = subst (λ (z : WorldOf P S H). Frame w z 1 w.scheduler.running false) (sym same) (objects_frame w v.attributes 1 whole (let is = made in omega arith))
+  pub object_made_frame : (v : WorldOf P S H) → v ≡ record w { attributes = v.attributes } → v.attributes.made ≡ w.attributes.made + 1 → Frame w v (one_of Object) w.scheduler.running false
+  object_made_frame v same made = subst (λ (z : WorldOf P S H). Frame w z (one_of Object) w.scheduler.running false) (sym same) (objects_frame w v.attributes (one_of Object) whole (let is = made in omega arith))
 
 -- the kernel changed alone
-pub kernel_frame : {P S H : Type 0} (w : WorldOf P S H) (x : KernelOf) → Whole w → Frame w (record w { kernel = x }) 0 w.scheduler.running false
+pub kernel_frame : {P S H : Type 0} (w : WorldOf P S H) (x : KernelOf) → Whole w → Frame w (record w { kernel = x }) no_numbers w.scheduler.running false
 kernel_frame w x whole = record {
   whole = kernel_whole w x whole;
   runs = refl;
-  made = record { threads = omega arith; objects = omega arith; events = omega arith };
+  made = gives_none no_numbers w (record w { kernel = x }) (λ k. refl);
   ranks = ranks_none w.threads;
   preferred = refl;
 }
 
 -- new threads are favoured, or not
-pub favoured_frame : {P S H : Type 0} (w v : WorldOf P S H) (on : Bool) → Whole v → v ≡ record w { scheduler = record w.scheduler { favour_new = on } } → Frame w v 0 w.scheduler.running false
+pub favoured_frame : {P S H : Type 0} (w v : WorldOf P S H) (on : Bool) → Whole v → v ≡ record w { scheduler = record w.scheduler { favour_new = on } } → Frame w v no_numbers w.scheduler.running false
 favoured_frame {P} {S} {H} w v on whole same =
-    subst (λ (z : WorldOf P S H). Frame w z 0 w.scheduler.running false) (sym same) (record {
+    subst (λ (z : WorldOf P S H). Frame w z no_numbers w.scheduler.running false) (sym same) (record {
       whole = subst (λ (z : WorldOf P S H). Whole z) same whole;
       runs = refl;
-      made = record { threads = omega arith; objects = omega arith; events = omega arith };
+      made = gives_none no_numbers w (record w { scheduler = record w.scheduler { favour_new = on } }) (λ k. refl);
       ranks = ranks_none w.threads;
       preferred = refl;
     })
 
 -- a thread was made
-pub spawned_frame : {P S H : Type 0} (w v : WorldOf P S H) (r : Option ℕ) → w.scheduler.running ≡ r → Whole v → v.threads.records.made ≡ w.threads.records.made + 1 → KeepsRanks 1 w.threads v.threads → v ≡ record w { threads = v.threads } → Frame w v 1 r false
+pub spawned_frame : {P S H : Type 0} (w v : WorldOf P S H) (r : Option ℕ) → w.scheduler.running ≡ r → Whole v → v.threads.records.made ≡ w.threads.records.made + 1 → KeepsRanks 1 w.threads v.threads → v ≡ record w { threads = v.threads } → Frame w v (one_of Thread) r false
 spawned_frame {P} {S} {H} w v r is whole made ranks same = record {
   whole = whole;
   runs = ap (λ (z : WorldOf P S H). z.scheduler.running) same ∙ is;
-  made = record {
-    threads = (let e = made in omega arith);
-    objects = (let e = ap (λ (z : WorldOf P S H). z.attributes.made) same in omega arith);
-    events = (let e = ap (λ (z : WorldOf P S H). z.events.made) same in omega arith);
-  };
+  made = elim [
+    | Thread ↦ (let e = made in omega arith)
+    | Object ↦ (let e = ap (λ (z : WorldOf P S H). z.attributes.made) same in omega arith)
+    | Event ↦ (let e = ap (λ (z : WorldOf P S H). z.events.made) same in omega arith)
+  ];
   ranks = ranks;
   preferred = ap (λ (z : WorldOf P S H). z.scheduler.preferred) same;
 }

@@ -9,7 +9,7 @@ ghost use Rattle.pth_model.specs.Rows.{row_of};
 ghost use Rattle.pth_model.specs.State.{State};
 ghost use Rattle.pth_world.specs.Frame.{Frame};
 ghost use Rattle.pth_world.specs.Leading.{IsAnswered, IsQuiet};
-ghost use Rattle.pth_world.specs.Numbering.{HasNumbers};
+ghost use Rattle.pth_world.specs.Numbering.{HasNumbers, no_numbers, Object, one_of};
 ghost use Rattle.pth_world.specs.Whole.{Whole};
 
 use pth_base::answer::Answer;
@@ -42,7 +42,7 @@ fn attr_new<P: Program>(w: &mut World<P>) -> Result<Answer, OutOfMemory>
     requires whole { Whole w.old }
     requires few { HasNumbers w.old }
     ensures answered { IfOk result (λ a. IsAnswered w.old w.new a (λ (s : State P P.State P.Shared). (new_row s).begin)) }
-    ensures frame { OnOk result (Frame w.old w.new 1 w.old.scheduler.running false) }
+    ensures frame { OnOk result (Frame w.old w.new (one_of Object) w.old.scheduler.running false) }
 {
     match w.attrs_mut().create() {
         Ok(object) => Ok(Answer::Int(i64::from(object.0))),
@@ -55,7 +55,7 @@ fn attr_of<P: Program>(w: &mut World<P>, n: i64) -> Result<Answer, OutOfMemory>
     requires whole { Whole w.old }
     requires few { HasNumbers w.old }
     ensures answered { IfOk result (λ a. IsAnswered w.old w.new a (λ (s : State P P.State P.Shared). (of_row s n).begin)) }
-    ensures frame { OnOk result (Frame w.old w.new 1 w.old.scheduler.running false) }
+    ensures frame { OnOk result (Frame w.old w.new (one_of Object) w.old.scheduler.running false) }
 {
     let t = match w.known(n) {
         Some(it) => it.tid,
@@ -71,7 +71,7 @@ fn attr_of<P: Program>(w: &mut World<P>, n: i64) -> Result<Answer, OutOfMemory>
 fn attr_init<P: Program>(w: &mut World<P>, a: i64) -> Answer
     requires whole { Whole w.old }
     ensures answered { IsAnswered w.old w.new result (λ (s : State P P.State P.Shared). (init_row s a).begin) }
-    ensures frame { Frame w.old w.new 0 w.old.scheduler.running false }
+    ensures frame { Frame w.old w.new no_numbers w.old.scheduler.running false }
 {
     done(w.attrs_mut().init(a))
 }
@@ -80,7 +80,7 @@ fn attr_init<P: Program>(w: &mut World<P>, a: i64) -> Answer
 fn attr_set<P: Program>(w: &mut World<P>, a: i64, v: &AttrValue) -> Answer
     requires whole { Whole w.old }
     ensures answered { IsAnswered w.old w.new result (λ (s : State P P.State P.Shared). (set_row s a v.now).begin) }
-    ensures frame { Frame w.old w.new 0 w.old.scheduler.running false }
+    ensures frame { Frame w.old w.new no_numbers w.old.scheduler.running false }
 {
     done(w.attr_set(a, v))
 }
@@ -100,7 +100,7 @@ fn attr_get<P: Program>(w: &World<P>, a: i64, field: AttrField) -> Answer
 fn attr_destroy<P: Program>(w: &mut World<P>, a: i64) -> Answer
     requires whole { Whole w.old }
     ensures answered { IsAnswered w.old w.new result (λ (s : State P P.State P.Shared). (destroy_row s a).begin) }
-    ensures frame { Frame w.old w.new 0 w.old.scheduler.running false }
+    ensures frame { Frame w.old w.new no_numbers w.old.scheduler.running false }
 {
     done(w.attrs_mut().destroy(a))
 }
@@ -117,7 +117,7 @@ pub(crate) fn answer_attributes<P: Program>(
     requires attributes { facility_of call.now ≡ Some facility.Attributes }
     ensures answered { IfOk result (λ a. IsAnswered w.old w.new a (λ (s : State P P.State P.Shared). (row_of P.functions s t.0 call.now).begin)) }
     ensures quiet { IfOk result (λ a. IsQuiet (Answered t call.now a)) }
-    ensures frame { OnOk result (Frame w.old w.new 1 (Some t.0) false) }
+    ensures frame { OnOk result (Frame w.old w.new (one_of Object) (Some t.0) false) }
 {
     match call {
         Call::AttrNew => attr_new(w),

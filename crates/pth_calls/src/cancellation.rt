@@ -18,6 +18,7 @@ ghost use Rattle.pth_numbered.specs.Operands.{number as operand, ◌is_from◌to
 ghost use Rattle.pth_queue.specs.declared.queue.Queue.TheVariants as queue;
 ghost use Rattle.pth_world.specs.Frame.{Frame, runs_after, yields_after};
 ghost use Rattle.pth_world.specs.Leading.{Leads, IsAnswered, IsQuiet};
+ghost use Rattle.pth_world.specs.Numbering.{no_numbers};
 ghost use Rattle.pth_world.specs.Shows.{StandsFor};
 ghost use Rattle.pth_world.specs.Sound.{IsAlive, IsKnown};
 ghost use Rattle.pth_world.specs.Whole.{Whole, IsIn};
@@ -52,7 +53,7 @@ fn set_cancel_state<P: Program>(w: &mut World<P>, t: Tid, n: i64) -> Answer
     requires whole { Whole w.old }
     requires runs { w.old.scheduler.running ≡ Some t.0 }
     ensures answered { IsAnswered w.old w.new result (λ (s : State P P.State P.Shared). (cancel_state_row s t.0 n).begin) }
-    ensures frame { Frame w.old w.new 0 (Some t.0) false }
+    ensures frame { Frame w.old w.new no_numbers (Some t.0) false }
 {
     let Some(state) = cancel_state_of(n) else {
         return Answer::Fail(Errno::EINVAL);
@@ -74,7 +75,7 @@ pub(crate) fn answer_cancellation<P: Program>(w: &mut World<P>, t: Tid, call: &C
     requires cancellation { facility_of call.now ≡ Some facility.Cancellation }
     ensures answered { IsAnswered w.old w.new result (λ (s : State P P.State P.Shared). (row_of P.functions s t.0 call.now).begin) }
     ensures quiet { IsQuiet (Answered t call.now result) }
-    ensures frame { Frame w.old w.new 0 (Some t.0) false }
+    ensures frame { Frame w.old w.new no_numbers (Some t.0) false }
 {
     match call {
         Call::CancelState(n) => set_cancel_state(w, t, *n),
@@ -94,7 +95,7 @@ fn end_or_ask<P: Program>(
     requires alive { IsAlive w.old.threads t.0 }
     ensures ok { OnOk result ((s : State P P.State P.Shared) → StandsFor w.old s → Leads w.new marks.old marks.new (ends_or_asks P.functions t.0 cancel s)) }
     ensures err { OnErr result ((s : State P P.State P.Shared) → StandsFor w.old s → IsCut marks.old marks.new (ends_or_asks P.functions t.0 cancel s).marks) }
-    ensures frame { OnOk result (Frame w.old w.new 0 (if is_asynchronous_state cancel then other_than t.0 w.old.scheduler.running else w.old.scheduler.running) false) }
+    ensures frame { OnOk result (Frame w.old w.new no_numbers (if is_asynchronous_state cancel then other_than t.0 w.old.scheduler.running else w.old.scheduler.running) false) }
 {
     if is_asynchronous(cancel) {
         return cancel_from_outside(w, t, marks);
@@ -160,7 +161,7 @@ fn drop_or_abort<P: Program>(
     requires dead { dead ≡ true → IsIn queue.Dead w.old.threads t.0 }
     ensures ok { OnOk result ((s : State P P.State P.Shared) → StandsFor w.old s → Leads w.new marks.old marks.new (aborts P.functions t.0 dead s)) }
     ensures err { OnErr result ((s : State P P.State P.Shared) → StandsFor w.old s → IsCut marks.old marks.new (aborts P.functions t.0 dead s).marks) }
-    ensures frame { OnOk result (Frame w.old w.new 0 (if dead then w.old.scheduler.running else other_than t.0 w.old.scheduler.running) false) }
+    ensures frame { OnOk result (Frame w.old w.new no_numbers (if dead then w.old.scheduler.running else other_than t.0 w.old.scheduler.running) false) }
 {
     if dead {
         w.remove(t);
@@ -184,7 +185,7 @@ pub fn cancel<P: Program>(
     ensures next { IfOk result (λ n. (s : State P P.State P.Shared) → StandsFor w.old s → n ≡ (begun P.functions t.0 call.now s).next) }
     ensures ok { OnOk result ((s : State P P.State P.Shared) → StandsFor w.old s → Leads w.new marks.old marks.new (begun P.functions t.0 call.now s).told) }
     ensures err { OnErr result ((s : State P P.State P.Shared) → StandsFor w.old s → IsCut marks.old marks.new (begun P.functions t.0 call.now s).told.marks) }
-    ensures frame { IfOk result (λ n. Frame w.old w.new 0 (runs_after t.0 n) (yields_after n)) }
+    ensures frame { IfOk result (λ n. Frame w.old w.new no_numbers (runs_after t.0 n) (yields_after n)) }
 {
     let (other, state) = match to_cancel(w, t, n) {
         Ok(it) => it,
@@ -211,7 +212,7 @@ pub fn abort<P: Program>(
     ensures next { IfOk result (λ n. (s : State P P.State P.Shared) → StandsFor w.old s → n ≡ (begun P.functions t.0 call.now s).next) }
     ensures ok { OnOk result ((s : State P P.State P.Shared) → StandsFor w.old s → Leads w.new marks.old marks.new (begun P.functions t.0 call.now s).told) }
     ensures err { OnErr result ((s : State P P.State P.Shared) → StandsFor w.old s → IsCut marks.old marks.new (begun P.functions t.0 call.now s).told.marks) }
-    ensures frame { IfOk result (λ n. Frame w.old w.new 0 (runs_after t.0 n) (yields_after n)) }
+    ensures frame { IfOk result (λ n. Frame w.old w.new no_numbers (runs_after t.0 n) (yields_after n)) }
 {
     let (other, dead) = match to_abort(w, t, n) {
         Ok(it) => it,

@@ -16,6 +16,7 @@ ghost use Rattle.pth_model.specs.Transition.{where_so};
 ghost use Rattle.pth_numbered.specs.Operands.{is_zero};
 ghost use Rattle.pth_world.specs.Frame.{Frame, runs_after, yields_after};
 ghost use Rattle.pth_world.specs.Leading.{Leads, IsTold};
+ghost use Rattle.pth_world.specs.Numbering.{no_numbers};
 ghost use Rattle.pth_world.specs.Shows.{StandsFor};
 ghost use Rattle.pth_world.specs.Sound.{IsAlive};
 ghost use Rattle.pth_world.specs.Whole.{Whole};
@@ -45,7 +46,7 @@ pub(crate) fn answer_cleanups<P: Program>(
     requires plain { is_plain call.now ≡ true }
     requires cleanups { facility_of call.now ≡ Some facility.Cleanups }
     ensures told { IfOk result (λ a. IsTold w.old w.new (Answered t call.now a) a (λ (s : State P P.State P.Shared). (row_of P.functions s t.0 call.now).begin)) }
-    ensures frame { OnOk result (Frame w.old w.new 0 (Some t.0) false) }
+    ensures frame { OnOk result (Frame w.old w.new no_numbers (Some t.0) false) }
 {
     let Call::CleanupPush { h, v } = call else {
         unreachable!()
@@ -92,7 +93,7 @@ pub fn pop_cleanup<P: Program>(
     ensures next { IfOk result (λ n. (s : State P P.State P.Shared) → StandsFor w.old s → n ≡ (begun P.functions t.0 call.now s).next) }
     ensures ok { OnOk result ((s : State P P.State P.Shared) → StandsFor w.old s → Leads w.new marks.old marks.new (begun P.functions t.0 call.now s).told) }
     ensures err { OnErr result ((s : State P P.State P.Shared) → StandsFor w.old s → IsCut marks.old marks.new (begun P.functions t.0 call.now s).told.marks) }
-    ensures frame { IfOk result (λ n. Frame w.old w.new 0 (runs_after t.0 n) (yields_after n)) }
+    ensures frame { IfOk result (λ n. Frame w.old w.new no_numbers (runs_after t.0 n) (yields_after n)) }
 {
     let Some((h, arg)) = w.cleanup_below(t, 0) else {
         return done(t, call, Answer::Fail(Errno::EINVAL), marks);

@@ -11,6 +11,7 @@ ghost use Rattle.pth_model.specs.State.{State};
 ghost use Rattle.pth_model.specs.Transition.{tid};
 ghost use Rattle.pth_world.specs.Frame.{Frame};
 ghost use Rattle.pth_world.specs.Leading.{IsAnswered, IsQuiet};
+ghost use Rattle.pth_world.specs.Numbering.{no_numbers};
 ghost use Rattle.pth_world.specs.Whole.{Whole};
 
 use pth_base::answer::Answer;
@@ -23,7 +24,7 @@ use pth_world::world::World;
 fn close<P: Program>(w: &mut World<P>, f: i64) -> Answer
     requires { Whole w.old }
     ensures answered { IsAnswered w.old w.new result (λ (s : State P P.State P.Shared). (close_row s f).begin) }
-    ensures frame { Frame w.old w.new 0 w.old.scheduler.running false }
+    ensures frame { Frame w.old w.new no_numbers w.old.scheduler.running false }
 {
     done(w.kernel_mut().close(f))
 }
@@ -35,7 +36,7 @@ pub(crate) fn answer_descriptors<P: Program>(w: &mut World<P>, call: &Call) -> A
     requires io { facility_of call.now ≡ Some facility.Io }
     ensures answered { (t : ℕ) → IsAnswered w.old w.new result (λ (s : State P P.State P.Shared). (row_of P.functions s t call.now).begin) }
     ensures quiet { (t : ℕ) → IsQuiet (Answered (tid t) call.now result) }
-    ensures frame { Frame w.old w.new 0 w.old.scheduler.running false }
+    ensures frame { Frame w.old w.new no_numbers w.old.scheduler.running false }
 {
     match call {
         Call::Close(f) => close(w, *f),

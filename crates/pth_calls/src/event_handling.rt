@@ -12,7 +12,7 @@ ghost use Rattle.pth_model.specs.Rows.{row_of};
 ghost use Rattle.pth_model.specs.State.{State};
 ghost use Rattle.pth_world.specs.Frame.{Frame};
 ghost use Rattle.pth_world.specs.Leading.{IsAnswered, IsQuiet};
-ghost use Rattle.pth_world.specs.Numbering.{HasNumbers};
+ghost use Rattle.pth_world.specs.Numbering.{HasNumbers, no_numbers, Event, one_of};
 ghost use Rattle.pth_world.specs.Whole.{Whole};
 
 use pth_base::answer::Answer;
@@ -75,7 +75,7 @@ fn make_event<P: Program>(w: &mut World<P>, line: &EvLine) -> Result<Answer, Out
     requires whole { Whole w.old }
     requires few { HasNumbers w.old }
     ensures answered { IfOk result (λ a. IsAnswered w.old w.new a (λ (s : State P P.State P.Shared). (make_row s line.now).begin)) }
-    ensures frame { OnOk result (Frame w.old w.new 1 w.old.scheduler.running false) }
+    ensures frame { OnOk result (Frame w.old w.new (one_of Event) w.old.scheduler.running false) }
 {
     let Some(spec) = spec_of(line) else {
         return Ok(Answer::Fail(Errno::EINVAL));
@@ -91,7 +91,7 @@ fn chain<P: Program>(w: &mut World<P>, e: i64, line: &EvLine) -> Result<Answer, 
     requires whole { Whole w.old }
     requires few { HasNumbers w.old }
     ensures answered { IfOk result (λ a. IsAnswered w.old w.new a (λ (s : State P P.State P.Shared). (chain_row s e line.now).begin)) }
-    ensures frame { OnOk result (Frame w.old w.new 1 w.old.scheduler.running false) }
+    ensures frame { OnOk result (Frame w.old w.new (one_of Event) w.old.scheduler.running false) }
 {
     let Some(spec) = spec_of(line) else {
         return Ok(Answer::Fail(Errno::EINVAL));
@@ -106,7 +106,7 @@ fn chain<P: Program>(w: &mut World<P>, e: i64, line: &EvLine) -> Result<Answer, 
 fn ev_concat<P: Program>(w: &mut World<P>, e: i64, f: i64) -> Answer
     requires whole { Whole w.old }
     ensures answered { IsAnswered w.old w.new result (λ (s : State P P.State P.Shared). (concat_row s e f).begin) }
-    ensures frame { Frame w.old w.new 0 w.old.scheduler.running false }
+    ensures frame { Frame w.old w.new no_numbers w.old.scheduler.running false }
 {
     match w.rings_mut().concat(e, f) {
         Ok(()) => Answer::Int(e),
@@ -118,7 +118,7 @@ fn ev_concat<P: Program>(w: &mut World<P>, e: i64, f: i64) -> Answer
 fn ev_isolate<P: Program>(w: &mut World<P>, e: i64) -> Answer
     requires whole { Whole w.old }
     ensures answered { IsAnswered w.old w.new result (λ (s : State P P.State P.Shared). (isolate_row s e).begin) }
-    ensures frame { Frame w.old w.new 0 w.old.scheduler.running false }
+    ensures frame { Frame w.old w.new no_numbers w.old.scheduler.running false }
 {
     match w.rings_mut().isolate(e) {
         Ok(Some(next)) => Answer::Int(i64::from(next.0)),
@@ -166,7 +166,7 @@ fn ev_kind<P: Program>(w: &World<P>, e: i64) -> Answer
 fn ev_free<P: Program>(w: &mut World<P>, e: i64, all: bool) -> Answer
     requires whole { Whole w.old }
     ensures answered { IsAnswered w.old w.new result (λ (s : State P P.State P.Shared). (free_row s e all).begin) }
-    ensures frame { Frame w.old w.new 0 w.old.scheduler.running false }
+    ensures frame { Frame w.old w.new no_numbers w.old.scheduler.running false }
 {
     done(w.rings_mut().free(e, all))
 }
@@ -217,7 +217,7 @@ pub(crate) fn answer_events<P: Program>(
     requires events { facility_of call.now ≡ Some facility.Events }
     ensures answered { IfOk result (λ a. IsAnswered w.old w.new a (λ (s : State P P.State P.Shared). (row_of P.functions s t.0 call.now).begin)) }
     ensures quiet { IfOk result (λ a. IsQuiet (Answered t call.now a)) }
-    ensures frame { OnOk result (Frame w.old w.new 1 (Some t.0) false) }
+    ensures frame { OnOk result (Frame w.old w.new (one_of Event) (Some t.0) false) }
 {
     if let Some(line) = line_of(call) {
         return make_event(w, &line);

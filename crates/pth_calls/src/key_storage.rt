@@ -10,6 +10,7 @@ ghost use Rattle.pth_model.specs.Rows.{row_of};
 ghost use Rattle.pth_model.specs.State.{State};
 ghost use Rattle.pth_world.specs.Frame.{Frame};
 ghost use Rattle.pth_world.specs.Leading.{IsAnswered, IsTold};
+ghost use Rattle.pth_world.specs.Numbering.{no_numbers};
 ghost use Rattle.pth_world.specs.Whole.{Whole};
 
 use crate::handler_numbers::destructor_named;
@@ -27,7 +28,7 @@ fn create_key<P: Program>(w: &mut World<P>, t: Tid, destructor: Option<i64>) -> 
     requires whole { Whole w.old }
     requires runs { w.old.scheduler.running ≡ Some t.0 }
     ensures told { IsTold w.old w.new (Answered t (KeyCreate destructor) result) result (λ (s : State P P.State P.Shared). (create_row s).begin) }
-    ensures frame { Frame w.old w.new 0 (Some t.0) false }
+    ensures frame { Frame w.old w.new no_numbers (Some t.0) false }
 {
     match w.create_key(destructor_named(destructor)) {
         Ok(key) => Answer::Int(i64::from(key)),
@@ -40,7 +41,7 @@ fn delete_key<P: Program>(w: &mut World<P>, t: Tid, k: i64) -> Answer
     requires whole { Whole w.old }
     requires runs { w.old.scheduler.running ≡ Some t.0 }
     ensures told { IsTold w.old w.new (Answered t (KeyDelete k) result) result (λ (s : State P P.State P.Shared). (delete_row s k).begin) }
-    ensures frame { Frame w.old w.new 0 (Some t.0) false }
+    ensures frame { Frame w.old w.new no_numbers (Some t.0) false }
 {
     done(w.delete_key(k))
 }
@@ -67,7 +68,7 @@ pub(crate) fn answer_keys<P: Program>(
     requires runs { w.old.scheduler.running ≡ Some t.0 }
     requires keys { facility_of call.now ≡ Some facility.Keys }
     ensures told { IfOk result (λ a. IsTold w.old w.new (Answered t call.now a) a (λ (s : State P P.State P.Shared). (row_of P.functions s t.0 call.now).begin)) }
-    ensures frame { OnOk result (Frame w.old w.new 0 (Some t.0) false) }
+    ensures frame { OnOk result (Frame w.old w.new no_numbers (Some t.0) false) }
 {
     match call {
         Call::KeyCreate(destructor) => Ok(create_key(w, t, *destructor)),

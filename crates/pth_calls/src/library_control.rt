@@ -14,6 +14,7 @@ ghost use Rattle.pth_model.specs.Transition.{nothing};
 ghost use Rattle.pth_model.specs.Verdict.{says};
 ghost use Rattle.pth_world.specs.Frame.{Frame};
 ghost use Rattle.pth_world.specs.Leading.{IsAnswered, IsQuiet};
+ghost use Rattle.pth_world.specs.Numbering.{no_numbers};
 ghost use Rattle.pth_world.specs.Shows.{StandsFor};
 ghost use Rattle.pth_world.specs.Whole.{Whole};
 
@@ -48,7 +49,7 @@ fn count<P: Program>(w: &World<P>, q: &Query) -> Option<u32>
 fn favour_new<P: Program>(w: &mut World<P>, n: i64) -> Answer
     requires { Whole w.old }
     ensures answered { IsAnswered w.old w.new result (λ (s : State P P.State P.Shared). (ctrl_row s (Query.Favournew n)).begin) }
-    ensures frame { Frame w.old w.new 0 w.old.scheduler.running false }
+    ensures frame { Frame w.old w.new no_numbers w.old.scheduler.running false }
 {
     if n < 0 || n > 1 {
         return Answer::Fail(Errno::EINVAL);
@@ -85,7 +86,7 @@ fn ctrl<P: Program>(w: &mut World<P>, t: Tid, q: &Query) -> Answer
     requires whole { Whole w.old }
     requires runs { w.old.scheduler.running ≡ Some t.0 }
     ensures answered { IsAnswered w.old w.new result (λ (s : State P P.State P.Shared). (ctrl_row s q.now).begin) }
-    ensures frame { Frame w.old w.new 1 (Some t.0) false }
+    ensures frame { Frame w.old w.new no_numbers (Some t.0) false }
 {
     if let Some(n) = count(w, q) {
         return Answer::Int(i64::from(n));
@@ -106,7 +107,7 @@ pub(crate) fn answer_library<P: Program>(w: &mut World<P>, t: Tid, call: &Call) 
     requires library { facility_of call.now ≡ Some facility.Library }
     ensures answered { IsAnswered w.old w.new result (λ (s : State P P.State P.Shared). (row_of P.functions s t.0 call.now).begin) }
     ensures quiet { IsQuiet (Answered t call.now result) }
-    ensures frame { Frame w.old w.new 1 (Some t.0) false }
+    ensures frame { Frame w.old w.new no_numbers (Some t.0) false }
 {
     match call {
         Call::Ctrl(q) => ctrl(w, t, q),

@@ -11,6 +11,7 @@ ghost use Rattle.pth_model.specs.Rows.{row_of};
 ghost use Rattle.pth_model.specs.State.{State};
 ghost use Rattle.pth_world.specs.Frame.{Frame};
 ghost use Rattle.pth_world.specs.Leading.{IsTold};
+ghost use Rattle.pth_world.specs.Numbering.{no_numbers};
 ghost use Rattle.pth_world.specs.Whole.{Whole};
 
 use pth_base::answer::Answer;
@@ -26,7 +27,7 @@ fn init_mutex<P: Program>(w: &mut World<P>, t: Tid, m: i64) -> Answer
     requires whole { Whole w.old }
     requires runs { w.old.scheduler.running ≡ Some t.0 }
     ensures told { IsTold w.old w.new (Answered t (MutexInit m) result) result (λ (s : State P P.State P.Shared). (init_row s m).begin) }
-    ensures frame { Frame w.old w.new 0 (Some t.0) false }
+    ensures frame { Frame w.old w.new no_numbers (Some t.0) false }
 {
     done(w.init_mutex(m))
 }
@@ -36,7 +37,7 @@ fn give_mutex<P: Program>(w: &mut World<P>, t: Tid, m: i64) -> Answer
     requires whole { Whole w.old }
     requires runs { w.old.scheduler.running ≡ Some t.0 }
     ensures told { IsTold w.old w.new (Answered t (MutexRelease m) result) result (λ (s : State P P.State P.Shared). (release_row s t.0 m).begin) }
-    ensures frame { Frame w.old w.new 0 (Some t.0) false }
+    ensures frame { Frame w.old w.new no_numbers (Some t.0) false }
 {
     release_mutex(w, t, m)
 }
@@ -48,7 +49,7 @@ pub(crate) fn answer_mutexes<P: Program>(w: &mut World<P>, t: Tid, call: &Call) 
     requires plain { is_plain call.now ≡ true }
     requires mutexes { facility_of call.now ≡ Some facility.Mutexes }
     ensures told { IsTold w.old w.new (Answered t call.now result) result (λ (s : State P P.State P.Shared). (row_of P.functions s t.0 call.now).begin) }
-    ensures frame { Frame w.old w.new 0 (Some t.0) false }
+    ensures frame { Frame w.old w.new no_numbers (Some t.0) false }
 {
     match call {
         Call::MutexInit(m) => init_mutex(w, t, *m),

@@ -10,6 +10,7 @@ ghost use Rattle.pth_model.specs.State.{State};
 ghost use Rattle.pth_model.specs.Verdict.{Says};
 ghost use Rattle.pth_world.specs.Frame.{Frame, runs_after, yields_after};
 ghost use Rattle.pth_world.specs.Leading.{Leads};
+ghost use Rattle.pth_world.specs.Numbering.{no_numbers};
 ghost use Rattle.pth_world.specs.Shows.{StandsFor};
 ghost use Rattle.pth_world.specs.Whole.{Whole};
 
@@ -39,7 +40,7 @@ fn use_control<P: Program>(
     ensures verdict { IfOk result (λ a. (s : State P P.State P.Shared) → StandsFor w.old s → (once_row P.functions s t.0 o h v).begin.verdict ≡ Says a) }
     ensures ok { OnOk result ((s : State P P.State P.Shared) → StandsFor w.old s → Leads w.new marks.old marks.new (effect_of (once_row P.functions s t.0 o h v).begin s)) }
     ensures err { OnErr result ((s : State P P.State P.Shared) → StandsFor w.old s → IsCut marks.old marks.new (effect_of (once_row P.functions s t.0 o h v).begin s).marks) }
-    ensures frame { OnOk result (Frame w.old w.new 0 (Some t.0) false) }
+    ensures frame { OnOk result (Frame w.old w.new no_numbers (Some t.0) false) }
 {
     match w.once(o) {
         Ok(true) => {
@@ -68,7 +69,7 @@ pub fn once<P: Program>(
     ensures next { IfOk result (λ n. (s : State P P.State P.Shared) → StandsFor w.old s → n ≡ (begun P.functions t.0 call.now s).next) }
     ensures ok { OnOk result ((s : State P P.State P.Shared) → StandsFor w.old s → Leads w.new marks.old marks.new (begun P.functions t.0 call.now s).told) }
     ensures err { OnErr result ((s : State P P.State P.Shared) → StandsFor w.old s → IsCut marks.old marks.new (begun P.functions t.0 call.now s).told.marks) }
-    ensures frame { IfOk result (λ n. Frame w.old w.new 0 (runs_after t.0 n) (yields_after n)) }
+    ensures frame { IfOk result (λ n. Frame w.old w.new no_numbers (runs_after t.0 n) (yields_after n)) }
 {
     let answer = use_control(w, t, o, h, v, marks)?;
     done(t, call, answer, marks)

@@ -10,7 +10,7 @@ ghost use Rattle.pth_model.specs.State.{State};
 ghost use Rattle.pth_model.specs.declared.next.Next.TheVariants as next;
 ghost use Rattle.pth_world.specs.Frame.{Frame};
 ghost use Rattle.pth_world.specs.Leading.{Leads, IsTold};
-ghost use Rattle.pth_world.specs.Numbering.{HasNumbers};
+ghost use Rattle.pth_world.specs.Numbering.{HasNumbers, one_of_each};
 ghost use Rattle.pth_world.specs.Shows.{StandsFor};
 ghost use Rattle.pth_world.specs.Whole.{Whole};
 
@@ -43,7 +43,7 @@ fn answer<P: Program>(w: &mut World<P>, t: Tid, call: &Call) -> Result<Answer, O
     requires few { HasNumbers w.old }
     requires plain { is_plain call.now ≡ true }
     ensures told { IfOk result (λ a. IsTold w.old w.new (Answered t call.now a) a (λ (s : State P P.State P.Shared). (row_of P.functions s t.0 call.now).begin)) }
-    ensures frame { OnOk result (Frame w.old w.new 1 (Some t.0) false) }
+    ensures frame { OnOk result (Frame w.old w.new one_of_each (Some t.0) false) }
 {
     let facility = match call.facility() {
         Some(facility) => facility,
@@ -80,7 +80,7 @@ pub fn begin_plain<P: Program>(
     ensures next { IfOk result (λ a. (s : State P P.State P.Shared) → StandsFor w.old s → next.Done a ≡ (begun P.functions t.0 call.now s).next) }
     ensures ok { OnOk result ((s : State P P.State P.Shared) → StandsFor w.old s → Leads w.new marks.old marks.new (begun P.functions t.0 call.now s).told) }
     ensures err { OnErr result ((s : State P P.State P.Shared) → StandsFor w.old s → IsCut marks.old marks.new (begun P.functions t.0 call.now s).told.marks) }
-    ensures frame { OnOk result (Frame w.old w.new 1 (Some t.0) false) }
+    ensures frame { OnOk result (Frame w.old w.new one_of_each (Some t.0) false) }
 {
     let answer = answer(w, t, call)?;
     answer_call(t, call, answer, marks)

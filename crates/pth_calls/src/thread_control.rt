@@ -19,7 +19,7 @@ ghost use Rattle.pth_model.specs.Row.{effect_of};
 ghost use Rattle.pth_model.specs.Verdict.{Yields, refused};
 ghost use Rattle.pth_world.specs.Frame.{Frame, runs_after, yields_after};
 ghost use Rattle.pth_world.specs.Leading.{Leads, Changed, IsAnswered, IsQuiet};
-ghost use Rattle.pth_world.specs.Numbering.{HasNumbers};
+ghost use Rattle.pth_world.specs.Numbering.{HasNumbers, no_numbers, Thread, one_of};
 ghost use Rattle.pth_world.specs.Shows.{StandsFor};
 ghost use Rattle.pth_world.specs.Sound.{IsPrio, IsCancel};
 ghost use Rattle.pth_world.specs.Whole.{Whole};
@@ -90,7 +90,7 @@ fn spawn<P: Program>(
     requires runs { w.old.scheduler.running ≡ Some t.0 }
     requires few { HasNumbers w.old }
     ensures answered { IfOk result (λ a. IsAnswered w.old w.new a (λ (s : State P P.State P.Shared). (spawn_row P.functions s t.0 number arg attr).begin)) }
-    ensures frame { OnOk result (Frame w.old w.new 1 (Some t.0) false) }
+    ensures frame { OnOk result (Frame w.old w.new (one_of Thread) (Some t.0) false) }
 {
     let Some(body) = body_of(w.bodies(), number) else {
         return Ok(Answer::Fail(Errno::EINVAL));
@@ -131,7 +131,7 @@ fn suspend<P: Program>(w: &mut World<P>, t: Tid, n: i64) -> Answer
     requires whole { Whole w.old }
     requires runs { w.old.scheduler.running ≡ Some t.0 }
     ensures answered { IsAnswered w.old w.new result (λ (s : State P P.State P.Shared). (suspend_row s t.0 n).begin) }
-    ensures frame { Frame w.old w.new 1 (Some t.0) false }
+    ensures frame { Frame w.old w.new no_numbers (Some t.0) false }
 {
     let it = match w.known(n) {
         Some(it) => it,
@@ -152,12 +152,12 @@ fn is_not_to_resume(it: &Entry, t: Tid) -> bool
     it.tid.0 == t.0 || !it.suspended
 }
 
-// pth_resume: a suspended thread stands in the queue of its state again.
+// pth_resume: a suspended thread stands in the queue of its state again. If this is the new queue, one thread more is new.
 fn resume<P: Program>(w: &mut World<P>, t: Tid, n: i64) -> Answer
     requires whole { Whole w.old }
     requires runs { w.old.scheduler.running ≡ Some t.0 }
     ensures answered { IsAnswered w.old w.new result (λ (s : State P P.State P.Shared). (resume_row s t.0 n).begin) }
-    ensures frame { Frame w.old w.new 1 (Some t.0) false }
+    ensures frame { Frame w.old w.new (one_of Thread) (Some t.0) false }
 {
     let it = match w.known(n) {
         Some(it) => it,
@@ -184,7 +184,7 @@ pub(crate) fn answer_threads<P: Program>(
     requires threads { facility_of call.now ≡ Some facility.Threads }
     ensures answered { IfOk result (λ a. IsAnswered w.old w.new a (λ (s : State P P.State P.Shared). (row_of P.functions s t.0 call.now).begin)) }
     ensures quiet { IfOk result (λ a. IsQuiet (Answered t call.now a)) }
-    ensures frame { OnOk result (Frame w.old w.new 1 (Some t.0) false) }
+    ensures frame { OnOk result (Frame w.old w.new (one_of Thread) (Some t.0) false) }
 {
     match call {
         Call::Spawn { b, v, a } => spawn(w, t, *b, *v, *a),
@@ -208,7 +208,7 @@ fn name_next<P: Program>(w: &mut World<P>, t: Tid, to: i64) -> bool
     requires runs { w.old.scheduler.running ≡ Some t.0 }
     ensures verdict { (s : State P P.State P.Shared) → StandsFor w.old s → (yield_row s t.0 to).begin.verdict ≡ (if result then Yields (Int (pos 1)) else refused EINVAL) }
     ensures effect { (s : State P P.State P.Shared) → StandsFor w.old s → Changed w.new (effect_of (yield_row s t.0 to).begin s) }
-    ensures frame { Frame w.old w.new 0 (Some t.0) result }
+    ensures frame { Frame w.old w.new no_numbers (Some t.0) result }
 {
     if to == 0 {
         return true;
@@ -241,7 +241,7 @@ pub fn yield_to<P: Program>(
     ensures next { IfOk result (λ n. (s : State P P.State P.Shared) → StandsFor w.old s → n ≡ (begun P.functions t.0 call.now s).next) }
     ensures ok { OnOk result ((s : State P P.State P.Shared) → StandsFor w.old s → Leads w.new marks.old marks.new (begun P.functions t.0 call.now s).told) }
     ensures err { OnErr result ((s : State P P.State P.Shared) → StandsFor w.old s → IsCut marks.old marks.new (begun P.functions t.0 call.now s).told.marks) }
-    ensures frame { IfOk result (λ n. Frame w.old w.new 0 (runs_after t.0 n) (yields_after n)) }
+    ensures frame { IfOk result (λ n. Frame w.old w.new no_numbers (runs_after t.0 n) (yields_after n)) }
 {
     if !name_next(w, t, to) {
         return done(t, call, Answer::Fail(Errno::EINVAL), marks);

@@ -11,6 +11,7 @@ ghost use Rattle.pth_model.specs.Times.{timeout as timeout_row};
 ghost use Rattle.pth_model.specs.Transition.{tid};
 ghost use Rattle.pth_world.specs.Frame.{Frame};
 ghost use Rattle.pth_world.specs.Leading.{IsAnswered, IsQuiet};
+ghost use Rattle.pth_world.specs.Numbering.{no_numbers};
 ghost use Rattle.pth_world.specs.Whole.{Whole};
 
 use pth_base::answer::Answer;
@@ -24,7 +25,7 @@ use pth_world::world::World;
 fn fdmode<P: Program>(w: &mut World<P>, f: i64, m: i64) -> Answer
     requires { Whole w.old }
     ensures answered { IsAnswered w.old w.new result (λ (s : State P P.State P.Shared). (fdmode_row s f m).begin) }
-    ensures frame { Frame w.old w.new 0 w.old.scheduler.running false }
+    ensures frame { Frame w.old w.new no_numbers w.old.scheduler.running false }
 {
     match w.kernel_mut().mode(f, m) {
         Ok(mode) => Answer::Int(mode),
@@ -49,7 +50,7 @@ pub(crate) fn answer_utilities<P: Program>(w: &mut World<P>, call: &Call) -> Ans
     requires utilities { facility_of call.now ≡ Some facility.Utilities }
     ensures answered { (t : ℕ) → IsAnswered w.old w.new result (λ (s : State P P.State P.Shared). (row_of P.functions s t call.now).begin) }
     ensures quiet { (t : ℕ) → IsQuiet (Answered (tid t) call.now result) }
-    ensures frame { Frame w.old w.new 0 w.old.scheduler.running false }
+    ensures frame { Frame w.old w.new no_numbers w.old.scheduler.running false }
 {
     match call {
         Call::Fdmode { f, m } => fdmode(w, *f, *m),

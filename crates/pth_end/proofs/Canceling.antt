@@ -11,6 +11,7 @@ use Rattle.pth_world.specs.Leading.{IsQuiet}
 use Rattle.pth_model.specs.Ending.{other_than}
 use Rattle.pth_world.proofs.Frames.{frame_then}
 use Rattle.pth_world.specs.Frame.{Frame}
+use Rattle.pth_world.specs.Numbering.{no_numbers}
 use Rattle.pth_world.specs.Shows.{Shows, StandsFor}
 use Rattle.pth_world.specs.World.{WorldOf}
 
@@ -24,5 +25,5 @@ pub change_stands : {P S H : Type 0} (w v : WorldOf P S H) (g : Change P S H) (s
 change_stands w v g s shows stored st = record { control = shows; resources = has_still w v s stored st.resources }
 
 -- a thread ends once its record was changed
-pub ends_then : {P S H : Type 0} (u v w : WorldOf P S H) (t : ℕ) → Frame u v 0 u.scheduler.running false → Frame v w 0 (other_than t v.scheduler.running) false → Frame u w 0 (other_than t u.scheduler.running) false
-ends_then u v w t changed ends = subst (λ (r : Option ℕ). Frame u w 0 (other_than t r) false) changed.runs (frame_then 0 0 u v w u.scheduler.running (other_than t v.scheduler.running) false changed ends)
+pub ends_then : {P S H : Type 0} (u v w : WorldOf P S H) (t : ℕ) → Frame u v no_numbers u.scheduler.running false → Frame v w no_numbers (other_than t v.scheduler.running) false → Frame u w no_numbers (other_than t u.scheduler.running) false
+ends_then u v w t changed ends = subst (λ (r : Option ℕ). Frame u w no_numbers (other_than t r) false) changed.runs (frame_then no_numbers u v w u.scheduler.running (other_than t v.scheduler.running) false changed ends)

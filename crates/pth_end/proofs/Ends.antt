@@ -16,6 +16,7 @@ use Rattle.pth_world.proofs.Telling.{has_still}
 use Rattle.pth_world.specs.Frame.{Frame}
 use Rattle.pth_world.specs.Keeps.{KeepsAllButStore, MovesThreads}
 use Rattle.pth_world.specs.Leading.{Leads}
+use Rattle.pth_world.specs.Numbering.{Thread, Object, Event, no_numbers}
 use Rattle.pth_world.specs.Shows.{Shows, StandsFor}
 use Rattle.pth_world.specs.Store.{store_of}
 use Rattle.pth_world.specs.Whole.{Whole}
@@ -34,27 +35,27 @@ pub wait_undone : {P S H : Type 0} (w v : WorldOf P S H) (t : ℕ) (s : State P 
 wait_undone w v t s shows stored st = record { control = shows; resources = has_still w v s stored st.resources }
 
 module _ {P S H : Type 0} (w a : WorldOf P S H) where
-  pub undone_frame : Whole a → a.events.made ≡ w.events.made → a ≡ record w { threads = record w.threads { progress = a.threads.progress }; events = a.events } → Frame w a 0 w.scheduler.running false
+  pub undone_frame : Whole a → a.events.made ≡ w.events.made → a ≡ record w { threads = record w.threads { progress = a.threads.progress }; events = a.events } → Frame w a no_numbers w.scheduler.running false
   undone_frame whole made same = record {
     whole = whole;
     runs = ap (λ (k : WorldOf P S H). k.scheduler.running) same;
-    made = record {
-      threads = (let e = ap (λ (k : WorldOf P S H). k.threads.records.made) same in omega arith);
-      objects = (let e = ap (λ (k : WorldOf P S H). k.attributes.made) same in omega arith);
-      events = omega arith;
-    };
+    made = elim [
+      | Thread ↦ (let e = ap (λ (k : WorldOf P S H). k.threads.records.made) same in omega arith)
+      | Object ↦ (let e = ap (λ (k : WorldOf P S H). k.attributes.made) same in omega arith)
+      | Event ↦ omega arith
+    ];
     ranks = ranks_same 0 w.threads w.threads a.threads (ap (λ (k : WorldOf P S H). k.threads.queues) same) (ranks_none w.threads);
     preferred = ap (λ (k : WorldOf P S H). k.scheduler.preferred) same;
   }
 
   -- then it ran its handlers and destructors, what it stored is forgotten, and it is dead or gone
-  pub end_frame : (t : ℕ) (b c y : WorldOf P S H) → Frame w a 0 w.scheduler.running false → IsHandled a b → KeepsAllButStore b c → MovesThreads c y 0 (other_than t c.scheduler.running) → Frame w y 0 (other_than t w.scheduler.running) false
+  pub end_frame : (t : ℕ) (b c y : WorldOf P S H) → Frame w a no_numbers w.scheduler.running false → IsHandled a b → KeepsAllButStore b c → MovesThreads c y 0 (other_than t c.scheduler.running) → Frame w y no_numbers (other_than t w.scheduler.running) false
   end_frame t b c y undone handled keeps moves =
       let r = w.scheduler.running in
       let ran = handled_frame a r undone.runs b handled in
       let forgot = stored_frame b r ran.runs c handled.whole keeps in
-      let left = moved_frame 0 c y (other_than t c.scheduler.running) (other_than t r) (ap (other_than t) forgot.runs) moves in
-      frame_then 0 0 w c y r (other_than t r) false (frame_then 0 0 w b c r r false (frame_then 0 0 w a b r r false undone ran) forgot) left
+      let left = moved_frame no_numbers c y (other_than t c.scheduler.running) (other_than t r) (ap (other_than t) forgot.runs) moves in
+      frame_then no_numbers w c y r (other_than t r) false (frame_then no_numbers w b c r r false (frame_then no_numbers w a b r r false undone ran) forgot) left
 
 module _ {P S H : Type 0} (f : P → Functions S H) (t : ℕ) (v : ℤ) where
   -- the last piece: what it stored is forgotten, and it is dead or gone

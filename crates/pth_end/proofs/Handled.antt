@@ -1,11 +1,13 @@
 -- What the acts of handlers leave, one after another.
-use Rattle.std.proofs.Common.{◌≡◌, ◌∙◌, ℕ, Bool, false, List, Option, Result, Ok, Err, OnOk, refl, ap, sym, subst, arith}
+use Rattle.std.proofs.Common.{◌≡◌, ◌∙◌, ℕ, Bool, false, List, Option, Result, Ok, Err, OnOk, refl, ap, sym, subst}
 use Rattle.pth_end.specs.Handling.{IsHandled}
+use Rattle.pth_world.proofs.Frames.{gives_none}
 use Rattle.pth_world.proofs.Ranks.{ranks_none, ranks_same}
 use Rattle.pth_world.specs.Frame.{Frame}
 use Rattle.pth_world.specs.Keeps.{KeepsAllButStore}
 use Rattle.pth_world.specs.Sound.{IsAlive}
 use Rattle.pth_world.specs.Store.{StoreOf, store_of}
+use Rattle.pth_world.specs.Numbering.{no_numbers}
 use Rattle.pth_world.specs.Whole.{Whole}
 use Rattle.pth_world.specs.World.{WorldOf, ThreadsBySlot}
 
@@ -41,17 +43,17 @@ module _ {P S H : Type 0} where
 
 -- where threads, objects, events and the scheduler are as they were
 module _ {P S H : Type 0} (w : WorldOf P S H) (r : Option ℕ) (runs : w.scheduler.running ≡ r) where
-  frame_by : (h : H) (x : StoreOf) (u : List Bool) → Whole (record w { shared = h; store = x; used = u }) → Frame w (record w { shared = h; store = x; used = u }) 0 r false
-  frame_by h x u whole = record { whole = whole; runs = runs; made = record { threads = omega arith; objects = omega arith; events = omega arith }; ranks = ranks_same 0 w.threads w.threads _ refl (ranks_none w.threads); preferred = refl }
+  frame_by : (h : H) (x : StoreOf) (u : List Bool) → Whole (record w { shared = h; store = x; used = u }) → Frame w (record w { shared = h; store = x; used = u }) no_numbers r false
+  frame_by h x u whole = record { whole = whole; runs = runs; made = gives_none no_numbers w (record w { shared = h; store = x; used = u }) (λ k. refl); ranks = ranks_same 0 w.threads w.threads _ refl (ranks_none w.threads); preferred = refl }
 
-  pub stored_frame : (v : WorldOf P S H) → Whole w → KeepsAllButStore w v → Frame w v 0 r false
-  stored_frame v whole keeps = subst (λ (z : WorldOf P S H). Frame w z 0 r false) (sym keeps.same) (frame_by w.shared v.store w.used (subst (λ (z : WorldOf P S H). Whole z) keeps.same (keeps.whole whole)))
+  pub stored_frame : (v : WorldOf P S H) → Whole w → KeepsAllButStore w v → Frame w v no_numbers r false
+  stored_frame v whole keeps = subst (λ (z : WorldOf P S H). Frame w z no_numbers r false) (sym keeps.same) (frame_by w.shared v.store w.used (subst (λ (z : WorldOf P S H). Whole z) keeps.same (keeps.whole whole)))
 
-  pub used_frame : (v : WorldOf P S H) → Whole v → v ≡ record w { used = v.used } → Frame w v 0 r false
-  used_frame v whole same = subst (λ (z : WorldOf P S H). Frame w z 0 r false) (sym same) (frame_by w.shared w.store v.used (subst (λ (z : WorldOf P S H). Whole z) same whole))
+  pub used_frame : (v : WorldOf P S H) → Whole v → v ≡ record w { used = v.used } → Frame w v no_numbers r false
+  used_frame v whole same = subst (λ (z : WorldOf P S H). Frame w z no_numbers r false) (sym same) (frame_by w.shared w.store v.used (subst (λ (z : WorldOf P S H). Whole z) same whole))
 
-  pub handled_frame : (v : WorldOf P S H) → IsHandled w v → Frame w v 0 r false
-  handled_frame v h = subst (λ (z : WorldOf P S H). Frame w z 0 r false) (sym h.same) (frame_by v.shared v.store w.used (subst (λ (z : WorldOf P S H). Whole z) h.same h.whole))
+  pub handled_frame : (v : WorldOf P S H) → IsHandled w v → Frame w v no_numbers r false
+  handled_frame v h = subst (λ (z : WorldOf P S H). Frame w z no_numbers r false) (sym h.same) (frame_by v.shared v.store w.used (subst (λ (z : WorldOf P S H). Whole z) h.same h.whole))
 
 -- whatever is answered
 pub if_answered : {T E A : Type 0} (r : Result T E) → A → OnOk r A

@@ -7,6 +7,7 @@ ghost use Rattle.pth_model.specs.Ending.{other_than};
 ghost use Rattle.pth_model.specs.State.{State};
 ghost use Rattle.pth_world.specs.Frame.{Frame};
 ghost use Rattle.pth_world.specs.Leading.{Leads};
+ghost use Rattle.pth_world.specs.Numbering.{no_numbers};
 ghost use Rattle.pth_world.specs.Shows.{StandsFor};
 ghost use Rattle.pth_world.specs.Sound.{IsAlive};
 ghost use Rattle.pth_world.specs.Whole.{Whole};
@@ -35,7 +36,7 @@ pub fn cancel_from_outside<P: Program>(
     requires alive { IsAlive w.old.threads t.0 }
     ensures ok { OnOk result ((s : State P P.State P.Shared) → StandsFor w.old s → Leads w.new marks.old marks.new (canceled_by_other P.functions t.0 s)) }
     ensures err { OnErr result ((s : State P P.State P.Shared) → StandsFor w.old s → IsCut marks.old marks.new (canceled_by_other P.functions t.0 s).marks) }
-    ensures frame { OnOk result (Frame w.old w.new 0 (other_than t.0 w.old.scheduler.running) false) }
+    ensures frame { OnOk result (Frame w.old w.new no_numbers (other_than t.0 w.old.scheduler.running) false) }
 {
     marks.push(Mark::Canceled { tid: t, call: None })?;
     end_thread(w, t, CANCELED, marks)
@@ -53,7 +54,7 @@ pub fn cancel_within<P: Program>(
     requires runs { w.old.scheduler.running ≡ Some t.0 }
     ensures ok { OnOk result ((s : State P P.State P.Shared) → StandsFor w.old s → Leads w.new marks.old marks.new (canceled_in P.functions t.0 call s)) }
     ensures err { OnErr result ((s : State P P.State P.Shared) → StandsFor w.old s → IsCut marks.old marks.new (canceled_in P.functions t.0 call s).marks) }
-    ensures frame { OnOk result (Frame w.old w.new 0 (other_than t.0 w.old.scheduler.running) false) }
+    ensures frame { OnOk result (Frame w.old w.new no_numbers (other_than t.0 w.old.scheduler.running) false) }
 {
     w.set_field(t, Change::Request(false));
     marks.push(Mark::Canceled {
@@ -74,7 +75,7 @@ pub fn abort_thread<P: Program>(
     requires alive { IsAlive w.old.threads t.0 }
     ensures ok { OnOk result ((s : State P P.State P.Shared) → StandsFor w.old s → Leads w.new marks.old marks.new (aborted P.functions t.0 s)) }
     ensures err { OnErr result ((s : State P P.State P.Shared) → StandsFor w.old s → IsCut marks.old marks.new (aborted P.functions t.0 s).marks) }
-    ensures frame { OnOk result (Frame w.old w.new 0 (other_than t.0 w.old.scheduler.running) false) }
+    ensures frame { OnOk result (Frame w.old w.new no_numbers (other_than t.0 w.old.scheduler.running) false) }
 {
     w.set_field(t, Change::Joinable(false));
     w.set_field(t, Change::Cancel(3));

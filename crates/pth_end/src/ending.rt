@@ -6,6 +6,7 @@ ghost use Rattle.pth_model.specs.Ending.{ending, other_than};
 ghost use Rattle.pth_model.specs.State.{State};
 ghost use Rattle.pth_world.specs.Frame.{Frame};
 ghost use Rattle.pth_world.specs.Leading.{Leads};
+ghost use Rattle.pth_world.specs.Numbering.{no_numbers};
 ghost use Rattle.pth_world.specs.Shows.{StandsFor};
 ghost use Rattle.pth_world.specs.Sound.{IsAlive};
 ghost use Rattle.pth_world.specs.Whole.{Whole};
@@ -33,7 +34,7 @@ pub fn end_thread<P: Program>(
     requires alive { IsAlive w.old.threads t.0 }
     ensures ok { OnOk result ((s : State P P.State P.Shared) → StandsFor w.old s → Leads w.new marks.old marks.new (ending P.functions t.0 value s)) }
     ensures err { OnErr result ((s : State P P.State P.Shared) → StandsFor w.old s → IsCut marks.old marks.new (ending P.functions t.0 value s).marks) }
-    ensures frame { OnOk result (Frame w.old w.new 0 (other_than t.0 w.old.scheduler.running) false) }
+    ensures frame { OnOk result (Frame w.old w.new no_numbers (other_than t.0 w.old.scheduler.running) false) }
 {
     w.unblock(t);
     run_cleanups(w, t, marks)?;

@@ -15,11 +15,11 @@ use Rattle.pth_model.specs.Part.{chosen, turn_after}
 use Rattle.pth_model.specs.State.{Scheduler, Turn}
 use Rattle.pth_world.specs.World.{WorldOf, ThreadsBySlot}
 use Rattle.pth_world.specs.Frame.{Frame, Names, runs_after, yields_after}
-use Rattle.pth_world.specs.Numbering.{HasGiven, GivesNone}
+use Rattle.pth_world.specs.Numbering.{HasGiven, GivesNone, made, no_numbers, one_of_each}
 use Rattle.pth_world.specs.Ranks.{IsUnder}
 use Rattle.pth_world.specs.Sound.{IsKnown}
 use Rattle.pth_world.specs.Whole.{Whole, IsIn, IsRunnable, OfNew, OfReady, WaitsToRun}
-use Rattle.pth_world.proofs.Frames.{frame_then}
+use Rattle.pth_world.proofs.Frames.{frame_then, gives_none}
 use Rattle.pth_sched.specs.MachineOf.{MachineOf, IsGoing}
 use Rattle.pth_sched.specs.Passing.{IsReady}
 use Rattle.pth_sched.proofs.Parts.{turn_steps, turn_turns}
@@ -78,15 +78,11 @@ module _ {P S H : Type 0} where
   -- ---- frames
 
   -- the program's step leaves who stands where, and who is named
-  pub stepped_frame : (w m v : WorldOf P S H) (r : Option ℕ) (yields : Bool) → Whole m → m.scheduler ≡ w.scheduler → GivesNone w m → m.threads.queues ≡ w.threads.queues → Frame m v 1 r yields → Frame w v 1 r yields
-  stepped_frame w m v r yields whole scheduler none queues frame = frame_then 0 1 w m v m.scheduler.running r yields (record {
+  pub stepped_frame : (w m v : WorldOf P S H) (r : Option ℕ) (yields : Bool) → Whole m → m.scheduler ≡ w.scheduler → GivesNone w m → m.threads.queues ≡ w.threads.queues → Frame m v one_of_each r yields → Frame w v one_of_each r yields
+  stepped_frame w m v r yields whole scheduler none queues frame = frame_then one_of_each w m v m.scheduler.running r yields (record {
     whole = whole;
     runs = refl;
-    made = record {
-      threads = (let n = none.threads in omega arith);
-      objects = (let n = none.objects in omega arith);
-      events = (let n = none.events in omega arith);
-    };
+    made = gives_none no_numbers w m none;
     ranks = record {
       under = λ roof low under. subst (λ (x : QueuesOf). IsUnder roof x.ready) (sym queues) under;
       fresh = subst (λ (x : QueuesOf). length x.new ≤ length w.threads.queues.new + 0) (sym queues) (omega arith);
@@ -130,11 +126,7 @@ on_ok_four (Err e) w x y z f = tt
 module _ {P S H : Type 0} (m v : MachineOf P S H) (going : IsGoing m) where
   -- no number is given between turns
   given_still : GivesNone m.world v.world → v.turn.steps ≡ m.turn.steps → HasGiven (v.turn.steps + 1) v.world
-  given_still none steps = record {
-    threads = (let a = going.made.threads in let n = none.threads in omega arith);
-    objects = (let a = going.made.objects in let n = none.objects in omega arith);
-    events = (let a = going.made.events in let n = none.events in omega arith);
-  }
+  given_still none steps k = let a = going.made k in let n = none k in omega arith
 
   -- a thread is dispatched, and nobody is named any longer
   pub take_going : (t : ℕ) → m.world.scheduler.running ≡ None → Whole v.world → v.world.scheduler.running ≡ Some t → v.world.scheduler.preferred ≡ None → GivesNone m.world v.world → v.turn.gave ≡ None → v.turn.turns ≡ m.turn.turns + 1 → v.turn.steps ≡ m.turn.steps → IsGoing v
@@ -150,7 +142,7 @@ module _ {P S H : Type 0} (m v : MachineOf P S H) (going : IsGoing m) where
   }
 
   -- a step of thread t, and what its call leads to
-  pub step_going : (t : ℕ) (n : Next) (w : WorldOf P S H) → m.turn.gave ≡ None → m.world.scheduler.running ≡ Some t → Frame m.world w 1 (runs_after t n) (yields_after n) → Whole v.world → v.world ≡ record w { threads = record w.threads { progress = v.world.threads.progress } } → v.turn ≡ turn_after t n (record m.turn { steps = m.turn.steps + 1 }) → IsGoing v
+  pub step_going : (t : ℕ) (n : Next) (w : WorldOf P S H) → m.turn.gave ≡ None → m.world.scheduler.running ≡ Some t → Frame m.world w one_of_each (runs_after t n) (yields_after n) → Whole v.world → v.world ≡ record w { threads = record w.threads { progress = v.world.threads.progress } } → v.turn ≡ turn_after t n (record m.turn { steps = m.turn.steps + 1 }) → IsGoing v
   step_going t n w over runs frame whole same turn =
       let x : Turn = record m.turn { steps = m.turn.steps + 1 } in
       let none : m.world.scheduler.preferred ≡ None = going.unnamed over (subst (λ (o : Option ℕ). IsSome o) (sym runs) refl) in
@@ -164,11 +156,7 @@ module _ {P S H : Type 0} (m v : MachineOf P S H) (going : IsGoing m) where
         whole = whole;
         preferred = named_on w.scheduler.preferred v.world.scheduler.preferred w.threads v.world.threads names (waits_same w.threads v.world.threads (ap (λ (k : WorldOf P S H). k.threads.records) same) (ap (λ (k : WorldOf P S H). k.threads.queues) same)) (names_wait (yields_after n) m.world w none frame.preferred);
         unnamed = λ given some. names ∙ names_none t n x m.world w (sym gave ∙ given) frame.preferred ∙ none;
-        made = record {
-          threads = (let a = going.made.threads in let b = frame.made.threads in let c : v.world.threads.records.made ≡ w.threads.records.made = ap (λ (k : WorldOf P S H). k.threads.records.made) same in omega arith);
-          objects = (let a = going.made.objects in let b = frame.made.objects in let c : v.world.attributes.made ≡ w.attributes.made = ap (λ (k : WorldOf P S H). k.attributes.made) same in omega arith);
-          events = (let a = going.made.events in let b = frame.made.events in let c : v.world.events.made ≡ w.events.made = ap (λ (k : WorldOf P S H). k.events.made) same in omega arith);
-        };
+        made = λ k. (let a = going.made k in let b = frame.made k in let c : made v.world k ≡ made w k = ap (λ (x : WorldOf P S H). made x k) same in omega arith);
         turns = omega arith;
         over = if_always v.turn.gave (v.turn.turns ≤ v.turn.steps) fewer;
         own = subst (λ (o : Option ℕ). IfSome o (λ g. IfSome v.world.scheduler.running (λ r. r ≡ g))) (sym gave) (subst (λ (o : Option ℕ). IfSome (turn_after t n x).gave (λ g. IfSome o (λ r. r ≡ g))) (sym running) (gives_own t n x over));

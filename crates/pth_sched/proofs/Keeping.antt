@@ -12,7 +12,7 @@ use Rattle.pth_model.specs.State.{Given, Scheduler, start, no_turn}
 use Rattle.pth_model.specs.Run.{parts}
 use Rattle.pth_world.specs.Shows.{StandsFor}
 use Rattle.pth_world.specs.Sound.{IsKnown}
-use Rattle.pth_world.specs.Numbering.{GivesNone}
+use Rattle.pth_world.specs.Numbering.{GivesNone, Thread, Object, Event}
 use Rattle.pth_world.specs.Touches.{KeepsRest}
 use Rattle.pth_threads.specs.Attributes.{AttrsOf}
 use Rattle.pth_world.specs.Whole.{Whole, IsIn, WaitsToRun}
@@ -48,7 +48,7 @@ start_going f w given st whole one none no_events = let nobody : w.scheduler.pre
   whole = whole;
   preferred = subst (λ (o : Option ℕ). IfSome o (λ u. WaitsToRun w.threads u)) (sym nobody) tt;
   unnamed = λ gave runs. nobody;
-  made = record { threads = omega arith; objects = omega arith; events = omega arith };
+  made = elim [ Thread ↦ omega arith | Object ↦ omega arith | Event ↦ omega arith ];
   turns = omega arith;
   over = tt;
   own = tt;
@@ -73,10 +73,7 @@ module _ {P S H : Type 0} (w : WorldOf P S H) where
   scheduler_then m v a b = record { program = b.program ∙ a.program; attributes = b.attributes ∙ a.attributes; events = b.events ∙ a.events; kernel = b.kernel ∙ a.kernel; store = b.store ∙ a.store; used = b.used ∙ a.used; scheduler = b.scheduler ∙ a.scheduler }
 
   pub gives_rest : (v : WorldOf P S H) → KeepsRest w v → v.threads.records.made ≡ w.threads.records.made → GivesNone w v
-  gives_rest v rest made = record { threads = made; objects = ap (λ (x : AttrsOf). x.made) rest.attributes; events = rest.events }
-
-  pub gives_then : (m v : WorldOf P S H) → GivesNone w m → GivesNone m v → GivesNone w v
-  gives_then m v a b = record { threads = b.threads ∙ a.threads; objects = b.objects ∙ a.objects; events = b.events ∙ a.events }
+  gives_rest v rest made = elim [ Thread ↦ made | Object ↦ ap (λ (x : AttrsOf). x.made) rest.attributes | Event ↦ rest.events ]
 
 -- three facts of a call that went well
 pub on_ok_three : {A E : Type 0} {X Y Z Q : Type 0} (r : Result A E) → OnOk r X → OnOk r Y → OnOk r Z → (X → Y → Z → Q) → OnOk r Q

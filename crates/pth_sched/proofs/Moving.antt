@@ -1,5 +1,5 @@
 -- Idle time moves to a moment, and a pass is made.
-use Rattle.std.proofs.Common.{◌≡◌, ◌↔◌, ℕ, Bool, true, false, List, [], ◌∷◌, ◌++◌, map, Option, Some, None, is_some, Result, Ok, Err, OnOk, refl, sym, ap, ◌∙◌, append_assoc}
+use Rattle.std.proofs.Common.{◌≡◌, ◌↔◌, ℕ, Bool, true, false, List, [], ◌∷◌, ◌++◌, map, Option, Some, None, is_some, Result, Ok, Err, OnOk, refl, sym, ap, subst, ◌∙◌, append_assoc}
 use Rattle.pth_base.specs.Cut.{IsCut}
 use Rattle.pth_base.specs.Program.{Functions}
 use Rattle.pth_base.specs.declared.mark.Mark.{Mark}
@@ -15,10 +15,12 @@ use Rattle.pth_model.specs.Pass.{moment, pass}
 use Rattle.pth_model.specs.Resources.{told as told_of}
 use Rattle.pth_model.specs.State.{State, Control, Scheduler, Turn, queue}
 use Rattle.pth_model.specs.Transition.{changes, tells, ◌and_then◌}
+use Rattle.pth_world.proofs.Ranks.{ranks_none}
 use Rattle.pth_world.proofs.Telling.{has_still}
-use Rattle.pth_world.specs.World.{WorldOf}
+use Rattle.pth_world.specs.World.{WorldOf, ThreadsBySlot}
 use Rattle.pth_world.specs.Shows.{Shows}
 use Rattle.pth_world.specs.Leading.{Leads}
+use Rattle.pth_world.specs.Numbering.{GivesNone, made}
 use Rattle.pth_world.specs.Ranks.{KeepsRanks}
 use Rattle.pth_world.specs.Touches.{KeepsRest}
 use Rattle.pth_world.specs.Whole.{Whole, WaitsToRun}
@@ -53,6 +55,18 @@ module _ {P S H : Type 0} where
         record {
           going = still_going m v keeps.going whole running (ap (λ (k : Scheduler). k.preferred) rest.scheduler) (gives_rest m.world v.world rest made) stays turn;
           ranks = still_roofed m v keeps.ranks ranks running turn;
+        }
+
+    -- it is later, and nothing else has changed
+    pub moved_keeps : (now : ℕ) → Keeps m → Whole v.world → v.world ≡ record m.world { kernel = record m.world.kernel { now = now } } → v.turn ≡ m.turn → Keeps v
+    moved_keeps now keeps whole same turn =
+        let threads : v.world.threads ≡ m.world.threads = ap (λ (w : WorldOf P S H). w.threads) same in
+        let running : v.world.scheduler.running ≡ m.world.scheduler.running = ap (λ (w : WorldOf P S H). w.scheduler.running) same in
+        let named : v.world.scheduler.preferred ≡ m.world.scheduler.preferred = ap (λ (w : WorldOf P S H). w.scheduler.preferred) same in
+        let gives : GivesNone m.world v.world = λ k. ap (λ (w : WorldOf P S H). made w k) same in
+        record {
+          going = still_going m v keeps.going whole running named gives (λ u. subst (λ (x : ThreadsBySlot S). WaitsToRun x u) (sym threads)) turn;
+          ranks = still_roofed m v keeps.ranks (subst (λ (x : ThreadsBySlot S). KeepsRanks 0 m.world.threads x) (sym threads) (ranks_none m.world.threads)) running turn;
         }
 
   -- ---- time moves

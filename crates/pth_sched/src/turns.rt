@@ -12,7 +12,7 @@ ghost use Rattle.pth_model.specs.Part.{chosen, is_placed, new_rank, readies_new,
 ghost use Rattle.pth_model.specs.State.{Control, State, queue as rows};
 ghost use Rattle.pth_world.specs.Frame.{Frame, runs_after, yields_after};
 ghost use Rattle.pth_world.specs.Leading.{Leads};
-ghost use Rattle.pth_world.specs.Numbering.{HasNumbers, GivesNone};
+ghost use Rattle.pth_world.specs.Numbering.{HasNumbers, GivesNone, no_numbers, one_of_each};
 ghost use Rattle.pth_world.specs.Ranks.{IsUnder, KeepsRanks, greatest_return};
 ghost use Rattle.pth_world.specs.Shows.{Shows, StandsFor};
 ghost use Rattle.pth_world.specs.Sound.{IsSound, IsKnown};
@@ -95,7 +95,7 @@ fn begin_unmild<P: Program>(
     ensures next { IfOk result (λ n. (s : State P P.State P.Shared) → StandsFor w.old s → n ≡ (begun P.functions t.0 call s).next) }
     ensures ok { OnOk result ((s : State P P.State P.Shared) → StandsFor w.old s → Leads w.new marks.old marks.new (begun P.functions t.0 call s).told) }
     ensures err { OnErr result ((s : State P P.State P.Shared) → StandsFor w.old s → IsCut marks.old marks.new (begun P.functions t.0 call s).told.marks) }
-    ensures frame { IfOk result (λ n. Frame w.old w.new 1 (runs_after t.0 n) (yields_after n)) }
+    ensures frame { IfOk result (λ n. Frame w.old w.new one_of_each (runs_after t.0 n) (yields_after n)) }
     ensures kept { IfOk result (λ n. calm.new.until ≡ (if waits_mildly_in (kernel_of w.old.kernel) call && waits_on n then calm.old.until else 0)) }
 {
     let patient = waits_mildly(w.kernel(), &call);
@@ -118,7 +118,7 @@ fn begin_next<P: Program>(
     ensures ok { OnOk result ((s : State P P.State P.Shared) → StandsFor w.old s → IfSome (s.control.threads.progress t.0) (λ p. Leads w.new marks.old marks.new (steps_from P.functions t.0 p s).told)) }
     ensures err { OnErr result ((s : State P P.State P.Shared) → StandsFor w.old s → IfSome (s.control.threads.progress t.0) (λ p. IsCut marks.old marks.new (steps_from P.functions t.0 p s).told.marks)) }
     ensures some { (s : State P P.State P.Shared) → StandsFor w.old s → IsSome (s.control.threads.progress t.0) }
-    ensures frame { IfOk result (λ n. Frame w.old w.new 1 (runs_after t.0 n) (yields_after n)) }
+    ensures frame { IfOk result (λ n. Frame w.old w.new one_of_each (runs_after t.0 n) (yields_after n)) }
     ensures calm { OnOk result (Calms w.old calm.old.until → Calms w.new calm.new.until) }
 {
     let call = w.next_call(t)?;
@@ -140,7 +140,7 @@ fn resume_blocked<P: Program>(
     ensures next { IfOk result (λ n. (s : State P P.State P.Shared) → StandsFor w.old s → n ≡ (gone_on P.functions t.0 s).next) }
     ensures ok { OnOk result ((s : State P P.State P.Shared) → StandsFor w.old s → Leads w.new marks.old marks.new (gone_on P.functions t.0 s).told) }
     ensures err { OnErr result ((s : State P P.State P.Shared) → StandsFor w.old s → IsCut marks.old marks.new (gone_on P.functions t.0 s).told.marks) }
-    ensures frame { IfOk result (λ n. Frame w.old w.new 0 (runs_after t.0 n) (yields_after n)) }
+    ensures frame { IfOk result (λ n. Frame w.old w.new no_numbers (runs_after t.0 n) (yields_after n)) }
     ensures calm { OnOk result (Calms w.old calm.old.until → Calms w.new calm.new.until) }
 {
     let patient = is_patient(w, t);
@@ -174,7 +174,7 @@ pub fn go_on<P: Program>(
     ensures next { IfOk result (λ n. (s : State P P.State P.Shared) → StandsFor w.old s → n ≡ (steps_on P.functions t.0 s).next) }
     ensures ok { OnOk result ((s : State P P.State P.Shared) → StandsFor w.old s → Leads w.new marks.old marks.new (steps_on P.functions t.0 s).told) }
     ensures err { OnErr result ((s : State P P.State P.Shared) → StandsFor w.old s → IsCut marks.old marks.new (steps_on P.functions t.0 s).told.marks) }
-    ensures frame { IfOk result (λ n. Frame w.old w.new 1 (runs_after t.0 n) (yields_after n)) }
+    ensures frame { IfOk result (λ n. Frame w.old w.new one_of_each (runs_after t.0 n) (yields_after n)) }
     ensures calm { OnOk result (Calms w.old calm.old.until → Calms w.new calm.new.until) }
 {
     if w.blocked(t).is_some() {

@@ -21,7 +21,9 @@ use Rattle.pth_model.specs.Rows.{row_of}
 use Rattle.pth_model.specs.State.{Control, State}
 use Rattle.pth_model.specs.Transition.{Transition, Went, changes, silent, tid, tells, ◌and_then◌, ◌and_next◌, ◌and_finally◌}
 use Rattle.pth_model.specs.Verdict.{Pause, Verdict, Says, waits}
+use Rattle.pth_world.specs.Numbering.{Thread, Object, Event, no_numbers}
 use Rattle.pth_world.specs.World.{WorldOf}
+use Rattle.pth_world.proofs.Frames.{gives_none}
 use Rattle.pth_world.proofs.Ranks.{ranks_none, ranks_same}
 use Rattle.pth_world.specs.Frame.{Frame}
 use Rattle.pth_world.specs.Leading.{Leads, IsQuiet}
@@ -133,19 +135,19 @@ waits_on_leads w s t b old new may none sh appended =
     record { stands = record { control = sh; resources = ap (λ k. told k (Waits (tid t) b.call)) none ∙ quiet-waits t b.call may (store_of w.store) }; tells = appended }
 
 -- a world of which the progress of threads alone is another one
-pub progress_frame : {P S H : Type 0} (w : WorldOf P S H) (p : List (Option (Progress S))) (r : Option ℕ) → w.scheduler.running ≡ r → Whole (record w { threads = record w.threads { progress = p } }) → Frame w (record w { threads = record w.threads { progress = p } }) 0 r false
-progress_frame w p r is whole = record { whole = whole; runs = is; made = record { threads = omega arith; objects = omega arith; events = omega arith }; ranks = ranks_same 0 w.threads w.threads _ refl (ranks_none w.threads); preferred = refl }
+pub progress_frame : {P S H : Type 0} (w : WorldOf P S H) (p : List (Option (Progress S))) (r : Option ℕ) → w.scheduler.running ≡ r → Whole (record w { threads = record w.threads { progress = p } }) → Frame w (record w { threads = record w.threads { progress = p } }) no_numbers r false
+progress_frame w p r is whole = record { whole = whole; runs = is; made = gives_none no_numbers w (record w { threads = record w.threads { progress = p } }) (λ k. refl); ranks = ranks_same 0 w.threads w.threads _ refl (ranks_none w.threads); preferred = refl }
 
 -- no call blocks the thread any longer
-pub unblocked_frame : {P S H : Type 0} (w v : WorldOf P S H) (r : Option ℕ) → w.scheduler.running ≡ r → Whole v → v.events.made ≡ w.events.made → v ≡ record w { threads = record w.threads { progress = v.threads.progress }; events = v.events } → Frame w v 0 r false
+pub unblocked_frame : {P S H : Type 0} (w v : WorldOf P S H) (r : Option ℕ) → w.scheduler.running ≡ r → Whole v → v.events.made ≡ w.events.made → v ≡ record w { threads = record w.threads { progress = v.threads.progress }; events = v.events } → Frame w v no_numbers r false
 unblocked_frame {P} {S} {H} w v r is whole made same = record {
   whole = whole;
   runs = ap (λ (z : WorldOf P S H). z.scheduler.running) same ∙ is;
-  made = record {
-    threads = (let e = ap (λ (z : WorldOf P S H). z.threads.records.made) same in omega arith);
-    objects = (let e = ap (λ (z : WorldOf P S H). z.attributes.made) same in omega arith);
-    events = (let e = made in omega arith);
-  };
+  made = elim [
+    | Thread ↦ (let e = ap (λ (z : WorldOf P S H). z.threads.records.made) same in omega arith)
+    | Object ↦ (let e = ap (λ (z : WorldOf P S H). z.attributes.made) same in omega arith)
+    | Event ↦ (let e = made in omega arith)
+  ];
   ranks = ranks_same 0 w.threads w.threads v.threads (ap (λ (z : WorldOf P S H). z.threads.queues) same) (ranks_none w.threads);
   preferred = ap (λ (z : WorldOf P S H). z.scheduler.preferred) same;
 }

@@ -12,6 +12,7 @@ ghost use Rattle.pth_waits.specs.Blocking.{HasClaimed, StandsOnce};
 ghost use Rattle.pth_waits.specs.Locking.{is_locking};
 ghost use Rattle.pth_world.specs.Frame.{Frame, runs_after, yields_after};
 ghost use Rattle.pth_world.specs.Leading.{Leads};
+ghost use Rattle.pth_world.specs.Numbering.{no_numbers};
 ghost use Rattle.pth_world.specs.Shows.{Shows, StandsFor};
 ghost use Rattle.pth_world.specs.Whole.{Whole, MayBlock, MayBlockAs, MayHaveWritten, MayWaitUntil};
 
@@ -44,7 +45,7 @@ pub(crate) fn block<P: Program>(
     requires written { MayHaveWritten call written }
     ensures ok { OnOk result ((s : State P P.State P.Shared) → HasClaimed w.old t.0 call s → Leads w.new marks.old marks.new (waits_by t.0 call (record no_pause { moment = moment; written = written }) s)) }
     ensures err { OnErr result (marks.new ≡ marks.old) }
-    ensures frame { OnOk result (Frame w.old w.new 0 (Some t.0) false) }
+    ensures frame { OnOk result (Frame w.old w.new no_numbers (Some t.0) false) }
 {
     let mark = Mark::Waits {
         tid: t,
@@ -79,7 +80,7 @@ pub(crate) fn answer_blocked<P: Program>(
     ensures next { IfOk result (λ n. n ≡ Done answer) }
     ensures ok { OnOk result ((s : State P P.State P.Shared) → StandsOnce w.old (Answered t call.now answer) s → Leads w.new marks.old marks.new (answers P.functions t.0 call.now answer s)) }
     ensures err { OnErr result (marks.new ≡ marks.old) }
-    ensures frame { IfOk result (λ n. Frame w.old w.new 0 (runs_after t.0 n) (yields_after n)) }
+    ensures frame { IfOk result (λ n. Frame w.old w.new no_numbers (runs_after t.0 n) (yields_after n)) }
 {
     w.unblock(t);
     done(t, call, answer, marks)
@@ -100,7 +101,7 @@ pub(crate) fn answer_held<P: Program>(
     ensures next { IfOk result (λ n. n ≡ Done answer) }
     ensures ok { OnOk result ((s : State P P.State P.Shared) → StandsFor w.old s → IfSome (blocked_of s.control t.0) (λ b. Leads w.new marks.old marks.new (answers P.functions t.0 b.call answer s))) }
     ensures err { OnErr result (marks.new ≡ marks.old) }
-    ensures frame { OnOk result (Frame w.old w.new 0 (Some t.0) false) }
+    ensures frame { OnOk result (Frame w.old w.new no_numbers (Some t.0) false) }
 {
     match w.unblock(t) {
         Some(held) => done(t, &held.call, answer, marks),
@@ -122,7 +123,7 @@ pub(crate) fn wait_on<P: Program>(
     ensures next { IfOk result (λ n. n ≡ Waiting) }
     ensures ok { OnOk result ((s : State P P.State P.Shared) → StandsFor w.old s → IfSome (blocked_of s.control t.0) (λ b. Leads w.new marks.old marks.new ((changes (is_blocked_by t.0 (Some (record b { written = written }))) and_then tells (WaitsFor (tid t.0) b.call)) s))) }
     ensures err { OnErr result (marks.new ≡ marks.old) }
-    ensures frame { OnOk result (Frame w.old w.new 0 (Some t.0) false) }
+    ensures frame { OnOk result (Frame w.old w.new no_numbers (Some t.0) false) }
 {
     let mut held = match w.take_blocked(t) {
         Some(held) => held,

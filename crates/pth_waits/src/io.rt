@@ -17,6 +17,7 @@ ghost use Rattle.pth_ring.specs.Arena.{events_of};
 ghost use Rattle.pth_waits.specs.Io.{blocks_on, claims_unless, is_at_once, is_io, is_refused_length, moment_for, waits_unless, IsTriable};
 ghost use Rattle.pth_world.specs.Frame.{Frame, runs_after, yields_after};
 ghost use Rattle.pth_world.specs.Leading.{Leads};
+ghost use Rattle.pth_world.specs.Numbering.{no_numbers};
 ghost use Rattle.pth_world.specs.Shows.{Shows, StandsFor};
 ghost use Rattle.pth_world.specs.Whole.{Whole, MayBlock, MayHaveWritten, MayWaitUntil};
 
@@ -132,7 +133,7 @@ pub(crate) fn claim_for<P: Program>(
     ensures shows { OnOk result ((k : Control P P.State P.Shared) → Shows w.old k → Shows w.new (claims t.0 ring k)) }
     ensures store { w.new.store ≡ w.old.store }
     ensures refused { OnErr result (w.new ≡ w.old) }
-    ensures frame { Frame w.old w.new 0 w.old.scheduler.running false }
+    ensures frame { Frame w.old w.new no_numbers w.old.scheduler.running false }
 {
     if at_once {
         return Err(Errno::EAGAIN);
@@ -157,7 +158,7 @@ fn try_first<P: Program>(
     ensures verdict { IfOk result (λ x. (s : State P P.State P.Shared) → StandsFor w.old s → IsTriable s call.now → (row_of P.functions s t.0 call.now).begin.verdict ≡ said_or x.answer (blocks_on moment x.written)) }
     ensures stands { IfOk result (λ x. (s : State P P.State P.Shared) → StandsFor w.old s → IsTriable s call.now → StandsFor w.new (controlled (claims_unless x.answer t.0 (given call.now)) (effect_of (row_of P.functions s t.0 call.now).begin s).state)) }
     ensures written { IfOk result (λ x. x.answer ≡ None → MayHaveWritten call.now x.written) }
-    ensures frame { OnOk result (Frame w.old w.new 0 w.old.scheduler.running false) }
+    ensures frame { OnOk result (Frame w.old w.new no_numbers w.old.scheduler.running false) }
 {
     let at_once = is_at_once(w.kernel(), call);
     let trial = try_awaited(w.kernel_mut(), awaited_by(call, moment, 0))?;
@@ -186,7 +187,7 @@ fn begin_trial<P: Program>(
     ensures verdict { IfOk result (λ x. (s : State P P.State P.Shared) → StandsFor w.old s → (row_of P.functions s t.0 call.now).begin.verdict ≡ said_or x.answer (blocks_on moment x.written)) }
     ensures stands { IfOk result (λ x. (s : State P P.State P.Shared) → StandsFor w.old s → StandsFor w.new (controlled (claims_unless x.answer t.0 (given call.now)) (effect_of (row_of P.functions s t.0 call.now).begin s).state)) }
     ensures written { IfOk result (λ x. x.answer ≡ None → MayHaveWritten call.now x.written) }
-    ensures frame { OnOk result (Frame w.old w.new 0 w.old.scheduler.running false) }
+    ensures frame { OnOk result (Frame w.old w.new no_numbers w.old.scheduler.running false) }
 {
     if is_no_ring(w, ring_given(call)) || is_refused_length(w.kernel(), call) {
         return Ok(Trial {
@@ -212,7 +213,7 @@ pub fn begin_io<P: Program>(
     ensures next { IfOk result (λ n. (s : State P P.State P.Shared) → StandsFor w.old s → n ≡ (begun P.functions t.0 call s).next) }
     ensures ok { OnOk result ((s : State P P.State P.Shared) → StandsFor w.old s → Leads w.new marks.old marks.new (begun P.functions t.0 call s).told) }
     ensures err { OnErr result ((s : State P P.State P.Shared) → StandsFor w.old s → IsCut marks.old marks.new (begun P.functions t.0 call s).told.marks) }
-    ensures frame { IfOk result (λ n. Frame w.old w.new 0 (runs_after t.0 n) (yields_after n)) }
+    ensures frame { IfOk result (λ n. Frame w.old w.new no_numbers (runs_after t.0 n) (yields_after n)) }
 {
     let moment = moment_for(w, &call);
     let trial = begin_trial(w, t, &call, moment)?;
@@ -247,7 +248,7 @@ pub fn io_again<P: Program>(
     ensures next { IfOk result (λ n. (s : State P P.State P.Shared) → StandsFor w.old s → n ≡ (tried_again P.functions t.0 s).next) }
     ensures ok { OnOk result ((s : State P P.State P.Shared) → StandsFor w.old s → Leads w.new marks.old marks.new (tried_again P.functions t.0 s).told) }
     ensures err { OnErr result ((s : State P P.State P.Shared) → StandsFor w.old s → IsCut marks.old marks.new (tried_again P.functions t.0 s).told.marks) }
-    ensures frame { IfOk result (λ n. Frame w.old w.new 0 (runs_after t.0 n) (yields_after n)) }
+    ensures frame { IfOk result (λ n. Frame w.old w.new no_numbers (runs_after t.0 n) (yields_after n)) }
 {
     let awaited = w.awaited(t);
     let come = has_settled(w.rings(), awaited.ring);

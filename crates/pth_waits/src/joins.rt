@@ -16,6 +16,7 @@ ghost use Rattle.pth_model.specs.Changes.{removes, entry_of, or_nobody};
 ghost use Rattle.pth_model.specs.Verdict.{Says, said_or, waits};
 ghost use Rattle.pth_world.specs.Frame.{Frame, runs_after, yields_after};
 ghost use Rattle.pth_world.specs.Leading.{Leads, Changed};
+ghost use Rattle.pth_world.specs.Numbering.{no_numbers};
 ghost use Rattle.pth_world.specs.Shows.{Shows, StandsFor};
 ghost use Rattle.pth_world.specs.Sound.{IsSound, IsKnown};
 ghost use Rattle.pth_world.specs.Whole.{Whole, IsIn, MayBlock};
@@ -123,7 +124,7 @@ fn take<P: Program>(w: &mut World<P>, other: Tid) -> i64
     ensures value { (k : Control P P.State P.Shared) → Shows w.old k → joined k (Some other.0) ≡ Says (Int result) }
     ensures shows { (k : Control P P.State P.Shared) → Shows w.old k → Shows w.new (removes other.0 k) }
     ensures store { w.new.store ≡ w.old.store }
-    ensures frame { Frame w.old w.new 0 w.old.scheduler.running false }
+    ensures frame { Frame w.old w.new no_numbers w.old.scheduler.running false }
 {
     let value = match w.entry(other) {
         Some(entry) => entry.value,
@@ -140,7 +141,7 @@ fn attempt<P: Program>(w: &mut World<P>, t: Tid, n: i64) -> Option<Answer>
     ensures verdict { (s : State P P.State P.Shared) → StandsFor w.old s → (join_attempt s t.0 n).verdict ≡ said_or result waits }
     ensures effect { (s : State P P.State P.Shared) → StandsFor w.old s → Changed w.new (effect_of (join_attempt s t.0 n) s) }
     ensures waits { result ≡ None → (s : State P P.State P.Shared) → StandsFor w.old s → effect_of (join_attempt s t.0 n) s ≡ silent s }
-    ensures frame { Frame w.old w.new 0 (Some t.0) false }
+    ensures frame { Frame w.old w.new no_numbers (Some t.0) false }
 {
     if let Some(errno) = refusal(w, t, n) {
         return Some(Answer::Fail(errno));
@@ -165,7 +166,7 @@ pub fn begin_join<P: Program>(
     ensures next { IfOk result (λ n. (s : State P P.State P.Shared) → StandsFor w.old s → n ≡ (begun P.functions t.0 call s).next) }
     ensures ok { OnOk result ((s : State P P.State P.Shared) → StandsFor w.old s → Leads w.new marks.old marks.new (begun P.functions t.0 call s).told) }
     ensures err { OnErr result ((s : State P P.State P.Shared) → StandsFor w.old s → IsCut marks.old marks.new (begun P.functions t.0 call s).told.marks) }
-    ensures frame { IfOk result (λ n. Frame w.old w.new 0 (runs_after t.0 n) (yields_after n)) }
+    ensures frame { IfOk result (λ n. Frame w.old w.new no_numbers (runs_after t.0 n) (yields_after n)) }
 {
     let answer = match attempt(w, t, n) {
         Some(answer) => answer,
@@ -191,7 +192,7 @@ pub fn join_again<P: Program>(
     ensures next { IfOk result (λ n. (s : State P P.State P.Shared) → StandsFor w.old s → n ≡ (tried_again P.functions t.0 s).next) }
     ensures ok { OnOk result ((s : State P P.State P.Shared) → StandsFor w.old s → Leads w.new marks.old marks.new (tried_again P.functions t.0 s).told) }
     ensures err { OnErr result ((s : State P P.State P.Shared) → StandsFor w.old s → IsCut marks.old marks.new (tried_again P.functions t.0 s).told.marks) }
-    ensures frame { IfOk result (λ n. Frame w.old w.new 0 (runs_after t.0 n) (yields_after n)) }
+    ensures frame { IfOk result (λ n. Frame w.old w.new no_numbers (runs_after t.0 n) (yields_after n)) }
 {
     let answer = match attempt(w, t, n) {
         Some(answer) => answer,

@@ -19,6 +19,7 @@ ghost use Rattle.pth_waits.specs.Io.{claims_unless, unless_interrupted};
 ghost use Rattle.pth_waits.specs.Locking.{is_free_mutex as is_free, is_locking, is_open_lock as is_open, is_to_take, only_tries as only_tries_in, taken, taking};
 ghost use Rattle.pth_world.specs.Frame.{Frame, runs_after, yields_after};
 ghost use Rattle.pth_world.specs.Leading.{Leads, Tells};
+ghost use Rattle.pth_world.specs.Numbering.{no_numbers};
 ghost use Rattle.pth_world.specs.Shows.{Shows, StandsFor};
 ghost use Rattle.pth_world.specs.Sound.{IsAlive};
 ghost use Rattle.pth_world.specs.Store.{store_of};
@@ -89,7 +90,7 @@ fn claim_to_wait<P: Program>(w: &mut World<P>, t: Tid, ring: Option<i64>) -> Opt
     ensures tells { IfSome result (λ a. (c : Call) → Tells w.old (Answered t c a) w.new) }
     ensures shows { (k : Control P P.State P.Shared) → Shows w.old k → Shows w.new (claims_unless result t.0 ring k) }
     ensures store { w.new.store ≡ w.old.store }
-    ensures frame { Frame w.old w.new 0 w.old.scheduler.running false }
+    ensures frame { Frame w.old w.new no_numbers w.old.scheduler.running false }
 {
     match claim_for(w, t, false, ring) {
         Ok(()) => None,
@@ -110,7 +111,7 @@ fn turn_away<P: Program>(
     ensures tells { IfSome result (λ a. (c : Call) → Tells w.old (Answered t c a) w.new) }
     ensures shows { (k : Control P P.State P.Shared) → Shows w.old k → Shows w.new (claims_unless result t.0 ring k) }
     ensures store { w.new.store ≡ w.old.store }
-    ensures frame { Frame w.old w.new 0 w.old.scheduler.running false }
+    ensures frame { Frame w.old w.new no_numbers w.old.scheduler.running false }
 {
     if only_tries(call) {
         return Some(Answer::Fail(errno));
@@ -130,7 +131,7 @@ fn begin_taking<P: Program>(w: &mut World<P>, t: Tid, call: &Call) -> Option<Ans
     ensures tells { IfSome result (λ a. Tells w.old (Answered t call.now a) w.new) }
     ensures kept { result ≡ None → w.new.store ≡ w.old.store }
     ensures shows { (k : Control P P.State P.Shared) → Shows w.old k → Shows w.new (claims_unless result t.0 (given call.now) k) }
-    ensures frame { Frame w.old w.new 0 w.old.scheduler.running false }
+    ensures frame { Frame w.old w.new no_numbers w.old.scheduler.running false }
 {
     let ring = ring_given(call);
     if is_no_ring(w, ring) {
@@ -158,7 +159,7 @@ pub fn begin_locking<P: Program>(
     ensures next { IfOk result (λ n. (s : State P P.State P.Shared) → StandsFor w.old s → n ≡ (begun P.functions t.0 call s).next) }
     ensures ok { OnOk result ((s : State P P.State P.Shared) → StandsFor w.old s → Leads w.new marks.old marks.new (begun P.functions t.0 call s).told) }
     ensures err { OnErr result ((s : State P P.State P.Shared) → StandsFor w.old s → IsCut marks.old marks.new (begun P.functions t.0 call s).told.marks) }
-    ensures frame { IfOk result (λ n. Frame w.old w.new 0 (runs_after t.0 n) (yields_after n)) }
+    ensures frame { IfOk result (λ n. Frame w.old w.new no_numbers (runs_after t.0 n) (yields_after n)) }
 {
     if let Some(answer) = begin_taking(w, t, &call) {
         return done(t, &call, answer, marks);
@@ -237,7 +238,7 @@ pub fn lock_again<P: Program>(
     ensures next { IfOk result (λ n. (s : State P P.State P.Shared) → StandsFor w.old s → n ≡ (tried_again P.functions t.0 s).next) }
     ensures ok { OnOk result ((s : State P P.State P.Shared) → StandsFor w.old s → Leads w.new marks.old marks.new (tried_again P.functions t.0 s).told) }
     ensures err { OnErr result ((s : State P P.State P.Shared) → StandsFor w.old s → IsCut marks.old marks.new (tried_again P.functions t.0 s).told.marks) }
-    ensures frame { IfOk result (λ n. Frame w.old w.new 0 (runs_after t.0 n) (yields_after n)) }
+    ensures frame { IfOk result (λ n. Frame w.old w.new no_numbers (runs_after t.0 n) (yields_after n)) }
 {
     if let Some(answer) = answer_again(w, t, &call) {
         return answer_blocked(w, t, &call, answer, marks);

@@ -9,6 +9,7 @@ ghost use Rattle.pth_model.specs.State.{Control, State, main};
 ghost use Rattle.pth_model.specs.ThreadEnds.{must_wait as must_wait_now};
 ghost use Rattle.pth_world.specs.Frame.{Frame, runs_after, yields_after};
 ghost use Rattle.pth_world.specs.Leading.{Leads};
+ghost use Rattle.pth_world.specs.Numbering.{no_numbers};
 ghost use Rattle.pth_world.specs.Shows.{Shows, StandsFor};
 ghost use Rattle.pth_world.specs.Sound.{IsSound};
 ghost use Rattle.pth_world.specs.Whole.{Whole, MayBlock};
@@ -48,7 +49,7 @@ pub fn begin_exit<P: Program>(
     ensures next { IfOk result (λ n. (s : State P P.State P.Shared) → StandsFor w.old s → n ≡ (begun P.functions t.0 call s).next) }
     ensures ok { OnOk result ((s : State P P.State P.Shared) → StandsFor w.old s → Leads w.new marks.old marks.new (begun P.functions t.0 call s).told) }
     ensures err { OnErr result ((s : State P P.State P.Shared) → StandsFor w.old s → IsCut marks.old marks.new (begun P.functions t.0 call s).told.marks) }
-    ensures frame { IfOk result (λ n. Frame w.old w.new 0 (runs_after t.0 n) (yields_after n)) }
+    ensures frame { IfOk result (λ n. Frame w.old w.new no_numbers (runs_after t.0 n) (yields_after n)) }
 {
     if must_wait(w, t) {
         block(w, t, call, 0, 0, marks)?;
@@ -72,7 +73,7 @@ pub fn exit_again<P: Program>(
     ensures next { IfOk result (λ n. (s : State P P.State P.Shared) → StandsFor w.old s → n ≡ (tried_again P.functions t.0 s).next) }
     ensures ok { OnOk result ((s : State P P.State P.Shared) → StandsFor w.old s → Leads w.new marks.old marks.new (tried_again P.functions t.0 s).told) }
     ensures err { OnErr result ((s : State P P.State P.Shared) → StandsFor w.old s → IsCut marks.old marks.new (tried_again P.functions t.0 s).told.marks) }
-    ensures frame { IfOk result (λ n. Frame w.old w.new 0 (runs_after t.0 n) (yields_after n)) }
+    ensures frame { IfOk result (λ n. Frame w.old w.new no_numbers (runs_after t.0 n) (yields_after n)) }
 {
     if must_wait(w, t) {
         marks.push(Mark::Waits {

@@ -1,10 +1,11 @@
 -- Changes of events, and what they show.
-use Rattle.std.proofs.Common.{◌≡◌, ◌∙◌, ℕ, ◌+◌, ◌≤◌, false, Result, Ok, Err, OnOk, refl, sym, ap, arith}
+use Rattle.std.proofs.Common.{◌≡◌, ◌∙◌, ◌+◌, ◌≤◌, false, Result, Ok, Err, OnOk, refl, sym, ap, arith}
 use Rattle.pth_ring.specs.Arena.{RingsOf, events_of}
 use Rattle.pth_ring.specs.Rings.{Events}
 use Rattle.pth_model.specs.Changes.{with_events}
 use Rattle.pth_model.specs.State.{Control}
 use Rattle.pth_world.specs.Frame.{Frame}
+use Rattle.pth_world.specs.Numbering.{Thread, Object, Event, Numbers}
 use Rattle.pth_world.specs.Shows.{Shows}
 use Rattle.pth_world.specs.Whole.{Whole}
 use Rattle.pth_world.specs.World.{WorldOf}
@@ -17,11 +18,11 @@ module _ {P S H : Type 0} (w : WorldOf P S H) (e : RingsOf) where
   pub events_whole : Whole w → Whole (record w { events = e })
   events_whole whole = record { sound = whole.sound; fits = whole.fits; runner = whole.runner; stored = whole.stored }
 
-  pub events_frame : (n : ℕ) → Whole w → e.made ≤ w.events.made + n → Frame w (record w { events = e }) n w.scheduler.running false
+  pub events_frame : (n : Numbers) → Whole w → e.made ≤ w.events.made + n Event → Frame w (record w { events = e }) n w.scheduler.running false
   events_frame n whole few = record {
     whole = events_whole whole;
     runs = refl;
-    made = record { threads = omega arith; objects = omega arith; events = few };
+    made = elim [ Thread ↦ omega arith | Object ↦ omega arith | Event ↦ few ];
     ranks = record { under = λ roof low h. h; fresh = omega arith };
     preferred = refl;
   }

@@ -1,11 +1,18 @@
 -- Frames of calls, one after another.
-use Rattle.std.proofs.Common.{◌≡◌, ℕ, ◌+◌, ◌≤◌, Bool, true, false, Option, inl, inr, refl, ap, sym, subst, ◌∙◌, arith}
+use Rattle.std.proofs.Common.{◌≡◌, ℕ, ◌≤◌, Bool, true, false, Option, inl, inr, refl, ap, sym, subst, ◌∙◌, arith}
 use Rattle.pth_world.specs.World.{WorldOf}
 use Rattle.pth_world.specs.Whole.{Whole}
 use Rattle.pth_world.specs.Frame.{Frame, Names}
 use Rattle.pth_world.specs.Keeps.{MovesThreads}
-use Rattle.pth_world.specs.Numbering.{GivesAtMost}
+use Rattle.pth_world.specs.Numbering.{Kind, Thread, Object, Event, Numbers, no_numbers, one_of, GivesAtMost, GivesNone}
 use Rattle.pth_world.proofs.Ranks.{ranks_none, ranks_then, ranks_more}
+
+-- of any kind at most one
+pub one_at_most : (j k : Kind) → one_of j k ≤ 1
+one_at_most Thread Thread = omega arith
+one_at_most Object Object = omega arith
+one_at_most Event Event = omega arith
+one_at_most j k = omega arith
 
 module _ {P S H : Type 0} where
   -- where nobody else was named before
@@ -14,60 +21,56 @@ module _ {P S H : Type 0} where
   names_then true u v w same (inl b) = inl (b ∙ same)
   names_then true u v w same (inr b) = inr b
 
-  gives_then : (n m : ℕ) (u v w : WorldOf P S H) → GivesAtMost n u v → GivesAtMost m v w → GivesAtMost (n + m) u w
-  gives_then n m u v w a b = record {
-    threads = (let x = a.threads in let y = b.threads in omega arith);
-    objects = (let x = a.objects in let y = b.objects in omega arith);
-    events = (let x = a.events in let y = b.events in omega arith);
-  }
+  -- none at all
+  pub gives_none : (n : Numbers) (w v : WorldOf P S H) → GivesNone w v → GivesAtMost n w v
+  gives_none n w v none k = let e = none k in omega arith
 
-  gives_more : (n m : ℕ) (w v : WorldOf P S H) → n ≤ m → GivesAtMost n w v → GivesAtMost m w v
-  gives_more n m w v le a = record { threads = (let x = a.threads in omega arith); objects = (let x = a.objects in omega arith); events = (let x = a.events in omega arith) }
-
-  -- nothing was done
-  pub frame_none : (w : WorldOf P S H) → Whole w → Frame w w 0 w.scheduler.running false
-  frame_none w whole = record { whole = whole; runs = refl; made = record { threads = omega arith; objects = omega arith; events = omega arith }; ranks = ranks_none w.threads; preferred = refl }
-
-  pub still_frame : (n : ℕ) (w : WorldOf P S H) (r : Option ℕ) → w.scheduler.running ≡ r → Whole w → Frame w w n r false
+  pub still_frame : (n : Numbers) (w : WorldOf P S H) (r : Option ℕ) → w.scheduler.running ≡ r → Whole w → Frame w w n r false
   still_frame n w r is whole = record {
     whole = whole;
     runs = is;
-    made = record { threads = omega arith; objects = omega arith; events = omega arith };
-    ranks = ranks_more 0 n w.threads w.threads (omega arith) (ranks_none w.threads);
+    made = λ k. omega arith;
+    ranks = ranks_more 0 (n Thread) w.threads w.threads (omega arith) (ranks_none w.threads);
     preferred = refl;
   }
 
-  pub refused_frame : (n : ℕ) (w v : WorldOf P S H) (r : Option ℕ) → w.scheduler.running ≡ r → Whole w → v ≡ w → Frame w v n r false
+  pub refused_frame : (n : Numbers) (w v : WorldOf P S H) (r : Option ℕ) → w.scheduler.running ≡ r → Whole w → v ≡ w → Frame w v n r false
   refused_frame n w v r is whole same = subst (λ (z : WorldOf P S H). Frame w z n r false) (sym same) (still_frame n w r is whole)
 
   -- threads have moved
-  pub moved_frame : (n : ℕ) (w v : WorldOf P S H) (q r : Option ℕ) → q ≡ r → MovesThreads w v n q → Frame w v n r false
+  pub moved_frame : (n : Numbers) (w v : WorldOf P S H) (q r : Option ℕ) → q ≡ r → MovesThreads w v (n Thread) q → Frame w v n r false
   moved_frame n w v q r is moves = record {
     whole = moves.whole;
     runs = ap (λ (k : WorldOf P S H). k.scheduler.running) moves.same ∙ is;
-    made = record {
-      threads = (let e = moves.made in omega arith);
-      objects = (let e = ap (λ (k : WorldOf P S H). k.attributes.made) moves.same in omega arith);
-      events = (let e = ap (λ (k : WorldOf P S H). k.events.made) moves.same in omega arith);
-    };
+    made = elim [
+      | Thread ↦ (let e = moves.made in omega arith)
+      | Object ↦ (let e = ap (λ (k : WorldOf P S H). k.attributes.made) moves.same in omega arith)
+      | Event ↦ (let e = ap (λ (k : WorldOf P S H). k.events.made) moves.same in omega arith)
+    ];
     ranks = moves.ranks;
     preferred = ap (λ (k : WorldOf P S H). k.scheduler.preferred) moves.same;
   }
 
-  -- one after another
-  pub frame_then : (n m : ℕ) (u v w : WorldOf P S H) (q r : Option ℕ) (yields : Bool) → Frame u v n q false → Frame v w m r yields → Frame u w (n + m) r yields
-  frame_then n m u v w q r yields a b = record {
+  -- one after another, the first without a number
+  pub frame_then : (n : Numbers) (u v w : WorldOf P S H) (q r : Option ℕ) (yields : Bool) → Frame u v no_numbers q false → Frame v w n r yields → Frame u w n r yields
+  frame_then n u v w q r yields a b = record {
     whole = b.whole;
     runs = b.runs;
-    made = gives_then n m u v w a.made b.made;
-    ranks = ranks_then n m u.threads v.threads w.threads a.ranks b.ranks;
+    made = λ k. (let x = a.made k in let y = b.made k in omega arith);
+    ranks = ranks_then (n Thread) u.threads v.threads w.threads a.ranks b.ranks;
     preferred = names_then yields u v w a.preferred b.preferred;
   }
 
   -- as many as are said, or fewer
-  pub frame_more : (n m : ℕ) (w v : WorldOf P S H) (r : Option ℕ) (yields : Bool) → n ≤ m → Frame w v n r yields → Frame w v m r yields
-  frame_more n m w v r yields le a = record { whole = a.whole; runs = a.runs; made = gives_more n m w v le a.made; ranks = ranks_more n m w.threads v.threads le a.ranks; preferred = a.preferred }
+  pub frame_more : (n m : Numbers) (w v : WorldOf P S H) (r : Option ℕ) (yields : Bool) → ((k : Kind) → n k ≤ m k) → Frame w v n r yields → Frame w v m r yields
+  frame_more n m w v r yields le a = record {
+    whole = a.whole;
+    runs = a.runs;
+    made = λ k. (let x = a.made k in let y = le k in omega arith);
+    ranks = ranks_more (n Thread) (m Thread) w.threads v.threads (le Thread) a.ranks;
+    preferred = a.preferred;
+  }
 
   -- who runs is known
-  pub frame_as : (n m : ℕ) (w v : WorldOf P S H) (q r : Option ℕ) → n ≤ m → q ≡ r → Frame w v n q false → Frame w v m r false
+  pub frame_as : (n m : Numbers) (w v : WorldOf P S H) (q r : Option ℕ) → ((k : Kind) → n k ≤ m k) → q ≡ r → Frame w v n q false → Frame w v m r false
   frame_as n m w v q r le is a = frame_more n m w v r false le (subst (λ (o : Option ℕ). Frame w v n o false) is a)

@@ -10,9 +10,10 @@ use Rattle.pth_queue.specs.Queues.{QueuesOf, entered, without}
 use Rattle.pth_queue.proofs.Counts.{length-insert, length-delete}
 use Rattle.pth_queue.proofs.Orders.{All-insert}
 use Rattle.pth_threads.specs.Threads.{slot_of}
-use Rattle.pth_world.specs.World.{ThreadsBySlot}
+use Rattle.pth_world.specs.World.{ThreadsBySlot, WorldOf}
 use Rattle.pth_world.specs.Sound.{IsKnown, IsPrio}
-use Rattle.pth_world.specs.Ranks.{IsUnder, greatest_return, KeepsRanks}
+use Rattle.pth_world.specs.Keeps.{MovesThreads}
+use Rattle.pth_world.specs.Ranks.{IsUnder, greatest_return, KeepsRanks, more_new}
 
 -- a higher roof
 pub under-roof : (roof more : ℕ) (rows : List Ranked) → roof ≤ more → IsUnder roof rows → IsUnder more rows
@@ -40,9 +41,9 @@ under-increase roof rows under = All-map (λ r. r.rank ≤ℤ pos (roof + 1)) ra
 pub ranks_none : {S : Type 0} (w : ThreadsBySlot S) → KeepsRanks 0 w w
 ranks_none w = record { under = λ roof low h. h; fresh = omega arith }
 
--- one change after another
-pub ranks_then : {S : Type 0} (n m : ℕ) (u v w : ThreadsBySlot S) → KeepsRanks n u v → KeepsRanks m v w → KeepsRanks (n + m) u w
-ranks_then n m u v w a b = record { under = λ roof low h. b.under roof low (a.under roof low h); fresh = (let f = a.fresh in let g = b.fresh in omega arith) }
+-- one change after another, the first without a new thread
+pub ranks_then : {S : Type 0} (n : ℕ) (u v w : ThreadsBySlot S) → KeepsRanks 0 u v → KeepsRanks n v w → KeepsRanks n u w
+ranks_then n u v w a b = record { under = λ roof low h. b.under roof low (a.under roof low h); fresh = (let f = a.fresh in let g = b.fresh in omega arith) }
 
 -- at most as many more as it is said
 pub ranks_more : {S : Type 0} (n m : ℕ) (w v : ThreadsBySlot S) → n ≤ m → KeepsRanks n w v → KeepsRanks m w v
@@ -109,25 +110,33 @@ moved_under roof u queue.Waiting x under = under-delete roof u x.ready under
 moved_under roof u queue.Suspended x under = under-delete roof u x.ready under
 moved_under roof u queue.Dead x under = under-delete roof u x.ready under
 
-moved_fresh : (u : ℕ) (q : Queue) (x : QueuesOf) → length (entered q (pos 0) u (without u x)).new ≤ length x.new + 1
+moved_fresh : (u : ℕ) (q : Queue) (x : QueuesOf) → length (entered q (pos 0) u (without u x)).new ≤ length x.new + more_new q
 moved_fresh u queue.New x = omega (arith, length-insert (record { rank = pos 0; holder = u }) (delete u x.new), length-deleted u x.new)
 moved_fresh u queue.Ready x = omega (arith, length-deleted u x.new)
 moved_fresh u queue.Waiting x = omega (arith, length-deleted u x.new)
 moved_fresh u queue.Suspended x = omega (arith, length-deleted u x.new)
 moved_fresh u queue.Dead x = omega (arith, length-deleted u x.new)
 
-ranks_moved : {S : Type 0} (w v : ThreadsBySlot S) (u : ℕ) (q : Queue) → v.queues ≡ entered q (pos 0) u (without u w.queues) → KeepsRanks 1 w v
+ranks_moved : {S : Type 0} (w v : ThreadsBySlot S) (u : ℕ) (q : Queue) → v.queues ≡ entered q (pos 0) u (without u w.queues) → KeepsRanks (more_new q) w v
 ranks_moved w v u q is = record {
   under = λ roof low h. subst (λ (y : QueuesOf). IsUnder roof y.ready) (sym is) (moved_under roof u q w.queues h);
   fresh = (let n : length v.queues.new ≡ length (entered q (pos 0) u (without u w.queues)).new = ap (λ (y : QueuesOf). length y.new) is in omega (arith, moved_fresh u q w.queues));
 }
 
-pub ranks_moved_in : {S : Type 0} (w v : ThreadsBySlot S) (t : ℕ) → IsKnown w t → (q : Queue) → IfSome (slot_of w.records t) (λ u. v.queues ≡ entered q (pos 0) u (without u w.queues)) → KeepsRanks 1 w v
+pub ranks_moved_in : {S : Type 0} (w v : ThreadsBySlot S) (t : ℕ) → IsKnown w t → (q : Queue) → IfSome (slot_of w.records t) (λ u. v.queues ≡ entered q (pos 0) u (without u w.queues)) → KeepsRanks (more_new q) w v
 ranks_moved_in w v t known q h = by_slot (slot_of w.records t) known h
   where
-    by_slot : (o : Option ℕ) → IsSome o → IfSome o (λ u. v.queues ≡ entered q (pos 0) u (without u w.queues)) → KeepsRanks 1 w v
+    by_slot : (o : Option ℕ) → IsSome o → IfSome o (λ u. v.queues ≡ entered q (pos 0) u (without u w.queues)) → KeepsRanks (more_new q) w v
     by_slot (Some u) some is = ranks_moved w v u q is
     by_slot None some is = absurd (cc some)
+
+-- at most one thread more is new
+new_at_most : (q : Queue) → more_new q ≤ 1
+new_at_most queue.New = omega arith
+new_at_most q = omega arith
+
+pub moves_one : {P S H : Type 0} (w v : WorldOf P S H) (q : Queue) (r : Option ℕ) → MovesThreads w v (more_new q) r → MovesThreads w v 1 r
+moves_one w v q r moves = record { whole = moves.whole; made = moves.made; ranks = ranks_more (more_new q) 1 w.threads v.threads (new_at_most q) moves.ranks; same = moves.same }
 
 -- a thread is new
 pub ranks_new : {S : Type 0} (w v : ThreadsBySlot S) (u : ℕ) (rank : ℤ) → v.queues ≡ entered queue.New rank u w.queues → KeepsRanks 1 w v

@@ -20,7 +20,7 @@ use Rattle.pth_model.specs.AttributeHandling.{object, sets_value}
 use Rattle.pth_model.specs.Changes.{sets}
 use Rattle.pth_model.specs.State.{Control, Attributes}
 use Rattle.pth_world.specs.Frame.{Frame}
-use Rattle.pth_world.specs.Numbering.{GivesAtMost}
+use Rattle.pth_world.specs.Numbering.{Thread, Object, Event, Numbers, no_numbers, GivesAtMost}
 use Rattle.pth_world.specs.Shows.{Shows, ShowsThreads, ShowsAttributes}
 use Rattle.pth_world.specs.Sound.{IsSound, IsKnown, IsAlive, KeepsAttributes, lives}
 use Rattle.pth_world.specs.Touches.{Touches, SameThreads, IsAside, view_changed}
@@ -42,11 +42,11 @@ module _ {P S H : Type 0} (w : WorldOf P S H) (y : AttrsOf) where
   pub objects_whole : Whole w → Whole (record w { attributes = y })
   objects_whole whole = record { sound = whole.sound; fits = whole.fits; runner = whole.runner; stored = whole.stored }
 
-  pub objects_frame : (n : ℕ) → Whole w → y.made ≤ w.attributes.made + n → Frame w (record w { attributes = y }) n w.scheduler.running false
+  pub objects_frame : (n : Numbers) → Whole w → y.made ≤ w.attributes.made + n Object → Frame w (record w { attributes = y }) n w.scheduler.running false
   objects_frame n whole few = record {
     whole = objects_whole whole;
     runs = refl;
-    made = record { threads = omega arith; objects = few; events = omega arith };
+    made = elim [ Thread ↦ omega arith | Object ↦ few | Event ↦ omega arith ];
     ranks = record { under = λ roof low h. h; fresh = omega arith };
     preferred = refl;
   }
@@ -102,25 +102,25 @@ module _ {P S H : Type 0} (w : WorldOf P S H) (r : ThreadsOf) where
       (λ q f. aside_fits c aside q (view w.threads u).entry (view w.threads u).place (view w.threads u).blocked f)
       (λ dead. aside_lives c aside (view w.threads u).entry ∙ dead)
 
-  pub field_frame : (t u : ℕ) (c : Change) → IsAside c → Whole w → slot_of w.threads.records t ≡ Some u → Touches w.threads with_records.threads t (view_changed c) → IsSound with_records.threads → SameThreads w.threads with_records.threads → Frame w with_records 0 w.scheduler.running false
+  pub field_frame : (t u : ℕ) (c : Change) → IsAside c → Whole w → slot_of w.threads.records t ≡ Some u → Touches w.threads with_records.threads t (view_changed c) → IsSound with_records.threads → SameThreads w.threads with_records.threads → Frame w with_records no_numbers w.scheduler.running false
   field_frame t u c aside whole at touches sound same = record {
     whole = field_whole t u c aside whole at touches sound same.slots;
     runs = refl;
-    made = record { threads = (let e = same.made in omega arith); objects = omega arith; events = omega arith };
+    made = elim [ Thread ↦ (let e = same.made in omega arith) | Object ↦ omega arith | Event ↦ omega arith ];
     ranks = record { under = λ roof low h. h; fresh = omega arith };
     preferred = refl;
   }
 
 -- a field of a thread in the system was set
-pub known_frame : {P S H : Type 0} (w v : WorldOf P S H) (t : ℕ) (c : Change) → IsAside c → Whole w → IsKnown w.threads t → Touches w.threads v.threads t (view_changed c) → IsSound v.threads → SameThreads w.threads v.threads → v ≡ record w { threads = record w.threads { records = v.threads.records } } → Frame w v 0 w.scheduler.running false
+pub known_frame : {P S H : Type 0} (w v : WorldOf P S H) (t : ℕ) (c : Change) → IsAside c → Whole w → IsKnown w.threads t → Touches w.threads v.threads t (view_changed c) → IsSound v.threads → SameThreads w.threads v.threads → v ≡ record w { threads = record w.threads { records = v.threads.records } } → Frame w v no_numbers w.scheduler.running false
 known_frame {P = P} {S = S} {H = H} w v t c aside whole known touches sound same is = by_slot (slot_of w.threads.records t) refl known
   where
     threads : v.threads ≡ record w.threads { records = v.threads.records }
     threads = ap (λ (x : WorldOf P S H). x.threads) is
 
-    by_slot : (o : Option ℕ) → slot_of w.threads.records t ≡ o → IsSome o → Frame w v 0 w.scheduler.running false
+    by_slot : (o : Option ℕ) → slot_of w.threads.records t ≡ o → IsSome o → Frame w v no_numbers w.scheduler.running false
     by_slot None none some = absurd (cc some)
-    by_slot (Some u) at some = subst (λ (x : WorldOf P S H). Frame w x 0 w.scheduler.running false) (sym is) (field_frame w v.threads.records t u c aside whole at (subst (λ x. Touches w.threads x t (view_changed c)) threads touches) (subst IsSound threads sound) (subst (SameThreads w.threads) threads same))
+    by_slot (Some u) at some = subst (λ (x : WorldOf P S H). Frame w x no_numbers w.scheduler.running false) (sym is) (field_frame w v.threads.records t u c aside whole at (subst (λ x. Touches w.threads x t (view_changed c)) threads touches) (subst IsSound threads sound) (subst (SameThreads w.threads) threads same))
 
 -- ---- a value of an object, or of its thread
 
@@ -165,10 +165,18 @@ module _ {P S H : Type 0} (w : WorldOf P S H) (x : AttrsOf) (r : ThreadsOf) (a :
       let e : object k a ≡ o = ap (λ (f : ℕ → Option Attribute). named f a) sh.attributes.objects ∙ is in
       subst (λ (p : Option Attribute). Shows after (sets_value a v p k)) (sym e) (shows_by o some s sound k sh)
 
-  set_numbers : (o : Option Attribute) → is_none o ≡ false → Sets w.attributes x w.threads.records r (number a) v o → GivesAtMost 0 w after
+  set_numbers : (o : Option Attribute) → is_none o ≡ false → Sets w.attributes x w.threads.records r (number a) v o → GivesAtMost no_numbers w after
   set_numbers None some s = absurd (cc some)
-  set_numbers (Some (Free y)) some s = record { threads = (let e : r.made ≡ w.threads.records.made = ap (λ (z : ThreadsOf). z.made) s.1 in omega arith); objects = (let e = s.0.made in omega arith); events = omega arith }
-  set_numbers (Some (Bound t)) some s = record { threads = (let e = s.1.changes.made in omega arith); objects = (let e : x.made ≡ w.attributes.made = ap (λ (z : AttrsOf). z.made) s.0 in omega arith); events = omega arith }
+  set_numbers (Some (Free y)) some s = elim [
+    | Thread ↦ (let e : r.made ≡ w.threads.records.made = ap (λ (z : ThreadsOf). z.made) s.1 in omega arith)
+    | Object ↦ (let e = s.0.made in omega arith)
+    | Event ↦ omega arith
+  ]
+  set_numbers (Some (Bound t)) some s = elim [
+    | Thread ↦ (let e = s.1.changes.made in omega arith)
+    | Object ↦ (let e : x.made ≡ w.attributes.made = ap (λ (z : AttrsOf). z.made) s.0 in omega arith)
+    | Event ↦ omega arith
+  ]
 
   set_whole : (o : Option Attribute) → is_none o ≡ false → Sets w.attributes x w.threads.records r (number a) v o → Whole w → Whole after
   set_whole None some s whole = absurd (cc some)
@@ -179,7 +187,7 @@ module _ {P S H : Type 0} (w : WorldOf P S H) (x : AttrsOf) (r : ThreadsOf) (a :
       let fits = λ (q : Option ℕ) (f : Fits q (view w.threads set.slot)). aside_fits set.change (meant_aside v set.change set.meant) q (view w.threads set.slot).entry (view w.threads set.slot).place (view w.threads set.slot).blocked f in
       progress_whole w after t.0 set.slot (view_changed set.change) whole set.found (change_touches w.threads whole.sound t.0 set.slot set.found r set.change set.changes) sound set.changes.slots refl refl fits (λ dead. aside_lives set.change (meant_aside v set.change set.meant) (view w.threads set.slot).entry ∙ dead)
 
-  pub set_frame : (o : Option Attribute) → is_none o ≡ false → Sets w.attributes x w.threads.records r (number a) v o → Whole w → Frame w after 0 w.scheduler.running false
+  pub set_frame : (o : Option Attribute) → is_none o ≡ false → Sets w.attributes x w.threads.records r (number a) v o → Whole w → Frame w after no_numbers w.scheduler.running false
   set_frame o some s whole = record {
     whole = set_whole o some s whole;
     runs = refl;

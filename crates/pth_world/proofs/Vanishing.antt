@@ -228,7 +228,7 @@ module _ {P S H : Type 0} where
         let y : ShowsRest t v x.rest = b.shows t (ap (λ (z : WorldOf P S H). z.scheduler.running) a.same ∙ is) x.rest x.shows in
         record { rest = y.rest; shows = y.shows; same = y.same ∙ x.same });
     made = b.made ∙ a.made;
-    ranks = ranks_then 0 0 u.threads w.threads v.threads a.ranks b.ranks;
+    ranks = ranks_then 0 u.threads w.threads v.threads a.ranks b.ranks;
     empty = λ q none. b.empty q (a.empty q none);
     store = λ t is. b.store t (ap (λ (z : WorldOf P S H). z.scheduler.running) a.same ∙ is) ∙ a.store t is;
     same = b.same ∙ ap (λ (z : WorldOf P S H). record z { threads = v.threads; store = v.store }) a.same;

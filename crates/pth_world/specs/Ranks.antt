@@ -1,5 +1,7 @@
 -- What a change of a world does to the ranks of the ready queue.
 use Rattle.std.specs.Prelude.{ℕ, ◌+◌, ◌≤◌, pos, ◌≤ℤ◌, List, All, length}
+use Rattle.pth_queue.specs.declared.queue.Queue.{Queue}
+use Rattle.pth_queue.specs.declared.queue.Queue.TheVariants as queue
 use Rattle.pth_queue.specs.declared.ranked.Ranked.{Ranked}
 use Rattle.pth_world.specs.World.{ThreadsBySlot}
 
@@ -16,3 +18,8 @@ greatest_return = 21
 pub record KeepsRanks {S : Type 0} (more : ℕ) (x y : ThreadsBySlot S) : Type 0 where
   pub under : (roof : ℕ) → greatest_return ≤ roof → IsUnder roof x.queues.ready → IsUnder roof y.queues.ready
   pub fresh : length y.queues.new ≤ length x.queues.new + more
+
+-- how many threads more are new where one enters this queue
+abbrev pub more_new : Queue → ℕ
+more_new queue.New = 1
+more_new q = 0

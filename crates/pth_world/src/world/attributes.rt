@@ -9,6 +9,7 @@ ghost use Rattle.pth_threads.specs.Attributes.{object_of, of_answer, set_answer,
 ghost use Rattle.pth_threads.specs.contracts.attrs.Attrs.{the_row as attrs_row};
 ghost use Rattle.pth_threads.specs.declared.attribute.Attribute.TheVariants.{Bound};
 ghost use Rattle.pth_world.specs.Frame.{Frame};
+ghost use Rattle.pth_world.specs.Numbering.{no_numbers};
 ghost use Rattle.pth_world.specs.Shows.{Shows};
 ghost use Rattle.pth_world.specs.Whole.{Whole};
 ghost use Rattle.pth_world.specs.World.{entry_in};
@@ -57,7 +58,7 @@ impl<P: Program> World<P> {
         requires { Whole self.old }
         ensures answer { result ≡ set_answer (entry_in self.old.threads) (named (object_of self.old.attributes) a) v.now }
         ensures shows { OnOk result ((k : Control P P.State P.Shared) → Shows self.old k → Shows self.new (sets_value a v.now (object k a) k)) }
-        ensures frame { OnOk result (Frame self.old self.new 0 self.old.scheduler.running false) }
+        ensures frame { OnOk result (Frame self.old self.new no_numbers self.old.scheduler.running false) }
         ensures store { OnOk result (self.new.store ≡ self.old.store) }
         ensures refused { OnErr result (self.new ≡ self.old) }
     {

@@ -9,6 +9,7 @@ ghost use Rattle.pth_ring.specs.Arena.{events_of};
 ghost use Rattle.pth_ring.specs.Rings.{claim_answer};
 ghost use Rattle.pth_ring.specs.contracts.rings.Rings.{the_row as rings_row};
 ghost use Rattle.pth_world.specs.Frame.{Frame};
+ghost use Rattle.pth_world.specs.Numbering.{no_numbers};
 ghost use Rattle.pth_world.specs.Shows.{Shows};
 ghost use Rattle.pth_world.specs.Whole.{Whole};
 ghost use Rattle.pth_world.specs.contracts.world.World.{the_row};
@@ -41,7 +42,7 @@ impl<P: Program> World<P> {
         requires { Whole self.old }
         ensures answer { result ≡ claim_answer (events_of self.old.events) (number e) }
         ensures shows { OnOk result ((k : Control P P.State P.Shared) → Shows self.old k → Shows self.new (claims t.0 (Some e) k)) }
-        ensures frame { OnOk result (Frame self.old self.new 0 self.old.scheduler.running false) }
+        ensures frame { OnOk result (Frame self.old self.new no_numbers self.old.scheduler.running false) }
         ensures refused { OnErr result (self.new ≡ self.old) }
         ensures same { self.new ≡ record self.old { events = self.new.events } }
     {

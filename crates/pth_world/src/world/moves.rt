@@ -14,7 +14,7 @@ ghost use Rattle.pth_model.specs.Ending.{is_dead_with, leaves, other_than, stops
 ghost use Rattle.pth_model.specs.Pass.{is_ready_at};
 ghost use Rattle.pth_model.specs.Part.{is_put_back, is_put_waiting, runs};
 ghost use Rattle.pth_world.specs.Keeps.{MovesThreads};
-ghost use Rattle.pth_world.specs.Ranks.{greatest_return, KeepsRanks};
+ghost use Rattle.pth_world.specs.Ranks.{greatest_return, KeepsRanks, more_new};
 ghost use Rattle.pth_world.specs.Shows.{Shows};
 ghost use Rattle.pth_world.specs.Store.{store_of, HasNothing};
 ghost use Rattle.pth_world.specs.Sound.{IsSound, IsPrio, IsKnown};
@@ -111,7 +111,7 @@ impl<P: Program> World<P> {
         requires known { IsKnown self.old.threads t.0 }
         requires may { IfSome (entry_in self.old.threads t.0) (λ e. MayStandIn q suspended e.state) }
         ensures shows { (k : Control P P.State P.Shared) → Shows self.old k → Shows self.new (enters t.0 q (pos 0) false (sets t.0 (change.Suspended suspended) (leaves_queue t.0 k))) }
-        ensures moves { MovesThreads self.old self.new 1 self.old.scheduler.running }
+        ensures moves { MovesThreads self.old self.new (more_new q) self.old.scheduler.running }
     {
         self.take_out(t);
         self.change(t, Change::Suspended(suspended));
@@ -124,7 +124,7 @@ impl<P: Program> World<P> {
         requires known { IsKnown self.old.threads t.0 }
         requires can { IfSome (entry_in self.old.threads t.0) (λ e. CanSuspend e.state) }
         ensures shows { (k : Control P P.State P.Shared) → Shows self.old k → Shows self.new (suspends t.0 k) }
-        ensures moves { MovesThreads self.old self.new 1 self.old.scheduler.running }
+        ensures moves { MovesThreads self.old self.new 0 self.old.scheduler.running }
     {
         self.move_to(t, true, Queue::Suspended);
     }

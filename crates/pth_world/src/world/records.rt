@@ -17,7 +17,7 @@ ghost use Rattle.pth_model.specs.Changes.{sets, enters, removes};
 ghost use Rattle.pth_model.specs.ThreadControl.{spawns, has_room};
 ghost use Rattle.pth_model.specs.Part.{is_put_waiting};
 ghost use Rattle.pth_world.specs.Beginnings.{AreEmpty, IsBeforeMain};
-ghost use Rattle.pth_world.specs.Numbering.{HasNumbers};
+ghost use Rattle.pth_world.specs.Numbering.{HasNumbers, no_numbers};
 ghost use Rattle.pth_world.specs.Ranks.{KeepsRanks};
 ghost use Rattle.pth_world.specs.Shows.{Shows, StandsFor};
 ghost use Rattle.pth_world.specs.Store.{store_of, HasNothing};
@@ -219,7 +219,7 @@ impl<P: Program> World<P> {
         ensures shows { (k : Control P P.State P.Shared) → Shows self.old k → Shows self.new (sets t.0 c k) }
         ensures touches { Touches self.old.threads self.new.threads t.0 (view_changed c) }
         ensures alive { IsAlive self.old.threads t.0 → IsAlive self.new.threads t.0 }
-        ensures frame { Frame self.old self.new 0 self.old.scheduler.running false }
+        ensures frame { Frame self.old self.new no_numbers self.old.scheduler.running false }
         ensures store { self.new.store ≡ self.old.store }
         ensures threads { SameThreads self.old.threads self.new.threads }
     {

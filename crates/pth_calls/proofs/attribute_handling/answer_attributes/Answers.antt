@@ -4,6 +4,7 @@ use Rattle.pth_end.proofs.Answers.{if_ok_all}
 use Rattle.pth_calls.proofs.Plains.{quiet_attribute_call}
 use Rattle.std.proofs.lemmas.Result.{on_ok_weaker}
 use Rattle.pth_world.proofs.Frames.{frame_as, still_frame}
+use Rattle.pth_world.specs.Numbering.{Object, no_numbers, one_of}
 use Rattle.pth_calls.proofs.attribute_handling.answer_attributes.Goals as goal
 
 pub returns-in-AttrNew-clause-answered : goal.returns-in-AttrNew-clause-answered
@@ -59,19 +60,19 @@ pub returns-in-AttrDestroy-clause-quiet : goal.returns-in-AttrDestroy-clause-qui
 returns-in-AttrDestroy-clause-quiet g c = quiet_attribute_call c.args.t c.args.call.now c.attr_destroy.result c.requires.attributes
 
 pub returns-in-AttrNew-clause-frame : goal.returns-in-AttrNew-clause-frame
-returns-in-AttrNew-clause-frame g c = on_ok_weaker c.attr_new.result (λ made. frame_as 1 1 c.args.w.now c.attr_new.new.w _ _ (omega arith) c.requires.runs made) c.attr_new.ensures.frame
+returns-in-AttrNew-clause-frame g c = on_ok_weaker c.attr_new.result (λ made. frame_as (one_of Object) (one_of Object) c.args.w.now c.attr_new.new.w _ _ (λ k. omega arith) c.requires.runs made) c.attr_new.ensures.frame
 
 pub returns-in-AttrOf-clause-frame : goal.returns-in-AttrOf-clause-frame
-returns-in-AttrOf-clause-frame g c = on_ok_weaker c.attr_of.result (λ made. frame_as 1 1 c.args.w.now c.attr_of.new.w _ _ (omega arith) c.requires.runs made) c.attr_of.ensures.frame
+returns-in-AttrOf-clause-frame g c = on_ok_weaker c.attr_of.result (λ made. frame_as (one_of Object) (one_of Object) c.args.w.now c.attr_of.new.w _ _ (λ k. omega arith) c.requires.runs made) c.attr_of.ensures.frame
 
 pub returns-in-AttrInit-clause-frame : goal.returns-in-AttrInit-clause-frame
-returns-in-AttrInit-clause-frame g c = frame_as 0 1 c.args.w.now c.attr_init.new.w _ _ (omega arith) c.requires.runs c.attr_init.ensures.frame
+returns-in-AttrInit-clause-frame g c = frame_as no_numbers (one_of Object) c.args.w.now c.attr_init.new.w _ _ (λ k. omega arith) c.requires.runs c.attr_init.ensures.frame
 
 pub returns-in-AttrSet-clause-frame : goal.returns-in-AttrSet-clause-frame
-returns-in-AttrSet-clause-frame g c = frame_as 0 1 c.args.w.now c.attr_set.new.w _ _ (omega arith) c.requires.runs c.attr_set.ensures.frame
+returns-in-AttrSet-clause-frame g c = frame_as no_numbers (one_of Object) c.args.w.now c.attr_set.new.w _ _ (λ k. omega arith) c.requires.runs c.attr_set.ensures.frame
 
 pub returns-in-AttrGet-clause-frame : goal.returns-in-AttrGet-clause-frame
-returns-in-AttrGet-clause-frame g c = still_frame 1 c.args.w.now _ c.requires.runs c.requires.whole
+returns-in-AttrGet-clause-frame g c = still_frame (one_of Object) c.args.w.now _ c.requires.runs c.requires.whole
 
 pub returns-in-AttrDestroy-clause-frame : goal.returns-in-AttrDestroy-clause-frame
-returns-in-AttrDestroy-clause-frame g c = frame_as 0 1 c.args.w.now c.attr_destroy.new.w _ _ (omega arith) c.requires.runs c.attr_destroy.ensures.frame
+returns-in-AttrDestroy-clause-frame g c = frame_as no_numbers (one_of Object) c.args.w.now c.attr_destroy.new.w _ _ (λ k. omega arith) c.requires.runs c.attr_destroy.ensures.frame

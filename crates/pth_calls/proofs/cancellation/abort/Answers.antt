@@ -12,6 +12,7 @@ use Rattle.pth_calls.proofs.Canceling.{abort_begun, abort_refused, quiet_abort}
 use Rattle.pth_world.proofs.Frames.{frame_as, still_frame}
 use Rattle.pth_end.proofs.Framing.{done_frame}
 use Rattle.pth_calls.proofs.Framing.{runs_unless}
+use Rattle.pth_world.specs.Numbering.{no_numbers}
 use Rattle.pth_calls.proofs.cancellation.abort.Goals as goal
 
 pub returns-in-Err-clause-next : goal.returns-in-Err-clause-next
@@ -66,9 +67,9 @@ returns-clause-ok g c =
     rw (c.requires.call, abort_begun f s c.args.t.0 c.args.n a (names s st)) (leads_then c.drop_or_abort.new.w c.drop_or_abort.new.w s a (tells m) _ _ _ first last)) c.done-2.ensures.ok
 
 pub returns-in-Err-clause-frame : goal.returns-in-Err-clause-frame
-returns-in-Err-clause-frame g c = done_frame c.args.w.now c.args.w.now c.args.t.0 c.done.result _ c.done.ensures.next (still_frame 0 c.args.w.now _ c.requires.runs c.requires.whole)
+returns-in-Err-clause-frame g c = done_frame c.args.w.now c.args.w.now c.args.t.0 c.done.result _ c.done.ensures.next (still_frame no_numbers c.args.w.now _ c.requires.runs c.requires.whole)
 
 pub returns-clause-frame : goal.returns-clause-frame
 returns-clause-frame g c =
     done_frame c.args.w.now c.drop_or_abort.new.w c.args.t.0 c.done-2.result _ c.done-2.ensures.next
-    (frame_as 0 0 c.args.w.now c.drop_or_abort.new.w _ _ (omega arith) (runs_unless c.in-Ok.it.1 c.args.t.0 c.in-Ok.it.0.0 c.args.w.now.scheduler.running c.requires.runs c.in-Ok.ensures.other) c.in_ok-drop_or_abort.ensures.frame)
+    (frame_as no_numbers no_numbers c.args.w.now c.drop_or_abort.new.w _ _ (λ k. omega arith) (runs_unless c.in-Ok.it.1 c.args.t.0 c.in-Ok.it.0.0 c.args.w.now.scheduler.running c.requires.runs c.in-Ok.ensures.other) c.in_ok-drop_or_abort.ensures.frame)

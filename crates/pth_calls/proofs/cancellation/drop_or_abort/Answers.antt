@@ -1,6 +1,7 @@
 use Rattle.std.proofs.Common.{ap, append-nil, refl, sym}
 use Rattle.pth_world.proofs.Frames.{moved_frame}
 use Rattle.pth_world.proofs.Telling.{has_still}
+use Rattle.pth_world.specs.Numbering.{no_numbers}
 use Rattle.pth_world.specs.World.{WorldOf}
 use Rattle.pth_calls.proofs.cancellation.drop_or_abort.Goals as goal
 
@@ -13,7 +14,7 @@ returns-then-dead-clause-ok g c s st =
     })
 
 pub returns-then-dead-clause-frame : goal.returns-then-dead-clause-frame
-returns-then-dead-clause-frame g c = rw c.if-dead.true (moved_frame 0 c.args.w.now c.remove.new.self _ _ refl c.remove.ensures.moves)
+returns-then-dead-clause-frame g c = rw c.if-dead.true (moved_frame no_numbers c.args.w.now c.remove.new.self _ _ refl c.remove.ensures.moves)
 
 pub returns-clause-ok : goal.returns-clause-ok
 returns-clause-ok g c = rw c.if-dead.false c.abort_thread.ensures.ok

@@ -16,6 +16,7 @@ use Rattle.pth_end.proofs.Framing.{done_frame}
 use Rattle.pth_calls.proofs.Storing.{pop_refused, pop_runs, popped_tells}
 use Rattle.pth_world.proofs.Frames.{frame_then, still_frame}
 use Rattle.pth_end.proofs.Handled.{handled_frame, stored_frame}
+use Rattle.pth_world.specs.Numbering.{no_numbers}
 use Rattle.pth_calls.proofs.cleanups.pop_cleanup.Goals as goal
 
 pub returns-in_default-clause-next : goal.returns-in_default-clause-next
@@ -72,11 +73,11 @@ returns-clause-ok g c =
     (leads_then c.run_popped.new.w c.pop_cleanup.new.self s (where_so (not (is_zero c.args.v)) (runs_handler f c.args.t.0 c.in-Some.h c.in-Some.arg)) (tells m) _ _ _ first last)) c.done-2.ensures.ok
 
 pub returns-in_default-clause-frame : goal.returns-in_default-clause-frame
-returns-in_default-clause-frame g c = done_frame c.args.w.now c.args.w.now c.args.t.0 c.done.result _ c.done.ensures.next (still_frame 0 c.args.w.now _ c.requires.runs c.requires.whole)
+returns-in_default-clause-frame g c = done_frame c.args.w.now c.args.w.now c.args.t.0 c.done.result _ c.done.ensures.next (still_frame no_numbers c.args.w.now _ c.requires.runs c.requires.whole)
 
 pub returns-clause-frame : goal.returns-clause-frame
 returns-clause-frame g c =
     let t = c.args.t.0 in
     let ran = handled_frame c.args.w.now (Some t) c.requires.runs c.run_popped.new.w c.in_ok-run_popped.ensures.handled in
     let popped = stored_frame c.run_popped.new.w (Some t) ran.runs c.pop_cleanup.new.self ran.whole c.pop_cleanup.ensures.keeps in
-    done_frame c.args.w.now c.pop_cleanup.new.self t c.done-2.result _ c.done-2.ensures.next (frame_then 0 0 c.args.w.now c.run_popped.new.w c.pop_cleanup.new.self (Some t) (Some t) false ran popped)
+    done_frame c.args.w.now c.pop_cleanup.new.self t c.done-2.result _ c.done-2.ensures.next (frame_then no_numbers c.args.w.now c.run_popped.new.w c.pop_cleanup.new.self (Some t) (Some t) false ran popped)

@@ -5,6 +5,7 @@ use Rattle.pth_calls.proofs.Making.{line_answered}
 use Rattle.pth_calls.proofs.Plains.{quiet_event_call}
 use Rattle.std.proofs.lemmas.Result.{on_ok_weaker}
 use Rattle.pth_world.proofs.Frames.{frame_as, still_frame}
+use Rattle.pth_world.specs.Numbering.{Event, no_numbers, one_of}
 use Rattle.pth_calls.proofs.event_handling.answer_events.Goals as goal
 
 pub returns-in-Some-clause-answered : goal.returns-in-Some-clause-answered
@@ -78,25 +79,25 @@ pub returns-in-EvFree-clause-quiet : goal.returns-in-EvFree-clause-quiet
 returns-in-EvFree-clause-quiet g c = quiet_event_call c.args.t c.args.call.now c.ev_free.result c.requires.events
 
 pub returns-in-Some-clause-frame : goal.returns-in-Some-clause-frame
-returns-in-Some-clause-frame g c = on_ok_weaker c.make_event.result (λ made. frame_as 1 1 c.args.w.now c.make_event.new.w _ _ (omega arith) c.requires.runs made) c.make_event.ensures.frame
+returns-in-Some-clause-frame g c = on_ok_weaker c.make_event.result (λ made. frame_as (one_of Event) (one_of Event) c.args.w.now c.make_event.new.w _ _ (λ k. omega arith) c.requires.runs made) c.make_event.ensures.frame
 
 pub returns-in-Chain-clause-frame : goal.returns-in-Chain-clause-frame
-returns-in-Chain-clause-frame g c = on_ok_weaker c.chain.result (λ made. frame_as 1 1 c.args.w.now c.chain.new.w _ _ (omega arith) c.requires.runs made) c.chain.ensures.frame
+returns-in-Chain-clause-frame g c = on_ok_weaker c.chain.result (λ made. frame_as (one_of Event) (one_of Event) c.args.w.now c.chain.new.w _ _ (λ k. omega arith) c.requires.runs made) c.chain.ensures.frame
 
 pub returns-in-EvConcat-clause-frame : goal.returns-in-EvConcat-clause-frame
-returns-in-EvConcat-clause-frame g c = frame_as 0 1 c.args.w.now c.ev_concat.new.w _ _ (omega arith) c.requires.runs c.ev_concat.ensures.frame
+returns-in-EvConcat-clause-frame g c = frame_as no_numbers (one_of Event) c.args.w.now c.ev_concat.new.w _ _ (λ k. omega arith) c.requires.runs c.ev_concat.ensures.frame
 
 pub returns-in-EvIsolate-clause-frame : goal.returns-in-EvIsolate-clause-frame
-returns-in-EvIsolate-clause-frame g c = frame_as 0 1 c.args.w.now c.ev_isolate.new.w _ _ (omega arith) c.requires.runs c.ev_isolate.ensures.frame
+returns-in-EvIsolate-clause-frame g c = frame_as no_numbers (one_of Event) c.args.w.now c.ev_isolate.new.w _ _ (λ k. omega arith) c.requires.runs c.ev_isolate.ensures.frame
 
 pub returns-in-EvWalk-clause-frame : goal.returns-in-EvWalk-clause-frame
-returns-in-EvWalk-clause-frame g c = still_frame 1 c.args.w.now _ c.requires.runs c.requires.whole
+returns-in-EvWalk-clause-frame g c = still_frame (one_of Event) c.args.w.now _ c.requires.runs c.requires.whole
 
 pub returns-in-EvStatus-clause-frame : goal.returns-in-EvStatus-clause-frame
-returns-in-EvStatus-clause-frame g c = still_frame 1 c.args.w.now _ c.requires.runs c.requires.whole
+returns-in-EvStatus-clause-frame g c = still_frame (one_of Event) c.args.w.now _ c.requires.runs c.requires.whole
 
 pub returns-in-EvKind-clause-frame : goal.returns-in-EvKind-clause-frame
-returns-in-EvKind-clause-frame g c = still_frame 1 c.args.w.now _ c.requires.runs c.requires.whole
+returns-in-EvKind-clause-frame g c = still_frame (one_of Event) c.args.w.now _ c.requires.runs c.requires.whole
 
 pub returns-in-EvFree-clause-frame : goal.returns-in-EvFree-clause-frame
-returns-in-EvFree-clause-frame g c = frame_as 0 1 c.args.w.now c.ev_free.new.w _ _ (omega arith) c.requires.runs c.ev_free.ensures.frame
+returns-in-EvFree-clause-frame g c = frame_as no_numbers (one_of Event) c.args.w.now c.ev_free.new.w _ _ (λ k. omega arith) c.requires.runs c.ev_free.ensures.frame

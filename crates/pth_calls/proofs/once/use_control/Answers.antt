@@ -3,6 +3,7 @@ use Rattle.std.proofs.lemmas.Result.{err_from_is_err_and}
 use Rattle.pth_numbered.specs.Operands.{number, is_below}
 use Rattle.pth_model.specs.State.{once_limit}
 use Rattle.pth_world.proofs.Moves.{runner_alive}
+use Rattle.pth_world.specs.Numbering.{no_numbers}
 use Rattle.pth_world.specs.World.{WorldOf}
 use Rattle.pth_calls.proofs.Storing.{is_first, is_again, is_none_such, no_verdict, first_effect, again_effect, no_effect, use_stands}
 use Rattle.pth_world.proofs.Frames.{frame_then}
@@ -72,7 +73,7 @@ returns-in_ok-run_told_handler-in-Ok-true-clause-frame g c =
     let t = c.args.t.0 in
     let used = used_frame c.args.w.now (Some c.args.t.0) c.requires.runs c.once.new.self (c.once.ensures.whole c.requires.whole) c.once.ensures.same in
     let ran = handled_frame c.once.new.self (Some t) used.runs c.run_told_handler.new.w c.in_ok-run_told_handler-in-Ok-true.ensures.handled in
-    frame_then 0 0 c.args.w.now c.once.new.self c.run_told_handler.new.w (Some t) (Some t) false used ran
+    frame_then no_numbers c.args.w.now c.once.new.self c.run_told_handler.new.w (Some t) (Some t) false used ran
 
 pub returns-in-Ok-false-clause-frame : goal.returns-in-Ok-false-clause-frame
 returns-in-Ok-false-clause-frame g c = used_frame c.args.w.now (Some c.args.t.0) c.requires.runs c.once.new.self (c.once.ensures.whole c.requires.whole) c.once.ensures.same

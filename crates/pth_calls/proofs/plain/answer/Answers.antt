@@ -6,7 +6,8 @@ use Rattle.pth_base.specs.declared.mark.Mark.TheVariants.{Answered}
 use Rattle.pth_end.proofs.Answers.{refused_answered, answered_told, each_told}
 use Rattle.pth_calls.proofs.Plains.{is_of_code, other_facility, unbuilt_row}
 use Rattle.std.proofs.lemmas.Result.{on_ok_weaker}
-use Rattle.pth_world.proofs.Frames.{frame_as, still_frame}
+use Rattle.pth_world.proofs.Frames.{frame_as, still_frame, one_at_most}
+use Rattle.pth_world.specs.Numbering.{Thread, Object, Event, no_numbers, one_of, one_of_each}
 use Rattle.pth_calls.proofs.plain.answer.Goals as goal
 
 pub returns-in-None-clause-told : goal.returns-in-None-clause-told
@@ -57,28 +58,40 @@ pub returns-in-Cancellation-clause-told : goal.returns-in-Cancellation-clause-to
 returns-in-Cancellation-clause-told g c = answered_told c.args.w.now c.answer_cancellation.new.w _ _ _ c.answer_cancellation.ensures.quiet c.answer_cancellation.ensures.answered
 
 pub returns-in-None-clause-frame : goal.returns-in-None-clause-frame
-returns-in-None-clause-frame g c = still_frame 1 c.args.w.now _ c.requires.runs c.requires.whole
+returns-in-None-clause-frame g c = still_frame one_of_each c.args.w.now _ c.requires.runs c.requires.whole
 
 pub returns-in_default-clause-frame : goal.returns-in_default-clause-frame
-returns-in_default-clause-frame g c = still_frame 1 c.args.w.now _ c.requires.runs c.requires.whole
+returns-in_default-clause-frame g c = still_frame one_of_each c.args.w.now _ c.requires.runs c.requires.whole
+
+pub returns-in-Library-clause-frame : goal.returns-in-Library-clause-frame
+returns-in-Library-clause-frame g c = frame_as no_numbers one_of_each c.args.w.now c.answer_library.new.w _ _ (λ k. omega arith) refl c.answer_library.ensures.frame
+
+pub returns-in-Attributes-clause-frame : goal.returns-in-Attributes-clause-frame
+returns-in-Attributes-clause-frame g c = on_ok_weaker c.answer_attributes.result (λ told. frame_as (one_of Object) one_of_each c.args.w.now c.answer_attributes.new.w _ _ (one_at_most Object) refl told) c.answer_attributes.ensures.frame
+
+pub returns-in-Threads-clause-frame : goal.returns-in-Threads-clause-frame
+returns-in-Threads-clause-frame g c = on_ok_weaker c.answer_threads.result (λ told. frame_as (one_of Thread) one_of_each c.args.w.now c.answer_threads.new.w _ _ (one_at_most Thread) refl told) c.answer_threads.ensures.frame
+
+pub returns-in-Events-clause-frame : goal.returns-in-Events-clause-frame
+returns-in-Events-clause-frame g c = on_ok_weaker c.answer_events.result (λ told. frame_as (one_of Event) one_of_each c.args.w.now c.answer_events.new.w _ _ (one_at_most Event) refl told) c.answer_events.ensures.frame
 
 pub returns-in-Cancellation-clause-frame : goal.returns-in-Cancellation-clause-frame
-returns-in-Cancellation-clause-frame g c = frame_as 0 1 c.args.w.now c.answer_cancellation.new.w _ _ (omega arith) refl c.answer_cancellation.ensures.frame
+returns-in-Cancellation-clause-frame g c = frame_as no_numbers one_of_each c.args.w.now c.answer_cancellation.new.w _ _ (λ k. omega arith) refl c.answer_cancellation.ensures.frame
 
 pub returns-in-Utilities-clause-frame : goal.returns-in-Utilities-clause-frame
-returns-in-Utilities-clause-frame g c = frame_as 0 1 c.args.w.now c.answer_utilities.new.w _ _ (omega arith) c.requires.runs c.answer_utilities.ensures.frame
+returns-in-Utilities-clause-frame g c = frame_as no_numbers one_of_each c.args.w.now c.answer_utilities.new.w _ _ (λ k. omega arith) c.requires.runs c.answer_utilities.ensures.frame
 
 pub returns-in-Keys-clause-frame : goal.returns-in-Keys-clause-frame
-returns-in-Keys-clause-frame g c = on_ok_weaker c.answer_keys.result (λ told. frame_as 0 1 c.args.w.now c.answer_keys.new.w _ _ (omega arith) refl told) c.answer_keys.ensures.frame
+returns-in-Keys-clause-frame g c = on_ok_weaker c.answer_keys.result (λ told. frame_as no_numbers one_of_each c.args.w.now c.answer_keys.new.w _ _ (λ k. omega arith) refl told) c.answer_keys.ensures.frame
 
 pub returns-in-Cleanups-clause-frame : goal.returns-in-Cleanups-clause-frame
-returns-in-Cleanups-clause-frame g c = on_ok_weaker c.answer_cleanups.result (λ told. frame_as 0 1 c.args.w.now c.answer_cleanups.new.w _ _ (omega arith) refl told) c.answer_cleanups.ensures.frame
+returns-in-Cleanups-clause-frame g c = on_ok_weaker c.answer_cleanups.result (λ told. frame_as no_numbers one_of_each c.args.w.now c.answer_cleanups.new.w _ _ (λ k. omega arith) refl told) c.answer_cleanups.ensures.frame
 
 pub returns-in-Mutexes-clause-frame : goal.returns-in-Mutexes-clause-frame
-returns-in-Mutexes-clause-frame g c = frame_as 0 1 c.args.w.now c.answer_mutexes.new.w _ _ (omega arith) refl c.answer_mutexes.ensures.frame
+returns-in-Mutexes-clause-frame g c = frame_as no_numbers one_of_each c.args.w.now c.answer_mutexes.new.w _ _ (λ k. omega arith) refl c.answer_mutexes.ensures.frame
 
 pub returns-in-Rwlocks-clause-frame : goal.returns-in-Rwlocks-clause-frame
-returns-in-Rwlocks-clause-frame g c = frame_as 0 1 c.args.w.now c.answer_rwlocks.new.w _ _ (omega arith) refl c.answer_rwlocks.ensures.frame
+returns-in-Rwlocks-clause-frame g c = frame_as no_numbers one_of_each c.args.w.now c.answer_rwlocks.new.w _ _ (λ k. omega arith) refl c.answer_rwlocks.ensures.frame
 
 pub returns-in-Io-clause-frame : goal.returns-in-Io-clause-frame
-returns-in-Io-clause-frame g c = frame_as 0 1 c.args.w.now c.answer_descriptors.new.w _ _ (omega arith) c.requires.runs c.answer_descriptors.ensures.frame
+returns-in-Io-clause-frame g c = frame_as no_numbers one_of_each c.args.w.now c.answer_descriptors.new.w _ _ (λ k. omega arith) c.requires.runs c.answer_descriptors.ensures.frame

@@ -3,6 +3,7 @@ use Rattle.pth_base.specs.declared.errno.Errno.TheVariants.{EAGAIN}
 use Rattle.pth_numbered.specs.Operands.{number, is_below}
 use Rattle.pth_model.specs.State.{State}
 use Rattle.pth_model.specs.ThreadControl.{spawn, spawns, values_for, or_first}
+use Rattle.pth_world.specs.Numbering.{Thread, one_of}
 use Rattle.pth_world.specs.Shows.{StandsFor}
 use Rattle.pth_world.specs.World.{WorldOf}
 use Rattle.pth_end.proofs.Answers.{passed_answered, refused_answered}
@@ -40,13 +41,13 @@ returns-in-Ok-spawn-clause-answered g c =
     (ap (λ (z : WorldOf _ _ _). z.store) c.in-Ok-spawn.ensures.same)
 
 pub returns-in_default-clause-frame : goal.returns-in_default-clause-frame
-returns-in_default-clause-frame g c = still_frame 1 c.args.w.now _ c.requires.runs c.requires.whole
+returns-in_default-clause-frame g c = still_frame (one_of Thread) c.args.w.now _ c.requires.runs c.requires.whole
 
 pub returns-in-Err-clause-frame : goal.returns-in-Err-clause-frame
-returns-in-Err-clause-frame g c = still_frame 1 c.args.w.now _ c.requires.runs c.requires.whole
+returns-in-Err-clause-frame g c = still_frame (one_of Thread) c.args.w.now _ c.requires.runs c.requires.whole
 
 pub returns-then-not-has_room-clause-frame : goal.returns-then-not-has_room-clause-frame
-returns-then-not-has_room-clause-frame g c = still_frame 1 c.args.w.now _ c.requires.runs c.requires.whole
+returns-then-not-has_room-clause-frame g c = still_frame (one_of Thread) c.args.w.now _ c.requires.runs c.requires.whole
 
 pub returns-in-Ok-spawn-clause-frame : goal.returns-in-Ok-spawn-clause-frame
 returns-in-Ok-spawn-clause-frame g c = spawned_frame c.args.w.now c.spawn.new.self _ c.requires.runs c.in-Ok-spawn.ensures.whole c.in-Ok-spawn.ensures.made c.in-Ok-spawn.ensures.ranks c.in-Ok-spawn.ensures.same

@@ -46,7 +46,7 @@ loop-t-preserved g c =
       whole = c.wake.ensures.whole;
       scheduler = scheduler_then _ _ _ c.loop-t.invariant.scheduler c.wake.ensures.scheduler;
       made = c.wake.ensures.made ∙ c.loop-t.invariant.made;
-      ranks = ranks_then 0 0 _ _ _ c.loop-t.invariant.ranks c.wake.ensures.ranks;
+      ranks = ranks_then 0 _ _ _ c.loop-t.invariant.ranks c.wake.ensures.ranks;
       stays = λ u waits. c.wake.ensures.stays u (c.loop-t.invariant.stays u waits);
     }
 

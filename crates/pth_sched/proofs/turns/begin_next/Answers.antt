@@ -1,4 +1,4 @@
-use Rattle.std.proofs.Common.{◌≡◌, ◌∙◌, ℕ, ◌||◌, ◌&&◌, Option, Some, None, Result, Ok, Err, IfOk, OnOk, IfSome, ap, sym, subst}
+use Rattle.std.proofs.Common.{◌≡◌, ◌∙◌, ℕ, ◌||◌, ◌&&◌, Option, Some, None, Result, Ok, Err, IfOk, OnOk, IfSome, ap, sym, subst, arith}
 use Rattle.std.proofs.lemmas.Result.{IfOk-weaker, on_ok_weaker, on_err_weaker}
 use Rattle.pth_base.specs.Cut.{IsCut}
 use Rattle.pth_base.specs.Program.{Functions}
@@ -11,6 +11,7 @@ use Rattle.pth_model.specs.State.{Control, State}
 use Rattle.pth_model.specs.Transition.{Went, controlled}
 use Rattle.pth_world.specs.Frame.{runs_after, yields_after}
 use Rattle.pth_world.specs.Leading.{Leads}
+use Rattle.pth_world.specs.Numbering.{made}
 use Rattle.pth_world.specs.Shows.{Shows, StandsFor}
 use Rattle.pth_world.specs.World.{WorldOf}
 use Rattle.pth_world.proofs.Telling.{has_still}
@@ -43,6 +44,18 @@ all_three : {A E : Type 0} {X Y : A → Type 0} {Z Q : Type 0} (r : Result A E) 
 all_three (Ok n) x y z f = f n x y z
 all_three (Err e) x y z f = tt
 
+pub begin_at_once-requires-clause-few : goal.begin_at_once-requires-clause-few
+begin_at_once-requires-clause-few g c k =
+    let few = c.requires.few k in
+    let same : made c.next_call.new.self k ≡ made c.args.w.now k = ap (λ (w : WorldOf _ _ _). made w k) c.in_ok-call.ensures.same in
+    omega arith
+
+pub begin_unmild-requires-clause-few : goal.begin_unmild-requires-clause-few
+begin_unmild-requires-clause-few g c k =
+    let few = c.requires.few k in
+    let same : made c.next_call.new.self k ≡ made c.args.w.now k = ap (λ (w : WorldOf _ _ _). made w k) c.in_ok-call.ensures.same in
+    omega arith
+
 pub begin_at_once-requires-clause-never : goal.begin_at_once-requires-clause-never
 begin_at_once-requires-clause-never g c = mild_never c.in_ok-call.call (sym c.is_mild.ensures ∙ c.if-is_mild.true)
 
@@ -61,7 +74,7 @@ returns-then-is_mild-clause-some g c s st = c.next_call.ensures.some s.control s
 pub returns-then-is_mild-clause-frame : goal.returns-then-is_mild-clause-frame
 returns-then-is_mild-clause-frame g c =
     let same = c.in_ok-call.ensures.same in
-    IfOk-weaker c.begin_at_once.result _ _ (λ n frame. stepped_frame c.args.w.now c.next_call.new.self c.begin_at_once.new.w (runs_after c.args.t.0 n) (yields_after n) (c.in_ok-call.ensures.whole c.requires.whole) (ap (λ (k : WorldOf _ _ _). k.scheduler) same) (record { threads = ap (λ (k : WorldOf _ _ _). k.threads.records.made) same; objects = ap (λ (k : WorldOf _ _ _). k.attributes.made) same; events = ap (λ (k : WorldOf _ _ _). k.events.made) same }) (ap (λ (k : WorldOf _ _ _). k.threads.queues) same) frame) c.begin_at_once.ensures.frame
+    IfOk-weaker c.begin_at_once.result _ _ (λ n frame. stepped_frame c.args.w.now c.next_call.new.self c.begin_at_once.new.w (runs_after c.args.t.0 n) (yields_after n) (c.in_ok-call.ensures.whole c.requires.whole) (ap (λ (k : WorldOf _ _ _). k.scheduler) same) (λ k. ap (λ (w : WorldOf _ _ _). made w k) same) (ap (λ (k : WorldOf _ _ _). k.threads.queues) same) frame) c.begin_at_once.ensures.frame
 
 pub returns-then-is_mild-clause-calm : goal.returns-then-is_mild-clause-calm
 returns-then-is_mild-clause-calm g c =
@@ -84,7 +97,7 @@ returns-clause-some g c s st = c.next_call.ensures.some s.control st.control
 pub returns-clause-frame : goal.returns-clause-frame
 returns-clause-frame g c =
     let same = c.in_ok-call.ensures.same in
-    IfOk-weaker c.begin_unmild.result _ _ (λ n frame. stepped_frame c.args.w.now c.next_call.new.self c.begin_unmild.new.w (runs_after c.args.t.0 n) (yields_after n) (c.in_ok-call.ensures.whole c.requires.whole) (ap (λ (k : WorldOf _ _ _). k.scheduler) same) (record { threads = ap (λ (k : WorldOf _ _ _). k.threads.records.made) same; objects = ap (λ (k : WorldOf _ _ _). k.attributes.made) same; events = ap (λ (k : WorldOf _ _ _). k.events.made) same }) (ap (λ (k : WorldOf _ _ _). k.threads.queues) same) frame) c.begin_unmild.ensures.frame
+    IfOk-weaker c.begin_unmild.result _ _ (λ n frame. stepped_frame c.args.w.now c.next_call.new.self c.begin_unmild.new.w (runs_after c.args.t.0 n) (yields_after n) (c.in_ok-call.ensures.whole c.requires.whole) (ap (λ (k : WorldOf _ _ _). k.scheduler) same) (λ k. ap (λ (w : WorldOf _ _ _). made w k) same) (ap (λ (k : WorldOf _ _ _). k.threads.queues) same) frame) c.begin_unmild.ensures.frame
 
 pub returns-clause-calm : goal.returns-clause-calm
 returns-clause-calm g c =

@@ -1,5 +1,7 @@
-use Rattle.std.proofs.Common.{◌+◌, sym, subst, arith}
+use Rattle.std.proofs.Common.{◌≡◌, ◌∙◌, ◌+◌, ap, sym, subst, arith}
+use Rattle.pth_world.specs.Numbering.{made}
 use Rattle.pth_world.specs.Ranks.{IsUnder}
+use Rattle.pth_world.specs.World.{WorldOf}
 use Rattle.pth_world.proofs.Ranks.{under-increase}
 use Rattle.pth_sched.proofs.turns.end_turn.Goals as goal
 
@@ -11,3 +13,9 @@ returns-clause-ranks g c = λ roof low under.
 
 pub returns-clause-stays : goal.returns-clause-stays
 returns-clause-stays g c u waits = c.tick.ensures.stays u (c.place.ensures.stays u (c.raise_ready.ensures.stays u waits))
+
+pub returns-clause-gives : goal.returns-clause-gives
+returns-clause-gives g c k =
+    let raised : made c.raise_ready.new.self k ≡ made c.args.w.now k = ap (λ (w : WorldOf _ _ _). made w k) c.raise_ready.ensures.same in
+    let over : made c.tick.new.w k ≡ made c.place.new.w k = ap (λ (w : WorldOf _ _ _). made w k) c.tick.ensures.same in
+    over ∙ c.place.ensures.gives k ∙ raised

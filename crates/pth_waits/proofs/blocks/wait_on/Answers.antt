@@ -4,6 +4,7 @@ use Rattle.pth_model.specs.Changes.{blocked_of}
 use Rattle.pth_model.specs.State.{Control}
 use Rattle.pth_world.proofs.StateOf.{stands_for_state}
 use Rattle.pth_world.specs.Frame.{Frame}
+use Rattle.pth_world.specs.Numbering.{no_numbers}
 use Rattle.pth_world.specs.Shows.{Shows}
 use Rattle.pth_world.specs.Whole.{Whole, MayBlock, MayHaveWritten}
 use Rattle.pth_world.specs.World.{WorldOf}
@@ -35,5 +36,5 @@ returns-clause-frame g c =
     let whole = c.block.ensures.whole (c.take_blocked.ensures.whole c.requires.whole) may_block in
     let p = c.block.new.self.threads.progress in
     let same = c.block.ensures.same ∙ ap (λ (v : WorldOf _ _ _). record v { threads = record v.threads { progress = p } }) c.take_blocked.ensures.same in
-    subst (λ (v : WorldOf _ _ _). Frame c.args.w.now v 0 (Some t) false) (sym same)
+    subst (λ (v : WorldOf _ _ _). Frame c.args.w.now v no_numbers (Some t) false) (sym same)
     (progress_frame c.args.w.now p (Some t) c.requires.runs (subst (λ (v : WorldOf _ _ _). Whole v) same whole))

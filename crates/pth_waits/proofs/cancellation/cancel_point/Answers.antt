@@ -4,6 +4,7 @@ use Rattle.pth_world.proofs.Frames.{still_frame}
 use Rattle.pth_world.proofs.Telling.{quiet_leads}
 use Rattle.pth_end.proofs.Framing.{done_frame}
 use Rattle.pth_waits.proofs.Canceling.{point_ends, point_says, quiet_point}
+use Rattle.pth_world.specs.Numbering.{no_numbers}
 use Rattle.pth_waits.proofs.cancellation.cancel_point.Goals as goal
 
 pub returns-in_err-cancel_within-clause-err : goal.returns-in_err-cancel_within-clause-err
@@ -27,4 +28,4 @@ returns-clause-ok g c = on_ok_weaker c.done.result (λ told s st.
     (quiet_leads c.args.w.now s _ _ _ (quiet_point c.args.t) st (rw c.requires.call at told))) c.done.ensures.ok
 
 pub returns-clause-frame : goal.returns-clause-frame
-returns-clause-frame g c = done_frame c.args.w.now c.args.w.now c.args.t.0 c.done.result _ c.done.ensures.next (still_frame 0 c.args.w.now _ c.requires.runs c.requires.whole)
+returns-clause-frame g c = done_frame c.args.w.now c.args.w.now c.args.t.0 c.done.result _ c.done.ensures.next (still_frame no_numbers c.args.w.now _ c.requires.runs c.requires.whole)

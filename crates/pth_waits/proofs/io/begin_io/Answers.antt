@@ -11,6 +11,7 @@ use Rattle.pth_end.proofs.Framing.{done_frame}
 use Rattle.pth_waits.specs.Io.{blocks_on}
 use Rattle.pth_waits.proofs.Blocking.{quiet-answered}
 use Rattle.pth_waits.proofs.IoCalls.{io_begins, io_changed, io_may, io_open, no_word_before, then_leads}
+use Rattle.pth_world.specs.Numbering.{no_numbers}
 use Rattle.pth_waits.proofs.io.begin_io.Goals as goal
 
 pub returns-in-Some-clause-next : goal.returns-in-Some-clause-next
@@ -31,7 +32,7 @@ returns-in-Some-clause-ok g c = on_ok_weaker c.done.result (λ told s st.
 pub returns-in-Some-clause-frame : goal.returns-in-Some-clause-frame
 returns-in-Some-clause-frame g c =
     done_frame c.args.w.now c.begin_trial.new.w c.args.t.0 c.done.result _ c.done.ensures.next
-    (frame_as 0 0 c.args.w.now c.begin_trial.new.w _ _ (omega arith) c.requires.runs c.in_ok-trial.ensures.frame)
+    (frame_as no_numbers no_numbers c.args.w.now c.begin_trial.new.w _ _ (λ k. omega arith) c.requires.runs c.in_ok-trial.ensures.frame)
 
 pub returns-clause-next : goal.returns-clause-next
 returns-clause-next g c s st =

@@ -8,6 +8,7 @@ use Rattle.pth_model.specs.Resources.{Store, no_resources, told}
 use Rattle.pth_model.specs.State.{main}
 use Rattle.pth_world.proofs.Frames.{still_frame}
 use Rattle.pth_world.proofs.Telling.{quiet_leads, quiet-refused}
+use Rattle.pth_world.specs.Numbering.{no_numbers}
 use Rattle.pth_world.specs.Store.{store_of}
 use Rattle.pth_end.proofs.Framing.{done_frame}
 use Rattle.pth_waits.proofs.Kills.{kill_refused, kill_ends, kill-told}
@@ -26,7 +27,7 @@ returns-then-t-ne-MAIN-clause-ok g c =
     (quiet_leads c.args.w.now s _ _ _ (quiet-refused c.args.t Kill EPERM) st (rw c.requires.call at told))) c.done.ensures.ok
 
 pub returns-then-t-ne-MAIN-clause-frame : goal.returns-then-t-ne-MAIN-clause-frame
-returns-then-t-ne-MAIN-clause-frame g c = done_frame c.args.w.now c.args.w.now c.args.t.0 c.done.result _ c.done.ensures.next (still_frame 0 c.args.w.now _ c.requires.runs c.requires.whole)
+returns-then-t-ne-MAIN-clause-frame g c = done_frame c.args.w.now c.args.w.now c.args.t.0 c.done.result _ c.done.ensures.next (still_frame no_numbers c.args.w.now _ c.requires.runs c.requires.whole)
 
 pub returns-clause-next : goal.returns-clause-next
 returns-clause-next g c s st =

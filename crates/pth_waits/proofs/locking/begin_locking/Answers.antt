@@ -6,6 +6,7 @@ use Rattle.pth_world.proofs.Frames.{frame_as}
 use Rattle.pth_world.proofs.Telling.{has_still, tells_leads}
 use Rattle.pth_end.proofs.Framing.{done_frame}
 use Rattle.pth_waits.proofs.Takes.{locking_begins, locking_may, locking_until, locking_written}
+use Rattle.pth_world.specs.Numbering.{no_numbers}
 use Rattle.pth_waits.proofs.locking.begin_locking.Goals as goal
 
 pub returns-in-Some-clause-next : goal.returns-in-Some-clause-next
@@ -24,7 +25,7 @@ returns-in-Some-clause-ok g c = on_ok_weaker c.done.result (λ told s st.
 pub returns-in-Some-clause-frame : goal.returns-in-Some-clause-frame
 returns-in-Some-clause-frame g c =
     done_frame c.args.w.now c.begin_taking.new.w c.args.t.0 c.done.result _ c.done.ensures.next
-    (frame_as 0 0 c.args.w.now c.begin_taking.new.w _ _ (omega arith) c.requires.runs c.begin_taking.ensures.frame)
+    (frame_as no_numbers no_numbers c.args.w.now c.begin_taking.new.w _ _ (λ k. omega arith) c.requires.runs c.begin_taking.ensures.frame)
 
 pub returns-clause-next : goal.returns-clause-next
 returns-clause-next g c s st =

@@ -10,6 +10,7 @@ use Rattle.pth_world.specs.Leading.{Leads}
 use Rattle.pth_end.proofs.Framing.{done_frame}
 use Rattle.pth_waits.proofs.Blocking.{none_claimed, quiet-answered}
 use Rattle.pth_waits.proofs.Resting.{rest_begins, rest_given, rest_may, rest_open, rest_until, rest_writes_nothing}
+use Rattle.pth_world.specs.Numbering.{no_numbers}
 use Rattle.pth_waits.proofs.rests.begin_rest.Goals as goal
 
 pub returns-in-Some-clause-next : goal.returns-in-Some-clause-next
@@ -22,7 +23,7 @@ returns-in-Some-clause-ok g c = on_ok_weaker c.done.result (λ told s st.
     (quiet_leads c.args.w.now s _ _ _ (quiet-answered c.args.t.0 c.args.call c.in-Some.answer (rest_may c.args.t.0 c.args.call c.requires.call) (rest_open c.args.call c.requires.call)) st told)) c.done.ensures.ok
 
 pub returns-in-Some-clause-frame : goal.returns-in-Some-clause-frame
-returns-in-Some-clause-frame g c = done_frame c.args.w.now c.args.w.now c.args.t.0 c.done.result _ c.done.ensures.next (still_frame 0 c.args.w.now _ c.requires.runs c.requires.whole)
+returns-in-Some-clause-frame g c = done_frame c.args.w.now c.args.w.now c.args.t.0 c.done.result _ c.done.ensures.next (still_frame no_numbers c.args.w.now _ c.requires.runs c.requires.whole)
 
 pub returns-clause-next : goal.returns-clause-next
 returns-clause-next g c s st =

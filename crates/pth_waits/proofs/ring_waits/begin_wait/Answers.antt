@@ -5,6 +5,7 @@ use Rattle.pth_numbered.specs.Operands.{number}
 use Rattle.pth_ring.specs.Rings.{claim_answer}
 use Rattle.pth_world.proofs.Frames.{refused_frame}
 use Rattle.pth_world.proofs.Telling.{quiet_leads, has_still, quiet-refused}
+use Rattle.pth_world.specs.Numbering.{no_numbers}
 use Rattle.pth_world.specs.World.{WorldOf}
 use Rattle.pth_end.proofs.Framing.{done_frame}
 use Rattle.pth_waits.proofs.RingWaits.{wait_refused, wait_blocks}
@@ -31,7 +32,7 @@ returns-in-Err-clause-ok g c =
 pub returns-in-Err-clause-frame : goal.returns-in-Err-clause-frame
 returns-in-Err-clause-frame g c =
     done_frame c.args.w.now c.claim.new.self c.args.t.0 c.done.result _ c.done.ensures.next
-    (refused_frame 0 c.args.w.now c.claim.new.self _ c.requires.runs c.requires.whole c.in-Err.ensures.refused)
+    (refused_frame no_numbers c.args.w.now c.claim.new.self _ c.requires.runs c.requires.whole c.in-Err.ensures.refused)
 
 pub returns-clause-next : goal.returns-clause-next
 returns-clause-next g c s st =

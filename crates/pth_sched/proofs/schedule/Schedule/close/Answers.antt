@@ -4,7 +4,7 @@ use Rattle.pth_base.specs.Limits.{most_steps}
 use Rattle.pth_model.specs.State.{Scheduler}
 use Rattle.pth_sched.specs.MachineOf.{IsGoing, IsRoofed}
 use Rattle.pth_sched.specs.Running.{Stands}
-use Rattle.pth_sched.proofs.Keeping.{on_ok_three, gives_rest, gives_then}
+use Rattle.pth_sched.proofs.Keeping.{on_ok_three, gives_rest}
 use Rattle.pth_sched.proofs.Parts.{close_makes, closes_marks, turn_over}
 use Rattle.pth_sched.proofs.Roofs.{close_roofed, ready_rises}
 use Rattle.pth_sched.proofs.Going.{close_going, named_on, on_ok_four}
@@ -43,7 +43,7 @@ returns-clause-going g c =
     let over = subst (λ m. m.turn.gave ≡ Some c.args.t.0) (sym c.self.view_is) c.requires.over in
     on_ok_four c.pass_unless_calm.result c.pass_unless_calm.ensures.whole c.pass_unless_calm.ensures.scheduler c.pass_unless_calm.ensures.made c.pass_unless_calm.ensures.stays (λ whole scheduler made stays.
     let named = named_on _ _ _ c.pass_unless_calm.new.w.threads (ap (λ (x : Scheduler). x.preferred) scheduler.scheduler ∙ c.end_turn.ensures.preferred) (λ u waits. stays u (c.end_turn.ensures.stays u waits)) inside.preferred in
-    close_going _ _ inside c.args.t.0 over whole (ap (λ (x : Scheduler). x.running) scheduler.scheduler ∙ c.end_turn.ensures.running) named (gives_then _ _ _ c.end_turn.ensures.gives (gives_rest _ _ scheduler made)) refl refl refl)
+    close_going _ _ inside c.args.t.0 over whole (ap (λ (x : Scheduler). x.running) scheduler.scheduler ∙ c.end_turn.ensures.running) named (λ k. gives_rest _ _ scheduler made k ∙ c.end_turn.ensures.gives k) refl refl refl)
 
 pub pass_unless_calm-requires-clause-calm : goal.pass_unless_calm-requires-clause-calm
 pass_unless_calm-requires-clause-calm g c = λ some.

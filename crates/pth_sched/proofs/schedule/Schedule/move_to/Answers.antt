@@ -1,8 +1,13 @@
 use Rattle.std.proofs.Common.{refl, ap, sym, subst}
 use Rattle.std.proofs.lemmas.Result.{on_ok_weaker, on_err_weaker}
-use Rattle.pth_sched.specs.Running.{Stands}
-use Rattle.pth_sched.proofs.Moving.{moved_stands, move_makes, move_cut}
+use Rattle.pth_sched.specs.Running.{Stands, Keeps}
+use Rattle.pth_sched.proofs.Moving.{moved_keeps, moved_stands, move_makes, move_cut}
 use Rattle.pth_sched.proofs.schedule.Schedule.move_to.Goals as goal
+
+pub pass-requires : goal.pass-requires
+pass-requires g c =
+    let before = subst (λ m. Keeps m) (sym c.self.view_is) c.requires.keeps in
+    record { keeps = moved_keeps _ _ c.args.moment before (c.set_time.ensures.whole before.going.whole) c.set_time.ensures.same refl }
 
 pub returns-clause-ok : goal.returns-clause-ok
 returns-clause-ok g c =

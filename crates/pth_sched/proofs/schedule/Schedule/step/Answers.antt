@@ -1,4 +1,5 @@
-use Rattle.std.proofs.Common.{◌≡◌, Some, None, ◌∙◌, ap, subst, sym, rules}
+use Rattle.std.proofs.Common.{◌≡◌, ◌≤◌, arith, Some, None, ◌∙◌, ap, subst, sym, rules}
+use Rattle.pth_base.specs.Limits.{most_steps}
 use Rattle.pth_model.specs.State.{Turn}
 use Rattle.pth_sched.specs.MachineOf.{IsGoing, IsRoofed}
 use Rattle.pth_sched.specs.Running.{Stands}
@@ -6,6 +7,13 @@ use Rattle.pth_sched.proofs.Parts.{after_memory, step_makes, steps_marks, turn_t
 use Rattle.pth_sched.proofs.Roofs.{step_roofed}
 use Rattle.pth_sched.proofs.Going.{step_going}
 use Rattle.pth_sched.proofs.schedule.Schedule.step.Goals as goal
+
+pub go_on-requires-clause-few : goal.go_on-requires-clause-few
+go_on-requires-clause-few g c k =
+    let before = subst (λ m. IsGoing m) (sym c.self.view_is) c.requires.going in
+    let few = subst (λ m. m.turn.steps ≤ most_steps) (sym c.self.view_is) c.requires.few in
+    let given = before.made k in
+    omega arith
 
 pub returns-in-Err-clause-err : goal.returns-in-Err-clause-err
 returns-in-Err-clause-err g c = λ x st.

@@ -1,11 +1,12 @@
 use Rattle.std.proofs.Common.{◌≡◌, ◌∙◌, None, ap, refl, sym, subst, rules, SFits, w64, to_z-of_z}
 use Rattle.std.proofs.lemmas.Result.{on_ok_weaker}
 use Rattle.pth_model.specs.State.{Scheduler}
+use Rattle.pth_world.specs.Numbering.{Thread, Object, Event, GivesNone}
 use Rattle.pth_sched.specs.MachineOf.{IsGoing, IsRoofed}
 use Rattle.pth_sched.specs.Running.{Stands}
 use Rattle.pth_sched.proofs.Parts.{take_makes}
 use Rattle.pth_sched.proofs.Roofs.{take_roofed}
-use Rattle.pth_sched.proofs.Keeping.{gives_rest, gives_then}
+use Rattle.pth_sched.proofs.Keeping.{gives_rest}
 use Rattle.pth_sched.proofs.Going.{named_on, named_ready, take_going}
 use Rattle.pth_sched.proofs.CalmWorlds.{take_calm}
 use Rattle.pth_sched.proofs.schedule.Schedule.take.Goals as goal
@@ -36,7 +37,8 @@ returns-clause-going g c =
     let inside = subst (λ m. IsGoing m) (sym c.self.view_is) c.requires.going in
     let nobody = subst (λ m. m.world.scheduler.running ≡ None) (sym c.self.view_is) c.requires.nobody in
     let gave = subst (λ m. m.turn.gave ≡ None) (sym c.self.view_is) c.requires.over in
-    on_ok_weaker c.push.result (λ tells. take_going _ _ inside c.next-t.result.0 nobody c.dispatch.ensures.whole (ap (λ w. w.scheduler.running) c.dispatch.ensures.same) (ap (λ w. w.scheduler.preferred) c.dispatch.ensures.same) (gives_then _ _ _ (gives_rest _ _ c.ready_new.ensures.scheduler c.ready_new.ensures.made) (record { threads = c.dispatch.ensures.threads.made; objects = ap (λ w. w.attributes.made) c.dispatch.ensures.same; events = ap (λ w. w.events.made) c.dispatch.ensures.same })) gave refl refl) c.push.ensures.ok
+    let dispatched : GivesNone c.ready_new.new.w c.dispatch.new.self = elim [ Thread ↦ c.dispatch.ensures.threads.made | Object ↦ ap (λ w. w.attributes.made) c.dispatch.ensures.same | Event ↦ ap (λ w. w.events.made) c.dispatch.ensures.same ] in
+    on_ok_weaker c.push.result (λ tells. take_going _ _ inside c.next-t.result.0 nobody c.dispatch.ensures.whole (ap (λ w. w.scheduler.running) c.dispatch.ensures.same) (ap (λ w. w.scheduler.preferred) c.dispatch.ensures.same) (λ k. dispatched k ∙ gives_rest _ _ c.ready_new.ensures.scheduler c.ready_new.ensures.made k) gave refl refl) c.push.ensures.ok
 
 pub invariant_of-self : goal.invariant_of-self
 invariant_of-self g c = λ some.

@@ -1,4 +1,5 @@
-use Rattle.std.proofs.Common.{ap, sym, subst, refl, rules, SFits, w64, to_z-of_z}
+use Rattle.std.proofs.Common.{ap, sym, subst, refl, rules, arith, SFits, w64, to_z-of_z}
+use Rattle.pth_world.specs.Numbering.{Thread}
 use Rattle.pth_world.specs.Whole.{Whole}
 use Rattle.pth_world.specs.World.{WorldOf}
 use Rattle.pth_world.proofs.Slots.{prio_fits}
@@ -11,6 +12,9 @@ use Rattle.pth_world.proofs.world.World.spawn.Goals as goal
 
 pub add-requires-clause-spare : goal.add-requires-clause-spare
 add-requires-clause-spare g c = spare_nothing c.args.self.now c.requires.whole
+
+pub add-requires-clause-few : goal.add-requires-clause-few
+add-requires-clause-few g c = let few = c.requires.few Thread in omega arith
 
 pub returns-in_err-t-clause-whole_still : goal.returns-in_err-t-clause-whole_still
 returns-in_err-t-clause-whole_still g c = on_err _ (subst Whole (sym c.add.ensures.same) (same_whole c.args.self.now _ c.in_err-t.ensures.err c.requires.whole))
