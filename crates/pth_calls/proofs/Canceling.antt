@@ -21,8 +21,10 @@ use Rattle.pth_model.specs.Resources.{told, answer_told}
 use Rattle.pth_model.specs.Row.{Attempt, refuses, unless_refused, ◌trying◌}
 use Rattle.pth_model.specs.Rows.{row_of}
 use Rattle.pth_model.specs.State.{State, Control}
-use Rattle.pth_model.specs.Transition.{Piece, Went, nothing, silent, tells, tid, ◌and_then◌, ◌and_next◌}
-use Rattle.pth_model.specs.Verdict.{Verdict, Says, refused, says, ◌when◌otherwise◌}
+use Rattle.pth_model.specs.Transition.{Piece, Went, nothing, silent, tells, tid, ◌and_then◌, ◌and_next◌, ◌and_finally◌}
+use Rattle.pth_model.specs.declared.verdict.Verdict.{Verdict}
+use Rattle.pth_model.specs.declared.verdict.Verdict.TheVariants.{Says}
+use Rattle.pth_model.specs.Verdict.{refused, says, ◌when◌otherwise◌}
 use Rattle.pth_threads.specs.declared.entry.Change.TheVariants as change
 use Rattle.pth_threads.specs.declared.entry.Entry.{Entry}
 use Rattle.pth_world.specs.Leading.{IsAnswered, IsQuiet}
@@ -96,7 +98,7 @@ module _ {P S H : Type 0} (f : P → Functions S H) (s : State P S H) (t : ℕ) 
   asked_as c a x is = ap (λ (y : Attempt P S H). begun_as f t c y s) is
 
   refused_as : (c : Call) (e : Errno) (x : Attempt P S H) → x.verdict ≡ refused e → begun_as f t c x s ≡ not_asked c e
-  refused_as c e x is = ap (λ (v : Verdict). begun_by f t c v (unless_refused (refuses v) x.effect) s) is
+  refused_as c e x is = ap (λ (v : Verdict). (unless_refused (refuses v) x.effect and_finally begun_by f t c v) s) is
 
   pub cancel_begun : (n : ℤ) (a : Piece P S H) → (cancel f s t n).begin ≡ (says 1 trying a) → begun f t (call.Cancel n) s ≡ asked (call.Cancel n) a
   unfolding begun row_of

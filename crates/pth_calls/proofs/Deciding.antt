@@ -6,7 +6,9 @@ use Rattle.pth_base.specs.declared.errno.Errno.{Errno}
 use Rattle.pth_model.specs.Row.{Row, refuses, unless_refused, effect_of, ◌trying◌, ◌changing◌}
 use Rattle.pth_model.specs.State.{State, Control}
 use Rattle.pth_model.specs.Transition.{Change, changes, nothing}
-use Rattle.pth_model.specs.Verdict.{Verdict, Says, says, by_result}
+use Rattle.pth_model.specs.declared.verdict.Verdict.{Verdict}
+use Rattle.pth_model.specs.declared.verdict.Verdict.TheVariants.{Says}
+use Rattle.pth_model.specs.Verdict.{says, by_result}
 use Rattle.pth_world.specs.Leading.{Changed, IsAnswered}
 use Rattle.pth_world.specs.Shows.{Shows, StandsFor, resources_of}
 use Rattle.pth_world.proofs.Telling.{has_still}

@@ -20,7 +20,8 @@ use Rattle.pth_model.specs.EventHandling.{made_as, make_event}
 use Rattle.pth_model.specs.Row.{Row, Attempt}
 use Rattle.pth_model.specs.Rows.{row_of}
 use Rattle.pth_model.specs.State.{State}
-use Rattle.pth_model.specs.Verdict.{Says, says, by_result}
+use Rattle.pth_model.specs.declared.verdict.Verdict.TheVariants.{Says}
+use Rattle.pth_model.specs.Verdict.{says, by_result}
 use Rattle.pth_world.specs.Leading.{IsAnswered}
 use Rattle.pth_world.specs.World.{WorldOf}
 use Rattle.pth_world.proofs.Events.{kept_shows}

@@ -17,8 +17,9 @@ use Rattle.pth_model.specs.Resources.{told, answer_told}
 use Rattle.pth_model.specs.Row.{unbuilt, effect_of}
 use Rattle.pth_model.specs.Rows.{row_of}
 use Rattle.pth_model.specs.State.{State}
-use Rattle.pth_model.specs.Transition.{Went, tid, tells, ◌and_then◌, ◌and_next◌}
-use Rattle.pth_model.specs.Verdict.{Verdict, Says}
+use Rattle.pth_model.specs.Transition.{Went, tid, tells, ◌and_then◌, ◌and_next◌, ◌and_finally◌}
+use Rattle.pth_model.specs.declared.verdict.Verdict.{Verdict}
+use Rattle.pth_model.specs.declared.verdict.Verdict.TheVariants.{Says}
 use Rattle.pth_world.specs.World.{WorldOf}
 use Rattle.pth_world.specs.Shows.{StandsFor}
 use Rattle.pth_world.specs.Leading.{Leads, IsTold, IsQuiet}
@@ -149,7 +150,7 @@ module _ {P S H : Type 0} (f : P → Functions S H) (s : State P S H) (t : ℕ) 
   answered c a = (effect_of (row_of f s t c).begin and_then tells (Answered (tid t) c a) and_next next.Done a) s
 
   pub begun_answered : (c : Call) (a : Answer) → is_plain c ≡ true → (row_of f s t c).begin.verdict ≡ Says a → begun f t c s ≡ answered c a
-  begun_answered c a plain is = begun_plain c plain ∙ ap (λ (v : Verdict). begun_by f t c v (effect_of (row_of f s t c).begin) s) is
+  begun_answered c a plain is = begun_plain c plain ∙ ap (λ (v : Verdict). (effect_of (row_of f s t c).begin and_finally begun_by f t c v) s) is
 
   pub answered_leads : (w v : WorldOf P S H) (c : Call) (a : Answer) (old new : List Mark) → StandsFor w s → IsTold w v (Answered (tid t) c a) a (λ u. (row_of f u t c).begin) → new ≡ old ++ Answered (tid t) c a ∷ [] → Leads v old new (answered c a).told
   answered_leads w v c a old new st is appended = record {

@@ -8,7 +8,7 @@ use Rattle.pth_threads.specs.declared.entry.NewThread.{NewThread}
 use Rattle.pth_numbered.specs.Operands.{is_below}
 use Rattle.pth_model.specs.State.{Control, State}
 use Rattle.pth_model.specs.ThreadControl.{spawn, spawns, values_for, or_first, has_room}
-use Rattle.pth_model.specs.Verdict.{Says}
+use Rattle.pth_model.specs.declared.verdict.Verdict.TheVariants.{Says}
 use Rattle.pth_world.specs.World.{WorldOf}
 use Rattle.pth_world.specs.Shows.{Shows}
 

@@ -27,8 +27,10 @@ use Rattle.pth_model.specs.Resources.{Resources, Store, destructor_by, handler, 
 use Rattle.pth_model.specs.Row.{Attempt, effect_of, refuses, unless_refused, ◌trying◌}
 use Rattle.pth_model.specs.Rows.{row_of}
 use Rattle.pth_model.specs.State.{State, Control, once_limit}
-use Rattle.pth_model.specs.Transition.{Transition, Went, controlled, changes, nothing, silent, tells, tid, where_so, ◌and_then◌, ◌and_next◌}
-use Rattle.pth_model.specs.Verdict.{Verdict, Says, by_result, done, refused, says, ◌when◌otherwise◌}
+use Rattle.pth_model.specs.Transition.{Transition, Went, controlled, changes, nothing, silent, tells, tid, where_so, ◌and_then◌, ◌and_next◌, ◌and_finally◌}
+use Rattle.pth_model.specs.declared.verdict.Verdict.{Verdict}
+use Rattle.pth_model.specs.declared.verdict.Verdict.TheVariants.{Says}
+use Rattle.pth_model.specs.Verdict.{by_result, done, refused, says, ◌when◌otherwise◌}
 use Rattle.pth_numbered.specs.Operands.{number, is_below, is_zero}
 use Rattle.pth_store.specs.Cleanups.{PushedHandler, push_answer, top_taken, with_top}
 use Rattle.pth_store.specs.Keys.{created, deleted, key_create_answer, key_delete_answer, key_named, key_set_answer}
@@ -154,7 +156,7 @@ module _ {P S H : Type 0} (f : P → Functions S H) (s : State P S H) (t : ℕ) 
   abbrev pop_by : Option PushedHandler → Went P S H
   pop_by o =
       let x : Verdict = refused EINVAL when is_none o otherwise says 1 in
-      begun_by f t (call.CleanupPop v) x (unless_refused (refuses x) (where_so (not (is_zero v)) (runs_pushed f t o))) s
+      (unless_refused (refuses x) (where_so (not (is_zero v)) (runs_pushed f t o)) and_finally begun_by f t (call.CleanupPop v) x) s
 
   pub pop_refused : last_pushed f s t ≡ None → begun f t (call.CleanupPop v) s ≡ (tells (Answered (tid t) (call.CleanupPop v) (Fail EINVAL)) and_next next.Done (Fail EINVAL)) s
   unfolding begun row_of
@@ -205,7 +207,7 @@ module _ {P S H : Type 0} (f : P → Functions S H) (s : State P S H) (t : ℕ) 
 
   pub once_begun : (a : Answer) → (once f s t o h v).begin.verdict ≡ Says a → begun f t (call.Once o h v) s ≡ (effect_of (once f s t o h v).begin and_then tells (Answered (tid t) (call.Once o h v) a) and_next next.Done a) s
   unfolding begun row_of
-  once_begun a is = ap (λ (x : Verdict). begun_by f t (call.Once o h v) x (effect_of (once f s t o h v).begin) s) is
+  once_begun a is = ap (λ (x : Verdict). (effect_of (once f s t o h v).begin and_finally begun_by f t (call.Once o h v) x) s) is
 
   -- a row of pth_once says its count, or that there is no such control
   abbrev said_by : Bool → Answer

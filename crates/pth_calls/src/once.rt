@@ -7,7 +7,7 @@ ghost use Rattle.pth_model.specs.Calls.{begun};
 ghost use Rattle.pth_model.specs.Cleanups.{once as once_row};
 ghost use Rattle.pth_model.specs.Row.{effect_of};
 ghost use Rattle.pth_model.specs.State.{State};
-ghost use Rattle.pth_model.specs.Verdict.{Says};
+ghost use Rattle.pth_model.specs.declared.verdict.Verdict.TheVariants.{Says};
 ghost use Rattle.pth_world.specs.Frame.{Frame, runs_after, yields_after};
 ghost use Rattle.pth_world.specs.Leading.{Leads};
 ghost use Rattle.pth_world.specs.Numbering.{no_numbers};

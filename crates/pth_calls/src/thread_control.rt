@@ -16,7 +16,8 @@ ghost use Rattle.pth_model.specs.ThreadControl.{child_of as child_by_entry, valu
 ghost use Rattle.pth_base.specs.declared.answer.Answer.TheVariants.{Int};
 ghost use Rattle.pth_base.specs.declared.errno.Errno.TheVariants.{EINVAL};
 ghost use Rattle.pth_model.specs.Row.{effect_of};
-ghost use Rattle.pth_model.specs.Verdict.{Yields, refused};
+ghost use Rattle.pth_model.specs.declared.verdict.Verdict.TheVariants.{Yields};
+ghost use Rattle.pth_model.specs.Verdict.{refused};
 ghost use Rattle.pth_world.specs.Frame.{Frame, runs_after, yields_after};
 ghost use Rattle.pth_world.specs.Leading.{Leads, Changed, IsAnswered, IsQuiet};
 ghost use Rattle.pth_world.specs.Numbering.{HasNumbers, no_numbers, Thread, one_of};

@@ -16,7 +16,8 @@ use Rattle.pth_model.specs.Changes.{shares}
 use Rattle.pth_model.specs.Row.{refuses, unless_refused}
 use Rattle.pth_model.specs.State.{State}
 use Rattle.pth_model.specs.Transition.{changes, controlled, nothing, tells, tid, ◌and_then◌}
-use Rattle.pth_model.specs.Verdict.{Says, by_result, done}
+use Rattle.pth_model.specs.declared.verdict.Verdict.TheVariants.{Says}
+use Rattle.pth_model.specs.Verdict.{by_result, done}
 use Rattle.pth_store.specs.Keys.{key_named, with_key_value}
 use Rattle.pth_store.specs.Storing.{AnswersWithMemory}
 use Rattle.pth_base.specs.declared.answer.Answer.{Answer}

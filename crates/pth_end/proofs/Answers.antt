@@ -8,7 +8,8 @@ use Rattle.pth_model.specs.Resources.{told}
 use Rattle.pth_model.specs.State.{State}
 use Rattle.pth_model.specs.Transition.{Transition, Piece, Change, changes, tells, ◌and_then◌}
 use Rattle.pth_model.specs.Row.{Attempt, effect_of, refuses, unless_refused}
-use Rattle.pth_model.specs.Verdict.{Says, refused}
+use Rattle.pth_model.specs.declared.verdict.Verdict.TheVariants.{Says}
+use Rattle.pth_model.specs.Verdict.{refused}
 use Rattle.pth_world.specs.World.{WorldOf}
 use Rattle.pth_world.specs.Shows.{Shows, StandsFor, resources_of}
 use Rattle.pth_world.specs.Store.{store_of}

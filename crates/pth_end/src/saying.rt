@@ -2,7 +2,8 @@
 
 ghost use Rattle.std.specs.Prelude.{◌≡◌, IfOk};
 ghost use Rattle.pth_end.specs.Saying.{SaysRefusal};
-ghost use Rattle.pth_model.specs.Verdict.{Says, by_result, done as with_nothing};
+ghost use Rattle.pth_model.specs.declared.verdict.Verdict.TheVariants.{Says};
+ghost use Rattle.pth_model.specs.Verdict.{by_result, done as with_nothing};
 
 use pth_base::answer::Answer;
 use pth_base::errno::Errno;

@@ -194,8 +194,8 @@ module _ {P S H : Type 0} where
     arranges = λ x s may r. r;
     looked = λ s r. r;
     goes = λ t g s same r. r;
-    blocked = λ t c p s free may r. r;
-    waits_on = λ t w b s at r. r;
+    blocked = λ t c a s free may r. r;
+    waits_on = λ t a b s at names r. r;
     stopped = λ t s r. r;
     told = λ m s may r. told_apart s r m may;
   }

@@ -43,6 +43,7 @@ use Rattle.pth_threads.specs.declared.entry.Change as change_of_record
 use Rattle.pth_threads.specs.declared.entry.Change.TheVariants as change
 use Rattle.pth_threads.specs.declared.entry.Entry.{Entry}
 use Rattle.pth_threads.specs.declared.entry.NewThread.{NewThread}
+use Rattle.pth_model.specs.declared.awaits.Awaits.{Awaits}
 use Rattle.pth_model.specs.declared.blocked.Blocked.{Blocked}
 use Rattle.pth_model.specs.declared.destructors.Due.{Due}
 use Rattle.pth_model.specs.declared.destructors.Round.{Round}
@@ -54,7 +55,9 @@ use Rattle.pth_model.specs.Standing.{Standing}
 use Rattle.pth_model.specs.State.{State, Given, Scheduler, Turn, start, queue, now_of, clock_of}
 use Rattle.pth_model.specs.Transition.{Piece, Change, nothing, changes, tells, tells_each, tid, controlled, where_so, ◌and_then◌}
 use Rattle.pth_model.specs.Changes.{shares, uses, sets, goes_on, owing, is_blocked_by, enters, leaves_queue, raises_ready, makes, forgets, removes, adds_object, puts_object, with_threads, with_events, with_kernel, with_scheduler, moves_to, prefers, runs_now, blocked_in, blocked_of, or_nobody, entry_of, prio_of, queue_for, holders}
-use Rattle.pth_model.specs.Verdict.{Verdict, Pause, Says, Yields, Blocks, Ends, Kills, says, done, by_result}
+use Rattle.pth_model.specs.declared.verdict.Verdict.{Verdict}
+use Rattle.pth_model.specs.declared.verdict.Verdict.TheVariants.{Says, Yields, Blocks, Ends, Kills}
+use Rattle.pth_model.specs.Verdict.{says, done, by_result}
 use Rattle.pth_model.specs.Row.{unless_refused, refuses, effect_of}
 use Rattle.pth_model.specs.RingWaits.{claims, ring_given, stops_waiting, has_settled}
 use Rattle.pth_model.specs.Acts.{acts, acts_from, act_limit, answer_in, row_of_act, goes_on_after, runs_handler}
@@ -71,6 +74,7 @@ use Rattle.pth_model.specs.Calls.{begun, begun_by, blocks, gone_on, gone_on_wher
 use Rattle.pth_model.specs.Pass.{pass, looks, to_wake, woken, all_woken, is_ready_at, moment}
 use Rattle.pth_model.specs.Part.{rank_by, Part, Move, Take, Step, Close, Halt, part, part_by, next_part, chosen, readies, readies_all, readies_new, runs, dispatches, takes, takes_by, owes_after, steps, steps_on, steps_by, is_put_back, is_put_waiting, placed_by, is_placed, turn_ends, closes, moves, moves_by}
 use Rattle.pth_model.specs.Run.{parts, run}
+use Rattle.pth_laws.specs.Waits.{Names}
 use Rattle.pth_laws.proofs.Living.{true_false}
 use Rattle.pth_laws.proofs.Allowed.{IsFree, IsToTell, MayWait, IsAllowed, IsAllowedAgain, allowed, allowed_again}
 
@@ -128,8 +132,8 @@ pub record KeptAlong {P S H : Type 0} (f : P → Functions S H) (R : State P S H
   pub looked : (s : State P S H) → R s → R (controlled looks s)
   -- how far threads are, and what blocks them
   pub goes : (t : ℕ) (g : Progress S → Progress S) (s : State P S H) → ((p : Progress S) → (g p).blocked ≡ p.blocked) → R s → R (controlled (goes_on t g) s)
-  pub blocked : (t : ℕ) (c : Call) (p : Pause) (s : State P S H) → IsFree t s → MayWait t c s → R s → R (controlled (λ k. blocks t c p (claims t (ring_given c) k)) s)
-  pub waits_on : (t w : ℕ) (b : Blocked) (s : State P S H) → blocked_of s.control t ≡ Some b → R s → R (controlled (is_blocked_by t (Some (record b { written = w }))) s)
+  pub blocked : (t : ℕ) (c : Call) (a : Awaits) (s : State P S H) → IsFree t s → MayWait t c a s → R s → R (controlled (λ k. blocks t c a (claims t (ring_given c) k)) s)
+  pub waits_on : (t : ℕ) (a : Awaits) (b : Blocked) (s : State P S H) → blocked_of s.control t ≡ Some b → Names b.call a → R s → R (controlled (is_blocked_by t (Some (record b { awaits = a }))) s)
   pub stopped : (t : ℕ) (s : State P S H) → R s → R (controlled (stops_waiting t) s)
   -- a mark is told
   pub told : (m : Mark) (s : State P S H) → IsToTell m s → R s → R (tells m s).state
@@ -435,13 +439,12 @@ module _ {P S H : Type 0} (f : P → Functions S H) (R : State P S H → Type 0)
     does_keeps s (call.Once o h v) free e r = once_keeps (number o) (handler h) v (not (s.control.used (number o))) s r
     does_keeps s c free e r = r
 
-    -- as the verdict says, after the effect
-    begun_by_keeps : (c : Call) (v : Verdict) (a : Piece P S H) (s : State P S H) → IsAllowed t c v (a s).state → R (a s).state → R (begun_by f t c v a s).told.state
-    begun_by_keeps c (Says x) a s may r = kept.told (mark.Answered (tid t) c x) (a s).state may r
-    begun_by_keeps c (Yields x) a s may r = kept.told (mark.Answered (tid t) c x) (a s).state may r
-    begun_by_keeps c (Blocks p) a s may r = kept.told (mark.Waits (tid t) c) (controlled (λ k. blocks t c p (claims t (ring_given c) k)) (a s).state) tt (kept.blocked t c p (a s).state may.0 may.1 r)
-    begun_by_keeps c (Ends v) a s may r = ending_keeps t v (a s).state r
-    begun_by_keeps c Kills a s may r = kept.told (mark.Answered (tid t) c (answer.Int (pos 1))) (a s).state may r
+    begun_by_keeps : (c : Call) (v : Verdict) (s : State P S H) → IsAllowed t c v s → R s → R (begun_by f t c v s).told.state
+    begun_by_keeps c (Says x) s may r = kept.told (mark.Answered (tid t) c x) s may r
+    begun_by_keeps c (Yields x) s may r = kept.told (mark.Answered (tid t) c x) s may r
+    begun_by_keeps c (Blocks a) s may r = kept.told (mark.Waits (tid t) c) (controlled (λ k. blocks t c a (claims t (ring_given c) k)) s) tt (kept.blocked t c a s may.0 may.1 r)
+    begun_by_keeps c (Ends v) s may r = ending_keeps t v s r
+    begun_by_keeps c Kills s may r = kept.told (mark.Answered (tid t) c (answer.Int (pos 1))) s may r
 
     begun_keeps : (c : Call) (s : State P S H) → IsFree t s → R s → R (begun f t c s).told.state
     unfolding begun
@@ -449,22 +452,22 @@ module _ {P S H : Type 0} (f : P → Functions S H) (R : State P S H → Type 0)
     begun_keeps (call.Note v) s free r = kept.told (mark.Noted (tid t) v) s tt r
     begun_keeps c s free r =
         let a = (row_of f s t c).begin in
-        begun_by_keeps c a.verdict (effect_of a) s (allowed f t s c free) (unless_keeps s (refuses a.verdict) a.effect (does_keeps s c free) r)
+        begun_by_keeps c a.verdict (effect_of a s).state (allowed f t s c free) (unless_keeps s (refuses a.verdict) a.effect (does_keeps s c free) r)
 
     -- ---- a call is tried again
 
-    ctrl_again : (s : State P S H) (x : Query) (b : Blocked) → KeepsAt s ((ctrl s x).again b).effect
+    ctrl_again : (s : State P S H) (x : Query) (b : Awaits) → KeepsAt s ((ctrl s x).again b).effect
     ctrl_again s query.Threads b r = r
     ctrl_again s x b r = r
 
-    made_again : (s : State P S H) (spec : Option EventSpec) (v : EventSpec → Verdict) (g : EventSpec → Change P S H) (b : Blocked) → KeepsAt s ((made_as spec v g).again b).effect
+    made_again : (s : State P S H) (spec : Option EventSpec) (v : EventSpec → Verdict) (g : EventSpec → Change P S H) (b : Awaits) → KeepsAt s ((made_as spec v g).again b).effect
     made_again s None v g b r = r
     made_again s (Some x) v g b r = r
 
-    make_again : (s : State P S H) (l : EvLine) (b : Blocked) → KeepsAt s ((make_event s l).again b).effect
+    make_again : (s : State P S H) (l : EvLine) (b : Awaits) → KeepsAt s ((make_event s l).again b).effect
     make_again s l b r = made_again s (spec_of l) (λ x. by_result says (make_answer s.control.events)) (λ x. with_events (alone x)) b r
 
-    does_again : (s : State P S H) (c : Call) (b : Blocked) → KeepsAt s ((row_of f s t c).again b).effect
+    does_again : (s : State P S H) (c : Call) (b : Awaits) → KeepsAt s ((row_of f s t c).again b).effect
     unfolding row_of
     does_again s (call.Ctrl x) b r = ctrl_again s x b r
     does_again s (call.EvFd goals fd) b r = make_again s (line.Fd goals fd) b r
@@ -481,10 +484,14 @@ module _ {P S H : Type 0} (f : P → Functions S H) (R : State P S H → Type 0)
     does_again s (call.WriteEv d bytes x) b r = kept.timed _ s r
     does_again s (call.Accept d) b r = kept.timed _ s r
     does_again s (call.AcceptEv d x) b r = kept.timed _ s r
+    does_again s (call.Connect d) b r = kept.timed _ s r
+    does_again s (call.ConnectEv d x) b r = kept.timed _ s r
+    does_again s (call.Select i w x l) b r = kept.timed _ s r
+    does_again s (call.SelectEv i w x l e) b r = kept.timed _ s r
     does_again s (call.Join n) b r = joins_keep s (to_join s.control n) r
     does_again s c b r = r
 
-    come_keeps : (s : State P S H) (c : Call) (b : Blocked) (come : Bool) → KeepsAt s (effect_of (unless_settled come ((row_of f s t c).again b)))
+    come_keeps : (s : State P S H) (c : Call) (b : Awaits) (come : Bool) → KeepsAt s (effect_of (unless_settled come ((row_of f s t c).again b)))
     come_keeps s c b false r = unless_keeps s (refuses ((row_of f s t c).again b).verdict) ((row_of f s t c).again b).effect (λ e. does_again s c b) r
     come_keeps s c b true r = unless_keeps s (refuses (interrupted ((row_of f s t c).again b).verdict)) ((row_of f s t c).again b).effect (λ e. does_again s c b) r
 
@@ -494,7 +501,7 @@ module _ {P S H : Type 0} (f : P → Functions S H) (R : State P S H → Type 0)
     tried_by_keeps : (b : Blocked) (v : Verdict) (s : State P S H) → IsAllowedAgain t b.call b v s → R s → R (tried_by f t b v s).told.state
     tried_by_keeps b (Says x) s may r = answers_keep b.call x s may r
     tried_by_keeps b (Yields x) s may r = answers_keep b.call x s may r
-    tried_by_keeps b (Blocks p) s may r = kept.told (mark.Waits (tid t) b.call) (controlled (is_blocked_by t (Some (record b { written = p.written }))) s) tt (kept.waits_on t p.written b s may r)
+    tried_by_keeps b (Blocks a) s may r = kept.told (mark.Waits (tid t) b.call) (controlled (is_blocked_by t (Some (record b { awaits = a }))) s) tt (kept.waits_on t a b s may.0 may.1 r)
     tried_by_keeps b (Ends v) s may r = ending_keeps t v s r
     tried_by_keeps b Kills s may r = answers_keep b.call (answer.Int (pos 1)) s may r
 
@@ -502,8 +509,8 @@ module _ {P S H : Type 0} (f : P → Functions S H) (R : State P S H → Type 0)
     tried_again_keeps s None at r = r
     tried_again_keeps s (Some b) at r =
         let come = has_settled s.control.events (ring_given b.call) in
-        let a = unless_settled come ((row_of f s t b.call).again b) in
-        tried_by_keeps b a.verdict (effect_of a s).state (allowed_again f t s b.call b come at) (come_keeps s b.call b come r)
+        let a = unless_settled come ((row_of f s t b.call).again b.awaits) in
+        tried_by_keeps b a.verdict (effect_of a s).state (allowed_again f t s b.call b come at) (come_keeps s b.call b.awaits come r)
 
     canceled_keeps : (o : Option Blocked) (s : State P S H) → R s → R (canceled_by f t o s).told.state
     canceled_keeps None s r = r

@@ -21,9 +21,9 @@ use Rattle.pth_threads.specs.declared.entry.NewThread.{NewThread}
 use Rattle.pth_model.specs.declared.blocked.Blocked.{Blocked}
 use Rattle.pth_model.specs.declared.progress.Progress.{Progress}
 use Rattle.pth_model.specs.Resources.{Resources, answer_told, act_told, wait_told, on_one, on_int, on_msg, retaken, let_go}
-use Rattle.pth_model.specs.State.{Control, Threads, now_of}
-use Rattle.pth_model.specs.Calls.{blocks, blocked_from}
-use Rattle.pth_model.specs.Verdict.{Pause}
+use Rattle.pth_model.specs.State.{Control, Threads}
+use Rattle.pth_model.specs.Calls.{blocks}
+use Rattle.pth_model.specs.declared.awaits.Awaits.{Awaits}
 use Rattle.pth_model.specs.Changes.{sets, enters, leaves_queue, makes, forgets, removes, goes_on, blocking, is_blocked_by, or_nobody, entry_of, blocked_in, blocked_of, queue_for}
 use Rattle.pth_model.specs.Ending.{is_dead_with, leaves, stops_running}
 use Rattle.pth_model.specs.Living.{is_dead, lives}
@@ -164,12 +164,12 @@ module _ {P S H : Type 0} (t : ℕ) where
   claim_threads (Some e) k = refl
 
   -- a call begins to block t
-  pub awaits_begun : (w v : ℕ → Bool) (c : Call) (y : Pause) (e : Option ℤ) (k : Control P S H) (p : Progress S) → k.threads.progress t ≡ Some p → v t ≡ is_await c → lives (k.threads.known t) ≡ true → v t ≡ false → ((u : ℕ) → u ≢ t → v u ≡ w u) → HasAwaits w k
+  pub awaits_begun : (w v : ℕ → Bool) (c : Call) (y : Awaits) (e : Option ℤ) (k : Control P S H) (p : Progress S) → k.threads.progress t ≡ Some p → v t ≡ is_await c → lives (k.threads.known t) ≡ true → v t ≡ false → ((u : ℕ) → u ≢ t → v u ≡ w u) → HasAwaits w k
       → HasAwaits v (blocks t c y (claims t e k))
   awaits_begun w v c y e k p on fits alive none others has =
       let j = claims t e k in
       let same = claim_threads e k in
-      awaits_block w v (Some (blocked_from (now_of j) c y)) j p (ap (λ (x : Threads S). x.progress t) same ∙ on) fits (λ awaiting. ap (λ (x : Threads S). lives (x.known t)) same ∙ alive) none others (awaits_claim w e k has)
+      awaits_block w v (Some (record { call = c; awaits = y })) j p (ap (λ (x : Threads S). x.progress t) same ∙ on) fits (λ awaiting. ap (λ (x : Threads S). lives (x.known t)) same ∙ alive) none others (awaits_claim w e k has)
 
   awaits_back : (w : ℕ → Bool) (e : Option ℤ) (k : Control P S H) → HasAwaits w k → HasAwaits w (gives_back e k)
   unfolding gives_back

@@ -15,16 +15,16 @@ use Rattle.pth_base.proofs.Chains.{stands_or_not}
 use Rattle.pth_ring.proofs.Lists.{ring_holds-in, ring_holds-out}
 use Rattle.pth_ring.proofs.Turns.{StandsIn-turned}
 use Rattle.pth_threads.specs.declared.entry.Change as change_of_record
+use Rattle.pth_model.specs.declared.awaits.Awaits.{Awaits}
 use Rattle.pth_model.specs.declared.blocked.Blocked.{Blocked}
 use Rattle.pth_model.specs.declared.progress.Progress.{Progress}
 use Rattle.pth_model.specs.State.{State, Control, Given, start, main, now_of}
 use Rattle.pth_model.specs.Transition.{controlled, tid}
 use Rattle.pth_model.specs.Changes.{sets, goes_on, blocking, is_blocked_by, makes, forgets, blocked_in, blocked_of}
-use Rattle.pth_model.specs.Verdict.{Pause}
 use Rattle.pth_model.specs.RingWaits.{claimant, claimant_by, claims, gives_back, ring_given, ring_held, stops_waiting, awaited_events}
 use Rattle.pth_model.specs.ThreadControl.{values_for, or_first}
 use Rattle.pth_model.specs.LibraryControl.{vanish_all_but}
-use Rattle.pth_model.specs.Calls.{blocks, blocked_from}
+use Rattle.pth_model.specs.Calls.{blocks}
 use Rattle.pth_model.specs.Looks.{looked_at}
 use Rattle.pth_model.specs.Pass.{looks, waiting}
 use Rattle.pth_model.specs.Run.{run}
@@ -255,17 +255,17 @@ module _ {P S H : Type 0} where
   not_waiting s a there free r u e h same =
       none_some u (sym (unclaimed_in s.control.events a a free (r.circles.here a there)) ∙ ap (claimant s.control.events) (sym same) ∙ r.held u e h)
 
-  fits_blocked : (t : ℕ) (c : Call) (p : Pause) (s : State P S H) → MayWait t c s → FitsIn s → FitsIn (controlled (λ k. blocks t c p (claims t (ring_given c) k)) s)
+  fits_blocked : (t : ℕ) (c : Call) (a : Awaits) (s : State P S H) → MayWait t c a s → FitsIn s → FitsIn (controlled (λ k. blocks t c a (claims t (ring_given c) k)) s)
   unfolding claims goes_on
-  fits_blocked t c p s may r = by_ring (ring_given c) refl
+  fits_blocked t c a s may r = by_ring (ring_given c) refl
     where
       k : Control P S H
       k = s.control
 
       b : Blocked
-      b = blocked_from (now_of k) c p
+      b = record { call = c; awaits = a }
 
-      by_ring : (e : Option ℤ) → ring_given c ≡ e → FitsIn (controlled (λ j. blocks t c p (claims t e j)) s)
+      by_ring : (e : Option ℤ) → ring_given c ≡ e → FitsIn (controlled (λ j. blocks t c a (claims t e j)) s)
       by_ring None given = fits_fewer k.events (held_in k) r _ (λ u e h. by_none u e (waits_after k t (Some b) u e h))
         where
           by_none : (u e : ℕ) → ((u ≡ t) × (event_held (Some b) ≡ Some e)) ⊎ ((u ≢ t) × (held_in k u ≡ Some e)) → held_in k u ≡ Some e
@@ -321,8 +321,8 @@ module _ {P S H : Type 0} where
     arranges = λ q s may r. fits_arranged s.control.events (held_in s.control) r q may;
     looked = λ s r. fits_looked s r;
     goes = λ t g s same r. fits_goes t g s (λ p at. ap event_held (same p)) r;
-    blocked = λ t c p s free may r. fits_blocked t c p s may r;
-    waits_on = λ t w b s at r. fits_goes t (blocking (Some (record b { written = w }))) s (λ p here. sym (ap event_held (sym (ap blocked_in here) ∙ at))) r;
+    blocked = λ t c a s free may r. fits_blocked t c a s may r;
+    waits_on = λ t a b s at names r. fits_goes t (blocking (Some (record b { awaits = a }))) s (λ p here. sym (ap event_held (sym (ap blocked_in here) ∙ at))) r;
     stopped = λ t s r. fits_stopped t s r;
     told = λ m s may r. r;
   }

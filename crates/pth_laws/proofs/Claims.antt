@@ -24,8 +24,8 @@ use Rattle.pth_model.specs.Changes.{sets, enters, leaves_queue, makes, forgets, 
 use Rattle.pth_model.specs.Living.{is_dead, lives}
 use Rattle.pth_model.specs.RingWaits.{claimant, claimant_by, claims, gives_back, stops_waiting, ring_held, ring_given, awaited_events}
 use Rattle.pth_model.specs.ThreadControl.{spawns, suspends, resumes, returns_to}
-use Rattle.pth_model.specs.Calls.{blocks, blocked_from}
-use Rattle.pth_model.specs.Verdict.{Pause}
+use Rattle.pth_model.specs.Calls.{blocks}
+use Rattle.pth_model.specs.declared.awaits.Awaits.{Awaits}
 use Rattle.pth_model.specs.Looks.{looked_at}
 use Rattle.pth_model.specs.Pass.{looks, waiting}
 use Rattle.pth_model.proofs.Walks.{KeptByCalls}
@@ -196,33 +196,33 @@ module _ {P S H : Type 0} (t : ℕ) where
       kept = put_by (λ p. blocked_in p ≡ blocked_of k u) k.threads.progress t (option_map g (k.threads.progress t)) u (λ here. by_progress (k.threads.progress t) ∙ ap (blocked_of k) (sym here)) (λ apart. refl)
 
   -- a call begins to block t
-  pub claims_block : (c : Call) (y : Pause) (k : Control P S H) (p : Progress S) → k.threads.progress t ≡ Some p → p.blocked ≡ None → lives (k.threads.known t) ≡ true → HasClaims k → HasClaims (blocks t c y (claims t (ring_given c) k))
+  pub claims_block : (c : Call) (y : Awaits) (k : Control P S H) (p : Progress S) → k.threads.progress t ≡ Some p → p.blocked ≡ None → lives (k.threads.known t) ≡ true → HasClaims k → HasClaims (blocks t c y (claims t (ring_given c) k))
   unfolding claims goes_on
   claims_block c y k p on free alive has = by_ring (ring_given c) refl
     where
-      held : Blocked → Progress S → Progress S
-      held b x = blocking (Some b) x
+      held : Progress S → Progress S
+      held = blocking (Some (record { call = c; awaits = y }))
 
-      old : (b : Blocked) (e u : ℕ) → claimant k.events e ≡ Some u → (lives (k.threads.known u) ≡ true) × (event_held (blocked_of (goes_on t (held b) k) u) ≡ Some e)
-      old b e u h =
+      old : (e u : ℕ) → claimant k.events e ≡ Some u → (lives (k.threads.known u) ≡ true) × (event_held (blocked_of (goes_on t held k) u) ≡ Some e)
+      old e u h =
           let apart : u ≢ t = λ same. no_held e (sym (ap (λ i. event_held (blocked_of k i)) same ∙ ap (λ z. event_held (blocked_in z)) on ∙ ap event_held free) ∙ (has e u h).1) in
-          ((has e u h).0, ap event_held (apart_progress (held b) k u apart) ∙ (has e u h).1)
+          ((has e u h).0, ap event_held (apart_progress held k u apart) ∙ (has e u h).1)
 
       by_ring : (r : Option ℤ) → ring_given c ≡ r → HasClaims (blocks t c y (claims t r k))
-      by_ring None none e u h = old (blocked_from (now_of k) c y) e u h
+      by_ring None none e u h = old e u h
       by_ring (Some x) given e u h = by_claim (claimed_at k.events (number x) t (now_of k) e u h)
         where
-          by_claim : ((e ≡ number x) × (u ≡ t)) ⊎ (claimant k.events e ≡ Some u) → (lives (k.threads.known u) ≡ true) × (event_held (blocked_of (goes_on t (held (blocked_from (now_of k) c y)) k) u) ≡ Some e)
-          by_claim (inr before) = old (blocked_from (now_of k) c y) e u before
-          by_claim (inl now) = (ap (λ i. lives (k.threads.known i)) now.1 ∙ alive, ap (λ i. event_held (blocked_of (goes_on t (held (blocked_from (now_of k) c y)) k) i)) now.1 ∙ ap (λ z. event_held (blocked_in z)) (own_progress (held (blocked_from (now_of k) c y)) k p on) ∙ ap (option_map number) given ∙ ap Some (sym now.0))
+          by_claim : ((e ≡ number x) × (u ≡ t)) ⊎ (claimant k.events e ≡ Some u) → (lives (k.threads.known u) ≡ true) × (event_held (blocked_of (goes_on t held k) u) ≡ Some e)
+          by_claim (inr before) = old e u before
+          by_claim (inl now) = (ap (λ i. lives (k.threads.known i)) now.1 ∙ alive, ap (λ i. event_held (blocked_of (goes_on t held k) i)) now.1 ∙ ap (λ z. event_held (blocked_in z)) (own_progress held k p on) ∙ ap (option_map number) given ∙ ap Some (sym now.0))
 
-  -- it blocks t on, with another count
-  pub claims_wait_on : (b : Blocked) (w : ℕ) (k : Control P S H) (p : Progress S) → k.threads.progress t ≡ Some p → p.blocked ≡ Some b → HasClaims k → HasClaims (is_blocked_by t (Some (record b { written = w })) k)
+  -- it blocks t on, and t waits for this
+  pub claims_wait_on : (b : Blocked) (w : Awaits) (k : Control P S H) (p : Progress S) → k.threads.progress t ≡ Some p → p.blocked ≡ Some b → HasClaims k → HasClaims (is_blocked_by t (Some (record b { awaits = w })) k)
   unfolding goes_on
   claims_wait_on b w k p on blocked has e u h = ((has e u h).0, kept ∙ (has e u h).1)
     where
       now : Blocked
-      now = record b { written = w }
+      now = record b { awaits = w }
 
       kept : event_held (blocked_in (put k.threads.progress t (option_map (blocking (Some now)) (k.threads.progress t)) u)) ≡ event_held (blocked_of k u)
       kept = put_by (λ z. event_held (blocked_in z) ≡ event_held (blocked_of k u)) k.threads.progress t (option_map (blocking (Some now)) (k.threads.progress t)) u

@@ -16,7 +16,8 @@ use Rattle.pth_lock.specs.Objects.{object_limit, object_named, is_object}
 use Rattle.pth_lock.specs.Mutexes.{Mutex, has, is_anothers, owner_of, levels_of, level_limit, release_answer}
 use Rattle.pth_lock.specs.RwLocks.{LockTables, holds, may_enter, is_held}
 use Rattle.pth_store.specs.Keys.{Tables, free_key, keys_from, key_limit}
-use Rattle.pth_model.specs.declared.blocked.Blocked.{Blocked}
+use Rattle.pth_model.specs.declared.awaits.Awaits.{Awaits}
+use Rattle.pth_model.specs.declared.awaits.Awaits.TheVariants as awaits
 use Rattle.pth_model.specs.Acts.{answer_in}
 use Rattle.pth_model.specs.Calls.{unless_settled}
 use Rattle.pth_model.specs.Resources.{Resources}
@@ -24,7 +25,9 @@ use Rattle.pth_model.specs.RingWaits.{extra_ring, is_no_ring, is_claimed_ring}
 use Rattle.pth_model.specs.Rows.{row_of}
 use Rattle.pth_model.specs.State.{State}
 use Rattle.pth_model.specs.Transition.{Piece, silent, tid}
-use Rattle.pth_model.specs.Verdict.{Verdict, Says, Yields, Blocks, Ends, Kills, refused, says, waits, done, by_result, taken_or, ◌when◌otherwise◌}
+use Rattle.pth_model.specs.declared.verdict.Verdict.{Verdict}
+use Rattle.pth_model.specs.declared.verdict.Verdict.TheVariants.{Says, Yields, Blocks, Ends, Kills}
+use Rattle.pth_model.specs.Verdict.{refused, says, done, by_result, taken_or, ◌when◌otherwise◌}
 use Rattle.pth_laws.proofs.Book.{Book}
 use Rattle.pth_laws.proofs.Laws.{IsAnswerExclusive, IsExclusiveMark}
 use Rattle.pth_laws.proofs.Living.{true_false, both, not_true}
@@ -125,7 +128,7 @@ module _ (k : Resources) (t : ℕ) where
   init_exclusive m false true unknown was = tt
   init_exclusive m false false unknown was = (refl, record { known = below m unknown; new = was })
 
-  acquire_exclusive : (m v e : ℤ) (ring a b c d : Bool) → is_none (z m) ≡ a → is_anothers t (z m) ≡ c → IsVerdictExclusive k t (call.MutexAcquire m v e) (refused EINVAL when ring otherwise taken_or (if a then Err EINVAL else if b then Err EAGAIN else if c then Err EBUSY else Ok tt) (refused EBUSY when d otherwise waits))
+  acquire_exclusive : (m v e : ℤ) (ring a b c d : Bool) → is_none (z m) ≡ a → is_anothers t (z m) ≡ c → IsVerdictExclusive k t (call.MutexAcquire m v e) (refused EINVAL when ring otherwise taken_or (if a then Err EINVAL else if b then Err EAGAIN else if c then Err EBUSY else Ok tt) (refused EBUSY when d otherwise Blocks (awaits.Mutex m)))
   acquire_exclusive m v e true a b c d none other = tt
   acquire_exclusive m v e false true b c d none other = tt
   acquire_exclusive m v e false false true c d none other = tt
@@ -154,7 +157,7 @@ module _ (k : Resources) (t : ℕ) where
   lock_init_exclusive l false true unknown was = tt
   lock_init_exclusive l false false unknown was = (refl, record { known = below l unknown; new = was })
 
-  enter_exclusive : (l : ℤ) (write : Bool) (v e : ℤ) (ring a b c d : Bool) → not (x.initialised (object_named l)) ≡ a → holds x t (object_named l) ≡ b → not (may_enter x write (object_named l)) ≡ c → IsVerdictExclusive k t (call.RwAcquire l write v e) (refused EINVAL when ring otherwise taken_or (if a then Err EINVAL else if b then Err EDEADLK else if c then Err EBUSY else Ok tt) (refused EBUSY when d otherwise waits))
+  enter_exclusive : (l : ℤ) (write : Bool) (v e : ℤ) (ring a b c d : Bool) → not (x.initialised (object_named l)) ≡ a → holds x t (object_named l) ≡ b → not (may_enter x write (object_named l)) ≡ c → IsVerdictExclusive k t (call.RwAcquire l write v e) (refused EINVAL when ring otherwise taken_or (if a then Err EINVAL else if b then Err EDEADLK else if c then Err EBUSY else Ok tt) (refused EBUSY when d otherwise Blocks (awaits.Lock l write)))
   enter_exclusive l write v e true a b c d none held out = tt
   enter_exclusive l write v e false true b c d none held out = tt
   enter_exclusive l write v e false false true c d none held out = tt
@@ -192,7 +195,7 @@ module _ {P S H : Type 0} (f : P → Functions S H) (s : State P S H) (t : ℕ) 
 
   -- a call is tried again
 
-  acquires_again : (m v e : ℤ) (come b : Bool) (a : Piece P S H) → (not (is_none (z r t m)) && is_none (owner_of (z r t m))) ≡ b → IsVerdictExclusive r t (call.MutexAcquire m v e) (unless_settled come (record { verdict = says 1 when b otherwise waits; effect = a })).verdict
+  acquires_again : (m v e : ℤ) (come b : Bool) (a : Piece P S H) → (not (is_none (z r t m)) && is_none (owner_of (z r t m))) ≡ b → IsVerdictExclusive r t (call.MutexAcquire m v e) (unless_settled come (record { verdict = says 1 when b otherwise Blocks (awaits.Mutex m); effect = a })).verdict
   acquires_again m v e false true a is = let h = both _ _ is in (refl, record { initialised = some_of (z r t m) (not_true _ h.0); free = free_is t (z r t m) h.1 })
   acquires_again m v e true true a is = let h = both _ _ is in (refl, record { initialised = some_of (z r t m) (not_true _ h.0); free = free_is t (z r t m) h.1 })
   acquires_again m v e false false a is = refl
@@ -201,13 +204,13 @@ module _ {P S H : Type 0} (f : P → Functions S H) (s : State P S H) (t : ℕ) 
   abbrev locks : LockTables
   locks = r.store.rw_locks
 
-  enters_again : (l : ℤ) (write : Bool) (v e : ℤ) (come b : Bool) (a : Piece P S H) → ((locks.initialised (object_named l) && may_enter locks write (object_named l)) && not (holds locks t (object_named l))) ≡ b → IsVerdictExclusive r t (call.RwAcquire l write v e) (unless_settled come (record { verdict = says 1 when b otherwise waits; effect = a })).verdict
+  enters_again : (l : ℤ) (write : Bool) (v e : ℤ) (come b : Bool) (a : Piece P S H) → ((locks.initialised (object_named l) && may_enter locks write (object_named l)) && not (holds locks t (object_named l))) ≡ b → IsVerdictExclusive r t (call.RwAcquire l write v e) (unless_settled come (record { verdict = says 1 when b otherwise Blocks (awaits.Lock l write); effect = a })).verdict
   enters_again l write v e false true a is = let h = both _ _ is in let g = both _ _ h.0 in (refl, record { initialised = g.0; out = not_true _ h.1; enters = g.1 })
   enters_again l write v e true true a is = let h = both _ _ is in let g = both _ _ h.0 in (refl, record { initialised = g.0; out = not_true _ h.1; enters = g.1 })
   enters_again l write v e false false a is = refl
   enters_again l write v e true false a is = tt
 
-  pub again_exclusive : (c : Call) (b : Blocked) (come : Bool) → is_await c ≡ false → IsVerdictExclusive r t c (unless_settled come ((row_of f s t c).again b)).verdict
+  pub again_exclusive : (c : Call) (b : Awaits) (come : Bool) → is_await c ≡ false → IsVerdictExclusive r t c (unless_settled come ((row_of f s t c).again b)).verdict
   unfolding row_of
   again_exclusive (call.MutexAcquire m v e) b come other = acquires_again m v e come (not (is_none (z r t m)) && is_none (owner_of (z r t m))) silent refl
   again_exclusive (call.RwAcquire l write v e) b come other = enters_again l write v e come ((locks.initialised (object_named l) && may_enter locks write (object_named l)) && not (holds locks t (object_named l))) silent refl

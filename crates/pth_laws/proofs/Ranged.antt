@@ -157,8 +157,8 @@ module _ {P S H : Type 0} where
     arranges = λ x s may r. r;
     looked = λ s r. ranged_looked s r;
     goes = λ t g s same r. ranged_goes t g s r;
-    blocked = λ t c p s free may r. ranged_goes t _ (controlled (claims t (ring_given c)) s) (ranged_claimed t (ring_given c) s r);
-    waits_on = λ t w b s at r. ranged_goes t _ s r;
+    blocked = λ t c a s free may r. ranged_goes t _ (controlled (claims t (ring_given c)) s) (ranged_claimed t (ring_given c) s r);
+    waits_on = λ t a b s at names r. ranged_goes t _ s r;
     stopped = λ t s r. ranged_stopped t s r;
     told = λ m s may r. r;
   }

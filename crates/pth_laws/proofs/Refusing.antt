@@ -11,10 +11,12 @@ use Rattle.pth_model.specs.declared.next.Next.TheVariants as next
 use Rattle.pth_model.specs.Resources.{Resources, told, answer_told, retaken}
 use Rattle.pth_model.specs.State.{State}
 use Rattle.pth_model.specs.Transition.{Piece, tid}
-use Rattle.pth_model.specs.Verdict.{Verdict, Says, Yields, Blocks, Ends, Kills, refused}
-use Rattle.pth_model.specs.Row.{unless_refused, refuses}
+use Rattle.pth_model.specs.declared.verdict.Verdict.{Verdict}
+use Rattle.pth_model.specs.declared.verdict.Verdict.TheVariants.{Says, Yields, Blocks, Ends, Kills}
+use Rattle.pth_model.specs.Verdict.{refused}
+use Rattle.pth_model.specs.Row.{◌trying◌}
 use Rattle.pth_model.specs.Rows.{row_of}
-use Rattle.pth_model.specs.Calls.{begun, begun_by}
+use Rattle.pth_model.specs.Calls.{begun, begun_as}
 use Rattle.pth_laws.specs.Refusals.{IsRefusal}
 
 -- an error tells nothing of what threads have
@@ -27,7 +29,7 @@ said_fails : (x e : Errno) → Says (answer.Fail x) ≡ refused e → x ≡ e
 said_fails x e h = cc
 
 module _ {P S H : Type 0} (f : P → Functions S H) (t : ℕ) (e : Errno) where
-  as_refused : (c : Call) (v : Verdict) (a : Piece P S H) (s : State P S H) → v ≡ refused e → s.resources.awaits t ≡ false → IsRefusal t c e s (begun_by f t c v (unless_refused (refuses v) a) s)
+  as_refused : (c : Call) (v : Verdict) (a : Piece P S H) (s : State P S H) → v ≡ refused e → s.resources.awaits t ≡ false → IsRefusal t c e s (begun_as f t c (v trying a) s)
   unfolding told
   as_refused c (Says (answer.Fail x)) a s h awaits =
       let same = said_fails x e h in

@@ -24,15 +24,18 @@ use Rattle.pth_numbered.specs.Operands.{number, is_zero, is_below, ◌is◌}
 use Rattle.pth_store.specs.Cleanups.{PushedHandler, pop_answer}
 use Rattle.pth_threads.specs.declared.entry.Entry.{Entry}
 use Rattle.pth_model.specs.declared.blocked.Blocked.{Blocked}
+use Rattle.pth_model.specs.declared.awaits.Awaits.{Awaits}
 use Rattle.pth_model.specs.declared.next.Next.{Next}
 use Rattle.pth_model.specs.declared.next.Next.TheVariants as next
 use Rattle.pth_model.specs.Resources.{Resources, told, answer_told, wait_told, handler}
-use Rattle.pth_model.specs.Verdict.{Verdict, Pause, Says, Yields, Blocks, Ends, Kills, refused, says, ◌when◌otherwise◌}
+use Rattle.pth_model.specs.declared.verdict.Verdict.{Verdict}
+use Rattle.pth_model.specs.declared.verdict.Verdict.TheVariants.{Says, Yields, Blocks, Ends, Kills}
+use Rattle.pth_model.specs.Verdict.{refused, says, ◌when◌otherwise◌}
 use Rattle.pth_model.specs.State.{State, Control, main, once_limit}
 use Rattle.pth_model.specs.Transition.{Piece, Change, changes, tells, tid, controlled, silent, nothing, where_so, ◌and◌, ◌and_then◌}
 use Rattle.pth_model.specs.Changes.{goes_on, sets, removes, is_blocked_by, or_nobody, entry_of, prefers, uses, blocked_in, blocked_of}
 use Rattle.pth_model.specs.Living.{is_dead, lives, is_made}
-use Rattle.pth_model.specs.Row.{unless_refused, refuses, effect_of}
+use Rattle.pth_model.specs.Row.{unless_refused, refuses, effect_of, ◌trying◌}
 use Rattle.pth_model.specs.RingWaits.{claims, ring_given, stops_waiting, has_settled}
 use Rattle.pth_model.specs.LibraryControl.{ctrl, vanish_all_but}
 use Rattle.pth_model.specs.EventHandling.{spec_of, made_as}
@@ -44,7 +47,7 @@ use Rattle.pth_model.specs.Acts.{runs_handler}
 use Rattle.pth_model.specs.Cleanups.{runs_pushed, last_pushed}
 use Rattle.pth_model.specs.Ending.{ending, other_than}
 use Rattle.pth_model.specs.Rows.{row_of}
-use Rattle.pth_model.specs.Calls.{begun, begun_by, begun_as, blocks, answers, gone_on, gone_on_where, canceled_by, tried_again, tried_again_by, tried_by, unless_settled, interrupted, waits_by}
+use Rattle.pth_model.specs.Calls.{begun, begun_by, begun_as, blocks, answers, gone_on, gone_on_where, canceled_by, tried_again, tried_again_by, tried_by, unless_settled, interrupted}
 use Rattle.pth_model.specs.Part.{steps_on, steps_by, stepping}
 use Rattle.pth_model.specs.declared.progress.Progress.{Progress}
 use Rattle.pth_model.proofs.Placed.{seats}
@@ -201,7 +204,7 @@ module _ {P S H : Type 0} where
   ctrl_silent s u query.Threads = (refl, refl)
   ctrl_silent s u x = (refl, refl)
 
-  ctrl_silent_again : (s u : State P S H) (x : Query) (b : Blocked) → IsSilent ((ctrl s x).again b).effect u
+  ctrl_silent_again : (s u : State P S H) (x : Query) (b : Awaits) → IsSilent ((ctrl s x).again b).effect u
   ctrl_silent_again s u query.Threads b = (refl, refl)
   ctrl_silent_again s u x b = (refl, refl)
 
@@ -209,7 +212,7 @@ module _ {P S H : Type 0} where
   made_silent None v g u = (refl, refl)
   made_silent (Some spec) v g u = (refl, refl)
 
-  made_silent_again : (spec : Option EventSpec) (v : EventSpec → Verdict) (g : EventSpec → Change P S H) (b : Blocked) (u : State P S H) → IsSilent ((made_as spec v g).again b).effect u
+  made_silent_again : (spec : Option EventSpec) (v : EventSpec → Verdict) (g : EventSpec → Change P S H) (b : Awaits) (u : State P S H) → IsSilent ((made_as spec v g).again b).effect u
   made_silent_again None v g b u = (refl, refl)
   made_silent_again (Some spec) v g b u = (refl, refl)
 
@@ -227,7 +230,7 @@ module _ {P S H : Type 0} where
     effect_silent (call.Chain e l) quiet = made_silent (spec_of l) _ _ s
     effect_silent c quiet = (refl, refl)
 
-    again_silent : (c : Call) (b : Blocked) → IsSilent ((row_of f s t c).again b).effect s
+    again_silent : (c : Call) (b : Awaits) → IsSilent ((row_of f s t c).again b).effect s
     unfolding row_of
     again_silent (call.Ctrl x) b = ctrl_silent_again s s x b
     again_silent (call.EvFd goals fd) b = made_silent_again (spec_of (line.Fd goals fd)) _ _ b s
@@ -427,11 +430,11 @@ module _ {P S H : Type 0} (f : P → Functions S H) (n t : ℕ) (made : is_made 
   claims_seats None k = refl
   claims_seats (Some e) k = refl
 
-  going_blocks : (ended : ℕ → Bool) (k : Call) (y : Pause) (u : State P S H) → Going n ended t u.control → Going n ended t (blocks t k y (claims t (ring_given k) u.control))
+  going_blocks : (ended : ℕ → Bool) (k : Call) (y : Awaits) (u : State P S H) → Going n ended t u.control → Going n ended t (blocks t k y (claims t (ring_given k) u.control))
   unfolding goes_on
   going_blocks ended k y u going = subst (IsGoing n ended t) (sym (claims_seats (ring_given k) u.control)) going
 
-  blocks_telling : (k : Call) (y : Pause) (p : Progress S) (c : Book) (u : State P S H) → u.control.threads.progress t ≡ Some p → p.blocked ≡ None → is_await k ≡ false → Within c u → Telling (mark.Waits (tid t) k) c (controlled (λ j. blocks t k y (claims t (ring_given k) j)) u)
+  blocks_telling : (k : Call) (y : Awaits) (p : Progress S) (c : Book) (u : State P S H) → u.control.threads.progress t ≡ Some p → p.blocked ≡ None → is_await k ≡ false → Within c u → Telling (mark.Waits (tid t) k) c (controlled (λ j. blocks t k y (claims t (ring_given k) j)) u)
   unfolding told
   blocks_telling k y p c u on free other w =
       let alive = going_alive n c.ended t u.control w.going in
@@ -440,27 +443,18 @@ module _ {P S H : Type 0} (f : P → Functions S H) (n t : ℕ) (made : is_made 
       change_within (λ j. blocks t k y (claims t (ring_given k) j)) o c u (going_blocks c.ended k y u w.going) (claims_block t k y u.control p on free alive w.claims)
       (awaits_begun t u.resources.awaits o k y (ring_given k) u.control p on tells.0 alive (tells.0 ∙ other) tells.1 w.fits) w
 
-  -- as the verdict says, of a call whose effect tells nothing
-  verdict_walk : (k : Call) (v : Verdict) (a : Piece P S H) (p : Progress S) (c : Book) (s : State P S H) → is_quiet k ≡ true → kills k ≡ false → IsVerdictExclusive c.resources t k v → c.block ≡ Closed → p.blocked ≡ None → Walk n c (Quiet (Some p) c) (a s) → Walk n c (After (begun_by f t k v a s).next) (begun_by f t k v a s).told
-  verdict_walk k (Says x) a p c s quiet on exclusive closed free w =
-      walk_then n (Quiet (Some p) c) (After (next.Done x)) c a (tells (mark.Answered (tid t) k x)) s w
-      (λ d h. subst (λ (e : Book). Walk n e (After (next.Done x)) (tells (mark.Answered (tid t) k x) (a s).state)) (sym h.0) (answer_walk (next.Done x) k x c (a s).state (on_goes c.ended k x on) (no_pop c t k x quiet) exclusive (λ e u. done_stepped x e u) (answering k x c (a s).state on (idle_in c (a s).state p h.2 free h.1) h.1)))
-  verdict_walk k (Yields x) a p c s quiet on exclusive closed free w =
-      walk_then n (Quiet (Some p) c) (After (next.Yields x)) c a (tells (mark.Answered (tid t) k x)) s w
-      (λ d h. subst (λ (e : Book). Walk n e (After (next.Yields x)) (tells (mark.Answered (tid t) k x) (a s).state)) (sym h.0) (answer_walk (next.Yields x) k x c (a s).state (on_goes c.ended k x on) (no_pop c t k x quiet) exclusive (λ e u. yields_stepped x e u) (answering k x c (a s).state on (idle_in c (a s).state p h.2 free h.1) h.1)))
-  verdict_walk k (Blocks y) a p c s quiet on exclusive closed free w =
-      walk_then n (Quiet (Some p) c) (After next.Waits) c a (waits_by t k y) s w
-      (λ d h. subst (λ (e : Book). Walk n e (After next.Waits) (waits_by t k y (a s).state)) (sym h.0) (
-      let u = (a s).state in
+  -- as the verdict says, of a quiet call
+  verdict_walk : (k : Call) (v : Verdict) (p : Progress S) (c : Book) (s : State P S H) → is_quiet k ≡ true → kills k ≡ false → IsVerdictExclusive c.resources t k v → c.block ≡ Closed → s.control.threads.progress t ≡ Some p → p.blocked ≡ None → Within c s → Walk n c (After (begun_by f t k v s).next) (begun_by f t k v s).told
+  verdict_walk k (Says x) p c s quiet goes exclusive closed on free w = answer_walk (next.Done x) k x c s (on_goes c.ended k x goes) (no_pop c t k x quiet) exclusive (λ e u. done_stepped x e u) (answering k x c s goes (idle_in c s p on free w) w)
+  verdict_walk k (Yields x) p c s quiet goes exclusive closed on free w = answer_walk (next.Yields x) k x c s (on_goes c.ended k x goes) (no_pop c t k x quiet) exclusive (λ e u. yields_stepped x e u) (answering k x c s goes (idle_in c s p on free w) w)
+  verdict_walk k (Blocks y) p c s quiet goes exclusive closed on free w =
       let g : Change P S H = λ j. blocks t k y (claims t (ring_given k) j) in
-      let x = wait_walk k c (controlled g u) exclusive (blocks_telling k y p c u h.2 free exclusive h.1) in
-      record { law = x.law; post = x.post }))
-  verdict_walk k (Ends v) a p c s quiet on exclusive closed free w =
-      walk_then n (Quiet (Some p) c) (After (next.Ended v)) c a (ending f t v) s w
-      (λ d h. subst (λ (e : Book). Walk n e (After (next.Ended v)) (ending f t v (a s).state)) (sym h.0) (end_walk v c (a s).state (fresh_by t c.block closed) h.1))
-  verdict_walk k Kills a p c s quiet on exclusive closed free w =
-      walk_then n (Quiet (Some p) c) (After next.Killed) c a (tells (mark.Answered (tid t) k (answer.Int (pos 1)))) s w
-      (λ d h. subst (λ (e : Book). Walk n e (After next.Killed) (tells (mark.Answered (tid t) k (answer.Int (pos 1))) (a s).state)) (sym h.0) (answer_walk next.Killed k (answer.Int (pos 1)) c (a s).state (on_goes c.ended k (answer.Int (pos 1)) on) (no_pop c t k (answer.Int (pos 1)) quiet) exclusive (λ e u closed within. tt) (answering k (answer.Int (pos 1)) c (a s).state on (idle_in c (a s).state p h.2 free h.1) h.1)))
+      let x = wait_walk k c (controlled g s) exclusive (blocks_telling k y p c s on free exclusive w) in
+      record { law = x.law; post = x.post }
+  verdict_walk k (Ends v) p c s quiet goes exclusive closed on free w = end_walk v c s (fresh_by t c.block closed) w
+  verdict_walk k Kills p c s quiet goes exclusive closed on free w =
+      let a = answer.Int (pos 1) in
+      answer_walk next.Killed k a c s (on_goes c.ended k a goes) (no_pop c t k a quiet) exclusive (λ e u closed within. tt) (answering k a c s goes (idle_in c s p on free w) w)
 
   not_killing : (k : Call) → is_common k ≡ true → kills k ≡ false
   not_killing call.Kill common = absurd (true_false (sym common))
@@ -470,12 +464,14 @@ module _ {P S H : Type 0} (f : P → Functions S H) (n t : ℕ) (made : is_made 
   common_walk : (k : Call) (p : Progress S) (c : Book) (s : State P S H) → is_common k ≡ true → is_quiet k ≡ true → c.block ≡ Closed → s.control.threads.progress t ≡ Some p → p.blocked ≡ None → Within c s → Walk n c (After (begun_as f t k (row_of f s t k).begin s).next) (begun_as f t k (row_of f s t k).begin s).told
   common_walk k p c s common quiet closed on free w =
       let a = (row_of f s t k).begin in
-      verdict_walk k a.verdict (effect_of a) p c s quiet (not_killing k common)
-      (subst (λ (r : Resources). IsVerdictExclusive r t k a.verdict) (sym w.resources) (begins_exclusive f s t k (idle_in c s p on free w))) closed free
-      (quiet_within (Some p) (effect_of a) c s (unless_silent (refuses a.verdict) a.effect s (effect_silent f t s k quiet)) (effect_keeps f t (Holding n c.ended s.resources.awaits t (Some p)) (holding_kept n c.ended s.resources.awaits t (Some p) f) s k common (w.going, w.claims, on, w.fits)) w)
+      let exclusive : IsVerdictExclusive c.resources t k a.verdict = subst (λ (r : Resources). IsVerdictExclusive r t k a.verdict) (sym w.resources) (begins_exclusive f s t k (idle_in c s p on free w)) in
+      let holding = effect_keeps f t (Holding n c.ended s.resources.awaits t (Some p)) (holding_kept n c.ended s.resources.awaits t (Some p) f) s k common (w.going, w.claims, on, w.fits) in
+      walk_finally n (Quiet (Some p) c) (After (begun_by f t k a.verdict (effect_of a s).state).next) c (effect_of a) (begun_by f t k a.verdict) s
+      (quiet_within (Some p) (effect_of a) c s (unless_silent (refuses a.verdict) a.effect s (effect_silent f t s k quiet)) holding w)
+      (λ d h. subst (λ (e : Book). Walk n e (After (begun_by f t k a.verdict (effect_of a s).state).next) (begun_by f t k a.verdict (effect_of a s).state).told) (sym h.0) (verdict_walk k a.verdict p c (effect_of a s).state quiet (not_killing k common) exclusive closed h.2 free h.1))
 
   -- pth_kill
-  kill_walk : (refuse : Bool) (c : Book) (s : State P S H) → Within c s → let v = refused EPERM when refuse otherwise Kills in let r = begun_by f t call.Kill v (unless_refused (refuses v) (changes (vanish_all_but t))) s in Walk n c (After r.next) r.told
+  kill_walk : (refuse : Bool) (c : Book) (s : State P S H) → Within c s → let r = begun_as f t call.Kill (refused EPERM when refuse otherwise Kills trying changes (vanish_all_but t)) s in Walk n c (After r.next) r.told
   kill_walk true c s w = answer_walk (next.Done (answer.Fail EPERM)) call.Kill (answer.Fail EPERM) c s refl tt tt (λ e u. done_stepped (answer.Fail EPERM) e u) (refusing EPERM c s w)
   kill_walk false c s w = record { law = ((λ locked. (((within_up s.resources.awaits c s w, (within_calm s.resources.awaits c s w, tt)), tt), made)), tt); post = tt }
 
@@ -504,7 +500,7 @@ module _ {P S H : Type 0} (f : P → Functions S H) (n t : ℕ) (made : is_made 
         };
       }
 
-  yield_walk : (m : ℤ) (refuse : Bool) (c : Book) (s : State P S H) → (not (is_zero m) && ((or_nobody (thread s.control m)).suspended || not (may_run (or_nobody (thread s.control m)).state))) ≡ refuse → s.resources.awaits t ≡ false → Within c s → let v = refused EINVAL when refuse otherwise Yields (answer.Int (pos 1)) in let r = begun_by f t (call.Yield m) v (unless_refused (refuses v) (changes (if is_zero m then nothing else prefers (Some (number m))))) s in Walk n c (After r.next) r.told
+  yield_walk : (m : ℤ) (refuse : Bool) (c : Book) (s : State P S H) → (not (is_zero m) && ((or_nobody (thread s.control m)).suspended || not (may_run (or_nobody (thread s.control m)).state))) ≡ refuse → s.resources.awaits t ≡ false → Within c s → let r = begun_as f t (call.Yield m) (refused EINVAL when refuse otherwise Yields (answer.Int (pos 1)) trying changes (if is_zero m then nothing else prefers (Some (number m)))) s in Walk n c (After r.next) r.told
   yield_walk m true c s is_refused idle w = answer_walk (next.Done (answer.Fail EINVAL)) (call.Yield m) (answer.Fail EINVAL) c s refl tt tt (λ e u. done_stepped (answer.Fail EINVAL) e u) (answering (call.Yield m) (answer.Fail EINVAL) c s refl idle w)
   yield_walk m false c s is_refused idle w = yields_walk m (is_zero m) c s (λ other. named_runs m s (passed (is_zero m) (or_nobody (thread s.control m)).suspended (may_run (or_nobody (thread s.control m)).state) other is_refused)) idle w
 
@@ -537,12 +533,12 @@ module _ {P S H : Type 0} (f : P → Functions S H) (n t : ℕ) (made : is_made 
       handled_call (call.CleanupPop v) p.0 p.1 c s closed
       (λ d u ran pushed other. ran_last (ran_by d.block t).handlers (d.resources.store.cleanups t) p ran (ap (λ (cs : List PushedHandler). slice_get cs 0) pushed ∙ last)) (λ d. tt) refl idle w
 
-  pop_walk : (v : ℤ) (o : Option PushedHandler) (c : Book) (s : State P S H) → pop_answer s.resources.store.cleanups t ≡ o → c.block ≡ Closed → s.resources.awaits t ≡ false → Within c s → let y = refused EINVAL when is_none o otherwise says 1 in let r = begun_by f t (call.CleanupPop v) y (unless_refused (refuses y) (where_so (not (is_zero v)) (runs_pushed f t o))) s in Walk n c (After r.next) r.told
+  pop_walk : (v : ℤ) (o : Option PushedHandler) (c : Book) (s : State P S H) → pop_answer s.resources.store.cleanups t ≡ o → c.block ≡ Closed → s.resources.awaits t ≡ false → Within c s → let r = begun_as f t (call.CleanupPop v) (refused EINVAL when is_none o otherwise says 1 trying where_so (not (is_zero v)) (runs_pushed f t o)) s in Walk n c (After r.next) r.told
   pop_walk v None c s last closed idle w = answer_walk (next.Done (answer.Fail EINVAL)) (call.CleanupPop v) (answer.Fail EINVAL) c s refl tt tt (λ e u. done_stepped (answer.Fail EINVAL) e u) (answering (call.CleanupPop v) (answer.Fail EINVAL) c s refl idle w)
   pop_walk v (Some p) c s last closed idle w = popped_walk v (not (is_zero v)) p c s refl last closed idle w
 
   -- pth_once
-  once_walk : (o h v : ℤ) (refuse run : Bool) (c : Book) (s : State P S H) → c.block ≡ Closed → s.resources.awaits t ≡ false → Within c s → let y = refused EINVAL when refuse otherwise says 1 in let r = begun_by f t (call.Once o h v) y (unless_refused (refuses y) (where_so run (changes (uses (number o)) and_then runs_handler f t (handler h) v))) s in Walk n c (After r.next) r.told
+  once_walk : (o h v : ℤ) (refuse run : Bool) (c : Book) (s : State P S H) → c.block ≡ Closed → s.resources.awaits t ≡ false → Within c s → let r = begun_as f t (call.Once o h v) (refused EINVAL when refuse otherwise says 1 trying where_so run (changes (uses (number o)) and_then runs_handler f t (handler h) v)) s in Walk n c (After r.next) r.told
   once_walk o h v true run c s closed idle w = answer_walk (next.Done (answer.Fail EINVAL)) (call.Once o h v) (answer.Fail EINVAL) c s refl tt tt (λ e u. done_stepped (answer.Fail EINVAL) e u) (answering (call.Once o h v) (answer.Fail EINVAL) c s refl idle w)
   once_walk o h v false false c s closed idle w =
       let x = answer_walk (next.Done (answer.Int (pos 1))) (call.Once o h v) (answer.Int (pos 1)) c s refl tt tt (λ e u. done_stepped (answer.Int (pos 1)) e u) (answering (call.Once o h v) (answer.Int (pos 1)) c s refl idle w) in
@@ -552,7 +548,7 @@ module _ {P S H : Type 0} (f : P → Functions S H) (n t : ℕ) (made : is_made 
       record { law = x.law; post = x.post }
 
   -- pth_cancel_point
-  point_walk : (asked : Bool) (c : Book) (s : State P S H) → c.block ≡ Closed → s.resources.awaits t ≡ false → Within c s → let v = Ends canceled_value when asked otherwise says 1 in let r = begun_by f t call.CancelPoint v (unless_refused (refuses v) (where_so asked (takes_request t call.CancelPoint))) s in Walk n c (After r.next) r.told
+  point_walk : (asked : Bool) (c : Book) (s : State P S H) → c.block ≡ Closed → s.resources.awaits t ≡ false → Within c s → let r = begun_as f t call.CancelPoint (Ends canceled_value when asked otherwise says 1 trying where_so asked (takes_request t call.CancelPoint)) s in Walk n c (After r.next) r.told
   point_walk false c s closed idle w =
       let x = answer_walk (next.Done (answer.Int (pos 1))) call.CancelPoint (answer.Int (pos 1)) c s refl tt tt (λ e u. done_stepped (answer.Int (pos 1)) e u) (answering call.CancelPoint (answer.Int (pos 1)) c s refl idle w) in
       record { law = x.law; post = x.post }
@@ -607,7 +603,7 @@ module _ {P S H : Type 0} (f : P → Functions S H) (n t : ℕ) (made : is_made 
   refused_walk k e c s asking idle w = answer_walk (next.Done (answer.Fail e)) k (answer.Fail e) c s (on_goes c.ended k (answer.Fail e) (asking_on k asking)) (asking_fails t c k e asking) (asking_exclusive t c k (answer.Fail e) asking) (λ d u. done_stepped (answer.Fail e) d u) (answering k (answer.Fail e) c s (asking_on k asking) idle w)
 
   -- pth_cancel
-  cancel_walk : (m : ℤ) (own unknown barred : Bool) (c : Book) (s : State P S H) → (m is t) ≡ own → not (is_known s.control m) ≡ unknown → (m is main || is_dead (or_nobody (thread s.control m)).state) ≡ barred → s.control.threads.made ≡ n → c.block ≡ Closed → s.resources.awaits t ≡ false → Within c s → let v = refused EINVAL when own otherwise refused ESRCH when unknown otherwise refused EPERM when barred otherwise says 1 in let r = begun_by f t (call.Cancel m) v (unless_refused (refuses v) (if is_asynchronous (or_nobody (thread s.control m)).cancel then canceled_by_other f (number m) else changes (sets (number m) (change.Request true)))) s in Walk n c (After r.next) r.told
+  cancel_walk : (m : ℤ) (own unknown barred : Bool) (c : Book) (s : State P S H) → (m is t) ≡ own → not (is_known s.control m) ≡ unknown → (m is main || is_dead (or_nobody (thread s.control m)).state) ≡ barred → s.control.threads.made ≡ n → c.block ≡ Closed → s.resources.awaits t ≡ false → Within c s → let r = begun_as f t (call.Cancel m) (refused EINVAL when own otherwise refused ESRCH when unknown otherwise refused EPERM when barred otherwise says 1 trying if is_asynchronous (or_nobody (thread s.control m)).cancel then canceled_by_other f (number m) else changes (sets (number m) (change.Request true))) s in Walk n c (After r.next) r.told
   cancel_walk m true unknown barred c s a d e born closed idle w = refused_walk (call.Cancel m) EINVAL c s refl idle w
   cancel_walk m false true barred c s a d e born closed idle w = refused_walk (call.Cancel m) ESRCH c s refl idle w
   cancel_walk m false false true c s a d e born closed idle w = refused_walk (call.Cancel m) EPERM c s refl idle w
@@ -623,7 +619,7 @@ module _ {P S H : Type 0} (f : P → Functions S H) (n t : ℕ) (made : is_made 
       let gone = dead_lives (s.control.threads.known (number m)) (named_dead s.control m known dead) in
       record { law = tt; post = (closed, change_within (removes (number m)) s.resources.awaits c s (going_removed n c.ended t (number m) s.control gone w.going) (claims_removed (number m) s.control gone w.claims) (awaits_removed s.resources.awaits (number m) s.control (awaits_none s.resources.awaits s.control (number m) gone w.fits) w.fits) w, idle) }
 
-  abort_walk : (m : ℤ) (own unknown barred : Bool) (c : Book) (s : State P S H) → (m is t) ≡ own → not (is_known s.control m) ≡ unknown → (m is main) ≡ barred → s.control.threads.made ≡ n → c.block ≡ Closed → s.resources.awaits t ≡ false → Within c s → let v = refused EINVAL when own otherwise refused ESRCH when unknown otherwise refused EPERM when barred otherwise says 1 in let r = begun_by f t (call.Abort m) v (unless_refused (refuses v) (if is_dead (or_nobody (thread s.control m)).state then changes (removes (number m)) else aborted f (number m))) s in Walk n c (After r.next) r.told
+  abort_walk : (m : ℤ) (own unknown barred : Bool) (c : Book) (s : State P S H) → (m is t) ≡ own → not (is_known s.control m) ≡ unknown → (m is main) ≡ barred → s.control.threads.made ≡ n → c.block ≡ Closed → s.resources.awaits t ≡ false → Within c s → let r = begun_as f t (call.Abort m) (refused EINVAL when own otherwise refused ESRCH when unknown otherwise refused EPERM when barred otherwise says 1 trying if is_dead (or_nobody (thread s.control m)).state then changes (removes (number m)) else aborted f (number m)) s in Walk n c (After r.next) r.told
   abort_walk m true unknown barred c s a d e born closed idle w = refused_walk (call.Abort m) EINVAL c s refl idle w
   abort_walk m false true barred c s a d e born closed idle w = refused_walk (call.Abort m) ESRCH c s refl idle w
   abort_walk m false false true c s a d e born closed idle w = refused_walk (call.Abort m) EPERM c s refl idle w
@@ -679,25 +675,25 @@ module _ {P S H : Type 0} (f : P → Functions S H) (n t : ℕ) (made : is_made 
   tried_walk d (Says a) p c u pops exclusive closed on blocked w = answers_walk (next.Done a) d.call a c u (pops refl a) exclusive (awaits_by d p c u on blocked w) (λ e s. done_stepped a e s) w
   tried_walk d (Yields a) p c u pops exclusive closed on blocked w = answers_walk (next.Yields a) d.call a c u (pops refl a) exclusive (awaits_by d p c u on blocked w) (λ e s. yields_stepped a e s) w
   tried_walk d (Blocks y) p c u pops exclusive closed on blocked w =
-      let now : Blocked = record d { written = y.written } in
+      let now : Blocked = record d { awaits = y } in
       let g : Change P S H = is_blocked_by t (Some now) in
       let tells = wait_awaits u.resources t d.call (awaits_by d p c u on blocked w) in
       let o = (wait_told u.resources t d.call).awaits in
       let x = wait_walk d.call c (controlled g u) exclusive
-      (change_within g o c u (going_waits_on c.ended (Some now) u w.going) (claims_wait_on t d y.written u.control p on blocked w.claims)
+      (change_within g o c u (going_waits_on c.ended (Some now) u w.going) (claims_wait_on t d y u.control p on blocked w.claims)
       (awaits_block t u.resources.awaits o (Some now) u.control p on tells.0 (λ awaiting. going_alive n c.ended t u.control w.going) (tells.0 ∙ exclusive) tells.1 w.fits) w) in
       record { law = x.law; post = x.post }
   tried_walk d (Ends v) p c u pops exclusive closed on blocked w = end_walk v c u (fresh_by t c.block closed) w
   tried_walk d Kills p c u pops exclusive closed on blocked w = answers_walk next.Killed d.call (answer.Int (pos 1)) c u (pops refl (answer.Int (pos 1))) exclusive (awaits_by d p c u on blocked w) (λ e s h x. tt) w
 
   -- a pop and a kill never wait, and would wait on
-  again_pops : (s : State P S H) (d : Blocked) (c : Book) (k : Call) → is_blocking (unless_settled (has_settled s.control.events (ring_given k)) ((row_of f s t k).again d)).verdict ≡ false → (a : Answer) → IsPopOrderly c t k a × (kills k ≡ false)
+  again_pops : (s : State P S H) (d : Awaits) (c : Book) (k : Call) → is_blocking (unless_settled (has_settled s.control.events (ring_given k)) ((row_of f s t k).again d)).verdict ≡ false → (a : Answer) → IsPopOrderly c t k a × (kills k ≡ false)
   unfolding row_of
   again_pops s d c (call.CleanupPop v) h a = absurd (true_false h)
   again_pops s d c call.Kill h a = absurd (true_false h)
   again_pops s d c k h a = (tt, refl)
 
-  come_silent : (s : State P S H) (k : Call) (d : Blocked) (come : Bool) → IsSilent (effect_of (unless_settled come ((row_of f s t k).again d))) s
+  come_silent : (s : State P S H) (k : Call) (d : Awaits) (come : Bool) → IsSilent (effect_of (unless_settled come ((row_of f s t k).again d))) s
   come_silent s k d false = unless_silent (refuses ((row_of f s t k).again d).verdict) ((row_of f s t k).again d).effect s (again_silent f t s k d)
   come_silent s k d true = unless_silent (refuses (interrupted ((row_of f s t k).again d).verdict)) ((row_of f s t k).again d).effect s (again_silent f t s k d)
 
@@ -708,13 +704,13 @@ module _ {P S H : Type 0} (f : P → Functions S H) (n t : ℕ) (made : is_made 
   tried_again_walk : (d : Blocked) (p : Progress S) (c : Book) (s : State P S H) → c.block ≡ Closed → s.control.threads.progress t ≡ Some p → p.blocked ≡ Some d → Within c s → Walk n c (After (tried_again_by f t (Some d) s).next) (tried_again_by f t (Some d) s).told
   tried_again_walk d p c s closed on blocked w =
       let come = has_settled s.control.events (ring_given d.call) in
-      let a = unless_settled come ((row_of f s t d.call).again d) in
+      let a = unless_settled come ((row_of f s t d.call).again d.awaits) in
       let other : is_await d.call ≡ false = sym (ap (λ z. is_awaiting (blocked_in z)) on ∙ ap is_awaiting blocked) ∙ sym (w.fits t).0 ∙ (w.fits t).2 in
-      let exclusive : IsVerdictExclusive c.resources t d.call a.verdict = subst (λ (r : Resources). IsVerdictExclusive r t d.call a.verdict) (sym w.resources) (again_exclusive f s t d.call d come other) in
-      let holding = come_keeps f t (Holding n c.ended s.resources.awaits t (Some p)) (holding_kept n c.ended s.resources.awaits t (Some p) f) s d.call d come (w.going, w.claims, on, w.fits) in
+      let exclusive : IsVerdictExclusive c.resources t d.call a.verdict = subst (λ (r : Resources). IsVerdictExclusive r t d.call a.verdict) (sym w.resources) (again_exclusive f s t d.call d.awaits come other) in
+      let holding = come_keeps f t (Holding n c.ended s.resources.awaits t (Some p)) (holding_kept n c.ended s.resources.awaits t (Some p) f) s d.call d.awaits come (w.going, w.claims, on, w.fits) in
       walk_finally n (Quiet (Some p) c) (After (tried_by f t d a.verdict (effect_of a s).state).next) c (effect_of a) (tried_by f t d a.verdict) s
-      (quiet_within (Some p) (effect_of a) c s (come_silent s d.call d come) holding w)
-      (λ e h. subst (λ (z : Book). Walk n z (After (tried_by f t d a.verdict (effect_of a s).state).next) (tried_by f t d a.verdict (effect_of a s).state).told) (sym h.0) (tried_walk d a.verdict p c (effect_of a s).state (again_pops s d c d.call) exclusive closed h.2 blocked h.1))
+      (quiet_within (Some p) (effect_of a) c s (come_silent s d.call d.awaits come) holding w)
+      (λ e h. subst (λ (z : Book). Walk n z (After (tried_by f t d a.verdict (effect_of a s).state).next) (tried_by f t d a.verdict (effect_of a s).state).told) (sym h.0) (tried_walk d a.verdict p c (effect_of a s).state (again_pops s d.awaits c d.call) exclusive closed h.2 blocked h.1))
 
   -- ---- a step
 

@@ -15,23 +15,26 @@ use Rattle.pth_lock.specs.Objects.{object_named}
 use Rattle.pth_lock.specs.Mutexes.{Mutex, MutexTable, free_mutex, owner_of, mutex_with, levels_of, has, is_anothers}
 use Rattle.pth_lock.specs.RwLocks.{LockTables, holds, is_one, lock_initialised, lock_released, lock_taken}
 use Rattle.pth_threads.specs.declared.entry.Change as change_of_record
+use Rattle.pth_model.specs.declared.awaits.Awaits.{Awaits}
+use Rattle.pth_model.specs.declared.awaits.Awaits.TheVariants as awaits
 use Rattle.pth_model.specs.declared.blocked.Blocked.{Blocked}
 use Rattle.pth_model.specs.declared.progress.Progress.{Progress}
+use Rattle.pth_model.specs.declared.verdict.Verdict.TheVariants.{Blocks}
+use Rattle.pth_model.specs.Coming.{has_come}
 use Rattle.pth_model.specs.Resources.{Resources, on_one, on_int, on_msg, told, answer_told, act_told, retaken, let_go, of_only}
-use Rattle.pth_model.specs.State.{State, Given, start, main, now_of}
+use Rattle.pth_model.specs.State.{State, Given, start, main}
 use Rattle.pth_model.specs.Transition.{controlled, tells}
 use Rattle.pth_model.specs.Changes.{sets, goes_on, blocking, is_blocked_by, makes, forgets, blocked_in, blocked_of}
-use Rattle.pth_model.specs.Verdict.{says, waits, ◌when◌otherwise◌}
+use Rattle.pth_model.specs.Verdict.{says, ◌when◌otherwise◌}
 use Rattle.pth_model.specs.RingWaits.{claims, gives_back, ring_given, ring_held, stops_waiting}
 use Rattle.pth_model.specs.Mutexes.{mutex}
 use Rattle.pth_model.specs.Rows.{row_of}
 use Rattle.pth_model.specs.Rwlocks.{is_lock, lets_in}
 use Rattle.pth_model.specs.ThreadControl.{values_for, or_first}
 use Rattle.pth_model.specs.LibraryControl.{vanish_all_but}
-use Rattle.pth_model.specs.Calls.{blocked_from}
 use Rattle.pth_model.specs.Pass.{looks}
 use Rattle.pth_model.specs.Run.{run}
-use Rattle.pth_laws.specs.Waits.{WaitsRightly, AllWaitRightly, AsksNoMore, AllAskNoMore}
+use Rattle.pth_laws.specs.Waits.{WaitsRightly, Names, AllWaitRightly, AsksNoMore, AllAskNoMore}
 use Rattle.pth_laws.proofs.Living.{true_false}
 use Rattle.pth_laws.proofs.Held.{neither, both_not, out_released, out_left, out_only}
 use Rattle.pth_laws.proofs.Allowed.{IsToTell}
@@ -185,7 +188,7 @@ rightly_stays u k j c stays h = tt
 
 abbrev Rightly : Resources → ℕ → Option Blocked → Type 0
 Rightly k t None = Unit {0}
-Rightly k t (Some b) = WaitsRightly k t b.call
+Rightly k t (Some b) = Names b.call b.awaits × WaitsRightly k t b.call
 
 none_blocked : (b : Blocked) → None ≡ Some b → ⊥
 none_blocked b h = cc
@@ -202,8 +205,8 @@ let_in_there true false false a b = refl
 let_in_there known lets true a b = absurd (true_false b)
 let_in_there false lets held a b = absurd (true_false (sym a))
 
-as_tested : (a b : Bool) → a ≡ b → (says 1 when a otherwise waits) ≡ (says 1 when b otherwise waits)
-as_tested a b same = ap (λ (x : Bool). says 1 when x otherwise waits) same
+as_tested : (a b : Bool) (x y : Awaits) → a ≡ b → x ≡ y → (says 1 when a otherwise Blocks x) ≡ (says 1 when b otherwise Blocks y)
+as_tested a b x y same awaited = cc
 
 module _ {P S H : Type 0} where
   abbrev AreRightly : State P S H → Type 0
@@ -269,7 +272,7 @@ module _ {P S H : Type 0} where
     where
       by_blocked : (o : Option Blocked) → blocked_of s.control u ≡ o → Rightly s.resources u o → Rightly (told s.resources m) u o
       by_blocked None at h = tt
-      by_blocked (Some b) at h = rightly_stays u s.resources (told s.resources m) b.call (told_stays u s.resources m (enters_not m s u b may at)) h
+      by_blocked (Some b) at h = (h.0, rightly_stays u s.resources (told s.resources m) b.call (told_stays u s.resources m (enters_not m s u b may at)) h.1)
 
   blocked_at : (s : State P S H) (t : ℕ) (o : Option Blocked) → blocked_of s.control t ≡ o → AreRightly s → Rightly s.resources t o
   blocked_at s t o at r = subst (Rightly s.resources t) at (r t)
@@ -293,8 +296,8 @@ module _ {P S H : Type 0} where
     arranges = λ x s may r. r;
     looked = λ s r. rightly_looked s r;
     goes = λ t g s same r. rightly_goes t g s (λ p at. subst (Rightly s.resources t) (sym (same p)) (blocked_at s t p.blocked (ap blocked_in at) r)) r;
-    blocked = λ t c p s free may r. rightly_goes t (blocking (Some (blocked_from (now_of (claims t (ring_given c) s.control)) c p))) (controlled (claims t (ring_given c)) s) (λ x at. may.rightly) (rightly_claimed t (ring_given c) s r);
-    waits_on = λ t w b s at r. rightly_goes t (blocking (Some (record b { written = w }))) s (λ p here. blocked_at s t (Some b) at r) r;
+    blocked = λ t c a s free may r. rightly_goes t (blocking (Some (record { call = c; awaits = a }))) (controlled (claims t (ring_given c)) s) (λ x at. (may.names, may.rightly)) (rightly_claimed t (ring_given c) s r);
+    waits_on = λ t a b s at names r. rightly_goes t (blocking (Some (record b { awaits = a }))) s (λ p here. (names, (blocked_at s t (Some b) at r).1)) r;
     stopped = λ t s r. rightly_stopped t s r;
     told = λ m s may r. rightly_told m s may r;
   }
@@ -306,14 +309,18 @@ module _ {P S H : Type 0} where
   pub run_rightly : (f : P → Functions S H) (g : Given P) (i : ℕ) → AllWaitRightly (run f g i).state
   run_rightly f g i t b at = blocked_at (run f g i).state t (Some b) at (run_keeps f AreRightly (rightly_kept f) g (rightly_start f g) i)
 
-  asks_no_more : (f : P → Functions S H) (s : State P S H) (t : ℕ) (b : Blocked) (c : Call) → WaitsRightly s.resources t c → AsksNoMore f s t b c
+  asks_no_more : (f : P → Functions S H) (s : State P S H) (t : ℕ) (a : Awaits) (c : Call) → Names c a → WaitsRightly s.resources t c → AsksNoMore f s t a c
   unfolding row_of
-  asks_no_more f s t b (call.MutexAcquire m v e) h = let free = free_there (mutex s m) h in record { again = as_tested _ _ free; wakes = free }
-  asks_no_more f s t b (call.RwAcquire l write v e) h = record {
-    again = as_tested _ _ (let_in_there (is_lock s l) (lets_in s write l) (holds s.resources.store.rw_locks t (object_named l)) h.0 h.1);
-    wakes = ap (λ (known : Bool). known && lets_in s write l) h.0;
+  asks_no_more f s t a (call.MutexAcquire m v e) named h =
+      let free = free_there (mutex s m) h in
+      record { again = as_tested _ _ (awaits.Mutex m) a free (sym named); comes = ap (has_come s t) named ∙ free }
+  asks_no_more f s t a (call.RwAcquire l write v e) named h = record {
+    again = as_tested _ _ (awaits.Lock l write) a (let_in_there (is_lock s l) (lets_in s write l) (holds s.resources.store.rw_locks t (object_named l)) h.0 h.1) (sym named);
+    comes = ap (has_come s t) named ∙ ap (λ (known : Bool). known && lets_in s write l) h.0;
   }
-  asks_no_more f s t b c h = tt
+  asks_no_more f s t a c named h = tt
 
   pub run_asks : (f : P → Functions S H) (g : Given P) (i : ℕ) → AllAskNoMore f (run f g i).state
-  run_asks f g i t b at = asks_no_more f (run f g i).state t b b.call (run_rightly f g i t b at)
+  run_asks f g i t b at =
+      let rightly = run_rightly f g i t b at in
+      asks_no_more f (run f g i).state t b.awaits b.call rightly.0 rightly.1

@@ -28,9 +28,10 @@ pub fn every_run_keeps_holders_apart<P: Program>()
     ensures { (g : Given P) (i : ℕ) → AreHoldersApart (run P.functions g i).state }
 {}
 
-/// Who is blocked by a `mutex_acquire` or an `rw_acquire` waits for a mutex or a lock that is initialised, and holds no lock for which
-/// it waits. The rows of these calls ask for this too, as they are tried again and as a pass looks for whom to wake: so in every run they
-/// ask of the mutex no more than that nobody has it, and of the lock no more than that it lets the thread in.
+/// Who is blocked by a `mutex_acquire` or an `rw_acquire` waits for the mutex or the lock that the call named. It is initialised, and
+/// the thread holds no lock for which it waits. This is asked too as such a call is tried again, and as a pass looks whether what is
+/// awaited has come: so in every run no more is asked of the mutex than that nobody has it, and no more of the lock than that it lets
+/// the thread in.
 pub fn every_run_waits_rightly<P: Program>()
     ensures rightly { (g : Given P) (i : ℕ) → AllWaitRightly (run P.functions g i).state }
     ensures rows { (g : Given P) (i : ℕ) → AllAskNoMore P.functions (run P.functions g i).state }

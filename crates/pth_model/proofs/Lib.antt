@@ -1,5 +1,4 @@
 pub mod Nothing
-pub mod Awaiting
 pub mod Orders
 pub mod Queues
 pub mod Runs

@@ -1,19 +1,21 @@
 -- Each piece of a run gives the resources what its marks say.
-use Rattle.std.proofs.Common.{◌≡◌, ◌∙◌, ℕ, ℤ, pos, zero, suc, Bool, true, false, List, [], ◌∷◌, ◌++◌, Option, Some, None, refl, ap, sym, ◌+◌, ◌*◌, not, if◌then◌else◌}
+use Rattle.std.proofs.Common.{◌≡◌, ◌∙◌, ℕ, ℤ, zero, suc, Bool, true, false, List, [], ◌∷◌, ◌++◌, Option, Some, None, refl, ap, sym, ◌+◌, ◌*◌, not, if◌then◌else◌}
 use Rattle.pth_base.specs.Program.{Functions}
 use Rattle.pth_base.specs.declared.call.Call.{Call}
 use Rattle.pth_base.specs.declared.call.Call.TheVariants as call
-use Rattle.pth_base.specs.declared.answer.Answer.TheVariants.{Int}
 use Rattle.pth_base.specs.declared.mark.Mark.{Mark}
 use Rattle.pth_base.specs.declared.query.Query.{Query}
 use Rattle.pth_base.specs.declared.query.Query.TheVariants as query
 use Rattle.pth_base.specs.declared.mark.Mark.TheVariants as mark
 use Rattle.pth_queue.specs.declared.queue.Queue.TheVariants as queues
 use Rattle.pth_model.specs.declared.blocked.Blocked.{Blocked}
+use Rattle.pth_model.specs.declared.awaits.Awaits.{Awaits}
 use Rattle.pth_model.specs.declared.progress.Progress.{Progress}
 use Rattle.pth_model.specs.Resources.{Resources, no_resources, told, told_all}
 use Rattle.pth_model.specs.LibraryControl.{ctrl}
-use Rattle.pth_model.specs.Verdict.{Verdict, Says, Yields, Blocks, Ends, Kills, says, by_result}
+use Rattle.pth_model.specs.declared.verdict.Verdict.{Verdict}
+use Rattle.pth_model.specs.declared.verdict.Verdict.TheVariants.{Says, Yields, Blocks, Ends, Kills}
+use Rattle.pth_model.specs.Verdict.{says, by_result}
 use Rattle.pth_model.specs.State.{State, queue, Given, Turn, start}
 use Rattle.pth_model.specs.Transition.{Transition, Piece, Change, Last, changes, tells, tells_each, tid, controlled, where_so, ◌and◌, ◌and_then◌, ◌and_finally◌}
 use Rattle.pth_model.specs.Changes.{shares, uses, sets, removes, entry_of, or_nobody, blocked_of, with_events}
@@ -36,7 +38,7 @@ use Rattle.pth_base.specs.declared.act.Act.TheVariants as act
 use Rattle.pth_base.specs.declared.ids.HandlerId.{HandlerId}
 use Rattle.pth_store.specs.Cleanups.{PushedHandler}
 use Rattle.pth_store.specs.Keys.{key_limit}
-use Rattle.pth_model.specs.Calls.{begun, begun_by, gone_on, gone_on_where, canceled_by, tried_again, tried_again_by, tried_by, waits_by, unless_settled, interrupted}
+use Rattle.pth_model.specs.Calls.{begun, begun_by, gone_on, gone_on_where, canceled_by, tried_again, tried_again_by, tried_by, unless_settled, interrupted}
 use Rattle.pth_model.specs.RingWaits.{ring_given, has_settled}
 use Rattle.pth_model.specs.EventHandling.{spec_of, made_as, make_event, chain}
 use Rattle.pth_base.specs.declared.event.EvLine.{EvLine}
@@ -174,7 +176,7 @@ module _ {P S H : Type 0} (f : P → Functions S H) where
     made_tells None v g u = refl
     made_tells (Some spec) v g u = refl
 
-    made_tells_again : (spec : Option EventSpec) (v : EventSpec → Verdict) (g : EventSpec → Change P S H) (b : Blocked) → IsTold ((made_as spec v g).again b).effect
+    made_tells_again : (spec : Option EventSpec) (v : EventSpec → Verdict) (g : EventSpec → Change P S H) (b : Awaits) → IsTold ((made_as spec v g).again b).effect
     made_tells_again None v g b u = refl
     made_tells_again (Some spec) v g b u = refl
 
@@ -184,10 +186,10 @@ module _ {P S H : Type 0} (f : P → Functions S H) where
     chain_tells : (s : State P S H) (e : ℤ) (l : EvLine) → IsTold (chain s e l).begin.effect
     chain_tells s e l = made_tells (spec_of l) (λ x. by_result says (chain_answer s.control.events (number e))) (λ x. with_events (chained x (number e)))
 
-    make_tells_again : (s : State P S H) (l : EvLine) (b : Blocked) → IsTold ((make_event s l).again b).effect
+    make_tells_again : (s : State P S H) (l : EvLine) (b : Awaits) → IsTold ((make_event s l).again b).effect
     make_tells_again s l = made_tells_again (spec_of l) (λ x. by_result says (make_answer s.control.events)) (λ x. with_events (alone x))
 
-    chain_tells_again : (s : State P S H) (e : ℤ) (l : EvLine) (b : Blocked) → IsTold ((chain s e l).again b).effect
+    chain_tells_again : (s : State P S H) (e : ℤ) (l : EvLine) (b : Awaits) → IsTold ((chain s e l).again b).effect
     chain_tells_again s e l = made_tells_again (spec_of l) (λ x. by_result says (chain_answer s.control.events (number e))) (λ x. with_events (chained x (number e)))
 
     -- what a call does beside its answer is a change, which is not told
@@ -212,11 +214,11 @@ module _ {P S H : Type 0} (f : P → Functions S H) where
     effect_told : (s : State P S H) (c : Call) → IsTold (effect_of (row_of f s t c).begin)
     effect_told s c = unless_told (refuses (row_of f s t c).begin.verdict) (row_of f s t c).begin.effect (effect_tells s c)
 
-    ctrl_tells_again : (s : State P S H) (x : Query) (b : Blocked) → IsTold ((ctrl s x).again b).effect
+    ctrl_tells_again : (s : State P S H) (x : Query) (b : Awaits) → IsTold ((ctrl s x).again b).effect
     ctrl_tells_again s query.Threads b u = refl
     ctrl_tells_again s x b u = refl
 
-    again_tells : (s : State P S H) (c : Call) (b : Blocked) → IsTold ((row_of f s t c).again b).effect
+    again_tells : (s : State P S H) (c : Call) (b : Awaits) → IsTold ((row_of f s t c).again b).effect
     unfolding row_of
     again_tells s (call.Ctrl x) b = ctrl_tells_again s x b
     again_tells s (call.EvFd goals fd) b = make_tells_again s (line.Fd goals fd) b
@@ -229,30 +231,32 @@ module _ {P S H : Type 0} (f : P → Functions S H) where
     again_tells s (call.Chain e l) b = chain_tells_again s e l b
     again_tells s c b = λ u. refl
 
-    again_told : (s : State P S H) (c : Call) (b : Blocked) → IsTold (effect_of ((row_of f s t c).again b))
+    again_told : (s : State P S H) (c : Call) (b : Awaits) → IsTold (effect_of ((row_of f s t c).again b))
     again_told s c b = unless_told (refuses ((row_of f s t c).again b).verdict) ((row_of f s t c).again b).effect (again_tells s c b)
 
-    begun_by_told : (c : Call) (v : Verdict) (a : Piece P S H) → IsTold a → LastTold (begun_by f t c v a)
-    begun_by_told c (Says x) a known s = then_told a (tells (mark.Answered (tid t) c x)) known (λ u. refl) s
-    begun_by_told c (Yields x) a known s = then_told a (tells (mark.Answered (tid t) c x)) known (λ u. refl) s
-    begun_by_told c (Blocks p) a known s = then_told a (waits_by t c p) known (λ u. refl) s
-    begun_by_told c (Ends v) a known s = then_told a (ending f t v) known (ending_told t v) s
-    begun_by_told c Kills a known s = then_told a (tells (mark.Answered (tid t) c (Int (pos 1)))) known (λ u. refl) s
+    begun_by_told : (c : Call) (v : Verdict) → LastTold (begun_by f t c v)
+    begun_by_told c (Says x) s = refl
+    begun_by_told c (Yields x) s = refl
+    begun_by_told c (Blocks a) s = refl
+    begun_by_told c (Ends v) s = ending_told t v s
+    begun_by_told c Kills s = refl
 
     begun_told : (c : Call) → LastTold (begun f t c)
     unfolding begun
     begun_told call.Plain s = refl
     begun_told (call.Note v) s = refl
-    begun_told c s = begun_by_told c (row_of f s t c).begin.verdict (effect_of (row_of f s t c).begin) (effect_told s c) s
+    begun_told c s =
+        let a = (row_of f s t c).begin in
+        finally_told (effect_of a) (begun_by f t c a.verdict) (effect_told s c) (begun_by_told c a.verdict) s
 
-    come_told : (s : State P S H) (c : Call) (b : Blocked) (come : Bool) → IsTold (effect_of (unless_settled come ((row_of f s t c).again b)))
+    come_told : (s : State P S H) (c : Call) (b : Awaits) (come : Bool) → IsTold (effect_of (unless_settled come ((row_of f s t c).again b)))
     come_told s c b false = again_told s c b
     come_told s c b true = unless_told (refuses (interrupted ((row_of f s t c).again b).verdict)) ((row_of f s t c).again b).effect (again_tells s c b)
 
     tried_by_told : (b : Blocked) (v : Verdict) → LastTold (tried_by f t b v)
     tried_by_told b (Says x) s = refl
     tried_by_told b (Yields x) s = refl
-    tried_by_told b (Blocks p) s = refl
+    tried_by_told b (Blocks a) s = refl
     tried_by_told b (Ends v) s = ending_told t v s
     tried_by_told b Kills s = refl
 
@@ -260,8 +264,8 @@ module _ {P S H : Type 0} (f : P → Functions S H) where
     tried_again_by_told s None = refl
     tried_again_by_told s (Some b) =
         let come = has_settled s.control.events (ring_given b.call) in
-        let a = unless_settled come ((row_of f s t b.call).again b) in
-        finally_told (effect_of a) (tried_by f t b a.verdict) (come_told s b.call b come) (tried_by_told b a.verdict) s
+        let a = unless_settled come ((row_of f s t b.call).again b.awaits) in
+        finally_told (effect_of a) (tried_by f t b a.verdict) (come_told s b.call b.awaits come) (tried_by_told b a.verdict) s
 
     canceled_told : (b : Option Blocked) → LastTold (canceled_by f t b)
     canceled_told None s = refl

@@ -18,11 +18,16 @@ use Rattle.pth_threads.specs.declared.entry.Change.{Change}
 use Rattle.pth_threads.specs.declared.entry.Entry.{Entry}
 use Rattle.pth_threads.specs.declared.entry.NewThread.{NewThread}
 use Rattle.pth_model.specs.declared.blocked.Blocked.{Blocked}
+use Rattle.pth_model.specs.declared.awaits.Awaits.{Awaits}
+use Rattle.pth_model.specs.declared.awaits.Awaits.TheVariants.{Reading, Writing, Connection}
+use Rattle.pth_model.specs.Io.{trial_for}
 use Rattle.pth_model.specs.declared.progress.Progress.{Progress}
 use Rattle.pth_model.specs.declared.next.Next.{Next}
 use Rattle.pth_model.specs.declared.next.Next.TheVariants as next
 use Rattle.pth_numbered.specs.Operands.{number, is_zero, ◌is◌}
-use Rattle.pth_model.specs.Verdict.{Verdict, Says, Yields, Blocks, Ends, Kills, refused, says, by_result, ◌when◌otherwise◌}
+use Rattle.pth_model.specs.declared.verdict.Verdict.{Verdict}
+use Rattle.pth_model.specs.declared.verdict.Verdict.TheVariants.{Says, Yields, Blocks, Ends, Kills}
+use Rattle.pth_model.specs.Verdict.{refused, says, by_result, ◌when◌otherwise◌}
 use Rattle.pth_model.specs.State.{State, Control, Turn, main}
 use Rattle.pth_model.specs.Transition.{Piece, Change as change_of_control, nothing, changes, tells, tells_each, controlled, where_so, tid, ◌and_then◌}
 use Rattle.pth_model.specs.Changes.{shares, uses, goes_on, blocking, is_blocked_by, blocked_of, entry_of, or_nobody, owing, prefers, removes, favours_new, sets, adds_object, puts_object, with_events, with_kernel}
@@ -171,6 +176,12 @@ write_describes f total done k = (_, refl)
 accept_describes : (f : ℕ) (k : Kernel) → IsDescribed k (accept_after f k)
 unfolding accept_after
 accept_describes f k = accepts_describes (is_fd_live k f) f (earliest (connections k f)) k
+
+trial_describes : (a : Awaits) (k : Kernel) → IsDescribed k ((trial_for k a).after k)
+trial_describes (Reading f n) k = read_describes (fd_named f) n k
+trial_describes (Writing f total done) k = write_describes (fd_named f) total done k
+trial_describes (Connection f) k = accept_describes (fd_named f) k
+trial_describes a k = (k.descriptors, refl)
 
 -- a change of events that no claim comes of
 abbrev pub AddsNoClaim : Events → Events → Type 0
@@ -347,6 +358,9 @@ module _ {P S H : Type 0} (f : P → Functions S H) (t : ℕ) (Q : Control P S H
   describes_keep : (s : State P S H) (g : Kernel → Kernel) → IsDescribed s.control.kernel (g s.control.kernel) → KeepsAt s (changes (with_kernel g))
   describes_keep s g d q = subst (λ (l : Kernel). Q (record s.control { kernel = l })) (sym d.1) (kept.described d.0 s.control q)
 
+  trial_keeps : (s : State P S H) (a : Awaits) → KeepsAt s (changes (with_kernel (trial_for s.control.kernel a).after))
+  trial_keeps s a = describes_keep s (trial_for s.control.kernel a).after (trial_describes a s.control.kernel)
+
   -- whether a join takes a thread or none
   joins_keeps : (s : State P S H) (n : ℤ) (o : Option ℕ) → to_join s.control n ≡ o → KeepsAt s (changes (takes_joined o))
   joins_keeps s n None same q = q
@@ -391,12 +405,12 @@ module _ {P S H : Type 0} (f : P → Functions S H) (t : ℕ) (Q : Control P S H
   does_keeps s (call.EvIsolate a) common e q = kept.evented _ s.control (λ i u h. h) q
   does_keeps s (call.EvFree a all) common e q = kept.evented _ s.control (freed_unclaimed all (number a) s.control.events) q
   does_keeps s (call.Fdmode d m) common e q = modes_keep s (fd_named d) m q
-  does_keeps s (call.Read d n) common e q = describes_keep s (read_after (fd_named d) n) (read_describes (fd_named d) n s.control.kernel) q
-  does_keeps s (call.ReadEv d n x) common e q = describes_keep s (read_after (fd_named d) n) (read_describes (fd_named d) n s.control.kernel) q
-  does_keeps s (call.Write d bytes) common e q = describes_keep s (write_after (fd_named d) (length bytes) 0) (write_describes (fd_named d) (length bytes) 0 s.control.kernel) q
-  does_keeps s (call.WriteEv d bytes x) common e q = describes_keep s (write_after (fd_named d) (length bytes) 0) (write_describes (fd_named d) (length bytes) 0 s.control.kernel) q
-  does_keeps s (call.Accept d) common e q = describes_keep s (accept_after (fd_named d)) (accept_describes (fd_named d) s.control.kernel) q
-  does_keeps s (call.AcceptEv d x) common e q = describes_keep s (accept_after (fd_named d)) (accept_describes (fd_named d) s.control.kernel) q
+  does_keeps s (call.Read d n) common e q = trial_keeps s (Reading d n) q
+  does_keeps s (call.ReadEv d n x) common e q = trial_keeps s (Reading d n) q
+  does_keeps s (call.Write d bytes) common e q = trial_keeps s (Writing d (length bytes) 0) q
+  does_keeps s (call.WriteEv d bytes x) common e q = trial_keeps s (Writing d (length bytes) 0) q
+  does_keeps s (call.Accept d) common e q = trial_keeps s (Connection d) q
+  does_keeps s (call.AcceptEv d x) common e q = trial_keeps s (Connection d) q
   does_keeps s (call.Close d) common e q = kept.described _ s.control q
   does_keeps s (call.Join n) common e q = joins_keeps s n (to_join s.control n) refl q
   does_keeps s (call.CleanupPop v) common e q = pops_keep (last_pushed f s t) (not (is_zero v)) s q
@@ -408,21 +422,21 @@ module _ {P S H : Type 0} (f : P → Functions S H) (t : ℕ) (Q : Control P S H
 
   -- ---- a call is tried again
 
-  ctrl_again : (s : State P S H) (x : Query) (b : Blocked) → KeepsAt s ((ctrl s x).again b).effect
+  ctrl_again : (s : State P S H) (x : Query) (b : Awaits) → KeepsAt s ((ctrl s x).again b).effect
   ctrl_again s query.Threads b q = q
   ctrl_again s x b q = q
 
-  made_again : (s : State P S H) (spec : Option EventSpec) (v : EventSpec → Verdict) (g : EventSpec → change_of_control P S H) (b : Blocked) → KeepsAt s ((made_as spec v g).again b).effect
+  made_again : (s : State P S H) (spec : Option EventSpec) (v : EventSpec → Verdict) (g : EventSpec → change_of_control P S H) (b : Awaits) → KeepsAt s ((made_as spec v g).again b).effect
   made_again s None v g b q = q
   made_again s (Some x) v g b q = q
 
-  make_again : (s : State P S H) (l : EvLine) (b : Blocked) → KeepsAt s ((make_event s l).again b).effect
+  make_again : (s : State P S H) (l : EvLine) (b : Awaits) → KeepsAt s ((make_event s l).again b).effect
   make_again s l = made_again s (spec_of l) (λ x. by_result says (make_answer s.control.events)) (λ x. with_events (alone x))
 
-  chain_again : (s : State P S H) (e : ℤ) (l : EvLine) (b : Blocked) → KeepsAt s ((chain s e l).again b).effect
+  chain_again : (s : State P S H) (e : ℤ) (l : EvLine) (b : Awaits) → KeepsAt s ((chain s e l).again b).effect
   chain_again s e l = made_again s (spec_of l) (λ x. by_result says (chain_answer s.control.events (number e))) (λ x. with_events (chained x (number e)))
 
-  does_again : (s : State P S H) (c : Call) (b : Blocked) → KeepsAt s ((row_of f s t c).again b).effect
+  does_again : (s : State P S H) (c : Call) (b : Awaits) → KeepsAt s ((row_of f s t c).again b).effect
   unfolding row_of
   does_again s (call.Ctrl x) b q = ctrl_again s x b q
   does_again s (call.EvFd goals fd) b q = make_again s (line.Fd goals fd) b q
@@ -433,19 +447,23 @@ module _ {P S H : Type 0} (f : P → Functions S H) (t : ℕ) (Q : Control P S H
   does_again s (call.EvTid state n) b q = make_again s (line.Tid state n) b q
   does_again s (call.EvFunc c v l) b q = make_again s (line.Func c v l) b q
   does_again s (call.Chain n l) b q = chain_again s n l b q
-  does_again s (call.Read d n) b q = describes_keep s (read_after (fd_named d) n) (read_describes (fd_named d) n s.control.kernel) q
-  does_again s (call.ReadEv d n x) b q = describes_keep s (read_after (fd_named d) n) (read_describes (fd_named d) n s.control.kernel) q
-  does_again s (call.Write d bytes) b q = describes_keep s (write_after (fd_named d) (length bytes) b.written) (write_describes (fd_named d) (length bytes) b.written s.control.kernel) q
-  does_again s (call.WriteEv d bytes x) b q = describes_keep s (write_after (fd_named d) (length bytes) b.written) (write_describes (fd_named d) (length bytes) b.written s.control.kernel) q
-  does_again s (call.Accept d) b q = describes_keep s (accept_after (fd_named d)) (accept_describes (fd_named d) s.control.kernel) q
-  does_again s (call.AcceptEv d x) b q = describes_keep s (accept_after (fd_named d)) (accept_describes (fd_named d) s.control.kernel) q
+  does_again s (call.Read d n) b q = trial_keeps s b q
+  does_again s (call.ReadEv d n x) b q = trial_keeps s b q
+  does_again s (call.Write d bytes) b q = trial_keeps s b q
+  does_again s (call.WriteEv d bytes x) b q = trial_keeps s b q
+  does_again s (call.Accept d) b q = trial_keeps s b q
+  does_again s (call.AcceptEv d x) b q = trial_keeps s b q
+  does_again s (call.Connect d) b q = trial_keeps s b q
+  does_again s (call.ConnectEv d x) b q = trial_keeps s b q
+  does_again s (call.Select r w x l) b q = trial_keeps s b q
+  does_again s (call.SelectEv r w x l e) b q = trial_keeps s b q
   does_again s (call.Join n) b q = joins_keeps s n (to_join s.control n) refl q
   does_again s c b q = q
 
-  again_keeps : (s : State P S H) (c : Call) (b : Blocked) → KeepsAt s (effect_of ((row_of f s t c).again b))
+  again_keeps : (s : State P S H) (c : Call) (b : Awaits) → KeepsAt s (effect_of ((row_of f s t c).again b))
   again_keeps s c b = unless_keeps s (refuses ((row_of f s t c).again b).verdict) ((row_of f s t c).again b).effect (λ e q. does_again s c b q)
 
-  pub come_keeps : (s : State P S H) (c : Call) (b : Blocked) (come : Bool) → KeepsAt s (effect_of (unless_settled come ((row_of f s t c).again b)))
+  pub come_keeps : (s : State P S H) (c : Call) (b : Awaits) (come : Bool) → KeepsAt s (effect_of (unless_settled come ((row_of f s t c).again b)))
   come_keeps s c b false q = again_keeps s c b q
   come_keeps s c b true q = unless_keeps s (refuses (interrupted ((row_of f s t c).again b).verdict)) ((row_of f s t c).again b).effect (λ e q. does_again s c b q) q
 
@@ -575,18 +593,18 @@ module _ {P S H : Type 0} (f : P → Functions S H) (t : ℕ) (Q : Control P S H
       by_refusal false same = aborts_keep s n same q
   any_keeps s c q = effect_keeps f t Q kept.calls s c refl q
 
-  begun_by_keeps : (c : Call) (v : Verdict) (a : Piece P S H) (s : State P S H) → Q (a s).state.control → Q (begun_by f t c v a s).told.state.control
-  begun_by_keeps c (Says x) a s q = q
-  begun_by_keeps c (Yields x) a s q = q
-  begun_by_keeps c (Blocks p) a s q = kept.goes t _ (claims t (ring_given c) (a s).state.control) (claims_keeps (ring_given c) (a s).state.control q)
-  begun_by_keeps c (Ends v) a s q = ending_keeps v (a s).state q
-  begun_by_keeps c Kills a s q = q
+  begun_by_keeps : (c : Call) (v : Verdict) (s : State P S H) → Q s.control → Q (begun_by f t c v s).told.state.control
+  begun_by_keeps c (Says x) s q = q
+  begun_by_keeps c (Yields x) s q = q
+  begun_by_keeps c (Blocks a) s q = kept.goes t _ (claims t (ring_given c) s.control) (claims_keeps (ring_given c) s.control q)
+  begun_by_keeps c (Ends v) s q = ending_keeps v s q
+  begun_by_keeps c Kills s q = q
 
   begun_keeps : (c : Call) (s : State P S H) → Q s.control → Q (begun f t c s).told.state.control
   unfolding begun
   begun_keeps call.Plain s q = q
   begun_keeps (call.Note v) s q = q
-  begun_keeps c s q = begun_by_keeps c (row_of f s t c).begin.verdict (effect_of (row_of f s t c).begin) s (any_keeps s c q)
+  begun_keeps c s q = begun_by_keeps c (row_of f s t c).begin.verdict (effect_of (row_of f s t c).begin s).state (any_keeps s c q)
 
   -- ---- a call is tried again
 
@@ -601,8 +619,8 @@ module _ {P S H : Type 0} (f : P → Functions S H) (t : ℕ) (Q : Control P S H
   tried_again_by_keeps s None q = q
   tried_again_by_keeps s (Some b) q =
       let come = has_settled s.control.events (ring_given b.call) in
-      let a = unless_settled come ((row_of f s t b.call).again b) in
-      tried_by_keeps b a.verdict (effect_of a s).state (come_keeps f t Q kept.calls s b.call b come q)
+      let a = unless_settled come ((row_of f s t b.call).again b.awaits) in
+      tried_by_keeps b a.verdict (effect_of a s).state (come_keeps f t Q kept.calls s b.call b.awaits come q)
 
   canceled_keeps : (b : Option Blocked) (s : State P S H) → Q s.control → Q (canceled_by f t b s).told.state.control
   canceled_keeps None s q = q

@@ -7,7 +7,8 @@ use Rattle.pth_base.specs.declared.answer.Answer.{Answer}
 use Rattle.pth_base.specs.declared.answer.Answer.TheVariants as answer
 use Rattle.pth_base.specs.declared.ids.HandlerId.{HandlerId}
 use Rattle.pth_base.specs.declared.mark.Mark.TheVariants.{Handler, Acted}
-use Rattle.pth_model.specs.Verdict.{Verdict, Says, Yields, Blocks, Ends, Kills}
+use Rattle.pth_model.specs.declared.verdict.Verdict.{Verdict}
+use Rattle.pth_model.specs.declared.verdict.Verdict.TheVariants.{Says, Yields, Blocks, Ends, Kills}
 use Rattle.pth_model.specs.State.{State}
 use Rattle.pth_model.specs.Transition.{Piece, silent, nothing, changes, tells, tid, ◌and_then◌}
 use Rattle.pth_model.specs.Changes.{shares}

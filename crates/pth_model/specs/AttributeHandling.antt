@@ -11,7 +11,8 @@ use Rattle.pth_threads.specs.Attributes.{first_values, with_value, change_of, cr
 use Rattle.pth_threads.specs.declared.attribute.Attribute.{Attribute}
 use Rattle.pth_threads.specs.declared.attribute.Attribute.TheVariants.{Free, Bound}
 use Rattle.pth_threads.specs.declared.entry.Change as entry
-use Rattle.pth_model.specs.Verdict.{Says, says, done, by_result}
+use Rattle.pth_model.specs.declared.verdict.Verdict.TheVariants.{Says}
+use Rattle.pth_model.specs.Verdict.{says, done, by_result}
 use Rattle.pth_model.specs.State.{Control, State}
 use Rattle.pth_model.specs.Transition.{Change, nothing, tid}
 use Rattle.pth_model.specs.Changes.{adds_object, puts_object, sets}

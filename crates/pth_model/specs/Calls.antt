@@ -8,10 +8,14 @@ use Rattle.pth_base.specs.declared.call.Call.TheVariants as call
 use Rattle.pth_base.specs.declared.errno.Errno.TheVariants.{EINTR}
 use Rattle.pth_base.specs.declared.mark.Mark.TheVariants as mark
 use Rattle.pth_model.specs.declared.blocked.Blocked.{Blocked}
-use Rattle.pth_model.specs.declared.blocked.Retake.TheVariants as retake
+use Rattle.pth_model.specs.declared.awaits.Awaits.{Awaits}
 use Rattle.pth_model.specs.declared.next.Next.TheVariants as next
-use Rattle.pth_model.specs.Verdict.{Verdict, Pause, Says, Yields, Blocks, Ends, Kills, counts_or}
-use Rattle.pth_model.specs.State.{State, now_of}
+use Rattle.pth_model.specs.Awaits.{awaits_in, moment_in, written_in}
+use Rattle.pth_model.specs.Coming.{has_come}
+use Rattle.pth_model.specs.declared.verdict.Verdict.{Verdict}
+use Rattle.pth_model.specs.declared.verdict.Verdict.TheVariants.{Says, Yields, Blocks, Ends, Kills}
+use Rattle.pth_model.specs.Verdict.{counts_or}
+use Rattle.pth_model.specs.State.{State}
 use Rattle.pth_model.specs.Transition.{Piece, Change, Last, silent, changes, tells, tid, ◌and◌, ◌and_then◌, ◌and_next◌, ◌and_finally◌}
 use Rattle.pth_model.specs.Changes.{is_blocked_by, blocked_of}
 use Rattle.pth_model.specs.RingWaits.{ring_given, claims, stops_waiting, has_settled}
@@ -20,31 +24,27 @@ use Rattle.pth_model.specs.Ending.{ending}
 use Rattle.pth_model.specs.Cancellation.{canceled_value, may_be_canceled, canceled_in}
 use Rattle.pth_model.specs.Rows.{row_of}
 
--- a call that blocks from a moment on
-abbrev pub blocked_from : ℕ → Call → Pause → Blocked
-blocked_from now c p = record { call = c; begin = now; moment = p.moment; written = p.written; round = p.round; retake = retake.No }
-
 -- ---- a call begins
 
 module _ {P S H : Type 0} (t : ℕ) where
-  abbrev pub blocks : Call → Pause → Change P S H
-  blocks c p k = is_blocked_by t (Some (blocked_from (now_of k) c p)) k
+  abbrev pub blocks : Call → Awaits → Change P S H
+  blocks c a = is_blocked_by t (Some (record { call = c; awaits = a }))
 
   -- a call blocks t from now on, and claims the ring that it was given: told each time that it blocks
-  abbrev pub waits_by : Call → Pause → Piece P S H
-  waits_by c p = changes (claims t (ring_given c) and blocks c p) and_then tells (mark.Waits (tid t) c)
+  abbrev pub waits_by : Call → Awaits → Piece P S H
+  waits_by c a = changes (claims t (ring_given c) and blocks c a) and_then tells (mark.Waits (tid t) c)
 
 module _ {P S H : Type 0} (f : P → Functions S H) (t : ℕ) where
-  -- as the verdict says, after the effect
-  abbrev pub begun_by : Call → Verdict → Piece P S H → Last P S H
-  begun_by c (Says a) effect = effect and_then tells (mark.Answered (tid t) c a) and_next next.Done a
-  begun_by c (Yields a) effect = effect and_then tells (mark.Answered (tid t) c a) and_next next.Yields a
-  begun_by c (Blocks p) effect = effect and_then waits_by t c p and_next next.Waits
-  begun_by c (Ends v) effect = effect and_then ending f t v and_next next.Ended v
-  begun_by c Kills effect = effect and_then tells (mark.Answered (tid t) c (answer.Int (pos 1))) and_next next.Killed
+  -- the verdict on a call that begins
+  abbrev pub begun_by : Call → Verdict → Last P S H
+  begun_by c (Says a) = tells (mark.Answered (tid t) c a) and_next next.Done a
+  begun_by c (Yields a) = tells (mark.Answered (tid t) c a) and_next next.Yields a
+  begun_by c (Blocks a) = waits_by t c a and_next next.Waits
+  begun_by c (Ends v) = ending f t v and_next next.Ended v
+  begun_by c Kills = tells (mark.Answered (tid t) c (answer.Int (pos 1))) and_next next.Killed
 
   abbrev pub begun_as : Call → Attempt P S H → Last P S H
-  begun_as c a = begun_by c a.verdict (effect_of a)
+  begun_as c a = effect_of a and_finally begun_by c a.verdict
 
   -- a plain line tells nothing, and a note its value
   unfoldable pub begun : Call → Last P S H
@@ -63,7 +63,7 @@ module _ {P S H : Type 0} (f : P → Functions S H) (t : ℕ) where
 
 -- the blocked call is answered EINTR in place of blocking on, or with its count if it wrote a part
 abbrev pub interrupted : Verdict → Verdict
-interrupted (Blocks p) = counts_or p.written EINTR
+interrupted (Blocks a) = counts_or (written_in a) EINTR
 interrupted (Says a) = Says a
 interrupted (Yields a) = Yields a
 interrupted (Ends v) = Ends v
@@ -80,12 +80,12 @@ module _ {P S H : Type 0} (f : P → Functions S H) (t : ℕ) where
   abbrev pub answers : Call → Answer → Piece P S H
   answers c a = changes (stops_waiting t) and_then tells (mark.Answered (tid t) c a)
 
-  -- The verdict on the blocked call: if it blocks on, it keeps what it wrote so far. No row yields or kills as it is tried again,
-  -- so the lines of these two only say the same as when a call begins.
+  -- The verdict on the blocked call. No row yields or kills as it is tried again, so the lines of these two only say the same as
+  -- when a call begins.
   abbrev pub tried_by : Blocked → Verdict → Last P S H
   tried_by b (Says a) = answers b.call a and_next next.Done a
   tried_by b (Yields a) = answers b.call a and_next next.Yields a
-  tried_by b (Blocks p) = changes (is_blocked_by t (Some (record b { written = p.written }))) and_then tells (mark.Waits (tid t) b.call) and_next next.Waits
+  tried_by b (Blocks a) = changes (is_blocked_by t (Some (record b { awaits = a }))) and_then tells (mark.Waits (tid t) b.call) and_next next.Waits
   tried_by b (Ends v) = ending f t v and_next next.Ended v
   tried_by b Kills = answers b.call (answer.Int (pos 1)) and_next next.Killed
 
@@ -94,7 +94,7 @@ module _ {P S H : Type 0} (f : P → Functions S H) (t : ℕ) where
 
   abbrev pub tried_again_by : Option Blocked → Last P S H
   tried_again_by None = silent and_next next.Waits
-  tried_again_by (Some b) = λ s. tried b (unless_settled (has_settled s.control.events (ring_given b.call)) ((row_of f s t b.call).again b)) s
+  tried_again_by (Some b) = λ s. tried b (unless_settled (has_settled s.control.events (ring_given b.call)) ((row_of f s t b.call).again b.awaits)) s
 
   -- the blocked call is tried again
   unfoldable pub tried_again : Last P S H
@@ -108,18 +108,11 @@ module _ {P S H : Type 0} (f : P → Functions S H) (t : ℕ) where
   unfoldable pub gone_on : Last P S H
   gone_on s = gone_on_where (may_be_canceled s.control t) s
 
-  abbrev pub wakes_by : State P S H → Option Blocked → Bool
-  wakes_by s None = false
-  wakes_by s (Some b) = (row_of f s t b.call).wakes b
-
+module _ {P S H : Type 0} (t : ℕ) where
   -- whether the blocked call has what it waits for
   unfoldable pub wakes : State P S H → Bool
-  wakes s = wakes_by s (blocked_of s.control t)
-
-  abbrev pub until_by : State P S H → Option Blocked → ℕ
-  until_by s None = 0
-  until_by s (Some b) = (row_of f s t b.call).until b
+  wakes s = has_come s t (awaits_in (blocked_of s.control t))
 
   -- the moment that it waits for, 0 for none
   unfoldable pub waits_until : State P S H → ℕ
-  waits_until s = until_by s (blocked_of s.control t)
+  waits_until s = moment_in (awaits_in (blocked_of s.control t))

@@ -8,8 +8,12 @@ use Rattle.pth_base.specs.declared.mark.Mark.TheVariants.{Canceled}
 use Rattle.pth_numbered.specs.Operands.{number, is_zero, ◌is◌, ◌is_from◌to◌}
 use Rattle.pth_threads.specs.declared.entry.Entry.{Entry}
 use Rattle.pth_threads.specs.declared.entry.Change.TheVariants as change
+use Rattle.pth_model.specs.declared.awaits.Awaits.{Awaits}
+use Rattle.pth_model.specs.declared.awaits.Awaits.TheVariants.{Nothing, Alone}
 use Rattle.pth_model.specs.declared.blocked.Blocked.{Blocked}
-use Rattle.pth_model.specs.Verdict.{Ends, refused, says, ◌when◌otherwise◌}
+use Rattle.pth_model.specs.Awaits.{awaits_in}
+use Rattle.pth_model.specs.declared.verdict.Verdict.TheVariants.{Ends}
+use Rattle.pth_model.specs.Verdict.{refused, says, ◌when◌otherwise◌}
 use Rattle.pth_model.specs.State.{Control, State, main}
 use Rattle.pth_model.specs.Transition.{Piece, changes, tells, tid, nothing, where_so, ◌and◌, ◌and_then◌}
 use Rattle.pth_model.specs.Changes.{sets, removes, entry_of, blocked_of, or_nobody}
@@ -40,31 +44,15 @@ is_asynchronous n = n == enabled_asynchronous
 abbrev pub is_to_cancel : Entry → Bool
 is_to_cancel e = e.request && is_enabled e.cancel
 
--- the calls that are cancellation points while they block their thread: all that block but pth_exit
-abbrev pub is_point : Call → Bool
-is_point (call.Join n) = true
-is_point (call.Wait e) = true
-is_point (call.Nap l) = true
-is_point (call.Usleep l) = true
-is_point (call.Sleep l) = true
-is_point (call.Read d n) = true
-is_point (call.ReadEv d n e) = true
-is_point (call.Write d bytes) = true
-is_point (call.WriteEv d bytes e) = true
-is_point (call.Accept d) = true
-is_point (call.AcceptEv d e) = true
-is_point (call.Connect d) = true
-is_point (call.ConnectEv d e) = true
-is_point (call.Select r w x l) = true
-is_point (call.SelectEv r w x l e) = true
-is_point (call.MutexAcquire m v e) = true
-is_point (call.RwAcquire l write v e) = true
-is_point c = false
+-- each wait is a cancellation point, but that of pth_exit
+abbrev pub is_point : Awaits → Bool
+is_point Nothing = false
+is_point Alone = false
+is_point a = true
 
 -- the blocked call is one
 abbrev pub is_at_point : Option Blocked → Bool
-is_at_point None = false
-is_at_point (Some b) = is_point b.call
+is_at_point o = is_point (awaits_in o)
 
 module _ {P S H : Type 0} where
   -- t was asked to end, lets itself be canceled, and is blocked in a cancellation point

@@ -1,6 +1,6 @@
 -- Event handling: pth_event, pth_event_concat, pth_event_isolate, pth_event_walk, pth_event_status, pth_event_typeof,
 -- pth_event_free, and pth_wait. The answers stand beside the rings, with the refusals of each call in order.
-use Rattle.std.specs.Prelude.{ℕ, ℤ, ◌&&◌, nat_lt, Bool, false, Option, Some, None, if◌then◌else◌}
+use Rattle.std.specs.Prelude.{ℕ, ℤ, ◌&&◌, nat_lt, Bool, Option, Some, None, if◌then◌else◌}
 use Rattle.pth_base.specs.declared.answer.Answer.TheVariants.{Int}
 use Rattle.pth_base.specs.declared.event.EvLine.{EvLine}
 use Rattle.pth_base.specs.declared.event.EvLine.TheVariants as line
@@ -12,7 +12,10 @@ use Rattle.pth_numbered.specs.Operands.{number, is_below}
 use Rattle.pth_ring.specs.declared.event.Status.{Status}
 use Rattle.pth_ring.specs.declared.event.Status.TheVariants.{Pending, Occurred, Failed}
 use Rattle.pth_ring.specs.Rings.{make_answer, chain_answer, concat_answer, isolate_answer, walk_answer, status_answer, kind_answer, free_answer, claim_answer, settled_in, alone, chained, concatenated, isolated, freed, ring_freed}
-use Rattle.pth_model.specs.Verdict.{Verdict, Says, says, done, by_result, waits, ◌when◌otherwise◌, refused_as◌otherwise◌}
+use Rattle.pth_model.specs.declared.awaits.Awaits.TheVariants.{Ring}
+use Rattle.pth_model.specs.declared.verdict.Verdict.{Verdict}
+use Rattle.pth_model.specs.declared.verdict.Verdict.TheVariants.{Says, Blocks}
+use Rattle.pth_model.specs.Verdict.{says, done, by_result, ◌when◌otherwise◌, refused_as◌otherwise◌}
 use Rattle.pth_model.specs.State.{State}
 use Rattle.pth_model.specs.Transition.{Change, silent, nothing}
 use Rattle.pth_model.specs.Changes.{with_events}
@@ -106,12 +109,10 @@ module _ {P S H : Type 0} (s : State P S H) where
       record {
         begin =
             refused_as claim_answer s.control.events (number e) otherwise
-            waits
+            Blocks (Ring e)
             trying silent;
-        again = λ b.
+        again = λ a.
             says settled when nat_lt 0 settled otherwise
-            waits
+            Blocks (Ring e)
             trying silent;
-        wakes = λ b. false;
-        until = λ b. 0;
       }

@@ -1,83 +1,100 @@
 -- Generalized I/O: pth_read, pth_write, pth_accept, pth_connect, pth_select, each with and without a ring of events, and the
 -- closing of a descriptor; and the modes of descriptors (pth_fdmode). What one attempt comes to stands beside the attempts.
-use Rattle.std.specs.Prelude.{ℕ, length, ◌&&◌, ◌||◌, not, nat_lt, ℤ, negsuc, int_lt, Bool, false, List, Option, Some, is_some, if◌then◌else◌}
+use Rattle.std.specs.Prelude.{ℕ, length, ◌&&◌, not, ℤ, negsuc, int_lt, Bool, false, List, Option, Some, None, if◌then◌else◌}
 use Rattle.pth_base.specs.declared.answer.Answer.{Answer}
-use Rattle.pth_base.specs.declared.answer.Answer.TheVariants.{Fail}
 use Rattle.pth_base.specs.declared.errno.Errno.TheVariants.{EINVAL, EBADF, EAGAIN, EBUSY}
-use Rattle.pth_kernel.specs.Kernel.{Kernel, fd_named, is_fd_live, is_nonblocking, room, fd_closed}
+use Rattle.pth_kernel.specs.Kernel.{Kernel, fd_named, is_fd_live, is_nonblocking, fd_closed}
 use Rattle.pth_kernel.specs.Modes.{mode_answer, sets_mode}
 use Rattle.pth_io.specs.Attempts.{read_answer, read_after, write_answer, written, write_after, accept_answer, accept_after, connect_answer, select_answer, are_all_live}
-use Rattle.pth_model.specs.declared.blocked.Blocked.{Blocked}
-use Rattle.pth_model.specs.Verdict.{Verdict, Blocks, no_pause, refused, says, said_or, counts_or, by_result, ◌when◌otherwise◌}
+use Rattle.pth_base.specs.declared.ids.FdSet.{FdSet}
+use Rattle.pth_model.specs.declared.awaits.Awaits.{Awaits}
+use Rattle.pth_model.specs.declared.awaits.Awaits.TheVariants.{Reading, Writing, Connection, ConnectAnswer, Selection}
+use Rattle.pth_model.specs.declared.verdict.Verdict.{Verdict}
+use Rattle.pth_model.specs.declared.verdict.Verdict.TheVariants.{Blocks}
+use Rattle.pth_model.specs.Verdict.{refused, says, said_or, counts_or, by_result, ◌when◌otherwise◌}
 use Rattle.pth_model.specs.State.{State, now_of}
 use Rattle.pth_model.specs.Transition.{changes}
 use Rattle.pth_model.specs.Changes.{with_kernel}
 use Rattle.pth_model.specs.Row.{Row, ◌changing◌, ◌trying◌}
 use Rattle.pth_model.specs.RingWaits.{is_no_ring, is_claimed_ring}
-use Rattle.pth_model.specs.Awaits.{deadline_by}
+use Rattle.pth_model.specs.Awaits.{written_in}
 use Rattle.pth_model.specs.Times.{is_negative, length_of, moment_after}
 
-abbrev pub is_too_short : ℤ → Bool
-is_too_short l = int_lt l (negsuc 0)
-
--- An attempt at a call on descriptors: its answer, or none where it is not yet; how many bytes it has written then; and what
--- it does to the kernel.
+-- an attempt at a call on descriptors: what it comes to, and what it does to the kernel
 pub record Trial : Type 0 where
-  pub answer : Option Answer
-  pub written : ℕ
+  pub verdict : Verdict
   pub after : Kernel → Kernel
+
+-- it is answered, or not yet: then it waits for this
+abbrev pub answered_or_waits : Option Answer → Awaits → Verdict
+answered_or_waits o a = said_or o (Blocks a)
 
 module _ (k : Kernel) where
   -- pth_read of up to n bytes
   abbrev pub read_trial : (f n : ℤ) → Trial
-  read_trial f n = record { answer = read_answer k (fd_named f) n; written = 0; after = read_after (fd_named f) n }
+  read_trial f n = record {
+    verdict = answered_or_waits (read_answer k (fd_named f) n) (Reading f n);
+    after = read_after (fd_named f) n;
+  }
 
   -- pth_write of so many bytes, of which a part was written before
   abbrev pub write_trial : ℤ → (total done : ℕ) → Trial
   write_trial f total done = record {
-    answer = write_answer k (fd_named f) total done;
-    written = written k (fd_named f) total done;
+    verdict = answered_or_waits (write_answer k (fd_named f) total done) (Writing f total (written k (fd_named f) total done));
     after = write_after (fd_named f) total done;
   }
 
   -- pth_accept
   abbrev pub accept_trial : ℤ → Trial
-  accept_trial f = record { answer = accept_answer k (fd_named f); written = 0; after = accept_after (fd_named f) }
+  accept_trial f = record {
+    verdict = answered_or_waits (accept_answer k (fd_named f)) (Connection f);
+    after = accept_after (fd_named f);
+  }
 
   -- an attempt that does nothing to the kernel
-  abbrev pub asks : Option Answer → Trial
-  asks a = record { answer = a; written = 0; after = λ (x : Kernel). x }
+  abbrev pub asks : Verdict → Trial
+  asks v = record { verdict = v; after = λ (x : Kernel). x }
 
   -- pth_connect
   abbrev pub connect_trial : ℤ → Trial
-  connect_trial f = asks (connect_answer k (fd_named f))
+  connect_trial f = asks (answered_or_waits (connect_answer k (fd_named f)) (ConnectAnswer f))
 
   -- pth_select, until a deadline
-  abbrev pub select_trial : (r w x : ℕ) → Option ℕ → Trial
-  select_trial r w x deadline = asks (select_answer k r w x deadline)
+  abbrev pub select_trial : (r w x : FdSet) → Option ℕ → Trial
+  select_trial r w x deadline = asks (answered_or_waits (select_answer k r.0 w.0 x.0 deadline) (Selection r w x deadline))
 
-  -- a first pth_select, which refuses a length below -1 where all members are live
-  abbrev pub first_select : (r w x : ℕ) → ℤ → Option ℕ → Trial
-  first_select r w x l deadline =
-      asks (if is_too_short l && are_all_live k r w x then Some (Fail EINVAL) else select_answer k r w x deadline)
+  -- an attempt at what is awaited of descriptors; at what else is awaited, it is not yet
+  abbrev pub trial_for : Awaits → Trial
+  trial_for (Reading f n) = read_trial f n
+  trial_for (Writing f total written) = write_trial f total written
+  trial_for (Connection f) = accept_trial f
+  trial_for (ConnectAnswer f) = connect_trial f
+  trial_for (Selection r w x deadline) = select_trial r w x deadline
+  trial_for a = asks (Blocks a)
 
 module _ {P S H : Type 0} (s : State P S H) where
-  -- where it is not yet: on a descriptor that doesn't block, or with a ring that is claimed, the call is answered at once, with
-  -- its count where a part was written; else it blocks its thread
-  abbrev pub begins_waiting : (at_once : Bool) → Option ℤ → (done : ℕ) → (moment : ℕ) → Verdict
-  begins_waiting at_once e done moment =
-      counts_or done EAGAIN when at_once otherwise
-      counts_or done EBUSY when is_claimed_ring s e otherwise
-      Blocks (record no_pause { moment = moment; written = done })
+  -- What is not yet as the call begins: on a descriptor that doesn't block, or with a ring that is claimed, the call is answered at
+  -- once, with its count if it wrote a part; else it blocks its thread.
+  abbrev pub begins_waiting : (at_once : Bool) → Option ℤ → Verdict → Verdict
+  begins_waiting at_once e (Blocks a) =
+      counts_or (written_in a) EAGAIN when at_once otherwise
+      counts_or (written_in a) EBUSY when is_claimed_ring s e otherwise
+      Blocks a
+  begins_waiting at_once e v = v
 
-  -- A call on descriptors begins with an attempt, unless its ring is none. Once it blocks its thread it is tried again, and waits
-  -- on with what it has written. The thread is woken once the call is answered, and waits for no moment.
-  abbrev pub tries : Option ℤ → (at_once : Bool) → (moment : ℕ) → Trial → (Blocked → Trial) → Row P S H
-  tries e at_once moment first again = record {
-    begin = (refused EINVAL when is_no_ring s e otherwise said_or first.answer (begins_waiting at_once e first.written moment)) trying changes (with_kernel first.after);
-    again = λ b. said_or (again b).answer (Blocks (record no_pause { written = (again b).written })) trying changes (with_kernel (again b).after);
-    wakes = λ b. is_some (again b).answer;
-    until = λ b. 0;
+  abbrev trial : Awaits → Trial
+  trial = trial_for s.control.kernel
+
+  -- A call on descriptors begins with an attempt at what it would wait for, unless its ring is none, or it is refused else. Once it
+  -- blocks its thread, the attempt is made again at what its wait holds.
+  abbrev pub tries : Option ℤ → (refused_else at_once : Bool) → Awaits → Row P S H
+  tries e refused_else at_once first = record {
+    begin =
+        refused EINVAL when is_no_ring s e otherwise
+        refused EINVAL when refused_else otherwise
+        begins_waiting at_once e (trial first).verdict
+        trying changes (with_kernel (trial first).after);
+    again = λ a. (trial a).verdict trying changes (with_kernel (trial a).after);
   }
 
   abbrev pub at_once : ℤ → Bool
@@ -85,42 +102,31 @@ module _ {P S H : Type 0} (s : State P S H) where
 
   -- pth_read, pth_read_ev
   abbrev pub read : (f n : ℤ) → Option ℤ → Row P S H
-  read f n e =
-      let trial = read_trial s.control.kernel f n in
-      tries e (at_once f) 0 trial (λ b. trial)
+  read f n e = tries e false (at_once f) (Reading f n)
 
-  -- pth_write, pth_write_ev: room for a part is worth waking for
+  -- pth_write, pth_write_ev
   abbrev pub write : ℤ → List ℕ → Option ℤ → Row P S H
-  write f bytes e =
-      let trial = write_trial s.control.kernel f (length bytes) in
-      record (tries e (at_once f) 0 (trial 0) (λ b. trial b.written)) {
-        wakes = λ b. is_some (trial b.written).answer || nat_lt 0 (room s.control.kernel (fd_named f));
-      }
+  write f bytes e = tries e false (at_once f) (Writing f (length bytes) 0)
 
   -- pth_accept, pth_accept_ev
   abbrev pub accept : ℤ → Option ℤ → Row P S H
-  accept f e =
-      let trial = accept_trial s.control.kernel f in
-      tries e (at_once f) 0 trial (λ b. trial)
+  accept f e = tries e false (at_once f) (Connection f)
 
   -- pth_connect, pth_connect_ev
   abbrev pub connect : ℤ → Option ℤ → Row P S H
-  connect f e =
-      let trial = connect_trial s.control.kernel f in
-      tries e (at_once f) 0 trial (λ b. trial)
+  connect f e = tries e false (at_once f) (ConnectAnswer f)
 
-  -- the moment at which a select is over that begins now; 0 where it has no deadline
-  abbrev pub select_moment : ℤ → ℕ
-  select_moment l = if is_negative l then 0 else moment_after (now_of s.control) (length_of 1 l)
+  -- a length below -1 is refused if all members of the sets are live
+  abbrev pub is_refused_length : (r w x : FdSet) → ℤ → Bool
+  is_refused_length r w x l = int_lt l (negsuc 0) && are_all_live s.control.kernel r.0 w.0 x.0
+
+  -- the deadline of a select that begins now: -1 is without one
+  abbrev pub select_deadline : ℤ → Option ℕ
+  select_deadline l = if is_negative l then None else Some (moment_after (now_of s.control) (length_of 1 l))
 
   -- pth_select, pth_select_ev: modes don't matter
-  abbrev pub select : (r w x : ℕ) → ℤ → Option ℤ → Row P S H
-  select r w x l e =
-      let moment = select_moment l in
-      let first = first_select s.control.kernel r w x l (deadline_by l moment) in
-      record (tries e false moment first (λ b. select_trial s.control.kernel r w x (deadline_by l b.moment))) {
-        until = λ b. if is_negative l then 0 else b.moment;
-      }
+  abbrev pub select : (r w x : FdSet) → ℤ → Option ℤ → Row P S H
+  select r w x l e = tries e (is_refused_length r w x l) false (Selection r w x (select_deadline l))
 
   -- pth_fdmode: the mode until now
   abbrev pub fdmode : ℤ → ℤ → Row P S H

@@ -2,7 +2,8 @@
 use Rattle.std.specs.Prelude.{ℕ, ℤ}
 use Rattle.pth_base.specs.declared.answer.Answer.TheVariants.{Int}
 use Rattle.pth_store.specs.Keys.{key_create_answer, key_delete_answer, key_set_answer, key_get_answer}
-use Rattle.pth_model.specs.Verdict.{Says, says, done, by_result}
+use Rattle.pth_model.specs.declared.verdict.Verdict.TheVariants.{Says}
+use Rattle.pth_model.specs.Verdict.{says, done, by_result}
 use Rattle.pth_model.specs.State.{State}
 use Rattle.pth_model.specs.Transition.{nothing}
 use Rattle.pth_model.specs.Row.{Row, ◌changing◌}

@@ -24,6 +24,7 @@ pub mod Cancellation
 pub mod ThreadEnds
 pub mod Times
 pub mod Io
+pub mod Coming
 pub mod Rows
 pub mod Calls
 pub mod Pass

@@ -8,7 +8,8 @@ use Rattle.pth_queue.specs.declared.queue.Queue.{Queue}
 use Rattle.pth_queue.specs.declared.queue.Queue.TheVariants as queue
 use Rattle.pth_numbered.specs.Operands.{◌is◌, ◌is_from◌to◌}
 use Rattle.pth_ring.specs.Rings.{all_unclaimed}
-use Rattle.pth_model.specs.Verdict.{Says, Kills, refused, says, ◌when◌otherwise◌}
+use Rattle.pth_model.specs.declared.verdict.Verdict.TheVariants.{Says, Kills}
+use Rattle.pth_model.specs.Verdict.{refused, says, ◌when◌otherwise◌}
 use Rattle.pth_model.specs.State.{State, main, present, queue}
 use Rattle.pth_model.specs.Transition.{Change, nothing}
 use Rattle.pth_model.specs.Changes.{or_nobody, favours_new}

@@ -3,8 +3,11 @@ use Rattle.std.specs.Prelude.{ℕ, ◌||◌, ◌&&◌, not, ℤ, Bool, is_none}
 use Rattle.pth_base.specs.declared.errno.Errno.TheVariants.{EINVAL, EBUSY}
 use Rattle.pth_numbered.specs.Operands.{is_zero}
 use Rattle.pth_lock.specs.Objects.{object_named}
-use Rattle.pth_lock.specs.Mutexes.{Mutex, owner_of, mutex_init_answer, mutex_take_answer, mutex_release_answer}
-use Rattle.pth_model.specs.Verdict.{Verdict, refused, says, waits, done, by_result, taken_or, ◌when◌otherwise◌}
+use Rattle.pth_lock.specs.Mutexes.{Mutex as MutexOf, owner_of, mutex_init_answer, mutex_take_answer, mutex_release_answer}
+use Rattle.pth_model.specs.declared.awaits.Awaits.TheVariants.{Mutex}
+use Rattle.pth_model.specs.declared.verdict.Verdict.{Verdict}
+use Rattle.pth_model.specs.declared.verdict.Verdict.TheVariants.{Blocks}
+use Rattle.pth_model.specs.Verdict.{refused, says, done, by_result, taken_or, ◌when◌otherwise◌}
 use Rattle.pth_model.specs.State.{State}
 use Rattle.pth_model.specs.Transition.{silent, nothing}
 use Rattle.pth_model.specs.Row.{Row, ◌changing◌, ◌trying◌}
@@ -12,7 +15,7 @@ use Rattle.pth_model.specs.RingWaits.{extra_ring, is_no_ring, is_claimed_ring}
 
 module _ {P S H : Type 0} (s : State P S H) where
   -- the mutex that an operand names
-  abbrev pub mutex : ℤ → Mutex
+  abbrev pub mutex : ℤ → MutexOf
   mutex m = s.resources.store.mutexes (object_named m)
 
   -- it is initialised, and nobody has it
@@ -29,15 +32,13 @@ module _ {P S H : Type 0} (s : State P S H) (t : ℕ) where
   begins_acquiring m v e =
       refused EINVAL when is_no_ring s (extra_ring e) otherwise
       taken_or (mutex_take_answer s.resources.store.mutexes t m)
-      (refused EBUSY when not (is_zero v) || is_claimed_ring s (extra_ring e) otherwise waits)
+      (refused EBUSY when not (is_zero v) || is_claimed_ring s (extra_ring e) otherwise Blocks (Mutex m))
 
   -- tried again: one level, where it is free
   abbrev pub mutex_acquire : (m v e : ℤ) → Row P S H
   mutex_acquire m v e = record {
     begin = begins_acquiring m v e trying silent;
-    again = λ b. says 1 when is_free s m otherwise waits trying silent;
-    wakes = λ b. is_free s m;
-    until = λ b. 0;
+    again = λ a. says 1 when is_free s m otherwise Blocks (Mutex m) trying silent;
   }
 
   -- pth_mutex_release: one level less

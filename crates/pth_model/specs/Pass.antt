@@ -48,7 +48,7 @@ module _ {P S H : Type 0} (f : P → Functions S H) where
   -- the blocked call of a waiting thread has what it waits for, or an event comes of the ring that it was given, or the thread may
   -- be canceled
   abbrev pub is_to_wake : State P S H → ℕ → Bool
-  is_to_wake s t = wakes f t s || comes_for s.control t || may_be_canceled s.control t
+  is_to_wake s t = wakes t s || comes_for s.control t || may_be_canceled s.control t
 
   -- those of the waiting threads, in their order
   unfoldable pub to_wake : State P S H → List ℕ
@@ -60,7 +60,7 @@ module _ {P S H : Type 0} (f : P → Functions S H) where
 
   -- the moments that a waiting thread waits for, 0 for none: its call's, and those of the events of its ring
   abbrev pub moments_of : State P S H → ℕ → List ℕ
-  moments_of s t = waits_until f t s ∷ map (λ e. event_moment (s.control.events.events e)) (awaited_events s.control t)
+  moments_of s t = waits_until t s ∷ map (λ e. event_moment (s.control.events.events e)) (awaited_events s.control t)
 
   abbrev pub moments : State P S H → List ℕ
   moments s = flat_map (moments_of s) (waiting s.control)

@@ -10,7 +10,9 @@ use Rattle.pth_base.specs.declared.call.Call.TheVariants as call
 use Rattle.pth_numbered.specs.Operands.{number, is_zero}
 use Rattle.pth_ring.specs.declared.event.Event.{Event}
 use Rattle.pth_ring.specs.Rings.{Events, claimed, with_event, with_claim, settled_in, is_event, is_claimed}
+use Rattle.pth_model.specs.declared.awaits.Awaited.{Awaited}
 use Rattle.pth_model.specs.declared.blocked.Blocked.{Blocked}
+use Rattle.pth_model.specs.Awaits.{awaits_in}
 use Rattle.pth_model.specs.State.{State, Control, now_of}
 use Rattle.pth_model.specs.Transition.{Change, nothing, tid, ◌and◌}
 use Rattle.pth_model.specs.Changes.{with_events, is_blocked_by, blocked_of}
@@ -35,6 +37,10 @@ ring_given c = None
 abbrev pub ring_held : Option Blocked → Option ℤ
 ring_held None = None
 ring_held (Some b) = ring_given b.call
+
+-- what a thread waits for, and the ring of events beside it
+abbrev pub awaited_in : Option Blocked → Awaited
+awaited_in o = record { what = awaits_in o; ring = ring_held o }
 
 -- the events of a ring, from the event that was given on
 abbrev pub events_from : Events → Option ℤ → List ℕ

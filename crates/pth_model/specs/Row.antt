@@ -1,9 +1,12 @@
 -- The row of a call: all that is said of it, in one place.
-use Rattle.std.specs.Prelude.{ℕ, Bool, true, false}
+use Rattle.std.specs.Prelude.{Bool, true, false}
 use Rattle.pth_base.specs.declared.answer.Answer.TheVariants.{Fail}
 use Rattle.pth_base.specs.declared.errno.Errno.TheVariants.{EINVAL}
-use Rattle.pth_model.specs.declared.blocked.Blocked.{Blocked}
-use Rattle.pth_model.specs.Verdict.{Verdict, Says, Yields, Blocks, Ends, Kills, refused, waits}
+use Rattle.pth_model.specs.declared.awaits.Awaits.{Awaits}
+use Rattle.pth_model.specs.declared.awaits.Awaits.TheVariants.{Nothing}
+use Rattle.pth_model.specs.declared.verdict.Verdict.{Verdict}
+use Rattle.pth_model.specs.declared.verdict.Verdict.TheVariants.{Says, Yields, Blocks, Ends, Kills}
+use Rattle.pth_model.specs.Verdict.{refused}
 use Rattle.pth_model.specs.Transition.{Piece, Change, silent, nothing, changes}
 
 -- what an attempt at a call comes to, and what it does unless it is refused
@@ -14,12 +17,8 @@ pub record Attempt (P S H : Type 0) : Type 0 where
 pub record Row (P S H : Type 0) : Type 0 where
   -- as the call begins: its refusals in order, and its effect
   pub begin : Attempt P S H
-  -- tried again, once it has blocked its thread: while it blocks, it is not yet
-  pub again : Blocked → Attempt P S H
-  -- whether the thread that it blocks is woken
-  pub wakes : Blocked → Bool
-  -- the moment that it waits for, to which idle time goes; 0 for none
-  pub until : Blocked → ℕ
+  -- tried again, once its thread waits: while it blocks, it is not yet
+  pub again : Awaits → Attempt P S H
 
 -- whether a verdict refuses the call
 abbrev pub refuses : Verdict → Bool
@@ -48,12 +47,12 @@ module _ {P S H : Type 0} where
   -- a call that never blocks its thread, and changes the control or nothing: so it is never tried again
   infix 3 ◌changing◌
   abbrev pub ◌changing◌ : Verdict → Change P S H → Row P S H
-  v changing g = record { begin = v trying changes g; again = λ b. waits trying silent; wakes = λ b. false; until = λ b. 0 }
+  v changing g = record { begin = v trying changes g; again = λ a. Blocks Nothing trying silent }
 
   -- a call that never blocks its thread, and tells what it does before its answer
   infix 3 ◌doing◌
   abbrev pub ◌doing◌ : Verdict → Piece P S H → Row P S H
-  v doing a = record { begin = v trying a; again = λ b. waits trying silent; wakes = λ b. false; until = λ b. 0 }
+  v doing a = record { begin = v trying a; again = λ a. Blocks Nothing trying silent }
 
   -- a call that is not built yet
   abbrev pub unbuilt : Row P S H

@@ -5,7 +5,8 @@ use Rattle.pth_base.specs.declared.answer.Answer.TheVariants as answer
 use Rattle.pth_base.specs.declared.call.Call.{Call}
 use Rattle.pth_base.specs.declared.call.Call.TheVariants as call
 use Rattle.pth_base.specs.declared.event.EvLine.TheVariants as line
-use Rattle.pth_model.specs.Verdict.{Says, says}
+use Rattle.pth_model.specs.declared.verdict.Verdict.TheVariants.{Says}
+use Rattle.pth_model.specs.Verdict.{says}
 use Rattle.pth_model.specs.State.{State}
 use Rattle.pth_model.specs.Transition.{nothing}
 use Rattle.pth_model.specs.Row.{Row, ◌changing◌, unbuilt}
@@ -98,8 +99,8 @@ module _ {P S H : Type 0} (f : P → Functions S H) (s : State P S H) (t : ℕ) 
   row_of (call.AcceptEv d e) = accept s d (extra_ring e)
   row_of (call.Connect d) = connect s d None
   row_of (call.ConnectEv d e) = connect s d (extra_ring e)
-  row_of (call.Select r w x l) = select s r.0 w.0 x.0 l None
-  row_of (call.SelectEv r w x l e) = select s r.0 w.0 x.0 l (extra_ring e)
+  row_of (call.Select r w x l) = select s r w x l None
+  row_of (call.SelectEv r w x l e) = select s r w x l (extra_ring e)
   row_of (call.Close d) = close s d
   -- a plain line and a note call nothing: `begun` tells them without a row, and these two stand here so that no call is left out
   row_of call.Plain = Says answer.None changing nothing

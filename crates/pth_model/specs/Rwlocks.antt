@@ -4,7 +4,10 @@ use Rattle.pth_base.specs.declared.errno.Errno.TheVariants.{EINVAL, EBUSY}
 use Rattle.pth_numbered.specs.Operands.{is_zero}
 use Rattle.pth_lock.specs.Objects.{object_named}
 use Rattle.pth_lock.specs.RwLocks.{holds, may_enter, lock_init_answer, lock_take_answer, lock_release_answer}
-use Rattle.pth_model.specs.Verdict.{Verdict, refused, says, waits, done, by_result, taken_or, ◌when◌otherwise◌}
+use Rattle.pth_model.specs.declared.awaits.Awaits.TheVariants.{Lock}
+use Rattle.pth_model.specs.declared.verdict.Verdict.{Verdict}
+use Rattle.pth_model.specs.declared.verdict.Verdict.TheVariants.{Blocks}
+use Rattle.pth_model.specs.Verdict.{refused, says, done, by_result, taken_or, ◌when◌otherwise◌}
 use Rattle.pth_model.specs.State.{State}
 use Rattle.pth_model.specs.Transition.{silent, nothing}
 use Rattle.pth_model.specs.Row.{Row, ◌changing◌, ◌trying◌}
@@ -33,15 +36,13 @@ module _ {P S H : Type 0} (s : State P S H) (t : ℕ) where
   begins_entering l write v e =
       refused EINVAL when is_no_ring s (extra_ring e) otherwise
       taken_or (lock_take_answer s.resources.store.rw_locks t write l)
-      (refused EBUSY when not (is_zero v) || is_claimed_ring s (extra_ring e) otherwise waits)
+      (refused EBUSY when not (is_zero v) || is_claimed_ring s (extra_ring e) otherwise Blocks (Lock l write))
 
   -- tried again: t enters, where it may, and does not hold it
   abbrev pub rw_acquire : ℤ → Bool → (v e : ℤ) → Row P S H
   rw_acquire l write v e = record {
     begin = begins_entering l write v e trying silent;
-    again = λ b. says 1 when is_open s write l && not (holds s.resources.store.rw_locks t (object_named l)) otherwise waits trying silent;
-    wakes = λ b. is_open s write l;
-    until = λ b. 0;
+    again = λ a. says 1 when is_open s write l && not (holds s.resources.store.rw_locks t (object_named l)) otherwise Blocks (Lock l write) trying silent;
   }
 
   -- pth_rwlock_release

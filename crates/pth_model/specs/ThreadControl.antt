@@ -14,7 +14,10 @@ use Rattle.pth_threads.specs.declared.entry.Change.TheVariants as change
 use Rattle.pth_threads.specs.declared.entry.Entry.{Entry}
 use Rattle.pth_threads.specs.declared.entry.NewThread.{NewThread}
 use Rattle.pth_numbered.specs.Operands.{number, named, is_zero, is_below, ◌is◌}
-use Rattle.pth_model.specs.Verdict.{Verdict, Says, Yields, refused, says, waits, ◌when◌otherwise◌, refused_as◌otherwise◌}
+use Rattle.pth_model.specs.Awaits.{death_of}
+use Rattle.pth_model.specs.declared.verdict.Verdict.{Verdict}
+use Rattle.pth_model.specs.declared.verdict.Verdict.TheVariants.{Says, Yields, Blocks}
+use Rattle.pth_model.specs.Verdict.{refused, says, ◌when◌otherwise◌, refused_as◌otherwise◌}
 use Rattle.pth_model.specs.State.{Control, State, present, queue}
 use Rattle.pth_model.specs.Transition.{Change, changes, nothing, ◌and◌}
 use Rattle.pth_model.specs.Changes.{entry_of, or_nobody, makes, enters, leaves_queue, sets, removes, prefers, holders, queue_for}
@@ -93,10 +96,10 @@ module _ {P S H : Type 0} where
   takes_joined None = nothing
   takes_joined (Some t) = removes t
 
-  -- the value of the thread that is taken; without one the join waits
-  abbrev pub joined : Control P S H → Option ℕ → Verdict
-  joined k None = waits
-  joined k (Some t) = Says (Int (or_nobody (entry_of k t)).value)
+  -- the value of the thread that is taken; without one the join waits for a death, for 0 that of any
+  abbrev pub joined : Control P S H → ℤ → Option ℕ → Verdict
+  joined k n None = Blocks (death_of n)
+  joined k n (Some t) = Says (Int (or_nobody (entry_of k t)).value)
 
 module _ {P S H : Type 0} (f : P → Functions S H) (s : State P S H) (t : ℕ) where
   -- pth_spawn: a new thread of a body, with the values of its spawner, or of an attribute object: EINVAL where there is no such
@@ -145,14 +148,12 @@ module _ {P S H : Type 0} (s : State P S H) (t : ℕ) where
       refused EDEADLK when n is t || (is_zero n && (present s.control == 1)) otherwise
       refused ESRCH when not (is_zero n) && not (is_known s.control n) otherwise
       refused EINVAL when not (is_zero n) && not (or_nobody (thread s.control n)).joinable otherwise
-      joined s.control (to_join s.control n)
+      joined s.control n (to_join s.control n)
       trying changes (takes_joined (to_join s.control n))
 
   -- while the thread lives it waits, and then it is tried again as it began
   abbrev pub join : ℤ → Row P S H
   join n = record {
     begin = join_attempt n;
-    again = λ b. join_attempt n;
-    wakes = λ b. is_some (to_join s.control n) || (not (is_zero n) && not (or_nobody (thread s.control n)).joinable);
-    until = λ b. 0;
+    again = λ a. join_attempt n;
   }

@@ -1,7 +1,9 @@
 -- The calls of thread control that end threads: pth_exit.
 use Rattle.std.specs.Prelude.{ℕ, ◌==◌, ◌&&◌, not, ℤ, Bool, true, List, [], ◌∷◌}
 use Rattle.pth_queue.specs.declared.queue.Queue.TheVariants as queue
-use Rattle.pth_model.specs.Verdict.{Ends, waits, ◌when◌otherwise◌}
+use Rattle.pth_model.specs.declared.awaits.Awaits.TheVariants.{Alone}
+use Rattle.pth_model.specs.declared.verdict.Verdict.TheVariants.{Blocks, Ends}
+use Rattle.pth_model.specs.Verdict.{◌when◌otherwise◌}
 use Rattle.pth_model.specs.State.{Control, State, queue, main}
 use Rattle.pth_model.specs.Transition.{silent}
 use Rattle.pth_model.specs.Changes.{holders}
@@ -26,14 +28,12 @@ module _ {P S H : Type 0} where
 module _ {P S H : Type 0} (s : State P S H) (t : ℕ) where
   abbrev pub exit_attempt : ℤ → Attempt P S H
   exit_attempt v =
-      waits when must_wait s.control t otherwise
+      Blocks Alone when must_wait s.control t otherwise
       Ends v
       trying silent
 
   abbrev pub exit : ℤ → Row P S H
   exit v = record {
     begin = exit_attempt v;
-    again = λ b. exit_attempt v;
-    wakes = λ b. is_alone s.control t;
-    until = λ b. 0;
+    again = λ a. exit_attempt v;
   }

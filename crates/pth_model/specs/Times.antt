@@ -3,7 +3,10 @@ use Rattle.std.specs.Prelude.{ℕ, ◌+◌, ◌*◌, min, nat_le, ℤ, pos, negs
 use Rattle.pth_base.specs.Limits.{last_moment}
 use Rattle.pth_base.specs.declared.errno.Errno.TheVariants.{EINVAL}
 use Rattle.pth_numbered.specs.Operands.{number, is_zero}
-use Rattle.pth_model.specs.Verdict.{refused, says, waits, blocks_until, ◌when◌otherwise◌}
+use Rattle.pth_model.specs.declared.awaits.Awaits.TheVariants.{Moment}
+use Rattle.pth_model.specs.Awaits.{moment_in}
+use Rattle.pth_model.specs.declared.verdict.Verdict.TheVariants.{Blocks}
+use Rattle.pth_model.specs.Verdict.{refused, says, ◌when◌otherwise◌}
 use Rattle.pth_model.specs.State.{State, now_of}
 use Rattle.pth_model.specs.Transition.{silent, nothing}
 use Rattle.pth_model.specs.Row.{Row, ◌changing◌, ◌trying◌}
@@ -42,14 +45,12 @@ module _ {P S H : Type 0} (s : State P S H) where
     begin =
         refused EINVAL when is_negative n otherwise
         says answer when is_zero n otherwise
-        blocks_until (moment_after (now_of s.control) (length_of unit n))
+        Blocks (Moment (moment_after (now_of s.control) (length_of unit n)))
         trying silent;
-    again = λ b.
-        says answer when nat_le b.moment (now_of s.control) otherwise
-        waits
+    again = λ a.
+        says answer when nat_le (moment_in a) (now_of s.control) otherwise
+        Blocks (Moment (moment_in a))
         trying silent;
-    wakes = λ b. nat_le b.moment (now_of s.control);
-    until = λ b. b.moment;
   }
 
   -- pth_nap

@@ -1,30 +1,11 @@
 -- What an attempt at a call comes to, and how its row says so.
-use Rattle.std.specs.Prelude.{ℕ, nat_lt, ℤ, pos, Bool, true, false, Option, Some, None, Result, Ok, Err}
+use Rattle.std.specs.Prelude.{ℕ, nat_lt, pos, Bool, true, false, Option, Some, None, Result, Ok, Err}
 use Rattle.pth_base.specs.declared.answer.Answer.{Answer}
 use Rattle.pth_base.specs.declared.answer.Answer.TheVariants.{Int, Fail}
 use Rattle.pth_base.specs.declared.errno.Errno.{Errno}
 use Rattle.pth_base.specs.declared.errno.Errno.TheVariants.{EBUSY}
-
--- what a call that blocks its thread waits with
-pub record Pause : Type 0 where
-  -- the moment that it waits for, 0 for none
-  pub moment : ℕ
-  -- the bytes that it wrote so far
-  pub written : ℕ
-  -- the round of its arrival at a barrier
-  pub round : ℕ
-
-pub data Verdict : Type 0 where
-  -- the call is answered, and its thread goes on
-  Says : Answer → Verdict
-  -- it is answered, and its thread gives up control
-  Yields : Answer → Verdict
-  -- it blocks its thread
-  Blocks : Pause → Verdict
-  -- its thread ends with a value
-  Ends : ℤ → Verdict
-  -- the run ends
-  Kills : Verdict
+use Rattle.pth_model.specs.declared.verdict.Verdict.{Verdict}
+use Rattle.pth_model.specs.declared.verdict.Verdict.TheVariants.{Says}
 
 -- the clauses of a row stand in order: the first one that holds is the verdict
 infixr 4 ◌when◌otherwise◌
@@ -67,14 +48,3 @@ abbrev pub taken_or : Result (Unit {0}) Errno → Verdict → Verdict
 taken_or (Ok u) v = says 1
 taken_or (Err EBUSY) v = v
 taken_or (Err e) v = refused e
-
--- for no moment
-abbrev pub no_pause : Pause
-no_pause = record { moment = 0; written = 0; round = 0 }
-
-abbrev pub waits : Verdict
-waits = Blocks no_pause
-
--- until a moment
-abbrev pub blocks_until : ℕ → Verdict
-blocks_until m = Blocks (record no_pause { moment = m })

@@ -1,7 +1,6 @@
 //! What a blocked thread waits for.
 
 ghost use Rattle.std.specs.Prelude.{◌≡◌};
-ghost use Rattle.pth_model.specs.Awaits.{awaited_by as awaited, awaited_of_descriptors, awaited_of_locks, deadline_by, IsCounted};
 ghost use Rattle.pth_model.specs.RingWaits.{extra_ring, ring_given as given};
 
 use pth_base::call::Call;
@@ -53,6 +52,36 @@ pub enum Awaits {
     },
 }
 
+impl Awaits {
+    ghost use Rattle.std.specs.Prelude.{◌≡◌};
+    ghost use Rattle.pth_model.specs.Awaits.{moment_in, written_in};
+
+    /// The moment that is waited for; 0 for none.
+    #[inline(always)]
+    pub fn moment(self) -> Micros
+        ensures { result ≡ moment_in self }
+    {
+        match self {
+            Awaits::Moment(moment) => moment,
+            Awaits::Selection {
+                deadline: Some(deadline),
+                ..
+            } => deadline,
+            _ => 0,
+        }
+    }
+
+    /// How many bytes a `pth_write` wrote so far.
+    pub fn written(self) -> usize
+        ensures { result ≡ written_in self }
+    {
+        match self {
+            Awaits::Writing { written, .. } => written,
+            _ => 0,
+        }
+    }
+}
+
 /// What a thread waits for, and the event whose ring its call was given, if any.
 #[derive(Clone, Copy)]
 pub struct Awaited {
@@ -66,67 +95,6 @@ impl Awaited {
         what: Awaits::Nothing,
         ring: None,
     };
-}
-
-/// What a call waits for that blocks its thread until a moment, and has written so many bytes.
-pub fn awaited_by(call: &Call, moment: Micros, written: usize) -> Awaits
-    ensures awaits { result ≡ awaited call.now moment written }
-    ensures counted { IsCounted call.now }
-{
-    match call {
-        Call::Exit(_) => Awaits::Alone,
-        Call::Join(0) => Awaits::AnyDeath,
-        Call::Join(n) => Awaits::Death(*n),
-        Call::Nap(_) | Call::Usleep(_) | Call::Sleep(_) => Awaits::Moment(moment),
-        Call::Wait(e) => Awaits::Ring(*e),
-        _ => awaited_of_locks(call, moment, written),
-    }
-}
-
-// What a call on mutexes and read-write locks waits for, or one on descriptors.
-fn awaited_of_locks(call: &Call, moment: Micros, written: usize) -> Awaits
-    ensures awaits { result ≡ awaited_of_locks call.now moment written }
-    ensures counted { IsCounted call.now }
-{
-    match call {
-        Call::MutexAcquire { m, .. } => Awaits::Mutex(*m),
-        Call::RwAcquire { l, write, .. } => Awaits::Lock {
-            l: *l,
-            write: *write,
-        },
-        _ => awaited_of_descriptors(call, moment, written),
-    }
-}
-
-// What a call on descriptors waits for.
-fn awaited_of_descriptors(call: &Call, moment: Micros, written: usize) -> Awaits
-    ensures awaits { result ≡ awaited_of_descriptors call.now moment written }
-    ensures counted { IsCounted call.now }
-{
-    match call {
-        Call::Read { f, n } | Call::ReadEv { f, n, .. } => Awaits::Reading { f: *f, n: *n },
-        Call::Write { f, bytes } | Call::WriteEv { f, bytes, .. } => Awaits::Writing {
-            f: *f,
-            total: bytes.as_slice().len(),
-            written,
-        },
-        Call::Accept(f) | Call::AcceptEv { f, .. } => Awaits::Connection(*f),
-        Call::Connect(f) | Call::ConnectEv { f, .. } => Awaits::ConnectAnswer(*f),
-        Call::Select { r, w, x, l } | Call::SelectEv { r, w, x, l, .. } => Awaits::Selection {
-            r: *r,
-            w: *w,
-            x: *x,
-            deadline: deadline_by(*l, moment),
-        },
-        _ => Awaits::Nothing,
-    }
-}
-
-// The deadline of a select that blocks until a moment: a negative length is without one.
-fn deadline_by(l: i64, moment: Micros) -> Option<Micros>
-    ensures { result ≡ deadline_by l moment }
-{
-    if l < 0 { None } else { Some(moment) }
 }
 
 /// The event that a call was given, whose ring it claims until it is answered.
@@ -146,8 +114,8 @@ pub fn ring_given(call: &Call) -> Option<i64>
     }
 }
 
-// The ring that a call on a descriptor was given beside it: 0 is none.
-fn extra_ring(e: i64) -> Option<i64>
+/// The ring that a call was given beside what else it waits for: 0 is none.
+pub fn extra_ring(e: i64) -> Option<i64>
     ensures { result ≡ extra_ring e }
 {
     if e == 0 { None } else { Some(e) }

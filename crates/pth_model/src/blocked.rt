@@ -3,42 +3,19 @@
 ghost use Rattle.std.specs.Prelude.{◌≡◌};
 ghost use Rattle.pth_model.specs.RingWaits.{ring_held};
 
-use crate::awaits::{Awaited, awaited_by, ring_given};
+use crate::awaits::{Awaited, Awaits, ring_given};
 use pth_base::call::Call;
-use pth_base::ids::Micros;
 
-/// Whether a blocked `pth_cond_await` takes its mutex back, and with which outcome.
-#[derive(Clone, Copy)]
-pub enum Retake {
-    No,
-    One,
-    Intr,
-    Canceled,
-}
-
-/// A call that blocks its thread: since when, the moment it waits for, the bytes that it wrote so far, the round of its
-/// arrival at a barrier, and whether it takes its mutex back. No call that is built reads `begin`, `round` or `retake`: the first
-/// tells since when a thread waits, and the others are for barriers and conditions.
+/// A call that blocks its thread, and what the thread waits for.
 pub struct Blocked {
     pub call: Call,
-    pub begin: Micros,
-    pub moment: Micros,
-    pub written: usize,
-    pub round: u64,
-    pub retake: Retake,
+    pub awaits: Awaits,
 }
 
 // By hand, so that letting one go is one call in each proof.
 impl Drop for Blocked {
     fn drop(self) {
-        let Blocked {
-            call: _,
-            begin: _,
-            moment: _,
-            written: _,
-            round: _,
-            retake: _,
-        } = self;
+        let Blocked { call: _, awaits: _ } = self;
     }
 }
 
@@ -54,14 +31,14 @@ pub fn ring_held(blocked: &Option<Blocked>) -> Option<i64>
 
 impl Blocked {
     ghost use Rattle.std.specs.Prelude.{◌≡◌, Some};
-    ghost use Rattle.pth_model.specs.Awaits.{awaited_in};
+    ghost use Rattle.pth_model.specs.RingWaits.{awaited_in};
 
-    /// What the thread waits for.
+    /// What the thread waits for, and the ring that its call was given.
     pub fn awaited(&self) -> Awaited
         ensures { result ≡ awaited_in (Some self.now) }
     {
         Awaited {
-            what: awaited_by(&self.call, self.moment, self.written),
+            what: self.awaits,
             ring: ring_given(&self.call),
         }
     }

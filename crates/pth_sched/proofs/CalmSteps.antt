@@ -4,17 +4,22 @@ use Rattle.pth_base.specs.Program.{Functions}
 use Rattle.pth_base.specs.declared.call.Call.{Call}
 use Rattle.pth_base.specs.declared.mark.Mark.{Mark}
 use Rattle.pth_kernel.specs.Kernel.{Kernel, kernel_of}
+use Rattle.pth_threads.specs.Threads.{slot_of}
 use Rattle.pth_model.specs.declared.blocked.Blocked.{Blocked}
 use Rattle.pth_model.specs.declared.next.Next.{Next}
 use Rattle.pth_model.specs.declared.progress.Progress.{Progress}
 use Rattle.pth_model.specs.State.{Control, State}
 use Rattle.pth_model.specs.Transition.{Went, controlled}
 use Rattle.pth_model.specs.Calls.{begun, gone_on}
-use Rattle.pth_model.specs.Changes.{blocked_of}
+use Rattle.pth_model.specs.Changes.{blocked_in, blocked_of}
 use Rattle.pth_model.specs.Part.{owes_after, step_of, stepping, steps_by, steps_from, steps_on}
 use Rattle.pth_world.specs.Leading.{Leads}
 use Rattle.pth_world.specs.Shows.{Shows, StandsFor}
+use Rattle.pth_world.specs.Sound.{IsKnown}
+use Rattle.pth_world.specs.Whole.{MayBlock, Whole, view}
 use Rattle.pth_world.specs.World.{WorldOf}
+use Rattle.pth_world.proofs.Moves.{blocked_may, known_slot}
+use Rattle.pth_world.proofs.Showing.{progress_is}
 use Rattle.pth_world.proofs.Telling.{has_still}
 use Rattle.pth_sched.specs.Calm.{IsCalmUntil, Calms}
 use Rattle.pth_sched.specs.Mild.{is_mild, is_patient, is_waiting, waits_mildly}
@@ -31,6 +36,13 @@ either true b h = inl refl
 either false b h = inr h
 
 module _ {P S H : Type 0} where
+  -- the call that blocks the thread that runs is one that may
+  runner_may : (w : WorldOf P S H) (s : State P S H) (t : ℕ) → Whole w → StandsFor w s → w.scheduler.running ≡ Some t → IfSome (blocked_of s.control t) (λ b. MayBlock t b)
+  runner_may w s t whole st runs =
+      let slot = known_slot (slot_of w.threads.records t) (subst (λ (o : Option ℕ). IfSome o (λ u. IsKnown w.threads u)) runs whole.runner) in
+      let is : blocked_of s.control t ≡ (view w.threads slot.0).blocked = ap blocked_in (progress_is w.threads s.control t slot.0 whole.sound slot.1 st.control.threads) in
+      subst (λ (o : Option Blocked). IfSome o (λ b. MayBlock t b)) (sym is) (blocked_may w t slot.0 whole slot.1)
+
   -- what is known after a call: what was known, or nothing
   pub calms_by : (w : WorldOf P S H) (b : Bool) (was until : ℕ) → until ≡ (if b then was else 0) → (b ≡ true → 0 < was → IsCalmUntil w was) → Calms w until
   calms_by w true was until is calm some = subst (IsCalmUntil w) (sym is) (calm refl (subst (λ (n : ℕ). 0 < n) is some))
@@ -63,17 +75,17 @@ module _ {P S H : Type 0} where
       begun_calms some shows = begun_from (s.control.threads.progress t) (some s calm.stands) (shows s.control calm.stands.control)
 
     -- a call is tried again
-    module _ (patient : Bool) (n : Next) (old new : List Mark) (is : (k : Control P S H) → Shows w k → patient ≡ is_patient (kernel_of w.kernel) (blocked_of k t))
+    module _ (whole : Whole w) (patient : Bool) (n : Next) (old new : List Mark) (is : (k : Control P S H) → Shows w k → patient ≡ is_patient (kernel_of w.kernel) (blocked_of k t))
         (next : (r : State P S H) → StandsFor w r → n ≡ (gone_on f t r).next) (leads : (r : State P S H) → StandsFor w r → Leads v old new (gone_on f t r).told) where
-      gone_on_by_test : (o : Option Blocked) → blocked_of s.control t ≡ o → is_patient s.control.kernel o ≡ true → is_waiting (gone_on f t s).next ≡ true → IsMild t s (gone_on f t s).told.state
-      gone_on_by_test None blocked mild waits = absurd (cc mild)
-      gone_on_by_test (Some b) blocked mild waits = goes_on_mild t f s b blocked mild waits
+      gone_on_by_test : (o : Option Blocked) → blocked_of s.control t ≡ o → IfSome o (λ b. MayBlock t b) → is_patient s.control.kernel o ≡ true → is_waiting (gone_on f t s).next ≡ true → IsMild t s (gone_on f t s).told.state
+      gone_on_by_test None blocked may mild waits = absurd (cc mild)
+      gone_on_by_test (Some b) blocked may mild waits = goes_on_mild t f s b blocked may mild waits
 
       pub gone_on_calms : (patient && is_waiting n) ≡ true → IsCalmUntil v until
       gone_on_calms test =
           let a = both patient (is_waiting n) test in
           mild_calms w until calm v t (gone_on f t s).told.state runs (leads s calm.stands).stands
-          (gone_on_by_test (blocked_of s.control t) refl (ap (λ (k : Kernel). is_patient k (blocked_of s.control t)) calm.stands.control.kernel ∙ sym (is s.control calm.stands.control) ∙ a.0) (subst (λ (x : Next). is_waiting x ≡ true) (next s calm.stands) a.1))
+          (gone_on_by_test (blocked_of s.control t) refl (runner_may w s t whole calm.stands runs) (ap (λ (k : Kernel). is_patient k (blocked_of s.control t)) calm.stands.control.kernel ∙ sym (is s.control calm.stands.control) ∙ a.0) (subst (λ (x : Next). is_waiting x ≡ true) (next s calm.stands) a.1))
 
   -- t is handed over what it is owed
   pub owed_calms : (w v : WorldOf P S H) (until t : ℕ) (n : Next) → IsCalmUntil w until → w.scheduler.running ≡ Some t → ((k : Control P S H) → Shows w k → Shows v (owes_after t n k)) → v.store ≡ w.store → IsCalmUntil v until

@@ -1,9 +1,8 @@
 -- What keeps a world calm.
-use Rattle.std.proofs.Common.{◌≡◌, ◌≢◌, ◌∙◌, ℕ, ◌==◌, ◌<◌, ◌≤◌, min, IfSome, Bool, true, false, List, [], filter, All, Option, Some, None, refl, sym, ap, subst, arith, append-nil, inl, inr}
+use Rattle.std.proofs.Common.{◌≡◌, ◌≢◌, ◌∙◌, ℕ, ◌==◌, ◌<◌, ◌≤◌, min, IfSome, true, false, List, All, Option, Some, None, refl, sym, ap, subst, arith, append-nil, inl, inr}
 use Rattle.std.proofs.lemmas.Bool.{cases_Bool}
 use Rattle.std.proofs.lemmas.List.Elements.{All-weaker}
 use Rattle.pth_base.proofs.Tables.{same_means, same_fails}
-use mathlib.Core.Path.{fun_ext}
 use Rattle.pth_base.specs.Limits.{last_moment}
 use Rattle.pth_base.specs.Naming.{by_slot, seen}
 use Rattle.pth_base.specs.Program.{Functions}
@@ -16,13 +15,12 @@ use Rattle.pth_model.specs.State.{Control, State, Scheduler, now_of, main}
 use Rattle.pth_model.specs.Cancellation.{may_be_canceled}
 use Rattle.pth_model.specs.Changes.{blocked_in, blocked_of, entry_of}
 use Rattle.pth_model.specs.Part.{readies_new, runs, turn_ends}
-use Rattle.pth_model.specs.Pass.{is_to_wake, looks, waiting, to_wake, pass, all_woken}
-use Rattle.pth_model.specs.Resources.{Resources, Store}
+use Rattle.pth_model.specs.Pass.{looks, waiting, pass, all_woken}
+use Rattle.pth_model.specs.Resources.{Resources}
 use Rattle.pth_model.specs.ThreadEnds.{is_alone}
 use Rattle.pth_model.specs.Transition.{controlled, changes, ◌and_then◌}
 use Rattle.pth_world.specs.Leading.{Leads}
 use Rattle.pth_world.specs.Shows.{Shows, StandsFor}
-use Rattle.pth_world.specs.Store.{store_of}
 use Rattle.pth_world.specs.Whole.{Whole}
 use Rattle.pth_world.specs.World.{WorldOf}
 use Rattle.pth_world.specs.StateOf.{state_of}
@@ -31,94 +29,79 @@ use Rattle.pth_world.proofs.Telling.{has_still}
 use Rattle.pth_waits.specs.Dormant.{IsDormant}
 use Rattle.pth_sched.specs.Calm.{IsCalmUntil, IsCalmButUntil, Calms, AreDormant, is_among_waiting}
 use Rattle.pth_waits.proofs.Standing.{none_died}
-use Rattle.pth_waits.proofs.Waking.{is_due}
-use Rattle.pth_waits.proofs.Dormancy.{dormant_kept, dormant_sooner, equal_pending}
+use Rattle.pth_waits.proofs.Dormancy.{dormant_kept, dormant_sooner, equal_pending, later_than_now}
 use Rattle.pth_sched.proofs.Calming.{IsMild, mild_calm, readied_calm, readied_nobody, dispatched_calm, turn_over_calm}
-use Rattle.pth_sched.proofs.Waiting.{all_wait, none_due, none_looked}
+use Rattle.pth_sched.proofs.Waiting.{all_wait, none_looked, none_wakes}
 
 module _ {P S H : Type 0} (w : WorldOf P S H) where
-  -- ---- two controls that a world shows
+  -- ---- two states for which a world stands
 
-  module _ (k j : Control P S H) (sk : Shows w k) (sj : Shows w j) where
-    same_known : j.threads.known ≡ k.threads.known
-    same_known = sj.threads.known ∙ sym sk.threads.known
+  module _ (s r : State P S H) (ss : StandsFor w s) (sr : StandsFor w r) where
+    same_known : r.control.threads.known ≡ s.control.threads.known
+    same_known = sr.control.threads.known ∙ sym ss.control.threads.known
 
-    same_progress : j.threads.progress ≡ k.threads.progress
-    same_progress = sj.threads.progress ∙ sym sk.threads.progress
+    same_progress : r.control.threads.progress ≡ s.control.threads.progress
+    same_progress = sr.control.threads.progress ∙ sym ss.control.threads.progress
 
-    same_blocked : (u : ℕ) → blocked_of j u ≡ blocked_of k u
+    same_blocked : (u : ℕ) → blocked_of r.control u ≡ blocked_of s.control u
     same_blocked u = ap (λ (f : ℕ → Option (Progress S)). blocked_in (f u)) same_progress
 
-    same_asked : (u : ℕ) → may_be_canceled k u ≡ false → may_be_canceled j u ≡ false
+    same_asked : (u : ℕ) → may_be_canceled s.control u ≡ false → may_be_canceled r.control u ≡ false
     unfolding may_be_canceled
     same_asked u h = rw (same_known, same_blocked u) h
 
-    pub seen_dormant : (x : Store) (until u : ℕ) → IsDormant x k until u → IsDormant x j until u
-    seen_dormant x until u q = dormant_kept x k x j u (record {
-      now = now_of k;
+    same_resources : r.resources ≡ s.resources
+    same_resources = sr.resources ∙ sym ss.resources
+
+    pub seen_dormant : (until u : ℕ) → IsDormant s until u → IsDormant r until u
+    seen_dormant until u q = dormant_kept s r u (record {
+      now = now_of s.control;
       later = omega arith;
-      kernel = sj.kernel ∙ sym sk.kernel;
-      events = equal_pending k.events j.events (sj.events ∙ sym sk.events);
-      mutexes = refl;
-      locks = refl;
+      kernel = sr.control.kernel ∙ sym ss.control.kernel;
+      events = equal_pending s.control.events r.control.events (sr.control.events ∙ sym ss.control.events);
+      mutexes = ap (λ (x : Resources). x.store.mutexes) same_resources;
+      locks = ap (λ (x : Resources). x.store.rw_locks) same_resources;
       blocked = same_blocked u;
       died = λ n h. rw same_known h;
       left = λ none u. rw same_known (none u);
       asked = same_asked u;
     }) until q
 
-    pub seen_among : (u : ℕ) → is_among_waiting (entry_of j u) ≡ true → is_among_waiting (entry_of k u) ≡ true
+    pub seen_among : (u : ℕ) → is_among_waiting (entry_of r.control u) ≡ true → is_among_waiting (entry_of s.control u) ≡ true
     seen_among u h = subst (λ (f : ℕ → Option Entry). is_among_waiting (f u) ≡ true) same_known h
 
-  -- the store that a state has
-  store_is : (s : State P S H) → StandsFor w s → s.resources.store ≡ store_of w.store
-  store_is s st = ap (λ (x : Resources). x.store) st.resources
-
-  pub but_dormant : (t until : ℕ) (calm : IsCalmButUntil t w until) (k : Control P S H) → Shows w k → (u : ℕ) → u ≢ t → is_among_waiting (entry_of k u) ≡ true → IsDormant (store_of w.store) k until u
-  but_dormant t until calm k sh u apart waits =
-      subst (λ (x : Store). IsDormant x k until u) (store_is calm.state calm.stands)
-      (seen_dormant calm.state.control k calm.stands.control sh calm.state.resources.store until u (calm.calm u apart (seen_among calm.state.control k calm.stands.control sh u waits)))
+  pub but_dormant : (t until : ℕ) (calm : IsCalmButUntil t w until) (s : State P S H) → StandsFor w s → (u : ℕ) → u ≢ t → is_among_waiting (entry_of s.control u) ≡ true → IsDormant s until u
+  but_dormant t until calm s st u apart waits = seen_dormant calm.state s calm.stands st until u (calm.calm u apart (seen_among calm.state s calm.stands st u waits))
 
   -- all are dormant where the others are, and t is
-  pub are_dormant : (t until own : ℕ) → (0 < until → IsCalmButUntil t w until) → (k : Control P S H) → Shows w k → (0 < own → is_among_waiting (entry_of k t) ≡ true → IsDormant (store_of w.store) k own t) → 0 < min until own → AreDormant (store_of w.store) k (min until own)
-  are_dormant t until own calms k sh dormant some u waits = elim (cases_Bool (u == t)) [
+  pub are_dormant : (t until own : ℕ) → (0 < until → IsCalmButUntil t w until) → (s : State P S H) → StandsFor w s → (0 < own → is_among_waiting (entry_of s.control t) ≡ true → IsDormant s own t) → 0 < min until own → AreDormant s (min until own)
+  are_dormant t until own calms s st dormant some u waits = elim (cases_Bool (u == t)) [
     | inl same ↦ (let e : u ≡ t = same_means u t same in
-        subst (λ (v : ℕ). IsDormant (store_of w.store) k (min until own) v) (sym e)
-        (dormant_sooner (store_of w.store) k t own (min until own) (omega arith) (dormant (omega arith) (subst (λ (v : ℕ). is_among_waiting (entry_of k v) ≡ true) e waits))))
-    | inr apart ↦ dormant_sooner (store_of w.store) k u until (min until own) (omega arith) (but_dormant t until (calms (omega arith)) k sh u (same_fails u t apart) waits)
+        subst (IsDormant s (min until own)) (sym e)
+        (dormant_sooner s t own (min until own) (omega arith) (dormant (omega arith) (subst (λ (v : ℕ). is_among_waiting (entry_of s.control v) ≡ true) e waits))))
+    | inr apart ↦ dormant_sooner s u until (min until own) (omega arith) (but_dormant t until (calms (omega arith)) s st u (same_fails u t apart) waits)
   ]
 
   -- where all are dormant, the world is calm
-  pub dormant_calms : (until : ℕ) → Whole w → ((k : Control P S H) → Shows w k → AreDormant (store_of w.store) k until) → IsCalmUntil w until
+  pub dormant_calms : (until : ℕ) → Whole w → ((s : State P S H) → StandsFor w s → AreDormant s until) → IsCalmUntil w until
   dormant_calms until whole dormant =
       let stands = stands_for_state w whole.sound in
-      record {
-        state = state_of w;
-        stands = stands;
-        calm = λ u other waits. subst (λ (x : Store). IsDormant x (state_of w).control until u) (sym (store_is (state_of w) stands)) (dormant (state_of w).control stands.control u waits);
-      }
+      record { state = state_of w; stands = stands; calm = λ u other waits. dormant (state_of w) stands u waits }
 
   -- and a pass changes nothing
-  module _ (f : P → Functions S H) (s : State P S H) (st : StandsFor w s) (whole : Whole w) (until : ℕ) (early : w.kernel.now < until) (dormant : AreDormant (store_of w.store) s.control until)
-      (alone : is_alone s.control main ≡ false) (due : (u : ℕ) → is_to_wake f s u ≡ is_due s.resources.store s.control u) where
+  module _ (f : P → Functions S H) (s : State P S H) (st : StandsFor w s) (whole : Whole w) (until : ℕ) (early : w.kernel.now < until) (dormant : AreDormant s until) (alone : is_alone s.control main ≡ false) where
     early_now : now_of s.control < until
-    early_now = (let e : now_of s.control ≡ w.kernel.now = ap (λ (z : Kernel). z.now) st.control.kernel in omega arith)
+    early_now = later_than_now w s.control st.control until early
 
-    all_dormant : All (IsDormant (store_of w.store) s.control until) (waiting s.control)
-    all_dormant = All-weaker (λ u. is_among_waiting (entry_of s.control u) ≡ true) (IsDormant (store_of w.store) s.control until) dormant (waiting s.control) (all_wait w whole s.control st.control)
-
-    none_wakes : to_wake f s ≡ []
-    unfolding to_wake
-    none_wakes =
-        ap (λ (p : ℕ → Bool). filter p (waiting s.control)) (fun_ext due)
-        ∙ ap (λ (x : Store). filter (is_due x s.control) (waiting s.control)) (store_is s st)
-        ∙ none_due (store_of w.store) s.control until early_now all_dormant alone (none_died w whole s.control st.control)
+    all_dormant : All (IsDormant s until) (waiting s.control)
+    all_dormant = All-weaker (λ u. is_among_waiting (entry_of s.control u) ≡ true) (IsDormant s until) dormant (waiting s.control) (all_wait w whole s.control st.control)
 
     pub pass_leads_nowhere : (old : List Mark) → Leads w old old (pass f s)
     unfolding pass all_woken
     pass_leads_nowhere old =
-        let looked = none_looked (store_of w.store) s.control until early_now all_dormant in
-        subst (λ (l : List ℕ). Leads w old old ((changes looks and_then all_woken l) s)) (sym none_wakes) (record {
+        let looked = none_looked s until early_now all_dormant in
+        let none = none_wakes s until early_now all_dormant f alone (none_died w whole s.control st.control) in
+        subst (λ (l : List ℕ). Leads w old old ((changes looks and_then all_woken l) s)) (sym none) (record {
           stands = record { control = subst (λ (k : Control P S H). Shows w k) (sym looked) st.control; resources = st.resources };
           tells = sym (append-nil old);
         })
@@ -136,7 +119,7 @@ module _ {P S H : Type 0} (w : WorldOf P S H) (until : ℕ) (calm : IsCalmUntil 
       record {
         state = controlled (λ j. runs t (readies_new j)) calm.state;
         stands = record { control = dispatch (readies_new k) (ready k calm.stands.control); resources = has_still w v calm.state stored calm.stands.resources };
-        calm = dispatched_calm calm.state.resources.store (readies_new k) until t (readied_nobody k _ (running_is None nobody)) (readied_calm calm.state.resources.store k until _ (running_is None nobody) calm.calm);
+        calm = dispatched_calm (controlled readies_new calm.state) until t (readied_nobody k _ (running_is None nobody)) (readied_calm calm.state until _ (running_is None nobody) calm.calm);
       }
 
   -- a step that is mild
@@ -154,7 +137,7 @@ module _ {P S H : Type 0} (w : WorldOf P S H) (until : ℕ) (calm : IsCalmUntil 
       record {
         state = controlled (turn_ends t) calm.state;
         stands = record { control = shows k calm.stands.control; resources = has_still w v calm.state stored calm.stands.resources };
-        calm = turn_over_calm calm.state.resources.store k t (λ r is. own r (sym (running_is w.scheduler.running refl) ∙ is)) until (let e : now_of k ≡ w.kernel.now = ap (λ (z : Kernel). z.now) calm.stands.control.kernel in omega arith) calm.calm;
+        calm = turn_over_calm calm.state t (λ r is. own r (sym (running_is w.scheduler.running refl) ∙ is)) until (let e : now_of k ≡ w.kernel.now = ap (λ (z : Kernel). z.now) calm.stands.control.kernel in omega arith) calm.calm;
       }
 
 -- who is not in the system does not wait

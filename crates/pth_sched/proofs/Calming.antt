@@ -13,11 +13,11 @@ use Rattle.pth_model.specs.declared.blocked.Blocked.{Blocked}
 use Rattle.pth_model.specs.State.{Control, State, now_of, clock_of}
 use Rattle.pth_model.specs.Changes.{blocked_of, entry_of, or_nobody, sets, leaves_queue, enters, raises_ready, runs_now}
 use Rattle.pth_model.specs.Cancellation.{is_to_cancel, may_be_canceled}
-use Rattle.pth_model.specs.Resources.{Store}
+use Rattle.pth_model.specs.Coming.{has_died}
 use Rattle.pth_model.specs.ThreadControl.{is_dead_in}
 use Rattle.pth_model.specs.Pass.{is_ready_at}
 use Rattle.pth_model.specs.Part.{runs, readies, readies_all, is_placed, placed_by, is_put_back, is_put_waiting, time_passes, turn_ends}
-use Rattle.pth_waits.specs.Waking.{has_died}
+use Rattle.pth_model.specs.Transition.{controlled}
 use Rattle.pth_waits.specs.Dormant.{IsDormant, is_left_to_join}
 use Rattle.pth_sched.specs.Calm.{IsCalm, IsCalmBut, is_among_waiting}
 use Rattle.pth_waits.proofs.Dormancy.{KeepsPending, dormant_kept, pending_then, same_pending}
@@ -89,15 +89,16 @@ dispatched_waits n (Some e) = refl
 
 module _ {P S H : Type 0} where
   -- what changed leaves calm what was calm: time went on, and of threads that wait all is as it was
-  pub record KeepsCalm (x : Store) (k : Control P S H) (y : Store) (j : Control P S H) (but : ℕ → Type 0) : Type 0 where
+  pub record KeepsCalm (s r : State P S H) (but : ℕ → Type 0) : Type 0 where
     pub now : ℕ
-    pub later : now_of k ≤ now
-    pub kernel : j.kernel ≡ advanced now k.kernel
-    pub events : KeepsPending k.events j.events
-    pub mutexes : y.mutexes ≡ x.mutexes
-    pub locks : y.rw_locks ≡ x.rw_locks
-    pub tame : (u : ℕ) → IsTame (entry_of k u) (entry_of j u)
-    pub waited : (u : ℕ) → but u → is_among_waiting (entry_of j u) ≡ true → (k.scheduler.running ≢ Some u) × (is_among_waiting (entry_of k u) ≡ true) × (blocked_of j u ≡ blocked_of k u)
+    pub later : now_of s.control ≤ now
+    pub kernel : r.control.kernel ≡ advanced now s.control.kernel
+    pub events : KeepsPending s.control.events r.control.events
+    pub mutexes : r.resources.store.mutexes ≡ s.resources.store.mutexes
+    pub locks : r.resources.store.rw_locks ≡ s.resources.store.rw_locks
+    pub tame : (u : ℕ) → IsTame (entry_of s.control u) (entry_of r.control u)
+    pub waited : (u : ℕ) → but u → is_among_waiting (entry_of r.control u) ≡ true
+        → (s.control.scheduler.running ≢ Some u) × (is_among_waiting (entry_of s.control u) ≡ true) × (blocked_of r.control u ≡ blocked_of s.control u)
 
   died_kept : (k j : Control P S H) → ((u : ℕ) → IsTame (entry_of k u) (entry_of j u)) → (n : ℤ) → has_died k n ≡ false → has_died j n ≡ false
   died_kept k j tame (pos n) h = (tame n).died h
@@ -107,10 +108,10 @@ module _ {P S H : Type 0} where
   unfolding may_be_canceled
   asked_kept k j u tame blocked h = rw (tame.asked, blocked) h
 
-  pub calm_kept : (x : Store) (k : Control P S H) (y : Store) (j : Control P S H) (but : ℕ → Type 0) (until : ℕ) → KeepsCalm x k y j but → IsCalm x k until → (u : ℕ) → but u → is_among_waiting (entry_of j u) ≡ true → IsDormant y j until u
-  calm_kept x k y j but until keeps calm u b waits =
+  pub calm_kept : (s r : State P S H) (but : ℕ → Type 0) (until : ℕ) → KeepsCalm s r but → IsCalm s until → (u : ℕ) → but u → is_among_waiting (entry_of r.control u) ≡ true → IsDormant r until u
+  calm_kept s r but until keeps calm u b waits =
       let w = keeps.waited u b waits in
-      dormant_kept x k y j u (record {
+      dormant_kept s r u (record {
         now = keeps.now;
         later = keeps.later;
         kernel = keeps.kernel;
@@ -118,61 +119,64 @@ module _ {P S H : Type 0} where
         mutexes = keeps.mutexes;
         locks = keeps.locks;
         blocked = w.2;
-        died = died_kept k j keeps.tame;
+        died = died_kept s.control r.control keeps.tame;
         left = λ none v. (keeps.tame v).left (none v);
-        asked = asked_kept k j u (keeps.tame u) w.2;
+        asked = asked_kept s.control r.control u (keeps.tame u) w.2;
       }) until (calm u w.0 w.1)
 
   -- ---- the threads that become ready, and the one that is dispatched
 
-  module _ (x : Store) (k : Control P S H) (nobody : k.scheduler.running ≡ None) where
-    not_running : (u : ℕ) → k.scheduler.running ≢ Some u
+  module _ (s : State P S H) (nobody : s.control.scheduler.running ≡ None) where
+    not_running : (u : ℕ) → s.control.scheduler.running ≢ Some u
     not_running u is = cc (sym nobody ∙ is)
 
-    pub ready_keeps : (t : ℕ) (rank : ℤ) (top : Bool) → KeepsCalm x k x (is_ready_at t rank top k) (λ u. Unit {0})
+    pub ready_keeps : (t : ℕ) (rank : ℤ) (top : Bool) → KeepsCalm s (controlled (is_ready_at t rank top) s) (λ u. Unit {0})
     unfolding is_ready_at leaves_queue sets enters
-    ready_keeps t rank top = record {
-      now = now_of k;
-      later = omega arith;
-      kernel = refl;
-      events = same_pending k.events;
-      mutexes = refl;
-      locks = refl;
-      tame = tame_put k.threads.known t _ (tame_state state.Ready Ready (k.threads.known t));
-      waited = λ u b. put_by (λ v. is_among_waiting v ≡ true → (k.scheduler.running ≢ Some u) × (is_among_waiting (entry_of k u) ≡ true) × (blocked_of k u ≡ blocked_of k u)) k.threads.known t _ u
-          (λ same waits. absurd (cc (sym (not_waiting state.Ready Ready (k.threads.known t)) ∙ waits)))
-          (λ apart waits. (not_running u, waits, refl));
-    }
-
-    pub runs_keeps : (t : ℕ) → KeepsCalm x k x (runs t k) (λ u. u ≢ t)
-    unfolding runs leaves_queue sets
-    runs_keeps t =
-        let first = put k.threads.known t (option_map (changed (change.State state.Running)) (k.threads.known t)) in
+    ready_keeps t rank top =
+        let known = s.control.threads.known in
         record {
-          now = now_of k;
+          now = now_of s.control;
           later = omega arith;
           kernel = refl;
-          events = same_pending k.events;
+          events = same_pending s.control.events;
           mutexes = refl;
           locks = refl;
-          tame = λ u. tame_then (k.threads.known u) (first u) _
-              (tame_put k.threads.known t _ (tame_state state.Running Running (k.threads.known t)) u)
+          tame = tame_put known t _ (tame_state state.Ready Ready (known t));
+          waited = λ u b. put_by (λ v. is_among_waiting v ≡ true → (s.control.scheduler.running ≢ Some u) × (is_among_waiting (known u) ≡ true) × (blocked_of s.control u ≡ blocked_of s.control u)) known t _ u
+              (λ same waits. absurd (cc (sym (not_waiting state.Ready Ready (known t)) ∙ waits)))
+              (λ apart waits. (not_running u, waits, refl));
+        }
+
+    pub runs_keeps : (t : ℕ) → KeepsCalm s (controlled (runs t) s) (λ u. u ≢ t)
+    unfolding runs leaves_queue sets
+    runs_keeps t =
+        let known = s.control.threads.known in
+        let first = put known t (option_map (changed (change.State state.Running)) (known t)) in
+        record {
+          now = now_of s.control;
+          later = omega arith;
+          kernel = refl;
+          events = same_pending s.control.events;
+          mutexes = refl;
+          locks = refl;
+          tame = λ u. tame_then (known u) (first u) _
+              (tame_put known t _ (tame_state state.Running Running (known t)) u)
               (tame_put first t _ (tame_dispatches _ (first t)) u);
-          waited = λ u apart waits. (not_running u, subst (λ (v : Option Entry). is_among_waiting v ≡ true) (put_other first t _ u apart ∙ put_other k.threads.known t _ u apart) waits, refl);
+          waited = λ u apart waits. (not_running u, subst (λ (v : Option Entry). is_among_waiting v ≡ true) (put_other first t _ u apart ∙ put_other known t _ u apart) waits, refl);
         }
 
   ready_runs : (k : Control P S H) (t : ℕ) → k.scheduler.running ≡ None → (readies t k).scheduler.running ≡ None
   unfolding readies is_ready_at leaves_queue sets enters
   ready_runs k t nobody = nobody
 
-  ready_calm : (x : Store) (k : Control P S H) (until t : ℕ) → k.scheduler.running ≡ None → IsCalm x k until → IsCalm x (readies t k) until
+  ready_calm : (s : State P S H) (until t : ℕ) → s.control.scheduler.running ≡ None → IsCalm s until → IsCalm (controlled (readies t) s) until
   unfolding readies
-  ready_calm x k until t nobody calm = λ u b waits. calm_kept x k x (readies t k) (λ u. Unit {0}) until (ready_keeps x k nobody t _ _) calm u tt waits
+  ready_calm s until t nobody calm = λ u b waits. calm_kept s (controlled (readies t) s) (λ u. Unit {0}) until (ready_keeps s nobody t _ _) calm u tt waits
 
-  pub readied_calm : (x : Store) (k : Control P S H) (until : ℕ) (ts : List ℕ) → k.scheduler.running ≡ None → IsCalm x k until → IsCalm x (readies_all ts k) until
+  pub readied_calm : (s : State P S H) (until : ℕ) (ts : List ℕ) → s.control.scheduler.running ≡ None → IsCalm s until → IsCalm (controlled (readies_all ts) s) until
   unfolding readies_all
-  readied_calm x k until [] nobody calm = calm
-  readied_calm x k until (t ∷ ts) nobody calm = readied_calm x (readies t k) until ts (ready_runs k t nobody) (ready_calm x k until t nobody calm)
+  readied_calm s until [] nobody calm = calm
+  readied_calm s until (t ∷ ts) nobody calm = readied_calm (controlled (readies t) s) until ts (ready_runs s.control t nobody) (ready_calm s until t nobody calm)
 
   pub readied_nobody : (k : Control P S H) (ts : List ℕ) → k.scheduler.running ≡ None → (readies_all ts k).scheduler.running ≡ None
   unfolding readies_all
@@ -184,12 +188,16 @@ module _ {P S H : Type 0} where
   runs_is k t = refl
 
   -- who is dispatched waits no longer, and runs
-  pub dispatched_calm : (x : Store) (k : Control P S H) (until t : ℕ) → k.scheduler.running ≡ None → IsCalm x k until → IsCalm x (runs t k) until
-  dispatched_calm x k until t nobody calm = λ u apart waits. calm_kept x k x (runs t k) (λ u. u ≢ t) until (runs_keeps x k nobody t) calm u (λ same. apart (runs_is k t ∙ ap (λ n. Some n) (sym same))) waits
+  pub dispatched_calm : (s : State P S H) (until t : ℕ) → s.control.scheduler.running ≡ None → IsCalm s until → IsCalm (controlled (runs t) s) until
+  dispatched_calm s until t nobody calm = λ u apart waits.
+      calm_kept s (controlled (runs t) s) (λ u. u ≢ t) until (runs_keeps s nobody t) calm u (λ same. apart (runs_is s.control t ∙ ap (λ n. Some n) (sym same))) waits
 
   -- ---- the end of a turn
 
-  module _ (x : Store) (k : Control P S H) (t : ℕ) (own : (r : ℕ) → k.scheduler.running ≡ Some r → r ≡ t) where
+  module _ (s : State P S H) (t : ℕ) (own : (r : ℕ) → s.control.scheduler.running ≡ Some r → r ≡ t) where
+    abbrev k : Control P S H
+    k = s.control
+
     not_own : (u : ℕ) → u ≢ t → k.scheduler.running ≢ Some u
     not_own u apart is = apart (own u is)
 
@@ -197,11 +205,11 @@ module _ {P S H : Type 0} where
     later_now now clock h = omega arith
 
     -- another state of t is set
-    module _ (s : ThreadState) (lives : Lives s) where
-      others_wait : (u : ℕ) → u ≢ t → is_among_waiting (put k.threads.known t (option_map (changed (change.State s)) (k.threads.known t)) u) ≡ true → is_among_waiting (entry_of k u) ≡ true
+    module _ (x : ThreadState) (lives : Lives x) where
+      others_wait : (u : ℕ) → u ≢ t → is_among_waiting (put k.threads.known t (option_map (changed (change.State x)) (k.threads.known t)) u) ≡ true → is_among_waiting (entry_of k u) ≡ true
       others_wait u apart waits = subst (λ (v : Option Entry). is_among_waiting v ≡ true) (put_other k.threads.known t _ u apart) waits
 
-    put_keeps : (r : Option ℕ) (b : Option Blocked) → now_of k ≤ last_moment → KeepsCalm x k x (time_passes (runs_now None (placed_by t r b (raises_ready k)))) (λ u. u ≢ t)
+    put_keeps : (r : Option ℕ) (b : Option Blocked) → now_of k ≤ last_moment → KeepsCalm s (controlled (λ j. time_passes (runs_now None (placed_by t r b (raises_ready j)))) s) (λ u. u ≢ t)
     unfolding raises_ready is_put_back is_put_waiting sets enters
     put_keeps None b within = record {
       now = min (now_of k + clock_of k) last_moment;
@@ -234,10 +242,10 @@ module _ {P S H : Type 0} where
       waited = λ u apart waits. (not_own u apart, others_wait state.Waiting Waiting u apart waits, refl);
     }
 
-    pub turn_over_calm : (until : ℕ) → now_of k ≤ last_moment → IsCalm x k until → IsCalmBut t x (turn_ends t k) until
+    pub turn_over_calm : (until : ℕ) → now_of k ≤ last_moment → IsCalm s until → IsCalmBut t (controlled (turn_ends t) s) until
     unfolding is_placed
     turn_over_calm until within calm = λ u apart waits.
-        calm_kept x k x (turn_ends t k) (λ u. u ≢ t) until (put_keeps (raises_ready k).scheduler.running (blocked_of (raises_ready k) t) within) calm u apart waits
+        calm_kept s (controlled (turn_ends t) s) (λ u. u ≢ t) until (put_keeps (raises_ready k).scheduler.running (blocked_of (raises_ready k) t) within) calm u apart waits
 
   -- ---- steps that are mild
 
@@ -265,7 +273,7 @@ module _ {P S H : Type 0} where
     blocked = λ u apart. b.blocked u apart ∙ a.blocked u apart;
   }
 
-  mild_keeps : (t : ℕ) (s r : State P S H) → IsMild t s r → s.control.scheduler.running ≡ Some t → KeepsCalm s.resources.store s.control r.resources.store r.control (λ u. u ≢ t)
+  mild_keeps : (t : ℕ) (s r : State P S H) → IsMild t s r → s.control.scheduler.running ≡ Some t → KeepsCalm s r (λ u. u ≢ t)
   mild_keeps t s r mild runs = record {
     now = now_of s.control;
     later = omega arith;
@@ -277,6 +285,6 @@ module _ {P S H : Type 0} where
     waited = λ u apart waits. (λ is. apart (cc (sym runs ∙ is)), subst (λ (f : ℕ → Option Entry). is_among_waiting (f u) ≡ true) mild.known waits, mild.blocked u apart);
   }
 
-  pub mild_calm : (t : ℕ) (s r : State P S H) (until : ℕ) → IsMild t s r → s.control.scheduler.running ≡ Some t → IsCalm s.resources.store s.control until → IsCalm r.resources.store r.control until
+  pub mild_calm : (t : ℕ) (s r : State P S H) (until : ℕ) → IsMild t s r → s.control.scheduler.running ≡ Some t → IsCalm s until → IsCalm r until
   mild_calm t s r until mild runs calm = λ u other waits.
-      calm_kept s.resources.store s.control r.resources.store r.control (λ u. u ≢ t) until (mild_keeps t s r mild runs) calm u (λ same. other (mild.running ∙ runs ∙ ap (λ n. Some n) (sym same))) waits
+      calm_kept s r (λ u. u ≢ t) until (mild_keeps t s r mild runs) calm u (λ same. other (mild.running ∙ runs ∙ ap (λ n. Some n) (sym same))) waits

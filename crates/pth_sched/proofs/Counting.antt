@@ -3,38 +3,21 @@ use Rattle.std.proofs.Common.{◌≡◌, ◌≢◌, ◌∙◌, ℕ, ℤ, ◌==�
 use Rattle.std.proofs.Math.Nat.{min_comm}
 use Rattle.pth_base.specs.Limits.{last_moment}
 use Rattle.pth_base.specs.Program.{Functions}
-use Rattle.pth_base.specs.declared.call.Call.{Call}
-use Rattle.pth_base.specs.declared.call.Call.TheVariants as call
-use Rattle.pth_base.specs.declared.event.EvLine.{EvLine}
-use Rattle.pth_base.specs.declared.event.EvLine.TheVariants as line
 use Rattle.pth_base.specs.declared.event.EventSpec.{EventSpec}
-use Rattle.pth_base.specs.declared.ids.FdSet.{FdSet}
-use Rattle.pth_base.specs.declared.query.Query.{Query}
-use Rattle.pth_base.specs.declared.query.Query.TheVariants as query
 use Rattle.pth_base.specs.Chain.{StandsIn}
 use Rattle.pth_base.proofs.Tables.{same_self, not_same}
-use Rattle.pth_numbered.specs.Operands.{number, is_zero}
 use Rattle.pth_ring.specs.declared.event.Event.{Event}
 use Rattle.pth_ring.specs.Ring.{RingGoesOn, Begins, from, rest_of}
-use Rattle.pth_ring.specs.Rings.{Events, make_answer, chain_answer, alone, chained}
+use Rattle.pth_ring.specs.Rings.{Events}
 use Rattle.pth_kernel.specs.Moments.{least_after, least_by}
 use Rattle.pth_model.specs.declared.awaits.Awaited.{Awaited}
-use Rattle.pth_model.specs.declared.awaits.Awaits.TheVariants.{Death, AnyDeath, Selection}
-use Rattle.pth_model.specs.declared.blocked.Blocked.{Blocked}
-use Rattle.pth_model.specs.Awaits.{awaited_by, awaits_in, awaited_in}
-use Rattle.pth_model.specs.Calls.{until_by, waits_until}
-use Rattle.pth_model.specs.Changes.{blocked_of, with_events}
-use Rattle.pth_model.specs.EventHandling.{spec_of, made_as, make_event, chain}
-use Rattle.pth_model.specs.LibraryControl.{ctrl}
+use Rattle.pth_model.specs.Awaits.{moment_in}
+use Rattle.pth_model.specs.Calls.{waits_until}
+use Rattle.pth_model.specs.Changes.{blocked_of}
 use Rattle.pth_model.specs.Looks.{event_moment, occurs_at}
 use Rattle.pth_model.specs.Pass.{moments_of}
-use Rattle.pth_model.specs.RingWaits.{ring_held, events_from}
-use Rattle.pth_model.specs.Rows.{row_of}
+use Rattle.pth_model.specs.RingWaits.{awaited_in, ring_held, events_from}
 use Rattle.pth_model.specs.State.{State}
-use Rattle.pth_model.specs.Times.{is_negative}
-use Rattle.pth_model.specs.Transition.{Change}
-use Rattle.pth_model.specs.Verdict.{Verdict, says, by_result}
-use Rattle.pth_sched.specs.Moments.{moment_in}
 
 -- ---- the least of a list
 
@@ -140,53 +123,6 @@ module _ (x : Events) (now e : ℕ) (start : Option ℕ) where
 -- ---- the moments of a thread
 
 module _ {P S H : Type 0} (f : P → Functions S H) (s : State P S H) (t : ℕ) where
-  ctrl_until : (x : Query) (b : Blocked) → (ctrl s x).until b ≡ 0
-  ctrl_until query.Threads b = refl
-  ctrl_until x b = refl
-
-  made_until : (o : Option EventSpec) (v : EventSpec → Verdict) (g : EventSpec → Change P S H) (b : Blocked) → (made_as o v g).until b ≡ 0
-  made_until None v g b = refl
-  made_until (Some x) v g b = refl
-
-  make_until : (l : EvLine) (b : Blocked) → (make_event s l).until b ≡ 0
-  make_until l = made_until (spec_of l) (λ x. by_result says (make_answer s.control.events)) (λ x. with_events (alone x))
-
-  chain_until : (e : ℤ) (l : EvLine) (b : Blocked) → (chain s e l).until b ≡ 0
-  chain_until e l = made_until (spec_of l) (λ x. by_result says (chain_answer s.control.events (number e))) (λ x. with_events (chained x (number e)))
-
-  join_until : (n : ℤ) (zero : Bool) → 0 ≡ moment_in (if zero then AnyDeath else Death n)
-  join_until n true = refl
-  join_until n false = refl
-
-  select_until : (r w x : FdSet) (m : ℕ) (negative : Bool) → (if negative then 0 else m) ≡ moment_in (Selection r w x (if negative then None else Some m))
-  select_until r w x m true = refl
-  select_until r w x m false = refl
-
-  call_until : (c : Call) (b : Blocked) → (row_of f s t c).until b ≡ moment_in (awaited_by c b.moment b.written)
-  unfolding row_of
-  call_until (call.Join n) b = join_until n (is_zero n)
-  call_until (call.Select r w x l) b = select_until r w x b.moment (is_negative l)
-  call_until (call.SelectEv r w x l e) b = select_until r w x b.moment (is_negative l)
-  call_until (call.Ctrl x) b = ctrl_until x b
-  call_until (call.EvFd goals fd) b = make_until (line.Fd goals fd) b
-  call_until (call.EvSelect r w x) b = make_until (line.Select r w x) b
-  call_until (call.EvTime m) b = make_until (line.Time m) b
-  call_until (call.EvMsg p) b = make_until (line.Msg p) b
-  call_until (call.EvCond c) b = make_until (line.Cond c) b
-  call_until (call.EvTid state n) b = make_until (line.Tid state n) b
-  call_until (call.EvFunc c v l) b = make_until (line.Func c v l) b
-  call_until (call.Chain e l) b = chain_until e l b
-  call_until c b = refl
-
-  blocked_until : (o : Option Blocked) → until_by f t s o ≡ moment_in (awaits_in o)
-  blocked_until None = refl
-  blocked_until (Some b) = call_until b.call b
-
-  -- the moment for which a thread waits is that for which its call does
-  until_is : waits_until f t s ≡ moment_in (awaits_in (blocked_of s.control t))
-  unfolding waits_until
-  until_is = blocked_until (blocked_of s.control t)
-
   -- Moments are counted of which best is the least. Then that for which the thread's call waits is counted, where next is the
   -- least, and those of the events of the ring that it was given, if any, where last is.
   module _ (now : ℕ) (ms : List ℕ) (best next last : Option ℕ) (a : Awaited) (ring : Option ℤ) (x : Events)
@@ -194,20 +130,19 @@ module _ {P S H : Type 0} (f : P → Functions S H) (s : State P S H) (t : ℕ) 
     abbrev moments_in : Events → Option ℤ → List ℕ
     moments_in y r = map (λ (e : ℕ). event_moment (y.events e)) (events_from y r)
 
-    own : waits_until f t s ∷ moments_in x ring ≡ moments_of f s t
+    own : waits_until t s ∷ moments_in x ring ≡ moments_of f s t
     own =
         let held : ring ≡ ring_held (blocked_of s.control t) = sym given ∙ ap (λ (y : Awaited). y.ring) awaits in
-        ap (λ (l : List ℕ). waits_until f t s ∷ l) (ap₂ moments_in (sym same) held)
+        ap (λ (l : List ℕ). waits_until t s ∷ l) (ap₂ moments_in (sym same) held)
 
-    call_counted : best ≡ least_after now ms → next ≡ sooner now best (moment_in a.what) → next ≡ least_after now (ms ++ waits_until f t s ∷ [])
-    call_counted least is =
-        let until : moment_in a.what ≡ waits_until f t s = ap (λ (y : Awaited). moment_in y.what) awaits ∙ sym until_is in
-        is ∙ ap₂ (sooner now) least until ∙ sym (least_more now ms (waits_until f t s))
+    call_counted : best ≡ least_after now ms → next ≡ sooner now best (moment_in a.what) → next ≡ least_after now (ms ++ waits_until t s ∷ [])
+    unfolding waits_until
+    call_counted least is = is ∙ ap₂ (sooner now) least (ap (λ (y : Awaited). moment_in y.what) awaits) ∙ sym (least_more now ms (waits_until t s))
 
     pub thread_counted : best ≡ least_after now ms → next ≡ sooner now best (moment_in a.what)
         → ((ns : List ℕ) → next ≡ least_after now ns → last ≡ least_after now (ns ++ moments_in x ring))
         → last ≡ least_after now (ms ++ moments_of f s t)
     thread_counted least is goes_on =
-        goes_on (ms ++ waits_until f t s ∷ []) (call_counted least is)
-        ∙ ap (least_after now) (append_assoc ms (waits_until f t s ∷ []) (moments_in x ring))
+        goes_on (ms ++ waits_until t s ∷ []) (call_counted least is)
+        ∙ ap (least_after now) (append_assoc ms (waits_until t s ∷ []) (moments_in x ring))
         ∙ ap (λ (l : List ℕ). least_after now (ms ++ l)) own

@@ -8,13 +8,17 @@ use Rattle.pth_base.specs.declared.mark.Mark.{Mark}
 use Rattle.pth_base.specs.declared.mark.Mark.TheVariants.{Ended as End}
 use Rattle.pth_base.specs.declared.outcome.Outcome.TheVariants.{Running, Ended}
 use Rattle.pth_queue.specs.declared.queue.Queue.TheVariants as queues
+use Rattle.pth_model.specs.declared.awaits.Awaits.{Awaits}
+use Rattle.pth_model.specs.declared.awaits.Awaits.TheVariants.{Nothing, Alone, Moment, Ring, Reading, Writing, Connection, ConnectAnswer, Selection, Mutex, Lock}
 use Rattle.pth_model.specs.declared.blocked.Blocked.{Blocked}
 use Rattle.pth_model.specs.declared.next.Next.{Next}
 use Rattle.pth_model.specs.declared.next.Next.TheVariants as next
 use Rattle.pth_model.specs.declared.progress.Progress.{Progress}
-use Rattle.pth_model.specs.Verdict.{Verdict, Says, Yields, Blocks, Ends, Kills, Pause, no_pause, waits, refused, says, done, by_result, said_or, counts_or, taken_or, ◌when◌otherwise◌, refused_as◌otherwise◌}
+use Rattle.pth_model.specs.declared.verdict.Verdict.{Verdict}
+use Rattle.pth_model.specs.declared.verdict.Verdict.TheVariants.{Says, Yields, Blocks, Ends, Kills}
+use Rattle.pth_model.specs.Verdict.{refused, says, done, by_result, said_or, counts_or, taken_or, ◌when◌otherwise◌, refused_as◌otherwise◌}
 use Rattle.pth_model.specs.State.{State, Control, Given, Turn, start, queue, present, main, now_of, once_limit}
-use Rattle.pth_model.specs.Transition.{Piece, Change, Went, tid, controlled, ◌and_then◌}
+use Rattle.pth_model.specs.Transition.{Change, Went, tid, controlled, ◌and_then◌}
 use Rattle.pth_base.specs.declared.answer.Answer.{Answer}
 use Rattle.pth_base.specs.declared.answer.Answer.TheVariants.{Int, Text, Fail}
 use Rattle.pth_base.specs.declared.errno.Errno.{Errno}
@@ -52,14 +56,13 @@ use Rattle.pth_base.specs.declared.event.EvLine.{EvLine}
 use Rattle.pth_base.specs.declared.event.EvLine.TheVariants as line
 use Rattle.pth_base.specs.declared.event.EventSpec.{EventSpec}
 use Rattle.pth_base.specs.declared.ids.EventId.{EventId}
-use Rattle.pth_kernel.specs.Kernel.{fd_named, is_fd_live}
+use Rattle.pth_kernel.specs.Kernel.{Kernel, fd_named, is_fd_live}
 use Rattle.pth_kernel.specs.Modes.{mode_answer}
-use Rattle.pth_model.specs.Awaits.{deadline_by}
-use Rattle.pth_model.specs.Io.{Trial, read_trial, write_trial, accept_trial, connect_trial, select_trial, first_select, begins_waiting, at_once, read, write, accept, connect, select_moment, select, fdmode, close}
+use Rattle.pth_model.specs.Awaits.{death_of, moment_in, written_in}
+use Rattle.pth_model.specs.Io.{answered_or_waits, trial_for, begins_waiting, tries, at_once, is_refused_length, select_deadline, fdmode, close}
 use Rattle.pth_model.specs.Part.{Part, Move, Take, Step, Close, Halt, next_part, part, part_by, moves, moves_by, takes, takes_by, readies_new, chosen, closes, steps, steps_by, steps_on, turn_after, gives_up, ends_run}
 use Rattle.pth_model.specs.Run.{run, IsBetween}
 use Rattle.pth_model.proofs.Runs.{parts-more, between-none, between-more}
-use Rattle.pth_waits.proofs.Exits.{exit_ends, again_ends}
 use Rattle.pth_sched.proofs.Unasked.{IsUnasked, unasked_run, unasked_main}
 
 running_ended : (v : ℤ) → Running ≡ Ended v → ⊥
@@ -74,8 +77,8 @@ EndsNot x = (v : ℤ) → x ≡ Ends v → ⊥
 says_on : (a : Answer) → EndsNot (Says a)
 says_on a v h = cc h
 
-blocks_on : (p : Pause) → EndsNot (Blocks p)
-blocks_on p v h = cc h
+blocks_on : (a : Awaits) → EndsNot (Blocks a)
+blocks_on a v h = cc h
 
 kills_on : EndsNot Kills
 kills_on v h = cc h
@@ -112,15 +115,21 @@ said_on None x rest = rest
 counts_on : (n : ℕ) (e : Errno) → EndsNot (counts_or n e)
 counts_on n e = when_on (says n) (nat_lt 0 n) (refused e) (says_on (Int (pos n))) (says_on (Fail e))
 
--- nor does a call on descriptors that is tried again
-tried_on : (trial : Trial) → EndsNot (said_or trial.answer (Blocks (record no_pause { written = trial.written })))
-tried_on trial =
-    let pause : Pause = record no_pause { written = trial.written } in
-    said_on trial.answer (Blocks pause) (blocks_on pause)
+-- nor does an attempt at what is awaited of descriptors
+answered_on : (o : Option Answer) (a : Awaits) → EndsNot (answered_or_waits o a)
+answered_on o a = said_on o (Blocks a) (blocks_on a)
 
-joined_on : {P S H : Type 0} (k : Control P S H) (o : Option ℕ) → EndsNot (joined k o)
-joined_on k None = blocks_on no_pause
-joined_on k (Some t) = says_on (Int (or_nobody (entry_of k t)).value)
+trial_on : (k : Kernel) (a : Awaits) → EndsNot (trial_for k a).verdict
+trial_on k (Reading f n) = answered_on _ (Reading f n)
+trial_on k (Writing f total done) = answered_on _ (Writing f total _)
+trial_on k (Connection f) = answered_on _ (Connection f)
+trial_on k (ConnectAnswer f) = answered_on _ (ConnectAnswer f)
+trial_on k (Selection r w x deadline) = answered_on _ (Selection r w x deadline)
+trial_on k a = blocks_on a
+
+joined_on : {P S H : Type 0} (k : Control P S H) (n : ℤ) (o : Option ℕ) → EndsNot (joined k n o)
+joined_on k n None = blocks_on (death_of n)
+joined_on k n (Some t) = says_on (Int (or_nobody (entry_of k t)).value)
 
 module _ {P S H : Type 0} (f : P → Functions S H) (s : State P S H) (t : ℕ) where
   spawn_on : (b v a : ℤ) → EndsNot (spawn f s t b v a).begin.verdict
@@ -153,8 +162,8 @@ module _ {P S H : Type 0} (f : P → Functions S H) (s : State P S H) (t : ℕ) 
       let unknown = not (is_zero n) && not (is_known s.control n) in
       let detached = not (is_zero n) && not (or_nobody (thread s.control n)).joinable in
       let whom = to_join s.control n in
-      refused_on EDEADLK (n is t || (is_zero n && (present s.control == 1))) (refused ESRCH when unknown otherwise refused EINVAL when detached otherwise joined s.control whom)
-      (refused_on ESRCH unknown (refused EINVAL when detached otherwise joined s.control whom) (refused_on EINVAL detached (joined s.control whom) (joined_on s.control whom)))
+      refused_on EDEADLK (n is t || (is_zero n && (present s.control == 1))) (refused ESRCH when unknown otherwise refused EINVAL when detached otherwise joined s.control n whom)
+      (refused_on ESRCH unknown (refused EINVAL when detached otherwise joined s.control n whom) (refused_on EINVAL detached (joined s.control n whom) (joined_on s.control n whom)))
 
   kill_on : EndsNot (kill s t).begin.verdict
   kill_on = refused_on EPERM (not (t == main)) Kills kills_on
@@ -197,8 +206,8 @@ module _ {P S H : Type 0} (f : P → Functions S H) (s : State P S H) (t : ℕ) 
 
   rest_on : (unit : ℕ) (n : ℤ) (answer : ℕ) → EndsNot (rest s unit n answer).begin.verdict
   rest_on unit n answer =
-      let pause : Pause = record no_pause { moment = moment_after (now_of s.control) (length_of unit n) } in
-      refused_on EINVAL (is_negative n) (says answer when is_zero n otherwise Blocks pause) (when_on (says answer) (is_zero n) (Blocks pause) (says_on (Int (pos answer))) (blocks_on pause))
+      let until = Moment (moment_after (now_of s.control) (length_of unit n)) in
+      refused_on EINVAL (is_negative n) (says answer when is_zero n otherwise Blocks until) (when_on (says answer) (is_zero n) (Blocks until) (says_on (Int (pos answer))) (blocks_on until))
 
   timeout_on : (n : ℤ) → EndsNot (timeout s n).begin.verdict
   timeout_on n =
@@ -206,8 +215,8 @@ module _ {P S H : Type 0} (f : P → Functions S H) (s : State P S H) (t : ℕ) 
       refused_on EINVAL (is_negative n) (Says at) (says_on at)
 
   -- an answer or a wait
-  says_or_waits_on : (n : ℕ) (b : Bool) → EndsNot (says n when b otherwise waits)
-  says_or_waits_on n b = when_on (says n) b waits (says_on (Int (pos n))) (blocks_on no_pause)
+  says_or_waits_on : (n : ℕ) (b : Bool) (a : Awaits) → EndsNot (says n when b otherwise Blocks a)
+  says_or_waits_on n b a = when_on (says n) b (Blocks a) (says_on (Int (pos n))) (blocks_on a)
 
   made_on : (o : Option EventSpec) (r : Result ℕ Errno) (g : EventSpec → Change P S H) → EndsNot (made_as o (λ x. by_result says r) g).begin.verdict
   made_on None r g = says_on (Fail EINVAL)
@@ -219,14 +228,14 @@ module _ {P S H : Type 0} (f : P → Functions S H) (s : State P S H) (t : ℕ) 
   chain_on : (e : ℤ) (l : EvLine) → EndsNot (chain s e l).begin.verdict
   chain_on e l = made_on (spec_of l) (chain_answer s.control.events (number e)) (λ x. with_events (chained x (number e)))
 
-  made_again_on : (o : Option EventSpec) (r : Result ℕ Errno) (g : EventSpec → Change P S H) (b : Blocked) → EndsNot ((made_as o (λ x. by_result says r) g).again b).verdict
-  made_again_on None r g b = blocks_on no_pause
-  made_again_on (Some x) r g b = blocks_on no_pause
+  made_again_on : (o : Option EventSpec) (r : Result ℕ Errno) (g : EventSpec → Change P S H) (a : Awaits) → EndsNot ((made_as o (λ x. by_result says r) g).again a).verdict
+  made_again_on None r g a = blocks_on Nothing
+  made_again_on (Some x) r g a = blocks_on Nothing
 
-  make_again_on : (l : EvLine) (b : Blocked) → EndsNot ((make_event s l).again b).verdict
+  make_again_on : (l : EvLine) (a : Awaits) → EndsNot ((make_event s l).again a).verdict
   make_again_on l = made_again_on (spec_of l) (make_answer s.control.events) (λ x. with_events (alone x))
 
-  chain_again_on : (e : ℤ) (l : EvLine) (b : Blocked) → EndsNot ((chain s e l).again b).verdict
+  chain_again_on : (e : ℤ) (l : EvLine) (a : Awaits) → EndsNot ((chain s e l).again a).verdict
   chain_again_on e l = made_again_on (spec_of l) (chain_answer s.control.events (number e)) (λ x. with_events (chained x (number e)))
 
   fdmode_on : (d m : ℤ) → EndsNot (fdmode s d m).begin.verdict
@@ -235,60 +244,48 @@ module _ {P S H : Type 0} (f : P → Functions S H) (s : State P S H) (t : ℕ) 
   close_on : (d : ℤ) → EndsNot (close s d).begin.verdict
   close_on d = refused_on EBADF (not (is_fd_live s.control.kernel (fd_named d))) (says 1) (says_on (Int (pos 1)))
 
-  -- calls on descriptors, in their first attempt
-  tries_on : (e : Option ℤ) (now : Bool) (moment : ℕ) (first : Trial) → EndsNot (refused EINVAL when is_no_ring s e otherwise said_or first.answer (begins_waiting s now e first.written moment))
-  tries_on e now moment first =
-      let pause : Pause = record no_pause { moment = moment; written = first.written } in
-      let waits = counts_or first.written EBUSY when is_claimed_ring s e otherwise Blocks pause in
-      let waits_on = when_on (counts_or first.written EBUSY) (is_claimed_ring s e) (Blocks pause) (counts_on first.written EBUSY) (blocks_on pause) in
-      let begins_on = when_on (counts_or first.written EAGAIN) now waits (counts_on first.written EAGAIN) waits_on in
-      let begins = begins_waiting s now e first.written moment in
-      refused_on EINVAL (is_no_ring s e) (said_or first.answer begins) (said_on first.answer begins begins_on)
+  -- calls on descriptors, as they begin
+  waiting_on : (now : Bool) (e : Option ℤ) (x : Verdict) → EndsNot x → EndsNot (begins_waiting s now e x)
+  waiting_on now e (Blocks a) on =
+      let unless_claimed = when_on (counts_or (written_in a) EBUSY) (is_claimed_ring s e) (Blocks a) (counts_on (written_in a) EBUSY) on in
+      when_on (counts_or (written_in a) EAGAIN) now (counts_or (written_in a) EBUSY when is_claimed_ring s e otherwise Blocks a) (counts_on (written_in a) EAGAIN) unless_claimed
+  waiting_on now e x on = on
 
-  read_on : (d n : ℤ) (e : Option ℤ) → EndsNot (read s d n e).begin.verdict
-  read_on d n e = tries_on e (at_once s d) 0 (read_trial s.control.kernel d n)
-
-  write_on : (d : ℤ) (bytes : List ℕ) (e : Option ℤ) → EndsNot (write s d bytes e).begin.verdict
-  write_on d bytes e = tries_on e (at_once s d) 0 (write_trial s.control.kernel d (length bytes) 0)
-
-  accept_on : (d : ℤ) (e : Option ℤ) → EndsNot (accept s d e).begin.verdict
-  accept_on d e = tries_on e (at_once s d) 0 (accept_trial s.control.kernel d)
-
-  connect_on : (d : ℤ) (e : Option ℤ) → EndsNot (connect s d e).begin.verdict
-  connect_on d e = tries_on e (at_once s d) 0 (connect_trial s.control.kernel d)
-
-  select_on : (r w x : ℕ) (l : ℤ) (e : Option ℤ) → EndsNot (select s r w x l e).begin.verdict
-  select_on r w x l e = tries_on e false (select_moment s l) (first_select s.control.kernel r w x l (deadline_by l (select_moment s l)))
+  tries_on : (e : Option ℤ) (refused_else now : Bool) (a : Awaits) → EndsNot (tries s e refused_else now a).begin.verdict
+  tries_on e refused_else now a =
+      let begins = begins_waiting s now e (trial_for s.control.kernel a).verdict in
+      refused_on EINVAL (is_no_ring s e) (refused EINVAL when refused_else otherwise begins)
+      (refused_on EINVAL refused_else begins (waiting_on now e (trial_for s.control.kernel a).verdict (trial_on s.control.kernel a)))
 
   wait_on : (e : ℤ) → EndsNot (wait s e).begin.verdict
-  wait_on e = part_on (claim_answer s.control.events (number e)) waits (blocks_on no_pause)
+  wait_on e = part_on (claim_answer s.control.events (number e)) (Blocks (Ring e)) (blocks_on (Ring e))
 
   -- calls that take a mutex or a lock, or wait for it
-  turned_on : (b : Bool) → EndsNot (refused EBUSY when b otherwise waits)
-  turned_on b = refused_on EBUSY b waits (blocks_on no_pause)
+  turned_on : (b : Bool) (a : Awaits) → EndsNot (refused EBUSY when b otherwise Blocks a)
+  turned_on b a = refused_on EBUSY b (Blocks a) (blocks_on a)
 
-  taken_on : (r : Result (Unit {0}) Errno) (b : Bool) → EndsNot (taken_or r (refused EBUSY when b otherwise waits))
-  taken_on (Ok u) b = says_on (Int (pos 1))
-  taken_on (Err EBUSY) b = turned_on b
-  taken_on (Err e) b = says_on (Fail e)
+  taken_on : (r : Result (Unit {0}) Errno) (b : Bool) (a : Awaits) → EndsNot (taken_or r (refused EBUSY when b otherwise Blocks a))
+  taken_on (Ok u) b a = says_on (Int (pos 1))
+  taken_on (Err EBUSY) b a = turned_on b a
+  taken_on (Err e) b a = says_on (Fail e)
 
   acquire_on : (m u e : ℤ) → EndsNot (begins_acquiring s t m u e)
   acquire_on m u e =
       let busy = not (is_zero u) || is_claimed_ring s (extra_ring e) in
       let answer = mutex_take_answer s.resources.store.mutexes t m in
-      refused_on EINVAL (is_no_ring s (extra_ring e)) (taken_or answer (refused EBUSY when busy otherwise waits)) (taken_on answer busy)
+      refused_on EINVAL (is_no_ring s (extra_ring e)) (taken_or answer (refused EBUSY when busy otherwise Blocks (Mutex m))) (taken_on answer busy (Mutex m))
 
   enter_on : (l : ℤ) (write : Bool) (u e : ℤ) → EndsNot (begins_entering s t l write u e)
   enter_on l write u e =
       let busy = not (is_zero u) || is_claimed_ring s (extra_ring e) in
       let answer = lock_take_answer s.resources.store.rw_locks t write l in
-      refused_on EINVAL (is_no_ring s (extra_ring e)) (taken_or answer (refused EBUSY when busy otherwise waits)) (taken_on answer busy)
+      refused_on EINVAL (is_no_ring s (extra_ring e)) (taken_or answer (refused EBUSY when busy otherwise Blocks (Lock l write))) (taken_on answer busy (Lock l write))
 
-  ctrl_again_on : (q : Query) (b : Blocked) → EndsNot ((ctrl s q).again b).verdict
-  ctrl_again_on query.Threads b v h = cc h
-  ctrl_again_on q b v h = cc h
+  ctrl_again_on : (q : Query) (a : Awaits) → EndsNot ((ctrl s q).again a).verdict
+  ctrl_again_on query.Threads a v h = cc h
+  ctrl_again_on q a v h = cc h
 
-exit_on : (b : Bool) (x v : ℤ) → (waits when b otherwise Ends x) ≡ Ends v → (x ≡ v) × (b ≡ false)
+exit_on : (b : Bool) (x v : ℤ) → (Blocks Alone when b otherwise Ends x) ≡ Ends v → (x ≡ v) × (b ≡ false)
 exit_on true x v h = absurd (cc h)
 exit_on false x v h = (cc, refl)
 
@@ -332,16 +329,16 @@ module _ {P S H : Type 0} (f : P → Functions S H) (t : ℕ) (v : ℤ) where
   exits s (call.Usleep n) up h = absurd (rest_on f s t 1 n 0 v h)
   exits s (call.Sleep n) up h = absurd (rest_on f s t 1000000 n 0 v h)
   exits s (call.Timeout n) up h = absurd (timeout_on f s t n v h)
-  exits s (call.Read d n) up h = absurd (read_on f s t d n None v h)
-  exits s (call.ReadEv d n e) up h = absurd (read_on f s t d n (extra_ring e) v h)
-  exits s (call.Write d bytes) up h = absurd (write_on f s t d bytes None v h)
-  exits s (call.WriteEv d bytes e) up h = absurd (write_on f s t d bytes (extra_ring e) v h)
-  exits s (call.Accept d) up h = absurd (accept_on f s t d None v h)
-  exits s (call.AcceptEv d e) up h = absurd (accept_on f s t d (extra_ring e) v h)
-  exits s (call.Connect d) up h = absurd (connect_on f s t d None v h)
-  exits s (call.ConnectEv d e) up h = absurd (connect_on f s t d (extra_ring e) v h)
-  exits s (call.Select r w x l) up h = absurd (select_on f s t r.0 w.0 x.0 l None v h)
-  exits s (call.SelectEv r w x l e) up h = absurd (select_on f s t r.0 w.0 x.0 l (extra_ring e) v h)
+  exits s (call.Read d n) up h = absurd (tries_on f s t None false (at_once s d) (Reading d n) v h)
+  exits s (call.ReadEv d n e) up h = absurd (tries_on f s t (extra_ring e) false (at_once s d) (Reading d n) v h)
+  exits s (call.Write d bytes) up h = absurd (tries_on f s t None false (at_once s d) (Writing d (length bytes) 0) v h)
+  exits s (call.WriteEv d bytes e) up h = absurd (tries_on f s t (extra_ring e) false (at_once s d) (Writing d (length bytes) 0) v h)
+  exits s (call.Accept d) up h = absurd (tries_on f s t None false (at_once s d) (Connection d) v h)
+  exits s (call.AcceptEv d e) up h = absurd (tries_on f s t (extra_ring e) false (at_once s d) (Connection d) v h)
+  exits s (call.Connect d) up h = absurd (tries_on f s t None false (at_once s d) (ConnectAnswer d) v h)
+  exits s (call.ConnectEv d e) up h = absurd (tries_on f s t (extra_ring e) false (at_once s d) (ConnectAnswer d) v h)
+  exits s (call.Select r w x l) up h = absurd (tries_on f s t None (is_refused_length s r w x l) false (Selection r w x (select_deadline s l)) v h)
+  exits s (call.SelectEv r w x l e) up h = absurd (tries_on f s t (extra_ring e) (is_refused_length s r w x l) false (Selection r w x (select_deadline s l)) v h)
   exits s (call.Fdmode d m) up h = absurd (fdmode_on f s t d m v h)
   exits s (call.EvFd goals fd) up h = absurd (make_on f s t (line.Fd goals fd) v h)
   exits s (call.EvSelect r w x) up h = absurd (make_on f s t (line.Select r w x) v h)
@@ -374,48 +371,48 @@ module _ {P S H : Type 0} (f : P → Functions S H) (t : ℕ) (v : ℤ) where
   exits s (call.RwRelease l) up h = absurd (done_on (lock_release_answer s.resources.store.rw_locks t l) v h)
   exits s c up h = absurd (cc h)
 
-  exits_again : (s : State P S H) (b : Blocked) (c : Call) → ((row_of f s t c).again b).verdict ≡ Ends v → (c ≡ call.Exit v) × (must_wait s.control t ≡ false)
+  exits_again : (s : State P S H) (a : Awaits) (c : Call) → ((row_of f s t c).again a).verdict ≡ Ends v → (c ≡ call.Exit v) × (must_wait s.control t ≡ false)
   unfolding row_of
-  exits_again s b (call.Exit x) h = let e = exit_on (must_wait s.control t) x v h in (ap call.Exit e.0, e.1)
-  exits_again s b (call.Ctrl q) h = absurd (ctrl_again_on f s t q b v h)
-  exits_again s b (call.Join n) h = absurd (join_on f s t n v h)
-  exits_again s b (call.Nap n) h = absurd (says_or_waits_on f s t 1 (nat_le b.moment (now_of s.control)) v h)
-  exits_again s b (call.Usleep n) h = absurd (says_or_waits_on f s t 0 (nat_le b.moment (now_of s.control)) v h)
-  exits_again s b (call.Sleep n) h = absurd (says_or_waits_on f s t 0 (nat_le b.moment (now_of s.control)) v h)
-  exits_again s b (call.Wait e) h = absurd (says_or_waits_on f s t (settled_in s.control.events (number e)) (nat_lt 0 (settled_in s.control.events (number e))) v h)
-  exits_again s b (call.MutexAcquire m u e) h = absurd (says_or_waits_on f s t 1 (is_free s m) v h)
-  exits_again s b (call.RwAcquire l write u e) h = absurd (says_or_waits_on f s t 1 (is_open s write l && not (holds s.resources.store.rw_locks t (object_named l))) v h)
-  exits_again s b (call.Read d n) h = absurd (tried_on (read_trial s.control.kernel d n) v h)
-  exits_again s b (call.ReadEv d n e) h = absurd (tried_on (read_trial s.control.kernel d n) v h)
-  exits_again s b (call.Write d bytes) h = absurd (tried_on (write_trial s.control.kernel d (length bytes) b.written) v h)
-  exits_again s b (call.WriteEv d bytes e) h = absurd (tried_on (write_trial s.control.kernel d (length bytes) b.written) v h)
-  exits_again s b (call.Accept d) h = absurd (tried_on (accept_trial s.control.kernel d) v h)
-  exits_again s b (call.AcceptEv d e) h = absurd (tried_on (accept_trial s.control.kernel d) v h)
-  exits_again s b (call.Connect d) h = absurd (tried_on (connect_trial s.control.kernel d) v h)
-  exits_again s b (call.ConnectEv d e) h = absurd (tried_on (connect_trial s.control.kernel d) v h)
-  exits_again s b (call.Select r w x l) h = absurd (tried_on (select_trial s.control.kernel r.0 w.0 x.0 (deadline_by l b.moment)) v h)
-  exits_again s b (call.SelectEv r w x l e) h = absurd (tried_on (select_trial s.control.kernel r.0 w.0 x.0 (deadline_by l b.moment)) v h)
-  exits_again s b (call.EvFd goals fd) h = absurd (make_again_on f s t (line.Fd goals fd) b v h)
-  exits_again s b (call.EvSelect r w x) h = absurd (make_again_on f s t (line.Select r w x) b v h)
-  exits_again s b (call.EvTime m) h = absurd (make_again_on f s t (line.Time m) b v h)
-  exits_again s b (call.EvMsg p) h = absurd (make_again_on f s t (line.Msg p) b v h)
-  exits_again s b (call.EvCond c) h = absurd (make_again_on f s t (line.Cond c) b v h)
-  exits_again s b (call.EvTid state n) h = absurd (make_again_on f s t (line.Tid state n) b v h)
-  exits_again s b (call.EvFunc c u l) h = absurd (make_again_on f s t (line.Func c u l) b v h)
-  exits_again s b (call.Chain e l) h = absurd (chain_again_on f s t e l b v h)
-  exits_again s b c h = absurd (cc h)
+  exits_again s a (call.Exit x) h = let e = exit_on (must_wait s.control t) x v h in (ap call.Exit e.0, e.1)
+  exits_again s a (call.Ctrl q) h = absurd (ctrl_again_on f s t q a v h)
+  exits_again s a (call.Join n) h = absurd (join_on f s t n v h)
+  exits_again s a (call.Nap n) h = absurd (says_or_waits_on f s t 1 (nat_le (moment_in a) (now_of s.control)) (Moment (moment_in a)) v h)
+  exits_again s a (call.Usleep n) h = absurd (says_or_waits_on f s t 0 (nat_le (moment_in a) (now_of s.control)) (Moment (moment_in a)) v h)
+  exits_again s a (call.Sleep n) h = absurd (says_or_waits_on f s t 0 (nat_le (moment_in a) (now_of s.control)) (Moment (moment_in a)) v h)
+  exits_again s a (call.Wait e) h = absurd (says_or_waits_on f s t (settled_in s.control.events (number e)) (nat_lt 0 (settled_in s.control.events (number e))) (Ring e) v h)
+  exits_again s a (call.MutexAcquire m u e) h = absurd (says_or_waits_on f s t 1 (is_free s m) (Mutex m) v h)
+  exits_again s a (call.RwAcquire l write u e) h = absurd (says_or_waits_on f s t 1 (is_open s write l && not (holds s.resources.store.rw_locks t (object_named l))) (Lock l write) v h)
+  exits_again s a (call.Read d n) h = absurd (trial_on s.control.kernel a v h)
+  exits_again s a (call.ReadEv d n e) h = absurd (trial_on s.control.kernel a v h)
+  exits_again s a (call.Write d bytes) h = absurd (trial_on s.control.kernel a v h)
+  exits_again s a (call.WriteEv d bytes e) h = absurd (trial_on s.control.kernel a v h)
+  exits_again s a (call.Accept d) h = absurd (trial_on s.control.kernel a v h)
+  exits_again s a (call.AcceptEv d e) h = absurd (trial_on s.control.kernel a v h)
+  exits_again s a (call.Connect d) h = absurd (trial_on s.control.kernel a v h)
+  exits_again s a (call.ConnectEv d e) h = absurd (trial_on s.control.kernel a v h)
+  exits_again s a (call.Select r w x l) h = absurd (trial_on s.control.kernel a v h)
+  exits_again s a (call.SelectEv r w x l e) h = absurd (trial_on s.control.kernel a v h)
+  exits_again s a (call.EvFd goals fd) h = absurd (make_again_on f s t (line.Fd goals fd) a v h)
+  exits_again s a (call.EvSelect r w x) h = absurd (make_again_on f s t (line.Select r w x) a v h)
+  exits_again s a (call.EvTime m) h = absurd (make_again_on f s t (line.Time m) a v h)
+  exits_again s a (call.EvMsg p) h = absurd (make_again_on f s t (line.Msg p) a v h)
+  exits_again s a (call.EvCond c) h = absurd (make_again_on f s t (line.Cond c) a v h)
+  exits_again s a (call.EvTid state n) h = absurd (make_again_on f s t (line.Tid state n) a v h)
+  exits_again s a (call.EvFunc c u l) h = absurd (make_again_on f s t (line.Func c u l) a v h)
+  exits_again s a (call.Chain e l) h = absurd (chain_again_on f s t e l a v h)
+  exits_again s a c h = absurd (cc h)
 
-  begun_verdict : (c : Call) (w : Verdict) (a : Piece P S H) (s : State P S H) → (begun_by f t c w a s).next ≡ next.Ended v → w ≡ Ends v
-  begun_verdict c (Says a) effect s e = absurd (cc e)
-  begun_verdict c (Yields a) effect s e = absurd (cc e)
-  begun_verdict c (Blocks p) effect s e = absurd (cc e)
-  begun_verdict c (Ends x) effect s e = (let same : x ≡ v = cc in ap Ends same)
-  begun_verdict c Kills effect s e = absurd (cc e)
+  begun_verdict : (c : Call) (w : Verdict) (s : State P S H) → (begun_by f t c w s).next ≡ next.Ended v → w ≡ Ends v
+  begun_verdict c (Says a) s e = absurd (cc e)
+  begun_verdict c (Yields a) s e = absurd (cc e)
+  begun_verdict c (Blocks a) s e = absurd (cc e)
+  begun_verdict c (Ends x) s e = (let same : x ≡ v = cc in ap Ends same)
+  begun_verdict c Kills s e = absurd (cc e)
 
   tried_verdict : (b : Blocked) (w : Verdict) (s : State P S H) → (tried_by f t b w s).next ≡ next.Ended v → w ≡ Ends v
   tried_verdict b (Says a) s e = absurd (cc e)
   tried_verdict b (Yields a) s e = absurd (cc e)
-  tried_verdict b (Blocks p) s e = absurd (cc e)
+  tried_verdict b (Blocks a) s e = absurd (cc e)
   tried_verdict b (Ends x) s e = (let same : x ≡ v = cc in ap Ends same)
   tried_verdict b Kills s e = absurd (cc e)
 
@@ -427,7 +424,7 @@ module _ {P S H : Type 0} (f : P → Functions S H) (t : ℕ) (v : ℤ) where
       by_verdict : (w : Verdict) → interrupted w ≡ Ends v → w ≡ Ends v
       by_verdict (Says x) h = absurd (cc h)
       by_verdict (Yields x) h = absurd (cc h)
-      by_verdict (Blocks p) h = absurd (counts_on p.written EINTR v h)
+      by_verdict (Blocks x) h = absurd (counts_on (written_in x) EINTR v h)
       by_verdict (Ends x) h = h
       by_verdict Kills h = absurd (cc h)
 
@@ -450,14 +447,24 @@ module _ {P S H : Type 0} (f : P → Functions S H) (t : ℕ) (v : ℤ) where
   ends_by : (k : Control P S H) (marks : List Mark) (s : State P S H) → must_wait k t ≡ false → marks ≡ (ending f t v s).marks → EndsIt k marks
   ends_by k marks s unlocked same = let last = ending_told s in record { free = unlocked; before = last.0; told = same ∙ last.1 }
 
+  -- an exit that need not wait ends its thread
+  exit_ends : (s : State P S H) → must_wait s.control t ≡ false → begun f t (call.Exit v) s ≡ record { told = ending f t v s; next = next.Ended v }
+  unfolding begun row_of
+  exit_ends s free = rw free refl
+
+  -- also as it is tried again
+  again_ends : (s : State P S H) (b : Blocked) → blocked_of s.control t ≡ Some b → b.call ≡ call.Exit v → must_wait s.control t ≡ false → tried_again f t s ≡ record { told = ending f t v s; next = next.Ended v }
+  unfolding tried_again row_of
+  again_ends s b at its free = rw (at, its, free) refl
+
   of_exit : (s : State P S H) (c : Call) → (c ≡ call.Exit v) × (must_wait s.control t ≡ false) → EndsIt s.control (begun f t c s).told.marks
-  of_exit s c x = subst (λ (y : Call). EndsIt s.control (begun f t y s).told.marks) (sym x.0) (ends_by s.control _ s x.1 (ap (λ (w : Went P S H). w.told.marks) (exit_ends f s t v x.1)))
+  of_exit s c x = subst (λ (y : Call). EndsIt s.control (begun f t y s).told.marks) (sym x.0) (ends_by s.control _ s x.1 (ap (λ (w : Went P S H). w.told.marks) (exit_ends s x.1)))
 
   exit_began : (s : State P S H) (c : Call) → IsUp s → (begun f t c s).next ≡ next.Ended v → (c ≡ call.Exit v) × (must_wait s.control t ≡ false)
   unfolding begun
   exit_began s call.Plain up e = absurd (cc e)
   exit_began s (call.Note x) up e = absurd (cc e)
-  exit_began s c up e = exits s c up (begun_verdict c (row_of f s t c).begin.verdict (effect_of (row_of f s t c).begin) s e)
+  exit_began s c up e = exits s c up (begun_verdict c (row_of f s t c).begin.verdict (effect_of (row_of f s t c).begin s).state e)
 
   begun_ends : (c : Call) (s : State P S H) → IsUp s → (begun f t c s).next ≡ next.Ended v → EndsIt s.control (begun f t c s).told.marks
   begun_ends c s up e = of_exit s c (exit_began s c up e)
@@ -474,9 +481,9 @@ module _ {P S H : Type 0} (f : P → Functions S H) (t : ℕ) (v : ℤ) where
       by_blocked None at h = absurd (cc h)
       by_blocked (Some b) at h =
           let come = has_settled s.control.events (ring_given b.call) in
-          let a = unless_settled come ((row_of f s t b.call).again b) in
-          let x = exits_again s b b.call (come_verdict come ((row_of f s t b.call).again b) (tried_verdict b a.verdict (effect_of a s).state h)) in
-          ends_by s.control _ s x.1 (ap (λ (w : Went P S H). w.told.marks) (again_ends f s t v b at x.0 x.1))
+          let a = unless_settled come ((row_of f s t b.call).again b.awaits) in
+          let x = exits_again s b.awaits b.call (come_verdict come ((row_of f s t b.call).again b.awaits) (tried_verdict b a.verdict (effect_of a s).state h)) in
+          ends_by s.control _ s x.1 (ap (λ (w : Went P S H). w.told.marks) (again_ends s b at x.0 x.1))
 
   gone_on_ends : (s : State P S H) → IsUp s → (gone_on f t s).next ≡ next.Ended v → EndsIt s.control (gone_on f t s).told.marks
   gone_on_ends s up e =

@@ -9,21 +9,21 @@ use Rattle.pth_ring.specs.Ring.{each, ring_holds}
 use Rattle.pth_model.specs.declared.awaits.Awaits.{Awaits}
 use Rattle.pth_model.specs.declared.awaits.Awaits.TheVariants.{Nothing}
 use Rattle.pth_model.specs.Awaits.{awaits_in}
+use Rattle.pth_model.specs.Calls.{wakes}
+use Rattle.pth_model.specs.Cancellation.{may_be_canceled}
 use Rattle.pth_model.specs.Changes.{blocked_of}
+use Rattle.pth_model.specs.Coming.{has_any_died, has_come}
 use Rattle.pth_model.specs.Looks.{comes, looked_at, looks_at}
 use Rattle.pth_model.specs.Pass.{comes_for, is_to_wake, looks, to_wake, waiting}
-use Rattle.pth_model.specs.Resources.{Store}
 use Rattle.pth_model.specs.RingWaits.{awaited_events}
 use Rattle.pth_model.specs.State.{Control, State}
 use Rattle.pth_model.specs.ThreadControl.{joinable_dead}
 use Rattle.pth_model.specs.ThreadEnds.{is_alone}
+use Rattle.pth_model.specs.Transition.{controlled}
 use Rattle.pth_world.specs.Shows.{Shows, StandsFor}
 use Rattle.pth_world.specs.World.{WorldOf}
 use Rattle.pth_world.proofs.Events.{events_show}
 use Rattle.pth_world.proofs.Telling.{has_still}
-use Rattle.pth_model.specs.Cancellation.{may_be_canceled}
-use Rattle.pth_waits.specs.Waking.{has_any_died, has_come}
-use Rattle.pth_waits.proofs.Waking.{due_is, is_due}
 
 -- ---- lists
 
@@ -66,17 +66,9 @@ module _ {P S H : Type 0} (k : Control P S H) (xs : List ℕ) where
   unfolding comes_for each
   come_for_still t = ap (λ (p : ℕ → Bool). list_any p (awaited_events k t)) (fun_ext (λ e. comes_still (ring_holds e xs) (k.events.events e)))
 
-  pub has_come_still : (x : Store) (t : ℕ) (a : Awaits) → has_come x seen t a ≡ has_come x k t a
-  unfolding is_alone joinable_dead
-  has_come_still x t Nothing = refl
-  has_come_still x t a = refl
-
   canceled_still : (t : ℕ) → may_be_canceled seen t ≡ may_be_canceled k t
   unfolding may_be_canceled
   canceled_still t = refl
-
-  due_still : (x : Store) (t : ℕ) → is_due x seen t ≡ is_due x k t
-  due_still x t = ap₂ (λ (a b : Bool). a || b) (ap₂ (λ (a b : Bool). a || b) (has_come_still x t (awaits_in (blocked_of k t))) (come_for_still t)) (canceled_still t)
 
   -- one look, and then another, are one look
   look_twice : (a b : Bool) (o : Option Event) → (if b then option_map (looked_at seen) (if a then look o else o) else (if a then look o else o)) ≡ (if a || b then look o else o)
@@ -96,8 +88,21 @@ module _ {P S H : Type 0} (k : Control P S H) (xs : List ℕ) where
       (fun_ext (λ e. look_twice (ring_holds e xs) (ring_holds e ys) (k.events.events e) ∙ ap (λ (b : Bool). if b then look (k.events.events e) else k.events.events e) (sym (holds_both e xs ys))))
 
 -- who is to wake does not hang on what was looked at
-to_wake_still : {P S H : Type 0} (f : P → Functions S H) (s : State P S H) (xs : List ℕ) (t : ℕ) → is_to_wake f (record s { control = looks_at s.control xs }) t ≡ is_to_wake f s t
-to_wake_still f s xs t = due_is f (record s { control = looks_at s.control xs }) t ∙ due_still s.control xs s.resources.store t ∙ sym (due_is f s t)
+module _ {P S H : Type 0} (s : State P S H) (xs : List ℕ) where
+  abbrev seen_state : State P S H
+  seen_state = controlled (λ k. looks_at k xs) s
+
+  has_come_still : (t : ℕ) (a : Awaits) → has_come seen_state t a ≡ has_come s t a
+  unfolding is_alone joinable_dead
+  has_come_still t Nothing = refl
+  has_come_still t a = refl
+
+  to_wake_still : (f : P → Functions S H) (t : ℕ) → is_to_wake f seen_state t ≡ is_to_wake f s t
+  unfolding wakes
+  to_wake_still f t =
+      ap₂ (λ (a b : Bool). a || b)
+      (ap₂ (λ (a b : Bool). a || b) (has_come_still t (awaits_in (blocked_of s.control t))) (come_for_still s.control xs t))
+      (canceled_still s.control xs t)
 
 -- ---- the threads, one after another
 
@@ -156,7 +161,7 @@ module _ {P S H : Type 0} (f : P → Functions S H) (old : WorldOf P S H) where
           (shows (looks_at k (events k)) (so_far.shows k sh));
       listed = λ s st.
           is (record s { control = looks_at s.control (events s.control) }) (stands_seen s st)
-          ∙ ap₂ (λ (l : List ℕ) (b : Bool). l ++ (if b then t ∷ [] else [])) (so_far.listed s st) (to_wake_still f s (events s.control) t)
+          ∙ ap₂ (λ (l : List ℕ) (b : Bool). l ++ (if b then t ∷ [] else [])) (so_far.listed s st) (to_wake_still s (events s.control) f t)
           ∙ sym (kept (is_to_wake f s) so_far.done (t ∷ []));
       made = made ∙ so_far.made;
       same = same ∙ ap (λ (w : WorldOf P S H). record w { events = x.events }) so_far.same;

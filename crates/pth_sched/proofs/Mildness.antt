@@ -1,5 +1,5 @@
 -- The calls that are mild leave all other threads, and what they wait for, as they are.
-use Rattle.std.proofs.Common.{◌≡◌, ◌∙◌, ℕ, not, Bool, true, false, if◌then◌else◌, ℤ, pos, length, Option, Some, None, Result, Ok, Err, refl, sym, ap, subst}
+use Rattle.std.proofs.Common.{◌≡◌, ◌∙◌, ◌==◌, ℕ, not, Bool, true, false, if◌then◌else◌, ℤ, pos, length, Option, Some, None, Result, Ok, Err, refl, sym, ap, subst}
 use Rattle.pth_base.specs.Program.{Functions, Stepped}
 use Rattle.pth_base.proofs.Tables.{put_other, same_means}
 use Rattle.pth_base.specs.declared.answer.Answer.{Answer}
@@ -12,6 +12,7 @@ use Rattle.pth_base.specs.declared.mark.Mark.TheVariants.{Answered}
 use Rattle.pth_base.specs.declared.query.Query.{Query}
 use Rattle.pth_base.specs.declared.query.Query.TheVariants as query
 use Rattle.pth_base.specs.declared.ids.EventId.{EventId}
+use Rattle.pth_base.specs.declared.ids.FdSet.{FdSet}
 use Rattle.pth_kernel.specs.Kernel.{Kernel, fd_named, room}
 use Rattle.pth_numbered.specs.Operands.{number, is_zero}
 use Rattle.pth_ring.specs.Rings.{walk_answer, status_answer, kind_answer}
@@ -20,65 +21,70 @@ use Rattle.pth_threads.specs.Attributes.{get_answer}
 use Rattle.pth_model.specs.AttributeHandling.{answer_of, object}
 use Rattle.pth_model.specs.EventHandling.{status_number}
 use Rattle.pth_model.specs.Times.{is_negative, length_of, moment_after}
-use Rattle.pth_model.specs.declared.awaits.Awaits.TheVariants.{Reading, Writing, Connection}
+use Rattle.pth_model.specs.declared.awaits.Awaits.{Awaits}
+use Rattle.pth_model.specs.declared.awaits.Awaits.TheVariants.{Reading, Writing, Connection, ConnectAnswer, Selection}
 use Rattle.pth_model.specs.declared.blocked.Blocked.{Blocked}
-use Rattle.pth_model.specs.Awaits.{awaited_by}
+use Rattle.pth_model.specs.Awaits.{death_of}
+use Rattle.pth_model.specs.Io.{at_once, begins_waiting, is_refused_length, select_deadline, trial_for, tries}
 use Rattle.pth_model.specs.declared.next.Next.{Next}
 use Rattle.pth_model.specs.declared.next.Next.TheVariants as next
 use Rattle.pth_model.specs.declared.progress.Progress.{Progress}
 use Rattle.pth_queue.specs.declared.queue.Queue.TheVariants as queues
 use Rattle.pth_model.specs.LibraryControl.{running_count}
 use Rattle.pth_model.specs.State.{State, now_of, present, queue}
-use Rattle.pth_model.specs.Transition.{Went, silent, nothing, controlled, changes, tells, tid, ◌and_then◌}
-use Rattle.pth_model.specs.Changes.{blocked_of, blocked_in, favours_new, goes_on, or_nobody, prefers, with_kernel}
+use Rattle.pth_model.specs.Transition.{silent, nothing, controlled, changes, tells, tid, ◌and_then◌}
+use Rattle.pth_model.specs.Changes.{blocked_of, blocked_in, blocking, favours_new, goes_on, or_nobody, prefers, with_kernel}
 use Rattle.pth_model.specs.Cancellation.{may_be_canceled}
-use Rattle.pth_model.specs.Calls.{begun, begun_as, begun_by, gone_on, gone_on_where, tried_again_by, canceled_by, tried, tried_again, interrupted, unless_settled, waits_by, blocked_from}
+use Rattle.pth_model.specs.Calls.{begun, begun_as, gone_on, gone_on_where, tried_again_by, canceled_by, tried, tried_again, interrupted, unless_settled, waits_by}
 use Rattle.pth_model.specs.Part.{owes_after, stepping}
 use Rattle.pth_model.specs.Resources.{Resources, told, answer_told, wait_told}
-use Rattle.pth_model.specs.RingWaits.{ring_given, claims, has_settled}
-use Rattle.pth_model.specs.Row.{Attempt, effect_of, refuses, unless_refused, ◌trying◌}
+use Rattle.pth_model.specs.RingWaits.{ring_given, claims, extra_ring, has_settled, is_no_ring}
+use Rattle.pth_model.specs.Row.{refuses, unless_refused, ◌trying◌}
 use Rattle.pth_model.specs.Rows.{row_of}
-use Rattle.pth_model.specs.Verdict.{Verdict, Pause, Says, Yields, Blocks, Ends, Kills, by_result, no_pause, refused, said_or, says, ◌when◌otherwise◌}
+use Rattle.pth_model.specs.declared.verdict.Verdict.{Verdict}
+use Rattle.pth_model.specs.declared.verdict.Verdict.TheVariants.{Says, Yields, Blocks, Ends, Kills}
+use Rattle.pth_model.specs.Verdict.{by_result, refused, says, ◌when◌otherwise◌}
 use Rattle.pth_model.specs.ThreadControl.{is_known, joined, takes_joined, thread}
-use Rattle.pth_waits.specs.Io.{first_trial, is_io, moment_for, trial_for}
+use Rattle.pth_world.specs.Whole.{IsSelection, IsWriting, MayAwaitAs, MayBlock}
 use Rattle.pth_waits.proofs.Dormancy.{claimed_pending, same_pending}
-use Rattle.pth_waits.proofs.IoCalls.{begun_io, io_again, io_begin}
-use Rattle.pth_waits.proofs.Unchanged.{waiting_same}
+use Rattle.pth_waits.proofs.Unchanged.{HasNoRoom, waiting_same}
 use Rattle.pth_sched.specs.Mild.{is_mild, waits_mildly, is_waiting}
 use Rattle.pth_sched.proofs.Calming.{IsMild, mild_same, mild_then}
 
 -- ---- attempts at descriptors
 
--- a call that has no answer takes nothing, where a write finds no room
-again_same : (k : Kernel) (c : Call) (m n : ℕ) → is_io c ≡ true → waits_mildly k c ≡ true → (trial_for k (awaited_by c m n)).answer ≡ None → (trial_for k (awaited_by c m n)).after k ≡ k
-again_same k (call.Read g x) m n io mild none = waiting_same k (Reading g x) none tt
-again_same k (call.ReadEv g x e) m n io mild none = waiting_same k (Reading g x) none tt
-again_same k (call.Write g bytes) m n io mild none = waiting_same k (Writing g (length bytes) n) none (same_means (room k (fd_named g)) 0 mild)
-again_same k (call.WriteEv g bytes e) m n io mild none = waiting_same k (Writing g (length bytes) n) none (same_means (room k (fd_named g)) 0 mild)
-again_same k (call.Accept g) m n io mild none = waiting_same k (Connection g) none tt
-again_same k (call.AcceptEv g e) m n io mild none = waiting_same k (Connection g) none tt
-again_same k (call.Connect g) m n io mild none = refl
-again_same k (call.ConnectEv g e) m n io mild none = refl
-again_same k (call.Select r w x l) m n io mild none = refl
-again_same k (call.SelectEv r w x l e) m n io mild none = refl
-again_same k c m n io mild none = absurd (cc io)
-
-first_same : (k : Kernel) (c : Call) (m : ℕ) → is_io c ≡ true → waits_mildly k c ≡ true → (first_trial k c m).answer ≡ None → (first_trial k c m).after k ≡ k
-first_same k (call.Select r w x l) m io mild none = refl
-first_same k (call.SelectEv r w x l e) m io mild none = refl
-first_same k c m io mild none = again_same k c m 0 io mild none
-
 abbrev blocks_in : Verdict → Bool
-blocks_in (Blocks p) = true
+blocks_in (Blocks a) = true
 blocks_in (Says a) = false
 blocks_in (Yields a) = false
 blocks_in (Ends v) = false
 blocks_in Kills = false
 
-unanswered : (none : Bool) (o : Option Answer) (v : Verdict) → blocks_in (refused EINVAL when none otherwise said_or o v) ≡ true → o ≡ None
-unanswered none None v blocks = refl
-unanswered true (Some a) v blocks = absurd (cc blocks)
-unanswered false (Some a) v blocks = absurd (cc blocks)
+-- an attempt that is not yet takes nothing, if a write finds no room
+not_yet_same : (k : Kernel) (a : Awaits) (v : Verdict) → (trial_for k a).verdict ≡ v → HasNoRoom k a → blocks_in v ≡ true → (trial_for k a).after k ≡ k
+not_yet_same k a (Blocks b) is none blocks = waiting_same k a b is none
+not_yet_same k a v is none blocks = absurd (cc blocks)
+
+-- what a call on descriptors may wait for, if a write finds no room
+equal_no_room : (k : Kernel) (a b : Awaits) → a ≡ b → HasNoRoom k b → HasNoRoom k a
+equal_no_room k a b is none = subst (HasNoRoom k) (sym is) none
+
+writing_no_room : (k : Kernel) (g : ℤ) (n : ℕ) (a : Awaits) → IsWriting g n a → (room k (fd_named g) == 0) ≡ true → HasNoRoom k a
+writing_no_room k g n (Writing h total done) is none = same_means (room k (fd_named h)) 0 (ap (λ (i : ℤ). room k (fd_named i) == 0) is.0 ∙ none)
+writing_no_room k g n a is none = tt
+
+selection_no_room : (k : Kernel) (r w x : FdSet) (a : Awaits) → IsSelection r w x a → HasNoRoom k a
+selection_no_room k r w x (Writing h total done) is = absurd is
+selection_no_room k r w x a is = tt
+
+-- what is refused or interrupted blocks only if the verdict itself does
+refused_not : (e : Errno) (b : Bool) (v : Verdict) → blocks_in (refused e when b otherwise v) ≡ true → blocks_in v ≡ true
+refused_not e true v blocks = absurd (cc blocks)
+refused_not e false v blocks = blocks
+
+interrupted_not : (v : Verdict) → blocks_in (interrupted v) ≡ true → blocks_in v ≡ true
+interrupted_not (Blocks a) blocks = refl
+interrupted_not v blocks = blocks
 
 module _ {P S H : Type 0} (t : ℕ) where
   -- t alone goes on otherwise
@@ -128,12 +134,12 @@ module _ {P S H : Type 0} (t : ℕ) where
   }
 
   -- a call that waits
-  waits_mild : (c : Call) (p : Pause) → ((x : Resources) → wait_told x t c ≡ x) → (s : State P S H) → IsMild t s (waits_by t c p s).state
+  waits_mild : (c : Call) (a : Awaits) → ((x : Resources) → wait_told x t c ≡ x) → (s : State P S H) → IsMild t s (waits_by t c a s).state
   unfolding told
-  waits_mild c p told_same s =
+  waits_mild c a told_same s =
       let r = controlled (claims t (ring_given c)) s in
-      let g = goes_mild (λ q. record q { blocked = Some (blocked_from r.control.kernel.now c p) }) r in
-      rw (told_same s.resources) (mild_then t s r (controlled (goes_on t (λ q. record q { blocked = Some (blocked_from r.control.kernel.now c p) })) r) (claims_mild (ring_given c) s) g)
+      let waits = blocking (Some (record { call = c; awaits = a })) in
+      rw (told_same s.resources) (mild_then t s r (controlled (goes_on t waits) r) (claims_mild (ring_given c) s) (goes_mild waits r))
 
   -- an attempt takes nothing of a descriptor
   takes_mild : (h : Kernel → Kernel) (s : State P S H) → h s.control.kernel ≡ s.control.kernel → IsMild t s (controlled (with_kernel h) s)
@@ -142,59 +148,64 @@ module _ {P S H : Type 0} (t : ℕ) where
   -- ---- calls that begin
 
   module _ (f : P → Functions S H) (s : State P S H) where
-    by_verdict : (c : Call) (v : Verdict) → ((x : Resources) → wait_told x t c ≡ x) → is_waiting (begun_by f t c v (effect_of (v trying silent)) s).next ≡ true → IsMild t s (begun_by f t c v (effect_of (v trying silent)) s).told.state
+    by_verdict : (c : Call) (v : Verdict) → ((x : Resources) → wait_told x t c ≡ x) → is_waiting (begun_as f t c (v trying silent) s).next ≡ true → IsMild t s (begun_as f t c (v trying silent) s).told.state
     by_verdict c (Says a) same waits = absurd (cc waits)
     by_verdict c (Yields a) same waits = absurd (cc waits)
-    by_verdict c (Blocks p) same waits = waits_mild c p same s
+    by_verdict c (Blocks a) same waits = waits_mild c a same s
     by_verdict c (Ends v) same waits = absurd (cc waits)
     by_verdict c Kills same waits = absurd (cc waits)
 
     -- a join waits, and takes nobody
-    joins_by : (c : Call) (a b d : Bool) (o : Option ℕ) → ((x : Resources) → wait_told x t c ≡ x)
-        → is_waiting (begun_by f t c (refused EDEADLK when a otherwise refused ESRCH when b otherwise refused EINVAL when d otherwise joined s.control o) (effect_of (refused EDEADLK when a otherwise refused ESRCH when b otherwise refused EINVAL when d otherwise joined s.control o trying changes (takes_joined o))) s).next ≡ true
-        → IsMild t s (begun_by f t c (refused EDEADLK when a otherwise refused ESRCH when b otherwise refused EINVAL when d otherwise joined s.control o) (effect_of (refused EDEADLK when a otherwise refused ESRCH when b otherwise refused EINVAL when d otherwise joined s.control o trying changes (takes_joined o))) s).told.state
-    joins_by c true b d o same waits = absurd (cc waits)
-    joins_by c false true d o same waits = absurd (cc waits)
-    joins_by c false false true o same waits = absurd (cc waits)
-    joins_by c false false false (Some u) same waits = absurd (cc waits)
-    joins_by c false false false None same waits = waits_mild c no_pause same s
+    joins_by : (c : Call) (n : ℤ) (a b d : Bool) (o : Option ℕ) → ((x : Resources) → wait_told x t c ≡ x)
+        → is_waiting (begun_as f t c (refused EDEADLK when a otherwise refused ESRCH when b otherwise refused EINVAL when d otherwise joined s.control n o trying changes (takes_joined o)) s).next ≡ true
+        → IsMild t s (begun_as f t c (refused EDEADLK when a otherwise refused ESRCH when b otherwise refused EINVAL when d otherwise joined s.control n o trying changes (takes_joined o)) s).told.state
+    joins_by c n true b d o same waits = absurd (cc waits)
+    joins_by c n false true d o same waits = absurd (cc waits)
+    joins_by c n false false true o same waits = absurd (cc waits)
+    joins_by c n false false false (Some u) same waits = absurd (cc waits)
+    joins_by c n false false false None same waits = waits_mild c (death_of n) same s
 
-    -- a call on descriptors waits where its attempt has no answer, and takes nothing then
+    -- a call on descriptors waits if its attempt has no answer, and takes nothing then
     attempts_by : (c : Call) (v : Verdict) (h : Kernel → Kernel) → ((x : Resources) → wait_told x t c ≡ x) → (blocks_in v ≡ true → h s.control.kernel ≡ s.control.kernel)
-        → is_waiting (begun_by f t c v (effect_of (v trying changes (with_kernel h))) s).next ≡ true → IsMild t s (begun_by f t c v (effect_of (v trying changes (with_kernel h))) s).told.state
+        → is_waiting (begun_as f t c (v trying changes (with_kernel h)) s).next ≡ true → IsMild t s (begun_as f t c (v trying changes (with_kernel h)) s).told.state
     attempts_by c (Says a) h told_same same waits = absurd (cc waits)
     attempts_by c (Yields a) h told_same same waits = absurd (cc waits)
-    attempts_by c (Blocks p) h told_same same waits = mild_then t s (controlled (with_kernel h) s) (waits_by t c p (controlled (with_kernel h) s)).state (takes_mild h s (same refl)) (waits_mild c p told_same (controlled (with_kernel h) s))
+    attempts_by c (Blocks a) h told_same same waits = mild_then t s (controlled (with_kernel h) s) (waits_by t c a (controlled (with_kernel h) s)).state (takes_mild h s (same refl)) (waits_mild c a told_same (controlled (with_kernel h) s))
     attempts_by c (Ends v) h told_same same waits = absurd (cc waits)
     attempts_by c Kills h told_same same waits = absurd (cc waits)
 
-    io_begins_mild : (c : Call) → is_io c ≡ true → waits_mildly s.control.kernel c ≡ true → ((x : Resources) → wait_told x t c ≡ x) → is_waiting (begun f t c s).next ≡ true → IsMild t s (begun f t c s).told.state
-    io_begins_mild c io mild told_same waits =
-        let trial = first_trial s.control.kernel c (moment_for s c) in
-        let begins = begun_io f s t c io ∙ ap (λ (a : Attempt P S H). begun_as f t c a s) (io_begin f s t c io) in
-        subst (λ (w : Went P S H). is_waiting w.next ≡ true → IsMild t s w.told.state) (sym begins)
-        (attempts_by c _ trial.after told_same (λ blocks. first_same s.control.kernel c (moment_for s c) io mild (unanswered _ trial.answer _ blocks))) waits
+    begins_waiting_not : (now : Bool) (e : Option ℤ) (v : Verdict) → blocks_in (begins_waiting s now e v) ≡ true → blocks_in v ≡ true
+    begins_waiting_not now e (Blocks a) blocks = refl
+    begins_waiting_not now e v blocks = blocks
+
+    io_begins_mild : (c : Call) (e : Option ℤ) (refused_else now : Bool) (a : Awaits) → HasNoRoom s.control.kernel a → ((x : Resources) → wait_told x t c ≡ x)
+        → is_waiting (begun_as f t c (tries s e refused_else now a).begin s).next ≡ true → IsMild t s (begun_as f t c (tries s e refused_else now a).begin s).told.state
+    io_begins_mild c e refused_else now a none told_same waits =
+        let trial = trial_for s.control.kernel a in
+        let begins = begins_waiting s now e trial.verdict in
+        attempts_by c (tries s e refused_else now a).begin.verdict trial.after told_same
+        (λ blocks. not_yet_same s.control.kernel a trial.verdict refl none (begins_waiting_not now e trial.verdict (refused_not EINVAL refused_else begins (refused_not EINVAL (is_no_ring s e) (refused EINVAL when refused_else otherwise begins) blocks)))) waits
 
     pub begins_mild : (c : Call) → waits_mildly s.control.kernel c ≡ true → is_waiting (begun f t c s).next ≡ true → IsMild t s (begun f t c s).told.state
     unfolding begun row_of
     begins_mild (call.Exit v) mild waits = by_verdict _ _ (λ x. refl) waits
     begins_mild (call.Wait e) mild waits = by_verdict _ _ (λ x. refl) waits
-    begins_mild (call.Join n) mild waits = joins_by _ _ _ _ _ (λ x. refl) waits
+    begins_mild (call.Join n) mild waits = joins_by _ n _ _ _ _ (λ x. refl) waits
     begins_mild (call.Nap n) mild waits = by_verdict _ _ (λ x. refl) waits
     begins_mild (call.Usleep n) mild waits = by_verdict _ _ (λ x. refl) waits
     begins_mild (call.Sleep n) mild waits = by_verdict _ _ (λ x. refl) waits
     begins_mild (call.MutexAcquire m v e) mild waits = by_verdict _ _ (λ x. refl) waits
     begins_mild (call.RwAcquire l write v e) mild waits = by_verdict _ _ (λ x. refl) waits
-    begins_mild (call.Read g n) mild waits = io_begins_mild (call.Read g n) refl mild (λ x. refl) waits
-    begins_mild (call.ReadEv g n e) mild waits = io_begins_mild (call.ReadEv g n e) refl mild (λ x. refl) waits
-    begins_mild (call.Write g bytes) mild waits = io_begins_mild (call.Write g bytes) refl mild (λ x. refl) waits
-    begins_mild (call.WriteEv g bytes e) mild waits = io_begins_mild (call.WriteEv g bytes e) refl mild (λ x. refl) waits
-    begins_mild (call.Accept g) mild waits = io_begins_mild (call.Accept g) refl mild (λ x. refl) waits
-    begins_mild (call.AcceptEv g e) mild waits = io_begins_mild (call.AcceptEv g e) refl mild (λ x. refl) waits
-    begins_mild (call.Connect g) mild waits = io_begins_mild (call.Connect g) refl mild (λ x. refl) waits
-    begins_mild (call.ConnectEv g e) mild waits = io_begins_mild (call.ConnectEv g e) refl mild (λ x. refl) waits
-    begins_mild (call.Select r w x l) mild waits = io_begins_mild (call.Select r w x l) refl mild (λ x. refl) waits
-    begins_mild (call.SelectEv r w x l e) mild waits = io_begins_mild (call.SelectEv r w x l e) refl mild (λ x. refl) waits
+    begins_mild (call.Read g n) mild waits = io_begins_mild (call.Read g n) None false (at_once s g) (Reading g n) tt (λ x. refl) waits
+    begins_mild (call.ReadEv g n e) mild waits = io_begins_mild (call.ReadEv g n e) (extra_ring e) false (at_once s g) (Reading g n) tt (λ x. refl) waits
+    begins_mild (call.Write g bytes) mild waits = io_begins_mild (call.Write g bytes) None false (at_once s g) (Writing g (length bytes) 0) (same_means (room s.control.kernel (fd_named g)) 0 mild) (λ x. refl) waits
+    begins_mild (call.WriteEv g bytes e) mild waits = io_begins_mild (call.WriteEv g bytes e) (extra_ring e) false (at_once s g) (Writing g (length bytes) 0) (same_means (room s.control.kernel (fd_named g)) 0 mild) (λ x. refl) waits
+    begins_mild (call.Accept g) mild waits = io_begins_mild (call.Accept g) None false (at_once s g) (Connection g) tt (λ x. refl) waits
+    begins_mild (call.AcceptEv g e) mild waits = io_begins_mild (call.AcceptEv g e) (extra_ring e) false (at_once s g) (Connection g) tt (λ x. refl) waits
+    begins_mild (call.Connect g) mild waits = io_begins_mild (call.Connect g) None false (at_once s g) (ConnectAnswer g) tt (λ x. refl) waits
+    begins_mild (call.ConnectEv g e) mild waits = io_begins_mild (call.ConnectEv g e) (extra_ring e) false (at_once s g) (ConnectAnswer g) tt (λ x. refl) waits
+    begins_mild (call.Select r w x l) mild waits = io_begins_mild (call.Select r w x l) None (is_refused_length s r w x l) false (Selection r w x (select_deadline s l)) tt (λ y. refl) waits
+    begins_mild (call.SelectEv r w x l e) mild waits = io_begins_mild (call.SelectEv r w x l e) (extra_ring e) (is_refused_length s r w x l) false (Selection r w x (select_deadline s l)) tt (λ y. refl) waits
     begins_mild c mild waits = absurd (cc mild)
 
     -- ---- calls that are mild whatever they come to
@@ -203,7 +214,7 @@ module _ {P S H : Type 0} (t : ℕ) where
     prefers_mild true p = mild_same t s
     prefers_mild false p = record { known = refl; running = refl; kernel = refl; events = same_pending s.control.events; mutexes = refl; locks = refl; blocked = λ u apart. refl }
 
-    yield_mild : (n : ℤ) (b : Bool) → IsMild t s (begun_by f t (call.Yield n) (refused EINVAL when b otherwise Yields (Int (pos 1))) (effect_of (refused EINVAL when b otherwise Yields (Int (pos 1)) trying changes (if is_zero n then nothing else prefers (Some (number n))))) s).told.state
+    yield_mild : (n : ℤ) (b : Bool) → IsMild t s (begun_as f t (call.Yield n) (refused EINVAL when b otherwise Yields (Int (pos 1)) trying changes (if is_zero n then nothing else prefers (Some (number n)))) s).told.state
     unfolding told answer_told
     yield_mild n true = mild_same t s
     yield_mild n false = prefers_mild (is_zero n) (Some (number n))
@@ -226,14 +237,14 @@ module _ {P S H : Type 0} (t : ℕ) where
     told_by c a true same = rw same (mild_same t s)
     told_by c a false same = rw same (mild_same t s)
 
-    asks_mild : (c : Call) (v : Verdict) → is_answered v ≡ true → ((a : Answer) → answer_told s.resources t c a ≡ s.resources) → IsMild t s (begun_by f t c v (effect_of (v trying changes nothing)) s).told.state
+    asks_mild : (c : Call) (v : Verdict) → is_answered v ≡ true → ((a : Answer) → answer_told s.resources t c a ≡ s.resources) → IsMild t s (begun_as f t c (v trying changes nothing) s).told.state
     asks_mild c (Says a) only same = told_by c a (refuses (Says a)) (same a)
     asks_mild c (Yields a) only same = absurd (cc only)
-    asks_mild c (Blocks p) only same = absurd (cc only)
+    asks_mild c (Blocks a) only same = absurd (cc only)
     asks_mild c (Ends v) only same = absurd (cc only)
     asks_mild c Kills only same = absurd (cc only)
 
-    favours_mild : (n : ℤ) (b : Bool) (m : ℕ) (y : Bool) → IsMild t s (begun_by f t (call.Ctrl (query.Favournew n)) (refused EINVAL when b otherwise says m) (effect_of (refused EINVAL when b otherwise says m trying changes (favours_new y))) s).told.state
+    favours_mild : (n : ℤ) (b : Bool) (m : ℕ) (y : Bool) → IsMild t s (begun_as f t (call.Ctrl (query.Favournew n)) (refused EINVAL when b otherwise says m trying changes (favours_new y)) s).told.state
     unfolding told answer_told
     favours_mild n true m y = mild_same t s
     favours_mild n false m y = record { known = refl; running = refl; kernel = refl; events = same_pending s.control.events; mutexes = refl; locks = refl; blocked = λ u apart. refl }
@@ -272,7 +283,7 @@ module _ {P S H : Type 0} (t : ℕ) where
     unfolding told
     tried_mild b (Says a) same waits = absurd (cc waits)
     tried_mild b (Yields a) same waits = absurd (cc waits)
-    tried_mild b (Blocks p) same waits = rw (same s.resources) (goes_mild (λ q. record q { blocked = Some (record b { written = p.written }) }) s)
+    tried_mild b (Blocks a) same waits = rw (same s.resources) (goes_mild (blocking (Some (record b { awaits = a }))) s)
     tried_mild b (Ends v) same waits = absurd (cc waits)
     tried_mild b Kills same waits = absurd (cc waits)
 
@@ -281,45 +292,41 @@ module _ {P S H : Type 0} (t : ℕ) where
     come_mild b false v same waits = tried_mild b v same waits
 
     -- a join that blocks on takes nobody
-    joins_on_by : (b : Blocked) (come i j d : Bool) (o : Option ℕ) → ((x : Resources) → wait_told x t b.call ≡ x)
-        → is_waiting (tried f t b (unless_settled come (refused EDEADLK when i otherwise refused ESRCH when j otherwise refused EINVAL when d otherwise joined s.control o trying changes (takes_joined o))) s).next ≡ true
-        → IsMild t s (tried f t b (unless_settled come (refused EDEADLK when i otherwise refused ESRCH when j otherwise refused EINVAL when d otherwise joined s.control o trying changes (takes_joined o))) s).told.state
-    joins_on_by b true true j d o same waits = absurd (cc waits)
-    joins_on_by b true false true d o same waits = absurd (cc waits)
-    joins_on_by b true false false true o same waits = absurd (cc waits)
-    joins_on_by b true false false false (Some u) same waits = absurd (cc waits)
-    joins_on_by b true false false false None same waits = absurd (cc waits)
-    joins_on_by b false true j d o same waits = absurd (cc waits)
-    joins_on_by b false false true d o same waits = absurd (cc waits)
-    joins_on_by b false false false true o same waits = absurd (cc waits)
-    joins_on_by b false false false false (Some u) same waits = absurd (cc waits)
-    joins_on_by b false false false false None same waits = tried_mild b (Blocks no_pause) same waits
+    joins_on_by : (b : Blocked) (n : ℤ) (come i j d : Bool) (o : Option ℕ) → ((x : Resources) → wait_told x t b.call ≡ x)
+        → is_waiting (tried f t b (unless_settled come (refused EDEADLK when i otherwise refused ESRCH when j otherwise refused EINVAL when d otherwise joined s.control n o trying changes (takes_joined o))) s).next ≡ true
+        → IsMild t s (tried f t b (unless_settled come (refused EDEADLK when i otherwise refused ESRCH when j otherwise refused EINVAL when d otherwise joined s.control n o trying changes (takes_joined o))) s).told.state
+    joins_on_by b n true true j d o same waits = absurd (cc waits)
+    joins_on_by b n true false true d o same waits = absurd (cc waits)
+    joins_on_by b n true false false true o same waits = absurd (cc waits)
+    joins_on_by b n true false false false (Some u) same waits = absurd (cc waits)
+    joins_on_by b n false true j d o same waits = absurd (cc waits)
+    joins_on_by b n false false true d o same waits = absurd (cc waits)
+    joins_on_by b n false false false true o same waits = absurd (cc waits)
+    joins_on_by b n false false false false (Some u) same waits = absurd (cc waits)
+    joins_on_by b n come false false false None same waits = come_mild b come (Blocks (death_of n)) same waits
 
-    -- a call on descriptors waits on where its attempt has no answer, and takes nothing then
+    -- a call on descriptors waits on if its attempt has no answer, and takes nothing then
     attempts_again : (b : Blocked) (v : Verdict) (h : Kernel → Kernel) → ((x : Resources) → wait_told x t b.call ≡ x) → (blocks_in v ≡ true → h s.control.kernel ≡ s.control.kernel)
         → is_waiting (tried f t b (v trying changes (with_kernel h)) s).next ≡ true → IsMild t s (tried f t b (v trying changes (with_kernel h)) s).told.state
     unfolding told
     attempts_again b (Says a) h told_same same waits = absurd (cc waits)
     attempts_again b (Yields a) h told_same same waits = absurd (cc waits)
-    attempts_again b (Blocks p) h told_same same waits =
+    attempts_again b (Blocks a) h told_same same waits =
         let r = controlled (with_kernel h) s in
-        let g = goes_mild (λ q. record q { blocked = Some (record b { written = p.written }) }) r in
-        rw (told_same s.resources) (mild_then t s r (controlled (goes_on t (λ q. record q { blocked = Some (record b { written = p.written }) })) r) (takes_mild h s (same refl)) g)
+        let on = blocking (Some (record b { awaits = a })) in
+        rw (told_same s.resources) (mild_then t s r (controlled (goes_on t on) r) (takes_mild h s (same refl)) (goes_mild on r))
     attempts_again b (Ends v) h told_same same waits = absurd (cc waits)
     attempts_again b Kills h told_same same waits = absurd (cc waits)
 
-    come_again : (b : Blocked) (come : Bool) (o : Option Answer) (p : Pause) (h : Kernel → Kernel) → ((x : Resources) → wait_told x t b.call ≡ x) → (o ≡ None → h s.control.kernel ≡ s.control.kernel)
-        → is_waiting (tried f t b (unless_settled come (said_or o (Blocks p) trying changes (with_kernel h))) s).next ≡ true → IsMild t s (tried f t b (unless_settled come (said_or o (Blocks p) trying changes (with_kernel h))) s).told.state
-    come_again b true (Some a) p h told_same same waits = absurd (cc waits)
-    come_again b false (Some a) p h told_same same waits = absurd (cc waits)
-    come_again b true None p h told_same same waits = attempts_again b (interrupted (Blocks p)) h told_same (λ blocks. same refl) waits
-    come_again b false None p h told_same same waits = attempts_again b (Blocks p) h told_same (λ blocks. same refl) waits
-
-    io_again_mild : (c : Call) (b : Blocked) (come : Bool) → is_io c ≡ true → waits_mildly s.control.kernel c ≡ true → ((x : Resources) → wait_told x t b.call ≡ x) → is_waiting (tried f t b (unless_settled come ((row_of f s t c).again b)) s).next ≡ true
-        → IsMild t s (tried f t b (unless_settled come ((row_of f s t c).again b)) s).told.state
-    io_again_mild c b come io mild told_same waits =
-        subst (λ (a : Attempt P S H). is_waiting (tried f t b (unless_settled come a) s).next ≡ true → IsMild t s (tried f t b (unless_settled come a) s).told.state) (sym (io_again f s t c b io))
-        (come_again b come _ _ _ told_same (λ none. again_same s.control.kernel c b.moment b.written io mild none)) waits
+    io_again_mild : (b : Blocked) (come : Bool) (a : Awaits) → HasNoRoom s.control.kernel a → ((x : Resources) → wait_told x t b.call ≡ x)
+        → is_waiting (tried f t b (unless_settled come ((trial_for s.control.kernel a).verdict trying changes (with_kernel (trial_for s.control.kernel a).after))) s).next ≡ true
+        → IsMild t s (tried f t b (unless_settled come ((trial_for s.control.kernel a).verdict trying changes (with_kernel (trial_for s.control.kernel a).after))) s).told.state
+    io_again_mild b true a none told_same waits =
+        let trial = trial_for s.control.kernel a in
+        attempts_again b (interrupted trial.verdict) trial.after told_same (λ blocks. not_yet_same s.control.kernel a trial.verdict refl none (interrupted_not trial.verdict blocks)) waits
+    io_again_mild b false a none told_same waits =
+        let trial = trial_for s.control.kernel a in
+        attempts_again b trial.verdict trial.after told_same (not_yet_same s.control.kernel a trial.verdict refl none) waits
 
     told_nothing : (c : Call) → waits_mildly s.control.kernel c ≡ true → (x : Resources) → wait_told x t c ≡ x
     told_nothing (call.Exit v) mild x = refl
@@ -342,39 +349,40 @@ module _ {P S H : Type 0} (t : ℕ) where
     told_nothing (call.SelectEv r w z l e) mild x = refl
     told_nothing c mild x = absurd (cc mild)
 
-    again_mild : (c : Call) (b : Blocked) (come : Bool) → waits_mildly s.control.kernel c ≡ true → ((x : Resources) → wait_told x t b.call ≡ x) → is_waiting (tried f t b (unless_settled come ((row_of f s t c).again b)) s).next ≡ true
-        → IsMild t s (tried f t b (unless_settled come ((row_of f s t c).again b)) s).told.state
+    -- the call that blocks t waits for what it may wait for
+    again_mild : (c : Call) (b : Blocked) (come : Bool) → waits_mildly s.control.kernel c ≡ true → MayAwaitAs t c b.awaits → ((x : Resources) → wait_told x t b.call ≡ x)
+        → is_waiting (tried f t b (unless_settled come ((row_of f s t c).again b.awaits)) s).next ≡ true → IsMild t s (tried f t b (unless_settled come ((row_of f s t c).again b.awaits)) s).told.state
     unfolding row_of
-    again_mild (call.Exit v) b come mild same waits = come_mild b come _ same waits
-    again_mild (call.Wait e) b come mild same waits = come_mild b come _ same waits
-    again_mild (call.Join n) b come mild same waits = joins_on_by b come _ _ _ _ same waits
-    again_mild (call.Nap n) b come mild same waits = come_mild b come _ same waits
-    again_mild (call.Usleep n) b come mild same waits = come_mild b come _ same waits
-    again_mild (call.Sleep n) b come mild same waits = come_mild b come _ same waits
-    again_mild (call.MutexAcquire m v e) b come mild same waits = come_mild b come _ same waits
-    again_mild (call.RwAcquire l write v e) b come mild same waits = come_mild b come _ same waits
-    again_mild (call.Read g n) b come mild same waits = io_again_mild (call.Read g n) b come refl mild same waits
-    again_mild (call.ReadEv g n e) b come mild same waits = io_again_mild (call.ReadEv g n e) b come refl mild same waits
-    again_mild (call.Write g bytes) b come mild same waits = io_again_mild (call.Write g bytes) b come refl mild same waits
-    again_mild (call.WriteEv g bytes e) b come mild same waits = io_again_mild (call.WriteEv g bytes e) b come refl mild same waits
-    again_mild (call.Accept g) b come mild same waits = io_again_mild (call.Accept g) b come refl mild same waits
-    again_mild (call.AcceptEv g e) b come mild same waits = io_again_mild (call.AcceptEv g e) b come refl mild same waits
-    again_mild (call.Connect g) b come mild same waits = io_again_mild (call.Connect g) b come refl mild same waits
-    again_mild (call.ConnectEv g e) b come mild same waits = io_again_mild (call.ConnectEv g e) b come refl mild same waits
-    again_mild (call.Select r w x l) b come mild same waits = io_again_mild (call.Select r w x l) b come refl mild same waits
-    again_mild (call.SelectEv r w x l e) b come mild same waits = io_again_mild (call.SelectEv r w x l e) b come refl mild same waits
-    again_mild c b come mild same waits = absurd (cc mild)
+    again_mild (call.Exit v) b come mild may same waits = come_mild b come _ same waits
+    again_mild (call.Wait e) b come mild may same waits = come_mild b come _ same waits
+    again_mild (call.Join n) b come mild may same waits = joins_on_by b n come _ _ _ _ same waits
+    again_mild (call.Nap n) b come mild may same waits = come_mild b come _ same waits
+    again_mild (call.Usleep n) b come mild may same waits = come_mild b come _ same waits
+    again_mild (call.Sleep n) b come mild may same waits = come_mild b come _ same waits
+    again_mild (call.MutexAcquire m v e) b come mild may same waits = come_mild b come _ same waits
+    again_mild (call.RwAcquire l write v e) b come mild may same waits = come_mild b come _ same waits
+    again_mild (call.Read g n) b come mild may same waits = io_again_mild b come b.awaits (equal_no_room s.control.kernel b.awaits (Reading g n) may tt) same waits
+    again_mild (call.ReadEv g n e) b come mild may same waits = io_again_mild b come b.awaits (equal_no_room s.control.kernel b.awaits (Reading g n) may tt) same waits
+    again_mild (call.Write g bytes) b come mild may same waits = io_again_mild b come b.awaits (writing_no_room s.control.kernel g (length bytes) b.awaits may mild) same waits
+    again_mild (call.WriteEv g bytes e) b come mild may same waits = io_again_mild b come b.awaits (writing_no_room s.control.kernel g (length bytes) b.awaits may mild) same waits
+    again_mild (call.Accept g) b come mild may same waits = io_again_mild b come b.awaits (equal_no_room s.control.kernel b.awaits (Connection g) may tt) same waits
+    again_mild (call.AcceptEv g e) b come mild may same waits = io_again_mild b come b.awaits (equal_no_room s.control.kernel b.awaits (Connection g) may tt) same waits
+    again_mild (call.Connect g) b come mild may same waits = io_again_mild b come b.awaits (equal_no_room s.control.kernel b.awaits (ConnectAnswer g) may tt) same waits
+    again_mild (call.ConnectEv g e) b come mild may same waits = io_again_mild b come b.awaits (equal_no_room s.control.kernel b.awaits (ConnectAnswer g) may tt) same waits
+    again_mild (call.Select r w x l) b come mild may same waits = io_again_mild b come b.awaits (selection_no_room s.control.kernel r w x b.awaits may) same waits
+    again_mild (call.SelectEv r w x l e) b come mild may same waits = io_again_mild b come b.awaits (selection_no_room s.control.kernel r w x b.awaits may) same waits
+    again_mild c b come mild may same waits = absurd (cc mild)
 
-    goes_on_by : (b : Blocked) → waits_mildly s.control.kernel b.call ≡ true → is_waiting (tried_again_by f t (Some b) s).next ≡ true → IsMild t s (tried_again_by f t (Some b) s).told.state
-    goes_on_by b mild waits = again_mild b.call b (has_settled s.control.events (ring_given b.call)) mild (told_nothing b.call mild) waits
+    goes_on_by : (b : Blocked) → MayBlock t b → waits_mildly s.control.kernel b.call ≡ true → is_waiting (tried_again_by f t (Some b) s).next ≡ true → IsMild t s (tried_again_by f t (Some b) s).told.state
+    goes_on_by b may mild waits = again_mild b.call b (has_settled s.control.events (ring_given b.call)) mild may (told_nothing b.call mild) waits
 
-    goes_on_where : (canceled : Bool) (b : Blocked) → blocked_of s.control t ≡ Some b → waits_mildly s.control.kernel b.call ≡ true → is_waiting (gone_on_where f t canceled s).next ≡ true → IsMild t s (gone_on_where f t canceled s).told.state
+    goes_on_where : (canceled : Bool) (b : Blocked) → blocked_of s.control t ≡ Some b → MayBlock t b → waits_mildly s.control.kernel b.call ≡ true → is_waiting (gone_on_where f t canceled s).next ≡ true → IsMild t s (gone_on_where f t canceled s).told.state
     unfolding tried_again
-    goes_on_where true b is mild waits = absurd (let no : is_waiting (canceled_by f t (Some b) s).next ≡ true = subst (λ (o : Option Blocked). is_waiting (canceled_by f t o s).next ≡ true) is waits in cc no)
-    goes_on_where false b is mild waits =
-        subst (λ (o : Option Blocked). IsMild t s (tried_again_by f t o s).told.state) (sym is) (goes_on_by b mild (subst (λ (o : Option Blocked). is_waiting (tried_again_by f t o s).next ≡ true) is waits))
+    goes_on_where true b is may mild waits = absurd (let no : is_waiting (canceled_by f t (Some b) s).next ≡ true = subst (λ (o : Option Blocked). is_waiting (canceled_by f t o s).next ≡ true) is waits in cc no)
+    goes_on_where false b is may mild waits =
+        subst (λ (o : Option Blocked). IsMild t s (tried_again_by f t o s).told.state) (sym is) (goes_on_by b may mild (subst (λ (o : Option Blocked). is_waiting (tried_again_by f t o s).next ≡ true) is waits))
 
     -- a call that is tried again, and waits on
-    pub goes_on_mild : (b : Blocked) → blocked_of s.control t ≡ Some b → waits_mildly s.control.kernel b.call ≡ true → is_waiting (gone_on f t s).next ≡ true → IsMild t s (gone_on f t s).told.state
+    pub goes_on_mild : (b : Blocked) → blocked_of s.control t ≡ Some b → MayBlock t b → waits_mildly s.control.kernel b.call ≡ true → is_waiting (gone_on f t s).next ≡ true → IsMild t s (gone_on f t s).told.state
     unfolding gone_on
-    goes_on_mild b is mild waits = goes_on_where (may_be_canceled s.control t) b is mild waits
+    goes_on_mild b is may mild waits = goes_on_where (may_be_canceled s.control t) b is may mild waits

@@ -3,6 +3,7 @@ use Rattle.std.proofs.Common.{◌≡◌, ℕ, ◌==◌, ◌<◌, ◌||◌, ◌&&
 use Rattle.std.proofs.lemmas.List.Elements.{All-append, All-cons, All-get_or, All-head, All-nil, All-tail, All-weaker}
 use mathlib.Core.Path.{fun_ext}
 use Rattle.pth_base.proofs.Tables.{same_means}
+use Rattle.pth_base.specs.Program.{Functions}
 use Rattle.pth_base.specs.declared.ids.Slot.{Slot}
 use Rattle.pth_base.specs.declared.thread.ThreadState.{ThreadState}
 use Rattle.pth_base.specs.declared.thread.ThreadState.TheVariants as state
@@ -10,21 +11,19 @@ use Rattle.pth_queue.specs.declared.queue.Queue.TheVariants as queue
 use Rattle.pth_ring.specs.declared.event.Event.{Event}
 use Rattle.pth_ring.specs.Ring.{each, ring_holds}
 use Rattle.pth_threads.specs.declared.entry.Entry.{Entry}
-use Rattle.pth_model.specs.State.{Control, now_of, main}
+use Rattle.pth_model.specs.State.{Control, State, now_of, main}
 use Rattle.pth_model.specs.Changes.{entry_of}
+use Rattle.pth_model.specs.Coming.{has_any_died}
 use Rattle.pth_model.specs.Looks.{looked_at}
-use Rattle.pth_model.specs.Pass.{looks, waiting}
-use Rattle.pth_model.specs.Resources.{Store}
+use Rattle.pth_model.specs.Pass.{is_to_wake, looks, to_wake, waiting}
 use Rattle.pth_model.specs.RingWaits.{awaited_events}
 use Rattle.pth_model.specs.ThreadEnds.{is_alone}
 use Rattle.pth_world.specs.Shows.{Shows}
 use Rattle.pth_world.specs.Whole.{Whole, place_for}
 use Rattle.pth_world.specs.World.{WorldOf}
 use Rattle.pth_waits.specs.Dormant.{IsDormant, StaysPending, is_left_to_join}
-use Rattle.pth_waits.specs.Waking.{has_any_died}
-use Rattle.pth_waits.proofs.Dormancy.{dormant_not_due, looked_same}
+use Rattle.pth_waits.proofs.Dormancy.{dormant_stays, looked_same}
 use Rattle.pth_waits.proofs.Standing.{all_stand, of_standing, place_in}
-use Rattle.pth_waits.proofs.Waking.{is_due}
 use Rattle.pth_sched.specs.Calm.{is_among_waiting, waits_in}
 
 -- ---- who stands in the waiting queue waits, and the reverse
@@ -96,9 +95,15 @@ module _ {A : Type 0} (g : A → A) (f : ℕ → A) where
   unfolding each
   each_same xs all = fun_ext (λ e. same_at e xs all)
 
-module _ {P S H : Type 0} (x : Store) (k : Control P S H) (until : ℕ) (early : now_of k < until) (all : All (IsDormant x k until) (waiting k)) where
-  pub none_due : is_alone k main ≡ false → (((u : ℕ) → is_left_to_join (entry_of k u) ≡ false) → has_any_died k ≡ false) → filter (is_due x k) (waiting k) ≡ []
-  none_due alone none = none_kept (is_due x k) (waiting k) (All-weaker (IsDormant x k until) (λ u. is_due x k u ≡ false) (λ u q. dormant_not_due x k until early u alone none q) (waiting k) all)
+module _ {P S H : Type 0} (s : State P S H) (until : ℕ) (early : now_of s.control < until) (all : All (IsDormant s until) (waiting s.control)) where
+  abbrev k : Control P S H
+  k = s.control
+
+  pub none_wakes : (f : P → Functions S H) → is_alone k main ≡ false → (((u : ℕ) → is_left_to_join (entry_of k u) ≡ false) → has_any_died k ≡ false) → to_wake f s ≡ []
+  unfolding to_wake
+  none_wakes f alone none =
+      none_kept (is_to_wake f s) (waiting k)
+      (All-weaker (IsDormant s until) (λ u. is_to_wake f s u ≡ false) (λ u q. dormant_stays s until early f u alone none q) (waiting k) all)
 
   pub none_looked : looks k ≡ k
   unfolding looks
@@ -106,5 +111,5 @@ module _ {P S H : Type 0} (x : Store) (k : Control P S H) (until : ℕ) (early :
       ap (λ (f : ℕ → Option Event). record k { events = record k.events { events = f } })
       (each_same (option_map (looked_at k)) k.events.events (flat_map (awaited_events k) (waiting k))
       (all_flat (λ e. option_map (looked_at k) (k.events.events e) ≡ k.events.events e) (awaited_events k) (waiting k)
-      (All-weaker (IsDormant x k until) (λ u. All (λ e. option_map (looked_at k) (k.events.events e) ≡ k.events.events e) (awaited_events k u))
-      (λ u q. All-weaker (λ e. StaysPending k until (k.events.events e)) (λ e. option_map (looked_at k) (k.events.events e) ≡ k.events.events e) (λ e h. looked_same x k until early (k.events.events e) h) (awaited_events k u) q.pending) (waiting k) all)))
+      (All-weaker (IsDormant s until) (λ u. All (λ e. option_map (looked_at k) (k.events.events e) ≡ k.events.events e) (awaited_events k u))
+      (λ u q. All-weaker (λ e. StaysPending k until (k.events.events e)) (λ e. option_map (looked_at k) (k.events.events e) ≡ k.events.events e) (λ e h. looked_same s until early (k.events.events e) h) (awaited_events k u) q.pending) (waiting k) all)))

@@ -3,11 +3,10 @@ use Rattle.std.specs.Prelude.{◌≡◌, ◌≢◌, ℕ, ◌<◌, ◌&&◌, not,
 use Rattle.pth_base.specs.declared.thread.ThreadState.{ThreadState}
 use Rattle.pth_base.specs.declared.thread.ThreadState.TheVariants as state
 use Rattle.pth_threads.specs.declared.entry.Entry.{Entry}
-use Rattle.pth_model.specs.State.{Control, State}
+use Rattle.pth_model.specs.State.{State}
 use Rattle.pth_world.specs.Shows.{StandsFor}
 use Rattle.pth_world.specs.World.{WorldOf}
 use Rattle.pth_model.specs.Changes.{entry_of}
-use Rattle.pth_model.specs.Resources.{Store}
 use Rattle.pth_waits.specs.Dormant.{IsDormant}
 
 abbrev pub waits_in : ThreadState → Bool
@@ -20,18 +19,18 @@ is_among_waiting None = false
 is_among_waiting (Some e) = waits_in e.state && not e.suspended
 
 -- all threads that wait are dormant, but the one that runs
-abbrev pub IsCalm : {P S H : Type 0} → Store → Control P S H → ℕ → Type 0
-IsCalm x k until = (u : ℕ) → k.scheduler.running ≢ Some u → is_among_waiting (entry_of k u) ≡ true → IsDormant x k until u
+abbrev pub IsCalm : {P S H : Type 0} → State P S H → ℕ → Type 0
+IsCalm s until = (u : ℕ) → s.control.scheduler.running ≢ Some u → is_among_waiting (entry_of s.control u) ≡ true → IsDormant s until u
 
 -- and all but thread t
-abbrev pub IsCalmBut : {P S H : Type 0} → ℕ → Store → Control P S H → ℕ → Type 0
-IsCalmBut t x k until = (u : ℕ) → u ≢ t → is_among_waiting (entry_of k u) ≡ true → IsDormant x k until u
+abbrev pub IsCalmBut : {P S H : Type 0} → ℕ → State P S H → ℕ → Type 0
+IsCalmBut t s until = (u : ℕ) → u ≢ t → is_among_waiting (entry_of s.control u) ≡ true → IsDormant s until u
 
 -- The threads of a world that wait are dormant until a moment, but the one that runs; where the moment is 0, nothing is said.
 pub record IsCalmUntil {P S H : Type 0} (w : WorldOf P S H) (until : ℕ) : Type 0 where
   pub state : State P S H
   pub stands : StandsFor w state
-  pub calm : IsCalm state.resources.store state.control until
+  pub calm : IsCalm state until
 
 abbrev pub Calms : {P S H : Type 0} → WorldOf P S H → ℕ → Type 0
 Calms w until = 0 < until → IsCalmUntil w until
@@ -40,11 +39,11 @@ Calms w until = 0 < until → IsCalmUntil w until
 pub record IsCalmButUntil {P S H : Type 0} (t : ℕ) (w : WorldOf P S H) (until : ℕ) : Type 0 where
   pub state : State P S H
   pub stands : StandsFor w state
-  pub calm : IsCalmBut t state.resources.store state.control until
+  pub calm : IsCalmBut t state until
 
 abbrev pub CalmsBut : {P S H : Type 0} → ℕ → WorldOf P S H → ℕ → Type 0
 CalmsBut t w until = 0 < until → IsCalmButUntil t w until
 
 -- every thread that waits is dormant
-abbrev pub AreDormant : {P S H : Type 0} → Store → Control P S H → ℕ → Type 0
-AreDormant x k until = (u : ℕ) → is_among_waiting (entry_of k u) ≡ true → IsDormant x k until u
+abbrev pub AreDormant : {P S H : Type 0} → State P S H → ℕ → Type 0
+AreDormant s until = (u : ℕ) → is_among_waiting (entry_of s.control u) ≡ true → IsDormant s until u

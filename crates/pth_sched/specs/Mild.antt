@@ -22,7 +22,7 @@ is_mild (call.EvKind e) = true
 is_mild (call.KeyGet k) = true
 is_mild c = false
 
--- where it begins to wait, or waits on as it is tried again: it takes nothing, and a write finds no room
+-- if it begins to wait, or waits on as it is tried again: it takes nothing, and a write finds no room
 abbrev pub waits_mildly : Kernel → Call → Bool
 waits_mildly k (call.Exit v) = true
 waits_mildly k (call.Join n) = true
@@ -48,7 +48,7 @@ abbrev pub is_waiting : Next → Bool
 is_waiting next.Waits = true
 is_waiting n = false
 
--- the call that blocks a thread is mild where it waits on
+-- the call that blocks a thread is mild if it waits on
 abbrev pub is_patient : Kernel → Option Blocked → Bool
 is_patient k None = false
 is_patient k (Some b) = waits_mildly k b.call

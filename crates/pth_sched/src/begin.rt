@@ -1,13 +1,11 @@
 //! How a call begins.
 
-ghost use Rattle.std.specs.Prelude.{◌≡◌, ◌≢◌, ℤ, false, Some, IfOk, OnOk, OnErr};
-ghost use Rattle.pth_base.specs.Cut.{IsCut};
+ghost use Rattle.std.specs.Prelude.{◌≡◌, ◌≢◌, ℤ, Some, IfOk};
 ghost use Rattle.pth_base.specs.declared.call.Call.TheVariants.{Plain, Yield};
 ghost use Rattle.pth_model.specs.Calls.{begun};
-ghost use Rattle.pth_model.specs.State.{State};
-ghost use Rattle.pth_waits.specs.Blocking.{may_block};
+ghost use Rattle.pth_waits.specs.Verdicts.{NeverBlocks};
 ghost use Rattle.pth_world.specs.Frame.{Frame, runs_after, yields_after};
-ghost use Rattle.pth_world.specs.Leading.{Leads};
+ghost use Rattle.pth_world.specs.Leading.{Goes};
 ghost use Rattle.pth_world.specs.Numbering.{HasNumbers, one_of_each};
 ghost use Rattle.pth_world.specs.Shows.{StandsFor};
 ghost use Rattle.pth_world.specs.Whole.{Whole};
@@ -25,14 +23,10 @@ use pth_calls::plain::begin_plain;
 use pth_calls::script_lines::note;
 use pth_calls::thread_control::yield_to;
 use pth_model::next::Next;
+use pth_waits::attempts::attempt;
 use pth_waits::cancellation::cancel_point;
-use pth_waits::io::{begin_io, is_io};
-use pth_waits::joins::begin_join;
 use pth_waits::library_ends::kill;
-use pth_waits::locking::begin_locking;
-use pth_waits::rests::begin_rest;
-use pth_waits::ring_waits::begin_wait;
-use pth_waits::thread_ends::begin_exit;
+use pth_waits::verdicts::carry_out;
 use pth_world::world::World;
 
 // Begins a call that never blocks its thread, and is none of a line's own and no yield. After an error the world may only be
@@ -47,12 +41,10 @@ fn begin_told<P: Program>(
     requires whole { Whole w.old }
     requires runs { w.old.scheduler.running ≡ Some t.0 }
     requires few { HasNumbers w.old }
-    requires never { may_block call.now ≡ false }
+    requires never { NeverBlocks P P.State P.Shared call.now }
     requires not_plain { call.now ≢ Plain }
     requires no_yield { (n : ℤ) → call.now ≢ Yield n }
-    ensures next { IfOk result (λ n. (s : State P P.State P.Shared) → StandsFor w.old s → n ≡ (begun P.functions t.0 call.now s).next) }
-    ensures ok { OnOk result ((s : State P P.State P.Shared) → StandsFor w.old s → Leads w.new marks.old marks.new (begun P.functions t.0 call.now s).told) }
-    ensures err { OnErr result ((s : State P P.State P.Shared) → StandsFor w.old s → IsCut marks.old marks.new (begun P.functions t.0 call.now s).told.marks) }
+    ensures goes { Goes (StandsFor w.old) (begun P.functions t.0 call.now) w.new marks.old marks.new result }
     ensures frame { IfOk result (λ n. Frame w.old w.new one_of_each (runs_after t.0 n) (yields_after n)) }
 {
     match call {
@@ -84,10 +76,8 @@ pub(crate) fn begin_at_once<P: Program>(
     requires whole { Whole w.old }
     requires runs { w.old.scheduler.running ≡ Some t.0 }
     requires few { HasNumbers w.old }
-    requires never { may_block call.now ≡ false }
-    ensures next { IfOk result (λ n. (s : State P P.State P.Shared) → StandsFor w.old s → n ≡ (begun P.functions t.0 call.now s).next) }
-    ensures ok { OnOk result ((s : State P P.State P.Shared) → StandsFor w.old s → Leads w.new marks.old marks.new (begun P.functions t.0 call.now s).told) }
-    ensures err { OnErr result ((s : State P P.State P.Shared) → StandsFor w.old s → IsCut marks.old marks.new (begun P.functions t.0 call.now s).told.marks) }
+    requires never { NeverBlocks P P.State P.Shared call.now }
+    ensures goes { Goes (StandsFor w.old) (begun P.functions t.0 call.now) w.new marks.old marks.new result }
     ensures frame { IfOk result (λ n. Frame w.old w.new one_of_each (runs_after t.0 n) (yields_after n)) }
 {
     match call {
@@ -97,7 +87,7 @@ pub(crate) fn begin_at_once<P: Program>(
     }
 }
 
-/// Begins a call of the thread that runs, and tells of it. After an error the world may only be dropped.
+/// Begins a call of the thread that runs, and tells of it: one that may block the thread comes to a verdict, which is carried out. After an error the world may only be dropped.
 #[inline(always)]
 pub fn begin<P: Program>(
     w: &mut World<P>,
@@ -108,18 +98,11 @@ pub fn begin<P: Program>(
     requires whole { Whole w.old }
     requires runs { w.old.scheduler.running ≡ Some t.0 }
     requires few { HasNumbers w.old }
-    ensures next { IfOk result (λ n. (s : State P P.State P.Shared) → StandsFor w.old s → n ≡ (begun P.functions t.0 call s).next) }
-    ensures ok { OnOk result ((s : State P P.State P.Shared) → StandsFor w.old s → Leads w.new marks.old marks.new (begun P.functions t.0 call s).told) }
-    ensures err { OnErr result ((s : State P P.State P.Shared) → StandsFor w.old s → IsCut marks.old marks.new (begun P.functions t.0 call s).told.marks) }
+    ensures goes { Goes (StandsFor w.old) (begun P.functions t.0 call) w.new marks.old marks.new result }
     ensures frame { IfOk result (λ n. Frame w.old w.new one_of_each (runs_after t.0 n) (yields_after n)) }
 {
-    match &call {
-        &Call::Join(n) => begin_join(w, t, call, n, marks),
-        &Call::Exit(value) => begin_exit(w, t, call, value, marks),
-        Call::Nap(_) | Call::Usleep(_) | Call::Sleep(_) => begin_rest(w, t, call, marks),
-        &Call::Wait(e) => begin_wait(w, t, call, e, marks),
-        Call::MutexAcquire { .. } | Call::RwAcquire { .. } => begin_locking(w, t, call, marks),
-        _ if is_io(&call) => begin_io(w, t, call, marks),
-        _ => begin_at_once(w, t, &call, marks),
+    match attempt(w, t, &call)? {
+        Some(verdict) => carry_out(w, t, call, verdict, marks),
+        None => begin_at_once(w, t, &call, marks),
     }
 }

@@ -14,12 +14,10 @@ ghost use Rattle.pth_ring.specs.Ring.{Begins};
 ghost use Rattle.pth_threads.specs.Threads.{tid_at};
 ghost use Rattle.pth_world.specs.Shows.{Shows, StandsFor};
 ghost use Rattle.pth_world.specs.Whole.{Whole};
-ghost use Rattle.pth_sched.specs.Moments.{moment_in};
 
 use pth_base::ids::{Micros, Slot};
 use pth_base::limits::LAST_MOMENT;
 use pth_base::program::Program;
-use pth_model::awaits::Awaits;
 use pth_ring::rings::EventSpec;
 use pth_world::world::World;
 
@@ -73,20 +71,6 @@ fn count_ring<P: Program>(w: &World<P>, e: i64, best: Option<Micros>) -> Option<
     }
 }
 
-// The moment for which a thread waits, 0 for none.
-fn moment_of(what: Awaits) -> Micros
-    ensures { result ≡ moment_in what }
-{
-    match what {
-        Awaits::Moment(moment) => moment,
-        Awaits::Selection {
-            deadline: Some(moment),
-            ..
-        } => moment,
-        _ => 0,
-    }
-}
-
 // The least of the moments so far, and of those for which the thread at a slot waits.
 fn count_of<P: Program>(w: &World<P>, slot: Slot, best: Option<Micros>) -> Option<Micros>
     requires whole { Whole w.now }
@@ -94,7 +78,7 @@ fn count_of<P: Program>(w: &World<P>, slot: Slot, best: Option<Micros>) -> Optio
     ensures { (s : State P P.State P.Shared) (ms : List ℕ) → StandsFor w.now s → best ≡ least_after w.now.kernel.now ms → result ≡ least_after w.now.kernel.now (ms ++ moments_of P.functions s (tid_at w.now.threads.records slot.0)) }
 {
     let awaited = w.awaited_in(slot);
-    let best = sooner(w.time(), best, moment_of(awaited.what));
+    let best = sooner(w.time(), best, awaited.what.moment());
     match awaited.ring {
         Some(e) => count_ring(w, e, best),
         None => best,

@@ -2,15 +2,14 @@
 
 ghost use Rattle.std.specs.Prelude.{◌≡◌, ◌≢◌, ◌<◌, ◌≤◌, ◌+◌, ℕ, List, [], ◌++◌, ◌∷◌, All, map, length, if◌then◌else◌, IfSome, vec_capacity};
 ghost use Rattle.pth_base.specs.Limits.{last_moment};
+ghost use Rattle.pth_model.specs.Coming.{has_any_died};
 ghost use Rattle.pth_model.specs.Pass.{is_to_wake, looks, moment, to_wake, waiting};
 ghost use Rattle.pth_model.specs.State.{Control, State, now_of};
 ghost use Rattle.pth_model.specs.Looks.{looks_at};
 ghost use Rattle.pth_model.specs.RingWaits.{awaited_events};
 ghost use Rattle.pth_threads.specs.Threads.{number_of, tid_at};
 ghost use Rattle.pth_waits.specs.Dormant.{after_now};
-ghost use Rattle.pth_waits.specs.Waking.{has_any_died};
 ghost use Rattle.pth_world.specs.Shows.{Shows, StandsFor};
-ghost use Rattle.pth_world.specs.Store.{store_of};
 ghost use Rattle.pth_world.specs.Whole.{Whole};
 ghost use Rattle.pth_sched.specs.Calm.{AreDormant};
 
@@ -90,8 +89,8 @@ fn all_dormant_until<P: Program>(w: &World<P>, slots: &[Slot]) -> Micros
     requires whole { Whole w.now }
     requires used { All (λ s. tid_at w.now.threads.records s.0 ≢ 0) slots.now }
     requires waiting { (k : Control P P.State P.Shared) → Shows w.now k → map (λ s. tid_at w.now.threads.records s.0) slots.now ≡ waiting k }
-    ensures dormant { (k : Control P P.State P.Shared) → Shows w.now k → 0 < result → AreDormant (store_of w.now.store) k result }
-    ensures later { (k : Control P P.State P.Shared) → Shows w.now k → AreDormant (store_of w.now.store) k (after_now k) → now_of k < result }
+    ensures dormant { (s : State P P.State P.Shared) → StandsFor w.now s → 0 < result → AreDormant s result }
+    ensures later { (s : State P P.State P.Shared) → StandsFor w.now s → AreDormant s (after_now s.control) → now_of s.control < result }
 {
     let mut until = never(w);
     for slot in slots {
@@ -127,8 +126,8 @@ impl PassRoom {
     /// before; 0 where one may be to wake now.
     pub fn dormant_until<P: Program>(&mut self, w: &World<P>) -> Micros
         requires { Whole w.now }
-        ensures dormant { (k : Control P P.State P.Shared) → Shows w.now k → 0 < result → AreDormant (store_of w.now.store) k result }
-        ensures later { (k : Control P P.State P.Shared) → Shows w.now k → AreDormant (store_of w.now.store) k (after_now k) → now_of k < result }
+        ensures dormant { (s : State P P.State P.Shared) → StandsFor w.now s → 0 < result → AreDormant s result }
+        ensures later { (s : State P P.State P.Shared) → StandsFor w.now s → AreDormant s (after_now s.control) → now_of s.control < result }
         ensures same { self.new ≡ self.old }
     {
         w.waiting(&mut self.waiting);

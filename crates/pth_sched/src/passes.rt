@@ -1,7 +1,6 @@
 //! Passes over the waiting threads.
 
 ghost use Rattle.std.specs.Prelude.{◌≡◌, ◌≢◌, ◌<◌, ℕ, true, false, pos, neg_ℤ, ◌+ℤ◌, ◌≤ℤ◌, map, Some, OnOk, OnErr};
-ghost use Rattle.pth_queue.specs.declared.queue.Queue.TheVariants as queue;
 ghost use Rattle.pth_threads.specs.Threads.{number_of};
 ghost use Rattle.pth_base.specs.Cut.{IsCut};
 ghost use Rattle.pth_model.specs.Changes.{entry_of, prio_of};
@@ -11,9 +10,8 @@ ghost use Rattle.pth_world.specs.Leading.{Leads};
 ghost use Rattle.pth_world.specs.Ranks.{KeepsRanks, greatest_return};
 ghost use Rattle.pth_world.specs.Shows.{Shows, StandsFor};
 ghost use Rattle.pth_world.specs.Sound.{IsSound, IsKnown};
-ghost use Rattle.pth_world.specs.Store.{store_of};
 ghost use Rattle.pth_world.specs.Touches.{KeepsRest};
-ghost use Rattle.pth_world.specs.Whole.{Whole, IsIn, WaitsToRun};
+ghost use Rattle.pth_world.specs.Whole.{Whole, WaitsToRun};
 ghost use Rattle.pth_waits.specs.Dormant.{IsDormant, after_now};
 ghost use Rattle.pth_sched.specs.Calm.{AreDormant, Calms, CalmsBut, is_among_waiting};
 ghost use Rattle.pth_sched.specs.Passing.{IsWaiting, WaitOnce};
@@ -117,8 +115,8 @@ fn is_waiting(entry: &Entry) -> bool
 // Before this moment a thread, if it waits, is not to wake, if nothing changes but time.
 fn own_dormant_until<P: Program>(w: &World<P>, t: Tid) -> Micros
     requires whole { Whole w.now }
-    ensures dormant { (k : Control P P.State P.Shared) → Shows w.now k → 0 < result → is_among_waiting (entry_of k t.0) ≡ true → IsDormant (store_of w.now.store) k result t.0 }
-    ensures later { (k : Control P P.State P.Shared) → Shows w.now k → IsDormant (store_of w.now.store) k (after_now k) t.0 → now_of k < result }
+    ensures dormant { (s : State P P.State P.Shared) → StandsFor w.now s → 0 < result → is_among_waiting (entry_of s.control t.0) ≡ true → IsDormant s result t.0 }
+    ensures later { (s : State P P.State P.Shared) → StandsFor w.now s → IsDormant s (after_now s.control) t.0 → now_of s.control < result }
 {
     match w.threads().find(t) {
         Some(slot) => {
@@ -136,9 +134,9 @@ fn own_dormant_until<P: Program>(w: &World<P>, t: Tid) -> Micros
 fn known_until<P: Program>(w: &World<P>, room: &mut PassRoom, calm: Calm, t: Tid) -> Micros
     requires whole { Whole w.now }
     requires calm { CalmsBut t.0 w.now calm.until }
-    ensures dormant { (k : Control P P.State P.Shared) → Shows w.now k → 0 < result → AreDormant (store_of w.now.store) k result }
-    ensures asked { (k : Control P P.State P.Shared) → Shows w.now k → calm.until ≡ 0 → calm.stirred ≡ false → AreDormant (store_of w.now.store) k (after_now k) → now_of k < result }
-    ensures later { (k : Control P P.State P.Shared) → Shows w.now k → now_of k < calm.until → IsDormant (store_of w.now.store) k (after_now k) t.0 → now_of k < result }
+    ensures dormant { (s : State P P.State P.Shared) → StandsFor w.now s → 0 < result → AreDormant s result }
+    ensures asked { (s : State P P.State P.Shared) → StandsFor w.now s → calm.until ≡ 0 → calm.stirred ≡ false → AreDormant s (after_now s.control) → now_of s.control < result }
+    ensures later { (s : State P P.State P.Shared) → StandsFor w.now s → now_of s.control < calm.until → IsDormant s (after_now s.control) t.0 → now_of s.control < result }
     ensures same { room.new ≡ room.old }
 {
     if calm.until == 0 {

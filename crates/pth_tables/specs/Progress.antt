@@ -4,7 +4,7 @@ use Rattle.pth_base.specs.Limits.{thread_limit}
 use Rattle.pth_base.specs.Table.{table}
 use Rattle.pth_model.specs.declared.awaits.Awaited.{Awaited}
 use Rattle.pth_model.specs.declared.progress.Progress.{Progress}
-use Rattle.pth_model.specs.Awaits.{awaited_in}
+use Rattle.pth_model.specs.RingWaits.{awaited_in}
 use Rattle.pth_model.specs.Changes.{blocked_in}
 
 -- what a thread waits for, if there is one

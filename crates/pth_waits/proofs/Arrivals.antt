@@ -13,13 +13,11 @@ use Rattle.pth_io.specs.Attempts.{are_all_live, is_any_ready, is_past, select_an
 use Rattle.pth_ring.specs.declared.event.Status.TheVariants.{Pending, Occurred, Failed}
 use Rattle.pth_model.specs.declared.awaits.Awaits.{Awaits}
 use Rattle.pth_model.specs.declared.awaits.Awaits.TheVariants.{Nothing, Alone, Death, AnyDeath, Moment, Ring, Selection, Mutex, Lock}
-use Rattle.pth_model.specs.State.{Control, now_of}
-use Rattle.pth_model.specs.Changes.{moves_to}
+use Rattle.pth_model.specs.State.{Control, State, now_of}
+use Rattle.pth_model.specs.Coming.{descriptors_bring}
 use Rattle.pth_model.specs.Looks.{found}
-use Rattle.pth_model.specs.Resources.{Store}
-use Rattle.pth_waits.specs.Io.{wakes_for}
 use Rattle.pth_waits.specs.Dormant.{IsFoundPending, StaysAway, bound, deadline_in}
-use Rattle.pth_waits.proofs.Kernels.{IsSame, HasNoDeadline, all_still, any_still, exceptional_still, readable_still, wakes_still, writeable_still}
+use Rattle.pth_waits.proofs.Kernels.{IsSame, HasNoDeadline, all_still, any_still, exceptional_still, readable_still, bring_still, writeable_still}
 
 module _ {P S H : Type 0} (k : Control P S H) (until : ℕ) (soon : until ≤ bound (next_time k.kernel)) (within : until ≤ last_moment + 1) where
   pub still : (n : ℕ) → now_of k ≤ n → n < until → All (IsSame (now_of k) n) k.kernel.trace
@@ -34,15 +32,8 @@ module _ {P S H : Type 0} (k : Control P S H) (until : ℕ) (soon : until ≤ bo
   pub select_pending : (r w y : FdSet) → found k (of.Select r w y) ≡ Pending → IsFoundPending k until (of.Select r w y)
   select_pending r w y is = λ n later early. rw (any_still k.kernel n (still n later early) r.0 w.0 y.0) is
 
-  -- a deadline that has not come, and does not come before
-  pub no_deadline : (n m : ℕ) → now_of k ≤ n → n < m → is_past (advanced n k.kernel) (Some m) ≡ is_past k.kernel (Some m)
-  no_deadline n m later early = grind (arith, nat_tests)
-
-  pub descriptors_away : (n : ℕ) (a : Awaits) → (later : now_of k ≤ n) → (early : n < until) → HasNoDeadline k.kernel n (still n later early) a → wakes_for k.kernel a ≡ false → wakes_for (moves_to n k).kernel a ≡ false
-  descriptors_away n a later early deadline is = wakes_still k.kernel n (still n later early) a deadline ∙ is
-
 -- by the least of the next arrival and the deadline
-module _ (k : Kernel) (a : Awaits) (is : wakes_for k a ≡ false) (arrival until : ℕ) (soon : arrival ≤ bound (next_time k)) (within : arrival ≤ last_moment + 1) (least : until ≡ min arrival (deadline_in a)) where
+module _ (k : Kernel) (a : Awaits) (is : descriptors_bring k a ≡ false) (arrival until : ℕ) (soon : arrival ≤ bound (next_time k)) (within : arrival ≤ last_moment + 1) (least : until ≡ min arrival (deadline_in a)) where
   all_at : (n : ℕ) → k.now ≤ n → n < until → All (IsSame k.now n) k.trace
   all_at n later early = all_still k.now n later (omega (arith, least)) k.trace (omega (arith, least))
 
@@ -54,21 +45,21 @@ module _ (k : Kernel) (a : Awaits) (is : wakes_for k a ≡ false) (arrival until
   no_deadline_by n later early (Selection r w x None) h = refl
   no_deadline_by n later early b h = tt
 
-  pub until_deadline : (n : ℕ) → k.now ≤ n → n < until → wakes_for (advanced n k) a ≡ false
-  until_deadline n later early = wakes_still k n (all_at n later early) a (no_deadline_by n later early a (omega (arith, least))) ∙ is
+  pub until_deadline : (n : ℕ) → k.now ≤ n → n < until → descriptors_bring (advanced n k) a ≡ false
+  until_deadline n later early = bring_still k n (all_at n later early) a (no_deadline_by n later early a (omega (arith, least))) ∙ is
 
 -- what stays away that is awaited at descriptors
-pub descriptors_stay : {P S H : Type 0} (x : Store) (k : Control P S H) (until t : ℕ) (a : Awaits) → (a ≡ Alone → ⊥) → (a ≡ AnyDeath → ⊥) → ((n : ℤ) → a ≡ Death n → ⊥) → ((m : ℕ) → a ≡ Moment m → ⊥) → ((m : ℤ) → a ≡ Mutex m → ⊥) → ((l : ℤ) (write : Bool) → a ≡ Lock l write → ⊥)
-    → (z : Kernel) → k.kernel ≡ z → ((n : ℕ) → z.now ≤ n → n < until → wakes_for (advanced n z) a ≡ false) → StaysAway x k until t a
-descriptors_stay x k until t Alone a b c d e f z is away = absurd (a refl)
-descriptors_stay x k until t AnyDeath a b c d e f z is away = absurd (b refl)
-descriptors_stay x k until t (Death n) a b c d e f z is away = absurd (c n refl)
-descriptors_stay x k until t (Moment m) a b c d e f z is away = absurd (d m refl)
-descriptors_stay x k until t (Mutex m) a b c d e f z is away = absurd (e m refl)
-descriptors_stay x k until t (Lock l write) a b c d e f z is away = absurd (f l write refl)
-descriptors_stay x k until t Nothing a b c d e f z is away = λ n l h. refl
-descriptors_stay x k until t (Ring r) a b c d e f z is away = λ n l h. refl
-descriptors_stay x k until t o a b c d e f z is away = subst (λ (y : Kernel). (n : ℕ) → y.now ≤ n → n < until → wakes_for (advanced n y) o ≡ false) (sym is) away
+pub descriptors_stay : {P S H : Type 0} (s : State P S H) (until t : ℕ) (a : Awaits) → (a ≡ Alone → ⊥) → (a ≡ AnyDeath → ⊥) → ((n : ℤ) → a ≡ Death n → ⊥) → ((m : ℕ) → a ≡ Moment m → ⊥) → ((m : ℤ) → a ≡ Mutex m → ⊥) → ((l : ℤ) (write : Bool) → a ≡ Lock l write → ⊥)
+    → (z : Kernel) → s.control.kernel ≡ z → ((n : ℕ) → z.now ≤ n → n < until → descriptors_bring (advanced n z) a ≡ false) → StaysAway s until t a
+descriptors_stay s until t Alone a b c d e f z is away = absurd (a refl)
+descriptors_stay s until t AnyDeath a b c d e f z is away = absurd (b refl)
+descriptors_stay s until t (Death n) a b c d e f z is away = absurd (c n refl)
+descriptors_stay s until t (Moment m) a b c d e f z is away = absurd (d m refl)
+descriptors_stay s until t (Mutex m) a b c d e f z is away = absurd (e m refl)
+descriptors_stay s until t (Lock l write) a b c d e f z is away = absurd (f l write refl)
+descriptors_stay s until t Nothing a b c d e f z is away = λ n l h. refl
+descriptors_stay s until t (Ring r) a b c d e f z is away = λ n l h. refl
+descriptors_stay s until t o a b c d e f z is away = subst (λ (y : Kernel). (n : ℕ) → y.now ≤ n → n < until → descriptors_bring (advanced n y) o ≡ false) (sym is) away
 
 found_by : (live occurs : Bool) → live ≡ true → occurs ≡ false → (if not live then Failed else (if occurs then Occurred else Pending)) ≡ Pending
 found_by live occurs a b = rw (a, b) refl
@@ -120,7 +111,7 @@ no_deadline_yet false false true x y is = absurd (cc is)
 no_deadline_yet false false false x y is = refl
 
 -- nor has the deadline of what is awaited
-pub deadline_later : (k : Kernel) (a : Awaits) → k.now < last_moment + 1 → wakes_for k a ≡ false → k.now < deadline_in a
+pub deadline_later : (k : Kernel) (a : Awaits) → k.now < last_moment + 1 → descriptors_bring k a ≡ false → k.now < deadline_in a
 unfolding select_answer
 deadline_later k (Selection r w x (Some m)) within is =
     not_come k.now m (no_deadline_yet (not (are_all_live k r.0 w.0 x.0)) (is_any_ready k r.0 w.0 x.0) (nat_le m k.now)

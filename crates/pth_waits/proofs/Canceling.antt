@@ -5,11 +5,13 @@ use Rattle.pth_base.specs.declared.answer.Answer.TheVariants.{Int}
 use Rattle.pth_base.specs.declared.call.Call.TheVariants as call
 use Rattle.pth_base.specs.declared.mark.Mark.TheVariants.{Answered}
 use Rattle.pth_base.specs.declared.ids.Tid.{Tid}
+use Rattle.pth_model.specs.declared.awaits.Awaited.{Awaited}
 use Rattle.pth_model.specs.declared.next.Next.TheVariants as next
 use Rattle.pth_model.specs.Calls.{begun, canceled_by, gone_on, gone_on_where, tried_again}
-use Rattle.pth_model.specs.Cancellation.{canceled_in, canceled_value, is_at_point, is_to_cancel, may_be_canceled}
+use Rattle.pth_model.specs.Cancellation.{canceled_in, canceled_value, is_point, is_to_cancel, may_be_canceled}
 use Rattle.pth_model.specs.Changes.{entry_of, or_nobody, blocked_of}
 use Rattle.pth_model.specs.Resources.{told, answer_told}
+use Rattle.pth_model.specs.RingWaits.{awaited_in}
 use Rattle.pth_model.specs.Rows.{row_of}
 use Rattle.pth_model.specs.State.{Control, State}
 use Rattle.pth_model.specs.Transition.{Went, silent, tells, tid, ◌and_then◌, ◌and_next◌}
@@ -20,9 +22,10 @@ module _ {P S H : Type 0} (k : Control P S H) (t : ℕ) where
   unfolding may_be_canceled
   not_asked none = rw none refl
 
-  pub asked_at : (b : Bool) → is_to_cancel (or_nobody (entry_of k t)) ≡ true → b ≡ is_at_point (blocked_of k t) → b ≡ may_be_canceled k t
+  -- by what is read of it
+  pub asked_at : (a : Awaited) → a ≡ awaited_in (blocked_of k t) → is_to_cancel (or_nobody (entry_of k t)) ≡ true → is_point a.what ≡ may_be_canceled k t
   unfolding may_be_canceled
-  asked_at b asked at = rw asked at
+  asked_at a is asked = rw asked (ap (λ (b : Awaited). is_point b.what) is)
 
 module _ {P S H : Type 0} (f : P → Functions S H) (s : State P S H) (t : ℕ) where
   pub point_ends : is_to_cancel (or_nobody (entry_of s.control t)) ≡ true → begun f t call.CancelPoint s ≡ record { told = canceled_in f t call.CancelPoint s; next = next.Ended canceled_value }

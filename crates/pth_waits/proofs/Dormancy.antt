@@ -7,6 +7,7 @@ use Rattle.pth_ring.specs.declared.event.Status.TheVariants.{Pending}
 use Rattle.pth_ring.specs.Ring.{each, ring_holds}
 use Rattle.pth_ring.specs.Rings.{Events, awaited, claimed, ring_awaited, with_claim, with_status}
 use Rattle.pth_base.specs.Limits.{last_moment}
+use Rattle.pth_base.specs.Program.{Functions}
 use Rattle.pth_base.specs.declared.event.EventSpec.{EventSpec}
 use Rattle.pth_base.specs.declared.ids.Tid.{Tid}
 use Rattle.pth_base.proofs.Tables.{put_by}
@@ -14,57 +15,62 @@ use Rattle.pth_kernel.specs.Kernel.{Kernel, advanced}
 use Rattle.pth_model.specs.declared.blocked.Blocked.{Blocked}
 use Rattle.pth_model.specs.declared.awaits.Awaits.{Awaits}
 use Rattle.pth_model.specs.declared.awaits.Awaits.TheVariants.{Nothing, Alone, Death, AnyDeath, Moment, Ring, Mutex, Lock}
-use Rattle.pth_model.specs.State.{Control, now_of, main}
+use Rattle.pth_model.specs.State.{Control, State, now_of, main}
 use Rattle.pth_model.specs.declared.awaits.Awaited.{Awaited}
 use Rattle.pth_numbered.specs.Operands.{number}
-use Rattle.pth_model.specs.Awaits.{awaits_in, awaited_in}
+use Rattle.pth_model.specs.Awaits.{awaits_in}
+use Rattle.pth_model.specs.Calls.{wakes}
 use Rattle.pth_model.specs.Cancellation.{may_be_canceled}
 use Rattle.pth_model.specs.Changes.{blocked_of, entry_of, moves_to}
+use Rattle.pth_model.specs.Coming.{descriptors_bring, has_any_died, has_come, has_died}
 use Rattle.pth_model.specs.Looks.{comes, found, looked_at}
-use Rattle.pth_model.specs.Pass.{comes_for}
-use Rattle.pth_model.specs.Resources.{Store}
-use Rattle.pth_model.specs.RingWaits.{awaited_events, events_from, ring_held}
+use Rattle.pth_model.specs.Pass.{comes_for, is_to_wake}
+use Rattle.pth_model.specs.RingWaits.{awaited_events, awaited_in, events_from, ring_held}
 use Rattle.pth_model.specs.ThreadEnds.{is_alone}
-use Rattle.pth_waits.specs.Waking.{has_any_died, has_come, has_died}
-use Rattle.pth_waits.specs.Io.{wakes_for}
+use Rattle.pth_world.specs.Shows.{Shows}
+use Rattle.pth_world.specs.World.{WorldOf}
 use Rattle.pth_waits.specs.Dormant.{ArePending, FindsPending, IsDormant, StaysAway, StaysPending, is_left_to_join}
-use Rattle.pth_waits.proofs.Waking.{is_due}
+use Rattle.pth_waits.proofs.Waking.{no_events, ring_events}
 
 -- ---- at a moment before, a dormant thread is not to wake
 
-module _ {P S H : Type 0} (x : Store) (k : Control P S H) (until : ℕ) (early : now_of k < until) where
-  away_now : (t : ℕ) (a : Awaits) → is_alone k main ≡ false → (((u : ℕ) → is_left_to_join (entry_of k u) ≡ false) → has_any_died k ≡ false) → StaysAway x k until t a → has_come x k t a ≡ false
+module _ {P S H : Type 0} (s : State P S H) (until : ℕ) (early : now_of s.control < until) where
+  away_now : (t : ℕ) (a : Awaits) → is_alone s.control main ≡ false → (((u : ℕ) → is_left_to_join (entry_of s.control u) ≡ false) → has_any_died s.control ≡ false) → StaysAway s until t a → has_come s t a ≡ false
   away_now t Alone alone none away = rw away alone
   away_now t AnyDeath alone none away = none away
-  away_now t a alone none away = away (now_of k) (omega arith) early
+  away_now t a alone none away = away (now_of s.control) (omega arith) early
 
-  found_now : (o : Option Event) → StaysPending k until o → comes k o ≡ false
-  found_now None s = refl
-  found_now (Some v) s = rw (s.1 (now_of k) (omega arith) early) refl
+  found_now : (o : Option Event) → StaysPending s.control until o → comes s.control o ≡ false
+  found_now None stays = refl
+  found_now (Some v) stays = rw (stays.1 (now_of s.control) (omega arith) early) refl
 
-  none_come : (es : List ℕ) → All (λ e. StaysPending k until (k.events.events e)) es → list_any (λ e. comes k (k.events.events e)) es ≡ false
+  none_come : (es : List ℕ) → All (λ e. StaysPending s.control until (s.control.events.events e)) es → list_any (λ e. comes s.control (s.control.events.events e)) es ≡ false
   none_come [] all = refl
   none_come (e ∷ es) all =
-      let here = found_now (k.events.events e) (All-head (λ i. StaysPending k until (k.events.events i)) e es all) in
-      rw here (none_come es (All-tail (λ i. StaysPending k until (k.events.events i)) e es all))
+      let here = found_now (s.control.events.events e) (All-head (λ i. StaysPending s.control until (s.control.events.events i)) e es all) in
+      rw here (none_come es (All-tail (λ i. StaysPending s.control until (s.control.events.events i)) e es all))
 
-  both_false : (a b c : Bool) → a ≡ false → b ≡ false → c ≡ false → ((a || b) || c) ≡ false
-  both_false a b c h i j = rw (h, i, j) refl
+  none_of : (a b c : Bool) → a ≡ false → b ≡ false → c ≡ false → (a || b || c) ≡ false
+  none_of a b c h i j = rw (h, i, j) refl
 
   -- where main is not alone, and no thread is left to join if no record is that of one
-  pub dormant_not_due : (t : ℕ) → is_alone k main ≡ false → (((u : ℕ) → is_left_to_join (entry_of k u) ≡ false) → has_any_died k ≡ false) → IsDormant x k until t → is_due x k t ≡ false
-  unfolding comes_for
-  dormant_not_due t alone none q = both_false _ _ _ (away_now t _ alone none q.away) (none_come _ q.pending) q.unasked
+  pub dormant_stays : (f : P → Functions S H) (t : ℕ) → is_alone s.control main ≡ false → (((u : ℕ) → is_left_to_join (entry_of s.control u) ≡ false) → has_any_died s.control ≡ false) → IsDormant s until t → is_to_wake f s t ≡ false
+  unfolding comes_for wakes
+  dormant_stays f t alone none q = none_of _ _ _ (away_now t _ alone none q.away) (none_come _ q.pending) q.unasked
 
   -- and a look at its events finds what was found before
-  pub looked_same : (o : Option Event) → StaysPending k until o → option_map (looked_at k) o ≡ o
-  looked_same None s = refl
-  looked_same (Some v) s = rw (s.1 (now_of k) (omega arith) early) (ap (λ st. Some (with_status st v)) (sym s.0))
+  pub looked_same : (o : Option Event) → StaysPending s.control until o → option_map (looked_at s.control) o ≡ o
+  looked_same None stays = refl
+  looked_same (Some v) stays = rw (stays.1 (now_of s.control) (omega arith) early) (ap (λ st. Some (with_status st v)) (sym stays.0))
 
 -- something that time does not bring is not here, if it stays away until any moment
 pub is_not_here : (here : Bool) (until : ℕ) → until ≡ (if here then 0 else last_moment + 1) → 0 < until → here ≡ false
 is_not_here true until is some = absurd (omega (arith, is))
 is_not_here false until is some = refl
+
+-- what is later than the moment of a world is later than now
+pub later_than_now : {P S H : Type 0} (w : WorldOf P S H) (k : Control P S H) → Shows w k → (until : ℕ) → w.kernel.now < until → now_of k < until
+later_than_now w k sh until later = subst (λ (n : ℕ). n < until) (sym (ap (λ (z : Kernel). z.now) sh.kernel)) later
 
 -- ---- events that stay pending
 
@@ -122,33 +128,33 @@ claimed_pending x e t now =
 
 -- ---- what keeps a thread dormant
 
--- Of t and of what it may wait for all is as it was, but that time went on and rings were claimed: what is not dead still lives, and
--- can be joined.
 module _ {P S H : Type 0} where
-  pub record KeepsDormant (x : Store) (k : Control P S H) (y : Store) (j : Control P S H) (t : ℕ) : Type 0 where
+  -- Of t and of what it may wait for all is as it was, but that time went on and rings were claimed: what is not dead still lives, and
+  -- can be joined.
+  pub record KeepsDormant (s r : State P S H) (t : ℕ) : Type 0 where
     pub now : ℕ
-    pub later : now_of k ≤ now
-    pub kernel : j.kernel ≡ advanced now k.kernel
-    pub events : KeepsPending k.events j.events
-    pub mutexes : y.mutexes ≡ x.mutexes
-    pub locks : y.rw_locks ≡ x.rw_locks
-    pub blocked : blocked_of j t ≡ blocked_of k t
-    pub died : (n : ℤ) → has_died k n ≡ false → has_died j n ≡ false
-    pub left : ((u : ℕ) → is_left_to_join (entry_of k u) ≡ false) → (u : ℕ) → is_left_to_join (entry_of j u) ≡ false
-    pub asked : may_be_canceled k t ≡ false → may_be_canceled j t ≡ false
+    pub later : now_of s.control ≤ now
+    pub kernel : r.control.kernel ≡ advanced now s.control.kernel
+    pub events : KeepsPending s.control.events r.control.events
+    pub mutexes : r.resources.store.mutexes ≡ s.resources.store.mutexes
+    pub locks : r.resources.store.rw_locks ≡ s.resources.store.rw_locks
+    pub blocked : blocked_of r.control t ≡ blocked_of s.control t
+    pub died : (n : ℤ) → has_died s.control n ≡ false → has_died r.control n ≡ false
+    pub left : ((u : ℕ) → is_left_to_join (entry_of s.control u) ≡ false) → (u : ℕ) → is_left_to_join (entry_of r.control u) ≡ false
+    pub asked : may_be_canceled s.control t ≡ false → may_be_canceled r.control t ≡ false
 
-  module _ (x : Store) (k : Control P S H) (y : Store) (j : Control P S H) (t : ℕ) (same : KeepsDormant x k y j t) (until : ℕ) where
+  module _ (s r : State P S H) (t : ℕ) (same : KeepsDormant s r t) (until : ℕ) where
     -- at each later moment
-    moved_kernel : (n : ℕ) → (moves_to n j).kernel ≡ (moves_to n k).kernel
+    moved_kernel : (n : ℕ) → advanced n r.control.kernel ≡ advanced n s.control.kernel
     moved_kernel n = ap (advanced n) same.kernel
 
-    onward : (n : ℕ) → now_of j ≤ n → now_of k ≤ n
-    onward n h = (let e : now_of j ≡ same.now = ap (λ (z : Kernel). z.now) same.kernel in let l = same.later in omega arith)
+    onward : (n : ℕ) → now_of r.control ≤ n → now_of s.control ≤ n
+    onward n h = (let e : now_of r.control ≡ same.now = ap (λ (z : Kernel). z.now) same.kernel in let l = same.later in omega arith)
 
-    at_moved : (a : Awaits) (n : ℕ) → wakes_for (moves_to n k).kernel a ≡ false → wakes_for (moves_to n j).kernel a ≡ false
-    at_moved a n is = subst (λ (z : Kernel). wakes_for z a ≡ false) (sym (moved_kernel n)) is
+    at_moved : (a : Awaits) (n : ℕ) → descriptors_bring (advanced n s.control.kernel) a ≡ false → descriptors_bring (advanced n r.control.kernel) a ≡ false
+    at_moved a n is = subst (λ (z : Kernel). descriptors_bring z a ≡ false) (sym (moved_kernel n)) is
 
-    away_kept : (a : Awaits) → StaysAway x k until t a → StaysAway y j until t a
+    away_kept : (a : Awaits) → StaysAway s until t a → StaysAway r until t a
     away_kept Alone away = away
     away_kept AnyDeath away = same.left away
     away_kept Nothing away = λ n h l. refl
@@ -159,26 +165,29 @@ module _ {P S H : Type 0} where
     away_kept (Lock o write) away = λ n h l. rw same.locks (away n (onward n h) l)
     away_kept a away = λ n h l. at_moved a n (away n (onward n h) l)
 
-    found_moved : (n : ℕ) (z : EventSpec) → found (moves_to n k) z ≡ Pending → found (moves_to n j) z ≡ Pending
-    found_moved n z is = subst (λ (q : Kernel). found (record j { kernel = q }) z ≡ Pending) (sym (moved_kernel n)) is
+    found_moved : (n : ℕ) (z : EventSpec) → found (moves_to n s.control) z ≡ Pending → found (moves_to n r.control) z ≡ Pending
+    found_moved n z is = subst (λ (q : Kernel). found (record r.control { kernel = q }) z ≡ Pending) (sym (moved_kernel n)) is
 
-    pending_kept : (o p : Option Event) → StillPending o p → StaysPending k until o → StaysPending j until p
-    pending_kept None p still s = subst (λ (q : Option Event). StaysPending j until q) (sym still) tt
-    pending_kept (Some v) None still s = absurd still
-    pending_kept (Some v) (Some u) still s = (still.1 s.0, λ n h l. found_moved n u.spec (subst (λ (z : EventSpec). found (moves_to n k) z ≡ Pending) (sym still.0) (s.1 n (onward n h) l)))
+    pending_kept : (o p : Option Event) → StillPending o p → StaysPending s.control until o → StaysPending r.control until p
+    pending_kept None p still stays = subst (λ (q : Option Event). StaysPending r.control until q) (sym still) tt
+    pending_kept (Some v) None still stays = absurd still
+    pending_kept (Some v) (Some u) still stays =
+        (still.1 stays.0, λ n h l. found_moved n u.spec (subst (λ (z : EventSpec). found (moves_to n s.control) z ≡ Pending) (sym still.0) (stays.1 n (onward n h) l)))
 
-    all_pending : (es : List ℕ) → All (λ e. StaysPending k until (k.events.events e)) es → All (λ e. StaysPending j until (j.events.events e)) es
-    all_pending es all = All-weaker (λ e. StaysPending k until (k.events.events e)) (λ e. StaysPending j until (j.events.events e)) (λ e h. pending_kept (k.events.events e) (j.events.events e) (same.events.pending e) h) es all
+    all_pending : (es : List ℕ) → ArePending s.control until es → ArePending r.control until es
+    all_pending es all =
+        All-weaker (λ e. StaysPending s.control until (s.control.events.events e)) (λ e. StaysPending r.control until (r.control.events.events e))
+        (λ e h. pending_kept (s.control.events.events e) (r.control.events.events e) (same.events.pending e) h) es all
 
-    same_from : (o : Option ℤ) → events_from j.events o ≡ events_from k.events o
+    same_from : (o : Option ℤ) → events_from r.control.events o ≡ events_from s.control.events o
     same_from None = refl
-    same_from (Some e) = ap (λ (r : ℕ → List ℕ). r (number e)) same.events.rings
+    same_from (Some e) = ap (λ (q : ℕ → List ℕ). q (number e)) same.events.rings
 
-    pub dormant_kept : IsDormant x k until t → IsDormant y j until t
+    pub dormant_kept : IsDormant s until t → IsDormant r until t
     dormant_kept q = record {
-      away = subst (λ (o : Option Blocked). StaysAway y j until t (awaits_in o)) (sym same.blocked) (away_kept (awaits_in (blocked_of k t)) q.away);
-      pending = subst (λ (o : Option Blocked). All (λ e. StaysPending j until (j.events.events e)) (events_from j.events (ring_held o))) (sym same.blocked)
-          (subst (λ (es : List ℕ). All (λ e. StaysPending j until (j.events.events e)) es) (sym (same_from (ring_held (blocked_of k t)))) (all_pending (awaited_events k t) q.pending));
+      away = subst (λ (o : Option Blocked). StaysAway r until t (awaits_in o)) (sym same.blocked) (away_kept (awaits_in (blocked_of s.control t)) q.away);
+      pending = subst (λ (o : Option Blocked). ArePending r.control until (events_from r.control.events (ring_held o))) (sym same.blocked)
+          (subst (ArePending r.control until) (sym (same_from (ring_held (blocked_of s.control t)))) (all_pending (awaited_events s.control t) q.pending));
       unasked = same.asked q.unasked;
     }
 
@@ -192,51 +201,48 @@ module _ {P S H : Type 0} where
     sooner_found None s = tt
     sooner_found (Some v) s = λ n h l. s n h (omega arith)
 
-  module _ (x : Store) (k : Control P S H) (t until sooner : ℕ) (less : sooner ≤ until) where
-    sooner_away : (a : Awaits) → StaysAway x k until t a → StaysAway x k sooner t a
+  module _ (s : State P S H) (t until sooner : ℕ) (less : sooner ≤ until) where
+    sooner_away : (a : Awaits) → StaysAway s until t a → StaysAway s sooner t a
     sooner_away Alone away = away
     sooner_away AnyDeath away = away
     sooner_away Nothing away = λ n h l. refl
     sooner_away (Ring e) away = λ n h l. refl
     sooner_away a away = λ n h l. away n h (omega arith)
 
-    pub dormant_sooner : IsDormant x k until t → IsDormant x k sooner t
+    pub dormant_sooner : IsDormant s until t → IsDormant s sooner t
     dormant_sooner q = record {
-      away = sooner_away (awaits_in (blocked_of k t)) q.away;
-      pending = All-weaker (λ e. StaysPending k until (k.events.events e)) (λ e. StaysPending k sooner (k.events.events e)) (λ e h. sooner_pending k until sooner less (k.events.events e) h) (awaited_events k t) q.pending;
+      away = sooner_away (awaits_in (blocked_of s.control t)) q.away;
+      pending = All-weaker (λ e. StaysPending s.control until (s.control.events.events e)) (λ e. StaysPending s.control sooner (s.control.events.events e))
+          (λ e h. sooner_pending s.control until sooner less (s.control.events.events e) h) (awaited_events s.control t) q.pending;
       unasked = q.unasked;
     }
 
   -- ---- by what is read of a thread
 
-  module _ (x : Store) (k : Control P S H) (t until : ℕ) (a : Awaited) (is : a ≡ awaited_in (blocked_of k t)) (away : StaysAway x k until t a.what) (unasked : may_be_canceled k t ≡ false) where
-    -- it was given no ring
-    pub dormant_bare : a.ring ≡ None → IsDormant x k until t
-    dormant_bare none =
-        let ring : ring_held (blocked_of k t) ≡ None = ap (λ (b : Awaited). b.ring) (sym is) ∙ none in
-        record {
-          away = subst (λ (b : Awaited). StaysAway x k until t b.what) is away;
-          pending = subst (λ (o : Option ℤ). ArePending k until (events_from k.events o)) (sym ring) (All-nil (λ e. StaysPending k until (k.events.events e)));
-          unasked = unasked;
-        }
+  module _ (s : State P S H) (t until : ℕ) (a : Awaited) (is : a ≡ awaited_in (blocked_of s.control t)) where
+    module _ (away : StaysAway s until t a.what) (unasked : may_be_canceled s.control t ≡ false) where
+      -- it was given no ring
+      pub dormant_bare : a.ring ≡ None → IsDormant s until t
+      dormant_bare none = record {
+        away = subst (λ (b : Awaited). StaysAway s until t b.what) is away;
+        pending = subst (ArePending s.control until) (sym (no_events s.control t a is none)) (All-nil (λ e. StaysPending s.control until (s.control.events.events e)));
+        unasked = unasked;
+      }
 
-    -- it was given a ring
-    pub dormant_beside : (own : ℕ) (e : ℤ) → a.ring ≡ Some e → ArePending k own (k.events.rings (number e)) → IsDormant x k (min until own) t
-    dormant_beside own e some pending =
-        let ring : ring_held (blocked_of k t) ≡ Some e = ap (λ (b : Awaited). b.ring) (sym is) ∙ some in
-        record {
-          away = sooner_away x k t until (min until own) (omega arith) (awaits_in (blocked_of k t)) (subst (λ (b : Awaited). StaysAway x k until t b.what) is away);
-          pending = subst (λ (o : Option ℤ). ArePending k (min until own) (events_from k.events o)) (sym ring)
-              (All-weaker (λ i. StaysPending k own (k.events.events i)) (λ i. StaysPending k (min until own) (k.events.events i)) (λ i h. sooner_pending k own (min until own) (omega arith) (k.events.events i) h) (k.events.rings (number e)) pending);
-          unasked = unasked;
-        }
+      -- it was given a ring
+      pub dormant_beside : (own : ℕ) (e : ℤ) → a.ring ≡ Some e → ArePending s.control own (s.control.events.rings (number e)) → IsDormant s (min until own) t
+      dormant_beside own e some pending = record {
+        away = sooner_away s t until (min until own) (omega arith) (awaits_in (blocked_of s.control t)) (subst (λ (b : Awaited). StaysAway s until t b.what) is away);
+        pending = subst (ArePending s.control (min until own)) (sym (ring_events s.control t a is e some))
+            (All-weaker (λ i. StaysPending s.control own (s.control.events.events i)) (λ i. StaysPending s.control (min until own) (s.control.events.events i))
+            (λ i h. sooner_pending s.control own (min until own) (omega arith) (s.control.events.events i) h) (s.control.events.rings (number e)) pending);
+        unasked = unasked;
+      }
 
-  -- and the reverse
-  module _ (x : Store) (k : Control P S H) (t until : ℕ) (a : Awaited) (is : a ≡ awaited_in (blocked_of k t)) (q : IsDormant x k until t) where
-    pub dormant_away : StaysAway x k until t a.what
-    dormant_away = subst (λ (b : Awaited). StaysAway x k until t b.what) (sym is) q.away
+    -- and the reverse
+    module _ (q : IsDormant s until t) where
+      pub dormant_away : StaysAway s until t a.what
+      dormant_away = subst (λ (b : Awaited). StaysAway s until t b.what) (sym is) q.away
 
-    pub dormant_pending : (e : ℤ) → a.ring ≡ Some e → ArePending k until (k.events.rings (number e))
-    dormant_pending e some =
-        let ring : ring_held (blocked_of k t) ≡ Some e = ap (λ (b : Awaited). b.ring) (sym is) ∙ some in
-        subst (λ (o : Option ℤ). ArePending k until (events_from k.events o)) ring q.pending
+      pub dormant_pending : (e : ℤ) → a.ring ≡ Some e → ArePending s.control until (s.control.events.rings (number e))
+      dormant_pending e some = subst (ArePending s.control until) (ring_events s.control t a is e some) q.pending

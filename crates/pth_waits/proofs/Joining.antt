@@ -1,23 +1,17 @@
--- A join begins as its row says.
-use Rattle.std.proofs.Common.{◌≡◌, ℕ, ℤ, ap}
-use Rattle.pth_base.specs.Program.{Functions}
-use Rattle.pth_base.specs.declared.answer.Answer.{Answer}
-use Rattle.pth_base.specs.declared.call.Call.TheVariants as call
-use Rattle.pth_base.specs.declared.mark.Mark.TheVariants.{Answered}
-use Rattle.pth_model.specs.declared.next.Next.TheVariants as next
-use Rattle.pth_model.specs.Calls.{begun, begun_by, waits_by}
-use Rattle.pth_model.specs.Row.{effect_of}
-use Rattle.pth_model.specs.Rows.{row_of}
-use Rattle.pth_model.specs.State.{State}
-use Rattle.pth_model.specs.ThreadControl.{join_attempt}
-use Rattle.pth_model.specs.Transition.{tid, tells, ◌and_then◌, ◌and_next◌}
-use Rattle.pth_model.specs.Verdict.{Verdict, Says, waits, no_pause}
+-- A join takes a dead thread, and the call that blocks another thread still does.
+use Rattle.std.proofs.Common.{◌≡◌, ◌≢◌, ℕ, Option, Some, None, ◌∙◌, ap, sym}
+use Rattle.pth_base.proofs.Tables.{put_other}
+use Rattle.pth_queue.specs.declared.queue.Queue.TheVariants as queue
+use Rattle.pth_model.specs.Changes.{blocked_in, blocked_of, forgets, leaves_queue, removes}
+use Rattle.pth_model.specs.State.{Control}
+use Rattle.pth_world.proofs.Moves.{queued_rests}
+use Rattle.pth_world.specs.Shows.{Shows}
+use Rattle.pth_world.specs.Whole.{Whole, IsIn}
+use Rattle.pth_world.specs.World.{WorldOf}
 
-module _ {P S H : Type 0} (f : P → Functions S H) (s : State P S H) (t : ℕ) (n : ℤ) where
-  pub join_answers : (a : Answer) → (join_attempt s t n).verdict ≡ Says a → begun f t (call.Join n) s ≡ (effect_of (join_attempt s t n) and_then tells (Answered (tid t) (call.Join n) a) and_next next.Done a) s
-  unfolding begun row_of
-  join_answers a is = ap (λ (v : Verdict). begun_by f t (call.Join n) v (effect_of (join_attempt s t n)) s) is
-
-  pub join_waits : (join_attempt s t n).verdict ≡ waits → begun f t (call.Join n) s ≡ (effect_of (join_attempt s t n) and_then waits_by t (call.Join n) no_pause and_next next.Waits) s
-  unfolding begun row_of
-  join_waits is = ap (λ (v : Verdict). begun_by f t (call.Join n) v (effect_of (join_attempt s t n)) s) is
+pub joined_held : {P S H : Type 0} (w v : WorldOf P S H) (t other : ℕ) → Whole w → w.scheduler.running ≡ Some t → IsIn queue.Dead w.threads other → ((k : Control P S H) → Shows w k → Shows v (removes other k))
+    → (k j : Control P S H) → Shows w k → Shows v j → blocked_of j t ≡ blocked_of k t
+unfolding forgets leaves_queue
+joined_held w v t other whole runs dead shows k j sh sj =
+    let apart : t ≢ other = λ same. queued_rests w other queue.Dead whole dead (runs ∙ ap Some same) in
+    ap (λ (p : ℕ → Option _). blocked_in (p t)) (sj.threads.progress ∙ sym (shows k sh).threads.progress) ∙ ap blocked_in (put_other k.threads.progress other None t apart)

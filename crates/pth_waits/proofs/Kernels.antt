@@ -14,7 +14,7 @@ use Rattle.pth_kernel.specs.Moments.{least_after, least_by}
 use Rattle.pth_io.specs.Attempts.{read_answer, write_answer, accept_answer, connect_answer, select_answer, is_any_ready, is_past, sets_answer, fails, not_yet, ◌when◌otherwise◌}
 use Rattle.pth_model.specs.declared.awaits.Awaits.{Awaits}
 use Rattle.pth_model.specs.declared.awaits.Awaits.TheVariants.{Reading, Writing, Connection, ConnectAnswer, Selection}
-use Rattle.pth_waits.specs.Io.{wakes_for}
+use Rattle.pth_model.specs.Coming.{descriptors_bring}
 use Rattle.pth_waits.specs.Dormant.{bound}
 
 -- a stamp has come at one moment as at the other
@@ -106,13 +106,13 @@ module _ (k : Kernel) (n : ℕ) (none : All (IsSame k.now n) k.trace) where
   HasNoDeadline (Selection r w x deadline) = is_past j deadline ≡ is_past k deadline
   HasNoDeadline a = Unit {0}
 
-  pub wakes_still : (a : Awaits) → HasNoDeadline a → wakes_for j a ≡ wakes_for k a
-  wakes_still (Reading f m) h = rw (read_still (fd_named f) m) refl
-  wakes_still (Writing f total done) h = rw (write_still (fd_named f) total done, room_still (fd_named f)) refl
-  wakes_still (Connection f) h = rw (accept_still (fd_named f)) refl
-  wakes_still (ConnectAnswer f) h = rw (connect_still (fd_named f)) refl
-  wakes_still (Selection r w x deadline) h = ap (λ (o : Option Answer). is_some o) (select_still r.0 w.0 x.0 deadline h)
-  wakes_still a h = refl
+  pub bring_still : (a : Awaits) → HasNoDeadline a → descriptors_bring j a ≡ descriptors_bring k a
+  bring_still (Reading f m) h = rw (read_still (fd_named f) m) refl
+  bring_still (Writing f total done) h = rw (write_still (fd_named f) total done, room_still (fd_named f)) refl
+  bring_still (Connection f) h = rw (accept_still (fd_named f)) refl
+  bring_still (ConnectAnswer f) h = rw (connect_still (fd_named f)) refl
+  bring_still (Selection r w x deadline) h = ap (λ (o : Option Answer). is_some o) (select_still r.0 w.0 x.0 deadline h)
+  bring_still a h = refl
 
 -- ---- until the next arrival
 

@@ -16,13 +16,13 @@ use Rattle.pth_threads.specs.declared.entry.Entry.{Entry}
 use Rattle.pth_model.specs.declared.blocked.Blocked.{Blocked}
 use Rattle.pth_model.specs.State.{Control, queue}
 use Rattle.pth_model.specs.Changes.{entry_of, holders, or_nobody}
+use Rattle.pth_model.specs.Coming.{has_any_died}
 use Rattle.pth_model.specs.Living.{is_dead}
 use Rattle.pth_model.specs.ThreadControl.{first_of, is_dead_in, joinable_dead}
 use Rattle.pth_world.specs.Shows.{Shows}
 use Rattle.pth_world.specs.Whole.{CanSuspend, FitsEntry, Whole, place_for}
 use Rattle.pth_world.specs.World.{WorldOf}
 use Rattle.pth_waits.specs.Dormant.{is_left_to_join}
-use Rattle.pth_waits.specs.Waking.{has_any_died}
 
 -- the queue of a thread by its record
 abbrev pub place_in : Option Entry → Option Queue

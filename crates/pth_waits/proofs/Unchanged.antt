@@ -1,15 +1,31 @@
 -- Attempts at calls on descriptors that leave the kernel as it was.
-use Rattle.std.proofs.Common.{◌≡◌, ℕ, ◌+◌, ◌-◌, ◌==◌, ◌&&◌, min, not, Bool, true, false, Option, Some, None, if◌then◌else◌, refl, sym, ap, arith}
-use Rattle.pth_base.specs.declared.answer.Answer.TheVariants.{Fail}
+use Rattle.std.proofs.Common.{◌≡◌, ◌∙◌, ℕ, ◌+◌, ◌-◌, ◌==◌, ◌&&◌, min, not, Bool, true, false, Option, Some, None, if◌then◌else◌, refl, sym, ap, arith}
+use Rattle.pth_base.specs.declared.answer.Answer.{Answer}
+use Rattle.pth_base.specs.declared.answer.Answer.TheVariants.{Bytes, Fail}
 use Rattle.pth_base.specs.declared.errno.Errno.{Errno}
 use Rattle.pth_base.specs.declared.errno.Errno.TheVariants.{EBADF, EIO}
-use Rattle.pth_io.specs.Attempts.{◌when◌otherwise◌, answered_or, counts, counts_or, fails, fits, not_yet, number_answer, read_after, write_answer, write_after, written, accept_answer, accept_after, taken_by}
+use Rattle.pth_io.specs.Attempts.{◌when◌otherwise◌, answered_or, counts, counts_or, fails, fits, not_yet, number_answer, read_after, read_answer, write_answer, write_after, written, accept_answer, accept_after, taken_by}
 use Rattle.pth_kernel.proofs.Changes.{unchanged}
 use Rattle.pth_kernel.specs.Entries.{is_failure}
 use Rattle.pth_kernel.specs.Kernel.{Kernel, Descriptor, came, connection_accepted, connections, earliest, fd_named, is_fd_live, room, room_used}
+use Rattle.pth_model.specs.Awaits.{written_in}
+use Rattle.pth_model.specs.Io.{answered_or_waits, trial_for}
 use Rattle.pth_model.specs.declared.awaits.Awaits.{Awaits}
 use Rattle.pth_model.specs.declared.awaits.Awaits.TheVariants.{Reading, Writing, Connection}
-use Rattle.pth_waits.specs.Io.{trial_for}
+use Rattle.pth_model.specs.declared.verdict.Verdict.{Verdict}
+use Rattle.pth_model.specs.declared.verdict.Verdict.TheVariants.{Says, Blocks}
+
+-- it refuses the call, or blocks its thread with nothing written
+abbrev pub IsVain : Verdict → Type 0
+IsVain (Says (Fail e)) = Unit {0}
+IsVain (Blocks a) = written_in a ≡ 0
+IsVain v = ⊥
+
+-- ---- reads
+
+read_vain : (k : Kernel) (f : ℕ) (o : Option Answer) (a : Awaits) → IsVain (answered_or_waits o a) → taken_by f o k ≡ k
+read_vain k f (Some (Bytes bytes)) a vain = absurd vain
+read_vain k f o a vain = refl
 
 -- ---- writes
 
@@ -36,6 +52,11 @@ module _ (k : Kernel) (f total done : ℕ) where
   unfolding written write_after
   write_idle none = gives_none (omega (arith, none))
 
+  write_vain : (o : Option Answer) (a : Awaits) → o ≡ write_answer k f total done → written_in a ≡ written k f total done → IsVain (answered_or_waits o a) → write_after f total done k ≡ k
+  write_vain (Some (Fail e)) a is has vain = write_failed e (sym is)
+  write_vain (Some x) a is has vain = absurd vain
+  write_vain None a is has vain = write_idle (sym has ∙ vain)
+
   fits_none : (takes : Bool) → room k f ≡ 0 → (if takes then min (room k f) (total - done) else 0) ≡ 0
   fits_none true none = omega (arith, none)
   fits_none false none = refl
@@ -47,42 +68,33 @@ module _ (k : Kernel) (f total done : ℕ) where
 
 -- ---- accepts
 
-accepted_by : (live failed : Bool) (g : Option ℕ) (f : ℕ) (k : Kernel) (e : Errno) → (fails EBADF when not live otherwise answered_or number_answer g (fails EIO when failed otherwise not_yet)) ≡ Some (Fail e) → (if live then connection_accepted f g k else k) ≡ k
-accepted_by false failed g f k e is = refl
-accepted_by true failed None f k e is = refl
-accepted_by true failed (Some g) f k e is = absurd (cc is)
-
-awaited_by : (live failed : Bool) (g : Option ℕ) (f : ℕ) (k : Kernel) → (fails EBADF when not live otherwise answered_or number_answer g (fails EIO when failed otherwise not_yet)) ≡ None → (if live then connection_accepted f g k else k) ≡ k
-awaited_by false failed g f k is = refl
-awaited_by true failed None f k is = refl
-awaited_by true failed (Some g) f k is = absurd (cc is)
+accept_vain : (live failed : Bool) (g : Option ℕ) (k : Kernel) (f : ℕ) (a : Awaits) → IsVain (answered_or_waits (fails EBADF when not live otherwise answered_or number_answer g (fails EIO when failed otherwise not_yet)) a) → (if live then connection_accepted f g k else k) ≡ k
+accept_vain false failed g k f a vain = refl
+accept_vain true failed None k f a vain = refl
+accept_vain true failed (Some g) k f a vain = absurd vain
 
 -- ---- each attempt
 
--- one that fails changes nothing
-pub failed_same : (k : Kernel) (a : Awaits) (e : Errno) → (trial_for k a).answer ≡ Some (Fail e) → (trial_for k a).after k ≡ k
+-- one that comes to nothing changes nothing
+pub vain_same : (k : Kernel) (a : Awaits) → IsVain (trial_for k a).verdict → (trial_for k a).after k ≡ k
 unfolding read_after accept_answer accept_after
-failed_same k (Reading f n) e is = ap (λ (x : Option _). taken_by (fd_named f) x k) is
-failed_same k (Writing f total done) e is = write_failed k (fd_named f) total done e is
-failed_same k (Connection f) e is = accepted_by (is_fd_live k (fd_named f)) (came k is_failure (fd_named f)) (earliest (connections k (fd_named f))) (fd_named f) k e is
-failed_same k a e is = refl
-
--- one that has no answer and has written nothing neither
-pub idle_same : (k : Kernel) (a : Awaits) → (trial_for k a).answer ≡ None → (trial_for k a).written ≡ 0 → (trial_for k a).after k ≡ k
-unfolding read_after accept_answer accept_after
-idle_same k (Reading f n) is none = ap (λ (x : Option _). taken_by (fd_named f) x k) is
-idle_same k (Writing f total done) is none = write_idle k (fd_named f) total done none
-idle_same k (Connection f) is none = awaited_by (is_fd_live k (fd_named f)) (came k is_failure (fd_named f)) (earliest (connections k (fd_named f))) (fd_named f) k is
-idle_same k a is none = refl
+vain_same k (Reading f n) vain = read_vain k (fd_named f) (read_answer k (fd_named f) n) (Reading f n) vain
+vain_same k (Writing f total done) vain = write_vain k (fd_named f) total done (write_answer k (fd_named f) total done) (Writing f total (written k (fd_named f) total done)) refl refl vain
+vain_same k (Connection f) vain = accept_vain (is_fd_live k (fd_named f)) (came k is_failure (fd_named f)) (earliest (connections k (fd_named f))) k (fd_named f) (Connection f) vain
+vain_same k a vain = refl
 
 -- there is no room for what is written
 abbrev pub HasNoRoom : Kernel → Awaits → Type 0
 HasNoRoom k (Writing f total done) = room k (fd_named f) ≡ 0
 HasNoRoom k a = Unit {0}
 
--- one that has no answer and no room neither, whatever was written before
-pub waiting_same : (k : Kernel) (a : Awaits) → (trial_for k a).answer ≡ None → HasNoRoom k a → (trial_for k a).after k ≡ k
-waiting_same k (Reading f n) is none = idle_same k (Reading f n) is refl
-waiting_same k (Writing f total done) is none = write_without_room k (fd_named f) total done none
-waiting_same k (Connection f) is none = idle_same k (Connection f) is refl
-waiting_same k a is none = refl
+waits_vain : (o : Option Answer) (a b : Awaits) → written_in a ≡ 0 → answered_or_waits o a ≡ Blocks b → IsVain (answered_or_waits o a)
+waits_vain None a b none is = none
+waits_vain (Some x) a b none is = absurd (cc is)
+
+-- one that is not yet and has no room neither, whatever was written before
+pub waiting_same : (k : Kernel) (a b : Awaits) → (trial_for k a).verdict ≡ Blocks b → HasNoRoom k a → (trial_for k a).after k ≡ k
+waiting_same k (Reading f n) b is none = vain_same k (Reading f n) (waits_vain (read_answer k (fd_named f) n) (Reading f n) b refl is)
+waiting_same k (Writing f total done) b is none = write_without_room k (fd_named f) total done none
+waiting_same k (Connection f) b is none = vain_same k (Connection f) (waits_vain (accept_answer k (fd_named f)) (Connection f) b refl is)
+waiting_same k a b is none = refl

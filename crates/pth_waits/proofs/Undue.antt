@@ -1,5 +1,5 @@
 -- A thread that is not to wake is dormant now, if no event of its ring is settled.
-use Rattle.std.proofs.Common.{◌≡◌, ◌≢◌, ◌∙◌, ℕ, ◌<◌, ◌≤◌, ◌||◌, not, nat_lt, ℤ, Bool, true, false, if◌then◌else◌, List, [], ◌∷◌, Option, Some, None, IfSome, refl, sym, ap, subst, arith}
+use Rattle.std.proofs.Common.{◌≡◌, ◌≢◌, ℕ, ◌<◌, ◌≤◌, ◌||◌, not, nat_lt, ℤ, Bool, true, false, if◌then◌else◌, List, [], ◌∷◌, Option, Some, None, IfSome, refl, sym, ap, subst, arith}
 use Rattle.std.proofs.lemmas.Bool.Decides.{nat_tests}
 use Rattle.std.proofs.lemmas.List.Elements.{All-cons, All-nil}
 use Rattle.std.specs.List.{list_any}
@@ -15,23 +15,23 @@ use Rattle.pth_threads.specs.Threads.{slot_of, tid_at}
 use Rattle.pth_model.specs.declared.awaits.Awaits.{Awaits}
 use Rattle.pth_model.specs.declared.awaits.Awaits.TheVariants.{Nothing, Alone, Death, AnyDeath, Ring}
 use Rattle.pth_model.specs.declared.blocked.Blocked.{Blocked}
-use Rattle.pth_model.specs.Awaits.{awaited_by, awaits_in}
+use Rattle.pth_model.specs.Awaits.{awaits_in}
+use Rattle.pth_model.specs.Calls.{wakes}
 use Rattle.pth_model.specs.Changes.{blocked_in, blocked_of, moves_to}
+use Rattle.pth_model.specs.Coming.{has_come}
 use Rattle.pth_model.specs.Looks.{comes, found}
-use Rattle.pth_model.specs.Pass.{comes_for, is_to_wake}
+use Rattle.pth_model.specs.Pass.{comes_for}
 use Rattle.pth_model.specs.RingWaits.{events_from, has_settled, ring_held}
 use Rattle.pth_model.specs.State.{Control, State, main, now_of}
+use Rattle.pth_model.specs.Transition.{controlled}
 use Rattle.pth_world.specs.Shows.{StandsFor}
-use Rattle.pth_world.specs.Store.{store_of}
-use Rattle.pth_world.specs.Whole.{MayBlock, MayBlockAs, Whole, view}
+use Rattle.pth_world.specs.Whole.{MayAwaitAs, MayBlock, Whole, view}
 use Rattle.pth_world.specs.World.{WorldOf}
 use Rattle.pth_world.proofs.Moves.{blocked_may}
 use Rattle.pth_world.proofs.Showing.{progress_is}
-use Rattle.pth_waits.specs.Waking.{has_come}
-use Rattle.pth_waits.specs.Dormant.{AreFoundPending, ArePending, FindsPending, IsDormant, StaysAway, StaysPending, after_now}
+use Rattle.pth_waits.specs.Dormant.{AreFoundPending, ArePending, FindsPending, IsDormant, IsUndue, StaysAway, StaysPending, after_now}
 use Rattle.pth_waits.proofs.Rounding.{ring_stays}
 use Rattle.pth_waits.proofs.Standing.{none_left}
-use Rattle.pth_waits.proofs.Waking.{wakes_in}
 
 neither : (a b c : Bool) → (a || b || c) ≡ false → (a ≡ false) × (b ≡ false) × (c ≡ false)
 neither true b c is = absurd (cc is)
@@ -53,18 +53,27 @@ pending_by Occurred is = absurd (cc is)
 pending_by Failed is = absurd (cc is)
 
 -- only main waits to be alone
-not_alone : (zero : Bool) (i : ℤ) → (if zero then AnyDeath else Death i) ≡ Alone → ⊥
-not_alone true i is = cc is
-not_alone false i is = cc is
+no_death : (zero : Bool) (i : ℤ) → Alone ≡ (if zero then AnyDeath else Death i) → ⊥
+no_death true i is = cc is
+no_death false i is = cc is
 
-alone_by : (t : ℕ) (c : Call) (m n : ℕ) → MayBlockAs t c → awaited_by c m n ≡ Alone → t ≡ main
-alone_by t (call.Exit v) m n may is = may
-alone_by t (call.Join i) m n may is = absurd (not_alone (is_zero i) i is)
-alone_by t c m n may is = absurd (cc is)
+alone_by : (t : ℕ) (c : Call) → MayAwaitAs t c Alone → t ≡ main
+alone_by t (call.Exit v) may = may.0
+alone_by t (call.Join i) may = absurd (no_death (is_zero i) i may)
+alone_by t (call.Wait e) may = absurd (cc may)
+alone_by t (call.Read f n) may = absurd (cc may)
+alone_by t (call.ReadEv f n e) may = absurd (cc may)
+alone_by t (call.Accept f) may = absurd (cc may)
+alone_by t (call.AcceptEv f e) may = absurd (cc may)
+alone_by t (call.Connect f) may = absurd (cc may)
+alone_by t (call.ConnectEv f e) may = absurd (cc may)
+alone_by t (call.MutexAcquire m v e) may = absurd (cc may)
+alone_by t (call.RwAcquire l write v e) may = absurd (cc may)
+alone_by t c may = absurd may
 
 main_waits : (t : ℕ) (o : Option Blocked) → IfSome o (λ b. MayBlock t b) → awaits_in o ≡ Alone → t ≡ main
 main_waits t None may is = absurd (cc is)
-main_waits t (Some b) may is = alone_by t b.call b.moment b.written may.call is
+main_waits t (Some b) may is = alone_by t b.call (subst (MayAwaitAs t b.call) is may)
 
 module _ {P S H : Type 0} (k : Control P S H) where
   same_now : (n : ℕ) → now_of k ≤ n → n < after_now k → now_of k ≡ n
@@ -99,19 +108,19 @@ module _ {P S H : Type 0} (f : P → Functions S H) (w : WorldOf P S H) (whole :
       let is : blocked_of k t ≡ (view w.threads u).blocked = ap blocked_in (progress_is w.threads k t u whole.sound stands st.control.threads) in
       subst (λ (o : Option Blocked). IfSome o (λ b. MayBlock t b)) (sym is) (blocked_may w t u whole stands)
 
-  away_now : (a : Awaits) → has_come (store_of w.store) k t a ≡ false → (a ≡ Alone → t ≡ main) → StaysAway (store_of w.store) k (after_now k) t a
+  away_now : (a : Awaits) → has_come s t a ≡ false → (a ≡ Alone → t ≡ main) → StaysAway s (after_now k) t a
   away_now Alone is alone = alone refl
   away_now AnyDeath is alone = none_left w whole k st.control is
   away_now Nothing is alone = λ n later early. refl
   away_now (Ring e) is alone = λ n later early. refl
-  away_now a is alone = λ n later early. subst (λ (m : ℕ). has_come (store_of w.store) (moves_to m k) t a ≡ false) (same_now k n later early) is
+  away_now a is alone = λ n later early. subst (λ (m : ℕ). has_come (controlled (moves_to m) s) t a ≡ false) (same_now k n later early) is
 
-  pub undue_dormant : is_to_wake f s t ≡ false → has_settled k.events (ring_held (blocked_of k t)) ≡ false → IsDormant (store_of w.store) k (after_now k) t
-  unfolding comes_for
-  undue_dormant undue settled =
-      let each = neither _ _ _ undue in
+  pub undue_dormant : IsUndue f s t → IsDormant s (after_now k) t
+  unfolding comes_for wakes
+  undue_dormant undue =
+      let each = neither _ _ _ undue.unwoken in
       record {
-        away = away_now (awaits_in (blocked_of k t)) (sym (wakes_in f w s st t) ∙ each.0) (main_waits t (blocked_of k t) may);
-        pending = pending_now k (ring_held (blocked_of k t)) settled each.1;
+        away = away_now (awaits_in (blocked_of k t)) each.0 (main_waits t (blocked_of k t) may);
+        pending = pending_now k (ring_held (blocked_of k t)) undue.unsettled each.1;
         unasked = each.2;
       }

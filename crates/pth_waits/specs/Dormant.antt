@@ -12,12 +12,12 @@ use Rattle.pth_model.specs.State.{Control, State, now_of, main}
 use Rattle.pth_model.specs.Awaits.{awaits_in}
 use Rattle.pth_model.specs.Cancellation.{may_be_canceled}
 use Rattle.pth_model.specs.Changes.{blocked_of, entry_of, moves_to, or_nobody}
+use Rattle.pth_model.specs.Coming.{has_come}
 use Rattle.pth_model.specs.Looks.{found}
-use Rattle.pth_model.specs.Resources.{Store}
 use Rattle.pth_model.specs.Pass.{is_to_wake}
 use Rattle.pth_model.specs.RingWaits.{awaited_events, has_settled, ring_held}
 use Rattle.pth_model.specs.ThreadControl.{is_dead_in}
-use Rattle.pth_waits.specs.Waking.{has_come}
+use Rattle.pth_model.specs.Transition.{controlled}
 
 -- the next arrival, or what is after the last moment
 abbrev pub bound : Option ℕ → ℕ
@@ -57,19 +57,19 @@ module _ {P S H : Type 0} (k : Control P S H) (until : ℕ) where
   abbrev pub ArePending : List ℕ → Type 0
   ArePending es = All (λ e. StaysPending (k.events.events e)) es
 
-module _ {P S H : Type 0} (x : Store) (k : Control P S H) (until : ℕ) where
+module _ {P S H : Type 0} (s : State P S H) (until : ℕ) where
   -- At each moment from now on and before that one, what t waits for has not come. Who waits for any death is told by the records
   -- of all threads. To be alone only main waits: whether it is, is told by no moment.
   abbrev pub StaysAway : ℕ → Awaits → Type 0
   StaysAway t Alone = t ≡ main
-  StaysAway t AnyDeath = (u : ℕ) → is_left_to_join (entry_of k u) ≡ false
-  StaysAway t a = (n : ℕ) → now_of k ≤ n → n < until → has_come x (moves_to n k) t a ≡ false
+  StaysAway t AnyDeath = (u : ℕ) → is_left_to_join (entry_of s.control u) ≡ false
+  StaysAway t a = (n : ℕ) → now_of s.control ≤ n → n < until → has_come (controlled (moves_to n) s) t a ≡ false
 
   -- t is not to wake before a moment, if nothing changes but time and who is alone, and a look at its ring changes nothing
   pub record IsDormant (t : ℕ) : Type 0 where
-    pub away : StaysAway t (awaits_in (blocked_of k t))
-    pub pending : ArePending k until (awaited_events k t)
-    pub unasked : may_be_canceled k t ≡ false
+    pub away : StaysAway t (awaits_in (blocked_of s.control t))
+    pub pending : ArePending s.control until (awaited_events s.control t)
+    pub unasked : may_be_canceled s.control t ≡ false
 
 module _ {P S H : Type 0} (f : P → Functions S H) (s : State P S H) where
   -- t is not to wake, and no event of its ring is settled

@@ -4,7 +4,7 @@ ghost use Rattle.std.specs.Prelude.{◌≡◌, ◌≢◌, Some, IfOk, OnOk, OnEr
 ghost use Rattle.pth_base.specs.Cut.{IsCut};
 ghost use Rattle.pth_base.specs.declared.call.Call.TheVariants.{CancelPoint};
 ghost use Rattle.pth_model.specs.Calls.{begun};
-ghost use Rattle.pth_model.specs.Cancellation.{is_point as is_point_call, is_to_cancel as is_to_cancel_by, may_be_canceled as may_be_canceled_in};
+ghost use Rattle.pth_model.specs.Cancellation.{is_point as is_point_wait, is_to_cancel as is_to_cancel_by, may_be_canceled as may_be_canceled_in};
 ghost use Rattle.pth_model.specs.Changes.{entry_of, or_nobody};
 ghost use Rattle.pth_model.specs.State.{Control, State};
 ghost use Rattle.pth_threads.specs.Threads.{tid_at};
@@ -15,7 +15,6 @@ ghost use Rattle.pth_world.specs.Shows.{Shows, StandsFor};
 ghost use Rattle.pth_world.specs.Sound.{IsSound};
 ghost use Rattle.pth_world.specs.Whole.{Whole};
 
-use crate::io::is_io;
 use pth_base::answer::Answer;
 use pth_base::call::Call;
 use pth_base::ids::{Slot, Tid};
@@ -24,6 +23,7 @@ use pth_base::memory::OutOfMemory;
 use pth_base::program::Program;
 use pth_end::answering::done;
 use pth_end::cancellation::{CANCELED, cancel_within};
+use pth_model::awaits::Awaits;
 use pth_model::cancel_states::is_enabled;
 use pth_model::next::Next;
 use pth_threads::entry::Entry;
@@ -36,17 +36,11 @@ fn is_to_cancel(it: &Entry) -> bool
     it.request && is_enabled(it.cancel)
 }
 
-// Whether a call is a cancellation point while it blocks its thread: all that block but pth_exit.
-fn is_point(call: &Call) -> bool
-    ensures { result ≡ is_point_call call.now }
+// Whether a wait is a cancellation point: each is one, but that of pth_exit.
+fn is_point(awaits: Awaits) -> bool
+    ensures { result ≡ is_point_wait awaits }
 {
-    match call {
-        Call::Join(_) => true,
-        Call::Wait(_) => true,
-        Call::Nap(_) | Call::Usleep(_) | Call::Sleep(_) => true,
-        Call::MutexAcquire { .. } | Call::RwAcquire { .. } => true,
-        _ => is_io(call),
-    }
+    !matches!(awaits, Awaits::Nothing | Awaits::Alone)
 }
 
 // The same of a thread by its number; false where there is none.
@@ -65,26 +59,16 @@ pub fn may_be_canceled<P: Program>(w: &World<P>, t: Tid) -> bool
     requires { Whole w.now }
     ensures { (k : Control P P.State P.Shared) → Shows w.now k → result ≡ may_be_canceled_in k t.0 }
 {
-    if !is_asked(w, t) {
-        return false;
-    }
-    match w.blocked(t) {
-        Some(blocked) => is_point(&blocked.call),
-        None => false,
-    }
+    is_asked(w, t) && is_point(w.awaited(t).what)
 }
 
-/// The same of the thread at a slot. Where it need not end, its record alone is read.
+/// The same of the thread at a slot.
 pub fn may_be_canceled_at<P: Program>(w: &World<P>, slot: Slot) -> bool
     requires whole { Whole w.now }
     requires used { tid_at w.now.threads.records slot.0 ≢ 0 }
     ensures { (k : Control P P.State P.Shared) → Shows w.now k → result ≡ may_be_canceled_in k (tid_at w.now.threads.records slot.0) }
 {
-    let it = w.entry_at(slot);
-    if !is_to_cancel(it) {
-        return false;
-    }
-    may_be_canceled(w, it.tid)
+    is_to_cancel(w.entry_at(slot)) && is_point(w.awaited_in(slot).what)
 }
 
 /// `pth_cancel_point`: the thread ends where it was asked to and lets itself be canceled. After an error the world may only be

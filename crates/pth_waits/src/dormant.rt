@@ -3,6 +3,7 @@
 ghost use Rattle.std.specs.Prelude.{◌≡◌, ◌≢◌, ◌<◌, ◌≤◌, ◌+◌, ℕ, false, if◌then◌else◌};
 ghost use Rattle.pth_base.specs.Limits.{last_moment};
 ghost use Rattle.pth_kernel.specs.Kernel.{advanced, kernel_of, next_time};
+ghost use Rattle.pth_model.specs.Coming.{descriptors_bring};
 ghost use Rattle.pth_model.specs.Looks.{found};
 ghost use Rattle.pth_model.specs.State.{Control, State, now_of};
 ghost use Rattle.pth_numbered.specs.Numbered.{number_at};
@@ -12,16 +13,15 @@ ghost use Rattle.pth_ring.specs.Ring.{Begins};
 ghost use Rattle.pth_ring.specs.declared.event.Status.TheVariants.{Pending};
 ghost use Rattle.pth_threads.specs.Threads.{tid_at};
 ghost use Rattle.pth_waits.specs.Dormant.{AreFoundPending, ArePending, IsDormant, IsFoundPending, IsUndue, StaysAway, after_now, bound, deadline_in};
-ghost use Rattle.pth_waits.specs.Io.{wakes_for};
 ghost use Rattle.pth_world.specs.Shows.{Shows, StandsFor};
-ghost use Rattle.pth_world.specs.Store.{store_of};
 ghost use Rattle.pth_world.specs.Whole.{MayAwait, Whole};
 
 use crate::cancellation::may_be_canceled_at;
 use crate::joins::{any_has_died, has_died};
-use crate::locking::{is_free_mutex, is_open_lock};
 use crate::looks::is_as_goals_say;
-use crate::trials::wakes_for;
+use crate::mutexes::is_free_mutex;
+use crate::rwlocks::is_open_lock;
+use crate::trials::descriptors_bring;
 use pth_base::ids::{FdSet, MAIN, Micros, Slot};
 use pth_base::limits::LAST_MOMENT;
 use pth_base::program::Program;
@@ -80,10 +80,10 @@ fn deadline_of(awaits: Awaits) -> Micros
 // Until when a thread does not have what it waits for at descriptors.
 fn descriptors_until(k: &Kernel, awaits: Awaits) -> Micros
     requires may { MayAwait awaits }
-    ensures away { (n : ℕ) → k.now.now ≤ n → n < result → wakes_for (advanced n (kernel_of k.now)) awaits ≡ false }
-    ensures later { wakes_for (kernel_of k.now) awaits ≡ false → k.now.now < result }
+    ensures away { (n : ℕ) → k.now.now ≤ n → n < result → descriptors_bring (advanced n (kernel_of k.now)) awaits ≡ false }
+    ensures later { descriptors_bring (kernel_of k.now) awaits ≡ false → k.now.now < result }
 {
-    if wakes_for(k, awaits) {
+    if descriptors_bring(k, awaits) {
         return 0;
     }
     next_arrival(k).min(deadline_of(awaits))
@@ -94,8 +94,8 @@ fn awaits_until<P: Program>(w: &World<P>, slot: Slot, awaits: Awaits) -> Micros
     requires whole { Whole w.now }
     requires used { tid_at w.now.threads.records slot.0 ≢ 0 }
     requires may { MayAwait awaits }
-    ensures away { (k : Control P P.State P.Shared) → Shows w.now k → 0 < result → StaysAway (store_of w.now.store) k result (tid_at w.now.threads.records slot.0) awaits }
-    ensures later { (k : Control P P.State P.Shared) → Shows w.now k → StaysAway (store_of w.now.store) k (after_now k) (tid_at w.now.threads.records slot.0) awaits → now_of k < result }
+    ensures away { (s : State P P.State P.Shared) → StandsFor w.now s → 0 < result → StaysAway s result (tid_at w.now.threads.records slot.0) awaits }
+    ensures later { (s : State P P.State P.Shared) → StandsFor w.now s → StaysAway s (after_now s.control) (tid_at w.now.threads.records slot.0) awaits → now_of s.control < result }
 {
     match awaits {
         Awaits::Nothing => never(w),
@@ -188,8 +188,8 @@ fn ring_until<P: Program>(w: &World<P>, e: i64) -> Micros
 pub fn dormant_until<P: Program>(w: &World<P>, slot: Slot) -> Micros
     requires whole { Whole w.now }
     requires used { tid_at w.now.threads.records slot.0 ≢ 0 }
-    ensures dormant { (k : Control P P.State P.Shared) → Shows w.now k → 0 < result → IsDormant (store_of w.now.store) k result (tid_at w.now.threads.records slot.0) }
-    ensures later { (k : Control P P.State P.Shared) → Shows w.now k → IsDormant (store_of w.now.store) k (after_now k) (tid_at w.now.threads.records slot.0) → now_of k < result }
+    ensures dormant { (s : State P P.State P.Shared) → StandsFor w.now s → 0 < result → IsDormant s result (tid_at w.now.threads.records slot.0) }
+    ensures later { (s : State P P.State P.Shared) → StandsFor w.now s → IsDormant s (after_now s.control) (tid_at w.now.threads.records slot.0) → now_of s.control < result }
     ensures told { (s : State P P.State P.Shared) → StandsFor w.now s → IsUndue P.functions s (tid_at w.now.threads.records slot.0) → now_of s.control < result }
 {
     if may_be_canceled_at(w, slot) {

@@ -1,40 +1,32 @@
 //! Joining: `pth_join`.
 
-ghost use Rattle.std.specs.Prelude.{◌≡◌, ℕ, false, Some, None, IfOk, IfSome, IsSome, OnOk, OnErr, option_map};
-ghost use Rattle.pth_base.specs.Cut.{IsCut};
+ghost use Rattle.std.specs.Prelude.{◌≡◌, ℤ, false, Some, IfSome, option_map};
 ghost use Rattle.pth_base.specs.declared.call.Call.TheVariants.{Join};
-ghost use Rattle.pth_model.specs.Calls.{begun, tried_again};
-ghost use Rattle.pth_model.specs.Changes.{blocked_of};
-ghost use Rattle.pth_model.specs.Row.{effect_of};
-ghost use Rattle.pth_model.specs.Transition.{silent};
+ghost use Rattle.pth_model.specs.Awaits.{death_of};
+ghost use Rattle.pth_model.specs.declared.awaits.Awaits.{Awaits as AwaitsOf};
 ghost use Rattle.pth_model.specs.State.{Control, State};
 ghost use Rattle.pth_model.specs.ThreadControl.{first_of, joinable_dead, to_join as to_join_now, joined, join_attempt};
 ghost use Rattle.pth_waits.specs.Attempts.{refused_or};
-ghost use Rattle.pth_waits.specs.Waking.{has_any_died, has_died as has_died_in};
+ghost use Rattle.pth_model.specs.Coming.{has_any_died, has_died as has_died_in};
 ghost use Rattle.pth_base.specs.declared.answer.Answer.TheVariants.{Int};
 ghost use Rattle.pth_model.specs.Changes.{removes, entry_of, or_nobody};
-ghost use Rattle.pth_model.specs.Verdict.{Says, said_or, waits};
-ghost use Rattle.pth_world.specs.Frame.{Frame, runs_after, yields_after};
-ghost use Rattle.pth_world.specs.Leading.{Leads, Changed};
+ghost use Rattle.pth_model.specs.declared.verdict.Verdict.TheVariants.{Says};
+ghost use Rattle.pth_world.specs.Frame.{Frame};
+ghost use Rattle.pth_world.specs.Leading.{Tries};
 ghost use Rattle.pth_world.specs.Numbering.{no_numbers};
 ghost use Rattle.pth_world.specs.Shows.{Shows, StandsFor};
 ghost use Rattle.pth_world.specs.Sound.{IsSound, IsKnown};
-ghost use Rattle.pth_world.specs.Whole.{Whole, IsIn, MayBlock};
+ghost use Rattle.pth_world.specs.Whole.{Whole, IsIn};
 ghost use Rattle.pth_threads.specs.Threads.{number_of};
 ghost use Rattle.pth_queue.specs.declared.queue.Queue.TheVariants as queue;
 
-use crate::blocks::{answer_blocked, block};
 use pth_base::answer::Answer;
-use pth_base::call::Call;
 use pth_base::errno::Errno;
 use pth_base::ids::Tid;
-use pth_base::mark::Mark;
-use pth_base::marks::Marks;
-use pth_base::memory::OutOfMemory;
 use pth_base::program::Program;
-use pth_end::answering::done;
+use pth_model::awaits::Awaits;
 use pth_model::living::is_dead;
-use pth_model::next::Next;
+use pth_model::verdict::Verdict;
 use pth_queue::queue::Queue;
 use pth_world::world::World;
 
@@ -92,7 +84,7 @@ fn to_join<P: Program>(w: &World<P>, n: i64) -> Option<Tid>
 // is not joinable.
 fn refusal<P: Program>(w: &World<P>, t: Tid, n: i64) -> Option<Errno>
     requires { Whole w.now }
-    ensures { (s : State P P.State P.Shared) → StandsFor w.now s → (join_attempt s t.0 n).verdict ≡ refused_or result (joined s.control (to_join_now s.control n)) }
+    ensures { (s : State P P.State P.Shared) → StandsFor w.now s → (join_attempt s t.0 n).verdict ≡ refused_or result (joined s.control n (to_join_now s.control n)) }
 {
     if n == i64::from(t.0) {
         return Some(Errno::EDEADLK);
@@ -121,7 +113,7 @@ fn take<P: Program>(w: &mut World<P>, other: Tid) -> i64
     requires whole { Whole w.old }
     requires known { IsKnown w.old.threads other.0 }
     requires dead { IsIn queue.Dead w.old.threads other.0 }
-    ensures value { (k : Control P P.State P.Shared) → Shows w.old k → joined k (Some other.0) ≡ Says (Int result) }
+    ensures value { (k : Control P P.State P.Shared) (n : ℤ) → Shows w.old k → joined k n (Some other.0) ≡ Says (Int result) }
     ensures shows { (k : Control P P.State P.Shared) → Shows w.old k → Shows w.new (removes other.0 k) }
     ensures store { w.new.store ≡ w.old.store }
     ensures frame { Frame w.old w.new no_numbers w.old.scheduler.running false }
@@ -134,77 +126,32 @@ fn take<P: Program>(w: &mut World<P>, other: Tid) -> i64
     value
 }
 
-// The answer of an attempt to join: a refusal, or the value of the thread that it takes. None where the join waits.
-fn attempt<P: Program>(w: &mut World<P>, t: Tid, n: i64) -> Option<Answer>
+// What a join waits for: the death of the thread that is named, and for 0 that of any.
+fn death_of(n: i64) -> Awaits
+    ensures { result ≡ death_of n }
+{
+    if n == 0 {
+        Awaits::AnyDeath
+    } else {
+        Awaits::Death(n)
+    }
+}
+
+/// `pth_join`, as it begins and as it is tried again: it waits until the thread is dead, takes it out of the system, and is answered
+/// with its value.
+pub(crate) fn join<P: Program>(w: &mut World<P>, t: Tid, n: i64) -> Verdict
     requires whole { Whole w.old }
     requires runs { w.old.scheduler.running ≡ Some t.0 }
-    ensures verdict { (s : State P P.State P.Shared) → StandsFor w.old s → (join_attempt s t.0 n).verdict ≡ said_or result waits }
-    ensures effect { (s : State P P.State P.Shared) → StandsFor w.old s → Changed w.new (effect_of (join_attempt s t.0 n) s) }
-    ensures waits { result ≡ None → (s : State P P.State P.Shared) → StandsFor w.old s → effect_of (join_attempt s t.0 n) s ≡ silent s }
-    ensures frame { Frame w.old w.new no_numbers (Some t.0) false }
+    ensures tries { (a : AwaitsOf) → Tries w.old w.new t.0 (record { call = Join n; awaits = a }) (λ (s : State P P.State P.Shared). join_attempt s t.0 n) result }
+    ensures frame { Frame w.old w.new no_numbers w.old.scheduler.running false }
 {
     if let Some(errno) = refusal(w, t, n) {
-        return Some(Answer::Fail(errno));
+        return Verdict::Says(Answer::Fail(errno));
     }
     match to_join(w, n) {
-        Some(other) => Some(Answer::Int(take(w, other))),
-        None => None,
+        Some(other) => Verdict::Says(Answer::Int(take(w, other))),
+        None => Verdict::Blocks(death_of(n)),
     }
-}
-
-/// `pth_join`: waits until the thread is dead, and takes it out of the system. After an error the world may only be dropped.
-pub fn begin_join<P: Program>(
-    w: &mut World<P>,
-    t: Tid,
-    call: Call,
-    n: i64,
-    marks: &mut Marks,
-) -> Result<Next, OutOfMemory>
-    requires whole { Whole w.old }
-    requires runs { w.old.scheduler.running ≡ Some t.0 }
-    requires call { call ≡ Join n }
-    ensures next { IfOk result (λ n. (s : State P P.State P.Shared) → StandsFor w.old s → n ≡ (begun P.functions t.0 call s).next) }
-    ensures ok { OnOk result ((s : State P P.State P.Shared) → StandsFor w.old s → Leads w.new marks.old marks.new (begun P.functions t.0 call s).told) }
-    ensures err { OnErr result ((s : State P P.State P.Shared) → StandsFor w.old s → IsCut marks.old marks.new (begun P.functions t.0 call s).told.marks) }
-    ensures frame { IfOk result (λ n. Frame w.old w.new no_numbers (runs_after t.0 n) (yields_after n)) }
-{
-    let answer = match attempt(w, t, n) {
-        Some(answer) => answer,
-        None => {
-            block(w, t, call, 0, 0, marks)?;
-            return Ok(Next::Waits);
-        }
-    };
-    done(t, &call, answer, marks)
-}
-
-/// A join, tried again. After an error the world may only be dropped.
-pub fn join_again<P: Program>(
-    w: &mut World<P>,
-    t: Tid,
-    n: i64,
-    marks: &mut Marks,
-) -> Result<Next, OutOfMemory>
-    requires whole { Whole w.old }
-    requires runs { w.old.scheduler.running ≡ Some t.0 }
-    requires blocked { (k : Control P P.State P.Shared) → Shows w.old k → IfSome (blocked_of k t.0) (λ b. (b.call ≡ Join n) × MayBlock t.0 b) }
-    requires some { (k : Control P P.State P.Shared) → Shows w.old k → IsSome (blocked_of k t.0) }
-    ensures next { IfOk result (λ n. (s : State P P.State P.Shared) → StandsFor w.old s → n ≡ (tried_again P.functions t.0 s).next) }
-    ensures ok { OnOk result ((s : State P P.State P.Shared) → StandsFor w.old s → Leads w.new marks.old marks.new (tried_again P.functions t.0 s).told) }
-    ensures err { OnErr result ((s : State P P.State P.Shared) → StandsFor w.old s → IsCut marks.old marks.new (tried_again P.functions t.0 s).told.marks) }
-    ensures frame { IfOk result (λ n. Frame w.old w.new no_numbers (runs_after t.0 n) (yields_after n)) }
-{
-    let answer = match attempt(w, t, n) {
-        Some(answer) => answer,
-        None => {
-            marks.push(Mark::Waits {
-                tid: t,
-                call: Call::Join(n),
-            })?;
-            return Ok(Next::Waits);
-        }
-    };
-    answer_blocked(w, t, &Call::Join(n), answer, marks)
 }
 
 /// Whether the thread that a join names has died, or can be joined no longer.

@@ -10,17 +10,21 @@
 //! has come, one of these events is not pending, or it may be canceled.
 #![tactic(auto)]
 
-pub mod blocks;
+pub mod attempts;
+mod blocks;
 pub mod cancellation;
 pub mod dormant;
 pub mod io;
 pub mod joins;
 pub mod library_ends;
-pub mod locking;
+mod locking;
 pub mod looks;
+pub mod mutexes;
 pub mod rests;
 pub mod resume;
 pub mod ring_waits;
+pub mod rwlocks;
 pub mod thread_ends;
 mod trials;
+pub mod verdicts;
 pub mod wakes;

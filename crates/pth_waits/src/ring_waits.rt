@@ -1,77 +1,109 @@
-//! Waiting for the events of a ring: `pth_wait`.
+//! Waiting for the events of a ring: `pth_wait`, and the rings that other calls were given beside what else they wait for.
 
-ghost use Rattle.std.specs.Prelude.{◌≡◌, Some, IfOk, IfSome, IsSome, OnOk, OnErr};
-ghost use Rattle.pth_base.specs.Cut.{IsCut};
+ghost use Rattle.std.specs.Prelude.{◌≡◌, false, Some, Ok, Err, OnOk, OnErr, if◌then◌else◌};
+ghost use Rattle.pth_base.specs.declared.call.Call.{Call};
 ghost use Rattle.pth_base.specs.declared.call.Call.TheVariants.{Wait};
-ghost use Rattle.pth_model.specs.Calls.{begun, tried_again};
-ghost use Rattle.pth_model.specs.Changes.{blocked_of};
+ghost use Rattle.pth_base.specs.declared.errno.Errno.TheVariants.{EBUSY};
+ghost use Rattle.pth_model.specs.EventHandling.{wait};
+ghost use Rattle.pth_model.specs.RingWaits.{claims, has_settled, is_claimed_ring, is_no_ring};
 ghost use Rattle.pth_model.specs.State.{Control, State};
-ghost use Rattle.pth_world.specs.Frame.{Frame, runs_after, yields_after};
-ghost use Rattle.pth_world.specs.Leading.{Leads};
+ghost use Rattle.pth_model.specs.Verdict.{refused, ◌when◌otherwise◌};
+ghost use Rattle.pth_model.specs.declared.awaits.Awaits.{Awaits};
+ghost use Rattle.pth_model.specs.declared.verdict.Verdict.TheVariants.{Blocks};
+ghost use Rattle.pth_ring.specs.Arena.{events_of};
+ghost use Rattle.pth_world.specs.Frame.{Frame};
+ghost use Rattle.pth_world.specs.Leading.{Attempts, IsReady, Tries};
 ghost use Rattle.pth_world.specs.Numbering.{no_numbers};
 ghost use Rattle.pth_world.specs.Shows.{Shows, StandsFor};
-ghost use Rattle.pth_world.specs.Whole.{Whole, MayBlock};
+ghost use Rattle.pth_world.specs.Whole.{Whole};
 
-use crate::blocks::{answer_blocked, block};
 use pth_base::answer::Answer;
-use pth_base::call::Call;
+use pth_base::errno::Errno;
 use pth_base::ids::Tid;
-use pth_base::mark::Mark;
-use pth_base::marks::Marks;
-use pth_base::memory::OutOfMemory;
 use pth_base::program::Program;
-use pth_end::answering::done;
-use pth_model::next::Next;
+use pth_model::awaits::Awaits;
+use pth_model::verdict::Verdict;
+use pth_ring::rings::Rings;
 use pth_world::world::World;
 
-/// `pth_wait`: claims the ring of an event, and waits until an event of it is not pending, also where one was found before.
-/// EINVAL where there is no such event, and EBUSY where its ring is claimed. After an error the world may only be dropped.
-pub fn begin_wait<P: Program>(
-    w: &mut World<P>,
-    t: Tid,
-    call: Call,
-    e: i64,
-    marks: &mut Marks,
-) -> Result<Next, OutOfMemory>
-    requires whole { Whole w.old }
-    requires runs { w.old.scheduler.running ≡ Some t.0 }
-    requires call { call ≡ Wait e }
-    ensures next { IfOk result (λ n. (s : State P P.State P.Shared) → StandsFor w.old s → n ≡ (begun P.functions t.0 call s).next) }
-    ensures ok { OnOk result ((s : State P P.State P.Shared) → StandsFor w.old s → Leads w.new marks.old marks.new (begun P.functions t.0 call s).told) }
-    ensures err { OnErr result ((s : State P P.State P.Shared) → StandsFor w.old s → IsCut marks.old marks.new (begun P.functions t.0 call s).told.marks) }
-    ensures frame { IfOk result (λ n. Frame w.old w.new no_numbers (runs_after t.0 n) (yields_after n)) }
+/// Whether an event that a call was given is none.
+pub(crate) fn is_no_ring<P: Program>(w: &World<P>, ring: Option<i64>) -> bool
+    ensures { (s : State P P.State P.Shared) → StandsFor w.now s → result ≡ is_no_ring s ring }
 {
-    if let Err(errno) = w.claim(t, e) {
-        return done(t, &call, Answer::Fail(errno), marks);
+    match ring {
+        Some(e) => w.rings().find(e).is_none(),
+        None => false,
     }
-    block(w, t, call, 0, 0, marks)?;
-    Ok(Next::Waits)
 }
 
-/// A wait for a ring, tried again: answered with the number of the events of the ring that are not pending, where there are any.
-/// After an error the world may only be dropped.
-pub fn wait_again<P: Program>(
+/// Whether an event of a ring is not pending.
+pub(crate) fn has_settled(rings: &Rings, ring: Option<i64>) -> bool
+    ensures { result ≡ has_settled (events_of rings.now) ring }
+{
+    match ring {
+        Some(e) => rings.settled(e) > 0,
+        None => false,
+    }
+}
+
+/// Claims the ring that a call was given, if any: EBUSY if it is claimed.
+pub(crate) fn claim_given<P: Program>(
     w: &mut World<P>,
     t: Tid,
-    e: i64,
-    marks: &mut Marks,
-) -> Result<Next, OutOfMemory>
-    requires whole { Whole w.old }
-    requires runs { w.old.scheduler.running ≡ Some t.0 }
-    requires blocked { (k : Control P P.State P.Shared) → Shows w.old k → IfSome (blocked_of k t.0) (λ b. (b.call ≡ Wait e) × MayBlock t.0 b) }
-    requires some { (k : Control P P.State P.Shared) → Shows w.old k → IsSome (blocked_of k t.0) }
-    ensures next { IfOk result (λ n. (s : State P P.State P.Shared) → StandsFor w.old s → n ≡ (tried_again P.functions t.0 s).next) }
-    ensures ok { OnOk result ((s : State P P.State P.Shared) → StandsFor w.old s → Leads w.new marks.old marks.new (tried_again P.functions t.0 s).told) }
-    ensures err { OnErr result ((s : State P P.State P.Shared) → StandsFor w.old s → IsCut marks.old marks.new (tried_again P.functions t.0 s).told.marks) }
-    ensures frame { IfOk result (λ n. Frame w.old w.new no_numbers (runs_after t.0 n) (yields_after n)) }
+    ring: Option<i64>,
+) -> Result<(), Errno>
+    requires { Whole w.old }
+    ensures answer { (s : State P P.State P.Shared) → StandsFor w.old s → is_no_ring s ring ≡ false → result ≡ (if is_claimed_ring s ring then Err EBUSY else Ok tt) }
+    ensures shows { OnOk result ((k : Control P P.State P.Shared) → Shows w.old k → Shows w.new (claims t.0 ring k)) }
+    ensures store { w.new.store ≡ w.old.store }
+    ensures refused { OnErr result (w.new ≡ w.old) }
+    ensures frame { Frame w.old w.new no_numbers w.old.scheduler.running false }
 {
-    let come = w.rings().settled(e);
-    if come == 0 {
-        marks.push(Mark::Waits {
-            tid: t,
-            call: Call::Wait(e),
-        })?;
-        return Ok(Next::Waits);
+    match ring {
+        Some(e) => w.claim(t, e),
+        None => Ok(()),
     }
-    answer_blocked(w, t, &Call::Wait(e), Answer::Int(i64::from(come)), marks)
+}
+
+/// What a call that is to wait comes to: it claims the ring that it was given, and waits; EBUSY if the ring is claimed.
+pub(crate) fn wait_beside<P: Program>(
+    w: &mut World<P>,
+    t: Tid,
+    ring: Option<i64>,
+    awaits: Awaits,
+) -> Verdict
+    requires { Whole w.old }
+    ensures verdict { (s : State P P.State P.Shared) → StandsFor w.old s → is_no_ring s ring ≡ false → (refused EBUSY when is_claimed_ring s ring otherwise Blocks awaits) ≡ result }
+    ensures ready { (c : Call) (s : State P P.State P.Shared) → StandsFor w.old s → IsReady w.new t.0 c ring result s }
+    ensures frame { Frame w.old w.new no_numbers w.old.scheduler.running false }
+{
+    match claim_given(w, t, ring) {
+        Ok(()) => Verdict::Blocks(awaits),
+        Err(errno) => Verdict::Says(Answer::Fail(errno)),
+    }
+}
+
+/// `pth_wait`: claims the ring of an event, and waits until an event of it is not pending, also if one was found before. EINVAL if
+/// there is no such event, and EBUSY if its ring is claimed.
+pub(crate) fn wait<P: Program>(w: &mut World<P>, t: Tid, e: i64) -> Verdict
+    requires whole { Whole w.old }
+    ensures attempts { Attempts w.old w.new t.0 (Wait e) (Some e) (λ (s : State P P.State P.Shared). (wait s e).begin) result }
+    ensures frame { Frame w.old w.new no_numbers w.old.scheduler.running false }
+{
+    match w.claim(t, e) {
+        Ok(()) => Verdict::Blocks(Awaits::Ring(e)),
+        Err(errno) => Verdict::Says(Answer::Fail(errno)),
+    }
+}
+
+/// Such a wait, tried again: answered with the number of the events of the ring that are not pending, if there are any.
+pub(crate) fn wait_again<P: Program>(w: &World<P>, t: Tid, e: i64) -> Verdict
+    ensures tries { (a : Awaits) → Tries w.now w.now t.0 (record { call = Wait e; awaits = a }) (λ (s : State P P.State P.Shared). (wait s e).again a) result }
+{
+    let settled = w.rings().settled(e);
+    if settled > 0 {
+        Verdict::Says(Answer::Int(i64::from(settled)))
+    } else {
+        Verdict::Blocks(Awaits::Ring(e))
+    }
 }

@@ -7,16 +7,16 @@ ghost use Rattle.pth_model.specs.Pass.{comes_for, is_to_wake};
 ghost use Rattle.pth_model.specs.RingWaits.{awaited_events};
 ghost use Rattle.pth_model.specs.State.{Control, State};
 ghost use Rattle.pth_threads.specs.Threads.{tid_at};
-ghost use Rattle.pth_waits.specs.Waking.{has_any_died, has_come};
+ghost use Rattle.pth_model.specs.Coming.{has_any_died, has_come};
 ghost use Rattle.pth_world.specs.Shows.{Shows, StandsFor};
-ghost use Rattle.pth_world.specs.Store.{store_of};
 ghost use Rattle.pth_world.specs.Whole.{Whole, MayAwait};
 
 use crate::cancellation::may_be_canceled_at;
 use crate::joins::{any_has_died, has_died};
-use crate::locking::{is_free_mutex, is_open_lock};
 use crate::looks::look_at_ring;
-use crate::trials::wakes_for;
+use crate::mutexes::is_free_mutex;
+use crate::rwlocks::is_open_lock;
+use crate::trials::descriptors_bring;
 use pth_base::ids::{Slot, Tid};
 use pth_base::program::Program;
 use pth_model::awaits::Awaits;
@@ -28,7 +28,7 @@ fn has_come<P: Program>(w: &World<P>, slot: Slot, awaits: Awaits, any_dead: bool
     requires used { tid_at w.now.threads.records slot.0 ≢ 0 }
     requires dead { (k : Control P P.State P.Shared) → Shows w.now k → any_dead ≡ has_any_died k }
     requires may { MayAwait awaits }
-    ensures { (k : Control P P.State P.Shared) → Shows w.now k → result ≡ has_come (store_of w.now.store) k (tid_at w.now.threads.records slot.0) awaits }
+    ensures { (s : State P P.State P.Shared) → StandsFor w.now s → result ≡ has_come s (tid_at w.now.threads.records slot.0) awaits }
 {
     match awaits {
         Awaits::Nothing => false,
@@ -39,14 +39,15 @@ fn has_come<P: Program>(w: &World<P>, slot: Slot, awaits: Awaits, any_dead: bool
         Awaits::Ring(_) => false,
         Awaits::Mutex(m) => is_free_mutex(w, m),
         Awaits::Lock { l, write } => is_open_lock(w, l, write),
-        _ => wakes_for(w.kernel(), awaits),
+        _ => descriptors_bring(w.kernel(), awaits),
     }
 }
 
-/// Whether the call that blocks a thread has what it waits for; false if no call blocks it.
+/// Whether the call that blocks a thread has what it waits for; false if no call blocks it. The events of a ring are not asked, so
+/// it is false of every `pth_wait`: they are told as they are looked at (`is_to_wake`).
 pub fn wakes<P: Program>(w: &World<P>, t: Tid) -> bool
     requires { Whole w.now }
-    ensures { (s : State P P.State P.Shared) → StandsFor w.now s → result ≡ wakes P.functions t.0 s }
+    ensures { (s : State P P.State P.Shared) → StandsFor w.now s → result ≡ wakes t.0 s }
 {
     match w.threads().find(t) {
         Some(slot) => has_come(w, slot, w.awaited_in(slot).what, any_has_died(w)),
@@ -61,7 +62,7 @@ fn has_come_for<P: Program>(w: &mut World<P>, slot: Slot, any_dead: bool) -> boo
     requires used { tid_at w.old.threads.records slot.0 ≢ 0 }
     requires dead { (k : Control P P.State P.Shared) → Shows w.old k → any_dead ≡ has_any_died k }
     ensures shows { (k : Control P P.State P.Shared) → Shows w.old k → Shows w.new (looks_at k (awaited_events k (tid_at w.old.threads.records slot.0))) }
-    ensures wakes { (s : State P P.State P.Shared) → StandsFor w.old s → result ≡ (wakes P.functions (tid_at w.old.threads.records slot.0) s || comes_for s.control (tid_at w.old.threads.records slot.0)) }
+    ensures wakes { (s : State P P.State P.Shared) → StandsFor w.old s → result ≡ (wakes (tid_at w.old.threads.records slot.0) s || comes_for s.control (tid_at w.old.threads.records slot.0)) }
     ensures made { w.new.events.made ≡ w.old.events.made }
     ensures same { w.new ≡ record w.old { events = w.new.events } }
 {

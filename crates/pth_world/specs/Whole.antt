@@ -1,8 +1,9 @@
 -- What holds of every world between two calls, and of each thread but one while that thread is changed.
-use Rattle.std.specs.Prelude.{◌≡◌, ◌≢◌, ◌≤◌, ◌<◌, ◌^◌, ℕ, length, Bool, true, false, Option, Some, None, IfSome}
+use Rattle.std.specs.Prelude.{◌≡◌, ◌≢◌, ◌≤◌, ◌<◌, ◌^◌, ℕ, ℤ, length, Bool, true, false, Option, Some, None, IfSome}
 use Rattle.pth_base.specs.Limits.{last_moment}
 use Rattle.pth_base.specs.Table.{table}
 use Rattle.pth_base.specs.declared.call.Call.{Call}
+use Rattle.pth_base.specs.declared.ids.FdSet.{FdSet}
 use Rattle.pth_base.specs.declared.call.Call.TheVariants as call
 use Rattle.pth_base.specs.declared.thread.ThreadState.{ThreadState}
 use Rattle.pth_base.specs.declared.thread.ThreadState.TheVariants as state
@@ -12,10 +13,9 @@ use Rattle.pth_queue.specs.declared.queue.Queue.TheVariants as queue
 use Rattle.pth_threads.specs.Threads.{slot_of, tid_at, entry_at}
 use Rattle.pth_threads.specs.declared.entry.Entry.{Entry}
 use Rattle.pth_model.specs.declared.awaits.Awaits.{Awaits}
-use Rattle.pth_model.specs.declared.awaits.Awaits.TheVariants.{Writing}
+use Rattle.pth_model.specs.declared.awaits.Awaits.TheVariants.{Alone, Moment, Ring, Reading, Writing, Connection, ConnectAnswer, Selection, Mutex, Lock}
 use Rattle.pth_model.specs.declared.blocked.Blocked.{Blocked}
-use Rattle.pth_model.specs.declared.blocked.Retake.{Retake}
-use Rattle.pth_model.specs.declared.blocked.Retake.TheVariants as retake
+use Rattle.pth_model.specs.Awaits.{death_of}
 use Rattle.pth_model.specs.State.{main}
 use Rattle.pth_model.specs.Changes.{blocked_in, queue_for}
 use Rattle.pth_world.specs.Store.{store_of, HasNothing}
@@ -36,61 +36,54 @@ abbrev pub place_for : ThreadState → Bool → Option Queue
 place_for state true = Some queue.Suspended
 place_for state false = queue_for state
 
--- the call takes no mutex back
-abbrev pub TakesNothingBack : Retake → Type 0
-TakesNothingBack retake.No = Unit {0}
-TakesNothingBack r = ⊥
+-- a wait for a moment, which is not after the last
+abbrev pub IsMoment : Awaits → Type 0
+IsMoment (Moment m) = m ≤ last_moment
+IsMoment a = ⊥
 
--- which calls block which threads: of those that are built, main's exit, every join, and the calls that wait for a moment, for a
--- ring, for a descriptor, for a mutex or for a lock
-abbrev pub MayBlockAs : ℕ → Call → Type 0
-MayBlockAs t (call.Exit v) = t ≡ main
-MayBlockAs t (call.Join n) = Unit {0}
-MayBlockAs t (call.Nap n) = Unit {0}
-MayBlockAs t (call.Usleep n) = Unit {0}
-MayBlockAs t (call.Sleep n) = Unit {0}
-MayBlockAs t (call.Wait e) = Unit {0}
-MayBlockAs t (call.Read f n) = Unit {0}
-MayBlockAs t (call.ReadEv f n e) = Unit {0}
-MayBlockAs t (call.Write f bytes) = Unit {0}
-MayBlockAs t (call.WriteEv f bytes e) = Unit {0}
-MayBlockAs t (call.Accept f) = Unit {0}
-MayBlockAs t (call.AcceptEv f e) = Unit {0}
-MayBlockAs t (call.Connect f) = Unit {0}
-MayBlockAs t (call.ConnectEv f e) = Unit {0}
-MayBlockAs t (call.Select r w x l) = Unit {0}
-MayBlockAs t (call.SelectEv r w x l e) = Unit {0}
-MayBlockAs t (call.MutexAcquire m v e) = Unit {0}
-MayBlockAs t (call.RwAcquire l write v e) = Unit {0}
-MayBlockAs t c = ⊥
+-- a write of so many bytes, of which not more than these are written
+abbrev pub IsWriting : ℤ → ℕ → Awaits → Type 0
+IsWriting f n (Writing g total written) = (g ≡ f) × (total ≡ n) × (written ≤ total) × (total < 2 ^ 63)
+IsWriting f n a = ⊥
 
--- until which moment a call blocks its thread: none, but for those that wait for one, which is not after the last
-abbrev pub MayWaitUntil : Call → ℕ → Type 0
-MayWaitUntil (call.Nap n) m = m ≤ last_moment
-MayWaitUntil (call.Usleep n) m = m ≤ last_moment
-MayWaitUntil (call.Sleep n) m = m ≤ last_moment
-MayWaitUntil (call.Select r w x l) m = m ≤ last_moment
-MayWaitUntil (call.SelectEv r w x l e) m = m ≤ last_moment
-MayWaitUntil c m = m ≡ 0
+-- a select of these sets, whose deadline is not after the last moment
+abbrev pub IsSelection : (r w x : FdSet) → Awaits → Type 0
+IsSelection r w x (Selection a b c deadline) = (a ≡ r) × (b ≡ w) × (c ≡ x) × IfSome deadline (λ m. m ≤ last_moment)
+IsSelection r w x a = ⊥
 
--- how many bytes a call has written that blocks its thread: none, but for a write
-abbrev pub MayHaveWritten : Call → ℕ → Type 0
-MayHaveWritten (call.Write f bytes) n = (n ≤ length bytes) × (length bytes < 2 ^ 63)
-MayHaveWritten (call.WriteEv f bytes e) n = (n ≤ length bytes) × (length bytes < 2 ^ 63)
-MayHaveWritten c n = n ≡ 0
+-- What a call that blocks thread t waits for. Of those that are built, these block it: main's exit, every join, and the calls that wait
+-- for a moment, for a ring, for a descriptor, for a mutex or for a lock.
+abbrev pub MayAwaitAs : ℕ → Call → Awaits → Type 0
+MayAwaitAs t (call.Exit v) a = (t ≡ main) × (a ≡ Alone)
+MayAwaitAs t (call.Join n) a = a ≡ death_of n
+MayAwaitAs t (call.Nap n) a = IsMoment a
+MayAwaitAs t (call.Usleep n) a = IsMoment a
+MayAwaitAs t (call.Sleep n) a = IsMoment a
+MayAwaitAs t (call.Wait e) a = a ≡ Ring e
+MayAwaitAs t (call.Read f n) a = a ≡ Reading f n
+MayAwaitAs t (call.ReadEv f n e) a = a ≡ Reading f n
+MayAwaitAs t (call.Write f bytes) a = IsWriting f (length bytes) a
+MayAwaitAs t (call.WriteEv f bytes e) a = IsWriting f (length bytes) a
+MayAwaitAs t (call.Accept f) a = a ≡ Connection f
+MayAwaitAs t (call.AcceptEv f e) a = a ≡ Connection f
+MayAwaitAs t (call.Connect f) a = a ≡ ConnectAnswer f
+MayAwaitAs t (call.ConnectEv f e) a = a ≡ ConnectAnswer f
+MayAwaitAs t (call.Select r w x l) a = IsSelection r w x a
+MayAwaitAs t (call.SelectEv r w x l e) a = IsSelection r w x a
+MayAwaitAs t (call.MutexAcquire m v e) a = a ≡ Mutex m
+MayAwaitAs t (call.RwAcquire l write v e) a = a ≡ Lock l write
+MayAwaitAs t c a = ⊥
 
--- what a thread waits for where so much was written: of a write not more than its bytes
+-- so a call may block thread t
+abbrev pub MayBlock : ℕ → Blocked → Type 0
+MayBlock t b = MayAwaitAs t b.call b.awaits
+
+-- what is awaited of a write is not more than its bytes, and no moment is after the last
 abbrev pub MayAwait : Awaits → Type 0
 MayAwait (Writing f total written) = (written ≤ total) × (total < 2 ^ 63)
+MayAwait (Moment m) = m ≤ last_moment
+MayAwait (Selection r w x (Some deadline)) = deadline ≤ last_moment
 MayAwait a = Unit {0}
-
-pub record MayBlock (t : ℕ) (b : Blocked) : Type 0 where
-  pub call : MayBlockAs t b.call
-  pub moment : MayWaitUntil b.call b.moment
-  pub written : MayHaveWritten b.call b.written
-  -- it reaches no barrier, and takes no mutex back
-  pub round : b.round ≡ 0
-  pub retake : TakesNothingBack b.retake
 
 -- only a new, ready or waiting thread may be suspended (pth_suspend)
 abbrev pub CanSuspend : ThreadState → Type 0

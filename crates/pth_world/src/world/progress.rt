@@ -3,10 +3,9 @@
 ghost use Rattle.std.specs.Prelude.{◌≡◌, ◌<◌, ℕ, Option, Some, None, IsSome, IfSome, IfOk, OnOk, option_copied, length};
 ghost use Rattle.pth_base.specs.Limits.{thread_limit};
 ghost use Rattle.pth_base.specs.Table.{table};
-ghost use Rattle.pth_model.specs.Awaits.{awaited_in};
 ghost use Rattle.pth_model.specs.State.{Control};
 ghost use Rattle.pth_model.specs.Changes.{is_blocked_by, owes, blocked_of};
-ghost use Rattle.pth_model.specs.RingWaits.{stops_waiting};
+ghost use Rattle.pth_model.specs.RingWaits.{awaited_in, stops_waiting};
 ghost use Rattle.pth_model.specs.Part.{step_of, stepping};
 ghost use Rattle.pth_world.specs.Shows.{Shows};
 ghost use Rattle.pth_world.specs.Sound.{IsSound, IsKnown};

@@ -3,7 +3,7 @@
 ghost use Rattle.std.specs.Prelude.{◌≡◌, ◌≢◌, ◌≤◌, Some, All, length, map, vec_capacity};
 ghost use Rattle.pth_base.specs.Limits.{thread_limit};
 ghost use Rattle.pth_base.specs.declared.ids.Slot.{Slot};
-ghost use Rattle.pth_model.specs.Awaits.{awaited_in as awaited};
+ghost use Rattle.pth_model.specs.RingWaits.{awaited_in as awaited};
 ghost use Rattle.pth_model.specs.Changes.{blocked_of};
 ghost use Rattle.pth_model.specs.Pass.{waiting};
 ghost use Rattle.pth_model.specs.State.{Control};

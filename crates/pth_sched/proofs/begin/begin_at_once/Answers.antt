@@ -3,13 +3,9 @@ use Rattle.std.proofs.lemmas.List.{append-nil}
 use Rattle.pth_model.specs.Calls.{begun}
 use Rattle.pth_sched.proofs.begin.begin_at_once.Goals as goal
 
-pub returns-in-Plain-clause-next : goal.returns-in-Plain-clause-next
+pub returns-in-Plain-clause-goes : goal.returns-in-Plain-clause-goes
 unfolding begun
-returns-in-Plain-clause-next g c s st = rw c.in-Plain.is refl
-
-pub returns-in-Plain-clause-ok : goal.returns-in-Plain-clause-ok
-unfolding begun
-returns-in-Plain-clause-ok g c s st = rw c.in-Plain.is (record { stands = st; tells = sym (append-nil _) })
+returns-in-Plain-clause-goes g c = record { next = λ s st. rw c.in-Plain.is refl; leads = λ s st. rw c.in-Plain.is (record { stands = st; tells = sym (append-nil _) }); cut = tt }
 
 pub begin_told-requires-clause-not_plain : goal.begin_told-requires-clause-not_plain
 begin_told-requires-clause-not_plain g c = c.in_default.not-Plain

@@ -1,28 +1,38 @@
-use Rattle.std.proofs.Common.{◌≡◌, true, false, is_some, rules}
-use Rattle.std.proofs.lemmas.Result.{IfOk-weaker, on_ok_weaker, on_err_weaker}
+use Rattle.std.proofs.Common.{◌≡◌, ◌∙◌, ℕ, true, false, is_some, Option, Some, None, IsSome, IfSome, ap, refl, rules, subst, sym}
+use Rattle.pth_model.specs.declared.progress.Progress.{Progress}
+use Rattle.pth_model.specs.Calls.{gone_on}
 use Rattle.pth_model.specs.Changes.{blocked_of}
+use Rattle.pth_model.specs.Part.{steps_from, steps_on}
 use Rattle.pth_model.specs.Transition.{Went}
-use Rattle.pth_world.specs.Leading.{Leads}
+use Rattle.pth_world.proofs.StateOf.{stands_for_state}
+use Rattle.pth_world.specs.Shows.{StandsFor}
+use Rattle.pth_waits.proofs.Carried.{goes_as}
 use Rattle.pth_sched.proofs.CalmSteps.{steps_anew}
 use Rattle.pth_sched.proofs.Parts.{steps_again}
 use Rattle.pth_sched.proofs.turns.go_on.Goals as goal
 
-pub returns-then-is_some-clause-next : goal.returns-then-is_some-clause-next
-returns-then-is_some-clause-next g c = IfOk-weaker c.resume_blocked.result _ _ (λ n next s st.
-    let blocked : is_some (blocked_of s.control c.args.t.0) ≡ true = rw (← c.blocked.ensures.blocked s.control st.control) (search rules) in
-    rw (steps_again g.P.Program.functions c.args.t.0 s blocked) (next s st)) c.resume_blocked.ensures.next
+pub returns-then-is_some-clause-goes : goal.returns-then-is_some-clause-goes
+returns-then-is_some-clause-goes g c =
+    let f = g.P.Program.functions in
+    let t = c.args.t.0 in
+    goes_as (StandsFor c.args.w.now) (StandsFor c.args.w.now) (gone_on f t) (steps_on f t) _ _ _ _ (λ s st.
+    let blocked : is_some (blocked_of s.control t) ≡ true = rw (← c.blocked.ensures.blocked s.control st.control) (search rules) in
+    (s, st, sym (steps_again f t s blocked))) c.resume_blocked.ensures.goes
 
-pub returns-then-is_some-clause-ok : goal.returns-then-is_some-clause-ok
-returns-then-is_some-clause-ok g c = on_ok_weaker c.resume_blocked.result (λ leads s st.
-    let blocked : is_some (blocked_of s.control c.args.t.0) ≡ true = rw (← c.blocked.ensures.blocked s.control st.control) (search rules) in
-    rw (steps_again g.P.Program.functions c.args.t.0 s blocked) (leads s st)) c.resume_blocked.ensures.ok
+-- what a thread goes on with
+some_progress : {S : Type 0} (o : Option (Progress S)) → IsSome o → (p : Progress S) × (o ≡ Some p)
+some_progress (Some p) some = (p, refl)
+some_progress None some = absurd (cc some)
 
-pub returns-then-is_some-clause-err : goal.returns-then-is_some-clause-err
-returns-then-is_some-clause-err g c = on_err_weaker c.resume_blocked.result (λ cut s st.
-    let blocked : is_some (blocked_of s.control c.args.t.0) ≡ true = rw (← c.blocked.ensures.blocked s.control st.control) (search rules) in
-    rw (steps_again g.P.Program.functions c.args.t.0 s blocked) (cut s st)) c.resume_blocked.ensures.err
-
-pub returns-clause-ok : goal.returns-clause-ok
-returns-clause-ok g c = on_ok_weaker c.begin_next.result (λ leads s st.
-    let free : is_some (blocked_of s.control c.args.t.0) ≡ false = rw (← c.blocked.ensures.blocked s.control st.control) (search rules) in
-    steps_anew g.P.Program.functions c.args.t.0 s (λ (x : Went _ _ _). Leads c.begin_next.new.w c.args.marks.now c.begin_next.new.marks x.told) free (c.begin_next.ensures.some s st) (leads s st)) c.begin_next.ensures.ok
+pub returns-clause-goes : goal.returns-clause-goes
+returns-clause-goes g c =
+    let f = g.P.Program.functions in
+    let w = c.args.w.now in
+    let t = c.args.t.0 in
+    let st = stands_for_state w c.requires.whole.sound in
+    let h = some_progress _ (c.begin_next.ensures.some _ st) in
+    goes_as (λ s. StandsFor w s × (s.control.threads.progress t ≡ Some h.0)) (StandsFor w) (steps_from f t h.0) (steps_on f t) _ _ _ _ (λ s so.
+    let free : is_some (blocked_of s.control t) ≡ false = rw (← c.blocked.ensures.blocked s.control so.control) (search rules) in
+    let has : s.control.threads.progress t ≡ Some h.0 = ap (λ (x : ℕ → Option (Progress _)). x t) (so.control.threads.progress ∙ sym st.control.threads.progress) ∙ h.1 in
+    (s, (so, has), steps_anew f t s (λ (x : Went _ _ _). steps_from f t h.0 s ≡ x) free (c.begin_next.ensures.some s so) (subst (λ (o : Option (Progress _)). IfSome o (λ p. steps_from f t h.0 s ≡ steps_from f t p s)) (sym has) refl)))
+    (c.begin_next.ensures.goes h.0)

@@ -1,13 +1,9 @@
-use Rattle.std.proofs.Common.{◌∙◌, ap, sym}
-use Rattle.pth_model.specs.Cancellation.{is_at_point}
-use Rattle.pth_waits.proofs.Canceling.{not_asked, asked_at}
+use Rattle.std.proofs.Common.{◌∙◌, sym}
+use Rattle.pth_waits.proofs.Canceling.{asked_at, not_asked}
 use Rattle.pth_waits.proofs.cancellation.may_be_canceled.Goals as goal
 
-pub returns-then-not-is_asked : goal.returns-then-not-is_asked
-returns-then-not-is_asked g c k sh = not_asked k c.args.t.0 (sym (c.is_asked.ensures k sh) ∙ c.if-not-is_asked.true)
+pub returns-then-is_asked : goal.returns-then-is_asked
+returns-then-is_asked g c k sh = c.is_point.ensures ∙ asked_at k c.args.t.0 c.awaited.result (c.awaited.ensures.awaited k sh) (sym (c.is_asked.ensures k sh) ∙ c.if-is_asked.true)
 
-pub returns-in-Some : goal.returns-in-Some
-returns-in-Some g c k sh = asked_at k c.args.t.0 c.is_point.result (sym (c.is_asked.ensures k sh) ∙ c.if-not-is_asked.false) (c.is_point.ensures ∙ ap is_at_point (c.in-Some.ensures.blocked k sh))
-
-pub returns-in-None : goal.returns-in-None
-returns-in-None g c k sh = asked_at k c.args.t.0 _ (sym (c.is_asked.ensures k sh) ∙ c.if-not-is_asked.false) (ap is_at_point (c.in-None.ensures.blocked k sh))
+pub returns-else-is_asked : goal.returns-else-is_asked
+returns-else-is_asked g c k sh = c.if-is_asked.false ∙ not_asked k c.args.t.0 (sym (c.is_asked.ensures k sh) ∙ c.if-is_asked.false)

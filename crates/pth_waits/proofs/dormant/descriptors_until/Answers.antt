@@ -5,7 +5,7 @@ use Rattle.pth_waits.proofs.dormant.descriptors_until.Goals as goal
 
 pub returns-clause-away : goal.returns-clause-away
 returns-clause-away c =
-    until_deadline (kernel_of c.args.k.now) c.args.awaits (sym c.wakes_for.ensures ∙ c.if-wakes_for.false) c.next_arrival.result c.min.result
+    until_deadline (kernel_of c.args.k.now) c.args.awaits (sym c.descriptors_bring.ensures ∙ c.if-descriptors_bring.false) c.next_arrival.result c.min.result
     (at_most _ _ c.next_arrival.ensures.arrival) c.next_arrival.ensures.within (rw c.deadline_of.ensures at c.min.ensures)
 
 pub returns-clause-later : goal.returns-clause-later

@@ -1,55 +1,43 @@
-use Rattle.std.proofs.Common.{◌≡◌, nat_lt, pos, true, false, refl, rules, SFits, w64, to_z-of_z, arith}
-use Rattle.std.proofs.lemmas.Result.{IfOk-weaker, on_ok_weaker}
+use Rattle.std.proofs.Common.{◌≡◌, nat_lt, pos, true, false, refl, sym, rules, SFits, w64, to_z-of_z, arith}
 use Rattle.std.proofs.lemmas.Bool.Decides.{nat_tests}
 use Rattle.pth_base.specs.declared.call.Call.TheVariants.{Wait}
-use Rattle.pth_model.specs.Changes.{blocked_of}
+use Rattle.pth_model.specs.EventHandling.{wait}
+use Rattle.pth_model.specs.Resources.{told, answer_told}
+use Rattle.pth_model.specs.declared.awaits.Awaits.TheVariants.{Ring}
 use Rattle.pth_numbered.specs.Operands.{number}
 use Rattle.pth_ring.specs.Rings.{settled_in}
-use Rattle.pth_world.proofs.Telling.{quiet_leads}
-use Rattle.pth_waits.proofs.Blocking.{held_by, quiet-answered, quiet_once, quiet-waits}
-use Rattle.pth_waits.proofs.RingWaits.{wait_goes_on, wait_is_over}
+use Rattle.pth_waits.proofs.Attempting.{none_ready, quiet_tries}
+use Rattle.pth_waits.proofs.Blocking.{quiet_once}
 use Rattle.pth_waits.proofs.ring_waits.wait_again.Goals as goal
 
-pub returns-then-come-eq0-clause-next : goal.returns-then-come-eq0-clause-next
-returns-then-come-eq0-clause-next g c s st =
+pub returns-then-settled-gt0 : goal.returns-then-settled-gt0
+unfolding told answer_told
+returns-then-settled-gt0 g c =
     let f : SFits w64 c.args.e = search rules in
+    let n : SFits w64 (pos c.settled-settled.result) = search rules in
+    let w = c.args.w.now in
     let t = c.args.t.0 in
-    let h = held_by (blocked_of s.control t) t (Wait c.args.e) (c.requires.some s.control st.control) (c.requires.blocked s.control st.control) in
-    let come : c.settled-come.result ≡ settled_in s.control.events (number c.args.e) = rw (st.control.events, ← c.rings.ensures) (rw to_z-of_z at c.settled-come.ensures) in
-    let none : nat_lt 0 c.settled-come.result ≡ false = grind (arith, nat_tests) in
-    rw (wait_goes_on g.P.Program.functions s t c.args.e h c.settled-come.result come none) refl
+    let settled = rw to_z-of_z at c.settled-settled.ensures in
+    let some : nat_lt 0 c.settled-settled.result ≡ true = grind (arith, nat_tests) in
+    record {
+      tries = λ a. quiet_tries w w t (record { call = Wait c.args.e; awaits = a }) (λ s. (wait s c.args.e).again a) _ (λ s. refl)
+          (λ s st. (let is : settled_in s.control.events (number c.args.e) ≡ c.settled-settled.result = sym (rw (st.control.events, ← c.rings.ensures) settled) in rw (is, some, c.from.ensures, to_z-of_z) refl))
+          (λ s st. quiet_once w s _ (λ x. refl) st)
+          tt
+          refl;
+    }
 
-pub returns-then-come-eq0-clause-ok : goal.returns-then-come-eq0-clause-ok
-returns-then-come-eq0-clause-ok g c s st =
+pub returns-else-settled-gt0 : goal.returns-else-settled-gt0
+returns-else-settled-gt0 g c =
     let f : SFits w64 c.args.e = search rules in
+    let w = c.args.w.now in
     let t = c.args.t.0 in
-    let h = held_by (blocked_of s.control t) t (Wait c.args.e) (c.requires.some s.control st.control) (c.requires.blocked s.control st.control) in
-    let come : c.settled-come.result ≡ settled_in s.control.events (number c.args.e) = rw (st.control.events, ← c.rings.ensures) (rw to_z-of_z at c.settled-come.ensures) in
-    let none : nat_lt 0 c.settled-come.result ≡ false = grind (arith, nat_tests) in
-    rw (wait_goes_on g.P.Program.functions s t c.args.e h c.settled-come.result come none)
-    (quiet_leads _ s _ _ _ (quiet-waits t (Wait c.args.e) tt) st (simp to_z-of_z at c.in_ok-push.ensures.ok))
-
-pub returns-clause-next : goal.returns-clause-next
-returns-clause-next g c =
-    let f : SFits w64 c.args.e = search rules in
-    let n : SFits w64 (pos c.settled-come.result) = search rules in
-    let t = c.args.t.0 in
-    let settled = rw to_z-of_z at c.settled-come.ensures in
-    let some : nat_lt 0 c.settled-come.result ≡ true = grind (arith, nat_tests) in
-    IfOk-weaker c.answer_blocked.result _ _ (λ next is s st.
-    let h = held_by (blocked_of s.control t) t (Wait c.args.e) (c.requires.some s.control st.control) (c.requires.blocked s.control st.control) in
-    let come : c.settled-come.result ≡ settled_in s.control.events (number c.args.e) = rw (st.control.events, ← c.rings.ensures) settled in
-    rw (wait_is_over g.P.Program.functions s t c.args.e h c.settled-come.result come some) is) (simp (to_z-of_z, c.from.ensures) at c.answer_blocked.ensures.next)
-
-pub returns-clause-ok : goal.returns-clause-ok
-returns-clause-ok g c =
-    let f : SFits w64 c.args.e = search rules in
-    let n : SFits w64 (pos c.settled-come.result) = search rules in
-    let t = c.args.t.0 in
-    let settled = rw to_z-of_z at c.settled-come.ensures in
-    let some : nat_lt 0 c.settled-come.result ≡ true = grind (arith, nat_tests) in
-    on_ok_weaker c.answer_blocked.result (λ leads s st.
-    let h = held_by (blocked_of s.control t) t (Wait c.args.e) (c.requires.some s.control st.control) (c.requires.blocked s.control st.control) in
-    let come : c.settled-come.result ≡ settled_in s.control.events (number c.args.e) = rw (st.control.events, ← c.rings.ensures) settled in
-    rw (wait_is_over g.P.Program.functions s t c.args.e h c.settled-come.result come some)
-    (leads s (quiet_once c.args.w.now s _ (quiet-answered t (Wait c.args.e) _ tt refl) st))) (simp (to_z-of_z, c.from.ensures) at c.answer_blocked.ensures.ok)
+    let settled = rw to_z-of_z at c.settled-settled.ensures in
+    let none : nat_lt 0 c.settled-settled.result ≡ false = grind (arith, nat_tests) in
+    record {
+      tries = λ a. quiet_tries w w t (record { call = Wait c.args.e; awaits = a }) (λ s. (wait s c.args.e).again a) _ (λ s. refl)
+          (λ s st. (let is : settled_in s.control.events (number c.args.e) ≡ c.settled-settled.result = sym (rw (st.control.events, ← c.rings.ensures) settled) in rw (is, none, to_z-of_z) refl))
+          (λ s st. none_ready w t (Wait c.args.e) (Ring c.args.e) s st)
+          (simp to_z-of_z)
+          refl;
+    }

@@ -1,5 +1,5 @@
 use Rattle.std.proofs.Common.{◌∙◌, sym, ap, subst}
-use Rattle.pth_model.specs.Awaits.{awaited_in}
+use Rattle.pth_model.specs.RingWaits.{awaited_in}
 use Rattle.pth_model.specs.Changes.{blocked_in}
 use Rattle.pth_model.specs.declared.awaits.Awaited.{Awaited}
 use Rattle.pth_tables.specs.Progress.{awaited_at}

@@ -1,0 +1,14 @@
+use Rattle.pth_waits.proofs.IoCalls.{answered_ready, begins_answered, io_told}
+use Rattle.pth_waits.proofs.io.begin_waiting.Goals as goal
+
+pub returns-in_default-clause-begins : goal.returns-in_default-clause-begins
+returns-in_default-clause-begins g c s st none = begins_answered s c.args.at_once c.args.ring c.args.verdict c.in_default.not-Blocks
+
+pub returns-in_default-clause-ready : goal.returns-in_default-clause-ready
+returns-in_default-clause-ready g c call before s some st = answered_ready before c.args.w.now c.args.t.0 call c.args.ring c.args.verdict s some c.in_default.not-Blocks st
+
+pub returns-then-at_once-clause-ready : goal.returns-then-at_once-clause-ready
+returns-then-at_once-clause-ready g c call before s some st = io_told before c.args.w.now c.args.t.0 call c.count_or.result s some st
+
+pub returns-in-Err-clause-ready : goal.returns-in-Err-clause-ready
+returns-in-Err-clause-ready g c call before s some st = rw c.in-Err.ensures.refused (io_told before c.args.w.now c.args.t.0 call c.count_or-in-Err.result s some st)

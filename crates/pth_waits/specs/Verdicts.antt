@@ -1,0 +1,33 @@
+-- Calls that come to verdicts, and verdicts on blocked calls whose rings have settled.
+use Rattle.std.specs.Prelude.{◌≡◌, ◌<◌, ◌^◌, ℕ, Bool, true, false, None}
+use Rattle.pth_base.specs.declared.call.Call.{Call}
+use Rattle.pth_base.specs.declared.call.Call.TheVariants as call
+use Rattle.pth_model.specs.declared.awaits.Awaits.{Awaits}
+use Rattle.pth_model.specs.declared.verdict.Verdict.{Verdict}
+use Rattle.pth_model.specs.declared.verdict.Verdict.TheVariants.{Blocks}
+use Rattle.pth_model.specs.Awaits.{written_in}
+use Rattle.pth_model.specs.Calls.{interrupted}
+use Rattle.pth_model.specs.State.{State}
+use Rattle.pth_waits.specs.Io.{first_awaited}
+use Rattle.pth_world.specs.Whole.{MayAwaitAs}
+
+-- a plain line and a note come to none: they are told without one
+abbrev pub is_called : Call → Bool
+is_called call.Plain = false
+is_called (call.Note v) = false
+is_called c = true
+
+-- no thread waits for anything by such a call, and it is none on descriptors
+pub record NeverBlocks (P S H : Type 0) (c : Call) : Type 0 where
+  pub away : (t : ℕ) (a : Awaits) → MayAwaitAs t c a → ⊥
+  pub elsewhere : (s : State P S H) → first_awaited s c ≡ None
+
+-- the verdict on a blocked call, if its ring has settled or not
+abbrev pub interrupted_if : Bool → Verdict → Verdict
+interrupted_if true v = interrupted v
+interrupted_if false v = v
+
+-- its bytes can be counted
+abbrev pub IsCounted : Verdict → Type 0
+IsCounted (Blocks a) = written_in a < 2 ^ 63
+IsCounted v = Unit {0}
