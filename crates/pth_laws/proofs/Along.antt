@@ -565,9 +565,9 @@ module _ {P S H : Type 0} (f : P → Functions S H) (R : State P S H → Type 0)
       let rank = prio_of s.control t +ℤ pos 1 in
       woken_keeps ts (woken t s).state (kept.told (mark.Woke (tid t) rank) (controlled (is_ready_at t rank false) s) tt (ready_keeps t rank false s r))
 
-  pass_keeps : Keeps (pass f)
+  pass_keeps : Keeps (pass)
   unfolding pass
-  pass_keeps s r = woken_keeps (to_wake f s) (controlled looks s) (kept.looked s r)
+  pass_keeps s r = woken_keeps (to_wake s) (controlled looks s) (kept.looked s r)
 
   readies_keep : (ts : List ℕ) → Stays (readies_all ts)
   unfolding readies_all readies
@@ -601,7 +601,7 @@ module _ {P S H : Type 0} (f : P → Functions S H) (R : State P S H → Type 0)
   placed_keeps t (Some u) (Some b) s r = put_keeps t state.Waiting Waiting s r
   placed_keeps t (Some u) None s r = put_keeps t state.Ready Ready s r
 
-  closes_keeps : (x : Turn) (t : ℕ) (s : State P S H) → R s → R (closes f x t s).state
+  closes_keeps : (x : Turn) (t : ℕ) (s : State P S H) → R s → R (closes x t s).state
   unfolding closes is_placed raises_ready
   closes_keeps x t s r =
       let a = controlled raises_ready s in
@@ -609,7 +609,7 @@ module _ {P S H : Type 0} (f : P → Functions S H) (R : State P S H → Type 0)
       let c = controlled (runs_now None) b in
       pass_keeps (controlled (turn_ends t) s) (moves_to_keeps (min (now_of c.control + clock_of c.control) last_moment) c (runs_now_keeps None b (placed_keeps t s.control.scheduler.running (blocked_of s.control t) a (raises_keeps s r))))
 
-  moves_keeps : (x : Turn) (o : Option ℕ) (s : State P S H) → R s → R (moves_by f x o s).state
+  moves_keeps : (x : Turn) (o : Option ℕ) (s : State P S H) → R s → R (moves_by x o s).state
   moves_keeps x None s r = r
   moves_keeps x (Some m) s r =
       let a = controlled (moves_to m) s in
@@ -617,7 +617,7 @@ module _ {P S H : Type 0} (f : P → Functions S H) (R : State P S H → Type 0)
 
   part_keeps : (x : Turn) (s : State P S H) (p : Part) → R s → R (part_by f x s p).state
   unfolding moves
-  part_keeps x s Move r = moves_keeps x (moment f s) s r
+  part_keeps x s Move r = moves_keeps x (moment s) s r
   part_keeps x s Take r = takes_keeps x s r
   part_keeps x s (Step t) r = step_keeps t x s r
   part_keeps x s (Close t) r = closes_keeps x t s r

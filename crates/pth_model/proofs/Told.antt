@@ -298,9 +298,9 @@ module _ {P S H : Type 0} (f : P → Functions S H) where
   all_woken_told [] s = refl
   all_woken_told (t ∷ ts) s = then_told (woken t) (all_woken ts) (woken_told t) (all_woken_told ts) s
 
-  pass_told : IsTold (pass f)
+  pass_told : IsTold (pass {P = P} {S = S} {H = H})
   unfolding pass
-  pass_told s = all_woken_told (to_wake f s) _
+  pass_told s = all_woken_told (to_wake s) _
 
   abbrev CourseTold : State P S H → Course P S H → Type 0
   CourseTold s c = c.state.resources ≡ told_all s.resources c.marks
@@ -310,13 +310,13 @@ module _ {P S H : Type 0} (f : P → Functions S H) where
   takes_by_told x None s = refl
   takes_by_told x (Some t) s = refl
 
-  moves_by_told : (x : Turn) (o : Option ℕ) (s : State P S H) → CourseTold s (moves_by f x o s)
+  moves_by_told : (x : Turn) (o : Option ℕ) (s : State P S H) → CourseTold s (moves_by x o s)
   moves_by_told x None s = refl
   moves_by_told x (Some m) s = pass_told _
 
   part_by_told : (x : Turn) (s : State P S H) (p : Part) → CourseTold s (part_by f x s p)
   unfolding takes moves closes
-  part_by_told x s Move = moves_by_told x (moment f s) s
+  part_by_told x s Move = moves_by_told x (moment s) s
   part_by_told x s Take = takes_by_told x (chosen (readies_new s.control).scheduler.preferred (queue (readies_new s.control) queues.Ready)) (controlled readies_new s)
   part_by_told x s (Step t) = steps_told t x s
   part_by_told x s (Close t) = pass_told _

@@ -1,7 +1,6 @@
 -- A pass over the waiting threads, and the moments to which time moves while nothing is ready.
 use Rattle.std.specs.Prelude.{ℕ, ℤ, pos, ◌+ℤ◌, ◌||◌, Bool, false, List, [], ◌∷◌, ◌++◌, filter, map, flat_map, Option}
 use Rattle.std.specs.List.{list_any}
-use Rattle.pth_base.specs.Program.{Functions}
 use Rattle.pth_base.specs.declared.mark.Mark.TheVariants.{Woke}
 use Rattle.pth_base.specs.declared.thread.ThreadState.TheVariants as state
 use Rattle.pth_queue.specs.declared.queue.Queue.TheVariants as queue
@@ -44,7 +43,7 @@ module _ {P S H : Type 0} where
   all_woken [] s = silent s
   all_woken (t ∷ ts) s = (woken t and_then all_woken ts) s
 
-module _ {P S H : Type 0} (f : P → Functions S H) where
+module _ {P S H : Type 0} where
   -- the blocked call of a waiting thread has what it waits for, or an event comes of the ring that it was given, or the thread may
   -- be canceled
   abbrev pub is_to_wake : State P S H → ℕ → Bool
@@ -66,5 +65,5 @@ module _ {P S H : Type 0} (f : P → Functions S H) where
   moments s = flat_map (moments_of s) (waiting s.control)
 
 -- the moment to which time moves while nothing is ready: something comes to a descriptor, or a thread waits for it
-abbrev pub moment : {P S H : Type 0} → (P → Functions S H) → State P S H → Option ℕ
-moment f s = least_after (now_of s.control) (arrival_times s.control.kernel ++ moments f s)
+abbrev pub moment : {P S H : Type 0} → State P S H → Option ℕ
+moment s = least_after (now_of s.control) (arrival_times s.control.kernel ++ moments s)

@@ -96,7 +96,7 @@ module _ {P S H : Type 0} (w : WorldOf P S H) where
     all_dormant : All (IsDormant s until) (waiting s.control)
     all_dormant = All-weaker (λ u. is_among_waiting (entry_of s.control u) ≡ true) (IsDormant s until) dormant (waiting s.control) (all_wait w whole s.control st.control)
 
-    pub pass_leads_nowhere : (old : List Mark) → Leads w old old (pass f s)
+    pub pass_leads_nowhere : (old : List Mark) → Leads w old old (pass s)
     unfolding pass all_woken
     pass_leads_nowhere old =
         let looked = none_looked s until early_now all_dormant in

@@ -130,7 +130,7 @@ module _ {P S H : Type 0} (f : P → Functions S H) (s : State P S H) (t : ℕ) 
     abbrev moments_in : Events → Option ℤ → List ℕ
     moments_in y r = map (λ (e : ℕ). event_moment (y.events e)) (events_from y r)
 
-    own : waits_until t s ∷ moments_in x ring ≡ moments_of f s t
+    own : waits_until t s ∷ moments_in x ring ≡ moments_of s t
     own =
         let held : ring ≡ ring_held (blocked_of s.control t) = sym given ∙ ap (λ (y : Awaited). y.ring) awaits in
         ap (λ (l : List ℕ). waits_until t s ∷ l) (ap₂ moments_in (sym same) held)
@@ -141,7 +141,7 @@ module _ {P S H : Type 0} (f : P → Functions S H) (s : State P S H) (t : ℕ) 
 
     pub thread_counted : best ≡ least_after now ms → next ≡ sooner now best (moment_in a.what)
         → ((ns : List ℕ) → next ≡ least_after now ns → last ≡ least_after now (ns ++ moments_in x ring))
-        → last ≡ least_after now (ms ++ moments_of f s t)
+        → last ≡ least_after now (ms ++ moments_of s t)
     thread_counted least is goes_on =
         goes_on (ms ++ waits_until t s ∷ []) (call_counted least is)
         ∙ ap (least_after now) (append_assoc ms (waits_until t s ∷ []) (moments_in x ring))

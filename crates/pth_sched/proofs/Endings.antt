@@ -531,9 +531,9 @@ module _ {P S H : Type 0} where
 
   part_ends : (f : P → Functions S H) (x : Turn) (s : State P S H) (v : ℤ) (p : Part) → IsUnasked s.control → next_part s x ≡ p → x.outcome ≡ Running → (part_by f x s p).turn.outcome ≡ Ended v → EndsMain x s (part_by f x s p).marks v
   unfolding moves takes closes
-  part_ends f x s v Move unasked comes on e = by_moment (moment f s) e
+  part_ends f x s v Move unasked comes on e = by_moment (moment s) e
     where
-      by_moment : (o : Option ℕ) → (moves_by f x o s).turn.outcome ≡ Ended v → EndsMain x s (moves_by f x o s).marks v
+      by_moment : (o : Option ℕ) → (moves_by x o s).turn.outcome ≡ Ended v → EndsMain x s (moves_by x o s).marks v
       by_moment None h = absurd (cc h)
       by_moment (Some m) h = absurd (running_ended v (sym on ∙ h))
   part_ends f x s v Take unasked comes on e = by_next (chosen (readies_new s.control).scheduler.preferred (queue (readies_new s.control) queues.Ready)) e

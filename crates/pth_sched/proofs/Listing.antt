@@ -97,7 +97,7 @@ module _ {P S H : Type 0} (s : State P S H) (xs : List ℕ) where
   has_come_still t Nothing = refl
   has_come_still t a = refl
 
-  to_wake_still : (f : P → Functions S H) (t : ℕ) → is_to_wake f seen_state t ≡ is_to_wake f s t
+  to_wake_still : (f : P → Functions S H) (t : ℕ) → is_to_wake seen_state t ≡ is_to_wake s t
   unfolding wakes
   to_wake_still f t =
       ap₂ (λ (a b : Bool). a || b)
@@ -112,7 +112,7 @@ pub record GoneOver {P S H : Type 0} (f : P → Functions S H) (old now : WorldO
   pub done : List ℕ
   pub split : ts ≡ done ++ rest
   pub shows : (k : Control P S H) → Shows old k → Shows now (looks_at k (flat_map (awaited_events k) done))
-  pub listed : (s : State P S H) → StandsFor old s → list ≡ filter (is_to_wake f s) done
+  pub listed : (s : State P S H) → StandsFor old s → list ≡ filter (is_to_wake s) done
   pub made : now.events.made ≡ old.events.made
   pub same : now ≡ record old { events = now.events }
 
@@ -141,7 +141,7 @@ module _ {P S H : Type 0} (f : P → Functions S H) (old : WorldOf P S H) where
   module _ (now x : WorldOf P S H) (ts rest list more : List ℕ) (t : ℕ) (so_far : GoneOver f old now ts (t ∷ rest) list)
       (shows : (k : Control P S H) → Shows now k → Shows x (looks_at k (awaited_events k t)))
       (made : x.events.made ≡ now.events.made) (same : x ≡ record now { events = x.events })
-      (is : (s : State P S H) → StandsFor now s → more ≡ list ++ (if is_to_wake f s t then t ∷ [] else [])) where
+      (is : (s : State P S H) → StandsFor now s → more ≡ list ++ (if is_to_wake s t then t ∷ [] else [])) where
     abbrev events : Control P S H → List ℕ
     events k = flat_map (awaited_events k) so_far.done
 
@@ -162,7 +162,7 @@ module _ {P S H : Type 0} (f : P → Functions S H) (old : WorldOf P S H) where
       listed = λ s st.
           is (record s { control = looks_at s.control (events s.control) }) (stands_seen s st)
           ∙ ap₂ (λ (l : List ℕ) (b : Bool). l ++ (if b then t ∷ [] else [])) (so_far.listed s st) (to_wake_still s (events s.control) f t)
-          ∙ sym (kept (is_to_wake f s) so_far.done (t ∷ []));
+          ∙ sym (kept (is_to_wake s) so_far.done (t ∷ []));
       made = made ∙ so_far.made;
       same = same ∙ ap (λ (w : WorldOf P S H). record w { events = x.events }) so_far.same;
     }
@@ -176,6 +176,6 @@ module _ {P S H : Type 0} (f : P → Functions S H) (old : WorldOf P S H) where
     unfolding looks
     gone_shows k sh is = subst (λ (l : List ℕ). Shows now (looks_at k (flat_map (awaited_events k) l))) (all_done ∙ is) (all.shows k sh)
 
-    pub gone_listed : (s : State P S H) → StandsFor old s → ts ≡ waiting s.control → list ≡ to_wake f s
+    pub gone_listed : (s : State P S H) → StandsFor old s → ts ≡ waiting s.control → list ≡ to_wake s
     unfolding to_wake
-    gone_listed s st is = all.listed s st ∙ ap (filter (is_to_wake f s)) (all_done ∙ is)
+    gone_listed s st is = all.listed s st ∙ ap (filter (is_to_wake s)) (all_done ∙ is)

@@ -99,11 +99,11 @@ module _ {P S H : Type 0} (s : State P S H) (until : ℕ) (early : now_of s.cont
   abbrev k : Control P S H
   k = s.control
 
-  pub none_wakes : (f : P → Functions S H) → is_alone k main ≡ false → (((u : ℕ) → is_left_to_join (entry_of k u) ≡ false) → has_any_died k ≡ false) → to_wake f s ≡ []
+  pub none_wakes : (f : P → Functions S H) → is_alone k main ≡ false → (((u : ℕ) → is_left_to_join (entry_of k u) ≡ false) → has_any_died k ≡ false) → to_wake s ≡ []
   unfolding to_wake
   none_wakes f alone none =
-      none_kept (is_to_wake f s) (waiting k)
-      (All-weaker (IsDormant s until) (λ u. is_to_wake f s u ≡ false) (λ u q. dormant_stays s until early f u alone none q) (waiting k) all)
+      none_kept (is_to_wake s) (waiting k)
+      (All-weaker (IsDormant s until) (λ u. is_to_wake s u ≡ false) (λ u q. dormant_stays s until early f u alone none q) (waiting k) all)
 
   pub none_looked : looks k ≡ k
   unfolding looks

@@ -75,7 +75,7 @@ fn count_ring<P: Program>(w: &World<P>, e: i64, best: Option<Micros>) -> Option<
 fn count_of<P: Program>(w: &World<P>, slot: Slot, best: Option<Micros>) -> Option<Micros>
     requires whole { Whole w.now }
     requires used { tid_at w.now.threads.records slot.0 ≢ 0 }
-    ensures { (s : State P P.State P.Shared) (ms : List ℕ) → StandsFor w.now s → best ≡ least_after w.now.kernel.now ms → result ≡ least_after w.now.kernel.now (ms ++ moments_of P.functions s (tid_at w.now.threads.records slot.0)) }
+    ensures { (s : State P P.State P.Shared) (ms : List ℕ) → StandsFor w.now s → best ≡ least_after w.now.kernel.now ms → result ≡ least_after w.now.kernel.now (ms ++ moments_of s (tid_at w.now.threads.records slot.0)) }
 {
     let awaited = w.awaited_in(slot);
     let best = sooner(w.time(), best, awaited.what.moment());
@@ -91,7 +91,7 @@ pub fn next_moment<P: Program>(w: &World<P>, slots: &[Slot]) -> Option<Micros>
     requires whole { Whole w.now }
     requires used { All (λ s. tid_at w.now.threads.records s.0 ≢ 0) slots.now }
     requires waiting { (k : Control P P.State P.Shared) → Shows w.now k → map (λ s. tid_at w.now.threads.records s.0) slots.now ≡ waiting k }
-    ensures moment { (s : State P P.State P.Shared) → StandsFor w.now s → result ≡ moment P.functions s }
+    ensures moment { (s : State P P.State P.Shared) → StandsFor w.now s → result ≡ moment s }
     ensures later { IfSome result (λ m. w.now.kernel.now < m) }
     ensures within { IfSome result (λ m. m ≤ last_moment) }
 {

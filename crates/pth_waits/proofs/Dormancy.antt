@@ -54,7 +54,7 @@ module _ {P S H : Type 0} (s : State P S H) (until : ℕ) (early : now_of s.cont
   none_of a b c h i j = rw (h, i, j) refl
 
   -- where main is not alone, and no thread is left to join if no record is that of one
-  pub dormant_stays : (f : P → Functions S H) (t : ℕ) → is_alone s.control main ≡ false → (((u : ℕ) → is_left_to_join (entry_of s.control u) ≡ false) → has_any_died s.control ≡ false) → IsDormant s until t → is_to_wake f s t ≡ false
+  pub dormant_stays : (f : P → Functions S H) (t : ℕ) → is_alone s.control main ≡ false → (((u : ℕ) → is_left_to_join (entry_of s.control u) ≡ false) → has_any_died s.control ≡ false) → IsDormant s until t → is_to_wake s t ≡ false
   unfolding comes_for wakes
   dormant_stays f t alone none q = none_of _ _ _ (away_now t _ alone none q.away) (none_come _ q.pending) q.unasked
 

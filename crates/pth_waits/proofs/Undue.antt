@@ -115,7 +115,7 @@ module _ {P S H : Type 0} (f : P → Functions S H) (w : WorldOf P S H) (whole :
   away_now (Ring e) is alone = λ n later early. refl
   away_now a is alone = λ n later early. subst (λ (m : ℕ). has_come (controlled (moves_to m) s) t a ≡ false) (same_now k n later early) is
 
-  pub undue_dormant : IsUndue f s t → IsDormant s (after_now k) t
+  pub undue_dormant : IsUndue s t → IsDormant s (after_now k) t
   unfolding comes_for wakes
   undue_dormant undue =
       let each = neither _ _ _ undue.unwoken in

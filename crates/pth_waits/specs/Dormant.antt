@@ -1,6 +1,5 @@
 -- Until when a blocked thread is not to wake, if nothing changes but time.
 use Rattle.std.specs.Prelude.{◌≡◌, ℕ, ◌<◌, ◌≤◌, ◌+◌, ◌&&◌, Bool, false, List, Option, Some, None, All}
-use Rattle.pth_base.specs.Program.{Functions}
 use Rattle.pth_base.specs.declared.event.EventSpec.{EventSpec}
 use Rattle.pth_base.specs.Limits.{last_moment}
 use Rattle.pth_threads.specs.declared.entry.Entry.{Entry}
@@ -71,8 +70,8 @@ module _ {P S H : Type 0} (s : State P S H) (until : ℕ) where
     pub pending : ArePending s.control until (awaited_events s.control t)
     pub unasked : may_be_canceled s.control t ≡ false
 
-module _ {P S H : Type 0} (f : P → Functions S H) (s : State P S H) where
+module _ {P S H : Type 0} (s : State P S H) where
   -- t is not to wake, and no event of its ring is settled
   pub record IsUndue (t : ℕ) : Type 0 where
-    pub unwoken : is_to_wake f s t ≡ false
+    pub unwoken : is_to_wake s t ≡ false
     pub unsettled : has_settled s.control.events (ring_held (blocked_of s.control t)) ≡ false

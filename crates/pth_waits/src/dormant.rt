@@ -190,7 +190,7 @@ pub fn dormant_until<P: Program>(w: &World<P>, slot: Slot) -> Micros
     requires used { tid_at w.now.threads.records slot.0 ≢ 0 }
     ensures dormant { (s : State P P.State P.Shared) → StandsFor w.now s → 0 < result → IsDormant s result (tid_at w.now.threads.records slot.0) }
     ensures later { (s : State P P.State P.Shared) → StandsFor w.now s → IsDormant s (after_now s.control) (tid_at w.now.threads.records slot.0) → now_of s.control < result }
-    ensures told { (s : State P P.State P.Shared) → StandsFor w.now s → IsUndue P.functions s (tid_at w.now.threads.records slot.0) → now_of s.control < result }
+    ensures told { (s : State P P.State P.Shared) → StandsFor w.now s → IsUndue s (tid_at w.now.threads.records slot.0) → now_of s.control < result }
 {
     if may_be_canceled_at(w, slot) {
         return 0;

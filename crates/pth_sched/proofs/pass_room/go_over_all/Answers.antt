@@ -54,7 +54,7 @@ loop-slot-preserved g c = record {
       gone_more g.P.Program.functions c.args.w.now c.loop-slot.w c.go_over.new.w _ _ _ _ _ so_far
       (subst (λ (t : ℕ). (k : Control _ _ _) → Shows c.loop-slot.w k → Shows c.go_over.new.w (looks_at k (awaited_events k t))) is e.shows)
       e.made e.same
-      (subst (λ (t : ℕ). (s : State _ _ _) → StandsFor c.loop-slot.w s → map number_of c.go_over.new.waking.items ≡ map number_of c.loop-slot.waking.items ++ (if is_to_wake g.P.Program.functions s t then t ∷ [] else [])) is e.listed));
+      (subst (λ (t : ℕ). (s : State _ _ _) → StandsFor c.loop-slot.w s → map number_of c.go_over.new.waking.items ≡ map number_of c.loop-slot.waking.items ++ (if is_to_wake s t then t ∷ [] else [])) is e.listed));
   few = (
       let so_far = c.loop-slot.invariant.few in
       let one = c.go_over.ensures.one in
