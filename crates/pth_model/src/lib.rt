@@ -3,8 +3,8 @@
 //! The definitions claim nothing by themselves. What is proved of them: in every state of every run each queue
 //! shows exactly those who stand there, the greater rank first and at equal ranks the earlier entry, and no thread
 //! stands in two places (`standings`); what threads have is what the marks of the run tell (`resources`); and six
-//! runs are computed (`example`). The functions for moments, lengths and the ring that a call was given equal their
-//! definitions for all operands, and none wraps.
+//! runs are computed (`example`). The functions for moments, lengths, what a wait holds and the ring that a call was
+//! given equal their definitions for all operands, and none wraps.
 #![tactic(auto)]
 
 pub mod awaits;

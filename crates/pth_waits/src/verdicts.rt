@@ -1,4 +1,4 @@
-//! How the verdict on a call is carried out.
+//! How the verdict on a call that may block is carried out: it is answered, blocks its thread, or ends it.
 
 ghost use Rattle.std.specs.Prelude.{◌≡◌, Some, None, IfOk, IfSome, IsSome};
 ghost use Rattle.pth_model.specs.declared.blocked.Blocked.{Blocked};
