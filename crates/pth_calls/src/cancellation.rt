@@ -17,7 +17,7 @@ ghost use Rattle.pth_model.specs.Verdict.{refused, says};
 ghost use Rattle.pth_numbered.specs.Operands.{number as operand, ◌is_from◌to◌};
 ghost use Rattle.pth_queue.specs.declared.queue.Queue.TheVariants as queue;
 ghost use Rattle.pth_world.specs.Frame.{Frame, runs_after, yields_after};
-ghost use Rattle.pth_world.specs.Leading.{Leads, IsAnswered, IsQuiet};
+ghost use Rattle.pth_world.specs.Leading.{Goes, Leads, IsAnswered, IsQuiet};
 ghost use Rattle.pth_world.specs.Numbering.{no_numbers};
 ghost use Rattle.pth_world.specs.Shows.{StandsFor};
 ghost use Rattle.pth_world.specs.Sound.{IsAlive, IsKnown};
@@ -182,9 +182,7 @@ pub fn cancel<P: Program>(
     requires whole { Whole w.old }
     requires runs { w.old.scheduler.running ≡ Some t.0 }
     requires call { call.now ≡ Cancel n }
-    ensures next { IfOk result (λ n. (s : State P P.State P.Shared) → StandsFor w.old s → n ≡ (begun P.functions t.0 call.now s).next) }
-    ensures ok { OnOk result ((s : State P P.State P.Shared) → StandsFor w.old s → Leads w.new marks.old marks.new (begun P.functions t.0 call.now s).told) }
-    ensures err { OnErr result ((s : State P P.State P.Shared) → StandsFor w.old s → IsCut marks.old marks.new (begun P.functions t.0 call.now s).told.marks) }
+    ensures goes { Goes (StandsFor w.old) (begun P.functions t.0 call.now) w.new marks.old marks.new result }
     ensures frame { IfOk result (λ n. Frame w.old w.new no_numbers (runs_after t.0 n) (yields_after n)) }
 {
     let (other, state) = match to_cancel(w, t, n) {
@@ -209,9 +207,7 @@ pub fn abort<P: Program>(
     requires whole { Whole w.old }
     requires runs { w.old.scheduler.running ≡ Some t.0 }
     requires call { call.now ≡ Abort n }
-    ensures next { IfOk result (λ n. (s : State P P.State P.Shared) → StandsFor w.old s → n ≡ (begun P.functions t.0 call.now s).next) }
-    ensures ok { OnOk result ((s : State P P.State P.Shared) → StandsFor w.old s → Leads w.new marks.old marks.new (begun P.functions t.0 call.now s).told) }
-    ensures err { OnErr result ((s : State P P.State P.Shared) → StandsFor w.old s → IsCut marks.old marks.new (begun P.functions t.0 call.now s).told.marks) }
+    ensures goes { Goes (StandsFor w.old) (begun P.functions t.0 call.now) w.new marks.old marks.new result }
     ensures frame { IfOk result (λ n. Frame w.old w.new no_numbers (runs_after t.0 n) (yields_after n)) }
 {
     let (other, dead) = match to_abort(w, t, n) {

@@ -1,7 +1,6 @@
 //! Thread control: `pth_spawn`, `pth_self`, `pth_suspend`, `pth_resume`, `pth_yield`.
 
-ghost use Rattle.std.specs.Prelude.{◌≡◌, ◌==◌, ◌||◌, not, pos, true, false, Some, None, IfOk, IfSome, OnOk, OnErr, option_map, if◌then◌else◌};
-ghost use Rattle.pth_base.specs.Cut.{IsCut};
+ghost use Rattle.std.specs.Prelude.{◌≡◌, ◌==◌, ◌||◌, not, pos, true, false, Some, None, IfOk, OnOk, option_map, if◌then◌else◌};
 ghost use Rattle.pth_base.specs.Facilities.{facility_of};
 ghost use Rattle.pth_base.specs.declared.call.Call.TheVariants.{Yield};
 ghost use Rattle.pth_base.specs.declared.facility.Facility.TheVariants as facility;
@@ -19,7 +18,7 @@ ghost use Rattle.pth_model.specs.Row.{effect_of};
 ghost use Rattle.pth_model.specs.declared.verdict.Verdict.TheVariants.{Yields};
 ghost use Rattle.pth_model.specs.Verdict.{refused};
 ghost use Rattle.pth_world.specs.Frame.{Frame, runs_after, yields_after};
-ghost use Rattle.pth_world.specs.Leading.{Leads, Changed, IsAnswered, IsQuiet};
+ghost use Rattle.pth_world.specs.Leading.{Goes, Changed, IsAnswered, IsQuiet};
 ghost use Rattle.pth_world.specs.Numbering.{HasNumbers, no_numbers, Thread, one_of};
 ghost use Rattle.pth_world.specs.Shows.{StandsFor};
 ghost use Rattle.pth_world.specs.Sound.{IsPrio, IsCancel};
@@ -239,9 +238,7 @@ pub fn yield_to<P: Program>(
     requires whole { Whole w.old }
     requires runs { w.old.scheduler.running ≡ Some t.0 }
     requires call { call.now ≡ Yield to }
-    ensures next { IfOk result (λ n. (s : State P P.State P.Shared) → StandsFor w.old s → n ≡ (begun P.functions t.0 call.now s).next) }
-    ensures ok { OnOk result ((s : State P P.State P.Shared) → StandsFor w.old s → Leads w.new marks.old marks.new (begun P.functions t.0 call.now s).told) }
-    ensures err { OnErr result ((s : State P P.State P.Shared) → StandsFor w.old s → IsCut marks.old marks.new (begun P.functions t.0 call.now s).told.marks) }
+    ensures goes { Goes (StandsFor w.old) (begun P.functions t.0 call.now) w.new marks.old marks.new result }
     ensures frame { IfOk result (λ n. Frame w.old w.new no_numbers (runs_after t.0 n) (yields_after n)) }
 {
     if !name_next(w, t, to) {

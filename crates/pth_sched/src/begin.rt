@@ -87,7 +87,8 @@ pub(crate) fn begin_at_once<P: Program>(
     }
 }
 
-/// Begins a call of the thread that runs, and tells of it: one that may block the thread comes to a verdict, which is carried out. After an error the world may only be dropped.
+/// Begins a call of the thread that runs, and tells of it: one that may block the thread comes to a verdict, which is carried out.
+/// After an error the world may only be dropped.
 #[inline(always)]
 pub fn begin<P: Program>(
     w: &mut World<P>,

@@ -27,10 +27,6 @@ or_turned true false = refl
 or_turned false true = refl
 or_turned false false = refl
 
-or_or : (a b c : Bool) → (a || b || c) ≡ ((a || b) || c)
-or_or true b c = refl
-or_or false b c = refl
-
 -- ---- by what is read of a thread
 
 module _ {P S H : Type 0} (k : Control P S H) (t : ℕ) (a : Awaited) (is : a ≡ awaited_in (blocked_of k t)) where
@@ -69,4 +65,4 @@ gone_stays w s st t none = ap (λ (b : Option Blocked). has_come s t (awaits_in 
 
 -- what is due or may be canceled
 pub due_or : (a b c due : Bool) → due ≡ (a || b) → (due || c) ≡ (a || b || c)
-due_or a b c due is = ap (λ (x : Bool). x || c) is ∙ sym (or_or a b c)
+due_or a b c due is = ap (λ (x : Bool). x || c) is

@@ -1,5 +1,4 @@
 use Rattle.std.proofs.Common.{◌≡◌, ◌==◌, true, false, pos, refl, ap, sym, ◌∙◌, rules}
-use Rattle.std.proofs.lemmas.Result.{IfOk-weaker, on_ok_weaker}
 use Rattle.pth_base.specs.declared.answer.Answer.TheVariants.{Int}
 use Rattle.pth_base.specs.declared.call.Call.TheVariants.{Kill}
 use Rattle.pth_base.specs.declared.errno.Errno.TheVariants.{EPERM}
@@ -7,41 +6,33 @@ use Rattle.pth_base.specs.declared.mark.Mark.TheVariants.{Answered}
 use Rattle.pth_model.specs.Resources.{Store, no_resources, told}
 use Rattle.pth_model.specs.State.{main}
 use Rattle.pth_world.proofs.Frames.{still_frame}
-use Rattle.pth_world.proofs.Telling.{quiet_leads, quiet-refused}
 use Rattle.pth_world.specs.Numbering.{no_numbers}
 use Rattle.pth_world.specs.Store.{store_of}
-use Rattle.pth_end.proofs.Framing.{done_frame}
+use Rattle.pth_end.proofs.Framing.{done_frame, refused_goes}
 use Rattle.pth_waits.proofs.Kills.{kill_refused, kill_ends, kill-told}
 use Rattle.pth_waits.proofs.library_ends.kill.Goals as goal
 
-pub returns-then-t-ne-MAIN-clause-next : goal.returns-then-t-ne-MAIN-clause-next
-returns-then-t-ne-MAIN-clause-next g c =
+pub returns-then-t-ne-MAIN-clause-goes : goal.returns-then-t-ne-MAIN-clause-goes
+returns-then-t-ne-MAIN-clause-goes g c =
     let other : (c.args.t.0 == main) ≡ false = search rules in
-    IfOk-weaker c.done.result _ _ (λ next is s st. rw (c.requires.call, kill_refused g.P.Program.functions s c.args.t.0 other) is) c.done.ensures.next
-
-pub returns-then-t-ne-MAIN-clause-ok : goal.returns-then-t-ne-MAIN-clause-ok
-returns-then-t-ne-MAIN-clause-ok g c =
-    let other : (c.args.t.0 == main) ≡ false = search rules in
-    on_ok_weaker c.done.result (λ told s st.
-    rw (c.requires.call, kill_refused g.P.Program.functions s c.args.t.0 other)
-    (quiet_leads c.args.w.now s _ _ _ (quiet-refused c.args.t Kill EPERM) st (rw c.requires.call at told))) c.done.ensures.ok
+    refused_goes _ c.args.w.now c.args.t c.args.call.now EPERM _ _ c.done.result
+    (λ s st. rw c.requires.call (kill_refused g.P.Program.functions s c.args.t.0 other))
+    c.done.ensures.next c.done.ensures.ok c.done.ensures.err
 
 pub returns-then-t-ne-MAIN-clause-frame : goal.returns-then-t-ne-MAIN-clause-frame
 returns-then-t-ne-MAIN-clause-frame g c = done_frame c.args.w.now c.args.w.now c.args.t.0 c.done.result _ c.done.ensures.next (still_frame no_numbers c.args.w.now _ c.requires.runs c.requires.whole)
 
-pub returns-clause-next : goal.returns-clause-next
-returns-clause-next g c s st =
+pub returns-clause-goes : goal.returns-clause-goes
+returns-clause-goes g c =
     let is : (c.args.t.0 == main) ≡ true = search rules in
-    rw (c.requires.call, kill_ends g.P.Program.functions s c.args.t.0 is) refl
-
-pub returns-clause-ok : goal.returns-clause-ok
-returns-clause-ok g c s st =
-    let is : (c.args.t.0 == main) ≡ true = search rules in
-    rw (c.requires.call, kill_ends g.P.Program.functions s c.args.t.0 is)
-    (record {
-      stands = record {
-        control = c.vanish_all_but.ensures.shows s.control st.control;
-        resources = ap (λ k. told k (Answered c.args.t Kill (Int (pos 1)))) st.resources ∙ kill-told (store_of c.args.w.now.store) c.args.t.0 1 ∙ ap (λ (x : Store). record no_resources { store = x }) (sym c.vanish_all_but.ensures.store);
-      };
-      tells = rw c.requires.call at c.in_ok-answer_call.ensures.ok;
-    })
+    record {
+      next = λ s st. rw (c.requires.call, kill_ends g.P.Program.functions s c.args.t.0 is) refl;
+      leads = λ s st. rw (c.requires.call, kill_ends g.P.Program.functions s c.args.t.0 is) (record {
+        stands = record {
+          control = c.vanish_all_but.ensures.shows s.control st.control;
+          resources = ap (λ k. told k (Answered c.args.t Kill (Int (pos 1)))) st.resources ∙ kill-told (store_of c.args.w.now.store) c.args.t.0 1 ∙ ap (λ (x : Store). record no_resources { store = x }) (sym c.vanish_all_but.ensures.store);
+        };
+        tells = rw c.requires.call at c.in_ok-answer_call.ensures.ok;
+      });
+      cut = tt;
+    }
