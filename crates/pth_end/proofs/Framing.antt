@@ -25,31 +25,31 @@ use Rattle.pth_end.proofs.Chains.{cut_second, leads_then}
 -- ---- where they lead
 
 -- a piece led to u, and then the call was answered: its mark tells what threads have in v
-pub done_goes : {P S H : Type 0} (from : State P S H → Type 0) (last : Last P S H) (u v : WorldOf P S H) (e : Piece P S H) (m : Mark) (a : Answer) (old mid new : List Mark) (r : Result Next OutOfMemory)
-    → ((s : State P S H) → from s → last s ≡ (e and_then tells m and_next Done a) s) → ((s : State P S H) → from s → Leads u old mid (e s)) → Tells u m v → ((k : Control P S H) → Shows u k → Shows v k)
-    → IfOk r (λ n. n ≡ Done a) → OnOk r (new ≡ mid ++ m ∷ []) → OnErr r (new ≡ mid) → Goes from last v old new r
-done_goes from last u v e m a old mid new (Ok n) by first tell shows is told kept = record {
+pub done_goes : {P S H : Type 0} (last : Last P S H) (w u v : WorldOf P S H) (e : Piece P S H) (m : Mark) (a : Answer) (old mid new : List Mark) (r : Result Next OutOfMemory)
+    → ((s : State P S H) → StandsFor w s → last s ≡ (e and_then tells m and_next Done a) s) → ((s : State P S H) → StandsFor w s → Leads u old mid (e s)) → Tells u m v → ((k : Control P S H) → Shows u k → Shows v k)
+    → IfOk r (λ n. n ≡ Done a) → OnOk r (new ≡ mid ++ m ∷ []) → OnErr r (new ≡ mid) → Goes (StandsFor w) last v old new r
+done_goes last w u v e m a old mid new (Ok n) by first tell shows is told kept = record {
   next = λ s st. rw (by s st) is;
   leads = λ s st. rw (by s st) (leads_then u v s e (tells m) old mid new (first s st) (tells_leads u v m _ tell (first s st).stands (shows _ (first s st).stands.control) mid new told));
   cut = tt;
 }
-done_goes from last u v e m a old mid new (Err o) by first tell shows is told kept = record {
+done_goes last w u v e m a old mid new (Err o) by first tell shows is told kept = record {
   next = tt;
   leads = tt;
   cut = λ s st. rw (by s st) (cut_second u s e (tells m) old mid new (first s st) (cut_none mid new _ kept));
 }
 
 -- the mark tells nothing of what threads have
-pub quiet_goes : {P S H : Type 0} (from : State P S H → Type 0) (last : Last P S H) (v : WorldOf P S H) (e : Piece P S H) (m : Mark) (a : Answer) (old mid new : List Mark) (r : Result Next OutOfMemory)
-    → ((s : State P S H) → from s → last s ≡ (e and_then tells m and_next Done a) s) → ((s : State P S H) → from s → Leads v old mid (e s)) → IsQuiet m
-    → IfOk r (λ n. n ≡ Done a) → OnOk r (new ≡ mid ++ m ∷ []) → OnErr r (new ≡ mid) → Goes from last v old new r
-quiet_goes from last v e m a old mid new r by first quiet = done_goes from last v v e m a old mid new r by first (quiet_tells v v m quiet refl) (λ k shows. shows)
+pub quiet_goes : {P S H : Type 0} (last : Last P S H) (w v : WorldOf P S H) (e : Piece P S H) (m : Mark) (a : Answer) (old mid new : List Mark) (r : Result Next OutOfMemory)
+    → ((s : State P S H) → StandsFor w s → last s ≡ (e and_then tells m and_next Done a) s) → ((s : State P S H) → StandsFor w s → Leads v old mid (e s)) → IsQuiet m
+    → IfOk r (λ n. n ≡ Done a) → OnOk r (new ≡ mid ++ m ∷ []) → OnErr r (new ≡ mid) → Goes (StandsFor w) last v old new r
+quiet_goes last w v e m a old mid new r by first quiet = done_goes last w v v e m a old mid new r by first (quiet_tells v v m quiet refl) (λ k shows. shows)
 
 -- the call did nothing but answer
 pub said_goes : {P S H : Type 0} (last : Last P S H) (w : WorldOf P S H) (m : Mark) (a : Answer) (old new : List Mark) (r : Result Next OutOfMemory)
     → ((s : State P S H) → StandsFor w s → last s ≡ (silent and_then tells m and_next Done a) s) → IsQuiet m
     → IfOk r (λ n. n ≡ Done a) → OnOk r (new ≡ old ++ m ∷ []) → OnErr r (new ≡ old) → Goes (StandsFor w) last w old new r
-said_goes last w m a old new r by quiet = quiet_goes (StandsFor w) last w silent m a old old new r by (λ s st. record { stands = st; tells = sym (append-nil old) }) quiet
+said_goes last w m a old new r by quiet = quiet_goes last w w silent m a old old new r by (λ s st. record { stands = st; tells = sym (append-nil old) }) quiet
 
 -- it was refused
 pub refused_goes : {P S H : Type 0} (last : Last P S H) (w : WorldOf P S H) (t : Tid) (c : Call) (e : Errno) (old new : List Mark) (r : Result Next OutOfMemory)

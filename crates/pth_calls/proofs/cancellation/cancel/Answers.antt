@@ -40,7 +40,7 @@ returns-clause-goes g c =
     let n : SFits w64 c.args.n = search rules in
     let names = simp to_z-of_z at c.in-Ok.ensures.names in
     let a = ends_or_asks f c.in-Ok.it.0.0 c.in-Ok.it.1 in
-    quiet_goes _ _ c.end_or_ask.new.w a (Answered c.args.t c.args.call.now (Int (pos 1))) (Int (pos 1)) _ _ _ c.done-2.result
+    quiet_goes _ c.args.w.now c.end_or_ask.new.w a (Answered c.args.t c.args.call.now (Int (pos 1))) (Int (pos 1)) _ _ _ c.done-2.result
     (λ s st. rw c.requires.call (cancel_begun f s c.args.t.0 c.args.n a (names s st)))
     c.in_ok-end_or_ask.ensures.ok
     (rw c.requires.call (quiet_cancel c.args.t c.args.n (Int (pos 1))))

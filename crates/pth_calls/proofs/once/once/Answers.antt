@@ -29,7 +29,7 @@ returns-clause-goes g c =
     let v : SFits w64 c.args.v = search rules in
     let used = simp to_z-of_z at c.in_ok-answer.ensures in
     let a = c.in_ok-answer.answer in
-    quiet_goes _ _ c.use_control.new.w (λ s. effect_of (once f s c.args.t.0 c.args.o c.args.h c.args.v).begin s) (Answered c.args.t c.args.call.now a) a _ _ _ c.done.result
+    quiet_goes _ c.args.w.now c.use_control.new.w (λ s. effect_of (once f s c.args.t.0 c.args.o c.args.h c.args.v).begin s) (Answered c.args.t c.args.call.now a) a _ _ _ c.done.result
     (λ s st. rw c.requires.call (once_begun f s c.args.t.0 c.args.o c.args.h c.args.v a (used.verdict s st)))
     used.ok
     (rw c.requires.call (quiet_once c.args.t c.args.o c.args.h c.args.v a))

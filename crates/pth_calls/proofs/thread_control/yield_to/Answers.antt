@@ -17,7 +17,7 @@ returns-then-not-name_next-clause-goes g c =
     let isnt : c.name_next.result ≡ false = search rules in
     let verdict = simp (to_z-of_z, isnt) at c.name_next.ensures.verdict in
     let effect = simp to_z-of_z at c.name_next.ensures.effect in
-    quiet_goes _ _ c.name_next.new.w (λ s. effect_of (yield s c.args.t.0 c.args.to).begin s) (Answered c.args.t c.args.call.now (Fail EINVAL)) (Fail EINVAL) _ _ _ c.done.result
+    quiet_goes _ c.args.w.now c.name_next.new.w (λ s. effect_of (yield s c.args.t.0 c.args.to).begin s) (Answered c.args.t c.args.call.now (Fail EINVAL)) (Fail EINVAL) _ _ _ c.done.result
     (λ s st. rw c.requires.call (yield_refused g.P.Program.functions s c.args.t.0 c.args.to (Fail EINVAL) (verdict s st)))
     (λ s st. (let led = effect s st in record { stands = record { control = led.shows; resources = led.resources }; tells = sym (ap (λ (ms : List Mark). c.args.marks.now ++ ms) led.silent ∙ append-nil _) }))
     (quiet-refused c.args.t c.args.call.now EINVAL)
