@@ -21,7 +21,6 @@ use Rattle.pth_model.specs.Transition.{changes, tid, tells, ◌and_then◌}
 use Rattle.pth_world.specs.Numbering.{Thread, Object, Event, no_numbers}
 use Rattle.pth_world.specs.World.{WorldOf}
 use Rattle.pth_world.proofs.Frames.{gives_none}
-use Rattle.pth_world.proofs.Frames.{gives_none}
 use Rattle.pth_world.proofs.Ranks.{ranks_none, ranks_same}
 use Rattle.pth_world.specs.Frame.{Frame}
 use Rattle.pth_world.specs.Leading.{Leads, IsQuiet, StandsOnce}
