@@ -138,6 +138,12 @@ other_facility facility.Rwlocks other = absurd (other.rwlocks refl)
 other_facility facility.Io other = absurd (other.io refl)
 other_facility x other = refl
 
+-- a plain call is of a facility
+pub plain_called : (c : Call) → is_plain c ≡ true → facility_of c ≢ None
+plain_called call.Plain plain is = cc plain
+plain_called (call.Note v) plain is = cc plain
+plain_called c plain is = cc is
+
 module _ {P S H : Type 0} (f : P → Functions S H) (s : State P S H) (t : ℕ) where
   -- a plain call begins as its row says
   begun_plain : (c : Call) → is_plain c ≡ true → begun f t c s ≡ begun_as f t c (row_of f s t c).begin s
@@ -159,71 +165,20 @@ module _ {P S H : Type 0} (f : P → Functions S H) (s : State P S H) (t : ℕ) 
   }
 
   -- the calls of the other facilities
-  pub unbuilt_row : (c : Call) → is_plain c ≡ true → is_of_code (facility_of c) ≡ false → row_of f s t c ≡ unbuilt
+  pub unbuilt_row : (c : Call) → facility_of c ≢ None → is_of_code (facility_of c) ≡ false → row_of f s t c ≡ unbuilt
   unfolding row_of
-  unbuilt_row call.Kill plain none = absurd (cc none)
-  unbuilt_row (call.Ctrl q) plain none = absurd (cc none)
-  unbuilt_row call.AttrNew plain none = absurd (cc none)
-  unbuilt_row (call.AttrOf n) plain none = absurd (cc none)
-  unbuilt_row (call.AttrInit x) plain none = absurd (cc none)
-  unbuilt_row (call.AttrSet x v) plain none = absurd (cc none)
-  unbuilt_row (call.AttrGet x field) plain none = absurd (cc none)
-  unbuilt_row (call.AttrDestroy x) plain none = absurd (cc none)
-  unbuilt_row (call.Spawn b v a) plain none = absurd (cc none)
-  unbuilt_row call.SelfTid plain none = absurd (cc none)
-  unbuilt_row (call.Suspend n) plain none = absurd (cc none)
-  unbuilt_row (call.Resume n) plain none = absurd (cc none)
-  unbuilt_row (call.Yield n) plain none = absurd (cc none)
-  unbuilt_row (call.Nap n) plain none = absurd (cc none)
-  unbuilt_row (call.Wait e) plain none = absurd (cc none)
-  unbuilt_row (call.CancelState n) plain none = absurd (cc none)
-  unbuilt_row call.CancelPoint plain none = absurd (cc none)
-  unbuilt_row (call.Cancel n) plain none = absurd (cc none)
-  unbuilt_row (call.Abort n) plain none = absurd (cc none)
-  unbuilt_row (call.Join n) plain none = absurd (cc none)
-  unbuilt_row (call.Exit v) plain none = absurd (cc none)
-  unbuilt_row (call.Fdmode d m) plain none = absurd (cc none)
-  unbuilt_row (call.Timeout n) plain none = absurd (cc none)
-  unbuilt_row (call.EvFd goals fd) plain none = absurd (cc none)
-  unbuilt_row (call.EvSelect r w x) plain none = absurd (cc none)
-  unbuilt_row (call.EvTime m) plain none = absurd (cc none)
-  unbuilt_row (call.EvMsg p) plain none = absurd (cc none)
-  unbuilt_row (call.EvCond c) plain none = absurd (cc none)
-  unbuilt_row (call.EvTid state n) plain none = absurd (cc none)
-  unbuilt_row (call.EvFunc c v l) plain none = absurd (cc none)
-  unbuilt_row (call.Chain e l) plain none = absurd (cc none)
-  unbuilt_row (call.EvConcat e g) plain none = absurd (cc none)
-  unbuilt_row (call.EvIsolate e) plain none = absurd (cc none)
-  unbuilt_row (call.EvWalk e forward until_occurred) plain none = absurd (cc none)
-  unbuilt_row (call.EvStatus e) plain none = absurd (cc none)
-  unbuilt_row (call.EvKind e) plain none = absurd (cc none)
-  unbuilt_row (call.EvFree e all) plain none = absurd (cc none)
-  unbuilt_row (call.Usleep n) plain none = absurd (cc plain)
-  unbuilt_row (call.Sleep n) plain none = absurd (cc plain)
-  unbuilt_row (call.Read d n) plain none = absurd (cc plain)
-  unbuilt_row (call.ReadEv d n e) plain none = absurd (cc plain)
-  unbuilt_row (call.Write d b) plain none = absurd (cc plain)
-  unbuilt_row (call.WriteEv d b e) plain none = absurd (cc plain)
-  unbuilt_row (call.Accept d) plain none = absurd (cc plain)
-  unbuilt_row (call.AcceptEv d e) plain none = absurd (cc plain)
-  unbuilt_row (call.Connect d) plain none = absurd (cc plain)
-  unbuilt_row (call.ConnectEv d e) plain none = absurd (cc plain)
-  unbuilt_row (call.Select r w x l) plain none = absurd (cc plain)
-  unbuilt_row (call.SelectEv r w x l e) plain none = absurd (cc plain)
-  unbuilt_row (call.Close d) plain none = absurd (cc none)
-  unbuilt_row (call.Once o h v) plain none = absurd (cc none)
-  unbuilt_row (call.KeyCreate h) plain none = absurd (cc none)
-  unbuilt_row (call.KeyDelete k) plain none = absurd (cc none)
-  unbuilt_row (call.KeySet k v) plain none = absurd (cc none)
-  unbuilt_row (call.KeyGet k) plain none = absurd (cc none)
-  unbuilt_row (call.CleanupPush h v) plain none = absurd (cc none)
-  unbuilt_row (call.CleanupPop v) plain none = absurd (cc none)
-  unbuilt_row (call.MutexInit m) plain none = absurd (cc none)
-  unbuilt_row (call.MutexAcquire m v e) plain none = absurd (cc none)
-  unbuilt_row (call.MutexRelease m) plain none = absurd (cc none)
-  unbuilt_row (call.RwInit l) plain none = absurd (cc none)
-  unbuilt_row (call.RwAcquire l write v e) plain none = absurd (cc none)
-  unbuilt_row (call.RwRelease l) plain none = absurd (cc none)
-  unbuilt_row call.Plain plain none = absurd (cc plain)
-  unbuilt_row (call.Note v) plain none = absurd (cc plain)
-  unbuilt_row c plain none = refl
+  unbuilt_row (call.PortCreate name) called none = refl
+  unbuilt_row (call.PortFind name) called none = refl
+  unbuilt_row (call.PortPending p) called none = refl
+  unbuilt_row (call.PortPut p v r) called none = refl
+  unbuilt_row (call.PortGet p) called none = refl
+  unbuilt_row (call.Reply m v) called none = refl
+  unbuilt_row (call.PortDestroy p) called none = refl
+  unbuilt_row (call.CondInit x) called none = refl
+  unbuilt_row (call.CondAwait x m e) called none = refl
+  unbuilt_row (call.CondNotify x v) called none = refl
+  unbuilt_row (call.BarrierInit b n) called none = refl
+  unbuilt_row (call.BarrierReach b) called none = refl
+  unbuilt_row call.Plain called none = absurd (called refl)
+  unbuilt_row (call.Note v) called none = absurd (called refl)
+  unbuilt_row c called none = absurd (cc none)
