@@ -17,7 +17,7 @@ use Rattle.pth_world.specs.World.{WorldOf}
 use Rattle.pth_waits.specs.Io.{first_awaited}
 use Rattle.pth_waits.specs.Verdicts.{IsCounted, is_called}
 
--- ---- as a call begins
+-- ---- calls on descriptors
 
 module _ {P S H : Type 0} (s : State P S H) where
   -- a call on descriptors is called
@@ -40,31 +40,38 @@ module _ {P S H : Type 0} (s : State P S H) where
   same_elsewhere (call.SelectEv r w x l e) u = refl
   same_elsewhere c u = refl
 
-  -- what is none of these never blocks a thread
+  -- a call that blocks a thread, and is none of these, is one on descriptors
+  pub descriptors_else : (t : ℕ) (c : Call) (a : Awaits) → MayAwaitAs t c a
+      → ((n : ℤ) → c ≢ call.Join n) → ((v : ℤ) → c ≢ call.Exit v) → ((n : ℤ) → c ≢ call.Nap n) → ((n : ℤ) → c ≢ call.Usleep n) → ((n : ℤ) → c ≢ call.Sleep n) → ((e : ℤ) → c ≢ call.Wait e)
+      → ((m v e : ℤ) → c ≢ call.MutexAcquire m v e) → ((l : ℤ) (write : Bool) (v e : ℤ) → c ≢ call.RwAcquire l write v e) → IsSome (first_awaited s c)
+  descriptors_else t (call.Join n) a may join exit nap usleep sleep wait mutex lock = absurd (join n refl)
+  descriptors_else t (call.Exit v) a may join exit nap usleep sleep wait mutex lock = absurd (exit v refl)
+  descriptors_else t (call.Nap n) a may join exit nap usleep sleep wait mutex lock = absurd (nap n refl)
+  descriptors_else t (call.Usleep n) a may join exit nap usleep sleep wait mutex lock = absurd (usleep n refl)
+  descriptors_else t (call.Sleep n) a may join exit nap usleep sleep wait mutex lock = absurd (sleep n refl)
+  descriptors_else t (call.Wait e) a may join exit nap usleep sleep wait mutex lock = absurd (wait e refl)
+  descriptors_else t (call.MutexAcquire m v e) a may join exit nap usleep sleep wait mutex lock = absurd (mutex m v e refl)
+  descriptors_else t (call.RwAcquire l write v e) a may join exit nap usleep sleep wait mutex lock = absurd (lock l write v e refl)
+  descriptors_else t (call.Read f n) a may join exit nap usleep sleep wait mutex lock = refl
+  descriptors_else t (call.ReadEv f n e) a may join exit nap usleep sleep wait mutex lock = refl
+  descriptors_else t (call.Write f bytes) a may join exit nap usleep sleep wait mutex lock = refl
+  descriptors_else t (call.WriteEv f bytes e) a may join exit nap usleep sleep wait mutex lock = refl
+  descriptors_else t (call.Accept f) a may join exit nap usleep sleep wait mutex lock = refl
+  descriptors_else t (call.AcceptEv f e) a may join exit nap usleep sleep wait mutex lock = refl
+  descriptors_else t (call.Connect f) a may join exit nap usleep sleep wait mutex lock = refl
+  descriptors_else t (call.ConnectEv f e) a may join exit nap usleep sleep wait mutex lock = refl
+  descriptors_else t (call.Select r w x l) a may join exit nap usleep sleep wait mutex lock = refl
+  descriptors_else t (call.SelectEv r w x l e) a may join exit nap usleep sleep wait mutex lock = refl
+  descriptors_else t c a may join exit nap usleep sleep wait mutex lock = absurd may
+
+  -- so a call that is neither one of these nor on descriptors never blocks a thread
   pub others_never : (c : Call) → first_awaited s c ≡ None
       → ((n : ℤ) → c ≢ call.Join n) → ((v : ℤ) → c ≢ call.Exit v) → ((n : ℤ) → c ≢ call.Nap n) → ((n : ℤ) → c ≢ call.Usleep n) → ((n : ℤ) → c ≢ call.Sleep n) → ((e : ℤ) → c ≢ call.Wait e)
       → ((m v e : ℤ) → c ≢ call.MutexAcquire m v e) → ((l : ℤ) (write : Bool) (v e : ℤ) → c ≢ call.RwAcquire l write v e) → (t : ℕ) (a : Awaits) → MayAwaitAs t c a → ⊥
-  others_never (call.Join n) none join exit nap usleep sleep wait mutex lock t a may = join n refl
-  others_never (call.Exit v) none join exit nap usleep sleep wait mutex lock t a may = exit v refl
-  others_never (call.Nap n) none join exit nap usleep sleep wait mutex lock t a may = nap n refl
-  others_never (call.Usleep n) none join exit nap usleep sleep wait mutex lock t a may = usleep n refl
-  others_never (call.Sleep n) none join exit nap usleep sleep wait mutex lock t a may = sleep n refl
-  others_never (call.Wait e) none join exit nap usleep sleep wait mutex lock t a may = wait e refl
-  others_never (call.MutexAcquire m v e) none join exit nap usleep sleep wait mutex lock t a may = mutex m v e refl
-  others_never (call.RwAcquire l write v e) none join exit nap usleep sleep wait mutex lock t a may = lock l write v e refl
-  others_never (call.Read f n) none join exit nap usleep sleep wait mutex lock t a may = cc none
-  others_never (call.ReadEv f n e) none join exit nap usleep sleep wait mutex lock t a may = cc none
-  others_never (call.Write f bytes) none join exit nap usleep sleep wait mutex lock t a may = cc none
-  others_never (call.WriteEv f bytes e) none join exit nap usleep sleep wait mutex lock t a may = cc none
-  others_never (call.Accept f) none join exit nap usleep sleep wait mutex lock t a may = cc none
-  others_never (call.AcceptEv f e) none join exit nap usleep sleep wait mutex lock t a may = cc none
-  others_never (call.Connect f) none join exit nap usleep sleep wait mutex lock t a may = cc none
-  others_never (call.ConnectEv f e) none join exit nap usleep sleep wait mutex lock t a may = cc none
-  others_never (call.Select r w x l) none join exit nap usleep sleep wait mutex lock t a may = cc none
-  others_never (call.SelectEv r w x l e) none join exit nap usleep sleep wait mutex lock t a may = cc none
-  others_never c none join exit nap usleep sleep wait mutex lock t a may = may
+  others_never c none join exit nap usleep sleep wait mutex lock t a may =
+      cc (none, descriptors_else t c a may join exit nap usleep sleep wait mutex lock)
 
--- ---- as it is tried again
+-- ---- as a call is tried again
 
 module _ {P S H : Type 0} (w v : WorldOf P S H) (t : ℕ) (b : Blocked) (c : Call) (attempt : Call → Awaits → State P S H → Attempt P S H) (x : Verdict) (is : b.call ≡ c) where
   pub tries_as : Tries w v t (record { call = c; awaits = b.awaits }) (attempt c b.awaits) x → Tries w v t b (attempt b.call b.awaits) x
@@ -72,30 +79,6 @@ module _ {P S H : Type 0} (w v : WorldOf P S H) (t : ℕ) (b : Blocked) (c : Cal
 
   pub tries_at : ((a : Awaits) → Tries w v t (record { call = c; awaits = a }) (attempt c a) x) → Tries w v t b (attempt b.call b.awaits) x
   tries_at tries = tries_as (tries b.awaits)
-
--- a call that is none of the others waits for descriptors
-pub descriptors_else : {P S H : Type 0} (s : State P S H) (t : ℕ) (c : Call) (a : Awaits) → MayAwaitAs t c a
-    → ((n : ℤ) → c ≢ call.Join n) → ((v : ℤ) → c ≢ call.Exit v) → ((n : ℤ) → c ≢ call.Nap n) → ((n : ℤ) → c ≢ call.Usleep n) → ((n : ℤ) → c ≢ call.Sleep n) → ((e : ℤ) → c ≢ call.Wait e)
-    → ((m v e : ℤ) → c ≢ call.MutexAcquire m v e) → ((l : ℤ) (write : Bool) (v e : ℤ) → c ≢ call.RwAcquire l write v e) → IsSome (first_awaited s c)
-descriptors_else s t (call.Join n) a may join exit nap usleep sleep wait mutex lock = absurd (join n refl)
-descriptors_else s t (call.Exit v) a may join exit nap usleep sleep wait mutex lock = absurd (exit v refl)
-descriptors_else s t (call.Nap n) a may join exit nap usleep sleep wait mutex lock = absurd (nap n refl)
-descriptors_else s t (call.Usleep n) a may join exit nap usleep sleep wait mutex lock = absurd (usleep n refl)
-descriptors_else s t (call.Sleep n) a may join exit nap usleep sleep wait mutex lock = absurd (sleep n refl)
-descriptors_else s t (call.Wait e) a may join exit nap usleep sleep wait mutex lock = absurd (wait e refl)
-descriptors_else s t (call.MutexAcquire m v e) a may join exit nap usleep sleep wait mutex lock = absurd (mutex m v e refl)
-descriptors_else s t (call.RwAcquire l write v e) a may join exit nap usleep sleep wait mutex lock = absurd (lock l write v e refl)
-descriptors_else s t (call.Read f n) a may join exit nap usleep sleep wait mutex lock = refl
-descriptors_else s t (call.ReadEv f n e) a may join exit nap usleep sleep wait mutex lock = refl
-descriptors_else s t (call.Write f bytes) a may join exit nap usleep sleep wait mutex lock = refl
-descriptors_else s t (call.WriteEv f bytes e) a may join exit nap usleep sleep wait mutex lock = refl
-descriptors_else s t (call.Accept f) a may join exit nap usleep sleep wait mutex lock = refl
-descriptors_else s t (call.AcceptEv f e) a may join exit nap usleep sleep wait mutex lock = refl
-descriptors_else s t (call.Connect f) a may join exit nap usleep sleep wait mutex lock = refl
-descriptors_else s t (call.ConnectEv f e) a may join exit nap usleep sleep wait mutex lock = refl
-descriptors_else s t (call.Select r w x l) a may join exit nap usleep sleep wait mutex lock = refl
-descriptors_else s t (call.SelectEv r w x l e) a may join exit nap usleep sleep wait mutex lock = refl
-descriptors_else s t c a may join exit nap usleep sleep wait mutex lock = absurd may
 
 -- whether a call blocks a thread
 pub some_blocked : (o : Option Blocked) → is_some o ≡ true → (b : Blocked) × (o ≡ Some b)

@@ -7,7 +7,6 @@ use Rattle.pth_ring.specs.declared.event.Status.TheVariants.{Pending}
 use Rattle.pth_ring.specs.Ring.{each, ring_holds}
 use Rattle.pth_ring.specs.Rings.{Events, awaited, claimed, ring_awaited, with_claim, with_status}
 use Rattle.pth_base.specs.Limits.{last_moment}
-use Rattle.pth_base.specs.Program.{Functions}
 use Rattle.pth_base.specs.declared.event.EventSpec.{EventSpec}
 use Rattle.pth_base.specs.declared.ids.Tid.{Tid}
 use Rattle.pth_base.proofs.Tables.{put_by}
@@ -54,9 +53,9 @@ module _ {P S H : Type 0} (s : State P S H) (until : ℕ) (early : now_of s.cont
   none_of a b c h i j = rw (h, i, j) refl
 
   -- where main is not alone, and no thread is left to join if no record is that of one
-  pub dormant_stays : (f : P → Functions S H) (t : ℕ) → is_alone s.control main ≡ false → (((u : ℕ) → is_left_to_join (entry_of s.control u) ≡ false) → has_any_died s.control ≡ false) → IsDormant s until t → is_to_wake s t ≡ false
+  pub dormant_stays : (t : ℕ) → is_alone s.control main ≡ false → (((u : ℕ) → is_left_to_join (entry_of s.control u) ≡ false) → has_any_died s.control ≡ false) → IsDormant s until t → is_to_wake s t ≡ false
   unfolding comes_for wakes
-  dormant_stays f t alone none q = none_of _ _ _ (away_now t _ alone none q.away) (none_come _ q.pending) q.unasked
+  dormant_stays t alone none q = none_of _ _ _ (away_now t _ alone none q.away) (none_come _ q.pending) q.unasked
 
   -- and a look at its events finds what was found before
   pub looked_same : (o : Option Event) → StaysPending s.control until o → option_map (looked_at s.control) o ≡ o

@@ -3,7 +3,6 @@ use Rattle.std.proofs.Common.{◌≡◌, ◌≢◌, ℕ, ◌<◌, ◌≤◌, ◌
 use Rattle.std.proofs.lemmas.Bool.Decides.{nat_tests}
 use Rattle.std.proofs.lemmas.List.Elements.{All-cons, All-nil}
 use Rattle.std.specs.List.{list_any}
-use Rattle.pth_base.specs.Program.{Functions}
 use Rattle.pth_base.specs.declared.call.Call.{Call}
 use Rattle.pth_base.specs.declared.call.Call.TheVariants as call
 use Rattle.pth_ring.specs.declared.event.Event.{Event}
@@ -93,7 +92,7 @@ module _ {P S H : Type 0} (k : Control P S H) where
   pending_now None settled none = All-nil (λ e. StaysPending k (after_now k) (k.events.events e))
   pending_now (Some e) settled none = ring_stays k (after_now k) (number e) (none_by _ settled) (all_found_now (k.events.rings (number e)) none)
 
-module _ {P S H : Type 0} (f : P → Functions S H) (w : WorldOf P S H) (whole : Whole w) (s : State P S H) (st : StandsFor w s) (u : ℕ) (used : tid_at w.threads.records u ≢ 0) where
+module _ {P S H : Type 0} (w : WorldOf P S H) (whole : Whole w) (s : State P S H) (st : StandsFor w s) (u : ℕ) (used : tid_at w.threads.records u ≢ 0) where
   abbrev k : Control P S H
   k = s.control
 

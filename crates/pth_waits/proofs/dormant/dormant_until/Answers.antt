@@ -41,14 +41,14 @@ returns-in-None-clause-later g c = λ s st q.
 
 pub returns-in-Some-clause-told : goal.returns-in-Some-clause-told
 returns-in-Some-clause-told g c = λ s st undue.
-    returns-in-Some-clause-later g c s st (undue_dormant g.P.Program.functions c.args.w.now c.requires.whole s st c.args.slot.0 c.requires.used undue)
+    returns-in-Some-clause-later g c s st (undue_dormant c.args.w.now c.requires.whole s st c.args.slot.0 c.requires.used undue)
 
 pub returns-in-None-clause-told : goal.returns-in-None-clause-told
 returns-in-None-clause-told g c = λ s st undue.
-    returns-in-None-clause-later g c s st (undue_dormant g.P.Program.functions c.args.w.now c.requires.whole s st c.args.slot.0 c.requires.used undue)
+    returns-in-None-clause-later g c s st (undue_dormant c.args.w.now c.requires.whole s st c.args.slot.0 c.requires.used undue)
 
 pub returns-then-may_be_canceled_at-clause-told : goal.returns-then-may_be_canceled_at-clause-told
 returns-then-may_be_canceled_at-clause-told g c = λ s st undue.
-    let q = undue_dormant g.P.Program.functions c.args.w.now c.requires.whole s st c.args.slot.0 c.requires.used undue in
+    let q = undue_dormant c.args.w.now c.requires.whole s st c.args.slot.0 c.requires.used undue in
     let asked = sym (c.may_be_canceled_at.ensures s.control st.control) ∙ c.if-may_be_canceled_at.true in
     absurd (cc (sym q.unasked ∙ asked))
