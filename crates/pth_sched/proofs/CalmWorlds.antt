@@ -5,7 +5,6 @@ use Rattle.std.proofs.lemmas.List.Elements.{All-weaker}
 use Rattle.pth_base.proofs.Tables.{same_means, same_fails}
 use Rattle.pth_base.specs.Limits.{last_moment}
 use Rattle.pth_base.specs.Naming.{by_slot, seen}
-use Rattle.pth_base.specs.Program.{Functions}
 use Rattle.pth_base.specs.declared.mark.Mark.{Mark}
 use Rattle.pth_kernel.specs.Kernel.{Kernel}
 use Rattle.pth_threads.specs.Threads.{entry_at, slot_of}
@@ -89,7 +88,7 @@ module _ {P S H : Type 0} (w : WorldOf P S H) where
       record { state = state_of w; stands = stands; calm = λ u other waits. dormant (state_of w) stands u waits }
 
   -- and a pass changes nothing
-  module _ (f : P → Functions S H) (s : State P S H) (st : StandsFor w s) (whole : Whole w) (until : ℕ) (early : w.kernel.now < until) (dormant : AreDormant s until) (alone : is_alone s.control main ≡ false) where
+  module _ (s : State P S H) (st : StandsFor w s) (whole : Whole w) (until : ℕ) (early : w.kernel.now < until) (dormant : AreDormant s until) (alone : is_alone s.control main ≡ false) where
     early_now : now_of s.control < until
     early_now = later_than_now w s.control st.control until early
 
@@ -100,7 +99,7 @@ module _ {P S H : Type 0} (w : WorldOf P S H) where
     unfolding pass all_woken
     pass_leads_nowhere old =
         let looked = none_looked s until early_now all_dormant in
-        let none = none_wakes s until early_now all_dormant f alone (none_died w whole s.control st.control) in
+        let none = none_wakes s until early_now all_dormant alone (none_died w whole s.control st.control) in
         subst (λ (l : List ℕ). Leads w old old ((changes looks and_then all_woken l) s)) (sym none) (record {
           stands = record { control = subst (λ (k : Control P S H). Shows w k) (sym looked) st.control; resources = st.resources };
           tells = sym (append-nil old);

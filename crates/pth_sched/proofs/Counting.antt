@@ -2,7 +2,6 @@
 use Rattle.std.proofs.Common.{◌≡◌, ◌≢◌, ◌∙◌, ℕ, ℤ, ◌==◌, ◌&&◌, ◌++◌, ◌∷◌, Bool, true, false, if◌then◌else◌, nat_lt, nat_le, min, List, [], map, Option, Some, None, option_map, inl, refl, sym, ap, ap₂, subst, append_assoc, append-nil, arith}
 use Rattle.std.proofs.Math.Nat.{min_comm}
 use Rattle.pth_base.specs.Limits.{last_moment}
-use Rattle.pth_base.specs.Program.{Functions}
 use Rattle.pth_base.specs.declared.event.EventSpec.{EventSpec}
 use Rattle.pth_base.specs.Chain.{StandsIn}
 use Rattle.pth_base.proofs.Tables.{same_self, not_same}
@@ -122,7 +121,7 @@ module _ (x : Events) (now e : ℕ) (start : Option ℕ) where
 
 -- ---- the moments of a thread
 
-module _ {P S H : Type 0} (f : P → Functions S H) (s : State P S H) (t : ℕ) where
+module _ {P S H : Type 0} (s : State P S H) (t : ℕ) where
   -- Moments are counted of which best is the least. Then that for which the thread's call waits is counted, where next is the
   -- least, and those of the events of the ring that it was given, if any, where last is.
   module _ (now : ℕ) (ms : List ℕ) (best next last : Option ℕ) (a : Awaited) (ring : Option ℤ) (x : Events)

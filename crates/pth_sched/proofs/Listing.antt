@@ -2,7 +2,6 @@
 use Rattle.std.proofs.Common.{◌≡◌, ◌∙◌, ℕ, Bool, true, false, cond, ◌||◌, if◌then◌else◌, List, [], ◌∷◌, ◌++◌, filter, flat_map, Option, Some, None, option_map, refl, sym, ap, ap₂, subst, ◌==◌, append_assoc, append-nil}
 use Rattle.std.specs.List.{list_any}
 use mathlib.Core.Path.{fun_ext}
-use Rattle.pth_base.specs.Program.{Functions}
 use Rattle.pth_ring.specs.declared.event.Event.{Event}
 use Rattle.pth_ring.specs.Arena.{events_of}
 use Rattle.pth_ring.specs.Ring.{each, ring_holds}
@@ -97,9 +96,9 @@ module _ {P S H : Type 0} (s : State P S H) (xs : List ℕ) where
   has_come_still t Nothing = refl
   has_come_still t a = refl
 
-  to_wake_still : (f : P → Functions S H) (t : ℕ) → is_to_wake seen_state t ≡ is_to_wake s t
+  to_wake_still : (t : ℕ) → is_to_wake seen_state t ≡ is_to_wake s t
   unfolding wakes
-  to_wake_still f t =
+  to_wake_still t =
       ap₂ (λ (a b : Bool). a || b)
       (ap₂ (λ (a b : Bool). a || b) (has_come_still t (awaits_in (blocked_of s.control t))) (come_for_still s.control xs t))
       (canceled_still s.control xs t)
@@ -108,7 +107,7 @@ module _ {P S H : Type 0} (s : State P S H) (xs : List ℕ) where
 
 -- Of the threads ts some were gone over, and rest are left: the events for which the former wait were looked at, and those of them
 -- that are to wake are listed.
-pub record GoneOver {P S H : Type 0} (f : P → Functions S H) (old now : WorldOf P S H) (ts rest list : List ℕ) : Type 0 where
+pub record GoneOver {P S H : Type 0} (old now : WorldOf P S H) (ts rest list : List ℕ) : Type 0 where
   pub done : List ℕ
   pub split : ts ≡ done ++ rest
   pub shows : (k : Control P S H) → Shows old k → Shows now (looks_at k (flat_map (awaited_events k) done))
@@ -127,8 +126,8 @@ dead_still {P} {S} {H} old now any same dead k sh =
     let there : Shows (record old { events = now.events }) k = subst (λ (w : WorldOf P S H). Shows w k) same sh in
     dead (record k { events = events_of old.events }) (events_show (record old { events = now.events }) old.events k _ there refl)
 
-module _ {P S H : Type 0} (f : P → Functions S H) (old : WorldOf P S H) where
-  pub gone_none : (ts : List ℕ) → GoneOver f old old ts ts []
+module _ {P S H : Type 0} (old : WorldOf P S H) where
+  pub gone_none : (ts : List ℕ) → GoneOver old old ts ts []
   gone_none ts = record {
     done = [];
     split = refl;
@@ -138,7 +137,7 @@ module _ {P S H : Type 0} (f : P → Functions S H) (old : WorldOf P S H) where
     same = refl;
   }
 
-  module _ (now x : WorldOf P S H) (ts rest list more : List ℕ) (t : ℕ) (so_far : GoneOver f old now ts (t ∷ rest) list)
+  module _ (now x : WorldOf P S H) (ts rest list more : List ℕ) (t : ℕ) (so_far : GoneOver old now ts (t ∷ rest) list)
       (shows : (k : Control P S H) → Shows now k → Shows x (looks_at k (awaited_events k t)))
       (made : x.events.made ≡ now.events.made) (same : x ≡ record now { events = x.events })
       (is : (s : State P S H) → StandsFor now s → more ≡ list ++ (if is_to_wake s t then t ∷ [] else [])) where
@@ -152,7 +151,7 @@ module _ {P S H : Type 0} (f : P → Functions S H) (old : WorldOf P S H) where
       resources = has_still old now s (ap (λ (w : WorldOf P S H). w.store) so_far.same) st.resources;
     }
 
-    pub gone_more : GoneOver f old x ts rest more
+    pub gone_more : GoneOver old x ts rest more
     gone_more = record {
       done = so_far.done ++ t ∷ [];
       split = so_far.split ∙ sym (append_assoc so_far.done (t ∷ []) rest);
@@ -161,14 +160,14 @@ module _ {P S H : Type 0} (f : P → Functions S H) (old : WorldOf P S H) where
           (shows (looks_at k (events k)) (so_far.shows k sh));
       listed = λ s st.
           is (record s { control = looks_at s.control (events s.control) }) (stands_seen s st)
-          ∙ ap₂ (λ (l : List ℕ) (b : Bool). l ++ (if b then t ∷ [] else [])) (so_far.listed s st) (to_wake_still s (events s.control) f t)
+          ∙ ap₂ (λ (l : List ℕ) (b : Bool). l ++ (if b then t ∷ [] else [])) (so_far.listed s st) (to_wake_still s (events s.control) t)
           ∙ sym (kept (is_to_wake s) so_far.done (t ∷ []));
       made = made ∙ so_far.made;
       same = same ∙ ap (λ (w : WorldOf P S H). record w { events = x.events }) so_far.same;
     }
 
   -- all were gone over
-  module _ (now : WorldOf P S H) (ts list : List ℕ) (all : GoneOver f old now ts [] list) where
+  module _ (now : WorldOf P S H) (ts list : List ℕ) (all : GoneOver old now ts [] list) where
     all_done : all.done ≡ ts
     all_done = sym (all.split ∙ append-nil all.done)
 

@@ -1,7 +1,6 @@
 -- Idle time moves to a moment, and a pass is made.
 use Rattle.std.proofs.Common.{◌≡◌, ◌↔◌, ℕ, Bool, true, false, List, [], ◌∷◌, ◌++◌, map, Option, Some, None, is_some, Result, Ok, Err, OnOk, refl, sym, ap, subst, ◌∙◌, append_assoc}
 use Rattle.pth_base.specs.Cut.{IsCut}
-use Rattle.pth_base.specs.Program.{Functions}
 use Rattle.pth_base.specs.declared.mark.Mark.{Mark}
 use Rattle.pth_base.specs.declared.mark.Mark.TheVariants.{Moved}
 use Rattle.pth_queue.specs.declared.ranked.Ranked.{Ranked}
@@ -42,8 +41,8 @@ module _ {P S H : Type 0} where
   -- ---- a pass is made
 
   module _ (m v : MachineOf P S H) where
-    pub pass_makes : (f : P → Functions S H) (c : Course P S H) (old new : List Mark) → Stands m c → v.turn ≡ m.turn → Leads v.world old new (pass c.state) → Makes v old new (within c.turn (pass c.state))
-    pass_makes f c old new st turn leads = record {
+    pub pass_makes : (c : Course P S H) (old new : List Mark) → Stands m c → v.turn ≡ m.turn → Leads v.world old new (pass c.state) → Makes v old new (within c.turn (pass c.state))
+    pass_makes c old new st turn leads = record {
       stands = record { world = leads.stands; turn = st.turn ∙ sym turn; memory = λ e. st.memory (ap (λ (x : Turn). x.outcome) (sym turn) ∙ e) };
       tells = leads.tells;
     }
@@ -75,7 +74,7 @@ module _ {P S H : Type 0} where
   abbrev moved : ℕ → State P S H → State P S H
   moved t s = ((changes (moves_to t) and_then tells (Moved t)) s).state
 
-  module _ (f : P → Functions S H) (t : ℕ) (c : Course P S H) where
+  module _ (t : ℕ) (c : Course P S H) where
     -- where the pass begins
     abbrev pub before_pass : Course P S H
     before_pass = record { state = moved t c.state; turn = c.turn; marks = [] }
@@ -106,7 +105,7 @@ module _ {P S H : Type 0} where
 
   -- ---- by the moment that comes next
 
-  module _ (f : P → Functions S H) (x : Turn) (s : State P S H) (o : Option ℕ) (next : o ≡ moment s) where
+  module _ (x : Turn) (s : State P S H) (o : Option ℕ) (next : o ≡ moment s) where
     pub moves_as : moves x s ≡ moves_by x o s
     unfolding moves
     moves_as = ap (λ (n : Option ℕ). moves_by x n s) (sym next)

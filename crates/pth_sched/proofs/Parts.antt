@@ -84,17 +84,17 @@ module _ {P S H : Type 0} (m : MachineOf P S H) (c : Course P S H) (st : Stands 
   still_makes old = record { stands = record { world = st.world; turn = st.turn; memory = st.memory }; tells = sym (append-nil old) }
 
   -- no thread waits for a moment: the run is stalled
-  pub stall_makes : (f : P → Functions S H) (old new : List Mark) → new ≡ old → moment c.state ≡ None → Makes (record m { turn = record m.turn { outcome = Stalled } }) old new (moves c.turn c.state)
+  pub stall_makes : (old new : List Mark) → new ≡ old → moment c.state ≡ None → Makes (record m { turn = record m.turn { outcome = Stalled } }) old new (moves c.turn c.state)
   unfolding moves
-  stall_makes f old new same none = rw none record {
+  stall_makes old new same none = rw none record {
     stands = record { world = st.world; turn = ap (λ (x : Turn). record x { outcome = Stalled }) st.turn; memory = λ e. cc e };
     tells = same ∙ sym (append-nil old);
   }
 
   -- a turn is over, and a pass is made
-  pub close_makes : (f : P → Functions S H) (t : ℕ) (w : WorldOf P S H) (old new : List Mark) → Leads w old new (pass (controlled (turn_ends t) c.state)) → Makes (record { world = w; turn = record m.turn { gave = None } }) old new (closes c.turn t c.state)
+  pub close_makes : (t : ℕ) (w : WorldOf P S H) (old new : List Mark) → Leads w old new (pass (controlled (turn_ends t) c.state)) → Makes (record { world = w; turn = record m.turn { gave = None } }) old new (closes c.turn t c.state)
   unfolding closes
-  close_makes f t w old new leads = record {
+  close_makes t w old new leads = record {
     stands = record { world = leads.stands; turn = ap (λ (x : Turn). record x { gave = None }) st.turn; memory = st.memory };
     tells = leads.tells;
   }
@@ -135,9 +135,9 @@ module _ {P S H : Type 0} (m : MachineOf P S H) (c : Course P S H) (st : Stands 
         tells = leads.tells;
       }
 
-pub closes_marks : {P S H : Type 0} (f : P → Functions S H) (x : Turn) (t : ℕ) (s : State P S H) → (closes x t s).marks ≡ (pass (controlled (turn_ends t) s)).marks
+pub closes_marks : {P S H : Type 0} (x : Turn) (t : ℕ) (s : State P S H) → (closes x t s).marks ≡ (pass (controlled (turn_ends t) s)).marks
 unfolding closes
-closes_marks f x t s = refl
+closes_marks x t s = refl
 
 pub steps_marks : {P S H : Type 0} (f : P → Functions S H) (x : Turn) (t : ℕ) (s : State P S H) → (steps f x t s).marks ≡ (steps_on f t s).told.marks
 unfolding steps

@@ -190,9 +190,9 @@ module _ {P S H : Type 0} where
   unasked_woken [] s is = is
   unasked_woken (t ∷ ts) s is = unasked_woken ts (woken t s).state (unasked_ready t _ false s.control is)
 
-  unasked_pass : (f : P → Functions S H) (s : State P S H) → IsUnasked s.control → IsUnasked (pass s).state.control
+  unasked_pass : (s : State P S H) → IsUnasked s.control → IsUnasked (pass s).state.control
   unfolding pass looks
-  unasked_pass f s is = unasked_woken (to_wake s) (controlled looks s) is
+  unasked_pass s is = unasked_woken (to_wake s) (controlled looks s) is
 
   unasked_placed : (t : ℕ) (r : Option ℕ) (b : Option Blocked) (k : Control P S H) → IsUnasked k → IsUnasked (placed_by t r b k)
   unfolding is_put_back is_put_waiting enters
@@ -200,20 +200,20 @@ module _ {P S H : Type 0} where
   unasked_placed t (Some r) (Some b) k is = unasked_sets t (change.State state.Waiting) k (λ here. state_asks state.Waiting) is
   unasked_placed t (Some r) None k is = unasked_sets t (change.State state.Ready) k (λ here. state_asks state.Ready) is
 
-  unasked_closed : (f : P → Functions S H) (x : Turn) (t : ℕ) (s : State P S H) → IsUnasked s.control → IsUnasked (closes x t s).state.control
+  unasked_closed : (x : Turn) (t : ℕ) (s : State P S H) → IsUnasked s.control → IsUnasked (closes x t s).state.control
   unfolding closes is_placed raises_ready
-  unasked_closed f x t s is = unasked_pass f (controlled (turn_ends t) s) (unasked_placed t s.control.scheduler.running (blocked_of s.control t) (raises_ready s.control) is)
+  unasked_closed x t s is = unasked_pass (controlled (turn_ends t) s) (unasked_placed t s.control.scheduler.running (blocked_of s.control t) (raises_ready s.control) is)
 
-  unasked_moved : (f : P → Functions S H) (x : Turn) (o : Option ℕ) (s : State P S H) → IsUnasked s.control → IsUnasked (moves_by x o s).state.control
-  unasked_moved f x None s is = is
-  unasked_moved f x (Some m) s is = unasked_pass f _ is
+  unasked_moved : (x : Turn) (o : Option ℕ) (s : State P S H) → IsUnasked s.control → IsUnasked (moves_by x o s).state.control
+  unasked_moved x None s is = is
+  unasked_moved x (Some m) s is = unasked_pass _ is
 
   unasked_part : (f : P → Functions S H) (x : Turn) (s : State P S H) (p : Part) → IsUnasked s.control → IsUnasked (part_by f x s p).state.control
   unfolding moves
-  unasked_part f x s Move is = unasked_moved f x (moment s) s is
+  unasked_part f x s Move is = unasked_moved x (moment s) s is
   unasked_part f x s Take is = unasked_taken x s is
   unasked_part f x s (Step t) is = step_keeps f t IsUnasked (unasked_calls f t) x s is
-  unasked_part f x s (Close t) is = unasked_closed f x t s is
+  unasked_part f x s (Close t) is = unasked_closed x t s is
   unasked_part f x s Halt is = is
 
   -- ---- runs

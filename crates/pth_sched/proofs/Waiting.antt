@@ -3,7 +3,6 @@ use Rattle.std.proofs.Common.{◌≡◌, ℕ, ◌==◌, ◌<◌, ◌||◌, ◌&&
 use Rattle.std.proofs.lemmas.List.Elements.{All-append, All-cons, All-get_or, All-head, All-nil, All-tail, All-weaker}
 use mathlib.Core.Path.{fun_ext}
 use Rattle.pth_base.proofs.Tables.{same_means}
-use Rattle.pth_base.specs.Program.{Functions}
 use Rattle.pth_base.specs.declared.ids.Slot.{Slot}
 use Rattle.pth_base.specs.declared.thread.ThreadState.{ThreadState}
 use Rattle.pth_base.specs.declared.thread.ThreadState.TheVariants as state
@@ -99,11 +98,11 @@ module _ {P S H : Type 0} (s : State P S H) (until : ℕ) (early : now_of s.cont
   abbrev k : Control P S H
   k = s.control
 
-  pub none_wakes : (f : P → Functions S H) → is_alone k main ≡ false → (((u : ℕ) → is_left_to_join (entry_of k u) ≡ false) → has_any_died k ≡ false) → to_wake s ≡ []
+  pub none_wakes : is_alone k main ≡ false → (((u : ℕ) → is_left_to_join (entry_of k u) ≡ false) → has_any_died k ≡ false) → to_wake s ≡ []
   unfolding to_wake
-  none_wakes f alone none =
+  none_wakes alone none =
       none_kept (is_to_wake s) (waiting k)
-      (All-weaker (IsDormant s until) (λ u. is_to_wake s u ≡ false) (λ u q. dormant_stays s until early f u alone none q) (waiting k) all)
+      (All-weaker (IsDormant s until) (λ u. is_to_wake s u ≡ false) (λ u q. dormant_stays s until early u alone none q) (waiting k) all)
 
   pub none_looked : looks k ≡ k
   unfolding looks

@@ -10,7 +10,6 @@ use Rattle.pth_queue.specs.Queues.{queue_of, without, entered}
 use Rattle.pth_queue.proofs.Counts.{count-cons}
 use Rattle.pth_queue.proofs.Standing.{queue_of-holds}
 use Rattle.pth_threads.specs.Threads.{slot_of, tid_at}
-use Rattle.pth_base.specs.Program.{Functions}
 use Rattle.pth_model.specs.State.{State}
 use Rattle.pth_model.specs.Transition.{Transition, changes, controlled, tid, ◌and_then◌}
 use Rattle.pth_model.specs.Changes.{holders, prio_of}
@@ -89,9 +88,9 @@ module _ {P S H : Type 0} (w : WorldOf P S H) (sound : IsSound w.threads) where
       or_true false = refl
 
   -- they wait, and none is listed twice
-  pub to_wake_once : (f : P → Functions S H) (s : State P S H) → StandsFor w s → WaitOnce w (to_wake s)
+  pub to_wake_once : (s : State P S H) → StandsFor w s → WaitOnce w (to_wake s)
   unfolding to_wake
-  to_wake_once f s st =
+  to_wake_once s st =
       let rows = st.control.threads.standing Waiting in
       subst (λ (l : List Ranked). WaitOnce w (filter (is_to_wake s) (holders l))) (sym rows)
       (rows_once (is_to_wake s) w.threads.queues.waiting (sound.queued Waiting) (λ x h. queue_of-holds Waiting x w.threads.queues sound.orderly h) (λ t. subst (λ (l : List Ranked). count_by (is_of t) l ≤ 1) rows (once_thread w.threads s.control t Waiting sound st.control.threads)))
@@ -144,7 +143,7 @@ module _ {P S H : Type 0} where
       }
 
   -- a pass wakes those that it listed
-  module _ (f : P → Functions S H) (w v : WorldOf P S H) (s : State P S H) (st : StandsFor w s) (ts : List ℕ) (old new : List Mark) (is : ts ≡ to_wake s) (seen : Shows v (looks s.control)) (stored : v.store ≡ w.store) where
+  module _ (w v : WorldOf P S H) (s : State P S H) (st : StandsFor w s) (ts : List ℕ) (old new : List Mark) (is : ts ≡ to_wake s) (seen : Shows v (looks s.control)) (stored : v.store ≡ w.store) where
     stands_seen : StandsFor v (controlled looks s)
     stands_seen = record { control = seen; resources = has_still w v s stored st.resources }
 

@@ -32,7 +32,7 @@ returns-clause-moment g c s st =
     ∙ ap (λ (x : Kernel). least_after x.now (arrival_times x ++ moments s)) (sym st.control.kernel)
 
 pub returns-clause-later : goal.returns-clause-later
-returns-clause-later g c = next_later g.P.Program.functions c.args.w.now c.loop-slot.best c.requires.whole.sound (returns-clause-moment g c)
+returns-clause-later g c = next_later c.args.w.now c.loop-slot.best c.requires.whole.sound (returns-clause-moment g c)
 
 pub returns-clause-within : goal.returns-clause-within
-returns-clause-within g c = next_within g.P.Program.functions c.args.w.now c.loop-slot.best c.requires.whole.sound (returns-clause-moment g c)
+returns-clause-within g c = next_within c.args.w.now c.loop-slot.best c.requires.whole.sound (returns-clause-moment g c)
