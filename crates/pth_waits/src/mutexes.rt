@@ -32,6 +32,7 @@ pub(crate) fn is_free_mutex<P: Program>(w: &World<P>, m: i64) -> bool
 /// `pth_mutex_acquire` of mutex `m`: the thread has one level more of it if it is free or its own; or else it waits, beside the ring
 /// of event `e` (0 for none). EINVAL if there is no such mutex or ring, EAGAIN if the thread has 65,535 levels of it, and EBUSY if
 /// another has it and the call only tries (`v` is not 0), or the ring is claimed.
+#[inline(always)]
 pub(crate) fn acquire_mutex<P: Program>(w: &mut World<P>, t: Tid, m: i64, v: i64, e: i64) -> Verdict
     requires whole { Whole w.old }
     requires runs { w.old.scheduler.running ≡ Some t.0 }

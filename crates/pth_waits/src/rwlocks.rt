@@ -32,6 +32,7 @@ pub(crate) fn is_open_lock<P: Program>(w: &World<P>, l: i64, write: bool) -> boo
 /// `pth_rwlock_acquire` of lock `l`, to write or to read: the thread enters, or else it waits, beside the ring of event `e` (0 for
 /// none). EINVAL if there is no such lock or ring, EDEADLK if the thread holds the lock, and EBUSY if it may not enter and the call
 /// only tries (`v` is not 0), or the ring is claimed.
+#[inline(always)]
 pub(crate) fn acquire_lock<P: Program>(
     w: &mut World<P>,
     t: Tid,
