@@ -7,15 +7,28 @@ use Rattle.pth_model.specs.declared.verdict.Verdict.{Verdict}
 use Rattle.pth_model.specs.declared.verdict.Verdict.TheVariants.{Blocks}
 use Rattle.pth_model.specs.Awaits.{written_in}
 use Rattle.pth_model.specs.Calls.{interrupted}
+use Rattle.pth_model.specs.RingWaits.{ring_given}
+use Rattle.pth_model.specs.Row.{Row}
 use Rattle.pth_model.specs.State.{State}
 use Rattle.pth_waits.specs.Io.{first_awaited}
+use Rattle.pth_world.specs.Leading.{Attempts, Tries}
 use Rattle.pth_world.specs.Whole.{MayAwaitAs}
+use Rattle.pth_world.specs.World.{WorldOf}
 
 -- a plain line and a note come to none: they are told without one
 abbrev pub is_called : Call → Bool
 is_called call.Plain = false
 is_called (call.Note v) = false
 is_called c = true
+
+module _ {P S H : Type 0} (w v : WorldOf P S H) (t : ℕ) (c : Call) (row : State P S H → Row P S H) (x : Verdict) where
+  -- as it begins, the call comes to the verdict of this row
+  abbrev pub Begins : Type 0
+  Begins = Attempts w v t c (ring_given c) (λ s. (row s).begin) x
+
+  -- and as it is tried again, whatever its thread awaits
+  abbrev pub TriesAgain : Type 0
+  TriesAgain = (a : Awaits) → Tries w v t (record { call = c; awaits = a }) (λ s. (row s).again a) x
 
 -- no thread waits for anything by such a call, and it is none on descriptors
 pub record NeverBlocks (P S H : Type 0) (c : Call) : Type 0 where

@@ -3,12 +3,11 @@
 ghost use Rattle.std.specs.Prelude.{◌≡◌, true, false, is_some, Some, None, IfOk, IfSome, OnOk};
 ghost use Rattle.pth_model.specs.declared.blocked.Blocked.{Blocked};
 ghost use Rattle.pth_model.specs.Changes.{blocked_of};
-ghost use Rattle.pth_model.specs.RingWaits.{ring_given};
 ghost use Rattle.pth_model.specs.Rows.{row_of};
 ghost use Rattle.pth_model.specs.State.{Control, State};
-ghost use Rattle.pth_waits.specs.Verdicts.{NeverBlocks, is_called};
+ghost use Rattle.pth_waits.specs.Verdicts.{Begins, NeverBlocks, is_called};
 ghost use Rattle.pth_world.specs.Frame.{Frame};
-ghost use Rattle.pth_world.specs.Leading.{Attempts, Tries};
+ghost use Rattle.pth_world.specs.Leading.{Tries};
 ghost use Rattle.pth_world.specs.Numbering.{no_numbers};
 ghost use Rattle.pth_world.specs.Shows.{Shows};
 ghost use Rattle.pth_world.specs.Whole.{Whole};
@@ -36,7 +35,7 @@ pub fn attempt<P: Program>(
 ) -> Result<Option<Verdict>, OutOfMemory>
     requires whole { Whole w.old }
     requires runs { w.old.scheduler.running ≡ Some t.0 }
-    ensures attempts { IfOk result (λ o. IfSome o (λ x. Attempts w.old w.new t.0 call.now (ring_given call.now) (λ (s : State P P.State P.Shared). (row_of P.functions s t.0 call.now).begin) x)) }
+    ensures attempts { IfOk result (λ o. IfSome o (λ x. Begins w.old w.new t.0 call.now (λ s. row_of P.functions s t.0 call.now) x)) }
     ensures called { IfOk result (λ o. IfSome o (λ x. is_called call.now ≡ true)) }
     ensures never { IfOk result (λ o. o ≡ None → NeverBlocks P P.State P.Shared call.now) }
     ensures same { IfOk result (λ o. o ≡ None → w.new ≡ w.old) }
@@ -63,7 +62,7 @@ pub(crate) fn attempt_again<P: Program>(
 ) -> Result<Option<Verdict>, OutOfMemory>
     requires whole { Whole w.old }
     requires runs { w.old.scheduler.running ≡ Some t.0 }
-    ensures tries { IfOk result (λ o. IfSome o (λ x. (k : Control P P.State P.Shared) (b : Blocked) → Shows w.old k → blocked_of k t.0 ≡ Some b → Tries w.old w.new t.0 b (λ (s : State P P.State P.Shared). (row_of P.functions s t.0 b.call).again b.awaits) x)) }
+    ensures tries { IfOk result (λ o. IfSome o (λ x. (k : Control P P.State P.Shared) (b : Blocked) → Shows w.old k → blocked_of k t.0 ≡ Some b → Tries w.old w.new t.0 b (λ s. (row_of P.functions s t.0 b.call).again b.awaits) x)) }
     ensures blocked { IfOk result (λ o. (k : Control P P.State P.Shared) → Shows w.old k → is_some o ≡ is_some (blocked_of k t.0)) }
     ensures same { IfOk result (λ o. o ≡ None → w.new ≡ w.old) }
     ensures frame { OnOk result (Frame w.old w.new no_numbers w.old.scheduler.running false) }

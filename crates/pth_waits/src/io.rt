@@ -10,9 +10,9 @@ ghost use Rattle.pth_model.specs.Rows.{row_of};
 ghost use Rattle.pth_model.specs.State.{State};
 ghost use Rattle.pth_model.specs.declared.verdict.Verdict.TheVariants.{Blocks};
 ghost use Rattle.pth_waits.specs.Io.{first_awaited, is_at_once, is_refused_length};
-ghost use Rattle.pth_waits.specs.Verdicts.{IsCounted};
+ghost use Rattle.pth_waits.specs.Verdicts.{Begins, IsCounted};
 ghost use Rattle.pth_world.specs.Frame.{Frame};
-ghost use Rattle.pth_world.specs.Leading.{Attempts, IsReady, MayComeTo, Tries};
+ghost use Rattle.pth_world.specs.Leading.{IsReady, MayComeTo, Tries};
 ghost use Rattle.pth_world.specs.Numbering.{no_numbers};
 ghost use Rattle.pth_world.specs.Shows.{StandsFor};
 ghost use Rattle.pth_world.specs.Whole.{MayAwait, MayAwaitAs, Whole};
@@ -151,7 +151,7 @@ fn try_first<P: Program>(
     requires may { MayAwaitAs t.0 call.now awaits }
     requires ring { (s : State P P.State P.Shared) → StandsFor w.old s → is_none_in s (given call.now) ≡ false }
     requires length { (s : State P P.State P.Shared) → StandsFor w.old s → is_refused_length s call.now ≡ false }
-    ensures attempts { IfOk result (λ x. Attempts w.old w.new t.0 call.now (given call.now) (λ (s : State P P.State P.Shared). (row_of P.functions s t.0 call.now).begin) x) }
+    ensures attempts { IfOk result (λ x. Begins w.old w.new t.0 call.now (λ s. row_of P.functions s t.0 call.now) x) }
     ensures frame { OnOk result (Frame w.old w.new no_numbers w.old.scheduler.running false) }
 {
     let at_once = is_at_once(w.kernel(), call);
@@ -168,7 +168,7 @@ pub(crate) fn begin_io<P: Program>(
     call: &Call,
 ) -> Result<Option<Verdict>, OutOfMemory>
     requires whole { Whole w.old }
-    ensures attempts { IfOk result (λ o. IfSome o (λ x. Attempts w.old w.new t.0 call.now (given call.now) (λ (s : State P P.State P.Shared). (row_of P.functions s t.0 call.now).begin) x)) }
+    ensures attempts { IfOk result (λ o. IfSome o (λ x. Begins w.old w.new t.0 call.now (λ s. row_of P.functions s t.0 call.now) x)) }
     ensures descriptors { IfOk result (λ o. (s : State P P.State P.Shared) → StandsFor w.old s → is_some o ≡ is_some (first_awaited s call.now)) }
     ensures same { IfOk result (λ o. o ≡ None → w.new ≡ w.old) }
     ensures frame { OnOk result (Frame w.old w.new no_numbers w.old.scheduler.running false) }
@@ -192,7 +192,7 @@ pub(crate) fn io_again<P: Program>(
 ) -> Result<Verdict, OutOfMemory>
     requires whole { Whole w.old }
     requires may { MayAwait awaits }
-    ensures tries { IfOk result (λ x. (call : CallOf) → ((s : State P P.State P.Shared) → IsSome (first_awaited s call)) → MayAwaitAs t.0 call awaits → Tries w.old w.new t.0 (record { call = call; awaits = awaits }) (λ (s : State P P.State P.Shared). (row_of P.functions s t.0 call).again awaits) x) }
+    ensures tries { IfOk result (λ x. (call : CallOf) → ((s : State P P.State P.Shared) → IsSome (first_awaited s call)) → MayAwaitAs t.0 call awaits → Tries w.old w.new t.0 (record { call = call; awaits = awaits }) (λ s. (row_of P.functions s t.0 call).again awaits) x) }
     ensures frame { OnOk result (Frame w.old w.new no_numbers w.old.scheduler.running false) }
 {
     try_awaited(w.kernel_mut(), awaits)

@@ -3,16 +3,15 @@
 ghost use Rattle.std.specs.Prelude.{◌≡◌, ℤ, false, Some, IfSome, option_map};
 ghost use Rattle.pth_base.specs.declared.call.Call.TheVariants.{Join};
 ghost use Rattle.pth_model.specs.Awaits.{death_of};
-ghost use Rattle.pth_model.specs.declared.awaits.Awaits.{Awaits as AwaitsOf};
 ghost use Rattle.pth_model.specs.State.{Control, State};
-ghost use Rattle.pth_model.specs.ThreadControl.{first_of, joinable_dead, to_join as to_join_now, joined, join_attempt};
+ghost use Rattle.pth_model.specs.ThreadControl.{first_of, joinable_dead, join as join_row, to_join as to_join_now, joined, join_attempt};
 ghost use Rattle.pth_waits.specs.Attempts.{refused_or};
 ghost use Rattle.pth_model.specs.Coming.{has_any_died, has_died as has_died_in};
 ghost use Rattle.pth_base.specs.declared.answer.Answer.TheVariants.{Int};
 ghost use Rattle.pth_model.specs.Changes.{removes, entry_of, or_nobody};
 ghost use Rattle.pth_model.specs.declared.verdict.Verdict.TheVariants.{Says};
+ghost use Rattle.pth_waits.specs.Verdicts.{TriesAgain};
 ghost use Rattle.pth_world.specs.Frame.{Frame};
-ghost use Rattle.pth_world.specs.Leading.{Tries};
 ghost use Rattle.pth_world.specs.Numbering.{no_numbers};
 ghost use Rattle.pth_world.specs.Shows.{Shows, StandsFor};
 ghost use Rattle.pth_world.specs.Sound.{IsSound, IsKnown};
@@ -142,7 +141,7 @@ fn death_of(n: i64) -> Awaits
 pub(crate) fn join<P: Program>(w: &mut World<P>, t: Tid, n: i64) -> Verdict
     requires whole { Whole w.old }
     requires runs { w.old.scheduler.running ≡ Some t.0 }
-    ensures tries { (a : AwaitsOf) → Tries w.old w.new t.0 (record { call = Join n; awaits = a }) (λ (s : State P P.State P.Shared). join_attempt s t.0 n) result }
+    ensures tries { TriesAgain w.old w.new t.0 (Join n) (λ s. join_row s t.0 n) result }
     ensures frame { Frame w.old w.new no_numbers w.old.scheduler.running false }
 {
     if let Some(errno) = refusal(w, t, n) {

@@ -3,11 +3,9 @@
 ghost use Rattle.std.specs.Prelude.{◌≡◌, ℤ, Some, false};
 ghost use Rattle.pth_base.specs.declared.call.Call.TheVariants.{MutexAcquire};
 ghost use Rattle.pth_model.specs.Mutexes.{is_free, mutex_acquire};
-ghost use Rattle.pth_model.specs.RingWaits.{extra_ring};
 ghost use Rattle.pth_model.specs.State.{State};
-ghost use Rattle.pth_model.specs.declared.awaits.Awaits.{Awaits as AwaitsOf};
+ghost use Rattle.pth_waits.specs.Verdicts.{Begins, TriesAgain};
 ghost use Rattle.pth_world.specs.Frame.{Frame};
-ghost use Rattle.pth_world.specs.Leading.{Attempts, Tries};
 ghost use Rattle.pth_world.specs.Numbering.{no_numbers};
 ghost use Rattle.pth_world.specs.Shows.{StandsFor};
 ghost use Rattle.pth_world.specs.Whole.{Whole};
@@ -36,7 +34,7 @@ pub(crate) fn is_free_mutex<P: Program>(w: &World<P>, m: i64) -> bool
 pub(crate) fn acquire_mutex<P: Program>(w: &mut World<P>, t: Tid, m: i64, v: i64, e: i64) -> Verdict
     requires whole { Whole w.old }
     requires runs { w.old.scheduler.running ≡ Some t.0 }
-    ensures attempts { Attempts w.old w.new t.0 (MutexAcquire m v e) (extra_ring e) (λ (s : State P P.State P.Shared). (mutex_acquire s t.0 m v e).begin) result }
+    ensures attempts { Begins w.old w.new t.0 (MutexAcquire m v e) (λ s. mutex_acquire s t.0 m v e) result }
     ensures frame { Frame w.old w.new no_numbers w.old.scheduler.running false }
 {
     let ring = extra_ring(e);
@@ -53,7 +51,7 @@ pub(crate) fn acquire_mutex<P: Program>(w: &mut World<P>, t: Tid, m: i64, v: i64
 pub(crate) fn acquire_mutex_again<P: Program>(w: &mut World<P>, t: Tid, m: i64) -> Verdict
     requires whole { Whole w.old }
     requires runs { w.old.scheduler.running ≡ Some t.0 }
-    ensures tries { (v e : ℤ) (a : AwaitsOf) → Tries w.old w.new t.0 (record { call = MutexAcquire m v e; awaits = a }) (λ (s : State P P.State P.Shared). (mutex_acquire s t.0 m v e).again a) result }
+    ensures tries { (v e : ℤ) → TriesAgain w.old w.new t.0 (MutexAcquire m v e) (λ s. mutex_acquire s t.0 m v e) result }
     ensures frame { Frame w.old w.new no_numbers w.old.scheduler.running false }
 {
     if is_free_mutex(w, m) && w.take_mutex(t, m).is_ok() {

@@ -8,11 +8,11 @@ ghost use Rattle.pth_model.specs.EventHandling.{wait};
 ghost use Rattle.pth_model.specs.RingWaits.{claims, has_settled, is_claimed_ring, is_no_ring};
 ghost use Rattle.pth_model.specs.State.{Control, State};
 ghost use Rattle.pth_model.specs.Verdict.{refused, ◌when◌otherwise◌};
-ghost use Rattle.pth_model.specs.declared.awaits.Awaits.{Awaits};
 ghost use Rattle.pth_model.specs.declared.verdict.Verdict.TheVariants.{Blocks};
 ghost use Rattle.pth_ring.specs.Arena.{events_of};
+ghost use Rattle.pth_waits.specs.Verdicts.{Begins, TriesAgain};
 ghost use Rattle.pth_world.specs.Frame.{Frame};
-ghost use Rattle.pth_world.specs.Leading.{Attempts, IsReady, Tries};
+ghost use Rattle.pth_world.specs.Leading.{IsReady};
 ghost use Rattle.pth_world.specs.Numbering.{no_numbers};
 ghost use Rattle.pth_world.specs.Shows.{Shows, StandsFor};
 ghost use Rattle.pth_world.specs.Whole.{Whole};
@@ -87,7 +87,7 @@ pub(crate) fn wait_beside<P: Program>(
 /// there is no such event, and EBUSY if its ring is claimed.
 pub(crate) fn wait<P: Program>(w: &mut World<P>, t: Tid, e: i64) -> Verdict
     requires whole { Whole w.old }
-    ensures attempts { Attempts w.old w.new t.0 (Wait e) (Some e) (λ (s : State P P.State P.Shared). (wait s e).begin) result }
+    ensures attempts { Begins w.old w.new t.0 (Wait e) (λ s. wait s e) result }
     ensures frame { Frame w.old w.new no_numbers w.old.scheduler.running false }
 {
     match w.claim(t, e) {
@@ -98,7 +98,7 @@ pub(crate) fn wait<P: Program>(w: &mut World<P>, t: Tid, e: i64) -> Verdict
 
 /// Such a wait, tried again: answered with the number of the events of the ring that are not pending, if there are any.
 pub(crate) fn wait_again<P: Program>(w: &World<P>, t: Tid, e: i64) -> Verdict
-    ensures tries { (a : Awaits) → Tries w.now w.now t.0 (record { call = Wait e; awaits = a }) (λ (s : State P P.State P.Shared). (wait s e).again a) result }
+    ensures tries { TriesAgain w.now w.now t.0 (Wait e) (λ s. wait s e) result }
 {
     let settled = w.rings().settled(e);
     if settled > 0 {

@@ -2,12 +2,10 @@
 
 ghost use Rattle.std.specs.Prelude.{◌≡◌, ℤ, Some, false};
 ghost use Rattle.pth_base.specs.declared.call.Call.TheVariants.{RwAcquire};
-ghost use Rattle.pth_model.specs.RingWaits.{extra_ring};
 ghost use Rattle.pth_model.specs.Rwlocks.{is_open, rw_acquire};
 ghost use Rattle.pth_model.specs.State.{State};
-ghost use Rattle.pth_model.specs.declared.awaits.Awaits.{Awaits as AwaitsOf};
+ghost use Rattle.pth_waits.specs.Verdicts.{Begins, TriesAgain};
 ghost use Rattle.pth_world.specs.Frame.{Frame};
-ghost use Rattle.pth_world.specs.Leading.{Attempts, Tries};
 ghost use Rattle.pth_world.specs.Numbering.{no_numbers};
 ghost use Rattle.pth_world.specs.Shows.{StandsFor};
 ghost use Rattle.pth_world.specs.Whole.{Whole};
@@ -43,7 +41,7 @@ pub(crate) fn acquire_lock<P: Program>(
 ) -> Verdict
     requires whole { Whole w.old }
     requires runs { w.old.scheduler.running ≡ Some t.0 }
-    ensures attempts { Attempts w.old w.new t.0 (RwAcquire l write v e) (extra_ring e) (λ (s : State P P.State P.Shared). (rw_acquire s t.0 l write v e).begin) result }
+    ensures attempts { Begins w.old w.new t.0 (RwAcquire l write v e) (λ s. rw_acquire s t.0 l write v e) result }
     ensures frame { Frame w.old w.new no_numbers w.old.scheduler.running false }
 {
     let ring = extra_ring(e);
@@ -65,7 +63,7 @@ pub(crate) fn acquire_lock_again<P: Program>(
 ) -> Verdict
     requires whole { Whole w.old }
     requires runs { w.old.scheduler.running ≡ Some t.0 }
-    ensures tries { (v e : ℤ) (a : AwaitsOf) → Tries w.old w.new t.0 (record { call = RwAcquire l write v e; awaits = a }) (λ (s : State P P.State P.Shared). (rw_acquire s t.0 l write v e).again a) result }
+    ensures tries { (v e : ℤ) → TriesAgain w.old w.new t.0 (RwAcquire l write v e) (λ s. rw_acquire s t.0 l write v e) result }
     ensures frame { Frame w.old w.new no_numbers w.old.scheduler.running false }
 {
     match w.take_lock(t, l, write) {

@@ -2,10 +2,9 @@
 
 ghost use Rattle.std.specs.Prelude.{◌≡◌, true};
 ghost use Rattle.pth_base.specs.declared.call.Call.TheVariants.{Exit};
-ghost use Rattle.pth_model.specs.State.{Control, State, main};
-ghost use Rattle.pth_model.specs.ThreadEnds.{exit_attempt, must_wait as must_wait_now};
-ghost use Rattle.pth_model.specs.declared.awaits.Awaits.{Awaits};
-ghost use Rattle.pth_world.specs.Leading.{Tries};
+ghost use Rattle.pth_model.specs.State.{Control, main};
+ghost use Rattle.pth_model.specs.ThreadEnds.{exit as exit_row, must_wait as must_wait_now};
+ghost use Rattle.pth_waits.specs.Verdicts.{TriesAgain};
 ghost use Rattle.pth_world.specs.Shows.{Shows};
 ghost use Rattle.pth_world.specs.Sound.{IsSound};
 
@@ -27,7 +26,7 @@ fn must_wait<P: Program>(w: &World<P>, t: Tid) -> bool
 /// `pth_exit`, as it begins and as it is tried again: the main thread waits until it is alone, and every other thread ends.
 pub(crate) fn exit<P: Program>(w: &World<P>, t: Tid, value: i64) -> Verdict
     requires { IsSound w.now.threads }
-    ensures tries { (a : Awaits) → Tries w.now w.now t.0 (record { call = Exit value; awaits = a }) (λ (s : State P P.State P.Shared). exit_attempt s t.0 value) result }
+    ensures tries { TriesAgain w.now w.now t.0 (Exit value) (λ s. exit_row s t.0 value) result }
 {
     if must_wait(w, t) {
         Verdict::Blocks(Awaits::Alone)
