@@ -1,7 +1,7 @@
--- Mutexes and read-write locks as calls name them, by numbers.
+-- Mutexes, read-write locks, conditions and barriers as calls name them, by numbers.
 use Rattle.std.specs.Prelude.{ℕ, ℤ, pos, negsuc, Bool, nat_lt}
 
--- how many mutexes there are, and how many read-write locks
+-- how many objects there are of each kind
 abbrev pub object_limit : ℕ
 object_limit = 64
 

@@ -10,6 +10,6 @@
 
 pub mod holds;
 pub mod mutexes;
-mod objects;
+pub mod objects;
 pub mod rwlocks;
 pub mod sets;

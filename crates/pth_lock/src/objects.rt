@@ -1,4 +1,4 @@
-//! The numbers by which calls name mutexes and read-write locks.
+//! The numbers by which calls name mutexes, read-write locks, conditions and barriers.
 
 ghost use Rattle.std.specs.Prelude.{◌≡◌, ◌<◌, ◌≤◌, length, Some, None, IfSome, IfNone, IfOk, IfErr, OnErr};
 ghost use Rattle.pth_base.specs.Table.{table};
@@ -6,11 +6,11 @@ ghost use Rattle.pth_lock.specs.Objects.{object_limit, object_named};
 
 use pth_base::errno::Errno;
 
-// How many mutexes there are, and how many read-write locks.
-pub(crate) const MOST_OBJECTS: usize = 64;
+/// How many objects there are of each kind: mutexes, read-write locks, conditions, barriers.
+pub const MOST_OBJECTS: usize = 64;
 
-// Where the object stands that an operand names. None where there is no such object.
-pub(crate) fn place_of(o: i64) -> Option<usize>
+/// Where the object stands that an operand names. None where there is no such object.
+pub fn place_of(o: i64) -> Option<usize>
     ensures named { IfSome result (λ place. place ≡ object_named o) }
     ensures low { IfSome result (λ place. place < object_limit) }
     ensures none { IfNone result (object_limit ≤ object_named o) }

@@ -10,6 +10,8 @@ mod checks;
 #[cfg(test)]
 mod comparison;
 #[cfg(test)]
+mod conditions;
+#[cfg(test)]
 mod lines;
 #[cfg(test)]
 mod memory;

@@ -11,6 +11,7 @@ use pth_base::ids::{Fd, FdSet, HandlerId, Slot, Tid};
 use pth_base::memory::OutOfMemory;
 use pth_base::name::Name;
 use pth_base::refusal::Refusal;
+use pth_cond::barriers::Barriers;
 use pth_io::transfers::try_read;
 use pth_kernel::kernel::Kernel;
 use pth_kernel::trace::{Entry, Stamp, Trace};
@@ -76,6 +77,11 @@ fn make_locks(alloc: Global) -> Result<(), OutOfMemory> {
     Ok(())
 }
 
+fn make_barrier(alloc: Global) -> Result<(), Refusal> {
+    let mut barriers = Barriers::new(alloc);
+    barriers.init(63, 4096)
+}
+
 /// A name, of ASCII bytes.
 fn name_of(rt: &impl Abort, text: &str) -> Name {
     assert!(rt; text.is_ascii());
@@ -137,5 +143,6 @@ fn take_memory(rt: &impl Abort, alloc: Global) -> Result<(), Fail> {
 fn memory_is_taken(rt: HostRuntime) -> Result<(), Fail> {
     take_memory(&rt, rt.alloc())?;
     assert!(rt; make_events(rt.alloc()).is_ok() && store(rt.alloc()).is_ok());
+    assert!(rt; make_barrier(rt.alloc()).is_ok());
     Ok(())
 }

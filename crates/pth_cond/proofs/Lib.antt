@@ -1,0 +1,6 @@
+pub mod Seating
+pub mod SeatingLaws
+pub mod SeatingTables
+pub mod Arrivals
+pub mod BarrierTables
+pub mod ToldOnce

@@ -1,0 +1,115 @@
+-- The conditions before and after a call.
+use Rattle.std.proofs.Common.{◌≡◌, ℕ, ◌+◌, ◌<◌, ◌≤◌, true, List, [], ◌++◌, length, get_or, set, map, take, drop, Some, None, Result, Ok, Err, OnOk, OnErr, refl, sym, ◌∙◌, ap, subst, option_map, inl, inr, length-set, append-nil, arith}
+use Rattle.std.proofs.lemmas.List.{get_or_past, get_or_default, get_or-map, length-map, take_all, drop_all}
+use Rattle.std.proofs.lemmas.List.Edits.{map_over_more}
+use Rattle.std.proofs.lemmas.Bool.{cases_lt}
+use mathlib.Core.Path.{fun_ext}
+use Rattle.pth_base.specs.Table.{put}
+use Rattle.pth_base.proofs.Tables.{put_by}
+use Rattle.pth_base.proofs.Lists.{table_set, put_none}
+use Rattle.pth_lock.specs.Objects.{object_limit}
+use Rattle.pth_cond.specs.declared.seats.Taken.{Taken}
+use Rattle.pth_cond.specs.Seats.{marks_stand_first}
+use Rattle.pth_cond.specs.Conditions.{Condition, ConditionTable, conditions_of, with_seats, no_conditions, all_left, all_seats_left, IsInOrder, ConditionsAreSound, ConditionsAreKept}
+
+-- ---- one condition
+
+module _ (xs : List Condition) (k : ℕ) (low : k < length xs) where
+  -- another stands there
+  pub condition_set : (y : Condition) → conditions_of (set xs k y) ≡ put (conditions_of xs) k y
+  condition_set y = table_set xs k y None low
+
+  module _ (d : Condition) (change : List Taken → List Taken) where
+    stood : (y : Condition) → get_or xs k d ≡ y → conditions_of xs k ≡ y
+    stood y was = get_or_default xs k None d low ∙ was
+
+    -- it was initialised, and its seats are others
+    pub seats_changed : (ts us : List Taken) → get_or xs k d ≡ Some ts → us ≡ change ts → conditions_of (set xs k (Some us)) ≡ with_seats k change (conditions_of xs)
+    seats_changed ts us was is = condition_set (Some us) ∙ ap (put (conditions_of xs) k) (ap Some is ∙ sym (ap (option_map change) (stood (Some ts) was)))
+
+    -- it was not
+    pub seats_none : get_or xs k d ≡ None → conditions_of (set xs k (get_or xs k d)) ≡ with_seats k change (conditions_of xs)
+    seats_none was = condition_set (get_or xs k d) ∙ ap (put (conditions_of xs) k) (was ∙ sym (ap (option_map change) (stood None was)))
+
+-- there is no such condition
+pub seats_past : (xs : List Condition) (k : ℕ) (change : List Taken → List Taken) → length xs ≤ k → conditions_of xs ≡ with_seats k change (conditions_of xs)
+seats_past xs k change high =
+    let none : conditions_of xs k ≡ None = get_or_past xs k None high in
+    sym (put_none (conditions_of xs) k (option_map change (conditions_of xs k)) (none ∙ sym (ap (option_map change) none)))
+
+-- ---- what holds at every moment
+
+abbrev KeepsOrder : (List Taken → List Taken) → Type 0
+KeepsOrder change = (ts : List Taken) → marks_stand_first ts ≡ true → marks_stand_first (change ts) ≡ true
+
+in_order : (change : List Taken → List Taken) → KeepsOrder change → (y : Condition) → IsInOrder y → IsInOrder (option_map change y)
+in_order change keeps (Some ts) order = keeps ts order
+in_order change keeps None order = tt
+
+module _ (olds news : List Condition) (kept : ConditionsAreKept olds) (long : length news ≡ length olds) where
+  pub kept_changed : (k : ℕ) (change : List Taken → List Taken) → KeepsOrder change → conditions_of news ≡ with_seats k change (conditions_of olds) → ConditionsAreKept news
+  kept_changed k change keeps is = record {
+    many = long ∙ kept.many;
+    order = λ c. subst IsInOrder (sym (ap (λ (f : ConditionTable). f c) is))
+        (put_by IsInOrder (conditions_of olds) k (option_map change (conditions_of olds k)) c (λ here. in_order change keeps (conditions_of olds k) (kept.order k)) (λ apart. kept.order c));
+  }
+
+  -- the same of a call that may be refused
+  pub kept_answered : {T E : Type 0} (r : Result T E) (k : ℕ) (change : List Taken → List Taken) → KeepsOrder change → OnOk r (conditions_of news ≡ with_seats k change (conditions_of olds)) → OnErr r (news ≡ olds) → ConditionsAreKept news
+  kept_answered (Ok done) k change keeps is same = kept_changed k change keeps is
+  kept_answered (Err e) k change keeps is same = rw same kept
+
+  pub kept_left : conditions_of news ≡ all_seats_left (conditions_of olds) → ConditionsAreKept news
+  kept_left is = record {
+    many = long ∙ kept.many;
+    order = λ c. subst IsInOrder (sym (ap (λ (f : ConditionTable). f c) is)) (in_order (λ ts. []) (λ ts order. refl) (conditions_of olds c) (kept.order c));
+  }
+
+module _ (xs : List Condition) (kept : ConditionsAreKept xs) where
+  pub within : (k : ℕ) → k < object_limit → k < length xs
+  within k low = let many = kept.many in omega arith
+
+  pub beyond : (k : ℕ) → object_limit ≤ k → length xs ≤ k
+  beyond k high = let many = kept.many in omega arith
+
+  pub unknown : (k : ℕ) → object_limit ≤ k → conditions_of xs k ≡ None
+  unknown k high = get_or_past xs k None (beyond k high)
+
+  pub sound : ConditionsAreSound (conditions_of xs)
+  sound = record { past = unknown; order = kept.order }
+
+  pub kept_initialised : (k : ℕ) → k < object_limit → ConditionsAreKept (set xs k (Some []))
+  kept_initialised k low = record {
+    many = length-set xs k (Some []) ∙ kept.many;
+    order = λ c. subst IsInOrder (sym (ap (λ (f : ConditionTable). f c) (condition_set xs k (within k low) (Some []))))
+        (put_by IsInOrder (conditions_of xs) k (Some []) c (λ here. refl) (λ apart. kept.order c));
+  }
+
+-- ---- none is initialised
+
+module _ (xs : List Condition) (long : length xs ≡ object_limit) (none : (k : ℕ) → k < object_limit → get_or xs k None ≡ None) where
+  none_at : (c : ℕ) → conditions_of xs c ≡ None
+  none_at c = elim (cases_lt c object_limit) [ inl low ↦ none c low | inr high ↦ get_or_past xs c None (omega arith) ]
+
+  pub conditions_none : conditions_of xs ≡ no_conditions
+  conditions_none = fun_ext none_at
+
+  pub kept_none : ConditionsAreKept xs
+  kept_none = record { many = long; order = λ c. subst IsInOrder (sym (none_at c)) tt }
+
+-- ---- all seats are left
+
+-- one condition more
+pub left_more : (xs ys : List Condition) (i : ℕ) (d y : Condition) → i < length xs → length ys ≡ length xs → ys ≡ map all_left (take i xs) ++ drop i xs → y ≡ all_left (get_or ys i d) → set ys i y ≡ map all_left (take (i + 1) xs) ++ drop (i + 1) xs
+left_more xs ys i d y low long now is = ap (set ys i) is ∙ map_over_more all_left xs ys i (get_or ys i d) low now (get_or_default ys i d (get_or ys i d) (omega arith))
+
+left_at : (xs : List Condition) (c : ℕ) → conditions_of (map all_left xs) c ≡ all_left (conditions_of xs c)
+left_at xs c = elim (cases_lt c (length xs)) [
+  | inl low ↦ get_or-map all_left xs c None None low
+  | inr high ↦ get_or_past (map all_left xs) c None (rw length-map high) ∙ sym (ap all_left (get_or_past xs c None high))
+]
+
+pub left_end : (xs ys : List Condition) (i : ℕ) → length xs ≤ i → ys ≡ map all_left (take i xs) ++ drop i xs → conditions_of ys ≡ all_seats_left (conditions_of xs)
+left_end xs ys i end now =
+    let all : ys ≡ map all_left xs = now ∙ rw (take_all, drop_all) (append-nil (map all_left xs)) in
+    ap conditions_of all ∙ fun_ext (left_at xs)

@@ -1,0 +1,6 @@
+use Rattle.pth_cond.specs.Seats.{notified}
+use Rattle.pth_cond.proofs.SeatingTables.{seats_changed}
+use Rattle.pth_cond.proofs.conditions.notify_at.Goals as goal
+
+pub returns-in-Some-clause-changes : goal.returns-in-Some-clause-changes
+returns-in-Some-clause-changes c = seats_changed c.args.conditions.now c.args.place c.requires c.index-conditions-place.result (notified c.args.all) c.in-Some.seats c.notify.new.self c.in-Some.is c.notify.ensures

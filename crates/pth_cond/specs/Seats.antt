@@ -1,0 +1,122 @@
+-- The seats of a condition, in order of entry, with their marks, and a law of how marks are handed on.
+use Rattle.std.specs.Prelude.{◌≡◌, ◌≢◌, ℕ, ◌+◌, ◌<◌, ◌==◌, Bool, true, false, not, if◌then◌else◌, List, [], ◌∷◌, ◌++◌, map, count_by, Option, Some, None}
+use Rattle.std.specs.List.{list_any}
+use Rattle.pth_cond.specs.declared.seats.Seat.{Seat}
+use Rattle.pth_cond.specs.declared.seats.Seat.TheVariants.{Await, Event}
+use Rattle.pth_cond.specs.declared.seats.Notice.{Notice}
+use Rattle.pth_cond.specs.declared.seats.Notice.TheVariants.{Unmarked, One, All}
+use Rattle.pth_cond.specs.declared.seats.Taken.{Taken}
+
+-- ---- tests
+
+-- two seats are the same
+abbrev pub is_seat : Seat → Seat → Bool
+is_seat (Await t) (Await u) = t.0 == u.0
+is_seat (Await t) (Event e) = false
+is_seat (Event e) (Await t) = false
+is_seat (Event e) (Event f) = e.0 == f.0
+
+-- a seat that is taken is this one
+abbrev pub is_at : Seat → Taken → Bool
+is_at s t = is_seat t.seat s
+
+abbrev pub is_mark : Notice → Bool
+is_mark Unmarked = false
+is_mark One = true
+is_mark All = true
+
+abbrev pub is_one : Notice → Bool
+is_one Unmarked = false
+is_one One = true
+is_one All = false
+
+abbrev pub is_all : Notice → Bool
+is_all Unmarked = false
+is_all One = false
+is_all All = true
+
+-- the mark of a seat: none where nobody has it
+abbrev pub notice_at : Seat → List Taken → Option Notice
+notice_at s [] = None
+notice_at s (t ∷ ts) = if is_at s t then Some t.notice else notice_at s ts
+
+-- a seat that was left had the mark One
+abbrev pub was_one : Option Notice → Bool
+was_one (Some n) = is_one n
+was_one None = false
+
+-- a seat has a mark
+abbrev pub was_marked : Option Notice → Bool
+was_marked (Some n) = is_mark n
+was_marked None = false
+
+abbrev pub has_mark : Taken → Bool
+has_mark t = is_mark t.notice
+
+-- how many seats have a mark
+abbrev pub marks : List Taken → ℕ
+marks ts = count_by has_mark ts
+
+-- none without a mark stands before one that has a mark
+abbrev pub marks_stand_first : List Taken → Bool
+marks_stand_first [] = true
+marks_stand_first (t ∷ ts) = if has_mark t then marks_stand_first ts else not (list_any has_mark ts)
+
+-- ---- changes
+
+-- one more, without a mark
+abbrev pub with_seat : Seat → List Taken → List Taken
+with_seat s ts = ts ++ (record { seat = s; notice = Unmarked } ∷ [])
+
+-- a seat is left, if anybody has it: the first, where it was entered more than once
+abbrev pub without_seat : Seat → List Taken → List Taken
+without_seat s [] = []
+without_seat s (t ∷ ts) = if is_at s t then ts else t ∷ without_seat s ts
+
+-- the first without a mark has the mark One
+abbrev pub one_notified : List Taken → List Taken
+one_notified [] = []
+one_notified (t ∷ ts) = if has_mark t then t ∷ one_notified ts else record t { notice = One } ∷ ts
+
+-- each without a mark has the mark All
+abbrev pub all_notified : List Taken → List Taken
+all_notified ts = map (λ t. if has_mark t then t else record t { notice = All }) ts
+
+abbrev pub notified : Bool → List Taken → List Taken
+notified all ts = if all then all_notified ts else one_notified ts
+
+-- a seat is left, and its mark One goes to the first without a mark
+abbrev pub handed_on : Seat → List Taken → List Taken
+handed_on s ts = if was_one (notice_at s ts) then one_notified (without_seat s ts) else without_seat s ts
+
+-- ---- how seats are kept
+
+-- what holds of the seats of a condition, with how many of them have a mark
+pub record SeatsAreKept (marked : ℕ) (ts : List Taken) : Type 0 where
+  pub count : marks ts ≡ marked
+  pub order : marks_stand_first ts ≡ true
+
+-- ---- a law
+
+-- how many seats have the mark One, and how many the mark All
+abbrev pub ones : List Taken → ℕ
+ones ts = count_by (λ t. is_one t.notice) ts
+
+abbrev pub alls : List Taken → ℕ
+alls ts = count_by (λ t. is_all t.notice) ts
+
+-- how many have none
+abbrev pub unmarked : List Taken → ℕ
+unmarked ts = count_by (λ t. not (has_mark t)) ts
+
+-- a mark One is not lost while another seat has none: as many seats have it after one of them was handed on
+pub record HandingOnKeepsOnes : Type 0 where
+  pub kept : (s : Seat) (ts : List Taken) → notice_at s ts ≡ Some One → 0 < unmarked ts → ones (handed_on s ts) ≡ ones ts
+  -- one that had no mark has it then
+  pub given : (s : Seat) (ts : List Taken) → notice_at s ts ≡ Some One → 0 < unmarked ts → unmarked (handed_on s ts) + 1 ≡ unmarked ts
+  -- where each has a mark, it is lost
+  pub lost : (s : Seat) (ts : List Taken) → notice_at s ts ≡ Some One → unmarked ts ≡ 0 → ones (handed_on s ts) + 1 ≡ ones ts
+  -- a seat without that mark takes none along
+  pub others : (s : Seat) (ts : List Taken) → notice_at s ts ≢ Some One → ones (handed_on s ts) ≡ ones ts
+  -- the mark All is not handed on
+  pub stays : (s : Seat) (ts : List Taken) → notice_at s ts ≢ Some All → alls (handed_on s ts) ≡ alls ts

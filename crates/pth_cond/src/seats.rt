@@ -1,0 +1,197 @@
+//! The seats of a condition.
+
+ghost use Rattle.std.specs.Prelude.{◌≡◌, ◌<◌, length, [], position, OnOk, OnErr};
+ghost use Rattle.pth_cond.specs.Seats.{is_seat, is_at, is_mark, notice_at, was_marked, with_seat, without_seat, one_notified, all_notified, notified, handed_on, SeatsAreKept};
+
+use pth_base::ids::{EventId, Tid};
+use pth_base::memory::OutOfMemory;
+use std::alloc::Global;
+use std::marker::Model;
+
+/// Who has a seat at a condition: a thread that awaits it, or an event for it (`PTH_EVENT_COND`).
+#[derive(Clone, Copy)]
+pub enum Seat {
+    Await(Tid),
+    Event(EventId),
+}
+
+impl Seat {
+    // Whether the other is the same seat.
+    fn is(self, other: Seat) -> bool
+        ensures { result ≡ is_seat self other }
+    {
+        match (self, other) {
+            (Seat::Await(t), Seat::Await(u)) => t.0 == u.0,
+            (Seat::Event(e), Seat::Event(f)) => e.0 == f.0,
+            _ => false,
+        }
+    }
+}
+
+/// The mark of a seat: what was notified since it was entered.
+#[derive(Clone, Copy)]
+pub enum Notice {
+    /// Nothing.
+    Unmarked,
+    /// It alone (`pth_cond_notify` of one).
+    One,
+    /// It with all others (`pth_cond_notify` of all).
+    All,
+}
+
+impl Notice {
+    // Whether something was notified.
+    fn is_mark(self) -> bool
+        ensures { result ≡ is_mark self }
+    {
+        !matches!(self, Notice::Unmarked)
+    }
+}
+
+/// A seat that was entered and not left, with its mark.
+#[derive(Clone, Copy)]
+pub struct Taken {
+    pub seat: Seat,
+    pub notice: Notice,
+}
+
+// The seats of a condition in order of entry, those with a mark first. Only `enter` takes memory.
+#[derive(Drop)]
+pub(crate) struct Seats {
+    taken: Vec<Taken>,
+    // How many have a mark.
+    marked: usize,
+}
+
+impl Model for Seats {
+    ghost use Rattle.std.specs.Prelude.{List};
+    ghost use Rattle.pth_cond.specs.declared.seats.Taken.{Taken};
+    ghost use Rattle.pth_cond.specs.Seats.{SeatsAreKept};
+
+    ghost Value = { List Taken };
+
+    ghost view = { λ a. a.taken.items };
+
+    ghost invariant = { λ a. SeatsAreKept a.marked a.taken.items };
+}
+
+impl Seats {
+    // Nobody has a seat.
+    pub(crate) fn new(alloc: Global) -> Seats
+        ensures { result ≡ [] }
+    {
+        Seats {
+            taken: Vec::new(alloc),
+            marked: 0,
+        }
+    }
+
+    // A seat is entered last, without a mark.
+    pub(crate) fn enter(&mut self, seat: Seat) -> Result<(), OutOfMemory>
+        ensures changes { OnOk result (self.new ≡ with_seat seat self.old) }
+        ensures refused { OnErr result (self.new ≡ self.old) }
+    {
+        self.taken.push(Taken {
+            seat,
+            notice: Notice::Unmarked,
+        })?;
+        Ok(())
+    }
+
+    // A seat is left. The answer is its mark, None where nobody has it.
+    pub(crate) fn leave(&mut self, seat: Seat) -> Option<Notice>
+        ensures mark { result ≡ notice_at seat self.old }
+        ensures changes { self.new ≡ without_seat seat self.old }
+    {
+        let Some(place) = place_of_seat(&self.taken, seat) else {
+            return None;
+        };
+        let gone = self.taken.remove(place);
+        if gone.notice.is_mark() {
+            self.marked -= 1;
+        }
+        Some(gone.notice)
+    }
+
+    // A seat is left, and its mark One goes to the first seat without a mark.
+    pub(crate) fn hand_on(&mut self, seat: Seat)
+        ensures { self.new ≡ handed_on seat self.old }
+    {
+        if let Some(Notice::One) = self.leave(seat) {
+            self.notify_one();
+        }
+    }
+
+    // The first seat without a mark has the mark One.
+    fn notify_one(&mut self)
+        ensures { self.new ≡ one_notified self.old }
+    {
+        if self.marked < self.taken.len() {
+            mark_first(&mut self.taken, self.marked);
+            self.marked += 1;
+        }
+    }
+
+    // Each seat without a mark has the mark All.
+    fn notify_all(&mut self)
+        ensures { self.new ≡ all_notified self.old }
+    {
+        mark_rest(&mut self.taken, self.marked);
+        self.marked = self.taken.len();
+    }
+
+    // Notifies one seat, or all.
+    pub(crate) fn notify(&mut self, all: bool)
+        ensures { self.new ≡ notified all self.old }
+    {
+        if all {
+            self.notify_all();
+        } else {
+            self.notify_one();
+        }
+    }
+
+    // Whether a seat has a mark.
+    pub(crate) fn is_marked(&self, seat: Seat) -> bool
+        ensures { result ≡ was_marked (notice_at seat self.now) }
+    {
+        match place_of_seat(&self.taken, seat) {
+            Some(place) => self.taken[place].notice.is_mark(),
+            None => false,
+        }
+    }
+
+    // All seats are left.
+    pub(crate) fn clear(&mut self)
+        ensures { self.new ≡ [] }
+    {
+        self.taken.clear();
+        self.marked = 0;
+    }
+}
+
+// Where a seat stands.
+fn place_of_seat(taken: &[Taken], seat: Seat) -> Option<usize>
+    ensures { result ≡ position (is_at seat) taken.now }
+{
+    taken.iter().position(|t| t.seat.is(seat))
+}
+
+// The first seat without a mark has the mark One.
+fn mark_first(taken: &mut [Taken], marked: usize)
+    requires kept { SeatsAreKept marked taken.old }
+    requires some { marked < length taken.old }
+    ensures { taken.new ≡ one_notified taken.old }
+{
+    taken[marked].notice = Notice::One;
+}
+
+// Each seat without a mark has the mark All.
+fn mark_rest(taken: &mut [Taken], marked: usize)
+    requires { SeatsAreKept marked taken.old }
+    ensures { taken.new ≡ all_notified taken.old }
+{
+    for i in marked..taken.len() {
+        taken[i].notice = Notice::All;
+    }
+}
