@@ -1,6 +1,7 @@
 pub mod Deciding
 pub mod KernelAnswers
 pub mod Making
+pub mod Barring
 pub mod Framing
 pub mod Plains
 pub mod GivenValues

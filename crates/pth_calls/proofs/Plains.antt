@@ -85,6 +85,11 @@ quiet_event_call t (call.EvKind e) a events = λ x. refl
 quiet_event_call t (call.EvFree e all) a events = λ x. refl
 quiet_event_call t c a events = absurd (cc events)
 
+-- nor does one that initialises a barrier
+pub quiet_barrier_init : (t : Tid) (b n : ℤ) (a : Answer) → IsQuiet (Answered t (call.BarrierInit b n) a)
+unfolding told answer_told
+quiet_barrier_init t b n a = λ x. refl
+
 -- nor does close
 pub quiet_close : (t : Tid) (d : ℤ) (a : Answer) → IsQuiet (Answered t (call.Close d) a)
 unfolding told answer_told
@@ -103,6 +108,7 @@ has_code facility.Keys = true
 has_code facility.Cleanups = true
 has_code facility.Mutexes = true
 has_code facility.Rwlocks = true
+has_code facility.Barriers = true
 has_code facility.Io = true
 has_code x = false
 
@@ -122,6 +128,7 @@ pub record IsOther (x : Facility) : Type 0 where
   pub cleanups : x ≢ facility.Cleanups
   pub mutexes : x ≢ facility.Mutexes
   pub rwlocks : x ≢ facility.Rwlocks
+  pub barriers : x ≢ facility.Barriers
   pub io : x ≢ facility.Io
 
 pub other_facility : (x : Facility) → IsOther x → is_of_code (Some x) ≡ false
@@ -135,6 +142,7 @@ other_facility facility.Keys other = absurd (other.keys refl)
 other_facility facility.Cleanups other = absurd (other.cleanups refl)
 other_facility facility.Mutexes other = absurd (other.mutexes refl)
 other_facility facility.Rwlocks other = absurd (other.rwlocks refl)
+other_facility facility.Barriers other = absurd (other.barriers refl)
 other_facility facility.Io other = absurd (other.io refl)
 other_facility x other = refl
 
@@ -177,8 +185,6 @@ module _ {P S H : Type 0} (f : P → Functions S H) (s : State P S H) (t : ℕ) 
   unbuilt_row (call.CondInit x) called none = refl
   unbuilt_row (call.CondAwait x m e) called none = refl
   unbuilt_row (call.CondNotify x v) called none = refl
-  unbuilt_row (call.BarrierInit b n) called none = refl
-  unbuilt_row (call.BarrierReach b) called none = refl
   unbuilt_row call.Plain called none = absurd (called refl)
   unbuilt_row (call.Note v) called none = absurd (called refl)
   unbuilt_row c called none = absurd (cc none)

@@ -9,6 +9,7 @@
 #![tactic(auto)]
 
 pub mod attribute_handling;
+mod barriers;
 pub mod cancellation;
 pub mod cleanups;
 pub mod descriptors;

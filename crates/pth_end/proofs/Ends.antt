@@ -1,25 +1,21 @@
 -- A thread ends as the definitions say.
-use Rattle.std.proofs.Common.{◌≡◌, ◌∙◌, ℕ, ℤ, false, List, [], ◌∷◌, ◌++◌, refl, ap, sym, arith}
+use Rattle.std.proofs.Common.{◌≡◌, ◌∙◌, ℕ, ℤ, false, List, [], ◌∷◌, ◌++◌, refl, ap, sym}
 use Rattle.pth_base.proofs.Lists.{put_none}
 use Rattle.pth_base.specs.Cut.{IsCut}
 use Rattle.pth_base.specs.Program.{Functions}
 use Rattle.pth_base.specs.declared.mark.Mark.{Mark}
 use Rattle.pth_base.specs.declared.mark.Mark.TheVariants.{Ended}
-use Rattle.pth_model.specs.Ending.{ending, leaves, dies, gives_all, other_than, runs_cleanups, runs_destructors}
+use Rattle.pth_model.specs.Ending.{ending, leaves, dies, gives_all, other_than, runs_cleanups, runs_destructors, undoes_wait}
 use Rattle.pth_model.specs.Resources.{Resources, Store, no_resources, store_without, told}
-use Rattle.pth_model.specs.RingWaits.{stops_waiting}
 use Rattle.pth_model.specs.State.{State}
-use Rattle.pth_model.specs.Transition.{Piece, controlled, tid, ◌and_then◌}
+use Rattle.pth_model.specs.Transition.{Piece, tid, ◌and_then◌}
 use Rattle.pth_world.proofs.Frames.{frame_then, moved_frame}
-use Rattle.pth_world.proofs.Ranks.{ranks_none, ranks_same}
-use Rattle.pth_world.proofs.Telling.{has_still}
 use Rattle.pth_world.specs.Frame.{Frame}
 use Rattle.pth_world.specs.Keeps.{KeepsAllButStore, MovesThreads}
 use Rattle.pth_world.specs.Leading.{Leads}
-use Rattle.pth_world.specs.Numbering.{Thread, Object, Event, no_numbers}
+use Rattle.pth_world.specs.Numbering.{no_numbers}
 use Rattle.pth_world.specs.Shows.{Shows, StandsFor}
 use Rattle.pth_world.specs.Store.{store_of}
-use Rattle.pth_world.specs.Whole.{Whole}
 use Rattle.pth_world.specs.World.{WorldOf}
 use Rattle.pth_end.specs.Handling.{IsHandled}
 use Rattle.pth_end.proofs.Chains.{leads_then, cut_one, cut_second}
@@ -30,24 +26,7 @@ ended_told : (x : Store) (t : ℕ) (v : ℤ) → told (record no_resources { sto
 unfolding told
 ended_told x t v = rw (put_none (λ (u : ℕ). false) t false refl) refl
 
--- its wait is undone
-pub wait_undone : {P S H : Type 0} (w v : WorldOf P S H) (t : ℕ) (s : State P S H) → Shows v (stops_waiting t s.control) → v.store ≡ w.store → StandsFor w s → StandsFor v (controlled (stops_waiting t) s)
-wait_undone w v t s shows stored st = record { control = shows; resources = has_still w v s stored st.resources }
-
 module _ {P S H : Type 0} (w a : WorldOf P S H) where
-  pub undone_frame : Whole a → a.events.made ≡ w.events.made → a ≡ record w { threads = record w.threads { progress = a.threads.progress }; events = a.events } → Frame w a no_numbers w.scheduler.running false
-  undone_frame whole made same = record {
-    whole = whole;
-    runs = ap (λ (k : WorldOf P S H). k.scheduler.running) same;
-    made = elim [
-      | Thread ↦ (let e = ap (λ (k : WorldOf P S H). k.threads.records.made) same in omega arith)
-      | Object ↦ (let e = ap (λ (k : WorldOf P S H). k.attributes.made) same in omega arith)
-      | Event ↦ omega arith
-    ];
-    ranks = ranks_same 0 w.threads w.threads a.threads (ap (λ (k : WorldOf P S H). k.threads.queues) same) (ranks_none w.threads);
-    preferred = ap (λ (k : WorldOf P S H). k.scheduler.preferred) same;
-  }
-
   -- then it ran its handlers and destructors, what it stored is forgotten, and it is dead or gone
   pub end_frame : (t : ℕ) (b c y : WorldOf P S H) → Frame w a no_numbers w.scheduler.running false → IsHandled a b → KeepsAllButStore b c → MovesThreads c y 0 (other_than t c.scheduler.running) → Frame w y no_numbers (other_than t w.scheduler.running) false
   end_frame t b c y undone handled keeps moves =
@@ -75,33 +54,48 @@ module _ {P S H : Type 0} (f : P → Functions S H) (t : ℕ) (v : ℤ) where
   abbrev pub after_cleanups : Piece P S H
   after_cleanups = runs_destructors f t and_then leaving
 
-  -- the state after its handlers, and after its destructors
+  abbrev pub after_wait : Piece P S H
+  after_wait = runs_cleanups f t and_then after_cleanups
+
+  -- the state after its wait was undone, after its handlers, and after its destructors
+  abbrev pub undone_state : State P S H → State P S H
+  undone_state s = (undoes_wait t s).state
+
   abbrev pub cleaned_state : State P S H → State P S H
-  cleaned_state s = (runs_cleanups f t (controlled (stops_waiting t) s)).state
+  cleaned_state s = (runs_cleanups f t (undone_state s)).state
 
   abbrev pub destructed_state : State P S H → State P S H
   destructed_state s = (runs_destructors f t (cleaned_state s)).state
 
   -- all of them
-  pub end_leads : (a b c y : WorldOf P S H) (s : State P S H) (old m n o new : List Mark) → Leads a old m (runs_cleanups f t (controlled (stops_waiting t) s)) → Leads b m n (runs_destructors f t (cleaned_state s))
+  pub end_leads : (z a b c y : WorldOf P S H) (s : State P S H) (old l m n o new : List Mark) → Leads z old l (undoes_wait t s) → Leads a l m (runs_cleanups f t (undone_state s)) → Leads b m n (runs_destructors f t (cleaned_state s))
       → Leads c n o (gives_all t (destructed_state s)) → Leads y o new (dies t v (gives_all t (destructed_state s)).state) → Leads y old new (ending f t v s)
   unfolding ending
-  end_leads a b c y s old m n o new cleaned destructed gave died =
+  end_leads z a b c y s old l m n o new undone cleaned destructed gave died =
       let last = leads_then c y (destructed_state s) (gives_all t) (dies t v) n o new gave died in
       let later = leads_then b y (cleaned_state s) (runs_destructors f t) leaving m n new destructed last in
-      let all = leads_then a y (controlled (stops_waiting t) s) (runs_cleanups f t) after_cleanups old m new cleaned later in
+      let rest = leads_then a y (undone_state s) (runs_cleanups f t) after_cleanups l m new cleaned later in
+      let all = leads_then z y s (undoes_wait t) after_wait old l new undone rest in
       record { stands = all.stands; tells = all.tells }
 
-  -- it broke off as its cleanups ran
-  pub cut_cleaning : (s : State P S H) (old new : List Mark) → IsCut old new (runs_cleanups f t (controlled (stops_waiting t) s)).marks → IsCut old new (ending f t v s).marks
+  -- it broke off as its wait was undone
+  pub cut_waiting : (s : State P S H) (old new : List Mark) → IsCut old new (undoes_wait t s).marks → IsCut old new (ending f t v s).marks
   unfolding ending
-  cut_cleaning s old new cut = let c = cut_one (controlled (stops_waiting t) s) (runs_cleanups f t) after_cleanups old new cut in record { first = c.first; rest = c.rest; new_is = c.new_is; whole_is = c.whole_is }
+  cut_waiting s old new cut = let c = cut_one s (undoes_wait t) after_wait old new cut in record { first = c.first; rest = c.rest; new_is = c.new_is; whole_is = c.whole_is }
 
   -- or later
-  pub cut_later : (a : WorldOf P S H) (s : State P S H) (old m new : List Mark) → Leads a old m (runs_cleanups f t (controlled (stops_waiting t) s)) → IsCut m new (after_cleanups (cleaned_state s)).marks → IsCut old new (ending f t v s).marks
+  pub cut_undone : (z : WorldOf P S H) (s : State P S H) (old l new : List Mark) → Leads z old l (undoes_wait t s) → IsCut l new (after_wait (undone_state s)).marks → IsCut old new (ending f t v s).marks
   unfolding ending
-  cut_later a s old m new cleaned cut = let c = cut_second a (controlled (stops_waiting t) s) (runs_cleanups f t) after_cleanups old m new cleaned cut in record { first = c.first; rest = c.rest; new_is = c.new_is; whole_is = c.whole_is }
+  cut_undone z s old l new undone cut = let c = cut_second z s (undoes_wait t) after_wait old l new undone cut in record { first = c.first; rest = c.rest; new_is = c.new_is; whole_is = c.whole_is }
 
-  -- it broke off as it gave up what it had, or where its end was told
+  -- as its cleanups ran
+  pub cut_cleaning : (s : State P S H) (l new : List Mark) → IsCut l new (runs_cleanups f t (undone_state s)).marks → IsCut l new (after_wait (undone_state s)).marks
+  cut_cleaning s l new cut = cut_one (undone_state s) (runs_cleanups f t) after_cleanups l new cut
+
+  -- or later
+  pub cut_later : (a : WorldOf P S H) (s : State P S H) (l m new : List Mark) → Leads a l m (runs_cleanups f t (undone_state s)) → IsCut m new (after_cleanups (cleaned_state s)).marks → IsCut l new (after_wait (undone_state s)).marks
+  cut_later a s l m new cleaned cut = cut_second a (undone_state s) (runs_cleanups f t) after_cleanups l m new cleaned cut
+
+  -- as it gave up what it had, or where its end was told
   pub cut_giving : (b : WorldOf P S H) (s : State P S H) (m n new : List Mark) → Leads b m n (runs_destructors f t (cleaned_state s)) → IsCut n new (leaving (destructed_state s)).marks → IsCut m new (after_cleanups (cleaned_state s)).marks
   cut_giving b s m n new destructed cut = cut_second b (cleaned_state s) (runs_destructors f t) leaving m n new destructed cut

@@ -4,6 +4,7 @@ pub mod Framing
 pub mod Handled
 pub mod Acting
 pub mod Stacks
+pub mod WaitUndone
 pub mod Ends
 pub mod Dues
 pub mod Looking

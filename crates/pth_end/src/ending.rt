@@ -14,6 +14,7 @@ ghost use Rattle.pth_world.specs.Whole.{Whole};
 use crate::cleanups::run_cleanups;
 use crate::destructors::run_destructors;
 use crate::giving::give_all;
+use crate::undoing::undo_wait;
 use pth_base::ids::Tid;
 use pth_base::mark::Mark;
 use pth_base::marks::Marks;
@@ -21,7 +22,8 @@ use pth_base::memory::OutOfMemory;
 use pth_base::program::Program;
 use pth_world::world::World;
 
-/// Ends a thread that is alive with a value, whoever runs: its wait is undone, its cleanup handlers run, the last pushed first, and
+/// Ends a thread that is alive with a value, whoever runs: its wait is undone, and its arrival at a barrier is taken back; its cleanup
+/// handlers run, the last pushed first, and
 /// then its destructors, and it gives up its mutexes and read-write locks; one that can be joined is dead until it is joined, and
 /// another is gone (`pth_exit`). After an error the world may only be dropped.
 pub fn end_thread<P: Program>(
@@ -36,7 +38,7 @@ pub fn end_thread<P: Program>(
     ensures err { OnErr result ((s : State P P.State P.Shared) → StandsFor w.old s → IsCut marks.old marks.new (ending P.functions t.0 value s).marks) }
     ensures frame { OnOk result (Frame w.old w.new no_numbers (other_than t.0 w.old.scheduler.running) false) }
 {
-    w.unblock(t);
+    undo_wait(w, t, marks)?;
     run_cleanups(w, t, marks)?;
     run_destructors(w, t, marks)?;
     give_all(w, t, marks)?;

@@ -1,5 +1,5 @@
 -- What is known as a call is answered, or as it blocks its thread: its row said so.
-use Rattle.std.proofs.Common.{◌≡◌, ℕ, ◌+◌, ◌==◌, nat_lt, ◌&&◌, ◌||◌, not, Bool, true, false, if◌then◌else◌, ℤ, pos, length, Option, Some, None, is_none, is_some, option_map, refl, sym, ◌∙◌, ap, subst, Ok, Err}
+use Rattle.std.proofs.Common.{◌≡◌, ℕ, ◌+◌, ◌==◌, nat_lt, ◌&&◌, ◌||◌, not, Bool, true, false, if◌then◌else◌, ℤ, pos, length, Option, Some, None, is_none, is_some, option_map, refl, sym, ◌∙◌, ap, subst, Result, Ok, Err}
 use Rattle.pth_base.specs.Program.{Functions}
 use Rattle.pth_base.specs.declared.answer.Answer.{Answer}
 use Rattle.pth_base.specs.declared.answer.Answer.TheVariants as answer
@@ -16,6 +16,9 @@ use Rattle.pth_base.specs.declared.query.Query.{Query}
 use Rattle.pth_base.specs.declared.query.Query.TheVariants as query
 use Rattle.pth_base.proofs.Tables.{put_by, put_here}
 use Rattle.pth_numbered.specs.Operands.{number, ◌is◌}
+use Rattle.pth_cond.specs.declared.barriers.Arrival.{Arrival}
+use Rattle.pth_cond.specs.declared.barriers.Arrival.TheVariants as arrival
+use Rattle.pth_cond.specs.Barriers.{arrival_answer, has_passed, waits_at, round_answer, round_answered, withdrawn}
 use Rattle.pth_lock.specs.Objects.{object_named}
 use Rattle.pth_lock.specs.RwLocks.{holds, may_enter}
 use Rattle.pth_queue.specs.declared.queue.Queue.{Queue}
@@ -33,13 +36,14 @@ use Rattle.pth_model.specs.declared.verdict.Verdict.TheVariants.{Says, Yields, B
 use Rattle.pth_model.specs.Verdict.{refused, says, counts_or, by_result, taken_or, ◌when◌otherwise◌, refused_as◌otherwise◌}
 use Rattle.pth_model.specs.Resources.{Resources}
 use Rattle.pth_model.specs.Io.{trial_for, tries, at_once, begins_waiting, is_refused_length, select_deadline}
-use Rattle.pth_model.specs.Awaits.{written_in}
-use Rattle.pth_model.specs.State.{State, Control, main}
-use Rattle.pth_model.specs.Transition.{Piece, Change, changes, tid, controlled, silent}
-use Rattle.pth_model.specs.Changes.{sets, enters, leaves_queue, makes, forgets, removes, goes_on, blocking, is_blocked_by, blocked_in, blocked_of, or_nobody, entry_of, queue_for, with_events, with_kernel}
+use Rattle.pth_model.specs.Awaits.{awaits_in, written_in, round_in}
+use Rattle.pth_model.specs.Barriers.{arrived_as, tries_round, withdraws, withdraws_from}
+use Rattle.pth_model.specs.State.{State, Control, Threads, main}
+use Rattle.pth_model.specs.Transition.{Piece, Change, changes, tells, tid, controlled, silent, where_so, ◌and_then◌}
+use Rattle.pth_model.specs.Changes.{sets, enters, leaves_queue, makes, forgets, removes, goes_on, blocking, is_blocked_by, blocked_in, blocked_of, or_nobody, entry_of, queue_for, with_barriers, with_events, with_kernel}
 use Rattle.pth_model.specs.Living.{is_dead}
-use Rattle.pth_model.specs.Row.{unless_refused, refuses, effect_of, ◌trying◌}
-use Rattle.pth_model.specs.RingWaits.{ring_given, ring_held, extra_ring, is_no_ring, is_claimed_ring, stops_waiting, gives_back}
+use Rattle.pth_model.specs.Row.{Attempt, unless_refused, refuses, effect_of, ◌trying◌}
+use Rattle.pth_model.specs.RingWaits.{has_settled, ring_given, ring_held, extra_ring, is_no_ring, is_claimed_ring, stops_waiting, gives_back}
 use Rattle.pth_model.specs.Mutexes.{mutex, is_free}
 use Rattle.pth_model.specs.Rwlocks.{is_lock, lets_in}
 use Rattle.pth_model.specs.LibraryControl.{ctrl}
@@ -47,9 +51,10 @@ use Rattle.pth_model.specs.EventHandling.{spec_of, made_as, make_event}
 use Rattle.pth_model.specs.ThreadControl.{thread, is_known, spawns, suspends, resumes, returns_to, to_join, takes_joined, joined}
 use Rattle.pth_model.specs.Rows.{row_of}
 use Rattle.pth_model.specs.Calls.{unless_settled, interrupted}
-use Rattle.pth_model.proofs.Walks.{KeptByCalls, is_common, effect_keeps}
-use Rattle.pth_laws.specs.Waits.{WaitsRightly, Names}
+use Rattle.pth_model.proofs.Walks.{KeptByCalls, is_common, effect_keeps, come_keeps}
+use Rattle.pth_laws.specs.Waits.{WaitsRightly, Names, IsRound}
 use Rattle.pth_laws.proofs.Living.{true_false}
+use Rattle.pth_laws.proofs.Rounds.{answered_left, withdrawn_left}
 
 -- no call blocks t
 abbrev pub IsFree : {P S H : Type 0} → ℕ → State P S H → Type 0
@@ -89,7 +94,20 @@ IsAllowedAgain t c b (Blocks a) s = (blocked_of s.control t ≡ Some b) × Names
 IsAllowedAgain t c b (Ends v) s = Unit {0}
 IsAllowedAgain t c b Kills s = IsToTell (mark.Answered (tid t) c (answer.Int (pos 1))) (controlled (stops_waiting t) s)
 
+-- while it blocks on, t waits for the same round
+abbrev pub StaysAt : Call → Awaits → Awaits → Type 0
+StaysAt (call.BarrierReach b) a now = now ≡ awaits.Round b (round_in a)
+StaysAt c a now = Unit {0}
+
+-- if t waits for a round, its arrival was answered or taken back: it may wait no longer
+abbrev pub HasLeft : {P S H : Type 0} → ℕ → State P S H → Type 0
+HasLeft t s = (b : ℤ) (round : ℕ) → blocked_of s.control t ≡ Some (record { call = call.BarrierReach b; awaits = awaits.Round b round }) → waits_at s.control.barriers b t ≡ false
+
 -- ---- verdicts
+
+abbrev pub is_reaching : Call → Bool
+is_reaching (call.BarrierReach b) = true
+is_reaching c = false
 
 abbrev pub is_entering : Call → Bool
 is_entering (call.RwAcquire l write v e) = true
@@ -99,7 +117,7 @@ abbrev pub is_blocking : Verdict → Bool
 is_blocking (Blocks p) = true
 is_blocking v = false
 
--- a call that is given no ring, and waits for no mutex and no lock
+-- a call that is given no ring, and waits for no mutex, no lock and no barrier
 abbrev is_plainly_waiting : Call → Bool
 is_plainly_waiting (call.Wait e) = false
 is_plainly_waiting (call.ReadEv f n e) = false
@@ -109,10 +127,15 @@ is_plainly_waiting (call.ConnectEv f e) = false
 is_plainly_waiting (call.SelectEv r w x l e) = false
 is_plainly_waiting (call.MutexAcquire m v e) = false
 is_plainly_waiting (call.RwAcquire l write v e) = false
+is_plainly_waiting (call.BarrierReach b) = false
 is_plainly_waiting c = true
 
 no_ring_some : (e : ℤ) → None ≡ Some e → ⊥
 no_ring_some e h = cc
+
+abbrev is_round : Awaits → Bool
+is_round (awaits.Round b round) = true
+is_round a = false
 
 abbrev is_joining : Call → Bool
 is_joining (call.Join n) = true
@@ -171,6 +194,7 @@ module _ {P S H : Type 0} (t : ℕ) where
   waits_plainly (call.SelectEv r w x l e) a s plain = absurd (true_false (sym plain))
   waits_plainly (call.MutexAcquire m v e) a s plain = absurd (true_false (sym plain))
   waits_plainly (call.RwAcquire l write v e) a s plain = absurd (true_false (sym plain))
+  waits_plainly (call.BarrierReach b) a s plain = absurd (true_false (sym plain))
   waits_plainly c a s plain = record { ring = λ e h. absurd (no_ring_some e h); rightly = tt; names = tt }
 
   -- any verdict on a call that enters no lock, if what is known of one that blocks is
@@ -204,52 +228,54 @@ module _ {P S H : Type 0} (t : ℕ) where
             ap (λ (x : Events). is_claimed x (number e)) same ∙ ap (λ (j : ℤ). is_claimed s.control.events (number j)) (sym here) ∙ free,
           )
 
-  -- ---- nothing blocks t
+  -- ---- what is known of the call that blocks t, and holds too if none does
 
-  abbrev FreeIn : Control P S H → Type 0
-  FreeIn k = blocked_of k t ≡ None
+  module _ (O : Option Blocked → Type 0) (none : O None) where
+    abbrev BlockedSo : Control P S H → Type 0
+    BlockedSo k = O (blocked_of k t)
 
-  free_spawned : (f : P → Functions S H) (b : ℕ) (v : ℤ) (of : NewThread) (k : Control P S H) → FreeIn k → FreeIn (spawns f b v of k)
-  unfolding makes enters
-  free_spawned f b v of k free = put_by (λ o. blocked_in o ≡ None) k.threads.progress (k.threads.made + 1) _ t (λ here. refl) (λ other. free)
+    so_spawned : (f : P → Functions S H) (b : ℕ) (v : ℤ) (of : NewThread) (k : Control P S H) → BlockedSo k → BlockedSo (spawns f b v of k)
+    unfolding makes enters
+    so_spawned f b v of k so = put_by (λ o. O (blocked_in o)) k.threads.progress (k.threads.made + 1) _ t (λ here. none) (λ other. so)
 
-  free_suspended : (u : ℕ) (k : Control P S H) → FreeIn k → FreeIn (suspends u k)
-  unfolding suspends sets enters leaves_queue
-  free_suspended u k free = free
+    so_suspended : (u : ℕ) (k : Control P S H) → BlockedSo k → BlockedSo (suspends u k)
+    unfolding suspends sets enters leaves_queue
+    so_suspended u k so = so
 
-  free_returned : (u : ℕ) (q : Option Queue) (k : Control P S H) → FreeIn k → FreeIn (returns_to u q k)
-  unfolding sets enters leaves_queue
-  free_returned u None k free = free
-  free_returned u (Some q) k free = free
+    so_returned : (u : ℕ) (q : Option Queue) (k : Control P S H) → BlockedSo k → BlockedSo (returns_to u q k)
+    unfolding sets enters leaves_queue
+    so_returned u None k so = so
+    so_returned u (Some q) k so = so
 
-  free_resumed : (u : ℕ) (k : Control P S H) → FreeIn k → FreeIn (resumes u k)
-  unfolding resumes
-  free_resumed u k free = free_returned u (queue_for (or_nobody (entry_of k u)).state) k free
+    so_resumed : (u : ℕ) (k : Control P S H) → BlockedSo k → BlockedSo (resumes u k)
+    unfolding resumes
+    so_resumed u k so = so_returned u (queue_for (or_nobody (entry_of k u)).state) k so
 
-  free_removed : (u : ℕ) (k : Control P S H) → FreeIn k → FreeIn (removes u k)
-  unfolding forgets leaves_queue
-  free_removed u k free = put_by (λ o. blocked_in o ≡ None) k.threads.progress u None t (λ here. refl) (λ other. free)
+    so_removed : (u : ℕ) (k : Control P S H) → BlockedSo k → BlockedSo (removes u k)
+    unfolding forgets leaves_queue
+    so_removed u k so = put_by (λ o. O (blocked_in o)) k.threads.progress u None t (λ here. none) (λ other. so)
 
-  free_set : (u : ℕ) (c : change_of_record.Change) (k : Control P S H) → FreeIn k → FreeIn (sets u c k)
-  unfolding sets
-  free_set u c k free = free
+    so_set : (u : ℕ) (c : change_of_record.Change) (k : Control P S H) → BlockedSo k → BlockedSo (sets u c k)
+    unfolding sets
+    so_set u c k so = so
 
-  free_kept : (f : P → Functions S H) → KeptByCalls f t FreeIn
-  free_kept f = record {
-    shares = λ h k free. free;
-    spawned = λ b v of k free. free_spawned f b v of k free;
-    suspended = λ u k other up free. free_suspended u k free;
-    resumed = λ u k other free. free_resumed u k free;
-    removed = λ n u k taken free. free_removed u k free;
-    favoured = λ b k free. free;
-    changed = λ v u c k set free. free_set u c k free;
-    added = λ x k free. free;
-    exchanged = λ n o k free. free;
-    evented = λ x k none free. free;
-    described = λ ds k free. free;
-    used = λ o k free. free;
-    requested = λ u b k apart free. free_set u (change.Request b) k free;
-  }
+    so_kept : (f : P → Functions S H) → KeptByCalls f t BlockedSo
+    so_kept f = record {
+      shares = λ h k so. so;
+      spawned = λ b v of k so. so_spawned f b v of k so;
+      suspended = λ u k other up so. so_suspended u k so;
+      resumed = λ u k other so. so_resumed u k so;
+      removed = λ n u k taken so. so_removed u k so;
+      favoured = λ b k so. so;
+      changed = λ v u c k set so. so_set u c k so;
+      added = λ x k so. so;
+      exchanged = λ n o k so. so;
+      evented = λ x k none so. so;
+      described = λ ds k so. so;
+      barred = λ x k so. so;
+      used = λ o k so. so;
+      requested = λ u b k apart so. so_set u (change.Request b) k so;
+    }
 
   -- once t waits no longer
   pub stopped_free : (s : State P S H) → IsFree t (controlled (stops_waiting t) s)
@@ -266,6 +292,33 @@ module _ {P S H : Type 0} (t : ℕ) where
       by_ring : (r : Option ℤ) → blocked_of (gives_back r (is_blocked_by t None s.control)) t ≡ None
       by_ring None = here
       by_ring (Some e) = here
+
+  -- ---- t's arrival at a barrier is taken back, if it waits there
+
+  where_withdrawn : (b : ℤ) (here : Bool) (s : State P S H) → (where_so here (changes (with_barriers (withdrawn b t)) and_then tells (mark.Withdrew (tid t) (object_named b))) s).state.control.threads ≡ s.control.threads
+  where_withdrawn b true s = refl
+  where_withdrawn b false s = refl
+
+  withdrawn_threads : (a : Awaits) (s : State P S H) → (withdraws_from t a s).state.control.threads ≡ s.control.threads
+  unfolding withdraws_from withdraws
+  withdrawn_threads (awaits.Round b round) s = where_withdrawn b (waits_at s.control.barriers b t) s
+  withdrawn_threads a s = refl
+
+  where_left : (b : ℤ) (here : Bool) (s : State P S H) → waits_at s.control.barriers b t ≡ here → waits_at (where_so here (changes (with_barriers (withdrawn b t)) and_then tells (mark.Withdrew (tid t) (object_named b))) s).state.control.barriers b t ≡ false
+  where_left b true s is_here = withdrawn_left b t s.control.barriers
+  where_left b false s is_here = is_here
+
+  withdrawn_from : (a : Awaits) (s : State P S H) (b : ℤ) (round : ℕ) → a ≡ awaits.Round b round → waits_at (withdraws_from t a s).state.control.barriers b t ≡ false
+  unfolding withdraws_from withdraws
+  withdrawn_from (awaits.Round c r) s b round same =
+      let here : c ≡ b = cc in
+      subst (λ (i : ℤ). waits_at (where_so (waits_at s.control.barriers c t) (changes (with_barriers (withdrawn c t)) and_then tells (mark.Withdrew (tid t) (object_named c))) s).state.control.barriers i t ≡ false) here (where_left c (waits_at s.control.barriers c t) s refl)
+  withdrawn_from a s b round same = absurd (true_false (sym (ap is_round same)))
+
+  pub left_ended : (s : State P S H) → HasLeft t (withdraws_from t (awaits_in (blocked_of s.control t)) s).state
+  left_ended s b round now =
+      let a = awaits_in (blocked_of s.control t) in
+      withdrawn_from a s b round (ap awaits_in (ap (λ (x : Threads S). blocked_in (x.progress t)) (sym (withdrawn_threads a s)) ∙ now))
 
 -- ---- a call begins
 
@@ -284,7 +337,7 @@ not_none (Some x) h = refl
 
 module _ {P S H : Type 0} (f : P → Functions S H) (t : ℕ) where
   free_after : (s : State P S H) (c : Call) → is_common c ≡ true → IsFree t s → IsFree t (effect_of (row_of f s t c).begin s).state
-  free_after s c common free = effect_keeps f t (FreeIn t) (free_kept t f) s c common free
+  free_after s c common free = effect_keeps f t (λ k. blocked_of k t ≡ None) (so_kept t (λ o. o ≡ None) refl f) s c common free
 
   -- a call on descriptors that is not yet; u has the events of s
   not_yet_allowed : (s u : State P S H) (c : Call) (r : Option ℤ) (at_once has : Bool) (a : Awaits) → ring_given c ≡ r → is_entering c ≡ false → is_no_ring s r ≡ false → is_claimed_ring s r ≡ has → u.control.events ≡ s.control.events → IsFree t u → Names c a × WaitsRightly u.resources t c
@@ -334,6 +387,12 @@ module _ {P S H : Type 0} (f : P → Functions S H) (t : ℕ) where
   enter_allowed s l write v e false true false false false true is_known is_ring is_held is_open_to is_has free = tt
   enter_allowed s l write v e false true false false false false is_known is_ring is_held is_open_to is_has free = (free, ring_waits t s s (call.RwAcquire l write v e) (awaits.Lock l write) (extra_ring e) refl refl is_ring is_has refl (is_known, is_held))
 
+  -- by what an arrival comes to
+  reach_allowed : (s : State P S H) (b : ℤ) (o : Result Arrival Errno) (u : State P S H) → IsFree t u → IsAllowed t (call.BarrierReach b) (by_result (arrived_as b) o) u
+  reach_allowed s b (Err e) u free = tt
+  reach_allowed s b (Ok arrival.Tail) u free = tt
+  reach_allowed s b (Ok (arrival.Waits round)) u free = (free, record { ring = λ e h. absurd (no_ring_some e h); rightly = tt; names = refl })
+
   pub allowed : (s : State P S H) (c : Call) → IsFree t s → IsAllowed t c (row_of f s t c).begin.verdict (effect_of (row_of f s t c).begin s).state
   unfolding row_of
   allowed s call.Kill free = allowed_at_once t call.Kill (row_of f s t call.Kill).begin.verdict (effect_of (row_of f s t call.Kill).begin s).state refl (when_answers EPERM (not (t == main)) Kills refl)
@@ -354,6 +413,7 @@ module _ {P S H : Type 0} (f : P → Functions S H) (t : ℕ) where
   allowed s (call.RwAcquire l write v e) free =
       let verdict = (row_of f s t (call.RwAcquire l write v e)).begin.verdict in
       subst (IsAllowed t (call.RwAcquire l write v e) verdict) (sym (silent_unless (refuses verdict) s)) (enter_allowed s l write v e (is_no_ring s (extra_ring e)) (is_lock s l) (holds s.resources.store.rw_locks t (object_named l)) (lets_in s write l) _ (is_claimed_ring s (extra_ring e)) refl refl refl refl refl free)
+  allowed s (call.BarrierReach b) free = reach_allowed s b (arrival_answer s.control.barriers b) (effect_of (row_of f s t (call.BarrierReach b)).begin s).state (free_after s (call.BarrierReach b) refl free)
   allowed s c free = allowed_by t c (row_of f s t c).begin.verdict (effect_of (row_of f s t c).begin s).state refl (λ a blocks. (free_after s c refl free, waits_plainly t c a (effect_of (row_of f s t c).begin s).state refl))
 
   -- ---- a call is tried again
@@ -376,6 +436,17 @@ module _ {P S H : Type 0} (f : P → Functions S H) (t : ℕ) where
   make_here : (s : State P S H) (l : EvLine) (a : Awaits) → IsHere s (((make_event s l).again a).effect s).state
   make_here s l a = made_here s (spec_of l) (λ x. by_result says (make_answer s.control.events)) (λ x. with_events (alone x)) a
 
+  -- t's round is tried again, by whether it has passed
+  abbrev tries_as : State P S H → ℤ → ℕ → Bool → Attempt P S H
+  tries_as s b round passed = if passed then (Says (answer.Int (round_answer s.control.barriers b round t)) trying changes (with_barriers (round_answered b round t))) else (Blocks (awaits.Round b round) trying silent)
+
+  round_here : (s : State P S H) (b : ℤ) (round : ℕ) → IsHere s ((tries_round s t b round).effect s).state
+  round_here s b round = by_test (has_passed s.control.barriers b round)
+    where
+      by_test : (passed : Bool) → IsHere s ((tries_as s b round passed).effect s).state
+      by_test true = refl
+      by_test false = refl
+
   -- an attempt that blocks on leaves t blocked
   joins_here : (s : State P S H) (n : ℤ) (own unknown bound : Bool) (o : Option ℕ) → let v = refused EDEADLK when own otherwise refused ESRCH when unknown otherwise refused EINVAL when bound otherwise joined s.control n o in is_blocking v ≡ true → IsHere s (unless_refused (refuses v) (changes (takes_joined o)) s).state
   joins_here s n true unknown bound o h = refl
@@ -396,6 +467,7 @@ module _ {P S H : Type 0} (f : P → Functions S H) (t : ℕ) where
   effect_here s (call.EvTid state n) a other = make_here s (line.Tid state n) a
   effect_here s (call.EvFunc c v l) a other = make_here s (line.Func c v l) a
   effect_here s (call.Chain n l) a other = made_here s (spec_of l) (λ x. by_result says (chain_answer s.control.events (number n))) (λ x. with_events (chained x (number n))) a
+  effect_here s (call.BarrierReach b) a other = round_here s b (round_in a)
   effect_here s c a other = refl
 
   again_here : (s : State P S H) (c : Call) (a : Awaits) → is_blocking ((row_of f s t c).again a).verdict ≡ true → IsHere s (effect_of ((row_of f s t c).again a) s).state
@@ -403,7 +475,14 @@ module _ {P S H : Type 0} (f : P → Functions S H) (t : ℕ) where
   again_here s (call.Join n) a blocks = joins_here s n _ _ _ (to_join s.control n) blocks
   again_here s c a blocks = here_unless (refuses ((row_of f s t c).again a).verdict) ((row_of f s t c).again a).effect s (effect_here s c a refl)
 
-  -- and it blocks on for what the call names
+  -- and it blocks on for what the call names, a round for the same one
+  round_stays : (s : State P S H) (b : ℤ) (round : ℕ) (now : Awaits) → (tries_round s t b round).verdict ≡ Blocks now → now ≡ awaits.Round b round
+  round_stays s b round now blocks = by_test (has_passed s.control.barriers b round) blocks
+    where
+      by_test : (passed : Bool) → (tries_as s b round passed).verdict ≡ Blocks now → now ≡ awaits.Round b round
+      by_test true blocks = absurd (cc blocks)
+      by_test false blocks = cc
+
   again_names : (s : State P S H) (c : Call) (a now : Awaits) → is_entering c ≡ false → ((row_of f s t c).again a).verdict ≡ Blocks now → Names c now
   unfolding row_of
   again_names s (call.MutexAcquire m v e) a now other blocks = by_test (is_free s m) blocks
@@ -412,6 +491,7 @@ module _ {P S H : Type 0} (f : P → Functions S H) (t : ℕ) where
       by_test true blocks = absurd (cc blocks)
       by_test false blocks = cc
   again_names s (call.RwAcquire l write v e) a now other blocks = absurd (true_false other)
+  again_names s (call.BarrierReach b) a now other blocks = subst (IsRound b) (sym (round_stays s b (round_in a) now blocks)) refl
   again_names s c a now other blocks = tt
 
   -- a lock is entered once t waits no longer
@@ -438,3 +518,37 @@ module _ {P S H : Type 0} (f : P → Functions S H) (t : ℕ) where
   unfolding row_of
   allowed_again s (call.RwAcquire l write v e) b come at = rw_again s l write v e b come (is_lock s l) (lets_in s write l) (holds s.resources.store.rw_locks t (object_named l)) refl refl refl at
   allowed_again s c b come at = other_again s c b come refl at
+
+  pub stays_again : (s : State P S H) (c : Call) (a : Awaits) (come : Bool) (now : Awaits) → (unless_settled come ((row_of f s t c).again a)).verdict ≡ Blocks now → StaysAt c a now
+  unfolding row_of
+  stays_again s (call.BarrierReach b) a false now blocks = round_stays s b (round_in a) now blocks
+  stays_again s (call.BarrierReach b) a true now blocks = absurd (true_false (sym (ap is_blocking blocks) ∙ interrupted_answers (tries_round s t b (round_in a)).verdict))
+  stays_again s c a come now blocks = tt
+
+  -- t's round has passed, and its arrival is answered
+  round_left : (s : State P S H) (b : ℤ) (round : ℕ) → is_blocking (tries_round s t b round).verdict ≡ false → waits_at (effect_of (tries_round s t b round) s).state.control.barriers b t ≡ false
+  round_left s b round at_once = by_test (has_passed s.control.barriers b round) at_once
+    where
+      by_test : (passed : Bool) → is_blocking (tries_as s b round passed).verdict ≡ false → waits_at (effect_of (tries_as s b round passed) s).state.control.barriers b t ≡ false
+      by_test true at_once = answered_left b round t s.control.barriers
+      by_test false at_once = absurd (true_false at_once)
+
+  -- what blocks t afterwards is the same call, if any does
+  same_call : (s : State P S H) (c : Call) (b d : Blocked) (come : Bool) → blocked_of s.control t ≡ Some b → blocked_of (effect_of (unless_settled come ((row_of f s t c).again b.awaits)) s).state.control t ≡ Some d → d ≡ b
+  same_call s c b d come at now = come_keeps f t (λ k. (x : Blocked) → blocked_of k t ≡ Some x → x ≡ b) (so_kept t (λ o. (x : Blocked) → o ≡ Some x → x ≡ b) (λ x h. absurd (cc h)) f) s c b.awaits come (λ x h. one x (sym at ∙ h)) d now
+    where
+      one : (x : Blocked) → Some b ≡ Some x → x ≡ b
+      one x h = cc
+
+  pub left_again : (s : State P S H) (c : Call) (b : Blocked) → b.call ≡ c → blocked_of s.control t ≡ Some b → let a = unless_settled (has_settled s.control.events (ring_given c)) ((row_of f s t c).again b.awaits) in is_blocking a.verdict ≡ false → HasLeft t (effect_of a s).state
+  unfolding row_of
+  left_again s (call.BarrierReach x) b named at at_once y round now =
+      let same : record { call = call.BarrierReach y; awaits = awaits.Round y round } ≡ b = same_call s (call.BarrierReach x) b (record { call = call.BarrierReach y; awaits = awaits.Round y round }) false at now in
+      let here : x ≡ y = reached_same x y (sym named ∙ ap (λ (d : Blocked). d.call) (sym same)) in
+      subst (λ (i : ℤ). waits_at (effect_of (tries_round s t x (round_in b.awaits)) s).state.control.barriers i t ≡ false) here (round_left s x (round_in b.awaits) at_once)
+    where
+      reached_same : (x y : ℤ) → call.BarrierReach x ≡ call.BarrierReach y → x ≡ y
+      reached_same x y h = cc
+  left_again s c b named at at_once y round now =
+      let same = same_call s c b (record { call = call.BarrierReach y; awaits = awaits.Round y round }) (has_settled s.control.events (ring_given c)) at now in
+      absurd (true_false (ap is_reaching (ap (λ (d : Blocked). d.call) same ∙ named)))

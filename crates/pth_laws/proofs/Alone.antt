@@ -182,9 +182,9 @@ module _ {P S H : Type 0} where
     scheduled = λ x s r. r;
     timed = λ x s r. r;
     used = λ o s r. r;
-    set = λ t c s safe r. r;
-    made = λ t b v a s r. r;
-    forgotten = λ t s r. r;
+    set = λ t c s safe life r. r;
+    made = λ t b v a s next r. r;
+    forgotten = λ t s gone r. r;
     vanished = λ t s free r. r;
     added = λ s r. r;
     bound = λ t s r. r;
@@ -193,10 +193,12 @@ module _ {P S H : Type 0} where
     destroyed = λ n s r. r;
     arranges = λ x s may r. r;
     looked = λ s r. r;
+    barred = λ x s fewer r. r;
+    reached = λ t b round s free alive there waits r. r;
     goes = λ t g s same r. r;
     blocked = λ t c a s free may r. r;
-    waits_on = λ t a b s at names r. r;
-    stopped = λ t s r. r;
+    waits_on = λ t a b s at names stays r. r;
+    stopped = λ t s left r. r;
     told = λ m s may r. told_apart s r m may;
   }
 

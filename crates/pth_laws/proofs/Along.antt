@@ -1,6 +1,7 @@
 -- What every part of a run keeps of a state, by the changes and the marks of which parts are made. Beside each stands what is known as it
 -- is made.
-use Rattle.std.proofs.Common.{◌≡◌, ℕ, zero, suc, ◌+◌, ◌*◌, not, min, Bool, true, false, if◌then◌else◌, ℤ, pos, ◌+ℤ◌, List, [], ◌∷◌, map, reverse, Option, Some, None, is_none, option_map, refl, sym, ◌∙◌, ap, Result, Ok, Err, arith}
+use Rattle.std.proofs.Common.{◌≡◌, ℕ, zero, suc, ◌+◌, ◌*◌, not, min, Bool, true, false, if◌then◌else◌, ℤ, pos, ◌+ℤ◌, List, [], ◌∷◌, map, reverse, ◌⊎◌, inl, inr, Option, Some, None, is_none, is_some, option_map, refl, sym, ◌∙◌, ap, Result, Ok, Err, arith}
+use Rattle.std.proofs.lemmas.Bool.{not-false}
 use Rattle.std.proofs.lemmas.Int.{ints}
 use Rattle.pth_base.specs.Limits.{last_count, last_moment}
 use Rattle.pth_base.specs.Program.{Functions}
@@ -27,7 +28,11 @@ use Rattle.pth_base.specs.declared.query.Query.TheVariants as query
 use Rattle.pth_base.specs.declared.thread.ThreadState.{ThreadState}
 use Rattle.pth_base.specs.declared.thread.ThreadState.TheVariants as state
 use Rattle.pth_base.proofs.Tables.{put_here}
+use Rattle.pth_cond.specs.declared.barriers.Arrival.{Arrival}
+use Rattle.pth_cond.specs.declared.barriers.Arrival.TheVariants as arrival
+use Rattle.pth_cond.specs.Barriers.{BarrierTable, taillight, arrival_answer, has_passed, waits_at, barrier_initialised, barrier_reached, round_answer, round_answered, withdrawn}
 use Rattle.pth_kernel.specs.Kernel.{Kernel, advanced}
+use Rattle.pth_lock.specs.Objects.{object_named}
 use Rattle.pth_numbered.specs.Operands.{number, is_zero, ◌is◌, ◌is_from◌to◌}
 use Rattle.pth_queue.specs.Ranking.{place_in}
 use Rattle.pth_queue.specs.declared.queue.Queue.{Queue}
@@ -44,44 +49,60 @@ use Rattle.pth_threads.specs.declared.entry.Change.TheVariants as change
 use Rattle.pth_threads.specs.declared.entry.Entry.{Entry}
 use Rattle.pth_threads.specs.declared.entry.NewThread.{NewThread}
 use Rattle.pth_model.specs.declared.awaits.Awaits.{Awaits}
+use Rattle.pth_model.specs.declared.awaits.Awaits.TheVariants as awaits
 use Rattle.pth_model.specs.declared.blocked.Blocked.{Blocked}
 use Rattle.pth_model.specs.declared.destructors.Due.{Due}
 use Rattle.pth_model.specs.declared.destructors.Round.{Round}
 use Rattle.pth_model.specs.declared.next.Next.{Next}
 use Rattle.pth_model.specs.declared.next.Next.TheVariants as next
 use Rattle.pth_model.specs.declared.progress.Progress.{Progress}
+use Rattle.pth_model.specs.Awaits.{awaits_in, round_in}
+use Rattle.pth_model.specs.Barriers.{arrived_as, tries_round, withdraws, withdraws_from}
 use Rattle.pth_model.specs.Resources.{handler}
 use Rattle.pth_model.specs.Standing.{Standing}
 use Rattle.pth_model.specs.State.{State, Given, Scheduler, Turn, start, queue, now_of, clock_of}
-use Rattle.pth_model.specs.Transition.{Piece, Change, nothing, changes, tells, tells_each, tid, controlled, where_so, ◌and_then◌}
-use Rattle.pth_model.specs.Changes.{shares, uses, sets, goes_on, owing, is_blocked_by, enters, leaves_queue, raises_ready, makes, forgets, removes, adds_object, puts_object, with_threads, with_events, with_kernel, with_scheduler, moves_to, prefers, runs_now, blocked_in, blocked_of, or_nobody, entry_of, prio_of, queue_for, holders}
+use Rattle.pth_model.specs.Transition.{Piece, Change, silent, nothing, changes, tells, tells_each, tid, controlled, where_so, ◌and_then◌}
+use Rattle.pth_model.specs.Changes.{shares, uses, sets, goes_on, owing, is_blocked_by, enters, leaves_queue, raises_ready, makes, forgets, removes, adds_object, puts_object, with_threads, with_barriers, with_events, with_kernel, with_scheduler, moves_to, prefers, runs_now, blocked_in, blocked_of, or_nobody, entry_of, prio_of, queue_for, holders}
 use Rattle.pth_model.specs.declared.verdict.Verdict.{Verdict}
 use Rattle.pth_model.specs.declared.verdict.Verdict.TheVariants.{Says, Yields, Blocks, Ends, Kills}
-use Rattle.pth_model.specs.Verdict.{says, done, by_result}
-use Rattle.pth_model.specs.Row.{unless_refused, refuses, effect_of}
+use Rattle.pth_model.specs.Verdict.{refused, says, done, by_result, ◌when◌otherwise◌}
+use Rattle.pth_model.specs.Row.{unless_refused, refuses, effect_of, ◌trying◌}
 use Rattle.pth_model.specs.RingWaits.{claims, ring_given, stops_waiting, has_settled}
 use Rattle.pth_model.specs.Acts.{acts, acts_from, act_limit, answer_in, row_of_act, goes_on_after, runs_handler}
 use Rattle.pth_model.specs.Cleanups.{runs_pushed, last_pushed}
 use Rattle.pth_model.specs.Ending.{ending, undoes_wait, runs_each, runs_cleanups, destructs, destructs_by, runs_destructors, mutexes_had, locks_held, gives_mutexes, gives_locks, dies, leaves, is_dead_with, other_than, stops_running, next_destructor, round_limit, first_round}
-use Rattle.pth_model.specs.ThreadControl.{thread, spawns, suspends, resumes, returns_to, values_for, or_first, to_join, takes_joined}
+use Rattle.pth_model.specs.ThreadControl.{thread, is_known, spawns, suspends, resumes, returns_to, values_for, or_first, to_join, takes_joined}
 use Rattle.pth_model.specs.LibraryControl.{ctrl, vanish_all_but}
 use Rattle.pth_model.specs.AttributeHandling.{object, sets_field, sets_value}
 use Rattle.pth_model.specs.EventHandling.{spec_of, made_as, make_event, number_or_none}
 use Rattle.pth_model.specs.Cancellation.{canceled_value, is_asynchronous, is_to_cancel, may_be_canceled, takes_request, canceled_by_other, aborted}
-use Rattle.pth_model.specs.Living.{is_dead}
+use Rattle.pth_model.specs.Living.{is_dead, lives}
 use Rattle.pth_model.specs.Rows.{row_of}
-use Rattle.pth_model.specs.Calls.{begun, begun_by, blocks, gone_on, gone_on_where, canceled_by, tried_again, tried_again_by, tried_by, unless_settled, interrupted}
+use Rattle.pth_model.specs.Calls.{begun, begun_by, begun_as, blocks, gone_on, gone_on_where, canceled_by, tried_again, tried_again_by, tried_by, unless_settled, interrupted}
 use Rattle.pth_model.specs.Pass.{pass, looks, to_wake, woken, all_woken, is_ready_at, moment}
 use Rattle.pth_model.specs.Part.{rank_by, Part, Move, Take, Step, Close, Halt, part, part_by, next_part, chosen, readies, readies_all, readies_new, runs, dispatches, takes, takes_by, owes_after, steps, steps_on, steps_by, is_put_back, is_put_waiting, placed_by, is_placed, turn_ends, closes, moves, moves_by}
 use Rattle.pth_model.specs.Run.{parts, run}
+use Rattle.pth_model.proofs.Walks.{named_dead}
 use Rattle.pth_laws.specs.Waits.{Names}
 use Rattle.pth_laws.proofs.Living.{true_false}
-use Rattle.pth_laws.proofs.Allowed.{IsFree, IsToTell, MayWait, IsAllowed, IsAllowedAgain, allowed, allowed_again}
+use Rattle.pth_laws.proofs.Going.{IsSound, sound_steps}
+use Rattle.pth_laws.proofs.EveryRun.{run_sound}
+use Rattle.pth_laws.proofs.Rounds.{HasFewer, fewer_initialised, fewer_tail, fewer_answered, fewer_withdrawn}
+use Rattle.pth_laws.proofs.Allowed.{IsFree, IsToTell, MayWait, IsAllowed, IsAllowedAgain, StaysAt, HasLeft, is_reaching, is_blocking, allowed, allowed_again, stays_again, left_again, left_ended, stopped_free}
 
 -- a change of a record that leaves its base priority in its range
 abbrev pub IsPrioSafe : change_of_record.Change → Type 0
 IsPrioSafe (change.Prio prio) = IsSetPrio prio
 IsPrioSafe c = Unit {0}
+
+-- a thread dies once no call blocks it
+abbrev pub IsLifeSafe : {P S H : Type 0} → ℕ → change_of_record.Change → State P S H → Type 0
+IsLifeSafe t (change.State state.Dead) s = IsFree t s
+IsLifeSafe t c s = Unit {0}
+
+-- no call blocks t, or it does not live
+abbrev pub IsGone : {P S H : Type 0} → ℕ → State P S H → Type 0
+IsGone t s = IsFree t s ⊎ (lives (s.control.threads.known t) ≡ false)
 
 -- the changes of events and rings that calls make
 pub data Arrangement : Type 0 where
@@ -117,9 +138,9 @@ pub record KeptAlong {P S H : Type 0} (f : P → Functions S H) (R : State P S H
   pub timed : (x : Kernel) (s : State P S H) → R s → R (controlled (with_kernel (λ y. x)) s)
   pub used : (o : ℕ → Bool) (s : State P S H) → R s → R (controlled (λ k. record k { used = o }) s)
   -- the records of threads
-  pub set : (t : ℕ) (c : change_of_record.Change) (s : State P S H) → IsPrioSafe c → R s → R (controlled (sets t c) s)
-  pub made : (t b : ℕ) (v a : ℤ) (s : State P S H) → R s → R (controlled (makes f b v (or_first (values_for s.control t a))) s)
-  pub forgotten : (t : ℕ) (s : State P S H) → R s → R (controlled (forgets t) s)
+  pub set : (t : ℕ) (c : change_of_record.Change) (s : State P S H) → IsPrioSafe c → IsLifeSafe t c s → R s → R (controlled (sets t c) s)
+  pub made : (t b : ℕ) (v a : ℤ) (s : State P S H) → lives (s.control.threads.known (s.control.threads.made + 1)) ≡ false → R s → R (controlled (makes f b v (or_first (values_for s.control t a))) s)
+  pub forgotten : (t : ℕ) (s : State P S H) → IsGone t s → R s → R (controlled (forgets t) s)
   pub vanished : (t : ℕ) (s : State P S H) → IsFree t s → R s → R (controlled (vanish_all_but t) s)
   -- attribute objects
   pub added : (s : State P S H) → R s → R (controlled (adds_object (Free first_values)) s)
@@ -130,11 +151,14 @@ pub record KeptAlong {P S H : Type 0} (f : P → Functions S H) (R : State P S H
   -- events, and looks at them
   pub arranges : (x : Arrangement) (s : State P S H) → MayArrange s.control.events x → R s → R (controlled (with_events (arranged x)) s)
   pub looked : (s : State P S H) → R s → R (controlled looks s)
+  -- barriers: none has an arrival more; or t's call makes one, and waits for its round
+  pub barred : (x : BarrierTable) (s : State P S H) → HasFewer x s.control.barriers → R s → R (controlled (with_barriers (λ y. x)) s)
+  pub reached : (t : ℕ) (b : ℤ) (round : ℕ) (s : State P S H) → IsFree t s → lives (s.control.threads.known t) ≡ true → is_some (s.control.threads.progress t) ≡ true → arrival_answer s.control.barriers b ≡ Ok (arrival.Waits round) → R s → R (controlled (λ k. blocks t (call.BarrierReach b) (awaits.Round b round) (with_barriers (barrier_reached b t) k)) s)
   -- how far threads are, and what blocks them
   pub goes : (t : ℕ) (g : Progress S → Progress S) (s : State P S H) → ((p : Progress S) → (g p).blocked ≡ p.blocked) → R s → R (controlled (goes_on t g) s)
   pub blocked : (t : ℕ) (c : Call) (a : Awaits) (s : State P S H) → IsFree t s → MayWait t c a s → R s → R (controlled (λ k. blocks t c a (claims t (ring_given c) k)) s)
-  pub waits_on : (t : ℕ) (a : Awaits) (b : Blocked) (s : State P S H) → blocked_of s.control t ≡ Some b → Names b.call a → R s → R (controlled (is_blocked_by t (Some (record b { awaits = a }))) s)
-  pub stopped : (t : ℕ) (s : State P S H) → R s → R (controlled (stops_waiting t) s)
+  pub waits_on : (t : ℕ) (a : Awaits) (b : Blocked) (s : State P S H) → blocked_of s.control t ≡ Some b → Names b.call a → StaysAt b.call b.awaits a → R s → R (controlled (is_blocked_by t (Some (record b { awaits = a }))) s)
+  pub stopped : (t : ℕ) (s : State P S H) → HasLeft t s → R s → R (controlled (stops_waiting t) s)
   -- a mark is told
   pub told : (m : Mark) (s : State P S H) → IsToTell m s → R s → R (tells m s).state
 
@@ -157,6 +181,98 @@ set_passes known o v h = by_tests (is_none o) (is_gone known o) (is_fixed v) (is
 
 pub prio_in_range : (n : ℤ) → (n is_from least_priority to top_priority) ≡ true → IsSetPrio n
 prio_in_range n h = record { low = grind (arith, ints); high = grind (arith, ints) }
+
+-- ---- handlers, and what is given up: only the program's shared value changes, and marks are told
+
+module _ {P S H : Type 0} (f : P → Functions S H) (R : State P S H → Type 0) (shared : (h : H) (s : State P S H) → R s → R (controlled (shares h) s)) (told_also : (m : Mark) (s : State P S H) → IsToTell m s → R s → R (tells m s).state) where
+  abbrev Runs : Piece P S H → Type 0
+  Runs a = (s : State P S H) → R s → R (a s).state
+
+  then_runs : (a b : Piece P S H) → Runs a → Runs b → Runs (a and_then b)
+  then_runs a b x y s r = y (a s).state (x s r)
+
+  act_keeps : (t : ℕ) (x : Act) → Runs (acts t x)
+  unfolding acts
+  act_keeps t (act.SetKey k v) s r = by_refusal (refuses (row_of_act s t (act.SetKey k v)).begin.verdict)
+    where
+      m : Mark
+      m = mark.Acted (tid t) (act.SetKey k v) (answer_in (row_of_act s t (act.SetKey k v)).begin.verdict)
+
+      by_refusal : (b : Bool) → R ((unless_refused b (changes nothing) and_then tells m) s).state
+      by_refusal true = told_also m s tt r
+      by_refusal false = told_also m s tt r
+  act_keeps t (act.Release i) s r = by_refusal (refuses (row_of_act s t (act.Release i)).begin.verdict)
+    where
+      m : Mark
+      m = mark.Acted (tid t) (act.Release i) (answer_in (row_of_act s t (act.Release i)).begin.verdict)
+
+      by_refusal : (b : Bool) → R ((unless_refused b (changes nothing) and_then tells m) s).state
+      by_refusal true = told_also m s tt r
+      by_refusal false = told_also m s tt r
+  act_keeps t x s r = told_also (mark.Acted (tid t) x (answer_in (row_of_act s t x).begin.verdict)) s tt r
+
+  look_keeps : (t : ℕ) (x : Option Act) (next : Piece P S H) → Runs next → Runs (goes_on_after t x next)
+  look_keeps t None next keeps s r = r
+  look_keeps t (Some x) next keeps s r = keeps (acts t x s).state (act_keeps t x s r)
+
+  acts_keep : (t : ℕ) (h : HandlerId) (v : ℤ) (n i : ℕ) → Runs (acts_from f t h v n i)
+  unfolding acts_from
+  acts_keep t h v zero i s r = r
+  acts_keep t h v (suc n) i s r =
+      let x = (f s.control.program).act h.0 v i s.control.shared in
+      look_keeps t x.act (acts_from f t h v n (i + 1)) (acts_keep t h v n (i + 1)) (controlled (shares x.shared) s) (shared x.shared s r)
+
+  handler_keeps : (t : ℕ) (h : HandlerId) (v : ℤ) → Runs (runs_handler f t h v)
+  handler_keeps t h v s r =
+      let m = mark.Handler (tid t) h v in
+      acts_keep t h v (suc act_limit) 0 (tells m s).state (told_also m s tt r)
+
+  each_keep : (t : ℕ) (cs : List PushedHandler) → Runs (runs_each f t cs)
+  unfolding runs_each
+  each_keep t [] s r = r
+  each_keep t (c ∷ cs) s r = then_runs (runs_handler f t c.0 c.1) (runs_each f t cs) (handler_keeps t c.0 c.1) (each_keep t cs) s r
+
+  due_keeps : (t : ℕ) (o : Option Due) (next : Round → Piece P S H) → ((i : Round) → Runs (next i)) → Runs (destructs_by f t o next)
+  due_keeps t None next keeps s r = r
+  due_keeps t (Some d) next keeps s r =
+      let m = mark.Destructor (tid t) d.key d.value in
+      keeps d.round _ (acts_keep t d.handler d.value (suc act_limit) 0 (tells m s).state (told_also m s tt r))
+
+  destructs_keep : (t n : ℕ) (i : Round) → Runs (destructs f t n i)
+  unfolding destructs
+  destructs_keep t zero i s r = r
+  destructs_keep t (suc n) i s r = due_keeps t (next_destructor s.resources.store.keys t i) (destructs f t n) (destructs_keep t n) s r
+
+  mutexes_keep : (t : ℕ) (had : List ℕ) → Runs (tells_each (map (mark.GaveMutex (tid t)) had))
+  unfolding tells_each
+  mutexes_keep t [] s r = r
+  mutexes_keep t (m ∷ had) s r = mutexes_keep t had (tells (mark.GaveMutex (tid t) m) s).state (told_also (mark.GaveMutex (tid t) m) s tt r)
+
+  locks_keep : (t : ℕ) (held : List ℕ) → Runs (tells_each (map (mark.GaveLock (tid t)) held))
+  unfolding tells_each
+  locks_keep t [] s r = r
+  locks_keep t (l ∷ held) s r = locks_keep t held (tells (mark.GaveLock (tid t) l) s).state (told_also (mark.GaveLock (tid t) l) s tt r)
+
+-- ---- ends, calls, and all parts
+
+-- no call blocks a thread that is in no queue any more
+leaves_free : {P S H : Type 0} (t : ℕ) (s : State P S H) → IsFree t s → IsFree t (controlled (leaves_queue t) s)
+unfolding leaves_queue
+leaves_free t s free = free
+
+leaves_gone : {P S H : Type 0} (t : ℕ) (s : State P S H) → IsGone t s → IsGone t (controlled (leaves_queue t) s)
+unfolding leaves_queue
+leaves_gone t s gone = gone
+
+dead_gone : (o : Option Entry) → is_dead (or_nobody o).state ≡ true → lives o ≡ false
+dead_gone None h = refl
+dead_gone (Some e) h = ap not h
+
+-- a call on a thread that is there
+not_unknown : (own unknown barred : Bool) → refuses (refused EINVAL when own otherwise refused ESRCH when unknown otherwise refused EPERM when barred otherwise says 1) ≡ false → unknown ≡ false
+not_unknown true unknown barred h = absurd (true_false h)
+not_unknown false true barred h = absurd (true_false h)
+not_unknown false false barred h = refl
 
 module _ {P S H : Type 0} (f : P → Functions S H) (R : State P S H → Type 0) (kept : KeptAlong f R) where
   abbrev Keeps : Piece P S H → Type 0
@@ -191,21 +307,21 @@ module _ {P S H : Type 0} (f : P → Functions S H) (R : State P S H → Type 0)
   moves_to_keeps : (m : ℕ) → Stays (moves_to m)
   moves_to_keeps m s r = kept.timed (advanced m s.control.kernel) s r
 
-  removes_keeps : (t : ℕ) → Stays (removes t)
-  removes_keeps t s r = kept.forgotten t (controlled (leaves_queue t) s) (leaves_queue_keeps t s r)
+  removes_keeps : (t : ℕ) (s : State P S H) → IsGone t s → R s → R (controlled (removes t) s)
+  removes_keeps t s gone r = kept.forgotten t (controlled (leaves_queue t) s) (leaves_gone t s gone) (leaves_queue_keeps t s r)
 
-  moved_keeps : (t : ℕ) (c : change_of_record.Change) (q : Queue) (rank : ℤ) (top : Bool) → IsPrioSafe c → Stays (λ k. enters t q rank top (sets t c (leaves_queue t k)))
-  moved_keeps t c q rank top safe s r =
+  moved_keeps : (t : ℕ) (c : change_of_record.Change) (q : Queue) (rank : ℤ) (top : Bool) → IsPrioSafe c → ((s : State P S H) → IsLifeSafe t c s) → Stays (λ k. enters t q rank top (sets t c (leaves_queue t k)))
+  moved_keeps t c q rank top safe life s r =
       let a = controlled (leaves_queue t) s in
-      enters_keeps t q rank top (controlled (sets t c) a) (kept.set t c a safe (leaves_queue_keeps t s r))
+      enters_keeps t q rank top (controlled (sets t c) a) (kept.set t c a safe (life a) (leaves_queue_keeps t s r))
 
   suspends_keeps : (t : ℕ) → Stays (suspends t)
   unfolding suspends
-  suspends_keeps t s r = moved_keeps t (change.Suspended true) Suspended (pos 0) false tt s r
+  suspends_keeps t s r = moved_keeps t (change.Suspended true) Suspended (pos 0) false tt (λ a. tt) s r
 
   returns_keeps : (t : ℕ) (q : Option Queue) → Stays (returns_to t q)
   returns_keeps t None s r = r
-  returns_keeps t (Some q) s r = moved_keeps t (change.Suspended false) q (pos 0) false tt s r
+  returns_keeps t (Some q) s r = moved_keeps t (change.Suspended false) q (pos 0) false tt (λ a. tt) s r
 
   resumes_keeps : (t : ℕ) → Stays (resumes t)
   unfolding resumes
@@ -213,106 +329,71 @@ module _ {P S H : Type 0} (f : P → Functions S H) (R : State P S H → Type 0)
 
   ready_keeps : (t : ℕ) (rank : ℤ) (top : Bool) → Stays (is_ready_at t rank top)
   unfolding is_ready_at
-  ready_keeps t rank top s r = moved_keeps t (change.State state.Ready) Ready rank top tt s r
+  ready_keeps t rank top s r = moved_keeps t (change.State state.Ready) Ready rank top tt (λ a. tt) s r
 
-  dead_keeps : (t : ℕ) (v : ℤ) → Stays (is_dead_with t v)
+  dead_keeps : (t : ℕ) (v : ℤ) (s : State P S H) → IsFree t s → R s → R (controlled (is_dead_with t v) s)
   unfolding is_dead_with
-  dead_keeps t v s r =
+  dead_keeps t v s free r =
       let a = controlled (leaves_queue t) s in
       let b = controlled (sets t (change.State state.Dead)) a in
       let c = controlled (sets t (change.Suspended false)) b in
       let d = controlled (sets t (change.Value v)) c in
-      enters_keeps t Dead (pos 0) false d (kept.set t (change.Value v) c tt (kept.set t (change.Suspended false) b tt (kept.set t (change.State state.Dead) a tt (leaves_queue_keeps t s r))))
+      enters_keeps t Dead (pos 0) false d (kept.set t (change.Value v) c tt tt (kept.set t (change.Suspended false) b tt tt (kept.set t (change.State state.Dead) a tt (leaves_free t s free) (leaves_queue_keeps t s r))))
 
-  left_keeps : (t : ℕ) (v : ℤ) → Stays (leaves t v)
+  left_keeps : (t : ℕ) (v : ℤ) (s : State P S H) → IsFree t s → R s → R (controlled (leaves t v) s)
   unfolding leaves
-  left_keeps t v s r = by_joinable (or_nobody (entry_of s.control t)).joinable
+  left_keeps t v s free r = by_joinable (or_nobody (entry_of s.control t)).joinable
     where
       by_joinable : (b : Bool) → R (controlled (λ k. stops_running t ((if b then is_dead_with t v else removes t) k)) s)
-      by_joinable true = let a = controlled (is_dead_with t v) s in runs_now_keeps (other_than t a.control.scheduler.running) a (dead_keeps t v s r)
-      by_joinable false = let a = controlled (removes t) s in runs_now_keeps (other_than t a.control.scheduler.running) a (removes_keeps t s r)
+      by_joinable true = let a = controlled (is_dead_with t v) s in runs_now_keeps (other_than t a.control.scheduler.running) a (dead_keeps t v s free r)
+      by_joinable false = let a = controlled (removes t) s in runs_now_keeps (other_than t a.control.scheduler.running) a (removes_keeps t s (inl free) r)
 
-  spawns_keep : (t b : ℕ) (v a : ℤ) (s : State P S H) → R s → R (controlled (spawns f b v (or_first (values_for s.control t a))) s)
-  spawns_keep t b v a s r =
+  spawns_keep : (t b : ℕ) (v a : ℤ) (s : State P S H) → lives (s.control.threads.known (s.control.threads.made + 1)) ≡ false → R s → R (controlled (spawns f b v (or_first (values_for s.control t a))) s)
+  spawns_keep t b v a s next r =
       let of = or_first (values_for s.control t a) in
-      enters_keeps (s.control.threads.made + 1) New of.prio false (controlled (makes f b v of) s) (kept.made t b v a s r)
+      enters_keeps (s.control.threads.made + 1) New of.prio false (controlled (makes f b v of) s) (kept.made t b v a s next r)
 
-  -- ---- handlers and ends
+  -- ---- ends
 
-  act_keeps : (t : ℕ) (x : Act) → Keeps (acts t x)
-  unfolding acts
-  act_keeps t (act.SetKey k v) s r = by_refusal (refuses (row_of_act s t (act.SetKey k v)).begin.verdict)
-    where
-      m : Mark
-      m = mark.Acted (tid t) (act.SetKey k v) (answer_in (row_of_act s t (act.SetKey k v)).begin.verdict)
+  dies_keeps : (t : ℕ) (v : ℤ) (s : State P S H) → IsFree t s → R s → R (dies t v s).state
+  dies_keeps t v s free r = kept.told (mark.Ended (tid t) v) (controlled (leaves t v) s) tt (left_keeps t v s free r)
 
-      by_refusal : (b : Bool) → R ((unless_refused b (changes nothing) and_then tells m) s).state
-      by_refusal true = kept.told m s tt r
-      by_refusal false = kept.told m s tt r
-  act_keeps t (act.Release i) s r = by_refusal (refuses (row_of_act s t (act.Release i)).begin.verdict)
-    where
-      m : Mark
-      m = mark.Acted (tid t) (act.Release i) (answer_in (row_of_act s t (act.Release i)).begin.verdict)
+  -- its arrival at a barrier is taken back, if it waits there
+  where_withdrawn : (t : ℕ) (b : ℤ) (here : Bool) → Keeps (where_so here (changes (with_barriers (withdrawn b t)) and_then tells (mark.Withdrew (tid t) (object_named b))))
+  where_withdrawn t b true s r = kept.told (mark.Withdrew (tid t) (object_named b)) (controlled (with_barriers (withdrawn b t)) s) tt (kept.barred (withdrawn b t s.control.barriers) s (fewer_withdrawn b t s.control.barriers) r)
+  where_withdrawn t b false s r = r
 
-      by_refusal : (b : Bool) → R ((unless_refused b (changes nothing) and_then tells m) s).state
-      by_refusal true = kept.told m s tt r
-      by_refusal false = kept.told m s tt r
-  act_keeps t x s r = kept.told (mark.Acted (tid t) x (answer_in (row_of_act s t x).begin.verdict)) s tt r
+  withdraws_keeps : (t : ℕ) (a : Awaits) → Keeps (withdraws_from t a)
+  unfolding withdraws_from withdraws
+  withdraws_keeps t (awaits.Round b round) s r = where_withdrawn t b (waits_at s.control.barriers b t) s r
+  withdraws_keeps t a s r = r
 
-  look_keeps : (t : ℕ) (x : Option Act) (next : Piece P S H) → Keeps next → Keeps (goes_on_after t x next)
-  look_keeps t None next keeps s r = r
-  look_keeps t (Some x) next keeps s r = keeps (acts t x s).state (act_keeps t x s r)
+  -- and no call blocks it
+  abbrev Unblocked : ℕ → State P S H → Type 0
+  Unblocked t s = R s × IsFree t s
 
-  acts_keep : (t : ℕ) (h : HandlerId) (v : ℤ) (n i : ℕ) → Keeps (acts_from f t h v n i)
-  unfolding acts_from
-  acts_keep t h v zero i s r = r
-  acts_keep t h v (suc n) i s r =
-      let x = (f s.control.program).act h.0 v i s.control.shared in
-      look_keeps t x.act (acts_from f t h v n (i + 1)) (acts_keep t h v n (i + 1)) (controlled (shares x.shared) s) (kept.shared x.shared s r)
+  unblocked_shared : (t : ℕ) (h : H) (s : State P S H) → Unblocked t s → Unblocked t (controlled (shares h) s)
+  unblocked_shared t h s x = (kept.shared h s x.0, x.1)
 
-  handler_keeps : (t : ℕ) (h : HandlerId) (v : ℤ) → Keeps (runs_handler f t h v)
-  handler_keeps t h v s r =
-      let m = mark.Handler (tid t) h v in
-      acts_keep t h v (suc act_limit) 0 (tells m s).state (kept.told m s tt r)
-
-  each_keep : (t : ℕ) (cs : List PushedHandler) → Keeps (runs_each f t cs)
-  unfolding runs_each
-  each_keep t [] s r = r
-  each_keep t (c ∷ cs) s r = then_keeps (runs_handler f t c.0 c.1) (runs_each f t cs) (handler_keeps t c.0 c.1) (each_keep t cs) s r
-
-  due_keeps : (t : ℕ) (o : Option Due) (next : Round → Piece P S H) → ((i : Round) → Keeps (next i)) → Keeps (destructs_by f t o next)
-  due_keeps t None next keeps s r = r
-  due_keeps t (Some d) next keeps s r =
-      let m = mark.Destructor (tid t) d.key d.value in
-      keeps d.round _ (acts_keep t d.handler d.value (suc act_limit) 0 (tells m s).state (kept.told m s tt r))
-
-  destructs_keep : (t n : ℕ) (i : Round) → Keeps (destructs f t n i)
-  unfolding destructs
-  destructs_keep t zero i s r = r
-  destructs_keep t (suc n) i s r = due_keeps t (next_destructor s.resources.store.keys t i) (destructs f t n) (destructs_keep t n) s r
-
-  mutexes_keep : (t : ℕ) (had : List ℕ) → Keeps (tells_each (map (mark.GaveMutex (tid t)) had))
-  unfolding tells_each
-  mutexes_keep t [] s r = r
-  mutexes_keep t (m ∷ had) s r = mutexes_keep t had (tells (mark.GaveMutex (tid t) m) s).state (kept.told (mark.GaveMutex (tid t) m) s tt r)
-
-  locks_keep : (t : ℕ) (held : List ℕ) → Keeps (tells_each (map (mark.GaveLock (tid t)) held))
-  unfolding tells_each
-  locks_keep t [] s r = r
-  locks_keep t (l ∷ held) s r = locks_keep t held (tells (mark.GaveLock (tid t) l) s).state (kept.told (mark.GaveLock (tid t) l) s tt r)
-
-  dies_keeps : (t : ℕ) (v : ℤ) → Keeps (dies t v)
-  dies_keeps t v s r = kept.told (mark.Ended (tid t) v) (controlled (leaves t v) s) tt (left_keeps t v s r)
+  unblocked_told : (t : ℕ) (m : Mark) (s : State P S H) → IsToTell m s → Unblocked t s → Unblocked t (tells m s).state
+  unblocked_told t m s may x = (kept.told m s may x.0, x.1)
 
   ending_keeps : (t : ℕ) (v : ℤ) → Keeps (ending f t v)
   unfolding ending
   ending_keeps t v s r =
+      let a = awaits_in (blocked_of s.control t) in
+      let s0 = (withdraws_from t a s).state in
       let s1 = (undoes_wait t s).state in
       let s2 = (runs_cleanups f t s1).state in
       let s3 = (runs_destructors f t s2).state in
       let s4 = (gives_mutexes t s3).state in
       let s5 = (gives_locks t s4).state in
-      dies_keeps t v s5 (locks_keep t (locks_held t s4.resources.store.rw_locks) s4 (mutexes_keep t (mutexes_had t s3.resources.store.mutexes) s3 (destructs_keep t (round_limit * key_limit) first_round s2 (each_keep t (s1.resources.store.cleanups t) s1 (kept.stopped t s r)))))
+      let x1 : Unblocked t s1 = (kept.stopped t s0 (left_ended t s) (withdraws_keeps t a s r), stopped_free t s0) in
+      let x2 : Unblocked t s2 = each_keep f (Unblocked t) (unblocked_shared t) (unblocked_told t) t (s1.resources.store.cleanups t) s1 x1 in
+      let x3 : Unblocked t s3 = destructs_keep f (Unblocked t) (unblocked_shared t) (unblocked_told t) t (round_limit * key_limit) first_round s2 x2 in
+      let x4 : Unblocked t s4 = mutexes_keep f (Unblocked t) (unblocked_shared t) (unblocked_told t) t (mutexes_had t s3.resources.store.mutexes) s3 x3 in
+      let x5 : Unblocked t s5 = locks_keep f (Unblocked t) (unblocked_shared t) (unblocked_told t) t (locks_held t s4.resources.store.rw_locks) s4 x4 in
+      dies_keeps t v s5 x5.1 x5.0
 
   -- ---- a call begins
 
@@ -328,11 +409,11 @@ module _ {P S H : Type 0} (f : P → Functions S H) (R : State P S H → Type 0)
     pops_keep : (o : Option PushedHandler) (b : Bool) → Keeps (where_so b (runs_pushed f t o))
     pops_keep o false s r = r
     pops_keep None true s r = r
-    pops_keep (Some c) true s r = handler_keeps t c.0 c.1 s r
+    pops_keep (Some c) true s r = handler_keeps f R kept.shared kept.told t c.0 c.1 s r
 
     once_keeps : (o : ℕ) (h : HandlerId) (v : ℤ) (b : Bool) → Keeps (where_so b (changes (uses o) and_then runs_handler f t h v))
     once_keeps o h v false s r = r
-    once_keeps o h v true s r = handler_keeps t h v (controlled (uses o) s) (kept.used _ s r)
+    once_keeps o h v true s r = handler_keeps f R kept.shared kept.told t h v (controlled (uses o) s) (kept.used _ s r)
 
     ctrl_keeps : (s : State P S H) (x : Query) → KeepsAt s (ctrl s x).begin.effect
     ctrl_keeps s (query.Favournew n) r = kept.scheduled _ s r
@@ -341,10 +422,10 @@ module _ {P S H : Type 0} (f : P → Functions S H) (R : State P S H → Type 0)
 
     -- a value is set in an object, or in a thread
     fields_keep : (s : State P S H) (u : ℕ) (v : AttrValue) → is_in_range v ≡ true → KeepsAt s (changes (sets_field u (change_of v)))
-    fields_keep s u (value.Prio n) inside r = kept.set u (change.Prio n) s (prio_in_range n inside) r
-    fields_keep s u (value.Name name) inside r = kept.set u (change.Name name) s tt r
-    fields_keep s u (value.Joinable n) inside r = kept.set u (change.Joinable (n is 1)) s tt r
-    fields_keep s u (value.Cancel n) inside r = kept.set u (change.Cancel (number n)) s tt r
+    fields_keep s u (value.Prio n) inside r = kept.set u (change.Prio n) s (prio_in_range n inside) tt r
+    fields_keep s u (value.Name name) inside r = kept.set u (change.Name name) s tt tt r
+    fields_keep s u (value.Joinable n) inside r = kept.set u (change.Joinable (n is 1)) s tt tt r
+    fields_keep s u (value.Cancel n) inside r = kept.set u (change.Cancel (number n)) s tt tt r
     fields_keep s u v inside r = r
 
     values_keep : (s : State P S H) (a : ℤ) (v : AttrValue) (o : Option Attribute) → object s.control a ≡ o → is_in_range v ≡ true → KeepsAt s (changes (sets_value a v o))
@@ -368,15 +449,15 @@ module _ {P S H : Type 0} (f : P → Functions S H) (R : State P S H → Type 0)
 
     points_keep : (s : State P S H) (b : Bool) → KeepsAt s (where_so b (takes_request t call.CancelPoint))
     points_keep s false r = r
-    points_keep s true r = kept.told (mark.Canceled (tid t) (Some call.CancelPoint)) (controlled (sets t (change.Request false)) s) tt (kept.set t (change.Request false) s tt r)
+    points_keep s true r = kept.told (mark.Canceled (tid t) (Some call.CancelPoint)) (controlled (sets t (change.Request false)) s) tt (kept.set t (change.Request false) s tt tt r)
 
     states_keep : (s : State P S H) (n : ℤ) (b : Bool) → KeepsAt s (changes (if b then nothing else sets t (change.Cancel (number n))))
     states_keep s n true r = r
-    states_keep s n false r = kept.set t (change.Cancel (number n)) s tt r
+    states_keep s n false r = kept.set t (change.Cancel (number n)) s tt tt r
 
-    joins_keep : (s : State P S H) (o : Option ℕ) → KeepsAt s (changes (takes_joined o))
-    joins_keep s None r = r
-    joins_keep s (Some u) r = removes_keeps u s r
+    joins_keep : (s : State P S H) (o : Option ℕ) → ((u : ℕ) → o ≡ Some u → lives (s.control.threads.known u) ≡ false) → KeepsAt s (changes (takes_joined o))
+    joins_keep s None dead r = r
+    joins_keep s (Some u) dead r = removes_keeps u s (inr (dead u refl)) r
 
     yields_keep : (s : State P S H) (n : ℤ) (b : Bool) → KeepsAt s (changes (if b then nothing else prefers (Some (number n))))
     yields_keep s n true r = r
@@ -389,55 +470,58 @@ module _ {P S H : Type 0} (f : P → Functions S H) (R : State P S H → Type 0)
 
     asks_keep : (s : State P S H) (u : ℕ) (b : Bool) → KeepsAt s (if b then canceled_by_other f u else changes (sets u (change.Request true)))
     asks_keep s u true r = other_keeps u s r
-    asks_keep s u false r = kept.set u (change.Request true) s tt r
+    asks_keep s u false r = kept.set u (change.Request true) s tt tt r
 
-    aborts_keep : (s : State P S H) (u : ℕ) (dead : Bool) → KeepsAt s (if dead then changes (removes u) else aborted f u)
-    aborts_keep s u true r = removes_keeps u s r
-    aborts_keep s u false r =
+    aborts_keep : (s : State P S H) (n : ℤ) (dead : Bool) → is_dead (or_nobody (thread s.control n)).state ≡ dead → is_known s.control n ≡ true → KeepsAt s (if dead then changes (removes (number n)) else aborted f (number n))
+    aborts_keep s n true dead known r = removes_keeps (number n) s (inr (dead_gone (s.control.threads.known (number n)) (named_dead s.control n known dead))) r
+    aborts_keep s n false dead known r =
+        let u = number n in
         let a = controlled (sets u (change.Joinable false)) s in
-        other_keeps u (controlled (sets u (change.Cancel 3)) a) (kept.set u (change.Cancel 3) a tt (kept.set u (change.Joinable false) s tt r))
+        other_keeps u (controlled (sets u (change.Cancel 3)) a) (kept.set u (change.Cancel 3) a tt tt (kept.set u (change.Joinable false) s tt tt r))
 
     -- what a call does that is not refused
-    does_keeps : (s : State P S H) (c : Call) → IsFree t s → refuses (row_of f s t c).begin.verdict ≡ false → KeepsAt s (row_of f s t c).begin.effect
+    does_keeps : (s : State P S H) (c : Call) → IsFree t s → IsSound t s.control → is_reaching c ≡ false → refuses (row_of f s t c).begin.verdict ≡ false → KeepsAt s (row_of f s t c).begin.effect
     unfolding row_of
-    does_keeps s call.Kill free e r = kept.vanished t s free r
-    does_keeps s (call.Yield n) free e r = yields_keep s n (is_zero n) r
-    does_keeps s (call.Cancel n) free e r = asks_keep s (number n) (is_asynchronous (or_nobody (thread s.control n)).cancel) r
-    does_keeps s (call.Abort n) free e r = aborts_keep s (number n) (is_dead (or_nobody (thread s.control n)).state) r
-    does_keeps s call.CancelPoint free e r = points_keep s (is_to_cancel (or_nobody (entry_of s.control t))) r
-    does_keeps s (call.CancelState n) free e r = states_keep s n (is_zero n) r
-    does_keeps s (call.Ctrl x) free e r = ctrl_keeps s x r
-    does_keeps s call.AttrNew free e r = kept.added s r
-    does_keeps s (call.AttrOf n) free e r = kept.bound (tid (number n)) s r
-    does_keeps s (call.AttrInit a) free e r = kept.renewed (number a) s r
-    does_keeps s (call.AttrSet a v) free e r = values_keep s a v (object s.control a) refl (set_passes s.control.threads.known (object s.control a) v e) r
-    does_keeps s (call.AttrDestroy a) free e r = kept.destroyed (number a) s r
-    does_keeps s (call.Spawn b v a) free e r = spawns_keep t (number b) v a s r
-    does_keeps s (call.Suspend n) free e r = suspends_keeps (number n) s r
-    does_keeps s (call.Resume n) free e r = resumes_keeps (number n) s r
-    does_keeps s (call.EvFd goals fd) free e r = make_keeps s (line.Fd goals fd) e r
-    does_keeps s (call.EvSelect a b c) free e r = make_keeps s (line.Select a b c) e r
-    does_keeps s (call.EvTime m) free e r = make_keeps s (line.Time m) e r
-    does_keeps s (call.EvMsg p) free e r = make_keeps s (line.Msg p) e r
-    does_keeps s (call.EvCond c) free e r = make_keeps s (line.Cond c) e r
-    does_keeps s (call.EvTid at n) free e r = make_keeps s (line.Tid at n) e r
-    does_keeps s (call.EvFunc c v l) free e r = make_keeps s (line.Func c v l) e r
-    does_keeps s (call.Chain i l) free e r = chain_keeps s i l e r
-    does_keeps s (call.EvConcat a b) free e r = kept.arranges (Joined (number a) (number b)) s (no_refusal {A = Unit {0}} (concat_refusal s.control.events (number a) (number b)) (Ok tt) (λ u. Says (answer.Int a)) e) r
-    does_keeps s (call.EvIsolate i) free e r = kept.arranges (Isolated (number i)) s (no_refusal {A = Option EventId} (ring_refusal s.control.events (number i)) (Ok (option_map event_id (head_event (rest_of (s.control.events.rings (number i)))))) (λ o. says (number_or_none o)) e) r
-    does_keeps s (call.EvFree i all) free e r = freed_keeps s (number i) all (no_refusal {A = Unit {0}} (ring_refusal s.control.events (number i)) (Ok tt) done e) r
-    does_keeps s (call.Fdmode d m) free e r = kept.timed _ s r
-    does_keeps s (call.Read d n) free e r = kept.timed _ s r
-    does_keeps s (call.ReadEv d n x) free e r = kept.timed _ s r
-    does_keeps s (call.Write d bytes) free e r = kept.timed _ s r
-    does_keeps s (call.WriteEv d bytes x) free e r = kept.timed _ s r
-    does_keeps s (call.Accept d) free e r = kept.timed _ s r
-    does_keeps s (call.AcceptEv d x) free e r = kept.timed _ s r
-    does_keeps s (call.Close d) free e r = kept.timed _ s r
-    does_keeps s (call.Join n) free e r = joins_keep s (to_join s.control n) r
-    does_keeps s (call.CleanupPop v) free e r = pops_keep (last_pushed f s t) (not (is_zero v)) s r
-    does_keeps s (call.Once o h v) free e r = once_keeps (number o) (handler h) v (not (s.control.used (number o))) s r
-    does_keeps s c free e r = r
+    does_keeps s call.Kill free sound other e r = kept.vanished t s free r
+    does_keeps s (call.Yield n) free sound other e r = yields_keep s n (is_zero n) r
+    does_keeps s (call.Cancel n) free sound other e r = asks_keep s (number n) (is_asynchronous (or_nobody (thread s.control n)).cancel) r
+    does_keeps s (call.Abort n) free sound other e r = aborts_keep s n (is_dead (or_nobody (thread s.control n)).state) refl (not-false (is_known s.control n) (not_unknown _ (not (is_known s.control n)) _ e)) r
+    does_keeps s call.CancelPoint free sound other e r = points_keep s (is_to_cancel (or_nobody (entry_of s.control t))) r
+    does_keeps s (call.CancelState n) free sound other e r = states_keep s n (is_zero n) r
+    does_keeps s (call.Ctrl x) free sound other e r = ctrl_keeps s x r
+    does_keeps s call.AttrNew free sound other e r = kept.added s r
+    does_keeps s (call.AttrOf n) free sound other e r = kept.bound (tid (number n)) s r
+    does_keeps s (call.AttrInit a) free sound other e r = kept.renewed (number a) s r
+    does_keeps s (call.AttrSet a v) free sound other e r = values_keep s a v (object s.control a) refl (set_passes s.control.threads.known (object s.control a) v e) r
+    does_keeps s (call.AttrDestroy a) free sound other e r = kept.destroyed (number a) s r
+    does_keeps s (call.Spawn b v a) free sound other e r = spawns_keep t (number b) v a s sound.next r
+    does_keeps s (call.Suspend n) free sound other e r = suspends_keeps (number n) s r
+    does_keeps s (call.Resume n) free sound other e r = resumes_keeps (number n) s r
+    does_keeps s (call.EvFd goals fd) free sound other e r = make_keeps s (line.Fd goals fd) e r
+    does_keeps s (call.EvSelect a b c) free sound other e r = make_keeps s (line.Select a b c) e r
+    does_keeps s (call.EvTime m) free sound other e r = make_keeps s (line.Time m) e r
+    does_keeps s (call.EvMsg p) free sound other e r = make_keeps s (line.Msg p) e r
+    does_keeps s (call.EvCond c) free sound other e r = make_keeps s (line.Cond c) e r
+    does_keeps s (call.EvTid at n) free sound other e r = make_keeps s (line.Tid at n) e r
+    does_keeps s (call.EvFunc c v l) free sound other e r = make_keeps s (line.Func c v l) e r
+    does_keeps s (call.Chain i l) free sound other e r = chain_keeps s i l e r
+    does_keeps s (call.EvConcat a b) free sound other e r = kept.arranges (Joined (number a) (number b)) s (no_refusal {A = Unit {0}} (concat_refusal s.control.events (number a) (number b)) (Ok tt) (λ u. Says (answer.Int a)) e) r
+    does_keeps s (call.EvIsolate i) free sound other e r = kept.arranges (Isolated (number i)) s (no_refusal {A = Option EventId} (ring_refusal s.control.events (number i)) (Ok (option_map event_id (head_event (rest_of (s.control.events.rings (number i)))))) (λ o. says (number_or_none o)) e) r
+    does_keeps s (call.EvFree i all) free sound other e r = freed_keeps s (number i) all (no_refusal {A = Unit {0}} (ring_refusal s.control.events (number i)) (Ok tt) done e) r
+    does_keeps s (call.Fdmode d m) free sound other e r = kept.timed _ s r
+    does_keeps s (call.Read d n) free sound other e r = kept.timed _ s r
+    does_keeps s (call.ReadEv d n x) free sound other e r = kept.timed _ s r
+    does_keeps s (call.Write d bytes) free sound other e r = kept.timed _ s r
+    does_keeps s (call.WriteEv d bytes x) free sound other e r = kept.timed _ s r
+    does_keeps s (call.Accept d) free sound other e r = kept.timed _ s r
+    does_keeps s (call.AcceptEv d x) free sound other e r = kept.timed _ s r
+    does_keeps s (call.Close d) free sound other e r = kept.timed _ s r
+    does_keeps s (call.BarrierInit b n) free sound other e r = kept.barred (barrier_initialised b n s.control.barriers) s (fewer_initialised b n s.control.barriers) r
+    does_keeps s (call.BarrierReach b) free sound other e r = absurd (true_false other)
+    does_keeps s (call.Join n) free sound other e r = joins_keep s (to_join s.control n) (λ u taken. sound.joins n u taken) r
+    does_keeps s (call.CleanupPop v) free sound other e r = pops_keep (last_pushed f s t) (not (is_zero v)) s r
+    does_keeps s (call.Once o h v) free sound other e r = once_keeps (number o) (handler h) v (not (s.control.used (number o))) s r
+    does_keeps s c free sound other e r = r
 
     begun_by_keeps : (c : Call) (v : Verdict) (s : State P S H) → IsAllowed t c v s → R s → R (begun_by f t c v s).told.state
     begun_by_keeps c (Says x) s may r = kept.told (mark.Answered (tid t) c x) s may r
@@ -446,13 +530,22 @@ module _ {P S H : Type 0} (f : P → Functions S H) (R : State P S H → Type 0)
     begun_by_keeps c (Ends v) s may r = ending_keeps t v s r
     begun_by_keeps c Kills s may r = kept.told (mark.Answered (tid t) c (answer.Int (pos 1))) s may r
 
-    begun_keeps : (c : Call) (s : State P S H) → IsFree t s → R s → R (begun f t c s).told.state
-    unfolding begun
-    begun_keeps call.Plain s free r = r
-    begun_keeps (call.Note v) s free r = kept.told (mark.Noted (tid t) v) s tt r
-    begun_keeps c s free r =
+    -- an arrival at a barrier, by what it comes to
+    reach_keeps : (b : ℤ) (o : Result Arrival Errno) (s : State P S H) → arrival_answer s.control.barriers b ≡ o → IsFree t s → IsSound t s.control → is_some (s.control.threads.progress t) ≡ true → R s → R (begun_as f t (call.BarrierReach b) (by_result (arrived_as b) o trying changes (with_barriers (barrier_reached b t))) s).told.state
+    unfolding claims
+    reach_keeps b (Err e) s same free sound there r = kept.told (mark.Answered (tid t) (call.BarrierReach b) (answer.Fail e)) s tt r
+    reach_keeps b (Ok arrival.Tail) s same free sound there r = kept.told (mark.Answered (tid t) (call.BarrierReach b) (answer.Int taillight)) (controlled (with_barriers (barrier_reached b t)) s) tt (kept.barred (barrier_reached b t s.control.barriers) s (fewer_tail b t s.control.barriers same) r)
+    reach_keeps b (Ok (arrival.Waits round)) s same free sound there r =
+        kept.told (mark.Waits (tid t) (call.BarrierReach b)) (controlled (λ k. blocks t (call.BarrierReach b) (awaits.Round b round) (with_barriers (barrier_reached b t) k)) s) tt (kept.reached t b round s free sound.alive there same r)
+
+    begun_keeps : (c : Call) (s : State P S H) → IsFree t s → IsSound t s.control → is_some (s.control.threads.progress t) ≡ true → R s → R (begun f t c s).told.state
+    unfolding begun row_of
+    begun_keeps call.Plain s free sound there r = r
+    begun_keeps (call.Note v) s free sound there r = kept.told (mark.Noted (tid t) v) s tt r
+    begun_keeps (call.BarrierReach b) s free sound there r = reach_keeps b (arrival_answer s.control.barriers b) s refl free sound there r
+    begun_keeps c s free sound there r =
         let a = (row_of f s t c).begin in
-        begun_by_keeps c a.verdict (effect_of a s).state (allowed f t s c free) (unless_keeps s (refuses a.verdict) a.effect (does_keeps s c free) r)
+        begun_by_keeps c a.verdict (effect_of a s).state (allowed f t s c free) (unless_keeps s (refuses a.verdict) a.effect (does_keeps s c free sound refl) r)
 
     -- ---- a call is tried again
 
@@ -467,66 +560,75 @@ module _ {P S H : Type 0} (f : P → Functions S H) (R : State P S H → Type 0)
     make_again : (s : State P S H) (l : EvLine) (b : Awaits) → KeepsAt s ((make_event s l).again b).effect
     make_again s l b r = made_again s (spec_of l) (λ x. by_result says (make_answer s.control.events)) (λ x. with_events (alone x)) b r
 
-    does_again : (s : State P S H) (c : Call) (b : Awaits) → KeepsAt s ((row_of f s t c).again b).effect
+    -- t's round is tried again
+    round_keeps : (s : State P S H) (b : ℤ) (round : ℕ) → KeepsAt s (tries_round s t b round).effect
+    round_keeps s b round r = by_test (has_passed s.control.barriers b round)
+      where
+        by_test : (passed : Bool) → R ((if passed then (Says (answer.Int (round_answer s.control.barriers b round t)) trying changes (with_barriers (round_answered b round t))) else (Blocks (awaits.Round b round) trying silent)).effect s).state
+        by_test true = kept.barred (round_answered b round t s.control.barriers) s (fewer_answered b round t s.control.barriers) r
+        by_test false = r
+
+    does_again : (s : State P S H) (c : Call) (b : Awaits) → IsSound t s.control → KeepsAt s ((row_of f s t c).again b).effect
     unfolding row_of
-    does_again s (call.Ctrl x) b r = ctrl_again s x b r
-    does_again s (call.EvFd goals fd) b r = make_again s (line.Fd goals fd) b r
-    does_again s (call.EvSelect i w x) b r = make_again s (line.Select i w x) b r
-    does_again s (call.EvTime m) b r = make_again s (line.Time m) b r
-    does_again s (call.EvMsg p) b r = make_again s (line.Msg p) b r
-    does_again s (call.EvCond c) b r = make_again s (line.Cond c) b r
-    does_again s (call.EvTid at n) b r = make_again s (line.Tid at n) b r
-    does_again s (call.EvFunc c v l) b r = make_again s (line.Func c v l) b r
-    does_again s (call.Chain i l) b r = made_again s (spec_of l) (λ x. by_result says (chain_answer s.control.events (number i))) (λ x. with_events (chained x (number i))) b r
-    does_again s (call.Read d n) b r = kept.timed _ s r
-    does_again s (call.ReadEv d n x) b r = kept.timed _ s r
-    does_again s (call.Write d bytes) b r = kept.timed _ s r
-    does_again s (call.WriteEv d bytes x) b r = kept.timed _ s r
-    does_again s (call.Accept d) b r = kept.timed _ s r
-    does_again s (call.AcceptEv d x) b r = kept.timed _ s r
-    does_again s (call.Connect d) b r = kept.timed _ s r
-    does_again s (call.ConnectEv d x) b r = kept.timed _ s r
-    does_again s (call.Select i w x l) b r = kept.timed _ s r
-    does_again s (call.SelectEv i w x l e) b r = kept.timed _ s r
-    does_again s (call.Join n) b r = joins_keep s (to_join s.control n) r
-    does_again s c b r = r
+    does_again s (call.Ctrl x) b sound r = ctrl_again s x b r
+    does_again s (call.EvFd goals fd) b sound r = make_again s (line.Fd goals fd) b r
+    does_again s (call.EvSelect i w x) b sound r = make_again s (line.Select i w x) b r
+    does_again s (call.EvTime m) b sound r = make_again s (line.Time m) b r
+    does_again s (call.EvMsg p) b sound r = make_again s (line.Msg p) b r
+    does_again s (call.EvCond c) b sound r = make_again s (line.Cond c) b r
+    does_again s (call.EvTid at n) b sound r = make_again s (line.Tid at n) b r
+    does_again s (call.EvFunc c v l) b sound r = make_again s (line.Func c v l) b r
+    does_again s (call.Chain i l) b sound r = made_again s (spec_of l) (λ x. by_result says (chain_answer s.control.events (number i))) (λ x. with_events (chained x (number i))) b r
+    does_again s (call.Read d n) b sound r = kept.timed _ s r
+    does_again s (call.ReadEv d n x) b sound r = kept.timed _ s r
+    does_again s (call.Write d bytes) b sound r = kept.timed _ s r
+    does_again s (call.WriteEv d bytes x) b sound r = kept.timed _ s r
+    does_again s (call.Accept d) b sound r = kept.timed _ s r
+    does_again s (call.AcceptEv d x) b sound r = kept.timed _ s r
+    does_again s (call.Connect d) b sound r = kept.timed _ s r
+    does_again s (call.ConnectEv d x) b sound r = kept.timed _ s r
+    does_again s (call.Select i w x l) b sound r = kept.timed _ s r
+    does_again s (call.SelectEv i w x l e) b sound r = kept.timed _ s r
+    does_again s (call.BarrierReach c) b sound r = round_keeps s c (round_in b) r
+    does_again s (call.Join n) b sound r = joins_keep s (to_join s.control n) (λ u taken. sound.joins n u taken) r
+    does_again s c b sound r = r
 
-    come_keeps : (s : State P S H) (c : Call) (b : Awaits) (come : Bool) → KeepsAt s (effect_of (unless_settled come ((row_of f s t c).again b)))
-    come_keeps s c b false r = unless_keeps s (refuses ((row_of f s t c).again b).verdict) ((row_of f s t c).again b).effect (λ e. does_again s c b) r
-    come_keeps s c b true r = unless_keeps s (refuses (interrupted ((row_of f s t c).again b).verdict)) ((row_of f s t c).again b).effect (λ e. does_again s c b) r
+    come_keeps : (s : State P S H) (c : Call) (b : Awaits) (come : Bool) → IsSound t s.control → KeepsAt s (effect_of (unless_settled come ((row_of f s t c).again b)))
+    come_keeps s c b false sound r = unless_keeps s (refuses ((row_of f s t c).again b).verdict) ((row_of f s t c).again b).effect (λ e. does_again s c b sound) r
+    come_keeps s c b true sound r = unless_keeps s (refuses (interrupted ((row_of f s t c).again b).verdict)) ((row_of f s t c).again b).effect (λ e. does_again s c b sound) r
 
-    answers_keep : (c : Call) (a : Answer) (s : State P S H) → IsToTell (mark.Answered (tid t) c a) (controlled (stops_waiting t) s) → R s → R (tells (mark.Answered (tid t) c a) (controlled (stops_waiting t) s)).state
-    answers_keep c a s may r = kept.told (mark.Answered (tid t) c a) (controlled (stops_waiting t) s) may (kept.stopped t s r)
+    answers_keep : (c : Call) (a : Answer) (s : State P S H) → IsToTell (mark.Answered (tid t) c a) (controlled (stops_waiting t) s) → HasLeft t s → R s → R (tells (mark.Answered (tid t) c a) (controlled (stops_waiting t) s)).state
+    answers_keep c a s may left r = kept.told (mark.Answered (tid t) c a) (controlled (stops_waiting t) s) may (kept.stopped t s left r)
 
-    tried_by_keeps : (b : Blocked) (v : Verdict) (s : State P S H) → IsAllowedAgain t b.call b v s → R s → R (tried_by f t b v s).told.state
-    tried_by_keeps b (Says x) s may r = answers_keep b.call x s may r
-    tried_by_keeps b (Yields x) s may r = answers_keep b.call x s may r
-    tried_by_keeps b (Blocks a) s may r = kept.told (mark.Waits (tid t) b.call) (controlled (is_blocked_by t (Some (record b { awaits = a }))) s) tt (kept.waits_on t a b s may.0 may.1 r)
-    tried_by_keeps b (Ends v) s may r = ending_keeps t v s r
-    tried_by_keeps b Kills s may r = answers_keep b.call (answer.Int (pos 1)) s may r
+    tried_by_keeps : (b : Blocked) (v : Verdict) (s : State P S H) → IsAllowedAgain t b.call b v s → ((a : Awaits) → v ≡ Blocks a → StaysAt b.call b.awaits a) → (is_blocking v ≡ false → HasLeft t s) → R s → R (tried_by f t b v s).told.state
+    tried_by_keeps b (Says x) s may stays left r = answers_keep b.call x s may (left refl) r
+    tried_by_keeps b (Yields x) s may stays left r = answers_keep b.call x s may (left refl) r
+    tried_by_keeps b (Blocks a) s may stays left r = kept.told (mark.Waits (tid t) b.call) (controlled (is_blocked_by t (Some (record b { awaits = a }))) s) tt (kept.waits_on t a b s may.0 may.1 (stays a refl) r)
+    tried_by_keeps b (Ends v) s may stays left r = ending_keeps t v s r
+    tried_by_keeps b Kills s may stays left r = answers_keep b.call (answer.Int (pos 1)) s may (left refl) r
 
-    tried_again_keeps : (s : State P S H) (o : Option Blocked) → blocked_of s.control t ≡ o → R s → R (tried_again_by f t o s).told.state
-    tried_again_keeps s None at r = r
-    tried_again_keeps s (Some b) at r =
+    tried_again_keeps : (s : State P S H) (o : Option Blocked) → blocked_of s.control t ≡ o → IsSound t s.control → R s → R (tried_again_by f t o s).told.state
+    tried_again_keeps s None at sound r = r
+    tried_again_keeps s (Some b) at sound r =
         let come = has_settled s.control.events (ring_given b.call) in
         let a = unless_settled come ((row_of f s t b.call).again b.awaits) in
-        tried_by_keeps b a.verdict (effect_of a s).state (allowed_again f t s b.call b come at) (come_keeps s b.call b.awaits come r)
+        tried_by_keeps b a.verdict (effect_of a s).state (allowed_again f t s b.call b come at) (λ now blocks. stays_again f t s b.call b.awaits come now blocks) (λ at_once. left_again f t s b.call b refl at at_once) (come_keeps s b.call b.awaits come sound r)
 
     canceled_keeps : (o : Option Blocked) (s : State P S H) → R s → R (canceled_by f t o s).told.state
     canceled_keeps None s r = r
     canceled_keeps (Some b) s r =
         let m = mark.Canceled (tid t) (Some b.call) in
         let a = controlled (sets t (change.Request false)) s in
-        ending_keeps t canceled_value (tells m a).state (kept.told m a tt (kept.set t (change.Request false) s tt r))
+        ending_keeps t canceled_value (tells m a).state (kept.told m a tt (kept.set t (change.Request false) s tt tt r))
 
-    where_keeps : (b : Bool) (s : State P S H) → R s → R (gone_on_where f t b s).told.state
+    where_keeps : (b : Bool) (s : State P S H) → IsSound t s.control → R s → R (gone_on_where f t b s).told.state
     unfolding tried_again
-    where_keeps true s r = canceled_keeps (blocked_of s.control t) s r
-    where_keeps false s r = tried_again_keeps s (blocked_of s.control t) refl r
+    where_keeps true s sound r = canceled_keeps (blocked_of s.control t) s r
+    where_keeps false s sound r = tried_again_keeps s (blocked_of s.control t) refl sound r
 
-    gone_on_keeps : (s : State P S H) → R s → R (gone_on f t s).told.state
+    gone_on_keeps : (s : State P S H) → IsSound t s.control → R s → R (gone_on f t s).told.state
     unfolding gone_on
-    gone_on_keeps s r = where_keeps (may_be_canceled s.control t) s r
+    gone_on_keeps s sound r = where_keeps (may_be_canceled s.control t) s sound r
 
     -- ---- a step
 
@@ -534,14 +636,18 @@ module _ {P S H : Type 0} (f : P → Functions S H) (R : State P S H → Type 0)
     unfolding goes_on
     stepped_free g s p at free = ap blocked_in (put_here s.control.threads.progress t (option_map g (s.control.threads.progress t))) ∙ ap (λ o. blocked_in (option_map g o)) at ∙ free
 
-    steps_by_keeps : (b : Option Blocked) (o : Option (Progress S)) (s : State P S H) → blocked_of s.control t ≡ b → s.control.threads.progress t ≡ o → R s → R (steps_by f t b o s).told.state
-    steps_by_keeps (Some b) o s is_blocked at r = gone_on_keeps s r
-    steps_by_keeps None None s is_blocked at r = gone_on_keeps s r
-    steps_by_keeps None (Some p) s is_blocked at r =
+    stepped_there : (g : Progress S → Progress S) (s : State P S H) (p : Progress S) → s.control.threads.progress t ≡ Some p → is_some ((controlled (goes_on t g) s).control.threads.progress t) ≡ true
+    unfolding goes_on
+    stepped_there g s p at = ap is_some (put_here s.control.threads.progress t (option_map g (s.control.threads.progress t)) ∙ ap (option_map g) at)
+
+    steps_by_keeps : (b : Option Blocked) (o : Option (Progress S)) (s : State P S H) → blocked_of s.control t ≡ b → s.control.threads.progress t ≡ o → IsSound t s.control → R s → R (steps_by f t b o s).told.state
+    steps_by_keeps (Some b) o s is_blocked at sound r = gone_on_keeps s sound r
+    steps_by_keeps None None s is_blocked at sound r = gone_on_keeps s sound r
+    steps_by_keeps None (Some p) s is_blocked at sound r =
         let x = (f s.control.program).step p.state s.control.shared p.owed in
         let g : Progress S → Progress S = λ y. record y { state = x.state; owed = answer.None } in
         let a = controlled (shares x.shared) s in
-        begun_keeps x.call (controlled (goes_on t g) a) (stepped_free g a p at (sym (ap blocked_in at) ∙ is_blocked)) (kept.goes t g a (λ y. refl) (kept.shared x.shared s r))
+        begun_keeps x.call (controlled (goes_on t g) a) (stepped_free g a p at (sym (ap blocked_in at) ∙ is_blocked)) (sound_steps t t g x.shared s.control sound) (stepped_there g a p at) (kept.goes t g a (λ y. refl) (kept.shared x.shared s r))
 
     owes_keeps : (n : Next) → Stays (owes_after t n)
     owes_keeps (next.Done a) s r = kept.goes t (owing a) s (λ p. refl) r
@@ -550,11 +656,11 @@ module _ {P S H : Type 0} (f : P → Functions S H) (R : State P S H → Type 0)
     owes_keeps (next.Ended v) s r = r
     owes_keeps next.Killed s r = r
 
-    step_keeps : (x : Turn) (s : State P S H) → R s → R (steps f x t s).state
+    step_keeps : (x : Turn) (s : State P S H) → IsSound t s.control → R s → R (steps f x t s).state
     unfolding steps
-    step_keeps x s r =
+    step_keeps x s sound r =
         let w = steps_on f t s in
-        owes_keeps w.next w.told.state (steps_by_keeps (blocked_of s.control t) (s.control.threads.progress t) s refl refl r)
+        owes_keeps w.next w.told.state (steps_by_keeps (blocked_of s.control t) (s.control.threads.progress t) s refl refl sound r)
 
   -- ---- the other parts
 
@@ -584,7 +690,7 @@ module _ {P S H : Type 0} (f : P → Functions S H) (R : State P S H → Type 0)
       let c = controlled (sets t (change.Dispatches n)) b in
       let d = controlled (runs_now (Some t)) c in
       let m = mark.Dispatch (x.turns + 1) (now_of s.control) (tid t) (rank_by (place_in t (queue s.control Ready))) 0 0 in
-      kept.told m (controlled (prefers None) d) tt (prefers_keeps None d (runs_now_keeps (Some t) c (kept.set t (change.Dispatches n) b tt (kept.set t (change.State state.Running) a tt (leaves_queue_keeps t s r)))))
+      kept.told m (controlled (prefers None) d) tt (prefers_keeps None d (runs_now_keeps (Some t) c (kept.set t (change.Dispatches n) b tt tt (kept.set t (change.State state.Running) a tt tt (leaves_queue_keeps t s r)))))
 
   takes_keeps : (x : Turn) (s : State P S H) → R s → R (takes x s).state
   unfolding takes
@@ -592,14 +698,14 @@ module _ {P S H : Type 0} (f : P → Functions S H) (R : State P S H → Type 0)
       let a = controlled readies_new s in
       taken_keeps x (chosen a.control.scheduler.preferred (queue a.control Ready)) a (readies_keep (reverse (holders (queue s.control New))) s r)
 
-  put_keeps : (t : ℕ) (at : ThreadState) (q : Queue) (s : State P S H) → R s → R (controlled (λ k. enters t q (prio_of k t) false (sets t (change.State at) k)) s)
-  put_keeps t at q s r = enters_keeps t q (prio_of s.control t) false (controlled (sets t (change.State at)) s) (kept.set t (change.State at) s tt r)
+  put_keeps : (t : ℕ) (at : ThreadState) (q : Queue) (s : State P S H) → IsLifeSafe t (change.State at) s → R s → R (controlled (λ k. enters t q (prio_of k t) false (sets t (change.State at) k)) s)
+  put_keeps t at q s life r = enters_keeps t q (prio_of s.control t) false (controlled (sets t (change.State at)) s) (kept.set t (change.State at) s tt life r)
 
   placed_keeps : (t : ℕ) (o : Option ℕ) (b : Option Blocked) → Stays (placed_by t o b)
   unfolding is_put_back is_put_waiting
   placed_keeps t None b s r = r
-  placed_keeps t (Some u) (Some b) s r = put_keeps t state.Waiting Waiting s r
-  placed_keeps t (Some u) None s r = put_keeps t state.Ready Ready s r
+  placed_keeps t (Some u) (Some b) s r = put_keeps t state.Waiting Waiting s tt r
+  placed_keeps t (Some u) None s r = put_keeps t state.Ready Ready s tt r
 
   closes_keeps : (x : Turn) (t : ℕ) (s : State P S H) → R s → R (closes x t s).state
   unfolding closes is_placed raises_ready
@@ -615,17 +721,17 @@ module _ {P S H : Type 0} (f : P → Functions S H) (R : State P S H → Type 0)
       let a = controlled (moves_to m) s in
       pass_keeps (tells (mark.Moved m) a).state (kept.told (mark.Moved m) a tt (moves_to_keeps m s r))
 
-  part_keeps : (x : Turn) (s : State P S H) (p : Part) → R s → R (part_by f x s p).state
+  part_keeps : (x : Turn) (s : State P S H) (p : Part) → ((t : ℕ) → p ≡ Step t → IsSound t s.control) → R s → R (part_by f x s p).state
   unfolding moves
-  part_keeps x s Move r = moves_keeps x (moment s) s r
-  part_keeps x s Take r = takes_keeps x s r
-  part_keeps x s (Step t) r = step_keeps t x s r
-  part_keeps x s (Close t) r = closes_keeps x t s r
-  part_keeps x s Halt r = r
+  part_keeps x s Move sound r = moves_keeps x (moment s) s r
+  part_keeps x s Take sound r = takes_keeps x s r
+  part_keeps x s (Step t) sound r = step_keeps t x s (sound t refl) r
+  part_keeps x s (Close t) sound r = closes_keeps x t s r
+  part_keeps x s Halt sound r = r
 
   -- ---- a run
 
   pub run_keeps : (g : Given P) → R (start f g) → (i : ℕ) → R (run f g i).state
   unfolding parts part
   run_keeps g begins zero = begins
-  run_keeps g begins (suc i) = part_keeps (run f g i).turn (run f g i).state (next_part (run f g i).state (run f g i).turn) (run_keeps g begins i)
+  run_keeps g begins (suc i) = part_keeps (run f g i).turn (run f g i).state (next_part (run f g i).state (run f g i).turn) (λ t next. run_sound f g i t next) (run_keeps g begins i)

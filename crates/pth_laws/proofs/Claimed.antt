@@ -4,8 +4,10 @@ use Rattle.std.proofs.lemmas.Bool.{cases_eq}
 use Rattle.pth_base.specs.Program.{Functions}
 use Rattle.pth_base.specs.Table.{put}
 use Rattle.pth_base.specs.declared.call.Call.{Call}
+use Rattle.pth_base.specs.declared.call.Call.TheVariants as call
 use Rattle.pth_base.specs.declared.ids.Tid.{Tid}
 use Rattle.pth_base.proofs.Tables.{put_by, put_here, put_other, same_means}
+use Rattle.pth_cond.specs.Barriers.{barrier_reached}
 use Rattle.pth_numbered.specs.Operands.{number}
 use Rattle.pth_ring.specs.declared.event.Event.{Event}
 use Rattle.pth_base.specs.Chain.{StandsIn, Distinct}
@@ -16,11 +18,12 @@ use Rattle.pth_ring.proofs.Lists.{ring_holds-in, ring_holds-out}
 use Rattle.pth_ring.proofs.Turns.{StandsIn-turned}
 use Rattle.pth_threads.specs.declared.entry.Change as change_of_record
 use Rattle.pth_model.specs.declared.awaits.Awaits.{Awaits}
+use Rattle.pth_model.specs.declared.awaits.Awaits.TheVariants as awaits
 use Rattle.pth_model.specs.declared.blocked.Blocked.{Blocked}
 use Rattle.pth_model.specs.declared.progress.Progress.{Progress}
 use Rattle.pth_model.specs.State.{State, Control, Given, start, main, now_of}
 use Rattle.pth_model.specs.Transition.{controlled, tid}
-use Rattle.pth_model.specs.Changes.{sets, goes_on, blocking, is_blocked_by, makes, forgets, blocked_in, blocked_of}
+use Rattle.pth_model.specs.Changes.{sets, goes_on, blocking, is_blocked_by, makes, forgets, with_barriers, blocked_in, blocked_of}
 use Rattle.pth_model.specs.RingWaits.{claimant, claimant_by, claims, gives_back, ring_given, ring_held, stops_waiting, awaited_events}
 use Rattle.pth_model.specs.ThreadControl.{values_for, or_first}
 use Rattle.pth_model.specs.LibraryControl.{vanish_all_but}
@@ -279,6 +282,13 @@ module _ {P S H : Type 0} where
           by_some u e (inl own) = inr (own.0, sym (some_same (number i) e (sym (ap (option_map number) given) ∙ own.1)))
           by_some u e (inr other) = inl other.1
 
+  fits_reached : (t : ℕ) (b : ℤ) (round : ℕ) (s : State P S H) → FitsIn s → FitsIn (controlled (λ k. blocks t (call.BarrierReach b) (awaits.Round b round) (with_barriers (barrier_reached b t) k)) s)
+  unfolding claims
+  fits_reached t b round s r = fits_blocked t (call.BarrierReach b) (awaits.Round b round) (controlled (with_barriers (barrier_reached b t)) s) (record { ring = λ e h. absurd (no_ring e h); rightly = tt; names = refl }) r
+    where
+      no_ring : (e : ℤ) → None ≡ Some e → ⊥
+      no_ring e h = cc
+
   fits_stopped : (t : ℕ) (s : State P S H) → FitsIn s → FitsIn (controlled (stops_waiting t) s)
   unfolding stops_waiting gives_back goes_on
   fits_stopped t s r = by_ring (ring_held (blocked_of s.control t)) refl
@@ -309,9 +319,9 @@ module _ {P S H : Type 0} where
     scheduled = λ x s r. r;
     timed = λ x s r. r;
     used = λ o s r. r;
-    set = λ t c s safe r. fits_set t c s r;
-    made = λ t b v a s r. fits_made f t b v a s r;
-    forgotten = λ t s r. fits_forgotten t s r;
+    set = λ t c s safe life r. fits_set t c s r;
+    made = λ t b v a s next r. fits_made f t b v a s r;
+    forgotten = λ t s gone r. fits_forgotten t s r;
     vanished = λ t s free r. fits_vanished t s free r;
     added = λ s r. r;
     bound = λ t s r. r;
@@ -320,10 +330,12 @@ module _ {P S H : Type 0} where
     destroyed = λ n s r. r;
     arranges = λ q s may r. fits_arranged s.control.events (held_in s.control) r q may;
     looked = λ s r. fits_looked s r;
+    barred = λ x s fewer r. r;
+    reached = λ t b round s free alive there waits r. fits_reached t b round s r;
     goes = λ t g s same r. fits_goes t g s (λ p at. ap event_held (same p)) r;
     blocked = λ t c a s free may r. fits_blocked t c a s may r;
-    waits_on = λ t a b s at names r. fits_goes t (blocking (Some (record b { awaits = a }))) s (λ p here. sym (ap event_held (sym (ap blocked_in here) ∙ at))) r;
-    stopped = λ t s r. fits_stopped t s r;
+    waits_on = λ t a b s at names stays r. fits_goes t (blocking (Some (record b { awaits = a }))) s (λ p here. sym (ap event_held (sym (ap blocked_in here) ∙ at))) r;
+    stopped = λ t s left r. fits_stopped t s r;
     told = λ m s may r. r;
   }
 

@@ -136,6 +136,7 @@ module _ {P S H : Type 0} (n : ℕ) (ended awaits : ℕ → Bool) (t : ℕ) (q :
     exchanged = λ m p k g. g;
     evented = λ x k none g. (g.0, (λ e u h. g.1 e u (none e u h)), g.2, g.3);
     described = λ ds k g. g;
+    barred = λ x k g. g;
     used = λ p k g. g;
     requested = λ u b k apart g. (going_set n ended t u (change.Request b) k (request_state b) g.0, claims_set u (change.Request b) k (λ e h. ap is_dead (request_state b e)) g.1, set_progress u (change.Request b) k ∙ g.2, awaits_set awaits u (change.Request b) k (λ e h. ap is_dead (request_state b e)) g.3);
   }

@@ -7,19 +7,24 @@ use Rattle.pth_base.specs.Table.{put}
 use Rattle.pth_base.specs.declared.mark.Mark.{Mark}
 use Rattle.pth_base.specs.declared.mark.Mark.TheVariants as mark
 use Rattle.pth_base.proofs.Tables.{same_self, put_by, put_here, put_other}
-use Rattle.pth_lock.specs.Objects.{object_limit}
+use Rattle.pth_cond.specs.Barriers.{BarrierTable, waits_at, withdrawn}
+use Rattle.pth_lock.specs.Objects.{object_limit, object_named}
 use Rattle.pth_lock.specs.Mutexes.{free_mutex, has}
 use Rattle.pth_lock.specs.RwLocks.{holds, is_one, without_slot}
 use Rattle.pth_store.specs.Cleanups.{PushedHandler}
 use Rattle.pth_store.specs.Keys.{Tables, key_limit}
 use Rattle.pth_threads.specs.declared.entry.Entry.{Entry}
+use Rattle.pth_model.specs.declared.awaits.Awaits.{Awaits}
+use Rattle.pth_model.specs.declared.awaits.Awaits.TheVariants as awaited
 use Rattle.pth_model.specs.declared.destructors.Due.{Due}
 use Rattle.pth_model.specs.declared.destructors.Round.{Round}
 use Rattle.pth_model.specs.Resources.{Resources, told}
 use Rattle.pth_model.specs.State.{State, Control}
-use Rattle.pth_model.specs.Transition.{Piece, tells, tells_each, tid, ◌and_then◌}
+use Rattle.pth_model.specs.Transition.{Piece, changes, tells, tells_each, tid, where_so, ◌and_then◌}
 use Rattle.pth_model.specs.Ending.{round_limit, first_round, next_destructor, other_than, stops_running, is_dead_with, undoes_wait, runs_each, runs_cleanups, runs_destructor, destructs_by, destructs, runs_destructors, mutexes_had, locks_held, gives_mutexes, gives_locks, gives_all, leaves, dies, ending}
-use Rattle.pth_model.specs.Changes.{sets, enters, leaves_queue, forgets, removes, goes_on, is_blocked_by, blocked_of, or_nobody, entry_of}
+use Rattle.pth_model.specs.Awaits.{awaits_in}
+use Rattle.pth_model.specs.Barriers.{withdraws, withdraws_from}
+use Rattle.pth_model.specs.Changes.{sets, enters, leaves_queue, forgets, removes, goes_on, with_barriers, is_blocked_by, blocked_of, or_nobody, entry_of}
 use Rattle.pth_model.specs.RingWaits.{claimant, gives_back, stops_waiting, ring_held}
 use Rattle.pth_model.specs.Acts.{handled, runs_handler}
 use Rattle.pth_model.specs.Living.{lives, is_made}
@@ -271,6 +276,17 @@ pub record HasEnded {P S H : Type 0} (n t : ℕ) (b : Book) (s : State P S H) (c
   pub running : u.control.scheduler.running ≡ other_than t s.control.scheduler.running
   pub preferred : u.control.scheduler.preferred ≡ s.control.scheduler.preferred
 
+-- t's arrival at a barrier is taken back: of the control the barriers alone change
+module _ {P S H : Type 0} (t : ℕ) (Q : Control P S H → Type 0) (barred : (x : BarrierTable) (k : Control P S H) → Q k → Q (record k { barriers = x })) where
+  where_control : (b : ℤ) (here : Bool) (s : State P S H) → Q s.control → Q (where_so here (changes (with_barriers (withdrawn b t)) and_then tells (mark.Withdrew (tid t) (object_named b))) s).state.control
+  where_control b true s q = barred (withdrawn b t s.control.barriers) s.control q
+  where_control b false s q = q
+
+  withdrawn_control : (a : Awaits) (s : State P S H) → Q s.control → Q (withdraws_from t a s).state.control
+  unfolding withdraws_from withdraws
+  withdrawn_control (awaited.Round b round) s q = where_control b (waits_at s.control.barriers b t) s q
+  withdrawn_control a s q = q
+
 module _ {P S H : Type 0} (n t : ℕ) where
   left_scheduler : (v : ℤ) (k : Control P S H) → ((leaves t v k).scheduler.running ≡ other_than t k.scheduler.running) × ((leaves t v k).scheduler.preferred ≡ k.scheduler.preferred)
   unfolding leaves is_dead_with sets enters forgets leaves_queue
@@ -284,9 +300,12 @@ module _ {P S H : Type 0} (n t : ℕ) where
     abbrev pushed : List PushedHandler
     pushed = s.resources.store.cleanups t
 
-    -- the control once its wait is undone
+    -- the control once its arrival is taken back, and once its wait is undone
+    abbrev back : Control P S H
+    back = (withdraws_from t (awaits_in (blocked_of s.control t)) s).state.control
+
     abbrev undone : Control P S H
-    undone = stops_waiting t s.control
+    undone = stops_waiting t back
 
     up : b.ended t ≡ false
     up = living-up n b.ended s.control.threads.made s.control.threads.known s.control.threads.standing living t alive
@@ -304,14 +323,18 @@ module _ {P S H : Type 0} (n t : ℕ) where
         let w = done.runs in
         let x = ran_by c.block t in
         let m = mark.Ended (tid t) v in
-        let same = stops_seats t s.control in
+        let a = awaits_in (blocked_of s.control t) in
+        let same = stops_seats t back ∙ withdrawn_control t (λ k. seats k ≡ seats s.control) (λ x k h. h) a s refl in
+        let claims_back : HasClaims back = withdrawn_control t HasClaims (λ x k h. h) a s claims in
+        let awaits_back : HasAwaits s.resources.awaits back = withdrawn_control t (HasAwaits s.resources.awaits) (λ x k h. h) a s awaits in
+        let known_back = withdrawn_control t (λ k. k.threads.known ≡ s.control.threads.known) (λ x k h. h) a s refl in
         let living_now : Living n b.ended u.control = subst (Living n b.ended) (sym w.control) (subst (λ (z : Seats). IsLiving n b.ended z.made z.known z.standing) (sym same) living) in
         let alive_now : lives (u.control.threads.known t) ≡ true = ap (λ (k : Control P S H). lives (k.threads.known t)) w.control ∙ ap (λ (z : Seats). lives (z.known t)) same ∙ alive in
-        let claims_now : HasClaims u.control = subst HasClaims (sym w.control) (claims_stop t s.control claims) in
+        let claims_now : HasClaims u.control = subst HasClaims (sym w.control) (claims_stop t back claims_back) in
         let scheduled = left_scheduler v u.control in
         let over_now : (told u.resources m).awaits t ≡ false = put_here u.resources.awaits t false in
         let await_stays : (i : ℕ) → i ≢ t → (told u.resources m).awaits i ≡ s.resources.awaits i = λ i apart. put_other u.resources.awaits t false i apart ∙ ap (λ (o : ℕ → Bool). o i) w.awaits in
-        let awaits_now : HasAwaits (told u.resources m).awaits u.control = subst (HasAwaits (told u.resources m).awaits) (sym w.control) (awaits_stop t s.resources.awaits (told u.resources m).awaits s.control over_now await_stays awaits) in
+        let awaits_now : HasAwaits (told u.resources m).awaits u.control = subst (HasAwaits (told u.resources m).awaits) (sym w.control) (awaits_stop t s.resources.awaits (told u.resources m).awaits back over_now await_stays awaits_back) in
         let law : IsMarked n c m = λ locked. (
           (
             (
@@ -338,8 +361,8 @@ module _ {P S H : Type 0} (n t : ℕ) where
             canceled = w.canceled;
             closed = refl;
             living = living_left n b.ended t v u.control alive_now living_now;
-            claims = claims_left t v u.control (λ e i h. (stopped_apart t s.control claims e i (ap (λ (k : Control P S H). claimant k.events e) (sym w.control) ∙ h)).1) claims_now;
-            others = λ i apart. left_other t v u.control i apart ∙ ap (λ (k : Control P S H). k.threads.known i) w.control ∙ ap (λ (known : ℕ → Option Entry). known i) (stopped_known t s.control);
+            claims = claims_left t v u.control (λ e i h. (stopped_apart t back claims_back e i (ap (λ (k : Control P S H). claimant k.events e) (sym w.control) ∙ h)).1) claims_now;
+            others = λ i apart. left_other t v u.control i apart ∙ ap (λ (k : Control P S H). k.threads.known i) w.control ∙ ap (λ (known : ℕ → Option Entry). known i) (stopped_known t back ∙ known_back);
             stays = await_stays;
             awaits = awaits_left (told u.resources m).awaits t v u.control over_now awaits_now;
             running = scheduled.0 ∙ ap (λ (k : Control P S H). other_than t k.scheduler.running) w.control ∙ ap (λ (z : Seats). other_than t z.running) same;
@@ -347,15 +370,52 @@ module _ {P S H : Type 0} (n t : ℕ) where
           };
         }
 
+    -- what holds once its arrival is taken back, but for the control
+    record IsBack (y : Control P S H) (c : Book) (u : State P S H) : Type 0 where
+      resources : c.resources ≡ u.resources
+      ended : c.ended ≡ b.ended
+      canceled : c.canceled ≡ b.canceled
+      ran : ran_by c.block t ≡ so_far [] first_round
+      had : u.resources ≡ s.resources
+      control : u.control ≡ y
+
+    where_walk : (x : ℤ) (here : Bool) → b.resources ≡ s.resources → ran_by b.block t ≡ ran_nothing → let a = where_so here (changes (with_barriers (withdrawn x t)) and_then tells (mark.Withdrew (tid t) (object_named x))) s in Walk n b (IsBack a.state.control) a
+    unfolding told
+    where_walk x false same fresh = record { law = tt; post = record { resources = same; ended = refl; canceled = refl; ran = fresh; had = refl; control = refl } }
+    where_walk x true same fresh = record { law = ((λ locked. (((up, tt), tt), made)), tt); post = record { resources = same; ended = refl; canceled = refl; ran = block_open t (ran_by b.block t) ∙ fresh; had = refl; control = refl } }
+
+    back_walk : (a : Awaits) → b.resources ≡ s.resources → ran_by b.block t ≡ ran_nothing → Walk n b (IsBack (withdraws_from t a s).state.control) (withdraws_from t a s)
+    unfolding withdraws_from withdraws
+    back_walk (awaited.Round x round) same fresh = where_walk x (waits_at s.control.barriers x t) same fresh
+    back_walk a same fresh = record { law = tt; post = record { resources = same; ended = refl; canceled = refl; ran = fresh; had = refl; control = refl } }
+
+    undone_walk : b.resources ≡ s.resources → ran_by b.block t ≡ ran_nothing → Walk n b (RunsSo f n t b.ended b.canceled up made s.resources undone [] first_round) (undoes_wait t s)
+    undone_walk same fresh =
+        let So = RunsSo f n t b.ended b.canceled up made s.resources undone [] first_round in
+        let a = withdraws_from t (awaits_in (blocked_of s.control t)) in
+        walk_then n (IsBack back) So b a (changes (stops_waiting t)) s (back_walk (awaits_in (blocked_of s.control t)) same fresh)
+        (λ c w. record {
+          law = tt;
+          post = record {
+            resources = w.resources;
+            ended = w.ended;
+            canceled = w.canceled;
+            ran = w.ran;
+            cleanups = ap (λ (k : Resources). k.store.cleanups t) w.had;
+            awaits = ap (λ (k : Resources). k.awaits) w.had;
+            control = refl;
+          };
+        })
+
     pub ending_walk : b.resources ≡ s.resources → ran_by b.block t ≡ ran_nothing → Walk n b (HasEnded n t b s) (ending f t v s)
     unfolding ending
     ending_walk same fresh =
         let So = RunsSo f n t b.ended b.canceled up made s.resources undone in
         let s1 = (undoes_wait t s).state in
         walk_then n (So [] first_round) (HasEnded n t b s) b (undoes_wait t) (runs_cleanups f t and_then runs_destructors f t and_then gives_all t and_then dies t v) s
-        (record { law = tt; post = record { resources = same; ended = refl; canceled = refl; ran = fresh; cleanups = refl; awaits = refl; control = refl } })
+        (undone_walk same fresh)
         (λ c1 w1. walk_then n (So pushed first_round) (HasEnded n t b s) c1 (runs_cleanups f t) (runs_destructors f t and_then gives_all t and_then dies t v) s1
-        (each_walk f n t b.ended b.canceled up made s.resources undone pushed [] c1 s1 w1)
+        (subst (λ (cs : List PushedHandler). Walk n c1 (So cs first_round) (runs_cleanups f t s1)) w1.cleanups (each_walk f n t b.ended b.canceled up made s.resources undone (s1.resources.store.cleanups t) [] c1 s1 w1))
         (λ c2 w2. let s2 = (runs_cleanups f t s1).state in walk_then n Done (HasEnded n t b s) c2 (runs_destructors f t) (gives_all t and_then dies t v) s2
         (destructs_walk f n t b.ended b.canceled up made s.resources undone pushed (round_limit * key_limit) first_round c2 s2 (omega arith) w2)
         (λ c3 done. let s3 = (runs_destructors f t s2).state in walk_then n Given (HasEnded n t b s) c3 (gives_all t) (dies t v) s3

@@ -17,14 +17,14 @@ use Rattle.pth_model.specs.Standing.{Standing, is_queue, raises_of}
 use Rattle.pth_model.specs.State.{State, Given, Turn, start, no_turn, main, main_entry, main_standing}
 use Rattle.pth_model.specs.Course.{Course, followed}
 use Rattle.pth_model.specs.declared.progress.Progress.{Progress}
-use Rattle.pth_model.specs.Changes.{blocked_in}
+use Rattle.pth_model.specs.Changes.{blocked_in, blocked_of}
 use Rattle.pth_model.specs.Living.{lives, is_made}
-use Rattle.pth_model.specs.Part.{part, part_by, next_part, next_part_by, unless_ended, is_idle}
+use Rattle.pth_model.specs.Part.{Step, part, part_by, next_part, next_part_by, unless_ended, is_idle}
 use Rattle.pth_model.specs.Resources.{Resources, HasNothing}
 use Rattle.pth_model.specs.Run.{parts, run}
 use Rattle.pth_model.proofs.Once.{shown-all}
 use Rattle.pth_laws.proofs.Book.{Book, empty_book, after, book_of, is_kill}
-use Rattle.pth_laws.specs.Clean.{IsClean}
+use Rattle.pth_laws.specs.Clean.{IsClean, round_held, has_arrived}
 use Rattle.pth_laws.proofs.Laws.{EachMark, IsLawful, IsExclusiveMark}
 use Rattle.pth_laws.specs.Marks.{thread_of}
 use Rattle.pth_laws.specs.Marks.{at_number}
@@ -34,6 +34,7 @@ use Rattle.pth_laws.specs.Initialised.{Initialised}
 use Rattle.pth_laws.specs.Tied.{IsTiedTo}
 use Rattle.pth_laws.specs.Valid.{Lives, IsValid, IsOver, is_awaiting}
 use Rattle.pth_laws.proofs.Living.{true_false, made_more, both, not_true, runs_alive}
+use Rattle.pth_laws.proofs.Going.{Going, IsSound, going_sound}
 use Rattle.pth_laws.proofs.Locked.{Locked, has_some, locked_none, locked_along}
 use Rattle.pth_laws.proofs.Walk.{IsOfMade, IsLawfulOf, each_lawful, each-weaker, each-append, book-append}
 use Rattle.pth_laws.proofs.Parts.{IsSettled, PartWalk, none_some, part_walk}
@@ -166,6 +167,33 @@ module _ {P S H : Type 0} (f : P → Functions S H) where
   run_lawful g zero = record { law = tt; made = λ on. All-nil (λ m. IsOfMade (start f g).control.threads.made (thread_of m)); settled = λ on. rebased empty_book (start f g) no_turn 1 (start_settled g) }
   run_lawful g (suc i) = goes_on_by (run f g i).turn.outcome (run f g i) refl (run_lawful g i)
 
+  -- who makes a step is sound
+  pub run_sound : (g : Given P) (i t : ℕ) → next_part (run f g i).state (run f g i).turn ≡ Step t → IsSound t (run f g i).state.control
+  unfolding next_part
+  run_sound g i t next = by_outcome c.turn.outcome refl next
+    where
+      c : Course P S H
+      c = run f g i
+
+      by_part : (gave r : Option ℕ) (idle : Bool) → c.turn.gave ≡ gave → c.state.control.scheduler.running ≡ r → next_part_by gave r idle ≡ Step t → (c.turn.gave ≡ None) × (c.state.control.scheduler.running ≡ Some t)
+      by_part (Some u) r idle gave running h = absurd (cc h)
+      by_part None (Some u) idle gave running h = let same : u ≡ t = cc in (gave, running ∙ ap Some same)
+      by_part None None true gave running h = absurd (cc h)
+      by_part None None false gave running h = absurd (cc h)
+
+      by_outcome : (o : Outcome) → c.turn.outcome ≡ o → unless_ended o (next_part_by c.turn.gave c.state.control.scheduler.running (is_idle c.state.control)) ≡ Step t → IsSound t c.state.control
+      by_outcome outcome.Running goes h =
+          let x = by_part c.turn.gave c.state.control.scheduler.running (is_idle c.state.control) refl refl h in
+          let z = (run_lawful g i).settled (λ killed. on (sym goes ∙ killed)) in
+          let n = c.state.control.threads.made in
+          let ended = (book_of empty_book c.marks).ended in
+          let going : Going n ended t c.state.control = record { living = z.living; runs = z.runs t x.1; running = x.1; preferred = z.unnamed t x.1 x.0 } in
+          going_sound n ended t c.state.control going
+        where
+          on : outcome.Running ≡ outcome.Killed → ⊥
+          on h = cc
+      by_outcome o goes h = absurd (cc h)
+
   -- ---- what is told of every run
 
   pub run_orderly : (g : Given P) (i : ℕ) → Orderly (run f g i).marks
@@ -295,11 +323,12 @@ module _ {P S H : Type 0} (f : P → Functions S H) where
       one_hold = λ t u l writing. fit.sound.alone l (writes_some t (s.resources.store.rw_locks.writer l) writing) u;
     }
 
-  pub run_clean : (g : Given P) (i : ℕ) → (IsKilled (run f g i).turn.outcome → ⊥) → IsClean (run f g i).state
-  run_clean g i on = record {
+  pub run_clean : (g : Given P) (i : ℕ) → (IsKilled (run f g i).turn.outcome → ⊥) → ((b round t : ℕ) → has_arrived (run f g i).state.control.barriers b round t ≡ true → Lives (run f g i).state t × (round_held (blocked_of (run f g i).state.control t) ≡ Some (b, round))) → IsClean (run f g i).state
+  run_clean g i on arrivals = record {
     claims = ((run_lawful g i).settled on).claims;
     mutexes = λ m t had. (alive t (λ nothing. true_false (sym had ∙ nothing.mutexes m)), locked.mutexes m (has_some t (s.resources.store.mutexes m) had));
     locks = λ l t held. (alive t (λ nothing. true_false (sym held ∙ nothing.locks l)), locked.locks l (locked.held l t held));
+    arrivals = arrivals;
   }
     where
       s : State P S H

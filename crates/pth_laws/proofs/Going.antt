@@ -24,6 +24,12 @@ use Rattle.pth_model.proofs.Once.{shown-all}
 use Rattle.pth_model.proofs.Walks.{IsOther}
 use Rattle.pth_laws.proofs.Living.{IsLiving, Living, true_false, runs_alive, living-made, living-over, changed_lives, living_sets, living_spawned, living_suspended, living_resumed, living_removed, not_next}
 
+-- t lives, whom a join takes does not, nor does who is made next
+pub record IsSound {P S H : Type 0} (t : ℕ) (k : Control P S H) : Type 0 where
+  pub alive : lives (k.threads.known t) ≡ true
+  pub joins : (m : ℤ) (u : ℕ) → to_join k m ≡ Some u → lives (k.threads.known u) ≡ false
+  pub next : lives (k.threads.known (k.threads.made + 1)) ≡ false
+
 -- t runs, and nobody is named; n threads were made before, and these have ended
 pub record IsGoing (n : ℕ) (ended : ℕ → Bool) (t : ℕ) (x : Seats) : Type 0 where
   pub living : IsLiving n ended x.made x.known x.standing
@@ -86,6 +92,9 @@ module _ {P S H : Type 0} (n : ℕ) (ended : ℕ → Bool) (t : ℕ) where
       by_life : (b : Bool) → lives (k.threads.known (k.threads.made + 1)) ≡ b → lives (k.threads.known (k.threads.made + 1)) ≡ false
       by_life false h = h
       by_life true h = absurd (true_false (sym (living-made n ended k.threads.made k.threads.known k.threads.standing l (k.threads.made + 1) h) ∙ not_next k.threads.made))
+
+  pub going_sound : (k : Control P S H) → Going k → IsSound t k
+  going_sound k g = record { alive = going_alive k g; joins = λ m u taken. joined_dead k m u g taken; next = next_dead k g.living }
 
   pub going_spawned : (f : P → Functions S H) (b : ℕ) (v : ℤ) (of : NewThread) (k : Control P S H) → Going k → Going (spawns f b v of k)
   unfolding makes enters
@@ -159,3 +168,9 @@ module _ {P S H : Type 0} (n : ℕ) (ended : ℕ → Bool) (t : ℕ) where
   going_goes : (u : ℕ) (g : Progress S → Progress S) (k : Control P S H) → Going k → Going (goes_on u g k)
   unfolding goes_on
   going_goes u g k h = h
+
+module _ {P S H : Type 0} (t : ℕ) where
+  -- what a thread has to go on with in its program, and the program's shared value, are nothing to it
+  pub sound_steps : (u : ℕ) (g : Progress S → Progress S) (h : H) (k : Control P S H) → IsSound t k → IsSound t (goes_on u g (record k { shared = h }))
+  unfolding goes_on joinable_dead
+  sound_steps u g h k x = record { alive = x.alive; joins = λ m v taken. x.joins m v taken; next = x.next }

@@ -8,6 +8,7 @@ pub mod Held
 pub mod Locked
 pub mod Counted
 pub mod Locking
+pub mod Rounds
 pub mod Allowed
 pub mod Along
 pub mod Ranged
@@ -15,6 +16,7 @@ pub mod Waiting
 pub mod Alone
 pub mod Circles
 pub mod Claimed
+pub mod Arrivals
 pub mod Refusing
 pub mod Awaits
 pub mod Claims

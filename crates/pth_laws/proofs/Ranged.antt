@@ -6,6 +6,7 @@ use Rattle.pth_base.specs.declared.attr.AttrValue.{AttrValue}
 use Rattle.pth_base.specs.declared.attr.AttrValue.TheVariants as value
 use Rattle.pth_base.specs.declared.errno.Errno.TheVariants.{ESRCH}
 use Rattle.pth_base.proofs.Tables.{put_by}
+use Rattle.pth_cond.specs.Barriers.{barrier_reached}
 use Rattle.pth_numbered.specs.Operands.{number, named, is_zero}
 use Rattle.pth_threads.specs.Attributes.{IsSetPrio, first_values, with_value, is_in_range, values_of, values_answer}
 use Rattle.pth_threads.specs.Threads.{changed, made_of}
@@ -18,7 +19,7 @@ use Rattle.pth_threads.specs.declared.entry.NewThread.{NewThread}
 use Rattle.pth_model.specs.declared.progress.Progress.{Progress}
 use Rattle.pth_model.specs.State.{State, Control, Given, start, main, main_entry}
 use Rattle.pth_model.specs.Transition.{controlled}
-use Rattle.pth_model.specs.Changes.{sets, goes_on, is_blocked_by, makes, forgets, adds_object, puts_object, blocked_of, or_nobody, entry_of}
+use Rattle.pth_model.specs.Changes.{sets, goes_on, is_blocked_by, makes, forgets, adds_object, puts_object, with_barriers, blocked_of, or_nobody, entry_of}
 use Rattle.pth_model.specs.RingWaits.{claims, gives_back, ring_given, ring_held, stops_waiting}
 use Rattle.pth_model.specs.ThreadControl.{values_for, or_first, child_of}
 use Rattle.pth_model.specs.LibraryControl.{vanish_all_but, only_at}
@@ -145,9 +146,9 @@ module _ {P S H : Type 0} where
     scheduled = λ x s r. r;
     timed = λ x s r. r;
     used = λ o s r. r;
-    set = λ t c s safe r. ranged_set t c s safe r;
-    made = λ t b v a s r. ranged_made f t b v a s r;
-    forgotten = λ t s r. ranged_forgotten t s r;
+    set = λ t c s safe life r. ranged_set t c s safe r;
+    made = λ t b v a s next r. ranged_made f t b v a s r;
+    forgotten = λ t s gone r. ranged_forgotten t s r;
     vanished = λ t s free r. ranged_vanished t s r;
     added = λ s r. ranged_added (Free first_values) s first_in r;
     bound = λ t s r. ranged_added (Bound t) s tt r;
@@ -156,10 +157,12 @@ module _ {P S H : Type 0} where
     destroyed = λ n s r. ranged_put n None s tt r;
     arranges = λ x s may r. r;
     looked = λ s r. ranged_looked s r;
+    barred = λ x s fewer r. r;
+    reached = λ t b round s free alive there waits r. ranged_goes t _ (controlled (with_barriers (barrier_reached b t)) s) r;
     goes = λ t g s same r. ranged_goes t g s r;
     blocked = λ t c a s free may r. ranged_goes t _ (controlled (claims t (ring_given c)) s) (ranged_claimed t (ring_given c) s r);
-    waits_on = λ t a b s at names r. ranged_goes t _ s r;
-    stopped = λ t s r. ranged_stopped t s r;
+    waits_on = λ t a b s at names stays r. ranged_goes t _ s r;
+    stopped = λ t s left r. ranged_stopped t s r;
     told = λ m s may r. r;
   }
 

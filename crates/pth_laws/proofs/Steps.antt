@@ -20,20 +20,24 @@ use Rattle.pth_base.specs.declared.ids.HandlerId.{HandlerId}
 use Rattle.pth_base.specs.declared.thread.ThreadState.{ThreadState}
 use Rattle.pth_base.specs.declared.thread.ThreadState.TheVariants as state
 use Rattle.pth_base.proofs.Tables.{same_self, not_same, same_means, same_fails, put_by, put_here, put_other}
+use Rattle.pth_cond.specs.Barriers.{has_passed, round_answer, round_answered}
 use Rattle.pth_numbered.specs.Operands.{number, is_zero, is_below, ◌is◌}
 use Rattle.pth_store.specs.Cleanups.{PushedHandler, pop_answer}
 use Rattle.pth_threads.specs.declared.entry.Entry.{Entry}
 use Rattle.pth_model.specs.declared.blocked.Blocked.{Blocked}
 use Rattle.pth_model.specs.declared.awaits.Awaits.{Awaits}
+use Rattle.pth_model.specs.declared.awaits.Awaits.TheVariants as awaits
 use Rattle.pth_model.specs.declared.next.Next.{Next}
 use Rattle.pth_model.specs.declared.next.Next.TheVariants as next
 use Rattle.pth_model.specs.Resources.{Resources, told, answer_told, wait_told, handler}
 use Rattle.pth_model.specs.declared.verdict.Verdict.{Verdict}
 use Rattle.pth_model.specs.declared.verdict.Verdict.TheVariants.{Says, Yields, Blocks, Ends, Kills}
 use Rattle.pth_model.specs.Verdict.{refused, says, ◌when◌otherwise◌}
+use Rattle.pth_model.specs.Awaits.{round_in}
+use Rattle.pth_model.specs.Barriers.{tries_round}
 use Rattle.pth_model.specs.State.{State, Control, main, once_limit}
 use Rattle.pth_model.specs.Transition.{Piece, Change, changes, tells, tid, controlled, silent, nothing, where_so, ◌and◌, ◌and_then◌}
-use Rattle.pth_model.specs.Changes.{goes_on, sets, removes, is_blocked_by, or_nobody, entry_of, prefers, uses, blocked_in, blocked_of}
+use Rattle.pth_model.specs.Changes.{goes_on, sets, removes, is_blocked_by, or_nobody, entry_of, prefers, uses, with_barriers, blocked_in, blocked_of}
 use Rattle.pth_model.specs.Living.{is_dead, lives, is_made}
 use Rattle.pth_model.specs.Row.{unless_refused, refuses, effect_of, ◌trying◌}
 use Rattle.pth_model.specs.RingWaits.{claims, ring_given, stops_waiting, has_settled}
@@ -230,12 +234,20 @@ module _ {P S H : Type 0} where
     effect_silent (call.Chain e l) quiet = made_silent (spec_of l) _ _ s
     effect_silent c quiet = (refl, refl)
 
+    round_silent : (x : ℤ) (round : ℕ) → IsSilent (tries_round s t x round).effect s
+    round_silent x round = by_test (has_passed s.control.barriers x round)
+      where
+        by_test : (passed : Bool) → IsSilent (if passed then (Says (answer.Int (round_answer s.control.barriers x round t)) trying changes (with_barriers (round_answered x round t))) else (Blocks (awaits.Round x round) trying silent)).effect s
+        by_test true = (refl, refl)
+        by_test false = (refl, refl)
+
     again_silent : (c : Call) (b : Awaits) → IsSilent ((row_of f s t c).again b).effect s
     unfolding row_of
     again_silent (call.Ctrl x) b = ctrl_silent_again s s x b
     again_silent (call.EvFd goals fd) b = made_silent_again (spec_of (line.Fd goals fd)) _ _ b s
     again_silent (call.EvTime m) b = made_silent_again (spec_of (line.Time m)) _ _ b s
     again_silent (call.Chain e l) b = made_silent_again (spec_of l) _ _ b s
+    again_silent (call.BarrierReach x) b = round_silent x (round_in b)
     again_silent c b = (refl, refl)
 
 -- ---- marks of a step

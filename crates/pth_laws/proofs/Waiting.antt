@@ -10,6 +10,7 @@ use Rattle.pth_base.specs.declared.call.Call.TheVariants as call
 use Rattle.pth_base.specs.declared.mark.Mark.{Mark}
 use Rattle.pth_base.specs.declared.mark.Mark.TheVariants as mark
 use Rattle.pth_base.proofs.Tables.{put_by, not_same}
+use Rattle.pth_cond.specs.Barriers.{barrier_reached}
 use Rattle.pth_numbered.specs.Operands.{number}
 use Rattle.pth_lock.specs.Objects.{object_named}
 use Rattle.pth_lock.specs.Mutexes.{Mutex, MutexTable, free_mutex, owner_of, mutex_with, levels_of, has, is_anothers}
@@ -24,7 +25,7 @@ use Rattle.pth_model.specs.Coming.{has_come}
 use Rattle.pth_model.specs.Resources.{Resources, on_one, on_int, on_msg, told, answer_told, act_told, retaken, let_go, of_only}
 use Rattle.pth_model.specs.State.{State, Given, start, main}
 use Rattle.pth_model.specs.Transition.{controlled, tells}
-use Rattle.pth_model.specs.Changes.{sets, goes_on, blocking, is_blocked_by, makes, forgets, blocked_in, blocked_of}
+use Rattle.pth_model.specs.Changes.{sets, goes_on, blocking, is_blocked_by, makes, forgets, with_barriers, blocked_in, blocked_of}
 use Rattle.pth_model.specs.Verdict.{says, ◌when◌otherwise◌}
 use Rattle.pth_model.specs.RingWaits.{claims, gives_back, ring_given, ring_held, stops_waiting}
 use Rattle.pth_model.specs.Mutexes.{mutex}
@@ -284,9 +285,9 @@ module _ {P S H : Type 0} where
     scheduled = λ x s r. r;
     timed = λ x s r. r;
     used = λ o s r. r;
-    set = λ t c s safe r. rightly_set t c s r;
-    made = λ t b v a s r. rightly_made f t b v a s r;
-    forgotten = λ t s r. rightly_forgotten t s r;
+    set = λ t c s safe life r. rightly_set t c s r;
+    made = λ t b v a s next r. rightly_made f t b v a s r;
+    forgotten = λ t s gone r. rightly_forgotten t s r;
     vanished = λ t s free r. rightly_vanished t s r;
     added = λ s r. r;
     bound = λ t s r. r;
@@ -295,10 +296,12 @@ module _ {P S H : Type 0} where
     destroyed = λ n s r. r;
     arranges = λ x s may r. r;
     looked = λ s r. rightly_looked s r;
+    barred = λ x s fewer r. r;
+    reached = λ t b round s free alive there waits r. rightly_goes t (blocking (Some (record { call = call.BarrierReach b; awaits = awaits.Round b round }))) (controlled (with_barriers (barrier_reached b t)) s) (λ p at. (refl, tt)) r;
     goes = λ t g s same r. rightly_goes t g s (λ p at. subst (Rightly s.resources t) (sym (same p)) (blocked_at s t p.blocked (ap blocked_in at) r)) r;
     blocked = λ t c a s free may r. rightly_goes t (blocking (Some (record { call = c; awaits = a }))) (controlled (claims t (ring_given c)) s) (λ x at. (may.names, may.rightly)) (rightly_claimed t (ring_given c) s r);
-    waits_on = λ t a b s at names r. rightly_goes t (blocking (Some (record b { awaits = a }))) s (λ p here. (names, (blocked_at s t (Some b) at r).1)) r;
-    stopped = λ t s r. rightly_stopped t s r;
+    waits_on = λ t a b s at names stays r. rightly_goes t (blocking (Some (record b { awaits = a }))) s (λ p here. (names, (blocked_at s t (Some b) at r).1)) r;
+    stopped = λ t s left r. rightly_stopped t s r;
     told = λ m s may r. rightly_told m s may r;
   }
 

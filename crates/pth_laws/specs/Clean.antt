@@ -1,11 +1,16 @@
 -- What a wait made is there no longer than the wait, and what a thread has no longer than the thread: nothing of it stays behind,
 -- however the thread ends.
-use Rattle.std.specs.Prelude.{◌≡◌, ◌<◌, ℕ, true, Option, Some, option_map}
+use Rattle.std.specs.Prelude.{◌≡◌, ◌<◌, ℕ, ◌==◌, ◌&&◌, Bool, true, false, Option, Some, None, option_map}
+use Rattle.std.specs.List.{list_any}
 use Rattle.pth_numbered.specs.Operands.{number}
-use Rattle.pth_lock.specs.Objects.{object_limit}
+use Rattle.pth_cond.specs.Barriers.{Arrived, Barrier, BarrierTable}
+use Rattle.pth_lock.specs.Objects.{object_limit, object_named}
 use Rattle.pth_lock.specs.Mutexes.{has}
 use Rattle.pth_lock.specs.RwLocks.{holds}
+use Rattle.pth_model.specs.declared.awaits.Awaits.{Awaits}
+use Rattle.pth_model.specs.declared.awaits.Awaits.TheVariants.{Round}
 use Rattle.pth_model.specs.declared.blocked.Blocked.{Blocked}
+use Rattle.pth_model.specs.Awaits.{awaits_in}
 use Rattle.pth_model.specs.Changes.{blocked_of}
 use Rattle.pth_model.specs.RingWaits.{claimant, ring_held}
 use Rattle.pth_model.specs.State.{State}
@@ -15,6 +20,26 @@ use Rattle.pth_laws.specs.Valid.{Lives}
 abbrev pub event_held : Option Blocked → Option ℕ
 event_held o = option_map number (ring_held o)
 
+-- an arrival is that of this thread, for this round
+abbrev pub is_of : (round t : ℕ) → Arrived → Bool
+is_of round t a = a.round == round && a.tid == t
+
+abbrev pub has_arrived_here : (round t : ℕ) → Option Barrier → Bool
+has_arrived_here round t None = false
+has_arrived_here round t (Some y) = list_any (is_of round t) y.arrivals
+
+-- some arrival at a barrier is
+abbrev pub has_arrived : BarrierTable → (b round t : ℕ) → Bool
+has_arrived x b round t = has_arrived_here round t (x b)
+
+-- the barrier, and its round, for which the blocked call waits
+abbrev pub round_awaited : Awaits → Option (ℕ × ℕ)
+round_awaited (Round b round) = Some (object_named b, round)
+round_awaited a = None
+
+abbrev pub round_held : Option Blocked → Option (ℕ × ℕ)
+round_held o = round_awaited (awaits_in o)
+
 pub record IsClean {P S H : Type 0} (s : State P S H) : Type 0 where
   -- a claim on a ring is that of a thread that lives, for the event that the call was given which blocks it (pth_wait, pth_read_ev)
   pub claims : (e t : ℕ) → claimant s.control.events e ≡ Some t → Lives s t × (event_held (blocked_of s.control t) ≡ Some e)
@@ -22,3 +47,6 @@ pub record IsClean {P S H : Type 0} (s : State P S H) : Type 0 where
   pub mutexes : (m t : ℕ) → has t (s.resources.store.mutexes m) ≡ true → Lives s t × (m < object_limit)
   -- and so does one that holds a lock, to write or to read (pth_rwlock_acquire)
   pub locks : (l t : ℕ) → holds s.resources.store.rw_locks t l ≡ true → Lives s t × (l < object_limit)
+  -- an arrival that waits at a barrier is that of a thread that lives, whose call waits there for the round of this arrival
+  -- (pth_barrier_reach)
+  pub arrivals : (b round t : ℕ) → has_arrived s.control.barriers b round t ≡ true → Lives s t × (round_held (blocked_of s.control t) ≡ Some (b, round))

@@ -135,6 +135,7 @@ module _ {P S H : Type 0} (Meant : Standing → Type 0) where
         exchanged = λ n o s k. k;
         evented = λ x s none k. k;
         described = λ ds s k. k;
+        barred = λ x s k. k;
         used = λ o s k. k;
         requested = λ u b s apart k. kept_changed u (change.Request b) s k;
       };

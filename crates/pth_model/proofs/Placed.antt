@@ -304,6 +304,7 @@ module _ {P S H : Type 0} where
       added = λ x k g. g;
       exchanged = λ n o k g. g;
       evented = λ x k none g. g;
+      barred = λ x k g. g;
       described = λ ds k g. g;
       used = λ o k g. g;
       requested = λ u b k apart g. going_changed t u (change.Request b) k g;

@@ -10,6 +10,12 @@ use Rattle.pth_base.specs.declared.mark.Mark.TheVariants as mark
 use Rattle.pth_queue.specs.declared.queue.Queue.TheVariants as queues
 use Rattle.pth_model.specs.declared.blocked.Blocked.{Blocked}
 use Rattle.pth_model.specs.declared.awaits.Awaits.{Awaits}
+use Rattle.pth_model.specs.declared.awaits.Awaits.TheVariants.{Round}
+use Rattle.pth_cond.specs.Barriers.{has_passed, round_answer, round_answered, waits_at, withdrawn}
+use Rattle.pth_lock.specs.Objects.{object_named}
+use Rattle.pth_base.specs.declared.answer.Answer.TheVariants.{Int}
+use Rattle.pth_model.specs.Awaits.{awaits_in, round_in}
+use Rattle.pth_model.specs.Barriers.{tries_round, withdraws, withdraws_from}
 use Rattle.pth_model.specs.declared.progress.Progress.{Progress}
 use Rattle.pth_model.specs.Resources.{Resources, no_resources, told, told_all}
 use Rattle.pth_model.specs.LibraryControl.{ctrl}
@@ -17,18 +23,18 @@ use Rattle.pth_model.specs.declared.verdict.Verdict.{Verdict}
 use Rattle.pth_model.specs.declared.verdict.Verdict.TheVariants.{Says, Yields, Blocks, Ends, Kills}
 use Rattle.pth_model.specs.Verdict.{says, by_result}
 use Rattle.pth_model.specs.State.{State, queue, Given, Turn, start}
-use Rattle.pth_model.specs.Transition.{Transition, Piece, Change, Last, changes, tells, tells_each, tid, controlled, where_so, ◌and◌, ◌and_then◌, ◌and_finally◌}
-use Rattle.pth_model.specs.Changes.{shares, uses, sets, removes, entry_of, or_nobody, blocked_of, with_events}
+use Rattle.pth_model.specs.Transition.{Transition, Piece, Change, Last, silent, changes, tells, tells_each, tid, controlled, where_so, ◌and◌, ◌and_then◌, ◌and_finally◌}
+use Rattle.pth_model.specs.Changes.{shares, uses, sets, removes, entry_of, or_nobody, blocked_of, with_barriers, with_events}
 use Rattle.pth_model.specs.Living.{is_dead}
 use Rattle.pth_model.specs.ThreadControl.{thread}
 use Rattle.pth_threads.specs.declared.entry.Change.TheVariants as change
 use Rattle.pth_model.specs.Cancellation.{canceled_value, is_asynchronous, is_to_cancel, may_be_canceled, takes_request, canceled_by_other, aborted}
-use Rattle.pth_model.specs.Row.{effect_of, refuses, unless_refused}
+use Rattle.pth_model.specs.Row.{effect_of, refuses, unless_refused, ◌trying◌}
 use Rattle.pth_model.specs.Rows.{row_of}
 use Rattle.pth_model.specs.Mutexes.{mutex_release}
 use Rattle.pth_model.specs.Ending.{ending, undoes_wait, dies, runs_each, runs_cleanups, runs_destructor, runs_destructors, destructs, destructs_by, next_destructor, round_limit, first_round, gives_mutexes, gives_locks, gives_all}
 use Rattle.pth_model.specs.declared.destructors.Due.{Due}
-use Rattle.pth_model.specs.declared.destructors.Round.{Round}
+use Rattle.pth_model.specs.declared.destructors.Round.{Round as DestructorRound}
 use Rattle.pth_model.specs.Acts.{acts, acts_from, act_limit, answer_in, handled, goes_on_after, runs_handler}
 use Rattle.pth_model.specs.KeyStorage.{key_set}
 use Rattle.pth_model.specs.Cleanups.{runs_pushed, last_pushed}
@@ -39,7 +45,7 @@ use Rattle.pth_base.specs.declared.ids.HandlerId.{HandlerId}
 use Rattle.pth_store.specs.Cleanups.{PushedHandler}
 use Rattle.pth_store.specs.Keys.{key_limit}
 use Rattle.pth_model.specs.Calls.{begun, begun_by, gone_on, gone_on_where, canceled_by, tried_again, tried_again_by, tried_by, unless_settled, interrupted}
-use Rattle.pth_model.specs.RingWaits.{ring_given, has_settled}
+use Rattle.pth_model.specs.RingWaits.{ring_given, has_settled, stops_waiting}
 use Rattle.pth_model.specs.EventHandling.{spec_of, made_as, make_event, chain}
 use Rattle.pth_base.specs.declared.event.EvLine.{EvLine}
 use Rattle.pth_numbered.specs.Operands.{number, is_zero}
@@ -111,17 +117,30 @@ module _ {P S H : Type 0} (f : P → Functions S H) where
     each_told [] s = refl
     each_told (c ∷ cs) s = then_told (runs_handler f t c.0 c.1) (runs_each f t cs) (handler_told c.0 c.1) (each_told cs) s
 
-    by_due_told : (o : Option Due) (next : Round → Piece P S H) → ((r : Round) → IsTold (next r)) → IsTold (destructs_by f t o next)
+    by_due_told : (o : Option Due) (next : DestructorRound → Piece P S H) → ((r : DestructorRound) → IsTold (next r)) → IsTold (destructs_by f t o next)
     by_due_told None next known s = refl
     by_due_told (Some d) next known s =
         then_told (runs_destructor f t d) (next d.round)
         (then_told (tells (mark.Destructor (tid t) d.key d.value)) (handled f t d.handler d.value) (λ u. refl) (acts_told d.handler d.value (suc act_limit) 0))
         (known d.round) s
 
-    destructs_told : (n : ℕ) (r : Round) → IsTold (destructs f t n r)
+    destructs_told : (n : ℕ) (r : DestructorRound) → IsTold (destructs f t n r)
     unfolding destructs
     destructs_told zero r s = refl
     destructs_told (suc n) r s = by_due_told (next_destructor s.resources.store.keys t r) (destructs f t n) (destructs_told n) s
+
+    -- its arrival is taken back, and its wait undone
+    where_told_back : (b : Bool) (x : ℤ) → IsTold {P = P} {S = S} {H = H} (where_so b (changes (with_barriers (withdrawn x t)) and_then tells (mark.Withdrew (tid t) (object_named x))))
+    where_told_back true x s = refl
+    where_told_back false x s = refl
+
+    withdraws_told : (a : Awaits) → IsTold {P = P} {S = S} {H = H} (withdraws_from t a)
+    unfolding withdraws_from withdraws
+    withdraws_told (Round b round) s = where_told_back (waits_at s.control.barriers b t) b s
+    withdraws_told a s = refl
+
+    undone_told : IsTold {P = P} {S = S} {H = H} (undoes_wait t)
+    undone_told s = then_told (withdraws_from t (awaits_in (blocked_of s.control t))) (changes (stops_waiting t)) (withdraws_told (awaits_in (blocked_of s.control t))) (λ u. refl) s
 
     marks_told : (ms : List Mark) → IsTold {P = P} {S = S} {H = H} (tells_each ms)
     unfolding tells_each
@@ -131,7 +150,7 @@ module _ {P S H : Type 0} (f : P → Functions S H) where
     ending_told : (v : ℤ) → IsTold (ending f t v)
     unfolding ending
     ending_told v =
-        then_told (undoes_wait t) (runs_cleanups f t and_then runs_destructors f t and_then gives_all t and_then dies t v) (λ u. refl)
+        then_told (undoes_wait t) (runs_cleanups f t and_then runs_destructors f t and_then gives_all t and_then dies t v) undone_told
         (then_told (runs_cleanups f t) (runs_destructors f t and_then gives_all t and_then dies t v) (λ u. each_told (u.resources.store.cleanups t) u)
         (then_told (runs_destructors f t) (gives_all t and_then dies t v) (destructs_told (round_limit * key_limit) first_round)
         (then_told (gives_all t) (dies t v) (then_told (gives_mutexes t) (gives_locks t) (λ u. marks_told _ u) (λ u. marks_told _ u)) (λ u. refl))))
@@ -218,6 +237,14 @@ module _ {P S H : Type 0} (f : P → Functions S H) where
     ctrl_tells_again s query.Threads b u = refl
     ctrl_tells_again s x b u = refl
 
+    -- t's round is tried again
+    round_tells : (s : State P S H) (b : ℤ) (round : ℕ) → IsTold (tries_round s t b round).effect
+    round_tells s b round = by_round (has_passed s.control.barriers b round)
+      where
+        by_round : (passed : Bool) → IsTold {P = P} {S = S} {H = H} (if passed then (Says (Int (round_answer s.control.barriers b round t)) trying changes (with_barriers (round_answered b round t))) else (Blocks (Round b round) trying silent)).effect
+        by_round true u = refl
+        by_round false u = refl
+
     again_tells : (s : State P S H) (c : Call) (b : Awaits) → IsTold ((row_of f s t c).again b).effect
     unfolding row_of
     again_tells s (call.Ctrl x) b = ctrl_tells_again s x b
@@ -229,6 +256,7 @@ module _ {P S H : Type 0} (f : P → Functions S H) where
     again_tells s (call.EvTid state n) b = make_tells_again s (line.Tid state n) b
     again_tells s (call.EvFunc c v l) b = make_tells_again s (line.Func c v l) b
     again_tells s (call.Chain e l) b = chain_tells_again s e l b
+    again_tells s (call.BarrierReach c) b = round_tells s c (round_in b)
     again_tells s c b = λ u. refl
 
     again_told : (s : State P S H) (c : Call) (b : Awaits) → IsTold (effect_of ((row_of f s t c).again b))

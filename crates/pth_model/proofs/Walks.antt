@@ -19,7 +19,7 @@ use Rattle.pth_threads.specs.declared.entry.Entry.{Entry}
 use Rattle.pth_threads.specs.declared.entry.NewThread.{NewThread}
 use Rattle.pth_model.specs.declared.blocked.Blocked.{Blocked}
 use Rattle.pth_model.specs.declared.awaits.Awaits.{Awaits}
-use Rattle.pth_model.specs.declared.awaits.Awaits.TheVariants.{Reading, Writing, Connection}
+use Rattle.pth_model.specs.declared.awaits.Awaits.TheVariants.{Reading, Writing, Connection, Round}
 use Rattle.pth_model.specs.Io.{trial_for}
 use Rattle.pth_model.specs.declared.progress.Progress.{Progress}
 use Rattle.pth_model.specs.declared.next.Next.{Next}
@@ -29,8 +29,8 @@ use Rattle.pth_model.specs.declared.verdict.Verdict.{Verdict}
 use Rattle.pth_model.specs.declared.verdict.Verdict.TheVariants.{Says, Yields, Blocks, Ends, Kills}
 use Rattle.pth_model.specs.Verdict.{refused, says, by_result, ◌when◌otherwise◌}
 use Rattle.pth_model.specs.State.{State, Control, Turn, main}
-use Rattle.pth_model.specs.Transition.{Piece, Change as change_of_control, nothing, changes, tells, tells_each, controlled, where_so, tid, ◌and_then◌}
-use Rattle.pth_model.specs.Changes.{shares, uses, goes_on, blocking, is_blocked_by, blocked_of, entry_of, or_nobody, owing, prefers, removes, favours_new, sets, adds_object, puts_object, with_events, with_kernel}
+use Rattle.pth_model.specs.Transition.{Piece, Change as change_of_control, silent, nothing, changes, tells, tells_each, controlled, where_so, tid, ◌and_then◌}
+use Rattle.pth_model.specs.Changes.{shares, uses, goes_on, blocking, is_blocked_by, blocked_of, entry_of, or_nobody, owing, prefers, removes, favours_new, sets, adds_object, puts_object, with_barriers, with_events, with_kernel}
 use Rattle.pth_model.specs.RingWaits.{claimant, claimant_by, claims, gives_back, stops_waiting, ring_given, ring_held, has_settled}
 use Rattle.pth_model.specs.EventHandling.{spec_of, made_as, make_event, chain}
 use Rattle.pth_base.specs.declared.event.EventSpec.{EventSpec}
@@ -38,19 +38,23 @@ use Rattle.pth_base.specs.declared.event.EvLine.{EvLine}
 use Rattle.pth_kernel.specs.Kernel.{Kernel, Descriptor, fd_named, with_mode, is_fd_live, connections, earliest, connection_accepted}
 use Rattle.pth_io.specs.Attempts.{read_answer, read_after, write_after, accept_after, taken_by}
 use Rattle.pth_base.specs.declared.answer.Answer.{Answer}
-use Rattle.pth_base.specs.declared.answer.Answer.TheVariants.{Bytes}
+use Rattle.pth_base.specs.declared.answer.Answer.TheVariants.{Bytes, Int}
 use Rattle.pth_kernel.specs.Modes.{sets_mode}
 use Rattle.pth_ring.specs.Ring.{each, ring_holds}
 use Rattle.pth_ring.specs.Rings.{Events, pending, make_answer, chain_answer, alone, chained, freed, ring_freed}
 use Rattle.pth_base.specs.declared.event.EvLine.TheVariants as line
+use Rattle.pth_cond.specs.Barriers.{BarrierTable, has_passed, round_answer, round_answered, waits_at, withdrawn}
+use Rattle.pth_lock.specs.Objects.{object_named}
+use Rattle.pth_model.specs.Awaits.{awaits_in, round_in}
+use Rattle.pth_model.specs.Barriers.{tries_round, withdraws, withdraws_from}
 use Rattle.pth_model.specs.Living.{is_dead}
-use Rattle.pth_model.specs.Row.{unless_refused, refuses, effect_of}
+use Rattle.pth_model.specs.Row.{unless_refused, refuses, effect_of, ◌trying◌}
 use Rattle.pth_model.specs.ThreadControl.{thread, is_known, may_run, spawns, values_for, or_first, suspends, resumes, suspend, resume, to_join, takes_joined}
 use Rattle.pth_model.specs.LibraryControl.{ctrl, vanish_all_but}
 use Rattle.pth_model.specs.AttributeHandling.{object, sets_field, sets_value}
 use Rattle.pth_model.specs.Ending.{ending, undoes_wait, runs_cleanups, runs_destructors, gives_mutexes, gives_all, leaves, runs_each, destructs, destructs_by, next_destructor, round_limit, first_round}
 use Rattle.pth_model.specs.declared.destructors.Due.{Due}
-use Rattle.pth_model.specs.declared.destructors.Round.{Round}
+use Rattle.pth_model.specs.declared.destructors.Round.{Round as DestructorRound}
 use Rattle.pth_model.specs.Acts.{acts, acts_from, act_limit, row_of_act, goes_on_after, runs_handler}
 use Rattle.pth_model.specs.Cleanups.{runs_pushed, last_pushed}
 use Rattle.pth_model.specs.Resources.{handler}
@@ -220,6 +224,7 @@ pub record KeptByCalls {P S H : Type 0} (f : P → Functions S H) (t : ℕ) (Q :
   pub exchanged : (n : ℕ) (o : Option Attribute) (k : Control P S H) → Q k → Q (puts_object n o k)
   pub evented : (x : Events) (k : Control P S H) → AddsNoClaim k.events x → Q k → Q (record k { events = x })
   pub described : (ds : ℕ → Descriptor) (k : Control P S H) → Q k → Q (record k { kernel = record k.kernel { descriptors = ds } })
+  pub barred : (x : BarrierTable) (k : Control P S H) → Q k → Q (record k { barriers = x })
   pub used : (o : ℕ → Bool) (k : Control P S H) → Q k → Q (record k { used = o })
   -- its end is asked for, which is not main, or no longer
   pub requested : (u : ℕ) (b : Bool) (k : Control P S H) → (b ≡ true → u ≢ main) → Q k → Q (sets u (change.Request b) k)
@@ -288,11 +293,11 @@ module _ {P S H : Type 0} (f : P → Functions S H) (t : ℕ) (Q : Control P S H
   each_keep [] s q = q
   each_keep (c ∷ cs) s q = then_keeps (runs_handler f t c.0 c.1) (runs_each f t cs) (handler_keeps c.0 c.1) (each_keep cs) s q
 
-  by_due_keep : (o : Option Due) (next : Round → Piece P S H) → ((r : Round) → Runs (next r)) → Runs (destructs_by f t o next)
+  by_due_keep : (o : Option Due) (next : DestructorRound → Piece P S H) → ((r : DestructorRound) → Runs (next r)) → Runs (destructs_by f t o next)
   by_due_keep None next keeps s q = q
   by_due_keep (Some d) next keeps s q = keeps d.round _ (acts_keep d.handler d.value (suc act_limit) 0 _ q)
 
-  destructs_keep : (n : ℕ) (r : Round) → Runs (destructs f t n r)
+  destructs_keep : (n : ℕ) (r : DestructorRound) → Runs (destructs f t n r)
   unfolding destructs
   destructs_keep zero r s q = q
   destructs_keep (suc n) r s q = by_due_keep (next_destructor s.resources.store.keys t r) (destructs f t n) (destructs_keep n) s q
@@ -412,6 +417,8 @@ module _ {P S H : Type 0} (f : P → Functions S H) (t : ℕ) (Q : Control P S H
   does_keeps s (call.Accept d) common e q = trial_keeps s (Connection d) q
   does_keeps s (call.AcceptEv d x) common e q = trial_keeps s (Connection d) q
   does_keeps s (call.Close d) common e q = kept.described _ s.control q
+  does_keeps s (call.BarrierInit b n) common e q = kept.barred _ s.control q
+  does_keeps s (call.BarrierReach b) common e q = kept.barred _ s.control q
   does_keeps s (call.Join n) common e q = joins_keeps s n (to_join s.control n) refl q
   does_keeps s (call.CleanupPop v) common e q = pops_keep (last_pushed f s t) (not (is_zero v)) s q
   does_keeps s (call.Once o h v) common e q = once_keeps (number o) (handler h) v (not (s.control.used (number o))) s q
@@ -436,6 +443,14 @@ module _ {P S H : Type 0} (f : P → Functions S H) (t : ℕ) (Q : Control P S H
   chain_again : (s : State P S H) (e : ℤ) (l : EvLine) (b : Awaits) → KeepsAt s ((chain s e l).again b).effect
   chain_again s e l = made_again s (spec_of l) (λ x. by_result says (chain_answer s.control.events (number e))) (λ x. with_events (chained x (number e)))
 
+  -- t's round is tried again
+  round_keeps : (s : State P S H) (b : ℤ) (round : ℕ) → KeepsAt s (tries_round s t b round).effect
+  round_keeps s b round q = by_round (has_passed s.control.barriers b round)
+    where
+      by_round : (passed : Bool) → Q ((if passed then (Says (Int (round_answer s.control.barriers b round t)) trying changes (with_barriers (round_answered b round t))) else (Blocks (Round b round) trying silent)).effect s).state.control
+      by_round true = kept.barred _ s.control q
+      by_round false = q
+
   does_again : (s : State P S H) (c : Call) (b : Awaits) → KeepsAt s ((row_of f s t c).again b).effect
   unfolding row_of
   does_again s (call.Ctrl x) b q = ctrl_again s x b q
@@ -457,6 +472,7 @@ module _ {P S H : Type 0} (f : P → Functions S H) (t : ℕ) (Q : Control P S H
   does_again s (call.ConnectEv d x) b q = trial_keeps s b q
   does_again s (call.Select r w x l) b q = trial_keeps s b q
   does_again s (call.SelectEv r w x l e) b q = trial_keeps s b q
+  does_again s (call.BarrierReach c) b q = round_keeps s c (round_in b) q
   does_again s (call.Join n) b q = joins_keeps s n (to_join s.control n) refl q
   does_again s c b q = q
 
@@ -491,6 +507,23 @@ module _ {P S H : Type 0} (f : P → Functions S H) (t : ℕ) (Q : Control P S H
   unfolding stops_waiting goes_on
   stops_known u k = back_known (ring_held (blocked_of k u)) (is_blocked_by u None k)
 
+  -- u's arrival at a barrier is taken back, if it waits there: no record changes
+  where_barred : (b : Bool) (u : ℕ) (x : ℤ) (s : State P S H) → Q s.control → let k = (where_so b (changes (with_barriers (withdrawn x u)) and_then tells (mark.Withdrew (tid u) (object_named x))) s).state.control in Q k × (k.threads.known ≡ s.control.threads.known)
+  where_barred true u x s q = (kept.calls.barred _ s.control q, refl)
+  where_barred false u x s q = (q, refl)
+
+  withdraws_keep : (u : ℕ) (a : Awaits) (s : State P S H) → Q s.control → let k = (withdraws_from u a s).state.control in Q k × (k.threads.known ≡ s.control.threads.known)
+  unfolding withdraws_from withdraws
+  withdraws_keep u (Round b round) s q = where_barred (waits_at s.control.barriers b u) u b s q
+  withdraws_keep u a s q = (q, refl)
+
+  -- u's wait is undone
+  undone_keeps : (u : ℕ) (s : State P S H) → Q s.control → let k = (undoes_wait u s).state.control in Q k × (k.threads.known ≡ s.control.threads.known)
+  undone_keeps u s q =
+      let k = (withdraws_from u (awaits_in (blocked_of s.control u)) s).state.control in
+      let withdrawn = withdraws_keep u (awaits_in (blocked_of s.control u)) s q in
+      (stops_keeps u k withdrawn.0, stops_known u k ∙ withdrawn.1)
+
   -- what u has is given up: nothing of the control changes
   marks_given : (ms : List Mark) (s : State P S H) → (tells_each ms s).state.control ≡ s.control
   unfolding tells_each
@@ -505,7 +538,7 @@ module _ {P S H : Type 0} (f : P → Functions S H) (t : ℕ) (Q : Control P S H
   ran_keeps u s q =
       let R : Control P S H → Type 0 = λ k. Q k × (k.threads.known ≡ s.control.threads.known) in
       let sharing : (h : H) (k : Control P S H) → R k → R (record k { shared = h }) = λ h k r. (kept.calls.shares h k r.0, r.1) in
-      subst R (sym (all_given u _)) (destructs_keep f u R sharing (round_limit * key_limit) first_round _ (each_keep f u R sharing (s.resources.store.cleanups u) _ (stops_keeps u s.control q, stops_known u s.control)))
+      subst R (sym (all_given u _)) (destructs_keep f u R sharing (round_limit * key_limit) first_round _ (each_keep f u R sharing ((undoes_wait u s).state.resources.store.cleanups u) _ (undone_keeps u s q)))
 
   ending_keeps : (v : ℤ) (s : State P S H) → Q s.control → Q (ending f t v s).state.control
   unfolding ending

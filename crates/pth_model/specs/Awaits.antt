@@ -1,8 +1,8 @@
--- What a blocked call waits for, and what its wait holds: a moment, and the bytes that it wrote so far.
+-- What a blocked call waits for, and what its wait holds: a moment, the bytes that it wrote so far, the round of a barrier.
 use Rattle.std.specs.Prelude.{ℕ, ℤ, Option, Some, None, if◌then◌else◌}
 use Rattle.pth_numbered.specs.Operands.{is_zero}
 use Rattle.pth_model.specs.declared.awaits.Awaits.{Awaits}
-use Rattle.pth_model.specs.declared.awaits.Awaits.TheVariants.{Nothing, Death, AnyDeath, Moment, Writing, Selection}
+use Rattle.pth_model.specs.declared.awaits.Awaits.TheVariants.{Nothing, Death, AnyDeath, Moment, Writing, Selection, Round}
 use Rattle.pth_model.specs.declared.blocked.Blocked.{Blocked}
 
 -- pth_join waits for the death of the thread that is named, and for 0 for any
@@ -19,6 +19,11 @@ moment_in a = 0
 abbrev pub written_in : Awaits → ℕ
 written_in (Writing f total written) = written
 written_in a = 0
+
+-- which round of a barrier is waited for
+abbrev pub round_in : Awaits → ℕ
+round_in (Round b round) = round
+round_in a = 0
 
 -- what the blocked call waits for: if no call blocks, nothing
 abbrev pub awaits_in : Option Blocked → Awaits

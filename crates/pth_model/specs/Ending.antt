@@ -15,7 +15,9 @@ use Rattle.pth_store.specs.Keys.{Tables, key_limit, first_live}
 use Rattle.pth_model.specs.declared.destructors.Due.{Due}
 use Rattle.pth_model.specs.declared.destructors.Round.{Round}
 use Rattle.pth_model.specs.Transition.{Piece, Change, silent, changes, tells, tells_each, tid, ◌and◌, ◌and_then◌}
-use Rattle.pth_model.specs.Changes.{sets, enters, leaves_queue, removes, runs_now, entry_of, or_nobody}
+use Rattle.pth_model.specs.Awaits.{awaits_in}
+use Rattle.pth_model.specs.Barriers.{withdraws_from}
+use Rattle.pth_model.specs.Changes.{sets, enters, leaves_queue, removes, runs_now, entry_of, or_nobody, blocked_of}
 use Rattle.pth_model.specs.RingWaits.{stops_waiting}
 use Rattle.pth_model.specs.Acts.{handled, runs_handler}
 
@@ -54,9 +56,9 @@ unfoldable pub locks_held : ℕ → LockTables → List ℕ
 locks_held t x = filter (holds x t) (range_with_len 0 object_limit)
 
 module _ {P S H : Type 0} where
-  -- its wait is undone
+  -- its wait is undone: its arrival at a barrier is taken back, and the claim on its ring given back
   abbrev pub undoes_wait : ℕ → Piece P S H
-  undoes_wait t = changes (stops_waiting t)
+  undoes_wait t s = (withdraws_from t (awaits_in (blocked_of s.control t)) and_then changes (stops_waiting t)) s
 
   -- its cleanups run, the last pushed first
   unfoldable pub runs_each : (P → Functions S H) → ℕ → List PushedHandler → Piece P S H

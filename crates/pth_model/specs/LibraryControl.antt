@@ -8,6 +8,7 @@ use Rattle.pth_queue.specs.declared.queue.Queue.{Queue}
 use Rattle.pth_queue.specs.declared.queue.Queue.TheVariants as queue
 use Rattle.pth_numbered.specs.Operands.{◌is◌, ◌is_from◌to◌}
 use Rattle.pth_ring.specs.Rings.{all_unclaimed}
+use Rattle.pth_cond.specs.Barriers.{all_withdrawn}
 use Rattle.pth_model.specs.declared.verdict.Verdict.TheVariants.{Says, Kills}
 use Rattle.pth_model.specs.Verdict.{refused, says, ◌when◌otherwise◌}
 use Rattle.pth_model.specs.State.{State, main, present, queue}
@@ -25,11 +26,12 @@ running_count None = 0
 running_count (Some t) = 1
 
 module _ {P S H : Type 0} where
-  -- all threads but t, which runs, are in the system no longer, and no ring is claimed
+  -- all threads but t, which runs, are in the system no longer, no ring is claimed, and nobody waits at a barrier
   unfoldable pub vanish_all_but : ℕ → Change P S H
   vanish_all_but t k = record k {
     threads = record k.threads { known = only_at t k.threads.known; progress = only_at t k.threads.progress; standing = λ q. [] };
     events = all_unclaimed k.events;
+    barriers = all_withdrawn k.barriers;
   }
 
 module _ {P S H : Type 0} (s : State P S H) (t : ℕ) where

@@ -19,6 +19,7 @@ use Rattle.pth_model.specs.EventHandling.{make_event, chain, ev_concat, ev_isola
 use Rattle.pth_model.specs.Cancellation.{cancel_state, cancel_point, cancel, abort}
 use Rattle.pth_model.specs.Mutexes.{mutex_init, mutex_acquire, mutex_release}
 use Rattle.pth_model.specs.Rwlocks.{rw_init, rw_acquire, rw_release}
+use Rattle.pth_model.specs.Barriers.{barrier_init, barrier_reach}
 use Rattle.pth_model.specs.ThreadEnds.{exit}
 use Rattle.pth_model.specs.Times.{timeout, nap, usleep, sleep}
 use Rattle.pth_model.specs.RingWaits.{extra_ring}
@@ -87,8 +88,8 @@ module _ {P S H : Type 0} (f : P → Functions S H) (s : State P S H) (t : ℕ) 
   row_of (call.CondInit c) = unbuilt
   row_of (call.CondAwait c m e) = unbuilt
   row_of (call.CondNotify c v) = unbuilt
-  row_of (call.BarrierInit b n) = unbuilt
-  row_of (call.BarrierReach b) = unbuilt
+  row_of (call.BarrierInit b n) = barrier_init s b n
+  row_of (call.BarrierReach b) = barrier_reach s t b
   row_of (call.Usleep l) = usleep s l
   row_of (call.Sleep l) = sleep s l
   row_of (call.Read d n) = read s d n None

@@ -50,11 +50,16 @@ pub enum Awaits {
         l: i64,
         write: bool,
     },
+    /// That the round of this number has passed at barrier `b` (`pth_barrier_reach`).
+    Round {
+        b: i64,
+        round: u64,
+    },
 }
 
 impl Awaits {
     ghost use Rattle.std.specs.Prelude.{◌≡◌};
-    ghost use Rattle.pth_model.specs.Awaits.{moment_in, written_in};
+    ghost use Rattle.pth_model.specs.Awaits.{moment_in, written_in, round_in};
 
     /// The moment that is waited for; 0 for none.
     #[inline(always)]
@@ -77,6 +82,16 @@ impl Awaits {
     {
         match self {
             Awaits::Writing { written, .. } => written,
+            _ => 0,
+        }
+    }
+
+    /// The number of the round that is waited for; 0 for none.
+    pub fn round(self) -> u64
+        ensures { result ≡ round_in self }
+    {
+        match self {
+            Awaits::Round { round, .. } => round,
             _ => 0,
         }
     }

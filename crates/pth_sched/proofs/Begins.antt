@@ -4,7 +4,7 @@ use Rattle.pth_base.specs.declared.call.Call.{Call}
 use Rattle.pth_base.specs.declared.call.Call.TheVariants as call
 use Rattle.pth_calls.specs.Plain.{is_plain}
 use Rattle.pth_model.specs.declared.awaits.Awaits.{Awaits}
-use Rattle.pth_model.specs.declared.awaits.Awaits.TheVariants.{Alone, Lock, Moment, Mutex, Ring}
+use Rattle.pth_model.specs.declared.awaits.Awaits.TheVariants.{Alone, Lock, Moment, Mutex, Ring, Round}
 use Rattle.pth_model.specs.Awaits.{death_of}
 use Rattle.pth_model.specs.State.{State, main}
 use Rattle.pth_world.specs.Whole.{MayAwaitAs}
@@ -23,6 +23,7 @@ is_plain_call s (call.Sleep n) never no_kill no_yield no_plain no_note no_pop no
 is_plain_call s (call.Wait e) never no_kill no_yield no_plain no_note no_pop no_once no_cancel no_abort no_point = absurd (never.away 0 (Ring e) refl)
 is_plain_call s (call.MutexAcquire m v e) never no_kill no_yield no_plain no_note no_pop no_once no_cancel no_abort no_point = absurd (never.away 0 (Mutex m) refl)
 is_plain_call s (call.RwAcquire l write v e) never no_kill no_yield no_plain no_note no_pop no_once no_cancel no_abort no_point = absurd (never.away 0 (Lock l write) refl)
+is_plain_call s (call.BarrierReach b) never no_kill no_yield no_plain no_note no_pop no_once no_cancel no_abort no_point = absurd (never.away 0 (Round b 0) refl)
 is_plain_call s (call.Read g n) never no_kill no_yield no_plain no_note no_pop no_once no_cancel no_abort no_point = absurd (cc (never.elsewhere s))
 is_plain_call s (call.ReadEv g n e) never no_kill no_yield no_plain no_note no_pop no_once no_cancel no_abort no_point = absurd (cc (never.elsewhere s))
 is_plain_call s (call.Write g bytes) never no_kill no_yield no_plain no_note no_pop no_once no_cancel no_abort no_point = absurd (cc (never.elsewhere s))
@@ -54,6 +55,7 @@ mild_away (call.Sleep n) mild t a may = cc mild
 mild_away (call.Wait e) mild t a may = cc mild
 mild_away (call.MutexAcquire m v e) mild t a may = cc mild
 mild_away (call.RwAcquire l write v e) mild t a may = cc mild
+mild_away (call.BarrierReach b) mild t a may = cc mild
 mild_away (call.Read g n) mild t a may = cc mild
 mild_away (call.ReadEv g n e) mild t a may = cc mild
 mild_away (call.Write g bytes) mild t a may = cc mild

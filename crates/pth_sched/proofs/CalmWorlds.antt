@@ -52,6 +52,9 @@ module _ {P S H : Type 0} (w : WorldOf P S H) where
     same_resources : r.resources ≡ s.resources
     same_resources = sr.resources ∙ sym ss.resources
 
+    same_barriers : r.control.barriers ≡ s.control.barriers
+    same_barriers = sr.control.barriers ∙ sym ss.control.barriers
+
     pub seen_dormant : (until u : ℕ) → IsDormant s until u → IsDormant r until u
     seen_dormant until u q = dormant_kept s r u (record {
       now = now_of s.control;
@@ -60,6 +63,7 @@ module _ {P S H : Type 0} (w : WorldOf P S H) where
       events = equal_pending s.control.events r.control.events (sr.control.events ∙ sym ss.control.events);
       mutexes = ap (λ (x : Resources). x.store.mutexes) same_resources;
       locks = ap (λ (x : Resources). x.store.rw_locks) same_resources;
+      rounds = λ b round h. rw same_barriers h;
       blocked = same_blocked u;
       died = λ n h. rw same_known h;
       left = λ none u. rw same_known (none u);

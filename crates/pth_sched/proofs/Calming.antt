@@ -20,7 +20,7 @@ use Rattle.pth_model.specs.Part.{runs, readies, readies_all, is_placed, placed_b
 use Rattle.pth_model.specs.Transition.{controlled}
 use Rattle.pth_waits.specs.Dormant.{IsDormant, is_left_to_join}
 use Rattle.pth_sched.specs.Calm.{IsCalm, IsCalmBut, is_among_waiting}
-use Rattle.pth_waits.proofs.Dormancy.{KeepsPending, dormant_kept, pending_then, same_pending}
+use Rattle.pth_waits.proofs.Dormancy.{KeepsPending, KeepsRounds, dormant_kept, pending_then, same_pending}
 
 -- ---- records of threads
 
@@ -96,6 +96,7 @@ module _ {P S H : Type 0} where
     pub events : KeepsPending s.control.events r.control.events
     pub mutexes : r.resources.store.mutexes ≡ s.resources.store.mutexes
     pub locks : r.resources.store.rw_locks ≡ s.resources.store.rw_locks
+    pub rounds : KeepsRounds s.control.barriers r.control.barriers
     pub tame : (u : ℕ) → IsTame (entry_of s.control u) (entry_of r.control u)
     pub waited : (u : ℕ) → but u → is_among_waiting (entry_of r.control u) ≡ true
         → (s.control.scheduler.running ≢ Some u) × (is_among_waiting (entry_of s.control u) ≡ true) × (blocked_of r.control u ≡ blocked_of s.control u)
@@ -118,6 +119,7 @@ module _ {P S H : Type 0} where
         events = keeps.events;
         mutexes = keeps.mutexes;
         locks = keeps.locks;
+        rounds = keeps.rounds;
         blocked = w.2;
         died = died_kept s.control r.control keeps.tame;
         left = λ none v. (keeps.tame v).left (none v);
@@ -141,6 +143,7 @@ module _ {P S H : Type 0} where
           events = same_pending s.control.events;
           mutexes = refl;
           locks = refl;
+          rounds = λ b r h. h;
           tame = tame_put known t _ (tame_state state.Ready Ready (known t));
           waited = λ u b. put_by (λ v. is_among_waiting v ≡ true → (s.control.scheduler.running ≢ Some u) × (is_among_waiting (known u) ≡ true) × (blocked_of s.control u ≡ blocked_of s.control u)) known t _ u
               (λ same waits. absurd (cc (sym (not_waiting state.Ready Ready (known t)) ∙ waits)))
@@ -159,6 +162,7 @@ module _ {P S H : Type 0} where
           events = same_pending s.control.events;
           mutexes = refl;
           locks = refl;
+          rounds = λ b r h. h;
           tame = λ u. tame_then (known u) (first u) _
               (tame_put known t _ (tame_state state.Running Running (known t)) u)
               (tame_put first t _ (tame_dispatches _ (first t)) u);
@@ -218,6 +222,7 @@ module _ {P S H : Type 0} where
       events = same_pending k.events;
       mutexes = refl;
       locks = refl;
+      rounds = λ b r h. h;
       tame = λ u. tame_same (k.threads.known u);
       waited = λ u apart waits. (not_own u apart, waits, refl);
     }
@@ -228,6 +233,7 @@ module _ {P S H : Type 0} where
       events = same_pending k.events;
       mutexes = refl;
       locks = refl;
+      rounds = λ b r h. h;
       tame = tame_put k.threads.known t _ (tame_state state.Ready Ready (k.threads.known t));
       waited = λ u apart waits. (not_own u apart, others_wait state.Ready Ready u apart waits, refl);
     }
@@ -238,6 +244,7 @@ module _ {P S H : Type 0} where
       events = same_pending k.events;
       mutexes = refl;
       locks = refl;
+      rounds = λ b r h. h;
       tame = tame_put k.threads.known t _ (tame_state state.Waiting Waiting (k.threads.known t));
       waited = λ u apart waits. (not_own u apart, others_wait state.Waiting Waiting u apart waits, refl);
     }
@@ -257,10 +264,11 @@ module _ {P S H : Type 0} where
     pub events : KeepsPending s.control.events r.control.events
     pub mutexes : r.resources.store.mutexes ≡ s.resources.store.mutexes
     pub locks : r.resources.store.rw_locks ≡ s.resources.store.rw_locks
+    pub rounds : KeepsRounds s.control.barriers r.control.barriers
     pub blocked : (u : ℕ) → u ≢ t → blocked_of r.control u ≡ blocked_of s.control u
 
   pub mild_same : (t : ℕ) (s : State P S H) → IsMild t s s
-  mild_same t s = record { known = refl; running = refl; kernel = refl; events = same_pending s.control.events; mutexes = refl; locks = refl; blocked = λ u apart. refl }
+  mild_same t s = record { known = refl; running = refl; kernel = refl; events = same_pending s.control.events; mutexes = refl; locks = refl; rounds = λ b r h. h; blocked = λ u apart. refl }
 
   pub mild_then : (t : ℕ) (s r q : State P S H) → IsMild t s r → IsMild t r q → IsMild t s q
   mild_then t s r q a b = record {
@@ -270,6 +278,7 @@ module _ {P S H : Type 0} where
     events = pending_then s.control.events r.control.events q.control.events a.events b.events;
     mutexes = b.mutexes ∙ a.mutexes;
     locks = b.locks ∙ a.locks;
+    rounds = λ c r h. b.rounds c r (a.rounds c r h);
     blocked = λ u apart. b.blocked u apart ∙ a.blocked u apart;
   }
 
@@ -281,6 +290,7 @@ module _ {P S H : Type 0} where
     events = mild.events;
     mutexes = mild.mutexes;
     locks = mild.locks;
+    rounds = mild.rounds;
     tame = λ u. subst (λ (f : ℕ → Option Entry). IsTame (s.control.threads.known u) (f u)) (sym mild.known) (tame_same (s.control.threads.known u));
     waited = λ u apart waits. (λ is. apart (cc (sym runs ∙ is)), subst (λ (f : ℕ → Option Entry). is_among_waiting (f u) ≡ true) mild.known waits, mild.blocked u apart);
   }

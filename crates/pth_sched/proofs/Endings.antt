@@ -9,7 +9,7 @@ use Rattle.pth_base.specs.declared.mark.Mark.TheVariants.{Ended as End}
 use Rattle.pth_base.specs.declared.outcome.Outcome.TheVariants.{Running, Ended}
 use Rattle.pth_queue.specs.declared.queue.Queue.TheVariants as queues
 use Rattle.pth_model.specs.declared.awaits.Awaits.{Awaits}
-use Rattle.pth_model.specs.declared.awaits.Awaits.TheVariants.{Nothing, Alone, Moment, Ring, Reading, Writing, Connection, ConnectAnswer, Selection, Mutex, Lock}
+use Rattle.pth_model.specs.declared.awaits.Awaits.TheVariants.{Nothing, Alone, Moment, Ring, Reading, Writing, Connection, ConnectAnswer, Selection, Mutex, Lock, Round}
 use Rattle.pth_model.specs.declared.blocked.Blocked.{Blocked}
 use Rattle.pth_model.specs.declared.next.Next.{Next}
 use Rattle.pth_model.specs.declared.next.Next.TheVariants as next
@@ -18,7 +18,7 @@ use Rattle.pth_model.specs.declared.verdict.Verdict.{Verdict}
 use Rattle.pth_model.specs.declared.verdict.Verdict.TheVariants.{Says, Yields, Blocks, Ends, Kills}
 use Rattle.pth_model.specs.Verdict.{refused, says, done, by_result, said_or, counts_or, taken_or, ◌when◌otherwise◌, refused_as◌otherwise◌}
 use Rattle.pth_model.specs.State.{State, Control, Given, Turn, start, queue, present, main, now_of, once_limit}
-use Rattle.pth_model.specs.Transition.{Change, Went, tid, controlled, ◌and_then◌}
+use Rattle.pth_model.specs.Transition.{Change, Went, changes, silent, tid, controlled}
 use Rattle.pth_base.specs.declared.answer.Answer.{Answer}
 use Rattle.pth_base.specs.declared.answer.Answer.TheVariants.{Int, Text, Fail}
 use Rattle.pth_base.specs.declared.errno.Errno.{Errno}
@@ -33,9 +33,9 @@ use Rattle.pth_model.specs.LibraryControl.{kill, ctrl, running_count}
 use Rattle.pth_model.specs.Cancellation.{canceled_value, is_to_cancel, is_at_point, may_be_canceled, cancel_state, cancel, abort}
 use Rattle.pth_model.specs.AttributeHandling.{object, answer_of}
 use Rattle.pth_threads.specs.Attributes.{create_answer, of_answer, init_answer, set_answer, get_answer, destroy_answer}
-use Rattle.pth_model.specs.Changes.{blocked_of, goes_on, entry_of, or_nobody, with_events}
+use Rattle.pth_model.specs.Changes.{blocked_of, goes_on, entry_of, or_nobody, with_barriers, with_events}
 use Rattle.pth_model.specs.Course.{Course}
-use Rattle.pth_model.specs.Row.{Attempt, effect_of}
+use Rattle.pth_model.specs.Row.{Attempt, effect_of, ◌trying◌}
 use Rattle.pth_model.specs.Rows.{row_of}
 use Rattle.pth_model.specs.Ending.{ending, undoes_wait, gives_all, runs_cleanups, runs_destructors}
 use Rattle.pth_model.specs.Cleanups.{last_pushed}
@@ -45,6 +45,10 @@ use Rattle.pth_model.specs.ThreadEnds.{is_alone, must_wait}
 use Rattle.pth_model.specs.Calls.{begun, begun_by, gone_on, gone_on_where, tried_again, tried_again_by, tried_by, unless_settled, interrupted}
 use Rattle.pth_model.specs.EventHandling.{spec_of, made_as, make_event, chain, wait, number_or_none, status_number}
 use Rattle.pth_model.specs.RingWaits.{extra_ring, ring_given, has_settled, is_no_ring, is_claimed_ring}
+use Rattle.pth_cond.specs.Barriers.{arrival_answer, barrier_init_answer, has_passed, round_answer, round_answered, taillight}
+use Rattle.pth_cond.specs.declared.barriers.Arrival.{Arrival}
+use Rattle.pth_cond.specs.declared.barriers.Arrival.TheVariants.{Waits, Tail}
+use Rattle.pth_model.specs.Barriers.{arrived_as, tries_round}
 use Rattle.pth_lock.specs.Mutexes.{mutex_init_answer, mutex_release_answer, mutex_take_answer}
 use Rattle.pth_lock.specs.Objects.{object_named}
 use Rattle.pth_lock.specs.RwLocks.{holds, lock_init_answer, lock_release_answer, lock_take_answer}
@@ -58,7 +62,7 @@ use Rattle.pth_base.specs.declared.event.EventSpec.{EventSpec}
 use Rattle.pth_base.specs.declared.ids.EventId.{EventId}
 use Rattle.pth_kernel.specs.Kernel.{Kernel, fd_named, is_fd_live}
 use Rattle.pth_kernel.specs.Modes.{mode_answer}
-use Rattle.pth_model.specs.Awaits.{death_of, moment_in, written_in}
+use Rattle.pth_model.specs.Awaits.{death_of, moment_in, round_in, written_in}
 use Rattle.pth_model.specs.Io.{answered_or_waits, trial_for, begins_waiting, tries, at_once, is_refused_length, select_deadline, fdmode, close}
 use Rattle.pth_model.specs.Part.{Part, Move, Take, Step, Close, Halt, next_part, part, part_by, moves, moves_by, takes, takes_by, readies_new, chosen, closes, steps, steps_by, steps_on, turn_after, gives_up, ends_run}
 use Rattle.pth_model.specs.Run.{run, IsBetween}
@@ -106,6 +110,23 @@ part_on (Err e) x rest = says_on (Fail e)
 
 done_on : (r : Result (Unit {0}) Errno) → EndsNot (by_result done r)
 done_on r = result_on (λ (u : Unit {0}). Int (pos 1)) r
+
+-- nor does an arrival at a barrier, or its round
+arrived_on : (b : ℤ) (r : Result Arrival Errno) → EndsNot (by_result (arrived_as b) r)
+arrived_on b (Ok (Waits round)) = blocks_on (Round b round)
+arrived_on b (Ok Tail) = says_on (Int taillight)
+arrived_on b (Err e) = says_on (Fail e)
+
+module _ {P S H : Type 0} (s : State P S H) (t : ℕ) (b : ℤ) (round : ℕ) where
+  abbrev tried_if : Bool → Attempt P S H
+  tried_if passed = if passed then (Says (Int (round_answer s.control.barriers b round t)) trying changes (with_barriers (round_answered b round t))) else (Blocks (Round b round) trying silent)
+
+  round_by : (passed : Bool) → EndsNot (tried_if passed).verdict
+  round_by true = says_on (Int (round_answer s.control.barriers b round t))
+  round_by false = blocks_on (Round b round)
+
+  round_on : EndsNot (tries_round s t b round).verdict
+  round_on = round_by (has_passed s.control.barriers b round)
 
 -- nor does an answer that is there, or else what follows
 said_on : (a : Option Answer) (x : Verdict) → EndsNot x → EndsNot (said_or a x)
@@ -369,6 +390,8 @@ module _ {P S H : Type 0} (f : P → Functions S H) (t : ℕ) (v : ℤ) where
   exits s (call.RwInit l) up h = absurd (done_on (lock_init_answer s.resources.store.rw_locks l) v h)
   exits s (call.RwAcquire l write u e) up h = absurd (enter_on f s t l write u e v h)
   exits s (call.RwRelease l) up h = absurd (done_on (lock_release_answer s.resources.store.rw_locks t l) v h)
+  exits s (call.BarrierInit b n) up h = absurd (done_on (barrier_init_answer s.control.barriers b n) v h)
+  exits s (call.BarrierReach b) up h = absurd (arrived_on b (arrival_answer s.control.barriers b) v h)
   exits s c up h = absurd (cc h)
 
   exits_again : (s : State P S H) (a : Awaits) (c : Call) → ((row_of f s t c).again a).verdict ≡ Ends v → (c ≡ call.Exit v) × (must_wait s.control t ≡ false)
@@ -382,6 +405,7 @@ module _ {P S H : Type 0} (f : P → Functions S H) (t : ℕ) (v : ℤ) where
   exits_again s a (call.Wait e) h = absurd (says_or_waits_on f s t (settled_in s.control.events (number e)) (nat_lt 0 (settled_in s.control.events (number e))) (Ring e) v h)
   exits_again s a (call.MutexAcquire m u e) h = absurd (says_or_waits_on f s t 1 (is_free s m) (Mutex m) v h)
   exits_again s a (call.RwAcquire l write u e) h = absurd (says_or_waits_on f s t 1 (is_open s write l && not (holds s.resources.store.rw_locks t (object_named l))) (Lock l write) v h)
+  exits_again s a (call.BarrierReach b) h = absurd (round_on s t b (round_in a) v h)
   exits_again s a (call.Read d n) h = absurd (trial_on s.control.kernel a v h)
   exits_again s a (call.ReadEv d n e) h = absurd (trial_on s.control.kernel a v h)
   exits_again s a (call.Write d bytes) h = absurd (trial_on s.control.kernel a v h)
@@ -432,11 +456,16 @@ module _ {P S H : Type 0} (f : P → Functions S H) (t : ℕ) (v : ℤ) where
   ending_told : (s : State P S H) → (before : List Mark) × ((ending f t v s).marks ≡ before ++ End (tid t) v ∷ [])
   unfolding ending
   ending_told s =
-      let cleaned = (undoes_wait t and_then runs_cleanups f t) s in
+      let undone = undoes_wait t s in
+      let cleaned = runs_cleanups f t undone.state in
       let destructed = runs_destructors f t cleaned.state in
       let gave = gives_all t destructed.state in
-      let last = End (tid t) v ∷ [] in
-      (cleaned.marks ++ (destructed.marks ++ gave.marks), ap (λ (ms : List Mark). cleaned.marks ++ ms) (sym (append_assoc destructed.marks gave.marks last)) ∙ sym (append_assoc cleaned.marks (destructed.marks ++ gave.marks) last))
+      let last = End (tid t) v ∷ [] in (
+        undone.marks ++ (cleaned.marks ++ (destructed.marks ++ gave.marks)),
+        ap (λ (ms : List Mark). undone.marks ++ (cleaned.marks ++ ms)) (sym (append_assoc destructed.marks gave.marks last))
+            ∙ ap (λ (ms : List Mark). undone.marks ++ ms) (sym (append_assoc cleaned.marks (destructed.marks ++ gave.marks) last))
+            ∙ sym (append_assoc undone.marks (cleaned.marks ++ (destructed.marks ++ gave.marks)) last),
+      )
 
   -- what ends its thread with v: it need not wait, and this is told last
   record EndsIt (k : Control P S H) (marks : List Mark) : Type 0 where

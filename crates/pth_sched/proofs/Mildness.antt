@@ -1,7 +1,7 @@
 -- The calls that are mild leave all other threads, and what they wait for, as they are.
-use Rattle.std.proofs.Common.{◌≡◌, ◌∙◌, ◌==◌, ℕ, not, Bool, true, false, if◌then◌else◌, ℤ, pos, length, Option, Some, None, Result, Ok, Err, refl, sym, ap, subst}
+use Rattle.std.proofs.Common.{◌≡◌, ◌∙◌, ◌==◌, ℕ, not, Bool, true, false, if◌then◌else◌, ℤ, pos, length, Option, Some, None, option_map, Result, Ok, Err, refl, sym, ap, subst}
 use Rattle.pth_base.specs.Program.{Functions, Stepped}
-use Rattle.pth_base.proofs.Tables.{put_other, same_means}
+use Rattle.pth_base.proofs.Tables.{put_by, put_other, same_means}
 use Rattle.pth_base.specs.declared.answer.Answer.{Answer}
 use Rattle.pth_base.specs.declared.answer.Answer.TheVariants.{Int, Text}
 use Rattle.pth_base.specs.declared.call.Call.{Call}
@@ -14,6 +14,12 @@ use Rattle.pth_base.specs.declared.query.Query.TheVariants as query
 use Rattle.pth_base.specs.declared.ids.EventId.{EventId}
 use Rattle.pth_base.specs.declared.ids.FdSet.{FdSet}
 use Rattle.pth_kernel.specs.Kernel.{Kernel, fd_named, room}
+use Rattle.std.specs.Option.{ok_or}
+use Rattle.pth_cond.specs.Barriers.{Barrier, BarrierTable, arrival_answer, arrival_at, arrived, barrier_reached, has_passed, is_past, lacks_one, round_answer, round_answered}
+use Rattle.pth_cond.specs.declared.barriers.Arrival.{Arrival}
+use Rattle.pth_cond.specs.declared.barriers.Arrival.TheVariants.{Waits, Tail}
+use Rattle.pth_lock.specs.Objects.{object_named}
+use Rattle.pth_model.specs.Barriers.{arrived_as}
 use Rattle.pth_numbered.specs.Operands.{number, is_zero}
 use Rattle.pth_ring.specs.Rings.{walk_answer, status_answer, kind_answer}
 use Rattle.pth_store.specs.Keys.{key_get_answer}
@@ -22,9 +28,9 @@ use Rattle.pth_model.specs.AttributeHandling.{answer_of, object}
 use Rattle.pth_model.specs.EventHandling.{status_number}
 use Rattle.pth_model.specs.Times.{is_negative, length_of, moment_after}
 use Rattle.pth_model.specs.declared.awaits.Awaits.{Awaits}
-use Rattle.pth_model.specs.declared.awaits.Awaits.TheVariants.{Reading, Writing, Connection, ConnectAnswer, Selection}
+use Rattle.pth_model.specs.declared.awaits.Awaits.TheVariants.{Reading, Writing, Connection, ConnectAnswer, Selection, Round}
 use Rattle.pth_model.specs.declared.blocked.Blocked.{Blocked}
-use Rattle.pth_model.specs.Awaits.{death_of}
+use Rattle.pth_model.specs.Awaits.{death_of, round_in}
 use Rattle.pth_model.specs.Io.{at_once, begins_waiting, is_refused_length, select_deadline, trial_for, tries}
 use Rattle.pth_model.specs.declared.next.Next.{Next}
 use Rattle.pth_model.specs.declared.next.Next.TheVariants as next
@@ -33,7 +39,7 @@ use Rattle.pth_queue.specs.declared.queue.Queue.TheVariants as queues
 use Rattle.pth_model.specs.LibraryControl.{running_count}
 use Rattle.pth_model.specs.State.{State, now_of, present, queue}
 use Rattle.pth_model.specs.Transition.{silent, nothing, controlled, changes, tells, tid, ◌and_then◌}
-use Rattle.pth_model.specs.Changes.{blocked_of, blocked_in, blocking, favours_new, goes_on, or_nobody, prefers, with_kernel}
+use Rattle.pth_model.specs.Changes.{blocked_of, blocked_in, blocking, favours_new, goes_on, or_nobody, prefers, with_barriers, with_kernel}
 use Rattle.pth_model.specs.Cancellation.{may_be_canceled}
 use Rattle.pth_model.specs.Calls.{begun, begun_as, gone_on, gone_on_where, tried_again_by, canceled_by, tried, tried_again, interrupted, unless_settled, waits_by}
 use Rattle.pth_model.specs.Part.{owes_after, stepping}
@@ -46,7 +52,7 @@ use Rattle.pth_model.specs.declared.verdict.Verdict.TheVariants.{Says, Yields, B
 use Rattle.pth_model.specs.Verdict.{by_result, refused, says, ◌when◌otherwise◌}
 use Rattle.pth_model.specs.ThreadControl.{is_known, joined, takes_joined, thread}
 use Rattle.pth_world.specs.Whole.{IsSelection, IsWriting, MayAwaitAs, MayBlock}
-use Rattle.pth_waits.proofs.Dormancy.{claimed_pending, same_pending}
+use Rattle.pth_waits.proofs.Dormancy.{KeepsRounds, claimed_pending, same_pending}
 use Rattle.pth_waits.proofs.Unchanged.{HasNoRoom, waiting_same}
 use Rattle.pth_sched.specs.Mild.{is_mild, waits_mildly, is_waiting}
 use Rattle.pth_sched.proofs.Calming.{IsMild, mild_same, mild_then}
@@ -86,6 +92,21 @@ interrupted_not : (v : Verdict) → blocks_in (interrupted v) ≡ true → block
 interrupted_not (Blocks a) blocks = refl
 interrupted_not v blocks = blocks
 
+-- an arrival that waits at a barrier leaves its round current
+still_waiting : (t round : ℕ) (y : Barrier) (last : Bool) → lacks_one y ≡ last → ◌≡◌ {A = Result Arrival Errno} (Ok (if last then Tail else Waits y.round)) (Ok (Waits round)) → (arrived t y).round ≡ y.round
+still_waiting t round y true is waits = absurd (cc waits)
+still_waiting t round y false is waits = rw is refl
+
+still_past : (t round n : ℕ) (o : Option Barrier) → ok_or (option_map arrival_at o) EINVAL ≡ Ok (Waits round) → is_past n o ≡ false → is_past n (option_map (arrived t) o) ≡ false
+still_past t round n None waits before = refl
+still_past t round n (Some y) waits before = rw (still_waiting t round y (lacks_one y) refl waits) before
+
+waiting_rounds : (x : BarrierTable) (b : ℤ) (t round : ℕ) → arrival_answer x b ≡ Ok (Waits round) → KeepsRounds x (barrier_reached b t x)
+waiting_rounds x b t round waits c n before =
+    put_by (λ o. is_past n o ≡ false) x (object_named b) (option_map (arrived t) (x (object_named b))) (object_named c)
+    (λ same. still_past t round n (x (object_named b)) waits (subst (λ i. is_past n (x i) ≡ false) same before))
+    (λ apart. before)
+
 module _ {P S H : Type 0} (t : ℕ) where
   -- t alone goes on otherwise
   pub goes_mild : (g : Progress S → Progress S) (s : State P S H) → IsMild t s (controlled (goes_on t g) s)
@@ -97,6 +118,7 @@ module _ {P S H : Type 0} (t : ℕ) where
     events = same_pending s.control.events;
     mutexes = refl;
     locks = refl;
+    rounds = λ b r h. h;
     blocked = λ u apart. ap (λ (o : Option (Progress S)). blocked_in o) (put_other s.control.threads.progress t _ u apart);
   }
 
@@ -116,6 +138,7 @@ module _ {P S H : Type 0} (t : ℕ) where
     events = same_pending s.control.events;
     mutexes = refl;
     locks = refl;
+    rounds = λ b r h. h;
     blocked = λ u apart. ap (λ (o : Option (Progress S)). blocked_in o) (put_other s.control.threads.progress t _ u apart);
   }
 
@@ -130,6 +153,7 @@ module _ {P S H : Type 0} (t : ℕ) where
     events = claimed_pending s.control.events (number e) (tid t) s.control.kernel.now;
     mutexes = refl;
     locks = refl;
+    rounds = λ b r h. h;
     blocked = λ u apart. refl;
   }
 
@@ -143,7 +167,7 @@ module _ {P S H : Type 0} (t : ℕ) where
 
   -- an attempt takes nothing of a descriptor
   takes_mild : (h : Kernel → Kernel) (s : State P S H) → h s.control.kernel ≡ s.control.kernel → IsMild t s (controlled (with_kernel h) s)
-  takes_mild h s same = record { known = refl; running = refl; kernel = same; events = same_pending s.control.events; mutexes = refl; locks = refl; blocked = λ u apart. refl }
+  takes_mild h s same = record { known = refl; running = refl; kernel = same; events = same_pending s.control.events; mutexes = refl; locks = refl; rounds = λ b r h. h; blocked = λ u apart. refl }
 
   -- ---- calls that begin
 
@@ -186,6 +210,17 @@ module _ {P S H : Type 0} (t : ℕ) where
         attempts_by c (tries s e refused_else now a).begin.verdict trial.after told_same
         (λ blocks. not_yet_same s.control.kernel a trial.verdict refl none (begins_waiting_not now e trial.verdict (refused_not EINVAL refused_else begins (refused_not EINVAL (is_no_ring s e) (refused EINVAL when refused_else otherwise begins) blocks)))) waits
 
+    -- an arrival that waits lets no round pass
+    reaches_by : (b : ℤ) (q : Result Arrival Errno) → arrival_answer s.control.barriers b ≡ q → is_waiting (begun_as f t (call.BarrierReach b) (by_result (arrived_as b) q trying changes (with_barriers (barrier_reached b t))) s).next ≡ true
+        → IsMild t s (begun_as f t (call.BarrierReach b) (by_result (arrived_as b) q trying changes (with_barriers (barrier_reached b t))) s).told.state
+    reaches_by b (Ok (Waits round)) is waits =
+        let r = controlled (with_barriers (barrier_reached b t)) s in
+        mild_then t s r (waits_by t (call.BarrierReach b) (Round b round) r).state
+        (record { known = refl; running = refl; kernel = refl; events = same_pending s.control.events; mutexes = refl; locks = refl; rounds = waiting_rounds s.control.barriers b t round is; blocked = λ u apart. refl })
+        (waits_mild (call.BarrierReach b) (Round b round) (λ x. refl) r)
+    reaches_by b (Ok Tail) is waits = absurd (cc waits)
+    reaches_by b (Err e) is waits = absurd (cc waits)
+
     pub begins_mild : (c : Call) → waits_mildly s.control.kernel c ≡ true → is_waiting (begun f t c s).next ≡ true → IsMild t s (begun f t c s).told.state
     unfolding begun row_of
     begins_mild (call.Exit v) mild waits = by_verdict _ _ (λ x. refl) waits
@@ -196,6 +231,7 @@ module _ {P S H : Type 0} (t : ℕ) where
     begins_mild (call.Sleep n) mild waits = by_verdict _ _ (λ x. refl) waits
     begins_mild (call.MutexAcquire m v e) mild waits = by_verdict _ _ (λ x. refl) waits
     begins_mild (call.RwAcquire l write v e) mild waits = by_verdict _ _ (λ x. refl) waits
+    begins_mild (call.BarrierReach b) mild waits = reaches_by b (arrival_answer s.control.barriers b) refl waits
     begins_mild (call.Read g n) mild waits = io_begins_mild (call.Read g n) None false (at_once s g) (Reading g n) tt (λ x. refl) waits
     begins_mild (call.ReadEv g n e) mild waits = io_begins_mild (call.ReadEv g n e) (extra_ring e) false (at_once s g) (Reading g n) tt (λ x. refl) waits
     begins_mild (call.Write g bytes) mild waits = io_begins_mild (call.Write g bytes) None false (at_once s g) (Writing g (length bytes) 0) (same_means (room s.control.kernel (fd_named g)) 0 mild) (λ x. refl) waits
@@ -212,7 +248,7 @@ module _ {P S H : Type 0} (t : ℕ) where
 
     prefers_mild : (z : Bool) (p : Option ℕ) → IsMild t s (controlled (if z then nothing else prefers p) s)
     prefers_mild true p = mild_same t s
-    prefers_mild false p = record { known = refl; running = refl; kernel = refl; events = same_pending s.control.events; mutexes = refl; locks = refl; blocked = λ u apart. refl }
+    prefers_mild false p = record { known = refl; running = refl; kernel = refl; events = same_pending s.control.events; mutexes = refl; locks = refl; rounds = λ b r h. h; blocked = λ u apart. refl }
 
     yield_mild : (n : ℤ) (b : Bool) → IsMild t s (begun_as f t (call.Yield n) (refused EINVAL when b otherwise Yields (Int (pos 1)) trying changes (if is_zero n then nothing else prefers (Some (number n)))) s).told.state
     unfolding told answer_told
@@ -247,7 +283,7 @@ module _ {P S H : Type 0} (t : ℕ) where
     favours_mild : (n : ℤ) (b : Bool) (m : ℕ) (y : Bool) → IsMild t s (begun_as f t (call.Ctrl (query.Favournew n)) (refused EINVAL when b otherwise says m trying changes (favours_new y)) s).told.state
     unfolding told answer_told
     favours_mild n true m y = mild_same t s
-    favours_mild n false m y = record { known = refl; running = refl; kernel = refl; events = same_pending s.control.events; mutexes = refl; locks = refl; blocked = λ u apart. refl }
+    favours_mild n false m y = record { known = refl; running = refl; kernel = refl; events = same_pending s.control.events; mutexes = refl; locks = refl; rounds = λ b r h. h; blocked = λ u apart. refl }
 
     ctrl_mild : (q : Query) → IsMild t s (begun f t (call.Ctrl q) s).told.state
     unfolding begun row_of answer_told
@@ -290,6 +326,14 @@ module _ {P S H : Type 0} (t : ℕ) where
     come_mild : (b : Blocked) (come : Bool) (v : Verdict) → ((x : Resources) → wait_told x t b.call ≡ x) → is_waiting (tried f t b (unless_settled come (v trying silent)) s).next ≡ true → IsMild t s (tried f t b (unless_settled come (v trying silent)) s).told.state
     come_mild b true v same waits = tried_mild b (interrupted v) same waits
     come_mild b false v same waits = tried_mild b v same waits
+
+    -- a round that has not passed is waited for on
+    rounds_on_by : (b : Blocked) (c : ℤ) (round : ℕ) (come passed : Bool) → ((x : Resources) → wait_told x t b.call ≡ x)
+        → is_waiting (tried f t b (unless_settled come (if passed then (Says (Int (round_answer s.control.barriers c round t)) trying changes (with_barriers (round_answered c round t))) else (Blocks (Round c round) trying silent))) s).next ≡ true
+        → IsMild t s (tried f t b (unless_settled come (if passed then (Says (Int (round_answer s.control.barriers c round t)) trying changes (with_barriers (round_answered c round t))) else (Blocks (Round c round) trying silent))) s).told.state
+    rounds_on_by b c round true true same waits = absurd (cc waits)
+    rounds_on_by b c round false true same waits = absurd (cc waits)
+    rounds_on_by b c round come false same waits = come_mild b come (Blocks (Round c round)) same waits
 
     -- a join that blocks on takes nobody
     joins_on_by : (b : Blocked) (n : ℤ) (come i j d : Bool) (o : Option ℕ) → ((x : Resources) → wait_told x t b.call ≡ x)
@@ -337,6 +381,7 @@ module _ {P S H : Type 0} (t : ℕ) where
     told_nothing (call.Sleep n) mild x = refl
     told_nothing (call.MutexAcquire m v e) mild x = refl
     told_nothing (call.RwAcquire l write v e) mild x = refl
+    told_nothing (call.BarrierReach b) mild x = refl
     told_nothing (call.Read g n) mild x = refl
     told_nothing (call.ReadEv g n e) mild x = refl
     told_nothing (call.Write g bytes) mild x = refl
@@ -361,6 +406,7 @@ module _ {P S H : Type 0} (t : ℕ) where
     again_mild (call.Sleep n) b come mild may same waits = come_mild b come _ same waits
     again_mild (call.MutexAcquire m v e) b come mild may same waits = come_mild b come _ same waits
     again_mild (call.RwAcquire l write v e) b come mild may same waits = come_mild b come _ same waits
+    again_mild (call.BarrierReach c) b come mild may same waits = rounds_on_by b c (round_in b.awaits) come (has_passed s.control.barriers c (round_in b.awaits)) same waits
     again_mild (call.Read g n) b come mild may same waits = io_again_mild b come b.awaits (equal_no_room s.control.kernel b.awaits (Reading g n) may tt) same waits
     again_mild (call.ReadEv g n e) b come mild may same waits = io_again_mild b come b.awaits (equal_no_room s.control.kernel b.awaits (Reading g n) may tt) same waits
     again_mild (call.Write g bytes) b come mild may same waits = io_again_mild b come b.awaits (writing_no_room s.control.kernel g (length bytes) b.awaits may mild) same waits

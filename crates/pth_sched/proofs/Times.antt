@@ -164,6 +164,7 @@ module _ {P S H : Type 0} (f : P → Functions S H) (t n : ℕ) where
       exchanged = λ u o k is. is;
       evented = λ x k none is. is;
       described = λ ds k is. is;
+      barred = λ x k is. is;
       used = λ o k is. is;
       requested = λ u b k apart is. is;
     };

@@ -149,6 +149,7 @@ module _ {P S H : Type 0} where
       exchanged = λ n o k is. is;
       evented = λ x k none is. is;
       described = λ ds k is. is;
+      barred = λ x k is. is;
       used = λ o k is. is;
       requested = λ u b k apart is. unasked_sets u (change.Request b) k (λ here. request_asks b (not_itself b u apart here)) is;
     };

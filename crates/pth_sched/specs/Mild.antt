@@ -32,6 +32,7 @@ waits_mildly k (call.Usleep n) = true
 waits_mildly k (call.Sleep n) = true
 waits_mildly k (call.MutexAcquire m v e) = true
 waits_mildly k (call.RwAcquire l write v e) = true
+waits_mildly k (call.BarrierReach b) = true
 waits_mildly k (call.Read f n) = true
 waits_mildly k (call.ReadEv f n e) = true
 waits_mildly k (call.Write f bytes) = room k (fd_named f) == 0

@@ -31,6 +31,7 @@ pub fn waits_mildly(kernel: &Kernel, call: &Call) -> bool
         Call::Exit(_) | Call::Join(_) | Call::Wait(_) => true,
         Call::Nap(_) | Call::Usleep(_) | Call::Sleep(_) => true,
         Call::MutexAcquire { .. } | Call::RwAcquire { .. } => true,
+        Call::BarrierReach(_) => true,
         Call::Read { .. } | Call::ReadEv { .. } => true,
         Call::Accept(_) | Call::AcceptEv { .. } => true,
         Call::Connect(_) | Call::ConnectEv { .. } => true,

@@ -49,6 +49,7 @@ quiet-waits t (call.Select r w x l) a may = λ x. refl
 quiet-waits t (call.SelectEv r w x l e) a may = λ x. refl
 quiet-waits t (call.MutexAcquire m v e) a may = λ x. refl
 quiet-waits t (call.RwAcquire l write v e) a may = λ x. refl
+quiet-waits t (call.BarrierReach b) a may = λ x. refl
 quiet-waits t c a may = absurd may
 
 module _ {P S H : Type 0} (w : WorldOf P S H) (s : State P S H) (m : Mark) (quiet : IsQuiet m) where

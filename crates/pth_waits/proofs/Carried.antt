@@ -59,6 +59,7 @@ quiet_count t (call.Connect f) a may some = λ y x. refl
 quiet_count t (call.ConnectEv f e) a may some = λ y x. refl
 quiet_count t (call.Select r w x l) a may some = λ y z. refl
 quiet_count t (call.SelectEv r w x l e) a may some = λ y z. refl
+quiet_count t (call.BarrierReach b) a may some = λ y x. refl
 quiet_count t c a may some = absurd may
 
 module _ {P S H : Type 0} where

@@ -12,6 +12,7 @@ pub mod Unchanged
 pub mod IoCalls
 pub mod Canceling
 pub mod Acquiring
+pub mod Reaching
 pub mod Arrivals
 pub mod Dormancy
 pub mod Kernels

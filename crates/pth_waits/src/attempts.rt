@@ -12,6 +12,7 @@ ghost use Rattle.pth_world.specs.Numbering.{no_numbers};
 ghost use Rattle.pth_world.specs.Shows.{Shows};
 ghost use Rattle.pth_world.specs.Whole.{Whole};
 
+use crate::barriers::{reach_barrier, reach_barrier_again};
 use crate::io::{begin_io, io_again};
 use crate::joins::join;
 use crate::mutexes::{acquire_mutex, acquire_mutex_again};
@@ -50,6 +51,7 @@ pub fn attempt<P: Program>(
         Call::Wait(e) => Ok(Some(wait(w, t, *e))),
         Call::MutexAcquire { m, v, e } => Ok(Some(acquire_mutex(w, t, *m, *v, *e))),
         Call::RwAcquire { l, write, v, e } => Ok(Some(acquire_lock(w, t, *l, *write, *v, *e))),
+        Call::BarrierReach(b) => Ok(Some(reach_barrier(w, t, *b)?)),
         _ => begin_io(w, t, call),
     }
 }
@@ -80,6 +82,7 @@ pub(crate) fn attempt_again<P: Program>(
         Call::Wait(e) => Ok(Some(wait_again(w, t, e))),
         Call::MutexAcquire { m, .. } => Ok(Some(acquire_mutex_again(w, t, m))),
         Call::RwAcquire { l, write, .. } => Ok(Some(acquire_lock_again(w, t, l, write))),
+        Call::BarrierReach(b) => Ok(Some(reach_barrier_again(w, t, b, awaits.round()))),
         _ => Ok(Some(io_again(w, t, awaits)?)),
     }
 }

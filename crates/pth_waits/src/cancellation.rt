@@ -35,11 +35,14 @@ fn is_to_cancel(it: &Entry) -> bool
     it.request && is_enabled(it.cancel)
 }
 
-// Whether a wait is a cancellation point: each is one, but that of pth_exit.
+// Whether a wait is a cancellation point: each is one, but those of pth_exit and pth_barrier_reach.
 fn is_point(awaits: Awaits) -> bool
     ensures { result ≡ is_point_wait awaits }
 {
-    !matches!(awaits, Awaits::Nothing | Awaits::Alone)
+    !matches!(
+        awaits,
+        Awaits::Nothing | Awaits::Alone | Awaits::Round { .. }
+    )
 }
 
 // The same of a thread by its number; false where there is none.

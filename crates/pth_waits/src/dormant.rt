@@ -16,6 +16,7 @@ ghost use Rattle.pth_waits.specs.Dormant.{AreFoundPending, ArePending, IsDormant
 ghost use Rattle.pth_world.specs.Shows.{Shows, StandsFor};
 ghost use Rattle.pth_world.specs.Whole.{MayAwait, Whole};
 
+use crate::barriers::has_passed;
 use crate::cancellation::may_be_canceled_at;
 use crate::joins::{any_has_died, has_died};
 use crate::looks::is_as_goals_say;
@@ -106,6 +107,7 @@ fn awaits_until<P: Program>(w: &World<P>, slot: Slot, awaits: Awaits) -> Micros
         Awaits::Ring(_) => never(w),
         Awaits::Mutex(m) => never_unless(w, is_free_mutex(w, m)),
         Awaits::Lock { l, write } => never_unless(w, is_open_lock(w, l, write)),
+        Awaits::Round { b, round } => never_unless(w, has_passed(w, b, round)),
         _ => descriptors_until(w.kernel(), awaits),
     }
 }

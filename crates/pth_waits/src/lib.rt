@@ -1,7 +1,7 @@
 //! What the calls that may block their thread come to, how that is carried out, and whether a blocked thread is to wake.
 //!
-//! For every whole world, and every state for which it stands: an attempt at such a call (`attempts`, `joins`, `rests`,
-//! `ring_waits`, `io`, `mutexes`, `rwlocks`, `thread_ends`) comes to the verdict of its row, does what the row does, and
+//! For every whole world, and every state for which it stands: an attempt at such a call (`attempts`, `barriers`, `joins`,
+//! `rests`, `ring_waits`, `io`, `mutexes`, `rwlocks`, `thread_ends`) comes to the verdict of its row, does what the row does, and
 //! tells nothing. `carry_out` and `carry_on` (`verdicts`) do what follows from a verdict, as `begun_by` and `tried_by`
 //! say. `kill` and `cancel_point` begin as `begun` says. `resume` goes on with a thread that a call blocks, as `gone_on`
 //! says: it is canceled in the call if it may be, and else the call is tried again. What comes next for the thread, the
@@ -13,6 +13,7 @@
 #![tactic(auto)]
 
 pub mod attempts;
+mod barriers;
 mod blocks;
 pub mod cancellation;
 pub mod dormant;

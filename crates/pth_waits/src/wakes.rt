@@ -11,6 +11,7 @@ ghost use Rattle.pth_model.specs.Coming.{has_any_died, has_come};
 ghost use Rattle.pth_world.specs.Shows.{Shows, StandsFor};
 ghost use Rattle.pth_world.specs.Whole.{Whole, MayAwait};
 
+use crate::barriers::has_passed;
 use crate::cancellation::may_be_canceled_at;
 use crate::joins::{any_has_died, has_died};
 use crate::looks::look_at_ring;
@@ -39,6 +40,7 @@ fn has_come<P: Program>(w: &World<P>, slot: Slot, awaits: Awaits, any_dead: bool
         Awaits::Ring(_) => false,
         Awaits::Mutex(m) => is_free_mutex(w, m),
         Awaits::Lock { l, write } => is_open_lock(w, l, write),
+        Awaits::Round { b, round } => has_passed(w, b, round),
         _ => descriptors_bring(w.kernel(), awaits),
     }
 }

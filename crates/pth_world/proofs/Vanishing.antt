@@ -16,6 +16,7 @@ use Rattle.pth_lock.specs.Mutexes.{Mutex, MutexTable, free_mutex, has, is_anothe
 use Rattle.pth_lock.specs.RwLocks.{LockTables, is_one, locks_left, without_slot}
 use Rattle.pth_store.specs.Cleanups.{Stacks}
 use Rattle.pth_store.specs.Keys.{Tables}
+use Rattle.pth_cond.specs.Barriers.{Barrier, barriers_of, all_withdrawn}
 use Rattle.pth_ring.specs.Arena.{RingsOf, events_of}
 use Rattle.pth_ring.specs.Rings.{all_unclaimed}
 use Rattle.pth_threads.specs.Threads.{slot_of, tid_at, tid_of, entry_at, RemovesThread}
@@ -146,7 +147,7 @@ only-stored t s nothing counted = same_store
 vanish-removed : {P S H : Type 0} (t u : ℕ) (k : Control P S H) → u ≢ t → vanish_all_but t (removes u k) ≡ vanish_all_but t k
 unfolding vanish_all_but leaves_queue forgets
 vanish-removed {S = S} t u k apart =
-    ap₂ (λ (known : ℕ → Option Entry) (progress : ℕ → Option (Progress S)). record k { threads = record k.threads { known = known; progress = progress; standing = λ q. [] }; events = all_unclaimed k.events })
+    ap₂ (λ (known : ℕ → Option Entry) (progress : ℕ → Option (Progress S)). record k { threads = record k.threads { known = known; progress = progress; standing = λ q. [] }; events = all_unclaimed k.events; barriers = all_withdrawn k.barriers })
     (only-put t u k.threads.known None apart) (only-put t u k.threads.progress None apart)
 
 -- ---- one thread of a queue
@@ -275,10 +276,10 @@ module _ {P S H : Type 0} (w : WorldOf P S H) (t : ℕ) (whole : Whole w) (is : 
       let nothing : (i : ℕ) → i ≢ t → HasNothing (store_of w.store) i = λ i apart. whole.stored i (ap lives (sym (not_here w.threads i (nobody i apart)))) in
       only-stored t (store_of w.store) nothing (counted nobody (spare_nothing w whole))
 
-  -- so nothing vanishes but the claims
-  vanish_rest : (e : RingsOf) → events_of e ≡ all_unclaimed (events_of w.events) → (k : Control P S H) → Shows w k → Shows (record w { events = e }) (vanish_all_but t k)
+  -- so nothing vanishes but the claims and the arrivals
+  vanish_rest : (e : RingsOf) → events_of e ≡ all_unclaimed (events_of w.events) → (b : List (Option Barrier)) → barriers_of b ≡ all_withdrawn (barriers_of w.barriers) → (k : Control P S H) → Shows w k → Shows (record w { events = e; barriers = b }) (vanish_all_but t k)
   unfolding vanish_all_but shown order
-  vanish_rest e unclaimed k sh = record {
+  vanish_rest e unclaimed b withdrawn k sh = record {
     program = sh.program;
     shared = sh.shared;
     threads = record {
@@ -289,6 +290,7 @@ module _ {P S H : Type 0} (w : WorldOf P S H) (t : ℕ) (whole : Whole w) (is : 
     };
     attributes = sh.attributes;
     events = ap all_unclaimed sh.events ∙ sym unclaimed;
+    barriers = ap all_withdrawn sh.barriers ∙ sym withdrawn;
     kernel = sh.kernel;
     used = sh.used;
     scheduler = sh.scheduler;
@@ -318,7 +320,7 @@ module _ {P S H : Type 0} (u a b c d v : WorldOf P S H)
   pub vanish_store : (t : ℕ) → u.scheduler.running ≡ Some t → ReadsAlone v t → store_of v.store ≡ store_of_only t (store_of u.store)
   vanish_store t is counted = sym (rest_store v t vanish_all.whole (vanish_runs t is) none counted) ∙ vanish_all.store t is
 
-  pub vanish_shows : (e : RingsOf) → events_of e ≡ all_unclaimed (events_of v.events) → (t : ℕ) → u.scheduler.running ≡ Some t → (k : Control P S H) → Shows u k → Shows (record v { events = e }) (vanish_all_but t k)
-  vanish_shows e unclaimed t is k sh =
+  pub vanish_shows : (e : RingsOf) → events_of e ≡ all_unclaimed (events_of v.events) → (b : List (Option Barrier)) → barriers_of b ≡ all_withdrawn (barriers_of v.barriers) → (t : ℕ) → u.scheduler.running ≡ Some t → (k : Control P S H) → Shows u k → Shows (record v { events = e; barriers = b }) (vanish_all_but t k)
+  vanish_shows e unclaimed b withdrawn t is k sh =
       let x : ShowsRest t v k = vanish_all.shows t is k sh in
-      subst (λ (j : Control P S H). Shows (record v { events = e }) j) x.same (vanish_rest v t vanish_all.whole (vanish_runs t is) none e unclaimed x.rest x.shows)
+      subst (λ (j : Control P S H). Shows (record v { events = e; barriers = b }) j) x.same (vanish_rest v t vanish_all.whole (vanish_runs t is) none e unclaimed b withdrawn x.rest x.shows)

@@ -12,7 +12,6 @@ use Rattle.pth_model.specs.Resources.{Store, no_resources, told}
 use Rattle.pth_model.specs.RingWaits.{claims}
 use Rattle.pth_model.specs.State.{Control, State}
 use Rattle.pth_model.specs.Transition.{Transition, Last, controlled, silent, tells, tid, ◌and_then◌}
-use Rattle.pth_model.specs.declared.awaits.Awaits.{Awaits}
 use Rattle.pth_model.specs.declared.blocked.Blocked.{Blocked}
 use Rattle.pth_model.specs.declared.next.Next.{Next}
 use Rattle.pth_model.specs.declared.verdict.Verdict.{Verdict}

@@ -13,7 +13,7 @@ use Rattle.pth_queue.specs.declared.queue.Queue.TheVariants as queue
 use Rattle.pth_threads.specs.Threads.{slot_of, tid_at, entry_at}
 use Rattle.pth_threads.specs.declared.entry.Entry.{Entry}
 use Rattle.pth_model.specs.declared.awaits.Awaits.{Awaits}
-use Rattle.pth_model.specs.declared.awaits.Awaits.TheVariants.{Alone, Moment, Ring, Reading, Writing, Connection, ConnectAnswer, Selection, Mutex, Lock}
+use Rattle.pth_model.specs.declared.awaits.Awaits.TheVariants.{Alone, Moment, Ring, Reading, Writing, Connection, ConnectAnswer, Selection, Mutex, Lock, Round}
 use Rattle.pth_model.specs.declared.blocked.Blocked.{Blocked}
 use Rattle.pth_model.specs.Awaits.{death_of}
 use Rattle.pth_model.specs.State.{main}
@@ -51,8 +51,13 @@ abbrev pub IsSelection : (r w x : FdSet) → Awaits → Type 0
 IsSelection r w x (Selection a b c deadline) = (a ≡ r) × (b ≡ w) × (c ≡ x) × IfSome deadline (λ m. m ≤ last_moment)
 IsSelection r w x a = ⊥
 
+-- a wait at this barrier
+abbrev pub IsRound : ℤ → Awaits → Type 0
+IsRound b (Round c round) = c ≡ b
+IsRound b a = ⊥
+
 -- What a call that blocks thread t waits for. Of those that are built, these block it: main's exit, every join, and the calls that wait
--- for a moment, for a ring, for a descriptor, for a mutex or for a lock.
+-- for a moment, for a ring, for a descriptor, for a mutex, for a lock or at a barrier.
 abbrev pub MayAwaitAs : ℕ → Call → Awaits → Type 0
 MayAwaitAs t (call.Exit v) a = (t ≡ main) × (a ≡ Alone)
 MayAwaitAs t (call.Join n) a = a ≡ death_of n
@@ -72,6 +77,7 @@ MayAwaitAs t (call.Select r w x l) a = IsSelection r w x a
 MayAwaitAs t (call.SelectEv r w x l e) a = IsSelection r w x a
 MayAwaitAs t (call.MutexAcquire m v e) a = a ≡ Mutex m
 MayAwaitAs t (call.RwAcquire l write v e) a = a ≡ Lock l write
+MayAwaitAs t (call.BarrierReach b) a = IsRound b a
 MayAwaitAs t c a = ⊥
 
 -- so a call may block thread t

@@ -14,6 +14,7 @@ ghost use Rattle.pth_world.specs.Sound.{IsSound, IsPrio, IsKnown};
 ghost use Rattle.pth_world.specs.Whole.{Whole, WholeBut, IsAbout, IsRunner};
 
 mod attributes;
+mod barriers;
 mod counts;
 mod events;
 mod handlers;
@@ -30,6 +31,7 @@ mod vanishing;
 
 use pth_base::ids::{Slot, Tid};
 use pth_base::program::Program;
+use pth_cond::barriers::Barriers;
 use pth_kernel::kernel::Kernel;
 use pth_lock::mutexes::Mutexes;
 use pth_lock::rwlocks::RwLocks;
@@ -45,7 +47,7 @@ use std::alloc::Global;
 use std::marker::Model;
 
 /// The program with its threads: their records, their queues and how far each is in its program, their attribute objects,
-/// events and rings of them, the kernel, what they stored and locked, the once controls that were used, and what the scheduler
+/// events and rings of them, the barriers, the kernel, what they stored and locked, the once controls that were used, and what the scheduler
 /// keeps of them.
 pub struct World<P: Program> {
     alloc: Global,
@@ -56,6 +58,7 @@ pub struct World<P: Program> {
     progress: ProgressTable<P::State>,
     attributes: Attrs,
     events: Rings,
+    barriers: Barriers,
     kernel: Kernel,
     // By slot. What stands at a slot that is not used counts for nothing.
     keys: Keys,
@@ -80,6 +83,7 @@ impl<P: Program> Drop for World<P> {
             progress: _,
             attributes: _,
             events: _,
+            barriers: _,
             kernel: _,
             keys: _,
             cleanups: _,
@@ -111,6 +115,7 @@ impl<P: Program> Model for World<P> {
       threads = record { records = w.threads; queues = w.queues; progress = w.progress };
       attributes = w.attributes;
       events = w.events;
+      barriers = w.barriers;
       kernel = w.kernel;
       store = stored_by w.threads (tables_of w.keys) (stacks_of w.cleanups) (mutexes_of w.mutexes) (locks_of w.rw_locks);
       used = w.used;

@@ -34,6 +34,7 @@ use pth_base::memory::OutOfMemory;
 use pth_base::name::Name;
 use pth_base::program::Program;
 use pth_base::thread::ThreadState;
+use pth_cond::barriers::Barriers;
 use pth_kernel::kernel::Kernel;
 use pth_lock::mutexes::Mutexes;
 use pth_lock::rwlocks::RwLocks;
@@ -112,6 +113,7 @@ impl<P: Program> World<P> {
         let threads = Threads::new(alloc);
         let attributes = Attrs::new(alloc);
         let events = Rings::new(alloc);
+        let barriers = Barriers::new(alloc);
         let keys = Keys::new(alloc);
         let cleanups = Cleanups::new(alloc);
         World {
@@ -121,6 +123,7 @@ impl<P: Program> World<P> {
             threads,
             attributes,
             events,
+            barriers,
             kernel,
             queues: room.queues,
             progress: room.progress,

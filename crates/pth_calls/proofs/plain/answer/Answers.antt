@@ -32,6 +32,7 @@ returns-in_default-clause-told g c =
       cleanups = not.not-Cleanups;
       mutexes = not.not-Mutexes;
       rwlocks = not.not-Rwlocks;
+      barriers = not.not-Barriers;
       io = not.not-Io;
     }) in
     let none = ap is_of_code (sym c.facility.ensures ∙ c.in-Some.is) ∙ other in
@@ -52,6 +53,9 @@ returns-in-Events-clause-told g c = each_told c.args.w.now c.answer_events.new.w
 
 pub returns-in-Utilities-clause-told : goal.returns-in-Utilities-clause-told
 returns-in-Utilities-clause-told g c = answered_told c.args.w.now c.answer_utilities.new.w _ _ _ (c.answer_utilities.ensures.quiet c.args.t.0) (c.answer_utilities.ensures.answered c.args.t.0)
+
+pub returns-in-Barriers-clause-told : goal.returns-in-Barriers-clause-told
+returns-in-Barriers-clause-told g c = each_told c.args.w.now c.answer_barriers.new.w (Answered c.args.t c.args.call.now) c.answer_barriers.result _ c.answer_barriers.ensures.quiet c.answer_barriers.ensures.answered
 
 pub returns-in-Io-clause-told : goal.returns-in-Io-clause-told
 returns-in-Io-clause-told g c = answered_told c.args.w.now c.answer_descriptors.new.w _ _ _ (c.answer_descriptors.ensures.quiet c.args.t.0) (c.answer_descriptors.ensures.answered c.args.t.0)
@@ -94,6 +98,9 @@ returns-in-Mutexes-clause-frame g c = frame_as no_numbers one_of_each c.args.w.n
 
 pub returns-in-Rwlocks-clause-frame : goal.returns-in-Rwlocks-clause-frame
 returns-in-Rwlocks-clause-frame g c = frame_as no_numbers one_of_each c.args.w.now c.answer_rwlocks.new.w _ _ (λ k. omega arith) refl c.answer_rwlocks.ensures.frame
+
+pub returns-in-Barriers-clause-frame : goal.returns-in-Barriers-clause-frame
+returns-in-Barriers-clause-frame g c = on_ok_weaker c.answer_barriers.result (λ told. frame_as no_numbers one_of_each c.args.w.now c.answer_barriers.new.w _ _ (λ k. omega arith) refl told) c.answer_barriers.ensures.frame
 
 pub returns-in-Io-clause-frame : goal.returns-in-Io-clause-frame
 returns-in-Io-clause-frame g c = frame_as no_numbers one_of_each c.args.w.now c.answer_descriptors.new.w _ _ (λ k. omega arith) c.requires.runs c.answer_descriptors.ensures.frame

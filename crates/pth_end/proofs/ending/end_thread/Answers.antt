@@ -6,49 +6,56 @@ use Rattle.pth_world.proofs.Stores.{alive_known}
 use Rattle.pth_world.specs.Store.{store_of}
 use Rattle.pth_world.specs.World.{WorldOf}
 use Rattle.pth_end.proofs.Chains.{cut_one, cut_second}
-use Rattle.pth_end.proofs.Ends.{wait_undone, dies_leads, end_frame, end_leads, cut_cleaning, cut_giving, cut_later, leaving, undone_frame}
+use Rattle.pth_end.proofs.Ends.{dies_leads, end_frame, end_leads, cut_cleaning, cut_giving, cut_later, cut_undone, cut_waiting, leaving}
+use Rattle.pth_end.proofs.WaitUndone.{alive_by}
 use Rattle.pth_end.proofs.Handled.{handled_then, if_answered}
 use Rattle.pth_end.proofs.ending.end_thread.Goals as goal
 
-pub unblock-requires-clause-known : goal.unblock-requires-clause-known
-unblock-requires-clause-known g c = alive_known c.args.w.now.threads c.args.t.0 c.requires.alive
+pub run_cleanups-requires-clause-alive : goal.run_cleanups-requires-clause-alive
+run_cleanups-requires-clause-alive g c = alive_by c.args.w.now.threads c.undo_wait.new.w.threads c.args.t.0 c.in_ok-undo_wait.ensures.records c.requires.alive
 
 pub forget-requires-clause-known : goal.forget-requires-clause-known
 forget-requires-clause-known g c =
-    let records = ap (λ (z : WorldOf _ _ _). z.threads.records) c.in_ok-give_all.ensures.handled.same ∙ ap (λ (z : WorldOf _ _ _). z.threads.records) c.in_ok-run_destructors.ensures.handled.same ∙ ap (λ (z : WorldOf _ _ _). z.threads.records) c.in_ok-run_cleanups.ensures.handled.same ∙ ap (λ (z : WorldOf _ _ _). z.threads.records) c.unblock.ensures.same in
+    let records = ap (λ (z : WorldOf _ _ _). z.threads.records) c.in_ok-give_all.ensures.handled.same ∙ ap (λ (z : WorldOf _ _ _). z.threads.records) c.in_ok-run_destructors.ensures.handled.same ∙ ap (λ (z : WorldOf _ _ _). z.threads.records) c.in_ok-run_cleanups.ensures.handled.same ∙ c.in_ok-undo_wait.ensures.records in
     rw records (alive_known c.args.w.now.threads c.args.t.0 c.requires.alive)
 
 pub leave-requires-clause-known : goal.leave-requires-clause-known
 leave-requires-clause-known g c =
-    let records = ap (λ (z : WorldOf _ _ _). z.threads.records) c.forget.ensures.keeps.same ∙ ap (λ (z : WorldOf _ _ _). z.threads.records) c.in_ok-give_all.ensures.handled.same ∙ ap (λ (z : WorldOf _ _ _). z.threads.records) c.in_ok-run_destructors.ensures.handled.same ∙ ap (λ (z : WorldOf _ _ _). z.threads.records) c.in_ok-run_cleanups.ensures.handled.same ∙ ap (λ (z : WorldOf _ _ _). z.threads.records) c.unblock.ensures.same in
+    let records = ap (λ (z : WorldOf _ _ _). z.threads.records) c.forget.ensures.keeps.same ∙ ap (λ (z : WorldOf _ _ _). z.threads.records) c.in_ok-give_all.ensures.handled.same ∙ ap (λ (z : WorldOf _ _ _). z.threads.records) c.in_ok-run_destructors.ensures.handled.same ∙ ap (λ (z : WorldOf _ _ _). z.threads.records) c.in_ok-run_cleanups.ensures.handled.same ∙ c.in_ok-undo_wait.ensures.records in
     rw records (alive_known c.args.w.now.threads c.args.t.0 c.requires.alive)
+
+pub returns-in_err-undo_wait-clause-err : goal.returns-in_err-undo_wait-clause-err
+returns-in_err-undo_wait-clause-err g c =
+    let p = err_from_is_err_and c.from_residual.result c.from_residual.ensures.1 in
+    rw p.1 (λ s st. cut_waiting g.P.Program.functions c.args.t.0 c.args.value s _ _ (c.in_err-undo_wait.ensures.err s st))
 
 pub returns-in_err-run_cleanups-clause-err : goal.returns-in_err-run_cleanups-clause-err
 returns-in_err-run_cleanups-clause-err g c =
-    let p = err_from_is_err_and c.from_residual.result c.from_residual.ensures.1 in
+    let f = g.P.Program.functions in
+    let p = err_from_is_err_and c.from_residual-in_err-run_cleanups.result c.from_residual-in_err-run_cleanups.ensures.1 in
     rw p.1 (λ s st.
-    let waits = wait_undone c.args.w.now c.unblock.new.self c.args.t.0 s (c.unblock.ensures.shows s.control st.control) (ap (λ (z : WorldOf _ _ _). z.store) c.unblock.ensures.same) st in
-    cut_cleaning g.P.Program.functions c.args.t.0 c.args.value s _ _ (c.in_err-run_cleanups.ensures.err _ waits))
+    let undone = c.in_ok-undo_wait.ensures.ok s st in
+    cut_undone f c.args.t.0 c.args.value c.undo_wait.new.w s _ _ _ undone (cut_cleaning f c.args.t.0 c.args.value s _ _ (c.in_err-run_cleanups.ensures.err _ undone.stands)))
 
 pub returns-in_err-run_destructors-clause-err : goal.returns-in_err-run_destructors-clause-err
 returns-in_err-run_destructors-clause-err g c =
     let f = g.P.Program.functions in
     let p = err_from_is_err_and c.from_residual-in_err-run_destructors.result c.from_residual-in_err-run_destructors.ensures.1 in
     rw p.1 (λ s st.
-    let waits = wait_undone c.args.w.now c.unblock.new.self c.args.t.0 s (c.unblock.ensures.shows s.control st.control) (ap (λ (z : WorldOf _ _ _). z.store) c.unblock.ensures.same) st in
-    let cleaned = c.in_ok-run_cleanups.ensures.ok _ waits in
-    cut_later f c.args.t.0 c.args.value c.run_cleanups.new.w s _ _ _ cleaned (cut_one _ (runs_destructors f c.args.t.0) (leaving f c.args.t.0 c.args.value) _ _ (c.in_err-run_destructors.ensures.err _ cleaned.stands)))
+    let undone = c.in_ok-undo_wait.ensures.ok s st in
+    let cleaned = c.in_ok-run_cleanups.ensures.ok _ undone.stands in
+    cut_undone f c.args.t.0 c.args.value c.undo_wait.new.w s _ _ _ undone (cut_later f c.args.t.0 c.args.value c.run_cleanups.new.w s _ _ _ cleaned (cut_one _ (runs_destructors f c.args.t.0) (leaving f c.args.t.0 c.args.value) _ _ (c.in_err-run_destructors.ensures.err _ cleaned.stands))))
 
 pub returns-in_err-give_all-clause-err : goal.returns-in_err-give_all-clause-err
 returns-in_err-give_all-clause-err g c =
     let f = g.P.Program.functions in
     let p = err_from_is_err_and c.from_residual-in_err-give_all.result c.from_residual-in_err-give_all.ensures.1 in
     rw p.1 (λ s st.
-    let waits = wait_undone c.args.w.now c.unblock.new.self c.args.t.0 s (c.unblock.ensures.shows s.control st.control) (ap (λ (z : WorldOf _ _ _). z.store) c.unblock.ensures.same) st in
-    let cleaned = c.in_ok-run_cleanups.ensures.ok _ waits in
+    let undone = c.in_ok-undo_wait.ensures.ok s st in
+    let cleaned = c.in_ok-run_cleanups.ensures.ok _ undone.stands in
     let destructed = c.in_ok-run_destructors.ensures.ok _ cleaned.stands in
-    cut_later f c.args.t.0 c.args.value c.run_cleanups.new.w s _ _ _ cleaned (cut_giving f c.args.t.0 c.args.value c.run_destructors.new.w s _ _ _ destructed
-    (cut_one _ (gives_all c.args.t.0) (dies c.args.t.0 c.args.value) _ _ (c.in_err-give_all.ensures.err _ destructed.stands))))
+    cut_undone f c.args.t.0 c.args.value c.undo_wait.new.w s _ _ _ undone (cut_later f c.args.t.0 c.args.value c.run_cleanups.new.w s _ _ _ cleaned (cut_giving f c.args.t.0 c.args.value c.run_destructors.new.w s _ _ _ destructed
+    (cut_one _ (gives_all c.args.t.0) (dies c.args.t.0 c.args.value) _ _ (c.in_err-give_all.ensures.err _ destructed.stands)))))
 
 pub returns-clause-ok : goal.returns-clause-ok
 returns-clause-ok g c =
@@ -56,29 +63,29 @@ returns-clause-ok g c =
     let f = g.P.Program.functions in
     let left = simp to_z-of_z at c.leave.ensures.shows in
     on_ok_weaker c.push.result (λ told s st.
-    let waits = wait_undone c.args.w.now c.unblock.new.self c.args.t.0 s (c.unblock.ensures.shows s.control st.control) (ap (λ (z : WorldOf _ _ _). z.store) c.unblock.ensures.same) st in
-    let cleaned = c.in_ok-run_cleanups.ensures.ok _ waits in
+    let undone = c.in_ok-undo_wait.ensures.ok s st in
+    let cleaned = c.in_ok-run_cleanups.ensures.ok _ undone.stands in
     let destructed = c.in_ok-run_destructors.ensures.ok _ cleaned.stands in
     let gave = c.in_ok-give_all.ensures.ok _ destructed.stands in
     let stored = ap (λ (z : WorldOf _ _ _). store_of z.store) c.leave.ensures.moves.same ∙ c.forget.ensures.changes in
     let died = dies_leads f c.args.t.0 c.args.value c.give_all.new.w c.leave.new.self _ _ _ gave.stands (left _ (c.forget.ensures.keeps.shows _ gave.stands.control)) stored told in
-    end_leads f c.args.t.0 c.args.value c.run_cleanups.new.w c.run_destructors.new.w c.give_all.new.w c.leave.new.self s _ _ _ _ _ cleaned destructed gave died) (simp to_z-of_z at c.push.ensures.ok)
+    end_leads f c.args.t.0 c.args.value c.undo_wait.new.w c.run_cleanups.new.w c.run_destructors.new.w c.give_all.new.w c.leave.new.self s _ _ _ _ _ _ undone cleaned destructed gave died) (simp to_z-of_z at c.push.ensures.ok)
 
 pub returns-clause-err : goal.returns-clause-err
 returns-clause-err g c =
     let f = g.P.Program.functions in
     on_err_weaker c.push.result (λ same s st.
-    let waits = wait_undone c.args.w.now c.unblock.new.self c.args.t.0 s (c.unblock.ensures.shows s.control st.control) (ap (λ (z : WorldOf _ _ _). z.store) c.unblock.ensures.same) st in
-    let cleaned = c.in_ok-run_cleanups.ensures.ok _ waits in
+    let undone = c.in_ok-undo_wait.ensures.ok s st in
+    let cleaned = c.in_ok-run_cleanups.ensures.ok _ undone.stands in
     let destructed = c.in_ok-run_destructors.ensures.ok _ cleaned.stands in
     let gave = c.in_ok-give_all.ensures.ok _ destructed.stands in
-    cut_later f c.args.t.0 c.args.value c.run_cleanups.new.w s _ _ _ cleaned (cut_giving f c.args.t.0 c.args.value c.run_destructors.new.w s _ _ _ destructed
-    (cut_second c.give_all.new.w _ (gives_all c.args.t.0) (dies c.args.t.0 c.args.value) _ _ _ gave (cut_none _ _ _ same)))) c.push.ensures.err
+    cut_undone f c.args.t.0 c.args.value c.undo_wait.new.w s _ _ _ undone (cut_later f c.args.t.0 c.args.value c.run_cleanups.new.w s _ _ _ cleaned (cut_giving f c.args.t.0 c.args.value c.run_destructors.new.w s _ _ _ destructed
+    (cut_second c.give_all.new.w _ (gives_all c.args.t.0) (dies c.args.t.0 c.args.value) _ _ _ gave (cut_none _ _ _ same))))) c.push.ensures.err
 
 pub returns-clause-frame : goal.returns-clause-frame
 returns-clause-frame g c =
-    let a = c.unblock.new.self in
-    let undone = undone_frame c.args.w.now a (c.unblock.ensures.whole c.requires.whole) c.unblock.ensures.made c.unblock.ensures.same in
+    let a = c.undo_wait.new.w in
+    let undone = c.in_ok-undo_wait.ensures.frame in
     let cleaned = handled_then a _ _ c.in_ok-run_cleanups.ensures.handled c.in_ok-run_destructors.ensures.handled in
     let handled = handled_then a _ _ cleaned c.in_ok-give_all.ensures.handled in
     if_answered c.push.result (end_frame c.args.w.now a c.args.t.0 c.give_all.new.w c.forget.new.self c.leave.new.self undone handled c.forget.ensures.keeps c.leave.ensures.moves)

@@ -1,5 +1,6 @@
+use Rattle.pth_laws.proofs.Arrivals.{run_arrived}
 use Rattle.pth_laws.proofs.EveryRun.{run_clean}
 use Rattle.pth_laws.proofs.runs.every_run_is_clean.Goals as goal
 
 pub returns : goal.returns
-returns p c = λ g i on. run_clean p.P.Program.functions g i on
+returns p c = λ g i on. let f = p.P.Program.functions in run_clean f g i on (λ b round t h. run_arrived f g i b round t h)

@@ -63,6 +63,12 @@ returns-in-RwAcquire-clause-attempts g c =
     let e : SFits w64 c.in-RwAcquire.e = search rules in
     rw c.in-RwAcquire.is (simp to_z-of_z at c.acquire_lock.ensures.attempts)
 
+pub returns-in_ok-reach_barrier-in-BarrierReach-clause-attempts : goal.returns-in_ok-reach_barrier-in-BarrierReach-clause-attempts
+unfolding row_of
+returns-in_ok-reach_barrier-in-BarrierReach-clause-attempts g c =
+    let b : SFits w64 c.in-BarrierReach.b = search rules in
+    rw c.in-BarrierReach.is (simp to_z-of_z at c.in_ok-reach_barrier-in-BarrierReach.ensures.attempts)
+
 pub returns-in_default : goal.returns-in_default
 returns-in_default g c =
     let call = c.args.call.now in
@@ -75,7 +81,7 @@ returns-in_default g c =
       never = IfOk-weaker c.begin_io.result _ _ (λ o is none.
           let here : is_some (first_awaited s call) ≡ false = sym (is s st) ∙ ap is_some none in
           record {
-            away = others_never s call (none_is _ here) d.not-Join d.not-Exit d.not-Nap d.not-Usleep d.not-Sleep d.not-Wait d.not-MutexAcquire d.not-RwAcquire;
+            away = others_never s call (none_is _ here) d.not-Join d.not-Exit d.not-Nap d.not-Usleep d.not-Sleep d.not-Wait d.not-MutexAcquire d.not-RwAcquire d.not-BarrierReach;
             elsewhere = λ u. none_is _ (sym (same_elsewhere s call u) ∙ here);
           }) c.begin_io.ensures.descriptors;
       same = c.begin_io.ensures.same;

@@ -1,7 +1,8 @@
 use Rattle.std.proofs.Common.{◌≡◌, ◌∙◌, is_some, Some, option_copied, ap, sym, subst, refl, rules, SFits, w64, to_z-of_z}
-use Rattle.pth_base.specs.declared.call.Call.TheVariants.{Exit, Join, MutexAcquire, Nap, RwAcquire, Sleep, Usleep, Wait}
+use Rattle.pth_base.specs.declared.call.Call.TheVariants.{BarrierReach, Exit, Join, MutexAcquire, Nap, RwAcquire, Sleep, Usleep, Wait}
 use Rattle.pth_model.specs.declared.blocked.Blocked.{Blocked}
 use Rattle.pth_model.specs.Resources.{answer_told, told}
+use Rattle.pth_model.specs.Awaits.{round_in}
 use Rattle.pth_model.specs.Rows.{row_of}
 use Rattle.pth_world.specs.Leading.{Tries}
 use Rattle.pth_waits.proofs.Attempted.{descriptors_else, tries_as, tries_at}
@@ -85,6 +86,16 @@ returns-in-RwAcquire-clause-tries g c k b sh has =
     tries_at _ _ c.args.t.0 b (RwAcquire c.in-RwAcquire.l c.in-RwAcquire.write c.in-RwAcquire.v c.in-RwAcquire.e) (λ d a s. (row_of g.P.Program.functions s c.args.t.0 d).again a) _ is
     ((simp to_z-of_z at c.acquire_lock_again.ensures.tries) c.in-RwAcquire.v c.in-RwAcquire.e)
 
+pub returns-in-BarrierReach-clause-tries : goal.returns-in-BarrierReach-clause-tries
+unfolding row_of
+returns-in-BarrierReach-clause-tries g c k b sh has =
+    let x : SFits w64 c.in-BarrierReach.b = search rules in
+    let same : Some c.in-Some.blocked.now ≡ Some b = ap (λ o. option_copied o) (sym c.in-Some.is) ∙ c.blocked.ensures.blocked k sh ∙ has in
+    let e : b ≡ c.in-Some.blocked.now = cc in
+    let is : b.call ≡ BarrierReach c.in-BarrierReach.b = ap (λ (x : Blocked). x.call) e ∙ c.in-BarrierReach.is in
+    let round : round_in b.awaits ≡ c.round.result = ap (λ (x : Blocked). round_in x.awaits) e ∙ sym c.round.ensures in
+    tries_as _ _ c.args.t.0 b (BarrierReach c.in-BarrierReach.b) (λ d a s. (row_of g.P.Program.functions s c.args.t.0 d).again a) _ is ((simp to_z-of_z at c.reach_barrier_again.ensures.tries) b.awaits round)
+
 pub returns-in_ok-io_again-in_default-call : goal.returns-in_ok-io_again-in_default-call
 returns-in_ok-io_again-in_default-call g c =
     let t = c.args.t.0 in
@@ -96,7 +107,7 @@ returns-in_ok-io_again-in_default-call g c =
           let same : Some held ≡ Some b = ap (λ o. option_copied o) (sym c.in-Some.is) ∙ c.blocked.ensures.blocked k sh ∙ has in
           let e : held ≡ b = cc in
           subst (λ (x : Blocked). Tries c.args.w.now c.io_again.new.w t x (λ s. (row_of g.P.Program.functions s t x.call).again x.awaits) c.in_ok-io_again-in_default-call.field-0) e
-          (c.in_ok-io_again-in_default-call.ensures.tries held.call (λ s. descriptors_else s t held.call held.awaits may d.not-Join d.not-Exit d.not-Nap d.not-Usleep d.not-Sleep d.not-Wait d.not-MutexAcquire d.not-RwAcquire) may);
+          (c.in_ok-io_again-in_default-call.ensures.tries held.call (λ s. descriptors_else s t held.call held.awaits may d.not-Join d.not-Exit d.not-Nap d.not-Usleep d.not-Sleep d.not-Wait d.not-MutexAcquire d.not-RwAcquire d.not-BarrierReach) may);
       blocked = λ k sh. ap is_some (ap (λ o. option_copied o) (sym c.in-Some.is) ∙ c.blocked.ensures.blocked k sh);
       same = λ none. absurd (cc none);
       frame = c.in_ok-io_again-in_default-call.ensures.frame;

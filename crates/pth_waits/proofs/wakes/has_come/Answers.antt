@@ -24,3 +24,8 @@ pub returns-in-Lock : goal.returns-in-Lock
 returns-in-Lock g c s st =
     let l : SFits w64 c.in-Lock.l = search rules in
     rw c.in-Lock.is ((rw to_z-of_z at c.is_open_lock.ensures) s st)
+
+pub returns-in-Round : goal.returns-in-Round
+returns-in-Round g c s st =
+    let b : SFits w64 c.in-Round.b = search rules in
+    rw c.in-Round.is ((rw to_z-of_z at c.has_passed.ensures) s.control st.control)

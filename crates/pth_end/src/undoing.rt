@@ -1,0 +1,72 @@
+//! How the wait of a thread is undone as the thread ends.
+
+ghost use Rattle.std.specs.Prelude.{◌≡◌, false, OnOk, OnErr};
+ghost use Rattle.pth_base.specs.Cut.{IsCut};
+ghost use Rattle.pth_model.specs.Barriers.{withdraws, withdraws_from};
+ghost use Rattle.pth_model.specs.Changes.{blocked_of};
+ghost use Rattle.pth_model.specs.Awaits.{awaits_in};
+ghost use Rattle.pth_model.specs.Ending.{undoes_wait};
+ghost use Rattle.pth_model.specs.State.{State};
+ghost use Rattle.pth_world.specs.Frame.{Frame};
+ghost use Rattle.pth_world.specs.Leading.{Leads};
+ghost use Rattle.pth_world.specs.Numbering.{no_numbers};
+ghost use Rattle.pth_world.specs.Shows.{StandsFor};
+ghost use Rattle.pth_world.specs.Sound.{IsAlive};
+ghost use Rattle.pth_world.specs.Whole.{Whole};
+
+use pth_base::ids::Tid;
+use pth_base::mark::Mark;
+use pth_base::marks::Marks;
+use pth_base::memory::OutOfMemory;
+use pth_base::program::Program;
+use pth_model::awaits::Awaits;
+use pth_world::world::World;
+
+// Takes the arrival of a thread at a barrier back, if it waits there, and tells that.
+fn withdraw<P: Program>(
+    w: &mut World<P>,
+    t: Tid,
+    b: i64,
+    marks: &mut Marks,
+) -> Result<(), OutOfMemory>
+    ensures ok { OnOk result ((s : State P P.State P.Shared) → StandsFor w.old s → Leads w.new marks.old marks.new (withdraws t.0 b s)) }
+    ensures err { OnErr result ((s : State P P.State P.Shared) → StandsFor w.old s → IsCut marks.old marks.new (withdraws t.0 b s).marks) }
+    ensures same { w.new ≡ record w.old { barriers = w.new.barriers } }
+{
+    match w.barriers_mut().withdraw(b, t) {
+        None => Ok(()),
+        Some(barrier) => marks.push(Mark::Withdrew { tid: t, barrier }),
+    }
+}
+
+// Takes the arrival back that a thread awaits the round of, if it awaits one.
+fn withdraw_awaited<P: Program>(
+    w: &mut World<P>,
+    t: Tid,
+    marks: &mut Marks,
+) -> Result<(), OutOfMemory>
+    requires whole { Whole w.old }
+    ensures ok { OnOk result ((s : State P P.State P.Shared) → StandsFor w.old s → Leads w.new marks.old marks.new (withdraws_from t.0 (awaits_in (blocked_of s.control t.0)) s)) }
+    ensures err { OnErr result ((s : State P P.State P.Shared) → StandsFor w.old s → IsCut marks.old marks.new (withdraws_from t.0 (awaits_in (blocked_of s.control t.0)) s).marks) }
+    ensures same { w.new ≡ record w.old { barriers = w.new.barriers } }
+{
+    match w.awaited(t).what {
+        Awaits::Round { b, .. } => withdraw(w, t, b, marks),
+        _ => Ok(()),
+    }
+}
+
+/// The wait of a thread that ends is undone: its arrival at a barrier is taken back, which is told, the call that blocks it is taken
+/// out, and the claim on its ring is given back. After an error the world may only be dropped.
+pub fn undo_wait<P: Program>(w: &mut World<P>, t: Tid, marks: &mut Marks) -> Result<(), OutOfMemory>
+    requires whole { Whole w.old }
+    requires alive { IsAlive w.old.threads t.0 }
+    ensures ok { OnOk result ((s : State P P.State P.Shared) → StandsFor w.old s → Leads w.new marks.old marks.new (undoes_wait t.0 s)) }
+    ensures err { OnErr result ((s : State P P.State P.Shared) → StandsFor w.old s → IsCut marks.old marks.new (undoes_wait t.0 s).marks) }
+    ensures frame { OnOk result (Frame w.old w.new no_numbers w.old.scheduler.running false) }
+    ensures records { OnOk result (w.new.threads.records ≡ w.old.threads.records) }
+{
+    withdraw_awaited(w, t, marks)?;
+    w.unblock(t);
+    Ok(())
+}
