@@ -36,7 +36,7 @@ use Rattle.pth_model.specs.declared.verdict.Verdict.TheVariants.{Says, Yields, B
 use Rattle.pth_model.specs.Verdict.{refused, says, counts_or, by_result, taken_or, ◌when◌otherwise◌, refused_as◌otherwise◌}
 use Rattle.pth_model.specs.Resources.{Resources}
 use Rattle.pth_model.specs.Io.{trial_for, tries, at_once, begins_waiting, is_refused_length, select_deadline}
-use Rattle.pth_model.specs.Awaits.{awaits_in, written_in, round_in}
+use Rattle.pth_model.specs.Awaits.{IsRound, awaits_in, written_in, round_in}
 use Rattle.pth_model.specs.Barriers.{arrived_as, tries_round, withdraws, withdraws_from}
 use Rattle.pth_model.specs.State.{State, Control, Threads, main}
 use Rattle.pth_model.specs.Transition.{Piece, Change, changes, tells, tid, controlled, silent, where_so, ◌and_then◌}
@@ -52,7 +52,8 @@ use Rattle.pth_model.specs.ThreadControl.{thread, is_known, spawns, suspends, re
 use Rattle.pth_model.specs.Rows.{row_of}
 use Rattle.pth_model.specs.Calls.{unless_settled, interrupted}
 use Rattle.pth_model.proofs.Walks.{KeptByCalls, is_common, effect_keeps, come_keeps}
-use Rattle.pth_laws.specs.Waits.{WaitsRightly, Names, IsRound}
+use Rattle.pth_laws.specs.Waits.{WaitsRightly, Names}
+use Rattle.pth_laws.proofs.NoRounds.{is_reaching, is_round, is_rounding, again_none, interrupted_none}
 use Rattle.pth_laws.proofs.Living.{true_false}
 use Rattle.pth_laws.proofs.Rounds.{answered_left, withdrawn_left}
 
@@ -94,20 +95,16 @@ IsAllowedAgain t c b (Blocks a) s = (blocked_of s.control t ≡ Some b) × Names
 IsAllowedAgain t c b (Ends v) s = Unit {0}
 IsAllowedAgain t c b Kills s = IsToTell (mark.Answered (tid t) c (answer.Int (pos 1))) (controlled (stops_waiting t) s)
 
--- while it blocks on, t waits for the same round
+-- while it blocks on, t waits for the same round, and for none if it waited for none
 abbrev pub StaysAt : Call → Awaits → Awaits → Type 0
 StaysAt (call.BarrierReach b) a now = now ≡ awaits.Round b (round_in a)
-StaysAt c a now = Unit {0}
+StaysAt c a now = is_round a ≡ false → is_round now ≡ false
 
 -- if t waits for a round, its arrival was answered or taken back: it may wait no longer
 abbrev pub HasLeft : {P S H : Type 0} → ℕ → State P S H → Type 0
 HasLeft t s = (b : ℤ) (round : ℕ) → blocked_of s.control t ≡ Some (record { call = call.BarrierReach b; awaits = awaits.Round b round }) → waits_at s.control.barriers b t ≡ false
 
 -- ---- verdicts
-
-abbrev pub is_reaching : Call → Bool
-is_reaching (call.BarrierReach b) = true
-is_reaching c = false
 
 abbrev pub is_entering : Call → Bool
 is_entering (call.RwAcquire l write v e) = true
@@ -132,10 +129,6 @@ is_plainly_waiting c = true
 
 no_ring_some : (e : ℤ) → None ≡ Some e → ⊥
 no_ring_some e h = cc
-
-abbrev is_round : Awaits → Bool
-is_round (awaits.Round b round) = true
-is_round a = false
 
 abbrev is_joining : Call → Bool
 is_joining (call.Join n) = true
@@ -519,11 +512,15 @@ module _ {P S H : Type 0} (f : P → Functions S H) (t : ℕ) where
   allowed_again s (call.RwAcquire l write v e) b come at = rw_again s l write v e b come (is_lock s l) (lets_in s write l) (holds s.resources.store.rw_locks t (object_named l)) refl refl refl at
   allowed_again s c b come at = other_again s c b come refl at
 
+  settled_none : (s : State P S H) (c : Call) (a : Awaits) (come : Bool) → is_reaching c ≡ false → is_round a ≡ false → is_rounding (unless_settled come ((row_of f s t c).again a)).verdict ≡ false
+  settled_none s c a false other none = again_none f s t c a other none
+  settled_none s c a true other none = interrupted_none ((row_of f s t c).again a).verdict
+
   pub stays_again : (s : State P S H) (c : Call) (a : Awaits) (come : Bool) (now : Awaits) → (unless_settled come ((row_of f s t c).again a)).verdict ≡ Blocks now → StaysAt c a now
   unfolding row_of
   stays_again s (call.BarrierReach b) a false now blocks = round_stays s b (round_in a) now blocks
   stays_again s (call.BarrierReach b) a true now blocks = absurd (true_false (sym (ap is_blocking blocks) ∙ interrupted_answers (tries_round s t b (round_in a)).verdict))
-  stays_again s c a come now blocks = tt
+  stays_again s c a come now blocks = λ none. sym (ap is_rounding blocks) ∙ settled_none s c a come refl none
 
   -- t's round has passed, and its arrival is answered
   round_left : (s : State P S H) (b : ℤ) (round : ℕ) → is_blocking (tries_round s t b round).verdict ≡ false → waits_at (effect_of (tries_round s t b round) s).state.control.barriers b t ≡ false

@@ -193,12 +193,12 @@ module _ {P S H : Type 0} where
     destroyed = λ n s r. r;
     arranges = λ x s may r. r;
     looked = λ s r. r;
-    barred = λ x s fewer r. r;
+    barred = λ x s fewer all r. r;
     reached = λ t b round s free alive there waits r. r;
     goes = λ t g s same r. r;
-    blocked = λ t c a s free may r. r;
+    blocked = λ t c a s free other none may r. r;
     waits_on = λ t a b s at names stays r. r;
-    stopped = λ t s left r. r;
+    stopped = λ t x s fewer others left r. r;
     told = λ m s may r. told_apart s r m may;
   }
 

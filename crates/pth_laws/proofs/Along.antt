@@ -1,20 +1,19 @@
 -- What every part of a run keeps of a state, by the changes and the marks of which parts are made. Beside each stands what is known as it
 -- is made.
-use Rattle.std.proofs.Common.{◌≡◌, ℕ, zero, suc, ◌+◌, ◌*◌, not, min, Bool, true, false, if◌then◌else◌, ℤ, pos, ◌+ℤ◌, List, [], ◌∷◌, map, reverse, ◌⊎◌, inl, inr, Option, Some, None, is_none, is_some, option_map, refl, sym, ◌∙◌, ap, Result, Ok, Err, arith}
+use Rattle.std.proofs.Common.{◌≡◌, ℕ, zero, suc, ◌+◌, ◌*◌, ◌&&◌, not, min, Bool, true, false, if◌then◌else◌, ℤ, pos, ◌+ℤ◌, List, [], ◌∷◌, map, reverse, ◌⊎◌, inl, inr, Option, Some, None, is_none, is_some, option_map, refl, sym, ◌∙◌, ap, Result, Ok, Err, arith}
 use Rattle.std.proofs.lemmas.Bool.{not-false}
 use Rattle.std.proofs.lemmas.Int.{ints}
 use Rattle.pth_base.specs.Limits.{last_count, last_moment}
 use Rattle.pth_base.specs.Program.{Functions}
 use Rattle.pth_base.specs.declared.act.Act.{Act}
 use Rattle.pth_base.specs.declared.act.Act.TheVariants as act
-use Rattle.pth_base.specs.declared.answer.Answer.{Answer}
 use Rattle.pth_base.specs.declared.answer.Answer.TheVariants as answer
 use Rattle.pth_base.specs.declared.attr.AttrValue.{AttrValue}
 use Rattle.pth_base.specs.declared.attr.AttrValue.TheVariants as value
 use Rattle.pth_base.specs.declared.call.Call.{Call}
 use Rattle.pth_base.specs.declared.call.Call.TheVariants as call
 use Rattle.pth_base.specs.declared.errno.Errno.{Errno}
-use Rattle.pth_base.specs.declared.errno.Errno.TheVariants.{EINVAL, EPERM, ESRCH}
+use Rattle.pth_base.specs.declared.errno.Errno.TheVariants.{EBUSY, EINVAL, EPERM, ESRCH}
 use Rattle.pth_base.specs.declared.event.EventSpec.{EventSpec}
 use Rattle.pth_base.specs.declared.event.EvLine.{EvLine}
 use Rattle.pth_base.specs.declared.event.EvLine.TheVariants as line
@@ -30,9 +29,9 @@ use Rattle.pth_base.specs.declared.thread.ThreadState.TheVariants as state
 use Rattle.pth_base.proofs.Tables.{put_here}
 use Rattle.pth_cond.specs.declared.barriers.Arrival.{Arrival}
 use Rattle.pth_cond.specs.declared.barriers.Arrival.TheVariants as arrival
-use Rattle.pth_cond.specs.Barriers.{BarrierTable, taillight, arrival_answer, has_passed, waits_at, barrier_initialised, barrier_reached, round_answer, round_answered, withdrawn}
+use Rattle.pth_cond.specs.Barriers.{BarrierTable, is_size, taillight, arrival_answer, has_passed, waits_at, barrier_initialised, barrier_reached, round_answer, round_answered, withdrawn}
 use Rattle.pth_kernel.specs.Kernel.{Kernel, advanced}
-use Rattle.pth_lock.specs.Objects.{object_named}
+use Rattle.pth_lock.specs.Objects.{object_named, is_object}
 use Rattle.pth_numbered.specs.Operands.{number, is_zero, ◌is◌, ◌is_from◌to◌}
 use Rattle.pth_queue.specs.Ranking.{place_in}
 use Rattle.pth_queue.specs.declared.queue.Queue.{Queue}
@@ -57,7 +56,7 @@ use Rattle.pth_model.specs.declared.next.Next.{Next}
 use Rattle.pth_model.specs.declared.next.Next.TheVariants as next
 use Rattle.pth_model.specs.declared.progress.Progress.{Progress}
 use Rattle.pth_model.specs.Awaits.{awaits_in, round_in}
-use Rattle.pth_model.specs.Barriers.{arrived_as, tries_round, withdraws, withdraws_from}
+use Rattle.pth_model.specs.Barriers.{arrived_as, withdraws, withdraws_from}
 use Rattle.pth_model.specs.Resources.{handler}
 use Rattle.pth_model.specs.Standing.{Standing}
 use Rattle.pth_model.specs.State.{State, Given, Scheduler, Turn, start, queue, now_of, clock_of}
@@ -66,7 +65,7 @@ use Rattle.pth_model.specs.Changes.{shares, uses, sets, goes_on, owing, is_block
 use Rattle.pth_model.specs.declared.verdict.Verdict.{Verdict}
 use Rattle.pth_model.specs.declared.verdict.Verdict.TheVariants.{Says, Yields, Blocks, Ends, Kills}
 use Rattle.pth_model.specs.Verdict.{refused, says, done, by_result, ◌when◌otherwise◌}
-use Rattle.pth_model.specs.Row.{unless_refused, refuses, effect_of, ◌trying◌}
+use Rattle.pth_model.specs.Row.{Attempt, unless_refused, refuses, effect_of, ◌trying◌}
 use Rattle.pth_model.specs.RingWaits.{claims, ring_given, stops_waiting, has_settled}
 use Rattle.pth_model.specs.Acts.{acts, acts_from, act_limit, answer_in, row_of_act, goes_on_after, runs_handler}
 use Rattle.pth_model.specs.Cleanups.{runs_pushed, last_pushed}
@@ -87,8 +86,9 @@ use Rattle.pth_laws.specs.Waits.{Names}
 use Rattle.pth_laws.proofs.Living.{true_false}
 use Rattle.pth_laws.proofs.Going.{IsSound, sound_steps}
 use Rattle.pth_laws.proofs.EveryRun.{run_sound}
-use Rattle.pth_laws.proofs.Rounds.{HasFewer, fewer_initialised, fewer_tail, fewer_answered, fewer_withdrawn}
-use Rattle.pth_laws.proofs.Allowed.{IsFree, IsToTell, MayWait, IsAllowed, IsAllowedAgain, StaysAt, HasLeft, is_reaching, is_blocking, allowed, allowed_again, stays_again, left_again, left_ended, stopped_free}
+use Rattle.pth_laws.proofs.NoRounds.{is_reaching, is_round, is_rounding, begins_none}
+use Rattle.pth_laws.proofs.Rounds.{HasFewer, HasOthers, HasAll, fewer_same, fewer_initialised, fewer_tail, fewer_answered, fewer_withdrawn, others_answered, others_withdrawn, all_initialised, all_reached}
+use Rattle.pth_laws.proofs.Allowed.{IsFree, IsToTell, MayWait, IsAllowed, IsAllowedAgain, StaysAt, HasLeft, is_blocking, allowed, allowed_again, stays_again, left_again, left_ended, stopped_free}
 
 -- a change of a record that leaves its base priority in its range
 abbrev pub IsPrioSafe : change_of_record.Change → Type 0
@@ -103,6 +103,10 @@ IsLifeSafe t c s = Unit {0}
 -- no call blocks t, or it does not live
 abbrev pub IsGone : {P S H : Type 0} → ℕ → State P S H → Type 0
 IsGone t s = IsFree t s ⊎ (lives (s.control.threads.known t) ≡ false)
+
+abbrev is_saying : Verdict → Bool
+is_saying (Says a) = true
+is_saying v = false
 
 -- the changes of events and rings that calls make
 pub data Arrangement : Type 0 where
@@ -151,14 +155,15 @@ pub record KeptAlong {P S H : Type 0} (f : P → Functions S H) (R : State P S H
   -- events, and looks at them
   pub arranges : (x : Arrangement) (s : State P S H) → MayArrange s.control.events x → R s → R (controlled (with_events (arranged x)) s)
   pub looked : (s : State P S H) → R s → R (controlled looks s)
-  -- barriers: none has an arrival more; or t's call makes one, and waits for its round
-  pub barred : (x : BarrierTable) (s : State P S H) → HasFewer x s.control.barriers → R s → R (controlled (with_barriers (λ y. x)) s)
+  -- barriers: none has an arrival more, and none is lost; or t's call makes one, and waits for its round
+  pub barred : (x : BarrierTable) (s : State P S H) → HasFewer x s.control.barriers → HasAll x s.control.barriers → R s → R (controlled (with_barriers (λ y. x)) s)
   pub reached : (t : ℕ) (b : ℤ) (round : ℕ) (s : State P S H) → IsFree t s → lives (s.control.threads.known t) ≡ true → is_some (s.control.threads.progress t) ≡ true → arrival_answer s.control.barriers b ≡ Ok (arrival.Waits round) → R s → R (controlled (λ k. blocks t (call.BarrierReach b) (awaits.Round b round) (with_barriers (barrier_reached b t) k)) s)
   -- how far threads are, and what blocks them
   pub goes : (t : ℕ) (g : Progress S → Progress S) (s : State P S H) → ((p : Progress S) → (g p).blocked ≡ p.blocked) → R s → R (controlled (goes_on t g) s)
-  pub blocked : (t : ℕ) (c : Call) (a : Awaits) (s : State P S H) → IsFree t s → MayWait t c a s → R s → R (controlled (λ k. blocks t c a (claims t (ring_given c) k)) s)
+  pub blocked : (t : ℕ) (c : Call) (a : Awaits) (s : State P S H) → IsFree t s → is_reaching c ≡ false → is_round a ≡ false → MayWait t c a s → R s → R (controlled (λ k. blocks t c a (claims t (ring_given c) k)) s)
   pub waits_on : (t : ℕ) (a : Awaits) (b : Blocked) (s : State P S H) → blocked_of s.control t ≡ Some b → Names b.call a → StaysAt b.call b.awaits a → R s → R (controlled (is_blocked_by t (Some (record b { awaits = a }))) s)
-  pub stopped : (t : ℕ) (s : State P S H) → HasLeft t s → R s → R (controlled (stops_waiting t) s)
+  -- no call blocks t any longer, and its arrival may be lost with this
+  pub stopped : (t : ℕ) (x : BarrierTable) (s : State P S H) → HasFewer x s.control.barriers → HasOthers t x s.control.barriers → HasLeft t (controlled (with_barriers (λ y. x)) s) → R s → R (controlled (λ k. stops_waiting t (with_barriers (λ y. x) k)) s)
   -- a mark is told
   pub told : (m : Mark) (s : State P S H) → IsToTell m s → R s → R (tells m s).state
 
@@ -178,6 +183,12 @@ set_passes known o v h = by_tests (is_none o) (is_gone known o) (is_fixed v) (is
     by_tests false false true inside h = absurd (true_false h)
     by_tests false false false false h = absurd (true_false h)
     by_tests false false false true h = refl
+
+-- a barrier that is initialised was not
+init_passes : (inside there : Bool) → refuses (by_result done (if not inside then Err EINVAL else (if there then Err EBUSY else Ok tt))) ≡ false → there ≡ false
+init_passes false there h = absurd (true_false h)
+init_passes true true h = absurd (true_false h)
+init_passes true false h = refl
 
 pub prio_in_range : (n : ℤ) → (n is_from least_priority to top_priority) ≡ true → IsSetPrio n
 prio_in_range n h = record { low = grind (arith, ints); high = grind (arith, ints) }
@@ -358,15 +369,21 @@ module _ {P S H : Type 0} (f : P → Functions S H) (R : State P S H → Type 0)
   dies_keeps : (t : ℕ) (v : ℤ) (s : State P S H) → IsFree t s → R s → R (dies t v s).state
   dies_keeps t v s free r = kept.told (mark.Ended (tid t) v) (controlled (leaves t v) s) tt (left_keeps t v s free r)
 
-  -- its arrival at a barrier is taken back, if it waits there
-  where_withdrawn : (t : ℕ) (b : ℤ) (here : Bool) → Keeps (where_so here (changes (with_barriers (withdrawn b t)) and_then tells (mark.Withdrew (tid t) (object_named b))))
-  where_withdrawn t b true s r = kept.told (mark.Withdrew (tid t) (object_named b)) (controlled (with_barriers (withdrawn b t)) s) tt (kept.barred (withdrawn b t s.control.barriers) s (fewer_withdrawn b t s.control.barriers) r)
-  where_withdrawn t b false s r = r
+  -- no call blocks t any longer, whose arrival was not lost
+  stops_keeps : (t : ℕ) (s : State P S H) → HasLeft t s → R s → R (controlled (stops_waiting t) s)
+  stops_keeps t s left r = kept.stopped t s.control.barriers s (λ b. fewer_same (s.control.barriers b)) (λ b round u apart h. h) left r
 
-  withdraws_keeps : (t : ℕ) (a : Awaits) → Keeps (withdraws_from t a)
+  -- its arrival at a barrier is taken back, if it waits there
+  where_withdrawn : (t : ℕ) (b : ℤ) (here : Bool) (s : State P S H) → let a = (where_so here (changes (with_barriers (withdrawn b t)) and_then tells (mark.Withdrew (tid t) (object_named b))) s).state in HasLeft t a → R s → R (controlled (stops_waiting t) a)
+  where_withdrawn t b true s left r =
+      let m = mark.Withdrew (tid t) (object_named b) in
+      kept.stopped t (withdrawn b t s.control.barriers) (tells m s).state (fewer_withdrawn b t s.control.barriers) (others_withdrawn b t s.control.barriers) left (kept.told m s tt r)
+  where_withdrawn t b false s left r = stops_keeps t s left r
+
+  undone_keeps : (t : ℕ) (a : Awaits) (s : State P S H) → HasLeft t (withdraws_from t a s).state → R s → R (controlled (stops_waiting t) (withdraws_from t a s).state)
   unfolding withdraws_from withdraws
-  withdraws_keeps t (awaits.Round b round) s r = where_withdrawn t b (waits_at s.control.barriers b t) s r
-  withdraws_keeps t a s r = r
+  undone_keeps t (awaits.Round b round) s left r = where_withdrawn t b (waits_at s.control.barriers b t) s left r
+  undone_keeps t a s left r = stops_keeps t s left r
 
   -- and no call blocks it
   abbrev Unblocked : ℕ → State P S H → Type 0
@@ -388,7 +405,7 @@ module _ {P S H : Type 0} (f : P → Functions S H) (R : State P S H → Type 0)
       let s3 = (runs_destructors f t s2).state in
       let s4 = (gives_mutexes t s3).state in
       let s5 = (gives_locks t s4).state in
-      let x1 : Unblocked t s1 = (kept.stopped t s0 (left_ended t s) (withdraws_keeps t a s r), stopped_free t s0) in
+      let x1 : Unblocked t s1 = (undone_keeps t a s (left_ended t s) r, stopped_free t s0) in
       let x2 : Unblocked t s2 = each_keep f (Unblocked t) (unblocked_shared t) (unblocked_told t) t (s1.resources.store.cleanups t) s1 x1 in
       let x3 : Unblocked t s3 = destructs_keep f (Unblocked t) (unblocked_shared t) (unblocked_told t) t (round_limit * key_limit) first_round s2 x2 in
       let x4 : Unblocked t s4 = mutexes_keep f (Unblocked t) (unblocked_shared t) (unblocked_told t) t (mutexes_had t s3.resources.store.mutexes) s3 x3 in
@@ -516,25 +533,25 @@ module _ {P S H : Type 0} (f : P → Functions S H) (R : State P S H → Type 0)
     does_keeps s (call.Accept d) free sound other e r = kept.timed _ s r
     does_keeps s (call.AcceptEv d x) free sound other e r = kept.timed _ s r
     does_keeps s (call.Close d) free sound other e r = kept.timed _ s r
-    does_keeps s (call.BarrierInit b n) free sound other e r = kept.barred (barrier_initialised b n s.control.barriers) s (fewer_initialised b n s.control.barriers) r
+    does_keeps s (call.BarrierInit b n) free sound other e r = kept.barred (barrier_initialised b n s.control.barriers) s (fewer_initialised b n s.control.barriers) (all_initialised b n s.control.barriers (init_passes (is_object b && is_size n) (is_some (s.control.barriers (object_named b))) e)) r
     does_keeps s (call.BarrierReach b) free sound other e r = absurd (true_false other)
     does_keeps s (call.Join n) free sound other e r = joins_keep s (to_join s.control n) (λ u taken. sound.joins n u taken) r
     does_keeps s (call.CleanupPop v) free sound other e r = pops_keep (last_pushed f s t) (not (is_zero v)) s r
     does_keeps s (call.Once o h v) free sound other e r = once_keeps (number o) (handler h) v (not (s.control.used (number o))) s r
     does_keeps s c free sound other e r = r
 
-    begun_by_keeps : (c : Call) (v : Verdict) (s : State P S H) → IsAllowed t c v s → R s → R (begun_by f t c v s).told.state
-    begun_by_keeps c (Says x) s may r = kept.told (mark.Answered (tid t) c x) s may r
-    begun_by_keeps c (Yields x) s may r = kept.told (mark.Answered (tid t) c x) s may r
-    begun_by_keeps c (Blocks a) s may r = kept.told (mark.Waits (tid t) c) (controlled (λ k. blocks t c a (claims t (ring_given c) k)) s) tt (kept.blocked t c a s may.0 may.1 r)
-    begun_by_keeps c (Ends v) s may r = ending_keeps t v s r
-    begun_by_keeps c Kills s may r = kept.told (mark.Answered (tid t) c (answer.Int (pos 1))) s may r
+    begun_by_keeps : (c : Call) (v : Verdict) (s : State P S H) → is_reaching c ≡ false → is_rounding v ≡ false → IsAllowed t c v s → R s → R (begun_by f t c v s).told.state
+    begun_by_keeps c (Says x) s other none may r = kept.told (mark.Answered (tid t) c x) s may r
+    begun_by_keeps c (Yields x) s other none may r = kept.told (mark.Answered (tid t) c x) s may r
+    begun_by_keeps c (Blocks a) s other none may r = kept.told (mark.Waits (tid t) c) (controlled (λ k. blocks t c a (claims t (ring_given c) k)) s) tt (kept.blocked t c a s may.0 other none may.1 r)
+    begun_by_keeps c (Ends v) s other none may r = ending_keeps t v s r
+    begun_by_keeps c Kills s other none may r = kept.told (mark.Answered (tid t) c (answer.Int (pos 1))) s may r
 
     -- an arrival at a barrier, by what it comes to
     reach_keeps : (b : ℤ) (o : Result Arrival Errno) (s : State P S H) → arrival_answer s.control.barriers b ≡ o → IsFree t s → IsSound t s.control → is_some (s.control.threads.progress t) ≡ true → R s → R (begun_as f t (call.BarrierReach b) (by_result (arrived_as b) o trying changes (with_barriers (barrier_reached b t))) s).told.state
     unfolding claims
     reach_keeps b (Err e) s same free sound there r = kept.told (mark.Answered (tid t) (call.BarrierReach b) (answer.Fail e)) s tt r
-    reach_keeps b (Ok arrival.Tail) s same free sound there r = kept.told (mark.Answered (tid t) (call.BarrierReach b) (answer.Int taillight)) (controlled (with_barriers (barrier_reached b t)) s) tt (kept.barred (barrier_reached b t s.control.barriers) s (fewer_tail b t s.control.barriers same) r)
+    reach_keeps b (Ok arrival.Tail) s same free sound there r = kept.told (mark.Answered (tid t) (call.BarrierReach b) (answer.Int taillight)) (controlled (with_barriers (barrier_reached b t)) s) tt (kept.barred (barrier_reached b t s.control.barriers) s (fewer_tail b t s.control.barriers same) (all_reached b t s.control.barriers) r)
     reach_keeps b (Ok (arrival.Waits round)) s same free sound there r =
         kept.told (mark.Waits (tid t) (call.BarrierReach b)) (controlled (λ k. blocks t (call.BarrierReach b) (awaits.Round b round) (with_barriers (barrier_reached b t) k)) s) tt (kept.reached t b round s free sound.alive there same r)
 
@@ -545,7 +562,7 @@ module _ {P S H : Type 0} (f : P → Functions S H) (R : State P S H → Type 0)
     begun_keeps (call.BarrierReach b) s free sound there r = reach_keeps b (arrival_answer s.control.barriers b) s refl free sound there r
     begun_keeps c s free sound there r =
         let a = (row_of f s t c).begin in
-        begun_by_keeps c a.verdict (effect_of a s).state (allowed f t s c free) (unless_keeps s (refuses a.verdict) a.effect (does_keeps s c free sound refl) r)
+        begun_by_keeps c a.verdict (effect_of a s).state refl (begins_none f s t c refl) (allowed f t s c free) (unless_keeps s (refuses a.verdict) a.effect (does_keeps s c free sound refl) r)
 
     -- ---- a call is tried again
 
@@ -560,59 +577,74 @@ module _ {P S H : Type 0} (f : P → Functions S H) (R : State P S H → Type 0)
     make_again : (s : State P S H) (l : EvLine) (b : Awaits) → KeepsAt s ((make_event s l).again b).effect
     make_again s l b r = made_again s (spec_of l) (λ x. by_result says (make_answer s.control.events)) (λ x. with_events (alone x)) b r
 
-    -- t's round is tried again
-    round_keeps : (s : State P S H) (b : ℤ) (round : ℕ) → KeepsAt s (tries_round s t b round).effect
-    round_keeps s b round r = by_test (has_passed s.control.barriers b round)
-      where
-        by_test : (passed : Bool) → R ((if passed then (Says (answer.Int (round_answer s.control.barriers b round t)) trying changes (with_barriers (round_answered b round t))) else (Blocks (awaits.Round b round) trying silent)).effect s).state
-        by_test true = kept.barred (round_answered b round t s.control.barriers) s (fewer_answered b round t s.control.barriers) r
-        by_test false = r
-
-    does_again : (s : State P S H) (c : Call) (b : Awaits) → IsSound t s.control → KeepsAt s ((row_of f s t c).again b).effect
+    does_again : (s : State P S H) (c : Call) (b : Awaits) → is_reaching c ≡ false → IsSound t s.control → KeepsAt s ((row_of f s t c).again b).effect
     unfolding row_of
-    does_again s (call.Ctrl x) b sound r = ctrl_again s x b r
-    does_again s (call.EvFd goals fd) b sound r = make_again s (line.Fd goals fd) b r
-    does_again s (call.EvSelect i w x) b sound r = make_again s (line.Select i w x) b r
-    does_again s (call.EvTime m) b sound r = make_again s (line.Time m) b r
-    does_again s (call.EvMsg p) b sound r = make_again s (line.Msg p) b r
-    does_again s (call.EvCond c) b sound r = make_again s (line.Cond c) b r
-    does_again s (call.EvTid at n) b sound r = make_again s (line.Tid at n) b r
-    does_again s (call.EvFunc c v l) b sound r = make_again s (line.Func c v l) b r
-    does_again s (call.Chain i l) b sound r = made_again s (spec_of l) (λ x. by_result says (chain_answer s.control.events (number i))) (λ x. with_events (chained x (number i))) b r
-    does_again s (call.Read d n) b sound r = kept.timed _ s r
-    does_again s (call.ReadEv d n x) b sound r = kept.timed _ s r
-    does_again s (call.Write d bytes) b sound r = kept.timed _ s r
-    does_again s (call.WriteEv d bytes x) b sound r = kept.timed _ s r
-    does_again s (call.Accept d) b sound r = kept.timed _ s r
-    does_again s (call.AcceptEv d x) b sound r = kept.timed _ s r
-    does_again s (call.Connect d) b sound r = kept.timed _ s r
-    does_again s (call.ConnectEv d x) b sound r = kept.timed _ s r
-    does_again s (call.Select i w x l) b sound r = kept.timed _ s r
-    does_again s (call.SelectEv i w x l e) b sound r = kept.timed _ s r
-    does_again s (call.BarrierReach c) b sound r = round_keeps s c (round_in b) r
-    does_again s (call.Join n) b sound r = joins_keep s (to_join s.control n) (λ u taken. sound.joins n u taken) r
-    does_again s c b sound r = r
+    does_again s (call.Ctrl x) b other sound r = ctrl_again s x b r
+    does_again s (call.EvFd goals fd) b other sound r = make_again s (line.Fd goals fd) b r
+    does_again s (call.EvSelect i w x) b other sound r = make_again s (line.Select i w x) b r
+    does_again s (call.EvTime m) b other sound r = make_again s (line.Time m) b r
+    does_again s (call.EvMsg p) b other sound r = make_again s (line.Msg p) b r
+    does_again s (call.EvCond c) b other sound r = make_again s (line.Cond c) b r
+    does_again s (call.EvTid at n) b other sound r = make_again s (line.Tid at n) b r
+    does_again s (call.EvFunc c v l) b other sound r = make_again s (line.Func c v l) b r
+    does_again s (call.Chain i l) b other sound r = made_again s (spec_of l) (λ x. by_result says (chain_answer s.control.events (number i))) (λ x. with_events (chained x (number i))) b r
+    does_again s (call.Read d n) b other sound r = kept.timed _ s r
+    does_again s (call.ReadEv d n x) b other sound r = kept.timed _ s r
+    does_again s (call.Write d bytes) b other sound r = kept.timed _ s r
+    does_again s (call.WriteEv d bytes x) b other sound r = kept.timed _ s r
+    does_again s (call.Accept d) b other sound r = kept.timed _ s r
+    does_again s (call.AcceptEv d x) b other sound r = kept.timed _ s r
+    does_again s (call.Connect d) b other sound r = kept.timed _ s r
+    does_again s (call.ConnectEv d x) b other sound r = kept.timed _ s r
+    does_again s (call.Select i w x l) b other sound r = kept.timed _ s r
+    does_again s (call.SelectEv i w x l e) b other sound r = kept.timed _ s r
+    does_again s (call.BarrierReach c) b other sound r = absurd (true_false other)
+    does_again s (call.Join n) b other sound r = joins_keep s (to_join s.control n) (λ u taken. sound.joins n u taken) r
+    does_again s c b other sound r = r
 
-    come_keeps : (s : State P S H) (c : Call) (b : Awaits) (come : Bool) → IsSound t s.control → KeepsAt s (effect_of (unless_settled come ((row_of f s t c).again b)))
-    come_keeps s c b false sound r = unless_keeps s (refuses ((row_of f s t c).again b).verdict) ((row_of f s t c).again b).effect (λ e. does_again s c b sound) r
-    come_keeps s c b true sound r = unless_keeps s (refuses (interrupted ((row_of f s t c).again b).verdict)) ((row_of f s t c).again b).effect (λ e. does_again s c b sound) r
+    come_keeps : (s : State P S H) (c : Call) (b : Awaits) (come : Bool) → is_reaching c ≡ false → IsSound t s.control → KeepsAt s (effect_of (unless_settled come ((row_of f s t c).again b)))
+    come_keeps s c b false other sound r = unless_keeps s (refuses ((row_of f s t c).again b).verdict) ((row_of f s t c).again b).effect (λ e. does_again s c b other sound) r
+    come_keeps s c b true other sound r = unless_keeps s (refuses (interrupted ((row_of f s t c).again b).verdict)) ((row_of f s t c).again b).effect (λ e. does_again s c b other sound) r
 
-    answers_keep : (c : Call) (a : Answer) (s : State P S H) → IsToTell (mark.Answered (tid t) c a) (controlled (stops_waiting t) s) → HasLeft t s → R s → R (tells (mark.Answered (tid t) c a) (controlled (stops_waiting t) s)).state
-    answers_keep c a s may left r = kept.told (mark.Answered (tid t) c a) (controlled (stops_waiting t) s) may (kept.stopped t s left r)
+    -- t's round is tried again: it has passed, or t waits on
+    abbrev rounds : State P S H → ℤ → ℕ → Bool → Attempt P S H
+    rounds s b round passed = if passed then (Says (answer.Int (round_answer s.control.barriers b round t)) trying changes (with_barriers (round_answered b round t))) else (Blocks (awaits.Round b round) trying silent)
 
-    tried_by_keeps : (b : Blocked) (v : Verdict) (s : State P S H) → IsAllowedAgain t b.call b v s → ((a : Awaits) → v ≡ Blocks a → StaysAt b.call b.awaits a) → (is_blocking v ≡ false → HasLeft t s) → R s → R (tried_by f t b v s).told.state
-    tried_by_keeps b (Says x) s may stays left r = answers_keep b.call x s may (left refl) r
-    tried_by_keeps b (Yields x) s may stays left r = answers_keep b.call x s may (left refl) r
-    tried_by_keeps b (Blocks a) s may stays left r = kept.told (mark.Waits (tid t) b.call) (controlled (is_blocked_by t (Some (record b { awaits = a }))) s) tt (kept.waits_on t a b s may.0 may.1 (stays a refl) r)
-    tried_by_keeps b (Ends v) s may stays left r = ending_keeps t v s r
-    tried_by_keeps b Kills s may stays left r = answers_keep b.call (answer.Int (pos 1)) s may (left refl) r
+    -- an attempt that doesn't answer
+    still_keeps : (s : State P S H) (c : Call) (b : Awaits) → IsSound t s.control → R s → let a = unless_settled (has_settled s.control.events (ring_given c)) ((row_of f s t c).again b) in is_saying a.verdict ≡ false → R (effect_of a s).state
+    unfolding row_of
+    still_keeps s (call.BarrierReach x) b sound r says_none = by_test (has_passed s.control.barriers x (round_in b)) says_none
+      where
+        by_test : (passed : Bool) → is_saying (rounds s x (round_in b) passed).verdict ≡ false → R (effect_of (rounds s x (round_in b) passed) s).state
+        by_test true says_none = absurd (true_false says_none)
+        by_test false says_none = r
+    still_keeps s c b sound r says_none = come_keeps s c b (has_settled s.control.events (ring_given c)) refl sound r
+
+    -- one that blocks t no longer
+    stop_keeps : (s : State P S H) (c : Call) (b : Blocked) → b.call ≡ c → blocked_of s.control t ≡ Some b → IsSound t s.control → R s → let a = unless_settled (has_settled s.control.events (ring_given c)) ((row_of f s t c).again b.awaits) in is_blocking a.verdict ≡ false → R (controlled (stops_waiting t) (effect_of a s).state)
+    unfolding row_of
+    stop_keeps s (call.BarrierReach x) b named at sound r at_once = by_test (has_passed s.control.barriers x (round_in b.awaits)) at_once (left_again f t s (call.BarrierReach x) b named at at_once)
+      where
+        by_test : (passed : Bool) → let a = rounds s x (round_in b.awaits) passed in is_blocking a.verdict ≡ false → HasLeft t (effect_of a s).state → R (controlled (stops_waiting t) (effect_of a s).state)
+        by_test true at_once left = kept.stopped t (round_answered x (round_in b.awaits) t s.control.barriers) s (fewer_answered x (round_in b.awaits) t s.control.barriers) (others_answered x (round_in b.awaits) t s.control.barriers) left r
+        by_test false at_once left = absurd (true_false at_once)
+    stop_keeps s c b named at sound r at_once =
+        let come = has_settled s.control.events (ring_given c) in
+        stops_keeps t (effect_of (unless_settled come ((row_of f s t c).again b.awaits)) s).state (left_again f t s c b named at at_once) (come_keeps s c b.awaits come refl sound r)
+
+    tried_by_keeps : (b : Blocked) (v : Verdict) (s : State P S H) → IsAllowedAgain t b.call b v s → ((a : Awaits) → v ≡ Blocks a → StaysAt b.call b.awaits a) → (is_saying v ≡ false → R s) → (is_blocking v ≡ false → R (controlled (stops_waiting t) s)) → R (tried_by f t b v s).told.state
+    tried_by_keeps b (Says x) s may stays still stop = kept.told (mark.Answered (tid t) b.call x) (controlled (stops_waiting t) s) may (stop refl)
+    tried_by_keeps b (Yields x) s may stays still stop = kept.told (mark.Answered (tid t) b.call x) (controlled (stops_waiting t) s) may (stop refl)
+    tried_by_keeps b (Blocks a) s may stays still stop = kept.told (mark.Waits (tid t) b.call) (controlled (is_blocked_by t (Some (record b { awaits = a }))) s) tt (kept.waits_on t a b s may.0 may.1 (stays a refl) (still refl))
+    tried_by_keeps b (Ends v) s may stays still stop = ending_keeps t v s (still refl)
+    tried_by_keeps b Kills s may stays still stop = kept.told (mark.Answered (tid t) b.call (answer.Int (pos 1))) (controlled (stops_waiting t) s) may (stop refl)
 
     tried_again_keeps : (s : State P S H) (o : Option Blocked) → blocked_of s.control t ≡ o → IsSound t s.control → R s → R (tried_again_by f t o s).told.state
     tried_again_keeps s None at sound r = r
     tried_again_keeps s (Some b) at sound r =
         let come = has_settled s.control.events (ring_given b.call) in
         let a = unless_settled come ((row_of f s t b.call).again b.awaits) in
-        tried_by_keeps b a.verdict (effect_of a s).state (allowed_again f t s b.call b come at) (λ now blocks. stays_again f t s b.call b.awaits come now blocks) (λ at_once. left_again f t s b.call b refl at at_once) (come_keeps s b.call b.awaits come sound r)
+        tried_by_keeps b a.verdict (effect_of a s).state (allowed_again f t s b.call b come at) (λ now blocks. stays_again f t s b.call b.awaits come now blocks) (λ says_none. still_keeps s b.call b.awaits sound r says_none) (λ at_once. stop_keeps s b.call b refl at sound r at_once)
 
     canceled_keeps : (o : Option Blocked) (s : State P S H) → R s → R (canceled_by f t o s).told.state
     canceled_keeps None s r = r

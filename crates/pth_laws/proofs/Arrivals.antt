@@ -30,7 +30,7 @@ use Rattle.pth_model.specs.Run.{run}
 use Rattle.pth_laws.specs.Clean.{has_arrived, round_held}
 use Rattle.pth_laws.specs.Valid.{Lives}
 use Rattle.pth_laws.proofs.Living.{true_false}
-use Rattle.pth_laws.proofs.Rounds.{arrives, none_arrived, arrived_waits}
+use Rattle.pth_laws.proofs.Rounds.{HasFewer, arrives, none_arrived, arrived_waits}
 use Rattle.pth_laws.proofs.Allowed.{IsFree, StaysAt, HasLeft}
 use Rattle.pth_laws.proofs.Along.{KeptAlong, IsLifeSafe, IsGone, run_keeps}
 
@@ -73,7 +73,7 @@ lives_on c (Some e) goes alive = alive
 
 module _ {S : Type 0} where
   -- each arrival of these is that of a thread that lives, whose call waits so
-  abbrev IsWaitedIn : BarrierTable → (ℕ → Option Entry) → (ℕ → Option (Progress S)) → Type 0
+  abbrev pub IsWaitedIn : BarrierTable → (ℕ → Option Entry) → (ℕ → Option (Progress S)) → Type 0
   IsWaitedIn x known progress = (b round u : ℕ) → has_arrived x b round u ≡ true → (lives (known u) ≡ true) × WaitsFor b round (blocked_in (progress u))
 
   -- another record under a number whose thread has not arrived anywhere
@@ -85,11 +85,11 @@ module _ {S : Type 0} where
 -- ---- changes
 
 module _ {P S H : Type 0} where
-  abbrev AreArrivals : State P S H → Type 0
+  abbrev pub AreArrivals : State P S H → Type 0
   AreArrivals s = IsWaitedIn s.control.barriers s.control.threads.known s.control.threads.progress
 
   -- who has arrived is blocked
-  arrived_blocked : (s : State P S H) (b round t : ℕ) → IsFree t s → AreArrivals s → has_arrived s.control.barriers b round t ≡ true → ⊥
+  pub arrived_blocked : (s : State P S H) (b round t : ℕ) → IsFree t s → AreArrivals s → has_arrived s.control.barriers b round t ≡ true → ⊥
   arrived_blocked s b round t free r h = none_waits b round (subst (WaitsFor b round) free (r b round t h).1)
 
   arrivals_set : (t : ℕ) (c : change_of_record.Change) (s : State P S H) → IsLifeSafe t c s → AreArrivals s → AreArrivals (controlled (sets t c) s)
@@ -213,6 +213,9 @@ module _ {P S H : Type 0} where
         blocked = blocked_now ∙ ap Some (same_round w.barrier round (one_blocked (record { call = call.BarrierReach w.barrier; awaits = Round w.barrier round }) (sym at ∙ w.blocked)));
       }
 
+  arrivals_barred : (x : BarrierTable) (s : State P S H) → HasFewer x s.control.barriers → AreArrivals s → AreArrivals (controlled (with_barriers (λ y. x)) s)
+  arrivals_barred x s fewer r b round u h = r b round u ((fewer b).comes round u h)
+
   -- no call blocks t any longer, whose arrival was answered or taken back
   arrivals_stopped : (t : ℕ) (s : State P S H) → HasLeft t s → AreArrivals s → AreArrivals (controlled (stops_waiting t) s)
   unfolding stops_waiting
@@ -223,7 +226,7 @@ module _ {P S H : Type 0} where
 
   -- ---- every run
 
-  arrivals_kept : (f : P → Functions S H) → KeptAlong f AreArrivals
+  pub arrivals_kept : (f : P → Functions S H) → KeptAlong f AreArrivals
   arrivals_kept f = record {
     shared = λ h s r. r;
     placed = λ standing entries raises s r. r;
@@ -241,16 +244,16 @@ module _ {P S H : Type 0} where
     destroyed = λ n s r. r;
     arranges = λ x s may r. r;
     looked = λ s r. arrivals_looked s r;
-    barred = λ x s fewer r b round u h. r b round u (fewer b round u h);
+    barred = λ x s fewer all r. arrivals_barred x s fewer r;
     reached = λ t b round s free alive there waits r. arrivals_reached t b round s free alive there waits r;
     goes = λ t g s same r. same_goes t g s same r;
-    blocked = λ t c a s free may r. arrivals_blocked t c a s free r;
+    blocked = λ t c a s free other none may r. arrivals_blocked t c a s free r;
     waits_on = λ t a b s at names stays r. arrivals_wait_on t a b s at stays r;
-    stopped = λ t s left r. arrivals_stopped t s left r;
+    stopped = λ t x s fewer others left r. arrivals_stopped t (controlled (with_barriers (λ y. x)) s) left (arrivals_barred x s fewer r);
     told = λ m s may r. r;
   }
 
-  arrivals_start : (f : P → Functions S H) (g : Given P) → AreArrivals (start f g)
+  pub arrivals_start : (f : P → Functions S H) (g : Given P) → AreArrivals (start f g)
   unfolding start
   arrivals_start f g b round u h = absurd (true_false (sym h))
 

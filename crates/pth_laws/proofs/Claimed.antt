@@ -330,12 +330,12 @@ module _ {P S H : Type 0} where
     destroyed = λ n s r. r;
     arranges = λ q s may r. fits_arranged s.control.events (held_in s.control) r q may;
     looked = λ s r. fits_looked s r;
-    barred = λ x s fewer r. r;
+    barred = λ x s fewer all r. r;
     reached = λ t b round s free alive there waits r. fits_reached t b round s r;
     goes = λ t g s same r. fits_goes t g s (λ p at. ap event_held (same p)) r;
-    blocked = λ t c a s free may r. fits_blocked t c a s may r;
+    blocked = λ t c a s free other none may r. fits_blocked t c a s may r;
     waits_on = λ t a b s at names stays r. fits_goes t (blocking (Some (record b { awaits = a }))) s (λ p here. sym (ap event_held (sym (ap blocked_in here) ∙ at))) r;
-    stopped = λ t s left r. fits_stopped t s r;
+    stopped = λ t x s fewer others left r. fits_stopped t (controlled (with_barriers (λ y. x)) s) r;
     told = λ m s may r. r;
   }
 

@@ -9,6 +9,7 @@ pub mod Locked
 pub mod Counted
 pub mod Locking
 pub mod Rounds
+pub mod NoRounds
 pub mod Allowed
 pub mod Along
 pub mod Ranged
@@ -17,6 +18,7 @@ pub mod Alone
 pub mod Circles
 pub mod Claimed
 pub mod Arrivals
+pub mod HaveArrived
 pub mod Refusing
 pub mod Awaits
 pub mod Claims

@@ -157,12 +157,12 @@ module _ {P S H : Type 0} where
     destroyed = λ n s r. ranged_put n None s tt r;
     arranges = λ x s may r. r;
     looked = λ s r. ranged_looked s r;
-    barred = λ x s fewer r. r;
+    barred = λ x s fewer all r. r;
     reached = λ t b round s free alive there waits r. ranged_goes t _ (controlled (with_barriers (barrier_reached b t)) s) r;
     goes = λ t g s same r. ranged_goes t g s r;
-    blocked = λ t c a s free may r. ranged_goes t _ (controlled (claims t (ring_given c)) s) (ranged_claimed t (ring_given c) s r);
+    blocked = λ t c a s free other none may r. ranged_goes t _ (controlled (claims t (ring_given c)) s) (ranged_claimed t (ring_given c) s r);
     waits_on = λ t a b s at names stays r. ranged_goes t _ s r;
-    stopped = λ t s left r. ranged_stopped t s r;
+    stopped = λ t x s fewer others left r. ranged_stopped t (controlled (with_barriers (λ y. x)) s) r;
     told = λ m s may r. r;
   }
 

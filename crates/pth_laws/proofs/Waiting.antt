@@ -296,12 +296,12 @@ module _ {P S H : Type 0} where
     destroyed = λ n s r. r;
     arranges = λ x s may r. r;
     looked = λ s r. rightly_looked s r;
-    barred = λ x s fewer r. r;
+    barred = λ x s fewer all r. r;
     reached = λ t b round s free alive there waits r. rightly_goes t (blocking (Some (record { call = call.BarrierReach b; awaits = awaits.Round b round }))) (controlled (with_barriers (barrier_reached b t)) s) (λ p at. (refl, tt)) r;
     goes = λ t g s same r. rightly_goes t g s (λ p at. subst (Rightly s.resources t) (sym (same p)) (blocked_at s t p.blocked (ap blocked_in at) r)) r;
-    blocked = λ t c a s free may r. rightly_goes t (blocking (Some (record { call = c; awaits = a }))) (controlled (claims t (ring_given c)) s) (λ x at. (may.names, may.rightly)) (rightly_claimed t (ring_given c) s r);
+    blocked = λ t c a s free other none may r. rightly_goes t (blocking (Some (record { call = c; awaits = a }))) (controlled (claims t (ring_given c)) s) (λ x at. (may.names, may.rightly)) (rightly_claimed t (ring_given c) s r);
     waits_on = λ t a b s at names stays r. rightly_goes t (blocking (Some (record b { awaits = a }))) s (λ p here. (names, (blocked_at s t (Some b) at r).1)) r;
-    stopped = λ t s left r. rightly_stopped t s r;
+    stopped = λ t x s fewer others left r. rightly_stopped t (controlled (with_barriers (λ y. x)) s) r;
     told = λ m s may r. rightly_told m s may r;
   }
 

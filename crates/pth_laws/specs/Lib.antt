@@ -6,6 +6,7 @@ pub mod Destructors
 pub mod Valid
 pub mod Tied
 pub mod Clean
+pub mod Arrivals
 pub mod Examples
 pub mod Waits
 pub mod Priorities

@@ -1,7 +1,7 @@
 -- What a thread waits for while a call blocks it: the mutex or the lock that the call named, which is initialised, or a round of the
 -- barrier that it named; and who waits to write or to read under a lock does not hold it (pth_mutex_acquire, pth_rwlock_acquire,
 -- pth_barrier_reach).
-use Rattle.std.specs.Prelude.{◌≡◌, ℕ, ℤ, Bool, true, false, Some, is_some, is_none}
+use Rattle.std.specs.Prelude.{◌≡◌, ℕ, Bool, true, false, Some, is_some, is_none}
 use Rattle.pth_base.specs.Program.{Functions}
 use Rattle.pth_base.specs.declared.call.Call.{Call}
 use Rattle.pth_base.specs.declared.call.Call.TheVariants as call
@@ -9,10 +9,10 @@ use Rattle.pth_lock.specs.Objects.{object_named}
 use Rattle.pth_lock.specs.Mutexes.{owner_of}
 use Rattle.pth_lock.specs.RwLocks.{holds}
 use Rattle.pth_model.specs.declared.awaits.Awaits.{Awaits}
-use Rattle.pth_model.specs.declared.awaits.Awaits.TheVariants.{Mutex, Lock, Round}
+use Rattle.pth_model.specs.declared.awaits.Awaits.TheVariants.{Mutex, Lock}
 use Rattle.pth_model.specs.declared.blocked.Blocked.{Blocked}
 use Rattle.pth_model.specs.declared.verdict.Verdict.TheVariants.{Blocks}
-use Rattle.pth_model.specs.Awaits.{round_in}
+use Rattle.pth_model.specs.Awaits.{IsRound}
 use Rattle.pth_model.specs.Changes.{blocked_of}
 use Rattle.pth_model.specs.Coming.{has_come}
 use Rattle.pth_model.specs.Mutexes.{mutex}
@@ -28,10 +28,6 @@ abbrev pub WaitsRightly : Resources → ℕ → Call → Type 0
 WaitsRightly k t (call.MutexAcquire m v e) = is_some (k.store.mutexes (object_named m)) ≡ true
 WaitsRightly k t (call.RwAcquire l write v e) = (k.store.rw_locks.initialised (object_named l) ≡ true) × (holds k.store.rw_locks t (object_named l) ≡ false)
 WaitsRightly k t c = Unit {0}
-
--- what is awaited is a round of this barrier
-abbrev pub IsRound : ℤ → Awaits → Type 0
-IsRound b a = a ≡ Round b (round_in a)
 
 -- what is awaited is the mutex, or the lock, that the call names, or a round of the barrier
 abbrev pub Names : Call → Awaits → Type 0

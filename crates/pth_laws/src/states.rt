@@ -3,6 +3,7 @@
 ghost use Rattle.std.specs.Prelude.{ℕ};
 ghost use Rattle.pth_model.specs.Run.{run};
 ghost use Rattle.pth_model.specs.State.{Given};
+ghost use Rattle.pth_laws.specs.Arrivals.{AllHaveArrived, NoneArrivedTwice};
 ghost use Rattle.pth_laws.specs.Holders.{AreHoldersApart};
 ghost use Rattle.pth_laws.specs.Priorities.{HasBasePriorities};
 ghost use Rattle.pth_laws.specs.Rings.{AreRingsCircles, AreRingsHeld};
@@ -35,4 +36,11 @@ pub fn every_run_keeps_holders_apart<P: Program>()
 pub fn every_run_waits_rightly<P: Program>()
     ensures rightly { (g : Given P) (i : ℕ) → AllWaitRightly (run P.functions g i).state }
     ensures rows { (g : Given P) (i : ℕ) → AllAskNoMore P.functions (run P.functions g i).state }
+{}
+
+/// Who is blocked at a barrier has its arrival there, of the round for which it waits; and no thread has two arrivals at a barrier
+/// (`pth_barrier_reach`). So while a thread waits there it counts in its round, and it counts once.
+pub fn every_run_keeps_arrivals<P: Program>()
+    ensures kept { (g : Given P) (i : ℕ) → AllHaveArrived (run P.functions g i).state }
+    ensures once { (g : Given P) (i : ℕ) → NoneArrivedTwice (run P.functions g i).state }
 {}
