@@ -5,7 +5,7 @@ use Rattle.std.proofs.lemmas.List.{length-take-le, take_all, drop_all, take_at, 
 use Rattle.std.proofs.lemmas.List.Sums.{sum_by-cons, sum_by_push}
 use Rattle.pth_cond.specs.Barriers.{Arrived, arrived_in, is_headlight, without_thread, made_late, late_behind}
 use Rattle.pth_cond.specs.Kept.{arrival_of, arrivals_of}
-use Rattle.pth_cond.specs.declared.barriers.arrivals.Entry.{Entry}
+use Rattle.pth_cond.specs.declared.barriers.arrivals.Waiter.{Waiter}
 
 -- ---- tests of arrivals as they are kept
 
@@ -14,9 +14,9 @@ list_any-map test f [] = refl
 list_any-map test f (x ∷ xs) = ap (λ (b : Bool). test (f x) || b) (list_any-map test f xs)
 
 -- the first of those from a place on
-module _ (es : List Entry) (i t round : ℕ) (e : Entry) (low : i < length es) (read : e ≡ get_or es i e) where
+module _ (es : List Waiter) (i t round : ℕ) (e : Waiter) (low : i < length es) (read : e ≡ get_or es i e) where
   headlight_from : is_headlight t round (arrivals_of (drop i es)) ≡ (if e.round == round then (e.tid.0 == t) && not e.late else is_headlight t round (arrivals_of (drop (i + 1) es)))
-  headlight_from = ap (λ (xs : List Entry). is_headlight t round (arrivals_of xs)) (drop_more es i e low ∙ ap (λ (x : Entry). x ∷ drop (i + 1) es) (sym read))
+  headlight_from = ap (λ (xs : List Waiter). is_headlight t round (arrivals_of xs)) (drop_more es i e low ∙ ap (λ (x : Waiter). x ∷ drop (i + 1) es) (sym read))
 
   pub headlight_here : (e.round == round) ≡ true → is_headlight t round (arrivals_of (drop i es)) ≡ ((e.tid.0 == t) && not e.late)
   headlight_here same = rw headlight_from (rw same refl)
@@ -89,29 +89,29 @@ marked_one true t round a xs = ap (λ (x : Arrived). x ∷ made_late round xs) (
 marked_one false t round a xs = ap (λ (x : Arrived). x ∷ marked_from (a.tid == t) t round xs) (marked_same false a)
 
 -- the arrivals up to a place, and then what is made of the rest
-abbrev pub up_to : (es : List Entry) (i : ℕ) → (List Arrived → List Arrived) → List Arrived
+abbrev pub up_to : (es : List Waiter) (i : ℕ) → (List Arrived → List Arrived) → List Arrived
 up_to es i rest = arrivals_of (take i es) ++ rest (arrivals_of (drop i es))
 
-pub up_to_none : (es : List Entry) (rest : List Arrived → List Arrived) → up_to es 0 rest ≡ rest (arrivals_of es)
+pub up_to_none : (es : List Waiter) (rest : List Arrived → List Arrived) → up_to es 0 rest ≡ rest (arrivals_of es)
 up_to_none es rest = refl
 
-pub up_to_all : (es : List Entry) (i : ℕ) (rest : List Arrived → List Arrived) → rest [] ≡ [] → length es ≤ i → arrivals_of es ≡ up_to es i rest
-up_to_all es i rest none all = sym (ap (λ (xs : List Entry). arrivals_of xs ++ rest (arrivals_of (drop i es))) (take_all i es all) ∙ ap (λ (xs : List Entry). arrivals_of es ++ rest (arrivals_of xs)) (drop_all i es all) ∙ ap (λ (xs : List Arrived). arrivals_of es ++ xs) none ∙ append-nil (arrivals_of es))
+pub up_to_all : (es : List Waiter) (i : ℕ) (rest : List Arrived → List Arrived) → rest [] ≡ [] → length es ≤ i → arrivals_of es ≡ up_to es i rest
+up_to_all es i rest none all = sym (ap (λ (xs : List Waiter). arrivals_of xs ++ rest (arrivals_of (drop i es))) (take_all i es all) ∙ ap (λ (xs : List Waiter). arrivals_of es ++ rest (arrivals_of xs)) (drop_all i es all) ∙ ap (λ (xs : List Arrived). arrivals_of es ++ xs) none ∙ append-nil (arrivals_of es))
 
 -- one more stands before the place, and is another than before
-module _ (es : List Entry) (i : ℕ) (e : Entry) (low : i < length es) (read : e ≡ get_or es i e) where
+module _ (es : List Waiter) (i : ℕ) (e : Waiter) (low : i < length es) (read : e ≡ get_or es i e) where
   rest_is : arrivals_of (drop i es) ≡ arrival_of e ∷ arrivals_of (drop (i + 1) es)
-  rest_is = ap arrivals_of (drop_more es i e low ∙ ap (λ (x : Entry). x ∷ drop (i + 1) es) (sym read))
+  rest_is = ap arrivals_of (drop_more es i e low ∙ ap (λ (x : Waiter). x ∷ drop (i + 1) es) (sym read))
 
-  pub up_to_more : (x : Entry) (rest more : List Arrived → List Arrived) → rest (arrival_of e ∷ arrivals_of (drop (i + 1) es)) ≡ arrival_of x ∷ more (arrivals_of (drop (i + 1) es)) → up_to (set es i x) (i + 1) more ≡ up_to es i rest
+  pub up_to_more : (x : Waiter) (rest more : List Arrived → List Arrived) → rest (arrival_of e ∷ arrivals_of (drop (i + 1) es)) ≡ arrival_of x ∷ more (arrivals_of (drop (i + 1) es)) → up_to (set es i x) (i + 1) more ≡ up_to es i rest
   up_to_more x rest more is =
-      ap (λ (xs : List Entry). arrivals_of xs ++ more (arrivals_of (drop (i + 1) (set es i x)))) (take_more_set es i x low)
-      ∙ ap (λ (xs : List Entry). arrivals_of (take i es ++ x ∷ []) ++ more (arrivals_of xs)) (drop-set-lt (i + 1) es i x (omega arith))
+      ap (λ (xs : List Waiter). arrivals_of xs ++ more (arrivals_of (drop (i + 1) (set es i x)))) (take_more_set es i x low)
+      ∙ ap (λ (xs : List Waiter). arrivals_of (take i es ++ x ∷ []) ++ more (arrivals_of xs)) (drop-set-lt (i + 1) es i x (omega arith))
       ∙ ap (λ (xs : List Arrived). xs ++ more (arrivals_of (drop (i + 1) es))) (map-append arrival_of (take i es) (x ∷ []))
       ∙ append_assoc (arrivals_of (take i es)) (arrival_of x ∷ []) (more (arrivals_of (drop (i + 1) es)))
       ∙ ap (λ (xs : List Arrived). arrivals_of (take i es) ++ xs) (sym is ∙ ap rest (sym rest_is))
 
-  pub up_to_marked : (behind : Bool) (t round : ℕ) (x : Entry) → arrival_of x ≡ marked behind round (arrival_of e) → up_to (set es i x) (i + 1) (marked_from (behind || (e.tid.0 == t)) t round) ≡ up_to es i (marked_from behind t round)
+  pub up_to_marked : (behind : Bool) (t round : ℕ) (x : Waiter) → arrival_of x ≡ marked behind round (arrival_of e) → up_to (set es i x) (i + 1) (marked_from (behind || (e.tid.0 == t)) t round) ≡ up_to es i (marked_from behind t round)
   up_to_marked behind t round x is =
       up_to_more x (marked_from behind t round) (marked_from (behind || (e.tid.0 == t)) t round)
       (marked_one behind t round (arrival_of e) (arrivals_of (drop (i + 1) es)) ∙ ap (λ (a : Arrived). a ∷ marked_from (behind || (e.tid.0 == t)) t round (arrivals_of (drop (i + 1) es))) (sym is))
@@ -120,7 +120,7 @@ module _ (es : List Entry) (i : ℕ) (e : Entry) (low : i < length es) (read : e
 
   pub up_to_kept : (t : ℕ) → (e.tid.0 == t) ≡ false → up_to es (i + 1) (without_thread t) ≡ up_to es i (without_thread t)
   up_to_kept t other =
-      ap (λ (xs : List Entry). arrivals_of xs ++ without_thread t (arrivals_of (drop (i + 1) es))) (take_more es i e low ∙ ap (λ (x : Entry). take i es ++ x ∷ []) (sym read))
+      ap (λ (xs : List Waiter). arrivals_of xs ++ without_thread t (arrivals_of (drop (i + 1) es))) (take_more es i e low ∙ ap (λ (x : Waiter). take i es ++ x ∷ []) (sym read))
       ∙ ap (λ (xs : List Arrived). xs ++ without_thread t (arrivals_of (drop (i + 1) es))) (map-append arrival_of (take i es) (e ∷ []))
       ∙ append_assoc (arrivals_of (take i es)) (arrival_of e ∷ []) (without_thread t (arrivals_of (drop (i + 1) es)))
       ∙ ap (λ (xs : List Arrived). arrivals_of (take i es) ++ xs) (sym (ap (without_thread t) rest_is ∙ stays))
@@ -130,8 +130,8 @@ module _ (es : List Entry) (i : ℕ) (e : Entry) (low : i < length es) (read : e
 
   pub up_to_removed : (t : ℕ) → (e.tid.0 == t) ≡ true → up_to (remove es i) i (without_thread t) ≡ up_to es i (without_thread t)
   up_to_removed t its =
-      ap (λ (xs : List Entry). arrivals_of xs ++ without_thread t (arrivals_of (drop i (remove es i)))) (take_at (take i es) (drop (suc i) es) i long)
-      ∙ ap (λ (xs : List Entry). arrivals_of (take i es) ++ without_thread t (arrivals_of xs)) (drop_at (take i es) (drop (suc i) es) i long ∙ ap (λ (n : ℕ). drop n es) (sym (add-one i)))
+      ap (λ (xs : List Waiter). arrivals_of xs ++ without_thread t (arrivals_of (drop i (remove es i)))) (take_at (take i es) (drop (suc i) es) i long)
+      ∙ ap (λ (xs : List Waiter). arrivals_of (take i es) ++ without_thread t (arrivals_of xs)) (drop_at (take i es) (drop (suc i) es) i long ∙ ap (λ (n : ℕ). drop n es) (sym (add-one i)))
       ∙ ap (λ (xs : List Arrived). arrivals_of (take i es) ++ xs) (sym (ap (without_thread t) rest_is ∙ goes))
     where
       long : length (take i es) ≡ i

@@ -13,7 +13,7 @@ use Rattle.pth_lock.specs.Objects.{object_limit, object_named}
 use Rattle.pth_cond.specs.Barriers.{Arrived, Barrier, BarrierTable, arrived_in, without_thread, late_behind, barriers_of, no_barriers, size_given, with_barrier, barrier_initialised, all_withdrawn, BarrierIsSound}
 use Rattle.pth_base.specs.declared.ids.Tid.{Tid}
 use Rattle.pth_cond.specs.Kept.{arrivals_of, BarrierIsKept, BarriersAreKept}
-use Rattle.pth_cond.specs.declared.barriers.arrivals.Entry.{Entry}
+use Rattle.pth_cond.specs.declared.barriers.arrivals.Waiter.{Waiter}
 use Rattle.pth_cond.proofs.Arrivals.{arrived_in-push, arrived_in-without, arrived_in-late_behind}
 
 -- ---- one barrier
@@ -50,18 +50,18 @@ module _ (n room : ℕ) (b : Barrier) (kept : BarrierIsKept n room b) (t : ℕ) 
       apart r after = grind (arith, nat_tests, arrived_in-push r newcomer b.arrivals)
 
 -- the same of the arrivals as they are kept
-pub kept_pushed : (n room space size round : ℕ) (es fs : List Entry) (t : Tid) → BarrierIsKept n room (record { size = size; round = round; arrivals = arrivals_of es }) → n + 1 ≢ size → fs ≡ es ++ (record { tid = t; round = round; late = false }) ∷ [] → space ≡ room → BarrierIsKept (n + 1) space (record { size = size; round = round; arrivals = arrivals_of fs })
+pub kept_pushed : (n room space size round : ℕ) (es fs : List Waiter) (t : Tid) → BarrierIsKept n room (record { size = size; round = round; arrivals = arrivals_of es }) → n + 1 ≢ size → fs ≡ es ++ (record { tid = t; round = round; late = false }) ∷ [] → space ≡ room → BarrierIsKept (n + 1) space (record { size = size; round = round; arrivals = arrivals_of fs })
 kept_pushed n room space size round es fs t kept lacking pushed same =
     rw (pushed, same) (rw map_push (kept_more n room (record { size = size; round = round; arrivals = arrivals_of es }) kept t.0 lacking))
 
 -- the arrivals of a thread are gone
-pub kept_forgotten : (n m room space size round : ℕ) (es fs : List Entry) (t : ℕ) → BarrierIsKept n room (record { size = size; round = round; arrivals = arrivals_of es }) → arrivals_of fs ≡ without_thread t (arrivals_of es) → m ≡ arrived_in round (arrivals_of fs) → space ≡ room → BarrierIsKept m space (record { size = size; round = round; arrivals = arrivals_of fs })
+pub kept_forgotten : (n m room space size round : ℕ) (es fs : List Waiter) (t : ℕ) → BarrierIsKept n room (record { size = size; round = round; arrivals = arrivals_of es }) → arrivals_of fs ≡ without_thread t (arrivals_of es) → m ≡ arrived_in round (arrivals_of fs) → space ≡ room → BarrierIsKept m space (record { size = size; round = round; arrivals = arrivals_of fs })
 kept_forgotten n m room space size round es fs t kept gone counted same =
     kept_fewer n m room space (record { size = size; round = round; arrivals = arrivals_of es }) (arrivals_of fs) kept
     (λ r. let few = arrived_in-without r t (arrivals_of es) in rw gone few) counted (omega arith)
 
 -- some are late
-pub kept_marked : (n room size round q : ℕ) (es fs : List Entry) (t : ℕ) → BarrierIsKept n room (record { size = size; round = round; arrivals = arrivals_of es }) → arrivals_of fs ≡ late_behind t q (arrivals_of es) → BarrierIsKept n room (record { size = size; round = round; arrivals = arrivals_of fs })
+pub kept_marked : (n room size round q : ℕ) (es fs : List Waiter) (t : ℕ) → BarrierIsKept n room (record { size = size; round = round; arrivals = arrivals_of es }) → arrivals_of fs ≡ late_behind t q (arrivals_of es) → BarrierIsKept n room (record { size = size; round = round; arrivals = arrivals_of fs })
 kept_marked n room size round q es fs t kept late =
     kept_fewer n n room room (record { size = size; round = round; arrivals = arrivals_of es }) (arrivals_of fs) kept
     (λ r. omega (arith, same r)) (kept.count ∙ sym (same round)) (omega arith)

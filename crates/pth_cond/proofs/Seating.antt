@@ -9,7 +9,7 @@ use Rattle.std.proofs.lemmas.Bool.Decides.{nat_tests}
 use Rattle.pth_cond.specs.declared.seats.Seat.{Seat}
 use Rattle.pth_cond.specs.declared.seats.Notice.TheVariants.{Unmarked, One, All}
 use Rattle.pth_cond.specs.declared.seats.Taken.{Taken}
-use Rattle.pth_cond.specs.Seats.{is_at, has_mark, marks, marks_stand_first, notice_at, with_seat, without_seat, one_notified, all_notified, notified, handed_on, was_one, SeatsAreKept}
+use Rattle.pth_cond.specs.Seats.{is_at, has_mark, marks, marks_stand_first, notice_at, with_seat, without_seat, one_notified, all_notified, notified, handed_on, is_one_at, SeatsAreKept}
 
 true_false : true ≡ false → ⊥
 true_false h = cc
@@ -281,6 +281,6 @@ order_notified true ts order = (kept_all ts).order
 order_notified false ts order = order_one ts order
 
 pub order_handed_on : (s : Seat) (ts : List Taken) → marks_stand_first ts ≡ true → marks_stand_first (handed_on s ts) ≡ true
-order_handed_on s ts order = cases (was_one (notice_at s ts))
+order_handed_on s ts order = cases (is_one_at (notice_at s ts))
     (λ e. rw e (order_one (without_seat s ts) (order_left s ts order)))
     (λ e. rw e (order_left s ts order))

@@ -6,7 +6,7 @@ use Rattle.pth_cond.specs.declared.seats.Seat.{Seat}
 use Rattle.pth_cond.specs.declared.seats.Notice.{Notice}
 use Rattle.pth_cond.specs.declared.seats.Notice.TheVariants.{Unmarked, One, All}
 use Rattle.pth_cond.specs.declared.seats.Taken.{Taken}
-use Rattle.pth_cond.specs.Seats.{is_at, is_mark, is_one, is_all, has_mark, was_one, notice_at, without_seat, one_notified, handed_on, ones, alls, unmarked, HandingOnKeepsOnes}
+use Rattle.pth_cond.specs.Seats.{is_at, is_mark, is_one, is_all, has_mark, is_one_at, notice_at, without_seat, one_notified, handed_on, seats_with_one, seats_with_all, unmarked, HandingOnKeepsOnes}
 use Rattle.pth_cond.proofs.Seating.{cases, one_more, one_here}
 
 no_mark : (n : Notice) → is_mark n ≡ false → n ≡ Unmarked
@@ -88,21 +88,21 @@ module _ (s : Seat) (ts : List Taken) (mark : notice_at s ts ≡ Some One) where
   others_unmarked : unmarked (without_seat s ts) ≡ unmarked ts
   others_unmarked = let h = rw mark at (counted_left (λ n. not (is_mark n)) s ts) in omega arith
 
-  one_less : ones (without_seat s ts) + 1 ≡ ones ts
+  one_less : seats_with_one (without_seat s ts) + 1 ≡ seats_with_one ts
   one_less = rw mark at (counted_left is_one s ts)
 
-  all_stay : alls (without_seat s ts) ≡ alls ts
+  all_stay : seats_with_all (without_seat s ts) ≡ seats_with_all ts
   all_stay = let h = rw mark at (counted_left is_all s ts) in omega arith
 
   module _ (some : 0 < unmarked ts) where
     some_left : 0 < unmarked (without_seat s ts)
     some_left = let same = others_unmarked in omega arith
 
-    pub kept : ones (handed_on s ts) ≡ ones ts
+    pub kept : seats_with_one (handed_on s ts) ≡ seats_with_one ts
     kept =
         let less = one_less in
         let more = counted_one is_one (without_seat s ts) some_left in
-        ap ones given_on ∙ omega arith
+        ap seats_with_one given_on ∙ omega arith
 
     pub given : unmarked (handed_on s ts) + 1 ≡ unmarked ts
     given =
@@ -110,28 +110,28 @@ module _ (s : Seat) (ts : List Taken) (mark : notice_at s ts ≡ Some One) where
         let fewer = counted_one (λ n. not (is_mark n)) (without_seat s ts) some_left in
         rw given_on (omega arith)
 
-    all_given : alls (handed_on s ts) ≡ alls ts
+    all_given : seats_with_all (handed_on s ts) ≡ seats_with_all ts
     all_given =
         let same = all_stay in
         let more = counted_one is_all (without_seat s ts) some_left in
-        ap alls given_on ∙ omega arith
+        ap seats_with_all given_on ∙ omega arith
 
   module _ (none : unmarked ts ≡ 0) where
     not_given : handed_on s ts ≡ without_seat s ts
     not_given = given_on ∙ one_none (without_seat s ts) (others_unmarked ∙ none)
 
-    pub lost : ones (handed_on s ts) + 1 ≡ ones ts
+    pub lost : seats_with_one (handed_on s ts) + 1 ≡ seats_with_one ts
     lost = rw not_given one_less
 
-    all_not_given : alls (handed_on s ts) ≡ alls ts
-    all_not_given = ap alls not_given ∙ all_stay
+    all_not_given : seats_with_all (handed_on s ts) ≡ seats_with_all ts
+    all_not_given = ap seats_with_all not_given ∙ all_stay
 
-  all_anyway : alls (handed_on s ts) ≡ alls ts
+  all_anyway : seats_with_all (handed_on s ts) ≡ seats_with_all ts
   all_anyway = elim (cases_lt 0 (unmarked ts)) [ inl some ↦ all_given some | inr none ↦ all_not_given (omega arith) ]
 
 -- ---- a seat with another mark, or none
 
-one_was : (o : Option Notice) → o ≢ Some One → (was_one o ≡ false) × (weight is_one o ≡ 0)
+one_was : (o : Option Notice) → o ≢ Some One → (is_one_at o ≡ false) × (weight is_one o ≡ 0)
 one_was (Some Unmarked) other = (refl, refl)
 one_was (Some One) other = absurd (other refl)
 one_was (Some All) other = (refl, refl)
@@ -144,29 +144,29 @@ all_was (Some All) other = absurd (other refl)
 all_was None other = refl
 
 module _ (s : Seat) (ts : List Taken) where
-  kept_on : was_one (notice_at s ts) ≡ false → handed_on s ts ≡ without_seat s ts
+  kept_on : is_one_at (notice_at s ts) ≡ false → handed_on s ts ≡ without_seat s ts
   kept_on other = rw other
 
-  pub others : notice_at s ts ≢ Some One → ones (handed_on s ts) ≡ ones ts
+  pub others : notice_at s ts ≢ Some One → seats_with_one (handed_on s ts) ≡ seats_with_one ts
   others other =
       let none = one_was (notice_at s ts) other in
       let left = counted_left is_one s ts in
-      ap ones (kept_on none.0) ∙ omega (arith, none.1)
+      ap seats_with_one (kept_on none.0) ∙ omega (arith, none.1)
 
-  all_other : was_one (notice_at s ts) ≡ false → notice_at s ts ≢ Some All → alls (handed_on s ts) ≡ alls ts
+  all_other : is_one_at (notice_at s ts) ≡ false → notice_at s ts ≢ Some All → seats_with_all (handed_on s ts) ≡ seats_with_all ts
   all_other kept other =
       let none = all_was (notice_at s ts) other in
       let left = counted_left is_all s ts in
-      ap alls (kept_on kept) ∙ omega arith
+      ap seats_with_all (kept_on kept) ∙ omega arith
 
-was_one_is : (o : Option Notice) → was_one o ≡ true → o ≡ Some One
+was_one_is : (o : Option Notice) → is_one_at o ≡ true → o ≡ Some One
 was_one_is (Some Unmarked) one = cc
 was_one_is (Some One) one = refl
 was_one_is (Some All) one = cc
 was_one_is None one = cc
 
-all_handed_on : (s : Seat) (ts : List Taken) → notice_at s ts ≢ Some All → alls (handed_on s ts) ≡ alls ts
-all_handed_on s ts other = cases (was_one (notice_at s ts))
+all_handed_on : (s : Seat) (ts : List Taken) → notice_at s ts ≢ Some All → seats_with_all (handed_on s ts) ≡ seats_with_all ts
+all_handed_on s ts other = cases (is_one_at (notice_at s ts))
     (λ e. all_anyway s ts (was_one_is (notice_at s ts) e))
     (λ e. all_other s ts e other)
 

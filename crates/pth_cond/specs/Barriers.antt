@@ -30,11 +30,12 @@ BarrierTable = ℕ → Option Barrier
 abbrev pub arrival_limit : ℕ
 arrival_limit = 4096
 
--- rounds are numbered below this
+-- threads arrive only in rounds that are numbered below this
 abbrev pub round_number_limit : ℕ
 round_number_limit = 4611686018427387904
 
--- what a thread is answered that came first in its round (PTH_BARRIER_HEADLIGHT), last, or between
+-- what a thread is answered whose arrival is the first of its round that was not taken back (PTH_BARRIER_HEADLIGHT), the last
+-- (PTH_BARRIER_TAILLIGHT), or between
 abbrev pub headlight : ℤ
 headlight = negsuc 0
 
@@ -79,7 +80,7 @@ waits_here t None = false
 abbrev pub waits_at : BarrierTable → ℤ → ℕ → Bool
 waits_at x b t = waits_here t (x (object_named b))
 
--- a barrier can take one more arrival
+-- a barrier does not lack room for one more arrival: one that is not initialised refuses each
 abbrev pub takes_more : Option Barrier → Bool
 takes_more (Some b) = nat_lt (length b.arrivals) arrival_limit && nat_lt b.round round_number_limit
 takes_more None = true
@@ -157,7 +158,7 @@ withdrawn b t = with_barrier b (λ y. record y { arrivals = without_thread t y.a
 abbrev pub made_late : ℕ → List Arrived → List Arrived
 made_late round xs = map (λ (a : Arrived). if a.round == round then record a { late = true } else a) xs
 
--- those are late that stand behind the arrival of a thread, which is answered
+-- the arrivals of a round are late that stand behind the arrival of this thread, which is answered
 abbrev pub late_behind : (thread round : ℕ) → List Arrived → List Arrived
 late_behind t round [] = []
 late_behind t round (a ∷ rest) = a ∷ (if a.tid == t then made_late round rest else late_behind t round rest)
@@ -181,7 +182,7 @@ barriers_of xs b = table None xs b
 
 -- ---- what holds at every moment
 
--- rounds have from 1 to 4,096 threads, and are numbered from 1; fewer wait for the round than make it
+-- rounds have from 1 to 4,096 arrivals, and are numbered from 1; fewer arrivals wait for the current round than make it
 pub record BarrierIsSound (b : Barrier) : Type 0 where
   pub some : 0 < b.size
   pub many : b.size ≤ arrival_limit

@@ -6,7 +6,7 @@ use Rattle.pth_base.specs.declared.errno.Errno.TheVariants.{EBUSY, EINVAL}
 use Rattle.pth_lock.specs.Objects.{object_limit, object_named, is_object}
 use Rattle.pth_cond.specs.declared.seats.Seat.{Seat}
 use Rattle.pth_cond.specs.declared.seats.Taken.{Taken}
-use Rattle.pth_cond.specs.Seats.{notice_at, was_marked, marks_stand_first, with_seat, without_seat, notified, handed_on}
+use Rattle.pth_cond.specs.Seats.{notice_at, is_marked_at, marks_stand_first, with_seat, without_seat, notified, handed_on}
 
 -- a condition: none where it is not initialised, and else its seats in order of entry
 abbrev pub Condition : Type 0
@@ -24,7 +24,7 @@ is_live x c = is_some (x (object_named c))
 
 -- a seat of a condition has a mark
 abbrev pub is_marked_in : Seat → Condition → Bool
-is_marked_in s (Some ts) = was_marked (notice_at s ts)
+is_marked_in s (Some ts) = is_marked_at (notice_at s ts)
 is_marked_in s None = false
 
 abbrev pub is_marked : ConditionTable → ℤ → Seat → Bool

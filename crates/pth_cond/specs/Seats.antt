@@ -40,15 +40,15 @@ abbrev pub notice_at : Seat → List Taken → Option Notice
 notice_at s [] = None
 notice_at s (t ∷ ts) = if is_at s t then Some t.notice else notice_at s ts
 
--- a seat that was left had the mark One
-abbrev pub was_one : Option Notice → Bool
-was_one (Some n) = is_one n
-was_one None = false
+-- the mark of a seat, if it has one, is One
+abbrev pub is_one_at : Option Notice → Bool
+is_one_at (Some n) = is_one n
+is_one_at None = false
 
--- a seat has a mark
-abbrev pub was_marked : Option Notice → Bool
-was_marked (Some n) = is_mark n
-was_marked None = false
+-- the mark of a seat, if it has one, is one
+abbrev pub is_marked_at : Option Notice → Bool
+is_marked_at (Some n) = is_mark n
+is_marked_at None = false
 
 abbrev pub has_mark : Taken → Bool
 has_mark t = is_mark t.notice
@@ -87,7 +87,7 @@ notified all ts = if all then all_notified ts else one_notified ts
 
 -- a seat is left, and its mark One goes to the first without a mark
 abbrev pub handed_on : Seat → List Taken → List Taken
-handed_on s ts = if was_one (notice_at s ts) then one_notified (without_seat s ts) else without_seat s ts
+handed_on s ts = if is_one_at (notice_at s ts) then one_notified (without_seat s ts) else without_seat s ts
 
 -- ---- how seats are kept
 
@@ -99,11 +99,11 @@ pub record SeatsAreKept (marked : ℕ) (ts : List Taken) : Type 0 where
 -- ---- a law
 
 -- how many seats have the mark One, and how many the mark All
-abbrev pub ones : List Taken → ℕ
-ones ts = count_by (λ t. is_one t.notice) ts
+abbrev pub seats_with_one : List Taken → ℕ
+seats_with_one ts = count_by (λ t. is_one t.notice) ts
 
-abbrev pub alls : List Taken → ℕ
-alls ts = count_by (λ t. is_all t.notice) ts
+abbrev pub seats_with_all : List Taken → ℕ
+seats_with_all ts = count_by (λ t. is_all t.notice) ts
 
 -- how many have none
 abbrev pub unmarked : List Taken → ℕ
@@ -111,12 +111,12 @@ unmarked ts = count_by (λ t. not (has_mark t)) ts
 
 -- a mark One is not lost while another seat has none: as many seats have it after one of them was handed on
 pub record HandingOnKeepsOnes : Type 0 where
-  pub kept : (s : Seat) (ts : List Taken) → notice_at s ts ≡ Some One → 0 < unmarked ts → ones (handed_on s ts) ≡ ones ts
+  pub kept : (s : Seat) (ts : List Taken) → notice_at s ts ≡ Some One → 0 < unmarked ts → seats_with_one (handed_on s ts) ≡ seats_with_one ts
   -- one that had no mark has it then
   pub given : (s : Seat) (ts : List Taken) → notice_at s ts ≡ Some One → 0 < unmarked ts → unmarked (handed_on s ts) + 1 ≡ unmarked ts
   -- where each has a mark, it is lost
-  pub lost : (s : Seat) (ts : List Taken) → notice_at s ts ≡ Some One → unmarked ts ≡ 0 → ones (handed_on s ts) + 1 ≡ ones ts
+  pub lost : (s : Seat) (ts : List Taken) → notice_at s ts ≡ Some One → unmarked ts ≡ 0 → seats_with_one (handed_on s ts) + 1 ≡ seats_with_one ts
   -- a seat without that mark takes none along
-  pub others : (s : Seat) (ts : List Taken) → notice_at s ts ≢ Some One → ones (handed_on s ts) ≡ ones ts
+  pub others : (s : Seat) (ts : List Taken) → notice_at s ts ≢ Some One → seats_with_one (handed_on s ts) ≡ seats_with_one ts
   -- the mark All is not handed on
-  pub stays : (s : Seat) (ts : List Taken) → notice_at s ts ≢ Some All → alls (handed_on s ts) ≡ alls ts
+  pub stays : (s : Seat) (ts : List Taken) → notice_at s ts ≢ Some All → seats_with_all (handed_on s ts) ≡ seats_with_all ts

@@ -154,8 +154,9 @@ impl Barriers {
         }
     }
 
-    /// Answers the arrival of a thread whose round has passed: `PTH_BARRIER_HEADLIGHT` (-1) for the first of the round, and 1 for
-    /// any other.
+    /// Answers the arrival of a thread whose round has passed: `PTH_BARRIER_HEADLIGHT` (-1) for the first of the round that was not
+    /// taken back, and 1 for any other. The arrival waits no more, and those of the round behind it are late. 1 also where the thread
+    /// has no arrival there.
     pub fn answer(&mut self, b: i64, round: u64, t: Tid) -> i64
         ensures answer { result ≡ round_answer (barriers_of self.old) b round t.0 }
         ensures changes { barriers_of self.new ≡ round_answered b round t.0 (barriers_of self.old) }

@@ -1,7 +1,7 @@
 //! The seats of a condition.
 
 ghost use Rattle.std.specs.Prelude.{◌≡◌, ◌<◌, length, [], position, OnOk, OnErr};
-ghost use Rattle.pth_cond.specs.Seats.{is_seat, is_at, is_mark, notice_at, was_marked, with_seat, without_seat, one_notified, all_notified, notified, handed_on, SeatsAreKept};
+ghost use Rattle.pth_cond.specs.Seats.{is_seat, is_at, is_mark, notice_at, is_marked_at, with_seat, without_seat, one_notified, all_notified, notified, handed_on, SeatsAreKept};
 
 use pth_base::ids::{EventId, Tid};
 use pth_base::memory::OutOfMemory;
@@ -56,7 +56,6 @@ pub struct Taken {
 }
 
 // The seats of a condition in order of entry, those with a mark first. Only `enter` takes memory.
-#[derive(Drop)]
 pub(crate) struct Seats {
     taken: Vec<Taken>,
     // How many have a mark.
@@ -73,6 +72,16 @@ impl Model for Seats {
     ghost view = { λ a. a.taken.items };
 
     ghost invariant = { λ a. SeatsAreKept a.marked a.taken.items };
+}
+
+// By hand, so that letting one go is one call in each proof.
+impl Drop for Seats {
+    fn drop(self) {
+        let Seats {
+            taken: _,
+            marked: _,
+        } = self;
+    }
 }
 
 impl Seats {
@@ -153,7 +162,7 @@ impl Seats {
 
     // Whether a seat has a mark.
     pub(crate) fn is_marked(&self, seat: Seat) -> bool
-        ensures { result ≡ was_marked (notice_at seat self.now) }
+        ensures { result ≡ is_marked_at (notice_at seat self.now) }
     {
         match place_of_seat(&self.taken, seat) {
             Some(place) => self.taken[place].notice.is_mark(),

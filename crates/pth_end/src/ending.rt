@@ -22,10 +22,9 @@ use pth_base::memory::OutOfMemory;
 use pth_base::program::Program;
 use pth_world::world::World;
 
-/// Ends a thread that is alive with a value, whoever runs: its wait is undone, and its arrival at a barrier is taken back; its cleanup
-/// handlers run, the last pushed first, and
-/// then its destructors, and it gives up its mutexes and read-write locks; one that can be joined is dead until it is joined, and
-/// another is gone (`pth_exit`). After an error the world may only be dropped.
+/// Ends a thread that is alive with a value, whoever runs: its wait is undone, with its arrival at a barrier; its cleanup handlers
+/// run, the last pushed first, and then its destructors, and it gives up its mutexes and read-write locks; one that can be joined
+/// is dead until it is joined, and another is gone (`pth_exit`). After an error the world may only be dropped.
 pub fn end_thread<P: Program>(
     w: &mut World<P>,
     t: Tid,

@@ -56,9 +56,13 @@ fn withdraw_awaited<P: Program>(
     }
 }
 
-/// The wait of a thread that ends is undone: its arrival at a barrier is taken back, which is told, the call that blocks it is taken
-/// out, and the claim on its ring is given back. After an error the world may only be dropped.
-pub fn undo_wait<P: Program>(w: &mut World<P>, t: Tid, marks: &mut Marks) -> Result<(), OutOfMemory>
+/// The wait of a thread that ends is undone: its arrival at a barrier is taken back, which is told, the call that blocks it is
+/// taken out, and the claim on its ring is given back. After an error the world may only be dropped.
+pub(crate) fn undo_wait<P: Program>(
+    w: &mut World<P>,
+    t: Tid,
+    marks: &mut Marks,
+) -> Result<(), OutOfMemory>
     requires whole { Whole w.old }
     requires alive { IsAlive w.old.threads t.0 }
     ensures ok { OnOk result ((s : State P P.State P.Shared) → StandsFor w.old s → Leads w.new marks.old marks.new (undoes_wait t.0 s)) }

@@ -1,5 +1,5 @@
 -- What a blocked call waits for, and what its wait holds: a moment, the bytes that it wrote so far, the round of a barrier.
-use Rattle.std.specs.Prelude.{ℕ, ℤ, Option, Some, None, if◌then◌else◌}
+use Rattle.std.specs.Prelude.{◌≡◌, ℕ, ℤ, Option, Some, None, if◌then◌else◌}
 use Rattle.pth_numbered.specs.Operands.{is_zero}
 use Rattle.pth_model.specs.declared.awaits.Awaits.{Awaits}
 use Rattle.pth_model.specs.declared.awaits.Awaits.TheVariants.{Nothing, Death, AnyDeath, Moment, Writing, Selection, Round}
@@ -24,6 +24,10 @@ written_in a = 0
 abbrev pub round_in : Awaits → ℕ
 round_in (Round b round) = round
 round_in a = 0
+
+-- a round of this barrier is waited for
+abbrev pub IsRound : ℤ → Awaits → Type 0
+IsRound b a = a ≡ Round b (round_in a)
 
 -- what the blocked call waits for: if no call blocks, nothing
 abbrev pub awaits_in : Option Blocked → Awaits

@@ -52,7 +52,8 @@ pub record Scheduler : Type 0 where
   pub favour_new : Bool
 
 -- what calls change: the program's shared value, the threads, their attribute objects, events and rings of them (pth_event_t),
--- the barriers (pth_barrier_t), the kernel with its descriptors, the once controls that were used (pth_once_t), and what the scheduler keeps
+-- the barriers (pth_barrier_t), the kernel with its descriptors, the once controls that were used (pth_once_t), and what the
+-- scheduler keeps
 pub record Control (P S H : Type 0) : Type 0 where
   pub program : P
   pub shared : H

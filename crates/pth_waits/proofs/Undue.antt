@@ -68,6 +68,7 @@ alone_by t (call.Connect f) may = absurd (cc may)
 alone_by t (call.ConnectEv f e) may = absurd (cc may)
 alone_by t (call.MutexAcquire m v e) may = absurd (cc may)
 alone_by t (call.RwAcquire l write v e) may = absurd (cc may)
+alone_by t (call.BarrierReach b) may = absurd (cc may)
 alone_by t c may = absurd may
 
 main_waits : (t : ℕ) (o : Option Blocked) → IfSome o (λ b. MayBlock t b) → awaits_in o ≡ Alone → t ≡ main

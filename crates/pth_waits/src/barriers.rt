@@ -37,8 +37,8 @@ fn arrived_as(b: i64, arrival: Result<Arrival, Errno>) -> Verdict
 }
 
 /// `pth_barrier_reach` of barrier `b`: the last thread of its round lets the round pass, and any other waits until it has passed.
-/// EINVAL if there is no such barrier. `OutOfMemory` would come if 4,096 arrivals waited at the barrier, or if its rounds had no
-/// number left; that no run brings it so far is only tested.
+/// EINVAL if the barrier is not initialised. `OutOfMemory` if 4,096 arrivals wait there, or if its rounds have no number left: no run
+/// comes to that, which is tested and not proved.
 pub(crate) fn reach_barrier<P: Program>(
     w: &mut World<P>,
     t: Tid,

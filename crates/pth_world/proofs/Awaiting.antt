@@ -5,10 +5,10 @@ use Rattle.pth_base.specs.declared.call.Call.TheVariants as call
 use Rattle.pth_base.specs.declared.ids.FdSet.{FdSet}
 use Rattle.pth_numbered.specs.Operands.{is_zero}
 use Rattle.pth_model.specs.declared.awaits.Awaits.{Awaits}
-use Rattle.pth_model.specs.declared.awaits.Awaits.TheVariants.{Death, AnyDeath, Moment, Writing, Selection, Round}
+use Rattle.pth_model.specs.declared.awaits.Awaits.TheVariants.{Death, AnyDeath, Moment, Writing, Selection}
 use Rattle.pth_model.specs.declared.blocked.Blocked.{Blocked}
 use Rattle.pth_model.specs.Awaits.{awaits_in}
-use Rattle.pth_world.specs.Whole.{IsMoment, IsRound, IsSelection, IsWriting, MayAwait, MayAwaitAs, MayBlock}
+use Rattle.pth_world.specs.Whole.{IsMoment, IsSelection, IsWriting, MayAwait, MayAwaitAs, MayBlock}
 
 death_may : (zero : Bool) (n : ℤ) → MayAwait (if zero then AnyDeath else Death n)
 death_may true n = tt
@@ -26,10 +26,6 @@ selection_may : (r w x : FdSet) (a : Awaits) → IsSelection r w x a → MayAwai
 selection_may r w x (Selection b c d (Some deadline)) is = is.3
 selection_may r w x (Selection b c d None) is = tt
 selection_may r w x a is = absurd is
-
-round_may : (b : ℤ) (a : Awaits) → IsRound b a → MayAwait a
-round_may b (Round c round) is = tt
-round_may b a is = absurd is
 
 by_equal : (a b : Awaits) → a ≡ b → MayAwait b → MayAwait a
 by_equal a b is may = subst MayAwait (sym is) may
@@ -53,7 +49,7 @@ call_may t (call.Connect f) a may = by_equal a _ may tt
 call_may t (call.ConnectEv f e) a may = by_equal a _ may tt
 call_may t (call.MutexAcquire m v e) a may = by_equal a _ may tt
 call_may t (call.RwAcquire l write v e) a may = by_equal a _ may tt
-call_may t (call.BarrierReach b) a may = round_may b a may
+call_may t (call.BarrierReach b) a may = by_equal a _ may tt
 call_may t c a may = absurd may
 
 pub may_await : (t : ℕ) (o : Option Blocked) → IfSome o (λ b. MayBlock t b) → MayAwait (awaits_in o)

@@ -13,9 +13,9 @@ use Rattle.pth_queue.specs.declared.queue.Queue.TheVariants as queue
 use Rattle.pth_threads.specs.Threads.{slot_of, tid_at, entry_at}
 use Rattle.pth_threads.specs.declared.entry.Entry.{Entry}
 use Rattle.pth_model.specs.declared.awaits.Awaits.{Awaits}
-use Rattle.pth_model.specs.declared.awaits.Awaits.TheVariants.{Alone, Moment, Ring, Reading, Writing, Connection, ConnectAnswer, Selection, Mutex, Lock, Round}
+use Rattle.pth_model.specs.declared.awaits.Awaits.TheVariants.{Alone, Moment, Ring, Reading, Writing, Connection, ConnectAnswer, Selection, Mutex, Lock}
 use Rattle.pth_model.specs.declared.blocked.Blocked.{Blocked}
-use Rattle.pth_model.specs.Awaits.{death_of}
+use Rattle.pth_model.specs.Awaits.{IsRound, death_of}
 use Rattle.pth_model.specs.State.{main}
 use Rattle.pth_model.specs.Changes.{blocked_in, queue_for}
 use Rattle.pth_world.specs.Store.{store_of, HasNothing}
@@ -50,11 +50,6 @@ IsWriting f n a = ⊥
 abbrev pub IsSelection : (r w x : FdSet) → Awaits → Type 0
 IsSelection r w x (Selection a b c deadline) = (a ≡ r) × (b ≡ w) × (c ≡ x) × IfSome deadline (λ m. m ≤ last_moment)
 IsSelection r w x a = ⊥
-
--- a wait at this barrier
-abbrev pub IsRound : ℤ → Awaits → Type 0
-IsRound b (Round c round) = c ≡ b
-IsRound b a = ⊥
 
 -- What a call that blocks thread t waits for. Of those that are built, these block it: main's exit, every join, and the calls that wait
 -- for a moment, for a ring, for a descriptor, for a mutex, for a lock or at a barrier.

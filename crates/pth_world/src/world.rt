@@ -47,8 +47,8 @@ use std::alloc::Global;
 use std::marker::Model;
 
 /// The program with its threads: their records, their queues and how far each is in its program, their attribute objects,
-/// events and rings of them, the barriers, the kernel, what they stored and locked, the once controls that were used, and what the scheduler
-/// keeps of them.
+/// events and rings of them, the barriers, the kernel, what they stored and locked, the once controls that were used, and what
+/// the scheduler keeps of them.
 pub struct World<P: Program> {
     alloc: Global,
     program: P,

@@ -4,7 +4,7 @@ ghost use Rattle.std.specs.Prelude.{◌≡◌, ◌<◌, ◌≤◌, Some, true, I
 ghost use Rattle.pth_cond.specs.Barriers.{BarrierIsSound, arrival_limit, takes_more, arrival_at, arrived, waits_among, without_thread, is_past, answer_in, answered};
 
 use super::Arrival;
-use crate::barriers::arrivals::{Entry, count, has, is_first, mark_behind, take_out};
+use crate::barriers::arrivals::{Waiter, count, has, is_first, mark_behind, take_out};
 use pth_base::ids::Tid;
 use pth_base::memory::OutOfMemory;
 use std::alloc::Global;
@@ -13,10 +13,10 @@ use std::marker::Model;
 // How many threads may make a round, and how many arrivals may wait at a barrier.
 pub(crate) const MOST_ARRIVALS: usize = 4096;
 
-// Rounds are numbered below this.
+// Threads arrive only in rounds that are numbered below this.
 const ROUNDS_END: u64 = 4_611_686_018_427_387_904;
 
-// What the thread is answered that came first in its round (`PTH_BARRIER_HEADLIGHT`).
+// What the thread is answered whose arrival is the first of its round that was not taken back (`PTH_BARRIER_HEADLIGHT`).
 const HEADLIGHT: i64 = -1;
 
 // What a thread is answered that came neither first in its round nor last.
@@ -29,7 +29,7 @@ pub(crate) struct OneBarrier {
     round: u64,
     // How many wait for this round.
     count: usize,
-    entries: Vec<Entry>,
+    entries: Vec<Waiter>,
 }
 
 impl Model for OneBarrier {
@@ -93,7 +93,7 @@ impl OneBarrier {
             return Arrival::Tail;
         }
         self.count += 1;
-        self.entries.push_reserved(Entry {
+        self.entries.push_reserved(Waiter {
             tid: t,
             round: self.round,
             late: false,
