@@ -14,7 +14,7 @@ use Rattle.pth_store.specs.Storing.{AnswersWithMemory}
 use Rattle.pth_world.proofs.Barriers.{barred_shows}
 use Rattle.pth_world.specs.Leading.{IsAnswered}
 use Rattle.pth_world.specs.World.{WorldOf}
-use Rattle.pth_calls.proofs.Deciding.{decided}
+use Rattle.pth_end.proofs.Deciding.{decided}
 
 done_answered : (r : Result (Unit {0}) Errno) (u : Unit {0}) → AnswersWithMemory r (Ok u) → Ok tt ≡ r
 done_answered (Ok done) u answers = refl

@@ -36,6 +36,10 @@ module _ {P S H : Type 0} (w : WorldOf P S H) (x : KernelOf) (v : Kernel → Ver
 abbrev as_integer : Result ℕ Errno → Result ℤ Errno
 as_integer = result_map_both (λ n. pos n) (λ e. e)
 
+pub number_said : (q : Result ℕ Errno) (n : ℤ) → Ok n ≡ as_integer q → by_result says q ≡ Says (Int n)
+number_said (Ok m) n is = let same : pos m ≡ n = cc is in ap (λ (x : ℤ). Says (Int x)) same
+number_said (Err e) n is = absurd (cc is)
+
 pub error_said : (q : Result ℕ Errno) (e : Errno) → Err e ≡ as_integer q → by_result says q ≡ refused e
 error_said (Ok n) e is = absurd (cc is)
 error_said (Err d) e is = let same : d ≡ e = cc is in ap (λ (x : Errno). refused x) same

@@ -1,4 +1,3 @@
-pub mod Deciding
 pub mod KernelAnswers
 pub mod Making
 pub mod Barring

@@ -27,7 +27,7 @@ use Rattle.pth_world.specs.World.{WorldOf}
 use Rattle.pth_world.proofs.Events.{kept_shows}
 use Rattle.pth_calls.specs.Lines.{unchained_event_line}
 use Rattle.pth_end.specs.Saying.{SaysRefusal}
-use Rattle.pth_calls.proofs.Deciding.{decided}
+use Rattle.pth_end.proofs.Deciding.{decided}
 
 number_answered : (q : Result ℕ Errno) (e : EventId) → AnswersEvent q (Ok e) → Ok e.0 ≡ q
 number_answered (Ok n) e is = ap (λ (m : ℕ). Ok m) is

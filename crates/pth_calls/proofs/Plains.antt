@@ -85,6 +85,15 @@ quiet_event_call t (call.EvKind e) a events = λ x. refl
 quiet_event_call t (call.EvFree e all) a events = λ x. refl
 quiet_event_call t c a events = absurd (cc events)
 
+-- nor do calls on conditions that await none, and one that is refused
+pub quiet_cond_init : (t : Tid) (c : ℤ) (a : Answer) → IsQuiet (Answered t (call.CondInit c) a)
+unfolding told answer_told
+quiet_cond_init t c a = λ x. refl
+
+pub quiet_cond_notify : (t : Tid) (c v : ℤ) (a : Answer) → IsQuiet (Answered t (call.CondNotify c v) a)
+unfolding told answer_told
+quiet_cond_notify t c v a = λ x. refl
+
 -- nor does one that initialises a barrier
 pub quiet_barrier_init : (t : Tid) (b n : ℤ) (a : Answer) → IsQuiet (Answered t (call.BarrierInit b n) a)
 unfolding told answer_told
@@ -108,6 +117,7 @@ has_code facility.Keys = true
 has_code facility.Cleanups = true
 has_code facility.Mutexes = true
 has_code facility.Rwlocks = true
+has_code facility.Conditions = true
 has_code facility.Barriers = true
 has_code facility.Io = true
 has_code x = false
@@ -128,6 +138,7 @@ pub record IsOther (x : Facility) : Type 0 where
   pub cleanups : x ≢ facility.Cleanups
   pub mutexes : x ≢ facility.Mutexes
   pub rwlocks : x ≢ facility.Rwlocks
+  pub conditions : x ≢ facility.Conditions
   pub barriers : x ≢ facility.Barriers
   pub io : x ≢ facility.Io
 
@@ -142,9 +153,18 @@ other_facility facility.Keys other = absurd (other.keys refl)
 other_facility facility.Cleanups other = absurd (other.cleanups refl)
 other_facility facility.Mutexes other = absurd (other.mutexes refl)
 other_facility facility.Rwlocks other = absurd (other.rwlocks refl)
+other_facility facility.Conditions other = absurd (other.conditions refl)
 other_facility facility.Barriers other = absurd (other.barriers refl)
 other_facility facility.Io other = absurd (other.io refl)
 other_facility x other = refl
+
+-- of calls on conditions, these are two
+pub other_condition_call : {P S H : Type 0} (f : P → Functions S H) (s : State P S H) (t : ℕ) (c : Call) → facility_of c ≡ Some facility.Conditions → ((x : ℤ) → c ≢ call.CondInit x) → ((x v : ℤ) → c ≢ call.CondNotify x v) → row_of f s t c ≡ unbuilt
+unfolding row_of
+other_condition_call f s t (call.CondInit x) conditions init notify = absurd (init x refl)
+other_condition_call f s t (call.CondNotify x v) conditions init notify = absurd (notify x v refl)
+other_condition_call f s t (call.CondAwait x m e) conditions init notify = refl
+other_condition_call f s t c conditions init notify = absurd (cc conditions)
 
 -- a plain call is of a facility
 pub plain_called : (c : Call) → is_plain c ≡ true → facility_of c ≢ None
@@ -182,9 +202,6 @@ module _ {P S H : Type 0} (f : P → Functions S H) (s : State P S H) (t : ℕ) 
   unbuilt_row (call.PortGet p) called none = refl
   unbuilt_row (call.Reply m v) called none = refl
   unbuilt_row (call.PortDestroy p) called none = refl
-  unbuilt_row (call.CondInit x) called none = refl
-  unbuilt_row (call.CondAwait x m e) called none = refl
-  unbuilt_row (call.CondNotify x v) called none = refl
   unbuilt_row call.Plain called none = absurd (called refl)
   unbuilt_row (call.Note v) called none = absurd (called refl)
   unbuilt_row c called none = absurd (cc none)

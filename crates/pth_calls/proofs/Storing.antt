@@ -1,18 +1,17 @@
 -- Calls that change what threads store: their rows only answer, and the marks tell what they change.
-use Rattle.std.proofs.Common.{◌≡◌, ◌≢◌, ◌∙◌, ℕ, ℤ, pos, negsuc, IfOk, Bool, true, false, not, Option, Some, None, is_none, Result, Ok, Err, if◌then◌else◌, OnOk, OnErr, List, [], refl, ap, sym, subst}
+use Rattle.std.proofs.Common.{◌≡◌, ◌≢◌, ◌∙◌, ℕ, ℤ, pos, negsuc, IfOk, Bool, true, false, not, Option, Some, None, is_none, Result, Ok, Err, if◌then◌else◌, OnOk, OnErr, List, refl, ap, sym, subst}
 use Rattle.pth_base.proofs.Tables.{not_same}
 use Rattle.pth_base.specs.Cut.{IsCut}
 use Rattle.pth_base.specs.Program.{Functions}
 use Rattle.pth_base.specs.declared.answer.Answer.{Answer}
 use Rattle.pth_base.specs.declared.answer.Answer.TheVariants.{Int, Fail}
-use Rattle.pth_base.specs.declared.call.Call.{Call}
 use Rattle.pth_base.specs.declared.call.Call.TheVariants as call
 use Rattle.pth_base.specs.declared.errno.Errno.{Errno}
 use Rattle.pth_base.specs.declared.errno.Errno.TheVariants.{EINVAL}
 use Rattle.pth_base.specs.declared.ids.Tid.{Tid}
 use Rattle.pth_base.specs.declared.mark.Mark.{Mark}
 use Rattle.pth_base.specs.declared.mark.Mark.TheVariants.{Answered}
-use Rattle.pth_lock.specs.Mutexes.{mutex_init_answer, mutex_initialised, mutex_release_answer}
+use Rattle.pth_lock.specs.Mutexes.{mutex_init_answer, mutex_initialised}
 use Rattle.pth_lock.specs.Objects.{object_named}
 use Rattle.pth_lock.specs.RwLocks.{lock_init_answer, lock_initialised, lock_release_answer, lock_released}
 use Rattle.pth_model.specs.declared.next.Next.TheVariants as next
@@ -20,20 +19,20 @@ use Rattle.pth_model.specs.Acts.{runs_handler}
 use Rattle.pth_model.specs.Calls.{begun, begun_by}
 use Rattle.pth_model.specs.Changes.{uses}
 use Rattle.pth_model.specs.Cleanups.{cleanup_push, last_pushed, once, runs_pushed}
-use Rattle.pth_model.specs.KeyStorage.{key_create, key_delete, key_set}
-use Rattle.pth_model.specs.Mutexes.{mutex_init, mutex_release}
+use Rattle.pth_model.specs.KeyStorage.{key_create, key_delete}
+use Rattle.pth_model.specs.Mutexes.{mutex_init}
 use Rattle.pth_model.specs.Rwlocks.{rw_init, rw_release}
-use Rattle.pth_model.specs.Resources.{Resources, Store, destructor_by, handler, no_resources, told, answer_told, with_cleanups, with_keys, with_mutexes, with_rw_locks}
-use Rattle.pth_model.specs.Row.{Attempt, effect_of, refuses, unless_refused, ◌trying◌}
+use Rattle.pth_model.specs.Resources.{Store, destructor_by, handler, no_resources, told, answer_told, with_cleanups, with_keys, with_mutexes, with_rw_locks}
+use Rattle.pth_model.specs.Row.{effect_of, refuses, unless_refused}
 use Rattle.pth_model.specs.Rows.{row_of}
 use Rattle.pth_model.specs.State.{State, Control, once_limit}
-use Rattle.pth_model.specs.Transition.{Transition, Went, controlled, changes, nothing, silent, tells, tid, where_so, ◌and_then◌, ◌and_next◌, ◌and_finally◌}
+use Rattle.pth_model.specs.Transition.{Transition, Went, controlled, changes, silent, tells, tid, where_so, ◌and_then◌, ◌and_next◌, ◌and_finally◌}
 use Rattle.pth_model.specs.declared.verdict.Verdict.{Verdict}
 use Rattle.pth_model.specs.declared.verdict.Verdict.TheVariants.{Says}
 use Rattle.pth_model.specs.Verdict.{by_result, done, refused, says, ◌when◌otherwise◌}
 use Rattle.pth_numbered.specs.Operands.{number, is_below, is_zero}
 use Rattle.pth_store.specs.Cleanups.{PushedHandler, push_answer, top_taken, with_top}
-use Rattle.pth_store.specs.Keys.{created, deleted, key_create_answer, key_delete_answer, key_named, key_set_answer}
+use Rattle.pth_store.specs.Keys.{created, deleted, key_create_answer, key_delete_answer, key_named}
 use Rattle.pth_store.specs.Storing.{AnswersWithMemory}
 use Rattle.pth_world.proofs.Telling.{has_still}
 use Rattle.pth_world.specs.Leading.{IsQuiet, IsTold, Tells}
@@ -42,35 +41,17 @@ use Rattle.pth_world.specs.Store.{store_of}
 use Rattle.pth_world.specs.World.{WorldOf}
 use Rattle.pth_end.specs.Saying.{SaysRefusal}
 use Rattle.pth_end.proofs.Chains.{cut_one}
-use Rattle.pth_end.proofs.Acting.{done_tells, nothing_told, refused_tells, stored_done, stored_refused}
+use Rattle.pth_end.proofs.Acting.{DoneTells, done_told, memory_done, memory_refused, refused_tells, stored_by, stored_told}
 use Rattle.pth_base.specs.declared.memory.OutOfMemory.{OutOfMemory}
 use Rattle.pth_base.specs.declared.refusal.Refusal.{Refusal}
-use Rattle.pth_base.specs.declared.refusal.Refusal.TheVariants as refusal
 
 module _ {P S H : Type 0} (w v : WorldOf P S H) where
-  no_word : (s : State P S H) (b : Bool) → (unless_refused b (changes nothing) s).marks ≡ []
-  no_word s true = refl
-  no_word s false = refl
-
-  -- a row that only answers, whose mark tells what threads have
-  pub stored_told : (m : Mark) (a : Answer) (verdict : State P S H → Verdict) → ((s : State P S H) → StandsFor w s → verdict s ≡ Says a) → ((k : Control P S H) → Shows w k → Shows v k) → Tells w m v → IsTold w v m a (λ s. verdict s trying changes nothing)
-  stored_told m a verdict is shows tell = record {
-    verdict = is;
-    silent = λ s st. no_word s (refuses (verdict s));
-    stands = λ s st. subst (λ x. StandsFor v x.state) (sym (nothing_told s (refuses (verdict s)) m)) (record { control = shows s.control st.control; resources = ap (λ (k : Resources). told k m) st.resources ∙ tell });
-  }
-
   -- a key is made
   pub created_tells : (t : Tid) (d : Option ℤ) (key : ℕ) → store_of v.store ≡ with_keys (created key (destructor_by d)) (store_of w.store) → Tells w (Answered t (call.KeyCreate d) (Int (pos key))) v
   unfolding told answer_told
   created_tells t d key changes = ap (λ (x : Store). record no_resources { store = x }) (sym changes)
 
-  -- a handler is pushed
-  pub pushed_tells : (t : Tid) (h x : ℤ) → store_of v.store ≡ with_cleanups (with_top t.0 (handler h, x)) (store_of w.store) → Tells w (Answered t (call.CleanupPush h x) (Int (pos 1))) v
-  unfolding told answer_told
-  pushed_tells t h x changes = ap (λ (y : Store). record no_resources { store = y }) (sym changes)
-
-  -- it is taken
+  -- a handler is taken
   pub popped_tells : (t : Tid) (x : ℤ) → store_of v.store ≡ with_cleanups (top_taken t.0) (store_of w.store) → Tells w (Answered t (call.CleanupPop x) (Int (pos 1))) v
   unfolding told answer_told
   popped_tells t x changes = ap (λ (y : Store). record no_resources { store = y }) (sym changes)
@@ -78,67 +59,45 @@ module _ {P S H : Type 0} (w v : WorldOf P S H) where
 -- ---- the single calls
 
 module _ {P S H : Type 0} (w v : WorldOf P S H) (t : Tid) (shows : (k : Control P S H) → Shows w k → Shows v k) where
-  -- what the world has stored is what the states have for which it stands
-  stored_by : {A : Type 0} (r : Store → A) (a : A) → r (store_of w.store) ≡ a → (s : State P S H) → StandsFor w s → r s.resources.store ≡ a
-  stored_by r a is s st = ap (λ (k : Resources). r k.store) st.resources ∙ is
-
   pub created_told : (d : Option ℤ) (key : ℕ) (n : ℤ) → n ≡ pos key → Ok key ≡ key_create_answer (store_of w.store).keys → store_of v.store ≡ with_keys (created key (destructor_by d)) (store_of w.store) → IsTold w v (Answered t (call.KeyCreate d) (Int n)) (Int n) (λ s. (key_create s).begin)
   created_told d key n number is changes = subst (λ (x : ℤ). IsTold w v (Answered t (call.KeyCreate d) (Int x)) (Int x) (λ s. (key_create s).begin)) (sym number)
-      (stored_told w v (Answered t (call.KeyCreate d) (Int (pos key))) (Int (pos key)) (λ s. by_result says (key_create_answer s.resources.store.keys)) (stored_by (λ x. by_result says (key_create_answer x.keys)) _ (ap (by_result says) (sym is))) shows (created_tells w v t d key changes))
+      (stored_told w v (Answered t (call.KeyCreate d) (Int (pos key))) (Int (pos key)) (λ s. by_result says (key_create_answer s.resources.store.keys)) (stored_by w v t shows (λ x. by_result says (key_create_answer x.keys)) _ (ap (by_result says) (sym is))) shows (created_tells w v t d key changes))
 
   pub create_refused : (d : Option ℤ) (e : Errno) → Err e ≡ key_create_answer (store_of w.store).keys → v ≡ w → IsTold w v (Answered t (call.KeyCreate d) (Fail e)) (Fail e) (λ s. (key_create s).begin)
-  create_refused d e is same = stored_told w v (Answered t (call.KeyCreate d) (Fail e)) (Fail e) (λ s. by_result says (key_create_answer s.resources.store.keys)) (stored_by (λ x. by_result says (key_create_answer x.keys)) _ (ap (by_result says) (sym is))) shows (refused_tells w v t (call.KeyCreate d) e same)
-
-  -- a call that has nothing to say, by the answer of what is stored, and what it changes there
-  pub done_told : (c : Call) (answer : Store → Result (Unit {0}) Errno) (g : Store → Store) → ((x : Store) → told (record no_resources { store = x }) (Answered t c (Int (pos 1))) ≡ record no_resources { store = g x })
-      → (r : Result (Unit {0}) Errno) (a : Answer) → r ≡ answer (store_of w.store) → by_result done r ≡ Says a → OnOk r (store_of v.store ≡ g (store_of w.store)) → OnErr r (v ≡ w) → IsTold w v (Answered t c a) a (λ s. by_result done (answer s.resources.store) trying changes nothing)
-  done_told c answer g one r a is says changes same = stored_told w v (Answered t c a) a (λ s. by_result done (answer s.resources.store)) (stored_by (λ x. by_result done (answer x)) _ (ap (by_result done) (sym is) ∙ says)) shows (done_tells w v t c g one r a says changes same)
+  create_refused d e is same = stored_told w v (Answered t (call.KeyCreate d) (Fail e)) (Fail e) (λ s. by_result says (key_create_answer s.resources.store.keys)) (stored_by w v t shows (λ x. by_result says (key_create_answer x.keys)) _ (ap (by_result says) (sym is))) shows (refused_tells w v t (call.KeyCreate d) e same)
 
   -- a key is deleted, or not
   pub deleted_told : (k : ℤ) (r : Result (Unit {0}) Errno) (a : Answer) → r ≡ key_delete_answer (store_of w.store).keys k → by_result done r ≡ Says a → OnOk r (store_of v.store ≡ with_keys (deleted (key_named k)) (store_of w.store)) → OnErr r (v ≡ w) → IsTold w v (Answered t (call.KeyDelete k) a) a (λ s. (key_delete s k).begin)
   unfolding told answer_told
-  deleted_told k = done_told (call.KeyDelete k) (λ x. key_delete_answer x.keys k) (with_keys (deleted (key_named k))) (λ x. refl)
+  deleted_told k = done_told w v t shows (call.KeyDelete k) (λ x. key_delete_answer x.keys k) (with_keys (deleted (key_named k))) (λ x. refl)
 
   -- a mutex is initialised, or not; and so a lock
   pub mutex_initialised_told : (m : ℤ) (r : Result (Unit {0}) Errno) (a : Answer) → r ≡ mutex_init_answer (store_of w.store).mutexes m → by_result done r ≡ Says a → OnOk r (store_of v.store ≡ with_mutexes (mutex_initialised (object_named m)) (store_of w.store)) → OnErr r (v ≡ w) → IsTold w v (Answered t (call.MutexInit m) a) a (λ s. (mutex_init s m).begin)
   unfolding told answer_told
-  mutex_initialised_told m = done_told (call.MutexInit m) (λ x. mutex_init_answer x.mutexes m) (with_mutexes (mutex_initialised (object_named m))) (λ x. refl)
+  mutex_initialised_told m = done_told w v t shows (call.MutexInit m) (λ x. mutex_init_answer x.mutexes m) (with_mutexes (mutex_initialised (object_named m))) (λ x. refl)
 
   pub lock_initialised_told : (l : ℤ) (r : Result (Unit {0}) Errno) (a : Answer) → r ≡ lock_init_answer (store_of w.store).rw_locks l → by_result done r ≡ Says a → OnOk r (store_of v.store ≡ with_rw_locks (lock_initialised (object_named l)) (store_of w.store)) → OnErr r (v ≡ w) → IsTold w v (Answered t (call.RwInit l) a) a (λ s. (rw_init s l).begin)
   unfolding told answer_told
-  lock_initialised_told l = done_told (call.RwInit l) (λ x. lock_init_answer x.rw_locks l) (with_rw_locks (lock_initialised (object_named l))) (λ x. refl)
+  lock_initialised_told l = done_told w v t shows (call.RwInit l) (λ x. lock_init_answer x.rw_locks l) (with_rw_locks (lock_initialised (object_named l))) (λ x. refl)
 
-  -- a lock is released, or not; and so a mutex
+  -- a lock is released, or not
   pub lock_released_told : (l : ℤ) (r : Result (Unit {0}) Errno) (a : Answer) → r ≡ lock_release_answer (store_of w.store).rw_locks t.0 l → by_result done r ≡ Says a → OnOk r (store_of v.store ≡ with_rw_locks (lock_released t.0 (object_named l)) (store_of w.store)) → OnErr r (v ≡ w) → IsTold w v (Answered t (call.RwRelease l) a) a (λ s. (rw_release s t.0 l).begin)
   unfolding told answer_told
-  lock_released_told l = done_told (call.RwRelease l) (λ x. lock_release_answer x.rw_locks t.0 l) (with_rw_locks (lock_released t.0 (object_named l))) (λ x. refl)
-
-  pub mutex_released_told : (m : ℤ) (a : Answer) → by_result done (mutex_release_answer (store_of w.store).mutexes t.0 m) ≡ Says a → Tells w (Answered t (call.MutexRelease m) a) v → IsTold w v (Answered t (call.MutexRelease m) a) a (λ s. (mutex_release s t.0 m).begin)
-  mutex_released_told m a says tell = stored_told w v (Answered t (call.MutexRelease m) a) a (λ s. by_result done (mutex_release_answer s.resources.store.mutexes t.0 m)) (stored_by (λ y. by_result done (mutex_release_answer y.mutexes t.0 m)) _ says) shows tell
-
-  pub set_told : (k x : ℤ) (a : Answer) → by_result done (key_set_answer (store_of w.store).keys k) ≡ Says a → Tells w (Answered t (call.KeySet k x) a) v → IsTold w v (Answered t (call.KeySet k x) a) a (λ s. (key_set s k).begin)
-  set_told k x a says tell = stored_told w v (Answered t (call.KeySet k x) a) a (λ s. by_result done (key_set_answer s.resources.store.keys k)) (stored_by (λ y. by_result done (key_set_answer y.keys k)) _ says) shows tell
+  lock_released_told l = done_told w v t shows (call.RwRelease l) (λ x. lock_release_answer x.rw_locks t.0 l) (with_rw_locks (lock_released t.0 (object_named l))) (λ x. refl)
 
   module _ (f : P → Functions S H) (h x : ℤ) where
-    abbrev pushing : State P S H → Attempt P S H
-    pushing s = (cleanup_push f s t.0).begin
+    abbrev pushed : Store → Store
+    pushed = with_cleanups (with_top t.0 (handler h, x))
 
-    pushed_by : (a : Answer) → by_result done (push_answer (store_of w.store).cleanups t.0) ≡ Says a → Tells w (Answered t (call.CleanupPush h x) a) v → IsTold w v (Answered t (call.CleanupPush h x) a) a pushing
-    pushed_by a says tell = stored_told w v (Answered t (call.CleanupPush h x) a) a (λ s. by_result done (push_answer s.resources.store.cleanups t.0)) (stored_by (λ y. by_result done (push_answer y.cleanups t.0)) _ says) shows tell
+    push_tells : DoneTells t (call.CleanupPush h x) pushed
+    unfolding told answer_told
+    push_tells y = refl
 
-    pub push_done : (u : Unit {0}) → AnswersWithMemory (push_answer (store_of w.store).cleanups t.0) (Ok u) → store_of v.store ≡ with_cleanups (with_top t.0 (handler h, x)) (store_of w.store) → IsTold w v (Answered t (call.CleanupPush h x) (Int (pos 1))) (Int (pos 1)) pushing
-    push_done u answers changes = pushed_by (Int (pos 1)) (stored_done _ u answers) (pushed_tells w v t h x changes)
+    pub push_done : (u : Unit {0}) → AnswersWithMemory (push_answer (store_of w.store).cleanups t.0) (Ok u) → store_of v.store ≡ pushed (store_of w.store) → IsTold w v (Answered t (call.CleanupPush h x) (Int (pos 1))) (Int (pos 1)) (λ s. (cleanup_push f s t.0).begin)
+    push_done = memory_done w v t shows (call.CleanupPush h x) (λ y. push_answer y.cleanups t.0) pushed push_tells
 
-    pub push_refused : (e : Refusal) (r : Result Answer OutOfMemory) → AnswersWithMemory (push_answer (store_of w.store).cleanups t.0) (Err e) → IfOk r (λ a. SaysRefusal e a) → v ≡ w → IfOk r (λ a. IsTold w v (Answered t (call.CleanupPush h x) a) a pushing)
-    push_refused (refusal.Fail e) (Ok a) answers says same = subst (λ (b : Answer). IsTold w v (Answered t (call.CleanupPush h x) b) b pushing) (sym says) (pushed_by (Fail e) (stored_refused _ e answers) (refused_tells w v t (call.CleanupPush h x) e same))
-    push_refused refusal.OutOfMemory (Ok a) answers says same = absurd says
-    push_refused e (Err o) answers says same = tt
-
--- a value is set, or not
-pub set_told_each : {P S H : Type 0} (w v : WorldOf P S H) (t : Tid) (k x : ℤ) (r : Result Answer OutOfMemory) → IfOk r (λ a. by_result done (key_set_answer (store_of w.store).keys k) ≡ Says a) → IfOk r (λ a. Tells w (Answered t (call.KeySet k x) a) v) → OnOk r ((c : Control P S H) → Shows w c → Shows v c)
-    → IfOk r (λ a. IsTold w v (Answered t (call.KeySet k x) a) a (λ s. (key_set s k).begin))
-set_told_each w v t k x (Ok a) says tell shows = set_told w v t shows k x a says tell
-set_told_each w v t k x (Err e) says tell shows = tt
+    pub push_refused : (e : Refusal) (r : Result Answer OutOfMemory) → AnswersWithMemory (push_answer (store_of w.store).cleanups t.0) (Err e) → IfOk r (λ a. SaysRefusal e a) → v ≡ w → IfOk r (λ a. IsTold w v (Answered t (call.CleanupPush h x) a) a (λ s. (cleanup_push f s t.0).begin))
+    push_refused = memory_refused w v t shows (call.CleanupPush h x) (λ y. push_answer y.cleanups t.0) pushed push_tells
 
 -- a value that is read changes nothing
 pub quiet_get : (t : Tid) (k : ℤ) (a : Answer) → IsQuiet (Answered t (call.KeyGet k) a)

@@ -12,6 +12,7 @@ pub mod attribute_handling;
 mod barriers;
 pub mod cancellation;
 pub mod cleanups;
+mod conditions;
 pub mod descriptors;
 pub mod event_handling;
 mod handler_numbers;

@@ -2,11 +2,11 @@
 
 ghost use Rattle.std.specs.Prelude.{◌≡◌, true, false, Some};
 ghost use Rattle.pth_base.specs.Facilities.{facility_of};
-ghost use Rattle.pth_base.specs.declared.call.Call.TheVariants.{MutexInit, MutexRelease};
+ghost use Rattle.pth_base.specs.declared.call.Call.TheVariants.{MutexInit};
 ghost use Rattle.pth_base.specs.declared.facility.Facility.TheVariants as facility;
 ghost use Rattle.pth_base.specs.declared.mark.Mark.TheVariants.{Answered};
 ghost use Rattle.pth_calls.specs.Plain.{is_plain};
-ghost use Rattle.pth_model.specs.Mutexes.{mutex_init as init_row, mutex_release as release_row};
+ghost use Rattle.pth_model.specs.Mutexes.{mutex_init as init_row};
 ghost use Rattle.pth_model.specs.Rows.{row_of};
 ghost use Rattle.pth_model.specs.State.{State};
 ghost use Rattle.pth_world.specs.Frame.{Frame};
@@ -32,16 +32,6 @@ fn init_mutex<P: Program>(w: &mut World<P>, t: Tid, m: i64) -> Answer
     done(w.init_mutex(m))
 }
 
-// pth_mutex_release: the thread has one level less.
-fn give_mutex<P: Program>(w: &mut World<P>, t: Tid, m: i64) -> Answer
-    requires whole { Whole w.old }
-    requires runs { w.old.scheduler.running ≡ Some t.0 }
-    ensures told { IsTold w.old w.new (Answered t (MutexRelease m) result) result (λ (s : State P P.State P.Shared). (release_row s t.0 m).begin) }
-    ensures frame { Frame w.old w.new no_numbers (Some t.0) false }
-{
-    release_mutex(w, t, m)
-}
-
 /// The answer of a call on mutexes that does not block its thread.
 pub(crate) fn answer_mutexes<P: Program>(w: &mut World<P>, t: Tid, call: &Call) -> Answer
     requires whole { Whole w.old }
@@ -53,7 +43,7 @@ pub(crate) fn answer_mutexes<P: Program>(w: &mut World<P>, t: Tid, call: &Call) 
 {
     match call {
         Call::MutexInit(m) => init_mutex(w, t, *m),
-        Call::MutexRelease(m) => give_mutex(w, t, *m),
+        Call::MutexRelease(m) => release_mutex(w, t, *m),
         _ => unreachable!(),
     }
 }

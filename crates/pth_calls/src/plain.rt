@@ -18,6 +18,7 @@ use crate::attribute_handling::answer_attributes;
 use crate::barriers::answer_barriers;
 use crate::cancellation::answer_cancellation;
 use crate::cleanups::answer_cleanups;
+use crate::conditions::answer_conditions;
 use crate::descriptors::answer_descriptors;
 use crate::event_handling::answer_events;
 use crate::key_storage::answer_keys;
@@ -61,6 +62,7 @@ fn answer<P: Program>(w: &mut World<P>, t: Tid, call: &Call) -> Result<Answer, O
         Facility::Cleanups => answer_cleanups(w, t, call),
         Facility::Mutexes => Ok(answer_mutexes(w, t, call)),
         Facility::Rwlocks => Ok(answer_rwlocks(w, t, call)),
+        Facility::Conditions => Ok(answer_conditions(w, t, call)),
         Facility::Barriers => answer_barriers(w, t, call),
         Facility::Io => Ok(answer_descriptors(w, call)),
         _ => Ok(Answer::Fail(Errno::EINVAL)),

@@ -1,5 +1,5 @@
 -- Acts, and the looks at a handler that find them.
-use Rattle.std.proofs.Common.{◌≡◌, ◌∙◌, ◌+◌, ◌-◌, ◌≤◌, ℕ, suc, ℤ, pos, Bool, true, false, Result, Ok, Err, IfOk, OnOk, OnErr, refl, ap, sym, subst, arith}
+use Rattle.std.proofs.Common.{◌≡◌, ◌∙◌, ◌+◌, ◌-◌, ◌≤◌, ℕ, suc, ℤ, pos, Bool, true, false, List, [], ◌∷◌, ◌++◌, Result, Ok, Err, IfOk, OnOk, OnErr, refl, ap, sym, subst, arith}
 use Rattle.pth_base.specs.Program.{Functions, Acted as ActOf}
 use Rattle.pth_base.specs.declared.act.Act.{Act}
 use Rattle.pth_base.specs.declared.act.Act.TheVariants as act
@@ -13,9 +13,10 @@ use Rattle.pth_lock.specs.Mutexes.{mutex_released}
 use Rattle.pth_lock.specs.Objects.{object_named}
 use Rattle.pth_model.specs.Acts.{acts, acts_from, answer_in, goes_on_after, row_of_act}
 use Rattle.pth_model.specs.Changes.{shares}
-use Rattle.pth_model.specs.Row.{refuses, unless_refused}
-use Rattle.pth_model.specs.State.{State}
+use Rattle.pth_model.specs.Row.{Attempt, refuses, unless_refused, effect_of, ◌trying◌}
+use Rattle.pth_model.specs.State.{Control, State}
 use Rattle.pth_model.specs.Transition.{changes, controlled, nothing, tells, tid, ◌and_then◌}
+use Rattle.pth_model.specs.declared.verdict.Verdict.{Verdict}
 use Rattle.pth_model.specs.declared.verdict.Verdict.TheVariants.{Says}
 use Rattle.pth_model.specs.Verdict.{by_result, done}
 use Rattle.pth_store.specs.Keys.{key_named, with_key_value}
@@ -27,9 +28,11 @@ use Rattle.pth_base.specs.declared.call.Call.TheVariants as call
 use Rattle.pth_base.specs.declared.ids.Tid.{Tid}
 use Rattle.pth_base.specs.declared.memory.OutOfMemory.{OutOfMemory}
 use Rattle.pth_base.specs.declared.refusal.Refusal.{Refusal}
-use Rattle.pth_model.specs.Resources.{Store, no_resources, told, answer_told, act_told, with_keys, with_mutexes}
-use Rattle.pth_world.proofs.Telling.{quiet-refused}
-use Rattle.pth_world.specs.Leading.{IsQuiet, Tells}
+use Rattle.std.proofs.lemmas.Result.{IfOk-weaker}
+use Rattle.pth_model.specs.Resources.{Resources, Store, no_resources, told, answer_told, act_told, with_keys, with_mutexes}
+use Rattle.pth_world.proofs.Telling.{quiet-refused, quiet_tells, tells_stands}
+use Rattle.pth_world.specs.Leading.{IsQuiet, IsTold, Leads, Tells}
+use Rattle.pth_world.specs.Shows.{Shows, StandsFor}
 use Rattle.pth_world.specs.Store.{store_of}
 use Rattle.pth_world.specs.World.{WorldOf}
 use Rattle.pth_end.specs.Saying.{SaysRefusal}
@@ -48,16 +51,42 @@ pub nothing_told : {P S H : Type 0} (s : State P S H) (b : Bool) (m : Mark) → 
 nothing_told s true m = refl
 nothing_told s false m = refl
 
-module _ {P S H : Type 0} (t : ℕ) (s : State P S H) where
-  -- an act does nothing but what its mark tells
-  pub act_is : (x : Act) → acts t x s ≡ tells (Acted (tid t) x (answer_in (row_of_act s t x).begin.verdict)) s
+module _ {P S H : Type 0} (w v : WorldOf P S H) where
+  no_word : (s : State P S H) (b : Bool) → (unless_refused b (changes nothing) s).marks ≡ []
+  no_word s true = refl
+  no_word s false = refl
+
+  -- a row that only answers, whose mark tells what threads have
+  pub stored_told : (m : Mark) (a : Answer) (verdict : State P S H → Verdict) → ((s : State P S H) → StandsFor w s → verdict s ≡ Says a) → ((k : Control P S H) → Shows w k → Shows v k) → Tells w m v → IsTold w v m a (λ s. verdict s trying changes nothing)
+  stored_told m a verdict is shows tell = record {
+    verdict = is;
+    silent = λ s st. no_word s (refuses (verdict s));
+    stands = λ s st. subst (λ x. StandsFor v x.state) (sym (nothing_told s (refuses (verdict s)) m)) (tells_stands w v m s tell st (shows s.control st.control));
+  }
+
+-- a note, or a shared value that is set
+pub noted : {P S H : Type 0} (w : WorldOf P S H) (m : Mark) → IsQuiet m → IsTold w w m answer.None (λ s. Says answer.None trying changes nothing)
+noted w m quiet = stored_told w w m answer.None (λ s. Says answer.None) (λ s st. refl) (λ k sh. sh) (quiet_tells w w m quiet refl)
+
+module _ {P S H : Type 0} (w v : WorldOf P S H) where
+  -- what a mark tells another tells that says the same of what threads have
+  pub told_as : (m n : Mark) (a : Answer) (attempt : State P S H → Attempt P S H) → ((x : Resources) → told x m ≡ told x n) → IsTold w v m a attempt → IsTold w v n a attempt
+  told_as m n a attempt same is = record {
+    verdict = is.verdict;
+    silent = is.silent;
+    stands = λ s st. let leads = is.stands s st in record { control = leads.control; resources = sym (same (effect_of (attempt s) s).state.resources) ∙ leads.resources };
+  }
+
+  pub each_told_as : (m n : Answer → Mark) (r : Result Answer OutOfMemory) (attempt : State P S H → Attempt P S H) → ((a : Answer) (x : Resources) → told x (m a) ≡ told x (n a)) → IfOk r (λ a. IsTold w v (m a) a attempt) → IfOk r (λ a. IsTold w v (n a) a attempt)
+  each_told_as m n r attempt same = IfOk-weaker r (λ a. IsTold w v (m a) a attempt) (λ a. IsTold w v (n a) a attempt) (λ a. told_as (m a) (n a) a attempt (same a))
+
+  -- a thread makes an act: it does what its row says, and its mark is told
+  pub acted_leads : (t : ℕ) (x : Act) (a : Answer) → IsTold w v (Acted (tid t) x a) a (λ s. (row_of_act s t x).begin) → (s : State P S H) → StandsFor w s → (old new : List Mark) → new ≡ old ++ Acted (tid t) x a ∷ [] → Leads v old new (acts t x s)
   unfolding acts
-  act_is x = by_act x
-    where
-      by_act : (y : Act) → acts t y s ≡ tells (Acted (tid t) y (answer_in (row_of_act s t y).begin.verdict)) s
-      by_act (act.SetKey k v) = nothing_told s (refuses (row_of_act s t (act.SetKey k v)).begin.verdict) (Acted (tid t) (act.SetKey k v) (answer_in (row_of_act s t (act.SetKey k v)).begin.verdict))
-      by_act (act.Release m) = nothing_told s (refuses (row_of_act s t (act.Release m)).begin.verdict) (Acted (tid t) (act.Release m) (answer_in (row_of_act s t (act.Release m)).begin.verdict))
-      by_act y = refl
+  acted_leads t x a is s st old new appended =
+      let row = (row_of_act s t x).begin in
+      subst (λ (y : Answer). Leads v old new ((effect_of row and_then tells (Acted (tid t) x y)) s)) (sym (ap answer_in (is.verdict s st)))
+      (record { stands = is.stands s st; tells = appended ∙ ap (λ (ms : List Mark). old ++ (ms ++ Acted (tid t) x a ∷ [])) (sym (is.silent s st)) })
 
 -- how many looks are left
 pub one_look : (i : ℕ) → i ≤ 64 → 65 - i ≡ suc (65 - (i + 1))
@@ -77,7 +106,7 @@ module _ {P S H : Type 0} (f : P → Functions S H) (t : ℕ) (h : HandlerId) (v
 
 -- ---- what marks of acts tell
 
--- a note, a shared value that is set, and an act that is refused change nothing of what threads have
+-- a note, a shared value that is set, a condition that is notified, and an act that is refused change nothing of what threads have
 pub quiet_note : (t : Tid) (n : ℤ) → IsQuiet (Acted t (act.Note n) answer.None)
 unfolding told act_told
 quiet_note t n = λ x. refl
@@ -86,40 +115,71 @@ pub quiet_set : (t : Tid) (n : ℕ) (v : ℤ) → IsQuiet (Acted t (act.Set n v)
 unfolding told act_told
 quiet_set t n v = λ x. refl
 
-pub quiet_notify : (t : Tid) (c v : ℤ) (e : Errno) → IsQuiet (Acted t (act.Notify c v) (Fail e))
+pub quiet_notify : (t : Tid) (c v : ℤ) (a : Answer) → IsQuiet (Acted t (act.Notify c v) a)
 unfolding told act_told
-quiet_notify t c v e = λ x. refl
+quiet_notify t c v a = λ x. refl
 
 pub quiet_put : (t : Tid) (p v : ℤ) (e : Errno) → IsQuiet (Acted t (act.Put p v) (Fail e))
 unfolding told act_told answer_told
 quiet_put t p v e = λ x. refl
+
+-- an act that sets a value or releases a mutex tells what the call does
+pub acted_key_set : (t : Tid) (k v : ℤ) (a : Answer) (x : Resources) → told x (Answered t (call.KeySet k v) a) ≡ told x (Acted t (act.SetKey k v) a)
+unfolding told act_told
+acted_key_set t k v a x = refl
+
+pub acted_release : (t : Tid) (m : ℤ) (a : Answer) (x : Resources) → told x (Answered t (call.MutexRelease m) a) ≡ told x (Acted t (act.Release m) a)
+unfolding told act_told
+acted_release t m a x = refl
 
 -- that a handler runs changes nothing of it
 pub quiet_handler : (t : Tid) (h : HandlerId) (v : ℤ) → IsQuiet (Handler t h v)
 unfolding told
 quiet_handler t h v = λ x. refl
 
-module _ {P S H : Type 0} (w v : WorldOf P S H) where
-  -- a value is set
-  pub set_tells : (t : Tid) (k x : ℤ) → store_of v.store ≡ with_keys (with_key_value t.0 (key_named k) x) (store_of w.store) → Tells w (Answered t (call.KeySet k x) (Int (pos 1))) v
-  unfolding told answer_told
-  set_tells t k x changes = ap (λ (y : Store). record no_resources { store = y }) (sym changes)
+-- ---- calls that have nothing to say, by the answer of what is stored, and what they change there
 
-  -- a refused call changes nothing
-  pub refused_tells : (t : Tid) (c : Call) (e : Errno) → v ≡ w → Tells w (Answered t c (Fail e)) v
-  refused_tells t c e same = subst (λ (z : WorldOf P S H). Tells w (Answered t c (Fail e)) z) (sym same) (quiet-refused t c e (store_of w.store))
+-- a refused call changes nothing
+pub refused_tells : {P S H : Type 0} (w v : WorldOf P S H) (t : Tid) (c : Call) (e : Errno) → v ≡ w → Tells w (Answered t c (Fail e)) v
+refused_tells w v t c e same = subst (λ (z : WorldOf _ _ _). Tells w (Answered t c (Fail e)) z) (sym same) (quiet-refused t c e (store_of w.store))
 
-  -- a call that has nothing to say changes what is stored, where it is not refused
-  pub done_tells : (t : Tid) (c : Call) (g : Store → Store) → ((x : Store) → told (record no_resources { store = x }) (Answered t c (Int (pos 1))) ≡ record no_resources { store = g x }) → (r : Result (Unit {0}) Errno) (a : Answer) → by_result done r ≡ Says a → OnOk r (store_of v.store ≡ g (store_of w.store)) → OnErr r (v ≡ w) → Tells w (Answered t c a) v
-  done_tells t c g tells_one (Ok u) a says changes same = let one : Int (pos 1) ≡ a = cc in subst (λ (b : Answer). Tells w (Answered t c b) v) one (tells_one (store_of w.store) ∙ ap (λ (y : Store). record no_resources { store = y }) (sym changes))
-  done_tells t c g tells_one (Err e) a says changes same = let fails : Fail e ≡ a = cc in subst (λ (b : Answer). Tells w (Answered t c b) v) fails (refused_tells t c e same)
+-- the call's answer 1 tells that what is stored has changed so
+abbrev pub DoneTells : Tid → Call → (Store → Store) → Type 0
+DoneTells t c g = (x : Store) → told (record no_resources { store = x }) (Answered t c (Int (pos 1))) ≡ record no_resources { store = g x }
 
-  -- a mutex is released, or not
-  pub released_tells : (t : Tid) (m : ℤ) (r : Result (Unit {0}) Errno) (a : Answer) → by_result done r ≡ Says a → OnOk r (store_of v.store ≡ with_mutexes (mutex_released t.0 (object_named m)) (store_of w.store)) → OnErr r (v ≡ w) → Tells w (Answered t (call.MutexRelease m) a) v
-  unfolding told answer_told
-  released_tells t m = done_tells t (call.MutexRelease m) (with_mutexes (mutex_released t.0 (object_named m))) (λ x. refl)
+module _ {P S H : Type 0} (w v : WorldOf P S H) (t : Tid) (shows : (k : Control P S H) → Shows w k → Shows v k) where
+  -- what the world has stored is what the states have for which it stands
+  pub stored_by : {A : Type 0} (r : Store → A) (a : A) → r (store_of w.store) ≡ a → (s : State P S H) → StandsFor w s → r s.resources.store ≡ a
+  stored_by r a is s st = ap (λ (k : Resources). r k.store) st.resources ∙ is
 
-  pub refusal_tells : (t : Tid) (c : Call) (e : Refusal) (r : Result Answer OutOfMemory) → IfOk r (λ a. SaysRefusal e a) → v ≡ w → IfOk r (λ a. Tells w (Answered t c a) v)
-  refusal_tells t c (refusal.Fail e) (Ok a) says same = subst (λ (b : Answer). Tells w (Answered t c b) v) (sym says) (refused_tells t c e same)
-  refusal_tells t c refusal.OutOfMemory (Ok a) says same = absurd says
-  refusal_tells t c e (Err o) says same = tt
+  module _ (c : Call) (answer : Store → Result (Unit {0}) Errno) (g : Store → Store) (one : DoneTells t c g) where
+    abbrev saying : State P S H → Attempt P S H
+    saying s = by_result done (answer s.resources.store) trying changes nothing
+
+    said : (a : Answer) → by_result done (answer (store_of w.store)) ≡ Says a → Tells w (Answered t c a) v → IsTold w v (Answered t c a) a saying
+    said a says tell = stored_told w v (Answered t c a) a (λ s. by_result done (answer s.resources.store)) (stored_by (λ x. by_result done (answer x)) _ says) shows tell
+
+    one_tells : store_of v.store ≡ g (store_of w.store) → Tells w (Answered t c (Int (pos 1))) v
+    one_tells changes = one (store_of w.store) ∙ ap (λ (y : Store). record no_resources { store = y }) (sym changes)
+
+    pub done_told : (r : Result (Unit {0}) Errno) (a : Answer) → r ≡ answer (store_of w.store) → by_result done r ≡ Says a → OnOk r (store_of v.store ≡ g (store_of w.store)) → OnErr r (v ≡ w) → IsTold w v (Answered t c a) a saying
+    done_told (Ok u) a is says changes same = let one : Int (pos 1) ≡ a = cc says in subst (λ (b : Answer). IsTold w v (Answered t c b) b saying) one (said (Int (pos 1)) (ap (by_result done) (sym is)) (one_tells changes))
+    done_told (Err e) a is says changes same = let fails : Fail e ≡ a = cc says in subst (λ (b : Answer). IsTold w v (Answered t c b) b saying) fails (said (Fail e) (ap (by_result done) (sym is)) (refused_tells w v t c e same))
+
+    -- one that takes memory
+    pub memory_done : (u : Unit {0}) → AnswersWithMemory (answer (store_of w.store)) (Ok u) → store_of v.store ≡ g (store_of w.store) → IsTold w v (Answered t c (Int (pos 1))) (Int (pos 1)) saying
+    memory_done u answers changes = said (Int (pos 1)) (stored_done _ u answers) (one_tells changes)
+
+    pub memory_refused : (e : Refusal) (r : Result Answer OutOfMemory) → AnswersWithMemory (answer (store_of w.store)) (Err e) → IfOk r (λ a. SaysRefusal e a) → v ≡ w → IfOk r (λ a. IsTold w v (Answered t c a) a saying)
+    memory_refused (refusal.Fail e) (Ok a) answers says same = subst (λ (b : Answer). IsTold w v (Answered t c b) b saying) (sym says) (said (Fail e) (stored_refused _ e answers) (refused_tells w v t c e same))
+    memory_refused refusal.OutOfMemory (Ok a) answers says same = absurd says
+    memory_refused e (Err o) answers says same = tt
+
+-- a value is set, or a mutex released
+pub set_tells : (t : Tid) (k x : ℤ) → DoneTells t (call.KeySet k x) (with_keys (with_key_value t.0 (key_named k) x))
+unfolding told answer_told
+set_tells t k x y = refl
+
+pub release_tells : (t : Tid) (m : ℤ) → DoneTells t (call.MutexRelease m) (with_mutexes (mutex_released t.0 (object_named m)))
+unfolding told answer_told
+release_tells t m x = refl

@@ -1,12 +1,14 @@
 -- What the acts of handlers leave, one after another.
-use Rattle.std.proofs.Common.{◌≡◌, ◌∙◌, ℕ, Bool, false, List, Option, Result, Ok, Err, OnOk, refl, ap, sym, subst}
+use Rattle.std.proofs.Common.{◌≡◌, ◌∙◌, ℕ, false, List, Option, Result, Ok, Err, OnOk, refl, ap, sym, subst}
+use Rattle.pth_cond.specs.Conditions.{Condition}
 use Rattle.pth_end.specs.Handling.{IsHandled}
+use Rattle.pth_world.proofs.Conditions.{seated_whole}
 use Rattle.pth_world.proofs.Frames.{gives_none}
 use Rattle.pth_world.proofs.Ranks.{ranks_none, ranks_same}
 use Rattle.pth_world.specs.Frame.{Frame}
 use Rattle.pth_world.specs.Keeps.{KeepsAllButStore}
 use Rattle.pth_world.specs.Sound.{IsAlive}
-use Rattle.pth_world.specs.Store.{StoreOf, store_of}
+use Rattle.pth_world.specs.Store.{store_of}
 use Rattle.pth_world.specs.Numbering.{no_numbers}
 use Rattle.pth_world.specs.Whole.{Whole}
 use Rattle.pth_world.specs.World.{WorldOf, ThreadsBySlot}
@@ -17,20 +19,24 @@ module _ {P S H : Type 0} where
 
   -- something else is stored, but no other cleanup
   pub handled_stored : (w v : WorldOf P S H) → Whole w → KeepsAllButStore w v → (store_of v.store).cleanups ≡ (store_of w.store).cleanups → IsHandled w v
-  handled_stored w v whole keeps cleanups = record { whole = keeps.whole whole; same = keeps.same ∙ ap (λ (h : H). record w { shared = h; store = v.store }) (sym (ap (λ (x : WorldOf P S H). x.shared) keeps.same)); cleanups = cleanups }
+  handled_stored w v whole keeps cleanups = record { whole = keeps.whole whole; same = keeps.same ∙ ap (λ (x : WorldOf P S H). record w { shared = x.shared; store = v.store; conditions = x.conditions }) (sym keeps.same); cleanups = cleanups }
 
   -- another shared value was set
   pub handled_shared : (w v : WorldOf P S H) → Whole v → v ≡ record w { shared = v.shared } → IsHandled w v
   handled_shared w v whole same = record {
     whole = whole;
-    same = same ∙ ap (λ (y : StoreOf). record w { shared = v.shared; store = y }) (sym (ap (λ (x : WorldOf P S H). x.store) same));
+    same = same ∙ ap (λ (x : WorldOf P S H). record w { shared = v.shared; store = x.store; conditions = x.conditions }) (sym same);
     cleanups = ap (λ (x : WorldOf P S H). (store_of x.store).cleanups) same;
   }
+
+  -- conditions were notified
+  pub handled_seated : (w : WorldOf P S H) (c : List Condition) → Whole w → IsHandled w (record w { conditions = c })
+  handled_seated w c whole = record { whole = seated_whole w c whole; same = refl; cleanups = refl }
 
   pub handled_then : (u v w : WorldOf P S H) → IsHandled u v → IsHandled v w → IsHandled u w
   handled_then u v w a b = record {
     whole = b.whole;
-    same = b.same ∙ ap (λ (x : WorldOf P S H). record x { shared = w.shared; store = w.store }) a.same;
+    same = b.same ∙ ap (λ (x : WorldOf P S H). record x { shared = w.shared; store = w.store; conditions = w.conditions }) a.same;
     cleanups = b.cleanups ∙ a.cleanups;
   }
 
@@ -43,17 +49,17 @@ module _ {P S H : Type 0} where
 
 -- where threads, objects, events and the scheduler are as they were
 module _ {P S H : Type 0} (w : WorldOf P S H) (r : Option ℕ) (runs : w.scheduler.running ≡ r) where
-  frame_by : (h : H) (x : StoreOf) (u : List Bool) → Whole (record w { shared = h; store = x; used = u }) → Frame w (record w { shared = h; store = x; used = u }) no_numbers r false
-  frame_by h x u whole = record { whole = whole; runs = runs; made = gives_none no_numbers w (record w { shared = h; store = x; used = u }) (λ k. refl); ranks = ranks_same 0 w.threads w.threads _ refl (ranks_none w.threads); preferred = refl }
+  frame_by : (v : WorldOf P S H) → Whole (record w { shared = v.shared; store = v.store; conditions = v.conditions; used = v.used }) → Frame w (record w { shared = v.shared; store = v.store; conditions = v.conditions; used = v.used }) no_numbers r false
+  frame_by v whole = record { whole = whole; runs = runs; made = gives_none no_numbers w (record w { shared = v.shared; store = v.store; conditions = v.conditions; used = v.used }) (λ k. refl); ranks = ranks_same 0 w.threads w.threads _ refl (ranks_none w.threads); preferred = refl }
 
   pub stored_frame : (v : WorldOf P S H) → Whole w → KeepsAllButStore w v → Frame w v no_numbers r false
-  stored_frame v whole keeps = subst (λ (z : WorldOf P S H). Frame w z no_numbers r false) (sym keeps.same) (frame_by w.shared v.store w.used (subst (λ (z : WorldOf P S H). Whole z) keeps.same (keeps.whole whole)))
+  stored_frame v whole keeps = subst (λ (z : WorldOf P S H). Frame w z no_numbers r false) (sym keeps.same) (frame_by (record w { store = v.store }) (subst (λ (z : WorldOf P S H). Whole z) keeps.same (keeps.whole whole)))
 
   pub used_frame : (v : WorldOf P S H) → Whole v → v ≡ record w { used = v.used } → Frame w v no_numbers r false
-  used_frame v whole same = subst (λ (z : WorldOf P S H). Frame w z no_numbers r false) (sym same) (frame_by w.shared w.store v.used (subst (λ (z : WorldOf P S H). Whole z) same whole))
+  used_frame v whole same = subst (λ (z : WorldOf P S H). Frame w z no_numbers r false) (sym same) (frame_by (record w { used = v.used }) (subst (λ (z : WorldOf P S H). Whole z) same whole))
 
   pub handled_frame : (v : WorldOf P S H) → IsHandled w v → Frame w v no_numbers r false
-  handled_frame v h = subst (λ (z : WorldOf P S H). Frame w z no_numbers r false) (sym h.same) (frame_by v.shared v.store w.used (subst (λ (z : WorldOf P S H). Whole z) h.same h.whole))
+  handled_frame v h = subst (λ (z : WorldOf P S H). Frame w z no_numbers r false) (sym h.same) (frame_by (record w { shared = v.shared; store = v.store; conditions = v.conditions }) (subst (λ (z : WorldOf P S H). Whole z) h.same h.whole))
 
 -- whatever is answered
 pub if_answered : {T E A : Type 0} (r : Result T E) → A → OnOk r A

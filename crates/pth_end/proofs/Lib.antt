@@ -3,6 +3,7 @@ pub mod Chains
 pub mod Framing
 pub mod Handled
 pub mod Acting
+pub mod Deciding
 pub mod Stacks
 pub mod WaitUndone
 pub mod Ends

@@ -1,20 +1,18 @@
 //! The acts of handlers, each as its call by the thread that runs the handler.
 
-ghost use Rattle.std.specs.Prelude.{◌≡◌, IfOk, OnOk, OnErr};
+ghost use Rattle.std.specs.Prelude.{IfOk, OnOk, OnErr};
 ghost use Rattle.pth_base.specs.Cut.{IsCut};
 ghost use Rattle.pth_base.specs.declared.call.Call.TheVariants.{KeySet, MutexRelease};
 ghost use Rattle.pth_base.specs.declared.mark.Mark.TheVariants.{Acted, Answered};
 ghost use Rattle.pth_end.specs.Handling.{IsHandled};
-ghost use Rattle.pth_lock.specs.Mutexes.{mutex_release_answer};
-ghost use Rattle.pth_model.specs.Acts.{acts, answer_in, row_of_act};
-ghost use Rattle.pth_model.specs.State.{Control, State};
-ghost use Rattle.pth_model.specs.declared.verdict.Verdict.TheVariants.{Says};
-ghost use Rattle.pth_model.specs.Verdict.{by_result, done as with_nothing};
-ghost use Rattle.pth_store.specs.Keys.{key_set_answer};
-ghost use Rattle.pth_world.specs.Leading.{Leads, Tells};
-ghost use Rattle.pth_world.specs.Shows.{Shows, StandsFor};
+ghost use Rattle.pth_model.specs.Acts.{acts, row_of_act};
+ghost use Rattle.pth_model.specs.Conditions.{cond_notify};
+ghost use Rattle.pth_model.specs.KeyStorage.{key_set};
+ghost use Rattle.pth_model.specs.Mutexes.{mutex_release};
+ghost use Rattle.pth_model.specs.State.{State};
+ghost use Rattle.pth_world.specs.Leading.{IsAnswered, IsTold, Leads};
+ghost use Rattle.pth_world.specs.Shows.{StandsFor};
 ghost use Rattle.pth_world.specs.Sound.{IsAlive};
-ghost use Rattle.pth_world.specs.Store.{store_of};
 ghost use Rattle.pth_world.specs.Whole.{Whole};
 
 use crate::saying::{done, refused};
@@ -32,9 +30,7 @@ use pth_world::world::World;
 pub fn set_key<P: Program>(w: &mut World<P>, t: Tid, k: i64, v: i64) -> Result<Answer, OutOfMemory>
     requires whole { Whole w.old }
     requires alive { IsAlive w.old.threads t.0 }
-    ensures answer { IfOk result (λ a. by_result with_nothing (key_set_answer (store_of w.old.store).keys k) ≡ Says a) }
-    ensures tells { IfOk result (λ a. Tells w.old (Answered t (KeySet k v) a) w.new) }
-    ensures shows { OnOk result ((c : Control P P.State P.Shared) → Shows w.old c → Shows w.new c) }
+    ensures told { IfOk result (λ a. IsTold w.old w.new (Answered t (KeySet k v) a) a (λ (s : State P P.State P.Shared). (key_set s k).begin)) }
     ensures handled { OnOk result (IsHandled w.old w.new) }
 {
     match w.set_key(t, k, v) {
@@ -48,29 +44,36 @@ pub fn set_key<P: Program>(w: &mut World<P>, t: Tid, k: i64, v: i64) -> Result<A
 pub fn release_mutex<P: Program>(w: &mut World<P>, t: Tid, m: i64) -> Answer
     requires whole { Whole w.old }
     requires alive { IsAlive w.old.threads t.0 }
-    ensures answer { by_result with_nothing (mutex_release_answer (store_of w.old.store).mutexes t.0 m) ≡ Says result }
-    ensures tells { Tells w.old (Answered t (MutexRelease m) result) w.new }
-    ensures shows { (c : Control P P.State P.Shared) → Shows w.old c → Shows w.new c }
+    ensures told { IsTold w.old w.new (Answered t (MutexRelease m) result) result (λ (s : State P P.State P.Shared). (mutex_release s t.0 m).begin) }
     ensures handled { IsHandled w.old w.new }
 {
     done(w.release_mutex(t, m))
 }
 
-// The answer of an act, which does what its row says. A note and a shared value that is set call nothing, and the calls of the
-// others are not built yet.
+/// `pth_cond_notify`, as a call and as an act: of the seats at a condition that were not notified yet the first is, if `v` is 0,
+/// and else each. EINVAL where it is not initialised.
+pub fn notify<P: Program>(w: &mut World<P>, c: i64, v: i64) -> Answer
+    requires whole { Whole w.old }
+    ensures answered { IsAnswered w.old w.new result (λ (s : State P P.State P.Shared). (cond_notify s c v).begin) }
+    ensures handled { IsHandled w.old w.new }
+{
+    done(w.conditions_mut().notify(c, v != 0))
+}
+
+// The answer of an act, which does what its row says. A note and a shared value that is set call nothing, and the call of one is not
+// built yet.
 fn answer_act<P: Program>(w: &mut World<P>, t: Tid, act: Act) -> Result<Answer, OutOfMemory>
     requires whole { Whole w.old }
     requires alive { IsAlive w.old.threads t.0 }
-    ensures answer { IfOk result (λ a. (s : State P P.State P.Shared) → StandsFor w.old s → answer_in (row_of_act s t.0 act).begin.verdict ≡ a) }
-    ensures tells { IfOk result (λ a. Tells w.old (Acted t act a) w.new) }
-    ensures shows { OnOk result ((c : Control P P.State P.Shared) → Shows w.old c → Shows w.new c) }
+    ensures told { IfOk result (λ a. IsTold w.old w.new (Acted t act a) a (λ (s : State P P.State P.Shared). (row_of_act s t.0 act).begin)) }
     ensures handled { OnOk result (IsHandled w.old w.new) }
 {
     match act {
         Act::Note(_) | Act::Set(_, _) => Ok(Answer::None),
         Act::SetKey(k, v) => set_key(w, t, k, v),
         Act::Release(m) => Ok(release_mutex(w, t, m)),
-        Act::Notify(_, _) | Act::Put(_, _) => Ok(Answer::Fail(Errno::EINVAL)),
+        Act::Notify(c, v) => Ok(notify(w, c, v)),
+        Act::Put(_, _) => Ok(Answer::Fail(Errno::EINVAL)),
     }
 }
 

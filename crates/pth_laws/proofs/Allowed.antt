@@ -254,7 +254,7 @@ module _ {P S H : Type 0} (t : ℕ) where
 
     so_kept : (f : P → Functions S H) → KeptByCalls f t BlockedSo
     so_kept f = record {
-      shares = λ h k so. so;
+      handlers = record { shares = λ h k so. so; seated = λ x k so. so };
       spawned = λ b v of k so. so_spawned f b v of k so;
       suspended = λ u k other up so. so_suspended u k so;
       resumed = λ u k other so. so_resumed u k so;

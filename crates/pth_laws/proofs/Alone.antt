@@ -177,7 +177,11 @@ module _ {P S H : Type 0} where
 
   apart_kept : (f : P → Functions S H) → KeptAlong f Apart
   apart_kept f = record {
-    shared = λ h s r. r;
+    handlers = record {
+      shared = λ h s r. r;
+      seated = λ x s r. r;
+      told = λ m s may r. told_apart s r m may;
+    };
     placed = λ standing entries raises s r. r;
     scheduled = λ x s r. r;
     timed = λ x s r. r;
@@ -199,7 +203,6 @@ module _ {P S H : Type 0} where
     blocked = λ t c a s free other none may r. r;
     waits_on = λ t a b s at names stays r. r;
     stopped = λ t x s fewer others left r. r;
-    told = λ m s may r. told_apart s r m may;
   }
 
   apart_start : (f : P → Functions S H) (g : Given P) → Apart (start f g)

@@ -29,6 +29,7 @@ use Rattle.pth_base.specs.declared.thread.ThreadState.TheVariants as state
 use Rattle.pth_base.proofs.Tables.{put_here}
 use Rattle.pth_cond.specs.declared.barriers.Arrival.{Arrival}
 use Rattle.pth_cond.specs.declared.barriers.Arrival.TheVariants as arrival
+use Rattle.pth_cond.specs.Conditions.{ConditionTable, cond_notified}
 use Rattle.pth_cond.specs.Barriers.{BarrierTable, is_size, taillight, arrival_answer, has_passed, waits_at, barrier_initialised, barrier_reached, round_answer, round_answered, withdrawn}
 use Rattle.pth_kernel.specs.Kernel.{Kernel, advanced}
 use Rattle.pth_lock.specs.Objects.{object_named, is_object}
@@ -61,7 +62,7 @@ use Rattle.pth_model.specs.Resources.{handler}
 use Rattle.pth_model.specs.Standing.{Standing}
 use Rattle.pth_model.specs.State.{State, Given, Scheduler, Turn, start, queue, now_of, clock_of}
 use Rattle.pth_model.specs.Transition.{Piece, Change, silent, nothing, changes, tells, tells_each, tid, controlled, where_so, ◌and_then◌}
-use Rattle.pth_model.specs.Changes.{shares, uses, sets, goes_on, owing, is_blocked_by, enters, leaves_queue, raises_ready, makes, forgets, removes, adds_object, puts_object, with_threads, with_barriers, with_events, with_kernel, with_scheduler, moves_to, prefers, runs_now, blocked_in, blocked_of, or_nobody, entry_of, prio_of, queue_for, holders}
+use Rattle.pth_model.specs.Changes.{shares, uses, sets, goes_on, owing, is_blocked_by, enters, leaves_queue, raises_ready, makes, forgets, removes, adds_object, puts_object, with_threads, with_conditions, with_barriers, with_events, with_kernel, with_scheduler, moves_to, prefers, runs_now, blocked_in, blocked_of, or_nobody, entry_of, prio_of, queue_for, holders}
 use Rattle.pth_model.specs.declared.verdict.Verdict.{Verdict}
 use Rattle.pth_model.specs.declared.verdict.Verdict.TheVariants.{Says, Yields, Blocks, Ends, Kills}
 use Rattle.pth_model.specs.Verdict.{refused, says, done, by_result, ◌when◌otherwise◌}
@@ -134,9 +135,15 @@ MayArrange x (Isolated e) = ring_refusal x e ≡ None
 MayArrange x (Freed e) = ring_refusal x e ≡ None
 MayArrange x (RingFreed e) = ring_refusal x e ≡ None
 
-pub record KeptAlong {P S H : Type 0} (f : P → Functions S H) (R : State P S H → Type 0) : Type 0 where
-  -- the program's shared value, the places in queues, what the scheduler keeps, the kernel, and what was used once
+-- what handlers do, and what is told of them: the program's shared value changes, and the seats of conditions
+pub record KeptByHandlers {P S H : Type 0} (R : State P S H → Type 0) : Type 0 where
   pub shared : (h : H) (s : State P S H) → R s → R (controlled (shares h) s)
+  pub seated : (x : ConditionTable) (s : State P S H) → R s → R (controlled (with_conditions (λ y. x)) s)
+  pub told : (m : Mark) (s : State P S H) → IsToTell m s → R s → R (tells m s).state
+
+pub record KeptAlong {P S H : Type 0} (f : P → Functions S H) (R : State P S H → Type 0) : Type 0 where
+  pub handlers : KeptByHandlers R
+  -- the places in queues, what the scheduler keeps, the kernel, and what was used once
   pub placed : (standing : Queue → List Standing) (entries raises : ℕ) (s : State P S H) → R s → R (controlled (with_threads (λ x. record x { standing = standing; entries = entries; raises = raises })) s)
   pub scheduled : (x : Scheduler) (s : State P S H) → R s → R (controlled (with_scheduler (λ y. x)) s)
   pub timed : (x : Kernel) (s : State P S H) → R s → R (controlled (with_kernel (λ y. x)) s)
@@ -164,8 +171,6 @@ pub record KeptAlong {P S H : Type 0} (f : P → Functions S H) (R : State P S H
   pub waits_on : (t : ℕ) (a : Awaits) (b : Blocked) (s : State P S H) → blocked_of s.control t ≡ Some b → Names b.call a → StaysAt b.call b.awaits a → R s → R (controlled (is_blocked_by t (Some (record b { awaits = a }))) s)
   -- no call blocks t any longer, and its arrival may be lost with this
   pub stopped : (t : ℕ) (x : BarrierTable) (s : State P S H) → HasFewer x s.control.barriers → HasOthers t x s.control.barriers → HasLeft t (controlled (with_barriers (λ y. x)) s) → R s → R (controlled (λ k. stops_waiting t (with_barriers (λ y. x) k)) s)
-  -- a mark is told
-  pub told : (m : Mark) (s : State P S H) → IsToTell m s → R s → R (tells m s).state
 
 -- ---- what verdicts say of calls that they do not refuse
 
@@ -193,9 +198,9 @@ init_passes true false h = refl
 pub prio_in_range : (n : ℤ) → (n is_from least_priority to top_priority) ≡ true → IsSetPrio n
 prio_in_range n h = record { low = grind (arith, ints); high = grind (arith, ints) }
 
--- ---- handlers, and what is given up: only the program's shared value changes, and marks are told
+-- ---- handlers, and what is given up: only the program's shared value and seats of conditions change, and marks are told
 
-module _ {P S H : Type 0} (f : P → Functions S H) (R : State P S H → Type 0) (shared : (h : H) (s : State P S H) → R s → R (controlled (shares h) s)) (told_also : (m : Mark) (s : State P S H) → IsToTell m s → R s → R (tells m s).state) where
+module _ {P S H : Type 0} (f : P → Functions S H) (R : State P S H → Type 0) (kept : KeptByHandlers R) where
   abbrev Runs : Piece P S H → Type 0
   Runs a = (s : State P S H) → R s → R (a s).state
 
@@ -204,23 +209,31 @@ module _ {P S H : Type 0} (f : P → Functions S H) (R : State P S H → Type 0)
 
   act_keeps : (t : ℕ) (x : Act) → Runs (acts t x)
   unfolding acts
+  act_keeps t (act.Notify c v) s r = by_refusal (refuses (row_of_act s t (act.Notify c v)).begin.verdict)
+    where
+      m : Mark
+      m = mark.Acted (tid t) (act.Notify c v) (answer_in (row_of_act s t (act.Notify c v)).begin.verdict)
+
+      by_refusal : (b : Bool) → R ((unless_refused b (row_of_act s t (act.Notify c v)).begin.effect and_then tells m) s).state
+      by_refusal true = kept.told m s tt r
+      by_refusal false = kept.told m (controlled (with_conditions (cond_notified c (not (is_zero v)))) s) tt (kept.seated _ s r)
   act_keeps t (act.SetKey k v) s r = by_refusal (refuses (row_of_act s t (act.SetKey k v)).begin.verdict)
     where
       m : Mark
       m = mark.Acted (tid t) (act.SetKey k v) (answer_in (row_of_act s t (act.SetKey k v)).begin.verdict)
 
       by_refusal : (b : Bool) → R ((unless_refused b (changes nothing) and_then tells m) s).state
-      by_refusal true = told_also m s tt r
-      by_refusal false = told_also m s tt r
+      by_refusal true = kept.told m s tt r
+      by_refusal false = kept.told m s tt r
   act_keeps t (act.Release i) s r = by_refusal (refuses (row_of_act s t (act.Release i)).begin.verdict)
     where
       m : Mark
       m = mark.Acted (tid t) (act.Release i) (answer_in (row_of_act s t (act.Release i)).begin.verdict)
 
       by_refusal : (b : Bool) → R ((unless_refused b (changes nothing) and_then tells m) s).state
-      by_refusal true = told_also m s tt r
-      by_refusal false = told_also m s tt r
-  act_keeps t x s r = told_also (mark.Acted (tid t) x (answer_in (row_of_act s t x).begin.verdict)) s tt r
+      by_refusal true = kept.told m s tt r
+      by_refusal false = kept.told m s tt r
+  act_keeps t x s r = kept.told (mark.Acted (tid t) x (answer_in (row_of_act s t x).begin.verdict)) s tt r
 
   look_keeps : (t : ℕ) (x : Option Act) (next : Piece P S H) → Runs next → Runs (goes_on_after t x next)
   look_keeps t None next keeps s r = r
@@ -231,12 +244,12 @@ module _ {P S H : Type 0} (f : P → Functions S H) (R : State P S H → Type 0)
   acts_keep t h v zero i s r = r
   acts_keep t h v (suc n) i s r =
       let x = (f s.control.program).act h.0 v i s.control.shared in
-      look_keeps t x.act (acts_from f t h v n (i + 1)) (acts_keep t h v n (i + 1)) (controlled (shares x.shared) s) (shared x.shared s r)
+      look_keeps t x.act (acts_from f t h v n (i + 1)) (acts_keep t h v n (i + 1)) (controlled (shares x.shared) s) (kept.shared x.shared s r)
 
   handler_keeps : (t : ℕ) (h : HandlerId) (v : ℤ) → Runs (runs_handler f t h v)
   handler_keeps t h v s r =
       let m = mark.Handler (tid t) h v in
-      acts_keep t h v (suc act_limit) 0 (tells m s).state (told_also m s tt r)
+      acts_keep t h v (suc act_limit) 0 (tells m s).state (kept.told m s tt r)
 
   each_keep : (t : ℕ) (cs : List PushedHandler) → Runs (runs_each f t cs)
   unfolding runs_each
@@ -247,7 +260,7 @@ module _ {P S H : Type 0} (f : P → Functions S H) (R : State P S H → Type 0)
   due_keeps t None next keeps s r = r
   due_keeps t (Some d) next keeps s r =
       let m = mark.Destructor (tid t) d.key d.value in
-      keeps d.round _ (acts_keep t d.handler d.value (suc act_limit) 0 (tells m s).state (told_also m s tt r))
+      keeps d.round _ (acts_keep t d.handler d.value (suc act_limit) 0 (tells m s).state (kept.told m s tt r))
 
   destructs_keep : (t n : ℕ) (i : Round) → Runs (destructs f t n i)
   unfolding destructs
@@ -257,12 +270,12 @@ module _ {P S H : Type 0} (f : P → Functions S H) (R : State P S H → Type 0)
   mutexes_keep : (t : ℕ) (had : List ℕ) → Runs (tells_each (map (mark.GaveMutex (tid t)) had))
   unfolding tells_each
   mutexes_keep t [] s r = r
-  mutexes_keep t (m ∷ had) s r = mutexes_keep t had (tells (mark.GaveMutex (tid t) m) s).state (told_also (mark.GaveMutex (tid t) m) s tt r)
+  mutexes_keep t (m ∷ had) s r = mutexes_keep t had (tells (mark.GaveMutex (tid t) m) s).state (kept.told (mark.GaveMutex (tid t) m) s tt r)
 
   locks_keep : (t : ℕ) (held : List ℕ) → Runs (tells_each (map (mark.GaveLock (tid t)) held))
   unfolding tells_each
   locks_keep t [] s r = r
-  locks_keep t (l ∷ held) s r = locks_keep t held (tells (mark.GaveLock (tid t) l) s).state (told_also (mark.GaveLock (tid t) l) s tt r)
+  locks_keep t (l ∷ held) s r = locks_keep t held (tells (mark.GaveLock (tid t) l) s).state (kept.told (mark.GaveLock (tid t) l) s tt r)
 
 -- ---- ends, calls, and all parts
 
@@ -367,7 +380,7 @@ module _ {P S H : Type 0} (f : P → Functions S H) (R : State P S H → Type 0)
   -- ---- ends
 
   dies_keeps : (t : ℕ) (v : ℤ) (s : State P S H) → IsFree t s → R s → R (dies t v s).state
-  dies_keeps t v s free r = kept.told (mark.Ended (tid t) v) (controlled (leaves t v) s) tt (left_keeps t v s free r)
+  dies_keeps t v s free r = kept.handlers.told (mark.Ended (tid t) v) (controlled (leaves t v) s) tt (left_keeps t v s free r)
 
   -- no call blocks t any longer, whose arrival was not lost
   stops_keeps : (t : ℕ) (s : State P S H) → HasLeft t s → R s → R (controlled (stops_waiting t) s)
@@ -377,7 +390,7 @@ module _ {P S H : Type 0} (f : P → Functions S H) (R : State P S H → Type 0)
   where_withdrawn : (t : ℕ) (b : ℤ) (here : Bool) (s : State P S H) → let a = (where_so here (changes (with_barriers (withdrawn b t)) and_then tells (mark.Withdrew (tid t) (object_named b))) s).state in HasLeft t a → R s → R (controlled (stops_waiting t) a)
   where_withdrawn t b true s left r =
       let m = mark.Withdrew (tid t) (object_named b) in
-      kept.stopped t (withdrawn b t s.control.barriers) (tells m s).state (fewer_withdrawn b t s.control.barriers) (others_withdrawn b t s.control.barriers) left (kept.told m s tt r)
+      kept.stopped t (withdrawn b t s.control.barriers) (tells m s).state (fewer_withdrawn b t s.control.barriers) (others_withdrawn b t s.control.barriers) left (kept.handlers.told m s tt r)
   where_withdrawn t b false s left r = stops_keeps t s left r
 
   undone_keeps : (t : ℕ) (a : Awaits) (s : State P S H) → HasLeft t (withdraws_from t a s).state → R s → R (controlled (stops_waiting t) (withdraws_from t a s).state)
@@ -389,11 +402,12 @@ module _ {P S H : Type 0} (f : P → Functions S H) (R : State P S H → Type 0)
   abbrev Unblocked : ℕ → State P S H → Type 0
   Unblocked t s = R s × IsFree t s
 
-  unblocked_shared : (t : ℕ) (h : H) (s : State P S H) → Unblocked t s → Unblocked t (controlled (shares h) s)
-  unblocked_shared t h s x = (kept.shared h s x.0, x.1)
-
-  unblocked_told : (t : ℕ) (m : Mark) (s : State P S H) → IsToTell m s → Unblocked t s → Unblocked t (tells m s).state
-  unblocked_told t m s may x = (kept.told m s may x.0, x.1)
+  unblocked_handlers : (t : ℕ) → KeptByHandlers (Unblocked t)
+  unblocked_handlers t = record {
+    shared = λ h s x. (kept.handlers.shared h s x.0, x.1);
+    seated = λ y s x. (kept.handlers.seated y s x.0, x.1);
+    told = λ m s may x. (kept.handlers.told m s may x.0, x.1);
+  }
 
   ending_keeps : (t : ℕ) (v : ℤ) → Keeps (ending f t v)
   unfolding ending
@@ -406,10 +420,10 @@ module _ {P S H : Type 0} (f : P → Functions S H) (R : State P S H → Type 0)
       let s4 = (gives_mutexes t s3).state in
       let s5 = (gives_locks t s4).state in
       let x1 : Unblocked t s1 = (undone_keeps t a s (left_ended t s) r, stopped_free t s0) in
-      let x2 : Unblocked t s2 = each_keep f (Unblocked t) (unblocked_shared t) (unblocked_told t) t (s1.resources.store.cleanups t) s1 x1 in
-      let x3 : Unblocked t s3 = destructs_keep f (Unblocked t) (unblocked_shared t) (unblocked_told t) t (round_limit * key_limit) first_round s2 x2 in
-      let x4 : Unblocked t s4 = mutexes_keep f (Unblocked t) (unblocked_shared t) (unblocked_told t) t (mutexes_had t s3.resources.store.mutexes) s3 x3 in
-      let x5 : Unblocked t s5 = locks_keep f (Unblocked t) (unblocked_shared t) (unblocked_told t) t (locks_held t s4.resources.store.rw_locks) s4 x4 in
+      let x2 : Unblocked t s2 = each_keep f (Unblocked t) (unblocked_handlers t) t (s1.resources.store.cleanups t) s1 x1 in
+      let x3 : Unblocked t s3 = destructs_keep f (Unblocked t) (unblocked_handlers t) t (round_limit * key_limit) first_round s2 x2 in
+      let x4 : Unblocked t s4 = mutexes_keep f (Unblocked t) (unblocked_handlers t) t (mutexes_had t s3.resources.store.mutexes) s3 x3 in
+      let x5 : Unblocked t s5 = locks_keep f (Unblocked t) (unblocked_handlers t) t (locks_held t s4.resources.store.rw_locks) s4 x4 in
       dies_keeps t v s5 x5.1 x5.0
 
   -- ---- a call begins
@@ -426,11 +440,11 @@ module _ {P S H : Type 0} (f : P → Functions S H) (R : State P S H → Type 0)
     pops_keep : (o : Option PushedHandler) (b : Bool) → Keeps (where_so b (runs_pushed f t o))
     pops_keep o false s r = r
     pops_keep None true s r = r
-    pops_keep (Some c) true s r = handler_keeps f R kept.shared kept.told t c.0 c.1 s r
+    pops_keep (Some c) true s r = handler_keeps f R kept.handlers t c.0 c.1 s r
 
     once_keeps : (o : ℕ) (h : HandlerId) (v : ℤ) (b : Bool) → Keeps (where_so b (changes (uses o) and_then runs_handler f t h v))
     once_keeps o h v false s r = r
-    once_keeps o h v true s r = handler_keeps f R kept.shared kept.told t h v (controlled (uses o) s) (kept.used _ s r)
+    once_keeps o h v true s r = handler_keeps f R kept.handlers t h v (controlled (uses o) s) (kept.used _ s r)
 
     ctrl_keeps : (s : State P S H) (x : Query) → KeepsAt s (ctrl s x).begin.effect
     ctrl_keeps s (query.Favournew n) r = kept.scheduled _ s r
@@ -466,7 +480,7 @@ module _ {P S H : Type 0} (f : P → Functions S H) (R : State P S H → Type 0)
 
     points_keep : (s : State P S H) (b : Bool) → KeepsAt s (where_so b (takes_request t call.CancelPoint))
     points_keep s false r = r
-    points_keep s true r = kept.told (mark.Canceled (tid t) (Some call.CancelPoint)) (controlled (sets t (change.Request false)) s) tt (kept.set t (change.Request false) s tt tt r)
+    points_keep s true r = kept.handlers.told (mark.Canceled (tid t) (Some call.CancelPoint)) (controlled (sets t (change.Request false)) s) tt (kept.set t (change.Request false) s tt tt r)
 
     states_keep : (s : State P S H) (n : ℤ) (b : Bool) → KeepsAt s (changes (if b then nothing else sets t (change.Cancel (number n))))
     states_keep s n true r = r
@@ -483,7 +497,7 @@ module _ {P S H : Type 0} (f : P → Functions S H) (R : State P S H → Type 0)
     other_keeps : (u : ℕ) → Keeps (canceled_by_other f u)
     other_keeps u s r =
         let m = mark.Canceled (tid u) None in
-        ending_keeps u canceled_value (tells m s).state (kept.told m s tt r)
+        ending_keeps u canceled_value (tells m s).state (kept.handlers.told m s tt r)
 
     asks_keep : (s : State P S H) (u : ℕ) (b : Bool) → KeepsAt s (if b then canceled_by_other f u else changes (sets u (change.Request true)))
     asks_keep s u true r = other_keeps u s r
@@ -533,6 +547,8 @@ module _ {P S H : Type 0} (f : P → Functions S H) (R : State P S H → Type 0)
     does_keeps s (call.Accept d) free sound other e r = kept.timed _ s r
     does_keeps s (call.AcceptEv d x) free sound other e r = kept.timed _ s r
     does_keeps s (call.Close d) free sound other e r = kept.timed _ s r
+    does_keeps s (call.CondInit c) free sound other e r = kept.handlers.seated _ s r
+    does_keeps s (call.CondNotify c v) free sound other e r = kept.handlers.seated _ s r
     does_keeps s (call.BarrierInit b n) free sound other e r = kept.barred (barrier_initialised b n s.control.barriers) s (fewer_initialised b n s.control.barriers) (all_initialised b n s.control.barriers (init_passes (is_object b && is_size n) (is_some (s.control.barriers (object_named b))) e)) r
     does_keeps s (call.BarrierReach b) free sound other e r = absurd (true_false other)
     does_keeps s (call.Join n) free sound other e r = joins_keep s (to_join s.control n) (λ u taken. sound.joins n u taken) r
@@ -541,24 +557,24 @@ module _ {P S H : Type 0} (f : P → Functions S H) (R : State P S H → Type 0)
     does_keeps s c free sound other e r = r
 
     begun_by_keeps : (c : Call) (v : Verdict) (s : State P S H) → is_reaching c ≡ false → is_rounding v ≡ false → IsAllowed t c v s → R s → R (begun_by f t c v s).told.state
-    begun_by_keeps c (Says x) s other none may r = kept.told (mark.Answered (tid t) c x) s may r
-    begun_by_keeps c (Yields x) s other none may r = kept.told (mark.Answered (tid t) c x) s may r
-    begun_by_keeps c (Blocks a) s other none may r = kept.told (mark.Waits (tid t) c) (controlled (λ k. blocks t c a (claims t (ring_given c) k)) s) tt (kept.blocked t c a s may.0 other none may.1 r)
+    begun_by_keeps c (Says x) s other none may r = kept.handlers.told (mark.Answered (tid t) c x) s may r
+    begun_by_keeps c (Yields x) s other none may r = kept.handlers.told (mark.Answered (tid t) c x) s may r
+    begun_by_keeps c (Blocks a) s other none may r = kept.handlers.told (mark.Waits (tid t) c) (controlled (λ k. blocks t c a (claims t (ring_given c) k)) s) tt (kept.blocked t c a s may.0 other none may.1 r)
     begun_by_keeps c (Ends v) s other none may r = ending_keeps t v s r
-    begun_by_keeps c Kills s other none may r = kept.told (mark.Answered (tid t) c (answer.Int (pos 1))) s may r
+    begun_by_keeps c Kills s other none may r = kept.handlers.told (mark.Answered (tid t) c (answer.Int (pos 1))) s may r
 
     -- an arrival at a barrier, by what it comes to
     reach_keeps : (b : ℤ) (o : Result Arrival Errno) (s : State P S H) → arrival_answer s.control.barriers b ≡ o → IsFree t s → IsSound t s.control → is_some (s.control.threads.progress t) ≡ true → R s → R (begun_as f t (call.BarrierReach b) (by_result (arrived_as b) o trying changes (with_barriers (barrier_reached b t))) s).told.state
     unfolding claims
-    reach_keeps b (Err e) s same free sound there r = kept.told (mark.Answered (tid t) (call.BarrierReach b) (answer.Fail e)) s tt r
-    reach_keeps b (Ok arrival.Tail) s same free sound there r = kept.told (mark.Answered (tid t) (call.BarrierReach b) (answer.Int taillight)) (controlled (with_barriers (barrier_reached b t)) s) tt (kept.barred (barrier_reached b t s.control.barriers) s (fewer_tail b t s.control.barriers same) (all_reached b t s.control.barriers) r)
+    reach_keeps b (Err e) s same free sound there r = kept.handlers.told (mark.Answered (tid t) (call.BarrierReach b) (answer.Fail e)) s tt r
+    reach_keeps b (Ok arrival.Tail) s same free sound there r = kept.handlers.told (mark.Answered (tid t) (call.BarrierReach b) (answer.Int taillight)) (controlled (with_barriers (barrier_reached b t)) s) tt (kept.barred (barrier_reached b t s.control.barriers) s (fewer_tail b t s.control.barriers same) (all_reached b t s.control.barriers) r)
     reach_keeps b (Ok (arrival.Waits round)) s same free sound there r =
-        kept.told (mark.Waits (tid t) (call.BarrierReach b)) (controlled (λ k. blocks t (call.BarrierReach b) (awaits.Round b round) (with_barriers (barrier_reached b t) k)) s) tt (kept.reached t b round s free sound.alive there same r)
+        kept.handlers.told (mark.Waits (tid t) (call.BarrierReach b)) (controlled (λ k. blocks t (call.BarrierReach b) (awaits.Round b round) (with_barriers (barrier_reached b t) k)) s) tt (kept.reached t b round s free sound.alive there same r)
 
     begun_keeps : (c : Call) (s : State P S H) → IsFree t s → IsSound t s.control → is_some (s.control.threads.progress t) ≡ true → R s → R (begun f t c s).told.state
     unfolding begun row_of
     begun_keeps call.Plain s free sound there r = r
-    begun_keeps (call.Note v) s free sound there r = kept.told (mark.Noted (tid t) v) s tt r
+    begun_keeps (call.Note v) s free sound there r = kept.handlers.told (mark.Noted (tid t) v) s tt r
     begun_keeps (call.BarrierReach b) s free sound there r = reach_keeps b (arrival_answer s.control.barriers b) s refl free sound there r
     begun_keeps c s free sound there r =
         let a = (row_of f s t c).begin in
@@ -633,11 +649,11 @@ module _ {P S H : Type 0} (f : P → Functions S H) (R : State P S H → Type 0)
         stops_keeps t (effect_of (unless_settled come ((row_of f s t c).again b.awaits)) s).state (left_again f t s c b named at at_once) (come_keeps s c b.awaits come refl sound r)
 
     tried_by_keeps : (b : Blocked) (v : Verdict) (s : State P S H) → IsAllowedAgain t b.call b v s → ((a : Awaits) → v ≡ Blocks a → StaysAt b.call b.awaits a) → (is_saying v ≡ false → R s) → (is_blocking v ≡ false → R (controlled (stops_waiting t) s)) → R (tried_by f t b v s).told.state
-    tried_by_keeps b (Says x) s may stays still stop = kept.told (mark.Answered (tid t) b.call x) (controlled (stops_waiting t) s) may (stop refl)
-    tried_by_keeps b (Yields x) s may stays still stop = kept.told (mark.Answered (tid t) b.call x) (controlled (stops_waiting t) s) may (stop refl)
-    tried_by_keeps b (Blocks a) s may stays still stop = kept.told (mark.Waits (tid t) b.call) (controlled (is_blocked_by t (Some (record b { awaits = a }))) s) tt (kept.waits_on t a b s may.0 may.1 (stays a refl) (still refl))
+    tried_by_keeps b (Says x) s may stays still stop = kept.handlers.told (mark.Answered (tid t) b.call x) (controlled (stops_waiting t) s) may (stop refl)
+    tried_by_keeps b (Yields x) s may stays still stop = kept.handlers.told (mark.Answered (tid t) b.call x) (controlled (stops_waiting t) s) may (stop refl)
+    tried_by_keeps b (Blocks a) s may stays still stop = kept.handlers.told (mark.Waits (tid t) b.call) (controlled (is_blocked_by t (Some (record b { awaits = a }))) s) tt (kept.waits_on t a b s may.0 may.1 (stays a refl) (still refl))
     tried_by_keeps b (Ends v) s may stays still stop = ending_keeps t v s (still refl)
-    tried_by_keeps b Kills s may stays still stop = kept.told (mark.Answered (tid t) b.call (answer.Int (pos 1))) (controlled (stops_waiting t) s) may (stop refl)
+    tried_by_keeps b Kills s may stays still stop = kept.handlers.told (mark.Answered (tid t) b.call (answer.Int (pos 1))) (controlled (stops_waiting t) s) may (stop refl)
 
     tried_again_keeps : (s : State P S H) (o : Option Blocked) → blocked_of s.control t ≡ o → IsSound t s.control → R s → R (tried_again_by f t o s).told.state
     tried_again_keeps s None at sound r = r
@@ -651,7 +667,7 @@ module _ {P S H : Type 0} (f : P → Functions S H) (R : State P S H → Type 0)
     canceled_keeps (Some b) s r =
         let m = mark.Canceled (tid t) (Some b.call) in
         let a = controlled (sets t (change.Request false)) s in
-        ending_keeps t canceled_value (tells m a).state (kept.told m a tt (kept.set t (change.Request false) s tt tt r))
+        ending_keeps t canceled_value (tells m a).state (kept.handlers.told m a tt (kept.set t (change.Request false) s tt tt r))
 
     where_keeps : (b : Bool) (s : State P S H) → IsSound t s.control → R s → R (gone_on_where f t b s).told.state
     unfolding tried_again
@@ -679,7 +695,7 @@ module _ {P S H : Type 0} (f : P → Functions S H) (R : State P S H → Type 0)
         let x = (f s.control.program).step p.state s.control.shared p.owed in
         let g : Progress S → Progress S = λ y. record y { state = x.state; owed = answer.None } in
         let a = controlled (shares x.shared) s in
-        begun_keeps x.call (controlled (goes_on t g) a) (stepped_free g a p at (sym (ap blocked_in at) ∙ is_blocked)) (sound_steps t t g x.shared s.control sound) (stepped_there g a p at) (kept.goes t g a (λ y. refl) (kept.shared x.shared s r))
+        begun_keeps x.call (controlled (goes_on t g) a) (stepped_free g a p at (sym (ap blocked_in at) ∙ is_blocked)) (sound_steps t t g x.shared s.control sound) (stepped_there g a p at) (kept.goes t g a (λ y. refl) (kept.handlers.shared x.shared s r))
 
     owes_keeps : (n : Next) → Stays (owes_after t n)
     owes_keeps (next.Done a) s r = kept.goes t (owing a) s (λ p. refl) r
@@ -701,7 +717,7 @@ module _ {P S H : Type 0} (f : P → Functions S H) (R : State P S H → Type 0)
   woken_keeps [] s r = r
   woken_keeps (t ∷ ts) s r =
       let rank = prio_of s.control t +ℤ pos 1 in
-      woken_keeps ts (woken t s).state (kept.told (mark.Woke (tid t) rank) (controlled (is_ready_at t rank false) s) tt (ready_keeps t rank false s r))
+      woken_keeps ts (woken t s).state (kept.handlers.told (mark.Woke (tid t) rank) (controlled (is_ready_at t rank false) s) tt (ready_keeps t rank false s r))
 
   pass_keeps : Keeps (pass)
   unfolding pass
@@ -722,7 +738,7 @@ module _ {P S H : Type 0} (f : P → Functions S H) (R : State P S H → Type 0)
       let c = controlled (sets t (change.Dispatches n)) b in
       let d = controlled (runs_now (Some t)) c in
       let m = mark.Dispatch (x.turns + 1) (now_of s.control) (tid t) (rank_by (place_in t (queue s.control Ready))) 0 0 in
-      kept.told m (controlled (prefers None) d) tt (prefers_keeps None d (runs_now_keeps (Some t) c (kept.set t (change.Dispatches n) b tt tt (kept.set t (change.State state.Running) a tt tt (leaves_queue_keeps t s r)))))
+      kept.handlers.told m (controlled (prefers None) d) tt (prefers_keeps None d (runs_now_keeps (Some t) c (kept.set t (change.Dispatches n) b tt tt (kept.set t (change.State state.Running) a tt tt (leaves_queue_keeps t s r)))))
 
   takes_keeps : (x : Turn) (s : State P S H) → R s → R (takes x s).state
   unfolding takes
@@ -751,7 +767,7 @@ module _ {P S H : Type 0} (f : P → Functions S H) (R : State P S H → Type 0)
   moves_keeps x None s r = r
   moves_keeps x (Some m) s r =
       let a = controlled (moves_to m) s in
-      pass_keeps (tells (mark.Moved m) a).state (kept.told (mark.Moved m) a tt (moves_to_keeps m s r))
+      pass_keeps (tells (mark.Moved m) a).state (kept.handlers.told (mark.Moved m) a tt (moves_to_keeps m s r))
 
   part_keeps : (x : Turn) (s : State P S H) (p : Part) → ((t : ℕ) → p ≡ Step t → IsSound t s.control) → R s → R (part_by f x s p).state
   unfolding moves

@@ -228,7 +228,11 @@ module _ {P S H : Type 0} where
 
   pub arrivals_kept : (f : P → Functions S H) → KeptAlong f AreArrivals
   arrivals_kept f = record {
-    shared = λ h s r. r;
+    handlers = record {
+      shared = λ h s r. r;
+      seated = λ x s r. r;
+      told = λ m s may r. r;
+    };
     placed = λ standing entries raises s r. r;
     scheduled = λ x s r. r;
     timed = λ x s r. r;
@@ -250,7 +254,6 @@ module _ {P S H : Type 0} where
     blocked = λ t c a s free other none may r. arrivals_blocked t c a s free r;
     waits_on = λ t a b s at names stays r. arrivals_wait_on t a b s at stays r;
     stopped = λ t x s fewer others left r. arrivals_stopped t (controlled (with_barriers (λ y. x)) s) left (arrivals_barred x s fewer r);
-    told = λ m s may r. r;
   }
 
   pub arrivals_start : (f : P → Functions S H) (g : Given P) → AreArrivals (start f g)

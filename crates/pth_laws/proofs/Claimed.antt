@@ -314,7 +314,11 @@ module _ {P S H : Type 0} where
 
   fits_kept : (f : P → Functions S H) → KeptAlong f FitsIn
   fits_kept f = record {
-    shared = λ h s r. r;
+    handlers = record {
+      shared = λ h s r. r;
+      seated = λ x s r. r;
+      told = λ m s may r. r;
+    };
     placed = λ standing entries raises s r. r;
     scheduled = λ x s r. r;
     timed = λ x s r. r;
@@ -336,7 +340,6 @@ module _ {P S H : Type 0} where
     blocked = λ t c a s free other none may r. fits_blocked t c a s may r;
     waits_on = λ t a b s at names stays r. fits_goes t (blocking (Some (record b { awaits = a }))) s (λ p here. sym (ap event_held (sym (ap blocked_in here) ∙ at))) r;
     stopped = λ t x s fewer others left r. fits_stopped t (controlled (with_barriers (λ y. x)) s) r;
-    told = λ m s may r. r;
   }
 
   fits_start : (f : P → Functions S H) (g : Given P) → FitsIn (start f g)

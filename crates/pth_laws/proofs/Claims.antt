@@ -125,7 +125,7 @@ module _ {P S H : Type 0} (n : ℕ) (ended awaits : ℕ → Bool) (t : ℕ) (q :
 
   pub holding_kept : (f : P → Functions S H) → KeptByCalls f t Holding
   holding_kept f = record {
-    shares = λ h k g. g;
+    handlers = record { shares = λ h k g. g; seated = λ x k g. g };
     spawned = λ b v of k g. let dead = next_dead n ended t k g.0.living in (going_spawned n ended t f b v of k g.0, claims_spawned f b v of k dead g.1, spawned_progress f b v of k (other n ended t k (k.threads.made + 1) g.0 dead) ∙ g.2, awaits_spawned awaits f b v of k dead g.3);
     suspended = λ u k apart up g. (going_suspended n ended t u k apart up g.0, claims_suspended u k g.1, suspended_progress u k ∙ g.2, awaits_suspended awaits u k g.3);
     resumed = λ u k apart g. (going_resumed n ended t u k apart g.0, claims_resumed u k g.1, resumed_progress u k ∙ g.2, awaits_resumed awaits u k g.3);

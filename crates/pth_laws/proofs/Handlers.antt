@@ -14,7 +14,7 @@ use Rattle.pth_store.specs.Cleanups.{PushedHandler}
 use Rattle.pth_model.specs.Resources.{Resources, told, act_told, answer_told}
 use Rattle.pth_model.specs.State.{State, Control}
 use Rattle.pth_model.specs.Transition.{Piece, changes, tells, tid, nothing, controlled, ◌and_then◌}
-use Rattle.pth_model.specs.Changes.{shares}
+use Rattle.pth_model.specs.Changes.{shares, with_conditions}
 use Rattle.pth_model.specs.Mutexes.{mutex_release}
 use Rattle.pth_model.specs.Row.{unless_refused, refuses}
 use Rattle.pth_model.specs.Acts.{acts, acts_from, act_limit, answer_in, row_of_act, handled, goes_on_after, runs_handler}
@@ -38,7 +38,7 @@ act_cleanups k t (act.Put p v) (answer.Int w) = refl
 act_cleanups k t x a = refl
 
 -- what stays the same while t runs handlers: who has ended, who was canceled, its cleanups, who awaits, and the control but
--- for the program's shared value; and what it has run so far
+-- for the program's shared value and the seats of conditions; and what it has run so far
 pub record IsRunning {P S H : Type 0} (t : ℕ) (over dropped : ℕ → Bool) (had : Resources) (y : Control P S H) (x : BlockRun) (b : Book) (s : State P S H) : Type 0 where
   pub resources : b.resources ≡ s.resources
   pub ended : b.ended ≡ over
@@ -46,18 +46,26 @@ pub record IsRunning {P S H : Type 0} (t : ℕ) (over dropped : ℕ → Bool) (h
   pub ran : ran_by b.block t ≡ x
   pub cleanups : s.resources.store.cleanups t ≡ had.store.cleanups t
   pub awaits : s.resources.awaits ≡ had.awaits
-  pub control : s.control ≡ record y { shared = s.control.shared }
+  pub control : s.control ≡ record y { shared = s.control.shared; conditions = s.control.conditions }
 
 module _ {P S H : Type 0} where
-  -- an act is a mark: nothing else changes
-  acts_tell : (t : ℕ) (x : Act) (s : State P S H) → acts t x s ≡ tells (mark.Acted (tid t) x (answer_in (row_of_act s t x).begin.verdict)) s
+  -- an act is a mark: nothing else changes but seats
+  acts_tell : (t : ℕ) (x : Act) (s : State P S H) → acts t x s ≡ tells (mark.Acted (tid t) x (answer_in (row_of_act s t x).begin.verdict)) (controlled (with_conditions (λ y. (acts t x s).state.control.conditions)) s)
   unfolding acts
+  acts_tell t (act.Notify c v) s = by_refusal (refuses (row_of_act s t (act.Notify c v)).begin.verdict)
+    where
+      m : Mark
+      m = mark.Acted (tid t) (act.Notify c v) (answer_in (row_of_act s t (act.Notify c v)).begin.verdict)
+
+      by_refusal : (b : Bool) → let a = (unless_refused b (row_of_act s t (act.Notify c v)).begin.effect and_then tells m) s in a ≡ tells m (controlled (with_conditions (λ y. a.state.control.conditions)) s)
+      by_refusal true = refl
+      by_refusal false = refl
   acts_tell t (act.SetKey k v) s = by_refusal (refuses (row_of_act s t (act.SetKey k v)).begin.verdict)
     where
       m : Mark
       m = mark.Acted (tid t) (act.SetKey k v) (answer_in (row_of_act s t (act.SetKey k v)).begin.verdict)
 
-      by_refusal : (b : Bool) → (unless_refused b (changes nothing) and_then tells m) s ≡ tells m s
+      by_refusal : (b : Bool) → let a = (unless_refused b (changes nothing) and_then tells m) s in a ≡ tells m (controlled (with_conditions (λ y. a.state.control.conditions)) s)
       by_refusal true = refl
       by_refusal false = refl
   acts_tell t (act.Release i) s = by_refusal (refuses (row_of_act s t (act.Release i)).begin.verdict)
@@ -65,7 +73,7 @@ module _ {P S H : Type 0} where
       m : Mark
       m = mark.Acted (tid t) (act.Release i) (answer_in (row_of_act s t (act.Release i)).begin.verdict)
 
-      by_refusal : (b : Bool) → (unless_refused b (changes nothing) and_then tells m) s ≡ tells m s
+      by_refusal : (b : Bool) → let a = (unless_refused b (changes nothing) and_then tells m) s in a ≡ tells m (controlled (with_conditions (λ y. a.state.control.conditions)) s)
       by_refusal true = refl
       by_refusal false = refl
   acts_tell t x s = refl
@@ -89,15 +97,16 @@ module _ {P S H : Type 0} where
     unfolding told
     act_walk x a b s w =
         let r = answer_in (row_of_act s t a).begin.verdict in
+        let seats = (acts t a s).state.control.conditions in
         subst (Walk n b (Runs x)) (sym (acts_tell t a s))
-        (walk_tells n (Runs x) b (mark.Acted (tid t) a r) s (λ locked. (((run_up x b s w, tt), act_exclusive b s a w.resources), made)) (record {
+        (walk_tells n (Runs x) b (mark.Acted (tid t) a r) (controlled (with_conditions (λ y. seats)) s) (λ locked. (((run_up x b s w, tt), act_exclusive b s a w.resources), made)) (record {
           resources = ap (λ k. told k (mark.Acted (tid t) a r)) w.resources;
           ended = w.ended;
           canceled = w.canceled;
           ran = block_open t (ran_by b.block t) ∙ w.ran;
           cleanups = ap (λ (c : ℕ → List PushedHandler). c t) (act_cleanups s.resources t a r) ∙ w.cleanups;
           awaits = act_awaits s.resources t a r ∙ w.awaits;
-          control = w.control;
+          control = ap (λ (k : Control P S H). record k { conditions = seats }) w.control;
         }))
 
     look_walk : (x : BlockRun) (a : Option Act) (next : Piece P S H) → ((c : Book) (u : State P S H) → Runs x c u → Walk n c (Runs x) (next u)) → (b : Book) (s : State P S H) → Runs x b s → Walk n b (Runs x) (goes_on_after t a next s)

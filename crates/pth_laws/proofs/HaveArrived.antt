@@ -188,7 +188,11 @@ module _ {P S H : Type 0} where
 
   both_kept : (f : P → Functions S H) → KeptAlong f Both
   both_kept f = let k = arrivals_kept f in record {
-    shared = λ h s r. r;
+    handlers = record {
+      shared = λ h s r. r;
+      seated = λ x s r. r;
+      told = λ m s may r. r;
+    };
     placed = λ standing entries raises s r. r;
     scheduled = λ x s r. r;
     timed = λ x s r. r;
@@ -210,7 +214,6 @@ module _ {P S H : Type 0} where
     blocked = λ t c a s free other none may r. (k.blocked t c a s free other none may r.0, kept_blocked t c a s other none r.1);
     waits_on = λ t a b s at names stays r. (k.waits_on t a b s at names stays r.0, kept_on t a b s at stays r.1);
     stopped = λ t x s fewer others left r. (k.stopped t x s fewer others left r.0, kept_stopped t x s fewer others r.1);
-    told = λ m s may r. r;
   }
 
   kept_start : (f : P → Functions S H) (g : Given P) → IsKept (start f g)

@@ -175,6 +175,8 @@ module _ {P S H : Type 0} (f : P → Functions S H) (s : State P S H) (t : ℕ) 
   begins_none (call.RwInit l) other = search result_none
   begins_none (call.RwAcquire l write v e) other = search (when_none, taken_none)
   begins_none (call.RwRelease l) other = search result_none
+  begins_none (call.CondInit c) other = search result_none
+  begins_none (call.CondNotify c v) other = search result_none
   begins_none (call.BarrierInit b n) other = search result_none
   begins_none (call.BarrierReach b) other = absurd (true_false other)
   begins_none (call.Usleep n) other = search when_none

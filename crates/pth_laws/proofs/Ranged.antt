@@ -141,7 +141,11 @@ module _ {P S H : Type 0} where
 
   ranged_kept : (f : P → Functions S H) → KeptAlong f Ranged
   ranged_kept f = record {
-    shared = λ h s r. r;
+    handlers = record {
+      shared = λ h s r. r;
+      seated = λ x s r. r;
+      told = λ m s may r. r;
+    };
     placed = λ standing entries raises s r. r;
     scheduled = λ x s r. r;
     timed = λ x s r. r;
@@ -163,7 +167,6 @@ module _ {P S H : Type 0} where
     blocked = λ t c a s free other none may r. ranged_goes t _ (controlled (claims t (ring_given c)) s) (ranged_claimed t (ring_given c) s r);
     waits_on = λ t a b s at names stays r. ranged_goes t _ s r;
     stopped = λ t x s fewer others left r. ranged_stopped t (controlled (with_barriers (λ y. x)) s) r;
-    told = λ m s may r. r;
   }
 
   ranged_start : (f : P → Functions S H) (g : Given P) → Ranged (start f g)

@@ -280,7 +280,11 @@ module _ {P S H : Type 0} where
 
   rightly_kept : (f : P → Functions S H) → KeptAlong f AreRightly
   rightly_kept f = record {
-    shared = λ h s r. r;
+    handlers = record {
+      shared = λ h s r. r;
+      seated = λ x s r. r;
+      told = λ m s may r. rightly_told m s may r;
+    };
     placed = λ standing entries raises s r. r;
     scheduled = λ x s r. r;
     timed = λ x s r. r;
@@ -302,7 +306,6 @@ module _ {P S H : Type 0} where
     blocked = λ t c a s free other none may r. rightly_goes t (blocking (Some (record { call = c; awaits = a }))) (controlled (claims t (ring_given c)) s) (λ x at. (may.names, may.rightly)) (rightly_claimed t (ring_given c) s r);
     waits_on = λ t a b s at names stays r. rightly_goes t (blocking (Some (record b { awaits = a }))) s (λ p here. (names, (blocked_at s t (Some b) at r).1)) r;
     stopped = λ t x s fewer others left r. rightly_stopped t (controlled (with_barriers (λ y. x)) s) r;
-    told = λ m s may r. rightly_told m s may r;
   }
 
   rightly_start : (f : P → Functions S H) (g : Given P) → AreRightly (start f g)

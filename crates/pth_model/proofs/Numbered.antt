@@ -124,7 +124,7 @@ module _ {P S H : Type 0} (Meant : Standing → Type 0) where
     kept_by_calls : (f : P → Functions S H) (t : ℕ) → KeptBy f t (Kept Meant)
     kept_by_calls f t = record {
       calls = record {
-        shares = λ h s k. k;
+        handlers = record { shares = λ h s k. k; seated = λ x s k. k };
         spawned = kept_spawned f;
         suspended = λ u s other lives k. kept_suspended u s k;
         resumed = λ u s other k. kept_resumed u s k;

@@ -294,7 +294,7 @@ module _ {P S H : Type 0} where
   going_kept : (f : P → Functions S H) (t : ℕ) → KeptBy f t (Going t)
   going_kept f t = record {
     calls = record {
-      shares = λ h k g. g;
+      handlers = record { shares = λ h k g. g; seated = λ x k g. g };
       spawned = going_spawned f t;
       suspended = λ u k other lives g. going_suspended t u k other g;
       resumed = going_resumed t;

@@ -29,13 +29,14 @@ use Rattle.pth_model.specs.Living.{is_dead}
 use Rattle.pth_model.specs.ThreadControl.{thread}
 use Rattle.pth_threads.specs.declared.entry.Change.TheVariants as change
 use Rattle.pth_model.specs.Cancellation.{canceled_value, is_asynchronous, is_to_cancel, may_be_canceled, takes_request, canceled_by_other, aborted}
-use Rattle.pth_model.specs.Row.{effect_of, refuses, unless_refused, ◌trying◌}
+use Rattle.pth_model.specs.Row.{Attempt, effect_of, refuses, unless_refused, ◌trying◌}
 use Rattle.pth_model.specs.Rows.{row_of}
 use Rattle.pth_model.specs.Mutexes.{mutex_release}
 use Rattle.pth_model.specs.Ending.{ending, undoes_wait, dies, runs_each, runs_cleanups, runs_destructor, runs_destructors, destructs, destructs_by, next_destructor, round_limit, first_round, gives_mutexes, gives_locks, gives_all}
 use Rattle.pth_model.specs.declared.destructors.Due.{Due}
 use Rattle.pth_model.specs.declared.destructors.Round.{Round as DestructorRound}
-use Rattle.pth_model.specs.Acts.{acts, acts_from, act_limit, answer_in, handled, goes_on_after, runs_handler}
+use Rattle.pth_model.specs.Conditions.{cond_notify}
+use Rattle.pth_model.specs.Acts.{acts, acts_by, acts_from, act_limit, answer_in, handled, goes_on_after, runs_handler}
 use Rattle.pth_model.specs.KeyStorage.{key_set}
 use Rattle.pth_model.specs.Cleanups.{runs_pushed, last_pushed}
 use Rattle.pth_model.specs.Resources.{handler}
@@ -88,14 +89,14 @@ module _ {P S H : Type 0} (f : P → Functions S H) where
   module _ (t : ℕ) where
     -- handlers, and an ending
 
+    attempt_told : (x : Act) (a : Attempt P S H) → IsTold a.effect → IsTold (acts_by t x a)
+    attempt_told x a known = then_told (effect_of a) (tells (mark.Acted (tid t) x (answer_in a.verdict))) (unless_told (refuses a.verdict) a.effect known) (λ u. refl)
+
     act_told : (x : Act) → IsTold (acts {P = P} {S = S} {H = H} t x)
     unfolding acts
-    act_told (act.SetKey k v) s =
-        let r = (key_set s k).begin in
-        then_told (effect_of r) (tells (mark.Acted (tid t) (act.SetKey k v) (answer_in r.verdict))) (unless_told (refuses r.verdict) r.effect (λ u. refl)) (λ u. refl) s
-    act_told (act.Release m) s =
-        let r = (mutex_release s t m).begin in
-        then_told (effect_of r) (tells (mark.Acted (tid t) (act.Release m) (answer_in r.verdict))) (unless_told (refuses r.verdict) r.effect (λ u. refl)) (λ u. refl) s
+    act_told (act.SetKey k v) s = attempt_told (act.SetKey k v) (key_set s k).begin (λ u. refl) s
+    act_told (act.Release m) s = attempt_told (act.Release m) (mutex_release s t m).begin (λ u. refl) s
+    act_told (act.Notify c v) s = attempt_told (act.Notify c v) (cond_notify s c v).begin (λ u. refl) s
     act_told x s = refl
 
     look_told : (x : Option Act) (next : Piece P S H) → IsTold next → IsTold (goes_on_after t x next)

@@ -43,6 +43,7 @@ use Rattle.pth_kernel.specs.Modes.{sets_mode}
 use Rattle.pth_ring.specs.Ring.{each, ring_holds}
 use Rattle.pth_ring.specs.Rings.{Events, pending, make_answer, chain_answer, alone, chained, freed, ring_freed}
 use Rattle.pth_base.specs.declared.event.EvLine.TheVariants as line
+use Rattle.pth_cond.specs.Conditions.{ConditionTable}
 use Rattle.pth_cond.specs.Barriers.{BarrierTable, has_passed, round_answer, round_answered, waits_at, withdrawn}
 use Rattle.pth_lock.specs.Objects.{object_named}
 use Rattle.pth_model.specs.Awaits.{awaits_in, round_in}
@@ -209,9 +210,14 @@ freed_unclaimed : (all : Bool) (e : ℕ) (x : Events) → AddsNoClaim x ((if all
 freed_unclaimed true e x i u = each_unclaimed (x.rings e) x i u
 freed_unclaimed false e x i u = put_by (λ o. claimant_by o ≡ Some u → claimant x i ≡ Some u) x.events e None i (λ here h. absurd (no_claim u h)) (λ other h. h)
 
+-- what of a control is kept by what handlers change: the program's shared value, and the seats of conditions
+pub record KeptByHandlers {P S H : Type 0} (Q : Control P S H → Type 0) : Type 0 where
+  pub shares : (h : H) (k : Control P S H) → Q k → Q (record k { shared = h })
+  pub seated : (x : ConditionTable) (k : Control P S H) → Q k → Q (record k { conditions = x })
+
 -- what of a control is kept by the changes that calls of thread t make, but for naming a thread, ending, and killing the run
 pub record KeptByCalls {P S H : Type 0} (f : P → Functions S H) (t : ℕ) (Q : Control P S H → Type 0) : Type 0 where
-  pub shares : (h : H) (k : Control P S H) → Q k → Q (record k { shared = h })
+  pub handlers : KeptByHandlers Q
   pub spawned : (b : ℕ) (v : ℤ) (of : NewThread) (k : Control P S H) → Q k → Q (spawns f b v of k)
   pub suspended : (u : ℕ) (k : Control P S H) → IsOther t u k → is_dead (or_nobody (entry_of k u)).state ≡ false → Q k → Q (suspends u k)
   pub resumed : (u : ℕ) (k : Control P S H) → IsOther t u k → Q k → Q (resumes u k)
@@ -250,18 +256,23 @@ is_common (call.Cancel n) = false
 is_common (call.Abort n) = false
 is_common c = true
 
--- ---- handlers, and what an ending runs: they touch the program's shared value alone
+-- ---- handlers, and what an ending runs
 
-module _ {P S H : Type 0} (f : P → Functions S H) (t : ℕ) (Q : Control P S H → Type 0) (sharing : (h : H) (k : Control P S H) → Q k → Q (record k { shared = h })) where
+module _ {P S H : Type 0} (f : P → Functions S H) (t : ℕ) (Q : Control P S H → Type 0) (kept : KeptByHandlers Q) where
   abbrev Runs : Piece P S H → Type 0
   Runs a = (s : State P S H) → Q s.control → Q (a s).state.control
 
   then_keeps : (a b : Piece P S H) → Runs a → Runs b → Runs (a and_then b)
   then_keeps a b x y s q = y (a s).state (x s q)
 
-  -- an act changes nothing of the control
+  -- an act changes nothing of the control but seats
   act_keeps : (x : Act) → Runs (acts t x)
   unfolding acts
+  act_keeps (act.Notify c v) s q = by_refusal (refuses (row_of_act s t (act.Notify c v)).begin.verdict)
+    where
+      by_refusal : (b : Bool) → Q (unless_refused b (row_of_act s t (act.Notify c v)).begin.effect s).state.control
+      by_refusal true = q
+      by_refusal false = kept.seated _ s.control q
   act_keeps (act.SetKey k v) s q = by_refusal (refuses (row_of_act s t (act.SetKey k v)).begin.verdict)
     where
       by_refusal : (b : Bool) → Q (unless_refused b (changes nothing) s).state.control
@@ -283,7 +294,7 @@ module _ {P S H : Type 0} (f : P → Functions S H) (t : ℕ) (Q : Control P S H
   acts_keep h v zero i s q = q
   acts_keep h v (suc n) i s q =
       let x = (f s.control.program).act h.0 v i s.control.shared in
-      look_keeps x.act (acts_from f t h v n (i + 1)) (acts_keep h v n (i + 1)) (controlled (shares x.shared) s) (sharing x.shared s.control q)
+      look_keeps x.act (acts_from f t h v n (i + 1)) (acts_keep h v n (i + 1)) (controlled (shares x.shared) s) (kept.shares x.shared s.control q)
 
   handler_keeps : (h : HandlerId) (v : ℤ) → Runs (runs_handler f t h v)
   handler_keeps h v s q = acts_keep h v (suc act_limit) 0 _ q
@@ -314,11 +325,11 @@ module _ {P S H : Type 0} (f : P → Functions S H) (t : ℕ) (Q : Control P S H
   pops_keep : (o : Option PushedHandler) (b : Bool) → Keeps (where_so b (runs_pushed f t o))
   pops_keep o false s q = q
   pops_keep None true s q = q
-  pops_keep (Some c) true s q = handler_keeps f t Q kept.shares c.0 c.1 s q
+  pops_keep (Some c) true s q = handler_keeps f t Q kept.handlers c.0 c.1 s q
 
   once_keeps : (o : ℕ) (h : HandlerId) (v : ℤ) (b : Bool) → Keeps (where_so b (changes (uses o) and_then runs_handler f t h v))
   once_keeps o h v false s q = q
-  once_keeps o h v true s q = handler_keeps f t Q kept.shares h v (controlled (uses o) s) (kept.used _ s.control q)
+  once_keeps o h v true s q = handler_keeps f t Q kept.handlers h v (controlled (uses o) s) (kept.used _ s.control q)
 
   unless_keeps : (s : State P S H) (b : Bool) (a : Piece P S H) → (b ≡ false → KeepsAt s a) → KeepsAt s (unless_refused b a)
   unless_keeps s true a keeps = λ q. q
@@ -417,6 +428,8 @@ module _ {P S H : Type 0} (f : P → Functions S H) (t : ℕ) (Q : Control P S H
   does_keeps s (call.Accept d) common e q = trial_keeps s (Connection d) q
   does_keeps s (call.AcceptEv d x) common e q = trial_keeps s (Connection d) q
   does_keeps s (call.Close d) common e q = kept.described _ s.control q
+  does_keeps s (call.CondInit c) common e q = kept.handlers.seated _ s.control q
+  does_keeps s (call.CondNotify c v) common e q = kept.handlers.seated _ s.control q
   does_keeps s (call.BarrierInit b n) common e q = kept.barred _ s.control q
   does_keeps s (call.BarrierReach b) common e q = kept.barred _ s.control q
   does_keeps s (call.Join n) common e q = joins_keeps s n (to_join s.control n) refl q
@@ -537,8 +550,8 @@ module _ {P S H : Type 0} (f : P → Functions S H) (t : ℕ) (Q : Control P S H
   ran_keeps : (u : ℕ) (s : State P S H) → Q s.control → let k = ((undoes_wait u and_then runs_cleanups f u and_then runs_destructors f u and_then gives_all u) s).state.control in Q k × (k.threads.known ≡ s.control.threads.known)
   ran_keeps u s q =
       let R : Control P S H → Type 0 = λ k. Q k × (k.threads.known ≡ s.control.threads.known) in
-      let sharing : (h : H) (k : Control P S H) → R k → R (record k { shared = h }) = λ h k r. (kept.calls.shares h k r.0, r.1) in
-      subst R (sym (all_given u _)) (destructs_keep f u R sharing (round_limit * key_limit) first_round _ (each_keep f u R sharing ((undoes_wait u s).state.resources.store.cleanups u) _ (undone_keeps u s q)))
+      let handlers : KeptByHandlers R = record { shares = λ h k r. (kept.calls.handlers.shares h k r.0, r.1); seated = λ x k r. (kept.calls.handlers.seated x k r.0, r.1) } in
+      subst R (sym (all_given u _)) (destructs_keep f u R handlers (round_limit * key_limit) first_round _ (each_keep f u R handlers ((undoes_wait u s).state.resources.store.cleanups u) _ (undone_keeps u s q)))
 
   ending_keeps : (v : ℤ) (s : State P S H) → Q s.control → Q (ending f t v s).state.control
   unfolding ending
@@ -674,7 +687,7 @@ module _ {P S H : Type 0} (f : P → Functions S H) (t : ℕ) (Q : Control P S H
   steps_by_keeps (Some b) p s q = gone_on_keeps s q
   steps_by_keeps None (Some p) s q =
       let x = (f s.control.program).step p.state s.control.shared p.owed in
-      begun_keeps x.call _ (kept.goes t _ (record s.control { shared = x.shared }) (kept.calls.shares x.shared s.control q))
+      begun_keeps x.call _ (kept.goes t _ (record s.control { shared = x.shared }) (kept.calls.handlers.shares x.shared s.control q))
   steps_by_keeps None None s q = gone_on_keeps s q
 
   owes_keeps : (n : Next) (k : Control P S H) → Q k → Q (owes_after t n k)

@@ -15,6 +15,7 @@ use Rattle.pth_model.specs.Changes.{shares}
 use Rattle.pth_model.specs.Row.{Row, Attempt, effect_of, ◌changing◌, unbuilt}
 use Rattle.pth_model.specs.KeyStorage.{key_set}
 use Rattle.pth_model.specs.Mutexes.{mutex_release}
+use Rattle.pth_model.specs.Conditions.{cond_notify}
 
 -- how many acts a handler may have
 abbrev pub act_limit : ℕ
@@ -29,12 +30,12 @@ answer_in (Ends v) = answer.None
 answer_in Kills = answer.None
 
 module _ {P S H : Type 0} where
-  -- the row of an act of t: a note and a shared value that is set call nothing, and the calls of two are not built yet
+  -- the row of an act of t: a note and a shared value that is set call nothing, and the call of one is not built yet
   abbrev pub row_of_act : State P S H → ℕ → Act → Row P S H
   row_of_act s t (act.Note v) = Says answer.None changing nothing
   row_of_act s t (act.Set n v) = Says answer.None changing nothing
   row_of_act s t (act.Release m) = mutex_release s t m
-  row_of_act s t (act.Notify c v) = unbuilt
+  row_of_act s t (act.Notify c v) = cond_notify s c v
   row_of_act s t (act.Put p v) = unbuilt
   row_of_act s t (act.SetKey k v) = key_set s k
 

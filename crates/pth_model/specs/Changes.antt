@@ -18,6 +18,7 @@ use Rattle.pth_model.specs.declared.progress.Progress.{Progress}
 use Rattle.pth_model.specs.Standing.{is_queue, left_by, raises_of}
 use Rattle.pth_threads.specs.declared.attribute.Attribute.{Attribute}
 use Rattle.pth_ring.specs.Rings.{Events}
+use Rattle.pth_cond.specs.Conditions.{ConditionTable}
 use Rattle.pth_cond.specs.Barriers.{BarrierTable}
 use Rattle.pth_kernel.specs.Kernel.{Kernel, advanced}
 use Rattle.pth_model.specs.State.{Control, Threads, Attributes, Scheduler}
@@ -81,6 +82,9 @@ module _ {P S H : Type 0} where
 
   abbrev pub with_events : (Events → Events) → transition.Change P S H
   with_events g k = record k { events = g k.events }
+
+  abbrev pub with_conditions : (ConditionTable → ConditionTable) → transition.Change P S H
+  with_conditions g k = record k { conditions = g k.conditions }
 
   abbrev pub with_barriers : (BarrierTable → BarrierTable) → transition.Change P S H
   with_barriers g k = record k { barriers = g k.barriers }

@@ -17,6 +17,7 @@ pub mod EventHandling
 pub mod KeyStorage
 pub mod Mutexes
 pub mod Rwlocks
+pub mod Conditions
 pub mod Barriers
 pub mod Acts
 pub mod Cleanups

@@ -15,6 +15,7 @@ use Rattle.pth_threads.specs.declared.entry.Entry.{Entry}
 use Rattle.pth_threads.specs.declared.entry.NewThread.{NewThread}
 use Rattle.pth_model.specs.declared.progress.Progress.{Progress}
 use Rattle.pth_ring.specs.Rings.{Events, no_events}
+use Rattle.pth_cond.specs.Conditions.{ConditionTable, no_conditions}
 use Rattle.pth_cond.specs.Barriers.{BarrierTable, no_barriers}
 use Rattle.pth_kernel.specs.Kernel.{Kernel}
 use Rattle.pth_model.specs.Resources.{Resources, no_resources}
@@ -52,14 +53,15 @@ pub record Scheduler : Type 0 where
   pub favour_new : Bool
 
 -- what calls change: the program's shared value, the threads, their attribute objects, events and rings of them (pth_event_t),
--- the barriers (pth_barrier_t), the kernel with its descriptors, the once controls that were used (pth_once_t), and what the
--- scheduler keeps
+-- the conditions (pth_cond_t), the barriers (pth_barrier_t), the kernel with its descriptors, the once controls that were used
+-- (pth_once_t), and what the scheduler keeps
 pub record Control (P S H : Type 0) : Type 0 where
   pub program : P
   pub shared : H
   pub threads : Threads S
   pub attributes : Attributes
   pub events : Events
+  pub conditions : ConditionTable
   pub barriers : BarrierTable
   pub kernel : Kernel
   pub used : ℕ → Bool
@@ -150,6 +152,7 @@ start f g = record {
     };
     attributes = no_attributes;
     events = no_events;
+    conditions = no_conditions;
     barriers = no_barriers;
     kernel = g.kernel;
     used = λ o. false;

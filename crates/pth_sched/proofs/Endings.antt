@@ -46,6 +46,7 @@ use Rattle.pth_model.specs.Calls.{begun, begun_by, gone_on, gone_on_where, tried
 use Rattle.pth_model.specs.EventHandling.{spec_of, made_as, make_event, chain, wait, number_or_none, status_number}
 use Rattle.pth_model.specs.RingWaits.{extra_ring, ring_given, has_settled, is_no_ring, is_claimed_ring}
 use Rattle.pth_cond.specs.Barriers.{arrival_answer, barrier_init_answer, has_passed, round_answer, round_answered, taillight}
+use Rattle.pth_cond.specs.Conditions.{cond_init_answer, cond_notify_answer}
 use Rattle.pth_cond.specs.declared.barriers.Arrival.{Arrival}
 use Rattle.pth_cond.specs.declared.barriers.Arrival.TheVariants.{Waits, Tail}
 use Rattle.pth_model.specs.Barriers.{arrived_as, tries_round}
@@ -390,6 +391,8 @@ module _ {P S H : Type 0} (f : P → Functions S H) (t : ℕ) (v : ℤ) where
   exits s (call.RwInit l) up h = absurd (done_on (lock_init_answer s.resources.store.rw_locks l) v h)
   exits s (call.RwAcquire l write u e) up h = absurd (enter_on f s t l write u e v h)
   exits s (call.RwRelease l) up h = absurd (done_on (lock_release_answer s.resources.store.rw_locks t l) v h)
+  exits s (call.CondInit c) up h = absurd (done_on (cond_init_answer s.control.conditions c) v h)
+  exits s (call.CondNotify c x) up h = absurd (done_on (cond_notify_answer s.control.conditions c) v h)
   exits s (call.BarrierInit b n) up h = absurd (done_on (barrier_init_answer s.control.barriers b n) v h)
   exits s (call.BarrierReach b) up h = absurd (arrived_on b (arrival_answer s.control.barriers b) v h)
   exits s c up h = absurd (cc h)

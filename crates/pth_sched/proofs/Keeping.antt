@@ -67,10 +67,10 @@ start_nobody f w given st = sym (ap (λ (x : Scheduler). x.running) st.control.s
 -- what two changes in a row leave as it was
 module _ {P S H : Type 0} (w : WorldOf P S H) where
   pub scheduler_first : KeepsRest w w
-  scheduler_first = record { program = refl; attributes = refl; events = refl; barriers = refl; kernel = refl; store = refl; used = refl; scheduler = refl }
+  scheduler_first = record { program = refl; attributes = refl; events = refl; conditions = refl; barriers = refl; kernel = refl; store = refl; used = refl; scheduler = refl }
 
   pub scheduler_then : (m v : WorldOf P S H) → KeepsRest w m → KeepsRest m v → KeepsRest w v
-  scheduler_then m v a b = record { program = b.program ∙ a.program; attributes = b.attributes ∙ a.attributes; events = b.events ∙ a.events; barriers = b.barriers ∙ a.barriers; kernel = b.kernel ∙ a.kernel; store = b.store ∙ a.store; used = b.used ∙ a.used; scheduler = b.scheduler ∙ a.scheduler }
+  scheduler_then m v a b = record { program = b.program ∙ a.program; attributes = b.attributes ∙ a.attributes; events = b.events ∙ a.events; conditions = b.conditions ∙ a.conditions; barriers = b.barriers ∙ a.barriers; kernel = b.kernel ∙ a.kernel; store = b.store ∙ a.store; used = b.used ∙ a.used; scheduler = b.scheduler ∙ a.scheduler }
 
   pub gives_rest : (v : WorldOf P S H) → KeepsRest w v → v.threads.records.made ≡ w.threads.records.made → GivesNone w v
   gives_rest v rest made = elim [ Thread ↦ made | Object ↦ ap (λ (x : AttrsOf). x.made) rest.attributes | Event ↦ rest.events ]

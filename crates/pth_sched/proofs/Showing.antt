@@ -50,7 +50,7 @@ module _ {P S H : Type 0} where
   placed_none w k t nobody st =
       let none : k.scheduler.running ≡ None = running_of w k st ∙ nobody in
       let same : record k.scheduler { running = None } ≡ w.scheduler = ap (λ (r : Option ℕ). record k.scheduler { running = r }) (sym none) ∙ st.scheduler in
-      rw none record { program = st.program; shared = st.shared; threads = st.threads; attributes = st.attributes; events = st.events; barriers = st.barriers; kernel = st.kernel; used = st.used; scheduler = same }
+      rw none record { program = st.program; shared = st.shared; threads = st.threads; attributes = st.attributes; events = st.events; conditions = st.conditions; barriers = st.barriers; kernel = st.kernel; used = st.used; scheduler = same }
 
   pub placed_waiting : (w v : WorldOf P S H) (k : Control P S H) (t : ℕ) → IsSome w.scheduler.running → is_some (blocked_of k t) ≡ true → Shows w k → Shows v (runs_now None (is_put_waiting t k)) → Shows v (is_placed t k)
   unfolding is_placed

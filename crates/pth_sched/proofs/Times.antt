@@ -153,7 +153,7 @@ module _ {P S H : Type 0} (f : P → Functions S H) (t n : ℕ) where
   unfolding goes_on makes enters sets leaves_queue forgets suspends vanish_all_but
   calls_stay = record {
     calls = record {
-      shares = λ h k is. is;
+      handlers = record { shares = λ h k is. is; seated = λ x k is. is };
       spawned = λ b v of k is. is;
       suspended = λ u k other lives is. is;
       resumed = λ u k other is. resumed_at u k is;

@@ -138,7 +138,7 @@ module _ {P S H : Type 0} where
   unfolding goes_on
   unasked_calls f t = record {
     calls = record {
-      shares = λ h k is. is;
+      handlers = record { shares = λ h k is. is; seated = λ x k is. is };
       spawned = unasked_spawned f;
       suspended = λ u k other lives is. unasked_suspended u k is;
       resumed = λ u k other is. unasked_resumed u k is;

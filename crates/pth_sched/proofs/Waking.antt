@@ -168,6 +168,7 @@ module _ {P S H : Type 0} where
     program = ap (λ (x : WorldOf P S H). x.program) same;
     attributes = ap (λ (x : WorldOf P S H). x.attributes) same;
     events = made;
+    conditions = ap (λ (x : WorldOf P S H). x.conditions) same;
     barriers = ap (λ (x : WorldOf P S H). x.barriers) same;
     kernel = ap (λ (x : WorldOf P S H). x.kernel) same;
     store = ap (λ (x : WorldOf P S H). x.store) same;

@@ -12,7 +12,7 @@ use Rattle.pth_world.specs.World.{WorldOf}
 -- where barriers alone change, what they show is what counts
 module _ {P S H : Type 0} (w : WorldOf P S H) (b : List (Option Barrier)) where
   pub barred_shows : (g : BarrierTable → BarrierTable) (k : Control P S H) → Shows w k → barriers_of b ≡ g (barriers_of w.barriers) → Shows (record w { barriers = b }) (with_barriers g k)
-  barred_shows g k sh is = record { program = sh.program; shared = sh.shared; threads = sh.threads; attributes = sh.attributes; events = sh.events; barriers = ap g sh.barriers ∙ sym is; kernel = sh.kernel; used = sh.used; scheduler = sh.scheduler }
+  barred_shows g k sh is = record { program = sh.program; shared = sh.shared; threads = sh.threads; attributes = sh.attributes; events = sh.events; conditions = sh.conditions; barriers = ap g sh.barriers ∙ sym is; kernel = sh.kernel; used = sh.used; scheduler = sh.scheduler }
 
   pub barred_whole : Whole w → Whole (record w { barriers = b })
   barred_whole whole = record { sound = whole.sound; fits = whole.fits; runner = whole.runner; stored = whole.stored }

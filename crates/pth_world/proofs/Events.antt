@@ -13,7 +13,7 @@ use Rattle.pth_world.specs.World.{WorldOf}
 -- where events alone change, what they show is what counts
 module _ {P S H : Type 0} (w : WorldOf P S H) (e : RingsOf) where
   pub events_show : (k : Control P S H) (x : Events) → Shows w k → x ≡ events_of e → Shows (record w { events = e }) (record k { events = x })
-  events_show k x sh is = record { program = sh.program; shared = sh.shared; threads = sh.threads; attributes = sh.attributes; events = is; barriers = sh.barriers; kernel = sh.kernel; used = sh.used; scheduler = sh.scheduler }
+  events_show k x sh is = record { program = sh.program; shared = sh.shared; threads = sh.threads; attributes = sh.attributes; events = is; conditions = sh.conditions; barriers = sh.barriers; kernel = sh.kernel; used = sh.used; scheduler = sh.scheduler }
 
   pub events_whole : Whole w → Whole (record w { events = e })
   events_whole whole = record { sound = whole.sound; fits = whole.fits; runner = whole.runner; stored = whole.stored }

@@ -10,7 +10,7 @@ use Rattle.pth_world.specs.World.{WorldOf}
 -- where the kernel alone changes, what it shows is what counts
 module _ {P S H : Type 0} (w : WorldOf P S H) (x : KernelOf) where
   pub kernel_shows : (k : Control P S H) (y : Kernel) → Shows w k → y ≡ kernel_of x → Shows (record w { kernel = x }) (record k { kernel = y })
-  kernel_shows k y sh is = record { program = sh.program; shared = sh.shared; threads = sh.threads; attributes = sh.attributes; events = sh.events; barriers = sh.barriers; kernel = is; used = sh.used; scheduler = sh.scheduler }
+  kernel_shows k y sh is = record { program = sh.program; shared = sh.shared; threads = sh.threads; attributes = sh.attributes; events = sh.events; conditions = sh.conditions; barriers = sh.barriers; kernel = is; used = sh.used; scheduler = sh.scheduler }
 
   pub kernel_whole : Whole w → Whole (record w { kernel = x })
   kernel_whole whole = record { sound = whole.sound; fits = whole.fits; runner = whole.runner; stored = whole.stored }

@@ -1,6 +1,7 @@
 pub mod Slots
 pub mod SettingValues
 pub mod Showing
+pub mod Conditions
 pub mod Barriers
 pub mod Events
 pub mod Kernels

@@ -7,7 +7,7 @@ use Rattle.pth_world.specs.Whole.{Whole}
 
 -- where the scheduler alone changes, what it shows is what counts
 pub scheduler_shows : {P S H : Type 0} (w : WorldOf P S H) (x : Scheduler) (k : Control P S H) (y : Scheduler) → Shows w k → y ≡ x → Shows (record w { scheduler = x }) (record k { scheduler = y })
-scheduler_shows w x k y sh is = record { program = sh.program; shared = sh.shared; threads = sh.threads; attributes = sh.attributes; events = sh.events; barriers = sh.barriers; kernel = sh.kernel; used = sh.used; scheduler = is }
+scheduler_shows w x k y sh is = record { program = sh.program; shared = sh.shared; threads = sh.threads; attributes = sh.attributes; events = sh.events; conditions = sh.conditions; barriers = sh.barriers; kernel = sh.kernel; used = sh.used; scheduler = is }
 
 -- and a world is whole that is run by the same thread
 pub scheduler_whole : {P S H : Type 0} (w : WorldOf P S H) (x : Scheduler) → x.running ≡ w.scheduler.running → Whole w → Whole (record w { scheduler = x })

@@ -37,7 +37,7 @@ use Rattle.pth_world.proofs.Views.{change_touches}
 module _ {P S H : Type 0} (w : WorldOf P S H) (y : AttrsOf) where
   -- where objects alone change, what they show is what counts
   pub objects_show : (k : Control P S H) (x : Attributes) → Shows w k → ShowsAttributes y x → Shows (record w { attributes = y }) (record k { attributes = x })
-  objects_show k x sh objects = record { program = sh.program; shared = sh.shared; threads = sh.threads; attributes = objects; events = sh.events; barriers = sh.barriers; kernel = sh.kernel; used = sh.used; scheduler = sh.scheduler }
+  objects_show k x sh objects = record { program = sh.program; shared = sh.shared; threads = sh.threads; attributes = objects; events = sh.events; conditions = sh.conditions; barriers = sh.barriers; kernel = sh.kernel; used = sh.used; scheduler = sh.scheduler }
 
   pub objects_whole : Whole w → Whole (record w { attributes = y })
   objects_whole whole = record { sound = whole.sound; fits = whole.fits; runner = whole.runner; stored = whole.stored }
@@ -151,6 +151,7 @@ module _ {P S H : Type 0} (w : WorldOf P S H) (x : AttrsOf) (r : ThreadsOf) (a :
       objects = ap (λ (f : ℕ → Option Attribute). put f (number a) (Some (Free (with_value v y)))) sh.attributes.objects ∙ sym s.0.objects;
     };
     events = sh.events;
+    conditions = sh.conditions;
     barriers = sh.barriers;
     kernel = sh.kernel;
     used = sh.used;

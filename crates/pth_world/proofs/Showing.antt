@@ -31,7 +31,7 @@ use Rattle.pth_world.proofs.Places.{nowhere-holds}
 
 -- where threads alone change, what they show is what counts
 pub of_threads : {P S H : Type 0} (w : WorldOf P S H) (y : ThreadsBySlot S) (k : Control P S H) (x : Threads S) → Shows w k → ShowsThreads y x → Shows (record w { threads = y }) (record k { threads = x })
-of_threads w y k x sh threads = record { program = sh.program; shared = sh.shared; threads = threads; attributes = sh.attributes; events = sh.events; barriers = sh.barriers; kernel = sh.kernel; used = sh.used; scheduler = sh.scheduler }
+of_threads w y k x sh threads = record { program = sh.program; shared = sh.shared; threads = threads; attributes = sh.attributes; events = sh.events; conditions = sh.conditions; barriers = sh.barriers; kernel = sh.kernel; used = sh.used; scheduler = sh.scheduler }
 
 pub not_here : {S : Type 0} (w : ThreadsBySlot S) (t : ℕ) → slot_of w.records t ≡ None → None ≡ entry_in w t
 unfolding seen

@@ -27,6 +27,7 @@ use Rattle.pth_numbered.specs.Numbered.{number_known}
 use Rattle.pth_model.specs.State.{Control, Given, queue, start, main_entry, first_thread}
 use Rattle.pth_ring.specs.Arena.{RingsOf, events_of}
 use Rattle.pth_ring.specs.Rings.{Events, no_events}
+use Rattle.pth_cond.specs.Conditions.{Condition, conditions_of, no_conditions}
 use Rattle.pth_cond.specs.Barriers.{Barrier, barriers_of, no_barriers}
 use Rattle.pth_kernel.specs.Kernel.{KernelOf, kernel_of}
 use Rattle.pth_model.specs.Changes.{sets, enters, leaves_queue, makes}
@@ -52,13 +53,13 @@ module _ {P S H : Type 0} (f : P → Functions S H) (program : P) (t0 : ThreadsO
     (slots : slot_of t0 ≡ (λ _. None)) (tids : tid_at t0 ≡ (λ _. 0)) (entries : entry_at t0 ≡ (λ _. None)) (none_made : t0.made ≡ 0) (no_count : count t0 ≡ 0)
     (none : table None y0 ≡ (λ _. None)) (long0 : length y0 ≡ thread_limit)
     (a0 : AttrsOf) (no_objects : object_of a0 ≡ (λ _. None)) (no_number : a0.made ≡ 0)
-    (e0 : RingsOf) (none_there : events_of e0 ≡ no_events) (b0 : List (Option Barrier)) (no_barrier : barriers_of b0 ≡ no_barriers) (kernel : KernelOf)
+    (e0 : RingsOf) (none_there : events_of e0 ≡ no_events) (c0 : List Condition) (no_condition : conditions_of c0 ≡ no_conditions) (b0 : List (Option Barrier)) (no_barrier : barriers_of b0 ≡ no_barriers) (kernel : KernelOf)
     (T0 : Tables) (no_key : T0 ≡ no_keys) (S0 : Stacks) (no_cleanup : S0 ≡ no_cleanups) (M0 : MutexTable) (no_mutex : M0 ≡ no_mutexes) (L0 : LockTables) (no_lock : L0 ≡ no_locks) where
   abbrev x0 : ThreadsBySlot S
   x0 = record { records = t0; queues = record no_queues { room = thread_limit }; progress = y0 }
 
   abbrev w0 : WorldOf P S H
-  w0 = record { program = program; shared = (f program).shared; threads = x0; attributes = a0; events = e0; barriers = b0; kernel = kernel; store = stored_by t0 T0 S0 M0 L0; used = replicate 64 false; scheduler = record { running = None; preferred = None; favour_new = true } }
+  w0 = record { program = program; shared = (f program).shared; threads = x0; attributes = a0; events = e0; conditions = c0; barriers = b0; kernel = kernel; store = stored_by t0 T0 S0 M0 L0; used = replicate 64 false; scheduler = record { running = None; preferred = None; favour_new = true } }
 
   abbrev s0 : Control P S H
   s0 = before_main f (record { program = program; kernel = kernel_of kernel })
@@ -118,6 +119,7 @@ module _ {P S H : Type 0} (f : P → Functions S H) (program : P) (t0 : ThreadsO
     threads = record { made = sym none_made; known = rw slots refl; progress = rw slots refl; standing = none_stand };
     attributes = record { made = sym no_number; objects = sym no_objects };
     events = sym none_there;
+    conditions = sym no_condition;
     barriers = sym no_barrier;
     kernel = refl;
     used = sym (fun_ext none_used_at);
@@ -218,6 +220,7 @@ module _ {P S H : Type 0} (f : P → Functions S H) (g : Given P) where
       threads = record { made = sh.threads.made; known = known_is ∙ sh.threads.known; progress = sh.threads.progress; standing = λ q. queue_is q ∙ sh.threads.standing q };
       attributes = sh.attributes;
       events = sh.events;
+      conditions = sh.conditions;
       barriers = sh.barriers;
       kernel = sh.kernel;
       used = sh.used;

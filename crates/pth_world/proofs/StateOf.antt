@@ -91,6 +91,7 @@ stands_for_state w sound = record {
     };
     attributes = record { made = refl; objects = refl };
     events = refl;
+    conditions = refl;
     barriers = refl;
     kernel = refl;
     used = refl;

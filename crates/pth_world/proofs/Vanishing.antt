@@ -290,6 +290,7 @@ module _ {P S H : Type 0} (w : WorldOf P S H) (t : ℕ) (whole : Whole w) (is : 
     };
     attributes = sh.attributes;
     events = ap all_unclaimed sh.events ∙ sym unclaimed;
+    conditions = sh.conditions;
     barriers = ap all_withdrawn sh.barriers ∙ sym withdrawn;
     kernel = sh.kernel;
     used = sh.used;

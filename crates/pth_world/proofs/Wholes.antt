@@ -111,6 +111,7 @@ module _ {P S H : Type 0} (w v : WorldOf P S H) (t u : ℕ) (sound : IsSound w.t
       threads = progress_shows w.threads (record k { shared = x.shared }) t u sound e sh.threads v.threads.progress next (goes ∙ ap (λ (o : Option (Progress S)). put before u (option_map next o)) (sym stood.1));
       attributes = sh.attributes;
       events = sh.events;
+      conditions = sh.conditions;
       barriers = sh.barriers;
       kernel = sh.kernel;
       used = sh.used;

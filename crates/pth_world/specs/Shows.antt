@@ -8,6 +8,7 @@ use Rattle.pth_queue.specs.declared.queue.Queue.{Queue}
 use Rattle.pth_threads.specs.Attributes.{AttrsOf, object_of}
 use Rattle.pth_threads.specs.Threads.{slot_of, tid_at, entry_at}
 use Rattle.pth_ring.specs.Arena.{events_of}
+use Rattle.pth_cond.specs.Conditions.{conditions_of}
 use Rattle.pth_cond.specs.Barriers.{barriers_of}
 use Rattle.pth_kernel.specs.Kernel.{kernel_of}
 use Rattle.pth_model.specs.Resources.{Resources, no_resources}
@@ -41,6 +42,7 @@ pub record Shows {P S H : Type 0} (w : WorldOf P S H) (k : Control P S H) : Type
   pub threads : ShowsThreads w.threads k.threads
   pub attributes : ShowsAttributes w.attributes k.attributes
   pub events : k.events ≡ events_of w.events
+  pub conditions : k.conditions ≡ conditions_of w.conditions
   pub barriers : k.barriers ≡ barriers_of w.barriers
   pub kernel : k.kernel ≡ kernel_of w.kernel
   pub used : k.used ≡ table false w.used

@@ -8,6 +8,7 @@ use Rattle.pth_queue.specs.declared.ranked.Ranked.{Ranked}
 use Rattle.pth_threads.specs.Attributes.{object_of}
 use Rattle.pth_threads.specs.Threads.{slot_of, tid_at, entry_at}
 use Rattle.pth_ring.specs.Arena.{events_of}
+use Rattle.pth_cond.specs.Conditions.{conditions_of}
 use Rattle.pth_cond.specs.Barriers.{barriers_of}
 use Rattle.pth_kernel.specs.Kernel.{kernel_of}
 use Rattle.pth_model.specs.Standing.{Standing}
@@ -40,6 +41,7 @@ state_of w = record {
     };
     attributes = record { made = w.attributes.made; objects = object_of w.attributes };
     events = events_of w.events;
+    conditions = conditions_of w.conditions;
     barriers = barriers_of w.barriers;
     kernel = kernel_of w.kernel;
     used = table false w.used;

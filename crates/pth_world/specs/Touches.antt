@@ -43,6 +43,7 @@ pub record KeepsRest {P S H : Type 0} (old new : WorldOf P S H) : Type 0 where
   pub program : new.program ≡ old.program
   pub attributes : new.attributes ≡ old.attributes
   pub events : new.events.made ≡ old.events.made
+  pub conditions : new.conditions ≡ old.conditions
   pub barriers : new.barriers ≡ old.barriers
   pub kernel : new.kernel ≡ old.kernel
   pub store : new.store ≡ old.store

@@ -7,6 +7,7 @@ use Rattle.pth_threads.specs.Threads.{ThreadsOf, slot_of, entry_at}
 use Rattle.pth_threads.specs.declared.entry.Entry.{Entry}
 use Rattle.pth_queue.specs.Queues.{QueuesOf}
 use Rattle.pth_ring.specs.Arena.{RingsOf}
+use Rattle.pth_cond.specs.Conditions.{Condition}
 use Rattle.pth_cond.specs.Barriers.{Barrier}
 use Rattle.pth_kernel.specs.Kernel.{KernelOf}
 use Rattle.pth_model.specs.declared.progress.Progress.{Progress}
@@ -29,6 +30,7 @@ pub record WorldOf (P S H : Type 0) : Type 0 where
   pub threads : ThreadsBySlot S
   pub attributes : AttrsOf
   pub events : RingsOf
+  pub conditions : List Condition
   pub barriers : List (Option Barrier)
   pub kernel : KernelOf
   -- what threads have stored, by their numbers

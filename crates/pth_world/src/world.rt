@@ -15,6 +15,7 @@ ghost use Rattle.pth_world.specs.Whole.{Whole, WholeBut, IsAbout, IsRunner};
 
 mod attributes;
 mod barriers;
+mod conditions;
 mod counts;
 mod events;
 mod handlers;
@@ -32,6 +33,7 @@ mod vanishing;
 use pth_base::ids::{Slot, Tid};
 use pth_base::program::Program;
 use pth_cond::barriers::Barriers;
+use pth_cond::conditions::Conds;
 use pth_kernel::kernel::Kernel;
 use pth_lock::mutexes::Mutexes;
 use pth_lock::rwlocks::RwLocks;
@@ -47,8 +49,8 @@ use std::alloc::Global;
 use std::marker::Model;
 
 /// The program with its threads: their records, their queues and how far each is in its program, their attribute objects,
-/// events and rings of them, the barriers, the kernel, what they stored and locked, the once controls that were used, and what
-/// the scheduler keeps of them.
+/// events and rings of them, the conditions, the barriers, the kernel, what they stored and locked, the once controls that were
+/// used, and what the scheduler keeps of them.
 pub struct World<P: Program> {
     alloc: Global,
     program: P,
@@ -58,6 +60,7 @@ pub struct World<P: Program> {
     progress: ProgressTable<P::State>,
     attributes: Attrs,
     events: Rings,
+    conditions: Conds,
     barriers: Barriers,
     kernel: Kernel,
     // By slot. What stands at a slot that is not used counts for nothing.
@@ -83,6 +86,7 @@ impl<P: Program> Drop for World<P> {
             progress: _,
             attributes: _,
             events: _,
+            conditions: _,
             barriers: _,
             kernel: _,
             keys: _,
@@ -115,6 +119,7 @@ impl<P: Program> Model for World<P> {
       threads = record { records = w.threads; queues = w.queues; progress = w.progress };
       attributes = w.attributes;
       events = w.events;
+      conditions = w.conditions;
       barriers = w.barriers;
       kernel = w.kernel;
       store = stored_by w.threads (tables_of w.keys) (stacks_of w.cleanups) (mutexes_of w.mutexes) (locks_of w.rw_locks);

@@ -35,6 +35,7 @@ use pth_base::name::Name;
 use pth_base::program::Program;
 use pth_base::thread::ThreadState;
 use pth_cond::barriers::Barriers;
+use pth_cond::conditions::Conds;
 use pth_kernel::kernel::Kernel;
 use pth_lock::mutexes::Mutexes;
 use pth_lock::rwlocks::RwLocks;
@@ -113,6 +114,7 @@ impl<P: Program> World<P> {
         let threads = Threads::new(alloc);
         let attributes = Attrs::new(alloc);
         let events = Rings::new(alloc);
+        let conditions = Conds::new(alloc);
         let barriers = Barriers::new(alloc);
         let keys = Keys::new(alloc);
         let cleanups = Cleanups::new(alloc);
@@ -123,6 +125,7 @@ impl<P: Program> World<P> {
             threads,
             attributes,
             events,
+            conditions,
             barriers,
             kernel,
             queues: room.queues,

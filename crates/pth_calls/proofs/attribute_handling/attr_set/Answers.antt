@@ -2,7 +2,7 @@ use Rattle.std.proofs.Common.{pos, refl, SFits, w64, to_z-of_z, rules}
 use Rattle.pth_base.specs.declared.answer.Answer.TheVariants.{Int}
 use Rattle.pth_model.specs.AttributeHandling.{object, sets_value}
 use Rattle.pth_threads.specs.Attributes.{set_answer}
-use Rattle.pth_calls.proofs.Deciding.{decided, for_states}
+use Rattle.pth_end.proofs.Deciding.{decided, for_states}
 use Rattle.pth_calls.proofs.attribute_handling.attr_set.Goals as goal
 
 pub returns-clause-answered : goal.returns-clause-answered

@@ -4,7 +4,7 @@ use Rattle.pth_model.specs.Rows.{row_of}
 use Rattle.pth_world.proofs.Moves.{runner_alive}
 use Rattle.pth_end.proofs.Answers.{answered_told}
 use Rattle.pth_end.proofs.Handled.{handled_frame}
-use Rattle.pth_calls.proofs.Storing.{set_told_each, quiet_get}
+use Rattle.pth_calls.proofs.Storing.{quiet_get}
 use Rattle.pth_calls.proofs.key_storage.answer_keys.Goals as goal
 
 pub set_key-requires-clause-alive : goal.set_key-requires-clause-alive
@@ -25,8 +25,7 @@ unfolding row_of
 returns-in-KeySet-clause-told g c =
     let k : SFits w64 c.in-KeySet.k = search rules in
     let v : SFits w64 c.in-KeySet.v = search rules in
-    let set = simp to_z-of_z at c.set_key.ensures in
-    rw c.in-KeySet.is (set_told_each c.args.w.now c.set_key.new.w c.args.t c.in-KeySet.k c.in-KeySet.v c.set_key.result set.answer set.tells set.shows)
+    rw c.in-KeySet.is (simp to_z-of_z at c.set_key.ensures.told)
 
 pub returns-in-KeySet-clause-frame : goal.returns-in-KeySet-clause-frame
 returns-in-KeySet-clause-frame g c = on_ok_weaker c.set_key.result (λ set. handled_frame c.args.w.now _ c.requires.runs c.set_key.new.w set) c.set_key.ensures.handled

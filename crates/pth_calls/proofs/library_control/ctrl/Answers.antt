@@ -1,7 +1,7 @@
 use Rattle.std.proofs.Common.{◌≡◌, pos, arith, SFits, w64, to_z, of_z, to_z-of_z, rules}
 use Rattle.pth_model.specs.LibraryControl.{ctrl}
 use Rattle.pth_world.proofs.Frames.{frame_as, still_frame}
-use Rattle.pth_calls.proofs.Deciding.{number_said}
+use Rattle.pth_end.proofs.Deciding.{number_said}
 use Rattle.pth_world.specs.Numbering.{no_numbers}
 use Rattle.pth_calls.proofs.library_control.ctrl.Goals as goal
 

@@ -32,6 +32,7 @@ returns-in_default-clause-told g c =
       cleanups = not.not-Cleanups;
       mutexes = not.not-Mutexes;
       rwlocks = not.not-Rwlocks;
+      conditions = not.not-Conditions;
       barriers = not.not-Barriers;
       io = not.not-Io;
     }) in
@@ -53,6 +54,9 @@ returns-in-Events-clause-told g c = each_told c.args.w.now c.answer_events.new.w
 
 pub returns-in-Utilities-clause-told : goal.returns-in-Utilities-clause-told
 returns-in-Utilities-clause-told g c = answered_told c.args.w.now c.answer_utilities.new.w _ _ _ (c.answer_utilities.ensures.quiet c.args.t.0) (c.answer_utilities.ensures.answered c.args.t.0)
+
+pub returns-in-Conditions-clause-told : goal.returns-in-Conditions-clause-told
+returns-in-Conditions-clause-told g c = answered_told c.args.w.now c.answer_conditions.new.w _ _ _ c.answer_conditions.ensures.quiet c.answer_conditions.ensures.answered
 
 pub returns-in-Barriers-clause-told : goal.returns-in-Barriers-clause-told
 returns-in-Barriers-clause-told g c = each_told c.args.w.now c.answer_barriers.new.w (Answered c.args.t c.args.call.now) c.answer_barriers.result _ c.answer_barriers.ensures.quiet c.answer_barriers.ensures.answered
@@ -98,6 +102,9 @@ returns-in-Mutexes-clause-frame g c = frame_as no_numbers one_of_each c.args.w.n
 
 pub returns-in-Rwlocks-clause-frame : goal.returns-in-Rwlocks-clause-frame
 returns-in-Rwlocks-clause-frame g c = frame_as no_numbers one_of_each c.args.w.now c.answer_rwlocks.new.w _ _ (λ k. omega arith) refl c.answer_rwlocks.ensures.frame
+
+pub returns-in-Conditions-clause-frame : goal.returns-in-Conditions-clause-frame
+returns-in-Conditions-clause-frame g c = frame_as no_numbers one_of_each c.args.w.now c.answer_conditions.new.w _ _ (λ k. omega arith) refl c.answer_conditions.ensures.frame
 
 pub returns-in-Barriers-clause-frame : goal.returns-in-Barriers-clause-frame
 returns-in-Barriers-clause-frame g c = on_ok_weaker c.answer_barriers.result (λ told. frame_as no_numbers one_of_each c.args.w.now c.answer_barriers.new.w _ _ (λ k. omega arith) refl told) c.answer_barriers.ensures.frame

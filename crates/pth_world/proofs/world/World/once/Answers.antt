@@ -22,7 +22,7 @@ place_low (pos n) h k = grind (arith, ints)
 place_low (negsuc n) h k = absurd (cc h)
 
 used_shows : {P S H : Type 0} (w : WorldOf P S H) (y : List Bool) (o : ℕ) (k : Control P S H) → table false y ≡ put (table false w.used) o true → Shows w k → Shows (record w { used = y }) (uses o k)
-used_shows w y o k is sh = record { program = sh.program; shared = sh.shared; threads = sh.threads; attributes = sh.attributes; events = sh.events; barriers = sh.barriers; kernel = sh.kernel; used = ap (λ (f : ℕ → Bool). put f o true) sh.used ∙ sym is; scheduler = sh.scheduler }
+used_shows w y o k is sh = record { program = sh.program; shared = sh.shared; threads = sh.threads; attributes = sh.attributes; events = sh.events; conditions = sh.conditions; barriers = sh.barriers; kernel = sh.kernel; used = ap (λ (f : ℕ → Bool). put f o true) sh.used ∙ sym is; scheduler = sh.scheduler }
 
 pub returns-clause-first : goal.returns-clause-first
 returns-clause-first g c first k =

@@ -1,16 +1,19 @@
 -- Calls that a part decides: refused with its error, or answered as its result says.
-use Rattle.std.proofs.Common.{◌≡◌, ◌∙◌, ℕ, ℤ, pos, Bool, false, Result, Ok, Err, OnOk, OnErr, refl, sym, ap, subst}
+use Rattle.std.proofs.Common.{◌≡◌, ◌∙◌, ℕ, ℤ, pos, Bool, false, List, Result, Ok, Err, OnOk, OnErr, refl, sym, ap, subst}
 use Rattle.pth_base.specs.declared.answer.Answer.{Answer}
 use Rattle.pth_base.specs.declared.answer.Answer.TheVariants.{Int}
 use Rattle.pth_base.specs.declared.errno.Errno.{Errno}
+use Rattle.pth_cond.specs.Conditions.{Condition, ConditionTable, conditions_of}
+use Rattle.pth_model.specs.Changes.{with_conditions}
 use Rattle.pth_model.specs.Row.{Row, refuses, unless_refused, effect_of, ◌trying◌, ◌changing◌}
 use Rattle.pth_model.specs.State.{State, Control}
 use Rattle.pth_model.specs.Transition.{Change, changes, nothing}
 use Rattle.pth_model.specs.declared.verdict.Verdict.{Verdict}
 use Rattle.pth_model.specs.declared.verdict.Verdict.TheVariants.{Says}
-use Rattle.pth_model.specs.Verdict.{says, by_result}
+use Rattle.pth_model.specs.Verdict.{says, by_result, done}
 use Rattle.pth_world.specs.Leading.{Changed, IsAnswered}
 use Rattle.pth_world.specs.Shows.{Shows, StandsFor, resources_of}
+use Rattle.pth_world.proofs.Conditions.{seated_shows}
 use Rattle.pth_world.proofs.Telling.{has_still}
 use Rattle.pth_world.specs.World.{WorldOf}
 
@@ -58,3 +61,23 @@ number_said {P} {S} {H} w row n x is said = record {
 pub for_states : {P S H A : Type 0} (w v : WorldOf P S H) (q : Result A Errno) (g : Control P S H → Control P S H) → OnOk q ((k : Control P S H) → Shows w k → Shows v (g k)) → OnOk q ((s : State P S H) → StandsFor w s → Shows v (g s.control))
 for_states w v (Ok x) g h = λ s st. h s.control st.control
 for_states w v (Err e) g h = tt
+
+-- a call that only changes conditions
+pub seated_answered : {P S H : Type 0} (w : WorldOf P S H) (x : List Condition) (answer : ConditionTable → Result (Unit {0}) Errno) (g : ConditionTable → ConditionTable) (r : Result (Unit {0}) Errno) (a : Answer)
+    → r ≡ answer (conditions_of w.conditions) → by_result done r ≡ Says a → OnOk r (conditions_of x ≡ g (conditions_of w.conditions)) → OnErr r (x ≡ w.conditions)
+    → IsAnswered w (record w { conditions = x }) a (λ s. by_result done (answer s.control.conditions) trying changes (with_conditions g))
+seated_answered {P} {S} {H} w x answer g r a is says changed same =
+    decided w (record w { conditions = x }) (λ y. Int (pos 1)) (λ s. answer s.control.conditions) (λ s. with_conditions g) (λ y. refl) r a says
+    (λ s st. is ∙ sym (ap answer st.control.conditions)) (seats r changed) (kept r same) (stays r)
+  where
+    seats : (q : Result (Unit {0}) Errno) → OnOk q (conditions_of x ≡ g (conditions_of w.conditions)) → OnOk q ((s : State P S H) → StandsFor w s → Shows (record w { conditions = x }) (with_conditions g s.control))
+    seats (Ok u) is = λ s st. seated_shows w x g s.control st.control is
+    seats (Err e) is = tt
+
+    kept : (q : Result (Unit {0}) Errno) → OnErr q (x ≡ w.conditions) → OnErr q (record w { conditions = x } ≡ w)
+    kept (Ok u) same = tt
+    kept (Err e) same = ap (λ (y : List Condition). record w { conditions = y }) same
+
+    stays : (q : Result (Unit {0}) Errno) → OnOk q (w.store ≡ w.store)
+    stays (Ok u) = refl
+    stays (Err e) = tt
