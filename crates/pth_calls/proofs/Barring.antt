@@ -1,8 +1,8 @@
 -- A barrier is initialised, or the barriers refuse it.
-use Rattle.std.proofs.Common.{◌≡◌, ◌∙◌, ℤ, pos, List, Option, Result, Ok, Err, refl, sym, ap}
+use Rattle.pth_end.proofs.Acting.{done_answered, error_answered}
+use Rattle.std.proofs.Common.{◌≡◌, ◌∙◌, ℤ, pos, List, Option, Ok, Err, refl, sym, ap}
 use Rattle.pth_base.specs.declared.answer.Answer.{Answer}
 use Rattle.pth_base.specs.declared.answer.Answer.TheVariants.{Int}
-use Rattle.pth_base.specs.declared.errno.Errno.{Errno}
 use Rattle.pth_base.specs.declared.refusal.Refusal.{Refusal}
 use Rattle.pth_base.specs.declared.refusal.Refusal.TheVariants as refusal
 use Rattle.pth_cond.specs.Barriers.{Barrier, BarrierTable, barriers_of, barrier_init_answer, barrier_initialised}
@@ -15,14 +15,6 @@ use Rattle.pth_world.proofs.Barriers.{barred_shows}
 use Rattle.pth_world.specs.Leading.{IsAnswered}
 use Rattle.pth_world.specs.World.{WorldOf}
 use Rattle.pth_end.proofs.Deciding.{decided}
-
-done_answered : (r : Result (Unit {0}) Errno) (u : Unit {0}) → AnswersWithMemory r (Ok u) → Ok tt ≡ r
-done_answered (Ok done) u answers = refl
-done_answered (Err e) u answers = absurd (cc answers)
-
-error_answered : (r : Result (Unit {0}) Errno) (e : Errno) → AnswersWithMemory r (Err (refusal.Fail e)) → Err e ≡ r
-error_answered (Ok done) e answers = absurd (cc answers)
-error_answered (Err d) e answers = let same : e ≡ d = cc answers in ap (λ (x : Errno). Err x) same
 
 module _ {P S H : Type 0} (w : WorldOf P S H) (x : List (Option Barrier)) (b n : ℤ) where
   abbrev initialising : Answer → Type 0

@@ -11,6 +11,7 @@ use Rattle.pth_base.specs.declared.ids.Tid.{Tid}
 use Rattle.pth_base.specs.declared.mark.Mark.{Mark}
 use Rattle.pth_base.specs.declared.mark.Mark.TheVariants.{Answered}
 use Rattle.pth_calls.specs.Plain.{is_plain}
+use Rattle.pth_model.specs.Awaits.{is_await}
 use Rattle.pth_model.specs.declared.next.Next.TheVariants as next
 use Rattle.pth_model.specs.Calls.{begun, begun_by, begun_as}
 use Rattle.pth_model.specs.Resources.{told, answer_told}
@@ -85,7 +86,7 @@ quiet_event_call t (call.EvKind e) a events = λ x. refl
 quiet_event_call t (call.EvFree e all) a events = λ x. refl
 quiet_event_call t c a events = absurd (cc events)
 
--- nor do calls on conditions that await none, and one that is refused
+-- nor do calls on conditions that await none
 pub quiet_cond_init : (t : Tid) (c : ℤ) (a : Answer) → IsQuiet (Answered t (call.CondInit c) a)
 unfolding told answer_told
 quiet_cond_init t c a = λ x. refl
@@ -158,13 +159,10 @@ other_facility facility.Barriers other = absurd (other.barriers refl)
 other_facility facility.Io other = absurd (other.io refl)
 other_facility x other = refl
 
--- of calls on conditions, these are two
-pub other_condition_call : {P S H : Type 0} (f : P → Functions S H) (s : State P S H) (t : ℕ) (c : Call) → facility_of c ≡ Some facility.Conditions → ((x : ℤ) → c ≢ call.CondInit x) → ((x v : ℤ) → c ≢ call.CondNotify x v) → row_of f s t c ≡ unbuilt
-unfolding row_of
-other_condition_call f s t (call.CondInit x) conditions init notify = absurd (init x refl)
-other_condition_call f s t (call.CondNotify x v) conditions init notify = absurd (notify x v refl)
-other_condition_call f s t (call.CondAwait x m e) conditions init notify = refl
-other_condition_call f s t c conditions init notify = absurd (cc conditions)
+-- a plain call awaits no condition
+pub plain_awaits_none : (c : Call) → is_plain c ≡ true → is_await c ≡ false
+plain_awaits_none (call.CondAwait x m e) plain = absurd (cc plain)
+plain_awaits_none c plain = refl
 
 -- a plain call is of a facility
 pub plain_called : (c : Call) → is_plain c ≡ true → facility_of c ≢ None

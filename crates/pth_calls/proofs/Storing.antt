@@ -22,7 +22,7 @@ use Rattle.pth_model.specs.Cleanups.{cleanup_push, last_pushed, once, runs_pushe
 use Rattle.pth_model.specs.KeyStorage.{key_create, key_delete}
 use Rattle.pth_model.specs.Mutexes.{mutex_init}
 use Rattle.pth_model.specs.Rwlocks.{rw_init, rw_release}
-use Rattle.pth_model.specs.Resources.{Store, destructor_by, handler, no_resources, told, answer_told, with_cleanups, with_keys, with_mutexes, with_rw_locks}
+use Rattle.pth_model.specs.Resources.{Store, destructor_by, handler, told, answer_told, with_cleanups, with_keys, with_mutexes, with_rw_locks}
 use Rattle.pth_model.specs.Row.{effect_of, refuses, unless_refused}
 use Rattle.pth_model.specs.Rows.{row_of}
 use Rattle.pth_model.specs.State.{State, Control, once_limit}
@@ -49,12 +49,12 @@ module _ {P S H : Type 0} (w v : WorldOf P S H) where
   -- a key is made
   pub created_tells : (t : Tid) (d : Option ℤ) (key : ℕ) → store_of v.store ≡ with_keys (created key (destructor_by d)) (store_of w.store) → Tells w (Answered t (call.KeyCreate d) (Int (pos key))) v
   unfolding told answer_told
-  created_tells t d key changes = ap (λ (x : Store). record no_resources { store = x }) (sym changes)
+  created_tells t d key changes k has = ap (with_keys (created key (destructor_by d))) has ∙ sym changes
 
   -- a handler is taken
   pub popped_tells : (t : Tid) (x : ℤ) → store_of v.store ≡ with_cleanups (top_taken t.0) (store_of w.store) → Tells w (Answered t (call.CleanupPop x) (Int (pos 1))) v
   unfolding told answer_told
-  popped_tells t x changes = ap (λ (y : Store). record no_resources { store = y }) (sym changes)
+  popped_tells t x changes k has = ap (with_cleanups (top_taken t.0)) has ∙ sym changes
 
 -- ---- the single calls
 
@@ -64,26 +64,26 @@ module _ {P S H : Type 0} (w v : WorldOf P S H) (t : Tid) (shows : (k : Control 
       (stored_told w v (Answered t (call.KeyCreate d) (Int (pos key))) (Int (pos key)) (λ s. by_result says (key_create_answer s.resources.store.keys)) (stored_by w v t shows (λ x. by_result says (key_create_answer x.keys)) _ (ap (by_result says) (sym is))) shows (created_tells w v t d key changes))
 
   pub create_refused : (d : Option ℤ) (e : Errno) → Err e ≡ key_create_answer (store_of w.store).keys → v ≡ w → IsTold w v (Answered t (call.KeyCreate d) (Fail e)) (Fail e) (λ s. (key_create s).begin)
-  create_refused d e is same = stored_told w v (Answered t (call.KeyCreate d) (Fail e)) (Fail e) (λ s. by_result says (key_create_answer s.resources.store.keys)) (stored_by w v t shows (λ x. by_result says (key_create_answer x.keys)) _ (ap (by_result says) (sym is))) shows (refused_tells w v t (call.KeyCreate d) e same)
+  create_refused d e is same = stored_told w v (Answered t (call.KeyCreate d) (Fail e)) (Fail e) (λ s. by_result says (key_create_answer s.resources.store.keys)) (stored_by w v t shows (λ x. by_result says (key_create_answer x.keys)) _ (ap (by_result says) (sym is))) shows (refused_tells w v t (call.KeyCreate d) e refl same)
 
   -- a key is deleted, or not
   pub deleted_told : (k : ℤ) (r : Result (Unit {0}) Errno) (a : Answer) → r ≡ key_delete_answer (store_of w.store).keys k → by_result done r ≡ Says a → OnOk r (store_of v.store ≡ with_keys (deleted (key_named k)) (store_of w.store)) → OnErr r (v ≡ w) → IsTold w v (Answered t (call.KeyDelete k) a) a (λ s. (key_delete s k).begin)
   unfolding told answer_told
-  deleted_told k = done_told w v t shows (call.KeyDelete k) (λ x. key_delete_answer x.keys k) (with_keys (deleted (key_named k))) (λ x. refl)
+  deleted_told k = done_told w v t shows (call.KeyDelete k) (λ x. key_delete_answer x.keys k) (with_keys (deleted (key_named k))) (λ x. refl) refl
 
   -- a mutex is initialised, or not; and so a lock
   pub mutex_initialised_told : (m : ℤ) (r : Result (Unit {0}) Errno) (a : Answer) → r ≡ mutex_init_answer (store_of w.store).mutexes m → by_result done r ≡ Says a → OnOk r (store_of v.store ≡ with_mutexes (mutex_initialised (object_named m)) (store_of w.store)) → OnErr r (v ≡ w) → IsTold w v (Answered t (call.MutexInit m) a) a (λ s. (mutex_init s m).begin)
   unfolding told answer_told
-  mutex_initialised_told m = done_told w v t shows (call.MutexInit m) (λ x. mutex_init_answer x.mutexes m) (with_mutexes (mutex_initialised (object_named m))) (λ x. refl)
+  mutex_initialised_told m = done_told w v t shows (call.MutexInit m) (λ x. mutex_init_answer x.mutexes m) (with_mutexes (mutex_initialised (object_named m))) (λ x. refl) refl
 
   pub lock_initialised_told : (l : ℤ) (r : Result (Unit {0}) Errno) (a : Answer) → r ≡ lock_init_answer (store_of w.store).rw_locks l → by_result done r ≡ Says a → OnOk r (store_of v.store ≡ with_rw_locks (lock_initialised (object_named l)) (store_of w.store)) → OnErr r (v ≡ w) → IsTold w v (Answered t (call.RwInit l) a) a (λ s. (rw_init s l).begin)
   unfolding told answer_told
-  lock_initialised_told l = done_told w v t shows (call.RwInit l) (λ x. lock_init_answer x.rw_locks l) (with_rw_locks (lock_initialised (object_named l))) (λ x. refl)
+  lock_initialised_told l = done_told w v t shows (call.RwInit l) (λ x. lock_init_answer x.rw_locks l) (with_rw_locks (lock_initialised (object_named l))) (λ x. refl) refl
 
   -- a lock is released, or not
   pub lock_released_told : (l : ℤ) (r : Result (Unit {0}) Errno) (a : Answer) → r ≡ lock_release_answer (store_of w.store).rw_locks t.0 l → by_result done r ≡ Says a → OnOk r (store_of v.store ≡ with_rw_locks (lock_released t.0 (object_named l)) (store_of w.store)) → OnErr r (v ≡ w) → IsTold w v (Answered t (call.RwRelease l) a) a (λ s. (rw_release s t.0 l).begin)
   unfolding told answer_told
-  lock_released_told l = done_told w v t shows (call.RwRelease l) (λ x. lock_release_answer x.rw_locks t.0 l) (with_rw_locks (lock_released t.0 (object_named l))) (λ x. refl)
+  lock_released_told l = done_told w v t shows (call.RwRelease l) (λ x. lock_release_answer x.rw_locks t.0 l) (with_rw_locks (lock_released t.0 (object_named l))) (λ x. refl) refl
 
   module _ (f : P → Functions S H) (h x : ℤ) where
     abbrev pushed : Store → Store
@@ -94,10 +94,10 @@ module _ {P S H : Type 0} (w v : WorldOf P S H) (t : Tid) (shows : (k : Control 
     push_tells y = refl
 
     pub push_done : (u : Unit {0}) → AnswersWithMemory (push_answer (store_of w.store).cleanups t.0) (Ok u) → store_of v.store ≡ pushed (store_of w.store) → IsTold w v (Answered t (call.CleanupPush h x) (Int (pos 1))) (Int (pos 1)) (λ s. (cleanup_push f s t.0).begin)
-    push_done = memory_done w v t shows (call.CleanupPush h x) (λ y. push_answer y.cleanups t.0) pushed push_tells
+    push_done = memory_done w v t shows (call.CleanupPush h x) (λ y. push_answer y.cleanups t.0) pushed push_tells refl
 
     pub push_refused : (e : Refusal) (r : Result Answer OutOfMemory) → AnswersWithMemory (push_answer (store_of w.store).cleanups t.0) (Err e) → IfOk r (λ a. SaysRefusal e a) → v ≡ w → IfOk r (λ a. IsTold w v (Answered t (call.CleanupPush h x) a) a (λ s. (cleanup_push f s t.0).begin))
-    push_refused = memory_refused w v t shows (call.CleanupPush h x) (λ y. push_answer y.cleanups t.0) pushed push_tells
+    push_refused = memory_refused w v t shows (call.CleanupPush h x) (λ y. push_answer y.cleanups t.0) pushed push_tells refl
 
 -- a value that is read changes nothing
 pub quiet_get : (t : Tid) (k : ℤ) (a : Answer) → IsQuiet (Answered t (call.KeyGet k) a)
@@ -184,7 +184,7 @@ module _ {P S H : Type 0} (f : P → Functions S H) (s : State P S H) (t : ℕ) 
       subst (λ (x : Went P S H). IsCut old new x.told.marks) (sym is) (cut_one s (effect_of (once f s t o h v).begin) (tells (Answered (tid t) (call.Once o h v) a)) old new cut)
 
 pub use_stands : {P S H : Type 0} (w v : WorldOf P S H) (s : State P S H) (o : ℕ) → Shows v (uses o s.control) → v.store ≡ w.store → StandsFor w s → StandsFor v (controlled (uses o) s)
-use_stands w v s o shows stored st = record { control = shows; resources = has_still w v s stored st.resources }
+use_stands w v s o shows stored st = record { control = shows; store = has_still w v s stored st.store }
 
 -- that a control is used is told by no resource
 pub quiet_once : (t : Tid) (o h v : ℤ) (a : Answer) → IsQuiet (Answered t (call.Once o h v) a)

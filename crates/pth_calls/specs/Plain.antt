@@ -27,6 +27,7 @@ is_plain (call.Select r w x l) = false
 is_plain (call.SelectEv r w x l e) = false
 is_plain (call.MutexAcquire m v e) = false
 is_plain (call.RwAcquire l write v e) = false
+is_plain (call.CondAwait x m e) = false
 is_plain (call.BarrierReach b) = false
 is_plain call.CancelPoint = false
 is_plain (call.Cancel n) = false

@@ -1,9 +1,10 @@
-//! Conditions: `pth_cond_init`, `pth_cond_notify`. `pth_cond_await` is not built yet.
+//! Conditions: `pth_cond_init`, `pth_cond_notify`. `pth_cond_await` may block its thread, and stands with the calls that do.
 
 ghost use Rattle.std.specs.Prelude.{◌≡◌, true, false, Some};
 ghost use Rattle.pth_base.specs.Facilities.{facility_of};
 ghost use Rattle.pth_base.specs.declared.facility.Facility.TheVariants as facility;
 ghost use Rattle.pth_base.specs.declared.mark.Mark.TheVariants.{Answered};
+ghost use Rattle.pth_calls.specs.Plain.{is_plain};
 ghost use Rattle.pth_model.specs.Conditions.{cond_init as init_row};
 ghost use Rattle.pth_model.specs.Rows.{row_of};
 ghost use Rattle.pth_model.specs.State.{State};
@@ -14,7 +15,6 @@ ghost use Rattle.pth_world.specs.Whole.{Whole};
 
 use pth_base::answer::Answer;
 use pth_base::call::Call;
-use pth_base::errno::Errno;
 use pth_base::ids::Tid;
 use pth_base::program::Program;
 use pth_end::acts::notify;
@@ -30,11 +30,12 @@ fn init_condition<P: Program>(w: &mut World<P>, c: i64) -> Answer
     done(w.conditions_mut().init(c))
 }
 
-/// The answer of a call on conditions.
+/// The answer of a call on conditions that does not block its thread.
 pub(crate) fn answer_conditions<P: Program>(w: &mut World<P>, t: Tid, call: &Call) -> Answer
     requires whole { Whole w.old }
     requires runs { w.old.scheduler.running ≡ Some t.0 }
     requires conditions { facility_of call.now ≡ Some facility.Conditions }
+    requires plain { is_plain call.now ≡ true }
     ensures answered { IsAnswered w.old w.new result (λ (s : State P P.State P.Shared). (row_of P.functions s t.0 call.now).begin) }
     ensures quiet { IsQuiet (Answered t call.now result) }
     ensures frame { Frame w.old w.new no_numbers (Some t.0) false }
@@ -42,6 +43,6 @@ pub(crate) fn answer_conditions<P: Program>(w: &mut World<P>, t: Tid, call: &Cal
     match call {
         Call::CondInit(c) => init_condition(w, *c),
         Call::CondNotify { c, v } => notify(w, *c, *v),
-        _ => Answer::Fail(Errno::EINVAL),
+        _ => unreachable!(),
     }
 }

@@ -29,7 +29,8 @@ use Rattle.pth_base.specs.declared.ids.Tid.{Tid}
 use Rattle.pth_base.specs.declared.memory.OutOfMemory.{OutOfMemory}
 use Rattle.pth_base.specs.declared.refusal.Refusal.{Refusal}
 use Rattle.std.proofs.lemmas.Result.{IfOk-weaker}
-use Rattle.pth_model.specs.Resources.{Resources, Store, no_resources, told, answer_told, act_told, with_keys, with_mutexes}
+use Rattle.pth_model.specs.Awaits.{is_await}
+use Rattle.pth_model.specs.Resources.{Resources, Store, told, answer_told, act_told, with_keys, with_mutexes}
 use Rattle.pth_world.proofs.Telling.{quiet-refused, quiet_tells, tells_stands}
 use Rattle.pth_world.specs.Leading.{IsQuiet, IsTold, Leads, Tells}
 use Rattle.pth_world.specs.Shows.{Shows, StandsFor}
@@ -38,13 +39,13 @@ use Rattle.pth_world.specs.World.{WorldOf}
 use Rattle.pth_end.specs.Saying.{SaysRefusal}
 
 -- what a part that takes memory answers
-pub stored_done : (r : Result (Unit {0}) Errno) (u : Unit {0}) → AnswersWithMemory r (Ok u) → by_result done r ≡ Says (Int (pos 1))
-stored_done (Ok x) u answers = refl
-stored_done (Err e) u answers = absurd (cc answers)
+pub done_answered : (r : Result (Unit {0}) Errno) (u : Unit {0}) → AnswersWithMemory r (Ok u) → Ok tt ≡ r
+done_answered (Ok x) u answers = refl
+done_answered (Err e) u answers = absurd (cc answers)
 
-pub stored_refused : (r : Result (Unit {0}) Errno) (e : Errno) → AnswersWithMemory r (Err (refusal.Fail e)) → by_result done r ≡ Says (Fail e)
-stored_refused (Ok x) e answers = absurd (cc answers)
-stored_refused (Err d) e answers = let same : e ≡ d = cc in ap (λ (x : Errno). Says (Fail x)) (sym same)
+pub error_answered : (r : Result (Unit {0}) Errno) (e : Errno) → AnswersWithMemory r (Err (refusal.Fail e)) → Err e ≡ r
+error_answered (Ok x) e answers = absurd (cc answers)
+error_answered (Err d) e answers = let same : e ≡ d = cc answers in ap (λ (x : Errno). Err x) same
 
 -- what does nothing, refused or not, and then is told
 pub nothing_told : {P S H : Type 0} (s : State P S H) (b : Bool) (m : Mark) → (unless_refused b (changes nothing) and_then tells m) s ≡ tells m s
@@ -74,7 +75,7 @@ module _ {P S H : Type 0} (w v : WorldOf P S H) where
   told_as m n a attempt same is = record {
     verdict = is.verdict;
     silent = is.silent;
-    stands = λ s st. let leads = is.stands s st in record { control = leads.control; resources = sym (same (effect_of (attempt s) s).state.resources) ∙ leads.resources };
+    stands = λ s st. let leads = is.stands s st in record { control = leads.control; store = ap (λ (x : Resources). x.store) (sym (same (effect_of (attempt s) s).state.resources)) ∙ leads.store };
   }
 
   pub each_told_as : (m n : Answer → Mark) (r : Result Answer OutOfMemory) (attempt : State P S H → Attempt P S H) → ((a : Answer) (x : Resources) → told x (m a) ≡ told x (n a)) → IfOk r (λ a. IsTold w v (m a) a attempt) → IfOk r (λ a. IsTold w v (n a) a attempt)
@@ -140,19 +141,19 @@ quiet_handler t h v = λ x. refl
 -- ---- calls that have nothing to say, by the answer of what is stored, and what they change there
 
 -- a refused call changes nothing
-pub refused_tells : {P S H : Type 0} (w v : WorldOf P S H) (t : Tid) (c : Call) (e : Errno) → v ≡ w → Tells w (Answered t c (Fail e)) v
-refused_tells w v t c e same = subst (λ (z : WorldOf _ _ _). Tells w (Answered t c (Fail e)) z) (sym same) (quiet-refused t c e (store_of w.store))
+pub refused_tells : {P S H : Type 0} (w v : WorldOf P S H) (t : Tid) (c : Call) (e : Errno) → is_await c ≡ false → v ≡ w → Tells w (Answered t c (Fail e)) v
+refused_tells w v t c e other same = quiet_tells w v (Answered t c (Fail e)) (quiet-refused t c e other) (ap (λ (z : WorldOf _ _ _). z.store) same)
 
 -- the call's answer 1 tells that what is stored has changed so
 abbrev pub DoneTells : Tid → Call → (Store → Store) → Type 0
-DoneTells t c g = (x : Store) → told (record no_resources { store = x }) (Answered t c (Int (pos 1))) ≡ record no_resources { store = g x }
+DoneTells t c g = (k : Resources) → (told k (Answered t c (Int (pos 1)))).store ≡ g k.store
 
 module _ {P S H : Type 0} (w v : WorldOf P S H) (t : Tid) (shows : (k : Control P S H) → Shows w k → Shows v k) where
   -- what the world has stored is what the states have for which it stands
   pub stored_by : {A : Type 0} (r : Store → A) (a : A) → r (store_of w.store) ≡ a → (s : State P S H) → StandsFor w s → r s.resources.store ≡ a
-  stored_by r a is s st = ap (λ (k : Resources). r k.store) st.resources ∙ is
+  stored_by r a is s st = ap r st.store ∙ is
 
-  module _ (c : Call) (answer : Store → Result (Unit {0}) Errno) (g : Store → Store) (one : DoneTells t c g) where
+  module _ (c : Call) (answer : Store → Result (Unit {0}) Errno) (g : Store → Store) (one : DoneTells t c g) (other : is_await c ≡ false) where
     abbrev saying : State P S H → Attempt P S H
     saying s = by_result done (answer s.resources.store) trying changes nothing
 
@@ -160,18 +161,18 @@ module _ {P S H : Type 0} (w v : WorldOf P S H) (t : Tid) (shows : (k : Control 
     said a says tell = stored_told w v (Answered t c a) a (λ s. by_result done (answer s.resources.store)) (stored_by (λ x. by_result done (answer x)) _ says) shows tell
 
     one_tells : store_of v.store ≡ g (store_of w.store) → Tells w (Answered t c (Int (pos 1))) v
-    one_tells changes = one (store_of w.store) ∙ ap (λ (y : Store). record no_resources { store = y }) (sym changes)
+    one_tells changes k has = one k ∙ ap g has ∙ sym changes
 
     pub done_told : (r : Result (Unit {0}) Errno) (a : Answer) → r ≡ answer (store_of w.store) → by_result done r ≡ Says a → OnOk r (store_of v.store ≡ g (store_of w.store)) → OnErr r (v ≡ w) → IsTold w v (Answered t c a) a saying
     done_told (Ok u) a is says changes same = let one : Int (pos 1) ≡ a = cc says in subst (λ (b : Answer). IsTold w v (Answered t c b) b saying) one (said (Int (pos 1)) (ap (by_result done) (sym is)) (one_tells changes))
-    done_told (Err e) a is says changes same = let fails : Fail e ≡ a = cc says in subst (λ (b : Answer). IsTold w v (Answered t c b) b saying) fails (said (Fail e) (ap (by_result done) (sym is)) (refused_tells w v t c e same))
+    done_told (Err e) a is says changes same = let fails : Fail e ≡ a = cc says in subst (λ (b : Answer). IsTold w v (Answered t c b) b saying) fails (said (Fail e) (ap (by_result done) (sym is)) (refused_tells w v t c e other same))
 
     -- one that takes memory
     pub memory_done : (u : Unit {0}) → AnswersWithMemory (answer (store_of w.store)) (Ok u) → store_of v.store ≡ g (store_of w.store) → IsTold w v (Answered t c (Int (pos 1))) (Int (pos 1)) saying
-    memory_done u answers changes = said (Int (pos 1)) (stored_done _ u answers) (one_tells changes)
+    memory_done u answers changes = said (Int (pos 1)) (ap (by_result done) (sym (done_answered _ u answers))) (one_tells changes)
 
     pub memory_refused : (e : Refusal) (r : Result Answer OutOfMemory) → AnswersWithMemory (answer (store_of w.store)) (Err e) → IfOk r (λ a. SaysRefusal e a) → v ≡ w → IfOk r (λ a. IsTold w v (Answered t c a) a saying)
-    memory_refused (refusal.Fail e) (Ok a) answers says same = subst (λ (b : Answer). IsTold w v (Answered t c b) b saying) (sym says) (said (Fail e) (stored_refused _ e answers) (refused_tells w v t c e same))
+    memory_refused (refusal.Fail e) (Ok a) answers says same = subst (λ (b : Answer). IsTold w v (Answered t c b) b saying) (sym says) (said (Fail e) (ap (by_result done) (sym (error_answered _ e answers))) (refused_tells w v t c e other same))
     memory_refused refusal.OutOfMemory (Ok a) answers says same = absurd says
     memory_refused e (Err o) answers says same = tt
 

@@ -22,7 +22,7 @@ quiet_canceled t c = λ x. refl
 
 -- the control was changed, and nothing else is stored
 pub change_stands : {P S H : Type 0} (w v : WorldOf P S H) (g : Change P S H) (s : State P S H) → Shows v (g s.control) → v.store ≡ w.store → StandsFor w s → StandsFor v (controlled g s)
-change_stands w v g s shows stored st = record { control = shows; resources = has_still w v s stored st.resources }
+change_stands w v g s shows stored st = record { control = shows; store = has_still w v s stored st.store }
 
 -- a thread ends once its record was changed
 pub ends_then : {P S H : Type 0} (u v w : WorldOf P S H) (t : ℕ) → Frame u v no_numbers u.scheduler.running false → Frame v w no_numbers (other_than t v.scheduler.running) false → Frame u w no_numbers (other_than t u.scheduler.running) false

@@ -12,7 +12,8 @@ use Rattle.pth_model.specs.declared.verdict.Verdict.{Verdict}
 use Rattle.pth_model.specs.declared.verdict.Verdict.TheVariants.{Says}
 use Rattle.pth_model.specs.Verdict.{says, by_result, done}
 use Rattle.pth_world.specs.Leading.{Changed, IsAnswered}
-use Rattle.pth_world.specs.Shows.{Shows, StandsFor, resources_of}
+use Rattle.pth_world.specs.Shows.{Shows, StandsFor}
+use Rattle.pth_world.specs.Store.{store_of}
 use Rattle.pth_world.proofs.Conditions.{seated_shows}
 use Rattle.pth_world.proofs.Telling.{has_still}
 use Rattle.pth_world.specs.World.{WorldOf}
@@ -26,16 +27,16 @@ module _ {P S H A : Type 0} (w v : WorldOf P S H) (say : A → Answer) (r : Stat
   abbrev IsPlain : Type 0
   IsPlain = (x : A) → refuses (said x) ≡ false
 
-  effect_by : IsPlain → (s : State P S H) (q : Result A Errno) → OnOk q (Shows v (g s s.control)) → OnErr q (Shows v s.control) → s.resources ≡ resources_of v → Changed v (effect_of (by_result said q trying changes (g s)) s)
+  effect_by : IsPlain → (s : State P S H) (q : Result A Errno) → OnOk q (Shows v (g s s.control)) → OnErr q (Shows v s.control) → s.resources.store ≡ store_of v.store → Changed v (effect_of (by_result said q trying changes (g s)) s)
   effect_by plain s (Ok x) shows same has =
       let Q : Bool → Type 0 = λ b. Changed v (unless_refused b (changes (g s)) s) in
-      subst Q (sym (plain x)) (record { shows = shows; resources = has; silent = refl })
-  effect_by plain s (Err e) shows same has = record { shows = same; resources = has; silent = refl }
+      subst Q (sym (plain x)) (record { shows = shows; store = has; silent = refl })
+  effect_by plain s (Err e) shows same has = record { shows = same; store = has; silent = refl }
 
   pub decided : IsPlain → (q : Result A Errno) (a : Answer) → by_result said q ≡ Says a → ((s : State P S H) → StandsFor w s → q ≡ r s) → OnOk q ((s : State P S H) → StandsFor w s → Shows v (g s s.control)) → OnErr q (v ≡ w) → OnOk q (v.store ≡ w.store) → IsAnswered w v a (λ s. by_result said (r s) trying changes (g s))
   decided plain q a says is ok same stored = record {
     verdict = λ s st. ap (by_result said) (sym (is s st)) ∙ says;
-    effect = λ s st. subst (λ (x : Result A Errno). Changed v (effect_of (by_result said x trying changes (g s)) s)) (is s st) (effect_by plain s q (ok_at s st q ok) (err_at s st q same) (has_still w v s (store_at q same stored) st.resources));
+    effect = λ s st. subst (λ (x : Result A Errno). Changed v (effect_of (by_result said x trying changes (g s)) s)) (is s st) (effect_by plain s q (ok_at s st q ok) (err_at s st q same) (has_still w v s (store_at q same stored) st.store));
   }
     where
       store_at : (x : Result A Errno) → OnErr x (v ≡ w) → OnOk x (v.store ≡ w.store) → v.store ≡ w.store
@@ -54,7 +55,7 @@ module _ {P S H A : Type 0} (w v : WorldOf P S H) (say : A → Answer) (r : Stat
 pub number_said : {P S H : Type 0} (w : WorldOf P S H) (row : State P S H → Row P S H) (n : ℕ) (x : ℤ) → x ≡ pos n → ((s : State P S H) → StandsFor w s → row s ≡ (says n changing nothing)) → IsAnswered w w (Int x) (λ s. (row s).begin)
 number_said {P} {S} {H} w row n x is said = record {
   verdict = λ s st. ap (λ (r : Row P S H). r.begin.verdict) (said s st) ∙ ap (λ (z : ℤ). Says (Int z)) (sym is);
-  effect = λ s st. subst (λ (r : Row P S H). Changed w (effect_of r.begin s)) (sym (said s st)) (record { shows = st.control; resources = st.resources; silent = refl });
+  effect = λ s st. subst (λ (r : Row P S H). Changed w (effect_of r.begin s)) (sym (said s st)) (record { shows = st.control; store = st.store; silent = refl });
 }
 
 -- what holds of every control that is shown holds of every state

@@ -8,7 +8,7 @@ use Rattle.pth_base.specs.declared.mark.Mark.TheVariants.{Destructor}
 use Rattle.pth_model.specs.declared.destructors.Due.{Due}
 use Rattle.pth_model.specs.declared.destructors.Round.{Round}
 use Rattle.pth_model.specs.Ending.{destructs, destructs_by, next_destructor, runs_destructor}
-use Rattle.pth_model.specs.Resources.{Resources, Store, no_resources, told, with_keys}
+use Rattle.pth_model.specs.Resources.{Store, told, with_keys}
 use Rattle.pth_model.specs.State.{State}
 use Rattle.pth_store.specs.Keys.{with_key_value}
 use Rattle.pth_world.specs.Leading.{Leads, Tells}
@@ -20,7 +20,7 @@ use Rattle.pth_end.proofs.Chains.{leads_then, cut_one, cut_second}
 -- the value is 0 from then on
 pub destructor_tells : {P S H : Type 0} (w v : WorldOf P S H) (t : Tid) (k : ℕ) (x : ℤ) → store_of v.store ≡ with_keys (with_key_value t.0 k (pos 0)) (store_of w.store) → Tells w (Destructor t k x) v
 unfolding told
-destructor_tells w v t k x changes = ap (λ (y : Store). record no_resources { store = y }) (sym changes)
+destructor_tells w v t k x changes r has = ap (with_keys (with_key_value t.0 k (pos 0))) has ∙ sym changes
 
 module _ {P S H : Type 0} (f : P → Functions S H) (t : ℕ) (w : WorldOf P S H) (s : State P S H) (st : StandsFor w s) (r : Round) where
   -- the next one, by what the world has stored
@@ -29,7 +29,7 @@ module _ {P S H : Type 0} (f : P → Functions S H) (t : ℕ) (w : WorldOf P S H
 
   all_is : (n : ℕ) → destructs f t (suc n) r s ≡ destructs_by f t next (destructs f t n) s
   unfolding destructs
-  all_is n = ap (λ (x : Resources). destructs_by f t (next_destructor x.store.keys t r) (destructs f t n) s) st.resources
+  all_is n = ap (λ (x : Store). destructs_by f t (next_destructor x.keys t r) (destructs f t n) s) st.store
 
   -- none is left, or none may run any more
   pub none_runs : (n : ℕ) (old : List Mark) → next ≡ None → Leads w old old (destructs f t n r s)

@@ -1,12 +1,11 @@
 -- A thread ends as the definitions say.
 use Rattle.std.proofs.Common.{◌≡◌, ◌∙◌, ℕ, ℤ, false, List, [], ◌∷◌, ◌++◌, refl, ap, sym}
-use Rattle.pth_base.proofs.Lists.{put_none}
 use Rattle.pth_base.specs.Cut.{IsCut}
 use Rattle.pth_base.specs.Program.{Functions}
 use Rattle.pth_base.specs.declared.mark.Mark.{Mark}
 use Rattle.pth_base.specs.declared.mark.Mark.TheVariants.{Ended}
 use Rattle.pth_model.specs.Ending.{ending, leaves, dies, gives_all, other_than, runs_cleanups, runs_destructors, undoes_wait}
-use Rattle.pth_model.specs.Resources.{Resources, Store, no_resources, store_without, told}
+use Rattle.pth_model.specs.Resources.{Resources, store_without, told}
 use Rattle.pth_model.specs.State.{State}
 use Rattle.pth_model.specs.Transition.{Piece, tid, ◌and_then◌}
 use Rattle.pth_world.proofs.Frames.{frame_then, moved_frame}
@@ -22,9 +21,9 @@ use Rattle.pth_end.proofs.Chains.{leads_then, cut_one, cut_second}
 use Rattle.pth_end.proofs.Handled.{handled_frame, stored_frame}
 
 -- a thread that ended has nothing
-ended_told : (x : Store) (t : ℕ) (v : ℤ) → told (record no_resources { store = x }) (Ended (tid t) v) ≡ record no_resources { store = store_without t x }
+ended_told : (k : Resources) (t : ℕ) (v : ℤ) → (told k (Ended (tid t) v)).store ≡ store_without t k.store
 unfolding told
-ended_told x t v = rw (put_none (λ (u : ℕ). false) t false refl) refl
+ended_told k t v = refl
 
 module _ {P S H : Type 0} (w a : WorldOf P S H) where
   -- then it ran its handlers and destructors, what it stored is forgotten, and it is dead or gone
@@ -42,7 +41,7 @@ module _ {P S H : Type 0} (f : P → Functions S H) (t : ℕ) (v : ℤ) where
   dies_leads w y s old new st shows stored appended = record {
     stands = record {
       control = shows;
-      resources = ap (λ (k : Resources). told k (Ended (tid t) v)) st.resources ∙ ended_told (store_of w.store) t v ∙ ap (λ (x : Store). record no_resources { store = x }) (sym stored);
+      store = ended_told s.resources t v ∙ ap (store_without t) st.store ∙ sym stored;
     };
     tells = appended;
   }

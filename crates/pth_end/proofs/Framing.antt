@@ -9,6 +9,7 @@ use Rattle.pth_base.specs.declared.ids.Tid.{Tid}
 use Rattle.pth_base.specs.declared.mark.Mark.{Mark}
 use Rattle.pth_base.specs.declared.mark.Mark.TheVariants.{Answered}
 use Rattle.pth_base.specs.declared.memory.OutOfMemory.{OutOfMemory}
+use Rattle.pth_model.specs.Awaits.{is_await}
 use Rattle.pth_model.specs.declared.next.Next.{Next}
 use Rattle.pth_model.specs.declared.next.Next.TheVariants.{Done}
 use Rattle.pth_model.specs.State.{Control, State}
@@ -53,9 +54,9 @@ said_goes last w m a old new r by quiet = quiet_goes last w w silent m a old old
 
 -- it was refused
 pub refused_goes : {P S H : Type 0} (last : Last P S H) (w : WorldOf P S H) (t : Tid) (c : Call) (e : Errno) (old new : List Mark) (r : Result Next OutOfMemory)
-    → ((s : State P S H) → StandsFor w s → last s ≡ (silent and_then tells (Answered t c (Fail e)) and_next Done (Fail e)) s)
+    → ((s : State P S H) → StandsFor w s → last s ≡ (silent and_then tells (Answered t c (Fail e)) and_next Done (Fail e)) s) → is_await c ≡ false
     → IfOk r (λ n. n ≡ Done (Fail e)) → OnOk r (new ≡ old ++ Answered t c (Fail e) ∷ []) → OnErr r (new ≡ old) → Goes (StandsFor w) last w old new r
-refused_goes last w t c e old new r by = said_goes last w (Answered t c (Fail e)) (Fail e) old new r by (quiet-refused t c e)
+refused_goes last w t c e old new r by other = said_goes last w (Answered t c (Fail e)) (Fail e) old new r by (quiet-refused t c e other)
 
 -- ---- what they leave
 

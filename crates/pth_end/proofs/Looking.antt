@@ -32,7 +32,7 @@ module _ {P S H : Type 0} (f : P → Functions S H) (w v : WorldOf P S H) (t : �
   all_is = acts_are f t h x s i low ∙ ap (λ (o : Option Act). goes_on_after t o rest looked) look_is
 
   pub looked_stands : StandsFor v looked
-  looked_stands = record { control = shows; resources = has_still w v s stored st.resources }
+  looked_stands = record { control = shows; store = has_still w v s stored st.store }
 
   pub no_act : (old : List Mark) → r ≡ None → Leads v old old (acts_from f t h x (65 - i) i s)
   no_act old none = rw (all_is, none) (record { stands = looked_stands; tells = sym (append-nil old) })

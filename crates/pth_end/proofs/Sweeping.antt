@@ -18,7 +18,7 @@ use Rattle.pth_lock.specs.Sets.{contains}
 use Rattle.pth_lock.proofs.Bits.{contains-past}
 use Rattle.pth_lock.proofs.Sweeps.{by_place}
 use Rattle.pth_model.specs.Ending.{gives_mutexes, gives_locks, locks_held, mutexes_had}
-use Rattle.pth_model.specs.Resources.{Resources, Store, told, mutex_freed, no_resources, with_store, with_mutexes, with_rw_locks}
+use Rattle.pth_model.specs.Resources.{Resources, Store, told, mutex_freed, with_store, with_mutexes, with_rw_locks}
 use Rattle.pth_model.specs.State.{State}
 use Rattle.pth_model.specs.Transition.{Transition, tells, tells_each, tid}
 use Rattle.pth_world.specs.Leading.{Leads}
@@ -273,7 +273,7 @@ module _ (t : ℕ) where
     module _ (w v : WorldOf P S H) (s : State P S H) (st : StandsFor w s) (set : ℕ) (fits : set < 2 ^ 64) (old new : List Mark) where
       module _ (had : (m : ℕ) → contains set m ≡ mutex_test (store_of w.store) m) where
         mutex_set : contains set ≡ mutex_test s.resources.store
-        mutex_set = fun_ext had ∙ ap (λ (k : Resources). mutex_test k.store) (sym st.resources)
+        mutex_set = fun_ext had ∙ ap mutex_test (sym st.store)
 
         mutexes_are : gives_mutexes t s ≡ record { state = record s { resources = with_store s.resources (with_mutexes (mutexes_left t) s.resources.store) }; marks = all_given held.Mutex (tid t) (contains set) }
         mutexes_are =
@@ -285,13 +285,13 @@ module _ (t : ℕ) where
 
         pub mutexes_lead : store_of v.store ≡ with_mutexes (mutexes_left t) (store_of w.store) → Shows v s.control → new ≡ old ++ all_given held.Mutex (tid t) (contains set) → Leads v old new (gives_mutexes t s)
         mutexes_lead changes shows appended = subst (λ (x : Transition P S H). Leads v old new x) (sym mutexes_are) (record {
-          stands = record { control = shows; resources = ap (λ (k : Resources). with_store k (with_mutexes (mutexes_left t) k.store)) st.resources ∙ ap (λ (y : Store). record no_resources { store = y }) (sym changes) };
+          stands = record { control = shows; store = ap (with_mutexes (mutexes_left t)) st.store ∙ sym changes };
           tells = appended;
         })
 
       module _ (holding : (l : ℕ) → contains set l ≡ lock_test (store_of w.store) l) where
         lock_set : contains set ≡ lock_test s.resources.store
-        lock_set = fun_ext holding ∙ ap (λ (k : Resources). lock_test k.store) (sym st.resources)
+        lock_set = fun_ext holding ∙ ap lock_test (sym st.store)
 
         locks_are : gives_locks t s ≡ record { state = record s { resources = with_store s.resources (with_rw_locks (locks_left t) s.resources.store) }; marks = all_given held.RwLock (tid t) (contains set) }
         locks_are =
@@ -303,6 +303,6 @@ module _ (t : ℕ) where
 
         pub locks_lead : store_of v.store ≡ with_rw_locks (locks_left t) (store_of w.store) → Shows v s.control → new ≡ old ++ all_given held.RwLock (tid t) (contains set) → Leads v old new (gives_locks t s)
         locks_lead changes shows appended = subst (λ (x : Transition P S H). Leads v old new x) (sym locks_are) (record {
-          stands = record { control = shows; resources = ap (λ (k : Resources). with_store k (with_rw_locks (locks_left t) k.store)) st.resources ∙ ap (λ (y : Store). record no_resources { store = y }) (sym changes) };
+          stands = record { control = shows; store = ap (with_rw_locks (locks_left t)) st.store ∙ sym changes };
           tells = appended;
         })

@@ -44,7 +44,7 @@ module _ {P S H : Type 0} where
 
   -- barriers alone changed, without a word
   barred_stands : (w : WorldOf P S H) (b : List (Option Barrier)) (g : BarrierTable → BarrierTable) (s : State P S H) → StandsFor w s → barriers_of b ≡ g (barriers_of w.barriers) → StandsFor (record w { barriers = b }) (controlled (with_barriers g) s)
-  barred_stands w b g s st is = record { control = barred_shows w b g s.control st.control is; resources = st.resources }
+  barred_stands w b g s st is = record { control = barred_shows w b g s.control st.control is; store = st.store }
 
   -- an arrival was taken back, and that was told
   taken_leads : (w : WorldOf P S H) (b : List (Option Barrier)) (t : Tid) (x : ℤ) (s : State P S H) (old new : List Mark) → StandsFor w s → barriers_of b ≡ withdrawn x t.0 (barriers_of w.barriers) → new ≡ old ++ Withdrew t (object_named x) ∷ []
@@ -85,7 +85,7 @@ module _ {P S H : Type 0} (w : WorldOf P S H) (c : List (Option Barrier)) (t : T
   pub no_withdrawal : (old new : List Mark) → waits_at (barriers_of w.barriers) b t.0 ≡ false → new ≡ old → Leads (record w { barriers = c }) old new (withdraws t.0 b s)
   no_withdrawal old new none same =
       let stays : barriers_of c ≡ barriers_of w.barriers = is ∙ barriers_stay (barriers_of w.barriers) b t.0 none in
-      by_arrival false (sym here_is ∙ none) old new (silent_leads (record w { barriers = c }) s old new (record { control = barred_shows w c (λ x. x) s.control st.control stays; resources = st.resources }) same)
+      by_arrival false (sym here_is ∙ none) old new (silent_leads (record w { barriers = c }) s old new (record { control = barred_shows w c (λ x. x) s.control st.control stays; store = st.store }) same)
 
 module _ {P S H : Type 0} (w : WorldOf P S H) (t : ℕ) (s : State P S H) where
   -- the thread awaits a round, or something else
@@ -119,7 +119,7 @@ module _ {P S H : Type 0} where
   pub undone_leads : (w v z : WorldOf P S H) (t : ℕ) (s : State P S H) (old new : List Mark) → Leads v old new (withdraws_from t (awaits_in (blocked_of s.control t)) s) → ((k : Control P S H) → Shows v k → Shows z (stops_waiting t k)) → z.store ≡ v.store → Leads z old new (undoes_wait t s)
   undone_leads w v z t s old new first shows stored =
       let s1 = (withdraws_from t (awaits_in (blocked_of s.control t)) s).state in
-      let second = silent_leads z (controlled (stops_waiting t) s1) new new (record { control = shows s1.control first.stands.control; resources = has_still v z s1 stored first.stands.resources }) refl in
+      let second = silent_leads z (controlled (stops_waiting t) s1) new new (record { control = shows s1.control first.stands.control; store = has_still v z s1 stored first.stands.store }) refl in
       let l = leads_then v z s (withdraws_from t (awaits_in (blocked_of s.control t))) (changes (stops_waiting t)) old new new first (record { stands = second.stands; tells = second.tells }) in
       record { stands = l.stands; tells = l.tells }
 

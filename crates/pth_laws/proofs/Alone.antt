@@ -12,7 +12,6 @@ use Rattle.pth_base.specs.declared.mark.Mark.{Mark}
 use Rattle.pth_base.specs.declared.mark.Mark.TheVariants as mark
 use Rattle.pth_base.proofs.Lists.{put_none}
 use Rattle.pth_base.proofs.Tables.{put_by, put_is, same_means, same_self, not_same}
-use Rattle.pth_numbered.specs.Operands.{number}
 use Rattle.pth_lock.specs.Objects.{object_named}
 use Rattle.pth_lock.specs.RwLocks.{LockTables, holds, is_one, may_enter, is_written, lock_released, lock_taken, without_slot, readers_without}
 use Rattle.pth_model.specs.Resources.{Resources, locks_of_only, on_one, on_int, on_msg, told, answer_told, act_told, retaken, let_go}
@@ -149,7 +148,7 @@ module _ {P S H : Type 0} (s : State P S H) (all : AreApart s.resources.store.rw
   answer_apart t (call.RwAcquire l write v e) (answer.Int n) may = taken_apart s.resources.store.rw_locks all t write (object_named l) may.out may.open_to
   answer_apart t (call.RwAcquire l write v e) a may = all
   answer_apart t (call.RwRelease l) a may = apart_int a _ (λ n. released_apart s.resources.store.rw_locks all t (object_named l))
-  answer_apart t (call.CondAwait c m e) a may = took_back t (number m) (s.resources.awaits t)
+  answer_apart t (call.CondAwait c m e) a may = took_back t (object_named m) (s.resources.awaits t)
   answer_apart t (call.PortCreate name) a may = apart_int a _ (λ n. all)
   answer_apart t (call.PortPut p v r) a may = apart_int a _ (λ n. all)
   answer_apart t (call.PortGet p) a may = apart_msg a _ all
@@ -164,7 +163,7 @@ module _ {P S H : Type 0} (s : State P S H) (all : AreApart s.resources.store.rw
   told_apart (mark.Acted t (act.Release m) a) may = answer_apart t.0 (call.MutexRelease m) a tt
   told_apart (mark.Acted t (act.Put p v) a) may = answer_apart t.0 (call.PortPut p v (pos 0)) a tt
   told_apart (mark.Acted t (act.SetKey key v) a) may = answer_apart t.0 (call.KeySet key v) a tt
-  told_apart (mark.Waits t (call.CondAwait c m e)) may = gave_back t.0 (number m) (s.resources.awaits t.0)
+  told_apart (mark.Waits t (call.CondAwait c m e)) may = gave_back t.0 (object_named m) (s.resources.awaits t.0)
   told_apart (mark.GaveLock t l) may = released_apart s.resources.store.rw_locks all t.0 l
   told_apart (mark.Ended t v) may = left_one s.resources.store.rw_locks all t.0
   told_apart m may = all

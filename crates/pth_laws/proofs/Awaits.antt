@@ -1,5 +1,6 @@
 -- Who waits at a condition: the marks tell it of exactly those whom a pth_cond_await blocks, and these live.
 use Rattle.std.proofs.Common.{◌≡◌, ◌≢◌, ℕ, zero, suc, ◌+◌, ◌==◌, Bool, true, false, if◌then◌else◌, ℤ, pos, Option, Some, None, option_map, refl, sym, ◌∙◌, ap}
+use Rattle.pth_lock.specs.Objects.{object_named}
 use Rattle.pth_base.specs.Program.{Functions}
 use Rattle.pth_base.specs.Table.{put}
 use Rattle.pth_base.specs.declared.act.Act.{Act}
@@ -10,7 +11,6 @@ use Rattle.pth_base.specs.declared.call.Call.{Call}
 use Rattle.pth_base.specs.declared.call.Call.TheVariants as call
 use Rattle.pth_base.specs.declared.errno.Errno.{Errno}
 use Rattle.pth_base.proofs.Tables.{same_means, same_fails, put_by, put_here, put_other}
-use Rattle.pth_numbered.specs.Operands.{number}
 use Rattle.pth_queue.specs.declared.queue.Queue.{Queue}
 use Rattle.pth_queue.specs.declared.queue.Queue.TheVariants.{Suspended}
 use Rattle.pth_threads.specs.Threads.{changed}
@@ -30,7 +30,7 @@ use Rattle.pth_model.specs.Living.{is_dead, lives}
 use Rattle.pth_model.specs.RingWaits.{claims, gives_back, stops_waiting, ring_held}
 use Rattle.pth_model.specs.Pass.{looks}
 use Rattle.pth_model.specs.ThreadControl.{spawns, suspends, resumes, returns_to}
-use Rattle.pth_laws.specs.Valid.{is_await, is_awaiting}
+use Rattle.pth_model.specs.Awaits.{is_await, is_awaiting}
 use Rattle.pth_laws.proofs.Living.{true_false, suspended_safe}
 use Rattle.pth_laws.proofs.Going.{set_lives}
 
@@ -269,7 +269,7 @@ module _ (k : Resources) (t : ℕ) where
   answer_awaits c a on fits = by_await (is_await c) refl
     where
       of_await : (d : Call) → is_await d ≡ true → TellsAwaits false (answer_told k t d a)
-      of_await (call.CondAwait c m e) one = took_back (number m) (k.awaits t) refl
+      of_await (call.CondAwait c m e) one = took_back (object_named m) (k.awaits t) refl
       of_await d one = absurd (true_false (sym one))
 
       by_await : (b : Bool) → is_await c ≡ b → TellsAwaits false (answer_told k t c a)
@@ -277,7 +277,7 @@ module _ (k : Resources) (t : ℕ) where
       by_await false none = let same = answer_keeps c a on none in (ap (λ (w : ℕ → Bool). w t) same ∙ awaits_not c none fits, λ u apart. ap (λ (w : ℕ → Bool). w u) same)
 
   pub wait_awaits : (c : Call) → AwaitsBy c → TellsAwaits (is_await c) (wait_told k t c)
-  wait_awaits (call.CondAwait c m e) fits = gave_back (number m) (k.awaits t) refl
+  wait_awaits (call.CondAwait c m e) fits = gave_back (object_named m) (k.awaits t) refl
   wait_awaits c fits = (awaits_not c refl fits, λ u apart. refl)
 
   pub act_awaits : (x : Act) (a : Answer) → (act_told k t x a).awaits ≡ k.awaits

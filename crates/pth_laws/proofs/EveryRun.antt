@@ -32,7 +32,8 @@ use Rattle.pth_laws.specs.Orderly.{Orderly, key_at}
 use Rattle.pth_laws.specs.Exclusive.{Exclusive}
 use Rattle.pth_laws.specs.Initialised.{Initialised}
 use Rattle.pth_laws.specs.Tied.{IsTiedTo}
-use Rattle.pth_laws.specs.Valid.{Lives, IsValid, IsOver, is_awaiting}
+use Rattle.pth_laws.specs.Valid.{Lives, IsValid, IsOver}
+use Rattle.pth_model.specs.Awaits.{is_awaiting}
 use Rattle.pth_laws.proofs.Living.{true_false, made_more, both, not_true, runs_alive}
 use Rattle.pth_laws.proofs.Going.{Going, IsSound, going_sound}
 use Rattle.pth_laws.proofs.Locked.{Locked, has_some, locked_none, locked_along}

@@ -11,7 +11,6 @@ use Rattle.pth_base.specs.declared.call.Call.TheVariants as call
 use Rattle.pth_base.specs.declared.mark.Mark.{Mark}
 use Rattle.pth_base.specs.declared.mark.Mark.TheVariants as mark
 use Rattle.pth_base.proofs.Tables.{same_means}
-use Rattle.pth_numbered.specs.Operands.{number}
 use Rattle.pth_lock.specs.Objects.{object_named}
 use Rattle.pth_lock.specs.Mutexes.{levels_of}
 use Rattle.pth_lock.specs.RwLocks.{is_one}
@@ -69,7 +68,7 @@ module _ (b : Book) (locked : Locked b.resources) where
       let h2 = both (k.awaits t) (is_of t i u.0 m) h in
       let own : u.0 ≡ t = same_means u.0 t (both (is_same i m) (u.0 == t) h2.1).1 in
       let may = law (ap k.awaits own ∙ h2.0) in
-      at_mark (MayTake k) t i u.0 (number m) m may.0 h2.1 may.1
+      at_mark (MayTake k) t i u.0 (object_named m) m (is_mutex m may.initialised) h2.1 may
   taker t i (mark.Took u m) h law = at_mark (MayTake k) t i u.0 m (pos m) refl h law
   taker t i m h law = absurd (true_false (sym h))
 
@@ -80,7 +79,7 @@ module _ (b : Book) (locked : Locked b.resources) where
       let h2 = both (not (k.awaits t)) (is_of t i u.0 m) h in
       let own : u.0 ≡ t = same_means u.0 t (both (is_same i m) (u.0 == t) h2.1).1 in
       let has = law (ap k.awaits own ∙ not_true _ h2.0) in
-      at_mark (HasMutex k) t i u.0 (number m) m has.0 h2.1 has.1
+      at_mark (HasMutex k) t i u.0 (object_named m) m (is_mutex m (has_some u.0 (k.store.mutexes (object_named m)) has)) h2.1 has
   giver t i m h law = absurd (true_false (sym h))
 
   giver_up : (t : ℕ) (i : ℤ) (m : Mark) → gives_up t i m ≡ true → IsExclusiveMark b m → IsAt (HasMutex k) t i

@@ -8,7 +8,7 @@ use Rattle.pth_base.specs.declared.call.Call.{Call}
 use Rattle.pth_base.specs.declared.call.Call.TheVariants as call
 use Rattle.pth_base.specs.declared.mark.Mark.{Mark}
 use Rattle.pth_base.specs.declared.mark.Mark.TheVariants as mark
-use Rattle.pth_numbered.specs.Operands.{number, is_zero}
+use Rattle.pth_numbered.specs.Operands.{is_zero}
 use Rattle.pth_lock.specs.Objects.{object_limit, object_named}
 use Rattle.pth_lock.specs.Mutexes.{has, is_anothers}
 use Rattle.pth_lock.specs.RwLocks.{holds, may_enter}
@@ -95,10 +95,6 @@ module _ (k : Resources) where
     pub mutexes : (m : ℕ) → has t (k.store.mutexes m) ≡ false
     pub locks : (l : ℕ) → holds k.store.rw_locks t l ≡ false
 
--- an operand is one of the numbers from 0 on
-abbrev pub IsFromZero : ℤ → Type 0
-IsFromZero m = m ≡ pos (number m)
-
 -- a number is that of a key
 abbrev pub IsKey : ℤ → Type 0
 IsKey n = (i : ℕ) × (n ≡ pos i) × (i < key_limit)
@@ -112,7 +108,7 @@ IsAnswerExclusive k t (call.RwInit l) (Int n) = (n ≡ pos 1) × IsNewLock k (ob
 IsAnswerExclusive k t (call.RwAcquire l write v e) (Int n) = (n ≡ pos 1) × MayEnter k t (object_named l) write
 IsAnswerExclusive k t (call.RwRelease l) (Int n) = (n ≡ pos 1) × HoldsLock k t (object_named l)
 -- a cond_await takes its mutex back with its answer, unless it has it again already
-IsAnswerExclusive k t (call.CondAwait c m e) a = k.awaits t ≡ true → IsFromZero m × MayTake k t (number m)
+IsAnswerExclusive k t (call.CondAwait c m e) a = k.awaits t ≡ true → MayTake k t (object_named m)
 IsAnswerExclusive k t (call.KeyCreate h) (Int n) = IsKey n
 IsAnswerExclusive k t c a = Unit {0}
 
@@ -120,7 +116,7 @@ abbrev pub IsExclusiveMark : Book → Mark → Type 0
 IsExclusiveMark b (mark.Answered t c a) = IsAnswerExclusive b.resources t.0 c a
 IsExclusiveMark b (mark.Acted t (act.Release m) a) = IsAnswerExclusive b.resources t.0 (call.MutexRelease m) a
 -- a cond_await that begins to await gives a level back
-IsExclusiveMark b (mark.Waits t (call.CondAwait c m e)) = b.resources.awaits t.0 ≡ false → IsFromZero m × HasMutex b.resources t.0 (number m)
+IsExclusiveMark b (mark.Waits t (call.CondAwait c m e)) = b.resources.awaits t.0 ≡ false → HasMutex b.resources t.0 (object_named m)
 IsExclusiveMark b (mark.Took t m) = MayTake b.resources t.0 m
 IsExclusiveMark b (mark.GaveMutex t m) = HasMutex b.resources t.0 m
 IsExclusiveMark b (mark.GaveLock t l) = HoldsLock b.resources t.0 l

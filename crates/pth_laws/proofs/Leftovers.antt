@@ -18,7 +18,6 @@ use Rattle.pth_model.specs.Resources.{Resources, Store, HasNothing, told, answer
 use Rattle.pth_lock.specs.Objects.{object_named}
 use Rattle.pth_lock.specs.Mutexes.{MutexTable}
 use Rattle.pth_lock.specs.RwLocks.{LockTables}
-use Rattle.pth_numbered.specs.Operands.{number}
 use Rattle.pth_model.proofs.Nothing.{NoMutex, NoLock, no_mutex_initialised, no_mutex_taken, no_mutex_released, no_mutex_left, no_mutex_only, no_mutex_more, no_lock_initialised, no_lock_taken, no_lock_released, no_lock_left, no_lock_only, no_lock_more}
 use Rattle.pth_laws.proofs.Book.{Book, is_kill, after, book_of}
 use Rattle.pth_laws.proofs.Laws.{EachMark, HasNotEnded, IsLawful}
@@ -91,7 +90,7 @@ module _ (t : ℕ) where
   answer_nothing k u (call.RwInit l) a apart none = on_int_nothing a k _ none (λ n. other_locks k.store _ none (no_lock_initialised t k.store.rw_locks (object_named l) none.locks))
   answer_nothing k u (call.RwAcquire l write v e) a apart none = on_int_nothing a k _ none (λ n. other_locks k.store _ none (no_lock_taken t k.store.rw_locks u write (object_named l) apart none.locks))
   answer_nothing k u (call.RwRelease l) a apart none = on_int_nothing a k _ none (λ n. other_locks k.store _ none (no_lock_released t k.store.rw_locks u (object_named l) none.locks))
-  answer_nothing k u (call.CondAwait c m e) a apart none = test_nothing (k.awaits u) _ k (other_mutexes k.store _ none (no_mutex_taken t u (number m) k.store.mutexes apart none.mutexes)) none
+  answer_nothing k u (call.CondAwait c m e) a apart none = test_nothing (k.awaits u) _ k (other_mutexes k.store _ none (no_mutex_taken t u (object_named m) k.store.mutexes apart none.mutexes)) none
   answer_nothing k u (call.PortCreate name) a apart none = on_int_nothing a k _ none (λ n. none)
   answer_nothing k u (call.PortPut p v r) a apart none = on_int_nothing a k _ none (λ n. none)
   answer_nothing k u (call.PortGet p) a apart none = on_msg_nothing a k _ none none
@@ -108,7 +107,7 @@ module _ (t : ℕ) where
   act_nothing k u x a apart none = none
 
   wait_nothing : (k : Resources) (u : ℕ) (c : Call) → t ≢ u → Nothing k → Nothing (wait_told k u c)
-  wait_nothing k u (call.CondAwait c m e) apart none = test_nothing (k.awaits u) k _ none (other_mutexes k.store _ none (no_mutex_released t u (number m) k.store.mutexes apart none.mutexes))
+  wait_nothing k u (call.CondAwait c m e) apart none = test_nothing (k.awaits u) k _ none (other_mutexes k.store _ none (no_mutex_released t u (object_named m) k.store.mutexes apart none.mutexes))
   wait_nothing k u c apart none = none
 
   -- any mark of another thread, and the end of this one

@@ -9,7 +9,6 @@ use Rattle.pth_base.specs.declared.call.Call.TheVariants as call
 use Rattle.pth_base.specs.declared.mark.Mark.{Mark}
 use Rattle.pth_base.specs.declared.mark.Mark.TheVariants as mark
 use Rattle.pth_base.proofs.Tables.{put_by}
-use Rattle.pth_numbered.specs.Operands.{number}
 use Rattle.pth_lock.specs.Objects.{object_limit, object_named}
 use Rattle.pth_lock.specs.Mutexes.{Mutex, MutexTable, free_mutex, has, is_anothers, mutexes_left}
 use Rattle.pth_lock.specs.RwLocks.{LockTables, holds, is_one, lock_initialised, lock_released, lock_taken, locks_left}
@@ -152,7 +151,7 @@ module _ (k : Resources) (locked : Locked k) where
   answer_locked t (call.RwAcquire l write v e) a law = locked
   answer_locked t (call.RwRelease l) (answer.Int n) law = less x y locked (lock_released t (object_named l) y) refl (λ i u. out_released u y i t (object_named l))
   answer_locked t (call.RwRelease l) a law = locked
-  answer_locked t (call.CondAwait c m e) a law = took_back t (number m) (k.awaits t) refl (λ on. (law on).1)
+  answer_locked t (call.CondAwait c m e) a law = took_back t (object_named m) (k.awaits t) refl law
   answer_locked t (call.PortCreate name) a law = locked_int a _ (λ n. locked)
   answer_locked t (call.PortPut p v r) a law = locked_int a _ (λ n. locked)
   answer_locked t (call.PortGet p) a law = locked_msg a _ locked
@@ -168,7 +167,7 @@ locked_after b (mark.Answered t c a) law locked = answer_locked b.resources lock
 locked_after b (mark.Acted t (act.Release m) a) law locked = answer_locked b.resources locked t.0 (call.MutexRelease m) a law
 locked_after b (mark.Acted t (act.Put p v) a) law locked = answer_locked b.resources locked t.0 (call.PortPut p v (pos 0)) a tt
 locked_after b (mark.Acted t (act.SetKey key v) a) law locked = answer_locked b.resources locked t.0 (call.KeySet key v) a tt
-locked_after b (mark.Waits t (call.CondAwait c m e)) law locked = gave_back b.resources locked t.0 (number m) (b.resources.awaits t.0) refl (λ on. (law on).1)
+locked_after b (mark.Waits t (call.CondAwait c m e)) law locked = gave_back b.resources locked t.0 (object_named m) (b.resources.awaits t.0) refl law
 locked_after b (mark.Took t m) law locked = locked_at b.resources.store.mutexes b.resources.store.rw_locks locked m _ law.initialised
 locked_after b (mark.GaveMutex t m) law locked = locked_at b.resources.store.mutexes b.resources.store.rw_locks locked m _ (has_some t.0 (b.resources.store.mutexes m) law)
 locked_after b (mark.GaveLock t l) law locked = less b.resources.store.mutexes b.resources.store.rw_locks locked (lock_released t.0 l b.resources.store.rw_locks) refl (λ i u. out_released u b.resources.store.rw_locks i t.0 l)

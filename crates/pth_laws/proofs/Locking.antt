@@ -31,7 +31,7 @@ use Rattle.pth_model.specs.Verdict.{refused, says, done, by_result, taken_or, â—
 use Rattle.pth_laws.proofs.Book.{Book}
 use Rattle.pth_laws.proofs.Laws.{IsAnswerExclusive, IsExclusiveMark}
 use Rattle.pth_laws.proofs.Living.{true_false, both, not_true}
-use Rattle.pth_laws.specs.Valid.{is_await}
+use Rattle.pth_model.specs.Awaits.{is_await}
 
 -- calls on mutexes and locks, and the one that makes keys
 abbrev pub is_locking : Call â†’ Bool

@@ -1,12 +1,12 @@
 -- A call that is refused as it begins changes nothing.
 use Rattle.std.proofs.Common.{◌≡◌, ℕ, Bool, false, if◌then◌else◌, [], ◌∷◌, refl, ap}
+use Rattle.pth_lock.specs.Objects.{object_named}
 use Rattle.pth_base.specs.Program.{Functions}
 use Rattle.pth_base.specs.declared.answer.Answer.TheVariants as answer
 use Rattle.pth_base.specs.declared.call.Call.{Call}
 use Rattle.pth_base.specs.declared.call.Call.TheVariants as call
 use Rattle.pth_base.specs.declared.errno.Errno.{Errno}
 use Rattle.pth_base.specs.declared.mark.Mark.TheVariants as mark
-use Rattle.pth_numbered.specs.Operands.{number}
 use Rattle.pth_model.specs.declared.next.Next.TheVariants as next
 use Rattle.pth_model.specs.Resources.{Resources, told, answer_told, retaken}
 use Rattle.pth_model.specs.State.{State}
@@ -22,7 +22,7 @@ use Rattle.pth_laws.specs.Refusals.{IsRefusal}
 -- an error tells nothing of what threads have
 fails_untold : (k : Resources) (t : ℕ) (c : Call) (e : Errno) → k.awaits t ≡ false → answer_told k t c (answer.Fail e) ≡ k
 unfolding answer_told
-fails_untold k t (call.CondAwait c m x) e awaits = ap (λ (b : Bool). if b then retaken k t (number m) else k) awaits
+fails_untold k t (call.CondAwait c m x) e awaits = ap (λ (b : Bool). if b then retaken k t (object_named m) else k) awaits
 fails_untold k t c e awaits = refl
 
 said_fails : (x e : Errno) → Says (answer.Fail x) ≡ refused e → x ≡ e

@@ -12,13 +12,12 @@ use Rattle.pth_base.specs.declared.ids.Tid.{Tid}
 use Rattle.pth_base.specs.declared.mark.Mark.{Mark}
 use Rattle.pth_base.specs.declared.mark.Mark.TheVariants as mark
 use Rattle.pth_base.proofs.Tables.{same_means, same_fails, not_same, put_by}
-use Rattle.pth_numbered.specs.Operands.{number}
 use Rattle.pth_lock.specs.Objects.{object_named}
 use Rattle.pth_lock.specs.Mutexes.{Mutex, MutexTable, free_mutex, has, is_anothers, levels_of, mutex_with, mutexes_left}
 use Rattle.pth_lock.specs.RwLocks.{LockTables, holds, is_one, is_written, is_read, may_enter, lock_initialised, lock_released, lock_taken, locks_left, without_slot, readers_without}
 use Rattle.pth_model.specs.Resources.{Resources, on_one, on_int, on_msg, told, act_told, answer_told, retaken, let_go}
 use Rattle.pth_laws.proofs.Book.{Book, is_kill}
-use Rattle.pth_laws.proofs.Laws.{IsFromZero, IsAnswerExclusive, IsExclusiveMark, MayTake, MayEnter, HasMutex}
+use Rattle.pth_laws.proofs.Laws.{IsAnswerExclusive, IsExclusiveMark, MayTake, MayEnter, HasMutex}
 use Rattle.pth_laws.specs.Marks.{is_same}
 use Rattle.pth_laws.specs.Exclusive.{Share, levels_after, awaits_after, held_after}
 use Rattle.pth_laws.specs.Initialised.{initialises_mutex, initialises_lock}
@@ -288,12 +287,17 @@ module _ (k : Resources) where
         by_test true same = sym is ∙ ap k.awaits (same_means u t same)
         by_test false other = refl
 
-    answers_await : (u : Tid) (c m e : ℤ) (a : Answer) (b : Bool) → k.awaits u.0 ≡ b → (k.awaits u.0 ≡ true → IsFromZero m × MayTake k u.0 (number m)) → Step (if b then retaken k u.0 (number m) else k) (mark.Answered u (call.CondAwait c m e) a)
-    answers_await u c m e a true is law = subst (λ (z : ℤ). Step (retaken k u.0 (number m)) (mark.Answered u (call.CondAwait c z e) a)) (sym (law is).0) (
-      taken_so u.0 (number m) (put k.awaits u.0 false) (mark.Answered u (call.CondAwait c (pos (number m)) e) a) (law is).1
-          (λ t i. ap (λ (b : Bool). if b then levels_of t (mutexes i) + 1 else levels_of t (mutexes i)) (flag_of k.awaits u.0 t i (number m) true is)) (λ t. flag_set k.awaits u.0 t false) (λ i. refl),
-      locks_still (mark.Answered u (call.CondAwait c (pos (number m)) e) a) (λ t l w b. refl) (λ l. refl),
+    -- an operand that names nothing would be initialised
+    no_mutex : (o : ℕ) → is_some (mutexes (object_named (negsuc o))) ≡ true → ⊥
+    no_mutex o some = let below = locked.mutexes (object_named (negsuc o)) some in absurd (omega (arith, below))
+
+    answers_await : (u : Tid) (c m e : ℤ) (a : Answer) (b : Bool) → k.awaits u.0 ≡ b → (k.awaits u.0 ≡ true → MayTake k u.0 (object_named m)) → Step (if b then retaken k u.0 (object_named m) else k) (mark.Answered u (call.CondAwait c m e) a)
+    answers_await u c (pos o) e a true is law = (
+      taken_so u.0 o (put k.awaits u.0 false) (mark.Answered u (call.CondAwait c (pos o) e) a) (law is)
+          (λ t i. ap (λ (b : Bool). if b then levels_of t (mutexes i) + 1 else levels_of t (mutexes i)) (flag_of k.awaits u.0 t i o true is)) (λ t. flag_set k.awaits u.0 t false) (λ i. refl),
+      locks_still (mark.Answered u (call.CondAwait c (pos o) e) a) (λ t l w b. refl) (λ l. refl),
     )
+    answers_await u c (negsuc o) e a true is law = absurd (no_mutex o (law is).initialised)
     answers_await u c m e a false is law = (
       record {
         levels = λ t i. ap (λ (b : Bool). if b then levels_of t (mutexes i) + 1 else levels_of t (mutexes i)) (no_flag k.awaits u.0 t (is_same (pos i) m) is);
@@ -304,7 +308,7 @@ module _ (k : Resources) where
       locks_still (mark.Answered u (call.CondAwait c m e) a) (λ t l w b. refl) (λ l. refl),
     )
 
-    waits_await : (u : Tid) (c m e : ℤ) (b : Bool) → k.awaits u.0 ≡ b → (k.awaits u.0 ≡ false → IsFromZero m × HasMutex k u.0 (number m)) → Step (if b then k else let_go k u.0 (number m)) (mark.Waits u (call.CondAwait c m e))
+    waits_await : (u : Tid) (c m e : ℤ) (b : Bool) → k.awaits u.0 ≡ b → (k.awaits u.0 ≡ false → HasMutex k u.0 (object_named m)) → Step (if b then k else let_go k u.0 (object_named m)) (mark.Waits u (call.CondAwait c m e))
     waits_await u c m e true is law = (
       record {
         levels = λ t i. ap (λ (b : Bool). if b then levels_of t (mutexes i) - 1 else levels_of t (mutexes i)) (no_flag (λ v. not (k.awaits v)) u.0 t (is_same (pos i) m) (ap not is));
@@ -314,11 +318,12 @@ module _ (k : Resources) where
       },
       locks_still (mark.Waits u (call.CondAwait c m e)) (λ t l w b. refl) (λ l. refl),
     )
-    waits_await u c m e false is law = subst (λ (z : ℤ). Step (let_go k u.0 (number m)) (mark.Waits u (call.CondAwait c z e))) (sym (law is).0) (
-      released_so u.0 (number m) (put k.awaits u.0 true) (mark.Waits u (call.CondAwait c (pos (number m)) e)) (law is).1
-          (λ t i. ap (λ (b : Bool). if b then levels_of t (mutexes i) - 1 else levels_of t (mutexes i)) (flag_of (λ v. not (k.awaits v)) u.0 t i (number m) true (ap not is))) (λ t. flag_set k.awaits u.0 t true) (λ i. refl),
-      locks_still (mark.Waits u (call.CondAwait c (pos (number m)) e)) (λ t l w b. refl) (λ l. refl),
+    waits_await u c (pos o) e false is law = (
+      released_so u.0 o (put k.awaits u.0 true) (mark.Waits u (call.CondAwait c (pos o) e)) (law is)
+          (λ t i. ap (λ (b : Bool). if b then levels_of t (mutexes i) - 1 else levels_of t (mutexes i)) (flag_of (λ v. not (k.awaits v)) u.0 t i o true (ap not is))) (λ t. flag_set k.awaits u.0 t true) (λ i. refl),
+      locks_still (mark.Waits u (call.CondAwait c (pos o) e)) (λ t l w b. refl) (λ l. refl),
     )
+    waits_await u c (negsuc o) e false is law = absurd (no_mutex o (has_some u.0 (mutexes (object_named (negsuc o))) (law is)))
 
     -- u ends, and has nothing
     ends_mutexes : (u : Tid) (v : ℤ) → ((i : ℕ) → has u.0 (mutexes i) ≡ false) → MutexStep (mutexes_left u.0 mutexes) (put k.awaits u.0 false) (mark.Ended u v)
@@ -389,9 +394,6 @@ module _ (k : Resources) where
     -- ---- any mark
 
     -- an operand that names nothing would be initialised
-    no_mutex : (o : ℕ) → is_some (mutexes (object_named (negsuc o))) ≡ true → ⊥
-    no_mutex o some = let below = locked.mutexes (object_named (negsuc o)) some in absurd (omega (arith, below))
-
     no_lock : (o : ℕ) → locks.initialised (object_named (negsuc o)) ≡ true → ⊥
     no_lock o some = let below = locked.locks (object_named (negsuc o)) some in absurd (omega (arith, below))
 

@@ -33,7 +33,7 @@ use Rattle.pth_model.specs.Resources.{Resources, told, answer_told, wait_told, h
 use Rattle.pth_model.specs.declared.verdict.Verdict.{Verdict}
 use Rattle.pth_model.specs.declared.verdict.Verdict.TheVariants.{Says, Yields, Blocks, Ends, Kills}
 use Rattle.pth_model.specs.Verdict.{refused, says, ◌when◌otherwise◌}
-use Rattle.pth_model.specs.Awaits.{round_in}
+use Rattle.pth_model.specs.Awaits.{round_in, is_await, is_awaiting}
 use Rattle.pth_model.specs.Barriers.{tries_round}
 use Rattle.pth_model.specs.State.{State, Control, main, once_limit}
 use Rattle.pth_model.specs.Transition.{Piece, Change, changes, tells, tid, controlled, silent, nothing, where_so, ◌and◌, ◌and_then◌}
@@ -61,7 +61,6 @@ use Rattle.pth_laws.proofs.Laws.{EachMark, IsPopOrderly, IsAnswerExclusive}
 use Rattle.pth_laws.specs.Orderly.{RanLast}
 use Rattle.pth_laws.proofs.Living.{Living, true_false, request_state, living-up, living-made}
 use Rattle.pth_laws.proofs.Going.{IsGoing, Going, going_alive, going_set, going_removed, known_lives, set_lives}
-use Rattle.pth_laws.specs.Valid.{is_await, is_awaiting}
 use Rattle.pth_laws.proofs.Awaits.{HasAwaits, kills, awaits_as, awaits_none, awaits_set, awaits_removed, awaits_go, awaits_begun, awaits_block, awaits_stop, answer_awaits, wait_awaits, refusal_awaits}
 use Rattle.pth_laws.proofs.Locking.{IsVerdictExclusive, wait_exclusive, begins_exclusive, again_exclusive}
 use Rattle.pth_laws.proofs.Claims.{HasClaims, Holding, holding_kept, claims_go, claims_set, claims_removed, claims_block, claims_wait_on, claims_stop}

@@ -11,7 +11,6 @@ use Rattle.pth_base.specs.declared.mark.Mark.{Mark}
 use Rattle.pth_base.specs.declared.mark.Mark.TheVariants as mark
 use Rattle.pth_base.proofs.Tables.{put_by, not_same}
 use Rattle.pth_cond.specs.Barriers.{barrier_reached}
-use Rattle.pth_numbered.specs.Operands.{number}
 use Rattle.pth_lock.specs.Objects.{object_named}
 use Rattle.pth_lock.specs.Mutexes.{Mutex, MutexTable, free_mutex, owner_of, mutex_with, levels_of, has, is_anothers}
 use Rattle.pth_lock.specs.RwLocks.{LockTables, holds, is_one, lock_initialised, lock_released, lock_taken}
@@ -154,7 +153,7 @@ module _ (u : ℕ) (k : Resources) where
   answer_stays t (call.RwAcquire l write v e) (answer.Int n) other = stays_taken u k.store.mutexes k.store.rw_locks t write (object_named l) other
   answer_stays t (call.RwAcquire l write v e) a other = stays_same
   answer_stays t (call.RwRelease l) a other = stays_int a _ (λ n. stays_released u k.store.mutexes k.store.rw_locks t (object_named l))
-  answer_stays t (call.CondAwait c m e) a other = took_back t (number m) (k.awaits t)
+  answer_stays t (call.CondAwait c m e) a other = took_back t (object_named m) (k.awaits t)
   answer_stays t (call.PortCreate name) a other = stays_int a _ (λ n. stays_same)
   answer_stays t (call.PortPut p v r) a other = stays_int a _ (λ n. stays_same)
   answer_stays t (call.PortGet p) a other = stays_msg a _ stays_same
@@ -169,7 +168,7 @@ module _ (u : ℕ) (k : Resources) where
   told_stays (mark.Acted t (act.Release m) a) other = answer_stays t.0 (call.MutexRelease m) a tt
   told_stays (mark.Acted t (act.Put p v) a) other = answer_stays t.0 (call.PortPut p v (pos 0)) a tt
   told_stays (mark.Acted t (act.SetKey key v) a) other = answer_stays t.0 (call.KeySet key v) a tt
-  told_stays (mark.Waits t (call.CondAwait c m e)) other = gave_back t.0 (number m) (k.awaits t.0)
+  told_stays (mark.Waits t (call.CondAwait c m e)) other = gave_back t.0 (object_named m) (k.awaits t.0)
   told_stays (mark.Took t m) other = stays_at m t.0 (levels_of t.0 (k.store.mutexes m) + 1)
   told_stays (mark.GaveMutex t m) other = stays_put u k.store.mutexes k.store.rw_locks m free_mutex refl
   told_stays (mark.GaveLock t l) other = stays_released u k.store.mutexes k.store.rw_locks t.0 l

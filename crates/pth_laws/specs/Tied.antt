@@ -12,7 +12,8 @@ use Rattle.pth_model.specs.Living.{lives, is_made}
 use Rattle.pth_laws.specs.Marks.{at_number, thread_of, is_end_of, is_cancellation_of, block_at_end}
 use Rattle.pth_laws.specs.Orderly.{pending_handlers, key_at, value_of}
 use Rattle.pth_laws.specs.Exclusive.{awaits, levels, reads, writes, is_holder}
-use Rattle.pth_laws.specs.Valid.{Lives, is_awaiting}
+use Rattle.pth_laws.specs.Valid.{Lives}
+use Rattle.pth_model.specs.Awaits.{is_awaiting}
 
 pub record IsTiedTo {P S H : Type 0} (s : State P S H) (marks : List Mark) : Type 0 where
   -- a thread that was not made has no mark

@@ -1,24 +1,13 @@
 -- What holds of each state of a run, unless a pth_kill ended it.
-use Rattle.std.specs.Prelude.{◌≡◌, ◌⊎◌, ℕ, Bool, true, false, All, Option, Some, None, is_some}
-use Rattle.pth_base.specs.declared.call.Call.{Call}
-use Rattle.pth_base.specs.declared.call.Call.TheVariants as call
+use Rattle.std.specs.Prelude.{◌≡◌, ◌⊎◌, ℕ, true, false, All, Some, None, is_some}
 use Rattle.pth_queue.specs.declared.queue.Queue.{Queue}
 use Rattle.pth_queue.specs.declared.queue.Queue.TheVariants.{Dead}
+use Rattle.pth_model.specs.Awaits.{is_awaiting}
 use Rattle.pth_model.specs.Resources.{HasNothing}
 use Rattle.pth_model.specs.Standing.{is_queue}
 use Rattle.pth_model.specs.State.{State, Turn, queue}
-use Rattle.pth_model.specs.declared.blocked.Blocked.{Blocked}
 use Rattle.pth_model.specs.Changes.{holders, blocked_of}
 use Rattle.pth_model.specs.Living.{lives, is_made}
-
--- whether a call waits at a condition (pth_cond_await)
-abbrev pub is_await : Call → Bool
-is_await (call.CondAwait c m e) = true
-is_await c = false
-
-abbrev pub is_awaiting : Option Blocked → Bool
-is_awaiting None = false
-is_awaiting (Some b) = is_await b.call
 
 module _ {P S H : Type 0} (s : State P S H) where
   abbrev pub Lives : ℕ → Type 0

@@ -1,5 +1,7 @@
 -- What a blocked call waits for, and what its wait holds: a moment, the bytes that it wrote so far, the round of a barrier.
-use Rattle.std.specs.Prelude.{◌≡◌, ℕ, ℤ, Option, Some, None, if◌then◌else◌}
+use Rattle.std.specs.Prelude.{◌≡◌, ℕ, ℤ, Bool, true, false, Option, Some, None, if◌then◌else◌}
+use Rattle.pth_base.specs.declared.call.Call.{Call}
+use Rattle.pth_base.specs.declared.call.Call.TheVariants as call
 use Rattle.pth_numbered.specs.Operands.{is_zero}
 use Rattle.pth_model.specs.declared.awaits.Awaits.{Awaits}
 use Rattle.pth_model.specs.declared.awaits.Awaits.TheVariants.{Nothing, Death, AnyDeath, Moment, Writing, Selection, Round}
@@ -28,6 +30,15 @@ round_in a = 0
 -- a round of this barrier is waited for
 abbrev pub IsRound : ℤ → Awaits → Type 0
 IsRound b a = a ≡ Round b (round_in a)
+
+-- a call waits at a condition (pth_cond_await)
+abbrev pub is_await : Call → Bool
+is_await (call.CondAwait c m e) = true
+is_await c = false
+
+abbrev pub is_awaiting : Option Blocked → Bool
+is_awaiting None = false
+is_awaiting (Some b) = is_await b.call
 
 -- what the blocked call waits for: if no call blocks, nothing
 abbrev pub awaits_in : Option Blocked → Awaits

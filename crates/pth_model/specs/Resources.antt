@@ -241,7 +241,7 @@ answer_told k t (call.RwInit l) a = on_int a k (λ n. locks_become k (lock_initi
 answer_told k t (call.RwAcquire l write v e) a = on_int a k (λ n. locks_become k (lock_taken t write (object_named l)))
 answer_told k t (call.RwRelease l) a = on_int a k (λ n. locks_become k (lock_released t (object_named l)))
 -- whatever the answer is, once it awaits
-answer_told k t (call.CondAwait c m e) a = if k.awaits t then retaken k t (number m) else k
+answer_told k t (call.CondAwait c m e) a = if k.awaits t then retaken k t (object_named m) else k
 answer_told k t (call.PortCreate name) a = on_int a k (λ p. mail_becomes k (with_port (number p)))
 answer_told k t (call.PortPut p v r) a = on_int a k (λ n. mail_becomes k (put_to (number p) v (number r)))
 answer_told k t (call.PortGet p) a = on_msg a k (mail_becomes k (got (number p) (messages_of (k.mail.at (number p)))))
@@ -319,7 +319,7 @@ act_told k t (act.Set n v) a = k
 
 -- a call blocks t, or blocks it again: a cond_await gives its mutex back the first time
 abbrev pub wait_told : Resources → ℕ → Call → Resources
-wait_told k t (call.CondAwait c m e) = if k.awaits t then k else let_go k t (number m)
+wait_told k t (call.CondAwait c m e) = if k.awaits t then k else let_go k t (object_named m)
 wait_told k t c = k
 
 -- t has ended: no cleanup, no value, no mutex and no lock is left, and it awaits nothing

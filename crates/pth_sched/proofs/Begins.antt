@@ -1,11 +1,11 @@
 -- Which calls never block their thread.
-use Rattle.std.proofs.Common.{◌≡◌, ◌≢◌, ℕ, ℤ, true, None, refl, arith}
+use Rattle.std.proofs.Common.{◌≡◌, ◌≢◌, ℕ, ℤ, true, None, refl, arith, false}
 use Rattle.pth_base.specs.declared.call.Call.{Call}
 use Rattle.pth_base.specs.declared.call.Call.TheVariants as call
 use Rattle.pth_calls.specs.Plain.{is_plain}
 use Rattle.pth_model.specs.declared.awaits.Awaits.{Awaits}
 use Rattle.pth_model.specs.declared.awaits.Awaits.TheVariants.{Alone, Lock, Moment, Mutex, Ring, Round}
-use Rattle.pth_model.specs.Awaits.{death_of}
+use Rattle.pth_model.specs.Awaits.{death_of, is_await}
 use Rattle.pth_model.specs.State.{State, main}
 use Rattle.pth_world.specs.Whole.{MayAwaitAs}
 use Rattle.pth_waits.specs.Io.{first_awaited}
@@ -23,6 +23,7 @@ is_plain_call s (call.Sleep n) never no_kill no_yield no_plain no_note no_pop no
 is_plain_call s (call.Wait e) never no_kill no_yield no_plain no_note no_pop no_once no_cancel no_abort no_point = absurd (never.away 0 (Ring e) refl)
 is_plain_call s (call.MutexAcquire m v e) never no_kill no_yield no_plain no_note no_pop no_once no_cancel no_abort no_point = absurd (never.away 0 (Mutex m) refl)
 is_plain_call s (call.RwAcquire l write v e) never no_kill no_yield no_plain no_note no_pop no_once no_cancel no_abort no_point = absurd (never.away 0 (Lock l write) refl)
+is_plain_call s (call.CondAwait x m e) never no_kill no_yield no_plain no_note no_pop no_once no_cancel no_abort no_point = absurd (cc never.unawaited)
 is_plain_call s (call.BarrierReach b) never no_kill no_yield no_plain no_note no_pop no_once no_cancel no_abort no_point = absurd (never.away 0 (Round b 0) refl)
 is_plain_call s (call.Read g n) never no_kill no_yield no_plain no_note no_pop no_once no_cancel no_abort no_point = absurd (cc (never.elsewhere s))
 is_plain_call s (call.ReadEv g n e) never no_kill no_yield no_plain no_note no_pop no_once no_cancel no_abort no_point = absurd (cc (never.elsewhere s))
@@ -81,5 +82,9 @@ mild_elsewhere (call.Select r w x l) mild s = absurd (cc mild)
 mild_elsewhere (call.SelectEv r w x l e) mild s = absurd (cc mild)
 mild_elsewhere c mild s = refl
 
+mild_unawaited : (c : Call) → is_mild c ≡ true → is_await c ≡ false
+mild_unawaited (call.CondAwait x m e) mild = absurd (cc mild)
+mild_unawaited c mild = refl
+
 pub mild_never : {P S H : Type 0} (c : Call) → is_mild c ≡ true → NeverBlocks P S H c
-mild_never c mild = record { away = mild_away c mild; elsewhere = mild_elsewhere c mild }
+mild_never c mild = record { away = mild_away c mild; elsewhere = mild_elsewhere c mild; unawaited = mild_unawaited c mild }

@@ -1,5 +1,6 @@
 -- Steps that are mild leave a world calm.
 use Rattle.std.proofs.Common.{◌≡◌, ◌∙◌, ℕ, ◌<◌, ◌||◌, ◌&&◌, is_some, Bool, true, false, if◌then◌else◌, List, Option, Some, None, IsSome, IfSome, refl, sym, ap, subst, arith, ◌⊎◌, inl, inr}
+use Rattle.pth_model.specs.Awaits.{is_awaiting}
 use Rattle.pth_base.specs.Program.{Functions}
 use Rattle.pth_base.specs.declared.call.Call.{Call}
 use Rattle.pth_base.specs.declared.mark.Mark.{Mark}
@@ -13,7 +14,7 @@ use Rattle.pth_model.specs.Transition.{Went, controlled}
 use Rattle.pth_model.specs.Calls.{begun, gone_on}
 use Rattle.pth_model.specs.Changes.{blocked_in, blocked_of}
 use Rattle.pth_model.specs.Part.{owes_after, step_of, stepping, steps_by, steps_from, steps_on}
-use Rattle.pth_world.specs.Leading.{Leads}
+use Rattle.pth_world.specs.Leading.{Leads, StandsRightly, StandsWhere}
 use Rattle.pth_world.specs.Shows.{Shows, StandsFor}
 use Rattle.pth_world.specs.Sound.{IsKnown}
 use Rattle.pth_world.specs.Whole.{MayBlock, Whole, view}
@@ -24,7 +25,7 @@ use Rattle.pth_world.proofs.Telling.{has_still}
 use Rattle.pth_sched.specs.Calm.{IsCalmUntil, Calms}
 use Rattle.pth_sched.specs.Mild.{is_mild, is_patient, is_waiting, waits_mildly}
 use Rattle.pth_sched.proofs.Calming.{IsMild, mild_then}
-use Rattle.pth_sched.proofs.CalmWorlds.{mild_calms}
+use Rattle.pth_sched.proofs.CalmWorlds.{calm_rightly, mild_calms}
 use Rattle.pth_sched.proofs.Mildness.{begins_mild, is_mild_begun, owes_mild, goes_on_mild, stepping_mild}
 
 both : (a b : Bool) → (a && b) ≡ true → (a ≡ true) × (b ≡ true)
@@ -48,7 +49,10 @@ module _ {P S H : Type 0} where
   calms_by w true was until is calm some = subst (IsCalmUntil w) (sym is) (calm refl (subst (λ (n : ℕ). 0 < n) is some))
   calms_by w false was until is calm some = absurd (omega (arith, is))
 
-  module _ (f : P → Functions S H) (w v : WorldOf P S H) (until t : ℕ) (calm : IsCalmUntil w until) (runs : w.scheduler.running ≡ Some t) where
+  module _ (f : P → Functions S H) (w v : WorldOf P S H) (until t : ℕ) (known : IsCalmUntil w until) (runs : w.scheduler.running ≡ Some t) where
+    abbrev calm : IsCalmUntil w until
+    calm = calm_rightly w until known
+
     abbrev s : State P S H
     s = calm.state
 
@@ -60,14 +64,14 @@ module _ {P S H : Type 0} where
     ]
 
     module _ (u : WorldOf P S H) (call : Call) (n : Next) (old new : List Mark) (stored : u.store ≡ w.store)
-        (next : (r : State P S H) → StandsFor u r → n ≡ (begun f t call r).next) (leads : (r : State P S H) → StandsFor u r → Leads v old new (begun f t call r).told)
-        (test : (is_mild call || (waits_mildly (kernel_of u.kernel) call && is_waiting n)) ≡ true) where
+        (next : (r : State P S H) → StandsWhere u t false r → n ≡ (begun f t call r).next) (leads : (r : State P S H) → StandsWhere u t false r → Leads v old new (begun f t call r).told)
+        (free : (k : Control P S H) → Shows w k → blocked_of k t ≡ None) (test : (is_mild call || (waits_mildly (kernel_of u.kernel) call && is_waiting n)) ≡ true) where
       begun_from : (o : Option (Progress S)) → IsSome o → IfSome o (λ p. Shows u (stepping t (step_of f s.control p) s.control)) → IsCalmUntil v until
       begun_from None some shows = absurd (cc some)
       begun_from (Some p) some shows =
           let x = step_of f s.control p in
           let r = controlled (stepping t x) s in
-          let stands : StandsFor u r = record { control = shows; resources = has_still w u s stored calm.stands.resources } in
+          let stands : StandsWhere u t false r = (record { control = shows; store = has_still w u s stored calm.stands.store }, ap is_awaiting (free s.control calm.stands.control)) in
           let tested = subst (λ (k : Kernel). (is_mild call || (waits_mildly k call && is_waiting n)) ≡ true) (sym shows.kernel) test in
           mild_calms w until calm v t (begun f t call r).told.state runs (leads r stands).stands (mild_then t s r _ (stepping_mild t x s) (begun_by_test r call n (next r stands) tested))
 
@@ -76,7 +80,7 @@ module _ {P S H : Type 0} where
 
     -- a call is tried again
     module _ (whole : Whole w) (patient : Bool) (n : Next) (old new : List Mark) (is : (k : Control P S H) → Shows w k → patient ≡ is_patient (kernel_of w.kernel) (blocked_of k t))
-        (next : (r : State P S H) → StandsFor w r → n ≡ (gone_on f t r).next) (leads : (r : State P S H) → StandsFor w r → Leads v old new (gone_on f t r).told) where
+        (next : (r : State P S H) → StandsRightly w t r → n ≡ (gone_on f t r).next) (leads : (r : State P S H) → StandsRightly w t r → Leads v old new (gone_on f t r).told) where
       gone_on_by_test : (o : Option Blocked) → blocked_of s.control t ≡ o → IfSome o (λ b. MayBlock t b) → is_patient s.control.kernel o ≡ true → is_waiting (gone_on f t s).next ≡ true → IsMild t s (gone_on f t s).told.state
       gone_on_by_test None blocked may mild waits = absurd (cc mild)
       gone_on_by_test (Some b) blocked may mild waits = goes_on_mild t f s b blocked may mild waits
@@ -84,13 +88,13 @@ module _ {P S H : Type 0} where
       pub gone_on_calms : (patient && is_waiting n) ≡ true → IsCalmUntil v until
       gone_on_calms test =
           let a = both patient (is_waiting n) test in
-          mild_calms w until calm v t (gone_on f t s).told.state runs (leads s calm.stands).stands
-          (gone_on_by_test (blocked_of s.control t) refl (runner_may w s t whole calm.stands runs) (ap (λ (k : Kernel). is_patient k (blocked_of s.control t)) calm.stands.control.kernel ∙ sym (is s.control calm.stands.control) ∙ a.0) (subst (λ (x : Next). is_waiting x ≡ true) (next s calm.stands) a.1))
+          mild_calms w until calm v t (gone_on f t s).told.state runs (leads s (calm.stands, refl)).stands
+          (gone_on_by_test (blocked_of s.control t) refl (runner_may w s t whole calm.stands runs) (ap (λ (k : Kernel). is_patient k (blocked_of s.control t)) calm.stands.control.kernel ∙ sym (is s.control calm.stands.control) ∙ a.0) (subst (λ (x : Next). is_waiting x ≡ true) (next s (calm.stands, refl)) a.1))
 
   -- t is handed over what it is owed
   pub owed_calms : (w v : WorldOf P S H) (until t : ℕ) (n : Next) → IsCalmUntil w until → w.scheduler.running ≡ Some t → ((k : Control P S H) → Shows w k → Shows v (owes_after t n k)) → v.store ≡ w.store → IsCalmUntil v until
   owed_calms w v until t n calm runs shows stored =
-      mild_calms w until calm v t (controlled (owes_after t n) calm.state) runs (record { control = shows calm.state.control calm.stands.control; resources = has_still w v calm.state stored calm.stands.resources }) (owes_mild t n calm.state)
+      mild_calms w until calm v t (controlled (owes_after t n) calm.state) runs (record { control = shows calm.state.control calm.stands.control; store = has_still w v calm.state stored calm.stands.store }) (owes_mild t n calm.state)
 
 -- a thread that no call blocks begins its next call
 pub steps_anew : {P S H : Type 0} (f : P → Functions S H) (t : ℕ) (s : State P S H) (Q : Went P S H → Type 0) → is_some (blocked_of s.control t) ≡ false → IsSome (s.control.threads.progress t) → IfSome (s.control.threads.progress t) (λ p. Q (steps_from f t p s)) → Q (steps_on f t s)

@@ -1,5 +1,6 @@
 -- What keeps a world calm.
 use Rattle.std.proofs.Common.{◌≡◌, ◌≢◌, ◌∙◌, ℕ, ◌==◌, ◌<◌, ◌≤◌, min, IfSome, true, false, List, All, Option, Some, None, refl, sym, ap, subst, arith, append-nil, inl, inr}
+use Rattle.pth_model.specs.Awaits.{is_awaiting}
 use Rattle.std.proofs.lemmas.Bool.{cases_Bool}
 use Rattle.std.proofs.lemmas.List.Elements.{All-weaker}
 use Rattle.pth_base.proofs.Tables.{same_means, same_fails}
@@ -15,7 +16,7 @@ use Rattle.pth_model.specs.Cancellation.{may_be_canceled}
 use Rattle.pth_model.specs.Changes.{blocked_in, blocked_of, entry_of}
 use Rattle.pth_model.specs.Part.{readies_new, runs, turn_ends}
 use Rattle.pth_model.specs.Pass.{looks, waiting, pass, all_woken}
-use Rattle.pth_model.specs.Resources.{Resources}
+use Rattle.pth_model.specs.Resources.{Store}
 use Rattle.pth_model.specs.ThreadEnds.{is_alone}
 use Rattle.pth_model.specs.Transition.{controlled, changes, ◌and_then◌}
 use Rattle.pth_world.specs.Leading.{Leads}
@@ -49,8 +50,8 @@ module _ {P S H : Type 0} (w : WorldOf P S H) where
     unfolding may_be_canceled
     same_asked u h = rw (same_known, same_blocked u) h
 
-    same_resources : r.resources ≡ s.resources
-    same_resources = sr.resources ∙ sym ss.resources
+    same_store : r.resources.store ≡ s.resources.store
+    same_store = sr.store ∙ sym ss.store
 
     same_barriers : r.control.barriers ≡ s.control.barriers
     same_barriers = sr.control.barriers ∙ sym ss.control.barriers
@@ -61,8 +62,8 @@ module _ {P S H : Type 0} (w : WorldOf P S H) where
       later = omega arith;
       kernel = sr.control.kernel ∙ sym ss.control.kernel;
       events = equal_pending s.control.events r.control.events (sr.control.events ∙ sym ss.control.events);
-      mutexes = ap (λ (x : Resources). x.store.mutexes) same_resources;
-      locks = ap (λ (x : Resources). x.store.rw_locks) same_resources;
+      mutexes = ap (λ (x : Store). x.mutexes) same_store;
+      locks = ap (λ (x : Store). x.rw_locks) same_store;
       rounds = λ b round h. rw same_barriers h;
       blocked = same_blocked u;
       died = λ n h. rw same_known h;
@@ -72,6 +73,16 @@ module _ {P S H : Type 0} (w : WorldOf P S H) where
 
     pub seen_among : (u : ℕ) → is_among_waiting (entry_of r.control u) ≡ true → is_among_waiting (entry_of s.control u) ≡ true
     seen_among u h = subst (λ (f : ℕ → Option Entry). is_among_waiting (f u) ≡ true) same_known h
+
+  -- what is known of a state, is known too of the one that says of each thread rightly whether it awaits a condition
+  abbrev pub awaiting_rightly : State P S H → State P S H
+  awaiting_rightly s = record s { resources = record s.resources { awaits = λ u. is_awaiting (blocked_of s.control u) } }
+
+  abbrev pub calm_rightly : (until : ℕ) → IsCalmUntil w until → IsCalmUntil w until
+  calm_rightly until c =
+      let r = awaiting_rightly c.state in
+      let st : StandsFor w r = record { control = c.stands.control; store = c.stands.store } in
+      record { state = r; stands = st; calm = λ u apart among. seen_dormant c.state r c.stands st until u (c.calm u apart among) }
 
   pub but_dormant : (t until : ℕ) (calm : IsCalmButUntil t w until) (s : State P S H) → StandsFor w s → (u : ℕ) → u ≢ t → is_among_waiting (entry_of s.control u) ≡ true → IsDormant s until u
   but_dormant t until calm s st u apart waits = seen_dormant calm.state s calm.stands st until u (calm.calm u apart (seen_among calm.state s calm.stands st u waits))
@@ -105,7 +116,7 @@ module _ {P S H : Type 0} (w : WorldOf P S H) where
         let looked = none_looked s until early_now all_dormant in
         let none = none_wakes s until early_now all_dormant alone (none_died w whole s.control st.control) in
         subst (λ (l : List ℕ). Leads w old old ((changes looks and_then all_woken l) s)) (sym none) (record {
-          stands = record { control = subst (λ (k : Control P S H). Shows w k) (sym looked) st.control; resources = st.resources };
+          stands = record { control = subst (λ (k : Control P S H). Shows w k) (sym looked) st.control; store = st.store };
           tells = sym (append-nil old);
         })
 
@@ -121,7 +132,7 @@ module _ {P S H : Type 0} (w : WorldOf P S H) (until : ℕ) (calm : IsCalmUntil 
       let k = calm.state.control in
       record {
         state = controlled (λ j. runs t (readies_new j)) calm.state;
-        stands = record { control = dispatch (readies_new k) (ready k calm.stands.control); resources = has_still w v calm.state stored calm.stands.resources };
+        stands = record { control = dispatch (readies_new k) (ready k calm.stands.control); store = has_still w v calm.state stored calm.stands.store };
         calm = dispatched_calm (controlled readies_new calm.state) until t (readied_nobody k _ (running_is None nobody)) (readied_calm calm.state until _ (running_is None nobody) calm.calm);
       }
 
@@ -139,7 +150,7 @@ module _ {P S H : Type 0} (w : WorldOf P S H) (until : ℕ) (calm : IsCalmUntil 
       let k = calm.state.control in
       record {
         state = controlled (turn_ends t) calm.state;
-        stands = record { control = shows k calm.stands.control; resources = has_still w v calm.state stored calm.stands.resources };
+        stands = record { control = shows k calm.stands.control; store = has_still w v calm.state stored calm.stands.store };
         calm = turn_over_calm calm.state t (λ r is. own r (sym (running_is w.scheduler.running refl) ∙ is)) until (let e : now_of k ≡ w.kernel.now = ap (λ (z : Kernel). z.now) calm.stands.control.kernel in omega arith) calm.calm;
       }
 

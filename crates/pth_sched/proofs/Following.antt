@@ -1,8 +1,10 @@
 -- How a machine that makes the parts of a run follows it.
 use Rattle.std.proofs.Common.{◌≡◌, ◌≢◌, ℕ, ◌+◌, ◌<◌, ◌≤◌, List, [], ◌++◌, Bool, true, false, refl, sym, ap, ap₂, ◌∙◌, arith, append_assoc, append-nil, subst}
+use Rattle.pth_world.specs.Leading.{AllAwaitRightly}
+use Rattle.pth_laws.proofs.EveryRun.{run_valid}
 use Rattle.pth_base.specs.Program.{Functions}
 use Rattle.pth_base.specs.declared.mark.Mark.{Mark}
-use Rattle.pth_base.specs.declared.outcome.Outcome.TheVariants.{Running, OutOfMemory}
+use Rattle.pth_base.specs.declared.outcome.Outcome.TheVariants.{Running, OutOfMemory, Killed}
 use Rattle.pth_kernel.specs.Kernel.{Kernel}
 use Rattle.pth_model.specs.Course.{Course}
 use Rattle.pth_model.specs.State.{Given, Scheduler, Turn, start}
@@ -12,7 +14,7 @@ use Rattle.pth_model.proofs.Runs.{parts-more, between-none, between-more, none-m
 use Rattle.pth_base.specs.Cut.{IsCut}
 use Rattle.pth_world.specs.Sound.{IsSound}
 use Rattle.pth_world.specs.StateOf.{state_of}
-use Rattle.pth_world.proofs.StateOf.{stands_for_state}
+use Rattle.pth_world.proofs.StateOf.{stands_for_state, state_awaits_rightly}
 use Rattle.pth_sched.specs.MachineOf.{MachineOf, left, left_at, machine_stops}
 use Rattle.pth_sched.specs.Running.{Stands, StandsAt, Makes, MakesPart, FollowsUntil, BreaksOffBefore, GoesOn}
 use Rattle.pth_sched.proofs.Keeping.{stops_ended}
@@ -41,12 +43,16 @@ module _ {P S H : Type 0} (f : P → Functions S H) (g : Given P) (halts : ℕ �
     appended = sym (append-nil old);
   }
 
+  -- of each thread the state of the run says rightly whether it awaits a condition
+  pub await_rightly : (k : ℕ) → (run f g k).turn.outcome ≢ Killed → AllAwaitRightly (run f g k).state
+  await_rightly k lives = (run_valid f g k lives).awaits
+
   -- the machine makes a part of the run
-  unfoldable pub reach-more : (m v : MachineOf P S H) (old mid new : List Mark) → (r : Reaches m old mid) → halts r.part ≡ false
-      → ((c : Course P S H) → Stands m c → Makes v mid new (part f c.turn c.state)) → Reaches v old new
-  reach-more m v old mid new r on makes =
+  unfoldable pub reach-more : (m v : MachineOf P S H) (old mid new : List Mark) → (r : Reaches m old mid) → halts r.part ≡ false → (run f g r.part).turn.outcome ≢ Killed
+      → ((c : Course P S H) → Stands m c → AllAwaitRightly c.state → Makes v mid new (part f c.turn c.state)) → Reaches v old new
+  reach-more m v old mid new r on lives makes =
       let here = run f g r.part in
-      let made = makes here r.stands in
+      let made = makes here r.stands (await_rightly r.part lives) in
       record {
         part = r.part + 1;
         later = omega (arith, r.later);
@@ -69,11 +75,11 @@ module _ {P S H : Type 0} (f : P → Functions S H) (g : Given P) (halts : ℕ �
   }
 
   -- memory ends in the next part
-  pub reach-cut : (m : MachineOf P S H) (old mid new : List Mark) → (r : Reaches m old mid) → halts r.part ≡ false
-      → ((c : Course P S H) → Stands m c → IsCut mid new (part f c.turn c.state).marks) → BreaksOffBefore f g halts i old new
-  reach-cut m old mid new r on cuts =
+  pub reach-cut : (m : MachineOf P S H) (old mid new : List Mark) → (r : Reaches m old mid) → halts r.part ≡ false → (run f g r.part).turn.outcome ≢ Killed
+      → ((c : Course P S H) → Stands m c → AllAwaitRightly c.state → IsCut mid new (part f c.turn c.state).marks) → BreaksOffBefore f g halts i old new
+  reach-cut m old mid new r on lives cuts =
       let here = run f g r.part in
-      let c = cuts here r.stands in
+      let c = cuts here r.stands (await_rightly r.part lives) in
       record {
         part = r.part + 1;
         later = omega (arith, r.later);
@@ -111,11 +117,18 @@ left_is to m c st =
 still_runs : {P S H : Type 0} (to : ℕ) (m : MachineOf P S H) → machine_stops to m ≡ false → m.turn.outcome ≢ OutOfMemory
 still_runs to m on ended = (let halt = stops_ended to m (λ runs. cc (runs, ended)) in cc (halt, on))
 
-pub made_less : {P S H : Type 0} (f : P → Functions S H) (m v : MachineOf P S H) (old new : List Mark) → IsSound m.world.threads → ((c : Course P S H) → Stands m c → Makes v old new (part f c.turn c.state)) → (to : ℕ) → machine_stops to m ≡ false → left to v < left to m
+-- a run that the machine goes on with was not killed
+pub lives_on : {P S H : Type 0} (to : ℕ) (m : MachineOf P S H) (c : Course P S H) → Stands m c → machine_stops to m ≡ false → c.turn.outcome ≢ Killed
+lives_on to m c st on killed =
+    let ended : m.turn.outcome ≡ Killed = ap (λ (x : Turn). x.outcome) (sym st.turn) ∙ killed in
+    let halt = stops_ended to m (λ runs. cc (runs, ended)) in
+    cc (halt, on)
+
+pub made_less : {P S H : Type 0} (f : P → Functions S H) (m v : MachineOf P S H) (old new : List Mark) → IsSound m.world.threads → ((c : Course P S H) → Stands m c → AllAwaitRightly c.state → Makes v old new (part f c.turn c.state)) → (to : ℕ) → machine_stops to m ≡ false → left to v < left to m
 made_less {P = P} {S = S} {H = H} f m v old new sound makes to on =
     let c : Course P S H = record { state = state_of m.world; turn = m.turn; marks = [] } in
     let st : Stands m c = record { world = stands_for_state m.world sound; turn = refl; memory = still_runs to m on } in
-    let made = makes c st in
+    let made = makes c st (state_awaits_rightly m.world) in
     let nearer = near f to c (sym (stops_is to m c st) ∙ on) in
     rw (left_is to v (part f c.turn c.state) made.stands, left_is to m c st) nearer
 

@@ -148,7 +148,7 @@ module _ {P S H : Type 0} (old : WorldOf P S H) where
     stands_seen : (s : State P S H) → StandsFor old s → StandsFor now (record s { control = looks_at s.control (events s.control) })
     stands_seen s st = record {
       control = so_far.shows s.control st.control;
-      resources = has_still old now s (ap (λ (w : WorldOf P S H). w.store) so_far.same) st.resources;
+      store = has_still old now s (ap (λ (w : WorldOf P S H). w.store) so_far.same) st.store;
     }
 
     pub gone_more : GoneOver old x ts rest more

@@ -82,7 +82,7 @@ module _ {P S H : Type 0} where
     pub moved_stands : (m v : MachineOf P S H) → v.turn ≡ m.turn → ((k : Control P S H) → Shows m.world k → Shows v.world (moves_to t k)) → v.world.store ≡ m.world.store → Stands m c → Stands v before_pass
     unfolding told_of
     moved_stands m v turn shows stored st = record {
-      world = record { control = shows c.state.control st.world.control; resources = has_still m.world v.world c.state stored st.world.resources };
+      world = record { control = shows c.state.control st.world.control; store = has_still m.world v.world c.state stored st.world.store };
       turn = st.turn ∙ sym turn;
       memory = λ e. st.memory (ap (λ (x : Turn). x.outcome) (sym turn) ∙ e);
     }

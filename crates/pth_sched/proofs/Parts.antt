@@ -101,7 +101,7 @@ module _ {P S H : Type 0} (m : MachineOf P S H) (c : Course P S H) (st : Stands 
 
   -- a turn is over
   pub turn_over : (t : ℕ) (v : WorldOf P S H) → Shows v (turn_ends t c.state.control) → v.store ≡ m.world.store → StandsFor v (controlled (turn_ends t) c.state)
-  turn_over t v shows stored = record { control = shows; resources = has_still m.world v c.state stored st.world.resources }
+  turn_over t v shows stored = record { control = shows; store = has_still m.world v c.state stored st.world.store }
 
   -- a thread is dispatched
   pub take_makes : (t : ℕ) (rank : ℤ) (w u : WorldOf P S H) (time : ℕ) (old new : List Mark) → Shows w (readies_new c.state.control) → Some t ≡ chosen (readies_new c.state.control).scheduler.preferred (queue (readies_new c.state.control) queues.Ready)
@@ -113,7 +113,7 @@ module _ {P S H : Type 0} (m : MachineOf P S H) (c : Course P S H) (st : Stands 
       let now : now_of k ≡ time = ap (λ (x : Kernel). x.now) ready.kernel ∙ sym time_is in
       rw (← next) record {
         stands = record {
-          world = record { control = shows; resources = has_still m.world u c.state stored st.world.resources };
+          world = record { control = shows; store = has_still m.world u c.state stored st.world.store };
           turn = ap (λ (x : Turn). record x { turns = x.turns + 1 }) st.turn;
           memory = st.memory;
         };
@@ -128,7 +128,7 @@ module _ {P S H : Type 0} (m : MachineOf P S H) (c : Course P S H) (st : Stands 
       let went = steps_on f t c.state in
       record {
         stands = record {
-          world = record { control = subst (λ (x : Next). Shows v.world (owes_after t x went.told.state.control)) next (settles went.told.state.control leads.stands.control); resources = has_still w v.world went.told.state stored leads.stands.resources };
+          world = record { control = subst (λ (x : Next). Shows v.world (owes_after t x went.told.state.control)) next (settles went.told.state.control leads.stands.control); store = has_still w v.world went.told.state stored leads.stands.store };
           turn = ap (λ (x : Turn). turn_after t went.next (record x { steps = x.steps + 1 })) st.turn ∙ ap (λ (x : Next). turn_after t x (record m.turn { steps = m.turn.steps + 1 })) (sym next) ∙ sym turn;
           memory = memory;
         };

@@ -1,5 +1,6 @@
 -- How a machine follows a run to the end of a turn.
 use Rattle.std.proofs.Common.{◌≡◌, ◌≢◌, ℕ, zero, suc, ◌+◌, ◌-◌, ◌≤◌, ◌&&◌, ◌||◌, List, Bool, true, false, nat_lt, nat_le, Option, Some, None, IsSome, refl, sym, ap, ◌∙◌, arith, subst, add-zero, add-one, inl, inr}
+use Rattle.pth_world.specs.Leading.{AllAwaitRightly}
 use Rattle.std.proofs.lemmas.Bool.{cases_lt, lt-ltb, le-ltb}
 use Rattle.std.proofs.lemmas.Bool.Decides.{nat_tests}
 use Rattle.pth_base.specs.Cut.{IsCut}
@@ -18,7 +19,7 @@ use Rattle.pth_queue.specs.declared.queue.Queue.TheVariants as queues
 use Rattle.pth_sched.specs.MachineOf.{MachineOf, machine_stops, machine_stops_by}
 use Rattle.pth_sched.specs.Running.{Stands, StandsAt, Makes, GoesOn, TurnGoesOn, TurnBreaksOff, IsAtStep}
 use Rattle.pth_sched.proofs.Cutting.{is_running, follows_then}
-use Rattle.pth_sched.proofs.Following.{Reaches, reach-none, reach-more, reach-stop, reach-cut}
+use Rattle.pth_sched.proofs.Following.{Reaches, reach-none, reach-more, reach-stop, reach-cut, lives_on}
 use Rattle.pth_sched.proofs.Keeping.{stops_ended}
 use Rattle.pth_sched.proofs.Parts.{part_close, makes_as, cut_as}
 use Rattle.pth_sched.proofs.Showing.{stops_is}
@@ -117,17 +118,20 @@ module _ {P S H : Type 0} (f : P → Functions S H) (g : Given P) (to i : ℕ) w
     goes_on : stops_or_closed f g to i r.reached.part ≡ false
     goes_on = (let at = run f g r.reached.part in neither (stops to at) _ (sym (stops_is to m at r.reached.stands) ∙ on) r.unclosed)
 
+    lives : (run f g r.reached.part).turn.outcome ≢ Killed
+    lives = lives_on to m (run f g r.reached.part) r.reached.stands on
+
     -- memory ends in the next part
-    pub turn-cut : (new : List Mark) → ((c : Course P S H) → Stands m c → IsCut mid new (part f c.turn c.state).marks) → TurnBreaksOff f g to i old new
-    turn-cut new cuts = reach-cut f g (stops_or_closed f g to i) i m old mid new r.reached goes_on cuts
+    pub turn-cut : (new : List Mark) → ((c : Course P S H) → Stands m c → AllAwaitRightly c.state → IsCut mid new (part f c.turn c.state).marks) → TurnBreaksOff f g to i old new
+    turn-cut new cuts = reach-cut f g (stops_or_closed f g to i) i m old mid new r.reached goes_on lives cuts
 
     -- the machine makes a part that is no Close
-    pub turn-more : (v : MachineOf P S H) (new : List Mark) → m.turn.gave ≡ None → ((c : Course P S H) → Stands m c → Makes v mid new (part f c.turn c.state)) → Turns v old new
+    pub turn-more : (v : MachineOf P S H) (new : List Mark) → m.turn.gave ≡ None → ((c : Course P S H) → Stands m c → AllAwaitRightly c.state → Makes v mid new (part f c.turn c.state)) → Turns v old new
     unfolding reach-more
     turn-more v new none makes =
         let n = r.reached.part in
         record {
-          reached = reach-more f g (stops_or_closed f g to i) i m v old mid new r.reached goes_on makes;
+          reached = reach-more f g (stops_or_closed f g to i) i m v old mid new r.reached goes_on lives makes;
           unclosed = not_both (nat_lt i (n + 1)) (closed f g (n + 1)) (closed-more n ∙ goes_open m (run f g n) r.reached.stands none);
         }
 
@@ -140,12 +144,12 @@ module _ {P S H : Type 0} (f : P → Functions S H) (g : Given P) (to i : ℕ) w
           let goes = running_on to m on in
           let is_over = after i n (closed f g (n + 1)) r.reached.later (closed-more n ∙ goes_close m (run f g n) r.reached.stands t goes over) in
           reach-stop f g (stops_or_closed f g to i) i v old new
-          (reach-more f g (stops_or_closed f g to i) i m v old mid new r.reached goes_on (λ c st. makes_as v _ _ (part_close f m c st goes t over) mid new (makes c st)))
+          (reach-more f g (stops_or_closed f g to i) i m v old mid new r.reached goes_on lives (λ c st right. makes_as v _ _ (part_close f m c st goes t over) mid new (makes c st)))
           (either (stops to (run f g (n + 1))) _ is_over)
 
       -- memory ends in the Close
       pub close-cut : (new : List Mark) → ((c : Course P S H) → Stands m c → IsCut mid new (closes c.turn t c.state).marks) → TurnBreaksOff f g to i old new
-      close-cut new cuts = turn-cut new (λ c st. cut_as m _ _ (part_close f m c st (running_on to m on) t over) mid new (cuts c st))
+      close-cut new cuts = turn-cut new (λ c st right. cut_as m _ _ (part_close f m c st (running_on to m on) t over) mid new (cuts c st))
 
   -- a run comes to the end of a turn, or to where it stops
   pub turn_stops : (j : ℕ) × TurnsTo f g to i j

@@ -32,7 +32,7 @@ module _ {P S H : Type 0} where
   pub woken_leads : (w v : WorldOf P S H) (s : State P S H) (t : ℕ) (rank : ℤ) (old new : List Mark) → StandsFor w s → v.store ≡ w.store → rank ≡ prio_of s.control t +ℤ pos 1 → Shows v (is_ready_at t rank false s.control) → new ≡ old ++ Woke (tid t) rank ∷ [] → Leads v old new (woken t s)
   unfolding woken told_of
   woken_leads w v s t rank old new stands stored is st told = record {
-    stands = record { control = subst (λ (r : ℤ). Shows v (is_ready_at t r false s.control)) is st; resources = has_still w v s stored stands.resources };
+    stands = record { control = subst (λ (r : ℤ). Shows v (is_ready_at t r false s.control)) is st; store = has_still w v s stored stands.store };
     tells = subst (λ (r : ℤ). new ≡ old ++ Woke (tid t) r ∷ []) is told;
   }
 
@@ -145,7 +145,7 @@ module _ {P S H : Type 0} where
   -- a pass wakes those that it listed
   module _ (w v : WorldOf P S H) (s : State P S H) (st : StandsFor w s) (ts : List ℕ) (old new : List Mark) (is : ts ≡ to_wake s) (seen : Shows v (looks s.control)) (stored : v.store ≡ w.store) where
     stands_seen : StandsFor v (controlled looks s)
-    stands_seen = record { control = seen; resources = has_still w v s stored st.resources }
+    stands_seen = record { control = seen; store = has_still w v s stored st.store }
 
     pub pass_leads : (x : WorldOf P S H) → ((u : State P S H) → StandsFor v u → Leads x old new (all_woken ts u)) → Leads x old new (pass s)
     unfolding pass

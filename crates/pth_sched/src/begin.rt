@@ -1,11 +1,11 @@
 //! How a call begins.
 
-ghost use Rattle.std.specs.Prelude.{◌≡◌, ◌≢◌, ℤ, Some, IfOk};
+ghost use Rattle.std.specs.Prelude.{◌≡◌, ◌≢◌, ℤ, false, Some, IfOk};
 ghost use Rattle.pth_base.specs.declared.call.Call.TheVariants.{Plain, Yield};
 ghost use Rattle.pth_model.specs.Calls.{begun};
 ghost use Rattle.pth_waits.specs.Verdicts.{NeverBlocks};
 ghost use Rattle.pth_world.specs.Frame.{Frame, runs_after, yields_after};
-ghost use Rattle.pth_world.specs.Leading.{Goes};
+ghost use Rattle.pth_world.specs.Leading.{Goes, StandsWhere};
 ghost use Rattle.pth_world.specs.Numbering.{HasNumbers, one_of_each};
 ghost use Rattle.pth_world.specs.Shows.{StandsFor};
 ghost use Rattle.pth_world.specs.Whole.{Whole};
@@ -99,7 +99,7 @@ pub fn begin<P: Program>(
     requires whole { Whole w.old }
     requires runs { w.old.scheduler.running ≡ Some t.0 }
     requires few { HasNumbers w.old }
-    ensures goes { Goes (StandsFor w.old) (begun P.functions t.0 call) w.new marks.old marks.new result }
+    ensures goes { Goes (StandsWhere w.old t.0 false) (begun P.functions t.0 call) w.new marks.old marks.new result }
     ensures frame { IfOk result (λ n. Frame w.old w.new one_of_each (runs_after t.0 n) (yields_after n)) }
 {
     match attempt(w, t, &call)? {

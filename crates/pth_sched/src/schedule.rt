@@ -11,6 +11,7 @@ ghost use Rattle.pth_model.specs.Pass.{moment, pass};
 ghost use Rattle.pth_model.specs.Run.{stops as run_stops};
 ghost use Rattle.pth_model.specs.State.{Control, Given};
 ghost use Rattle.pth_world.specs.Frame.{runs_after};
+ghost use Rattle.pth_world.specs.Leading.{AllAwaitRightly, AwaitsRightly};
 ghost use Rattle.pth_world.specs.Shows.{Shows};
 ghost use Rattle.pth_world.specs.Whole.{Whole};
 ghost use Rattle.pth_sched.specs.MachineOf.{IsGoing, IsRoofed, machine_stops};
@@ -189,8 +190,8 @@ impl<P: Program> Schedule<P> {
         requires few { self.old.turn.steps ≤ most_steps }
         requires runs { self.old.world.scheduler.running ≡ Some t.0 }
         requires over { self.old.turn.gave ≡ None }
-        ensures ok { OnOk result ((c : Course P P.State P.Shared) → Stands self.old c → Makes self.new marks.old marks.new (steps P.functions c.turn t.0 c.state)) }
-        ensures err { OnErr result ((c : Course P P.State P.Shared) → Stands self.old c → IsCut marks.old marks.new (steps P.functions c.turn t.0 c.state).marks) }
+        ensures ok { OnOk result ((c : Course P P.State P.Shared) → Stands self.old c → AwaitsRightly t.0 c.state → Makes self.new marks.old marks.new (steps P.functions c.turn t.0 c.state)) }
+        ensures err { OnErr result ((c : Course P P.State P.Shared) → Stands self.old c → AwaitsRightly t.0 c.state → IsCut marks.old marks.new (steps P.functions c.turn t.0 c.state).marks) }
         ensures going { OnOk result (IsGoing self.new) }
         ensures ranks { OnOk result (IsRoofed self.new) }
         ensures steps { OnOk result (self.new.turn.steps ≡ self.old.turn.steps + 1) }
@@ -334,8 +335,8 @@ impl<P: Program> Schedule<P> {
     fn part(&mut self, marks: &mut Marks) -> Result<(), OutOfMemory>
         requires keeps { Keeps self.old }
         requires few { self.old.turn.steps ≤ most_steps }
-        ensures ok { OnOk result ((c : Course P P.State P.Shared) → Stands self.old c → Makes self.new marks.old marks.new (part P.functions c.turn c.state)) }
-        ensures err { OnErr result ((c : Course P P.State P.Shared) → Stands self.old c → IsCut marks.old marks.new (part P.functions c.turn c.state).marks) }
+        ensures ok { OnOk result ((c : Course P P.State P.Shared) → Stands self.old c → AllAwaitRightly c.state → Makes self.new marks.old marks.new (part P.functions c.turn c.state)) }
+        ensures err { OnErr result ((c : Course P P.State P.Shared) → Stands self.old c → AllAwaitRightly c.state → IsCut marks.old marks.new (part P.functions c.turn c.state).marks) }
         ensures going { OnOk result (IsGoing self.new) }
         ensures ranks { OnOk result (IsRoofed self.new) }
         ensures within { (to : ℕ) → machine_stops to self.old ≡ false → self.old.turn.steps ≤ to → self.new.turn.steps ≤ to }

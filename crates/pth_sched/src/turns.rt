@@ -1,6 +1,6 @@
 //! What the parts of a turn do to the world.
 
-ghost use Rattle.std.specs.Prelude.{◌≡◌, ◌≢◌, ◌≤◌, ◌+◌, ◌^◌, ◌<◌, ◌&&◌, if◌then◌else◌, ℕ, pos, neg_ℤ, ◌≤ℤ◌, [], Some, None, IfSome, IsSome, IfOk, OnOk, OnErr, length, reverse};
+ghost use Rattle.std.specs.Prelude.{◌≡◌, ◌≢◌, false, ◌≤◌, ◌+◌, ◌^◌, ◌<◌, ◌&&◌, if◌then◌else◌, ℕ, pos, neg_ℤ, ◌≤ℤ◌, [], Some, None, IfSome, IsSome, IfOk, OnOk, OnErr, length, reverse};
 ghost use Rattle.pth_queue.specs.Queues.{CanRise};
 ghost use Rattle.pth_queue.specs.declared.queue.Queue.TheVariants as queue;
 ghost use Rattle.pth_base.specs.Limits.{last_moment};
@@ -11,7 +11,7 @@ ghost use Rattle.pth_model.specs.declared.progress.Progress.{Progress};
 ghost use Rattle.pth_model.specs.Part.{chosen, is_placed, new_rank, readies_new, steps_from, steps_on, time_passes, turn_ends};
 ghost use Rattle.pth_model.specs.State.{Control, State, queue as rows};
 ghost use Rattle.pth_world.specs.Frame.{Frame, runs_after, yields_after};
-ghost use Rattle.pth_world.specs.Leading.{Goes};
+ghost use Rattle.pth_world.specs.Leading.{Goes, StandsRightly, StandsWhere};
 ghost use Rattle.pth_world.specs.Numbering.{HasNumbers, GivesNone, no_numbers, one_of_each};
 ghost use Rattle.pth_world.specs.Ranks.{IsUnder, KeepsRanks, greatest_return};
 ghost use Rattle.pth_world.specs.Shows.{Shows, StandsFor};
@@ -92,7 +92,7 @@ fn begin_unmild<P: Program>(
     requires whole { Whole w.old }
     requires runs { w.old.scheduler.running ≡ Some t.0 }
     requires few { HasNumbers w.old }
-    ensures goes { Goes (StandsFor w.old) (begun P.functions t.0 call) w.new marks.old marks.new result }
+    ensures goes { Goes (StandsWhere w.old t.0 false) (begun P.functions t.0 call) w.new marks.old marks.new result }
     ensures frame { IfOk result (λ n. Frame w.old w.new one_of_each (runs_after t.0 n) (yields_after n)) }
     ensures kept { IfOk result (λ n. calm.new.until ≡ (if waits_mildly_in (kernel_of w.old.kernel) call && waits_on n then calm.old.until else 0)) }
 {
@@ -112,7 +112,8 @@ fn begin_next<P: Program>(
     requires whole { Whole w.old }
     requires runs { w.old.scheduler.running ≡ Some t.0 }
     requires few { HasNumbers w.old }
-    ensures goes { (p : Progress P.State) → Goes (λ (s : State P P.State P.Shared). StandsFor w.old s × (s.control.threads.progress t.0 ≡ Some p)) (steps_from P.functions t.0 p) w.new marks.old marks.new result }
+    requires free { (k : Control P P.State P.Shared) → Shows w.old k → blocked_of k t.0 ≡ None }
+    ensures goes { (p : Progress P.State) → Goes (λ (s : State P P.State P.Shared). StandsWhere w.old t.0 false s × (s.control.threads.progress t.0 ≡ Some p)) (steps_from P.functions t.0 p) w.new marks.old marks.new result }
     ensures some { (s : State P P.State P.Shared) → StandsFor w.old s → IsSome (s.control.threads.progress t.0) }
     ensures frame { IfOk result (λ n. Frame w.old w.new one_of_each (runs_after t.0 n) (yields_after n)) }
     ensures calm { OnOk result (Calms w.old calm.old.until → Calms w.new calm.new.until) }
@@ -133,7 +134,7 @@ fn resume_blocked<P: Program>(
 ) -> Result<Next, OutOfMemory>
     requires whole { Whole w.old }
     requires runs { w.old.scheduler.running ≡ Some t.0 }
-    ensures goes { Goes (StandsFor w.old) (gone_on P.functions t.0) w.new marks.old marks.new result }
+    ensures goes { Goes (StandsRightly w.old t.0) (gone_on P.functions t.0) w.new marks.old marks.new result }
     ensures frame { IfOk result (λ n. Frame w.old w.new no_numbers (runs_after t.0 n) (yields_after n)) }
     ensures calm { OnOk result (Calms w.old calm.old.until → Calms w.new calm.new.until) }
 {
@@ -165,7 +166,7 @@ pub fn go_on<P: Program>(
     requires whole { Whole w.old }
     requires runs { w.old.scheduler.running ≡ Some t.0 }
     requires few { HasNumbers w.old }
-    ensures goes { Goes (StandsFor w.old) (steps_on P.functions t.0) w.new marks.old marks.new result }
+    ensures goes { Goes (StandsRightly w.old t.0) (steps_on P.functions t.0) w.new marks.old marks.new result }
     ensures frame { IfOk result (λ n. Frame w.old w.new one_of_each (runs_after t.0 n) (yields_after n)) }
     ensures calm { OnOk result (Calms w.old calm.old.until → Calms w.new calm.new.until) }
 {

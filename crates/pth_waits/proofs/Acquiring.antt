@@ -12,7 +12,7 @@ use Rattle.pth_lock.specs.RwLocks.{holds, lock_take_answer, lock_taken}
 use Rattle.pth_model.specs.declared.awaits.Awaits.{Awaits}
 use Rattle.pth_model.specs.declared.verdict.Verdict.{Verdict}
 use Rattle.pth_model.specs.declared.verdict.Verdict.TheVariants.{Blocks}
-use Rattle.pth_model.specs.Resources.{Resources, Store, answer_told, no_resources, told, with_mutexes, with_rw_locks}
+use Rattle.pth_model.specs.Resources.{Store, answer_told, told, with_mutexes, with_rw_locks}
 use Rattle.pth_model.specs.RingWaits.{is_claimed_ring, is_no_ring}
 use Rattle.pth_model.specs.Row.{◌trying◌}
 use Rattle.pth_model.specs.Rwlocks.{is_lock, is_open, lets_in}
@@ -28,7 +28,7 @@ use Rattle.pth_world.specs.StateOf.{state_of}
 use Rattle.pth_world.specs.Store.{store_of}
 use Rattle.pth_world.specs.Whole.{MayAwaitAs}
 use Rattle.pth_world.specs.World.{WorldOf}
-use Rattle.pth_waits.proofs.Attempting.{none_ready, quiet_attempts, quiet_tries, refused_ready}
+use Rattle.pth_waits.proofs.Attempting.{none_ready, quiet_attempts, quiet_tries, refused_ready, waits_for_none}
 
 -- ---- what is taken
 
@@ -71,23 +71,23 @@ module _ {P S H : Type 0} where
   pub lock_taken_if : (w : WorldOf P S H) (s : State P S H) → StandsFor w s → (t : ℕ) (l : ℤ) (write : Bool) (r : Result (Unit {0}) Errno) → r ≡ lock_taking t l write (store_of w.store) → may_take_lock t l write s ≡ is_ok r
   lock_taken_if w s st t l write r is =
       sym (is_entered (is_lock s l) (holds s.resources.store.rw_locks t (object_named l)) (lets_in s write l))
-      ∙ ap (λ (x : Result (Unit {0}) Errno). is_ok x) (ap (λ (k : Resources). lock_taking t l write k.store) st.resources ∙ sym is)
+      ∙ ap (λ (x : Result (Unit {0}) Errno). is_ok x) (ap (lock_taking t l write) st.store ∙ sym is)
 
 -- ---- what the answer tells
 
 module _ {P S H : Type 0} (w v : WorldOf P S H) (t : ℕ) (keeps : KeepsAllButStore w v) (s : State P S H) (st : StandsFor w s) where
   stands_once : (c : Call) → Tells w (Answered (tid t) c (Int (pos 1))) v → StandsOnce v (Answered (tid t) c (Int (pos 1))) s
-  stands_once c tells = record { control = keeps.shows s.control st.control; resources = ap (λ (k : Resources). told k (Answered (tid t) c (Int (pos 1)))) st.resources ∙ tells }
+  stands_once c tells = record { control = keeps.shows s.control st.control; store = tells s.resources st.store }
 
   -- t has one level more of a mutex
   pub mutex_ready : (m b e : ℤ) (ring : Option ℤ) → store_of v.store ≡ with_mutexes (mutex_taken t (object_named m)) (store_of w.store) → IsReady v t (MutexAcquire m b e) ring (says 1) s
   unfolding told answer_told
-  mutex_ready m b e ring changes = stands_once (MutexAcquire m b e) (ap (λ (y : Store). record no_resources { store = y }) (sym changes))
+  mutex_ready m b e ring changes = stands_once (MutexAcquire m b e) (λ k has. ap (with_mutexes (mutex_taken t (object_named m))) has ∙ sym changes)
 
   -- t has entered a lock
   pub lock_ready : (l : ℤ) (write : Bool) (b e : ℤ) (ring : Option ℤ) → store_of v.store ≡ with_rw_locks (lock_taken t write (object_named l)) (store_of w.store) → IsReady v t (RwAcquire l write b e) ring (says 1) s
   unfolding told answer_told
-  lock_ready l write b e ring changes = stands_once (RwAcquire l write b e) (ap (λ (y : Store). record no_resources { store = y }) (sym changes))
+  lock_ready l write b e ring changes = stands_once (RwAcquire l write b e) (λ k has. ap (with_rw_locks (lock_taken t write (object_named l))) has ∙ sym changes)
 
 -- ---- how such a call begins, and how it is tried again
 
@@ -108,25 +108,25 @@ module _ {P S H : Type 0} (t : ℕ) (c : Call) (a : Awaits) (may : MayAwaitAs t 
     abbrev pub acquiring : State P S H → Verdict
     acquiring s = refused EINVAL when is_no_ring s ring otherwise taken_or (take s.resources.store) (turned_away s)
 
-    attempts_by : (v : WorldOf P S H) (x : Verdict) → ((s : State P S H) → StandsFor w s → acquiring s ≡ x) → ((s : State P S H) → StandsFor w s → IsReady v t c ring x s) → Attempts w v t c ring (λ s. acquiring s trying silent) x
+    attempts_by : (v : WorldOf P S H) (x : Verdict) → ((s : State P S H) → StandsFor w s → acquiring s ≡ x) → ((s : State P S H) → StandsFor w s → IsReady v t c ring x s) → Attempts false w v t c ring (λ s. acquiring s trying silent) x
     attempts_by v x is ready =
         let s = state_of w in
-        quiet_attempts w v t c ring (λ s. acquiring s trying silent) x (λ s. refl) is ready
+        quiet_attempts false w v t c ring (λ s. acquiring s trying silent) x (λ s. refl) is ready
         (subst (MayComeTo t c) (is s (stands_for_state w sound)) (may_come t c a (is_no_ring s ring) (only_tries || is_claimed_ring s ring) (take s.resources.store) may))
 
     -- its ring is none
-    pub without_ring : ((s : State P S H) → StandsFor w s → is_no_ring s ring ≡ true) → Attempts w w t c ring (λ s. acquiring s trying silent) (refused EINVAL)
+    pub without_ring : ((s : State P S H) → StandsFor w s → is_no_ring s ring ≡ true) → Attempts false w w t c ring (λ s. acquiring s trying silent) (refused EINVAL)
     without_ring none =
         attempts_by w (refused EINVAL)
         (λ s st. ap (λ (b : Bool). refused EINVAL when b otherwise taken_or (take s.resources.store) (turned_away s)) (none s st))
-        (λ s st. refused_ready w t c ring EINVAL s st)
+        (λ s st. refused_ready w t c ring EINVAL s (waits_for_none t c a may) st)
 
     -- else it comes to what follows from what it is answered as it takes what it wants
-    pub by_taking : (v : WorldOf P S H) (x : Verdict) (r : Result (Unit {0}) Errno) → ((s : State P S H) → StandsFor w s → is_no_ring s ring ≡ false) → r ≡ take (store_of w.store) → ((s : State P S H) → StandsFor w s → taken_or r (turned_away s) ≡ x) → ((s : State P S H) → StandsFor w s → IsReady v t c ring x s) → Attempts w v t c ring (λ s. acquiring s trying silent) x
+    pub by_taking : (v : WorldOf P S H) (x : Verdict) (r : Result (Unit {0}) Errno) → ((s : State P S H) → StandsFor w s → is_no_ring s ring ≡ false) → r ≡ take (store_of w.store) → ((s : State P S H) → StandsFor w s → taken_or r (turned_away s) ≡ x) → ((s : State P S H) → StandsFor w s → IsReady v t c ring x s) → Attempts false w v t c ring (λ s. acquiring s trying silent) x
     by_taking v x r some is comes ready =
         attempts_by v x
         (λ s st. ap (λ (b : Bool). refused EINVAL when b otherwise taken_or (take s.resources.store) (turned_away s)) (some s st)
-        ∙ ap (λ (y : Result (Unit {0}) Errno). taken_or y (turned_away s)) (ap (λ (k : Resources). take k.store) st.resources ∙ sym is)
+        ∙ ap (λ (y : Result (Unit {0}) Errno). taken_or y (turned_away s)) (ap take st.store ∙ sym is)
         ∙ comes s st)
         ready
 

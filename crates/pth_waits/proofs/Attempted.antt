@@ -7,7 +7,7 @@ use Rattle.pth_model.specs.declared.awaits.Awaits.TheVariants.{Writing}
 use Rattle.pth_model.specs.declared.blocked.Blocked.{Blocked}
 use Rattle.pth_model.specs.declared.verdict.Verdict.{Verdict}
 use Rattle.pth_model.specs.declared.verdict.Verdict.TheVariants.{Says, Yields, Blocks, Ends, Kills}
-use Rattle.pth_model.specs.Awaits.{written_in}
+use Rattle.pth_model.specs.Awaits.{is_await, written_in}
 use Rattle.pth_model.specs.Row.{Attempt}
 use Rattle.pth_model.specs.State.{State}
 use Rattle.pth_world.proofs.Awaiting.{may_await}
@@ -19,7 +19,17 @@ use Rattle.pth_waits.specs.Verdicts.{IsCounted, is_called}
 
 -- ---- calls on descriptors
 
+-- a call that awaits no condition
+pub unawaited : (c : Call) → ((x m e : ℤ) → c ≢ call.CondAwait x m e) → is_await c ≡ false
+unawaited (call.CondAwait x m e) other = absurd (other x m e refl)
+unawaited c other = refl
+
 module _ {P S H : Type 0} (s : State P S H) where
+  -- a call on descriptors awaits none
+  pub io_unawaited : (c : Call) → IsSome (first_awaited s c) → is_await c ≡ false
+  io_unawaited (call.CondAwait x m e) is = absurd (cc is)
+  io_unawaited c is = refl
+
   -- a call on descriptors is called
   pub others_called : (c : Call) → IsSome (first_awaited s c) → is_called c ≡ true
   others_called call.Plain is = absurd (cc is)

@@ -1,9 +1,14 @@
 -- Attempts at calls: what they come to, and when that can be carried out.
-use Rattle.std.proofs.Common.{◌≡◌, ◌∙◌, ℕ, ℤ, Bool, true, false, Option, None, refl, sym, ap, subst}
+use Rattle.std.proofs.Common.{◌≡◌, ◌∙◌, ℕ, ℤ, Bool, true, false, Option, None, refl, sym, ap, subst, if◌then◌else◌}
+use Rattle.pth_lock.specs.Objects.{object_named}
+use Rattle.pth_base.specs.declared.errno.Errno.TheVariants.{EINVAL}
+use Rattle.pth_model.specs.Verdict.{refused}
+use Rattle.pth_model.specs.Resources.{answer_told, retaken, told}
 use Rattle.pth_base.specs.Naming.{seen}
 use Rattle.pth_base.specs.Table.{table}
 use Rattle.pth_base.specs.declared.answer.Answer.{Answer}
 use Rattle.pth_base.specs.declared.call.Call.{Call}
+use Rattle.pth_base.specs.declared.call.Call.TheVariants as call
 use Rattle.pth_base.specs.declared.errno.Errno.{Errno}
 use Rattle.pth_base.specs.declared.answer.Answer.TheVariants.{Fail}
 use Rattle.pth_base.specs.declared.mark.Mark.TheVariants.{Answered}
@@ -12,16 +17,24 @@ use Rattle.pth_model.specs.declared.blocked.Blocked.{Blocked}
 use Rattle.pth_model.specs.declared.awaits.Awaits.{Awaits}
 use Rattle.pth_model.specs.declared.verdict.Verdict.{Verdict}
 use Rattle.pth_model.specs.declared.verdict.Verdict.TheVariants.{Says, Yields, Blocks, Ends, Kills}
+use Rattle.pth_model.specs.Awaits.{is_await}
 use Rattle.pth_model.specs.Changes.{blocked_in, blocked_of}
-use Rattle.pth_model.specs.RingWaits.{claims}
-use Rattle.pth_model.specs.Row.{Attempt, effect_of, refuses, unless_refused}
+use Rattle.pth_model.specs.RingWaits.{claims, ring_given}
+use Rattle.pth_model.specs.Row.{Attempt, effect_of, refuses, unless_refused, unbuilt}
 use Rattle.pth_model.specs.State.{Control, State}
 use Rattle.pth_model.specs.Transition.{Piece, silent, tid}
 use Rattle.pth_world.proofs.Telling.{quiet-refused}
 use Rattle.pth_world.specs.Leading.{Attempts, Changed, IsIdle, IsQuiet, IsReady, MayComeTo, Tries}
-use Rattle.pth_world.specs.Shows.{Shows, StandsFor, resources_of}
+use Rattle.pth_world.specs.Shows.{Shows, StandsFor}
+use Rattle.pth_world.specs.Store.{store_of}
+use Rattle.pth_world.specs.Whole.{MayAwaitAs}
 use Rattle.pth_world.specs.World.{WorldOf, ThreadsBySlot}
 use Rattle.pth_waits.proofs.Blocking.{quiet_once}
+
+-- no call blocks that awaits a condition
+pub waits_for_none : (t : ℕ) (c : Call) (a : Awaits) → MayAwaitAs t c a → is_await c ≡ false
+waits_for_none t (call.CondAwait x m e) a may = absurd may
+waits_for_none t c a may = refl
 
 -- no answer to the call tells anything of what threads have
 abbrev pub IsQuietCall : ℕ → Call → Type 0
@@ -37,8 +50,8 @@ module _ {P S H : Type 0} where
   -- ---- when a verdict can be carried out
 
   -- a ring is claimed, if there is one
-  pub claimed_ready : (v : WorldOf P S H) (t : ℕ) (c : Call) (ring : Option ℤ) (a : Awaits) (s : State P S H) → Shows v (claims t ring s.control) → s.resources ≡ resources_of v → IsReady v t c ring (Blocks a) s
-  claimed_ready v t c ring a s sh has = record { control = sh; resources = has }
+  pub claimed_ready : (v : WorldOf P S H) (t : ℕ) (c : Call) (ring : Option ℤ) (a : Awaits) (s : State P S H) → Shows v (claims t ring s.control) → s.resources.store ≡ store_of v.store → IsReady v t c ring (Blocks a) s
+  claimed_ready v t c ring a s sh has = record { control = sh; store = has }
 
   -- there is none to claim
   pub none_ready : (v : WorldOf P S H) (t : ℕ) (c : Call) (a : Awaits) (s : State P S H) → StandsFor v s → IsReady v t c None (Blocks a) s
@@ -46,8 +59,8 @@ module _ {P S H : Type 0} where
   none_ready v t c a s st = st
 
   -- a refusal tells nothing of what threads have
-  pub refused_ready : (v : WorldOf P S H) (t : ℕ) (c : Call) (ring : Option ℤ) (e : Errno) (s : State P S H) → StandsFor v s → IsReady v t c ring (Says (Fail e)) s
-  refused_ready v t c ring e s st = quiet_once v s (Answered (tid t) c (Fail e)) (quiet-refused (tid t) c e) st
+  pub refused_ready : (v : WorldOf P S H) (t : ℕ) (c : Call) (ring : Option ℤ) (e : Errno) (s : State P S H) → is_await c ≡ false → StandsFor v s → IsReady v t c ring (Says (Fail e)) s
+  refused_ready v t c ring e s other st = quiet_once v s (Answered (tid t) c (Fail e)) (quiet-refused (tid t) c e other) st
 
   pub quiet_ready : (v : WorldOf P S H) (t : ℕ) (c : Call) (x : Verdict) (s : State P S H) → IsQuietCall t c → IsPlain x → StandsFor v s → IsReady v t c None x s
   unfolding claims
@@ -67,26 +80,36 @@ module _ {P S H : Type 0} where
   pub quiet_effect : (attempt : Attempt P S H) → attempt.effect ≡ silent → effect_of attempt ≡ silent
   quiet_effect a quiet = ap (unless_refused (refuses a.verdict)) quiet ∙ does_nothing (refuses a.verdict)
 
-  module _ (w v : WorldOf P S H) (t : ℕ) (c : Call) (ring : Option ℤ) (attempt : State P S H → Attempt P S H) (x : Verdict) where
+  module _ (awaiting : Bool) (w v : WorldOf P S H) (t : ℕ) (c : Call) (ring : Option ℤ) (attempt : State P S H → Attempt P S H) (x : Verdict) where
     pub quiet_attempts : ((s : State P S H) → (attempt s).effect ≡ silent) → ((s : State P S H) → StandsFor w s → (attempt s).verdict ≡ x) → ((s : State P S H) → StandsFor w s → IsReady v t c ring x s) → MayComeTo t c x
-        → Attempts w v t c ring attempt x
+        → Attempts awaiting w v t c ring attempt x
     quiet_attempts quiet is ready may = record {
       verdict = is;
       silent = λ s st. ap (λ (e : Piece P S H). (e s).marks) (quiet_effect (attempt s) (quiet s));
-      ready = λ s st. subst (λ (e : Piece P S H). IsReady v t c ring x (e s).state) (sym (quiet_effect (attempt s) (quiet s))) (ready s st);
+      ready = λ s st. subst (λ (e : Piece P S H). IsReady v t c ring x (e s).state) (sym (quiet_effect (attempt s) (quiet s))) (ready s st.0);
       may = may;
     }
 
     -- ---- attempts whose change is made without a word
 
     pub changed_attempts : ((s : State P S H) → StandsFor w s → (attempt s).verdict ≡ x) → ((s : State P S H) → StandsFor w s → Changed v (effect_of (attempt s) s)) → ((u : State P S H) → StandsFor v u → IsReady v t c ring x u) → MayComeTo t c x
-        → Attempts w v t c ring attempt x
+        → Attempts awaiting w v t c ring attempt x
     changed_attempts is changes ready may = record {
       verdict = is;
       silent = λ s st. (changes s st).silent;
-      ready = λ s st. ready (effect_of (attempt s) s).state (record { control = (changes s st).shows; resources = (changes s st).resources });
+      ready = λ s st. ready (effect_of (attempt s) s).state (record { control = (changes s st.0).shows; store = (changes s st.0).store });
       may = may;
     }
+
+  -- a call that awaits a condition is not built yet
+  pub unbuilt_attempts : (w : WorldOf P S H) (t : ℕ) (x m e : ℤ) → Attempts false w w t (call.CondAwait x m e) (ring_given (call.CondAwait x m e)) (λ (s : State P S H). unbuilt.begin) (refused EINVAL)
+  unfolding told answer_told
+  unbuilt_attempts w t x m e = record {
+    verdict = λ s st. refl;
+    silent = λ s st. refl;
+    ready = λ s st. record { control = st.0.control; store = ap (λ (b : Bool). (if b then retaken s.resources t (object_named m) else s.resources).store) st.1 ∙ st.0.store };
+    may = tt;
+  }
 
   -- ---- calls that are tried again
 
@@ -100,7 +123,7 @@ module _ {P S H : Type 0} where
     pub quiet_tries : ((s : State P S H) → (attempt s).effect ≡ silent) → ((s : State P S H) → StandsFor w s → (attempt s).verdict ≡ x) → ((s : State P S H) → StandsFor w s → IsReady v t b.call None x s) → MayComeTo t b.call x → v.threads ≡ w.threads
         → Tries w v t b attempt x
     quiet_tries quiet is ready may same = record {
-      attempts = quiet_attempts w v t b.call None attempt x quiet is ready may;
+      attempts = quiet_attempts (is_await b.call) w v t b.call None attempt x quiet is ready may;
       idle = λ idle s st. ap (λ (e : Piece P S H). e s) (quiet_effect (attempt s) (quiet s));
       held = blocked_still w v t same;
     }
@@ -109,7 +132,7 @@ module _ {P S H : Type 0} where
     pub changed_tries : ((s : State P S H) → StandsFor w s → (attempt s).verdict ≡ x) → ((s : State P S H) → StandsFor w s → Changed v (effect_of (attempt s) s)) → ((u : State P S H) → StandsFor v u → IsReady v t b.call None x u) → MayComeTo t b.call x
         → (IsIdle x → (s : State P S H) → StandsFor w s → effect_of (attempt s) s ≡ silent s) → ((k j : Control P S H) → Shows w k → Shows v j → blocked_of j t ≡ blocked_of k t) → Tries w v t b attempt x
     changed_tries is changes ready may idle held = record {
-      attempts = changed_attempts w v t b.call None attempt x is changes ready may;
+      attempts = changed_attempts (is_await b.call) w v t b.call None attempt x is changes ready may;
       idle = idle;
       held = held;
     }

@@ -24,7 +24,7 @@ use Rattle.pth_world.proofs.Frames.{gives_none}
 use Rattle.pth_world.proofs.Ranks.{ranks_none, ranks_same}
 use Rattle.pth_world.specs.Frame.{Frame}
 use Rattle.pth_world.specs.Leading.{Leads, IsQuiet, StandsOnce}
-use Rattle.pth_world.specs.Shows.{Shows, StandsFor, resources_of}
+use Rattle.pth_world.specs.Shows.{Shows, StandsFor}
 use Rattle.pth_world.specs.Store.{store_of}
 use Rattle.pth_world.specs.Whole.{Whole, MayAwaitAs}
 
@@ -53,21 +53,21 @@ quiet-waits t (call.BarrierReach b) a may = λ x. refl
 quiet-waits t c a may = absurd may
 
 module _ {P S H : Type 0} (w : WorldOf P S H) (s : State P S H) (m : Mark) (quiet : IsQuiet m) where
-  pub quiet_told : s.resources ≡ resources_of w → told s.resources m ≡ resources_of w
-  quiet_told has = ap (λ k. told k m) has ∙ quiet (store_of w.store)
+  pub quiet_told : s.resources.store ≡ store_of w.store → (told s.resources m).store ≡ store_of w.store
+  quiet_told has = quiet s.resources ∙ has
 
   -- the world still stands for the state once that is told
   pub quiet_once : StandsFor w s → StandsOnce w m s
-  quiet_once st = record { control = st.control; resources = quiet_told st.resources }
+  quiet_once st = record { control = st.control; store = quiet_told st.store }
 
 -- a call blocks its thread
-pub waits_leads : {P S H : Type 0} (w : WorldOf P S H) (s : State P S H) (t : ℕ) (c : Call) (a : Awaits) (old new : List Mark) → MayAwaitAs t c a → s.resources ≡ resources_of w → Shows w (blocks t c a (claims t (ring_given c) s.control)) → new ≡ old ++ Waits (tid t) c ∷ [] → Leads w old new (waits_by t c a s)
+pub waits_leads : {P S H : Type 0} (w : WorldOf P S H) (s : State P S H) (t : ℕ) (c : Call) (a : Awaits) (old new : List Mark) → MayAwaitAs t c a → s.resources.store ≡ store_of w.store → Shows w (blocks t c a (claims t (ring_given c) s.control)) → new ≡ old ++ Waits (tid t) c ∷ [] → Leads w old new (waits_by t c a s)
 waits_leads w s t c a old new may none sh appended =
-    record { stands = record { control = sh; resources = ap (λ k. told k (Waits (tid t) c)) none ∙ quiet-waits t c a may (store_of w.store) }; tells = appended }
+    record { stands = record { control = sh; store = quiet-waits t c a may s.resources ∙ none }; tells = appended }
 
 -- the call that blocks a thread is answered
-pub answers_leads : {P S H : Type 0} (f : P → Functions S H) (w : WorldOf P S H) (s : State P S H) (t : ℕ) (c : Call) (a : Answer) (old new : List Mark) → told s.resources (Answered (tid t) c a) ≡ resources_of w → Shows w (stops_waiting t s.control) → new ≡ old ++ Answered (tid t) c a ∷ [] → Leads w old new (answers f t c a s)
-answers_leads f w s t c a old new tell sh appended = record { stands = record { control = sh; resources = tell }; tells = appended }
+pub answers_leads : {P S H : Type 0} (f : P → Functions S H) (w : WorldOf P S H) (s : State P S H) (t : ℕ) (c : Call) (a : Answer) (old new : List Mark) → (told s.resources (Answered (tid t) c a)).store ≡ store_of w.store → Shows w (stops_waiting t s.control) → new ≡ old ++ Answered (tid t) c a ∷ [] → Leads w old new (answers f t c a s)
+answers_leads f w s t c a old new tell sh appended = record { stands = record { control = sh; store = tell }; tells = appended }
 
 -- another call blocks the thread
 blocking_twice : {S : Type 0} (o : Option (Progress S)) (x y : Option Blocked) → option_map (blocking x) (option_map (blocking y) o) ≡ option_map (blocking x) o
@@ -85,9 +85,9 @@ blocked_twice k t x y =
     ∙ ap (put p t) (blocking_twice (p t) x y))
 
 -- a call that blocks its thread waits on
-pub waits_on_leads : {P S H : Type 0} (w : WorldOf P S H) (s : State P S H) (t : ℕ) (b : Blocked) (old new : List Mark) → MayAwaitAs t b.call b.awaits → s.resources ≡ resources_of w → Shows w (is_blocked_by t (Some b) s.control) → new ≡ old ++ Waits (tid t) b.call ∷ [] → Leads w old new ((changes (is_blocked_by t (Some b)) and_then tells (Waits (tid t) b.call)) s)
+pub waits_on_leads : {P S H : Type 0} (w : WorldOf P S H) (s : State P S H) (t : ℕ) (b : Blocked) (old new : List Mark) → MayAwaitAs t b.call b.awaits → s.resources.store ≡ store_of w.store → Shows w (is_blocked_by t (Some b) s.control) → new ≡ old ++ Waits (tid t) b.call ∷ [] → Leads w old new ((changes (is_blocked_by t (Some b)) and_then tells (Waits (tid t) b.call)) s)
 waits_on_leads w s t b old new may none sh appended =
-    record { stands = record { control = sh; resources = ap (λ k. told k (Waits (tid t) b.call)) none ∙ quiet-waits t b.call b.awaits may (store_of w.store) }; tells = appended }
+    record { stands = record { control = sh; store = quiet-waits t b.call b.awaits may s.resources ∙ none }; tells = appended }
 
 -- a world of which the progress of threads alone is another one
 pub progress_frame : {P S H : Type 0} (w : WorldOf P S H) (p : List (Option (Progress S))) (r : Option ℕ) → w.scheduler.running ≡ r → Whole (record w { threads = record w.threads { progress = p } }) → Frame w (record w { threads = record w.threads { progress = p } }) no_numbers r false

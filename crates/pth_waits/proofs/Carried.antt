@@ -16,7 +16,7 @@ use Rattle.pth_model.specs.declared.blocked.Blocked.{Blocked}
 use Rattle.pth_model.specs.declared.next.Next.{Next}
 use Rattle.pth_model.specs.declared.verdict.Verdict.{Verdict}
 use Rattle.pth_model.specs.declared.verdict.Verdict.TheVariants.{Says, Yields, Blocks, Ends, Kills}
-use Rattle.pth_model.specs.Awaits.{written_in}
+use Rattle.pth_model.specs.Awaits.{is_await, written_in}
 use Rattle.pth_model.specs.Calls.{begun, begun_as, begun_by, interrupted, tried_again, tried_again_by, tried_by, unless_settled}
 use Rattle.pth_model.specs.Changes.{blocked_of}
 use Rattle.pth_model.specs.Resources.{told, answer_told}
@@ -29,13 +29,13 @@ use Rattle.pth_model.specs.Verdict.{refused, says, ◌when◌otherwise◌}
 use Rattle.pth_world.proofs.Frames.{frame_then}
 use Rattle.pth_world.proofs.Telling.{quiet-refused}
 use Rattle.pth_world.specs.Frame.{Frame, runs_after, yields_after}
-use Rattle.pth_world.specs.Leading.{Attempts, Goes, IsIdle, IsReady, Leads, MayComeTo, Tries}
+use Rattle.pth_world.specs.Leading.{Attempts, Goes, IsIdle, IsReady, Leads, MayComeTo, StandsWhere, Tries}
 use Rattle.pth_world.specs.Numbering.{no_numbers}
 use Rattle.pth_world.specs.Shows.{Shows, StandsFor}
 use Rattle.pth_world.specs.Whole.{MayAwaitAs}
 use Rattle.pth_world.specs.World.{WorldOf}
 use Rattle.pth_waits.specs.Verdicts.{interrupted_if, is_called}
-use Rattle.pth_waits.proofs.Attempting.{IsQuietCall}
+use Rattle.pth_waits.proofs.Attempting.{IsQuietCall, waits_for_none}
 use Rattle.pth_waits.proofs.Blocking.{quiet_once}
 
 -- only a write has a count, and that it is answered with tells nothing of what threads have
@@ -82,6 +82,10 @@ module _ {P S H : Type 0} where
       Cut : List Mark → Type 0
       Cut whole = IsCut old new whole
 
+  -- nor does it matter who awaits
+  pub goes_where : (w : WorldOf P S H) (t : ℕ) (b : Bool) (last : Last P S H) (v : WorldOf P S H) (old new : List Mark) (r : Result Next OutOfMemory) → Goes (StandsFor w) last v old new r → Goes (StandsWhere w t b) last v old new r
+  goes_where w t b last v old new r = goes_as (StandsFor w) (StandsWhere w t b) last last v old new r (λ s st. (s, st.0, refl))
+
   -- what is done without a word before it
   silent_first : (e : Piece P S H) (last : Last P S H) (s : State P S H) → (e s).marks ≡ [] → last (e s).state ≡ (e and_finally last) s
   silent_first e last s none = ap (λ (ms : List Mark). record { told = record { state = (last (e s).state).told.state; marks = ms ++ (last (e s).state).told.marks }; next = (last (e s).state).next }) (sym none)
@@ -98,14 +102,14 @@ module _ {P S H : Type 0} where
         by_call (call.Note n) is = absurd (cc is)
         by_call d is = refl
 
-    pub begun_goes : is_called c ≡ true → Attempts w v t c (ring_given c) (λ s. (row_of f s t c).begin) x → (u : WorldOf P S H) (old new : List Mark) (r : Result Next OutOfMemory)
-        → Goes (IsReady v t c (ring_given c) x) (begun_by f t c x) u old new r → Goes (StandsFor w) (begun f t c) u old new r
-    begun_goes is a u old new r = goes_as (IsReady v t c (ring_given c) x) (StandsFor w) (begun_by f t c x) (begun f t c) u old new r (λ s st.
+    pub begun_goes : is_called c ≡ true → Attempts false w v t c (ring_given c) (λ s. (row_of f s t c).begin) x → (u : WorldOf P S H) (old new : List Mark) (r : Result Next OutOfMemory)
+        → Goes (IsReady v t c (ring_given c) x) (begun_by f t c x) u old new r → Goes (StandsWhere w t false) (begun f t c) u old new r
+    begun_goes is a u old new r = goes_as (IsReady v t c (ring_given c) x) (StandsWhere w t false) (begun_by f t c x) (begun f t c) u old new r (λ s st.
         let e = effect_of (row_of f s t c).begin in (
           (e s).state,
           a.ready s st,
-          silent_first e (begun_by f t c x) s (a.silent s st)
-              ∙ ap (λ (y : Verdict). (e and_finally begun_by f t c y) s) (sym (a.verdict s st)) ∙ sym (begun_is is s),
+          silent_first e (begun_by f t c x) s (a.silent s st.0)
+              ∙ ap (λ (y : Verdict). (e and_finally begun_by f t c y) s) (sym (a.verdict s st.0)) ∙ sym (begun_is is s),
         ))
 
   -- ---- it is tried again
@@ -128,7 +132,7 @@ module _ {P S H : Type 0} where
     counted a e s false is may none ready idle = record {
       verdict = rw is refl;
       silent = rw is refl;
-      ready = rw is (quiet_once v s (Answered (tid t) c (Fail EINTR)) (quiet-refused (tid t) c EINTR) (subst (λ (y : Transition P S H). StandsFor v y.state) (idle refl) ready));
+      ready = rw is (quiet_once v s (Answered (tid t) c (Fail EINTR)) (quiet-refused (tid t) c EINTR (waits_for_none t c a may)) (subst (λ (y : Transition P S H). StandsFor v y.state) (idle refl) ready));
     }
 
     idle_zero : (n : ℕ) → nat_lt 0 n ≡ false → n ≡ 0
@@ -179,17 +183,17 @@ module _ {P S H : Type 0} where
     -- and leads where a call leads that is tried again
     pub again_goes : (settled : Bool) (u : WorldOf P S H) (old new : List Mark) (r : Result Next OutOfMemory) → ((s : State P S H) → StandsFor w s → settled ≡ has_settled s.control.events (ring_given b.call))
         → Goes (λ s. (blocked_of s.control t ≡ Some b) × IsReady v t b.call None (interrupted_if settled x) s) (tried_by f t b (interrupted_if settled x)) u old new r
-        → Goes (λ s. StandsFor w s × (blocked_of s.control t ≡ Some b)) (tried_again f t) u old new r
+        → Goes (λ s. StandsWhere w t (is_await b.call) s × (blocked_of s.control t ≡ Some b)) (tried_again f t) u old new r
     unfolding tried_again
     again_goes settled u old new r is =
         let y = interrupted_if settled x in
-        goes_as (λ s. (blocked_of s.control t ≡ Some b) × IsReady v t b.call None y s) (λ s. StandsFor w s × (blocked_of s.control t ≡ Some b)) (tried_by f t b y) (tried_again f t) u old new r (λ s st.
+        goes_as (λ s. (blocked_of s.control t ≡ Some b) × IsReady v t b.call None y s) (λ s. StandsWhere w t (is_await b.call) s × (blocked_of s.control t ≡ Some b)) (tried_by f t b y) (tried_again f t) u old new r (λ s st.
         let a = (row_of f s t b.call).again b.awaits in
-        let comes = by_verdict v t b.call settled x a s (tries.attempts.verdict s st.0) tries.attempts.may (tries.attempts.silent s st.0) (tries.attempts.ready s st.0) (λ idle. tries.idle idle s st.0) in
-        let made = subst (λ (z : Bool). Comes v t b.call z y a s) (is s st.0) comes in
+        let comes = by_verdict v t b.call settled x a s (tries.attempts.verdict s st.0.0) tries.attempts.may (tries.attempts.silent s st.0.0) (tries.attempts.ready s st.0) (λ idle. tries.idle idle s st.0.0) in
+        let made = subst (λ (z : Bool). Comes v t b.call z y a s) (is s st.0.0) comes in
         let e = effect_of (unless_settled (has_settled s.control.events (ring_given b.call)) a) in (
           (e s).state,
-          (tries.held s.control (e s).state.control st.0.control (ready_shows v t b.call y (e s).state made.ready) ∙ st.1, made.ready),
+          (tries.held s.control (e s).state.control st.0.0.control (ready_shows v t b.call y (e s).state made.ready) ∙ st.1, made.ready),
           silent_first e (tried_by f t b y) s made.silent
               ∙ ap (λ (z : Verdict). (e and_finally tried_by f t b z) s) (sym made.verdict)
               ∙ ap (λ (o : Option Blocked). tried_again_by f t o s) (sym st.1),

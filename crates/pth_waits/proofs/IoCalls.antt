@@ -12,7 +12,7 @@ use Rattle.pth_base.specs.declared.mark.Mark.TheVariants.{Answered}
 use Rattle.pth_io.specs.Attempts.{accept_answer, connect_answer, read_answer, select_answer, write_answer, written}
 use Rattle.pth_kernel.specs.Entries.{is_failure}
 use Rattle.pth_kernel.specs.Kernel.{Kernel, KernelOf, came, fd_named, is_fd_live, kernel_of, room}
-use Rattle.pth_model.specs.Awaits.{written_in}
+use Rattle.pth_model.specs.Awaits.{written_in, is_await}
 use Rattle.pth_model.specs.Changes.{with_kernel}
 use Rattle.pth_model.specs.Io.{Trial, answered_or_waits, begins_waiting, tries, trial_for}
 use Rattle.pth_model.specs.Resources.{answer_told, told}
@@ -212,11 +212,11 @@ module _ {P S H : Type 0} (s : State P S H) where
 
 -- ---- calls that are refused as they begin
 
-pub refused_attempts : {P S H : Type 0} (w : WorldOf P S H) (t : ℕ) (c : Call) (ring : Option ℤ) (attempt : State P S H → Attempt P S H) (e : Errno) → ((s : State P S H) → StandsFor w s → (attempt s).verdict ≡ refused e) → Attempts w w t c ring attempt (refused e)
-refused_attempts w t c ring attempt e is =
-    changed_attempts w w t c ring attempt (refused e) is
-    (λ s st. subst (Changed w) (ap (λ (v : Verdict). unless_refused (refuses v) (attempt s).effect s) (sym (is s st))) (record { shows = st.control; resources = st.resources; silent = refl }))
-    (λ u su. refused_ready w t c ring e u su) tt
+pub refused_attempts : {P S H : Type 0} (w : WorldOf P S H) (t : ℕ) (c : Call) (ring : Option ℤ) (attempt : State P S H → Attempt P S H) (e : Errno) → ((s : State P S H) → StandsFor w s → (attempt s).verdict ≡ refused e) → is_await c ≡ false → Attempts false w w t c ring attempt (refused e)
+refused_attempts w t c ring attempt e is other =
+    changed_attempts false w w t c ring attempt (refused e) is
+    (λ s st. subst (Changed w) (ap (λ (v : Verdict). unless_refused (refuses v) (attempt s).effect s) (sym (is s st))) (record { shows = st.control; store = st.store; silent = refl }))
+    (λ u su. refused_ready w t c ring e u other su) tt
 
 module _ {P S H : Type 0} (f : P → Functions S H) (s : State P S H) (t : ℕ) (c : Call) (a : Awaits) (first : first_awaited s c ≡ Some a) where
   abbrev waits_or_not : Verdict → Verdict
@@ -262,7 +262,7 @@ module _ {P S H : Type 0} (f : P → Functions S H) (w : WorldOf P S H) (whole :
     stands_then : StandsFor world_then (turned s a).state
     stands_then = record {
       control = turned_shows w y (trial s a).after s.control st.control (subst (λ (k : Kernel). kernel_of y ≡ (trial_for k a).after (kernel_of w.kernel)) (sym st.control.kernel) after);
-      resources = st.resources;
+      store = st.store;
     }
 
   pub comes_to : ((s : State P S H) → StandsFor w s → IsSome (first_awaited s c)) → MayComeTo t c x
@@ -285,7 +285,7 @@ module _ {P S H : Type 0} (f : P → Functions S H) (w : WorldOf P S H) (whole :
     io_tries =
         changed_tries w world_then t (record { call = c; awaits = a }) again x
         (λ s st. ap (λ (b : Attempt P S H). b.verdict) (again_is s) ∙ verdict_now s st)
-        (λ s st. subst (Changed world_then) (sym (again_does s)) (record { shows = (stands_then s st).control; resources = (stands_then s st).resources; silent = refl }))
+        (λ s st. subst (Changed world_then) (sym (again_does s)) (record { shows = (stands_then s st).control; store = (stands_then s st).store; silent = refl }))
         (λ u su. again_ready world_then t c x u (some u) su)
         (comes_to (λ s st. some s))
         (λ idle s st. again_does s ∙ does_nothing s a (subst IsIdle (sym (verdict_now s st)) idle))
@@ -314,12 +314,12 @@ module _ {P S H : Type 0} (f : P → Functions S H) (w : WorldOf P S H) (whole :
     pub io_begins : (v : WorldOf P S H) (z : Verdict) (at_once : Bool) (e : Option ℤ) → at_once ≡ is_at_once (kernel_of w.kernel) c → e ≡ ring_given c
         → ((s : State P S H) → StandsFor world_then s → is_no_ring s e ≡ false → begins_waiting s at_once e x ≡ z)
         → ((d : Call) (before s : State P S H) → IsSome (first_awaited before d) → StandsFor world_then s → IsReady v t d e z s)
-        → ((d : Call) → MayComeTo t d x → MayComeTo t d z) → Attempts w v t c (ring_given c) begins z
+        → ((d : Call) → MayComeTo t d x → MayComeTo t d z) → Attempts false w v t c (ring_given c) begins z
     io_begins v z at_once e once given waits ready may_then = record {
       verdict = λ s st.
           ap (λ (b : Attempt P S H). b.verdict) (begin_tries f s t c a (first s st) (ring s st) (length s st))
           ∙ rw (verdict_now s st, ← given, st.control.kernel, ← once) (waits (turned s a).state (stands_then s st) (rw given (ring s st)));
       silent = λ s st. ap (λ (m : Transition P S H). m.marks) (begin_does s st);
-      ready = λ s st. subst (λ (m : Transition P S H). IsReady v t c (ring_given c) z m.state) (sym (begin_does s st)) (rw (← given) (ready c s (turned s a).state (some s st) (stands_then s st)));
+      ready = λ s st. subst (λ (m : Transition P S H). IsReady v t c (ring_given c) z m.state) (sym (begin_does s st.0)) (rw (← given) (ready c s (turned s a).state (some s st.0) (stands_then s st.0)));
       may = may_then c (comes_to some);
     }

@@ -1,6 +1,5 @@
 -- A kill begins as its row says.
-use Rattle.std.proofs.Common.{◌≡◌, ℕ, ◌==◌, ◌&&◌, pos, Bool, true, false, refl}
-use mathlib.Core.Path.{fun_ext}
+use Rattle.std.proofs.Common.{◌≡◌, ℕ, ◌==◌, pos, true, false, refl}
 use Rattle.pth_base.specs.Program.{Functions}
 use Rattle.pth_base.specs.declared.answer.Answer.TheVariants.{Int, Fail}
 use Rattle.pth_base.specs.declared.call.Call.TheVariants as call
@@ -9,21 +8,15 @@ use Rattle.pth_base.specs.declared.mark.Mark.TheVariants.{Answered}
 use Rattle.pth_model.specs.declared.next.Next.TheVariants as next
 use Rattle.pth_model.specs.Calls.{begun}
 use Rattle.pth_model.specs.LibraryControl.{vanish_all_but}
-use Rattle.pth_model.specs.Resources.{Store, store_of_only, no_resources, told, answer_told}
+use Rattle.pth_model.specs.Resources.{Resources, store_of_only, told, answer_told}
 use Rattle.pth_model.specs.Rows.{row_of}
 use Rattle.pth_model.specs.State.{State, main}
 use Rattle.pth_model.specs.Transition.{tid, changes, tells, ◌and_then◌, ◌and_next◌}
 
-and_false : (b : Bool) → (b && false) ≡ false
-and_false true = refl
-and_false false = refl
-
 -- only what the one thread stored is left
-pub kill-told : (x : Store) (t n : ℕ) → told (record no_resources { store = x }) (Answered (tid t) call.Kill (Int (pos n))) ≡ record no_resources { store = store_of_only t x }
+pub kill-told : (k : Resources) (t n : ℕ) → (told k (Answered (tid t) call.Kill (Int (pos n)))).store ≡ store_of_only t k.store
 unfolding told answer_told
-kill-told x t n =
-    let awaits : (λ (u : ℕ). (u == t) && false) ≡ (λ u. false) = fun_ext (λ u. and_false (u == t)) in
-    rw awaits refl
+kill-told k t n = refl
 
 module _ {P S H : Type 0} (f : P → Functions S H) (s : State P S H) (t : ℕ) where
   pub kill_refused : (t == main) ≡ false → begun f t call.Kill s ≡ (tells (Answered (tid t) call.Kill (Fail EPERM)) and_next next.Done (Fail EPERM)) s

@@ -48,15 +48,15 @@ module _ {P S H : Type 0} (w : WorldOf P S H) (x : List (Option Barrier)) (t : �
 
   arrival_effect : (s : State P S H) (q : Result Arrival Errno) → StandsFor w s → OnOk q (barriers_of x ≡ barrier_reached b t (barriers_of w.barriers)) → OnErr q (x ≡ w.barriers)
       → Changed v (effect_of (by_result (arrived_as b) q trying changes (with_barriers (barrier_reached b t))) s)
-  arrival_effect s (Ok (Waits round)) st changed same = record { shows = barred_shows w x (barrier_reached b t) s.control st.control changed; resources = st.resources; silent = refl }
-  arrival_effect s (Ok Tail) st changed same = record { shows = barred_shows w x (barrier_reached b t) s.control st.control changed; resources = st.resources; silent = refl }
-  arrival_effect s (Err e) st changed same = record { shows = barred_shows w x (λ y. y) s.control st.control (ap barriers_of same); resources = st.resources; silent = refl }
+  arrival_effect s (Ok (Waits round)) st changed same = record { shows = barred_shows w x (barrier_reached b t) s.control st.control changed; store = st.store; silent = refl }
+  arrival_effect s (Ok Tail) st changed same = record { shows = barred_shows w x (barrier_reached b t) s.control st.control changed; store = st.store; silent = refl }
+  arrival_effect s (Err e) st changed same = record { shows = barred_shows w x (λ y. y) s.control st.control (ap barriers_of same); store = st.store; silent = refl }
 
   pub arrival_begins : (q : Result Arrival Errno) → q ≡ arrival_answer (barriers_of w.barriers) b → OnOk q (barriers_of x ≡ barrier_reached b t (barriers_of w.barriers)) → OnErr q (x ≡ w.barriers)
       → Begins w v t (BarrierReach b) (λ s. barrier_reach s t b) (by_result (arrived_as b) q)
   arrival_begins q is changed same =
       let at : (s : State P S H) → StandsFor w s → arrival_answer s.control.barriers b ≡ q = λ s st. ap (λ (y : BarrierTable). arrival_answer y b) st.control.barriers ∙ sym is in
-      changed_attempts w v t (BarrierReach b) None (λ s. (barrier_reach s t b).begin) (by_result (arrived_as b) q)
+      changed_attempts false w v t (BarrierReach b) None (λ s. (barrier_reach s t b).begin) (by_result (arrived_as b) q)
       (λ s st. ap (by_result (arrived_as b)) (at s st))
       (λ s st. subst (λ (r : Result Arrival Errno). Changed v (effect_of (by_result (arrived_as b) r trying changes (with_barriers (barrier_reached b t))) s)) (sym (at s st)) (arrival_effect s q st changed same))
       (λ u st. quiet_ready v t (BarrierReach b) (by_result (arrived_as b) q) u (quiet_reach t b) (arrival_plain b q) st)
@@ -98,7 +98,7 @@ module _ {P S H : Type 0} (w : WorldOf P S H) (x : List (Option Barrier)) (t : �
     round_passed is changed =
         tried true (Says (Int (round_answer (barriers_of w.barriers) b round t))) tt tt is
         (λ s st. ap (λ (y : BarrierTable). Says (Int (round_answer y b round t))) st.control.barriers)
-        (λ s st. record { shows = barred_shows w x (round_answered b round t) s.control st.control changed; resources = st.resources; silent = refl })
+        (λ s st. record { shows = barred_shows w x (round_answered b round t) s.control st.control changed; store = st.store; silent = refl })
         (λ s no. absurd (cc no))
         (λ yes. (round_answer (barriers_of w.barriers) b round t, refl))
 
@@ -107,6 +107,6 @@ module _ {P S H : Type 0} (w : WorldOf P S H) (x : List (Option Barrier)) (t : �
     round_waits is same =
         tried false (Blocks (Round b round)) tt refl is
         (λ s st. refl)
-        (λ s st. record { shows = barred_shows w x (λ y. y) s.control st.control (ap barriers_of same); resources = st.resources; silent = refl })
+        (λ s st. record { shows = barred_shows w x (λ y. y) s.control st.control (ap barriers_of same); store = st.store; silent = refl })
         (λ s no. refl)
         (λ yes. absurd (cc yes))

@@ -1,5 +1,5 @@
 -- Calls that wait for a length of time, as attempts.
-use Rattle.std.proofs.Common.{◌≡◌, ℕ, ℤ, None, refl}
+use Rattle.std.proofs.Common.{◌≡◌, ℕ, ℤ, None, refl, false}
 use Rattle.pth_base.specs.declared.call.Call.{Call}
 use Rattle.pth_model.specs.declared.awaits.Awaits.{Awaits}
 use Rattle.pth_model.specs.declared.verdict.Verdict.{Verdict}
@@ -30,9 +30,9 @@ module _ {P S H : Type 0} (w : WorldOf P S H) (t : ℕ) (c : Call) (quiet : IsQu
   rest_may Kills is = tt
 
   pub rest_attempts : (unit : ℕ) (n : ℤ) (answer : ℕ) (x : Verdict) → ((s : State P S H) → StandsFor w s → (rest s unit n answer).begin.verdict ≡ x) → IsRestVerdict x
-      → Attempts w w t c None (λ (s : State P S H). (rest s unit n answer).begin) x
+      → Attempts false w w t c None (λ (s : State P S H). (rest s unit n answer).begin) x
   rest_attempts unit n answer x is rests =
-      quiet_attempts w w t c None (λ s. (rest s unit n answer).begin) x (λ s. refl) is (λ s st. quiet_ready w t c x s quiet (rest_plain x rests) st) (rest_may x rests)
+      quiet_attempts false w w t c None (λ s. (rest s unit n answer).begin) x (λ s. refl) is (λ s st. quiet_ready w t c x s quiet (rest_plain x rests) st) (rest_may x rests)
 
   pub rest_tries : (unit : ℕ) (n : ℤ) (answer : ℕ) (x : Verdict) (a : Awaits) → ((s : State P S H) → StandsFor w s → ((rest s unit n answer).again a).verdict ≡ x) → IsRestVerdict x
       → Tries w w t (record { call = c; awaits = a }) (λ (s : State P S H). (rest s unit n answer).again a) x

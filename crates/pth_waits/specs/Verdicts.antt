@@ -5,7 +5,7 @@ use Rattle.pth_base.specs.declared.call.Call.TheVariants as call
 use Rattle.pth_model.specs.declared.awaits.Awaits.{Awaits}
 use Rattle.pth_model.specs.declared.verdict.Verdict.{Verdict}
 use Rattle.pth_model.specs.declared.verdict.Verdict.TheVariants.{Blocks}
-use Rattle.pth_model.specs.Awaits.{written_in}
+use Rattle.pth_model.specs.Awaits.{is_await, written_in}
 use Rattle.pth_model.specs.Calls.{interrupted}
 use Rattle.pth_model.specs.RingWaits.{ring_given}
 use Rattle.pth_model.specs.Row.{Row}
@@ -24,16 +24,17 @@ is_called c = true
 module _ {P S H : Type 0} (w v : WorldOf P S H) (t : ℕ) (c : Call) (row : State P S H → Row P S H) (x : Verdict) where
   -- as it begins, the call comes to the verdict of this row
   abbrev pub Begins : Type 0
-  Begins = Attempts w v t c (ring_given c) (λ s. (row s).begin) x
+  Begins = Attempts false w v t c (ring_given c) (λ s. (row s).begin) x
 
   -- and as it is tried again, whatever its thread awaits
   abbrev pub TriesAgain : Type 0
   TriesAgain = (a : Awaits) → Tries w v t (record { call = c; awaits = a }) (λ s. (row s).again a) x
 
--- no thread waits for anything by such a call, and it is none on descriptors
+-- no thread waits for anything by such a call, and it is none on descriptors and awaits no condition
 pub record NeverBlocks (P S H : Type 0) (c : Call) : Type 0 where
   pub away : (t : ℕ) (a : Awaits) → MayAwaitAs t c a → ⊥
   pub elsewhere : (s : State P S H) → first_awaited s c ≡ None
+  pub unawaited : is_await c ≡ false
 
 -- the verdict on a blocked call, if its ring has settled or not
 abbrev pub interrupted_if : Bool → Verdict → Verdict

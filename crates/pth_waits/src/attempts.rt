@@ -20,7 +20,9 @@ use crate::rests::{rest, rest_again};
 use crate::ring_waits::{wait, wait_again};
 use crate::rwlocks::{acquire_lock, acquire_lock_again};
 use crate::thread_ends::exit;
+use pth_base::answer::Answer;
 use pth_base::call::Call;
+use pth_base::errno::Errno;
 use pth_base::ids::Tid;
 use pth_base::memory::OutOfMemory;
 use pth_base::program::Program;
@@ -28,7 +30,7 @@ use pth_model::times::{micros, seconds};
 use pth_model::verdict::Verdict;
 use pth_world::world::World;
 
-/// What a call comes to as it begins; none of a call that never blocks its thread. After an error the world may only be dropped.
+/// What a call comes to as it begins; none of a call that never blocks its thread. `pth_cond_await` is not built yet: EINVAL. After an error the world may only be dropped.
 pub fn attempt<P: Program>(
     w: &mut World<P>,
     t: Tid,
@@ -51,6 +53,7 @@ pub fn attempt<P: Program>(
         Call::Wait(e) => Ok(Some(wait(w, t, *e))),
         Call::MutexAcquire { m, v, e } => Ok(Some(acquire_mutex(w, t, *m, *v, *e))),
         Call::RwAcquire { l, write, v, e } => Ok(Some(acquire_lock(w, t, *l, *write, *v, *e))),
+        Call::CondAwait { .. } => Ok(Some(Verdict::Says(Answer::Fail(Errno::EINVAL)))),
         Call::BarrierReach(b) => Ok(Some(reach_barrier(w, t, *b)?)),
         _ => begin_io(w, t, call),
     }

@@ -3,6 +3,7 @@
 ghost use Rattle.std.specs.Prelude.{◌≡◌, ◌||◌, false, Err};
 ghost use Rattle.pth_base.specs.declared.call.Call.{Call};
 ghost use Rattle.pth_base.specs.declared.errno.Errno.TheVariants.{EBUSY};
+ghost use Rattle.pth_model.specs.Awaits.{is_await};
 ghost use Rattle.pth_model.specs.RingWaits.{is_claimed_ring, is_no_ring};
 ghost use Rattle.pth_model.specs.State.{State};
 ghost use Rattle.pth_model.specs.Verdict.{refused, taken_or, ◌when◌otherwise◌};
@@ -33,7 +34,7 @@ pub(crate) fn turn_away<P: Program>(
 ) -> Verdict
     requires { Whole w.old }
     ensures verdict { (s : State P P.State P.Shared) → StandsFor w.old s → is_no_ring s ring ≡ false → taken_or (Err errno) (refused EBUSY when only_tries || is_claimed_ring s ring otherwise Blocks awaits) ≡ result }
-    ensures ready { (c : Call) (s : State P P.State P.Shared) → StandsFor w.old s → IsReady w.new t.0 c ring result s }
+    ensures ready { (c : Call) (s : State P P.State P.Shared) → is_await c ≡ false → StandsFor w.old s → IsReady w.new t.0 c ring result s }
     ensures frame { Frame w.old w.new no_numbers w.old.scheduler.running false }
 {
     if only_tries {

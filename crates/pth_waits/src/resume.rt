@@ -7,7 +7,7 @@ ghost use Rattle.pth_model.specs.Calls.{canceled_by, gone_on, tried_again};
 ghost use Rattle.pth_model.specs.Changes.{blocked_of};
 ghost use Rattle.pth_model.specs.State.{State};
 ghost use Rattle.pth_world.specs.Frame.{Frame, runs_after, yields_after};
-ghost use Rattle.pth_world.specs.Leading.{Goes};
+ghost use Rattle.pth_world.specs.Leading.{Goes, StandsRightly};
 ghost use Rattle.pth_world.specs.Numbering.{no_numbers};
 ghost use Rattle.pth_world.specs.Shows.{StandsFor};
 ghost use Rattle.pth_world.specs.Whole.{Whole};
@@ -29,7 +29,7 @@ use pth_world::world::World;
 fn try_again<P: Program>(w: &mut World<P>, t: Tid, marks: &mut Marks) -> Result<Next, OutOfMemory>
     requires whole { Whole w.old }
     requires runs { w.old.scheduler.running ≡ Some t.0 }
-    ensures goes { Goes (StandsFor w.old) (tried_again P.functions t.0) w.new marks.old marks.new result }
+    ensures goes { Goes (StandsRightly w.old t.0) (tried_again P.functions t.0) w.new marks.old marks.new result }
     ensures frame { IfOk result (λ n. Frame w.old w.new no_numbers (runs_after t.0 n) (yields_after n)) }
 {
     let settled = has_settled(w.rings(), w.awaited(t).ring);
@@ -63,7 +63,7 @@ fn cancel_blocked<P: Program>(
 pub fn resume<P: Program>(w: &mut World<P>, t: Tid, marks: &mut Marks) -> Result<Next, OutOfMemory>
     requires whole { Whole w.old }
     requires runs { w.old.scheduler.running ≡ Some t.0 }
-    ensures goes { Goes (StandsFor w.old) (gone_on P.functions t.0) w.new marks.old marks.new result }
+    ensures goes { Goes (StandsRightly w.old t.0) (gone_on P.functions t.0) w.new marks.old marks.new result }
     ensures frame { IfOk result (λ n. Frame w.old w.new no_numbers (runs_after t.0 n) (yields_after n)) }
 {
     if may_be_canceled(w, t) {

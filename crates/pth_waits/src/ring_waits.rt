@@ -5,6 +5,7 @@ ghost use Rattle.pth_base.specs.declared.call.Call.{Call};
 ghost use Rattle.pth_base.specs.declared.call.Call.TheVariants.{Wait};
 ghost use Rattle.pth_base.specs.declared.errno.Errno.TheVariants.{EBUSY};
 ghost use Rattle.pth_model.specs.EventHandling.{wait};
+ghost use Rattle.pth_model.specs.Awaits.{is_await};
 ghost use Rattle.pth_model.specs.RingWaits.{claims, has_settled, is_claimed_ring, is_no_ring};
 ghost use Rattle.pth_model.specs.State.{Control, State};
 ghost use Rattle.pth_model.specs.Verdict.{refused, ◌when◌otherwise◌};
@@ -74,7 +75,7 @@ pub(crate) fn wait_beside<P: Program>(
 ) -> Verdict
     requires { Whole w.old }
     ensures verdict { (s : State P P.State P.Shared) → StandsFor w.old s → is_no_ring s ring ≡ false → (refused EBUSY when is_claimed_ring s ring otherwise Blocks awaits) ≡ result }
-    ensures ready { (c : Call) (s : State P P.State P.Shared) → StandsFor w.old s → IsReady w.new t.0 c ring result s }
+    ensures ready { (c : Call) (s : State P P.State P.Shared) → is_await c ≡ false → StandsFor w.old s → IsReady w.new t.0 c ring result s }
     ensures frame { Frame w.old w.new no_numbers w.old.scheduler.running false }
 {
     match claim_given(w, t, ring) {

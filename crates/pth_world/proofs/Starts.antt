@@ -226,5 +226,5 @@ module _ {P S H : Type 0} (f : P → Functions S H) (g : Given P) where
       used = sh.used;
       scheduler = sh.scheduler;
     };
-    resources = ap (λ (s : Store). record no_resources { store = s }) (sym none);
+    store = sym none;
   }

@@ -1,5 +1,6 @@
 -- Every sound world shows a state.
 use Rattle.std.proofs.Common.{◌≡◌, ◌∙◌, ℕ, ℤ, ◌≤ℤ◌, int_lt, true, false, Bool, if◌then◌else◌, List, [], ◌∷◌, ◌++◌, map, reverse, AllPairs, All, refl, ap, subst, arith}
+use Rattle.pth_world.specs.Leading.{AllAwaitRightly}
 use Rattle.std.proofs.lemmas.Int.{ints}
 use Rattle.std.proofs.lemmas.List.{append_assoc, append-nil, map-append, reverse-append}
 use Rattle.std.proofs.lemmas.List.Elements.{All-append, All-cons, All-head, All-nil, All-tail, All-weaker}
@@ -97,5 +98,9 @@ stands_for_state w sound = record {
     used = refl;
     scheduler = refl;
   };
-  resources = refl;
+  store = refl;
 }
+
+pub state_awaits_rightly : {P S H : Type 0} (w : WorldOf P S H) → AllAwaitRightly (state_of w)
+unfolding state_of
+state_awaits_rightly w t = refl

@@ -11,7 +11,6 @@ use Rattle.pth_ring.specs.Arena.{events_of}
 use Rattle.pth_cond.specs.Conditions.{conditions_of}
 use Rattle.pth_cond.specs.Barriers.{barriers_of}
 use Rattle.pth_kernel.specs.Kernel.{kernel_of}
-use Rattle.pth_model.specs.Resources.{Resources, no_resources}
 use Rattle.pth_model.specs.Standing.{shown, raises_of}
 use Rattle.pth_model.specs.State.{State, Control, Threads, Attributes}
 use Rattle.pth_world.specs.Store.{store_of}
@@ -48,11 +47,8 @@ pub record Shows {P S H : Type 0} (w : WorldOf P S H) (k : Control P S H) : Type
   pub used : k.used ≡ table false w.used
   pub scheduler : k.scheduler ≡ w.scheduler
 
--- what threads have: what they stored, and of what is not built yet nothing
-abbrev pub resources_of : {P S H : Type 0} → WorldOf P S H → Resources
-resources_of w = record no_resources { store = store_of w.store }
-
--- the world stands for this state: it shows the control, and what threads have
+-- The world stands for this state: it shows the control, and what threads stored. Who awaits a condition it does not show: the blocked
+-- call says so, in the states of each run (`every_run_is_valid`).
 pub record StandsFor {P S H : Type 0} (w : WorldOf P S H) (s : State P S H) : Type 0 where
   pub control : Shows w s.control
-  pub resources : s.resources ≡ resources_of w
+  pub store : s.resources.store ≡ store_of w.store

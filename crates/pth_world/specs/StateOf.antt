@@ -1,5 +1,7 @@
 -- A state that a world shows.
 use Rattle.std.specs.Prelude.{List, None, map, reverse, false}
+use Rattle.pth_model.specs.Changes.{blocked_in}
+use Rattle.pth_model.specs.Awaits.{is_awaiting}
 use Rattle.pth_base.specs.Naming.{seen}
 use Rattle.pth_base.specs.Table.{table}
 use Rattle.pth_queue.specs.Ranking.{named_row}
@@ -11,9 +13,10 @@ use Rattle.pth_ring.specs.Arena.{events_of}
 use Rattle.pth_cond.specs.Conditions.{conditions_of}
 use Rattle.pth_cond.specs.Barriers.{barriers_of}
 use Rattle.pth_kernel.specs.Kernel.{kernel_of}
+use Rattle.pth_model.specs.Resources.{no_resources}
 use Rattle.pth_model.specs.Standing.{Standing}
 use Rattle.pth_model.specs.State.{State}
-use Rattle.pth_world.specs.Shows.{resources_of}
+use Rattle.pth_world.specs.Store.{store_of}
 use Rattle.pth_world.specs.World.{WorldOf}
 
 -- one who stands at a row of a queue that was never raised
@@ -24,10 +27,14 @@ standing_at r = record { tid = r.holder; rank = r.rank; since = 0; entry = 0; to
 abbrev pub entered_as : List Ranked → List Standing
 entered_as rows = reverse (map standing_at rows)
 
--- the state in which no queue was raised, and those who stand in each entered in its order
+-- the state in which no queue was raised, and those who stand in each entered in its order; whom a call blocks that awaits a
+-- condition awaits one
 unfoldable pub state_of : {P S H : Type 0} → WorldOf P S H → State P S H
 state_of w = record {
-  resources = resources_of w;
+  resources = record no_resources {
+    store = store_of w.store;
+    awaits = λ t. is_awaiting (blocked_in (seen None (slot_of w.threads.records) (table None w.threads.progress) t));
+  };
   control = record {
     program = w.program;
     shared = w.shared;

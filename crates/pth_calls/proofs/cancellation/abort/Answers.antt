@@ -1,4 +1,4 @@
-use Rattle.std.proofs.Common.{pos, SFits, w64, to_z-of_z, rules, arith}
+use Rattle.std.proofs.Common.{refl, pos, SFits, w64, to_z-of_z, rules, arith}
 use Rattle.std.proofs.lemmas.Result.{err_from_is_err_and}
 use Rattle.pth_base.specs.declared.answer.Answer.TheVariants.{Int}
 use Rattle.pth_base.specs.declared.call.Call.TheVariants.{Abort}
@@ -19,6 +19,7 @@ returns-in-Err-clause-goes g c =
     let why = simp to_z-of_z at c.in-Err.ensures.refused in
     refused_goes _ c.args.w.now c.args.t c.args.call.now c.in-Err.e _ _ c.done.result
     (λ s st. rw c.requires.call (abort_refused g.P.Program.functions s c.args.t.0 c.args.n c.in-Err.e (why s st)))
+    (rw c.requires.call refl)
     c.done.ensures.next c.done.ensures.ok c.done.ensures.err
 
 pub returns-in_err-drop_or_abort-clause-goes : goal.returns-in_err-drop_or_abort-clause-goes

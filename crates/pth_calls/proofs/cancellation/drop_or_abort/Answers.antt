@@ -9,7 +9,7 @@ pub returns-then-dead-clause-ok : goal.returns-then-dead-clause-ok
 returns-then-dead-clause-ok g c s st =
     let stored = ap (λ (z : WorldOf _ _ _). z.store) c.remove.ensures.moves.same in
     rw c.if-dead.true (record {
-      stands = record { control = c.remove.ensures.shows s.control st.control; resources = has_still c.args.w.now c.remove.new.self s stored st.resources };
+      stands = record { control = c.remove.ensures.shows s.control st.control; store = has_still c.args.w.now c.remove.new.self s stored st.store };
       tells = sym (append-nil _);
     })
 

@@ -1,11 +1,11 @@
-use Rattle.std.proofs.Common.{◌∙◌, not, pos, sym, ap, SFits, w64, to_z-of_z, rules, Some, false}
+use Rattle.std.proofs.Common.{◌∙◌, refl, not, pos, sym, ap, SFits, w64, to_z-of_z, rules, Some, false}
 use Rattle.std.proofs.lemmas.Result.{err_from_is_err_and}
 use Rattle.pth_base.specs.declared.answer.Answer.TheVariants.{Int}
 use Rattle.pth_base.specs.declared.call.Call.TheVariants.{CleanupPop}
 use Rattle.pth_base.specs.declared.errno.Errno.TheVariants.{EINVAL}
 use Rattle.pth_base.specs.declared.mark.Mark.TheVariants.{Answered}
 use Rattle.pth_model.specs.Acts.{runs_handler}
-use Rattle.pth_model.specs.Resources.{Resources}
+use Rattle.pth_model.specs.Resources.{Store}
 use Rattle.pth_model.specs.Transition.{tells, where_so}
 use Rattle.pth_numbered.specs.Operands.{is_zero}
 use Rattle.pth_store.specs.Cleanups.{pop_answer}
@@ -21,7 +21,8 @@ pub returns-in_default-clause-goes : goal.returns-in_default-clause-goes
 returns-in_default-clause-goes g c =
     let v : SFits w64 c.args.v = search rules in
     refused_goes _ c.args.w.now c.args.t c.args.call.now EINVAL _ _ c.done.result
-    (λ s st. rw c.requires.call (pop_refused g.P.Program.functions s c.args.t.0 c.args.v (ap (λ (k : Resources). pop_answer k.store.cleanups c.args.t.0) st.resources ∙ sym c.cleanup_below.ensures.answer ∙ c.in_default.is)))
+    (λ s st. rw c.requires.call (pop_refused g.P.Program.functions s c.args.t.0 c.args.v (ap (λ (k : Store). pop_answer k.cleanups c.args.t.0) st.store ∙ sym c.cleanup_below.ensures.answer ∙ c.in_default.is)))
+    (rw c.requires.call refl)
     c.done.ensures.next c.done.ensures.ok c.done.ensures.err
 
 pub returns-in_err-run_popped-clause-goes : goal.returns-in_err-run_popped-clause-goes
@@ -35,7 +36,7 @@ returns-in_err-run_popped-clause-goes g c =
       next = tt;
       leads = tt;
       cut = λ s st. (
-          let some = ap (λ (k : Resources). pop_answer k.store.cleanups c.args.t.0) st.resources ∙ sym c.cleanup_below.ensures.answer ∙ c.in-Some.is in
+          let some = ap (λ (k : Store). pop_answer k.cleanups c.args.t.0) st.store ∙ sym c.cleanup_below.ensures.answer ∙ c.in-Some.is in
           rw (c.requires.call, pop_runs f s c.args.t.0 c.args.v (c.in-Some.h, c.in-Some.arg) some)
           (cut_one s (where_so (not (is_zero c.args.v)) (runs_handler f c.args.t.0 c.in-Some.h c.in-Some.arg)) (tells (Answered c.args.t (CleanupPop c.args.v) (Int (pos 1)))) _ _ (ran s st)));
     })
@@ -47,7 +48,7 @@ returns-clause-goes g c =
     let x : SFits w64 c.in-Some.arg = search rules in
     let ran = simp to_z-of_z at c.in_ok-run_popped.ensures.ok in
     done_goes _ c.args.w.now c.run_popped.new.w c.pop_cleanup.new.self (where_so (not (is_zero c.args.v)) (runs_handler f c.args.t.0 c.in-Some.h c.in-Some.arg)) (Answered c.args.t c.args.call.now (Int (pos 1))) (Int (pos 1)) _ _ _ c.done-2.result
-    (λ s st. rw c.requires.call (pop_runs f s c.args.t.0 c.args.v (c.in-Some.h, c.in-Some.arg) (ap (λ (k : Resources). pop_answer k.store.cleanups c.args.t.0) st.resources ∙ sym c.cleanup_below.ensures.answer ∙ c.in-Some.is)))
+    (λ s st. rw c.requires.call (pop_runs f s c.args.t.0 c.args.v (c.in-Some.h, c.in-Some.arg) (ap (λ (k : Store). pop_answer k.cleanups c.args.t.0) st.store ∙ sym c.cleanup_below.ensures.answer ∙ c.in-Some.is)))
     ran
     (rw c.requires.call (popped_tells c.run_popped.new.w c.pop_cleanup.new.self c.args.t c.args.v c.pop_cleanup.ensures.changes))
     c.pop_cleanup.ensures.keeps.shows

@@ -5,7 +5,7 @@ use Rattle.pth_model.specs.Rows.{row_of}
 use Rattle.pth_world.proofs.Telling.{quiet-refused}
 use Rattle.pth_base.specs.declared.mark.Mark.TheVariants.{Answered}
 use Rattle.pth_end.proofs.Answers.{refused_answered, answered_told, each_told}
-use Rattle.pth_calls.proofs.Plains.{is_of_code, other_facility, plain_called, unbuilt_row}
+use Rattle.pth_calls.proofs.Plains.{is_of_code, other_facility, plain_awaits_none, plain_called, unbuilt_row}
 use Rattle.std.proofs.lemmas.Result.{on_ok_weaker}
 use Rattle.pth_world.proofs.Frames.{frame_as, still_frame, one_at_most}
 use Rattle.pth_world.specs.Numbering.{Thread, Object, Event, no_numbers, one_of, one_of_each}
@@ -15,7 +15,7 @@ pub returns-in-None-clause-told : goal.returns-in-None-clause-told
 returns-in-None-clause-told g c =
     let none = sym c.facility.ensures ∙ c.in-None.is in
     let called = plain_called c.args.call.now c.requires.plain in
-    answered_told c.args.w.now c.args.w.now _ _ _ (quiet-refused c.args.t c.args.call.now EINVAL)
+    answered_told c.args.w.now c.args.w.now _ _ _ (quiet-refused c.args.t c.args.call.now EINVAL (plain_awaits_none c.args.call.now c.requires.plain))
     (refused_answered c.args.w.now EINVAL _ (λ s st. ap (λ (r : Row _ _ _). r.begin.verdict) (absurd {A = row_of g.P.Program.functions s c.args.t.0 c.args.call.now ≡ unbuilt} (called none))))
 
 pub returns-in_default-clause-told : goal.returns-in_default-clause-told
@@ -37,7 +37,7 @@ returns-in_default-clause-told g c =
       io = not.not-Io;
     }) in
     let none = ap is_of_code (sym c.facility.ensures ∙ c.in-Some.is) ∙ other in
-    answered_told c.args.w.now c.args.w.now _ _ _ (quiet-refused c.args.t c.args.call.now EINVAL)
+    answered_told c.args.w.now c.args.w.now _ _ _ (quiet-refused c.args.t c.args.call.now EINVAL (plain_awaits_none c.args.call.now c.requires.plain))
     (refused_answered c.args.w.now EINVAL _ (λ s st. ap (λ (r : Row _ _ _). r.begin.verdict) (unbuilt_row g.P.Program.functions s c.args.t.0 c.args.call.now (plain_called c.args.call.now c.requires.plain) none)))
 
 pub returns-in-Library-clause-told : goal.returns-in-Library-clause-told

@@ -19,8 +19,8 @@ returns-then-not-name_next-clause-goes g c =
     let effect = simp to_z-of_z at c.name_next.ensures.effect in
     quiet_goes _ c.args.w.now c.name_next.new.w (λ s. effect_of (yield s c.args.t.0 c.args.to).begin s) (Answered c.args.t c.args.call.now (Fail EINVAL)) (Fail EINVAL) _ _ _ c.done.result
     (λ s st. rw c.requires.call (yield_refused g.P.Program.functions s c.args.t.0 c.args.to (Fail EINVAL) (verdict s st)))
-    (λ s st. (let led = effect s st in record { stands = record { control = led.shows; resources = led.resources }; tells = sym (ap (λ (ms : List Mark). c.args.marks.now ++ ms) led.silent ∙ append-nil _) }))
-    (quiet-refused c.args.t c.args.call.now EINVAL)
+    (λ s st. (let led = effect s st in record { stands = record { control = led.shows; store = led.store }; tells = sym (ap (λ (ms : List Mark). c.args.marks.now ++ ms) led.silent ∙ append-nil _) }))
+    (quiet-refused c.args.t c.args.call.now EINVAL (rw c.requires.call refl))
     c.done.ensures.next c.done.ensures.ok c.done.ensures.err
 
 pub returns-clause-goes : goal.returns-clause-goes

@@ -1,9 +1,13 @@
-use Rattle.std.proofs.Common.{arith}
+use Rattle.std.proofs.Common.{arith, false, refl, subst, sym}
+use Rattle.pth_world.specs.World.{WorldOf}
+use Rattle.pth_world.specs.Shows.{StandsFor}
+use Rattle.pth_world.specs.Leading.{StandsWhere}
+use Rattle.pth_model.specs.Calls.{begun}
 use Rattle.std.proofs.lemmas.Result.{IfOk-weaker}
 use Rattle.pth_world.proofs.Frames.{frame_more}
 use Rattle.pth_world.specs.Frame.{runs_after, yields_after}
 use Rattle.pth_world.specs.Numbering.{no_numbers, one_of_each}
-use Rattle.pth_waits.proofs.Carried.{begun_goes, carried_frame}
+use Rattle.pth_waits.proofs.Carried.{begun_goes, carried_frame, goes_as}
 use Rattle.pth_sched.proofs.begin.begin.Goals as goal
 
 pub carry_out-requires-clause-may : goal.carry_out-requires-clause-may
@@ -19,3 +23,12 @@ returns-in-Some-clause-frame g c = IfOk-weaker c.carry_out.result _ _ (λ n fram
 
 pub begin_at_once-requires-clause-never : goal.begin_at_once-requires-clause-never
 begin_at_once-requires-clause-never g c = c.in_ok-verdict.ensures.never c.in-None.is
+
+pub returns-in-None-clause-goes : goal.returns-in-None-clause-goes
+returns-in-None-clause-goes g c =
+    let w = c.args.w.now in
+    let v = c.attempt.new.w in
+    let same = c.in_ok-verdict.ensures.same c.in-None.is in
+    let f = g.P.Program.functions in
+    goes_as (StandsFor v) (StandsWhere w c.args.t.0 false) (begun f c.args.t.0 c.args.call) (begun f c.args.t.0 c.args.call) _ _ _ _
+    (λ s st. (s, subst (λ (u : WorldOf _ _ _). StandsFor u s) (sym same) st.0, refl)) c.begin_at_once.ensures.goes

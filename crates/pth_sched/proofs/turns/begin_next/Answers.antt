@@ -1,4 +1,4 @@
-use Rattle.std.proofs.Common.{◌≡◌, ◌∙◌, ℕ, ◌||◌, ◌&&◌, List, Option, Some, Result, Ok, Err, IfOk, OnOk, IfSome, ap, sym, subst, arith}
+use Rattle.std.proofs.Common.{◌≡◌, ◌∙◌, ℕ, ◌||◌, ◌&&◌, List, Option, Some, Result, Ok, Err, IfOk, OnOk, IfSome, ap, sym, subst, arith, false}
 use Rattle.std.proofs.lemmas.Result.{IfOk-weaker}
 use Rattle.pth_base.specs.Program.{Functions}
 use Rattle.pth_base.specs.declared.call.Call.{Call}
@@ -12,12 +12,12 @@ use Rattle.pth_model.specs.Part.{step_of, stepping, steps_from}
 use Rattle.pth_model.specs.State.{Control}
 use Rattle.pth_model.specs.Transition.{controlled}
 use Rattle.pth_world.specs.Frame.{runs_after, yields_after}
-use Rattle.pth_world.specs.Leading.{Goes}
+use Rattle.pth_world.specs.Leading.{Goes, StandsWhere}
 use Rattle.pth_world.specs.Numbering.{made}
-use Rattle.pth_world.specs.Shows.{Shows, StandsFor}
+use Rattle.pth_world.specs.Shows.{Shows}
 use Rattle.pth_world.specs.World.{WorldOf}
 use Rattle.pth_world.proofs.Telling.{has_still}
-use Rattle.pth_waits.proofs.Carried.{goes_as}
+use Rattle.pth_waits.proofs.Carried.{goes_as, goes_where}
 use Rattle.pth_sched.specs.Mild.{waits_mildly, is_waiting}
 use Rattle.pth_sched.proofs.Begins.{mild_never}
 use Rattle.pth_sched.proofs.CalmSteps.{begun_calms, calms_by}
@@ -28,14 +28,14 @@ use Rattle.pth_sched.proofs.turns.begin_next.Goals as goal
 module _ {P S H : Type 0} (f : P → Functions S H) (w u v : WorldOf P S H) (t : ℕ) (call : Call) (stored : u.store ≡ w.store)
     (calls : (k : Control P S H) → Shows w k → IfSome (k.threads.progress t) (λ p. call ≡ (step_of f k p).call))
     (shows : (k : Control P S H) → Shows w k → IfSome (k.threads.progress t) (λ p. Shows u (stepping t (step_of f k p) k))) where
-  stepped : (p : Progress S) (old new : List Mark) (r : Result Next OutOfMemory) → Goes (StandsFor u) (begun f t call) v old new r
-      → Goes (λ s. StandsFor w s × (s.control.threads.progress t ≡ Some p)) (steps_from f t p) v old new r
-  stepped p old new r = goes_as (StandsFor u) (λ s. StandsFor w s × (s.control.threads.progress t ≡ Some p)) (begun f t call) (steps_from f t p) v old new r (λ s st.
+  stepped : (p : Progress S) (old new : List Mark) (r : Result Next OutOfMemory) → Goes (StandsWhere u t false) (begun f t call) v old new r
+      → Goes (λ s. StandsWhere w t false s × (s.control.threads.progress t ≡ Some p)) (steps_from f t p) v old new r
+  stepped p old new r = goes_as (StandsWhere u t false) (λ s. StandsWhere w t false s × (s.control.threads.progress t ≡ Some p)) (begun f t call) (steps_from f t p) v old new r (λ s st.
       let k = s.control in
-      let is = subst (λ (o : Option (Progress S)). IfSome o (λ q. call ≡ (step_of f k q).call)) st.1 (calls k st.0.control) in
-      let sh = subst (λ (o : Option (Progress S)). IfSome o (λ q. Shows u (stepping t (step_of f k q) k))) st.1 (shows k st.0.control) in
+      let is = subst (λ (o : Option (Progress S)). IfSome o (λ q. call ≡ (step_of f k q).call)) st.1 (calls k st.0.0.control) in
+      let sh = subst (λ (o : Option (Progress S)). IfSome o (λ q. Shows u (stepping t (step_of f k q) k))) st.1 (shows k st.0.0.control) in
       let after = controlled (stepping t (step_of f k p)) s in
-      (after, record { control = sh; resources = has_still w u s stored st.0.resources }, ap (λ (c : Call). begun f t c after) is))
+      (after, (record { control = sh; store = has_still w u s stored st.0.0.store }, st.0.1), ap (λ (c : Call). begun f t c after) is))
 
 -- what follows from what holds of a result that is there
 both : {A E : Type 0} {X : A → Type 0} {Y Q : Type 0} (r : Result A E) → IfOk r X → OnOk r Y → ((n : A) → X n → Y → Q) → OnOk r Q
@@ -62,7 +62,7 @@ pub begin_at_once-requires-clause-never : goal.begin_at_once-requires-clause-nev
 begin_at_once-requires-clause-never g c = mild_never c.in_ok-call.call (sym c.is_mild.ensures ∙ c.if-is_mild.true)
 
 pub returns-then-is_mild-clause-goes : goal.returns-then-is_mild-clause-goes
-returns-then-is_mild-clause-goes g c p = stepped g.P.Program.functions c.args.w.now c.next_call.new.self c.begin_at_once.new.w c.args.t.0 c.in_ok-call.call (ap (λ (k : WorldOf _ _ _). k.store) c.in_ok-call.ensures.same) c.in_ok-call.ensures.call c.in_ok-call.ensures.shows p _ _ _ c.begin_at_once.ensures.goes
+returns-then-is_mild-clause-goes g c p = stepped g.P.Program.functions c.args.w.now c.next_call.new.self c.begin_at_once.new.w c.args.t.0 c.in_ok-call.call (ap (λ (k : WorldOf _ _ _). k.store) c.in_ok-call.ensures.same) c.in_ok-call.ensures.call c.in_ok-call.ensures.shows p _ _ _ (goes_where c.next_call.new.self c.args.t.0 false _ _ _ _ _ c.begin_at_once.ensures.goes)
 
 pub returns-then-is_mild-clause-some : goal.returns-then-is_mild-clause-some
 returns-then-is_mild-clause-some g c s st = c.next_call.ensures.some s.control st.control
@@ -76,7 +76,7 @@ pub returns-then-is_mild-clause-calm : goal.returns-then-is_mild-clause-calm
 returns-then-is_mild-clause-calm g c =
     let mild = sym c.is_mild.ensures ∙ c.if-is_mild.true in
     both c.begin_at_once.result c.begin_at_once.ensures.goes.next c.begin_at_once.ensures.goes.leads (λ n next leads calms some.
-    begun_calms g.P.Program.functions c.args.w.now c.begin_at_once.new.w c.args.calm.now.until c.args.t.0 (calms some) c.requires.runs c.next_call.new.self c.in_ok-call.call n _ _ (ap (λ (k : WorldOf _ _ _). k.store) c.in_ok-call.ensures.same) next leads (ap (λ b. b || (waits_mildly (kernel_of c.next_call.new.self.kernel) c.in_ok-call.call && is_waiting n)) mild) (λ r st. c.next_call.ensures.some r.control st.control) c.in_ok-call.ensures.shows)
+    begun_calms g.P.Program.functions c.args.w.now c.begin_at_once.new.w c.args.calm.now.until c.args.t.0 (calms some) c.requires.runs c.next_call.new.self c.in_ok-call.call n _ _ (ap (λ (k : WorldOf _ _ _). k.store) c.in_ok-call.ensures.same) (λ r st. next r st.0) (λ r st. leads r st.0) c.requires.free (ap (λ b. b || (waits_mildly (kernel_of c.next_call.new.self.kernel) c.in_ok-call.call && is_waiting n)) mild) (λ r st. c.next_call.ensures.some r.control st.control) c.in_ok-call.ensures.shows)
 
 pub returns-clause-goes : goal.returns-clause-goes
 returns-clause-goes g c p = stepped g.P.Program.functions c.args.w.now c.next_call.new.self c.begin_unmild.new.w c.args.t.0 c.in_ok-call.call (ap (λ (k : WorldOf _ _ _). k.store) c.in_ok-call.ensures.same) c.in_ok-call.ensures.call c.in_ok-call.ensures.shows p _ _ _ c.begin_unmild.ensures.goes
@@ -94,4 +94,4 @@ returns-clause-calm g c =
     let stirs = sym c.is_mild.ensures ∙ c.if-is_mild.false in
     all_three c.begin_unmild.result c.begin_unmild.ensures.kept c.begin_unmild.ensures.goes.next c.begin_unmild.ensures.goes.leads (λ n kept next leads calms.
     calms_by c.begin_unmild.new.w (waits_mildly (kernel_of c.next_call.new.self.kernel) c.in_ok-call.call && is_waiting n) c.args.calm.now.until c.begin_unmild.new.calm.until kept
-    (λ test some. begun_calms g.P.Program.functions c.args.w.now c.begin_unmild.new.w c.args.calm.now.until c.args.t.0 (calms some) c.requires.runs c.next_call.new.self c.in_ok-call.call n _ _ (ap (λ (k : WorldOf _ _ _). k.store) c.in_ok-call.ensures.same) next leads (ap (λ b. b || (waits_mildly (kernel_of c.next_call.new.self.kernel) c.in_ok-call.call && is_waiting n)) stirs ∙ test) (λ r st. c.next_call.ensures.some r.control st.control) c.in_ok-call.ensures.shows))
+    (λ test some. begun_calms g.P.Program.functions c.args.w.now c.begin_unmild.new.w c.args.calm.now.until c.args.t.0 (calms some) c.requires.runs c.next_call.new.self c.in_ok-call.call n _ _ (ap (λ (k : WorldOf _ _ _). k.store) c.in_ok-call.ensures.same) next leads c.requires.free (ap (λ b. b || (waits_mildly (kernel_of c.next_call.new.self.kernel) c.in_ok-call.call && is_waiting n)) stirs ∙ test) (λ r st. c.next_call.ensures.some r.control st.control) c.in_ok-call.ensures.shows))

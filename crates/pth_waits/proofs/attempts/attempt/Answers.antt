@@ -7,7 +7,8 @@ use Rattle.pth_model.specs.Rows.{row_of}
 use Rattle.pth_world.proofs.StateOf.{stands_for_state}
 use Rattle.pth_world.specs.StateOf.{state_of}
 use Rattle.pth_waits.specs.Io.{first_awaited}
-use Rattle.pth_waits.proofs.Attempted.{none_is, others_called, others_never, same_elsewhere, some_then}
+use Rattle.pth_waits.proofs.Attempted.{none_is, others_called, others_never, same_elsewhere, some_then, unawaited}
+use Rattle.pth_waits.proofs.Attempting.{unbuilt_attempts}
 use Rattle.pth_waits.proofs.Resting.{rest_attempts}
 use Rattle.pth_waits.proofs.attempts.attempt.Goals as goal
 
@@ -63,6 +64,11 @@ returns-in-RwAcquire-clause-attempts g c =
     let e : SFits w64 c.in-RwAcquire.e = search rules in
     rw c.in-RwAcquire.is (simp to_z-of_z at c.acquire_lock.ensures.attempts)
 
+pub returns-in-CondAwait-clause-attempts : goal.returns-in-CondAwait-clause-attempts
+unfolding row_of
+returns-in-CondAwait-clause-attempts g c =
+    rw c.in-CondAwait.is (unbuilt_attempts c.args.w.now c.args.t.0 c.in-CondAwait.c c.in-CondAwait.m c.in-CondAwait.e)
+
 pub returns-in_ok-reach_barrier-in-BarrierReach-clause-attempts : goal.returns-in_ok-reach_barrier-in-BarrierReach-clause-attempts
 unfolding row_of
 returns-in_ok-reach_barrier-in-BarrierReach-clause-attempts g c =
@@ -83,6 +89,7 @@ returns-in_default g c =
           record {
             away = others_never s call (none_is _ here) d.not-Join d.not-Exit d.not-Nap d.not-Usleep d.not-Sleep d.not-Wait d.not-MutexAcquire d.not-RwAcquire d.not-BarrierReach;
             elsewhere = λ u. none_is _ (sym (same_elsewhere s call u) ∙ here);
+            unawaited = unawaited call d.not-CondAwait;
           }) c.begin_io.ensures.descriptors;
       same = c.begin_io.ensures.same;
       frame = c.begin_io.ensures.frame;

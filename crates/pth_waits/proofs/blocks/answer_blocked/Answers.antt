@@ -1,7 +1,6 @@
 use Rattle.std.proofs.Common.{◌≡◌, ◌∙◌, Option, Some, IsSome, ap, sym, subst}
 use Rattle.std.proofs.lemmas.Result.{on_ok_weaker}
 use Rattle.pth_model.specs.declared.blocked.Blocked.{Blocked}
-use Rattle.pth_model.specs.Resources.{no_resources}
 use Rattle.pth_world.proofs.StateOf.{stands_for_state}
 use Rattle.pth_world.specs.Store.{StoreOf, store_of}
 use Rattle.pth_world.specs.World.{WorldOf}
@@ -18,8 +17,8 @@ returns-clause-ok g c = on_ok_weaker c.answer_call.result (λ told s b has once.
     let held : Some b ≡ Some c.in-Some.blocked = sym has ∙ sym (c.unblock.ensures.blocked s.control once.control) ∙ c.in-Some.is in
     let is : b ≡ c.in-Some.blocked = cc in
     let stored = ap (λ (z : WorldOf _ _ _). z.store) c.unblock.ensures.same in
-    let still = ap (λ (y : StoreOf). record no_resources { store = store_of y }) (sym stored) in
-    rw is (answers_leads g.P.Program.functions _ s c.args.t.0 c.in-Some.blocked.call c.args.answer _ _ ((rw is at once).resources ∙ still) (c.unblock.ensures.shows s.control once.control) told)) c.answer_call.ensures.ok
+    let still = ap (λ (y : StoreOf). store_of y) (sym stored) in
+    rw is (answers_leads g.P.Program.functions _ s c.args.t.0 c.in-Some.blocked.call c.args.answer _ _ ((rw is at once).store ∙ still) (c.unblock.ensures.shows s.control once.control) told)) c.answer_call.ensures.ok
 
 pub returns-clause-frame : goal.returns-clause-frame
 returns-clause-frame g c =

@@ -25,7 +25,7 @@ returns-clause-ok g c = on_ok_weaker c.push.result (λ told s b has st.
     let is : b ≡ c.in-Some.blocked = cc in
     let may = subst (λ (o : Option Blocked). IfSome o (λ d. MayAwaitAs t d.call c.args.awaits)) (has ∙ held) (c.requires.may s.control st.control) in
     let shows = subst (λ (k : Control _ _ _). Shows c.block.new.self k) (blocked_twice s.control t (Some now) None) (c.block.ensures.shows _ (c.take_blocked.ensures.shows s.control st.control)) in
-    rw is (waits_on_leads _ s t now _ _ may (has_still c.args.w.now c.block.new.self s (ap (λ (z : WorldOf _ _ _). z.store) c.block.ensures.same ∙ ap (λ (z : WorldOf _ _ _). z.store) c.take_blocked.ensures.same) st.resources) shows told)) (rw c.in_ok-copy.ensures at c.push.ensures.ok)
+    rw is (waits_on_leads _ s t now _ _ may (has_still c.args.w.now c.block.new.self s (ap (λ (z : WorldOf _ _ _). z.store) c.block.ensures.same ∙ ap (λ (z : WorldOf _ _ _). z.store) c.take_blocked.ensures.same) st.store) shows told)) (rw c.in_ok-copy.ensures at c.push.ensures.ok)
 
 pub returns-clause-frame : goal.returns-clause-frame
 returns-clause-frame g c = on_ok_weaker c.push.result (λ told.

@@ -24,7 +24,7 @@ returns-in-Some-clause-tries g c a =
     let verdict = simp to_z-of_z at (rw c.in-Some.is at c.refusal.ensures) in
     changed_tries w w t (record { call = Join c.args.n; awaits = a }) (λ s. join_attempt s t c.args.n) _ verdict
     (λ s st. refused_changes w s (join_attempt s t c.args.n) (ap refuses (verdict s st)) st)
-    (λ u st. refused_ready w t (Join c.args.n) None c.in-Some.errno u st)
+    (λ u st. refused_ready w t (Join c.args.n) None c.in-Some.errno u refl st)
     tt
     (λ idle. absurd idle)
     (blocked_still w w t refl)
@@ -43,7 +43,7 @@ returns-in-Some-to_join-clause-tries g c a =
     let says : (s : State g.row.P.Denot g.row.P-State.Denot g.row.P-Shared.Denot) → StandsFor w s → (join_attempt s t c.args.n).verdict ≡ Says (Int c.take.result) = λ s st. joins s st ∙ ap (joined s.control c.args.n) (takes s st) ∙ c.take.ensures.value s.control c.args.n st.control in
     changed_tries w v t (record { call = Join c.args.n; awaits = a }) (λ s. join_attempt s t c.args.n) _
     (λ s st. rw to_z-of_z (says s st))
-    (λ s st. passed_changes v s (join_attempt s t c.args.n) (takes_joined (to_join s.control c.args.n)) (ap refuses (says s st)) refl (rw (takes s st) (c.take.ensures.shows s.control st.control)) (has_still w v s c.take.ensures.store st.resources))
+    (λ s st. passed_changes v s (join_attempt s t c.args.n) (takes_joined (to_join s.control c.args.n)) (ap refuses (says s st)) refl (rw (takes s st) (c.take.ensures.shows s.control st.control)) (has_still w v s c.take.ensures.store st.store))
     (λ u st. quiet_once v u _ (λ x. refl) st)
     tt
     (λ idle. absurd idle)
@@ -60,7 +60,7 @@ returns-in-None-clause-tries g c a =
     let blocks : (s : State g.row.P.Denot g.row.P-State.Denot g.row.P-Shared.Denot) → StandsFor w s → (join_attempt s t c.args.n).verdict ≡ Blocks c.death_of.result = λ s st. joins s st ∙ ap (joined s.control c.args.n) (takes s st) ∙ ap Blocks (sym death) in
     changed_tries w w t (record { call = Join c.args.n; awaits = a }) (λ s. join_attempt s t c.args.n) (Blocks c.death_of.result)
     blocks
-    (λ s st. passed_changes w s (join_attempt s t c.args.n) (takes_joined (to_join s.control c.args.n)) (ap refuses (blocks s st)) refl (rw (takes s st) st.control) st.resources)
+    (λ s st. passed_changes w s (join_attempt s t c.args.n) (takes_joined (to_join s.control c.args.n)) (ap refuses (blocks s st)) refl (rw (takes s st) st.control) st.store)
     (λ u st. none_ready w t (Join c.args.n) c.death_of.result u st)
     death
     (λ idle s st. rw (blocks s st, takes s st) refl)

@@ -1,13 +1,9 @@
-use Rattle.std.proofs.Common.{◌≡◌, ◌==◌, true, false, pos, refl, ap, sym, ◌∙◌, rules}
-use Rattle.pth_base.specs.declared.answer.Answer.TheVariants.{Int}
-use Rattle.pth_base.specs.declared.call.Call.TheVariants.{Kill}
+use Rattle.std.proofs.Common.{◌≡◌, ◌==◌, true, false, refl, ap, sym, ◌∙◌, rules}
 use Rattle.pth_base.specs.declared.errno.Errno.TheVariants.{EPERM}
-use Rattle.pth_base.specs.declared.mark.Mark.TheVariants.{Answered}
-use Rattle.pth_model.specs.Resources.{Store, no_resources, told}
+use Rattle.pth_model.specs.Resources.{store_of_only}
 use Rattle.pth_model.specs.State.{main}
 use Rattle.pth_world.proofs.Frames.{still_frame}
 use Rattle.pth_world.specs.Numbering.{no_numbers}
-use Rattle.pth_world.specs.Store.{store_of}
 use Rattle.pth_end.proofs.Framing.{done_frame, refused_goes}
 use Rattle.pth_waits.proofs.Kills.{kill_refused, kill_ends, kill-told}
 use Rattle.pth_waits.proofs.library_ends.kill.Goals as goal
@@ -17,6 +13,7 @@ returns-then-t-ne-MAIN-clause-goes g c =
     let other : (c.args.t.0 == main) ≡ false = search rules in
     refused_goes _ c.args.w.now c.args.t c.args.call.now EPERM _ _ c.done.result
     (λ s st. rw c.requires.call (kill_refused g.P.Program.functions s c.args.t.0 other))
+    (rw c.requires.call refl)
     c.done.ensures.next c.done.ensures.ok c.done.ensures.err
 
 pub returns-then-t-ne-MAIN-clause-frame : goal.returns-then-t-ne-MAIN-clause-frame
@@ -30,7 +27,7 @@ returns-clause-goes g c =
       leads = λ s st. rw (c.requires.call, kill_ends g.P.Program.functions s c.args.t.0 is) (record {
         stands = record {
           control = c.vanish_all_but.ensures.shows s.control st.control;
-          resources = ap (λ k. told k (Answered c.args.t Kill (Int (pos 1)))) st.resources ∙ kill-told (store_of c.args.w.now.store) c.args.t.0 1 ∙ ap (λ (x : Store). record no_resources { store = x }) (sym c.vanish_all_but.ensures.store);
+          store = kill-told s.resources c.args.t.0 1 ∙ ap (store_of_only c.args.t.0) st.store ∙ sym c.vanish_all_but.ensures.store;
         };
         tells = rw c.requires.call at c.in_ok-answer_call.ensures.ok;
       });

@@ -39,4 +39,4 @@ returns-in-Err-clause-attempts g c =
     (λ s st. sym ((rw ring at c.is_no_ring.ensures) s st) ∙ c.if-is_no_ring.false)
     (sym c.in-Err.is ∙ rw (to_z-of_z c.ranges.m) at c.take_mutex.ensures.answer)
     (λ s st. (rw (tries, to_z-of_z c.ranges.m, ring) at c.turn_away.ensures.verdict) s (rw same st) (sym ((rw ring at c.is_no_ring.ensures) s st) ∙ c.if-is_no_ring.false))
-    (λ s st. (rw ring at c.turn_away.ensures.ready) (MutexAcquire c.args.m c.args.v c.args.e) s (rw same st))
+    (λ s st. (rw ring at c.turn_away.ensures.ready) (MutexAcquire c.args.m c.args.v c.args.e) s refl (rw same st))

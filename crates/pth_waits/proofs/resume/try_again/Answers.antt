@@ -3,6 +3,7 @@ use Rattle.std.proofs.lemmas.List.{append-nil}
 use Rattle.pth_model.specs.declared.awaits.Awaited.{Awaited}
 use Rattle.pth_model.specs.declared.blocked.Blocked.{Blocked}
 use Rattle.pth_model.specs.declared.verdict.Verdict.{Verdict}
+use Rattle.pth_model.specs.Awaits.{is_await, is_awaiting}
 use Rattle.pth_model.specs.Calls.{tried_again, tried_again_by}
 use Rattle.pth_model.specs.Changes.{blocked_of}
 use Rattle.pth_model.specs.RingWaits.{awaited_in, has_settled}
@@ -10,7 +11,7 @@ use Rattle.pth_model.specs.State.{State}
 use Rattle.pth_model.specs.Transition.{Went}
 use Rattle.pth_ring.specs.Arena.{events_of}
 use Rattle.pth_world.proofs.StateOf.{stands_for_state}
-use Rattle.pth_world.specs.Leading.{MayComeTo}
+use Rattle.pth_world.specs.Leading.{MayComeTo, StandsRightly, StandsWhere}
 use Rattle.pth_world.specs.Shows.{StandsFor}
 use Rattle.pth_world.specs.World.{WorldOf}
 use Rattle.pth_waits.proofs.Attempted.{counted, none_is, some_blocked}
@@ -49,7 +50,7 @@ returns-in-Some-clause-goes g c =
     let h = some_blocked _ (sym (c.in_ok-verdict.ensures.blocked _ st.control) ∙ ap is_some c.in-Some.is) in
     let tries = (rw c.in-Some.is at c.in_ok-verdict.ensures.tries) _ h.0 st.control h.1 in
     let blocks : (s : State _ _ _) → StandsFor w s → blocked_of s.control t ≡ Some h.0 = λ s so. blocked_still w w t refl _ s.control st.control so.control ∙ h.1 in
-    goes_as (λ s. StandsFor w s × (blocked_of s.control t ≡ Some h.0)) (StandsFor w) (tried_again f t) (tried_again f t) _ _ _ _ (λ s so. (s, (so, blocks s so), refl))
+    goes_as (λ s. StandsWhere w t (is_await h.0.call) s × (blocked_of s.control t ≡ Some h.0)) (StandsRightly w t) (tried_again f t) (tried_again f t) _ _ _ _ (λ s so. (s, ((so.0, so.1 ∙ ap is_awaiting (blocks s so.0)), blocks s so.0), refl))
     (again_goes f w c.attempt_again.new.w t h.0 c.in-Some.verdict tries c.has_settled-settled.result _ _ _ _
     (λ s so. c.has_settled-settled.ensures ∙ ap₂ has_settled (ap events_of c.rings.ensures ∙ sym so.control.events) (ap (λ (x : Awaited). x.ring) (c.awaited.ensures.awaited s.control so.control ∙ ap awaited_in (blocks s so))))
     ((rw c.unless_settled.ensures at c.carry_on.ensures.goes) h.0))
@@ -66,7 +67,7 @@ returns-in-None-clause-goes g c =
     let same = c.in_ok-verdict.ensures.same c.in-None.is in
     let went : (s : State _ _ _) → StandsFor w s → tried_again f t s ≡ tried_again_by f t None s = λ s so. ap (λ (o : Option Blocked). tried_again_by f t o s) (none_is (blocked_of s.control t) (sym (c.in_ok-verdict.ensures.blocked s.control so.control) ∙ ap is_some c.in-None.is)) in
     record {
-      next = λ s so. sym (ap (λ (x : Went _ _ _). x.next) (went s so));
-      leads = λ s so. rw (went s so) (record { stands = subst (λ (v : WorldOf _ _ _). StandsFor v s) (sym same) so; tells = sym (append-nil _) });
+      next = λ s so. sym (ap (λ (x : Went _ _ _). x.next) (went s so.0));
+      leads = λ s so. rw (went s so.0) (record { stands = subst (λ (v : WorldOf _ _ _). StandsFor v s) (sym same) so.0; tells = sym (append-nil _) });
       cut = tt;
     }

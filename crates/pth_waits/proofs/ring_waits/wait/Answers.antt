@@ -1,4 +1,4 @@
-use Rattle.std.proofs.Common.{◌≡◌, ◌∙◌, Ok, Err, Some, ap, sym, refl, rules, SFits, w64, to_z-of_z}
+use Rattle.std.proofs.Common.{◌≡◌, ◌∙◌, Ok, Err, Some, ap, sym, refl, rules, SFits, w64, to_z-of_z, false}
 use Rattle.pth_base.specs.declared.call.Call.TheVariants.{Wait}
 use Rattle.pth_model.specs.EventHandling.{wait}
 use Rattle.pth_model.specs.declared.awaits.Awaits.TheVariants.{Ring}
@@ -19,9 +19,9 @@ returns-in-Err-clause-attempts g c =
     let t = c.args.t.0 in
     let answer = rw to_z-of_z at c.claim.ensures.answer in
     let same = c.in-Err.ensures.refused in
-    quiet_attempts w v t (Wait c.args.e) (Some c.args.e) (λ s. (wait s c.args.e).begin) _ (λ s. refl)
+    quiet_attempts false w v t (Wait c.args.e) (Some c.args.e) (λ s. (wait s c.args.e).begin) _ (λ s. refl)
     (λ s st. (let refused : claim_answer s.control.events (number c.args.e) ≡ Err c.in-Err.errno = rw st.control.events (sym answer ∙ c.in-Err.is) in rw refused refl))
-    (λ s st. refused_ready v t (Wait c.args.e) (Some c.args.e) c.in-Err.errno s (rw same st))
+    (λ s st. refused_ready v t (Wait c.args.e) (Some c.args.e) c.in-Err.errno s refl (rw same st))
     tt
 
 pub returns-in-Err-clause-frame : goal.returns-in-Err-clause-frame
@@ -34,7 +34,7 @@ returns-in-Ok-clause-attempts g c =
     let v = c.claim.new.self in
     let t = c.args.t.0 in
     let answer = rw to_z-of_z at c.claim.ensures.answer in
-    quiet_attempts w v t (Wait c.args.e) (Some c.args.e) (λ s. (wait s c.args.e).begin) _ (λ s. refl)
+    quiet_attempts false w v t (Wait c.args.e) (Some c.args.e) (λ s. (wait s c.args.e).begin) _ (λ s. refl)
     (λ s st. (let is : claim_answer s.control.events (number c.args.e) ≡ Ok tt = rw st.control.events (sym answer ∙ c.in-Ok.is) in rw (is, to_z-of_z) refl))
-    (λ s st. claimed_ready v t (Wait c.args.e) (Some c.args.e) (Ring c.args.e) s ((rw to_z-of_z at c.in-Ok.ensures.shows) s.control st.control) (has_still w v s (ap (λ (z : WorldOf _ _ _). z.store) c.claim.ensures.same) st.resources))
+    (λ s st. claimed_ready v t (Wait c.args.e) (Some c.args.e) (Ring c.args.e) s ((rw to_z-of_z at c.in-Ok.ensures.shows) s.control st.control) (has_still w v s (ap (λ (z : WorldOf _ _ _). z.store) c.claim.ensures.same) st.store))
     (simp to_z-of_z)

@@ -39,4 +39,4 @@ returns-in-Err-clause-attempts g c =
     (λ s st. sym ((rw ring at c.is_no_ring.ensures) s st) ∙ c.if-is_no_ring.false)
     (sym c.in-Err.is ∙ rw (to_z-of_z c.ranges.l) at c.take_lock.ensures.answer)
     (λ s st. (rw (tries, to_z-of_z c.ranges.l, ring) at c.turn_away.ensures.verdict) s (rw same st) (sym ((rw ring at c.is_no_ring.ensures) s st) ∙ c.if-is_no_ring.false))
-    (λ s st. (rw ring at c.turn_away.ensures.ready) (RwAcquire c.args.l c.args.write c.args.v c.args.e) s (rw same st))
+    (λ s st. (rw ring at c.turn_away.ensures.ready) (RwAcquire c.args.l c.args.write c.args.v c.args.e) s refl (rw same st))

@@ -16,14 +16,14 @@ go_on-requires-clause-few g c k =
     omega arith
 
 pub returns-in-Err-clause-err : goal.returns-in-Err-clause-err
-returns-in-Err-clause-err g c = λ x st.
+returns-in-Err-clause-err g c = λ x st right.
     let inside = subst (λ m. Stands m x) (sym c.self.view_is) st in
-    rw (steps_marks g.P.Program.functions x.turn c.args.t.0 x.state) (c.in-Err.ensures.goes.cut x.state inside.world)
+    rw (steps_marks g.P.Program.functions x.turn c.args.t.0 x.state) (c.in-Err.ensures.goes.cut x.state (inside.world, right))
 
 pub returns-clause-ok : goal.returns-clause-ok
-returns-clause-ok g c = λ x st.
+returns-clause-ok g c = λ x st right.
     let inside = subst (λ m. Stands m x) (sym c.self.view_is) st in
-    step_makes _ x inside g.P.Program.functions _ c.args.t.0 c.go_on.new.w c.in-Ok.next _ _ (c.in-Ok.ensures.goes.next x.state inside.world) (c.in-Ok.ensures.goes.leads x.state inside.world) c.settle.ensures.shows (ap (λ w. w.store) c.settle.ensures.same) c.settle.ensures.turn (λ e. after_memory c.args.t.0 c.in-Ok.next _ inside.memory (sym (ap (λ (x : Turn). x.outcome) c.settle.ensures.turn) ∙ e))
+    step_makes _ x inside g.P.Program.functions _ c.args.t.0 c.go_on.new.w c.in-Ok.next _ _ (c.in-Ok.ensures.goes.next x.state (inside.world, right)) (c.in-Ok.ensures.goes.leads x.state (inside.world, right)) c.settle.ensures.shows (ap (λ w. w.store) c.settle.ensures.same) c.settle.ensures.turn (λ e. after_memory c.args.t.0 c.in-Ok.next _ inside.memory (sym (ap (λ (x : Turn). x.outcome) c.settle.ensures.turn) ∙ e))
 
 pub returns-clause-ranks : goal.returns-clause-ranks
 returns-clause-ranks g c =
