@@ -1,5 +1,7 @@
 -- The wait of a thread that ends is undone as the definitions say.
 use Rattle.std.proofs.Common.{◌≡◌, ◌≢◌, ◌∙◌, ℕ, ℤ, Bool, true, false, List, [], ◌∷◌, ◌++◌, refl, ap, sym, subst, append-nil, arith, ◌==◌, ◌||◌, not, if◌then◌else◌, Option, Some, None, option_map}
+use Rattle.pth_world.proofs.Conditions.{seated_frame}
+use Rattle.pth_model.specs.Conditions.{hands_on_seat}
 use Rattle.pth_base.specs.Cut.{IsCut}
 use Rattle.pth_base.proofs.Tables.{put_is}
 use Rattle.pth_base.specs.declared.mark.Mark.{Mark}
@@ -14,9 +16,9 @@ use Rattle.pth_model.specs.Ending.{undoes_wait}
 use Rattle.pth_model.specs.Resources.{told}
 use Rattle.pth_model.specs.RingWaits.{stops_waiting}
 use Rattle.pth_model.specs.State.{Control, State}
-use Rattle.pth_model.specs.Transition.{Transition, changes, controlled, silent, tells, tid, where_so, ◌and_then◌}
+use Rattle.pth_model.specs.Transition.{Transition, changes, controlled, silent, tells, tid, where_so, ◌and_then◌, ◌and◌}
 use Rattle.pth_model.specs.declared.awaits.Awaits.{Awaits}
-use Rattle.pth_model.specs.declared.awaits.Awaits.TheVariants.{Round}
+use Rattle.pth_model.specs.declared.awaits.Awaits.TheVariants.{Notice, Round}
 use Rattle.pth_world.proofs.Barriers.{barred_frame, barred_shows}
 use Rattle.pth_world.proofs.Frames.{frame_then}
 use Rattle.pth_world.proofs.Ranks.{ranks_none, ranks_same}
@@ -87,15 +89,15 @@ module _ {P S H : Type 0} (w : WorldOf P S H) (c : List (Option Barrier)) (t : T
       let stays : barriers_of c ≡ barriers_of w.barriers = is ∙ barriers_stay (barriers_of w.barriers) b t.0 none in
       by_arrival false (sym here_is ∙ none) old new (silent_leads (record w { barriers = c }) s old new (record { control = barred_shows w c (λ x. x) s.control st.control stays; store = st.store }) same)
 
-module _ {P S H : Type 0} (w : WorldOf P S H) (t : ℕ) (s : State P S H) where
-  -- the thread awaits a round, or something else
-  pub from_round : (b : ℤ) (round : ℕ) (v : WorldOf P S H) (old new : List Mark) → awaits_in (blocked_of s.control t) ≡ Round b round → Leads v old new (withdraws t b s) → Leads v old new (withdraws_from t (awaits_in (blocked_of s.control t)) s)
+module _ {P S H : Type 0} (t : ℕ) (b : ℤ) (round : ℕ) (s : State P S H) where
+  -- the thread awaits a round
+  pub from_round : (v : WorldOf P S H) (old new : List Mark) → Leads v old new (withdraws t b s) → Leads v old new (withdraws_from t (Round b round) s)
   unfolding withdraws_from
-  from_round b round v old new is l = rw is l
+  from_round v old new l = l
 
-  pub cut_from_round : (b : ℤ) (round : ℕ) (old new : List Mark) → awaits_in (blocked_of s.control t) ≡ Round b round → IsCut old new (withdraws t b s).marks → IsCut old new (withdraws_from t (awaits_in (blocked_of s.control t)) s).marks
+  pub cut_from_round : (old new : List Mark) → IsCut old new (withdraws t b s).marks → IsCut old new (withdraws_from t (Round b round) s).marks
   unfolding withdraws_from
-  cut_from_round b round old new is cut = rw is cut
+  cut_from_round old new cut = cut
 
 -- what awaits no round
 abbrev pub IsNoRound : Awaits → Type 0
@@ -106,38 +108,53 @@ no_round_by : (a : Awaits) → ((b : ℤ) (round : ℕ) → a ≢ Round b round)
 no_round_by (Round b round) other = other b round refl
 no_round_by a other = tt
 
+-- what awaits no condition has no seat to hand on
+pub no_seat : {P S H : Type 0} (t : ℕ) (a : Awaits) (k : Control P S H) → ((c : ℤ) → a ≢ Notice c) → hands_on_seat t a k ≡ k
+unfolding hands_on_seat
+no_seat t (Notice c) k other = absurd (other c refl)
+no_seat t a k other = refl
+
 module _ {P S H : Type 0} where
   from_other : (t : ℕ) (a : Awaits) (s : State P S H) → IsNoRound a → withdraws_from t a s ≡ silent s
   unfolding withdraws_from
   from_other t (Round b round) s none = absurd none
   from_other t a s none = refl
 
-  pub no_round : (w : WorldOf P S H) (t : ℕ) (a : Awaits) (s : State P S H) (old new : List Mark) → ((b : ℤ) (round : ℕ) → a ≢ Round b round) → StandsFor w s → a ≡ awaits_in (blocked_of s.control t) → new ≡ old → Leads w old new (withdraws_from t (awaits_in (blocked_of s.control t)) s)
-  no_round w t a s old new other st is same = subst (λ (x : Transition P S H). Leads w old new x) (sym (from_other t a s (no_round_by a other)) ∙ ap (λ (x : Awaits). withdraws_from t x s) is) (silent_leads w s old new st same)
+  pub no_round : (w : WorldOf P S H) (t : ℕ) (a : Awaits) (s : State P S H) (old new : List Mark) → ((b : ℤ) (round : ℕ) → a ≢ Round b round) → StandsFor w s → new ≡ old → Leads w old new (withdraws_from t a s)
+  no_round w t a s old new other st same = subst (λ (x : Transition P S H). Leads w old new x) (sym (from_other t a s (no_round_by a other))) (silent_leads w s old new st same)
 
-  -- then the call that blocks it is taken out, and the claim given back
-  pub undone_leads : (w v z : WorldOf P S H) (t : ℕ) (s : State P S H) (old new : List Mark) → Leads v old new (withdraws_from t (awaits_in (blocked_of s.control t)) s) → ((k : Control P S H) → Shows v k → Shows z (stops_waiting t k)) → z.store ≡ v.store → Leads z old new (undoes_wait t s)
-  undone_leads w v z t s old new first shows stored =
-      let s1 = (withdraws_from t (awaits_in (blocked_of s.control t)) s).state in
-      let second = silent_leads z (controlled (stops_waiting t) s1) new new (record { control = shows s1.control first.stands.control; store = has_still v z s1 stored first.stands.store }) refl in
-      let l = leads_then v z s (withdraws_from t (awaits_in (blocked_of s.control t))) (changes (stops_waiting t)) old new new first (record { stands = second.stands; tells = second.tells }) in
+  -- then its seat is handed on, the call that blocks it is taken out, and the claim given back
+  undone_as : (v x z : WorldOf P S H) (t : ℕ) (a : Awaits) (s : State P S H) (old new : List Mark) → Leads v old new (withdraws_from t a s) → ((k : Control P S H) → Shows v k → Shows x (hands_on_seat t a k)) → ((k : Control P S H) → Shows x k → Shows z (stops_waiting t k)) → z.store ≡ v.store
+      → Leads z old new ((withdraws_from t a and_then changes (hands_on_seat t a and stops_waiting t)) s)
+  undone_as v x z t a s old new first hands shows stored =
+      let s1 = (withdraws_from t a s).state in
+      let g = hands_on_seat t a and stops_waiting t in
+      let second = silent_leads z (controlled g s1) new new (record { control = shows _ (hands s1.control first.stands.control); store = has_still v z s1 stored first.stands.store }) refl in
+      let l = leads_then v z s (withdraws_from t a) (changes g) old new new first (record { stands = second.stands; tells = second.tells }) in
       record { stands = l.stands; tells = l.tells }
 
-  pub cut_undoing : (t : ℕ) (s : State P S H) (old new : List Mark) → IsCut old new (withdraws_from t (awaits_in (blocked_of s.control t)) s).marks → IsCut old new (undoes_wait t s).marks
-  cut_undoing t s old new cut = cut_one s (withdraws_from t (awaits_in (blocked_of s.control t))) (changes (stops_waiting t)) old new cut
+  pub undone_leads : (v x z : WorldOf P S H) (t : ℕ) (a : Awaits) (s : State P S H) (old new : List Mark) → a ≡ awaits_in (blocked_of s.control t) → Leads v old new (withdraws_from t a s) → ((k : Control P S H) → Shows v k → Shows x (hands_on_seat t a k)) → ((k : Control P S H) → Shows x k → Shows z (stops_waiting t k)) → z.store ≡ v.store → Leads z old new (undoes_wait t s)
+  undone_leads v x z t a s old new is first hands shows stored =
+      subst (λ (b : Awaits). Leads z old new ((withdraws_from t b and_then changes (hands_on_seat t b and stops_waiting t)) s)) is (undone_as v x z t a s old new first hands shows stored)
 
-  pub undone_frame : (w v z : WorldOf P S H) → Whole w → v ≡ record w { barriers = v.barriers } → (Whole v → Whole z) → z.events.made ≡ v.events.made → z ≡ record v { threads = record v.threads { progress = z.threads.progress }; events = z.events } → Frame w z no_numbers w.scheduler.running false
-  undone_frame w v z whole barred wholes made same =
-      let first : Frame w v no_numbers w.scheduler.running false = subst (λ (x : WorldOf P S H). Frame w x no_numbers w.scheduler.running false) (sym barred) (barred_frame w v.barriers whole) in
-      frame_then no_numbers w v z w.scheduler.running w.scheduler.running false first (record {
-        whole = wholes first.whole;
-        runs = ap (λ (k : WorldOf P S H). k.scheduler.running) same ∙ first.runs;
+  pub cut_undoing : (t : ℕ) (a : Awaits) (s : State P S H) (old new : List Mark) → a ≡ awaits_in (blocked_of s.control t) → IsCut old new (withdraws_from t a s).marks → IsCut old new (undoes_wait t s).marks
+  cut_undoing t a s old new is cut =
+      subst (λ (b : Awaits). IsCut old new ((withdraws_from t b and_then changes (hands_on_seat t b and stops_waiting t)) s).marks) is (cut_one s (withdraws_from t a) (changes (hands_on_seat t a and stops_waiting t)) old new cut)
+
+  pub undone_frame : (w v x z : WorldOf P S H) → Whole w → v ≡ record w { barriers = v.barriers } → x ≡ record v { conditions = x.conditions } → (Whole x → Whole z) → z.events.made ≡ x.events.made → z ≡ record x { threads = record x.threads { progress = z.threads.progress }; events = z.events } → Frame w z no_numbers w.scheduler.running false
+  undone_frame w v x z whole barred seated wholes made same =
+      let r = w.scheduler.running in
+      let first : Frame w v no_numbers r false = subst (λ (y : WorldOf P S H). Frame w y no_numbers r false) (sym barred) (barred_frame w v.barriers whole) in
+      let second : Frame v x no_numbers r false = subst (λ (o : Option ℕ). Frame v x no_numbers o false) first.runs (subst (λ (y : WorldOf P S H). Frame v y no_numbers v.scheduler.running false) (sym seated) (seated_frame v x.conditions first.whole)) in
+      frame_then no_numbers w x z r r false (frame_then no_numbers w v x r r false first second) (record {
+        whole = wholes second.whole;
+        runs = ap (λ (k : WorldOf P S H). k.scheduler.running) same ∙ second.runs;
         made = elim [
           | Thread ↦ (let e = ap (λ (k : WorldOf P S H). k.threads.records.made) same in omega arith)
           | Object ↦ (let e = ap (λ (k : WorldOf P S H). k.attributes.made) same in omega arith)
           | Event ↦ omega arith
         ];
-        ranks = ranks_same 0 v.threads v.threads z.threads (ap (λ (k : WorldOf P S H). k.threads.queues) same) (ranks_none v.threads);
+        ranks = ranks_same 0 x.threads x.threads z.threads (ap (λ (k : WorldOf P S H). k.threads.queues) same) (ranks_none x.threads);
         preferred = ap (λ (k : WorldOf P S H). k.scheduler.preferred) same;
       })
 

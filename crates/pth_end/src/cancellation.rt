@@ -2,7 +2,7 @@
 
 ghost use Rattle.std.specs.Prelude.{◌≡◌, false, Some, OnOk, OnErr};
 ghost use Rattle.pth_base.specs.Cut.{IsCut};
-ghost use Rattle.pth_model.specs.Cancellation.{aborted, canceled_by_other, canceled_in};
+ghost use Rattle.pth_model.specs.Cancellation.{aborted, canceled_by_other, canceled_in, takes_request};
 ghost use Rattle.pth_model.specs.Ending.{other_than};
 ghost use Rattle.pth_model.specs.State.{State};
 ghost use Rattle.pth_world.specs.Frame.{Frame};
@@ -42,6 +42,27 @@ pub fn cancel_from_outside<P: Program>(
     end_thread(w, t, CANCELED, marks)
 }
 
+/// The thread that runs takes up the request to end, in a call of its own, and that is told with the call.
+pub fn take_request<P: Program>(
+    w: &mut World<P>,
+    t: Tid,
+    call: Call,
+    marks: &mut Marks,
+) -> Result<(), OutOfMemory>
+    requires whole { Whole w.old }
+    requires runs { w.old.scheduler.running ≡ Some t.0 }
+    ensures ok { OnOk result ((s : State P P.State P.Shared) → StandsFor w.old s → Leads w.new marks.old marks.new (takes_request t.0 call s)) }
+    ensures err { OnErr result ((s : State P P.State P.Shared) → StandsFor w.old s → IsCut marks.old marks.new (takes_request t.0 call s).marks) }
+    ensures alive { IsAlive w.new.threads t.0 }
+    ensures frame { Frame w.old w.new no_numbers w.old.scheduler.running false }
+{
+    w.set_field(t, Change::Request(false));
+    marks.push(Mark::Canceled {
+        tid: t,
+        call: Some(call),
+    })
+}
+
 /// Cancels the thread that runs in a call of its own: its request is taken up, that is told with the call, and then it ends. After
 /// an error the world may only be dropped.
 pub fn cancel_within<P: Program>(
@@ -56,11 +77,7 @@ pub fn cancel_within<P: Program>(
     ensures err { OnErr result ((s : State P P.State P.Shared) → StandsFor w.old s → IsCut marks.old marks.new (canceled_in P.functions t.0 call s).marks) }
     ensures frame { OnOk result (Frame w.old w.new no_numbers (other_than t.0 w.old.scheduler.running) false) }
 {
-    w.set_field(t, Change::Request(false));
-    marks.push(Mark::Canceled {
-        tid: t,
-        call: Some(call),
-    })?;
+    take_request(w, t, call, marks)?;
     end_thread(w, t, CANCELED, marks)
 }
 

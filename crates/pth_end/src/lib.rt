@@ -19,4 +19,4 @@ pub mod ending;
 pub mod giving;
 pub mod handlers;
 pub mod saying;
-mod undoing;
+pub mod undoing;

@@ -3,14 +3,13 @@
 ghost use Rattle.std.specs.Prelude.{◌≡◌, false, OnOk, OnErr};
 ghost use Rattle.pth_base.specs.Cut.{IsCut};
 ghost use Rattle.pth_model.specs.Barriers.{withdraws, withdraws_from};
-ghost use Rattle.pth_model.specs.Changes.{blocked_of};
-ghost use Rattle.pth_model.specs.Awaits.{awaits_in};
+ghost use Rattle.pth_model.specs.Conditions.{hands_on_seat};
 ghost use Rattle.pth_model.specs.Ending.{undoes_wait};
-ghost use Rattle.pth_model.specs.State.{State};
+ghost use Rattle.pth_model.specs.State.{Control, State};
 ghost use Rattle.pth_world.specs.Frame.{Frame};
 ghost use Rattle.pth_world.specs.Leading.{Leads};
 ghost use Rattle.pth_world.specs.Numbering.{no_numbers};
-ghost use Rattle.pth_world.specs.Shows.{StandsFor};
+ghost use Rattle.pth_world.specs.Shows.{Shows, StandsFor};
 ghost use Rattle.pth_world.specs.Sound.{IsAlive};
 ghost use Rattle.pth_world.specs.Whole.{Whole};
 
@@ -19,6 +18,7 @@ use pth_base::mark::Mark;
 use pth_base::marks::Marks;
 use pth_base::memory::OutOfMemory;
 use pth_base::program::Program;
+use pth_cond::seats::Seat;
 use pth_model::awaits::Awaits;
 use pth_world::world::World;
 
@@ -43,21 +43,32 @@ fn withdraw<P: Program>(
 fn withdraw_awaited<P: Program>(
     w: &mut World<P>,
     t: Tid,
+    awaits: Awaits,
     marks: &mut Marks,
 ) -> Result<(), OutOfMemory>
-    requires whole { Whole w.old }
-    ensures ok { OnOk result ((s : State P P.State P.Shared) → StandsFor w.old s → Leads w.new marks.old marks.new (withdraws_from t.0 (awaits_in (blocked_of s.control t.0)) s)) }
-    ensures err { OnErr result ((s : State P P.State P.Shared) → StandsFor w.old s → IsCut marks.old marks.new (withdraws_from t.0 (awaits_in (blocked_of s.control t.0)) s).marks) }
+    ensures ok { OnOk result ((s : State P P.State P.Shared) → StandsFor w.old s → Leads w.new marks.old marks.new (withdraws_from t.0 awaits s)) }
+    ensures err { OnErr result ((s : State P P.State P.Shared) → StandsFor w.old s → IsCut marks.old marks.new (withdraws_from t.0 awaits s).marks) }
     ensures same { w.new ≡ record w.old { barriers = w.new.barriers } }
 {
-    match w.awaited(t).what {
+    match awaits {
         Awaits::Round { b, .. } => withdraw(w, t, b, marks),
         _ => Ok(()),
     }
 }
 
-/// The wait of a thread that ends is undone: its arrival at a barrier is taken back, which is told, the call that blocks it is
-/// taken out, and the claim on its ring is given back. After an error the world may only be dropped.
+/// A thread that is canceled, or ends, leaves its seat at the condition that it awaits, if it awaits one. If the seat alone was
+/// notified, the first that was not is, in its place.
+pub fn hand_on_seat<P: Program>(w: &mut World<P>, t: Tid, awaits: Awaits)
+    ensures shows { (k : Control P P.State P.Shared) → Shows w.old k → Shows w.new (hands_on_seat t.0 awaits k) }
+    ensures same { w.new ≡ record w.old { conditions = w.new.conditions } }
+{
+    if let Awaits::Notice(c) = awaits {
+        w.conditions_mut().hand_on(c, Seat::Await(t));
+    }
+}
+
+/// The wait of a thread that ends is undone: its arrival at a barrier is taken back, which is told, its seat at a condition is handed
+/// on, the call that blocks it is taken out, and the claim on its ring is given back. After an error the world may only be dropped.
 pub(crate) fn undo_wait<P: Program>(
     w: &mut World<P>,
     t: Tid,
@@ -70,7 +81,9 @@ pub(crate) fn undo_wait<P: Program>(
     ensures frame { OnOk result (Frame w.old w.new no_numbers w.old.scheduler.running false) }
     ensures records { OnOk result (w.new.threads.records ≡ w.old.threads.records) }
 {
-    withdraw_awaited(w, t, marks)?;
+    let awaits = w.awaited(t).what;
+    withdraw_awaited(w, t, awaits, marks)?;
+    hand_on_seat(w, t, awaits);
     w.unblock(t);
     Ok(())
 }

@@ -1,12 +1,12 @@
 -- What is known as a call is answered, or as it blocks its thread: its row said so.
-use Rattle.std.proofs.Common.{◌≡◌, ℕ, ◌+◌, ◌==◌, nat_lt, ◌&&◌, ◌||◌, not, Bool, true, false, if◌then◌else◌, ℤ, pos, length, Option, Some, None, is_none, is_some, option_map, refl, sym, ◌∙◌, ap, subst, Result, Ok, Err}
+use Rattle.std.proofs.Common.{◌≡◌, ℕ, ◌+◌, ◌==◌, nat_lt, ◌&&◌, ◌||◌, not, Bool, true, false, if◌then◌else◌, ℤ, pos, length, Option, Some, None, is_none, is_some, option_map, refl, sym, ◌∙◌, ap, subst, inl, Result, Ok, Err}
 use Rattle.pth_base.specs.Program.{Functions}
 use Rattle.pth_base.specs.declared.answer.Answer.{Answer}
 use Rattle.pth_base.specs.declared.answer.Answer.TheVariants as answer
 use Rattle.pth_base.specs.declared.call.Call.{Call}
 use Rattle.pth_base.specs.declared.call.Call.TheVariants as call
 use Rattle.pth_base.specs.declared.errno.Errno.{Errno}
-use Rattle.pth_base.specs.declared.errno.Errno.TheVariants.{EINVAL, EAGAIN, EBUSY, EDEADLK, EINTR, EPERM, ESRCH}
+use Rattle.pth_base.specs.declared.errno.Errno.TheVariants.{EINVAL, EAGAIN, EBUSY, EDEADLK, EINTR, EPERM, ESRCH, EACCES}
 use Rattle.pth_base.specs.declared.event.EventSpec.{EventSpec}
 use Rattle.pth_base.specs.declared.event.EvLine.{EvLine}
 use Rattle.pth_base.specs.declared.event.EvLine.TheVariants as line
@@ -18,6 +18,7 @@ use Rattle.pth_base.proofs.Tables.{put_by, put_here}
 use Rattle.pth_numbered.specs.Operands.{number, ◌is◌}
 use Rattle.pth_cond.specs.declared.barriers.Arrival.{Arrival}
 use Rattle.pth_cond.specs.declared.barriers.Arrival.TheVariants as arrival
+use Rattle.pth_cond.specs.Conditions.{ConditionTable, is_live, seat_entered}
 use Rattle.pth_cond.specs.Barriers.{arrival_answer, has_passed, waits_at, round_answer, round_answered, withdrawn}
 use Rattle.pth_lock.specs.Objects.{object_named}
 use Rattle.pth_lock.specs.RwLocks.{holds, may_enter}
@@ -36,11 +37,12 @@ use Rattle.pth_model.specs.declared.verdict.Verdict.TheVariants.{Says, Yields, B
 use Rattle.pth_model.specs.Verdict.{refused, says, counts_or, by_result, taken_or, ◌when◌otherwise◌, refused_as◌otherwise◌}
 use Rattle.pth_model.specs.Resources.{Resources}
 use Rattle.pth_model.specs.Io.{trial_for, tries, at_once, begins_waiting, is_refused_length, select_deadline}
-use Rattle.pth_model.specs.Awaits.{IsRound, awaits_in, written_in, round_in}
+use Rattle.pth_model.specs.Conditions.{seat_of}
+use Rattle.pth_model.specs.Awaits.{IsRound, is_await, is_awaiting, awaits_in, written_in, round_in}
 use Rattle.pth_model.specs.Barriers.{arrived_as, tries_round, withdraws, withdraws_from}
 use Rattle.pth_model.specs.State.{State, Control, Threads, main}
 use Rattle.pth_model.specs.Transition.{Piece, Change, changes, tells, tid, controlled, silent, where_so, ◌and_then◌}
-use Rattle.pth_model.specs.Changes.{sets, enters, leaves_queue, makes, forgets, removes, goes_on, blocking, is_blocked_by, blocked_in, blocked_of, or_nobody, entry_of, queue_for, with_barriers, with_events, with_kernel}
+use Rattle.pth_model.specs.Changes.{sets, enters, leaves_queue, makes, forgets, removes, goes_on, blocking, is_blocked_by, blocked_in, blocked_of, or_nobody, entry_of, queue_for, with_conditions, with_barriers, with_events, with_kernel}
 use Rattle.pth_model.specs.Living.{is_dead}
 use Rattle.pth_model.specs.Row.{Attempt, unless_refused, refuses, effect_of, ◌trying◌}
 use Rattle.pth_model.specs.RingWaits.{has_settled, ring_given, ring_held, extra_ring, is_no_ring, is_claimed_ring, stops_waiting, gives_back}
@@ -53,7 +55,8 @@ use Rattle.pth_model.specs.Rows.{row_of}
 use Rattle.pth_model.specs.Calls.{unless_settled, interrupted}
 use Rattle.pth_model.proofs.Walks.{KeptByCalls, is_common, effect_keeps, come_keeps}
 use Rattle.pth_laws.specs.Waits.{WaitsRightly, Names}
-use Rattle.pth_laws.proofs.NoRounds.{is_reaching, is_round, is_rounding, again_none, interrupted_none}
+use Rattle.pth_laws.proofs.Seats.{HasLeftAt}
+use Rattle.pth_model.proofs.NoRounds.{is_reaching, is_round, is_special, is_rounding, again_none, interrupted_none}
 use Rattle.pth_laws.proofs.Living.{true_false}
 use Rattle.pth_laws.proofs.Rounds.{answered_left, withdrawn_left}
 
@@ -98,11 +101,19 @@ IsAllowedAgain t c b Kills s = IsToTell (mark.Answered (tid t) c (answer.Int (po
 -- while it blocks on, t waits for the same round, and for none if it waited for none
 abbrev pub StaysAt : Call → Awaits → Awaits → Type 0
 StaysAt (call.BarrierReach b) a now = now ≡ awaits.Round b (round_in a)
-StaysAt c a now = is_round a ≡ false → is_round now ≡ false
+StaysAt c a now = is_special true a ≡ false → is_special true now ≡ false
 
 -- if t waits for a round, its arrival was answered or taken back: it may wait no longer
 abbrev pub HasLeft : {P S H : Type 0} → ℕ → State P S H → Type 0
 HasLeft t s = (b : ℤ) (round : ℕ) → blocked_of s.control t ≡ Some (record { call = call.BarrierReach b; awaits = awaits.Round b round }) → waits_at s.control.barriers b t ≡ false
+
+-- if t waits at a condition, its seat there is left in this table: it may wait no longer
+abbrev pub HasLeftSeat : {P S H : Type 0} → ℕ → ConditionTable → State P S H → Type 0
+HasLeftSeat t y s = (c m e : ℤ) → blocked_of s.control t ≡ Some (record { call = call.CondAwait c m e; awaits = awaits.Notice c }) → HasLeftAt (seat_of t) (object_named c) y s.control.conditions
+
+-- who waits by another call has none
+pub unseated : {P S H : Type 0} (t : ℕ) (y : ConditionTable) (s : State P S H) → is_awaiting (blocked_of s.control t) ≡ false → HasLeftSeat t y s
+unseated t y s none c m e now = absurd (true_false (sym (ap is_awaiting now) ∙ none))
 
 -- ---- verdicts
 
@@ -114,7 +125,7 @@ abbrev pub is_blocking : Verdict → Bool
 is_blocking (Blocks p) = true
 is_blocking v = false
 
--- a call that is given no ring, and waits for no mutex, no lock and no barrier
+-- a call that is given no ring, and waits for no mutex, no lock, no condition and no barrier
 abbrev is_plainly_waiting : Call → Bool
 is_plainly_waiting (call.Wait e) = false
 is_plainly_waiting (call.ReadEv f n e) = false
@@ -124,6 +135,7 @@ is_plainly_waiting (call.ConnectEv f e) = false
 is_plainly_waiting (call.SelectEv r w x l e) = false
 is_plainly_waiting (call.MutexAcquire m v e) = false
 is_plainly_waiting (call.RwAcquire l write v e) = false
+is_plainly_waiting (call.CondAwait c m e) = false
 is_plainly_waiting (call.BarrierReach b) = false
 is_plainly_waiting c = true
 
@@ -187,6 +199,7 @@ module _ {P S H : Type 0} (t : ℕ) where
   waits_plainly (call.SelectEv r w x l e) a s plain = absurd (true_false (sym plain))
   waits_plainly (call.MutexAcquire m v e) a s plain = absurd (true_false (sym plain))
   waits_plainly (call.RwAcquire l write v e) a s plain = absurd (true_false (sym plain))
+  waits_plainly (call.CondAwait c m e) a s plain = absurd (true_false (sym plain))
   waits_plainly (call.BarrierReach b) a s plain = absurd (true_false (sym plain))
   waits_plainly c a s plain = record { ring = λ e h. absurd (no_ring_some e h); rightly = tt; names = tt }
 
@@ -380,6 +393,23 @@ module _ {P S H : Type 0} (f : P → Functions S H) (t : ℕ) where
   enter_allowed s l write v e false true false false false true is_known is_ring is_held is_open_to is_has free = tt
   enter_allowed s l write v e false true false false false false is_known is_ring is_held is_open_to is_has free = (free, ring_waits t s s (call.RwAcquire l write v e) (awaits.Lock l write) (extra_ring e) refl refl is_ring is_has refl (is_known, is_held))
 
+  -- after its effect, by which t has a seat
+  pub await_allowed : (s u : State P S H) (c m e : ℤ) (bad none free other has : Bool) → is_none (mutex s m) ≡ none → is_no_ring s (extra_ring e) ≡ bad → is_claimed_ring s (extra_ring e) ≡ has → u.control.events ≡ s.control.events → u.resources ≡ s.resources → IsFree t u → (dead : Bool)
+      → IsAllowed t (call.CondAwait c m e) (refused EINVAL when dead || bad otherwise by_result (λ released. refused EBUSY when has otherwise Blocks (awaits.Notice c)) (if none then Err EINVAL else if free then Err EDEADLK else if other then Err EACCES else Ok (tt {0}))) u
+  await_allowed s u c m e bad none free other has is_none_so is_ring is_has events same idle true = tt
+  await_allowed s u c m e true none free other has is_none_so is_ring is_has events same idle false = tt
+  await_allowed s u c m e false true free other has is_none_so is_ring is_has events same idle false = tt
+  await_allowed s u c m e false false true other has is_none_so is_ring is_has events same idle false = tt
+  await_allowed s u c m e false false false true has is_none_so is_ring is_has events same idle false = tt
+  await_allowed s u c m e false false false false true is_none_so is_ring is_has events same idle false = tt
+  await_allowed s u c m e false false false false false is_none_so is_ring is_has events same idle false =
+      let there = ap (λ (k : Resources). is_some (k.store.mutexes (object_named m))) same ∙ not_none (mutex s m) is_none_so in
+      (idle, ring_waits t s u (call.CondAwait c m e) (awaits.Notice c) (extra_ring e) refl events is_ring is_has (inl refl) there)
+
+  seats_unless : (b : Bool) (g : ConditionTable → ConditionTable) (s : State P S H) → let u = (unless_refused b (changes (with_conditions g)) s).state in (u.control.events ≡ s.control.events) × (u.resources ≡ s.resources)
+  seats_unless true g s = (refl, refl)
+  seats_unless false g s = (refl, refl)
+
   -- by what an arrival comes to
   reach_allowed : (s : State P S H) (b : ℤ) (o : Result Arrival Errno) (u : State P S H) → IsFree t u → IsAllowed t (call.BarrierReach b) (by_result (arrived_as b) o) u
   reach_allowed s b (Err e) u free = tt
@@ -406,6 +436,10 @@ module _ {P S H : Type 0} (f : P → Functions S H) (t : ℕ) where
   allowed s (call.RwAcquire l write v e) free =
       let verdict = (row_of f s t (call.RwAcquire l write v e)).begin.verdict in
       subst (IsAllowed t (call.RwAcquire l write v e) verdict) (sym (silent_unless (refuses verdict) s)) (enter_allowed s l write v e (is_no_ring s (extra_ring e)) (is_lock s l) (holds s.resources.store.rw_locks t (object_named l)) (lets_in s write l) _ (is_claimed_ring s (extra_ring e)) refl refl refl refl refl free)
+  allowed s (call.CondAwait c m e) free =
+      let row = (row_of f s t (call.CondAwait c m e)).begin in
+      let same = seats_unless (refuses row.verdict) (seat_entered c (seat_of t)) s in
+      await_allowed s (effect_of row s).state c m e (is_no_ring s (extra_ring e)) (is_none (mutex s m)) _ _ (is_claimed_ring s (extra_ring e)) refl refl refl same.0 same.1 (free_after s (call.CondAwait c m e) refl free) (not (is_live s.control.conditions c))
   allowed s (call.BarrierReach b) free = reach_allowed s b (arrival_answer s.control.barriers b) (effect_of (row_of f s t (call.BarrierReach b)).begin s).state (free_after s (call.BarrierReach b) refl free)
   allowed s c free = allowed_by t c (row_of f s t c).begin.verdict (effect_of (row_of f s t c).begin s).state refl (λ a blocks. (free_after s c refl free, waits_plainly t c a (effect_of (row_of f s t c).begin s).state refl))
 
@@ -476,16 +510,17 @@ module _ {P S H : Type 0} (f : P → Functions S H) (t : ℕ) where
       by_test true blocks = absurd (cc blocks)
       by_test false blocks = cc
 
-  again_names : (s : State P S H) (c : Call) (a now : Awaits) → is_entering c ≡ false → ((row_of f s t c).again a).verdict ≡ Blocks now → Names c now
+  again_names : (s : State P S H) (c : Call) (a now : Awaits) → is_entering c ≡ false → is_await c ≡ false → ((row_of f s t c).again a).verdict ≡ Blocks now → Names c now
   unfolding row_of
-  again_names s (call.MutexAcquire m v e) a now other blocks = by_test (is_free s m) blocks
+  again_names s (call.MutexAcquire m v e) a now other plain blocks = by_test (is_free s m) blocks
     where
       by_test : (free : Bool) → (says 1 when free otherwise Blocks (awaits.Mutex m)) ≡ Blocks now → now ≡ awaits.Mutex m
       by_test true blocks = absurd (cc blocks)
       by_test false blocks = cc
-  again_names s (call.RwAcquire l write v e) a now other blocks = absurd (true_false other)
-  again_names s (call.BarrierReach b) a now other blocks = subst (IsRound b) (sym (round_stays s b (round_in a) now blocks)) refl
-  again_names s c a now other blocks = tt
+  again_names s (call.RwAcquire l write v e) a now other plain blocks = absurd (true_false other)
+  again_names s (call.CondAwait q m e) a now other plain blocks = absurd (true_false plain)
+  again_names s (call.BarrierReach b) a now other plain blocks = subst (IsRound b) (sym (round_stays s b (round_in a) now blocks)) refl
+  again_names s c a now other plain blocks = tt
 
   -- a lock is entered once t waits no longer
   rw_again : (s : State P S H) (l : ℤ) (write : Bool) (v e : ℤ) (b : Blocked) (come known open_to held : Bool) → is_lock s l ≡ known → lets_in s write l ≡ open_to → holds s.resources.store.rw_locks t (object_named l) ≡ held → blocked_of s.control t ≡ Some b
@@ -499,28 +534,28 @@ module _ {P S H : Type 0} (f : P → Functions S H) (t : ℕ) where
   rw_again s l write v e b false false open_to held is_known is_open_to is_held at = (at, refl)
   rw_again s l write v e b true false open_to held is_known is_open_to is_held at = tt
 
-  other_again : (s : State P S H) (c : Call) (b : Blocked) (come : Bool) → is_entering c ≡ false → blocked_of s.control t ≡ Some b → let a = unless_settled come ((row_of f s t c).again b.awaits) in IsAllowedAgain t c b a.verdict (effect_of a s).state
-  other_again s c b false other at =
+  other_again : (s : State P S H) (c : Call) (b : Blocked) (come : Bool) → is_entering c ≡ false → is_await c ≡ false → blocked_of s.control t ≡ Some b → let a = unless_settled come ((row_of f s t c).again b.awaits) in IsAllowedAgain t c b a.verdict (effect_of a s).state
+  other_again s c b false other plain at =
       let a = (row_of f s t c).again b.awaits in
-      again_by t c b a.verdict (effect_of a s).state other (λ now blocks. (again_here s c b.awaits (ap is_blocking blocks) ∙ at, again_names s c b.awaits now other blocks))
-  other_again s c b true other at =
+      again_by t c b a.verdict (effect_of a s).state other (λ now blocks. (again_here s c b.awaits (ap is_blocking blocks) ∙ at, again_names s c b.awaits now other plain blocks))
+  other_again s c b true other plain at =
       let a = unless_settled true ((row_of f s t c).again b.awaits) in
       again_by t c b a.verdict (effect_of a s).state other (λ now blocks. absurd (true_false (sym (ap is_blocking blocks) ∙ interrupted_answers ((row_of f s t c).again b.awaits).verdict)))
 
-  pub allowed_again : (s : State P S H) (c : Call) (b : Blocked) (come : Bool) → blocked_of s.control t ≡ Some b → let a = unless_settled come ((row_of f s t c).again b.awaits) in IsAllowedAgain t c b a.verdict (effect_of a s).state
+  pub allowed_again : (s : State P S H) (c : Call) (b : Blocked) (come : Bool) → is_await c ≡ false → blocked_of s.control t ≡ Some b → let a = unless_settled come ((row_of f s t c).again b.awaits) in IsAllowedAgain t c b a.verdict (effect_of a s).state
   unfolding row_of
-  allowed_again s (call.RwAcquire l write v e) b come at = rw_again s l write v e b come (is_lock s l) (lets_in s write l) (holds s.resources.store.rw_locks t (object_named l)) refl refl refl at
-  allowed_again s c b come at = other_again s c b come refl at
+  allowed_again s (call.RwAcquire l write v e) b come plain at = rw_again s l write v e b come (is_lock s l) (lets_in s write l) (holds s.resources.store.rw_locks t (object_named l)) refl refl refl at
+  allowed_again s c b come plain at = other_again s c b come refl plain at
 
-  settled_none : (s : State P S H) (c : Call) (a : Awaits) (come : Bool) → is_reaching c ≡ false → is_round a ≡ false → is_rounding (unless_settled come ((row_of f s t c).again a)).verdict ≡ false
-  settled_none s c a false other none = again_none f s t c a other none
-  settled_none s c a true other none = interrupted_none ((row_of f s t c).again a).verdict
+  settled_none : (s : State P S H) (c : Call) (a : Awaits) (come : Bool) → is_reaching c ≡ false → is_special true a ≡ false → is_rounding true (unless_settled come ((row_of f s t c).again a)).verdict ≡ false
+  settled_none s c a false other none = again_none true f s t c a other none
+  settled_none s c a true other none = interrupted_none true ((row_of f s t c).again a).verdict
 
   pub stays_again : (s : State P S H) (c : Call) (a : Awaits) (come : Bool) (now : Awaits) → (unless_settled come ((row_of f s t c).again a)).verdict ≡ Blocks now → StaysAt c a now
   unfolding row_of
   stays_again s (call.BarrierReach b) a false now blocks = round_stays s b (round_in a) now blocks
   stays_again s (call.BarrierReach b) a true now blocks = absurd (true_false (sym (ap is_blocking blocks) ∙ interrupted_answers (tries_round s t b (round_in a)).verdict))
-  stays_again s c a come now blocks = λ none. sym (ap is_rounding blocks) ∙ settled_none s c a come refl none
+  stays_again s c a come now blocks = λ none. sym (ap (is_rounding true) blocks) ∙ settled_none s c a come refl none
 
   -- t's round has passed, and its arrival is answered
   round_left : (s : State P S H) (b : ℤ) (round : ℕ) → is_blocking (tries_round s t b round).verdict ≡ false → waits_at (effect_of (tries_round s t b round) s).state.control.barriers b t ≡ false
@@ -536,6 +571,9 @@ module _ {P S H : Type 0} (f : P → Functions S H) (t : ℕ) where
     where
       one : (x : Blocked) → Some b ≡ Some x → x ≡ b
       one x h = cc
+
+  pub unseated_again : (s : State P S H) (c : Call) (b : Blocked) (come : Bool) → b.call ≡ c → is_await c ≡ false → blocked_of s.control t ≡ Some b → is_awaiting (blocked_of (effect_of (unless_settled come ((row_of f s t c).again b.awaits)) s).state.control t) ≡ false
+  unseated_again s c b come named other at = come_keeps f t (λ k. is_awaiting (blocked_of k t) ≡ false) (so_kept t (λ o. is_awaiting o ≡ false) refl f) s c b.awaits come (ap is_awaiting at ∙ ap is_await named ∙ other)
 
   pub left_again : (s : State P S H) (c : Call) (b : Blocked) → b.call ≡ c → blocked_of s.control t ≡ Some b → let a = unless_settled (has_settled s.control.events (ring_given c)) ((row_of f s t c).again b.awaits) in is_blocking a.verdict ≡ false → HasLeft t (effect_of a s).state
   unfolding row_of

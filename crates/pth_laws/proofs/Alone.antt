@@ -178,7 +178,7 @@ module _ {P S H : Type 0} where
   apart_kept f = record {
     handlers = record {
       shared = λ h s r. r;
-      seated = λ x s r. r;
+      seated = λ x s fewer r. r;
       told = λ m s may r. told_apart s r m may;
     };
     placed = λ standing entries raises s r. r;
@@ -200,8 +200,10 @@ module _ {P S H : Type 0} where
     reached = λ t b round s free alive there waits r. r;
     goes = λ t g s same r. r;
     blocked = λ t c a s free other none may r. r;
-    waits_on = λ t a b s at names stays r. r;
-    stopped = λ t x s fewer others left r. r;
+    waits_on = λ t a b s at names stays other plain r. r;
+    stopped = λ t x y s fewer others seats left gone r. r;
+    takes_seat = λ t c m e s free alive there may r. r;
+    retakes = λ t c m e a o y s fewer gone at r. r;
   }
 
   apart_start : (f : P → Functions S H) (g : Given P) → Apart (start f g)

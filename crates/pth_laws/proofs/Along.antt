@@ -1,6 +1,6 @@
 -- What every part of a run keeps of a state, by the changes and the marks of which parts are made. Beside each stands what is known as it
 -- is made.
-use Rattle.std.proofs.Common.{◌≡◌, ℕ, zero, suc, ◌+◌, ◌*◌, ◌&&◌, not, min, Bool, true, false, if◌then◌else◌, ℤ, pos, ◌+ℤ◌, List, [], ◌∷◌, map, reverse, ◌⊎◌, inl, inr, Option, Some, None, is_none, is_some, option_map, refl, sym, ◌∙◌, ap, Result, Ok, Err, arith}
+use Rattle.std.proofs.Common.{◌≡◌, ℕ, zero, suc, ◌+◌, ◌*◌, ◌&&◌, ◌||◌, not, min, Bool, true, false, if◌then◌else◌, ℤ, pos, ◌+ℤ◌, List, [], ◌∷◌, map, reverse, ◌⊎◌, inl, inr, Option, Some, None, is_none, is_some, option_map, refl, sym, ◌∙◌, ap, subst, Result, Ok, Err, arith}
 use Rattle.std.proofs.lemmas.Bool.{not-false}
 use Rattle.std.proofs.lemmas.Int.{ints}
 use Rattle.pth_base.specs.Limits.{last_count, last_moment}
@@ -13,7 +13,7 @@ use Rattle.pth_base.specs.declared.attr.AttrValue.TheVariants as value
 use Rattle.pth_base.specs.declared.call.Call.{Call}
 use Rattle.pth_base.specs.declared.call.Call.TheVariants as call
 use Rattle.pth_base.specs.declared.errno.Errno.{Errno}
-use Rattle.pth_base.specs.declared.errno.Errno.TheVariants.{EBUSY, EINVAL, EPERM, ESRCH}
+use Rattle.pth_base.specs.declared.errno.Errno.TheVariants.{EACCES, EBUSY, EDEADLK, EINTR, EINVAL, EPERM, ESRCH}
 use Rattle.pth_base.specs.declared.event.EventSpec.{EventSpec}
 use Rattle.pth_base.specs.declared.event.EvLine.{EvLine}
 use Rattle.pth_base.specs.declared.event.EvLine.TheVariants as line
@@ -29,7 +29,8 @@ use Rattle.pth_base.specs.declared.thread.ThreadState.TheVariants as state
 use Rattle.pth_base.proofs.Tables.{put_here}
 use Rattle.pth_cond.specs.declared.barriers.Arrival.{Arrival}
 use Rattle.pth_cond.specs.declared.barriers.Arrival.TheVariants as arrival
-use Rattle.pth_cond.specs.Conditions.{ConditionTable, cond_notified}
+use Rattle.pth_cond.specs.Conditions.{ConditionTable, is_live, cond_notified, seat_entered, seat_left, seat_handed_on}
+use Rattle.pth_cond.specs.declared.seats.Seat.{Seat}
 use Rattle.pth_cond.specs.Barriers.{BarrierTable, is_size, taillight, arrival_answer, has_passed, waits_at, barrier_initialised, barrier_reached, round_answer, round_answered, withdrawn}
 use Rattle.pth_kernel.specs.Kernel.{Kernel, advanced}
 use Rattle.pth_lock.specs.Objects.{object_named, is_object}
@@ -50,24 +51,28 @@ use Rattle.pth_threads.specs.declared.entry.Entry.{Entry}
 use Rattle.pth_threads.specs.declared.entry.NewThread.{NewThread}
 use Rattle.pth_model.specs.declared.awaits.Awaits.{Awaits}
 use Rattle.pth_model.specs.declared.awaits.Awaits.TheVariants as awaits
+use Rattle.pth_model.specs.declared.awaits.Retake.{Retake}
+use Rattle.pth_model.specs.declared.awaits.Retake.TheVariants as retake
 use Rattle.pth_model.specs.declared.blocked.Blocked.{Blocked}
 use Rattle.pth_model.specs.declared.destructors.Due.{Due}
 use Rattle.pth_model.specs.declared.destructors.Round.{Round}
 use Rattle.pth_model.specs.declared.next.Next.{Next}
 use Rattle.pth_model.specs.declared.next.Next.TheVariants as next
 use Rattle.pth_model.specs.declared.progress.Progress.{Progress}
-use Rattle.pth_model.specs.Awaits.{awaits_in, round_in}
+use Rattle.pth_model.specs.Awaits.{awaits_in, round_in, is_await, is_awaiting, is_retaking}
+use Rattle.pth_model.specs.Conditions.{seat_of, can_take, is_noticed, leaves_seat, hands_on_seat}
+use Rattle.pth_model.specs.Mutexes.{mutex}
 use Rattle.pth_model.specs.Barriers.{arrived_as, withdraws, withdraws_from}
 use Rattle.pth_model.specs.Resources.{handler}
 use Rattle.pth_model.specs.Standing.{Standing}
 use Rattle.pth_model.specs.State.{State, Given, Scheduler, Turn, start, queue, now_of, clock_of}
-use Rattle.pth_model.specs.Transition.{Piece, Change, silent, nothing, changes, tells, tells_each, tid, controlled, where_so, ◌and_then◌}
+use Rattle.pth_model.specs.Transition.{Piece, Change, silent, nothing, changes, tells, tells_each, tid, controlled, where_so, ◌and◌, ◌and_then◌}
 use Rattle.pth_model.specs.Changes.{shares, uses, sets, goes_on, owing, is_blocked_by, enters, leaves_queue, raises_ready, makes, forgets, removes, adds_object, puts_object, with_threads, with_conditions, with_barriers, with_events, with_kernel, with_scheduler, moves_to, prefers, runs_now, blocked_in, blocked_of, or_nobody, entry_of, prio_of, queue_for, holders}
 use Rattle.pth_model.specs.declared.verdict.Verdict.{Verdict}
 use Rattle.pth_model.specs.declared.verdict.Verdict.TheVariants.{Says, Yields, Blocks, Ends, Kills}
 use Rattle.pth_model.specs.Verdict.{refused, says, done, by_result, ◌when◌otherwise◌}
 use Rattle.pth_model.specs.Row.{Attempt, unless_refused, refuses, effect_of, ◌trying◌}
-use Rattle.pth_model.specs.RingWaits.{claims, ring_given, stops_waiting, has_settled}
+use Rattle.pth_model.specs.RingWaits.{claims, extra_ring, is_no_ring, is_claimed_ring, ring_given, stops_waiting, has_settled}
 use Rattle.pth_model.specs.Acts.{acts, acts_from, act_limit, answer_in, row_of_act, goes_on_after, runs_handler}
 use Rattle.pth_model.specs.Cleanups.{runs_pushed, last_pushed}
 use Rattle.pth_model.specs.Ending.{ending, undoes_wait, runs_each, runs_cleanups, destructs, destructs_by, runs_destructors, mutexes_had, locks_held, gives_mutexes, gives_locks, dies, leaves, is_dead_with, other_than, stops_running, next_destructor, round_limit, first_round}
@@ -78,7 +83,7 @@ use Rattle.pth_model.specs.EventHandling.{spec_of, made_as, make_event, number_o
 use Rattle.pth_model.specs.Cancellation.{canceled_value, is_asynchronous, is_to_cancel, may_be_canceled, takes_request, canceled_by_other, aborted}
 use Rattle.pth_model.specs.Living.{is_dead, lives}
 use Rattle.pth_model.specs.Rows.{row_of}
-use Rattle.pth_model.specs.Calls.{begun, begun_by, begun_as, blocks, gone_on, gone_on_where, canceled_by, tried_again, tried_again_by, tried_by, unless_settled, interrupted}
+use Rattle.pth_model.specs.Calls.{begun, begun_by, begun_as, blocks, gone_on, gone_on_where, canceled_by, tried_again, tried_again_by, tried_by, unless_settled, interrupted, retaken_as, retakes_where, awaits_on_where, awaits_on, gone_on_in, gone_on_by}
 use Rattle.pth_model.specs.Pass.{pass, looks, to_wake, woken, all_woken, is_ready_at, moment}
 use Rattle.pth_model.specs.Part.{rank_by, Part, Move, Take, Step, Close, Halt, part, part_by, next_part, chosen, readies, readies_all, readies_new, runs, dispatches, takes, takes_by, owes_after, steps, steps_on, steps_by, is_put_back, is_put_waiting, placed_by, is_placed, turn_ends, closes, moves, moves_by}
 use Rattle.pth_model.specs.Run.{parts, run}
@@ -87,9 +92,10 @@ use Rattle.pth_laws.specs.Waits.{Names}
 use Rattle.pth_laws.proofs.Living.{true_false}
 use Rattle.pth_laws.proofs.Going.{IsSound, sound_steps}
 use Rattle.pth_laws.proofs.EveryRun.{run_sound}
-use Rattle.pth_laws.proofs.NoRounds.{is_reaching, is_round, is_rounding, begins_none}
+use Rattle.pth_model.proofs.NoRounds.{is_reaching, is_special, is_rounding, begins_none, again_plainly}
+use Rattle.pth_laws.proofs.Seats.{HasFewerSeats, HasLeftAt, seats_same, seats_notified, seats_initialised, seats_left, left_there, seats_handed, handed_there}
 use Rattle.pth_laws.proofs.Rounds.{HasFewer, HasOthers, HasAll, fewer_same, fewer_initialised, fewer_tail, fewer_answered, fewer_withdrawn, others_answered, others_withdrawn, all_initialised, all_reached}
-use Rattle.pth_laws.proofs.Allowed.{IsFree, IsToTell, MayWait, IsAllowed, IsAllowedAgain, StaysAt, HasLeft, is_blocking, allowed, allowed_again, stays_again, left_again, left_ended, stopped_free}
+use Rattle.pth_laws.proofs.Allowed.{IsFree, IsToTell, MayWait, IsAllowed, IsAllowedAgain, StaysAt, HasLeft, HasLeftSeat, unseated, unseated_again, is_blocking, await_allowed, allowed, allowed_again, stays_again, left_again, left_ended, stopped_free}
 
 -- a change of a record that leaves its base priority in its range
 abbrev pub IsPrioSafe : change_of_record.Change → Type 0
@@ -135,10 +141,10 @@ MayArrange x (Isolated e) = ring_refusal x e ≡ None
 MayArrange x (Freed e) = ring_refusal x e ≡ None
 MayArrange x (RingFreed e) = ring_refusal x e ≡ None
 
--- what handlers do, and what is told of them: the program's shared value changes, and the seats of conditions
+-- what handlers do, and what is told of them: the program's shared value changes, and the marks of seats
 pub record KeptByHandlers {P S H : Type 0} (R : State P S H → Type 0) : Type 0 where
   pub shared : (h : H) (s : State P S H) → R s → R (controlled (shares h) s)
-  pub seated : (x : ConditionTable) (s : State P S H) → R s → R (controlled (with_conditions (λ y. x)) s)
+  pub seated : (x : ConditionTable) (s : State P S H) → HasFewerSeats x s.control.conditions → R s → R (controlled (with_conditions (λ y. x)) s)
   pub told : (m : Mark) (s : State P S H) → IsToTell m s → R s → R (tells m s).state
 
 pub record KeptAlong {P S H : Type 0} (f : P → Functions S H) (R : State P S H → Type 0) : Type 0 where
@@ -167,10 +173,14 @@ pub record KeptAlong {P S H : Type 0} (f : P → Functions S H) (R : State P S H
   pub reached : (t : ℕ) (b : ℤ) (round : ℕ) (s : State P S H) → IsFree t s → lives (s.control.threads.known t) ≡ true → is_some (s.control.threads.progress t) ≡ true → arrival_answer s.control.barriers b ≡ Ok (arrival.Waits round) → R s → R (controlled (λ k. blocks t (call.BarrierReach b) (awaits.Round b round) (with_barriers (barrier_reached b t) k)) s)
   -- how far threads are, and what blocks them
   pub goes : (t : ℕ) (g : Progress S → Progress S) (s : State P S H) → ((p : Progress S) → (g p).blocked ≡ p.blocked) → R s → R (controlled (goes_on t g) s)
-  pub blocked : (t : ℕ) (c : Call) (a : Awaits) (s : State P S H) → IsFree t s → is_reaching c ≡ false → is_round a ≡ false → MayWait t c a s → R s → R (controlled (λ k. blocks t c a (claims t (ring_given c) k)) s)
-  pub waits_on : (t : ℕ) (a : Awaits) (b : Blocked) (s : State P S H) → blocked_of s.control t ≡ Some b → Names b.call a → StaysAt b.call b.awaits a → R s → R (controlled (is_blocked_by t (Some (record b { awaits = a }))) s)
-  -- no call blocks t any longer, and its arrival may be lost with this
-  pub stopped : (t : ℕ) (x : BarrierTable) (s : State P S H) → HasFewer x s.control.barriers → HasOthers t x s.control.barriers → HasLeft t (controlled (with_barriers (λ y. x)) s) → R s → R (controlled (λ k. stops_waiting t (with_barriers (λ y. x) k)) s)
+  pub blocked : (t : ℕ) (c : Call) (a : Awaits) (s : State P S H) → IsFree t s → is_reaching c ≡ false → is_special true a ≡ false → MayWait t c a s → R s → R (controlled (λ k. blocks t c a (claims t (ring_given c) k)) s)
+  pub waits_on : (t : ℕ) (a : Awaits) (b : Blocked) (s : State P S H) → blocked_of s.control t ≡ Some b → Names b.call a → StaysAt b.call b.awaits a → is_await b.call ≡ false → (is_retaking b.awaits ≡ false) × (is_retaking a ≡ false) → R s → R (controlled (is_blocked_by t (Some (record b { awaits = a }))) s)
+  -- no call blocks t any longer, and its arrival, or its seat, may be lost with this
+  pub stopped : (t : ℕ) (x : BarrierTable) (y : ConditionTable) (s : State P S H) → HasFewer x s.control.barriers → HasOthers t x s.control.barriers → HasFewerSeats y s.control.conditions → HasLeft t (controlled (with_barriers (λ z. x)) s) → HasLeftSeat t y s → R s → R (controlled (λ k. stops_waiting t (with_conditions (λ z. y) (with_barriers (λ z. x) k))) s)
+  -- t takes a seat at a condition, and waits there
+  pub takes_seat : (t : ℕ) (c m e : ℤ) (s : State P S H) → IsFree t s → lives (s.control.threads.known t) ≡ true → is_some (s.control.threads.progress t) ≡ true → MayWait t (call.CondAwait c m e) (awaits.Notice c) s → R s → R (controlled (λ k. blocks t (call.CondAwait c m e) (awaits.Notice c) (claims t (extra_ring e) (with_conditions (seat_entered c (seat_of t)) k))) s)
+  -- its wait there is over, its seat may be lost with this, and it waits for its mutex
+  pub retakes : (t : ℕ) (c m e : ℤ) (a : Awaits) (o : Retake) (y : ConditionTable) (s : State P S H) → HasFewerSeats y s.control.conditions → HasLeftSeat t y s → blocked_of s.control t ≡ Some (record { call = call.CondAwait c m e; awaits = a }) → R s → R (controlled (λ k. blocks t (call.CondAwait c m e) (awaits.Retaking m o) (stops_waiting t (with_conditions (λ z. y) k))) s)
 
 -- ---- what verdicts say of calls that they do not refuse
 
@@ -216,7 +226,7 @@ module _ {P S H : Type 0} (f : P → Functions S H) (R : State P S H → Type 0)
 
       by_refusal : (b : Bool) → R ((unless_refused b (row_of_act s t (act.Notify c v)).begin.effect and_then tells m) s).state
       by_refusal true = kept.told m s tt r
-      by_refusal false = kept.told m (controlled (with_conditions (cond_notified c (not (is_zero v)))) s) tt (kept.seated _ s r)
+      by_refusal false = kept.told m (controlled (with_conditions (cond_notified c (not (is_zero v)))) s) tt (kept.seated _ s (seats_notified c (not (is_zero v)) s.control.conditions) r)
   act_keeps t (act.SetKey k v) s r = by_refusal (refuses (row_of_act s t (act.SetKey k v)).begin.verdict)
     where
       m : Mark
@@ -287,6 +297,32 @@ leaves_free t s free = free
 leaves_gone : {P S H : Type 0} (t : ℕ) (s : State P S H) → IsGone t s → IsGone t (controlled (leaves_queue t) s)
 unfolding leaves_queue
 leaves_gone t s gone = gone
+
+-- calls that take a place where they wait
+abbrev is_placing : Call → Bool
+is_placing (call.BarrierReach b) = true
+is_placing (call.CondAwait c m e) = true
+is_placing c = false
+
+-- a seat that is left at a condition, by whatever number
+left_named : (u : Seat) (c i : ℤ) (x y : ConditionTable) → c ≡ i → HasLeftAt u (object_named c) x y → HasLeftAt u (object_named i) x y
+left_named u c i x y same left = subst (λ (n : ℤ). HasLeftAt u (object_named n) x y) same left
+
+same_notice : (c i : ℤ) → awaits.Notice c ≡ awaits.Notice i → c ≡ i
+same_notice c i h = cc
+
+same_await : (c m e i j k : ℤ) (a b : Awaits) → ◌≡◌ {A = Option Blocked} (Some (record { call = call.CondAwait c m e; awaits = a })) (Some (record { call = call.CondAwait i j k; awaits = b })) → c ≡ i
+same_await c m e i j k a b h =
+    let one : ◌≡◌ {A = Blocked} (record { call = call.CondAwait c m e; awaits = a }) (record { call = call.CondAwait i j k; awaits = b }) = cc in
+    let two : call.CondAwait c m e ≡ call.CondAwait i j k = ap (λ (x : Blocked). x.call) one in
+    cc
+
+not_retaking : (b : Blocked) → is_await b.call ≡ false → (is_retaking b.awaits ≡ true → is_await b.call ≡ true) → is_retaking b.awaits ≡ false
+not_retaking b other only = by_test (is_retaking b.awaits) only
+  where
+    by_test : (r : Bool) → (r ≡ true → is_await b.call ≡ true) → r ≡ false
+    by_test false only = refl
+    by_test true only = absurd (true_false (sym (only refl) ∙ other))
 
 dead_gone : (o : Option Entry) → is_dead (or_nobody o).state ≡ true → lives o ≡ false
 dead_gone None h = refl
@@ -383,20 +419,24 @@ module _ {P S H : Type 0} (f : P → Functions S H) (R : State P S H → Type 0)
   dies_keeps t v s free r = kept.handlers.told (mark.Ended (tid t) v) (controlled (leaves t v) s) tt (left_keeps t v s free r)
 
   -- no call blocks t any longer, whose arrival was not lost
-  stops_keeps : (t : ℕ) (s : State P S H) → HasLeft t s → R s → R (controlled (stops_waiting t) s)
-  stops_keeps t s left r = kept.stopped t s.control.barriers s (λ b. fewer_same (s.control.barriers b)) (λ b round u apart h. h) left r
+  stops_keeps : (t : ℕ) (s : State P S H) → HasLeft t s → HasLeftSeat t s.control.conditions s → R s → R (controlled (stops_waiting t) s)
+  stops_keeps t s left unseated r = kept.stopped t s.control.barriers s.control.conditions s (λ b. fewer_same (s.control.barriers b)) (λ b round u apart h. h) (seats_same s.control.conditions) left unseated r
 
   -- its arrival at a barrier is taken back, if it waits there
-  where_withdrawn : (t : ℕ) (b : ℤ) (here : Bool) (s : State P S H) → let a = (where_so here (changes (with_barriers (withdrawn b t)) and_then tells (mark.Withdrew (tid t) (object_named b))) s).state in HasLeft t a → R s → R (controlled (stops_waiting t) a)
-  where_withdrawn t b true s left r =
+  where_withdrawn : (t : ℕ) (b : ℤ) (here : Bool) (s : State P S H) → let a = (where_so here (changes (with_barriers (withdrawn b t)) and_then tells (mark.Withdrew (tid t) (object_named b))) s).state in HasLeft t a → HasLeftSeat t s.control.conditions s → R s → R (controlled (stops_waiting t) a)
+  where_withdrawn t b true s left unseated r =
       let m = mark.Withdrew (tid t) (object_named b) in
-      kept.stopped t (withdrawn b t s.control.barriers) (tells m s).state (fewer_withdrawn b t s.control.barriers) (others_withdrawn b t s.control.barriers) left (kept.handlers.told m s tt r)
-  where_withdrawn t b false s left r = stops_keeps t s left r
+      kept.stopped t (withdrawn b t s.control.barriers) s.control.conditions (tells m s).state (fewer_withdrawn b t s.control.barriers) (others_withdrawn b t s.control.barriers) (seats_same s.control.conditions) left unseated (kept.handlers.told m s tt r)
+  where_withdrawn t b false s left unseated r = stops_keeps t s left unseated r
 
-  undone_keeps : (t : ℕ) (a : Awaits) (s : State P S H) → HasLeft t (withdraws_from t a s).state → R s → R (controlled (stops_waiting t) (withdraws_from t a s).state)
-  unfolding withdraws_from withdraws
-  undone_keeps t (awaits.Round b round) s left r = where_withdrawn t b (waits_at s.control.barriers b t) s left r
-  undone_keeps t a s left r = stops_keeps t s left r
+  -- and its seat at a condition is handed on
+  undone_keeps : (t : ℕ) (a : Awaits) (s : State P S H) → awaits_in (blocked_of s.control t) ≡ a → HasLeft t (withdraws_from t a s).state → R s → R (controlled (hands_on_seat t a and stops_waiting t) (withdraws_from t a s).state)
+  unfolding withdraws_from withdraws hands_on_seat
+  undone_keeps t (awaits.Round b round) s own left r = where_withdrawn t b (waits_at s.control.barriers b t) s left (λ c m e now. absurd (cc (sym own ∙ ap awaits_in now))) r
+  undone_keeps t (awaits.Notice c) s own left r =
+      let x = s.control.conditions in
+      kept.stopped t s.control.barriers (seat_handed_on c (seat_of t) x) s (λ b. fewer_same (s.control.barriers b)) (λ b round u apart h. h) (seats_handed c (seat_of t) x) left (λ i m e now. left_named (seat_of t) c i (seat_handed_on c (seat_of t) x) x (same_notice c i (sym own ∙ ap awaits_in now)) (handed_there c (seat_of t) x)) r
+  undone_keeps t a s own left r = stops_keeps t s left (λ c m e now. absurd (cc (sym own ∙ ap awaits_in now))) r
 
   -- and no call blocks it
   abbrev Unblocked : ℕ → State P S H → Type 0
@@ -405,7 +445,7 @@ module _ {P S H : Type 0} (f : P → Functions S H) (R : State P S H → Type 0)
   unblocked_handlers : (t : ℕ) → KeptByHandlers (Unblocked t)
   unblocked_handlers t = record {
     shared = λ h s x. (kept.handlers.shared h s x.0, x.1);
-    seated = λ y s x. (kept.handlers.seated y s x.0, x.1);
+    seated = λ y s fewer x. (kept.handlers.seated y s fewer x.0, x.1);
     told = λ m s may x. (kept.handlers.told m s may x.0, x.1);
   }
 
@@ -419,7 +459,7 @@ module _ {P S H : Type 0} (f : P → Functions S H) (R : State P S H → Type 0)
       let s3 = (runs_destructors f t s2).state in
       let s4 = (gives_mutexes t s3).state in
       let s5 = (gives_locks t s4).state in
-      let x1 : Unblocked t s1 = (undone_keeps t a s (left_ended t s) r, stopped_free t s0) in
+      let x1 : Unblocked t s1 = (undone_keeps t a s refl (left_ended t s) r, stopped_free t (controlled (hands_on_seat t a) s0)) in
       let x2 : Unblocked t s2 = each_keep f (Unblocked t) (unblocked_handlers t) t (s1.resources.store.cleanups t) s1 x1 in
       let x3 : Unblocked t s3 = destructs_keep f (Unblocked t) (unblocked_handlers t) t (round_limit * key_limit) first_round s2 x2 in
       let x4 : Unblocked t s4 = mutexes_keep f (Unblocked t) (unblocked_handlers t) t (mutexes_had t s3.resources.store.mutexes) s3 x3 in
@@ -511,7 +551,7 @@ module _ {P S H : Type 0} (f : P → Functions S H) (R : State P S H → Type 0)
         other_keeps u (controlled (sets u (change.Cancel 3)) a) (kept.set u (change.Cancel 3) a tt tt (kept.set u (change.Joinable false) s tt tt r))
 
     -- what a call does that is not refused
-    does_keeps : (s : State P S H) (c : Call) → IsFree t s → IsSound t s.control → is_reaching c ≡ false → refuses (row_of f s t c).begin.verdict ≡ false → KeepsAt s (row_of f s t c).begin.effect
+    does_keeps : (s : State P S H) (c : Call) → IsFree t s → IsSound t s.control → is_placing c ≡ false → refuses (row_of f s t c).begin.verdict ≡ false → KeepsAt s (row_of f s t c).begin.effect
     unfolding row_of
     does_keeps s call.Kill free sound other e r = kept.vanished t s free r
     does_keeps s (call.Yield n) free sound other e r = yields_keep s n (is_zero n) r
@@ -547,8 +587,9 @@ module _ {P S H : Type 0} (f : P → Functions S H) (R : State P S H → Type 0)
     does_keeps s (call.Accept d) free sound other e r = kept.timed _ s r
     does_keeps s (call.AcceptEv d x) free sound other e r = kept.timed _ s r
     does_keeps s (call.Close d) free sound other e r = kept.timed _ s r
-    does_keeps s (call.CondInit c) free sound other e r = kept.handlers.seated _ s r
-    does_keeps s (call.CondNotify c v) free sound other e r = kept.handlers.seated _ s r
+    does_keeps s (call.CondInit c) free sound other e r = kept.handlers.seated _ s (seats_initialised c s.control.conditions) r
+    does_keeps s (call.CondNotify c v) free sound other e r = kept.handlers.seated _ s (seats_notified c (not (is_zero v)) s.control.conditions) r
+    does_keeps s (call.CondAwait c m i) free sound other e r = absurd (true_false other)
     does_keeps s (call.BarrierInit b n) free sound other e r = kept.barred (barrier_initialised b n s.control.barriers) s (fewer_initialised b n s.control.barriers) (all_initialised b n s.control.barriers (init_passes (is_object b && is_size n) (is_some (s.control.barriers (object_named b))) e)) r
     does_keeps s (call.BarrierReach b) free sound other e r = absurd (true_false other)
     does_keeps s (call.Join n) free sound other e r = joins_keep s (to_join s.control n) (λ u taken. sound.joins n u taken) r
@@ -556,7 +597,7 @@ module _ {P S H : Type 0} (f : P → Functions S H) (R : State P S H → Type 0)
     does_keeps s (call.Once o h v) free sound other e r = once_keeps (number o) (handler h) v (not (s.control.used (number o))) s r
     does_keeps s c free sound other e r = r
 
-    begun_by_keeps : (c : Call) (v : Verdict) (s : State P S H) → is_reaching c ≡ false → is_rounding v ≡ false → IsAllowed t c v s → R s → R (begun_by f t c v s).told.state
+    begun_by_keeps : (c : Call) (v : Verdict) (s : State P S H) → is_reaching c ≡ false → is_rounding true v ≡ false → IsAllowed t c v s → R s → R (begun_by f t c v s).told.state
     begun_by_keeps c (Says x) s other none may r = kept.handlers.told (mark.Answered (tid t) c x) s may r
     begun_by_keeps c (Yields x) s other none may r = kept.handlers.told (mark.Answered (tid t) c x) s may r
     begun_by_keeps c (Blocks a) s other none may r = kept.handlers.told (mark.Waits (tid t) c) (controlled (λ k. blocks t c a (claims t (ring_given c) k)) s) tt (kept.blocked t c a s may.0 other none may.1 r)
@@ -571,14 +612,30 @@ module _ {P S H : Type 0} (f : P → Functions S H) (R : State P S H → Type 0)
     reach_keeps b (Ok (arrival.Waits round)) s same free sound there r =
         kept.handlers.told (mark.Waits (tid t) (call.BarrierReach b)) (controlled (λ k. blocks t (call.BarrierReach b) (awaits.Round b round) (with_barriers (barrier_reached b t) k)) s) tt (kept.reached t b round s free sound.alive there same r)
 
+    -- a wait at a condition begins
+    await_keeps : (c m e : ℤ) (dead bad none free_now other has : Bool) (s : State P S H) → is_none (mutex s m) ≡ none → is_no_ring s (extra_ring e) ≡ bad → is_claimed_ring s (extra_ring e) ≡ has → IsFree t s → IsSound t s.control → is_some (s.control.threads.progress t) ≡ true → R s
+        → R (begun_as f t (call.CondAwait c m e) (refused EINVAL when dead || bad otherwise by_result (λ released. refused EBUSY when has otherwise Blocks (awaits.Notice c)) (if none then Err EINVAL else if free_now then Err EDEADLK else if other then Err EACCES else Ok (tt {0})) trying changes (with_conditions (seat_entered c (seat_of t)))) s).told.state
+    await_keeps c m e true bad none free_now other has s is_none_so is_ring is_has free sound there r = kept.handlers.told (mark.Answered (tid t) (call.CondAwait c m e) (answer.Fail EINVAL)) s tt r
+    await_keeps c m e false true none free_now other has s is_none_so is_ring is_has free sound there r = kept.handlers.told (mark.Answered (tid t) (call.CondAwait c m e) (answer.Fail EINVAL)) s tt r
+    await_keeps c m e false false true free_now other has s is_none_so is_ring is_has free sound there r = kept.handlers.told (mark.Answered (tid t) (call.CondAwait c m e) (answer.Fail EINVAL)) s tt r
+    await_keeps c m e false false false true other has s is_none_so is_ring is_has free sound there r = kept.handlers.told (mark.Answered (tid t) (call.CondAwait c m e) (answer.Fail EDEADLK)) s tt r
+    await_keeps c m e false false false false true has s is_none_so is_ring is_has free sound there r = kept.handlers.told (mark.Answered (tid t) (call.CondAwait c m e) (answer.Fail EACCES)) s tt r
+    await_keeps c m e false false false false false true s is_none_so is_ring is_has free sound there r = kept.handlers.told (mark.Answered (tid t) (call.CondAwait c m e) (answer.Fail EBUSY)) s tt r
+    await_keeps c m e false false false false false false s is_none_so is_ring is_has free sound there r =
+        let may = await_allowed f t s s c m e false false false false false is_none_so is_ring is_has refl refl free false in
+        let k = call.CondAwait c m e in
+        kept.handlers.told (mark.Waits (tid t) k) (controlled (λ j. blocks t k (awaits.Notice c) (claims t (extra_ring e) (with_conditions (seat_entered c (seat_of t)) j))) s) tt (kept.takes_seat t c m e s free sound.alive there may.1 r)
+
     begun_keeps : (c : Call) (s : State P S H) → IsFree t s → IsSound t s.control → is_some (s.control.threads.progress t) ≡ true → R s → R (begun f t c s).told.state
     unfolding begun row_of
     begun_keeps call.Plain s free sound there r = r
     begun_keeps (call.Note v) s free sound there r = kept.handlers.told (mark.Noted (tid t) v) s tt r
     begun_keeps (call.BarrierReach b) s free sound there r = reach_keeps b (arrival_answer s.control.barriers b) s refl free sound there r
+    begun_keeps (call.CondAwait c m e) s free sound there r =
+        await_keeps c m e (not (is_live s.control.conditions c)) (is_no_ring s (extra_ring e)) (is_none (mutex s m)) _ _ (is_claimed_ring s (extra_ring e)) s refl refl refl free sound there r
     begun_keeps c s free sound there r =
         let a = (row_of f s t c).begin in
-        begun_by_keeps c a.verdict (effect_of a s).state refl (begins_none f s t c refl) (allowed f t s c free) (unless_keeps s (refuses a.verdict) a.effect (does_keeps s c free sound refl) r)
+        begun_by_keeps c a.verdict (effect_of a s).state refl (begins_none true f s t c refl) (allowed f t s c free) (unless_keeps s (refuses a.verdict) a.effect (does_keeps s c free sound refl) r)
 
     -- ---- a call is tried again
 
@@ -637,30 +694,33 @@ module _ {P S H : Type 0} (f : P → Functions S H) (R : State P S H → Type 0)
     still_keeps s c b sound r says_none = come_keeps s c b (has_settled s.control.events (ring_given c)) refl sound r
 
     -- one that blocks t no longer
-    stop_keeps : (s : State P S H) (c : Call) (b : Blocked) → b.call ≡ c → blocked_of s.control t ≡ Some b → IsSound t s.control → R s → let a = unless_settled (has_settled s.control.events (ring_given c)) ((row_of f s t c).again b.awaits) in is_blocking a.verdict ≡ false → R (controlled (stops_waiting t) (effect_of a s).state)
+    stop_keeps : (s : State P S H) (c : Call) (b : Blocked) → b.call ≡ c → is_await c ≡ false → blocked_of s.control t ≡ Some b → IsSound t s.control → R s → let a = unless_settled (has_settled s.control.events (ring_given c)) ((row_of f s t c).again b.awaits) in is_blocking a.verdict ≡ false → R (controlled (stops_waiting t) (effect_of a s).state)
     unfolding row_of
-    stop_keeps s (call.BarrierReach x) b named at sound r at_once = by_test (has_passed s.control.barriers x (round_in b.awaits)) at_once (left_again f t s (call.BarrierReach x) b named at at_once)
+    stop_keeps s (call.BarrierReach x) b named other at sound r at_once = by_test (has_passed s.control.barriers x (round_in b.awaits)) at_once (left_again f t s (call.BarrierReach x) b named at at_once)
       where
         by_test : (passed : Bool) → let a = rounds s x (round_in b.awaits) passed in is_blocking a.verdict ≡ false → HasLeft t (effect_of a s).state → R (controlled (stops_waiting t) (effect_of a s).state)
-        by_test true at_once left = kept.stopped t (round_answered x (round_in b.awaits) t s.control.barriers) s (fewer_answered x (round_in b.awaits) t s.control.barriers) (others_answered x (round_in b.awaits) t s.control.barriers) left r
+        by_test true at_once left = kept.stopped t (round_answered x (round_in b.awaits) t s.control.barriers) s.control.conditions s (fewer_answered x (round_in b.awaits) t s.control.barriers) (others_answered x (round_in b.awaits) t s.control.barriers) (seats_same s.control.conditions) left (unseated t s.control.conditions s (ap is_awaiting at ∙ ap is_await named)) r
         by_test false at_once left = absurd (true_false at_once)
-    stop_keeps s c b named at sound r at_once =
+    stop_keeps s c b named other at sound r at_once =
         let come = has_settled s.control.events (ring_given c) in
-        stops_keeps t (effect_of (unless_settled come ((row_of f s t c).again b.awaits)) s).state (left_again f t s c b named at at_once) (come_keeps s c b.awaits come refl sound r)
+        let u = (effect_of (unless_settled come ((row_of f s t c).again b.awaits)) s).state in
+        stops_keeps t u (left_again f t s c b named at at_once) (unseated t u.control.conditions u (unseated_again f t s c b come named other at)) (come_keeps s c b.awaits come refl sound r)
 
-    tried_by_keeps : (b : Blocked) (v : Verdict) (s : State P S H) → IsAllowedAgain t b.call b v s → ((a : Awaits) → v ≡ Blocks a → StaysAt b.call b.awaits a) → (is_saying v ≡ false → R s) → (is_blocking v ≡ false → R (controlled (stops_waiting t) s)) → R (tried_by f t b v s).told.state
-    tried_by_keeps b (Says x) s may stays still stop = kept.handlers.told (mark.Answered (tid t) b.call x) (controlled (stops_waiting t) s) may (stop refl)
-    tried_by_keeps b (Yields x) s may stays still stop = kept.handlers.told (mark.Answered (tid t) b.call x) (controlled (stops_waiting t) s) may (stop refl)
-    tried_by_keeps b (Blocks a) s may stays still stop = kept.handlers.told (mark.Waits (tid t) b.call) (controlled (is_blocked_by t (Some (record b { awaits = a }))) s) tt (kept.waits_on t a b s may.0 may.1 (stays a refl) (still refl))
-    tried_by_keeps b (Ends v) s may stays still stop = ending_keeps t v s (still refl)
-    tried_by_keeps b Kills s may stays still stop = kept.handlers.told (mark.Answered (tid t) b.call (answer.Int (pos 1))) (controlled (stops_waiting t) s) may (stop refl)
+    tried_by_keeps : (b : Blocked) (v : Verdict) (s : State P S H) → IsAllowedAgain t b.call b v s → ((a : Awaits) → v ≡ Blocks a → StaysAt b.call b.awaits a) → is_await b.call ≡ false → ((a : Awaits) → v ≡ Blocks a → (is_retaking b.awaits ≡ false) × (is_retaking a ≡ false)) → (is_saying v ≡ false → R s) → (is_blocking v ≡ false → R (controlled (stops_waiting t) s)) → R (tried_by f t b v s).told.state
+    tried_by_keeps b (Says x) s may stays other plain still stop = kept.handlers.told (mark.Answered (tid t) b.call x) (controlled (stops_waiting t) s) may (stop refl)
+    tried_by_keeps b (Yields x) s may stays other plain still stop = kept.handlers.told (mark.Answered (tid t) b.call x) (controlled (stops_waiting t) s) may (stop refl)
+    tried_by_keeps b (Blocks a) s may stays other plain still stop = kept.handlers.told (mark.Waits (tid t) b.call) (controlled (is_blocked_by t (Some (record b { awaits = a }))) s) tt (kept.waits_on t a b s may.0 may.1 (stays a refl) other (plain a refl) (still refl))
+    tried_by_keeps b (Ends v) s may stays other plain still stop = ending_keeps t v s (still refl)
+    tried_by_keeps b Kills s may stays other plain still stop = kept.handlers.told (mark.Answered (tid t) b.call (answer.Int (pos 1))) (controlled (stops_waiting t) s) may (stop refl)
 
-    tried_again_keeps : (s : State P S H) (o : Option Blocked) → blocked_of s.control t ≡ o → IsSound t s.control → R s → R (tried_again_by f t o s).told.state
-    tried_again_keeps s None at sound r = r
-    tried_again_keeps s (Some b) at sound r =
+    -- by a call that takes no mutex back
+    tried_again_keeps : (s : State P S H) (b : Blocked) → blocked_of s.control t ≡ Some b → is_await b.call ≡ false → IsSound t s.control → R s → R (tried_again_by f t (Some b) s).told.state
+    tried_again_keeps s b at other sound r =
         let come = has_settled s.control.events (ring_given b.call) in
         let a = unless_settled come ((row_of f s t b.call).again b.awaits) in
-        tried_by_keeps b a.verdict (effect_of a s).state (allowed_again f t s b.call b come at) (λ now blocks. stays_again f t s b.call b.awaits come now blocks) (λ says_none. still_keeps s b.call b.awaits sound r says_none) (λ at_once. stop_keeps s b.call b refl at sound r at_once)
+        let plain = not_retaking b other (subst (λ o. is_retaking (awaits_in o) ≡ true → is_awaiting o ≡ true) at sound.retakes) in
+        tried_by_keeps b a.verdict (effect_of a s).state (allowed_again f t s b.call b come other at) (λ now blocks. stays_again f t s b.call b.awaits come now blocks) other (λ now blocks. (plain, again_plainly f s t b.call b.awaits come now plain blocks))
+        (λ says_none. still_keeps s b.call b.awaits sound r says_none) (λ at_once. stop_keeps s b.call b refl other at sound r at_once)
 
     canceled_keeps : (o : Option Blocked) (s : State P S H) → R s → R (canceled_by f t o s).told.state
     canceled_keeps None s r = r
@@ -669,14 +729,70 @@ module _ {P S H : Type 0} (f : P → Functions S H) (R : State P S H → Type 0)
         let a = controlled (sets t (change.Request false)) s in
         ending_keeps t canceled_value (tells m a).state (kept.handlers.told m a tt (kept.set t (change.Request false) s tt tt r))
 
-    where_keeps : (b : Bool) (s : State P S H) → IsSound t s.control → R s → R (gone_on_where f t b s).told.state
+    where_keeps : (now : Bool) (s : State P S H) (b : Blocked) → blocked_of s.control t ≡ Some b → is_await b.call ≡ false → IsSound t s.control → R s → R (gone_on_where f t now s).told.state
     unfolding tried_again
-    where_keeps true s sound r = canceled_keeps (blocked_of s.control t) s r
-    where_keeps false s sound r = tried_again_keeps s (blocked_of s.control t) refl sound r
+    where_keeps true s b at other sound r = canceled_keeps (blocked_of s.control t) s r
+    where_keeps false s b at other sound r = subst (λ o. R (tried_again_by f t o s).told.state) (sym at) (tried_again_keeps s b at other sound r)
+
+    -- ---- a wait at a condition goes on
+
+    retaken_keeps : (c m e : ℤ) (o : Retake) (s : State P S H) → R s → R (retaken_as f t (call.CondAwait c m e) m o s).told.state
+    retaken_keeps c m e retake.Notified s r = kept.handlers.told (mark.Answered (tid t) (call.CondAwait c m e) (answer.Int (pos 1))) s tt r
+    retaken_keeps c m e retake.Interrupted s r = kept.handlers.told (mark.Answered (tid t) (call.CondAwait c m e) (answer.Fail EINTR)) s tt r
+    retaken_keeps c m e retake.Canceled s r = ending_keeps t canceled_value (tells (mark.Took (tid t) (object_named m)) s).state (kept.handlers.told (mark.Took (tid t) (object_named m)) s tt r)
+
+    -- who waits at a condition has no arrival
+    awaiting_left : (s : State P S H) (c m e : ℤ) (a : Awaits) → blocked_of s.control t ≡ Some (record { call = call.CondAwait c m e; awaits = a }) → HasLeft t s
+    awaiting_left s c m e a at b round now = absurd (true_false (ap is_awaiting (sym at ∙ now)))
+
+    -- with its seat there
+    await_ends_keeps : (c m e : ℤ) (a : Awaits) (o : Retake) (can : Bool) (y : ConditionTable) (s : State P S H) → HasFewerSeats y s.control.conditions → HasLeftSeat t y s → blocked_of s.control t ≡ Some (record { call = call.CondAwait c m e; awaits = a }) → R s
+        → R (retakes_where f t can (call.CondAwait c m e) m o (controlled (λ k. stops_waiting t (with_conditions (λ z. y) k)) s)).told.state
+    await_ends_keeps c m e a o true y s fewer gone at r =
+        retaken_keeps c m e o (controlled (λ k. stops_waiting t (with_conditions (λ z. y) k)) s) (kept.stopped t s.control.barriers y s (λ b. fewer_same (s.control.barriers b)) (λ b round u apart h. h) fewer (awaiting_left s c m e a at) gone r)
+    await_ends_keeps c m e a o false y s fewer gone at r =
+        let k = call.CondAwait c m e in
+        kept.handlers.told (mark.Retakes (tid t) k) (controlled (λ j. blocks t k (awaits.Retaking m o) (stops_waiting t (with_conditions (λ z. y) j))) s) tt (kept.retakes t c m e a o y s fewer gone at r)
+
+    awaits_where_keeps : (asked noticed settled : Bool) (c m e : ℤ) (a : Awaits) (s : State P S H) → blocked_of s.control t ≡ Some (record { call = call.CondAwait c m e; awaits = a }) → R s → R (awaits_on_where f t asked noticed settled (call.CondAwait c m e) c m s).told.state
+    unfolding leaves_seat hands_on_seat sets
+    awaits_where_keeps true noticed settled c m e a s at r =
+        let k = mark.Canceled (tid t) (Some (call.CondAwait c m e)) in
+        let s1 = controlled (sets t (change.Request false)) s in
+        let s2 = (tells k s1).state in
+        let x = s.control.conditions in
+        let y = seat_handed_on c (seat_of t) x in
+        await_ends_keeps c m e a retake.Canceled (can_take (controlled (λ j. stops_waiting t (with_conditions (λ z. y) j)) s2) t m) y s2 (seats_handed c (seat_of t) x)
+        (λ i n d now. left_named (seat_of t) c i y x (same_await c m e i n d a (awaits.Notice i) (sym at ∙ now)) (handed_there c (seat_of t) x)) at (kept.handlers.told k s1 tt (kept.set t (change.Request false) s tt tt r))
+    awaits_where_keeps false true settled c m e a s at r =
+        let x = s.control.conditions in
+        let y = seat_left c (seat_of t) x in
+        await_ends_keeps c m e a retake.Notified (can_take (controlled (λ j. stops_waiting t (with_conditions (λ z. y) j)) s) t m) y s (seats_left c (seat_of t) x)
+        (λ i n d now. left_named (seat_of t) c i y x (same_await c m e i n d a (awaits.Notice i) (sym at ∙ now)) (left_there c (seat_of t) x)) at r
+    awaits_where_keeps false false true c m e a s at r =
+        let x = s.control.conditions in
+        let y = seat_left c (seat_of t) x in
+        await_ends_keeps c m e a retake.Interrupted (can_take (controlled (λ j. stops_waiting t (with_conditions (λ z. y) j)) s) t m) y s (seats_left c (seat_of t) x)
+        (λ i n d now. left_named (seat_of t) c i y x (same_await c m e i n d a (awaits.Notice i) (sym at ∙ now)) (left_there c (seat_of t) x)) at r
+    awaits_where_keeps false false false c m e a s at r = kept.handlers.told (mark.Waits (tid t) (call.CondAwait c m e)) s tt r
+
+    awaits_on_keeps : (c m e : ℤ) (a : Awaits) (s : State P S H) → blocked_of s.control t ≡ Some (record { call = call.CondAwait c m e; awaits = a }) → R s → R (awaits_on f t c m e a s).told.state
+    awaits_on_keeps c m e (awaits.Retaking i o) s at r =
+        await_ends_keeps c m e (awaits.Retaking i o) o (can_take (controlled (stops_waiting t) s) t m) s.control.conditions s (seats_same s.control.conditions) (λ j n d now. absurd (true_false (ap (λ o. is_retaking (awaits_in o)) (sym at ∙ now)))) at r
+    awaits_on_keeps c m e a s at r = awaits_where_keeps (may_be_canceled s.control t) (is_noticed s t c) (has_settled s.control.events (extra_ring e)) c m e a s at r
+
+    -- whatever call it is
+    gone_on_in_keeps : (c : Call) (a : Awaits) (s : State P S H) → blocked_of s.control t ≡ Some (record { call = c; awaits = a }) → IsSound t s.control → R s → R (gone_on_in f t c a s).told.state
+    gone_on_in_keeps (call.CondAwait c m e) a s at sound r = awaits_on_keeps c m e a s at r
+    gone_on_in_keeps c a s at sound r = where_keeps (may_be_canceled s.control t) s (record { call = c; awaits = a }) at refl sound r
+
+    gone_on_by_keeps : (o : Option Blocked) (s : State P S H) → blocked_of s.control t ≡ o → IsSound t s.control → R s → R (gone_on_by f t o s).told.state
+    gone_on_by_keeps None s at sound r = r
+    gone_on_by_keeps (Some b) s at sound r = gone_on_in_keeps b.call b.awaits s at sound r
 
     gone_on_keeps : (s : State P S H) → IsSound t s.control → R s → R (gone_on f t s).told.state
     unfolding gone_on
-    gone_on_keeps s sound r = where_keeps (may_be_canceled s.control t) s sound r
+    gone_on_keeps s sound r = gone_on_by_keeps (blocked_of s.control t) s refl sound r
 
     -- ---- a step
 
@@ -695,7 +811,7 @@ module _ {P S H : Type 0} (f : P → Functions S H) (R : State P S H → Type 0)
         let x = (f s.control.program).step p.state s.control.shared p.owed in
         let g : Progress S → Progress S = λ y. record y { state = x.state; owed = answer.None } in
         let a = controlled (shares x.shared) s in
-        begun_keeps x.call (controlled (goes_on t g) a) (stepped_free g a p at (sym (ap blocked_in at) ∙ is_blocked)) (sound_steps t t g x.shared s.control sound) (stepped_there g a p at) (kept.goes t g a (λ y. refl) (kept.handlers.shared x.shared s r))
+        begun_keeps x.call (controlled (goes_on t g) a) (stepped_free g a p at (sym (ap blocked_in at) ∙ is_blocked)) (sound_steps t t g x.shared s.control (λ y. refl) sound) (stepped_there g a p at) (kept.goes t g a (λ y. refl) (kept.handlers.shared x.shared s r))
 
     owes_keeps : (n : Next) → Stays (owes_after t n)
     owes_keeps (next.Done a) s r = kept.goes t (owing a) s (λ p. refl) r

@@ -8,18 +8,22 @@ use Rattle.pth_base.specs.declared.thread.ThreadState.TheVariants as state
 use Rattle.pth_base.proofs.Tables.{put_by, put_here, put_other}
 use Rattle.pth_lock.specs.Objects.{object_named}
 use Rattle.pth_cond.specs.declared.barriers.Arrival.TheVariants.{Waits}
+use Rattle.pth_cond.specs.Conditions.{seat_entered}
+use Rattle.pth_model.specs.Conditions.{seat_of}
 use Rattle.pth_cond.specs.Barriers.{BarrierTable, arrival_answer, barrier_reached}
 use Rattle.pth_threads.specs.Threads.{changed}
 use Rattle.pth_threads.specs.declared.entry.Change as change_of_record
 use Rattle.pth_threads.specs.declared.entry.Change.TheVariants as change
 use Rattle.pth_threads.specs.declared.entry.Entry.{Entry}
 use Rattle.pth_model.specs.declared.awaits.Awaits.{Awaits}
-use Rattle.pth_model.specs.declared.awaits.Awaits.TheVariants.{Round}
+use Rattle.pth_model.specs.declared.awaits.Awaits.TheVariants.{Round, Notice, Retaking}
+use Rattle.pth_model.specs.declared.awaits.Retake.{Retake}
+use Rattle.pth_model.specs.Awaits.{is_awaiting}
 use Rattle.pth_model.specs.declared.blocked.Blocked.{Blocked}
 use Rattle.pth_model.specs.declared.progress.Progress.{Progress}
 use Rattle.pth_model.specs.State.{State, Given, start}
 use Rattle.pth_model.specs.Transition.{controlled}
-use Rattle.pth_model.specs.Changes.{sets, goes_on, blocking, is_blocked_by, makes, forgets, with_barriers, blocked_in, blocked_of}
+use Rattle.pth_model.specs.Changes.{sets, goes_on, blocking, is_blocked_by, makes, forgets, with_conditions, with_barriers, blocked_in, blocked_of}
 use Rattle.pth_model.specs.Living.{lives}
 use Rattle.pth_model.specs.RingWaits.{claims, gives_back, ring_given, ring_held, stops_waiting}
 use Rattle.pth_model.specs.ThreadControl.{values_for, or_first}
@@ -31,7 +35,7 @@ use Rattle.pth_laws.specs.Clean.{has_arrived, round_held}
 use Rattle.pth_laws.specs.Valid.{Lives}
 use Rattle.pth_laws.proofs.Living.{true_false}
 use Rattle.pth_laws.proofs.Rounds.{HasFewer, arrives, none_arrived, arrived_waits}
-use Rattle.pth_laws.proofs.Allowed.{IsFree, StaysAt, HasLeft}
+use Rattle.pth_laws.proofs.Allowed.{IsFree, StaysAt, HasLeft, stopped_free}
 use Rattle.pth_laws.proofs.Along.{KeptAlong, IsLifeSafe, IsGone, run_keeps}
 
 -- a call of pth_barrier_reach blocks a thread, for this round of the barrier of this number
@@ -47,7 +51,7 @@ none_waits : (b round : ℕ) → WaitsFor b round None → ⊥
 none_waits b round w = no_wait (record { call = call.BarrierReach w.barrier; awaits = Round w.barrier round }) w.blocked
 
 -- what blocks t, once this does
-blocks_so : {S : Type 0} (t : ℕ) (o : Option Blocked) (progress : ℕ → Option (Progress S)) → is_some (progress t) ≡ true → blocked_in (put progress t (option_map (blocking o) (progress t)) t) ≡ o
+pub blocks_so : {S : Type 0} (t : ℕ) (o : Option Blocked) (progress : ℕ → Option (Progress S)) → is_some (progress t) ≡ true → blocked_in (put progress t (option_map (blocking o) (progress t)) t) ≡ o
 blocks_so {S = S} t o progress there = ap blocked_in (put_here progress t (option_map (blocking o) (progress t))) ∙ by_progress (progress t) there
   where
     by_progress : (p : Option (Progress S)) → is_some p ≡ true → blocked_in (option_map (blocking o) p) ≡ o
@@ -60,11 +64,11 @@ blocked_there None b h = absurd (no_wait b h)
 blocked_there (Some p) b h = refl
 
 -- whoever lives does after a change, unless it dies
-abbrev is_dying : change_of_record.Change → Bool
+abbrev pub is_dying : change_of_record.Change → Bool
 is_dying (change.State state.Dead) = true
 is_dying c = false
 
-lives_on : (c : change_of_record.Change) (o : Option Entry) → is_dying c ≡ false → lives o ≡ true → lives (option_map (changed c) o) ≡ true
+pub lives_on : (c : change_of_record.Change) (o : Option Entry) → is_dying c ≡ false → lives o ≡ true → lives (option_map (changed c) o) ≡ true
 unfolding changed
 lives_on c None goes alive = absurd (true_false (sym alive))
 lives_on (change.State state.Dead) (Some e) goes alive = absurd (true_false goes)
@@ -226,11 +230,18 @@ module _ {P S H : Type 0} where
 
   -- ---- every run
 
+  -- a pth_cond_await takes its mutex back
+  arrivals_retakes : (t : ℕ) (c m e : ℤ) (a : Awaits) (o : Retake) (s : State P S H) → blocked_of s.control t ≡ Some (record { call = call.CondAwait c m e; awaits = a }) → AreArrivals s → AreArrivals (controlled (λ k. blocks t (call.CondAwait c m e) (Retaking m o) (stops_waiting t k)) s)
+  arrivals_retakes t c m e a o s at r =
+      let x = controlled (stops_waiting t) s in
+      let all = arrivals_stopped t s (λ b round now. absurd (true_false (ap is_awaiting (sym at ∙ now)))) r in
+      arrivals_goes t (blocking (Some (record { call = call.CondAwait c m e; awaits = Retaking m o }))) x (λ b round h. absurd (arrived_blocked x b round t (stopped_free t s) all h)) all
+
   pub arrivals_kept : (f : P → Functions S H) → KeptAlong f AreArrivals
   arrivals_kept f = record {
     handlers = record {
       shared = λ h s r. r;
-      seated = λ x s r. r;
+      seated = λ x s fewer r. r;
       told = λ m s may r. r;
     };
     placed = λ standing entries raises s r. r;
@@ -252,8 +263,10 @@ module _ {P S H : Type 0} where
     reached = λ t b round s free alive there waits r. arrivals_reached t b round s free alive there waits r;
     goes = λ t g s same r. same_goes t g s same r;
     blocked = λ t c a s free other none may r. arrivals_blocked t c a s free r;
-    waits_on = λ t a b s at names stays r. arrivals_wait_on t a b s at stays r;
-    stopped = λ t x s fewer others left r. arrivals_stopped t (controlled (with_barriers (λ y. x)) s) left (arrivals_barred x s fewer r);
+    waits_on = λ t a b s at names stays other plain r. arrivals_wait_on t a b s at stays r;
+    stopped = λ t x y s fewer others seats left gone r. arrivals_stopped t (controlled (λ k. with_conditions (λ z. y) (with_barriers (λ z. x) k)) s) left (arrivals_barred x s fewer r);
+    takes_seat = λ t c m e s free alive there may r. arrivals_blocked t (call.CondAwait c m e) (Notice c) (controlled (with_conditions (seat_entered c (seat_of t))) s) free r;
+    retakes = λ t c m e a o y s fewer gone at r. arrivals_retakes t c m e a o (controlled (with_conditions (λ z. y)) s) at r;
   }
 
   pub arrivals_start : (f : P → Functions S H) (g : Given P) → AreArrivals (start f g)

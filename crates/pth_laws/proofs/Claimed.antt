@@ -7,6 +7,8 @@ use Rattle.pth_base.specs.declared.call.Call.{Call}
 use Rattle.pth_base.specs.declared.call.Call.TheVariants as call
 use Rattle.pth_base.specs.declared.ids.Tid.{Tid}
 use Rattle.pth_base.proofs.Tables.{put_by, put_here, put_other, same_means}
+use Rattle.pth_cond.specs.Conditions.{seat_entered}
+use Rattle.pth_model.specs.Conditions.{seat_of}
 use Rattle.pth_cond.specs.Barriers.{barrier_reached}
 use Rattle.pth_numbered.specs.Operands.{number}
 use Rattle.pth_ring.specs.declared.event.Event.{Event}
@@ -19,11 +21,13 @@ use Rattle.pth_ring.proofs.Turns.{StandsIn-turned}
 use Rattle.pth_threads.specs.declared.entry.Change as change_of_record
 use Rattle.pth_model.specs.declared.awaits.Awaits.{Awaits}
 use Rattle.pth_model.specs.declared.awaits.Awaits.TheVariants as awaits
+use Rattle.pth_model.specs.declared.awaits.Retake.{Retake}
+use Rattle.pth_model.specs.Awaits.{is_retaking}
 use Rattle.pth_model.specs.declared.blocked.Blocked.{Blocked}
 use Rattle.pth_model.specs.declared.progress.Progress.{Progress}
 use Rattle.pth_model.specs.State.{State, Control, Given, start, main, now_of}
 use Rattle.pth_model.specs.Transition.{controlled, tid}
-use Rattle.pth_model.specs.Changes.{sets, goes_on, blocking, is_blocked_by, makes, forgets, with_barriers, blocked_in, blocked_of}
+use Rattle.pth_model.specs.Changes.{sets, goes_on, blocking, is_blocked_by, makes, forgets, with_conditions, with_barriers, blocked_in, blocked_of}
 use Rattle.pth_model.specs.RingWaits.{claimant, claimant_by, claims, gives_back, ring_given, ring_held, stops_waiting, awaited_events}
 use Rattle.pth_model.specs.ThreadControl.{values_for, or_first}
 use Rattle.pth_model.specs.LibraryControl.{vanish_all_but}
@@ -34,7 +38,9 @@ use Rattle.pth_model.specs.Run.{run}
 use Rattle.pth_laws.specs.Clean.{event_held}
 use Rattle.pth_laws.specs.Rings.{AreRingsHeld, AreRingsCircles}
 use Rattle.pth_laws.proofs.Living.{true_false}
-use Rattle.pth_laws.proofs.Allowed.{IsFree, MayWait}
+use Rattle.pth_laws.proofs.Allowed.{IsFree, MayWait, stopped_free}
+use Rattle.pth_model.proofs.NoRounds.{special_none}
+use Rattle.pth_laws.proofs.Claims.{event_given}
 use Rattle.pth_laws.proofs.Along.{KeptAlong, Arrangement, arranged, MayArrange, run_keeps}
 use Rattle.pth_laws.proofs.Circles.{AreCircles, Comes, unclaimed_in, comes_by, claims_by, circles_by}
 
@@ -258,9 +264,9 @@ module _ {P S H : Type 0} where
   not_waiting s a there free r u e h same =
       none_some u (sym (unclaimed_in s.control.events a a free (r.circles.here a there)) ∙ ap (claimant s.control.events) (sym same) ∙ r.held u e h)
 
-  fits_blocked : (t : ℕ) (c : Call) (a : Awaits) (s : State P S H) → MayWait t c a s → FitsIn s → FitsIn (controlled (λ k. blocks t c a (claims t (ring_given c) k)) s)
+  fits_blocked : (t : ℕ) (c : Call) (a : Awaits) (s : State P S H) → is_retaking a ≡ false → MayWait t c a s → FitsIn s → FitsIn (controlled (λ k. blocks t c a (claims t (ring_given c) k)) s)
   unfolding claims goes_on
-  fits_blocked t c a s may r = by_ring (ring_given c) refl
+  fits_blocked t c a s plain may r = by_ring (ring_given c) refl
     where
       k : Control P S H
       k = s.control
@@ -272,19 +278,19 @@ module _ {P S H : Type 0} where
       by_ring None given = fits_fewer k.events (held_in k) r _ (λ u e h. by_none u e (waits_after k t (Some b) u e h))
         where
           by_none : (u e : ℕ) → ((u ≡ t) × (event_held (Some b) ≡ Some e)) ⊎ ((u ≢ t) × (held_in k u ≡ Some e)) → held_in k u ≡ Some e
-          by_none u e (inl own) = absurd (none_some e (sym (ap (option_map number) given) ∙ own.1))
+          by_none u e (inl own) = absurd (none_some e (sym (ap (option_map number) given) ∙ sym (event_given c a plain) ∙ own.1))
           by_none u e (inr other) = other.1
       by_ring (Some i) given =
           let passed = may.ring i given in
           fits_claimed k.events (held_in k) r (number i) t (now_of k) passed.0 passed.1 (not_waiting s (number i) passed.0 passed.1 r) _ (λ u e h. by_some u e (waits_after k t (Some b) u e h))
         where
           by_some : (u e : ℕ) → ((u ≡ t) × (event_held (Some b) ≡ Some e)) ⊎ ((u ≢ t) × (held_in k u ≡ Some e)) → (held_in k u ≡ Some e) ⊎ ((u ≡ t) × (e ≡ number i))
-          by_some u e (inl own) = inr (own.0, sym (some_same (number i) e (sym (ap (option_map number) given) ∙ own.1)))
+          by_some u e (inl own) = inr (own.0, sym (some_same (number i) e (sym (ap (option_map number) given) ∙ sym (event_given c a plain) ∙ own.1)))
           by_some u e (inr other) = inl other.1
 
   fits_reached : (t : ℕ) (b : ℤ) (round : ℕ) (s : State P S H) → FitsIn s → FitsIn (controlled (λ k. blocks t (call.BarrierReach b) (awaits.Round b round) (with_barriers (barrier_reached b t) k)) s)
   unfolding claims
-  fits_reached t b round s r = fits_blocked t (call.BarrierReach b) (awaits.Round b round) (controlled (with_barriers (barrier_reached b t)) s) (record { ring = λ e h. absurd (no_ring e h); rightly = tt; names = refl }) r
+  fits_reached t b round s r = fits_blocked t (call.BarrierReach b) (awaits.Round b round) (controlled (with_barriers (barrier_reached b t)) s) refl (record { ring = λ e h. absurd (no_ring e h); rightly = tt; names = refl }) r
     where
       no_ring : (e : ℤ) → None ≡ Some e → ⊥
       no_ring e h = cc
@@ -310,13 +316,19 @@ module _ {P S H : Type 0} where
               let own : claimant k.events (number i) ≡ Some t = r.held t (number i) (ap (option_map number) held) in
               (other.1, λ same. other.0 (some_same u t (sym (r.held u e other.1) ∙ ap (claimant k.events) same ∙ own)))
 
+  -- t waits for its mutex, and no longer for a ring
+  fits_retakes : (t : ℕ) (c m e : ℤ) (o : Retake) (s : State P S H) → FitsIn s → FitsIn (controlled (λ k. blocks t (call.CondAwait c m e) (awaits.Retaking m o) (stops_waiting t k)) s)
+  fits_retakes t c m e o s r =
+      let d : Blocked = record { call = call.CondAwait c m e; awaits = awaits.Retaking m o } in
+      fits_goes t (blocking (Some d)) (controlled (stops_waiting t) s) (λ p here. ap event_held (sym (stopped_free t s) ∙ ap blocked_in here)) (fits_stopped t s r)
+
   -- ---- every run
 
   fits_kept : (f : P → Functions S H) → KeptAlong f FitsIn
   fits_kept f = record {
     handlers = record {
       shared = λ h s r. r;
-      seated = λ x s r. r;
+      seated = λ x s fewer r. r;
       told = λ m s may r. r;
     };
     placed = λ standing entries raises s r. r;
@@ -337,9 +349,11 @@ module _ {P S H : Type 0} where
     barred = λ x s fewer all r. r;
     reached = λ t b round s free alive there waits r. fits_reached t b round s r;
     goes = λ t g s same r. fits_goes t g s (λ p at. ap event_held (same p)) r;
-    blocked = λ t c a s free other none may r. fits_blocked t c a s may r;
-    waits_on = λ t a b s at names stays r. fits_goes t (blocking (Some (record b { awaits = a }))) s (λ p here. sym (ap event_held (sym (ap blocked_in here) ∙ at))) r;
-    stopped = λ t x s fewer others left r. fits_stopped t (controlled (with_barriers (λ y. x)) s) r;
+    blocked = λ t c a s free other none may r. fits_blocked t c a s (special_none a none).1 may r;
+    waits_on = λ t a b s at names stays other plain r. fits_goes t (blocking (Some (record b { awaits = a }))) s (λ p here. event_given b.call a plain.1 ∙ sym (event_given b.call b.awaits plain.0) ∙ sym (ap event_held (sym (ap blocked_in here) ∙ at))) r;
+    stopped = λ t x y s fewer others seats left gone r. fits_stopped t (controlled (λ k. with_conditions (λ z. y) (with_barriers (λ z. x) k)) s) r;
+    takes_seat = λ t c m e s free alive there may r. fits_blocked t (call.CondAwait c m e) (awaits.Notice c) (controlled (with_conditions (seat_entered c (seat_of t))) s) refl (record { ring = may.ring; rightly = may.rightly; names = may.names }) r;
+    retakes = λ t c m e a o y s fewer gone at r. fits_retakes t c m e o (controlled (with_conditions (λ z. y)) s) r;
   }
 
   fits_start : (f : P → Functions S H) (g : Given P) → FitsIn (start f g)

@@ -21,6 +21,7 @@ use Rattle.pth_model.specs.declared.progress.Progress.{Progress}
 use Rattle.pth_model.specs.State.{Control, Threads, now_of}
 use Rattle.pth_model.specs.Ending.{is_dead_with, leaves, stops_running}
 use Rattle.pth_model.specs.Changes.{sets, enters, leaves_queue, makes, forgets, removes, goes_on, blocking, is_blocked_by, or_nobody, entry_of, blocked_in, blocked_of, queue_for}
+use Rattle.pth_model.specs.Awaits.{is_retaking}
 use Rattle.pth_model.specs.Living.{is_dead, lives}
 use Rattle.pth_model.specs.RingWaits.{claimant, claimant_by, claims, gives_back, stops_waiting, ring_held, ring_given, awaited_events}
 use Rattle.pth_model.specs.ThreadControl.{spawns, suspends, resumes, returns_to}
@@ -32,13 +33,17 @@ use Rattle.pth_model.proofs.Walks.{KeptByCalls}
 use Rattle.pth_laws.specs.Clean.{event_held}
 use Rattle.pth_laws.proofs.Living.{true_false, set_state, request_state, suspended_safe}
 use Rattle.pth_laws.proofs.Going.{Going, next_dead, other, joined_dead, set_lives, going_spawned, going_suspended, going_resumed, going_removed, going_set}
-use Rattle.pth_laws.proofs.Awaits.{HasAwaits, awaits_none, awaits_set, awaits_spawned, awaits_suspended, awaits_resumed, awaits_removed}
+use Rattle.pth_laws.proofs.Awaits.{Flags, HasAwaits, awaits_none, awaits_set, awaits_spawned, awaits_suspended, awaits_resumed, awaits_removed}
 
 some_held : (x y : ℕ) → Some x ≡ Some y → x ≡ y
 some_held x y h = cc
 
 no_held : (x : ℕ) → None ≡ Some x → ⊥
 no_held x h = cc
+
+-- whoever takes no mutex back waits for the event that its call was given
+pub event_given : (c : Call) (a : Awaits) → is_retaking a ≡ false → event_held (Some (record { call = c; awaits = a })) ≡ option_map number (ring_given c)
+event_given c a plain = ap (λ (b : Bool). option_map number (if b then None else ring_given c)) plain
 
 module _ {P S H : Type 0} where
   -- each claim is that of a thread that lives, by the event that its call was given
@@ -93,7 +98,7 @@ module _ {P S H : Type 0} where
 
 -- ---- all that t's calls keep
 
-module _ {P S H : Type 0} (n : ℕ) (ended awaits : ℕ → Bool) (t : ℕ) (q : Option (Progress S)) where
+module _ {P S H : Type 0} (n : ℕ) (ended : ℕ → Bool) (awaits : Flags) (t : ℕ) (q : Option (Progress S)) where
   -- t runs, claims are held by who made them, these await, and t is this far in its program
   abbrev pub Holding : Control P S H → Type 0
   Holding k = Going n ended t k × HasClaims k × (k.threads.progress t ≡ q) × HasAwaits awaits k
@@ -197,9 +202,9 @@ module _ {P S H : Type 0} (t : ℕ) where
       kept = put_by (λ p. blocked_in p ≡ blocked_of k u) k.threads.progress t (option_map g (k.threads.progress t)) u (λ here. by_progress (k.threads.progress t) ∙ ap (blocked_of k) (sym here)) (λ apart. refl)
 
   -- a call begins to block t
-  pub claims_block : (c : Call) (y : Awaits) (k : Control P S H) (p : Progress S) → k.threads.progress t ≡ Some p → p.blocked ≡ None → lives (k.threads.known t) ≡ true → HasClaims k → HasClaims (blocks t c y (claims t (ring_given c) k))
+  pub claims_block : (c : Call) (y : Awaits) (k : Control P S H) (p : Progress S) → k.threads.progress t ≡ Some p → p.blocked ≡ None → lives (k.threads.known t) ≡ true → is_retaking y ≡ false → HasClaims k → HasClaims (blocks t c y (claims t (ring_given c) k))
   unfolding claims goes_on
-  claims_block c y k p on free alive has = by_ring (ring_given c) refl
+  claims_block c y k p on free alive plain has = by_ring (ring_given c) refl
     where
       held : Progress S → Progress S
       held = blocking (Some (record { call = c; awaits = y }))
@@ -215,20 +220,22 @@ module _ {P S H : Type 0} (t : ℕ) where
         where
           by_claim : ((e ≡ number x) × (u ≡ t)) ⊎ (claimant k.events e ≡ Some u) → (lives (k.threads.known u) ≡ true) × (event_held (blocked_of (goes_on t held k) u) ≡ Some e)
           by_claim (inr before) = old e u before
-          by_claim (inl now) = (ap (λ i. lives (k.threads.known i)) now.1 ∙ alive, ap (λ i. event_held (blocked_of (goes_on t held k) i)) now.1 ∙ ap (λ z. event_held (blocked_in z)) (own_progress held k p on) ∙ ap (option_map number) given ∙ ap Some (sym now.0))
+          by_claim (inl now) = (ap (λ i. lives (k.threads.known i)) now.1 ∙ alive, ap (λ i. event_held (blocked_of (goes_on t held k) i)) now.1 ∙ ap (λ z. event_held (blocked_in z)) (own_progress held k p on) ∙ event_given c y plain ∙ ap (option_map number) given ∙ ap Some (sym now.0))
+
+  -- another wait blocks t, for the same event, or none
+  pub claims_still : (o : Option Blocked) (k : Control P S H) (p : Progress S) → k.threads.progress t ≡ Some p → event_held p.blocked ≡ event_held o → HasClaims k → HasClaims (is_blocked_by t o k)
+  unfolding goes_on
+  claims_still o k p on same has e u h = ((has e u h).0, kept ∙ (has e u h).1)
+    where
+      kept : event_held (blocked_in (put k.threads.progress t (option_map (blocking o) (k.threads.progress t)) u)) ≡ event_held (blocked_of k u)
+      kept = put_by (λ z. event_held (blocked_in z) ≡ event_held (blocked_of k u)) k.threads.progress t (option_map (blocking o) (k.threads.progress t)) u
+          (λ here. ap (λ z. event_held (blocked_in (option_map (blocking o) z))) on ∙ sym (ap (λ i. event_held (blocked_of k i)) here ∙ ap (λ z. event_held (blocked_in z)) on ∙ same))
+          (λ apart. refl)
 
   -- it blocks t on, and t waits for this
-  pub claims_wait_on : (b : Blocked) (w : Awaits) (k : Control P S H) (p : Progress S) → k.threads.progress t ≡ Some p → p.blocked ≡ Some b → HasClaims k → HasClaims (is_blocked_by t (Some (record b { awaits = w })) k)
-  unfolding goes_on
-  claims_wait_on b w k p on blocked has e u h = ((has e u h).0, kept ∙ (has e u h).1)
-    where
-      now : Blocked
-      now = record b { awaits = w }
-
-      kept : event_held (blocked_in (put k.threads.progress t (option_map (blocking (Some now)) (k.threads.progress t)) u)) ≡ event_held (blocked_of k u)
-      kept = put_by (λ z. event_held (blocked_in z) ≡ event_held (blocked_of k u)) k.threads.progress t (option_map (blocking (Some now)) (k.threads.progress t)) u
-          (λ here. ap (λ z. event_held (blocked_in (option_map (blocking (Some now)) z))) on ∙ sym (ap (λ i. event_held (blocked_of k i)) here ∙ ap (λ z. event_held (blocked_in z)) on ∙ ap event_held blocked))
-          (λ apart. refl)
+  pub claims_wait_on : (b : Blocked) (w : Awaits) (k : Control P S H) (p : Progress S) → k.threads.progress t ≡ Some p → p.blocked ≡ Some b → is_retaking b.awaits ≡ false → is_retaking w ≡ false → HasClaims k → HasClaims (is_blocked_by t (Some (record b { awaits = w })) k)
+  claims_wait_on b w k p on blocked was plain has =
+      claims_still (Some (record b { awaits = w })) k p on (ap event_held blocked ∙ event_given b.call b.awaits was ∙ sym (event_given b.call w plain)) has
 
   -- no call blocks t any longer: its claim is given back
   back_apart : (r : Option ℤ) (k : Control P S H) → option_map number r ≡ event_held (blocked_of k t) → HasClaims k → (e u : ℕ) → claimant (gives_back r k).events e ≡ Some u → (claimant k.events e ≡ Some u) × (u ≢ t)
@@ -258,6 +265,10 @@ module _ {P S H : Type 0} (t : ℕ) where
   pub stopped_known : (k : Control P S H) → (stops_waiting t k).threads.known ≡ k.threads.known
   unfolding stops_waiting goes_on
   stopped_known k = ap (λ (x : Threads S). x.known) (back_threads (ring_held (blocked_of k t)) (is_blocked_by t None k))
+
+  pub stopped_progress : (k : Control P S H) (p : Progress S) → k.threads.progress t ≡ Some p → (stops_waiting t k).threads.progress t ≡ Some (blocking None p)
+  unfolding stops_waiting
+  stopped_progress k p on = ap (λ (x : Threads S). x.progress t) (back_threads (ring_held (blocked_of k t)) (is_blocked_by t None k)) ∙ own_progress (blocking None) k p on
 
   stopped_blocked : (k : Control P S H) (u : ℕ) → u ≢ t → blocked_of (stops_waiting t k) u ≡ blocked_of k u
   unfolding stops_waiting

@@ -7,6 +7,7 @@ use Rattle.pth_base.specs.Table.{put}
 use Rattle.pth_base.specs.declared.mark.Mark.{Mark}
 use Rattle.pth_base.specs.declared.mark.Mark.TheVariants as mark
 use Rattle.pth_base.proofs.Tables.{same_self, put_by, put_here, put_other}
+use Rattle.pth_cond.specs.Conditions.{ConditionTable}
 use Rattle.pth_cond.specs.Barriers.{BarrierTable, waits_at, withdrawn}
 use Rattle.pth_lock.specs.Objects.{object_limit, object_named}
 use Rattle.pth_lock.specs.Mutexes.{free_mutex, has}
@@ -20,10 +21,11 @@ use Rattle.pth_model.specs.declared.destructors.Due.{Due}
 use Rattle.pth_model.specs.declared.destructors.Round.{Round}
 use Rattle.pth_model.specs.Resources.{Resources, told}
 use Rattle.pth_model.specs.State.{State, Control}
-use Rattle.pth_model.specs.Transition.{Piece, changes, tells, tells_each, tid, where_so, ◌and_then◌}
+use Rattle.pth_model.specs.Transition.{Piece, changes, tells, tells_each, tid, where_so, ◌and◌, ◌and_then◌}
 use Rattle.pth_model.specs.Ending.{round_limit, first_round, next_destructor, other_than, stops_running, is_dead_with, undoes_wait, runs_each, runs_cleanups, runs_destructor, destructs_by, destructs, runs_destructors, mutexes_had, locks_held, gives_mutexes, gives_locks, gives_all, leaves, dies, ending}
 use Rattle.pth_model.specs.Awaits.{awaits_in}
 use Rattle.pth_model.specs.Barriers.{withdraws, withdraws_from}
+use Rattle.pth_model.specs.Conditions.{hands_on_seat}
 use Rattle.pth_model.specs.Changes.{sets, enters, leaves_queue, forgets, removes, goes_on, with_barriers, is_blocked_by, blocked_of, or_nobody, entry_of}
 use Rattle.pth_model.specs.RingWaits.{claimant, gives_back, stops_waiting, ring_held}
 use Rattle.pth_model.specs.Acts.{handled, runs_handler}
@@ -33,9 +35,9 @@ use Rattle.pth_laws.proofs.Book.{Book, Closed, BlockRun, after, ran_by, ran_noth
 use Rattle.pth_laws.proofs.Laws.{HasMutex, HoldsLock}
 use Rattle.pth_laws.specs.Destructors.{IsNextDue}
 use Rattle.pth_laws.proofs.NextDue.{next_is}
-use Rattle.pth_laws.proofs.Living.{IsLiving, Living, living-up, living_left}
+use Rattle.pth_laws.proofs.Living.{IsLiving, Living, true_false, living-up, living_left}
 use Rattle.pth_laws.proofs.Claims.{HasClaims, stopped_apart, claims_stop, claims_left, left_other, stopped_known}
-use Rattle.pth_laws.proofs.Awaits.{HasAwaits, awaits_stop, awaits_left}
+use Rattle.pth_laws.proofs.Awaits.{Flags, Tells, HasAwaits, flags_past, others_await, awaits_stop, awaits_left}
 use Rattle.pth_laws.proofs.Locked.{no_mutex, no_lock}
 use Rattle.pth_laws.proofs.Held.{out_released, out_given}
 use Rattle.pth_laws.proofs.OrderlyMarks.{value_self}
@@ -270,7 +272,7 @@ pub record HasEnded {P S H : Type 0} (n t : ℕ) (b : Book) (s : State P S H) (c
   pub closed : c.block ≡ Closed
   pub living : Living n (put b.ended t true) u.control
   pub claims : HasClaims u.control
-  pub awaits : HasAwaits u.resources.awaits u.control
+  pub awaits : HasAwaits (flags_past t b u.resources.awaits) u.control
   pub stays : (i : ℕ) → i ≢ t → u.resources.awaits i ≡ s.resources.awaits i
   pub others : (i : ℕ) → i ≢ t → u.control.threads.known i ≡ s.control.threads.known i
   pub running : u.control.scheduler.running ≡ other_than t s.control.scheduler.running
@@ -287,6 +289,12 @@ module _ {P S H : Type 0} (t : ℕ) (Q : Control P S H → Type 0) (barred : (x 
   withdrawn_control (awaited.Round b round) s q = where_control b (waits_at s.control.barriers b t) s q
   withdrawn_control a s q = q
 
+  -- and its seat at a condition is handed on: the conditions change too
+  handed_control : ((x : ConditionTable) (k : Control P S H) → Q k → Q (record k { conditions = x })) → (a : Awaits) (s : State P S H) → Q s.control → Q (hands_on_seat t a (withdraws_from t a s).state.control)
+  unfolding hands_on_seat
+  handed_control seated (awaited.Notice c) s q = seated _ (withdraws_from t (awaited.Notice c) s).state.control (withdrawn_control (awaited.Notice c) s q)
+  handed_control seated a s q = withdrawn_control a s q
+
 module _ {P S H : Type 0} (n t : ℕ) where
   left_scheduler : (v : ℤ) (k : Control P S H) → ((leaves t v k).scheduler.running ≡ other_than t k.scheduler.running) × ((leaves t v k).scheduler.preferred ≡ k.scheduler.preferred)
   unfolding leaves is_dead_with sets enters forgets leaves_queue
@@ -296,16 +304,19 @@ module _ {P S H : Type 0} (n t : ℕ) where
       by_joinable true = (refl, refl)
       by_joinable false = (refl, refl)
 
-  module _ (f : P → Functions S H) (v : ℤ) (b : Book) (s : State P S H) (alive : lives (s.control.threads.known t) ≡ true) (living : Living n b.ended s.control) (claims : HasClaims s.control) (awaits : HasAwaits s.resources.awaits s.control) (made : is_made n t ≡ true) (value : b.canceled t ≡ true → v ≡ negsuc 0) where
+  module _ (f : P → Functions S H) (v : ℤ) (b : Book) (s : State P S H) (alive : lives (s.control.threads.known t) ≡ true) (living : Living n b.ended s.control) (claims : HasClaims s.control) (awaits : HasAwaits (flags_past t b s.resources.awaits) s.control) (made : is_made n t ≡ true) (value : b.canceled t ≡ true → v ≡ negsuc 0) where
     abbrev pushed : List PushedHandler
     pushed = s.resources.store.cleanups t
 
-    -- the control once its arrival is taken back, and once its wait is undone
+    -- the control once its arrival is taken back, once its seat is handed on, and once its wait is undone
     abbrev back : Control P S H
     back = (withdraws_from t (awaits_in (blocked_of s.control t)) s).state.control
 
+    abbrev handed : Control P S H
+    handed = hands_on_seat t (awaits_in (blocked_of s.control t)) back
+
     abbrev undone : Control P S H
-    undone = stops_waiting t back
+    undone = stops_waiting t handed
 
     up : b.ended t ≡ false
     up = living-up n b.ended s.control.threads.made s.control.threads.known s.control.threads.standing living t alive
@@ -324,17 +335,19 @@ module _ {P S H : Type 0} (n t : ℕ) where
         let x = ran_by c.block t in
         let m = mark.Ended (tid t) v in
         let a = awaits_in (blocked_of s.control t) in
-        let same = stops_seats t back ∙ withdrawn_control t (λ k. seats k ≡ seats s.control) (λ x k h. h) a s refl in
-        let claims_back : HasClaims back = withdrawn_control t HasClaims (λ x k h. h) a s claims in
-        let awaits_back : HasAwaits s.resources.awaits back = withdrawn_control t (HasAwaits s.resources.awaits) (λ x k h. h) a s awaits in
-        let known_back = withdrawn_control t (λ k. k.threads.known ≡ s.control.threads.known) (λ x k h. h) a s refl in
+        let same = stops_seats t handed ∙ handed_control t (λ k. seats k ≡ seats s.control) (λ x k h. h) (λ x k h. h) a s refl in
+        let claims_back : HasClaims handed = handed_control t HasClaims (λ x k h. h) (λ x k h. h) a s claims in
+        let awaits_back : HasAwaits (flags_past t b s.resources.awaits) handed = handed_control t (HasAwaits (flags_past t b s.resources.awaits)) (λ x k h. h) (λ x k h. h) a s awaits in
+        let known_back = handed_control t (λ k. k.threads.known ≡ s.control.threads.known) (λ x k h. h) (λ x k h. h) a s refl in
         let living_now : Living n b.ended u.control = subst (Living n b.ended) (sym w.control) (subst (λ (z : Seats). IsLiving n b.ended z.made z.known z.standing) (sym same) living) in
         let alive_now : lives (u.control.threads.known t) ≡ true = ap (λ (k : Control P S H). lives (k.threads.known t)) w.control ∙ ap (λ (z : Seats). lives (z.known t)) same ∙ alive in
-        let claims_now : HasClaims u.control = subst HasClaims (sym w.control) (claims_stop t back claims_back) in
+        let claims_now : HasClaims u.control = subst HasClaims (sym w.control) (claims_stop t handed claims_back) in
         let scheduled = left_scheduler v u.control in
         let over_now : (told u.resources m).awaits t ≡ false = put_here u.resources.awaits t false in
         let await_stays : (i : ℕ) → i ≢ t → (told u.resources m).awaits i ≡ s.resources.awaits i = λ i apart. put_other u.resources.awaits t false i apart ∙ ap (λ (o : ℕ → Bool). o i) w.awaits in
-        let awaits_now : HasAwaits (told u.resources m).awaits u.control = subst (HasAwaits (told u.resources m).awaits) (sym w.control) (awaits_stop t s.resources.awaits (told u.resources m).awaits back over_now await_stays awaits_back) in
+        let over : Flags = flags_past t b (told u.resources m).awaits in
+        let none : Tells over t None = record { fits = over_now; calm = λ still. absurd (true_false (sym (put_here b.ended t true) ∙ still)); retakes = λ e. absurd (true_false (sym e)) } in
+        let awaits_now : HasAwaits over u.control = subst (HasAwaits over) (sym w.control) (awaits_stop t (flags_past t b s.resources.awaits) over handed none (others_await t (flags_past t b s.resources.awaits) over.awaits await_stays) awaits_back) in
         let law : IsMarked n c m = λ locked. (
           (
             (
@@ -361,10 +374,10 @@ module _ {P S H : Type 0} (n t : ℕ) where
             canceled = w.canceled;
             closed = refl;
             living = living_left n b.ended t v u.control alive_now living_now;
-            claims = claims_left t v u.control (λ e i h. (stopped_apart t back claims_back e i (ap (λ (k : Control P S H). claimant k.events e) (sym w.control) ∙ h)).1) claims_now;
-            others = λ i apart. left_other t v u.control i apart ∙ ap (λ (k : Control P S H). k.threads.known i) w.control ∙ ap (λ (known : ℕ → Option Entry). known i) (stopped_known t back ∙ known_back);
+            claims = claims_left t v u.control (λ e i h. (stopped_apart t handed claims_back e i (ap (λ (k : Control P S H). claimant k.events e) (sym w.control) ∙ h)).1) claims_now;
+            others = λ i apart. left_other t v u.control i apart ∙ ap (λ (k : Control P S H). k.threads.known i) w.control ∙ ap (λ (known : ℕ → Option Entry). known i) (stopped_known t handed ∙ known_back);
             stays = await_stays;
-            awaits = awaits_left (told u.resources m).awaits t v u.control over_now awaits_now;
+            awaits = awaits_left over t v u.control over_now awaits_now;
             running = scheduled.0 ∙ ap (λ (k : Control P S H). other_than t k.scheduler.running) w.control ∙ ap (λ (z : Seats). other_than t z.running) same;
             preferred = scheduled.1 ∙ ap (λ (k : Control P S H). k.scheduler.preferred) w.control ∙ ap (λ (z : Seats). z.preferred) same;
           };
@@ -393,7 +406,7 @@ module _ {P S H : Type 0} (n t : ℕ) where
     undone_walk same fresh =
         let So = RunsSo f n t b.ended b.canceled up made s.resources undone [] first_round in
         let a = withdraws_from t (awaits_in (blocked_of s.control t)) in
-        walk_then n (IsBack back) So b a (changes (stops_waiting t)) s (back_walk (awaits_in (blocked_of s.control t)) same fresh)
+        walk_then n (IsBack back) So b a (changes (hands_on_seat t (awaits_in (blocked_of s.control t)) and stops_waiting t)) s (back_walk (awaits_in (blocked_of s.control t)) same fresh)
         (λ c w. record {
           law = tt;
           post = record {

@@ -1,5 +1,6 @@
 -- Every run is lawful, and its states fit its marks.
 use Rattle.std.proofs.Common.{◌≡◌, ◌≢◌, ℕ, zero, suc, ◌≤◌, ◌&&◌, ◌||◌, not, Bool, true, false, ℤ, pos, negsuc, List, [], ◌∷◌, ◌++◌, All, Option, Some, None, is_some, refl, sym, ◌∙◌, ◌⊎◌, inl, inr, ap, ap₂, subst, arith, append-nil}
+use Rattle.pth_model.specs.Awaits.{is_canceled_in}
 use Rattle.std.specs.List.{list_any}
 use Rattle.std.proofs.lemmas.List.Elements.{All-nil, All-cons, All-append, All-weaker}
 use Rattle.std.proofs.lemmas.Bool.Decides.{nat_tests}
@@ -13,6 +14,9 @@ use Rattle.pth_lock.specs.Mutexes.{Mutex, has, levels_of}
 use Rattle.pth_lock.specs.RwLocks.{is_one}
 use Rattle.pth_queue.specs.declared.queue.Queue.{Queue}
 use Rattle.pth_queue.specs.declared.queue.Queue.TheVariants.{New, Ready, Waiting, Suspended, Dead}
+use Rattle.pth_base.specs.declared.ids.EventId.{EventId}
+use Rattle.pth_cond.specs.declared.seats.Seat.TheVariants.{Await, Event}
+use Rattle.pth_model.specs.Transition.{tid}
 use Rattle.pth_model.specs.Standing.{Standing, is_queue, raises_of}
 use Rattle.pth_model.specs.State.{State, Given, Turn, start, no_turn, main, main_entry, main_standing}
 use Rattle.pth_model.specs.Course.{Course, followed}
@@ -24,7 +28,7 @@ use Rattle.pth_model.specs.Resources.{Resources, HasNothing}
 use Rattle.pth_model.specs.Run.{parts, run}
 use Rattle.pth_model.proofs.Once.{shown-all}
 use Rattle.pth_laws.proofs.Book.{Book, empty_book, after, book_of, is_kill}
-use Rattle.pth_laws.specs.Clean.{IsClean, round_held, has_arrived}
+use Rattle.pth_laws.specs.Clean.{IsClean, round_held, has_arrived, has_seat, condition_held}
 use Rattle.pth_laws.proofs.Laws.{EachMark, IsLawful, IsExclusiveMark}
 use Rattle.pth_laws.specs.Marks.{thread_of}
 use Rattle.pth_laws.specs.Marks.{at_number}
@@ -33,9 +37,9 @@ use Rattle.pth_laws.specs.Exclusive.{Exclusive}
 use Rattle.pth_laws.specs.Initialised.{Initialised}
 use Rattle.pth_laws.specs.Tied.{IsTiedTo}
 use Rattle.pth_laws.specs.Valid.{Lives, IsValid, IsOver}
-use Rattle.pth_model.specs.Awaits.{is_awaiting}
 use Rattle.pth_laws.proofs.Living.{true_false, made_more, both, not_true, runs_alive}
 use Rattle.pth_laws.proofs.Going.{Going, IsSound, going_sound}
+use Rattle.pth_laws.proofs.Awaits.{Tells, flags}
 use Rattle.pth_laws.proofs.Locked.{Locked, has_some, locked_none, locked_along}
 use Rattle.pth_laws.proofs.Walk.{IsOfMade, IsLawfulOf, each_lawful, each-weaker, each-append, book-append}
 use Rattle.pth_laws.proofs.Parts.{IsSettled, PartWalk, none_some, part_walk}
@@ -86,6 +90,10 @@ main_stands Waiting living = All-nil (λ (z : Standing). lives (put (λ u. None)
 main_stands Suspended living = All-nil (λ (z : Standing). lives (put (λ u. None) main (Some main_entry) z.tid) ≡ true)
 main_stands Dead living = absurd (true_false living)
 
+-- nothing blocks a thread, and nothing is told of it
+nothing_told : (t : ℕ) → Tells (flags empty_book (λ u. false)) t None
+nothing_told t = record { fits = refl; calm = λ up. refl; retakes = λ e. absurd (true_false (sym e)) }
+
 -- ---- every run
 
 module _ {P S H : Type 0} (f : P → Functions S H) where
@@ -94,10 +102,9 @@ module _ {P S H : Type 0} (f : P → Functions S H) where
   start_settled g = record {
     resources = refl;
     closed = refl;
-    canceled = λ t up. refl;
     living = record { grown = omega arith; numbered = main_known; over = main_over; stands = main_stands; dead = All-nil (λ (z : Standing). false ≡ true) };
     claims = λ e t h. absurd (none_some t h);
-    awaits = λ t. (put_by (λ (o : Option (Progress S)). false ≡ is_awaiting (blocked_in o)) (λ u. None) main _ t (λ here. refl) (λ other. refl), (λ awaiting. absurd (true_false (sym awaiting))), refl);
+    awaits = λ t. (put_by (λ (o : Option (Progress S)). Tells (flags empty_book (λ u. false)) t (blocked_in o)) (λ u. None) main _ t (λ here. nothing_told t) (λ other. nothing_told t), (λ awaiting. absurd (true_false (sym awaiting))));
     runs = λ t h. absurd (none_some t h);
     gave = λ t g. absurd (none_some t g);
     preferred = λ t h. absurd (none_some t h);
@@ -109,7 +116,6 @@ module _ {P S H : Type 0} (f : P → Functions S H) where
   rebased b s x n z = record {
     resources = z.resources;
     closed = z.closed;
-    canceled = z.canceled;
     living = record { grown = omega arith; numbered = z.living.numbered; over = z.living.over; stands = z.living.stands; dead = z.living.dead };
     claims = z.claims;
     awaits = z.awaits;
@@ -189,7 +195,7 @@ module _ {P S H : Type 0} (f : P → Functions S H) where
           let n = c.state.control.threads.made in
           let ended = (book_of empty_book c.marks).ended in
           let going : Going n ended t c.state.control = record { living = z.living; runs = z.runs t x.1; running = x.1; preferred = z.unnamed t x.1 x.0 } in
-          going_sound n ended t c.state.control going
+          going_sound n ended t c.state.control going (z.awaits t).0.retakes
         where
           on : outcome.Running ≡ outcome.Killed → ⊥
           on h = cc
@@ -230,7 +236,7 @@ module _ {P S H : Type 0} (f : P → Functions S H) where
         preferred = z.preferred;
         gave = λ t g. by_gave t (z.gave t g);
         unnamed = z.unnamed;
-        awaits = λ t. (z.awaits t).0;
+        awaits = λ t. (z.awaits t).0.fits;
         empty = λ t over. subst (λ r. HasNothing r.store t) z.resources (each_empty empty_book c.marks l.law (nobody_killed g i on) (λ u h. absurd (true_false (sym h))) t (z.living.over t ∙ rw (over.made, over.gone) refl));
       }
     where
@@ -298,8 +304,8 @@ module _ {P S H : Type 0} (f : P → Functions S H) where
     no_hold t nothing (pos l) = nothing.locks l
     no_hold t nothing (negsuc l) = refl
 
-    uncanceled : (t : ℕ) → Lives s t → book.canceled t ≡ false
-    uncanceled t alive = settled.canceled t (settled.living.over t ∙ (ap (λ b. is_made s.control.threads.made t && not b) alive ∙ and_false (is_made s.control.threads.made t)))
+    calm : (t : ℕ) → Lives s t → book.canceled t ≡ is_canceled_in (blocked_of s.control t)
+    calm t alive = (settled.awaits t).0.calm (settled.living.over t ∙ (ap (λ b. is_made s.control.threads.made t && not b) alive ∙ and_false (is_made s.control.threads.made t)))
       where
         and_false : (b : Bool) → (b && false) ≡ false
         and_false true = refl
@@ -309,7 +315,7 @@ module _ {P S H : Type 0} (f : P → Functions S H) where
     run_tied = record {
       unmade = unmade g i on;
       ended = λ t there. sym (ended_told marks t none) ∙ (settled.living.over t ∙ ap (λ b. b && not (lives (s.control.threads.known t))) there);
-      canceled = λ t alive. sym (canceled_is marks t) ∙ uncanceled t alive;
+      canceled = λ t alive. sym (canceled_is marks t) ∙ calm t alive;
       closed = λ t. closed_along t empty_book marks settled.closed;
       cleanups = λ t. sym (pending_are marks none t) ∙ ap (λ (k : Resources). k.store.cleanups t) same;
       keys = keys_in;
@@ -317,19 +323,22 @@ module _ {P S H : Type 0} (f : P → Functions S H) where
       mutexes = levels_are s.resources marks fit;
       readers = reads_are s.resources marks fit;
       writers = writes_are s.resources marks fit;
-      awaiting = λ t. fit.awaiting t ∙ (settled.awaits t).0;
+      awaiting = λ t. fit.awaiting t ∙ (settled.awaits t).0.fits;
       gone_has_no_level = λ t m gone. levels_are s.resources marks fit t m ∙ no_level t (nothing_left g i on t gone) m;
       gone_holds_no_lock = λ t l gone. ap₂ (λ (x y : Bool). x || y) (writes_are s.resources marks fit t l) (reads_are s.resources marks fit t l) ∙ no_hold t (nothing_left g i on t gone) l;
       one_owner = λ t u m. same_owner t u (s.resources.store.mutexes m);
       one_hold = λ t u l writing. fit.sound.alone l (writes_some t (s.resources.store.rw_locks.writer l) writing) u;
     }
 
-  pub run_clean : (g : Given P) (i : ℕ) → (IsKilled (run f g i).turn.outcome → ⊥) → ((b round t : ℕ) → has_arrived (run f g i).state.control.barriers b round t ≡ true → Lives (run f g i).state t × (round_held (blocked_of (run f g i).state.control t) ≡ Some (b, round))) → IsClean (run f g i).state
-  run_clean g i on arrivals = record {
+  pub run_clean : (g : Given P) (i : ℕ) → (IsKilled (run f g i).turn.outcome → ⊥) → ((b round t : ℕ) → has_arrived (run f g i).state.control.barriers b round t ≡ true → Lives (run f g i).state t × (round_held (blocked_of (run f g i).state.control t) ≡ Some (b, round)))
+      → ((c t : ℕ) → has_seat (run f g i).state.control.conditions c (Await (tid t)) ≡ true → Lives (run f g i).state t × (condition_held (blocked_of (run f g i).state.control t) ≡ Some c)) → ((c : ℕ) (e : EventId) → has_seat (run f g i).state.control.conditions c (Event e) ≡ false) → IsClean (run f g i).state
+  run_clean g i on arrivals seats event_seats = record {
     claims = ((run_lawful g i).settled on).claims;
     mutexes = λ m t had. (alive t (λ nothing. true_false (sym had ∙ nothing.mutexes m)), locked.mutexes m (has_some t (s.resources.store.mutexes m) had));
     locks = λ l t held. (alive t (λ nothing. true_false (sym held ∙ nothing.locks l)), locked.locks l (locked.held l t held));
     arrivals = arrivals;
+    seats = seats;
+    event_seats = event_seats;
   }
     where
       s : State P S H

@@ -16,7 +16,8 @@ use Rattle.pth_model.specs.declared.progress.Progress.{Progress}
 use Rattle.pth_model.specs.Standing.{raises_of}
 use Rattle.pth_base.specs.Table.{put}
 use Rattle.pth_model.specs.State.{Control, Scheduler, queue}
-use Rattle.pth_model.specs.Changes.{sets, enters, leaves_queue, makes, forgets, removes, goes_on, or_nobody, entry_of, queue_for, holders}
+use Rattle.pth_model.specs.Changes.{sets, enters, leaves_queue, makes, forgets, removes, goes_on, or_nobody, entry_of, blocked_in, blocked_of, queue_for, holders}
+use Rattle.pth_model.specs.Awaits.{is_awaiting, is_retaking, awaits_in}
 use Rattle.pth_model.specs.Living.{is_dead, lives}
 use Rattle.pth_model.specs.ThreadControl.{spawns, suspends, resumes, returns_to, thread, to_join, joinable_dead, first_of, is_dead_in}
 use Rattle.pth_model.proofs.Placed.{Seats, seats}
@@ -24,11 +25,12 @@ use Rattle.pth_model.proofs.Once.{shown-all}
 use Rattle.pth_model.proofs.Walks.{IsOther}
 use Rattle.pth_laws.proofs.Living.{IsLiving, Living, true_false, runs_alive, living-made, living-over, changed_lives, living_sets, living_spawned, living_suspended, living_resumed, living_removed, not_next}
 
--- t lives, whom a join takes does not, nor does who is made next
+-- t lives, whom a join takes does not, nor does who is made next, and only a pth_cond_await takes a mutex back
 pub record IsSound {P S H : Type 0} (t : ℕ) (k : Control P S H) : Type 0 where
   pub alive : lives (k.threads.known t) ≡ true
   pub joins : (m : ℤ) (u : ℕ) → to_join k m ≡ Some u → lives (k.threads.known u) ≡ false
   pub next : lives (k.threads.known (k.threads.made + 1)) ≡ false
+  pub retakes : is_retaking (awaits_in (blocked_of k t)) ≡ true → is_awaiting (blocked_of k t) ≡ true
 
 -- t runs, and nobody is named; n threads were made before, and these have ended
 pub record IsGoing (n : ℕ) (ended : ℕ → Bool) (t : ℕ) (x : Seats) : Type 0 where
@@ -93,8 +95,8 @@ module _ {P S H : Type 0} (n : ℕ) (ended : ℕ → Bool) (t : ℕ) where
       by_life false h = h
       by_life true h = absurd (true_false (sym (living-made n ended k.threads.made k.threads.known k.threads.standing l (k.threads.made + 1) h) ∙ not_next k.threads.made))
 
-  pub going_sound : (k : Control P S H) → Going k → IsSound t k
-  going_sound k g = record { alive = going_alive k g; joins = λ m u taken. joined_dead k m u g taken; next = next_dead k g.living }
+  pub going_sound : (k : Control P S H) → Going k → (is_retaking (awaits_in (blocked_of k t)) ≡ true → is_awaiting (blocked_of k t) ≡ true) → IsSound t k
+  going_sound k g retakes = record { retakes = retakes; alive = going_alive k g; joins = λ m u taken. joined_dead k m u g taken; next = next_dead k g.living }
 
   pub going_spawned : (f : P → Functions S H) (b : ℕ) (v : ℤ) (of : NewThread) (k : Control P S H) → Going k → Going (spawns f b v of k)
   unfolding makes enters
@@ -171,6 +173,13 @@ module _ {P S H : Type 0} (n : ℕ) (ended : ℕ → Bool) (t : ℕ) where
 
 module _ {P S H : Type 0} (t : ℕ) where
   -- what a thread has to go on with in its program, and the program's shared value, are nothing to it
-  pub sound_steps : (u : ℕ) (g : Progress S → Progress S) (h : H) (k : Control P S H) → IsSound t k → IsSound t (goes_on u g (record k { shared = h }))
+  pub sound_steps : (u : ℕ) (g : Progress S → Progress S) (h : H) (k : Control P S H) → ((p : Progress S) → (g p).blocked ≡ p.blocked) → IsSound t k → IsSound t (goes_on u g (record k { shared = h }))
   unfolding goes_on joinable_dead
-  sound_steps u g h k x = record { alive = x.alive; joins = λ m v taken. x.joins m v taken; next = x.next }
+  sound_steps u g h k same x = record { retakes = subst (λ o. is_retaking (awaits_in o) ≡ true → is_awaiting o ≡ true) (sym kept) x.retakes; alive = x.alive; joins = λ m v taken. x.joins m v taken; next = x.next }
+    where
+      by_progress : (p : Option (Progress S)) → blocked_in (option_map g p) ≡ blocked_in p
+      by_progress None = refl
+      by_progress (Some p) = same p
+
+      kept : blocked_in (put k.threads.progress u (option_map g (k.threads.progress u)) t) ≡ blocked_of k t
+      kept = put_by (λ p. blocked_in p ≡ blocked_of k t) k.threads.progress u (option_map g (k.threads.progress u)) t (λ here. by_progress (k.threads.progress u) ∙ ap (blocked_of k) (sym here)) (λ apart. refl)

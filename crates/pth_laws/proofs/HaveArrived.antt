@@ -6,16 +6,19 @@ use Rattle.pth_base.specs.declared.call.Call.TheVariants as call
 use Rattle.pth_base.proofs.Tables.{same_means, put_by}
 use Rattle.pth_lock.specs.Objects.{object_named}
 use Rattle.pth_cond.specs.declared.barriers.Arrival.TheVariants.{Waits}
+use Rattle.pth_cond.specs.Conditions.{seat_entered}
+use Rattle.pth_model.specs.Conditions.{seat_of}
 use Rattle.pth_cond.specs.Barriers.{Barrier, BarrierTable, arrival_answer, barrier_reached, all_withdrawn}
 use Rattle.pth_threads.specs.declared.entry.Change as change_of_record
 use Rattle.pth_model.specs.declared.awaits.Awaits.{Awaits}
-use Rattle.pth_model.specs.declared.awaits.Awaits.TheVariants.{Round}
+use Rattle.pth_model.specs.declared.awaits.Awaits.TheVariants.{Round, Notice, Retaking}
+use Rattle.pth_model.specs.declared.awaits.Retake.{Retake}
 use Rattle.pth_model.specs.declared.blocked.Blocked.{Blocked}
 use Rattle.pth_model.specs.declared.progress.Progress.{Progress}
-use Rattle.pth_model.specs.Awaits.{awaits_in, round_in}
+use Rattle.pth_model.specs.Awaits.{awaits_in, round_in, is_retaking}
 use Rattle.pth_model.specs.State.{State, Given, start, main}
 use Rattle.pth_model.specs.Transition.{controlled}
-use Rattle.pth_model.specs.Changes.{sets, goes_on, blocking, is_blocked_by, makes, forgets, with_barriers, blocked_in, blocked_of}
+use Rattle.pth_model.specs.Changes.{sets, goes_on, blocking, is_blocked_by, makes, forgets, with_conditions, with_barriers, blocked_in, blocked_of}
 use Rattle.pth_model.specs.RingWaits.{claims, gives_back, ring_given, ring_held, stops_waiting}
 use Rattle.pth_model.specs.ThreadControl.{values_for, or_first}
 use Rattle.pth_model.specs.LibraryControl.{vanish_all_but}
@@ -25,8 +28,8 @@ use Rattle.pth_model.specs.Run.{run}
 use Rattle.pth_laws.specs.Arrivals.{AllHaveArrived, NoneArrivedTwice, arrivals_of}
 use Rattle.pth_laws.specs.Clean.{has_arrived}
 use Rattle.pth_laws.proofs.Living.{true_false}
-use Rattle.pth_laws.proofs.NoRounds.{is_reaching, is_round}
-use Rattle.pth_laws.proofs.Rounds.{HasFewer, HasOthers, HasAll, all_reached, has_reached, once_reached}
+use Rattle.pth_model.proofs.NoRounds.{is_reaching, is_round, special_none, special_both}
+use Rattle.pth_laws.proofs.Rounds.{HasFewer, HasOthers, HasAll, fewer_same, all_reached, has_reached, once_reached}
 use Rattle.pth_laws.proofs.Allowed.{IsFree, StaysAt}
 use Rattle.pth_laws.proofs.Along.{KeptAlong, run_keeps}
 use Rattle.pth_laws.proofs.Arrivals.{AreArrivals, arrived_blocked, arrivals_kept, arrivals_start}
@@ -55,9 +58,9 @@ other_arrives x u (call.BarrierReach b) a other none = absurd (true_false other)
 other_arrives x u c a other none = none
 
 -- it waits on, for the same round
-stays_arrived : (x : BarrierTable) (u : ℕ) (c : Call) (a now : Awaits) → StaysAt c a now → Arrives x u c a → Arrives x u c now
-stays_arrived x u (call.BarrierReach b) a now stays own = subst (Arrives x u (call.BarrierReach b)) (own.0 ∙ sym stays) own
-stays_arrived x u c a now stays own = stays own
+stays_arrived : (x : BarrierTable) (u : ℕ) (c : Call) (a now : Awaits) → StaysAt c a now → is_retaking a ≡ false → Arrives x u c a → Arrives x u c now
+stays_arrived x u (call.BarrierReach b) a now stays plain own = subst (Arrives x u (call.BarrierReach b)) (own.0 ∙ sym stays) own
+stays_arrived x u c a now stays plain own = (special_none now (stays (special_both a own plain))).0
 
 -- this blocks t now, or nothing does
 own_blocked : {S : Type 0} (x : BarrierTable) (t : ℕ) (d : Blocked) (p : Option (Progress S)) → Arrives x t d.call d.awaits → HasOwn x t (blocked_in (option_map (blocking (Some d)) p))
@@ -168,10 +171,10 @@ module _ {P S H : Type 0} where
       )
 
   -- t waits on
-  kept_on : (t : ℕ) (a : Awaits) (d : Blocked) (s : State P S H) → blocked_of s.control t ≡ Some d → StaysAt d.call d.awaits a → IsKept s → IsKept (controlled (is_blocked_by t (Some (record d { awaits = a }))) s)
-  kept_on t a d s at stays r =
+  kept_on : (t : ℕ) (a : Awaits) (d : Blocked) (s : State P S H) → blocked_of s.control t ≡ Some d → StaysAt d.call d.awaits a → is_retaking d.awaits ≡ false → IsKept s → IsKept (controlled (is_blocked_by t (Some (record d { awaits = a }))) s)
+  kept_on t a d s at stays plain r =
       let now : Blocked = record d { awaits = a } in
-      let own = stays_arrived s.control.barriers t d.call d.awaits a stays (subst (HasOwn s.control.barriers t) at (r.0 t)) in
+      let own = stays_arrived s.control.barriers t d.call d.awaits a stays plain (subst (HasOwn s.control.barriers t) at (r.0 t)) in
       (own_still t (blocking (Some now)) s (own_blocked s.control.barriers t now (s.control.threads.progress t) own) r.0, once_goes t (blocking (Some now)) s r.1)
 
   -- no call blocks t any longer
@@ -180,6 +183,14 @@ module _ {P S H : Type 0} where
   kept_stopped t x s fewer others r =
       let a = controlled (with_barriers (λ y. x)) s in
       kept_returned (ring_held (blocked_of s.control t)) (controlled (is_blocked_by t None) a) (own_goes x t (blocking None) s others (own_none x t (s.control.threads.progress t)) r.0, once_goes t (blocking None) a (once_fewer x s.control.barriers fewer r.1))
+
+  -- and a pth_cond_await takes its mutex back
+  kept_retakes : (t : ℕ) (c m e : ℤ) (o : Retake) (s : State P S H) → IsKept s → IsKept (controlled (λ k. blocks t (call.CondAwait c m e) (Retaking m o) (stops_waiting t k)) s)
+  kept_retakes t c m e o s r =
+      let d : Blocked = record { call = call.CondAwait c m e; awaits = Retaking m o } in
+      let x = controlled (stops_waiting t) s in
+      let all = kept_stopped t s.control.barriers s (λ b. fewer_same (s.control.barriers b)) (λ b round u apart h. h) r in
+      (own_still t (blocking (Some d)) x (own_blocked x.control.barriers t d (x.control.threads.progress t) refl) all.0, once_goes t (blocking (Some d)) x all.1)
 
   -- ---- every run
 
@@ -190,7 +201,7 @@ module _ {P S H : Type 0} where
   both_kept f = let k = arrivals_kept f in record {
     handlers = record {
       shared = λ h s r. r;
-      seated = λ x s r. r;
+      seated = λ x s fewer r. r;
       told = λ m s may r. r;
     };
     placed = λ standing entries raises s r. r;
@@ -211,9 +222,11 @@ module _ {P S H : Type 0} where
     barred = λ x s fewer all r. (k.barred x s fewer all r.0, kept_barred x s fewer all r.1);
     reached = λ t b round s free alive there waits r. (k.reached t b round s free alive there waits r.0, kept_reached t b round s (λ n i h. arrived_blocked s n i t free r.0 h) waits r.1);
     goes = λ t g s same r. (k.goes t g s same r.0, kept_goes t g s same r.1);
-    blocked = λ t c a s free other none may r. (k.blocked t c a s free other none may r.0, kept_blocked t c a s other none r.1);
-    waits_on = λ t a b s at names stays r. (k.waits_on t a b s at names stays r.0, kept_on t a b s at stays r.1);
-    stopped = λ t x s fewer others left r. (k.stopped t x s fewer others left r.0, kept_stopped t x s fewer others r.1);
+    blocked = λ t c a s free other none may r. (k.blocked t c a s free other none may r.0, kept_blocked t c a s other (special_none a none).0 r.1);
+    waits_on = λ t a b s at names stays other plain r. (k.waits_on t a b s at names stays other plain r.0, kept_on t a b s at stays plain.0 r.1);
+    stopped = λ t x y s fewer others seats left gone r. (k.stopped t x y s fewer others seats left gone r.0, kept_stopped t x (controlled (with_conditions (λ z. y)) s) fewer others r.1);
+    takes_seat = λ t c m e s free alive there may r. (k.takes_seat t c m e s free alive there may r.0, kept_blocked t (call.CondAwait c m e) (Notice c) (controlled (with_conditions (seat_entered c (seat_of t))) s) refl refl r.1);
+    retakes = λ t c m e a o y s fewer gone at r. (k.retakes t c m e a o y s fewer gone at r.0, kept_retakes t c m e o (controlled (with_conditions (λ z. y)) s) r.1);
   }
 
   kept_start : (f : P → Functions S H) (g : Given P) → IsKept (start f g)

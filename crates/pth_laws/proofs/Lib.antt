@@ -9,7 +9,7 @@ pub mod Locked
 pub mod Counted
 pub mod Locking
 pub mod Rounds
-pub mod NoRounds
+pub mod Seats
 pub mod Allowed
 pub mod Along
 pub mod Ranged
@@ -19,6 +19,7 @@ pub mod Circles
 pub mod Claimed
 pub mod Arrivals
 pub mod HaveArrived
+pub mod Seated
 pub mod Refusing
 pub mod Awaits
 pub mod Claims

@@ -1,5 +1,5 @@
 -- What calls on mutexes and locks come to is exclusive, by the tests of their rows.
-use Rattle.std.proofs.Common.{◌≡◌, ◌<◌, ◌≤◌, ℕ, zero, suc, ◌+◌, ◌-◌, ◌==◌, ◌&&◌, ◌||◌, not, nat_lt, Bool, true, false, cond, if◌then◌else◌, ℤ, pos, find, Option, Some, None, is_some, is_none, Ok, Err, refl, sym, ◌∙◌, arith}
+use Rattle.std.proofs.Common.{◌≡◌, ◌<◌, ◌≤◌, ℕ, zero, suc, ◌+◌, ◌-◌, ◌==◌, ◌&&◌, ◌||◌, not, nat_lt, Bool, true, false, cond, if◌then◌else◌, ℤ, pos, find, Option, Some, None, is_some, is_none, is_ok, Ok, Err, refl, sym, ◌∙◌, arith}
 use Rattle.std.specs.List.{range_with_len}
 use Rattle.std.specs.Option.{ok_or}
 use Rattle.std.proofs.lemmas.Bool.{not-false}
@@ -13,8 +13,9 @@ use Rattle.pth_base.specs.declared.errno.Errno.TheVariants.{EACCES, EAGAIN, EBUS
 use Rattle.pth_base.specs.declared.mark.Mark.TheVariants as mark
 use Rattle.pth_numbered.specs.Operands.{is_zero}
 use Rattle.pth_lock.specs.Objects.{object_limit, object_named, is_object}
-use Rattle.pth_lock.specs.Mutexes.{Mutex, has, is_anothers, owner_of, levels_of, level_limit, release_answer}
+use Rattle.pth_lock.specs.Mutexes.{Mutex, has, is_anothers, owner_of, levels_of, level_limit, release_answer, take_answer}
 use Rattle.pth_lock.specs.RwLocks.{LockTables, holds, may_enter, is_held}
+use Rattle.pth_cond.specs.Conditions.{is_live}
 use Rattle.pth_store.specs.Keys.{Tables, free_key, keys_from, key_limit}
 use Rattle.pth_model.specs.declared.awaits.Awaits.{Awaits}
 use Rattle.pth_model.specs.declared.awaits.Awaits.TheVariants as awaits
@@ -29,7 +30,7 @@ use Rattle.pth_model.specs.declared.verdict.Verdict.{Verdict}
 use Rattle.pth_model.specs.declared.verdict.Verdict.TheVariants.{Says, Yields, Blocks, Ends, Kills}
 use Rattle.pth_model.specs.Verdict.{refused, says, done, by_result, taken_or, ◌when◌otherwise◌}
 use Rattle.pth_laws.proofs.Book.{Book}
-use Rattle.pth_laws.proofs.Laws.{IsAnswerExclusive, IsExclusiveMark}
+use Rattle.pth_laws.proofs.Laws.{IsAnswerExclusive, IsExclusiveMark, HasMutex, MayTake}
 use Rattle.pth_laws.proofs.Living.{true_false, both, not_true}
 use Rattle.pth_model.specs.Awaits.{is_await}
 
@@ -45,18 +46,23 @@ is_locking (call.CondAwait c m e) = true
 is_locking (call.KeyCreate h) = true
 is_locking c = false
 
--- what a verdict on a call of t tells is exclusive; a pth_cond_await blocks nobody
+-- a pth_cond_await that begins to await gives its mutex back, which t has
+abbrev pub IsWaitExclusive : Resources → ℕ → Call → Type 0
+IsWaitExclusive k t (call.CondAwait c m e) = k.awaits t ≡ false → HasMutex k t (object_named m)
+IsWaitExclusive k t c = Unit {0}
+
+-- what a verdict on a call of t tells is exclusive
 abbrev pub IsVerdictExclusive : Resources → ℕ → Call → Verdict → Type 0
 IsVerdictExclusive k t c (Says a) = IsAnswerExclusive k t c a
 IsVerdictExclusive k t c (Yields a) = IsAnswerExclusive k t c a
-IsVerdictExclusive k t c (Blocks p) = is_await c ≡ false
+IsVerdictExclusive k t c (Blocks p) = IsWaitExclusive k t c
 IsVerdictExclusive k t c (Ends v) = Unit {0}
 IsVerdictExclusive k t c Kills = IsAnswerExclusive k t c (answer.Int (pos 1))
 
 -- a call that blocks tells a wait
-pub wait_exclusive : (b : Book) (t : ℕ) (c : Call) → is_await c ≡ false → IsExclusiveMark b (mark.Waits (tid t) c)
-wait_exclusive b t (call.CondAwait c m e) other = absurd (true_false other)
-wait_exclusive b t c other = tt
+pub wait_exclusive : (b : Book) (t : ℕ) (c : Call) → IsWaitExclusive b.resources t c → IsExclusiveMark b (mark.Waits (tid t) c)
+wait_exclusive b t (call.CondAwait c m e) law = law
+wait_exclusive b t c law = tt
 
 some_of : {A : Type 0} (o : Option A) → is_none o ≡ false → is_some o ≡ true
 some_of None h = absurd (true_false h)
@@ -105,9 +111,9 @@ module _ (k : Resources) (t : ℕ) where
   other_answer (call.KeyCreate x) a h = absurd (true_false h)
   other_answer c a h = tt
 
-  other_wait : (c : Call) → is_locking c ≡ false → is_await c ≡ false
+  other_wait : (c : Call) → is_locking c ≡ false → IsWaitExclusive k t c
   other_wait (call.CondAwait c m e) h = absurd (true_false h)
-  other_wait c h = refl
+  other_wait c h = tt
 
   -- any other call
   pub other_exclusive : (c : Call) (v : Verdict) → is_locking c ≡ false → IsVerdictExclusive k t c v
@@ -133,7 +139,7 @@ module _ (k : Resources) (t : ℕ) where
   acquire_exclusive m v e false true b c d none other = tt
   acquire_exclusive m v e false false true c d none other = tt
   acquire_exclusive m v e false false false true true none other = tt
-  acquire_exclusive m v e false false false true false none other = refl
+  acquire_exclusive m v e false false false true false none other = tt
   acquire_exclusive m v e false false false false d none other = (refl, record { initialised = some_of (z m) none; free = other })
 
   release_exclusive : (m : ℤ) (a b c : Bool) → is_none (z m) ≡ a → is_none (owner_of (z m)) ≡ b → is_anothers t (z m) ≡ c → IsVerdictExclusive k t (call.MutexRelease m) (by_result done (if a then Err EINVAL else if b then Err EDEADLK else if c then Err EACCES else Ok tt))
@@ -162,7 +168,7 @@ module _ (k : Resources) (t : ℕ) where
   enter_exclusive l write v e false true b c d none held out = tt
   enter_exclusive l write v e false false true c d none held out = tt
   enter_exclusive l write v e false false false true true none held out = tt
-  enter_exclusive l write v e false false false true false none held out = refl
+  enter_exclusive l write v e false false false true false none held out = tt
   enter_exclusive l write v e false false false false d none held out = (refl, record { initialised = not-false _ none; out = held; enters = not-false _ out })
 
   lock_release_exclusive : (l : ℤ) (a b c : Bool) → not (holds x t (object_named l)) ≡ c → IsVerdictExclusive k t (call.RwRelease l) (by_result done (if a then Err EINVAL else if b then Err EDEADLK else if c then Err EACCES else Ok tt))
@@ -170,6 +176,24 @@ module _ (k : Resources) (t : ℕ) where
   lock_release_exclusive l false true c held = tt
   lock_release_exclusive l false false true held = tt
   lock_release_exclusive l false false false held = (refl, not-false _ held)
+
+  await_exclusive : (c m e : ℤ) (bad a b other claimed : Bool) → k.awaits t ≡ false → is_none (owner_of (z m)) ≡ b → is_anothers t (z m) ≡ other → IsVerdictExclusive k t (call.CondAwait c m e) (refused EINVAL when bad otherwise by_result (λ released. refused EBUSY when claimed otherwise Blocks (awaits.Notice c)) (if a then Err EINVAL else if b then Err EDEADLK else if other then Err EACCES else Ok (tt {0})))
+  await_exclusive c m e true a b other claimed idle free own = λ awaits. absurd (true_false (sym awaits ∙ idle))
+  await_exclusive c m e false true b other claimed idle free own = λ awaits. absurd (true_false (sym awaits ∙ idle))
+  await_exclusive c m e false false true other claimed idle free own = λ awaits. absurd (true_false (sym awaits ∙ idle))
+  await_exclusive c m e false false false true claimed idle free own = λ awaits. absurd (true_false (sym awaits ∙ idle))
+  await_exclusive c m e false false false false true idle free own = λ awaits. absurd (true_false (sym awaits ∙ idle))
+  await_exclusive c m e false false false false false idle free own = λ none. own_is t (z m) free own
+
+  -- who can take a mutex may
+  take_allowed : (m : ℤ) (a b other : Bool) → is_none (z m) ≡ a → is_anothers t (z m) ≡ other → is_ok (if a then Err EINVAL else if b then Err EAGAIN else if other then Err EBUSY else Ok (tt {0})) ≡ true → MayTake k t (object_named m)
+  take_allowed m true b other none own h = absurd (true_false (sym h))
+  take_allowed m false true other none own h = absurd (true_false (sym h))
+  take_allowed m false false true none own h = absurd (true_false (sym h))
+  take_allowed m false false false none own h = record { initialised = some_of (z m) none; free = own }
+
+  pub may_take : (m : ℤ) → is_ok (take_answer t (z m)) ≡ true → MayTake k t (object_named m)
+  may_take m h = take_allowed m (is_none (z m)) (levels_of t (z m) == level_limit) (is_anothers t (z m)) refl refl h
 
   -- a key that is made is the least that is free
   create_exclusive : (h : Option ℤ) (o : Option ℕ) → free_key k.store.keys ≡ o → IsVerdictExclusive k t (call.KeyCreate h) (by_result says (ok_or o EAGAIN))
@@ -189,7 +213,7 @@ module _ {P S H : Type 0} (f : P → Functions S H) (s : State P S H) (t : ℕ) 
   begins_exclusive (call.RwInit l) idle = lock_init_exclusive r t l (not (is_object l)) (r.store.rw_locks.initialised (object_named l)) refl refl
   begins_exclusive (call.RwAcquire l write v e) idle = enter_exclusive r t l write v e (is_no_ring s (extra_ring e)) (not (r.store.rw_locks.initialised (object_named l))) (holds r.store.rw_locks t (object_named l)) (not (may_enter r.store.rw_locks write (object_named l))) (not (is_zero v) || is_claimed_ring s (extra_ring e)) refl refl refl
   begins_exclusive (call.RwRelease l) idle = lock_release_exclusive r t l (not (r.store.rw_locks.initialised (object_named l))) (not (is_held r.store.rw_locks (object_named l))) (not (holds r.store.rw_locks t (object_named l))) refl
-  begins_exclusive (call.CondAwait c m e) idle = λ awaits. absurd (true_false (sym awaits ∙ idle))
+  begins_exclusive (call.CondAwait c m e) idle = await_exclusive r t c m e (not (is_live s.control.conditions c) || is_no_ring s (extra_ring e)) (is_none (z r t m)) (is_none (owner_of (z r t m))) (is_anothers t (z r t m)) (is_claimed_ring s (extra_ring e)) idle refl refl
   begins_exclusive (call.KeyCreate h) idle = create_exclusive r t h (free_key r.store.keys) refl
   begins_exclusive c idle = other_exclusive r t c (row_of f s t c).begin.verdict refl
 
@@ -198,7 +222,7 @@ module _ {P S H : Type 0} (f : P → Functions S H) (s : State P S H) (t : ℕ) 
   acquires_again : (m v e : ℤ) (come b : Bool) (a : Piece P S H) → (not (is_none (z r t m)) && is_none (owner_of (z r t m))) ≡ b → IsVerdictExclusive r t (call.MutexAcquire m v e) (unless_settled come (record { verdict = says 1 when b otherwise Blocks (awaits.Mutex m); effect = a })).verdict
   acquires_again m v e false true a is = let h = both _ _ is in (refl, record { initialised = some_of (z r t m) (not_true _ h.0); free = free_is t (z r t m) h.1 })
   acquires_again m v e true true a is = let h = both _ _ is in (refl, record { initialised = some_of (z r t m) (not_true _ h.0); free = free_is t (z r t m) h.1 })
-  acquires_again m v e false false a is = refl
+  acquires_again m v e false false a is = tt
   acquires_again m v e true false a is = tt
 
   abbrev locks : LockTables
@@ -207,22 +231,22 @@ module _ {P S H : Type 0} (f : P → Functions S H) (s : State P S H) (t : ℕ) 
   enters_again : (l : ℤ) (write : Bool) (v e : ℤ) (come b : Bool) (a : Piece P S H) → ((locks.initialised (object_named l) && may_enter locks write (object_named l)) && not (holds locks t (object_named l))) ≡ b → IsVerdictExclusive r t (call.RwAcquire l write v e) (unless_settled come (record { verdict = says 1 when b otherwise Blocks (awaits.Lock l write); effect = a })).verdict
   enters_again l write v e false true a is = let h = both _ _ is in let g = both _ _ h.0 in (refl, record { initialised = g.0; out = not_true _ h.1; enters = g.1 })
   enters_again l write v e true true a is = let h = both _ _ is in let g = both _ _ h.0 in (refl, record { initialised = g.0; out = not_true _ h.1; enters = g.1 })
-  enters_again l write v e false false a is = refl
+  enters_again l write v e false false a is = tt
   enters_again l write v e true false a is = tt
 
   pub again_exclusive : (c : Call) (b : Awaits) (come : Bool) → is_await c ≡ false → IsVerdictExclusive r t c (unless_settled come ((row_of f s t c).again b)).verdict
   unfolding row_of
   again_exclusive (call.MutexAcquire m v e) b come other = acquires_again m v e come (not (is_none (z r t m)) && is_none (owner_of (z r t m))) silent refl
   again_exclusive (call.RwAcquire l write v e) b come other = enters_again l write v e come ((locks.initialised (object_named l) && may_enter locks write (object_named l)) && not (holds locks t (object_named l))) silent refl
-  again_exclusive (call.MutexInit m) b false other = refl
+  again_exclusive (call.MutexInit m) b false other = tt
   again_exclusive (call.MutexInit m) b true other = tt
-  again_exclusive (call.MutexRelease m) b false other = refl
+  again_exclusive (call.MutexRelease m) b false other = tt
   again_exclusive (call.MutexRelease m) b true other = tt
-  again_exclusive (call.RwInit l) b false other = refl
+  again_exclusive (call.RwInit l) b false other = tt
   again_exclusive (call.RwInit l) b true other = tt
-  again_exclusive (call.RwRelease l) b false other = refl
+  again_exclusive (call.RwRelease l) b false other = tt
   again_exclusive (call.RwRelease l) b true other = tt
-  again_exclusive (call.KeyCreate h) b false other = refl
+  again_exclusive (call.KeyCreate h) b false other = tt
   again_exclusive (call.KeyCreate h) b true other = tt
   again_exclusive (call.CondAwait c m e) b come other = absurd (true_false other)
   again_exclusive c b come other = other_exclusive r t c (unless_settled come ((row_of f s t c).again b)).verdict refl

@@ -34,7 +34,7 @@ use Rattle.pth_laws.proofs.Book.{Book, Closed, after, book_of}
 use Rattle.pth_laws.proofs.Laws.{EachMark}
 use Rattle.pth_laws.proofs.Living.{Living, true_false, runs_alive, state_safe, changed_lives, living-up, living-made, living-alive, living_leaves, living_sets, living_enters, living_ready}
 use Rattle.pth_laws.proofs.Going.{Going}
-use Rattle.pth_laws.proofs.Awaits.{HasAwaits, awaits_set, awaits_moved, awaits_enter, awaits_leave, awaits_go, awaits_look}
+use Rattle.pth_laws.proofs.Awaits.{HasAwaits, Flags, flags, awaits_set, awaits_moved, awaits_enter, awaits_leave, awaits_go, awaits_look}
 use Rattle.pth_laws.proofs.Claims.{HasClaims, claims_set, claims_moved, claims_enter, claims_leave, claims_go, claims_look}
 use Rattle.pth_laws.proofs.Walk.{Walk, IsMarked, walk_then}
 use Rattle.pth_laws.proofs.Steps.{AfterStep, some_number, step_walk}
@@ -47,10 +47,9 @@ IsUp n ended t = (is_made n t ≡ true) × (ended t ≡ false)
 pub record IsSettled {P S H : Type 0} (n : ℕ) (b : Book) (s : State P S H) (x : Turn) : Type 0 where
   pub resources : b.resources ≡ s.resources
   pub closed : b.block ≡ Closed
-  pub canceled : (t : ℕ) → b.ended t ≡ false → b.canceled t ≡ false
   pub living : Living n b.ended s.control
   pub claims : HasClaims s.control
-  pub awaits : HasAwaits s.resources.awaits s.control
+  pub awaits : HasAwaits (flags b s.resources.awaits) s.control
   pub runs : (t : ℕ) → s.control.scheduler.running ≡ Some t → (or_nobody (s.control.threads.known t)).state ≡ state.Running
   pub gave : (t : ℕ) → x.gave ≡ Some t → (s.control.scheduler.running ≡ Some t) ⊎ ((s.control.scheduler.running ≡ None) × (b.ended t ≡ true))
   pub preferred : (t : ℕ) → s.control.scheduler.preferred ≡ Some t → lives (s.control.threads.known t) ≡ true
@@ -60,11 +59,10 @@ pub record IsSettled {P S H : Type 0} (n : ℕ) (b : Book) (s : State P S H) (x 
 pub record IsResting {P S H : Type 0} (n : ℕ) (b : Book) (s : State P S H) : Type 0 where
   pub resources : b.resources ≡ s.resources
   pub closed : b.block ≡ Closed
-  pub canceled : (t : ℕ) → b.ended t ≡ false → b.canceled t ≡ false
   pub made : s.control.threads.made ≡ n
   pub living : Living n b.ended s.control
   pub claims : HasClaims s.control
-  pub awaits : HasAwaits s.resources.awaits s.control
+  pub awaits : HasAwaits (flags b s.resources.awaits) s.control
   pub running : s.control.scheduler.running ≡ None
   pub preferred : (t : ℕ) → s.control.scheduler.preferred ≡ Some t → IsUp n b.ended t
 
@@ -108,7 +106,6 @@ module _ {P S H : Type 0} (n : ℕ) where
   rest_settles b s x none r = record {
     resources = r.resources;
     closed = r.closed;
-    canceled = r.canceled;
     living = r.living;
     claims = r.claims;
     awaits = r.awaits;
@@ -133,11 +130,10 @@ module _ {P S H : Type 0} (n : ℕ) where
   rest_ready t rank top b s up r = record {
     resources = r.resources;
     closed = r.closed;
-    canceled = r.canceled;
     made = r.made;
     living = living_ready n b.ended t rank top s.control (alive_up b s r t up) r.living;
     claims = claims_moved t (change.State state.Ready) Ready rank top s.control (state_safe state.Ready refl (s.control.threads.known t) (alive_up b s r t up)) r.claims;
-    awaits = awaits_moved s.resources.awaits t (change.State state.Ready) Ready rank top s.control (state_safe state.Ready refl (s.control.threads.known t) (alive_up b s r t up)) r.awaits;
+    awaits = awaits_moved (flags b s.resources.awaits) t (change.State state.Ready) Ready rank top s.control (state_safe state.Ready refl (s.control.threads.known t) (alive_up b s r t up)) r.awaits;
     running = r.running;
     preferred = r.preferred;
   }
@@ -151,7 +147,7 @@ module _ {P S H : Type 0} (n : ℕ) where
       let x = rest_ready t rank false b s up r in
       record {
         law = ((λ locked. (((up.1, tt), tt), up.0)), tt);
-        post = (refl, record { resources = x.resources; closed = refl; canceled = x.canceled; made = x.made; living = x.living; claims = x.claims; awaits = x.awaits; running = x.running; preferred = x.preferred });
+        post = (refl, record { resources = x.resources; closed = refl; made = x.made; living = x.living; claims = x.claims; awaits = x.awaits; running = x.running; preferred = x.preferred });
       }
 
   all_woken_walk : (ts : List ℕ) (b : Book) (s : State P S H) → All (IsUp n b.ended) ts → IsResting n b s → Walk n b (IsResting n) (all_woken ts s)
@@ -166,19 +162,19 @@ module _ {P S H : Type 0} (n : ℕ) where
   unfolding pass to_wake looks
   pass_walk b s r =
       let looked = claims_look s.control r.claims in
-      let w = all_woken_walk (to_wake s) b (controlled looks s) (All-filter (is_to_wake s) (IsUp n b.ended) (waiting s.control) (rows_up Waiting b s refl r)) (record { resources = r.resources; closed = r.closed; canceled = r.canceled; made = r.made; living = r.living; claims = looked; awaits = awaits_look s.resources.awaits s.control r.awaits; running = r.running; preferred = r.preferred }) in
+      let w = all_woken_walk (to_wake s) b (controlled looks s) (All-filter (is_to_wake s) (IsUp n b.ended) (waiting s.control) (rows_up Waiting b s refl r)) (record { resources = r.resources; closed = r.closed; made = r.made; living = r.living; claims = looked; awaits = awaits_look (flags b s.resources.awaits) s.control r.awaits; running = r.running; preferred = r.preferred }) in
       record { law = w.law; post = w.post }
 
   -- ---- a dispatch
 
   rest_readies : (ts : List ℕ) (b : Book) (s : State P S H) → All (IsUp n b.ended) ts → IsResting n b s → IsResting n b (controlled (readies_all ts) s)
   unfolding readies_all readies
-  rest_readies [] b s up r = record { resources = r.resources; closed = r.closed; canceled = r.canceled; made = r.made; living = r.living; claims = r.claims; awaits = r.awaits; running = r.running; preferred = r.preferred }
+  rest_readies [] b s up r = record { resources = r.resources; closed = r.closed; made = r.made; living = r.living; claims = r.claims; awaits = r.awaits; running = r.running; preferred = r.preferred }
   rest_readies (t ∷ ts) b s up r =
       let a = controlled (readies t) s in
       let k = rest_ready t (new_rank s.control) s.control.scheduler.favour_new b s (All-head (IsUp n b.ended) t ts up) r in
-      let x = rest_readies ts b a (All-tail (IsUp n b.ended) t ts up) (record { resources = k.resources; closed = k.closed; canceled = k.canceled; made = k.made; living = k.living; claims = k.claims; awaits = k.awaits; running = k.running; preferred = k.preferred }) in
-      record { resources = x.resources; closed = x.closed; canceled = x.canceled; made = x.made; living = x.living; claims = x.claims; awaits = x.awaits; running = x.running; preferred = x.preferred }
+      let x = rest_readies ts b a (All-tail (IsUp n b.ended) t ts up) (record { resources = k.resources; closed = k.closed; made = k.made; living = k.living; claims = k.claims; awaits = k.awaits; running = k.running; preferred = k.preferred }) in
+      record { resources = x.resources; closed = x.closed; made = x.made; living = x.living; claims = x.claims; awaits = x.awaits; running = x.running; preferred = x.preferred }
 
   dispatch_walk : (x : Turn) (t : ℕ) (b : Book) (s : State P S H) → x.gave ≡ None → IsUp n b.ended t → IsResting n b s → PartWalk n b (takes_by x (Some t) s)
   unfolding dispatches runs sets leaves_queue told
@@ -194,10 +190,9 @@ module _ {P S H : Type 0} (n : ℕ) where
         post = λ on. record {
           resources = r.resources;
           closed = refl;
-          canceled = r.canceled;
           living = living_sets n b.ended t (change.Dispatches count) c (λ e h. dispatch_safe count e) lc;
           claims = claims_set t (change.Dispatches count) c (λ e h. dispatch_safe count e) (claims_set t (change.State state.Running) a (state_safe state.Running refl (k.threads.known t) alive) (claims_leave t k r.claims));
-          awaits = awaits_set s.resources.awaits t (change.Dispatches count) c (λ e h. dispatch_safe count e) (awaits_set s.resources.awaits t (change.State state.Running) a (state_safe state.Running refl (k.threads.known t) alive) (awaits_leave s.resources.awaits t k r.awaits));
+          awaits = awaits_set (flags b s.resources.awaits) t (change.Dispatches count) c (λ e h. dispatch_safe count e) (awaits_set (flags b s.resources.awaits) t (change.State state.Running) a (state_safe state.Running refl (k.threads.known t) alive) (awaits_leave (flags b s.resources.awaits) t k r.awaits));
           runs = λ u h. subst (λ (v : ℕ). (or_nobody (put (put k.threads.known t (option_map (changed (change.State state.Running)) (k.threads.known t))) t (option_map (changed (change.Dispatches count)) (put k.threads.known t (option_map (changed (change.State state.Running)) (k.threads.known t)) t)) v)).state ≡ state.Running) (some_number t u h) (running_now t count k.threads.known alive);
           gave = λ u g. absurd (none_some u (sym none ∙ g));
           preferred = λ u h. absurd (none_some u h);
@@ -226,20 +221,20 @@ module _ {P S H : Type 0} (n : ℕ) where
   moved_walk x (Some m) b s none r =
       let a = controlled (moves_to m) s in
       let c = after b (mark.Moved m) in
-      let w = pass_walk c a (record { resources = r.resources; closed = refl; canceled = r.canceled; made = r.made; living = r.living; claims = r.claims; awaits = r.awaits; running = r.running; preferred = r.preferred }) in
+      let w = pass_walk c a (record { resources = r.resources; closed = refl; made = r.made; living = r.living; claims = r.claims; awaits = r.awaits; running = r.running; preferred = r.preferred }) in
       record { law = ((λ locked. (((tt, tt), tt), tt)), w.law); post = λ on. rest_settles (book_of c (pass a).marks) (pass a).state x none w.post }
 
   -- ---- a turn is closed
 
   -- what becomes of who gave up control
-  pub record IsPlaced (ended awaits : ℕ → Bool) (k j : Control P S H) : Type 0 where
+  pub record IsPlaced (ended : ℕ → Bool) (awaits : Flags) (k j : Control P S H) : Type 0 where
     pub made : j.threads.made ≡ k.threads.made
     pub living : Living n ended j
     pub claims : HasClaims j
     pub fits : HasAwaits awaits j
     pub scheduler : j.scheduler ≡ k.scheduler
 
-  put_at : (t : ℕ) (at : ThreadState) (q : Queue) (ended awaits : ℕ → Bool) (k : Control P S H) → is_dead at ≡ false → is_queue q Dead ≡ false → lives (k.threads.known t) ≡ true → Living n ended k → HasClaims k → HasAwaits awaits k → IsPlaced ended awaits k (enters t q (prio_of k t) false (sets t (change.State at) k))
+  put_at : (t : ℕ) (at : ThreadState) (q : Queue) (ended : ℕ → Bool) (awaits : Flags) (k : Control P S H) → is_dead at ≡ false → is_queue q Dead ≡ false → lives (k.threads.known t) ≡ true → Living n ended k → HasClaims k → HasAwaits awaits k → IsPlaced ended awaits k (enters t q (prio_of k t) false (sets t (change.State at) k))
   unfolding sets enters
   put_at t at q ended awaits k up living alive l claims fits =
       let safe = state_safe at up (k.threads.known t) alive in
@@ -253,7 +248,7 @@ module _ {P S H : Type 0} (n : ℕ) where
         scheduler = refl;
       }
 
-  put_back : (t : ℕ) (o : Option ℕ) (d : Option Blocked) (ended awaits : ℕ → Bool) (k : Control P S H) → ((u : ℕ) → o ≡ Some u → lives (k.threads.known t) ≡ true) → Living n ended k → HasClaims k → HasAwaits awaits k → IsPlaced ended awaits k (placed_by t o d k)
+  put_back : (t : ℕ) (o : Option ℕ) (d : Option Blocked) (ended : ℕ → Bool) (awaits : Flags) (k : Control P S H) → ((u : ℕ) → o ≡ Some u → lives (k.threads.known t) ≡ true) → Living n ended k → HasClaims k → HasAwaits awaits k → IsPlaced ended awaits k (placed_by t o d k)
   unfolding is_put_back is_put_waiting
   put_back t None d ended awaits k alive l claims fits = record { made = refl; living = l; claims = claims; fits = fits; scheduler = refl }
   put_back t (Some u) (Some d) ended awaits k alive l claims fits = put_at t state.Waiting Waiting ended awaits k refl refl (alive u refl) l claims fits
@@ -264,11 +259,10 @@ module _ {P S H : Type 0} (n : ℕ) where
   turn_rests x t b s gave made z =
       let k = raises_ready s.control in
       let own : (u : ℕ) → s.control.scheduler.running ≡ Some u → lives (s.control.threads.known t) ≡ true = λ u h. runs_alive (s.control.threads.known t) (z.runs t (by_gave u h (z.gave t gave))) in
-      let p = put_back t s.control.scheduler.running (blocked_of s.control t) b.ended s.resources.awaits k own z.living z.claims z.awaits in
+      let p = put_back t s.control.scheduler.running (blocked_of s.control t) b.ended (flags b s.resources.awaits) k own z.living z.claims z.awaits in
       record {
         resources = z.resources;
         closed = z.closed;
-        canceled = z.canceled;
         made = p.made ∙ made;
         living = p.living;
         claims = p.claims;
@@ -300,7 +294,7 @@ module _ {P S H : Type 0} (n : ℕ) where
   claims_owed t (next.Ended v) k claims = claims
   claims_owed t next.Killed k claims = claims
 
-  awaits_owed : (w : ℕ → Bool) (t : ℕ) (o : Next) (k : Control P S H) → HasAwaits w k → HasAwaits w (owes_after t o k)
+  awaits_owed : (w : Flags) (t : ℕ) (o : Next) (k : Control P S H) → HasAwaits w k → HasAwaits w (owes_after t o k)
   awaits_owed w t (next.Done a) k has = awaits_go w t (owing a) k (λ p. refl) has
   awaits_owed w t (next.Yields a) k has = awaits_go w t (owing a) k (λ p. refl) has
   awaits_owed w t next.Waits k has = has
@@ -312,10 +306,9 @@ module _ {P S H : Type 0} (n : ℕ) where
   owed_settles t (next.Done a) c u y none h on = record {
     resources = h.resources;
     closed = h.closed;
-    canceled = h.calm;
     living = h.living;
     claims = claims_owed t (next.Done a) u.control h.claims;
-    awaits = awaits_owed u.resources.awaits t (next.Done a) u.control h.awaits;
+    awaits = awaits_owed (flags c u.resources.awaits) t (next.Done a) u.control h.awaits;
     runs = λ v run. subst (λ (i : ℕ). (or_nobody (u.control.threads.known i)).state ≡ state.Running) (some_number t v (sym h.left.0 ∙ run)) h.left.1;
     gave = λ v g. absurd (none_some v (sym none ∙ g));
     preferred = λ v named. absurd (none_some v (sym h.left.2 ∙ named));
@@ -324,10 +317,9 @@ module _ {P S H : Type 0} (n : ℕ) where
   owed_settles t (next.Yields a) c u y none h on = record {
     resources = h.resources;
     closed = h.closed;
-    canceled = h.calm;
     living = h.living;
     claims = claims_owed t (next.Yields a) u.control h.claims;
-    awaits = awaits_owed u.resources.awaits t (next.Yields a) u.control h.awaits;
+    awaits = awaits_owed (flags c u.resources.awaits) t (next.Yields a) u.control h.awaits;
     runs = λ v run. subst (λ (i : ℕ). (or_nobody (u.control.threads.known i)).state ≡ state.Running) (some_number t v (sym h.left.0 ∙ run)) h.left.1;
     gave = λ v g. inl (h.left.0 ∙ g);
     preferred = h.left.2;
@@ -336,10 +328,9 @@ module _ {P S H : Type 0} (n : ℕ) where
   owed_settles t next.Waits c u y none h on = record {
     resources = h.resources;
     closed = h.closed;
-    canceled = h.calm;
     living = h.living;
     claims = claims_owed t next.Waits u.control h.claims;
-    awaits = awaits_owed u.resources.awaits t next.Waits u.control h.awaits;
+    awaits = awaits_owed (flags c u.resources.awaits) t next.Waits u.control h.awaits;
     runs = λ v run. subst (λ (i : ℕ). (or_nobody (u.control.threads.known i)).state ≡ state.Running) (some_number t v (sym h.left.0 ∙ run)) h.left.1;
     gave = λ v g. inl (h.left.0 ∙ g);
     preferred = λ v named. absurd (none_some v (sym h.left.2 ∙ named));
@@ -348,10 +339,9 @@ module _ {P S H : Type 0} (n : ℕ) where
   owed_settles t (next.Ended value) c u y none h on = record {
     resources = h.resources;
     closed = h.closed;
-    canceled = h.calm;
     living = h.living;
     claims = claims_owed t (next.Ended value) u.control h.claims;
-    awaits = awaits_owed u.resources.awaits t (next.Ended value) u.control h.awaits;
+    awaits = awaits_owed (flags c u.resources.awaits) t (next.Ended value) u.control h.awaits;
     runs = λ v run. absurd (none_some v (sym h.left.0 ∙ run));
     gave = λ v g. inr (h.left.0, subst (λ (i : ℕ). c.ended i ≡ true) (some_number t v g) h.gone);
     preferred = λ v named. absurd (none_some v (sym h.left.1 ∙ named));
@@ -365,7 +355,7 @@ module _ {P S H : Type 0} (n : ℕ) where
       let alive = runs_alive (s.control.threads.known t) (z.runs t running) in
       let there : is_made n t ≡ true = ap (λ m. is_made m t) (sym made) ∙ living-made n b.ended s.control.threads.made s.control.threads.known s.control.threads.standing z.living t alive in
       let going : Going n b.ended t s.control = record { living = z.living; runs = z.runs t running; running = running; preferred = z.unnamed t running none } in
-      let w = step_walk f n t there b s made z.closed (record { resources = z.resources; calm = z.canceled; going = going; claims = z.claims; fits = z.awaits }) in
+      let w = step_walk f n t there b s made z.closed (record { resources = z.resources; going = going; claims = z.claims; fits = z.awaits }) in
       record { law = w.law; post = λ on. owed_settles t (steps_on f t s).next (book_of b (steps_on f t s).told.marks) (steps_on f t s).told.state (record x { steps = x.steps + 1 }) none w.post on }
 
   -- ---- any part
@@ -374,7 +364,6 @@ module _ {P S H : Type 0} (n : ℕ) where
   settled_rests x b s rests made z = record {
     resources = z.resources;
     closed = z.closed;
-    canceled = z.canceled;
     made = made;
     living = z.living;
     claims = z.claims;

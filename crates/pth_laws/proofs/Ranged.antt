@@ -6,6 +6,8 @@ use Rattle.pth_base.specs.declared.attr.AttrValue.{AttrValue}
 use Rattle.pth_base.specs.declared.attr.AttrValue.TheVariants as value
 use Rattle.pth_base.specs.declared.errno.Errno.TheVariants.{ESRCH}
 use Rattle.pth_base.proofs.Tables.{put_by}
+use Rattle.pth_cond.specs.Conditions.{seat_entered}
+use Rattle.pth_model.specs.Conditions.{seat_of}
 use Rattle.pth_cond.specs.Barriers.{barrier_reached}
 use Rattle.pth_numbered.specs.Operands.{number, named, is_zero}
 use Rattle.pth_threads.specs.Attributes.{IsSetPrio, first_values, with_value, is_in_range, values_of, values_answer}
@@ -19,8 +21,8 @@ use Rattle.pth_threads.specs.declared.entry.NewThread.{NewThread}
 use Rattle.pth_model.specs.declared.progress.Progress.{Progress}
 use Rattle.pth_model.specs.State.{State, Control, Given, start, main, main_entry}
 use Rattle.pth_model.specs.Transition.{controlled}
-use Rattle.pth_model.specs.Changes.{sets, goes_on, is_blocked_by, makes, forgets, adds_object, puts_object, with_barriers, blocked_of, or_nobody, entry_of}
-use Rattle.pth_model.specs.RingWaits.{claims, gives_back, ring_given, ring_held, stops_waiting}
+use Rattle.pth_model.specs.Changes.{sets, goes_on, is_blocked_by, makes, forgets, adds_object, puts_object, with_conditions, with_barriers, blocked_of, or_nobody, entry_of}
+use Rattle.pth_model.specs.RingWaits.{claims, extra_ring, gives_back, ring_given, ring_held, stops_waiting}
 use Rattle.pth_model.specs.ThreadControl.{values_for, or_first, child_of}
 use Rattle.pth_model.specs.LibraryControl.{vanish_all_but, only_at}
 use Rattle.pth_model.specs.Pass.{looks}
@@ -143,7 +145,7 @@ module _ {P S H : Type 0} where
   ranged_kept f = record {
     handlers = record {
       shared = λ h s r. r;
-      seated = λ x s r. r;
+      seated = λ x s fewer r. r;
       told = λ m s may r. r;
     };
     placed = λ standing entries raises s r. r;
@@ -165,8 +167,10 @@ module _ {P S H : Type 0} where
     reached = λ t b round s free alive there waits r. ranged_goes t _ (controlled (with_barriers (barrier_reached b t)) s) r;
     goes = λ t g s same r. ranged_goes t g s r;
     blocked = λ t c a s free other none may r. ranged_goes t _ (controlled (claims t (ring_given c)) s) (ranged_claimed t (ring_given c) s r);
-    waits_on = λ t a b s at names stays r. ranged_goes t _ s r;
-    stopped = λ t x s fewer others left r. ranged_stopped t (controlled (with_barriers (λ y. x)) s) r;
+    waits_on = λ t a b s at names stays other plain r. ranged_goes t _ s r;
+    stopped = λ t x y s fewer others seats left gone r. ranged_stopped t (controlled (λ k. with_conditions (λ z. y) (with_barriers (λ z. x) k)) s) r;
+    takes_seat = λ t c m e s free alive there may r. ranged_goes t _ (controlled (claims t (extra_ring e)) (controlled (with_conditions (seat_entered c (seat_of t))) s)) (ranged_claimed t (extra_ring e) (controlled (with_conditions (seat_entered c (seat_of t))) s) r);
+    retakes = λ t c m e a o y s fewer gone at r. ranged_goes t _ (controlled (stops_waiting t) (controlled (with_conditions (λ z. y)) s)) (ranged_stopped t (controlled (with_conditions (λ z. y)) s) r);
   }
 
   ranged_start : (f : P → Functions S H) (g : Given P) → Ranged (start f g)

@@ -1,5 +1,5 @@
 -- Who is blocked waits for a mutex or a lock that is there, and holds no lock for which it waits.
-use Rattle.std.proofs.Common.{◌≡◌, ◌≢◌, ℕ, zero, suc, ◌+◌, ◌==◌, ◌&&◌, not, Bool, true, false, if◌then◌else◌, ℤ, pos, Option, Some, None, is_some, is_none, option_map, refl, sym, subst, ◌∙◌, ap}
+use Rattle.std.proofs.Common.{◌≡◌, ◌≢◌, ℕ, zero, suc, ◌+◌, ◌==◌, ◌&&◌, not, Bool, true, false, if◌then◌else◌, ℤ, pos, Option, Some, None, is_some, is_none, option_map, refl, sym, subst, ◌∙◌, ap, inr}
 use Rattle.pth_base.specs.Program.{Functions}
 use Rattle.pth_base.specs.Table.{put}
 use Rattle.pth_base.specs.declared.act.Act.TheVariants as act
@@ -10,6 +10,8 @@ use Rattle.pth_base.specs.declared.call.Call.TheVariants as call
 use Rattle.pth_base.specs.declared.mark.Mark.{Mark}
 use Rattle.pth_base.specs.declared.mark.Mark.TheVariants as mark
 use Rattle.pth_base.proofs.Tables.{put_by, not_same}
+use Rattle.pth_cond.specs.Conditions.{seat_entered}
+use Rattle.pth_model.specs.Conditions.{seat_of}
 use Rattle.pth_cond.specs.Barriers.{barrier_reached}
 use Rattle.pth_lock.specs.Objects.{object_named}
 use Rattle.pth_lock.specs.Mutexes.{Mutex, MutexTable, free_mutex, owner_of, mutex_with, levels_of, has, is_anothers}
@@ -17,6 +19,7 @@ use Rattle.pth_lock.specs.RwLocks.{LockTables, holds, is_one, lock_initialised, 
 use Rattle.pth_threads.specs.declared.entry.Change as change_of_record
 use Rattle.pth_model.specs.declared.awaits.Awaits.{Awaits}
 use Rattle.pth_model.specs.declared.awaits.Awaits.TheVariants as awaits
+use Rattle.pth_model.specs.declared.awaits.Retake.{Retake}
 use Rattle.pth_model.specs.declared.blocked.Blocked.{Blocked}
 use Rattle.pth_model.specs.declared.progress.Progress.{Progress}
 use Rattle.pth_model.specs.declared.verdict.Verdict.TheVariants.{Blocks}
@@ -24,20 +27,21 @@ use Rattle.pth_model.specs.Coming.{has_come}
 use Rattle.pth_model.specs.Resources.{Resources, on_one, on_int, on_msg, told, answer_told, act_told, retaken, let_go, of_only}
 use Rattle.pth_model.specs.State.{State, Given, start, main}
 use Rattle.pth_model.specs.Transition.{controlled, tells}
-use Rattle.pth_model.specs.Changes.{sets, goes_on, blocking, is_blocked_by, makes, forgets, with_barriers, blocked_in, blocked_of}
+use Rattle.pth_model.specs.Changes.{sets, goes_on, blocking, is_blocked_by, makes, forgets, with_conditions, with_barriers, blocked_in, blocked_of}
 use Rattle.pth_model.specs.Verdict.{says, ◌when◌otherwise◌}
-use Rattle.pth_model.specs.RingWaits.{claims, gives_back, ring_given, ring_held, stops_waiting}
+use Rattle.pth_model.specs.RingWaits.{claims, extra_ring, gives_back, ring_given, ring_held, stops_waiting}
 use Rattle.pth_model.specs.Mutexes.{mutex}
 use Rattle.pth_model.specs.Rows.{row_of}
 use Rattle.pth_model.specs.Rwlocks.{is_lock, lets_in}
 use Rattle.pth_model.specs.ThreadControl.{values_for, or_first}
 use Rattle.pth_model.specs.LibraryControl.{vanish_all_but}
 use Rattle.pth_model.specs.Pass.{looks}
+use Rattle.pth_model.specs.Calls.{blocks}
 use Rattle.pth_model.specs.Run.{run}
 use Rattle.pth_laws.specs.Waits.{WaitsRightly, Names, AllWaitRightly, AsksNoMore, AllAskNoMore}
 use Rattle.pth_laws.proofs.Living.{true_false}
 use Rattle.pth_laws.proofs.Held.{neither, both_not, out_released, out_left, out_only}
-use Rattle.pth_laws.proofs.Allowed.{IsToTell}
+use Rattle.pth_laws.proofs.Allowed.{IsToTell, MayWait}
 use Rattle.pth_laws.proofs.Along.{KeptAlong, run_keeps}
 
 -- what is initialised stays so, and who is out of a lock stays out: thread u, from tables x and y to tables z and w
@@ -184,6 +188,7 @@ module _ (u : ℕ) (k : Resources) where
 rightly_stays : (u : ℕ) (k j : Resources) (c : Call) → Stays u k j → WaitsRightly k u c → WaitsRightly j u c
 rightly_stays u k j (call.MutexAcquire m v e) stays h = stays.mutexes (object_named m) h
 rightly_stays u k j (call.RwAcquire l write v e) stays h = (stays.locks (object_named l) h.0, stays.out (object_named l) h.1)
+rightly_stays u k j (call.CondAwait c m e) stays h = stays.mutexes (object_named m) h
 rightly_stays u k j c stays h = tt
 
 abbrev Rightly : Resources → ℕ → Option Blocked → Type 0
@@ -277,11 +282,25 @@ module _ {P S H : Type 0} where
   blocked_at : (s : State P S H) (t : ℕ) (o : Option Blocked) → blocked_of s.control t ≡ o → AreRightly s → Rightly s.resources t o
   blocked_at s t o at r = subst (Rightly s.resources t) at (r t)
 
+  -- t takes a seat at a condition, and waits there
+  rightly_takes : (t : ℕ) (c m e : ℤ) (s : State P S H) → MayWait t (call.CondAwait c m e) (awaits.Notice c) s → AreRightly s → AreRightly (controlled (λ k. blocks t (call.CondAwait c m e) (awaits.Notice c) (claims t (extra_ring e) (with_conditions (seat_entered c (seat_of t)) k))) s)
+  rightly_takes t c m e s may r =
+      let u = controlled (with_conditions (seat_entered c (seat_of t))) s in
+      let d : Blocked = record { call = call.CondAwait c m e; awaits = awaits.Notice c } in
+      rightly_goes t (blocking (Some d)) (controlled (claims t (extra_ring e)) u) (λ x at. (may.names, may.rightly)) (rightly_claimed t (extra_ring e) u r)
+
+  -- its wait there is over, and it waits for its mutex
+  rightly_retakes : (t : ℕ) (c m e : ℤ) (a : Awaits) (o : Retake) (s : State P S H) → blocked_of s.control t ≡ Some (record { call = call.CondAwait c m e; awaits = a }) → AreRightly s → AreRightly (controlled (λ k. blocks t (call.CondAwait c m e) (awaits.Retaking m o) (stops_waiting t k)) s)
+  rightly_retakes t c m e a o s at r =
+      let was : Blocked = record { call = call.CondAwait c m e; awaits = a } in
+      let now : Blocked = record { call = call.CondAwait c m e; awaits = awaits.Retaking m o } in
+      rightly_goes t (blocking (Some now)) (controlled (stops_waiting t) s) (λ p here. (inr (o, refl), (blocked_at s t (Some was) at r).1)) (rightly_stopped t s r)
+
   rightly_kept : (f : P → Functions S H) → KeptAlong f AreRightly
   rightly_kept f = record {
     handlers = record {
       shared = λ h s r. r;
-      seated = λ x s r. r;
+      seated = λ x s fewer r. r;
       told = λ m s may r. rightly_told m s may r;
     };
     placed = λ standing entries raises s r. r;
@@ -303,8 +322,10 @@ module _ {P S H : Type 0} where
     reached = λ t b round s free alive there waits r. rightly_goes t (blocking (Some (record { call = call.BarrierReach b; awaits = awaits.Round b round }))) (controlled (with_barriers (barrier_reached b t)) s) (λ p at. (refl, tt)) r;
     goes = λ t g s same r. rightly_goes t g s (λ p at. subst (Rightly s.resources t) (sym (same p)) (blocked_at s t p.blocked (ap blocked_in at) r)) r;
     blocked = λ t c a s free other none may r. rightly_goes t (blocking (Some (record { call = c; awaits = a }))) (controlled (claims t (ring_given c)) s) (λ x at. (may.names, may.rightly)) (rightly_claimed t (ring_given c) s r);
-    waits_on = λ t a b s at names stays r. rightly_goes t (blocking (Some (record b { awaits = a }))) s (λ p here. (names, (blocked_at s t (Some b) at r).1)) r;
-    stopped = λ t x s fewer others left r. rightly_stopped t (controlled (with_barriers (λ y. x)) s) r;
+    waits_on = λ t a b s at names stays other plain r. rightly_goes t (blocking (Some (record b { awaits = a }))) s (λ p here. (names, (blocked_at s t (Some b) at r).1)) r;
+    stopped = λ t x y s fewer others seats left gone r. rightly_stopped t (controlled (λ k. with_conditions (λ z. y) (with_barriers (λ z. x) k)) s) r;
+    takes_seat = λ t c m e s free alive there may r. rightly_takes t c m e s may r;
+    retakes = λ t c m e a o y s fewer gone at r. rightly_retakes t c m e a o (controlled (with_conditions (λ z. y)) s) at r;
   }
 
   rightly_start : (f : P → Functions S H) (g : Given P) → AreRightly (start f g)

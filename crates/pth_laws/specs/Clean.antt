@@ -3,17 +3,23 @@
 use Rattle.std.specs.Prelude.{◌≡◌, ◌<◌, ℕ, ◌==◌, ◌&&◌, Bool, true, false, Option, Some, None, option_map}
 use Rattle.std.specs.List.{list_any}
 use Rattle.pth_numbered.specs.Operands.{number}
+use Rattle.pth_base.specs.declared.ids.EventId.{EventId}
+use Rattle.pth_cond.specs.declared.seats.Seat.{Seat}
+use Rattle.pth_cond.specs.declared.seats.Seat.TheVariants.{Await, Event}
+use Rattle.pth_cond.specs.Seats.{is_at}
+use Rattle.pth_cond.specs.Conditions.{Condition, ConditionTable}
 use Rattle.pth_cond.specs.Barriers.{Arrived, Barrier, BarrierTable}
 use Rattle.pth_lock.specs.Objects.{object_limit, object_named}
 use Rattle.pth_lock.specs.Mutexes.{has}
 use Rattle.pth_lock.specs.RwLocks.{holds}
 use Rattle.pth_model.specs.declared.awaits.Awaits.{Awaits}
-use Rattle.pth_model.specs.declared.awaits.Awaits.TheVariants.{Round}
+use Rattle.pth_model.specs.declared.awaits.Awaits.TheVariants.{Round, Notice}
 use Rattle.pth_model.specs.declared.blocked.Blocked.{Blocked}
 use Rattle.pth_model.specs.Awaits.{awaits_in}
 use Rattle.pth_model.specs.Changes.{blocked_of}
 use Rattle.pth_model.specs.RingWaits.{claimant, ring_held}
 use Rattle.pth_model.specs.State.{State}
+use Rattle.pth_model.specs.Transition.{tid}
 use Rattle.pth_laws.specs.Valid.{Lives}
 
 -- the event that a call was given to wait for
@@ -40,6 +46,22 @@ round_awaited a = None
 abbrev pub round_held : Option Blocked → Option (ℕ × ℕ)
 round_held o = round_awaited (awaits_in o)
 
+-- somebody has this seat at a condition
+abbrev pub has_seat_here : Seat → Condition → Bool
+has_seat_here s None = false
+has_seat_here s (Some ts) = list_any (is_at s) ts
+
+abbrev pub has_seat : ConditionTable → (c : ℕ) → Seat → Bool
+has_seat x c s = has_seat_here s (x c)
+
+-- the condition for whose notice the blocked call waits
+abbrev pub condition_awaited : Awaits → Option ℕ
+condition_awaited (Notice c) = Some (object_named c)
+condition_awaited a = None
+
+abbrev pub condition_held : Option Blocked → Option ℕ
+condition_held o = condition_awaited (awaits_in o)
+
 pub record IsClean {P S H : Type 0} (s : State P S H) : Type 0 where
   -- a claim on a ring is that of a thread that lives, for the event that the call was given which blocks it (pth_wait, pth_read_ev)
   pub claims : (e t : ℕ) → claimant s.control.events e ≡ Some t → Lives s t × (event_held (blocked_of s.control t) ≡ Some e)
@@ -50,3 +72,7 @@ pub record IsClean {P S H : Type 0} (s : State P S H) : Type 0 where
   -- an arrival that waits at a barrier is that of a thread that lives, whose call waits there for the round of this arrival
   -- (pth_barrier_reach)
   pub arrivals : (b round t : ℕ) → has_arrived s.control.barriers b round t ≡ true → Lives s t × (round_held (blocked_of s.control t) ≡ Some (b, round))
+  -- a thread that has a seat at a condition lives, and its call waits for the notice of this condition (pth_cond_await)
+  pub seats : (c t : ℕ) → has_seat s.control.conditions c (Await (tid t)) ≡ true → Lives s t × (condition_held (blocked_of s.control t) ≡ Some c)
+  -- no event has a seat
+  pub event_seats : (c : ℕ) (e : EventId) → has_seat s.control.conditions c (Event e) ≡ false

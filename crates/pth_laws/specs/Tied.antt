@@ -6,6 +6,7 @@ use Rattle.pth_base.specs.declared.mark.Mark.{Mark}
 use Rattle.pth_lock.specs.Mutexes.{has, levels_of}
 use Rattle.pth_lock.specs.RwLocks.{is_one}
 use Rattle.pth_store.specs.Keys.{key_limit}
+use Rattle.pth_model.specs.Awaits.{is_awaiting, is_canceled_in}
 use Rattle.pth_model.specs.State.{State}
 use Rattle.pth_model.specs.Changes.{blocked_of}
 use Rattle.pth_model.specs.Living.{lives, is_made}
@@ -13,15 +14,14 @@ use Rattle.pth_laws.specs.Marks.{at_number, thread_of, is_end_of, is_cancellatio
 use Rattle.pth_laws.specs.Orderly.{pending_handlers, key_at, value_of}
 use Rattle.pth_laws.specs.Exclusive.{awaits, levels, reads, writes, is_holder}
 use Rattle.pth_laws.specs.Valid.{Lives}
-use Rattle.pth_model.specs.Awaits.{is_awaiting}
 
 pub record IsTiedTo {P S H : Type 0} (s : State P S H) (marks : List Mark) : Type 0 where
   -- a thread that was not made has no mark
   pub unmade : (t : ℕ) → is_made s.control.threads.made t ≡ false → All (λ m. thread_of m ≢ Some t) marks
   -- one that was made has an end among the marks exactly if it does not live
   pub ended : (t : ℕ) → is_made s.control.threads.made t ≡ true → list_any (is_end_of t) marks ≡ not (lives (s.control.threads.known t))
-  -- who lives was not canceled
-  pub canceled : (t : ℕ) → Lives s t → list_any (is_cancellation_of t) marks ≡ false
+  -- who lives was canceled exactly if it takes its mutex back for that
+  pub canceled : (t : ℕ) → Lives s t → list_any (is_cancellation_of t) marks ≡ is_canceled_in (blocked_of s.control t)
   -- the marks do not end within a block of a thread
   pub closed : (t : ℕ) → block_at_end t marks ≡ []
   -- the handlers that a thread has pending

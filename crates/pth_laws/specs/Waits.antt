@@ -1,7 +1,7 @@
--- What a thread waits for while a call blocks it: the mutex or the lock that the call named, which is initialised, or a round of the
--- barrier that it named; and who waits to write or to read under a lock does not hold it (pth_mutex_acquire, pth_rwlock_acquire,
--- pth_barrier_reach).
-use Rattle.std.specs.Prelude.{◌≡◌, ℕ, Bool, true, false, Some, is_some, is_none}
+-- What a thread waits for while a call blocks it: the mutex or the lock that the call named, which is initialised, the condition that
+-- it named or the mutex that it takes back then, or a round of the barrier that it named; and who waits to write or to read under a
+-- lock does not hold it (pth_mutex_acquire, pth_rwlock_acquire, pth_cond_await, pth_barrier_reach).
+use Rattle.std.specs.Prelude.{◌≡◌, ◌⊎◌, ℕ, Bool, true, false, Some, is_some, is_none}
 use Rattle.pth_base.specs.Program.{Functions}
 use Rattle.pth_base.specs.declared.call.Call.{Call}
 use Rattle.pth_base.specs.declared.call.Call.TheVariants as call
@@ -9,7 +9,8 @@ use Rattle.pth_lock.specs.Objects.{object_named}
 use Rattle.pth_lock.specs.Mutexes.{owner_of}
 use Rattle.pth_lock.specs.RwLocks.{holds}
 use Rattle.pth_model.specs.declared.awaits.Awaits.{Awaits}
-use Rattle.pth_model.specs.declared.awaits.Awaits.TheVariants.{Mutex, Lock}
+use Rattle.pth_model.specs.declared.awaits.Awaits.TheVariants.{Mutex, Lock, Notice, Retaking}
+use Rattle.pth_model.specs.declared.awaits.Retake.{Retake}
 use Rattle.pth_model.specs.declared.blocked.Blocked.{Blocked}
 use Rattle.pth_model.specs.declared.verdict.Verdict.TheVariants.{Blocks}
 use Rattle.pth_model.specs.Awaits.{IsRound}
@@ -27,12 +28,14 @@ use Rattle.pth_model.specs.Verdict.{says, ◌when◌otherwise◌}
 abbrev pub WaitsRightly : Resources → ℕ → Call → Type 0
 WaitsRightly k t (call.MutexAcquire m v e) = is_some (k.store.mutexes (object_named m)) ≡ true
 WaitsRightly k t (call.RwAcquire l write v e) = (k.store.rw_locks.initialised (object_named l) ≡ true) × (holds k.store.rw_locks t (object_named l) ≡ false)
+WaitsRightly k t (call.CondAwait c m e) = is_some (k.store.mutexes (object_named m)) ≡ true
 WaitsRightly k t c = Unit {0}
 
--- what is awaited is the mutex, or the lock, that the call names, or a round of the barrier
+-- what is awaited is the mutex, or the lock, that the call names, its condition or its mutex, or a round of the barrier
 abbrev pub Names : Call → Awaits → Type 0
 Names (call.MutexAcquire m v e) a = a ≡ Mutex m
 Names (call.RwAcquire l write v e) a = a ≡ Lock l write
+Names (call.CondAwait c m e) a = (a ≡ Notice c) ⊎ ((o : Retake) × (a ≡ Retaking m o))
 Names (call.BarrierReach b) a = IsRound b a
 Names c a = Unit {0}
 
@@ -46,7 +49,8 @@ pub record AsksOnly {P S H : Type 0} (s : State P S H) (t : ℕ) (row : Row P S 
   pub again : (row.again a).verdict ≡ (says 1 when test otherwise Blocks a)
   pub comes : has_come s t a ≡ test
 
--- it is asked of a mutex that nobody has it, of a lock that it lets the thread in, and nothing more
+-- It is asked of a mutex that nobody has it, of a lock that it lets the thread in, and nothing more. Of a pth_cond_await this says
+-- nothing: it is not tried again by its row (`awaits_on`).
 abbrev pub AsksNoMore : {P S H : Type 0} → (P → Functions S H) → State P S H → ℕ → Awaits → Call → Type 0
 AsksNoMore f s t a (call.MutexAcquire m v e) = AsksOnly s t (row_of f s t (call.MutexAcquire m v e)) a (is_none (owner_of (mutex s m)))
 AsksNoMore f s t a (call.RwAcquire l write v e) = AsksOnly s t (row_of f s t (call.RwAcquire l write v e)) a (lets_in s write l)

@@ -32,7 +32,8 @@ pub fn every_run_keeps_holders_apart<P: Program>()
 /// Who is blocked by a `mutex_acquire` or an `rw_acquire` waits for the mutex or the lock that the call named. It is initialised, and
 /// the thread holds no lock for which it waits. This is asked too as such a call is tried again, and as a pass looks whether what is
 /// awaited has come: so in every run no more is asked of the mutex than that nobody has it, and no more of the lock than that it lets
-/// the thread in. Who is blocked by a `barrier_reach` waits for a round of the barrier that the call named.
+/// the thread in. Who is blocked by a `cond_await` waits for the notice of the condition that the call named, or for the mutex, which is
+/// initialised. Who is blocked by a `barrier_reach` waits for a round of the barrier that the call named.
 pub fn every_run_waits_rightly<P: Program>()
     ensures rightly { (g : Given P) (i : ℕ) → AllWaitRightly (run P.functions g i).state }
     ensures rows { (g : Given P) (i : ℕ) → AllAskNoMore P.functions (run P.functions g i).state }

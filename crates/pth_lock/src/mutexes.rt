@@ -1,6 +1,6 @@
 //! Mutexes.
 
-ghost use Rattle.std.specs.Prelude.{◌≡◌, ◌<◌, ◌+◌, ◌-◌, ℕ, length, Some, None, Ok, Err, IfErr, IfOk, IfSome, OnErr, OnOk};
+ghost use Rattle.std.specs.Prelude.{◌≡◌, ◌<◌, ◌+◌, ◌-◌, ℕ, length, Some, None, Ok, Err, IfErr, IfOk, IfSome, OnErr, OnOk, is_ok};
 ghost use Rattle.pth_base.specs.Limits.{thread_limit};
 ghost use Rattle.pth_base.specs.Table.{table};
 ghost use Rattle.pth_lock.specs.Objects.{object_limit, object_named};
@@ -84,6 +84,7 @@ impl Mutexes {
         requires { s.0 < thread_limit }
         ensures answer { result ≡ mutex_take_answer (mutexes_of self.old) s.0 m }
         ensures changes { OnOk result (mutexes_of self.new ≡ mutex_taken s.0 (object_named m) (mutexes_of self.old)) }
+        ensures object { OnOk result (object_named m < object_limit) }
         ensures refused { OnErr result (self.new ≡ self.old) }
     {
         let (place, owner) = find(&self.mutexes, m)?;
@@ -129,6 +130,26 @@ impl Mutexes {
     {
         let (_, owner) = find(&self.mutexes, m)?;
         Ok(owner.map(|o| o.slot))
+    }
+
+    /// Whether a slot can take one level more of a mutex: it is initialised, and free or the slot's own.
+    pub fn may_take(&self, m: i64, s: Slot) -> bool
+        ensures { result ≡ is_ok (mutex_take_answer (mutexes_of self.now) s.0 m) }
+    {
+        match find(&self.mutexes, m) {
+            Ok((_, owner)) => taken(owner, s).is_ok(),
+            Err(_) => false,
+        }
+    }
+
+    /// What a slot would be answered as it gives back one level of a mutex: EINVAL where it is not initialised, EDEADLK where nobody
+    /// has it, EACCES where another has it.
+    pub fn release_answer(&self, m: i64, s: Slot) -> Result<(), Errno>
+        ensures { result ≡ mutex_release_answer (mutexes_of self.now) s.0 m }
+    {
+        let (_, owner) = find(&self.mutexes, m)?;
+        let _ = released(owner, s)?;
+        Ok(())
     }
 
     /// Whether nobody has a mutex. EINVAL where it is not initialised.

@@ -3,6 +3,7 @@ pub mod Orders
 pub mod Queues
 pub mod Runs
 pub mod Told
+pub mod NoRounds
 pub mod Walks
 pub mod Sorted
 pub mod Entries

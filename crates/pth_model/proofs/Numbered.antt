@@ -16,7 +16,7 @@ use Rattle.pth_model.specs.declared.progress.Progress.{Progress}
 use Rattle.pth_model.specs.Standing.{Standing, height, is_queue, raises_of}
 use Rattle.pth_model.specs.State.{State, Control, Turn, Given, start, main_standing, queue}
 use Rattle.pth_model.specs.Transition.{controlled}
-use Rattle.pth_model.specs.Changes.{sets, enters, goes_on, leaves_queue, makes, forgets, removes, queue_for, raises_ready, prio_of, holders, entry_of, or_nobody, blocked_of}
+use Rattle.pth_model.specs.Changes.{sets, enters, goes_on, leaves_queue, makes, forgets, removes, queue_for, raises_ready, prio_of, holders, entry_of, or_nobody, blocked_of, blocking}
 use Rattle.pth_model.specs.ThreadControl.{spawns, suspends, resumes, returns_to}
 use Rattle.pth_model.specs.LibraryControl.{vanish_all_but}
 use Rattle.pth_model.specs.Ending.{leaves, is_dead_with}
@@ -139,7 +139,8 @@ module _ {P S H : Type 0} (Meant : Standing → Type 0) where
         used = λ o s k. k;
         requested = λ u b s apart k. kept_changed u (change.Request b) s k;
       };
-      goes = kept_goes;
+      goes = λ u g s odd k. kept_goes u g s k;
+      blocked = λ b j s odd was k. kept_goes t (blocking (Some b)) s k;
       claimed = λ x s k. k;
       preferred = λ u s runs k. k;
       left = kept_left t;

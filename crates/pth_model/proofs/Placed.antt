@@ -23,7 +23,7 @@ use Rattle.pth_model.specs.declared.progress.Progress.{Progress}
 use Rattle.pth_model.specs.Standing.{Standing}
 use Rattle.pth_model.specs.State.{State, Control, Turn, Given, start, main, main_entry, main_standing, queue}
 use Rattle.pth_model.specs.Transition.{controlled}
-use Rattle.pth_model.specs.Changes.{sets, enters, goes_on, leaves_queue, makes, forgets, removes, prefers, queue_for, raises_ready, runs_now, prio_of, holders, entry_of, or_nobody, blocked_of}
+use Rattle.pth_model.specs.Changes.{sets, enters, goes_on, leaves_queue, makes, forgets, removes, prefers, queue_for, raises_ready, runs_now, prio_of, holders, entry_of, or_nobody, blocked_of, blocking}
 use Rattle.pth_model.specs.ThreadControl.{spawns, suspends, resumes, returns_to}
 use Rattle.pth_model.specs.LibraryControl.{vanish_all_but}
 use Rattle.pth_model.specs.Ending.{leaves, is_dead_with, other_than, stops_running}
@@ -309,7 +309,8 @@ module _ {P S H : Type 0} where
       used = λ o k g. g;
       requested = λ u b k apart g. going_changed t u (change.Request b) k g;
     };
-    goes = going_goes t;
+    goes = λ u g k odd h. going_goes t u g k h;
+    blocked = λ b j k odd was h. going_goes t t (blocking (Some b)) k h;
     claimed = λ x k g. g;
     preferred = λ u k runs g. going_preferred t u k (runs_some (entry_of k u) runs) g;
     left = going_left t;

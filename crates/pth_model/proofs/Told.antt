@@ -1,5 +1,7 @@
 -- Each piece of a run gives the resources what its marks say.
 use Rattle.std.proofs.Common.{◌≡◌, ◌∙◌, ℕ, ℤ, zero, suc, Bool, true, false, List, [], ◌∷◌, ◌++◌, Option, Some, None, refl, ap, sym, ◌+◌, ◌*◌, not, if◌then◌else◌}
+use Rattle.pth_model.specs.declared.awaits.Retake.{Retake}
+use Rattle.pth_model.specs.declared.awaits.Retake.TheVariants as retake
 use Rattle.pth_base.specs.Program.{Functions}
 use Rattle.pth_base.specs.declared.call.Call.{Call}
 use Rattle.pth_base.specs.declared.call.Call.TheVariants as call
@@ -10,7 +12,7 @@ use Rattle.pth_base.specs.declared.mark.Mark.TheVariants as mark
 use Rattle.pth_queue.specs.declared.queue.Queue.TheVariants as queues
 use Rattle.pth_model.specs.declared.blocked.Blocked.{Blocked}
 use Rattle.pth_model.specs.declared.awaits.Awaits.{Awaits}
-use Rattle.pth_model.specs.declared.awaits.Awaits.TheVariants.{Round}
+use Rattle.pth_model.specs.declared.awaits.Awaits.TheVariants.{Round, Notice, Retaking}
 use Rattle.pth_cond.specs.Barriers.{has_passed, round_answer, round_answered, waits_at, withdrawn}
 use Rattle.pth_lock.specs.Objects.{object_named}
 use Rattle.pth_base.specs.declared.answer.Answer.TheVariants.{Int}
@@ -22,8 +24,8 @@ use Rattle.pth_model.specs.LibraryControl.{ctrl}
 use Rattle.pth_model.specs.declared.verdict.Verdict.{Verdict}
 use Rattle.pth_model.specs.declared.verdict.Verdict.TheVariants.{Says, Yields, Blocks, Ends, Kills}
 use Rattle.pth_model.specs.Verdict.{says, by_result}
-use Rattle.pth_model.specs.State.{State, queue, Given, Turn, start}
-use Rattle.pth_model.specs.Transition.{Transition, Piece, Change, Last, silent, changes, tells, tells_each, tid, controlled, where_so, ◌and◌, ◌and_then◌, ◌and_finally◌}
+use Rattle.pth_model.specs.State.{State, queue, Given, Turn, start, Control}
+use Rattle.pth_model.specs.Transition.{Transition, Piece, Change, Last, silent, changes, tells, tells_each, tid, controlled, where_so, ◌and◌, ◌and_then◌, ◌and_finally◌, nothing}
 use Rattle.pth_model.specs.Changes.{shares, uses, sets, removes, entry_of, or_nobody, blocked_of, with_barriers, with_events}
 use Rattle.pth_model.specs.Living.{is_dead}
 use Rattle.pth_model.specs.ThreadControl.{thread}
@@ -35,7 +37,7 @@ use Rattle.pth_model.specs.Mutexes.{mutex_release}
 use Rattle.pth_model.specs.Ending.{ending, undoes_wait, dies, runs_each, runs_cleanups, runs_destructor, runs_destructors, destructs, destructs_by, next_destructor, round_limit, first_round, gives_mutexes, gives_locks, gives_all}
 use Rattle.pth_model.specs.declared.destructors.Due.{Due}
 use Rattle.pth_model.specs.declared.destructors.Round.{Round as DestructorRound}
-use Rattle.pth_model.specs.Conditions.{cond_notify}
+use Rattle.pth_model.specs.Conditions.{cond_notify, can_take, is_noticed, leaves_seat, hands_on_seat}
 use Rattle.pth_model.specs.Acts.{acts, acts_by, acts_from, act_limit, answer_in, handled, goes_on_after, runs_handler}
 use Rattle.pth_model.specs.KeyStorage.{key_set}
 use Rattle.pth_model.specs.Cleanups.{runs_pushed, last_pushed}
@@ -45,8 +47,8 @@ use Rattle.pth_base.specs.declared.act.Act.TheVariants as act
 use Rattle.pth_base.specs.declared.ids.HandlerId.{HandlerId}
 use Rattle.pth_store.specs.Cleanups.{PushedHandler}
 use Rattle.pth_store.specs.Keys.{key_limit}
-use Rattle.pth_model.specs.Calls.{begun, begun_by, gone_on, gone_on_where, canceled_by, tried_again, tried_again_by, tried_by, unless_settled, interrupted}
-use Rattle.pth_model.specs.RingWaits.{ring_given, has_settled, stops_waiting}
+use Rattle.pth_model.specs.Calls.{begun, begun_by, gone_on, gone_on_where, canceled_by, tried_again, tried_again_by, tried_by, unless_settled, interrupted, retaken_as, retakes_where, ends_await, awaits_on_where, awaits_on, gone_on_in, gone_on_by, retakes}
+use Rattle.pth_model.specs.RingWaits.{ring_given, has_settled, stops_waiting, extra_ring}
 use Rattle.pth_model.specs.EventHandling.{spec_of, made_as, make_event, chain}
 use Rattle.pth_base.specs.declared.event.EvLine.{EvLine}
 use Rattle.pth_numbered.specs.Operands.{number, is_zero}
@@ -141,7 +143,7 @@ module _ {P S H : Type 0} (f : P → Functions S H) where
     withdraws_told a s = refl
 
     undone_told : IsTold {P = P} {S = S} {H = H} (undoes_wait t)
-    undone_told s = then_told (withdraws_from t (awaits_in (blocked_of s.control t))) (changes (stops_waiting t)) (withdraws_told (awaits_in (blocked_of s.control t))) (λ u. refl) s
+    undone_told s = then_told (withdraws_from t (awaits_in (blocked_of s.control t))) (changes (hands_on_seat t (awaits_in (blocked_of s.control t)) and stops_waiting t)) (withdraws_told (awaits_in (blocked_of s.control t))) (λ u. refl) s
 
     marks_told : (ms : List Mark) → IsTold {P = P} {S = S} {H = H} (tells_each ms)
     unfolding tells_each
@@ -305,9 +307,39 @@ module _ {P S H : Type 0} (f : P → Functions S H) where
     where_told true s = canceled_told (blocked_of s.control t) s
     where_told false s = tried_again_by_told s (blocked_of s.control t)
 
+    retaken_told : (c : Call) (m : ℤ) (o : Retake) → LastTold (retaken_as f t c m o)
+    retaken_told c m retake.Notified s = refl
+    retaken_told c m retake.Interrupted s = refl
+    retaken_told c m retake.Canceled s = then_told (tells (mark.Took (tid t) (object_named m))) (ending f t canceled_value) (λ u. refl) (ending_told t canceled_value) s
+
+    retakes_told : (b : Bool) (c : Call) (m : ℤ) (o : Retake) → LastTold (retakes_where f t b c m o)
+    retakes_told true c m o s = retaken_told c m o s
+    retakes_told false c m o s = refl
+
+    await_ends_told : (g : Control P S H → Control P S H) (c : Call) (m : ℤ) (o : Retake) → LastTold (ends_await f t g c m o)
+    await_ends_told g c m o s = finally_told (changes (g and stops_waiting t)) (retakes f t c m o) (λ u. refl) (λ u. retakes_told (can_take u t m) c m o u) s
+
+    awaits_where_told : (asked noticed settled : Bool) (k : Call) (c m : ℤ) → LastTold (awaits_on_where f t asked noticed settled k c m)
+    awaits_where_told true noticed settled k c m s = finally_told (takes_request t k) (ends_await f t (hands_on_seat t (Notice c)) k m retake.Canceled) (takes_told k) (await_ends_told (hands_on_seat t (Notice c)) k m retake.Canceled) s
+    awaits_where_told false true settled k c m s = await_ends_told (leaves_seat t (Notice c)) k m retake.Notified s
+    awaits_where_told false false true k c m s = await_ends_told (leaves_seat t (Notice c)) k m retake.Interrupted s
+    awaits_where_told false false false k c m s = refl
+
+    awaits_on_told : (c m e : ℤ) (a : Awaits) → LastTold (awaits_on f t c m e a)
+    awaits_on_told c m e (Retaking n o) s = await_ends_told nothing (call.CondAwait c m e) m o s
+    awaits_on_told c m e a s = awaits_where_told (may_be_canceled s.control t) (is_noticed s t c) (has_settled s.control.events (extra_ring e)) (call.CondAwait c m e) c m s
+
+    gone_on_in_told : (c : Call) (a : Awaits) → LastTold (gone_on_in f t c a)
+    gone_on_in_told (call.CondAwait c m e) a s = awaits_on_told c m e a s
+    gone_on_in_told c a s = where_told (may_be_canceled s.control t) s
+
+    gone_on_by_told : (b : Option Blocked) → LastTold (gone_on_by f t b)
+    gone_on_by_told None s = refl
+    gone_on_by_told (Some b) s = gone_on_in_told b.call b.awaits s
+
     gone_on_told : LastTold (gone_on f t)
     unfolding gone_on
-    gone_on_told s = where_told (may_be_canceled s.control t) s
+    gone_on_told s = gone_on_by_told (blocked_of s.control t) s
 
     steps_by_told : (b : Option Blocked) (p : Option (Progress S)) → LastTold (steps_by f t b p)
     steps_by_told (Some b) p s = gone_on_told s

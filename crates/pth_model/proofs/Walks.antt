@@ -1,5 +1,9 @@
 -- What calls keep of the control, by the changes of which they are made.
-use Rattle.std.proofs.Common.{◌≡◌, ◌≢◌, ◌==◌, ◌&&◌, ◌||◌, not, ℕ, ℤ, pos, negsuc, Bool, true, false, if◌then◌else◌, Option, Some, None, is_some, option_map, length, refl, sym, subst, ap, ◌∙◌, zero, suc, ◌+◌, ◌*◌, List, [], ◌∷◌}
+use Rattle.std.proofs.Common.{◌≡◌, ◌≢◌, ◌==◌, ◌&&◌, ◌||◌, not, ℕ, ℤ, pos, negsuc, Bool, true, false, if◌then◌else◌, Option, Some, None, is_some, option_map, length, refl, sym, subst, ap, ◌∙◌, zero, suc, ◌+◌, ◌*◌, List, [], ◌∷◌, ◌⊎◌, inl, inr}
+use Rattle.pth_model.proofs.NoRounds.{again_plainly, begins_plainly}
+use Rattle.pth_model.specs.Conditions.{can_take, is_noticed, leaves_seat, hands_on_seat}
+use Rattle.pth_model.specs.declared.awaits.Retake.{Retake}
+use Rattle.pth_model.specs.declared.awaits.Retake.TheVariants as retake
 use Rattle.std.proofs.lemmas.Bool.{not-false}
 use Rattle.pth_base.specs.Program.{Functions}
 use Rattle.pth_base.specs.declared.call.Call.{Call}
@@ -19,7 +23,7 @@ use Rattle.pth_threads.specs.declared.entry.Entry.{Entry}
 use Rattle.pth_threads.specs.declared.entry.NewThread.{NewThread}
 use Rattle.pth_model.specs.declared.blocked.Blocked.{Blocked}
 use Rattle.pth_model.specs.declared.awaits.Awaits.{Awaits}
-use Rattle.pth_model.specs.declared.awaits.Awaits.TheVariants.{Reading, Writing, Connection, Round}
+use Rattle.pth_model.specs.declared.awaits.Awaits.TheVariants.{Reading, Writing, Connection, Round, Notice, Retaking}
 use Rattle.pth_model.specs.Io.{trial_for}
 use Rattle.pth_model.specs.declared.progress.Progress.{Progress}
 use Rattle.pth_model.specs.declared.next.Next.{Next}
@@ -29,9 +33,9 @@ use Rattle.pth_model.specs.declared.verdict.Verdict.{Verdict}
 use Rattle.pth_model.specs.declared.verdict.Verdict.TheVariants.{Says, Yields, Blocks, Ends, Kills}
 use Rattle.pth_model.specs.Verdict.{refused, says, by_result, ◌when◌otherwise◌}
 use Rattle.pth_model.specs.State.{State, Control, Turn, main}
-use Rattle.pth_model.specs.Transition.{Piece, Change as change_of_control, silent, nothing, changes, tells, tells_each, controlled, where_so, tid, ◌and_then◌}
+use Rattle.pth_model.specs.Transition.{Piece, Change as change_of_control, silent, nothing, changes, tells, tells_each, controlled, where_so, tid, ◌and_then◌, ◌and◌}
 use Rattle.pth_model.specs.Changes.{shares, uses, goes_on, blocking, is_blocked_by, blocked_of, entry_of, or_nobody, owing, prefers, removes, favours_new, sets, adds_object, puts_object, with_barriers, with_events, with_kernel}
-use Rattle.pth_model.specs.RingWaits.{claimant, claimant_by, claims, gives_back, stops_waiting, ring_given, ring_held, has_settled}
+use Rattle.pth_model.specs.RingWaits.{claimant, claimant_by, claims, gives_back, stops_waiting, ring_given, ring_held, has_settled, extra_ring}
 use Rattle.pth_model.specs.EventHandling.{spec_of, made_as, make_event, chain}
 use Rattle.pth_base.specs.declared.event.EventSpec.{EventSpec}
 use Rattle.pth_base.specs.declared.event.EvLine.{EvLine}
@@ -46,7 +50,7 @@ use Rattle.pth_base.specs.declared.event.EvLine.TheVariants as line
 use Rattle.pth_cond.specs.Conditions.{ConditionTable}
 use Rattle.pth_cond.specs.Barriers.{BarrierTable, has_passed, round_answer, round_answered, waits_at, withdrawn}
 use Rattle.pth_lock.specs.Objects.{object_named}
-use Rattle.pth_model.specs.Awaits.{awaits_in, round_in}
+use Rattle.pth_model.specs.Awaits.{awaits_in, round_in, is_await, is_canceled, is_retaking}
 use Rattle.pth_model.specs.Barriers.{tries_round, withdraws, withdraws_from}
 use Rattle.pth_model.specs.Living.{is_dead}
 use Rattle.pth_model.specs.Row.{unless_refused, refuses, effect_of, ◌trying◌}
@@ -65,7 +69,7 @@ use Rattle.pth_base.specs.declared.ids.HandlerId.{HandlerId}
 use Rattle.pth_store.specs.Cleanups.{PushedHandler}
 use Rattle.pth_store.specs.Keys.{key_limit}
 use Rattle.pth_model.specs.Rows.{row_of}
-use Rattle.pth_model.specs.Calls.{begun, begun_by, gone_on, gone_on_where, canceled_by, tried_again, tried_again_by, tried_by, unless_settled, interrupted}
+use Rattle.pth_model.specs.Calls.{begun, begun_by, gone_on, gone_on_where, canceled_by, tried_again, tried_again_by, tried_by, unless_settled, interrupted, retaken_as, retakes_where, ends_await, awaits_on_where, awaits_on, gone_on_in, gone_on_by}
 use Rattle.pth_model.specs.Cancellation.{canceled_value, is_asynchronous, is_to_cancel, may_be_canceled, takes_request, canceled_by_other, aborted}
 use Rattle.pth_base.specs.declared.mark.Mark.{Mark}
 use Rattle.pth_base.specs.declared.mark.Mark.TheVariants as mark
@@ -210,6 +214,18 @@ freed_unclaimed : (all : Bool) (e : ℕ) (x : Events) → AddsNoClaim x ((if all
 freed_unclaimed true e x i u = each_unclaimed (x.rings e) x i u
 freed_unclaimed false e x i u = put_by (λ o. claimant_by o ≡ Some u → claimant x i ≡ Some u) x.events e None i (λ here h. absurd (no_claim u h)) (λ other h. h)
 
+-- a mutex is taken back by another call than a pth_cond_await, or by one whose thread was canceled
+abbrev pub retakes_oddly : Option Blocked → Bool
+retakes_oddly None = false
+retakes_oddly (Some b) = is_retaking b.awaits && (not (is_await b.call) || is_canceled b.awaits)
+
+plain_even : (c : Call) (a : Awaits) → is_retaking a ≡ false → retakes_oddly (Some (record { call = c; awaits = a })) ≡ true → ⊥
+plain_even c a plain odd = absurd (cc (sym (ap (λ (b : Bool). b && (not (is_await c) || is_canceled a)) plain) ∙ odd))
+
+-- t may be canceled in the call that blocks it, or takes its mutex back so
+abbrev pub IsToEnd : {P S H : Type 0} → ℕ → Control P S H → Type 0
+IsToEnd t k = (may_be_canceled k t ≡ true) ⊎ (retakes_oddly (blocked_of k t) ≡ true)
+
 -- what of a control is kept by what handlers change: the program's shared value, and the seats of conditions
 pub record KeptByHandlers {P S H : Type 0} (Q : Control P S H → Type 0) : Type 0 where
   pub shares : (h : H) (k : Control P S H) → Q k → Q (record k { shared = h })
@@ -238,7 +254,9 @@ pub record KeptByCalls {P S H : Type 0} (f : P → Functions S H) (t : ℕ) (Q :
 -- and by all that they change
 pub record KeptBy {P S H : Type 0} (f : P → Functions S H) (t : ℕ) (Q : Control P S H → Type 0) : Type 0 where
   pub calls : KeptByCalls f t Q
-  pub goes : (u : ℕ) (g : Progress S → Progress S) (k : Control P S H) → Q k → Q (goes_on u g k)
+  pub goes : (u : ℕ) (g : Progress S → Progress S) (k : Control P S H) → ((p : Progress S) → retakes_oddly (g p).blocked ≡ true → retakes_oddly p.blocked ≡ true) → Q k → Q (goes_on u g k)
+  -- a call blocks t, or blocks it on; and oddly only if it did before, or t was to be canceled in it
+  pub blocked : (b : Blocked) (j k : Control P S H) → (retakes_oddly (Some b) ≡ true → IsToEnd t j) → Q j → Q k → Q (is_blocked_by t (Some b) k)
   -- a ring is claimed, or given back
   pub claimed : (x : Events) (k : Control P S H) → Q k → Q (record k { events = x })
   pub preferred : (u : ℕ) (k : Control P S H) → may_run (or_nobody (entry_of k u)).state ≡ true → Q k → Q (prefers (Some u) k)
@@ -430,6 +448,7 @@ module _ {P S H : Type 0} (f : P → Functions S H) (t : ℕ) (Q : Control P S H
   does_keeps s (call.Close d) common e q = kept.described _ s.control q
   does_keeps s (call.CondInit c) common e q = kept.handlers.seated _ s.control q
   does_keeps s (call.CondNotify c v) common e q = kept.handlers.seated _ s.control q
+  does_keeps s (call.CondAwait c m x) common e q = kept.handlers.seated _ s.control q
   does_keeps s (call.BarrierInit b n) common e q = kept.barred _ s.control q
   does_keeps s (call.BarrierReach b) common e q = kept.barred _ s.control q
   does_keeps s (call.Join n) common e q = joins_keeps s n (to_join s.control n) refl q
@@ -509,7 +528,7 @@ module _ {P S H : Type 0} (f : P → Functions S H) (t : ℕ) (Q : Control P S H
 
   stops_keeps : (u : ℕ) (k : Control P S H) → Q k → Q (stops_waiting u k)
   unfolding stops_waiting
-  stops_keeps u k q = gives_back_keeps (ring_held (blocked_of k u)) _ (kept.goes u (blocking None) k q)
+  stops_keeps u k q = gives_back_keeps (ring_held (blocked_of k u)) _ (kept.goes u (blocking None) k (λ p odd. absurd (cc odd)) q)
 
   back_known : (e : Option ℤ) (k : Control P S H) → (gives_back e k).threads.known ≡ k.threads.known
   unfolding gives_back
@@ -530,12 +549,24 @@ module _ {P S H : Type 0} (f : P → Functions S H) (t : ℕ) (Q : Control P S H
   withdraws_keep u (Round b round) s q = where_barred (waits_at s.control.barriers b u) u b s q
   withdraws_keep u a s q = (q, refl)
 
+  -- its seat at a condition is left, or handed on
+  leaves_seat_keeps : (u : ℕ) (a : Awaits) (k : Control P S H) → Q k → Q (leaves_seat u a k)
+  unfolding leaves_seat
+  leaves_seat_keeps u (Notice c) k q = kept.calls.handlers.seated _ k q
+  leaves_seat_keeps u a k q = q
+
+  hands_on_keeps : (u : ℕ) (a : Awaits) (k : Control P S H) → Q k → Q (hands_on_seat u a k) × ((hands_on_seat u a k).threads.known ≡ k.threads.known)
+  unfolding hands_on_seat
+  hands_on_keeps u (Notice c) k q = (kept.calls.handlers.seated _ k q, refl)
+  hands_on_keeps u a k q = (q, refl)
+
   -- u's wait is undone
   undone_keeps : (u : ℕ) (s : State P S H) → Q s.control → let k = (undoes_wait u s).state.control in Q k × (k.threads.known ≡ s.control.threads.known)
   undone_keeps u s q =
       let k = (withdraws_from u (awaits_in (blocked_of s.control u)) s).state.control in
       let withdrawn = withdraws_keep u (awaits_in (blocked_of s.control u)) s q in
-      (stops_keeps u k withdrawn.0, stops_known u k ∙ withdrawn.1)
+      let handed = hands_on_keeps u (awaits_in (blocked_of s.control u)) k withdrawn.0 in
+      (stops_keeps u (hands_on_seat u (awaits_in (blocked_of s.control u)) k) handed.0, stops_known u (hands_on_seat u (awaits_in (blocked_of s.control u)) k) ∙ handed.1 ∙ withdrawn.1)
 
   -- what u has is given up: nothing of the control changes
   marks_given : (ms : List Mark) (s : State P S H) → (tells_each ms s).state.control ≡ s.control
@@ -639,47 +670,101 @@ module _ {P S H : Type 0} (f : P → Functions S H) (t : ℕ) (Q : Control P S H
       by_refusal false same = aborts_keep s n same q
   any_keeps s c q = effect_keeps f t Q kept.calls s c refl q
 
-  begun_by_keeps : (c : Call) (v : Verdict) (s : State P S H) → Q s.control → Q (begun_by f t c v s).told.state.control
-  begun_by_keeps c (Says x) s q = q
-  begun_by_keeps c (Yields x) s q = q
-  begun_by_keeps c (Blocks a) s q = kept.goes t _ (claims t (ring_given c) s.control) (claims_keeps (ring_given c) s.control q)
-  begun_by_keeps c (Ends v) s q = ending_keeps v s q
-  begun_by_keeps c Kills s q = q
+  begun_by_keeps : (c : Call) (v : Verdict) (s : State P S H) → ((a : Awaits) → v ≡ Blocks a → is_retaking a ≡ false) → Q s.control → Q (begun_by f t c v s).told.state.control
+  begun_by_keeps c (Says x) s plain q = q
+  begun_by_keeps c (Yields x) s plain q = q
+  begun_by_keeps c (Blocks a) s plain q =
+      let k = claims t (ring_given c) s.control in
+      kept.blocked (record { call = c; awaits = a }) s.control k (λ odd. absurd (plain_even c a (plain a refl) odd)) q (claims_keeps (ring_given c) s.control q)
+  begun_by_keeps c (Ends v) s plain q = ending_keeps v s q
+  begun_by_keeps c Kills s plain q = q
 
   begun_keeps : (c : Call) (s : State P S H) → Q s.control → Q (begun f t c s).told.state.control
   unfolding begun
   begun_keeps call.Plain s q = q
   begun_keeps (call.Note v) s q = q
-  begun_keeps c s q = begun_by_keeps c (row_of f s t c).begin.verdict (effect_of (row_of f s t c).begin s).state (any_keeps s c q)
+  begun_keeps c s q = begun_by_keeps c (row_of f s t c).begin.verdict (effect_of (row_of f s t c).begin s).state (λ a blocks. begins_plainly f s t c a blocks) (any_keeps s c q)
 
   -- ---- a call is tried again
 
-  tried_by_keeps : (b : Blocked) (v : Verdict) (s : State P S H) → Q s.control → Q (tried_by f t b v s).told.state.control
-  tried_by_keeps b (Says x) s q = stops_keeps t s.control q
-  tried_by_keeps b (Yields x) s q = stops_keeps t s.control q
-  tried_by_keeps b (Blocks p) s q = kept.goes t _ s.control q
-  tried_by_keeps b (Ends v) s q = ending_keeps v s q
-  tried_by_keeps b Kills s q = stops_keeps t s.control q
+  tried_by_keeps : (b : Blocked) (v : Verdict) (j : Control P S H) (s : State P S H) → ((a : Awaits) → v ≡ Blocks a → retakes_oddly (Some (record b { awaits = a })) ≡ true → IsToEnd t j) → Q j → Q s.control → Q (tried_by f t b v s).told.state.control
+  tried_by_keeps b (Says x) j s odd r q = stops_keeps t s.control q
+  tried_by_keeps b (Yields x) j s odd r q = stops_keeps t s.control q
+  tried_by_keeps b (Blocks p) j s odd r q = kept.blocked (record b { awaits = p }) j s.control (odd p refl) r q
+  tried_by_keeps b (Ends v) j s odd r q = ending_keeps v s q
+  tried_by_keeps b Kills j s odd r q = stops_keeps t s.control q
 
-  tried_again_by_keeps : (s : State P S H) (b : Option Blocked) → Q s.control → Q (tried_again_by f t b s).told.state.control
-  tried_again_by_keeps s None q = q
-  tried_again_by_keeps s (Some b) q =
+  -- a call that took no mutex back takes none as it is tried again
+  odd_before : (s : State P S H) (b : Blocked) (come : Bool) (a : Awaits) → is_await b.call ≡ false → blocked_of s.control t ≡ Some b → (unless_settled come ((row_of f s t b.call).again b.awaits)).verdict ≡ Blocks a → retakes_oddly (Some (record b { awaits = a })) ≡ true → IsToEnd t s.control
+  odd_before s b come a other at blocks odd = by_wait (is_retaking b.awaits) refl
+    where
+      by_wait : (r : Bool) → is_retaking b.awaits ≡ r → IsToEnd t s.control
+      by_wait true retakes = inr (ap retakes_oddly at ∙ rw (retakes, other) refl)
+      by_wait false plain = absurd (plain_even b.call a (again_plainly f s t b.call b.awaits come a plain blocks) odd)
+
+  tried_again_keeps : (s : State P S H) (b : Blocked) → is_await b.call ≡ false → blocked_of s.control t ≡ Some b → Q s.control → Q (tried_again_by f t (Some b) s).told.state.control
+  tried_again_keeps s b other at q =
       let come = has_settled s.control.events (ring_given b.call) in
       let a = unless_settled come ((row_of f s t b.call).again b.awaits) in
-      tried_by_keeps b a.verdict (effect_of a s).state (come_keeps f t Q kept.calls s b.call b.awaits come q)
+      tried_by_keeps b a.verdict s.control (effect_of a s).state (λ p blocks odd. odd_before s b come p other at blocks odd) q (come_keeps f t Q kept.calls s b.call b.awaits come q)
 
   canceled_keeps : (b : Option Blocked) (s : State P S H) → Q s.control → Q (canceled_by f t b s).told.state.control
   canceled_keeps None s q = q
   canceled_keeps (Some b) s q = ending_keeps canceled_value (takes_request t b.call s).state (kept.calls.requested t false s.control (λ e. not_asked e) q)
 
-  where_keeps : (b : Bool) (s : State P S H) → Q s.control → Q (gone_on_where f t b s).told.state.control
+  where_keeps : (asked : Bool) (s : State P S H) (b : Blocked) → is_await b.call ≡ false → blocked_of s.control t ≡ Some b → Q s.control → Q (gone_on_where f t asked s).told.state.control
   unfolding tried_again
-  where_keeps true s q = canceled_keeps (blocked_of s.control t) s q
-  where_keeps false s q = tried_again_by_keeps s (blocked_of s.control t) q
+  where_keeps true s b other at q = canceled_keeps (blocked_of s.control t) s q
+  where_keeps false s b other at q = subst (λ (o : Option Blocked). Q (tried_again_by f t o s).told.state.control) (sym at) (tried_again_keeps s b other at q)
+
+  -- ---- a wait at a condition goes on
+
+  retaken_keeps : (c : Call) (m : ℤ) (o : Retake) (s : State P S H) → Q s.control → Q (retaken_as f t c m o s).told.state.control
+  retaken_keeps c m retake.Notified s q = q
+  retaken_keeps c m retake.Interrupted s q = q
+  retaken_keeps c m retake.Canceled s q = ending_keeps canceled_value (tells (mark.Took (tid t) (object_named m)) s).state q
+
+  -- the call blocked t before, in control j
+  abbrev OddBefore : Call → ℤ → Retake → Control P S H → Type 0
+  OddBefore c m o j = retakes_oddly (Some (record { call = c; awaits = Retaking m o })) ≡ true → IsToEnd t j
+
+  retakes_keep : (b : Bool) (c : Call) (m : ℤ) (o : Retake) (j : Control P S H) (s : State P S H) → OddBefore c m o j → Q j → Q s.control → Q (retakes_where f t b c m o s).told.state.control
+  retakes_keep true c m o j s odd r q = retaken_keeps c m o s q
+  retakes_keep false c m o j s odd r q = kept.blocked (record { call = c; awaits = Retaking m o }) j s.control odd r q
+
+  await_ends_keeps : (g : Control P S H → Control P S H) → ((k : Control P S H) → Q k → Q (g k)) → (c : Call) (m : ℤ) (o : Retake) (j : Control P S H) (s : State P S H) → OddBefore c m o j → Q j → Q s.control → Q (ends_await f t g c m o s).told.state.control
+  await_ends_keeps g h c m o j s odd r q =
+      let u = controlled (g and stops_waiting t) s in
+      retakes_keep (can_take u t m) c m o j u odd r (stops_keeps t (g s.control) (h s.control q))
+
+  awaits_where_keeps : (asked noticed settled : Bool) (c m e : ℤ) (s : State P S H) → may_be_canceled s.control t ≡ asked → Q s.control → Q (awaits_on_where f t asked noticed settled (call.CondAwait c m e) c m s).told.state.control
+  awaits_where_keeps true noticed settled c m e s asked q =
+      let k = call.CondAwait c m e in
+      await_ends_keeps (hands_on_seat t (Notice c)) (λ j r. (hands_on_keeps t (Notice c) j r).0) k m retake.Canceled s.control (takes_request t k s).state (λ odd. inl asked) q (kept.calls.requested t false s.control (λ x. not_asked x) q)
+  awaits_where_keeps false true settled c m e s asked q = await_ends_keeps (leaves_seat t (Notice c)) (leaves_seat_keeps t (Notice c)) (call.CondAwait c m e) m retake.Notified s.control s (λ odd. absurd (cc odd)) q q
+  awaits_where_keeps false false true c m e s asked q = await_ends_keeps (leaves_seat t (Notice c)) (leaves_seat_keeps t (Notice c)) (call.CondAwait c m e) m retake.Interrupted s.control s (λ odd. absurd (cc odd)) q q
+  awaits_where_keeps false false false c m e s asked q = q
+
+  awaits_on_keeps : (c m e : ℤ) (a : Awaits) (s : State P S H) → blocked_of s.control t ≡ Some (record { call = call.CondAwait c m e; awaits = a }) → Q s.control → Q (awaits_on f t c m e a s).told.state.control
+  awaits_on_keeps c m e (Retaking n o) s at q = await_ends_keeps nothing (λ k r. r) (call.CondAwait c m e) m o s.control s (λ odd. inr (ap retakes_oddly at ∙ same_oddly o odd)) q q
+    where
+      same_oddly : (r : Retake) → retakes_oddly (Some (record { call = call.CondAwait c m e; awaits = Retaking m r })) ≡ true → retakes_oddly (Some (record { call = call.CondAwait c m e; awaits = Retaking n r })) ≡ true
+      same_oddly retake.Canceled odd = refl
+      same_oddly retake.Notified odd = odd
+      same_oddly retake.Interrupted odd = odd
+  awaits_on_keeps c m e a s at q = awaits_where_keeps (may_be_canceled s.control t) (is_noticed s t c) (has_settled s.control.events (extra_ring e)) c m e s refl q
+
+  gone_on_in_keeps : (c : Call) (a : Awaits) (s : State P S H) → blocked_of s.control t ≡ Some (record { call = c; awaits = a }) → Q s.control → Q (gone_on_in f t c a s).told.state.control
+  gone_on_in_keeps (call.CondAwait c m e) a s at q = awaits_on_keeps c m e a s at q
+  gone_on_in_keeps c a s at q = where_keeps (may_be_canceled s.control t) s (record { call = c; awaits = a }) refl at q
+
+  gone_on_by_keeps : (b : Option Blocked) (s : State P S H) → blocked_of s.control t ≡ b → Q s.control → Q (gone_on_by f t b s).told.state.control
+  gone_on_by_keeps None s at q = q
+  gone_on_by_keeps (Some b) s at q = gone_on_in_keeps b.call b.awaits s at q
 
   gone_on_keeps : (s : State P S H) → Q s.control → Q (gone_on f t s).told.state.control
   unfolding gone_on
-  gone_on_keeps s q = where_keeps (may_be_canceled s.control t) s q
+  gone_on_keeps s q = gone_on_by_keeps (blocked_of s.control t) s refl q
 
   -- ---- a step
 
@@ -687,12 +772,12 @@ module _ {P S H : Type 0} (f : P → Functions S H) (t : ℕ) (Q : Control P S H
   steps_by_keeps (Some b) p s q = gone_on_keeps s q
   steps_by_keeps None (Some p) s q =
       let x = (f s.control.program).step p.state s.control.shared p.owed in
-      begun_keeps x.call _ (kept.goes t _ (record s.control { shared = x.shared }) (kept.calls.handlers.shares x.shared s.control q))
+      begun_keeps x.call _ (kept.goes t _ (record s.control { shared = x.shared }) (λ y odd. odd) (kept.calls.handlers.shares x.shared s.control q))
   steps_by_keeps None None s q = gone_on_keeps s q
 
   owes_keeps : (n : Next) (k : Control P S H) → Q k → Q (owes_after t n k)
-  owes_keeps (next.Done a) k q = kept.goes t (owing a) k q
-  owes_keeps (next.Yields a) k q = kept.goes t (owing a) k q
+  owes_keeps (next.Done a) k q = kept.goes t (owing a) k (λ p odd. odd) q
+  owes_keeps (next.Yields a) k q = kept.goes t (owing a) k (λ p odd. odd) q
   owes_keeps next.Waits k q = q
   owes_keeps (next.Ended v) k q = q
   owes_keeps next.Killed k q = q

@@ -1,10 +1,12 @@
--- What a blocked call waits for, and what its wait holds: a moment, the bytes that it wrote so far, the round of a barrier.
+-- What a blocked call waits for, and what its wait holds: a moment, the bytes that it wrote so far, the round of a barrier; and which
+-- call awaits a condition.
 use Rattle.std.specs.Prelude.{◌≡◌, ℕ, ℤ, Bool, true, false, Option, Some, None, if◌then◌else◌}
 use Rattle.pth_base.specs.declared.call.Call.{Call}
 use Rattle.pth_base.specs.declared.call.Call.TheVariants as call
 use Rattle.pth_numbered.specs.Operands.{is_zero}
 use Rattle.pth_model.specs.declared.awaits.Awaits.{Awaits}
-use Rattle.pth_model.specs.declared.awaits.Awaits.TheVariants.{Nothing, Death, AnyDeath, Moment, Writing, Selection, Round}
+use Rattle.pth_model.specs.declared.awaits.Retake.TheVariants.{Canceled}
+use Rattle.pth_model.specs.declared.awaits.Awaits.TheVariants.{Nothing, Death, AnyDeath, Moment, Writing, Selection, Round, Retaking}
 use Rattle.pth_model.specs.declared.blocked.Blocked.{Blocked}
 
 -- pth_join waits for the death of the thread that is named, and for 0 for any
@@ -40,7 +42,20 @@ abbrev pub is_awaiting : Option Blocked → Bool
 is_awaiting None = false
 is_awaiting (Some b) = is_await b.call
 
+-- a wait at a condition is over, and the mutex is to be taken back
+abbrev pub is_retaking : Awaits → Bool
+is_retaking (Retaking m o) = true
+is_retaking a = false
+
+-- its thread was canceled, and takes its mutex back before it ends (pth_cond_await)
+abbrev pub is_canceled : Awaits → Bool
+is_canceled (Retaking m Canceled) = true
+is_canceled a = false
+
 -- what the blocked call waits for: if no call blocks, nothing
 abbrev pub awaits_in : Option Blocked → Awaits
 awaits_in None = Nothing
 awaits_in (Some b) = b.awaits
+
+abbrev pub is_canceled_in : Option Blocked → Bool
+is_canceled_in o = is_canceled (awaits_in o)

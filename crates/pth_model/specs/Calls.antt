@@ -1,5 +1,10 @@
 -- How a call begins, and how a call that blocks its thread is tried again.
-use Rattle.std.specs.Prelude.{ℕ, pos, Bool, true, false, Option, Some, None}
+use Rattle.std.specs.Prelude.{ℕ, pos, Bool, true, false, Option, Some, None, ℤ}
+use Rattle.pth_model.specs.Conditions.{can_take, is_noticed, leaves_seat, hands_on_seat}
+use Rattle.pth_model.specs.declared.awaits.Retake.TheVariants.{Notified, Interrupted, Canceled}
+use Rattle.pth_model.specs.declared.awaits.Retake.{Retake}
+use Rattle.pth_model.specs.declared.awaits.Awaits.TheVariants.{Notice, Retaking}
+use Rattle.pth_lock.specs.Objects.{object_named}
 use Rattle.pth_base.specs.Program.{Functions}
 use Rattle.pth_base.specs.declared.answer.Answer.{Answer}
 use Rattle.pth_base.specs.declared.answer.Answer.TheVariants as answer
@@ -16,12 +21,12 @@ use Rattle.pth_model.specs.declared.verdict.Verdict.{Verdict}
 use Rattle.pth_model.specs.declared.verdict.Verdict.TheVariants.{Says, Yields, Blocks, Ends, Kills}
 use Rattle.pth_model.specs.Verdict.{counts_or}
 use Rattle.pth_model.specs.State.{State}
-use Rattle.pth_model.specs.Transition.{Piece, Change, Last, silent, changes, tells, tid, ◌and◌, ◌and_then◌, ◌and_next◌, ◌and_finally◌}
+use Rattle.pth_model.specs.Transition.{Piece, Change, Last, silent, changes, tells, tid, ◌and◌, ◌and_then◌, ◌and_next◌, ◌and_finally◌, nothing}
 use Rattle.pth_model.specs.Changes.{is_blocked_by, blocked_of}
-use Rattle.pth_model.specs.RingWaits.{ring_given, claims, stops_waiting, has_settled}
+use Rattle.pth_model.specs.RingWaits.{ring_given, claims, stops_waiting, has_settled, extra_ring}
 use Rattle.pth_model.specs.Row.{Attempt, effect_of}
 use Rattle.pth_model.specs.Ending.{ending}
-use Rattle.pth_model.specs.Cancellation.{canceled_value, may_be_canceled, canceled_in}
+use Rattle.pth_model.specs.Cancellation.{canceled_value, may_be_canceled, canceled_in, takes_request}
 use Rattle.pth_model.specs.Rows.{row_of}
 
 -- ---- a call begins
@@ -104,9 +109,52 @@ module _ {P S H : Type 0} (f : P → Functions S H) (t : ℕ) where
   gone_on_where true s = canceled_by f t (blocked_of s.control t) s
   gone_on_where false s = tried_again s
 
-  -- t goes on: it is canceled if it may be, and else the blocked call is tried again
+-- ---- A wait at a condition goes on (pth_cond_await). It is over if its thread may be canceled, if its seat was notified, or if an event
+-- of its ring is settled. Then the thread takes its mutex back: in the same step if it can, and else its call blocks it until then.
+
+module _ {P S H : Type 0} (f : P → Functions S H) (t : ℕ) where
+  -- t has its mutex again
+  abbrev pub retaken_as : Call → ℤ → Retake → Last P S H
+  retaken_as c m Notified = tells (mark.Answered (tid t) c (answer.Int (pos 1))) and_next next.Done (answer.Int (pos 1))
+  retaken_as c m Interrupted = tells (mark.Answered (tid t) c (answer.Fail EINTR)) and_next next.Done (answer.Fail EINTR)
+  retaken_as c m Canceled = tells (mark.Took (tid t) (object_named m)) and_then ending f t canceled_value and_next next.Ended canceled_value
+
+  abbrev pub retakes_where : Bool → Call → ℤ → Retake → Last P S H
+  retakes_where true c m o = retaken_as c m o
+  retakes_where false c m o = changes (blocks t c (Retaking m o)) and_then tells (mark.Retakes (tid t) c) and_next next.Waits
+
+  abbrev pub retakes : Call → ℤ → Retake → Last P S H
+  retakes c m o s = retakes_where (can_take s t m) c m o s
+
+  -- the wait is over: its claim is given back, and the mutex taken back
+  abbrev pub ends_await : Change P S H → Call → ℤ → Retake → Last P S H
+  ends_await g c m o = changes (g and stops_waiting t) and_finally retakes c m o
+
+  abbrev pub awaits_on_where : (asked noticed settled : Bool) → Call → (c m : ℤ) → Last P S H
+  awaits_on_where true noticed settled k c m = takes_request t k and_finally ends_await (hands_on_seat t (Notice c)) k m Canceled
+  awaits_on_where false true settled k c m = ends_await (leaves_seat t (Notice c)) k m Notified
+  awaits_on_where false false true k c m = ends_await (leaves_seat t (Notice c)) k m Interrupted
+  awaits_on_where false false false k c m = tells (mark.Waits (tid t) k) and_next next.Waits
+
+  abbrev pub awaits_on : (c m e : ℤ) → Awaits → Last P S H
+  awaits_on c m e (Retaking n o) = ends_await nothing (call.CondAwait c m e) m o
+  awaits_on c m e a = λ s.
+      awaits_on_where (may_be_canceled s.control t) (is_noticed s t c) (has_settled s.control.events (extra_ring e)) (call.CondAwait c m e) c m s
+
+-- ---- a thread that a call blocks goes on
+
+module _ {P S H : Type 0} (f : P → Functions S H) (t : ℕ) where
+  abbrev pub gone_on_in : Call → Awaits → Last P S H
+  gone_on_in (call.CondAwait c m e) a = awaits_on f t c m e a
+  gone_on_in c a = λ s. gone_on_where f t (may_be_canceled s.control t) s
+
+  abbrev pub gone_on_by : Option Blocked → Last P S H
+  gone_on_by None = silent and_next next.Waits
+  gone_on_by (Some b) = gone_on_in b.call b.awaits
+
+  -- it is canceled if it may be, and else the blocked call is tried again
   unfoldable pub gone_on : Last P S H
-  gone_on s = gone_on_where (may_be_canceled s.control t) s
+  gone_on s = gone_on_by (blocked_of s.control t) s
 
 module _ {P S H : Type 0} (t : ℕ) where
   -- whether the blocked call has what it waits for

@@ -9,7 +9,7 @@ use Rattle.pth_numbered.specs.Operands.{number, is_zero, ◌is◌, ◌is_from◌
 use Rattle.pth_threads.specs.declared.entry.Entry.{Entry}
 use Rattle.pth_threads.specs.declared.entry.Change.TheVariants as change
 use Rattle.pth_model.specs.declared.awaits.Awaits.{Awaits}
-use Rattle.pth_model.specs.declared.awaits.Awaits.TheVariants.{Nothing, Alone, Round}
+use Rattle.pth_model.specs.declared.awaits.Awaits.TheVariants.{Nothing, Alone, Round, Retaking}
 use Rattle.pth_model.specs.declared.blocked.Blocked.{Blocked}
 use Rattle.pth_model.specs.Awaits.{awaits_in}
 use Rattle.pth_model.specs.declared.verdict.Verdict.TheVariants.{Ends}
@@ -44,11 +44,12 @@ is_asynchronous n = n == enabled_asynchronous
 abbrev pub is_to_cancel : Entry → Bool
 is_to_cancel e = e.request && is_enabled e.cancel
 
--- each wait is a cancellation point, but those of pth_exit and pth_barrier_reach
+-- each wait is a cancellation point, but those of pth_exit and pth_barrier_reach, and that of a pth_cond_await for its mutex
 abbrev pub is_point : Awaits → Bool
 is_point Nothing = false
 is_point Alone = false
 is_point (Round b round) = false
+is_point (Retaking m o) = false
 is_point a = true
 
 -- the blocked call is one

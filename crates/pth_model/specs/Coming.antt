@@ -1,10 +1,11 @@
 -- When what a blocked call waits for has come.
 use Rattle.std.specs.Prelude.{ℕ, ◌||◌, nat_le, nat_lt, not, ℤ, Bool, false, is_some}
+use Rattle.pth_model.specs.Conditions.{can_take, is_noticed}
 use Rattle.pth_cond.specs.Barriers.{has_passed}
 use Rattle.pth_io.specs.Attempts.{read_answer, write_answer, accept_answer, connect_answer, select_answer}
 use Rattle.pth_kernel.specs.Kernel.{Kernel, fd_named, room}
 use Rattle.pth_model.specs.declared.awaits.Awaits.{Awaits}
-use Rattle.pth_model.specs.declared.awaits.Awaits.TheVariants.{Nothing, Alone, Death, AnyDeath, Moment, Ring, Reading, Writing, Connection, ConnectAnswer, Selection, Mutex, Lock, Round}
+use Rattle.pth_model.specs.declared.awaits.Awaits.TheVariants.{Nothing, Alone, Death, AnyDeath, Moment, Ring, Reading, Writing, Connection, ConnectAnswer, Selection, Mutex, Lock, Round, Notice, Retaking}
 use Rattle.pth_model.specs.Changes.{or_nobody}
 use Rattle.pth_model.specs.Mutexes.{is_free}
 use Rattle.pth_model.specs.Rwlocks.{is_open}
@@ -43,4 +44,6 @@ module _ {P S H : Type 0} (s : State P S H) (t : ℕ) where
   has_come (Mutex m) = is_free s m
   has_come (Lock l write) = is_open s write l
   has_come (Round b round) = has_passed s.control.barriers b round
+  has_come (Notice c) = is_noticed s t c
+  has_come (Retaking m o) = can_take s t m
   has_come a = descriptors_bring s.control.kernel a

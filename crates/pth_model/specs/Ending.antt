@@ -1,5 +1,6 @@
 -- How a thread ends (pth_exit, and the end of its body), in parts.
 use Rattle.std.specs.Prelude.{ℕ, zero, suc, ◌+◌, ◌*◌, ◌==◌, nat_lt, ℤ, pos, false, List, [], ◌∷◌, map, filter, Option, Some, None, if◌then◌else◌}
+use Rattle.pth_model.specs.Conditions.{hands_on_seat}
 use Rattle.std.specs.List.{range_with_len}
 use Rattle.pth_base.specs.Program.{Functions}
 use Rattle.pth_base.specs.declared.ids.HandlerId.{HandlerId}
@@ -56,9 +57,11 @@ unfoldable pub locks_held : ℕ → LockTables → List ℕ
 locks_held t x = filter (holds x t) (range_with_len 0 object_limit)
 
 module _ {P S H : Type 0} where
-  -- its wait is undone: its arrival at a barrier is taken back, and the claim on its ring given back
+  -- its wait is undone: its arrival at a barrier is taken back, its seat at a condition handed on, and the claim on its ring given back
   abbrev pub undoes_wait : ℕ → Piece P S H
-  undoes_wait t s = (withdraws_from t (awaits_in (blocked_of s.control t)) and_then changes (stops_waiting t)) s
+  undoes_wait t s =
+      let a = awaits_in (blocked_of s.control t) in
+      (withdraws_from t a and_then changes (hands_on_seat t a and stops_waiting t)) s
 
   -- its cleanups run, the last pushed first
   unfoldable pub runs_each : (P → Functions S H) → ℕ → List PushedHandler → Piece P S H

@@ -1,5 +1,6 @@
 -- Library control: pth_kill, pth_ctrl.
 use Rattle.std.specs.Prelude.{ℕ, ◌==◌, not, length, pos, Option, Some, None, [], if◌then◌else◌}
+use Rattle.pth_cond.specs.Conditions.{all_seats_left}
 use Rattle.pth_base.specs.declared.answer.Answer.TheVariants.{Int, Text}
 use Rattle.pth_base.specs.declared.errno.Errno.TheVariants.{EINVAL, EPERM, ESRCH}
 use Rattle.pth_base.specs.declared.query.Query.{Query}
@@ -26,11 +27,13 @@ running_count None = 0
 running_count (Some t) = 1
 
 module _ {P S H : Type 0} where
-  -- all threads but t, which runs, are in the system no longer, no ring is claimed, and nobody waits at a barrier
+  -- all threads but t, which runs, are in the system no longer, no ring is claimed, and nobody has a seat at a condition or waits at a
+  -- barrier
   unfoldable pub vanish_all_but : ℕ → Change P S H
   vanish_all_but t k = record k {
     threads = record k.threads { known = only_at t k.threads.known; progress = only_at t k.threads.progress; standing = λ q. [] };
     events = all_unclaimed k.events;
+    conditions = all_seats_left k.conditions;
     barriers = all_withdrawn k.barriers;
   }
 

@@ -12,7 +12,7 @@ use Rattle.pth_ring.specs.declared.event.Event.{Event}
 use Rattle.pth_ring.specs.Rings.{Events, claimed, with_event, with_claim, settled_in, is_event, is_claimed}
 use Rattle.pth_model.specs.declared.awaits.Awaited.{Awaited}
 use Rattle.pth_model.specs.declared.blocked.Blocked.{Blocked}
-use Rattle.pth_model.specs.Awaits.{awaits_in}
+use Rattle.pth_model.specs.Awaits.{awaits_in, is_retaking}
 use Rattle.pth_model.specs.State.{State, Control, now_of}
 use Rattle.pth_model.specs.Transition.{Change, nothing, tid, ◌and◌}
 use Rattle.pth_model.specs.Changes.{with_events, is_blocked_by, blocked_of}
@@ -31,12 +31,13 @@ ring_given (call.ConnectEv f e) = extra_ring e
 ring_given (call.SelectEv r w x l e) = extra_ring e
 ring_given (call.MutexAcquire m v e) = extra_ring e
 ring_given (call.RwAcquire l write v e) = extra_ring e
+ring_given (call.CondAwait c m e) = extra_ring e
 ring_given c = None
 
--- the ring that the blocked call was given
+-- the ring that the blocked call was given, and claims: a wait at a condition that is over claims none any more
 abbrev pub ring_held : Option Blocked → Option ℤ
 ring_held None = None
-ring_held (Some b) = ring_given b.call
+ring_held (Some b) = if is_retaking b.awaits then None else ring_given b.call
 
 -- what a thread waits for, and the ring of events beside it
 abbrev pub awaited_in : Option Blocked → Awaited

@@ -19,7 +19,7 @@ use Rattle.pth_model.specs.EventHandling.{make_event, chain, ev_concat, ev_isola
 use Rattle.pth_model.specs.Cancellation.{cancel_state, cancel_point, cancel, abort}
 use Rattle.pth_model.specs.Mutexes.{mutex_init, mutex_acquire, mutex_release}
 use Rattle.pth_model.specs.Rwlocks.{rw_init, rw_acquire, rw_release}
-use Rattle.pth_model.specs.Conditions.{cond_init, cond_notify}
+use Rattle.pth_model.specs.Conditions.{cond_init, cond_await, cond_notify}
 use Rattle.pth_model.specs.Barriers.{barrier_init, barrier_reach}
 use Rattle.pth_model.specs.ThreadEnds.{exit}
 use Rattle.pth_model.specs.Times.{timeout, nap, usleep, sleep}
@@ -87,7 +87,7 @@ module _ {P S H : Type 0} (f : P → Functions S H) (s : State P S H) (t : ℕ) 
   row_of (call.RwAcquire l write v e) = rw_acquire s t l write v e
   row_of (call.RwRelease l) = rw_release s t l
   row_of (call.CondInit c) = cond_init s c
-  row_of (call.CondAwait c m e) = unbuilt
+  row_of (call.CondAwait c m e) = cond_await s t c m e
   row_of (call.CondNotify c v) = cond_notify s c v
   row_of (call.BarrierInit b n) = barrier_init s b n
   row_of (call.BarrierReach b) = barrier_reach s t b

@@ -55,11 +55,36 @@ pub enum Awaits {
         b: i64,
         round: u64,
     },
+    /// That the thread's seat at this condition is notified (`pth_cond_await`).
+    Notice(i64),
+    /// That the thread can take the mutex back that an operand names, once its wait at a condition is over (`pth_cond_await`).
+    Retaking {
+        m: i64,
+        outcome: Retake,
+    },
+}
+
+/// What a wait at a condition comes to once it is over and its mutex is taken back (`pth_cond_await`).
+#[derive(Clone, Copy)]
+pub enum Retake {
+    /// The thread's seat was notified: the call is answered 1.
+    Notified,
+    /// An event of its ring was not pending: the call is answered EINTR.
+    Interrupted,
+    /// The thread was canceled: it ends.
+    Canceled,
 }
 
 impl Awaits {
     ghost use Rattle.std.specs.Prelude.{◌≡◌};
-    ghost use Rattle.pth_model.specs.Awaits.{moment_in, written_in, round_in};
+    ghost use Rattle.pth_model.specs.Awaits.{is_retaking as retaking_in, moment_in, written_in, round_in};
+
+    /// Whether a wait at a condition is over, and the mutex is to be taken back.
+    pub fn is_retaking(self) -> bool
+        ensures { result ≡ retaking_in self }
+    {
+        matches!(self, Awaits::Retaking { .. })
+    }
 
     /// The moment that is waited for; 0 for none.
     #[inline(always)]
@@ -124,7 +149,8 @@ pub fn ring_given(call: &Call) -> Option<i64>
         | Call::ConnectEv { e, .. }
         | Call::SelectEv { e, .. }
         | Call::MutexAcquire { e, .. }
-        | Call::RwAcquire { e, .. } => extra_ring(*e),
+        | Call::RwAcquire { e, .. }
+        | Call::CondAwait { e, .. } => extra_ring(*e),
         _ => None,
     }
 }

@@ -19,27 +19,37 @@ impl Drop for Blocked {
     }
 }
 
-/// The event that was given to the call that blocks a thread, if any.
+/// The event that was given to the call that blocks a thread, if any, and whose ring it claims.
 pub fn ring_held(blocked: &Option<Blocked>) -> Option<i64>
     ensures { result ≡ ring_held blocked.now }
 {
     match blocked {
-        Some(blocked) => ring_given(&blocked.call),
+        Some(blocked) => blocked.ring(),
         None => None,
     }
 }
 
 impl Blocked {
     ghost use Rattle.std.specs.Prelude.{◌≡◌, Some};
-    ghost use Rattle.pth_model.specs.RingWaits.{awaited_in};
+    ghost use Rattle.pth_model.specs.RingWaits.{awaited_in, ring_held};
 
-    /// What the thread waits for, and the ring that its call was given.
+    /// The event that the call was given, whose ring it claims; none once a wait at a condition is over.
+    pub fn ring(&self) -> Option<i64>
+        ensures { result ≡ ring_held (Some self.now) }
+    {
+        if self.awaits.is_retaking() {
+            return None;
+        }
+        ring_given(&self.call)
+    }
+
+    /// What the thread waits for, and the ring that its call claims.
     pub fn awaited(&self) -> Awaited
         ensures { result ≡ awaited_in (Some self.now) }
     {
         Awaited {
             what: self.awaits,
-            ring: ring_given(&self.call),
+            ring: self.ring(),
         }
     }
 }

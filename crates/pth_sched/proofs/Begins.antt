@@ -57,6 +57,7 @@ mild_away (call.Wait e) mild t a may = cc mild
 mild_away (call.MutexAcquire m v e) mild t a may = cc mild
 mild_away (call.RwAcquire l write v e) mild t a may = cc mild
 mild_away (call.BarrierReach b) mild t a may = cc mild
+mild_away (call.CondAwait x m e) mild t a may = cc mild
 mild_away (call.Read g n) mild t a may = cc mild
 mild_away (call.ReadEv g n e) mild t a may = cc mild
 mild_away (call.Write g bytes) mild t a may = cc mild

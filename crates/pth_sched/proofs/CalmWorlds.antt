@@ -65,6 +65,7 @@ module _ {P S H : Type 0} (w : WorldOf P S H) where
       mutexes = ap (λ (x : Store). x.mutexes) same_store;
       locks = ap (λ (x : Store). x.rw_locks) same_store;
       rounds = λ b round h. rw same_barriers h;
+      seats = sr.control.conditions ∙ sym ss.control.conditions;
       blocked = same_blocked u;
       died = λ n h. rw same_known h;
       left = λ none u. rw same_known (none u);

@@ -97,6 +97,7 @@ module _ {P S H : Type 0} where
     pub mutexes : r.resources.store.mutexes ≡ s.resources.store.mutexes
     pub locks : r.resources.store.rw_locks ≡ s.resources.store.rw_locks
     pub rounds : KeepsRounds s.control.barriers r.control.barriers
+    pub seats : r.control.conditions ≡ s.control.conditions
     pub tame : (u : ℕ) → IsTame (entry_of s.control u) (entry_of r.control u)
     pub waited : (u : ℕ) → but u → is_among_waiting (entry_of r.control u) ≡ true
         → (s.control.scheduler.running ≢ Some u) × (is_among_waiting (entry_of s.control u) ≡ true) × (blocked_of r.control u ≡ blocked_of s.control u)
@@ -120,6 +121,7 @@ module _ {P S H : Type 0} where
         mutexes = keeps.mutexes;
         locks = keeps.locks;
         rounds = keeps.rounds;
+        seats = keeps.seats;
         blocked = w.2;
         died = died_kept s.control r.control keeps.tame;
         left = λ none v. (keeps.tame v).left (none v);
@@ -144,6 +146,7 @@ module _ {P S H : Type 0} where
           mutexes = refl;
           locks = refl;
           rounds = λ b r h. h;
+          seats = refl;
           tame = tame_put known t _ (tame_state state.Ready Ready (known t));
           waited = λ u b. put_by (λ v. is_among_waiting v ≡ true → (s.control.scheduler.running ≢ Some u) × (is_among_waiting (known u) ≡ true) × (blocked_of s.control u ≡ blocked_of s.control u)) known t _ u
               (λ same waits. absurd (cc (sym (not_waiting state.Ready Ready (known t)) ∙ waits)))
@@ -163,6 +166,7 @@ module _ {P S H : Type 0} where
           mutexes = refl;
           locks = refl;
           rounds = λ b r h. h;
+          seats = refl;
           tame = λ u. tame_then (known u) (first u) _
               (tame_put known t _ (tame_state state.Running Running (known t)) u)
               (tame_put first t _ (tame_dispatches _ (first t)) u);
@@ -223,6 +227,7 @@ module _ {P S H : Type 0} where
       mutexes = refl;
       locks = refl;
       rounds = λ b r h. h;
+      seats = refl;
       tame = λ u. tame_same (k.threads.known u);
       waited = λ u apart waits. (not_own u apart, waits, refl);
     }
@@ -234,6 +239,7 @@ module _ {P S H : Type 0} where
       mutexes = refl;
       locks = refl;
       rounds = λ b r h. h;
+      seats = refl;
       tame = tame_put k.threads.known t _ (tame_state state.Ready Ready (k.threads.known t));
       waited = λ u apart waits. (not_own u apart, others_wait state.Ready Ready u apart waits, refl);
     }
@@ -245,6 +251,7 @@ module _ {P S H : Type 0} where
       mutexes = refl;
       locks = refl;
       rounds = λ b r h. h;
+      seats = refl;
       tame = tame_put k.threads.known t _ (tame_state state.Waiting Waiting (k.threads.known t));
       waited = λ u apart waits. (not_own u apart, others_wait state.Waiting Waiting u apart waits, refl);
     }
@@ -265,10 +272,11 @@ module _ {P S H : Type 0} where
     pub mutexes : r.resources.store.mutexes ≡ s.resources.store.mutexes
     pub locks : r.resources.store.rw_locks ≡ s.resources.store.rw_locks
     pub rounds : KeepsRounds s.control.barriers r.control.barriers
+    pub seats : r.control.conditions ≡ s.control.conditions
     pub blocked : (u : ℕ) → u ≢ t → blocked_of r.control u ≡ blocked_of s.control u
 
   pub mild_same : (t : ℕ) (s : State P S H) → IsMild t s s
-  mild_same t s = record { known = refl; running = refl; kernel = refl; events = same_pending s.control.events; mutexes = refl; locks = refl; rounds = λ b r h. h; blocked = λ u apart. refl }
+  mild_same t s = record { known = refl; running = refl; kernel = refl; events = same_pending s.control.events; mutexes = refl; locks = refl; rounds = λ b r h. h; seats = refl; blocked = λ u apart. refl }
 
   pub mild_then : (t : ℕ) (s r q : State P S H) → IsMild t s r → IsMild t r q → IsMild t s q
   mild_then t s r q a b = record {
@@ -279,6 +287,7 @@ module _ {P S H : Type 0} where
     mutexes = b.mutexes ∙ a.mutexes;
     locks = b.locks ∙ a.locks;
     rounds = λ c r h. b.rounds c r (a.rounds c r h);
+    seats = b.seats ∙ a.seats;
     blocked = λ u apart. b.blocked u apart ∙ a.blocked u apart;
   }
 
@@ -291,6 +300,7 @@ module _ {P S H : Type 0} where
     mutexes = mild.mutexes;
     locks = mild.locks;
     rounds = mild.rounds;
+    seats = mild.seats;
     tame = λ u. subst (λ (f : ℕ → Option Entry). IsTame (s.control.threads.known u) (f u)) (sym mild.known) (tame_same (s.control.threads.known u));
     waited = λ u apart waits. (λ is. apart (cc (sym runs ∙ is)), subst (λ (f : ℕ → Option Entry). is_among_waiting (f u) ≡ true) mild.known waits, mild.blocked u apart);
   }

@@ -1,5 +1,7 @@
 -- A run ends with main's value where main is alone.
 use Rattle.std.proofs.Common.{◌≡◌, ℕ, ◌==◌, ◌&&◌, ◌||◌, not, ◌+◌, nat_lt, nat_le, length, if◌then◌else◌, ℤ, pos, Bool, true, false, Option, Some, None, is_none, Result, Ok, Err, refl, sym, ap, ◌∙◌, subst, append_assoc, List, [], ◌∷◌, ◌++◌}
+use Rattle.pth_model.proofs.Walks.{retakes_oddly}
+use Rattle.pth_model.specs.Conditions.{begins_await, can_take, is_noticed, leaves_seat}
 use Rattle.pth_base.proofs.Tables.{same_means}
 use Rattle.pth_base.specs.Program.{Functions}
 use Rattle.pth_base.specs.declared.call.Call.{Call}
@@ -9,7 +11,9 @@ use Rattle.pth_base.specs.declared.mark.Mark.TheVariants.{Ended as End}
 use Rattle.pth_base.specs.declared.outcome.Outcome.TheVariants.{Running, Ended}
 use Rattle.pth_queue.specs.declared.queue.Queue.TheVariants as queues
 use Rattle.pth_model.specs.declared.awaits.Awaits.{Awaits}
-use Rattle.pth_model.specs.declared.awaits.Awaits.TheVariants.{Nothing, Alone, Moment, Ring, Reading, Writing, Connection, ConnectAnswer, Selection, Mutex, Lock, Round}
+use Rattle.pth_model.specs.declared.awaits.Retake.{Retake}
+use Rattle.pth_model.specs.declared.awaits.Retake.TheVariants as retake
+use Rattle.pth_model.specs.declared.awaits.Awaits.TheVariants.{Nothing, Alone, Moment, Ring, Reading, Writing, Connection, ConnectAnswer, Selection, Mutex, Lock, Round, Notice, Retaking}
 use Rattle.pth_model.specs.declared.blocked.Blocked.{Blocked}
 use Rattle.pth_model.specs.declared.next.Next.{Next}
 use Rattle.pth_model.specs.declared.next.Next.TheVariants as next
@@ -18,7 +22,7 @@ use Rattle.pth_model.specs.declared.verdict.Verdict.{Verdict}
 use Rattle.pth_model.specs.declared.verdict.Verdict.TheVariants.{Says, Yields, Blocks, Ends, Kills}
 use Rattle.pth_model.specs.Verdict.{refused, says, done, by_result, said_or, counts_or, taken_or, ◌when◌otherwise◌, refused_as◌otherwise◌}
 use Rattle.pth_model.specs.State.{State, Control, Given, Turn, start, queue, present, main, now_of, once_limit}
-use Rattle.pth_model.specs.Transition.{Change, Went, changes, silent, tid, controlled}
+use Rattle.pth_model.specs.Transition.{Change, Went, changes, silent, tid, controlled, ◌and◌}
 use Rattle.pth_base.specs.declared.answer.Answer.{Answer}
 use Rattle.pth_base.specs.declared.answer.Answer.TheVariants.{Int, Text, Fail}
 use Rattle.pth_base.specs.declared.errno.Errno.{Errno}
@@ -42,11 +46,11 @@ use Rattle.pth_model.specs.Cleanups.{last_pushed}
 use Rattle.pth_store.specs.Cleanups.{push_answer}
 use Rattle.pth_store.specs.Keys.{key_create_answer, key_delete_answer, key_set_answer, key_get_answer}
 use Rattle.pth_model.specs.ThreadEnds.{is_alone, must_wait}
-use Rattle.pth_model.specs.Calls.{begun, begun_by, gone_on, gone_on_where, tried_again, tried_again_by, tried_by, unless_settled, interrupted}
+use Rattle.pth_model.specs.Calls.{begun, begun_by, gone_on, gone_on_where, tried_again, tried_again_by, tried_by, unless_settled, interrupted, awaits_on, awaits_on_where, gone_on_by, gone_on_in, retakes_where}
 use Rattle.pth_model.specs.EventHandling.{spec_of, made_as, make_event, chain, wait, number_or_none, status_number}
-use Rattle.pth_model.specs.RingWaits.{extra_ring, ring_given, has_settled, is_no_ring, is_claimed_ring}
+use Rattle.pth_model.specs.RingWaits.{extra_ring, ring_given, has_settled, is_no_ring, is_claimed_ring, stops_waiting}
 use Rattle.pth_cond.specs.Barriers.{arrival_answer, barrier_init_answer, has_passed, round_answer, round_answered, taillight}
-use Rattle.pth_cond.specs.Conditions.{cond_init_answer, cond_notify_answer}
+use Rattle.pth_cond.specs.Conditions.{cond_init_answer, cond_notify_answer, is_live}
 use Rattle.pth_cond.specs.declared.barriers.Arrival.{Arrival}
 use Rattle.pth_cond.specs.declared.barriers.Arrival.TheVariants.{Waits, Tail}
 use Rattle.pth_model.specs.Barriers.{arrived_as, tries_round}
@@ -63,12 +67,12 @@ use Rattle.pth_base.specs.declared.event.EventSpec.{EventSpec}
 use Rattle.pth_base.specs.declared.ids.EventId.{EventId}
 use Rattle.pth_kernel.specs.Kernel.{Kernel, fd_named, is_fd_live}
 use Rattle.pth_kernel.specs.Modes.{mode_answer}
-use Rattle.pth_model.specs.Awaits.{death_of, moment_in, round_in, written_in}
+use Rattle.pth_model.specs.Awaits.{death_of, moment_in, round_in, written_in, is_canceled, is_retaking}
 use Rattle.pth_model.specs.Io.{answered_or_waits, trial_for, begins_waiting, tries, at_once, is_refused_length, select_deadline, fdmode, close}
 use Rattle.pth_model.specs.Part.{Part, Move, Take, Step, Close, Halt, next_part, part, part_by, moves, moves_by, takes, takes_by, readies_new, chosen, closes, steps, steps_by, steps_on, turn_after, gives_up, ends_run}
 use Rattle.pth_model.specs.Run.{run, IsBetween}
 use Rattle.pth_model.proofs.Runs.{parts-more, between-none, between-more}
-use Rattle.pth_sched.proofs.Unasked.{IsUnasked, unasked_run, unasked_main}
+use Rattle.pth_sched.proofs.Unasked.{StaysUp, unasked_main, up_run}
 
 running_ended : (v : ℤ) → Running ≡ Ended v → ⊥
 running_ended v h = cc
@@ -282,6 +286,12 @@ module _ {P S H : Type 0} (f : P → Functions S H) (s : State P S H) (t : ℕ) 
   wait_on : (e : ℤ) → EndsNot (wait s e).begin.verdict
   wait_on e = part_on (claim_answer s.control.events (number e)) (Blocks (Ring e)) (blocks_on (Ring e))
 
+  seated_on : (none : Bool) (r : Result (Unit {0}) Errno) (claimed : Bool) (a : Awaits) → EndsNot (refused EINVAL when none otherwise by_result (λ released. refused EBUSY when claimed otherwise Blocks a) r)
+  seated_on true r claimed a v h = cc h
+  seated_on false (Err e) claimed a v h = cc h
+  seated_on false (Ok u) true a v h = cc h
+  seated_on false (Ok u) false a v h = cc h
+
   -- calls that take a mutex or a lock, or wait for it
   turned_on : (b : Bool) (a : Awaits) → EndsNot (refused EBUSY when b otherwise Blocks a)
   turned_on b a = refused_on EBUSY b (Blocks a) (blocks_on a)
@@ -302,6 +312,10 @@ module _ {P S H : Type 0} (f : P → Functions S H) (s : State P S H) (t : ℕ) 
       let busy = not (is_zero u) || is_claimed_ring s (extra_ring e) in
       let answer = lock_take_answer s.resources.store.rw_locks t write l in
       refused_on EINVAL (is_no_ring s (extra_ring e)) (taken_or answer (refused EBUSY when busy otherwise Blocks (Lock l write))) (taken_on answer busy (Lock l write))
+
+  -- a wait at a condition
+  await_on : (c m e : ℤ) → EndsNot (begins_await s t c m e)
+  await_on c m e = seated_on (not (is_live s.control.conditions c) || is_no_ring s (extra_ring e)) (mutex_release_answer s.resources.store.mutexes t m) (is_claimed_ring s (extra_ring e)) (Notice c)
 
   ctrl_again_on : (q : Query) (a : Awaits) → EndsNot ((ctrl s q).again a).verdict
   ctrl_again_on query.Threads a v h = cc h
@@ -329,6 +343,7 @@ module _ {P S H : Type 0} (f : P → Functions S H) (t : ℕ) (v : ℤ) where
 
   exits : (s : State P S H) (c : Call) → IsUp s → (row_of f s t c).begin.verdict ≡ Ends v → (c ≡ call.Exit v) × (must_wait s.control t ≡ false)
   unfolding row_of
+  exits s (call.CondAwait c m e) up h = absurd (await_on f s t c m e v h)
   exits s (call.Exit x) up h = let e = exit_on (must_wait s.control t) x v h in (ap call.Exit e.0, e.1)
   exits s call.Kill up h = absurd (kill_on f s t v h)
   exits s (call.CancelState n) up h = absurd (state_on f s t n v h)
@@ -501,9 +516,9 @@ module _ {P S H : Type 0} (f : P → Functions S H) (t : ℕ) (v : ℤ) where
   begun_ends : (c : Call) (s : State P S H) → IsUp s → (begun f t c s).next ≡ next.Ended v → EndsIt s.control (begun f t c s).told.marks
   begun_ends c s up e = of_exit s c (exit_began s c up e)
 
-  gone_on_as : (s : State P S H) → IsUp s → gone_on f t s ≡ tried_again f t s
-  unfolding gone_on may_be_canceled
-  gone_on_as s up = ap (λ (b : Bool). gone_on_where f t (b && is_at_point (blocked_of s.control t)) s) up
+  where_as : (s : State P S H) → IsUp s → gone_on_where f t (may_be_canceled s.control t) s ≡ tried_again f t s
+  unfolding may_be_canceled
+  where_as s up = ap (λ (b : Bool). gone_on_where f t (b && is_at_point (blocked_of s.control t)) s) up
 
   tried_ends : (s : State P S H) → (tried_again f t s).next ≡ next.Ended v → EndsIt s.control (tried_again f t s).told.marks
   unfolding tried_again
@@ -517,18 +532,60 @@ module _ {P S H : Type 0} (f : P → Functions S H) (t : ℕ) (v : ℤ) where
           let x = exits_again s b.awaits b.call (come_verdict come ((row_of f s t b.call).again b.awaits) (tried_verdict b a.verdict (effect_of a s).state h)) in
           ends_by s.control _ s x.1 (ap (λ (w : Went P S H). w.told.marks) (again_ends s b at x.0 x.1))
 
-  gone_on_ends : (s : State P S H) → IsUp s → (gone_on f t s).next ≡ next.Ended v → EndsIt s.control (gone_on f t s).told.marks
-  gone_on_ends s up e =
-      let tried = tried_ends s (ap (λ (w : Went P S H). w.next) (sym (gone_on_as s up)) ∙ e) in
-      record { free = tried.free; before = tried.before; told = ap (λ (w : Went P S H). w.told.marks) (gone_on_as s up) ∙ tried.told }
+  where_ends : (s : State P S H) → IsUp s → (gone_on_where f t (may_be_canceled s.control t) s).next ≡ next.Ended v → EndsIt s.control (gone_on_where f t (may_be_canceled s.control t) s).told.marks
+  where_ends s up e =
+      let tried = tried_ends s (ap (λ (w : Went P S H). w.next) (sym (where_as s up)) ∙ e) in
+      record { free = tried.free; before = tried.before; told = ap (λ (w : Went P S H). w.told.marks) (where_as s up) ∙ tried.told }
 
-  steps_ends : (s : State P S H) → IsUp s → (steps_on f t s).next ≡ next.Ended v → EndsIt s.control (steps_on f t s).told.marks
+  -- a wait at a condition ends only a thread that was canceled
+  retaken_not : (can : Bool) (k : Call) (m : ℤ) (o : Retake) (s : State P S H) → is_canceled (Retaking m o) ≡ false → (retakes_where f t can k m o s).next ≡ next.Ended v → ⊥
+  retaken_not true k m retake.Notified s plain e = cc e
+  retaken_not true k m retake.Interrupted s plain e = cc e
+  retaken_not true k m retake.Canceled s plain e = cc plain
+  retaken_not false k m o s plain e = cc e
+
+  await_not : (noticed settled : Bool) (k : Call) (c m : ℤ) (s : State P S H) → (awaits_on_where f t false noticed settled k c m s).next ≡ next.Ended v → ⊥
+  await_not true settled k c m s e = let u = controlled (leaves_seat t (Notice c) and stops_waiting t) s in retaken_not (can_take u t m) k m retake.Notified u refl e
+  await_not false true k c m s e = let u = controlled (leaves_seat t (Notice c) and stops_waiting t) s in retaken_not (can_take u t m) k m retake.Interrupted u refl e
+  await_not false false k c m s e = cc e
+
+  same_wait : (n m : ℤ) (o : Retake) → is_canceled (Retaking n o) ≡ false → is_canceled (Retaking m o) ≡ false
+  same_wait n m retake.Canceled plain = plain
+  same_wait n m retake.Notified plain = refl
+  same_wait n m retake.Interrupted plain = refl
+
+  awaits_not : (c m e : ℤ) (a : Awaits) (s : State P S H) → IsUp s → is_canceled a ≡ false → (awaits_on f t c m e a s).next ≡ next.Ended v → ⊥
+  unfolding may_be_canceled
+  awaits_not c m e (Retaking n o) s up plain h = let u = controlled (stops_waiting t) s in retaken_not (can_take u t m) (call.CondAwait c m e) m o u (same_wait n m o plain) h
+  awaits_not c m e a s up plain h =
+      let noticed = is_noticed s t c in
+      let settled = has_settled s.control.events (extra_ring e) in
+      let k = call.CondAwait c m e in
+      await_not noticed settled k c m s (ap (λ (b : Bool). (awaits_on_where f t (b && is_at_point (blocked_of s.control t)) noticed settled k c m s).next) (sym up) ∙ h)
+
+  even_plain : (a : Awaits) → (is_retaking a && (false || is_canceled a)) ≡ false → is_canceled a ≡ false
+  even_plain (Retaking m o) even = even
+  even_plain a even = refl
+
+  gone_on_ends : (s : State P S H) → IsUp s → retakes_oddly (blocked_of s.control t) ≡ false → (gone_on f t s).next ≡ next.Ended v → EndsIt s.control (gone_on f t s).told.marks
+  unfolding gone_on
+  gone_on_ends s up even e = by_blocked (blocked_of s.control t) even e
+    where
+      by_call : (c : Call) (a : Awaits) → retakes_oddly (Some (record { call = c; awaits = a })) ≡ false → (gone_on_in f t c a s).next ≡ next.Ended v → EndsIt s.control (gone_on_in f t c a s).told.marks
+      by_call (call.CondAwait c m x) a even h = absurd (awaits_not c m x a s up (even_plain a even) h)
+      by_call c a even h = where_ends s up h
+
+      by_blocked : (o : Option Blocked) → retakes_oddly o ≡ false → (gone_on_by f t o s).next ≡ next.Ended v → EndsIt s.control (gone_on_by f t o s).told.marks
+      by_blocked None even h = absurd (cc h)
+      by_blocked (Some b) even h = by_call b.call b.awaits even h
+
+  steps_ends : (s : State P S H) → IsUp s → retakes_oddly (blocked_of s.control t) ≡ false → (steps_on f t s).next ≡ next.Ended v → EndsIt s.control (steps_on f t s).told.marks
   unfolding goes_on is_alone
-  steps_ends s up e = by_progress (blocked_of s.control t) (s.control.threads.progress t) e
+  steps_ends s up even e = by_progress (blocked_of s.control t) (s.control.threads.progress t) e
     where
       by_progress : (b : Option Blocked) (p : Option (Progress S)) → (steps_by f t b p s).next ≡ next.Ended v → EndsIt s.control (steps_by f t b p s).told.marks
-      by_progress (Some b) p h = gone_on_ends s up h
-      by_progress None None h = gone_on_ends s up h
+      by_progress (Some b) p h = gone_on_ends s up even h
+      by_progress None None h = gone_on_ends s up even h
       by_progress None (Some p) h = (let b = begun_ends _ _ up h in record { free = b.free; before = b.before; told = b.told })
 
 -- who is main, and whose call ended it
@@ -553,36 +610,36 @@ module _ {P S H : Type 0} where
     before : List Mark
     told : marks ≡ before ++ End (tid main) v ∷ []
 
-  step_ends : (f : P → Functions S H) (x : Turn) (s : State P S H) (t : ℕ) (v : ℤ) → IsUnasked s.control → x.outcome ≡ Running → (steps f x t s).turn.outcome ≡ Ended v → (t ≡ main) × (is_alone s.control t ≡ true) × ((before : List Mark) × ((steps f x t s).marks ≡ before ++ End (tid t) v ∷ []))
+  step_ends : (f : P → Functions S H) (x : Turn) (s : State P S H) (t : ℕ) (v : ℤ) → StaysUp s.control → x.outcome ≡ Running → (steps f x t s).turn.outcome ≡ Ended v → (t ≡ main) × (is_alone s.control t ≡ true) × ((before : List Mark) × ((steps f x t s).marks ≡ before ++ End (tid t) v ∷ []))
   unfolding steps
-  step_ends f x s t v unasked on e =
+  step_ends f x s t v up on e =
       let main_is = turn_ended t v (steps_on f t s).next (record x { steps = x.steps + 1 }) on e in
       let same = same_means t main main_is.0 in
-      let ends = steps_ends f t v s (subst (λ (u : ℕ). is_to_cancel (or_nobody (entry_of s.control u)) ≡ false) (sym same) (unasked_main s.control unasked)) main_is.1 in
+      let ends = steps_ends f t v s (subst (λ (u : ℕ). is_to_cancel (or_nobody (entry_of s.control u)) ≡ false) (sym same) (unasked_main s.control up.0)) (subst (λ (u : ℕ). retakes_oddly (blocked_of s.control u) ≡ false) (sym same) up.1) main_is.1 in
       (same, alone_by (t == main) (is_alone s.control t) main_is.0 ends.free, (ends.before, ends.told))
 
-  part_ends : (f : P → Functions S H) (x : Turn) (s : State P S H) (v : ℤ) (p : Part) → IsUnasked s.control → next_part s x ≡ p → x.outcome ≡ Running → (part_by f x s p).turn.outcome ≡ Ended v → EndsMain x s (part_by f x s p).marks v
+  part_ends : (f : P → Functions S H) (x : Turn) (s : State P S H) (v : ℤ) (p : Part) → StaysUp s.control → next_part s x ≡ p → x.outcome ≡ Running → (part_by f x s p).turn.outcome ≡ Ended v → EndsMain x s (part_by f x s p).marks v
   unfolding moves takes closes
-  part_ends f x s v Move unasked comes on e = by_moment (moment s) e
+  part_ends f x s v Move up comes on e = by_moment (moment s) e
     where
       by_moment : (o : Option ℕ) → (moves_by x o s).turn.outcome ≡ Ended v → EndsMain x s (moves_by x o s).marks v
       by_moment None h = absurd (cc h)
       by_moment (Some m) h = absurd (running_ended v (sym on ∙ h))
-  part_ends f x s v Take unasked comes on e = by_next (chosen (readies_new s.control).scheduler.preferred (queue (readies_new s.control) queues.Ready)) e
+  part_ends f x s v Take up comes on e = by_next (chosen (readies_new s.control).scheduler.preferred (queue (readies_new s.control) queues.Ready)) e
     where
       by_next : (o : Option ℕ) → (takes_by x o (controlled readies_new s)).turn.outcome ≡ Ended v → EndsMain x s (takes_by x o (controlled readies_new s)).marks v
       by_next None h = absurd (running_ended v (sym on ∙ h))
       by_next (Some t) h = absurd (running_ended v (sym on ∙ h))
-  part_ends f x s v (Step t) unasked comes on e =
-      let k = step_ends f x s t v unasked on e in
+  part_ends f x s v (Step t) up comes on e =
+      let k = step_ends f x s t v up on e in
       record { step = comes ∙ ap Step k.0; alone = subst (λ (u : ℕ). is_alone s.control u ≡ true) k.0 k.1; before = k.2.0; told = k.2.1 ∙ ap (λ (u : ℕ). k.2.0 ++ End (tid u) v ∷ []) k.0 }
-  part_ends f x s v (Close t) unasked comes on e = absurd (running_ended v (sym on ∙ e))
-  part_ends f x s v Halt unasked comes on e = absurd (running_ended v (sym on ∙ e))
+  part_ends f x s v (Close t) up comes on e = absurd (running_ended v (sym on ∙ e))
+  part_ends f x s v Halt up comes on e = absurd (running_ended v (sym on ∙ e))
 
   module _ (f : P → Functions S H) (g : Given P) (i : ℕ) (v : ℤ) (on : (run f g i).turn.outcome ≡ Running) (e : (run f g (i + 1)).turn.outcome ≡ Ended v) where
     run_ends : EndsMain (run f g i).turn (run f g i).state (part f (run f g i).turn (run f g i).state).marks v
     unfolding part
-    run_ends = part_ends f (run f g i).turn (run f g i).state v (next_part (run f g i).state (run f g i).turn) (unasked_run f g i) refl on (subst (λ (x : Course P S H). x.turn.outcome ≡ Ended v) (parts-more f (start f g) i) e)
+    run_ends = part_ends f (run f g i).turn (run f g i).state v (next_part (run f g i).state (run f g i).turn) (up_run f g i) refl on (subst (λ (x : Course P S H). x.turn.outcome ≡ Ended v) (parts-more f (start f g) i) e)
 
     pub ends_step : next_part (run f g i).state (run f g i).turn ≡ Step main
     ends_step = run_ends.step

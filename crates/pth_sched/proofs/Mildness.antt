@@ -1,5 +1,6 @@
 -- The calls that are mild leave all other threads, and what they wait for, as they are.
 use Rattle.std.proofs.Common.{◌≡◌, ◌∙◌, ◌==◌, ℕ, not, Bool, true, false, if◌then◌else◌, ℤ, pos, length, Option, Some, None, option_map, Result, Ok, Err, refl, sym, ap, subst}
+use Rattle.pth_waits.proofs.Canceling.{by_other}
 use Rattle.pth_base.specs.Program.{Functions, Stepped}
 use Rattle.pth_base.proofs.Tables.{put_by, put_other, same_means}
 use Rattle.pth_base.specs.declared.answer.Answer.{Answer}
@@ -30,7 +31,7 @@ use Rattle.pth_model.specs.Times.{is_negative, length_of, moment_after}
 use Rattle.pth_model.specs.declared.awaits.Awaits.{Awaits}
 use Rattle.pth_model.specs.declared.awaits.Awaits.TheVariants.{Reading, Writing, Connection, ConnectAnswer, Selection, Round}
 use Rattle.pth_model.specs.declared.blocked.Blocked.{Blocked}
-use Rattle.pth_model.specs.Awaits.{death_of, round_in}
+use Rattle.pth_model.specs.Awaits.{death_of, round_in, is_await}
 use Rattle.pth_model.specs.Io.{at_once, begins_waiting, is_refused_length, select_deadline, trial_for, tries}
 use Rattle.pth_model.specs.declared.next.Next.{Next}
 use Rattle.pth_model.specs.declared.next.Next.TheVariants as next
@@ -38,10 +39,10 @@ use Rattle.pth_model.specs.declared.progress.Progress.{Progress}
 use Rattle.pth_queue.specs.declared.queue.Queue.TheVariants as queues
 use Rattle.pth_model.specs.LibraryControl.{running_count}
 use Rattle.pth_model.specs.State.{State, now_of, present, queue}
-use Rattle.pth_model.specs.Transition.{silent, nothing, controlled, changes, tells, tid, ◌and_then◌}
+use Rattle.pth_model.specs.Transition.{silent, nothing, controlled, changes, tells, tid, ◌and_then◌, Went}
 use Rattle.pth_model.specs.Changes.{blocked_of, blocked_in, blocking, favours_new, goes_on, or_nobody, prefers, with_barriers, with_kernel}
 use Rattle.pth_model.specs.Cancellation.{may_be_canceled}
-use Rattle.pth_model.specs.Calls.{begun, begun_as, gone_on, gone_on_where, tried_again_by, canceled_by, tried, tried_again, interrupted, unless_settled, waits_by}
+use Rattle.pth_model.specs.Calls.{begun, begun_as, gone_on, gone_on_where, tried_again_by, canceled_by, tried, tried_again, interrupted, unless_settled, waits_by, gone_on_by}
 use Rattle.pth_model.specs.Part.{owes_after, stepping}
 use Rattle.pth_model.specs.Resources.{Resources, told, answer_told, wait_told}
 use Rattle.pth_model.specs.RingWaits.{ring_given, claims, extra_ring, has_settled, is_no_ring}
@@ -119,6 +120,7 @@ module _ {P S H : Type 0} (t : ℕ) where
     mutexes = refl;
     locks = refl;
     rounds = λ b r h. h;
+    seats = refl;
     blocked = λ u apart. ap (λ (o : Option (Progress S)). blocked_in o) (put_other s.control.threads.progress t _ u apart);
   }
 
@@ -139,6 +141,7 @@ module _ {P S H : Type 0} (t : ℕ) where
     mutexes = refl;
     locks = refl;
     rounds = λ b r h. h;
+    seats = refl;
     blocked = λ u apart. ap (λ (o : Option (Progress S)). blocked_in o) (put_other s.control.threads.progress t _ u apart);
   }
 
@@ -154,6 +157,7 @@ module _ {P S H : Type 0} (t : ℕ) where
     mutexes = refl;
     locks = refl;
     rounds = λ b r h. h;
+    seats = refl;
     blocked = λ u apart. refl;
   }
 
@@ -167,7 +171,7 @@ module _ {P S H : Type 0} (t : ℕ) where
 
   -- an attempt takes nothing of a descriptor
   takes_mild : (h : Kernel → Kernel) (s : State P S H) → h s.control.kernel ≡ s.control.kernel → IsMild t s (controlled (with_kernel h) s)
-  takes_mild h s same = record { known = refl; running = refl; kernel = same; events = same_pending s.control.events; mutexes = refl; locks = refl; rounds = λ b r h. h; blocked = λ u apart. refl }
+  takes_mild h s same = record { known = refl; running = refl; kernel = same; events = same_pending s.control.events; mutexes = refl; locks = refl; rounds = λ b r h. h; seats = refl; blocked = λ u apart. refl }
 
   -- ---- calls that begin
 
@@ -216,7 +220,7 @@ module _ {P S H : Type 0} (t : ℕ) where
     reaches_by b (Ok (Waits round)) is waits =
         let r = controlled (with_barriers (barrier_reached b t)) s in
         mild_then t s r (waits_by t (call.BarrierReach b) (Round b round) r).state
-        (record { known = refl; running = refl; kernel = refl; events = same_pending s.control.events; mutexes = refl; locks = refl; rounds = waiting_rounds s.control.barriers b t round is; blocked = λ u apart. refl })
+        (record { known = refl; running = refl; kernel = refl; events = same_pending s.control.events; mutexes = refl; locks = refl; rounds = waiting_rounds s.control.barriers b t round is; seats = refl; blocked = λ u apart. refl })
         (waits_mild (call.BarrierReach b) (Round b round) (λ x. refl) r)
     reaches_by b (Ok Tail) is waits = absurd (cc waits)
     reaches_by b (Err e) is waits = absurd (cc waits)
@@ -248,7 +252,7 @@ module _ {P S H : Type 0} (t : ℕ) where
 
     prefers_mild : (z : Bool) (p : Option ℕ) → IsMild t s (controlled (if z then nothing else prefers p) s)
     prefers_mild true p = mild_same t s
-    prefers_mild false p = record { known = refl; running = refl; kernel = refl; events = same_pending s.control.events; mutexes = refl; locks = refl; rounds = λ b r h. h; blocked = λ u apart. refl }
+    prefers_mild false p = record { known = refl; running = refl; kernel = refl; events = same_pending s.control.events; mutexes = refl; locks = refl; rounds = λ b r h. h; seats = refl; blocked = λ u apart. refl }
 
     yield_mild : (n : ℤ) (b : Bool) → IsMild t s (begun_as f t (call.Yield n) (refused EINVAL when b otherwise Yields (Int (pos 1)) trying changes (if is_zero n then nothing else prefers (Some (number n)))) s).told.state
     unfolding told answer_told
@@ -283,7 +287,7 @@ module _ {P S H : Type 0} (t : ℕ) where
     favours_mild : (n : ℤ) (b : Bool) (m : ℕ) (y : Bool) → IsMild t s (begun_as f t (call.Ctrl (query.Favournew n)) (refused EINVAL when b otherwise says m trying changes (favours_new y)) s).told.state
     unfolding told answer_told
     favours_mild n true m y = mild_same t s
-    favours_mild n false m y = record { known = refl; running = refl; kernel = refl; events = same_pending s.control.events; mutexes = refl; locks = refl; rounds = λ b r h. h; blocked = λ u apart. refl }
+    favours_mild n false m y = record { known = refl; running = refl; kernel = refl; events = same_pending s.control.events; mutexes = refl; locks = refl; rounds = λ b r h. h; seats = refl; blocked = λ u apart. refl }
 
     ctrl_mild : (q : Query) → IsMild t s (begun f t (call.Ctrl q) s).told.state
     unfolding begun row_of answer_told
@@ -428,7 +432,13 @@ module _ {P S H : Type 0} (t : ℕ) where
     goes_on_where false b is may mild waits =
         subst (λ (o : Option Blocked). IsMild t s (tried_again_by f t o s).told.state) (sym is) (goes_on_by b may mild (subst (λ (o : Option Blocked). is_waiting (tried_again_by f t o s).next ≡ true) is waits))
 
+    mildly_other : (c : Call) → waits_mildly s.control.kernel c ≡ true → is_await c ≡ false
+    mildly_other (call.CondAwait x m e) mild = absurd (cc mild)
+    mildly_other c mild = refl
+
     -- a call that is tried again, and waits on
     pub goes_on_mild : (b : Blocked) → blocked_of s.control t ≡ Some b → MayBlock t b → waits_mildly s.control.kernel b.call ≡ true → is_waiting (gone_on f t s).next ≡ true → IsMild t s (gone_on f t s).told.state
     unfolding gone_on
-    goes_on_mild b is may mild waits = goes_on_where (may_be_canceled s.control t) b is may mild waits
+    goes_on_mild b is may mild waits =
+        let same : gone_on f t s ≡ gone_on_where f t (may_be_canceled s.control t) s = ap (λ (o : Option Blocked). gone_on_by f t o s) is ∙ by_other f t b.call b.awaits (mildly_other b.call mild) s in
+        subst (λ (w : Went P S H). IsMild t s w.told.state) (sym same) (goes_on_where (may_be_canceled s.control t) b is may mild (ap (λ (w : Went P S H). is_waiting w.next) (sym same) ∙ waits))

@@ -168,7 +168,8 @@ module _ {P S H : Type 0} (f : P → Functions S H) (t n : ℕ) where
       used = λ o k is. is;
       requested = λ u b k apart is. is;
     };
-    goes = λ u g k is. is;
+    goes = λ u g k odd is. is;
+    blocked = λ b j k odd was is. is;
     claimed = λ x k is. is;
     preferred = λ u k runs is. is;
     left = left_at t;

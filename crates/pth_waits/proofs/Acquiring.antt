@@ -1,5 +1,6 @@
 -- Attempts to have a mutex or a lock.
 use Rattle.std.proofs.Common.{◌≡◌, ◌≢◌, ◌∙◌, ◌||◌, ◌&&◌, not, ℕ, ℤ, pos, Bool, true, false, is_none, is_ok, Option, Some, None, Result, Ok, Err, if◌then◌else◌, refl, sym, ap, subst}
+use Rattle.pth_model.specs.Awaits.{is_await}
 use Rattle.pth_base.specs.declared.answer.Answer.TheVariants.{Int}
 use Rattle.pth_base.specs.declared.call.Call.{Call}
 use Rattle.pth_base.specs.declared.call.Call.TheVariants.{MutexAcquire, RwAcquire}
@@ -28,7 +29,7 @@ use Rattle.pth_world.specs.StateOf.{state_of}
 use Rattle.pth_world.specs.Store.{store_of}
 use Rattle.pth_world.specs.Whole.{MayAwaitAs}
 use Rattle.pth_world.specs.World.{WorldOf}
-use Rattle.pth_waits.proofs.Attempting.{none_ready, quiet_attempts, quiet_tries, refused_ready, waits_for_none}
+use Rattle.pth_waits.proofs.Attempting.{none_ready, quiet_attempts, quiet_tries, refused_ready}
 
 -- ---- what is taken
 
@@ -99,7 +100,7 @@ may_come t c a false true (Err EBUSY) may = tt
 may_come t c a false false (Err EBUSY) may = may
 may_come t c a false busy (Err e) may = tt
 
-module _ {P S H : Type 0} (t : ℕ) (c : Call) (a : Awaits) (may : MayAwaitAs t c a) (w : WorldOf P S H) where
+module _ {P S H : Type 0} (t : ℕ) (c : Call) (a : Awaits) (may : MayAwaitAs t c a) (other : is_await c ≡ false) (w : WorldOf P S H) where
   module _ (sound : IsSound w.threads) (ring : Option ℤ) (take : Store → Result (Unit {0}) Errno) (only_tries : Bool) where
     -- another has what the call wants
     abbrev pub turned_away : State P S H → Verdict
@@ -119,7 +120,7 @@ module _ {P S H : Type 0} (t : ℕ) (c : Call) (a : Awaits) (may : MayAwaitAs t 
     without_ring none =
         attempts_by w (refused EINVAL)
         (λ s st. ap (λ (b : Bool). refused EINVAL when b otherwise taken_or (take s.resources.store) (turned_away s)) (none s st))
-        (λ s st. refused_ready w t c ring EINVAL s (waits_for_none t c a may) st)
+        (λ s st. refused_ready w t c ring EINVAL s other st)
 
     -- else it comes to what follows from what it is answered as it takes what it wants
     pub by_taking : (v : WorldOf P S H) (x : Verdict) (r : Result (Unit {0}) Errno) → ((s : State P S H) → StandsFor w s → is_no_ring s ring ≡ false) → r ≡ take (store_of w.store) → ((s : State P S H) → StandsFor w s → taken_or r (turned_away s) ≡ x) → ((s : State P S H) → StandsFor w s → IsReady v t c ring x s) → Attempts false w v t c ring (λ s. acquiring s trying silent) x
@@ -146,4 +147,4 @@ module _ {P S H : Type 0} (t : ℕ) (c : Call) (a : Awaits) (may : MayAwaitAs t 
     waits_again is =
         quiet_tries w w t (record { call = c; awaits = b }) (λ s. acquiring_again s trying silent) (Blocks a) (λ s. refl)
         (λ s st. ap (λ (o : Bool). says 1 when o otherwise Blocks a) (is s st))
-        (λ s st. none_ready w t c a s st) may refl
+        (λ s st. none_ready w t c a s other st) may refl

@@ -12,7 +12,8 @@ use Rattle.pth_kernel.specs.Moments.{least_after, least_by}
 use Rattle.pth_io.specs.Attempts.{are_all_live, is_any_ready, is_past, select_answer, sets_answer, fails, not_yet, ◌when◌otherwise◌}
 use Rattle.pth_ring.specs.declared.event.Status.TheVariants.{Pending, Occurred, Failed}
 use Rattle.pth_model.specs.declared.awaits.Awaits.{Awaits}
-use Rattle.pth_model.specs.declared.awaits.Awaits.TheVariants.{Nothing, Alone, Death, AnyDeath, Moment, Ring, Selection, Mutex, Lock, Round}
+use Rattle.pth_model.specs.declared.awaits.Retake.{Retake}
+use Rattle.pth_model.specs.declared.awaits.Awaits.TheVariants.{Nothing, Alone, Death, AnyDeath, Moment, Ring, Selection, Mutex, Lock, Round, Notice, Retaking}
 use Rattle.pth_model.specs.State.{Control, State, now_of}
 use Rattle.pth_model.specs.Coming.{descriptors_bring}
 use Rattle.pth_model.specs.Looks.{found}
@@ -49,18 +50,20 @@ module _ (k : Kernel) (a : Awaits) (is : descriptors_bring k a ≡ false) (arriv
   until_deadline n later early = bring_still k n (all_at n later early) a (no_deadline_by n later early a (omega (arith, least))) ∙ is
 
 -- what stays away that is awaited at descriptors
-pub descriptors_stay : {P S H : Type 0} (s : State P S H) (until t : ℕ) (a : Awaits) → (a ≡ Alone → ⊥) → (a ≡ AnyDeath → ⊥) → ((n : ℤ) → a ≡ Death n → ⊥) → ((m : ℕ) → a ≡ Moment m → ⊥) → ((m : ℤ) → a ≡ Mutex m → ⊥) → ((l : ℤ) (write : Bool) → a ≡ Lock l write → ⊥) → ((x : ℤ) (round : ℕ) → a ≡ Round x round → ⊥)
+pub descriptors_stay : {P S H : Type 0} (s : State P S H) (until t : ℕ) (a : Awaits) → (a ≡ Alone → ⊥) → (a ≡ AnyDeath → ⊥) → ((n : ℤ) → a ≡ Death n → ⊥) → ((m : ℕ) → a ≡ Moment m → ⊥) → ((m : ℤ) → a ≡ Mutex m → ⊥) → ((l : ℤ) (write : Bool) → a ≡ Lock l write → ⊥) → ((x : ℤ) (round : ℕ) → a ≡ Round x round → ⊥) → ((x : ℤ) → a ≡ Notice x → ⊥) → ((m : ℤ) (o : Retake) → a ≡ Retaking m o → ⊥)
     → (z : Kernel) → s.control.kernel ≡ z → ((n : ℕ) → z.now ≤ n → n < until → descriptors_bring (advanced n z) a ≡ false) → StaysAway s until t a
-descriptors_stay s until t Alone a b c d e f g z is away = absurd (a refl)
-descriptors_stay s until t AnyDeath a b c d e f g z is away = absurd (b refl)
-descriptors_stay s until t (Death n) a b c d e f g z is away = absurd (c n refl)
-descriptors_stay s until t (Moment m) a b c d e f g z is away = absurd (d m refl)
-descriptors_stay s until t (Mutex m) a b c d e f g z is away = absurd (e m refl)
-descriptors_stay s until t (Lock l write) a b c d e f g z is away = absurd (f l write refl)
-descriptors_stay s until t (Round x round) a b c d e f g z is away = absurd (g x round refl)
-descriptors_stay s until t Nothing a b c d e f g z is away = λ n l h. refl
-descriptors_stay s until t (Ring r) a b c d e f g z is away = λ n l h. refl
-descriptors_stay s until t o a b c d e f g z is away = subst (λ (y : Kernel). (n : ℕ) → y.now ≤ n → n < until → descriptors_bring (advanced n y) o ≡ false) (sym is) away
+descriptors_stay s until t Alone a b c d e f g h i z is away = absurd (a refl)
+descriptors_stay s until t AnyDeath a b c d e f g h i z is away = absurd (b refl)
+descriptors_stay s until t (Death n) a b c d e f g h i z is away = absurd (c n refl)
+descriptors_stay s until t (Moment m) a b c d e f g h i z is away = absurd (d m refl)
+descriptors_stay s until t (Mutex m) a b c d e f g h i z is away = absurd (e m refl)
+descriptors_stay s until t (Lock l write) a b c d e f g h i z is away = absurd (f l write refl)
+descriptors_stay s until t (Round x round) a b c d e f g h i z is away = absurd (g x round refl)
+descriptors_stay s until t (Notice x) a b c d e f g h i z is away = absurd (h x refl)
+descriptors_stay s until t (Retaking m o) a b c d e f g h i z is away = absurd (i m o refl)
+descriptors_stay s until t Nothing a b c d e f g h i z is away = λ n l x. refl
+descriptors_stay s until t (Ring r) a b c d e f g h i z is away = λ n l x. refl
+descriptors_stay s until t o a b c d e f g h i z is away = subst (λ (y : Kernel). (n : ℕ) → y.now ≤ n → n < until → descriptors_bring (advanced n y) o ≡ false) (sym is) away
 
 found_by : (live occurs : Bool) → live ≡ true → occurs ≡ false → (if not live then Failed else (if occurs then Occurred else Pending)) ≡ Pending
 found_by live occurs a b = rw (a, b) refl

@@ -53,34 +53,35 @@ module _ {P S H : Type 0} (s : State P S H) where
   -- a call that blocks a thread, and is none of these, is one on descriptors
   pub descriptors_else : (t : ℕ) (c : Call) (a : Awaits) → MayAwaitAs t c a
       → ((n : ℤ) → c ≢ call.Join n) → ((v : ℤ) → c ≢ call.Exit v) → ((n : ℤ) → c ≢ call.Nap n) → ((n : ℤ) → c ≢ call.Usleep n) → ((n : ℤ) → c ≢ call.Sleep n) → ((e : ℤ) → c ≢ call.Wait e)
-      → ((m v e : ℤ) → c ≢ call.MutexAcquire m v e) → ((l : ℤ) (write : Bool) (v e : ℤ) → c ≢ call.RwAcquire l write v e) → ((b : ℤ) → c ≢ call.BarrierReach b) → IsSome (first_awaited s c)
-  descriptors_else t (call.Join n) a may join exit nap usleep sleep wait mutex lock reach = absurd (join n refl)
-  descriptors_else t (call.Exit v) a may join exit nap usleep sleep wait mutex lock reach = absurd (exit v refl)
-  descriptors_else t (call.Nap n) a may join exit nap usleep sleep wait mutex lock reach = absurd (nap n refl)
-  descriptors_else t (call.Usleep n) a may join exit nap usleep sleep wait mutex lock reach = absurd (usleep n refl)
-  descriptors_else t (call.Sleep n) a may join exit nap usleep sleep wait mutex lock reach = absurd (sleep n refl)
-  descriptors_else t (call.Wait e) a may join exit nap usleep sleep wait mutex lock reach = absurd (wait e refl)
-  descriptors_else t (call.MutexAcquire m v e) a may join exit nap usleep sleep wait mutex lock reach = absurd (mutex m v e refl)
-  descriptors_else t (call.RwAcquire l write v e) a may join exit nap usleep sleep wait mutex lock reach = absurd (lock l write v e refl)
-  descriptors_else t (call.BarrierReach b) a may join exit nap usleep sleep wait mutex lock reach = absurd (reach b refl)
-  descriptors_else t (call.Read f n) a may join exit nap usleep sleep wait mutex lock reach = refl
-  descriptors_else t (call.ReadEv f n e) a may join exit nap usleep sleep wait mutex lock reach = refl
-  descriptors_else t (call.Write f bytes) a may join exit nap usleep sleep wait mutex lock reach = refl
-  descriptors_else t (call.WriteEv f bytes e) a may join exit nap usleep sleep wait mutex lock reach = refl
-  descriptors_else t (call.Accept f) a may join exit nap usleep sleep wait mutex lock reach = refl
-  descriptors_else t (call.AcceptEv f e) a may join exit nap usleep sleep wait mutex lock reach = refl
-  descriptors_else t (call.Connect f) a may join exit nap usleep sleep wait mutex lock reach = refl
-  descriptors_else t (call.ConnectEv f e) a may join exit nap usleep sleep wait mutex lock reach = refl
-  descriptors_else t (call.Select r w x l) a may join exit nap usleep sleep wait mutex lock reach = refl
-  descriptors_else t (call.SelectEv r w x l e) a may join exit nap usleep sleep wait mutex lock reach = refl
-  descriptors_else t c a may join exit nap usleep sleep wait mutex lock reach = absurd may
+      → ((m v e : ℤ) → c ≢ call.MutexAcquire m v e) → ((l : ℤ) (write : Bool) (v e : ℤ) → c ≢ call.RwAcquire l write v e) → ((b : ℤ) → c ≢ call.BarrierReach b) → is_await c ≡ false → IsSome (first_awaited s c)
+  descriptors_else t (call.Join n) a may join exit nap usleep sleep wait mutex lock reach other = absurd (join n refl)
+  descriptors_else t (call.Exit v) a may join exit nap usleep sleep wait mutex lock reach other = absurd (exit v refl)
+  descriptors_else t (call.Nap n) a may join exit nap usleep sleep wait mutex lock reach other = absurd (nap n refl)
+  descriptors_else t (call.Usleep n) a may join exit nap usleep sleep wait mutex lock reach other = absurd (usleep n refl)
+  descriptors_else t (call.Sleep n) a may join exit nap usleep sleep wait mutex lock reach other = absurd (sleep n refl)
+  descriptors_else t (call.Wait e) a may join exit nap usleep sleep wait mutex lock reach other = absurd (wait e refl)
+  descriptors_else t (call.MutexAcquire m v e) a may join exit nap usleep sleep wait mutex lock reach other = absurd (mutex m v e refl)
+  descriptors_else t (call.RwAcquire l write v e) a may join exit nap usleep sleep wait mutex lock reach other = absurd (lock l write v e refl)
+  descriptors_else t (call.BarrierReach b) a may join exit nap usleep sleep wait mutex lock reach other = absurd (reach b refl)
+  descriptors_else t (call.CondAwait x m e) a may join exit nap usleep sleep wait mutex lock reach other = absurd (cc other)
+  descriptors_else t (call.Read f n) a may join exit nap usleep sleep wait mutex lock reach other = refl
+  descriptors_else t (call.ReadEv f n e) a may join exit nap usleep sleep wait mutex lock reach other = refl
+  descriptors_else t (call.Write f bytes) a may join exit nap usleep sleep wait mutex lock reach other = refl
+  descriptors_else t (call.WriteEv f bytes e) a may join exit nap usleep sleep wait mutex lock reach other = refl
+  descriptors_else t (call.Accept f) a may join exit nap usleep sleep wait mutex lock reach other = refl
+  descriptors_else t (call.AcceptEv f e) a may join exit nap usleep sleep wait mutex lock reach other = refl
+  descriptors_else t (call.Connect f) a may join exit nap usleep sleep wait mutex lock reach other = refl
+  descriptors_else t (call.ConnectEv f e) a may join exit nap usleep sleep wait mutex lock reach other = refl
+  descriptors_else t (call.Select r w x l) a may join exit nap usleep sleep wait mutex lock reach other = refl
+  descriptors_else t (call.SelectEv r w x l e) a may join exit nap usleep sleep wait mutex lock reach other = refl
+  descriptors_else t c a may join exit nap usleep sleep wait mutex lock reach other = absurd may
 
   -- so a call that is neither one of these nor on descriptors never blocks a thread
   pub others_never : (c : Call) → first_awaited s c ≡ None
       → ((n : ℤ) → c ≢ call.Join n) → ((v : ℤ) → c ≢ call.Exit v) → ((n : ℤ) → c ≢ call.Nap n) → ((n : ℤ) → c ≢ call.Usleep n) → ((n : ℤ) → c ≢ call.Sleep n) → ((e : ℤ) → c ≢ call.Wait e)
-      → ((m v e : ℤ) → c ≢ call.MutexAcquire m v e) → ((l : ℤ) (write : Bool) (v e : ℤ) → c ≢ call.RwAcquire l write v e) → ((b : ℤ) → c ≢ call.BarrierReach b) → (t : ℕ) (a : Awaits) → MayAwaitAs t c a → ⊥
-  others_never c none join exit nap usleep sleep wait mutex lock reach t a may =
-      cc (none, descriptors_else t c a may join exit nap usleep sleep wait mutex lock reach)
+      → ((m v e : ℤ) → c ≢ call.MutexAcquire m v e) → ((l : ℤ) (write : Bool) (v e : ℤ) → c ≢ call.RwAcquire l write v e) → ((b : ℤ) → c ≢ call.BarrierReach b) → is_await c ≡ false → (t : ℕ) (a : Awaits) → MayAwaitAs t c a → ⊥
+  others_never c none join exit nap usleep sleep wait mutex lock reach other t a may =
+      cc (none, descriptors_else t c a may join exit nap usleep sleep wait mutex lock reach other)
 
 -- ---- as a call is tried again
 

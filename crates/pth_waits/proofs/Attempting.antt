@@ -1,14 +1,9 @@
 -- Attempts at calls: what they come to, and when that can be carried out.
-use Rattle.std.proofs.Common.{◌≡◌, ◌∙◌, ℕ, ℤ, Bool, true, false, Option, None, refl, sym, ap, subst, if◌then◌else◌}
-use Rattle.pth_lock.specs.Objects.{object_named}
-use Rattle.pth_base.specs.declared.errno.Errno.TheVariants.{EINVAL}
-use Rattle.pth_model.specs.Verdict.{refused}
-use Rattle.pth_model.specs.Resources.{answer_told, retaken, told}
+use Rattle.std.proofs.Common.{◌≡◌, ◌∙◌, ℕ, ℤ, Bool, true, false, Option, None, refl, sym, ap, subst}
 use Rattle.pth_base.specs.Naming.{seen}
 use Rattle.pth_base.specs.Table.{table}
 use Rattle.pth_base.specs.declared.answer.Answer.{Answer}
 use Rattle.pth_base.specs.declared.call.Call.{Call}
-use Rattle.pth_base.specs.declared.call.Call.TheVariants as call
 use Rattle.pth_base.specs.declared.errno.Errno.{Errno}
 use Rattle.pth_base.specs.declared.answer.Answer.TheVariants.{Fail}
 use Rattle.pth_base.specs.declared.mark.Mark.TheVariants.{Answered}
@@ -19,22 +14,16 @@ use Rattle.pth_model.specs.declared.verdict.Verdict.{Verdict}
 use Rattle.pth_model.specs.declared.verdict.Verdict.TheVariants.{Says, Yields, Blocks, Ends, Kills}
 use Rattle.pth_model.specs.Awaits.{is_await}
 use Rattle.pth_model.specs.Changes.{blocked_in, blocked_of}
-use Rattle.pth_model.specs.RingWaits.{claims, ring_given}
-use Rattle.pth_model.specs.Row.{Attempt, effect_of, refuses, unless_refused, unbuilt}
+use Rattle.pth_model.specs.RingWaits.{claims}
+use Rattle.pth_model.specs.Row.{Attempt, effect_of, refuses, unless_refused}
 use Rattle.pth_model.specs.State.{Control, State}
-use Rattle.pth_model.specs.Transition.{Piece, silent, tid}
+use Rattle.pth_model.specs.Transition.{controlled, Piece, silent, tid}
 use Rattle.pth_world.proofs.Telling.{quiet-refused}
 use Rattle.pth_world.specs.Leading.{Attempts, Changed, IsIdle, IsQuiet, IsReady, MayComeTo, Tries}
 use Rattle.pth_world.specs.Shows.{Shows, StandsFor}
 use Rattle.pth_world.specs.Store.{store_of}
-use Rattle.pth_world.specs.Whole.{MayAwaitAs}
 use Rattle.pth_world.specs.World.{WorldOf, ThreadsBySlot}
-use Rattle.pth_waits.proofs.Blocking.{quiet_once}
-
--- no call blocks that awaits a condition
-pub waits_for_none : (t : ℕ) (c : Call) (a : Awaits) → MayAwaitAs t c a → is_await c ≡ false
-waits_for_none t (call.CondAwait x m e) a may = absurd may
-waits_for_none t c a may = refl
+use Rattle.pth_waits.proofs.Blocking.{quiet_once, waits_once}
 
 -- no answer to the call tells anything of what threads have
 abbrev pub IsQuietCall : ℕ → Call → Type 0
@@ -50,25 +39,25 @@ module _ {P S H : Type 0} where
   -- ---- when a verdict can be carried out
 
   -- a ring is claimed, if there is one
-  pub claimed_ready : (v : WorldOf P S H) (t : ℕ) (c : Call) (ring : Option ℤ) (a : Awaits) (s : State P S H) → Shows v (claims t ring s.control) → s.resources.store ≡ store_of v.store → IsReady v t c ring (Blocks a) s
-  claimed_ready v t c ring a s sh has = record { control = sh; store = has }
+  pub claimed_ready : (v : WorldOf P S H) (t : ℕ) (c : Call) (ring : Option ℤ) (a : Awaits) (s : State P S H) → is_await c ≡ false → Shows v (claims t ring s.control) → s.resources.store ≡ store_of v.store → IsReady v t c ring (Blocks a) s
+  claimed_ready v t c ring a s other sh has = waits_once v (controlled (claims t ring) s) t c other (record { control = sh; store = has })
 
   -- there is none to claim
-  pub none_ready : (v : WorldOf P S H) (t : ℕ) (c : Call) (a : Awaits) (s : State P S H) → StandsFor v s → IsReady v t c None (Blocks a) s
+  pub none_ready : (v : WorldOf P S H) (t : ℕ) (c : Call) (a : Awaits) (s : State P S H) → is_await c ≡ false → StandsFor v s → IsReady v t c None (Blocks a) s
   unfolding claims
-  none_ready v t c a s st = st
+  none_ready v t c a s other st = waits_once v s t c other st
 
   -- a refusal tells nothing of what threads have
   pub refused_ready : (v : WorldOf P S H) (t : ℕ) (c : Call) (ring : Option ℤ) (e : Errno) (s : State P S H) → is_await c ≡ false → StandsFor v s → IsReady v t c ring (Says (Fail e)) s
   refused_ready v t c ring e s other st = quiet_once v s (Answered (tid t) c (Fail e)) (quiet-refused (tid t) c e other) st
 
-  pub quiet_ready : (v : WorldOf P S H) (t : ℕ) (c : Call) (x : Verdict) (s : State P S H) → IsQuietCall t c → IsPlain x → StandsFor v s → IsReady v t c None x s
+  pub quiet_ready : (v : WorldOf P S H) (t : ℕ) (c : Call) (x : Verdict) (s : State P S H) → is_await c ≡ false → IsQuietCall t c → IsPlain x → StandsFor v s → IsReady v t c None x s
   unfolding claims
-  quiet_ready v t c (Says a) s quiet plain st = quiet_once v s (Answered (tid t) c a) (quiet a) st
-  quiet_ready v t c (Blocks a) s quiet plain st = st
-  quiet_ready v t c (Ends n) s quiet plain st = st
-  quiet_ready v t c (Yields a) s quiet plain st = absurd plain
-  quiet_ready v t c Kills s quiet plain st = absurd plain
+  quiet_ready v t c (Says a) s other quiet plain st = quiet_once v s (Answered (tid t) c a) (quiet a) st
+  quiet_ready v t c (Blocks a) s other quiet plain st = waits_once v s t c other st
+  quiet_ready v t c (Ends n) s other quiet plain st = st
+  quiet_ready v t c (Yields a) s other quiet plain st = absurd plain
+  quiet_ready v t c Kills s other quiet plain st = absurd plain
 
   -- ---- attempts that change nothing but what is told
 
@@ -100,16 +89,6 @@ module _ {P S H : Type 0} where
       ready = λ s st. ready (effect_of (attempt s) s).state (record { control = (changes s st.0).shows; store = (changes s st.0).store });
       may = may;
     }
-
-  -- a call that awaits a condition is not built yet
-  pub unbuilt_attempts : (w : WorldOf P S H) (t : ℕ) (x m e : ℤ) → Attempts false w w t (call.CondAwait x m e) (ring_given (call.CondAwait x m e)) (λ (s : State P S H). unbuilt.begin) (refused EINVAL)
-  unfolding told answer_told
-  unbuilt_attempts w t x m e = record {
-    verdict = λ s st. refl;
-    silent = λ s st. refl;
-    ready = λ s st. record { control = st.0.control; store = ap (λ (b : Bool). (if b then retaken s.resources t (object_named m) else s.resources).store) st.1 ∙ st.0.store };
-    may = tt;
-  }
 
   -- ---- calls that are tried again
 

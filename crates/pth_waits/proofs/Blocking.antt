@@ -1,5 +1,6 @@
 -- Calls that block their threads, wait on, and are answered.
-use Rattle.std.proofs.Common.{◌≡◌, ℕ, List, ◌∷◌, [], ◌++◌, Option, Some, None, option_map, false, refl, ◌∙◌, ap, arith}
+use Rattle.std.proofs.Common.{◌≡◌, ℕ, List, ◌∷◌, [], ◌++◌, Option, Some, None, option_map, false, refl, ◌∙◌, ap, arith, sym}
+use Rattle.pth_model.specs.Awaits.{is_await}
 use Rattle.pth_base.proofs.Lists.{put_twice}
 use Rattle.pth_base.proofs.Tables.{put_here}
 use Rattle.pth_base.specs.Table.{put}
@@ -26,31 +27,13 @@ use Rattle.pth_world.specs.Frame.{Frame}
 use Rattle.pth_world.specs.Leading.{Leads, IsQuiet, StandsOnce}
 use Rattle.pth_world.specs.Shows.{Shows, StandsFor}
 use Rattle.pth_world.specs.Store.{store_of}
-use Rattle.pth_world.specs.Whole.{Whole, MayAwaitAs}
+use Rattle.pth_world.specs.Whole.{Whole}
 
--- that a thread waits changes nothing else
-pub quiet-waits : (t : ℕ) (c : Call) (a : Awaits) → MayAwaitAs t c a → IsQuiet (Waits (tid t) c)
+-- that a thread waits changes nothing else, but for one that awaits a condition
+pub quiet-waits : (t : ℕ) (c : Call) → is_await c ≡ false → IsQuiet (Waits (tid t) c)
 unfolding told
-quiet-waits t (call.Exit v) a may = λ x. refl
-quiet-waits t (call.Join n) a may = λ x. refl
-quiet-waits t (call.Nap n) a may = λ x. refl
-quiet-waits t (call.Usleep n) a may = λ x. refl
-quiet-waits t (call.Sleep n) a may = λ x. refl
-quiet-waits t (call.Wait e) a may = λ x. refl
-quiet-waits t (call.Read f n) a may = λ x. refl
-quiet-waits t (call.ReadEv f n e) a may = λ x. refl
-quiet-waits t (call.Write f bytes) a may = λ x. refl
-quiet-waits t (call.WriteEv f bytes e) a may = λ x. refl
-quiet-waits t (call.Accept f) a may = λ x. refl
-quiet-waits t (call.AcceptEv f e) a may = λ x. refl
-quiet-waits t (call.Connect f) a may = λ x. refl
-quiet-waits t (call.ConnectEv f e) a may = λ x. refl
-quiet-waits t (call.Select r w x l) a may = λ x. refl
-quiet-waits t (call.SelectEv r w x l e) a may = λ x. refl
-quiet-waits t (call.MutexAcquire m v e) a may = λ x. refl
-quiet-waits t (call.RwAcquire l write v e) a may = λ x. refl
-quiet-waits t (call.BarrierReach b) a may = λ x. refl
-quiet-waits t c a may = absurd may
+quiet-waits t (call.CondAwait c m e) other x = absurd (cc other)
+quiet-waits t c other x = refl
 
 module _ {P S H : Type 0} (w : WorldOf P S H) (s : State P S H) (m : Mark) (quiet : IsQuiet m) where
   pub quiet_told : s.resources.store ≡ store_of w.store → (told s.resources m).store ≡ store_of w.store
@@ -60,10 +43,18 @@ module _ {P S H : Type 0} (w : WorldOf P S H) (s : State P S H) (m : Mark) (quie
   pub quiet_once : StandsFor w s → StandsOnce w m s
   quiet_once st = record { control = st.control; store = quiet_told st.store }
 
+module _ {P S H : Type 0} (w : WorldOf P S H) (s : State P S H) (t : ℕ) (c : Call) (other : is_await c ≡ false) where
+  -- the same of the mark of a wait, and the reverse
+  pub waits_once : StandsFor w s → StandsOnce w (Waits (tid t) c) s
+  waits_once = quiet_once w s (Waits (tid t) c) (quiet-waits t c other)
+
+  pub once_stands : StandsOnce w (Waits (tid t) c) s → StandsFor w s
+  once_stands once = record { control = once.control; store = sym (quiet-waits t c other s.resources) ∙ once.store }
+
 -- a call blocks its thread
-pub waits_leads : {P S H : Type 0} (w : WorldOf P S H) (s : State P S H) (t : ℕ) (c : Call) (a : Awaits) (old new : List Mark) → MayAwaitAs t c a → s.resources.store ≡ store_of w.store → Shows w (blocks t c a (claims t (ring_given c) s.control)) → new ≡ old ++ Waits (tid t) c ∷ [] → Leads w old new (waits_by t c a s)
-waits_leads w s t c a old new may none sh appended =
-    record { stands = record { control = sh; store = quiet-waits t c a may s.resources ∙ none }; tells = appended }
+pub waits_leads : {P S H : Type 0} (w : WorldOf P S H) (s : State P S H) (t : ℕ) (c : Call) (a : Awaits) (old new : List Mark) → (told s.resources (Waits (tid t) c)).store ≡ store_of w.store → Shows w (blocks t c a (claims t (ring_given c) s.control)) → new ≡ old ++ Waits (tid t) c ∷ [] → Leads w old new (waits_by t c a s)
+waits_leads w s t c a old new told_so sh appended =
+    record { stands = record { control = sh; store = told_so }; tells = appended }
 
 -- the call that blocks a thread is answered
 pub answers_leads : {P S H : Type 0} (f : P → Functions S H) (w : WorldOf P S H) (s : State P S H) (t : ℕ) (c : Call) (a : Answer) (old new : List Mark) → (told s.resources (Answered (tid t) c a)).store ≡ store_of w.store → Shows w (stops_waiting t s.control) → new ≡ old ++ Answered (tid t) c a ∷ [] → Leads w old new (answers f t c a s)
@@ -85,9 +76,9 @@ blocked_twice k t x y =
     ∙ ap (put p t) (blocking_twice (p t) x y))
 
 -- a call that blocks its thread waits on
-pub waits_on_leads : {P S H : Type 0} (w : WorldOf P S H) (s : State P S H) (t : ℕ) (b : Blocked) (old new : List Mark) → MayAwaitAs t b.call b.awaits → s.resources.store ≡ store_of w.store → Shows w (is_blocked_by t (Some b) s.control) → new ≡ old ++ Waits (tid t) b.call ∷ [] → Leads w old new ((changes (is_blocked_by t (Some b)) and_then tells (Waits (tid t) b.call)) s)
-waits_on_leads w s t b old new may none sh appended =
-    record { stands = record { control = sh; store = quiet-waits t b.call b.awaits may s.resources ∙ none }; tells = appended }
+pub waits_on_leads : {P S H : Type 0} (w : WorldOf P S H) (s : State P S H) (t : ℕ) (b : Blocked) (old new : List Mark) → (told s.resources (Waits (tid t) b.call)).store ≡ store_of w.store → Shows w (is_blocked_by t (Some b) s.control) → new ≡ old ++ Waits (tid t) b.call ∷ [] → Leads w old new ((changes (is_blocked_by t (Some b)) and_then tells (Waits (tid t) b.call)) s)
+waits_on_leads w s t b old new told_so sh appended =
+    record { stands = record { control = sh; store = told_so }; tells = appended }
 
 -- a world of which the progress of threads alone is another one
 pub progress_frame : {P S H : Type 0} (w : WorldOf P S H) (p : List (Option (Progress S))) (r : Option ℕ) → w.scheduler.running ≡ r → Whole (record w { threads = record w.threads { progress = p } }) → Frame w (record w { threads = record w.threads { progress = p } }) no_numbers r false

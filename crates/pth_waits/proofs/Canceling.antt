@@ -2,12 +2,15 @@
 use Rattle.std.proofs.Common.{◌≡◌, ℕ, pos, Bool, true, false, ap, refl}
 use Rattle.pth_base.specs.Program.{Functions}
 use Rattle.pth_base.specs.declared.answer.Answer.TheVariants.{Int}
+use Rattle.pth_base.specs.declared.call.Call.{Call}
 use Rattle.pth_base.specs.declared.call.Call.TheVariants as call
 use Rattle.pth_base.specs.declared.mark.Mark.TheVariants.{Answered}
 use Rattle.pth_base.specs.declared.ids.Tid.{Tid}
 use Rattle.pth_model.specs.declared.awaits.Awaited.{Awaited}
+use Rattle.pth_model.specs.declared.awaits.Awaits.{Awaits}
+use Rattle.pth_model.specs.Awaits.{is_await}
 use Rattle.pth_model.specs.declared.next.Next.TheVariants as next
-use Rattle.pth_model.specs.Calls.{begun, canceled_by, gone_on, gone_on_where, tried_again}
+use Rattle.pth_model.specs.Calls.{begun, canceled_by, gone_on_in, gone_on_where, tried_again}
 use Rattle.pth_model.specs.Cancellation.{canceled_in, canceled_value, is_point, is_to_cancel, may_be_canceled}
 use Rattle.pth_model.specs.Changes.{entry_of, or_nobody, blocked_of}
 use Rattle.pth_model.specs.Resources.{told, answer_told}
@@ -43,12 +46,15 @@ pub quiet_point : (t : Tid) → IsQuiet (Answered t call.CancelPoint (Int (pos 1
 unfolding told answer_told
 quiet_point t = λ x. refl
 
--- a thread that a call blocks goes on
+-- a thread that a call blocks goes on: it is canceled, or the call is tried again
 module _ {P S H : Type 0} (f : P → Functions S H) (s : State P S H) (t : ℕ) where
-  pub gone_on_canceled : may_be_canceled s.control t ≡ true → gone_on f t s ≡ canceled_by f t (blocked_of s.control t) s
-  unfolding gone_on
-  gone_on_canceled may = ap (λ (b : Bool). gone_on_where f t b s) may
+  pub where_canceled : may_be_canceled s.control t ≡ true → gone_on_where f t (may_be_canceled s.control t) s ≡ canceled_by f t (blocked_of s.control t) s
+  where_canceled may = ap (λ (b : Bool). gone_on_where f t b s) may
 
-  pub gone_on_again : may_be_canceled s.control t ≡ false → gone_on f t s ≡ tried_again f t s
-  unfolding gone_on
-  gone_on_again may = ap (λ (b : Bool). gone_on_where f t b s) may
+  pub where_again : may_be_canceled s.control t ≡ false → gone_on_where f t (may_be_canceled s.control t) s ≡ tried_again f t s
+  where_again may = ap (λ (b : Bool). gone_on_where f t b s) may
+
+-- and so a call does that is no wait at a condition
+pub by_other : {P S H : Type 0} (f : P → Functions S H) (t : ℕ) (c : Call) (a : Awaits) → is_await c ≡ false → (s : State P S H) → gone_on_in f t c a s ≡ gone_on_where f t (may_be_canceled s.control t) s
+by_other f t (call.CondAwait x m e) a other s = absurd (cc other)
+by_other f t c a other s = refl

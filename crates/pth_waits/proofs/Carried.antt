@@ -35,32 +35,33 @@ use Rattle.pth_world.specs.Shows.{Shows, StandsFor}
 use Rattle.pth_world.specs.Whole.{MayAwaitAs}
 use Rattle.pth_world.specs.World.{WorldOf}
 use Rattle.pth_waits.specs.Verdicts.{interrupted_if, is_called}
-use Rattle.pth_waits.proofs.Attempting.{IsQuietCall, waits_for_none}
-use Rattle.pth_waits.proofs.Blocking.{quiet_once}
+use Rattle.pth_waits.proofs.Attempting.{IsQuietCall}
+use Rattle.pth_waits.proofs.Blocking.{once_stands, quiet_once}
 
 -- only a write has a count, and that it is answered with tells nothing of what threads have
-quiet_count : (t : ℕ) (c : Call) (a : Awaits) → MayAwaitAs t c a → nat_lt 0 (written_in a) ≡ true → IsQuietCall t c
+quiet_count : (t : ℕ) (c : Call) (a : Awaits) → is_await c ≡ false → MayAwaitAs t c a → nat_lt 0 (written_in a) ≡ true → IsQuietCall t c
 unfolding told answer_told
-quiet_count t (call.MutexAcquire m v e) a may some = absurd (cc (subst (λ (y : Awaits). nat_lt 0 (written_in y) ≡ true) may some))
-quiet_count t (call.RwAcquire l write v e) a may some = absurd (cc (subst (λ (y : Awaits). nat_lt 0 (written_in y) ≡ true) may some))
-quiet_count t (call.Exit v) a may some = λ y x. refl
-quiet_count t (call.Join n) a may some = λ y x. refl
-quiet_count t (call.Nap n) a may some = λ y x. refl
-quiet_count t (call.Usleep n) a may some = λ y x. refl
-quiet_count t (call.Sleep n) a may some = λ y x. refl
-quiet_count t (call.Wait e) a may some = λ y x. refl
-quiet_count t (call.Read f n) a may some = λ y x. refl
-quiet_count t (call.ReadEv f n e) a may some = λ y x. refl
-quiet_count t (call.Write f bytes) a may some = λ y x. refl
-quiet_count t (call.WriteEv f bytes e) a may some = λ y x. refl
-quiet_count t (call.Accept f) a may some = λ y x. refl
-quiet_count t (call.AcceptEv f e) a may some = λ y x. refl
-quiet_count t (call.Connect f) a may some = λ y x. refl
-quiet_count t (call.ConnectEv f e) a may some = λ y x. refl
-quiet_count t (call.Select r w x l) a may some = λ y z. refl
-quiet_count t (call.SelectEv r w x l e) a may some = λ y z. refl
-quiet_count t (call.BarrierReach b) a may some = λ y x. refl
-quiet_count t c a may some = absurd may
+quiet_count t (call.MutexAcquire m v e) a other may some = absurd (cc (subst (λ (y : Awaits). nat_lt 0 (written_in y) ≡ true) may some))
+quiet_count t (call.RwAcquire l write v e) a other may some = absurd (cc (subst (λ (y : Awaits). nat_lt 0 (written_in y) ≡ true) may some))
+quiet_count t (call.CondAwait c m e) a other may some = λ y x. absurd (cc other)
+quiet_count t (call.Exit v) a other may some = λ y x. refl
+quiet_count t (call.Join n) a other may some = λ y x. refl
+quiet_count t (call.Nap n) a other may some = λ y x. refl
+quiet_count t (call.Usleep n) a other may some = λ y x. refl
+quiet_count t (call.Sleep n) a other may some = λ y x. refl
+quiet_count t (call.Wait e) a other may some = λ y x. refl
+quiet_count t (call.Read f n) a other may some = λ y x. refl
+quiet_count t (call.ReadEv f n e) a other may some = λ y x. refl
+quiet_count t (call.Write f bytes) a other may some = λ y x. refl
+quiet_count t (call.WriteEv f bytes e) a other may some = λ y x. refl
+quiet_count t (call.Accept f) a other may some = λ y x. refl
+quiet_count t (call.AcceptEv f e) a other may some = λ y x. refl
+quiet_count t (call.Connect f) a other may some = λ y x. refl
+quiet_count t (call.ConnectEv f e) a other may some = λ y x. refl
+quiet_count t (call.Select r w x l) a other may some = λ y z. refl
+quiet_count t (call.SelectEv r w x l e) a other may some = λ y z. refl
+quiet_count t (call.BarrierReach b) a other may some = λ y x. refl
+quiet_count t c a other may some = absurd may
 
 module _ {P S H : Type 0} where
   -- ---- where something leads
@@ -114,12 +115,16 @@ module _ {P S H : Type 0} where
 
   -- ---- it is tried again
 
-  module _ (v : WorldOf P S H) (t : ℕ) (c : Call) where
+  module _ (v : WorldOf P S H) (t : ℕ) (c : Call) (other : is_await c ≡ false) where
     -- an attempt at a blocked call comes to this, if its ring has settled or not
     record Comes (b : Bool) (to : Verdict) (a : Attempt P S H) (s : State P S H) : Type 0 where
       pub verdict : (unless_settled b a).verdict ≡ to
       pub silent : (effect_of (unless_settled b a) s).marks ≡ []
       pub ready : IsReady v t c None to (effect_of (unless_settled b a) s).state
+
+    stands : (a : Awaits) (u : State P S H) → IsReady v t c None (Blocks a) u → StandsFor v u
+    unfolding claims
+    stands a u ready = once_stands v u t c other ready
 
     counted : (a : Awaits) (e : Piece P S H) (s : State P S H) (some : Bool) → nat_lt 0 (written_in a) ≡ some → MayAwaitAs t c a → (e s).marks ≡ [] → IsReady v t c None (Blocks a) (e s).state → (some ≡ false → e s ≡ silent s)
         → Comes true (says (written_in a) when some otherwise refused EINTR) (record { verdict = Blocks a; effect = e }) s
@@ -127,12 +132,12 @@ module _ {P S H : Type 0} where
     counted a e s true is may none ready idle = record {
       verdict = rw is refl;
       silent = rw is none;
-      ready = rw is (quiet_once v (e s).state _ (quiet_count t c a may is _) ready);
+      ready = rw is (quiet_once v (e s).state _ (quiet_count t c a other may is _) (stands a (e s).state ready));
     }
     counted a e s false is may none ready idle = record {
       verdict = rw is refl;
       silent = rw is refl;
-      ready = rw is (quiet_once v s (Answered (tid t) c (Fail EINTR)) (quiet-refused (tid t) c EINTR (waits_for_none t c a may)) (subst (λ (y : Transition P S H). StandsFor v y.state) (idle refl) ready));
+      ready = rw is (quiet_once v s (Answered (tid t) c (Fail EINTR)) (quiet-refused (tid t) c EINTR other) (subst (λ (y : Transition P S H). StandsFor v y.state) (idle refl) (stands a (e s).state ready)));
     }
 
     idle_zero : (n : ℕ) → nat_lt 0 n ≡ false → n ≡ 0
@@ -163,7 +168,7 @@ module _ {P S H : Type 0} where
     ready_shows (Ends n) s is = is.control
     ready_shows Kills s is = is.control
 
-  module _ (f : P → Functions S H) (w v : WorldOf P S H) (t : ℕ) (b : Blocked) (x : Verdict) (tries : Tries w v t b (λ s. (row_of f s t b.call).again b.awaits) x) where
+  module _ (f : P → Functions S H) (w v : WorldOf P S H) (t : ℕ) (b : Blocked) (x : Verdict) (other : is_await b.call ≡ false) (tries : Tries w v t b (λ s. (row_of f s t b.call).again b.awaits) x) where
     -- what the blocked call comes to may be carried out
     pub again_may : (settled : Bool) → MayComeTo t b.call (interrupted_if settled x)
     again_may false = tries.attempts.may
@@ -189,11 +194,11 @@ module _ {P S H : Type 0} where
         let y = interrupted_if settled x in
         goes_as (λ s. (blocked_of s.control t ≡ Some b) × IsReady v t b.call None y s) (λ s. StandsWhere w t (is_await b.call) s × (blocked_of s.control t ≡ Some b)) (tried_by f t b y) (tried_again f t) u old new r (λ s st.
         let a = (row_of f s t b.call).again b.awaits in
-        let comes = by_verdict v t b.call settled x a s (tries.attempts.verdict s st.0.0) tries.attempts.may (tries.attempts.silent s st.0.0) (tries.attempts.ready s st.0) (λ idle. tries.idle idle s st.0.0) in
-        let made = subst (λ (z : Bool). Comes v t b.call z y a s) (is s st.0.0) comes in
+        let comes = by_verdict v t b.call other settled x a s (tries.attempts.verdict s st.0.0) tries.attempts.may (tries.attempts.silent s st.0.0) (tries.attempts.ready s st.0) (λ idle. tries.idle idle s st.0.0) in
+        let made = subst (λ (z : Bool). Comes v t b.call other z y a s) (is s st.0.0) comes in
         let e = effect_of (unless_settled (has_settled s.control.events (ring_given b.call)) a) in (
           (e s).state,
-          (tries.held s.control (e s).state.control st.0.0.control (ready_shows v t b.call y (e s).state made.ready) ∙ st.1, made.ready),
+          (tries.held s.control (e s).state.control st.0.0.control (ready_shows v t b.call other y (e s).state made.ready) ∙ st.1, made.ready),
           silent_first e (tried_by f t b y) s made.silent
               ∙ ap (λ (z : Verdict). (e and_finally tried_by f t b z) s) (sym made.verdict)
               ∙ ap (λ (o : Option Blocked). tried_again_by f t o s) (sym st.1),

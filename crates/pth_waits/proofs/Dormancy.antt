@@ -14,7 +14,7 @@ use Rattle.pth_cond.specs.Barriers.{BarrierTable, has_passed}
 use Rattle.pth_kernel.specs.Kernel.{Kernel, advanced}
 use Rattle.pth_model.specs.declared.blocked.Blocked.{Blocked}
 use Rattle.pth_model.specs.declared.awaits.Awaits.{Awaits}
-use Rattle.pth_model.specs.declared.awaits.Awaits.TheVariants.{Nothing, Alone, Death, AnyDeath, Moment, Ring, Mutex, Lock, Round}
+use Rattle.pth_model.specs.declared.awaits.Awaits.TheVariants.{Nothing, Alone, Death, AnyDeath, Moment, Ring, Mutex, Lock, Round, Notice, Retaking}
 use Rattle.pth_model.specs.State.{Control, State, now_of, main}
 use Rattle.pth_model.specs.declared.awaits.Awaited.{Awaited}
 use Rattle.pth_numbered.specs.Operands.{number}
@@ -143,6 +143,7 @@ module _ {P S H : Type 0} where
     pub mutexes : r.resources.store.mutexes ≡ s.resources.store.mutexes
     pub locks : r.resources.store.rw_locks ≡ s.resources.store.rw_locks
     pub rounds : KeepsRounds s.control.barriers r.control.barriers
+    pub seats : r.control.conditions ≡ s.control.conditions
     pub blocked : blocked_of r.control t ≡ blocked_of s.control t
     pub died : (n : ℤ) → has_died s.control n ≡ false → has_died r.control n ≡ false
     pub left : ((u : ℕ) → is_left_to_join (entry_of s.control u) ≡ false) → (u : ℕ) → is_left_to_join (entry_of r.control u) ≡ false
@@ -169,6 +170,8 @@ module _ {P S H : Type 0} where
     away_kept (Mutex m) away = λ n h l. rw same.mutexes (away n (onward n h) l)
     away_kept (Lock o write) away = λ n h l. rw same.locks (away n (onward n h) l)
     away_kept (Round b round) away = λ n h l. same.rounds b round (away n (onward n h) l)
+    away_kept (Notice c) away = λ n h l. rw same.seats (away n (onward n h) l)
+    away_kept (Retaking m o) away = λ n h l. rw same.mutexes (away n (onward n h) l)
     away_kept a away = λ n h l. at_moved a n (away n (onward n h) l)
 
     found_moved : (n : ℕ) (z : EventSpec) → found (moves_to n s.control) z ≡ Pending → found (moves_to n r.control) z ≡ Pending

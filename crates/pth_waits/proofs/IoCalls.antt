@@ -35,7 +35,8 @@ use Rattle.pth_world.specs.StateOf.{state_of}
 use Rattle.pth_world.specs.Whole.{MayAwait, MayAwaitAs, Whole}
 use Rattle.pth_world.specs.World.{WorldOf}
 use Rattle.pth_waits.proofs.Attempting.{IsQuietCall, blocked_still, changed_attempts, changed_tries, refused_ready}
-use Rattle.pth_waits.proofs.Blocking.{quiet_once}
+use Rattle.pth_waits.proofs.Attempted.{io_unawaited}
+use Rattle.pth_waits.proofs.Blocking.{quiet_once, waits_once}
 use Rattle.pth_waits.proofs.Unchanged.{IsVain, vain_same}
 use Rattle.pth_waits.specs.Io.{first_awaited, is_at_once, is_refused_length}
 use Rattle.pth_waits.specs.Verdicts.{IsCounted}
@@ -145,7 +146,7 @@ module _ {P S H : Type 0} where
   io_ready : (before : State P S H) (v : WorldOf P S H) (t : ℕ) (c : Call) (ring : Option ℤ) (x : Verdict) (s : State P S H) → IsSome (first_awaited before c) → ((a : Awaits) → x ≡ Blocks a → StandsFor v (controlled (claims t ring) s)) → StandsFor v s → IsReady v t c ring x s
   io_ready before v t c ring (Says a) s some waits st = io_told before v t c a s some st
   io_ready before v t c ring (Yields a) s some waits st = io_told before v t c a s some st
-  io_ready before v t c ring (Blocks a) s some waits st = waits a refl
+  io_ready before v t c ring (Blocks a) s some waits st = waits_once v (controlled (claims t ring) s) t c (io_unawaited before c some) (waits a refl)
   io_ready before v t c ring (Ends n) s some waits st = st
   io_ready before v t c ring Kills s some waits st = io_told before v t c (Int (pos 1)) s some st
 

@@ -7,6 +7,7 @@ pub mod Joining
 pub mod Kills
 pub mod Searching
 pub mod Looking
+mod NoticeWaits
 pub mod Waking
 pub mod Unchanged
 pub mod IoCalls

@@ -59,7 +59,7 @@ module _ {P S H : Type 0} (w : WorldOf P S H) (x : List (Option Barrier)) (t : �
       changed_attempts false w v t (BarrierReach b) None (λ s. (barrier_reach s t b).begin) (by_result (arrived_as b) q)
       (λ s st. ap (by_result (arrived_as b)) (at s st))
       (λ s st. subst (λ (r : Result Arrival Errno). Changed v (effect_of (by_result (arrived_as b) r trying changes (with_barriers (barrier_reached b t))) s)) (sym (at s st)) (arrival_effect s q st changed same))
-      (λ u st. quiet_ready v t (BarrierReach b) (by_result (arrived_as b) q) u (quiet_reach t b) (arrival_plain b q) st)
+      (λ u st. quiet_ready v t (BarrierReach b) (by_result (arrived_as b) q) u refl (quiet_reach t b) (arrival_plain b q) st)
       (arrival_may t b q)
 
   -- ---- its round is tried again
@@ -84,7 +84,7 @@ module _ {P S H : Type 0} (w : WorldOf P S H) (x : List (Option Barrier)) (t : �
         changed_tries w v t (record { call = BarrierReach b; awaits = a }) (λ s. (barrier_reach s t b).again a) y
         (λ s st. ap (λ (z : Attempt P S H). z.verdict) (here s st) ∙ verdict s st)
         (λ s st. subst (λ (z : Attempt P S H). Changed v (effect_of z s)) (sym (here s st)) (effect s st))
-        (λ u st. quiet_ready v t (BarrierReach b) y u (quiet_reach t b) plain st)
+        (λ u st. quiet_ready v t (BarrierReach b) y u refl (quiet_reach t b) plain st)
         may
         (λ idle s st. ap (λ (z : Attempt P S H). effect_of z s) (here s st) ∙ by_passing passed refl idle s)
         (blocked_still w v t refl)

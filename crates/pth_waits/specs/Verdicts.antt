@@ -5,13 +5,15 @@ use Rattle.pth_base.specs.declared.call.Call.TheVariants as call
 use Rattle.pth_model.specs.declared.awaits.Awaits.{Awaits}
 use Rattle.pth_model.specs.declared.verdict.Verdict.{Verdict}
 use Rattle.pth_model.specs.declared.verdict.Verdict.TheVariants.{Blocks}
-use Rattle.pth_model.specs.Awaits.{is_await, written_in}
+use Rattle.pth_model.specs.Awaits.{is_await, is_awaiting, written_in}
 use Rattle.pth_model.specs.Calls.{interrupted}
 use Rattle.pth_model.specs.RingWaits.{ring_given}
 use Rattle.pth_model.specs.Row.{Row}
-use Rattle.pth_model.specs.State.{State}
+use Rattle.pth_model.specs.Changes.{blocked_of}
+use Rattle.pth_model.specs.State.{Control, State}
 use Rattle.pth_waits.specs.Io.{first_awaited}
 use Rattle.pth_world.specs.Leading.{Attempts, Tries}
+use Rattle.pth_world.specs.Shows.{Shows}
 use Rattle.pth_world.specs.Whole.{MayAwaitAs}
 use Rattle.pth_world.specs.World.{WorldOf}
 
@@ -29,6 +31,10 @@ module _ {P S H : Type 0} (w v : WorldOf P S H) (t : ℕ) (c : Call) (row : Stat
   -- and as it is tried again, whatever its thread awaits
   abbrev pub TriesAgain : Type 0
   TriesAgain = (a : Awaits) → Tries w v t (record { call = c; awaits = a }) (λ s. (row s).again a) x
+
+-- no wait at a condition blocks t
+abbrev pub AwaitsNone : {P S H : Type 0} → WorldOf P S H → ℕ → Type 0
+AwaitsNone w t = (k : Control _ _ _) → Shows w k → is_awaiting (blocked_of k t) ≡ false
 
 -- no thread waits for anything by such a call, and it is none on descriptors and awaits no condition
 pub record NeverBlocks (P S H : Type 0) (c : Call) : Type 0 where

@@ -5,7 +5,7 @@ ghost use Rattle.pth_model.specs.declared.blocked.Blocked.{Blocked};
 ghost use Rattle.pth_model.specs.Changes.{blocked_of};
 ghost use Rattle.pth_model.specs.Rows.{row_of};
 ghost use Rattle.pth_model.specs.State.{Control, State};
-ghost use Rattle.pth_waits.specs.Verdicts.{Begins, NeverBlocks, is_called};
+ghost use Rattle.pth_waits.specs.Verdicts.{AwaitsNone, Begins, NeverBlocks, is_called};
 ghost use Rattle.pth_world.specs.Frame.{Frame};
 ghost use Rattle.pth_world.specs.Leading.{Tries};
 ghost use Rattle.pth_world.specs.Numbering.{no_numbers};
@@ -13,6 +13,7 @@ ghost use Rattle.pth_world.specs.Shows.{Shows};
 ghost use Rattle.pth_world.specs.Whole.{Whole};
 
 use crate::barriers::{reach_barrier, reach_barrier_again};
+use crate::conditions::await_condition;
 use crate::io::{begin_io, io_again};
 use crate::joins::join;
 use crate::mutexes::{acquire_mutex, acquire_mutex_again};
@@ -20,9 +21,7 @@ use crate::rests::{rest, rest_again};
 use crate::ring_waits::{wait, wait_again};
 use crate::rwlocks::{acquire_lock, acquire_lock_again};
 use crate::thread_ends::exit;
-use pth_base::answer::Answer;
 use pth_base::call::Call;
-use pth_base::errno::Errno;
 use pth_base::ids::Tid;
 use pth_base::memory::OutOfMemory;
 use pth_base::program::Program;
@@ -30,7 +29,8 @@ use pth_model::times::{micros, seconds};
 use pth_model::verdict::Verdict;
 use pth_world::world::World;
 
-/// What a call comes to as it begins; none of a call that never blocks its thread. `pth_cond_await` is not built yet: EINVAL. After an error the world may only be dropped.
+/// What a call comes to as it begins; none of a call that never blocks its thread. After an error the world
+/// may only be dropped.
 pub fn attempt<P: Program>(
     w: &mut World<P>,
     t: Tid,
@@ -53,20 +53,21 @@ pub fn attempt<P: Program>(
         Call::Wait(e) => Ok(Some(wait(w, t, *e))),
         Call::MutexAcquire { m, v, e } => Ok(Some(acquire_mutex(w, t, *m, *v, *e))),
         Call::RwAcquire { l, write, v, e } => Ok(Some(acquire_lock(w, t, *l, *write, *v, *e))),
-        Call::CondAwait { .. } => Ok(Some(Verdict::Says(Answer::Fail(Errno::EINVAL)))),
+        Call::CondAwait { c, m, e } => Ok(Some(await_condition(w, t, *c, *m, *e)?)),
         Call::BarrierReach(b) => Ok(Some(reach_barrier(w, t, *b)?)),
         _ => begin_io(w, t, call),
     }
 }
 
-/// What the call that blocks the thread that runs comes to as it is tried again; none if no call blocks it. After an error the world
-/// may only be dropped.
+/// What the call that blocks the thread that runs comes to as it is tried again; none if no call blocks it. A wait at a condition is
+/// not tried again. After an error the world may only be dropped.
 pub(crate) fn attempt_again<P: Program>(
     w: &mut World<P>,
     t: Tid,
 ) -> Result<Option<Verdict>, OutOfMemory>
     requires whole { Whole w.old }
     requires runs { w.old.scheduler.running ≡ Some t.0 }
+    requires other { AwaitsNone w.old t.0 }
     ensures tries { IfOk result (λ o. IfSome o (λ x. (k : Control P P.State P.Shared) (b : Blocked) → Shows w.old k → blocked_of k t.0 ≡ Some b → Tries w.old w.new t.0 b (λ s. (row_of P.functions s t.0 b.call).again b.awaits) x)) }
     ensures blocked { IfOk result (λ o. (k : Control P P.State P.Shared) → Shows w.old k → is_some o ≡ is_some (blocked_of k t.0)) }
     ensures same { IfOk result (λ o. o ≡ None → w.new ≡ w.old) }

@@ -1,7 +1,7 @@
 //! How a call blocks its thread, blocks it on, and is answered then.
 
 ghost use Rattle.std.specs.Prelude.{◌≡◌, false, Some, IfOk, IfSome, IsSome, OnOk, OnErr};
-ghost use Rattle.pth_base.specs.declared.mark.Mark.TheVariants.{Answered};
+ghost use Rattle.pth_base.specs.declared.mark.Mark.TheVariants.{Answered, Waits};
 ghost use Rattle.pth_model.specs.declared.blocked.Blocked.{Blocked as BlockedCall};
 ghost use Rattle.pth_model.specs.declared.verdict.Verdict.TheVariants.{Blocks};
 ghost use Rattle.pth_model.specs.Calls.{answers, tried_by, waits_by};
@@ -11,7 +11,7 @@ ghost use Rattle.pth_model.specs.State.{Control, State};
 ghost use Rattle.pth_world.specs.Frame.{Frame};
 ghost use Rattle.pth_world.specs.Leading.{IsReady, Leads, StandsOnce};
 ghost use Rattle.pth_world.specs.Numbering.{no_numbers};
-ghost use Rattle.pth_world.specs.Shows.{Shows, StandsFor};
+ghost use Rattle.pth_world.specs.Shows.{Shows};
 ghost use Rattle.pth_world.specs.Whole.{MayAwaitAs, Whole};
 
 use pth_base::answer::Answer;
@@ -84,7 +84,7 @@ pub(crate) fn block_on<P: Program>(
     requires runs { w.old.scheduler.running ≡ Some t.0 }
     requires some { (k : Control P P.State P.Shared) → Shows w.old k → IsSome (blocked_of k t.0) }
     requires may { (k : Control P P.State P.Shared) → Shows w.old k → IfSome (blocked_of k t.0) (λ b. MayAwaitAs t.0 b.call awaits) }
-    ensures ok { OnOk result ((s : State P P.State P.Shared) (b : BlockedCall) → blocked_of s.control t.0 ≡ Some b → StandsFor w.old s → Leads w.new marks.old marks.new (tried_by P.functions t.0 b (Blocks awaits) s).told) }
+    ensures ok { OnOk result ((s : State P P.State P.Shared) (b : BlockedCall) → blocked_of s.control t.0 ≡ Some b → StandsOnce w.old (Waits t b.call) s → Leads w.new marks.old marks.new (tried_by P.functions t.0 b (Blocks awaits) s).told) }
     ensures err { OnErr result (marks.new ≡ marks.old) }
     ensures frame { OnOk result (Frame w.old w.new no_numbers (Some t.0) false) }
 {

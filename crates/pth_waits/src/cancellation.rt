@@ -35,13 +35,14 @@ fn is_to_cancel(it: &Entry) -> bool
     it.request && is_enabled(it.cancel)
 }
 
-// Whether a wait is a cancellation point: each is one, but those of pth_exit and pth_barrier_reach.
+// Whether a wait is a cancellation point: each is one, but those of pth_exit and pth_barrier_reach, and that of a pth_cond_await for
+// its mutex.
 fn is_point(awaits: Awaits) -> bool
     ensures { result ≡ is_point_wait awaits }
 {
     !matches!(
         awaits,
-        Awaits::Nothing | Awaits::Alone | Awaits::Round { .. }
+        Awaits::Nothing | Awaits::Alone | Awaits::Round { .. } | Awaits::Retaking { .. }
     )
 }
 

@@ -18,6 +18,7 @@ ghost use Rattle.pth_world.specs.Whole.{MayAwait, Whole};
 
 use crate::barriers::has_passed;
 use crate::cancellation::may_be_canceled_at;
+use crate::conditions::is_noticed;
 use crate::joins::{any_has_died, has_died};
 use crate::looks::is_as_goals_say;
 use crate::mutexes::is_free_mutex;
@@ -108,6 +109,8 @@ fn awaits_until<P: Program>(w: &World<P>, slot: Slot, awaits: Awaits) -> Micros
         Awaits::Mutex(m) => never_unless(w, is_free_mutex(w, m)),
         Awaits::Lock { l, write } => never_unless(w, is_open_lock(w, l, write)),
         Awaits::Round { b, round } => never_unless(w, has_passed(w, b, round)),
+        Awaits::Notice(c) => never_unless(w, is_noticed(w, w.thread_in(slot), c)),
+        Awaits::Retaking { m, .. } => never_unless(w, w.can_take_mutex(w.thread_in(slot), m)),
         _ => descriptors_until(w.kernel(), awaits),
     }
 }

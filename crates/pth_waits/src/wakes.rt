@@ -1,6 +1,6 @@
 //! Which blocked threads have what they wait for.
 
-ghost use Rattle.std.specs.Prelude.{◌≡◌, ◌≢◌, ◌||◌, ℕ};
+ghost use Rattle.std.specs.Prelude.{◌≡◌, ◌≢◌, ◌||◌};
 ghost use Rattle.pth_model.specs.Calls.{wakes};
 ghost use Rattle.pth_model.specs.Looks.{looks_at};
 ghost use Rattle.pth_model.specs.Pass.{comes_for, is_to_wake};
@@ -13,6 +13,7 @@ ghost use Rattle.pth_world.specs.Whole.{Whole, MayAwait};
 
 use crate::barriers::has_passed;
 use crate::cancellation::may_be_canceled_at;
+use crate::conditions::is_noticed;
 use crate::joins::{any_has_died, has_died};
 use crate::looks::look_at_ring;
 use crate::mutexes::is_free_mutex;
@@ -41,6 +42,8 @@ fn has_come<P: Program>(w: &World<P>, slot: Slot, awaits: Awaits, any_dead: bool
         Awaits::Mutex(m) => is_free_mutex(w, m),
         Awaits::Lock { l, write } => is_open_lock(w, l, write),
         Awaits::Round { b, round } => has_passed(w, b, round),
+        Awaits::Notice(c) => is_noticed(w, w.thread_in(slot), c),
+        Awaits::Retaking { m, .. } => w.can_take_mutex(w.thread_in(slot), m),
         _ => descriptors_bring(w.kernel(), awaits),
     }
 }

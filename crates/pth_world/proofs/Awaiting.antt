@@ -5,10 +5,10 @@ use Rattle.pth_base.specs.declared.call.Call.TheVariants as call
 use Rattle.pth_base.specs.declared.ids.FdSet.{FdSet}
 use Rattle.pth_numbered.specs.Operands.{is_zero}
 use Rattle.pth_model.specs.declared.awaits.Awaits.{Awaits}
-use Rattle.pth_model.specs.declared.awaits.Awaits.TheVariants.{Death, AnyDeath, Moment, Writing, Selection}
+use Rattle.pth_model.specs.declared.awaits.Awaits.TheVariants.{Death, AnyDeath, Moment, Writing, Selection, Notice, Retaking}
 use Rattle.pth_model.specs.declared.blocked.Blocked.{Blocked}
 use Rattle.pth_model.specs.Awaits.{awaits_in}
-use Rattle.pth_world.specs.Whole.{IsMoment, IsSelection, IsWriting, MayAwait, MayAwaitAs, MayBlock}
+use Rattle.pth_world.specs.Whole.{IsMoment, IsSelection, IsWriting, MayAwait, MayAwaitAs, MayBlock, IsAwait}
 
 death_may : (zero : Bool) (n : ℤ) → MayAwait (if zero then AnyDeath else Death n)
 death_may true n = tt
@@ -26,6 +26,11 @@ selection_may : (r w x : FdSet) (a : Awaits) → IsSelection r w x a → MayAwai
 selection_may r w x (Selection b c d (Some deadline)) is = is.3
 selection_may r w x (Selection b c d None) is = tt
 selection_may r w x a is = absurd is
+
+await_may : (c m : ℤ) (a : Awaits) → IsAwait c m a → MayAwait a
+await_may c m (Notice d) is = tt
+await_may c m (Retaking n o) is = tt
+await_may c m a is = absurd is
 
 by_equal : (a b : Awaits) → a ≡ b → MayAwait b → MayAwait a
 by_equal a b is may = subst MayAwait (sym is) may
@@ -49,6 +54,7 @@ call_may t (call.Connect f) a may = by_equal a _ may tt
 call_may t (call.ConnectEv f e) a may = by_equal a _ may tt
 call_may t (call.MutexAcquire m v e) a may = by_equal a _ may tt
 call_may t (call.RwAcquire l write v e) a may = by_equal a _ may tt
+call_may t (call.CondAwait c m e) a may = await_may c m a may
 call_may t (call.BarrierReach b) a may = by_equal a _ may tt
 call_may t c a may = absurd may
 

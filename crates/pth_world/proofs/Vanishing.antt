@@ -1,5 +1,6 @@
 -- Threads vanish, until one is left.
 use Rattle.std.proofs.Common.{◌≡◌, ◌≢◌, ℕ, ◌<◌, ◌==◌, ◌&&◌, not, ℤ, pos, Bool, true, false, if◌then◌else◌, List, [], map, length, IfSome, Option, Some, None, refl, sym, ◌∙◌, ap, ap₂, subst, arith}
+use Rattle.pth_cond.specs.Conditions.{Condition, conditions_of, all_seats_left}
 use mathlib.Core.Path.{fun_ext}
 use Rattle.pth_base.specs.Table.{put}
 use Rattle.pth_base.specs.declared.thread.ThreadState.{ThreadState}
@@ -147,7 +148,7 @@ only-stored t s nothing counted = same_store
 vanish-removed : {P S H : Type 0} (t u : ℕ) (k : Control P S H) → u ≢ t → vanish_all_but t (removes u k) ≡ vanish_all_but t k
 unfolding vanish_all_but leaves_queue forgets
 vanish-removed {S = S} t u k apart =
-    ap₂ (λ (known : ℕ → Option Entry) (progress : ℕ → Option (Progress S)). record k { threads = record k.threads { known = known; progress = progress; standing = λ q. [] }; events = all_unclaimed k.events; barriers = all_withdrawn k.barriers })
+    ap₂ (λ (known : ℕ → Option Entry) (progress : ℕ → Option (Progress S)). record k { threads = record k.threads { known = known; progress = progress; standing = λ q. [] }; events = all_unclaimed k.events; conditions = all_seats_left k.conditions; barriers = all_withdrawn k.barriers })
     (only-put t u k.threads.known None apart) (only-put t u k.threads.progress None apart)
 
 -- ---- one thread of a queue
@@ -276,10 +277,10 @@ module _ {P S H : Type 0} (w : WorldOf P S H) (t : ℕ) (whole : Whole w) (is : 
       let nothing : (i : ℕ) → i ≢ t → HasNothing (store_of w.store) i = λ i apart. whole.stored i (ap lives (sym (not_here w.threads i (nobody i apart)))) in
       only-stored t (store_of w.store) nothing (counted nobody (spare_nothing w whole))
 
-  -- so nothing vanishes but the claims and the arrivals
-  vanish_rest : (e : RingsOf) → events_of e ≡ all_unclaimed (events_of w.events) → (b : List (Option Barrier)) → barriers_of b ≡ all_withdrawn (barriers_of w.barriers) → (k : Control P S H) → Shows w k → Shows (record w { events = e; barriers = b }) (vanish_all_but t k)
+  -- so nothing vanishes but the claims, the seats and the arrivals
+  vanish_rest : (e : RingsOf) → events_of e ≡ all_unclaimed (events_of w.events) → (c : List Condition) → conditions_of c ≡ all_seats_left (conditions_of w.conditions) → (b : List (Option Barrier)) → barriers_of b ≡ all_withdrawn (barriers_of w.barriers) → (k : Control P S H) → Shows w k → Shows (record w { events = e; conditions = c; barriers = b }) (vanish_all_but t k)
   unfolding vanish_all_but shown order
-  vanish_rest e unclaimed b withdrawn k sh = record {
+  vanish_rest e unclaimed c left b withdrawn k sh = record {
     program = sh.program;
     shared = sh.shared;
     threads = record {
@@ -290,7 +291,7 @@ module _ {P S H : Type 0} (w : WorldOf P S H) (t : ℕ) (whole : Whole w) (is : 
     };
     attributes = sh.attributes;
     events = ap all_unclaimed sh.events ∙ sym unclaimed;
-    conditions = sh.conditions;
+    conditions = ap all_seats_left sh.conditions ∙ sym left;
     barriers = ap all_withdrawn sh.barriers ∙ sym withdrawn;
     kernel = sh.kernel;
     used = sh.used;
@@ -321,7 +322,7 @@ module _ {P S H : Type 0} (u a b c d v : WorldOf P S H)
   pub vanish_store : (t : ℕ) → u.scheduler.running ≡ Some t → ReadsAlone v t → store_of v.store ≡ store_of_only t (store_of u.store)
   vanish_store t is counted = sym (rest_store v t vanish_all.whole (vanish_runs t is) none counted) ∙ vanish_all.store t is
 
-  pub vanish_shows : (e : RingsOf) → events_of e ≡ all_unclaimed (events_of v.events) → (b : List (Option Barrier)) → barriers_of b ≡ all_withdrawn (barriers_of v.barriers) → (t : ℕ) → u.scheduler.running ≡ Some t → (k : Control P S H) → Shows u k → Shows (record v { events = e; barriers = b }) (vanish_all_but t k)
-  vanish_shows e unclaimed b withdrawn t is k sh =
+  pub vanish_shows : (e : RingsOf) → events_of e ≡ all_unclaimed (events_of v.events) → (l : List Condition) → conditions_of l ≡ all_seats_left (conditions_of v.conditions) → (b : List (Option Barrier)) → barriers_of b ≡ all_withdrawn (barriers_of v.barriers) → (t : ℕ) → u.scheduler.running ≡ Some t → (k : Control P S H) → Shows u k → Shows (record v { events = e; conditions = l; barriers = b }) (vanish_all_but t k)
+  vanish_shows e unclaimed l left b withdrawn t is k sh =
       let x : ShowsRest t v k = vanish_all.shows t is k sh in
-      subst (λ (j : Control P S H). Shows (record v { events = e; barriers = b }) j) x.same (vanish_rest v t vanish_all.whole (vanish_runs t is) none e unclaimed b withdrawn x.rest x.shows)
+      subst (λ (j : Control P S H). Shows (record v { events = e; conditions = l; barriers = b }) j) x.same (vanish_rest v t vanish_all.whole (vanish_runs t is) none e unclaimed l left b withdrawn x.rest x.shows)

@@ -5,7 +5,7 @@ use Rattle.pth_base.specs.declared.answer.Answer.{Answer}
 use Rattle.pth_base.specs.declared.answer.Answer.TheVariants.{Int}
 use Rattle.pth_base.specs.declared.call.Call.{Call}
 use Rattle.pth_base.specs.declared.mark.Mark.{Mark}
-use Rattle.pth_base.specs.declared.mark.Mark.TheVariants.{Answered}
+use Rattle.pth_base.specs.declared.mark.Mark.TheVariants.{Answered, Waits}
 use Rattle.pth_base.specs.declared.memory.OutOfMemory.{OutOfMemory}
 use Rattle.pth_model.specs.Changes.{blocked_of}
 use Rattle.pth_model.specs.Resources.{Resources, told}
@@ -86,12 +86,12 @@ abbrev pub MayComeTo : ℕ → Call → Verdict → Type 0
 MayComeTo t c (Blocks a) = MayAwaitAs t c a
 MayComeTo t c v = Unit {0}
 
--- From this state a verdict on a call of t can be carried out in the world: what threads have is already as an answer will tell, and
--- the ring is claimed that is waited for from now on, if any.
+-- From this state a verdict on a call of t can be carried out in the world: what threads have is already as an answer will tell, or the
+-- mark of the wait, and the ring is claimed that is waited for from now on, if any.
 abbrev pub IsReady : {P S H : Type 0} → WorldOf P S H → ℕ → Call → Option ℤ → Verdict → State P S H → Type 0
 IsReady w t c ring (Says a) s = StandsOnce w (Answered (tid t) c a) s
 IsReady w t c ring (Yields a) s = StandsOnce w (Answered (tid t) c a) s
-IsReady w t c ring (Blocks a) s = StandsFor w (controlled (claims t ring) s)
+IsReady w t c ring (Blocks a) s = StandsOnce w (Waits (tid t) c) (controlled (claims t ring) s)
 IsReady w t c ring (Ends v) s = StandsFor w s
 IsReady w t c ring Kills s = StandsOnce w (Answered (tid t) c (Int (pos 1))) s
 

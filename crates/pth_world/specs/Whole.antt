@@ -13,7 +13,7 @@ use Rattle.pth_queue.specs.declared.queue.Queue.TheVariants as queue
 use Rattle.pth_threads.specs.Threads.{slot_of, tid_at, entry_at}
 use Rattle.pth_threads.specs.declared.entry.Entry.{Entry}
 use Rattle.pth_model.specs.declared.awaits.Awaits.{Awaits}
-use Rattle.pth_model.specs.declared.awaits.Awaits.TheVariants.{Alone, Moment, Ring, Reading, Writing, Connection, ConnectAnswer, Selection, Mutex, Lock}
+use Rattle.pth_model.specs.declared.awaits.Awaits.TheVariants.{Alone, Moment, Ring, Reading, Writing, Connection, ConnectAnswer, Selection, Mutex, Lock, Notice, Retaking}
 use Rattle.pth_model.specs.declared.blocked.Blocked.{Blocked}
 use Rattle.pth_model.specs.Awaits.{IsRound, death_of}
 use Rattle.pth_model.specs.State.{main}
@@ -51,8 +51,14 @@ abbrev pub IsSelection : (r w x : FdSet) → Awaits → Type 0
 IsSelection r w x (Selection a b c deadline) = (a ≡ r) × (b ≡ w) × (c ≡ x) × IfSome deadline (λ m. m ≤ last_moment)
 IsSelection r w x a = ⊥
 
+-- a notice at this condition is awaited, or this mutex is to be taken back
+abbrev pub IsAwait : (c m : ℤ) → Awaits → Type 0
+IsAwait c m (Notice d) = d ≡ c
+IsAwait c m (Retaking n o) = n ≡ m
+IsAwait c m a = ⊥
+
 -- What a call that blocks thread t waits for. Of those that are built, these block it: main's exit, every join, and the calls that wait
--- for a moment, for a ring, for a descriptor, for a mutex, for a lock or at a barrier.
+-- for a moment, for a ring, for a descriptor, for a mutex, for a lock, at a condition or at a barrier.
 abbrev pub MayAwaitAs : ℕ → Call → Awaits → Type 0
 MayAwaitAs t (call.Exit v) a = (t ≡ main) × (a ≡ Alone)
 MayAwaitAs t (call.Join n) a = a ≡ death_of n
@@ -72,6 +78,7 @@ MayAwaitAs t (call.Select r w x l) a = IsSelection r w x a
 MayAwaitAs t (call.SelectEv r w x l e) a = IsSelection r w x a
 MayAwaitAs t (call.MutexAcquire m v e) a = a ≡ Mutex m
 MayAwaitAs t (call.RwAcquire l write v e) a = a ≡ Lock l write
+MayAwaitAs t (call.CondAwait c m e) a = IsAwait c m a
 MayAwaitAs t (call.BarrierReach b) a = IsRound b a
 MayAwaitAs t c a = ⊥
 

@@ -10,7 +10,14 @@ use pth_base::program::Program;
 use pth_cond::conditions::Conds;
 
 impl<P: Program> World<P> {
-    /// The conditions (`pth_cond_t`), for changes that touch no thread.
+    /// The conditions (`pth_cond_t`).
+    pub fn conditions(&self) -> &Conds
+        ensures { result.now ≡ self.now.conditions }
+    {
+        &self.conditions
+    }
+
+    /// The conditions, for changes that touch no thread.
     pub fn conditions_mut(&mut self) -> &mut Conds
         ensures* writes_back { sem 𝓛 (Lends (the_row P.row P.State.row P.Shared.row P.Program) conditions_row self.entry result (λ x. record self.old { conditions = x })) }
         ensures value { result.now ≡ self.old.conditions }

@@ -1,8 +1,8 @@
 //! What threads lock: mutexes and read-write locks.
 
-ghost use Rattle.std.specs.Prelude.{◌≡◌, ℕ, OnOk, OnErr};
+ghost use Rattle.std.specs.Prelude.{◌≡◌, ◌<◌, ℕ, OnOk, OnErr, is_ok};
 ghost use Rattle.pth_lock.specs.Mutexes.{has, mutex_free_answer, mutex_init_answer, mutex_initialised, mutex_release_answer, mutex_released, mutex_take_answer, mutex_taken, mutexes_left};
-ghost use Rattle.pth_lock.specs.Objects.{object_named};
+ghost use Rattle.pth_lock.specs.Objects.{object_limit, object_named};
 ghost use Rattle.pth_lock.specs.RwLocks.{holds, lock_free_answer, lock_init_answer, lock_initialised, lock_release_answer, lock_released, lock_take_answer, lock_taken, locks_left};
 ghost use Rattle.pth_lock.specs.Sets.{contains};
 ghost use Rattle.pth_model.specs.Resources.{with_mutexes, with_rw_locks};
@@ -34,6 +34,7 @@ impl<P: Program> World<P> {
         requires alive { IsAlive self.old.threads t.0 }
         ensures answer { result ≡ mutex_take_answer (store_of self.old.store).mutexes t.0 m }
         ensures changes { OnOk result (store_of self.new.store ≡ with_mutexes (mutex_taken t.0 (object_named m)) (store_of self.old.store)) }
+        ensures object { OnOk result (object_named m < object_limit) }
         ensures refused { OnErr result (self.new ≡ self.old) }
         ensures keeps { KeepsAllButStore self.old self.new }
     {
@@ -72,6 +73,25 @@ impl<P: Program> World<P> {
         ensures { result ≡ mutex_free_answer (store_of self.now.store).mutexes m }
     {
         self.mutexes.is_free(m)
+    }
+
+    /// Whether a thread can take one level more of a mutex.
+    pub fn can_take_mutex(&self, t: Tid, m: i64) -> bool
+        requires sound { IsSound self.now.threads }
+        requires known { IsKnown self.now.threads t.0 }
+        ensures { result ≡ is_ok (mutex_take_answer (store_of self.now.store).mutexes t.0 m) }
+    {
+        self.mutexes.may_take(m, self.slot(t))
+    }
+
+    /// What a thread would be answered as it gives back one level of a mutex: EINVAL where it is not initialised, EDEADLK where nobody
+    /// has it, EACCES where another has it.
+    pub fn mutex_release_answer(&self, t: Tid, m: i64) -> Result<(), Errno>
+        requires sound { IsSound self.now.threads }
+        requires known { IsKnown self.now.threads t.0 }
+        ensures { result ≡ mutex_release_answer (store_of self.now.store).mutexes t.0 m }
+    {
+        self.mutexes.release_answer(m, self.slot(t))
     }
 
     /// Who has a mutex, None if it is free: EINVAL if it is not initialised.

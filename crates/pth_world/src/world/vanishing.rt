@@ -39,8 +39,8 @@ impl<P: Program> World<P> {
         let _counted = self.rw_locks.is_free(0, false);
     }
 
-    /// Takes all threads but the one that runs out of the system, with what they stored. No ring is claimed any more, and nobody
-    /// waits at a barrier (`pth_kill`).
+    /// Takes all threads but the one that runs out of the system, with what they stored. No ring is claimed any more, nobody has a seat
+    /// at a condition, and nobody waits at a barrier (`pth_kill`).
     pub fn vanish_all_but(&mut self, t: Tid)
         requires whole { Whole self.old }
         requires runs { self.old.scheduler.running ≡ Some t.0 }
@@ -50,7 +50,7 @@ impl<P: Program> World<P> {
         ensures ranks { KeepsRanks 0 self.old.threads self.new.threads }
         ensures events { self.new.events.made ≡ self.old.events.made }
         ensures store { store_of self.new.store ≡ store_of_only t.0 (store_of self.old.store) }
-        ensures same { self.new ≡ record self.old { threads = self.new.threads; events = self.new.events; barriers = self.new.barriers; store = self.new.store } }
+        ensures same { self.new ≡ record self.old { threads = self.new.threads; events = self.new.events; conditions = self.new.conditions; barriers = self.new.barriers; store = self.new.store } }
     {
         self.empty_queue(Queue::New);
         self.empty_queue(Queue::Ready);
@@ -59,6 +59,7 @@ impl<P: Program> World<P> {
         self.empty_queue(Queue::Dead);
         self.count_readers(t);
         self.rings_mut().unclaim_all();
+        self.conditions_mut().leave_all();
         self.barriers_mut().withdraw_all();
     }
 }

@@ -1,37 +1,24 @@
-use Rattle.std.proofs.Common.{false, Some}
-use Rattle.std.proofs.lemmas.Result.{on_ok_weaker, on_err_weaker}
-use Rattle.pth_base.specs.declared.mark.Mark.TheVariants.{Canceled}
-use Rattle.pth_threads.specs.declared.entry.Change.TheVariants as change
+use Rattle.std.proofs.lemmas.Result.{err_from_is_err_and, on_ok_weaker, on_err_weaker}
 use Rattle.pth_model.specs.Cancellation.{canceled_value, takes_request}
-use Rattle.pth_model.specs.Changes.{sets}
 use Rattle.pth_model.specs.Ending.{ending}
-use Rattle.pth_model.specs.Transition.{controlled}
-use Rattle.pth_world.proofs.Moves.{runner_alive}
-use Rattle.pth_world.proofs.Stores.{alive_known}
-use Rattle.pth_world.proofs.Telling.{quiet_leads}
-use Rattle.pth_end.proofs.Canceling.{quiet_canceled, change_stands, ends_then}
-use Rattle.pth_end.proofs.Chains.{leads_then, cut_second}
+use Rattle.pth_end.proofs.Canceling.{ends_then}
+use Rattle.pth_end.proofs.Chains.{leads_then, cut_one, cut_second}
 use Rattle.pth_end.proofs.cancellation.cancel_within.Goals as goal
 
-pub set_field-requires-clause-known : goal.set_field-requires-clause-known
-set_field-requires-clause-known g c = alive_known c.args.w.now.threads c.args.t.0 (runner_alive c.args.w.now c.args.t.0 c.requires.whole c.requires.runs)
-
-pub end_thread-requires-clause-alive : goal.end_thread-requires-clause-alive
-end_thread-requires-clause-alive g c = c.set_field.ensures.alive (runner_alive c.args.w.now c.args.t.0 c.requires.whole c.requires.runs)
+pub returns-in_err-take_request-clause-err : goal.returns-in_err-take_request-clause-err
+returns-in_err-take_request-clause-err g c =
+    let p = err_from_is_err_and c.from_residual.result c.from_residual.ensures.1 in
+    rw p.1 (λ s st. cut_one s (takes_request c.args.t.0 c.args.call) (ending g.P.Program.functions c.args.t.0 canceled_value) _ _ (c.in_err-take_request.ensures.err s st))
 
 pub returns-clause-ok : goal.returns-clause-ok
 returns-clause-ok g c = on_ok_weaker c.end_thread.result (λ rest s st.
-    let ask = sets c.args.t.0 (change.Request false) in
-    let asked = change_stands c.args.w.now c.set_field.new.self ask s (c.set_field.ensures.shows s.control st.control) c.set_field.ensures.store st in
-    let first = quiet_leads c.set_field.new.self (controlled ask s) (Canceled c.args.t (Some c.args.call)) _ _ (quiet_canceled c.args.t (Some c.args.call)) asked c.in_ok-push.ensures.ok in
-    leads_then c.set_field.new.self c.end_thread.new.w s (takes_request c.args.t.0 c.args.call) (ending g.P.Program.functions c.args.t.0 canceled_value) _ _ _ (record { stands = first.stands; tells = first.tells }) (rest _ first.stands)) c.end_thread.ensures.ok
+    let first = c.in_ok-take_request.ensures.ok s st in
+    leads_then c.take_request.new.w c.end_thread.new.w s (takes_request c.args.t.0 c.args.call) (ending g.P.Program.functions c.args.t.0 canceled_value) _ _ _ first (rest _ first.stands)) c.end_thread.ensures.ok
 
 pub returns-clause-err : goal.returns-clause-err
 returns-clause-err g c = on_err_weaker c.end_thread.result (λ cut s st.
-    let ask = sets c.args.t.0 (change.Request false) in
-    let asked = change_stands c.args.w.now c.set_field.new.self ask s (c.set_field.ensures.shows s.control st.control) c.set_field.ensures.store st in
-    let first = quiet_leads c.set_field.new.self (controlled ask s) (Canceled c.args.t (Some c.args.call)) _ _ (quiet_canceled c.args.t (Some c.args.call)) asked c.in_ok-push.ensures.ok in
-    cut_second c.set_field.new.self s (takes_request c.args.t.0 c.args.call) (ending g.P.Program.functions c.args.t.0 canceled_value) _ _ _ (record { stands = first.stands; tells = first.tells }) (cut _ first.stands)) c.end_thread.ensures.err
+    let first = c.in_ok-take_request.ensures.ok s st in
+    cut_second c.take_request.new.w s (takes_request c.args.t.0 c.args.call) (ending g.P.Program.functions c.args.t.0 canceled_value) _ _ _ first (cut _ first.stands)) c.end_thread.ensures.err
 
 pub returns-clause-frame : goal.returns-clause-frame
-returns-clause-frame g c = on_ok_weaker c.end_thread.result (λ ends. ends_then c.args.w.now c.set_field.new.self c.end_thread.new.w c.args.t.0 c.set_field.ensures.frame ends) c.end_thread.ensures.frame
+returns-clause-frame g c = on_ok_weaker c.end_thread.result (λ ends. ends_then c.args.w.now c.take_request.new.w c.end_thread.new.w c.args.t.0 c.take_request.ensures.frame ends) c.end_thread.ensures.frame

@@ -10,6 +10,7 @@ use Rattle.pth_model.specs.Transition.{tells_each}
 use Rattle.pth_model.specs.Changes.{sets, goes_on, enters, leaves_queue, raises_ready, makes, forgets}
 use Rattle.pth_model.specs.RingWaits.{claims, gives_back, stops_waiting}
 use Rattle.pth_model.specs.Barriers.{withdraws_from}
+use Rattle.pth_model.specs.Conditions.{hands_on_seat}
 use Rattle.pth_model.specs.Ending.{is_dead_with, leaves, runs_each, next_destructor, destructs, ending, mutexes_had, locks_held}
 use Rattle.pth_model.specs.ThreadEnds.{is_alone}
 use Rattle.pth_model.specs.Cancellation.{may_be_canceled}
@@ -21,9 +22,9 @@ use Rattle.pth_model.specs.Run.{parts}
 use Rattle.pth_model.proofs.example.ending_bodies_run.Goals as goal
 
 pub returns-clause-marks : goal.returns-clause-marks
-unfolding acts acts_from parts start part next_part closes is_placed is_put_waiting is_put_back steps takes dispatches runs readies_all readies moves pass looks comes_for to_wake all_woken woken is_ready_at wakes waits_until gone_on tried_again may_be_canceled begun row_of is_alone withdraws_from ending mutexes_had locks_held tells_each runs_each destructs next_destructor leaves is_dead_with forgets makes raises_ready leaves_queue enters goes_on claims gives_back stops_waiting sets number_known shown order put_behind put changed made_of told answer_told act_told
+unfolding acts acts_from parts start part next_part closes is_placed is_put_waiting is_put_back steps takes dispatches runs readies_all readies moves pass looks comes_for to_wake all_woken woken is_ready_at wakes waits_until gone_on tried_again may_be_canceled begun row_of is_alone withdraws_from hands_on_seat ending mutexes_had locks_held tells_each runs_each destructs next_destructor leaves is_dead_with forgets makes raises_ready leaves_queue enters goes_on claims gives_back stops_waiting sets number_known shown order put_behind put changed made_of told answer_told act_told
 returns-clause-marks c = refl
 
 pub returns-clause-outcome : goal.returns-clause-outcome
-unfolding acts acts_from parts start part next_part closes is_placed is_put_waiting is_put_back steps takes dispatches runs readies_all readies moves pass looks comes_for to_wake all_woken woken is_ready_at wakes waits_until gone_on tried_again may_be_canceled begun row_of is_alone withdraws_from ending mutexes_had locks_held tells_each runs_each destructs next_destructor leaves is_dead_with forgets makes raises_ready leaves_queue enters goes_on claims gives_back stops_waiting sets number_known shown order put_behind put changed made_of told answer_told act_told
+unfolding acts acts_from parts start part next_part closes is_placed is_put_waiting is_put_back steps takes dispatches runs readies_all readies moves pass looks comes_for to_wake all_woken woken is_ready_at wakes waits_until gone_on tried_again may_be_canceled begun row_of is_alone withdraws_from hands_on_seat ending mutexes_had locks_held tells_each runs_each destructs next_destructor leaves is_dead_with forgets makes raises_ready leaves_queue enters goes_on claims gives_back stops_waiting sets number_known shown order put_behind put changed made_of told answer_told act_told
 returns-clause-outcome c = refl

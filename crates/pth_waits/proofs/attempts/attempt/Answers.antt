@@ -8,7 +8,6 @@ use Rattle.pth_world.proofs.StateOf.{stands_for_state}
 use Rattle.pth_world.specs.StateOf.{state_of}
 use Rattle.pth_waits.specs.Io.{first_awaited}
 use Rattle.pth_waits.proofs.Attempted.{none_is, others_called, others_never, same_elsewhere, some_then, unawaited}
-use Rattle.pth_waits.proofs.Attempting.{unbuilt_attempts}
 use Rattle.pth_waits.proofs.Resting.{rest_attempts}
 use Rattle.pth_waits.proofs.attempts.attempt.Goals as goal
 
@@ -28,19 +27,19 @@ pub returns-in-Nap-clause-attempts : goal.returns-in-Nap-clause-attempts
 unfolding row_of told answer_told
 returns-in-Nap-clause-attempts g c =
     let n : SFits w64 c.in-Nap.n = search rules in
-    rw c.in-Nap.is (rest_attempts c.args.w.now c.args.t.0 (Nap c.in-Nap.n) (λ a x. refl) (λ a is. is) 1 c.in-Nap.n 1 _ (λ s st. (simp to_z-of_z at c.rest.ensures.verdict) s 1 st (simp to_z-of_z at c.micros.ensures)) c.rest.ensures.rests)
+    rw c.in-Nap.is (rest_attempts c.args.w.now c.args.t.0 (Nap c.in-Nap.n) refl (λ a x. refl) (λ a is. is) 1 c.in-Nap.n 1 _ (λ s st. (simp to_z-of_z at c.rest.ensures.verdict) s 1 st (simp to_z-of_z at c.micros.ensures)) c.rest.ensures.rests)
 
 pub returns-in-Usleep-clause-attempts : goal.returns-in-Usleep-clause-attempts
 unfolding row_of told answer_told
 returns-in-Usleep-clause-attempts g c =
     let n : SFits w64 c.in-Usleep.n = search rules in
-    rw c.in-Usleep.is (rest_attempts c.args.w.now c.args.t.0 (Usleep c.in-Usleep.n) (λ a x. refl) (λ a is. is) 1 c.in-Usleep.n 0 _ (λ s st. (simp to_z-of_z at c.rest-in-Usleep.ensures.verdict) s 1 st (simp to_z-of_z at c.micros-in-Usleep.ensures)) c.rest-in-Usleep.ensures.rests)
+    rw c.in-Usleep.is (rest_attempts c.args.w.now c.args.t.0 (Usleep c.in-Usleep.n) refl (λ a x. refl) (λ a is. is) 1 c.in-Usleep.n 0 _ (λ s st. (simp to_z-of_z at c.rest-in-Usleep.ensures.verdict) s 1 st (simp to_z-of_z at c.micros-in-Usleep.ensures)) c.rest-in-Usleep.ensures.rests)
 
 pub returns-in-Sleep-clause-attempts : goal.returns-in-Sleep-clause-attempts
 unfolding row_of told answer_told
 returns-in-Sleep-clause-attempts g c =
     let n : SFits w64 c.in-Sleep.n = search rules in
-    rw c.in-Sleep.is (rest_attempts c.args.w.now c.args.t.0 (Sleep c.in-Sleep.n) (λ a x. refl) (λ a is. is) 1000000 c.in-Sleep.n 0 _ (λ s st. (simp to_z-of_z at c.rest-in-Sleep.ensures.verdict) s 1000000 st (simp to_z-of_z at c.seconds.ensures)) c.rest-in-Sleep.ensures.rests)
+    rw c.in-Sleep.is (rest_attempts c.args.w.now c.args.t.0 (Sleep c.in-Sleep.n) refl (λ a x. refl) (λ a is. is) 1000000 c.in-Sleep.n 0 _ (λ s st. (simp to_z-of_z at c.rest-in-Sleep.ensures.verdict) s 1000000 st (simp to_z-of_z at c.seconds.ensures)) c.rest-in-Sleep.ensures.rests)
 
 pub returns-in-Wait-clause-attempts : goal.returns-in-Wait-clause-attempts
 unfolding row_of
@@ -64,10 +63,13 @@ returns-in-RwAcquire-clause-attempts g c =
     let e : SFits w64 c.in-RwAcquire.e = search rules in
     rw c.in-RwAcquire.is (simp to_z-of_z at c.acquire_lock.ensures.attempts)
 
-pub returns-in-CondAwait-clause-attempts : goal.returns-in-CondAwait-clause-attempts
+pub returns-in_ok-await_condition-in-CondAwait-clause-attempts : goal.returns-in_ok-await_condition-in-CondAwait-clause-attempts
 unfolding row_of
-returns-in-CondAwait-clause-attempts g c =
-    rw c.in-CondAwait.is (unbuilt_attempts c.args.w.now c.args.t.0 c.in-CondAwait.c c.in-CondAwait.m c.in-CondAwait.e)
+returns-in_ok-await_condition-in-CondAwait-clause-attempts g c =
+    let x : SFits w64 c.in-CondAwait.c = search rules in
+    let m : SFits w64 c.in-CondAwait.m = search rules in
+    let e : SFits w64 c.in-CondAwait.e = search rules in
+    rw c.in-CondAwait.is (simp to_z-of_z at c.in_ok-await_condition-in-CondAwait.ensures.attempts)
 
 pub returns-in_ok-reach_barrier-in-BarrierReach-clause-attempts : goal.returns-in_ok-reach_barrier-in-BarrierReach-clause-attempts
 unfolding row_of
@@ -87,7 +89,7 @@ returns-in_default g c =
       never = IfOk-weaker c.begin_io.result _ _ (λ o is none.
           let here : is_some (first_awaited s call) ≡ false = sym (is s st) ∙ ap is_some none in
           record {
-            away = others_never s call (none_is _ here) d.not-Join d.not-Exit d.not-Nap d.not-Usleep d.not-Sleep d.not-Wait d.not-MutexAcquire d.not-RwAcquire d.not-BarrierReach;
+            away = others_never s call (none_is _ here) d.not-Join d.not-Exit d.not-Nap d.not-Usleep d.not-Sleep d.not-Wait d.not-MutexAcquire d.not-RwAcquire d.not-BarrierReach (unawaited call d.not-CondAwait);
             elsewhere = λ u. none_is _ (sym (same_elsewhere s call u) ∙ here);
             unawaited = unawaited call d.not-CondAwait;
           }) c.begin_io.ensures.descriptors;

@@ -1,8 +1,8 @@
-use Rattle.std.proofs.Common.{◌≡◌, ◌∙◌, is_some, Some, option_copied, ap, sym, subst, refl, rules, SFits, w64, to_z-of_z}
+use Rattle.std.proofs.Common.{◌≡◌, ◌∙◌, false, is_some, Some, option_copied, ap, sym, subst, refl, rules, SFits, w64, to_z-of_z}
 use Rattle.pth_base.specs.declared.call.Call.TheVariants.{BarrierReach, Exit, Join, MutexAcquire, Nap, RwAcquire, Sleep, Usleep, Wait}
 use Rattle.pth_model.specs.declared.blocked.Blocked.{Blocked}
 use Rattle.pth_model.specs.Resources.{answer_told, told}
-use Rattle.pth_model.specs.Awaits.{round_in}
+use Rattle.pth_model.specs.Awaits.{is_await, is_awaiting, round_in}
 use Rattle.pth_model.specs.Rows.{row_of}
 use Rattle.pth_world.specs.Leading.{Tries}
 use Rattle.pth_waits.proofs.Attempted.{descriptors_else, tries_as, tries_at}
@@ -44,7 +44,7 @@ returns-in-Nap-clause-tries g c k b sh has =
     let is : b.call ≡ Nap c.in-Nap.field-0 = ap (λ (x : Blocked). x.call) e ∙ c.in-Nap.is in
     let awaits : b.awaits ≡ c.in-Some.blocked.now.awaits = ap (λ (x : Blocked). x.awaits) e in
     tries_as _ _ c.args.t.0 b (Nap c.in-Nap.field-0) (λ d a s. (row_of g.P.Program.functions s c.args.t.0 d).again a) _ is
-    (rest_tries c.args.w.now c.args.t.0 (Nap c.in-Nap.field-0) (λ a x. refl) (λ a is. is) 1 c.in-Nap.field-0 1 _ b.awaits (λ s st. rw awaits (c.rest_again.ensures.verdict s 1 c.in-Nap.field-0 st)) c.rest_again.ensures.rests)
+    (rest_tries c.args.w.now c.args.t.0 (Nap c.in-Nap.field-0) refl (λ a x. refl) (λ a is. is) 1 c.in-Nap.field-0 1 _ b.awaits (λ s st. rw awaits (c.rest_again.ensures.verdict s 1 c.in-Nap.field-0 st)) c.rest_again.ensures.rests)
 
 pub returns-in-Usleep-clause-tries : goal.returns-in-Usleep-clause-tries
 unfolding row_of told answer_told
@@ -54,7 +54,7 @@ returns-in-Usleep-clause-tries g c k b sh has =
     let is : b.call ≡ Usleep c.in-Usleep.field-0 = ap (λ (x : Blocked). x.call) e ∙ c.in-Usleep.is in
     let awaits : b.awaits ≡ c.in-Some.blocked.now.awaits = ap (λ (x : Blocked). x.awaits) e in
     tries_as _ _ c.args.t.0 b (Usleep c.in-Usleep.field-0) (λ d a s. (row_of g.P.Program.functions s c.args.t.0 d).again a) _ is
-    (rest_tries c.args.w.now c.args.t.0 (Usleep c.in-Usleep.field-0) (λ a x. refl) (λ a is. is) 1 c.in-Usleep.field-0 0 _ b.awaits (λ s st. rw awaits (c.rest_again-in-Usleep.ensures.verdict s 1 c.in-Usleep.field-0 st)) c.rest_again-in-Usleep.ensures.rests)
+    (rest_tries c.args.w.now c.args.t.0 (Usleep c.in-Usleep.field-0) refl (λ a x. refl) (λ a is. is) 1 c.in-Usleep.field-0 0 _ b.awaits (λ s st. rw awaits (c.rest_again-in-Usleep.ensures.verdict s 1 c.in-Usleep.field-0 st)) c.rest_again-in-Usleep.ensures.rests)
 
 pub returns-in-Sleep-clause-tries : goal.returns-in-Sleep-clause-tries
 unfolding row_of told answer_told
@@ -64,7 +64,7 @@ returns-in-Sleep-clause-tries g c k b sh has =
     let is : b.call ≡ Sleep c.in-Sleep.field-0 = ap (λ (x : Blocked). x.call) e ∙ c.in-Sleep.is in
     let awaits : b.awaits ≡ c.in-Some.blocked.now.awaits = ap (λ (x : Blocked). x.awaits) e in
     tries_as _ _ c.args.t.0 b (Sleep c.in-Sleep.field-0) (λ d a s. (row_of g.P.Program.functions s c.args.t.0 d).again a) _ is
-    (rest_tries c.args.w.now c.args.t.0 (Sleep c.in-Sleep.field-0) (λ a x. refl) (λ a is. is) 1000000 c.in-Sleep.field-0 0 _ b.awaits (λ s st. rw awaits (c.rest_again-in-Sleep.ensures.verdict s 1000000 c.in-Sleep.field-0 st)) c.rest_again-in-Sleep.ensures.rests)
+    (rest_tries c.args.w.now c.args.t.0 (Sleep c.in-Sleep.field-0) refl (λ a x. refl) (λ a is. is) 1000000 c.in-Sleep.field-0 0 _ b.awaits (λ s st. rw awaits (c.rest_again-in-Sleep.ensures.verdict s 1000000 c.in-Sleep.field-0 st)) c.rest_again-in-Sleep.ensures.rests)
 
 pub returns-in-MutexAcquire-clause-tries : goal.returns-in-MutexAcquire-clause-tries
 unfolding row_of
@@ -106,8 +106,9 @@ returns-in_ok-io_again-in_default-call g c =
       tries = λ k b sh has.
           let same : Some held ≡ Some b = ap (λ o. option_copied o) (sym c.in-Some.is) ∙ c.blocked.ensures.blocked k sh ∙ has in
           let e : held ≡ b = cc in
+          let other : is_await held.call ≡ false = ap (λ (x : Blocked). is_await x.call) e ∙ ap is_awaiting (sym has) ∙ c.requires.other k sh in
           subst (λ (x : Blocked). Tries c.args.w.now c.io_again.new.w t x (λ s. (row_of g.P.Program.functions s t x.call).again x.awaits) c.in_ok-io_again-in_default-call.field-0) e
-          (c.in_ok-io_again-in_default-call.ensures.tries held.call (λ s. descriptors_else s t held.call held.awaits may d.not-Join d.not-Exit d.not-Nap d.not-Usleep d.not-Sleep d.not-Wait d.not-MutexAcquire d.not-RwAcquire d.not-BarrierReach) may);
+          (c.in_ok-io_again-in_default-call.ensures.tries held.call (λ s. descriptors_else s t held.call held.awaits may d.not-Join d.not-Exit d.not-Nap d.not-Usleep d.not-Sleep d.not-Wait d.not-MutexAcquire d.not-RwAcquire d.not-BarrierReach other) may);
       blocked = λ k sh. ap is_some (ap (λ o. option_copied o) (sym c.in-Some.is) ∙ c.blocked.ensures.blocked k sh);
       same = λ none. absurd (cc none);
       frame = c.in_ok-io_again-in_default-call.ensures.frame;

@@ -3,10 +3,10 @@ use Rattle.std.proofs.lemmas.Result.{on_ok_weaker}
 use Rattle.pth_model.specs.declared.blocked.Blocked.{Blocked}
 use Rattle.pth_model.specs.State.{Control}
 use Rattle.pth_world.proofs.StateOf.{stands_for_state}
-use Rattle.pth_world.proofs.Telling.{has_still}
 use Rattle.pth_world.specs.Frame.{Frame}
 use Rattle.pth_world.specs.Numbering.{no_numbers}
 use Rattle.pth_world.specs.Shows.{Shows}
+use Rattle.pth_world.specs.Store.{store_of}
 use Rattle.pth_world.specs.Whole.{MayAwaitAs, Whole}
 use Rattle.pth_world.specs.World.{WorldOf}
 use Rattle.pth_waits.proofs.Blocking.{blocked_twice, progress_frame, waits_on_leads}
@@ -23,9 +23,8 @@ returns-clause-ok g c = on_ok_weaker c.push.result (λ told s b has st.
     let now : Blocked = record { call = c.in-Some.blocked.call; awaits = c.args.awaits } in
     let held : Some b ≡ Some c.in-Some.blocked = sym has ∙ sym (c.take_blocked.ensures.blocked s.control st.control) ∙ c.in-Some.is in
     let is : b ≡ c.in-Some.blocked = cc in
-    let may = subst (λ (o : Option Blocked). IfSome o (λ d. MayAwaitAs t d.call c.args.awaits)) (has ∙ held) (c.requires.may s.control st.control) in
     let shows = subst (λ (k : Control _ _ _). Shows c.block.new.self k) (blocked_twice s.control t (Some now) None) (c.block.ensures.shows _ (c.take_blocked.ensures.shows s.control st.control)) in
-    rw is (waits_on_leads _ s t now _ _ may (has_still c.args.w.now c.block.new.self s (ap (λ (z : WorldOf _ _ _). z.store) c.block.ensures.same ∙ ap (λ (z : WorldOf _ _ _). z.store) c.take_blocked.ensures.same) st.store) shows told)) (rw c.in_ok-copy.ensures at c.push.ensures.ok)
+    rw is (waits_on_leads _ s t now _ _ ((rw is at st).store ∙ sym (ap (λ (z : WorldOf _ _ _). store_of z.store) c.block.ensures.same ∙ ap (λ (z : WorldOf _ _ _). store_of z.store) c.take_blocked.ensures.same)) shows told)) (rw c.in_ok-copy.ensures at c.push.ensures.ok)
 
 pub returns-clause-frame : goal.returns-clause-frame
 returns-clause-frame g c = on_ok_weaker c.push.result (λ told.

@@ -9,7 +9,7 @@ use Rattle.pth_waits.proofs.dormant.awaits_until.Goals as goal
 pub returns-in_default-clause-away : goal.returns-in_default-clause-away
 returns-in_default-clause-away g c = λ s st some.
     let d = c.in_default in
-    descriptors_stay s c.descriptors_until.result _ c.args.awaits d.not-Alone d.not-AnyDeath d.not-Death d.not-Moment d.not-Mutex d.not-Lock d.not-Round (kernel_of c.args.w.now.kernel) st.control.kernel (rw c.kernel.ensures at c.descriptors_until.ensures.away)
+    descriptors_stay s c.descriptors_until.result _ c.args.awaits d.not-Alone d.not-AnyDeath d.not-Death d.not-Moment d.not-Mutex d.not-Lock d.not-Round d.not-Notice d.not-Retaking (kernel_of c.args.w.now.kernel) st.control.kernel (rw c.kernel.ensures at c.descriptors_until.ensures.away)
 
 pub returns-in-AnyDeath-clause-away : goal.returns-in-AnyDeath-clause-away
 returns-in-AnyDeath-clause-away g c = λ s st some.
@@ -44,3 +44,9 @@ returns-in-Round-clause-later g c = λ s st away.
     let fits : SFits w64 c.in-Round.b = search rules in
     let none = (rw c.in-Round.is at away) (now_of s.control) (omega arith) (omega arith) in
     later_than_now c.args.w.now s.control st.control _ (c.never_unless-in-Round.ensures.later ((rw to_z-of_z at c.has_passed.ensures) s.control st.control ∙ none))
+
+pub returns-in-Notice-clause-later : goal.returns-in-Notice-clause-later
+returns-in-Notice-clause-later g c = λ s st away.
+    let fits : SFits w64 c.in-Notice.c = search rules in
+    let none = (rw c.in-Notice.is at away) (now_of s.control) (omega arith) (omega arith) in
+    later_than_now c.args.w.now s.control st.control _ (c.never_unless-in-Notice.ensures.later ((rw (to_z-of_z, c.thread_in-in-Notice.ensures.tid) at c.is_noticed.ensures) s st ∙ none))

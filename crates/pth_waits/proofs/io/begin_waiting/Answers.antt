@@ -1,3 +1,6 @@
+use Rattle.pth_world.proofs.Telling.{has_still}
+use Rattle.pth_waits.proofs.Attempted.{io_unawaited}
+use Rattle.pth_waits.proofs.Attempting.{claimed_ready}
 use Rattle.pth_waits.proofs.IoCalls.{answered_ready, begins_answered, io_told}
 use Rattle.pth_waits.proofs.io.begin_waiting.Goals as goal
 
@@ -12,3 +15,7 @@ returns-then-at_once-clause-ready g c call before s some st = io_told before c.a
 
 pub returns-in-Err-clause-ready : goal.returns-in-Err-clause-ready
 returns-in-Err-clause-ready g c call before s some st = rw c.in-Err.ensures.refused (io_told before c.args.w.now c.args.t.0 call c.count_or-in-Err.result s some st)
+
+pub returns-in-Ok-clause-ready : goal.returns-in-Ok-clause-ready
+returns-in-Ok-clause-ready g c call before s some st =
+    claimed_ready c.claim_given.new.w c.args.t.0 call c.args.ring c.in-Blocks.awaits s (io_unawaited before call some) (c.in-Ok.ensures.shows s.control st.control) (has_still c.args.w.now c.claim_given.new.w s c.claim_given.ensures.store st.store)

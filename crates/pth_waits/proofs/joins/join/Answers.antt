@@ -61,7 +61,7 @@ returns-in-None-clause-tries g c a =
     changed_tries w w t (record { call = Join c.args.n; awaits = a }) (λ s. join_attempt s t c.args.n) (Blocks c.death_of.result)
     blocks
     (λ s st. passed_changes w s (join_attempt s t c.args.n) (takes_joined (to_join s.control c.args.n)) (ap refuses (blocks s st)) refl (rw (takes s st) st.control) st.store)
-    (λ u st. none_ready w t (Join c.args.n) c.death_of.result u st)
+    (λ u st. none_ready w t (Join c.args.n) c.death_of.result u refl st)
     death
     (λ idle s st. rw (blocks s st, takes s st) refl)
     (blocked_still w w t refl)

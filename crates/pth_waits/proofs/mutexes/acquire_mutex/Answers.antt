@@ -12,7 +12,7 @@ use Rattle.pth_waits.proofs.mutexes.acquire_mutex.Goals as goal
 pub returns-then-is_no_ring-clause-attempts : goal.returns-then-is_no_ring-clause-attempts
 returns-then-is_no_ring-clause-attempts g c =
     let ring = c.extra_ring-ring.ensures ∙ ap extra_ring (to_z-of_z c.ranges.e) in
-    without_ring c.args.t.0 (MutexAcquire c.args.m c.args.v c.args.e) (Mutex c.args.m) refl c.args.w.now c.requires.whole.sound (extra_ring c.args.e) (mutex_taking c.args.t.0 c.args.m) (not (is_zero c.args.v))
+    without_ring c.args.t.0 (MutexAcquire c.args.m c.args.v c.args.e) (Mutex c.args.m) refl refl c.args.w.now c.requires.whole.sound (extra_ring c.args.e) (mutex_taking c.args.t.0 c.args.m) (not (is_zero c.args.v))
     (λ s st. sym ((rw ring at c.is_no_ring.ensures) s st) ∙ c.if-is_no_ring.true)
 
 pub take_mutex-requires-clause-alive : goal.take_mutex-requires-clause-alive
@@ -21,7 +21,7 @@ take_mutex-requires-clause-alive g c = runner_alive c.args.w.now c.args.t.0 c.re
 pub returns-in-Ok-clause-attempts : goal.returns-in-Ok-clause-attempts
 returns-in-Ok-clause-attempts g c =
     let ring = c.extra_ring-ring.ensures ∙ ap extra_ring (to_z-of_z c.ranges.e) in
-    by_taking c.args.t.0 (MutexAcquire c.args.m c.args.v c.args.e) (Mutex c.args.m) refl c.args.w.now c.requires.whole.sound (extra_ring c.args.e) (mutex_taking c.args.t.0 c.args.m) (not (is_zero c.args.v)) c.take_mutex.new.self (says 1) (Ok tt)
+    by_taking c.args.t.0 (MutexAcquire c.args.m c.args.v c.args.e) (Mutex c.args.m) refl refl c.args.w.now c.requires.whole.sound (extra_ring c.args.e) (mutex_taking c.args.t.0 c.args.m) (not (is_zero c.args.v)) c.take_mutex.new.self (says 1) (Ok tt)
     (λ s st. sym ((rw ring at c.is_no_ring.ensures) s st) ∙ c.if-is_no_ring.false)
     (sym c.in-Ok.is ∙ rw (to_z-of_z c.ranges.m) at c.take_mutex.ensures.answer)
     (λ s st. refl)
@@ -35,7 +35,7 @@ returns-in-Err-clause-attempts g c =
     let tries : not (of_z w64 c.args.v == 0) ≡ not (is_zero c.args.v) = search rules in
     let ring = c.extra_ring-ring.ensures ∙ ap extra_ring (to_z-of_z c.ranges.e) in
     let same = c.in-Err.ensures.refused in
-    by_taking c.args.t.0 (MutexAcquire c.args.m c.args.v c.args.e) (Mutex c.args.m) refl c.args.w.now c.requires.whole.sound (extra_ring c.args.e) (mutex_taking c.args.t.0 c.args.m) (not (is_zero c.args.v)) c.turn_away.new.w c.turn_away.result (Err c.in-Err.errno)
+    by_taking c.args.t.0 (MutexAcquire c.args.m c.args.v c.args.e) (Mutex c.args.m) refl refl c.args.w.now c.requires.whole.sound (extra_ring c.args.e) (mutex_taking c.args.t.0 c.args.m) (not (is_zero c.args.v)) c.turn_away.new.w c.turn_away.result (Err c.in-Err.errno)
     (λ s st. sym ((rw ring at c.is_no_ring.ensures) s st) ∙ c.if-is_no_ring.false)
     (sym c.in-Err.is ∙ rw (to_z-of_z c.ranges.m) at c.take_mutex.ensures.answer)
     (λ s st. (rw (tries, to_z-of_z c.ranges.m, ring) at c.turn_away.ensures.verdict) s (rw same st) (sym ((rw ring at c.is_no_ring.ensures) s st) ∙ c.if-is_no_ring.false))

@@ -16,7 +16,7 @@ take_mutex-requires-clause-alive g c = runner_alive c.args.w.now c.args.t.0 c.re
 pub returns-then-is_ok-clause-tries : goal.returns-then-is_ok-clause-tries
 returns-then-is_ok-clause-tries g c v e a =
     let free = rw (to_z-of_z c.ranges.m) at c.is_free_mutex.ensures in
-    has_again c.args.t.0 (MutexAcquire c.args.m v e) (Mutex c.args.m) refl c.args.w.now a (λ s. is_free s c.args.m) c.take_mutex.new.self
+    has_again c.args.t.0 (MutexAcquire c.args.m v e) (Mutex c.args.m) refl refl c.args.w.now a (λ s. is_free s c.args.m) c.take_mutex.new.self
     (λ s st. sym (free s st) ∙ c.if-is_free_mutex.true)
     (λ s st. mutex_ready c.args.w.now c.take_mutex.new.self c.args.t.0 c.take_mutex.ensures.keeps s st c.args.m v e None (search rules))
     c.take_mutex.ensures.keeps
@@ -32,5 +32,5 @@ returns-else-is_free_mutex-clause-tries g c v e a =
           (rw (to_z-of_z c.ranges.m) at w.take_mutex.ensures.answer)
           (sym w.is_ok.ensures.value ∙ w.if-is_ok.false))
       | else-is_free_mutex-via-else-is_free_mutex w ↦ rw w.w-is
-          (waits_again c.args.t.0 (MutexAcquire c.args.m v e) (Mutex c.args.m) refl c.args.w.now a (λ s. is_free s c.args.m) (λ s st. sym (free s st) ∙ w.if-is_free_mutex.false))
+          (waits_again c.args.t.0 (MutexAcquire c.args.m v e) (Mutex c.args.m) refl refl c.args.w.now a (λ s. is_free s c.args.m) (λ s st. sym (free s st) ∙ w.if-is_free_mutex.false))
     ])

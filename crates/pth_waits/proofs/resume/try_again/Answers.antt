@@ -1,15 +1,12 @@
-use Rattle.std.proofs.Common.{◌≡◌, ◌∙◌, Option, Some, None, IsSome, IfSome, is_some, ap, ap₂, refl, sym, subst}
+use Rattle.std.proofs.Common.{◌≡◌, ◌∙◌, Option, Some, None, IsSome, IfSome, is_some, ap, refl, sym, subst}
 use Rattle.std.proofs.lemmas.List.{append-nil}
-use Rattle.pth_model.specs.declared.awaits.Awaited.{Awaited}
 use Rattle.pth_model.specs.declared.blocked.Blocked.{Blocked}
 use Rattle.pth_model.specs.declared.verdict.Verdict.{Verdict}
 use Rattle.pth_model.specs.Awaits.{is_await, is_awaiting}
 use Rattle.pth_model.specs.Calls.{tried_again, tried_again_by}
 use Rattle.pth_model.specs.Changes.{blocked_of}
-use Rattle.pth_model.specs.RingWaits.{awaited_in, has_settled}
 use Rattle.pth_model.specs.State.{State}
 use Rattle.pth_model.specs.Transition.{Went}
-use Rattle.pth_ring.specs.Arena.{events_of}
 use Rattle.pth_world.proofs.StateOf.{stands_for_state}
 use Rattle.pth_world.specs.Leading.{MayComeTo, StandsRightly, StandsWhere}
 use Rattle.pth_world.specs.Shows.{StandsFor}
@@ -39,7 +36,7 @@ carry_on-requires-clause-may g c k sh =
     let h = some_blocked _ (sym (c.in_ok-verdict.ensures.blocked _ st.control) ∙ ap is_some c.in-Some.is) in
     let tries = (rw c.in-Some.is at c.in_ok-verdict.ensures.tries) _ h.0 st.control h.1 in
     subst (λ (o : Option Blocked). IfSome o (λ b. MayComeTo t b.call c.unless_settled.result)) (sym (tries.held _ k st.control sh ∙ h.1))
-    (subst (λ (x : Verdict). MayComeTo t h.0.call x) (sym c.unless_settled.ensures) (again_may g.P.Program.functions c.args.w.now c.attempt_again.new.w t h.0 c.in-Some.verdict tries c.has_settled-settled.result))
+    (subst (λ (x : Verdict). MayComeTo t h.0.call x) (sym c.unless_settled.ensures) (again_may g.P.Program.functions c.args.w.now c.attempt_again.new.w t h.0 c.in-Some.verdict (ap is_awaiting (sym h.1) ∙ c.requires.other _ st.control) tries c.ring_has_settled-settled.result))
 
 pub returns-in-Some-clause-goes : goal.returns-in-Some-clause-goes
 returns-in-Some-clause-goes g c =
@@ -51,8 +48,8 @@ returns-in-Some-clause-goes g c =
     let tries = (rw c.in-Some.is at c.in_ok-verdict.ensures.tries) _ h.0 st.control h.1 in
     let blocks : (s : State _ _ _) → StandsFor w s → blocked_of s.control t ≡ Some h.0 = λ s so. blocked_still w w t refl _ s.control st.control so.control ∙ h.1 in
     goes_as (λ s. StandsWhere w t (is_await h.0.call) s × (blocked_of s.control t ≡ Some h.0)) (StandsRightly w t) (tried_again f t) (tried_again f t) _ _ _ _ (λ s so. (s, ((so.0, so.1 ∙ ap is_awaiting (blocks s so.0)), blocks s so.0), refl))
-    (again_goes f w c.attempt_again.new.w t h.0 c.in-Some.verdict tries c.has_settled-settled.result _ _ _ _
-    (λ s so. c.has_settled-settled.ensures ∙ ap₂ has_settled (ap events_of c.rings.ensures ∙ sym so.control.events) (ap (λ (x : Awaited). x.ring) (c.awaited.ensures.awaited s.control so.control ∙ ap awaited_in (blocks s so))))
+    (again_goes f w c.attempt_again.new.w t h.0 c.in-Some.verdict (ap is_awaiting (sym h.1) ∙ c.requires.other _ st.control) tries c.ring_has_settled-settled.result _ _ _ _
+    (λ s so. c.ring_has_settled-settled.ensures s h.0 so (blocks s so))
     ((rw c.unless_settled.ensures at c.carry_on.ensures.goes) h.0))
 
 pub returns-in-Some-clause-frame : goal.returns-in-Some-clause-frame

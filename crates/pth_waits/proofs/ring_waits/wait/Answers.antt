@@ -36,5 +36,5 @@ returns-in-Ok-clause-attempts g c =
     let answer = rw to_z-of_z at c.claim.ensures.answer in
     quiet_attempts false w v t (Wait c.args.e) (Some c.args.e) (λ s. (wait s c.args.e).begin) _ (λ s. refl)
     (λ s st. (let is : claim_answer s.control.events (number c.args.e) ≡ Ok tt = rw st.control.events (sym answer ∙ c.in-Ok.is) in rw (is, to_z-of_z) refl))
-    (λ s st. claimed_ready v t (Wait c.args.e) (Some c.args.e) (Ring c.args.e) s ((rw to_z-of_z at c.in-Ok.ensures.shows) s.control st.control) (has_still w v s (ap (λ (z : WorldOf _ _ _). z.store) c.claim.ensures.same) st.store))
+    (λ s st. claimed_ready v t (Wait c.args.e) (Some c.args.e) (Ring c.args.e) s refl ((rw to_z-of_z at c.in-Ok.ensures.shows) s.control st.control) (has_still w v s (ap (λ (z : WorldOf _ _ _). z.store) c.claim.ensures.same) st.store))
     (simp to_z-of_z)

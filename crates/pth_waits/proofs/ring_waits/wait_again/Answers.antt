@@ -37,7 +37,7 @@ returns-else-settled-gt0 g c =
     record {
       tries = λ a. quiet_tries w w t (record { call = Wait c.args.e; awaits = a }) (λ s. (wait s c.args.e).again a) _ (λ s. refl)
           (λ s st. (let is : settled_in s.control.events (number c.args.e) ≡ c.settled-settled.result = sym (rw (st.control.events, ← c.rings.ensures) settled) in rw (is, none, to_z-of_z) refl))
-          (λ s st. none_ready w t (Wait c.args.e) (Ring c.args.e) s st)
+          (λ s st. none_ready w t (Wait c.args.e) (Ring c.args.e) s refl st)
           (simp to_z-of_z)
           refl;
     }

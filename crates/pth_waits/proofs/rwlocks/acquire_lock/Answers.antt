@@ -12,7 +12,7 @@ use Rattle.pth_waits.proofs.rwlocks.acquire_lock.Goals as goal
 pub returns-then-is_no_ring-clause-attempts : goal.returns-then-is_no_ring-clause-attempts
 returns-then-is_no_ring-clause-attempts g c =
     let ring = c.extra_ring-ring.ensures ∙ ap extra_ring (to_z-of_z c.ranges.e) in
-    without_ring c.args.t.0 (RwAcquire c.args.l c.args.write c.args.v c.args.e) (Lock c.args.l c.args.write) refl c.args.w.now c.requires.whole.sound (extra_ring c.args.e) (lock_taking c.args.t.0 c.args.l c.args.write) (not (is_zero c.args.v))
+    without_ring c.args.t.0 (RwAcquire c.args.l c.args.write c.args.v c.args.e) (Lock c.args.l c.args.write) refl refl c.args.w.now c.requires.whole.sound (extra_ring c.args.e) (lock_taking c.args.t.0 c.args.l c.args.write) (not (is_zero c.args.v))
     (λ s st. sym ((rw ring at c.is_no_ring.ensures) s st) ∙ c.if-is_no_ring.true)
 
 pub take_lock-requires-clause-alive : goal.take_lock-requires-clause-alive
@@ -21,7 +21,7 @@ take_lock-requires-clause-alive g c = runner_alive c.args.w.now c.args.t.0 c.req
 pub returns-in-Ok-clause-attempts : goal.returns-in-Ok-clause-attempts
 returns-in-Ok-clause-attempts g c =
     let ring = c.extra_ring-ring.ensures ∙ ap extra_ring (to_z-of_z c.ranges.e) in
-    by_taking c.args.t.0 (RwAcquire c.args.l c.args.write c.args.v c.args.e) (Lock c.args.l c.args.write) refl c.args.w.now c.requires.whole.sound (extra_ring c.args.e) (lock_taking c.args.t.0 c.args.l c.args.write) (not (is_zero c.args.v)) c.take_lock.new.self (says 1) (Ok tt)
+    by_taking c.args.t.0 (RwAcquire c.args.l c.args.write c.args.v c.args.e) (Lock c.args.l c.args.write) refl refl c.args.w.now c.requires.whole.sound (extra_ring c.args.e) (lock_taking c.args.t.0 c.args.l c.args.write) (not (is_zero c.args.v)) c.take_lock.new.self (says 1) (Ok tt)
     (λ s st. sym ((rw ring at c.is_no_ring.ensures) s st) ∙ c.if-is_no_ring.false)
     (sym c.in-Ok.is ∙ rw (to_z-of_z c.ranges.l) at c.take_lock.ensures.answer)
     (λ s st. refl)
@@ -35,7 +35,7 @@ returns-in-Err-clause-attempts g c =
     let tries : not (of_z w64 c.args.v == 0) ≡ not (is_zero c.args.v) = search rules in
     let ring = c.extra_ring-ring.ensures ∙ ap extra_ring (to_z-of_z c.ranges.e) in
     let same = c.in-Err.ensures.refused in
-    by_taking c.args.t.0 (RwAcquire c.args.l c.args.write c.args.v c.args.e) (Lock c.args.l c.args.write) refl c.args.w.now c.requires.whole.sound (extra_ring c.args.e) (lock_taking c.args.t.0 c.args.l c.args.write) (not (is_zero c.args.v)) c.turn_away.new.w c.turn_away.result (Err c.in-Err.errno)
+    by_taking c.args.t.0 (RwAcquire c.args.l c.args.write c.args.v c.args.e) (Lock c.args.l c.args.write) refl refl c.args.w.now c.requires.whole.sound (extra_ring c.args.e) (lock_taking c.args.t.0 c.args.l c.args.write) (not (is_zero c.args.v)) c.turn_away.new.w c.turn_away.result (Err c.in-Err.errno)
     (λ s st. sym ((rw ring at c.is_no_ring.ensures) s st) ∙ c.if-is_no_ring.false)
     (sym c.in-Err.is ∙ rw (to_z-of_z c.ranges.l) at c.take_lock.ensures.answer)
     (λ s st. (rw (tries, to_z-of_z c.ranges.l, ring) at c.turn_away.ensures.verdict) s (rw same st) (sym ((rw ring at c.is_no_ring.ensures) s st) ∙ c.if-is_no_ring.false))

@@ -10,7 +10,7 @@ take_lock-requires-clause-alive g c = runner_alive c.args.w.now c.args.t.0 c.req
 
 pub returns-in-Ok-clause-tries : goal.returns-in-Ok-clause-tries
 returns-in-Ok-clause-tries g c v e a =
-    has_again c.args.t.0 (RwAcquire c.args.l c.args.write v e) (Lock c.args.l c.args.write) refl c.args.w.now a (may_take_lock c.args.t.0 c.args.l c.args.write) c.take_lock.new.self
+    has_again c.args.t.0 (RwAcquire c.args.l c.args.write v e) (Lock c.args.l c.args.write) refl refl c.args.w.now a (may_take_lock c.args.t.0 c.args.l c.args.write) c.take_lock.new.self
     (λ s st. lock_taken_if c.args.w.now s st c.args.t.0 c.args.l c.args.write _ (sym c.in-Ok.is ∙ rw (to_z-of_z c.ranges.l) at c.take_lock.ensures.answer))
     (λ s st. lock_ready c.args.w.now c.take_lock.new.self c.args.t.0 c.take_lock.ensures.keeps s st c.args.l c.args.write v e None (rw (to_z-of_z c.ranges.l) at c.in-Ok.ensures.changes))
     c.take_lock.ensures.keeps
@@ -18,5 +18,5 @@ returns-in-Ok-clause-tries g c v e a =
 pub returns-in-Err-clause-tries : goal.returns-in-Err-clause-tries
 returns-in-Err-clause-tries g c v e a =
     rw (to_z-of_z c.ranges.l, c.in-Err.ensures.refused)
-    (waits_again c.args.t.0 (RwAcquire c.args.l c.args.write v e) (Lock c.args.l c.args.write) refl c.args.w.now a (may_take_lock c.args.t.0 c.args.l c.args.write)
+    (waits_again c.args.t.0 (RwAcquire c.args.l c.args.write v e) (Lock c.args.l c.args.write) refl refl c.args.w.now a (may_take_lock c.args.t.0 c.args.l c.args.write)
     (λ s st. lock_taken_if c.args.w.now s st c.args.t.0 c.args.l c.args.write _ (sym c.in-Err.is ∙ rw (to_z-of_z c.ranges.l) at c.take_lock.ensures.answer)))

@@ -12,7 +12,7 @@ returns-then-must_wait g c =
     record {
       tries = λ a. quiet_tries w w t (record { call = Exit c.args.value; awaits = a }) (λ s. exit_attempt s t c.args.value) _ (λ s. refl)
           (λ s st. (let waits : must_wait s.control t ≡ true = search rules in rw waits refl))
-          (λ s st. none_ready w t (Exit c.args.value) Alone s st)
+          (λ s st. none_ready w t (Exit c.args.value) Alone s refl st)
           (c.must_wait.ensures.main c.if-must_wait.true, refl)
           refl;
     }
