@@ -1,5 +1,6 @@
 -- The seats of a condition before and after a call.
-use Rattle.std.proofs.Common.{◌≡◌, ℕ, zero, suc, ◌+◌, ◌-◌, ◌<◌, ◌≤◌, Bool, true, false, not, if◌then◌else◌, List, [], ◌∷◌, ◌++◌, length, get_or, set, map, take, drop, Option, Some, None, refl, sym, ◌∙◌, ap, position, nat_lt, append-nil, length-append, length-drop, arith}
+use Rattle.std.proofs.Common.{◌≡◌, ℕ, zero, suc, ◌+◌, ◌-◌, ◌<◌, ◌≤◌, Bool, true, false, not, if◌then◌else◌, List, [], ◌∷◌, ◌++◌, length, get_or, set, map, take, drop, Option, Some, None, refl, sym, ◌∙◌, ap, position, nat_lt, append-nil, length-append, length-drop, arith, ◌||◌}
+use Rattle.pth_cond.specs.declared.seats.Notice.{Notice}
 use Rattle.std.specs.List.{list_any, remove, position_or_len}
 use Rattle.std.proofs.lemmas.List.{length-map, length-take-le, take-append-le, get_or-append_right, get_or-drop, get_or_default, take_all, drop_all}
 use Rattle.std.proofs.lemmas.List.Edits.{map_over_more}
@@ -9,7 +10,7 @@ use Rattle.std.proofs.lemmas.Bool.Decides.{nat_tests}
 use Rattle.pth_cond.specs.declared.seats.Seat.{Seat}
 use Rattle.pth_cond.specs.declared.seats.Notice.TheVariants.{Unmarked, One, All}
 use Rattle.pth_cond.specs.declared.seats.Taken.{Taken}
-use Rattle.pth_cond.specs.Seats.{is_at, has_mark, marks, marks_stand_first, notice_at, with_seat, without_seat, one_notified, all_notified, notified, handed_on, is_one_at, SeatsAreKept}
+use Rattle.pth_cond.specs.Seats.{is_at, has_mark, marks, marks_stand_first, notice_at, with_seat, without_seat, one_notified, all_notified, notified, handed_on, is_one_at, SeatsAreKept, is_marked_at, is_mark}
 
 true_false : true ≡ false → ⊥
 true_false h = cc
@@ -284,3 +285,36 @@ pub order_handed_on : (s : Seat) (ts : List Taken) → marks_stand_first ts ≡ 
 order_handed_on s ts order = cases (is_one_at (notice_at s ts))
     (λ e. rw e (order_one (without_seat s ts) (order_left s ts order)))
     (λ e. rw e (order_left s ts order))
+
+-- ---- a seat has a mark exactly if it stands among those that have one
+
+-- one seat more, with what is known of the others
+none_marked_by : (at marked : Bool) (n : Notice) (o : Option Notice) (any : Bool) → is_mark n ≡ marked → (marked || any) ≡ false → (any ≡ false → is_marked_at o ≡ false) → is_marked_at (if at then Some n else o) ≡ false
+none_marked_by at true n o any is none rest = absurd (cc none)
+none_marked_by true false n o any is none rest = is
+none_marked_by false false n o any is none rest = rest none
+
+none_marked : (s : Seat) (ts : List Taken) → list_any has_mark ts ≡ false → is_marked_at (notice_at s ts) ≡ false
+none_marked s [] none = refl
+none_marked s (t ∷ ts) none = none_marked_by (is_at s t) (has_mark t) t.notice (notice_at s ts) (list_any has_mark ts) refl none (none_marked s ts)
+
+more_first : (at : Bool) (n : Notice) (o : Option Notice) (any : Bool) → is_mark n ≡ true → any ≡ is_marked_at o → (at || any) ≡ is_marked_at (if at then Some n else o)
+more_first true n o any marked same = sym marked
+more_first false n o any marked same = same
+
+not_any : (b : Bool) → not b ≡ true → b ≡ false
+not_any true h = absurd (cc h)
+not_any false h = refl
+
+pub marked_first : (s : Seat) (ts : List Taken) → marks_stand_first ts ≡ true → list_any (is_at s) (take (marks ts) ts) ≡ is_marked_at (notice_at s ts)
+marked_first s [] order = refl
+marked_first s (t ∷ ts) order = by_mark (has_mark t) refl (marked_first s ts)
+  where
+    by_mark : (b : Bool) → has_mark t ≡ b → (marks_stand_first ts ≡ true → list_any (is_at s) (take (marks ts) ts) ≡ is_marked_at (notice_at s ts)) → list_any (is_at s) (take (marks (t ∷ ts)) (t ∷ ts)) ≡ is_marked_at (notice_at s (t ∷ ts))
+    by_mark true e rest =
+        let others = rest (rw e at order) in
+        rw (marks_more t ts e) (more_first (is_at s t) t.notice (notice_at s ts) (list_any (is_at s) (take (marks ts) ts)) e others)
+    by_mark false e rest =
+        let none = not_any (list_any has_mark ts) (rw e at order) in
+        let few : marks (t ∷ ts) ≡ 0 = marks_same t ts e ∙ none_counted ts none in
+        rw few (sym (none_marked s (t ∷ ts) (rw e none)))

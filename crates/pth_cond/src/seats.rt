@@ -1,6 +1,7 @@
 //! The seats of a condition.
 
 ghost use Rattle.std.specs.Prelude.{◌≡◌, ◌<◌, length, [], position, OnOk, OnErr};
+ghost use Rattle.std.specs.List.{list_any};
 ghost use Rattle.pth_cond.specs.Seats.{is_seat, is_at, is_mark, notice_at, is_marked_at, with_seat, without_seat, one_notified, all_notified, notified, handed_on, SeatsAreKept};
 
 use pth_base::ids::{EventId, Tid};
@@ -160,14 +161,11 @@ impl Seats {
         }
     }
 
-    // Whether a seat has a mark.
+    // Whether a seat has a mark: those that have one stand first, and only they are looked at.
     pub(crate) fn is_marked(&self, seat: Seat) -> bool
         ensures { result ≡ is_marked_at (notice_at seat self.now) }
     {
-        match place_of_seat(&self.taken, seat) {
-            Some(place) => self.taken[place].notice.is_mark(),
-            None => false,
-        }
+        stands_among(&self.taken[..self.marked], seat)
     }
 
     // All seats are left.
@@ -184,6 +182,13 @@ fn place_of_seat(taken: &[Taken], seat: Seat) -> Option<usize>
     ensures { result ≡ position (is_at seat) taken.now }
 {
     taken.iter().position(|t| t.seat.is(seat))
+}
+
+// Whether a seat is one of these.
+fn stands_among(taken: &[Taken], seat: Seat) -> bool
+    ensures { result ≡ list_any (is_at seat) taken.now }
+{
+    taken.iter().any(|t| t.seat.is(seat))
 }
 
 // The first seat without a mark has the mark One.
