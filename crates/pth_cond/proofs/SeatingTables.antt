@@ -1,7 +1,8 @@
 -- The conditions before and after a call.
-use Rattle.std.proofs.Common.{◌≡◌, ℕ, ◌+◌, ◌<◌, ◌≤◌, true, List, [], ◌++◌, length, get_or, set, map, take, drop, Some, None, Result, Ok, Err, OnOk, OnErr, refl, sym, ◌∙◌, ap, subst, option_map, inl, inr, length-set, append-nil, arith}
+use Rattle.std.proofs.Common.{◌≡◌, ℕ, suc, ◌+◌, ◌<◌, ◌≤◌, Bool, true, false, List, [], ◌∷◌, ◌++◌, length, get_or, set, map, take, drop, Some, None, Result, Ok, Err, OnOk, OnErr, refl, sym, ◌∙◌, ap, subst, option_map, is_some, inl, inr, length-set, get_or-set_same, append-nil, arith}
 use Rattle.std.proofs.lemmas.List.{get_or_past, get_or_default, get_or-map, length-map, take_all, drop_all}
 use Rattle.std.proofs.lemmas.List.Edits.{map_over_more}
+use Rattle.std.proofs.lemmas.List.Sums.{sum_by-cons, sum_by-set}
 use Rattle.std.proofs.lemmas.Bool.{cases_lt}
 use mathlib.Core.Path.{fun_ext}
 use Rattle.pth_base.specs.Table.{put}
@@ -10,7 +11,7 @@ use Rattle.pth_base.proofs.Lists.{table_set, put_none}
 use Rattle.pth_lock.specs.Objects.{object_limit}
 use Rattle.pth_cond.specs.declared.seats.Taken.{Taken}
 use Rattle.pth_cond.specs.Seats.{marks_stand_first}
-use Rattle.pth_cond.specs.Conditions.{Condition, ConditionTable, conditions_of, with_seats, no_conditions, all_left, all_seats_left, IsInOrder, ConditionsAreSound, ConditionsAreKept}
+use Rattle.pth_cond.specs.Conditions.{Condition, ConditionTable, conditions_of, all_event_seats, event_seats_here, with_seats, no_conditions, all_left, all_seats_left, IsAnyLive, IsInOrder, ConditionsAreSound, ConditionsAreKept}
 
 -- ---- one condition
 
@@ -46,26 +47,46 @@ in_order : (change : List Taken → List Taken) → KeepsOrder change → (y : C
 in_order change keeps (Some ts) order = keeps ts order
 in_order change keeps None order = tt
 
-module _ (olds news : List Condition) (kept : ConditionsAreKept olds) (long : length news ≡ length olds) where
-  pub kept_changed : (k : ℕ) (change : List Taken → List Taken) → KeepsOrder change → conditions_of news ≡ with_seats k change (conditions_of olds) → ConditionsAreKept news
-  kept_changed k change keeps is = record {
+-- where the same are initialised, the flag stays right
+not_live : (y : Condition) → is_some y ≡ false → y ≡ None
+not_live (Some ts) none = absurd (cc none)
+not_live None none = refl
+
+any_live_kept : (live : Bool) (x y : ConditionTable) → ((c : ℕ) → is_some (y c) ≡ is_some (x c)) → IsAnyLive live x → IsAnyLive live y
+any_live_kept true x y same (c, some) = (c, same c ∙ some)
+any_live_kept false x y same none = fun_ext (λ c. not_live (y c) (same c ∙ ap (λ (f : ConditionTable). is_some (f c)) none))
+
+live_here : (change : List Taken → List Taken) (y : Condition) → is_some (option_map change y) ≡ is_some y
+live_here change (Some ts) = refl
+live_here change None = refl
+
+live_with_seats : (k : ℕ) (change : List Taken → List Taken) (x : ConditionTable) (c : ℕ) → is_some (with_seats k change x c) ≡ is_some (x c)
+live_with_seats k change x c = put_by (λ y. is_some y ≡ is_some (x c)) x k (option_map change (x k)) c (λ here. live_here change (x k) ∙ ap (λ (i : ℕ). is_some (x i)) (sym here)) (λ apart. refl)
+
+module _ {live : Bool} {n : ℕ} (olds news : List Condition) (kept : ConditionsAreKept live n olds) (long : length news ≡ length olds) where
+  pub kept_changed : {m : ℕ} (k : ℕ) (change : List Taken → List Taken) → KeepsOrder change → conditions_of news ≡ with_seats k change (conditions_of olds) → m ≡ all_event_seats news → ConditionsAreKept live m news
+  kept_changed k change keeps is count = record {
     many = long ∙ kept.many;
     order = λ c. subst IsInOrder (sym (ap (λ (f : ConditionTable). f c) is))
         (put_by IsInOrder (conditions_of olds) k (option_map change (conditions_of olds k)) c (λ here. in_order change keeps (conditions_of olds k) (kept.order k)) (λ apart. kept.order c));
+    live = any_live_kept live (conditions_of olds) (conditions_of news) (λ c. ap (λ (f : ConditionTable). is_some (f c)) is ∙ live_with_seats k change (conditions_of olds) c) kept.live;
+    count = count;
   }
 
   -- the same of a call that may be refused
-  pub kept_answered : {T E : Type 0} (r : Result T E) (k : ℕ) (change : List Taken → List Taken) → KeepsOrder change → OnOk r (conditions_of news ≡ with_seats k change (conditions_of olds)) → OnErr r (news ≡ olds) → ConditionsAreKept news
-  kept_answered (Ok done) k change keeps is same = kept_changed k change keeps is
-  kept_answered (Err e) k change keeps is same = rw same kept
+  pub kept_answered : {T E : Type 0} (r : Result T E) {m : ℕ} (k : ℕ) (change : List Taken → List Taken) → KeepsOrder change → OnOk r (conditions_of news ≡ with_seats k change (conditions_of olds)) → OnErr r (news ≡ olds) → m ≡ all_event_seats news → ConditionsAreKept live m news
+  kept_answered (Ok done) k change keeps is same count = kept_changed k change keeps is count
+  kept_answered (Err e) k change keeps is same count = record { many = long ∙ kept.many; order = rw same kept.order; live = rw same kept.live; count = count }
 
-  pub kept_left : conditions_of news ≡ all_seats_left (conditions_of olds) → ConditionsAreKept news
-  kept_left is = record {
+  pub kept_left : conditions_of news ≡ all_seats_left (conditions_of olds) → all_event_seats news ≡ 0 → ConditionsAreKept live 0 news
+  kept_left is none = record {
     many = long ∙ kept.many;
     order = λ c. subst IsInOrder (sym (ap (λ (f : ConditionTable). f c) is)) (in_order (λ ts. []) (λ ts order. refl) (conditions_of olds c) (kept.order c));
+    live = any_live_kept live (conditions_of olds) (conditions_of news) (λ c. ap (λ (f : ConditionTable). is_some (f c)) is ∙ live_here (λ ts. []) (conditions_of olds c)) kept.live;
+    count = sym none;
   }
 
-module _ (xs : List Condition) (kept : ConditionsAreKept xs) where
+module _ {live : Bool} {n : ℕ} (xs : List Condition) (kept : ConditionsAreKept live n xs) where
   pub within : (k : ℕ) → k < object_limit → k < length xs
   within k low = let many = kept.many in omega arith
 
@@ -78,14 +99,24 @@ module _ (xs : List Condition) (kept : ConditionsAreKept xs) where
   pub sound : ConditionsAreSound (conditions_of xs)
   sound = record { past = unknown; order = kept.order }
 
-  pub kept_initialised : (k : ℕ) → k < object_limit → ConditionsAreKept (set xs k (Some []))
-  kept_initialised k low = record {
+  pub kept_initialised : (k : ℕ) (d : Condition) → k < object_limit → get_or xs k d ≡ None → ConditionsAreKept true n (set xs k (Some []))
+  kept_initialised k d low was = record {
     many = length-set xs k (Some []) ∙ kept.many;
     order = λ c. subst IsInOrder (sym (ap (λ (f : ConditionTable). f c) (condition_set xs k (within k low) (Some []))))
         (put_by IsInOrder (conditions_of xs) k (Some []) c (λ here. refl) (λ apart. kept.order c));
+    live = (k, ap is_some (get_or-set_same xs k (Some []) None (within k low)));
+    count = let empty = rw was at (sum_by-set event_seats_here xs k (Some []) d (within k low)) in omega (arith, kept.count);
   }
 
 -- ---- none is initialised
+
+-- and so no event has a seat
+no_seats : (xs : List Condition) → ((c : ℕ) → conditions_of xs c ≡ None) → all_event_seats xs ≡ 0
+no_seats [] none = refl
+no_seats (x ∷ xs) none =
+    let here : event_seats_here x ≡ 0 = ap event_seats_here (none 0) in
+    let rest = no_seats xs (λ c. none (suc c)) in
+    sum_by-cons event_seats_here x xs ∙ omega arith
 
 module _ (xs : List Condition) (long : length xs ≡ object_limit) (none : (k : ℕ) → k < object_limit → get_or xs k None ≡ None) where
   none_at : (c : ℕ) → conditions_of xs c ≡ None
@@ -94,8 +125,13 @@ module _ (xs : List Condition) (long : length xs ≡ object_limit) (none : (k : 
   pub conditions_none : conditions_of xs ≡ no_conditions
   conditions_none = fun_ext none_at
 
-  pub kept_none : ConditionsAreKept xs
-  kept_none = record { many = long; order = λ c. subst IsInOrder (sym (none_at c)) tt }
+  pub kept_none : ConditionsAreKept false 0 xs
+  kept_none = record {
+    many = long;
+    order = λ c. subst IsInOrder (sym (none_at c)) tt;
+    live = conditions_none;
+    count = sym (no_seats xs none_at);
+  }
 
 -- ---- all seats are left
 

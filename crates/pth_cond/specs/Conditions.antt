@@ -1,12 +1,15 @@
 -- Conditions: which are initialised, and who has which seat at each (pth_cond_init, pth_cond_await, pth_cond_notify).
-use Rattle.std.specs.Prelude.{◌≡◌, ℕ, ◌≤◌, ℤ, Bool, true, false, not, if◌then◌else◌, List, [], length, Option, Some, None, is_some, is_none, option_map, Result, Ok, Err}
+use Rattle.std.specs.Prelude.{◌≡◌, ℕ, ◌≤◌, ℤ, Bool, true, false, not, if◌then◌else◌, List, [], length, Option, Some, None, is_some, is_none, option_map, Result, Ok, Err, sum_by}
+use Rattle.std.specs.List.{list_any}
 use Rattle.pth_base.specs.Table.{put, table}
+use Rattle.pth_base.specs.declared.ids.EventId.{EventId}
 use Rattle.pth_base.specs.declared.errno.Errno.{Errno}
 use Rattle.pth_base.specs.declared.errno.Errno.TheVariants.{EBUSY, EINVAL}
 use Rattle.pth_lock.specs.Objects.{object_limit, object_named, is_object}
 use Rattle.pth_cond.specs.declared.seats.Seat.{Seat}
+use Rattle.pth_cond.specs.declared.seats.Seat.TheVariants.{Event}
 use Rattle.pth_cond.specs.declared.seats.Taken.{Taken}
-use Rattle.pth_cond.specs.Seats.{notice_at, is_marked_at, marks_stand_first, with_seat, without_seat, notified, handed_on}
+use Rattle.pth_cond.specs.Seats.{is_at, notice_at, is_marked_at, marks_stand_first, event_seats, with_seat, without_seat, notified, handed_on}
 
 -- a condition: none where it is not initialised, and else its seats in order of entry
 abbrev pub Condition : Type 0
@@ -29,6 +32,18 @@ is_marked_in s None = false
 
 abbrev pub is_marked : ConditionTable → ℤ → Seat → Bool
 is_marked x c s = is_marked_in s (x (object_named c))
+
+-- somebody has this seat at a condition
+abbrev pub has_seat_here : Seat → Condition → Bool
+has_seat_here s None = false
+has_seat_here s (Some ts) = list_any (is_at s) ts
+
+abbrev pub has_seat : ConditionTable → (c : ℕ) → Seat → Bool
+has_seat x c s = has_seat_here s (x c)
+
+-- no event has a seat
+abbrev pub NoEventIsSeated : ConditionTable → Type 0
+NoEventIsSeated x = (c : ℕ) (e : EventId) → has_seat x c (Event e) ≡ false
 
 -- ---- answers: the tests stand in order, and the first that holds is the answer
 
@@ -108,7 +123,23 @@ pub record ConditionsAreSound (x : ConditionTable) : Type 0 where
   pub past : (c : ℕ) → object_limit ≤ c → x c ≡ None
   pub order : (c : ℕ) → IsInOrder (x c)
 
--- what holds at every moment
-pub record ConditionsAreKept (conditions : List Condition) : Type 0 where
+-- how many seats events have at a condition
+abbrev pub event_seats_here : Condition → ℕ
+event_seats_here None = 0
+event_seats_here (Some ts) = event_seats ts
+
+-- how many they have at all conditions
+abbrev pub all_event_seats : List Condition → ℕ
+all_event_seats conditions = sum_by event_seats_here conditions
+
+-- whether a condition was initialised
+abbrev pub IsAnyLive : Bool → ConditionTable → Type 0
+IsAnyLive true x = (c : ℕ) × (is_some (x c) ≡ true)
+IsAnyLive false x = x ≡ no_conditions
+
+-- what holds at every moment of the conditions, with whether one was initialised, and how many seats of events are counted
+pub record ConditionsAreKept (any_live : Bool) (counted : ℕ) (conditions : List Condition) : Type 0 where
   pub many : length conditions ≡ object_limit
   pub order : (c : ℕ) → IsInOrder (conditions_of conditions c)
+  pub live : IsAnyLive any_live (conditions_of conditions)
+  pub count : counted ≡ all_event_seats conditions

@@ -1,5 +1,5 @@
 -- The seats of a condition, in order of entry, with their marks, and a law of how marks are handed on.
-use Rattle.std.specs.Prelude.{◌≡◌, ◌≢◌, ℕ, ◌+◌, ◌<◌, ◌==◌, Bool, true, false, not, if◌then◌else◌, List, [], ◌∷◌, ◌++◌, map, count_by, Option, Some, None}
+use Rattle.std.specs.Prelude.{◌≡◌, ◌≢◌, ℕ, ◌+◌, ◌<◌, ◌==◌, Bool, true, false, not, if◌then◌else◌, List, [], ◌∷◌, ◌++◌, map, count_by, Option, Some, None, is_some, ◌&&◌}
 use Rattle.std.specs.List.{list_any}
 use Rattle.pth_cond.specs.declared.seats.Seat.{Seat}
 use Rattle.pth_cond.specs.declared.seats.Seat.TheVariants.{Await, Event}
@@ -16,9 +16,19 @@ is_seat (Await t) (Event e) = false
 is_seat (Event e) (Await t) = false
 is_seat (Event e) (Event f) = e.0 == f.0
 
+-- the number of whose seat it is, a thread or an event
+abbrev pub seat_number : Seat → ℕ
+seat_number (Await t) = t.0
+seat_number (Event e) = e.0
+
 -- a seat that is taken is this one
 abbrev pub is_at : Seat → Taken → Bool
 is_at s t = is_seat t.seat s
+
+-- a seat is an event's
+abbrev pub is_event : Seat → Bool
+is_event (Await t) = false
+is_event (Event e) = true
 
 abbrev pub is_mark : Notice → Bool
 is_mark Unmarked = false
@@ -57,6 +67,10 @@ has_mark t = is_mark t.notice
 abbrev pub marks : List Taken → ℕ
 marks ts = count_by has_mark ts
 
+-- how many seats events have
+abbrev pub event_seats : List Taken → ℕ
+event_seats ts = count_by (λ t. is_event t.seat) ts
+
 -- none without a mark stands before one that has a mark
 abbrev pub marks_stand_first : List Taken → Bool
 marks_stand_first [] = true
@@ -88,6 +102,10 @@ notified all ts = if all then all_notified ts else one_notified ts
 -- a seat is left, and its mark One goes to the first without a mark
 abbrev pub handed_on : Seat → List Taken → List Taken
 handed_on s ts = if is_one_at (notice_at s ts) then one_notified (without_seat s ts) else without_seat s ts
+
+-- how many seats of events go with a seat that is left, of which this was the mark: none where nobody had it
+abbrev pub event_seats_gone : Seat → Option Notice → ℕ
+event_seats_gone s mark = if is_some mark && is_event s then 1 else 0
 
 -- ---- how seats are kept
 

@@ -1,12 +1,13 @@
 //! Conditions.
 
-ghost use Rattle.std.specs.Prelude.{◌≡◌, ◌<◌, length, OnOk, OnErr};
+ghost use Rattle.std.specs.Prelude.{◌≡◌, ◌<◌, ◌+◌, false, nat_lt, length, if◌then◌else◌, IfOk, OnOk, OnErr};
 ghost use Rattle.pth_store.specs.Storing.{AnswersWithMemory};
-ghost use Rattle.pth_cond.specs.Seats.{with_seat, without_seat, notified, handed_on, HandingOnKeepsOnes};
-ghost use Rattle.pth_cond.specs.Conditions.{conditions_of, is_live, is_marked_in, is_marked, ConditionsAreSound, live_answer, cond_init_answer, cond_enter_answer, cond_notify_answer, no_conditions, cond_initialised, with_seats, seat_entered, seat_left, seat_handed_on, cond_notified, all_left, all_seats_left};
+ghost use Rattle.pth_cond.specs.Seats.{with_seat, without_seat, notified, handed_on, is_event, event_seats_gone, HandingOnKeepsOnes};
+ghost use Rattle.pth_cond.specs.Conditions.{conditions_of, is_live, is_marked_in, is_marked, IsAnyLive, NoEventIsSeated, ConditionsAreSound, all_event_seats, live_answer, cond_init_answer, cond_enter_answer, cond_notify_answer, no_conditions, cond_initialised, with_seats, seat_entered, seat_left, seat_handed_on, cond_notified, all_left, all_seats_left};
 
-use crate::seats::{Seat, Seats};
+use crate::seats::{Notice, Seat, Seats};
 use pth_base::errno::Errno;
+use pth_base::memory::OutOfMemory;
 use pth_base::refusal::Refusal;
 use pth_lock::objects::{MOST_OBJECTS, place_of};
 use std::alloc::Global;
@@ -18,6 +19,10 @@ pub struct Conds {
     alloc: Global,
     // None where one is not initialised.
     conditions: [Option<Seats>; MOST_OBJECTS],
+    // Whether one was initialised.
+    any_live: bool,
+    // How many seats events have, at all conditions.
+    event_seats: u64,
 }
 
 impl Model for Conds {
@@ -28,7 +33,7 @@ impl Model for Conds {
 
     ghost view = { λ a. a.conditions };
 
-    ghost invariant = { λ a. ConditionsAreKept a.conditions };
+    ghost invariant = { λ a. ConditionsAreKept a.any_live a.event_seats a.conditions };
 }
 
 // By hand, so that letting one go is one call in each proof.
@@ -37,6 +42,8 @@ impl Drop for Conds {
         let Conds {
             alloc: _,
             conditions: _,
+            any_live: _,
+            event_seats: _,
         } = self;
     }
 }
@@ -49,6 +56,8 @@ impl Conds {
         Conds {
             alloc,
             conditions: array::from_fn(|_| None),
+            any_live: false,
+            event_seats: 0,
         }
     }
 
@@ -67,7 +76,15 @@ impl Conds {
             return Err(Errno::EBUSY);
         }
         self.conditions[place] = Some(Seats::new(self.alloc));
+        self.any_live = true;
         Ok(())
+    }
+
+    /// Whether a condition was initialised. The answer is kept as a flag.
+    pub fn is_any_live(&self) -> bool
+        ensures { IsAnyLive result (conditions_of self.now) }
+    {
+        self.any_live
     }
 
     /// Whether a condition is initialised.
@@ -90,8 +107,9 @@ impl Conds {
         ensures refused { OnErr result (self.new ≡ self.old) }
     {
         let conditions = &mut self.conditions;
+        let event_seats = &mut self.event_seats;
         match place_of(c) {
-            Some(place) => enter_at(conditions, place, seat),
+            Some(place) => enter_at(conditions, event_seats, place, seat),
             None => Err(Refusal::Fail(Errno::EINVAL)),
         }
     }
@@ -102,7 +120,7 @@ impl Conds {
         ensures { conditions_of self.new ≡ seat_left c seat (conditions_of self.old) }
     {
         if let Some(place) = place_of(c) {
-            leave_at(&mut self.conditions, place, seat);
+            leave_at(&mut self.conditions, &mut self.event_seats, place, seat);
         }
     }
 
@@ -112,7 +130,7 @@ impl Conds {
         ensures { conditions_of self.new ≡ seat_handed_on c seat (conditions_of self.old) }
     {
         if let Some(place) = place_of(c) {
-            hand_on_at(&mut self.conditions, place, seat);
+            hand_on_at(&mut self.conditions, &mut self.event_seats, place, seat);
         }
     }
 
@@ -141,11 +159,20 @@ impl Conds {
         }
     }
 
+    /// Whether an event has a seat. The seats of events are counted.
+    pub fn has_event_seats(&self) -> bool
+        ensures counts { result ≡ nat_lt 0 (all_event_seats self.now) }
+        ensures none { result ≡ false → NoEventIsSeated (conditions_of self.now) }
+    {
+        self.event_seats > 0
+    }
+
     /// All seats are left. Which conditions are initialised stays.
     pub fn leave_all(&mut self)
         ensures { conditions_of self.new ≡ all_seats_left (conditions_of self.old) }
     {
         clear_each(&mut self.conditions);
+        self.event_seats = 0;
     }
 }
 
@@ -159,18 +186,43 @@ fn is_marked_at(condition: &Option<Seats>, seat: Seat) -> bool
     }
 }
 
+// How many seats events have after a seat was entered: OutOfMemory where that would be 2^64 or more.
+fn with_entered(event_seats: u64, seat: Seat) -> Result<u64, OutOfMemory>
+    ensures { IfOk result (λ n. n ≡ event_seats + (if is_event seat then 1 else 0)) }
+{
+    event_seats
+        .checked_add(u64::from(seat.is_event()))
+        .ok_or(OutOfMemory)
+}
+
+// How many seats of events go with a seat that is left, of which this was the mark.
+fn events_gone(seat: Seat, mark: Option<Notice>) -> u64
+    ensures { result ≡ event_seats_gone seat mark }
+{
+    u64::from(mark.is_some() && seat.is_event())
+}
+
 // Enters a seat at the condition at a place.
-fn enter_at(conditions: &mut [Option<Seats>], place: usize, seat: Seat) -> Result<(), Refusal>
-    requires { place < length conditions.old }
+fn enter_at(
+    conditions: &mut [Option<Seats>],
+    event_seats: &mut u64,
+    place: usize,
+    seat: Seat,
+) -> Result<(), Refusal>
+    requires low { place < length conditions.old }
+    requires counted { event_seats.old ≡ all_event_seats conditions.old }
     ensures answer { AnswersWithMemory (live_answer (conditions_of conditions.old place)) result }
     ensures long { length conditions.new ≡ length conditions.old }
     ensures changes { OnOk result (conditions_of conditions.new
         ≡ with_seats place (with_seat seat) (conditions_of conditions.old)) }
+    ensures counted { event_seats.new ≡ all_event_seats conditions.new }
     ensures refused { OnErr result (conditions.new ≡ conditions.old) }
 {
     match &mut conditions[place] {
         Some(seats) => {
+            let count = with_entered(*event_seats, seat)?;
             seats.enter(seat)?;
+            *event_seats = count;
             Ok(())
         }
         None => Err(Refusal::Fail(Errno::EINVAL)),
@@ -178,26 +230,32 @@ fn enter_at(conditions: &mut [Option<Seats>], place: usize, seat: Seat) -> Resul
 }
 
 // Leaves a seat of the condition at a place.
-fn leave_at(conditions: &mut [Option<Seats>], place: usize, seat: Seat)
-    requires { place < length conditions.old }
+fn leave_at(conditions: &mut [Option<Seats>], event_seats: &mut u64, place: usize, seat: Seat)
+    requires low { place < length conditions.old }
+    requires counted { event_seats.old ≡ all_event_seats conditions.old }
     ensures long { length conditions.new ≡ length conditions.old }
     ensures changes { conditions_of conditions.new
         ≡ with_seats place (without_seat seat) (conditions_of conditions.old) }
+    ensures counted { event_seats.new ≡ all_event_seats conditions.new }
 {
     if let Some(seats) = &mut conditions[place] {
-        let _mark = seats.leave(seat);
+        let mark = seats.leave(seat);
+        *event_seats -= events_gone(seat, mark);
     }
 }
 
 // Hands a seat of the condition at a place on.
-fn hand_on_at(conditions: &mut [Option<Seats>], place: usize, seat: Seat)
-    requires { place < length conditions.old }
+fn hand_on_at(conditions: &mut [Option<Seats>], event_seats: &mut u64, place: usize, seat: Seat)
+    requires low { place < length conditions.old }
+    requires counted { event_seats.old ≡ all_event_seats conditions.old }
     ensures long { length conditions.new ≡ length conditions.old }
     ensures changes { conditions_of conditions.new
         ≡ with_seats place (handed_on seat) (conditions_of conditions.old) }
+    ensures counted { event_seats.new ≡ all_event_seats conditions.new }
 {
     if let Some(seats) = &mut conditions[place] {
-        seats.hand_on(seat);
+        let mark = seats.hand_on(seat);
+        *event_seats -= events_gone(seat, mark);
     }
 }
 
@@ -208,6 +266,7 @@ fn notify_at(conditions: &mut [Option<Seats>], place: usize, all: bool) -> Resul
     ensures long { length conditions.new ≡ length conditions.old }
     ensures changes { OnOk result (conditions_of conditions.new
         ≡ with_seats place (notified all) (conditions_of conditions.old)) }
+    ensures counted { all_event_seats conditions.new ≡ all_event_seats conditions.old }
     ensures refused { OnErr result (conditions.new ≡ conditions.old) }
 {
     match &mut conditions[place] {
@@ -232,6 +291,7 @@ fn clear_at(condition: &mut Option<Seats>)
 fn clear_each(conditions: &mut [Option<Seats>])
     ensures long { length conditions.new ≡ length conditions.old }
     ensures left { conditions_of conditions.new ≡ all_seats_left (conditions_of conditions.old) }
+    ensures counted { all_event_seats conditions.new ≡ 0 }
 {
     for i in 0..conditions.len() {
         clear_at(&mut conditions[i]);

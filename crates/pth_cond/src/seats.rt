@@ -2,7 +2,7 @@
 
 ghost use Rattle.std.specs.Prelude.{◌≡◌, ◌<◌, length, [], position, OnOk, OnErr};
 ghost use Rattle.std.specs.List.{list_any};
-ghost use Rattle.pth_cond.specs.Seats.{is_seat, is_at, is_mark, notice_at, is_marked_at, with_seat, without_seat, one_notified, all_notified, notified, handed_on, SeatsAreKept};
+ghost use Rattle.pth_cond.specs.Seats.{is_seat, is_at, is_mark, notice_at, is_marked_at, with_seat, without_seat, one_notified, all_notified, notified, handed_on, is_event, seat_number, SeatsAreKept};
 
 use pth_base::ids::{EventId, Tid};
 use pth_base::memory::OutOfMemory;
@@ -17,15 +17,28 @@ pub enum Seat {
 }
 
 impl Seat {
-    // Whether the other is the same seat.
+    // The number of the thread, or of the event.
+    fn number(self) -> u32
+        ensures { result ≡ seat_number self }
+    {
+        match self {
+            Seat::Await(t) => t.0,
+            Seat::Event(e) => e.0,
+        }
+    }
+
+    // Whether the other is the same seat. The numbers come first: they alone tell most seats apart.
     fn is(self, other: Seat) -> bool
         ensures { result ≡ is_seat self other }
     {
-        match (self, other) {
-            (Seat::Await(t), Seat::Await(u)) => t.0 == u.0,
-            (Seat::Event(e), Seat::Event(f)) => e.0 == f.0,
-            _ => false,
-        }
+        self.number() == other.number() && self.is_event() == other.is_event()
+    }
+
+    // Whether it is an event's.
+    pub(crate) fn is_event(self) -> bool
+        ensures { result ≡ is_event self }
+    {
+        matches!(self, Seat::Event(_))
     }
 }
 
@@ -123,13 +136,17 @@ impl Seats {
         Some(gone.notice)
     }
 
-    // A seat is left, and its mark One goes to the first seat without a mark.
-    pub(crate) fn hand_on(&mut self, seat: Seat)
-        ensures { self.new ≡ handed_on seat self.old }
+    // A seat is left, and its mark One goes to the first seat without a mark. The answer is the mark that it had, None where
+    // nobody has it.
+    pub(crate) fn hand_on(&mut self, seat: Seat) -> Option<Notice>
+        ensures mark { result ≡ notice_at seat self.old }
+        ensures changes { self.new ≡ handed_on seat self.old }
     {
-        if let Some(Notice::One) = self.leave(seat) {
+        let mark = self.leave(seat);
+        if let Some(Notice::One) = mark {
             self.notify_one();
         }
+        mark
     }
 
     // The first seat without a mark has the mark One.

@@ -6,7 +6,7 @@ ghost use Rattle.pth_numbered.specs.Operands.{number};
 ghost use Rattle.pth_numbered.specs.Numbered.{number_at};
 ghost use Rattle.pth_base.specs.Chain.{StandsIn};
 ghost use Rattle.pth_ring.specs.Ring.{Begins, RingGoesOn, ring_holds};
-ghost use Rattle.pth_ring.specs.Rings.{kind_of, is_event, settled_in, event_after, ring_refusal, concat_refusal, make_answer, chain_answer, concat_answer, isolate_answer, free_answer, claim_answer, walk_answer, status_answer, kind_answer, AnswersEvent, no_events, alone, chained, concatenated, isolated, freed, ring_freed, claimed, unclaimed, all_unclaimed, with_event, with_status, with_next_look, with_claim};
+ghost use Rattle.pth_ring.specs.Rings.{kind_of, is_event, is_claimed as is_claimed_ring, settled_in, event_after, ring_refusal, concat_refusal, make_answer, chain_answer, concat_answer, isolate_answer, free_answer, claim_answer, walk_answer, status_answer, kind_answer, AnswersEvent, no_events, alone, chained, concatenated, isolated, freed, ring_freed, claimed, unclaimed, all_unclaimed, with_event, with_status, with_next_look, with_claim};
 ghost use Rattle.pth_ring.specs.Arena.{events_of};
 
 use crate::event::Event;
@@ -87,6 +87,16 @@ impl Rings {
             return Err(Errno::EBUSY);
         }
         Ok(place)
+    }
+
+    /// Whether some thread claims the ring of the event that an operand names: none does where there is no such event.
+    pub fn is_claimed(&self, e: i64) -> bool
+        ensures { result ≡ is_claimed_ring (events_of self.now) (number e) }
+    {
+        match self.find(e) {
+            Some(place) => is_claimed(&self.nodes, place),
+            None => false,
+        }
     }
 
     // The places of two events whose rings may become one.
@@ -354,6 +364,14 @@ impl Rings {
         let place = self.place_of(e);
         let next = next_of(&self.nodes, place);
         id_of(&self.nodes, next)
+    }
+
+    /// The number of the event at a place.
+    pub fn id_at(&self, place: Slot) -> EventId
+        requires { number_at self.now place.0 ≢ 0 }
+        ensures { result.0 ≡ number_at self.now place.0 }
+    {
+        id_of(&self.nodes, place)
     }
 
     /// What the event at a place is of.

@@ -6,6 +6,6 @@ use Rattle.pth_cond.proofs.conditions.Conds.enter.Goals as goal
 
 pub invariant_of-self : goal.invariant_of-self
 invariant_of-self c = elim c.match-place_of.branch [
-  | in-Some w ↦ rw w.self-inside-is (kept_answered c.self.inside.conditions w.enter_at.new.conditions c.self.invariant w.enter_at.ensures.long w.enter_at.result w.in-Some.place (with_seat c.args.seat) (order_entered c.args.seat) w.enter_at.ensures.changes w.enter_at.ensures.refused)
+  | in-Some w ↦ rw w.self-inside-is (kept_answered c.self.inside.conditions w.enter_at.new.conditions c.self.invariant w.enter_at.ensures.long w.enter_at.result w.in-Some.place (with_seat c.args.seat) (order_entered c.args.seat) w.enter_at.ensures.changes w.enter_at.ensures.refused w.enter_at.ensures.counted)
   | in-None w ↦ rw w.self-inside-is c.self.invariant
 ]

@@ -6,7 +6,7 @@ use Rattle.pth_cond.proofs.SeatingTables.{kept_changed, seats_past, beyond}
 use Rattle.pth_cond.proofs.conditions.Conds.hand_on.Goals as goal
 
 pub invariant_of-self : goal.invariant_of-self
-invariant_of-self c = kept_changed c.self.inside.conditions c.hand_on_at.new.conditions c.self.invariant c.hand_on_at.ensures.long c.in-Some.place (handed_on c.args.seat) (order_handed_on c.args.seat) c.hand_on_at.ensures.changes
+invariant_of-self c = kept_changed c.self.inside.conditions c.hand_on_at.new.conditions c.self.invariant c.hand_on_at.ensures.long c.in-Some.place (handed_on c.args.seat) (order_handed_on c.args.seat) c.hand_on_at.ensures.changes c.hand_on_at.ensures.counted
 
 pub returns-in-Some : goal.returns-in-Some
 returns-in-Some c =

@@ -6,7 +6,7 @@ use Rattle.pth_cond.proofs.SeatingTables.{kept_changed, seats_past, beyond}
 use Rattle.pth_cond.proofs.conditions.Conds.leave.Goals as goal
 
 pub invariant_of-self : goal.invariant_of-self
-invariant_of-self c = kept_changed c.self.inside.conditions c.leave_at.new.conditions c.self.invariant c.leave_at.ensures.long c.in-Some.place (without_seat c.args.seat) (order_left c.args.seat) c.leave_at.ensures.changes
+invariant_of-self c = kept_changed c.self.inside.conditions c.leave_at.new.conditions c.self.invariant c.leave_at.ensures.long c.in-Some.place (without_seat c.args.seat) (order_left c.args.seat) c.leave_at.ensures.changes c.leave_at.ensures.counted
 
 pub returns-in-Some : goal.returns-in-Some
 returns-in-Some c =

@@ -1,3 +1,4 @@
+use Rattle.std.proofs.Common.{◌∙◌, sym}
 use Rattle.pth_cond.specs.Seats.{notified}
 use Rattle.pth_cond.proofs.Seating.{order_notified}
 use Rattle.pth_cond.proofs.SeatingTables.{kept_answered}
@@ -6,6 +7,6 @@ use Rattle.pth_cond.proofs.conditions.Conds.notify.Goals as goal
 
 pub invariant_of-self : goal.invariant_of-self
 invariant_of-self c = elim c.match-place_of.branch [
-  | in-Some w ↦ rw w.self-inside-is (kept_answered c.self.inside.conditions w.notify_at.new.conditions c.self.invariant w.notify_at.ensures.long w.notify_at.result w.in-Some.place (notified c.args.all) (order_notified c.args.all) w.notify_at.ensures.changes w.notify_at.ensures.refused)
+  | in-Some w ↦ rw w.self-inside-is (kept_answered c.self.inside.conditions w.notify_at.new.conditions c.self.invariant w.notify_at.ensures.long w.notify_at.result w.in-Some.place (notified c.args.all) (order_notified c.args.all) w.notify_at.ensures.changes w.notify_at.ensures.refused (c.self.invariant.count ∙ sym w.notify_at.ensures.counted))
   | in-None w ↦ rw w.self-inside-is c.self.invariant
 ]
