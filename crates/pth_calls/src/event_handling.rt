@@ -66,6 +66,7 @@ fn spec_of(line: &EvLine) -> Option<EventSpec>
             w: *w,
             x: *x,
         }),
+        EvLine::Cond(c) => Some(EventSpec::Cond(*c)),
         _ => None,
     }
 }

@@ -1,7 +1,7 @@
 -- The wait of a thread that ends is undone as the definitions say.
 use Rattle.std.proofs.Common.{◌≡◌, ◌≢◌, ◌∙◌, ℕ, ℤ, Bool, true, false, List, [], ◌∷◌, ◌++◌, refl, ap, sym, subst, append-nil, arith, ◌==◌, ◌||◌, not, if◌then◌else◌, Option, Some, None, option_map}
 use Rattle.pth_world.proofs.Conditions.{seated_frame}
-use Rattle.pth_model.specs.Conditions.{hands_on_seat}
+use Rattle.pth_model.specs.Conditions.{hands_on_seat, hands_on_seats}
 use Rattle.pth_base.specs.Cut.{IsCut}
 use Rattle.pth_base.proofs.Tables.{put_is}
 use Rattle.pth_base.specs.declared.mark.Mark.{Mark}
@@ -9,14 +9,14 @@ use Rattle.pth_base.specs.declared.mark.Mark.TheVariants.{Withdrew}
 use Rattle.pth_base.specs.declared.ids.Tid.{Tid}
 use Rattle.pth_cond.specs.Barriers.{Arrived, Barrier, BarrierTable, barriers_of, waits_among, waits_at, waits_here, without_thread, withdrawn}
 use Rattle.pth_lock.specs.Objects.{object_named}
-use Rattle.pth_model.specs.Awaits.{awaits_in}
 use Rattle.pth_model.specs.Barriers.{withdraws, withdraws_from}
 use Rattle.pth_model.specs.Changes.{blocked_of, with_barriers}
 use Rattle.pth_model.specs.Ending.{undoes_wait}
 use Rattle.pth_model.specs.Resources.{told}
-use Rattle.pth_model.specs.RingWaits.{stops_waiting}
+use Rattle.pth_model.specs.RingWaits.{awaited_in, stops_waiting}
 use Rattle.pth_model.specs.State.{Control, State}
 use Rattle.pth_model.specs.Transition.{Transition, changes, controlled, silent, tells, tid, where_so, ◌and_then◌, ◌and◌}
+use Rattle.pth_model.specs.declared.awaits.Awaited.{Awaited}
 use Rattle.pth_model.specs.declared.awaits.Awaits.{Awaits}
 use Rattle.pth_model.specs.declared.awaits.Awaits.TheVariants.{Notice, Round}
 use Rattle.pth_world.proofs.Barriers.{barred_frame, barred_shows}
@@ -123,25 +123,25 @@ module _ {P S H : Type 0} where
   pub no_round : (w : WorldOf P S H) (t : ℕ) (a : Awaits) (s : State P S H) (old new : List Mark) → ((b : ℤ) (round : ℕ) → a ≢ Round b round) → StandsFor w s → new ≡ old → Leads w old new (withdraws_from t a s)
   no_round w t a s old new other st same = subst (λ (x : Transition P S H). Leads w old new x) (sym (from_other t a s (no_round_by a other))) (silent_leads w s old new st same)
 
-  -- then its seat is handed on, the call that blocks it is taken out, and the claim given back
-  undone_as : (v x z : WorldOf P S H) (t : ℕ) (a : Awaits) (s : State P S H) (old new : List Mark) → Leads v old new (withdraws_from t a s) → ((k : Control P S H) → Shows v k → Shows x (hands_on_seat t a k)) → ((k : Control P S H) → Shows x k → Shows z (stops_waiting t k)) → z.store ≡ v.store
-      → Leads z old new ((withdraws_from t a and_then changes (hands_on_seat t a and stops_waiting t)) s)
+  -- then its seats are handed on, the call that blocks it is taken out, and the claim given back
+  undone_as : (v x z : WorldOf P S H) (t : ℕ) (a : Awaited) (s : State P S H) (old new : List Mark) → Leads v old new (withdraws_from t a.what s) → ((k : Control P S H) → Shows v k → Shows x (hands_on_seats t a k)) → ((k : Control P S H) → Shows x k → Shows z (stops_waiting t k)) → z.store ≡ v.store
+      → Leads z old new ((withdraws_from t a.what and_then changes (hands_on_seats t a and stops_waiting t)) s)
   undone_as v x z t a s old new first hands shows stored =
-      let s1 = (withdraws_from t a s).state in
-      let g = hands_on_seat t a and stops_waiting t in
+      let s1 = (withdraws_from t a.what s).state in
+      let g = hands_on_seats t a and stops_waiting t in
       let second = silent_leads z (controlled g s1) new new (record { control = shows _ (hands s1.control first.stands.control); store = has_still v z s1 stored first.stands.store }) refl in
-      let l = leads_then v z s (withdraws_from t a) (changes g) old new new first (record { stands = second.stands; tells = second.tells }) in
+      let l = leads_then v z s (withdraws_from t a.what) (changes g) old new new first (record { stands = second.stands; tells = second.tells }) in
       record { stands = l.stands; tells = l.tells }
 
-  pub undone_leads : (v x z : WorldOf P S H) (t : ℕ) (a : Awaits) (s : State P S H) (old new : List Mark) → a ≡ awaits_in (blocked_of s.control t) → Leads v old new (withdraws_from t a s) → ((k : Control P S H) → Shows v k → Shows x (hands_on_seat t a k)) → ((k : Control P S H) → Shows x k → Shows z (stops_waiting t k)) → z.store ≡ v.store → Leads z old new (undoes_wait t s)
+  pub undone_leads : (v x z : WorldOf P S H) (t : ℕ) (a : Awaited) (s : State P S H) (old new : List Mark) → a ≡ awaited_in (blocked_of s.control t) → Leads v old new (withdraws_from t a.what s) → ((k : Control P S H) → Shows v k → Shows x (hands_on_seats t a k)) → ((k : Control P S H) → Shows x k → Shows z (stops_waiting t k)) → z.store ≡ v.store → Leads z old new (undoes_wait t s)
   undone_leads v x z t a s old new is first hands shows stored =
-      subst (λ (b : Awaits). Leads z old new ((withdraws_from t b and_then changes (hands_on_seat t b and stops_waiting t)) s)) is (undone_as v x z t a s old new first hands shows stored)
+      subst (λ (b : Awaited). Leads z old new ((withdraws_from t b.what and_then changes (hands_on_seats t b and stops_waiting t)) s)) is (undone_as v x z t a s old new first hands shows stored)
 
-  pub cut_undoing : (t : ℕ) (a : Awaits) (s : State P S H) (old new : List Mark) → a ≡ awaits_in (blocked_of s.control t) → IsCut old new (withdraws_from t a s).marks → IsCut old new (undoes_wait t s).marks
+  pub cut_undoing : (t : ℕ) (a : Awaited) (s : State P S H) (old new : List Mark) → a ≡ awaited_in (blocked_of s.control t) → IsCut old new (withdraws_from t a.what s).marks → IsCut old new (undoes_wait t s).marks
   cut_undoing t a s old new is cut =
-      subst (λ (b : Awaits). IsCut old new ((withdraws_from t b and_then changes (hands_on_seat t b and stops_waiting t)) s).marks) is (cut_one s (withdraws_from t a) (changes (hands_on_seat t a and stops_waiting t)) old new cut)
+      subst (λ (b : Awaited). IsCut old new ((withdraws_from t b.what and_then changes (hands_on_seats t b and stops_waiting t)) s).marks) is (cut_one s (withdraws_from t a.what) (changes (hands_on_seats t a and stops_waiting t)) old new cut)
 
-  pub undone_frame : (w v x z : WorldOf P S H) → Whole w → v ≡ record w { barriers = v.barriers } → x ≡ record v { conditions = x.conditions } → (Whole x → Whole z) → z.events.made ≡ x.events.made → z ≡ record x { threads = record x.threads { progress = z.threads.progress }; events = z.events } → Frame w z no_numbers w.scheduler.running false
+  pub undone_frame : (w v x z : WorldOf P S H) → Whole w → v ≡ record w { barriers = v.barriers } → x ≡ record v { conditions = x.conditions } → (Whole x → Whole z) → z.events.made ≡ x.events.made → z ≡ record x { threads = record x.threads { progress = z.threads.progress }; events = z.events; conditions = z.conditions } → Frame w z no_numbers w.scheduler.running false
   undone_frame w v x z whole barred seated wholes made same =
       let r = w.scheduler.running in
       let first : Frame w v no_numbers r false = subst (λ (y : WorldOf P S H). Frame w y no_numbers r false) (sym barred) (barred_frame w v.barriers whole) in

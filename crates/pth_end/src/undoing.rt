@@ -3,7 +3,7 @@
 ghost use Rattle.std.specs.Prelude.{◌≡◌, false, OnOk, OnErr};
 ghost use Rattle.pth_base.specs.Cut.{IsCut};
 ghost use Rattle.pth_model.specs.Barriers.{withdraws, withdraws_from};
-ghost use Rattle.pth_model.specs.Conditions.{hands_on_seat};
+ghost use Rattle.pth_model.specs.Conditions.{hands_on_seat, hands_on_seats};
 ghost use Rattle.pth_model.specs.Ending.{undoes_wait};
 ghost use Rattle.pth_model.specs.State.{Control, State};
 ghost use Rattle.pth_world.specs.Frame.{Frame};
@@ -19,7 +19,7 @@ use pth_base::marks::Marks;
 use pth_base::memory::OutOfMemory;
 use pth_base::program::Program;
 use pth_cond::seats::Seat;
-use pth_model::awaits::Awaits;
+use pth_model::awaits::{Awaited, Awaits};
 use pth_world::world::World;
 
 // Takes the arrival of a thread at a barrier back, if it waits there, and tells that.
@@ -56,9 +56,9 @@ fn withdraw_awaited<P: Program>(
     }
 }
 
-/// A thread that is canceled, or ends, leaves its seat at the condition that it awaits, if it awaits one. If the seat alone was
-/// notified, the first that was not is, in its place.
-pub fn hand_on_seat<P: Program>(w: &mut World<P>, t: Tid, awaits: Awaits)
+// A thread leaves its seat at the condition that it awaits, if it awaits one. If the seat alone was notified, the first that was not
+// is, in its place.
+fn hand_on_seat<P: Program>(w: &mut World<P>, t: Tid, awaits: Awaits)
     ensures shows { (k : Control P P.State P.Shared) → Shows w.old k → Shows w.new (hands_on_seat t.0 awaits k) }
     ensures same { w.new ≡ record w.old { conditions = w.new.conditions } }
 {
@@ -67,7 +67,17 @@ pub fn hand_on_seat<P: Program>(w: &mut World<P>, t: Tid, awaits: Awaits)
     }
 }
 
-/// The wait of a thread that ends is undone: its arrival at a barrier is taken back, which is told, its seat at a condition is handed
+/// A thread that is canceled or ends hands its seats on: first its own at the condition that it awaits, if it awaits one, and then those
+/// that the events of its ring have (`PTH_EVENT_COND`). The mark of a seat that alone was notified goes to the first without a mark.
+pub fn hand_on_seats<P: Program>(w: &mut World<P>, t: Tid, awaited: Awaited)
+    ensures shows { (k : Control P P.State P.Shared) → Shows w.old k → Shows w.new (hands_on_seats t.0 awaited k) }
+    ensures same { w.new ≡ record w.old { conditions = w.new.conditions } }
+{
+    hand_on_seat(w, t, awaited.what);
+    w.hand_on_ring(awaited.ring);
+}
+
+/// The wait of a thread that ends is undone: its arrival at a barrier is taken back, which is told, its seats at conditions are handed
 /// on, the call that blocks it is taken out, and the claim on its ring is given back. After an error the world may only be dropped.
 pub(crate) fn undo_wait<P: Program>(
     w: &mut World<P>,
@@ -81,9 +91,9 @@ pub(crate) fn undo_wait<P: Program>(
     ensures frame { OnOk result (Frame w.old w.new no_numbers w.old.scheduler.running false) }
     ensures records { OnOk result (w.new.threads.records ≡ w.old.threads.records) }
 {
-    let awaits = w.awaited(t).what;
-    withdraw_awaited(w, t, awaits, marks)?;
-    hand_on_seat(w, t, awaits);
+    let awaited = w.awaited(t);
+    withdraw_awaited(w, t, awaited.what, marks)?;
+    hand_on_seats(w, t, awaited);
     w.unblock(t);
     Ok(())
 }

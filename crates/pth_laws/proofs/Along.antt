@@ -60,7 +60,7 @@ use Rattle.pth_model.specs.declared.next.Next.{Next}
 use Rattle.pth_model.specs.declared.next.Next.TheVariants as next
 use Rattle.pth_model.specs.declared.progress.Progress.{Progress}
 use Rattle.pth_model.specs.Awaits.{awaits_in, round_in, is_await, is_awaiting, is_retaking}
-use Rattle.pth_model.specs.Conditions.{seat_of, can_take, is_noticed, leaves_seat, hands_on_seat}
+use Rattle.pth_model.specs.Conditions.{seat_of, can_take, is_noticed, leaves_seat, hands_on_seat, hands_on_seats}
 use Rattle.pth_model.specs.Mutexes.{mutex}
 use Rattle.pth_model.specs.Barriers.{arrived_as, withdraws, withdraws_from}
 use Rattle.pth_model.specs.Resources.{handler}
@@ -72,7 +72,8 @@ use Rattle.pth_model.specs.declared.verdict.Verdict.{Verdict}
 use Rattle.pth_model.specs.declared.verdict.Verdict.TheVariants.{Says, Yields, Blocks, Ends, Kills}
 use Rattle.pth_model.specs.Verdict.{refused, says, done, by_result, ◌when◌otherwise◌}
 use Rattle.pth_model.specs.Row.{Attempt, unless_refused, refuses, effect_of, ◌trying◌}
-use Rattle.pth_model.specs.RingWaits.{claims, extra_ring, is_no_ring, is_claimed_ring, ring_given, stops_waiting, has_settled}
+use Rattle.pth_model.specs.EventSeats.{seats_changed}
+use Rattle.pth_model.specs.RingWaits.{awaited_in, claims, extra_ring, is_no_ring, is_claimed_ring, ring_given, ring_held, ring_seats, events_from, stops_waiting, has_settled}
 use Rattle.pth_model.specs.Acts.{acts, acts_from, act_limit, answer_in, row_of_act, goes_on_after, runs_handler}
 use Rattle.pth_model.specs.Cleanups.{runs_pushed, last_pushed}
 use Rattle.pth_model.specs.Ending.{ending, undoes_wait, runs_each, runs_cleanups, destructs, destructs_by, runs_destructors, mutexes_had, locks_held, gives_mutexes, gives_locks, dies, leaves, is_dead_with, other_than, stops_running, next_destructor, round_limit, first_round}
@@ -93,7 +94,8 @@ use Rattle.pth_laws.proofs.Living.{true_false}
 use Rattle.pth_laws.proofs.Going.{IsSound, sound_steps}
 use Rattle.pth_laws.proofs.EveryRun.{run_sound}
 use Rattle.pth_model.proofs.NoRounds.{is_reaching, is_special, is_rounding, begins_none, again_plainly}
-use Rattle.pth_laws.proofs.Seats.{HasFewerSeats, HasLeftAt, seats_same, seats_notified, seats_initialised, seats_left, left_there, seats_handed, handed_there}
+use Rattle.pth_laws.proofs.Seats.{HasFewerSeats, HasLeftAt, seats_same, seats_fewer, left_fewer, seats_notified, seats_initialised, seats_left, left_there, seats_handed, handed_there}
+use Rattle.pth_laws.proofs.EventSeats.{fewer_handed}
 use Rattle.pth_laws.proofs.Rounds.{HasFewer, HasOthers, HasAll, fewer_same, fewer_initialised, fewer_tail, fewer_answered, fewer_withdrawn, others_answered, others_withdrawn, all_initialised, all_reached}
 use Rattle.pth_laws.proofs.Allowed.{IsFree, IsToTell, MayWait, IsAllowed, IsAllowedAgain, StaysAt, HasLeft, HasLeftSeat, unseated, unseated_again, is_blocking, await_allowed, allowed, allowed_again, stays_again, left_again, left_ended, stopped_free}
 
@@ -419,24 +421,34 @@ module _ {P S H : Type 0} (f : P → Functions S H) (R : State P S H → Type 0)
   dies_keeps t v s free r = kept.handlers.told (mark.Ended (tid t) v) (controlled (leaves t v) s) tt (left_keeps t v s free r)
 
   -- no call blocks t any longer, whose arrival was not lost
-  stops_keeps : (t : ℕ) (s : State P S H) → HasLeft t s → HasLeftSeat t s.control.conditions s → R s → R (controlled (stops_waiting t) s)
-  stops_keeps t s left unseated r = kept.stopped t s.control.barriers s.control.conditions s (λ b. fewer_same (s.control.barriers b)) (λ b round u apart h. h) (seats_same s.control.conditions) left unseated r
+  stops_keeps : (t : ℕ) (y : ConditionTable) (s : State P S H) → HasFewerSeats y s.control.conditions → HasLeft t s → HasLeftSeat t y s → R s → R (controlled (λ k. stops_waiting t (with_conditions (λ z. y) k)) s)
+  stops_keeps t y s fewer left unseated r = kept.stopped t s.control.barriers y s (λ b. fewer_same (s.control.barriers b)) (λ b round u apart h. h) fewer left unseated r
 
-  -- its arrival at a barrier is taken back, if it waits there
-  where_withdrawn : (t : ℕ) (b : ℤ) (here : Bool) (s : State P S H) → let a = (where_so here (changes (with_barriers (withdrawn b t)) and_then tells (mark.Withdrew (tid t) (object_named b))) s).state in HasLeft t a → HasLeftSeat t s.control.conditions s → R s → R (controlled (stops_waiting t) a)
-  where_withdrawn t b true s left unseated r =
+  -- the seats of a ring's events are handed on: nobody has a seat more
+  abbrev ring_handed : Option ℤ → State P S H → ConditionTable → ConditionTable
+  ring_handed o s y = seats_changed seat_handed_on s.control.events (events_from s.control.events o) y
+
+  ring_fewer : (o : Option ℤ) (s : State P S H) (y : ConditionTable) → HasFewerSeats (ring_handed o s y) y
+  ring_fewer o s y = fewer_handed s.control.events (events_from s.control.events o) y
+
+  -- its arrival at a barrier is taken back, if it waits there, and those seats are handed on
+  where_withdrawn : (t : ℕ) (b : ℤ) (here : Bool) (o : Option ℤ) (s : State P S H) → let a = (where_so here (changes (with_barriers (withdrawn b t)) and_then tells (mark.Withdrew (tid t) (object_named b))) s).state in HasLeft t a → HasLeftSeat t (ring_handed o s s.control.conditions) s → R s → R (controlled (λ k. stops_waiting t (ring_seats seat_handed_on o k)) a)
+  where_withdrawn t b true o s left unseated r =
       let m = mark.Withdrew (tid t) (object_named b) in
-      kept.stopped t (withdrawn b t s.control.barriers) s.control.conditions (tells m s).state (fewer_withdrawn b t s.control.barriers) (others_withdrawn b t s.control.barriers) (seats_same s.control.conditions) left unseated (kept.handlers.told m s tt r)
-  where_withdrawn t b false s left unseated r = stops_keeps t s left unseated r
-
-  -- and its seat at a condition is handed on
-  undone_keeps : (t : ℕ) (a : Awaits) (s : State P S H) → awaits_in (blocked_of s.control t) ≡ a → HasLeft t (withdraws_from t a s).state → R s → R (controlled (hands_on_seat t a and stops_waiting t) (withdraws_from t a s).state)
-  unfolding withdraws_from withdraws hands_on_seat
-  undone_keeps t (awaits.Round b round) s own left r = where_withdrawn t b (waits_at s.control.barriers b t) s left (λ c m e now. absurd (cc (sym own ∙ ap awaits_in now))) r
-  undone_keeps t (awaits.Notice c) s own left r =
       let x = s.control.conditions in
-      kept.stopped t s.control.barriers (seat_handed_on c (seat_of t) x) s (λ b. fewer_same (s.control.barriers b)) (λ b round u apart h. h) (seats_handed c (seat_of t) x) left (λ i m e now. left_named (seat_of t) c i (seat_handed_on c (seat_of t) x) x (same_notice c i (sym own ∙ ap awaits_in now)) (handed_there c (seat_of t) x)) r
-  undone_keeps t a s own left r = stops_keeps t s left (λ c m e now. absurd (cc (sym own ∙ ap awaits_in now))) r
+      kept.stopped t (withdrawn b t s.control.barriers) (ring_handed o s x) (tells m s).state (fewer_withdrawn b t s.control.barriers) (others_withdrawn b t s.control.barriers) (ring_fewer o s x) left unseated (kept.handlers.told m s tt r)
+  where_withdrawn t b false o s left unseated r = let x = s.control.conditions in stops_keeps t (ring_handed o s x) s (ring_fewer o s x) left unseated r
+
+  -- and so is its own seat at a condition
+  undone_keeps : (t : ℕ) (a : Awaits) (o : Option ℤ) (s : State P S H) → awaits_in (blocked_of s.control t) ≡ a → HasLeft t (withdraws_from t a s).state → R s → R (controlled (hands_on_seat t a and ring_seats seat_handed_on o and stops_waiting t) (withdraws_from t a s).state)
+  unfolding withdraws_from withdraws hands_on_seat
+  undone_keeps t (awaits.Round b round) o s own left r = where_withdrawn t b (waits_at s.control.barriers b t) o s left (λ c m e now. absurd (cc (sym own ∙ ap awaits_in now))) r
+  undone_keeps t (awaits.Notice c) o s own left r =
+      let x = s.control.conditions in
+      let y = seat_handed_on c (seat_of t) x in
+      stops_keeps t (ring_handed o s y) s (seats_fewer (ring_handed o s y) y x (ring_fewer o s y) (seats_handed c (seat_of t) x)) left
+      (λ i m e now. left_named (seat_of t) c i (ring_handed o s y) x (same_notice c i (sym own ∙ ap awaits_in now)) (left_fewer (seat_of t) (object_named c) (ring_handed o s y) y x (ring_fewer o s y) (handed_there c (seat_of t) x))) r
+  undone_keeps t a o s own left r = let x = s.control.conditions in stops_keeps t (ring_handed o s x) s (ring_fewer o s x) left (λ c m e now. absurd (cc (sym own ∙ ap awaits_in now))) r
 
   -- and no call blocks it
   abbrev Unblocked : ℕ → State P S H → Type 0
@@ -452,14 +464,14 @@ module _ {P S H : Type 0} (f : P → Functions S H) (R : State P S H → Type 0)
   ending_keeps : (t : ℕ) (v : ℤ) → Keeps (ending f t v)
   unfolding ending
   ending_keeps t v s r =
-      let a = awaits_in (blocked_of s.control t) in
-      let s0 = (withdraws_from t a s).state in
+      let o = blocked_of s.control t in
+      let s0 = (withdraws_from t (awaits_in o) s).state in
       let s1 = (undoes_wait t s).state in
       let s2 = (runs_cleanups f t s1).state in
       let s3 = (runs_destructors f t s2).state in
       let s4 = (gives_mutexes t s3).state in
       let s5 = (gives_locks t s4).state in
-      let x1 : Unblocked t s1 = (undone_keeps t a s refl (left_ended t s) r, stopped_free t (controlled (hands_on_seat t a) s0)) in
+      let x1 : Unblocked t s1 = (undone_keeps t (awaits_in o) (ring_held o) s refl (left_ended t s) r, stopped_free t (controlled (hands_on_seats t (awaited_in o)) s0)) in
       let x2 : Unblocked t s2 = each_keep f (Unblocked t) (unblocked_handlers t) t (s1.resources.store.cleanups t) s1 x1 in
       let x3 : Unblocked t s3 = destructs_keep f (Unblocked t) (unblocked_handlers t) t (round_limit * key_limit) first_round s2 x2 in
       let x4 : Unblocked t s4 = mutexes_keep f (Unblocked t) (unblocked_handlers t) t (mutexes_had t s3.resources.store.mutexes) s3 x3 in
@@ -704,7 +716,7 @@ module _ {P S H : Type 0} (f : P → Functions S H) (R : State P S H → Type 0)
     stop_keeps s c b named other at sound r at_once =
         let come = has_settled s.control.events (ring_given c) in
         let u = (effect_of (unless_settled come ((row_of f s t c).again b.awaits)) s).state in
-        stops_keeps t u (left_again f t s c b named at at_once) (unseated t u.control.conditions u (unseated_again f t s c b come named other at)) (come_keeps s c b.awaits come refl sound r)
+        stops_keeps t u.control.conditions u (seats_same u.control.conditions) (left_again f t s c b named at at_once) (unseated t u.control.conditions u (unseated_again f t s c b come named other at)) (come_keeps s c b.awaits come refl sound r)
 
     tried_by_keeps : (b : Blocked) (v : Verdict) (s : State P S H) → IsAllowedAgain t b.call b v s → ((a : Awaits) → v ≡ Blocks a → StaysAt b.call b.awaits a) → is_await b.call ≡ false → ((a : Awaits) → v ≡ Blocks a → (is_retaking b.awaits ≡ false) × (is_retaking a ≡ false)) → (is_saying v ≡ false → R s) → (is_blocking v ≡ false → R (controlled (stops_waiting t) s)) → R (tried_by f t b v s).told.state
     tried_by_keeps b (Says x) s may stays other plain still stop = kept.handlers.told (mark.Answered (tid t) b.call x) (controlled (stops_waiting t) s) may (stop refl)
@@ -761,9 +773,11 @@ module _ {P S H : Type 0} (f : P → Functions S H) (R : State P S H → Type 0)
         let s1 = controlled (sets t (change.Request false)) s in
         let s2 = (tells k s1).state in
         let x = s.control.conditions in
-        let y = seat_handed_on c (seat_of t) x in
-        await_ends_keeps c m e a retake.Canceled (can_take (controlled (λ j. stops_waiting t (with_conditions (λ z. y) j)) s2) t m) y s2 (seats_handed c (seat_of t) x)
-        (λ i n d now. left_named (seat_of t) c i y x (same_await c m e i n d a (awaits.Notice i) (sym at ∙ now)) (handed_there c (seat_of t) x)) at (kept.handlers.told k s1 tt (kept.set t (change.Request false) s tt tt r))
+        let own = seat_handed_on c (seat_of t) x in
+        let y = ring_handed (extra_ring e) s own in
+        let fewer = ring_fewer (extra_ring e) s own in
+        await_ends_keeps c m e a retake.Canceled (can_take (controlled (λ j. stops_waiting t (with_conditions (λ z. y) j)) s2) t m) y s2 (seats_fewer y own x fewer (seats_handed c (seat_of t) x))
+        (λ i n d now. left_named (seat_of t) c i y x (same_await c m e i n d a (awaits.Notice i) (sym at ∙ now)) (left_fewer (seat_of t) (object_named c) y own x fewer (handed_there c (seat_of t) x))) at (kept.handlers.told k s1 tt (kept.set t (change.Request false) s tt tt r))
     awaits_where_keeps false true settled c m e a s at r =
         let x = s.control.conditions in
         let y = seat_left c (seat_of t) x in

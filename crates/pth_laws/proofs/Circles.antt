@@ -82,19 +82,20 @@ pub record AreCircles (x : Events) : Type 0 where
 pub record IsSame (x y : Events) (e : ℕ) : Type 0 where
   pub ring : y.rings e ≡ x.rings e
   pub mates : (g : ℕ) → StandsIn g (x.rings e) → y.rings g ≡ x.rings g
-  pub there : is_event y e ≡ true → is_event x e ≡ true
+  pub event : y.events e ≡ x.events e
 
--- it is one of these alone, which no thread claims
+-- it is one of these alone, and no thread claimed it
 pub record IsFresh (x y : Events) (e : ℕ) : Type 0 where
   pub members : List ℕ
   pub once : Distinct members
   pub within : StandsIn e members
   pub turns : (g : ℕ) → StandsIn g members → y.rings g ≡ turned g members
   pub low : (g : ℕ) → StandsIn g members → g ≤ y.made
-  pub unclaimed : claimant y e ≡ None
+  pub free : is_claimed x e ≡ false
 
--- it is gone
+-- it is gone, and no thread claimed it
 pub record IsGone (x y : Events) (e : ℕ) : Type 0 where
+  pub free : is_claimed x e ≡ false
   pub ring : y.rings e ≡ []
   pub no_event : is_event y e ≡ false
 
@@ -111,7 +112,7 @@ circles_come x y c more comes = record { here = λ e h. here_by e h (comes e); o
     nowhere g l none h = subst (StandsIn g) none h
 
     here_by : (e : ℕ) → is_event y e ≡ true → Comes x y e → StandsIn e (y.rings e)
-    here_by e h (inl s) = subst (StandsIn e) (sym s.ring) (c.here e (s.there h))
+    here_by e h (inl s) = subst (StandsIn e) (sym s.ring) (c.here e (ap is_some (sym s.event) ∙ h))
     here_by e h (inr (inl s)) = subst (StandsIn e) (sym (s.turns e s.within)) (StandsIn-turned e e s.members s.within s.within)
     here_by e h (inr (inr s)) = absurd (true_false (sym h ∙ s.no_event))
 
@@ -153,6 +154,10 @@ none_any p [] h e there = absurd there
 none_any p (x ∷ xs) h e (inl same) = ap p same ∙ (neither (p x) (list_any p xs) h).0
 none_any p (x ∷ xs) h e (inr there) = none_any p xs (neither (p x) (list_any p xs) h).1 e there
 
+all_none : (p : ℕ → Bool) (xs : List ℕ) → ((e : ℕ) → StandsIn e xs → p e ≡ false) → list_any p xs ≡ false
+all_none p [] none = refl
+all_none p (x ∷ xs) none = rw (none x (inl refl)) (all_none p xs (λ e h. none e (inr h)))
+
 pub unclaimed_in : (x : Events) (e g : ℕ) → is_claimed x e ≡ false → StandsIn g (x.rings e) → claimant x g ≡ None
 unclaimed_in x e g free h = has_none (x.events g) (none_any (λ y. has_claim (x.events y)) (x.rings e) free g h)
 
@@ -177,11 +182,18 @@ two_events x a b h = by_tests (is_event x a) (is_event x b) (ring_holds a (x.rin
     by_tests true true false false false h = (refl, refl, refl, refl, refl)
 
 module _ (x : Events) (c : AreCircles x) where
+  -- of two events of a ring each stands in the ring of the other
+  pub mates : (e g : ℕ) → StandsIn g (x.rings e) → StandsIn e (x.rings g)
+  mates e g h = subst (StandsIn e) (sym (c.turns e g h)) (StandsIn-turned e g (x.rings e) h (c.own e g h))
+
   -- who is not in the ring of a has nobody of it in the own ring
   apart : (a e g : ℕ) → (StandsIn e (x.rings a) → ⊥) → StandsIn g (x.rings e) → StandsIn g (x.rings a) → ⊥
   apart a e g out h k =
-      let from_e : StandsIn e (x.rings g) = subst (StandsIn e) (sym (c.turns e g h)) (StandsIn-turned e g (x.rings e) h (c.own e g h)) in
-      out (StandsIn-unturned e g (x.rings a) k (subst (StandsIn e) (c.turns a g k) from_e))
+      out (StandsIn-unturned e g (x.rings a) k (subst (StandsIn e) (c.turns a g k) (mates e g h)))
+
+  -- so no thread claims the ring of another event of a ring that no thread claims
+  pub free_mate : (a e : ℕ) → is_claimed x a ≡ false → StandsIn e (x.rings a) → is_claimed x e ≡ false
+  free_mate a e free h = all_none (λ y. has_claim (x.events y)) (x.rings e) (λ g k. none_any (λ y. has_claim (x.events y)) (x.rings a) free g (StandsIn-unturned g e (x.rings a) h (subst (StandsIn g) (c.turns a e h) k)))
 
   -- a ring begins with its event
   begins : (e : ℕ) → StandsIn e (x.rings e) → x.rings e ≡ e ∷ rest_of (x.rings e)
@@ -203,6 +215,9 @@ module _ (x : Events) (c : AreCircles x) where
   next_out : (e : ℕ) → StandsIn (x.made + 1) (x.rings e) → ⊥
   next_out e h = let low = c.low e (x.made + 1) h in omega (arith, low)
 
+  next_free : is_claimed x (x.made + 1) ≡ false
+  next_free = all_none (λ y. has_claim (x.events y)) (x.rings (x.made + 1)) (λ g h. absurd (next_out (x.made + 1) (c.own (x.made + 1) g h)))
+
   next_none : claimant x (x.made + 1) ≡ None
   next_none = by_event (x.events (x.made + 1)) refl
     where
@@ -213,9 +228,6 @@ module _ (x : Events) (c : AreCircles x) where
   -- ---- what comes of each ring
 
   -- one more event
-  pending_there : (spec : EventSpec) (e : ℕ) → e ≢ (x.made + 1) → is_some (put x.events (x.made + 1) (Some (pending spec)) e) ≡ true → is_some (x.events e) ≡ true
-  pending_there spec e other h = ap is_some (sym (put_other x.events (x.made + 1) (Some (pending spec)) e other)) ∙ h
-
   pending_none : (spec : EventSpec) (e : ℕ) → claimant_by (put x.events (x.made + 1) (Some (pending spec)) e) ≡ claimant x e
   pending_none spec e = put_by (λ o. claimant_by o ≡ claimant x e) x.events (x.made + 1) (Some (pending spec)) e (λ here. sym next_none ∙ ap (claimant x) (sym here)) (λ other. refl)
 
@@ -227,12 +239,12 @@ module _ (x : Events) (c : AreCircles x) where
       within = inl own;
       turns = λ g h. circle-in ((x.made + 1) ∷ []) x.rings g h;
       low = λ g h. is_next g h;
-      unclaimed = ap (λ (i : ℕ). claimant_by (put x.events (x.made + 1) (Some (pending spec)) i)) own ∙ ap claimant_by (put_here x.events (x.made + 1) (Some (pending spec)));
+      free = ap (is_claimed x) own ∙ next_free;
     }))
     | inr other ↦ inl (record {
       ring = circle-out ((x.made + 1) ∷ []) x.rings e (λ h. not_next e other h);
       mates = λ g h. circle-out ((x.made + 1) ∷ []) x.rings g (λ k. not_next g (λ same. next_out e (subst (λ (i : ℕ). StandsIn i (x.rings e)) same h)) k);
-      there = pending_there spec e other;
+      event = put_other x.events (x.made + 1) (Some (pending spec)) e other;
     })
   ]
     where
@@ -256,12 +268,12 @@ module _ (x : Events) (c : AreCircles x) where
         within = within;
         turns = λ g h. circle-in (x.rings a ++ (x.made + 1) ∷ []) x.rings g h;
         low = λ g h. elim (StandsIn-append_cases g (x.rings a) ((x.made + 1) ∷ []) h) [ inl k ↦ (let low = c.low a g k in omega (arith, low)) | inr k ↦ is_next g k ];
-        unclaimed = pending_none spec e ∙ elim (StandsIn-append_cases e (x.rings a) ((x.made + 1) ∷ []) within) [ inl k ↦ unclaimed_in x a e free k | inr k ↦ at_next e k ];
+        free = elim (StandsIn-append_cases e (x.rings a) ((x.made + 1) ∷ []) within) [ inl k ↦ free_mate a e free k | inr k ↦ at_next e k ];
       }))
       | inr out ↦ inl (record {
         ring = circle-out (x.rings a ++ (x.made + 1) ∷ []) x.rings e out;
         mates = λ g h. circle-out (x.rings a ++ (x.made + 1) ∷ []) x.rings g (λ k. elim (StandsIn-append_cases g (x.rings a) ((x.made + 1) ∷ []) k) [ inl i ↦ apart a e g (λ j. out (StandsIn-append_left e (x.rings a) ((x.made + 1) ∷ []) j)) h i | inr i ↦ next_mate e g h i ]);
-        there = pending_there spec e (λ same. out (StandsIn-append_right e (x.rings a) ((x.made + 1) ∷ []) (inl same)));
+        event = put_other x.events (x.made + 1) (Some (pending spec)) e (λ same. out (StandsIn-append_right e (x.rings a) ((x.made + 1) ∷ []) (inl same)));
       })
     ]
       where
@@ -273,8 +285,8 @@ module _ (x : Events) (c : AreCircles x) where
         is_next g (inl same) = omega (arith, same)
         is_next g (inr h) = absurd h
 
-        at_next : (e : ℕ) → StandsIn e ((x.made + 1) ∷ []) → claimant x e ≡ None
-        at_next e (inl same) = ap (claimant x) same ∙ next_none
+        at_next : (e : ℕ) → StandsIn e ((x.made + 1) ∷ []) → is_claimed x e ≡ false
+        at_next e (inl same) = ap (is_claimed x) same ∙ next_free
         at_next e (inr h) = absurd h
 
         next_mate : (e g : ℕ) → StandsIn g (x.rings e) → StandsIn g ((x.made + 1) ∷ []) → ⊥
@@ -289,7 +301,7 @@ module _ (x : Events) (c : AreCircles x) where
         within = inl own;
         turns = λ g h. circle-in (a ∷ []) (circle (rest_of (x.rings a)) x.rings) g h;
         low = λ g h. is_low g h;
-        unclaimed = unclaimed_in x a e free (subst (λ (i : ℕ). StandsIn i (x.rings a)) (sym own) own_a);
+        free = ap (is_claimed x) own ∙ free;
       }))
       | inr other ↦ by_rest other (stands_or_not e (rest_of (x.rings a)))
     ]
@@ -312,15 +324,16 @@ module _ (x : Events) (c : AreCircles x) where
           within = within;
           turns = λ g h. circle-out (a ∷ []) (circle (rest_of (x.rings a)) x.rings) g (not_own g ((rest_once a own_a).0 g h)) ∙ circle-in (rest_of (x.rings a)) x.rings g h;
           low = λ g h. c.low a g (in_rest a g own_a h);
-          unclaimed = unclaimed_in x a e free (in_rest a e own_a within);
+          free = free_mate a e free (in_rest a e own_a within);
         }))
         by_rest other (inr out) =
             let out_a : StandsIn e (x.rings a) → ⊥ = λ h. elim (in_ring a e own_a h) [ inl same ↦ other same | inr k ↦ out k ] in
-            inl (record { ring = outside e out_a; mates = λ g h. outside g (λ k. apart a e g out_a h k); there = λ h. h })
+            inl (record { ring = outside e out_a; mates = λ g h. outside g (λ k. apart a e g out_a h k); event = refl })
 
     freed_comes : (e : ℕ) → Comes x (freed a x) e
     freed_comes e = elim (cases_eq e a) [
       | inl own ↦ inr (inr (record {
+        free = ap (is_claimed x) own ∙ free;
         ring = ap (put (circle (rest_of (x.rings a)) x.rings) a []) own ∙ put_here (circle (rest_of (x.rings a)) x.rings) a [];
         no_event = ap (λ (i : ℕ). is_some (put x.events a None i)) own ∙ ap is_some (put_here x.events a None);
       }))
@@ -337,19 +350,19 @@ module _ (x : Events) (c : AreCircles x) where
           within = within;
           turns = λ g h. put_other (circle (rest_of (x.rings a)) x.rings) a [] g ((rest_once a own_a).0 g h) ∙ circle-in (rest_of (x.rings a)) x.rings g h;
           low = λ g h. c.low a g (in_rest a g own_a h);
-          unclaimed = ap claimant_by (put_other x.events a None e other) ∙ unclaimed_in x a e free (in_rest a e own_a within);
+          free = free_mate a e free (in_rest a e own_a within);
         }))
         by_rest other (inr out) =
             let out_a : StandsIn e (x.rings a) → ⊥ = λ h. elim (in_ring a e own_a h) [ inl same ↦ other same | inr k ↦ out k ] in
-            inl (record { ring = outside e out_a; mates = λ g h. outside g (λ k. apart a e g out_a h k); there = λ h. ap is_some (sym (put_other x.events a None e other)) ∙ h })
+            inl (record { ring = outside e out_a; mates = λ g h. outside g (λ k. apart a e g out_a h k); event = put_other x.events a None e other })
 
     ring_freed_comes : (e : ℕ) → Comes x (ring_freed a x) e
     ring_freed_comes e = elim (stands_or_not e (x.rings a)) [
-      | inl within ↦ inr (inr (record { ring = each-in (x.rings a) (λ (l : List ℕ). []) x.rings e within; no_event = ap is_some (each-in (x.rings a) (λ (o : Option Event). None) x.events e within) }))
+      | inl within ↦ inr (inr (record { free = free_mate a e free within; ring = each-in (x.rings a) (λ (l : List ℕ). []) x.rings e within; no_event = ap is_some (each-in (x.rings a) (λ (o : Option Event). None) x.events e within) }))
       | inr out ↦ inl (record {
         ring = each-out (x.rings a) (λ (l : List ℕ). []) x.rings e out;
         mates = λ g h. each-out (x.rings a) (λ (l : List ℕ). []) x.rings g (λ k. apart a e g out h k);
-        there = λ h. ap is_some (sym (each-out (x.rings a) (λ (o : Option Event). None) x.events e out)) ∙ h;
+        event = each-out (x.rings a) (λ (o : Option Event). None) x.events e out;
       })
     ]
 
@@ -372,12 +385,12 @@ module _ (x : Events) (c : AreCircles x) where
       within = within;
       turns = λ g h. circle-in (x.rings a ++ x.rings b) x.rings g h;
       low = λ g h. elim (StandsIn-append_cases g (x.rings a) (x.rings b) h) [ inl k ↦ c.low a g k | inr k ↦ c.low b g k ];
-      unclaimed = elim (StandsIn-append_cases e (x.rings a) (x.rings b) within) [ inl k ↦ unclaimed_in x a e known.3 k | inr k ↦ unclaimed_in x b e known.4 k ];
+      free = elim (StandsIn-append_cases e (x.rings a) (x.rings b) within) [ inl k ↦ free_mate a e known.3 k | inr k ↦ free_mate b e known.4 k ];
     }))
     | inr out ↦ inl (record {
       ring = circle-out (x.rings a ++ x.rings b) x.rings e out;
       mates = λ g h. circle-out (x.rings a ++ x.rings b) x.rings g (λ k. elim (StandsIn-append_cases g (x.rings a) (x.rings b) k) [ inl i ↦ apart a e g (λ j. out (StandsIn-append_left e (x.rings a) (x.rings b) j)) h i | inr i ↦ apart b e g (λ j. out (StandsIn-append_right e (x.rings a) (x.rings b) j)) h i ]);
-      there = λ h. h;
+      event = refl;
     })
   ]
     where

@@ -17,7 +17,6 @@ use Rattle.pth_ring.specs.Ring.{ring_holds, turned, each}
 use Rattle.pth_ring.specs.Rings.{Events, is_event, is_claimed, with_claim, with_event, ring_awaited, awaited, claimed, all_unclaimed}
 use Rattle.pth_base.proofs.Chains.{stands_or_not}
 use Rattle.pth_ring.proofs.Lists.{ring_holds-in, ring_holds-out}
-use Rattle.pth_ring.proofs.Turns.{StandsIn-turned}
 use Rattle.pth_threads.specs.declared.entry.Change as change_of_record
 use Rattle.pth_model.specs.declared.awaits.Awaits.{Awaits}
 use Rattle.pth_model.specs.declared.awaits.Awaits.TheVariants as awaits
@@ -42,12 +41,12 @@ use Rattle.pth_laws.proofs.Allowed.{IsFree, MayWait, stopped_free}
 use Rattle.pth_model.proofs.NoRounds.{special_none}
 use Rattle.pth_laws.proofs.Claims.{event_given}
 use Rattle.pth_laws.proofs.Along.{KeptAlong, Arrangement, arranged, MayArrange, run_keeps}
-use Rattle.pth_laws.proofs.Circles.{AreCircles, Comes, unclaimed_in, comes_by, claims_by, circles_by}
+use Rattle.pth_laws.proofs.Circles.{AreCircles, Comes, mates, unclaimed_in, comes_by, claims_by, circles_by}
 
 some_same : (m n : ℕ) → Some m ≡ Some n → m ≡ n
 some_same m n h = cc
 
-none_some : (n : ℕ) → None ≡ Some n → ⊥
+pub none_some : (n : ℕ) → None ≡ Some n → ⊥
 none_some n h = cc
 
 -- the events, and what blocks each thread
@@ -76,38 +75,45 @@ circles_as x y rings made same c =
     }
 
 -- a change of events that changes no claim
-mapped_claim : (f : Event → Event) → ((v : Event) → (f v).claim ≡ v.claim) → (o : Option Event) → claimant_by (option_map f o) ≡ claimant_by o
+pub mapped_claim : (f : Event → Event) → ((v : Event) → (f v).claim ≡ v.claim) → (o : Option Event) → claimant_by (option_map f o) ≡ claimant_by o
 mapped_claim f same None = refl
 mapped_claim f same (Some v) = ap (option_map (λ (x : Tid). x.0)) (same v)
 
--- at each of these events
-each_event : (f : Event → Event) (es : List ℕ) (events : ℕ → Option Event) (i : ℕ) → is_some (each es (option_map f) events i) ≡ is_some (events i)
+-- what a change leaves of an event, it leaves of each of these, and of one
+pub each_same : {A : Type 0} (p : Option Event → A) (f : Event → Event) → ((o : Option Event) → p (option_map f o) ≡ p o) → (es : List ℕ) (events : ℕ → Option Event) (i : ℕ) → p (each es (option_map f) events i) ≡ p (events i)
 unfolding each
-each_event f es events i = by_member (ring_holds i es)
+each_same p f same es events i = by_member (ring_holds i es)
   where
-    by_member : (b : Bool) → is_some (if b then option_map f (events i) else events i) ≡ is_some (events i)
-    by_member true = some_mapped f (events i)
+    by_member : (b : Bool) → p (if b then option_map f (events i) else events i) ≡ p (events i)
+    by_member true = same (events i)
     by_member false = refl
 
-each_claim : (f : Event → Event) → ((v : Event) → (f v).claim ≡ v.claim) → (es : List ℕ) (events : ℕ → Option Event) (i : ℕ) → claimant_by (each es (option_map f) events i) ≡ claimant_by (events i)
-unfolding each
-each_claim f same es events i = by_member (ring_holds i es)
-  where
-    by_member : (b : Bool) → claimant_by (if b then option_map f (events i) else events i) ≡ claimant_by (events i)
-    by_member true = mapped_claim f same (events i)
-    by_member false = refl
-
--- at one event
-one_event : (f : Event → Event) (a : ℕ) (events : ℕ → Option Event) (i : ℕ) → is_some (put events a (option_map f (events a)) i) ≡ is_some (events i)
-one_event f a events i = put_by (λ o. is_some o ≡ is_some (events i)) events a (option_map f (events a)) i (λ here. some_mapped f (events a) ∙ ap (λ (j : ℕ). is_some (events j)) (sym here)) (λ other. refl)
+pub one_same : {A : Type 0} (p : Option Event → A) (f : Event → Event) → ((o : Option Event) → p (option_map f o) ≡ p o) → (a : ℕ) (events : ℕ → Option Event) (i : ℕ) → p (put events a (option_map f (events a)) i) ≡ p (events i)
+one_same p f same a events i = put_by (λ o. p o ≡ p (events i)) events a (option_map f (events a)) i (λ here. same (events a) ∙ ap (λ (j : ℕ). p (events j)) (sym here)) (λ other. refl)
 
 new_claim : (t : ℕ) (o : Option Event) → is_some o ≡ true → claimant_by (option_map (with_claim (Some (record { 0 = t }))) o) ≡ Some t
 new_claim t None h = absurd (true_false (sym h))
 new_claim t (Some v) h = refl
 
+-- t claims the ring of an event: its claim stands there, and the others are as they were
+pub claimed_here : (x : Events) (a t now : ℕ) → is_event x a ≡ true → claimant (claimed a (tid t) now x) a ≡ Some t
+claimed_here x a t now there =
+    let z = ring_awaited a now x in
+    ap claimant_by (put_here z.events a (option_map (with_claim (Some (tid t))) (z.events a))) ∙ new_claim t (z.events a) (each_same is_some (awaited now) (some_mapped (awaited now)) (x.rings a) x.events a ∙ there)
+
+pub claimed_elsewhere : (x : Events) (a t now e : ℕ) → e ≢ a → claimant (claimed a (tid t) now x) e ≡ claimant x e
+claimed_elsewhere x a t now e other =
+    let z = ring_awaited a now x in
+    ap claimant_by (put_other z.events a (option_map (with_claim (Some (tid t))) (z.events a)) e other) ∙ each_same claimant_by (awaited now) (mapped_claim (awaited now) (λ v. refl)) (x.rings a) x.events e
+
 no_claim : (o : Option Event) → claimant_by (option_map (with_claim None) o) ≡ None
 no_claim None = refl
 no_claim (Some v) = refl
+
+-- a claim stands at an event
+claimed_there : (o : Option Event) (t : ℕ) → claimant_by o ≡ Some t → is_some o ≡ true
+claimed_there None t h = absurd (none_some t h)
+claimed_there (Some v) t h = refl
 
 -- ---- claims
 
@@ -124,13 +130,13 @@ module _ (x : Events) (waits : ℕ → Option ℕ) (r : Fits x waits) where
   fits_arranged q may = record {
     circles = circles_by x r.circles q may;
     held = λ t e h. claims_by x r.circles q may e ∙ r.held t e h;
-    one = λ e g t u h k within. one_by e g t u (sym (claims_by x r.circles q may e) ∙ h) (sym (claims_by x r.circles q may g) ∙ k) within (comes_by x r.circles q may e) h;
+    one = λ e g t u h k within. one_by e g t u (sym (claims_by x r.circles q may e) ∙ h) (sym (claims_by x r.circles q may g) ∙ k) within (comes_by x r.circles q may e);
   }
     where
-      one_by : (e g t u : ℕ) → claimant x e ≡ Some t → claimant x g ≡ Some u → StandsIn g ((arranged q x).rings e) → Comes x (arranged q x) e → claimant (arranged q x) e ≡ Some t → e ≡ g
-      one_by e g t u h k within (inl same) now = r.one e g t u h k (subst (StandsIn g) same.ring within)
-      one_by e g t u h k within (inr (inl fresh)) now = absurd (none_some t (sym fresh.unclaimed ∙ now))
-      one_by e g t u h k within (inr (inr gone)) now = absurd (subst (StandsIn g) gone.ring within)
+      one_by : (e g t u : ℕ) → claimant x e ≡ Some t → claimant x g ≡ Some u → StandsIn g ((arranged q x).rings e) → Comes x (arranged q x) e → e ≡ g
+      one_by e g t u h k within (inl same) = r.one e g t u h k (subst (StandsIn g) same.ring within)
+      one_by e g t u h k within (inr (inl fresh)) = absurd (none_some t (sym (unclaimed_in x e e fresh.free (r.circles.here e (claimed_there (x.events e) t h))) ∙ h))
+      one_by e g t u h k within (inr (inr gone)) = absurd (subst (StandsIn g) gone.ring within)
 
   -- t, which waits for nothing, claims the ring of an event
   fits_claimed : (a t now : ℕ) → is_event x a ≡ true → is_claimed x a ≡ false → ((u e : ℕ) → waits u ≡ Some e → e ≢ a) → (later : ℕ → Option ℕ) → ((u e : ℕ) → later u ≡ Some e → (waits u ≡ Some e) ⊎ ((u ≡ t) × (e ≡ a))) → Fits (claimed a (tid t) now x) later
@@ -147,17 +153,14 @@ module _ (x : Events) (waits : ℕ → Option ℕ) (r : Fits x waits) where
       y = claimed a (tid t) now x
 
       y_event : (e : ℕ) → is_event y e ≡ is_event x e
-      y_event e = one_event (with_claim (Some (tid t))) a z.events e ∙ each_event (awaited now) (x.rings a) x.events e
-
-      at_a : claimant y a ≡ Some t
-      at_a = ap claimant_by (put_here z.events a (option_map (with_claim (Some (tid t))) (z.events a))) ∙ new_claim t (z.events a) (each_event (awaited now) (x.rings a) x.events a ∙ there)
+      y_event e = one_same is_some (with_claim (Some (tid t))) (some_mapped (with_claim (Some (tid t)))) a z.events e ∙ each_same is_some (awaited now) (some_mapped (awaited now)) (x.rings a) x.events e
 
       elsewhere : (e : ℕ) → e ≢ a → claimant y e ≡ claimant x e
-      elsewhere e other = ap claimant_by (put_other z.events a (option_map (with_claim (Some (tid t))) (z.events a)) e other) ∙ each_claim (awaited now) (λ v. refl) (x.rings a) x.events e
+      elsewhere e other = claimed_elsewhere x a t now e other
 
       held_by : (u e : ℕ) → (waits u ≡ Some e) ⊎ ((u ≡ t) × (e ≡ a)) → claimant y e ≡ Some u
       held_by u e (inl before) = elsewhere e (apart u e before) ∙ r.held u e before
-      held_by u e (inr own) = ap (claimant y) own.1 ∙ at_a ∙ ap Some (sym own.0)
+      held_by u e (inr own) = ap (claimant y) own.1 ∙ claimed_here x a t now there ∙ ap Some (sym own.0)
 
       -- nobody else has a claim in the ring of a
       alone : (e u : ℕ) → claimant x e ≡ Some u → StandsIn e (x.rings a) → ⊥
@@ -167,14 +170,13 @@ module _ (x : Events) (waits : ℕ → Option ℕ) (r : Fits x waits) where
       one_by e g u w h k within (inl one) (inl two) = one ∙ sym two
       one_by e g u w h k within (inl one) (inr two) = absurd (alone g w (sym (elsewhere g two) ∙ k) (subst (λ (i : ℕ). StandsIn g (x.rings i)) one within))
       one_by e g u w h k within (inr one) (inl two) =
-          let back : StandsIn e (x.rings g) = subst (StandsIn e) (sym (r.circles.turns e g within)) (StandsIn-turned e g (x.rings e) within (r.circles.own e g within)) in
-          absurd (alone e u (sym (elsewhere e one) ∙ h) (subst (λ (i : ℕ). StandsIn e (x.rings i)) two back))
+          absurd (alone e u (sym (elsewhere e one) ∙ h) (subst (λ (i : ℕ). StandsIn e (x.rings i)) two (mates x r.circles e g within)))
       one_by e g u w h k within (inr one) (inr two) = r.one e g u w (sym (elsewhere e one) ∙ h) (sym (elsewhere g two) ∙ k) within
 
   -- the claim at an event goes, whose thread waits no longer
   fits_returned : (a : ℕ) (later : ℕ → Option ℕ) → ((u e : ℕ) → later u ≡ Some e → (waits u ≡ Some e) × (e ≢ a)) → Fits (with_event (with_claim None) a x) later
   fits_returned a later comes = record {
-    circles = circles_as x y refl refl (one_event (with_claim None) a x.events) r.circles;
+    circles = circles_as x y refl refl (one_same is_some (with_claim None) (some_mapped (with_claim None)) a x.events) r.circles;
     held = λ u e h. let was = comes u e h in ap claimant_by (put_other x.events a (option_map (with_claim None) (x.events a)) e was.1) ∙ r.held u e was.0;
     one = λ e g t u h k within. r.one e g t u (was_there e t h) (was_there g u k) within;
   }
@@ -207,7 +209,7 @@ module _ {P S H : Type 0} where
   abbrev held_in : Control P S H → ℕ → Option ℕ
   held_in k t = event_held (blocked_of k t)
 
-  abbrev FitsIn : State P S H → Type 0
+  abbrev pub FitsIn : State P S H → Type 0
   FitsIn s = Fits s.control.events (held_in s.control)
 
   fits_set : (t : ℕ) (c : change_of_record.Change) (s : State P S H) → FitsIn s → FitsIn (controlled (sets t c) s)
@@ -244,7 +246,7 @@ module _ {P S H : Type 0} where
   fits_looked s r =
       let k = s.control in
       let es = flat_map (awaited_events k) (waiting k) in
-      fits_as k.events (held_in k) r _ refl refl (each_event (looked_at k) es k.events.events) (each_claim (looked_at k) (λ v. refl) es k.events.events)
+      fits_as k.events (held_in k) r _ refl refl (λ e. each_same is_some (looked_at k e) (some_mapped (looked_at k e)) es k.events.events e) (λ e. each_same claimant_by (looked_at k e) (mapped_claim (looked_at k e) (λ v. refl)) es k.events.events e)
 
   -- ---- a call begins to block t, or blocks it no longer
 
@@ -324,7 +326,7 @@ module _ {P S H : Type 0} where
 
   -- ---- every run
 
-  fits_kept : (f : P → Functions S H) → KeptAlong f FitsIn
+  pub fits_kept : (f : P → Functions S H) → KeptAlong f FitsIn
   fits_kept f = record {
     handlers = record {
       shared = λ h s r. r;
@@ -356,7 +358,7 @@ module _ {P S H : Type 0} where
     retakes = λ t c m e a o y s fewer gone at r. fits_retakes t c m e o (controlled (with_conditions (λ z. y)) s) r;
   }
 
-  fits_start : (f : P → Functions S H) (g : Given P) → FitsIn (start f g)
+  pub fits_start : (f : P → Functions S H) (g : Given P) → FitsIn (start f g)
   unfolding start
   fits_start f g = record {
     circles = record { here = λ e h. absurd (true_false (sym h)); own = λ e i h. absurd h; turns = λ e i h. absurd h; once = λ e. tt; low = λ e i h. absurd h };

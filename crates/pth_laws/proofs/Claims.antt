@@ -331,4 +331,4 @@ module _ {P S H : Type 0} (t : ℕ) where
 module _ {P S H : Type 0} where
   pub claims_look : (k : Control P S H) → HasClaims k → HasClaims (looks k)
   unfolding looks
-  claims_look k claims e u h = claims e u (sym (looked_claim (looked_at k) (λ v. refl) (flat_map (awaited_events k) (waiting k)) k.events.events e) ∙ h)
+  claims_look k claims e u h = claims e u (sym (looked_claim (looked_at k e) (λ v. refl) (flat_map (awaited_events k) (waiting k)) k.events.events e) ∙ h)

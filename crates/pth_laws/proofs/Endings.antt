@@ -17,6 +17,7 @@ use Rattle.pth_store.specs.Keys.{Tables, key_limit}
 use Rattle.pth_threads.specs.declared.entry.Entry.{Entry}
 use Rattle.pth_model.specs.declared.awaits.Awaits.{Awaits}
 use Rattle.pth_model.specs.declared.awaits.Awaits.TheVariants as awaited
+use Rattle.pth_model.specs.declared.blocked.Blocked.{Blocked}
 use Rattle.pth_model.specs.declared.destructors.Due.{Due}
 use Rattle.pth_model.specs.declared.destructors.Round.{Round}
 use Rattle.pth_model.specs.Resources.{Resources, told}
@@ -25,9 +26,9 @@ use Rattle.pth_model.specs.Transition.{Piece, changes, tells, tells_each, tid, w
 use Rattle.pth_model.specs.Ending.{round_limit, first_round, next_destructor, other_than, stops_running, is_dead_with, undoes_wait, runs_each, runs_cleanups, runs_destructor, destructs_by, destructs, runs_destructors, mutexes_had, locks_held, gives_mutexes, gives_locks, gives_all, leaves, dies, ending}
 use Rattle.pth_model.specs.Awaits.{awaits_in}
 use Rattle.pth_model.specs.Barriers.{withdraws, withdraws_from}
-use Rattle.pth_model.specs.Conditions.{hands_on_seat}
+use Rattle.pth_model.specs.Conditions.{hands_on_seat, hands_on_seats}
 use Rattle.pth_model.specs.Changes.{sets, enters, leaves_queue, forgets, removes, goes_on, with_barriers, is_blocked_by, blocked_of, or_nobody, entry_of}
-use Rattle.pth_model.specs.RingWaits.{claimant, gives_back, stops_waiting, ring_held}
+use Rattle.pth_model.specs.RingWaits.{awaited_in, claimant, gives_back, stops_waiting, ring_held}
 use Rattle.pth_model.specs.Acts.{handled, runs_handler}
 use Rattle.pth_model.specs.Living.{lives, is_made}
 use Rattle.pth_model.proofs.Placed.{Seats, seats}
@@ -289,11 +290,15 @@ module _ {P S H : Type 0} (t : ℕ) (Q : Control P S H → Type 0) (barred : (x 
   withdrawn_control (awaited.Round b round) s q = where_control b (waits_at s.control.barriers b t) s q
   withdrawn_control a s q = q
 
-  -- and its seat at a condition is handed on: the conditions change too
-  handed_control : ((x : ConditionTable) (k : Control P S H) → Q k → Q (record k { conditions = x })) → (a : Awaits) (s : State P S H) → Q s.control → Q (hands_on_seat t a (withdraws_from t a s).state.control)
-  unfolding hands_on_seat
-  handed_control seated (awaited.Notice c) s q = seated _ (withdraws_from t (awaited.Notice c) s).state.control (withdrawn_control (awaited.Notice c) s q)
-  handed_control seated a s q = withdrawn_control a s q
+  -- and seats at conditions are handed on: the conditions change too
+  module _ (seated : (x : ConditionTable) (k : Control P S H) → Q k → Q (record k { conditions = x })) where
+    own_handed : (a : Awaits) (k : Control P S H) → Q k → Q (hands_on_seat t a k)
+    unfolding hands_on_seat
+    own_handed (awaited.Notice c) k q = seated _ k q
+    own_handed a k q = q
+
+    handed_control : (o : Option Blocked) (s : State P S H) → Q s.control → Q (hands_on_seats t (awaited_in o) (withdraws_from t (awaits_in o) s).state.control)
+    handed_control o s q = let a = awaits_in o in let k = (withdraws_from t a s).state.control in seated _ (hands_on_seat t a k) (own_handed a k (withdrawn_control a s q))
 
 module _ {P S H : Type 0} (n t : ℕ) where
   left_scheduler : (v : ℤ) (k : Control P S H) → ((leaves t v k).scheduler.running ≡ other_than t k.scheduler.running) × ((leaves t v k).scheduler.preferred ≡ k.scheduler.preferred)
@@ -308,12 +313,12 @@ module _ {P S H : Type 0} (n t : ℕ) where
     abbrev pushed : List PushedHandler
     pushed = s.resources.store.cleanups t
 
-    -- the control once its arrival is taken back, once its seat is handed on, and once its wait is undone
+    -- the control once its arrival is taken back, once its seats are handed on, and once its wait is undone
     abbrev back : Control P S H
     back = (withdraws_from t (awaits_in (blocked_of s.control t)) s).state.control
 
     abbrev handed : Control P S H
-    handed = hands_on_seat t (awaits_in (blocked_of s.control t)) back
+    handed = hands_on_seats t (awaited_in (blocked_of s.control t)) back
 
     abbrev undone : Control P S H
     undone = stops_waiting t handed
@@ -334,11 +339,11 @@ module _ {P S H : Type 0} (n t : ℕ) where
         let w = done.runs in
         let x = ran_by c.block t in
         let m = mark.Ended (tid t) v in
-        let a = awaits_in (blocked_of s.control t) in
-        let same = stops_seats t handed ∙ handed_control t (λ k. seats k ≡ seats s.control) (λ x k h. h) (λ x k h. h) a s refl in
-        let claims_back : HasClaims handed = handed_control t HasClaims (λ x k h. h) (λ x k h. h) a s claims in
-        let awaits_back : HasAwaits (flags_past t b s.resources.awaits) handed = handed_control t (HasAwaits (flags_past t b s.resources.awaits)) (λ x k h. h) (λ x k h. h) a s awaits in
-        let known_back = handed_control t (λ k. k.threads.known ≡ s.control.threads.known) (λ x k h. h) (λ x k h. h) a s refl in
+        let o = blocked_of s.control t in
+        let same = stops_seats t handed ∙ handed_control t (λ k. seats k ≡ seats s.control) (λ x k h. h) (λ x k h. h) o s refl in
+        let claims_back : HasClaims handed = handed_control t HasClaims (λ x k h. h) (λ x k h. h) o s claims in
+        let awaits_back : HasAwaits (flags_past t b s.resources.awaits) handed = handed_control t (HasAwaits (flags_past t b s.resources.awaits)) (λ x k h. h) (λ x k h. h) o s awaits in
+        let known_back = handed_control t (λ k. k.threads.known ≡ s.control.threads.known) (λ x k h. h) (λ x k h. h) o s refl in
         let living_now : Living n b.ended u.control = subst (Living n b.ended) (sym w.control) (subst (λ (z : Seats). IsLiving n b.ended z.made z.known z.standing) (sym same) living) in
         let alive_now : lives (u.control.threads.known t) ≡ true = ap (λ (k : Control P S H). lives (k.threads.known t)) w.control ∙ ap (λ (z : Seats). lives (z.known t)) same ∙ alive in
         let claims_now : HasClaims u.control = subst HasClaims (sym w.control) (claims_stop t handed claims_back) in
@@ -406,7 +411,7 @@ module _ {P S H : Type 0} (n t : ℕ) where
     undone_walk same fresh =
         let So = RunsSo f n t b.ended b.canceled up made s.resources undone [] first_round in
         let a = withdraws_from t (awaits_in (blocked_of s.control t)) in
-        walk_then n (IsBack back) So b a (changes (hands_on_seat t (awaits_in (blocked_of s.control t)) and stops_waiting t)) s (back_walk (awaits_in (blocked_of s.control t)) same fresh)
+        walk_then n (IsBack back) So b a (changes (hands_on_seats t (awaited_in (blocked_of s.control t)) and stops_waiting t)) s (back_walk (awaits_in (blocked_of s.control t)) same fresh)
         (λ c w. record {
           law = tt;
           post = record {

@@ -1,5 +1,5 @@
 -- Every run is lawful, and its states fit its marks.
-use Rattle.std.proofs.Common.{◌≡◌, ◌≢◌, ℕ, zero, suc, ◌≤◌, ◌&&◌, ◌||◌, not, Bool, true, false, ℤ, pos, negsuc, List, [], ◌∷◌, ◌++◌, All, Option, Some, None, is_some, refl, sym, ◌∙◌, ◌⊎◌, inl, inr, ap, ap₂, subst, arith, append-nil}
+use Rattle.std.proofs.Common.{◌≡◌, ◌≢◌, ℕ, zero, suc, ◌≤◌, ◌&&◌, ◌||◌, not, Bool, true, false, ℤ, pos, negsuc, List, [], ◌∷◌, ◌++◌, All, Option, Some, None, is_some, option_map, refl, sym, ◌∙◌, ◌⊎◌, inl, inr, ap, ap₂, subst, arith, append-nil}
 use Rattle.pth_model.specs.Awaits.{is_canceled_in}
 use Rattle.std.specs.List.{list_any}
 use Rattle.std.proofs.lemmas.List.Elements.{All-nil, All-cons, All-append, All-weaker}
@@ -14,8 +14,11 @@ use Rattle.pth_lock.specs.Mutexes.{Mutex, has, levels_of}
 use Rattle.pth_lock.specs.RwLocks.{is_one}
 use Rattle.pth_queue.specs.declared.queue.Queue.{Queue}
 use Rattle.pth_queue.specs.declared.queue.Queue.TheVariants.{New, Ready, Waiting, Suspended, Dead}
-use Rattle.pth_base.specs.declared.ids.EventId.{EventId}
-use Rattle.pth_cond.specs.declared.seats.Seat.TheVariants.{Await, Event}
+use Rattle.pth_cond.specs.declared.seats.Seat.TheVariants.{Await}
+use Rattle.pth_cond.specs.Conditions.{has_seat}
+use Rattle.pth_lock.specs.Objects.{object_named}
+use Rattle.pth_ring.specs.Rings.{is_claimed}
+use Rattle.pth_model.specs.EventSeats.{event_seat, condition_in}
 use Rattle.pth_model.specs.Transition.{tid}
 use Rattle.pth_model.specs.Standing.{Standing, is_queue, raises_of}
 use Rattle.pth_model.specs.State.{State, Given, Turn, start, no_turn, main, main_entry, main_standing}
@@ -28,7 +31,7 @@ use Rattle.pth_model.specs.Resources.{Resources, HasNothing}
 use Rattle.pth_model.specs.Run.{parts, run}
 use Rattle.pth_model.proofs.Once.{shown-all}
 use Rattle.pth_laws.proofs.Book.{Book, empty_book, after, book_of, is_kill}
-use Rattle.pth_laws.specs.Clean.{IsClean, round_held, has_arrived, has_seat, condition_held}
+use Rattle.pth_laws.specs.Clean.{IsClean, round_held, has_arrived, condition_held}
 use Rattle.pth_laws.proofs.Laws.{EachMark, IsLawful, IsExclusiveMark}
 use Rattle.pth_laws.specs.Marks.{thread_of}
 use Rattle.pth_laws.specs.Marks.{at_number}
@@ -331,7 +334,7 @@ module _ {P S H : Type 0} (f : P → Functions S H) where
     }
 
   pub run_clean : (g : Given P) (i : ℕ) → (IsKilled (run f g i).turn.outcome → ⊥) → ((b round t : ℕ) → has_arrived (run f g i).state.control.barriers b round t ≡ true → Lives (run f g i).state t × (round_held (blocked_of (run f g i).state.control t) ≡ Some (b, round)))
-      → ((c t : ℕ) → has_seat (run f g i).state.control.conditions c (Await (tid t)) ≡ true → Lives (run f g i).state t × (condition_held (blocked_of (run f g i).state.control t) ≡ Some c)) → ((c : ℕ) (e : EventId) → has_seat (run f g i).state.control.conditions c (Event e) ≡ false) → IsClean (run f g i).state
+      → ((c t : ℕ) → has_seat (run f g i).state.control.conditions c (Await (tid t)) ≡ true → Lives (run f g i).state t × (condition_held (blocked_of (run f g i).state.control t) ≡ Some c)) → ((c e : ℕ) → has_seat (run f g i).state.control.conditions c (event_seat e) ≡ true → (option_map object_named (condition_in ((run f g i).state.control.events.events e)) ≡ Some c) × (is_claimed (run f g i).state.control.events e ≡ true)) → IsClean (run f g i).state
   run_clean g i on arrivals seats event_seats = record {
     claims = ((run_lawful g i).settled on).claims;
     mutexes = λ m t had. (alive t (λ nothing. true_false (sym had ∙ nothing.mutexes m)), locked.mutexes m (has_some t (s.resources.store.mutexes m) had));

@@ -10,6 +10,7 @@ pub mod Counted
 pub mod Locking
 pub mod Rounds
 pub mod Seats
+pub mod EventSeats
 pub mod Allowed
 pub mod Along
 pub mod Ranged
@@ -20,6 +21,7 @@ pub mod Claimed
 pub mod Arrivals
 pub mod HaveArrived
 pub mod Seated
+pub mod EventsSeated
 pub mod Refusing
 pub mod Awaits
 pub mod Claims

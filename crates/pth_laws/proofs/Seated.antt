@@ -1,16 +1,17 @@
 -- Whoever has a seat at a condition lives, and a pth_cond_await blocks it, which waits for that condition's notice.
-use Rattle.std.proofs.Common.{◌≡◌, ◌≢◌, ◌≤◌, ℕ, zero, suc, ◌+◌, ◌-◌, ◌==◌, Bool, true, false, cond, ℤ, Option, Some, None, is_some, option_map, inl, inr, refl, sym, ◌∙◌, ap, subst, arith}
+use Rattle.std.proofs.Common.{◌≡◌, ◌≢◌, ◌≤◌, ℕ, zero, suc, ◌+◌, ◌==◌, Bool, true, false, cond, ℤ, Option, Some, None, is_some, option_map, inl, inr, refl, sym, ◌∙◌, ap, subst, arith}
 use Rattle.pth_base.specs.Program.{Functions}
 use Rattle.pth_base.specs.Table.{put}
 use Rattle.pth_base.specs.declared.call.Call.{Call}
 use Rattle.pth_base.specs.declared.call.Call.TheVariants as call
-use Rattle.pth_base.specs.declared.ids.EventId.{EventId}
 use Rattle.pth_base.specs.declared.thread.ThreadState.TheVariants as state
 use Rattle.pth_base.proofs.Tables.{not_same, same_means, same_fails, put_by, put_other}
 use Rattle.pth_lock.specs.Objects.{object_named}
-use Rattle.pth_cond.specs.declared.seats.Seat.TheVariants.{Await, Event}
+use Rattle.pth_cond.specs.declared.seats.Seat.TheVariants.{Await}
 use Rattle.pth_cond.specs.Barriers.{barrier_reached}
-use Rattle.pth_cond.specs.Conditions.{ConditionTable, seat_entered}
+use Rattle.pth_cond.specs.Conditions.{ConditionTable, has_seat, seat_entered, seat_left}
+use Rattle.pth_numbered.specs.Operands.{number}
+use Rattle.pth_ring.specs.Rings.{claimed}
 use Rattle.pth_threads.specs.Threads.{changed}
 use Rattle.pth_threads.specs.declared.entry.Change as change_of_record
 use Rattle.pth_threads.specs.declared.entry.Change.TheVariants as change
@@ -21,7 +22,8 @@ use Rattle.pth_model.specs.declared.blocked.Blocked.{Blocked}
 use Rattle.pth_model.specs.declared.progress.Progress.{Progress}
 use Rattle.pth_model.specs.Awaits.{is_await, is_awaiting}
 use Rattle.pth_model.specs.Conditions.{seat_of}
-use Rattle.pth_model.specs.State.{State, Given, start}
+use Rattle.pth_model.specs.EventSeats.{seats_changed}
+use Rattle.pth_model.specs.State.{State, Given, start, now_of}
 use Rattle.pth_model.specs.Transition.{controlled, tid}
 use Rattle.pth_model.specs.Changes.{sets, goes_on, blocking, is_blocked_by, makes, forgets, with_conditions, with_barriers, blocked_in, blocked_of}
 use Rattle.pth_model.specs.Living.{lives}
@@ -31,10 +33,11 @@ use Rattle.pth_model.specs.LibraryControl.{vanish_all_but}
 use Rattle.pth_model.specs.Calls.{blocks}
 use Rattle.pth_model.specs.Pass.{looks}
 use Rattle.pth_model.specs.Run.{run}
-use Rattle.pth_laws.specs.Clean.{has_seat, condition_held}
+use Rattle.pth_laws.specs.Clean.{condition_held}
 use Rattle.pth_laws.specs.Valid.{Lives}
 use Rattle.pth_laws.proofs.Living.{true_false}
-use Rattle.pth_laws.proofs.Seats.{HasFewerSeats, seats_at, has_some, none_has, seats_gone, entered_other, entered_by}
+use Rattle.pth_laws.proofs.Seats.{HasFewerSeats, HasLeftAt, seats_at, has_some, seats_gone, entered_other, entered_by}
+use Rattle.pth_laws.proofs.EventSeats.{entered_apart, fewer_left}
 use Rattle.pth_laws.proofs.Allowed.{IsFree, HasLeftSeat, stopped_free}
 use Rattle.pth_laws.proofs.Along.{KeptAlong, IsLifeSafe, IsGone, run_keeps}
 use Rattle.pth_laws.proofs.Arrivals.{lives_on, blocks_so}
@@ -71,16 +74,13 @@ module _ {S : Type 0} where
       let apart : u ≢ t = λ here. none c (subst (HasSeat x c) here h) in
       (ap lives (put_other known t e u apart) ∙ (r c u h).0, subst (λ (o : Option (Progress S)). AwaitsAt c (blocked_in o)) (sym (put_other progress t p u apart)) (r c u h).1)
 
--- no thread has two seats at a condition, and no event has one
-pub record AreSingle (x : ConditionTable) : Type 0 where
-  pub once : (c t : ℕ) → seats_at (seat_of t) (x c) ≤ 1
-  pub none : (c : ℕ) (e : EventId) → seats_at (Event e) (x c) ≤ 0
+-- no thread has two seats at a condition
+abbrev pub AreSingle : ConditionTable → Type 0
+AreSingle x = (c t : ℕ) → seats_at (seat_of t) (x c) ≤ 1
 
-single_fewer : (x y : ConditionTable) → HasFewerSeats x y → AreSingle y → AreSingle x
-single_fewer x y fewer r = record {
-  once = λ c t. let less = fewer c (seat_of t) in let one = r.once c t in omega (arith, less, one);
-  none = λ c e. let less = fewer c (Event e) in let none = r.none c e in omega (arith, less, none);
-}
+-- no thread has a seat more
+abbrev HasFewerOfThreads : ConditionTable → ConditionTable → Type 0
+HasFewerOfThreads x y = (c t : ℕ) → seats_at (seat_of t) (x c) ≤ seats_at (seat_of t) (y c)
 
 -- ---- changes
 
@@ -120,7 +120,7 @@ module _ {P S H : Type 0} where
   unfolding vanish_all_but
   seated_vanished t s =
       let x = s.control.conditions in
-      ((λ c u h. let none = seats_gone x c (seat_of u) in absurd (omega (arith, none, h))), record { once = λ c u. let none = seats_gone x c (seat_of u) in omega (arith, none); none = λ c e. seats_gone x c (Event e) })
+      ((λ c u h. let none = seats_gone x c (seat_of u) in absurd (omega (arith, none, h))), (λ c u. let none = seats_gone x c (seat_of u) in omega (arith, none)))
 
   seated_looked : (s : State P S H) → AreSeated s → AreSeated (controlled looks s)
   unfolding looks
@@ -141,24 +141,28 @@ module _ {P S H : Type 0} where
       by_progress None = refl
       by_progress (Some p) = same p
 
-  seated_claimed : (t : ℕ) (e : Option ℤ) (s : State P S H) → AreSeated s → AreSeated (controlled (claims t e) s)
-  unfolding claims
-  seated_claimed t None s r = r
-  seated_claimed t (Some e) s r = r
-
-  seated_returned : (e : Option ℤ) (s : State P S H) → AreSeated s → AreSeated (controlled (gives_back e) s)
-  unfolding gives_back
-  seated_returned None s r = r
-  seated_returned (Some e) s r = r
-
   claimed_free : (t : ℕ) (e : Option ℤ) (s : State P S H) → IsFree t s → IsFree t (controlled (claims t e) s)
   unfolding claims
   claimed_free t None s free = free
   claimed_free t (Some e) s free = free
 
-  -- nobody has a seat more
-  seated_fewer : (x : ConditionTable) (s : State P S H) → HasFewerSeats x s.control.conditions → AreSeated s → AreSeated (controlled (with_conditions (λ y. x)) s)
-  seated_fewer x s fewer r = ((λ c u h. r.0 c u (let less = fewer c (seat_of u) in omega (arith, less, h))), single_fewer x s.control.conditions fewer r.1)
+  seated_fewer : (x : ConditionTable) (s : State P S H) → HasFewerOfThreads x s.control.conditions → AreSeated s → AreSeated (controlled (with_conditions (λ y. x)) s)
+  seated_fewer x s fewer r = ((λ c u h. r.0 c u (let less = fewer c u in omega (arith, less, h))), (λ c u. let less = fewer c u in let one = r.1 c u in omega (arith, less, one)))
+
+  -- the seats of a ring's events are entered, or left
+  seated_claimed : (t : ℕ) (e : Option ℤ) (s : State P S H) → AreSeated s → AreSeated (controlled (claims t e) s)
+  unfolding claims
+  seated_claimed t None s r = r
+  seated_claimed t (Some e) s r =
+      let x = claimed (number e) (tid t) (now_of s.control) s.control.events in
+      seated_fewer (seats_changed seat_entered x (x.rings (number e)) s.control.conditions) s (λ c u. entered_apart x (seat_of u) (x.rings (number e)) (λ g h. refl) s.control.conditions c) r
+
+  seated_returned : (e : Option ℤ) (s : State P S H) → AreSeated s → AreSeated (controlled (gives_back e) s)
+  unfolding gives_back
+  seated_returned None s r = r
+  seated_returned (Some e) s r =
+      let x = s.control.events in
+      seated_fewer (seats_changed seat_left x (x.rings (number e)) s.control.conditions) s (λ c u. fewer_left x (x.rings (number e)) s.control.conditions c (seat_of u)) r
 
   -- a call that takes no seat blocks t, which was free
   seated_blocks : (t : ℕ) (c : Call) (a : Awaits) (s : State P S H) → IsFree t s → AreSeated s → AreSeated (controlled (blocks t c a) s)
@@ -176,35 +180,29 @@ module _ {P S H : Type 0} where
   unfolding stops_waiting
   seated_stopped t y s fewer gone r =
       let u = controlled (with_conditions (λ z. y)) s in
-      seated_returned (ring_held (blocked_of s.control t)) (controlled (is_blocked_by t None) u) (seated_goes t (blocking None) u (λ c h. absurd (none c h)) (seated_fewer y s fewer r))
+      seated_returned (ring_held (blocked_of s.control t)) (controlled (is_blocked_by t None) u) (seated_goes t (blocking None) u (λ c h. absurd (none c h)) (seated_fewer y s (λ c u. fewer c (seat_of u)) r))
     where
       none : (c : ℕ) → HasSeat y c t → ⊥
       none c h =
           let x = s.control.conditions in
           let less = fewer c (seat_of t) in
           let w = (r.0 c t (omega (arith, less, h))).1 in
-          let one = r.1.once c t in
-          let left : seats_at (seat_of t) (y c) ≡ seats_at (seat_of t) (x c) - 1 = subst (λ i. seats_at (seat_of t) (y i) ≡ seats_at (seat_of t) (x i) - 1) w.named (gone w.condition w.mutex w.ring w.blocked) in
+          let one = r.1 c t in
+          let left : HasLeftAt (seat_of t) c y x = subst (λ i. HasLeftAt (seat_of t) i y x) w.named (gone w.condition w.mutex w.ring w.blocked) in
           omega (arith, h, one, left)
 
-  -- with a claim, or without
-  seated_claims : (t : ℕ) (c m e : ℤ) (s : State P S H) → AreSeated (controlled (λ k. blocks t (call.CondAwait c m e) (Notice c) (with_conditions (seat_entered c (seat_of t)) k)) s) → AreSeated (controlled (λ k. blocks t (call.CondAwait c m e) (Notice c) (claims t (extra_ring e) (with_conditions (seat_entered c (seat_of t)) k))) s)
+  -- a claim, and that t is blocked, in either order
+  seated_claims : (t : ℕ) (c : Call) (a : Awaits) (e : Option ℤ) (s : State P S H) → AreSeated (controlled (blocks t c a) s) → AreSeated (controlled (λ k. blocks t c a (claims t e k)) s)
   unfolding claims goes_on
-  seated_claims t c m e s r = by_ring (extra_ring e)
-    where
-      by_ring : (o : Option ℤ) → AreSeated (controlled (λ k. blocks t (call.CondAwait c m e) (Notice c) (claims t o (with_conditions (seat_entered c (seat_of t)) k))) s)
-      by_ring None = r
-      by_ring (Some i) = r
+  seated_claims t c a None s r = r
+  seated_claims t c a (Some e) s r = seated_claimed t (Some e) (controlled (blocks t c a) s) r
 
   -- t takes a seat, and waits
   seated_takes : (t : ℕ) (c m e : ℤ) (s : State P S H) → IsFree t s → lives (s.control.threads.known t) ≡ true → is_some (s.control.threads.progress t) ≡ true → AreSeated s → AreSeated (controlled (λ k. blocks t (call.CondAwait c m e) (Notice c) (with_conditions (seat_entered c (seat_of t)) k)) s)
   unfolding goes_on
   seated_takes t c m e s free alive there r = (
     (λ i u h. by_thread i u (u == t) refl h),
-    record {
-      once = λ i u. by_once i u (t == u) refl;
-      none = λ i v. let less = entered_by c (seat_of t) (Event v) x i in let none = r.1.none i v in omega (arith, less, none);
-    },
+    (λ i u. by_once i u (t == u) refl),
   )
     where
       x : ConditionTable
@@ -236,7 +234,7 @@ module _ {P S H : Type 0} where
       by_once i u false own =
           let less = entered_by c (seat_of t) (seat_of u) x i in
           let same = ap (λ (b : Bool). cond {A = ℕ} b 1 0) own in
-          let one = r.1.once i u in
+          let one = r.1 i u in
           omega (arith, less, same, one)
 
       by_condition : (i : ℕ) (own : Bool) → (i == object_named c) ≡ own → HasSeat y i t → object_named c ≡ i
@@ -265,7 +263,7 @@ module _ {P S H : Type 0} where
   seated_kept f = record {
     handlers = record {
       shared = λ h s r. r;
-      seated = λ x s fewer r. seated_fewer x s fewer r;
+      seated = λ x s fewer r. seated_fewer x s (λ c u. fewer c (seat_of u)) r;
       told = λ m s may r. r;
     };
     placed = λ standing entries raises s r. r;
@@ -289,7 +287,7 @@ module _ {P S H : Type 0} where
     blocked = λ t c a s free other none may r. seated_begins t c a s free r;
     waits_on = λ t a b s at names stays other plain r. seated_on t a b s at other r;
     stopped = λ t x y s fewer others seats left gone r. seated_stopped t y (controlled (with_barriers (λ z. x)) s) seats gone r;
-    takes_seat = λ t c m e s free alive there may r. seated_claims t c m e s (seated_takes t c m e s free alive there r);
+    takes_seat = λ t c m e s free alive there may r. seated_claims t (call.CondAwait c m e) (Notice c) (extra_ring e) (controlled (with_conditions (seat_entered c (seat_of t))) s) (seated_takes t c m e s free alive there r);
     retakes = λ t c m e a o y s fewer gone at r.
         let u = controlled (with_conditions (λ z. y)) s in
         seated_blocks t (call.CondAwait c m e) (Retaking m o) (controlled (stops_waiting t) u) (stopped_free t u) (seated_stopped t y s fewer gone r);
@@ -297,7 +295,7 @@ module _ {P S H : Type 0} where
 
   seated_start : (f : P → Functions S H) (g : Given P) → AreSeated (start f g)
   unfolding start
-  seated_start f g = ((λ c u h. absurd (omega (arith, h))), record { once = λ c t. omega arith; none = λ c e. omega arith })
+  seated_start f g = ((λ c u h. absurd (omega (arith, h))), (λ c t. omega arith))
 
   run_seated : (f : P → Functions S H) (g : Given P) (i : ℕ) → AreSeated (run f g i).state
   run_seated f g i = run_keeps f AreSeated (seated_kept f) g (seated_start f g) i
@@ -306,6 +304,3 @@ module _ {P S H : Type 0} where
   run_seats f g i c t h =
       let r = (run_seated f g i).0 c t (has_some (run f g i).state.control.conditions c (seat_of t) h) in
       (r.0, ap condition_held r.1.blocked ∙ ap Some r.1.named)
-
-  pub run_events : (f : P → Functions S H) (g : Given P) (i c : ℕ) (e : EventId) → has_seat (run f g i).state.control.conditions c (Event e) ≡ false
-  run_events f g i c e = none_has (run f g i).state.control.conditions c (Event e) ((run_seated f g i).1.none c e)

@@ -8,8 +8,7 @@ use Rattle.pth_cond.specs.declared.seats.Seat.{Seat}
 use Rattle.pth_cond.specs.declared.seats.Notice.TheVariants.{Unmarked, One, All}
 use Rattle.pth_cond.specs.declared.seats.Taken.{Taken}
 use Rattle.pth_cond.specs.Seats.{is_seat, is_at, is_one_at, notice_at, has_mark, with_seat, without_seat, one_notified, all_notified, notified, handed_on}
-use Rattle.pth_cond.specs.Conditions.{Condition, ConditionTable, with_seats, cond_initialised, seat_entered, seat_left, seat_handed_on, cond_notified, all_left, all_seats_left}
-use Rattle.pth_laws.specs.Clean.{has_seat_here, has_seat}
+use Rattle.pth_cond.specs.Conditions.{Condition, ConditionTable, has_seat_here, has_seat, with_seats, cond_initialised, seat_entered, seat_left, seat_handed_on, cond_notified, all_left, all_seats_left}
 use Rattle.pth_laws.proofs.Living.{true_false}
 
 -- how often a seat is among these
@@ -88,7 +87,7 @@ HasFewerSeats x y = (c : ℕ) (u : Seat) → seats_at u (x c) ≤ seats_at u (y 
 
 -- a seat is left at a condition
 abbrev pub HasLeftAt : Seat → ℕ → ConditionTable → ConditionTable → Type 0
-HasLeftAt s c x y = seats_at s (x c) ≡ seats_at s (y c) - 1
+HasLeftAt s c x y = seats_at s (x c) ≤ seats_at s (y c) - 1
 
 pub has_some : (x : ConditionTable) (c : ℕ) (s : Seat) → has_seat x c s ≡ true → 1 ≤ seats_at s (x c)
 has_some x c s h = by_condition (x c) h
@@ -96,13 +95,6 @@ has_some x c s h = by_condition (x c) h
     by_condition : (y : Condition) → has_seat_here s y ≡ true → 1 ≤ seats_at s y
     by_condition None h = absurd (true_false (sym h))
     by_condition (Some ts) h = any_taken s ts h
-
-pub none_has : (x : ConditionTable) (c : ℕ) (s : Seat) → seats_at s (x c) ≤ 0 → has_seat x c s ≡ false
-none_has x c s none = by_test (has_seat x c s) refl
-  where
-    by_test : (b : Bool) → has_seat x c s ≡ b → has_seat x c s ≡ false
-    by_test false h = h
-    by_test true h = let some = has_some x c s h in absurd (omega (arith, some, none))
 
 fewer_with : (k : ℕ) (change : List Taken → List Taken) (x : ConditionTable) → ((u : Seat) (ts : List Taken) → taken u (change ts) ≤ taken u ts) → HasFewerSeats (with_seats k change x) x
 fewer_with k change x fewer c u = put_by (λ y. seats_at u y ≤ seats_at u (x c)) x k (option_map change (x k)) c (λ here. rw here (by_condition (x k))) (λ other. omega arith)
@@ -112,7 +104,7 @@ fewer_with k change x fewer c u = put_by (λ y. seats_at u y ≤ seats_at u (x c
     by_condition (Some ts) = fewer u ts
 
 left_with : (s : Seat) (k : ℕ) (change : List Taken → List Taken) (x : ConditionTable) → ((ts : List Taken) → taken s (change ts) ≡ taken s ts - 1) → HasLeftAt s k (with_seats k change x) x
-left_with s k change x left = ap (seats_at s) (put_here x k (option_map change (x k))) ∙ by_condition (x k)
+left_with s k change x left = let here = ap (seats_at s) (put_here x k (option_map change (x k))) ∙ by_condition (x k) in omega (arith, here)
   where
     by_condition : (y : Condition) → seats_at s (option_map change y) ≡ seats_at s y - 1
     by_condition None = refl
@@ -120,6 +112,13 @@ left_with s k change x left = ap (seats_at s) (put_here x k (option_map change (
 
 pub seats_same : (x : ConditionTable) → HasFewerSeats x x
 seats_same x c u = omega arith
+
+pub seats_fewer : (x y z : ConditionTable) → HasFewerSeats x y → HasFewerSeats y z → HasFewerSeats x z
+seats_fewer x y z one two c u = let less = one c u in let more = two c u in omega (arith, less, more)
+
+-- a seat that is left is still left where nobody has a seat more
+pub left_fewer : (s : Seat) (k : ℕ) (x y z : ConditionTable) → HasFewerSeats x y → HasLeftAt s k y z → HasLeftAt s k x z
+left_fewer s k x y z fewer left = let less = fewer k s in omega (arith, less, left)
 
 pub seats_notified : (c : ℤ) (all : Bool) (x : ConditionTable) → HasFewerSeats (cond_notified c all x) x
 seats_notified c all x = fewer_with (object_named c) (notified all) x (λ u ts. let same = notified_same u all ts in omega (arith, same))

@@ -38,7 +38,7 @@ use Rattle.pth_model.specs.declared.verdict.Verdict.TheVariants.{Says, Yields, B
 use Rattle.pth_model.specs.Verdict.{refused, says, ◌when◌otherwise◌}
 use Rattle.pth_model.specs.Awaits.{round_in, is_await, is_awaiting, is_retaking, awaits_in, is_canceled}
 use Rattle.pth_model.specs.Barriers.{tries_round}
-use Rattle.pth_model.specs.Conditions.{can_take, is_noticed, leaves_seat, hands_on_seat}
+use Rattle.pth_model.specs.Conditions.{can_take, is_noticed, leaves_seat, hands_on_seat, hands_on_seats}
 use Rattle.pth_model.specs.State.{State, Control, Threads, main, once_limit}
 use Rattle.pth_model.specs.Transition.{Piece, Change, changes, tells, tid, controlled, silent, nothing, where_so, ◌and◌, ◌and_then◌}
 use Rattle.pth_model.specs.Changes.{goes_on, sets, removes, blocking, is_blocked_by, or_nobody, entry_of, prefers, uses, with_barriers, blocked_in, blocked_of}
@@ -910,17 +910,17 @@ module _ {P S H : Type 0} (f : P → Functions S H) (n t : ℕ) (made : is_made 
   unfolding leaves_seat
   left_leaving q c s w = record { resources = w.resources; going = w.going; claims = w.claims; fits = w.fits }
 
-  handed_leaving : (q : ℤ) (c : Book) (s : State P S H) → IsLeaving n t c s.resources.awaits s → IsLeaving n t c s.resources.awaits (controlled (hands_on_seat t (awaits.Notice q)) s)
+  handed_leaving : (q m e : ℤ) (c : Book) (s : State P S H) → IsLeaving n t c s.resources.awaits s → IsLeaving n t c s.resources.awaits (controlled (hands_on_seats t (record { what = awaits.Notice q; ring = extra_ring e })) s)
   unfolding hands_on_seat
-  handed_leaving q c s w = record { resources = w.resources; going = w.going; claims = w.claims; fits = w.fits }
+  handed_leaving q m e c s w = record { resources = w.resources; going = w.going; claims = w.claims; fits = w.fits }
 
   left_progress : (q : ℤ) (k : Control P S H) → (leaves_seat t (awaits.Notice q) k).threads ≡ k.threads
   unfolding leaves_seat
   left_progress q k = refl
 
-  handed_progress : (q : ℤ) (k : Control P S H) → (hands_on_seat t (awaits.Notice q) k).threads ≡ k.threads
+  handed_progress : (q m e : ℤ) (k : Control P S H) → (hands_on_seats t (record { what = awaits.Notice q; ring = extra_ring e }) k).threads ≡ k.threads
   unfolding hands_on_seat
-  handed_progress q k = refl
+  handed_progress q m e k = refl
 
   requested_progress : (k : Control P S H) → (sets t (change.Request false) k).threads.progress ≡ k.threads.progress
   unfolding sets
@@ -934,10 +934,10 @@ module _ {P S H : Type 0} (f : P → Functions S H) (n t : ℕ) (made : is_made 
       let x = mark.Canceled (tid t) (Some k) in
       let d = after c x in
       let s1 = (takes_request t k s).state in
-      let s2 = controlled (hands_on_seat t (awaits.Notice q)) s1 in
-      let on2 = ap (λ (y : Threads S). y.progress t) (handed_progress q s1.control) ∙ ap (λ (y : ℕ → Option (Progress S)). y t) (requested_progress s.control) ∙ on in
+      let s2 = controlled (hands_on_seats t (record { what = awaits.Notice q; ring = ring_given k })) s1 in
+      let on2 = ap (λ (y : Threads S). y.progress t) (handed_progress q m e s1.control) ∙ ap (λ (y : ℕ → Option (Progress S)). y t) (requested_progress s.control) ∙ on in
       let r : IsLeaving n t d s1.resources.awaits s1 = let z = requested c s (Some k) w in record { resources = z.resources; going = z.going; claims = z.claims; fits = z.fits } in
-      let y = ends_walk q m e retake.Canceled p d s2 (put_here c.canceled t true) awaiting on2 (handed_leaving q d s1 r) in
+      let y = ends_walk q m e retake.Canceled p d s2 (put_here c.canceled t true) awaiting on2 (handed_leaving q m e d s1 r) in
       record { law = ((λ locked. (((within_up s.resources.awaits c s w, tt), tt), made)), y.law); post = y.post }
   awaits_where_walk false true settled q m e p c s awaiting calm on w =
       let s2 = controlled (leaves_seat t (awaits.Notice q)) s in

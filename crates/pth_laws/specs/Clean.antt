@@ -3,20 +3,19 @@
 use Rattle.std.specs.Prelude.{◌≡◌, ◌<◌, ℕ, ◌==◌, ◌&&◌, Bool, true, false, Option, Some, None, option_map}
 use Rattle.std.specs.List.{list_any}
 use Rattle.pth_numbered.specs.Operands.{number}
-use Rattle.pth_base.specs.declared.ids.EventId.{EventId}
-use Rattle.pth_cond.specs.declared.seats.Seat.{Seat}
-use Rattle.pth_cond.specs.declared.seats.Seat.TheVariants.{Await, Event}
-use Rattle.pth_cond.specs.Seats.{is_at}
-use Rattle.pth_cond.specs.Conditions.{Condition, ConditionTable}
+use Rattle.pth_cond.specs.declared.seats.Seat.TheVariants.{Await}
+use Rattle.pth_cond.specs.Conditions.{has_seat}
 use Rattle.pth_cond.specs.Barriers.{Arrived, Barrier, BarrierTable}
 use Rattle.pth_lock.specs.Objects.{object_limit, object_named}
 use Rattle.pth_lock.specs.Mutexes.{has}
 use Rattle.pth_lock.specs.RwLocks.{holds}
+use Rattle.pth_ring.specs.Rings.{is_claimed}
 use Rattle.pth_model.specs.declared.awaits.Awaits.{Awaits}
 use Rattle.pth_model.specs.declared.awaits.Awaits.TheVariants.{Round, Notice}
 use Rattle.pth_model.specs.declared.blocked.Blocked.{Blocked}
 use Rattle.pth_model.specs.Awaits.{awaits_in}
 use Rattle.pth_model.specs.Changes.{blocked_of}
+use Rattle.pth_model.specs.EventSeats.{event_seat, condition_in}
 use Rattle.pth_model.specs.RingWaits.{claimant, ring_held}
 use Rattle.pth_model.specs.State.{State}
 use Rattle.pth_model.specs.Transition.{tid}
@@ -46,14 +45,6 @@ round_awaited a = None
 abbrev pub round_held : Option Blocked → Option (ℕ × ℕ)
 round_held o = round_awaited (awaits_in o)
 
--- somebody has this seat at a condition
-abbrev pub has_seat_here : Seat → Condition → Bool
-has_seat_here s None = false
-has_seat_here s (Some ts) = list_any (is_at s) ts
-
-abbrev pub has_seat : ConditionTable → (c : ℕ) → Seat → Bool
-has_seat x c s = has_seat_here s (x c)
-
 -- the condition for whose notice the blocked call waits
 abbrev pub condition_awaited : Awaits → Option ℕ
 condition_awaited (Notice c) = Some (object_named c)
@@ -74,5 +65,5 @@ pub record IsClean {P S H : Type 0} (s : State P S H) : Type 0 where
   pub arrivals : (b round t : ℕ) → has_arrived s.control.barriers b round t ≡ true → Lives s t × (round_held (blocked_of s.control t) ≡ Some (b, round))
   -- a thread that has a seat at a condition lives, and its call waits for the notice of this condition (pth_cond_await)
   pub seats : (c t : ℕ) → has_seat s.control.conditions c (Await (tid t)) ≡ true → Lives s t × (condition_held (blocked_of s.control t) ≡ Some c)
-  -- no event has a seat
-  pub event_seats : (c : ℕ) (e : EventId) → has_seat s.control.conditions c (Event e) ≡ false
+  -- an event that has a seat at a condition is one of this condition, and some thread claims its ring (PTH_EVENT_COND)
+  pub event_seats : (c e : ℕ) → has_seat s.control.conditions c (event_seat e) ≡ true → (option_map object_named (condition_in (s.control.events.events e)) ≡ Some c) × (is_claimed s.control.events e ≡ true)

@@ -4,7 +4,8 @@
 //! (`specs/Exclusive.antt`), and of what was initialised (`specs/Initialised.antt`). Each is said in sentences on a mark and the
 //! marks before it. The marks of every run keep all three (`every_run_is_orderly`, `every_run_is_exclusive`,
 //! `every_run_initialises`). If no `pth_kill` ended the run, its state fits its marks (`every_run_is_tied`), and no claim, mutex,
-//! lock or arrival at a barrier is that of a thread that does not live (`every_run_is_clean`).
+//! lock, arrival at a barrier or seat at a condition is that of a thread that does not live; an event has a seat only at its own
+//! condition, and only while a thread claims its ring (`every_run_is_clean`).
 //!
 //! Laws of states alone (`states`) say of every run, also of one that a `pth_kill` ended, in which range base priorities
 //! are, who has claims on rings and holds of locks, and for what threads wait. A call that is refused changes nothing

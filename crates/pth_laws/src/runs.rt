@@ -44,8 +44,8 @@ pub fn every_run_is_tied<P: Program>()
 /// Nothing of a wait stays behind, and nothing that a thread has, however the thread ended: by an exit, by a request that it took up at
 /// a cancellation point, or in another thread's turn (`pth_cancel`, `pth_abort`). A claim on a ring is that of a thread that lives,
 /// and whose call made it; a thread that has a mutex, or holds a lock, lives, and these are among 0 to 63; an arrival that waits at a
-/// barrier is that of a thread that lives, and waits there for the round of this arrival; and a seat at a condition is that of a
-/// thread that lives, and waits there.
+/// barrier is that of a thread that lives, and waits there for the round of this arrival; and a seat that a thread has at a condition
+/// is that of one that lives, and waits there. An event has a seat only at its own condition, and only while a thread claims its ring.
 pub fn every_run_is_clean<P: Program>()
     ensures { (g : Given P) (i : ℕ) → (run P.functions g i).turn.outcome ≢ Killed → IsClean (run P.functions g i).state }
 {}

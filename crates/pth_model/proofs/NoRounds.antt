@@ -186,6 +186,7 @@ module _ (rounds : Bool) where
     begins_none (call.EvFd goals fd) other = search (made_none, result_none)
     begins_none (call.EvSelect r w x) other = search result_none
     begins_none (call.EvTime m) other = search (made_none, result_none)
+    begins_none (call.EvCond c) other = search result_none
     begins_none (call.Chain e l) other = search (made_none, result_none)
     begins_none (call.EvConcat e g) other = search result_none
     begins_none (call.EvIsolate e) other = search result_none

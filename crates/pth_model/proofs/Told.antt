@@ -37,7 +37,7 @@ use Rattle.pth_model.specs.Mutexes.{mutex_release}
 use Rattle.pth_model.specs.Ending.{ending, undoes_wait, dies, runs_each, runs_cleanups, runs_destructor, runs_destructors, destructs, destructs_by, next_destructor, round_limit, first_round, gives_mutexes, gives_locks, gives_all}
 use Rattle.pth_model.specs.declared.destructors.Due.{Due}
 use Rattle.pth_model.specs.declared.destructors.Round.{Round as DestructorRound}
-use Rattle.pth_model.specs.Conditions.{cond_notify, can_take, is_noticed, leaves_seat, hands_on_seat}
+use Rattle.pth_model.specs.Conditions.{cond_notify, can_take, is_noticed, leaves_seat, hands_on_seats}
 use Rattle.pth_model.specs.Acts.{acts, acts_by, acts_from, act_limit, answer_in, handled, goes_on_after, runs_handler}
 use Rattle.pth_model.specs.KeyStorage.{key_set}
 use Rattle.pth_model.specs.Cleanups.{runs_pushed, last_pushed}
@@ -48,7 +48,7 @@ use Rattle.pth_base.specs.declared.ids.HandlerId.{HandlerId}
 use Rattle.pth_store.specs.Cleanups.{PushedHandler}
 use Rattle.pth_store.specs.Keys.{key_limit}
 use Rattle.pth_model.specs.Calls.{begun, begun_by, gone_on, gone_on_where, canceled_by, tried_again, tried_again_by, tried_by, unless_settled, interrupted, retaken_as, retakes_where, ends_await, awaits_on_where, awaits_on, gone_on_in, gone_on_by, retakes}
-use Rattle.pth_model.specs.RingWaits.{ring_given, has_settled, stops_waiting, extra_ring}
+use Rattle.pth_model.specs.RingWaits.{awaited_in, ring_given, has_settled, stops_waiting, extra_ring}
 use Rattle.pth_model.specs.EventHandling.{spec_of, made_as, make_event, chain}
 use Rattle.pth_base.specs.declared.event.EvLine.{EvLine}
 use Rattle.pth_numbered.specs.Operands.{number, is_zero}
@@ -143,7 +143,7 @@ module _ {P S H : Type 0} (f : P → Functions S H) where
     withdraws_told a s = refl
 
     undone_told : IsTold {P = P} {S = S} {H = H} (undoes_wait t)
-    undone_told s = then_told (withdraws_from t (awaits_in (blocked_of s.control t))) (changes (hands_on_seat t (awaits_in (blocked_of s.control t)) and stops_waiting t)) (withdraws_told (awaits_in (blocked_of s.control t))) (λ u. refl) s
+    undone_told s = then_told (withdraws_from t (awaits_in (blocked_of s.control t))) (changes (hands_on_seats t (awaited_in (blocked_of s.control t)) and stops_waiting t)) (withdraws_told (awaits_in (blocked_of s.control t))) (λ u. refl) s
 
     marks_told : (ms : List Mark) → IsTold {P = P} {S = S} {H = H} (tells_each ms)
     unfolding tells_each
@@ -320,7 +320,7 @@ module _ {P S H : Type 0} (f : P → Functions S H) where
     await_ends_told g c m o s = finally_told (changes (g and stops_waiting t)) (retakes f t c m o) (λ u. refl) (λ u. retakes_told (can_take u t m) c m o u) s
 
     awaits_where_told : (asked noticed settled : Bool) (k : Call) (c m : ℤ) → LastTold (awaits_on_where f t asked noticed settled k c m)
-    awaits_where_told true noticed settled k c m s = finally_told (takes_request t k) (ends_await f t (hands_on_seat t (Notice c)) k m retake.Canceled) (takes_told k) (await_ends_told (hands_on_seat t (Notice c)) k m retake.Canceled) s
+    awaits_where_told true noticed settled k c m s = finally_told (takes_request t k) (ends_await f t (hands_on_seats t (record { what = Notice c; ring = ring_given k })) k m retake.Canceled) (takes_told k) (await_ends_told (hands_on_seats t (record { what = Notice c; ring = ring_given k })) k m retake.Canceled) s
     awaits_where_told false true settled k c m s = await_ends_told (leaves_seat t (Notice c)) k m retake.Notified s
     awaits_where_told false false true k c m s = await_ends_told (leaves_seat t (Notice c)) k m retake.Interrupted s
     awaits_where_told false false false k c m s = refl

@@ -1,7 +1,7 @@
 -- What calls keep of the control, by the changes of which they are made.
 use Rattle.std.proofs.Common.{◌≡◌, ◌≢◌, ◌==◌, ◌&&◌, ◌||◌, not, ℕ, ℤ, pos, negsuc, Bool, true, false, if◌then◌else◌, Option, Some, None, is_some, option_map, length, refl, sym, subst, ap, ◌∙◌, zero, suc, ◌+◌, ◌*◌, List, [], ◌∷◌, ◌⊎◌, inl, inr}
 use Rattle.pth_model.proofs.NoRounds.{again_plainly, begins_plainly}
-use Rattle.pth_model.specs.Conditions.{can_take, is_noticed, leaves_seat, hands_on_seat}
+use Rattle.pth_model.specs.Conditions.{can_take, is_noticed, leaves_seat, hands_on_seat, hands_on_seats}
 use Rattle.pth_model.specs.declared.awaits.Retake.{Retake}
 use Rattle.pth_model.specs.declared.awaits.Retake.TheVariants as retake
 use Rattle.std.proofs.lemmas.Bool.{not-false}
@@ -22,6 +22,7 @@ use Rattle.pth_threads.specs.declared.entry.Change.{Change}
 use Rattle.pth_threads.specs.declared.entry.Entry.{Entry}
 use Rattle.pth_threads.specs.declared.entry.NewThread.{NewThread}
 use Rattle.pth_model.specs.declared.blocked.Blocked.{Blocked}
+use Rattle.pth_model.specs.declared.awaits.Awaited.{Awaited}
 use Rattle.pth_model.specs.declared.awaits.Awaits.{Awaits}
 use Rattle.pth_model.specs.declared.awaits.Awaits.TheVariants.{Reading, Writing, Connection, Round, Notice, Retaking}
 use Rattle.pth_model.specs.Io.{trial_for}
@@ -35,7 +36,7 @@ use Rattle.pth_model.specs.Verdict.{refused, says, by_result, ◌when◌otherwis
 use Rattle.pth_model.specs.State.{State, Control, Turn, main}
 use Rattle.pth_model.specs.Transition.{Piece, Change as change_of_control, silent, nothing, changes, tells, tells_each, controlled, where_so, tid, ◌and_then◌, ◌and◌}
 use Rattle.pth_model.specs.Changes.{shares, uses, goes_on, blocking, is_blocked_by, blocked_of, entry_of, or_nobody, owing, prefers, removes, favours_new, sets, adds_object, puts_object, with_barriers, with_events, with_kernel}
-use Rattle.pth_model.specs.RingWaits.{claimant, claimant_by, claims, gives_back, stops_waiting, ring_given, ring_held, has_settled, extra_ring}
+use Rattle.pth_model.specs.RingWaits.{awaited_in, claimant, claimant_by, claims, gives_back, stops_waiting, ring_given, ring_held, has_settled, extra_ring}
 use Rattle.pth_model.specs.EventHandling.{spec_of, made_as, make_event, chain}
 use Rattle.pth_base.specs.declared.event.EventSpec.{EventSpec}
 use Rattle.pth_base.specs.declared.event.EvLine.{EvLine}
@@ -50,7 +51,7 @@ use Rattle.pth_base.specs.declared.event.EvLine.TheVariants as line
 use Rattle.pth_cond.specs.Conditions.{ConditionTable}
 use Rattle.pth_cond.specs.Barriers.{BarrierTable, has_passed, round_answer, round_answered, waits_at, withdrawn}
 use Rattle.pth_lock.specs.Objects.{object_named}
-use Rattle.pth_model.specs.Awaits.{awaits_in, round_in, is_await, is_canceled, is_retaking}
+use Rattle.pth_model.specs.Awaits.{round_in, is_await, is_canceled, is_retaking}
 use Rattle.pth_model.specs.Barriers.{tries_round, withdraws, withdraws_from}
 use Rattle.pth_model.specs.Living.{is_dead}
 use Rattle.pth_model.specs.Row.{unless_refused, refuses, effect_of, ◌trying◌}
@@ -519,12 +520,12 @@ module _ {P S H : Type 0} (f : P → Functions S H) (t : ℕ) (Q : Control P S H
   gives_back_keeps : (e : Option ℤ) (k : Control P S H) → Q k → Q (gives_back e k)
   unfolding gives_back
   gives_back_keeps None k q = q
-  gives_back_keeps (Some e) k q = kept.claimed _ k q
+  gives_back_keeps (Some e) k q = kept.claimed _ _ (kept.calls.handlers.seated _ k q)
 
   claims_keeps : (e : Option ℤ) (k : Control P S H) → Q k → Q (claims t e k)
   unfolding claims
   claims_keeps None k q = q
-  claims_keeps (Some e) k q = kept.claimed _ k q
+  claims_keeps (Some e) k q = kept.calls.handlers.seated _ _ (kept.claimed _ k q)
 
   stops_keeps : (u : ℕ) (k : Control P S H) → Q k → Q (stops_waiting u k)
   unfolding stops_waiting
@@ -560,13 +561,17 @@ module _ {P S H : Type 0} (f : P → Functions S H) (t : ℕ) (Q : Control P S H
   hands_on_keeps u (Notice c) k q = (kept.calls.handlers.seated _ k q, refl)
   hands_on_keeps u a k q = (q, refl)
 
+  seats_keep : (u : ℕ) (a : Awaited) (k : Control P S H) → Q k → Q (hands_on_seats u a k) × ((hands_on_seats u a k).threads.known ≡ k.threads.known)
+  seats_keep u a k q = let own = hands_on_keeps u a.what k q in (kept.calls.handlers.seated _ _ own.0, own.1)
+
   -- u's wait is undone
   undone_keeps : (u : ℕ) (s : State P S H) → Q s.control → let k = (undoes_wait u s).state.control in Q k × (k.threads.known ≡ s.control.threads.known)
   undone_keeps u s q =
-      let k = (withdraws_from u (awaits_in (blocked_of s.control u)) s).state.control in
-      let withdrawn = withdraws_keep u (awaits_in (blocked_of s.control u)) s q in
-      let handed = hands_on_keeps u (awaits_in (blocked_of s.control u)) k withdrawn.0 in
-      (stops_keeps u (hands_on_seat u (awaits_in (blocked_of s.control u)) k) handed.0, stops_known u (hands_on_seat u (awaits_in (blocked_of s.control u)) k) ∙ handed.1 ∙ withdrawn.1)
+      let a = awaited_in (blocked_of s.control u) in
+      let k = (withdraws_from u a.what s).state.control in
+      let withdrawn = withdraws_keep u a.what s q in
+      let handed = seats_keep u a k withdrawn.0 in
+      (stops_keeps u (hands_on_seats u a k) handed.0, stops_known u (hands_on_seats u a k) ∙ handed.1 ∙ withdrawn.1)
 
   -- what u has is given up: nothing of the control changes
   marks_given : (ms : List Mark) (s : State P S H) → (tells_each ms s).state.control ≡ s.control
@@ -740,7 +745,8 @@ module _ {P S H : Type 0} (f : P → Functions S H) (t : ℕ) (Q : Control P S H
   awaits_where_keeps : (asked noticed settled : Bool) (c m e : ℤ) (s : State P S H) → may_be_canceled s.control t ≡ asked → Q s.control → Q (awaits_on_where f t asked noticed settled (call.CondAwait c m e) c m s).told.state.control
   awaits_where_keeps true noticed settled c m e s asked q =
       let k = call.CondAwait c m e in
-      await_ends_keeps (hands_on_seat t (Notice c)) (λ j r. (hands_on_keeps t (Notice c) j r).0) k m retake.Canceled s.control (takes_request t k s).state (λ odd. inl asked) q (kept.calls.requested t false s.control (λ x. not_asked x) q)
+      let a : Awaited = record { what = Notice c; ring = extra_ring e } in
+      await_ends_keeps (hands_on_seats t a) (λ j r. (seats_keep t a j r).0) k m retake.Canceled s.control (takes_request t k s).state (λ odd. inl asked) q (kept.calls.requested t false s.control (λ x. not_asked x) q)
   awaits_where_keeps false true settled c m e s asked q = await_ends_keeps (leaves_seat t (Notice c)) (leaves_seat_keeps t (Notice c)) (call.CondAwait c m e) m retake.Notified s.control s (λ odd. absurd (cc odd)) q q
   awaits_where_keeps false false true c m e s asked q = await_ends_keeps (leaves_seat t (Notice c)) (leaves_seat_keeps t (Notice c)) (call.CondAwait c m e) m retake.Interrupted s.control s (λ odd. absurd (cc odd)) q q
   awaits_where_keeps false false false c m e s asked q = q

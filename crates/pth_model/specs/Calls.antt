@@ -1,6 +1,6 @@
 -- How a call begins, and how a call that blocks its thread is tried again.
 use Rattle.std.specs.Prelude.{ℕ, pos, Bool, true, false, Option, Some, None, ℤ}
-use Rattle.pth_model.specs.Conditions.{can_take, is_noticed, leaves_seat, hands_on_seat}
+use Rattle.pth_model.specs.Conditions.{can_take, is_noticed, leaves_seat, hands_on_seats}
 use Rattle.pth_model.specs.declared.awaits.Retake.TheVariants.{Notified, Interrupted, Canceled}
 use Rattle.pth_model.specs.declared.awaits.Retake.{Retake}
 use Rattle.pth_model.specs.declared.awaits.Awaits.TheVariants.{Notice, Retaking}
@@ -131,7 +131,8 @@ module _ {P S H : Type 0} (f : P → Functions S H) (t : ℕ) where
   ends_await g c m o = changes (g and stops_waiting t) and_finally retakes c m o
 
   abbrev pub awaits_on_where : (asked noticed settled : Bool) → Call → (c m : ℤ) → Last P S H
-  awaits_on_where true noticed settled k c m = takes_request t k and_finally ends_await (hands_on_seat t (Notice c)) k m Canceled
+  awaits_on_where true noticed settled k c m =
+      takes_request t k and_finally ends_await (hands_on_seats t (record { what = Notice c; ring = ring_given k })) k m Canceled
   awaits_on_where false true settled k c m = ends_await (leaves_seat t (Notice c)) k m Notified
   awaits_on_where false false true k c m = ends_await (leaves_seat t (Notice c)) k m Interrupted
   awaits_on_where false false false k c m = tells (mark.Waits (tid t) k) and_next next.Waits

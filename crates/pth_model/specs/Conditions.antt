@@ -7,15 +7,16 @@ use Rattle.pth_lock.specs.Mutexes.{mutex_release_answer, mutex_take_answer}
 use Rattle.pth_cond.specs.declared.seats.Seat.{Seat}
 use Rattle.pth_cond.specs.declared.seats.Seat.TheVariants.{Await}
 use Rattle.pth_cond.specs.Conditions.{cond_init_answer, cond_notify_answer, cond_initialised, cond_notified, is_live, is_marked, seat_entered, seat_left, seat_handed_on}
+use Rattle.pth_model.specs.declared.awaits.Awaited.{Awaited}
 use Rattle.pth_model.specs.declared.awaits.Awaits.{Awaits}
 use Rattle.pth_model.specs.declared.awaits.Awaits.TheVariants.{Nothing, Notice}
 use Rattle.pth_model.specs.declared.verdict.Verdict.{Verdict}
 use Rattle.pth_model.specs.declared.verdict.Verdict.TheVariants.{Blocks}
 use Rattle.pth_model.specs.Verdict.{done, by_result, refused, ◌when◌otherwise◌}
 use Rattle.pth_model.specs.State.{State}
-use Rattle.pth_model.specs.Transition.{Change, changes, nothing, silent, tid}
+use Rattle.pth_model.specs.Transition.{Change, changes, nothing, silent, tid, ◌and◌}
 use Rattle.pth_model.specs.Changes.{with_conditions}
-use Rattle.pth_model.specs.RingWaits.{extra_ring, is_no_ring, is_claimed_ring}
+use Rattle.pth_model.specs.RingWaits.{extra_ring, is_no_ring, is_claimed_ring, ring_seats}
 use Rattle.pth_model.specs.Row.{Row, ◌changing◌, ◌trying◌}
 
 -- the seat of a thread that awaits a condition
@@ -63,3 +64,7 @@ module _ {P S H : Type 0} where
   unfoldable pub hands_on_seat : ℕ → Awaits → Change P S H
   hands_on_seat t (Notice c) = with_conditions (seat_handed_on c (seat_of t))
   hands_on_seat t a = nothing
+
+  -- t is canceled or ends while it waits so: its seat is handed on, and then those of the events of its ring
+  abbrev pub hands_on_seats : ℕ → Awaited → Change P S H
+  hands_on_seats t a = hands_on_seat t a.what and ring_seats seat_handed_on a.ring

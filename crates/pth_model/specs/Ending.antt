@@ -1,6 +1,6 @@
 -- How a thread ends (pth_exit, and the end of its body), in parts.
 use Rattle.std.specs.Prelude.{ℕ, zero, suc, ◌+◌, ◌*◌, ◌==◌, nat_lt, ℤ, pos, false, List, [], ◌∷◌, map, filter, Option, Some, None, if◌then◌else◌}
-use Rattle.pth_model.specs.Conditions.{hands_on_seat}
+use Rattle.pth_model.specs.Conditions.{hands_on_seats}
 use Rattle.std.specs.List.{range_with_len}
 use Rattle.pth_base.specs.Program.{Functions}
 use Rattle.pth_base.specs.declared.ids.HandlerId.{HandlerId}
@@ -16,10 +16,9 @@ use Rattle.pth_store.specs.Keys.{Tables, key_limit, first_live}
 use Rattle.pth_model.specs.declared.destructors.Due.{Due}
 use Rattle.pth_model.specs.declared.destructors.Round.{Round}
 use Rattle.pth_model.specs.Transition.{Piece, Change, silent, changes, tells, tells_each, tid, ◌and◌, ◌and_then◌}
-use Rattle.pth_model.specs.Awaits.{awaits_in}
 use Rattle.pth_model.specs.Barriers.{withdraws_from}
 use Rattle.pth_model.specs.Changes.{sets, enters, leaves_queue, removes, runs_now, entry_of, or_nobody, blocked_of}
-use Rattle.pth_model.specs.RingWaits.{stops_waiting}
+use Rattle.pth_model.specs.RingWaits.{awaited_in, stops_waiting}
 use Rattle.pth_model.specs.Acts.{handled, runs_handler}
 
 -- destructors run in rounds, each of which goes through the keys once: so many are begun at most (PTH_DESTRUCTOR_ITERATIONS)
@@ -57,11 +56,12 @@ unfoldable pub locks_held : ℕ → LockTables → List ℕ
 locks_held t x = filter (holds x t) (range_with_len 0 object_limit)
 
 module _ {P S H : Type 0} where
-  -- its wait is undone: its arrival at a barrier is taken back, its seat at a condition handed on, and the claim on its ring given back
+  -- its wait is undone: its arrival at a barrier is taken back, its seats at conditions are handed on, and the claim on its ring is given
+  -- back
   abbrev pub undoes_wait : ℕ → Piece P S H
   undoes_wait t s =
-      let a = awaits_in (blocked_of s.control t) in
-      (withdraws_from t a and_then changes (hands_on_seat t a and stops_waiting t)) s
+      let a = awaited_in (blocked_of s.control t) in
+      (withdraws_from t a.what and_then changes (hands_on_seats t a and stops_waiting t)) s
 
   -- its cleanups run, the last pushed first
   unfoldable pub runs_each : (P → Functions S H) → ℕ → List PushedHandler → Piece P S H

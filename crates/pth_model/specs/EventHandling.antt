@@ -37,13 +37,13 @@ status_number Occurred = 1
 status_number Failed = 2
 
 -- what an event is of that a line asks for, none where its operands are refused: a negative moment (PTH_EVENT_TIME), goals or a
--- descriptor that there can't be (PTH_EVENT_FD); events of other kinds are not built yet
+-- descriptor that there can't be (PTH_EVENT_FD); each condition will do (PTH_EVENT_COND), and events of other kinds are not built yet
 abbrev pub spec_of : EvLine → Option EventSpec
 spec_of (line.Time at) = if is_negative at then None else Some (of.Time (moment_of at))
 spec_of (line.Fd goals fd) = if are_goals goals && is_below fd descriptor_limit then Some (of.Fd goals fd) else None
 spec_of (line.Select r w x) = Some (of.Select r w x)
 spec_of (line.Msg p) = None
-spec_of (line.Cond c) = None
+spec_of (line.Cond c) = Some (of.Cond c)
 spec_of (line.Tid state t) = None
 spec_of (line.Func check arg interval) = None
 

@@ -11,6 +11,7 @@ pub mod Living
 pub mod ThreadControl
 pub mod LibraryControl
 pub mod AttributeHandling
+pub mod EventSeats
 pub mod RingWaits
 pub mod Looks
 pub mod EventHandling

@@ -22,7 +22,7 @@ module _ {P S H : Type 0} where
 
   -- whether an event comes of the ring for which t waits
   unfoldable pub comes_for : Control P S H → ℕ → Bool
-  comes_for k t = list_any (λ e. comes k (k.events.events e)) (awaited_events k t)
+  comes_for k t = list_any (λ e. comes k e (k.events.events e)) (awaited_events k t)
 
   -- the events of the rings for which threads wait are looked at
   unfoldable pub looks : Change P S H

@@ -10,12 +10,14 @@ use Rattle.pth_base.specs.declared.call.Call.TheVariants as call
 use Rattle.pth_numbered.specs.Operands.{number, is_zero}
 use Rattle.pth_ring.specs.declared.event.Event.{Event}
 use Rattle.pth_ring.specs.Rings.{Events, claimed, with_event, with_claim, settled_in, is_event, is_claimed}
+use Rattle.pth_cond.specs.Conditions.{seat_entered, seat_left}
 use Rattle.pth_model.specs.declared.awaits.Awaited.{Awaited}
 use Rattle.pth_model.specs.declared.blocked.Blocked.{Blocked}
 use Rattle.pth_model.specs.Awaits.{awaits_in, is_retaking}
 use Rattle.pth_model.specs.State.{State, Control, now_of}
 use Rattle.pth_model.specs.Transition.{Change, nothing, tid, ◌and◌}
-use Rattle.pth_model.specs.Changes.{with_events, is_blocked_by, blocked_of}
+use Rattle.pth_model.specs.Changes.{with_conditions, with_events, is_blocked_by, blocked_of}
+use Rattle.pth_model.specs.EventSeats.{SeatChange, seats_changed}
 
 -- the ring that a call was given beside what else it waits for: 0 is none
 abbrev pub extra_ring : ℤ → Option ℤ
@@ -66,15 +68,19 @@ module _ {P S H : Type 0} where
   abbrev pub awaited_events : Control P S H → ℕ → List ℕ
   awaited_events k t = events_from k.events (ring_held (blocked_of k t))
 
-  -- t waits for the ring of an event: its events are pending, and are looked at from now on
+  -- what becomes of the seats that the events of a ring have at conditions
+  abbrev pub ring_seats : SeatChange → Option ℤ → Change P S H
+  ring_seats g r k = with_conditions (seats_changed g k.events (events_from k.events r)) k
+
+  -- t waits for the ring of an event: its events are pending, and are looked at from now on, and those of conditions enter their seats
   unfoldable pub claims : ℕ → Option ℤ → Change P S H
   claims t None = nothing
-  claims t (Some e) = λ k. with_events (claimed (number e) (tid t) (now_of k)) k
+  claims t (Some e) = λ k. (with_events (claimed (number e) (tid t) (now_of k)) and ring_seats seat_entered (Some e)) k
 
-  -- the claim that stands at an event is given back
+  -- the claim that stands at an event is given back, and the seats of the ring's events are left
   unfoldable pub gives_back : Option ℤ → Change P S H
   gives_back None = nothing
-  gives_back (Some e) = with_events (with_event (with_claim None) (number e))
+  gives_back (Some e) = ring_seats seat_left (Some e) and with_events (with_event (with_claim None) (number e))
 
   -- no call blocks t any longer, and the claim of the blocked call is given back: the call is answered (`answers`), or t ends
   -- (`undoes_wait`)

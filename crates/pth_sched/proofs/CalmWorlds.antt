@@ -29,7 +29,7 @@ use Rattle.pth_world.proofs.Telling.{has_still}
 use Rattle.pth_waits.specs.Dormant.{IsDormant}
 use Rattle.pth_sched.specs.Calm.{IsCalmUntil, IsCalmButUntil, Calms, AreDormant, is_among_waiting}
 use Rattle.pth_waits.proofs.Standing.{none_died}
-use Rattle.pth_waits.proofs.Dormancy.{dormant_kept, dormant_sooner, equal_pending, later_than_now}
+use Rattle.pth_waits.proofs.Dormancy.{dormant_kept, dormant_sooner, equal_pending, equal_seats, later_than_now}
 use Rattle.pth_sched.proofs.Calming.{IsMild, mild_calm, readied_calm, readied_nobody, dispatched_calm, turn_over_calm}
 use Rattle.pth_sched.proofs.Waiting.{all_wait, none_looked, none_wakes}
 
@@ -65,7 +65,7 @@ module _ {P S H : Type 0} (w : WorldOf P S H) where
       mutexes = ap (λ (x : Store). x.mutexes) same_store;
       locks = ap (λ (x : Store). x.rw_locks) same_store;
       rounds = λ b round h. rw same_barriers h;
-      seats = sr.control.conditions ∙ sym ss.control.conditions;
+      seats = equal_seats s.control.conditions r.control.conditions (sr.control.conditions ∙ sym ss.control.conditions);
       blocked = same_blocked u;
       died = λ n h. rw same_known h;
       left = λ none u. rw same_known (none u);

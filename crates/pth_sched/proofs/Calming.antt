@@ -20,7 +20,7 @@ use Rattle.pth_model.specs.Part.{runs, readies, readies_all, is_placed, placed_b
 use Rattle.pth_model.specs.Transition.{controlled}
 use Rattle.pth_waits.specs.Dormant.{IsDormant, is_left_to_join}
 use Rattle.pth_sched.specs.Calm.{IsCalm, IsCalmBut, is_among_waiting}
-use Rattle.pth_waits.proofs.Dormancy.{KeepsPending, KeepsRounds, dormant_kept, pending_then, same_pending}
+use Rattle.pth_waits.proofs.Dormancy.{KeepsPending, KeepsRounds, KeepsSeats, dormant_kept, pending_then, same_pending, same_seats, seats_then}
 
 -- ---- records of threads
 
@@ -97,7 +97,7 @@ module _ {P S H : Type 0} where
     pub mutexes : r.resources.store.mutexes ≡ s.resources.store.mutexes
     pub locks : r.resources.store.rw_locks ≡ s.resources.store.rw_locks
     pub rounds : KeepsRounds s.control.barriers r.control.barriers
-    pub seats : r.control.conditions ≡ s.control.conditions
+    pub seats : KeepsSeats s.control.conditions r.control.conditions
     pub tame : (u : ℕ) → IsTame (entry_of s.control u) (entry_of r.control u)
     pub waited : (u : ℕ) → but u → is_among_waiting (entry_of r.control u) ≡ true
         → (s.control.scheduler.running ≢ Some u) × (is_among_waiting (entry_of s.control u) ≡ true) × (blocked_of r.control u ≡ blocked_of s.control u)
@@ -146,7 +146,7 @@ module _ {P S H : Type 0} where
           mutexes = refl;
           locks = refl;
           rounds = λ b r h. h;
-          seats = refl;
+          seats = same_seats s.control.conditions;
           tame = tame_put known t _ (tame_state state.Ready Ready (known t));
           waited = λ u b. put_by (λ v. is_among_waiting v ≡ true → (s.control.scheduler.running ≢ Some u) × (is_among_waiting (known u) ≡ true) × (blocked_of s.control u ≡ blocked_of s.control u)) known t _ u
               (λ same waits. absurd (cc (sym (not_waiting state.Ready Ready (known t)) ∙ waits)))
@@ -166,7 +166,7 @@ module _ {P S H : Type 0} where
           mutexes = refl;
           locks = refl;
           rounds = λ b r h. h;
-          seats = refl;
+          seats = same_seats s.control.conditions;
           tame = λ u. tame_then (known u) (first u) _
               (tame_put known t _ (tame_state state.Running Running (known t)) u)
               (tame_put first t _ (tame_dispatches _ (first t)) u);
@@ -227,7 +227,7 @@ module _ {P S H : Type 0} where
       mutexes = refl;
       locks = refl;
       rounds = λ b r h. h;
-      seats = refl;
+      seats = same_seats k.conditions;
       tame = λ u. tame_same (k.threads.known u);
       waited = λ u apart waits. (not_own u apart, waits, refl);
     }
@@ -239,7 +239,7 @@ module _ {P S H : Type 0} where
       mutexes = refl;
       locks = refl;
       rounds = λ b r h. h;
-      seats = refl;
+      seats = same_seats k.conditions;
       tame = tame_put k.threads.known t _ (tame_state state.Ready Ready (k.threads.known t));
       waited = λ u apart waits. (not_own u apart, others_wait state.Ready Ready u apart waits, refl);
     }
@@ -251,7 +251,7 @@ module _ {P S H : Type 0} where
       mutexes = refl;
       locks = refl;
       rounds = λ b r h. h;
-      seats = refl;
+      seats = same_seats k.conditions;
       tame = tame_put k.threads.known t _ (tame_state state.Waiting Waiting (k.threads.known t));
       waited = λ u apart waits. (not_own u apart, others_wait state.Waiting Waiting u apart waits, refl);
     }
@@ -272,11 +272,11 @@ module _ {P S H : Type 0} where
     pub mutexes : r.resources.store.mutexes ≡ s.resources.store.mutexes
     pub locks : r.resources.store.rw_locks ≡ s.resources.store.rw_locks
     pub rounds : KeepsRounds s.control.barriers r.control.barriers
-    pub seats : r.control.conditions ≡ s.control.conditions
+    pub seats : KeepsSeats s.control.conditions r.control.conditions
     pub blocked : (u : ℕ) → u ≢ t → blocked_of r.control u ≡ blocked_of s.control u
 
   pub mild_same : (t : ℕ) (s : State P S H) → IsMild t s s
-  mild_same t s = record { known = refl; running = refl; kernel = refl; events = same_pending s.control.events; mutexes = refl; locks = refl; rounds = λ b r h. h; seats = refl; blocked = λ u apart. refl }
+  mild_same t s = record { known = refl; running = refl; kernel = refl; events = same_pending s.control.events; mutexes = refl; locks = refl; rounds = λ b r h. h; seats = same_seats s.control.conditions; blocked = λ u apart. refl }
 
   pub mild_then : (t : ℕ) (s r q : State P S H) → IsMild t s r → IsMild t r q → IsMild t s q
   mild_then t s r q a b = record {
@@ -287,7 +287,7 @@ module _ {P S H : Type 0} where
     mutexes = b.mutexes ∙ a.mutexes;
     locks = b.locks ∙ a.locks;
     rounds = λ c r h. b.rounds c r (a.rounds c r h);
-    seats = b.seats ∙ a.seats;
+    seats = seats_then s.control.conditions r.control.conditions q.control.conditions a.seats b.seats;
     blocked = λ u apart. b.blocked u apart ∙ a.blocked u apart;
   }
 

@@ -49,42 +49,42 @@ holds_both e (x ∷ xs) ys = ap (λ (b : Bool). (x == e) || b) (holds_both e xs 
 -- ---- what a look leaves as it was
 
 module _ {P S H : Type 0} (k : Control P S H) (xs : List ℕ) where
-  abbrev look : Option Event → Option Event
-  look = option_map (looked_at k)
+  abbrev look : ℕ → Option Event → Option Event
+  look e = option_map (looked_at k e)
 
   abbrev seen : Control P S H
   seen = looks_at k xs
 
-  comes_still : (b : Bool) (o : Option Event) → comes seen (if b then look o else o) ≡ comes k o
-  comes_still true None = refl
-  comes_still false None = refl
-  comes_still true (Some x) = refl
-  comes_still false (Some x) = refl
+  comes_still : (b : Bool) (e : ℕ) (o : Option Event) → comes seen e (if b then look e o else o) ≡ comes k e o
+  comes_still true e None = refl
+  comes_still false e None = refl
+  comes_still true e (Some x) = refl
+  comes_still false e (Some x) = refl
 
   come_for_still : (t : ℕ) → comes_for seen t ≡ comes_for k t
   unfolding comes_for each
-  come_for_still t = ap (λ (p : ℕ → Bool). list_any p (awaited_events k t)) (fun_ext (λ e. comes_still (ring_holds e xs) (k.events.events e)))
+  come_for_still t = ap (λ (p : ℕ → Bool). list_any p (awaited_events k t)) (fun_ext (λ e. comes_still (ring_holds e xs) e (k.events.events e)))
 
   canceled_still : (t : ℕ) → may_be_canceled seen t ≡ may_be_canceled k t
   unfolding may_be_canceled
   canceled_still t = refl
 
   -- one look, and then another, are one look
-  look_twice : (a b : Bool) (o : Option Event) → (if b then option_map (looked_at seen) (if a then look o else o) else (if a then look o else o)) ≡ (if a || b then look o else o)
-  look_twice true true None = refl
-  look_twice true false None = refl
-  look_twice false true None = refl
-  look_twice false false None = refl
-  look_twice true true (Some x) = refl
-  look_twice true false (Some x) = refl
-  look_twice false true (Some x) = refl
-  look_twice false false (Some x) = refl
+  look_twice : (a b : Bool) (e : ℕ) (o : Option Event) → (if b then option_map (looked_at seen e) (if a then look e o else o) else (if a then look e o else o)) ≡ (if a || b then look e o else o)
+  look_twice true true e None = refl
+  look_twice true false e None = refl
+  look_twice false true e None = refl
+  look_twice false false e None = refl
+  look_twice true true e (Some x) = refl
+  look_twice true false e (Some x) = refl
+  look_twice false true e (Some x) = refl
+  look_twice false false e (Some x) = refl
 
   looks_then : (ys : List ℕ) → looks_at seen ys ≡ looks_at k (xs ++ ys)
   unfolding each
   looks_then ys =
       ap (λ (f : ℕ → Option Event). record k { events = record k.events { events = f } })
-      (fun_ext (λ e. look_twice (ring_holds e xs) (ring_holds e ys) (k.events.events e) ∙ ap (λ (b : Bool). if b then look (k.events.events e) else k.events.events e) (sym (holds_both e xs ys))))
+      (fun_ext (λ e. look_twice (ring_holds e xs) (ring_holds e ys) e (k.events.events e) ∙ ap (λ (b : Bool). if b then look e (k.events.events e) else k.events.events e) (sym (holds_both e xs ys))))
 
 -- who is to wake does not hang on what was looked at
 module _ {P S H : Type 0} (s : State P S H) (xs : List ℕ) where

@@ -22,7 +22,7 @@ use Rattle.pth_cond.specs.declared.barriers.Arrival.TheVariants.{Waits, Tail}
 use Rattle.pth_lock.specs.Objects.{object_named}
 use Rattle.pth_model.specs.Barriers.{arrived_as}
 use Rattle.pth_numbered.specs.Operands.{number, is_zero}
-use Rattle.pth_ring.specs.Rings.{walk_answer, status_answer, kind_answer}
+use Rattle.pth_ring.specs.Rings.{claimed, walk_answer, status_answer, kind_answer}
 use Rattle.pth_store.specs.Keys.{key_get_answer}
 use Rattle.pth_threads.specs.Attributes.{get_answer}
 use Rattle.pth_model.specs.AttributeHandling.{answer_of, object}
@@ -53,7 +53,7 @@ use Rattle.pth_model.specs.declared.verdict.Verdict.TheVariants.{Says, Yields, B
 use Rattle.pth_model.specs.Verdict.{by_result, refused, says, ◌when◌otherwise◌}
 use Rattle.pth_model.specs.ThreadControl.{is_known, joined, takes_joined, thread}
 use Rattle.pth_world.specs.Whole.{IsSelection, IsWriting, MayAwaitAs, MayBlock}
-use Rattle.pth_waits.proofs.Dormancy.{KeepsRounds, claimed_pending, same_pending}
+use Rattle.pth_waits.proofs.Dormancy.{KeepsRounds, claimed_pending, entered_seats, same_pending, same_seats}
 use Rattle.pth_waits.proofs.Unchanged.{HasNoRoom, waiting_same}
 use Rattle.pth_sched.specs.Mild.{is_mild, waits_mildly, is_waiting}
 use Rattle.pth_sched.proofs.Calming.{IsMild, mild_same, mild_then}
@@ -120,7 +120,7 @@ module _ {P S H : Type 0} (t : ℕ) where
     mutexes = refl;
     locks = refl;
     rounds = λ b r h. h;
-    seats = refl;
+    seats = same_seats s.control.conditions;
     blocked = λ u apart. ap (λ (o : Option (Progress S)). blocked_in o) (put_other s.control.threads.progress t _ u apart);
   }
 
@@ -141,7 +141,7 @@ module _ {P S H : Type 0} (t : ℕ) where
     mutexes = refl;
     locks = refl;
     rounds = λ b r h. h;
-    seats = refl;
+    seats = same_seats s.control.conditions;
     blocked = λ u apart. ap (λ (o : Option (Progress S)). blocked_in o) (put_other s.control.threads.progress t _ u apart);
   }
 
@@ -157,7 +157,7 @@ module _ {P S H : Type 0} (t : ℕ) where
     mutexes = refl;
     locks = refl;
     rounds = λ b r h. h;
-    seats = refl;
+    seats = entered_seats (claimed (number e) (tid t) s.control.kernel.now s.control.events) (s.control.events.rings (number e)) s.control.conditions;
     blocked = λ u apart. refl;
   }
 
@@ -171,7 +171,7 @@ module _ {P S H : Type 0} (t : ℕ) where
 
   -- an attempt takes nothing of a descriptor
   takes_mild : (h : Kernel → Kernel) (s : State P S H) → h s.control.kernel ≡ s.control.kernel → IsMild t s (controlled (with_kernel h) s)
-  takes_mild h s same = record { known = refl; running = refl; kernel = same; events = same_pending s.control.events; mutexes = refl; locks = refl; rounds = λ b r h. h; seats = refl; blocked = λ u apart. refl }
+  takes_mild h s same = record { known = refl; running = refl; kernel = same; events = same_pending s.control.events; mutexes = refl; locks = refl; rounds = λ b r h. h; seats = same_seats s.control.conditions; blocked = λ u apart. refl }
 
   -- ---- calls that begin
 
@@ -220,7 +220,7 @@ module _ {P S H : Type 0} (t : ℕ) where
     reaches_by b (Ok (Waits round)) is waits =
         let r = controlled (with_barriers (barrier_reached b t)) s in
         mild_then t s r (waits_by t (call.BarrierReach b) (Round b round) r).state
-        (record { known = refl; running = refl; kernel = refl; events = same_pending s.control.events; mutexes = refl; locks = refl; rounds = waiting_rounds s.control.barriers b t round is; seats = refl; blocked = λ u apart. refl })
+        (record { known = refl; running = refl; kernel = refl; events = same_pending s.control.events; mutexes = refl; locks = refl; rounds = waiting_rounds s.control.barriers b t round is; seats = same_seats s.control.conditions; blocked = λ u apart. refl })
         (waits_mild (call.BarrierReach b) (Round b round) (λ x. refl) r)
     reaches_by b (Ok Tail) is waits = absurd (cc waits)
     reaches_by b (Err e) is waits = absurd (cc waits)
@@ -252,7 +252,7 @@ module _ {P S H : Type 0} (t : ℕ) where
 
     prefers_mild : (z : Bool) (p : Option ℕ) → IsMild t s (controlled (if z then nothing else prefers p) s)
     prefers_mild true p = mild_same t s
-    prefers_mild false p = record { known = refl; running = refl; kernel = refl; events = same_pending s.control.events; mutexes = refl; locks = refl; rounds = λ b r h. h; seats = refl; blocked = λ u apart. refl }
+    prefers_mild false p = record { known = refl; running = refl; kernel = refl; events = same_pending s.control.events; mutexes = refl; locks = refl; rounds = λ b r h. h; seats = same_seats s.control.conditions; blocked = λ u apart. refl }
 
     yield_mild : (n : ℤ) (b : Bool) → IsMild t s (begun_as f t (call.Yield n) (refused EINVAL when b otherwise Yields (Int (pos 1)) trying changes (if is_zero n then nothing else prefers (Some (number n)))) s).told.state
     unfolding told answer_told
@@ -287,7 +287,7 @@ module _ {P S H : Type 0} (t : ℕ) where
     favours_mild : (n : ℤ) (b : Bool) (m : ℕ) (y : Bool) → IsMild t s (begun_as f t (call.Ctrl (query.Favournew n)) (refused EINVAL when b otherwise says m trying changes (favours_new y)) s).told.state
     unfolding told answer_told
     favours_mild n true m y = mild_same t s
-    favours_mild n false m y = record { known = refl; running = refl; kernel = refl; events = same_pending s.control.events; mutexes = refl; locks = refl; rounds = λ b r h. h; seats = refl; blocked = λ u apart. refl }
+    favours_mild n false m y = record { known = refl; running = refl; kernel = refl; events = same_pending s.control.events; mutexes = refl; locks = refl; rounds = λ b r h. h; seats = same_seats s.control.conditions; blocked = λ u apart. refl }
 
     ctrl_mild : (q : Query) → IsMild t s (begun f t (call.Ctrl q) s).told.state
     unfolding begun row_of answer_told

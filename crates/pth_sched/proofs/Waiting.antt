@@ -81,16 +81,16 @@ all_flat Q h [] all = All-nil Q
 all_flat Q h (x ∷ xs) all = All-append Q (h x) (flat_map h xs) (All-head (λ y. All Q (h y)) x xs all) (all_flat Q h xs (All-tail (λ y. All Q (h y)) x xs all))
 
 -- a table changed at some places, where the change leaves all as it is
-module _ {A : Type 0} (g : A → A) (f : ℕ → A) where
-  by_test : (e x : ℕ) (b : Bool) → (x == e) ≡ b → g (f x) ≡ f x → (c : Bool) → (if c then g (f e) else f e) ≡ f e → (if b || c then g (f e) else f e) ≡ f e
-  by_test e x true is here c rest = subst (λ (n : ℕ). g (f n) ≡ f n) (same_means x e is) here
+module _ {A : Type 0} (g : ℕ → A → A) (f : ℕ → A) where
+  by_test : (e x : ℕ) (b : Bool) → (x == e) ≡ b → g x (f x) ≡ f x → (c : Bool) → (if c then g e (f e) else f e) ≡ f e → (if b || c then g e (f e) else f e) ≡ f e
+  by_test e x true is here c rest = subst (λ (n : ℕ). g n (f n) ≡ f n) (same_means x e is) here
   by_test e x false is here c rest = rest
 
-  same_at : (e : ℕ) (xs : List ℕ) → All (λ x. g (f x) ≡ f x) xs → (if ring_holds e xs then g (f e) else f e) ≡ f e
+  same_at : (e : ℕ) (xs : List ℕ) → All (λ x. g x (f x) ≡ f x) xs → (if ring_holds e xs then g e (f e) else f e) ≡ f e
   same_at e [] all = refl
-  same_at e (x ∷ xs) all = by_test e x (x == e) refl (All-head (λ y. g (f y) ≡ f y) x xs all) (ring_holds e xs) (same_at e xs (All-tail (λ y. g (f y) ≡ f y) x xs all))
+  same_at e (x ∷ xs) all = by_test e x (x == e) refl (All-head (λ y. g y (f y) ≡ f y) x xs all) (ring_holds e xs) (same_at e xs (All-tail (λ y. g y (f y) ≡ f y) x xs all))
 
-  pub each_same : (xs : List ℕ) → All (λ x. g (f x) ≡ f x) xs → each xs g f ≡ f
+  pub each_same : (xs : List ℕ) → All (λ x. g x (f x) ≡ f x) xs → (λ e. each xs (g e) f e) ≡ f
   unfolding each
   each_same xs all = fun_ext (λ e. same_at e xs all)
 
@@ -108,7 +108,7 @@ module _ {P S H : Type 0} (s : State P S H) (until : ℕ) (early : now_of s.cont
   unfolding looks
   none_looked =
       ap (λ (f : ℕ → Option Event). record k { events = record k.events { events = f } })
-      (each_same (option_map (looked_at k)) k.events.events (flat_map (awaited_events k) (waiting k))
-      (all_flat (λ e. option_map (looked_at k) (k.events.events e) ≡ k.events.events e) (awaited_events k) (waiting k)
-      (All-weaker (IsDormant s until) (λ u. All (λ e. option_map (looked_at k) (k.events.events e) ≡ k.events.events e) (awaited_events k u))
-      (λ u q. All-weaker (λ e. StaysPending k until (k.events.events e)) (λ e. option_map (looked_at k) (k.events.events e) ≡ k.events.events e) (λ e h. looked_same s until early (k.events.events e) h) (awaited_events k u) q.pending) (waiting k) all)))
+      (each_same (λ e. option_map (looked_at k e)) k.events.events (flat_map (awaited_events k) (waiting k))
+      (all_flat (λ e. option_map (looked_at k e) (k.events.events e) ≡ k.events.events e) (awaited_events k) (waiting k)
+      (All-weaker (IsDormant s until) (λ u. All (λ e. option_map (looked_at k e) (k.events.events e) ≡ k.events.events e) (awaited_events k u))
+      (λ u q. All-weaker (λ e. StaysPending k until e (k.events.events e)) (λ e. option_map (looked_at k e) (k.events.events e) ≡ k.events.events e) (λ e h. looked_same s until early e (k.events.events e) h) (awaited_events k u) q.pending) (waiting k) all)))

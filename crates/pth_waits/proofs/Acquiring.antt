@@ -1,5 +1,5 @@
 -- Attempts to have a mutex or a lock.
-use Rattle.std.proofs.Common.{◌≡◌, ◌≢◌, ◌∙◌, ◌||◌, ◌&&◌, not, ℕ, ℤ, pos, Bool, true, false, is_none, is_ok, Option, Some, None, Result, Ok, Err, if◌then◌else◌, refl, sym, ap, subst}
+use Rattle.std.proofs.Common.{◌≡◌, ◌≢◌, ◌∙◌, ◌||◌, ◌&&◌, not, ℕ, ℤ, pos, Bool, true, false, is_none, is_ok, Option, Some, None, Result, Ok, Err, IfOk, if◌then◌else◌, refl, sym, ap, subst}
 use Rattle.pth_model.specs.Awaits.{is_await}
 use Rattle.pth_base.specs.declared.answer.Answer.TheVariants.{Int}
 use Rattle.pth_base.specs.declared.call.Call.{Call}
@@ -7,6 +7,7 @@ use Rattle.pth_base.specs.declared.call.Call.TheVariants.{MutexAcquire, RwAcquir
 use Rattle.pth_base.specs.declared.errno.Errno.{Errno}
 use Rattle.pth_base.specs.declared.errno.Errno.TheVariants.{EINVAL, EBUSY, EDEADLK}
 use Rattle.pth_base.specs.declared.mark.Mark.TheVariants.{Answered}
+use Rattle.pth_base.specs.declared.memory.OutOfMemory.{OutOfMemory}
 use Rattle.pth_lock.specs.Mutexes.{Mutex, mutex_take_answer, mutex_taken, owner_of, take_answer}
 use Rattle.pth_lock.specs.Objects.{object_named}
 use Rattle.pth_lock.specs.RwLocks.{holds, lock_take_answer, lock_taken}
@@ -130,6 +131,13 @@ module _ {P S H : Type 0} (t : ℕ) (c : Call) (a : Awaits) (may : MayAwaitAs t 
         ∙ ap (λ (y : Result (Unit {0}) Errno). taken_or y (turned_away s)) (ap take st.store ∙ sym is)
         ∙ comes s st)
         ready
+
+    -- and to what is found as it is turned away, unless memory is wanting
+    pub by_turning : (v : WorldOf P S H) (y : Result Verdict OutOfMemory) (r : Result (Unit {0}) Errno) → ((s : State P S H) → StandsFor w s → is_no_ring s ring ≡ false) → r ≡ take (store_of w.store)
+        → IfOk y (λ x. (s : State P S H) → StandsFor w s → is_no_ring s ring ≡ false → taken_or r (turned_away s) ≡ x) → IfOk y (λ x. (d : Call) (s : State P S H) → is_await d ≡ false → StandsFor w s → IsReady v t d ring x s)
+        → IfOk y (λ x. Attempts false w v t c ring (λ s. acquiring s trying silent) x)
+    by_turning v (Ok x) r some is comes ready = by_taking v x r some is (λ s st. comes s st (some s st)) (λ s st. ready c s other st)
+    by_turning v (Err o) r some is comes ready = tt
 
   module _ (b : Awaits) (free : State P S H → Bool) where
     abbrev pub acquiring_again : State P S H → Verdict

@@ -25,13 +25,13 @@ module _ {P S H : Type 0} (k : Control P S H) (until : ℕ) (soon : until ≤ bo
   still n later early = all_still (now_of k) n later (omega arith) k.kernel.trace (omega arith)
 
   -- an event of descriptors
-  pub fd_pending : (goals : ℕ) (fd : ℤ) → found k (of.Fd goals fd) ≡ Pending → IsFoundPending k until (of.Fd goals fd)
-  fd_pending goals fd is = λ n later early.
+  pub fd_pending : (e goals : ℕ) (fd : ℤ) → found k e (of.Fd goals fd) ≡ Pending → IsFoundPending k until e (of.Fd goals fd)
+  fd_pending e goals fd is = λ n later early.
       let all = still n later early in
       rw (readable_still k.kernel n all (fd_named fd), writeable_still k.kernel n all (fd_named fd), exceptional_still k.kernel n all (fd_named fd)) is
 
-  pub select_pending : (r w y : FdSet) → found k (of.Select r w y) ≡ Pending → IsFoundPending k until (of.Select r w y)
-  select_pending r w y is = λ n later early. rw (any_still k.kernel n (still n later early) r.0 w.0 y.0) is
+  pub select_pending : (e : ℕ) (r w y : FdSet) → found k e (of.Select r w y) ≡ Pending → IsFoundPending k until e (of.Select r w y)
+  select_pending e r w y is = λ n later early. rw (any_still k.kernel n (still n later early) r.0 w.0 y.0) is
 
 -- by the least of the next arrival and the deadline
 module _ (k : Kernel) (a : Awaits) (is : descriptors_bring k a ≡ false) (arrival until : ℕ) (soon : arrival ≤ bound (next_time k)) (within : arrival ≤ last_moment + 1) (least : until ≡ min arrival (deadline_in a)) where
@@ -73,11 +73,11 @@ module _ {P S H : Type 0} (k : Control P S H) (until : ℕ) (z : Kernel) (is : k
   soon_here : until ≤ bound (next_time k.kernel)
   soon_here = subst (λ (y : Kernel). until ≤ bound (next_time y)) (sym is) soon
 
-  pub fd_waits : (goals : ℕ) (fd : ℤ) → is_fd_live z (fd_named fd) ≡ true → ((contains goals 0 && is_readable z (fd_named fd)) || (contains goals 1 && is_writeable z (fd_named fd)) || (contains goals 2 && is_exceptional z (fd_named fd))) ≡ false → IsFoundPending k until (of.Fd goals fd)
-  fd_waits goals fd live none = fd_pending k until soon_here within goals fd (subst (λ (y : Kernel). found (record k { kernel = y }) (of.Fd goals fd) ≡ Pending) (sym is) (found_by _ _ live none))
+  pub fd_waits : (e goals : ℕ) (fd : ℤ) → is_fd_live z (fd_named fd) ≡ true → ((contains goals 0 && is_readable z (fd_named fd)) || (contains goals 1 && is_writeable z (fd_named fd)) || (contains goals 2 && is_exceptional z (fd_named fd))) ≡ false → IsFoundPending k until e (of.Fd goals fd)
+  fd_waits e goals fd live none = fd_pending k until soon_here within e goals fd (subst (λ (y : Kernel). found (record k { kernel = y }) e (of.Fd goals fd) ≡ Pending) (sym is) (found_by _ _ live none))
 
-  pub select_waits : (r w y : FdSet) → are_all_live z r.0 w.0 y.0 ≡ true → is_any_ready z r.0 w.0 y.0 ≡ false → IsFoundPending k until (of.Select r w y)
-  select_waits r w y live none = select_pending k until soon_here within r w y (subst (λ (q : Kernel). found (record k { kernel = q }) (of.Select r w y) ≡ Pending) (sym is) (found_by _ _ live none))
+  pub select_waits : (e : ℕ) (r w y : FdSet) → are_all_live z r.0 w.0 y.0 ≡ true → is_any_ready z r.0 w.0 y.0 ≡ false → IsFoundPending k until e (of.Select r w y)
+  select_waits e r w y live none = select_pending k until soon_here within e r w y (subst (λ (q : Kernel). found (record k { kernel = q }) e (of.Select r w y) ≡ Pending) (sym is) (found_by _ _ live none))
 
 -- ---- and all of it is later than now
 
@@ -122,20 +122,20 @@ deadline_later k (Selection r w x (Some m)) within is =
     (sets_answer k (filter (is_readable k) (members r.0)) (filter (is_writeable k) (members w.0)) (filter (is_exceptional k) (members x.0))) (sets_answer k [] [] []) is)
 deadline_later k a within is = within
 
-pending_says : (live occurs : Bool) → (if not live then Failed else (if occurs then Occurred else Pending)) ≡ Pending → (live ≡ true) × (occurs ≡ false)
+pub pending_says : (live occurs : Bool) → (if not live then Failed else (if occurs then Occurred else Pending)) ≡ Pending → (live ≡ true) × (occurs ≡ false)
 pending_says true true is = absurd (cc is)
 pending_says true false is = (refl, refl)
 pending_says false occurs is = absurd (cc is)
 
 -- what is found pending says that none is gone, and none is as it says
 module _ {P S H : Type 0} (k : Control P S H) (z : Kernel) (is : k.kernel ≡ z) where
-  pub fd_says : (goals : ℕ) (fd : ℤ) → found k (of.Fd goals fd) ≡ Pending
+  pub fd_says : (e goals : ℕ) (fd : ℤ) → found k e (of.Fd goals fd) ≡ Pending
       → (is_fd_live z (fd_named fd) ≡ true) × (((contains goals 0 && is_readable z (fd_named fd)) || (contains goals 1 && is_writeable z (fd_named fd)) || (contains goals 2 && is_exceptional z (fd_named fd))) ≡ false)
-  fd_says goals fd pending = pending_says _ _ (subst (λ (y : Kernel). found (record k { kernel = y }) (of.Fd goals fd) ≡ Pending) is pending)
+  fd_says e goals fd pending = pending_says _ _ (subst (λ (y : Kernel). found (record k { kernel = y }) e (of.Fd goals fd) ≡ Pending) is pending)
 
-  pub select_says : (r w y : FdSet) → found k (of.Select r w y) ≡ Pending → (are_all_live z r.0 w.0 y.0 ≡ true) × (is_any_ready z r.0 w.0 y.0 ≡ false)
-  select_says r w y pending = pending_says _ _ (subst (λ (q : Kernel). found (record k { kernel = q }) (of.Select r w y) ≡ Pending) is pending)
+  pub select_says : (e : ℕ) (r w y : FdSet) → found k e (of.Select r w y) ≡ Pending → (are_all_live z r.0 w.0 y.0 ≡ true) × (is_any_ready z r.0 w.0 y.0 ≡ false)
+  select_says e r w y pending = pending_says _ _ (subst (λ (q : Kernel). found (record k { kernel = q }) e (of.Select r w y) ≡ Pending) is pending)
 
   -- the moment of an event
-  pub time_says : (at : ℕ) → found k (of.Time at) ≡ Pending → z.now < at
-  time_says at pending = not_come z.now at (pending_says true (nat_le at z.now) (subst (λ (q : Kernel). found (record k { kernel = q }) (of.Time at) ≡ Pending) is pending)).1
+  pub time_says : (e at : ℕ) → found k e (of.Time at) ≡ Pending → z.now < at
+  time_says e at pending = not_come z.now at (pending_says true (nat_le at z.now) (subst (λ (q : Kernel). found (record k { kernel = q }) e (of.Time at) ≡ Pending) is pending)).1

@@ -85,7 +85,7 @@ pub progress_frame : {P S H : Type 0} (w : WorldOf P S H) (p : List (Option (Pro
 progress_frame w p r is whole = record { whole = whole; runs = is; made = gives_none no_numbers w (record w { threads = record w.threads { progress = p } }) (λ k. refl); ranks = ranks_same 0 w.threads w.threads _ refl (ranks_none w.threads); preferred = refl }
 
 -- no call blocks the thread any longer
-pub unblocked_frame : {P S H : Type 0} (w v : WorldOf P S H) (r : Option ℕ) → w.scheduler.running ≡ r → Whole v → v.events.made ≡ w.events.made → v ≡ record w { threads = record w.threads { progress = v.threads.progress }; events = v.events } → Frame w v no_numbers r false
+pub unblocked_frame : {P S H : Type 0} (w v : WorldOf P S H) (r : Option ℕ) → w.scheduler.running ≡ r → Whole v → v.events.made ≡ w.events.made → v ≡ record w { threads = record w.threads { progress = v.threads.progress }; events = v.events; conditions = v.conditions } → Frame w v no_numbers r false
 unblocked_frame {P} {S} {H} w v r is whole made same = record {
   whole = whole;
   runs = ap (λ (z : WorldOf P S H). z.scheduler.running) same ∙ is;

@@ -1,5 +1,5 @@
 -- What keeps threads dormant, and what dormant threads leave of a pass.
-use Rattle.std.proofs.Common.{◌≡◌, ◌∙◌, ℕ, ◌+◌, ◌<◌, ◌≤◌, ◌||◌, min, Bool, true, false, if◌then◌else◌, ℤ, List, [], ◌∷◌, Option, Some, None, option_map, All, refl, sym, ap, subst, arith}
+use Rattle.std.proofs.Common.{◌≡◌, ◌∙◌, ℕ, ◌+◌, ◌<◌, ◌≤◌, ◌||◌, min, Bool, true, false, if◌then◌else◌, ℤ, List, [], ◌∷◌, Option, Some, None, is_some, option_map, All, refl, sym, ap, subst, arith}
 use Rattle.std.specs.List.{list_any}
 use Rattle.std.proofs.lemmas.List.Elements.{All-head, All-tail, All-weaker, All-nil}
 use Rattle.pth_ring.specs.declared.event.Event.{Event}
@@ -8,9 +8,18 @@ use Rattle.pth_ring.specs.Ring.{each, ring_holds}
 use Rattle.pth_ring.specs.Rings.{Events, awaited, claimed, ring_awaited, with_claim, with_status}
 use Rattle.pth_base.specs.Limits.{last_moment}
 use Rattle.pth_base.specs.declared.event.EventSpec.{EventSpec}
+use Rattle.pth_base.specs.declared.event.EventSpec.TheVariants as of
 use Rattle.pth_base.specs.declared.ids.Tid.{Tid}
 use Rattle.pth_base.proofs.Tables.{put_by}
 use Rattle.pth_cond.specs.Barriers.{BarrierTable, has_passed}
+use Rattle.pth_cond.specs.Conditions.{Condition, ConditionTable, is_live, is_marked, is_marked_in, seat_entered}
+use Rattle.pth_cond.specs.Seats.{is_at, is_marked_at, notice_at, with_seat}
+use Rattle.pth_cond.specs.declared.seats.Notice.TheVariants.{Unmarked}
+use Rattle.pth_cond.specs.declared.seats.Seat.{Seat}
+use Rattle.pth_cond.specs.declared.seats.Taken.{Taken}
+use Rattle.pth_lock.specs.Objects.{object_named}
+use Rattle.pth_model.specs.Conditions.{seat_of}
+use Rattle.pth_model.specs.EventSeats.{condition_in, event_seat, seat_changed, seats_changed}
 use Rattle.pth_kernel.specs.Kernel.{Kernel, advanced}
 use Rattle.pth_model.specs.declared.blocked.Blocked.{Blocked}
 use Rattle.pth_model.specs.declared.awaits.Awaits.{Awaits}
@@ -30,6 +39,7 @@ use Rattle.pth_model.specs.ThreadEnds.{is_alone}
 use Rattle.pth_world.specs.Shows.{Shows}
 use Rattle.pth_world.specs.World.{WorldOf}
 use Rattle.pth_waits.specs.Dormant.{ArePending, FindsPending, IsDormant, StaysAway, StaysPending, is_left_to_join}
+use Rattle.pth_waits.proofs.Arrivals.{pending_says}
 use Rattle.pth_waits.proofs.Waking.{no_events, ring_events}
 
 -- ---- at a moment before, a dormant thread is not to wake
@@ -40,15 +50,15 @@ module _ {P S H : Type 0} (s : State P S H) (until : ℕ) (early : now_of s.cont
   away_now t AnyDeath alone none away = none away
   away_now t a alone none away = away (now_of s.control) (omega arith) early
 
-  found_now : (o : Option Event) → StaysPending s.control until o → comes s.control o ≡ false
-  found_now None stays = refl
-  found_now (Some v) stays = rw (stays.1 (now_of s.control) (omega arith) early) refl
+  found_now : (e : ℕ) (o : Option Event) → StaysPending s.control until e o → comes s.control e o ≡ false
+  found_now e None stays = refl
+  found_now e (Some v) stays = rw (stays.1 (now_of s.control) (omega arith) early) refl
 
-  none_come : (es : List ℕ) → All (λ e. StaysPending s.control until (s.control.events.events e)) es → list_any (λ e. comes s.control (s.control.events.events e)) es ≡ false
+  none_come : (es : List ℕ) → All (λ e. StaysPending s.control until e (s.control.events.events e)) es → list_any (λ e. comes s.control e (s.control.events.events e)) es ≡ false
   none_come [] all = refl
   none_come (e ∷ es) all =
-      let here = found_now (s.control.events.events e) (All-head (λ i. StaysPending s.control until (s.control.events.events i)) e es all) in
-      rw here (none_come es (All-tail (λ i. StaysPending s.control until (s.control.events.events i)) e es all))
+      let here = found_now e (s.control.events.events e) (All-head (λ i. StaysPending s.control until i (s.control.events.events i)) e es all) in
+      rw here (none_come es (All-tail (λ i. StaysPending s.control until i (s.control.events.events i)) e es all))
 
   none_of : (a b c : Bool) → a ≡ false → b ≡ false → c ≡ false → (a || b || c) ≡ false
   none_of a b c h i j = rw (h, i, j) refl
@@ -59,9 +69,9 @@ module _ {P S H : Type 0} (s : State P S H) (until : ℕ) (early : now_of s.cont
   dormant_stays t alone none q = none_of _ _ _ (away_now t _ alone none q.away) (none_come _ q.pending) q.unasked
 
   -- and a look at its events finds what was found before
-  pub looked_same : (o : Option Event) → StaysPending s.control until o → option_map (looked_at s.control) o ≡ o
-  looked_same None stays = refl
-  looked_same (Some v) stays = rw (stays.1 (now_of s.control) (omega arith) early) (ap (λ st. Some (with_status st v)) (sym stays.0))
+  pub looked_same : (e : ℕ) (o : Option Event) → StaysPending s.control until e o → option_map (looked_at s.control e) o ≡ o
+  looked_same e None stays = refl
+  looked_same e (Some v) stays = rw (stays.1 (now_of s.control) (omega arith) early) (ap (λ st. Some (with_status st v)) (sym stays.0))
 
 -- something that time does not bring is not here, if it stays away until any moment
 pub is_not_here : (here : Bool) (until : ℕ) → until ≡ (if here then 0 else last_moment + 1) → 0 < until → here ≡ false
@@ -130,6 +140,52 @@ claimed_pending x e t now =
 abbrev pub KeepsRounds : BarrierTable → BarrierTable → Type 0
 KeepsRounds x y = (b : ℤ) (round : ℕ) → has_passed x b round ≡ false → has_passed y b round ≡ false
 
+-- the same conditions are initialised, and no seat was notified that had not been
+abbrev pub KeepsSeats : ConditionTable → ConditionTable → Type 0
+KeepsSeats x y = (c : ℤ) → (is_live y c ≡ is_live x c) × ((s : Seat) → is_marked x c s ≡ false → is_marked y c s ≡ false)
+
+pub same_seats : (x : ConditionTable) → KeepsSeats x x
+same_seats x = λ c. (refl, λ s none. none)
+
+pub equal_seats : (x y : ConditionTable) → y ≡ x → KeepsSeats x y
+equal_seats x y is = subst (KeepsSeats x) (sym is) (same_seats x)
+
+pub seats_then : (x y z : ConditionTable) → KeepsSeats x y → KeepsSeats y z → KeepsSeats x z
+seats_then x y z a b = λ c. ((b c).0 ∙ (a c).0, λ s none. (b c).1 s ((a c).1 s none))
+
+-- a seat that is entered has no mark
+none_marked : (s u : Seat) (ts : List Taken) → is_marked_at (notice_at u ts) ≡ false → is_marked_at (notice_at u (with_seat s ts)) ≡ false
+none_marked s u [] none = by_seat (is_at u (record { seat = s; notice = Unmarked }))
+  where
+    by_seat : (b : Bool) → is_marked_at (if b then Some Unmarked else None) ≡ false
+    by_seat true = refl
+    by_seat false = refl
+none_marked s u (t ∷ ts) none = by_seat (is_at u t) (none_marked s u ts) none
+  where
+    by_seat : (b : Bool) → (is_marked_at (notice_at u ts) ≡ false → is_marked_at (notice_at u (with_seat s ts)) ≡ false) → is_marked_at (if b then Some t.notice else notice_at u ts) ≡ false → is_marked_at (if b then Some t.notice else notice_at u (with_seat s ts)) ≡ false
+    by_seat true rest h = h
+    by_seat false rest h = rest h
+
+entered_seat : (d : ℤ) (s : Seat) (x : ConditionTable) → KeepsSeats x (seat_entered d s x)
+entered_seat d s x c = put_by (Keeps (x (object_named c))) x (object_named d) (option_map (with_seat s) (x (object_named d))) (object_named c) (λ here. subst (λ n. Keeps (x n) (option_map (with_seat s) (x (object_named d)))) (sym here) (by_condition (x (object_named d)))) (λ apart. (refl, λ u none. none))
+  where
+    Keeps : Condition → Condition → Type 0
+    Keeps y z = (is_some z ≡ is_some y) × ((u : Seat) → is_marked_in u y ≡ false → is_marked_in u z ≡ false)
+
+    by_condition : (y : Condition) → Keeps y (option_map (with_seat s) y)
+    by_condition None = (refl, λ u none. none)
+    by_condition (Some ts) = (refl, λ u none. none_marked s u ts none)
+
+pub entered_seats : (x : Events) (es : List ℕ) (y : ConditionTable) → KeepsSeats y (seats_changed seat_entered x es y)
+entered_seats x [] y = same_seats y
+entered_seats x (e ∷ es) y =
+    let z = seat_changed seat_entered e (condition_in (x.events e)) y in
+    seats_then y z (seats_changed seat_entered x es z) (by_event (condition_in (x.events e))) (entered_seats x es z)
+  where
+    by_event : (o : Option ℤ) → KeepsSeats y (seat_changed seat_entered e o y)
+    by_event None = same_seats y
+    by_event (Some c) = entered_seat c (event_seat e) y
+
 -- ---- what keeps a thread dormant
 
 module _ {P S H : Type 0} where
@@ -143,7 +199,7 @@ module _ {P S H : Type 0} where
     pub mutexes : r.resources.store.mutexes ≡ s.resources.store.mutexes
     pub locks : r.resources.store.rw_locks ≡ s.resources.store.rw_locks
     pub rounds : KeepsRounds s.control.barriers r.control.barriers
-    pub seats : r.control.conditions ≡ s.control.conditions
+    pub seats : KeepsSeats s.control.conditions r.control.conditions
     pub blocked : blocked_of r.control t ≡ blocked_of s.control t
     pub died : (n : ℤ) → has_died s.control n ≡ false → has_died r.control n ≡ false
     pub left : ((u : ℕ) → is_left_to_join (entry_of s.control u) ≡ false) → (u : ℕ) → is_left_to_join (entry_of r.control u) ≡ false
@@ -170,23 +226,28 @@ module _ {P S H : Type 0} where
     away_kept (Mutex m) away = λ n h l. rw same.mutexes (away n (onward n h) l)
     away_kept (Lock o write) away = λ n h l. rw same.locks (away n (onward n h) l)
     away_kept (Round b round) away = λ n h l. same.rounds b round (away n (onward n h) l)
-    away_kept (Notice c) away = λ n h l. rw same.seats (away n (onward n h) l)
+    away_kept (Notice c) away = λ n h l. (same.seats c).1 (seat_of t) (away n (onward n h) l)
     away_kept (Retaking m o) away = λ n h l. rw same.mutexes (away n (onward n h) l)
     away_kept a away = λ n h l. at_moved a n (away n (onward n h) l)
 
-    found_moved : (n : ℕ) (z : EventSpec) → found (moves_to n s.control) z ≡ Pending → found (moves_to n r.control) z ≡ Pending
-    found_moved n z is = subst (λ (q : Kernel). found (record r.control { kernel = q }) z ≡ Pending) (sym (moved_kernel n)) is
+    -- an event of a condition, by whether this is initialised, and the event's seat there was notified
+    cond_pending : (e : ℕ) (c : ℤ) → found s.control e (of.Cond c) ≡ Pending → found r.control e (of.Cond c) ≡ Pending
+    cond_pending e c is = (let h = pending_says (is_live s.control.conditions c) (is_marked s.control.conditions c (event_seat e)) is in rw ((same.seats c).0, h.0, (same.seats c).1 (event_seat e) h.1) refl)
 
-    pending_kept : (o p : Option Event) → StillPending o p → StaysPending s.control until o → StaysPending r.control until p
-    pending_kept None p still stays = subst (λ (q : Option Event). StaysPending r.control until q) (sym still) tt
-    pending_kept (Some v) None still stays = absurd still
-    pending_kept (Some v) (Some u) still stays =
-        (still.1 stays.0, λ n h l. found_moved n u.spec (subst (λ (z : EventSpec). found (moves_to n s.control) z ≡ Pending) (sym still.0) (stays.1 n (onward n h) l)))
+    found_moved : (n e : ℕ) (z : EventSpec) → found (moves_to n s.control) e z ≡ Pending → found (moves_to n r.control) e z ≡ Pending
+    found_moved n e (of.Cond c) is = cond_pending e c is
+    found_moved n e z is = subst (λ (q : Kernel). found (record r.control { kernel = q }) e z ≡ Pending) (sym (moved_kernel n)) is
+
+    pending_kept : (e : ℕ) (o p : Option Event) → StillPending o p → StaysPending s.control until e o → StaysPending r.control until e p
+    pending_kept e None p still stays = subst (λ (q : Option Event). StaysPending r.control until e q) (sym still) tt
+    pending_kept e (Some v) None still stays = absurd still
+    pending_kept e (Some v) (Some u) still stays =
+        (still.1 stays.0, λ n h l. found_moved n e u.spec (subst (λ (z : EventSpec). found (moves_to n s.control) e z ≡ Pending) (sym still.0) (stays.1 n (onward n h) l)))
 
     all_pending : (es : List ℕ) → ArePending s.control until es → ArePending r.control until es
     all_pending es all =
-        All-weaker (λ e. StaysPending s.control until (s.control.events.events e)) (λ e. StaysPending r.control until (r.control.events.events e))
-        (λ e h. pending_kept (s.control.events.events e) (r.control.events.events e) (same.events.pending e) h) es all
+        All-weaker (λ e. StaysPending s.control until e (s.control.events.events e)) (λ e. StaysPending r.control until e (r.control.events.events e))
+        (λ e h. pending_kept e (s.control.events.events e) (r.control.events.events e) (same.events.pending e) h) es all
 
     same_from : (o : Option ℤ) → events_from r.control.events o ≡ events_from s.control.events o
     same_from None = refl
@@ -202,13 +263,13 @@ module _ {P S H : Type 0} where
 
   -- and until an earlier moment
   module _ (k : Control P S H) (until sooner : ℕ) (less : sooner ≤ until) where
-    pub sooner_pending : (o : Option Event) → StaysPending k until o → StaysPending k sooner o
-    sooner_pending None s = tt
-    sooner_pending (Some v) s = (s.0, λ n h l. s.1 n h (omega arith))
+    pub sooner_pending : (e : ℕ) (o : Option Event) → StaysPending k until e o → StaysPending k sooner e o
+    sooner_pending e None s = tt
+    sooner_pending e (Some v) s = (s.0, λ n h l. s.1 n h (omega arith))
 
-    pub sooner_found : (o : Option Event) → FindsPending k until o → FindsPending k sooner o
-    sooner_found None s = tt
-    sooner_found (Some v) s = λ n h l. s n h (omega arith)
+    pub sooner_found : (e : ℕ) (o : Option Event) → FindsPending k until e o → FindsPending k sooner e o
+    sooner_found e None s = tt
+    sooner_found e (Some v) s = λ n h l. s n h (omega arith)
 
   module _ (s : State P S H) (t until sooner : ℕ) (less : sooner ≤ until) where
     sooner_away : (a : Awaits) → StaysAway s until t a → StaysAway s sooner t a
@@ -221,8 +282,8 @@ module _ {P S H : Type 0} where
     pub dormant_sooner : IsDormant s until t → IsDormant s sooner t
     dormant_sooner q = record {
       away = sooner_away (awaits_in (blocked_of s.control t)) q.away;
-      pending = All-weaker (λ e. StaysPending s.control until (s.control.events.events e)) (λ e. StaysPending s.control sooner (s.control.events.events e))
-          (λ e h. sooner_pending s.control until sooner less (s.control.events.events e) h) (awaited_events s.control t) q.pending;
+      pending = All-weaker (λ e. StaysPending s.control until e (s.control.events.events e)) (λ e. StaysPending s.control sooner e (s.control.events.events e))
+          (λ e h. sooner_pending s.control until sooner less e (s.control.events.events e) h) (awaited_events s.control t) q.pending;
       unasked = q.unasked;
     }
 
@@ -234,7 +295,7 @@ module _ {P S H : Type 0} where
       pub dormant_bare : a.ring ≡ None → IsDormant s until t
       dormant_bare none = record {
         away = subst (λ (b : Awaited). StaysAway s until t b.what) is away;
-        pending = subst (ArePending s.control until) (sym (no_events s.control t a is none)) (All-nil (λ e. StaysPending s.control until (s.control.events.events e)));
+        pending = subst (ArePending s.control until) (sym (no_events s.control t a is none)) (All-nil (λ e. StaysPending s.control until e (s.control.events.events e)));
         unasked = unasked;
       }
 
@@ -243,8 +304,8 @@ module _ {P S H : Type 0} where
       dormant_beside own e some pending = record {
         away = sooner_away s t until (min until own) (omega arith) (awaits_in (blocked_of s.control t)) (subst (λ (b : Awaited). StaysAway s until t b.what) is away);
         pending = subst (ArePending s.control (min until own)) (sym (ring_events s.control t a is e some))
-            (All-weaker (λ i. StaysPending s.control own (s.control.events.events i)) (λ i. StaysPending s.control (min until own) (s.control.events.events i))
-            (λ i h. sooner_pending s.control own (min until own) (omega arith) (s.control.events.events i) h) (s.control.events.rings (number e)) pending);
+            (All-weaker (λ i. StaysPending s.control own i (s.control.events.events i)) (λ i. StaysPending s.control (min until own) i (s.control.events.events i))
+            (λ i h. sooner_pending s.control own (min until own) (omega arith) i (s.control.events.events i) h) (s.control.events.rings (number e)) pending);
         unasked = unasked;
       }
 

@@ -1,5 +1,5 @@
 -- Calls on descriptors: their rows, and what attempts at them come to.
-use Rattle.std.proofs.Common.{◌≡◌, ◌∙◌, ◌≤◌, ◌<◌, ◌^◌, ◌+◌, ◌-◌, ◌&&◌, min, not, ℕ, nat_lt, ℤ, pos, Bool, true, false, Option, Some, None, IsSome, [], if◌then◌else◌, refl, sym, ap, subst, arith}
+use Rattle.std.proofs.Common.{◌≡◌, ◌∙◌, ◌≤◌, ◌<◌, ◌^◌, ◌+◌, ◌-◌, ◌&&◌, min, not, ℕ, nat_lt, ℤ, pos, Bool, true, false, Option, Some, None, IsSome, Result, Ok, Err, IfOk, [], if◌then◌else◌, refl, sym, ap, subst, arith}
 use Rattle.std.proofs.lemmas.Bool.Decides.{nat_tests}
 use Rattle.pth_base.specs.Program.{Functions}
 use Rattle.pth_base.specs.declared.answer.Answer.{Answer}
@@ -9,6 +9,7 @@ use Rattle.pth_base.specs.declared.call.Call.TheVariants as call
 use Rattle.pth_base.specs.declared.errno.Errno.{Errno}
 use Rattle.pth_base.specs.declared.errno.Errno.TheVariants.{EINVAL, EAGAIN, EBUSY}
 use Rattle.pth_base.specs.declared.mark.Mark.TheVariants.{Answered}
+use Rattle.pth_base.specs.declared.memory.OutOfMemory.{OutOfMemory}
 use Rattle.pth_io.specs.Attempts.{accept_answer, connect_answer, read_answer, select_answer, write_answer, written}
 use Rattle.pth_kernel.specs.Entries.{is_failure}
 use Rattle.pth_kernel.specs.Kernel.{Kernel, KernelOf, came, fd_named, is_fd_live, kernel_of, room}
@@ -312,11 +313,12 @@ module _ {P S H : Type 0} (f : P → Functions S H) (w : WorldOf P S H) (whole :
     io_counted = may_counted t c x (comes_to some)
 
     -- the code found what it comes to: at_once tells whether the descriptor doesn't block, and e is the ring that was given
-    pub io_begins : (v : WorldOf P S H) (z : Verdict) (at_once : Bool) (e : Option ℤ) → at_once ≡ is_at_once (kernel_of w.kernel) c → e ≡ ring_given c
-        → ((s : State P S H) → StandsFor world_then s → is_no_ring s e ≡ false → begins_waiting s at_once e x ≡ z)
-        → ((d : Call) (before s : State P S H) → IsSome (first_awaited before d) → StandsFor world_then s → IsReady v t d e z s)
-        → ((d : Call) → MayComeTo t d x → MayComeTo t d z) → Attempts false w v t c (ring_given c) begins z
-    io_begins v z at_once e once given waits ready may_then = record {
+    pub io_begins : (v : WorldOf P S H) (r : Result Verdict OutOfMemory) (at_once : Bool) (e : Option ℤ) → at_once ≡ is_at_once (kernel_of w.kernel) c → e ≡ ring_given c
+        → IfOk r (λ z. (s : State P S H) → StandsFor world_then s → is_no_ring s e ≡ false → begins_waiting s at_once e x ≡ z)
+        → IfOk r (λ z. (d : Call) (before s : State P S H) → IsSome (first_awaited before d) → StandsFor world_then s → IsReady v t d e z s)
+        → IfOk r (λ z. (d : Call) → MayComeTo t d x → MayComeTo t d z) → IfOk r (λ z. Attempts false w v t c (ring_given c) begins z)
+    io_begins v (Err o) at_once e once given waits ready may_then = tt
+    io_begins v (Ok z) at_once e once given waits ready may_then = record {
       verdict = λ s st.
           ap (λ (b : Attempt P S H). b.verdict) (begin_tries f s t c a (first s st) (ring s st) (length s st))
           ∙ rw (verdict_now s st, ← given, st.control.kernel, ← once) (waits (turned s a).state (stands_then s st) (rw given (ring s st)));

@@ -41,44 +41,48 @@ any_more p [] n = or_none (p n)
 any_more p (x ∷ xs) n = ap (λ (b : Bool). p x || b) (any_more p xs n) ∙ or_more (p x) (list_any p xs) (p n)
 
 module _ {P S H : Type 0} (k : Control P S H) where
-  abbrev look : Option Event → Option Event
-  look = option_map (looked_at k)
+  abbrev look : ℕ → Option Event → Option Event
+  look n = option_map (looked_at k n)
+
+  -- the events once these were looked at
+  abbrev after_look : List ℕ → (ℕ → Option Event) → ℕ → Option Event
+  after_look done f n = each done (look n) f n
 
   -- what was found of an event stands there, whether it was looked at before or not
-  mark_is : (b : Bool) (o : Option Event) (spec : EventSpec) → option_map (λ (v : Event). v.spec) (if b then look o else o) ≡ Some spec → option_map (with_status (found k spec)) (if b then look o else o) ≡ look o
-  mark_is true None spec is = absurd (cc is)
-  mark_is false None spec is = absurd (cc is)
-  mark_is true (Some v) spec is = let e : spec ≡ v.spec = cc is in ap (λ (s : EventSpec). Some (with_status (found k s) v)) e
-  mark_is false (Some v) spec is = let e : spec ≡ v.spec = cc is in ap (λ (s : EventSpec). Some (with_status (found k s) v)) e
+  mark_is : (b : Bool) (n : ℕ) (o : Option Event) (spec : EventSpec) → option_map (λ (v : Event). v.spec) (if b then look n o else o) ≡ Some spec → option_map (with_status (found k n spec)) (if b then look n o else o) ≡ look n o
+  mark_is true n None spec is = absurd (cc is)
+  mark_is false n None spec is = absurd (cc is)
+  mark_is true n (Some v) spec is = let e : spec ≡ v.spec = cc is in ap (λ (s : EventSpec). Some (with_status (found k n s) v)) e
+  mark_is false n (Some v) spec is = let e : spec ≡ v.spec = cc is in ap (λ (s : EventSpec). Some (with_status (found k n s) v)) e
 
-  pub come_is : (b : Bool) (o : Option Event) (spec : EventSpec) → option_map (λ (v : Event). v.spec) (if b then look o else o) ≡ Some spec → comes k o ≡ not (is_pending (found k spec))
-  come_is true None spec is = absurd (cc is)
-  come_is false None spec is = absurd (cc is)
-  come_is true (Some v) spec is = let e : v.spec ≡ spec = cc is in ap (λ (s : EventSpec). not (is_pending (found k s))) e
-  come_is false (Some v) spec is = let e : v.spec ≡ spec = cc is in ap (λ (s : EventSpec). not (is_pending (found k s))) e
+  pub come_is : (b : Bool) (n : ℕ) (o : Option Event) (spec : EventSpec) → option_map (λ (v : Event). v.spec) (if b then look n o else o) ≡ Some spec → comes k n o ≡ not (is_pending (found k n spec))
+  come_is true n None spec is = absurd (cc is)
+  come_is false n None spec is = absurd (cc is)
+  come_is true n (Some v) spec is = let e : v.spec ≡ spec = cc is in ap (λ (s : EventSpec). not (is_pending (found k n s))) e
+  come_is false n (Some v) spec is = let e : v.spec ≡ spec = cc is in ap (λ (s : EventSpec). not (is_pending (found k n s))) e
 
-  module _ (f : ℕ → Option Event) (done : List ℕ) (n : ℕ) (spec : EventSpec) (is : option_map (λ (v : Event). v.spec) (each done look f n) ≡ Some spec) where
+  module _ (f : ℕ → Option Event) (done : List ℕ) (n : ℕ) (spec : EventSpec) (is : option_map (λ (v : Event). v.spec) (after_look done f n) ≡ Some spec) where
     abbrev marked : ℕ → Option Event
-    marked = put (each done look f) n (option_map (with_status (found k spec)) (each done look f n))
+    marked = put (after_look done f) n (option_map (with_status (found k n spec)) (after_look done f n))
 
-    here : each (done ++ n ∷ []) look f n ≡ option_map (with_status (found k spec)) (each done look f n)
+    here : after_look (done ++ n ∷ []) f n ≡ option_map (with_status (found k n spec)) (after_look done f n)
     unfolding each
     here =
-        ap (λ (b : Bool). if b then look (f n) else f n) (any_more (λ x. x == n) done n ∙ ap (λ (b : Bool). ring_holds n done || b) (same_self n) ∙ or_true (ring_holds n done))
-        ∙ sym (mark_is (ring_holds n done) (f n) spec is)
+        ap (λ (b : Bool). if b then look n (f n) else f n) (any_more (λ x. x == n) done n ∙ ap (λ (b : Bool). ring_holds n done || b) (same_self n) ∙ or_true (ring_holds n done))
+        ∙ sym (mark_is (ring_holds n done) n (f n) spec is)
       where
         or_true : (b : Bool) → (b || true) ≡ true
         or_true true = refl
         or_true false = refl
 
-    elsewhere : (y : ℕ) → y ≢ n → each (done ++ n ∷ []) look f y ≡ each done look f y
+    elsewhere : (y : ℕ) → y ≢ n → after_look (done ++ n ∷ []) f y ≡ after_look done f y
     unfolding each
-    elsewhere y apart = ap (λ (b : Bool). if b then look (f y) else f y) (any_more (λ x. x == y) done n ∙ ap (λ (b : Bool). ring_holds y done || b) (not_same n y (λ h. apart (sym h))) ∙ or_none (ring_holds y done))
+    elsewhere y apart = ap (λ (b : Bool). if b then look y (f y) else f y) (any_more (λ x. x == y) done n ∙ ap (λ (b : Bool). ring_holds y done || b) (not_same n y (λ h. apart (sym h))) ∙ or_none (ring_holds y done))
 
-    pub one_more : each (done ++ n ∷ []) look f ≡ marked
-    one_more = put_is (each done look f) (each (done ++ n ∷ []) look f) n (option_map (with_status (found k spec)) (each done look f n)) here elsewhere
+    pub one_more : after_look (done ++ n ∷ []) f ≡ marked
+    one_more = put_is (after_look done f) (after_look (done ++ n ∷ []) f) n (option_map (with_status (found k n spec)) (after_look done f n)) here elsewhere
 
-  none_looked : (f : ℕ → Option Event) → f ≡ each [] look f
+  none_looked : (f : ℕ → Option Event) → f ≡ after_look [] f
   unfolding each
   none_looked f = fun_ext (λ y. refl)
 
@@ -90,7 +94,7 @@ pub record LookedSoFar {P S H : Type 0} (old now : WorldOf P S H) (e n : ℕ) (c
   pub ring : (events_of old.events).rings e ≡ done ++ from n ((events_of old.events).rings e)
   pub within : StandsIn n ((events_of old.events).rings e)
   pub shows : (k : Control P S H) → Shows old k → Shows now (looks_at k done)
-  pub comes : (k : Control P S H) → Shows old k → come ≡ list_any (λ y. comes k (k.events.events y)) done
+  pub comes : (k : Control P S H) → Shows old k → come ≡ list_any (λ y. comes k y (k.events.events y)) done
   pub rings : (events_of now.events).rings ≡ (events_of old.events).rings
   pub numbers : number_at now.events ≡ number_at old.events
   pub made : now.events.made ≡ old.events.made
@@ -147,7 +151,7 @@ module _ {P S H : Type 0} (old : WorldOf P S H) (e : ℕ) where
     rest : from n ring ≡ n ∷ (if m == e then [] else from m ring)
     rest = subst (λ (f : ℕ → List ℕ). from n (f e) ≡ n ∷ (if m == e then [] else from m (f e))) same_rings goes.rest
 
-    spec_is : (k : Control P S H) → (sh : Shows old k) → option_map (λ (v : Event). v.spec) (each so_far.done (look k) k.events.events n) ≡ Some (looked (looks_at k so_far.done) (so_far.shows k sh)).spec
+    spec_is : (k : Control P S H) → (sh : Shows old k) → option_map (λ (v : Event). v.spec) (after_look k so_far.done k.events.events n) ≡ Some (looked (looks_at k so_far.done) (so_far.shows k sh)).spec
     spec_is k sh = ap (λ (y : Events). option_map (λ (v : Event). v.spec) (y.events n)) (so_far.shows k sh).events ∙ (looked (looks_at k so_far.done) (so_far.shows k sh)).is
 
     looked_shows : (k : Control P S H) → Shows old k → Shows (record now { events = x }) (looks_at k (so_far.done ++ n ∷ []))
@@ -156,20 +160,20 @@ module _ {P S H : Type 0} (old : WorldOf P S H) (e : ℕ) where
         let before = so_far.shows k sh in
         events_show now x (looks_at k so_far.done) _ before (
         ap (λ (f : ℕ → Option Event). record k.events { events = f }) (one_more k k.events.events so_far.done n one.spec (spec_is k sh))
-        ∙ ap (with_event (with_status (found k one.spec)) n) before.events
+        ∙ ap (with_event (with_status (found k n one.spec)) n) before.events
         ∙ sym one.marks)
 
-    holds_at : (k : Control P S H) → Shows old k → comes k (k.events.events n) ≡ found_come
+    holds_at : (k : Control P S H) → Shows old k → comes k n (k.events.events n) ≡ found_come
     unfolding each
     holds_at k sh =
         let one = looked (looks_at k so_far.done) (so_far.shows k sh) in
-        come_is k (ring_holds n so_far.done) (k.events.events n) one.spec (spec_is k sh) ∙ sym one.comes
+        come_is k (ring_holds n so_far.done) n (k.events.events n) one.spec (spec_is k sh) ∙ sym one.comes
 
-    looked_comes : (k : Control P S H) → Shows old k → (found_come || come) ≡ list_any (λ y. comes k (k.events.events y)) (so_far.done ++ n ∷ [])
+    looked_comes : (k : Control P S H) → Shows old k → (found_come || come) ≡ list_any (λ y. comes k y (k.events.events y)) (so_far.done ++ n ∷ [])
     looked_comes k sh =
         or_turned found_come come
         ∙ ap₂ (λ (a b : Bool). a || b) (so_far.comes k sh) (sym (holds_at k sh))
-        ∙ sym (any_more (λ y. comes k (k.events.events y)) so_far.done n)
+        ∙ sym (any_more (λ y. comes k y (k.events.events y)) so_far.done n)
 
     -- it was the last
     looked_all : m ≡ e → so_far.done ++ n ∷ [] ≡ ring
@@ -181,8 +185,8 @@ module _ {P S H : Type 0} (old : WorldOf P S H) (e : ℕ) where
     pub all_shows : m ≡ e → (k : Control P S H) → Shows old k → Shows (record now { events = x }) (looks_at k (k.events.rings e))
     all_shows last k sh = subst (λ (l : List ℕ). Shows (record now { events = x }) (looks_at k l)) (ring_of_control k sh last) (looked_shows k sh)
 
-    pub all_comes : m ≡ e → (k : Control P S H) → Shows old k → (found_come || come) ≡ list_any (λ y. comes k (k.events.events y)) (k.events.rings e)
-    all_comes last k sh = looked_comes k sh ∙ ap (list_any (λ y. comes k (k.events.events y))) (ring_of_control k sh last)
+    pub all_comes : m ≡ e → (k : Control P S H) → Shows old k → (found_come || come) ≡ list_any (λ y. comes k y (k.events.events y)) (k.events.rings e)
+    all_comes last k sh = looked_comes k sh ∙ ap (list_any (λ y. comes k y (k.events.events y))) (ring_of_control k sh last)
 
     -- another one comes next
     pub looked_next : m ≢ e → LookedSoFar old (record now { events = x }) e m (found_come || come)

@@ -1,5 +1,5 @@
 -- Waits at conditions: how they begin, and how they go on.
-use Rattle.std.proofs.Common.{◌≡◌, ◌∙◌, ◌||◌, not, ℕ, ℤ, Bool, true, false, Option, Some, None, List, [], ◌∷◌, ◌++◌, Result, Ok, Err, IfOk, OnOk, OnErr, is_ok, if◌then◌else◌, refl, sym, subst, ap, append_assoc}
+use Rattle.std.proofs.Common.{◌≡◌, ◌∙◌, ◌||◌, not, ℕ, ℤ, Bool, true, false, Some, List, [], ◌∷◌, ◌++◌, Result, Ok, Err, IfOk, OnOk, OnErr, is_ok, if◌then◌else◌, refl, sym, subst, ap, append_assoc}
 use Rattle.pth_base.proofs.Cuts.{cut_none, cut_then}
 use Rattle.pth_base.specs.Program.{Functions}
 use Rattle.pth_base.specs.declared.answer.Answer.{Answer}
@@ -9,7 +9,7 @@ use Rattle.pth_base.specs.declared.errno.Errno.TheVariants.{EBUSY, EINVAL}
 use Rattle.pth_base.specs.declared.mark.Mark.{Mark}
 use Rattle.pth_base.specs.declared.mark.Mark.TheVariants.{Answered, Retakes, Took, Waits}
 use Rattle.pth_base.specs.declared.memory.OutOfMemory.{OutOfMemory}
-use Rattle.pth_cond.specs.Conditions.{ConditionTable, is_live, seat_entered}
+use Rattle.pth_cond.specs.Conditions.{is_live, seat_entered}
 use Rattle.pth_lock.specs.Mutexes.{mutex_release_answer, mutex_released, mutex_take_answer, mutex_taken}
 use Rattle.pth_lock.specs.Objects.{object_named}
 use Rattle.pth_model.specs.declared.awaits.Awaits.{Awaits}
@@ -45,14 +45,6 @@ pub begin_by : {P S H : Type 0} (s : State P S H) (t : ℕ) (c m e : ℤ) (dead 
     → begins_await s t c m e ≡ (refused EINVAL when dead || none otherwise by_result (λ released. refused EBUSY when claimed otherwise Blocks (Notice c)) r)
 begin_by s t c m e dead none claimed r p q u v = rw (p, q, u, v) refl
 
-pub claimed_refused : (b : Bool) (o : Errno) (r : Result (Unit {0}) Errno) → r ≡ (if b then Err EBUSY else Ok tt) → r ≡ Err o → (b ≡ true) × (o ≡ EBUSY)
-claimed_refused true o r is err = (refl, cc (is, err))
-claimed_refused false o r is err = absurd (cc (is, err))
-
-pub unclaimed : (b : Bool) (r : Result (Unit {0}) Errno) → r ≡ (if b then Err EBUSY else Ok tt) → r ≡ Ok tt → b ≡ false
-unclaimed true r is ok = absurd (cc (is, ok))
-unclaimed false r is ok = refl
-
 module _ {P S H : Type 0} (w : WorldOf P S H) (t : ℕ) (c m e : ℤ) where
   -- it is refused
   pub await_refused : (o : Errno) → ((s : State P S H) → StandsFor w s → begins_await s t c m e ≡ refused o) → Begins w w t (CondAwait c m e) (λ s. cond_await s t c m e) (refused o)
@@ -64,24 +56,18 @@ module _ {P S H : Type 0} (w : WorldOf P S H) (t : ℕ) (c m e : ℤ) where
     may = tt;
   }
 
-  -- a change of conditions and a claim are one change, whichever comes first
-  claim_seated : (g : ConditionTable → ConditionTable) (k : Control P S H) (o : Option ℤ) → claims t o (with_conditions g k) ≡ with_conditions g (claims t o k)
-  unfolding claims
-  claim_seated g k None = refl
-  claim_seated g k (Some x) = refl
-
-  -- it waits
+  -- it waits: it takes its seat, and then its ring is claimed
   pub await_waits : (u v : WorldOf P S H) → ((s : State P S H) → StandsFor w s → begins_await s t c m e ≡ Blocks (Notice c))
-      → ((k : Control P S H) → Shows w k → Shows u (claims t (extra_ring e) k)) → ((k : Control P S H) → Shows u k → Shows v (with_conditions (seat_entered c (seat_of t)) k))
-      → u.store ≡ w.store → store_of v.store ≡ with_mutexes (mutex_released t (object_named m)) (store_of u.store) → Begins w v t (CondAwait c m e) (λ s. cond_await s t c m e) (Blocks (Notice c))
+      → ((k : Control P S H) → Shows w k → Shows u (with_conditions (seat_entered c (seat_of t)) k)) → ((k : Control P S H) → Shows u k → Shows v (claims t (extra_ring e) k))
+      → store_of u.store ≡ with_mutexes (mutex_released t (object_named m)) (store_of w.store) → v.store ≡ u.store → Begins w v t (CondAwait c m e) (λ s. cond_await s t c m e) (Blocks (Notice c))
   unfolding told
-  await_waits u v is claimed seated same has = record {
+  await_waits u v is seated claimed has same = record {
     verdict = is;
     silent = λ s st. rw (is s st) refl;
-    ready = λ s st. rw (is s st.0, claim_seated (seat_entered c (seat_of t)) s.control (extra_ring e)) (record {
-      control = seated _ (claimed s.control st.0.control);
+    ready = λ s st. rw (is s st.0) (record {
+      control = claimed _ (seated s.control st.0.control);
       store = ap (λ (b : Bool). (if b then s.resources else let_go s.resources t (object_named m)).store) st.1
-          ∙ ap (with_mutexes (mutex_released t (object_named m))) (st.0.store ∙ sym (ap (λ y. store_of y) same)) ∙ sym has;
+          ∙ ap (with_mutexes (mutex_released t (object_named m))) st.0.store ∙ sym (ap (λ y. store_of y) same ∙ has);
     });
     may = refl;
   }

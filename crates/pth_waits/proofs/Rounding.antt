@@ -20,9 +20,9 @@ use Rattle.pth_waits.proofs.Dormancy.{sooner_found}
 
 module _ {P S H : Type 0} (k : Control P S H) (until : ℕ) where
   -- by what is kept of an event
-  pub finds_by : (o : Option Event) (spec : EventSpec) → option_map (λ (v : Event). v.spec) o ≡ Some spec → IsFoundPending k until spec → FindsPending k until o
-  finds_by None spec is found = absurd (cc is)
-  finds_by (Some v) spec is found = (let e : spec ≡ v.spec = cc is in subst (IsFoundPending k until) e found)
+  pub finds_by : (n : ℕ) (o : Option Event) (spec : EventSpec) → option_map (λ (v : Event). v.spec) o ≡ Some spec → IsFoundPending k until n spec → FindsPending k until n o
+  finds_by n None spec is found = absurd (cc is)
+  finds_by n (Some v) spec is found = (let e : spec ≡ v.spec = cc is in subst (IsFoundPending k until n) e found)
 
   -- ---- none of them is settled
 
@@ -31,9 +31,9 @@ module _ {P S H : Type 0} (k : Control P S H) (until : ℕ) where
   pending_is Occurred h = absurd (cc h)
   pending_is Failed h = absurd (cc h)
 
-  stays_by : (o : Option Event) → is_settled o ≡ false → FindsPending k until o → StaysPending k until o
-  stays_by None pending finds = tt
-  stays_by (Some v) pending finds = (pending_is v.status pending, finds)
+  stays_by : (n : ℕ) (o : Option Event) → is_settled o ≡ false → FindsPending k until n o → StaysPending k until n o
+  stays_by n None pending finds = tt
+  stays_by n (Some v) pending finds = (pending_is v.status pending, finds)
 
   abbrev counts : ℕ → ℕ → ℕ
   counts n e = n + cond (is_settled (k.events.events e)) 1 0
@@ -50,11 +50,11 @@ module _ {P S H : Type 0} (k : Control P S H) (until : ℕ) where
       (one.0, All-cons (λ i. is_settled (k.events.events i) ≡ false) e es one.1 rest.1)
 
   all_stay : (es : List ℕ) → All (λ e. is_settled (k.events.events e) ≡ false) es → AreFoundPending k until es → ArePending k until es
-  all_stay [] none finds = All-nil (λ e. StaysPending k until (k.events.events e))
+  all_stay [] none finds = All-nil (λ e. StaysPending k until e (k.events.events e))
   all_stay (e ∷ es) none finds =
-      All-cons (λ i. StaysPending k until (k.events.events i)) e es
-      (stays_by (k.events.events e) (All-head (λ i. is_settled (k.events.events i) ≡ false) e es none) (All-head (λ i. FindsPending k until (k.events.events i)) e es finds))
-      (all_stay es (All-tail (λ i. is_settled (k.events.events i) ≡ false) e es none) (All-tail (λ i. FindsPending k until (k.events.events i)) e es finds))
+      All-cons (λ i. StaysPending k until i (k.events.events i)) e es
+      (stays_by e (k.events.events e) (All-head (λ i. is_settled (k.events.events i) ≡ false) e es none) (All-head (λ i. FindsPending k until i (k.events.events i)) e es finds))
+      (all_stay es (All-tail (λ i. is_settled (k.events.events i) ≡ false) e es none) (All-tail (λ i. FindsPending k until i (k.events.events i)) e es finds))
 
   pub ring_stays : (e : ℕ) → settled_in k.events e ≡ 0 → AreFoundPending k until (k.events.rings e) → ArePending k until (k.events.rings e)
   ring_stays e none finds = all_stay (k.events.rings e) (none_counted 0 (k.events.rings e) none).1 finds
@@ -63,31 +63,31 @@ module _ {P S H : Type 0} (k : Control P S H) (until : ℕ) where
 
 module _ {P S H : Type 0} (k : Control P S H) where
   -- an event that is found pending now
-  pub found_by_now : (o : Option Event) (spec : EventSpec) → option_map (λ (v : Event). v.spec) o ≡ Some spec → FindsPending k (after_now k) o → found k spec ≡ Pending
-  found_by_now None spec is finds = absurd (cc is)
-  found_by_now (Some v) spec is finds = (let e : v.spec ≡ spec = cc is in subst (λ (z : EventSpec). found k z ≡ Pending) e (finds (now_of k) (omega arith) (omega arith)))
+  pub found_by_now : (n : ℕ) (o : Option Event) (spec : EventSpec) → option_map (λ (v : Event). v.spec) o ≡ Some spec → FindsPending k (after_now k) n o → found k n spec ≡ Pending
+  found_by_now n None spec is finds = absurd (cc is)
+  found_by_now n (Some v) spec is finds = (let e : v.spec ≡ spec = cc is in subst (λ (z : EventSpec). found k n z ≡ Pending) e (finds (now_of k) (omega arith) (omega arith)))
 
-  none_settled_by : (until : ℕ) (o : Option Event) → StaysPending k until o → is_settled o ≡ false
-  none_settled_by until None stays = refl
-  none_settled_by until (Some v) stays = rw stays.0 refl
+  none_settled_by : (until n : ℕ) (o : Option Event) → StaysPending k until n o → is_settled o ≡ false
+  none_settled_by until n None stays = refl
+  none_settled_by until n (Some v) stays = rw stays.0 refl
 
   same_count : (until n : ℕ) (es : List ℕ) → ArePending k until es → fold (λ n e. n + cond (is_settled (k.events.events e)) 1 0) n es ≡ n
   same_count until n [] all = refl
   same_count until n (e ∷ es) all =
-      let here = none_settled_by until (k.events.events e) (All-head (λ i. StaysPending k until (k.events.events i)) e es all) in
+      let here = none_settled_by until e (k.events.events e) (All-head (λ i. StaysPending k until i (k.events.events i)) e es all) in
       let one : n + cond (is_settled (k.events.events e)) 1 0 ≡ n = rw here (omega arith) in
-      ap (λ (m : ℕ). fold (λ n e. n + cond (is_settled (k.events.events e)) 1 0) m es) one ∙ same_count until n es (All-tail (λ i. StaysPending k until (k.events.events i)) e es all)
+      ap (λ (m : ℕ). fold (λ n e. n + cond (is_settled (k.events.events e)) 1 0) m es) one ∙ same_count until n es (All-tail (λ i. StaysPending k until i (k.events.events i)) e es all)
 
   -- where all are pending, none is settled, and all would be found so
   pub none_settled : (until e : ℕ) → ArePending k until (k.events.rings e) → settled_in k.events e ≡ 0
   none_settled until e all = same_count until 0 (k.events.rings e) all
 
-  finds_of : (until : ℕ) (o : Option Event) → StaysPending k until o → FindsPending k until o
-  finds_of until None stays = tt
-  finds_of until (Some v) stays = stays.1
+  finds_of : (until n : ℕ) (o : Option Event) → StaysPending k until n o → FindsPending k until n o
+  finds_of until n None stays = tt
+  finds_of until n (Some v) stays = stays.1
 
   pub all_found : (until : ℕ) (es : List ℕ) → ArePending k until es → AreFoundPending k until es
-  all_found until es all = All-weaker (λ e. StaysPending k until (k.events.events e)) (λ e. FindsPending k until (k.events.events e)) (λ e h. finds_of until (k.events.events e) h) es all
+  all_found until es all = All-weaker (λ e. StaysPending k until e (k.events.events e)) (λ e. FindsPending k until e (k.events.events e)) (λ e h. finds_of until e (k.events.events e) h) es all
 
 stands_all : (Q : ℕ → Type 0) (n : ℕ) (es : List ℕ) → All Q es → StandsIn n es → Q n
 stands_all Q n [] all stands = absurd stands
@@ -120,29 +120,29 @@ module _ {P S H : Type 0} (w : WorldOf P S H) (e : ℕ) where
     done = [];
     split = sym (from_first ring begins);
     within = subst (λ (l : List ℕ). StandsIn e l) (sym begins) (inl refl);
-    pending = λ k sh. All-nil (λ i. FindsPending k until (k.events.events i));
+    pending = λ k sh. All-nil (λ i. FindsPending k until i (k.events.events i));
     later = λ k sh finds. (let e : now_of k ≡ w.kernel.now = ap (λ (z : Kernel). z.now) sh.kernel in omega arith);
   }
 
   -- an event of a place, by what the world has of it
-  pub finds_at : (n own : ℕ) (spec : EventSpec) → option_map (λ (v : Event). v.spec) ((events_of w.events).events n) ≡ Some spec → ((k : Control P S H) → Shows w k → IsFoundPending k own spec) → (k : Control P S H) → Shows w k → FindsPending k own (k.events.events n)
-  finds_at n own spec is found k sh = finds_by k own (k.events.events n) spec (ap (λ (y : Events). option_map (λ (v : Event). v.spec) (y.events n)) sh.events ∙ is) (found k sh)
+  pub finds_at : (n own : ℕ) (spec : EventSpec) → option_map (λ (v : Event). v.spec) ((events_of w.events).events n) ≡ Some spec → ((k : Control P S H) → Shows w k → IsFoundPending k own n spec) → (k : Control P S H) → Shows w k → FindsPending k own n (k.events.events n)
+  finds_at n own spec is found k sh = finds_by k own n (k.events.events n) spec (ap (λ (y : Events). option_map (λ (v : Event). v.spec) (y.events n)) sh.events ∙ is) (found k sh)
 
   -- and by what it is told of it
-  pub later_at : (n own : ℕ) (spec : EventSpec) → option_map (λ (v : Event). v.spec) ((events_of w.events).events n) ≡ Some spec → StandsIn n ring → ((k : Control P S H) → Shows w k → found k spec ≡ Pending → now_of k < own) → IsLater own
+  pub later_at : (n own : ℕ) (spec : EventSpec) → option_map (λ (v : Event). v.spec) ((events_of w.events).events n) ≡ Some spec → StandsIn n ring → ((k : Control P S H) → Shows w k → found k n spec ≡ Pending → now_of k < own) → IsLater own
   later_at n own spec is stands found k sh finds =
-      found k sh (found_by_now k (k.events.events n) spec (ap (λ (y : Events). option_map (λ (v : Event). v.spec) (y.events n)) sh.events ∙ is) (stands_all (λ i. FindsPending k (after_now k) (k.events.events i)) n ring finds stands))
+      found k sh (found_by_now k n (k.events.events n) spec (ap (λ (y : Events). option_map (λ (v : Event). v.spec) (y.events n)) sh.events ∙ is) (stands_all (λ i. FindsPending k (after_now k) i (k.events.events i)) n ring finds stands))
 
-  module _ (n m until own : ℕ) (so_far : PendingRound n until) (later : IsLater own) (here : (k : Control P S H) → Shows w k → FindsPending k own (k.events.events n))
+  module _ (n m until own : ℕ) (so_far : PendingRound n until) (later : IsLater own) (here : (k : Control P S H) → Shows w k → FindsPending k own n (k.events.events n))
       (goes_on : (i : ℕ) → StandsIn n ((events_of w.events).rings i) → RingGoesOn ((events_of w.events).rings i) i n m) where
     goes : RingGoesOn ring e n m
     goes = goes_on e so_far.within
 
     more_pending : (k : Control P S H) → Shows w k → AreFoundPending k (min until own) (so_far.done ++ n ∷ [])
     more_pending k sh =
-        All-append (λ i. FindsPending k (min until own) (k.events.events i)) so_far.done (n ∷ [])
-        (All-weaker (λ i. FindsPending k until (k.events.events i)) (λ i. FindsPending k (min until own) (k.events.events i)) (λ i h. sooner_found k until (min until own) (omega arith) (k.events.events i) h) so_far.done (so_far.pending k sh))
-        (All-cons (λ i. FindsPending k (min until own) (k.events.events i)) n [] (sooner_found k own (min until own) (omega arith) (k.events.events n) (here k sh)) (All-nil (λ i. FindsPending k (min until own) (k.events.events i))))
+        All-append (λ i. FindsPending k (min until own) i (k.events.events i)) so_far.done (n ∷ [])
+        (All-weaker (λ i. FindsPending k until i (k.events.events i)) (λ i. FindsPending k (min until own) i (k.events.events i)) (λ i h. sooner_found k until (min until own) (omega arith) i (k.events.events i) h) so_far.done (so_far.pending k sh))
+        (All-cons (λ i. FindsPending k (min until own) i (k.events.events i)) n [] (sooner_found k own (min until own) (omega arith) n (k.events.events n) (here k sh)) (All-nil (λ i. FindsPending k (min until own) i (k.events.events i))))
 
     -- and the least is later than now, if both are
     more_later : IsLater (min until own)

@@ -79,18 +79,18 @@ module _ {P S H : Type 0} (k : Control P S H) where
   same_now : (n : ℕ) → now_of k ≤ n → n < after_now k → now_of k ≡ n
   same_now n later early = omega arith
 
-  found_now : (o : Option Event) → comes k o ≡ false → FindsPending k (after_now k) o
-  found_now None is = tt
-  found_now (Some v) is = λ n later early. subst (λ (m : ℕ). found (moves_to m k) v.spec ≡ Pending) (same_now n later early) (pending_by (found k v.spec) is)
+  found_now : (e : ℕ) (o : Option Event) → comes k e o ≡ false → FindsPending k (after_now k) e o
+  found_now e None is = tt
+  found_now e (Some v) is = λ n later early. subst (λ (m : ℕ). found (moves_to m k) e v.spec ≡ Pending) (same_now n later early) (pending_by (found k e v.spec) is)
 
-  all_found_now : (es : List ℕ) → list_any (λ e. comes k (k.events.events e)) es ≡ false → AreFoundPending k (after_now k) es
-  all_found_now [] none = All-nil (λ e. FindsPending k (after_now k) (k.events.events e))
+  all_found_now : (es : List ℕ) → list_any (λ e. comes k e (k.events.events e)) es ≡ false → AreFoundPending k (after_now k) es
+  all_found_now [] none = All-nil (λ e. FindsPending k (after_now k) e (k.events.events e))
   all_found_now (e ∷ es) none =
-      let both = none_of (comes k (k.events.events e)) (list_any (λ i. comes k (k.events.events i)) es) none in
-      All-cons (λ i. FindsPending k (after_now k) (k.events.events i)) e es (found_now (k.events.events e) both.0) (all_found_now es both.1)
+      let both = none_of (comes k e (k.events.events e)) (list_any (λ i. comes k i (k.events.events i)) es) none in
+      All-cons (λ i. FindsPending k (after_now k) i (k.events.events i)) e es (found_now e (k.events.events e) both.0) (all_found_now es both.1)
 
-  pending_now : (o : Option ℤ) → has_settled k.events o ≡ false → list_any (λ e. comes k (k.events.events e)) (events_from k.events o) ≡ false → ArePending k (after_now k) (events_from k.events o)
-  pending_now None settled none = All-nil (λ e. StaysPending k (after_now k) (k.events.events e))
+  pending_now : (o : Option ℤ) → has_settled k.events o ≡ false → list_any (λ e. comes k e (k.events.events e)) (events_from k.events o) ≡ false → ArePending k (after_now k) (events_from k.events o)
+  pending_now None settled none = All-nil (λ e. StaysPending k (after_now k) e (k.events.events e))
   pending_now (Some e) settled none = ring_stays k (after_now k) (number e) (none_by _ settled) (all_found_now (k.events.rings (number e)) none)
 
 module _ {P S H : Type 0} (w : WorldOf P S H) (whole : Whole w) (s : State P S H) (st : StandsFor w s) (u : ℕ) (used : tid_at w.threads.records u ≢ 0) where

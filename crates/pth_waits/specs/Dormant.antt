@@ -38,23 +38,23 @@ is_left_to_join o = is_dead_in o && (or_nobody o).joinable
 
 module _ {P S H : Type 0} (k : Control P S H) (until : ℕ) where
   -- at each moment from now on and before that one an event would be found pending
-  abbrev pub IsFoundPending : EventSpec → Type 0
-  IsFoundPending spec = (n : ℕ) → now_of k ≤ n → n < until → found (moves_to n k) spec ≡ Pending
+  abbrev pub IsFoundPending : ℕ → EventSpec → Type 0
+  IsFoundPending e spec = (n : ℕ) → now_of k ≤ n → n < until → found (moves_to n k) e spec ≡ Pending
 
-  abbrev pub FindsPending : Option Event → Type 0
-  FindsPending None = Unit {0}
-  FindsPending (Some v) = IsFoundPending v.spec
+  abbrev pub FindsPending : ℕ → Option Event → Type 0
+  FindsPending e None = Unit {0}
+  FindsPending e (Some v) = IsFoundPending e v.spec
 
   -- and is pending already
-  abbrev pub StaysPending : Option Event → Type 0
-  StaysPending None = Unit {0}
-  StaysPending (Some v) = (v.status ≡ Pending) × IsFoundPending v.spec
+  abbrev pub StaysPending : ℕ → Option Event → Type 0
+  StaysPending e None = Unit {0}
+  StaysPending e (Some v) = (v.status ≡ Pending) × IsFoundPending e v.spec
 
   abbrev pub AreFoundPending : List ℕ → Type 0
-  AreFoundPending es = All (λ e. FindsPending (k.events.events e)) es
+  AreFoundPending es = All (λ e. FindsPending e (k.events.events e)) es
 
   abbrev pub ArePending : List ℕ → Type 0
-  ArePending es = All (λ e. StaysPending (k.events.events e)) es
+  ArePending es = All (λ e. StaysPending e (k.events.events e)) es
 
 module _ {P S H : Type 0} (s : State P S H) (until : ℕ) where
   -- At each moment from now on and before that one, what t waits for has not come. Who waits for any death is told by the records

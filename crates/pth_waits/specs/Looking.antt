@@ -10,5 +10,5 @@ use Rattle.pth_model.specs.State.{Control}
 pub record LooksAt {P S H : Type 0} (k : Control P S H) (n : ℕ) (old new : Events) (come : Bool) : Type 0 where
   pub spec : EventSpec
   pub is : option_map (λ (v : Event). v.spec) (old.events n) ≡ Some spec
-  pub marks : new ≡ with_event (with_status (found k spec)) n old
-  pub comes : come ≡ not (is_pending (found k spec))
+  pub marks : new ≡ with_event (with_status (found k n spec)) n old
+  pub comes : come ≡ not (is_pending (found k n spec))

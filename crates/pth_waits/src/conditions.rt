@@ -10,6 +10,7 @@ ghost use Rattle.pth_model.specs.Calls.{awaits_on, awaits_on_where, blocks, ends
 ghost use Rattle.pth_model.specs.Cancellation.{canceled_value};
 ghost use Rattle.pth_model.specs.Changes.{with_conditions};
 ghost use Rattle.pth_model.specs.Conditions.{cond_await, is_noticed, leaves_seat, seat_of};
+ghost use Rattle.pth_model.specs.RingWaits.{claims};
 ghost use Rattle.pth_model.specs.Ending.{ending};
 ghost use Rattle.pth_model.specs.Resources.{with_mutexes};
 ghost use Rattle.pth_model.specs.State.{Control, State};
@@ -25,7 +26,7 @@ ghost use Rattle.pth_world.specs.Store.{store_of};
 ghost use Rattle.pth_world.specs.Whole.{Whole};
 
 use crate::cancellation::may_be_canceled;
-use crate::ring_waits::{claim_given, has_settled, is_no_ring};
+use crate::ring_waits::{claim_given, has_settled, is_claimed_ring, is_no_ring};
 use pth_base::answer::Answer;
 use pth_base::call::Call;
 use pth_base::errno::Errno;
@@ -38,9 +39,9 @@ use pth_cond::seats::Seat;
 use pth_end::answering::done;
 use pth_end::cancellation::{CANCELED, take_request};
 use pth_end::ending::end_thread;
-use pth_end::undoing::hand_on_seat;
+use pth_end::undoing::hand_on_seats;
 use pth_lock::objects::place_of;
-use pth_model::awaits::{Awaits, Retake, extra_ring};
+use pth_model::awaits::{Awaited, Awaits, Retake, extra_ring};
 use pth_model::blocked::Blocked;
 use pth_model::next::Next;
 use pth_model::verdict::Verdict;
@@ -74,6 +75,19 @@ fn take_seat<P: Program>(w: &mut World<P>, t: Tid, c: i64, m: i64) -> Result<(),
     }
 }
 
+// Claims the ring that the call was given, if any. It is there and not claimed, so only memory may be wanting.
+fn claim_free<P: Program>(w: &mut World<P>, t: Tid, ring: Option<i64>) -> Result<(), OutOfMemory>
+    requires { Whole w.old }
+    ensures shows { OnOk result ((k : Control P P.State P.Shared) → Shows w.old k → Shows w.new (claims t.0 ring k)) }
+    ensures store { w.new.store ≡ w.old.store }
+    ensures frame { Frame w.old w.new no_numbers w.old.scheduler.running false }
+{
+    match claim_given(w, t, ring) {
+        Ok(()) => Ok(()),
+        Err(_) => Err(OutOfMemory),
+    }
+}
+
 /// `pth_cond_await` of condition `c` with mutex `m`: the thread takes a seat at the condition, gives one level of its mutex back, and
 /// waits, beside the ring of event `e` (0 for none). EINVAL if the condition is not initialised, or if there is no such ring or
 /// mutex; EDEADLK if nobody has the mutex, and EACCES if another has it; EBUSY if the ring is claimed.
@@ -96,10 +110,11 @@ pub(crate) fn await_condition<P: Program>(
     if let Err(errno) = w.mutex_release_answer(t, m) {
         return Ok(Verdict::Says(Answer::Fail(errno)));
     }
-    if let Err(errno) = claim_given(w, t, ring) {
-        return Ok(Verdict::Says(Answer::Fail(errno)));
+    if is_claimed_ring(w, ring) {
+        return Ok(Verdict::Says(Answer::Fail(Errno::EBUSY)));
     }
     take_seat(w, t, c, m)?;
+    claim_free(w, t, ring)?;
     Ok(Verdict::Blocks(Awaits::Notice(c)))
 }
 
@@ -232,7 +247,7 @@ fn end_await<P: Program>(
 
 // ---- it goes on
 
-// A thread is canceled in its wait: its request is taken up, its seat is handed on, and its mutex is taken back first.
+// A thread is canceled in its wait: its request is taken up, its seats are handed on, and its mutex is taken back first.
 fn cancel_await<P: Program>(
     w: &mut World<P>,
     t: Tid,
@@ -247,7 +262,14 @@ fn cancel_await<P: Program>(
     ensures frame { IfOk result (λ n. Frame w.old w.new no_numbers (runs_after t.0 n) (yields_after n)) }
 {
     take_request(w, t, Call::CondAwait { c, m, e }, marks)?;
-    hand_on_seat(w, t, Awaits::Notice(c));
+    hand_on_seats(
+        w,
+        t,
+        Awaited {
+            what: Awaits::Notice(c),
+            ring: extra_ring(e),
+        },
+    );
     end_await(w, t, c, m, e, Retake::Canceled, marks)
 }
 

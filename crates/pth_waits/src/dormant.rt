@@ -20,11 +20,11 @@ use crate::barriers::has_passed;
 use crate::cancellation::may_be_canceled_at;
 use crate::conditions::is_noticed;
 use crate::joins::{any_has_died, has_died};
-use crate::looks::is_as_goals_say;
+use crate::looks::{is_as_goals_say, is_noticed_event};
 use crate::mutexes::is_free_mutex;
 use crate::rwlocks::is_open_lock;
 use crate::trials::descriptors_bring;
-use pth_base::ids::{FdSet, MAIN, Micros, Slot};
+use pth_base::ids::{EventId, FdSet, MAIN, Micros, Slot};
 use pth_base::limits::LAST_MOMENT;
 use pth_base::program::Program;
 use pth_io::select::{are_all_live, is_any_ready};
@@ -117,8 +117,8 @@ fn awaits_until<P: Program>(w: &World<P>, slot: Slot, awaits: Awaits) -> Micros
 
 // Until when an event of a descriptor is found pending.
 fn fd_until<P: Program>(w: &World<P>, goals: u8, fd: i64) -> Micros
-    ensures pending { (k : Control P P.State P.Shared) → Shows w.now k → IsFoundPending k result (EventSpec.Fd goals fd) }
-    ensures later { (k : Control P P.State P.Shared) → Shows w.now k → found k (EventSpec.Fd goals fd) ≡ Pending → now_of k < result }
+    ensures pending { (k : Control P P.State P.Shared) (e : ℕ) → Shows w.now k → IsFoundPending k result e (EventSpec.Fd goals fd) }
+    ensures later { (k : Control P P.State P.Shared) (e : ℕ) → Shows w.now k → found k e (EventSpec.Fd goals fd) ≡ Pending → now_of k < result }
 {
     if !w.kernel().is_live(fd) {
         return 0;
@@ -131,8 +131,8 @@ fn fd_until<P: Program>(w: &World<P>, goals: u8, fd: i64) -> Micros
 
 // Until when an event of sets of descriptors is found pending.
 fn select_until<P: Program>(w: &World<P>, r: FdSet, writes: FdSet, x: FdSet) -> Micros
-    ensures pending { (k : Control P P.State P.Shared) → Shows w.now k → IsFoundPending k result (EventSpec.Select r writes x) }
-    ensures later { (k : Control P P.State P.Shared) → Shows w.now k → found k (EventSpec.Select r writes x) ≡ Pending → now_of k < result }
+    ensures pending { (k : Control P P.State P.Shared) (e : ℕ) → Shows w.now k → IsFoundPending k result e (EventSpec.Select r writes x) }
+    ensures later { (k : Control P P.State P.Shared) (e : ℕ) → Shows w.now k → found k e (EventSpec.Select r writes x) ≡ Pending → now_of k < result }
 {
     if !are_all_live(w.kernel(), r, writes, x) {
         return 0;
@@ -143,15 +143,24 @@ fn select_until<P: Program>(w: &World<P>, r: FdSet, writes: FdSet, x: FdSet) -> 
     next_arrival(w.kernel())
 }
 
+// Until when an event of a condition is found pending: for ever, if it is now.
+fn cond_until<P: Program>(w: &World<P>, e: EventId, c: i64) -> Micros
+    ensures pending { (k : Control P P.State P.Shared) → Shows w.now k → IsFoundPending k result e.0 (EventSpec.Cond c) }
+    ensures later { (k : Control P P.State P.Shared) → Shows w.now k → found k e.0 (EventSpec.Cond c) ≡ Pending → now_of k < result }
+{
+    never_unless(w, !w.conditions().is_live(c) || is_noticed_event(w, e, c))
+}
+
 // Until when an event is found pending.
-fn found_until<P: Program>(w: &World<P>, spec: &EventSpec) -> Micros
-    ensures pending { (k : Control P P.State P.Shared) → Shows w.now k → IsFoundPending k result spec.now }
-    ensures later { (k : Control P P.State P.Shared) → Shows w.now k → found k spec.now ≡ Pending → now_of k < result }
+fn found_until<P: Program>(w: &World<P>, e: EventId, spec: &EventSpec) -> Micros
+    ensures pending { (k : Control P P.State P.Shared) → Shows w.now k → IsFoundPending k result e.0 spec.now }
+    ensures later { (k : Control P P.State P.Shared) → Shows w.now k → found k e.0 spec.now ≡ Pending → now_of k < result }
 {
     match spec {
         EventSpec::Time(at) => *at,
         EventSpec::Fd { goals, fd } => fd_until(w, *goals, *fd),
         EventSpec::Select { r, w: writes, x } => select_until(w, *r, *writes, *x),
+        EventSpec::Cond(c) => cond_until(w, e, *c),
         _ => never(w),
     }
 }
@@ -163,11 +172,12 @@ fn round_until<P: Program>(w: &World<P>, first: Slot) -> Micros
     ensures pending { (k : Control P P.State P.Shared) → Shows w.now k → AreFoundPending k result (k.events.rings (number_at w.now.events first.0)) }
     ensures later { (k : Control P P.State P.Shared) → Shows w.now k → AreFoundPending k (after_now k) (k.events.rings (number_at w.now.events first.0)) → now_of k < result }
 {
+    let rings = w.rings();
     let mut until = never(w);
     let mut at = first;
     'round: loop {
-        until = until.min(found_until(w, w.rings().spec_at(at)));
-        at = w.rings().next_at(at);
+        until = until.min(found_until(w, rings.id_at(at), rings.spec_at(at)));
+        at = rings.next_at(at);
         if at.0 == first.0 {
             return until;
         }

@@ -25,6 +25,7 @@ use pth_base::errno::Errno;
 use pth_base::ids::{Micros, Tid};
 use pth_base::memory::OutOfMemory;
 use pth_base::program::Program;
+use pth_base::refusal::Refusal;
 use pth_io::select::are_all_live;
 use pth_kernel::kernel::Kernel;
 use pth_model::awaits::{Awaits, ring_given};
@@ -118,24 +119,25 @@ fn begin_waiting<P: Program>(
     at_once: bool,
     ring: Option<i64>,
     verdict: Verdict,
-) -> Verdict
+) -> Result<Verdict, OutOfMemory>
     requires whole { Whole w.old }
     requires counted { IsCounted verdict }
-    ensures begins { (s : State P P.State P.Shared) → StandsFor w.old s → is_none_in s ring ≡ false → begins_waiting s at_once ring verdict ≡ result }
-    ensures ready { (call : CallOf) (before s : State P P.State P.Shared) → IsSome (first_awaited before call) → StandsFor w.old s → IsReady w.new t.0 call ring result s }
-    ensures may { (call : CallOf) → MayComeTo t.0 call verdict → MayComeTo t.0 call result }
+    ensures begins { IfOk result (λ x. (s : State P P.State P.Shared) → StandsFor w.old s → is_none_in s ring ≡ false → begins_waiting s at_once ring verdict ≡ x) }
+    ensures ready { IfOk result (λ x. (call : CallOf) (before s : State P P.State P.Shared) → IsSome (first_awaited before call) → StandsFor w.old s → IsReady w.new t.0 call ring x s) }
+    ensures may { IfOk result (λ x. (call : CallOf) → MayComeTo t.0 call verdict → MayComeTo t.0 call x) }
     ensures frame { Frame w.old w.new no_numbers w.old.scheduler.running false }
 {
     let awaits = match verdict {
         Verdict::Blocks(awaits) => awaits,
-        answered => return answered,
+        answered => return Ok(answered),
     };
     if at_once {
-        return Verdict::Says(count_or(awaits.written(), Errno::EAGAIN));
+        return Ok(Verdict::Says(count_or(awaits.written(), Errno::EAGAIN)));
     }
     match claim_given(w, t, ring) {
-        Ok(()) => Verdict::Blocks(awaits),
-        Err(errno) => Verdict::Says(count_or(awaits.written(), errno)),
+        Ok(()) => Ok(Verdict::Blocks(awaits)),
+        Err(Refusal::Fail(errno)) => Ok(Verdict::Says(count_or(awaits.written(), errno))),
+        Err(Refusal::OutOfMemory) => Err(OutOfMemory),
     }
 }
 
@@ -156,7 +158,7 @@ fn try_first<P: Program>(
 {
     let at_once = is_at_once(w.kernel(), call);
     let verdict = try_awaited(w.kernel_mut(), awaits)?;
-    Ok(begin_waiting(w, t, at_once, ring_given(call), verdict))
+    begin_waiting(w, t, at_once, ring_given(call), verdict)
 }
 
 /// A call on descriptors, as it begins: answered by its first attempt, or else it waits, beside the ring that it was given. EINVAL if

@@ -1,6 +1,6 @@
 //! What becomes of a call that can't have the mutex or the read-write lock that it wants.
 
-ghost use Rattle.std.specs.Prelude.{◌≡◌, ◌||◌, false, Err};
+ghost use Rattle.std.specs.Prelude.{◌≡◌, ◌||◌, false, Err, IfOk};
 ghost use Rattle.pth_base.specs.declared.call.Call.{Call};
 ghost use Rattle.pth_base.specs.declared.errno.Errno.TheVariants.{EBUSY};
 ghost use Rattle.pth_model.specs.Awaits.{is_await};
@@ -18,6 +18,7 @@ use crate::ring_waits::wait_beside;
 use pth_base::answer::Answer;
 use pth_base::errno::Errno;
 use pth_base::ids::Tid;
+use pth_base::memory::OutOfMemory;
 use pth_base::program::Program;
 use pth_model::awaits::Awaits;
 use pth_model::verdict::Verdict;
@@ -31,17 +32,17 @@ pub(crate) fn turn_away<P: Program>(
     only_tries: bool,
     ring: Option<i64>,
     awaits: Awaits,
-) -> Verdict
+) -> Result<Verdict, OutOfMemory>
     requires { Whole w.old }
-    ensures verdict { (s : State P P.State P.Shared) → StandsFor w.old s → is_no_ring s ring ≡ false → taken_or (Err errno) (refused EBUSY when only_tries || is_claimed_ring s ring otherwise Blocks awaits) ≡ result }
-    ensures ready { (c : Call) (s : State P P.State P.Shared) → is_await c ≡ false → StandsFor w.old s → IsReady w.new t.0 c ring result s }
+    ensures verdict { IfOk result (λ x. (s : State P P.State P.Shared) → StandsFor w.old s → is_no_ring s ring ≡ false → taken_or (Err errno) (refused EBUSY when only_tries || is_claimed_ring s ring otherwise Blocks awaits) ≡ x) }
+    ensures ready { IfOk result (λ x. (c : Call) (s : State P P.State P.Shared) → is_await c ≡ false → StandsFor w.old s → IsReady w.new t.0 c ring x s) }
     ensures frame { Frame w.old w.new no_numbers w.old.scheduler.running false }
 {
     if only_tries {
-        return Verdict::Says(Answer::Fail(errno));
+        return Ok(Verdict::Says(Answer::Fail(errno)));
     }
     match errno {
         Errno::EBUSY => wait_beside(w, t, ring, awaits),
-        _ => Verdict::Says(Answer::Fail(errno)),
+        _ => Ok(Verdict::Says(Answer::Fail(errno))),
     }
 }

@@ -4,7 +4,9 @@ ghost use Rattle.std.specs.Prelude.{◌≡◌, ◌≢◌, ◌<◌, ◌&&◌, ◌
 ghost use Rattle.std.specs.List.{list_any};
 ghost use Rattle.pth_base.specs.Descriptors.{contains};
 ghost use Rattle.pth_kernel.specs.Kernel.{kernel_of, fd_named, is_readable, is_writeable, is_exceptional};
-ghost use Rattle.pth_model.specs.Looks.{comes, found as found_now, never_occurs as never_occurs_now, looks_at, occurs as occurs_now};
+ghost use Rattle.pth_cond.specs.Conditions.{is_marked};
+ghost use Rattle.pth_model.specs.EventSeats.{event_seat};
+ghost use Rattle.pth_model.specs.Looks.{comes, fails as fails_now, found as found_now, looks_at, occurs as occurs_now};
 ghost use Rattle.pth_model.specs.State.{Control};
 ghost use Rattle.pth_numbered.specs.Numbered.{number_at};
 ghost use Rattle.pth_numbered.specs.Operands.{number};
@@ -14,20 +16,22 @@ ghost use Rattle.pth_ring.specs.Rings.{is_pending as is_pending_status};
 ghost use Rattle.pth_world.specs.Shows.{Shows};
 ghost use Rattle.pth_waits.specs.Looking.{LooksAt};
 
-use pth_base::ids::Slot;
+use pth_base::ids::{EventId, Slot};
 use pth_base::program::Program;
+use pth_cond::seats::Seat;
 use pth_io::select::{are_all_live, is_any_ready};
 use pth_kernel::kernel::Kernel;
 use pth_ring::rings::{EventSpec, Status};
 use pth_world::world::World;
 
-// Whether an event never comes any more, since a descriptor of it is not live.
-fn never_occurs<P: Program>(w: &World<P>, spec: &EventSpec) -> bool
-    ensures { (k : Control P P.State P.Shared) → Shows w.now k → result ≡ never_occurs_now k spec.now }
+// Whether an event fails, since a descriptor of it is not live, or its condition not initialised.
+fn fails<P: Program>(w: &World<P>, spec: &EventSpec) -> bool
+    ensures { (k : Control P P.State P.Shared) → Shows w.now k → result ≡ fails_now k spec.now }
 {
     match spec {
         EventSpec::Fd { fd, .. } => !w.kernel().is_live(*fd),
         EventSpec::Select { r, w: writes, x } => !are_all_live(w.kernel(), *r, *writes, *x),
+        EventSpec::Cond(c) => !w.conditions().is_live(*c),
         _ => false,
     }
 }
@@ -49,26 +53,34 @@ pub(crate) fn is_as_goals_say(k: &Kernel, goals: u8, fd: i64) -> bool
         || has_goal(goals, 2) && k.exceptional(fd)
 }
 
-// Whether an event occurs now, if no descriptor of it is gone.
-fn occurs<P: Program>(w: &World<P>, spec: &EventSpec) -> bool
-    ensures { (k : Control P P.State P.Shared) → Shows w.now k → result ≡ occurs_now k spec.now }
+/// Whether the seat of an event at a condition was notified.
+pub(crate) fn is_noticed_event<P: Program>(w: &World<P>, e: EventId, c: i64) -> bool
+    ensures { (k : Control P P.State P.Shared) → Shows w.now k → result ≡ is_marked k.conditions c (event_seat e.0) }
+{
+    w.conditions().is_marked(c, Seat::Event(e))
+}
+
+// Whether an event occurs now, if it does not fail.
+fn occurs<P: Program>(w: &World<P>, e: EventId, spec: &EventSpec) -> bool
+    ensures { (k : Control P P.State P.Shared) → Shows w.now k → result ≡ occurs_now k e.0 spec.now }
 {
     match spec {
         EventSpec::Fd { goals, fd } => is_as_goals_say(w.kernel(), *goals, *fd),
         EventSpec::Select { r, w: writes, x } => is_any_ready(w.kernel(), *r, *writes, *x),
         EventSpec::Time(at) => *at <= w.time(),
+        EventSpec::Cond(c) => is_noticed_event(w, e, *c),
         _ => false,
     }
 }
 
 // What is found of an event as it is looked at.
-fn found<P: Program>(w: &World<P>, spec: &EventSpec) -> Status
-    ensures { (k : Control P P.State P.Shared) → Shows w.now k → result ≡ found_now k spec.now }
+fn found<P: Program>(w: &World<P>, e: EventId, spec: &EventSpec) -> Status
+    ensures { (k : Control P P.State P.Shared) → Shows w.now k → result ≡ found_now k e.0 spec.now }
 {
-    if never_occurs(w, spec) {
+    if fails(w, spec) {
         return Status::Failed;
     }
-    if occurs(w, spec) {
+    if occurs(w, e, spec) {
         Status::Occurred
     } else {
         Status::Pending
@@ -94,7 +106,8 @@ fn look_at<P: Program>(w: &mut World<P>, place: Slot) -> bool
     ensures made { w.new.events.made ≡ w.old.events.made }
     ensures same { w.new ≡ record w.old { events = w.new.events } }
 {
-    let status = found(w, w.rings().spec_at(place));
+    let rings = w.rings();
+    let status = found(w, rings.id_at(place), rings.spec_at(place));
     w.rings_mut().mark_at(place, status);
     !is_pending(status)
 }
@@ -104,7 +117,7 @@ fn look_round<P: Program>(w: &mut World<P>, first: Slot) -> bool
     requires used { number_at w.old.events first.0 ≢ 0 }
     requires begins { Begins ((events_of w.old.events).rings (number_at w.old.events first.0)) (number_at w.old.events first.0) }
     ensures shows { (k : Control P P.State P.Shared) → Shows w.old k → Shows w.new (looks_at k (k.events.rings (number_at w.old.events first.0))) }
-    ensures comes { (k : Control P P.State P.Shared) → Shows w.old k → result ≡ list_any (λ e. comes k (k.events.events e)) (k.events.rings (number_at w.old.events first.0)) }
+    ensures comes { (k : Control P P.State P.Shared) → Shows w.old k → result ≡ list_any (λ e. comes k e (k.events.events e)) (k.events.rings (number_at w.old.events first.0)) }
     ensures made { w.new.events.made ≡ w.old.events.made }
     ensures same { w.new ≡ record w.old { events = w.new.events } }
 {
@@ -123,7 +136,7 @@ fn look_round<P: Program>(w: &mut World<P>, first: Slot) -> bool
 /// not pending then.
 pub fn look_at_ring<P: Program>(w: &mut World<P>, e: i64) -> bool
     ensures shows { (k : Control P P.State P.Shared) → Shows w.old k → Shows w.new (looks_at k (k.events.rings (number e))) }
-    ensures comes { (k : Control P P.State P.Shared) → Shows w.old k → result ≡ list_any (λ e. comes k (k.events.events e)) (k.events.rings (number e)) }
+    ensures comes { (k : Control P P.State P.Shared) → Shows w.old k → result ≡ list_any (λ e. comes k e (k.events.events e)) (k.events.rings (number e)) }
     ensures made { w.new.events.made ≡ w.old.events.made }
     ensures same { w.new ≡ record w.old { events = w.new.events } }
 {

@@ -1,6 +1,6 @@
 //! Waiting for a mutex: `pth_mutex_acquire`.
 
-ghost use Rattle.std.specs.Prelude.{◌≡◌, ℤ, Some, false};
+ghost use Rattle.std.specs.Prelude.{◌≡◌, ℤ, Some, false, IfOk};
 ghost use Rattle.pth_base.specs.declared.call.Call.TheVariants.{MutexAcquire};
 ghost use Rattle.pth_model.specs.Mutexes.{is_free, mutex_acquire};
 ghost use Rattle.pth_model.specs.State.{State};
@@ -15,6 +15,7 @@ use crate::ring_waits::is_no_ring;
 use pth_base::answer::Answer;
 use pth_base::errno::Errno;
 use pth_base::ids::Tid;
+use pth_base::memory::OutOfMemory;
 use pth_base::program::Program;
 use pth_model::awaits::{Awaits, extra_ring};
 use pth_model::verdict::Verdict;
@@ -31,18 +32,24 @@ pub(crate) fn is_free_mutex<P: Program>(w: &World<P>, m: i64) -> bool
 /// of event `e` (0 for none). EINVAL if there is no such mutex or ring, EAGAIN if the thread has 65,535 levels of it, and EBUSY if
 /// another has it and the call only tries (`v` is not 0), or the ring is claimed.
 #[inline(always)]
-pub(crate) fn acquire_mutex<P: Program>(w: &mut World<P>, t: Tid, m: i64, v: i64, e: i64) -> Verdict
+pub(crate) fn acquire_mutex<P: Program>(
+    w: &mut World<P>,
+    t: Tid,
+    m: i64,
+    v: i64,
+    e: i64,
+) -> Result<Verdict, OutOfMemory>
     requires whole { Whole w.old }
     requires runs { w.old.scheduler.running ≡ Some t.0 }
-    ensures attempts { Begins w.old w.new t.0 (MutexAcquire m v e) (λ s. mutex_acquire s t.0 m v e) result }
+    ensures attempts { IfOk result (λ x. Begins w.old w.new t.0 (MutexAcquire m v e) (λ s. mutex_acquire s t.0 m v e) x) }
     ensures frame { Frame w.old w.new no_numbers w.old.scheduler.running false }
 {
     let ring = extra_ring(e);
     if is_no_ring(w, ring) {
-        return Verdict::Says(Answer::Fail(Errno::EINVAL));
+        return Ok(Verdict::Says(Answer::Fail(Errno::EINVAL)));
     }
     match w.take_mutex(t, m) {
-        Ok(()) => Verdict::Says(Answer::Int(1)),
+        Ok(()) => Ok(Verdict::Says(Answer::Int(1))),
         Err(errno) => turn_away(w, t, errno, v != 0, ring, Awaits::Mutex(m)),
     }
 }

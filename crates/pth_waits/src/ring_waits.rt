@@ -1,9 +1,11 @@
 //! Waiting for the events of a ring: `pth_wait`, and the rings that other calls were given beside what else they wait for.
 
-ghost use Rattle.std.specs.Prelude.{◌≡◌, false, Some, Ok, Err, OnOk, OnErr, if◌then◌else◌};
+ghost use Rattle.std.specs.Prelude.{◌≡◌, false, Some, Ok, Err, IfOk, OnOk, if◌then◌else◌};
 ghost use Rattle.pth_base.specs.declared.call.Call.{Call};
 ghost use Rattle.pth_base.specs.declared.call.Call.TheVariants.{Wait};
+ghost use Rattle.pth_base.specs.declared.errno.Errno.{Errno};
 ghost use Rattle.pth_base.specs.declared.errno.Errno.TheVariants.{EBUSY};
+ghost use Rattle.pth_base.specs.declared.refusal.Refusal.TheVariants.{Fail};
 ghost use Rattle.pth_model.specs.EventHandling.{wait};
 ghost use Rattle.pth_model.specs.Awaits.{is_await};
 ghost use Rattle.pth_model.specs.RingWaits.{claims, has_settled, is_claimed_ring, is_no_ring};
@@ -11,6 +13,7 @@ ghost use Rattle.pth_model.specs.State.{Control, State};
 ghost use Rattle.pth_model.specs.Verdict.{refused, ◌when◌otherwise◌};
 ghost use Rattle.pth_model.specs.declared.verdict.Verdict.TheVariants.{Blocks};
 ghost use Rattle.pth_ring.specs.Arena.{events_of};
+ghost use Rattle.pth_store.specs.Storing.{AnswersWithMemory};
 ghost use Rattle.pth_waits.specs.Verdicts.{Begins, TriesAgain};
 ghost use Rattle.pth_world.specs.Frame.{Frame};
 ghost use Rattle.pth_world.specs.Leading.{IsReady};
@@ -19,9 +22,10 @@ ghost use Rattle.pth_world.specs.Shows.{Shows, StandsFor};
 ghost use Rattle.pth_world.specs.Whole.{Whole};
 
 use pth_base::answer::Answer;
-use pth_base::errno::Errno;
 use pth_base::ids::Tid;
+use pth_base::memory::OutOfMemory;
 use pth_base::program::Program;
+use pth_base::refusal::Refusal;
 use pth_model::awaits::Awaits;
 use pth_model::verdict::Verdict;
 use pth_ring::rings::Rings;
@@ -37,6 +41,16 @@ pub(crate) fn is_no_ring<P: Program>(w: &World<P>, ring: Option<i64>) -> bool
     }
 }
 
+/// Whether the ring that a call was given is claimed.
+pub(crate) fn is_claimed_ring<P: Program>(w: &World<P>, ring: Option<i64>) -> bool
+    ensures { (s : State P P.State P.Shared) → StandsFor w.now s → result ≡ is_claimed_ring s ring }
+{
+    match ring {
+        Some(e) => w.rings().is_claimed(e),
+        None => false,
+    }
+}
+
 /// Whether an event of a ring is not pending.
 pub(crate) fn has_settled(rings: &Rings, ring: Option<i64>) -> bool
     ensures { result ≡ has_settled (events_of rings.now) ring }
@@ -47,17 +61,17 @@ pub(crate) fn has_settled(rings: &Rings, ring: Option<i64>) -> bool
     }
 }
 
-/// Claims the ring that a call was given, if any: EBUSY if it is claimed.
+/// Claims the ring that a call was given, if any: EBUSY if it is claimed. Without memory the world may only be dropped.
 pub(crate) fn claim_given<P: Program>(
     w: &mut World<P>,
     t: Tid,
     ring: Option<i64>,
-) -> Result<(), Errno>
+) -> Result<(), Refusal>
     requires { Whole w.old }
-    ensures answer { (s : State P P.State P.Shared) → StandsFor w.old s → is_no_ring s ring ≡ false → result ≡ (if is_claimed_ring s ring then Err EBUSY else Ok tt) }
+    ensures answer { (s : State P P.State P.Shared) → StandsFor w.old s → is_no_ring s ring ≡ false → AnswersWithMemory (if is_claimed_ring s ring then Err EBUSY else Ok tt) result }
     ensures shows { OnOk result ((k : Control P P.State P.Shared) → Shows w.old k → Shows w.new (claims t.0 ring k)) }
     ensures store { w.new.store ≡ w.old.store }
-    ensures refused { OnErr result (w.new ≡ w.old) }
+    ensures refused { (errno : Errno) → result ≡ Err (Fail errno) → w.new ≡ w.old }
     ensures frame { Frame w.old w.new no_numbers w.old.scheduler.running false }
 {
     match ring {
@@ -72,28 +86,30 @@ pub(crate) fn wait_beside<P: Program>(
     t: Tid,
     ring: Option<i64>,
     awaits: Awaits,
-) -> Verdict
+) -> Result<Verdict, OutOfMemory>
     requires { Whole w.old }
-    ensures verdict { (s : State P P.State P.Shared) → StandsFor w.old s → is_no_ring s ring ≡ false → (refused EBUSY when is_claimed_ring s ring otherwise Blocks awaits) ≡ result }
-    ensures ready { (c : Call) (s : State P P.State P.Shared) → is_await c ≡ false → StandsFor w.old s → IsReady w.new t.0 c ring result s }
+    ensures verdict { IfOk result (λ x. (s : State P P.State P.Shared) → StandsFor w.old s → is_no_ring s ring ≡ false → (refused EBUSY when is_claimed_ring s ring otherwise Blocks awaits) ≡ x) }
+    ensures ready { IfOk result (λ x. (c : Call) (s : State P P.State P.Shared) → is_await c ≡ false → StandsFor w.old s → IsReady w.new t.0 c ring x s) }
     ensures frame { Frame w.old w.new no_numbers w.old.scheduler.running false }
 {
     match claim_given(w, t, ring) {
-        Ok(()) => Verdict::Blocks(awaits),
-        Err(errno) => Verdict::Says(Answer::Fail(errno)),
+        Ok(()) => Ok(Verdict::Blocks(awaits)),
+        Err(Refusal::Fail(errno)) => Ok(Verdict::Says(Answer::Fail(errno))),
+        Err(Refusal::OutOfMemory) => Err(OutOfMemory),
     }
 }
 
 /// `pth_wait`: claims the ring of an event, and waits until an event of it is not pending, also if one was found before. EINVAL if
 /// there is no such event, and EBUSY if its ring is claimed.
-pub(crate) fn wait<P: Program>(w: &mut World<P>, t: Tid, e: i64) -> Verdict
+pub(crate) fn wait<P: Program>(w: &mut World<P>, t: Tid, e: i64) -> Result<Verdict, OutOfMemory>
     requires whole { Whole w.old }
-    ensures attempts { Begins w.old w.new t.0 (Wait e) (λ s. wait s e) result }
+    ensures attempts { IfOk result (λ x. Begins w.old w.new t.0 (Wait e) (λ s. wait s e) x) }
     ensures frame { Frame w.old w.new no_numbers w.old.scheduler.running false }
 {
     match w.claim(t, e) {
-        Ok(()) => Verdict::Blocks(Awaits::Ring(e)),
-        Err(errno) => Verdict::Says(Answer::Fail(errno)),
+        Ok(()) => Ok(Verdict::Blocks(Awaits::Ring(e))),
+        Err(Refusal::Fail(errno)) => Ok(Verdict::Says(Answer::Fail(errno))),
+        Err(Refusal::OutOfMemory) => Err(OutOfMemory),
     }
 }
 

@@ -1,6 +1,6 @@
 //! Waiting for a read-write lock: `pth_rwlock_acquire`.
 
-ghost use Rattle.std.specs.Prelude.{◌≡◌, ℤ, Some, false};
+ghost use Rattle.std.specs.Prelude.{◌≡◌, ℤ, Some, false, IfOk};
 ghost use Rattle.pth_base.specs.declared.call.Call.TheVariants.{RwAcquire};
 ghost use Rattle.pth_model.specs.Rwlocks.{is_open, rw_acquire};
 ghost use Rattle.pth_model.specs.State.{State};
@@ -15,6 +15,7 @@ use crate::ring_waits::is_no_ring;
 use pth_base::answer::Answer;
 use pth_base::errno::Errno;
 use pth_base::ids::Tid;
+use pth_base::memory::OutOfMemory;
 use pth_base::program::Program;
 use pth_model::awaits::{Awaits, extra_ring};
 use pth_model::verdict::Verdict;
@@ -38,18 +39,18 @@ pub(crate) fn acquire_lock<P: Program>(
     write: bool,
     v: i64,
     e: i64,
-) -> Verdict
+) -> Result<Verdict, OutOfMemory>
     requires whole { Whole w.old }
     requires runs { w.old.scheduler.running ≡ Some t.0 }
-    ensures attempts { Begins w.old w.new t.0 (RwAcquire l write v e) (λ s. rw_acquire s t.0 l write v e) result }
+    ensures attempts { IfOk result (λ x. Begins w.old w.new t.0 (RwAcquire l write v e) (λ s. rw_acquire s t.0 l write v e) x) }
     ensures frame { Frame w.old w.new no_numbers w.old.scheduler.running false }
 {
     let ring = extra_ring(e);
     if is_no_ring(w, ring) {
-        return Verdict::Says(Answer::Fail(Errno::EINVAL));
+        return Ok(Verdict::Says(Answer::Fail(Errno::EINVAL)));
     }
     match w.take_lock(t, l, write) {
-        Ok(()) => Verdict::Says(Answer::Int(1)),
+        Ok(()) => Ok(Verdict::Says(Answer::Int(1))),
         Err(errno) => turn_away(w, t, errno, v != 0, ring, Awaits::Lock { l, write }),
     }
 }

@@ -3,6 +3,7 @@ pub mod SettingValues
 pub mod Showing
 pub mod Conditions
 pub mod Barriers
+pub mod EventSeats
 pub mod Events
 pub mod Kernels
 pub mod Listed

@@ -5,7 +5,7 @@
 //! stored (`changes`). Beside this a clause says what stays: the world's other parts (`same`), what other threads
 //! have (`touches`, `others`), and what holds of every sound or whole world (`sound`, `whole`, `but`). One clause says
 //! all that stays if the store alone changes (`keeps`), or if threads move (`moves`). A read is what the control has.
-//! Refused, a change shows what was shown before. After want of memory in `next_call` nothing is said of the world.
+//! Refused, a change shows what was shown before. After want of memory in `next_call` or `claim` nothing is said of the world.
 #![tactic(auto)]
 
 pub mod laws;

@@ -17,6 +17,7 @@ mod attributes;
 mod barriers;
 mod conditions;
 mod counts;
+mod event_seats;
 mod events;
 mod handlers;
 mod kernel;

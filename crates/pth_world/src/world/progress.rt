@@ -66,7 +66,7 @@ impl<P: Program> World<P> {
         ensures but { WholeBut self.old t.0 → WholeBut self.new t.0 }
         ensures whole { Whole self.old → Whole self.new }
         ensures made { self.new.events.made ≡ self.old.events.made }
-        ensures same { self.new ≡ record self.old { threads = record self.old.threads { progress = self.new.threads.progress }; events = self.new.events } }
+        ensures same { self.new ≡ record self.old { threads = record self.old.threads { progress = self.new.threads.progress }; events = self.new.events; conditions = self.new.conditions } }
     {
         let blocked = self.take_blocked(t);
         self.give_back(ring_held(&blocked));

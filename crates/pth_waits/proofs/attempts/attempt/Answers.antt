@@ -41,27 +41,27 @@ returns-in-Sleep-clause-attempts g c =
     let n : SFits w64 c.in-Sleep.n = search rules in
     rw c.in-Sleep.is (rest_attempts c.args.w.now c.args.t.0 (Sleep c.in-Sleep.n) refl (λ a x. refl) (λ a is. is) 1000000 c.in-Sleep.n 0 _ (λ s st. (simp to_z-of_z at c.rest-in-Sleep.ensures.verdict) s 1000000 st (simp to_z-of_z at c.seconds.ensures)) c.rest-in-Sleep.ensures.rests)
 
-pub returns-in-Wait-clause-attempts : goal.returns-in-Wait-clause-attempts
+pub returns-in_ok-wait-in-Wait-clause-attempts : goal.returns-in_ok-wait-in-Wait-clause-attempts
 unfolding row_of
-returns-in-Wait-clause-attempts g c =
+returns-in_ok-wait-in-Wait-clause-attempts g c =
     let n : SFits w64 c.in-Wait.e = search rules in
-    rw c.in-Wait.is (simp to_z-of_z at c.wait.ensures.attempts)
+    rw c.in-Wait.is (simp to_z-of_z at c.in_ok-wait-in-Wait.ensures.attempts)
 
-pub returns-in-MutexAcquire-clause-attempts : goal.returns-in-MutexAcquire-clause-attempts
+pub returns-in_ok-acquire_mutex-in-MutexAcquire-clause-attempts : goal.returns-in_ok-acquire_mutex-in-MutexAcquire-clause-attempts
 unfolding row_of
-returns-in-MutexAcquire-clause-attempts g c =
+returns-in_ok-acquire_mutex-in-MutexAcquire-clause-attempts g c =
     let m : SFits w64 c.in-MutexAcquire.m = search rules in
     let v : SFits w64 c.in-MutexAcquire.v = search rules in
     let e : SFits w64 c.in-MutexAcquire.e = search rules in
-    rw c.in-MutexAcquire.is (simp to_z-of_z at c.acquire_mutex.ensures.attempts)
+    rw c.in-MutexAcquire.is (simp to_z-of_z at c.in_ok-acquire_mutex-in-MutexAcquire.ensures.attempts)
 
-pub returns-in-RwAcquire-clause-attempts : goal.returns-in-RwAcquire-clause-attempts
+pub returns-in_ok-acquire_lock-in-RwAcquire-clause-attempts : goal.returns-in_ok-acquire_lock-in-RwAcquire-clause-attempts
 unfolding row_of
-returns-in-RwAcquire-clause-attempts g c =
+returns-in_ok-acquire_lock-in-RwAcquire-clause-attempts g c =
     let l : SFits w64 c.in-RwAcquire.l = search rules in
     let v : SFits w64 c.in-RwAcquire.v = search rules in
     let e : SFits w64 c.in-RwAcquire.e = search rules in
-    rw c.in-RwAcquire.is (simp to_z-of_z at c.acquire_lock.ensures.attempts)
+    rw c.in-RwAcquire.is (simp to_z-of_z at c.in_ok-acquire_lock-in-RwAcquire.ensures.attempts)
 
 pub returns-in_ok-await_condition-in-CondAwait-clause-attempts : goal.returns-in_ok-await_condition-in-CondAwait-clause-attempts
 unfolding row_of

@@ -1,18 +1,13 @@
 use Rattle.std.proofs.Common.{◌∙◌, Err, Option, ℕ, false, not, Ok, ap, refl, subst, sym, to_z-of_z, true}
-use Rattle.pth_base.specs.declared.call.Call.TheVariants.{CondAwait}
-use Rattle.pth_base.specs.declared.errno.Errno.TheVariants.{EINVAL}
+use Rattle.pth_base.specs.declared.errno.Errno.TheVariants.{EBUSY, EINVAL}
 use Rattle.pth_cond.specs.Conditions.{ConditionTable, is_live}
 use Rattle.pth_lock.specs.Mutexes.{mutex_release_answer}
-use Rattle.pth_model.specs.Conditions.{cond_await}
 use Rattle.pth_model.specs.Resources.{Store}
 use Rattle.pth_model.specs.RingWaits.{extra_ring}
-use Rattle.pth_model.specs.Verdict.{refused}
 use Rattle.pth_world.proofs.Frames.{frame_then}
 use Rattle.pth_world.specs.Frame.{Frame}
 use Rattle.pth_world.specs.Numbering.{no_numbers}
-use Rattle.pth_world.specs.World.{WorldOf}
-use Rattle.pth_waits.specs.Verdicts.{Begins}
-use Rattle.pth_waits.proofs.NoticeWaits.{await_refused, await_waits, begin_by, claimed_refused, unclaimed}
+use Rattle.pth_waits.proofs.NoticeWaits.{await_refused, await_waits, begin_by}
 use Rattle.pth_waits.proofs.conditions.await_condition.Goals.{then-not-is_live-via-then-not-is_live, then-not-is_live-via-else-not-is_live+then-is_no_ring}
 use Rattle.pth_waits.proofs.conditions.await_condition.Goals as goal
 
@@ -38,19 +33,15 @@ returns-in-Err-clause-attempts g c =
     let read = ap (λ (y : ConditionTable). not (is_live y a.c)) st.control.conditions ∙ ap not (sym live) in
     begin_by s a.t.0 a.c a.m a.e false false _ (Err c.in-Err.errno) (read ∙ ap not c.if-not-is_live.false) (sym ((rw ring at c.is_no_ring.ensures) s st) ∙ c.if-is_no_ring.false) (ap (λ (x : Store). mutex_release_answer x.mutexes a.t.0 a.m) st.store ∙ answer) refl)
 
-pub returns-in-Err-claim_given-clause-attempts : goal.returns-in-Err-claim_given-clause-attempts
-returns-in-Err-claim_given-clause-attempts g c =
+pub returns-then-is_claimed_ring-clause-attempts : goal.returns-then-is_claimed_ring-clause-attempts
+returns-then-is_claimed_ring-clause-attempts g c =
     let a = c.args in
     let ring = c.extra_ring-ring.ensures ∙ ap extra_ring (to_z-of_z c.ranges.e) in
     let live = rw (c.conditions.ensures, to_z-of_z c.ranges.c) at c.is_live.ensures.answer in
     let answer = sym (rw (to_z-of_z c.ranges.m) at c.mutex_release_answer.ensures) ∙ c.in_default.is in
-    let claim = rw ring at c.claim_given.ensures.answer in
-    subst (λ (v : WorldOf _ _ _). Begins a.w.now v a.t.0 (CondAwait a.c a.m a.e) (λ s. cond_await s a.t.0 a.c a.m a.e) (refused c.in-Err-claim_given.errno)) (sym c.in-Err-claim_given.ensures.refused)
-    (await_refused a.w.now a.t.0 a.c a.m a.e c.in-Err-claim_given.errno (λ s st.
+    await_refused a.w.now a.t.0 a.c a.m a.e EBUSY (λ s st.
     let read = ap (λ (y : ConditionTable). not (is_live y a.c)) st.control.conditions ∙ ap not (sym live) in
-    let none = sym ((rw ring at c.is_no_ring.ensures) s st) ∙ c.if-is_no_ring.false in
-    let taken = claimed_refused _ c.in-Err-claim_given.errno c.claim_given.result (claim s st none) c.in-Err-claim_given.is in
-    begin_by s a.t.0 a.c a.m a.e false false true (Ok tt) (read ∙ ap not c.if-not-is_live.false) none (ap (λ (x : Store). mutex_release_answer x.mutexes a.t.0 a.m) st.store ∙ answer) taken.0 ∙ ap refused (sym taken.1)))
+    begin_by s a.t.0 a.c a.m a.e false false true (Ok tt) (read ∙ ap not c.if-not-is_live.false) (sym ((rw ring at c.is_no_ring.ensures) s st) ∙ c.if-is_no_ring.false) (ap (λ (x : Store). mutex_release_answer x.mutexes a.t.0 a.m) st.store ∙ answer) (sym ((rw ring at c.is_claimed_ring.ensures) s st) ∙ c.if-is_claimed_ring.true))
 
 pub returns-clause-attempts : goal.returns-clause-attempts
 returns-clause-attempts g c =
@@ -58,14 +49,12 @@ returns-clause-attempts g c =
     let ring = c.extra_ring-ring.ensures ∙ ap extra_ring (to_z-of_z c.ranges.e) in
     let live = rw (c.conditions.ensures, to_z-of_z c.ranges.c) at c.is_live.ensures.answer in
     let answer = sym (rw (to_z-of_z c.ranges.m) at c.mutex_release_answer.ensures) ∙ c.in_default.is in
-    let claim = rw ring at c.claim_given.ensures.answer in
-    rw (to_z-of_z c.ranges.c) (await_waits a.w.now a.t.0 a.c a.m a.e c.claim_given.new.w c.take_seat.new.w (λ s st.
+    rw (to_z-of_z c.ranges.c) (await_waits a.w.now a.t.0 a.c a.m a.e c.take_seat.new.w c.claim_free.new.w (λ s st.
     let read = ap (λ (y : ConditionTable). not (is_live y a.c)) st.control.conditions ∙ ap not (sym live) in
-    let none = sym ((rw ring at c.is_no_ring.ensures) s st) ∙ c.if-is_no_ring.false in
-    begin_by s a.t.0 a.c a.m a.e false false false (Ok tt) (read ∙ ap not c.if-not-is_live.false) none (ap (λ (x : Store). mutex_release_answer x.mutexes a.t.0 a.m) st.store ∙ answer) (unclaimed _ c.claim_given.result (claim s st none) c.in_default-claim_given.is))
-    (rw ring at c.in_default-claim_given.ensures.shows) (rw (to_z-of_z c.ranges.c) at c.in_ok-take_seat.ensures.shows) c.claim_given.ensures.store (rw (to_z-of_z c.ranges.m) at c.in_ok-take_seat.ensures.store))
+    begin_by s a.t.0 a.c a.m a.e false false false (Ok tt) (read ∙ ap not c.if-not-is_live.false) (sym ((rw ring at c.is_no_ring.ensures) s st) ∙ c.if-is_no_ring.false) (ap (λ (x : Store). mutex_release_answer x.mutexes a.t.0 a.m) st.store ∙ answer) (sym ((rw ring at c.is_claimed_ring.ensures) s st) ∙ c.if-is_claimed_ring.false))
+    (rw (to_z-of_z c.ranges.c) at c.in_ok-take_seat.ensures.shows) (rw ring at c.in_ok-claim_free.ensures.shows) (rw (to_z-of_z c.ranges.m) at c.in_ok-take_seat.ensures.store) c.claim_free.ensures.store)
 
 pub returns-clause-frame : goal.returns-clause-frame
 returns-clause-frame g c =
-    let claimed = c.claim_given.ensures.frame in
-    frame_then no_numbers c.args.w.now c.claim_given.new.w c.take_seat.new.w _ _ false claimed (subst (λ (o : Option ℕ). Frame c.claim_given.new.w c.take_seat.new.w no_numbers o false) claimed.runs c.in_ok-take_seat.ensures.frame)
+    let seated = c.in_ok-take_seat.ensures.frame in
+    frame_then no_numbers c.args.w.now c.take_seat.new.w c.claim_free.new.w _ _ false seated (subst (λ (o : Option ℕ). Frame c.take_seat.new.w c.claim_free.new.w no_numbers o false) seated.runs c.claim_free.ensures.frame)

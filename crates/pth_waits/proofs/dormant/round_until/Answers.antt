@@ -12,35 +12,38 @@ pub returns-then-at-first-clause-pending : goal.returns-then-at-first-clause-pen
 returns-then-at-first-clause-pending g c = λ k sh.
     let w = c.args.w.now in
     let e = number_at w.events c.args.first.0 in
-    let spec = rw c.rings.ensures at c.spec_at.ensures in
-    let here = finds_at w e _ c.found_until.result c.spec_at.result.now spec c.found_until.ensures.pending in
-    let later = later_at w e _ c.found_until.result c.spec_at.result.now spec c.round.invariant.so_far.within c.found_until.ensures.later in
+    let spec = rw c.rings-rings.ensures at c.spec_at.ensures in
+    let named = rw (c.rings-rings.ensures) at c.id_at.ensures in
+    let here = finds_at w e _ c.found_until.result c.spec_at.result.now spec (rw named at c.found_until.ensures.pending) in
+    let later = later_at w e _ c.found_until.result c.spec_at.result.now spec c.round.invariant.so_far.within (rw named at c.found_until.ensures.later) in
     subst (λ (u : ℕ). AreFoundPending k u (k.events.rings e)) (sym c.min-until.ensures)
-    (pends_all w e _ _ c.round.until c.found_until.result c.round.invariant.so_far later here (rw c.rings-in-round.ensures at c.next_at-at.ensures.round) (ap (number_at w.events) c.if-at-first.true) k sh)
+    (pends_all w e _ _ c.round.until c.found_until.result c.round.invariant.so_far later here (rw c.rings-rings.ensures at c.next_at-at.ensures.round) (ap (number_at w.events) c.if-at-first.true) k sh)
 
 pub returns-then-at-first-clause-later : goal.returns-then-at-first-clause-later
 returns-then-at-first-clause-later g c = λ k sh finds.
     let w = c.args.w.now in
     let e = number_at w.events c.args.first.0 in
-    let spec = rw c.rings.ensures at c.spec_at.ensures in
-    let here = finds_at w e _ c.found_until.result c.spec_at.result.now spec c.found_until.ensures.pending in
-    let later = later_at w e _ c.found_until.result c.spec_at.result.now spec c.round.invariant.so_far.within c.found_until.ensures.later in
+    let spec = rw c.rings-rings.ensures at c.spec_at.ensures in
+    let named = rw (c.rings-rings.ensures) at c.id_at.ensures in
+    let here = finds_at w e _ c.found_until.result c.spec_at.result.now spec (rw named at c.found_until.ensures.pending) in
+    let later = later_at w e _ c.found_until.result c.spec_at.result.now spec c.round.invariant.so_far.within (rw named at c.found_until.ensures.later) in
     subst (λ (u : ℕ). now_of k < u) (sym c.min-until.ensures)
-    (all_later w e _ _ c.round.until c.found_until.result c.round.invariant.so_far later here (rw c.rings-in-round.ensures at c.next_at-at.ensures.round) k sh finds)
+    (all_later w e _ _ c.round.until c.found_until.result c.round.invariant.so_far later here (rw c.rings-rings.ensures at c.next_at-at.ensures.round) k sh finds)
 
 pub round-preserved : goal.round-preserved
 round-preserved g c =
     let w = c.args.w.now in
     let v = c.next_at-at.result.0 in
     let e = number_at w.events c.args.first.0 in
-    let used = rw c.rings-in-round.ensures at c.next_at-at.ensures.used in
-    let apart = rw c.rings-in-round.ensures at c.next_at-at.ensures.apart in
+    let used = rw c.rings-rings.ensures at c.next_at-at.ensures.used in
+    let apart = rw c.rings-rings.ensures at c.next_at-at.ensures.apart in
     let more : number_at w.events v ≢ e = λ h. c.if-at-first.false (sym (apart c.args.first.0 (sym h))) in
-    let spec = rw c.rings.ensures at c.spec_at.ensures in
-    let here = finds_at w e _ c.found_until.result c.spec_at.result.now spec c.found_until.ensures.pending in
-    let later = later_at w e _ c.found_until.result c.spec_at.result.now spec c.round.invariant.so_far.within c.found_until.ensures.later in
+    let spec = rw c.rings-rings.ensures at c.spec_at.ensures in
+    let named = rw (c.rings-rings.ensures) at c.id_at.ensures in
+    let here = finds_at w e _ c.found_until.result c.spec_at.result.now spec (rw named at c.found_until.ensures.pending) in
+    let later = later_at w e _ c.found_until.result c.spec_at.result.now spec c.round.invariant.so_far.within (rw named at c.found_until.ensures.later) in
     record {
       used = used;
       so_far = subst (PendingRound w e (number_at w.events v)) (sym c.min-until.ensures)
-          (pends_next w e _ _ c.round.until c.found_until.result c.round.invariant.so_far later here (rw c.rings-in-round.ensures at c.next_at-at.ensures.round) more);
+          (pends_next w e _ _ c.round.until c.found_until.result c.round.invariant.so_far later here (rw c.rings-rings.ensures at c.next_at-at.ensures.round) more);
     }

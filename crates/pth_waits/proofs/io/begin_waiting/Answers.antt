@@ -1,3 +1,4 @@
+use Rattle.std.proofs.Common.{◌∙◌, Err, ap}
 use Rattle.pth_world.proofs.Telling.{has_still}
 use Rattle.pth_waits.proofs.Attempted.{io_unawaited}
 use Rattle.pth_waits.proofs.Attempting.{claimed_ready}
@@ -13,8 +14,10 @@ returns-in_default-clause-ready g c call before s some st = answered_ready befor
 pub returns-then-at_once-clause-ready : goal.returns-then-at_once-clause-ready
 returns-then-at_once-clause-ready g c call before s some st = io_told before c.args.w.now c.args.t.0 call c.count_or.result s some st
 
-pub returns-in-Err-clause-ready : goal.returns-in-Err-clause-ready
-returns-in-Err-clause-ready g c call before s some st = rw c.in-Err.ensures.refused (io_told before c.args.w.now c.args.t.0 call c.count_or-in-Err.result s some st)
+pub returns-in-Err-Fail-clause-ready : goal.returns-in-Err-Fail-clause-ready
+returns-in-Err-Fail-clause-ready g c call before s some st =
+    let same = c.claim_given.ensures.refused c.in-Err-Fail.errno (c.in-Err-Fail.is ∙ ap Err c.in-Err-Fail.field-0-is) in
+    rw same (io_told before c.args.w.now c.args.t.0 call c.count_or-in-Err-Fail.result s some st)
 
 pub returns-in-Ok-clause-ready : goal.returns-in-Ok-clause-ready
 returns-in-Ok-clause-ready g c call before s some st =

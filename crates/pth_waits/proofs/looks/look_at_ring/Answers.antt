@@ -1,9 +1,11 @@
-use Rattle.std.proofs.Common.{◌≡◌, ◌∙◌, ap, arith}
+use Rattle.std.proofs.Common.{◌≡◌, ◌∙◌, ℕ, ap, subst, arith}
 use Rattle.std.proofs.lemmas.Int.{ints}
 use mir.Syntax.{w64}
 use mir.Val.{to_z, of_z}
 use Rattle.pth_numbered.specs.Operands.{number}
 use Rattle.pth_ring.specs.Rings.{Events}
+use Rattle.pth_model.specs.Looks.{looks_at}
+use Rattle.pth_world.specs.Shows.{Shows}
 use Rattle.pth_waits.proofs.Looking.{none_shows}
 use Rattle.pth_waits.proofs.looks.look_at_ring.Goals as goal
 
@@ -11,3 +13,8 @@ pub returns-in-None-clause-shows : goal.returns-in-None-clause-shows
 returns-in-None-clause-shows g c k sh =
     let is : to_z w64 (of_z w64 c.args.e) ≡ c.args.e = omega (arith, ints) in
     none_shows c.args.w.now (number c.args.e) k sh (k.events.rings (number c.args.e)) (ap (λ (y : Events). y.rings (number c.args.e)) sh.events ∙ (rw (c.rings.ensures, is) at c.in-None.ensures.no_ring))
+
+pub returns-in-Some-clause-shows : goal.returns-in-Some-clause-shows
+returns-in-Some-clause-shows g c k sh =
+    let is : to_z w64 (of_z w64 c.args.e) ≡ c.args.e = omega (arith, ints) in
+    subst (λ (n : ℕ). Shows c.look_round.new.w (looks_at k (k.events.rings n))) (rw (c.rings.ensures, is) at c.in-Some.ensures.named) (c.look_round.ensures.shows k sh)

@@ -6,7 +6,7 @@ use Rattle.pth_model.specs.Verdict.{says}
 use Rattle.pth_numbered.specs.Operands.{is_zero}
 use Rattle.pth_world.proofs.Moves.{runner_alive}
 use Rattle.pth_end.proofs.Handled.{stored_frame}
-use Rattle.pth_waits.proofs.Acquiring.{by_taking, lock_ready, lock_taking, without_ring}
+use Rattle.pth_waits.proofs.Acquiring.{by_taking, by_turning, lock_ready, lock_taking, without_ring}
 use Rattle.pth_waits.proofs.rwlocks.acquire_lock.Goals as goal
 
 pub returns-then-is_no_ring-clause-attempts : goal.returns-then-is_no_ring-clause-attempts
@@ -35,8 +35,8 @@ returns-in-Err-clause-attempts g c =
     let tries : not (of_z w64 c.args.v == 0) ≡ not (is_zero c.args.v) = search rules in
     let ring = c.extra_ring-ring.ensures ∙ ap extra_ring (to_z-of_z c.ranges.e) in
     let same = c.in-Err.ensures.refused in
-    by_taking c.args.t.0 (RwAcquire c.args.l c.args.write c.args.v c.args.e) (Lock c.args.l c.args.write) refl refl c.args.w.now c.requires.whole.sound (extra_ring c.args.e) (lock_taking c.args.t.0 c.args.l c.args.write) (not (is_zero c.args.v)) c.turn_away.new.w c.turn_away.result (Err c.in-Err.errno)
+    by_turning c.args.t.0 (RwAcquire c.args.l c.args.write c.args.v c.args.e) (Lock c.args.l c.args.write) refl refl c.args.w.now c.requires.whole.sound (extra_ring c.args.e) (lock_taking c.args.t.0 c.args.l c.args.write) (not (is_zero c.args.v)) c.turn_away.new.w c.turn_away.result (Err c.in-Err.errno)
     (λ s st. sym ((rw ring at c.is_no_ring.ensures) s st) ∙ c.if-is_no_ring.false)
     (sym c.in-Err.is ∙ rw (to_z-of_z c.ranges.l) at c.take_lock.ensures.answer)
-    (λ s st. (rw (tries, to_z-of_z c.ranges.l, ring) at c.turn_away.ensures.verdict) s (rw same st) (sym ((rw ring at c.is_no_ring.ensures) s st) ∙ c.if-is_no_ring.false))
-    (λ s st. (rw ring at c.turn_away.ensures.ready) (RwAcquire c.args.l c.args.write c.args.v c.args.e) s refl (rw same st))
+    (rw (tries, to_z-of_z c.ranges.l, ring, same) at c.turn_away.ensures.verdict)
+    (rw (ring, same) at c.turn_away.ensures.ready)

@@ -7,12 +7,13 @@ use Rattle.pth_ring.specs.Rings.{claimed}
 use Rattle.pth_model.specs.RingWaits.{claims}
 use Rattle.pth_model.specs.State.{now_of}
 use Rattle.pth_model.specs.Transition.{tid}
-use Rattle.pth_world.proofs.Events.{kept_shows, on_ok}
+use Rattle.pth_world.proofs.Events.{kept_shows}
 use Rattle.pth_world.proofs.world.World.claim.Goals as goal
 
-pub returns-clause-shows : goal.returns-clause-shows
+pub returns-in-Ok-clause-shows : goal.returns-in-Ok-clause-shows
 unfolding claims
-returns-clause-shows g c =
+returns-in-Ok-clause-shows g c k sh =
     let is : to_z w64 (of_z w64 c.args.e) ≡ c.args.e = omega (arith, ints) in
-    let changes = rw (c.rings_mut.ensures.value, c.time-now.ensures.now, is) at c.claim.ensures.changes in
-    on_ok c.claim.result changes (λ is k sh. kept_shows c.args.self.now _ (claimed (number c.args.e) (tid c.args.t.0) (now_of k)) k sh (rw sh.kernel is))
+    let changes = rw (c.rings_mut.ensures.value, c.time-now.ensures.now, is) at c.in_default.ensures.changes in
+    let enters = rw is at c.in-Ok.ensures.shows in
+    enters _ (kept_shows c.args.self.now _ (claimed (number c.args.e) (tid c.args.t.0) (now_of k)) k sh (rw sh.kernel changes))
