@@ -27,7 +27,7 @@ impl Seat {
         }
     }
 
-    // Whether the other is the same seat. The numbers come first: they alone tell most seats apart.
+    // Whether the other is the same seat.
     fn is(self, other: Seat) -> bool
         ensures { result ≡ is_seat self other }
     {
@@ -201,11 +201,18 @@ fn place_of_seat(taken: &[Taken], seat: Seat) -> Option<usize>
     taken.iter().position(|t| t.seat.is(seat))
 }
 
-// Whether a seat is one of these.
+// Whether a seat is one of these. Most seats are told apart by one test, of the numbers alone.
 fn stands_among(taken: &[Taken], seat: Seat) -> bool
     ensures { result ≡ list_any (is_at seat) taken.now }
 {
-    taken.iter().any(|t| t.seat.is(seat))
+    for t in taken {
+        if t.seat.number() == seat.number() {
+            if t.seat.is(seat) {
+                return true;
+            }
+        }
+    }
+    false
 }
 
 // The first seat without a mark has the mark One.
