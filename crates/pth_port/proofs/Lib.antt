@@ -1,0 +1,10 @@
+pub mod Lookups
+pub mod Lines
+pub mod Counts
+pub mod Changes
+pub mod HeldMessages
+pub mod Answering
+pub mod Queueing
+pub mod Taking
+pub mod Naming
+pub mod MailSteps

@@ -1,0 +1,194 @@
+//! Messages by number, and the queues in which they stand.
+
+ghost use Rattle.std.specs.Prelude.{◌≡◌, ◌+◌, ◌<◌, None, Some, OnOk, OnErr, length, is_some, if◌then◌else◌};
+ghost use Rattle.pth_base.specs.Table.{put};
+ghost use Rattle.pth_port.specs.Ports.{entry_at, with_entry, at_place, rewritten, without_reply, next_in, is_held, taken_first, with_last, without_first, linked};
+
+use pth_base::ids::PortId;
+use pth_base::memory::OutOfMemory;
+use std::collections::BTreeMap;
+
+/// The messages that are queued at a port, by the numbers of the first and of the last of them. Where there are none, these
+/// say nothing.
+#[derive(Clone, Copy)]
+pub(crate) struct Queue {
+    pub first: u64,
+    pub last: u64,
+    pub length: u32,
+}
+
+impl Queue {
+    // Nothing is queued.
+    pub(crate) fn new() -> Queue
+        ensures { result.length ≡ 0 }
+    {
+        Queue {
+            first: 0,
+            last: 0,
+            length: 0,
+        }
+    }
+
+    // A message is the last.
+    fn with_last(self, n: u64) -> Queue
+        requires { self.length < 4294967295 }
+        ensures { result ≡ with_last n self }
+    {
+        Queue {
+            first: if self.length == 0 { n } else { self.first },
+            last: n,
+            length: self.length + 1,
+        }
+    }
+
+    // The first is taken, behind which the message `next` stood.
+    pub(crate) fn without_first(self, next: u64) -> Queue
+        requires { 0 < self.length }
+        ensures { result ≡ without_first next self }
+    {
+        Queue {
+            first: next,
+            last: self.last,
+            length: self.length - 1,
+        }
+    }
+}
+
+/// Where a message is.
+#[derive(Clone, Copy)]
+pub(crate) enum Place {
+    /// Queued at a port, in front of the message `next`. Of the last one there `next` says nothing.
+    Queued { port: PortId, next: u64 },
+    /// Got, and not sent back.
+    Held,
+}
+
+impl Place {
+    // Whether the message was got.
+    pub(crate) fn is_held(self) -> bool
+        ensures { result ≡ is_held self }
+    {
+        matches!(self, Place::Held)
+    }
+
+    // The number of the message behind it in its queue.
+    pub(crate) fn next(self) -> u64
+        ensures { result ≡ next_in self }
+    {
+        match self {
+            Place::Queued { port: _, next } => next,
+            Place::Held => 0,
+        }
+    }
+}
+
+/// A message: its value, the port for its reply, and where it is.
+#[derive(Clone, Copy)]
+pub(crate) struct Letter {
+    pub value: i64,
+    pub reply: Option<PortId>,
+    pub place: Place,
+}
+
+// The message of a number.
+#[tactic(auto, unfolding(crate::specs::Ports::entry_at))]
+pub(crate) fn letter_of(letters: &BTreeMap<u64, Letter>, n: u64) -> Option<Letter>
+    ensures { result ≡ entry_at letters.now.entries n }
+{
+    letters.get(&n).copied()
+}
+
+// The first message of a queue, with its number.
+pub(crate) fn first_of(letters: &BTreeMap<u64, Letter>, queue: Queue) -> Option<(u64, Letter)>
+    ensures { result ≡ taken_first queue (entry_at letters.now.entries queue.first) }
+{
+    if queue.length == 0 {
+        return None;
+    }
+    match letter_of(letters, queue.first) {
+        Some(letter) => Some((queue.first, letter)),
+        None => None,
+    }
+}
+
+// A message is at another place.
+pub(crate) fn set_place(letters: &mut BTreeMap<u64, Letter>, n: u64, place: Place)
+    ensures letters { entry_at letters.new.entries
+        ≡ with_entry n (at_place place) (entry_at letters.old.entries) }
+    ensures count { length letters.new.entries ≡ length letters.old.entries }
+{
+    if let Some(letter) = letters.get_mut(&n) {
+        letter.place = place;
+    }
+}
+
+// A message has another value, and no port for its reply.
+pub(crate) fn rewrite(letters: &mut BTreeMap<u64, Letter>, n: u64, value: i64)
+    ensures letters { entry_at letters.new.entries
+        ≡ with_entry n (rewritten value) (entry_at letters.old.entries) }
+    ensures count { length letters.new.entries ≡ length letters.old.entries }
+{
+    if let Some(letter) = letters.get_mut(&n) {
+        letter.value = value;
+        letter.reply = None;
+    }
+}
+
+// A message has no port for its reply.
+pub(crate) fn clear_reply(letters: &mut BTreeMap<u64, Letter>, n: u64)
+    ensures letters { entry_at letters.new.entries
+        ≡ with_entry n without_reply (entry_at letters.old.entries) }
+    ensures count { length letters.new.entries ≡ length letters.old.entries }
+{
+    if let Some(letter) = letters.get_mut(&n) {
+        letter.reply = None;
+    }
+}
+
+// A message more, under a number that none has.
+#[tactic(auto, unfolding(crate::specs::Ports::entry_at))]
+pub(crate) fn add_letter(
+    letters: &mut BTreeMap<u64, Letter>,
+    n: u64,
+    letter: Letter,
+) -> Result<(), OutOfMemory>
+    requires { entry_at letters.old.entries n ≡ None }
+    ensures letters { OnOk result (entry_at letters.new.entries
+        ≡ put (entry_at letters.old.entries) n (Some letter)) }
+    ensures count { OnOk result (length letters.new.entries ≡ length letters.old.entries + 1) }
+    ensures refused { OnErr result (letters.new.entries ≡ letters.old.entries) }
+{
+    let _none = letters.insert(n, letter)?;
+    Ok(())
+}
+
+// A message is gone.
+#[tactic(auto, unfolding(crate::specs::Ports::entry_at))]
+pub(crate) fn remove_letter(letters: &mut BTreeMap<u64, Letter>, n: u64)
+    ensures letters { entry_at letters.new.entries ≡ put (entry_at letters.old.entries) n None }
+    ensures count { length letters.new.entries
+        + (if is_some (entry_at letters.old.entries n) then 1 else 0)
+        ≡ length letters.old.entries }
+{
+    let _letter = letters.remove(&n);
+}
+
+// A message is the last of a queue at a port. The answer is the queue from now on.
+pub(crate) fn add_last(
+    letters: &mut BTreeMap<u64, Letter>,
+    queue: Queue,
+    port: PortId,
+    n: u64,
+) -> Queue
+    requires { queue.length < 4294967295 }
+    ensures letters { entry_at letters.new.entries
+        ≡ linked port n queue (entry_at letters.old.entries) }
+    ensures count { length letters.new.entries ≡ length letters.old.entries }
+    ensures queue { result ≡ with_last n queue }
+{
+    if queue.length > 0 {
+        set_place(letters, queue.last, Place::Queued { port, next: n });
+    }
+    set_place(letters, n, Place::Queued { port, next: 0 });
+    queue.with_last(n)
+}
