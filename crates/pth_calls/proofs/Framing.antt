@@ -13,7 +13,7 @@ use Rattle.pth_world.proofs.Ranks.{ranks_none}
 use Rattle.pth_world.proofs.SettingValues.{objects_frame}
 use Rattle.pth_world.specs.Frame.{Frame}
 use Rattle.pth_world.specs.Ranks.{KeepsRanks}
-use Rattle.pth_world.specs.Numbering.{Thread, Object, Event, Numbers, no_numbers, one_of}
+use Rattle.pth_world.specs.Numbering.{Thread, Object, Event, Port, Numbers, no_numbers, one_of}
 use Rattle.pth_world.specs.Whole.{Whole}
 use Rattle.pth_world.specs.World.{WorldOf}
 
@@ -79,6 +79,7 @@ spawned_frame {P} {S} {H} w v r is whole made ranks same = record {
     | Thread ↦ (let e = made in omega arith)
     | Object ↦ (let e = ap (λ (z : WorldOf P S H). z.attributes.made) same in omega arith)
     | Event ↦ (let e = ap (λ (z : WorldOf P S H). z.events.made) same in omega arith)
+    | Port ↦ (let e = ap (λ (z : WorldOf P S H). z.store.ports.made) same in omega arith)
   ];
   ranks = ranks;
   preferred = ap (λ (z : WorldOf P S H). z.scheduler.preferred) same;

@@ -3,6 +3,7 @@ pub mod Making
 pub mod Barring
 pub mod Framing
 pub mod Plains
+pub mod Porting
 pub mod GivenValues
 pub mod Spawning
 pub mod Yielding

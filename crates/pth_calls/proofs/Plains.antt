@@ -1,21 +1,19 @@
--- How a plain call begins, and the rows of calls that are not built.
-use Rattle.std.proofs.Common.{◌≡◌, ◌≢◌, ◌∙◌, ℕ, ℤ, ap, sym, Bool, true, false, List, [], ◌∷◌, ◌++◌, Option, Some, None, refl}
+-- How a plain call begins, and what the answers of plain calls tell.
+use Rattle.std.proofs.Common.{◌≡◌, ◌∙◌, ℕ, ℤ, ap, sym, true, List, [], ◌∷◌, ◌++◌, Some, refl}
 use Rattle.pth_base.specs.Program.{Functions}
 use Rattle.pth_base.specs.Facilities.{facility_of}
 use Rattle.pth_base.specs.declared.answer.Answer.{Answer}
 use Rattle.pth_base.specs.declared.call.Call.{Call}
 use Rattle.pth_base.specs.declared.call.Call.TheVariants as call
-use Rattle.pth_base.specs.declared.facility.Facility.{Facility}
 use Rattle.pth_base.specs.declared.facility.Facility.TheVariants as facility
 use Rattle.pth_base.specs.declared.ids.Tid.{Tid}
 use Rattle.pth_base.specs.declared.mark.Mark.{Mark}
 use Rattle.pth_base.specs.declared.mark.Mark.TheVariants.{Answered}
 use Rattle.pth_calls.specs.Plain.{is_plain}
-use Rattle.pth_model.specs.Awaits.{is_await}
 use Rattle.pth_model.specs.declared.next.Next.TheVariants as next
 use Rattle.pth_model.specs.Calls.{begun, begun_by, begun_as}
 use Rattle.pth_model.specs.Resources.{told, answer_told}
-use Rattle.pth_model.specs.Row.{unbuilt, effect_of}
+use Rattle.pth_model.specs.Row.{effect_of}
 use Rattle.pth_model.specs.Rows.{row_of}
 use Rattle.pth_model.specs.State.{State}
 use Rattle.pth_model.specs.Transition.{Went, tid, tells, ◌and_then◌, ◌and_next◌, ◌and_finally◌}
@@ -105,70 +103,7 @@ pub quiet_close : (t : Tid) (d : ℤ) (a : Answer) → IsQuiet (Answered t (call
 unfolding told answer_told
 quiet_close t d a = λ x. refl
 
--- ---- the facilities of which some plain call is built
-
-abbrev has_code : Facility → Bool
-has_code facility.Library = true
-has_code facility.Attributes = true
-has_code facility.Threads = true
-has_code facility.Cancellation = true
-has_code facility.Utilities = true
-has_code facility.Events = true
-has_code facility.Keys = true
-has_code facility.Cleanups = true
-has_code facility.Mutexes = true
-has_code facility.Rwlocks = true
-has_code facility.Conditions = true
-has_code facility.Barriers = true
-has_code facility.Io = true
-has_code x = false
-
-abbrev pub is_of_code : Option Facility → Bool
-is_of_code (Some x) = has_code x
-is_of_code None = false
-
--- a facility is another one
-pub record IsOther (x : Facility) : Type 0 where
-  pub library : x ≢ facility.Library
-  pub attributes : x ≢ facility.Attributes
-  pub threads : x ≢ facility.Threads
-  pub cancellation : x ≢ facility.Cancellation
-  pub utilities : x ≢ facility.Utilities
-  pub events : x ≢ facility.Events
-  pub keys : x ≢ facility.Keys
-  pub cleanups : x ≢ facility.Cleanups
-  pub mutexes : x ≢ facility.Mutexes
-  pub rwlocks : x ≢ facility.Rwlocks
-  pub conditions : x ≢ facility.Conditions
-  pub barriers : x ≢ facility.Barriers
-  pub io : x ≢ facility.Io
-
-pub other_facility : (x : Facility) → IsOther x → is_of_code (Some x) ≡ false
-other_facility facility.Library other = absurd (other.library refl)
-other_facility facility.Attributes other = absurd (other.attributes refl)
-other_facility facility.Threads other = absurd (other.threads refl)
-other_facility facility.Cancellation other = absurd (other.cancellation refl)
-other_facility facility.Utilities other = absurd (other.utilities refl)
-other_facility facility.Events other = absurd (other.events refl)
-other_facility facility.Keys other = absurd (other.keys refl)
-other_facility facility.Cleanups other = absurd (other.cleanups refl)
-other_facility facility.Mutexes other = absurd (other.mutexes refl)
-other_facility facility.Rwlocks other = absurd (other.rwlocks refl)
-other_facility facility.Conditions other = absurd (other.conditions refl)
-other_facility facility.Barriers other = absurd (other.barriers refl)
-other_facility facility.Io other = absurd (other.io refl)
-other_facility x other = refl
-
--- a plain call awaits no condition
-pub plain_awaits_none : (c : Call) → is_plain c ≡ true → is_await c ≡ false
-plain_awaits_none (call.CondAwait x m e) plain = absurd (cc plain)
-plain_awaits_none c plain = refl
-
--- a plain call is of a facility
-pub plain_called : (c : Call) → is_plain c ≡ true → facility_of c ≢ None
-plain_called call.Plain plain is = cc plain
-plain_called (call.Note v) plain is = cc plain
-plain_called c plain is = cc is
+-- ---- plain calls
 
 module _ {P S H : Type 0} (f : P → Functions S H) (s : State P S H) (t : ℕ) where
   -- a plain call begins as its row says
@@ -189,17 +124,3 @@ module _ {P S H : Type 0} (f : P → Functions S H) (s : State P S H) (t : ℕ) 
     stands = is.stands s st;
     tells = appended ∙ ap (λ (ms : List Mark). old ++ (ms ++ Answered (tid t) c a ∷ [])) (sym (is.silent s st));
   }
-
-  -- the calls of the other facilities
-  pub unbuilt_row : (c : Call) → facility_of c ≢ None → is_of_code (facility_of c) ≡ false → row_of f s t c ≡ unbuilt
-  unfolding row_of
-  unbuilt_row (call.PortCreate name) called none = refl
-  unbuilt_row (call.PortFind name) called none = refl
-  unbuilt_row (call.PortPending p) called none = refl
-  unbuilt_row (call.PortPut p v r) called none = refl
-  unbuilt_row (call.PortGet p) called none = refl
-  unbuilt_row (call.Reply m v) called none = refl
-  unbuilt_row (call.PortDestroy p) called none = refl
-  unbuilt_row call.Plain called none = absurd (called refl)
-  unbuilt_row (call.Note v) called none = absurd (called refl)
-  unbuilt_row c called none = absurd (cc none)

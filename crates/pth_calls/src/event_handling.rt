@@ -23,7 +23,7 @@ use pth_base::ids::Tid;
 use pth_base::memory::OutOfMemory;
 use pth_base::program::Program;
 use pth_end::saying::{done, refused};
-use pth_model::times::moment_of;
+use pth_model::times::{micros, moment_of};
 use pth_ring::event::Status;
 use pth_world::world::World;
 
@@ -54,7 +54,21 @@ fn descriptor_spec(goals: u8, fd: i64) -> Option<EventSpec>
     Some(EventSpec::Fd { goals, fd })
 }
 
-// What an event is of that a line asks for. None where its operands are refused. Events of other kinds are not built yet.
+// An event of a function. None for a negative interval.
+fn function_spec(check: i64, arg: i64, interval: i64) -> Option<EventSpec>
+    ensures { result ≡ spec_for (line.Func check arg interval) }
+{
+    if interval < 0 {
+        return None;
+    }
+    Some(EventSpec::Func {
+        check,
+        arg,
+        interval: micros(interval),
+    })
+}
+
+// What an event is of that a line asks for. None where its operands are refused.
 fn spec_of(line: &EvLine) -> Option<EventSpec>
     ensures { result ≡ spec_for line.now }
 {
@@ -66,8 +80,17 @@ fn spec_of(line: &EvLine) -> Option<EventSpec>
             w: *w,
             x: *x,
         }),
+        EvLine::Msg(p) => Some(EventSpec::Msg(*p)),
         EvLine::Cond(c) => Some(EventSpec::Cond(*c)),
-        _ => None,
+        EvLine::Tid { state, tid } => Some(EventSpec::Tid {
+            state: *state,
+            tid: *tid,
+        }),
+        EvLine::Func {
+            check,
+            arg,
+            interval,
+        } => function_spec(*check, *arg, *interval),
     }
 }
 

@@ -1,7 +1,7 @@
 //! Calls that never block their thread, and end neither it nor the run.
 //!
 //! For every whole world, and every state for which it stands: `begin_plain` begins each call that only changes the
-//! world and is answered; a call that is not built is answered EINVAL. `yield_to` gives up control. `pop_cleanup`
+//! world and is answered. `yield_to` gives up control. `pop_cleanup`
 //! and `once` run a handler before they are answered. `cancel` and `abort` end another thread in the caller's turn,
 //! or set its request, or take it out of the system. What comes next for the caller, the new state and the marks
 //! are those of `begun`, and the caller still runs; after want of memory a beginning of the marks was told, and the
@@ -21,6 +21,7 @@ pub mod library_control;
 mod mutexes;
 pub mod once;
 pub mod plain;
+mod ports;
 mod rwlocks;
 pub mod script_lines;
 pub mod thread_control;

@@ -24,12 +24,12 @@ use crate::event_handling::answer_events;
 use crate::key_storage::answer_keys;
 use crate::library_control::answer_library;
 use crate::mutexes::answer_mutexes;
+use crate::ports::answer_ports;
 use crate::rwlocks::answer_rwlocks;
 use crate::thread_control::answer_threads;
 use crate::utilities::answer_utilities;
 use pth_base::answer::Answer;
 use pth_base::call::Call;
-use pth_base::errno::Errno;
 use pth_base::facility::Facility;
 use pth_base::ids::Tid;
 use pth_base::marks::Marks;
@@ -47,9 +47,8 @@ fn answer<P: Program>(w: &mut World<P>, t: Tid, call: &Call) -> Result<Answer, O
     ensures told { IfOk result (λ a. IsTold w.old w.new (Answered t call.now a) a (λ (s : State P P.State P.Shared). (row_of P.functions s t.0 call.now).begin)) }
     ensures frame { OnOk result (Frame w.old w.new one_of_each (Some t.0) false) }
 {
-    let facility = match call.facility() {
-        Some(facility) => facility,
-        None => return Ok(Answer::Fail(Errno::EINVAL)),
+    let Some(facility) = call.facility() else {
+        unreachable!()
     };
     match facility {
         Facility::Library => Ok(answer_library(w, t, call)),
@@ -65,12 +64,12 @@ fn answer<P: Program>(w: &mut World<P>, t: Tid, call: &Call) -> Result<Answer, O
         Facility::Conditions => Ok(answer_conditions(w, t, call)),
         Facility::Barriers => answer_barriers(w, t, call),
         Facility::Io => Ok(answer_descriptors(w, call)),
-        _ => Ok(Answer::Fail(Errno::EINVAL)),
+        Facility::Ports => answer_ports(w, t, call),
     }
 }
 
 /// Begins a call of the thread that runs, and tells of it: one that neither blocks the thread nor gives up control, and that
-/// ends nothing. A call that is not built yet is refused with EINVAL. After an error the world may only be dropped.
+/// ends nothing. After an error the world may only be dropped.
 pub fn begin_plain<P: Program>(
     w: &mut World<P>,
     t: Tid,

@@ -107,7 +107,7 @@ module _ {P S H : Type 0} (f : P → Functions S H) (t : ℕ) (h : HandlerId) (v
 
 -- ---- what marks of acts tell
 
--- a note, a shared value that is set, a condition that is notified, and an act that is refused change nothing of what threads have
+-- a note, a shared value that is set, and a condition that is notified change nothing of what threads have
 pub quiet_note : (t : Tid) (n : ℤ) → IsQuiet (Acted t (act.Note n) answer.None)
 unfolding told act_told
 quiet_note t n = λ x. refl
@@ -120,11 +120,7 @@ pub quiet_notify : (t : Tid) (c v : ℤ) (a : Answer) → IsQuiet (Acted t (act.
 unfolding told act_told
 quiet_notify t c v a = λ x. refl
 
-pub quiet_put : (t : Tid) (p v : ℤ) (e : Errno) → IsQuiet (Acted t (act.Put p v) (Fail e))
-unfolding told act_told answer_told
-quiet_put t p v e = λ x. refl
-
--- an act that sets a value or releases a mutex tells what the call does
+-- an act that sets a value, releases a mutex or puts a message tells what the call does
 pub acted_key_set : (t : Tid) (k v : ℤ) (a : Answer) (x : Resources) → told x (Answered t (call.KeySet k v) a) ≡ told x (Acted t (act.SetKey k v) a)
 unfolding told act_told
 acted_key_set t k v a x = refl
@@ -132,6 +128,10 @@ acted_key_set t k v a x = refl
 pub acted_release : (t : Tid) (m : ℤ) (a : Answer) (x : Resources) → told x (Answered t (call.MutexRelease m) a) ≡ told x (Acted t (act.Release m) a)
 unfolding told act_told
 acted_release t m a x = refl
+
+pub acted_put : (t : Tid) (p v : ℤ) (a : Answer) (x : Resources) → told x (Answered t (call.PortPut p v (pos 0)) a) ≡ told x (Acted t (act.Put p v) a)
+unfolding told act_told
+acted_put t p v a x = refl
 
 -- that a handler runs changes nothing of it
 pub quiet_handler : (t : Tid) (h : HandlerId) (v : ℤ) → IsQuiet (Handler t h v)
@@ -153,26 +153,34 @@ module _ {P S H : Type 0} (w v : WorldOf P S H) (t : Tid) (shows : (k : Control 
   pub stored_by : {A : Type 0} (r : Store → A) (a : A) → r (store_of w.store) ≡ a → (s : State P S H) → StandsFor w s → r s.resources.store ≡ a
   stored_by r a is s st = ap r st.store ∙ is
 
+  -- a call that changes nothing by itself, and says what is stored; the mark tells what it changes
+  module _ {A : Type 0} (c : Call) (answer : Store → Result A Errno) (say : A → Verdict) where
+    abbrev answering : State P S H → Attempt P S H
+    answering s = by_result say (answer s.resources.store) trying changes nothing
+
+    said : (a : Answer) → by_result say (answer (store_of w.store)) ≡ Says a → Tells w (Answered t c a) v → IsTold w v (Answered t c a) a answering
+    said a says tell = stored_told w v (Answered t c a) a (λ s. by_result say (answer s.resources.store)) (stored_by (λ x. by_result say (answer x)) _ says) shows tell
+
+    pub value_told : (x : A) (a : Answer) (g : Store → Store) → answer (store_of w.store) ≡ Ok x → say x ≡ Says a → ((k : Resources) → (told k (Answered t c a)).store ≡ g k.store) → store_of v.store ≡ g (store_of w.store) → IsTold w v (Answered t c a) a answering
+    value_told x a g is says tell changes = said a (ap (by_result say) is ∙ says) (λ k has. tell k ∙ ap g has ∙ sym changes)
+
+    pub error_told : (e : Errno) → answer (store_of w.store) ≡ Err e → is_await c ≡ false → v ≡ w → IsTold w v (Answered t c (Fail e)) (Fail e) answering
+    error_told e is other same = said (Fail e) (ap (by_result say) is) (refused_tells w v t c e other same)
+
   module _ (c : Call) (answer : Store → Result (Unit {0}) Errno) (g : Store → Store) (one : DoneTells t c g) (other : is_await c ≡ false) where
     abbrev saying : State P S H → Attempt P S H
     saying s = by_result done (answer s.resources.store) trying changes nothing
 
-    said : (a : Answer) → by_result done (answer (store_of w.store)) ≡ Says a → Tells w (Answered t c a) v → IsTold w v (Answered t c a) a saying
-    said a says tell = stored_told w v (Answered t c a) a (λ s. by_result done (answer s.resources.store)) (stored_by (λ x. by_result done (answer x)) _ says) shows tell
-
-    one_tells : store_of v.store ≡ g (store_of w.store) → Tells w (Answered t c (Int (pos 1))) v
-    one_tells changes k has = one k ∙ ap g has ∙ sym changes
-
     pub done_told : (r : Result (Unit {0}) Errno) (a : Answer) → r ≡ answer (store_of w.store) → by_result done r ≡ Says a → OnOk r (store_of v.store ≡ g (store_of w.store)) → OnErr r (v ≡ w) → IsTold w v (Answered t c a) a saying
-    done_told (Ok u) a is says changes same = let one : Int (pos 1) ≡ a = cc says in subst (λ (b : Answer). IsTold w v (Answered t c b) b saying) one (said (Int (pos 1)) (ap (by_result done) (sym is)) (one_tells changes))
-    done_told (Err e) a is says changes same = let fails : Fail e ≡ a = cc says in subst (λ (b : Answer). IsTold w v (Answered t c b) b saying) fails (said (Fail e) (ap (by_result done) (sym is)) (refused_tells w v t c e other same))
+    done_told (Ok u) a is says changes same = let first : Int (pos 1) ≡ a = cc says in subst (λ (b : Answer). IsTold w v (Answered t c b) b saying) first (value_told c answer done u (Int (pos 1)) g (sym is) refl one changes)
+    done_told (Err e) a is says changes same = let fails : Fail e ≡ a = cc says in subst (λ (b : Answer). IsTold w v (Answered t c b) b saying) fails (error_told c answer done e (sym is) other same)
 
     -- one that takes memory
     pub memory_done : (u : Unit {0}) → AnswersWithMemory (answer (store_of w.store)) (Ok u) → store_of v.store ≡ g (store_of w.store) → IsTold w v (Answered t c (Int (pos 1))) (Int (pos 1)) saying
-    memory_done u answers changes = said (Int (pos 1)) (ap (by_result done) (sym (done_answered _ u answers))) (one_tells changes)
+    memory_done u answers changes = value_told c answer done u (Int (pos 1)) g (sym (done_answered _ u answers)) refl one changes
 
     pub memory_refused : (e : Refusal) (r : Result Answer OutOfMemory) → AnswersWithMemory (answer (store_of w.store)) (Err e) → IfOk r (λ a. SaysRefusal e a) → v ≡ w → IfOk r (λ a. IsTold w v (Answered t c a) a saying)
-    memory_refused (refusal.Fail e) (Ok a) answers says same = subst (λ (b : Answer). IsTold w v (Answered t c b) b saying) (sym says) (said (Fail e) (ap (by_result done) (sym (error_answered _ e answers))) (refused_tells w v t c e other same))
+    memory_refused (refusal.Fail e) (Ok a) answers says same = subst (λ (b : Answer). IsTold w v (Answered t c b) b saying) (sym says) (error_told c answer done e (sym (error_answered _ e answers)) other same)
     memory_refused refusal.OutOfMemory (Ok a) answers says same = absurd says
     memory_refused e (Err o) answers says same = tt
 

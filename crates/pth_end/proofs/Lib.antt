@@ -2,6 +2,7 @@ pub mod Answers
 pub mod Chains
 pub mod Framing
 pub mod Handled
+pub mod Ported
 pub mod Acting
 pub mod Deciding
 pub mod Stacks

@@ -25,7 +25,7 @@ use Rattle.pth_world.proofs.Ranks.{ranks_none, ranks_same}
 use Rattle.pth_world.proofs.Telling.{has_still, quiet_leads}
 use Rattle.pth_world.specs.Frame.{Frame}
 use Rattle.pth_world.specs.Leading.{Leads, IsQuiet}
-use Rattle.pth_world.specs.Numbering.{Thread, Object, Event, no_numbers}
+use Rattle.pth_world.specs.Numbering.{Thread, Object, Event, Port, no_numbers}
 use Rattle.pth_world.specs.Shows.{Shows, StandsFor}
 use Rattle.pth_world.specs.Whole.{Whole}
 use Rattle.pth_world.specs.Sound.{IsAlive, lives}
@@ -153,6 +153,7 @@ module _ {P S H : Type 0} where
           | Thread ↦ (let e = ap (λ (k : WorldOf P S H). k.threads.records.made) same in omega arith)
           | Object ↦ (let e = ap (λ (k : WorldOf P S H). k.attributes.made) same in omega arith)
           | Event ↦ omega arith
+          | Port ↦ (let e = ap (λ (k : WorldOf P S H). k.store.ports.made) same in omega arith)
         ];
         ranks = ranks_same 0 x.threads x.threads z.threads (ap (λ (k : WorldOf P S H). k.threads.queues) same) (ranks_none x.threads);
         preferred = ap (λ (k : WorldOf P S H). k.scheduler.preferred) same;

@@ -2,13 +2,15 @@
 
 ghost use Rattle.std.specs.Prelude.{IfOk, OnOk, OnErr};
 ghost use Rattle.pth_base.specs.Cut.{IsCut};
-ghost use Rattle.pth_base.specs.declared.call.Call.TheVariants.{KeySet, MutexRelease};
+ghost use Rattle.pth_base.specs.declared.call.Call.TheVariants.{KeySet, MutexRelease, PortPut};
+ghost use Rattle.pth_base.specs.declared.ids.Tid.{Tid};
 ghost use Rattle.pth_base.specs.declared.mark.Mark.TheVariants.{Acted, Answered};
 ghost use Rattle.pth_end.specs.Handling.{IsHandled};
 ghost use Rattle.pth_model.specs.Acts.{acts, row_of_act};
 ghost use Rattle.pth_model.specs.Conditions.{cond_notify};
 ghost use Rattle.pth_model.specs.KeyStorage.{key_set};
 ghost use Rattle.pth_model.specs.Mutexes.{mutex_release};
+ghost use Rattle.pth_model.specs.Ports.{port_put};
 ghost use Rattle.pth_model.specs.State.{State};
 ghost use Rattle.pth_world.specs.Leading.{IsAnswered, IsTold, Leads};
 ghost use Rattle.pth_world.specs.Shows.{StandsFor};
@@ -18,13 +20,15 @@ ghost use Rattle.pth_world.specs.Whole.{Whole};
 use crate::saying::{done, refused};
 use pth_base::act::Act;
 use pth_base::answer::Answer;
-use pth_base::errno::Errno;
 use pth_base::ids::Tid;
 use pth_base::mark::Mark;
 use pth_base::marks::Marks;
 use pth_base::memory::OutOfMemory;
 use pth_base::program::Program;
 use pth_world::world::World;
+
+/// How many messages may be put in a run.
+const MOST_SENT: u64 = 1 << 62;
 
 /// `pth_key_setdata`, as a call and as an act: sets a thread's value under a key. ENOENT where the key is not live.
 pub fn set_key<P: Program>(w: &mut World<P>, t: Tid, k: i64, v: i64) -> Result<Answer, OutOfMemory>
@@ -60,8 +64,30 @@ pub fn notify<P: Program>(w: &mut World<P>, c: i64, v: i64) -> Answer
     done(w.conditions_mut().notify(c, v != 0))
 }
 
-// The answer of an act, which does what its row says. A note and a shared value that is set call nothing, and the call of one is not
-// built yet.
+/// `pth_msgport_put`, as a call and as an act: a message with a value is last at a port. `reply` is the port for its reply, 0 for
+/// none. EINVAL where the port is not live, or `reply` is neither 0 nor a live port, EAGAIN where 65,536 messages are queued or
+/// held.
+pub fn put_message<P: Program>(
+    w: &mut World<P>,
+    p: i64,
+    v: i64,
+    reply: i64,
+) -> Result<Answer, OutOfMemory>
+    requires whole { Whole w.old }
+    ensures told { IfOk result (λ a. (t : Tid) → IsTold w.old w.new (Answered t (PortPut p v reply) a) a (λ (s : State P P.State P.Shared). (port_put s p reply).begin)) }
+    ensures handled { OnOk result (IsHandled w.old w.new) }
+{
+    // Each step puts few messages, and so this is never met.
+    if w.ports().sent() >= MOST_SENT {
+        return Err(OutOfMemory);
+    }
+    match w.ports_mut().put(p, v, reply) {
+        Ok(_message) => Ok(Answer::Int(1)),
+        Err(refusal) => refused(refusal),
+    }
+}
+
+// The answer of an act, which does what its row says. A note and a shared value that is set call nothing.
 fn answer_act<P: Program>(w: &mut World<P>, t: Tid, act: Act) -> Result<Answer, OutOfMemory>
     requires whole { Whole w.old }
     requires alive { IsAlive w.old.threads t.0 }
@@ -73,7 +99,7 @@ fn answer_act<P: Program>(w: &mut World<P>, t: Tid, act: Act) -> Result<Answer, 
         Act::SetKey(k, v) => set_key(w, t, k, v),
         Act::Release(m) => Ok(release_mutex(w, t, m)),
         Act::Notify(c, v) => Ok(notify(w, c, v)),
-        Act::Put(_, _) => Ok(Answer::Fail(Errno::EINVAL)),
+        Act::Put(p, v) => put_message(w, p, v, 0),
     }
 }
 

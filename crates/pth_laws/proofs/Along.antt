@@ -169,7 +169,7 @@ pub record KeptAlong {P S H : Type 0} (f : P → Functions S H) (R : State P S H
   pub destroyed : (n : ℕ) (s : State P S H) → R s → R (controlled (puts_object n None) s)
   -- events, and looks at them
   pub arranges : (x : Arrangement) (s : State P S H) → MayArrange s.control.events x → R s → R (controlled (with_events (arranged x)) s)
-  pub looked : (s : State P S H) → R s → R (controlled looks s)
+  pub looked : (s : State P S H) → R s → R (controlled (looks f s) s)
   -- barriers: none has an arrival more, and none is lost; or t's call makes one, and waits for its round
   pub barred : (x : BarrierTable) (s : State P S H) → HasFewer x s.control.barriers → HasAll x s.control.barriers → R s → R (controlled (with_barriers (λ y. x)) s)
   pub reached : (t : ℕ) (b : ℤ) (round : ℕ) (s : State P S H) → IsFree t s → lives (s.control.threads.known t) ≡ true → is_some (s.control.threads.progress t) ≡ true → arrival_answer s.control.barriers b ≡ Ok (arrival.Waits round) → R s → R (controlled (λ k. blocks t (call.BarrierReach b) (awaits.Round b round) (with_barriers (barrier_reached b t) k)) s)
@@ -219,6 +219,11 @@ module _ {P S H : Type 0} (f : P → Functions S H) (R : State P S H → Type 0)
   then_runs : (a b : Piece P S H) → Runs a → Runs b → Runs (a and_then b)
   then_runs a b x y s r = y (a s).state (x s r)
 
+  -- an act that changes nothing, refused or not, and is told
+  nothing_keeps : (t : ℕ) (x : Act) (s : State P S H) (b : Bool) → R s → R ((unless_refused b (changes nothing) and_then tells (mark.Acted (tid t) x (answer_in (row_of_act s t x).begin.verdict))) s).state
+  nothing_keeps t x s true r = kept.told _ s tt r
+  nothing_keeps t x s false r = kept.told _ s tt r
+
   act_keeps : (t : ℕ) (x : Act) → Runs (acts t x)
   unfolding acts
   act_keeps t (act.Notify c v) s r = by_refusal (refuses (row_of_act s t (act.Notify c v)).begin.verdict)
@@ -229,22 +234,9 @@ module _ {P S H : Type 0} (f : P → Functions S H) (R : State P S H → Type 0)
       by_refusal : (b : Bool) → R ((unless_refused b (row_of_act s t (act.Notify c v)).begin.effect and_then tells m) s).state
       by_refusal true = kept.told m s tt r
       by_refusal false = kept.told m (controlled (with_conditions (cond_notified c (not (is_zero v)))) s) tt (kept.seated _ s (seats_notified c (not (is_zero v)) s.control.conditions) r)
-  act_keeps t (act.SetKey k v) s r = by_refusal (refuses (row_of_act s t (act.SetKey k v)).begin.verdict)
-    where
-      m : Mark
-      m = mark.Acted (tid t) (act.SetKey k v) (answer_in (row_of_act s t (act.SetKey k v)).begin.verdict)
-
-      by_refusal : (b : Bool) → R ((unless_refused b (changes nothing) and_then tells m) s).state
-      by_refusal true = kept.told m s tt r
-      by_refusal false = kept.told m s tt r
-  act_keeps t (act.Release i) s r = by_refusal (refuses (row_of_act s t (act.Release i)).begin.verdict)
-    where
-      m : Mark
-      m = mark.Acted (tid t) (act.Release i) (answer_in (row_of_act s t (act.Release i)).begin.verdict)
-
-      by_refusal : (b : Bool) → R ((unless_refused b (changes nothing) and_then tells m) s).state
-      by_refusal true = kept.told m s tt r
-      by_refusal false = kept.told m s tt r
+  act_keeps t (act.SetKey k v) s r = nothing_keeps t (act.SetKey k v) s (refuses (row_of_act s t (act.SetKey k v)).begin.verdict) r
+  act_keeps t (act.Release i) s r = nothing_keeps t (act.Release i) s (refuses (row_of_act s t (act.Release i)).begin.verdict) r
+  act_keeps t (act.Put p v) s r = nothing_keeps t (act.Put p v) s (refuses (row_of_act s t (act.Put p v)).begin.verdict) r
   act_keeps t x s r = kept.told (mark.Acted (tid t) x (answer_in (row_of_act s t x).begin.verdict)) s tt r
 
   look_keeps : (t : ℕ) (x : Option Act) (next : Piece P S H) → Runs next → Runs (goes_on_after t x next)
@@ -849,9 +841,9 @@ module _ {P S H : Type 0} (f : P → Functions S H) (R : State P S H → Type 0)
       let rank = prio_of s.control t +ℤ pos 1 in
       woken_keeps ts (woken t s).state (kept.handlers.told (mark.Woke (tid t) rank) (controlled (is_ready_at t rank false) s) tt (ready_keeps t rank false s r))
 
-  pass_keeps : Keeps (pass)
+  pass_keeps : Keeps (pass f)
   unfolding pass
-  pass_keeps s r = woken_keeps (to_wake s) (controlled looks s) (kept.looked s r)
+  pass_keeps s r = woken_keeps (to_wake f s) (controlled (looks f s) s) (kept.looked s r)
 
   readies_keep : (ts : List ℕ) → Stays (readies_all ts)
   unfolding readies_all readies
@@ -885,7 +877,7 @@ module _ {P S H : Type 0} (f : P → Functions S H) (R : State P S H → Type 0)
   placed_keeps t (Some u) (Some b) s r = put_keeps t state.Waiting Waiting s tt r
   placed_keeps t (Some u) None s r = put_keeps t state.Ready Ready s tt r
 
-  closes_keeps : (x : Turn) (t : ℕ) (s : State P S H) → R s → R (closes x t s).state
+  closes_keeps : (x : Turn) (t : ℕ) (s : State P S H) → R s → R (closes f x t s).state
   unfolding closes is_placed raises_ready
   closes_keeps x t s r =
       let a = controlled raises_ready s in
@@ -893,7 +885,7 @@ module _ {P S H : Type 0} (f : P → Functions S H) (R : State P S H → Type 0)
       let c = controlled (runs_now None) b in
       pass_keeps (controlled (turn_ends t) s) (moves_to_keeps (min (now_of c.control + clock_of c.control) last_moment) c (runs_now_keeps None b (placed_keeps t s.control.scheduler.running (blocked_of s.control t) a (raises_keeps s r))))
 
-  moves_keeps : (x : Turn) (o : Option ℕ) (s : State P S H) → R s → R (moves_by x o s).state
+  moves_keeps : (x : Turn) (o : Option ℕ) (s : State P S H) → R s → R (moves_by f x o s).state
   moves_keeps x None s r = r
   moves_keeps x (Some m) s r =
       let a = controlled (moves_to m) s in
@@ -901,7 +893,7 @@ module _ {P S H : Type 0} (f : P → Functions S H) (R : State P S H → Type 0)
 
   part_keeps : (x : Turn) (s : State P S H) (p : Part) → ((t : ℕ) → p ≡ Step t → IsSound t s.control) → R s → R (part_by f x s p).state
   unfolding moves
-  part_keeps x s Move sound r = moves_keeps x (moment s) s r
+  part_keeps x s Move sound r = moves_keeps x (moment f s) s r
   part_keeps x s Take sound r = takes_keeps x s r
   part_keeps x s (Step t) sound r = step_keeps t x s (sound t refl) r
   part_keeps x s (Close t) sound r = closes_keeps x t s r

@@ -124,9 +124,9 @@ module _ {P S H : Type 0} where
   unfolding vanish_all_but
   arrivals_vanished t s b round u h = absurd (true_false (sym h ∙ none_arrived s.control.barriers b round u))
 
-  arrivals_looked : (s : State P S H) → AreArrivals s → AreArrivals (controlled looks s)
+  arrivals_looked : (f : P → Functions S H) (s : State P S H) → AreArrivals s → AreArrivals (controlled (looks f s) s)
   unfolding looks
-  arrivals_looked s r = r
+  arrivals_looked f s r = r
 
   -- what blocks t changes
   arrivals_goes : (t : ℕ) (g : Progress S → Progress S) (s : State P S H) → ((b round : ℕ) → has_arrived s.control.barriers b round t ≡ true → WaitsFor b round (blocked_in (option_map g (s.control.threads.progress t)))) → AreArrivals s → AreArrivals (controlled (goes_on t g) s)
@@ -258,7 +258,7 @@ module _ {P S H : Type 0} where
     valued = λ a v x s there inside r. r;
     destroyed = λ n s r. r;
     arranges = λ x s may r. r;
-    looked = λ s r. arrivals_looked s r;
+    looked = λ s r. arrivals_looked f s r;
     barred = λ x s fewer all r. arrivals_barred x s fewer r;
     reached = λ t b round s free alive there waits r. arrivals_reached t b round s free alive there waits r;
     goes = λ t g s same r. same_goes t g s same r;

@@ -22,7 +22,7 @@ use Rattle.pth_threads.specs.declared.entry.NewThread.{NewThread}
 use Rattle.pth_model.specs.declared.blocked.Blocked.{Blocked}
 use Rattle.pth_model.specs.declared.progress.Progress.{Progress}
 use Rattle.pth_model.specs.Resources.{Resources, answer_told, act_told, wait_told, on_one, on_int, on_msg, retaken, let_go}
-use Rattle.pth_model.specs.State.{Control, Threads}
+use Rattle.pth_model.specs.State.{State, Control, Threads}
 use Rattle.pth_model.specs.Calls.{blocks}
 use Rattle.pth_model.specs.declared.awaits.Awaits.{Awaits}
 use Rattle.pth_model.specs.declared.awaits.Awaits.TheVariants as awaited
@@ -181,9 +181,9 @@ module _ {P S H : Type 0} (w : Flags) where
       kept : blocked_in (put k.threads.progress u (option_map g (k.threads.progress u)) v) ≡ blocked_of k v
       kept = put_by (λ p. blocked_in p ≡ blocked_of k v) k.threads.progress u (option_map g (k.threads.progress u)) v (λ here. by_progress (k.threads.progress u) ∙ ap (blocked_of k) (sym here)) (λ apart. refl)
 
-  pub awaits_look : (k : Control P S H) → HasAwaits k → HasAwaits (looks k)
+  pub awaits_look : (f : P → Functions S H) (s : State P S H) → HasAwaits s.control → HasAwaits (looks f s s.control)
   unfolding looks
-  awaits_look k has = has
+  awaits_look f s has = has
 
 -- the same is told
 pub awaits_as : {P S H : Type 0} (w v : Flags) (k : Control P S H) → ((u : ℕ) → AreSame v w u) → HasAwaits w k → HasAwaits v k

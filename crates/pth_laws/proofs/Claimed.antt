@@ -241,12 +241,12 @@ module _ {P S H : Type 0} where
       by_progress e None at h = absurd (none_some e h)
       by_progress e (Some p) at h = ap (λ o. event_held (blocked_in o)) at ∙ sym (same p at) ∙ h
 
-  fits_looked : (s : State P S H) → FitsIn s → FitsIn (controlled looks s)
+  fits_looked : (f : P → Functions S H) (s : State P S H) → FitsIn s → FitsIn (controlled (looks f s) s)
   unfolding looks
-  fits_looked s r =
+  fits_looked f s r =
       let k = s.control in
       let es = flat_map (awaited_events k) (waiting k) in
-      fits_as k.events (held_in k) r _ refl refl (λ e. each_same is_some (looked_at k e) (some_mapped (looked_at k e)) es k.events.events e) (λ e. each_same claimant_by (looked_at k e) (mapped_claim (looked_at k e) (λ v. refl)) es k.events.events e)
+      fits_as k.events (held_in k) r _ refl refl (λ e. each_same is_some (looked_at f s e) (some_mapped (looked_at f s e)) es k.events.events e) (λ e. each_same claimant_by (looked_at f s e) (mapped_claim (looked_at f s e) (λ v. refl)) es k.events.events e)
 
   -- ---- a call begins to block t, or blocks it no longer
 
@@ -347,7 +347,7 @@ module _ {P S H : Type 0} where
     valued = λ a v x s there inside r. r;
     destroyed = λ n s r. r;
     arranges = λ q s may r. fits_arranged s.control.events (held_in s.control) r q may;
-    looked = λ s r. fits_looked s r;
+    looked = λ s r. fits_looked f s r;
     barred = λ x s fewer all r. r;
     reached = λ t b round s free alive there waits r. fits_reached t b round s r;
     goes = λ t g s same r. fits_goes t g s (λ p at. ap event_held (same p)) r;

@@ -18,7 +18,7 @@ use Rattle.pth_threads.specs.declared.entry.Entry.{Entry}
 use Rattle.pth_threads.specs.declared.entry.NewThread.{NewThread}
 use Rattle.pth_model.specs.declared.blocked.Blocked.{Blocked}
 use Rattle.pth_model.specs.declared.progress.Progress.{Progress}
-use Rattle.pth_model.specs.State.{Control, Threads, now_of}
+use Rattle.pth_model.specs.State.{State, Control, Threads, now_of}
 use Rattle.pth_model.specs.Ending.{is_dead_with, leaves, stops_running}
 use Rattle.pth_model.specs.Changes.{sets, enters, leaves_queue, makes, forgets, removes, goes_on, blocking, is_blocked_by, or_nobody, entry_of, blocked_in, blocked_of, queue_for}
 use Rattle.pth_model.specs.Awaits.{is_retaking}
@@ -329,6 +329,6 @@ module _ {P S H : Type 0} (t : ℕ) where
 -- ---- a pass looks at events
 
 module _ {P S H : Type 0} where
-  pub claims_look : (k : Control P S H) → HasClaims k → HasClaims (looks k)
+  pub claims_look : (f : P → Functions S H) (s : State P S H) → HasClaims s.control → HasClaims (looks f s s.control)
   unfolding looks
-  claims_look k claims e u h = claims e u (sym (looked_claim (looked_at k e) (λ v. refl) (flat_map (awaited_events k) (waiting k)) k.events.events e) ∙ h)
+  claims_look f s claims e u h = claims e u (sym (looked_claim (looked_at f s e) (λ v. refl) (flat_map (awaited_events s.control) (waiting s.control)) s.control.events.events e) ∙ h)

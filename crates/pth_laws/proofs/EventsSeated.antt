@@ -172,13 +172,13 @@ module _ {P S H : Type 0} where
   abbrev AreBoth : State P S H → Type 0
   AreBoth s = FitsIn s × AreSeated s
 
-  seated_looked : (s : State P S H) → AreSeated s → AreSeated (controlled looks s)
+  seated_looked : (f : P → Functions S H) (s : State P S H) → AreSeated s → AreSeated (controlled (looks f s) s)
   unfolding looks
-  seated_looked s r =
+  seated_looked f s r =
       let k = s.control in
       let es = flat_map (awaited_events k) (waiting k) in
-      let x = (controlled looks s).control.events in
-      seated_as k.events x k.conditions (λ e i h. (each_same condition_in (looked_at k e) (mapped_condition (looked_at k e) (λ v. refl)) es k.events.events e, claimed_as k.events x e refl (λ g. each_same claimant_by (looked_at k g) (mapped_claim (looked_at k g) (λ v. refl)) es k.events.events g) (r.ring e i h))) r.right
+      let x = (controlled (looks f s) s).control.events in
+      seated_as k.events x k.conditions (λ e i h. (each_same condition_in (looked_at f s e) (mapped_condition (looked_at f s e) (λ v. refl)) es k.events.events e, claimed_as k.events x e refl (λ g. each_same claimant_by (looked_at f s g) (mapped_claim (looked_at f s g) (λ v. refl)) es k.events.events g) (r.ring e i h))) r.right
 
   seated_claims : (t : ℕ) (o : Option ℤ) (s : State P S H) → AreCircles s.control.events → ((i : ℤ) → o ≡ Some i → (is_event s.control.events (number i) ≡ true) × (is_claimed s.control.events (number i) ≡ false)) → AreSeated s → AreSeated (controlled (claims t o) s)
   unfolding claims
@@ -218,7 +218,7 @@ module _ {P S H : Type 0} where
     valued = λ a v x s there inside r. r;
     destroyed = λ n s r. r;
     arranges = λ q s may r. (fits.arranges q s may r.0, seated_arranged s.control.events r.0.circles s.control.conditions r.1 q may);
-    looked = λ s r. (fits.looked s r.0, seated_looked s r.1);
+    looked = λ s r. (fits.looked s r.0, seated_looked f s r.1);
     barred = λ x s fewer all r. r;
     reached = λ t b round s free alive there waits r. (fits.reached t b round s free alive there waits r.0, r.1);
     goes = λ t g s same r. (fits.goes t g s same r.0, r.1);

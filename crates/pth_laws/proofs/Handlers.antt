@@ -49,6 +49,11 @@ pub record IsRunning {P S H : Type 0} (t : ℕ) (over dropped : ℕ → Bool) (h
   pub control : s.control ≡ record y { shared = s.control.shared; conditions = s.control.conditions }
 
 module _ {P S H : Type 0} where
+  -- one that changes nothing, refused or not
+  nothing_tells : (m : Mark) (s : State P S H) (b : Bool) → let a = (unless_refused b (changes nothing) and_then tells m) s in a ≡ tells m (controlled (with_conditions (λ y. a.state.control.conditions)) s)
+  nothing_tells m s true = refl
+  nothing_tells m s false = refl
+
   -- an act is a mark: nothing else changes but seats
   acts_tell : (t : ℕ) (x : Act) (s : State P S H) → acts t x s ≡ tells (mark.Acted (tid t) x (answer_in (row_of_act s t x).begin.verdict)) (controlled (with_conditions (λ y. (acts t x s).state.control.conditions)) s)
   unfolding acts
@@ -60,22 +65,9 @@ module _ {P S H : Type 0} where
       by_refusal : (b : Bool) → let a = (unless_refused b (row_of_act s t (act.Notify c v)).begin.effect and_then tells m) s in a ≡ tells m (controlled (with_conditions (λ y. a.state.control.conditions)) s)
       by_refusal true = refl
       by_refusal false = refl
-  acts_tell t (act.SetKey k v) s = by_refusal (refuses (row_of_act s t (act.SetKey k v)).begin.verdict)
-    where
-      m : Mark
-      m = mark.Acted (tid t) (act.SetKey k v) (answer_in (row_of_act s t (act.SetKey k v)).begin.verdict)
-
-      by_refusal : (b : Bool) → let a = (unless_refused b (changes nothing) and_then tells m) s in a ≡ tells m (controlled (with_conditions (λ y. a.state.control.conditions)) s)
-      by_refusal true = refl
-      by_refusal false = refl
-  acts_tell t (act.Release i) s = by_refusal (refuses (row_of_act s t (act.Release i)).begin.verdict)
-    where
-      m : Mark
-      m = mark.Acted (tid t) (act.Release i) (answer_in (row_of_act s t (act.Release i)).begin.verdict)
-
-      by_refusal : (b : Bool) → let a = (unless_refused b (changes nothing) and_then tells m) s in a ≡ tells m (controlled (with_conditions (λ y. a.state.control.conditions)) s)
-      by_refusal true = refl
-      by_refusal false = refl
+  acts_tell t (act.SetKey k v) s = nothing_tells (mark.Acted (tid t) (act.SetKey k v) (answer_in (row_of_act s t (act.SetKey k v)).begin.verdict)) s (refuses (row_of_act s t (act.SetKey k v)).begin.verdict)
+  acts_tell t (act.Release i) s = nothing_tells (mark.Acted (tid t) (act.Release i) (answer_in (row_of_act s t (act.Release i)).begin.verdict)) s (refuses (row_of_act s t (act.Release i)).begin.verdict)
+  acts_tell t (act.Put p v) s = nothing_tells (mark.Acted (tid t) (act.Put p v) (answer_in (row_of_act s t (act.Put p v)).begin.verdict)) s (refuses (row_of_act s t (act.Put p v)).begin.verdict)
   acts_tell t x s = refl
 
   module _ (f : P → Functions S H) (n t : ℕ) (over dropped : ℕ → Bool) (up : over t ≡ false) (made : is_made n t ≡ true) (had : Resources) (y : Control P S H) where

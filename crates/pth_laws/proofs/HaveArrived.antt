@@ -114,9 +114,9 @@ module _ {P S H : Type 0} where
       by_number u true same = subst (HasOwn (all_withdrawn s.control.barriers) u) (sym (ap (blocked_of s.control) (same_means u t same) ∙ free)) tt
       by_number u false other = tt
 
-  kept_looked : (s : State P S H) → IsKept s → IsKept (controlled looks s)
+  kept_looked : (f : P → Functions S H) (s : State P S H) → IsKept s → IsKept (controlled (looks f s) s)
   unfolding looks
-  kept_looked s r = r
+  kept_looked f s r = r
 
   kept_barred : (x : BarrierTable) (s : State P S H) → HasFewer x s.control.barriers → HasAll x s.control.barriers → IsKept s → IsKept (controlled (with_barriers (λ y. x)) s)
   kept_barred x s fewer all r = (λ u. own_on x s.control.barriers u (blocked_of s.control u) (λ b round h. all b round u h) (r.0 u), once_fewer x s.control.barriers fewer r.1)
@@ -218,7 +218,7 @@ module _ {P S H : Type 0} where
     valued = λ a v x s there inside r. r;
     destroyed = λ n s r. r;
     arranges = λ x s may r. r;
-    looked = λ s r. (k.looked s r.0, kept_looked s r.1);
+    looked = λ s r. (k.looked s r.0, kept_looked f s r.1);
     barred = λ x s fewer all r. (k.barred x s fewer all r.0, kept_barred x s fewer all r.1);
     reached = λ t b round s free alive there waits r. (k.reached t b round s free alive there waits r.0, kept_reached t b round s (λ n i h. arrived_blocked s n i t free r.0 h) waits r.1);
     goes = λ t g s same r. (k.goes t g s same r.0, kept_goes t g s same r.1);

@@ -13,6 +13,7 @@ use Rattle.pth_base.specs.declared.mark.Mark.{Mark}
 use Rattle.pth_base.specs.declared.mark.Mark.TheVariants as mark
 use Rattle.pth_base.proofs.Tables.{same_means, same_fails, put_by, put_here, put_other}
 use Rattle.pth_store.specs.Cleanups.{PushedHandler}
+use Rattle.pth_port.specs.Mail.{Mail, PortNames}
 use Rattle.pth_store.specs.Keys.{key_named}
 use Rattle.pth_model.specs.Resources.{Resources, Store, HasNothing, told, answer_told, act_told, on_one, on_int, on_msg, store_of_only, wait_told, end_told}
 use Rattle.pth_lock.specs.Objects.{object_named}
@@ -76,6 +77,10 @@ module _ (t : ℕ) where
   other_locks : (s : Store) (x : LockTables) → HasNothing s t → NoLock t x → HasNothing (record s { rw_locks = x }) t
   other_locks s x h none = record { cleanups = h.cleanups; values = h.values; mutexes = h.mutexes; locks = none }
 
+  -- no thread has a port for itself
+  other_ports : (s : Store) (x : PortNames) (q : Mail) → HasNothing s t → HasNothing (record s { ports = x; mail = q }) t
+  other_ports s x q h = record { cleanups = h.cleanups; values = h.values; mutexes = h.mutexes; locks = h.locks }
+
   -- a call of another thread is answered
   answer_nothing : (k : Resources) (u : ℕ) (c : Call) (a : Answer) → t ≢ u → Nothing k → Nothing (answer_told k u c a)
   unfolding answer_told
@@ -91,11 +96,11 @@ module _ (t : ℕ) where
   answer_nothing k u (call.RwAcquire l write v e) a apart none = on_int_nothing a k _ none (λ n. other_locks k.store _ none (no_lock_taken t k.store.rw_locks u write (object_named l) apart none.locks))
   answer_nothing k u (call.RwRelease l) a apart none = on_int_nothing a k _ none (λ n. other_locks k.store _ none (no_lock_released t k.store.rw_locks u (object_named l) none.locks))
   answer_nothing k u (call.CondAwait c m e) a apart none = test_nothing (k.awaits u) _ k (other_mutexes k.store _ none (no_mutex_taken t u (object_named m) k.store.mutexes apart none.mutexes)) none
-  answer_nothing k u (call.PortCreate name) a apart none = on_int_nothing a k _ none (λ n. none)
-  answer_nothing k u (call.PortPut p v r) a apart none = on_int_nothing a k _ none (λ n. none)
-  answer_nothing k u (call.PortGet p) a apart none = on_msg_nothing a k _ none none
-  answer_nothing k u (call.Reply m v) a apart none = on_int_nothing a k _ none (λ n. none)
-  answer_nothing k u (call.PortDestroy p) a apart none = on_int_nothing a k _ none (λ n. none)
+  answer_nothing k u (call.PortCreate name) a apart none = on_int_nothing a k _ none (λ n. other_ports k.store _ _ none)
+  answer_nothing k u (call.PortPut p v r) a apart none = on_int_nothing a k _ none (λ n. other_ports k.store _ _ none)
+  answer_nothing k u (call.PortGet p) a apart none = on_msg_nothing a k _ none (other_ports k.store _ _ none)
+  answer_nothing k u (call.Reply m v) a apart none = on_int_nothing a k _ none (λ n. other_ports k.store _ _ none)
+  answer_nothing k u (call.PortDestroy p) a apart none = on_int_nothing a k _ none (λ n. other_ports k.store _ _ none)
   answer_nothing k u call.Kill a apart none = on_int_nothing a k _ none (λ n. only_nothing u k.store none)
   answer_nothing k u c a apart none = none
 

@@ -158,11 +158,11 @@ module _ {P S H : Type 0} (n : ℕ) where
       (woken_walk t b s (All-head (IsUp n b.ended) t ts up) r)
       (λ c h. all_woken_walk ts c (woken t s).state (subst (λ (e : ℕ → Bool). All (IsUp n e) ts) (sym h.0) (All-tail (IsUp n b.ended) t ts up)) h.1)
 
-  pass_walk : (b : Book) (s : State P S H) → IsResting n b s → Walk n b (IsResting n) (pass s)
+  pass_walk : (f : P → Functions S H) (b : Book) (s : State P S H) → IsResting n b s → Walk n b (IsResting n) (pass f s)
   unfolding pass to_wake looks
-  pass_walk b s r =
-      let looked = claims_look s.control r.claims in
-      let w = all_woken_walk (to_wake s) b (controlled looks s) (All-filter (is_to_wake s) (IsUp n b.ended) (waiting s.control) (rows_up Waiting b s refl r)) (record { resources = r.resources; closed = r.closed; made = r.made; living = r.living; claims = looked; awaits = awaits_look (flags b s.resources.awaits) s.control r.awaits; running = r.running; preferred = r.preferred }) in
+  pass_walk f b s r =
+      let looked = claims_look f s r.claims in
+      let w = all_woken_walk (to_wake f s) b (controlled (looks f s) s) (All-filter (is_to_wake f s) (IsUp n b.ended) (waiting s.control) (rows_up Waiting b s refl r)) (record { resources = r.resources; closed = r.closed; made = r.made; living = r.living; claims = looked; awaits = awaits_look (flags b s.resources.awaits) f s r.awaits; running = r.running; preferred = r.preferred }) in
       record { law = w.law; post = w.post }
 
   -- ---- a dispatch
@@ -215,14 +215,14 @@ module _ {P S H : Type 0} (n : ℕ) where
 
   -- ---- time moves
 
-  moved_walk : (x : Turn) (o : Option ℕ) (b : Book) (s : State P S H) → x.gave ≡ None → IsResting n b s → PartWalk n b (moves_by x o s)
+  moved_walk : (f : P → Functions S H) (x : Turn) (o : Option ℕ) (b : Book) (s : State P S H) → x.gave ≡ None → IsResting n b s → PartWalk n b (moves_by f x o s)
   unfolding told
-  moved_walk x None b s none r = record { law = tt; post = λ on. rest_settles b s (record x { outcome = outcome.Stalled }) none r }
-  moved_walk x (Some m) b s none r =
+  moved_walk f x None b s none r = record { law = tt; post = λ on. rest_settles b s (record x { outcome = outcome.Stalled }) none r }
+  moved_walk f x (Some m) b s none r =
       let a = controlled (moves_to m) s in
       let c = after b (mark.Moved m) in
-      let w = pass_walk c a (record { resources = r.resources; closed = refl; made = r.made; living = r.living; claims = r.claims; awaits = r.awaits; running = r.running; preferred = r.preferred }) in
-      record { law = ((λ locked. (((tt, tt), tt), tt)), w.law); post = λ on. rest_settles (book_of c (pass a).marks) (pass a).state x none w.post }
+      let w = pass_walk f c a (record { resources = r.resources; closed = refl; made = r.made; living = r.living; claims = r.claims; awaits = r.awaits; running = r.running; preferred = r.preferred }) in
+      record { law = ((λ locked. (((tt, tt), tt), tt)), w.law); post = λ on. rest_settles (book_of c (pass f a).marks) (pass f a).state x none w.post }
 
   -- ---- a turn is closed
 
@@ -278,12 +278,12 @@ module _ {P S H : Type 0} (n : ℕ) where
       preferred_up : (u : ℕ) → lives (s.control.threads.known u) ≡ true → IsUp n b.ended u
       preferred_up u alive = (ap (λ m. is_made m u) (sym made) ∙ living-made n b.ended s.control.threads.made s.control.threads.known s.control.threads.standing z.living u alive, living-up n b.ended s.control.threads.made s.control.threads.known s.control.threads.standing z.living u alive)
 
-  close_walk : (x : Turn) (t : ℕ) (b : Book) (s : State P S H) → x.gave ≡ Some t → s.control.threads.made ≡ n → IsSettled n b s x → PartWalk n b (closes x t s)
+  close_walk : (f : P → Functions S H) (x : Turn) (t : ℕ) (b : Book) (s : State P S H) → x.gave ≡ Some t → s.control.threads.made ≡ n → IsSettled n b s x → PartWalk n b (closes f x t s)
   unfolding closes
-  close_walk x t b s gave made z =
+  close_walk f x t b s gave made z =
       let a = controlled (turn_ends t) s in
-      let w = pass_walk b a (turn_rests x t b s gave made z) in
-      record { law = w.law; post = λ on. rest_settles (book_of b (pass a).marks) (pass a).state (record x { gave = None }) refl w.post }
+      let w = pass_walk f b a (turn_rests x t b s gave made z) in
+      record { law = w.law; post = λ on. rest_settles (book_of b (pass f a).marks) (pass f a).state (record x { gave = None }) refl w.post }
 
   -- ---- a step
 
@@ -375,9 +375,9 @@ module _ {P S H : Type 0} (n : ℕ) where
   module _ (f : P → Functions S H) (x : Turn) (b : Book) (s : State P S H) (made : s.control.threads.made ≡ n) (z : IsSettled n b s x) where
     next_walk : (g r : Option ℕ) (idle : Bool) → x.gave ≡ g → s.control.scheduler.running ≡ r → PartWalk n b (part_by f x s (next_part_by g r idle))
     unfolding moves
-    next_walk (Some t) r idle gave running = close_walk x t b s gave made z
+    next_walk (Some t) r idle gave running = close_walk f x t b s gave made z
     next_walk None (Some t) idle gave running = step_part f x t b s gave running made z
-    next_walk None None true gave running = moved_walk x (moment s) b s gave (settled_rests x b s running made z)
+    next_walk None None true gave running = moved_walk f x (moment f s) b s gave (settled_rests x b s running made z)
     next_walk None None false gave running = take_walk x b s gave (settled_rests x b s running made z)
 
     unless_walk : (o : Outcome) (p : Part) → PartWalk n b (part_by f x s p) → PartWalk n b (part_by f x s (unless_ended o p))

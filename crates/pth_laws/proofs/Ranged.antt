@@ -123,9 +123,9 @@ module _ {P S H : Type 0} where
   unfolding goes_on
   ranged_goes t g s r = r
 
-  ranged_looked : (s : State P S H) → Ranged s → Ranged (controlled looks s)
+  ranged_looked : (f : P → Functions S H) (s : State P S H) → Ranged s → Ranged (controlled (looks f s) s)
   unfolding looks
-  ranged_looked s r = r
+  ranged_looked f s r = r
 
   ranged_claimed : (t : ℕ) (e : Option ℤ) (s : State P S H) → Ranged s → Ranged (controlled (claims t e) s)
   unfolding claims
@@ -162,7 +162,7 @@ module _ {P S H : Type 0} where
     valued = λ a v x s there inside r. ranged_put (number a) (Some (Free (with_value v x))) s (with_value_in v x inside (subst InObject there (named_in s.control.attributes.objects a r.1))) r;
     destroyed = λ n s r. ranged_put n None s tt r;
     arranges = λ x s may r. r;
-    looked = λ s r. ranged_looked s r;
+    looked = λ s r. ranged_looked f s r;
     barred = λ x s fewer all r. r;
     reached = λ t b round s free alive there waits r. ranged_goes t _ (controlled (with_barriers (barrier_reached b t)) s) r;
     goes = λ t g s same r. ranged_goes t g s r;

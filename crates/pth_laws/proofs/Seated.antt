@@ -122,9 +122,9 @@ module _ {P S H : Type 0} where
       let x = s.control.conditions in
       ((λ c u h. let none = seats_gone x c (seat_of u) in absurd (omega (arith, none, h))), (λ c u. let none = seats_gone x c (seat_of u) in omega (arith, none)))
 
-  seated_looked : (s : State P S H) → AreSeated s → AreSeated (controlled looks s)
+  seated_looked : (f : P → Functions S H) (s : State P S H) → AreSeated s → AreSeated (controlled (looks f s) s)
   unfolding looks
-  seated_looked s r = r
+  seated_looked f s r = r
 
   -- what blocks t changes
   seated_goes : (t : ℕ) (g : Progress S → Progress S) (s : State P S H) → ((c : ℕ) → HasSeat s.control.conditions c t → AwaitsAt c (blocked_in (option_map g (s.control.threads.progress t)))) → AreSeated s → AreSeated (controlled (goes_on t g) s)
@@ -280,7 +280,7 @@ module _ {P S H : Type 0} where
     valued = λ a v x s there inside r. r;
     destroyed = λ n s r. r;
     arranges = λ x s may r. r;
-    looked = λ s r. seated_looked s r;
+    looked = λ s r. seated_looked f s r;
     barred = λ x s fewer all r. r;
     reached = λ t b round s free alive there waits r. seated_blocks t (call.BarrierReach b) (Round b round) (controlled (with_barriers (barrier_reached b t)) s) free r;
     goes = λ t g s same r. same_goes t g s same r;

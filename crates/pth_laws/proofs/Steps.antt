@@ -237,6 +237,7 @@ module _ {P S H : Type 0} where
     effect_silent (call.Ctrl x) quiet = ctrl_silent s s x
     effect_silent (call.EvFd goals fd) quiet = made_silent (spec_of (line.Fd goals fd)) _ _ s
     effect_silent (call.EvTime m) quiet = made_silent (spec_of (line.Time m)) _ _ s
+    effect_silent (call.EvFunc c v l) quiet = made_silent (spec_of (line.Func c v l)) _ _ s
     effect_silent (call.Chain e l) quiet = made_silent (spec_of l) _ _ s
     effect_silent c quiet = (refl, refl)
 
@@ -252,6 +253,7 @@ module _ {P S H : Type 0} where
     again_silent (call.Ctrl x) b = ctrl_silent_again s s x b
     again_silent (call.EvFd goals fd) b = made_silent_again (spec_of (line.Fd goals fd)) _ _ b s
     again_silent (call.EvTime m) b = made_silent_again (spec_of (line.Time m)) _ _ b s
+    again_silent (call.EvFunc c v l) b = made_silent_again (spec_of (line.Func c v l)) _ _ b s
     again_silent (call.Chain e l) b = made_silent_again (spec_of l) _ _ b s
     again_silent (call.BarrierReach x) b = round_silent x (round_in b)
     again_silent c b = (refl, refl)

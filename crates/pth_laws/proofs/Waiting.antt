@@ -237,9 +237,9 @@ module _ {P S H : Type 0} where
       by_number true = r u
       by_number false = tt
 
-  rightly_looked : (s : State P S H) → AreRightly s → AreRightly (controlled looks s)
+  rightly_looked : (f : P → Functions S H) (s : State P S H) → AreRightly s → AreRightly (controlled (looks f s) s)
   unfolding looks
-  rightly_looked s r = r
+  rightly_looked f s r = r
 
   -- t goes on, with this of what blocks it
   rightly_goes : (t : ℕ) (g : Progress S → Progress S) (s : State P S H) → ((p : Progress S) → s.control.threads.progress t ≡ Some p → Rightly s.resources t (g p).blocked) → AreRightly s → AreRightly (controlled (goes_on t g) s)
@@ -317,7 +317,7 @@ module _ {P S H : Type 0} where
     valued = λ a v x s there inside r. r;
     destroyed = λ n s r. r;
     arranges = λ x s may r. r;
-    looked = λ s r. rightly_looked s r;
+    looked = λ s r. rightly_looked f s r;
     barred = λ x s fewer all r. r;
     reached = λ t b round s free alive there waits r. rightly_goes t (blocking (Some (record { call = call.BarrierReach b; awaits = awaits.Round b round }))) (controlled (with_barriers (barrier_reached b t)) s) (λ p at. (refl, tt)) r;
     goes = λ t g s same r. rightly_goes t g s (λ p at. subst (Rightly s.resources t) (sym (same p)) (blocked_at s t p.blocked (ap blocked_in at) r)) r;

@@ -3,6 +3,7 @@ pub mod Orders
 pub mod Queues
 pub mod Runs
 pub mod Told
+pub mod Looked
 pub mod NoRounds
 pub mod Walks
 pub mod Sorted

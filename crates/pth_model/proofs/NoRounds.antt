@@ -186,7 +186,10 @@ module _ (rounds : Bool) where
     begins_none (call.EvFd goals fd) other = search (made_none, result_none)
     begins_none (call.EvSelect r w x) other = search result_none
     begins_none (call.EvTime m) other = search (made_none, result_none)
+    begins_none (call.EvMsg p) other = search result_none
     begins_none (call.EvCond c) other = search result_none
+    begins_none (call.EvTid state n) other = search result_none
+    begins_none (call.EvFunc c v l) other = search (made_none, result_none)
     begins_none (call.Chain e l) other = search (made_none, result_none)
     begins_none (call.EvConcat e g) other = search result_none
     begins_none (call.EvIsolate e) other = search result_none
@@ -198,6 +201,13 @@ module _ (rounds : Bool) where
     begins_none (call.KeyDelete k) other = search result_none
     begins_none (call.KeySet k v) other = search result_none
     begins_none (call.KeyGet k) other = search result_none
+    begins_none (call.PortCreate name) other = search result_none
+    begins_none (call.PortFind name) other = search result_none
+    begins_none (call.PortPending p) other = search result_none
+    begins_none (call.PortPut p v r) other = search result_none
+    begins_none (call.PortGet p) other = search result_none
+    begins_none (call.Reply m v) other = search result_none
+    begins_none (call.PortDestroy p) other = search result_none
     begins_none (call.CleanupPush h v) other = search result_none
     begins_none (call.CleanupPop v) other = search when_none
     begins_none (call.MutexInit m) other = search result_none
@@ -236,6 +246,7 @@ module _ (rounds : Bool) where
     again_none (call.Exit v) a other none = search when_none
     again_none (call.EvFd goals fd) a other none = search made_again_none
     again_none (call.EvTime m) a other none = search made_again_none
+    again_none (call.EvFunc c v l) a other none = search made_again_none
     again_none (call.Chain e l) a other none = search made_again_none
     again_none (call.MutexAcquire m v e) a other none = search when_none
     again_none (call.RwAcquire l write v e) a other none = search when_none

@@ -159,9 +159,9 @@ module _ {P S H : Type 0} (Meant : Standing → Type 0) where
     kept_all_woken [] s k = k
     kept_all_woken (t ∷ ts) s k = kept_all_woken ts (woken t s).state (kept_ready s.control t (prio_of s.control t +ℤ pos 1) false (λ x tid top. plain x top) not_top k)
 
-    kept_pass : (s : State P S H) → Kept Meant s.control → Kept Meant (pass s).state.control
+    kept_pass : (f : P → Functions S H) (s : State P S H) → Kept Meant s.control → Kept Meant (pass f s).state.control
     unfolding pass looks
-    kept_pass s k = kept_all_woken (to_wake s) (controlled looks s) k
+    kept_pass f s k = kept_all_woken (to_wake f s) (controlled (looks f s) s) k
 
     kept_placed_by : (s : Control P S H) (t : ℕ) (r : Option ℕ) (b : Option Blocked) → Kept Meant s → Kept Meant (placed_by t r b s)
     unfolding is_put_back is_put_waiting sets
@@ -169,22 +169,22 @@ module _ {P S H : Type 0} (Meant : Standing → Type 0) where
     kept_placed_by s t (Some r) (Some b) k = kept_plain Meant (sets t (change.State state.Waiting) s) t Waiting (prio_of s t) plain k
     kept_placed_by s t (Some r) None k = kept_plain Meant (sets t (change.State state.Ready) s) t Ready (prio_of s t) plain k
 
-    kept_closed : (x : Turn) (t : ℕ) (s : State P S H) → Kept Meant s.control → Kept Meant (closes x t s).state.control
+    kept_closed : (f : P → Functions S H) (x : Turn) (t : ℕ) (s : State P S H) → Kept Meant s.control → Kept Meant (closes f x t s).state.control
     unfolding closes is_placed raises_ready
-    kept_closed x t s k = kept_pass (controlled (turn_ends t) s) (kept_placed_by (raises_ready s.control) t s.control.scheduler.running (blocked_of s.control t) k)
+    kept_closed f x t s k = kept_pass f (controlled (turn_ends t) s) (kept_placed_by (raises_ready s.control) t s.control.scheduler.running (blocked_of s.control t) k)
 
-    kept_moved : (x : Turn) (s : State P S H) (m : Option ℕ) → Kept Meant s.control → Kept Meant (moves_by x m s).state.control
-    kept_moved x s None k = k
-    kept_moved x s (Some m) k = kept_pass _ k
+    kept_moved : (f : P → Functions S H) (x : Turn) (s : State P S H) (m : Option ℕ) → Kept Meant s.control → Kept Meant (moves_by f x m s).state.control
+    kept_moved f x s None k = k
+    kept_moved f x s (Some m) k = kept_pass f _ k
 
   -- ---- parts
 
   not_take : (f : P → Functions S H) (x : Turn) (s : State P S H) (p : Part) → ((x : Standing) → x.top ≡ false → Meant x) → (p ≡ Take → ⊥) → Kept Meant s.control → Kept Meant (part_by f x s p).state.control
   unfolding moves
-  not_take f x s Move plain other k = kept_moved plain x s (moment s) k
+  not_take f x s Move plain other k = kept_moved plain f x s (moment f s) k
   not_take f x s Take plain other k = absurd (other refl)
   not_take f x s (Step t) plain other k = kept_step plain f x t s k
-  not_take f x s (Close t) plain other k = kept_closed plain x t s k
+  not_take f x s (Close t) plain other k = kept_closed plain f x t s k
   not_take f x s Halt plain other k = k
 
   -- plain: what it means that another enters than a new thread, and new: that one does

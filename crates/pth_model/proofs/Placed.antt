@@ -361,9 +361,9 @@ module _ {P S H : Type 0} where
       resting_woken ts (woken t s).state (All-tail (λ t. t ≤ s.control.threads.made) t ts low)
       (resting_ready s.control t (prio_of s.control t +ℤ pos 1) false (All-head (λ t. t ≤ s.control.threads.made) t ts low) i)
 
-  resting_pass : (s : State P S H) → Resting s.control → Resting (pass s).state.control
+  resting_pass : (f : P → Functions S H) (s : State P S H) → Resting s.control → Resting (pass f s).state.control
   unfolding pass to_wake looks
-  resting_pass s i = resting_woken (to_wake s) (controlled looks s) (All-filter (is_to_wake s) (λ t. t ≤ s.control.threads.made) (waiting s.control) (rows-low s.control i.sets Waiting)) i
+  resting_pass f s i = resting_woken (to_wake f s) (controlled (looks f s) s) (All-filter (is_to_wake f s) (λ t. t ≤ s.control.threads.made) (waiting s.control) (rows-low s.control i.sets Waiting)) i
 
   placed_dispatched : (x : Turn) (s : State P S H) (t : ℕ) → x.gave ≡ None → t ≤ s.control.threads.made → Resting s.control → Placed (takes_by x (Some t) s).state.control x.gave
   unfolding dispatches runs sets leaves_queue
@@ -395,9 +395,9 @@ module _ {P S H : Type 0} where
       let after : Resting a.control = resting_readies (reverse new) k low i in
       placed_taken_by x a (chosen a.control.scheduler.preferred (queue a.control Ready)) none (chosen_low a.control.threads.made a.control.scheduler.preferred (queue a.control Ready) after.preferred (rows-low a.control after.sets Ready)) after
 
-  placed_moved : (x : Turn) (s : State P S H) (m : Option ℕ) → Resting s.control → Placed (moves_by x m s).state.control (moves_by x m s).turn.gave
-  placed_moved x s None i = placed_resting s.control x.gave i
-  placed_moved x s (Some m) i = placed_resting _ x.gave (resting_pass _ i)
+  placed_moved : (f : P → Functions S H) (x : Turn) (s : State P S H) (m : Option ℕ) → Resting s.control → Placed (moves_by f x m s).state.control (moves_by f x m s).turn.gave
+  placed_moved f x s None i = placed_resting s.control x.gave i
+  placed_moved f x s (Some m) i = placed_resting _ x.gave (resting_pass f _ i)
 
   -- t is put back, unless it has ended
   resting_back : (k : Control P S H) (t : ℕ) (r : Option ℕ) (b : Option Blocked) → IsSeated (seats k) → ((u : ℕ) → r ≡ Some u → (times_in k t ≡ 0) × (t ≤ k.threads.made)) → Resting (runs_now None (placed_by t r b k))
@@ -414,15 +414,15 @@ module _ {P S H : Type 0} where
     running = refl;
   }
 
-  placed_closed : (x : Turn) (t : ℕ) (s : State P S H) → x.gave ≡ Some t → Placed s.control x.gave → Placed (closes x t s).state.control None
+  placed_closed : (f : P → Functions S H) (x : Turn) (t : ℕ) (s : State P S H) → x.gave ≡ Some t → Placed s.control x.gave → Placed (closes f x t s).state.control None
   unfolding closes is_placed raises_ready
-  placed_closed x t s gave p =
+  placed_closed f x t s gave p =
       let k = s.control in
       let own : (u : ℕ) → k.scheduler.running ≡ Some u → (times_in k t ≡ 0) × (t ≤ k.threads.made) = λ u e. (
       let same : t ≡ u = p.gives t u gave e in
       (subst (λ (n : ℕ). times_in k n ≡ 0) (sym same) (p.seated.out u e), (let low = p.seated.low u e in omega (arith, same, low)))) in
       let back = resting_back (raises_ready k) t k.scheduler.running (blocked_of k t) p.seated own in
-      placed_resting (pass (controlled (turn_ends t) s)).state.control None (resting_pass (controlled (turn_ends t) s) (record { sets = back.sets; preferred = back.preferred; running = refl }))
+      placed_resting (pass f (controlled (turn_ends t) s)).state.control None (resting_pass f (controlled (turn_ends t) s) (record { sets = back.sets; preferred = back.preferred; running = refl }))
 
   placed_going : (k : Control P S H) (gave : Option ℕ) (t : ℕ) → k.scheduler.running ≡ Some t → Placed k gave → Going t k
   placed_going k gave t running p = record {
@@ -440,9 +440,9 @@ module _ {P S H : Type 0} where
 
   placed_next : (f : P → Functions S H) (x : Turn) (s : State P S H) (g r : Option ℕ) (idle : Bool) → x.gave ≡ g → s.control.scheduler.running ≡ r → Placed s.control x.gave → Placed (part_by f x s (next_part_by g r idle)).state.control (part_by f x s (next_part_by g r idle)).turn.gave
   unfolding moves closes
-  placed_next f x s (Some t) r idle gave running p = placed_closed x t s gave p
+  placed_next f x s (Some t) r idle gave running p = placed_closed f x t s gave p
   placed_next f x s None (Some t) idle gave running p = placed_step f x t s gave (placed_going s.control x.gave t running p)
-  placed_next f x s None None true gave running p = placed_moved x s (moment s) (placed_rests s.control x.gave running p)
+  placed_next f x s None None true gave running p = placed_moved f x s (moment f s) (placed_rests s.control x.gave running p)
   placed_next f x s None None false gave running p = placed_taken x s gave (placed_rests s.control x.gave running p)
 
   placed_unless : (f : P → Functions S H) (x : Turn) (s : State P S H) (o : Outcome) (n : Part) → Placed s.control x.gave → Placed (part_by f x s n).state.control (part_by f x s n).turn.gave → Placed (part_by f x s (unless_ended o n)).state.control (part_by f x s (unless_ended o n)).turn.gave

@@ -1,5 +1,5 @@
 -- Each piece of a run gives the resources what its marks say.
-use Rattle.std.proofs.Common.{◌≡◌, ◌∙◌, ℕ, ℤ, zero, suc, Bool, true, false, List, [], ◌∷◌, ◌++◌, Option, Some, None, refl, ap, sym, ◌+◌, ◌*◌, not, if◌then◌else◌}
+use Rattle.std.proofs.Common.{◌≡◌, ◌∙◌, ℕ, ℤ, pos, zero, suc, Bool, true, false, List, [], ◌∷◌, ◌++◌, Option, Some, None, refl, ap, sym, ◌+◌, ◌*◌, not, if◌then◌else◌}
 use Rattle.pth_model.specs.declared.awaits.Retake.{Retake}
 use Rattle.pth_model.specs.declared.awaits.Retake.TheVariants as retake
 use Rattle.pth_base.specs.Program.{Functions}
@@ -40,6 +40,7 @@ use Rattle.pth_model.specs.declared.destructors.Round.{Round as DestructorRound}
 use Rattle.pth_model.specs.Conditions.{cond_notify, can_take, is_noticed, leaves_seat, hands_on_seats}
 use Rattle.pth_model.specs.Acts.{acts, acts_by, acts_from, act_limit, answer_in, handled, goes_on_after, runs_handler}
 use Rattle.pth_model.specs.KeyStorage.{key_set}
+use Rattle.pth_model.specs.Ports.{port_put}
 use Rattle.pth_model.specs.Cleanups.{runs_pushed, last_pushed}
 use Rattle.pth_model.specs.Resources.{handler}
 use Rattle.pth_base.specs.declared.act.Act.{Act}
@@ -99,6 +100,7 @@ module _ {P S H : Type 0} (f : P → Functions S H) where
     act_told (act.SetKey k v) s = attempt_told (act.SetKey k v) (key_set s k).begin (λ u. refl) s
     act_told (act.Release m) s = attempt_told (act.Release m) (mutex_release s t m).begin (λ u. refl) s
     act_told (act.Notify c v) s = attempt_told (act.Notify c v) (cond_notify s c v).begin (λ u. refl) s
+    act_told (act.Put p v) s = attempt_told (act.Put p v) (port_put s p (pos 0)).begin (λ u. refl) s
     act_told x s = refl
 
     look_told : (x : Option Act) (next : Piece P S H) → IsTold next → IsTold (goes_on_after t x next)
@@ -359,9 +361,9 @@ module _ {P S H : Type 0} (f : P → Functions S H) where
   all_woken_told [] s = refl
   all_woken_told (t ∷ ts) s = then_told (woken t) (all_woken ts) (woken_told t) (all_woken_told ts) s
 
-  pass_told : IsTold (pass {P = P} {S = S} {H = H})
+  pass_told : IsTold (pass f)
   unfolding pass
-  pass_told s = all_woken_told (to_wake s) _
+  pass_told s = all_woken_told (to_wake f s) _
 
   abbrev CourseTold : State P S H → Course P S H → Type 0
   CourseTold s c = c.state.resources ≡ told_all s.resources c.marks
@@ -371,13 +373,13 @@ module _ {P S H : Type 0} (f : P → Functions S H) where
   takes_by_told x None s = refl
   takes_by_told x (Some t) s = refl
 
-  moves_by_told : (x : Turn) (o : Option ℕ) (s : State P S H) → CourseTold s (moves_by x o s)
+  moves_by_told : (x : Turn) (o : Option ℕ) (s : State P S H) → CourseTold s (moves_by f x o s)
   moves_by_told x None s = refl
   moves_by_told x (Some m) s = pass_told _
 
   part_by_told : (x : Turn) (s : State P S H) (p : Part) → CourseTold s (part_by f x s p)
   unfolding takes moves closes
-  part_by_told x s Move = moves_by_told x (moment s) s
+  part_by_told x s Move = moves_by_told x (moment f s) s
   part_by_told x s Take = takes_by_told x (chosen (readies_new s.control).scheduler.preferred (queue (readies_new s.control) queues.Ready)) (controlled readies_new s)
   part_by_told x s (Step t) = steps_told t x s
   part_by_told x s (Close t) = pass_told _

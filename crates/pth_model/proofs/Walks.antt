@@ -284,6 +284,11 @@ module _ {P S H : Type 0} (f : P → Functions S H) (t : ℕ) (Q : Control P S H
   then_keeps : (a b : Piece P S H) → Runs a → Runs b → Runs (a and_then b)
   then_keeps a b x y s q = y (a s).state (x s q)
 
+  -- a call that changes nothing, refused or not
+  nothing_keeps : (s : State P S H) (b : Bool) → Q s.control → Q (unless_refused b (changes nothing) s).state.control
+  nothing_keeps s true q = q
+  nothing_keeps s false q = q
+
   -- an act changes nothing of the control but seats
   act_keeps : (x : Act) → Runs (acts t x)
   unfolding acts
@@ -292,16 +297,9 @@ module _ {P S H : Type 0} (f : P → Functions S H) (t : ℕ) (Q : Control P S H
       by_refusal : (b : Bool) → Q (unless_refused b (row_of_act s t (act.Notify c v)).begin.effect s).state.control
       by_refusal true = q
       by_refusal false = kept.seated _ s.control q
-  act_keeps (act.SetKey k v) s q = by_refusal (refuses (row_of_act s t (act.SetKey k v)).begin.verdict)
-    where
-      by_refusal : (b : Bool) → Q (unless_refused b (changes nothing) s).state.control
-      by_refusal true = q
-      by_refusal false = q
-  act_keeps (act.Release m) s q = by_refusal (refuses (row_of_act s t (act.Release m)).begin.verdict)
-    where
-      by_refusal : (b : Bool) → Q (unless_refused b (changes nothing) s).state.control
-      by_refusal true = q
-      by_refusal false = q
+  act_keeps (act.SetKey k v) s q = nothing_keeps s (refuses (row_of_act s t (act.SetKey k v)).begin.verdict) q
+  act_keeps (act.Release m) s q = nothing_keeps s (refuses (row_of_act s t (act.Release m)).begin.verdict) q
+  act_keeps (act.Put p v) s q = nothing_keeps s (refuses (row_of_act s t (act.Put p v)).begin.verdict) q
   act_keeps x s q = q
 
   look_keeps : (x : Option Act) (next : Piece P S H) → Runs next → Runs (goes_on_after t x next)

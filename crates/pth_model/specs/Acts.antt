@@ -1,5 +1,5 @@
 -- Handlers of a program and their acts: each act is a call of the thread that runs the handler (pth_cleanup_push, pth_key_create, pth_once).
-use Rattle.std.specs.Prelude.{ℕ, zero, suc, ◌+◌, ℤ, Option, Some, None}
+use Rattle.std.specs.Prelude.{ℕ, zero, suc, ◌+◌, ℤ, pos, Option, Some, None}
 use Rattle.pth_base.specs.Program.{Functions}
 use Rattle.pth_base.specs.declared.act.Act.{Act}
 use Rattle.pth_base.specs.declared.act.Act.TheVariants as act
@@ -12,10 +12,11 @@ use Rattle.pth_model.specs.declared.verdict.Verdict.TheVariants.{Says, Yields, B
 use Rattle.pth_model.specs.State.{State}
 use Rattle.pth_model.specs.Transition.{Piece, silent, nothing, changes, tells, tid, ◌and_then◌}
 use Rattle.pth_model.specs.Changes.{shares}
-use Rattle.pth_model.specs.Row.{Row, Attempt, effect_of, ◌changing◌, unbuilt}
+use Rattle.pth_model.specs.Row.{Row, Attempt, effect_of, ◌changing◌}
 use Rattle.pth_model.specs.KeyStorage.{key_set}
 use Rattle.pth_model.specs.Mutexes.{mutex_release}
 use Rattle.pth_model.specs.Conditions.{cond_notify}
+use Rattle.pth_model.specs.Ports.{port_put}
 
 -- how many acts a handler may have
 abbrev pub act_limit : ℕ
@@ -30,13 +31,13 @@ answer_in (Ends v) = answer.None
 answer_in Kills = answer.None
 
 module _ {P S H : Type 0} where
-  -- the row of an act of t: a note and a shared value that is set call nothing, and the call of one is not built yet
+  -- the row of an act of t: a note and a shared value that is set call nothing
   abbrev pub row_of_act : State P S H → ℕ → Act → Row P S H
   row_of_act s t (act.Note v) = Says answer.None changing nothing
   row_of_act s t (act.Set n v) = Says answer.None changing nothing
   row_of_act s t (act.Release m) = mutex_release s t m
   row_of_act s t (act.Notify c v) = cond_notify s c v
-  row_of_act s t (act.Put p v) = unbuilt
+  row_of_act s t (act.Put p v) = port_put s p (pos 0)
   row_of_act s t (act.SetKey k v) = key_set s k
 
   abbrev pub acts_by : ℕ → Act → Attempt P S H → Piece P S H

@@ -2,6 +2,7 @@
 -- pth_event_free, and pth_wait. The answers stand beside the rings, with the refusals of each call in order.
 use Rattle.std.specs.Prelude.{ℕ, ℤ, ◌&&◌, nat_lt, Bool, Option, Some, None, if◌then◌else◌}
 use Rattle.pth_base.specs.declared.answer.Answer.TheVariants.{Int}
+use Rattle.pth_base.specs.declared.errno.Errno.TheVariants.{EINVAL}
 use Rattle.pth_base.specs.declared.event.EvLine.{EvLine}
 use Rattle.pth_base.specs.declared.event.EvLine.TheVariants as line
 use Rattle.pth_base.specs.declared.event.EventSpec.{EventSpec}
@@ -15,12 +16,12 @@ use Rattle.pth_ring.specs.Rings.{make_answer, chain_answer, concat_answer, isola
 use Rattle.pth_model.specs.declared.awaits.Awaits.TheVariants.{Ring}
 use Rattle.pth_model.specs.declared.verdict.Verdict.{Verdict}
 use Rattle.pth_model.specs.declared.verdict.Verdict.TheVariants.{Says, Blocks}
-use Rattle.pth_model.specs.Verdict.{says, done, by_result, ◌when◌otherwise◌, refused_as◌otherwise◌}
+use Rattle.pth_model.specs.Verdict.{refused, says, done, by_result, ◌when◌otherwise◌, refused_as◌otherwise◌}
 use Rattle.pth_model.specs.State.{State}
 use Rattle.pth_model.specs.Transition.{Change, silent, nothing}
 use Rattle.pth_model.specs.Changes.{with_events}
-use Rattle.pth_model.specs.Row.{Row, ◌changing◌, ◌trying◌, unbuilt}
-use Rattle.pth_model.specs.Times.{is_negative, moment_of}
+use Rattle.pth_model.specs.Row.{Row, ◌changing◌, ◌trying◌}
+use Rattle.pth_model.specs.Times.{is_negative, moment_of, length_of}
 
 -- the number of an event, 0 for none
 abbrev pub number_or_none : Option EventId → ℕ
@@ -37,20 +38,21 @@ status_number Occurred = 1
 status_number Failed = 2
 
 -- what an event is of that a line asks for, none where its operands are refused: a negative moment (PTH_EVENT_TIME), goals or a
--- descriptor that there can't be (PTH_EVENT_FD); each condition will do (PTH_EVENT_COND), and events of other kinds are not built yet
+-- descriptor that there can't be (PTH_EVENT_FD), a negative interval (PTH_EVENT_FUNC); each port, thread, check and condition will do
+-- (PTH_EVENT_MSG, PTH_EVENT_TID, PTH_EVENT_COND)
 abbrev pub spec_of : EvLine → Option EventSpec
 spec_of (line.Time at) = if is_negative at then None else Some (of.Time (moment_of at))
 spec_of (line.Fd goals fd) = if are_goals goals && is_below fd descriptor_limit then Some (of.Fd goals fd) else None
 spec_of (line.Select r w x) = Some (of.Select r w x)
-spec_of (line.Msg p) = None
+spec_of (line.Msg p) = Some (of.Msg p)
 spec_of (line.Cond c) = Some (of.Cond c)
-spec_of (line.Tid state t) = None
-spec_of (line.Func check arg interval) = None
+spec_of (line.Tid state t) = Some (of.Tid state t)
+spec_of (line.Func check arg interval) = if is_negative interval then None else Some (of.Func check arg (length_of 1 interval))
 
 module _ {P S H : Type 0} where
   -- an event of what a line asks for is made, as a verdict and a change say
   abbrev pub made_as : Option EventSpec → (EventSpec → Verdict) → (EventSpec → Change P S H) → Row P S H
-  made_as None v g = unbuilt
+  made_as None v g = refused EINVAL changing nothing
   made_as (Some spec) v g = v spec changing g spec
 
 module _ {P S H : Type 0} (s : State P S H) where

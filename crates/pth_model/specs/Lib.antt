@@ -31,6 +31,7 @@ pub mod Coming
 pub mod Rows
 pub mod Calls
 pub mod Pass
+pub mod Ports
 pub mod Course
 pub mod Part
 pub mod Order

@@ -161,18 +161,20 @@ module _ {P S H : Type 0} where
   unfoldable pub next_part : State P S H → Turn → Part
   next_part s x = unless_ended x.outcome (next_part_by x.gave s.control.scheduler.running (is_idle s.control))
 
+module _ {P S H : Type 0} (f : P → Functions S H) where
   -- Move: while nothing is new or ready, time moves to the next moment, and a pass is made; without one the run is stalled
   abbrev pub moves_by : Turn → Option ℕ → State P S H → Course P S H
   moves_by x None s = within (record x { outcome = outcome.Stalled }) (silent s)
-  moves_by x (Some m) s = within x ((changes (moves_to m) and_then tells (Moved m) and_then pass) s)
+  moves_by x (Some m) s = within x ((changes (moves_to m) and_then tells (Moved m) and_then pass f) s)
 
   unfoldable pub moves : Turn → State P S H → Course P S H
-  moves x s = moves_by x (moment s) s
+  moves x s = moves_by x (moment f s) s
 
   unfoldable pub closes : Turn → ℕ → State P S H → Course P S H
-  closes x t s = within (record x { gave = None }) ((changes (turn_ends t) and_then pass) s)
+  closes x t s = within (record x { gave = None }) ((changes (turn_ends t) and_then pass f) s)
 
-module _ {P S H : Type 0} (f : P → Functions S H) where
+  -- Step: a blocked call is tried again, or the program's next call begins
+
   -- the program's step takes the answer that is owed, and gives the next call
   abbrev pub step_of : Control P S H → Progress S → Stepped S H
   step_of k p = (f k.program).step p.state k.shared p.owed

@@ -1,6 +1,6 @@
 -- What threads have, as laws of transcripts read it: cleanups, key values, mutexes, locks and messages. Marks alone change
--- it: `told` says for every mark what becomes of it, also for the answers of calls that are not built yet.
-use Rattle.std.specs.Prelude.{◌≡◌, ℕ, zero, suc, ◌+◌, ◌==◌, ◌&&◌, ◌||◌, not, ℤ, pos, Bool, true, false, List, [], ◌∷◌, ◌++◌, filter, find, Option, Some, None, is_some, if◌then◌else◌}
+-- it: `told` says for every mark what becomes of it.
+use Rattle.std.specs.Prelude.{◌≡◌, ℕ, zero, suc, ◌==◌, ◌&&◌, ℤ, pos, Bool, true, false, List, [], ◌∷◌, Option, Some, None, if◌then◌else◌}
 use Rattle.pth_base.specs.Table.{put}
 use Rattle.pth_base.specs.declared.ids.HandlerId.{HandlerId}
 use Rattle.pth_base.specs.declared.act.Act.{Act}
@@ -15,11 +15,12 @@ use Rattle.pth_numbered.specs.Operands.{number, handler_of}
 use Rattle.pth_lock.specs.Objects.{object_named}
 use Rattle.pth_lock.specs.Mutexes.{MutexTable, no_mutexes, mutex_initialised, mutex_taken, mutex_released, mutexes_left, free_mutex, has, is_anothers}
 use Rattle.pth_lock.specs.RwLocks.{LockTables, no_locks, lock_initialised, lock_taken, lock_released, locks_left, holds, is_one}
+use Rattle.pth_port.specs.Mail.{Mail, PortNames, no_mail, no_names, port_added, port_removed, messages_at, with_port, put_to, got, replied, closed_port}
 use Rattle.pth_store.specs.Keys.{Tables, key_named, no_keys, created, deleted, with_key_value, forgotten}
 use Rattle.pth_store.specs.Cleanups.{Stacks, no_cleanups, with_top, top_taken, emptied}
 
 -- cleanups and keys (pth_cleanup_push, pth_key_create), mutexes and read-write locks (pth_mutex_init, pth_rwlock_init), of each
--- thread by its number
+-- thread by its number, and the message ports (pth_msgport_create), which no thread has for itself
 pub record Store : Type 0 where
   -- its handlers, the last pushed first
   pub cleanups : Stacks
@@ -29,6 +30,9 @@ pub record Store : Type 0 where
   pub mutexes : MutexTable
   -- the locks that are initialised, and who holds them
   pub rw_locks : LockTables
+  -- the message ports, and the messages
+  pub ports : PortNames
+  pub mail : Mail
 
 -- a thread has nothing: no handler, no value but 0, no mutex and no lock
 pub record HasNothing (s : Store) (t : ℕ) : Type 0 where
@@ -37,32 +41,15 @@ pub record HasNothing (s : Store) (t : ℕ) : Type 0 where
   pub mutexes : (m : ℕ) → has t (s.mutexes m) ≡ false
   pub locks : (l : ℕ) → holds s.rw_locks t l ≡ false
 
--- a message: its number, its value, and the port for the reply, 0 for none (pth_message_t)
-pub record Message : Type 0 where
-  pub number : ℕ
-  pub value : ℤ
-  pub reply : ℕ
-
--- the message ports (pth_msgport_create)
-pub record Mail : Type 0 where
-  -- of each live port, its messages, the oldest first
-  pub at : ℕ → Option (List Message)
-  -- messages that were got and have a reply port
-  pub kept : List Message
-  -- how many messages were ever put
-  pub made : ℕ
-
 pub record Resources : Type 0 where
   pub store : Store
-  pub mail : Mail
   -- who waits at a condition, and has not its mutex again (pth_cond_await)
   pub awaits : ℕ → Bool
 
 -- as a run starts
 abbrev pub no_resources : Resources
 no_resources = record {
-  store = record { cleanups = no_cleanups; keys = no_keys; mutexes = no_mutexes; rw_locks = no_locks };
-  mail = record { at = λ p. None; kept = []; made = 0 };
+  store = record { cleanups = no_cleanups; keys = no_keys; mutexes = no_mutexes; rw_locks = no_locks; ports = no_names; mail = no_mail };
   awaits = λ t. false;
 }
 
@@ -79,6 +66,12 @@ with_mutexes g s = record s { mutexes = g s.mutexes }
 
 abbrev pub with_rw_locks : (LockTables → LockTables) → Store → Store
 with_rw_locks g s = record s { rw_locks = g s.rw_locks }
+
+abbrev pub with_ports : (PortNames → PortNames) → (Mail → Mail) → Store → Store
+with_ports g h s = record s { ports = g s.ports; mail = h s.mail }
+
+abbrev pub with_mail : (Mail → Mail) → Store → Store
+with_mail g s = record s { mail = g s.mail }
 
 -- the handler that an operand names
 abbrev pub handler : ℤ → HandlerId
@@ -107,7 +100,7 @@ locks_of_only t x = record x {
 -- only thread t keeps what it has; or all but t
 
 abbrev pub store_of_only : ℕ → Store → Store
-store_of_only t s = record {
+store_of_only t s = record s {
   cleanups = λ u. if u == t then s.cleanups u else [];
   keys = record { keys = s.keys.keys; values = λ k u. if u == t then s.keys.values k u else pos 0 };
   mutexes = mutexes_of_only t s.mutexes;
@@ -115,69 +108,18 @@ store_of_only t s = record {
 }
 
 abbrev pub store_without : ℕ → Store → Store
-store_without t s = record {
+store_without t s = record s {
   cleanups = emptied t s.cleanups;
   keys = forgotten t s.keys;
   mutexes = mutexes_left t s.mutexes;
   rw_locks = locks_left t s.rw_locks;
 }
 
--- messages
-
-abbrev pub messages_of : Option (List Message) → List Message
-messages_of None = []
-messages_of (Some ms) = ms
-
-abbrev pub is_live : Mail → ℕ → Bool
-is_live q p = is_some (q.at p)
-
--- m goes last to port p; it ceases where the port is gone
-abbrev pub sent : ℕ → Message → Mail → Mail
-sent p m q = record q { at = if is_live q p then put q.at p (Some (messages_of (q.at p) ++ m ∷ [])) else q.at }
-
--- a port that is there from now on, unless it was
-abbrev pub with_port : ℕ → Mail → Mail
-with_port p q = if is_live q p then q else record q { at = put q.at p (Some []) }
-
--- a message is put, with the next number, where there is the port, and the port for the reply
-abbrev pub put_to : ℕ → ℤ → ℕ → Mail → Mail
-put_to p v r q =
-    if is_live q p && ((r == 0) || is_live q r)
-    then sent p (record { number = q.made + 1; value = v; reply = r }) (record q { made = q.made + 1 })
-    else q
-
--- the oldest message is taken, and kept where it has a reply port
-abbrev pub got : ℕ → List Message → Mail → Mail
-got p [] q = q
-got p (m ∷ ms) q = record q { at = put q.at p (Some ms); kept = if m.reply == 0 then q.kept else m ∷ q.kept }
-
-abbrev pub kept_message : Mail → ℕ → Option Message
-kept_message q n = find (λ m. m.number == n) q.kept
-
--- m goes back with a value, where its reply port is there
-abbrev pub replied : ℤ → Option Message → Mail → Mail
-replied v None q = q
-replied v (Some m) q =
-    if is_live q m.reply
-    then sent m.reply (record m { value = v; reply = 0 }) (record q { kept = filter (λ x. not (x.number == m.number)) q.kept })
-    else q
-
--- the messages of a port that is gone go to their reply ports
-abbrev pub sent_back : List Message → Mail → Mail
-sent_back [] q = q
-sent_back (m ∷ ms) q = sent_back ms (sent m.reply (record m { reply = 0 }) q)
-
-abbrev pub closed_port : ℕ → Mail → Mail
-closed_port p q = sent_back (messages_of (q.at p)) (record q { at = put q.at p None })
-
 -- what marks say
 
 module _ (k : Resources) where
   abbrev pub with_store : Store → Resources
   with_store s = record k { store = s }
-
-  abbrev pub with_mail : Mail → Resources
-  with_mail q = record k { mail = q }
 
   abbrev pub awaiting : ℕ → Bool → Resources
   awaiting t b = record k { awaits = put k.awaits t b }
@@ -195,8 +137,11 @@ module _ (k : Resources) where
   abbrev pub locks_become : (LockTables → LockTables) → Resources
   locks_become g = with_store (with_rw_locks g k.store)
 
+  abbrev pub ports_become : (PortNames → PortNames) → (Mail → Mail) → Resources
+  ports_become g h = with_store (with_ports g h k.store)
+
   abbrev pub mail_becomes : (Mail → Mail) → Resources
-  mail_becomes g = with_mail (g k.mail)
+  mail_becomes g = with_store (with_mail g k.store)
 
 -- t has its mutex again, and awaits no more
 abbrev pub retaken : Resources → ℕ → ℕ → Resources
@@ -242,11 +187,11 @@ answer_told k t (call.RwAcquire l write v e) a = on_int a k (λ n. locks_become 
 answer_told k t (call.RwRelease l) a = on_int a k (λ n. locks_become k (lock_released t (object_named l)))
 -- whatever the answer is, once it awaits
 answer_told k t (call.CondAwait c m e) a = if k.awaits t then retaken k t (object_named m) else k
-answer_told k t (call.PortCreate name) a = on_int a k (λ p. mail_becomes k (with_port (number p)))
+answer_told k t (call.PortCreate name) a = on_int a k (λ p. ports_become k (port_added name) (with_port (number p)))
 answer_told k t (call.PortPut p v r) a = on_int a k (λ n. mail_becomes k (put_to (number p) v (number r)))
-answer_told k t (call.PortGet p) a = on_msg a k (mail_becomes k (got (number p) (messages_of (k.mail.at (number p)))))
-answer_told k t (call.Reply m v) a = on_int a k (λ n. mail_becomes k (replied v (kept_message k.mail (number m))))
-answer_told k t (call.PortDestroy p) a = on_int a k (λ n. mail_becomes k (closed_port (number p)))
+answer_told k t (call.PortGet p) a = on_msg a k (mail_becomes k (got (number p) (messages_at k.store.mail p)))
+answer_told k t (call.Reply m v) a = on_int a k (λ n. mail_becomes k (replied v (k.store.mail.kept (number m))))
+answer_told k t (call.PortDestroy p) a = on_int a k (λ n. ports_become k (port_removed (number p)) (closed_port (number p)))
 answer_told k t call.Kill a = on_int a k (λ n. of_only t k)
 answer_told k t (call.Ctrl x) a = k
 answer_told k t call.AttrNew a = k

@@ -1,13 +1,11 @@
 -- The row of a call: all that is said of it, in one place.
 use Rattle.std.specs.Prelude.{Bool, true, false}
 use Rattle.pth_base.specs.declared.answer.Answer.TheVariants.{Fail}
-use Rattle.pth_base.specs.declared.errno.Errno.TheVariants.{EINVAL}
 use Rattle.pth_model.specs.declared.awaits.Awaits.{Awaits}
 use Rattle.pth_model.specs.declared.awaits.Awaits.TheVariants.{Nothing}
 use Rattle.pth_model.specs.declared.verdict.Verdict.{Verdict}
 use Rattle.pth_model.specs.declared.verdict.Verdict.TheVariants.{Says, Yields, Blocks, Ends, Kills}
-use Rattle.pth_model.specs.Verdict.{refused}
-use Rattle.pth_model.specs.Transition.{Piece, Change, silent, nothing, changes}
+use Rattle.pth_model.specs.Transition.{Piece, Change, silent, changes}
 
 -- what an attempt at a call comes to, and what it does unless it is refused
 pub record Attempt (P S H : Type 0) : Type 0 where
@@ -53,7 +51,3 @@ module _ {P S H : Type 0} where
   infix 3 ◌doing◌
   abbrev pub ◌doing◌ : Verdict → Piece P S H → Row P S H
   v doing a = record { begin = v trying a; again = λ a. Blocks Nothing trying silent }
-
-  -- a call that is not built yet
-  abbrev pub unbuilt : Row P S H
-  unbuilt = refused EINVAL changing nothing

@@ -9,7 +9,7 @@ use Rattle.pth_model.specs.declared.verdict.Verdict.TheVariants.{Says}
 use Rattle.pth_model.specs.Verdict.{says}
 use Rattle.pth_model.specs.State.{State}
 use Rattle.pth_model.specs.Transition.{nothing}
-use Rattle.pth_model.specs.Row.{Row, ◌changing◌, unbuilt}
+use Rattle.pth_model.specs.Row.{Row, ◌changing◌}
 use Rattle.pth_model.specs.LibraryControl.{kill, ctrl}
 use Rattle.pth_model.specs.AttributeHandling.{attr_new, attr_of, attr_init, attr_set, attr_get, attr_destroy}
 use Rattle.pth_model.specs.ThreadControl.{spawn, self, suspend, resume, yield, join}
@@ -21,6 +21,7 @@ use Rattle.pth_model.specs.Mutexes.{mutex_init, mutex_acquire, mutex_release}
 use Rattle.pth_model.specs.Rwlocks.{rw_init, rw_acquire, rw_release}
 use Rattle.pth_model.specs.Conditions.{cond_init, cond_await, cond_notify}
 use Rattle.pth_model.specs.Barriers.{barrier_init, barrier_reach}
+use Rattle.pth_model.specs.Ports.{port_create, port_find, port_pending, port_put, port_get, reply, port_destroy}
 use Rattle.pth_model.specs.ThreadEnds.{exit}
 use Rattle.pth_model.specs.Times.{timeout, nap, usleep, sleep}
 use Rattle.pth_model.specs.RingWaits.{extra_ring}
@@ -71,13 +72,13 @@ module _ {P S H : Type 0} (f : P → Functions S H) (s : State P S H) (t : ℕ) 
   row_of (call.KeyDelete k) = key_delete s k
   row_of (call.KeySet k v) = key_set s k
   row_of (call.KeyGet k) = key_get s t k
-  row_of (call.PortCreate name) = unbuilt
-  row_of (call.PortFind name) = unbuilt
-  row_of (call.PortPending p) = unbuilt
-  row_of (call.PortPut p v r) = unbuilt
-  row_of (call.PortGet p) = unbuilt
-  row_of (call.Reply m v) = unbuilt
-  row_of (call.PortDestroy p) = unbuilt
+  row_of (call.PortCreate name) = port_create s name
+  row_of (call.PortFind name) = port_find s name
+  row_of (call.PortPending p) = port_pending s p
+  row_of (call.PortPut p v r) = port_put s p r
+  row_of (call.PortGet p) = port_get s p
+  row_of (call.Reply m v) = reply s m
+  row_of (call.PortDestroy p) = port_destroy s p
   row_of (call.CleanupPush h v) = cleanup_push f s t
   row_of (call.CleanupPop v) = cleanup_pop f s t v
   row_of (call.MutexInit m) = mutex_init s m

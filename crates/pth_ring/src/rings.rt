@@ -382,6 +382,14 @@ impl Rings {
         &event_of(&self.nodes, place).spec
     }
 
+    /// What is kept of the event at a place.
+    pub fn event_at(&self, place: Slot) -> &Event
+        requires { number_at self.now place.0 ≢ 0 }
+        ensures { (events_of self.now).events (number_at self.now place.0) ≡ Some result.now }
+    {
+        event_of(&self.nodes, place)
+    }
+
     /// The place of the next event.
     pub fn next_at(&self, place: Slot) -> Slot
         requires { number_at self.now place.0 ≢ 0 }
@@ -400,6 +408,15 @@ impl Rings {
         ensures places { number_at self.new ≡ number_at self.old }
     {
         set_status(&mut self.nodes, place, status);
+    }
+
+    /// The event at a place is not looked at again before a moment.
+    pub fn look_next_at(&mut self, place: Slot, at: Micros)
+        requires { number_at self.old place.0 ≢ 0 }
+        ensures events { events_of self.new ≡ with_event (with_next_look at) (number_at self.old place.0) (events_of self.old) }
+        ensures places { number_at self.new ≡ number_at self.old }
+    {
+        set_next_look(&mut self.nodes, place, at);
     }
 }
 

@@ -3,6 +3,7 @@ use Rattle.std.proofs.Common.{◌≡◌, ◌≢◌, ◌∙◌, ℕ, ◌==◌, �
 use Rattle.pth_model.specs.Awaits.{is_awaiting}
 use Rattle.std.proofs.lemmas.Bool.{cases_Bool}
 use Rattle.std.proofs.lemmas.List.Elements.{All-weaker}
+use Rattle.pth_base.specs.Program.{Functions}
 use Rattle.pth_base.proofs.Tables.{same_means, same_fails}
 use Rattle.pth_base.specs.Limits.{last_moment}
 use Rattle.pth_base.specs.Naming.{by_slot, seen}
@@ -64,6 +65,7 @@ module _ {P S H : Type 0} (w : WorldOf P S H) where
       events = equal_pending s.control.events r.control.events (sr.control.events ∙ sym ss.control.events);
       mutexes = ap (λ (x : Store). x.mutexes) same_store;
       locks = ap (λ (x : Store). x.rw_locks) same_store;
+      mail = ap (λ (x : Store). x.mail) same_store;
       rounds = λ b round h. rw same_barriers h;
       seats = equal_seats s.control.conditions r.control.conditions (sr.control.conditions ∙ sym ss.control.conditions);
       blocked = same_blocked u;
@@ -104,19 +106,19 @@ module _ {P S H : Type 0} (w : WorldOf P S H) where
       record { state = state_of w; stands = stands; calm = λ u other waits. dormant (state_of w) stands u waits }
 
   -- and a pass changes nothing
-  module _ (s : State P S H) (st : StandsFor w s) (whole : Whole w) (until : ℕ) (early : w.kernel.now < until) (dormant : AreDormant s until) (alone : is_alone s.control main ≡ false) where
+  module _ (f : P → Functions S H) (s : State P S H) (st : StandsFor w s) (whole : Whole w) (until : ℕ) (early : w.kernel.now < until) (dormant : AreDormant s until) (alone : is_alone s.control main ≡ false) where
     early_now : now_of s.control < until
     early_now = later_than_now w s.control st.control until early
 
     all_dormant : All (IsDormant s until) (waiting s.control)
     all_dormant = All-weaker (λ u. is_among_waiting (entry_of s.control u) ≡ true) (IsDormant s until) dormant (waiting s.control) (all_wait w whole s.control st.control)
 
-    pub pass_leads_nowhere : (old : List Mark) → Leads w old old (pass s)
+    pub pass_leads_nowhere : (old : List Mark) → Leads w old old (pass f s)
     unfolding pass all_woken
     pass_leads_nowhere old =
-        let looked = none_looked s until early_now all_dormant in
-        let none = none_wakes s until early_now all_dormant alone (none_died w whole s.control st.control) in
-        subst (λ (l : List ℕ). Leads w old old ((changes looks and_then all_woken l) s)) (sym none) (record {
+        let looked = none_looked f s until early_now all_dormant in
+        let none = none_wakes f s until early_now all_dormant alone (none_died w whole s.control st.control) in
+        subst (λ (l : List ℕ). Leads w old old ((changes (looks f s) and_then all_woken l) s)) (sym none) (record {
           stands = record { control = subst (λ (k : Control P S H). Shows w k) (sym looked) st.control; store = st.store };
           tells = sym (append-nil old);
         })

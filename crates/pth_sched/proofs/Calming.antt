@@ -96,6 +96,7 @@ module _ {P S H : Type 0} where
     pub events : KeepsPending s.control.events r.control.events
     pub mutexes : r.resources.store.mutexes ≡ s.resources.store.mutexes
     pub locks : r.resources.store.rw_locks ≡ s.resources.store.rw_locks
+    pub mail : r.resources.store.mail ≡ s.resources.store.mail
     pub rounds : KeepsRounds s.control.barriers r.control.barriers
     pub seats : KeepsSeats s.control.conditions r.control.conditions
     pub tame : (u : ℕ) → IsTame (entry_of s.control u) (entry_of r.control u)
@@ -120,6 +121,7 @@ module _ {P S H : Type 0} where
         events = keeps.events;
         mutexes = keeps.mutexes;
         locks = keeps.locks;
+        mail = keeps.mail;
         rounds = keeps.rounds;
         seats = keeps.seats;
         blocked = w.2;
@@ -145,6 +147,7 @@ module _ {P S H : Type 0} where
           events = same_pending s.control.events;
           mutexes = refl;
           locks = refl;
+          mail = refl;
           rounds = λ b r h. h;
           seats = same_seats s.control.conditions;
           tame = tame_put known t _ (tame_state state.Ready Ready (known t));
@@ -165,6 +168,7 @@ module _ {P S H : Type 0} where
           events = same_pending s.control.events;
           mutexes = refl;
           locks = refl;
+          mail = refl;
           rounds = λ b r h. h;
           seats = same_seats s.control.conditions;
           tame = λ u. tame_then (known u) (first u) _
@@ -226,6 +230,7 @@ module _ {P S H : Type 0} where
       events = same_pending k.events;
       mutexes = refl;
       locks = refl;
+      mail = refl;
       rounds = λ b r h. h;
       seats = same_seats k.conditions;
       tame = λ u. tame_same (k.threads.known u);
@@ -238,6 +243,7 @@ module _ {P S H : Type 0} where
       events = same_pending k.events;
       mutexes = refl;
       locks = refl;
+      mail = refl;
       rounds = λ b r h. h;
       seats = same_seats k.conditions;
       tame = tame_put k.threads.known t _ (tame_state state.Ready Ready (k.threads.known t));
@@ -250,6 +256,7 @@ module _ {P S H : Type 0} where
       events = same_pending k.events;
       mutexes = refl;
       locks = refl;
+      mail = refl;
       rounds = λ b r h. h;
       seats = same_seats k.conditions;
       tame = tame_put k.threads.known t _ (tame_state state.Waiting Waiting (k.threads.known t));
@@ -271,12 +278,13 @@ module _ {P S H : Type 0} where
     pub events : KeepsPending s.control.events r.control.events
     pub mutexes : r.resources.store.mutexes ≡ s.resources.store.mutexes
     pub locks : r.resources.store.rw_locks ≡ s.resources.store.rw_locks
+    pub mail : r.resources.store.mail ≡ s.resources.store.mail
     pub rounds : KeepsRounds s.control.barriers r.control.barriers
     pub seats : KeepsSeats s.control.conditions r.control.conditions
     pub blocked : (u : ℕ) → u ≢ t → blocked_of r.control u ≡ blocked_of s.control u
 
   pub mild_same : (t : ℕ) (s : State P S H) → IsMild t s s
-  mild_same t s = record { known = refl; running = refl; kernel = refl; events = same_pending s.control.events; mutexes = refl; locks = refl; rounds = λ b r h. h; seats = same_seats s.control.conditions; blocked = λ u apart. refl }
+  mild_same t s = record { known = refl; running = refl; kernel = refl; events = same_pending s.control.events; mutexes = refl; locks = refl; mail = refl; rounds = λ b r h. h; seats = same_seats s.control.conditions; blocked = λ u apart. refl }
 
   pub mild_then : (t : ℕ) (s r q : State P S H) → IsMild t s r → IsMild t r q → IsMild t s q
   mild_then t s r q a b = record {
@@ -286,6 +294,7 @@ module _ {P S H : Type 0} where
     events = pending_then s.control.events r.control.events q.control.events a.events b.events;
     mutexes = b.mutexes ∙ a.mutexes;
     locks = b.locks ∙ a.locks;
+    mail = b.mail ∙ a.mail;
     rounds = λ c r h. b.rounds c r (a.rounds c r h);
     seats = seats_then s.control.conditions r.control.conditions q.control.conditions a.seats b.seats;
     blocked = λ u apart. b.blocked u apart ∙ a.blocked u apart;
@@ -299,6 +308,7 @@ module _ {P S H : Type 0} where
     events = mild.events;
     mutexes = mild.mutexes;
     locks = mild.locks;
+    mail = mild.mail;
     rounds = mild.rounds;
     seats = mild.seats;
     tame = λ u. subst (λ (f : ℕ → Option Entry). IsTame (s.control.threads.known u) (f u)) (sym mild.known) (tame_same (s.control.threads.known u));

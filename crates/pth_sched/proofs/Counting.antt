@@ -1,8 +1,10 @@
 -- The moments for which waiting threads wait are counted, one after another.
-use Rattle.std.proofs.Common.{◌≡◌, ◌≢◌, ◌∙◌, ℕ, ℤ, ◌==◌, ◌&&◌, ◌++◌, ◌∷◌, Bool, true, false, if◌then◌else◌, nat_lt, nat_le, min, List, [], map, Option, Some, None, option_map, inl, refl, sym, ap, ap₂, subst, append_assoc, append-nil, arith}
+use Rattle.std.proofs.Common.{◌≡◌, ◌≢◌, ◌∙◌, ℕ, ℤ, ◌==◌, ◌<◌, ◌&&◌, ◌++◌, ◌∷◌, Bool, true, false, if◌then◌else◌, nat_lt, nat_le, min, List, [], length, map, Option, Some, None, inl, refl, sym, ap, ap₂, subst, append_assoc, append-nil, arith}
 use Rattle.std.proofs.Math.Nat.{min_comm}
 use Rattle.pth_base.specs.Limits.{last_moment}
+use Rattle.pth_base.specs.Program.{Functions}
 use Rattle.pth_base.specs.declared.event.EventSpec.{EventSpec}
+use Rattle.pth_base.specs.declared.event.EventSpec.TheVariants as of
 use Rattle.pth_base.specs.Chain.{StandsIn}
 use Rattle.pth_base.proofs.Tables.{same_self, not_same}
 use Rattle.pth_ring.specs.declared.event.Event.{Event}
@@ -66,14 +68,26 @@ all_counted now all rest best none c = c.least ∙ ap (least_after now) (sym (c.
 
 -- ---- round a ring
 
--- what is kept of an event tells its moment
-event_moment_is : (o : Option Event) (spec : EventSpec) → option_map (λ (v : Event). v.spec) o ≡ Some spec → occurs_at spec ≡ event_moment o
-event_moment_is None spec is = absurd (cc is)
-event_moment_is (Some v) spec is = let e : spec ≡ v.spec = cc is in ap occurs_at e
+module _ (x : Events) (e : ℕ) where
+  pub begins_within : Begins (x.rings e) e → StandsIn e (x.rings e)
+  begins_within begins = subst (λ (l : List ℕ). StandsIn e l) (sym begins) (inl refl)
 
-module _ (x : Events) (now e : ℕ) (start : Option ℕ) where
+  -- fewer are left after each
+  pub counts_less : (n m : ℕ) → StandsIn n (x.rings e) → ((i : ℕ) → StandsIn n (x.rings i) → RingGoesOn (x.rings i) i n m) → m ≢ e → length (from m (x.rings e)) < length (from n (x.rings e))
+  counts_less n m within goes_on more =
+      let next : (if m == e then [] else from m (x.rings e)) ≡ from m (x.rings e) = rw (not_same m e more) refl in
+      let is : length (from n (x.rings e)) ≡ length (n ∷ from m (x.rings e)) = ap (λ (l : List ℕ). length l) ((goes_on e within).rest ∙ ap (λ (l : List ℕ). n ∷ l) next) in
+      omega (arith, is)
+
+-- an event of something else than a moment or a function has no moment
+pub no_moment : {P S H : Type 0} (f : P → Functions S H) (s : State P S H) (next : ℕ) (spec : EventSpec) → ((at : ℕ) → spec ≡ of.Time at → ⊥) → ((check arg : ℤ) (interval : ℕ) → spec ≡ of.Func check arg interval → ⊥) → occurs_at f s next spec ≡ 0
+no_moment f s next (of.Time at) time function = absurd (time at refl)
+no_moment f s next (of.Func check arg interval) time function = absurd (function check arg interval refl)
+no_moment f s next spec time function = refl
+
+module _ {P S H : Type 0} (f : P → Functions S H) (s : State P S H) (x : Events) (now e : ℕ) (start : Option ℕ) where
   abbrev pub moments_from : List ℕ → List ℕ
-  moments_from = map (λ (i : ℕ). event_moment (x.events i))
+  moments_from = map (λ (i : ℕ). event_moment f s (x.events i))
 
   -- the events of a ring were counted up to n, which comes next, after moments of which start is the least
   pub record CountedRound (n : ℕ) (best : Option ℕ) : Type 0 where
@@ -89,8 +103,8 @@ module _ (x : Events) (now e : ℕ) (start : Option ℕ) where
     counted = λ ms is. record { done = ms; split = ap (λ (l : List ℕ). ms ++ moments_from l) (sym (from_first (x.rings e) begins)); least = is };
   }
 
-  module _ (n m : ℕ) (best next : Option ℕ) (spec : EventSpec) (so_far : CountedRound n best)
-      (spec_is : option_map (λ (v : Event). v.spec) (x.events n) ≡ Some spec) (is : next ≡ sooner now best (occurs_at spec))
+  module _ (n m : ℕ) (best next : Option ℕ) (v : Event) (so_far : CountedRound n best)
+      (event_is : x.events n ≡ Some v) (is : next ≡ sooner now best (occurs_at f s v.next_look v.spec))
       (goes_on : (i : ℕ) → StandsIn n (x.rings i) → RingGoesOn (x.rings i) i n m) where
     abbrev left : List ℕ
     left = if m == e then [] else from m (x.rings e)
@@ -100,9 +114,9 @@ module _ (x : Events) (now e : ℕ) (start : Option ℕ) where
 
     counted_now : (ms : List ℕ) → start ≡ least_after now ms → Counted now (ms ++ moments_from (x.rings e)) (moments_from left) next
     counted_now ms h =
-        counts_one now _ (moments_from left) best next (event_moment (x.events n))
+        counts_one now _ (moments_from left) best next (event_moment f s (x.events n))
         (subst (λ (l : List ℕ). Counted now (ms ++ moments_from (x.rings e)) (moments_from l) best) goes.rest (so_far.counted ms h))
-        (is ∙ ap (sooner now best) (event_moment_is (x.events n) spec spec_is))
+        (is ∙ ap (λ (o : Option Event). sooner now best (event_moment f s o)) (sym event_is))
 
     -- it was the last
     pub round_counted : m ≡ e → (ms : List ℕ) → start ≡ least_after now ms → next ≡ least_after now (ms ++ moments_from (x.rings e))
@@ -121,15 +135,15 @@ module _ (x : Events) (now e : ℕ) (start : Option ℕ) where
 
 -- ---- the moments of a thread
 
-module _ {P S H : Type 0} (s : State P S H) (t : ℕ) where
+module _ {P S H : Type 0} (f : P → Functions S H) (s : State P S H) (t : ℕ) where
   -- Moments are counted of which best is the least. Then that for which the thread's call waits is counted, where next is the
   -- least, and those of the events of the ring that it was given, if any, where last is.
   module _ (now : ℕ) (ms : List ℕ) (best next last : Option ℕ) (a : Awaited) (ring : Option ℤ) (x : Events)
       (awaits : a ≡ awaited_in (blocked_of s.control t)) (given : a.ring ≡ ring) (same : s.control.events ≡ x) where
     abbrev moments_in : Events → Option ℤ → List ℕ
-    moments_in y r = map (λ (e : ℕ). event_moment (y.events e)) (events_from y r)
+    moments_in y r = map (λ (e : ℕ). event_moment f s (y.events e)) (events_from y r)
 
-    own : waits_until t s ∷ moments_in x ring ≡ moments_of s t
+    own : waits_until t s ∷ moments_in x ring ≡ moments_of f s t
     own =
         let held : ring ≡ ring_held (blocked_of s.control t) = sym given ∙ ap (λ (y : Awaited). y.ring) awaits in
         ap (λ (l : List ℕ). waits_until t s ∷ l) (ap₂ moments_in (sym same) held)
@@ -140,7 +154,7 @@ module _ {P S H : Type 0} (s : State P S H) (t : ℕ) where
 
     pub thread_counted : best ≡ least_after now ms → next ≡ sooner now best (moment_in a.what)
         → ((ns : List ℕ) → next ≡ least_after now ns → last ≡ least_after now (ns ++ moments_in x ring))
-        → last ≡ least_after now (ms ++ moments_of s t)
+        → last ≡ least_after now (ms ++ moments_of f s t)
     thread_counted least is goes_on =
         goes_on (ms ++ waits_until t s ∷ []) (call_counted least is)
         ∙ ap (least_after now) (append_assoc ms (waits_until t s ∷ []) (moments_in x ring))

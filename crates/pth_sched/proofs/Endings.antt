@@ -1,5 +1,6 @@
 -- A run ends with main's value where main is alone.
 use Rattle.std.proofs.Common.{◌≡◌, ℕ, ◌==◌, ◌&&◌, ◌||◌, not, ◌+◌, nat_lt, nat_le, length, if◌then◌else◌, ℤ, pos, Bool, true, false, Option, Some, None, is_none, Result, Ok, Err, refl, sym, ap, ◌∙◌, subst, append_assoc, List, [], ◌∷◌, ◌++◌}
+use Rattle.pth_port.specs.Mail.{port_create_answer, port_find_answer, port_pending_answer, port_put_answer, port_get_answer, reply_answer, port_destroy_answer}
 use Rattle.pth_model.proofs.Walks.{retakes_oddly}
 use Rattle.pth_model.specs.Conditions.{begins_await, can_take, is_noticed, leaves_seat}
 use Rattle.pth_base.proofs.Tables.{same_means}
@@ -24,7 +25,7 @@ use Rattle.pth_model.specs.Verdict.{refused, says, done, by_result, said_or, cou
 use Rattle.pth_model.specs.State.{State, Control, Given, Turn, start, queue, present, main, now_of, once_limit}
 use Rattle.pth_model.specs.Transition.{Change, Went, changes, silent, tid, controlled, ◌and◌}
 use Rattle.pth_base.specs.declared.answer.Answer.{Answer}
-use Rattle.pth_base.specs.declared.answer.Answer.TheVariants.{Int, Text, Fail}
+use Rattle.pth_base.specs.declared.answer.Answer.TheVariants.{Int, Text, Fail, Msg}
 use Rattle.pth_base.specs.declared.errno.Errno.{Errno}
 use Rattle.pth_base.specs.declared.errno.Errno.TheVariants.{EINVAL, EAGAIN, EBUSY, EINTR, ESRCH, EPERM, EDEADLK, EBADF}
 use Rattle.pth_base.specs.declared.query.Query.{Query}
@@ -409,6 +410,13 @@ module _ {P S H : Type 0} (f : P → Functions S H) (t : ℕ) (v : ℤ) where
   exits s (call.CondInit c) up h = absurd (done_on (cond_init_answer s.control.conditions c) v h)
   exits s (call.CondNotify c x) up h = absurd (done_on (cond_notify_answer s.control.conditions c) v h)
   exits s (call.BarrierInit b n) up h = absurd (done_on (barrier_init_answer s.control.barriers b n) v h)
+  exits s (call.PortCreate name) up h = absurd (result_on (λ (p : ℕ). Int (pos p)) (port_create_answer s.resources.store.ports s.resources.store.mail name) v h)
+  exits s (call.PortFind name) up h = absurd (result_on (λ (p : ℕ). Int (pos p)) (port_find_answer s.resources.store.ports name) v h)
+  exits s (call.PortPending p) up h = absurd (result_on (λ (n : ℕ). Int (pos n)) (port_pending_answer s.resources.store.mail p) v h)
+  exits s (call.PortPut p x r) up h = absurd (result_on (λ (n : ℕ). Int (pos 1)) (port_put_answer s.resources.store.mail s.resources.store.ports.made p r) v h)
+  exits s (call.PortGet p) up h = absurd (result_on (λ (m : ℕ × ℤ). Msg (record { 0 = m.0 }) m.1) (port_get_answer s.resources.store.mail p) v h)
+  exits s (call.Reply m x) up h = absurd (done_on (reply_answer s.resources.store.mail m) v h)
+  exits s (call.PortDestroy p) up h = absurd (done_on (port_destroy_answer s.resources.store.mail p) v h)
   exits s (call.BarrierReach b) up h = absurd (arrived_on b (arrival_answer s.control.barriers b) v h)
   exits s c up h = absurd (cc h)
 
@@ -620,9 +628,9 @@ module _ {P S H : Type 0} where
 
   part_ends : (f : P → Functions S H) (x : Turn) (s : State P S H) (v : ℤ) (p : Part) → StaysUp s.control → next_part s x ≡ p → x.outcome ≡ Running → (part_by f x s p).turn.outcome ≡ Ended v → EndsMain x s (part_by f x s p).marks v
   unfolding moves takes closes
-  part_ends f x s v Move up comes on e = by_moment (moment s) e
+  part_ends f x s v Move up comes on e = by_moment (moment f s) e
     where
-      by_moment : (o : Option ℕ) → (moves_by x o s).turn.outcome ≡ Ended v → EndsMain x s (moves_by x o s).marks v
+      by_moment : (o : Option ℕ) → (moves_by f x o s).turn.outcome ≡ Ended v → EndsMain x s (moves_by f x o s).marks v
       by_moment None h = absurd (cc h)
       by_moment (Some m) h = absurd (running_ended v (sym on ∙ h))
   part_ends f x s v Take up comes on e = by_next (chosen (readies_new s.control).scheduler.preferred (queue (readies_new s.control) queues.Ready)) e

@@ -119,6 +119,7 @@ module _ {P S H : Type 0} (t : ℕ) where
     events = same_pending s.control.events;
     mutexes = refl;
     locks = refl;
+    mail = refl;
     rounds = λ b r h. h;
     seats = same_seats s.control.conditions;
     blocked = λ u apart. ap (λ (o : Option (Progress S)). blocked_in o) (put_other s.control.threads.progress t _ u apart);
@@ -140,6 +141,7 @@ module _ {P S H : Type 0} (t : ℕ) where
     events = same_pending s.control.events;
     mutexes = refl;
     locks = refl;
+    mail = refl;
     rounds = λ b r h. h;
     seats = same_seats s.control.conditions;
     blocked = λ u apart. ap (λ (o : Option (Progress S)). blocked_in o) (put_other s.control.threads.progress t _ u apart);
@@ -156,6 +158,7 @@ module _ {P S H : Type 0} (t : ℕ) where
     events = claimed_pending s.control.events (number e) (tid t) s.control.kernel.now;
     mutexes = refl;
     locks = refl;
+    mail = refl;
     rounds = λ b r h. h;
     seats = entered_seats (claimed (number e) (tid t) s.control.kernel.now s.control.events) (s.control.events.rings (number e)) s.control.conditions;
     blocked = λ u apart. refl;
@@ -171,7 +174,7 @@ module _ {P S H : Type 0} (t : ℕ) where
 
   -- an attempt takes nothing of a descriptor
   takes_mild : (h : Kernel → Kernel) (s : State P S H) → h s.control.kernel ≡ s.control.kernel → IsMild t s (controlled (with_kernel h) s)
-  takes_mild h s same = record { known = refl; running = refl; kernel = same; events = same_pending s.control.events; mutexes = refl; locks = refl; rounds = λ b r h. h; seats = same_seats s.control.conditions; blocked = λ u apart. refl }
+  takes_mild h s same = record { known = refl; running = refl; kernel = same; events = same_pending s.control.events; mutexes = refl; locks = refl; mail = refl; rounds = λ b r h. h; seats = same_seats s.control.conditions; blocked = λ u apart. refl }
 
   -- ---- calls that begin
 
@@ -220,7 +223,7 @@ module _ {P S H : Type 0} (t : ℕ) where
     reaches_by b (Ok (Waits round)) is waits =
         let r = controlled (with_barriers (barrier_reached b t)) s in
         mild_then t s r (waits_by t (call.BarrierReach b) (Round b round) r).state
-        (record { known = refl; running = refl; kernel = refl; events = same_pending s.control.events; mutexes = refl; locks = refl; rounds = waiting_rounds s.control.barriers b t round is; seats = same_seats s.control.conditions; blocked = λ u apart. refl })
+        (record { known = refl; running = refl; kernel = refl; events = same_pending s.control.events; mutexes = refl; locks = refl; mail = refl; rounds = waiting_rounds s.control.barriers b t round is; seats = same_seats s.control.conditions; blocked = λ u apart. refl })
         (waits_mild (call.BarrierReach b) (Round b round) (λ x. refl) r)
     reaches_by b (Ok Tail) is waits = absurd (cc waits)
     reaches_by b (Err e) is waits = absurd (cc waits)
@@ -252,7 +255,7 @@ module _ {P S H : Type 0} (t : ℕ) where
 
     prefers_mild : (z : Bool) (p : Option ℕ) → IsMild t s (controlled (if z then nothing else prefers p) s)
     prefers_mild true p = mild_same t s
-    prefers_mild false p = record { known = refl; running = refl; kernel = refl; events = same_pending s.control.events; mutexes = refl; locks = refl; rounds = λ b r h. h; seats = same_seats s.control.conditions; blocked = λ u apart. refl }
+    prefers_mild false p = record { known = refl; running = refl; kernel = refl; events = same_pending s.control.events; mutexes = refl; locks = refl; mail = refl; rounds = λ b r h. h; seats = same_seats s.control.conditions; blocked = λ u apart. refl }
 
     yield_mild : (n : ℤ) (b : Bool) → IsMild t s (begun_as f t (call.Yield n) (refused EINVAL when b otherwise Yields (Int (pos 1)) trying changes (if is_zero n then nothing else prefers (Some (number n)))) s).told.state
     unfolding told answer_told
@@ -287,7 +290,7 @@ module _ {P S H : Type 0} (t : ℕ) where
     favours_mild : (n : ℤ) (b : Bool) (m : ℕ) (y : Bool) → IsMild t s (begun_as f t (call.Ctrl (query.Favournew n)) (refused EINVAL when b otherwise says m trying changes (favours_new y)) s).told.state
     unfolding told answer_told
     favours_mild n true m y = mild_same t s
-    favours_mild n false m y = record { known = refl; running = refl; kernel = refl; events = same_pending s.control.events; mutexes = refl; locks = refl; rounds = λ b r h. h; seats = same_seats s.control.conditions; blocked = λ u apart. refl }
+    favours_mild n false m y = record { known = refl; running = refl; kernel = refl; events = same_pending s.control.events; mutexes = refl; locks = refl; mail = refl; rounds = λ b r h. h; seats = same_seats s.control.conditions; blocked = λ u apart. refl }
 
     ctrl_mild : (q : Query) → IsMild t s (begun f t (call.Ctrl q) s).told.state
     unfolding begun row_of answer_told

@@ -1,5 +1,6 @@
 -- Idle time moves to a moment, and a pass is made.
 use Rattle.std.proofs.Common.{◌≡◌, ◌↔◌, ℕ, Bool, true, false, List, [], ◌∷◌, ◌++◌, map, Option, Some, None, is_some, Result, Ok, Err, OnOk, refl, sym, ap, subst, ◌∙◌, append_assoc}
+use Rattle.pth_base.specs.Program.{Functions}
 use Rattle.pth_base.specs.Cut.{IsCut}
 use Rattle.pth_base.specs.declared.mark.Mark.{Mark}
 use Rattle.pth_base.specs.declared.mark.Mark.TheVariants.{Moved}
@@ -41,8 +42,8 @@ module _ {P S H : Type 0} where
   -- ---- a pass is made
 
   module _ (m v : MachineOf P S H) where
-    pub pass_makes : (c : Course P S H) (old new : List Mark) → Stands m c → v.turn ≡ m.turn → Leads v.world old new (pass c.state) → Makes v old new (within c.turn (pass c.state))
-    pass_makes c old new st turn leads = record {
+    pub pass_makes : (f : P → Functions S H) (c : Course P S H) (old new : List Mark) → Stands m c → v.turn ≡ m.turn → Leads v.world old new (pass f c.state) → Makes v old new (within c.turn (pass f c.state))
+    pass_makes f c old new st turn leads = record {
       stands = record { world = leads.stands; turn = st.turn ∙ sym turn; memory = λ e. st.memory (ap (λ (x : Turn). x.outcome) (sym turn) ∙ e) };
       tells = leads.tells;
     }
@@ -87,15 +88,15 @@ module _ {P S H : Type 0} where
       memory = λ e. st.memory (ap (λ (x : Turn). x.outcome) (sym turn) ∙ e);
     }
 
-    module _ (old mid new : List Mark) (told : mid ≡ old ++ Moved t ∷ []) where
-      pub move_makes : (v : MachineOf P S H) → Makes v mid new (within c.turn (pass before_pass.state)) → Makes v old new (moves_by c.turn (Some t) c.state)
+    module _ (f : P → Functions S H) (old mid new : List Mark) (told : mid ≡ old ++ Moved t ∷ []) where
+      pub move_makes : (v : MachineOf P S H) → Makes v mid new (within c.turn (pass f before_pass.state)) → Makes v old new (moves_by f c.turn (Some t) c.state)
       move_makes v makes = record {
         stands = record { world = makes.stands.world; turn = makes.stands.turn; memory = makes.stands.memory };
-        tells = makes.tells ∙ ap (λ (l : List Mark). l ++ (pass before_pass.state).marks) told ∙ append_assoc old (Moved t ∷ []) (pass before_pass.state).marks;
+        tells = makes.tells ∙ ap (λ (l : List Mark). l ++ (pass f before_pass.state).marks) told ∙ append_assoc old (Moved t ∷ []) (pass f before_pass.state).marks;
       }
 
       -- memory ends in the pass
-      pub move_cut : IsCut mid new (pass before_pass.state).marks → IsCut old new (moves_by c.turn (Some t) c.state).marks
+      pub move_cut : IsCut mid new (pass f before_pass.state).marks → IsCut old new (moves_by f c.turn (Some t) c.state).marks
       move_cut cut = record {
         first = Moved t ∷ cut.first;
         rest = cut.rest;
@@ -105,10 +106,10 @@ module _ {P S H : Type 0} where
 
   -- ---- by the moment that comes next
 
-  module _ (x : Turn) (s : State P S H) (o : Option ℕ) (next : o ≡ moment s) where
-    pub moves_as : moves x s ≡ moves_by x o s
+  module _ (f : P → Functions S H) (x : Turn) (s : State P S H) (o : Option ℕ) (next : o ≡ moment f s) where
+    pub moves_as : moves f x s ≡ moves_by f x o s
     unfolding moves
-    moves_as = ap (λ (n : Option ℕ). moves_by x n s) (sym next)
+    moves_as = ap (λ (n : Option ℕ). moves_by f x n s) (sym next)
 
 -- whether there is a moment
 pub no_moment_as : (o : Option ℕ) (b : Bool) → is_some o ≡ b → (b ≡ false) ↔ (o ≡ None)

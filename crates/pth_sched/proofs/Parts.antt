@@ -51,7 +51,7 @@ module _ {P S H : Type 0} (f : P → Functions S H) (m : MachineOf P S H) (c : C
     gave_turn : (o : Option ℕ) → m.turn.gave ≡ o → c.turn.gave ≡ o
     gave_turn o is = ap (λ (x : Turn). x.gave) st.turn ∙ is
 
-    pub part_close : (t : ℕ) → m.turn.gave ≡ Some t → part f c.turn c.state ≡ closes c.turn t c.state
+    pub part_close : (t : ℕ) → m.turn.gave ≡ Some t → part f c.turn c.state ≡ closes f c.turn t c.state
     unfolding part next_part
     part_close t over = rw (on_turn, gave_turn (Some t) over) refl
 
@@ -67,7 +67,7 @@ module _ {P S H : Type 0} (f : P → Functions S H) (m : MachineOf P S H) (c : C
     unfolding next_part
     next_move none nobody idle = rw (on_turn, gave_turn None none, nobody_runs None nobody, idle) refl
 
-    pub part_move : m.turn.gave ≡ None → m.world.scheduler.running ≡ None → is_idle c.state.control ≡ true → part f c.turn c.state ≡ moves c.turn c.state
+    pub part_move : m.turn.gave ≡ None → m.world.scheduler.running ≡ None → is_idle c.state.control ≡ true → part f c.turn c.state ≡ moves f c.turn c.state
     unfolding part
     part_move none nobody idle = ap (part_by f c.turn c.state) (next_move none nobody idle)
 
@@ -84,17 +84,17 @@ module _ {P S H : Type 0} (m : MachineOf P S H) (c : Course P S H) (st : Stands 
   still_makes old = record { stands = record { world = st.world; turn = st.turn; memory = st.memory }; tells = sym (append-nil old) }
 
   -- no thread waits for a moment: the run is stalled
-  pub stall_makes : (old new : List Mark) → new ≡ old → moment c.state ≡ None → Makes (record m { turn = record m.turn { outcome = Stalled } }) old new (moves c.turn c.state)
+  pub stall_makes : (f : P → Functions S H) (old new : List Mark) → new ≡ old → moment f c.state ≡ None → Makes (record m { turn = record m.turn { outcome = Stalled } }) old new (moves f c.turn c.state)
   unfolding moves
-  stall_makes old new same none = rw none record {
+  stall_makes f old new same none = rw none record {
     stands = record { world = st.world; turn = ap (λ (x : Turn). record x { outcome = Stalled }) st.turn; memory = λ e. cc e };
     tells = same ∙ sym (append-nil old);
   }
 
   -- a turn is over, and a pass is made
-  pub close_makes : (t : ℕ) (w : WorldOf P S H) (old new : List Mark) → Leads w old new (pass (controlled (turn_ends t) c.state)) → Makes (record { world = w; turn = record m.turn { gave = None } }) old new (closes c.turn t c.state)
+  pub close_makes : (f : P → Functions S H) (t : ℕ) (w : WorldOf P S H) (old new : List Mark) → Leads w old new (pass f (controlled (turn_ends t) c.state)) → Makes (record { world = w; turn = record m.turn { gave = None } }) old new (closes f c.turn t c.state)
   unfolding closes
-  close_makes t w old new leads = record {
+  close_makes f t w old new leads = record {
     stands = record { world = leads.stands; turn = ap (λ (x : Turn). record x { gave = None }) st.turn; memory = st.memory };
     tells = leads.tells;
   }
@@ -135,9 +135,9 @@ module _ {P S H : Type 0} (m : MachineOf P S H) (c : Course P S H) (st : Stands 
         tells = leads.tells;
       }
 
-pub closes_marks : {P S H : Type 0} (x : Turn) (t : ℕ) (s : State P S H) → (closes x t s).marks ≡ (pass (controlled (turn_ends t) s)).marks
+pub closes_marks : {P S H : Type 0} (f : P → Functions S H) (x : Turn) (t : ℕ) (s : State P S H) → (closes f x t s).marks ≡ (pass f (controlled (turn_ends t) s)).marks
 unfolding closes
-closes_marks x t s = refl
+closes_marks f x t s = refl
 
 pub steps_marks : {P S H : Type 0} (f : P → Functions S H) (x : Turn) (t : ℕ) (s : State P S H) → (steps f x t s).marks ≡ (steps_on f t s).told.marks
 unfolding steps

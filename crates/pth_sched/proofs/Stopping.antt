@@ -94,18 +94,18 @@ module _ {P S H : Type 0} where
   woken_scheduler [] s = refl
   woken_scheduler (t ∷ ts) s = woken_scheduler ts (woken t s).state
 
-  pass_scheduler : (s : State P S H) → (pass s).state.control.scheduler ≡ s.control.scheduler
+  pass_scheduler : (f : P → Functions S H) (s : State P S H) → (pass f s).state.control.scheduler ≡ s.control.scheduler
   unfolding pass looks
-  pass_scheduler s = woken_scheduler (to_wake s) (controlled looks s)
+  pass_scheduler f s = woken_scheduler (to_wake f s) (controlled (looks f s) s)
 
   woken_kernel : (ts : List ℕ) (s : State P S H) → (all_woken ts s).state.control.kernel ≡ s.control.kernel
   unfolding all_woken woken is_ready_at enters sets leaves_queue
   woken_kernel [] s = refl
   woken_kernel (t ∷ ts) s = woken_kernel ts (woken t s).state
 
-  pass_kernel : (s : State P S H) → (pass s).state.control.kernel ≡ s.control.kernel
+  pass_kernel : (f : P → Functions S H) (s : State P S H) → (pass f s).state.control.kernel ≡ s.control.kernel
   unfolding pass looks
-  pass_kernel s = woken_kernel (to_wake s) (controlled looks s)
+  pass_kernel f s = woken_kernel (to_wake f s) (controlled (looks f s) s)
 
   placed_nobody : (k : Control P S H) (t : ℕ) → (turn_ends t k).scheduler.running ≡ None
   unfolding is_placed
@@ -118,12 +118,12 @@ module _ {P S H : Type 0} (f : P → Functions S H) where
 
   -- ---- each part comes nearer
 
-  close_near : (to : ℕ) (x : Turn) (t : ℕ) (s : State P S H) → far to (closes x t s) < 3 * (to - x.steps) + 2 + 1 + time_left (now_of s.control)
+  close_near : (to : ℕ) (x : Turn) (t : ℕ) (s : State P S H) → far to (closes f x t s) < 3 * (to - x.steps) + 2 + 1 + time_left (now_of s.control)
   unfolding closes
   close_near to x t s =
       let ended = turn_ends t s.control in
-      let same : (pass (controlled (turn_ends t) s)).state.control.scheduler ≡ ended.scheduler = pass_scheduler (controlled (turn_ends t) s) in
-      let now : now_of (pass (controlled (turn_ends t) s)).state.control ≡ now_of ended = ap (λ (y : Kernel). y.now) (pass_kernel (controlled (turn_ends t) s)) in
+      let same : (pass f (controlled (turn_ends t) s)).state.control.scheduler ≡ ended.scheduler = pass_scheduler f (controlled (turn_ends t) s) in
+      let now : now_of (pass f (controlled (turn_ends t) s)).state.control ≡ now_of ended = ap (λ (y : Kernel). y.now) (pass_kernel f (controlled (turn_ends t) s)) in
       let time = ended_time s.control t in
       rw (same, now, placed_nobody s.control t) (let most = far_most to x.steps 1 (now_of ended) x.outcome in omega arith)
 
@@ -144,16 +144,16 @@ module _ {P S H : Type 0} (f : P → Functions S H) where
       let time : time_left (now_of k) ≡ time_left (now_of s.control) = ap (λ (y : Kernel). time_left y.now) same in
       rw (some.1, gave) (let most = far_most to x.steps 0 (now_of k) x.outcome in omega arith)
 
-  move_near : (to : ℕ) (x : Turn) (s : State P S H) → x.gave ≡ None → s.control.scheduler.running ≡ None → far to (moves x s) < 3 * (to - x.steps) + 1 + 1 + time_left (now_of s.control)
+  move_near : (to : ℕ) (x : Turn) (s : State P S H) → x.gave ≡ None → s.control.scheduler.running ≡ None → far to (moves f x s) < 3 * (to - x.steps) + 1 + 1 + time_left (now_of s.control)
   unfolding moves
-  move_near to x s gave nobody = by_moment (moment s) (λ m is. moment_later s m is)
+  move_near to x s gave nobody = by_moment (moment f s) (λ m is. moment_later f s m is)
     where
-      by_moment : (o : Option ℕ) → ((m : ℕ) → o ≡ Some m → IsLater (now_of s.control) m) → far to (moves_by x o s) < 3 * (to - x.steps) + 1 + 1 + time_left (now_of s.control)
+      by_moment : (o : Option ℕ) → ((m : ℕ) → o ≡ Some m → IsLater (now_of s.control) m) → far to (moves_by f x o s) < 3 * (to - x.steps) + 1 + 1 + time_left (now_of s.control)
       by_moment None later = omega arith
       by_moment (Some m) later =
           let at = ((changes (moves_to m) and_then tells (Moved m)) s).state in
-          let same : (pass at).state.control.scheduler ≡ at.control.scheduler = pass_scheduler at in
-          let now : now_of (pass at).state.control ≡ now_of at.control = ap (λ (y : Kernel). y.now) (pass_kernel at) in
+          let same : (pass f at).state.control.scheduler ≡ at.control.scheduler = pass_scheduler f at in
+          let now : now_of (pass f at).state.control ≡ now_of at.control = ap (λ (y : Kernel). y.now) (pass_kernel f at) in
           let time = time_less (now_of s.control) m (later m refl) in
           rw (same, now, nobody, gave) (let most = far_most to x.steps 1 m x.outcome in omega arith)
 

@@ -67,14 +67,14 @@ after_later : (now m : ℕ) (ms : List ℕ) → least_after now ms ≡ Some m �
 after_later now m [] is = absurd (cc is)
 after_later now m (x ∷ xs) is = of_tested now x m (nat_lt now x && nat_le x last_moment) (least_after now xs) (tested_later now x) (λ n rest. after_later now n xs rest) is
 
-pub moment_later : {P S H : Type 0} (s : State P S H) (m : ℕ) → moment s ≡ Some m → IsLater (now_of s.control) m
-moment_later s m is = after_later (now_of s.control) m (arrival_times s.control.kernel ++ moments s) is
+pub moment_later : {P S H : Type 0} (f : P → Functions S H) (s : State P S H) (m : ℕ) → moment f s ≡ Some m → IsLater (now_of s.control) m
+moment_later f s m is = after_later (now_of s.control) m (arrival_times s.control.kernel ++ moments f s) is
 
 -- a world knows its next moment: it is later than now, and no later than the last moment
-module _ {P S H : Type 0} (w : WorldOf P S H) (o : Option ℕ) (sound : IsSound w.threads) (is : (s : State P S H) → StandsFor w s → o ≡ moment s) where
+module _ {P S H : Type 0} (f : P → Functions S H) (w : WorldOf P S H) (o : Option ℕ) (sound : IsSound w.threads) (is : (s : State P S H) → StandsFor w s → o ≡ moment f s) where
   known_later : IfSome o (λ m. IsLater w.kernel.now m)
   unfolding state_of
-  known_later = if_some o (λ m here. moment_later (state_of w) m (sym (is (state_of w) (stands_for_state w sound)) ∙ here))
+  known_later = if_some o (λ m here. moment_later f (state_of w) m (sym (is (state_of w) (stands_for_state w sound)) ∙ here))
 
   pub next_later : IfSome o (λ m. w.kernel.now < m)
   next_later = IfSome_then o known_later (λ m later. later.after)

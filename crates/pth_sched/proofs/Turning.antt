@@ -137,7 +137,7 @@ module _ {P S H : Type 0} (f : P → Functions S H) (g : Given P) (to i : ℕ) w
 
     module _ (t : ℕ) (over : m.turn.gave ≡ Some t) where
       -- it makes a Close: the turn is over
-      pub turn-close : (v : MachineOf P S H) (new : List Mark) → ((c : Course P S H) → Stands m c → Makes v mid new (closes c.turn t c.state)) → TurnGoesOn f g to i v old new
+      pub turn-close : (v : MachineOf P S H) (new : List Mark) → ((c : Course P S H) → Stands m c → Makes v mid new (closes f c.turn t c.state)) → TurnGoesOn f g to i v old new
       unfolding reach-more
       turn-close v new makes =
           let n = r.reached.part in
@@ -148,7 +148,7 @@ module _ {P S H : Type 0} (f : P → Functions S H) (g : Given P) (to i : ℕ) w
           (either (stops to (run f g (n + 1))) _ is_over)
 
       -- memory ends in the Close
-      pub close-cut : (new : List Mark) → ((c : Course P S H) → Stands m c → IsCut mid new (closes c.turn t c.state).marks) → TurnBreaksOff f g to i old new
+      pub close-cut : (new : List Mark) → ((c : Course P S H) → Stands m c → IsCut mid new (closes f c.turn t c.state).marks) → TurnBreaksOff f g to i old new
       close-cut new cuts = turn-cut new (λ c st right. cut_as m _ _ (part_close f m c st (running_on to m on) t over) mid new (cuts c st))
 
   -- a run comes to the end of a turn, or to where it stops
@@ -172,9 +172,9 @@ module _ {P S H : Type 0} (f : P → Functions S H) where
   -- no part takes a step back
   counts_by : (x : Turn) (s : State P S H) (p : Part) → x.steps ≤ (part_by f x s p).turn.steps
   unfolding moves takes closes
-  counts_by x s Move = by_moment (moment s)
+  counts_by x s Move = by_moment (moment f s)
     where
-      by_moment : (o : Option ℕ) → x.steps ≤ (moves_by x o s).turn.steps
+      by_moment : (o : Option ℕ) → x.steps ≤ (moves_by f x o s).turn.steps
       by_moment None = omega arith
       by_moment (Some t) = omega arith
   counts_by x s Take = by_next (chosen (readies_new s.control).scheduler.preferred (queue (readies_new s.control) queues.Ready))

@@ -293,9 +293,9 @@ module _ {P S H : Type 0} where
   up_woken [] s is = is
   up_woken (t ∷ ts) s is = up_woken ts (woken t s).state (up_ready t _ false s.control is)
 
-  up_pass : (s : State P S H) → StaysUp s.control → StaysUp (pass s).state.control
+  up_pass : (f : P → Functions S H) (s : State P S H) → StaysUp s.control → StaysUp (pass f s).state.control
   unfolding pass looks
-  up_pass s is = up_woken (to_wake s) (controlled looks s) is
+  up_pass f s is = up_woken (to_wake f s) (controlled (looks f s) s) is
 
   up_placed : (t : ℕ) (r : Option ℕ) (b : Option Blocked) (k : Control P S H) → StaysUp k → StaysUp (placed_by t r b k)
   unfolding is_put_back is_put_waiting enters
@@ -303,20 +303,20 @@ module _ {P S H : Type 0} where
   up_placed t (Some r) (Some b) k is = up_sets t (change.State state.Waiting) k (state_asks state.Waiting) is
   up_placed t (Some r) None k is = up_sets t (change.State state.Ready) k (state_asks state.Ready) is
 
-  up_closed : (x : Turn) (t : ℕ) (s : State P S H) → StaysUp s.control → StaysUp (closes x t s).state.control
+  up_closed : (f : P → Functions S H) (x : Turn) (t : ℕ) (s : State P S H) → StaysUp s.control → StaysUp (closes f x t s).state.control
   unfolding closes is_placed raises_ready
-  up_closed x t s is = up_pass (controlled (turn_ends t) s) (up_placed t s.control.scheduler.running (blocked_of s.control t) (raises_ready s.control) is)
+  up_closed f x t s is = up_pass f (controlled (turn_ends t) s) (up_placed t s.control.scheduler.running (blocked_of s.control t) (raises_ready s.control) is)
 
-  up_moved : (x : Turn) (o : Option ℕ) (s : State P S H) → StaysUp s.control → StaysUp (moves_by x o s).state.control
-  up_moved x None s is = is
-  up_moved x (Some m) s is = up_pass _ is
+  up_moved : (f : P → Functions S H) (x : Turn) (o : Option ℕ) (s : State P S H) → StaysUp s.control → StaysUp (moves_by f x o s).state.control
+  up_moved f x None s is = is
+  up_moved f x (Some m) s is = up_pass f _ is
 
   up_part : (f : P → Functions S H) (x : Turn) (s : State P S H) (p : Part) → StaysUp s.control → StaysUp (part_by f x s p).state.control
   unfolding moves
-  up_part f x s Move is = up_moved x (moment s) s is
+  up_part f x s Move is = up_moved f x (moment f s) s is
   up_part f x s Take is = up_taken x s is
   up_part f x s (Step t) is = step_keeps f t StaysUp (up_calls f t) x s is
-  up_part f x s (Close t) is = up_closed x t s is
+  up_part f x s (Close t) is = up_closed f x t s is
   up_part f x s Halt is = is
 
   -- ---- runs

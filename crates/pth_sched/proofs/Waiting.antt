@@ -2,6 +2,7 @@
 use Rattle.std.proofs.Common.{◌≡◌, ℕ, ◌==◌, ◌<◌, ◌||◌, ◌&&◌, not, Bool, true, false, if◌then◌else◌, List, [], ◌∷◌, length, map, slice_index_or, filter, flat_map, All, Option, Some, None, option_map, refl, sym, ap, subst}
 use Rattle.std.proofs.lemmas.List.Elements.{All-append, All-cons, All-get_or, All-head, All-nil, All-tail, All-weaker}
 use mathlib.Core.Path.{fun_ext}
+use Rattle.pth_base.specs.Program.{Functions}
 use Rattle.pth_base.proofs.Tables.{same_means}
 use Rattle.pth_base.specs.declared.ids.Slot.{Slot}
 use Rattle.pth_base.specs.declared.thread.ThreadState.{ThreadState}
@@ -94,21 +95,21 @@ module _ {A : Type 0} (g : ℕ → A → A) (f : ℕ → A) where
   unfolding each
   each_same xs all = fun_ext (λ e. same_at e xs all)
 
-module _ {P S H : Type 0} (s : State P S H) (until : ℕ) (early : now_of s.control < until) (all : All (IsDormant s until) (waiting s.control)) where
+module _ {P S H : Type 0} (f : P → Functions S H) (s : State P S H) (until : ℕ) (early : now_of s.control < until) (all : All (IsDormant s until) (waiting s.control)) where
   abbrev k : Control P S H
   k = s.control
 
-  pub none_wakes : is_alone k main ≡ false → (((u : ℕ) → is_left_to_join (entry_of k u) ≡ false) → has_any_died k ≡ false) → to_wake s ≡ []
+  pub none_wakes : is_alone k main ≡ false → (((u : ℕ) → is_left_to_join (entry_of k u) ≡ false) → has_any_died k ≡ false) → to_wake f s ≡ []
   unfolding to_wake
   none_wakes alone none =
-      none_kept (is_to_wake s) (waiting k)
-      (All-weaker (IsDormant s until) (λ u. is_to_wake s u ≡ false) (λ u q. dormant_stays s until early u alone none q) (waiting k) all)
+      none_kept (is_to_wake f s) (waiting k)
+      (All-weaker (IsDormant s until) (λ u. is_to_wake f s u ≡ false) (λ u q. dormant_stays f s until early u alone none q) (waiting k) all)
 
-  pub none_looked : looks k ≡ k
+  pub none_looked : looks f s k ≡ k
   unfolding looks
   none_looked =
       ap (λ (f : ℕ → Option Event). record k { events = record k.events { events = f } })
-      (each_same (λ e. option_map (looked_at k e)) k.events.events (flat_map (awaited_events k) (waiting k))
-      (all_flat (λ e. option_map (looked_at k e) (k.events.events e) ≡ k.events.events e) (awaited_events k) (waiting k)
-      (All-weaker (IsDormant s until) (λ u. All (λ e. option_map (looked_at k e) (k.events.events e) ≡ k.events.events e) (awaited_events k u))
-      (λ u q. All-weaker (λ e. StaysPending k until e (k.events.events e)) (λ e. option_map (looked_at k e) (k.events.events e) ≡ k.events.events e) (λ e h. looked_same s until early e (k.events.events e) h) (awaited_events k u) q.pending) (waiting k) all)))
+      (each_same (λ e. option_map (looked_at f s e)) k.events.events (flat_map (awaited_events k) (waiting k))
+      (all_flat (λ e. option_map (looked_at f s e) (k.events.events e) ≡ k.events.events e) (awaited_events k) (waiting k)
+      (All-weaker (IsDormant s until) (λ u. All (λ e. option_map (looked_at f s e) (k.events.events e) ≡ k.events.events e) (awaited_events k u))
+      (λ u q. All-weaker (λ e. StaysPending s until e (k.events.events e)) (λ e. option_map (looked_at f s e) (k.events.events e) ≡ k.events.events e) (λ e h. looked_same f s until early e (k.events.events e) h) (awaited_events k u) q.pending) (waiting k) all)))

@@ -1,5 +1,6 @@
 -- Threads are woken one after another.
 use Rattle.std.proofs.Common.{◌≡◌, ◌≢◌, ℕ, ◌==◌, ◌+◌, ◌≤◌, ℤ, pos, ◌+ℤ◌, Bool, true, false, cond, ◌||◌, List, [], ◌∷◌, ◌++◌, map, filter, count_by, Option, Some, IsSome, IfSome, refl, sym, ◌∙◌, ap, subst, arith, append_assoc, append-nil}
+use Rattle.pth_base.specs.Program.{Functions}
 use Rattle.pth_base.proofs.Tables.{same_self}
 use Rattle.pth_base.specs.declared.mark.Mark.{Mark}
 use Rattle.pth_base.specs.declared.mark.Mark.TheVariants.{Woke}
@@ -88,12 +89,12 @@ module _ {P S H : Type 0} (w : WorldOf P S H) (sound : IsSound w.threads) where
       or_true false = refl
 
   -- they wait, and none is listed twice
-  pub to_wake_once : (s : State P S H) → StandsFor w s → WaitOnce w (to_wake s)
+  pub to_wake_once : (f : P → Functions S H) (s : State P S H) → StandsFor w s → WaitOnce w (to_wake f s)
   unfolding to_wake
-  to_wake_once s st =
+  to_wake_once f s st =
       let rows = st.control.threads.standing Waiting in
-      subst (λ (l : List Ranked). WaitOnce w (filter (is_to_wake s) (holders l))) (sym rows)
-      (rows_once (is_to_wake s) w.threads.queues.waiting (sound.queued Waiting) (λ x h. queue_of-holds Waiting x w.threads.queues sound.orderly h) (λ t. subst (λ (l : List Ranked). count_by (is_of t) l ≤ 1) rows (once_thread w.threads s.control t Waiting sound st.control.threads)))
+      subst (λ (l : List Ranked). WaitOnce w (filter (is_to_wake f s) (holders l))) (sym rows)
+      (rows_once (is_to_wake f s) w.threads.queues.waiting (sound.queued Waiting) (λ x h. queue_of-holds Waiting x w.threads.queues sound.orderly h) (λ t. subst (λ (l : List Ranked). count_by (is_of t) l ≤ 1) rows (once_thread w.threads s.control t Waiting sound st.control.threads)))
 
 -- ---- all of them
 
@@ -143,19 +144,19 @@ module _ {P S H : Type 0} where
       }
 
   -- a pass wakes those that it listed
-  module _ (w v : WorldOf P S H) (s : State P S H) (st : StandsFor w s) (ts : List ℕ) (old new : List Mark) (is : ts ≡ to_wake s) (seen : Shows v (looks s.control)) (stored : v.store ≡ w.store) where
-    stands_seen : StandsFor v (controlled looks s)
+  module _ (f : P → Functions S H) (w v : WorldOf P S H) (s : State P S H) (st : StandsFor w s) (ts : List ℕ) (old new : List Mark) (is : ts ≡ to_wake f s) (seen : Shows v (looks f s s.control)) (stored : v.store ≡ w.store) where
+    stands_seen : StandsFor v (controlled (looks f s) s)
     stands_seen = record { control = seen; store = has_still w v s stored st.store }
 
-    pub pass_leads : (x : WorldOf P S H) → ((u : State P S H) → StandsFor v u → Leads x old new (all_woken ts u)) → Leads x old new (pass s)
+    pub pass_leads : (x : WorldOf P S H) → ((u : State P S H) → StandsFor v u → Leads x old new (all_woken ts u)) → Leads x old new (pass f s)
     unfolding pass
     pass_leads x leads =
-        let l = leads (controlled looks s) stands_seen in
-        subst (λ (l : List ℕ). Leads x old new ((changes looks and_then all_woken l) s)) is (record { stands = l.stands; tells = l.tells })
+        let l = leads (controlled (looks f s) s) stands_seen in
+        subst (λ (l : List ℕ). Leads x old new ((changes (looks f s) and_then all_woken l) s)) is (record { stands = l.stands; tells = l.tells })
 
-    pub pass_cut : ((u : State P S H) → StandsFor v u → IsCut old new (all_woken ts u).marks) → IsCut old new (pass s).marks
+    pub pass_cut : ((u : State P S H) → StandsFor v u → IsCut old new (all_woken ts u).marks) → IsCut old new (pass f s).marks
     unfolding pass
-    pass_cut cut = subst (λ (l : List ℕ). IsCut old new ((changes looks and_then all_woken l) s).marks) is (cut (controlled looks s) stands_seen)
+    pass_cut cut = subst (λ (l : List ℕ). IsCut old new ((changes (looks f s) and_then all_woken l) s).marks) is (cut (controlled (looks f s) s) stands_seen)
 
   -- and all of them wait still
   pub once_seen : (w v : WorldOf P S H) → v ≡ record w { events = v.events } → (ts : List ℕ) → WaitOnce w ts → WaitOnce v ts

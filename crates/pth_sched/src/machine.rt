@@ -123,8 +123,10 @@ impl<P: Program> Machine<P> {
     pub fn pass(&mut self, marks: &mut Marks) -> Result<(), OutOfMemory>
         requires nobody { self.old.world.scheduler.running ≡ None }
         requires goes { self.old.turn.outcome ≡ Outcome.Running }
-        ensures ok { OnOk result ((c : Course P P.State P.Shared) → Stands self.old c → Makes self.new marks.old marks.new (within c.turn (pass c.state))) }
-        ensures err { OnErr result ((c : Course P P.State P.Shared) → Stands self.old c → IsCut marks.old marks.new (pass c.state).marks) }
+        ensures ok { OnOk result ((c : Course P P.State P.Shared) → Stands self.old c
+            → Makes self.new marks.old marks.new (within c.turn (pass P.functions c.state))) }
+        ensures err { OnErr result ((c : Course P P.State P.Shared) → Stands self.old c
+            → IsCut marks.old marks.new (pass P.functions c.state).marks) }
         ensures turn { OnOk result (self.new.turn ≡ self.old.turn) }
         ensures scheduler { OnOk result (self.new.world.scheduler ≡ self.old.world.scheduler) }
         ensures kernel { OnOk result (self.new.world.kernel ≡ self.old.world.kernel) }
@@ -145,10 +147,13 @@ impl<P: Program> Machine<P> {
         requires none_new { self.old.world.threads.queues.new ≡ [] }
         requires none_ready { self.old.world.threads.queues.ready ≡ [] }
         ensures follows { IfOk result (λ moved. moved ≡ true → (g : Given P) (i : ℕ) → StandsAt P.functions g i self.old → MakesPart P.functions g i self.new marks.old marks.new) }
-        ensures moves { IfOk result (λ moved. moved ≡ true → (c : Course P P.State P.Shared) → Stands self.old c → Makes self.new marks.old marks.new (moves c.turn c.state)) }
-        ensures none { IfOk result (λ moved. (c : Course P P.State P.Shared) → Stands self.old c → (moved ≡ false) ↔ (moment c.state ≡ None)) }
+        ensures moves { IfOk result (λ moved. moved ≡ true → (c : Course P P.State P.Shared) → Stands self.old c
+            → Makes self.new marks.old marks.new (moves P.functions c.turn c.state)) }
+        ensures none { IfOk result (λ moved. (c : Course P P.State P.Shared) → Stands self.old c → (moved
+            ≡ false) ↔ (moment P.functions c.state ≡ None)) }
         ensures stays { IfOk result (λ moved. moved ≡ false → (self.new ≡ self.old) × (marks.new ≡ marks.old)) }
-        ensures err { OnErr result ((c : Course P P.State P.Shared) → Stands self.old c → IsCut marks.old marks.new (moves c.turn c.state).marks) }
+        ensures err { OnErr result ((c : Course P P.State P.Shared) → Stands self.old c
+            → IsCut marks.old marks.new (moves P.functions c.turn c.state).marks) }
         ensures turn { OnOk result (self.new.turn ≡ self.old.turn) }
         ensures nobody { OnOk result (self.new.world.scheduler.running ≡ None) }
         ensures failed { OnErr result (self.new.turn.outcome ≡ Outcome.OutOfMemory) }

@@ -18,7 +18,7 @@ ghost use Rattle.pth_world.specs.Whole.{Whole};
 use pth_base::ids::{Micros, Slot};
 use pth_base::limits::LAST_MOMENT;
 use pth_base::program::Program;
-use pth_ring::rings::EventSpec;
+use pth_ring::event::{Event, EventSpec};
 use pth_world::world::World;
 
 // The least of the moments so far, and of another one, which counts if it is later than now, and no later than the last moment.
@@ -34,12 +34,21 @@ fn sooner(now: Micros, best: Option<Micros>, m: Micros) -> Option<Micros>
     }
 }
 
-// The moment at which an event occurs, 0 where none is known.
-fn occurs_at(spec: &EventSpec) -> Micros
-    ensures { result ≡ occurs_at spec.now }
+// The next look of an event of a function, if its check holds now, else 0.
+fn asked_moment<P: Program>(w: &World<P>, next: Micros, check: i64, arg: i64) -> Micros
+    ensures { (s : State P P.State P.Shared) (interval : ℕ) → StandsFor w.now s
+        → result ≡ occurs_at P.functions s next (EventSpec.Func check arg interval) }
 {
-    match spec {
-        EventSpec::Time(at) => *at,
+    if w.check(check, arg) { next } else { 0 }
+}
+
+// The moment at which an event occurs, 0 where none is known.
+fn occurs_at<P: Program>(w: &World<P>, event: &Event) -> Micros
+    ensures { (s : State P P.State P.Shared) → StandsFor w.now s → result ≡ occurs_at P.functions s event.now.next_look event.now.spec }
+{
+    match event.spec {
+        EventSpec::Time(at) => at,
+        EventSpec::Func { check, arg, .. } => asked_moment(w, event.next_look, check, arg),
         _ => 0,
     }
 }
@@ -48,12 +57,14 @@ fn occurs_at(spec: &EventSpec) -> Micros
 fn count_round<P: Program>(w: &World<P>, first: Slot, start: Option<Micros>) -> Option<Micros>
     requires used { number_at w.now.events first.0 ≢ 0 }
     requires begins { Begins ((events_of w.now.events).rings (number_at w.now.events first.0)) (number_at w.now.events first.0) }
-    ensures { (ms : List ℕ) → start ≡ least_after w.now.kernel.now ms → result ≡ least_after w.now.kernel.now (ms ++ map (λ e. event_moment ((events_of w.now.events).events e)) ((events_of w.now.events).rings (number_at w.now.events first.0))) }
+    ensures { (s : State P P.State P.Shared) (ms : List ℕ) → StandsFor w.now s → start ≡ least_after w.now.kernel.now ms
+        → result ≡ least_after w.now.kernel.now (ms ++ map (λ e. event_moment P.functions s ((events_of w.now.events).events e))
+        ((events_of w.now.events).rings (number_at w.now.events first.0))) }
 {
     let mut best = start;
     let mut at = first;
     'round: loop {
-        best = sooner(w.time(), best, occurs_at(w.rings().spec_at(at)));
+        best = sooner(w.time(), best, occurs_at(w, w.rings().event_at(at)));
         at = w.rings().next_at(at);
         if at.0 == first.0 {
             return best;
@@ -63,7 +74,9 @@ fn count_round<P: Program>(w: &World<P>, first: Slot, start: Option<Micros>) -> 
 
 // The least of the moments so far, and of those of the events of the ring of an event.
 fn count_ring<P: Program>(w: &World<P>, e: i64, best: Option<Micros>) -> Option<Micros>
-    ensures { (ms : List ℕ) → best ≡ least_after w.now.kernel.now ms → result ≡ least_after w.now.kernel.now (ms ++ map (λ i. event_moment ((events_of w.now.events).events i)) ((events_of w.now.events).rings (number e))) }
+    ensures { (s : State P P.State P.Shared) (ms : List ℕ) → StandsFor w.now s → best ≡ least_after w.now.kernel.now ms
+        → result ≡ least_after w.now.kernel.now (ms ++ map (λ i. event_moment P.functions s ((events_of w.now.events).events i))
+        ((events_of w.now.events).rings (number e))) }
 {
     match w.rings().find(e) {
         Some(first) => count_round(w, first, best),
@@ -75,7 +88,8 @@ fn count_ring<P: Program>(w: &World<P>, e: i64, best: Option<Micros>) -> Option<
 fn count_of<P: Program>(w: &World<P>, slot: Slot, best: Option<Micros>) -> Option<Micros>
     requires whole { Whole w.now }
     requires used { tid_at w.now.threads.records slot.0 ≢ 0 }
-    ensures { (s : State P P.State P.Shared) (ms : List ℕ) → StandsFor w.now s → best ≡ least_after w.now.kernel.now ms → result ≡ least_after w.now.kernel.now (ms ++ moments_of s (tid_at w.now.threads.records slot.0)) }
+    ensures { (s : State P P.State P.Shared) (ms : List ℕ) → StandsFor w.now s → best ≡ least_after w.now.kernel.now ms
+        → result ≡ least_after w.now.kernel.now (ms ++ moments_of P.functions s (tid_at w.now.threads.records slot.0)) }
 {
     let awaited = w.awaited_in(slot);
     let best = sooner(w.time(), best, awaited.what.moment());
@@ -91,7 +105,7 @@ pub fn next_moment<P: Program>(w: &World<P>, slots: &[Slot]) -> Option<Micros>
     requires whole { Whole w.now }
     requires used { All (λ s. tid_at w.now.threads.records s.0 ≢ 0) slots.now }
     requires waiting { (k : Control P P.State P.Shared) → Shows w.now k → map (λ s. tid_at w.now.threads.records s.0) slots.now ≡ waiting k }
-    ensures moment { (s : State P P.State P.Shared) → StandsFor w.now s → result ≡ moment s }
+    ensures moment { (s : State P P.State P.Shared) → StandsFor w.now s → result ≡ moment P.functions s }
     ensures later { IfSome result (λ m. w.now.kernel.now < m) }
     ensures within { IfSome result (λ m. m ≤ last_moment) }
 {

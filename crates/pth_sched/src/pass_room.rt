@@ -52,8 +52,11 @@ fn go_over<P: Program>(w: &mut World<P>, slot: Slot, any_dead: bool, waking: &mu
     requires used { tid_at w.old.threads.records slot.0 ≢ 0 }
     requires dead { (k : Control P P.State P.Shared) → Shows w.old k → any_dead ≡ has_any_died k }
     requires room { length waking.old.items < vec_capacity waking.old }
-    ensures shows { (k : Control P P.State P.Shared) → Shows w.old k → Shows w.new (looks_at k (awaited_events k (tid_at w.old.threads.records slot.0))) }
-    ensures listed { (s : State P P.State P.Shared) → StandsFor w.old s → map number_of waking.new.items ≡ map number_of waking.old.items ++ (if is_to_wake s (tid_at w.old.threads.records slot.0) then tid_at w.old.threads.records slot.0 ∷ [] else []) }
+    ensures shows { (s : State P P.State P.Shared) → StandsFor w.old s
+        → Shows w.new (looks_at P.functions s (awaited_events s.control (tid_at w.old.threads.records slot.0)) s.control) }
+    ensures listed { (s : State P P.State P.Shared) → StandsFor w.old s → map number_of waking.new.items
+        ≡ map number_of waking.old.items ++ (if is_to_wake P.functions s (tid_at w.old.threads.records slot.0)
+        then tid_at w.old.threads.records slot.0 ∷ [] else []) }
     ensures one { length waking.new.items ≤ length waking.old.items + 1 }
     ensures room { vec_capacity waking.old ≤ vec_capacity waking.new }
     ensures made { w.new.events.made ≡ w.old.events.made }
@@ -70,8 +73,8 @@ fn go_over_all<P: Program>(w: &mut World<P>, slots: &[Slot], waking: &mut Vec<Ti
     requires used { All (λ s. tid_at w.old.threads.records s.0 ≢ 0) slots.now }
     requires waiting { (k : Control P P.State P.Shared) → Shows w.old k → map (λ s. tid_at w.old.threads.records s.0) slots.now ≡ waiting k }
     requires room { length slots.now ≤ vec_capacity waking.old }
-    ensures listed { (s : State P P.State P.Shared) → StandsFor w.old s → map number_of waking.new.items ≡ to_wake s }
-    ensures shows { (k : Control P P.State P.Shared) → Shows w.old k → Shows w.new (looks k) }
+    ensures listed { (s : State P P.State P.Shared) → StandsFor w.old s → map number_of waking.new.items ≡ to_wake P.functions s }
+    ensures shows { (s : State P P.State P.Shared) → StandsFor w.old s → Shows w.new (looks P.functions s s.control) }
     ensures room { vec_capacity waking.old ≤ vec_capacity waking.new }
     ensures made { w.new.events.made ≡ w.old.events.made }
     ensures same { w.new ≡ record w.old { events = w.new.events } }
@@ -113,8 +116,8 @@ impl PassRoom {
     /// Looks at the events for which threads wait, and lists the waiting threads that are to wake, in their order.
     pub fn go_over<P: Program>(&mut self, w: &mut World<P>)
         requires { Whole w.old }
-        ensures listed { (s : State P P.State P.Shared) → StandsFor w.old s → self.new ≡ to_wake s }
-        ensures shows { (k : Control P P.State P.Shared) → Shows w.old k → Shows w.new (looks k) }
+        ensures listed { (s : State P P.State P.Shared) → StandsFor w.old s → self.new ≡ to_wake P.functions s }
+        ensures shows { (s : State P P.State P.Shared) → StandsFor w.old s → Shows w.new (looks P.functions s s.control) }
         ensures made { w.new.events.made ≡ w.old.events.made }
         ensures same { w.new ≡ record w.old { events = w.new.events } }
     {
@@ -138,7 +141,7 @@ impl PassRoom {
     /// waiting thread waits.
     pub fn next_moment<P: Program>(&mut self, w: &World<P>) -> Option<Micros>
         requires { Whole w.now }
-        ensures moment { (s : State P P.State P.Shared) → StandsFor w.now s → result ≡ moment s }
+        ensures moment { (s : State P P.State P.Shared) → StandsFor w.now s → result ≡ moment P.functions s }
         ensures later { IfSome result (λ m. w.now.kernel.now < m) }
         ensures within { IfSome result (λ m. m ≤ last_moment) }
         ensures same { self.new ≡ self.old }

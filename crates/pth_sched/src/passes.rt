@@ -90,8 +90,8 @@ pub fn pass<P: Program>(
     marks: &mut Marks,
 ) -> Result<(), OutOfMemory>
     requires whole { Whole w.old }
-    ensures ok { OnOk result ((s : State P P.State P.Shared) → StandsFor w.old s → Leads w.new marks.old marks.new (pass s)) }
-    ensures err { OnErr result ((s : State P P.State P.Shared) → StandsFor w.old s → IsCut marks.old marks.new (pass s).marks) }
+    ensures ok { OnOk result ((s : State P P.State P.Shared) → StandsFor w.old s → Leads w.new marks.old marks.new (pass P.functions s)) }
+    ensures err { OnErr result ((s : State P P.State P.Shared) → StandsFor w.old s → IsCut marks.old marks.new (pass P.functions s).marks) }
     ensures whole { OnOk result (Whole w.new) }
     ensures scheduler { OnOk result (KeepsRest w.old w.new) }
     ensures made { OnOk result (w.new.threads.records.made ≡ w.old.threads.records.made) }
@@ -160,8 +160,8 @@ pub fn pass_unless_calm<P: Program>(
 ) -> Result<(), OutOfMemory>
     requires whole { Whole w.old }
     requires calm { CalmsBut t.0 w.old calm.old.until }
-    ensures ok { OnOk result ((s : State P P.State P.Shared) → StandsFor w.old s → Leads w.new marks.old marks.new (pass s)) }
-    ensures err { OnErr result ((s : State P P.State P.Shared) → StandsFor w.old s → IsCut marks.old marks.new (pass s).marks) }
+    ensures ok { OnOk result ((s : State P P.State P.Shared) → StandsFor w.old s → Leads w.new marks.old marks.new (pass P.functions s)) }
+    ensures err { OnErr result ((s : State P P.State P.Shared) → StandsFor w.old s → IsCut marks.old marks.new (pass P.functions s).marks) }
     ensures whole { OnOk result (Whole w.new) }
     ensures scheduler { OnOk result (KeepsRest w.old w.new) }
     ensures made { OnOk result (w.new.threads.records.made ≡ w.old.threads.records.made) }

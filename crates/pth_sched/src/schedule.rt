@@ -216,8 +216,10 @@ impl<P: Program> Schedule<P> {
         requires ranks { IsRoofed self.old }
         requires few { self.old.turn.steps ≤ most_steps }
         requires over { self.old.turn.gave ≡ Some t.0 }
-        ensures ok { OnOk result ((c : Course P P.State P.Shared) → Stands self.old c → Makes self.new marks.old marks.new (closes c.turn t.0 c.state)) }
-        ensures err { OnErr result ((c : Course P P.State P.Shared) → Stands self.old c → IsCut marks.old marks.new (closes c.turn t.0 c.state).marks) }
+        ensures ok { OnOk result ((c : Course P P.State P.Shared) → Stands self.old c
+            → Makes self.new marks.old marks.new (closes P.functions c.turn t.0 c.state)) }
+        ensures err { OnErr result ((c : Course P P.State P.Shared) → Stands self.old c
+            → IsCut marks.old marks.new (closes P.functions c.turn t.0 c.state).marks) }
         ensures going { OnOk result (IsGoing self.new) }
         ensures ranks { OnOk result (IsRoofed self.new) }
         ensures steps { self.new.turn.steps ≡ self.old.turn.steps }
@@ -233,8 +235,10 @@ impl<P: Program> Schedule<P> {
     /// A pass over the waiting threads. After an error the schedule may only be dropped.
     pub fn pass(&mut self, marks: &mut Marks) -> Result<(), OutOfMemory>
         requires keeps { Keeps self.old }
-        ensures ok { OnOk result ((c : Course P P.State P.Shared) → Stands self.old c → Makes self.new marks.old marks.new (within c.turn (pass c.state))) }
-        ensures err { OnErr result ((c : Course P P.State P.Shared) → Stands self.old c → IsCut marks.old marks.new (pass c.state).marks) }
+        ensures ok { OnOk result ((c : Course P P.State P.Shared) → Stands self.old c
+            → Makes self.new marks.old marks.new (within c.turn (pass P.functions c.state))) }
+        ensures err { OnErr result ((c : Course P P.State P.Shared) → Stands self.old c
+            → IsCut marks.old marks.new (pass P.functions c.state).marks) }
         ensures keeps { OnOk result (Keeps self.new) }
         ensures turn { self.new.turn ≡ self.old.turn }
         ensures scheduler { OnOk result (self.new.world.scheduler ≡ self.old.world.scheduler) }
@@ -252,8 +256,10 @@ impl<P: Program> Schedule<P> {
         requires keeps { Keeps self.old }
         requires onward { self.old.world.kernel.now ≤ moment }
         requires within { moment ≤ last_moment }
-        ensures ok { OnOk result ((c : Course P P.State P.Shared) → Stands self.old c → Makes self.new marks.old marks.new (moves_by c.turn (Some moment) c.state)) }
-        ensures err { OnErr result ((c : Course P P.State P.Shared) → Stands self.old c → IsCut marks.old marks.new (moves_by c.turn (Some moment) c.state).marks) }
+        ensures ok { OnOk result ((c : Course P P.State P.Shared) → Stands self.old c
+            → Makes self.new marks.old marks.new (moves_by P.functions c.turn (Some moment) c.state)) }
+        ensures err { OnErr result ((c : Course P P.State P.Shared) → Stands self.old c
+            → IsCut marks.old marks.new (moves_by P.functions c.turn (Some moment) c.state).marks) }
         ensures keeps { OnOk result (Keeps self.new) }
         ensures turn { self.new.turn ≡ self.old.turn }
         ensures scheduler { OnOk result (self.new.world.scheduler ≡ self.old.world.scheduler) }
@@ -272,10 +278,13 @@ impl<P: Program> Schedule<P> {
     /// the answer is whether there is such a moment. After an error the schedule may only be dropped.
     pub fn idle(&mut self, marks: &mut Marks) -> Result<bool, OutOfMemory>
         requires keeps { Keeps self.old }
-        ensures some { IfOk result (λ moved. (c : Course P P.State P.Shared) → Stands self.old c → is_some (moment c.state) ≡ moved) }
-        ensures moves { IfOk result (λ moved. moved ≡ true → (c : Course P P.State P.Shared) → Stands self.old c → Makes self.new marks.old marks.new (moves c.turn c.state)) }
+        ensures some { IfOk result (λ moved. (c : Course P P.State P.Shared) → Stands self.old c
+            → is_some (moment P.functions c.state) ≡ moved) }
+        ensures moves { IfOk result (λ moved. moved ≡ true → (c : Course P P.State P.Shared) → Stands self.old c
+            → Makes self.new marks.old marks.new (moves P.functions c.turn c.state)) }
         ensures stays { IfOk result (λ moved. moved ≡ false → (self.new ≡ self.old) × (marks.new ≡ marks.old)) }
-        ensures err { OnErr result ((c : Course P P.State P.Shared) → Stands self.old c → IsCut marks.old marks.new (moves c.turn c.state).marks) }
+        ensures err { OnErr result ((c : Course P P.State P.Shared) → Stands self.old c
+            → IsCut marks.old marks.new (moves P.functions c.turn c.state).marks) }
         ensures keeps { OnOk result (Keeps self.new) }
         ensures turn { self.new.turn ≡ self.old.turn }
         ensures runs { OnOk result (self.new.world.scheduler.running ≡ self.old.world.scheduler.running) }
@@ -292,8 +301,10 @@ impl<P: Program> Schedule<P> {
     // Idle time moves on; where there is no moment to which it moves, the run is stalled.
     fn move_on(&mut self, marks: &mut Marks) -> Result<(), OutOfMemory>
         requires keeps { Keeps self.old }
-        ensures ok { OnOk result ((c : Course P P.State P.Shared) → Stands self.old c → Makes self.new marks.old marks.new (moves c.turn c.state)) }
-        ensures err { OnErr result ((c : Course P P.State P.Shared) → Stands self.old c → IsCut marks.old marks.new (moves c.turn c.state).marks) }
+        ensures ok { OnOk result ((c : Course P P.State P.Shared) → Stands self.old c
+            → Makes self.new marks.old marks.new (moves P.functions c.turn c.state)) }
+        ensures err { OnErr result ((c : Course P P.State P.Shared) → Stands self.old c
+            → IsCut marks.old marks.new (moves P.functions c.turn c.state).marks) }
         ensures keeps { OnOk result (Keeps self.new) }
         ensures steps { self.new.turn.steps ≡ self.old.turn.steps }
     {

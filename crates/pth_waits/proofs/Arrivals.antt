@@ -14,24 +14,28 @@ use Rattle.pth_ring.specs.declared.event.Status.TheVariants.{Pending, Occurred, 
 use Rattle.pth_model.specs.declared.awaits.Awaits.{Awaits}
 use Rattle.pth_model.specs.declared.awaits.Retake.{Retake}
 use Rattle.pth_model.specs.declared.awaits.Awaits.TheVariants.{Nothing, Alone, Death, AnyDeath, Moment, Ring, Selection, Mutex, Lock, Round, Notice, Retaking}
-use Rattle.pth_model.specs.State.{Control, State, now_of}
+use Rattle.pth_model.specs.State.{State, now_of}
 use Rattle.pth_model.specs.Coming.{descriptors_bring}
-use Rattle.pth_model.specs.Looks.{found}
+use Rattle.pth_model.specs.Looks.{found_unasked}
+use Rattle.pth_model.specs.Transition.{controlled}
 use Rattle.pth_waits.specs.Dormant.{IsFoundPending, StaysAway, bound, deadline_in}
 use Rattle.pth_waits.proofs.Kernels.{IsSame, HasNoDeadline, all_still, any_still, exceptional_still, readable_still, bring_still, writeable_still}
 
-module _ {P S H : Type 0} (k : Control P S H) (until : ℕ) (soon : until ≤ bound (next_time k.kernel)) (within : until ≤ last_moment + 1) where
-  pub still : (n : ℕ) → now_of k ≤ n → n < until → All (IsSame (now_of k) n) k.kernel.trace
-  still n later early = all_still (now_of k) n later (omega arith) k.kernel.trace (omega arith)
+module _ {P S H : Type 0} (s : State P S H) (until : ℕ) (soon : until ≤ bound (next_time s.control.kernel)) (within : until ≤ last_moment + 1) where
+  pub still : (n : ℕ) → now_of s.control ≤ n → n < until → All (IsSame (now_of s.control) n) s.control.kernel.trace
+  still n later early = all_still (now_of s.control) n later (omega arith) s.control.kernel.trace (omega arith)
 
   -- an event of descriptors
-  pub fd_pending : (e goals : ℕ) (fd : ℤ) → found k e (of.Fd goals fd) ≡ Pending → IsFoundPending k until e (of.Fd goals fd)
-  fd_pending e goals fd is = λ n later early.
-      let all = still n later early in
-      rw (readable_still k.kernel n all (fd_named fd), writeable_still k.kernel n all (fd_named fd), exceptional_still k.kernel n all (fd_named fd)) is
+  pub fd_pending : (e goals : ℕ) (fd : ℤ) → found_unasked s e (of.Fd goals fd) ≡ Pending → IsFoundPending s until e (of.Fd goals fd)
+  fd_pending e goals fd is = (
+    tt,
+    λ n later early.
+        let all = still n later early in
+        rw (readable_still s.control.kernel n all (fd_named fd), writeable_still s.control.kernel n all (fd_named fd), exceptional_still s.control.kernel n all (fd_named fd)) is,
+  )
 
-  pub select_pending : (e : ℕ) (r w y : FdSet) → found k e (of.Select r w y) ≡ Pending → IsFoundPending k until e (of.Select r w y)
-  select_pending e r w y is = λ n later early. rw (any_still k.kernel n (still n later early) r.0 w.0 y.0) is
+  pub select_pending : (e : ℕ) (r w y : FdSet) → found_unasked s e (of.Select r w y) ≡ Pending → IsFoundPending s until e (of.Select r w y)
+  select_pending e r w y is = (tt, λ n later early. rw (any_still s.control.kernel n (still n later early) r.0 w.0 y.0) is)
 
 -- by the least of the next arrival and the deadline
 module _ (k : Kernel) (a : Awaits) (is : descriptors_bring k a ≡ false) (arrival until : ℕ) (soon : arrival ≤ bound (next_time k)) (within : arrival ≤ last_moment + 1) (least : until ≡ min arrival (deadline_in a)) where
@@ -69,15 +73,18 @@ found_by : (live occurs : Bool) → live ≡ true → occurs ≡ false → (if n
 found_by live occurs a b = rw (a, b) refl
 
 -- an event of descriptors is found pending where none is gone, and none is as it says
-module _ {P S H : Type 0} (k : Control P S H) (until : ℕ) (z : Kernel) (is : k.kernel ≡ z) (soon : until ≤ bound (next_time z)) (within : until ≤ last_moment + 1) where
-  soon_here : until ≤ bound (next_time k.kernel)
+module _ {P S H : Type 0} (s : State P S H) (until : ℕ) (z : Kernel) (is : s.control.kernel ≡ z) (soon : until ≤ bound (next_time z)) (within : until ≤ last_moment + 1) where
+  abbrev with_kernel_of : Kernel → State P S H
+  with_kernel_of y = controlled (λ k. record k { kernel = y }) s
+
+  soon_here : until ≤ bound (next_time s.control.kernel)
   soon_here = subst (λ (y : Kernel). until ≤ bound (next_time y)) (sym is) soon
 
-  pub fd_waits : (e goals : ℕ) (fd : ℤ) → is_fd_live z (fd_named fd) ≡ true → ((contains goals 0 && is_readable z (fd_named fd)) || (contains goals 1 && is_writeable z (fd_named fd)) || (contains goals 2 && is_exceptional z (fd_named fd))) ≡ false → IsFoundPending k until e (of.Fd goals fd)
-  fd_waits e goals fd live none = fd_pending k until soon_here within e goals fd (subst (λ (y : Kernel). found (record k { kernel = y }) e (of.Fd goals fd) ≡ Pending) (sym is) (found_by _ _ live none))
+  pub fd_waits : (e goals : ℕ) (fd : ℤ) → is_fd_live z (fd_named fd) ≡ true → ((contains goals 0 && is_readable z (fd_named fd)) || (contains goals 1 && is_writeable z (fd_named fd)) || (contains goals 2 && is_exceptional z (fd_named fd))) ≡ false → IsFoundPending s until e (of.Fd goals fd)
+  fd_waits e goals fd live none = fd_pending s until soon_here within e goals fd (subst (λ (y : Kernel). found_unasked (with_kernel_of y) e (of.Fd goals fd) ≡ Pending) (sym is) (found_by _ _ live none))
 
-  pub select_waits : (e : ℕ) (r w y : FdSet) → are_all_live z r.0 w.0 y.0 ≡ true → is_any_ready z r.0 w.0 y.0 ≡ false → IsFoundPending k until e (of.Select r w y)
-  select_waits e r w y live none = select_pending k until soon_here within e r w y (subst (λ (q : Kernel). found (record k { kernel = q }) e (of.Select r w y) ≡ Pending) (sym is) (found_by _ _ live none))
+  pub select_waits : (e : ℕ) (r w y : FdSet) → are_all_live z r.0 w.0 y.0 ≡ true → is_any_ready z r.0 w.0 y.0 ≡ false → IsFoundPending s until e (of.Select r w y)
+  select_waits e r w y live none = select_pending s until soon_here within e r w y (subst (λ (q : Kernel). found_unasked (with_kernel_of q) e (of.Select r w y) ≡ Pending) (sym is) (found_by _ _ live none))
 
 -- ---- and all of it is later than now
 
@@ -128,14 +135,17 @@ pending_says true false is = (refl, refl)
 pending_says false occurs is = absurd (cc is)
 
 -- what is found pending says that none is gone, and none is as it says
-module _ {P S H : Type 0} (k : Control P S H) (z : Kernel) (is : k.kernel ≡ z) where
-  pub fd_says : (e goals : ℕ) (fd : ℤ) → found k e (of.Fd goals fd) ≡ Pending
-      → (is_fd_live z (fd_named fd) ≡ true) × (((contains goals 0 && is_readable z (fd_named fd)) || (contains goals 1 && is_writeable z (fd_named fd)) || (contains goals 2 && is_exceptional z (fd_named fd))) ≡ false)
-  fd_says e goals fd pending = pending_says _ _ (subst (λ (y : Kernel). found (record k { kernel = y }) e (of.Fd goals fd) ≡ Pending) is pending)
+module _ {P S H : Type 0} (s : State P S H) (z : Kernel) (is : s.control.kernel ≡ z) where
+  abbrev at_kernel : Kernel → State P S H
+  at_kernel y = controlled (λ k. record k { kernel = y }) s
 
-  pub select_says : (e : ℕ) (r w y : FdSet) → found k e (of.Select r w y) ≡ Pending → (are_all_live z r.0 w.0 y.0 ≡ true) × (is_any_ready z r.0 w.0 y.0 ≡ false)
-  select_says e r w y pending = pending_says _ _ (subst (λ (q : Kernel). found (record k { kernel = q }) e (of.Select r w y) ≡ Pending) is pending)
+  pub fd_says : (e goals : ℕ) (fd : ℤ) → found_unasked s e (of.Fd goals fd) ≡ Pending
+      → (is_fd_live z (fd_named fd) ≡ true) × (((contains goals 0 && is_readable z (fd_named fd)) || (contains goals 1 && is_writeable z (fd_named fd)) || (contains goals 2 && is_exceptional z (fd_named fd))) ≡ false)
+  fd_says e goals fd pending = pending_says _ _ (subst (λ (y : Kernel). found_unasked (at_kernel y) e (of.Fd goals fd) ≡ Pending) is pending)
+
+  pub select_says : (e : ℕ) (r w y : FdSet) → found_unasked s e (of.Select r w y) ≡ Pending → (are_all_live z r.0 w.0 y.0 ≡ true) × (is_any_ready z r.0 w.0 y.0 ≡ false)
+  select_says e r w y pending = pending_says _ _ (subst (λ (q : Kernel). found_unasked (at_kernel q) e (of.Select r w y) ≡ Pending) is pending)
 
   -- the moment of an event
-  pub time_says : (e at : ℕ) → found k e (of.Time at) ≡ Pending → z.now < at
-  time_says e at pending = not_come z.now at (pending_says true (nat_le at z.now) (subst (λ (q : Kernel). found (record k { kernel = q }) e (of.Time at) ≡ Pending) is pending)).1
+  pub time_says : (e at : ℕ) → found_unasked s e (of.Time at) ≡ Pending → z.now < at
+  time_says e at pending = not_come z.now at (pending_says true (nat_le at z.now) (subst (λ (q : Kernel). found_unasked (at_kernel q) e (of.Time at) ≡ Pending) is pending)).1

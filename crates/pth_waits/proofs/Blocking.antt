@@ -19,7 +19,7 @@ use Rattle.pth_model.specs.RingWaits.{ring_given, claims, stops_waiting}
 use Rattle.pth_model.specs.Resources.{told}
 use Rattle.pth_model.specs.State.{Control, State}
 use Rattle.pth_model.specs.Transition.{changes, tid, tells, ◌and_then◌}
-use Rattle.pth_world.specs.Numbering.{Thread, Object, Event, no_numbers}
+use Rattle.pth_world.specs.Numbering.{Thread, Object, Event, Port, no_numbers}
 use Rattle.pth_world.specs.World.{WorldOf}
 use Rattle.pth_world.proofs.Frames.{gives_none}
 use Rattle.pth_world.proofs.Ranks.{ranks_none, ranks_same}
@@ -93,6 +93,7 @@ unblocked_frame {P} {S} {H} w v r is whole made same = record {
     | Thread ↦ (let e = ap (λ (z : WorldOf P S H). z.threads.records.made) same in omega arith)
     | Object ↦ (let e = ap (λ (z : WorldOf P S H). z.attributes.made) same in omega arith)
     | Event ↦ (let e = made in omega arith)
+    | Port ↦ (let e = ap (λ (z : WorldOf P S H). z.store.ports.made) same in omega arith)
   ];
   ranks = ranks_same 0 w.threads w.threads v.threads (ap (λ (z : WorldOf P S H). z.threads.queues) same) (ranks_none w.threads);
   preferred = ap (λ (z : WorldOf P S H). z.scheduler.preferred) same;

@@ -1,12 +1,14 @@
 -- What keeps threads dormant, and what dormant threads leave of a pass.
-use Rattle.std.proofs.Common.{◌≡◌, ◌∙◌, ℕ, ◌+◌, ◌<◌, ◌≤◌, ◌||◌, min, Bool, true, false, if◌then◌else◌, ℤ, List, [], ◌∷◌, Option, Some, None, is_some, option_map, All, refl, sym, ap, subst, arith}
+use Rattle.std.proofs.Common.{◌≡◌, ◌∙◌, ℕ, ◌+◌, ◌<◌, ◌≤◌, ◌||◌, min, Bool, true, false, if◌then◌else◌, ℤ, List, [], ◌∷◌, Option, Some, None, is_some, option_map, All, refl, sym, ap, ap₂, subst, arith}
 use Rattle.std.specs.List.{list_any}
 use Rattle.std.proofs.lemmas.List.Elements.{All-head, All-tail, All-weaker, All-nil}
 use Rattle.pth_ring.specs.declared.event.Event.{Event}
+use Rattle.pth_ring.specs.declared.event.Status.{Status}
 use Rattle.pth_ring.specs.declared.event.Status.TheVariants.{Pending}
 use Rattle.pth_ring.specs.Ring.{each, ring_holds}
-use Rattle.pth_ring.specs.Rings.{Events, awaited, claimed, ring_awaited, with_claim, with_status}
+use Rattle.pth_ring.specs.Rings.{Events, awaited, claimed, ring_awaited, with_claim, with_next_look, with_status}
 use Rattle.pth_base.specs.Limits.{last_moment}
+use Rattle.pth_base.specs.Program.{Functions}
 use Rattle.pth_base.specs.declared.event.EventSpec.{EventSpec}
 use Rattle.pth_base.specs.declared.event.EventSpec.TheVariants as of
 use Rattle.pth_base.specs.declared.ids.Tid.{Tid}
@@ -32,46 +34,57 @@ use Rattle.pth_model.specs.Calls.{wakes}
 use Rattle.pth_model.specs.Cancellation.{may_be_canceled}
 use Rattle.pth_model.specs.Changes.{blocked_of, entry_of, moves_to}
 use Rattle.pth_model.specs.Coming.{descriptors_bring, has_any_died, has_come, has_died}
-use Rattle.pth_model.specs.Looks.{comes, found, looked_at}
+use Rattle.pth_model.specs.Looks.{comes, found, found_unasked, looked_at, next_look}
 use Rattle.pth_model.specs.Pass.{comes_for, is_to_wake}
 use Rattle.pth_model.specs.RingWaits.{awaited_events, awaited_in, events_from, ring_held}
 use Rattle.pth_model.specs.ThreadEnds.{is_alone}
+use Rattle.pth_model.specs.Transition.{controlled}
 use Rattle.pth_world.specs.Shows.{Shows}
 use Rattle.pth_world.specs.World.{WorldOf}
-use Rattle.pth_waits.specs.Dormant.{ArePending, FindsPending, IsDormant, StaysAway, StaysPending, is_left_to_join}
+use Rattle.pth_waits.specs.Dormant.{ArePending, FindsPending, IsDormant, IsFoundPending, IsSteady, StaysAway, StaysPending, is_left_to_join}
 use Rattle.pth_waits.proofs.Arrivals.{pending_says}
 use Rattle.pth_waits.proofs.Waking.{no_events, ring_events}
 
 -- ---- at a moment before, a dormant thread is not to wake
 
-module _ {P S H : Type 0} (s : State P S H) (until : ℕ) (early : now_of s.control < until) where
+module _ {P S H : Type 0} (f : P → Functions S H) (s : State P S H) (until : ℕ) (early : now_of s.control < until) where
   away_now : (t : ℕ) (a : Awaits) → is_alone s.control main ≡ false → (((u : ℕ) → is_left_to_join (entry_of s.control u) ≡ false) → has_any_died s.control ≡ false) → StaysAway s until t a → has_come s t a ≡ false
   away_now t Alone alone none away = rw away alone
   away_now t AnyDeath alone none away = none away
   away_now t a alone none away = away (now_of s.control) (omega arith) early
 
-  found_now : (e : ℕ) (o : Option Event) → StaysPending s.control until e o → comes s.control e o ≡ false
-  found_now e None stays = refl
-  found_now e (Some v) stays = rw (stays.1 (now_of s.control) (omega arith) early) refl
+  -- an event that stays pending is of no thread and of no function
+  found_by_kind : (e next : ℕ) (spec : EventSpec) → IsFoundPending s until e spec → found f s e next spec ≡ Pending
+  found_by_kind e next (of.Func check arg interval) stays = absurd (let late = stays.0 in omega arith)
+  found_by_kind e next spec stays = stays.1 (now_of s.control) (omega arith) early
 
-  none_come : (es : List ℕ) → All (λ e. StaysPending s.control until e (s.control.events.events e)) es → list_any (λ e. comes s.control e (s.control.events.events e)) es ≡ false
+  next_by_kind : (e next : ℕ) (spec : EventSpec) → IsFoundPending s until e spec → next_look f s next spec ≡ next
+  next_by_kind e next (of.Func check arg interval) stays = absurd (let late = stays.0 in omega arith)
+  next_by_kind e next spec stays = refl
+
+  found_now : (e : ℕ) (o : Option Event) → StaysPending s until e o → comes f s e o ≡ false
+  found_now e None stays = refl
+  found_now e (Some v) stays = rw (found_by_kind e v.next_look v.spec stays.1) refl
+
+  none_come : (es : List ℕ) → All (λ e. StaysPending s until e (s.control.events.events e)) es → list_any (λ e. comes f s e (s.control.events.events e)) es ≡ false
   none_come [] all = refl
   none_come (e ∷ es) all =
-      let here = found_now e (s.control.events.events e) (All-head (λ i. StaysPending s.control until i (s.control.events.events i)) e es all) in
-      rw here (none_come es (All-tail (λ i. StaysPending s.control until i (s.control.events.events i)) e es all))
+      let here = found_now e (s.control.events.events e) (All-head (λ i. StaysPending s until i (s.control.events.events i)) e es all) in
+      rw here (none_come es (All-tail (λ i. StaysPending s until i (s.control.events.events i)) e es all))
 
   none_of : (a b c : Bool) → a ≡ false → b ≡ false → c ≡ false → (a || b || c) ≡ false
   none_of a b c h i j = rw (h, i, j) refl
 
   -- where main is not alone, and no thread is left to join if no record is that of one
-  pub dormant_stays : (t : ℕ) → is_alone s.control main ≡ false → (((u : ℕ) → is_left_to_join (entry_of s.control u) ≡ false) → has_any_died s.control ≡ false) → IsDormant s until t → is_to_wake s t ≡ false
+  pub dormant_stays : (t : ℕ) → is_alone s.control main ≡ false → (((u : ℕ) → is_left_to_join (entry_of s.control u) ≡ false) → has_any_died s.control ≡ false) → IsDormant s until t → is_to_wake f s t ≡ false
   unfolding comes_for wakes
   dormant_stays t alone none q = none_of _ _ _ (away_now t _ alone none q.away) (none_come _ q.pending) q.unasked
 
   -- and a look at its events finds what was found before
-  pub looked_same : (e : ℕ) (o : Option Event) → StaysPending s.control until e o → option_map (looked_at s.control e) o ≡ o
+  pub looked_same : (e : ℕ) (o : Option Event) → StaysPending s until e o → option_map (looked_at f s e) o ≡ o
   looked_same e None stays = refl
-  looked_same e (Some v) stays = rw (stays.1 (now_of s.control) (omega arith) early) (ap (λ st. Some (with_status st v)) (sym stays.0))
+  looked_same e (Some v) stays =
+      ap₂ (λ (n : ℕ) (x : Status). Some (with_next_look n (with_status x v))) (next_by_kind e v.next_look v.spec stays.1) (found_by_kind e v.next_look v.spec stays.1 ∙ sym stays.0)
 
 -- something that time does not bring is not here, if it stays away until any moment
 pub is_not_here : (here : Bool) (until : ℕ) → until ≡ (if here then 0 else last_moment + 1) → 0 < until → here ≡ false
@@ -198,6 +211,7 @@ module _ {P S H : Type 0} where
     pub events : KeepsPending s.control.events r.control.events
     pub mutexes : r.resources.store.mutexes ≡ s.resources.store.mutexes
     pub locks : r.resources.store.rw_locks ≡ s.resources.store.rw_locks
+    pub mail : r.resources.store.mail ≡ s.resources.store.mail
     pub rounds : KeepsRounds s.control.barriers r.control.barriers
     pub seats : KeepsSeats s.control.conditions r.control.conditions
     pub blocked : blocked_of r.control t ≡ blocked_of s.control t
@@ -231,22 +245,33 @@ module _ {P S H : Type 0} where
     away_kept a away = λ n h l. at_moved a n (away n (onward n h) l)
 
     -- an event of a condition, by whether this is initialised, and the event's seat there was notified
-    cond_pending : (e : ℕ) (c : ℤ) → found s.control e (of.Cond c) ≡ Pending → found r.control e (of.Cond c) ≡ Pending
+    cond_pending : (e : ℕ) (c : ℤ) → found_unasked s e (of.Cond c) ≡ Pending → found_unasked r e (of.Cond c) ≡ Pending
     cond_pending e c is = (let h = pending_says (is_live s.control.conditions c) (is_marked s.control.conditions c (event_seat e)) is in rw ((same.seats c).0, h.0, (same.seats c).1 (event_seat e) h.1) refl)
 
-    found_moved : (n e : ℕ) (z : EventSpec) → found (moves_to n s.control) e z ≡ Pending → found (moves_to n r.control) e z ≡ Pending
-    found_moved n e (of.Cond c) is = cond_pending e c is
-    found_moved n e z is = subst (λ (q : Kernel). found (record r.control { kernel = q }) e z ≡ Pending) (sym (moved_kernel n)) is
+    -- an event of a thread or of a function is not known to stay pending before a later moment
+    found_moved : (n e : ℕ) (z : EventSpec) → n < until → now_of r.control ≤ n → IsSteady s until z → found_unasked (controlled (moves_to n) s) e z ≡ Pending → found_unasked (controlled (moves_to n) r) e z ≡ Pending
+    found_moved n e (of.Cond c) l h steady is = cond_pending e c is
+    found_moved n e (of.Msg p) l h steady is = rw same.mail is
+    found_moved n e (of.Tid state u) l h steady is = absurd (let late = onward n h in omega arith)
+    found_moved n e (of.Func check arg interval) l h steady is = refl
+    found_moved n e z l h steady is = subst (λ (q : Kernel). found_unasked (controlled (λ k. record k { kernel = q }) r) e z ≡ Pending) (sym (moved_kernel n)) is
 
-    pending_kept : (e : ℕ) (o p : Option Event) → StillPending o p → StaysPending s.control until e o → StaysPending r.control until e p
-    pending_kept e None p still stays = subst (λ (q : Option Event). StaysPending r.control until e q) (sym still) tt
+    steady_kept : (z : EventSpec) → IsSteady s until z → IsSteady r until z
+    steady_kept (of.Tid state u) steady = (let late = onward (now_of r.control) (omega arith) in omega arith)
+    steady_kept (of.Func check arg interval) steady = (let late = onward (now_of r.control) (omega arith) in omega arith)
+    steady_kept z steady = tt
+
+    found_kept : (e : ℕ) (z : EventSpec) → IsFoundPending s until e z → IsFoundPending r until e z
+    found_kept e z stays = (steady_kept z stays.0, λ n h l. found_moved n e z l h stays.0 (stays.1 n (onward n h) l))
+
+    pending_kept : (e : ℕ) (o p : Option Event) → StillPending o p → StaysPending s until e o → StaysPending r until e p
+    pending_kept e None p still stays = subst (λ (q : Option Event). StaysPending r until e q) (sym still) tt
     pending_kept e (Some v) None still stays = absurd still
-    pending_kept e (Some v) (Some u) still stays =
-        (still.1 stays.0, λ n h l. found_moved n e u.spec (subst (λ (z : EventSpec). found (moves_to n s.control) e z ≡ Pending) (sym still.0) (stays.1 n (onward n h) l)))
+    pending_kept e (Some v) (Some u) still stays = (still.1 stays.0, found_kept e u.spec (subst (IsFoundPending s until e) (sym still.0) stays.1))
 
-    all_pending : (es : List ℕ) → ArePending s.control until es → ArePending r.control until es
+    all_pending : (es : List ℕ) → ArePending s until es → ArePending r until es
     all_pending es all =
-        All-weaker (λ e. StaysPending s.control until e (s.control.events.events e)) (λ e. StaysPending r.control until e (r.control.events.events e))
+        All-weaker (λ e. StaysPending s until e (s.control.events.events e)) (λ e. StaysPending r until e (r.control.events.events e))
         (λ e h. pending_kept e (s.control.events.events e) (r.control.events.events e) (same.events.pending e) h) es all
 
     same_from : (o : Option ℤ) → events_from r.control.events o ≡ events_from s.control.events o
@@ -256,20 +281,25 @@ module _ {P S H : Type 0} where
     pub dormant_kept : IsDormant s until t → IsDormant r until t
     dormant_kept q = record {
       away = subst (λ (o : Option Blocked). StaysAway r until t (awaits_in o)) (sym same.blocked) (away_kept (awaits_in (blocked_of s.control t)) q.away);
-      pending = subst (λ (o : Option Blocked). ArePending r.control until (events_from r.control.events (ring_held o))) (sym same.blocked)
-          (subst (ArePending r.control until) (sym (same_from (ring_held (blocked_of s.control t)))) (all_pending (awaited_events s.control t) q.pending));
+      pending = subst (λ (o : Option Blocked). ArePending r until (events_from r.control.events (ring_held o))) (sym same.blocked)
+          (subst (ArePending r until) (sym (same_from (ring_held (blocked_of s.control t)))) (all_pending (awaited_events s.control t) q.pending));
       unasked = same.asked q.unasked;
     }
 
   -- and until an earlier moment
-  module _ (k : Control P S H) (until sooner : ℕ) (less : sooner ≤ until) where
-    pub sooner_pending : (e : ℕ) (o : Option Event) → StaysPending k until e o → StaysPending k sooner e o
-    sooner_pending e None s = tt
-    sooner_pending e (Some v) s = (s.0, λ n h l. s.1 n h (omega arith))
+  module _ (s : State P S H) (until sooner : ℕ) (less : sooner ≤ until) where
+    sooner_steady : (z : EventSpec) → IsSteady s until z → IsSteady s sooner z
+    sooner_steady (of.Tid state u) steady = omega arith
+    sooner_steady (of.Func check arg interval) steady = omega arith
+    sooner_steady z steady = tt
 
-    pub sooner_found : (e : ℕ) (o : Option Event) → FindsPending k until e o → FindsPending k sooner e o
-    sooner_found e None s = tt
-    sooner_found e (Some v) s = λ n h l. s n h (omega arith)
+    pub sooner_found : (e : ℕ) (o : Option Event) → FindsPending s until e o → FindsPending s sooner e o
+    sooner_found e None finds = tt
+    sooner_found e (Some v) finds = (sooner_steady v.spec finds.0, λ n h l. finds.1 n h (omega arith))
+
+    pub sooner_pending : (e : ℕ) (o : Option Event) → StaysPending s until e o → StaysPending s sooner e o
+    sooner_pending e None stays = tt
+    sooner_pending e (Some v) stays = (stays.0, sooner_found e (Some v) stays.1)
 
   module _ (s : State P S H) (t until sooner : ℕ) (less : sooner ≤ until) where
     sooner_away : (a : Awaits) → StaysAway s until t a → StaysAway s sooner t a
@@ -282,8 +312,8 @@ module _ {P S H : Type 0} where
     pub dormant_sooner : IsDormant s until t → IsDormant s sooner t
     dormant_sooner q = record {
       away = sooner_away (awaits_in (blocked_of s.control t)) q.away;
-      pending = All-weaker (λ e. StaysPending s.control until e (s.control.events.events e)) (λ e. StaysPending s.control sooner e (s.control.events.events e))
-          (λ e h. sooner_pending s.control until sooner less e (s.control.events.events e) h) (awaited_events s.control t) q.pending;
+      pending = All-weaker (λ e. StaysPending s until e (s.control.events.events e)) (λ e. StaysPending s sooner e (s.control.events.events e))
+          (λ e h. sooner_pending s until sooner less e (s.control.events.events e) h) (awaited_events s.control t) q.pending;
       unasked = q.unasked;
     }
 
@@ -295,17 +325,17 @@ module _ {P S H : Type 0} where
       pub dormant_bare : a.ring ≡ None → IsDormant s until t
       dormant_bare none = record {
         away = subst (λ (b : Awaited). StaysAway s until t b.what) is away;
-        pending = subst (ArePending s.control until) (sym (no_events s.control t a is none)) (All-nil (λ e. StaysPending s.control until e (s.control.events.events e)));
+        pending = subst (ArePending s until) (sym (no_events s.control t a is none)) (All-nil (λ e. StaysPending s until e (s.control.events.events e)));
         unasked = unasked;
       }
 
       -- it was given a ring
-      pub dormant_beside : (own : ℕ) (e : ℤ) → a.ring ≡ Some e → ArePending s.control own (s.control.events.rings (number e)) → IsDormant s (min until own) t
+      pub dormant_beside : (own : ℕ) (e : ℤ) → a.ring ≡ Some e → ArePending s own (s.control.events.rings (number e)) → IsDormant s (min until own) t
       dormant_beside own e some pending = record {
         away = sooner_away s t until (min until own) (omega arith) (awaits_in (blocked_of s.control t)) (subst (λ (b : Awaited). StaysAway s until t b.what) is away);
-        pending = subst (ArePending s.control (min until own)) (sym (ring_events s.control t a is e some))
-            (All-weaker (λ i. StaysPending s.control own i (s.control.events.events i)) (λ i. StaysPending s.control (min until own) i (s.control.events.events i))
-            (λ i h. sooner_pending s.control own (min until own) (omega arith) i (s.control.events.events i) h) (s.control.events.rings (number e)) pending);
+        pending = subst (ArePending s (min until own)) (sym (ring_events s.control t a is e some))
+            (All-weaker (λ i. StaysPending s own i (s.control.events.events i)) (λ i. StaysPending s (min until own) i (s.control.events.events i))
+            (λ i h. sooner_pending s own (min until own) (omega arith) i (s.control.events.events i) h) (s.control.events.rings (number e)) pending);
         unasked = unasked;
       }
 
@@ -314,5 +344,5 @@ module _ {P S H : Type 0} where
       pub dormant_away : StaysAway s until t a.what
       dormant_away = subst (λ (b : Awaited). StaysAway s until t b.what) (sym is) q.away
 
-      pub dormant_pending : (e : ℤ) → a.ring ≡ Some e → ArePending s.control until (s.control.events.rings (number e))
-      dormant_pending e some = subst (ArePending s.control until) (ring_events s.control t a is e some) q.pending
+      pub dormant_pending : (e : ℤ) → a.ring ≡ Some e → ArePending s until (s.control.events.rings (number e))
+      dormant_pending e some = subst (ArePending s until) (ring_events s.control t a is e some) q.pending

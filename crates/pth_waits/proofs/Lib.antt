@@ -7,6 +7,7 @@ pub mod Joining
 pub mod Kills
 pub mod Searching
 pub mod Looking
+pub mod Messages
 mod NoticeWaits
 pub mod Waking
 pub mod Unchanged

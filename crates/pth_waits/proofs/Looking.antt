@@ -1,23 +1,31 @@
 -- The events of a ring are looked at, one after another.
-use Rattle.std.proofs.Common.{◌≡◌, ◌≢◌, ◌∙◌, ℕ, ◌==◌, ◌<◌, ◌||◌, not, Bool, true, false, if◌then◌else◌, List, [], ◌∷◌, ◌++◌, length, Option, Some, None, option_map, inl, refl, sym, ap, ap₂, subst, arith}
+use Rattle.std.proofs.Common.{◌≡◌, ◌≢◌, ◌∙◌, ℕ, ℤ, ◌==◌, ◌<◌, ◌≤◌, ◌&&◌, ◌||◌, not, nat_le, Bool, true, false, if◌then◌else◌, List, [], ◌∷◌, ◌++◌, length, Option, Some, None, option_map, inl, refl, sym, ap, ap₂, subst, arith}
 use Rattle.std.specs.List.{list_any}
+use Rattle.std.proofs.lemmas.Bool.Decides.{nat_tests}
 use Rattle.std.proofs.lemmas.List.{append_assoc}
 use mathlib.Core.Path.{fun_ext}
+use Rattle.pth_base.specs.Program.{Functions}
 use Rattle.pth_base.specs.Table.{put}
 use Rattle.pth_base.specs.declared.event.EventSpec.{EventSpec}
+use Rattle.pth_base.specs.declared.event.EventSpec.TheVariants as of
 use Rattle.pth_base.specs.Chain.{StandsIn}
-use Rattle.pth_base.proofs.Tables.{put_is, same_self, not_same}
+use Rattle.pth_base.proofs.Tables.{put_here, put_is, put_other, same_self, not_same}
 use Rattle.pth_numbered.specs.Numbered.{number_at}
 use Rattle.pth_ring.specs.declared.event.Event.{Event}
+use Rattle.pth_ring.specs.declared.event.Status.{Status}
+use Rattle.pth_ring.specs.declared.event.Status.TheVariants.{Pending, Occurred}
 use Rattle.pth_ring.specs.Arena.{RingsOf, events_of}
 use Rattle.pth_ring.specs.Ring.{RingGoesOn, Begins, from, rest_of, each, ring_holds}
-use Rattle.pth_ring.specs.Rings.{Events, is_pending, with_event, with_status}
-use Rattle.pth_model.specs.Looks.{comes, found, looked_at, looks_at}
-use Rattle.pth_model.specs.State.{Control}
-use Rattle.pth_world.specs.Shows.{Shows}
+use Rattle.pth_ring.specs.Rings.{Events, is_pending, is_settled, with_event, with_next_look, with_status}
+use Rattle.pth_model.specs.Looks.{after_looks, comes, found, found_by, found_unasked, holds, looked_at, looks_at, next_look}
+use Rattle.pth_model.specs.State.{Control, State, now_of}
+use Rattle.pth_model.specs.Times.{moment_after}
+use Rattle.pth_model.proofs.Looked.{looked_again}
+use Rattle.pth_world.specs.Shows.{Shows, StandsFor}
 use Rattle.pth_world.specs.World.{WorldOf}
 use Rattle.pth_world.proofs.Events.{events_show}
-use Rattle.pth_waits.specs.Looking.{LooksAt}
+use Rattle.pth_world.proofs.Telling.{has_still}
+use Rattle.pth_waits.specs.Looking.{AsksNothing, IsFunction, IsUnasked, LooksAt}
 
 -- ---- one more of a list
 
@@ -40,91 +48,186 @@ pub any_more : (p : ℕ → Bool) (xs : List ℕ) (n : ℕ) → list_any p (xs +
 any_more p [] n = or_none (p n)
 any_more p (x ∷ xs) n = ap (λ (b : Bool). p x || b) (any_more p xs n) ∙ or_more (p x) (list_any p xs) (p n)
 
-module _ {P S H : Type 0} (k : Control P S H) where
-  abbrev look : ℕ → Option Event → Option Event
-  look n = option_map (looked_at k n)
+-- ---- one event
 
+pub is_due : (next now : ℕ) → next ≤ now → nat_le next now ≡ true
+is_due next now h = grind (arith, nat_tests)
+
+module _ {P S H : Type 0} (f : P → Functions S H) (s : State P S H) where
+  abbrev look : ℕ → Option Event → Option Event
+  look n = option_map (looked_at f s n)
+
+  -- of an event that asks no check its status is all that a look changes
+  unasked_found : (e next : ℕ) (spec : EventSpec) → AsksNothing spec → found f s e next spec ≡ found_unasked s e spec
+  unasked_found e next (of.Func check arg interval) asks = absurd asks
+  unasked_found e next spec asks = refl
+
+  unasked_next : (next : ℕ) (spec : EventSpec) → AsksNothing spec → next_look f s next spec ≡ next
+  unasked_next next (of.Func check arg interval) asks = absurd asks
+  unasked_next next spec asks = refl
+
+  unasked_one : (e : ℕ) (v : Event) → AsksNothing v.spec → with_status (found_unasked s e v.spec) v ≡ looked_at f s e v
+  unasked_one e v asks =
+      ap₂ (λ (m : ℕ) (x : Status). with_next_look m (with_status x v)) (sym (unasked_next v.next_look v.spec asks)) (sym (unasked_found e v.next_look v.spec asks))
+
+  pub unasked_looked : (e : ℕ) (o : Option Event) (spec : EventSpec) (x : Status) → IsUnasked o → option_map (λ (v : Event). v.spec) o ≡ Some spec → x ≡ found_unasked s e spec → option_map (with_status x) o ≡ look e o
+  unasked_looked e None spec x unasked is found = absurd unasked
+  unasked_looked e (Some v) spec x unasked is found =
+      let same : spec ≡ v.spec = cc is in
+      ap (λ (y : Event). Some y) (ap (λ (y : Status). with_status y v) (found ∙ ap (found_unasked s e) same) ∙ unasked_one e v unasked)
+
+  pub unasked_comes : (e : ℕ) (o : Option Event) (spec : EventSpec) (x : Status) → IsUnasked o → option_map (λ (v : Event). v.spec) o ≡ Some spec → x ≡ found_unasked s e spec → not (is_pending x) ≡ comes f s e o
+  unasked_comes e None spec x unasked is found = absurd unasked
+  unasked_comes e (Some v) spec x unasked is found = ap (λ (p : Option Event). is_settled p) (unasked_looked e (Some v) spec x unasked is found)
+
+  -- of an event of a function, by whether its look is due, and whether its check holds
+  module _ (e next : ℕ) (check arg : ℤ) (interval : ℕ) where
+    abbrev due : Bool
+    due = nat_le next (now_of s.control)
+
+    abbrev with_both : (due check : Bool) → Event → Event
+    with_both due check v = with_next_look (if due && not check then moment_after (now_of s.control) interval else next) (with_status (found_by false (due && check)) v)
+
+    function_one : (v : Event) → v.spec ≡ of.Func check arg interval → v.next_look ≡ next → looked_at f s e v ≡ with_both due (holds f s check arg) v
+    function_one v is at =
+        ap (λ (z : EventSpec). with_next_look (next_look f s v.next_look z) (with_status (found f s e v.next_look z) v)) is
+        ∙ ap (λ (m : ℕ). with_next_look (next_look f s m (of.Func check arg interval)) (with_status (found f s e m (of.Func check arg interval)) v)) at
+
+    -- what was asked
+    asked_by : (due check holds : Bool) → (if due then Some check else None) ≡ Some holds → (due ≡ true) × (check ≡ holds)
+    asked_by true check holds is = (refl, cc is)
+    asked_by false check holds is = absurd (cc is)
+
+    unasked_by : (due check : Bool) → (if due then Some check else None) ≡ None → due ≡ false
+    unasked_by true check is = absurd (cc is)
+    unasked_by false check is = refl
+
+    function_both : (d c : Bool) (o : Option Event) → IsFunction next check arg interval o → due ≡ d → holds f s check arg ≡ c → look e o ≡ option_map (with_both d c) o
+    function_both d c None is a b = absurd is
+    function_both d c (Some v) is a b = ap (λ (y : Event). Some y) (function_one v is.0 is.1 ∙ ap₂ (λ (x y : Bool). with_both x y v) a b)
+
+    -- no look changes when it is looked at next, but one that is due and finds that the check does not hold
+    kept_next : (x : Status) (o : Option Event) → IsFunction next check arg interval o → option_map (λ (v : Event). with_next_look next (with_status x v)) o ≡ option_map (with_status x) o
+    kept_next x None is = absurd is
+    kept_next x (Some v) is = ap (λ (m : ℕ). Some (with_next_look m (with_status x v))) (sym is.1)
+
+    pub occurred_looked : (o : Option Event) → IsFunction next check arg interval o → Some true ≡ (if due then Some (holds f s check arg) else None) → option_map (with_status Occurred) o ≡ look e o
+    occurred_looked o is asked = (let b = asked_by due (holds f s check arg) true (sym asked) in sym (function_both true true o is b.0 b.1 ∙ kept_next Occurred o is))
+
+    pub off_looked : (o : Option Event) → IsFunction next check arg interval o → Some false ≡ (if due then Some (holds f s check arg) else None) → option_map (λ (v : Event). with_next_look (moment_after (now_of s.control) interval) (with_status Pending v)) o ≡ look e o
+    off_looked o is asked = (let b = asked_by due (holds f s check arg) false (sym asked) in sym (function_both true false o is b.0 b.1))
+
+    by_early : (c : Bool) (o : Option Event) → IsFunction next check arg interval o → due ≡ false → holds f s check arg ≡ c → option_map (with_status Pending) o ≡ look e o
+    by_early c o is a b = sym (function_both false c o is a b ∙ kept_next Pending o is)
+
+    pub early_looked : (o : Option Event) → IsFunction next check arg interval o → None ≡ (if due then Some (holds f s check arg) else None) → option_map (with_status Pending) o ≡ look e o
+    early_looked o is asked = by_early (holds f s check arg) o is (unasked_by due (holds f s check arg) (sym asked)) refl
+
+    settled_some : (x : Status) (g : Event → Event) (o : Option Event) → IsFunction next check arg interval o → ((v : Event) → (g v).status ≡ x) → is_settled (option_map g o) ≡ not (is_pending x)
+    settled_some x g None is status = absurd is
+    settled_some x g (Some v) is status = ap (λ (y : Status). not (is_pending y)) (status v)
+
+    -- whether it comes
+    pub function_comes : (x : Status) (g : Event → Event) (o : Option Event) → IsFunction next check arg interval o → ((v : Event) → (g v).status ≡ x) → option_map g o ≡ look e o → not (is_pending x) ≡ comes f s e o
+    function_comes x g o is status looked = sym (settled_some x g o is status) ∙ ap (λ (p : Option Event). is_settled p) looked
+
+-- an event is changed twice
+module _ (g h : Event → Event) (n : ℕ) (x : Events) where
+  both : (o : Option Event) → option_map h (option_map g o) ≡ option_map (λ v. h (g v)) o
+  both None = refl
+  both (Some v) = refl
+
+  abbrev once : ℕ → Option Event
+  once = put x.events n (option_map g (x.events n))
+
+  twice_here : put once n (option_map h (once n)) n ≡ option_map (λ v. h (g v)) (x.events n)
+  twice_here = put_here once n (option_map h (once n)) ∙ ap (option_map h) (put_here x.events n (option_map g (x.events n))) ∙ both (x.events n)
+
+  twice_elsewhere : (y : ℕ) → y ≢ n → put once n (option_map h (once n)) y ≡ x.events y
+  twice_elsewhere y apart = put_other once n (option_map h (once n)) y apart ∙ put_other x.events n (option_map g (x.events n)) y apart
+
+  pub changed_twice : with_event h n (with_event g n x) ≡ with_event (λ v. h (g v)) n x
+  changed_twice = ap (λ (p : ℕ → Option Event). record x { events = p }) (put_is x.events (put once n (option_map h (once n))) n (option_map (λ v. h (g v)) (x.events n)) twice_here twice_elsewhere)
+
+-- a change of an event that is a look at it
+pub looks_by : {P S H : Type 0} (f : P → Functions S H) (s : State P S H) (n : ℕ) (x : Events) (g : Event → Event) → option_map g (x.events n) ≡ option_map (looked_at f s n) (x.events n) → with_event g n x ≡ with_event (looked_at f s n) n x
+looks_by f s n x g is = ap (λ (o : Option Event). record x { events = put x.events n o }) is
+
+module _ {P S H : Type 0} (f : P → Functions S H) (s : State P S H) where
   -- the events once these were looked at
   abbrev after_look : List ℕ → (ℕ → Option Event) → ℕ → Option Event
-  after_look done f n = each done (look n) f n
+  after_look done g n = each done (look f s n) g n
 
-  -- what was found of an event stands there, whether it was looked at before or not
-  mark_is : (b : Bool) (n : ℕ) (o : Option Event) (spec : EventSpec) → option_map (λ (v : Event). v.spec) (if b then look n o else o) ≡ Some spec → option_map (with_status (found k n spec)) (if b then look n o else o) ≡ look n o
-  mark_is true n None spec is = absurd (cc is)
-  mark_is false n None spec is = absurd (cc is)
-  mark_is true n (Some v) spec is = let e : spec ≡ v.spec = cc is in ap (λ (s : EventSpec). Some (with_status (found k n s) v)) e
-  mark_is false n (Some v) spec is = let e : spec ≡ v.spec = cc is in ap (λ (s : EventSpec). Some (with_status (found k n s) v)) e
+  -- an event is found as it is, whether it was looked at before or not
+  look_is : (b : Bool) (n : ℕ) (o : Option Event) → look f s n (if b then look f s n o else o) ≡ look f s n o
+  look_is false n o = refl
+  look_is true n None = refl
+  look_is true n (Some v) = ap (λ (y : Event). Some y) (looked_again f s n v)
 
-  pub come_is : (b : Bool) (n : ℕ) (o : Option Event) (spec : EventSpec) → option_map (λ (v : Event). v.spec) (if b then look n o else o) ≡ Some spec → comes k n o ≡ not (is_pending (found k n spec))
-  come_is true n None spec is = absurd (cc is)
-  come_is false n None spec is = absurd (cc is)
-  come_is true n (Some v) spec is = let e : v.spec ≡ spec = cc is in ap (λ (s : EventSpec). not (is_pending (found k n s))) e
-  come_is false n (Some v) spec is = let e : v.spec ≡ spec = cc is in ap (λ (s : EventSpec). not (is_pending (found k n s))) e
+  pub come_is : (b : Bool) (n : ℕ) (o : Option Event) → comes f s n (if b then look f s n o else o) ≡ comes f s n o
+  come_is b n o = ap (λ (p : Option Event). is_settled p) (look_is b n o)
 
-  module _ (f : ℕ → Option Event) (done : List ℕ) (n : ℕ) (spec : EventSpec) (is : option_map (λ (v : Event). v.spec) (after_look done f n) ≡ Some spec) where
-    abbrev marked : ℕ → Option Event
-    marked = put (after_look done f) n (option_map (with_status (found k n spec)) (after_look done f n))
-
-    here : after_look (done ++ n ∷ []) f n ≡ option_map (with_status (found k n spec)) (after_look done f n)
+  module _ (g : ℕ → Option Event) (done : List ℕ) (n : ℕ) where
+    here : after_look (done ++ n ∷ []) g n ≡ look f s n (after_look done g n)
     unfolding each
     here =
-        ap (λ (b : Bool). if b then look n (f n) else f n) (any_more (λ x. x == n) done n ∙ ap (λ (b : Bool). ring_holds n done || b) (same_self n) ∙ or_true (ring_holds n done))
-        ∙ sym (mark_is (ring_holds n done) n (f n) spec is)
+        ap (λ (b : Bool). if b then look f s n (g n) else g n) (any_more (λ x. x == n) done n ∙ ap (λ (b : Bool). ring_holds n done || b) (same_self n) ∙ or_true (ring_holds n done))
+        ∙ sym (look_is (ring_holds n done) n (g n))
       where
         or_true : (b : Bool) → (b || true) ≡ true
         or_true true = refl
         or_true false = refl
 
-    elsewhere : (y : ℕ) → y ≢ n → after_look (done ++ n ∷ []) f y ≡ after_look done f y
+    elsewhere : (y : ℕ) → y ≢ n → after_look (done ++ n ∷ []) g y ≡ after_look done g y
     unfolding each
-    elsewhere y apart = ap (λ (b : Bool). if b then look y (f y) else f y) (any_more (λ x. x == y) done n ∙ ap (λ (b : Bool). ring_holds y done || b) (not_same n y (λ h. apart (sym h))) ∙ or_none (ring_holds y done))
+    elsewhere y apart = ap (λ (b : Bool). if b then look f s y (g y) else g y) (any_more (λ x. x == y) done n ∙ ap (λ (b : Bool). ring_holds y done || b) (not_same n y (λ h. apart (sym h))) ∙ or_none (ring_holds y done))
 
-    pub one_more : after_look (done ++ n ∷ []) f ≡ marked
-    one_more = put_is (after_look done f) (after_look (done ++ n ∷ []) f) n (option_map (with_status (found k n spec)) (after_look done f n)) here elsewhere
+    pub one_more : after_look (done ++ n ∷ []) g ≡ put (after_look done g) n (look f s n (after_look done g n))
+    one_more = put_is (after_look done g) (after_look (done ++ n ∷ []) g) n (look f s n (after_look done g n)) here elsewhere
 
-  none_looked : (f : ℕ → Option Event) → f ≡ after_look [] f
+  none_looked : (g : ℕ → Option Event) → g ≡ after_look [] g
   unfolding each
-  none_looked f = fun_ext (λ y. refl)
+  none_looked g = fun_ext (λ y. refl)
 
 -- ---- round a ring
 
 -- The events of a ring were looked at up to n, which comes next: then the world shows that they were.
-pub record LookedSoFar {P S H : Type 0} (old now : WorldOf P S H) (e n : ℕ) (come : Bool) : Type 0 where
+pub record LookedSoFar {P S H : Type 0} (f : P → Functions S H) (old now : WorldOf P S H) (e n : ℕ) (come : Bool) : Type 0 where
   pub done : List ℕ
   pub ring : (events_of old.events).rings e ≡ done ++ from n ((events_of old.events).rings e)
   pub within : StandsIn n ((events_of old.events).rings e)
-  pub shows : (k : Control P S H) → Shows old k → Shows now (looks_at k done)
-  pub comes : (k : Control P S H) → Shows old k → come ≡ list_any (λ y. comes k y (k.events.events y)) done
+  pub shows : (s : State P S H) → StandsFor old s → Shows now (looks_at f s done s.control)
+  pub comes : (s : State P S H) → StandsFor old s → come ≡ list_any (λ y. comes f s y (s.control.events.events y)) done
   pub rings : (events_of now.events).rings ≡ (events_of old.events).rings
   pub numbers : number_at now.events ≡ number_at old.events
   pub made : now.events.made ≡ old.events.made
   pub same : now ≡ record old { events = now.events }
 
-module _ {P S H : Type 0} (old : WorldOf P S H) (e : ℕ) where
+module _ {P S H : Type 0} (f : P → Functions S H) (old : WorldOf P S H) (e : ℕ) where
   abbrev ring : List ℕ
   ring = (events_of old.events).rings e
 
   from_first : (xs : List ℕ) → xs ≡ e ∷ rest_of xs → from e xs ≡ xs
   from_first xs begins = rw begins (rw (same_self e) refl)
 
-  pub none_shows : (k : Control P S H) → Shows old k → (l : List ℕ) → l ≡ [] → Shows old (looks_at k l)
-  none_shows k sh l none = rw none (events_show old old.events k _ sh (ap (λ (f : ℕ → Option Event). record k.events { events = f }) (sym (none_looked k k.events.events)) ∙ sh.events))
+  pub none_shows : (s : State P S H) → Shows old s.control → (l : List ℕ) → l ≡ [] → Shows old (looks_at f s l s.control)
+  none_shows s sh l none = rw none (events_show old old.events s.control _ sh (ap (λ (g : ℕ → Option Event). record s.control.events { events = g }) (sym (none_looked f s s.control.events.events)) ∙ sh.events))
 
-  pub looked_none : Begins ring e → LookedSoFar old old e e false
+  pub looked_none : Begins ring e → LookedSoFar f old old e e false
   looked_none begins = record {
     done = [];
     ring = sym (from_first ring begins);
     within = subst (λ (l : List ℕ). StandsIn e l) (sym begins) (inl refl);
-    shows = λ k sh. none_shows k sh [] refl;
-    comes = λ k sh. refl;
+    shows = λ s st. none_shows s st.control [] refl;
+    comes = λ s st. refl;
     rings = refl;
     numbers = refl;
     made = refl;
     same = refl;
   }
 
-  module _ (now : WorldOf P S H) (x : RingsOf) (u v : ℕ) (come found_come : Bool) (so_far : LookedSoFar old now e (number_at old.events u) come)
-      (looked_at_u : (k : Control P S H) → Shows now k → LooksAt k (number_at now.events u) (events_of now.events) (events_of x) found_come)
+  module _ (now : WorldOf P S H) (x : RingsOf) (u v : ℕ) (come found_come : Bool) (so_far : LookedSoFar f old now e (number_at old.events u) come)
+      (looked_at_u : (s : State P S H) → StandsFor now s → LooksAt f s (number_at now.events u) (events_of now.events) (events_of x) found_come)
       (kept : (events_of x).rings ≡ (events_of now.events).rings) (places : number_at x ≡ number_at now.events) (made : x.made ≡ now.events.made)
       (goes_on : (i : ℕ) → StandsIn (number_at x u) ((events_of x).rings i) → RingGoesOn ((events_of x).rings i) i (number_at x u) (number_at x v)) where
     -- the event that was looked at, and the next one
@@ -140,40 +243,45 @@ module _ {P S H : Type 0} (old : WorldOf P S H) (e : ℕ) where
     same_rings : (events_of x).rings ≡ (events_of old.events).rings
     same_rings = kept ∙ so_far.rings
 
-    looked : (k : Control P S H) → Shows now k → LooksAt k n (events_of now.events) (events_of x) found_come
-    looked = subst (λ (f : ℕ → ℕ). (k : Control P S H) → Shows now k → LooksAt k (f u) (events_of now.events) (events_of x) found_come) so_far.numbers looked_at_u
+    -- the world that was left stands for the state in which those before it were looked at
+    stands : (s : State P S H) → StandsFor old s → StandsFor now (after_looks f s so_far.done)
+    stands s st = record {
+      control = so_far.shows s st;
+      store = has_still old now s (ap (λ (w : WorldOf P S H). w.store) so_far.same) st.store;
+    }
+
+    looked : (s : State P S H) → StandsFor old s → LooksAt f s n (events_of now.events) (events_of x) found_come
+    looked s st = (let one = looked_at_u (after_looks f s so_far.done) (stands s st) in
+        subst (λ (g : ℕ → ℕ). LooksAt f s (g u) (events_of now.events) (events_of x) found_come) so_far.numbers (record { looked = one.looked; comes = one.comes }))
 
     goes : RingGoesOn ((events_of x).rings e) e n m
     goes =
         let here = subst (λ (r : ℕ → List ℕ). StandsIn n (r e)) (sym same_rings) so_far.within in
-        subst (λ (f : ℕ → ℕ). RingGoesOn ((events_of x).rings e) e (f u) (f v)) numbers (goes_on e (subst (λ (f : ℕ → ℕ). StandsIn (f u) ((events_of x).rings e)) (sym numbers) here))
+        subst (λ (g : ℕ → ℕ). RingGoesOn ((events_of x).rings e) e (g u) (g v)) numbers (goes_on e (subst (λ (g : ℕ → ℕ). StandsIn (g u) ((events_of x).rings e)) (sym numbers) here))
 
     rest : from n ring ≡ n ∷ (if m == e then [] else from m ring)
-    rest = subst (λ (f : ℕ → List ℕ). from n (f e) ≡ n ∷ (if m == e then [] else from m (f e))) same_rings goes.rest
+    rest = subst (λ (g : ℕ → List ℕ). from n (g e) ≡ n ∷ (if m == e then [] else from m (g e))) same_rings goes.rest
 
-    spec_is : (k : Control P S H) → (sh : Shows old k) → option_map (λ (v : Event). v.spec) (after_look k so_far.done k.events.events n) ≡ Some (looked (looks_at k so_far.done) (so_far.shows k sh)).spec
-    spec_is k sh = ap (λ (y : Events). option_map (λ (v : Event). v.spec) (y.events n)) (so_far.shows k sh).events ∙ (looked (looks_at k so_far.done) (so_far.shows k sh)).is
+    looked_shows : (s : State P S H) → StandsFor old s → Shows (record now { events = x }) (looks_at f s (so_far.done ++ n ∷ []) s.control)
+    looked_shows s st =
+        let before = so_far.shows s st in
+        events_show now x (looks_at f s so_far.done s.control) _ before (
+        ap (λ (g : ℕ → Option Event). record s.control.events { events = g }) (one_more f s s.control.events.events so_far.done n)
+        ∙ ap (with_event (looked_at f s n) n) before.events
+        ∙ sym (looked s st).looked)
 
-    looked_shows : (k : Control P S H) → Shows old k → Shows (record now { events = x }) (looks_at k (so_far.done ++ n ∷ []))
-    looked_shows k sh =
-        let one = looked (looks_at k so_far.done) (so_far.shows k sh) in
-        let before = so_far.shows k sh in
-        events_show now x (looks_at k so_far.done) _ before (
-        ap (λ (f : ℕ → Option Event). record k.events { events = f }) (one_more k k.events.events so_far.done n one.spec (spec_is k sh))
-        ∙ ap (with_event (with_status (found k n one.spec)) n) before.events
-        ∙ sym one.marks)
-
-    holds_at : (k : Control P S H) → Shows old k → comes k n (k.events.events n) ≡ found_come
+    holds_at : (s : State P S H) → StandsFor old s → comes f s n (s.control.events.events n) ≡ found_come
     unfolding each
-    holds_at k sh =
-        let one = looked (looks_at k so_far.done) (so_far.shows k sh) in
-        come_is k (ring_holds n so_far.done) n (k.events.events n) one.spec (spec_is k sh) ∙ sym one.comes
+    holds_at s st =
+        sym (come_is f s (ring_holds n so_far.done) n (s.control.events.events n))
+        ∙ ap (λ (y : Events). comes f s n (y.events n)) (so_far.shows s st).events
+        ∙ sym (looked s st).comes
 
-    looked_comes : (k : Control P S H) → Shows old k → (found_come || come) ≡ list_any (λ y. comes k y (k.events.events y)) (so_far.done ++ n ∷ [])
-    looked_comes k sh =
+    looked_comes : (s : State P S H) → StandsFor old s → (found_come || come) ≡ list_any (λ y. comes f s y (s.control.events.events y)) (so_far.done ++ n ∷ [])
+    looked_comes s st =
         or_turned found_come come
-        ∙ ap₂ (λ (a b : Bool). a || b) (so_far.comes k sh) (sym (holds_at k sh))
-        ∙ sym (any_more (λ y. comes k y (k.events.events y)) so_far.done n)
+        ∙ ap₂ (λ (a b : Bool). a || b) (so_far.comes s st) (sym (holds_at s st))
+        ∙ sym (any_more (λ y. comes f s y (s.control.events.events y)) so_far.done n)
 
     -- it was the last
     looked_all : m ≡ e → so_far.done ++ n ∷ [] ≡ ring
@@ -182,18 +290,18 @@ module _ {P S H : Type 0} (old : WorldOf P S H) (e : ℕ) where
     ring_of_control : (k : Control P S H) → Shows old k → m ≡ e → so_far.done ++ n ∷ [] ≡ k.events.rings e
     ring_of_control k sh last = looked_all last ∙ sym (ap (λ (y : Events). y.rings e) sh.events)
 
-    pub all_shows : m ≡ e → (k : Control P S H) → Shows old k → Shows (record now { events = x }) (looks_at k (k.events.rings e))
-    all_shows last k sh = subst (λ (l : List ℕ). Shows (record now { events = x }) (looks_at k l)) (ring_of_control k sh last) (looked_shows k sh)
+    pub all_shows : m ≡ e → (s : State P S H) → StandsFor old s → Shows (record now { events = x }) (looks_at f s (s.control.events.rings e) s.control)
+    all_shows last s st = subst (λ (l : List ℕ). Shows (record now { events = x }) (looks_at f s l s.control)) (ring_of_control s.control st.control last) (looked_shows s st)
 
-    pub all_comes : m ≡ e → (k : Control P S H) → Shows old k → (found_come || come) ≡ list_any (λ y. comes k y (k.events.events y)) (k.events.rings e)
-    all_comes last k sh = looked_comes k sh ∙ ap (list_any (λ y. comes k y (k.events.events y))) (ring_of_control k sh last)
+    pub all_comes : m ≡ e → (s : State P S H) → StandsFor old s → (found_come || come) ≡ list_any (λ y. comes f s y (s.control.events.events y)) (s.control.events.rings e)
+    all_comes last s st = looked_comes s st ∙ ap (list_any (λ y. comes f s y (s.control.events.events y))) (ring_of_control s.control st.control last)
 
     -- another one comes next
-    pub looked_next : m ≢ e → LookedSoFar old (record now { events = x }) e m (found_come || come)
+    pub looked_next : m ≢ e → LookedSoFar f old (record now { events = x }) e m (found_come || come)
     looked_next more = record {
       done = so_far.done ++ n ∷ [];
       ring = so_far.ring ∙ ap (λ (l : List ℕ). so_far.done ++ l) (rest ∙ rw (not_same m e more) refl) ∙ sym (append_assoc so_far.done (n ∷ []) (from m ring));
-      within = subst (λ (f : ℕ → List ℕ). StandsIn m (f e)) same_rings goes.within;
+      within = subst (λ (g : ℕ → List ℕ). StandsIn m (g e)) same_rings goes.within;
       shows = looked_shows;
       comes = looked_comes;
       rings = same_rings;

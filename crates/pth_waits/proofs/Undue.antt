@@ -1,10 +1,13 @@
 -- A thread that is not to wake is dormant now, if no event of its ring is settled.
-use Rattle.std.proofs.Common.{◌≡◌, ◌≢◌, ℕ, ◌<◌, ◌≤◌, ◌||◌, not, nat_lt, ℤ, Bool, true, false, if◌then◌else◌, List, [], ◌∷◌, Option, Some, None, IfSome, refl, sym, ap, subst, arith}
+use Rattle.std.proofs.Common.{◌≡◌, ◌≢◌, ℕ, ◌<◌, ◌≤◌, ◌||◌, not, nat_lt, ℤ, Bool, true, false, if◌then◌else◌, List, [], ◌∷◌, All, Option, Some, None, IfSome, refl, sym, ap, subst, arith}
 use Rattle.std.proofs.lemmas.Bool.Decides.{nat_tests}
-use Rattle.std.proofs.lemmas.List.Elements.{All-cons, All-nil}
+use Rattle.std.proofs.lemmas.List.Elements.{All-cons, All-head, All-nil, All-tail}
 use Rattle.std.specs.List.{list_any}
+use Rattle.pth_base.specs.Program.{Functions}
 use Rattle.pth_base.specs.declared.call.Call.{Call}
 use Rattle.pth_base.specs.declared.call.Call.TheVariants as call
+use Rattle.pth_base.specs.declared.event.EventSpec.{EventSpec}
+use Rattle.pth_base.specs.declared.event.EventSpec.TheVariants as of
 use Rattle.pth_ring.specs.declared.event.Event.{Event}
 use Rattle.pth_ring.specs.declared.event.Status.{Status}
 use Rattle.pth_ring.specs.declared.event.Status.TheVariants.{Pending, Occurred, Failed}
@@ -18,7 +21,7 @@ use Rattle.pth_model.specs.Awaits.{awaits_in}
 use Rattle.pth_model.specs.Calls.{wakes}
 use Rattle.pth_model.specs.Changes.{blocked_in, blocked_of, moves_to}
 use Rattle.pth_model.specs.Coming.{has_come}
-use Rattle.pth_model.specs.Looks.{comes, found}
+use Rattle.pth_model.specs.Looks.{comes, found, found_unasked}
 use Rattle.pth_model.specs.Pass.{comes_for}
 use Rattle.pth_model.specs.RingWaits.{events_from, has_settled, ring_held}
 use Rattle.pth_model.specs.State.{Control, State, main, now_of}
@@ -28,7 +31,7 @@ use Rattle.pth_world.specs.Whole.{MayAwaitAs, MayBlock, Whole, view}
 use Rattle.pth_world.specs.World.{WorldOf}
 use Rattle.pth_world.proofs.Moves.{blocked_may}
 use Rattle.pth_world.proofs.Showing.{progress_is}
-use Rattle.pth_waits.specs.Dormant.{AreFoundPending, ArePending, FindsPending, IsDormant, IsUndue, StaysAway, StaysPending, after_now}
+use Rattle.pth_waits.specs.Dormant.{AreFoundPending, ArePending, FindsPending, IsDormant, IsSteady, IsSteadyEvent, IsUndue, StaysAway, StaysPending, after_now}
 use Rattle.pth_waits.proofs.Rounding.{ring_stays}
 use Rattle.pth_waits.proofs.Standing.{none_left}
 
@@ -46,7 +49,7 @@ none_of false false is = (refl, refl)
 none_by : (n : ℕ) → nat_lt 0 n ≡ false → n ≡ 0
 none_by n is = grind (arith, nat_tests)
 
-pending_by : (s : Status) → not (is_pending s) ≡ false → s ≡ Pending
+pub pending_by : (s : Status) → not (is_pending s) ≡ false → s ≡ Pending
 pending_by Pending is = refl
 pending_by Occurred is = absurd (cc is)
 pending_by Failed is = absurd (cc is)
@@ -79,19 +82,27 @@ module _ {P S H : Type 0} (k : Control P S H) where
   same_now : (n : ℕ) → now_of k ≤ n → n < after_now k → now_of k ≡ n
   same_now n later early = omega arith
 
-  found_now : (e : ℕ) (o : Option Event) → comes k e o ≡ false → FindsPending k (after_now k) e o
-  found_now e None is = tt
-  found_now e (Some v) is = λ n later early. subst (λ (m : ℕ). found (moves_to m k) e v.spec ≡ Pending) (same_now n later early) (pending_by (found k e v.spec) is)
+module _ {P S H : Type 0} (f : P → Functions S H) (s : State P S H) where
+  -- an event that is steady, by what it is of
+  found_plain : (e next : ℕ) (spec : EventSpec) → IsSteady s (after_now s.control) spec → not (is_pending (found f s e next spec)) ≡ false → found_unasked s e spec ≡ Pending
+  found_plain e next (of.Func check arg interval) steady is = refl
+  found_plain e next spec steady is = pending_by (found_unasked s e spec) is
 
-  all_found_now : (es : List ℕ) → list_any (λ e. comes k e (k.events.events e)) es ≡ false → AreFoundPending k (after_now k) es
-  all_found_now [] none = All-nil (λ e. FindsPending k (after_now k) e (k.events.events e))
-  all_found_now (e ∷ es) none =
-      let both = none_of (comes k e (k.events.events e)) (list_any (λ i. comes k i (k.events.events i)) es) none in
-      All-cons (λ i. FindsPending k (after_now k) i (k.events.events i)) e es (found_now e (k.events.events e) both.0) (all_found_now es both.1)
+  found_now : (e : ℕ) (o : Option Event) → IsSteadyEvent s (after_now s.control) o → comes f s e o ≡ false → FindsPending s (after_now s.control) e o
+  found_now e None steady is = tt
+  found_now e (Some v) steady is = (steady, λ n later early. subst (λ (m : ℕ). found_unasked (controlled (moves_to m) s) e v.spec ≡ Pending) (same_now s.control n later early) (found_plain e v.next_look v.spec steady is))
 
-  pending_now : (o : Option ℤ) → has_settled k.events o ≡ false → list_any (λ e. comes k e (k.events.events e)) (events_from k.events o) ≡ false → ArePending k (after_now k) (events_from k.events o)
-  pending_now None settled none = All-nil (λ e. StaysPending k (after_now k) e (k.events.events e))
-  pending_now (Some e) settled none = ring_stays k (after_now k) (number e) (none_by _ settled) (all_found_now (k.events.rings (number e)) none)
+  all_found_now : (es : List ℕ) → All (λ e. IsSteadyEvent s (after_now s.control) (s.control.events.events e)) es → list_any (λ e. comes f s e (s.control.events.events e)) es ≡ false → AreFoundPending s (after_now s.control) es
+  all_found_now [] steady none = All-nil (λ e. FindsPending s (after_now s.control) e (s.control.events.events e))
+  all_found_now (e ∷ es) steady none =
+      let both = none_of (comes f s e (s.control.events.events e)) (list_any (λ i. comes f s i (s.control.events.events i)) es) none in
+      All-cons (λ i. FindsPending s (after_now s.control) i (s.control.events.events i)) e es
+      (found_now e (s.control.events.events e) (All-head (λ i. IsSteadyEvent s (after_now s.control) (s.control.events.events i)) e es steady) both.0)
+      (all_found_now es (All-tail (λ i. IsSteadyEvent s (after_now s.control) (s.control.events.events i)) e es steady) both.1)
+
+  pending_now : (o : Option ℤ) → has_settled s.control.events o ≡ false → All (λ e. IsSteadyEvent s (after_now s.control) (s.control.events.events e)) (events_from s.control.events o) → list_any (λ e. comes f s e (s.control.events.events e)) (events_from s.control.events o) ≡ false → ArePending s (after_now s.control) (events_from s.control.events o)
+  pending_now None settled steady none = All-nil (λ e. StaysPending s (after_now s.control) e (s.control.events.events e))
+  pending_now (Some e) settled steady none = ring_stays s (after_now s.control) (number e) (none_by _ settled) (all_found_now (s.control.events.rings (number e)) steady none)
 
 module _ {P S H : Type 0} (w : WorldOf P S H) (whole : Whole w) (s : State P S H) (st : StandsFor w s) (u : ℕ) (used : tid_at w.threads.records u ≢ 0) where
   abbrev k : Control P S H
@@ -115,12 +126,12 @@ module _ {P S H : Type 0} (w : WorldOf P S H) (whole : Whole w) (s : State P S H
   away_now (Ring e) is alone = λ n later early. refl
   away_now a is alone = λ n later early. subst (λ (m : ℕ). has_come (controlled (moves_to m) s) t a ≡ false) (same_now k n later early) is
 
-  pub undue_dormant : IsUndue s t → IsDormant s (after_now k) t
+  pub undue_dormant : (f : P → Functions S H) → IsUndue f s t → IsDormant s (after_now k) t
   unfolding comes_for wakes
-  undue_dormant undue =
+  undue_dormant f undue =
       let each = neither _ _ _ undue.unwoken in
       record {
         away = away_now (awaits_in (blocked_of k t)) each.0 (main_waits t (blocked_of k t) may);
-        pending = pending_now k (ring_held (blocked_of k t)) undue.unsettled each.1;
+        pending = pending_now f s (ring_held (blocked_of k t)) undue.unsettled undue.steady each.1;
         unasked = each.2;
       }

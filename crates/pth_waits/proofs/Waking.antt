@@ -1,6 +1,7 @@
 -- Which threads are to wake, beside rings and without.
 use Rattle.std.proofs.Common.{◌≡◌, ◌∙◌, ℕ, ℤ, ◌||◌, Bool, true, false, List, [], Option, Some, None, refl, ap, sym}
 use Rattle.std.specs.List.{list_any}
+use Rattle.pth_base.specs.Program.{Functions}
 use Rattle.pth_model.specs.declared.awaits.Awaited.{Awaited}
 use Rattle.pth_model.specs.declared.blocked.Blocked.{Blocked}
 use Rattle.pth_model.specs.Awaits.{awaits_in}
@@ -45,18 +46,18 @@ module _ {P S H : Type 0} (s : State P S H) (t : ℕ) (a : Awaited) (is : a ≡ 
   wakes_by = has ∙ ap (λ (b : Awaited). has_come s t b.what) is
 
   -- or an event of its ring comes
-  pub due_with : (found : Bool) (e : ℤ) → a.ring ≡ Some e → found ≡ list_any (λ i. comes s.control i (s.control.events.events i)) (s.control.events.rings (number e)) → (found || come) ≡ (wakes t s || comes_for s.control t)
+  pub due_with : (f : P → Functions S H) (found : Bool) (e : ℤ) → a.ring ≡ Some e → found ≡ list_any (λ i. comes f s i (s.control.events.events i)) (s.control.events.rings (number e)) → (found || come) ≡ (wakes t s || comes_for f s t)
   unfolding comes_for
-  due_with found e given is_found =
+  due_with f found e given is_found =
       or_turned found come
       ∙ ap (λ (b : Bool). b || found) wakes_by
-      ∙ ap (λ (b : Bool). wakes t s || b) (is_found ∙ ap (list_any (λ i. comes s.control i (s.control.events.events i))) (sym (ring_events s.control t a is e given)))
+      ∙ ap (λ (b : Bool). wakes t s || b) (is_found ∙ ap (list_any (λ i. comes f s i (s.control.events.events i))) (sym (ring_events s.control t a is e given)))
 
-  pub due_without : a.ring ≡ None → come ≡ (wakes t s || comes_for s.control t)
+  pub due_without : (f : P → Functions S H) → a.ring ≡ None → come ≡ (wakes t s || comes_for f s t)
   unfolding comes_for
-  due_without none =
+  due_without f none =
       wakes_by
-      ∙ sym (ap (λ (es : List ℕ). wakes t s || list_any (λ i. comes s.control i (s.control.events.events i)) es) (no_events s.control t a is none) ∙ or_false (wakes t s))
+      ∙ sym (ap (λ (es : List ℕ). wakes t s || list_any (λ i. comes f s i (s.control.events.events i)) es) (no_events s.control t a is none) ∙ or_false (wakes t s))
 
 -- who is not in the system does not wake
 pub gone_stays : {P S H : Type 0} (w : WorldOf P S H) (s : State P S H) → StandsFor w s → (t : ℕ) → slot_of w.threads.records t ≡ None → false ≡ wakes t s

@@ -4,8 +4,8 @@ ghost use Rattle.std.specs.Prelude.{◌≡◌, ◌≢◌, ◌<◌, ◌≤◌, �
 ghost use Rattle.pth_base.specs.Limits.{last_moment};
 ghost use Rattle.pth_kernel.specs.Kernel.{advanced, kernel_of, next_time};
 ghost use Rattle.pth_model.specs.Coming.{descriptors_bring};
-ghost use Rattle.pth_model.specs.Looks.{found};
-ghost use Rattle.pth_model.specs.State.{Control, State, now_of};
+ghost use Rattle.pth_model.specs.Looks.{found_unasked};
+ghost use Rattle.pth_model.specs.State.{State, now_of};
 ghost use Rattle.pth_numbered.specs.Numbered.{number_at};
 ghost use Rattle.pth_numbered.specs.Operands.{number};
 ghost use Rattle.pth_ring.specs.Arena.{events_of};
@@ -13,14 +13,14 @@ ghost use Rattle.pth_ring.specs.Ring.{Begins};
 ghost use Rattle.pth_ring.specs.declared.event.Status.TheVariants.{Pending};
 ghost use Rattle.pth_threads.specs.Threads.{tid_at};
 ghost use Rattle.pth_waits.specs.Dormant.{AreFoundPending, ArePending, IsDormant, IsFoundPending, IsUndue, StaysAway, after_now, bound, deadline_in};
-ghost use Rattle.pth_world.specs.Shows.{Shows, StandsFor};
+ghost use Rattle.pth_world.specs.Shows.{StandsFor};
 ghost use Rattle.pth_world.specs.Whole.{MayAwait, Whole};
 
 use crate::barriers::has_passed;
 use crate::cancellation::may_be_canceled_at;
 use crate::conditions::is_noticed;
 use crate::joins::{any_has_died, has_died};
-use crate::looks::{is_as_goals_say, is_noticed_event};
+use crate::looks::{found_message, is_as_goals_say, is_noticed_event, is_pending};
 use crate::mutexes::is_free_mutex;
 use crate::rwlocks::is_open_lock;
 use crate::trials::descriptors_bring;
@@ -117,8 +117,9 @@ fn awaits_until<P: Program>(w: &World<P>, slot: Slot, awaits: Awaits) -> Micros
 
 // Until when an event of a descriptor is found pending.
 fn fd_until<P: Program>(w: &World<P>, goals: u8, fd: i64) -> Micros
-    ensures pending { (k : Control P P.State P.Shared) (e : ℕ) → Shows w.now k → IsFoundPending k result e (EventSpec.Fd goals fd) }
-    ensures later { (k : Control P P.State P.Shared) (e : ℕ) → Shows w.now k → found k e (EventSpec.Fd goals fd) ≡ Pending → now_of k < result }
+    ensures pending { (s : State P P.State P.Shared) (e : ℕ) → StandsFor w.now s → IsFoundPending s result e (EventSpec.Fd goals fd) }
+    ensures later { (s : State P P.State P.Shared) (e : ℕ) → StandsFor w.now s
+        → found_unasked s e (EventSpec.Fd goals fd) ≡ Pending → now_of s.control < result }
 {
     if !w.kernel().is_live(fd) {
         return 0;
@@ -131,8 +132,9 @@ fn fd_until<P: Program>(w: &World<P>, goals: u8, fd: i64) -> Micros
 
 // Until when an event of sets of descriptors is found pending.
 fn select_until<P: Program>(w: &World<P>, r: FdSet, writes: FdSet, x: FdSet) -> Micros
-    ensures pending { (k : Control P P.State P.Shared) (e : ℕ) → Shows w.now k → IsFoundPending k result e (EventSpec.Select r writes x) }
-    ensures later { (k : Control P P.State P.Shared) (e : ℕ) → Shows w.now k → found k e (EventSpec.Select r writes x) ≡ Pending → now_of k < result }
+    ensures pending { (s : State P P.State P.Shared) (e : ℕ) → StandsFor w.now s → IsFoundPending s result e (EventSpec.Select r writes x) }
+    ensures later { (s : State P P.State P.Shared) (e : ℕ) → StandsFor w.now s
+        → found_unasked s e (EventSpec.Select r writes x) ≡ Pending → now_of s.control < result }
 {
     if !are_all_live(w.kernel(), r, writes, x) {
         return 0;
@@ -145,23 +147,36 @@ fn select_until<P: Program>(w: &World<P>, r: FdSet, writes: FdSet, x: FdSet) -> 
 
 // Until when an event of a condition is found pending: for ever, if it is now.
 fn cond_until<P: Program>(w: &World<P>, e: EventId, c: i64) -> Micros
-    ensures pending { (k : Control P P.State P.Shared) → Shows w.now k → IsFoundPending k result e.0 (EventSpec.Cond c) }
-    ensures later { (k : Control P P.State P.Shared) → Shows w.now k → found k e.0 (EventSpec.Cond c) ≡ Pending → now_of k < result }
+    ensures pending { (s : State P P.State P.Shared) → StandsFor w.now s → IsFoundPending s result e.0 (EventSpec.Cond c) }
+    ensures later { (s : State P P.State P.Shared) → StandsFor w.now s
+        → found_unasked s e.0 (EventSpec.Cond c) ≡ Pending → now_of s.control < result }
 {
     never_unless(w, !w.conditions().is_live(c) || is_noticed_event(w, e, c))
 }
 
-// Until when an event is found pending.
+// Until when an event of a message is found pending: for ever, if it is now.
+fn message_until<P: Program>(w: &World<P>, p: i64) -> Micros
+    ensures pending { (s : State P P.State P.Shared) (e : ℕ) → StandsFor w.now s → IsFoundPending s result e (EventSpec.Msg p) }
+    ensures later { (s : State P P.State P.Shared) (e : ℕ) → StandsFor w.now s
+        → found_unasked s e (EventSpec.Msg p) ≡ Pending → now_of s.control < result }
+{
+    never_unless(w, !is_pending(found_message(w, p)))
+}
+
+// Until when an event is found pending, if nothing changes but time; 0 for one of a thread or of a function, which is asked at each pass.
 fn found_until<P: Program>(w: &World<P>, e: EventId, spec: &EventSpec) -> Micros
-    ensures pending { (k : Control P P.State P.Shared) → Shows w.now k → IsFoundPending k result e.0 spec.now }
-    ensures later { (k : Control P P.State P.Shared) → Shows w.now k → found k e.0 spec.now ≡ Pending → now_of k < result }
+    ensures pending { (s : State P P.State P.Shared) → StandsFor w.now s → IsFoundPending s result e.0 spec.now }
+    ensures later { (s : State P P.State P.Shared) → StandsFor w.now s
+        → IsFoundPending s (after_now s.control) e.0 spec.now → now_of s.control < result }
 {
     match spec {
         EventSpec::Time(at) => *at,
         EventSpec::Fd { goals, fd } => fd_until(w, *goals, *fd),
         EventSpec::Select { r, w: writes, x } => select_until(w, *r, *writes, *x),
+        EventSpec::Msg(p) => message_until(w, *p),
         EventSpec::Cond(c) => cond_until(w, e, *c),
-        _ => never(w),
+        EventSpec::Tid { .. } => 0,
+        EventSpec::Func { .. } => 0,
     }
 }
 
@@ -169,8 +184,10 @@ fn found_until<P: Program>(w: &World<P>, e: EventId, spec: &EventSpec) -> Micros
 fn round_until<P: Program>(w: &World<P>, first: Slot) -> Micros
     requires used { number_at w.now.events first.0 ≢ 0 }
     requires begins { Begins ((events_of w.now.events).rings (number_at w.now.events first.0)) (number_at w.now.events first.0) }
-    ensures pending { (k : Control P P.State P.Shared) → Shows w.now k → AreFoundPending k result (k.events.rings (number_at w.now.events first.0)) }
-    ensures later { (k : Control P P.State P.Shared) → Shows w.now k → AreFoundPending k (after_now k) (k.events.rings (number_at w.now.events first.0)) → now_of k < result }
+    ensures pending { (s : State P P.State P.Shared) → StandsFor w.now s
+        → AreFoundPending s result (s.control.events.rings (number_at w.now.events first.0)) }
+    ensures later { (s : State P P.State P.Shared) → StandsFor w.now s
+        → AreFoundPending s (after_now s.control) (s.control.events.rings (number_at w.now.events first.0)) → now_of s.control < result }
 {
     let rings = w.rings();
     let mut until = never(w);
@@ -186,8 +203,10 @@ fn round_until<P: Program>(w: &World<P>, first: Slot) -> Micros
 
 // Until when all events of the ring of an event are pending.
 fn ring_until<P: Program>(w: &World<P>, e: i64) -> Micros
-    ensures pending { (k : Control P P.State P.Shared) → Shows w.now k → 0 < result → ArePending k result (k.events.rings (number e)) }
-    ensures later { (k : Control P P.State P.Shared) → Shows w.now k → ArePending k (after_now k) (k.events.rings (number e)) → now_of k < result }
+    ensures pending { (s : State P P.State P.Shared) → StandsFor w.now s → 0 < result
+        → ArePending s result (s.control.events.rings (number e)) }
+    ensures later { (s : State P P.State P.Shared) → StandsFor w.now s
+        → ArePending s (after_now s.control) (s.control.events.rings (number e)) → now_of s.control < result }
 {
     if w.rings().settled(e) > 0 {
         return 0;
@@ -205,7 +224,8 @@ pub fn dormant_until<P: Program>(w: &World<P>, slot: Slot) -> Micros
     requires used { tid_at w.now.threads.records slot.0 ≢ 0 }
     ensures dormant { (s : State P P.State P.Shared) → StandsFor w.now s → 0 < result → IsDormant s result (tid_at w.now.threads.records slot.0) }
     ensures later { (s : State P P.State P.Shared) → StandsFor w.now s → IsDormant s (after_now s.control) (tid_at w.now.threads.records slot.0) → now_of s.control < result }
-    ensures told { (s : State P P.State P.Shared) → StandsFor w.now s → IsUndue s (tid_at w.now.threads.records slot.0) → now_of s.control < result }
+    ensures told { (s : State P P.State P.Shared) → StandsFor w.now s
+        → IsUndue P.functions s (tid_at w.now.threads.records slot.0) → now_of s.control < result }
 {
     if may_be_canceled_at(w, slot) {
         return 0;

@@ -66,8 +66,10 @@ fn has_come_for<P: Program>(w: &mut World<P>, slot: Slot, any_dead: bool) -> boo
     requires whole { Whole w.old }
     requires used { tid_at w.old.threads.records slot.0 ≢ 0 }
     requires dead { (k : Control P P.State P.Shared) → Shows w.old k → any_dead ≡ has_any_died k }
-    ensures shows { (k : Control P P.State P.Shared) → Shows w.old k → Shows w.new (looks_at k (awaited_events k (tid_at w.old.threads.records slot.0))) }
-    ensures wakes { (s : State P P.State P.Shared) → StandsFor w.old s → result ≡ (wakes (tid_at w.old.threads.records slot.0) s || comes_for s.control (tid_at w.old.threads.records slot.0)) }
+    ensures shows { (s : State P P.State P.Shared) → StandsFor w.old s
+        → Shows w.new (looks_at P.functions s (awaited_events s.control (tid_at w.old.threads.records slot.0)) s.control) }
+    ensures wakes { (s : State P P.State P.Shared) → StandsFor w.old s
+        → result ≡ (wakes (tid_at w.old.threads.records slot.0) s || comes_for P.functions s (tid_at w.old.threads.records slot.0)) }
     ensures made { w.new.events.made ≡ w.old.events.made }
     ensures same { w.new ≡ record w.old { events = w.new.events } }
 {
@@ -85,8 +87,10 @@ pub fn is_to_wake<P: Program>(w: &mut World<P>, slot: Slot, any_dead: bool) -> b
     requires whole { Whole w.old }
     requires used { tid_at w.old.threads.records slot.0 ≢ 0 }
     requires dead { (k : Control P P.State P.Shared) → Shows w.old k → any_dead ≡ has_any_died k }
-    ensures shows { (k : Control P P.State P.Shared) → Shows w.old k → Shows w.new (looks_at k (awaited_events k (tid_at w.old.threads.records slot.0))) }
-    ensures wakes { (s : State P P.State P.Shared) → StandsFor w.old s → result ≡ is_to_wake s (tid_at w.old.threads.records slot.0) }
+    ensures shows { (s : State P P.State P.Shared) → StandsFor w.old s
+        → Shows w.new (looks_at P.functions s (awaited_events s.control (tid_at w.old.threads.records slot.0)) s.control) }
+    ensures wakes { (s : State P P.State P.Shared) → StandsFor w.old s
+        → result ≡ is_to_wake P.functions s (tid_at w.old.threads.records slot.0) }
     ensures made { w.new.events.made ≡ w.old.events.made }
     ensures same { w.new ≡ record w.old { events = w.new.events } }
 {

@@ -5,7 +5,7 @@ use Rattle.pth_ring.specs.Rings.{Events}
 use Rattle.pth_model.specs.Changes.{with_events}
 use Rattle.pth_model.specs.State.{Control}
 use Rattle.pth_world.specs.Frame.{Frame}
-use Rattle.pth_world.specs.Numbering.{Thread, Object, Event, Numbers}
+use Rattle.pth_world.specs.Numbering.{Thread, Object, Event, Port, Numbers}
 use Rattle.pth_world.specs.Shows.{Shows}
 use Rattle.pth_world.specs.Whole.{Whole}
 use Rattle.pth_world.specs.World.{WorldOf}
@@ -22,7 +22,7 @@ module _ {P S H : Type 0} (w : WorldOf P S H) (e : RingsOf) where
   events_frame n whole few = record {
     whole = events_whole whole;
     runs = refl;
-    made = elim [ Thread ↦ omega arith | Object ↦ omega arith | Event ↦ few ];
+    made = elim [ Thread ↦ omega arith | Object ↦ omega arith | Event ↦ few | Port ↦ omega arith ];
     ranks = record { under = λ roof low h. h; fresh = omega arith };
     preferred = refl;
   }

@@ -4,7 +4,7 @@ use Rattle.pth_world.specs.World.{WorldOf}
 use Rattle.pth_world.specs.Whole.{Whole}
 use Rattle.pth_world.specs.Frame.{Frame, Names}
 use Rattle.pth_world.specs.Keeps.{MovesThreads}
-use Rattle.pth_world.specs.Numbering.{Kind, Thread, Object, Event, Numbers, no_numbers, one_of, GivesAtMost, GivesNone}
+use Rattle.pth_world.specs.Numbering.{Kind, Thread, Object, Event, Port, Numbers, no_numbers, one_of, GivesAtMost, GivesNone}
 use Rattle.pth_world.proofs.Ranks.{ranks_none, ranks_then, ranks_more}
 
 -- of any kind at most one
@@ -12,6 +12,7 @@ pub one_at_most : (j k : Kind) → one_of j k ≤ 1
 one_at_most Thread Thread = omega arith
 one_at_most Object Object = omega arith
 one_at_most Event Event = omega arith
+one_at_most Port Port = omega arith
 one_at_most j k = omega arith
 
 module _ {P S H : Type 0} where
@@ -46,6 +47,7 @@ module _ {P S H : Type 0} where
       | Thread ↦ (let e = moves.made in omega arith)
       | Object ↦ (let e = ap (λ (k : WorldOf P S H). k.attributes.made) moves.same in omega arith)
       | Event ↦ (let e = ap (λ (k : WorldOf P S H). k.events.made) moves.same in omega arith)
+      | Port ↦ (let e = ap (λ (k : WorldOf P S H). k.store.ports.made) moves.same in omega arith)
     ];
     ranks = moves.ranks;
     preferred = ap (λ (k : WorldOf P S H). k.scheduler.preferred) moves.same;

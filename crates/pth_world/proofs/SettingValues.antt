@@ -20,7 +20,7 @@ use Rattle.pth_model.specs.AttributeHandling.{object, sets_value}
 use Rattle.pth_model.specs.Changes.{sets}
 use Rattle.pth_model.specs.State.{Control, Attributes}
 use Rattle.pth_world.specs.Frame.{Frame}
-use Rattle.pth_world.specs.Numbering.{Thread, Object, Event, Numbers, no_numbers, GivesAtMost}
+use Rattle.pth_world.specs.Numbering.{Thread, Object, Event, Port, Numbers, no_numbers, GivesAtMost}
 use Rattle.pth_world.specs.Shows.{Shows, ShowsThreads, ShowsAttributes}
 use Rattle.pth_world.specs.Sound.{IsSound, IsKnown, IsAlive, KeepsAttributes, lives}
 use Rattle.pth_world.specs.Touches.{Touches, SameThreads, IsAside, view_changed}
@@ -46,7 +46,7 @@ module _ {P S H : Type 0} (w : WorldOf P S H) (y : AttrsOf) where
   objects_frame n whole few = record {
     whole = objects_whole whole;
     runs = refl;
-    made = elim [ Thread ↦ omega arith | Object ↦ few | Event ↦ omega arith ];
+    made = elim [ Thread ↦ omega arith | Object ↦ few | Event ↦ omega arith | Port ↦ omega arith ];
     ranks = record { under = λ roof low h. h; fresh = omega arith };
     preferred = refl;
   }
@@ -106,7 +106,7 @@ module _ {P S H : Type 0} (w : WorldOf P S H) (r : ThreadsOf) where
   field_frame t u c aside whole at touches sound same = record {
     whole = field_whole t u c aside whole at touches sound same.slots;
     runs = refl;
-    made = elim [ Thread ↦ (let e = same.made in omega arith) | Object ↦ omega arith | Event ↦ omega arith ];
+    made = elim [ Thread ↦ (let e = same.made in omega arith) | Object ↦ omega arith | Event ↦ omega arith | Port ↦ omega arith ];
     ranks = record { under = λ roof low h. h; fresh = omega arith };
     preferred = refl;
   }
@@ -173,11 +173,13 @@ module _ {P S H : Type 0} (w : WorldOf P S H) (x : AttrsOf) (r : ThreadsOf) (a :
     | Thread ↦ (let e : r.made ≡ w.threads.records.made = ap (λ (z : ThreadsOf). z.made) s.1 in omega arith)
     | Object ↦ (let e = s.0.made in omega arith)
     | Event ↦ omega arith
+    | Port ↦ omega arith
   ]
   set_numbers (Some (Bound t)) some s = elim [
     | Thread ↦ (let e = s.1.changes.made in omega arith)
     | Object ↦ (let e : x.made ≡ w.attributes.made = ap (λ (z : AttrsOf). z.made) s.0 in omega arith)
     | Event ↦ omega arith
+    | Port ↦ omega arith
   ]
 
   set_whole : (o : Option Attribute) → is_none o ≡ false → Sets w.attributes x w.threads.records r (number a) v o → Whole w → Whole after

@@ -34,6 +34,9 @@ use Rattle.pth_model.specs.Changes.{sets, enters, leaves_queue, makes}
 use Rattle.pth_model.specs.ThreadControl.{spawns}
 use Rattle.pth_model.specs.Pass.{is_ready_at}
 use Rattle.pth_model.proofs.Orders.{shown-none}
+use Rattle.pth_port.proofs.Changes.{names_made}
+use Rattle.pth_port.specs.Mail.{PortNames, no_mail, no_names}
+use Rattle.pth_port.specs.Ports.{PortsOf, mail_of, names_of}
 use Rattle.pth_store.specs.Cleanups.{Stacks, no_cleanups}
 use Rattle.pth_store.specs.Keys.{Tables, no_keys}
 use Rattle.pth_model.specs.Resources.{Store, no_resources}
@@ -54,12 +57,13 @@ module _ {P S H : Type 0} (f : P → Functions S H) (program : P) (t0 : ThreadsO
     (none : table None y0 ≡ (λ _. None)) (long0 : length y0 ≡ thread_limit)
     (a0 : AttrsOf) (no_objects : object_of a0 ≡ (λ _. None)) (no_number : a0.made ≡ 0)
     (e0 : RingsOf) (none_there : events_of e0 ≡ no_events) (c0 : List Condition) (no_condition : conditions_of c0 ≡ no_conditions) (b0 : List (Option Barrier)) (no_barrier : barriers_of b0 ≡ no_barriers) (kernel : KernelOf)
-    (T0 : Tables) (no_key : T0 ≡ no_keys) (S0 : Stacks) (no_cleanup : S0 ≡ no_cleanups) (M0 : MutexTable) (no_mutex : M0 ≡ no_mutexes) (L0 : LockTables) (no_lock : L0 ≡ no_locks) where
+    (T0 : Tables) (no_key : T0 ≡ no_keys) (S0 : Stacks) (no_cleanup : S0 ≡ no_cleanups) (M0 : MutexTable) (no_mutex : M0 ≡ no_mutexes) (L0 : LockTables) (no_lock : L0 ≡ no_locks)
+    (R0 : PortsOf) (no_name : names_of R0 ≡ no_names) (no_message : mail_of R0 ≡ no_mail) where
   abbrev x0 : ThreadsBySlot S
   x0 = record { records = t0; queues = record no_queues { room = thread_limit }; progress = y0 }
 
   abbrev w0 : WorldOf P S H
-  w0 = record { program = program; shared = (f program).shared; threads = x0; attributes = a0; events = e0; conditions = c0; barriers = b0; kernel = kernel; store = stored_by t0 T0 S0 M0 L0; used = replicate 64 false; scheduler = record { running = None; preferred = None; favour_new = true } }
+  w0 = record { program = program; shared = (f program).shared; threads = x0; attributes = a0; events = e0; conditions = c0; barriers = b0; kernel = kernel; store = stored_by t0 T0 S0 M0 L0 R0; used = replicate 64 false; scheduler = record { running = None; preferred = None; favour_new = true } }
 
   abbrev s0 : Control P S H
   s0 = before_main f (record { program = program; kernel = kernel_of kernel })
@@ -128,7 +132,7 @@ module _ {P S H : Type 0} (f : P → Functions S H) (program : P) (t0 : ThreadsO
 
   -- nothing is stored
   pub before_store : store_of w0.store ≡ no_resources.store
-  before_store = forgets t0 no_key no_cleanup no_mutex no_lock ∙ stored_none t0
+  before_store = forgets t0 R0 no_key no_cleanup no_mutex no_lock ∙ stored_none t0 R0 no_name no_message
 
   nothing_at : (s : Store) (t : ℕ) → s ≡ no_resources.store → HasNothing s t
   nothing_at s t is = subst (λ (y : Store). HasNothing y t) (sym is) (record { cleanups = refl; values = λ k. refl; mutexes = λ m. refl; locks = λ l. refl })
@@ -147,6 +151,7 @@ module _ {P S H : Type 0} (f : P → Functions S H) (program : P) (t0 : ThreadsO
     made = none_made;
     objects = no_number;
     events = ap (λ (y : Events). y.made) none_there;
+    ports = sym (names_made R0) ∙ ap (λ (y : PortNames). y.made) no_name;
     count = no_count;
     queues = refl;
     bodies = some;

@@ -14,6 +14,8 @@ use Rattle.pth_base.proofs.Namings.{seen_at, seen_put}
 use Rattle.pth_base.proofs.Tables.{put_here, put_other, put_by}
 use Rattle.pth_threads.specs.Threads.{ThreadsOf, slot_of, tid_at, entry_at, AddsThread, RemovesThread}
 use Rattle.pth_threads.specs.declared.entry.Entry.{Entry}
+use Rattle.pth_port.specs.Mail.{Mail, PortNames, no_mail, no_names}
+use Rattle.pth_port.specs.Ports.{PortsOf, mail_of, names_of}
 use Rattle.pth_store.specs.Cleanups.{PushedHandler, Stacks, is_full_stack, push_answer, below_top_answer, no_cleanups, emptied, top_taken, without_top}
 use Rattle.pth_store.specs.Keys.{Tables, key_limit, key_named, is_key, key_create_answer, key_delete_answer, key_get_answer, key_set_answer, first_live, owed, owed_for, created, deleted, with_key_value, forgotten, no_keys}
 use Rattle.pth_model.specs.Resources.{Store, no_resources, store_without, with_cleanups, with_keys, with_mutexes, with_rw_locks}
@@ -33,15 +35,15 @@ use Rattle.pth_world.proofs.Locked.{mutexes_left_read, mutexes_gone_read, mutexe
 abbrev Values : Type 0
 Values = ℕ → ℕ → ℤ
 
-same_store : (a b : Stacks) (k l : ℕ → Option (Option HandlerId)) (v w : Values) (m n : MutexTable) (x y : LockTables) → a ≡ b → k ≡ l → v ≡ w → m ≡ n → x ≡ y → ◌≡◌ {A = Store} (record { cleanups = a; keys = record { keys = k; values = v }; mutexes = m; rw_locks = x }) (record { cleanups = b; keys = record { keys = l; values = w }; mutexes = n; rw_locks = y })
-same_store a b k l v w m n x y p q r o z = λ i. record { cleanups = p i; keys = record { keys = q i; values = r i }; mutexes = o i; rw_locks = z i }
+same_store : (a b : Stacks) (k l : ℕ → Option (Option HandlerId)) (v w : Values) (m n : MutexTable) (x y : LockTables) {ports : PortNames} {mail : Mail} → a ≡ b → k ≡ l → v ≡ w → m ≡ n → x ≡ y → ◌≡◌ {A = Store} (record { cleanups = a; keys = record { keys = k; values = v }; mutexes = m; rw_locks = x; ports = ports; mail = mail }) (record { cleanups = b; keys = record { keys = l; values = w }; mutexes = n; rw_locks = y; ports = ports; mail = mail })
+same_store a b k l v w m n x y {ports = ports} {mail = mail} p q r o z = λ i. record { cleanups = p i; keys = record { keys = q i; values = r i }; mutexes = o i; rw_locks = z i; ports = ports; mail = mail }
 
-same_lists : {a b : List (List PushedHandler)} {k l : List (Option (Option HandlerId))} {v w : List (List ℤ)} {m n : List Mutex} {x y : LocksOf} → a ≡ b → k ≡ l → v ≡ w → m ≡ n → x ≡ y → ◌≡◌ {A = StoreOf} (record { cleanups = a; keys = k; values = v; mutexes = m; rw_locks = x }) (record { cleanups = b; keys = l; values = w; mutexes = n; rw_locks = y })
-same_lists p q r o z = λ i. record { cleanups = p i; keys = q i; values = r i; mutexes = o i; rw_locks = z i }
+same_lists : {a b : List (List PushedHandler)} {k l : List (Option (Option HandlerId))} {v w : List (List ℤ)} {m n : List Mutex} {x y : LocksOf} {ports : PortsOf} → a ≡ b → k ≡ l → v ≡ w → m ≡ n → x ≡ y → ◌≡◌ {A = StoreOf} (record { cleanups = a; keys = k; values = v; mutexes = m; rw_locks = x; ports = ports }) (record { cleanups = b; keys = l; values = w; mutexes = n; rw_locks = y; ports = ports })
+same_lists {ports = ports} p q r o z = λ i. record { cleanups = p i; keys = q i; values = r i; mutexes = o i; rw_locks = z i; ports = ports }
 
 -- ---- a store is read from what is kept by slot
 
-module _ (x : ThreadsOf) (T : Tables) (S : Stacks) (M : MutexTable) (L : LockTables) where
+module _ (x : ThreadsOf) (T : Tables) (S : Stacks) (M : MutexTable) (L : LockTables) (R : PortsOf) where
   abbrev g : ℕ → Option ℕ
   g = slot_of x
 
@@ -49,13 +51,13 @@ module _ (x : ThreadsOf) (T : Tables) (S : Stacks) (M : MutexTable) (L : LockTab
   G k = seen (pos 0) g (T.values k)
 
   abbrev now : Store
-  now = store_of (stored_by x T S M L)
+  now = store_of (stored_by x T S M L R)
 
   -- other mutexes, or other locks
-  pub mutexes_set : (N n : MutexTable) → table None (listed (λ m. named_mutex (tid_at x) (N m))) ≡ n → store_of (stored_by x T S N L) ≡ with_mutexes (λ _. n) now
+  pub mutexes_set : (N n : MutexTable) → table None (listed (λ m. named_mutex (tid_at x) (N m))) ≡ n → store_of (stored_by x T S N L R) ≡ with_mutexes (λ _. n) now
   mutexes_set N n is = same_store _ _ _ _ _ _ _ _ _ _ refl refl refl is refl
 
-  pub locks_set : (N n : LockTables) → locks_of (locked_by x N) ≡ n → store_of (stored_by x T S M N) ≡ with_rw_locks (λ _. n) now
+  pub locks_set : (N n : LockTables) → locks_of (locked_by x N) ≡ n → store_of (stored_by x T S M N R) ≡ with_rw_locks (λ _. n) now
   locks_set N n is = same_store _ _ _ _ _ _ _ _ _ _ refl refl refl refl is
 
   -- a key, as it is and as it is read
@@ -73,17 +75,17 @@ module _ (x : ThreadsOf) (T : Tables) (S : Stacks) (M : MutexTable) (L : LockTab
     set_answer_is = ap (λ (b : Bool). if not b then Err ENOENT else Ok tt) is_key_is
 
   -- a key is made or deleted: it stands otherwise, and each value under it is 0
-  key_changed : (k : ℕ) (life : Option (Option HandlerId)) → k < name_limit → store_of (stored_by x (record { keys = put T.keys k life; values = put T.values k (λ _. pos 0) }) S M L) ≡ with_keys (λ y. record { keys = put y.keys k life; values = put y.values k (λ _. pos 0) }) now
+  key_changed : (k : ℕ) (life : Option (Option HandlerId)) → k < name_limit → store_of (stored_by x (record { keys = put T.keys k life; values = put T.values k (λ _. pos 0) }) S M L R) ≡ with_keys (λ y. record { keys = put y.keys k life; values = put y.values k (λ _. pos 0) }) now
   key_changed k life low = same_store _ _ _ _ _ _ _ _ _ _ refl (to_put None name_limit T.keys k life low)
       (ap (read (pos 0)) (ap_put (seen (pos 0) g) T.values k (λ _. pos 0) ∙ ap (put G k) (seen_nothing (pos 0) g))
       ∙ read_put (pos 0) G k (λ _. pos 0) low
       ∙ ap (put (read (pos 0) G) k) (to_none (pos 0) name_limit))
       refl refl
 
-  pub created_is : (k : ℕ) (h : Option HandlerId) → k < name_limit → store_of (stored_by x (created k h T) S M L) ≡ with_keys (created k h) now
+  pub created_is : (k : ℕ) (h : Option HandlerId) → k < name_limit → store_of (stored_by x (created k h T) S M L R) ≡ with_keys (created k h) now
   created_is k h low = key_changed k (Some h) low
 
-  pub deleted_is : (k : ℕ) → k < name_limit → store_of (stored_by x (deleted k T) S M L) ≡ with_keys (deleted k) now
+  pub deleted_is : (k : ℕ) → k < name_limit → store_of (stored_by x (deleted k T) S M L R) ≡ with_keys (deleted k) now
   deleted_is k low = key_changed k None low
 
   -- at the slot of a thread
@@ -110,7 +112,7 @@ module _ (x : ThreadsOf) (T : Tables) (S : Stacks) (M : MutexTable) (L : LockTab
   -- changes at the slot of a thread
   module _ (t u : ℕ) (tied : IsTied (slot_of x) (tid_at x)) (e : slot_of x t ≡ Some u) (few : t < name_limit) where
     -- other handlers
-    pub cleanups_put : (h : List PushedHandler → List PushedHandler) → store_of (stored_by x T (put S u (h (S u))) M L) ≡ with_cleanups (λ y. put y t (h (y t))) now
+    pub cleanups_put : (h : List PushedHandler → List PushedHandler) → store_of (stored_by x T (put S u (h (S u))) M L R) ≡ with_cleanups (λ y. put y t (h (y t))) now
     cleanups_put h = same_store _ _ _ _ _ _ _ _ _ _
         (ap (λ (f : ℕ → List PushedHandler). table [] (listed f)) (seen_put [] g (tid_at x) S t u (h (S u)) tied e)
         ∙ to_put [] name_limit (seen [] g S) t (h (S u)) few
@@ -118,7 +120,7 @@ module _ (x : ThreadsOf) (T : Tables) (S : Stacks) (M : MutexTable) (L : LockTab
         refl refl refl refl
 
     -- another value
-    pub value_put : (k : ℕ) (v : ℤ) → k < name_limit → store_of (stored_by x (with_key_value u k v T) S M L) ≡ with_keys (with_key_value t k v) now
+    pub value_put : (k : ℕ) (v : ℤ) → k < name_limit → store_of (stored_by x (with_key_value u k v T) S M L R) ≡ with_keys (with_key_value t k v) now
     value_put k v low = same_store _ _ _ _ _ _ _ _ _ _ refl refl
         (ap (read (pos 0)) (ap_put (seen (pos 0) g) T.values k (put (T.values k) u v))
         ∙ read_put (pos 0) G k (seen (pos 0) g (put (T.values k) u v)) low
@@ -129,7 +131,7 @@ module _ (x : ThreadsOf) (T : Tables) (S : Stacks) (M : MutexTable) (L : LockTab
         refl refl
 
     -- nothing
-    pub forgotten_is : store_of (stored_by x (forgotten u T) (emptied u S) (mutexes_left u M) (locks_left u L)) ≡ store_without t now
+    pub forgotten_is : store_of (stored_by x (forgotten u T) (emptied u S) (mutexes_left u M) (locks_left u L) R) ≡ store_without t now
     forgotten_is = same_store _ _ _ _ _ _ _ _ _ _
         (ap (λ (f : ℕ → List PushedHandler). table [] (listed f)) (seen_put [] g (tid_at x) S t u [] tied e) ∙ to_put [] name_limit (seen [] g S) t [] few)
         refl
@@ -142,7 +144,7 @@ module _ (x : ThreadsOf) (T : Tables) (S : Stacks) (M : MutexTable) (L : LockTab
       slots_are : slot_of y ≡ put g t None
       slots_are = gone.slots ∙ ap (λ (n : ℕ). put g n None) (tied.tid t u e)
 
-      pub removed_is : store_of (stored_by y T S (mutexes_left u M) (locks_left u L)) ≡ store_without t now
+      pub removed_is : store_of (stored_by y T S (mutexes_left u M) (locks_left u L) R) ≡ store_without t now
       removed_is = same_store _ _ _ _ _ _ _ _ _ _
           (ap (λ (f : ℕ → Option ℕ). table [] (listed (seen [] f S))) slots_are
           ∙ ap (λ (f : ℕ → List PushedHandler). table [] (listed f)) (seen_gone [] g (tid_at x) S t u tied e)
@@ -155,7 +157,7 @@ module _ (x : ThreadsOf) (T : Tables) (S : Stacks) (M : MutexTable) (L : LockTab
           (locks_gone_read x L t u tied e few y gone)
 
       -- one that had nothing leaves all as it was
-      pub removed_still : HasNothing now t → stored_by y T S (mutexes_left u M) (locks_left u L) ≡ stored_by x T S M L
+      pub removed_still : HasNothing now t → stored_by y T S (mutexes_left u M) (locks_left u L) R ≡ stored_by x T S M L R
       removed_still nothing =
           let stack : seen [] (slot_of y) S ≡ seen [] g S =
           ap (λ (f : ℕ → Option ℕ). seen [] f S) slots_are ∙ seen_gone [] g (tid_at x) S t u tied e ∙ put_none (seen [] g S) t [] (sym (to_at [] name_limit (seen [] g S) t few) ∙ nothing.cleanups) in
@@ -167,7 +169,7 @@ module _ (x : ThreadsOf) (T : Tables) (S : Stacks) (M : MutexTable) (L : LockTab
           (locks_still x L t u tied e few y gone nothing.locks)
 
   -- the slots are the same
-  pub slots_same : (y : ThreadsOf) → slot_of y ≡ slot_of x → tid_at y ≡ tid_at x → stored_by y T S M L ≡ stored_by x T S M L
+  pub slots_same : (y : ThreadsOf) → slot_of y ≡ slot_of x → tid_at y ≡ tid_at x → stored_by y T S M L R ≡ stored_by x T S M L R
   slots_same y slots tids = same_lists
       (ap (λ (f : ℕ → Option ℕ). listed (seen [] f S)) slots)
       refl
@@ -176,7 +178,7 @@ module _ (x : ThreadsOf) (T : Tables) (S : Stacks) (M : MutexTable) (L : LockTab
       (locks_same x L y slots tids)
 
   -- a new thread has nothing, where its slot was emptied, and no slot that is not used holds anything
-  pub added_is : (y : ThreadsOf) (u : ℕ) (d : Entry) → IsTied (slot_of x) (tid_at x) → AddsThread x y u d → HasNothing now 0 → stored_by y (forgotten u T) (emptied u S) M L ≡ stored_by x T S M L
+  pub added_is : (y : ThreadsOf) (u : ℕ) (d : Entry) → IsTied (slot_of x) (tid_at x) → AddsThread x y u d → HasNothing now 0 → stored_by y (forgotten u T) (emptied u S) M L R ≡ stored_by x T S M L R
   added_is y u d tied adds spare = same_lists
       (ap (λ (f : ℕ → Option ℕ). listed (seen [] f (put S u []))) adds.slots ∙ ap (λ (f : ℕ → List PushedHandler). listed f) (seen_new [] g (tid_at x) S d.tid.0 u tied adds.unknown adds.unused))
       refl
@@ -186,20 +188,21 @@ module _ (x : ThreadsOf) (T : Tables) (S : Stacks) (M : MutexTable) (L : LockTab
       (locks_added x L y u d tied adds spare.locks)
 
 -- other tables
-pub forgets : (x : ThreadsOf) {T V : Tables} {S Z : Stacks} {M N : MutexTable} {L K : LockTables} → T ≡ V → S ≡ Z → M ≡ N → L ≡ K → store_of (stored_by x T S M L) ≡ store_of (stored_by x V Z N K)
-forgets x p q r o = λ i. store_of (stored_by x (p i) (q i) (r i) (o i))
+pub forgets : (x : ThreadsOf) (R : PortsOf) {T V : Tables} {S Z : Stacks} {M N : MutexTable} {L K : LockTables} → T ≡ V → S ≡ Z → M ≡ N → L ≡ K → store_of (stored_by x T S M L R) ≡ store_of (stored_by x V Z N K R)
+forgets x R p q r o = λ i. store_of (stored_by x (p i) (q i) (r i) (o i) R)
 
-pub keeps : (x : ThreadsOf) (T : Tables) (S : Stacks) {M N : MutexTable} {L K : LockTables} → M ≡ N → L ≡ K → stored_by x T S M L ≡ stored_by x T S N K
-keeps x T S r o = λ i. stored_by x T S (r i) (o i)
+pub keeps : (x : ThreadsOf) (T : Tables) (S : Stacks) (R : PortsOf) {M N : MutexTable} {L K : LockTables} → M ≡ N → L ≡ K → stored_by x T S M L R ≡ stored_by x T S N K R
+keeps x T S R r o = λ i. stored_by x T S (r i) (o i) R
 
 -- nothing is stored
-pub stored_none : (x : ThreadsOf) → store_of (stored_by x no_keys no_cleanups no_mutexes no_locks) ≡ no_resources.store
-stored_none x = same_store _ _ _ _ _ _ _ _ _ _
+pub stored_none : (x : ThreadsOf) (R : PortsOf) → names_of R ≡ no_names → mail_of R ≡ no_mail → store_of (stored_by x no_keys no_cleanups no_mutexes no_locks R) ≡ no_resources.store
+stored_none x R names mail = same_store _ _ _ _ _ _ _ _ _ _
     (ap (λ (f : ℕ → List PushedHandler). table [] (listed f)) (seen_nothing [] (slot_of x)) ∙ to_none [] name_limit)
     (to_none None name_limit)
     (ap (read (pos 0)) (fun_ext (λ k. seen_nothing (pos 0) (slot_of x))) ∙ fun_ext (λ k. none_read (pos 0) k (cases_lt k name_limit)))
     (to_none None name_limit)
     (no_locks_read x)
+    ∙ (λ i. record no_resources.store { ports = names i; mail = mail i })
 
 -- ---- lists of keys
 
@@ -214,12 +217,12 @@ find_same : (p q : ℕ → Bool) (a n : ℕ) → ((i : ℕ) → a ≤ i → i < 
 find_same p q a zero h = refl
 find_same p q a (suc n) h = ap₂ (λ (b : Bool) (o : Option ℕ). cond b (Some a) o) (h a (omega arith) (omega arith)) (find_same p q (a + 1) n (λ i low high. h i (omega arith) (omega arith)))
 
-module _ (x : ThreadsOf) (T : Tables) (S : Stacks) (M : MutexTable) (L : LockTables) where
-  pub create_answer_is : key_create_answer (store_of (stored_by x T S M L)).keys ≡ key_create_answer T
-  create_answer_is = ap (λ (o : Option ℕ). ok_or o EAGAIN) (find_same _ _ 0 (key_limit - 0) (λ k low high. ap (λ (o : Option (Option HandlerId)). is_none o) (key_is x T S M L k (key_low 0 k low high))))
+module _ (x : ThreadsOf) (T : Tables) (S : Stacks) (M : MutexTable) (L : LockTables) (R : PortsOf) where
+  pub create_answer_is : key_create_answer (store_of (stored_by x T S M L R)).keys ≡ key_create_answer T
+  create_answer_is = ap (λ (o : Option ℕ). ok_or o EAGAIN) (find_same _ _ 0 (key_limit - 0) (λ k low high. ap (λ (o : Option (Option HandlerId)). is_none o) (key_is x T S M L R k (key_low 0 k low high))))
 
-  pub first_live_is : (t u from : ℕ) → slot_of x t ≡ Some u → t < name_limit → first_live (store_of (stored_by x T S M L)).keys t from ≡ first_live T u from
-  first_live_is t u from e few = ap (λ (xs : List (ℕ × HandlerId × ℤ)). slice_get xs 0) (filter_same _ _ from (key_limit - from) (λ k low high. owed_is x T S M L t u e few k (key_low from k low high)))
+  pub first_live_is : (t u from : ℕ) → slot_of x t ≡ Some u → t < name_limit → first_live (store_of (stored_by x T S M L R)).keys t from ≡ first_live T u from
+  first_live_is t u from e few = ap (λ (xs : List (ℕ × HandlerId × ℤ)). slice_get xs 0) (filter_same _ _ from (key_limit - from) (λ k low high. owed_is x T S M L R t u e few k (key_low from k low high)))
 
 -- a key that an operand names
 pub named_low : (k : ℤ) → k <ℤ pos name_limit → key_named k < name_limit
@@ -273,6 +276,10 @@ nothing_in_mutexes s t x h none = record { cleanups = h.cleanups; values = h.val
 pub nothing_in_locks : (s : Store) (t : ℕ) (x : LockTables) → HasNothing s t → NoLock t x → HasNothing (with_rw_locks (λ _. x) s) t
 nothing_in_locks s t x h none = record { cleanups = h.cleanups; values = h.values; mutexes = h.mutexes; locks = none }
 
+-- no thread has a port for itself
+pub nothing_ported : (s : Store) (t : ℕ) (x : PortNames) (q : Mail) → HasNothing s t → HasNothing (record s { ports = x; mail = q }) t
+nothing_ported s t x q h = record { cleanups = h.cleanups; values = h.values; mutexes = h.mutexes; locks = h.locks }
+
 -- ---- a world in which something else is stored
 
 module _ {P S H : Type 0} (w : WorldOf P S H) where
@@ -283,8 +290,12 @@ module _ {P S H : Type 0} (w : WorldOf P S H) where
   stored_shows y k sh = record { program = sh.program; shared = sh.shared; threads = sh.threads; attributes = sh.attributes; events = sh.events; conditions = sh.conditions; barriers = sh.barriers; kernel = sh.kernel; used = sh.used; scheduler = sh.scheduler }
 
   -- all but the store is kept, if who is not alive has come to nothing
-  pub stored_keeps : (y : StoreOf) → ((u : ℕ) → lives (entry_in w.threads u) ≡ false → HasNothing (store_of w.store) u → HasNothing (store_of y) u) → KeepsAllButStore w (record w { store = y })
-  stored_keeps y keeps = record { shows = stored_shows y; whole = stored_whole y keeps; same = refl }
+  pub stored_keeps : (y : StoreOf) → y.ports.made ≡ w.store.ports.made → ((u : ℕ) → lives (entry_in w.threads u) ≡ false → HasNothing (store_of w.store) u → HasNothing (store_of y) u) → KeepsAllButStore w (record w { store = y })
+  stored_keeps y made keeps = record { shows = stored_shows y; whole = stored_whole y keeps; made = made; same = refl }
+
+-- a world in which ports have become others, and none was made
+pub ports_keep : {P S H : Type 0} (w : WorldOf P S H) (x : PortsOf) → x.made ≡ w.store.ports.made → KeepsAllButStore w (record w { store = record w.store { ports = x } })
+ports_keep w x made = stored_keeps w (record w.store { ports = x }) made (λ u dead h. nothing_ported (store_of w.store) u (names_of x) (mail_of x) h)
 
 -- a slot that is not used holds nothing
 pub spare_nothing : {P S H : Type 0} (w : WorldOf P S H) → Whole w → HasNothing (store_of w.store) 0

@@ -13,6 +13,7 @@ use Rattle.pth_queue.specs.Ranking.{holds, delete, named_row}
 use Rattle.pth_queue.specs.Queues.{QueuesOf, rows_of, queue_of, without}
 use Rattle.pth_queue.proofs.Counts.{count-present, length-delete}
 use Rattle.pth_queue.proofs.Sets.{holds-queue_of}
+use Rattle.pth_port.specs.Mail.{Mail, PortNames}
 use Rattle.pth_lock.specs.Mutexes.{Mutex, MutexTable, free_mutex, has, is_anothers}
 use Rattle.pth_lock.specs.RwLocks.{LockTables, is_one, locks_left, without_slot}
 use Rattle.pth_store.specs.Cleanups.{Stacks}
@@ -65,8 +66,8 @@ only-alone t f none = fun_ext (λ i. alone_by t i f None (i == t) refl (none i))
 
 -- ---- what is stored
 
-same_store : {a b : Stacks} {c d : Tables} {m n : MutexTable} {k l : LockTables} → a ≡ b → c ≡ d → m ≡ n → k ≡ l → ◌≡◌ {A = Store} (record { cleanups = a; keys = c; mutexes = m; rw_locks = k }) (record { cleanups = b; keys = d; mutexes = n; rw_locks = l })
-same_store p q r o = λ i. record { cleanups = p i; keys = q i; mutexes = r i; rw_locks = o i }
+same_store : {a b : Stacks} {c d : Tables} {m n : MutexTable} {k l : LockTables} {ports : PortNames} {mail : Mail} → a ≡ b → c ≡ d → m ≡ n → k ≡ l → ◌≡◌ {A = Store} (record { cleanups = a; keys = c; mutexes = m; rw_locks = k; ports = ports; mail = mail }) (record { cleanups = b; keys = d; mutexes = n; rw_locks = l; ports = ports; mail = mail })
+same_store {ports = ports} {mail = mail} p q r o = λ i. record { cleanups = p i; keys = q i; mutexes = r i; rw_locks = o i; ports = ports; mail = mail }
 
 same_locks : {j : ℕ → Bool} {v w : ℕ → Option ℕ} {f g : ℕ → ℕ → Bool} {m n : ℕ → ℕ} → v ≡ w → f ≡ g → m ≡ n → ◌≡◌ {A = LockTables} (record { initialised = j; writer = v; reads = f; readers = m }) (record { initialised = j; writer = w; reads = g; readers = n })
 same_locks {j = j} p q r = λ i. record { initialised = j; writer = p i; reads = q i; readers = r i }

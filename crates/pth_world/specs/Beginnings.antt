@@ -28,10 +28,11 @@ pub record IsBeforeMain {P S H : Type 0} (f : P → Functions S H) (g : Given P)
   pub shows : Shows w (before_main f g)
   pub store : store_of w.store ≡ no_resources.store
   pub whole : Whole w
-  -- no number of a thread, an attribute object or an event was given
+  -- no number of a thread, an attribute object, an event or a port was given
   pub made : w.threads.records.made ≡ 0
   pub objects : w.attributes.made ≡ 0
   pub events : w.events.made ≡ 0
+  pub ports : w.store.ports.made ≡ 0
   pub count : count w.threads.records ≡ 0
   pub queues : w.threads.queues ≡ record no_queues { room = thread_limit }
   -- there is a body for main

@@ -12,6 +12,8 @@ pub record KeepsAllButStore {P S H : Type 0} (w v : WorldOf P S H) : Type 0 wher
   pub shows : (k : Control P S H) → Shows w k → Shows v k
   -- a whole world still is whole: who is not alive has come to nothing
   pub whole : Whole w → Whole v
+  -- no port was made
+  pub made : v.store.ports.made ≡ w.store.ports.made
   -- the rest is as it was
   pub same : v ≡ record w { store = v.store }
 

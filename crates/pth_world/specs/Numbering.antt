@@ -2,11 +2,12 @@
 use Rattle.std.specs.Prelude.{◌≡◌, ℕ, ◌+◌, ◌<◌, ◌≤◌}
 use Rattle.pth_world.specs.World.{WorldOf}
 
--- what has a number: a thread, an attribute object or an event
+-- what has a number: a thread, an attribute object, an event or a message port
 pub data Kind : Type 0 where
   Thread : Kind
   Object : Kind
   Event : Kind
+  Port : Kind
 
 -- so many numbers of each kind
 abbrev pub Numbers : Type 0
@@ -20,6 +21,7 @@ abbrev pub one_of : Kind → Numbers
 one_of Thread Thread = 1
 one_of Object Object = 1
 one_of Event Event = 1
+one_of Port Port = 1
 one_of j k = 0
 
 abbrev pub one_of_each : Numbers
@@ -30,6 +32,7 @@ abbrev pub made : {P S H : Type 0} → WorldOf P S H → Numbers
 made w Thread = w.threads.records.made
 made w Object = w.attributes.made
 made w Event = w.events.made
+made w Port = w.store.ports.made
 
 -- at most n of each kind
 abbrev pub HasGiven : {P S H : Type 0} → ℕ → WorldOf P S H → Type 0

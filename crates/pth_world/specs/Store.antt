@@ -16,6 +16,7 @@ use Rattle.pth_threads.specs.Threads.{ThreadsOf, slot_of, tid_at}
 use Rattle.pth_lock.specs.Mutexes.{Mutex, MutexTable, owner_of}
 use Rattle.pth_lock.specs.Objects.{object_named}
 use Rattle.pth_lock.specs.RwLocks.{LockTables}
+use Rattle.pth_port.specs.Ports.{PortsOf, mail_of, names_of}
 use Rattle.pth_store.specs.Keys.{Tables}
 use Rattle.pth_store.specs.Cleanups.{PushedHandler, Stacks}
 use Rattle.pth_model.specs.Resources.{Store}
@@ -42,13 +43,15 @@ pub record LocksOf : Type 0 where
   pub readers : List ℕ
 
 -- the handlers of each thread, the last pushed first (pth_cleanup_push); the live keys with their destructors (pth_key_create);
--- of each key the value that each thread has under it (pth_key_setdata); the mutexes (pth_mutex_init) and the locks
+-- of each key the value that each thread has under it (pth_key_setdata); the mutexes (pth_mutex_init) and the locks; the message
+-- ports with their messages (pth_msgport_create)
 pub record StoreOf : Type 0 where
   pub cleanups : List (List PushedHandler)
   pub keys : List (Option (Option HandlerId))
   pub values : List (List ℤ)
   pub mutexes : List Mutex
   pub rw_locks : LocksOf
+  pub ports : PortsOf
 
 -- what it stands for
 abbrev pub locks_of : LocksOf → LockTables
@@ -60,6 +63,8 @@ store_of x = record {
   keys = record { keys = table None x.keys; values = λ k. table (pos 0) (table [] x.values k) };
   mutexes = table None x.mutexes;
   rw_locks = locks_of x.rw_locks;
+  ports = names_of x.ports;
+  mail = mail_of x.ports;
 }
 
 -- What stands at a slot that is not used counts as that of thread 0, which is nobody. A world that is whole has nothing for a thread
@@ -88,14 +93,15 @@ locked_by x locks = record {
   readers = listed locks.readers;
 }
 
--- what is kept by slot, as threads have it
-abbrev pub stored_by : ThreadsOf → Tables → Stacks → MutexTable → LockTables → StoreOf
-stored_by x keys cleanups mutexes locks = record {
+-- what is kept by slot, as threads have it, and the ports
+abbrev pub stored_by : ThreadsOf → Tables → Stacks → MutexTable → LockTables → PortsOf → StoreOf
+stored_by x keys cleanups mutexes locks ports = record {
   cleanups = listed (seen [] (slot_of x) cleanups);
   keys = listed keys.keys;
   values = listed (λ k. listed (seen (pos 0) (slot_of x) (keys.values k)));
   mutexes = listed (λ m. named_mutex (tid_at x) (mutexes m));
   rw_locks = locked_by x locks;
+  ports = ports;
 }
 
 -- who has a mutex

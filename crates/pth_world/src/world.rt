@@ -1,6 +1,6 @@
 //! The program with its threads.
 
-ghost use Rattle.std.specs.Prelude.{◌≡◌, ◌≢◌, ℕ, Option, Some, None, IfSome, IfOk, option_map, option_copied};
+ghost use Rattle.std.specs.Prelude.{◌≡◌, ◌≢◌, ℕ, Option, Some, None, option_map};
 ghost use Rattle.std.specs.Borrow.{Lends, sem};
 ghost use Rattle.pth_threads.specs.Threads.{slot_of, tid_at};
 ghost use Rattle.pth_tables.specs.contracts.counted_queues.CountedQueues.{the_row as queues_row};
@@ -24,6 +24,7 @@ mod kernel;
 mod locks;
 mod moves;
 mod places;
+mod ports;
 mod progress;
 mod reads;
 mod records;
@@ -38,6 +39,7 @@ use pth_cond::conditions::Conds;
 use pth_kernel::kernel::Kernel;
 use pth_lock::mutexes::Mutexes;
 use pth_lock::rwlocks::RwLocks;
+use pth_port::ports::Ports;
 use pth_queue::queue_set::QueueSet;
 use pth_ring::rings::Rings;
 use pth_store::cleanups::Cleanups;
@@ -50,8 +52,8 @@ use std::alloc::Global;
 use std::marker::Model;
 
 /// The program with its threads: their records, their queues and how far each is in its program, their attribute objects,
-/// events and rings of them, the conditions, the barriers, the kernel, what they stored and locked, the once controls that were
-/// used, and what the scheduler keeps of them.
+/// events and rings of them, the conditions, the barriers, the kernel, what they stored and locked, the message ports, the once
+/// controls that were used, and what the scheduler keeps of them.
 pub struct World<P: Program> {
     alloc: Global,
     program: P,
@@ -69,6 +71,7 @@ pub struct World<P: Program> {
     cleanups: Cleanups,
     mutexes: Mutexes,
     rw_locks: RwLocks,
+    ports: Ports,
     used: [bool; 64],
     running: Option<Tid>,
     preferred: Option<Tid>,
@@ -94,6 +97,7 @@ impl<P: Program> Drop for World<P> {
             cleanups: _,
             mutexes: _,
             rw_locks: _,
+            ports: _,
             used: _,
             running: _,
             preferred: _,
@@ -123,7 +127,7 @@ impl<P: Program> Model for World<P> {
       conditions = w.conditions;
       barriers = w.barriers;
       kernel = w.kernel;
-      store = stored_by w.threads (tables_of w.keys) (stacks_of w.cleanups) (mutexes_of w.mutexes) (locks_of w.rw_locks);
+      store = stored_by w.threads (tables_of w.keys) (stacks_of w.cleanups) (mutexes_of w.mutexes) (locks_of w.rw_locks) w.ports;
       used = w.used;
       scheduler = record {
         running = option_map number_of w.running;

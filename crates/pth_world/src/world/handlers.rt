@@ -2,7 +2,8 @@
 
 ghost use Rattle.std.specs.Prelude.{◌≡◌, ◌≢◌, ◌≤◌, true, Ok, IsNone};
 ghost use Rattle.pth_model.specs.Changes.{shares, uses};
-ghost use Rattle.pth_model.specs.State.{Control};
+ghost use Rattle.pth_model.specs.Looks.{holds};
+ghost use Rattle.pth_model.specs.State.{Control, State};
 ghost use Rattle.pth_numbered.specs.Operands.{number};
 ghost use Rattle.pth_world.specs.Once.{once_answer};
 ghost use Rattle.pth_world.specs.Shows.{Shows};
@@ -11,7 +12,7 @@ ghost use Rattle.pth_world.specs.Whole.{Whole};
 use crate::world::World;
 use pth_base::act::Act;
 use pth_base::errno::Errno;
-use pth_base::ids::HandlerId;
+use pth_base::ids::{CheckId, HandlerId};
 use pth_base::program::Program;
 
 // How many once controls there are.
@@ -27,6 +28,15 @@ impl<P: Program> World<P> {
         ensures same { self.new ≡ record self.old { shared = self.new.shared } }
     {
         self.program.act(h, arg, index, &mut self.shared)
+    }
+
+    /// Whether a check holds over the shared value (the function of a `PTH_EVENT_FUNC`). A number that no check can have stands for the
+    /// last one, 4,294,967,295, as it does for handlers.
+    pub fn check(&self, c: i64, arg: i64) -> bool
+        ensures { (s : State P P.State P.Shared) → Shows self.now s.control → result ≡ holds P.functions s c arg }
+    {
+        let check = CheckId(u32::try_from(c).unwrap_or(u32::MAX));
+        self.program.check(check, arg, &self.shared)
     }
 
     /// Whether it is the first time for a once control, which is used from now on (`pth_once`): EINVAL where it is not one from 0

@@ -1,6 +1,6 @@
 //! The records of threads: changes, new threads, and threads that are gone.
 
-ghost use Rattle.std.specs.Prelude.{◌≡◌, ◌≢◌, ◌<◌, ◌+◌, ◌↔◌, ℕ, ℤ, Bool, false, Option, Some, None, IfSome, IfOk, OnOk, OnErr, IsErrOf, option_copied, nat_lt, pos};
+ghost use Rattle.std.specs.Prelude.{◌≡◌, ◌≢◌, ◌<◌, ◌+◌, ◌↔◌, ℕ, ℤ, Bool, false, Some, None, IfSome, IfOk, OnOk, OnErr, IsErrOf, nat_lt};
 ghost use Rattle.pth_base.specs.Limits.{thread_limit};
 ghost use Rattle.pth_base.specs.Naming.{IsTied};
 ghost use Rattle.pth_kernel.specs.Kernel.{kernel_of};
@@ -40,6 +40,7 @@ use pth_kernel::kernel::Kernel;
 use pth_lock::mutexes::Mutexes;
 use pth_lock::rwlocks::RwLocks;
 use pth_model::progress::Progress;
+use pth_port::ports::Ports;
 use pth_queue::queue::Queue;
 use pth_ring::rings::Rings;
 use pth_store::cleanups::Cleanups;
@@ -118,6 +119,7 @@ impl<P: Program> World<P> {
         let barriers = Barriers::new(alloc);
         let keys = Keys::new(alloc);
         let cleanups = Cleanups::new(alloc);
+        let ports = Ports::new(alloc);
         World {
             alloc,
             program,
@@ -134,6 +136,7 @@ impl<P: Program> World<P> {
             cleanups,
             mutexes: room.mutexes,
             rw_locks: room.rw_locks,
+            ports,
             used: [false; 64],
             running: None,
             preferred: None,
@@ -158,6 +161,7 @@ impl<P: Program> World<P> {
         ensures one { IfOk result (λ w. w.threads.records.made ≡ 1) }
         ensures no_objects { IfOk result (λ w. w.attributes.made ≡ 0) }
         ensures no_events { IfOk result (λ w. w.events.made ≡ 0) }
+        ensures no_ports { IfOk result (λ w. w.store.ports.made ≡ 0) }
     {
         let mut world = World::without_threads(alloc, program, kernel)?;
         let main = match world.spawn(BodyId(0), 0, main_thread()) {

@@ -1,44 +1,10 @@
-use Rattle.std.proofs.Common.{◌≡◌, ◌∙◌, ap, sym, arith, refl}
-use Rattle.pth_base.specs.declared.errno.Errno.TheVariants.{EINVAL}
-use Rattle.pth_model.specs.Row.{Row, unbuilt}
-use Rattle.pth_model.specs.Rows.{row_of}
-use Rattle.pth_world.proofs.Telling.{quiet-refused}
+use Rattle.std.proofs.Common.{arith, refl}
 use Rattle.pth_base.specs.declared.mark.Mark.TheVariants.{Answered}
-use Rattle.pth_end.proofs.Answers.{refused_answered, answered_told, each_told}
-use Rattle.pth_calls.proofs.Plains.{is_of_code, other_facility, plain_awaits_none, plain_called, unbuilt_row}
+use Rattle.pth_end.proofs.Answers.{answered_told, each_told}
 use Rattle.std.proofs.lemmas.Result.{on_ok_weaker}
-use Rattle.pth_world.proofs.Frames.{frame_as, still_frame, one_at_most}
-use Rattle.pth_world.specs.Numbering.{Thread, Object, Event, no_numbers, one_of, one_of_each}
+use Rattle.pth_world.proofs.Frames.{frame_as, one_at_most}
+use Rattle.pth_world.specs.Numbering.{Thread, Object, Event, Port, no_numbers, one_of, one_of_each}
 use Rattle.pth_calls.proofs.plain.answer.Goals as goal
-
-pub returns-in-None-clause-told : goal.returns-in-None-clause-told
-returns-in-None-clause-told g c =
-    let none = sym c.facility.ensures ∙ c.in-None.is in
-    let called = plain_called c.args.call.now c.requires.plain in
-    answered_told c.args.w.now c.args.w.now _ _ _ (quiet-refused c.args.t c.args.call.now EINVAL (plain_awaits_none c.args.call.now c.requires.plain))
-    (refused_answered c.args.w.now EINVAL _ (λ s st. ap (λ (r : Row _ _ _). r.begin.verdict) (absurd {A = row_of g.P.Program.functions s c.args.t.0 c.args.call.now ≡ unbuilt} (called none))))
-
-pub returns-in_default-clause-told : goal.returns-in_default-clause-told
-returns-in_default-clause-told g c =
-    let not = c.in_default in
-    let other = other_facility _ (record {
-      library = not.not-Library;
-      attributes = not.not-Attributes;
-      threads = not.not-Threads;
-      cancellation = not.not-Cancellation;
-      utilities = not.not-Utilities;
-      events = not.not-Events;
-      keys = not.not-Keys;
-      cleanups = not.not-Cleanups;
-      mutexes = not.not-Mutexes;
-      rwlocks = not.not-Rwlocks;
-      conditions = not.not-Conditions;
-      barriers = not.not-Barriers;
-      io = not.not-Io;
-    }) in
-    let none = ap is_of_code (sym c.facility.ensures ∙ c.in-Some.is) ∙ other in
-    answered_told c.args.w.now c.args.w.now _ _ _ (quiet-refused c.args.t c.args.call.now EINVAL (plain_awaits_none c.args.call.now c.requires.plain))
-    (refused_answered c.args.w.now EINVAL _ (λ s st. ap (λ (r : Row _ _ _). r.begin.verdict) (unbuilt_row g.P.Program.functions s c.args.t.0 c.args.call.now (plain_called c.args.call.now c.requires.plain) none)))
 
 pub returns-in-Library-clause-told : goal.returns-in-Library-clause-told
 returns-in-Library-clause-told g c = answered_told c.args.w.now c.answer_library.new.w _ _ _ c.answer_library.ensures.quiet c.answer_library.ensures.answered
@@ -67,12 +33,6 @@ returns-in-Io-clause-told g c = answered_told c.args.w.now c.answer_descriptors.
 pub returns-in-Cancellation-clause-told : goal.returns-in-Cancellation-clause-told
 returns-in-Cancellation-clause-told g c = answered_told c.args.w.now c.answer_cancellation.new.w _ _ _ c.answer_cancellation.ensures.quiet c.answer_cancellation.ensures.answered
 
-pub returns-in-None-clause-frame : goal.returns-in-None-clause-frame
-returns-in-None-clause-frame g c = still_frame one_of_each c.args.w.now _ c.requires.runs c.requires.whole
-
-pub returns-in_default-clause-frame : goal.returns-in_default-clause-frame
-returns-in_default-clause-frame g c = still_frame one_of_each c.args.w.now _ c.requires.runs c.requires.whole
-
 pub returns-in-Library-clause-frame : goal.returns-in-Library-clause-frame
 returns-in-Library-clause-frame g c = frame_as no_numbers one_of_each c.args.w.now c.answer_library.new.w _ _ (λ k. omega arith) refl c.answer_library.ensures.frame
 
@@ -93,6 +53,9 @@ returns-in-Utilities-clause-frame g c = frame_as no_numbers one_of_each c.args.w
 
 pub returns-in-Keys-clause-frame : goal.returns-in-Keys-clause-frame
 returns-in-Keys-clause-frame g c = on_ok_weaker c.answer_keys.result (λ told. frame_as no_numbers one_of_each c.args.w.now c.answer_keys.new.w _ _ (λ k. omega arith) refl told) c.answer_keys.ensures.frame
+
+pub returns-in-Ports-clause-frame : goal.returns-in-Ports-clause-frame
+returns-in-Ports-clause-frame g c = on_ok_weaker c.answer_ports.result (λ told. frame_as (one_of Port) one_of_each c.args.w.now c.answer_ports.new.w _ _ (one_at_most Port) refl told) c.answer_ports.ensures.frame
 
 pub returns-in-Cleanups-clause-frame : goal.returns-in-Cleanups-clause-frame
 returns-in-Cleanups-clause-frame g c = on_ok_weaker c.answer_cleanups.result (λ told. frame_as no_numbers one_of_each c.args.w.now c.answer_cleanups.new.w _ _ (λ k. omega arith) refl told) c.answer_cleanups.ensures.frame

@@ -1,7 +1,7 @@
-use Rattle.std.proofs.Common.{inl, inr, SFits, w64, to_z-of_z, rules, refl}
-use Rattle.pth_base.specs.declared.errno.Errno.TheVariants.{EINVAL}
-use Rattle.pth_end.proofs.Answers.{answered_told, refused_answered}
-use Rattle.pth_end.proofs.Acting.{told_as, each_told_as, acted_key_set, acted_release, noted, quiet_note, quiet_set, quiet_notify, quiet_put}
+use Rattle.std.proofs.Common.{inl, inr, SFits, w64, to_z-of_z, rules}
+use Rattle.std.proofs.lemmas.Result.{IfOk-weaker}
+use Rattle.pth_end.proofs.Answers.{answered_told}
+use Rattle.pth_end.proofs.Acting.{told_as, each_told_as, acted_key_set, acted_release, acted_put, noted, quiet_note, quiet_set, quiet_notify}
 use Rattle.pth_end.proofs.acts.answer_act.Goals as goal
 
 pub returns-in-Note-clause-told : goal.returns-in-Note-clause-told
@@ -29,4 +29,7 @@ returns-in-Notify-clause-told g c =
 
 pub returns-in-Put-clause-told : goal.returns-in-Put-clause-told
 returns-in-Put-clause-told g c =
-    rw c.in-Put.is (answered_told c.args.w.now c.args.w.now _ _ _ (quiet_put c.args.t c.in-Put.field-0 c.in-Put.field-1 EINVAL) (refused_answered c.args.w.now EINVAL _ (λ s st. refl)))
+    let p : SFits w64 c.in-Put.p = search rules in
+    let v : SFits w64 c.in-Put.v = search rules in
+    let told = simp to_z-of_z at (IfOk-weaker c.put_message.result _ _ (λ a each. each c.args.t) c.put_message.ensures.told) in
+    rw c.in-Put.is (each_told_as c.args.w.now c.put_message.new.w _ _ c.put_message.result _ (acted_put c.args.t c.in-Put.p c.in-Put.v) told)

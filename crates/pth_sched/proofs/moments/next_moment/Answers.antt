@@ -15,7 +15,7 @@ loop-slot-init g c s st = record { done = arrival_times (kernel_of c.args.w.now.
 pub loop-slot-preserved : goal.loop-slot-preserved
 loop-slot-preserved g c s st =
     let name = λ (x : Slot). tid_at c.args.w.now.threads.records x.0 in
-    let own = moments_of s in
+    let own = moments_of g.P.Program.functions s in
     let all = arrival_times (kernel_of c.args.w.now.kernel) ++ flat_map own (map name c.args.slots.now) in
     let split = drop_more c.args.slots.now c.loop-slot.slot-index (record { 0 = 0 }) c.loop-slot-test.true in
     let so_far = subst (λ (l : List Slot). Counted c.args.w.now.kernel.now all (flat_map own (map name l)) c.loop-slot.best) split (c.loop-slot.invariant s st) in
@@ -24,15 +24,15 @@ loop-slot-preserved g c s st =
 pub returns-clause-moment : goal.returns-clause-moment
 returns-clause-moment g c s st =
     let name = λ (x : Slot). tid_at c.args.w.now.threads.records x.0 in
-    let own = moments_of s in
+    let own = moments_of g.P.Program.functions s in
     let k = kernel_of c.args.w.now.kernel in
     let none : drop c.loop-slot.slot-index c.args.slots.now ≡ [] = drop_all c.loop-slot.slot-index c.args.slots.now (omega arith) in
     all_counted k.now _ _ c.loop-slot.best (ap (λ (l : List Slot). flat_map own (map name l)) none) (c.loop-slot.invariant s st)
     ∙ ap (λ (l : List ℕ). least_after k.now (arrival_times k ++ flat_map own l)) (c.requires.waiting s.control st.control)
-    ∙ ap (λ (x : Kernel). least_after x.now (arrival_times x ++ moments s)) (sym st.control.kernel)
+    ∙ ap (λ (x : Kernel). least_after x.now (arrival_times x ++ moments g.P.Program.functions s)) (sym st.control.kernel)
 
 pub returns-clause-later : goal.returns-clause-later
-returns-clause-later g c = next_later c.args.w.now c.loop-slot.best c.requires.whole.sound (returns-clause-moment g c)
+returns-clause-later g c = next_later g.P.Program.functions c.args.w.now c.loop-slot.best c.requires.whole.sound (returns-clause-moment g c)
 
 pub returns-clause-within : goal.returns-clause-within
-returns-clause-within g c = next_within c.args.w.now c.loop-slot.best c.requires.whole.sound (returns-clause-moment g c)
+returns-clause-within g c = next_within g.P.Program.functions c.args.w.now c.loop-slot.best c.requires.whole.sound (returns-clause-moment g c)

@@ -11,4 +11,4 @@ use Rattle.pth_sched.proofs.moments.next_moment.Given as goal
 abbrev pub invariant-loop-slot : goal.invariant-loop-slot
 invariant-loop-slot g l =
     (s : State g.row.P.Denot g.row.P-State.Denot g.row.P-Shared.Denot) → StandsFor l.fn.w s
-    → Counted l.fn.w.kernel.now (arrival_times (kernel_of l.fn.w.kernel) ++ flat_map (moments_of s) (map (λ (x : Slot). tid_at l.fn.w.threads.records x.0) l.slots)) (flat_map (moments_of s) (map (λ (x : Slot). tid_at l.fn.w.threads.records x.0) (drop l.slot-index l.slots))) l.best
+    → Counted l.fn.w.kernel.now (arrival_times (kernel_of l.fn.w.kernel) ++ flat_map (moments_of g.P.Program.functions s) (map (λ (x : Slot). tid_at l.fn.w.threads.records x.0) l.slots)) (flat_map (moments_of g.P.Program.functions s) (map (λ (x : Slot). tid_at l.fn.w.threads.records x.0) (drop l.slot-index l.slots))) l.best

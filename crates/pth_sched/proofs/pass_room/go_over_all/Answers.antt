@@ -6,7 +6,7 @@ use Rattle.pth_threads.specs.Threads.{number_of, tid_at}
 use Rattle.pth_model.specs.Looks.{looks_at}
 use Rattle.pth_model.specs.Pass.{is_to_wake}
 use Rattle.pth_model.specs.RingWaits.{awaited_events}
-use Rattle.pth_model.specs.State.{Control, State}
+use Rattle.pth_model.specs.State.{State}
 use Rattle.pth_world.specs.Shows.{Shows, StandsFor}
 use Rattle.pth_world.specs.Whole.{Whole}
 use Rattle.pth_world.specs.World.{WorldOf, ThreadsBySlot}
@@ -16,7 +16,7 @@ use Rattle.pth_sched.proofs.pass_room.go_over_all.Goals as goal
 
 pub loop-slot-init : goal.loop-slot-init
 loop-slot-init g c = record {
-  over = rw c.clear.ensures.items (gone_none c.args.w.now _);
+  over = rw c.clear.ensures.items (gone_none g.P.Program.functions c.args.w.now _);
   few = (let none = ap length c.clear.ensures.items in omega (arith, none));
   room = (let kept = c.clear.ensures.capacity in omega (arith, kept));
 }
@@ -48,13 +48,13 @@ loop-slot-preserved g c = record {
       let name = λ (s : Slot). tid_at c.args.w.now.threads.records s.0 in
       let split = drop_more c.args.slots.now c.loop-slot.slot-index (record { 0 = 0 }) c.loop-slot-test.true in
       let threads = ap (λ (w : WorldOf _ _ _). w.threads) c.loop-slot.invariant.over.same in
-      let so_far = subst (λ (l : List Slot). GoneOver c.args.w.now c.loop-slot.w (map name c.args.slots.now) (map name l) (map number_of c.loop-slot.waking.items)) split c.loop-slot.invariant.over in
+      let so_far = subst (λ (l : List Slot). GoneOver g.P.Program.functions c.args.w.now c.loop-slot.w (map name c.args.slots.now) (map name l) (map number_of c.loop-slot.waking.items)) split c.loop-slot.invariant.over in
       let e = c.go_over.ensures in
       let is = ap (λ (x : ThreadsBySlot _). tid_at x.records (slice_index_or c.args.slots.now c.loop-slot.slot-index (record { 0 = 0 })).0) threads in
-      gone_more c.args.w.now c.loop-slot.w c.go_over.new.w _ _ _ _ _ so_far
-      (subst (λ (t : ℕ). (k : Control _ _ _) → Shows c.loop-slot.w k → Shows c.go_over.new.w (looks_at k (awaited_events k t))) is e.shows)
+      gone_more g.P.Program.functions c.args.w.now c.loop-slot.w c.go_over.new.w _ _ _ _ _ so_far
+      (subst (λ (t : ℕ). (s : State _ _ _) → StandsFor c.loop-slot.w s → Shows c.go_over.new.w (looks_at g.P.Program.functions s (awaited_events s.control t) s.control)) is e.shows)
       e.made e.same
-      (subst (λ (t : ℕ). (s : State _ _ _) → StandsFor c.loop-slot.w s → map number_of c.go_over.new.waking.items ≡ map number_of c.loop-slot.waking.items ++ (if is_to_wake s t then t ∷ [] else [])) is e.listed));
+      (subst (λ (t : ℕ). (s : State _ _ _) → StandsFor c.loop-slot.w s → map number_of c.go_over.new.waking.items ≡ map number_of c.loop-slot.waking.items ++ (if is_to_wake g.P.Program.functions s t then t ∷ [] else [])) is e.listed));
   few = (
       let so_far = c.loop-slot.invariant.few in
       let one = c.go_over.ensures.one in
@@ -69,12 +69,12 @@ pub returns-clause-listed : goal.returns-clause-listed
 returns-clause-listed g c =
     let name = λ (s : Slot). tid_at c.args.w.now.threads.records s.0 in
     let none : drop c.loop-slot.slot-index c.args.slots.now ≡ [] = drop_all c.loop-slot.slot-index c.args.slots.now (omega arith) in
-    let all = subst (λ (l : List Slot). GoneOver c.args.w.now c.loop-slot.w (map name c.args.slots.now) (map name l) (map number_of c.loop-slot.waking.items)) none c.loop-slot.invariant.over in
-    λ s st. gone_listed c.args.w.now c.loop-slot.w _ _ all s st (c.requires.waiting s.control st.control)
+    let all = subst (λ (l : List Slot). GoneOver g.P.Program.functions c.args.w.now c.loop-slot.w (map name c.args.slots.now) (map name l) (map number_of c.loop-slot.waking.items)) none c.loop-slot.invariant.over in
+    λ s st. gone_listed g.P.Program.functions c.args.w.now c.loop-slot.w _ _ all s st (c.requires.waiting s.control st.control)
 
 pub returns-clause-shows : goal.returns-clause-shows
 returns-clause-shows g c =
     let name = λ (s : Slot). tid_at c.args.w.now.threads.records s.0 in
     let none : drop c.loop-slot.slot-index c.args.slots.now ≡ [] = drop_all c.loop-slot.slot-index c.args.slots.now (omega arith) in
-    let all = subst (λ (l : List Slot). GoneOver c.args.w.now c.loop-slot.w (map name c.args.slots.now) (map name l) (map number_of c.loop-slot.waking.items)) none c.loop-slot.invariant.over in
-    λ k sh. gone_shows c.args.w.now c.loop-slot.w _ _ all k sh (c.requires.waiting k sh)
+    let all = subst (λ (l : List Slot). GoneOver g.P.Program.functions c.args.w.now c.loop-slot.w (map name c.args.slots.now) (map name l) (map number_of c.loop-slot.waking.items)) none c.loop-slot.invariant.over in
+    λ s st. gone_shows g.P.Program.functions c.args.w.now c.loop-slot.w _ _ all s st (c.requires.waiting s.control st.control)

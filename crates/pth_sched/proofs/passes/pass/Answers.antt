@@ -19,15 +19,15 @@ wake_all-requires-clause-wait g c =
     let state = state_of c.args.w.now in
     let stands = stands_for_state c.args.w.now c.requires.whole.sound in
     let listed = c.waking.ensures ∙ c.go_over.ensures.listed state stands in
-    subst (WaitOnce c.go_over.new.w) (sym listed) (once_seen c.args.w.now c.go_over.new.w c.go_over.ensures.same _ (to_wake_once c.args.w.now c.requires.whole.sound state stands))
+    subst (WaitOnce c.go_over.new.w) (sym listed) (once_seen c.args.w.now c.go_over.new.w c.go_over.ensures.same _ (to_wake_once c.args.w.now c.requires.whole.sound g.P.Program.functions state stands))
 
 pub returns-clause-ok : goal.returns-clause-ok
 returns-clause-ok g c =
-    on_ok_weaker c.wake_all.result (λ leads s st. pass_leads c.args.w.now c.go_over.new.w s st _ _ _ (c.waking.ensures ∙ c.go_over.ensures.listed s st) (c.go_over.ensures.shows s.control st.control) (ap (λ w. w.store) c.go_over.ensures.same) c.wake_all.new.w leads) c.wake_all.ensures.ok
+    on_ok_weaker c.wake_all.result (λ leads s st. pass_leads g.P.Program.functions c.args.w.now c.go_over.new.w s st _ _ _ (c.waking.ensures ∙ c.go_over.ensures.listed s st) (c.go_over.ensures.shows s st) (ap (λ w. w.store) c.go_over.ensures.same) c.wake_all.new.w leads) c.wake_all.ensures.ok
 
 pub returns-clause-err : goal.returns-clause-err
 returns-clause-err g c =
-    on_err_weaker c.wake_all.result (λ cut s st. pass_cut c.args.w.now c.go_over.new.w s st _ _ _ (c.waking.ensures ∙ c.go_over.ensures.listed s st) (c.go_over.ensures.shows s.control st.control) (ap (λ w. w.store) c.go_over.ensures.same) cut) c.wake_all.ensures.err
+    on_err_weaker c.wake_all.result (λ cut s st. pass_cut g.P.Program.functions c.args.w.now c.go_over.new.w s st _ _ _ (c.waking.ensures ∙ c.go_over.ensures.listed s st) (c.go_over.ensures.shows s st) (ap (λ w. w.store) c.go_over.ensures.same) cut) c.wake_all.ensures.err
 
 pub returns-clause-scheduler : goal.returns-clause-scheduler
 returns-clause-scheduler g c = on_ok_weaker c.wake_all.result (λ rest. scheduler_then _ _ _ (seen_rest _ _ c.go_over.ensures.made c.go_over.ensures.same) rest) c.wake_all.ensures.scheduler

@@ -8,7 +8,7 @@ returns-then-not-is_alone-clause-ok g c = λ s st.
     let until = c.known_until-until.result in
     let early : w.kernel.now < until = omega (arith, c.time.ensures.now, c.if-time-until.true) in
     let some : 0 < until = omega (arith, c.if-time-until.true) in
-    pass_leads_nowhere w s st c.requires.whole until early (c.known_until-until.ensures.dormant s st some) (sym (c.is_alone.ensures s.control st.control) ∙ c.if-not-is_alone.true) c.args.marks.now
+    pass_leads_nowhere w g.P.Program.functions s st c.requires.whole until early (c.known_until-until.ensures.dormant s st some) (sym (c.is_alone.ensures s.control st.control) ∙ c.if-not-is_alone.true) c.args.marks.now
 
 pub returns-then-not-is_alone-clause-calm : goal.returns-then-not-is_alone-clause-calm
 returns-then-not-is_alone-clause-calm g c = λ some. dormant_calms c.args.w.now c.known_until-until.result c.requires.whole (λ s st. c.known_until-until.ensures.dormant s st some)

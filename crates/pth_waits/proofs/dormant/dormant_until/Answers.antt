@@ -14,7 +14,7 @@ returns-in-Some-clause-dormant g c = λ s st some.
     let unasked = sym (c.may_be_canceled_at.ensures s.control st.control) ∙ c.if-may_be_canceled_at.false in
     let pending = rw to_z-of_z at c.ring_until.ensures.pending in
     subst (λ (u : ℕ). 0 < u → IsDormant s u t) (sym c.min.ensures)
-    (λ least. dormant_beside s t c.awaits_until-until.result a.result (a.ensures.awaited s.control st.control) (c.awaits_until-until.ensures.away s st (omega arith)) unasked c.ring_until.result _ c.in-Some.is (pending s.control st.control (omega arith))) some
+    (λ least. dormant_beside s t c.awaits_until-until.result a.result (a.ensures.awaited s.control st.control) (c.awaits_until-until.ensures.away s st (omega arith)) unasked c.ring_until.result _ c.in-Some.is (pending s st (omega arith))) some
 
 pub returns-in-Some-clause-later : goal.returns-in-Some-clause-later
 returns-in-Some-clause-later g c = λ s st q.
@@ -23,7 +23,7 @@ returns-in-Some-clause-later g c = λ s st q.
     let a = c.awaited_in-awaited.result in
     let is = c.awaited_in-awaited.ensures.awaited s.control st.control in
     let awaits = c.awaits_until-until.ensures.later s st (dormant_away s t (after_now s.control) a is q) in
-    let ring = (rw to_z-of_z at c.ring_until.ensures.later) s.control st.control (dormant_pending s t (after_now s.control) a is q _ c.in-Some.is) in
+    let ring = (rw to_z-of_z at c.ring_until.ensures.later) s st (dormant_pending s t (after_now s.control) a is q _ c.in-Some.is) in
     subst (λ (u : ℕ). now_of s.control < u) (sym c.min.ensures) (omega (arith, awaits, ring))
 
 pub returns-in-None-clause-dormant : goal.returns-in-None-clause-dormant
@@ -41,14 +41,14 @@ returns-in-None-clause-later g c = λ s st q.
 
 pub returns-in-Some-clause-told : goal.returns-in-Some-clause-told
 returns-in-Some-clause-told g c = λ s st undue.
-    returns-in-Some-clause-later g c s st (undue_dormant c.args.w.now c.requires.whole s st c.args.slot.0 c.requires.used undue)
+    returns-in-Some-clause-later g c s st (undue_dormant c.args.w.now c.requires.whole s st c.args.slot.0 c.requires.used g.P.Program.functions undue)
 
 pub returns-in-None-clause-told : goal.returns-in-None-clause-told
 returns-in-None-clause-told g c = λ s st undue.
-    returns-in-None-clause-later g c s st (undue_dormant c.args.w.now c.requires.whole s st c.args.slot.0 c.requires.used undue)
+    returns-in-None-clause-later g c s st (undue_dormant c.args.w.now c.requires.whole s st c.args.slot.0 c.requires.used g.P.Program.functions undue)
 
 pub returns-then-may_be_canceled_at-clause-told : goal.returns-then-may_be_canceled_at-clause-told
 returns-then-may_be_canceled_at-clause-told g c = λ s st undue.
-    let q = undue_dormant c.args.w.now c.requires.whole s st c.args.slot.0 c.requires.used undue in
+    let q = undue_dormant c.args.w.now c.requires.whole s st c.args.slot.0 c.requires.used g.P.Program.functions undue in
     let asked = sym (c.may_be_canceled_at.ensures s.control st.control) ∙ c.if-may_be_canceled_at.true in
     absurd (cc (sym q.unasked ∙ asked))

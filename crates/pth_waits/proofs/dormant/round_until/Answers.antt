@@ -9,26 +9,26 @@ pub round-init : goal.round-init
 round-init g c = record { used = c.requires.used; so_far = pends_none c.args.w.now _ _ c.requires.begins c.never-until.ensures.later }
 
 pub returns-then-at-first-clause-pending : goal.returns-then-at-first-clause-pending
-returns-then-at-first-clause-pending g c = λ k sh.
+returns-then-at-first-clause-pending g c = λ s st.
     let w = c.args.w.now in
     let e = number_at w.events c.args.first.0 in
     let spec = rw c.rings-rings.ensures at c.spec_at.ensures in
     let named = rw (c.rings-rings.ensures) at c.id_at.ensures in
     let here = finds_at w e _ c.found_until.result c.spec_at.result.now spec (rw named at c.found_until.ensures.pending) in
     let later = later_at w e _ c.found_until.result c.spec_at.result.now spec c.round.invariant.so_far.within (rw named at c.found_until.ensures.later) in
-    subst (λ (u : ℕ). AreFoundPending k u (k.events.rings e)) (sym c.min-until.ensures)
-    (pends_all w e _ _ c.round.until c.found_until.result c.round.invariant.so_far later here (rw c.rings-rings.ensures at c.next_at-at.ensures.round) (ap (number_at w.events) c.if-at-first.true) k sh)
+    subst (λ (u : ℕ). AreFoundPending s u (s.control.events.rings e)) (sym c.min-until.ensures)
+    (pends_all w e _ _ c.round.until c.found_until.result c.round.invariant.so_far later here (rw c.rings-rings.ensures at c.next_at-at.ensures.round) (ap (number_at w.events) c.if-at-first.true) s st)
 
 pub returns-then-at-first-clause-later : goal.returns-then-at-first-clause-later
-returns-then-at-first-clause-later g c = λ k sh finds.
+returns-then-at-first-clause-later g c = λ s st finds.
     let w = c.args.w.now in
     let e = number_at w.events c.args.first.0 in
     let spec = rw c.rings-rings.ensures at c.spec_at.ensures in
     let named = rw (c.rings-rings.ensures) at c.id_at.ensures in
     let here = finds_at w e _ c.found_until.result c.spec_at.result.now spec (rw named at c.found_until.ensures.pending) in
     let later = later_at w e _ c.found_until.result c.spec_at.result.now spec c.round.invariant.so_far.within (rw named at c.found_until.ensures.later) in
-    subst (λ (u : ℕ). now_of k < u) (sym c.min-until.ensures)
-    (all_later w e _ _ c.round.until c.found_until.result c.round.invariant.so_far later here (rw c.rings-rings.ensures at c.next_at-at.ensures.round) k sh finds)
+    subst (λ (u : ℕ). now_of s.control < u) (sym c.min-until.ensures)
+    (all_later w e _ _ c.round.until c.found_until.result c.round.invariant.so_far later here (rw c.rings-rings.ensures at c.next_at-at.ensures.round) s st finds)
 
 pub round-preserved : goal.round-preserved
 round-preserved g c =

@@ -1,9 +1,11 @@
-use Rattle.std.proofs.Common.{◌≡◌, ◌==◌, true, false, refl, ap, sym, ◌∙◌, rules}
+use Rattle.std.proofs.Common.{◌≡◌, ◌==◌, true, false, refl, ap, sym, ◌∙◌, arith, rules}
 use Rattle.pth_base.specs.declared.errno.Errno.TheVariants.{EPERM}
-use Rattle.pth_model.specs.Resources.{store_of_only}
+use Rattle.pth_port.specs.Ports.{names_of}
+use Rattle.pth_model.specs.Resources.{Store, store_of_only}
 use Rattle.pth_model.specs.State.{main}
 use Rattle.pth_world.proofs.Frames.{still_frame}
-use Rattle.pth_world.specs.Numbering.{no_numbers}
+use Rattle.pth_world.specs.Numbering.{Thread, Object, Event, Port, no_numbers}
+use Rattle.pth_world.specs.World.{WorldOf}
 use Rattle.pth_end.proofs.Framing.{done_frame, refused_goes}
 use Rattle.pth_waits.proofs.Kills.{kill_refused, kill_ends, kill-told}
 use Rattle.pth_waits.proofs.library_ends.kill.Goals as goal
@@ -32,4 +34,19 @@ returns-clause-goes g c =
         tells = rw c.requires.call at c.in_ok-answer_call.ensures.ok;
       });
       cut = tt;
+    }
+
+-- the ports are left, and so is the count of those that were made
+pub returns-clause-frame : goal.returns-clause-frame
+unfolding names_of
+returns-clause-frame g c =
+    let v = c.vanish_all_but.ensures in
+    let objects = ap (λ (w : WorldOf _ _ _). w.attributes.made) v.same in
+    let ports = ap (λ (x : Store). x.ports.made) v.store in
+    record {
+      whole = v.whole;
+      runs = ap (λ (w : WorldOf _ _ _). w.scheduler.running) v.same ∙ c.requires.runs;
+      made = elim [ Thread ↦ omega (arith, v.made) | Object ↦ omega (arith, objects) | Event ↦ omega (arith, v.events) | Port ↦ omega (arith, ports) ];
+      ranks = v.ranks;
+      preferred = ap (λ (w : WorldOf _ _ _). w.scheduler.preferred) v.same;
     }

@@ -10,11 +10,11 @@ use Rattle.pth_waits.proofs.Looking.{none_shows}
 use Rattle.pth_waits.proofs.looks.look_at_ring.Goals as goal
 
 pub returns-in-None-clause-shows : goal.returns-in-None-clause-shows
-returns-in-None-clause-shows g c k sh =
+returns-in-None-clause-shows g c s st =
     let is : to_z w64 (of_z w64 c.args.e) ≡ c.args.e = omega (arith, ints) in
-    none_shows c.args.w.now (number c.args.e) k sh (k.events.rings (number c.args.e)) (ap (λ (y : Events). y.rings (number c.args.e)) sh.events ∙ (rw (c.rings.ensures, is) at c.in-None.ensures.no_ring))
+    none_shows g.P.Program.functions c.args.w.now (number c.args.e) s st.control (s.control.events.rings (number c.args.e)) (ap (λ (y : Events). y.rings (number c.args.e)) st.control.events ∙ (rw (c.rings.ensures, is) at c.in-None.ensures.no_ring))
 
 pub returns-in-Some-clause-shows : goal.returns-in-Some-clause-shows
-returns-in-Some-clause-shows g c k sh =
+returns-in-Some-clause-shows g c s st =
     let is : to_z w64 (of_z w64 c.args.e) ≡ c.args.e = omega (arith, ints) in
-    subst (λ (n : ℕ). Shows c.look_round.new.w (looks_at k (k.events.rings n))) (rw (c.rings.ensures, is) at c.in-Some.ensures.named) (c.look_round.ensures.shows k sh)
+    subst (λ (n : ℕ). Shows c.look_round.new.w (looks_at g.P.Program.functions s (s.control.events.rings n) s.control)) (rw (c.rings.ensures, is) at c.in-Some.ensures.named) (c.look_round.ensures.shows s st)

@@ -8,7 +8,7 @@ use Rattle.pth_waits.proofs.looks.look_round.Given as goal
 abbrev pub invariant-round : goal.invariant-round
 invariant-round g l = record {
   used : number_at l.fn.w.events l.at.0 ≢ 0;
-  so_far : LookedSoFar l.fn.w l.w (number_at l.fn.w.events l.first.0) (number_at l.fn.w.events l.at.0) l.come;
+  so_far : LookedSoFar g.P.Program.functions l.fn.w l.w (number_at l.fn.w.events l.first.0) (number_at l.fn.w.events l.at.0) l.come;
 }
 
 abbrev pub decreases-round : goal.decreases-round

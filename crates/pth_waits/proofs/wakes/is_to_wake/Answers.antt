@@ -12,7 +12,7 @@ pub returns-then-has_come_for-clause-wakes : goal.returns-then-has_come_for-clau
 returns-then-has_come_for-clause-wakes g c s st =
     let t = tid_at c.args.w.now.threads.records c.args.slot.0 in
     let may = may_be_canceled s.control t in
-    c.if-has_come_for.true ∙ sym (ap (λ (b : Bool). b || may) c.if-has_come_for.true) ∙ due_or (wakes t s) (comes_for s.control t) may c.has_come_for.result (c.has_come_for.ensures.wakes s st)
+    c.if-has_come_for.true ∙ sym (ap (λ (b : Bool). b || may) c.if-has_come_for.true) ∙ due_or (wakes t s) (comes_for g.P.Program.functions s t) may c.has_come_for.result (c.has_come_for.ensures.wakes s st)
 
 pub returns-else-has_come_for-clause-wakes : goal.returns-else-has_come_for-clause-wakes
 unfolding may_be_canceled
@@ -20,6 +20,6 @@ returns-else-has_come_for-clause-wakes g c s st =
     let k = s.control in
     let t = tid_at c.args.w.now.threads.records c.args.slot.0 in
     let may = may_be_canceled k t in
-    (rw c.has_come_for.ensures.same at c.may_be_canceled_at.ensures) (looks_at k (awaited_events k t)) (rw c.has_come_for.ensures.same at (c.has_come_for.ensures.shows k st.control))
+    (rw c.has_come_for.ensures.same at c.may_be_canceled_at.ensures) (looks_at g.P.Program.functions s (awaited_events k t) k) (rw c.has_come_for.ensures.same at (c.has_come_for.ensures.shows s st))
     ∙ sym (ap (λ (b : Bool). b || may) c.if-has_come_for.false)
-    ∙ due_or (wakes t s) (comes_for k t) may c.has_come_for.result (c.has_come_for.ensures.wakes s st)
+    ∙ due_or (wakes t s) (comes_for g.P.Program.functions s t) may c.has_come_for.result (c.has_come_for.ensures.wakes s st)

@@ -22,13 +22,13 @@ pub returns-clause-ok : goal.returns-clause-ok
 returns-clause-ok g c =
     on_ok_weaker c.pass_unless_calm.result (λ leads x st.
     let inside = subst (λ m. Stands m x) (sym c.self.view_is) st in
-    close_makes _ x inside c.args.t.0 c.pass_unless_calm.new.w _ _ (leads _ (turn_over _ x inside c.args.t.0 c.end_turn.new.w (c.end_turn.ensures.shows x.state.control inside.world.control) c.end_turn.ensures.store))) c.pass_unless_calm.ensures.ok
+    close_makes _ x inside g.P.Program.functions c.args.t.0 c.pass_unless_calm.new.w _ _ (leads _ (turn_over _ x inside c.args.t.0 c.end_turn.new.w (c.end_turn.ensures.shows x.state.control inside.world.control) c.end_turn.ensures.store))) c.pass_unless_calm.ensures.ok
 
 pub returns-clause-err : goal.returns-clause-err
 returns-clause-err g c =
     on_err_weaker c.pass_unless_calm.result (λ cut x st.
     let inside = subst (λ m. Stands m x) (sym c.self.view_is) st in
-    rw (closes_marks x.turn c.args.t.0 x.state) (cut _ (turn_over _ x inside c.args.t.0 c.end_turn.new.w (c.end_turn.ensures.shows x.state.control inside.world.control) c.end_turn.ensures.store))) c.pass_unless_calm.ensures.err
+    rw (closes_marks g.P.Program.functions x.turn c.args.t.0 x.state) (cut _ (turn_over _ x inside c.args.t.0 c.end_turn.new.w (c.end_turn.ensures.shows x.state.control inside.world.control) c.end_turn.ensures.store))) c.pass_unless_calm.ensures.err
 
 pub returns-clause-ranks : goal.returns-clause-ranks
 returns-clause-ranks g c =

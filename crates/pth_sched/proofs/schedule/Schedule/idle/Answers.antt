@@ -10,9 +10,9 @@ returns-in_err-move_to-in-Some-clause-err g c =
     let p = err_from_is_err_and c.from_residual.result c.from_residual.ensures.1 in
     rw p.1 (λ x st.
     let inside = subst (λ m. Stands m x) (sym c.self.view_is) st in
-    cut_as c.move_to.new.self _ _ (moves_as x.turn x.state _ (c.in-Some.ensures.moment x.state inside.world)) _ _ (c.in_err-move_to-in-Some.ensures.err x inside))
+    cut_as c.move_to.new.self _ _ (moves_as g.P.Program.functions x.turn x.state _ (c.in-Some.ensures.moment x.state inside.world)) _ _ (c.in_err-move_to-in-Some.ensures.err x inside))
 
 pub returns-in_ok-move_to-in-Some-clause-moves : goal.returns-in_ok-move_to-in-Some-clause-moves
 returns-in_ok-move_to-in-Some-clause-moves g c = λ yes x st.
     let inside = subst (λ m. Stands m x) (sym c.self.view_is) st in
-    makes_as _ _ _ (moves_as x.turn x.state _ (c.in-Some.ensures.moment x.state inside.world)) _ _ (c.in_ok-move_to-in-Some.ensures.ok x inside)
+    makes_as _ _ _ (moves_as g.P.Program.functions x.turn x.state _ (c.in-Some.ensures.moment x.state inside.world)) _ _ (c.in_ok-move_to-in-Some.ensures.ok x inside)

@@ -9,4 +9,4 @@ returns-then-not-branch-clause-ok g c = λ x st.
     let none = c.if-not-branch.true in
     let same = c.in_ok-idle.ensures.stays none in
     let inside = subst (λ m. Stands m x) (sym (c.self.view_is ∙ same.0)) st in
-    stall_makes _ x inside _ _ same.1 ((no_moment_as _ _ (c.in_ok-idle.ensures.some x st)).0 none)
+    stall_makes _ x inside g.P.Program.functions _ _ same.1 ((no_moment_as _ _ (c.in_ok-idle.ensures.some x st)).0 none)

@@ -14,11 +14,11 @@ returns-clause-ok g c =
     on_ok_weaker c.pass.result (λ makes x st.
     let inside = subst (λ m. Stands m x) (sym c.self.view_is) st in
     let moved = moved_stands c.args.moment x _ _ refl c.set_time.ensures.shows (ap (λ w. w.store) c.set_time.ensures.same) inside in
-    move_makes c.args.moment x _ _ _ (c.in_ok-push.ensures.ok) _ (makes _ moved)) c.pass.ensures.ok
+    move_makes c.args.moment x g.P.Program.functions _ _ _ (c.in_ok-push.ensures.ok) _ (makes _ moved)) c.pass.ensures.ok
 
 pub returns-clause-err : goal.returns-clause-err
 returns-clause-err g c =
     on_err_weaker c.pass.result (λ cut x st.
     let inside = subst (λ m. Stands m x) (sym c.self.view_is) st in
     let moved = moved_stands c.args.moment x _ _ refl c.set_time.ensures.shows (ap (λ w. w.store) c.set_time.ensures.same) inside in
-    move_cut c.args.moment x _ _ _ (c.in_ok-push.ensures.ok) (cut _ moved)) c.pass.ensures.err
+    move_cut c.args.moment x g.P.Program.functions _ _ _ (c.in_ok-push.ensures.ok) (cut _ moved)) c.pass.ensures.err

@@ -11,7 +11,7 @@ returns-clause-rests g c =
     let stands = c.in_ok-world.ensures.stands in
     record {
       keeps = record {
-        going = start_going g.P.Program.functions _ _ stands c.in_ok-world.ensures.whole c.in_ok-world.ensures.one c.in_ok-world.ensures.no_objects c.in_ok-world.ensures.no_events;
+        going = start_going g.P.Program.functions _ _ stands c.in_ok-world.ensures.whole c.in_ok-world.ensures.one c.in_ok-world.ensures.no_objects c.in_ok-world.ensures.no_events c.in_ok-world.ensures.no_ports;
         ranks = start_roofed g.P.Program.functions _ _ stands (start_nobody g.P.Program.functions _ _ stands);
       };
       closed = λ goes nobody. refl;

@@ -8,7 +8,7 @@ pub returns-clause-ok : goal.returns-clause-ok
 returns-clause-ok g c =
     on_ok_weaker c.pass.result (λ leads x st.
     let inside = subst (λ m. Stands m x) (sym c.self.view_is) st in
-    pass_makes _ _ x _ _ inside refl (leads x.state inside.world)) c.pass.ensures.ok
+    pass_makes _ _ g.P.Program.functions x _ _ inside refl (leads x.state inside.world)) c.pass.ensures.ok
 
 pub returns-clause-err : goal.returns-clause-err
 returns-clause-err g c =

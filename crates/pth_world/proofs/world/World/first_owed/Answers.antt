@@ -12,4 +12,4 @@ returns g c =
     let w = c.self.inside in
     let e = rw (← c.self.view_is) at c.slot-slot.ensures.slot in
     let few : c.args.t.0 < name_limit = search (arith, rules) in
-    rw (← c.self.view_is) (c.first_live.ensures ∙ sym (first_live_is w.threads (tables_of w.keys) (stacks_of w.cleanups) (mutexes_of w.mutexes) (locks_of w.rw_locks) c.args.t.0 c.slot-slot.result.0 c.args.from e few))
+    rw (← c.self.view_is) (c.first_live.ensures ∙ sym (first_live_is w.threads (tables_of w.keys) (stacks_of w.cleanups) (mutexes_of w.mutexes) (locks_of w.rw_locks) w.ports c.args.t.0 c.slot-slot.result.0 c.args.from e few))

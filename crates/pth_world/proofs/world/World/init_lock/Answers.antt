@@ -1,4 +1,4 @@
-use Rattle.std.proofs.Common.{◌≡◌, ◌<◌, ◌∙◌, ap, sym, subst, arith}
+use Rattle.std.proofs.Common.{refl, ◌≡◌, ◌<◌, ◌∙◌, ap, sym, subst, arith}
 use Rattle.std.proofs.lemmas.Int.{ints}
 use mir.Syntax.{w64}
 use mir.Val.{to_z, of_z}
@@ -27,12 +27,12 @@ returns-clause-changes g c =
     let w = c.self.inside in
     let is_number : to_z w64 (of_z w64 c.args.l) ≡ c.args.l = omega (arith, ints) in
     let low : object_named c.args.l < name_limit = object_low c.args.l (omega (arith, ints)) in
-    rw (← c.self.view_is) (on_ok c.init.result (rw is_number at c.init.ensures.changes) (λ is. ap (λ (z : LockTables). store_of (stored_by w.threads (tables_of w.keys) (stacks_of w.cleanups) (mutexes_of w.mutexes) z)) is ∙ locks_set w.threads (tables_of w.keys) (stacks_of w.cleanups) (mutexes_of w.mutexes) (locks_of w.rw_locks) _ _ (lock_initialised_read w.threads (locks_of w.rw_locks) (object_named c.args.l) low)))
+    rw (← c.self.view_is) (on_ok c.init.result (rw is_number at c.init.ensures.changes) (λ is. ap (λ (z : LockTables). store_of (stored_by w.threads (tables_of w.keys) (stacks_of w.cleanups) (mutexes_of w.mutexes) z w.ports)) is ∙ locks_set w.threads (tables_of w.keys) (stacks_of w.cleanups) (mutexes_of w.mutexes) (locks_of w.rw_locks) w.ports _ _ (lock_initialised_read w.threads (locks_of w.rw_locks) (object_named c.args.l) low)))
 
 pub returns-clause-keeps : goal.returns-clause-keeps
 returns-clause-keeps g c =
     let w = c.self.inside in
     let changes = rw (← c.self.view_is) at (returns-clause-changes g c) in
-    rw (← c.self.view_is) (stored_keeps _ _ (λ u dead h. either c.init.result changes c.init.ensures.refused
-    (λ is. subst (λ (s : Store). HasNothing s u) (sym is) (nothing_in_locks _ u _ h (no_lock_initialised u (store_of (stored_by w.threads (tables_of w.keys) (stacks_of w.cleanups) (mutexes_of w.mutexes) (locks_of w.rw_locks))).rw_locks (object_named c.args.l) h.locks)))
-    (λ is. subst (λ (y : LocksOf). HasNothing (store_of (stored_by w.threads (tables_of w.keys) (stacks_of w.cleanups) (mutexes_of w.mutexes) (locks_of y))) u) (sym is) h)))
+    rw (← c.self.view_is) (stored_keeps _ _ refl (λ u dead h. either c.init.result changes c.init.ensures.refused
+    (λ is. subst (λ (s : Store). HasNothing s u) (sym is) (nothing_in_locks _ u _ h (no_lock_initialised u (store_of (stored_by w.threads (tables_of w.keys) (stacks_of w.cleanups) (mutexes_of w.mutexes) (locks_of w.rw_locks) w.ports)).rw_locks (object_named c.args.l) h.locks)))
+    (λ is. subst (λ (y : LocksOf). HasNothing (store_of (stored_by w.threads (tables_of w.keys) (stacks_of w.cleanups) (mutexes_of w.mutexes) (locks_of y) w.ports)) u) (sym is) h)))

@@ -17,4 +17,4 @@ returns g c =
     let few : c.args.t.0 < name_limit = search (arith, rules) in
     let is_key : to_z w64 (of_z w64 c.args.k) ≡ c.args.k = omega (arith, ints) in
     let low : key_named c.args.k < name_limit = named_low c.args.k (omega (arith, ints)) in
-    rw (← c.self.view_is) ((rw is_key at c.get.ensures) ∙ sym (get_answer_is w.threads (tables_of w.keys) (stacks_of w.cleanups) (mutexes_of w.mutexes) (locks_of w.rw_locks) c.args.t.0 c.slot-slot.result.0 e few c.args.k low))
+    rw (← c.self.view_is) ((rw is_key at c.get.ensures) ∙ sym (get_answer_is w.threads (tables_of w.keys) (stacks_of w.cleanups) (mutexes_of w.mutexes) (locks_of w.rw_locks) w.ports c.args.t.0 c.slot-slot.result.0 e few c.args.k low))

@@ -1,6 +1,6 @@
 use Rattle.std.proofs.Common.{◌∙◌, ap, false, arith}
 use Rattle.pth_kernel.specs.Kernel.{kernel_of}
-use Rattle.pth_world.specs.Numbering.{Thread, Object, Event}
+use Rattle.pth_world.specs.Numbering.{Thread, Object, Event, Port}
 use Rattle.pth_world.specs.Store.{store_of}
 use Rattle.pth_world.specs.World.{WorldOf}
 use Rattle.pth_world.proofs.Starts.{with_main, main_known, main_new, start_stands}
@@ -11,6 +11,7 @@ spawn-requires-clause-few g c = elim [
   | Thread ↦ (let none = c.in_ok-world.ensures.made in omega arith)
   | Object ↦ (let none = c.in_ok-world.ensures.objects in omega arith)
   | Event ↦ (let none = c.in_ok-world.ensures.events in omega arith)
+  | Port ↦ (let none = c.in_ok-world.ensures.ports in omega arith)
 ]
 
 pub make_ready-requires-clause-known : goal.make_ready-requires-clause-known

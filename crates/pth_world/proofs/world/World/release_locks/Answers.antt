@@ -1,4 +1,4 @@
-use Rattle.std.proofs.Common.{◌<◌, ◌∙◌, ap, arith, rules}
+use Rattle.std.proofs.Common.{refl, ◌<◌, ◌∙◌, ap, arith, rules}
 use Rattle.pth_lock.specs.Mutexes.{mutexes_of}
 use Rattle.pth_lock.specs.RwLocks.{LockTables, tables_of as locks_of}
 use Rattle.pth_store.specs.Cleanups.{stacks_of}
@@ -26,11 +26,11 @@ returns-clause-changes g c =
     let sound = rw (← c.self.view_is) at c.requires.sound in
     let e = rw (← c.self.view_is) at c.slot-slot.ensures.slot in
     let few : c.args.t.0 < name_limit = search (arith, rules) in
-    rw (← c.self.view_is) (ap (λ (z : LockTables). store_of (stored_by w.threads (tables_of w.keys) (stacks_of w.cleanups) (mutexes_of w.mutexes) z)) c.release_all.ensures.changes
-    ∙ locks_set w.threads (tables_of w.keys) (stacks_of w.cleanups) (mutexes_of w.mutexes) (locks_of w.rw_locks) _ _ (locks_left_read w.threads (locks_of w.rw_locks) c.args.t.0 c.slot-slot.result.0 sound.tied e few))
+    rw (← c.self.view_is) (ap (λ (z : LockTables). store_of (stored_by w.threads (tables_of w.keys) (stacks_of w.cleanups) (mutexes_of w.mutexes) z w.ports)) c.release_all.ensures.changes
+    ∙ locks_set w.threads (tables_of w.keys) (stacks_of w.cleanups) (mutexes_of w.mutexes) (locks_of w.rw_locks) w.ports _ _ (locks_left_read w.threads (locks_of w.rw_locks) c.args.t.0 c.slot-slot.result.0 sound.tied e few))
 
 pub returns-clause-keeps : goal.returns-clause-keeps
 returns-clause-keeps g c =
     let w = c.self.inside in
     let changes = rw (← c.self.view_is) at (returns-clause-changes g c) in
-    rw (← c.self.view_is) (stored_keeps _ _ (λ u dead h. rw changes (nothing_in_locks _ u _ h (no_lock_left u (store_of (stored_by w.threads (tables_of w.keys) (stacks_of w.cleanups) (mutexes_of w.mutexes) (locks_of w.rw_locks))).rw_locks c.args.t.0 h.locks))))
+    rw (← c.self.view_is) (stored_keeps _ _ refl (λ u dead h. rw changes (nothing_in_locks _ u _ h (no_lock_left u (store_of (stored_by w.threads (tables_of w.keys) (stacks_of w.cleanups) (mutexes_of w.mutexes) (locks_of w.rw_locks) w.ports)).rw_locks c.args.t.0 h.locks))))

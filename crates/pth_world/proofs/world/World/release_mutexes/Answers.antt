@@ -1,4 +1,4 @@
-use Rattle.std.proofs.Common.{◌∙◌, ap, arith}
+use Rattle.std.proofs.Common.{refl, ◌∙◌, ap, arith}
 use Rattle.pth_lock.specs.Mutexes.{MutexTable, mutexes_of}
 use Rattle.pth_lock.specs.RwLocks.{tables_of as locks_of}
 use Rattle.pth_store.specs.Cleanups.{stacks_of}
@@ -24,10 +24,10 @@ returns-clause-changes g c =
     let w = c.self.inside in
     let sound = rw (← c.self.view_is) at c.requires.sound in
     let e = rw (← c.self.view_is) at c.slot-slot.ensures.slot in
-    rw (← c.self.view_is) (ap (λ (z : MutexTable). store_of (stored_by w.threads (tables_of w.keys) (stacks_of w.cleanups) z (locks_of w.rw_locks))) c.release_all.ensures.changes
-    ∙ mutexes_set w.threads (tables_of w.keys) (stacks_of w.cleanups) (mutexes_of w.mutexes) (locks_of w.rw_locks) _ _ (mutexes_left_read w.threads (mutexes_of w.mutexes) c.args.t.0 c.slot-slot.result.0 sound.tied e))
+    rw (← c.self.view_is) (ap (λ (z : MutexTable). store_of (stored_by w.threads (tables_of w.keys) (stacks_of w.cleanups) z (locks_of w.rw_locks) w.ports)) c.release_all.ensures.changes
+    ∙ mutexes_set w.threads (tables_of w.keys) (stacks_of w.cleanups) (mutexes_of w.mutexes) (locks_of w.rw_locks) w.ports _ _ (mutexes_left_read w.threads (mutexes_of w.mutexes) c.args.t.0 c.slot-slot.result.0 sound.tied e))
 
 pub returns-clause-keeps : goal.returns-clause-keeps
 returns-clause-keeps g c =
     let changes = rw (← c.self.view_is) at (returns-clause-changes g c) in
-    rw (← c.self.view_is) (stored_keeps _ _ (λ u dead h. rw changes (nothing_in_mutexes _ u _ h (no_mutex_left u c.args.t.0 _ h.mutexes))))
+    rw (← c.self.view_is) (stored_keeps _ _ refl (λ u dead h. rw changes (nothing_in_mutexes _ u _ h (no_mutex_left u c.args.t.0 _ h.mutexes))))

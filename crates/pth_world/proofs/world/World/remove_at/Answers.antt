@@ -20,7 +20,7 @@ returns-clause-store g c =
     let tied = rw (← c.self.view_is) at c.requires.tied in
     let e = rw (← c.self.view_is) at c.requires.at in
     let few : c.args.t.0 < name_limit = search (arith, rules) in
-    rw (← c.self.view_is) (forgets c.remove.new.self refl refl c.release_all.ensures.changes c.release_all-2.ensures.changes ∙ removed_is w.threads (tables_of w.keys) (stacks_of w.cleanups) (mutexes_of w.mutexes) (locks_of w.rw_locks) c.args.t.0 c.args.s.0 tied e few c.remove.new.self c.remove.ensures)
+    rw (← c.self.view_is) (forgets c.remove.new.self _ refl refl c.release_all.ensures.changes c.release_all-2.ensures.changes ∙ removed_is w.threads (tables_of w.keys) (stacks_of w.cleanups) (mutexes_of w.mutexes) (locks_of w.rw_locks) w.ports c.args.t.0 c.args.s.0 tied e few c.remove.new.self c.remove.ensures)
 
 pub returns-clause-still : goal.returns-clause-still
 returns-clause-still g c =
@@ -28,4 +28,4 @@ returns-clause-still g c =
     let tied = rw (← c.self.view_is) at c.requires.tied in
     let e = rw (← c.self.view_is) at c.requires.at in
     let few : c.args.t.0 < name_limit = search (arith, rules) in
-    rw (← c.self.view_is) (λ nothing. keeps c.remove.new.self (tables_of w.keys) (stacks_of w.cleanups) c.release_all.ensures.changes c.release_all-2.ensures.changes ∙ removed_still w.threads (tables_of w.keys) (stacks_of w.cleanups) (mutexes_of w.mutexes) (locks_of w.rw_locks) c.args.t.0 c.args.s.0 tied e few c.remove.new.self c.remove.ensures nothing)
+    rw (← c.self.view_is) (λ nothing. keeps c.remove.new.self (tables_of w.keys) (stacks_of w.cleanups) _ c.release_all.ensures.changes c.release_all-2.ensures.changes ∙ removed_still w.threads (tables_of w.keys) (stacks_of w.cleanups) (mutexes_of w.mutexes) (locks_of w.rw_locks) w.ports c.args.t.0 c.args.s.0 tied e few c.remove.new.self c.remove.ensures nothing)
