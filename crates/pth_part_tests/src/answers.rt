@@ -1,4 +1,4 @@
-//! What a thread of a script keeps of a message, which no call is answered yet.
+//! What a thread of a script keeps of a message.
 
 use crate::comparison::same_bytes;
 use crate::lines::lines_of;

@@ -1,4 +1,4 @@
-//! Checks of scripts, which no event asks for yet.
+//! Checks of scripts.
 
 use crate::comparison::same_text;
 use pth_base::ids::CheckId;

@@ -26,7 +26,7 @@ pub fn lines_of(alloc: Global, marks: &[Mark]) -> Result<Text, OutOfMemory> {
 }
 
 const MARKS: [(Mark, &str); 12] = [
-    // marks that no call tells yet
+    // marks of waits
     (
         Mark::Retakes {
             tid: Tid(5),
@@ -48,7 +48,7 @@ const MARKS: [(Mark, &str); 12] = [
         },
         "t4294967295 withdraws 4\n",
     ),
-    // answers that no call has yet
+    // answers
     (
         Mark::Answered {
             tid: Tid(1),

@@ -17,6 +17,7 @@ use pth_kernel::kernel::Kernel;
 use pth_kernel::trace::{Entry, Stamp, Trace};
 use pth_lock::mutexes::Mutexes;
 use pth_lock::rwlocks::RwLocks;
+use pth_port::ports::Ports;
 use pth_ring::rings::Rings;
 use pth_store::cleanups::Cleanups;
 use pth_store::keys::Keys;
@@ -75,6 +76,22 @@ fn make_locks(alloc: Global) -> Result<(), OutOfMemory> {
     let _mutexes = Mutexes::new(alloc)?;
     let _locks = RwLocks::new(alloc)?;
     Ok(())
+}
+
+/// A message goes to port 1, is got there, and goes back to port 2, which is destroyed then.
+fn send_message(rt: &impl Abort, alloc: Global) -> Result<(), Refusal> {
+    let mut ports = Ports::new(alloc);
+    let first = ports.create(None)?;
+    let second = ports.create(Some(&name_of(rt, "replies")))?;
+    assert!(rt; first.0 == 1 && second.0 == 2 && ports.sent() == 0);
+    let put = ports.put(1, 7, 2)?;
+    let Ok((got, value)) = ports.get(1) else {
+        return Err(Refusal::Fail(Errno::ENOENT));
+    };
+    assert!(rt; put.0 == 1 && got.0 == 1 && value == 7);
+    ports.reply(1, 8)?;
+    assert!(rt; matches!(ports.pending(2), Ok(1)));
+    ports.destroy(2)
 }
 
 fn make_barrier(alloc: Global) -> Result<(), Refusal> {
@@ -144,5 +161,6 @@ fn memory_is_taken(rt: HostRuntime) -> Result<(), Fail> {
     take_memory(&rt, rt.alloc())?;
     assert!(rt; make_events(rt.alloc()).is_ok() && store(rt.alloc()).is_ok());
     assert!(rt; make_barrier(rt.alloc()).is_ok());
+    assert!(rt; send_message(&rt, rt.alloc()).is_ok());
     Ok(())
 }
