@@ -13,7 +13,7 @@ use Rattle.pth_numbered.specs.Numbered.{number_known}
 use Rattle.pth_numbered.proofs.Known.{number_same}
 use Rattle.pth_numbered.specs.Operands.{number}
 use Rattle.pth_port.specs.Mail.{Message, PortNames, port_limit, messages_of, queued, has_name, port_named, is_live, is_taken, with_port, no_mail, no_names, port_added, port_removed}
-use Rattle.pth_port.specs.Ports.{PortsOf, entry_at, port_at, letter_at, messages_in, walk, name_in, queue_in, first_named, mail_of, names_of, port_number, without_port, NamesDiffer, IsQueued, IsLine, PortIsKept, LetterIsKept, PortsAreKept}
+use Rattle.pth_port.specs.Ports.{PortsOf, entry_at, letter_in, port_at, letter_at, messages_in, walk, name_in, queue_in, first_named, mail_of, names_of, port_number, without_port, NamesDiffer, IsQueued, IsLine, PortIsKept, LetterIsKept, PortsAreKept}
 use Rattle.pth_port.specs.declared.entries.Port.{Port}
 use Rattle.pth_port.specs.declared.letters.Letter.{Letter}
 use Rattle.pth_port.proofs.Lines.{Letters}
@@ -193,7 +193,7 @@ module _ (x : PortsOf) (kept : PortsAreKept x) where
     p = x.made + 1
 
     same_letters : letter_at y ≡ letter_at x
-    same_letters = ap (λ (es : List (ℕ × Letter)). entry_at es) letters
+    same_letters = ap (λ (es : List (ℕ × Letter)). letter_in es) letters
 
     new_stays : (i : ℕ) → i ≢ p → (j : ℕ) → IsQueued i (letter_at x j) → letter_at y j ≡ letter_at x j
     new_stays i apart j queued = ap (λ (f : Letters). f j) same_letters
@@ -256,7 +256,7 @@ module _ (x : PortsOf) (kept : PortsAreKept x) where
 
 module _ (x : PortsOf) (kept : PortsAreKept x) (y : PortsOf) (p : ℕ) (live : is_live (mail_of x) p ≡ true) (empty : messages_of ((mail_of x).at p) ≡ []) (ports : port_at y ≡ put (port_at x) p None) (long : length y.ports + (if is_some (port_at x p) then 1 else 0) ≡ length x.ports) (made : y.made ≡ x.made) (letters : y.letters ≡ x.letters) (sent : y.sent ≡ x.sent) where
   gone_letters : letter_at y ≡ letter_at x
-  gone_letters = ap (λ (es : List (ℕ × Letter)). entry_at es) letters
+  gone_letters = ap (λ (es : List (ℕ × Letter)). letter_in es) letters
 
   gone_stays : (i : ℕ) → i ≢ p → (j : ℕ) → IsQueued i (letter_at x j) → letter_at y j ≡ letter_at x j
   gone_stays i apart j queued = ap (λ (f : Letters). f j) gone_letters
@@ -322,7 +322,7 @@ abbrev nothing : PortsOf
 nothing = record { ports = []; letters = []; made = 0; sent = 0 }
 
 pub nothing_mail : mail_of nothing ≡ no_mail
-unfolding mail_of entry_at
+unfolding mail_of entry_at letter_in
 nothing_mail = refl
 
 pub nothing_names : names_of nothing ≡ no_names
@@ -330,7 +330,7 @@ unfolding names_of entry_at
 nothing_names = refl
 
 pub nothing_kept : PortsAreKept nothing
-unfolding mail_of names_of entry_at number_known queued
+unfolding mail_of names_of entry_at letter_in number_known queued
 nothing_kept = record {
   ports = λ p. tt;
   letters = λ n. tt;

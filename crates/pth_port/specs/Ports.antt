@@ -1,5 +1,5 @@
 -- How ports and their messages are kept.
-use Rattle.std.specs.Prelude.{◌≡◌, ◌≢◌, ◌+◌, ◌-◌, ◌<◌, ◌≤◌, ◌==◌, ℕ, zero, suc, nat_le, ℤ, pos, Bool, true, false, if◌then◌else◌, List, [], ◌∷◌, length, Option, Some, None, IfSome, option_map, Result, Ok, Err}
+use Rattle.std.specs.Prelude.{◌≡◌, ◌≢◌, ◌+◌, ◌-◌, ◌<◌, ◌≤◌, ◌==◌, ℕ, zero, suc, nat_eq, nat_le, ℤ, pos, Bool, true, false, if◌then◌else◌, List, [], ◌∷◌, length, Option, Some, None, IfSome, option_map, Result, Ok, Err}
 use Rattle.std.specs.Ordering.{nat_cmp}
 use Rattle.std.specs.BTreeMap.{is_at}
 use Rattle.std.specs.Map.{lookup}
@@ -31,6 +31,10 @@ module _ {A : Type 0} where
   unfoldable pub entry_at : List (ℕ × A) → ℕ → Option A
   entry_at es n = lookup (is_at (nat_cmp n)) es
 
+  -- the same of entries that stand in no order
+  unfoldable pub letter_in : List (ℕ × A) → ℕ → Option A
+  letter_in es n = lookup (nat_eq n) es
+
   -- another one is under a number, if one is there
   abbrev pub with_entry : ℕ → (A → A) → (ℕ → Option A) → ℕ → Option A
   with_entry n change f = put f n (option_map change (f n))
@@ -39,7 +43,7 @@ abbrev pub port_at : PortsOf → ℕ → Option Port
 port_at x p = entry_at x.ports p
 
 abbrev pub letter_at : PortsOf → ℕ → Option Letter
-letter_at x n = entry_at x.letters n
+letter_at x n = letter_in x.letters n
 
 -- ---- changes of an entry
 

@@ -2,11 +2,11 @@
 
 ghost use Rattle.std.specs.Prelude.{◌≡◌, ◌+◌, ◌<◌, None, Some, OnOk, OnErr, length, is_some, if◌then◌else◌};
 ghost use Rattle.pth_base.specs.Table.{put};
-ghost use Rattle.pth_port.specs.Ports.{entry_at, with_entry, at_place, rewritten, without_reply, next_in, is_held, taken_first, with_last, without_first, linked};
+ghost use Rattle.pth_port.specs.Ports.{letter_in, with_entry, at_place, rewritten, without_reply, next_in, is_held, taken_first, with_last, without_first, linked};
 
 use pth_base::ids::PortId;
 use pth_base::memory::OutOfMemory;
-use std::collections::BTreeMap;
+use std::collections::HashMap;
 
 /// The messages that are queued at a port, by the numbers of the first and of the last of them. Where there are none, these
 /// say nothing.
@@ -91,16 +91,16 @@ pub(crate) struct Letter {
 }
 
 // The message of a number.
-#[tactic(auto, unfolding(crate::specs::Ports::entry_at))]
-pub(crate) fn letter_of(letters: &BTreeMap<u64, Letter>, n: u64) -> Option<Letter>
-    ensures { result ≡ entry_at letters.now.entries n }
+#[tactic(auto, unfolding(crate::specs::Ports::letter_in))]
+pub(crate) fn letter_of(letters: &HashMap<u64, Letter>, n: u64) -> Option<Letter>
+    ensures { result ≡ letter_in letters.now.entries n }
 {
     letters.get(&n).copied()
 }
 
 // The first message of a queue, with its number.
-pub(crate) fn first_of(letters: &BTreeMap<u64, Letter>, queue: Queue) -> Option<(u64, Letter)>
-    ensures { result ≡ taken_first queue (entry_at letters.now.entries queue.first) }
+pub(crate) fn first_of(letters: &HashMap<u64, Letter>, queue: Queue) -> Option<(u64, Letter)>
+    ensures { result ≡ taken_first queue (letter_in letters.now.entries queue.first) }
 {
     if queue.length == 0 {
         return None;
@@ -112,9 +112,9 @@ pub(crate) fn first_of(letters: &BTreeMap<u64, Letter>, queue: Queue) -> Option<
 }
 
 // A message is at another place.
-pub(crate) fn set_place(letters: &mut BTreeMap<u64, Letter>, n: u64, place: Place)
-    ensures letters { entry_at letters.new.entries
-        ≡ with_entry n (at_place place) (entry_at letters.old.entries) }
+pub(crate) fn set_place(letters: &mut HashMap<u64, Letter>, n: u64, place: Place)
+    ensures letters { letter_in letters.new.entries
+        ≡ with_entry n (at_place place) (letter_in letters.old.entries) }
     ensures count { length letters.new.entries ≡ length letters.old.entries }
 {
     if let Some(letter) = letters.get_mut(&n) {
@@ -123,9 +123,9 @@ pub(crate) fn set_place(letters: &mut BTreeMap<u64, Letter>, n: u64, place: Plac
 }
 
 // A message has another value, and no port for its reply.
-pub(crate) fn rewrite(letters: &mut BTreeMap<u64, Letter>, n: u64, value: i64)
-    ensures letters { entry_at letters.new.entries
-        ≡ with_entry n (rewritten value) (entry_at letters.old.entries) }
+pub(crate) fn rewrite(letters: &mut HashMap<u64, Letter>, n: u64, value: i64)
+    ensures letters { letter_in letters.new.entries
+        ≡ with_entry n (rewritten value) (letter_in letters.old.entries) }
     ensures count { length letters.new.entries ≡ length letters.old.entries }
 {
     if let Some(letter) = letters.get_mut(&n) {
@@ -135,9 +135,9 @@ pub(crate) fn rewrite(letters: &mut BTreeMap<u64, Letter>, n: u64, value: i64)
 }
 
 // A message has no port for its reply.
-pub(crate) fn clear_reply(letters: &mut BTreeMap<u64, Letter>, n: u64)
-    ensures letters { entry_at letters.new.entries
-        ≡ with_entry n without_reply (entry_at letters.old.entries) }
+pub(crate) fn clear_reply(letters: &mut HashMap<u64, Letter>, n: u64)
+    ensures letters { letter_in letters.new.entries
+        ≡ with_entry n without_reply (letter_in letters.old.entries) }
     ensures count { length letters.new.entries ≡ length letters.old.entries }
 {
     if let Some(letter) = letters.get_mut(&n) {
@@ -146,15 +146,15 @@ pub(crate) fn clear_reply(letters: &mut BTreeMap<u64, Letter>, n: u64)
 }
 
 // A message more, under a number that none has.
-#[tactic(auto, unfolding(crate::specs::Ports::entry_at))]
+#[tactic(auto, unfolding(crate::specs::Ports::letter_in))]
 pub(crate) fn add_letter(
-    letters: &mut BTreeMap<u64, Letter>,
+    letters: &mut HashMap<u64, Letter>,
     n: u64,
     letter: Letter,
 ) -> Result<(), OutOfMemory>
-    requires { entry_at letters.old.entries n ≡ None }
-    ensures letters { OnOk result (entry_at letters.new.entries
-        ≡ put (entry_at letters.old.entries) n (Some letter)) }
+    requires { letter_in letters.old.entries n ≡ None }
+    ensures letters { OnOk result (letter_in letters.new.entries
+        ≡ put (letter_in letters.old.entries) n (Some letter)) }
     ensures count { OnOk result (length letters.new.entries ≡ length letters.old.entries + 1) }
     ensures refused { OnErr result (letters.new.entries ≡ letters.old.entries) }
 {
@@ -163,11 +163,11 @@ pub(crate) fn add_letter(
 }
 
 // A message is gone.
-#[tactic(auto, unfolding(crate::specs::Ports::entry_at))]
-pub(crate) fn remove_letter(letters: &mut BTreeMap<u64, Letter>, n: u64)
-    ensures letters { entry_at letters.new.entries ≡ put (entry_at letters.old.entries) n None }
+#[tactic(auto, unfolding(crate::specs::Ports::letter_in))]
+pub(crate) fn remove_letter(letters: &mut HashMap<u64, Letter>, n: u64)
+    ensures letters { letter_in letters.new.entries ≡ put (letter_in letters.old.entries) n None }
     ensures count { length letters.new.entries
-        + (if is_some (entry_at letters.old.entries n) then 1 else 0)
+        + (if is_some (letter_in letters.old.entries n) then 1 else 0)
         ≡ length letters.old.entries }
 {
     let _letter = letters.remove(&n);
@@ -175,14 +175,14 @@ pub(crate) fn remove_letter(letters: &mut BTreeMap<u64, Letter>, n: u64)
 
 // A message is the last of a queue at a port. The answer is the queue from now on.
 pub(crate) fn add_last(
-    letters: &mut BTreeMap<u64, Letter>,
+    letters: &mut HashMap<u64, Letter>,
     queue: Queue,
     port: PortId,
     n: u64,
 ) -> Queue
     requires { queue.length < 4294967295 }
-    ensures letters { entry_at letters.new.entries
-        ≡ linked port n queue (entry_at letters.old.entries) }
+    ensures letters { letter_in letters.new.entries
+        ≡ linked port n queue (letter_in letters.old.entries) }
     ensures count { length letters.new.entries ≡ length letters.old.entries }
     ensures queue { result ≡ with_last n queue }
 {

@@ -16,7 +16,7 @@ use pth_base::ids::{MsgId, PortId};
 use pth_base::name::Name;
 use pth_base::refusal::Refusal;
 use std::alloc::Global;
-use std::collections::BTreeMap;
+use std::collections::{BTreeMap, HashMap};
 use std::marker::Model;
 
 /// How many ports there may be at once.
@@ -30,7 +30,7 @@ pub const MOST_MESSAGES: usize = 65536;
 pub struct Ports {
     ports: BTreeMap<u32, Port>,
     // Those that are queued, and those that are held.
-    letters: BTreeMap<u64, Letter>,
+    letters: HashMap<u64, Letter>,
     made: u32,
     sent: u64,
 }
@@ -67,7 +67,7 @@ impl Ports {
     {
         Ports {
             ports: BTreeMap::new(alloc),
-            letters: BTreeMap::new(alloc),
+            letters: HashMap::new(alloc),
             made: 0,
             sent: 0,
         }
