@@ -26,7 +26,7 @@ use Rattle.pth_world.specs.Store.{store_of}
 use Rattle.pth_world.specs.Whole.{Whole}
 use Rattle.pth_world.specs.World.{WorldOf}
 use Rattle.pth_end.specs.Saying.{SaysRefusal}
-use Rattle.pth_end.proofs.Acting.{done_answered}
+use Rattle.pth_end.proofs.Acting.{done_answered, error_answered}
 use Rattle.pth_end.proofs.Ported.{ported, port_told, port_refused, ports_refused}
 
 -- what is asked of ports changes nothing
@@ -60,16 +60,16 @@ module _ {P S H : Type 0} (w : WorldOf P S H) (x : PortsOf) (t : Tid) where
   unfolding told answer_told
   replied_told m v u answers named more = port_told w x t (call.Reply m v) (λ y. reply_answer y.mail m) done tt (Int (pos 1)) (λ n. n) (λ q. replied v (q.kept (number m)) q) (sym (done_answered _ u answers)) refl (λ k. refl) named more
 
-  pub reply_refused : (m v : ℤ) (e : Refusal) (r : Result Answer OutOfMemory) → ((d : Errno) → e ≡ refusal.Fail d → reply_answer (mail_of w.store.ports) m ≡ Err d) → IfOk r (λ a. SaysRefusal e a) → x ≡ w.store.ports → IfOk r (λ a. IsTold w (ported w x) (Answered t (call.Reply m v) a) a (λ s. (reply s m).begin))
-  reply_refused m v e r is saying same = ports_refused w x t (call.Reply m v) (λ y. reply_answer y.mail m) done e r is saying refl same
+  pub reply_refused : (m v : ℤ) (e : Errno) → AnswersWithMemory (reply_answer (mail_of w.store.ports) m) (Err (refusal.Fail e)) → x ≡ w.store.ports → IsTold w (ported w x) (Answered t (call.Reply m v) (Fail e)) (Fail e) (λ s. (reply s m).begin)
+  reply_refused m v e answers same = port_refused w x t (call.Reply m v) (λ y. reply_answer y.mail m) done e (sym (error_answered _ e answers)) refl same
 
   -- a port is destroyed, or not
   pub destroyed_told : (p : ℤ) (u : Unit {0}) → AnswersWithMemory (port_destroy_answer (mail_of w.store.ports) p) (Ok u) → names_of x ≡ port_removed (number p) (names_of w.store.ports) → mail_of x ≡ closed_port (number p) (mail_of w.store.ports) → IsTold w (ported w x) (Answered t (call.PortDestroy p) (Int (pos 1))) (Int (pos 1)) (λ s. (port_destroy s p).begin)
   unfolding told answer_told
   destroyed_told p u answers named more = port_told w x t (call.PortDestroy p) (λ y. port_destroy_answer y.mail p) done tt (Int (pos 1)) (port_removed (number p)) (closed_port (number p)) (sym (done_answered _ u answers)) refl (λ k. refl) named more
 
-  pub destroy_refused : (p : ℤ) (e : Refusal) (r : Result Answer OutOfMemory) → ((d : Errno) → e ≡ refusal.Fail d → port_destroy_answer (mail_of w.store.ports) p ≡ Err d) → IfOk r (λ a. SaysRefusal e a) → x ≡ w.store.ports → IfOk r (λ a. IsTold w (ported w x) (Answered t (call.PortDestroy p) a) a (λ s. (port_destroy s p).begin))
-  destroy_refused p e r is saying same = ports_refused w x t (call.PortDestroy p) (λ y. port_destroy_answer y.mail p) done e r is saying refl same
+  pub destroy_refused : (p : ℤ) (e : Errno) → AnswersWithMemory (port_destroy_answer (mail_of w.store.ports) p) (Err (refusal.Fail e)) → x ≡ w.store.ports → IsTold w (ported w x) (Answered t (call.PortDestroy p) (Fail e)) (Fail e) (λ s. (port_destroy s p).begin)
+  destroy_refused p e answers same = port_refused w x t (call.PortDestroy p) (λ y. port_destroy_answer y.mail p) done e (sym (error_answered _ e answers)) refl same
 
   -- a port was made
   pub created_frame : (name : Option (List ℕ)) (r : Option ℕ) → names_of x ≡ port_added name (names_of w.store.ports) → w.scheduler.running ≡ r → Whole w → Frame w (ported w x) (one_of Port) r false

@@ -21,6 +21,7 @@ use pth_base::ids::Tid;
 use pth_base::memory::OutOfMemory;
 use pth_base::name::Name;
 use pth_base::program::Program;
+use pth_base::refusal::Refusal;
 use pth_end::acts::put_message;
 use pth_end::saying::refused;
 use pth_world::world::World;
@@ -75,24 +76,26 @@ fn get_message<P: Program>(w: &mut World<P>, t: Tid, p: i64) -> Answer
 }
 
 // pth_msgport_reply: a held message goes back.
-fn reply<P: Program>(w: &mut World<P>, t: Tid, m: i64, v: i64) -> Result<Answer, OutOfMemory>
-    ensures told { IfOk result (λ a. IsTold w.old w.new (Answered t (Reply m v) a) a (λ (s : State P P.State P.Shared). (reply_row s m).begin)) }
-    ensures keeps { OnOk result (KeepsAllButStore w.old w.new) }
+fn reply<P: Program>(w: &mut World<P>, t: Tid, m: i64, v: i64) -> Answer
+    ensures told { IsTold w.old w.new (Answered t (Reply m v) result) result (λ (s : State P P.State P.Shared). (reply_row s m).begin) }
+    ensures keeps { KeepsAllButStore w.old w.new }
 {
     match w.ports_mut().reply(m, v) {
-        Ok(()) => Ok(Answer::Int(1)),
-        Err(refusal) => refused(refusal),
+        Ok(()) => Answer::Int(1),
+        Err(Refusal::Fail(e)) => Answer::Fail(e),
+        Err(Refusal::OutOfMemory) => unreachable!(),
     }
 }
 
 // pth_msgport_destroy: a port is gone, and its messages go back.
-fn destroy_port<P: Program>(w: &mut World<P>, t: Tid, p: i64) -> Result<Answer, OutOfMemory>
-    ensures told { IfOk result (λ a. IsTold w.old w.new (Answered t (PortDestroy p) a) a (λ (s : State P P.State P.Shared). (destroy_row s p).begin)) }
-    ensures keeps { OnOk result (KeepsAllButStore w.old w.new) }
+fn destroy_port<P: Program>(w: &mut World<P>, t: Tid, p: i64) -> Answer
+    ensures told { IsTold w.old w.new (Answered t (PortDestroy p) result) result (λ (s : State P P.State P.Shared). (destroy_row s p).begin) }
+    ensures keeps { KeepsAllButStore w.old w.new }
 {
     match w.ports_mut().destroy(p) {
-        Ok(()) => Ok(Answer::Int(1)),
-        Err(refusal) => refused(refusal),
+        Ok(()) => Answer::Int(1),
+        Err(Refusal::Fail(e)) => Answer::Fail(e),
+        Err(Refusal::OutOfMemory) => unreachable!(),
     }
 }
 
@@ -115,8 +118,8 @@ pub(crate) fn answer_ports<P: Program>(
         Call::PortPending(p) => Ok(count_messages(w, *p)),
         Call::PortPut { p, v, r } => put_message(w, *p, *v, *r),
         Call::PortGet(p) => Ok(get_message(w, t, *p)),
-        Call::Reply { m, v } => reply(w, t, *m, *v),
-        Call::PortDestroy(p) => destroy_port(w, t, *p),
+        Call::Reply { m, v } => Ok(reply(w, t, *m, *v)),
+        Call::PortDestroy(p) => Ok(destroy_port(w, t, *p)),
         _ => unreachable!(),
     }
 }

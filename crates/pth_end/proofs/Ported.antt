@@ -49,10 +49,6 @@ number_refused (Err d) f e is = let same : e ≡ d = cc is in ap (λ (x : Errno)
 pub memory_refusal : {A : Type 0} (r : Result ℕ Errno) (f : A → ℕ) (e : Refusal) → NumbersWithMemory r f (Err e) → (d : Errno) → e ≡ refusal.Fail d → r ≡ Err d
 memory_refusal r f e answers d is = number_refused r f d (subst (λ (z : Refusal). NumbersWithMemory r f (Err z)) is answers)
 
--- and what one answers that has nothing to say
-pub part_refusal : (r : Result (Unit {0}) Errno) (e : Refusal) → AnswersWithMemory r (Err e) → (d : Errno) → e ≡ refusal.Fail d → r ≡ Err d
-part_refusal r e answers d is = sym (error_answered r d (subst (λ (z : Refusal). AnswersWithMemory r (Err z)) is answers))
-
 -- of each thread
 pub each_thread : {A E : Type 0} (r : Result A E) (Q : Tid → A → Type 0) → ((t : Tid) → IfOk r (Q t)) → IfOk r (λ a. (t : Tid) → Q t a)
 each_thread (Ok a) Q h = h

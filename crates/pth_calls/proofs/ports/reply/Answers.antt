@@ -1,6 +1,6 @@
 use Rattle.std.proofs.Common.{ap, SFits, w64, to_z-of_z, rules}
 use Rattle.pth_port.specs.Mail.{PortNames}
-use Rattle.pth_end.proofs.Ported.{ports_kept, part_refusal}
+use Rattle.pth_end.proofs.Ported.{ports_kept}
 use Rattle.pth_calls.proofs.Porting.{replied_told, reply_refused}
 use Rattle.pth_calls.proofs.ports.reply.Goals as goal
 
@@ -14,8 +14,8 @@ returns-in-Ok-clause-told g c =
 pub returns-in-Ok-clause-keeps : goal.returns-in-Ok-clause-keeps
 returns-in-Ok-clause-keeps g c = ports_kept c.args.w.now c.reply.new.self (ap (λ (n : PortNames). n.made) (rw c.ports_mut.ensures.value at c.in-Ok.ensures.names))
 
-pub returns-in-Err-clause-told : goal.returns-in-Err-clause-told
-returns-in-Err-clause-told g c =
+pub returns-in-Err-Fail-clause-told : goal.returns-in-Err-Fail-clause-told
+returns-in-Err-Fail-clause-told g c =
     let m : SFits w64 c.args.m = search rules in
-    let call = rw c.ports_mut.ensures.value at c.in-Err.ensures in
-    reply_refused c.args.w.now c.reply.new.self c.args.t c.args.m c.args.v c.in-Err.refusal c.refused.result (part_refusal _ c.in-Err.refusal (simp to_z-of_z at call.answer)) c.refused.ensures call.refused
+    let call = rw c.ports_mut.ensures.value at c.in-Err-Fail.ensures in
+    reply_refused c.args.w.now c.reply.new.self c.args.t c.args.m c.args.v c.in-Err-Fail.e (rw c.in-Err-Fail.field-0-is at (simp to_z-of_z at call.answer)) call.refused
