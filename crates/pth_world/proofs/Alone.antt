@@ -10,7 +10,7 @@ use Rattle.pth_threads.specs.Threads.{ThreadsOf, slot_of, tid_at}
 use Rattle.pth_lock.specs.RwLocks.{LockTables, LocksAreSound, count_below}
 use Rattle.pth_world.specs.Store.{name_limit}
 use Rattle.pth_world.proofs.Listings.{read_past, read_here, to_past}
-use Rattle.pth_world.proofs.Locked.{R, read_locks, reads_at, readers_at, slot_low, unused-none}
+use Rattle.pth_world.proofs.Locked.{readers_named, read_locks, reads_at, readers_at, slot_low, unused-none}
 
 -- ---- tests that one number alone passes
 
@@ -61,11 +61,11 @@ module _ (x : ThreadsOf) (L : LockTables) (t u : ℕ) (tied : IsTied (slot_of x)
   readers_by spare l (inl low) =
       readers_at x L l low
       ∙ sound.counted l
-      ∙ count_one (L.reads l) u thread_limit (slot_low x t u tied e) (λ s below apart. unused-none (tid_at x) (L.reads l) thread_limit s below (sym (read_here false (R x L) l 0 low (omega arith)) ∙ spare l) (spare_slot s apart))
+      ∙ count_one (L.reads l) u thread_limit (slot_low x t u tied e) (λ s below apart. unused-none (tid_at x) (L.reads l) thread_limit s below (sym (read_here false (readers_named x L) l 0 low (omega arith)) ∙ spare l) (spare_slot s apart))
       ∙ ap (λ (b : Bool). if b then 1 else 0) (sym (reads_at x L t u tied e few l low))
   readers_by spare l (inr high) =
       to_past 0 name_limit L.readers l high
-      ∙ ap (λ (b : Bool). if b then 1 else 0) (sym (ap (λ (f : ℕ → Bool). f t) (read_past false (R x L) l high) ∙ get_or_past [] t false (omega arith)))
+      ∙ ap (λ (b : Bool). if b then 1 else 0) (sym (ap (λ (f : ℕ → Bool). f t) (read_past false (readers_named x L) l high) ∙ get_or_past [] t false (omega arith)))
 
   pub readers_alone : ((l : ℕ) → (read_locks x L).reads l 0 ≡ false) → (l : ℕ) → (read_locks x L).readers l ≡ (if (read_locks x L).reads l t then 1 else 0)
   readers_alone spare l = readers_by spare l (cases_lt l name_limit)

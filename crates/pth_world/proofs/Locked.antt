@@ -319,17 +319,17 @@ module _ (x : ThreadsOf) (L : LockTables) where
   read_locks = locks_of (locked_by x L)
 
   -- who writes and who reads, by number
-  abbrev W : ℕ → Option ℕ
-  W l = option_map (tid_at x) (L.writer l)
+  abbrev writers_named : ℕ → Option ℕ
+  writers_named l = option_map (tid_at x) (L.writer l)
 
-  abbrev pub R : ℕ → ℕ → Bool
-  R l = named_reads x (L.reads l)
+  abbrev pub readers_named : ℕ → ℕ → Bool
+  readers_named l = named_reads x (L.reads l)
 
   pub known_lock : (l : ℕ) → l < name_limit → read_locks.initialised l ≡ L.initialised l
   known_lock l low = to_at false name_limit L.initialised l low
 
-  writer_at : (l : ℕ) → l < name_limit → read_locks.writer l ≡ W l
-  writer_at l low = to_at None name_limit W l low
+  writer_at : (l : ℕ) → l < name_limit → read_locks.writer l ≡ writers_named l
+  writer_at l low = to_at None name_limit writers_named l low
 
   pub readers_at : (l : ℕ) → l < name_limit → read_locks.readers l ≡ L.readers l
   readers_at l low = to_at 0 name_limit L.readers l low
@@ -368,7 +368,7 @@ module _ (x : ThreadsOf) (L : LockTables) where
 
   module _ (t u : ℕ) (tied : IsTied (slot_of x) (tid_at x)) (e : slot_of x t ≡ Some u) (few : t < name_limit) where
     pub reads_at : (l : ℕ) → l < name_limit → read_locks.reads l t ≡ L.reads l u
-    reads_at l low = read_here false R l t low few ∙ reads_same x t u tied e (L.reads l)
+    reads_at l low = read_here false readers_named l t low few ∙ reads_same x t u tied e (L.reads l)
 
     pub holds_lock : (l : ℕ) → l < name_limit → holds read_locks t l ≡ holds L u l
     holds_lock l low = let writes = ap (is_one t) (writer_at l low) ∙ one_same x t u tied e (L.writer l) in λ i. writes i || reads_at l low i
@@ -381,7 +381,7 @@ module _ (x : ThreadsOf) (L : LockTables) where
         by_name (inl low) = held l ∙ sym (holds_lock l low)
         by_name (inr high) =
             contains-past set fits l (omega (arith, high))
-            ∙ sym (ap (λ (w : Option ℕ). is_one t w || read_locks.reads l t) (to_past None name_limit W l high) ∙ ap (λ (f : ℕ → Bool). f t) (read_past false R l high) ∙ get_or_past [] t false (omega arith))
+            ∙ sym (ap (λ (w : Option ℕ). is_one t w || read_locks.reads l t) (to_past None name_limit writers_named l high) ∙ ap (λ (f : ℕ → Bool). f t) (read_past false readers_named l high) ∙ get_or_past [] t false (omega arith))
 
     pub lock_take_is : (write : Bool) (l : ℤ) → object_named l < name_limit → lock_take_answer read_locks t write l ≡ lock_take_answer L u write l
     lock_take_is write l low = let k = object_named l in λ i.
@@ -398,7 +398,7 @@ module _ (x : ThreadsOf) (L : LockTables) where
         Ok tt
 
     reads_changed : (b : Bool) (l : ℕ) → l < name_limit → read false (λ i. named_reads x (put L.reads l (put (L.reads l) u b) i)) ≡ put read_locks.reads l (put (read_locks.reads l) t b)
-    reads_changed b l low = ap (read false) (ap_put (named_reads x) L.reads l (put (L.reads l) u b) ∙ ap (put R l) (reads_put x t u tied e (L.reads l) b)) ∙ read_one false R l t b low few
+    reads_changed b l low = ap (read false) (ap_put (named_reads x) L.reads l (put (L.reads l) u b) ∙ ap (put readers_named l) (reads_put x t u tied e (L.reads l) b)) ∙ read_one false readers_named l t b low few
 
     pub lock_taken_read : (write : Bool) (l : ℕ) → l < name_limit → locks_of (locked_by x (lock_taken u write l L)) ≡ lock_taken t write l read_locks
     lock_taken_read true l low = same_tables refl
@@ -419,7 +419,7 @@ module _ (x : ThreadsOf) (L : LockTables) where
         (each_changed None (option_map (tid_at x)) L.writer _ (λ l. without_slot t)
         (λ l low. left_writer x t u tied e (L.writer l))
         (λ l. refl))
-        (ap (read false) (fun_ext (λ l. reads_put x t u tied e (L.reads l) false)) ∙ read_each false R t few)
+        (ap (read false) (fun_ext (λ l. reads_put x t u tied e (L.reads l) false)) ∙ read_each false readers_named t few)
         (each_changed 0 (λ n. n) L.readers _ (λ l. readers_without (read_locks.reads l t))
         (λ l low. ap (λ (b : Bool). readers_without b (L.readers l)) (sym (reads_at l low)))
         (λ l. none_less (read_locks.reads l t)))
@@ -494,7 +494,7 @@ module _ (x : ThreadsOf) (L : LockTables) where
       by_writer None used = refl
 
       spare_reads : (l : ℕ) → l < name_limit → any_unused (tid_at x) (L.reads l) thread_limit ≡ false
-      spare_reads l low = sym (read_here false R l 0 low (omega arith)) ∙ (spared l).1
+      spare_reads l low = sym (read_here false readers_named l 0 low (omega arith)) ∙ (spared l).1
 
       by_number : (l : ℕ) → any_unused (tid_at x) (L.reads l) thread_limit ≡ false → (n : ℕ) (b : Bool) → (n == 0) ≡ b → (if b then any_unused (tid_at y) (L.reads l) thread_limit else seen false (slot_of y) (L.reads l) n) ≡ (if b then any_unused (tid_at x) (L.reads l) thread_limit else seen false (slot_of x) (L.reads l) n)
       by_number l none n true is = unused-empty (tid_at y) (L.reads l) thread_limit (λ i low free. unused-none (tid_at x) (L.reads l) thread_limit i low none (still_free i free (i == u) refl)) ∙ sym none
