@@ -1,5 +1,5 @@
 -- What is known as a call is answered, or as it blocks its thread: its row said so.
-use Rattle.std.proofs.Common.{◌≡◌, ℕ, ◌+◌, ◌==◌, nat_lt, ◌&&◌, ◌||◌, not, Bool, true, false, if◌then◌else◌, ℤ, pos, length, Option, Some, None, is_none, is_some, option_map, refl, sym, ◌∙◌, ap, subst, inl, Result, Ok, Err}
+use Rattle.std.proofs.Common.{◌≡◌, ℕ, ◌+◌, ◌==◌, nat_lt, ◌&&◌, ◌||◌, not, Bool, true, false, if◌then◌else◌, ℤ, pos, length, Option, Some, None, is_none, is_some, option_map, refl, sym, ◌∙◌, ap, subst, inl, Result, Ok, Err, is_ok}
 use Rattle.pth_base.specs.Program.{Functions}
 use Rattle.pth_base.specs.declared.answer.Answer.{Answer}
 use Rattle.pth_base.specs.declared.answer.Answer.TheVariants as answer
@@ -21,6 +21,7 @@ use Rattle.pth_cond.specs.declared.barriers.Arrival.TheVariants as arrival
 use Rattle.pth_cond.specs.Conditions.{ConditionTable, is_live, seat_entered}
 use Rattle.pth_cond.specs.Barriers.{arrival_answer, has_passed, waits_at, round_answer, round_answered, withdrawn}
 use Rattle.pth_lock.specs.Objects.{object_named}
+use Rattle.pth_lock.specs.Mutexes.{Mutex, owner_of, levels_of, level_limit, take_answer, is_anothers}
 use Rattle.pth_lock.specs.RwLocks.{holds, may_enter}
 use Rattle.pth_queue.specs.declared.queue.Queue.{Queue}
 use Rattle.pth_ring.specs.Rings.{Events, is_event, is_claimed, ring_refusal, unless, make_answer, chain_answer, alone, chained}
@@ -43,7 +44,7 @@ use Rattle.pth_model.specs.Barriers.{arrived_as, tries_round, withdraws, withdra
 use Rattle.pth_model.specs.State.{State, Control, Threads, main}
 use Rattle.pth_model.specs.Transition.{Piece, Change, changes, tells, tid, controlled, silent, where_so, ◌and_then◌}
 use Rattle.pth_model.specs.Changes.{sets, enters, leaves_queue, makes, forgets, removes, goes_on, blocking, is_blocked_by, blocked_in, blocked_of, or_nobody, entry_of, queue_for, with_conditions, with_barriers, with_events, with_kernel}
-use Rattle.pth_model.specs.Living.{is_dead}
+use Rattle.pth_model.specs.Living.{is_dead, is_made}
 use Rattle.pth_model.specs.Row.{Attempt, unless_refused, refuses, effect_of, ◌trying◌}
 use Rattle.pth_model.specs.RingWaits.{has_settled, ring_given, ring_held, extra_ring, is_no_ring, is_claimed_ring, stops_waiting, gives_back}
 use Rattle.pth_model.specs.Mutexes.{mutex, is_free}
@@ -64,22 +65,55 @@ use Rattle.pth_laws.proofs.Rounds.{answered_left, withdrawn_left}
 abbrev pub IsFree : {P S H : Type 0} → ℕ → State P S H → Type 0
 IsFree t s = blocked_of s.control t ≡ None
 
--- t enters a lock: it waits for nothing, does not hold it, and may enter
+-- t enters a lock: it was made, waits for nothing, does not hold it, and may enter
 pub record IsEntering {P S H : Type 0} (t l : ℕ) (write : Bool) (s : State P S H) : Type 0 where
   pub free : IsFree t s
   pub out : holds s.resources.store.rw_locks t l ≡ false
   pub open_to : may_enter s.resources.store.rw_locks write l ≡ true
+  pub made : is_made s.control.threads.made t ≡ true
+
+-- t takes a level of a mutex: it waits for nothing, and has not all levels that it may have
+pub record IsTaking {P S H : Type 0} (t m : ℕ) (s : State P S H) : Type 0 where
+  pub free : IsFree t s
+  pub room : (levels_of t (s.resources.store.mutexes m) == level_limit) ≡ false
 
 -- what is known as a mark is told
 abbrev pub IsToTell : {P S H : Type 0} → Mark → State P S H → Type 0
 IsToTell (mark.Answered t (call.RwAcquire l write v e) (answer.Int n)) s = IsEntering t.0 (object_named l) write s
+IsToTell (mark.Answered t (call.MutexAcquire m v e) (answer.Int n)) s = IsTaking t.0 (object_named m) s
+IsToTell (mark.Answered t (call.CondAwait c m e) a) s = s.resources.awaits t.0 ≡ true → IsTaking t.0 (object_named m) s
+IsToTell (mark.Took t m) s = IsTaking t.0 m s
 IsToTell m s = Unit {0}
+
+-- who awaits nothing takes no mutex back
+pub unawaited : {P S H : Type 0} (t m : ℕ) (s : State P S H) → s.resources.awaits t ≡ false → s.resources.awaits t ≡ true → IsTaking t m s
+unawaited t m s calm awaits = absurd (true_false (sym awaits ∙ calm))
+
+-- who can take a mutex has not all levels of it, and neither has who meets a free one
+pub takes_room : (t : ℕ) (z : Mutex) → is_ok (take_answer t z) ≡ true → (levels_of t z == level_limit) ≡ false
+takes_room t z h = by_tests (is_none z) (levels_of t z == level_limit) h
+  where
+    by_tests : (none full : Bool) → is_ok (if none then Err EINVAL else (if full then Err EAGAIN else (if is_anothers t z then Err EBUSY else Ok (tt {0})))) ≡ true → full ≡ false
+    by_tests none false h = refl
+    by_tests true true h = absurd (true_false (sym h))
+    by_tests false true h = absurd (true_false (sym h))
+
+free_room : (t : ℕ) (z : Mutex) → (not (is_none z) && is_none (owner_of z)) ≡ true → (levels_of t z == level_limit) ≡ false
+free_room t None h = absurd (true_false (sym h))
+free_room t (Some None) h = refl
+free_room t (Some (Some o)) h = absurd (true_false (sym h))
+
+-- what is known of the call as it begins to block t: by a pth_cond_await, which is still to give a level of its mutex back, t awaits
+-- nothing yet
+abbrev pub MayBegin : Resources → ℕ → Call → Type 0
+MayBegin k t (call.CondAwait c m e) = (is_some (k.store.mutexes (object_named m)) ≡ true) × (k.awaits t ≡ false)
+MayBegin k t c = WaitsRightly k t c
 
 -- what is known as a call blocks t: the ring that it was given is there, with no claim, and so is what it waits for, which is what
 -- it names
 pub record MayWait {P S H : Type 0} (t : ℕ) (c : Call) (a : Awaits) (s : State P S H) : Type 0 where
   pub ring : (e : ℤ) → ring_given c ≡ Some e → (is_event s.control.events (number e) ≡ true) × (is_claimed s.control.events (number e) ≡ false)
-  pub rightly : WaitsRightly s.resources t c
+  pub rightly : MayBegin s.resources t c
   pub names : Names c a
 
 -- the same by the verdict on a call that begins, after its effect
@@ -117,9 +151,12 @@ unseated t y s none c m e now = absurd (true_false (sym (ap is_awaiting now) ∙
 
 -- ---- verdicts
 
-abbrev pub is_entering : Call → Bool
-is_entering (call.RwAcquire l write v e) = true
-is_entering c = false
+-- calls whose answers take a mutex or a lock
+abbrev is_taking : Call → Bool
+is_taking (call.MutexAcquire m v e) = true
+is_taking (call.RwAcquire l write v e) = true
+is_taking (call.CondAwait c m e) = true
+is_taking c = false
 
 abbrev pub is_blocking : Verdict → Bool
 is_blocking (Blocks p) = true
@@ -186,8 +223,10 @@ ring_passes x e h = by_tests (is_event x e) (is_claimed x e) h
 
 module _ {P S H : Type 0} (t : ℕ) where
   -- where the answer is that of another call
-  tells_any : (c : Call) (a : Answer) (s : State P S H) → is_entering c ≡ false → IsToTell (mark.Answered (tid t) c a) s
+  tells_any : (c : Call) (a : Answer) (s : State P S H) → is_taking c ≡ false → IsToTell (mark.Answered (tid t) c a) s
+  tells_any (call.MutexAcquire m v e) a s other = absurd (true_false other)
   tells_any (call.RwAcquire l write v e) a s other = absurd (true_false other)
+  tells_any (call.CondAwait c m e) a s other = absurd (true_false other)
   tells_any c a s other = tt
 
   waits_plainly : (c : Call) (a : Awaits) (s : State P S H) → is_plainly_waiting c ≡ true → MayWait t c a s
@@ -203,8 +242,8 @@ module _ {P S H : Type 0} (t : ℕ) where
   waits_plainly (call.BarrierReach b) a s plain = absurd (true_false (sym plain))
   waits_plainly c a s plain = record { ring = λ e h. absurd (no_ring_some e h); rightly = tt; names = tt }
 
-  -- any verdict on a call that enters no lock, if what is known of one that blocks is
-  allowed_by : (c : Call) (v : Verdict) (s : State P S H) → is_entering c ≡ false → ((a : Awaits) → v ≡ Blocks a → IsFree t s × MayWait t c a s) → IsAllowed t c v s
+  -- any verdict on a call that takes no mutex and no lock, if what is known of one that blocks is
+  allowed_by : (c : Call) (v : Verdict) (s : State P S H) → is_taking c ≡ false → ((a : Awaits) → v ≡ Blocks a → IsFree t s × MayWait t c a s) → IsAllowed t c v s
   allowed_by c (Says a) s other on = tells_any c a s other
   allowed_by c (Yields a) s other on = tells_any c a s other
   allowed_by c (Blocks a) s other on = on a refl
@@ -212,10 +251,10 @@ module _ {P S H : Type 0} (t : ℕ) where
   allowed_by c Kills s other on = tells_any c (answer.Int (pos 1)) s other
 
   -- one that doesn't block
-  allowed_at_once : (c : Call) (v : Verdict) (s : State P S H) → is_entering c ≡ false → is_blocking v ≡ false → IsAllowed t c v s
+  allowed_at_once : (c : Call) (v : Verdict) (s : State P S H) → is_taking c ≡ false → is_blocking v ≡ false → IsAllowed t c v s
   allowed_at_once c v s other at_once = allowed_by c v s other (λ a blocks. absurd (true_false (sym (ap is_blocking blocks) ∙ at_once)))
 
-  again_by : (c : Call) (b : Blocked) (v : Verdict) (s : State P S H) → is_entering c ≡ false → ((a : Awaits) → v ≡ Blocks a → (blocked_of s.control t ≡ Some b) × Names c a) → IsAllowedAgain t c b v s
+  again_by : (c : Call) (b : Blocked) (v : Verdict) (s : State P S H) → is_taking c ≡ false → ((a : Awaits) → v ≡ Blocks a → (blocked_of s.control t ≡ Some b) × Names c a) → IsAllowedAgain t c b v s
   again_by c b (Says a) s other on = tells_any c a (controlled (stops_waiting t) s) other
   again_by c b (Yields a) s other on = tells_any c a (controlled (stops_waiting t) s) other
   again_by c b (Blocks a) s other on = on a refl
@@ -223,7 +262,7 @@ module _ {P S H : Type 0} (t : ℕ) where
   again_by c b Kills s other on = tells_any c (answer.Int (pos 1)) (controlled (stops_waiting t) s) other
 
   -- the ring of a call that was neither refused for it nor found claimed; u has the events of s
-  ring_waits : (s u : State P S H) (c : Call) (a : Awaits) (r : Option ℤ) → ring_given c ≡ r → u.control.events ≡ s.control.events → is_no_ring s r ≡ false → is_claimed_ring s r ≡ false → Names c a → WaitsRightly u.resources t c → MayWait t c a u
+  ring_waits : (s u : State P S H) (c : Call) (a : Awaits) (r : Option ℤ) → ring_given c ≡ r → u.control.events ≡ s.control.events → is_no_ring s r ≡ false → is_claimed_ring s r ≡ false → Names c a → MayBegin u.resources t c → MayWait t c a u
   ring_waits s u c a None given same there free names rightly = record { ring = λ e h. absurd (no_ring_some e (sym given ∙ h)); rightly = rightly; names = names }
   ring_waits s u c a (Some i) given same there free names rightly = record { ring = λ e h. by_event e (sym given ∙ h); rightly = rightly; names = names }
     where
@@ -299,6 +338,15 @@ module _ {P S H : Type 0} (t : ℕ) where
       by_ring None = here
       by_ring (Some e) = here
 
+  -- as many threads were made
+  stopped_made : (s : State P S H) → is_made (controlled (stops_waiting t) s).control.threads.made t ≡ is_made s.control.threads.made t
+  unfolding stops_waiting goes_on gives_back
+  stopped_made s = by_ring (ring_held (blocked_of s.control t))
+    where
+      by_ring : (r : Option ℤ) → is_made (gives_back r (is_blocked_by t None s.control)).threads.made t ≡ is_made s.control.threads.made t
+      by_ring None = refl
+      by_ring (Some e) = refl
+
   -- ---- t's arrival at a barrier is taken back, if it waits there
 
   where_withdrawn : (b : ℤ) (here : Bool) (s : State P S H) → (where_so here (changes (with_barriers (withdrawn b t)) and_then tells (mark.Withdrew (tid t) (object_named b))) s).state.control.threads ≡ s.control.threads
@@ -346,21 +394,21 @@ module _ {P S H : Type 0} (f : P → Functions S H) (t : ℕ) where
   free_after s c common free = effect_keeps f t (λ k. blocked_of k t ≡ None) (so_kept t (λ o. o ≡ None) refl f) s c common free
 
   -- a call on descriptors that is not yet; u has the events of s
-  not_yet_allowed : (s u : State P S H) (c : Call) (r : Option ℤ) (at_once has : Bool) (a : Awaits) → ring_given c ≡ r → is_entering c ≡ false → is_no_ring s r ≡ false → is_claimed_ring s r ≡ has → u.control.events ≡ s.control.events → IsFree t u → Names c a × WaitsRightly u.resources t c
+  not_yet_allowed : (s u : State P S H) (c : Call) (r : Option ℤ) (at_once has : Bool) (a : Awaits) → ring_given c ≡ r → is_taking c ≡ false → is_no_ring s r ≡ false → is_claimed_ring s r ≡ has → u.control.events ≡ s.control.events → IsFree t u → Names c a × MayBegin u.resources t c
       → IsAllowed t c (counts_or (written_in a) EAGAIN when at_once otherwise counts_or (written_in a) EBUSY when has otherwise Blocks a) u
   not_yet_allowed s u c r true has a given other there claim same free right = allowed_at_once t c (counts_or (written_in a) EAGAIN) u other (counts_answers (written_in a) EAGAIN)
   not_yet_allowed s u c r false true a given other there claim same free right = allowed_at_once t c (counts_or (written_in a) EBUSY) u other (counts_answers (written_in a) EBUSY)
   not_yet_allowed s u c r false false a given other there claim same free right = (free, ring_waits t s u c a r given same there claim right.0 right.1)
 
   -- one that begins
-  io_allowed : (s u : State P S H) (c : Call) (r : Option ℤ) (none refused_else at_once : Bool) (v : Verdict) → ring_given c ≡ r → is_entering c ≡ false → is_no_ring s r ≡ none → u.control.events ≡ s.control.events → IsFree t u → ((a : Awaits) → Names c a × WaitsRightly u.resources t c)
+  io_allowed : (s u : State P S H) (c : Call) (r : Option ℤ) (none refused_else at_once : Bool) (v : Verdict) → ring_given c ≡ r → is_taking c ≡ false → is_no_ring s r ≡ none → u.control.events ≡ s.control.events → IsFree t u → ((a : Awaits) → Names c a × MayBegin u.resources t c)
       → IsAllowed t c (refused EINVAL when none otherwise refused EINVAL when refused_else otherwise begins_waiting s at_once r v) u
   io_allowed s u c r true refused_else at_once v given other there same free right = tells_any t c (answer.Fail EINVAL) u other
   io_allowed s u c r false true at_once v given other there same free right = tells_any t c (answer.Fail EINVAL) u other
   io_allowed s u c r false false at_once (Blocks a) given other there same free right = not_yet_allowed s u c r at_once (is_claimed_ring s r) a given other there refl same free (right a)
   io_allowed s u c r false false at_once v given other there same free right = allowed_at_once t c v u other refl
 
-  tries_allowed : (s : State P S H) (c : Call) (r : Option ℤ) (refused_else at_once : Bool) (first : Awaits) → ring_given c ≡ r → is_entering c ≡ false → let x = (tries s r refused_else at_once first).begin in IsFree t (effect_of x s).state → ((a : Awaits) (k : Resources) → Names c a × WaitsRightly k t c) → IsAllowed t c x.verdict (effect_of x s).state
+  tries_allowed : (s : State P S H) (c : Call) (r : Option ℤ) (refused_else at_once : Bool) (first : Awaits) → ring_given c ≡ r → is_taking c ≡ false → let x = (tries s r refused_else at_once first).begin in IsFree t (effect_of x s).state → ((a : Awaits) (k : Resources) → Names c a × MayBegin k t c) → IsAllowed t c x.verdict (effect_of x s).state
   tries_allowed s c r refused_else at_once first given other free right =
       let x = (tries s r refused_else at_once first).begin in
       let u = (effect_of x s).state in
@@ -373,38 +421,38 @@ module _ {P S H : Type 0} (f : P → Functions S H) (t : ℕ) where
       let passed = ring_passes s.control.events (number e) refusal in
       (free, ring_waits t s s (call.Wait e) (awaits.Ring e) (Some e) refl refl (ap not passed.0) passed.1 tt tt)
 
-  acquire_allowed : (s : State P S H) (m v e : ℤ) (no_ring none full others tries has : Bool) → is_none (mutex s m) ≡ none → is_no_ring s (extra_ring e) ≡ no_ring → is_claimed_ring s (extra_ring e) ≡ has → IsFree t s
+  acquire_allowed : (s : State P S H) (m v e : ℤ) (no_ring none full others tries has : Bool) → (levels_of t (mutex s m) == level_limit) ≡ full → is_none (mutex s m) ≡ none → is_no_ring s (extra_ring e) ≡ no_ring → is_claimed_ring s (extra_ring e) ≡ has → IsFree t s
       → IsAllowed t (call.MutexAcquire m v e) (refused EINVAL when no_ring otherwise taken_or (if none then Err EINVAL else if full then Err EAGAIN else if others then Err EBUSY else Ok tt) (refused EBUSY when tries || has otherwise Blocks (awaits.Mutex m))) s
-  acquire_allowed s m v e true none full others tries has is_none_so is_ring is_has free = tt
-  acquire_allowed s m v e false true full others tries has is_none_so is_ring is_has free = tt
-  acquire_allowed s m v e false false true others tries has is_none_so is_ring is_has free = tt
-  acquire_allowed s m v e false false false false tries has is_none_so is_ring is_has free = tt
-  acquire_allowed s m v e false false false true true has is_none_so is_ring is_has free = tt
-  acquire_allowed s m v e false false false true false true is_none_so is_ring is_has free = tt
-  acquire_allowed s m v e false false false true false false is_none_so is_ring is_has free = (free, ring_waits t s s (call.MutexAcquire m v e) (awaits.Mutex m) (extra_ring e) refl refl is_ring is_has refl (not_none (mutex s m) is_none_so))
+  acquire_allowed s m v e true none full others tries has is_full is_none_so is_ring is_has free = tt
+  acquire_allowed s m v e false true full others tries has is_full is_none_so is_ring is_has free = tt
+  acquire_allowed s m v e false false true others tries has is_full is_none_so is_ring is_has free = tt
+  acquire_allowed s m v e false false false false tries has is_full is_none_so is_ring is_has free = record { free = free; room = is_full }
+  acquire_allowed s m v e false false false true true has is_full is_none_so is_ring is_has free = tt
+  acquire_allowed s m v e false false false true false true is_full is_none_so is_ring is_has free = tt
+  acquire_allowed s m v e false false false true false false is_full is_none_so is_ring is_has free = (free, ring_waits t s s (call.MutexAcquire m v e) (awaits.Mutex m) (extra_ring e) refl refl is_ring is_has refl (not_none (mutex s m) is_none_so))
 
-  enter_allowed : (s : State P S H) (l : ℤ) (write : Bool) (v e : ℤ) (no_ring known held open_to tries has : Bool) → is_lock s l ≡ known → is_no_ring s (extra_ring e) ≡ no_ring → holds s.resources.store.rw_locks t (object_named l) ≡ held → lets_in s write l ≡ open_to → is_claimed_ring s (extra_ring e) ≡ has → IsFree t s
+  enter_allowed : (s : State P S H) (l : ℤ) (write : Bool) (v e : ℤ) (no_ring known held open_to tries has : Bool) → is_lock s l ≡ known → is_no_ring s (extra_ring e) ≡ no_ring → holds s.resources.store.rw_locks t (object_named l) ≡ held → lets_in s write l ≡ open_to → is_claimed_ring s (extra_ring e) ≡ has → IsFree t s → is_made s.control.threads.made t ≡ true
       → IsAllowed t (call.RwAcquire l write v e) (refused EINVAL when no_ring otherwise taken_or (if not known then Err EINVAL else if held then Err EDEADLK else if not open_to then Err EBUSY else Ok tt) (refused EBUSY when tries || has otherwise Blocks (awaits.Lock l write))) s
-  enter_allowed s l write v e true known held open_to tries has is_known is_ring is_held is_open_to is_has free = tt
-  enter_allowed s l write v e false false held open_to tries has is_known is_ring is_held is_open_to is_has free = tt
-  enter_allowed s l write v e false true true open_to tries has is_known is_ring is_held is_open_to is_has free = tt
-  enter_allowed s l write v e false true false true tries has is_known is_ring is_held is_open_to is_has free = record { free = free; out = is_held; open_to = is_open_to }
-  enter_allowed s l write v e false true false false true has is_known is_ring is_held is_open_to is_has free = tt
-  enter_allowed s l write v e false true false false false true is_known is_ring is_held is_open_to is_has free = tt
-  enter_allowed s l write v e false true false false false false is_known is_ring is_held is_open_to is_has free = (free, ring_waits t s s (call.RwAcquire l write v e) (awaits.Lock l write) (extra_ring e) refl refl is_ring is_has refl (is_known, is_held))
+  enter_allowed s l write v e true known held open_to tries has is_known is_ring is_held is_open_to is_has free made = tt
+  enter_allowed s l write v e false false held open_to tries has is_known is_ring is_held is_open_to is_has free made = tt
+  enter_allowed s l write v e false true true open_to tries has is_known is_ring is_held is_open_to is_has free made = tt
+  enter_allowed s l write v e false true false true tries has is_known is_ring is_held is_open_to is_has free made = record { free = free; out = is_held; open_to = is_open_to; made = made }
+  enter_allowed s l write v e false true false false true has is_known is_ring is_held is_open_to is_has free made = tt
+  enter_allowed s l write v e false true false false false true is_known is_ring is_held is_open_to is_has free made = tt
+  enter_allowed s l write v e false true false false false false is_known is_ring is_held is_open_to is_has free made = (free, ring_waits t s s (call.RwAcquire l write v e) (awaits.Lock l write) (extra_ring e) refl refl is_ring is_has refl (is_known, is_held))
 
   -- after its effect, by which t has a seat
-  pub await_allowed : (s u : State P S H) (c m e : ℤ) (bad none free other has : Bool) → is_none (mutex s m) ≡ none → is_no_ring s (extra_ring e) ≡ bad → is_claimed_ring s (extra_ring e) ≡ has → u.control.events ≡ s.control.events → u.resources ≡ s.resources → IsFree t u → (dead : Bool)
+  pub await_allowed : (s u : State P S H) (c m e : ℤ) (bad none free other has : Bool) → is_none (mutex s m) ≡ none → is_no_ring s (extra_ring e) ≡ bad → is_claimed_ring s (extra_ring e) ≡ has → u.control.events ≡ s.control.events → u.resources ≡ s.resources → IsFree t u → u.resources.awaits t ≡ false → (dead : Bool)
       → IsAllowed t (call.CondAwait c m e) (refused EINVAL when dead || bad otherwise by_result (λ released. refused EBUSY when has otherwise Blocks (awaits.Notice c)) (if none then Err EINVAL else if free then Err EDEADLK else if other then Err EACCES else Ok (tt {0}))) u
-  await_allowed s u c m e bad none free other has is_none_so is_ring is_has events same idle true = tt
-  await_allowed s u c m e true none free other has is_none_so is_ring is_has events same idle false = tt
-  await_allowed s u c m e false true free other has is_none_so is_ring is_has events same idle false = tt
-  await_allowed s u c m e false false true other has is_none_so is_ring is_has events same idle false = tt
-  await_allowed s u c m e false false false true has is_none_so is_ring is_has events same idle false = tt
-  await_allowed s u c m e false false false false true is_none_so is_ring is_has events same idle false = tt
-  await_allowed s u c m e false false false false false is_none_so is_ring is_has events same idle false =
+  await_allowed s u c m e bad none free other has is_none_so is_ring is_has events same idle calm true = unawaited t (object_named m) u calm
+  await_allowed s u c m e true none free other has is_none_so is_ring is_has events same idle calm false = unawaited t (object_named m) u calm
+  await_allowed s u c m e false true free other has is_none_so is_ring is_has events same idle calm false = unawaited t (object_named m) u calm
+  await_allowed s u c m e false false true other has is_none_so is_ring is_has events same idle calm false = unawaited t (object_named m) u calm
+  await_allowed s u c m e false false false true has is_none_so is_ring is_has events same idle calm false = unawaited t (object_named m) u calm
+  await_allowed s u c m e false false false false true is_none_so is_ring is_has events same idle calm false = unawaited t (object_named m) u calm
+  await_allowed s u c m e false false false false false is_none_so is_ring is_has events same idle calm false =
       let there = ap (λ (k : Resources). is_some (k.store.mutexes (object_named m))) same ∙ not_none (mutex s m) is_none_so in
-      (idle, ring_waits t s u (call.CondAwait c m e) (awaits.Notice c) (extra_ring e) refl events is_ring is_has (inl refl) there)
+      (idle, ring_waits t s u (call.CondAwait c m e) (awaits.Notice c) (extra_ring e) refl events is_ring is_has (inl refl) (there, calm))
 
   seats_unless : (b : Bool) (g : ConditionTable → ConditionTable) (s : State P S H) → let u = (unless_refused b (changes (with_conditions g)) s).state in (u.control.events ≡ s.control.events) × (u.resources ≡ s.resources)
   seats_unless true g s = (refl, refl)
@@ -416,32 +464,32 @@ module _ {P S H : Type 0} (f : P → Functions S H) (t : ℕ) where
   reach_allowed s b (Ok arrival.Tail) u free = tt
   reach_allowed s b (Ok (arrival.Waits round)) u free = (free, record { ring = λ e h. absurd (no_ring_some e h); rightly = tt; names = refl })
 
-  pub allowed : (s : State P S H) (c : Call) → IsFree t s → IsAllowed t c (row_of f s t c).begin.verdict (effect_of (row_of f s t c).begin s).state
+  pub allowed : (s : State P S H) (c : Call) → IsFree t s → s.resources.awaits t ≡ false → is_made s.control.threads.made t ≡ true → IsAllowed t c (row_of f s t c).begin.verdict (effect_of (row_of f s t c).begin s).state
   unfolding row_of
-  allowed s call.Kill free = allowed_at_once t call.Kill (row_of f s t call.Kill).begin.verdict (effect_of (row_of f s t call.Kill).begin s).state refl (when_answers EPERM (not (t == main)) Kills refl)
-  allowed s (call.Yield n) free = allowed_at_once t (call.Yield n) (row_of f s t (call.Yield n)).begin.verdict (effect_of (row_of f s t (call.Yield n)).begin s).state refl (when_answers EINVAL _ (Yields (answer.Int (pos 1))) refl)
-  allowed s (call.Cancel n) free = allowed_at_once t (call.Cancel n) (row_of f s t (call.Cancel n)).begin.verdict (effect_of (row_of f s t (call.Cancel n)).begin s).state refl (asking_answers (n is t) (not (is_known s.control n)) (n is main || is_dead (or_nobody (thread s.control n)).state))
-  allowed s (call.Abort n) free = allowed_at_once t (call.Abort n) (row_of f s t (call.Abort n)).begin.verdict (effect_of (row_of f s t (call.Abort n)).begin s).state refl (asking_answers (n is t) (not (is_known s.control n)) (n is main))
-  allowed s (call.Wait e) free =
+  allowed s call.Kill free calm made = allowed_at_once t call.Kill (row_of f s t call.Kill).begin.verdict (effect_of (row_of f s t call.Kill).begin s).state refl (when_answers EPERM (not (t == main)) Kills refl)
+  allowed s (call.Yield n) free calm made = allowed_at_once t (call.Yield n) (row_of f s t (call.Yield n)).begin.verdict (effect_of (row_of f s t (call.Yield n)).begin s).state refl (when_answers EINVAL _ (Yields (answer.Int (pos 1))) refl)
+  allowed s (call.Cancel n) free calm made = allowed_at_once t (call.Cancel n) (row_of f s t (call.Cancel n)).begin.verdict (effect_of (row_of f s t (call.Cancel n)).begin s).state refl (asking_answers (n is t) (not (is_known s.control n)) (n is main || is_dead (or_nobody (thread s.control n)).state))
+  allowed s (call.Abort n) free calm made = allowed_at_once t (call.Abort n) (row_of f s t (call.Abort n)).begin.verdict (effect_of (row_of f s t (call.Abort n)).begin s).state refl (asking_answers (n is t) (not (is_known s.control n)) (n is main))
+  allowed s (call.Wait e) free calm made =
       let v = (row_of f s t (call.Wait e)).begin.verdict in
       subst (IsAllowed t (call.Wait e) v) (sym (silent_unless (refuses v) s)) (wait_allowed s e (ring_refusal s.control.events (number e)) refl free)
-  allowed s (call.ReadEv d n e) free = tries_allowed s (call.ReadEv d n e) (extra_ring e) false (at_once s d) (awaits.Reading d n) refl refl (free_after s (call.ReadEv d n e) refl free) (λ a k. (tt, tt))
-  allowed s (call.WriteEv d bytes e) free = tries_allowed s (call.WriteEv d bytes e) (extra_ring e) false (at_once s d) (awaits.Writing d (length bytes) 0) refl refl (free_after s (call.WriteEv d bytes e) refl free) (λ a k. (tt, tt))
-  allowed s (call.AcceptEv d e) free = tries_allowed s (call.AcceptEv d e) (extra_ring e) false (at_once s d) (awaits.Connection d) refl refl (free_after s (call.AcceptEv d e) refl free) (λ a k. (tt, tt))
-  allowed s (call.ConnectEv d e) free = tries_allowed s (call.ConnectEv d e) (extra_ring e) false (at_once s d) (awaits.ConnectAnswer d) refl refl (free_after s (call.ConnectEv d e) refl free) (λ a k. (tt, tt))
-  allowed s (call.SelectEv r w x l e) free = tries_allowed s (call.SelectEv r w x l e) (extra_ring e) (is_refused_length s r w x l) false (awaits.Selection r w x (select_deadline s l)) refl refl (free_after s (call.SelectEv r w x l e) refl free) (λ a k. (tt, tt))
-  allowed s (call.MutexAcquire m v e) free =
+  allowed s (call.ReadEv d n e) free calm made = tries_allowed s (call.ReadEv d n e) (extra_ring e) false (at_once s d) (awaits.Reading d n) refl refl (free_after s (call.ReadEv d n e) refl free) (λ a k. (tt, tt))
+  allowed s (call.WriteEv d bytes e) free calm made = tries_allowed s (call.WriteEv d bytes e) (extra_ring e) false (at_once s d) (awaits.Writing d (length bytes) 0) refl refl (free_after s (call.WriteEv d bytes e) refl free) (λ a k. (tt, tt))
+  allowed s (call.AcceptEv d e) free calm made = tries_allowed s (call.AcceptEv d e) (extra_ring e) false (at_once s d) (awaits.Connection d) refl refl (free_after s (call.AcceptEv d e) refl free) (λ a k. (tt, tt))
+  allowed s (call.ConnectEv d e) free calm made = tries_allowed s (call.ConnectEv d e) (extra_ring e) false (at_once s d) (awaits.ConnectAnswer d) refl refl (free_after s (call.ConnectEv d e) refl free) (λ a k. (tt, tt))
+  allowed s (call.SelectEv r w x l e) free calm made = tries_allowed s (call.SelectEv r w x l e) (extra_ring e) (is_refused_length s r w x l) false (awaits.Selection r w x (select_deadline s l)) refl refl (free_after s (call.SelectEv r w x l e) refl free) (λ a k. (tt, tt))
+  allowed s (call.MutexAcquire m v e) free calm made =
       let verdict = (row_of f s t (call.MutexAcquire m v e)).begin.verdict in
-      subst (IsAllowed t (call.MutexAcquire m v e) verdict) (sym (silent_unless (refuses verdict) s)) (acquire_allowed s m v e (is_no_ring s (extra_ring e)) (is_none (mutex s m)) _ _ _ (is_claimed_ring s (extra_ring e)) refl refl refl free)
-  allowed s (call.RwAcquire l write v e) free =
+      subst (IsAllowed t (call.MutexAcquire m v e) verdict) (sym (silent_unless (refuses verdict) s)) (acquire_allowed s m v e (is_no_ring s (extra_ring e)) (is_none (mutex s m)) _ _ _ (is_claimed_ring s (extra_ring e)) refl refl refl refl free)
+  allowed s (call.RwAcquire l write v e) free calm made =
       let verdict = (row_of f s t (call.RwAcquire l write v e)).begin.verdict in
-      subst (IsAllowed t (call.RwAcquire l write v e) verdict) (sym (silent_unless (refuses verdict) s)) (enter_allowed s l write v e (is_no_ring s (extra_ring e)) (is_lock s l) (holds s.resources.store.rw_locks t (object_named l)) (lets_in s write l) _ (is_claimed_ring s (extra_ring e)) refl refl refl refl refl free)
-  allowed s (call.CondAwait c m e) free =
+      subst (IsAllowed t (call.RwAcquire l write v e) verdict) (sym (silent_unless (refuses verdict) s)) (enter_allowed s l write v e (is_no_ring s (extra_ring e)) (is_lock s l) (holds s.resources.store.rw_locks t (object_named l)) (lets_in s write l) _ (is_claimed_ring s (extra_ring e)) refl refl refl refl refl free made)
+  allowed s (call.CondAwait c m e) free calm made =
       let row = (row_of f s t (call.CondAwait c m e)).begin in
       let same = seats_unless (refuses row.verdict) (seat_entered c (seat_of t)) s in
-      await_allowed s (effect_of row s).state c m e (is_no_ring s (extra_ring e)) (is_none (mutex s m)) _ _ (is_claimed_ring s (extra_ring e)) refl refl refl same.0 same.1 (free_after s (call.CondAwait c m e) refl free) (not (is_live s.control.conditions c))
-  allowed s (call.BarrierReach b) free = reach_allowed s b (arrival_answer s.control.barriers b) (effect_of (row_of f s t (call.BarrierReach b)).begin s).state (free_after s (call.BarrierReach b) refl free)
-  allowed s c free = allowed_by t c (row_of f s t c).begin.verdict (effect_of (row_of f s t c).begin s).state refl (λ a blocks. (free_after s c refl free, waits_plainly t c a (effect_of (row_of f s t c).begin s).state refl))
+      await_allowed s (effect_of row s).state c m e (is_no_ring s (extra_ring e)) (is_none (mutex s m)) _ _ (is_claimed_ring s (extra_ring e)) refl refl refl same.0 same.1 (free_after s (call.CondAwait c m e) refl free) (ap (λ (k : Resources). k.awaits t) same.1 ∙ calm) (not (is_live s.control.conditions c))
+  allowed s (call.BarrierReach b) free calm made = reach_allowed s b (arrival_answer s.control.barriers b) (effect_of (row_of f s t (call.BarrierReach b)).begin s).state (free_after s (call.BarrierReach b) refl free)
+  allowed s c free calm made = allowed_by t c (row_of f s t c).begin.verdict (effect_of (row_of f s t c).begin s).state refl (λ a blocks. (free_after s c refl free, waits_plainly t c a (effect_of (row_of f s t c).begin s).state refl))
 
   -- ---- a call is tried again
 
@@ -510,31 +558,33 @@ module _ {P S H : Type 0} (f : P → Functions S H) (t : ℕ) where
       by_test true blocks = absurd (cc blocks)
       by_test false blocks = cc
 
-  again_names : (s : State P S H) (c : Call) (a now : Awaits) → is_entering c ≡ false → is_await c ≡ false → ((row_of f s t c).again a).verdict ≡ Blocks now → Names c now
+  again_names : (s : State P S H) (c : Call) (a now : Awaits) → is_taking c ≡ false → is_await c ≡ false → ((row_of f s t c).again a).verdict ≡ Blocks now → Names c now
   unfolding row_of
-  again_names s (call.MutexAcquire m v e) a now other plain blocks = by_test (is_free s m) blocks
-    where
-      by_test : (free : Bool) → (says 1 when free otherwise Blocks (awaits.Mutex m)) ≡ Blocks now → now ≡ awaits.Mutex m
-      by_test true blocks = absurd (cc blocks)
-      by_test false blocks = cc
+  again_names s (call.MutexAcquire m v e) a now other plain blocks = absurd (true_false other)
   again_names s (call.RwAcquire l write v e) a now other plain blocks = absurd (true_false other)
   again_names s (call.CondAwait q m e) a now other plain blocks = absurd (true_false plain)
   again_names s (call.BarrierReach b) a now other plain blocks = subst (IsRound b) (sym (round_stays s b (round_in a) now blocks)) refl
   again_names s c a now other plain blocks = tt
 
-  -- a lock is entered once t waits no longer
-  rw_again : (s : State P S H) (l : ℤ) (write : Bool) (v e : ℤ) (b : Blocked) (come known open_to held : Bool) → is_lock s l ≡ known → lets_in s write l ≡ open_to → holds s.resources.store.rw_locks t (object_named l) ≡ held → blocked_of s.control t ≡ Some b
-      → let a = unless_settled come (says 1 when (known && open_to) && not held otherwise Blocks (awaits.Lock l write) trying silent) in IsAllowedAgain t (call.RwAcquire l write v e) b a.verdict (effect_of a s).state
-  rw_again s l write v e b false true true false is_known is_open_to is_held at = record { free = stopped_free t s; out = is_held; open_to = is_open_to }
-  rw_again s l write v e b true true true false is_known is_open_to is_held at = record { free = stopped_free t s; out = is_held; open_to = is_open_to }
-  rw_again s l write v e b false true true true is_known is_open_to is_held at = (at, refl)
-  rw_again s l write v e b true true true true is_known is_open_to is_held at = tt
-  rw_again s l write v e b false true false held is_known is_open_to is_held at = (at, refl)
-  rw_again s l write v e b true true false held is_known is_open_to is_held at = tt
-  rw_again s l write v e b false false open_to held is_known is_open_to is_held at = (at, refl)
-  rw_again s l write v e b true false open_to held is_known is_open_to is_held at = tt
+  -- a mutex is taken, or a lock is entered, once t waits no longer
+  mutex_again : (s : State P S H) (m v e : ℤ) (b : Blocked) (come free : Bool) → is_free s m ≡ free → blocked_of s.control t ≡ Some b → let a = unless_settled come (says 1 when free otherwise Blocks (awaits.Mutex m) trying silent) in IsAllowedAgain t (call.MutexAcquire m v e) b a.verdict (effect_of a s).state
+  mutex_again s m v e b false true is_free_so at = record { free = stopped_free t s; room = free_room t (mutex s m) is_free_so }
+  mutex_again s m v e b true true is_free_so at = record { free = stopped_free t s; room = free_room t (mutex s m) is_free_so }
+  mutex_again s m v e b false false is_free_so at = (at, refl)
+  mutex_again s m v e b true false is_free_so at = tt
 
-  other_again : (s : State P S H) (c : Call) (b : Blocked) (come : Bool) → is_entering c ≡ false → is_await c ≡ false → blocked_of s.control t ≡ Some b → let a = unless_settled come ((row_of f s t c).again b.awaits) in IsAllowedAgain t c b a.verdict (effect_of a s).state
+  rw_again : (s : State P S H) (l : ℤ) (write : Bool) (v e : ℤ) (b : Blocked) (come known open_to held : Bool) → is_lock s l ≡ known → lets_in s write l ≡ open_to → holds s.resources.store.rw_locks t (object_named l) ≡ held → blocked_of s.control t ≡ Some b → is_made s.control.threads.made t ≡ true
+      → let a = unless_settled come (says 1 when (known && open_to) && not held otherwise Blocks (awaits.Lock l write) trying silent) in IsAllowedAgain t (call.RwAcquire l write v e) b a.verdict (effect_of a s).state
+  rw_again s l write v e b false true true false is_known is_open_to is_held at made = record { free = stopped_free t s; out = is_held; open_to = is_open_to; made = stopped_made t s ∙ made }
+  rw_again s l write v e b true true true false is_known is_open_to is_held at made = record { free = stopped_free t s; out = is_held; open_to = is_open_to; made = stopped_made t s ∙ made }
+  rw_again s l write v e b false true true true is_known is_open_to is_held at made = (at, refl)
+  rw_again s l write v e b true true true true is_known is_open_to is_held at made = tt
+  rw_again s l write v e b false true false held is_known is_open_to is_held at made = (at, refl)
+  rw_again s l write v e b true true false held is_known is_open_to is_held at made = tt
+  rw_again s l write v e b false false open_to held is_known is_open_to is_held at made = (at, refl)
+  rw_again s l write v e b true false open_to held is_known is_open_to is_held at made = tt
+
+  other_again : (s : State P S H) (c : Call) (b : Blocked) (come : Bool) → is_taking c ≡ false → is_await c ≡ false → blocked_of s.control t ≡ Some b → let a = unless_settled come ((row_of f s t c).again b.awaits) in IsAllowedAgain t c b a.verdict (effect_of a s).state
   other_again s c b false other plain at =
       let a = (row_of f s t c).again b.awaits in
       again_by t c b a.verdict (effect_of a s).state other (λ now blocks. (again_here s c b.awaits (ap is_blocking blocks) ∙ at, again_names s c b.awaits now other plain blocks))
@@ -542,10 +592,12 @@ module _ {P S H : Type 0} (f : P → Functions S H) (t : ℕ) where
       let a = unless_settled true ((row_of f s t c).again b.awaits) in
       again_by t c b a.verdict (effect_of a s).state other (λ now blocks. absurd (true_false (sym (ap is_blocking blocks) ∙ interrupted_answers ((row_of f s t c).again b.awaits).verdict)))
 
-  pub allowed_again : (s : State P S H) (c : Call) (b : Blocked) (come : Bool) → is_await c ≡ false → blocked_of s.control t ≡ Some b → let a = unless_settled come ((row_of f s t c).again b.awaits) in IsAllowedAgain t c b a.verdict (effect_of a s).state
+  pub allowed_again : (s : State P S H) (c : Call) (b : Blocked) (come : Bool) → is_await c ≡ false → blocked_of s.control t ≡ Some b → is_made s.control.threads.made t ≡ true → let a = unless_settled come ((row_of f s t c).again b.awaits) in IsAllowedAgain t c b a.verdict (effect_of a s).state
   unfolding row_of
-  allowed_again s (call.RwAcquire l write v e) b come plain at = rw_again s l write v e b come (is_lock s l) (lets_in s write l) (holds s.resources.store.rw_locks t (object_named l)) refl refl refl at
-  allowed_again s c b come plain at = other_again s c b come refl plain at
+  allowed_again s (call.MutexAcquire m v e) b come plain at made = mutex_again s m v e b come (is_free s m) refl at
+  allowed_again s (call.CondAwait c m e) b come plain at made = absurd (true_false plain)
+  allowed_again s (call.RwAcquire l write v e) b come plain at made = rw_again s l write v e b come (is_lock s l) (lets_in s write l) (holds s.resources.store.rw_locks t (object_named l)) refl refl refl at made
+  allowed_again s c b come plain at made = other_again s c b come refl plain at
 
   settled_none : (s : State P S H) (c : Call) (a : Awaits) (come : Bool) → is_reaching c ≡ false → is_special true a ≡ false → is_rounding true (unless_settled come ((row_of f s t c).again a)).verdict ≡ false
   settled_none s c a false other none = again_none true f s t c a other none

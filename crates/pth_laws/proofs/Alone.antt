@@ -1,5 +1,5 @@
--- Where a thread writes under a lock none reads.
-use Rattle.std.proofs.Common.{◌≡◌, ℕ, zero, suc, ◌+◌, ◌==◌, ◌&&◌, ◌||◌, not, Bool, true, false, if◌then◌else◌, ℤ, pos, Option, Some, None, is_some, refl, sym, subst, ◌∙◌, ap, arith}
+-- Where a thread writes under a lock none reads; and who holds a lock was made.
+use Rattle.std.proofs.Common.{◌≡◌, ◌≤◌, ℕ, zero, suc, ◌+◌, ◌==◌, ◌&&◌, ◌||◌, not, Bool, true, false, if◌then◌else◌, ℤ, pos, Option, Some, None, is_some, refl, sym, subst, ◌∙◌, ap, arith}
 use Rattle.std.proofs.lemmas.Bool.Decides.{nat_tests}
 use Rattle.pth_base.specs.Program.{Functions}
 use Rattle.pth_base.specs.Table.{put}
@@ -15,14 +15,29 @@ use Rattle.pth_base.proofs.Tables.{put_by, put_is, same_means, same_self, not_sa
 use Rattle.pth_lock.specs.Objects.{object_named}
 use Rattle.pth_lock.specs.RwLocks.{LockTables, holds, is_one, may_enter, is_written, lock_released, lock_taken, without_slot, readers_without}
 use Rattle.pth_model.specs.Resources.{Resources, locks_of_only, on_one, on_int, on_msg, told, answer_told, act_told, retaken, let_go}
-use Rattle.pth_model.specs.State.{State, Given, start}
+use Rattle.pth_cond.specs.Conditions.{seat_entered}
+use Rattle.pth_cond.specs.Barriers.{barrier_reached}
+use Rattle.pth_model.specs.declared.awaits.Awaits.TheVariants.{Round, Notice, Retaking}
+use Rattle.pth_model.specs.declared.progress.Progress.{Progress}
+use Rattle.pth_threads.specs.declared.entry.Change as change_of_record
+use Rattle.pth_model.specs.Conditions.{seat_of}
+use Rattle.pth_model.specs.State.{State, Control, Given, start}
+use Rattle.pth_model.specs.Transition.{controlled, tells, tid}
+use Rattle.pth_model.specs.Changes.{sets, goes_on, blocking, is_blocked_by, makes, forgets, with_conditions, with_barriers, blocked_of}
+use Rattle.pth_model.specs.Living.{is_made}
+use Rattle.pth_model.specs.RingWaits.{claims, extra_ring, gives_back, ring_given, ring_held, stops_waiting}
+use Rattle.pth_model.specs.ThreadControl.{values_for, or_first}
+use Rattle.pth_model.specs.LibraryControl.{vanish_all_but}
+use Rattle.pth_model.specs.Calls.{blocks}
+use Rattle.pth_model.specs.Pass.{looks}
 use Rattle.pth_model.specs.Run.{run}
 use Rattle.pth_laws.specs.Holders.{AreHoldersApart}
-use Rattle.pth_laws.proofs.Living.{true_false}
+use Rattle.pth_laws.proofs.Living.{made_more, true_false}
 use Rattle.pth_laws.proofs.Held.{neither}
-use Rattle.pth_laws.proofs.Counted.{IsCounted, counted_none, counted_more, counted_less, none_passes}
+use Rattle.pth_laws.proofs.Counted.{IsCounted, counted_none, counted_more, counted_less, counted_below, none_passes}
 use Rattle.pth_laws.proofs.Allowed.{IsToTell}
 use Rattle.pth_laws.proofs.Along.{KeptAlong, run_keeps}
+use Rattle.pth_laws.proofs.Waiting.{EntersNot, told_stays}
 
 -- a lock: who reads is counted, and none does if a thread writes
 abbrev IsApart : Option ℕ → (ℕ → Bool) → ℕ → Type 0
@@ -168,56 +183,153 @@ module _ {P S H : Type 0} (s : State P S H) (all : AreApart s.resources.store.rw
   told_apart (mark.Ended t v) may = left_one s.resources.store.rw_locks all t.0
   told_apart m may = all
 
+-- ---- who was made
+
+-- numbers past the last one that was made
+past_made : (n t : ℕ) → n + 1 ≤ t → is_made n t ≡ false
+past_made n zero past = refl
+past_made n (suc t) past = grind (arith, nat_tests)
+
+unmade_before : (n t : ℕ) → is_made (n + 1) t ≡ false → is_made n t ≡ false
+unmade_before n t later = by_test (is_made n t) refl
+  where
+    by_test : (b : Bool) → is_made n t ≡ b → is_made n t ≡ false
+    by_test true made = absurd (true_false (sym (made_more n (n + 1) t (omega arith) made) ∙ later))
+    by_test false none = none
+
+module _ {P S H : Type 0} where
+  -- who was not made holds no lock
+  abbrev AreMade : State P S H → Type 0
+  AreMade s = (u l : ℕ) → is_made s.control.threads.made u ≡ false → holds s.resources.store.rw_locks u l ≡ false
+
+  -- a change by which no thread is made
+  abbrev MakesNone : (Control P S H → Control P S H) → Type 0
+  MakesNone g = (k : Control P S H) → (g k).threads.made ≡ k.threads.made
+
+  made_as : (g : Control P S H → Control P S H) (s : State P S H) → MakesNone g → AreMade s → AreMade (controlled g s)
+  made_as g s same r u l none = r u l (ap (λ n. is_made n u) (sym (same s.control)) ∙ none)
+
+  set_none : (t : ℕ) (c : change_of_record.Change) → MakesNone (sets t c)
+  unfolding sets
+  set_none t c k = refl
+
+  forgotten_none : (t : ℕ) → MakesNone (forgets t)
+  unfolding forgets
+  forgotten_none t k = refl
+
+  vanished_none : (t : ℕ) → MakesNone (vanish_all_but t)
+  unfolding vanish_all_but
+  vanished_none t k = refl
+
+  looked_none : (f : P → Functions S H) (s : State P S H) → MakesNone (looks f s)
+  unfolding looks
+  looked_none f s k = refl
+
+  goes_none : (t : ℕ) (g : Progress S → Progress S) → MakesNone (goes_on t g)
+  unfolding goes_on
+  goes_none t g k = refl
+
+  claimed_none : (t : ℕ) (e : Option ℤ) → MakesNone (claims t e)
+  unfolding claims
+  claimed_none t None k = refl
+  claimed_none t (Some e) k = refl
+
+  returned_none : (e : Option ℤ) → MakesNone (gives_back e)
+  unfolding gives_back
+  returned_none None k = refl
+  returned_none (Some e) k = refl
+
+  stopped_none : (t : ℕ) → MakesNone (stops_waiting t)
+  unfolding stops_waiting
+  stopped_none t k = returned_none (ring_held (blocked_of k t)) (is_blocked_by t None k) ∙ goes_none t (blocking None) k
+
+  one_made : (f : P → Functions S H) (t b : ℕ) (v a : ℤ) (s : State P S H) → AreMade s → AreMade (controlled (makes f b v (or_first (values_for s.control t a))) s)
+  unfolding makes
+  one_made f t b v a s r u l none = r u l (unmade_before s.control.threads.made u none)
+
+  -- who enters a lock was made
+  enters_not : (m : Mark) (s : State P S H) (u : ℕ) → IsToTell m s → is_made s.control.threads.made u ≡ false → EntersNot u m
+  enters_not (mark.Answered t (call.RwAcquire l write v e) (answer.Int n)) s u may none = λ same. true_false (sym may.made ∙ ap (is_made s.control.threads.made) (sym same) ∙ none)
+  enters_not m s u may none = tt
+
+  made_told : (m : Mark) (s : State P S H) → IsToTell m s → AreMade s → AreMade (tells m s).state
+  made_told m s may r u l none = (told_stays u s.resources m (enters_not m s u may none)).out l (r u l none)
+
 -- ---- every run
 
 module _ {P S H : Type 0} where
   abbrev Apart : State P S H → Type 0
   Apart s = AreApart s.resources.store.rw_locks
 
-  apart_kept : (f : P → Functions S H) → KeptAlong f Apart
+  abbrev Both : State P S H → Type 0
+  Both s = Apart s × AreMade s
+
+  apart_kept : (f : P → Functions S H) → KeptAlong f Both
   apart_kept f = record {
     handlers = record {
       shared = λ h s r. r;
       seated = λ x s fewer r. r;
-      told = λ m s may r. told_apart s r m may;
+      told = λ m s may r. (told_apart s r.0 m may, made_told m s may r.1);
     };
     placed = λ standing entries raises s r. r;
     scheduled = λ x s r. r;
     timed = λ x s r. r;
     used = λ o s r. r;
-    set = λ t c s safe life r. r;
-    made = λ t b v a s next r. r;
-    forgotten = λ t s gone r. r;
-    vanished = λ t s free r. r;
+    set = λ t c s safe life r. (r.0, made_as (sets t c) s (set_none t c) r.1);
+    made = λ t b v a s next r. (r.0, one_made f t b v a s r.1);
+    forgotten = λ t s gone r. (r.0, made_as (forgets t) s (forgotten_none t) r.1);
+    vanished = λ t s free r. (r.0, made_as (vanish_all_but t) s (vanished_none t) r.1);
     added = λ s r. r;
     bound = λ t s r. r;
     renewed = λ n s r. r;
     valued = λ a v x s there inside r. r;
     destroyed = λ n s r. r;
     arranges = λ x s may r. r;
-    looked = λ s r. r;
+    looked = λ s r. (r.0, made_as (looks f s) s (looked_none f s) r.1);
     barred = λ x s fewer all r. r;
-    reached = λ t b round s free alive there waits r. r;
-    goes = λ t g s same r. r;
-    blocked = λ t c a s free other none may r. r;
-    waits_on = λ t a b s at names stays other plain r. r;
-    stopped = λ t x y s fewer others seats left gone r. r;
-    takes_seat = λ t c m e s free alive there may r. r;
-    retakes = λ t c m e a o y s fewer gone at r. r;
+    reached = λ t b round s free alive there waits r. (r.0, made_as (λ k. blocks t (call.BarrierReach b) (Round b round) (with_barriers (barrier_reached b t) k)) s (λ k. goes_none t _ (with_barriers (barrier_reached b t) k)) r.1);
+    goes = λ t g s same r. (r.0, made_as (goes_on t g) s (goes_none t g) r.1);
+    blocked = λ t c a s free other none may r. (r.0, made_as (λ k. blocks t c a (claims t (ring_given c) k)) s (λ k. goes_none t _ (claims t (ring_given c) k) ∙ claimed_none t (ring_given c) k) r.1);
+    waits_on = λ t a b s at names stays other plain r. (r.0, made_as (is_blocked_by t (Some (record b { awaits = a }))) s (goes_none t _) r.1);
+    stopped = λ t x y s fewer others seats left gone r. (r.0, made_as (λ k. stops_waiting t (with_conditions (λ z. y) (with_barriers (λ z. x) k))) s (λ k. stopped_none t (with_conditions (λ z. y) (with_barriers (λ z. x) k))) r.1);
+    takes_seat = λ t c m e s free alive there may r.
+        let x = mark.Waits (tid t) (call.CondAwait c m e) in
+        let seated : Control P S H → Control P S H = λ k. with_conditions (seat_entered c (seat_of t)) k in
+        let g : Control P S H → Control P S H = λ k. blocks t (call.CondAwait c m e) (Notice c) (claims t (extra_ring e) (seated k)) in
+        (told_apart s r.0 x tt, made_told x (controlled g s) tt (made_as g s (λ k. goes_none t _ (claims t (extra_ring e) (seated k)) ∙ claimed_none t (extra_ring e) (seated k)) r.1));
+    retakes = λ t c m e a o y s fewer gone at r. (
+      r.0,
+      made_as (λ k. blocks t (call.CondAwait c m e) (Retaking m o) (stops_waiting t (with_conditions (λ z. y) k))) s (λ k. goes_none t _ (stops_waiting t (with_conditions (λ z. y) k)) ∙ stopped_none t (with_conditions (λ z. y) k)) r.1,
+    );
   }
 
-  apart_start : (f : P → Functions S H) (g : Given P) → Apart (start f g)
+  apart_start : (f : P → Functions S H) (g : Given P) → Both (start f g)
   unfolding start
-  apart_start f g l = (counted_none, λ h. refl)
+  apart_start f g = (λ l. (counted_none, λ h. refl), λ u l none. refl)
 
   pub run_apart : (f : P → Functions S H) (g : Given P) (i : ℕ) → AreHoldersApart (run f g i).state
-  run_apart f g i = record { once = λ t l h. reads_not t t l h; alone = λ t u l h held. by_test u t l h (is_one u (y.writer l)) refl held }
+  run_apart f g i = record {
+    once = λ t l h. reads_not t t l h;
+    alone = λ t u l h held. by_test u t l h (is_one u (y.writer l)) refl held;
+    made = λ t l held. by_made t l held (is_made n t) refl;
+    counted = λ l. counted_below (y.reads l) (y.readers l) (n + 1) (all l).0 (λ t past. (neither (is_one t (y.writer l)) (y.reads l t) (both.1 t l (past_made n t past))).1);
+  }
     where
       y : LockTables
       y = (run f g i).state.resources.store.rw_locks
 
+      n : ℕ
+      n = (run f g i).state.control.threads.made
+
+      both : Both (run f g i).state
+      both = run_keeps f Both (apart_kept f) g (apart_start f g) i
+
       all : AreApart y
-      all = run_keeps f Apart (apart_kept f) g (apart_start f g) i
+      all = both.0
+
+      by_made : (t l : ℕ) → holds y t l ≡ true → (b : Bool) → is_made n t ≡ b → is_made n t ≡ true
+      by_made t l held true made = made
+      by_made t l held false none = absurd (true_false (sym held ∙ both.1 t l none))
 
       -- nobody reads
       reads_not : (t u l : ℕ) → y.writer l ≡ Some t → y.reads l u ≡ false

@@ -1,6 +1,6 @@
 -- What every part of a run keeps of a state, by the changes and the marks of which parts are made. Beside each stands what is known as it
 -- is made.
-use Rattle.std.proofs.Common.{◌≡◌, ℕ, zero, suc, ◌+◌, ◌*◌, ◌&&◌, ◌||◌, not, min, Bool, true, false, if◌then◌else◌, ℤ, pos, ◌+ℤ◌, List, [], ◌∷◌, map, reverse, ◌⊎◌, inl, inr, Option, Some, None, is_none, is_some, option_map, refl, sym, ◌∙◌, ap, subst, Result, Ok, Err, arith}
+use Rattle.std.proofs.Common.{◌≡◌, ◌≢◌, ◌==◌, ℕ, zero, suc, ◌+◌, ◌*◌, ◌&&◌, ◌||◌, not, min, Bool, true, false, if◌then◌else◌, ℤ, pos, ◌+ℤ◌, List, [], ◌∷◌, map, reverse, ◌⊎◌, inl, inr, Option, Some, None, is_none, is_some, option_map, refl, sym, ◌∙◌, ap, subst, Result, Ok, Err, arith}
 use Rattle.std.proofs.lemmas.Bool.{not-false}
 use Rattle.std.proofs.lemmas.Int.{ints}
 use Rattle.pth_base.specs.Limits.{last_count, last_moment}
@@ -22,11 +22,14 @@ use Rattle.pth_base.specs.declared.ids.HandlerId.{HandlerId}
 use Rattle.pth_base.specs.declared.ids.Tid.{Tid}
 use Rattle.pth_base.specs.declared.mark.Mark.{Mark}
 use Rattle.pth_base.specs.declared.mark.Mark.TheVariants as mark
+use Rattle.pth_base.specs.declared.outcome.Outcome.{Outcome}
+use Rattle.pth_base.specs.declared.outcome.Outcome.TheVariants as outcome
 use Rattle.pth_base.specs.declared.query.Query.{Query}
 use Rattle.pth_base.specs.declared.query.Query.TheVariants as query
 use Rattle.pth_base.specs.declared.thread.ThreadState.{ThreadState}
 use Rattle.pth_base.specs.declared.thread.ThreadState.TheVariants as state
-use Rattle.pth_base.proofs.Tables.{put_here}
+use Rattle.pth_base.specs.Chain.{StandsIn}
+use Rattle.pth_base.proofs.Tables.{put_here, same_fails}
 use Rattle.pth_cond.specs.declared.barriers.Arrival.{Arrival}
 use Rattle.pth_cond.specs.declared.barriers.Arrival.TheVariants as arrival
 use Rattle.pth_cond.specs.Conditions.{ConditionTable, is_live, cond_notified, seat_entered, seat_left, seat_handed_on}
@@ -43,6 +46,7 @@ use Rattle.pth_ring.specs.Rings.{Events, event_id, make_answer, chain_answer, un
 use Rattle.pth_store.specs.Cleanups.{PushedHandler}
 use Rattle.pth_store.specs.Keys.{key_limit}
 use Rattle.pth_threads.specs.Attributes.{IsSetPrio, first_values, least_priority, with_value, change_of, is_gone, is_fixed, is_in_range, set_answer, top_priority}
+use Rattle.pth_threads.specs.Threads.{changed}
 use Rattle.pth_threads.specs.declared.attribute.Attribute.{Attribute}
 use Rattle.pth_threads.specs.declared.attribute.Attribute.TheVariants.{Free, Bound}
 use Rattle.pth_threads.specs.declared.entry.Change as change_of_record
@@ -64,7 +68,7 @@ use Rattle.pth_model.specs.Conditions.{seat_of, can_take, is_noticed, leaves_sea
 use Rattle.pth_model.specs.Mutexes.{mutex}
 use Rattle.pth_model.specs.Barriers.{arrived_as, withdraws, withdraws_from}
 use Rattle.pth_model.specs.Resources.{handler}
-use Rattle.pth_model.specs.Standing.{Standing}
+use Rattle.pth_model.specs.Standing.{Standing, left_by, is_queue, raises_of}
 use Rattle.pth_model.specs.State.{State, Given, Scheduler, Turn, start, queue, now_of, clock_of}
 use Rattle.pth_model.specs.Transition.{Piece, Change, silent, nothing, changes, tells, tells_each, tid, controlled, where_so, ◌and◌, ◌and_then◌}
 use Rattle.pth_model.specs.Changes.{shares, uses, sets, goes_on, owing, is_blocked_by, enters, leaves_queue, raises_ready, makes, forgets, removes, adds_object, puts_object, with_threads, with_conditions, with_barriers, with_events, with_kernel, with_scheduler, moves_to, prefers, runs_now, blocked_in, blocked_of, or_nobody, entry_of, prio_of, queue_for, holders}
@@ -86,18 +90,19 @@ use Rattle.pth_model.specs.Living.{is_dead, lives}
 use Rattle.pth_model.specs.Rows.{row_of}
 use Rattle.pth_model.specs.Calls.{begun, begun_by, begun_as, blocks, gone_on, gone_on_where, canceled_by, tried_again, tried_again_by, tried_by, unless_settled, interrupted, retaken_as, retakes_where, awaits_on_where, awaits_on, gone_on_in, gone_on_by}
 use Rattle.pth_model.specs.Pass.{pass, looks, to_wake, woken, all_woken, is_ready_at, moment}
-use Rattle.pth_model.specs.Part.{rank_by, Part, Move, Take, Step, Close, Halt, part, part_by, next_part, chosen, readies, readies_all, readies_new, runs, dispatches, takes, takes_by, owes_after, steps, steps_on, steps_by, is_put_back, is_put_waiting, placed_by, is_placed, turn_ends, closes, moves, moves_by}
+use Rattle.pth_model.specs.Part.{rank_by, Part, Move, Take, Step, Close, Halt, part, part_by, next_part, chosen, readies, readies_all, readies_new, runs, dispatches, takes, takes_by, owes_after, steps, steps_on, steps_by, is_put_back, is_put_waiting, placed_by, is_placed, turn_ends, closes, moves, moves_by, unless_ended}
 use Rattle.pth_model.specs.Run.{parts, run}
 use Rattle.pth_model.proofs.Walks.{named_dead}
 use Rattle.pth_laws.specs.Waits.{Names}
 use Rattle.pth_laws.proofs.Living.{true_false}
 use Rattle.pth_laws.proofs.Going.{IsSound, sound_steps}
-use Rattle.pth_laws.proofs.EveryRun.{run_sound}
+use Rattle.pth_laws.proofs.EveryRun.{run_sound, run_valid}
 use Rattle.pth_model.proofs.NoRounds.{is_reaching, is_special, is_rounding, begins_none, again_plainly}
-use Rattle.pth_laws.proofs.Seats.{HasFewerSeats, HasLeftAt, seats_same, seats_fewer, left_fewer, seats_notified, seats_initialised, seats_left, left_there, seats_handed, handed_there}
-use Rattle.pth_laws.proofs.EventSeats.{fewer_handed}
+use Rattle.pth_laws.proofs.Seats.{HasLeftAt, left_fewer, left_there, handed_there}
+use Rattle.pth_laws.proofs.KeptSeats.{KeepsSeats, KeepsOtherSeats, keeps_handed, keeps_notified, keeps_initialised, keeps_same, keeps_then, keeps_left, keeps_handed_on}
+use Rattle.pth_laws.proofs.NoNotices.{is_notice, is_noticing, begins_unnoticed, again_unnoticed}
 use Rattle.pth_laws.proofs.Rounds.{HasFewer, HasOthers, HasAll, fewer_same, fewer_initialised, fewer_tail, fewer_answered, fewer_withdrawn, others_answered, others_withdrawn, all_initialised, all_reached}
-use Rattle.pth_laws.proofs.Allowed.{IsFree, IsToTell, MayWait, IsAllowed, IsAllowedAgain, StaysAt, HasLeft, HasLeftSeat, unseated, unseated_again, is_blocking, await_allowed, allowed, allowed_again, stays_again, left_again, left_ended, stopped_free}
+use Rattle.pth_laws.proofs.Allowed.{IsFree, IsTaking, IsToTell, unawaited, takes_room, MayWait, IsAllowed, IsAllowedAgain, StaysAt, HasLeft, HasLeftSeat, unseated, unseated_again, is_blocking, await_allowed, allowed, allowed_again, stays_again, left_again, left_ended, stopped_free}
 
 -- a change of a record that leaves its base priority in its range
 abbrev pub IsPrioSafe : change_of_record.Change → Type 0
@@ -109,9 +114,33 @@ abbrev pub IsLifeSafe : {P S H : Type 0} → ℕ → change_of_record.Change →
 IsLifeSafe t (change.State state.Dead) s = IsFree t s
 IsLifeSafe t c s = Unit {0}
 
+-- in a step none begins to wait: a thread is put among the waiting ones as its turn is closed
+abbrev pub IsStepSafe : {P S H : Type 0} → ℕ → change_of_record.Change → State P S H → Type 0
+IsStepSafe t (change.State state.Dead) s = IsFree t s
+IsStepSafe t (change.State state.Waiting) s = ⊥
+IsStepSafe t c s = Unit {0}
+
+-- who stands in a queue
+abbrev pub standers : List Standing → List ℕ
+standers all = map (λ x. x.tid) all
+
+-- the state of a thread
+abbrev pub state_of : {P S H : Type 0} → State P S H → ℕ → ThreadState
+state_of s t = (or_nobody (entry_of s.control t)).state
+
+-- whoever stands among the waiting threads stood there, or its state is waiting
+abbrev pub MayStand : {P S H : Type 0} → (Queue → List Standing) → State P S H → Type 0
+MayStand standing s = (u : ℕ) → StandsIn u (standers (standing Waiting)) → StandsIn u (standers (s.control.threads.standing Waiting)) ⊎ (state_of s u ≡ state.Waiting)
+
 -- no call blocks t, or it does not live
 abbrev pub IsGone : {P S H : Type 0} → ℕ → State P S H → Type 0
 IsGone t s = IsFree t s ⊎ (lives (s.control.threads.known t) ≡ false)
+
+-- calls that take a place where they wait
+abbrev pub is_placing : Call → Bool
+is_placing (call.BarrierReach b) = true
+is_placing (call.CondAwait c m e) = true
+is_placing c = false
 
 abbrev is_saying : Verdict → Bool
 is_saying (Says a) = true
@@ -146,18 +175,32 @@ MayArrange x (RingFreed e) = ring_refusal x e ≡ None
 -- what handlers do, and what is told of them: the program's shared value changes, and the marks of seats
 pub record KeptByHandlers {P S H : Type 0} (R : State P S H → Type 0) : Type 0 where
   pub shared : (h : H) (s : State P S H) → R s → R (controlled (shares h) s)
-  pub seated : (x : ConditionTable) (s : State P S H) → HasFewerSeats x s.control.conditions → R s → R (controlled (with_conditions (λ y. x)) s)
+  pub seated : (x : ConditionTable) (s : State P S H) → KeepsSeats x s.control.conditions → R s → R (controlled (with_conditions (λ y. x)) s)
   pub told : (m : Mark) (s : State P S H) → IsToTell m s → R s → R (tells m s).state
 
-pub record KeptAlong {P S H : Type 0} (f : P → Functions S H) (R : State P S H → Type 0) : Type 0 where
+-- Other places in queues, changes of records, and looks. A step puts nobody among the waiting threads, and looks at no event: these two
+-- are left out where not all changes are asked for.
+abbrev pub KeepsPlaces : {P S H : Type 0} → (all : Bool) → (State P S H → Type 0) → Type 0
+KeepsPlaces {P = P} {S = S} {H = H} true R = (standing : Queue → List Standing) (entries raises : ℕ) (s : State P S H) → R s → R (controlled (with_threads (λ x. record x { standing = standing; entries = entries; raises = raises })) s)
+KeepsPlaces {P = P} {S = S} {H = H} false R = (standing : Queue → List Standing) (entries raises : ℕ) (s : State P S H) → MayStand standing s → R s → R (controlled (with_threads (λ x. record x { standing = standing; entries = entries; raises = raises })) s)
+
+abbrev pub KeepsRecords : {P S H : Type 0} → (all : Bool) → (State P S H → Type 0) → Type 0
+KeepsRecords {P = P} {S = S} {H = H} true R = (t : ℕ) (c : change_of_record.Change) (s : State P S H) → IsPrioSafe c → IsLifeSafe t c s → R s → R (controlled (sets t c) s)
+KeepsRecords {P = P} {S = S} {H = H} false R = (t : ℕ) (c : change_of_record.Change) (s : State P S H) → IsPrioSafe c → IsStepSafe t c s → R s → R (controlled (sets t c) s)
+
+abbrev pub KeepsLooks : {P S H : Type 0} → (all : Bool) → (P → Functions S H) → (State P S H → Type 0) → Type 0
+KeepsLooks {P = P} {S = S} {H = H} true f R = (s : State P S H) → R s → R (controlled (looks f s) s)
+KeepsLooks {P = P} {S = S} {H = H} false f R = Unit {0}
+
+pub record Kept {P S H : Type 0} (all : Bool) (f : P → Functions S H) (R : State P S H → Type 0) : Type 0 where
   pub handlers : KeptByHandlers R
   -- the places in queues, what the scheduler keeps, the kernel, and what was used once
-  pub placed : (standing : Queue → List Standing) (entries raises : ℕ) (s : State P S H) → R s → R (controlled (with_threads (λ x. record x { standing = standing; entries = entries; raises = raises })) s)
+  pub placed : KeepsPlaces all R
   pub scheduled : (x : Scheduler) (s : State P S H) → R s → R (controlled (with_scheduler (λ y. x)) s)
   pub timed : (x : Kernel) (s : State P S H) → R s → R (controlled (with_kernel (λ y. x)) s)
   pub used : (o : ℕ → Bool) (s : State P S H) → R s → R (controlled (λ k. record k { used = o }) s)
   -- the records of threads
-  pub set : (t : ℕ) (c : change_of_record.Change) (s : State P S H) → IsPrioSafe c → IsLifeSafe t c s → R s → R (controlled (sets t c) s)
+  pub set : KeepsRecords all R
   pub made : (t b : ℕ) (v a : ℤ) (s : State P S H) → lives (s.control.threads.known (s.control.threads.made + 1)) ≡ false → R s → R (controlled (makes f b v (or_first (values_for s.control t a))) s)
   pub forgotten : (t : ℕ) (s : State P S H) → IsGone t s → R s → R (controlled (forgets t) s)
   pub vanished : (t : ℕ) (s : State P S H) → IsFree t s → R s → R (controlled (vanish_all_but t) s)
@@ -169,20 +212,87 @@ pub record KeptAlong {P S H : Type 0} (f : P → Functions S H) (R : State P S H
   pub destroyed : (n : ℕ) (s : State P S H) → R s → R (controlled (puts_object n None) s)
   -- events, and looks at them
   pub arranges : (x : Arrangement) (s : State P S H) → MayArrange s.control.events x → R s → R (controlled (with_events (arranged x)) s)
-  pub looked : (s : State P S H) → R s → R (controlled (looks f s) s)
+  pub looked : KeepsLooks all f R
   -- barriers: none has an arrival more, and none is lost; or t's call makes one, and waits for its round
   pub barred : (x : BarrierTable) (s : State P S H) → HasFewer x s.control.barriers → HasAll x s.control.barriers → R s → R (controlled (with_barriers (λ y. x)) s)
   pub reached : (t : ℕ) (b : ℤ) (round : ℕ) (s : State P S H) → IsFree t s → lives (s.control.threads.known t) ≡ true → is_some (s.control.threads.progress t) ≡ true → arrival_answer s.control.barriers b ≡ Ok (arrival.Waits round) → R s → R (controlled (λ k. blocks t (call.BarrierReach b) (awaits.Round b round) (with_barriers (barrier_reached b t) k)) s)
   -- how far threads are, and what blocks them
   pub goes : (t : ℕ) (g : Progress S → Progress S) (s : State P S H) → ((p : Progress S) → (g p).blocked ≡ p.blocked) → R s → R (controlled (goes_on t g) s)
-  pub blocked : (t : ℕ) (c : Call) (a : Awaits) (s : State P S H) → IsFree t s → is_reaching c ≡ false → is_special true a ≡ false → MayWait t c a s → R s → R (controlled (λ k. blocks t c a (claims t (ring_given c) k)) s)
-  pub waits_on : (t : ℕ) (a : Awaits) (b : Blocked) (s : State P S H) → blocked_of s.control t ≡ Some b → Names b.call a → StaysAt b.call b.awaits a → is_await b.call ≡ false → (is_retaking b.awaits ≡ false) × (is_retaking a ≡ false) → R s → R (controlled (is_blocked_by t (Some (record b { awaits = a }))) s)
+  pub blocked : (t : ℕ) (c : Call) (a : Awaits) (s : State P S H) → IsFree t s → is_placing c ≡ false → (is_special true a ≡ false) × (is_notice a ≡ false) → MayWait t c a s → R s → R (controlled (λ k. blocks t c a (claims t (ring_given c) k)) s)
+  pub waits_on : (t : ℕ) (a : Awaits) (b : Blocked) (s : State P S H) → blocked_of s.control t ≡ Some b → Names b.call a → StaysAt b.call b.awaits a → is_await b.call ≡ false → (is_retaking b.awaits ≡ false) × (is_retaking a ≡ false) × (is_notice b.awaits ≡ false → is_notice a ≡ false) → R s → R (controlled (is_blocked_by t (Some (record b { awaits = a }))) s)
   -- no call blocks t any longer, and its arrival, or its seat, may be lost with this
-  pub stopped : (t : ℕ) (x : BarrierTable) (y : ConditionTable) (s : State P S H) → HasFewer x s.control.barriers → HasOthers t x s.control.barriers → HasFewerSeats y s.control.conditions → HasLeft t (controlled (with_barriers (λ z. x)) s) → HasLeftSeat t y s → R s → R (controlled (λ k. stops_waiting t (with_conditions (λ z. y) (with_barriers (λ z. x) k))) s)
-  -- t takes a seat at a condition, and waits there
-  pub takes_seat : (t : ℕ) (c m e : ℤ) (s : State P S H) → IsFree t s → lives (s.control.threads.known t) ≡ true → is_some (s.control.threads.progress t) ≡ true → MayWait t (call.CondAwait c m e) (awaits.Notice c) s → R s → R (controlled (λ k. blocks t (call.CondAwait c m e) (awaits.Notice c) (claims t (extra_ring e) (with_conditions (seat_entered c (seat_of t)) k))) s)
+  pub stopped : (t : ℕ) (x : BarrierTable) (y : ConditionTable) (s : State P S H) → HasFewer x s.control.barriers → HasOthers t x s.control.barriers → KeepsOtherSeats t y s.control.conditions → HasLeft t (controlled (with_barriers (λ z. x)) s) → HasLeftSeat t y s → R s → R (controlled (λ k. stops_waiting t (with_conditions (λ z. y) (with_barriers (λ z. x) k))) s)
+  -- t takes a seat at a condition, which is initialised, and waits there, as is told
+  pub takes_seat : (t : ℕ) (c m e : ℤ) (s : State P S H) → IsFree t s → lives (s.control.threads.known t) ≡ true → (is_some (s.control.threads.progress t) ≡ true) × (is_live s.control.conditions c ≡ true) → MayWait t (call.CondAwait c m e) (awaits.Notice c) s → R s → R (tells (mark.Waits (tid t) (call.CondAwait c m e)) (controlled (λ k. blocks t (call.CondAwait c m e) (awaits.Notice c) (claims t (extra_ring e) (with_conditions (seat_entered c (seat_of t)) k))) s)).state
   -- its wait there is over, its seat may be lost with this, and it waits for its mutex
-  pub retakes : (t : ℕ) (c m e : ℤ) (a : Awaits) (o : Retake) (y : ConditionTable) (s : State P S H) → HasFewerSeats y s.control.conditions → HasLeftSeat t y s → blocked_of s.control t ≡ Some (record { call = call.CondAwait c m e; awaits = a }) → R s → R (controlled (λ k. blocks t (call.CondAwait c m e) (awaits.Retaking m o) (stops_waiting t (with_conditions (λ z. y) k))) s)
+  pub retakes : (t : ℕ) (c m e : ℤ) (a : Awaits) (o : Retake) (y : ConditionTable) (s : State P S H) → KeepsOtherSeats t y s.control.conditions → HasLeftSeat t y s → blocked_of s.control t ≡ Some (record { call = call.CondAwait c m e; awaits = a }) → R s → R (controlled (λ k. blocks t (call.CondAwait c m e) (awaits.Retaking m o) (stops_waiting t (with_conditions (λ z. y) k))) s)
+
+-- of all parts, and of steps alone
+abbrev pub KeptAlong : {P S H : Type 0} → (P → Functions S H) → (State P S H → Type 0) → Type 0
+KeptAlong f R = Kept true f R
+
+abbrev pub KeptBySteps : {P S H : Type 0} → (P → Functions S H) → (State P S H → Type 0) → Type 0
+KeptBySteps f R = Kept false f R
+
+pub life_of_step : {P S H : Type 0} (t : ℕ) (c : change_of_record.Change) (s : State P S H) → IsStepSafe t c s → IsLifeSafe t c s
+life_of_step t (change.State state.Dead) s safe = safe
+life_of_step t (change.State state.Waiting) s safe = absurd safe
+life_of_step t (change.State at) s safe = tt
+life_of_step t c s safe = tt
+
+-- what all changes keep, steps do
+kept_by_steps : {P S H : Type 0} (f : P → Functions S H) (R : State P S H → Type 0) → KeptAlong f R → KeptBySteps f R
+kept_by_steps f R kept = record {
+  handlers = kept.handlers;
+  placed = λ standing entries raises s may r. kept.placed standing entries raises s r;
+  scheduled = kept.scheduled;
+  timed = kept.timed;
+  used = kept.used;
+  set = λ t c s prio life r. kept.set t c s prio (life_of_step t c s life) r;
+  made = kept.made;
+  forgotten = kept.forgotten;
+  vanished = kept.vanished;
+  added = kept.added;
+  bound = kept.bound;
+  renewed = kept.renewed;
+  valued = kept.valued;
+  destroyed = kept.destroyed;
+  arranges = kept.arranges;
+  looked = tt;
+  barred = kept.barred;
+  reached = kept.reached;
+  goes = kept.goes;
+  blocked = kept.blocked;
+  waits_on = kept.waits_on;
+  stopped = kept.stopped;
+  takes_seat = kept.takes_seat;
+  retakes = kept.retakes;
+}
+
+-- ---- who stands among the waiting threads
+
+-- who leaves stands there no longer, and nobody more does
+pub left_stands : (t u : ℕ) (xs : List Standing) → StandsIn u (standers (left_by t xs)) → StandsIn u (standers xs) × (u ≢ t)
+left_stands t u [] h = absurd h
+left_stands t u (x ∷ xs) h = by_test (x.tid == t) refl (left_stands t u xs) h
+  where
+    by_test : (b : Bool) → (x.tid == t) ≡ b → (StandsIn u (standers (left_by t xs)) → StandsIn u (standers xs) × (u ≢ t)) → StandsIn u (standers (if not b then x ∷ left_by t xs else left_by t xs)) → StandsIn u (standers (x ∷ xs)) × (u ≢ t)
+    by_test true own more h = let old = more h in (inr old.0, old.1)
+    by_test false other more (inl here) = (inl here, λ same. same_fails x.tid t other (sym here ∙ same))
+    by_test false other more (inr h) = let old = more h in (inr old.0, old.1)
+
+-- in the queue of a state that is not waiting none waits
+waiting_queue : (at : ThreadState) (q : Queue) → queue_for at ≡ Some q → is_queue Waiting q ≡ true → at ≡ state.Waiting
+waiting_queue state.New q same h = let here : New ≡ q = cc in absurd (true_false (sym h ∙ ap (is_queue Waiting) (sym here)))
+waiting_queue state.Ready q same h = let here : Ready ≡ q = cc in absurd (true_false (sym h ∙ ap (is_queue Waiting) (sym here)))
+waiting_queue state.Running q same h = absurd (cc same)
+waiting_queue state.Waiting q same h = refl
+waiting_queue state.Dead q same h = let here : Dead ≡ q = cc in absurd (true_false (sym h ∙ ap (is_queue Waiting) (sym here)))
+
+suspended_state : (b : Bool) (o : Option Entry) → (or_nobody (option_map (changed (change.Suspended b)) o)).state ≡ (or_nobody o).state
+unfolding changed
+suspended_state b None = refl
+suspended_state b (Some e) = refl
 
 -- ---- what verdicts say of calls that they do not refuse
 
@@ -233,7 +343,7 @@ module _ {P S H : Type 0} (f : P → Functions S H) (R : State P S H → Type 0)
 
       by_refusal : (b : Bool) → R ((unless_refused b (row_of_act s t (act.Notify c v)).begin.effect and_then tells m) s).state
       by_refusal true = kept.told m s tt r
-      by_refusal false = kept.told m (controlled (with_conditions (cond_notified c (not (is_zero v)))) s) tt (kept.seated _ s (seats_notified c (not (is_zero v)) s.control.conditions) r)
+      by_refusal false = kept.told m (controlled (with_conditions (cond_notified c (not (is_zero v)))) s) tt (kept.seated _ s (keeps_notified c (not (is_zero v)) s.control.conditions) r)
   act_keeps t (act.SetKey k v) s r = nothing_keeps t (act.SetKey k v) s (refuses (row_of_act s t (act.SetKey k v)).begin.verdict) r
   act_keeps t (act.Release i) s r = nothing_keeps t (act.Release i) s (refuses (row_of_act s t (act.Release i)).begin.verdict) r
   act_keeps t (act.Put p v) s r = nothing_keeps t (act.Put p v) s (refuses (row_of_act s t (act.Put p v)).begin.verdict) r
@@ -288,15 +398,13 @@ leaves_free : {P S H : Type 0} (t : ℕ) (s : State P S H) → IsFree t s → Is
 unfolding leaves_queue
 leaves_free t s free = free
 
+returned_state : {P S H : Type 0} (t : ℕ) (s : State P S H) → state_of (controlled (sets t (change.Suspended false)) (controlled (leaves_queue t) s)) t ≡ state_of s t
+unfolding sets leaves_queue
+returned_state t s = ap (λ o. (or_nobody o).state) (put_here s.control.threads.known t (option_map (changed (change.Suspended false)) (s.control.threads.known t))) ∙ suspended_state false (s.control.threads.known t)
+
 leaves_gone : {P S H : Type 0} (t : ℕ) (s : State P S H) → IsGone t s → IsGone t (controlled (leaves_queue t) s)
 unfolding leaves_queue
 leaves_gone t s gone = gone
-
--- calls that take a place where they wait
-abbrev is_placing : Call → Bool
-is_placing (call.BarrierReach b) = true
-is_placing (call.CondAwait c m e) = true
-is_placing c = false
 
 -- a seat that is left at a condition, by whatever number
 left_named : (u : Seat) (c i : ℤ) (x y : ConditionTable) → c ≡ i → HasLeftAt u (object_named c) x y → HasLeftAt u (object_named i) x y
@@ -318,6 +426,19 @@ not_retaking b other only = by_test (is_retaking b.awaits) only
     by_test false only = refl
     by_test true only = absurd (true_false (sym (only refl) ∙ other))
 
+-- t awaits, as marks tell it, exactly if a pth_cond_await blocks it
+abbrev IsCalm : {P S H : Type 0} → ℕ → State P S H → Type 0
+IsCalm t s = s.resources.awaits t ≡ is_awaiting (blocked_of s.control t)
+
+-- a run that was killed makes no step more
+steps_unkilled : (o : Outcome) (p : Part) (t : ℕ) → unless_ended o p ≡ Step t → o ≡ outcome.Killed → ⊥
+steps_unkilled outcome.Running p t next killed = cc
+steps_unkilled o p t next killed = cc
+
+run_calm : {P S H : Type 0} (f : P → Functions S H) (g : Given P) (i t : ℕ) → next_part (run f g i).state (run f g i).turn ≡ Step t → IsCalm t (run f g i).state
+unfolding next_part
+run_calm f g i t next = (run_valid f g i (λ killed. steps_unkilled (run f g i).turn.outcome _ t next killed)).awaits t
+
 dead_gone : (o : Option Entry) → is_dead (or_nobody o).state ≡ true → lives o ≡ false
 dead_gone None h = refl
 dead_gone (Some e) h = ap not h
@@ -328,7 +449,7 @@ not_unknown true unknown barred h = absurd (true_false h)
 not_unknown false true barred h = absurd (true_false h)
 not_unknown false false barred h = refl
 
-module _ {P S H : Type 0} (f : P → Functions S H) (R : State P S H → Type 0) (kept : KeptAlong f R) where
+module _ {P S H : Type 0} (f : P → Functions S H) (R : State P S H → Type 0) (kept : KeptBySteps f R) where
   abbrev Keeps : Piece P S H → Type 0
   Keeps a = (s : State P S H) → R s → R (a s).state
 
@@ -340,17 +461,26 @@ module _ {P S H : Type 0} (f : P → Functions S H) (R : State P S H → Type 0)
 
   -- ---- changes of queues and records
 
-  enters_keeps : (t : ℕ) (q : Queue) (rank : ℤ) (top : Bool) → Stays (enters t q rank top)
+  -- among the waiting threads only one enters whose state is waiting
+  enters_keeps : (t : ℕ) (q : Queue) (rank : ℤ) (top : Bool) (s : State P S H) → (is_queue Waiting q ≡ true → state_of s t ≡ state.Waiting) → R s → R (controlled (enters t q rank top) s)
   unfolding enters
-  enters_keeps t q rank top s r = kept.placed _ _ _ s r
+  enters_keeps t q rank top s waits r = kept.placed _ _ _ s (λ u h. by_queue u (is_queue Waiting q) refl h) r
+    where
+      here : Standing
+      here = record { tid = t; rank = rank; since = raises_of s.control.threads.raises q; entry = s.control.threads.entries; top = top }
+
+      by_queue : (u : ℕ) (b : Bool) → is_queue Waiting q ≡ b → StandsIn u (standers (if b then here ∷ s.control.threads.standing Waiting else s.control.threads.standing Waiting)) → StandsIn u (standers (s.control.threads.standing Waiting)) ⊎ (state_of s u ≡ state.Waiting)
+      by_queue u true own (inl same) = inr (ap (state_of s) same ∙ waits own)
+      by_queue u true own (inr h) = inl h
+      by_queue u false other h = inl h
 
   leaves_queue_keeps : (t : ℕ) → Stays (leaves_queue t)
   unfolding leaves_queue
-  leaves_queue_keeps t s r = kept.placed _ _ _ s r
+  leaves_queue_keeps t s r = kept.placed _ _ _ s (λ u h. inl (left_stands t u (s.control.threads.standing Waiting) h).0) r
 
-  raises_keeps : Stays raises_ready
+  pub raises_keeps : Stays raises_ready
   unfolding raises_ready
-  raises_keeps s r = kept.placed _ _ _ s r
+  raises_keeps s r = kept.placed _ _ _ s (λ u h. inl h) r
 
   runs_now_keeps : (o : Option ℕ) → Stays (runs_now o)
   runs_now_keeps o s r = kept.scheduled (record s.control.scheduler { running = o }) s r
@@ -364,26 +494,29 @@ module _ {P S H : Type 0} (f : P → Functions S H) (R : State P S H → Type 0)
   removes_keeps : (t : ℕ) (s : State P S H) → IsGone t s → R s → R (controlled (removes t) s)
   removes_keeps t s gone r = kept.forgotten t (controlled (leaves_queue t) s) (leaves_gone t s gone) (leaves_queue_keeps t s r)
 
-  moved_keeps : (t : ℕ) (c : change_of_record.Change) (q : Queue) (rank : ℤ) (top : Bool) → IsPrioSafe c → ((s : State P S H) → IsLifeSafe t c s) → Stays (λ k. enters t q rank top (sets t c (leaves_queue t k)))
-  moved_keeps t c q rank top safe life s r =
+  moved_keeps : (t : ℕ) (c : change_of_record.Change) (q : Queue) (rank : ℤ) (top : Bool) → IsPrioSafe c → ((s : State P S H) → IsStepSafe t c s) → (s : State P S H) → (is_queue Waiting q ≡ true → state_of (controlled (sets t c) (controlled (leaves_queue t) s)) t ≡ state.Waiting) → R s → R (controlled (λ k. enters t q rank top (sets t c (leaves_queue t k))) s)
+  moved_keeps t c q rank top safe life s waits r =
       let a = controlled (leaves_queue t) s in
-      enters_keeps t q rank top (controlled (sets t c) a) (kept.set t c a safe (life a) (leaves_queue_keeps t s r))
+      enters_keeps t q rank top (controlled (sets t c) a) waits (kept.set t c a safe (life a) (leaves_queue_keeps t s r))
 
   suspends_keeps : (t : ℕ) → Stays (suspends t)
   unfolding suspends
-  suspends_keeps t s r = moved_keeps t (change.Suspended true) Suspended (pos 0) false tt (λ a. tt) s r
+  suspends_keeps t s r = moved_keeps t (change.Suspended true) Suspended (pos 0) false tt (λ a. tt) s (λ odd. absurd (true_false (sym odd))) r
 
-  returns_keeps : (t : ℕ) (q : Option Queue) → Stays (returns_to t q)
-  returns_keeps t None s r = r
-  returns_keeps t (Some q) s r = moved_keeps t (change.Suspended false) q (pos 0) false tt (λ a. tt) s r
+  returns_keeps : (t : ℕ) (q : Option Queue) (s : State P S H) → queue_for (state_of s t) ≡ q → R s → R (controlled (returns_to t q) s)
+  returns_keeps t None s same r = r
+  returns_keeps t (Some q) s same r = moved_keeps t (change.Suspended false) q (pos 0) false tt (λ a. tt) s (λ h. still s ∙ waiting_queue (state_of s t) q same h) r
+    where
+      still : (s : State P S H) → state_of (controlled (sets t (change.Suspended false)) (controlled (leaves_queue t) s)) t ≡ state_of s t
+      still s = returned_state t s
 
   resumes_keeps : (t : ℕ) → Stays (resumes t)
   unfolding resumes
-  resumes_keeps t s r = returns_keeps t (queue_for (or_nobody (entry_of s.control t)).state) s r
+  resumes_keeps t s r = returns_keeps t (queue_for (or_nobody (entry_of s.control t)).state) s refl r
 
   ready_keeps : (t : ℕ) (rank : ℤ) (top : Bool) → Stays (is_ready_at t rank top)
   unfolding is_ready_at
-  ready_keeps t rank top s r = moved_keeps t (change.State state.Ready) Ready rank top tt (λ a. tt) s r
+  ready_keeps t rank top s r = moved_keeps t (change.State state.Ready) Ready rank top tt (λ a. tt) s (λ odd. absurd (true_false (sym odd))) r
 
   dead_keeps : (t : ℕ) (v : ℤ) (s : State P S H) → IsFree t s → R s → R (controlled (is_dead_with t v) s)
   unfolding is_dead_with
@@ -392,7 +525,7 @@ module _ {P S H : Type 0} (f : P → Functions S H) (R : State P S H → Type 0)
       let b = controlled (sets t (change.State state.Dead)) a in
       let c = controlled (sets t (change.Suspended false)) b in
       let d = controlled (sets t (change.Value v)) c in
-      enters_keeps t Dead (pos 0) false d (kept.set t (change.Value v) c tt tt (kept.set t (change.Suspended false) b tt tt (kept.set t (change.State state.Dead) a tt (leaves_free t s free) (leaves_queue_keeps t s r))))
+      enters_keeps t Dead (pos 0) false d (λ odd. absurd (true_false (sym odd))) (kept.set t (change.Value v) c tt tt (kept.set t (change.Suspended false) b tt tt (kept.set t (change.State state.Dead) a tt (leaves_free t s free) (leaves_queue_keeps t s r))))
 
   left_keeps : (t : ℕ) (v : ℤ) (s : State P S H) → IsFree t s → R s → R (controlled (leaves t v) s)
   unfolding leaves
@@ -405,7 +538,7 @@ module _ {P S H : Type 0} (f : P → Functions S H) (R : State P S H → Type 0)
   spawns_keep : (t b : ℕ) (v a : ℤ) (s : State P S H) → lives (s.control.threads.known (s.control.threads.made + 1)) ≡ false → R s → R (controlled (spawns f b v (or_first (values_for s.control t a))) s)
   spawns_keep t b v a s next r =
       let of = or_first (values_for s.control t a) in
-      enters_keeps (s.control.threads.made + 1) New of.prio false (controlled (makes f b v of) s) (kept.made t b v a s next r)
+      enters_keeps (s.control.threads.made + 1) New of.prio false (controlled (makes f b v of) s) (λ odd. absurd (true_false (sym odd))) (kept.made t b v a s next r)
 
   -- ---- ends
 
@@ -413,23 +546,27 @@ module _ {P S H : Type 0} (f : P → Functions S H) (R : State P S H → Type 0)
   dies_keeps t v s free r = kept.handlers.told (mark.Ended (tid t) v) (controlled (leaves t v) s) tt (left_keeps t v s free r)
 
   -- no call blocks t any longer, whose arrival was not lost
-  stops_keeps : (t : ℕ) (y : ConditionTable) (s : State P S H) → HasFewerSeats y s.control.conditions → HasLeft t s → HasLeftSeat t y s → R s → R (controlled (λ k. stops_waiting t (with_conditions (λ z. y) k)) s)
+  stops_keeps : (t : ℕ) (y : ConditionTable) (s : State P S H) → KeepsOtherSeats t y s.control.conditions → HasLeft t s → HasLeftSeat t y s → R s → R (controlled (λ k. stops_waiting t (with_conditions (λ z. y) k)) s)
   stops_keeps t y s fewer left unseated r = kept.stopped t s.control.barriers y s (λ b. fewer_same (s.control.barriers b)) (λ b round u apart h. h) fewer left unseated r
 
-  -- the seats of a ring's events are handed on: nobody has a seat more
+  -- the seats of a ring's events are handed on: nobody has a seat more, and no thread loses its own
   abbrev ring_handed : Option ℤ → State P S H → ConditionTable → ConditionTable
   ring_handed o s y = seats_changed seat_handed_on s.control.events (events_from s.control.events o) y
 
-  ring_fewer : (o : Option ℤ) (s : State P S H) (y : ConditionTable) → HasFewerSeats (ring_handed o s y) y
-  ring_fewer o s y = fewer_handed s.control.events (events_from s.control.events o) y
+  ring_keeps : (o : Option ℤ) (s : State P S H) (y : ConditionTable) → KeepsSeats (ring_handed o s y) y
+  ring_keeps o s y = keeps_handed s.control.events (events_from s.control.events o) y
+
+  -- after t left its own
+  ring_then : (t : ℕ) (o : Option ℤ) (s : State P S H) (y z : ConditionTable) → KeepsOtherSeats t y z → KeepsOtherSeats t (ring_handed o s y) z
+  ring_then t o s y z keeps = keeps_then t (ring_handed o s y) y z (ring_keeps o s y) keeps
 
   -- its arrival at a barrier is taken back, if it waits there, and those seats are handed on
   where_withdrawn : (t : ℕ) (b : ℤ) (here : Bool) (o : Option ℤ) (s : State P S H) → let a = (where_so here (changes (with_barriers (withdrawn b t)) and_then tells (mark.Withdrew (tid t) (object_named b))) s).state in HasLeft t a → HasLeftSeat t (ring_handed o s s.control.conditions) s → R s → R (controlled (λ k. stops_waiting t (ring_seats seat_handed_on o k)) a)
   where_withdrawn t b true o s left unseated r =
       let m = mark.Withdrew (tid t) (object_named b) in
       let x = s.control.conditions in
-      kept.stopped t (withdrawn b t s.control.barriers) (ring_handed o s x) (tells m s).state (fewer_withdrawn b t s.control.barriers) (others_withdrawn b t s.control.barriers) (ring_fewer o s x) left unseated (kept.handlers.told m s tt r)
-  where_withdrawn t b false o s left unseated r = let x = s.control.conditions in stops_keeps t (ring_handed o s x) s (ring_fewer o s x) left unseated r
+      kept.stopped t (withdrawn b t s.control.barriers) (ring_handed o s x) (tells m s).state (fewer_withdrawn b t s.control.barriers) (others_withdrawn b t s.control.barriers) (ring_then t o s x x (keeps_same t x)) left unseated (kept.handlers.told m s tt r)
+  where_withdrawn t b false o s left unseated r = let x = s.control.conditions in stops_keeps t (ring_handed o s x) s (ring_then t o s x x (keeps_same t x)) left unseated r
 
   -- and so is its own seat at a condition
   undone_keeps : (t : ℕ) (a : Awaits) (o : Option ℤ) (s : State P S H) → awaits_in (blocked_of s.control t) ≡ a → HasLeft t (withdraws_from t a s).state → R s → R (controlled (hands_on_seat t a and ring_seats seat_handed_on o and stops_waiting t) (withdraws_from t a s).state)
@@ -438,9 +575,9 @@ module _ {P S H : Type 0} (f : P → Functions S H) (R : State P S H → Type 0)
   undone_keeps t (awaits.Notice c) o s own left r =
       let x = s.control.conditions in
       let y = seat_handed_on c (seat_of t) x in
-      stops_keeps t (ring_handed o s y) s (seats_fewer (ring_handed o s y) y x (ring_fewer o s y) (seats_handed c (seat_of t) x)) left
-      (λ i m e now. left_named (seat_of t) c i (ring_handed o s y) x (same_notice c i (sym own ∙ ap awaits_in now)) (left_fewer (seat_of t) (object_named c) (ring_handed o s y) y x (ring_fewer o s y) (handed_there c (seat_of t) x))) r
-  undone_keeps t a o s own left r = let x = s.control.conditions in stops_keeps t (ring_handed o s x) s (ring_fewer o s x) left (λ c m e now. absurd (cc (sym own ∙ ap awaits_in now))) r
+      stops_keeps t (ring_handed o s y) s (ring_then t o s y x (keeps_handed_on c t x)) left
+      (λ i m e now. left_named (seat_of t) c i (ring_handed o s y) x (same_notice c i (sym own ∙ ap awaits_in now)) (left_fewer (seat_of t) (object_named c) (ring_handed o s y) y x (ring_keeps o s y).fewer (handed_there c (seat_of t) x))) r
+  undone_keeps t a o s own left r = let x = s.control.conditions in stops_keeps t (ring_handed o s x) s (ring_then t o s x x (keeps_same t x)) left (λ c m e now. absurd (cc (sym own ∙ ap awaits_in now))) r
 
   -- and no call blocks it
   abbrev Unblocked : ℕ → State P S H → Type 0
@@ -591,8 +728,8 @@ module _ {P S H : Type 0} (f : P → Functions S H) (R : State P S H → Type 0)
     does_keeps s (call.Accept d) free sound other e r = kept.timed _ s r
     does_keeps s (call.AcceptEv d x) free sound other e r = kept.timed _ s r
     does_keeps s (call.Close d) free sound other e r = kept.timed _ s r
-    does_keeps s (call.CondInit c) free sound other e r = kept.handlers.seated _ s (seats_initialised c s.control.conditions) r
-    does_keeps s (call.CondNotify c v) free sound other e r = kept.handlers.seated _ s (seats_notified c (not (is_zero v)) s.control.conditions) r
+    does_keeps s (call.CondInit c) free sound other e r = kept.handlers.seated _ s (keeps_initialised c s.control.conditions (init_passes (is_object c) (is_live s.control.conditions c) e)) r
+    does_keeps s (call.CondNotify c v) free sound other e r = kept.handlers.seated _ s (keeps_notified c (not (is_zero v)) s.control.conditions) r
     does_keeps s (call.CondAwait c m i) free sound other e r = absurd (true_false other)
     does_keeps s (call.BarrierInit b n) free sound other e r = kept.barred (barrier_initialised b n s.control.barriers) s (fewer_initialised b n s.control.barriers) (all_initialised b n s.control.barriers (init_passes (is_object b && is_size n) (is_some (s.control.barriers (object_named b))) e)) r
     does_keeps s (call.BarrierReach b) free sound other e r = absurd (true_false other)
@@ -601,7 +738,7 @@ module _ {P S H : Type 0} (f : P → Functions S H) (R : State P S H → Type 0)
     does_keeps s (call.Once o h v) free sound other e r = once_keeps (number o) (handler h) v (not (s.control.used (number o))) s r
     does_keeps s c free sound other e r = r
 
-    begun_by_keeps : (c : Call) (v : Verdict) (s : State P S H) → is_reaching c ≡ false → is_rounding true v ≡ false → IsAllowed t c v s → R s → R (begun_by f t c v s).told.state
+    begun_by_keeps : (c : Call) (v : Verdict) (s : State P S H) → is_placing c ≡ false → (is_rounding true v ≡ false) × (is_noticing v ≡ false) → IsAllowed t c v s → R s → R (begun_by f t c v s).told.state
     begun_by_keeps c (Says x) s other none may r = kept.handlers.told (mark.Answered (tid t) c x) s may r
     begun_by_keeps c (Yields x) s other none may r = kept.handlers.told (mark.Answered (tid t) c x) s may r
     begun_by_keeps c (Blocks a) s other none may r = kept.handlers.told (mark.Waits (tid t) c) (controlled (λ k. blocks t c a (claims t (ring_given c) k)) s) tt (kept.blocked t c a s may.0 other none may.1 r)
@@ -617,29 +754,28 @@ module _ {P S H : Type 0} (f : P → Functions S H) (R : State P S H → Type 0)
         kept.handlers.told (mark.Waits (tid t) (call.BarrierReach b)) (controlled (λ k. blocks t (call.BarrierReach b) (awaits.Round b round) (with_barriers (barrier_reached b t) k)) s) tt (kept.reached t b round s free sound.alive there same r)
 
     -- a wait at a condition begins
-    await_keeps : (c m e : ℤ) (dead bad none free_now other has : Bool) (s : State P S H) → is_none (mutex s m) ≡ none → is_no_ring s (extra_ring e) ≡ bad → is_claimed_ring s (extra_ring e) ≡ has → IsFree t s → IsSound t s.control → is_some (s.control.threads.progress t) ≡ true → R s
-        → R (begun_as f t (call.CondAwait c m e) (refused EINVAL when dead || bad otherwise by_result (λ released. refused EBUSY when has otherwise Blocks (awaits.Notice c)) (if none then Err EINVAL else if free_now then Err EDEADLK else if other then Err EACCES else Ok (tt {0})) trying changes (with_conditions (seat_entered c (seat_of t)))) s).told.state
-    await_keeps c m e true bad none free_now other has s is_none_so is_ring is_has free sound there r = kept.handlers.told (mark.Answered (tid t) (call.CondAwait c m e) (answer.Fail EINVAL)) s tt r
-    await_keeps c m e false true none free_now other has s is_none_so is_ring is_has free sound there r = kept.handlers.told (mark.Answered (tid t) (call.CondAwait c m e) (answer.Fail EINVAL)) s tt r
-    await_keeps c m e false false true free_now other has s is_none_so is_ring is_has free sound there r = kept.handlers.told (mark.Answered (tid t) (call.CondAwait c m e) (answer.Fail EINVAL)) s tt r
-    await_keeps c m e false false false true other has s is_none_so is_ring is_has free sound there r = kept.handlers.told (mark.Answered (tid t) (call.CondAwait c m e) (answer.Fail EDEADLK)) s tt r
-    await_keeps c m e false false false false true has s is_none_so is_ring is_has free sound there r = kept.handlers.told (mark.Answered (tid t) (call.CondAwait c m e) (answer.Fail EACCES)) s tt r
-    await_keeps c m e false false false false false true s is_none_so is_ring is_has free sound there r = kept.handlers.told (mark.Answered (tid t) (call.CondAwait c m e) (answer.Fail EBUSY)) s tt r
-    await_keeps c m e false false false false false false s is_none_so is_ring is_has free sound there r =
-        let may = await_allowed f t s s c m e false false false false false is_none_so is_ring is_has refl refl free false in
-        let k = call.CondAwait c m e in
-        kept.handlers.told (mark.Waits (tid t) k) (controlled (λ j. blocks t k (awaits.Notice c) (claims t (extra_ring e) (with_conditions (seat_entered c (seat_of t)) j))) s) tt (kept.takes_seat t c m e s free sound.alive there may.1 r)
+    await_keeps : (c m e : ℤ) (live bad none free_now other has : Bool) (s : State P S H) → is_live s.control.conditions c ≡ live → is_none (mutex s m) ≡ none → is_no_ring s (extra_ring e) ≡ bad → is_claimed_ring s (extra_ring e) ≡ has → IsFree t s → IsSound t s.control → s.resources.awaits t ≡ false → is_some (s.control.threads.progress t) ≡ true → R s
+        → R (begun_as f t (call.CondAwait c m e) (refused EINVAL when not live || bad otherwise by_result (λ released. refused EBUSY when has otherwise Blocks (awaits.Notice c)) (if none then Err EINVAL else if free_now then Err EDEADLK else if other then Err EACCES else Ok (tt {0})) trying changes (with_conditions (seat_entered c (seat_of t)))) s).told.state
+    await_keeps c m e false bad none free_now other has s is_live_so is_none_so is_ring is_has free sound calm there r = kept.handlers.told (mark.Answered (tid t) (call.CondAwait c m e) (answer.Fail EINVAL)) s (unawaited t (object_named m) s calm) r
+    await_keeps c m e true true none free_now other has s is_live_so is_none_so is_ring is_has free sound calm there r = kept.handlers.told (mark.Answered (tid t) (call.CondAwait c m e) (answer.Fail EINVAL)) s (unawaited t (object_named m) s calm) r
+    await_keeps c m e true false true free_now other has s is_live_so is_none_so is_ring is_has free sound calm there r = kept.handlers.told (mark.Answered (tid t) (call.CondAwait c m e) (answer.Fail EINVAL)) s (unawaited t (object_named m) s calm) r
+    await_keeps c m e true false false true other has s is_live_so is_none_so is_ring is_has free sound calm there r = kept.handlers.told (mark.Answered (tid t) (call.CondAwait c m e) (answer.Fail EDEADLK)) s (unawaited t (object_named m) s calm) r
+    await_keeps c m e true false false false true has s is_live_so is_none_so is_ring is_has free sound calm there r = kept.handlers.told (mark.Answered (tid t) (call.CondAwait c m e) (answer.Fail EACCES)) s (unawaited t (object_named m) s calm) r
+    await_keeps c m e true false false false false true s is_live_so is_none_so is_ring is_has free sound calm there r = kept.handlers.told (mark.Answered (tid t) (call.CondAwait c m e) (answer.Fail EBUSY)) s (unawaited t (object_named m) s calm) r
+    await_keeps c m e true false false false false false s is_live_so is_none_so is_ring is_has free sound calm there r =
+        let may = await_allowed f t s s c m e false false false false false is_none_so is_ring is_has refl refl free calm false in
+        kept.takes_seat t c m e s free sound.alive (there, is_live_so) may.1 r
 
-    begun_keeps : (c : Call) (s : State P S H) → IsFree t s → IsSound t s.control → is_some (s.control.threads.progress t) ≡ true → R s → R (begun f t c s).told.state
+    begun_keeps : (c : Call) (s : State P S H) → IsFree t s → IsSound t s.control → s.resources.awaits t ≡ false → is_some (s.control.threads.progress t) ≡ true → R s → R (begun f t c s).told.state
     unfolding begun row_of
-    begun_keeps call.Plain s free sound there r = r
-    begun_keeps (call.Note v) s free sound there r = kept.handlers.told (mark.Noted (tid t) v) s tt r
-    begun_keeps (call.BarrierReach b) s free sound there r = reach_keeps b (arrival_answer s.control.barriers b) s refl free sound there r
-    begun_keeps (call.CondAwait c m e) s free sound there r =
-        await_keeps c m e (not (is_live s.control.conditions c)) (is_no_ring s (extra_ring e)) (is_none (mutex s m)) _ _ (is_claimed_ring s (extra_ring e)) s refl refl refl free sound there r
-    begun_keeps c s free sound there r =
+    begun_keeps call.Plain s free sound calm there r = r
+    begun_keeps (call.Note v) s free sound calm there r = kept.handlers.told (mark.Noted (tid t) v) s tt r
+    begun_keeps (call.BarrierReach b) s free sound calm there r = reach_keeps b (arrival_answer s.control.barriers b) s refl free sound there r
+    begun_keeps (call.CondAwait c m e) s free sound calm there r =
+        await_keeps c m e (is_live s.control.conditions c) (is_no_ring s (extra_ring e)) (is_none (mutex s m)) _ _ (is_claimed_ring s (extra_ring e)) s refl refl refl refl free sound calm there r
+    begun_keeps c s free sound calm there r =
         let a = (row_of f s t c).begin in
-        begun_by_keeps c a.verdict (effect_of a s).state refl (begins_none true f s t c refl) (allowed f t s c free) (unless_keeps s (refuses a.verdict) a.effect (does_keeps s c free sound refl) r)
+        begun_by_keeps c a.verdict (effect_of a s).state refl (begins_none true f s t c refl, begins_unnoticed f s t c refl) (allowed f t s c free calm sound.made) (unless_keeps s (refuses a.verdict) a.effect (does_keeps s c free sound refl) r)
 
     -- ---- a call is tried again
 
@@ -703,14 +839,14 @@ module _ {P S H : Type 0} (f : P → Functions S H) (R : State P S H → Type 0)
     stop_keeps s (call.BarrierReach x) b named other at sound r at_once = by_test (has_passed s.control.barriers x (round_in b.awaits)) at_once (left_again f t s (call.BarrierReach x) b named at at_once)
       where
         by_test : (passed : Bool) → let a = rounds s x (round_in b.awaits) passed in is_blocking a.verdict ≡ false → HasLeft t (effect_of a s).state → R (controlled (stops_waiting t) (effect_of a s).state)
-        by_test true at_once left = kept.stopped t (round_answered x (round_in b.awaits) t s.control.barriers) s.control.conditions s (fewer_answered x (round_in b.awaits) t s.control.barriers) (others_answered x (round_in b.awaits) t s.control.barriers) (seats_same s.control.conditions) left (unseated t s.control.conditions s (ap is_awaiting at ∙ ap is_await named)) r
+        by_test true at_once left = kept.stopped t (round_answered x (round_in b.awaits) t s.control.barriers) s.control.conditions s (fewer_answered x (round_in b.awaits) t s.control.barriers) (others_answered x (round_in b.awaits) t s.control.barriers) (keeps_same t s.control.conditions) left (unseated t s.control.conditions s (ap is_awaiting at ∙ ap is_await named)) r
         by_test false at_once left = absurd (true_false at_once)
     stop_keeps s c b named other at sound r at_once =
         let come = has_settled s.control.events (ring_given c) in
         let u = (effect_of (unless_settled come ((row_of f s t c).again b.awaits)) s).state in
-        stops_keeps t u.control.conditions u (seats_same u.control.conditions) (left_again f t s c b named at at_once) (unseated t u.control.conditions u (unseated_again f t s c b come named other at)) (come_keeps s c b.awaits come refl sound r)
+        stops_keeps t u.control.conditions u (keeps_same t u.control.conditions) (left_again f t s c b named at at_once) (unseated t u.control.conditions u (unseated_again f t s c b come named other at)) (come_keeps s c b.awaits come refl sound r)
 
-    tried_by_keeps : (b : Blocked) (v : Verdict) (s : State P S H) → IsAllowedAgain t b.call b v s → ((a : Awaits) → v ≡ Blocks a → StaysAt b.call b.awaits a) → is_await b.call ≡ false → ((a : Awaits) → v ≡ Blocks a → (is_retaking b.awaits ≡ false) × (is_retaking a ≡ false)) → (is_saying v ≡ false → R s) → (is_blocking v ≡ false → R (controlled (stops_waiting t) s)) → R (tried_by f t b v s).told.state
+    tried_by_keeps : (b : Blocked) (v : Verdict) (s : State P S H) → IsAllowedAgain t b.call b v s → ((a : Awaits) → v ≡ Blocks a → StaysAt b.call b.awaits a) → is_await b.call ≡ false → ((a : Awaits) → v ≡ Blocks a → (is_retaking b.awaits ≡ false) × (is_retaking a ≡ false) × (is_notice b.awaits ≡ false → is_notice a ≡ false)) → (is_saying v ≡ false → R s) → (is_blocking v ≡ false → R (controlled (stops_waiting t) s)) → R (tried_by f t b v s).told.state
     tried_by_keeps b (Says x) s may stays other plain still stop = kept.handlers.told (mark.Answered (tid t) b.call x) (controlled (stops_waiting t) s) may (stop refl)
     tried_by_keeps b (Yields x) s may stays other plain still stop = kept.handlers.told (mark.Answered (tid t) b.call x) (controlled (stops_waiting t) s) may (stop refl)
     tried_by_keeps b (Blocks a) s may stays other plain still stop = kept.handlers.told (mark.Waits (tid t) b.call) (controlled (is_blocked_by t (Some (record b { awaits = a }))) s) tt (kept.waits_on t a b s may.0 may.1 (stays a refl) other (plain a refl) (still refl))
@@ -723,7 +859,7 @@ module _ {P S H : Type 0} (f : P → Functions S H) (R : State P S H → Type 0)
         let come = has_settled s.control.events (ring_given b.call) in
         let a = unless_settled come ((row_of f s t b.call).again b.awaits) in
         let plain = not_retaking b other (subst (λ o. is_retaking (awaits_in o) ≡ true → is_awaiting o ≡ true) at sound.retakes) in
-        tried_by_keeps b a.verdict (effect_of a s).state (allowed_again f t s b.call b come other at) (λ now blocks. stays_again f t s b.call b.awaits come now blocks) other (λ now blocks. (plain, again_plainly f s t b.call b.awaits come now plain blocks))
+        tried_by_keeps b a.verdict (effect_of a s).state (allowed_again f t s b.call b come other at sound.made) (λ now blocks. stays_again f t s b.call b.awaits come now blocks) other (λ now blocks. (plain, again_plainly f s t b.call b.awaits come now plain blocks, λ none. again_unnoticed f s t b.call b.awaits come now other none blocks))
         (λ says_none. still_keeps s b.call b.awaits sound r says_none) (λ at_once. stop_keeps s b.call b refl other at sound r at_once)
 
     canceled_keeps : (o : Option Blocked) (s : State P S H) → R s → R (canceled_by f t o s).told.state
@@ -740,21 +876,23 @@ module _ {P S H : Type 0} (f : P → Functions S H) (R : State P S H → Type 0)
 
     -- ---- a wait at a condition goes on
 
-    retaken_keeps : (c m e : ℤ) (o : Retake) (s : State P S H) → R s → R (retaken_as f t (call.CondAwait c m e) m o s).told.state
-    retaken_keeps c m e retake.Notified s r = kept.handlers.told (mark.Answered (tid t) (call.CondAwait c m e) (answer.Int (pos 1))) s tt r
-    retaken_keeps c m e retake.Interrupted s r = kept.handlers.told (mark.Answered (tid t) (call.CondAwait c m e) (answer.Fail EINTR)) s tt r
-    retaken_keeps c m e retake.Canceled s r = ending_keeps t canceled_value (tells (mark.Took (tid t) (object_named m)) s).state (kept.handlers.told (mark.Took (tid t) (object_named m)) s tt r)
+    retaken_keeps : (c m e : ℤ) (o : Retake) (s : State P S H) → IsTaking t (object_named m) s → R s → R (retaken_as f t (call.CondAwait c m e) m o s).told.state
+    retaken_keeps c m e retake.Notified s takes r = kept.handlers.told (mark.Answered (tid t) (call.CondAwait c m e) (answer.Int (pos 1))) s (λ awaits. takes) r
+    retaken_keeps c m e retake.Interrupted s takes r = kept.handlers.told (mark.Answered (tid t) (call.CondAwait c m e) (answer.Fail EINTR)) s (λ awaits. takes) r
+    retaken_keeps c m e retake.Canceled s takes r = ending_keeps t canceled_value (tells (mark.Took (tid t) (object_named m)) s).state (kept.handlers.told (mark.Took (tid t) (object_named m)) s takes r)
 
     -- who waits at a condition has no arrival
     awaiting_left : (s : State P S H) (c m e : ℤ) (a : Awaits) → blocked_of s.control t ≡ Some (record { call = call.CondAwait c m e; awaits = a }) → HasLeft t s
     awaiting_left s c m e a at b round now = absurd (true_false (ap is_awaiting (sym at ∙ now)))
 
     -- with its seat there
-    await_ends_keeps : (c m e : ℤ) (a : Awaits) (o : Retake) (can : Bool) (y : ConditionTable) (s : State P S H) → HasFewerSeats y s.control.conditions → HasLeftSeat t y s → blocked_of s.control t ≡ Some (record { call = call.CondAwait c m e; awaits = a }) → R s
+    await_ends_keeps : (c m e : ℤ) (a : Awaits) (o : Retake) (can : Bool) (y : ConditionTable) (s : State P S H) → can_take s t m ≡ can → KeepsOtherSeats t y s.control.conditions → HasLeftSeat t y s → blocked_of s.control t ≡ Some (record { call = call.CondAwait c m e; awaits = a }) → R s
         → R (retakes_where f t can (call.CondAwait c m e) m o (controlled (λ k. stops_waiting t (with_conditions (λ z. y) k)) s)).told.state
-    await_ends_keeps c m e a o true y s fewer gone at r =
-        retaken_keeps c m e o (controlled (λ k. stops_waiting t (with_conditions (λ z. y) k)) s) (kept.stopped t s.control.barriers y s (λ b. fewer_same (s.control.barriers b)) (λ b round u apart h. h) fewer (awaiting_left s c m e a at) gone r)
-    await_ends_keeps c m e a o false y s fewer gone at r =
+    await_ends_keeps c m e a o true y s can fewer gone at r =
+        let u = controlled (λ k. stops_waiting t (with_conditions (λ z. y) k)) s in
+        let takes : IsTaking t (object_named m) u = record { free = stopped_free t (controlled (with_conditions (λ z. y)) s); room = takes_room t (mutex s m) can } in
+        retaken_keeps c m e o u takes (kept.stopped t s.control.barriers y s (λ b. fewer_same (s.control.barriers b)) (λ b round u apart h. h) fewer (awaiting_left s c m e a at) gone r)
+    await_ends_keeps c m e a o false y s can fewer gone at r =
         let k = call.CondAwait c m e in
         kept.handlers.told (mark.Retakes (tid t) k) (controlled (λ j. blocks t k (awaits.Retaking m o) (stops_waiting t (with_conditions (λ z. y) j))) s) tt (kept.retakes t c m e a o y s fewer gone at r)
 
@@ -767,24 +905,23 @@ module _ {P S H : Type 0} (f : P → Functions S H) (R : State P S H → Type 0)
         let x = s.control.conditions in
         let own = seat_handed_on c (seat_of t) x in
         let y = ring_handed (extra_ring e) s own in
-        let fewer = ring_fewer (extra_ring e) s own in
-        await_ends_keeps c m e a retake.Canceled (can_take (controlled (λ j. stops_waiting t (with_conditions (λ z. y) j)) s2) t m) y s2 (seats_fewer y own x fewer (seats_handed c (seat_of t) x))
-        (λ i n d now. left_named (seat_of t) c i y x (same_await c m e i n d a (awaits.Notice i) (sym at ∙ now)) (left_fewer (seat_of t) (object_named c) y own x fewer (handed_there c (seat_of t) x))) at (kept.handlers.told k s1 tt (kept.set t (change.Request false) s tt tt r))
+        await_ends_keeps c m e a retake.Canceled (can_take (controlled (λ j. stops_waiting t (with_conditions (λ z. y) j)) s2) t m) y s2 refl (ring_then t (extra_ring e) s own x (keeps_handed_on c t x))
+        (λ i n d now. left_named (seat_of t) c i y x (same_await c m e i n d a (awaits.Notice i) (sym at ∙ now)) (left_fewer (seat_of t) (object_named c) y own x (ring_keeps (extra_ring e) s own).fewer (handed_there c (seat_of t) x))) at (kept.handlers.told k s1 tt (kept.set t (change.Request false) s tt tt r))
     awaits_where_keeps false true settled c m e a s at r =
         let x = s.control.conditions in
         let y = seat_left c (seat_of t) x in
-        await_ends_keeps c m e a retake.Notified (can_take (controlled (λ j. stops_waiting t (with_conditions (λ z. y) j)) s) t m) y s (seats_left c (seat_of t) x)
+        await_ends_keeps c m e a retake.Notified (can_take (controlled (λ j. stops_waiting t (with_conditions (λ z. y) j)) s) t m) y s refl (keeps_left c t x)
         (λ i n d now. left_named (seat_of t) c i y x (same_await c m e i n d a (awaits.Notice i) (sym at ∙ now)) (left_there c (seat_of t) x)) at r
     awaits_where_keeps false false true c m e a s at r =
         let x = s.control.conditions in
         let y = seat_left c (seat_of t) x in
-        await_ends_keeps c m e a retake.Interrupted (can_take (controlled (λ j. stops_waiting t (with_conditions (λ z. y) j)) s) t m) y s (seats_left c (seat_of t) x)
+        await_ends_keeps c m e a retake.Interrupted (can_take (controlled (λ j. stops_waiting t (with_conditions (λ z. y) j)) s) t m) y s refl (keeps_left c t x)
         (λ i n d now. left_named (seat_of t) c i y x (same_await c m e i n d a (awaits.Notice i) (sym at ∙ now)) (left_there c (seat_of t) x)) at r
     awaits_where_keeps false false false c m e a s at r = kept.handlers.told (mark.Waits (tid t) (call.CondAwait c m e)) s tt r
 
     awaits_on_keeps : (c m e : ℤ) (a : Awaits) (s : State P S H) → blocked_of s.control t ≡ Some (record { call = call.CondAwait c m e; awaits = a }) → R s → R (awaits_on f t c m e a s).told.state
     awaits_on_keeps c m e (awaits.Retaking i o) s at r =
-        await_ends_keeps c m e (awaits.Retaking i o) o (can_take (controlled (stops_waiting t) s) t m) s.control.conditions s (seats_same s.control.conditions) (λ j n d now. absurd (true_false (ap (λ o. is_retaking (awaits_in o)) (sym at ∙ now)))) at r
+        await_ends_keeps c m e (awaits.Retaking i o) o (can_take (controlled (stops_waiting t) s) t m) s.control.conditions s refl (keeps_same t s.control.conditions) (λ j n d now. absurd (true_false (ap (λ o. is_retaking (awaits_in o)) (sym at ∙ now)))) at r
     awaits_on_keeps c m e a s at r = awaits_where_keeps (may_be_canceled s.control t) (is_noticed s t c) (has_settled s.control.events (extra_ring e)) c m e a s at r
 
     -- whatever call it is
@@ -810,14 +947,14 @@ module _ {P S H : Type 0} (f : P → Functions S H) (R : State P S H → Type 0)
     unfolding goes_on
     stepped_there g s p at = ap is_some (put_here s.control.threads.progress t (option_map g (s.control.threads.progress t)) ∙ ap (option_map g) at)
 
-    steps_by_keeps : (b : Option Blocked) (o : Option (Progress S)) (s : State P S H) → blocked_of s.control t ≡ b → s.control.threads.progress t ≡ o → IsSound t s.control → R s → R (steps_by f t b o s).told.state
-    steps_by_keeps (Some b) o s is_blocked at sound r = gone_on_keeps s sound r
-    steps_by_keeps None None s is_blocked at sound r = gone_on_keeps s sound r
-    steps_by_keeps None (Some p) s is_blocked at sound r =
+    steps_by_keeps : (b : Option Blocked) (o : Option (Progress S)) (s : State P S H) → blocked_of s.control t ≡ b → s.control.threads.progress t ≡ o → IsSound t s.control → s.resources.awaits t ≡ is_awaiting b → R s → R (steps_by f t b o s).told.state
+    steps_by_keeps (Some b) o s is_blocked at sound calm r = gone_on_keeps s sound r
+    steps_by_keeps None None s is_blocked at sound calm r = gone_on_keeps s sound r
+    steps_by_keeps None (Some p) s is_blocked at sound calm r =
         let x = (f s.control.program).step p.state s.control.shared p.owed in
         let g : Progress S → Progress S = λ y. record y { state = x.state; owed = answer.None } in
         let a = controlled (shares x.shared) s in
-        begun_keeps x.call (controlled (goes_on t g) a) (stepped_free g a p at (sym (ap blocked_in at) ∙ is_blocked)) (sound_steps t t g x.shared s.control (λ y. refl) sound) (stepped_there g a p at) (kept.goes t g a (λ y. refl) (kept.handlers.shared x.shared s r))
+        begun_keeps x.call (controlled (goes_on t g) a) (stepped_free g a p at (sym (ap blocked_in at) ∙ is_blocked)) (sound_steps t t g x.shared s.control (λ y. refl) sound) calm (stepped_there g a p at) (kept.goes t g a (λ y. refl) (kept.handlers.shared x.shared s r))
 
     owes_keeps : (n : Next) → Stays (owes_after t n)
     owes_keeps (next.Done a) s r = kept.goes t (owing a) s (λ p. refl) r
@@ -826,24 +963,20 @@ module _ {P S H : Type 0} (f : P → Functions S H) (R : State P S H → Type 0)
     owes_keeps (next.Ended v) s r = r
     owes_keeps next.Killed s r = r
 
-    step_keeps : (x : Turn) (s : State P S H) → IsSound t s.control → R s → R (steps f x t s).state
+    step_keeps : (x : Turn) (s : State P S H) → IsSound t s.control → IsCalm t s → R s → R (steps f x t s).state
     unfolding steps
-    step_keeps x s sound r =
+    step_keeps x s sound calm r =
         let w = steps_on f t s in
-        owes_keeps w.next w.told.state (steps_by_keeps (blocked_of s.control t) (s.control.threads.progress t) s refl refl sound r)
+        owes_keeps w.next w.told.state (steps_by_keeps (blocked_of s.control t) (s.control.threads.progress t) s refl refl sound calm r)
 
   -- ---- the other parts
 
-  woken_keeps : (ts : List ℕ) → Keeps (all_woken ts)
+  pub woken_keeps : (ts : List ℕ) → Keeps (all_woken ts)
   unfolding all_woken woken
   woken_keeps [] s r = r
   woken_keeps (t ∷ ts) s r =
       let rank = prio_of s.control t +ℤ pos 1 in
       woken_keeps ts (woken t s).state (kept.handlers.told (mark.Woke (tid t) rank) (controlled (is_ready_at t rank false) s) tt (ready_keeps t rank false s r))
-
-  pass_keeps : Keeps (pass f)
-  unfolding pass
-  pass_keeps s r = woken_keeps (to_wake f s) (controlled (looks f s) s) (kept.looked s r)
 
   readies_keep : (ts : List ℕ) → Stays (readies_all ts)
   unfolding readies_all readies
@@ -868,14 +1001,51 @@ module _ {P S H : Type 0} (f : P → Functions S H) (R : State P S H → Type 0)
       let a = controlled readies_new s in
       taken_keeps x (chosen a.control.scheduler.preferred (queue a.control Ready)) a (readies_keep (reverse (holders (queue s.control New))) s r)
 
-  put_keeps : (t : ℕ) (at : ThreadState) (q : Queue) (s : State P S H) → IsLifeSafe t (change.State at) s → R s → R (controlled (λ k. enters t q (prio_of k t) false (sets t (change.State at) k)) s)
-  put_keeps t at q s life r = enters_keeps t q (prio_of s.control t) false (controlled (sets t (change.State at)) s) (kept.set t (change.State at) s tt life r)
+  -- one that is put back is ready, which is no queue of waiting threads
+  pub put_back_keeps : (t : ℕ) → Stays (is_put_back t)
+  unfolding is_put_back
+  put_back_keeps t s r = enters_keeps t Ready (prio_of s.control t) false (controlled (sets t (change.State state.Ready)) s) (λ odd. absurd (true_false (sym odd))) (kept.set t (change.State state.Ready) s tt tt r)
 
-  placed_keeps : (t : ℕ) (o : Option ℕ) (b : Option Blocked) → Stays (placed_by t o b)
-  unfolding is_put_back is_put_waiting
+  -- ---- a run, where passes and closed turns keep it too
+
+  module _ (passed : Keeps (pass f)) (closed : (x : Turn) (t : ℕ) (s : State P S H) → R s → R (closes f x t s).state) where
+    moves_keeps : (x : Turn) (o : Option ℕ) (s : State P S H) → R s → R (moves_by f x o s).state
+    moves_keeps x None s r = r
+    moves_keeps x (Some m) s r =
+        let a = controlled (moves_to m) s in
+        passed (tells (mark.Moved m) a).state (kept.handlers.told (mark.Moved m) a tt (moves_to_keeps m s r))
+
+    part_keeps : (x : Turn) (s : State P S H) (p : Part) → ((t : ℕ) → p ≡ Step t → IsSound t s.control × IsCalm t s) → R s → R (part_by f x s p).state
+    unfolding moves
+    part_keeps x s Move sound r = moves_keeps x (moment f s) s r
+    part_keeps x s Take sound r = takes_keeps x s r
+    part_keeps x s (Step t) sound r = let steps_so = sound t refl in step_keeps t x s steps_so.0 steps_so.1 r
+    part_keeps x s (Close t) sound r = closed x t s r
+    part_keeps x s Halt sound r = r
+
+    pub run_keeps_through : (g : Given P) → R (start f g) → (i : ℕ) → R (run f g i).state
+    unfolding parts part
+    run_keeps_through g begins zero = begins
+    run_keeps_through g begins (suc i) = part_keeps (run f g i).turn (run f g i).state (next_part (run f g i).state (run f g i).turn) (λ t next. (run_sound f g i t next, run_calm f g i t next)) (run_keeps_through g begins i)
+
+-- ---- a run, where all changes keep it
+
+module _ {P S H : Type 0} (f : P → Functions S H) (R : State P S H → Type 0) (kept : KeptAlong f R) where
+  steps_keep : KeptBySteps f R
+  steps_keep = kept_by_steps f R kept
+
+  pub pass_keeps : (s : State P S H) → R s → R (pass f s).state
+  unfolding pass
+  pass_keeps s r = woken_keeps f R steps_keep (to_wake f s) (controlled (looks f s) s) (kept.looked s r)
+
+  put_waiting_keeps : (t : ℕ) (s : State P S H) → R s → R (controlled (is_put_waiting t) s)
+  unfolding is_put_waiting enters
+  put_waiting_keeps t s r = kept.placed _ _ _ (controlled (sets t (change.State state.Waiting)) s) (kept.set t (change.State state.Waiting) s tt tt r)
+
+  placed_keeps : (t : ℕ) (o : Option ℕ) (b : Option Blocked) (s : State P S H) → R s → R (controlled (placed_by t o b) s)
   placed_keeps t None b s r = r
-  placed_keeps t (Some u) (Some b) s r = put_keeps t state.Waiting Waiting s tt r
-  placed_keeps t (Some u) None s r = put_keeps t state.Ready Ready s tt r
+  placed_keeps t (Some u) (Some b) s r = put_waiting_keeps t s r
+  placed_keeps t (Some u) None s r = put_back_keeps f R steps_keep t s r
 
   closes_keeps : (x : Turn) (t : ℕ) (s : State P S H) → R s → R (closes f x t s).state
   unfolding closes is_placed raises_ready
@@ -883,25 +1053,7 @@ module _ {P S H : Type 0} (f : P → Functions S H) (R : State P S H → Type 0)
       let a = controlled raises_ready s in
       let b = controlled (placed_by t s.control.scheduler.running (blocked_of s.control t)) a in
       let c = controlled (runs_now None) b in
-      pass_keeps (controlled (turn_ends t) s) (moves_to_keeps (min (now_of c.control + clock_of c.control) last_moment) c (runs_now_keeps None b (placed_keeps t s.control.scheduler.running (blocked_of s.control t) a (raises_keeps s r))))
-
-  moves_keeps : (x : Turn) (o : Option ℕ) (s : State P S H) → R s → R (moves_by f x o s).state
-  moves_keeps x None s r = r
-  moves_keeps x (Some m) s r =
-      let a = controlled (moves_to m) s in
-      pass_keeps (tells (mark.Moved m) a).state (kept.handlers.told (mark.Moved m) a tt (moves_to_keeps m s r))
-
-  part_keeps : (x : Turn) (s : State P S H) (p : Part) → ((t : ℕ) → p ≡ Step t → IsSound t s.control) → R s → R (part_by f x s p).state
-  unfolding moves
-  part_keeps x s Move sound r = moves_keeps x (moment f s) s r
-  part_keeps x s Take sound r = takes_keeps x s r
-  part_keeps x s (Step t) sound r = step_keeps t x s (sound t refl) r
-  part_keeps x s (Close t) sound r = closes_keeps x t s r
-  part_keeps x s Halt sound r = r
-
-  -- ---- a run
+      pass_keeps (controlled (turn_ends t) s) (moves_to_keeps f R steps_keep (min (now_of c.control + clock_of c.control) last_moment) c (runs_now_keeps f R steps_keep None b (placed_keeps t s.control.scheduler.running (blocked_of s.control t) a (raises_keeps f R steps_keep s r))))
 
   pub run_keeps : (g : Given P) → R (start f g) → (i : ℕ) → R (run f g i).state
-  unfolding parts part
-  run_keeps g begins zero = begins
-  run_keeps g begins (suc i) = part_keeps (run f g i).turn (run f g i).state (next_part (run f g i).state (run f g i).turn) (λ t next. run_sound f g i t next) (run_keeps g begins i)
+  run_keeps g begins i = run_keeps_through f R steps_keep pass_keeps closes_keeps g begins i

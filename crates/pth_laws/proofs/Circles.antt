@@ -149,7 +149,7 @@ has_none (Some v) h = by_claim v.claim h
     by_claim None h = refl
     by_claim (Some t) h = absurd (true_false h)
 
-none_any : (p : ℕ → Bool) (xs : List ℕ) → list_any p xs ≡ false → (e : ℕ) → StandsIn e xs → p e ≡ false
+pub none_any : (p : ℕ → Bool) (xs : List ℕ) → list_any p xs ≡ false → (e : ℕ) → StandsIn e xs → p e ≡ false
 none_any p [] h e there = absurd there
 none_any p (x ∷ xs) h e (inl same) = ap p same ∙ (neither (p x) (list_any p xs) h).0
 none_any p (x ∷ xs) h e (inr there) = none_any p xs (neither (p x) (list_any p xs) h).1 e there
@@ -162,7 +162,7 @@ pub unclaimed_in : (x : Events) (e g : ℕ) → is_claimed x e ≡ false → Sta
 unclaimed_in x e g free h = has_none (x.events g) (none_any (λ y. has_claim (x.events y)) (x.rings e) free g h)
 
 -- what a refusal leaves
-free_event : (x : Events) (e : ℕ) → ring_refusal x e ≡ None → (is_event x e ≡ true) × (is_claimed x e ≡ false)
+pub free_event : (x : Events) (e : ℕ) → ring_refusal x e ≡ None → (is_event x e ≡ true) × (is_claimed x e ≡ false)
 free_event x e h = by_tests (is_event x e) (is_claimed x e) h
   where
     by_tests : (there has : Bool) → (if not there then Some EINVAL else (if has then Some EBUSY else None)) ≡ None → (there ≡ true) × (has ≡ false)
@@ -187,7 +187,7 @@ module _ (x : Events) (c : AreCircles x) where
   mates e g h = subst (StandsIn e) (sym (c.turns e g h)) (StandsIn-turned e g (x.rings e) h (c.own e g h))
 
   -- who is not in the ring of a has nobody of it in the own ring
-  apart : (a e g : ℕ) → (StandsIn e (x.rings a) → ⊥) → StandsIn g (x.rings e) → StandsIn g (x.rings a) → ⊥
+  pub apart : (a e g : ℕ) → (StandsIn e (x.rings a) → ⊥) → StandsIn g (x.rings e) → StandsIn g (x.rings a) → ⊥
   apart a e g out h k =
       out (StandsIn-unturned e g (x.rings a) k (subst (StandsIn e) (c.turns a g k) (mates e g h)))
 
@@ -196,7 +196,7 @@ module _ (x : Events) (c : AreCircles x) where
   free_mate a e free h = all_none (λ y. has_claim (x.events y)) (x.rings e) (λ g k. none_any (λ y. has_claim (x.events y)) (x.rings a) free g (StandsIn-unturned g e (x.rings a) h (subst (StandsIn g) (c.turns a e h) k)))
 
   -- a ring begins with its event
-  begins : (e : ℕ) → StandsIn e (x.rings e) → x.rings e ≡ e ∷ rest_of (x.rings e)
+  pub begins : (e : ℕ) → StandsIn e (x.rings e) → x.rings e ≡ e ∷ rest_of (x.rings e)
   begins e h = let s = split e (x.rings e) h in let is = c.turns e e h ∙ turned-is e (x.rings e) s in is ∙ ap (λ (l : List ℕ). e ∷ rest_of l) (sym is)
 
   rest_once : (e : ℕ) → StandsIn e (x.rings e) → ((y : ℕ) → StandsIn y (rest_of (x.rings e)) → y ≢ e) × Distinct (rest_of (x.rings e))

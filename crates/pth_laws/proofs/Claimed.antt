@@ -16,7 +16,7 @@ use Rattle.pth_base.specs.Chain.{StandsIn, Distinct}
 use Rattle.pth_ring.specs.Ring.{ring_holds, turned, each}
 use Rattle.pth_ring.specs.Rings.{Events, is_event, is_claimed, with_claim, with_event, ring_awaited, awaited, claimed, all_unclaimed}
 use Rattle.pth_base.proofs.Chains.{stands_or_not}
-use Rattle.pth_ring.proofs.Lists.{ring_holds-in, ring_holds-out}
+use Rattle.pth_ring.proofs.Lists.{ring_holds-out}
 use Rattle.pth_threads.specs.declared.entry.Change as change_of_record
 use Rattle.pth_model.specs.declared.awaits.Awaits.{Awaits}
 use Rattle.pth_model.specs.declared.awaits.Awaits.TheVariants as awaits
@@ -35,7 +35,7 @@ use Rattle.pth_model.specs.Looks.{looked_at}
 use Rattle.pth_model.specs.Pass.{looks, waiting}
 use Rattle.pth_model.specs.Run.{run}
 use Rattle.pth_laws.specs.Clean.{event_held}
-use Rattle.pth_laws.specs.Rings.{AreRingsHeld, AreRingsCircles}
+use Rattle.pth_laws.specs.Rings.{AreRingsHeld}
 use Rattle.pth_laws.proofs.Living.{true_false}
 use Rattle.pth_laws.proofs.Allowed.{IsFree, MayWait, stopped_free}
 use Rattle.pth_model.proofs.NoRounds.{special_none}
@@ -43,7 +43,7 @@ use Rattle.pth_laws.proofs.Claims.{event_given}
 use Rattle.pth_laws.proofs.Along.{KeptAlong, Arrangement, arranged, MayArrange, run_keeps}
 use Rattle.pth_laws.proofs.Circles.{AreCircles, Comes, mates, unclaimed_in, comes_by, claims_by, circles_by}
 
-some_same : (m n : ℕ) → Some m ≡ Some n → m ≡ n
+pub some_same : (m n : ℕ) → Some m ≡ Some n → m ≡ n
 some_same m n h = cc
 
 pub none_some : (n : ℕ) → None ≡ Some n → ⊥
@@ -58,7 +58,7 @@ pub record Fits (x : Events) (waits : ℕ → Option ℕ) : Type 0 where
 -- ---- changes of what is kept of events
 
 -- each event keeps whether it is there
-some_mapped : {A : Type 0} (f : A → A) (o : Option A) → is_some (option_map f o) ≡ is_some o
+pub some_mapped : {A : Type 0} (f : A → A) (o : Option A) → is_some (option_map f o) ≡ is_some o
 some_mapped f None = refl
 some_mapped f (Some v) = refl
 
@@ -111,7 +111,7 @@ no_claim None = refl
 no_claim (Some v) = refl
 
 -- a claim stands at an event
-claimed_there : (o : Option Event) (t : ℕ) → claimant_by o ≡ Some t → is_some o ≡ true
+pub claimed_there : (o : Option Event) (t : ℕ) → claimant_by o ≡ Some t → is_some o ≡ true
 claimed_there None t h = absurd (none_some t h)
 claimed_there (Some v) t h = refl
 
@@ -199,7 +199,7 @@ module _ (x : Events) (waits : ℕ → Option ℕ) (r : Fits x waits) where
   }
 
 -- a test is what stands in a list
-stands : (g : ℕ) (xs : List ℕ) → ring_holds g xs ≡ true → StandsIn g xs
+pub stands : (g : ℕ) (xs : List ℕ) → ring_holds g xs ≡ true → StandsIn g xs
 stands g xs h = elim (stands_or_not g xs) [ inl k ↦ k | inr out ↦ absurd (true_false (sym h ∙ ring_holds-out g xs out)) ]
 
 -- ---- states
@@ -351,7 +351,7 @@ module _ {P S H : Type 0} where
     barred = λ x s fewer all r. r;
     reached = λ t b round s free alive there waits r. fits_reached t b round s r;
     goes = λ t g s same r. fits_goes t g s (λ p at. ap event_held (same p)) r;
-    blocked = λ t c a s free other none may r. fits_blocked t c a s (special_none a none).1 may r;
+    blocked = λ t c a s free other none may r. fits_blocked t c a s (special_none a none.0).1 may r;
     waits_on = λ t a b s at names stays other plain r. fits_goes t (blocking (Some (record b { awaits = a }))) s (λ p here. event_given b.call a plain.1 ∙ sym (event_given b.call b.awaits plain.0) ∙ sym (ap event_held (sym (ap blocked_in here) ∙ at))) r;
     stopped = λ t x y s fewer others seats left gone r. fits_stopped t (controlled (λ k. with_conditions (λ z. y) (with_barriers (λ z. x) k)) s) r;
     takes_seat = λ t c m e s free alive there may r. fits_blocked t (call.CondAwait c m e) (awaits.Notice c) (controlled (with_conditions (seat_entered c (seat_of t))) s) refl (record { ring = may.ring; rightly = may.rightly; names = may.names }) r;
@@ -386,13 +386,3 @@ module _ {P S H : Type 0} where
       one t u a b h k within =
           let same : a ≡ b = r.one a b t u h k (stands b (x.rings a) within) in
           (some_same t u (sym h ∙ ap (claimant x) same ∙ k), same)
-
-  pub run_circles : (f : P → Functions S H) (g : Given P) (i : ℕ) → AreRingsCircles (run f g i).state
-  run_circles f g i =
-      let x = (run f g i).state.control.events in
-      let c = (run_fits f g i).circles in
-      record {
-        own = λ e h. ring_holds-in e (x.rings e) (c.here e h);
-        once = c.once;
-        rotated = λ e a h. c.turns e a (stands a (x.rings e) h);
-      }

@@ -1,5 +1,6 @@
 -- Who reads under a lock is counted: by one number for all who do, however many threads there may be.
-use Rattle.std.proofs.Common.{◌≡◌, ℕ, ◌+◌, ◌≤◌, Bool, true, false, refl, sym, ◌∙◌, ap, subst, arith}
+use Rattle.std.proofs.Common.{◌≡◌, ℕ, zero, suc, ◌+◌, ◌≤◌, Bool, true, false, inl, inr, refl, sym, ◌∙◌, ap, subst, arith}
+use Rattle.std.proofs.lemmas.Bool.{cases_lt}
 use Rattle.pth_base.specs.Table.{put}
 use Rattle.pth_base.proofs.Lists.{put_none}
 use Rattle.pth_lock.proofs.Counts.{count_more, count_less, count_none, none_counted}
@@ -36,3 +37,19 @@ none_passes f many h none t = none_counted f t (h.bound + t + 1) (omega arith) (
 
 pub none_counts : (f : ℕ → Bool) (many : ℕ) → IsCounted f many → ((t : ℕ) → f t ≡ false) → many ≡ 0
 none_counts f many h none = sym (h.counts h.bound (omega arith)) ∙ count_none f h.bound none
+
+-- a number that does not pass is not counted
+none_more : (f : ℕ → Bool) (k : ℕ) → f k ≡ false → count_below f (suc k) ≡ count_below f k
+unfolding count_below
+none_more f k out = rw out refl
+
+none_higher : (f : ℕ → Bool) (n k : ℕ) → ((t : ℕ) → n ≤ t → f t ≡ false) → n ≤ k → count_below f k ≡ count_below f n
+none_higher f n zero none low = let same : zero ≡ n = omega arith in ap (count_below f) same
+none_higher f n (suc k) none low = elim (cases_lt n (suc k)) [
+  | inl below ↦ let past : n ≤ k = omega arith in none_more f k (none k past) ∙ none_higher f n k none past
+  | inr high ↦ let same : suc k ≡ n = omega arith in ap (count_below f) same
+]
+
+-- where none passes from n on, all that pass are counted below n
+pub counted_below : (f : ℕ → Bool) (many n : ℕ) → IsCounted f many → ((t : ℕ) → n ≤ t → f t ≡ false) → many ≡ count_below f n
+counted_below f many n h none = sym (h.counts (h.bound + n) (omega arith)) ∙ none_higher f n (h.bound + n) none (omega arith)

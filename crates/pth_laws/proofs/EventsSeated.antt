@@ -201,7 +201,7 @@ module _ {P S H : Type 0} where
   seated_kept f = record {
     handlers = record {
       shared = λ h s r. r;
-      seated = λ x s fewer r. (r.0, seated_fewer s.control.events x s.control.conditions (λ c e. fewer c (event_seat e)) r.1);
+      seated = λ x s keeps r. (r.0, seated_fewer s.control.events x s.control.conditions (λ c e. keeps.fewer c (event_seat e)) r.1);
       told = λ m s may r. r;
     };
     placed = λ standing entries raises s r. r;
@@ -224,9 +224,9 @@ module _ {P S H : Type 0} where
     goes = λ t g s same r. (fits.goes t g s same r.0, r.1);
     blocked = λ t c a s free other none may r. (fits.blocked t c a s free other none may r.0, seated_claims t (ring_given c) s r.0.circles may.ring r.1);
     waits_on = λ t a b s at names stays other plain r. (fits.waits_on t a b s at names stays other plain r.0, r.1);
-    stopped = λ t x y s fewer others seats left gone r. (fits.stopped t x y s fewer others seats left gone r.0, seated_stopped t y (controlled (with_barriers (λ z. x)) s) seats r);
+    stopped = λ t x y s fewer others seats left gone r. (fits.stopped t x y s fewer others seats left gone r.0, seated_stopped t y (controlled (with_barriers (λ z. x)) s) seats.fewer r);
     takes_seat = λ t c m e s free alive there may r. (fits.takes_seat t c m e s free alive there may r.0, seated_claims t (extra_ring e) (controlled (with_conditions (seat_entered c (seat_of t))) s) r.0.circles may.ring (seated_fewer s.control.events (seat_entered c (seat_of t) s.control.conditions) s.control.conditions (λ i g. let less = entered_by c (seat_of t) (event_seat g) s.control.conditions i in omega (arith, less)) r.1));
-    retakes = λ t c m e a o y s fewer gone at r. (fits.retakes t c m e a o y s fewer gone at r.0, seated_stopped t y s fewer r);
+    retakes = λ t c m e a o y s keeps gone at r. (fits.retakes t c m e a o y s keeps gone at r.0, seated_stopped t y s keeps.fewer r);
   }
     where
       fits : KeptAlong f FitsIn
@@ -236,6 +236,12 @@ module _ {P S H : Type 0} where
   unfolding start
   seated_start f g = (fits_start f g, seated_none _ _ (λ c e. omega arith))
 
+  run_seated : (f : P → Functions S H) (g : Given P) (i : ℕ) → AreSeated (run f g i).state
+  run_seated f g i = (run_keeps f AreBoth (seated_kept f) g (seated_start f g) i).1
+
+  pub run_right : (f : P → Functions S H) (g : Given P) (i : ℕ) → AreRight (run f g i).state.control.events (run f g i).state.control.conditions
+  run_right f g i = (run_seated f g i).right
+
   pub run_events : (f : P → Functions S H) (g : Given P) (i c e : ℕ) → let s = (run f g i).state in has_seat s.control.conditions c (event_seat e) ≡ true → (option_map object_named (condition_in (s.control.events.events e)) ≡ Some c) × (is_claimed s.control.events e ≡ true)
   run_events f g i c e h = (its_place (condition_in (x.events e)) c (omega (arith, some, place)), ring_claimed x e (r.ring e c some))
     where
@@ -243,7 +249,7 @@ module _ {P S H : Type 0} where
       x = (run f g i).state.control.events
 
       r : AreSeated (run f g i).state
-      r = (run_keeps f AreBoth (seated_kept f) g (seated_start f g) i).1
+      r = run_seated f g i
 
       some : 1 ≤ seats_at (event_seat e) ((run f g i).state.control.conditions c)
       some = has_some (run f g i).state.control.conditions c (event_seat e) h

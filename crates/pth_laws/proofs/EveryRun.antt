@@ -38,6 +38,7 @@ use Rattle.pth_laws.specs.Marks.{at_number}
 use Rattle.pth_laws.specs.Orderly.{Orderly, key_at}
 use Rattle.pth_laws.specs.Exclusive.{Exclusive}
 use Rattle.pth_laws.specs.Initialised.{Initialised}
+use Rattle.pth_laws.specs.InOrder.{InOrder, mail}
 use Rattle.pth_laws.specs.Tied.{IsTiedTo}
 use Rattle.pth_laws.specs.Valid.{Lives, IsValid, IsOver}
 use Rattle.pth_laws.proofs.Living.{true_false, made_more, both, not_true, runs_alive}
@@ -48,6 +49,7 @@ use Rattle.pth_laws.proofs.Walk.{IsOfMade, IsLawfulOf, each_lawful, each-weaker,
 use Rattle.pth_laws.proofs.Parts.{IsSettled, PartWalk, none_some, part_walk}
 use Rattle.pth_laws.proofs.Leftovers.{each_empty, unmarked_nothing}
 use Rattle.pth_laws.proofs.KeyMarks.{KeysFit, keys_fit_none, keys_fit_along}
+use Rattle.pth_laws.proofs.MailMarks.{MailFits, ports_as, mail_told, lawful_in_order}
 use Rattle.pth_laws.proofs.OrderlyMarks.{lawful_orderly, unkilled, ended_told, canceled_is, pending_are, closed_along}
 use Rattle.pth_laws.proofs.Shares.{not_had}
 use Rattle.pth_laws.proofs.ExclusiveMarks.{Fits, fits_none, fits_along, levels_are, reads_are, writes_are, lawful_exclusive, lawful_initialised}
@@ -215,6 +217,9 @@ module _ {P S H : Type 0} (f : P → Functions S H) where
   pub run_initialised : (g : Given P) (i : ℕ) → Initialised (run f g i).marks
   run_initialised g i = lawful_initialised (run f g i).marks (run_lawful g i).law
 
+  pub run_in_order : (g : Given P) (i : ℕ) → InOrder (run f g i).marks
+  run_in_order g i = lawful_in_order (run f g i).marks (run_lawful g i).law
+
   -- ---- of a run that was not killed
 
   nobody_killed : (g : Given P) (i : ℕ) → (IsKilled (run f g i).turn.outcome → ⊥) → list_any is_kill (run f g i).marks ≡ false
@@ -292,6 +297,9 @@ module _ {P S H : Type 0} (f : P → Functions S H) where
     fit : Fits s.resources marks
     fit = subst (λ (k : Resources). Fits k marks) same (fits_along empty_book [] marks none (run_lawful g i).law fits_none)
 
+    mail_fit : MailFits s.resources.store.mail (mail marks)
+    mail_fit = subst (λ (k : Resources). MailFits k.store.mail (mail marks)) same (mail_told marks (run_lawful g i).law)
+
     fit_keys : (t : ℕ) → KeysFit t s.resources.store.keys marks
     fit_keys t = subst (λ (k : Resources). KeysFit t k.store.keys marks) same (keys_fit_along t empty_book [] marks none (run_lawful g i).law (keys_fit_none t))
 
@@ -326,6 +334,9 @@ module _ {P S H : Type 0} (f : P → Functions S H) where
       mutexes = levels_are s.resources marks fit;
       readers = reads_are s.resources marks fit;
       writers = writes_are s.resources marks fit;
+      ports = ports_as s.resources.store.mail (mail marks) mail_fit;
+      held = mail_fit.kept;
+      put = mail_fit.made;
       awaiting = λ t. fit.awaiting t ∙ (settled.awaits t).0.fits;
       gone_has_no_level = λ t m gone. levels_are s.resources marks fit t m ∙ no_level t (nothing_left g i on t gone) m;
       gone_holds_no_lock = λ t l gone. ap₂ (λ (x y : Bool). x || y) (writes_are s.resources marks fit t l) (reads_are s.resources marks fit t l) ∙ no_hold t (nothing_left g i on t gone) l;

@@ -18,15 +18,16 @@ use Rattle.pth_base.specs.Table.{put}
 use Rattle.pth_model.specs.State.{Control, Scheduler, queue}
 use Rattle.pth_model.specs.Changes.{sets, enters, leaves_queue, makes, forgets, removes, goes_on, or_nobody, entry_of, blocked_in, blocked_of, queue_for, holders}
 use Rattle.pth_model.specs.Awaits.{is_awaiting, is_retaking, awaits_in}
-use Rattle.pth_model.specs.Living.{is_dead, lives}
+use Rattle.pth_model.specs.Living.{is_dead, is_made, lives}
 use Rattle.pth_model.specs.ThreadControl.{spawns, suspends, resumes, returns_to, thread, to_join, joinable_dead, first_of, is_dead_in}
 use Rattle.pth_model.proofs.Placed.{Seats, seats}
 use Rattle.pth_model.proofs.Once.{shown-all}
 use Rattle.pth_model.proofs.Walks.{IsOther}
 use Rattle.pth_laws.proofs.Living.{IsLiving, Living, true_false, runs_alive, living-made, living-over, changed_lives, living_sets, living_spawned, living_suspended, living_resumed, living_removed, not_next}
 
--- t lives, whom a join takes does not, nor does who is made next, and only a pth_cond_await takes a mutex back
+-- t was made and lives, whom a join takes does not, nor does who is made next, and only a pth_cond_await takes a mutex back
 pub record IsSound {P S H : Type 0} (t : ℕ) (k : Control P S H) : Type 0 where
+  pub made : is_made k.threads.made t ≡ true
   pub alive : lives (k.threads.known t) ≡ true
   pub joins : (m : ℤ) (u : ℕ) → to_join k m ≡ Some u → lives (k.threads.known u) ≡ false
   pub next : lives (k.threads.known (k.threads.made + 1)) ≡ false
@@ -50,6 +51,10 @@ dead_known None h = refl
 pub known_lives : (o : Option Entry) → is_some o ≡ true → is_dead (or_nobody o).state ≡ false → lives o ≡ true
 known_lives None known h = absurd (true_false (sym known))
 known_lives (Some e) known h = ap not h
+
+lives_known : (o : Option Entry) → lives o ≡ true → is_some o ≡ true
+lives_known None h = absurd (true_false (sym h))
+lives_known (Some e) h = refl
 
 -- whoever lives does after a change that leaves who lives as it is
 pub set_lives : (u : ℕ) (c : change_type.Change) (known : ℕ → Option Entry) → ((e : Entry) → known u ≡ Some e → is_dead (changed c e).state ≡ is_dead e.state) → (v : ℕ) → lives (known v) ≡ true → lives (put known u (option_map (changed c) (known u)) v) ≡ true
@@ -96,7 +101,7 @@ module _ {P S H : Type 0} (n : ℕ) (ended : ℕ → Bool) (t : ℕ) where
       by_life true h = absurd (true_false (sym (living-made n ended k.threads.made k.threads.known k.threads.standing l (k.threads.made + 1) h) ∙ not_next k.threads.made))
 
   pub going_sound : (k : Control P S H) → Going k → (is_retaking (awaits_in (blocked_of k t)) ≡ true → is_awaiting (blocked_of k t) ≡ true) → IsSound t k
-  going_sound k g retakes = record { retakes = retakes; alive = going_alive k g; joins = λ m u taken. joined_dead k m u g taken; next = next_dead k g.living }
+  going_sound k g retakes = record { retakes = retakes; made = g.living.numbered t (lives_known (k.threads.known t) (going_alive k g)); alive = going_alive k g; joins = λ m u taken. joined_dead k m u g taken; next = next_dead k g.living }
 
   pub going_spawned : (f : P → Functions S H) (b : ℕ) (v : ℤ) (of : NewThread) (k : Control P S H) → Going k → Going (spawns f b v of k)
   unfolding makes enters
@@ -175,7 +180,7 @@ module _ {P S H : Type 0} (t : ℕ) where
   -- what a thread has to go on with in its program, and the program's shared value, are nothing to it
   pub sound_steps : (u : ℕ) (g : Progress S → Progress S) (h : H) (k : Control P S H) → ((p : Progress S) → (g p).blocked ≡ p.blocked) → IsSound t k → IsSound t (goes_on u g (record k { shared = h }))
   unfolding goes_on joinable_dead
-  sound_steps u g h k same x = record { retakes = subst (λ o. is_retaking (awaits_in o) ≡ true → is_awaiting o ≡ true) (sym kept) x.retakes; alive = x.alive; joins = λ m v taken. x.joins m v taken; next = x.next }
+  sound_steps u g h k same x = record { retakes = subst (λ o. is_retaking (awaits_in o) ≡ true → is_awaiting o ≡ true) (sym kept) x.retakes; made = x.made; alive = x.alive; joins = λ m v taken. x.joins m v taken; next = x.next }
     where
       by_progress : (p : Option (Progress S)) → blocked_in (option_map g p) ≡ blocked_in p
       by_progress None = refl

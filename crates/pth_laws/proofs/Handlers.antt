@@ -5,6 +5,7 @@ use Rattle.pth_base.specs.declared.act.Act.{Act}
 use Rattle.pth_base.specs.declared.act.Act.TheVariants as act
 use Rattle.pth_base.specs.declared.answer.Answer.{Answer}
 use Rattle.pth_base.specs.declared.answer.Answer.TheVariants as answer
+use Rattle.pth_base.specs.declared.call.Call.{Call}
 use Rattle.pth_base.specs.declared.call.Call.TheVariants as call
 use Rattle.pth_base.specs.declared.ids.HandlerId.{HandlerId}
 use Rattle.pth_base.specs.declared.mark.Mark.{Mark}
@@ -16,13 +17,14 @@ use Rattle.pth_model.specs.State.{State, Control}
 use Rattle.pth_model.specs.Transition.{Piece, changes, tells, tid, nothing, controlled, ◌and_then◌}
 use Rattle.pth_model.specs.Changes.{shares, with_conditions}
 use Rattle.pth_model.specs.Mutexes.{mutex_release}
+use Rattle.pth_model.specs.Ports.{port_put}
 use Rattle.pth_model.specs.Row.{unless_refused, refuses}
 use Rattle.pth_model.specs.Acts.{acts, acts_from, act_limit, answer_in, row_of_act, handled, goes_on_after, runs_handler}
 use Rattle.pth_model.specs.Living.{is_made}
 use Rattle.pth_laws.proofs.Book.{Book, Open, BlockRun, ran_by, with_handler}
 use Rattle.pth_laws.proofs.Laws.{IsAnswerExclusive, IsExclusiveMark}
 use Rattle.pth_laws.proofs.Awaits.{act_awaits}
-use Rattle.pth_laws.proofs.Locking.{release_said}
+use Rattle.pth_laws.proofs.Locking.{release_said, put_said}
 use Rattle.pth_laws.proofs.Walk.{Walk, walk_tells, walk_then}
 
 pub block_open : (t : ℕ) (x : BlockRun) → ran_by (Open t x) t ≡ x
@@ -77,12 +79,14 @@ module _ {P S H : Type 0} where
     pub run_up : (x : BlockRun) (b : Book) (s : State P S H) → Runs x b s → b.ended t ≡ false
     run_up x b s w = ap (λ (e : ℕ → Bool). e t) w.ended ∙ up
 
-    -- a mutex is given back by who has it
-    releases : (b : Book) (s : State P S H) (m : ℤ) → b.resources ≡ s.resources → IsAnswerExclusive b.resources t (call.MutexRelease m) (answer_in (mutex_release s t m).begin.verdict)
-    releases b s m same = subst (λ (r : Resources). IsAnswerExclusive r t (call.MutexRelease m) (answer_in (mutex_release s t m).begin.verdict)) (sym same) (release_said s.resources t m)
+    -- what the state says of an answer, the book says
+    by_book : (b : Book) (r : Resources) (c : Call) (a : Answer) → b.resources ≡ r → IsAnswerExclusive r t c a → IsAnswerExclusive b.resources t c a
+    by_book b r c a same law = subst (λ (k : Resources). IsAnswerExclusive k t c a) (sym same) law
 
+    -- a mutex is given back by who has it, and a message goes to a port that is there
     act_exclusive : (b : Book) (s : State P S H) (a : Act) → b.resources ≡ s.resources → IsExclusiveMark b (mark.Acted (tid t) a (answer_in (row_of_act s t a).begin.verdict))
-    act_exclusive b s (act.Release m) same = releases b s m same
+    act_exclusive b s (act.Release m) same = by_book b s.resources (call.MutexRelease m) (answer_in (mutex_release s t m).begin.verdict) same (release_said s.resources t m)
+    act_exclusive b s (act.Put p v) same = by_book b s.resources (call.PortPut p v (pos 0)) (answer_in (port_put s p (pos 0)).begin.verdict) same (put_said s.resources t p v (pos 0))
     act_exclusive b s a same = tt
 
     act_walk : (x : BlockRun) (a : Act) (b : Book) (s : State P S H) → Runs x b s → Walk n b (Runs x) (acts t a s)

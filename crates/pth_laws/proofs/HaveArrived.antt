@@ -1,9 +1,10 @@
--- Who is blocked at a barrier has its arrival there, for the round that it awaits; and no thread has two arrivals at a barrier.
+-- Who is blocked at a barrier has its arrival there, for the round that it awaits; and no thread has two arrivals at a barrier, or
+-- arrivals at two.
 use Rattle.std.proofs.Common.{◌≡◌, ◌≤◌, ℕ, ◌+◌, ◌==◌, Bool, true, false, if◌then◌else◌, ℤ, [], Option, Some, None, option_map, Ok, refl, sym, ◌∙◌, ap, subst, arith}
 use Rattle.pth_base.specs.Program.{Functions}
 use Rattle.pth_base.specs.declared.call.Call.{Call}
 use Rattle.pth_base.specs.declared.call.Call.TheVariants as call
-use Rattle.pth_base.proofs.Tables.{same_means, put_by}
+use Rattle.pth_base.proofs.Tables.{same_means, same_fails, put_by}
 use Rattle.pth_lock.specs.Objects.{object_named}
 use Rattle.pth_cond.specs.declared.barriers.Arrival.TheVariants.{Waits}
 use Rattle.pth_cond.specs.Conditions.{seat_entered}
@@ -25,14 +26,14 @@ use Rattle.pth_model.specs.LibraryControl.{vanish_all_but}
 use Rattle.pth_model.specs.Calls.{blocks}
 use Rattle.pth_model.specs.Pass.{looks}
 use Rattle.pth_model.specs.Run.{run}
-use Rattle.pth_laws.specs.Arrivals.{AllHaveArrived, NoneArrivedTwice, arrivals_of}
-use Rattle.pth_laws.specs.Clean.{has_arrived}
+use Rattle.pth_laws.specs.Arrivals.{AllHaveArrived, AllArrivedAtOne, NoneArrivedTwice, arrivals_of}
+use Rattle.pth_laws.specs.Clean.{has_arrived, has_arrived_here}
 use Rattle.pth_laws.proofs.Living.{true_false}
 use Rattle.pth_model.proofs.NoRounds.{is_reaching, is_round, special_none, special_both}
-use Rattle.pth_laws.proofs.Rounds.{HasFewer, HasOthers, HasAll, fewer_same, all_reached, has_reached, once_reached}
+use Rattle.pth_laws.proofs.Rounds.{HasFewer, HasOthers, HasAll, none_counted, fewer_same, all_reached, has_reached, once_reached}
 use Rattle.pth_laws.proofs.Allowed.{IsFree, StaysAt}
-use Rattle.pth_laws.proofs.Along.{KeptAlong, run_keeps}
-use Rattle.pth_laws.proofs.Arrivals.{AreArrivals, arrived_blocked, arrivals_kept, arrivals_start}
+use Rattle.pth_laws.proofs.Along.{KeptAlong, is_placing, run_keeps}
+use Rattle.pth_laws.proofs.Arrivals.{AreArrivals, arrived_blocked, arrivals_kept, arrivals_start, run_arrived}
 
 -- u, which this call blocks, has its arrival for the round that it awaits; and by another call it awaits no round
 abbrev Arrives : BarrierTable → ℕ → Call → Awaits → Type 0
@@ -42,6 +43,11 @@ Arrives x u c a = is_round a ≡ false
 abbrev HasOwn : BarrierTable → ℕ → Option Blocked → Type 0
 HasOwn x u None = Unit {0}
 HasOwn x u (Some d) = Arrives x u d.call d.awaits
+
+-- a call that takes no place where it waits reaches no barrier
+places_not : (c : Call) → is_placing c ≡ false → is_reaching c ≡ false
+places_not (call.BarrierReach b) other = other
+places_not c other = refl
 
 -- where its arrivals are not lost
 arrives_on : (x y : BarrierTable) (u : ℕ) (c : Call) (a : Awaits) → ((b round : ℕ) → has_arrived y b round u ≡ true → has_arrived x b round u ≡ true) → Arrives y u c a → Arrives x u c a
@@ -84,6 +90,16 @@ once_withdrawn x b t = by_barrier (x b)
     by_barrier : (o : Option Barrier) → arrivals_of t (option_map (λ (y : Barrier). record y { arrivals = [] }) o) ≤ 1
     by_barrier None = omega arith
     by_barrier (Some y) = omega arith
+
+-- who has no arrival for any round has none
+none_there : (t : ℕ) (o : Option Barrier) → ((round : ℕ) → has_arrived_here round t o ≡ true → ⊥) → arrivals_of t o ≡ 0
+none_there t None none = refl
+none_there t (Some y) none = none_counted t y.arrivals none
+
+same_first : (b d i j : ℕ) → ◌≡◌ {A = Option (ℕ × ℕ)} (Some (b, i)) (Some (d, j)) → b ≡ d
+same_first b d i j h =
+    let one : ◌≡◌ {A = ℕ × ℕ} (b, i) (d, j) = cc in
+    ap (λ (p : ℕ × ℕ). p.0) one
 
 -- ---- changes
 
@@ -222,7 +238,7 @@ module _ {P S H : Type 0} where
     barred = λ x s fewer all r. (k.barred x s fewer all r.0, kept_barred x s fewer all r.1);
     reached = λ t b round s free alive there waits r. (k.reached t b round s free alive there waits r.0, kept_reached t b round s (λ n i h. arrived_blocked s n i t free r.0 h) waits r.1);
     goes = λ t g s same r. (k.goes t g s same r.0, kept_goes t g s same r.1);
-    blocked = λ t c a s free other none may r. (k.blocked t c a s free other none may r.0, kept_blocked t c a s other (special_none a none).0 r.1);
+    blocked = λ t c a s free other none may r. (k.blocked t c a s free other none may r.0, kept_blocked t c a s (places_not c other) (special_none a none.0).0 r.1);
     waits_on = λ t a b s at names stays other plain r. (k.waits_on t a b s at names stays other plain r.0, kept_on t a b s at stays plain.0 r.1);
     stopped = λ t x y s fewer others seats left gone r. (k.stopped t x y s fewer others seats left gone r.0, kept_stopped t x (controlled (with_conditions (λ z. y)) s) fewer others r.1);
     takes_seat = λ t c m e s free alive there may r. (k.takes_seat t c m e s free alive there may r.0, kept_blocked t (call.CondAwait c m e) (Notice c) (controlled (with_conditions (seat_entered c (seat_of t))) s) refl refl r.1);
@@ -238,6 +254,24 @@ module _ {P S H : Type 0} where
 
   pub run_once : (f : P → Functions S H) (g : Given P) (i : ℕ) → NoneArrivedTwice (run f g i).state
   run_once f g i = (run_kept f g i).1
+
+  -- who has an arrival waits for its round, and so at its barrier alone
+  pub run_at_one : (f : P → Functions S H) (g : Given P) (i : ℕ) → AllArrivedAtOne (run f g i).state
+  run_at_one f g i b d t here there = by_number (b == d) refl
+    where
+      x : BarrierTable
+      x = (run f g i).state.control.barriers
+
+      at_one : (round other : ℕ) → has_arrived x b round t ≡ true → has_arrived x d other t ≡ true → b ≡ d
+      at_one round other h k = same_first b d round other (sym (run_arrived f g i b round t h).1 ∙ (run_arrived f g i d other t k).1)
+
+      by_number : (same : Bool) → (b == d) ≡ same → b ≡ d
+      by_number true same = same_means b d same
+      by_number false other =
+          let apart = same_fails b d other in
+          let none_at : (round : ℕ) → has_arrived x b round t ≡ true → arrivals_of t (x d) ≡ 0 = λ round h. none_there t (x d) (λ i k. apart (at_one round i h k)) in
+          let none : arrivals_of t (x b) ≡ 0 = none_there t (x b) (λ round h. let gone = none_at round h in absurd (omega (arith, gone, there))) in
+          absurd (omega (arith, none, here))
 
   pub run_arrives : (f : P → Functions S H) (g : Given P) (i : ℕ) → AllHaveArrived (run f g i).state
   run_arrives f g i t round b h = by_blocked (blocked_of (run f g i).state.control t) ((run_kept f g i).0 t) h

@@ -1,17 +1,19 @@
 -- What the walk along a run keeps of each mark, by the book of the marks before it. It is more than orderly, exclusive and initialised
--- marks are: answers are those that calls give, and numbers are in range.
-use Rattle.std.specs.Prelude.{◌≡◌, ◌<◌, ℕ, zero, suc, ℤ, pos, negsuc, Bool, true, false, List, [], ◌∷◌, Option, Some, None, is_some}
+-- marks are: answers are those that calls give, also calls on ports, and numbers are in range.
+use Rattle.std.specs.Prelude.{◌≡◌, ◌<◌, ℕ, zero, suc, ◌||◌, ℤ, pos, negsuc, Bool, true, false, List, [], ◌∷◌, length, Option, Some, None, is_some, Ok}
 use Rattle.pth_base.specs.declared.act.Act.TheVariants as act
 use Rattle.pth_base.specs.declared.answer.Answer.{Answer}
-use Rattle.pth_base.specs.declared.answer.Answer.TheVariants.{Int}
+use Rattle.pth_base.specs.declared.answer.Answer.TheVariants.{Fail, Int, Msg}
 use Rattle.pth_base.specs.declared.call.Call.{Call}
 use Rattle.pth_base.specs.declared.call.Call.TheVariants as call
+use Rattle.pth_base.specs.declared.errno.Errno.TheVariants.{ENOENT}
 use Rattle.pth_base.specs.declared.mark.Mark.{Mark}
 use Rattle.pth_base.specs.declared.mark.Mark.TheVariants as mark
-use Rattle.pth_numbered.specs.Operands.{is_zero}
+use Rattle.pth_numbered.specs.Operands.{number, is_zero}
 use Rattle.pth_lock.specs.Objects.{object_limit, object_named}
 use Rattle.pth_lock.specs.Mutexes.{has, is_anothers}
 use Rattle.pth_lock.specs.RwLocks.{holds, may_enter}
+use Rattle.pth_port.specs.Mail.{Mail, is_live, is_port, messages_at, oldest, reply_port}
 use Rattle.pth_store.specs.Keys.{key_limit}
 use Rattle.pth_model.specs.Ending.{next_destructor}
 use Rattle.pth_model.specs.Resources.{Resources}
@@ -99,6 +101,37 @@ module _ (k : Resources) where
 abbrev pub IsKey : ℤ → Type 0
 IsKey n = (i : ℕ) × (n ≡ pos i) × (i < key_limit)
 
+-- a number is one from 1 on
+abbrev pub IsFromOne : ℤ → Type 0
+IsFromOne n = (i : ℕ) × (n ≡ pos (suc i))
+
+module _ (q : Mail) (p : ℤ) where
+  -- a message may be put to a port, with a port for the reply or none: these ports are there
+  pub record MayPut (r : ℤ) : Type 0 where
+    pub there : is_port q p ≡ true
+    pub reply : (is_zero r || is_port q r) ≡ true
+
+  -- a port is there, and this is its oldest message
+  pub record HasOldest (n : ℕ) (v : ℤ) : Type 0 where
+    pub there : is_port q p ≡ true
+    pub first : oldest (messages_at q p) ≡ Ok (n, v)
+
+  -- a port is there, and has no message
+  pub record HasNoMessage : Type 0 where
+    pub there : is_port q p ≡ true
+    pub none : messages_at q p ≡ []
+
+  -- a port is there, and has so many messages
+  pub record HasMessages (n : ℤ) : Type 0 where
+    pub there : is_port q p ≡ true
+    pub count : n ≡ pos (length (messages_at q p))
+
+  -- what a pth_msgport_get is answered
+  abbrev pub IsAnswerToGet : Answer → Type 0
+  IsAnswerToGet (Msg id v) = HasOldest id.0 v
+  IsAnswerToGet (Fail ENOENT) = HasNoMessage
+  IsAnswerToGet a = Unit {0}
+
 -- a call of t is answered, by what threads have before its answer: a call on a mutex or a lock with 1
 abbrev pub IsAnswerExclusive : Resources → ℕ → Call → Answer → Type 0
 IsAnswerExclusive k t (call.MutexInit m) (Int n) = (n ≡ pos 1) × IsNewMutex k (object_named m)
@@ -110,11 +143,19 @@ IsAnswerExclusive k t (call.RwRelease l) (Int n) = (n ≡ pos 1) × HoldsLock k 
 -- a cond_await takes its mutex back with its answer, unless it has it again already
 IsAnswerExclusive k t (call.CondAwait c m e) a = k.awaits t ≡ true → MayTake k t (object_named m)
 IsAnswerExclusive k t (call.KeyCreate h) (Int n) = IsKey n
+-- a call on a port, by the messages that are there: with 1 where it only succeeds
+IsAnswerExclusive k t (call.PortCreate name) (Int n) = IsFromOne n
+IsAnswerExclusive k t (call.PortPut p v r) (Int n) = (n ≡ pos 1) × MayPut k.store.mail p r
+IsAnswerExclusive k t (call.PortGet p) a = IsAnswerToGet k.store.mail p a
+IsAnswerExclusive k t (call.PortPending p) (Int n) = HasMessages k.store.mail p n
+IsAnswerExclusive k t (call.Reply m v) (Int n) = (n ≡ pos 1) × (is_live k.store.mail (reply_port (k.store.mail.kept (number m))) ≡ true)
+IsAnswerExclusive k t (call.PortDestroy p) (Int n) = (n ≡ pos 1) × (is_port k.store.mail p ≡ true)
 IsAnswerExclusive k t c a = Unit {0}
 
 abbrev pub IsExclusiveMark : Book → Mark → Type 0
 IsExclusiveMark b (mark.Answered t c a) = IsAnswerExclusive b.resources t.0 c a
 IsExclusiveMark b (mark.Acted t (act.Release m) a) = IsAnswerExclusive b.resources t.0 (call.MutexRelease m) a
+IsExclusiveMark b (mark.Acted t (act.Put p v) a) = IsAnswerExclusive b.resources t.0 (call.PortPut p v (pos 0)) a
 -- a cond_await that begins to await gives a level back
 IsExclusiveMark b (mark.Waits t (call.CondAwait c m e)) = b.resources.awaits t.0 ≡ false → HasMutex b.resources t.0 (object_named m)
 IsExclusiveMark b (mark.Took t m) = MayTake b.resources t.0 m

@@ -11,9 +11,12 @@ pub mod Locking
 pub mod Rounds
 pub mod Seats
 pub mod EventSeats
+pub mod KeptSeats
+pub mod NoNotices
 pub mod Allowed
 pub mod Along
 pub mod Ranged
+pub mod Levels
 pub mod Waiting
 pub mod Alone
 pub mod Circles
@@ -22,6 +25,9 @@ pub mod Arrivals
 pub mod HaveArrived
 pub mod Seated
 pub mod EventsSeated
+pub mod HaveSeats
+pub mod RingEvents
+pub mod PendingRings
 pub mod Refusing
 pub mod Awaits
 pub mod Claims
@@ -34,8 +40,11 @@ pub mod Leftovers
 pub mod EveryRun
 pub mod Prefixes
 pub mod KeyMarks
+pub mod MailMarks
 pub mod OrderlyMarks
 pub mod Shares
 pub mod ExclusiveMarks
 pub mod NextDue
 pub mod Excludes
+pub mod Traffic
+pub mod OutOfOrder

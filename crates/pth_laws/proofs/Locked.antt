@@ -165,7 +165,7 @@ pub locked_after : (b : Book) (m : Mark) → IsExclusiveMark b m → Locked b.re
 unfolding told act_told
 locked_after b (mark.Answered t c a) law locked = answer_locked b.resources locked t.0 c a law
 locked_after b (mark.Acted t (act.Release m) a) law locked = answer_locked b.resources locked t.0 (call.MutexRelease m) a law
-locked_after b (mark.Acted t (act.Put p v) a) law locked = answer_locked b.resources locked t.0 (call.PortPut p v (pos 0)) a tt
+locked_after b (mark.Acted t (act.Put p v) a) law locked = answer_locked b.resources locked t.0 (call.PortPut p v (pos 0)) a law
 locked_after b (mark.Acted t (act.SetKey key v) a) law locked = answer_locked b.resources locked t.0 (call.KeySet key v) a tt
 locked_after b (mark.Waits t (call.CondAwait c m e)) law locked = gave_back b.resources locked t.0 (object_named m) (b.resources.awaits t.0) refl law
 locked_after b (mark.Took t m) law locked = locked_at b.resources.store.mutexes b.resources.store.rw_locks locked m _ law.initialised

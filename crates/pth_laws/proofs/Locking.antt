@@ -1,5 +1,5 @@
--- What calls on mutexes and locks come to is exclusive, by the tests of their rows.
-use Rattle.std.proofs.Common.{◌≡◌, ◌<◌, ◌≤◌, ℕ, zero, suc, ◌+◌, ◌-◌, ◌==◌, ◌&&◌, ◌||◌, not, nat_lt, Bool, true, false, cond, if◌then◌else◌, ℤ, pos, find, Option, Some, None, is_some, is_none, is_ok, Ok, Err, refl, sym, ◌∙◌, arith}
+-- What calls on mutexes, locks and ports come to is exclusive, by the tests of their rows.
+use Rattle.std.proofs.Common.{◌≡◌, ◌<◌, ◌≤◌, ℕ, zero, suc, ◌+◌, ◌-◌, ◌==◌, ◌&&◌, ◌||◌, not, nat_le, nat_lt, Bool, true, false, cond, if◌then◌else◌, ℤ, pos, List, [], ◌∷◌, length, find, Option, Some, None, is_some, is_none, is_ok, Result, Ok, Err, refl, sym, ◌∙◌, ap, arith}
 use Rattle.std.specs.List.{range_with_len}
 use Rattle.std.specs.Option.{ok_or}
 use Rattle.std.proofs.lemmas.Bool.{not-false}
@@ -9,19 +9,23 @@ use Rattle.pth_base.specs.declared.answer.Answer.{Answer}
 use Rattle.pth_base.specs.declared.answer.Answer.TheVariants as answer
 use Rattle.pth_base.specs.declared.call.Call.{Call}
 use Rattle.pth_base.specs.declared.call.Call.TheVariants as call
-use Rattle.pth_base.specs.declared.errno.Errno.TheVariants.{EACCES, EAGAIN, EBUSY, EDEADLK, EINVAL}
+use Rattle.pth_base.specs.declared.errno.Errno.{Errno}
+use Rattle.pth_base.specs.declared.errno.Errno.TheVariants.{EACCES, EAGAIN, EBUSY, EDEADLK, EEXIST, EINVAL, ENOENT}
 use Rattle.pth_base.specs.declared.mark.Mark.TheVariants as mark
-use Rattle.pth_numbered.specs.Operands.{is_zero}
+use Rattle.pth_numbered.specs.Numbered.{number_known}
+use Rattle.pth_numbered.specs.Operands.{number, is_zero}
 use Rattle.pth_lock.specs.Objects.{object_limit, object_named, is_object}
 use Rattle.pth_lock.specs.Mutexes.{Mutex, has, is_anothers, owner_of, levels_of, level_limit, release_answer, take_answer}
 use Rattle.pth_lock.specs.RwLocks.{LockTables, holds, may_enter, is_held}
 use Rattle.pth_cond.specs.Conditions.{is_live}
+use Rattle.pth_port.specs.Mail.{Mail, Message, is_live as is_mail_live, is_port, is_taken, messages, messages_at, message_limit, oldest, port_limit, port_put_answer, reply_port}
 use Rattle.pth_store.specs.Keys.{Tables, free_key, keys_from, key_limit}
 use Rattle.pth_model.specs.declared.awaits.Awaits.{Awaits}
 use Rattle.pth_model.specs.declared.awaits.Awaits.TheVariants as awaits
 use Rattle.pth_model.specs.Acts.{answer_in}
 use Rattle.pth_model.specs.Calls.{unless_settled}
 use Rattle.pth_model.specs.Resources.{Resources}
+use Rattle.pth_model.specs.Ports.{put_done, says_message}
 use Rattle.pth_model.specs.RingWaits.{extra_ring, is_no_ring, is_claimed_ring}
 use Rattle.pth_model.specs.Rows.{row_of}
 use Rattle.pth_model.specs.State.{State}
@@ -31,10 +35,11 @@ use Rattle.pth_model.specs.declared.verdict.Verdict.TheVariants.{Says, Yields, B
 use Rattle.pth_model.specs.Verdict.{refused, says, done, by_result, taken_or, ◌when◌otherwise◌}
 use Rattle.pth_laws.proofs.Book.{Book}
 use Rattle.pth_laws.proofs.Laws.{IsAnswerExclusive, IsExclusiveMark, HasMutex, MayTake}
+use Rattle.pth_laws.proofs.Held.{neither}
 use Rattle.pth_laws.proofs.Living.{true_false, both, not_true}
 use Rattle.pth_model.specs.Awaits.{is_await}
 
--- calls on mutexes and locks, and the one that makes keys
+-- calls on mutexes, locks and ports, and the one that makes keys
 abbrev pub is_locking : Call → Bool
 is_locking (call.MutexInit m) = true
 is_locking (call.MutexAcquire m v e) = true
@@ -44,6 +49,12 @@ is_locking (call.RwAcquire l write v e) = true
 is_locking (call.RwRelease l) = true
 is_locking (call.CondAwait c m e) = true
 is_locking (call.KeyCreate h) = true
+is_locking (call.PortCreate name) = true
+is_locking (call.PortPut p v r) = true
+is_locking (call.PortGet p) = true
+is_locking (call.PortPending p) = true
+is_locking (call.Reply m v) = true
+is_locking (call.PortDestroy p) = true
 is_locking c = false
 
 -- a pth_cond_await that begins to await gives its mutex back, which t has
@@ -67,6 +78,12 @@ wait_exclusive b t c law = tt
 some_of : {A : Type 0} (o : Option A) → is_none o ≡ false → is_some o ≡ true
 some_of None h = absurd (true_false h)
 some_of (Some a) h = refl
+
+-- of two tests of which not both fail, one holds
+one_of : (a b : Bool) → (not a && not b) ≡ false → (a || b) ≡ true
+one_of true b h = refl
+one_of false true h = refl
+one_of false false h = absurd (true_false h)
 
 -- a mutex that nobody has is no other thread's
 free_is : (t : ℕ) (z : Mutex) → is_none (owner_of z) ≡ true → is_anothers t z ≡ false
@@ -109,6 +126,12 @@ module _ (k : Resources) (t : ℕ) where
   other_answer (call.RwRelease l) a h = absurd (true_false h)
   other_answer (call.CondAwait c m e) a h = absurd (true_false h)
   other_answer (call.KeyCreate x) a h = absurd (true_false h)
+  other_answer (call.PortCreate name) a h = absurd (true_false h)
+  other_answer (call.PortPut p v r) a h = absurd (true_false h)
+  other_answer (call.PortGet p) a h = absurd (true_false h)
+  other_answer (call.PortPending p) a h = absurd (true_false h)
+  other_answer (call.Reply m v) a h = absurd (true_false h)
+  other_answer (call.PortDestroy p) a h = absurd (true_false h)
   other_answer c a h = tt
 
   other_wait : (c : Call) → is_locking c ≡ false → IsWaitExclusive k t c
@@ -200,6 +223,46 @@ module _ (k : Resources) (t : ℕ) where
   create_exclusive h None free = tt
   create_exclusive h (Some i) free = (i, refl, free_below k.store.keys i free)
 
+  -- ports, and the messages at them
+
+  abbrev q : Mail
+  q = k.store.mail
+
+  port_create_exclusive : (name : Option (List ℕ)) (a b : Bool) → IsVerdictExclusive k t (call.PortCreate name) (by_result says (if a then Err EEXIST else if b then Err EAGAIN else Ok (k.store.ports.made + 1)))
+  port_create_exclusive name true b = tt
+  port_create_exclusive name false true = tt
+  port_create_exclusive name false false = (k.store.ports.made, ap pos (omega arith))
+
+  put_exclusive : (p v r : ℤ) (a b : Bool) → (not (is_port q p) || not (is_zero r) && not (is_port q r)) ≡ a → IsVerdictExclusive k t (call.PortPut p v r) (by_result put_done (if a then Err EINVAL else if b then Err EAGAIN else Ok (q.made + 1)))
+  put_exclusive p v r true b there = tt
+  put_exclusive p v r false true there = tt
+  put_exclusive p v r false false there = let h = neither (not (is_port q p)) (not (is_zero r) && not (is_port q r)) there in (refl, record { there = not-false _ h.0; reply = one_of (is_zero r) (is_port q r) h.1 })
+
+  -- and so an act of a handler
+  put_act : (p v r : ℤ) (o : Result ℕ Errno) → IsVerdictExclusive k t (call.PortPut p v r) (by_result put_done o) → IsAnswerExclusive k t (call.PortPut p v r) (answer_in (by_result put_done o))
+  put_act p v r (Ok n) h = h
+  put_act p v r (Err e) h = h
+
+  pub put_said : (p v r : ℤ) → IsAnswerExclusive k t (call.PortPut p v r) (answer_in (by_result put_done (port_put_answer q k.store.ports.made p r)))
+  put_said p v r = put_act p v r (port_put_answer q k.store.ports.made p r) (put_exclusive p v r (not (is_port q p) || not (is_zero r) && not (is_port q r)) (nat_le message_limit (messages q k.store.ports.made)) refl)
+
+  get_exclusive : (p : ℤ) (a : Bool) (ms : List Message) → not (is_port q p) ≡ a → messages_at q p ≡ ms → IsVerdictExclusive k t (call.PortGet p) (by_result says_message (if a then Err EINVAL else oldest ms))
+  get_exclusive p true ms there are = tt
+  get_exclusive p false [] there are = record { there = not-false _ there; none = are }
+  get_exclusive p false (m ∷ ms) there are = record { there = not-false _ there; first = ap oldest are }
+
+  pending_exclusive : (p : ℤ) (a : Bool) → not (is_port q p) ≡ a → IsVerdictExclusive k t (call.PortPending p) (by_result says (if a then Err EINVAL else Ok (length (messages_at q p))))
+  pending_exclusive p true there = tt
+  pending_exclusive p false there = record { there = not-false _ there; count = refl }
+
+  reply_exclusive : (m v : ℤ) (a : Bool) → not (is_mail_live q (reply_port (q.kept (number m)))) ≡ a → IsVerdictExclusive k t (call.Reply m v) (by_result done (if a then Err ENOENT else Ok tt))
+  reply_exclusive m v true there = tt
+  reply_exclusive m v false there = (refl, not-false _ there)
+
+  destroy_exclusive : (p : ℤ) (a : Bool) → not (is_port q p) ≡ a → IsVerdictExclusive k t (call.PortDestroy p) (by_result done (if a then Err EINVAL else Ok tt))
+  destroy_exclusive p true there = tt
+  destroy_exclusive p false there = (refl, not-false _ there)
+
 module _ {P S H : Type 0} (f : P → Functions S H) (s : State P S H) (t : ℕ) where
   abbrev r : Resources
   r = s.resources
@@ -215,6 +278,12 @@ module _ {P S H : Type 0} (f : P → Functions S H) (s : State P S H) (t : ℕ) 
   begins_exclusive (call.RwRelease l) idle = lock_release_exclusive r t l (not (r.store.rw_locks.initialised (object_named l))) (not (is_held r.store.rw_locks (object_named l))) (not (holds r.store.rw_locks t (object_named l))) refl
   begins_exclusive (call.CondAwait c m e) idle = await_exclusive r t c m e (not (is_live s.control.conditions c) || is_no_ring s (extra_ring e)) (is_none (z r t m)) (is_none (owner_of (z r t m))) (is_anothers t (z r t m)) (is_claimed_ring s (extra_ring e)) idle refl refl
   begins_exclusive (call.KeyCreate h) idle = create_exclusive r t h (free_key r.store.keys) refl
+  begins_exclusive (call.PortCreate name) idle = port_create_exclusive r t name (is_taken r.store.ports name) (nat_le port_limit (number_known r.store.mail.at r.store.ports.made))
+  begins_exclusive (call.PortPut p v o) idle = put_exclusive r t p v o (not (is_port r.store.mail p) || not (is_zero o) && not (is_port r.store.mail o)) (nat_le message_limit (messages r.store.mail r.store.ports.made)) refl
+  begins_exclusive (call.PortGet p) idle = get_exclusive r t p (not (is_port r.store.mail p)) (messages_at r.store.mail p) refl refl
+  begins_exclusive (call.PortPending p) idle = pending_exclusive r t p (not (is_port r.store.mail p)) refl
+  begins_exclusive (call.Reply m v) idle = reply_exclusive r t m v (not (is_mail_live r.store.mail (reply_port (r.store.mail.kept (number m))))) refl
+  begins_exclusive (call.PortDestroy p) idle = destroy_exclusive r t p (not (is_port r.store.mail p)) refl
   begins_exclusive c idle = other_exclusive r t c (row_of f s t c).begin.verdict refl
 
   -- a call is tried again
@@ -248,5 +317,17 @@ module _ {P S H : Type 0} (f : P → Functions S H) (s : State P S H) (t : ℕ) 
   again_exclusive (call.RwRelease l) b true other = tt
   again_exclusive (call.KeyCreate h) b false other = tt
   again_exclusive (call.KeyCreate h) b true other = tt
+  again_exclusive (call.PortCreate name) b false other = tt
+  again_exclusive (call.PortCreate name) b true other = tt
+  again_exclusive (call.PortPut p v o) b false other = tt
+  again_exclusive (call.PortPut p v o) b true other = tt
+  again_exclusive (call.PortGet p) b false other = tt
+  again_exclusive (call.PortGet p) b true other = tt
+  again_exclusive (call.PortPending p) b false other = tt
+  again_exclusive (call.PortPending p) b true other = tt
+  again_exclusive (call.Reply m v) b false other = tt
+  again_exclusive (call.Reply m v) b true other = tt
+  again_exclusive (call.PortDestroy p) b false other = tt
+  again_exclusive (call.PortDestroy p) b true other = tt
   again_exclusive (call.CondAwait c m e) b come other = absurd (true_false other)
   again_exclusive c b come other = other_exclusive r t c (unless_settled come ((row_of f s t c).again b)).verdict refl

@@ -112,7 +112,7 @@ behind_count u t r (a ∷ rest) = count_cons u a (if a.tid == t then made_late r
     by_test false more = more
 
 -- who has no arrival for any round is not among them
-none_counted : (t : ℕ) (xs : List Arrived) → ((r : ℕ) → list_any (is_of r t) xs ≡ true → ⊥) → count_by (λ x. x.tid == t) xs ≡ 0
+pub none_counted : (t : ℕ) (xs : List Arrived) → ((r : ℕ) → list_any (is_of r t) xs ≡ true → ⊥) → count_by (λ x. x.tid == t) xs ≡ 0
 none_counted t [] none = refl
 none_counted t (a ∷ rest) none = count_cons t a rest ∙ by_own (a.tid == t) refl (none_counted t rest (λ r h. none r (ap (λ (b : Bool). is_of r t a || b) h ∙ or_true (is_of r t a))))
   where

@@ -263,7 +263,7 @@ module _ {P S H : Type 0} where
   seated_kept f = record {
     handlers = record {
       shared = λ h s r. r;
-      seated = λ x s fewer r. seated_fewer x s (λ c u. fewer c (seat_of u)) r;
+      seated = λ x s keeps r. seated_fewer x s (λ c u. keeps.fewer c (seat_of u)) r;
       told = λ m s may r. r;
     };
     placed = λ standing entries raises s r. r;
@@ -286,11 +286,11 @@ module _ {P S H : Type 0} where
     goes = λ t g s same r. same_goes t g s same r;
     blocked = λ t c a s free other none may r. seated_begins t c a s free r;
     waits_on = λ t a b s at names stays other plain r. seated_on t a b s at other r;
-    stopped = λ t x y s fewer others seats left gone r. seated_stopped t y (controlled (with_barriers (λ z. x)) s) seats gone r;
-    takes_seat = λ t c m e s free alive there may r. seated_claims t (call.CondAwait c m e) (Notice c) (extra_ring e) (controlled (with_conditions (seat_entered c (seat_of t))) s) (seated_takes t c m e s free alive there r);
-    retakes = λ t c m e a o y s fewer gone at r.
+    stopped = λ t x y s fewer others seats left gone r. seated_stopped t y (controlled (with_barriers (λ z. x)) s) seats.fewer gone r;
+    takes_seat = λ t c m e s free alive there may r. seated_claims t (call.CondAwait c m e) (Notice c) (extra_ring e) (controlled (with_conditions (seat_entered c (seat_of t))) s) (seated_takes t c m e s free alive there.0 r);
+    retakes = λ t c m e a o y s keeps gone at r.
         let u = controlled (with_conditions (λ z. y)) s in
-        seated_blocks t (call.CondAwait c m e) (Retaking m o) (controlled (stops_waiting t) u) (stopped_free t u) (seated_stopped t y s fewer gone r);
+        seated_blocks t (call.CondAwait c m e) (Retaking m o) (controlled (stops_waiting t) u) (stopped_free t u) (seated_stopped t y s keeps.fewer gone r);
   }
 
   seated_start : (f : P → Functions S H) (g : Given P) → AreSeated (start f g)
@@ -299,6 +299,9 @@ module _ {P S H : Type 0} where
 
   run_seated : (f : P → Functions S H) (g : Given P) (i : ℕ) → AreSeated (run f g i).state
   run_seated f g i = run_keeps f AreSeated (seated_kept f) g (seated_start f g) i
+
+  pub run_single : (f : P → Functions S H) (g : Given P) (i : ℕ) → AreSingle (run f g i).state.control.conditions
+  run_single f g i = (run_seated f g i).1
 
   pub run_seats : (f : P → Functions S H) (g : Given P) (i c t : ℕ) → has_seat (run f g i).state.control.conditions c (Await (tid t)) ≡ true → Lives (run f g i).state t × (condition_held (blocked_of (run f g i).state.control t) ≡ Some c)
   run_seats f g i c t h =

@@ -15,7 +15,7 @@ use Rattle.pth_laws.proofs.Living.{true_false}
 abbrev pub taken : Seat → List Taken → ℕ
 taken s ts = count_by (is_at s) ts
 
-taken_cons : (s : Seat) (t : Taken) (ts : List Taken) → taken s (t ∷ ts) ≡ cond (is_at s t) 1 0 + taken s ts
+pub taken_cons : (s : Seat) (t : Taken) (ts : List Taken) → taken s (t ∷ ts) ≡ cond (is_at s t) 1 0 + taken s ts
 taken_cons s t ts = sum_by-cons (λ x. cond (is_at s x) 1 0) t ts
 
 any_taken : (s : Seat) (ts : List Taken) → list_any (is_at s) ts ≡ true → 1 ≤ taken s ts
@@ -47,7 +47,7 @@ without_fewer s u (t ∷ ts) = by_test (is_at s t) (without_fewer s u ts)
     by_test false more = let same = taken_cons u t ts in let left = taken_cons u t (without_seat s ts) in omega (arith, same, left, more)
 
 -- marks take no seat, and leave none
-one_same : (u : Seat) (ts : List Taken) → taken u (one_notified ts) ≡ taken u ts
+pub one_same : (u : Seat) (ts : List Taken) → taken u (one_notified ts) ≡ taken u ts
 one_same u [] = refl
 one_same u (t ∷ ts) = by_test (has_mark t) (one_same u ts)
   where
@@ -63,7 +63,7 @@ all_same u (t ∷ ts) = by_test (has_mark t) (all_same u ts)
     by_test true more = taken_cons u t (all_notified ts) ∙ ap (λ n. cond (is_at u t) 1 0 + n) more ∙ sym (taken_cons u t ts)
     by_test false more = taken_cons u (record t { notice = All }) (all_notified ts) ∙ ap (λ n. cond (is_at u t) 1 0 + n) more ∙ sym (taken_cons u t ts)
 
-notified_same : (u : Seat) (all : Bool) (ts : List Taken) → taken u (notified all ts) ≡ taken u ts
+pub notified_same : (u : Seat) (all : Bool) (ts : List Taken) → taken u (notified all ts) ≡ taken u ts
 notified_same u true ts = all_same u ts
 notified_same u false ts = one_same u ts
 

@@ -1,5 +1,7 @@
--- Who is blocked waits for a mutex or a lock that is there, and holds no lock for which it waits.
-use Rattle.std.proofs.Common.{◌≡◌, ◌≢◌, ℕ, zero, suc, ◌+◌, ◌==◌, ◌&&◌, not, Bool, true, false, if◌then◌else◌, ℤ, pos, Option, Some, None, is_some, is_none, option_map, refl, sym, subst, ◌∙◌, ap, inr}
+-- Who is blocked waits for a mutex or a lock that is there, and holds no lock for which it waits; and who waits at a condition has
+-- fewer levels of its mutex than it may have.
+use Rattle.std.proofs.Common.{◌≡◌, ◌≢◌, ◌<◌, ◌≤◌, ℕ, zero, suc, ◌+◌, ◌-◌, ◌==◌, ◌&&◌, not, Bool, true, false, if◌then◌else◌, ℤ, pos, Option, Some, None, is_some, is_none, option_map, refl, sym, subst, ◌∙◌, ap, inr, Ok, Err, is_ok, arith}
+use Rattle.std.proofs.lemmas.Bool.Decides.{nat_tests}
 use Rattle.pth_base.specs.Program.{Functions}
 use Rattle.pth_base.specs.Table.{put}
 use Rattle.pth_base.specs.declared.act.Act.TheVariants as act
@@ -7,14 +9,15 @@ use Rattle.pth_base.specs.declared.answer.Answer.{Answer}
 use Rattle.pth_base.specs.declared.answer.Answer.TheVariants as answer
 use Rattle.pth_base.specs.declared.call.Call.{Call}
 use Rattle.pth_base.specs.declared.call.Call.TheVariants as call
+use Rattle.pth_base.specs.declared.errno.Errno.TheVariants.{EAGAIN, EBUSY}
 use Rattle.pth_base.specs.declared.mark.Mark.{Mark}
 use Rattle.pth_base.specs.declared.mark.Mark.TheVariants as mark
-use Rattle.pth_base.proofs.Tables.{put_by, not_same}
+use Rattle.pth_base.proofs.Tables.{put_by, put_here, not_same}
 use Rattle.pth_cond.specs.Conditions.{seat_entered}
 use Rattle.pth_model.specs.Conditions.{seat_of}
 use Rattle.pth_cond.specs.Barriers.{barrier_reached}
 use Rattle.pth_lock.specs.Objects.{object_named}
-use Rattle.pth_lock.specs.Mutexes.{Mutex, MutexTable, free_mutex, owner_of, mutex_with, levels_of, has, is_anothers}
+use Rattle.pth_lock.specs.Mutexes.{Mutex, MutexTable, free_mutex, owner_of, mutex_with, levels_of, level_limit, take_answer, has, is_anothers}
 use Rattle.pth_lock.specs.RwLocks.{LockTables, holds, is_one, lock_initialised, lock_released, lock_taken}
 use Rattle.pth_threads.specs.declared.entry.Change as change_of_record
 use Rattle.pth_model.specs.declared.awaits.Awaits.{Awaits}
@@ -26,7 +29,7 @@ use Rattle.pth_model.specs.declared.verdict.Verdict.TheVariants.{Blocks}
 use Rattle.pth_model.specs.Coming.{has_come}
 use Rattle.pth_model.specs.Resources.{Resources, on_one, on_int, on_msg, told, answer_told, act_told, retaken, let_go, of_only}
 use Rattle.pth_model.specs.State.{State, Given, start, main}
-use Rattle.pth_model.specs.Transition.{controlled, tells}
+use Rattle.pth_model.specs.Transition.{controlled, tells, tid}
 use Rattle.pth_model.specs.Changes.{sets, goes_on, blocking, is_blocked_by, makes, forgets, with_conditions, with_barriers, blocked_in, blocked_of}
 use Rattle.pth_model.specs.Verdict.{says, ◌when◌otherwise◌}
 use Rattle.pth_model.specs.RingWaits.{claims, extra_ring, gives_back, ring_given, ring_held, stops_waiting}
@@ -41,8 +44,9 @@ use Rattle.pth_model.specs.Run.{run}
 use Rattle.pth_laws.specs.Waits.{WaitsRightly, Names, AllWaitRightly, AsksNoMore, AllAskNoMore}
 use Rattle.pth_laws.proofs.Living.{true_false}
 use Rattle.pth_laws.proofs.Held.{neither, both_not, out_released, out_left, out_only}
-use Rattle.pth_laws.proofs.Allowed.{IsToTell, MayWait}
-use Rattle.pth_laws.proofs.Along.{KeptAlong, run_keeps}
+use Rattle.pth_laws.proofs.Allowed.{IsTaking, IsToTell, MayBegin, MayWait}
+use Rattle.pth_laws.proofs.Along.{KeptAlong, is_placing, run_keeps}
+use Rattle.pth_laws.proofs.Levels.{IsWithin, TakesWithin, told_within, levels_with}
 
 -- what is initialised stays so, and who is out of a lock stays out: thread u, from tables x and y to tables z and w
 pub record StaysOut (u : ℕ) (x : MutexTable) (y : LockTables) (z : MutexTable) (w : LockTables) : Type 0 where
@@ -54,7 +58,7 @@ abbrev Stays : ℕ → Resources → Resources → Type 0
 Stays u k j = StaysOut u k.store.mutexes k.store.rw_locks j.store.mutexes j.store.rw_locks
 
 -- a mark by which u enters no lock
-abbrev EntersNot : ℕ → Mark → Type 0
+abbrev pub EntersNot : ℕ → Mark → Type 0
 EntersNot u (mark.Answered t (call.RwAcquire l write v e) (answer.Int n)) = u ≢ t.0
 EntersNot u m = Unit {0}
 
@@ -166,7 +170,7 @@ module _ (u : ℕ) (k : Resources) where
   answer_stays t call.Kill a other = stays_int a _ (λ n. only_stays t)
   answer_stays t c a other = stays_same
 
-  told_stays : (m : Mark) → EntersNot u m → Stays u k (told k m)
+  pub told_stays : (m : Mark) → EntersNot u m → Stays u k (told k m)
   unfolding told act_told
   told_stays (mark.Answered t c a) other = answer_stays t.0 c a other
   told_stays (mark.Acted t (act.Release m) a) other = answer_stays t.0 (call.MutexRelease m) a tt
@@ -185,11 +189,48 @@ module _ (u : ℕ) (k : Resources) where
 
 -- ---- who waits
 
-rightly_stays : (u : ℕ) (k j : Resources) (c : Call) → Stays u k j → WaitsRightly k u c → WaitsRightly j u c
-rightly_stays u k j (call.MutexAcquire m v e) stays h = stays.mutexes (object_named m) h
-rightly_stays u k j (call.RwAcquire l write v e) stays h = (stays.locks (object_named l) h.0, stays.out (object_named l) h.1)
-rightly_stays u k j (call.CondAwait c m e) stays h = stays.mutexes (object_named m) h
-rightly_stays u k j c stays h = tt
+-- u's levels, which do not grow meanwhile
+abbrev levels_in : ℕ → Resources → ℕ → ℕ
+levels_in u k m = levels_of u (k.store.mutexes m)
+
+rightly_stays : (u : ℕ) (k j : Resources) (c : Call) → Stays u k j → IsWithin u (levels_in u k) j.store.mutexes → WaitsRightly k u c → WaitsRightly j u c
+rightly_stays u k j (call.MutexAcquire m v e) stays fewer h = stays.mutexes (object_named m) h
+rightly_stays u k j (call.RwAcquire l write v e) stays fewer h = (stays.locks (object_named l) h.0, stays.out (object_named l) h.1)
+rightly_stays u k j (call.CondAwait c m e) stays fewer h = let less = fewer (object_named m) in (stays.mutexes (object_named m) h.0, omega (arith, less, h.1))
+rightly_stays u k j c stays fewer h = tt
+
+-- by another call than a pth_cond_await, the same is known as it begins to block
+begins_rightly : (k : Resources) (t : ℕ) (c : Call) → is_placing c ≡ false → MayBegin k t c → WaitsRightly k t c
+begins_rightly k t (call.CondAwait c m e) other h = absurd (true_false other)
+begins_rightly k t c other h = h
+
+-- no thread has more levels of a mutex than it may have
+abbrev HaveLevels : MutexTable → Type 0
+HaveLevels x = (u : ℕ) → IsWithin u (λ m. level_limit) x
+
+one_more : (n limit : ℕ) → n ≤ limit → (n == limit) ≡ false → n + 1 ≤ limit
+one_more n limit low apart = grind (arith, nat_tests)
+
+-- t begins to await: it gives a level of its mutex back
+let_go_rightly : (t : ℕ) (k : Resources) (c m e : ℤ) → HaveLevels k.store.mutexes → MayBegin k t (call.CondAwait c m e) → WaitsRightly (told k (mark.Waits (record { 0 = t }) (call.CondAwait c m e))) t (call.CondAwait c m e)
+unfolding told
+let_go_rightly t k c m e levels may = by_test (k.awaits t) may.1
+  where
+    i : ℕ
+    i = object_named m
+
+    n : ℕ
+    n = levels_of t (k.store.mutexes i)
+
+    few : n - 1 < level_limit
+    few = let all = levels t i in omega (arith, all)
+
+    by_test : (b : Bool) → b ≡ false → WaitsRightly (if b then k else let_go k t i) t (call.CondAwait c m e)
+    by_test true on = absurd (true_false on)
+    by_test false off =
+        let here = put_here k.store.mutexes i (mutex_with t (n - 1)) in
+        let less = levels_with t t (n - 1) (n - 1) (λ same. omega arith) in
+        (ap is_some here ∙ mutex_there t (n - 1), subst (λ (z : Mutex). levels_of t z < level_limit) (sym here) (omega (arith, less, few)))
 
 abbrev Rightly : Resources → ℕ → Option Blocked → Type 0
 Rightly k t None = Unit {0}
@@ -209,6 +250,19 @@ let_in_there true true false a b = refl
 let_in_there true false false a b = refl
 let_in_there known lets true a b = absurd (true_false b)
 let_in_there false lets held a b = absurd (true_false (sym a))
+
+-- a mutex of which a thread has not all levels
+takes_there : (t : ℕ) (z : Mutex) → is_some z ≡ true → levels_of t z < level_limit → is_ok (take_answer t z) ≡ not (is_anothers t z)
+takes_there t None h few = absurd (true_false (sym h))
+takes_there t (Some o) h few = by_tests (levels_of t (Some o) == level_limit) (is_anothers t (Some o)) (below (levels_of t (Some o)) level_limit few)
+  where
+    below : (n limit : ℕ) → n < limit → (n == limit) ≡ false
+    below n limit few = grind (arith, nat_tests)
+
+    by_tests : (full others : Bool) → full ≡ false → is_ok (if full then Err EAGAIN else (if others then Err EBUSY else Ok (tt {0}))) ≡ not others
+    by_tests true others room = absurd (true_false room)
+    by_tests false true room = refl
+    by_tests false false room = refl
 
 as_tested : (a b : Bool) (x y : Awaits) → a ≡ b → x ≡ y → (says 1 when a otherwise Blocks x) ≡ (says 1 when b otherwise Blocks y)
 as_tested a b x y same awaited = cc
@@ -272,22 +326,40 @@ module _ {P S H : Type 0} where
   enters_not (mark.Answered t (call.RwAcquire l write v e) (answer.Int n)) s u b may at = λ same. none_blocked b (sym may.free ∙ ap (blocked_of s.control) (sym same) ∙ at)
   enters_not m s u b may at = tt
 
+  -- a mark that takes a mutex is told of one who takes it
+  may_take : (m : Mark) (s : State P S H) (u : ℕ) (bound : ℕ → ℕ) (within : IsWithin u bound s.resources.store.mutexes) → ((t i : ℕ) → IsTaking t i s → t ≡ u → levels_in u s.resources i + 1 ≤ bound i) → IsToTell m s → TakesWithin u bound s.resources within m
+  may_take (mark.Answered t (call.MutexAcquire m v e) (answer.Int n)) s u bound within room may = room t.0 (object_named m) may
+  may_take (mark.Answered t (call.CondAwait c m e) a) s u bound within room may = λ awaits. room t.0 (object_named m) (may awaits)
+  may_take (mark.Took t m) s u bound within room may = room t.0 m may
+  may_take m s u bound within room may = tt
+
+  -- who is blocked takes no mutex
+  takes_not : (m : Mark) (s : State P S H) (u : ℕ) (b : Blocked) → IsToTell m s → blocked_of s.control u ≡ Some b → TakesWithin u (levels_in u s.resources) s.resources (λ i. omega arith) m
+  takes_not m s u b may at = may_take m s u (levels_in u s.resources) (λ i. omega arith) (λ t i takes same. absurd (none_blocked b (sym takes.free ∙ ap (blocked_of s.control) same ∙ at))) may
+
   rightly_told : (m : Mark) (s : State P S H) → IsToTell m s → AreRightly s → AreRightly (tells m s).state
   rightly_told m s may r u = by_blocked (blocked_of s.control u) refl (r u)
     where
       by_blocked : (o : Option Blocked) → blocked_of s.control u ≡ o → Rightly s.resources u o → Rightly (told s.resources m) u o
       by_blocked None at h = tt
-      by_blocked (Some b) at h = (h.0, rightly_stays u s.resources (told s.resources m) b.call (told_stays u s.resources m (enters_not m s u b may at)) h.1)
+      by_blocked (Some b) at h = (
+        h.0,
+        rightly_stays u s.resources (told s.resources m) b.call (told_stays u s.resources m (enters_not m s u b may at)) (told_within u (levels_in u s.resources) s.resources (λ i. omega arith) m (takes_not m s u b may at)) h.1,
+      )
+
+  levels_told : (m : Mark) (s : State P S H) → IsToTell m s → HaveLevels s.resources.store.mutexes → HaveLevels (told s.resources m).store.mutexes
+  levels_told m s may levels u = told_within u (λ i. level_limit) s.resources (levels u) m (may_take m s u (λ i. level_limit) (levels u) (λ t i takes same. one_more (levels_in u s.resources i) level_limit (levels u i) (subst (λ (v : ℕ). (levels_in v s.resources i == level_limit) ≡ false) same takes.room)) may)
 
   blocked_at : (s : State P S H) (t : ℕ) (o : Option Blocked) → blocked_of s.control t ≡ o → AreRightly s → Rightly s.resources t o
   blocked_at s t o at r = subst (Rightly s.resources t) at (r t)
 
-  -- t takes a seat at a condition, and waits there
-  rightly_takes : (t : ℕ) (c m e : ℤ) (s : State P S H) → MayWait t (call.CondAwait c m e) (awaits.Notice c) s → AreRightly s → AreRightly (controlled (λ k. blocks t (call.CondAwait c m e) (awaits.Notice c) (claims t (extra_ring e) (with_conditions (seat_entered c (seat_of t)) k))) s)
-  rightly_takes t c m e s may r =
-      let u = controlled (with_conditions (seat_entered c (seat_of t))) s in
+  -- t takes a seat at a condition, and waits there, as is told
+  rightly_takes : (t : ℕ) (c m e : ℤ) (s : State P S H) → MayWait t (call.CondAwait c m e) (awaits.Notice c) s → HaveLevels s.resources.store.mutexes → AreRightly s → AreRightly (tells (mark.Waits (tid t) (call.CondAwait c m e)) (controlled (λ k. blocks t (call.CondAwait c m e) (awaits.Notice c) (claims t (extra_ring e) (with_conditions (seat_entered c (seat_of t)) k))) s)).state
+  rightly_takes t c m e s may levels r =
+      let x = mark.Waits (tid t) (call.CondAwait c m e) in
+      let u = controlled (with_conditions (seat_entered c (seat_of t))) (tells x s).state in
       let d : Blocked = record { call = call.CondAwait c m e; awaits = awaits.Notice c } in
-      rightly_goes t (blocking (Some d)) (controlled (claims t (extra_ring e)) u) (λ x at. (may.names, may.rightly)) (rightly_claimed t (extra_ring e) u r)
+      rightly_goes t (blocking (Some d)) (controlled (claims t (extra_ring e)) u) (λ p at. (may.names, let_go_rightly t s.resources c m e levels may.rightly)) (rightly_claimed t (extra_ring e) u (rightly_told x s tt r))
 
   -- its wait there is over, and it waits for its mutex
   rightly_retakes : (t : ℕ) (c m e : ℤ) (a : Awaits) (o : Retake) (s : State P S H) → blocked_of s.control t ≡ Some (record { call = call.CondAwait c m e; awaits = a }) → AreRightly s → AreRightly (controlled (λ k. blocks t (call.CondAwait c m e) (awaits.Retaking m o) (stops_waiting t k)) s)
@@ -296,44 +368,52 @@ module _ {P S H : Type 0} where
       let now : Blocked = record { call = call.CondAwait c m e; awaits = awaits.Retaking m o } in
       rightly_goes t (blocking (Some now)) (controlled (stops_waiting t) s) (λ p here. (inr (o, refl), (blocked_at s t (Some was) at r).1)) (rightly_stopped t s r)
 
-  rightly_kept : (f : P → Functions S H) → KeptAlong f AreRightly
+  -- ---- every run
+
+  abbrev Both : State P S H → Type 0
+  Both s = AreRightly s × HaveLevels s.resources.store.mutexes
+
+  rightly_kept : (f : P → Functions S H) → KeptAlong f Both
   rightly_kept f = record {
     handlers = record {
       shared = λ h s r. r;
       seated = λ x s fewer r. r;
-      told = λ m s may r. rightly_told m s may r;
+      told = λ m s may r. (rightly_told m s may r.0, levels_told m s may r.1);
     };
     placed = λ standing entries raises s r. r;
     scheduled = λ x s r. r;
     timed = λ x s r. r;
     used = λ o s r. r;
-    set = λ t c s safe life r. rightly_set t c s r;
-    made = λ t b v a s next r. rightly_made f t b v a s r;
-    forgotten = λ t s gone r. rightly_forgotten t s r;
-    vanished = λ t s free r. rightly_vanished t s r;
+    set = λ t c s safe life r. (rightly_set t c s r.0, r.1);
+    made = λ t b v a s next r. (rightly_made f t b v a s r.0, r.1);
+    forgotten = λ t s gone r. (rightly_forgotten t s r.0, r.1);
+    vanished = λ t s free r. (rightly_vanished t s r.0, r.1);
     added = λ s r. r;
     bound = λ t s r. r;
     renewed = λ n s r. r;
     valued = λ a v x s there inside r. r;
     destroyed = λ n s r. r;
     arranges = λ x s may r. r;
-    looked = λ s r. rightly_looked f s r;
+    looked = λ s r. (rightly_looked f s r.0, r.1);
     barred = λ x s fewer all r. r;
-    reached = λ t b round s free alive there waits r. rightly_goes t (blocking (Some (record { call = call.BarrierReach b; awaits = awaits.Round b round }))) (controlled (with_barriers (barrier_reached b t)) s) (λ p at. (refl, tt)) r;
-    goes = λ t g s same r. rightly_goes t g s (λ p at. subst (Rightly s.resources t) (sym (same p)) (blocked_at s t p.blocked (ap blocked_in at) r)) r;
-    blocked = λ t c a s free other none may r. rightly_goes t (blocking (Some (record { call = c; awaits = a }))) (controlled (claims t (ring_given c)) s) (λ x at. (may.names, may.rightly)) (rightly_claimed t (ring_given c) s r);
-    waits_on = λ t a b s at names stays other plain r. rightly_goes t (blocking (Some (record b { awaits = a }))) s (λ p here. (names, (blocked_at s t (Some b) at r).1)) r;
-    stopped = λ t x y s fewer others seats left gone r. rightly_stopped t (controlled (λ k. with_conditions (λ z. y) (with_barriers (λ z. x) k)) s) r;
-    takes_seat = λ t c m e s free alive there may r. rightly_takes t c m e s may r;
-    retakes = λ t c m e a o y s fewer gone at r. rightly_retakes t c m e a o (controlled (with_conditions (λ z. y)) s) at r;
+    reached = λ t b round s free alive there waits r. (rightly_goes t (blocking (Some (record { call = call.BarrierReach b; awaits = awaits.Round b round }))) (controlled (with_barriers (barrier_reached b t)) s) (λ p at. (refl, tt)) r.0, r.1);
+    goes = λ t g s same r. (rightly_goes t g s (λ p at. subst (Rightly s.resources t) (sym (same p)) (blocked_at s t p.blocked (ap blocked_in at) r.0)) r.0, r.1);
+    blocked = λ t c a s free other none may r. (
+      rightly_goes t (blocking (Some (record { call = c; awaits = a }))) (controlled (claims t (ring_given c)) s) (λ x at. (may.names, begins_rightly s.resources t c other may.rightly)) (rightly_claimed t (ring_given c) s r.0),
+      r.1,
+    );
+    waits_on = λ t a b s at names stays other plain r. (rightly_goes t (blocking (Some (record b { awaits = a }))) s (λ p here. (names, (blocked_at s t (Some b) at r.0).1)) r.0, r.1);
+    stopped = λ t x y s fewer others seats left gone r. (rightly_stopped t (controlled (λ k. with_conditions (λ z. y) (with_barriers (λ z. x) k)) s) r.0, r.1);
+    takes_seat = λ t c m e s free alive there may r. (rightly_takes t c m e s may r.1 r.0, levels_told (mark.Waits (tid t) (call.CondAwait c m e)) s tt r.1);
+    retakes = λ t c m e a o y s fewer gone at r. (rightly_retakes t c m e a o (controlled (with_conditions (λ z. y)) s) at r.0, r.1);
   }
 
-  rightly_start : (f : P → Functions S H) (g : Given P) → AreRightly (start f g)
+  rightly_start : (f : P → Functions S H) (g : Given P) → Both (start f g)
   unfolding start
-  rightly_start f g t = put_by (λ (o : Option (Progress S)). Rightly (start f g).resources t (blocked_in o)) (λ u. None) main _ t (λ here. tt) (λ other. tt)
+  rightly_start f g = (λ t. put_by (λ (o : Option (Progress S)). Rightly (start f g).resources t (blocked_in o)) (λ u. None) main _ t (λ here. tt) (λ other. tt), λ u m. omega arith)
 
   pub run_rightly : (f : P → Functions S H) (g : Given P) (i : ℕ) → AllWaitRightly (run f g i).state
-  run_rightly f g i t b at = blocked_at (run f g i).state t (Some b) at (run_keeps f AreRightly (rightly_kept f) g (rightly_start f g) i)
+  run_rightly f g i t b at = blocked_at (run f g i).state t (Some b) at (run_keeps f Both (rightly_kept f) g (rightly_start f g) i).0
 
   asks_no_more : (f : P → Functions S H) (s : State P S H) (t : ℕ) (a : Awaits) (c : Call) → Names c a → WaitsRightly s.resources t c → AsksNoMore f s t a c
   unfolding row_of
@@ -344,6 +424,7 @@ module _ {P S H : Type 0} where
     again = as_tested _ _ (awaits.Lock l write) a (let_in_there (is_lock s l) (lets_in s write l) (holds s.resources.store.rw_locks t (object_named l)) h.0 h.1) (sym named);
     comes = ap (has_come s t) named ∙ ap (λ (known : Bool). known && lets_in s write l) h.0;
   }
+  asks_no_more f s t a (call.CondAwait c m e) named h = takes_there t (mutex s m) h.0 h.1
   asks_no_more f s t a c named h = tt
 
   pub run_asks : (f : P → Functions S H) (g : Given P) (i : ℕ) → AllAskNoMore f (run f g i).state

@@ -1,5 +1,5 @@
 -- Arrivals that wait at barriers, and who waits there (pth_barrier_reach).
-use Rattle.std.specs.Prelude.{◌≡◌, ◌≤◌, ◌==◌, ℕ, ℤ, true, Option, Some, None, count_by}
+use Rattle.std.specs.Prelude.{◌≡◌, ◌<◌, ◌≤◌, ◌==◌, ℕ, ℤ, true, Option, Some, None, count_by}
 use Rattle.pth_lock.specs.Objects.{object_named}
 use Rattle.pth_cond.specs.Barriers.{Barrier}
 use Rattle.pth_model.specs.declared.awaits.Awaits.TheVariants.{Round}
@@ -20,3 +20,7 @@ arrivals_of t (Some y) = count_by (λ a. a.tid == t) y.arrivals
 -- no thread has two arrivals at a barrier
 abbrev pub NoneArrivedTwice : {P S H : Type 0} → State P S H → Type 0
 NoneArrivedTwice s = (b t : ℕ) → arrivals_of t (s.control.barriers b) ≤ 1
+
+-- and none has arrivals at two barriers
+abbrev pub AllArrivedAtOne : {P S H : Type 0} → State P S H → Type 0
+AllArrivedAtOne s = (b d t : ℕ) → 0 < arrivals_of t (s.control.barriers b) → 0 < arrivals_of t (s.control.barriers d) → b ≡ d

@@ -1,9 +1,10 @@
--- Lists of marks that no run tells. Some a law refuses, others it takes.
+-- Lists of marks. Some a law refuses, others it takes, though most of these no run tells either.
 use Rattle.std.specs.Prelude.{ℕ, ℤ, pos, negsuc, Bool, true, false, List, [], ◌∷◌, None, Some}
-use Rattle.pth_base.specs.declared.answer.Answer.TheVariants.{Int}
+use Rattle.pth_base.specs.declared.answer.Answer.TheVariants.{Fail, Int, Msg}
 use Rattle.pth_base.specs.declared.act.Act.TheVariants as act
 use Rattle.pth_base.specs.declared.call.Call.{Call}
 use Rattle.pth_base.specs.declared.call.Call.TheVariants as call
+use Rattle.pth_base.specs.declared.errno.Errno.TheVariants.{ENOENT}
 use Rattle.pth_base.specs.declared.mark.Mark.{Mark}
 use Rattle.pth_base.specs.declared.mark.Mark.TheVariants as mark
 use Rattle.pth_base.specs.declared.ids.HandlerId.{HandlerId}
@@ -172,3 +173,65 @@ two_numbers_below_zero = takes_mutex one (negsuc 0) ∷ takes_mutex two (negsuc 
 -- a cond_await of mutex -1 gives a level of mutex -1 back
 abbrev pub an_await_of_a_number_below_zero : List Mark
 an_await_of_a_number_below_zero = takes_mutex one (negsuc 0) ∷ mark.Waits one (call.CondAwait (pos 0) (negsuc 0) (pos 0)) ∷ []
+
+-- ---- ports
+
+-- thread 1 makes a port, puts a message there with a port for the reply, 0 for none, or gets one, or finds none
+abbrev pub port_made : ℤ → Mark
+port_made p = mark.Answered one (call.PortCreate None) (Int p)
+
+abbrev pub put_at : (p : ℤ) (v : ℕ) (r : ℤ) → Mark
+put_at p v r = done_by one (call.PortPut p (pos v) r)
+
+abbrev pub got_at : (p : ℤ) (n v : ℕ) → Mark
+got_at p n v = mark.Answered one (call.PortGet p) (Msg (record { 0 = n }) (pos v))
+
+abbrev pub none_at : ℤ → Mark
+none_at p = mark.Answered one (call.PortGet p) (Fail ENOENT)
+
+abbrev pub pending_at : (p : ℤ) (n : ℕ) → Mark
+pending_at p n = mark.Answered one (call.PortPending p) (Int (pos n))
+
+-- messages 1 and 2 wait at port 1, with the values 7 and 8
+abbrev pub two_waiting : List Mark
+two_waiting = port_made (pos 1) ∷ put_at (pos 1) 7 (pos 0) ∷ put_at (pos 1) 8 (pos 0) ∷ []
+
+-- the only message of port 1 was got
+abbrev pub one_got : List Mark
+one_got = port_made (pos 1) ∷ put_at (pos 1) 7 (pos 0) ∷ got_at (pos 1) 1 7 ∷ []
+
+-- a message with port 2 for its reply waited at port 1, which is destroyed
+abbrev pub one_sent_back : List Mark
+one_sent_back = port_made (pos 1) ∷ port_made (pos 2) ∷ put_at (pos 1) 7 (pos 2) ∷ done_by one (call.PortDestroy (pos 1)) ∷ []
+
+-- a request at port 1, and its reply at port 2
+abbrev pub a_request_and_its_reply : List Mark
+a_request_and_its_reply =
+    port_made (pos 1) ∷ port_made (pos 2) ∷ put_at (pos 1) 7 (pos 2) ∷ got_at (pos 1) 1 7 ∷ done_by one (call.Reply (pos 1) (pos 9)) ∷ pending_at (pos 2) 1 ∷ got_at (pos 2) 1 9 ∷ none_at (pos 2) ∷ []
+
+-- a message with no port for its reply waits at port 1, which is destroyed: it does not go to port 0
+abbrev pub none_sent_to_port_0 : List Mark
+none_sent_to_port_0 = port_made (pos 0) ∷ port_made (pos 1) ∷ put_at (pos 1) 7 (pos 0) ∷ done_by one (call.PortDestroy (pos 1)) ∷ none_at (pos 0) ∷ []
+
+-- port -1 and port -2 are two
+abbrev pub two_ports_below_zero : List Mark
+two_ports_below_zero = port_made (negsuc 0) ∷ port_made (negsuc 1) ∷ put_at (negsuc 0) 7 (pos 0) ∷ none_at (negsuc 1) ∷ got_at (negsuc 0) 1 7 ∷ []
+
+-- nothing goes to a port that is not there, neither before it is made nor after it is destroyed; and what was not put has no number
+abbrev pub nothing_without_a_port : List Mark
+nothing_without_a_port =
+    put_at (pos 1) 7 (pos 0) ∷ port_made (pos 1) ∷ done_by one (call.PortDestroy (pos 1)) ∷ put_at (pos 1) 7 (pos 0) ∷ none_at (pos 1) ∷ port_made (pos 1) ∷ put_at (pos 1) 8 (pos 0) ∷ got_at (pos 1) 1 8 ∷ []
+
+-- a message that was got goes back by one reply alone, and one that comes back from a port that is destroyed has no port for a reply any
+-- more
+abbrev pub sent_back_once : List Mark
+sent_back_once =
+    port_made (pos 1) ∷ port_made (pos 2) ∷ put_at (pos 1) 7 (pos 2) ∷ put_at (pos 1) 8 (pos 2) ∷ got_at (pos 1) 1 7 ∷ done_by one (call.Reply (pos 1) (pos 9)) ∷ done_by one (call.Reply (pos 1) (pos 6)) ∷ done_by one (call.PortDestroy (pos 1)) ∷ got_at (pos 2) 1 9 ∷ got_at (pos 2) 2 8 ∷ done_by one (call.Reply (pos 2) (pos 4)) ∷ none_at (pos 2) ∷ []
+
+-- a put that is not answered 1 puts nothing
+abbrev pub a_put_answered_seven : List Mark
+a_put_answered_seven = port_made (pos 1) ∷ mark.Answered one (call.PortPut (pos 1) (pos 7) (pos 0)) (Int (pos 7)) ∷ none_at (pos 1) ∷ []
+
+-- a kill of thread 2 takes no message away
+abbrev pub one_waiting_after_a_kill : List Mark
+one_waiting_after_a_kill = port_made (pos 1) ∷ put_at (pos 1) 7 (pos 0) ∷ done_by two call.Kill ∷ []

@@ -2,11 +2,14 @@ pub mod Marks
 pub mod Orderly
 pub mod Exclusive
 pub mod Initialised
+pub mod InOrder
 pub mod Destructors
 pub mod Valid
 pub mod Tied
 pub mod Clean
 pub mod Arrivals
+pub mod Seats
+pub mod Kept
 pub mod Examples
 pub mod Waits
 pub mod Priorities

@@ -9,7 +9,7 @@ use Rattle.pth_model.specs.State.{State}
 use Rattle.pth_laws.specs.Clean.{event_held}
 
 pub record AreRingsHeld {P S H : Type 0} (s : State P S H) : Type 0 where
-  -- who is blocked by a call that was given an event has a claim, and it stands at that event
+  -- who is blocked by a call that was given an event has a claim, and it stands at that event, unless the call takes its mutex back
   pub held : (t e : ℕ) → event_held (blocked_of s.control t) ≡ Some e → claimant s.control.events e ≡ Some t
   -- two claims on one ring are one: of one thread, at one event
   pub one_claim : (t u e g : ℕ) → claimant s.control.events e ≡ Some t → claimant s.control.events g ≡ Some u → ring_holds g (s.control.events.rings e) ≡ true → (t ≡ u) × (e ≡ g)
@@ -19,6 +19,8 @@ pub record AreRingsHeld {P S H : Type 0} (s : State P S H) : Type 0 where
 pub record AreRingsCircles {P S H : Type 0} (s : State P S H) : Type 0 where
   -- an event stands in its ring
   pub own : (e : ℕ) → is_event s.control.events e ≡ true → ring_holds e (s.control.events.rings e) ≡ true
+  -- and what stands in a ring is an event
+  pub events : (e g : ℕ) → ring_holds g (s.control.events.rings e) ≡ true → is_event s.control.events g ≡ true
   -- nothing stands in a ring twice
   pub once : (e : ℕ) → Distinct (s.control.events.rings e)
   -- the ring of another event of a ring is this ring, read from that event on

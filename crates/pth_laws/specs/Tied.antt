@@ -1,6 +1,6 @@
 -- How a state of a run fits the marks that led to it, unless a pth_kill ended the run. A state keeps no marks, and what marks say
 -- reads no state: here the two meet.
-use Rattle.std.specs.Prelude.{◌≡◌, ◌≢◌, ◌<◌, ℕ, ℤ, pos, true, false, not, List, [], All, Some, None}
+use Rattle.std.specs.Prelude.{◌≡◌, ◌≢◌, ◌<◌, ℕ, ℤ, pos, true, false, not, List, [], All, map, Some, None, option_map}
 use Rattle.std.specs.List.{list_any}
 use Rattle.pth_base.specs.declared.mark.Mark.{Mark}
 use Rattle.pth_lock.specs.Mutexes.{has, levels_of}
@@ -13,6 +13,7 @@ use Rattle.pth_model.specs.Living.{lives, is_made}
 use Rattle.pth_laws.specs.Marks.{at_number, thread_of, is_end_of, is_cancellation_of, block_at_end}
 use Rattle.pth_laws.specs.Orderly.{pending_handlers, key_at, value_of}
 use Rattle.pth_laws.specs.Exclusive.{awaits, levels, reads, writes, is_holder}
+use Rattle.pth_laws.specs.InOrder.{port_index, by_index, mail}
 use Rattle.pth_laws.specs.Valid.{Lives}
 
 pub record IsTiedTo {P S H : Type 0} (s : State P S H) (marks : List Mark) : Type 0 where
@@ -33,6 +34,10 @@ pub record IsTiedTo {P S H : Type 0} (s : State P S H) (marks : List Mark) : Typ
   pub mutexes : (t : ℕ) (i : ℤ) → levels t i marks ≡ levels_of t (at_number None s.resources.store.mutexes i)
   pub readers : (t : ℕ) (l : ℤ) → reads t l marks ≡ at_number false (λ k. s.resources.store.rw_locks.reads k t) l
   pub writers : (t : ℕ) (l : ℤ) → writes t l marks ≡ is_one t (at_number None s.resources.store.rw_locks.writer l)
+  -- the ports that are there, with the messages that wait at each, the messages that are held, and how many were put
+  pub ports : (p : ℤ) → (mail marks).at (port_index p) ≡ option_map (map by_index) (at_number None s.resources.store.mail.at p)
+  pub held : (n : ℕ) → (mail marks).kept n ≡ option_map by_index (s.resources.store.mail.kept n)
+  pub put : (mail marks).made ≡ s.resources.store.mail.made
   -- a thread awaits exactly if the call that blocks it is a pth_cond_await
   pub awaiting : (t : ℕ) → awaits t marks ≡ is_awaiting (blocked_of s.control t)
   -- a thread that does not live has no level of a mutex, and holds no lock

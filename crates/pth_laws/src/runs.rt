@@ -7,10 +7,13 @@ ghost use Rattle.pth_model.specs.State.{Given};
 ghost use Rattle.pth_laws.specs.Clean.{IsClean};
 ghost use Rattle.pth_laws.specs.Exclusive.{Exclusive};
 ghost use Rattle.pth_laws.specs.Initialised.{Initialised};
+ghost use Rattle.pth_laws.specs.InOrder.{InOrder};
+ghost use Rattle.pth_laws.specs.Kept.{IsWaitKept};
 ghost use Rattle.pth_laws.specs.Orderly.{Orderly};
 ghost use Rattle.pth_laws.specs.Tied.{IsTiedTo};
 ghost use Rattle.pth_laws.specs.Valid.{IsValid};
 
+use crate::states::every_wait_is_kept;
 use pth_base::program::Program;
 
 /// The marks of every run, wherever it stands, are orderly: a thread that ended ran the handlers that it had pushed and not
@@ -34,8 +37,15 @@ pub fn every_run_initialises<P: Program>()
     ensures { (g : Given P) (i : ℕ) → Initialised (run P.functions g i).marks }
 {}
 
-/// Each state of a run fits the marks that led to it, unless a `pth_kill` ended the run: who has ended, and what threads have, can
-/// be read off a transcript. And who runs, who is named by a yield, and whoever stands in a queue but that of the dead, lives.
+/// The marks of every run, wherever it stands, are in order, also if a `pth_kill` ended the run: a message that is got is the oldest
+/// of its port, none is missing where none is found, and as many are there as a `pth_msgport_pending` tells.
+pub fn every_run_is_in_order<P: Program>()
+    ensures { (g : Given P) (i : ℕ) → InOrder (run P.functions g i).marks }
+{}
+
+/// Each state of a run fits the marks that led to it, unless a `pth_kill` ended the run: who has ended, what threads have, and which
+/// messages are at which ports can be read off a transcript. And who runs, who is named by a yield, and whoever stands in a queue but
+/// that of the dead, lives.
 pub fn every_run_is_tied<P: Program>()
     ensures tied { (g : Given P) (i : ℕ) → (run P.functions g i).turn.outcome ≢ Killed → IsTiedTo (run P.functions g i).state (run P.functions g i).marks }
     ensures valid { (g : Given P) (i : ℕ) → (run P.functions g i).turn.outcome ≢ Killed → IsValid (run P.functions g i).state (run P.functions g i).turn }
@@ -49,3 +59,27 @@ pub fn every_run_is_tied<P: Program>()
 pub fn every_run_is_clean<P: Program>()
     ensures { (g : Given P) (i : ℕ) → (run P.functions g i).turn.outcome ≢ Killed → IsClean (run P.functions g i).state }
 {}
+
+/// What is said of the marks and of the states of every run, of any program and any kernel, wherever the run stands. Who builds on it
+/// calls this for a program, and has it all. `tied`, `valid` and `clean` leave out a run that a `pth_kill` ended.
+pub fn laws<P: Program>()
+    ensures orderly { (g : Given P) (i : ℕ) → Orderly (run P.functions g i).marks }
+    ensures exclusive { (g : Given P) (i : ℕ) → Exclusive (run P.functions g i).marks }
+    ensures initialised { (g : Given P) (i : ℕ) → Initialised (run P.functions g i).marks }
+    ensures in_order { (g : Given P) (i : ℕ) → InOrder (run P.functions g i).marks }
+    ensures tied { (g : Given P) (i : ℕ) → (run P.functions g i).turn.outcome ≢ Killed
+        → IsTiedTo (run P.functions g i).state (run P.functions g i).marks }
+    ensures valid { (g : Given P) (i : ℕ) → (run P.functions g i).turn.outcome ≢ Killed
+        → IsValid (run P.functions g i).state (run P.functions g i).turn }
+    ensures clean { (g : Given P) (i : ℕ) → (run P.functions g i).turn.outcome ≢ Killed
+        → IsClean (run P.functions g i).state }
+    ensures kept { (g : Given P) (i : ℕ) → IsWaitKept (run P.functions g i).state }
+{
+    every_run_is_orderly::<P>();
+    every_run_is_exclusive::<P>();
+    every_run_initialises::<P>();
+    every_run_is_in_order::<P>();
+    every_run_is_tied::<P>();
+    every_run_is_clean::<P>();
+    every_wait_is_kept::<P>();
+}

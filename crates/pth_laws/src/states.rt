@@ -3,10 +3,12 @@
 ghost use Rattle.std.specs.Prelude.{ℕ};
 ghost use Rattle.pth_model.specs.Run.{run};
 ghost use Rattle.pth_model.specs.State.{Given};
-ghost use Rattle.pth_laws.specs.Arrivals.{AllHaveArrived, NoneArrivedTwice};
+ghost use Rattle.pth_laws.specs.Arrivals.{AllArrivedAtOne, AllHaveArrived, NoneArrivedTwice};
 ghost use Rattle.pth_laws.specs.Holders.{AreHoldersApart};
+ghost use Rattle.pth_laws.specs.Kept.{IsWaitKept};
 ghost use Rattle.pth_laws.specs.Priorities.{HasBasePriorities};
 ghost use Rattle.pth_laws.specs.Rings.{AreRingsCircles, AreRingsHeld};
+ghost use Rattle.pth_laws.specs.Seats.{AllHaveSeats, NoneSeatedTwice};
 ghost use Rattle.pth_laws.specs.Waits.{AllAskNoMore, AllWaitRightly};
 
 use pth_base::program::Program;
@@ -17,14 +19,16 @@ pub fn every_run_keeps_base_priorities<P: Program>()
     ensures { (g : Given P) (i : ℕ) → HasBasePriorities (run P.functions g i).state }
 {}
 
-/// Who is blocked by a call that was given an event has the claim on its ring, until the call is answered or the thread ends. No ring
-/// has two claims, so no two threads wait for one ring. And each event of a ring has the same ring, read from it on.
+/// Who is blocked by a call that was given an event has the claim on its ring, until the call is answered, takes its mutex back after
+/// a wait at a condition, or the thread ends. No ring has two claims, so no two threads wait for one ring. And each event of a ring has
+/// the same ring, read from it on.
 pub fn every_run_holds_rings<P: Program>()
     ensures held { (g : Given P) (i : ℕ) → AreRingsHeld (run P.functions g i).state }
     ensures circles { (g : Given P) (i : ℕ) → AreRingsCircles (run P.functions g i).state }
 {}
 
-/// No thread has two holds of one read-write lock, and if one writes under it, its hold is the only one.
+/// No thread has two holds of one read-write lock, and if one writes under it, its hold is the only one. Who holds a lock was made, and
+/// the count of a lock's readers is how many of the threads that were made read under it.
 pub fn every_run_keeps_holders_apart<P: Program>()
     ensures { (g : Given P) (i : ℕ) → AreHoldersApart (run P.functions g i).state }
 {}
@@ -33,15 +37,33 @@ pub fn every_run_keeps_holders_apart<P: Program>()
 /// the thread holds no lock for which it waits. This is asked too as such a call is tried again, and as a pass looks whether what is
 /// awaited has come: so in every run no more is asked of the mutex than that nobody has it, and no more of the lock than that it lets
 /// the thread in. Who is blocked by a `cond_await` waits for the notice of the condition that the call named, or for the mutex, which is
-/// initialised. Who is blocked by a `barrier_reach` waits for a round of the barrier that the call named.
+/// initialised. It has fewer levels of the mutex than it may have, so it can take the mutex back as soon as no other thread has it.
+/// Who is blocked by a `barrier_reach` waits for a round of the barrier that the call named.
 pub fn every_run_waits_rightly<P: Program>()
     ensures rightly { (g : Given P) (i : ℕ) → AllWaitRightly (run P.functions g i).state }
     ensures rows { (g : Given P) (i : ℕ) → AllAskNoMore P.functions (run P.functions g i).state }
 {}
 
-/// Who is blocked at a barrier has its arrival there, of the round for which it waits; and no thread has two arrivals at a barrier
-/// (`pth_barrier_reach`). So while a thread waits there it counts in its round, and it counts once.
+/// Who is blocked at a barrier has its arrival there, of the round for which it waits; and no thread has two arrivals at a barrier,
+/// or arrivals at two (`pth_barrier_reach`). So while a thread waits there it counts in its round, and it counts once.
 pub fn every_run_keeps_arrivals<P: Program>()
     ensures kept { (g : Given P) (i : ℕ) → AllHaveArrived (run P.functions g i).state }
     ensures once { (g : Given P) (i : ℕ) → NoneArrivedTwice (run P.functions g i).state }
+    ensures one_barrier { (g : Given P) (i : ℕ) → AllArrivedAtOne (run P.functions g i).state }
+{}
+
+/// Who is blocked by a call that waits for the notice of a condition has its seat there; and no seat is taken twice at a condition,
+/// neither a thread's nor an event's (`pth_cond_await`, `PTH_EVENT_COND`). So while a thread waits there it can be notified, and it
+/// counts once.
+pub fn every_run_keeps_seats<P: Program>()
+    ensures kept { (g : Given P) (i : ℕ) → AllHaveSeats (run P.functions g i).state }
+    ensures once { (g : Given P) (i : ℕ) → NoneSeatedTwice (run P.functions g i).state }
+{}
+
+/// What a wait has, it has until it is over: who is blocked by a call that was given an event has the claim on its ring, who is blocked
+/// at a barrier its arrival there, and who waits for the notice of a condition its seat. And each event of the ring of a thread that
+/// waits is pending, also while the thread is suspended: a pass that finds that one is not wakes the thread, and looks at no ring of a
+/// suspended one.
+pub fn every_wait_is_kept<P: Program>()
+    ensures { (g : Given P) (i : ℕ) → IsWaitKept (run P.functions g i).state }
 {}

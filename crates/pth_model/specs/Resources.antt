@@ -1,5 +1,5 @@
--- What threads have, as laws of transcripts read it: cleanups, key values, mutexes, locks and messages. Marks alone change
--- it: `told` says for every mark what becomes of it.
+-- What threads have, as marks tell it: cleanups, key values, mutexes, locks and messages. Marks alone change it: `told` says for
+-- every mark what becomes of it.
 use Rattle.std.specs.Prelude.{◌≡◌, ℕ, zero, suc, ◌==◌, ◌&&◌, ℤ, pos, Bool, true, false, List, [], ◌∷◌, Option, Some, None, if◌then◌else◌}
 use Rattle.pth_base.specs.Table.{put}
 use Rattle.pth_base.specs.declared.ids.HandlerId.{HandlerId}

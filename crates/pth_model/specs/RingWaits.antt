@@ -1,5 +1,6 @@
 -- The rings of events for which threads wait. A call that was given an event claims its ring as it blocks its thread, and the
--- claim stands at that event until the call is answered, or its thread ends.
+-- claim stands at that event until the call is answered, its thread ends, or a wait at a condition is over and its mutex is to be taken
+-- back.
 --
 -- An event is settled if the last look found it not pending, and a ring has settled if one of its events is (`has_settled`). An
 -- event comes if a look would find it so now (`comes`), and comes for the thread that waits for its ring (`comes_for`).

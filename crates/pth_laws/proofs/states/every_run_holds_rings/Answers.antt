@@ -1,4 +1,5 @@
-use Rattle.pth_laws.proofs.Claimed.{run_held, run_circles}
+use Rattle.pth_laws.proofs.Claimed.{run_held}
+use Rattle.pth_laws.proofs.RingEvents.{run_circles}
 use Rattle.pth_laws.proofs.states.every_run_holds_rings.Goals as goal
 
 pub returns-clause-held : goal.returns-clause-held

@@ -1,0 +1,263 @@
+-- Only pth_cond_await waits for the notice of a condition.
+use Rattle.std.proofs.Common.{◌≡◌, ℕ, ℤ, nat_lt, Bool, true, false, if◌then◌else◌, Option, Some, None, Result, Ok, Err, refl, sym, ◌∙◌, ap}
+use Rattle.pth_base.specs.Program.{Functions}
+use Rattle.pth_base.specs.declared.answer.Answer.{Answer}
+use Rattle.pth_base.specs.declared.answer.Answer.TheVariants as answer
+use Rattle.pth_base.specs.declared.call.Call.{Call}
+use Rattle.pth_base.specs.declared.call.Call.TheVariants as call
+use Rattle.pth_base.specs.declared.errno.Errno.{Errno}
+use Rattle.pth_base.specs.declared.errno.Errno.TheVariants.{EBUSY}
+use Rattle.pth_base.specs.declared.event.EventSpec.{EventSpec}
+use Rattle.pth_base.specs.declared.query.Query.{Query}
+use Rattle.pth_base.specs.declared.query.Query.TheVariants as query
+use Rattle.pth_cond.specs.declared.barriers.Arrival.{Arrival}
+use Rattle.pth_cond.specs.declared.barriers.Arrival.TheVariants as arrival
+use Rattle.pth_cond.specs.Barriers.{arrival_answer, has_passed, round_answer, round_answered}
+use Rattle.pth_numbered.specs.Operands.{is_zero}
+use Rattle.pth_kernel.specs.Kernel.{Kernel}
+use Rattle.pth_model.specs.declared.awaits.Awaits.{Awaits}
+use Rattle.pth_model.specs.declared.awaits.Awaits.TheVariants as awaits
+use Rattle.pth_model.specs.declared.verdict.Verdict.{Verdict}
+use Rattle.pth_model.specs.declared.verdict.Verdict.TheVariants.{Says, Yields, Blocks, Ends, Kills}
+use Rattle.pth_model.specs.Awaits.{death_of, is_await, round_in}
+use Rattle.pth_model.specs.State.{State, Control}
+use Rattle.pth_model.specs.Transition.{Change, changes, silent}
+use Rattle.pth_model.specs.Verdict.{refused, says, said_or, counts_or, by_result, taken_or, ◌when◌otherwise◌, refused_as◌otherwise◌}
+use Rattle.pth_model.specs.Barriers.{arrived_as, tries_round}
+use Rattle.pth_model.specs.Calls.{interrupted, unless_settled}
+use Rattle.pth_model.specs.Changes.{with_barriers}
+use Rattle.pth_model.specs.Row.{Attempt, ◌trying◌}
+use Rattle.pth_model.specs.EventHandling.{made_as}
+use Rattle.pth_model.specs.Io.{trial_for, begins_waiting, tries}
+use Rattle.pth_model.specs.LibraryControl.{ctrl}
+use Rattle.pth_model.specs.Rows.{row_of}
+use Rattle.pth_model.specs.ThreadControl.{joined, join_attempt}
+use Rattle.pth_laws.proofs.Living.{true_false}
+
+abbrev pub is_notice : Awaits → Bool
+is_notice (awaits.Notice c) = true
+is_notice a = false
+
+-- a verdict by which a thread waits so
+abbrev pub is_noticing : Verdict → Bool
+is_noticing (Blocks a) = is_notice a
+is_noticing v = false
+
+-- ---- verdicts
+
+when_none : (v : Verdict) (b : Bool) (w : Verdict) → is_noticing v ≡ false → is_noticing w ≡ false → is_noticing (v when b otherwise w) ≡ false
+when_none v true w one two = one
+when_none v false w one two = two
+
+result_none : {A : Type 0} (v : A → Verdict) (r : Result A Errno) → ((x : A) → is_noticing (v x) ≡ false) → is_noticing (by_result v r) ≡ false
+result_none v (Ok x) none = none x
+result_none v (Err e) none = refl
+
+as_none : {A : Type 0} (r : Result A Errno) (v : Verdict) → is_noticing v ≡ false → is_noticing (refused_as r otherwise v) ≡ false
+as_none (Ok x) v none = none
+as_none (Err e) v none = refl
+
+taken_none : (r : Result (Unit {0}) Errno) (v : Verdict) → is_noticing v ≡ false → is_noticing (taken_or r v) ≡ false
+taken_none (Ok u) v none = refl
+taken_none (Err EBUSY) v none = none
+taken_none (Err e) v none = refl
+
+said_none : (o : Option Answer) (v : Verdict) → is_noticing v ≡ false → is_noticing (said_or o v) ≡ false
+said_none (Some a) v none = refl
+said_none None v none = none
+
+counts_none : (n : ℕ) (e : Errno) → is_noticing (counts_or n e) ≡ false
+counts_none n e = when_none (says n) (nat_lt 0 n) (refused e) refl refl
+
+interrupted_none : (v : Verdict) → is_noticing (interrupted v) ≡ false
+interrupted_none (Says a) = refl
+interrupted_none (Yields a) = refl
+interrupted_none (Blocks a) = search counts_none
+interrupted_none (Ends v) = refl
+interrupted_none Kills = refl
+
+death_none : (n : ℤ) → is_notice (death_of n) ≡ false
+death_none n = by_test (is_zero n)
+  where
+    by_test : (b : Bool) → is_notice (if b then awaits.AnyDeath else awaits.Death n) ≡ false
+    by_test true = refl
+    by_test false = refl
+
+trial_none : (k : Kernel) (a : Awaits) → is_notice a ≡ false → is_noticing (trial_for k a).verdict ≡ false
+trial_none k (awaits.Reading f n) none = search said_none
+trial_none k (awaits.Writing f total written) none = search said_none
+trial_none k (awaits.Connection f) none = search said_none
+trial_none k (awaits.ConnectAnswer f) none = search said_none
+trial_none k (awaits.Selection r w x deadline) none = search said_none
+trial_none k a none = none
+
+-- an arrival at a barrier
+reach_none : (b : ℤ) (o : Result Arrival Errno) → is_noticing (by_result (arrived_as b) o) ≡ false
+reach_none b (Err e) = refl
+reach_none b (Ok arrival.Tail) = refl
+reach_none b (Ok (arrival.Waits round)) = refl
+
+module _ {P S H : Type 0} where
+  abbrev tries_as : State P S H → (t : ℕ) → ℤ → ℕ → Bool → Attempt P S H
+  tries_as s t b round passed = if passed then (Says (answer.Int (round_answer s.control.barriers b round t)) trying changes (with_barriers (round_answered b round t))) else (Blocks (awaits.Round b round) trying silent)
+
+  round_none : (s : State P S H) (t : ℕ) (b : ℤ) (round : ℕ) → is_noticing (tries_round s t b round).verdict ≡ false
+  round_none s t b round = by_test (has_passed s.control.barriers b round)
+    where
+      by_test : (passed : Bool) → is_noticing (tries_as s t b round passed).verdict ≡ false
+      by_test true = refl
+      by_test false = refl
+
+  joined_none : (k : Control P S H) (n : ℤ) (o : Option ℕ) → is_noticing (joined k n o) ≡ false
+  joined_none k n None = death_none n
+  joined_none k n (Some t) = refl
+
+  join_none : (s : State P S H) (t : ℕ) (n : ℤ) → is_noticing (join_attempt s t n).verdict ≡ false
+  join_none s t n = search (when_none, joined_none)
+
+  made_none : (spec : Option EventSpec) (v : EventSpec → Verdict) (g : EventSpec → Change P S H) → ((x : EventSpec) → is_noticing (v x) ≡ false) → is_noticing (made_as spec v g).begin.verdict ≡ false
+  made_none None v g none = refl
+  made_none (Some x) v g none = none x
+
+  made_again_none : (spec : Option EventSpec) (v : EventSpec → Verdict) (g : EventSpec → Change P S H) (a : Awaits) → is_noticing ((made_as spec v g).again a).verdict ≡ false
+  made_again_none None v g a = refl
+  made_again_none (Some x) v g a = refl
+
+  waiting_none : (s : State P S H) (at_once : Bool) (e : Option ℤ) (v : Verdict) → is_noticing v ≡ false → is_noticing (begins_waiting s at_once e v) ≡ false
+  waiting_none s at_once e (Says a) none = refl
+  waiting_none s at_once e (Yields a) none = refl
+  waiting_none s at_once e (Blocks a) none = search (when_none, counts_none, none)
+  waiting_none s at_once e (Ends v) none = refl
+  waiting_none s at_once e Kills none = refl
+
+  tries_none : (s : State P S H) (e : Option ℤ) (refused_else at_once : Bool) (first : Awaits) → is_notice first ≡ false → is_noticing (tries s e refused_else at_once first).begin.verdict ≡ false
+  tries_none s e refused_else at_once first none = search (when_none, waiting_none s at_once e, trial_none s.control.kernel first none)
+
+  ctrl_none : (s : State P S H) (x : Query) → is_noticing (ctrl s x).begin.verdict ≡ false
+  ctrl_none s (query.Favournew n) = search when_none
+  ctrl_none s (query.Prio n) = search when_none
+  ctrl_none s (query.Name n) = search when_none
+  ctrl_none s x = refl
+
+  ctrl_again_none : (s : State P S H) (x : Query) (a : Awaits) → is_noticing ((ctrl s x).again a).verdict ≡ false
+  ctrl_again_none s query.Threads a = refl
+  ctrl_again_none s x a = refl
+
+-- ---- rows
+
+module _ {P S H : Type 0} (f : P → Functions S H) (s : State P S H) (t : ℕ) where
+  -- a call that begins
+  pub begins_unnoticed : (c : Call) → is_await c ≡ false → is_noticing (row_of f s t c).begin.verdict ≡ false
+  unfolding row_of
+  begins_unnoticed call.Kill other = search when_none
+  begins_unnoticed (call.Ctrl x) other = ctrl_none s x
+  begins_unnoticed call.AttrNew other = search result_none
+  begins_unnoticed (call.AttrOf n) other = search result_none
+  begins_unnoticed (call.AttrInit a) other = search result_none
+  begins_unnoticed (call.AttrSet a v) other = search result_none
+  begins_unnoticed (call.AttrGet a x) other = search result_none
+  begins_unnoticed (call.AttrDestroy a) other = search result_none
+  begins_unnoticed (call.Spawn b v a) other = search (when_none, as_none)
+  begins_unnoticed (call.Once o h v) other = search when_none
+  begins_unnoticed (call.Suspend n) other = search when_none
+  begins_unnoticed (call.Resume n) other = search when_none
+  begins_unnoticed (call.Yield n) other = search when_none
+  begins_unnoticed (call.Nap n) other = search when_none
+  begins_unnoticed (call.Wait e) other = search as_none
+  begins_unnoticed (call.Cancel n) other = search when_none
+  begins_unnoticed (call.Abort n) other = search when_none
+  begins_unnoticed (call.Join n) other = join_none s t n
+  begins_unnoticed (call.Exit v) other = search when_none
+  begins_unnoticed (call.Fdmode d m) other = search result_none
+  begins_unnoticed (call.Timeout n) other = search when_none
+  begins_unnoticed call.CancelPoint other = search when_none
+  begins_unnoticed (call.CancelState n) other = search when_none
+  begins_unnoticed (call.EvFd goals fd) other = search (made_none, result_none)
+  begins_unnoticed (call.EvSelect r w x) other = search result_none
+  begins_unnoticed (call.EvTime m) other = search (made_none, result_none)
+  begins_unnoticed (call.EvMsg p) other = search result_none
+  begins_unnoticed (call.EvCond c) other = search result_none
+  begins_unnoticed (call.EvTid state n) other = search result_none
+  begins_unnoticed (call.EvFunc c v l) other = search (made_none, result_none)
+  begins_unnoticed (call.Chain e l) other = search (made_none, result_none)
+  begins_unnoticed (call.EvConcat e g) other = search result_none
+  begins_unnoticed (call.EvIsolate e) other = search result_none
+  begins_unnoticed (call.EvWalk e forward until_occurred) other = search result_none
+  begins_unnoticed (call.EvStatus e) other = search result_none
+  begins_unnoticed (call.EvKind e) other = search result_none
+  begins_unnoticed (call.EvFree e all) other = search result_none
+  begins_unnoticed (call.KeyCreate h) other = search result_none
+  begins_unnoticed (call.KeyDelete k) other = search result_none
+  begins_unnoticed (call.KeySet k v) other = search result_none
+  begins_unnoticed (call.KeyGet k) other = search result_none
+  begins_unnoticed (call.PortCreate name) other = search result_none
+  begins_unnoticed (call.PortFind name) other = search result_none
+  begins_unnoticed (call.PortPending p) other = search result_none
+  begins_unnoticed (call.PortPut p v r) other = search result_none
+  begins_unnoticed (call.PortGet p) other = search result_none
+  begins_unnoticed (call.Reply m v) other = search result_none
+  begins_unnoticed (call.PortDestroy p) other = search result_none
+  begins_unnoticed (call.CleanupPush h v) other = search result_none
+  begins_unnoticed (call.CleanupPop v) other = search when_none
+  begins_unnoticed (call.MutexInit m) other = search result_none
+  begins_unnoticed (call.MutexAcquire m v e) other = search (when_none, taken_none)
+  begins_unnoticed (call.MutexRelease m) other = search result_none
+  begins_unnoticed (call.RwInit l) other = search result_none
+  begins_unnoticed (call.RwAcquire l write v e) other = search (when_none, taken_none)
+  begins_unnoticed (call.RwRelease l) other = search result_none
+  begins_unnoticed (call.CondInit c) other = search result_none
+  begins_unnoticed (call.CondNotify c v) other = search result_none
+  begins_unnoticed (call.CondAwait c m e) other = absurd (true_false other)
+  begins_unnoticed (call.BarrierInit b n) other = search result_none
+  begins_unnoticed (call.BarrierReach b) other = reach_none b (arrival_answer s.control.barriers b)
+  begins_unnoticed (call.Usleep n) other = search when_none
+  begins_unnoticed (call.Sleep n) other = search when_none
+  begins_unnoticed (call.Read d n) other = search tries_none
+  begins_unnoticed (call.ReadEv d n e) other = search tries_none
+  begins_unnoticed (call.Write d bytes) other = search tries_none
+  begins_unnoticed (call.WriteEv d bytes e) other = search tries_none
+  begins_unnoticed (call.Accept d) other = search tries_none
+  begins_unnoticed (call.AcceptEv d e) other = search tries_none
+  begins_unnoticed (call.Connect d) other = search tries_none
+  begins_unnoticed (call.ConnectEv d e) other = search tries_none
+  begins_unnoticed (call.Select r w x l) other = search tries_none
+  begins_unnoticed (call.SelectEv r w x l e) other = search tries_none
+  begins_unnoticed (call.Close d) other = search when_none
+  begins_unnoticed c other = refl
+
+  -- one that is tried again, and did not wait so
+  again_none : (c : Call) (a : Awaits) → is_await c ≡ false → is_notice a ≡ false → is_noticing ((row_of f s t c).again a).verdict ≡ false
+  unfolding row_of
+  again_none (call.Ctrl x) a other none = ctrl_again_none s x a
+  again_none (call.Nap n) a other none = search when_none
+  again_none (call.Wait e) a other none = search when_none
+  again_none (call.Join n) a other none = join_none s t n
+  again_none (call.Exit v) a other none = search when_none
+  again_none (call.EvFd goals fd) a other none = search made_again_none
+  again_none (call.EvTime m) a other none = search made_again_none
+  again_none (call.EvFunc c v l) a other none = search made_again_none
+  again_none (call.Chain e l) a other none = search made_again_none
+  again_none (call.MutexAcquire m v e) a other none = search when_none
+  again_none (call.RwAcquire l write v e) a other none = search when_none
+  again_none (call.BarrierReach b) a other none = round_none s t b (round_in a)
+  again_none (call.Usleep n) a other none = search when_none
+  again_none (call.Sleep n) a other none = search when_none
+  again_none (call.Read d n) a other none = trial_none s.control.kernel a none
+  again_none (call.ReadEv d n e) a other none = trial_none s.control.kernel a none
+  again_none (call.Write d bytes) a other none = trial_none s.control.kernel a none
+  again_none (call.WriteEv d bytes e) a other none = trial_none s.control.kernel a none
+  again_none (call.Accept d) a other none = trial_none s.control.kernel a none
+  again_none (call.AcceptEv d e) a other none = trial_none s.control.kernel a none
+  again_none (call.Connect d) a other none = trial_none s.control.kernel a none
+  again_none (call.ConnectEv d e) a other none = trial_none s.control.kernel a none
+  again_none (call.Select r w x l) a other none = trial_none s.control.kernel a none
+  again_none (call.SelectEv r w x l e) a other none = trial_none s.control.kernel a none
+  again_none c a other none = refl
+
+  come_none : (c : Call) (a : Awaits) (come : Bool) → is_await c ≡ false → is_notice a ≡ false → is_noticing (unless_settled come ((row_of f s t c).again a)).verdict ≡ false
+  come_none c a false other none = again_none c a other none
+  come_none c a true other none = interrupted_none ((row_of f s t c).again a).verdict
+
+  -- one that is tried again, and did not wait so, does not block for a notice
+  pub again_unnoticed : (c : Call) (a : Awaits) (come : Bool) (now : Awaits) → is_await c ≡ false → is_notice a ≡ false → (unless_settled come ((row_of f s t c).again a)).verdict ≡ Blocks now → is_notice now ≡ false
+  again_unnoticed c a come now other none blocks = sym (ap is_noticing blocks) ∙ come_none c a come other none
