@@ -1,7 +1,12 @@
 //! A program: main sends a worker on an errand, and waits for what it brings.
 
-ghost use Rattle.std.specs.Prelude.{◌≡◌};
+ghost use Rattle.std.specs.Prelude.{◌≡◌, ◌≢◌, ℕ};
+ghost use Rattle.pth_base.specs.declared.outcome.Outcome.TheVariants.{Killed};
 ghost use Rattle.pth_embedding.specs.Errand.{errand_functions, int_of};
+ghost use Rattle.pth_laws.specs.Clean.{IsClean};
+ghost use Rattle.pth_laws.specs.Orderly.{Orderly};
+ghost use Rattle.pth_model.specs.Run.{run};
+ghost use Rattle.pth_model.specs.State.{Given};
 
 use pth_base::act::Act;
 use pth_base::answer::Answer;
@@ -9,6 +14,7 @@ use pth_base::call::Call;
 use pth_base::ids::{BodyId, CheckId, HandlerId};
 use pth_base::memory::OutOfMemory;
 use pth_base::program::Program;
+use pth_laws::runs::laws;
 use std::alloc::Global;
 
 /// Body 0 is main's, and body 1 the worker's.
@@ -94,4 +100,14 @@ pub fn int_of(answer: &Answer) -> i64
         Answer::Int(n) => *n,
         _ => 0,
     }
+}
+
+/// Whatever comes to the descriptors, and wherever a run of this program stands: a thread that ended has no mark more, and nothing of
+/// a wait is left of it. So are the runs of every program, and one call of `laws` says it of this one.
+pub fn errands_are_lawful()
+    ensures orderly { (g : Given Errand) (i : ℕ) → Orderly (run errand_functions g i).marks }
+    ensures clean { (g : Given Errand) (i : ℕ) → (run errand_functions g i).turn.outcome ≢ Killed
+        → IsClean (run errand_functions g i).state }
+{
+    laws::<Errand>();
 }
