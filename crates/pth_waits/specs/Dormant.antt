@@ -40,7 +40,7 @@ is_left_to_join o = is_dead_in o && (or_nobody o).joinable
 
 module _ {P S H : Type 0} (s : State P S H) (until : ℕ) where
   -- An event is asked again only from a moment on, which is later than now. One of a thread or of a function is asked at each pass:
-  -- threads change their states in each turn, and a look may put the next one off.
+  -- threads change their states in each turn, and a claim makes the next look of each event in its ring due.
   abbrev pub IsSteady : EventSpec → Type 0
   IsSteady (Tid state t) = until ≤ now_of s.control
   IsSteady (Func check arg interval) = until ≤ now_of s.control
