@@ -53,6 +53,7 @@ impl<P: Program> World<P> {
     }
 
     /// The record of the thread in the system that an operand names; none if no thread in the system has this number.
+    #[inline(always)]
     pub fn known(&self, n: i64) -> Option<&Entry>
         requires { IsSound self.now.threads }
         ensures entry { (k : Control P P.State P.Shared) → Shows self.now k → option_copied result ≡ named k.threads.known n }
