@@ -41,13 +41,13 @@ module _ {P S H : Type 0} (w : WorldOf P S H) (whole : Whole w) where
   rings_frame n x now (Err d) changed refused few = events_frame w x n whole (let is = ap (λ (k : RingsOf). k.made) refused in omega arith)
 
   -- the objects changed, or not, and none was made
-  pub kept_objects_frame : {A E : Type 0} (y : AttrsOf) (q : Result A E) → OnOk q (y.made ≡ w.attributes.made) → OnErr q (y ≡ w.attributes) → Frame w (record w { attributes = y }) no_numbers w.scheduler.running false
-  kept_objects_frame y (Ok x) made refused = objects_frame w y no_numbers whole (let is : y.made ≡ w.attributes.made = made in omega arith)
-  kept_objects_frame y (Err e) made refused = objects_frame w y no_numbers whole (let is = ap (λ (k : AttrsOf). k.made) refused in omega arith)
+  pub kept_objects_frame : {A E : Type 0} (y : AttrsOf) (q : Result A E) → OnOk q ((y.objects.made ≡ w.attributes.objects.made) × (y.top ≡ w.attributes.top)) → OnErr q (y ≡ w.attributes) → Frame w (record w { attributes = y }) no_numbers w.scheduler.running false
+  kept_objects_frame y (Ok x) kept refused = objects_frame w y no_numbers whole kept.1 (let is : y.objects.made ≡ w.attributes.objects.made = kept.0 in omega arith)
+  kept_objects_frame y (Err e) kept refused = objects_frame w y no_numbers whole (ap (λ (k : AttrsOf). k.top) refused) (let is = ap (λ (k : AttrsOf). k.objects.made) refused in omega arith)
 
   -- one was made
-  pub object_made_frame : (v : WorldOf P S H) → v ≡ record w { attributes = v.attributes } → v.attributes.made ≡ w.attributes.made + 1 → Frame w v (one_of Object) w.scheduler.running false
-  object_made_frame v same made = subst (λ (z : WorldOf P S H). Frame w z (one_of Object) w.scheduler.running false) (sym same) (objects_frame w v.attributes (one_of Object) whole (let is = made in omega arith))
+  pub object_made_frame : (v : WorldOf P S H) → v ≡ record w { attributes = v.attributes } → v.attributes.objects.made ≡ w.attributes.objects.made + 1 → v.attributes.top ≡ w.attributes.top → Frame w v (one_of Object) w.scheduler.running false
+  object_made_frame v same made top = subst (λ (z : WorldOf P S H). Frame w z (one_of Object) w.scheduler.running false) (sym same) (objects_frame w v.attributes (one_of Object) whole top (let is = made in omega arith))
 
 -- the kernel changed alone
 pub kernel_frame : {P S H : Type 0} (w : WorldOf P S H) (x : KernelOf) → Whole w → Frame w (record w { kernel = x }) no_numbers w.scheduler.running false
@@ -77,7 +77,7 @@ spawned_frame {P} {S} {H} w v r is whole made ranks same = record {
   runs = ap (λ (z : WorldOf P S H). z.scheduler.running) same ∙ is;
   made = elim [
     | Thread ↦ (let e = made in omega arith)
-    | Object ↦ (let e = ap (λ (z : WorldOf P S H). z.attributes.made) same in omega arith)
+    | Object ↦ (let e = ap (λ (z : WorldOf P S H). z.attributes.objects.made) same in omega arith)
     | Event ↦ (let e = ap (λ (z : WorldOf P S H). z.events.made) same in omega arith)
     | Port ↦ (let e = ap (λ (z : WorldOf P S H). z.store.ports.made) same in omega arith)
   ];

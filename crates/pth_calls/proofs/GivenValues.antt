@@ -1,5 +1,5 @@
 -- What a new thread is given has a priority and a cancel state of a thread.
-use Rattle.std.proofs.Common.{◌≡◌, ℕ, Option, Some, None, is_none, option_map, Result, Ok, Err, IfOk, if◌then◌else◌, refl, subst, arith}
+use Rattle.std.proofs.Common.{◌≡◌, ◌≤◌, ℕ, Option, Some, None, is_none, option_map, Result, Ok, Err, IfOk, if◌then◌else◌, refl, subst, arith}
 use Rattle.std.proofs.lemmas.Int.{ints}
 use Rattle.std.specs.Option.{ok_or}
 use Rattle.pth_base.specs.Naming.{seen, by_slot}
@@ -19,8 +19,8 @@ pub record MayHave (x : NewThread) : Type 0 where
   pub prio : IsPrio x.prio
   pub cancel : IsCancel x.cancel
 
-of_object : (x : NewThread) → AreSet x → MayHave x
-of_object x set = record {
+of_object : (top : ℕ) → top ≤ 20 → (x : NewThread) → AreSet top x → MayHave x
+of_object top most x set = record {
   prio = record { low = (let h = set.prio.low in omega (arith, ints)); high = (let h = set.prio.high in omega (arith, ints)) };
   cancel = record { low = set.cancel.low; high = set.cancel.high };
 }
@@ -36,11 +36,11 @@ of_thread w t e sound known = at_slot (slot_of w.records t) known
 same_ok : (x y : NewThread) → MayHave y → ◌≡◌ {A = Result NewThread Errno} (Ok x) (Ok y) → MayHave x
 same_ok x y may is = let same : y ≡ x = cc in subst MayHave same may
 
-pub given_values : {S : Type 0} (w : ThreadsBySlot S) (o : Option Attribute) (q : Result NewThread Errno) → IsSound w → q ≡ values_answer (known_of w.records) o → ((x : NewThread) → o ≡ Some (Free x) → AreSet x) → IfOk q MayHave
-given_values w o (Err e) sound is set = tt
-given_values w None (Ok x) sound is set = absurd (cc is)
-given_values w (Some (Free y)) (Ok x) sound is set = same_ok x y (of_object y (set y refl)) is
-given_values w (Some (Bound t)) (Ok x) sound is set = by_thread (known_of w.records t.0) refl is
+pub given_values : {S : Type 0} (top : ℕ) → top ≤ 20 → (w : ThreadsBySlot S) (o : Option Attribute) (q : Result NewThread Errno) → IsSound w → q ≡ values_answer (known_of w.records) o → ((x : NewThread) → o ≡ Some (Free x) → AreSet top x) → IfOk q MayHave
+given_values top most w o (Err e) sound is set = tt
+given_values top most w None (Ok x) sound is set = absurd (cc is)
+given_values top most w (Some (Free y)) (Ok x) sound is set = same_ok x y (of_object top most y (set y refl)) is
+given_values top most w (Some (Bound t)) (Ok x) sound is set = by_thread (known_of w.records t.0) refl is
   where
     by_thread : (k : Option Entry) → known_of w.records t.0 ≡ k → Ok x ≡ (if is_none k then Err ESRCH else ok_or (option_map values_of k) ESRCH) → MayHave x
     by_thread None known h = absurd (cc h)

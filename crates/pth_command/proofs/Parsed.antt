@@ -1,11 +1,11 @@
 -- From a parse of the command to what the words ask for.
-use Rattle.std.proofs.Common.{◌≡◌, ◌∙◌, true, List, [], ◌∷◌, Some, None, ap, ap₂, sym, refl, inl, inr}
+use Rattle.std.proofs.Common.{◌≡◌, ◌∙◌, true, List, [], ◌∷◌, None, ap, ap₂, sym, refl, inl, inr}
 use Rattle.clap.proofs.OnLiterals.{clap_on_literals}
 use Rattle.clap.specs.Words.{App, HasKind, Kinds, Row, Text, fault_of, is_simple, is_simple_and_free, kind_of, matches_of}
 use Rattle.clap.specs.declared.error.Error.{Error}
 use Rattle.clap.specs.declared.error.kind.ErrorKind.TheVariants.{OutOfMemory}
 use Rattle.pth_command.specs.Command.{play}
-use Rattle.pth_command.specs.CommandLine.{Asked, asked_by, asked_in, unless_failed}
+use Rattle.pth_command.specs.CommandLine.{Asked, agreed, asked_by, asked_in, unless_failed}
 
 simple : is_simple play ≡ true
 unfolding clap_on_literals play
@@ -22,10 +22,10 @@ pub is_free : (a : App) → a ≡ play → is_simple_and_free a ≡ true
 is_free a e = ap is_simple_and_free e ∙ free
 
 -- a parse that found these rows
-pub taken : (a : App) (ws : List Text) (rows : List Row) (x : Asked) → a ≡ play → fault_of a ws ≡ [] → rows ≡ matches_of a ws → x ≡ asked_in rows → asked_by ws ≡ Some x
+pub taken : (a : App) (ws : List Text) (rows : List Row) (x : Asked) → a ≡ play → fault_of a ws ≡ [] → rows ≡ matches_of a ws → x ≡ asked_in rows → asked_by ws ≡ agreed x
 unfolding asked_by
 taken a ws rows x e none found is =
-    ap₂ unless_failed (ap (λ (b : App). fault_of b ws) (sym e) ∙ none) (ap (λ (b : App). asked_in (matches_of b ws)) (sym e) ∙ ap asked_in (sym found)) ∙ ap (λ (y : Asked). Some y) (sym is)
+    ap₂ unless_failed (ap (λ (b : App). fault_of b ws) (sym e) ∙ none) (ap (λ (b : App). asked_in (matches_of b ws)) (sym e) ∙ ap asked_in (sym found)) ∙ ap agreed (sym is)
 
 -- and one that failed, and not for want of memory
 pub refused : (a : App) (ws : List Text) (error : Error) → a ≡ play → HasKind (fault_of a ws) error → (kind_of error ≡ OutOfMemory → ⊥) → asked_by ws ≡ None

@@ -1,4 +1,4 @@
--- The command `pth_play [--steps N] [--summary] [FILE]`, as clap's description of it.
+-- The command `pth_play [--steps N] [--summary] [--upgrade] [FILE]`, as clap's description of it.
 use Rattle.std.specs.Prelude.{ℕ, true, [], ◌∷◌, Some, codes}
 use Rattle.pth_base.specs.Limits.{most_steps}
 use Rattle.clap.specs.Words.{App, Rule, Text, new_app, new_rule, with_rule}
@@ -20,9 +20,17 @@ steps_rule = record (new_rule (codes "steps")) {
   defaults = default_text ∷ [];
 }
 
+-- an option that is given or not
+abbrev pub flag_rule : Text → Rule
+flag_rule name = record (new_rule name) { long = Some name; action = Some SetTrue }
+
 -- a line of counts in place of the transcript
 abbrev pub summary_rule : Rule
-summary_rule = record (new_rule (codes "summary")) { long = Some (codes "summary"); action = Some SetTrue }
+summary_rule = flag_rule (codes "summary")
+
+-- the text in version 2 in place of a run
+abbrev pub upgrade_rule : Rule
+upgrade_rule = flag_rule (codes "upgrade")
 
 -- the name that stands for the script
 abbrev pub file_rule : Rule
@@ -34,4 +42,4 @@ bare = let app = new_app (codes "pth_play") in
     record app { top = record app.top { no_binary_name = true; disable_help_flag = true } }
 
 unfoldable pub play : App
-play = with_rule (with_rule (with_rule bare steps_rule) summary_rule) file_rule
+play = with_rule (with_rule (with_rule (with_rule bare steps_rule) summary_rule) upgrade_rule) file_rule

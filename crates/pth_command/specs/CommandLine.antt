@@ -1,5 +1,5 @@
 -- What the words of the command line ask for, by clap's definition of which words a command takes and what they say.
-use Rattle.std.specs.Prelude.{◌≡◌, ℕ, Bool, false, List, [], ◌∷◌, Option, Some, None, codes, option_map, option_and_then, unwrap_or, if◌then◌else◌, Result, Ok, Err}
+use Rattle.std.specs.Prelude.{◌≡◌, ℕ, Bool, false, ◌&&◌, List, [], ◌∷◌, Option, Some, None, codes, option_map, option_and_then, unwrap_or, if◌then◌else◌, Result, Ok, Err}
 use Rattle.std.specs.Option.{option_map_or}
 use Rattle.std.specs.Str.{bytes_eq}
 use Rattle.std.specs.Str.Parse.{digits_value, true_text, without_leading_plus}
@@ -17,6 +17,8 @@ pub record Asked : Type 0 where
   pub steps : ℕ
   -- whether a line of counts stands in place of the transcript
   pub summary : Bool
+  -- whether the text in version 2 is written and nothing is run
+  pub upgrade : Bool
   -- the name that stands for the script
   pub file : Option Text
 
@@ -37,12 +39,17 @@ abbrev pub asked_in : List Row → Asked
 asked_in rows = record {
   steps = unwrap_or (number_under (codes "steps") rows) default_steps;
   summary = is_set (codes "summary") rows;
+  upgrade = is_set (codes "upgrade") rows;
   file = first_of (codes "FILE") rows;
 }
 
+-- nothing if a summary of a run is asked for beside the text in version 2, for which nothing is run
+abbrev pub agreed : Asked → Option Asked
+agreed asked = if asked.upgrade && asked.summary then None else Some asked
+
 -- nothing if a step of the parse fails
 abbrev pub unless_failed : Kinds → Asked → Option Asked
-unless_failed [] asked = Some asked
+unless_failed [] asked = agreed asked
 unless_failed (fault ∷ faults) asked = None
 
 -- what the words ask for; nothing if they are refused
@@ -51,7 +58,7 @@ asked_by words = unless_failed (fault_of play words) (asked_in (matches_of play 
 
 -- a choice as what is asked for
 abbrev pub asked_of : Choice → Asked
-asked_of c = record { steps = c.steps; summary = c.summary; file = option_map (λ name. name.now) c.file }
+asked_of c = record { steps = c.steps; summary = c.summary; upgrade = c.upgrade; file = option_map (λ name. name.now) c.file }
 
 -- the choice is what was asked for, and `Refused` comes exactly if the words are refused, but for want of memory
 abbrev pub Chooses : Option Asked → Result Choice WordsErr → Type 0

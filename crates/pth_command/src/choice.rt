@@ -16,6 +16,8 @@ pub struct Choice<'a> {
     pub steps: u64,
     /// Whether a line of counts stands in place of the transcript (`--summary`).
     pub summary: bool,
+    /// Whether the text in version 2 is written and nothing is run (`--upgrade`).
+    pub upgrade: bool,
     /// The name that stands for the script (FILE), as it was given.
     pub file: Option<&'a str>,
 }
@@ -28,6 +30,7 @@ pub fn found<'a>(matches: &ArgMatches<'a>) -> Choice<'a>
     Choice {
         steps: matches.get_one::<u64>("steps").unwrap_or(DEFAULT_STEPS),
         summary: matches.get_one::<bool>("summary").unwrap_or(false),
+        upgrade: matches.get_one::<bool>("upgrade").unwrap_or(false),
         file: matches.get_str("FILE"),
     }
 }

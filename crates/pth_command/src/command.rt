@@ -2,7 +2,7 @@
 
 ghost use Rattle.std.specs.Prelude.{◌≡◌, IfOk, false};
 ghost use Rattle.clap.specs.Words.{app_of, rule_of};
-ghost use Rattle.pth_command.specs.Command.{bare, file_rule, play, steps_rule, summary_rule};
+ghost use Rattle.pth_command.specs.Command.{bare, file_rule, flag_rule, play, steps_rule};
 
 use clap::{Arg, ArgAction, Command, value_parser};
 use pth_base::limits::MOST_STEPS;
@@ -21,13 +21,12 @@ fn steps<'a>(alloc: Global) -> Arg<'a>
         .default_value(DEFAULT_TEXT)
 }
 
-fn summary<'a>(alloc: Global) -> Arg<'a>
-    ensures rule { rule_of result ≡ summary_rule }
+// An option that is given or not.
+fn flag<'a>(alloc: Global, name: &'a str) -> Arg<'a>
+    ensures rule { rule_of result ≡ flag_rule name.now }
     ensures local { result.global ≡ false }
 {
-    Arg::new(alloc, "summary")
-        .long("summary")
-        .action(ArgAction::SetTrue)
+    Arg::new(alloc, name).long(name).action(ArgAction::SetTrue)
 }
 
 fn file<'a>(alloc: Global) -> Arg<'a>
@@ -46,13 +45,14 @@ fn bare<'a>(alloc: Global) -> Command<'a>
         .disable_help_flag(true)
 }
 
-/// `pth_play [--steps N] [--summary] [FILE]`, with no flags for help and version. It is handed the words after the
+/// `pth_play [--steps N] [--summary] [--upgrade] [FILE]`, with no flags for help and version. It is handed the words after the
 /// program's name.
 pub fn command<'a>(alloc: Global) -> Result<Command<'a>, AllocError>
     ensures { IfOk result (λ c. app_of c ≡ play) }
 {
     bare(alloc)
         .arg(steps(alloc))?
-        .arg(summary(alloc))?
+        .arg(flag(alloc, "summary"))?
+        .arg(flag(alloc, "upgrade"))?
         .arg(file(alloc))
 }

@@ -30,6 +30,9 @@ const MOST_STEPS: u64 = 1000;
 /// How many turns the run has at most.
 const MOST_TURNS: u32 = 100;
 
+/// The greatest base priority.
+const TOP: u8 = 5;
+
 /// The descriptors that are open from the start: 3 alone.
 const OPEN: FdSet = FdSet(8);
 
@@ -188,7 +191,7 @@ fn machine(alloc: Global) -> Result<Machine<Errand>>
     let trace = trace(alloc).map_err(|_| AllocError)?;
     ensure!(trace.first_fault(OPEN).is_none(), "a stamp breaks a rule");
     let kernel = Kernel::new(alloc, 1, OPEN, trace).map_err(|_| AllocError)?;
-    let machine = Machine::new(alloc, Errand, kernel).map_err(|_| AllocError)?;
+    let machine = Machine::new(alloc, Errand, kernel, TOP).map_err(|_| AllocError)?;
     Ok(machine)
 }
 

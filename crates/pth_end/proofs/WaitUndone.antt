@@ -151,7 +151,7 @@ module _ {P S H : Type 0} where
         runs = ap (λ (k : WorldOf P S H). k.scheduler.running) same ∙ second.runs;
         made = elim [
           | Thread ↦ (let e = ap (λ (k : WorldOf P S H). k.threads.records.made) same in omega arith)
-          | Object ↦ (let e = ap (λ (k : WorldOf P S H). k.attributes.made) same in omega arith)
+          | Object ↦ (let e = ap (λ (k : WorldOf P S H). k.attributes.objects.made) same in omega arith)
           | Event ↦ omega arith
           | Port ↦ (let e = ap (λ (k : WorldOf P S H). k.store.ports.made) same in omega arith)
         ];

@@ -45,7 +45,7 @@ use Rattle.pth_ring.specs.Ring.{head_event, rest_of}
 use Rattle.pth_ring.specs.Rings.{Events, event_id, make_answer, chain_answer, unless, ring_refusal, concat_refusal, alone, chained, concatenated, isolated, freed, ring_freed}
 use Rattle.pth_store.specs.Cleanups.{PushedHandler}
 use Rattle.pth_store.specs.Keys.{key_limit}
-use Rattle.pth_threads.specs.Attributes.{IsSetPrio, first_values, least_priority, with_value, change_of, is_gone, is_fixed, is_in_range, set_answer, top_priority}
+use Rattle.pth_threads.specs.Attributes.{IsSetPrio, first_values, least_priority, with_value, change_of, is_gone, is_fixed, is_in_range, set_answer}
 use Rattle.pth_threads.specs.Threads.{changed}
 use Rattle.pth_threads.specs.declared.attribute.Attribute.{Attribute}
 use Rattle.pth_threads.specs.declared.attribute.Attribute.TheVariants.{Free, Bound}
@@ -105,9 +105,9 @@ use Rattle.pth_laws.proofs.Rounds.{HasFewer, HasOthers, HasAll, fewer_same, fewe
 use Rattle.pth_laws.proofs.Allowed.{IsFree, IsTaking, IsToTell, unawaited, takes_room, MayWait, IsAllowed, IsAllowedAgain, StaysAt, HasLeft, HasLeftSeat, unseated, unseated_again, is_blocking, await_allowed, allowed, allowed_again, stays_again, left_again, left_ended, stopped_free}
 
 -- a change of a record that leaves its base priority in its range
-abbrev pub IsPrioSafe : change_of_record.Change → Type 0
-IsPrioSafe (change.Prio prio) = IsSetPrio prio
-IsPrioSafe c = Unit {0}
+abbrev pub IsPrioSafe : ℕ → change_of_record.Change → Type 0
+IsPrioSafe top (change.Prio prio) = IsSetPrio top prio
+IsPrioSafe top c = Unit {0}
 
 -- a thread dies once no call blocks it
 abbrev pub IsLifeSafe : {P S H : Type 0} → ℕ → change_of_record.Change → State P S H → Type 0
@@ -185,8 +185,8 @@ KeepsPlaces {P = P} {S = S} {H = H} true R = (standing : Queue → List Standing
 KeepsPlaces {P = P} {S = S} {H = H} false R = (standing : Queue → List Standing) (entries raises : ℕ) (s : State P S H) → MayStand standing s → R s → R (controlled (with_threads (λ x. record x { standing = standing; entries = entries; raises = raises })) s)
 
 abbrev pub KeepsRecords : {P S H : Type 0} → (all : Bool) → (State P S H → Type 0) → Type 0
-KeepsRecords {P = P} {S = S} {H = H} true R = (t : ℕ) (c : change_of_record.Change) (s : State P S H) → IsPrioSafe c → IsLifeSafe t c s → R s → R (controlled (sets t c) s)
-KeepsRecords {P = P} {S = S} {H = H} false R = (t : ℕ) (c : change_of_record.Change) (s : State P S H) → IsPrioSafe c → IsStepSafe t c s → R s → R (controlled (sets t c) s)
+KeepsRecords {P = P} {S = S} {H = H} true R = (t : ℕ) (c : change_of_record.Change) (s : State P S H) → IsPrioSafe s.control.top c → IsLifeSafe t c s → R s → R (controlled (sets t c) s)
+KeepsRecords {P = P} {S = S} {H = H} false R = (t : ℕ) (c : change_of_record.Change) (s : State P S H) → IsPrioSafe s.control.top c → IsStepSafe t c s → R s → R (controlled (sets t c) s)
 
 abbrev pub KeepsLooks : {P S H : Type 0} → (all : Bool) → (P → Functions S H) → (State P S H → Type 0) → Type 0
 KeepsLooks {P = P} {S = S} {H = H} true f R = (s : State P S H) → R s → R (controlled (looks f s) s)
@@ -208,7 +208,7 @@ pub record Kept {P S H : Type 0} (all : Bool) (f : P → Functions S H) (R : Sta
   pub added : (s : State P S H) → R s → R (controlled (adds_object (Free first_values)) s)
   pub bound : (t : Tid) (s : State P S H) → R s → R (controlled (adds_object (Bound t)) s)
   pub renewed : (n : ℕ) (s : State P S H) → R s → R (controlled (puts_object n (Some (Free first_values))) s)
-  pub valued : (a : ℤ) (v : AttrValue) (x : NewThread) (s : State P S H) → object s.control a ≡ Some (Free x) → is_in_range v ≡ true → R s → R (controlled (puts_object (number a) (Some (Free (with_value v x)))) s)
+  pub valued : (a : ℤ) (v : AttrValue) (x : NewThread) (s : State P S H) → object s.control a ≡ Some (Free x) → is_in_range s.control.top v ≡ true → R s → R (controlled (puts_object (number a) (Some (Free (with_value v x)))) s)
   pub destroyed : (n : ℕ) (s : State P S H) → R s → R (controlled (puts_object n None) s)
   -- events, and looks at them
   pub arranges : (x : Arrangement) (s : State P S H) → MayArrange s.control.events x → R s → R (controlled (with_events (arranged x)) s)
@@ -301,8 +301,8 @@ no_refusal None x v h = refl
 no_refusal (Some e) x v h = absurd (true_false h)
 
 -- a value that is set is in its range
-set_passes : (known : ℕ → Option Entry) (o : Option Attribute) (v : AttrValue) → refuses (by_result done (set_answer known o v)) ≡ false → is_in_range v ≡ true
-set_passes known o v h = by_tests (is_none o) (is_gone known o) (is_fixed v) (is_in_range v) h
+set_passes : (top : ℕ) (known : ℕ → Option Entry) (o : Option Attribute) (v : AttrValue) → refuses (by_result done (set_answer top known o v)) ≡ false → is_in_range top v ≡ true
+set_passes top known o v h = by_tests (is_none o) (is_gone known o) (is_fixed v) (is_in_range top v) h
   where
     by_tests : (none gone fixed inside : Bool) → refuses (by_result done (if none then Err EINVAL else (if gone then Err ESRCH else (if fixed then Err EPERM else (if not inside then Err EINVAL else Ok tt))))) ≡ false → inside ≡ true
     by_tests true gone fixed inside h = absurd (true_false h)
@@ -317,8 +317,8 @@ init_passes false there h = absurd (true_false h)
 init_passes true true h = absurd (true_false h)
 init_passes true false h = refl
 
-pub prio_in_range : (n : ℤ) → (n is_from least_priority to top_priority) ≡ true → IsSetPrio n
-prio_in_range n h = record { low = grind (arith, ints); high = grind (arith, ints) }
+pub prio_in_range : (top : ℕ) (n : ℤ) → (n is_from least_priority top to pos top) ≡ true → IsSetPrio top n
+prio_in_range top n h = record { low = grind (arith, ints); high = grind (arith, ints) }
 
 -- ---- handlers, and what is given up: only the program's shared value and seats of conditions change, and marks are told
 
@@ -494,18 +494,18 @@ module _ {P S H : Type 0} (f : P → Functions S H) (R : State P S H → Type 0)
   removes_keeps : (t : ℕ) (s : State P S H) → IsGone t s → R s → R (controlled (removes t) s)
   removes_keeps t s gone r = kept.forgotten t (controlled (leaves_queue t) s) (leaves_gone t s gone) (leaves_queue_keeps t s r)
 
-  moved_keeps : (t : ℕ) (c : change_of_record.Change) (q : Queue) (rank : ℤ) (top : Bool) → IsPrioSafe c → ((s : State P S H) → IsStepSafe t c s) → (s : State P S H) → (is_queue Waiting q ≡ true → state_of (controlled (sets t c) (controlled (leaves_queue t) s)) t ≡ state.Waiting) → R s → R (controlled (λ k. enters t q rank top (sets t c (leaves_queue t k))) s)
+  moved_keeps : (t : ℕ) (c : change_of_record.Change) (q : Queue) (rank : ℤ) (top : Bool) → ((s : State P S H) → IsPrioSafe s.control.top c) → ((s : State P S H) → IsStepSafe t c s) → (s : State P S H) → (is_queue Waiting q ≡ true → state_of (controlled (sets t c) (controlled (leaves_queue t) s)) t ≡ state.Waiting) → R s → R (controlled (λ k. enters t q rank top (sets t c (leaves_queue t k))) s)
   moved_keeps t c q rank top safe life s waits r =
       let a = controlled (leaves_queue t) s in
-      enters_keeps t q rank top (controlled (sets t c) a) waits (kept.set t c a safe (life a) (leaves_queue_keeps t s r))
+      enters_keeps t q rank top (controlled (sets t c) a) waits (kept.set t c a (safe a) (life a) (leaves_queue_keeps t s r))
 
   suspends_keeps : (t : ℕ) → Stays (suspends t)
   unfolding suspends
-  suspends_keeps t s r = moved_keeps t (change.Suspended true) Suspended (pos 0) false tt (λ a. tt) s (λ odd. absurd (true_false (sym odd))) r
+  suspends_keeps t s r = moved_keeps t (change.Suspended true) Suspended (pos 0) false (λ a. tt) (λ a. tt) s (λ odd. absurd (true_false (sym odd))) r
 
   returns_keeps : (t : ℕ) (q : Option Queue) (s : State P S H) → queue_for (state_of s t) ≡ q → R s → R (controlled (returns_to t q) s)
   returns_keeps t None s same r = r
-  returns_keeps t (Some q) s same r = moved_keeps t (change.Suspended false) q (pos 0) false tt (λ a. tt) s (λ h. still s ∙ waiting_queue (state_of s t) q same h) r
+  returns_keeps t (Some q) s same r = moved_keeps t (change.Suspended false) q (pos 0) false (λ a. tt) (λ a. tt) s (λ h. still s ∙ waiting_queue (state_of s t) q same h) r
     where
       still : (s : State P S H) → state_of (controlled (sets t (change.Suspended false)) (controlled (leaves_queue t) s)) t ≡ state_of s t
       still s = returned_state t s
@@ -516,7 +516,7 @@ module _ {P S H : Type 0} (f : P → Functions S H) (R : State P S H → Type 0)
 
   ready_keeps : (t : ℕ) (rank : ℤ) (top : Bool) → Stays (is_ready_at t rank top)
   unfolding is_ready_at
-  ready_keeps t rank top s r = moved_keeps t (change.State state.Ready) Ready rank top tt (λ a. tt) s (λ odd. absurd (true_false (sym odd))) r
+  ready_keeps t rank top s r = moved_keeps t (change.State state.Ready) Ready rank top (λ a. tt) (λ a. tt) s (λ odd. absurd (true_false (sym odd))) r
 
   dead_keeps : (t : ℕ) (v : ℤ) (s : State P S H) → IsFree t s → R s → R (controlled (is_dead_with t v) s)
   unfolding is_dead_with
@@ -633,14 +633,14 @@ module _ {P S H : Type 0} (f : P → Functions S H) (R : State P S H → Type 0)
     ctrl_keeps s x r = r
 
     -- a value is set in an object, or in a thread
-    fields_keep : (s : State P S H) (u : ℕ) (v : AttrValue) → is_in_range v ≡ true → KeepsAt s (changes (sets_field u (change_of v)))
-    fields_keep s u (value.Prio n) inside r = kept.set u (change.Prio n) s (prio_in_range n inside) tt r
+    fields_keep : (s : State P S H) (u : ℕ) (v : AttrValue) → is_in_range s.control.top v ≡ true → KeepsAt s (changes (sets_field u (change_of v)))
+    fields_keep s u (value.Prio n) inside r = kept.set u (change.Prio n) s (prio_in_range s.control.top n inside) tt r
     fields_keep s u (value.Name name) inside r = kept.set u (change.Name name) s tt tt r
     fields_keep s u (value.Joinable n) inside r = kept.set u (change.Joinable (n is 1)) s tt tt r
     fields_keep s u (value.Cancel n) inside r = kept.set u (change.Cancel (number n)) s tt tt r
     fields_keep s u v inside r = r
 
-    values_keep : (s : State P S H) (a : ℤ) (v : AttrValue) (o : Option Attribute) → object s.control a ≡ o → is_in_range v ≡ true → KeepsAt s (changes (sets_value a v o))
+    values_keep : (s : State P S H) (a : ℤ) (v : AttrValue) (o : Option Attribute) → object s.control a ≡ o → is_in_range s.control.top v ≡ true → KeepsAt s (changes (sets_value a v o))
     values_keep s a v None same inside r = r
     values_keep s a v (Some (Free x)) same inside r = kept.valued a v x s same inside r
     values_keep s a v (Some (Bound u)) same inside r = fields_keep s u.0 v inside r
@@ -704,7 +704,7 @@ module _ {P S H : Type 0} (f : P → Functions S H) (R : State P S H → Type 0)
     does_keeps s call.AttrNew free sound other e r = kept.added s r
     does_keeps s (call.AttrOf n) free sound other e r = kept.bound (tid (number n)) s r
     does_keeps s (call.AttrInit a) free sound other e r = kept.renewed (number a) s r
-    does_keeps s (call.AttrSet a v) free sound other e r = values_keep s a v (object s.control a) refl (set_passes s.control.threads.known (object s.control a) v e) r
+    does_keeps s (call.AttrSet a v) free sound other e r = values_keep s a v (object s.control a) refl (set_passes s.control.top s.control.threads.known (object s.control a) v e) r
     does_keeps s (call.AttrDestroy a) free sound other e r = kept.destroyed (number a) s r
     does_keeps s (call.Spawn b v a) free sound other e r = spawns_keep t (number b) v a s sound.next r
     does_keeps s (call.Suspend n) free sound other e r = suspends_keeps (number n) s r

@@ -6,9 +6,9 @@ use Rattle.pth_threads.specs.declared.entry.Entry.{Entry}
 use Rattle.pth_threads.specs.declared.entry.NewThread.{NewThread}
 use Rattle.pth_model.specs.State.{State}
 
--- each base priority is one that can be set
-pub record HasBasePriorities {P S H : Type 0} (s : State P S H) : Type 0 where
+-- each base priority is one that can be set: from -N to N
+pub record HasBasePriorities {P S H : Type 0} (top : ℕ) (s : State P S H) : Type 0 where
   -- that of a thread in the system
-  pub threads : (t : ℕ) (e : Entry) → s.control.threads.known t ≡ Some e → IsSetPrio e.prio
+  pub threads : (t : ℕ) (e : Entry) → s.control.threads.known t ≡ Some e → IsSetPrio top e.prio
   -- that of an attribute object with values of its own: one that is bound has its thread's
-  pub objects : (n : ℕ) (x : NewThread) → s.control.attributes.objects n ≡ Some (Free x) → IsSetPrio x.prio
+  pub objects : (n : ℕ) (x : NewThread) → s.control.attributes.objects n ≡ Some (Free x) → IsSetPrio top x.prio

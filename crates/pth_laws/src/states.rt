@@ -13,10 +13,10 @@ ghost use Rattle.pth_laws.specs.Waits.{AllAskNoMore, AllWaitRightly};
 
 use pth_base::program::Program;
 
-/// In each state of a run every base priority is from -5 to 5: that of each thread in the system, and that of each attribute object,
-/// as the first ones are, and as `pth_attr_set`, `pth_attr_init` and `pth_spawn` leave them.
+/// In each state of a run every base priority is from -N to N, with the N that the run is given: that of each thread in the system, and
+/// that of each attribute object, as the first ones are, and as `pth_attr_set`, `pth_attr_init` and `pth_spawn` leave them.
 pub fn every_run_keeps_base_priorities<P: Program>()
-    ensures { (g : Given P) (i : ℕ) → HasBasePriorities (run P.functions g i).state }
+    ensures { (g : Given P) (i : ℕ) → HasBasePriorities g.top (run P.functions g i).state }
 {}
 
 /// Who is blocked by a call that was given an event has the claim on its ring, until the call is answered, takes its mutex back after

@@ -76,21 +76,21 @@ at_most : (raises : ℕ) (x y : Standing) → StandsBefore raises x y → rank_n
 at_most raises x y (inl above) = omega (arith, ints, above)
 at_most raises x y (inr same) = let e = same.0 in omega (arith, ints, e)
 
-top_by : (raises : ℕ) (xs : List Standing) → AllPairs (StandsBefore raises) xs → All (λ y. rank_now raises y <ℤ favour_top (map (row_at raises) xs)) xs
-top_by raises [] p = All-nil (λ y. rank_now raises y <ℤ pos 5)
-top_by raises (x ∷ xs) p =
+top_by : (top raises : ℕ) (xs : List Standing) → AllPairs (StandsBefore raises) xs → All (λ y. rank_now raises y <ℤ favour_top top (map (row_at raises) xs)) xs
+top_by top raises [] p = All-nil (λ y. rank_now raises y <ℤ pos top)
+top_by top raises (x ∷ xs) p =
     let Below : Standing → Type 0 = λ y. rank_now raises y <ℤ (rank_now raises x +ℤ pos 1) in
     All-cons Below x xs (omega (arith, ints)) (All-weaker (StandsBefore raises x) Below (at_most raises x) xs (pairs-head (StandsBefore raises) x xs p))
 
 -- a queue's top is above all that stand there
-pub top_above : (raises : ℕ) (all : List Standing) → AllPairs Follows all → All (λ y. height y <ℤ (favour_top (shown raises all) -ℤ pos raises)) all
+pub top_above : (greatest raises : ℕ) (all : List Standing) → AllPairs Follows all → All (λ y. height y <ℤ (favour_top greatest (shown raises all) -ℤ pos raises)) all
 unfolding shown
-top_above raises all follows =
+top_above greatest raises all follows =
     let Later : Standing → Standing → Type 0 = λ x y. y.entry < x.entry in
-    let top = favour_top (map (row_at raises) (order all)) in
+    let top = favour_top greatest (map (row_at raises) (order all)) in
     let Below : Standing → Type 0 = λ y. rank_now raises y <ℤ top in
     let falling : AllPairs Later all = λ i j d less low. (follows i j d less low).later in
-    let below : All Below all = All-permutation Below (order all) all (IsPermutation-sym _ _ (same-order all)) (top_by raises (order all) (sorted-order raises all falling)) in
+    let below : All Below all = All-permutation Below (order all) all (IsPermutation-sym _ _ (same-order all)) (top_by greatest raises (order all) (sorted-order raises all falling)) in
     All-weaker Below (λ y. height y <ℤ (top -ℤ pos raises)) (λ y h. less_raised raises y top h) all below
   where
     less_raised : (raises : ℕ) (y : Standing) (top : ℤ) → rank_now raises y <ℤ top → height y <ℤ (top -ℤ pos raises)

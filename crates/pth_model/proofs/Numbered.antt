@@ -48,8 +48,8 @@ module _ {P S H : Type 0} (Meant : Standing → Type 0) where
       (λ e. All-filter (λ x. not (x.tid == t)) (λ y. height y <ℤ (rank -ℤ pos s.threads.raises)) (s.threads.standing Ready) (above e))
       (kept_leave Meant s t k)
 
-  kept_new : (s : Control P S H) (t : ℕ) (b : Bool) → ((x : Standing) → x.tid ≡ t → x.top ≡ b → Meant x) → Kept Meant s → Kept Meant (is_ready_at t (if b then favour_top (queue s Ready) else pos 0) b s)
-  kept_new s t true meant k = kept_ready s t (favour_top (queue s Ready)) true meant (λ e. top_above s.threads.raises (s.threads.standing Ready) (k.listed Ready).follows) k
+  kept_new : (s : Control P S H) (t : ℕ) (b : Bool) → ((x : Standing) → x.tid ≡ t → x.top ≡ b → Meant x) → Kept Meant s → Kept Meant (is_ready_at t (if b then favour_top s.top (queue s Ready) else pos 0) b s)
+  kept_new s t true meant k = kept_ready s t (favour_top s.top (queue s Ready)) true meant (λ e. top_above s.top s.threads.raises (s.threads.standing Ready) (k.listed Ready).follows) k
   kept_new s t false meant k = kept_ready s t (pos 0) false meant not_top k
 
   kept_readies : (ts : List ℕ) (s : Control P S H) → All (MeansNew Meant s.scheduler.favour_new) ts → Kept Meant s → Kept Meant (readies_all ts s)

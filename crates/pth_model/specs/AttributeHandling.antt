@@ -65,7 +65,7 @@ module _ {P S H : Type 0} (s : State P S H) where
   -- pth_attr_set: a field of an object is set, or of the thread to which it is bound
   abbrev pub attr_set : ℤ → AttrValue → Row P S H
   attr_set a v =
-      by_result done (set_answer s.control.threads.known (object s.control a) v)
+      by_result done (set_answer s.control.top s.control.threads.known (object s.control a) v)
       changing sets_value a v (object s.control a)
 
   -- pth_attr_get: a field is read

@@ -30,7 +30,7 @@ call_at (suc b) n = Exit (pos 9)
 
 -- a program of no note, and a kernel to whose descriptors nothing comes
 abbrev pub given : Given ℕ
-given = record { program = 0; kernel = started 1 0 [] }
+given = record { program = 0; kernel = started 1 0 []; top = 5 }
 
 -- the program, whose shared value is nothing of note
 abbrev pub two_bodies : ℕ → Functions Place ℕ
@@ -139,7 +139,7 @@ waiting_marks =
 
 -- one byte comes to descriptor 3, which is open from the start
 abbrev pub given_a_byte : Given ℕ
-given_a_byte = record { program = 0; kernel = started 1 8 (record { at = 5; fd = record { 0 = 3 }; what = Arrive (97 ∷ []) } ∷ []) }
+given_a_byte = record { program = 0; kernel = started 1 8 (record { at = 5; fd = record { 0 = 3 }; what = Arrive (97 ∷ []) } ∷ []); top = 5 }
 
 abbrev pub reading_call_at : ℕ → Call
 reading_call_at zero = Read (pos 3) (pos 10)

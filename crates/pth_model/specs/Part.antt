@@ -74,7 +74,7 @@ module _ {P S H : Type 0} where
 
   -- at Top, one above the head of the ready queue, where new threads are favoured, and at rank 0 where they are not
   abbrev pub new_rank : Control P S H → ℤ
-  new_rank k = if k.scheduler.favour_new then favour_top (queue k queue.Ready) else pos 0
+  new_rank k = if k.scheduler.favour_new then favour_top k.top (queue k queue.Ready) else pos 0
 
   unfoldable pub readies : ℕ → Change P S H
   readies t k = is_ready_at t (new_rank k) k.scheduler.favour_new k

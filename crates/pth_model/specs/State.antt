@@ -54,7 +54,7 @@ pub record Scheduler : Type 0 where
 
 -- what calls change: the program's shared value, the threads, their attribute objects, events and rings of them (pth_event_t),
 -- the conditions (pth_cond_t), the barriers (pth_barrier_t), the kernel with its descriptors, the once controls that were used
--- (pth_once_t), and what the scheduler keeps
+-- (pth_once_t), and what the scheduler keeps; and what none changes, the greatest base priority
 pub record Control (P S H : Type 0) : Type 0 where
   pub program : P
   pub shared : H
@@ -66,6 +66,7 @@ pub record Control (P S H : Type 0) : Type 0 where
   pub kernel : Kernel
   pub used : ℕ → Bool
   pub scheduler : Scheduler
+  pub top : ℕ
 
 pub record State (P S H : Type 0) : Type 0 where
   pub resources : Resources
@@ -130,10 +131,11 @@ abbrev pub main_standing : Queue → List Standing
 main_standing Ready = record { tid = main; rank = pos 0; since = 0; entry = 0; top = false } ∷ []
 main_standing q = []
 
--- what a run is given
+-- what a run is given: base priorities go from -top to top
 pub record Given (P : Type 0) : Type 0 where
   pub program : P
   pub kernel : Kernel
+  pub top : ℕ
 
 -- the state from which a run starts: main alone, ready at rank 0, at the moment of the kernel
 unfoldable pub start : {P S H : Type 0} → (P → Functions S H) → Given P → State P S H
@@ -157,6 +159,7 @@ start f g = record {
     kernel = g.kernel;
     used = λ o. false;
     scheduler = record { running = None; preferred = None; favour_new = true };
+    top = g.top;
   };
 }
 

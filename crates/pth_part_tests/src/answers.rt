@@ -36,7 +36,7 @@ fn calls_of<P: Program>(alloc: Global, program: &P, answer: &Answer) -> Result<M
 
 /// Compares the calls of a thread whose first call has this answer.
 fn is_kept(rt: &impl Abort, alloc: Global, answer: &Answer, wanted: &str) -> Result<(), Fail> {
-    let (script, _) = read(alloc, SCRIPT.as_bytes())?;
+    let (script, _, _) = read(alloc, SCRIPT.as_bytes())?;
     let marks = calls_of(alloc, &script, answer)?;
     let lines = lines_of(alloc, marks.as_slice())?;
     same_bytes(rt, lines.as_slice(), wanted);

@@ -34,7 +34,7 @@ fn holding(alloc: Global, script: &Script) -> Result<String, AllocError> {
 
 #[test]
 fn a_check_holds_by_its_relation(rt: HostRuntime) -> Result<(), Fail> {
-    let (script, _) = read(rt.alloc(), CHECKS.as_bytes())?;
+    let (script, _, _) = read(rt.alloc(), CHECKS.as_bytes())?;
     let text = holding(rt.alloc(), &script)?;
     same_text(
         &rt,

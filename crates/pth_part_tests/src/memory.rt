@@ -19,6 +19,8 @@ use pth_lock::mutexes::Mutexes;
 use pth_lock::rwlocks::RwLocks;
 use pth_port::ports::Ports;
 use pth_ring::rings::Rings;
+use pth_script::read::ReadErr;
+use pth_script::upgrade::upgrade;
 use pth_store::cleanups::Cleanups;
 use pth_store::keys::Keys;
 use pth_text::hex::read_hex;
@@ -52,6 +54,11 @@ fn read_text(alloc: Global) -> Result<(), OutOfMemory> {
     let _words = words(alloc, b"a b")?;
     let _bytes = read_hex(alloc, b"00ff")?;
     Ok(())
+}
+
+/// A script's text in version 2.
+fn upgrade_text(alloc: Global) -> Result<Bytes, ReadErr> {
+    upgrade(alloc, b"pth 1\nthread 0\nend\n")
 }
 
 fn make_events(alloc: Global) -> Result<(), Refusal> {
@@ -117,7 +124,7 @@ fn add_thread(rt: &impl Abort, threads: &mut Threads) -> Result<(), AddErr> {
 }
 
 fn make_object(alloc: Global, threads: &Threads) -> Result<(), Refusal> {
-    let mut attrs = Attrs::new(alloc);
+    let mut attrs = Attrs::new(alloc, 20);
     attrs.of(Tid(1), threads)?;
     Ok(())
 }
@@ -160,7 +167,7 @@ fn take_memory(rt: &impl Abort, alloc: Global) -> Result<(), Fail> {
 fn memory_is_taken(rt: HostRuntime) -> Result<(), Fail> {
     take_memory(&rt, rt.alloc())?;
     assert!(rt; make_events(rt.alloc()).is_ok() && store(rt.alloc()).is_ok());
-    assert!(rt; make_barrier(rt.alloc()).is_ok());
+    assert!(rt; make_barrier(rt.alloc()).is_ok() && upgrade_text(rt.alloc()).is_ok());
     assert!(rt; send_message(&rt, rt.alloc()).is_ok());
     Ok(())
 }

@@ -13,6 +13,9 @@ use std::alloc::{AllocError, Global};
 use std::process::Abort;
 use std::test::Fail;
 
+/// The greatest base priority.
+const TOP: u8 = 20;
+
 /// What is done to queues. Each change tests first what its call requires.
 #[derive(Clone, Copy)]
 enum Turn {
@@ -61,7 +64,7 @@ fn change(rt: &impl Abort, set: &mut QueueSet, turn: Turn) -> Result<(), OutOfMe
 
 /// Queues after these changes.
 fn queues_after(rt: &impl Abort, alloc: Global, turns: &[Turn]) -> Result<QueueSet, OutOfMemory> {
-    let mut set = QueueSet::new(alloc);
+    let mut set = QueueSet::new(alloc, TOP);
     for turn in turns {
         change(rt, &mut set, *turn)?;
     }
@@ -119,7 +122,7 @@ fn tell_nodes(text: &mut String, set: &QueueSet) -> Result<(), AllocError> {
 }
 
 /// Changes of the ready queue, and how it stands after them.
-static ROWS: [(&[Turn], &str); 5] = [
+static ROWS: [(&[Turn], &str); 6] = [
     // gaps are distances of ranks
     (
         &[
@@ -166,6 +169,11 @@ static ROWS: [(&[Turn], &str); 5] = [
             First(Queue::Ready),
         ],
         "1 at 5 0, to 1 below 6; -, 1 1 5, -, ",
+    ),
+    // above a queue that has become empty stands the greatest base priority
+    (
+        &[Enter(Queue::Ready, 6, 0), First(Queue::Ready)],
+        "to -1 below 20; -, -, -, ",
     ),
 ];
 

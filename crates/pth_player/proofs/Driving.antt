@@ -196,7 +196,7 @@ module _ {P S H : Type 0} (f : P → Functions S H) (g : Given P) (asked : Asked
     )
 
     module _ (c : Option (List ℕ)) (i j k : ℕ) where
-      cut_in_lines_by : (pending : List Mark) (x : SinkErr) → Underway m a b pending → j ≡ i → WritesPiece (received b j) (received c k) (shown_of asked pending) (Err x) → Drives f g asked (received a i) (received c k) (Err x)
+      cut_in_lines_by : (pending : List Mark) (x : SinkErr) → Underway m a b pending → j ≡ i → WritesPiece {T = Unit {0}} (received b j) (received c k) (shown_of asked pending) (Err x) → Drives f g asked (received a i) (received c k) (Err x)
       cut_in_lines_by pending sink.Failed u stood w = (
         whole,
         whole_is,
@@ -211,7 +211,7 @@ module _ {P S H : Type 0} (f : P → Functions S H) (g : Given P) (asked : Asked
       )
 
       -- the lines of the last marks were not written whole
-      pub cut_in_lines : (pending : List Mark) (x : SinkErr) (r : Result Outcome SinkErr) → Underway m a b pending → j ≡ i → WritesPiece (received b j) (received c k) (shown_of asked pending) (Err x)
+      pub cut_in_lines : (pending : List Mark) (x : SinkErr) (r : Result Outcome SinkErr) → Underway m a b pending → j ≡ i → WritesPiece {T = Unit {0}} (received b j) (received c k) (shown_of asked pending) (Err x)
           → IsErr r → IsErrAnd r (λ e. e ≡ x) → Drives f g asked (received a i) (received c k) r
       cut_in_lines pending x r u stood w is e = subst (Drives f g asked (received a i) (received c k)) (sym (err_is r x is e)) (cut_in_lines_by pending x u stood w)
 
@@ -240,7 +240,7 @@ module _ {P S H : Type 0} (f : P → Functions S H) (g : Given P) (asked : Asked
         cut_is : shown_of asked s.0.done ++ (ending_of asked last ++ []) ≡ out.text
         cut_is = ap (λ (l : List ℕ). shown_of asked s.0.done ++ l) (append-nil (ending_of asked last)) ∙ text_is
 
-        cut_in_end_by : (x : SinkErr) → j ≡ i → WritesPiece (received b j) (received c k) (ending_of asked last) (Err x) → Drives f g asked (received a i) (received c k) (Err x)
+        cut_in_end_by : (x : SinkErr) → j ≡ i → WritesPiece {T = Unit {0}} (received b j) (received c k) (ending_of asked last) (Err x) → Drives f g asked (received a i) (received c k) (Err x)
         cut_in_end_by sink.Failed stood w = (
           out,
           out_is,

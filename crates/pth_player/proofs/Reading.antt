@@ -10,14 +10,14 @@ use Rattle.pth_print.specs.declared.fault_line.Fault.{Fault}
 use Rattle.pth_print.specs.declared.fault_line.Fault.TheVariants as fault
 use Rattle.pth_kernel.specs.Kernel.{KernelOf}
 use Rattle.pth_line.specs.Script.{Sections}
-use Rattle.pth_script.specs.Follows.{IsReadAs}
+use Rattle.pth_script.specs.Follows.{IsReadAs, IsRefusedAs}
+use Rattle.pth_script.specs.Upgrade.{IsUpgradedAs}
 use Rattle.pth_text.specs.declared.rule.Breach.TheVariants.{Limit, Of}
 use Rattle.pth_player.specs.FaultsOfErrors.{fault_of_read, fault_of_script}
 use Rattle.pth_player.specs.Objects.{AreHeld, Inputs, LosesRead, Object, ObjectCounts, ObjectRead, ObjectStood, cut, nothing, object_named, the_file, the_input}
-use Rattle.pth_player.specs.Output.{IsTheScript, given_script}
 use Rattle.pth_script.specs.Broken.{IsRefusal}
 use Rattle.pth_script.specs.Limits.{text_limit}
-use Rattle.pth_player.specs.Play.{ReadsBytes, ReadsScript}
+use Rattle.pth_player.specs.Play.{IsRead, IsUpgrade, Reads, ReadsBytes}
 use Rattle.pth_player.specs.Streams.{CountsRead, TakesUpTo}
 use Rattle.pth_player.specs.declared.streams.ReadFault.{ReadFault}
 use Rattle.pth_player.specs.declared.streams.ReadFault.TheVariants as read
@@ -104,24 +104,34 @@ pub names_none : (o : Option (Bor (List ℕ))) → ((name : Bor (List ℕ)) → 
 names_none None none = refl
 names_none (Some name) none = absurd (none name refl)
 
-module _ (object : Object) (old new : Inputs) (bytes seen : List ℕ) (s : Result (Sections × KernelOf) Fault) where
-  -- what is answered of the bytes is answered of the object
-  pub read_is : (r : Result (Sections × KernelOf) ReadErr) → ReadsBytes object old new bytes → seen ≡ bytes → IsReadAs seen r
-      → MatchResult r (λ x. s ≡ Ok x) (λ e. IsErrAnd s (λ f. f ≡ fault_of_script e)) → ReadsScript object old new s
-  read_is (Ok script) h same a m = subst (ReadsScript object old new) (sym m) (h.0, (h.1.0, h.1.1, subst (IsTheScript (given_script script)) (same ∙ h.1.2) a))
-  read_is (Err (script.Refused line r)) h same a m = subst (ReadsScript object old new) (sym (err_and s (fault_of_script (script.Refused line r)) m))
-      (h.0, (h.1.0, h.1.1, subst (λ t. IsRefusal t line (Of r)) (same ∙ h.1.2) a))
-  read_is (Err (script.TooLarge line)) h same a m = subst (ReadsScript object old new) (sym (err_and s (fault_of_script (script.TooLarge line)) m))
-      (h.0, (h.1.0, h.1.1, subst (λ t. IsRefusal t line Limit) (same ∙ h.1.2) a))
-  read_is (Err script.OutOfMemory) h same a m = subst (ReadsScript object old new) (sym (err_and s fault.OutOfMemory m)) (read_stood object old new h.0)
+-- what was read of the bytes, or why they are refused
+pub as_read : (text : List ℕ) (r : Result (Sections × KernelOf × ℕ) ReadErr) → IsReadAs text r → MatchResult r (λ read. IsRead read text) (IsRefusedAs text)
+as_read text (Ok read) h = h
+as_read text (Err e) h = h
 
--- memory ran out while the bytes were read, or the read failed
-unread_by : (object : Object) (old new : Inputs) (r : Result (Vec ℕ Global) ReadFault) (s : Result (Vec ℕ Global) Fault) (e : Fault) → ObjectCounts object old new r
-    → MatchResult r (λ v. s ≡ Ok v) (λ x. IsErrAnd s (λ y. y ≡ fault_of_read x)) → s ≡ Err e → ReadsScript object old new (Err e)
-unread_by object old new (Ok v) s e counts m is = absurd (ok_not_err s v e m is)
-unread_by object old new (Err read.Failed) s e counts m is = subst (λ f. ReadsScript object old new (Err f)) (sym (subst (λ t. IsErrAnd t (λ y. y ≡ fault.ReadFault)) is m)) counts
-unread_by object old new (Err read.OutOfMemory) s e counts m is = subst (λ f. ReadsScript object old new (Err f)) (sym (subst (λ t. IsErrAnd t (λ y. y ≡ fault.OutOfMemory)) is m)) counts
+pub as_upgraded : (text : List ℕ) (r : Result (List ℕ) ReadErr) → IsUpgradedAs text r → MatchResult r (λ new. IsUpgrade new text) (IsRefusedAs text)
+as_upgraded text (Ok new) h = h
+as_upgraded text (Err e) h = h
 
-pub unread_is : (object : Object) (old new : Inputs) (r : Result (Vec ℕ Global) ReadFault) (s : Result (Vec ℕ Global) Fault) (e : Fault) (t : Result (Sections × KernelOf) Fault) → ObjectCounts object old new r
-    → MatchResult r (λ v. s ≡ Ok v) (λ x. IsErrAnd s (λ y. y ≡ fault_of_read x)) → s ≡ Err e → IsErr t → IsErrAnd t (λ y. y ≡ e) → ReadsScript object old new t
-unread_is object old new r s e t counts m is h k = subst (ReadsScript object old new) (sym (err_is t e h k)) (unread_by object old new r s e counts m is)
+module _ {T : Type 0} (Is : T → List ℕ → Type 0) (object : Object) (old new : Inputs) where
+  module _ (bytes seen : List ℕ) (s : Result T Fault) where
+    -- what is answered of the bytes is answered of the object
+    pub read_is : (r : Result T ReadErr) → ReadsBytes object old new bytes → seen ≡ bytes → MatchResult r (λ x. Is x seen) (IsRefusedAs seen)
+        → MatchResult r (λ x. s ≡ Ok x) (λ e. IsErrAnd s (λ f. f ≡ fault_of_script e)) → Reads Is object old new s
+    read_is (Ok x) h same a m = subst (Reads Is object old new) (sym m) (h.0, (h.1.0, h.1.1, subst (Is x) (same ∙ h.1.2) a))
+    read_is (Err (script.Refused line r)) h same a m = subst (Reads Is object old new) (sym (err_and s (fault_of_script (script.Refused line r)) m))
+        (h.0, (h.1.0, h.1.1, subst (λ t. IsRefusal t line (Of r)) (same ∙ h.1.2) a))
+    read_is (Err (script.TooLarge line)) h same a m = subst (Reads Is object old new) (sym (err_and s (fault_of_script (script.TooLarge line)) m))
+        (h.0, (h.1.0, h.1.1, subst (λ t. IsRefusal t line Limit) (same ∙ h.1.2) a))
+    read_is (Err script.OutOfMemory) h same a m = subst (Reads Is object old new) (sym (err_and s fault.OutOfMemory m)) (read_stood object old new h.0)
+
+  -- memory ran out while the bytes were read, or the read failed
+  unread_by : (r : Result (Vec ℕ Global) ReadFault) (s : Result (Vec ℕ Global) Fault) (e : Fault) → ObjectCounts object old new r
+      → MatchResult r (λ v. s ≡ Ok v) (λ x. IsErrAnd s (λ y. y ≡ fault_of_read x)) → s ≡ Err e → Reads Is object old new (Err e)
+  unread_by (Ok v) s e counts m is = absurd (ok_not_err s v e m is)
+  unread_by (Err read.Failed) s e counts m is = subst (λ f. Reads Is object old new (Err f)) (sym (subst (λ t. IsErrAnd t (λ y. y ≡ fault.ReadFault)) is m)) counts
+  unread_by (Err read.OutOfMemory) s e counts m is = subst (λ f. Reads Is object old new (Err f)) (sym (subst (λ t. IsErrAnd t (λ y. y ≡ fault.OutOfMemory)) is m)) counts
+
+  pub unread_is : (r : Result (Vec ℕ Global) ReadFault) (s : Result (Vec ℕ Global) Fault) (e : Fault) (t : Result T Fault) → ObjectCounts object old new r
+      → MatchResult r (λ v. s ≡ Ok v) (λ x. IsErrAnd s (λ y. y ≡ fault_of_read x)) → s ≡ Err e → IsErr t → IsErrAnd t (λ y. y ≡ e) → Reads Is object old new t
+  unread_is r s e t counts m is h k = subst (Reads Is object old new) (sym (err_is t e h k)) (unread_by r s e counts m is)

@@ -1,5 +1,5 @@
 -- Results and options.
-use Rattle.std.proofs.Common.{◌≡◌, Option, Some, None, Result, Ok, Err, IsErr, IsErrAnd, MatchResult, ap, IfSome, IfOk, subst}
+use Rattle.std.proofs.Common.{◌≡◌, Option, Some, None, Result, Ok, Err, IsErr, IsErrAnd, MatchResult, ap, IfSome, IfOk, subst, sym}
 
 -- what a `?` answers
 pub err_is : {T E : Type 0} (r : Result T E) (e : E) → IsErr r → IsErrAnd r (λ x. x ≡ e) → r ≡ Err e
@@ -31,3 +31,8 @@ pub kept : {T E G : Type 0} (P : T → Type 0) (f : E → G) (r : Result T E) (s
     → MatchResult r (λ y. s ≡ Ok y) (λ e. IsErrAnd s (λ y. y ≡ f e)) → P x
 kept P f (Ok y) s x is h m = subst P (ok_is s y x m is) h
 kept P f (Err e) s x is h m = absurd (subst (λ r. IsErrAnd r (λ y. y ≡ f e)) is m)
+
+pub ok_kept : {T E G : Type 0} (P : T → Type 0) (f : E → G) (r : Result T E) (s : Result T G) → IfOk r P
+    → MatchResult r (λ y. s ≡ Ok y) (λ e. IsErrAnd s (λ y. y ≡ f e)) → IfOk s P
+ok_kept P f (Ok y) s h m = subst (λ t. IfOk t P) (sym m) h
+ok_kept P f (Err e) s h m = subst (λ t. IfOk t P) (sym (err_and s (f e) m)) tt

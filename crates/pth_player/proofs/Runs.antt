@@ -1,5 +1,5 @@
 -- From the parts of the call to what was done.
-use Rattle.std.proofs.Common.{◌≡◌, ◌∙◌, ap, Option, Some, None, Result, Ok, Err, IsErr, IsErrAnd, MatchResult, refl, sym, subst, inl, inr}
+use Rattle.std.proofs.Common.{◌≡◌, ◌∙◌, ℕ, List, true, false, ap, Option, Some, None, Result, Ok, Err, IfOk, IsErr, IsErrAnd, MatchResult, refl, sym, subst, inl, inr}
 use Rattle.std.proofs.KnownBytes.{Appends-nil}
 use Rattle.pth_base.specs.declared.outcome.Outcome.{Outcome}
 use Rattle.pth_streams.specs.declared.sink.SinkErr.{SinkErr}
@@ -14,12 +14,17 @@ use Rattle.pth_command.specs.declared.command_line.WordsErr.{WordsErr}
 use Rattle.pth_command.specs.declared.command_line.WordsErr.TheVariants as words
 use Rattle.pth_player.specs.FaultsOfErrors.{fault_of_sink, fault_of_words}
 use Rattle.pth_player.specs.Drive.{Drives}
-use Rattle.pth_player.specs.Objects.{Inputs, Object, ObjectStood, OthersUntouched, Scene, asked_object, nothing, scene, the_file, the_input}
-use Rattle.pth_player.specs.Output.{given_script}
-use Rattle.pth_player.specs.Play.{Ran, ReadsScript}
+use Rattle.pth_player.specs.Objects.{Inputs, Object, ObjectRead, ObjectStood, OthersUntouched, Scene, asked_object, cut, nothing, scene, the_file, the_input}
+use Rattle.pth_player.specs.Output.{given_script, outcome_status, told_output, upgrade_output}
+use Rattle.pth_player.specs.Play.{IsRead, IsUpgrade, Ran, RanFor, Reads, WritesScript, done_status}
 use Rattle.pth_player.specs.Streams.{Received}
+use Rattle.pth_player.specs.Transcript.{WritesPiece}
+use Rattle.pth_player.specs.declared.done.Done.{Done}
+use Rattle.pth_player.specs.declared.done.Done.TheVariants as done
+use Rattle.pth_script.specs.Upgrade.{upgraded}
+use Rattle.pth_model.specs.Run.{run}
 use Rattle.pth_player.proofs.Reading.{read_stood}
-use Rattle.pth_player.proofs.Results.{err_and, err_is, ok_is, ok_not_err}
+use Rattle.pth_player.proofs.Results.{err_is, ok_is, ok_not_err}
 
 -- nothing was touched if nothing was called
 pub others_refl : {S F : Type 0} (object : Object) (input : S) (files : F) → OthersUntouched object input input files files
@@ -39,6 +44,19 @@ pub is_asked : (asked : Option Asked) (q : Result Choice WordsErr) (s : Result C
 is_asked asked (Ok d) s c answers m is = answers ∙ ap (λ (x : Choice). Some (asked_of x)) (ok_is s d c m is)
 is_asked asked (Err x) s c answers m is = absurd (subst (λ t. IsErrAnd t (λ y. y ≡ fault_of_words x)) is m)
 
+-- a write as what was done, and as what comes of it
+abbrev pub ran_of : Result Outcome SinkErr → Result Done SinkErr
+ran_of (Ok o) = Ok (done.Ran o)
+ran_of (Err e) = Err e
+
+abbrev pub upgraded_of : Result (Unit {0}) SinkErr → Result Done SinkErr
+upgraded_of (Ok x) = Ok done.Upgraded
+upgraded_of (Err e) = Err e
+
+abbrev pub done_of : Result Done SinkErr → Result Done Fault
+done_of (Ok d) = Ok d
+done_of (Err e) = Err (fault_of_sink e)
+
 module _ (asked : Option Asked) (ins : Inputs) (w : Received) where
   abbrev before : Scene
   before = scene ins w
@@ -57,15 +75,19 @@ module _ (asked : Option Asked) (ins : Inputs) (w : Received) where
   unasked_for (Err x) s e answers m is = unasked_by x e (subst (λ t. IsErrAnd t (λ y. y ≡ fault_of_words x)) is m) answers
 
   -- the words were refused, or memory ran out for them
-  pub unasked : (q : Result Choice WordsErr) (s : Result Choice Fault) (e : Fault) (r : Result Outcome Fault) → Chooses asked q
+  pub unasked : (q : Result Choice WordsErr) (s : Result Choice Fault) (e : Fault) (r : Result Done Fault) → Chooses asked q
       → MatchResult q (λ c. s ≡ Ok c) (λ x. IsErrAnd s (λ y. y ≡ fault_of_words x)) → s ≡ Err e → IsErr r → IsErrAnd r (λ y. y ≡ e) → Ran asked before before r
   unasked q s e r answers m is h k = subst (λ y. Ran asked before before y) (sym (err_is r e h k)) (unasked_for q s e answers m is)
 
-  module _ (later : Inputs) (x : Asked) (is : asked ≡ Some x) where
-    abbrev unwritten : Scene
-    unwritten = scene later w
+module _ (asked : Asked) (ins later : Inputs) (w : Received) where
+  abbrev scene_before : Scene
+  scene_before = scene ins w
 
-    unread_by : (e : Fault) → ReadsScript (asked_object (Some x)) ins later (Err e) → Ran (Some x) before unwritten (Err e)
+  abbrev unwritten : Scene
+  unwritten = scene later w
+
+  module _ {T : Type 0} (Is : T → List ℕ → Type 0) where
+    unread_by : (e : Fault) → Reads Is (asked_object (Some asked)) ins later (Err e) → RanFor asked scene_before unwritten (Err e)
     unread_by (fault.Input line breach) h = (h.0, h.1, (Appends-nil w.written, refl))
     unread_by fault.ReadFault h = (h, (Appends-nil w.written, refl))
     unread_by fault.OutOfMemory h = (h, inl (Appends-nil w.written, refl))
@@ -73,24 +95,59 @@ module _ (asked : Option Asked) (ins : Inputs) (w : Received) where
     unread_by fault.WriteFault h = absurd h
 
     -- the object was not read, or it holds no script
-    pub unread : (e : Fault) (r : Result Outcome Fault) → ReadsScript (asked_object (Some x)) ins later (Err e) → IsErr r → IsErrAnd r (λ y. y ≡ e) → Ran asked before unwritten r
-    unread e r h some k = subst (λ y. Ran asked before unwritten y) (sym (err_is r e some k)) (subst (λ o. Ran o before unwritten (Err e)) (sym is) (unread_by e h))
+    pub unread : (e : Fault) (r : Result Done Fault) → Reads Is (asked_object (Some asked)) ins later (Err e) → IsErr r → IsErrAnd r (λ y. y ≡ e) → RanFor asked scene_before unwritten r
+    unread e r h some k = subst (λ y. RanFor asked scene_before unwritten y) (sym (err_is r e some k)) (unread_by e h)
 
-    -- memory ran out for the machine
-    pub unmade : ObjectStood (asked_object (Some x)) ins later → Ran asked before unwritten (Err fault.OutOfMemory)
-    unmade stood = subst (λ o. Ran o before unwritten (Err fault.OutOfMemory)) (sym is) (stood, inl (Appends-nil w.written, refl))
+  -- memory ran out for the machine
+  pub unmade : ObjectStood (asked_object (Some asked)) ins later → RanFor asked scene_before unwritten (Err fault.OutOfMemory)
+  unmade stood = (stood, inl (Appends-nil w.written, refl))
 
-    module _ (z : Received) where
-      abbrev after : Scene
-      after = scene later z
+  module _ (z : Received) where
+    abbrev after : Scene
+    after = scene later z
 
-      drove_by : (script : Sections × KernelOf) (r : Result Outcome SinkErr) (s : Result Outcome Fault) → ReadsScript (asked_object (Some x)) ins later (Ok script)
-          → Drives functions_of (given_script script) x w z r → MatchResult r (λ o. s ≡ Ok o) (λ e. IsErrAnd s (λ y. y ≡ fault_of_sink e)) → Ran (Some x) before after s
-      drove_by script (Ok o) s h d e = subst (λ y. Ran (Some x) before after y) (sym e) (h.0, (h.1.0, h.1.1, given_script script, h.1.2, d))
-      drove_by script (Err sink.Failed) s h d e = subst (λ y. Ran (Some x) before after y) (sym (err_and s fault.WriteFault e)) (h.0, (h.1.0, h.1.1, given_script script, h.1.2, d))
-      drove_by script (Err sink.OutOfMemory) s h d e = subst (λ y. Ran (Some x) before after y) (sym (err_and s fault.OutOfMemory e)) (read_stood (asked_object (Some x)) ins later h.0, inr (h.1.0, h.1.1, given_script script, h.1.2, d))
+    -- what was written comes to what was done
+    wrote : (read : ObjectRead (asked_object (Some asked)) ins later) (r : Result Done SinkErr) → WritesScript asked scene_before after r → RanFor asked scene_before after (done_of r)
+    wrote read (Ok d) h = (read, h)
+    wrote read (Err sink.Failed) h = (read, h)
+    wrote read (Err sink.OutOfMemory) h = (read_stood (asked_object (Some asked)) ins later read, inr h)
 
-      -- the machine was driven
-      pub drove : (script : Sections × KernelOf) (r : Result Outcome SinkErr) (s : Result Outcome Fault) → ReadsScript (asked_object (Some x)) ins later (Ok script)
-          → Drives functions_of (given_script script) x w z r → MatchResult r (λ o. s ≡ Ok o) (λ e. IsErrAnd s (λ y. y ≡ fault_of_sink e)) → Ran asked before after s
-      drove script r s h d e = subst (λ o. Ran o before after s) (sym is) (drove_by script r s h d e)
+    -- the machine of a script was driven
+    module _ (runs : asked.upgrade ≡ false) (script : Sections × KernelOf × ℕ) (h : Reads IsRead (asked_object (Some asked)) ins later (Ok script)) where
+      drove_by : (r : Result Outcome SinkErr) → Drives functions_of (given_script script) asked w z r → WritesScript asked scene_before after (ran_of r)
+      drove_by (Ok o) d = (
+        told_output asked (run functions_of (given_script script) d.0),
+        (h.1.0, h.1.1, inl (runs, given_script script, h.1.2, (d.0, d.1, refl))),
+        ap outcome_status (sym d.2),
+        (d.3, d.4),
+      )
+      drove_by (Err sink.Failed) d = (d.0, (h.1.0, h.1.1, inl (runs, given_script script, h.1.2, d.1)), tt, (d.2, d.3))
+      drove_by (Err sink.OutOfMemory) d = (d.0, (h.1.0, h.1.1, inl (runs, given_script script, h.1.2, d.1)), tt, (d.2, d.3))
+
+      pub drove : (r : Result Outcome SinkErr) → Drives functions_of (given_script script) asked w z r → RanFor asked scene_before after (done_of (ran_of r))
+      drove r d = wrote h.0 (ran_of r) (drove_by r d)
+
+    -- the text in version 2 was written
+    module _ (upgrades : asked.upgrade ≡ true) (text : List ℕ) (h : Reads IsUpgrade (asked_object (Some asked)) ins later (Ok text)) where
+      wrote_by : (r : Result (Unit {0}) SinkErr) → WritesPiece w z text r → WritesScript asked scene_before after (upgraded_of r)
+      wrote_by r piece = (upgrade_output (cut h.1.0), (h.1.0, h.1.1, inr (upgrades, h.1.2.0, refl)), status_of r, piece_of r (subst (λ t. WritesPiece w z t r) h.1.2.1 piece))
+        where
+          status_of : (r : Result (Unit {0}) SinkErr) → IfOk (upgraded_of r) (λ d. 0 ≡ done_status d)
+          status_of (Ok x) = refl
+          status_of (Err e) = tt
+
+          piece_of : (r : Result (Unit {0}) SinkErr) → WritesPiece w z (upgraded (cut h.1.0)) r → WritesPiece w z (upgraded (cut h.1.0)) (upgraded_of r)
+          piece_of (Ok x) p = p
+          piece_of (Err sink.Failed) p = p
+          piece_of (Err sink.OutOfMemory) p = p
+
+      pub wrote_upgrade : (r : Result (Unit {0}) SinkErr) → WritesPiece w z text r → RanFor asked scene_before after (done_of (upgraded_of r))
+      wrote_upgrade r piece = wrote h.0 (upgraded_of r) (wrote_by r piece)
+
+-- what was done for what the words ask
+pub ran_for : (asked : Option Asked) (x : Asked) (old new : Scene) (r : Result Done Fault) → asked ≡ Some x → RanFor x old new r → Ran asked old new r
+ran_for asked x old new r is h = subst (λ o. Ran o old new r) (sym is) h
+
+-- the fault of a sink, as its caller tells it
+pub told_as : (asked : Asked) (old new : Scene) (e : SinkErr) (f : Fault) → f ≡ fault_of_sink e → RanFor asked old new (Err (fault_of_sink e)) → RanFor asked old new (Err f)
+told_as asked old new e f is h = subst (λ y. RanFor asked old new (Err y)) (sym is) h

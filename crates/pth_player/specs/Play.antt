@@ -1,23 +1,24 @@
 -- The clauses of the top call.
-use Rattle.std.specs.Prelude.{◌≡◌, ◌≢◌, ◌⊎◌, ℕ, List, [], Option, Some, None, IfSome, Result, Ok, Err}
+use Rattle.std.specs.Prelude.{◌≡◌, ◌≢◌, ◌⊎◌, ℕ, List, [], Option, Some, None, IfSome, Result, Ok, Err, IfOk}
 use Rattle.std.specs.Io.KnownBytes.{Appends}
 use Rattle.pth_streams.specs.Faults.{Rose}
-use Rattle.pth_base.specs.declared.outcome.Outcome.{Outcome}
+use Rattle.pth_player.specs.declared.done.Done.{Done}
+use Rattle.pth_player.specs.declared.done.Done.TheVariants as done
 use Rattle.pth_streams.specs.declared.sink.SinkErr.{SinkErr}
 use Rattle.pth_streams.specs.declared.sink.SinkErr.TheVariants as sink
 use Rattle.pth_print.specs.FaultLines.{fault_line, fault_status}
 use Rattle.pth_print.specs.declared.fault_line.Fault.{Fault}
 use Rattle.pth_print.specs.declared.fault_line.Fault.TheVariants as fault
 use Rattle.pth_kernel.specs.Kernel.{KernelOf}
-use Rattle.pth_line.specs.Script.{Sections, functions_of}
-use Rattle.pth_model.specs.State.{Given}
-use Rattle.pth_script.specs.Broken.{IsRefusal}
+use Rattle.pth_line.specs.Script.{Sections}
+use Rattle.pth_script.specs.Broken.{IsAccepted, IsRefusal}
+use Rattle.pth_script.specs.Upgrade.{upgraded}
 use Rattle.pth_text.specs.declared.rule.Breach.{Breach}
 use Rattle.pth_command.specs.CommandLine.{Asked}
 use Rattle.pth_player.specs.Objects.{AreHeld, Inputs, Object, ObjectRead, ObjectRose, ObjectStood, Scene, asked_object, content, cut, content_of}
 use Rattle.pth_player.specs.Streams.{AppendsPart, AppendsPrefix, Received}
-use Rattle.pth_player.specs.Output.{Output, IsTheOutput, IsRefused, IsTheScript, given_script, outcome_status}
-use Rattle.pth_player.specs.Drive.{Drives}
+use Rattle.pth_player.specs.Output.{Output, IsScriptOutput, IsTheOutput, IsRefused, IsTheScript, given_script, outcome_status}
+use Rattle.pth_player.specs.Transcript.{WritesPiece}
 
 -- ---- the parts of the call
 
@@ -25,16 +26,22 @@ use Rattle.pth_player.specs.Drive.{Drives}
 abbrev pub ReadsBytes : Object → Inputs → Inputs → List ℕ → Type 0
 ReadsBytes object old new bytes = ObjectRead object old new × ((held : List ℕ) × AreHeld (content_of object old) held × (bytes ≡ cut held))
 
--- a script and its kernel were read of the object, or why not
-abbrev pub ReadsScript : Object → Inputs → Inputs → Result (Sections × KernelOf) Fault → Type 0
-ReadsScript object old new (Ok read) =
-    ObjectRead object old new × ((bytes : List ℕ) × AreHeld (content_of object old) bytes × IsTheScript (given_script read) (cut bytes))
-ReadsScript object old new (Err (fault.Input line breach)) =
+-- what the text of the object is told to be was read of it, or why not
+abbrev pub Reads : {T : Type 0} → (T → List ℕ → Type 0) → Object → Inputs → Inputs → Result T Fault → Type 0
+Reads Is object old new (Ok read) = ObjectRead object old new × ((bytes : List ℕ) × AreHeld (content_of object old) bytes × Is read (cut bytes))
+Reads Is object old new (Err (fault.Input line breach)) =
     ObjectRead object old new × ((bytes : List ℕ) × AreHeld (content_of object old) bytes × IsRefusal (cut bytes) line breach)
-ReadsScript object old new (Err fault.ReadFault) = ObjectRose object old new
-ReadsScript object old new (Err fault.OutOfMemory) = ObjectStood object old new
-ReadsScript object old new (Err fault.Words) = ⊥
-ReadsScript object old new (Err fault.WriteFault) = ⊥
+Reads Is object old new (Err fault.ReadFault) = ObjectRose object old new
+Reads Is object old new (Err fault.OutOfMemory) = ObjectStood object old new
+Reads Is object old new (Err fault.Words) = ⊥
+Reads Is object old new (Err fault.WriteFault) = ⊥
+
+-- this was read of a script's text: a script, its kernel and its greatest base priority, or the text in version 2
+abbrev pub IsRead : Sections × KernelOf × ℕ → List ℕ → Type 0
+IsRead read text = IsTheScript (given_script read) text
+
+abbrev pub IsUpgrade : List ℕ → List ℕ → Type 0
+IsUpgrade new text = IsAccepted text × (new ≡ upgraded text)
 
 -- the content is no script's text
 abbrev pub HoldsNoScript : Option Asked → Scene → Type 0
@@ -44,28 +51,36 @@ HoldsNoScript asked s = (bytes : List ℕ) × AreHeld (content asked s) bytes ×
 abbrev pub HoldsRefused : Asked → Scene → ℕ → Breach → Type 0
 HoldsRefused asked s line breach = (bytes : List ℕ) × AreHeld (content (Some asked) s) bytes × IsRefusal (cut bytes) line breach
 
--- the content is a script's text, and its machine was driven with this result
-abbrev pub DrivesScript : Asked → Scene → Scene → Result Outcome SinkErr → Type 0
-DrivesScript asked old new r = (bytes : List ℕ) × AreHeld (content (Some asked) old) bytes × (g : Given Sections) × IsTheScript g (cut bytes)
-    × Drives functions_of g asked old.out new.out r
+-- the content is a script's text, with this output
+abbrev pub HoldsScript : Asked → Scene → Output → Type 0
+HoldsScript asked s out = (bytes : List ℕ) × AreHeld (content (Some asked) s) bytes × IsScriptOutput asked (cut bytes) out
+
+-- the status of what was done with a script
+abbrev pub done_status : Done → ℕ
+done_status (done.Ran o) = outcome_status o
+done_status done.Upgraded = 0
+
+-- the content is a script's text, and what its output has was written with this result
+abbrev pub WritesScript : Asked → Scene → Scene → Result Done SinkErr → Type 0
+WritesScript asked old new r = (out : Output) × HoldsScript asked old out × IfOk r (λ d. out.status ≡ done_status d) × WritesPiece old.out new.out out.text r
 
 -- nothing was written, and no write failed
 abbrev pub IsUnwritten : Received → Received → Type 0
 IsUnwritten old new = Appends old.written new.written [] × (new.faults ≡ old.faults)
 
 -- what was done for these words but for the line of a fault
-abbrev pub RanFor : Asked → Scene → Scene → Result Outcome Fault → Type 0
-RanFor asked old new (Ok o) = ObjectRead (asked_object (Some asked)) old.ins new.ins × DrivesScript asked old new (Ok o)
+abbrev pub RanFor : Asked → Scene → Scene → Result Done Fault → Type 0
+RanFor asked old new (Ok d) = ObjectRead (asked_object (Some asked)) old.ins new.ins × WritesScript asked old new (Ok d)
 RanFor asked old new (Err fault.Words) = ⊥
 RanFor asked old new (Err (fault.Input line breach)) =
     ObjectRead (asked_object (Some asked)) old.ins new.ins × HoldsRefused asked old line breach × IsUnwritten old.out new.out
 RanFor asked old new (Err fault.ReadFault) = ObjectRose (asked_object (Some asked)) old.ins new.ins × IsUnwritten old.out new.out
-RanFor asked old new (Err fault.WriteFault) = ObjectRead (asked_object (Some asked)) old.ins new.ins × DrivesScript asked old new (Err sink.Failed)
+RanFor asked old new (Err fault.WriteFault) = ObjectRead (asked_object (Some asked)) old.ins new.ins × WritesScript asked old new (Err sink.Failed)
 RanFor asked old new (Err fault.OutOfMemory) =
-    ObjectStood (asked_object (Some asked)) old.ins new.ins × (IsUnwritten old.out new.out ⊎ DrivesScript asked old new (Err sink.OutOfMemory))
+    ObjectStood (asked_object (Some asked)) old.ins new.ins × (IsUnwritten old.out new.out ⊎ WritesScript asked old new (Err sink.OutOfMemory))
 
 -- if the words are refused nothing is written
-abbrev pub Ran : Option Asked → Scene → Scene → Result Outcome Fault → Type 0
+abbrev pub Ran : Option Asked → Scene → Scene → Result Done Fault → Type 0
 Ran (Some asked) old new r = RanFor asked old new r
 Ran None old new (Err fault.Words) = IsUnwritten old.out new.out
 Ran None old new (Err fault.OutOfMemory) = IsUnwritten old.out new.out
@@ -82,14 +97,14 @@ Reports f status old new =
     ((status ≡ fault_status f) × WritesLine old new (fault_line f))
     ⊎ ((status ≡ 7) × (AppendsPrefix old.written new.written (fault_line f) × (new.faults ≡ old.faults)))
 
--- how the call ends: a run by its status alone, a fault with its line
-abbrev pub Ends : Result Outcome Fault → ℕ → Received → Received → Type 0
-Ends (Ok o) status old new = (status ≡ outcome_status o) × IsUnwritten old new
+-- how the call ends: what was done by its status alone, a fault with its line
+abbrev pub Ends : Result Done Fault → ℕ → Received → Received → Type 0
+Ends (Ok d) status old new = (status ≡ done_status d) × IsUnwritten old new
 Ends (Err f) status old new = Reports f status old new
 
 -- ---- statuses
 
--- the status of a run that was written whole
+-- the status of a run, or of an upgrade, that was written whole
 abbrev pub IsRunStatus : ℕ → Type 0
 IsRunStatus status = (status ≡ 0) ⊎ ((status ≡ 1) ⊎ (status ≡ 6))
 

@@ -44,7 +44,7 @@ module _ {P S H : Type 0} where
   ending_of asked c = counts_of asked c ++ last_line asked.steps c
 
 -- the piece was written whole, or not the whole of it if the sink failed, or a beginning if memory ran out
-abbrev pub WritesPiece : Received → Received → List ℕ → Result (Unit {0}) SinkErr → Type 0
+abbrev pub WritesPiece : {T : Type 0} → Received → Received → List ℕ → Result T SinkErr → Type 0
 WritesPiece old new piece (Ok x) = Appends old.written new.written piece × (new.faults ≡ old.faults)
 WritesPiece old new piece (Err sink.Failed) = AppendsPart old.written new.written piece × Rose old.faults new.faults
 WritesPiece old new piece (Err sink.OutOfMemory) = AppendsPrefix old.written new.written piece × (new.faults ≡ old.faults)

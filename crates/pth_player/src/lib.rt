@@ -8,6 +8,7 @@
 //! of them.
 #![tactic(auto)]
 
+mod done;
 pub mod drive;
 mod faults;
 pub mod laws;

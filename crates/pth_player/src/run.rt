@@ -1,19 +1,22 @@
 //! The words, the script and the run.
 
-ghost use Rattle.std.specs.Prelude.{◌≡◌, IfOk, map, string_bytes};
+ghost use Rattle.std.specs.Prelude.{◌≡◌, ◌≤◌, IfOk, Some, true, false, map, string_bytes};
+ghost use Rattle.pth_base.specs.Limits.{most_steps};
 ghost use Rattle.pth_line.specs.Script.{functions_of};
-ghost use Rattle.pth_command.specs.CommandLine.{asked_by};
+ghost use Rattle.pth_command.specs.CommandLine.{asked_by, asked_of};
 ghost use Rattle.pth_sched.specs.Running.{StandsAt};
 ghost use Rattle.pth_player.specs.Objects.{asked_object, inputs, scene, OthersUntouched};
 ghost use Rattle.pth_player.specs.Output.{given_script};
-ghost use Rattle.pth_player.specs.Play.{Ran};
+ghost use Rattle.pth_player.specs.Play.{Ran, RanFor};
 ghost use Rattle.pth_player.specs.Streams.{received};
 
+use crate::done::Done;
 use crate::drive::drive;
 use crate::faults::{fault_of_sink, fault_of_words};
-use crate::script::read_script;
+use crate::script::{read_script, read_upgrade};
+use crate::streams::write_all;
 use pth_base::memory::OutOfMemory;
-use pth_base::outcome::Outcome;
+use pth_command::choice::Choice;
 use pth_command::command_line::read_words;
 use pth_kernel::kernel::Kernel;
 use pth_line::script::Script;
@@ -28,12 +31,69 @@ use std::alloc::Global;
 const PIECE: u64 = 1000;
 
 // The machine of a script on its kernel.
-fn machine_of(alloc: Global, read: (Script, Kernel)) -> Result<Machine<Script>, OutOfMemory>
+fn machine_of(alloc: Global, read: (Script, Kernel, u8)) -> Result<Machine<Script>, OutOfMemory>
+    requires { (5 ≤ read.2) × (read.2 ≤ 20) }
     ensures stands { IfOk result (λ m. StandsAt functions_of (given_script read) 0 m) }
     ensures steps { IfOk result (λ m. m.turn.steps ≡ 0) }
 {
-    let (script, kernel) = read;
-    Machine::new(alloc, script, kernel)
+    let (script, kernel, top) = read;
+    Machine::new(alloc, script, kernel, top)
+}
+
+// The script that the words name is run, and what they ask for of the run is written.
+fn run_script<S: Source, F: Files, O: Sink>(
+    alloc: Global,
+    choice: &Choice<'_>,
+    input: &mut S,
+    files: &mut F,
+    out: &mut O,
+) -> Result<Done, Fault>
+    requires runs { choice.now.upgrade ≡ false }
+    requires few { choice.now.steps ≤ most_steps }
+    ensures ran { RanFor (asked_of choice.now)
+        (scene (inputs (S.left input.old) (S.faults input.old)
+        (F.left files.old) (F.held files.old) (F.faults files.old))
+        (received (O.written out.old) (O.faults out.old)))
+        (scene (inputs (S.left input.new) (S.faults input.new)
+        (F.left files.new) (F.held files.new) (F.faults files.new))
+        (received (O.written out.new) (O.faults out.new)))
+        result }
+    ensures others { OthersUntouched (asked_object (Some (asked_of choice.now))) input.old input.new files.old files.new }
+{
+    let read = read_script(alloc, choice.file, input, files)?;
+    let Ok(mut machine) = machine_of(alloc, read) else {
+        return Err(Fault::OutOfMemory);
+    };
+    match drive(alloc, &mut machine, choice, PIECE, out) {
+        Ok(outcome) => Ok(Done::Ran(outcome)),
+        Err(e) => Err(fault_of_sink(e)),
+    }
+}
+
+// The text that the words name is written in version 2.
+fn upgrade_script<S: Source, F: Files, O: Sink>(
+    alloc: Global,
+    choice: &Choice<'_>,
+    input: &mut S,
+    files: &mut F,
+    out: &mut O,
+) -> Result<Done, Fault>
+    requires upgrades { choice.now.upgrade ≡ true }
+    ensures ran { RanFor (asked_of choice.now)
+        (scene (inputs (S.left input.old) (S.faults input.old)
+        (F.left files.old) (F.held files.old) (F.faults files.old))
+        (received (O.written out.old) (O.faults out.old)))
+        (scene (inputs (S.left input.new) (S.faults input.new)
+        (F.left files.new) (F.held files.new) (F.faults files.new))
+        (received (O.written out.new) (O.faults out.new)))
+        result }
+    ensures others { OthersUntouched (asked_object (Some (asked_of choice.now))) input.old input.new files.old files.new }
+{
+    let text = read_upgrade(alloc, choice.file, input, files)?;
+    match write_all(out, text.as_slice()) {
+        Ok(()) => Ok(Done::Upgraded),
+        Err(e) => Err(fault_of_sink(e)),
+    }
 }
 
 /// All that the program does, but for what it tells of a fault.
@@ -43,7 +103,7 @@ pub fn run<S: Source, F: Files, O: Sink>(
     input: &mut S,
     files: &mut F,
     out: &mut O,
-) -> Result<Outcome, Fault>
+) -> Result<Done, Fault>
     ensures ran { Ran (asked_by (map string_bytes words.now.items))
         (scene (inputs (S.left input.old) (S.faults input.old)
         (F.left files.old) (F.held files.old) (F.faults files.old))
@@ -56,9 +116,9 @@ pub fn run<S: Source, F: Files, O: Sink>(
         input.old input.new files.old files.new }
 {
     let choice = read_words(alloc, words).map_err(fault_of_words)?;
-    let read = read_script(alloc, choice.file, input, files)?;
-    let Ok(mut machine) = machine_of(alloc, read) else {
-        return Err(Fault::OutOfMemory);
-    };
-    drive(alloc, &mut machine, &choice, PIECE, out).map_err(fault_of_sink)
+    if choice.upgrade {
+        upgrade_script(alloc, &choice, input, files, out)
+    } else {
+        run_script(alloc, &choice, input, files, out)
+    }
 }

@@ -1,17 +1,19 @@
-//! The script that the words name, with its kernel, read from the input or from a file.
+//! The script that the words name, with its kernel, read from the input or from a file; or its text in version 2.
 
-ghost use Rattle.std.specs.Prelude.{IfOk, option_map};
+ghost use Rattle.std.specs.Prelude.{◌≤◌, IfOk, option_map};
 ghost use Rattle.pth_player.specs.Objects.{inputs, object_named, ObjectCounts, OthersUntouched};
 ghost use Rattle.pth_player.specs.Streams.{CountsRead, TakesUpTo};
-ghost use Rattle.pth_player.specs.Play.{ReadsBytes, ReadsScript};
+ghost use Rattle.pth_player.specs.Play.{IsRead, IsUpgrade, Reads, ReadsBytes};
 
 use crate::faults::{fault_of_read, fault_of_script};
 use crate::streams::{ReadFault, read_started, read_up_to};
+use pth_base::bytes::Bytes;
 use pth_kernel::kernel::Kernel;
 use pth_line::script::Script;
 use pth_print::fault_line::Fault;
 use pth_script::limits::TEXT_LIMIT;
 use pth_script::read::read;
+use pth_script::upgrade::upgrade;
 use pth_streams::files::Files;
 use pth_streams::source::Source;
 use std::alloc::Global;
@@ -49,18 +51,35 @@ fn read_bytes<S: Source, F: Files>(
     }
 }
 
-/// The script and the kernel that stand under a name.
+/// The script, the kernel and the greatest base priority that stand under a name.
 pub fn read_script<S: Source, F: Files>(
     alloc: Global,
     name: Option<&str>,
     input: &mut S,
     files: &mut F,
-) -> Result<(Script, Kernel), Fault>
-    ensures script { ReadsScript (object_named (option_map (λ n. n.now) name.entry))
+) -> Result<(Script, Kernel, u8), Fault>
+    ensures script { Reads IsRead (object_named (option_map (λ n. n.now) name.entry))
+        (inputs (S.left input.old) (S.faults input.old) (F.left files.old) (F.held files.old) (F.faults files.old))
+        (inputs (S.left input.new) (S.faults input.new) (F.left files.new) (F.held files.new) (F.faults files.new)) result }
+    ensures range { IfOk result (λ read. (5 ≤ read.2) × (read.2 ≤ 20)) }
+    ensures others { OthersUntouched (object_named (option_map (λ n. n.now) name.entry)) input.old input.new files.old files.new }
+{
+    let bytes = read_bytes(alloc, name, input, files).map_err(fault_of_read)?;
+    read(alloc, &bytes).map_err(fault_of_script)
+}
+
+/// The text that stands under a name, in version 2.
+pub fn read_upgrade<S: Source, F: Files>(
+    alloc: Global,
+    name: Option<&str>,
+    input: &mut S,
+    files: &mut F,
+) -> Result<Bytes, Fault>
+    ensures upgrade { Reads IsUpgrade (object_named (option_map (λ n. n.now) name.entry))
         (inputs (S.left input.old) (S.faults input.old) (F.left files.old) (F.held files.old) (F.faults files.old))
         (inputs (S.left input.new) (S.faults input.new) (F.left files.new) (F.held files.new) (F.faults files.new)) result }
     ensures others { OthersUntouched (object_named (option_map (λ n. n.now) name.entry)) input.old input.new files.old files.new }
 {
     let bytes = read_bytes(alloc, name, input, files).map_err(fault_of_read)?;
-    read(alloc, &bytes).map_err(fault_of_script)
+    upgrade(alloc, &bytes).map_err(fault_of_script)
 }

@@ -6,6 +6,7 @@ ghost use Rattle.pth_player.specs.Objects.{asked_object, inputs, scene, OthersUn
 ghost use Rattle.pth_player.specs.Play.{Ends, Plays};
 ghost use Rattle.pth_player.specs.Streams.{received};
 
+use crate::done::Done;
 use crate::report::report_fault;
 use crate::run::run;
 use pth_base::outcome::Outcome;
@@ -15,19 +16,20 @@ use pth_streams::sink::Sink;
 use pth_streams::source::Source;
 use std::alloc::Global;
 
-/// The status of a run, with the line of a fault on `err`.
-fn finish<E: Sink>(alloc: Global, ran: Result<Outcome, Fault>, err: &mut E) -> u8
+/// The status of what was done, with the line of a fault on `err`.
+fn finish<E: Sink>(alloc: Global, ran: Result<Done, Fault>, err: &mut E) -> u8
     ensures { Ends ran result
         (received (E.written err.old) (E.faults err.old))
         (received (E.written err.new) (E.faults err.new)) }
 {
     match ran {
-        Ok(Outcome::Ended(_)) => 0,
-        Ok(Outcome::Killed) => 0,
-        Ok(Outcome::Stalled) => 1,
-        Ok(Outcome::Running) => 6,
+        Ok(Done::Upgraded) => 0,
+        Ok(Done::Ran(Outcome::Ended(_))) => 0,
+        Ok(Done::Ran(Outcome::Killed)) => 0,
+        Ok(Done::Ran(Outcome::Stalled)) => 1,
+        Ok(Done::Ran(Outcome::Running)) => 6,
         // No run comes back with it: want of memory is a fault.
-        Ok(Outcome::OutOfMemory) => 7,
+        Ok(Done::Ran(Outcome::OutOfMemory)) => 7,
         Err(fault) => report_fault(alloc, fault, err),
     }
 }
@@ -36,11 +38,11 @@ fn finish<E: Sink>(alloc: Global, ran: Result<Outcome, Fault>, err: &mut E) -> u
 /// result is the exit status.
 ///
 /// `asked_by` says what the words ask for, and which are refused. The script is read from the file that they name, or from
-/// `input` if they name none or `-`. The transcript or the summary is written to `out`, and the line of a fault to
+/// `input` if they name none or `-`. The transcript, the summary or the text in version 2 is written to `out`, and the line of a fault to
 /// `err`.
 ///
 /// `IsOutput` says what the output is for what is asked and the bytes of the script: the text of what the script's run
-/// tells, with a status, or a refusal. With status 0, 1, 2, 3 and 6 exactly the text of this output was written, and the
+/// tells, with a status; the text of the script in version 2, if an upgrade is asked for; or a refusal. With status 0, 1, 2, 3 and 6 exactly the text of this output was written, and the
 /// status and the fault's line are the output's. It comes to another status only if the object read or `out` failed, or
 /// memory ran out. `Plays` says this and what else holds by the status, fact by fact.
 pub fn play<S: Source, F: Files, O: Sink, E: Sink>(

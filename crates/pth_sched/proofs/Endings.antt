@@ -355,7 +355,7 @@ module _ {P S H : Type 0} (f : P → Functions S H) (t : ℕ) (v : ℤ) where
   exits s call.AttrNew up h = absurd (result_on (λ (n : ℕ). Int (pos n)) (create_answer s.control.attributes.objects s.control.attributes.made) v h)
   exits s (call.AttrOf n) up h = absurd (result_on (λ (m : ℕ). Int (pos m)) (of_answer (named s.control.threads.known n) s.control.attributes.objects s.control.attributes.made) v h)
   exits s (call.AttrInit a) up h = absurd (done_on (init_answer (object s.control a)) v h)
-  exits s (call.AttrSet a x) up h = absurd (done_on (set_answer s.control.threads.known (object s.control a) x) v h)
+  exits s (call.AttrSet a x) up h = absurd (done_on (set_answer s.control.top s.control.threads.known (object s.control a) x) v h)
   exits s (call.AttrGet a field) up h = absurd (result_on answer_of (get_answer s.control.threads.known (object s.control a) field) v h)
   exits s (call.AttrDestroy a) up h = absurd (done_on (destroy_answer (object s.control a)) v h)
   exits s (call.Spawn b u a) up h = absurd (spawn_on f s t b u a v h)

@@ -43,7 +43,7 @@ pub some_new : {S : Type 0} (x : ThreadsBySlot S) (t : ℕ) → IsKnown x t → 
 some_new x t known stands = some_by x.queues (slot_of x.records t) known stands
 
 -- a world that stands for the start of a run
-pub start_going : {P S H : Type 0} (f : P → Functions S H) (w : WorldOf P S H) (given : Given P) → StandsFor w (start f given) → Whole w → w.threads.records.made ≡ 1 → w.attributes.made ≡ 0 → w.events.made ≡ 0 → w.store.ports.made ≡ 0 → IsGoing (record { world = w; turn = no_turn })
+pub start_going : {P S H : Type 0} (f : P → Functions S H) (w : WorldOf P S H) (given : Given P) → StandsFor w (start f given) → Whole w → w.threads.records.made ≡ 1 → w.attributes.objects.made ≡ 0 → w.events.made ≡ 0 → w.store.ports.made ≡ 0 → IsGoing (record { world = w; turn = no_turn })
 unfolding start
 start_going f w given st whole one none no_events no_ports = let nobody : w.scheduler.preferred ≡ None = sym (ap (λ (x : Scheduler). x.preferred) st.control.scheduler) in record {
   whole = whole;
@@ -74,7 +74,7 @@ module _ {P S H : Type 0} (w : WorldOf P S H) where
   scheduler_then m v a b = record { program = b.program ∙ a.program; attributes = b.attributes ∙ a.attributes; events = b.events ∙ a.events; conditions = b.conditions ∙ a.conditions; barriers = b.barriers ∙ a.barriers; kernel = b.kernel ∙ a.kernel; store = b.store ∙ a.store; used = b.used ∙ a.used; scheduler = b.scheduler ∙ a.scheduler }
 
   pub gives_rest : (v : WorldOf P S H) → KeepsRest w v → v.threads.records.made ≡ w.threads.records.made → GivesNone w v
-  gives_rest v rest made = elim [ Thread ↦ made | Object ↦ ap (λ (x : AttrsOf). x.made) rest.attributes | Event ↦ rest.events | Port ↦ ap (λ (x : StoreOf). x.ports.made) rest.store ]
+  gives_rest v rest made = elim [ Thread ↦ made | Object ↦ ap (λ (x : AttrsOf). x.objects.made) rest.attributes | Event ↦ rest.events | Port ↦ ap (λ (x : StoreOf). x.ports.made) rest.store ]
 
 -- three facts of a call that went well
 pub on_ok_three : {A E : Type 0} {X Y Z Q : Type 0} (r : Result A E) → OnOk r X → OnOk r Y → OnOk r Z → (X → Y → Z → Q) → OnOk r Q

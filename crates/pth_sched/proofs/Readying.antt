@@ -30,9 +30,9 @@ use Rattle.pth_sched.proofs.Keeping.{new_shorter, some_new}
 -- ---- ranks
 
 -- the top is one above the roof at most
-pub top_under : (roof : ℕ) (rows : List Ranked) → greatest_return ≤ roof → IsUnder roof rows → favour_top rows ≤ℤ pos (roof + 1)
-top_under roof [] low under = omega (arith, ints)
-top_under roof (x ∷ xs) low under =
+pub top_under : (top roof : ℕ) (rows : List Ranked) → top ≤ 20 → greatest_return ≤ roof → IsUnder roof rows → favour_top top rows ≤ℤ pos (roof + 1)
+top_under top roof [] most low under = omega (arith, ints)
+top_under top roof (x ∷ xs) most low under =
     let first : x.rank ≤ℤ pos roof = All-head (λ (r : Ranked). r.rank ≤ℤ pos roof) x xs under in
     omega (arith, ints)
 

@@ -55,13 +55,19 @@ impl<P: Program> Drop for Machine<P> {
 }
 
 impl<P: Program> Machine<P> {
-    /// The main thread alone, ready (`pth_init`), at the moment of the kernel.
-    pub fn new(alloc: Global, program: P, kernel: Kernel) -> Result<Machine<P>, OutOfMemory>
-        ensures stands { IfOk result (λ m. StandsAt P.functions (record { program = program; kernel = kernel_of kernel }) 0 m) }
+    /// The main thread alone, ready (`pth_init`), at the moment of the kernel. Base priorities go from `-top` to `top`.
+    pub fn new(
+        alloc: Global,
+        program: P,
+        kernel: Kernel,
+        top: u8,
+    ) -> Result<Machine<P>, OutOfMemory>
+        requires { (5 ≤ top) × (top ≤ 20) }
+        ensures stands { IfOk result (λ m. StandsAt P.functions (record { program = program; kernel = kernel_of kernel; top = top }) 0 m) }
         ensures steps { IfOk result (λ m. m.turn.steps ≡ 0) }
         ensures outcome { IfOk result (λ m. m.turn.outcome ≡ Outcome.Running) }
     {
-        let schedule = Schedule::new(alloc, program, kernel)?;
+        let schedule = Schedule::new(alloc, program, kernel, top)?;
         Ok(Machine {
             schedule,
             failed: false,

@@ -35,6 +35,6 @@ unfolding next_open_of open_descriptors_of
 seen_more l ls =
     stamps_by (stamp_line l) l ls (record (seen_of (l ∷ ls)) { stamps = stamps_of ls }) refl refl ∙ (λ i. stamps_past (stamp_line l) (opens_past (open_line l) (script_by (begins l) l ls refl i)))
 
-pub above_nothing : seen_of [] ≡ seen_of (above [])
+pub above_none : above [] ≡ []
 unfolding above
-above_nothing = refl
+above_none = refl

@@ -14,5 +14,7 @@ pub mod TakenParts
 pub mod Starting
 pub mod GhostRules
 pub mod Runs
+pub mod Headings
 pub mod Once
 pub mod Whole
+pub mod Upgrading

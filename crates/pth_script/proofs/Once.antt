@@ -5,7 +5,7 @@ use Rattle.pth_kernel.specs.Kernel.{Kernel, started}
 use Rattle.pth_line.specs.Script.{Sections}
 use Rattle.pth_script.specs.Broken.{broken, IsAccepted, IsRefusal}
 use Rattle.pth_script.specs.Labels.{somes}
-use Rattle.pth_script.specs.Meaning.{IsScriptOf, IsKernelOf}
+use Rattle.pth_script.specs.Meaning.{IsScriptOf, IsKernelOf, IsTopOf}
 use Rattle.pth_script.specs.RuleOrder.{first_broken}
 use Rattle.pth_text.specs.declared.rule.Breach.{Breach}
 
@@ -72,3 +72,8 @@ one_kernel text k l h g =
     let live = same_number h.1 g.1 (h.4 ∙ sym g.4) in
     let trace = one_list h.2 g.2 (h.5 ∙ sym g.5) in
     h.6 ∙ (λ i. started (clock i) (live i) (trace i)) ∙ sym g.6
+
+-- ---- priorities
+
+pub one_top : (text : List ℕ) (m n : ℕ) → IsTopOf m text → IsTopOf n text → m ≡ n
+one_top text m n h k = h ∙ sym k

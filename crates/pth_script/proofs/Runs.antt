@@ -1,21 +1,21 @@
 -- The loop over the lines: what its end and each of its steps say of the whole text.
 use Rattle.std.proofs.Common.{◌≡◌, ◌==◌, ℕ, ◌+◌, ◌<◌, ◌≤◌, Bool, true, false, cond, List, [], ◌∷◌, ◌++◌, length, Option, Some, None, ap, sym, subst, ◌∙◌, refl, arith, ⊎_elim, length-append, append_assoc, append-nil}
-use Rattle.std.specs.Prelude.{reverse, Err, drop, map, Result, Ok, unwrap_or, option_map}
+use Rattle.std.specs.Prelude.{reverse, Err, map, Result, Ok, unwrap_or, option_map}
 use Rattle.std.proofs.lemmas.List.{length-reverse}
 use Rattle.std.proofs.lemmas.Grind.{reverse_onto}
 use Rattle.std.proofs.lemmas.Bool.{cases_lt}
 use Rattle.pth_line.specs.Script.{Sections}
 use Rattle.pth_kernel.specs.Kernel.{KernelOf, started}
 use Rattle.pth_text.specs.Bytes.{code}
-use Rattle.pth_script.specs.TextRows.{TextRow, text_rows, onto_first, row_size, size_of}
+use Rattle.pth_script.specs.TextRows.{TextRow, text_rows, onto_first, row_size, size_of, range_of}
 use Rattle.pth_script.specs.Broken.{broken, row_breaks, end_breaks, IsRefusal, IsAccepted}
 use Rattle.pth_script.specs.Limits.{text_limit}
 use Rattle.pth_script.specs.RuleOrder.{first_broken}
 use Rattle.pth_script.specs.Drafts.{DraftParts, draft_parts, in_handler, in_body, rest_of_sections, ComesTo}
-use Rattle.pth_script.specs.Follows.{Follows, TakesRow, Reads, left_of, breach_error, IsReadAs}
+use Rattle.pth_script.specs.Follows.{Follows, IsReadTo, TakesRow, Reads, below_heading, left_of, breach_error, IsReadAs}
 use Rattle.pth_script.specs.Labels.{somes, with_places}
 use Rattle.pth_script.specs.KernelDrafts.{clock_with}
-use Rattle.pth_script.specs.Meaning.{Parts, said, parts_of_text, clock_said, opens_said, trace_said, HasSections, HasKernel, IsScriptOf, IsKernelOf}
+use Rattle.pth_script.specs.Meaning.{Parts, said, parts_of_text, clock_said, opens_said, trace_said, HasSections, HasKernel, IsScriptOf, IsKernelOf, IsTopOf}
 use Rattle.pth_script.specs.Seen.{is_handler, is_thread}
 use Rattle.pth_grammar.specs.LineMeanings.{act_of, line_of}
 use Rattle.pth_text.specs.declared.rule.Breach.{Breach}
@@ -23,6 +23,8 @@ use Rattle.pth_text.specs.declared.rule.Breach.TheVariants.{Limit, Of}
 use Rattle.pth_script.specs.declared.read.ReadErr.{ReadErr}
 use Rattle.pth_script.specs.declared.reader.Fault.{Fault}
 use Rattle.pth_script.specs.declared.reader.Fault.TheVariants as fault
+use Rattle.pth_script.specs.declared.heading.Heading.{Heading}
+use Rattle.pth_script.specs.declared.heading.Heading.TheVariants as heading
 use Rattle.pth_script.specs.declared.reader.Reader.{Reader}
 use Rattle.pth_script.proofs.Cuts.{at_row, at_end, no_rows}
 use Rattle.pth_script.proofs.Resting.{rest_none, checks_none}
@@ -157,10 +159,11 @@ trace_made = refl
 pub kernel_made : (d : DraftParts) (p : Parts) → ComesTo d [] p → HasKernel (started (unwrap_or d.kernel.clock 1) d.kernel.live.0 d.kernel.trace) p
 kernel_made d p m = (unwrap_or d.kernel.clock 1, d.kernel.live.0, d.kernel.trace, clock_made d.kernel.clock ∙ m.clock, live_made d.kernel.live.0 ∙ m.opens, sym (append-nil (somes d.kernel.trace)) ∙ ap (λ t. somes d.kernel.trace ++ t) (sym trace_made) ∙ m.trace, refl)
 
-not_started : (b : Bool) → said (cond b [] (drop 1 [])) ≡ []
+nothing_below : (h : Heading) → said (below_heading h []) ≡ []
 unfolding said
-not_started true = refl
-not_started false = refl
+nothing_below heading.Unread = refl
+nothing_below heading.Version2 = refl
+nothing_below (heading.Whole top) = refl
 
 module _ (r : Reader) (before : List TextRow) (text : List ℕ) (line : ℕ) (at : Reads r before text line []) where
   pub ends_broken : (b : Breach) → first_broken (λ b. end_breaks b before) ≡ Some b → IsRefusal text line b
@@ -170,7 +173,7 @@ module _ (r : Reader) (before : List TextRow) (text : List ℕ) (line : ℕ) (at
   ends_fine h = accepted text before line at.at at.fine (all_gone text before at.whole) h
 
   none_left : left_of r (text_rows []) ≡ []
-  none_left = ap (λ rs. said (cond r.started rs (drop 1 rs))) no_rows ∙ not_started r.started
+  none_left = ap (λ rs. said (below_heading r.heading rs)) no_rows ∙ nothing_below r.heading
 
   left : ComesTo (draft_parts r.draft) [] (parts_of_text text)
   left = subst (λ t. ComesTo (draft_parts r.draft) t (parts_of_text text)) none_left at.makes
@@ -180,6 +183,11 @@ module _ (r : Reader) (before : List TextRow) (text : List ℕ) (line : ℕ) (at
 
   pub kernel_stands : IsKernelOf (started (unwrap_or r.draft.kernel.clock 1) r.draft.kernel.live.0 r.draft.kernel.trace) text
   kernel_stands = kernel_made (draft_parts r.draft) (parts_of_text text) left
+
+  pub top_stands : (top : ℕ) → r.heading ≡ heading.Whole top → IsTopOf top text
+  top_stands top whole =
+      let read : IsReadTo (heading.Whole top) before = subst (λ h. IsReadTo h before) whole at.follows.heading in
+      sym (ap range_of (sym at.whole) ∙ read.1 (text_rows []))
 
 -- ---- answers
 
@@ -191,5 +199,5 @@ pub starts_reading : (r : Reader) (text : List ℕ) → Follows r [] → ComesTo
 unfolding size_of
 starts_reading r text f m = record { follows = f; whole = refl; at = refl; gone = omega arith; fine = λ i from below. absurd (omega arith); makes = m }
 
-pub ends_reading : (r : Reader) (before : List TextRow) (text : List ℕ) (line : ℕ) (rest : List ℕ) → Reads r before text line rest → length rest ≡ 0 → (result : Result (Sections × KernelOf) ReadErr) → ((text : List ℕ) (before : List TextRow) → Reads r before text line [] → IsReadAs text result) → IsReadAs text result
+pub ends_reading : (r : Reader) (before : List TextRow) (text : List ℕ) (line : ℕ) (rest : List ℕ) → Reads r before text line rest → length rest ≡ 0 → (result : Result (Sections × KernelOf × ℕ) ReadErr) → ((text : List ℕ) (before : List TextRow) → Reads r before text line [] → IsReadAs text result) → IsReadAs text result
 ends_reading r before text line rest at h result f = f text before (nothing_left (λ t. Reads r before text line t) rest h at)

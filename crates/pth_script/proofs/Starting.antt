@@ -37,8 +37,8 @@ module _ (k : KernelDraft) (blank : IsBlank k) where
   pub nothing_kept : IsDraftInOrder (nothing k)
   nothing_kept = record { no_acts = λ h. refl; no_lines = λ h. refl; few_acts = omega arith; short_handlers = All-nil (λ (t : List ActLine). length t ≤ act_limit); few_handlers = omega arith; few_bodies = omega arith; no_clock = λ h. blank.clock; no_entries = λ h. blank.trace; kernel = blank.kept }
 
-  pub nothing_makes : (ls : List (List (List ℕ))) → ComesTo (nothing k) ls (parts_of ls)
-  nothing_makes ls = record { handlers = refl; checks = refl; bodies = refl; clock = ap (λ o. clock_with o ls) blank.clock; opens = none_more k.live.0 (opens_said ls) blank.live; trace = ap (λ t. somes t ++ trace_said ls) blank.trace }
+  pub nothing_makes : (range : ℕ) (ls : List (List (List ℕ))) → ComesTo (nothing k) ls (parts_of range ls)
+  nothing_makes range ls = record { handlers = refl; checks = refl; bodies = refl; clock = ap (λ o. clock_with o ls) blank.clock; opens = none_more k.live.0 (opens_said ls) blank.live; trace = ap (λ t. somes t ++ trace_said ls) blank.trace }
 
 -- a draft in which nothing was read
 module _ (hs : List (List ActLine)) (cs : List Check) (bs : List (List Line)) (acts : List ActLine) (ls : List Line) (k : KernelDraft) (h : hs ≡ []) (c : cs ≡ []) (b : bs ≡ []) (a : acts ≡ []) (l : ls ≡ []) (blank : IsBlank k) where
@@ -54,5 +54,5 @@ module _ (hs : List (List ActLine)) (cs : List Check) (bs : List (List Line)) (a
   pub starts_kept : IsDraftInOrder draft
   starts_kept = subst IsDraftInOrder (sym empty) (nothing_kept k blank)
 
-  pub starts_making : (read : List (List (List ℕ))) → ComesTo draft read (parts_of read)
-  starts_making read = subst (λ d. ComesTo d read (parts_of read)) (sym empty) (nothing_makes k blank read)
+  pub starts_making : (range : ℕ) (read : List (List (List ℕ))) → ComesTo draft read (parts_of range read)
+  starts_making range read = subst (λ d. ComesTo d read (parts_of range read)) (sym empty) (nothing_makes k blank range read)

@@ -1,5 +1,5 @@
 -- Every text is accepted and stands for a script, or is refused.
-use Rattle.std.proofs.Common.{◌≡◌, ◌≤◌, ◌<◌, ◌==◌, ℕ, suc, zero, ◌+◌, Bool, true, false, cond, not, List, [], ◌∷◌, ◌++◌, length, Option, Some, None, refl, ap, sym, subst, ◌∙◌, arith, inl, inr, ◌⊎◌, length-append, append-nil}
+use Rattle.std.proofs.Common.{◌≡◌, ◌≤◌, ◌<◌, ◌==◌, ℕ, suc, zero, ◌+◌, Bool, true, false, cond, List, [], ◌∷◌, ◌++◌, length, Option, Some, None, refl, ap, sym, subst, ◌∙◌, arith, inl, inr, ◌⊎◌, length-append, append-nil, if◌then◌else◌}
 use Rattle.std.specs.Prelude.{reverse, map, drop}
 use Rattle.std.proofs.lemmas.Bool.{cases_Bool, cases_order, not-false}
 use Rattle.std.proofs.lemmas.List.{length-reverse}
@@ -18,18 +18,19 @@ use Rattle.pth_kernel_lines.specs.declared.part.KernelPart.TheVariants as part
 use Rattle.pth_line.specs.Script.{Sections}
 use Rattle.pth_line.specs.declared.line.Line.{Line}
 use Rattle.pth_line.specs.declared.line.Line.TheVariants as line
-use Rattle.pth_script.specs.Broken.{broken, places, row_breaks, end_breaks, is_first, is_long, is_open, said_breaks, IsAccepted, IsRefusal}
+use Rattle.pth_script.specs.Broken.{broken, places, row_breaks, end_breaks, is_long, is_open, said_breaks, IsAccepted, IsRefusal}
 use Rattle.pth_script.specs.Drafts.{DraftParts, seen_of_draft, in_handler, in_body, in_kernel, handler_closed, IsClosed, IsFine, IsDraftInOrder, ComesTo, Takes}
 use Rattle.pth_script.specs.Labels.{somes, with_places, placed_in}
-use Rattle.pth_script.specs.Meaning.{Parts, said, parts_of_text, IsScriptOf, IsKernelOf}
-use Rattle.pth_script.specs.TextRows.{TextRow, text_rows, is_comment, above}
+use Rattle.pth_script.specs.Meaning.{Parts, said, parts_of_text, IsScriptOf, IsKernelOf, IsTopOf}
+use Rattle.pth_script.specs.TextRows.{TextRow, text_rows, is_comment, is_version_2, is_heading, heading_length, range_of, above}
 use Rattle.pth_script.specs.Seen.{seen_of, seen_past, is_check, is_end, is_handler, is_kernel}
 use Rattle.pth_script.specs.RuleOrder.{first_broken}
 use Rattle.pth_text.specs.declared.rule.Breach.{Breach}
 use Rattle.pth_text.specs.declared.rule.Breach.TheVariants.{Limit, Of}
-use Rattle.pth_script.proofs.Above.{seen_more, above_nothing}
+use Rattle.pth_script.proofs.Above.{seen_more, above_none}
 use Rattle.pth_script.proofs.Cuts.{at_row, at_end}
-use Rattle.pth_script.proofs.RowRules.{long_row, said_row_rule, above_first, above_comment, above_said, end_rule}
+use Rattle.pth_script.proofs.RowRules.{long_row, said_row_rule, above_heading, above_comment, above_said, end_rule, end_in_heading}
+use Rattle.pth_script.proofs.Headings.{below_it}
 use Rattle.pth_script.proofs.Runs.{one_more, sections_made, kernel_made}
 use Rattle.pth_script.proofs.Said.{fine_line, said_comment, said_line_of}
 use Rattle.pth_script.proofs.Starting.{nothing, nothing_seen, nothing_kept, nothing_makes}
@@ -128,7 +129,7 @@ module _ (d : DraftParts) (ws : List (List ℕ)) (kept : IsDraftInOrder d) (fine
 
 -- ---- a text in which no line breaks a rule
 
-limit_first : (long : Bool) (o : Option Breach) → (long ≡ true → o ≡ Some Limit) → o ≡ None → long ≡ false
+pub limit_first : (long : Bool) (o : Option Breach) → (long ≡ true → o ≡ Some Limit) → o ≡ None → long ≡ false
 limit_first true o h none = absurd (some_limit o (h refl) none)
   where
     some_limit : (o : Option Breach) → o ≡ Some Limit → o ≡ None → ⊥
@@ -150,20 +151,20 @@ neither_open sec.Bodies h = (refl, refl)
 neither_open (sec.Kernel p) h = (refl, refl)
 
 module _ (text : List ℕ) (accepted : IsAccepted text) where
-  row_fine : (before rest : List TextRow) (row : TextRow) → reverse before ++ row ∷ rest ≡ text_rows text → first_broken (λ b. row_breaks b before row) ≡ None
+  pub row_fine : (before rest : List TextRow) (row : TextRow) → reverse before ++ row ∷ rest ≡ text_rows text → first_broken (λ b. row_breaks b before row) ≡ None
   row_fine before rest row e =
       sym (at_row text before rest row e) ∙ accepted (length before + 1) (omega arith) (omega (arith, ap length e, length-append (reverse before) (row ∷ rest), length-reverse before))
 
-  end_fine : (before : List TextRow) → reverse before ≡ text_rows text → first_broken (λ b. end_breaks b before) ≡ None
+  pub end_fine : (before : List TextRow) → reverse before ≡ text_rows text → first_broken (λ b. end_breaks b before) ≡ None
   end_fine before e = sym (at_end text before e) ∙ accepted (length before + 1) (omega arith) (omega (arith, ap length e, length-reverse before))
 
   -- a line of words breaks nothing in the draft of the lines above
-  words_fine : (before rest : List TextRow) (row : TextRow) (d : DraftParts) → reverse before ++ row ∷ rest ≡ text_rows text → true ≡ not (is_first before) → is_comment row.bytes ≡ false
+  words_fine : (before rest : List TextRow) (row : TextRow) (d : DraftParts) → reverse before ++ row ∷ rest ≡ text_rows text → is_heading before ≡ false → is_comment row.bytes ≡ false
       → seen_of_draft d ≡ seen_of (above before) → IsFine d (words_of row.bytes)
-  words_fine before rest row d e later words s =
+  words_fine before rest row d e below words s =
       let none = row_fine before rest row e in
       let short = limit_first (is_long before row) _ (long_row before row) none in
-      let fine = sym (said_row_rule before row later words short) ∙ none in
+      let fine = sym (said_row_rule before row below words short) ∙ none in
       let ended = sym (not-false row.ended (fine_line row.ended (seen_of (above before)) (words_of row.bytes) fine).cut) in
       (λ i. first_broken (said_breaks (ended i) (s i) (words_of row.bytes))) ∙ fine
 
@@ -176,41 +177,60 @@ module _ (text : List ℕ) (accepted : IsAccepted text) where
       pub seen : seen_of_draft draft ≡ seen_of (above before)
       pub makes : ComesTo draft [] parts
 
-    take_all : (before rest : List TextRow) (d : DraftParts) → reverse before ++ rest ≡ text_rows text → true ≡ not (is_first before) → seen_of_draft d ≡ seen_of (above before) → IsDraftInOrder d
+    take_all : (before rest : List TextRow) (d : DraftParts) → reverse before ++ rest ≡ text_rows text → is_heading before ≡ false → seen_of_draft d ≡ seen_of (above before) → IsDraftInOrder d
         → ComesTo d (said rest) parts → TakesAll
     unfolding said
-    take_all before [] d e later s kept m = record { before = before; draft = d; all = sym (append-nil (reverse before)) ∙ e; seen = s; makes = m }
-    take_all before (row ∷ rest) d e later s kept m = elim (cases_Bool (is_comment row.bytes)) [
-      | inl comment ↦ take_all (row ∷ before) rest d (one_more before rest (text_rows text) row e) refl (s ∙ ap seen_of (sym (above_comment before row later comment))) kept
+    take_all before [] d e below s kept m = record { before = before; draft = d; all = sym (append-nil (reverse before)) ∙ e; seen = s; makes = m }
+    take_all before (row ∷ rest) d e below s kept m = elim (cases_Bool (is_comment row.bytes)) [
+      | inl comment ↦ take_all (row ∷ before) rest d (one_more before rest (text_rows text) row e) (below_it before row below) (s ∙ ap seen_of (sym (above_comment before row comment))) kept
           (subst (λ ls. ComesTo d ls parts) (said_comment row rest comment) m)
       | inr words ↦
           let ws = words_of row.bytes in
-          let t = taken d ws kept (words_fine before rest row d e later words s) in
-          take_all (row ∷ before) rest t.0 (one_more before rest (text_rows text) row e) refl
-          (t.1.seen ∙ ap (λ x. seen_past ws x) s ∙ sym (seen_more ws (above before)) ∙ ap seen_of (sym (above_said before row later words)))
+          let t = taken d ws kept (words_fine before rest row d e below words s) in
+          take_all (row ∷ before) rest t.0 (one_more before rest (text_rows text) row e) (below_it before row below)
+          (t.1.seen ∙ ap (λ x. seen_past ws x) s ∙ sym (seen_more ws (above before)) ∙ ap seen_of (sym (above_said before row below words)))
           t.1.kept (t.1.makes (said rest) parts (subst (λ ls. ComesTo d ls parts) (said_line_of row rest words) m))
     ]
 
-  -- the script and the kernel of these lines
+  -- the script and the kernel of these lines, and the greatest base priority
   abbrev Stands : Type 0
-  Stands = (s : Sections) × (k : Kernel) × IsScriptOf s text × IsKernelOf k text
+  Stands = (s : Sections) × (k : Kernel) × (top : ℕ) × IsScriptOf s text × IsKernelOf k text × IsTopOf top text
+
+  -- the heading is read, and what is left makes a script
+  stands_below : (before rest : List TextRow) → reverse before ++ rest ≡ text_rows text → is_heading before ≡ false → above before ≡ [] → said rest ≡ said (drop (heading_length (text_rows text)) (text_rows text)) → Stands
+  stands_below before rest e below none left =
+      let ls = said (drop (heading_length (text_rows text)) (text_rows text)) in
+      let start = nothing blank.0 in
+      let all = take_all (parts_of_text text) before rest start e below (nothing_seen blank.0 blank.1 ∙ ap seen_of (sym none)) (nothing_kept blank.0 blank.1)
+      (subst (λ t. ComesTo start t (parts_of_text text)) (sym left) (nothing_makes blank.0 blank.1 (range_of (text_rows text)) ls)) in
+      let shut = neither_open all.draft.section
+      (ap (λ x. is_open x.section) all.seen ∙ shut_by (is_heading all.before) ((seen_of (above all.before)).bodies == 0) _ (sym (end_rule all.before) ∙ end_fine all.before all.all)) in
+      (record { handlers = all.draft.handlers; checks = all.draft.checks; bodies = all.draft.bodies }, _, _, sections_made all.draft (parts_of_text text) shut.0 shut.1 all.makes, kernel_made all.draft (parts_of_text text) all.makes, refl)
+
+  no_end : (before : List TextRow) → reverse before ≡ text_rows text → is_heading before ≡ true → ⊥
+  no_end before e here = some_header (end_fine before e) (end_in_heading before here)
+    where
+      some_header : {o : Option Breach} → o ≡ None → o ≡ Some (Of rule.Header) → ⊥
+      some_header none some = absurd (cc)
+
+  above_one : (row : TextRow) → above (row ∷ []) ≡ []
+  above_one row = above_heading [] row refl ∙ above_none
+
+  two_lines : (row : TextRow) (rest : List TextRow) → text_rows text ≡ row ∷ rest → is_version_2 row ≡ true → Stands
+  two_lines row [] e second = absurd (no_end (row ∷ []) (sym e) second)
+  two_lines row (range ∷ rest) e second =
+      stands_below (range ∷ row ∷ []) rest (sym e) refl (above_heading (row ∷ []) range second ∙ above_one row)
+      (ap said (λ i. drop (if sym second i then 2 else 1) (row ∷ range ∷ rest)) ∙ ap (λ rows. said (drop (heading_length rows) rows)) (sym e))
 
   script_by : (rows : List TextRow) → text_rows text ≡ rows → Stands
-  script_by [] e = absurd (no_end (end_fine [] (sym e)) (end_rule []))
-    where
-      no_end : {o : Option Breach} → o ≡ None → o ≡ Some (Of rule.Header) → ⊥
-      no_end none some = absurd (cc)
-  script_by (row ∷ rest) e =
-      let ls = said (drop 1 (text_rows text)) in
-      let below : said rest ≡ ls = ap (λ rows. said (drop 1 rows)) (sym e) in
-      let start = nothing blank.0 in
-      let all = take_all (parts_of_text text) (row ∷ []) rest start (sym e) refl (nothing_seen blank.0 blank.1 ∙ above_nothing ∙ ap seen_of (sym (above_first [] row refl))) (nothing_kept blank.0 blank.1)
-      (subst (λ t. ComesTo start t (parts_of_text text)) (sym below) (nothing_makes blank.0 blank.1 ls)) in
-      let shut = neither_open all.draft.section
-      (ap (λ x. is_open x.section) all.seen ∙ shut_by (is_first all.before) ((seen_of (above all.before)).bodies == 0) _ (sym (end_rule all.before) ∙ end_fine all.before all.all)) in
-      (record { handlers = all.draft.handlers; checks = all.draft.checks; bodies = all.draft.bodies }, _, sections_made all.draft (parts_of_text text) shut.0 shut.1 all.makes, kernel_made all.draft (parts_of_text text) all.makes)
+  script_by [] e = absurd (no_end [] (sym e) refl)
+  script_by (row ∷ rest) e = elim (cases_Bool (is_version_2 row)) [
+    | inl second ↦ two_lines row rest e second
+    | inr first ↦ stands_below (row ∷ []) rest (sym e) first (above_one row)
+        (ap said (λ i. drop (if sym first i then 2 else 1) (row ∷ rest)) ∙ ap (λ rows. said (drop (heading_length rows) rows)) (sym e))
+  ]
 
-  -- it stands for a script and a kernel
+  -- it stands for a script and a kernel, and has a greatest base priority
   pub script_of : Stands
   script_of = script_by (text_rows text) refl
 

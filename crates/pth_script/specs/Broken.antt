@@ -1,6 +1,5 @@
 -- The rules of a text: one predicate for each, on the whole text and the number of a line.
-use Rattle.std.specs.Prelude.{◌≡◌, ℕ, ◌+◌, ◌-◌, ◌≤◌, ◌<◌, Bool, true, false, ◌||◌, ◌&&◌, not, List, [], ◌∷◌, length, Option, Some, None, ◌==◌, nat_lt, codes, if◌then◌else◌, slice_get, take, reverse}
-use Rattle.std.specs.Str.{bytes_eq}
+use Rattle.std.specs.Prelude.{◌≡◌, ℕ, ◌+◌, ◌-◌, ◌≤◌, ◌<◌, Bool, true, false, ◌||◌, ◌&&◌, not, List, ◌∷◌, length, Option, Some, None, is_none, ◌==◌, nat_lt, if◌then◌else◌, slice_get, take, reverse}
 use Rattle.pth_text.specs.LineWords.{words_of}
 use Rattle.pth_spelling.specs.Keywords.{begins}
 use Rattle.pth_grammar.specs.LineMeanings.{numbered}
@@ -10,7 +9,7 @@ use Rattle.pth_text.specs.declared.rule.Rule.TheVariants as rule
 use Rattle.pth_grammar.specs.declared.section.Section.{Section}
 use Rattle.pth_grammar.specs.declared.section.Section.TheVariants as sec
 use Rattle.pth_script.specs.Limits.{text_limit, line_limit}
-use Rattle.pth_script.specs.TextRows.{TextRow, text_rows, size_of, is_comment, above}
+use Rattle.pth_script.specs.TextRows.{TextRow, text_rows, size_of, is_comment, is_version_1, is_version_2, range_said, is_first, is_second, is_heading, above}
 use Rattle.pth_script.specs.Seen.{Seen, seen_of, passes_limit, misnumbered, leaves_goto, lacks_body, is_early, misuses_fd}
 use Rattle.pth_script.specs.RuleOrder.{first_broken}
 use Rattle.pth_text.specs.declared.rule.Breach.{Breach}
@@ -34,17 +33,16 @@ said_breaks ended s ws (Of rule.Cut) = not ended
 said_breaks ended s ws (Of rule.Header) = false
 said_breaks ended s ws b = line_breaks b s ws
 
--- the text's first line has no words to look at, and no comment has
+-- a line of the heading has no words to look at, and no comment has
 unfoldable pub says_wrong : Breach → List TextRow → TextRow → Bool
-says_wrong b [] row = false
-says_wrong b (r ∷ rs) row = if is_comment row.bytes then false else line_breaks b (seen_of (above (r ∷ rs))) (words_of row.bytes)
+says_wrong b before row = if is_heading before || is_comment row.bytes then false else line_breaks b (seen_of (above before)) (words_of row.bytes)
 
 -- ---- a place of the text
 
--- no line stands above
-abbrev pub is_first : List TextRow → Bool
-is_first [] = true
-is_first (r ∷ rs) = false
+-- the first line says no version, or the second line of version 2 no range
+abbrev pub misses_heading : List TextRow → TextRow → Bool
+misses_heading before row =
+    (is_first before && not (is_version_1 row || is_version_2 row)) || (is_second before && is_none (range_said row.bytes))
 
 -- a byte beyond the input's limit stands above or in the line, or the line is too long
 abbrev pub is_long : List TextRow → TextRow → Bool
@@ -54,7 +52,7 @@ is_long before row = nat_lt text_limit (size_of (row ∷ before)) || nat_lt line
 unfoldable pub row_breaks : Breach → List TextRow → TextRow → Bool
 row_breaks Limit before row = is_long before row || says_wrong Limit before row
 row_breaks (Of rule.Cut) before row = not row.ended
-row_breaks (Of rule.Header) before row = is_first before && not (bytes_eq row.bytes (codes "pth 1"))
+row_breaks (Of rule.Header) before row = misses_heading before row
 row_breaks b before row = says_wrong b before row
 
 -- a handler or a body is open
@@ -65,7 +63,7 @@ is_open _ = false
 
 -- and so does the place after the last line
 unfoldable pub end_breaks : Breach → List TextRow → Bool
-end_breaks (Of rule.Header) before = is_first before
+end_breaks (Of rule.Header) before = is_heading before
 end_breaks (Of rule.Main) before = (seen_of (above before)).bodies == 0
 end_breaks (Of rule.End) before = is_open (seen_of (above before)).section
 end_breaks _ before = false

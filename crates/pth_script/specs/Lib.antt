@@ -9,3 +9,4 @@ pub mod Meaning
 pub mod KernelDrafts
 pub mod Drafts
 pub mod Follows
+pub mod Upgrade

@@ -12,7 +12,7 @@ use Rattle.pth_kernel.specs.declared.trace.Stamp.{Stamp}
 use Rattle.pth_kernel.specs.Kernel.{Kernel, started}
 use Rattle.pth_kernel_lines.specs.KernelLines.{clock_line, open_line, stamp_line}
 use Rattle.pth_script.specs.Labels.{somes, with_places}
-use Rattle.pth_script.specs.TextRows.{TextRow, text_rows, is_comment}
+use Rattle.pth_script.specs.TextRows.{TextRow, text_rows, is_comment, heading_length, range_of}
 use Rattle.pth_script.specs.Seen.{is_handler, is_check, is_thread, is_end, is_clock, is_opening, is_stamp}
 
 -- lines as words, without comments
@@ -62,8 +62,9 @@ unfoldable pub trace_said : List (List (List ℕ)) → List (Option Stamp)
 trace_said [] = []
 trace_said (l ∷ ls) = if is_stamp (begins l) then stamp_line l ∷ trace_said ls else trace_said ls
 
--- what lines stand for
+-- what a heading and the lines below it stand for
 pub record Parts : Type 0 where
+  pub range : ℕ
   pub handlers : List (List (Option ActLine))
   pub checks : List (Option Check)
   pub bodies : List (List (Option Line))
@@ -71,8 +72,9 @@ pub record Parts : Type 0 where
   pub opens : Option ℕ
   pub trace : List (Option Stamp)
 
-abbrev pub parts_of : List (List (List ℕ)) → Parts
-parts_of ls = record {
+abbrev pub parts_of : ℕ → List (List (List ℕ)) → Parts
+parts_of range ls = record {
+  range = range;
   handlers = handlers_of ls;
   checks = checks_of ls;
   bodies = bodies_of ls;
@@ -91,12 +93,16 @@ pub record HasSections (s : Sections) (p : Parts) : Type 0 where
 abbrev pub HasKernel : Kernel → Parts → Type 0
 HasKernel k p = (clock live : ℕ) × (trace : List Stamp) × (Some clock ≡ p.clock) × (Some live ≡ p.opens) × (somes trace ≡ p.trace) × (k ≡ started clock live trace)
 
--- the parts that a text stands for: its lines below the first are read
+-- the parts that a text stands for: its heading says the range, and its lines below the heading are read
 abbrev pub parts_of_text : List ℕ → Parts
-parts_of_text text = parts_of (said (drop 1 (text_rows text)))
+parts_of_text text = let rows = text_rows text in parts_of (range_of rows) (said (drop (heading_length rows) rows))
 
 abbrev pub IsScriptOf : Sections → List ℕ → Type 0
 IsScriptOf s text = HasSections s (parts_of_text text)
 
 abbrev pub IsKernelOf : Kernel → List ℕ → Type 0
 IsKernelOf k text = HasKernel k (parts_of_text text)
+
+-- the greatest base priority, N of the range from -N to N
+abbrev pub IsTopOf : ℕ → List ℕ → Type 0
+IsTopOf top text = top ≡ (parts_of_text text).range

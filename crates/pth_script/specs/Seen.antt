@@ -1,4 +1,4 @@
--- What the lines above a line say. Each list has the nearest line first, as words, without comments and the text's first line.
+-- What the lines above a line say. Each list has the nearest line first, as words, without comments and the heading.
 use Rattle.std.specs.Prelude.{ℕ, suc, ◌+◌, ◌^◌, ◌==◌, Bool, true, false, not, List, [], ◌∷◌, length, ◌++◌, Option, Some, None, nat_le, ℤ, pos, int_lt, unwrap_or, filter_map, if◌then◌else◌}
 use Rattle.std.specs.List.{list_all}
 use Rattle.std.specs.Ordering.{int_eq}

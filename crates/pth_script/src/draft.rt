@@ -54,7 +54,7 @@ impl Draft {
     pub fn new(alloc: Global) -> Draft
         ensures seen { seen_of_draft (draft_parts result) ≡ seen_of [] }
         ensures kept { IsDraftInOrder (draft_parts result) }
-        ensures makes { (ls : List (List (List ℕ))) → ComesTo (draft_parts result) ls (parts_of ls) }
+        ensures makes { (range : ℕ) (ls : List (List (List ℕ))) → ComesTo (draft_parts result) ls (parts_of range ls) }
     {
         Draft {
             alloc,

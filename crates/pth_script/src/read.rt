@@ -1,6 +1,6 @@
 //! Scripts from their text.
 
-ghost use Rattle.std.specs.Prelude.{◌≡◌, ℕ, List, []};
+ghost use Rattle.std.specs.Prelude.{◌≡◌, ◌≤◌, ℕ, List, [], IfOk};
 ghost use Rattle.pth_script.specs.Drafts.{draft_parts, IsDraftInOrder};
 ghost use Rattle.pth_script.specs.Follows.{IsReadAs, Reads, breach_error};
 ghost use Rattle.pth_script.specs.TextRows.{TextRow};
@@ -47,20 +47,25 @@ fn refused(line: u32, breach: Breach) -> ReadErr
     }
 }
 
-/// The script and the kernel that were read, whose last line stands above this one.
-fn finish(reader: Reader, line: u32) -> Result<(Script, Kernel), ReadErr>
+/// The script, the kernel and the greatest base priority that were read, whose last line stands above this one.
+fn finish(reader: Reader, line: u32) -> Result<(Script, Kernel, u8), ReadErr>
     requires { IsDraftInOrder (draft_parts reader.draft) }
     ensures { (text : List ℕ) (before : List TextRow) → Reads reader before text line [] → IsReadAs text result }
 {
-    if let Some(rule) = reader.end_fault() {
-        return Err(ReadErr::Refused { line, rule });
+    match reader.end() {
+        Ok(top) => {
+            let (script, kernel) = reader.draft.close()?;
+            Ok((script, kernel, top))
+        }
+        Err(rule) => Err(ReadErr::Refused { line, rule }),
     }
-    Ok(reader.draft.close()?)
 }
 
-/// Reads a script and its kernel. It is refused at the least line that breaks a rule, for the first such rule.
-pub fn read(alloc: Global, bytes: &[u8]) -> Result<(Script, Kernel), ReadErr>
-    ensures { IsReadAs bytes.now result }
+/// Reads a script and its kernel, and the greatest base priority: N of the range from -N to N, which is from 5 to 20, and 5 for a
+/// text that begins with `pth 1`. It is refused at the least line that breaks a rule, for the first such rule.
+pub fn read(alloc: Global, bytes: &[u8]) -> Result<(Script, Kernel, u8), ReadErr>
+    ensures read { IsReadAs bytes.now result }
+    ensures range { IfOk result (λ read. (5 ≤ read.2) × (read.2 ≤ 20)) }
 {
     let mut reader = Reader::new(alloc);
     let mut line: u32 = 1;

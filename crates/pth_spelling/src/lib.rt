@@ -8,5 +8,5 @@
 pub mod direction;
 pub mod first_word;
 pub mod keyword;
-mod named;
+pub mod named;
 pub mod words;

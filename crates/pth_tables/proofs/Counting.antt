@@ -42,10 +42,10 @@ counts_same Dead rows x y same h Dead = h Dead ∙ sym same
 counts_same Dead rows x y same h p = h p
 
 -- five empty queues
-pub counts_none : (x : QueuesOf) → x ≡ no_queues → AreCounted x (record { new = 0; ready = 0; waiting = 0; suspended = 0; dead = 0 })
-counts_none x is = subst (λ (k : QueuesOf). AreCounted k (record { new = 0; ready = 0; waiting = 0; suspended = 0; dead = 0 })) (sym is) none
+pub counts_none : (top : ℕ) (x : QueuesOf) → x ≡ no_queues top → AreCounted x (record { new = 0; ready = 0; waiting = 0; suspended = 0; dead = 0 })
+counts_none top x is = subst (λ (k : QueuesOf). AreCounted k (record { new = 0; ready = 0; waiting = 0; suspended = 0; dead = 0 })) (sym is) none
   where
-    none : AreCounted no_queues (record { new = 0; ready = 0; waiting = 0; suspended = 0; dead = 0 })
+    none : AreCounted (no_queues top) (record { new = 0; ready = 0; waiting = 0; suspended = 0; dead = 0 })
     none New = refl
     none Ready = refl
     none Waiting = refl

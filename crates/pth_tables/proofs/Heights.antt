@@ -93,10 +93,10 @@ nowhere_in : (q : Queue) (s : ℕ) (x : QueuesOf) → IsNowhere s x → holds s 
 nowhere_in q s x nowhere = holds-none s (rows_of q x) (omega (arith, count-le-times s q x, times-nowhere s x nowhere))
 
 -- five empty queues
-pub tells_none : (x : QueuesOf) (y : PerQueue ℤ) (heights : List ℤ) → x ≡ no_queues → AreRaisedHeights x y heights
-tells_none x y heights is = subst (λ (k : QueuesOf). AreRaisedHeights k y heights) (sym is) none
+pub tells_none : (top : ℕ) (x : QueuesOf) (y : PerQueue ℤ) (heights : List ℤ) → x ≡ no_queues top → AreRaisedHeights x y heights
+tells_none top x y heights is = subst (λ (k : QueuesOf). AreRaisedHeights k y heights) (sym is) none
   where
-    none : AreRaisedHeights no_queues y heights
+    none : AreRaisedHeights (no_queues top) y heights
     none New = All-nil (IsRaisedHeight heights y.new)
     none Ready = All-nil (IsRaisedHeight heights y.ready)
     none Waiting = All-nil (IsRaisedHeight heights y.waiting)

@@ -100,12 +100,13 @@ impl Drop for CountedQueues {
 }
 
 impl CountedQueues {
-    /// Five empty queues, and no slot that may be used (`pth_pqueue_init`).
-    pub fn new(alloc: Global) -> CountedQueues
-        ensures { result ≡ no_queues }
+    /// Five empty queues, and no slot that may be used (`pth_pqueue_init`). Base priorities go up to `top`.
+    pub fn new(alloc: Global, top: u8) -> CountedQueues
+        requires { (5 ≤ top) × (top ≤ 20) }
+        ensures { result ≡ no_queues top }
     {
         CountedQueues {
-            queues: QueueSet::new(alloc),
+            queues: QueueSet::new(alloc, top),
             lengths: PerQueue {
                 new: 0,
                 ready: 0,

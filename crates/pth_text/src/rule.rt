@@ -5,7 +5,7 @@
 pub enum Rule {
     /// The line is the last, and no LF ends it.
     Cut,
-    /// The text does not begin with the line `pth 1`.
+    /// The text begins neither with the line `pth 1` nor with the lines `pth 2` and `range K`, K from 5 to 20.
     Header,
     /// A word is none of those that are allowed where it stands.
     Word,

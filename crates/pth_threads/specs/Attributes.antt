@@ -27,9 +27,10 @@ use Rattle.pth_threads.specs.declared.entry.Change.TheVariants as change
 
 -- ---- objects
 
--- the objects with their numbers, and how many were ever made
-abbrev pub AttrsOf : Type 0
-AttrsOf = NumberedOf Attribute
+-- the objects with their numbers, how many were ever made, and the greatest base priority that can be set
+pub record AttrsOf : Type 0 where
+  pub objects : NumberedOf Attribute
+  pub top : ℕ
 
 -- how many objects there may be at once
 abbrev pub attribute_limit : ℕ
@@ -37,7 +38,7 @@ attribute_limit = 4096
 
 -- the object with a number
 abbrev pub object_of : AttrsOf → ℕ → Option Attribute
-object_of x = seen None (slot_of x) (thing_at x)
+object_of x = seen None (slot_of x.objects) (thing_at x.objects)
 
 -- the record of the thread with a number
 abbrev pub known_of : ThreadsOf → ℕ → Option Entry
@@ -136,22 +137,19 @@ is_fixed (value.Name name) = false
 is_fixed (value.Joinable n) = false
 is_fixed (value.Cancel n) = false
 
--- the greatest base priority that can be set, and the least (PTH_PRIO_MAX, PTH_PRIO_MIN)
-abbrev pub top_priority : ℤ
-top_priority = pos 5
+-- the least base priority that can be set, where this is the greatest (PTH_PRIO_MIN, PTH_PRIO_MAX)
+abbrev pub least_priority : ℕ → ℤ
+least_priority top = neg_ℤ (pos top)
 
-abbrev pub least_priority : ℤ
-least_priority = neg_ℤ (pos 5)
-
--- the values that a field takes
-abbrev pub is_in_range : AttrValue → Bool
-is_in_range (value.Prio n) = n is_from least_priority to top_priority
-is_in_range (value.Name name) = true
-is_in_range (value.Joinable n) = n is_from pos 0 to pos 1
-is_in_range (value.Cancel n) = n is_from pos 1 to pos 4
-is_in_range (value.Dispatches n) = true
-is_in_range (value.State n) = true
-is_in_range (value.Bound n) = true
+-- the values that a field takes, where this is the greatest base priority
+abbrev pub is_in_range : ℕ → AttrValue → Bool
+is_in_range top (value.Prio n) = n is_from least_priority top to pos top
+is_in_range top (value.Name name) = true
+is_in_range top (value.Joinable n) = n is_from pos 0 to pos 1
+is_in_range top (value.Cancel n) = n is_from pos 1 to pos 4
+is_in_range top (value.Dispatches n) = true
+is_in_range top (value.State n) = true
+is_in_range top (value.Bound n) = true
 
 -- values with one of them set
 abbrev pub with_value : AttrValue → NewThread → NewThread
@@ -174,9 +172,9 @@ change_of (value.State n) = None
 change_of (value.Bound n) = None
 
 -- a base priority that can be set
-pub record IsSetPrio (prio : ℤ) : Type 0 where
-  pub low : least_priority ≤ℤ prio
-  pub high : prio ≤ℤ top_priority
+pub record IsSetPrio (top : ℕ) (prio : ℤ) : Type 0 where
+  pub low : least_priority top ≤ℤ prio
+  pub high : prio ≤ℤ pos top
 
 -- a cancel state that can be set
 pub record IsSetCancel (cancel : ℕ) : Type 0 where
@@ -184,15 +182,15 @@ pub record IsSetCancel (cancel : ℕ) : Type 0 where
   pub high : cancel ≤ 4
 
 -- values that an object may have
-pub record AreSet (x : NewThread) : Type 0 where
-  pub prio : IsSetPrio x.prio
+pub record AreSet (top : ℕ) (x : NewThread) : Type 0 where
+  pub prio : IsSetPrio top x.prio
   pub cancel : IsSetCancel x.cancel
 
 -- a change that keeps the values of a thread so
-abbrev pub KeepsSet : Change → Type 0
-KeepsSet (change.Prio prio) = IsSetPrio prio
-KeepsSet (change.Cancel cancel) = IsSetCancel cancel
-KeepsSet c = Unit {0}
+abbrev pub KeepsSet : ℕ → Change → Type 0
+KeepsSet top (change.Prio prio) = IsSetPrio top prio
+KeepsSet top (change.Cancel cancel) = IsSetCancel cancel
+KeepsSet top c = Unit {0}
 
 -- ---- answers: the tests stand in order, and the first that holds is the answer
 
@@ -215,13 +213,13 @@ init_answer o =
     if is_bound o then Err EPERM else
     Ok tt
 
--- a value is set
-abbrev pub set_answer : (ℕ → Option Entry) → Option Attribute → AttrValue → Result (Unit {0}) Errno
-set_answer known o v =
+-- a value is set, where this is the greatest base priority
+abbrev pub set_answer : ℕ → (ℕ → Option Entry) → Option Attribute → AttrValue → Result (Unit {0}) Errno
+set_answer top known o v =
     if is_none o then Err EINVAL else
     if is_gone known o then Err ESRCH else
     if is_fixed v then Err EPERM else
-    if not (is_in_range v) then Err EINVAL else
+    if not (is_in_range top v) then Err EINVAL else
     Ok tt
 
 -- a field is read
@@ -255,43 +253,47 @@ Answers (Ok n) (Err e) = e ≡ OutOfMemory
 
 -- one more object, with the next number
 pub record MakesObject (old new : AttrsOf) (x : Attribute) : Type 0 where
-  pub objects : object_of new ≡ put (object_of old) (old.made + 1) (Some x)
-  pub made : new.made ≡ old.made + 1
-  pub count : count new ≡ count old + 1
+  pub objects : object_of new ≡ put (object_of old) (old.objects.made + 1) (Some x)
+  pub made : new.objects.made ≡ old.objects.made + 1
+  pub count : count new.objects ≡ count old.objects + 1
+  pub top : new.top ≡ old.top
 
 -- another object stands under a number
 pub record Exchanges (old new : AttrsOf) (n : ℕ) (x : Attribute) : Type 0 where
   pub objects : object_of new ≡ put (object_of old) n (Some x)
-  pub made : new.made ≡ old.made
-  pub count : count new ≡ count old
+  pub made : new.objects.made ≡ old.objects.made
+  pub count : count new.objects ≡ count old.objects
+  pub top : new.top ≡ old.top
 
 -- an object is gone, and its number is not used again
 pub record Drops (old new : AttrsOf) (n : ℕ) : Type 0 where
   pub objects : object_of new ≡ put (object_of old) n None
-  pub made : new.made ≡ old.made
-  pub count : count new + 1 ≡ count old
+  pub made : new.objects.made ≡ old.objects.made
+  pub count : count new.objects + 1 ≡ count old.objects
+  pub top : new.top ≡ old.top
 
 -- a value is set in the record of a thread
-pub record SetsThread (old new : ThreadsOf) (t : ℕ) (v : AttrValue) : Type 0 where
+pub record SetsThread (top : ℕ) (old new : ThreadsOf) (t : ℕ) (v : AttrValue) : Type 0 where
   pub slot : ℕ
   pub change : Change
   pub found : slot_of old t ≡ Some slot
   pub meant : change_of v ≡ Some change
-  pub keeps : KeepsSet change
+  pub keeps : KeepsSet top change
   pub changes : ChangesThread old new slot change
 
 -- a value is set in an object, or in the thread to which it is bound
 abbrev pub Sets : AttrsOf → AttrsOf → ThreadsOf → ThreadsOf → ℕ → AttrValue → Option Attribute → Type 0
 Sets old new threads later n v (Some (Free x)) = Exchanges old new n (Free (with_value v x)) × (later ≡ threads)
-Sets old new threads later n v (Some (Bound t)) = (new ≡ old) × SetsThread threads later t.0 v
+Sets old new threads later n v (Some (Bound t)) = (new ≡ old) × SetsThread old.top threads later t.0 v
 Sets old new threads later n v None = Unit {0}
 
 -- an object with values of its own has such that it may have
-abbrev pub MayStand : Attribute → Type 0
-MayStand (Free x) = AreSet x
-MayStand (Bound t) = Unit {0}
+abbrev pub MayStand : ℕ → Attribute → Type 0
+MayStand top (Free x) = AreSet top x
+MayStand top (Bound t) = Unit {0}
 
 -- what holds of the objects at every moment, beside what holds of all that is numbered
 pub record AreKept (x : AttrsOf) : Type 0 where
-  pub limit : x.limit ≡ attribute_limit
-  pub allowed : (u : ℕ) (o : Attribute) → thing_at x u ≡ Some o → MayStand o
+  pub limit : x.objects.limit ≡ attribute_limit
+  pub allowed : (u : ℕ) (o : Attribute) → thing_at x.objects u ≡ Some o → MayStand x.top o
+  pub range : (5 ≤ x.top) × (x.top ≤ 20)

@@ -26,6 +26,8 @@ pub const MOST_ATTRS: u32 = 4096;
 /// The attribute objects (`pth_attr_t`), numbered upwards from 1. No number is used again.
 pub struct Attrs {
     objects: Numbered<Attribute>,
+    // The greatest base priority that can be set.
+    top: u8,
 }
 
 impl Model for Attrs {
@@ -33,36 +35,39 @@ impl Model for Attrs {
 
     ghost Value = { AttrsOf };
 
-    ghost view = { λ a. a.objects };
+    ghost view = { λ a. record { objects = a.objects; top = a.top } };
 
-    ghost invariant = { λ a. AreKept a.objects };
+    ghost invariant = { λ a. AreKept (record { objects = a.objects; top = a.top }) };
 }
 
 // By hand, so that letting one go is one call in each proof.
 impl Drop for Attrs {
     fn drop(self) {
-        let Attrs { objects: _ } = self;
+        let Attrs { objects: _, top: _ } = self;
     }
 }
 
 impl Attrs {
-    /// No objects, which takes no memory.
-    pub fn new(alloc: Global) -> Attrs
+    /// No objects, which takes no memory. Base priorities can be set from `-top` to `top`.
+    pub fn new(alloc: Global, top: u8) -> Attrs
+        requires { (5 ≤ top) × (top ≤ 20) }
         ensures objects { object_of result ≡ (λ _. None) }
-        ensures made { result.made ≡ 0 }
+        ensures made { result.objects.made ≡ 0 }
+        ensures top { result.top ≡ top }
     {
         Attrs {
             objects: Numbered::new(alloc, MOST_ATTRS),
+            top,
         }
     }
 
     // The slot of the object that an operand names.
     fn find(&self, a: i64) -> Option<Slot>
         ensures none { IfNone result (named (object_of self.now) a ≡ None) }
-        ensures some { IfSome result (λ s. named (object_of self.now) a ≡ thing_at self.now s.0) }
-        ensures used { IfSome result (λ s. number_at self.now s.0 ≢ 0) }
-        ensures named { IfSome result (λ s. number_at self.now s.0 ≡ number a) }
-        ensures kept { IsKept self.now }
+        ensures some { IfSome result (λ s. named (object_of self.now) a ≡ thing_at self.now.objects s.0) }
+        ensures used { IfSome result (λ s. number_at self.now.objects s.0 ≢ 0) }
+        ensures named { IfSome result (λ s. number_at self.now.objects s.0 ≡ number a) }
+        ensures kept { IsKept self.now.objects }
         ensures allowed { AreKept self.now }
     {
         let made = self.objects.made();
@@ -74,8 +79,8 @@ impl Attrs {
 
     // The object at a slot.
     fn at(&self, s: Slot) -> &Attribute
-        requires { number_at self.now s.0 ≢ 0 }
-        ensures { thing_at self.now s.0 ≡ Some result.now }
+        requires { number_at self.now.objects s.0 ≢ 0 }
+        ensures { thing_at self.now.objects s.0 ≡ Some result.now }
     {
         self.objects.get(s)
     }
@@ -83,7 +88,8 @@ impl Attrs {
     // The object that an operand names.
     fn object(&self, a: i64) -> Option<&Attribute>
         ensures object { option_copied result ≡ named (object_of self.now) a }
-        ensures allowed { (x : NewThread) → named (object_of self.now) a ≡ Some (object.Free x) → AreSet x }
+        ensures allowed { (x : NewThread) → named (object_of self.now) a ≡ Some (object.Free x) → AreSet self.now.top x }
+        ensures range { (5 ≤ self.now.top) × (self.now.top ≤ 20) }
     {
         match self.find(a) {
             Some(slot) => Some(self.at(slot)),
@@ -93,9 +99,9 @@ impl Attrs {
 
     // One more object.
     fn add(&mut self, object: Attribute) -> Result<AttrId, Refusal>
-        requires few { self.old.made < 4294967295 }
-        requires allowed { MayStand object }
-        ensures answer { Answers (create_answer (object_of self.old) self.old.made) result }
+        requires few { self.old.objects.made < 4294967295 }
+        requires allowed { MayStand self.old.top object }
+        ensures answer { Answers (create_answer (object_of self.old) self.old.objects.made) result }
         ensures makes { OnOk result (MakesObject self.old self.new object) }
         ensures refused { OnErr result (self.new ≡ self.old) }
     {
@@ -108,18 +114,18 @@ impl Attrs {
 
     // Another object at a slot in use.
     fn exchange(&mut self, s: Slot, object: Attribute)
-        requires used { number_at self.old s.0 ≢ 0 }
-        requires kept { IsKept self.old }
-        requires allowed { MayStand object }
-        ensures { Exchanges self.old self.new (number_at self.old s.0) object }
+        requires used { number_at self.old.objects s.0 ≢ 0 }
+        requires kept { IsKept self.old.objects }
+        requires allowed { MayStand self.old.top object }
+        ensures { Exchanges self.old self.new (number_at self.old.objects s.0) object }
     {
         *self.objects.get_mut(s) = object;
     }
 
     /// `pth_attr_new`: an object with the first values, which has the next number. EAGAIN where there are 4096.
     pub fn create(&mut self) -> Result<AttrId, Refusal>
-        requires { self.old.made < 4294967295 }
-        ensures answer { Answers (create_answer (object_of self.old) self.old.made) result }
+        requires { self.old.objects.made < 4294967295 }
+        ensures answer { Answers (create_answer (object_of self.old) self.old.objects.made) result }
         ensures makes { OnOk result (MakesObject self.old self.new (object.Free first_values)) }
         ensures refused { OnErr result (self.new ≡ self.old) }
     {
@@ -129,8 +135,8 @@ impl Attrs {
     /// `pth_attr_of`: an object that is bound to a thread, with the next number. ESRCH where no thread has the number, and
     /// EAGAIN where there are 4096 objects.
     pub fn of(&mut self, t: Tid, threads: &Threads) -> Result<AttrId, Refusal>
-        requires { self.old.made < 4294967295 }
-        ensures answer { Answers (of_answer (known_of threads.now t.0) (object_of self.old) self.old.made) result }
+        requires { self.old.objects.made < 4294967295 }
+        ensures answer { Answers (of_answer (known_of threads.now t.0) (object_of self.old) self.old.objects.made) result }
         ensures makes { OnOk result (MakesObject self.old self.new (object.Bound t)) }
         ensures refused { OnErr result (self.new ≡ self.old) }
     {
@@ -161,7 +167,7 @@ impl Attrs {
     /// ESRCH where its thread is gone, EPERM for the dispatches, the state and whether it is bound, and EINVAL for a value
     /// out of range.
     pub fn set(&mut self, a: i64, v: &AttrValue, threads: &mut Threads) -> Result<(), Errno>
-        ensures answer { result ≡ set_answer (known_of threads.old) (named (object_of self.old) a) v.now }
+        ensures answer { result ≡ set_answer self.old.top (known_of threads.old) (named (object_of self.old) a) v.now }
         ensures changes { OnOk result (Sets self.old self.new threads.old threads.new (number a) v.now (named (object_of self.old) a)) }
         ensures refused { OnErr result ((self.new ≡ self.old) × (threads.new ≡ threads.old)) }
     {
@@ -169,8 +175,8 @@ impl Attrs {
             return Err(Errno::EINVAL);
         };
         match self.at(slot) {
-            Attribute::Bound(t) => set_of_thread(threads, *t, v),
-            Attribute::Free(values) => match check(v) {
+            Attribute::Bound(t) => set_of_thread(threads, *t, v, self.top),
+            Attribute::Free(values) => match check(v, self.top) {
                 Err(e) => Err(e),
                 Ok(()) => {
                     let values = set_value(values, v);
@@ -213,7 +219,8 @@ impl Attrs {
     /// where there is no such object, and ESRCH where its thread is gone.
     pub fn values(&self, a: i64, threads: &Threads) -> Result<NewThread, Errno>
         ensures answer { result ≡ values_answer (known_of threads.now) (named (object_of self.now) a) }
-        ensures allowed { (x : NewThread) → named (object_of self.now) a ≡ Some (object.Free x) → AreSet x }
+        ensures allowed { (x : NewThread) → named (object_of self.now) a ≡ Some (object.Free x) → AreSet self.now.top x }
+        ensures range { (5 ≤ self.now.top) × (self.now.top ≤ 20) }
     {
         match self.object(a) {
             None => Err(Errno::EINVAL),
@@ -238,15 +245,15 @@ fn known(threads: &Threads, t: Tid) -> Option<&Entry>
 }
 
 // Sets a field of a thread.
-fn set_of_thread(threads: &mut Threads, t: Tid, v: &AttrValue) -> Result<(), Errno>
-    ensures answer { result ≡ set_answer (known_of threads.old) (Some (object.Bound t)) v.now }
-    ensures changes { OnOk result (SetsThread threads.old threads.new t.0 v.now) }
+fn set_of_thread(threads: &mut Threads, t: Tid, v: &AttrValue, top: u8) -> Result<(), Errno>
+    ensures answer { result ≡ set_answer top (known_of threads.old) (Some (object.Bound t)) v.now }
+    ensures changes { OnOk result (SetsThread top threads.old threads.new t.0 v.now) }
     ensures refused { OnErr result (threads.new ≡ threads.old) }
 {
     let Some(slot) = threads.find(t) else {
         return Err(Errno::ESRCH);
     };
-    match check(v) {
+    match check(v, top) {
         Err(e) => Err(e),
         Ok(()) => {
             threads.change(slot, change_by(v));

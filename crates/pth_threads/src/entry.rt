@@ -11,7 +11,7 @@ pub use pth_numbered::error::AddErr;
 /// What a new thread is given (`pth_attr_t` at `pth_spawn`).
 #[derive(Drop)]
 pub struct NewThread {
-    /// The base priority, from -5 to 5 (`PTH_ATTR_PRIO`).
+    /// The base priority, from -N to N with the N of the run (`PTH_ATTR_PRIO`).
     pub prio: i64,
     pub name: Name,
     /// Whether its end waits for a `pth_join` (`PTH_ATTR_JOINABLE`).
@@ -24,7 +24,7 @@ pub struct NewThread {
 #[derive(Drop)]
 pub struct Entry {
     pub tid: Tid,
-    /// The base priority, from -5 to 5 (`PTH_ATTR_PRIO`).
+    /// The base priority, from -N to N with the N of the run (`PTH_ATTR_PRIO`).
     pub prio: i64,
     pub name: Name,
     /// Whether its end waits for a `pth_join` (`PTH_ATTR_JOINABLE`).

@@ -1,6 +1,6 @@
 //! The fields of named objects and of threads.
 
-ghost use Rattle.std.specs.Prelude.{◌≡◌, ◌≤◌, Some, Ok, Err, true, false, OnOk, not, if◌then◌else◌};
+ghost use Rattle.std.specs.Prelude.{◌≡◌, ◌≤◌, ℕ, Some, Ok, Err, true, false, OnOk, not, if◌then◌else◌};
 ghost use Rattle.pth_base.specs.Limits.{last_count};
 ghost use Rattle.pth_base.specs.declared.errno.Errno.TheVariants.{EINVAL, EPERM};
 ghost use Rattle.pth_numbered.specs.Operands.{◌is_from◌to◌};
@@ -11,11 +11,6 @@ use crate::attribute::copied_values;
 use crate::entry::{Change, Entry, NewThread, ThreadState};
 use pth_base::attr::{AttrField, AttrValue};
 use pth_base::errno::Errno;
-
-// The greatest base priority that can be set, and the least (`PTH_PRIO_MAX`, `PTH_PRIO_MIN`).
-const TOP_PRIORITY: i64 = 5;
-
-const LEAST_PRIORITY: i64 = -5;
 
 // 1 for what holds, and 0 for what doesn't.
 fn number_of_flag(on: bool) -> i64
@@ -79,14 +74,14 @@ fn within(n: i64, low: i64, high: i64) -> Result<(), Errno>
     }
 }
 
-// Whether a field can be set to this value.
-pub(crate) fn check(v: &AttrValue) -> Result<(), Errno>
-    ensures answer { result ≡ (if is_fixed v.now then Err EPERM else (if not (is_in_range v.now) then Err EINVAL else Ok tt)) }
+// Whether a field can be set to this value, where `top` is the greatest base priority (`PTH_PRIO_MAX`) and `-top` the least.
+pub(crate) fn check(v: &AttrValue, top: u8) -> Result<(), Errno>
+    ensures answer { result ≡ (if is_fixed v.now then Err EPERM else (if not (is_in_range top v.now) then Err EINVAL else Ok tt)) }
     ensures free { OnOk result (is_fixed v.now ≡ false) }
-    ensures range { OnOk result (is_in_range v.now ≡ true) }
+    ensures range { OnOk result (is_in_range top v.now ≡ true) }
 {
     match v {
-        AttrValue::Prio(n) => within(*n, LEAST_PRIORITY, TOP_PRIORITY),
+        AttrValue::Prio(n) => within(*n, -(top as i64), top as i64),
         AttrValue::Name(_) => Ok(()),
         AttrValue::Joinable(n) => within(*n, 0, 1),
         AttrValue::Cancel(n) => within(*n, 1, 4),
@@ -98,9 +93,9 @@ pub(crate) fn check(v: &AttrValue) -> Result<(), Errno>
 
 // Values with one of them set.
 pub(crate) fn set_value(old: &NewThread, v: &AttrValue) -> NewThread
-    requires { is_in_range v.now ≡ true }
+    requires { (top : ℕ) × (is_in_range top v.now ≡ true) }
     ensures is { result ≡ with_value v.now old.now }
-    ensures allowed { AreSet old.now → AreSet result }
+    ensures allowed { (top : ℕ) → is_in_range top v.now ≡ true → AreSet top old.now → AreSet top result }
 {
     let mut values = copied_values(old);
     match v {
@@ -118,9 +113,9 @@ pub(crate) fn set_value(old: &NewThread, v: &AttrValue) -> NewThread
 // The same for a thread: the change of its record.
 pub(crate) fn change_by(v: &AttrValue) -> Change
     requires free { is_fixed v.now ≡ false }
-    requires range { is_in_range v.now ≡ true }
+    requires range { (top : ℕ) × (is_in_range top v.now ≡ true) }
     ensures is { change_of v.now ≡ Some result }
-    ensures keeps { KeepsSet result }
+    ensures keeps { (top : ℕ) → is_in_range top v.now ≡ true → KeepsSet top result }
     ensures countable { IsCountable result }
 {
     match v {

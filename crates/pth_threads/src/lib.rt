@@ -6,7 +6,7 @@
 //! count.
 //! `Attrs`: each call is answered as the tests of its definition say, in their order (`specs/Attributes.antt`). It
 //! changes one object, or if the object is bound to a thread, one field of this thread's record; refused, it
-//! changes nothing. An object that is not bound has a priority from -5 to 5 and a cancel state from 1 to 4.
+//! changes nothing. An object that is not bound has a priority from -N to N, with the N of the run, and a cancel state from 1 to 4.
 #![tactic(auto)]
 
 pub mod attribute;

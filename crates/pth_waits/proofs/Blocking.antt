@@ -91,7 +91,7 @@ unblocked_frame {P} {S} {H} w v r is whole made same = record {
   runs = ap (λ (z : WorldOf P S H). z.scheduler.running) same ∙ is;
   made = elim [
     | Thread ↦ (let e = ap (λ (z : WorldOf P S H). z.threads.records.made) same in omega arith)
-    | Object ↦ (let e = ap (λ (z : WorldOf P S H). z.attributes.made) same in omega arith)
+    | Object ↦ (let e = ap (λ (z : WorldOf P S H). z.attributes.objects.made) same in omega arith)
     | Event ↦ (let e = made in omega arith)
     | Port ↦ (let e = ap (λ (z : WorldOf P S H). z.store.ports.made) same in omega arith)
   ];

@@ -15,7 +15,7 @@ module _ {P S H : Type 0} (w : WorldOf P S H) (b : List (Option Barrier)) where
   barred_shows g k sh is = record { program = sh.program; shared = sh.shared; threads = sh.threads; attributes = sh.attributes; events = sh.events; conditions = sh.conditions; barriers = ap g sh.barriers ∙ sym is; kernel = sh.kernel; used = sh.used; scheduler = sh.scheduler }
 
   pub barred_whole : Whole w → Whole (record w { barriers = b })
-  barred_whole whole = record { sound = whole.sound; fits = whole.fits; runner = whole.runner; stored = whole.stored }
+  barred_whole whole = record { sound = whole.sound; fits = whole.fits; runner = whole.runner; stored = whole.stored; top = whole.top }
 
   pub barred_frame : Whole w → Frame w (record w { barriers = b }) no_numbers w.scheduler.running false
   barred_frame whole = record {

@@ -15,7 +15,7 @@ module _ {P S H : Type 0} (w : WorldOf P S H) (c : List Condition) where
   seated_shows g k sh is = record { program = sh.program; shared = sh.shared; threads = sh.threads; attributes = sh.attributes; events = sh.events; conditions = ap g sh.conditions ∙ sym is; barriers = sh.barriers; kernel = sh.kernel; used = sh.used; scheduler = sh.scheduler }
 
   pub seated_whole : Whole w → Whole (record w { conditions = c })
-  seated_whole whole = record { sound = whole.sound; fits = whole.fits; runner = whole.runner; stored = whole.stored }
+  seated_whole whole = record { sound = whole.sound; fits = whole.fits; runner = whole.runner; stored = whole.stored; top = whole.top }
 
   pub seated_frame : Whole w → Frame w (record w { conditions = c }) no_numbers w.scheduler.running false
   seated_frame whole = record {

@@ -16,7 +16,7 @@ module _ {P S H : Type 0} (w : WorldOf P S H) (e : RingsOf) where
   events_show k x sh is = record { program = sh.program; shared = sh.shared; threads = sh.threads; attributes = sh.attributes; events = is; conditions = sh.conditions; barriers = sh.barriers; kernel = sh.kernel; used = sh.used; scheduler = sh.scheduler }
 
   pub events_whole : Whole w → Whole (record w { events = e })
-  events_whole whole = record { sound = whole.sound; fits = whole.fits; runner = whole.runner; stored = whole.stored }
+  events_whole whole = record { sound = whole.sound; fits = whole.fits; runner = whole.runner; stored = whole.stored; top = whole.top }
 
   pub events_frame : (n : Numbers) → Whole w → e.made ≤ w.events.made + n Event → Frame w (record w { events = e }) n w.scheduler.running false
   events_frame n whole few = record {

@@ -45,7 +45,7 @@ module _ {P S H : Type 0} where
     runs = ap (λ (k : WorldOf P S H). k.scheduler.running) moves.same ∙ is;
     made = elim [
       | Thread ↦ (let e = moves.made in omega arith)
-      | Object ↦ (let e = ap (λ (k : WorldOf P S H). k.attributes.made) moves.same in omega arith)
+      | Object ↦ (let e = ap (λ (k : WorldOf P S H). k.attributes.objects.made) moves.same in omega arith)
       | Event ↦ (let e = ap (λ (k : WorldOf P S H). k.events.made) moves.same in omega arith)
       | Port ↦ (let e = ap (λ (k : WorldOf P S H). k.store.ports.made) moves.same in omega arith)
     ];

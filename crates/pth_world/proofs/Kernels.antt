@@ -13,7 +13,7 @@ module _ {P S H : Type 0} (w : WorldOf P S H) (x : KernelOf) where
   kernel_shows k y sh is = record { program = sh.program; shared = sh.shared; threads = sh.threads; attributes = sh.attributes; events = sh.events; conditions = sh.conditions; barriers = sh.barriers; kernel = is; used = sh.used; scheduler = sh.scheduler }
 
   pub kernel_whole : Whole w → Whole (record w { kernel = x })
-  kernel_whole whole = record { sound = whole.sound; fits = whole.fits; runner = whole.runner; stored = whole.stored }
+  kernel_whole whole = record { sound = whole.sound; fits = whole.fits; runner = whole.runner; stored = whole.stored; top = whole.top }
 
   -- a change of the kernel
   pub turned_shows : (h : Kernel → Kernel) (k : Control P S H) → Shows w k → kernel_of x ≡ h (kernel_of w.kernel) → Shows (record w { kernel = x }) (with_kernel h k)

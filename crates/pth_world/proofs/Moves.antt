@@ -8,6 +8,7 @@ use Rattle.pth_base.proofs.Tables.{put_here, put_other, same_means, same_fails, 
 use Rattle.pth_queue.specs.declared.queue.Queue.{Queue}
 use Rattle.pth_queue.specs.declared.queue.Queue.TheVariants as queue
 use Rattle.pth_queue.specs.Queues.{queue_of, without, IsNowhere}
+use Rattle.pth_threads.specs.Attributes.{AttrsOf}
 use Rattle.pth_threads.specs.Threads.{slot_of, tid_at, tid_of, entry_at, changed, RemovesThread}
 use Rattle.pth_threads.specs.declared.entry.Entry.{Entry}
 use Rattle.pth_threads.specs.declared.entry.Change.TheVariants as change
@@ -31,6 +32,7 @@ pub two_touches : {S : Type 0} (u v w : ThreadsBySlot S) (t : ℕ) (f g : View �
 two_touches u v w t f g same a b = record {
   own = λ i e. b.own i (ap (λ (k : ℕ → Option ℕ). k t) same.slots ∙ e) ∙ ap g (a.own i e);
   others = λ i apart. b.others i (λ at. apart (ap (λ (k : ℕ → ℕ). k i) (sym same.tids) ∙ at)) ∙ a.others i apart;
+  top = b.top ∙ a.top;
 }
 
 pub same_twice : {S : Type 0} (u v w : ThreadsBySlot S) → SameThreads u v → SameThreads v w → SameThreads u w
@@ -99,12 +101,13 @@ module _ {P S H : Type 0} (w v : WorldOf P S H) (t u : ℕ) (g : View → View) 
   fits_by i true is = subst (λ (k : ℕ). Fits v.scheduler.running (view v.threads k)) (sym (at_slot i (same_means _ t is))) (subst (λ (k : View). Fits v.scheduler.running k) (sym (touches.own u e)) own)
   fits_by i false is = subst (λ (k : View). Fits v.scheduler.running k) (sym (touches.others i (same_fails _ t is))) (others i (same_fails _ t is) (whole.fits i))
 
-  pub whole_from : IsSound v.threads → IsRunner v → slot_of v.threads.records ≡ slot_of w.threads.records → v.store ≡ w.store → (lives (g (view w.threads u)).entry ≡ false → HasNothing (store_of w.store) t) → Whole v
-  whole_from sound runner slots store stored = record {
+  pub whole_from : IsSound v.threads → IsRunner v → slot_of v.threads.records ≡ slot_of w.threads.records → v.store ≡ w.store → v.attributes ≡ w.attributes → (lives (g (view w.threads u)).entry ≡ false → HasNothing (store_of w.store) t) → Whole v
+  whole_from sound runner slots store objects stored = record {
     sound = sound;
     fits = λ i. fits_by i (tid_at w.threads.records i == t) refl;
     runner = runner;
     stored = λ r. stored_by r (r == t) refl;
+    top = ap (λ (x : AttrsOf). x.top) objects ∙ whole.top ∙ sym touches.top;
   }
     where
       stored_by : (r : ℕ) (b : Bool) → (r == t) ≡ b → StoresAlive v r
@@ -160,8 +163,8 @@ known_slot None known = absurd (cc known)
 pub is_in : {P S H : Type 0} (w : WorldOf P S H) (q : Queue) (t u : ℕ) → IsIn q w.threads t → slot_of w.threads.records t ≡ Some u → queue_of u w.threads.queues ≡ Some q
 is_in w q t u h e = subst (λ (o : Option ℕ). IfSome o (λ i. queue_of i w.threads.queues ≡ Some q)) e h
 
-pub make_ready_whole : {P S H : Type 0} (w m v : WorldOf P S H) (t : ℕ) (q : Queue) → Whole w → IsKnown w.threads t → IsBefore q → IsIn q w.threads t → Touches w.threads m.threads t (view_placed None) → m ≡ record w { threads = record w.threads { queues = m.threads.queues } } → Touches m.threads v.threads t (λ k. view_placed (Some queue.Ready) (view_changed (change.State state.Ready) k)) → SameThreads m.threads v.threads → v.scheduler.running ≡ m.scheduler.running → v.store ≡ m.store → IsSound v.threads → Whole v
-make_ready_whole w m v t q whole known b stands left same entered kept runs store sound =
+pub make_ready_whole : {P S H : Type 0} (w m v : WorldOf P S H) (t : ℕ) (q : Queue) → Whole w → IsKnown w.threads t → IsBefore q → IsIn q w.threads t → Touches w.threads m.threads t (view_placed None) → m ≡ record w { threads = record w.threads { queues = m.threads.queues } } → Touches m.threads v.threads t (λ k. view_placed (Some queue.Ready) (view_changed (change.State state.Ready) k)) → SameThreads m.threads v.threads → v.scheduler.running ≡ m.scheduler.running → v.store ≡ m.store → v.attributes ≡ m.attributes → IsSound v.threads → Whole v
+make_ready_whole w m v t q whole known b stands left same entered kept runs store objects sound =
     let slot = known_slot (slot_of w.threads.records t) known in
     let all = queues_alone w m same in
     let running : v.scheduler.running ≡ w.scheduler.running = runs ∙ ap (λ (k : WorldOf _ _ _). k.scheduler.running) same in
@@ -170,7 +173,7 @@ make_ready_whole w m v t q whole known b stands left same entered kept runs stor
     (fits_same w.scheduler.running v.scheduler.running _ running (readied_fits w.scheduler.running q (view w.threads slot.0) b (is_in w q t slot.0 stands slot.1) (whole.fits slot.0)))
     (λ i apart f. fits_same w.scheduler.running v.scheduler.running (view w.threads i) running f)
     sound (runner_kept w v (same_twice w.threads m.threads v.threads all kept).slots running whole.runner)
-    (same_twice w.threads m.threads v.threads all kept).slots (store ∙ ap (λ (k : WorldOf _ _ _). k.store) same) (λ dead. own_stored w t slot.0 whole slot.1 (lives_set state.Ready (view w.threads slot.0).entry refl dead))
+    (same_twice w.threads m.threads v.threads all kept).slots (store ∙ ap (λ (k : WorldOf _ _ _). k.store) same) (objects ∙ ap (λ (k : WorldOf _ _ _). k.attributes) same) (λ dead. own_stored w t slot.0 whole slot.1 (lives_set state.Ready (view w.threads slot.0).entry refl dead))
 
 -- where nobody but t is taken for the one that runs
 pub rerun_fits : (r q : Option ℕ) (t : ℕ) (o : Option Entry) (p : Option Queue) (h : Option Blocked) → IsAbout r t → IsAbout q t → tid_of o ≢ t → FitsEntry r o p h → FitsEntry q o p h
@@ -248,7 +251,7 @@ runs_by t n (Some e) p h stands named f =
     ready_awake s true h = absurd (cc h)
     ready_awake s false h = refl
 
-module _ {P S H : Type 0} (w v : WorldOf P S H) (t : ℕ) (whole : Whole w) (is : w.scheduler.running ≡ Some t) (rests : v.scheduler.running ≡ None) (sound : IsSound v.threads) (slots : slot_of v.threads.records ≡ slot_of w.threads.records) (store : v.store ≡ w.store) where
+module _ {P S H : Type 0} (w v : WorldOf P S H) (t : ℕ) (whole : Whole w) (is : w.scheduler.running ≡ Some t) (rests : v.scheduler.running ≡ None) (sound : IsSound v.threads) (slots : slot_of v.threads.records ≡ slot_of w.threads.records) (store : v.store ≡ w.store) (objects : v.attributes ≡ w.attributes) where
   slot_t : (u : ℕ) × (slot_of w.threads.records t ≡ Some u)
   slot_t = known_slot (slot_of w.threads.records t) (runner_known w t whole is)
 
@@ -265,10 +268,10 @@ module _ {P S H : Type 0} (w v : WorldOf P S H) (t : ℕ) (whole : Whole w) (is 
   own_fits = subst (λ (p : Option Queue). FitsEntry (Some t) (view w.threads slot_t.0).entry p (view w.threads slot_t.0).blocked) runs_t.nowhere (subst (λ (r : Option ℕ). Fits r (view w.threads slot_t.0)) is (whole.fits slot_t.0))
 
   pub back_whole : Touches w.threads v.threads t (λ k. view_placed (Some queue.Ready) (view_changed (change.State state.Ready) k)) → Whole v
-  back_whole touches = whole_from w v t slot_t.0 _ whole slot_t.1 touches (fits_same None v.scheduler.running _ rests (back_by t runs_t.entry (view w.threads slot_t.0).entry (view w.threads slot_t.0).blocked runs_t.has runs_t.awake own_fits)) others_rest sound no_runner slots store (λ dead. own_stored w t slot_t.0 whole slot_t.1 (lives_set state.Ready (view w.threads slot_t.0).entry refl dead))
+  back_whole touches = whole_from w v t slot_t.0 _ whole slot_t.1 touches (fits_same None v.scheduler.running _ rests (back_by t runs_t.entry (view w.threads slot_t.0).entry (view w.threads slot_t.0).blocked runs_t.has runs_t.awake own_fits)) others_rest sound no_runner slots store objects (λ dead. own_stored w t slot_t.0 whole slot_t.1 (lives_set state.Ready (view w.threads slot_t.0).entry refl dead))
 
   pub waits_whole : Touches w.threads v.threads t (λ k. view_placed (Some queue.Waiting) (view_changed (change.State state.Waiting) k)) → Whole v
-  waits_whole touches = whole_from w v t slot_t.0 _ whole slot_t.1 touches (fits_same None v.scheduler.running _ rests (waits_by t runs_t.entry (view w.threads slot_t.0).entry (view w.threads slot_t.0).blocked runs_t.has runs_t.awake own_fits)) others_rest sound no_runner slots store (λ dead. own_stored w t slot_t.0 whole slot_t.1 (lives_set state.Waiting (view w.threads slot_t.0).entry refl dead))
+  waits_whole touches = whole_from w v t slot_t.0 _ whole slot_t.1 touches (fits_same None v.scheduler.running _ rests (waits_by t runs_t.entry (view w.threads slot_t.0).entry (view w.threads slot_t.0).blocked runs_t.has runs_t.awake own_fits)) others_rest sound no_runner slots store objects (λ dead. own_stored w t slot_t.0 whole slot_t.1 (lives_set state.Waiting (view w.threads slot_t.0).entry refl dead))
 
 lives_counted : (n : ℕ) (o : Option Entry) → lives o ≡ lives (option_map (changed (change.Dispatches n)) o)
 unfolding changed
@@ -276,15 +279,15 @@ lives_counted n (Some d) = refl
 lives_counted n None = refl
 
 -- a dispatch
-pub runs_whole : {P S H : Type 0} (w v : WorldOf P S H) (t n : ℕ) → Whole w → IsKnown w.threads t → IsIn queue.Ready w.threads t → w.scheduler.running ≡ None → v.scheduler.running ≡ Some t → IsSound v.threads → slot_of v.threads.records ≡ slot_of w.threads.records → v.store ≡ w.store → Touches w.threads v.threads t (λ k. view_changed (change.Dispatches n) (view_changed (change.State state.Running) (view_placed None k))) → Whole v
+pub runs_whole : {P S H : Type 0} (w v : WorldOf P S H) (t n : ℕ) → Whole w → IsKnown w.threads t → IsIn queue.Ready w.threads t → w.scheduler.running ≡ None → v.scheduler.running ≡ Some t → IsSound v.threads → slot_of v.threads.records ≡ slot_of w.threads.records → v.store ≡ w.store → v.attributes ≡ w.attributes → Touches w.threads v.threads t (λ k. view_changed (change.Dispatches n) (view_changed (change.State state.Running) (view_placed None k))) → Whole v
 unfolding tid_at
-runs_whole w v t n whole known stands nobody runs sound slots store touches =
+runs_whole w v t n whole known stands nobody runs sound slots store objects touches =
     let slot = known_slot (slot_of w.threads.records t) known in
     let own : FitsEntry (Some t) (option_map (changed (change.Dispatches n)) (option_map (changed (change.State state.Running)) (entry_at w.threads.records slot.0))) None (view w.threads slot.0).blocked
     = runs_by t n (entry_at w.threads.records slot.0) _ _ (is_in w queue.Ready t slot.0 stands slot.1) (name_is w.threads t slot.0 whole.sound slot.1) (subst (λ (r : Option ℕ). Fits r (view w.threads slot.0)) nobody (whole.fits slot.0)) in
     whole_from w v t slot.0 _ whole slot.1 touches (fits_same (Some t) v.scheduler.running _ runs own)
     (λ i apart f. rerun_others w v.scheduler.running t (about_none t w.scheduler.running nobody) (about_some t v.scheduler.running runs) i apart f)
-    sound (subst (λ (o : Option ℕ). IfSome o (IsKnown v.threads)) (sym runs) (rw slots known)) slots store
+    sound (subst (λ (o : Option ℕ). IfSome o (IsKnown v.threads)) (sym runs) (rw slots known)) slots store objects
     (λ dead. own_stored w t slot.0 whole slot.1 (lives_set state.Running (view w.threads slot.0).entry refl (lives_counted n (option_map (changed (change.State state.Running)) (view w.threads slot.0).entry) ∙ dead)))
 
 pub runner_nowhere : {P S H : Type 0} (w : WorldOf P S H) (t : ℕ) → Whole w → w.scheduler.running ≡ Some t → IfSome (slot_of w.threads.records t) (λ u. IsNowhere u w.threads.queues)
@@ -301,11 +304,11 @@ pub left_nowhere : {P S H : Type 0} (w m : WorldOf P S H) (t : ℕ) → SameThre
 left_nowhere w m t same h = rw same.slots (if_some (λ u. m.threads.queues ≡ without u w.threads.queues) (λ u. IsNowhere u m.threads.queues) (slot_of w.threads.records t) (λ u is. ap (queue_of u) is ∙ queue-without u w.threads.queues) h)
 
 -- a change of what a thread goes on with, which leaves it fitting
-pub progress_whole : {P S H : Type 0} (w v : WorldOf P S H) (t u : ℕ) (g : View → View) → Whole w → slot_of w.threads.records t ≡ Some u → Touches w.threads v.threads t g → IsSound v.threads → slot_of v.threads.records ≡ slot_of w.threads.records → v.scheduler.running ≡ w.scheduler.running → v.store ≡ w.store → ((r : Option ℕ) → Fits r (view w.threads u) → Fits r (g (view w.threads u))) → (lives (g (view w.threads u)).entry ≡ false → lives (view w.threads u).entry ≡ false) → Whole v
-progress_whole w v t u g whole e touches sound slots running store fits alive =
+pub progress_whole : {P S H : Type 0} (w v : WorldOf P S H) (t u : ℕ) (g : View → View) → Whole w → slot_of w.threads.records t ≡ Some u → Touches w.threads v.threads t g → IsSound v.threads → slot_of v.threads.records ≡ slot_of w.threads.records → v.scheduler.running ≡ w.scheduler.running → v.store ≡ w.store → v.attributes ≡ w.attributes → ((r : Option ℕ) → Fits r (view w.threads u) → Fits r (g (view w.threads u))) → (lives (g (view w.threads u)).entry ≡ false → lives (view w.threads u).entry ≡ false) → Whole v
+progress_whole w v t u g whole e touches sound slots running store objects fits alive =
     whole_from w v t u g whole e touches (fits_same w.scheduler.running v.scheduler.running (g (view w.threads u)) running (fits w.scheduler.running (whole.fits u)))
     (λ i apart f. fits_same w.scheduler.running v.scheduler.running (view w.threads i) running f)
-    sound (runner_kept w v slots running whole.runner) slots store (λ dead. own_stored w t u whole e (alive dead))
+    sound (runner_kept w v slots running whole.runner) slots store objects (λ dead. own_stored w t u whole e (alive dead))
 
 blocked_entry : (r : Option ℕ) (o : Option Entry) (p : Option Queue) (h k : Option Blocked) → ((e : Entry) → o ≡ Some e → IfSome k (λ c. MayBlock e.tid.0 c)) → FitsEntry r o p h → FitsEntry r o p k
 blocked_entry r None p h k calls f = tt
@@ -367,17 +370,17 @@ module _ {P S H : Type 0} (w v : WorldOf P S H) (t u : ℕ) (whole : Whole w) (e
   unfolding tid_at
   others_stop i apart f = fits_same (other_than t w.scheduler.running) v.scheduler.running (view w.threads i) rests (stopped_fits w.scheduler.running t (entry_at w.threads.records i) _ _ apart f)
 
-  pub dead_whole : (n : ℤ) (sound : IsSound v.threads) → v.store ≡ w.store → HasNothing (store_of w.store) t → slot_of v.threads.records ≡ slot_of w.threads.records → Touches w.threads v.threads t (λ k. view_placed (Some queue.Dead) (view_changed (change.Value n) (view_changed (change.Suspended false) (view_changed (change.State state.Dead) (view_placed None k))))) → Whole v
+  pub dead_whole : (n : ℤ) (sound : IsSound v.threads) → v.store ≡ w.store → v.attributes ≡ w.attributes → HasNothing (store_of w.store) t → slot_of v.threads.records ≡ slot_of w.threads.records → Touches w.threads v.threads t (λ k. view_placed (Some queue.Dead) (view_changed (change.Value n) (view_changed (change.Suspended false) (view_changed (change.State state.Dead) (view_placed None k))))) → Whole v
   unfolding tid_at
-  dead_whole n sound store nothing slots touches =
+  dead_whole n sound store objects nothing slots touches =
       whole_from w v t u _ whole e touches
       (fits_same (other_than t w.scheduler.running) v.scheduler.running _ rests (dead_by t n w.scheduler.running (view w.threads u).entry (view w.threads u).place (view w.threads u).blocked (name_is w.threads t u whole.sound e) (whole.fits u)))
       others_stop sound
       (subst (λ (o : Option ℕ). IfSome o (IsKnown v.threads)) (sym rests) (stopped_runner w.threads v.threads w.scheduler.running t (λ x apart known. rw slots known) whole.runner))
-      slots store (λ dead. nothing)
+      slots store objects (λ dead. nothing)
 
   -- t is gone
-  module _ (others : (i : ℕ) → tid_at w.threads.records i ≢ t → view v.threads i ≡ view w.threads i) (gone : RemovesThread w.threads.records v.threads.records u) (store : store_of v.store ≡ store_without t (store_of w.store)) where
+  module _ (others : (i : ℕ) → tid_at w.threads.records i ≢ t → view v.threads i ≡ view w.threads i) (gone : RemovesThread w.threads.records v.threads.records u) (store : store_of v.store ≡ store_without t (store_of w.store)) (objects : v.attributes ≡ w.attributes) (tops : v.threads.queues.top ≡ w.threads.queues.top) where
     none_at : entry_at v.threads.records u ≡ None
     none_at = ap (λ (k : ℕ → Option Entry). k u) gone.entries ∙ put_here (entry_at w.threads.records) u None
 
@@ -400,6 +403,7 @@ module _ {P S H : Type 0} (w v : WorldOf P S H) (t u : ℕ) (whole : Whole w) (e
       fits = λ i. gone_fits i (tid_at w.threads.records i == t) refl;
       runner = subst (λ (o : Option ℕ). IfSome o (IsKnown v.threads)) (sym rests) (stopped_runner w.threads v.threads w.scheduler.running t still_known whole.runner);
       stored = λ r. left_stored w v t r whole.sound store same_slot others (λ apart. whole.stored r);
+      top = ap (λ (x : AttrsOf). x.top) objects ∙ whole.top ∙ sym tops;
     }
 
 -- ---- a thread that is suspended, or no longer
@@ -414,10 +418,10 @@ unfolding changed
 lives_moved b (Some d) = refl
 lives_moved b None = refl
 
-pub moved_whole : {P S H : Type 0} (w v : WorldOf P S H) (t u : ℕ) (q : Queue) (b : Bool) → Whole w → slot_of w.threads.records t ≡ Some u → IfSome (entry_in w.threads t) (λ e. MayStandIn q b e.state) → Touches w.threads v.threads t (λ k. view_placed (Some q) (view_changed (change.Suspended b) (view_placed None k))) → slot_of v.threads.records ≡ slot_of w.threads.records → v.scheduler.running ≡ w.scheduler.running → v.store ≡ w.store → IsSound v.threads → Whole v
-moved_whole w v t u q b whole e may touches slots running store sound =
+pub moved_whole : {P S H : Type 0} (w v : WorldOf P S H) (t u : ℕ) (q : Queue) (b : Bool) → Whole w → slot_of w.threads.records t ≡ Some u → IfSome (entry_in w.threads t) (λ e. MayStandIn q b e.state) → Touches w.threads v.threads t (λ k. view_placed (Some q) (view_changed (change.Suspended b) (view_placed None k))) → slot_of v.threads.records ≡ slot_of w.threads.records → v.scheduler.running ≡ w.scheduler.running → v.store ≡ w.store → v.attributes ≡ w.attributes → IsSound v.threads → Whole v
+moved_whole w v t u q b whole e may touches slots running store objects sound =
     let there = subst (λ (o : Option Entry). IfSome o (λ d. MayStandIn q b d.state)) (seen_at None (slot_of w.threads.records) (entry_at w.threads.records) t u e) may in
-    progress_whole w v t u (λ k. view_placed (Some q) (view_changed (change.Suspended b) (view_placed None k))) whole e touches sound slots running store
+    progress_whole w v t u (λ k. view_placed (Some q) (view_changed (change.Suspended b) (view_placed None k))) whole e touches sound slots running store objects
     (λ r f. moved_by r q b (entry_at w.threads.records u) _ _ there f)
     (λ dead. lives_moved b (entry_at w.threads.records u) ∙ dead)
 
@@ -572,12 +576,13 @@ can_suspend w t e whole runs known is may =
 -- ---- all but one thread
 
 -- t is gone, and does not run
-pub gone_but : {P S H : Type 0} (w v : WorldOf P S H) (t u : ℕ) → slot_of w.threads.records t ≡ Some u → ((i : ℕ) → tid_at w.threads.records i ≢ t → view v.threads i ≡ view w.threads i) → RemovesThread w.threads.records v.threads.records u → IsSound v.threads → v.scheduler.running ≡ w.scheduler.running → store_of v.store ≡ store_without t (store_of w.store) → w.scheduler.running ≢ Some t → WholeBut w t → WholeBut v t
-gone_but w v t u e others gone sound running store rests but = record {
+pub gone_but : {P S H : Type 0} (w v : WorldOf P S H) (t u : ℕ) → slot_of w.threads.records t ≡ Some u → ((i : ℕ) → tid_at w.threads.records i ≢ t → view v.threads i ≡ view w.threads i) → RemovesThread w.threads.records v.threads.records u → IsSound v.threads → v.scheduler.running ≡ w.scheduler.running → store_of v.store ≡ store_without t (store_of w.store) → v.attributes ≡ w.attributes → v.threads.queues.top ≡ w.threads.queues.top → w.scheduler.running ≢ Some t → WholeBut w t → WholeBut v t
+gone_but w v t u e others gone sound running store objects tops rests but = record {
   sound = sound;
   fits = λ i apart. fits_by i (tid_at w.threads.records i == t) refl;
   runner = rw running (by_runner w.scheduler.running rests but.runner);
   stored = λ r apart. left_stored w v t r but.sound store same_slot others (but.stored r);
+  top = ap (λ (x : AttrsOf). x.top) objects ∙ but.top ∙ sym tops;
 }
   where
     none_at : entry_at v.threads.records u ≡ None
@@ -602,22 +607,23 @@ gone_but w v t u e others gone sound running store rests but = record {
 
 module _ {P S H : Type 0} (w v : WorldOf P S H) (t : ℕ) where
   -- a change of t alone, whoever runs
-  pub but_kept : (g : View → View) → Touches w.threads v.threads t g → SameThreads w.threads v.threads → v.scheduler.running ≡ w.scheduler.running → v.store ≡ w.store → IsSound v.threads → WholeBut w t → WholeBut v t
-  but_kept g touches same running store sound but = record {
+  pub but_kept : (g : View → View) → Touches w.threads v.threads t g → SameThreads w.threads v.threads → v.scheduler.running ≡ w.scheduler.running → v.store ≡ w.store → v.attributes ≡ w.attributes → IsSound v.threads → WholeBut w t → WholeBut v t
+  but_kept g touches same running store objects sound but = record {
     sound = sound;
     fits = λ i apart. (
         let there : tid_at w.threads.records i ≢ t = λ at. apart (ap (λ (k : ℕ → ℕ). k i) same.tids ∙ at) in
         subst (λ (k : View). Fits v.scheduler.running k) (sym (touches.others i there)) (fits_same w.scheduler.running v.scheduler.running (view w.threads i) running (but.fits i there)));
     runner = runner_kept w v same.slots running but.runner;
     stored = λ r apart. stores_as w v r store (entry_kept w.threads v.threads t r but.sound (ap (λ (k : ℕ → Option ℕ). k r) same.slots) touches.others apart) (but.stored r apart);
+    top = ap (λ (x : AttrsOf). x.top) objects ∙ but.top ∙ sym touches.top;
   }
 
 pub whole_but : {P S H : Type 0} (w : WorldOf P S H) (t : ℕ) → Whole w → WholeBut w t
-whole_but w t whole = record { sound = whole.sound; fits = λ u apart. whole.fits u; runner = whole.runner; stored = λ u apart. whole.stored u }
+whole_but w t whole = record { sound = whole.sound; fits = λ u apart. whole.fits u; runner = whole.runner; stored = λ u apart. whole.stored u; top = whole.top }
 
 -- where t fits as well, and stores something only while it is alive
 pub whole_again : {P S H : Type 0} (w : WorldOf P S H) (t : ℕ) → WholeBut w t → ((u : ℕ) → tid_at w.threads.records u ≡ t → Fits w.scheduler.running (view w.threads u)) → StoresAlive w t → Whole w
-whole_again w t but own stored = record { sound = but.sound; fits = λ u. by_own u (tid_at w.threads.records u == t) refl; runner = but.runner; stored = λ u. stored_by u (u == t) refl }
+whole_again w t but own stored = record { sound = but.sound; fits = λ u. by_own u (tid_at w.threads.records u == t) refl; runner = but.runner; stored = λ u. stored_by u (u == t) refl; top = but.top }
   where
     by_own : (u : ℕ) (b : Bool) → (tid_at w.threads.records u == t) ≡ b → Fits w.scheduler.running (view w.threads u)
     by_own u true is = own u (same_means _ t is)
@@ -628,12 +634,13 @@ whole_again w t but own stored = record { sound = but.sound; fits = λ u. by_own
     stored_by u false is = but.stored u (same_fails u t is)
 
 -- where none but t runs, before and after
-pub rerun_but : {P S H : Type 0} (w v : WorldOf P S H) (t : ℕ) → v.threads ≡ w.threads → v.store ≡ w.store → IsAbout w.scheduler.running t → IsAbout v.scheduler.running t → IsRunner v → WholeBut w t → WholeBut v t
-rerun_but w v t same store before after runner but = record {
+pub rerun_but : {P S H : Type 0} (w v : WorldOf P S H) (t : ℕ) → v.threads ≡ w.threads → v.store ≡ w.store → v.attributes ≡ w.attributes → IsAbout w.scheduler.running t → IsAbout v.scheduler.running t → IsRunner v → WholeBut w t → WholeBut v t
+rerun_but w v t same store objects before after runner but = record {
   sound = rw same but.sound;
   fits = rw same (λ i apart. rerun_others w v.scheduler.running t before after i apart (but.fits i apart));
   runner = runner;
   stored = λ r apart. stores_as w v r store (ap (λ (x : ThreadsBySlot _). entry_in x r) same) (but.stored r apart);
+  top = ap (λ (x : AttrsOf). x.top) objects ∙ but.top ∙ sym (ap (λ (x : ThreadsBySlot _). x.queues.top) same);
 }
 
 -- the call that blocks a thread is one that may

@@ -71,9 +71,9 @@ pub stands_at : {S : Type 0} (w : ThreadsBySlot S) → IsSound w → (u t : ℕ)
 stands_at w sound u t q used name h = rw (← name, sound.tied.slot u used) h
 
 -- one above the ranks in bounds
-pub top_bounds : (room : ℕ) (xs : List Ranked) → IsOrdered room xs → (neg_ℤ (pos (2 ^ 40)) ≤ℤ favour_top xs) × (favour_top xs ≤ℤ pos (2 ^ 40 + 1))
-top_bounds room [] o = (grind (arith, ints), grind (arith, ints))
-top_bounds room (x ∷ xs) o =
+pub top_bounds : (top room : ℕ) (xs : List Ranked) → top ≤ 20 → IsOrdered room xs → (neg_ℤ (pos (2 ^ 40)) ≤ℤ favour_top top xs) × (favour_top top xs ≤ℤ pos (2 ^ 40 + 1))
+top_bounds top room [] most o = (grind (arith, ints), grind (arith, ints))
+top_bounds top room (x ∷ xs) most o =
     let r : IsRank x.rank = All-head (λ y. IsRank y.rank) x xs o.ranks in
     let low = r.low in
     let high = r.high in
@@ -105,7 +105,7 @@ once_named w t q sound = by_slot (slot_of w.records t) refl
     by_slot (Some u) e = rw (count-named (slot_of w.records) (tid_at w.records) t u (rows_of q w.queues) sound.tied e (sound.queued q)) (once_in q u w.queues sound.orderly)
 
 -- and so in the queue of a state
-pub once_thread : {P S H : Type 0} (w : ThreadsBySlot S) (s : Control P S H) (t : ℕ) (q : Queue) → IsSound w → ShowsThreads w s.threads → count_by (is_of t) (queue s q) ≤ 1
+pub once_thread : {P S H : Type 0} (w : ThreadsBySlot S) (s : Control P S H) (t : ℕ) (q : Queue) → IsSound w → ShowsThreads s.top w s.threads → count_by (is_of t) (queue s q) ≤ 1
 once_thread w s t q sound st = rw (st.standing q) (once_named w t q sound)
 
 after_by : (u v : ℕ) (x : Ranked) (xs : List Ranked) (b : Bool) → (head_of xs ≡ Some v → holds v xs ≡ true) → (after_in u xs ≡ Some v → holds v xs ≡ true) → (if b then head_of xs else after_in u xs) ≡ Some v → holds v xs ≡ true
@@ -136,7 +136,7 @@ pub after_of-in : (u : ℕ) (q : Queue) (x : QueuesOf) → queue_of u x ≡ Some
 after_of-in u q x h = rw h
 
 pub after_is : {P S H : Type 0} (w : ThreadsBySlot S) (s : Control P S H) (t u : ℕ) (q : Queue) (o : Option Slot) (front back : List Ranked) (r : Ranked) → IsSound w → slot_of w.records t ≡ Some u → queue_of u w.queues ≡ Some q →
-    option_map (λ (v : Slot). v.0) o ≡ after_of u w.queues → ShowsThreads w s.threads → queue s q ≡ front ++ r ∷ back → r.holder ≡ t → option_map (λ (v : Slot). tid_at w.records v.0) o ≡ head_of back
+    option_map (λ (v : Slot). v.0) o ≡ after_of u w.queues → ShowsThreads s.top w s.threads → queue s q ≡ front ++ r ∷ back → r.holder ≡ t → option_map (λ (v : Slot). tid_at w.records v.0) o ≡ head_of back
 after_is w s t u q o front back r sound e stands h st is same =
     names (tid_at w.records) o
     ∙ ap (option_map (tid_at w.records)) (h ∙ after_of-in u q w.queues stands)
@@ -148,7 +148,7 @@ abbrev at_place : Queue → ℤ × ℕ → Queue × ℤ × ℕ
 at_place q p = (q, p.0, p.1)
 
 -- the rank of a thread in its queue is the one that its slot has there
-pub rank_is : {P S H : Type 0} (w : ThreadsBySlot S) (s : Control P S H) (t u : ℕ) (q : Queue) (rank : ℤ) → IsSound w → slot_of w.records t ≡ Some u → queue_of u w.queues ≡ Some q → IsSomeAnd (place_of u w.queues) (λ p. rank ≡ p.1) → ShowsThreads w s.threads → rank ≡ rank_by (place_in t (queue s q))
+pub rank_is : {P S H : Type 0} (w : ThreadsBySlot S) (s : Control P S H) (t u : ℕ) (q : Queue) (rank : ℤ) → IsSound w → slot_of w.records t ≡ Some u → queue_of u w.queues ≡ Some q → IsSomeAnd (place_of u w.queues) (λ p. rank ≡ p.1) → ShowsThreads s.top w s.threads → rank ≡ rank_by (place_in t (queue s q))
 rank_is w s t u q rank sound e stands h st =
     rw (st.standing q, place_named (slot_of w.records) (tid_at w.records) t u (rows_of q w.queues) sound.tied e (sound.queued q))
     (by_place (place_in u (rows_of q w.queues)) (rw stands at h))

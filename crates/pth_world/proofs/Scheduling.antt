@@ -11,4 +11,4 @@ scheduler_shows w x k y sh is = record { program = sh.program; shared = sh.share
 
 -- and a world is whole that is run by the same thread
 pub scheduler_whole : {P S H : Type 0} (w : WorldOf P S H) (x : Scheduler) → x.running ≡ w.scheduler.running → Whole w → Whole (record w { scheduler = x })
-scheduler_whole w x same whole = record { sound = whole.sound; fits = λ u. rw same (whole.fits u); runner = rw same whole.runner; stored = whole.stored }
+scheduler_whole w x same whole = record { sound = whole.sound; fits = λ u. rw same (whole.fits u); runner = rw same whole.runner; stored = whole.stored; top = whole.top }

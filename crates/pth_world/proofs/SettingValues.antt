@@ -39,12 +39,12 @@ module _ {P S H : Type 0} (w : WorldOf P S H) (y : AttrsOf) where
   pub objects_show : (k : Control P S H) (x : Attributes) → Shows w k → ShowsAttributes y x → Shows (record w { attributes = y }) (record k { attributes = x })
   objects_show k x sh objects = record { program = sh.program; shared = sh.shared; threads = sh.threads; attributes = objects; events = sh.events; conditions = sh.conditions; barriers = sh.barriers; kernel = sh.kernel; used = sh.used; scheduler = sh.scheduler }
 
-  pub objects_whole : Whole w → Whole (record w { attributes = y })
-  objects_whole whole = record { sound = whole.sound; fits = whole.fits; runner = whole.runner; stored = whole.stored }
+  pub objects_whole : y.top ≡ w.attributes.top → Whole w → Whole (record w { attributes = y })
+  objects_whole same whole = record { sound = whole.sound; fits = whole.fits; runner = whole.runner; stored = whole.stored; top = same ∙ whole.top }
 
-  pub objects_frame : (n : Numbers) → Whole w → y.made ≤ w.attributes.made + n Object → Frame w (record w { attributes = y }) n w.scheduler.running false
-  objects_frame n whole few = record {
-    whole = objects_whole whole;
+  pub objects_frame : (n : Numbers) → Whole w → y.top ≡ w.attributes.top → y.objects.made ≤ w.attributes.objects.made + n Object → Frame w (record w { attributes = y }) n w.scheduler.running false
+  objects_frame n whole same few = record {
+    whole = objects_whole same whole;
     runs = refl;
     made = elim [ Thread ↦ omega arith | Object ↦ few | Event ↦ omega arith | Port ↦ omega arith ];
     ranks = record { under = λ roof low h. h; fresh = omega arith };
@@ -56,16 +56,16 @@ module _ {P S H : Type 0} (w : WorldOf P S H) (y : AttrsOf) where
 is_aside : (d c : Change) → Some d ≡ Some c → IsAside d → IsAside c
 is_aside d c same aside = let e : d ≡ c = cc in subst IsAside e aside
 
-keeps_attributes : (c : Change) → KeepsSet c → KeepsAttributes c
-keeps_attributes (change.Prio prio) set = record { low = (let h = set.low in omega (arith, ints)); high = (let h = set.high in omega (arith, ints)) }
-keeps_attributes (change.Cancel cancel) set = record { low = set.low; high = set.high }
-keeps_attributes (change.Name name) set = tt
-keeps_attributes (change.Joinable b) set = tt
-keeps_attributes (change.Request b) set = tt
-keeps_attributes (change.State s) set = tt
-keeps_attributes (change.Suspended b) set = tt
-keeps_attributes (change.Dispatches n) set = tt
-keeps_attributes (change.Value n) set = tt
+keeps_attributes : (top : ℕ) → top ≤ 20 → (c : Change) → KeepsSet top c → KeepsAttributes c
+keeps_attributes top most (change.Prio prio) set = record { low = (let h = set.low in omega (arith, ints)); high = (let h = set.high in omega (arith, ints)) }
+keeps_attributes top most (change.Cancel cancel) set = record { low = set.low; high = set.high }
+keeps_attributes top most (change.Name name) set = tt
+keeps_attributes top most (change.Joinable b) set = tt
+keeps_attributes top most (change.Request b) set = tt
+keeps_attributes top most (change.State s) set = tt
+keeps_attributes top most (change.Suspended b) set = tt
+keeps_attributes top most (change.Dispatches n) set = tt
+keeps_attributes top most (change.Value n) set = tt
 
 -- such a field says nothing of where a thread stands, and whether it runs
 aside_fits : (c : Change) → IsAside c → (r : Option ℕ) (o : Option Entry) (p : Option Queue) (b : Option Blocked) → FitsEntry r o p b → FitsEntry r (option_map (changed c) o) p b
@@ -98,7 +98,7 @@ module _ {P S H : Type 0} (w : WorldOf P S H) (r : ThreadsOf) where
 
   field_whole : (t u : ℕ) (c : Change) → IsAside c → Whole w → slot_of w.threads.records t ≡ Some u → Touches w.threads with_records.threads t (view_changed c) → IsSound with_records.threads → slot_of r ≡ slot_of w.threads.records → Whole with_records
   field_whole t u c aside whole at touches sound slots =
-      progress_whole w with_records t u (view_changed c) whole at touches sound slots refl refl
+      progress_whole w with_records t u (view_changed c) whole at touches sound slots refl refl refl
       (λ q f. aside_fits c aside q (view w.threads u).entry (view w.threads u).place (view w.threads u).blocked f)
       (λ dead. aside_lives c aside (view w.threads u).entry ∙ dead)
 
@@ -145,7 +145,7 @@ module _ {P S H : Type 0} (w : WorldOf P S H) (x : AttrsOf) (r : ThreadsOf) (a :
   shows_by (Some (Free y)) some s sound k sh = record {
     program = sh.program;
     shared = sh.shared;
-    threads = subst (λ (z : ThreadsOf). ShowsThreads (record w.threads { records = z }) k.threads) (sym s.1) sh.threads;
+    threads = subst (λ (z : ThreadsOf). ShowsThreads k.top (record w.threads { records = z }) k.threads) (sym s.1) sh.threads;
     attributes = record {
       made = sh.attributes.made ∙ sym s.0.made;
       objects = ap (λ (f : ℕ → Option Attribute). put f (number a) (Some (Free (with_value v y)))) sh.attributes.objects ∙ sym s.0.objects;
@@ -177,19 +177,19 @@ module _ {P S H : Type 0} (w : WorldOf P S H) (x : AttrsOf) (r : ThreadsOf) (a :
   ]
   set_numbers (Some (Bound t)) some s = elim [
     | Thread ↦ (let e = s.1.changes.made in omega arith)
-    | Object ↦ (let e : x.made ≡ w.attributes.made = ap (λ (z : AttrsOf). z.made) s.0 in omega arith)
+    | Object ↦ (let e : x.objects.made ≡ w.attributes.objects.made = ap (λ (z : AttrsOf). z.objects.made) s.0 in omega arith)
     | Event ↦ omega arith
     | Port ↦ omega arith
   ]
 
   set_whole : (o : Option Attribute) → is_none o ≡ false → Sets w.attributes x w.threads.records r (number a) v o → Whole w → Whole after
   set_whole None some s whole = absurd (cc some)
-  set_whole (Some (Free y)) some s whole = rw s.1 (objects_whole w x whole)
+  set_whole (Some (Free y)) some s whole = rw s.1 (objects_whole w x s.0.top whole)
   set_whole (Some (Bound t)) some s whole =
       let set = s.1 in
-      let sound = change_sound w.threads whole.sound t.0 set.slot set.found r set.change (keeps_attributes set.change set.keeps) set.changes in
+      let sound = change_sound w.threads whole.sound t.0 set.slot set.found r set.change (keeps_attributes w.attributes.top (subst (λ (n : ℕ). n ≤ 20) (sym whole.top) whole.sound.orderly.range.1) set.change set.keeps) set.changes in
       let fits = λ (q : Option ℕ) (f : Fits q (view w.threads set.slot)). aside_fits set.change (meant_aside v set.change set.meant) q (view w.threads set.slot).entry (view w.threads set.slot).place (view w.threads set.slot).blocked f in
-      progress_whole w after t.0 set.slot (view_changed set.change) whole set.found (change_touches w.threads whole.sound t.0 set.slot set.found r set.change set.changes) sound set.changes.slots refl refl fits (λ dead. aside_lives set.change (meant_aside v set.change set.meant) (view w.threads set.slot).entry ∙ dead)
+      progress_whole w after t.0 set.slot (view_changed set.change) whole set.found (change_touches w.threads whole.sound t.0 set.slot set.found r set.change set.changes) sound set.changes.slots refl refl s.0 fits (λ dead. aside_lives set.change (meant_aside v set.change set.meant) (view w.threads set.slot).entry ∙ dead)
 
   pub set_frame : (o : Option Attribute) → is_none o ≡ false → Sets w.attributes x w.threads.records r (number a) v o → Whole w → Frame w after no_numbers w.scheduler.running false
   set_frame o some s whole = record {
@@ -201,13 +201,13 @@ module _ {P S H : Type 0} (w : WorldOf P S H) (x : AttrsOf) (r : ThreadsOf) (a :
   }
 
 -- where a value was set, there is the object
-some_set : (known : ℕ → Option Entry) (o : Option Attribute) (v : AttrValue) (u : Unit {0}) → Ok u ≡ set_answer known o v → is_none o ≡ false
-some_set known None v u h = absurd (cc h)
-some_set known (Some x) v u h = refl
+some_set : (top : ℕ) (known : ℕ → Option Entry) (o : Option Attribute) (v : AttrValue) (u : Unit {0}) → Ok u ≡ set_answer top known o v → is_none o ≡ false
+some_set top known None v u h = absurd (cc h)
+some_set top known (Some x) v u h = refl
 
-pub where_set : {X Q : Type 0} (result : Result (Unit {0}) Errno) (known : ℕ → Option Entry) (o : Option Attribute) (v : AttrValue) → result ≡ set_answer known o v → OnOk result X → (is_none o ≡ false → X → Q) → OnOk result Q
-where_set (Ok u) known o v is x f = f (some_set known o v u is) x
-where_set (Err e) known o v is x f = tt
+pub where_set : {X Q : Type 0} (result : Result (Unit {0}) Errno) (top : ℕ) (known : ℕ → Option Entry) (o : Option Attribute) (v : AttrValue) → result ≡ set_answer top known o v → OnOk result X → (is_none o ≡ false → X → Q) → OnOk result Q
+where_set (Ok u) top known o v is x f = f (some_set top known o v u is) x
+where_set (Err e) top known o v is x f = tt
 
 -- and it lives where it did
 pub field_alive : {S : Type 0} (x y : ThreadsBySlot S) (t : ℕ) (c : Change) → IsAside c → Touches x y t (view_changed c) → slot_of y.records ≡ slot_of x.records → IsAlive x t → IsAlive y t

@@ -13,6 +13,7 @@ use Rattle.pth_queue.specs.declared.queue.Queue.{Queue}
 use Rattle.pth_queue.specs.declared.queue.Queue.TheVariants as queue
 use Rattle.pth_queue.specs.Ranking.{named_row, insert, delete, increase}
 use Rattle.pth_queue.specs.Queues.{QueuesOf, rows_of, with_rows, without, entered, IsNowhere}
+use Rattle.pth_queue.proofs.Sets.{top-with}
 use Rattle.pth_queue.proofs.Names.{insert_named, delete_named, increase_named, named_added, named_dropped}
 use Rattle.pth_threads.specs.Threads.{ThreadsOf, slot_of, tid_at, entry_at, count, made_of, ChangesThread, AddsThread, RemovesThread}
 use Rattle.pth_threads.specs.declared.entry.Change.{Change}
@@ -30,7 +31,7 @@ use Rattle.pth_world.proofs.Slots.{name_is}
 use Rattle.pth_world.proofs.Places.{nowhere-holds}
 
 -- where threads alone change, what they show is what counts
-pub of_threads : {P S H : Type 0} (w : WorldOf P S H) (y : ThreadsBySlot S) (k : Control P S H) (x : Threads S) → Shows w k → ShowsThreads y x → Shows (record w { threads = y }) (record k { threads = x })
+pub of_threads : {P S H : Type 0} (w : WorldOf P S H) (y : ThreadsBySlot S) (k : Control P S H) (x : Threads S) → Shows w k → ShowsThreads k.top y x → Shows (record w { threads = y }) (record k { threads = x })
 of_threads w y k x sh threads = record { program = sh.program; shared = sh.shared; threads = threads; attributes = sh.attributes; events = sh.events; conditions = sh.conditions; barriers = sh.barriers; kernel = sh.kernel; used = sh.used; scheduler = sh.scheduler }
 
 pub not_here : {S : Type 0} (w : ThreadsBySlot S) (t : ℕ) → slot_of w.records t ≡ None → None ≡ entry_in w t
@@ -53,28 +54,30 @@ module _ {P S H : Type 0} (w : ThreadsBySlot S) (k : Control P S H) where
   abbrev g : ℕ → Option ℕ
   g = slot_of w.records
 
-  module _ (t u : ℕ) (sound : IsSound w) (e : slot_of w.records t ≡ Some u) (sh : ShowsThreads w k.threads) where
+  module _ (t u : ℕ) (sound : IsSound w) (e : slot_of w.records t ≡ Some u) (sh : ShowsThreads k.top w k.threads) where
     -- one field of a record
-    pub change_shows : (x : ThreadsOf) (c : Change) → ChangesThread w.records x u c → ShowsThreads (record w { records = x }) (sets t c k).threads
+    pub change_shows : (x : ThreadsOf) (c : Change) → ChangesThread w.records x u c → ShowsThreads k.top (record w { records = x }) (sets t c k).threads
     unfolding sets
     change_shows x c ch = record {
       made = sh.made ∙ sym ch.made;
       known = rw (sh.known, ch.slots, ch.entries, seen_at None g (entry_at w.records) t u e) (sym (seen_put None g f (entry_at w.records) t u _ sound.tied e));
       progress = rw ch.slots sh.progress;
       standing = λ q. rw ch.tids (sh.standing q);
+      top = sh.top;
     }
 
     -- how far it is
     pub progress_is : k.threads.progress t ≡ table None w.progress u
     progress_is = ap (λ (p : ℕ → Option (Progress S)). p t) sh.progress ∙ seen_at None g (table None w.progress) t u e
 
-    pub progress_shows : (y : List (Option (Progress S))) (h : Progress S → Progress S) → table None y ≡ put (table None w.progress) u (option_map h (table None w.progress u)) → ShowsThreads (record w { progress = y }) (goes_on t h k).threads
+    pub progress_shows : (y : List (Option (Progress S))) (h : Progress S → Progress S) → table None y ≡ put (table None w.progress) u (option_map h (table None w.progress u)) → ShowsThreads k.top (record w { progress = y }) (goes_on t h k).threads
     unfolding goes_on
     progress_shows y h is = record {
       made = sh.made;
       known = sh.known;
       progress = rw (sh.progress, is, seen_at None g (table None w.progress) t u e) (sym (seen_put None g f (table None w.progress) t u _ sound.tied e));
       standing = sh.standing;
+      top = sh.top;
     }
 
     -- the queues
@@ -96,11 +99,11 @@ module _ {P S H : Type 0} (w : ThreadsBySlot S) (k : Control P S H) where
       | inr other ↦ enter_other p q rank top other
     ]
 
-    pub enter_shows : (y : QueuesOf) (q : Queue) (rank : ℤ) (top : Bool) → y ≡ entered q rank u w.queues → ShowsThreads (record w { queues = y }) (enters t q rank top k).threads
+    pub enter_shows : (y : QueuesOf) (q : Queue) (rank : ℤ) (top : Bool) → y ≡ entered q rank u w.queues → ShowsThreads k.top (record w { queues = y }) (enters t q rank top k).threads
     unfolding enters
-    enter_shows y q rank top is = record { made = sh.made; known = sh.known; progress = sh.progress; standing = rw is (enter_rows q rank top) }
+    enter_shows y q rank top is = record { made = sh.made; known = sh.known; progress = sh.progress; standing = rw is (enter_rows q rank top); top = sh.top ∙ sym (ap (λ (x : QueuesOf). x.top) is ∙ top-with q _ w.queues) }
 
-    pub leave_shows : (y : QueuesOf) → y ≡ without u w.queues → ShowsThreads (record w { queues = y }) (leaves_queue t k).threads
+    pub leave_shows : (y : QueuesOf) → y ≡ without u w.queues → ShowsThreads k.top (record w { queues = y }) (leaves_queue t k).threads
     unfolding leaves_queue
     leave_shows y is = record {
       made = sh.made;
@@ -111,6 +114,7 @@ module _ {P S H : Type 0} (w : ThreadsBySlot S) (k : Control P S H) where
           ∙ ap (delete t) (sh.standing q)
           ∙ sym (delete_named g f t u (rows_of q w.queues) sound.tied e (sound.queued q))
           ∙ ap (map (named_row f)) (sym (rows_without q u w.queues)));
+      top = sh.top ∙ sym (ap (λ (x : QueuesOf). x.top) is);
     }
 
     -- the thread's record
@@ -118,7 +122,7 @@ module _ {P S H : Type 0} (w : ThreadsBySlot S) (k : Control P S H) where
     entry_is = ap (λ (p : ℕ → Option Entry). p t) sh.known ∙ seen_at None g (entry_at w.records) t u e
 
     -- the thread is gone, once it stands nowhere
-    pub drop_shows : (x : ThreadsOf) (y : List (Option (Progress S))) → IsNowhere u w.queues → RemovesThread w.records x u → table None y ≡ put (table None w.progress) u None → ShowsThreads (record w { records = x; progress = y }) (forgets t k).threads
+    pub drop_shows : (x : ThreadsOf) (y : List (Option (Progress S))) → IsNowhere u w.queues → RemovesThread w.records x u → table None y ≡ put (table None w.progress) u None → ShowsThreads k.top (record w { records = x; progress = y }) (forgets t k).threads
     unfolding forgets
     drop_shows x y nowhere gone none = record {
       made = sh.made ∙ sym gone.made;
@@ -129,40 +133,42 @@ module _ {P S H : Type 0} (w : ThreadsBySlot S) (k : Control P S H) where
           ∙ ap (map (named_row f)) (sym (delete-absent u (rows_of q w.queues) (nowhere-holds u w.queues nowhere q)))
           ∙ sym (named_dropped f u (rows_of q w.queues))
           ∙ ap (map (named_row (put f u 0))) (delete-absent u (rows_of q w.queues) (nowhere-holds u w.queues nowhere q)));
+      top = sh.top;
     }
 
   -- a thread that is not in the system
-  pub not_known : (t : ℕ) → slot_of w.records t ≡ None → ShowsThreads w k.threads → None ≡ k.threads.known t
+  pub not_known : (t : ℕ) → slot_of w.records t ≡ None → ShowsThreads k.top w k.threads → None ≡ k.threads.known t
   unfolding seen
   not_known t none sh = sym (ap (λ (p : ℕ → Option Entry). p t) sh.known ∙ ap (by_slot None (entry_at w.records)) none)
 
-  pub no_progress : (t : ℕ) → slot_of w.records t ≡ None → ShowsThreads w k.threads → None ≡ k.threads.progress t
+  pub no_progress : (t : ℕ) → slot_of w.records t ≡ None → ShowsThreads k.top w k.threads → None ≡ k.threads.progress t
   unfolding seen
   no_progress t none sh = sym (ap (λ (p : ℕ → Option (Progress S)). p t) sh.progress ∙ ap (by_slot None (table None w.progress)) none)
 
   -- the ready queue is raised
-  raise_rows : ShowsThreads w k.threads → (q : Queue) → queue (raises_ready k) q ≡ map (named_row f) (rows_of q (with_rows queue.Ready (increase w.queues.ready) w.queues))
+  raise_rows : ShowsThreads k.top w k.threads → (q : Queue) → queue (raises_ready k) q ≡ map (named_row f) (rows_of q (with_rows queue.Ready (increase w.queues.ready) w.queues))
   raise_rows sh queue.Ready = queue-raise k ∙ ap increase (sh.standing queue.Ready) ∙ sym (increase_named f w.queues.ready)
   raise_rows sh queue.New = queue-raise_other k queue.New refl ∙ sh.standing queue.New
   raise_rows sh queue.Waiting = queue-raise_other k queue.Waiting refl ∙ sh.standing queue.Waiting
   raise_rows sh queue.Suspended = queue-raise_other k queue.Suspended refl ∙ sh.standing queue.Suspended
   raise_rows sh queue.Dead = queue-raise_other k queue.Dead refl ∙ sh.standing queue.Dead
 
-  pub raise_shows : (y : QueuesOf) → y ≡ with_rows queue.Ready (increase w.queues.ready) w.queues → ShowsThreads w k.threads → ShowsThreads (record w { queues = y }) (raises_ready k).threads
+  pub raise_shows : (y : QueuesOf) → y ≡ with_rows queue.Ready (increase w.queues.ready) w.queues → ShowsThreads k.top w k.threads → ShowsThreads k.top (record w { queues = y }) (raises_ready k).threads
   unfolding raises_ready
-  raise_shows y is sh = record { made = sh.made; known = sh.known; progress = sh.progress; standing = rw is (raise_rows sh) }
+  raise_shows y is sh = record { made = sh.made; known = sh.known; progress = sh.progress; standing = rw is (raise_rows sh); top = sh.top ∙ sym (ap (λ (x : QueuesOf). x.top) is) }
 
   -- a new thread
   module _ (x : ThreadsOf) (y : List (Option (Progress S))) (u : ℕ) (of : NewThread) (sound : IsSound w) (adds : AddsThread w.records x u (made_of of (w.records.made + 1))) where
-    pub add_shows : (h : P → Functions S H) (body : ℕ) (arg : ℤ) → table None y ≡ put (table None w.progress) u (Some (record { state = (h k.program).start body arg; owed = answer.None; blocked = None })) → ShowsThreads w k.threads → ShowsThreads (record w { records = x; progress = y }) (makes h body arg of k).threads
+    pub add_shows : (h : P → Functions S H) (body : ℕ) (arg : ℤ) → table None y ≡ put (table None w.progress) u (Some (record { state = (h k.program).start body arg; owed = answer.None; blocked = None })) → ShowsThreads k.top w k.threads → ShowsThreads k.top (record w { records = x; progress = y }) (makes h body arg of k).threads
     unfolding makes made_of
     add_shows h body arg has sh = rw sh.made (record {
       made = sym adds.made;
       known = rw (sh.known, adds.slots, adds.entries) (sym (seen_add None g f (entry_at w.records) (w.records.made + 1) u sound.tied (Some (made_of of (w.records.made + 1))) adds.unused));
       progress = rw (sh.progress, adds.slots, has) (sym (seen_add None g f (table None w.progress) (w.records.made + 1) u sound.tied (Some _) adds.unused));
       standing = λ q. rw adds.tids (sh.standing q ∙ sym (named_added f u (w.records.made + 1) (rows_of q w.queues) adds.unused (sound.queued q)));
+      top = sh.top;
     })
 
   -- how many threads are in the system
-  pub present_is : IsSound w → ShowsThreads w k.threads → present k ≡ count w.records
+  pub present_is : IsSound w → ShowsThreads k.top w k.threads → present k ≡ count w.records
   present_is sound sh = rw (sh.known, sh.made) sound.present

@@ -3,7 +3,7 @@ use Rattle.std.proofs.lemmas.Bool.{cases_lt}
 use Rattle.std.proofs.lemmas.Int.{ints}
 use Rattle.std.proofs.lemmas.List.{get_or_past, get_or-replicate, length-replicate}
 use mathlib.Core.Path.{fun_ext}
-use Rattle.std.proofs.Common.{arith, ◌≡◌, ◌<◌, ℕ, inl, inr, pos, true, false, List, length, map, replicate, IsSome, IfSome, Option, Some, None, option_map, refl, sym, ◌∙◌, ap, subst}
+use Rattle.std.proofs.Common.{arith, ◌≡◌, ◌<◌, ◌≤◌, ℕ, inl, inr, pos, true, false, List, length, map, replicate, IsSome, IfSome, Option, Some, None, option_map, refl, sym, ◌∙◌, ap, subst}
 use Rattle.pth_base.specs.Limits.{thread_limit}
 use Rattle.pth_base.proofs.Namings.{none_some}
 use Rattle.pth_base.specs.Program.{Functions}
@@ -52,23 +52,23 @@ use Rattle.pth_lock.specs.Mutexes.{MutexTable, no_mutexes}
 use Rattle.pth_lock.specs.RwLocks.{LockTables, no_locks}
 use Rattle.pth_world.proofs.Stores.{forgets, stored_none}
 
-module _ {P S H : Type 0} (f : P → Functions S H) (program : P) (t0 : ThreadsOf) (y0 : List (Option (Progress S)))
+module _ {P S H : Type 0} (f : P → Functions S H) (program : P) (top : ℕ) (range : (5 ≤ top) × (top ≤ 20)) (t0 : ThreadsOf) (y0 : List (Option (Progress S)))
     (slots : slot_of t0 ≡ (λ _. None)) (tids : tid_at t0 ≡ (λ _. 0)) (entries : entry_at t0 ≡ (λ _. None)) (none_made : t0.made ≡ 0) (no_count : count t0 ≡ 0)
     (none : table None y0 ≡ (λ _. None)) (long0 : length y0 ≡ thread_limit)
-    (a0 : AttrsOf) (no_objects : object_of a0 ≡ (λ _. None)) (no_number : a0.made ≡ 0)
+    (a0 : AttrsOf) (no_objects : object_of a0 ≡ (λ _. None)) (no_number : a0.objects.made ≡ 0) (same_top : a0.top ≡ top)
     (e0 : RingsOf) (none_there : events_of e0 ≡ no_events) (c0 : List Condition) (no_condition : conditions_of c0 ≡ no_conditions) (b0 : List (Option Barrier)) (no_barrier : barriers_of b0 ≡ no_barriers) (kernel : KernelOf)
     (T0 : Tables) (no_key : T0 ≡ no_keys) (S0 : Stacks) (no_cleanup : S0 ≡ no_cleanups) (M0 : MutexTable) (no_mutex : M0 ≡ no_mutexes) (L0 : LockTables) (no_lock : L0 ≡ no_locks)
     (R0 : PortsOf) (no_name : names_of R0 ≡ no_names) (no_message : mail_of R0 ≡ no_mail) where
   abbrev x0 : ThreadsBySlot S
-  x0 = record { records = t0; queues = record no_queues { room = thread_limit }; progress = y0 }
+  x0 = record { records = t0; queues = record (no_queues top) { room = thread_limit }; progress = y0 }
 
   abbrev w0 : WorldOf P S H
   w0 = record { program = program; shared = (f program).shared; threads = x0; attributes = a0; events = e0; conditions = c0; barriers = b0; kernel = kernel; store = stored_by t0 T0 S0 M0 L0 R0; used = replicate 64 false; scheduler = record { running = None; preferred = None; favour_new = true } }
 
   abbrev s0 : Control P S H
-  s0 = before_main f (record { program = program; kernel = kernel_of kernel })
+  s0 = before_main f (record { program = program; kernel = kernel_of kernel; top = top })
 
-  none_queued : (q : Queue) → IsQueued (tid_at t0) (rows_of q (record no_queues { room = thread_limit }))
+  none_queued : (q : Queue) → IsQueued (tid_at t0) (rows_of q (record (no_queues top) { room = thread_limit }))
   none_queued queue.New = tt
   none_queued queue.Ready = tt
   none_queued queue.Waiting = tt
@@ -78,10 +78,10 @@ module _ {P S H : Type 0} (f : P → Functions S H) (program : P) (t0 : ThreadsO
   no_attributes : (v : ℕ) (e : Entry) → entry_at t0 v ≡ Some e → HasAttributes e
   no_attributes v e h = absurd (cc (sym (ap (λ (k : ℕ → Option Entry). k v) entries) ∙ h))
 
-  none_orderly : IsOrderly (record no_queues { room = thread_limit })
-  none_orderly = record { each = none_ordered; once = λ v. omega arith; few = omega arith }
+  none_orderly : IsOrderly (record (no_queues top) { room = thread_limit })
+  none_orderly = record { each = none_ordered; once = λ v. omega arith; few = omega arith; range = range }
     where
-      none_ordered : (q : Queue) → IsOrdered thread_limit (rows_of q (record no_queues { room = thread_limit }))
+      none_ordered : (q : Queue) → IsOrdered thread_limit (rows_of q (record (no_queues top) { room = thread_limit }))
       none_ordered queue.New = IsOrdered-nil thread_limit
       none_ordered queue.Ready = IsOrdered-nil thread_limit
       none_ordered queue.Waiting = IsOrdered-nil thread_limit
@@ -104,7 +104,7 @@ module _ {P S H : Type 0} (f : P → Functions S H) (program : P) (t0 : ThreadsO
     present = ap (number_known (seen None (slot_of t0) (entry_at t0))) none_made ∙ sym no_count;
   }
 
-  none_stand : (q : Queue) → queue s0 q ≡ map (named_row (tid_at t0)) (rows_of q (record no_queues { room = thread_limit }))
+  none_stand : (q : Queue) → queue s0 q ≡ map (named_row (tid_at t0)) (rows_of q (record (no_queues top) { room = thread_limit }))
   none_stand queue.New = shown-none _
   none_stand queue.Ready = shown-none _
   none_stand queue.Waiting = shown-none _
@@ -120,7 +120,7 @@ module _ {P S H : Type 0} (f : P → Functions S H) (program : P) (t0 : ThreadsO
   before_shows = record {
     program = refl;
     shared = refl;
-    threads = record { made = sym none_made; known = rw slots refl; progress = rw slots refl; standing = none_stand };
+    threads = record { made = sym none_made; known = rw slots refl; progress = rw slots refl; standing = none_stand; top = refl };
     attributes = record { made = sym no_number; objects = sym no_objects };
     events = sym none_there;
     conditions = sym no_condition;
@@ -141,9 +141,9 @@ module _ {P S H : Type 0} (f : P → Functions S H) (program : P) (t0 : ThreadsO
   no_fit v = subst (λ (o : Option Entry). FitsEntry None o (view x0 v).place (view x0 v).blocked) (sym (ap (λ (k : ℕ → Option Entry). k v) entries)) tt
 
   pub before_whole : Whole w0
-  before_whole = record { sound = sound0; fits = no_fit; runner = tt; stored = λ t dead. nothing_at (store_of w0.store) t before_store }
+  before_whole = record { sound = sound0; fits = no_fit; runner = tt; stored = λ t dead. nothing_at (store_of w0.store) t before_store; top = same_top }
 
-  pub begins_empty : 0 < (f program).bodies → IsBeforeMain f (record { program = program; kernel = kernel_of kernel }) w0
+  pub begins_empty : 0 < (f program).bodies → IsBeforeMain f (record { program = program; kernel = kernel_of kernel; top = top }) w0
   begins_empty some = record {
     shows = before_shows;
     store = before_store;
@@ -180,7 +180,7 @@ module _ {P S H : Type 0} (f : P → Functions S H) (g : Given P) where
   unfolding enters makes
   made_main = put_here (λ _. None) 1 (Some (made_of first_thread 1))
 
-  known_by : (w : ThreadsBySlot S) (o : Option ℕ) → slot_of w.records 1 ≡ o → ShowsThreads w with_main.threads → IsSome o
+  known_by : (w : ThreadsBySlot S) (o : Option ℕ) → slot_of w.records 1 ≡ o → ShowsThreads with_main.top w with_main.threads → IsSome o
   known_by w (Some u) is sh = refl
   known_by w None is sh = absurd (some_none (made_of first_thread 1) (not_known w with_main 1 is sh ∙ made_main))
     where
@@ -190,7 +190,7 @@ module _ {P S H : Type 0} (f : P → Functions S H) (g : Given P) where
   pub main_known : (w : WorldOf P S H) → Shows w with_main → IsKnown w.threads 1
   main_known w sh = known_by w.threads (slot_of w.threads.records 1) refl sh.threads
 
-  pub main_new : (w : ThreadsBySlot S) (z : QueuesOf) → z ≡ record no_queues { room = thread_limit } → IfSome (slot_of w.records 1) (λ u. w.queues ≡ entered queue.New (pos 0) u z) → IsBeforeReady w 1
+  pub main_new : (w : ThreadsBySlot S) (z : QueuesOf) → z ≡ record (no_queues g.top) { room = thread_limit } → IfSome (slot_of w.records 1) (λ u. w.queues ≡ entered queue.New (pos 0) u z) → IsBeforeReady w 1
   main_new w z none enters = record {
     queue = queue.New;
     before = Newly;
@@ -222,7 +222,7 @@ module _ {P S H : Type 0} (f : P → Functions S H) (g : Given P) where
     control = record {
       program = sh.program;
       shared = sh.shared;
-      threads = record { made = sh.threads.made; known = known_is ∙ sh.threads.known; progress = sh.threads.progress; standing = λ q. queue_is q ∙ sh.threads.standing q };
+      threads = record { made = sh.threads.made; known = known_is ∙ sh.threads.known; progress = sh.threads.progress; standing = λ q. queue_is q ∙ sh.threads.standing q; top = sh.threads.top };
       attributes = sh.attributes;
       events = sh.events;
       conditions = sh.conditions;

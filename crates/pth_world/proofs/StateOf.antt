@@ -89,6 +89,7 @@ stands_for_state w sound = record {
       known = refl;
       progress = refl;
       standing = λ q. shows_rows (tid_at w.threads.records) q (rows_of q w.threads.queues) (sound.orderly.each q).falling;
+      top = refl;
     };
     attributes = record { made = refl; objects = refl };
     events = refl;

@@ -284,7 +284,7 @@ nothing_ported s t x q h = record { cleanups = h.cleanups; values = h.values; mu
 
 module _ {P S H : Type 0} (w : WorldOf P S H) where
   pub stored_whole : (y : StoreOf) → ((u : ℕ) → lives (entry_in w.threads u) ≡ false → HasNothing (store_of w.store) u → HasNothing (store_of y) u) → Whole w → Whole (record w { store = y })
-  stored_whole y keeps whole = record { sound = whole.sound; fits = whole.fits; runner = whole.runner; stored = λ u dead. keeps u dead (whole.stored u dead) }
+  stored_whole y keeps whole = record { sound = whole.sound; fits = whole.fits; runner = whole.runner; stored = λ u dead. keeps u dead (whole.stored u dead); top = whole.top }
 
   pub stored_shows : (y : StoreOf) (k : Control P S H) → Shows w k → Shows (record w { store = y }) k
   stored_shows y k sh = record { program = sh.program; shared = sh.shared; threads = sh.threads; attributes = sh.attributes; events = sh.events; conditions = sh.conditions; barriers = sh.barriers; kernel = sh.kernel; used = sh.used; scheduler = sh.scheduler }

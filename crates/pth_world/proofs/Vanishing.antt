@@ -199,7 +199,7 @@ module _ {P S H : Type 0} (w v : WorldOf P S H) (u : ℕ) (q : Queue) (whole : W
     -- a thread of a queue vanishes
     pub vanish_one : Vanishing w v
     vanish_one = record {
-      whole = gone_whole w v u slot.0 whole slot.1 runs others gone store sound;
+      whole = gone_whole w v u slot.0 whole slot.1 runs others gone store (ap (λ (k : WorldOf P S H). k.attributes) same) (ap (λ (x : QueuesOf). x.top) queues_are) sound;
       shows = λ t is k sh. record { rest = removes u k; shows = shows k sh; same = vanish-removed t u k (other t is) };
       made = gone.made;
       ranks = ranks_left w.threads v.threads u known queues;
@@ -289,6 +289,7 @@ module _ {P S H : Type 0} (w : WorldOf P S H) (t : ℕ) (whole : Whole w) (is : 
       known = only-alone t k.threads.known (λ i apart. sym (not_known w.threads k i (nobody i apart) sh.threads)) ∙ sh.threads.known;
       progress = only-alone t k.threads.progress (λ i apart. sym (no_progress w.threads k i (nobody i apart) sh.threads)) ∙ sh.threads.progress;
       standing = λ q. sym (ap (map (named_row (tid_at w.threads.records))) (none q));
+      top = sh.threads.top;
     };
     attributes = sh.attributes;
     events = ap all_unclaimed sh.events ∙ sym unclaimed;

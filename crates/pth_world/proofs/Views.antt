@@ -3,6 +3,7 @@ use Rattle.std.proofs.Common.{◌≡◌, ◌≢◌, ℕ, ℤ, List, IsSome, Opti
 use Rattle.pth_base.specs.Table.{put, table}
 use Rattle.pth_base.specs.declared.answer.Answer.{Answer}
 use Rattle.pth_base.proofs.Tables.{put_here, put_other}
+use Rattle.pth_queue.proofs.Sets.{top-with}
 use Rattle.pth_queue.specs.declared.queue.Queue.{Queue}
 use Rattle.pth_queue.specs.declared.queue.Queue.TheVariants as queue
 use Rattle.pth_queue.specs.Ranking.{increase}
@@ -40,12 +41,14 @@ module _ {S : Type 0} (w : ThreadsBySlot S) (sound : IsSound w) (t u : ℕ) (e :
   change_touches x c ch = record {
     own = at_slot (λ v. view (record w { records = x }) v ≡ view_changed c (view w v)) (view_by _ _ _ (view_changed c (view w u)) (ap (λ (k : ℕ → Option Entry). k u) ch.entries ∙ put_here (entry_at w.records) u _) refl refl);
     others = λ v apart. view_by _ _ _ (view w v) (ap (λ (k : ℕ → Option Entry). k v) ch.entries ∙ put_other (entry_at w.records) u _ v (other_slot w t u sound e v apart)) refl refl;
+    top = refl;
   }
 
   progress_touches : (y : List (Option (Progress S))) (o : Option (Progress S)) (g : View → View) → table None y ≡ put (table None w.progress) u o → record (view w u) { blocked = blocked_in o } ≡ g (view w u) → Touches w (record w { progress = y }) t g
   progress_touches y o g is same = record {
     own = at_slot (λ v. view (record w { progress = y }) v ≡ g (view w v)) (view_by _ _ _ (record (view w u) { blocked = blocked_in o }) refl refl (ap blocked_in (ap (λ (k : ℕ → Option (Progress S)). k u) is ∙ put_here (table None w.progress) u o)) ∙ same);
     others = λ v apart. view_by _ _ _ (view w v) refl refl (ap blocked_in (ap (λ (k : ℕ → Option (Progress S)). k v) is ∙ put_other (table None w.progress) u o v (other_slot w t u sound e v apart)));
+    top = refl;
   }
 
   pub owed_touches : (y : List (Option (Progress S))) (a : Answer) → table None y ≡ put (table None w.progress) u (option_map (owing a) (table None w.progress u)) → Touches w (record w { progress = y }) t same_view
@@ -57,18 +60,20 @@ module _ {S : Type 0} (w : ThreadsBySlot S) (sound : IsSound w) (t u : ℕ) (e :
   pub called_touches : (y : List (Option (Progress S))) (c d : Progress S) → table None w.progress u ≡ Some c → d.blocked ≡ c.blocked → table None y ≡ put (table None w.progress) u (Some d) → Touches w (record w { progress = y }) t same_view
   called_touches y c d had same is =
       let a = progress_touches y (Some d) same_view is (ap (λ (h : Option Blocked). record (view w u) { blocked = h }) (same ∙ ap blocked_in (sym had))) in
-      record { own = a.own; others = a.others }
+      record { own = a.own; others = a.others; top = a.top }
 
   pub enter_touches : (y : QueuesOf) (q : Queue) (rank : ℤ) → IsNowhere u w.queues → y ≡ entered q rank u w.queues → Touches w (record w { queues = y }) t (view_placed (Some q))
   enter_touches y q rank none is = record {
     own = at_slot (λ v. view (record w { queues = y }) v ≡ view_placed (Some q) (view w v)) (view_by _ _ _ (view_placed (Some q) (view w u)) refl (ap (queue_of u) is ∙ queue-entered u rank w.queues q none) refl);
     others = λ v apart. view_by _ _ _ (view w v) refl (ap (queue_of v) is ∙ queue-entered_other u rank w.queues v q (other_slot w t u sound e v apart)) refl;
+    top = ap (λ (x : QueuesOf). x.top) is ∙ top-with q _ w.queues;
   }
 
   pub leave_touches : (y : QueuesOf) → y ≡ without u w.queues → Touches w (record w { queues = y }) t (view_placed None)
   leave_touches y is = record {
     own = at_slot (λ v. view (record w { queues = y }) v ≡ view_placed None (view w v)) (view_by _ _ _ (view_placed None (view w u)) refl (ap (queue_of u) is ∙ queue-without u w.queues) refl);
     others = λ v apart. view_by _ _ _ (view w v) refl (ap (queue_of v) is ∙ queue-without_other u v w.queues (other_slot w t u sound e v apart)) refl;
+    top = ap (λ (x : QueuesOf). x.top) is;
   }
 
 -- a raise moves nobody

@@ -131,10 +131,10 @@ module _ {P S H : Type 0} (w v : WorldOf P S H) (t u : ℕ) (sound : IsSound w.t
   next_touches = subst (λ z. Touches w.threads z t same_view) (sym threads_are) (called_touches w.threads sound t u e v.threads.progress p (after p.owed) stood.1 refl goes)
 
   pub next_whole : Whole w → Whole v
-  next_whole whole = progress_whole w v t u same_view whole e next_touches next_sound (ap (λ (z : ThreadsBySlot S). slot_of z.records) threads_are) (ap (λ (z : WorldOf P S H). z.scheduler.running) same) (ap (λ (z : WorldOf P S H). z.store) same) (λ r f. f) (λ dead. dead)
+  next_whole whole = progress_whole w v t u same_view whole e next_touches next_sound (ap (λ (z : ThreadsBySlot S). slot_of z.records) threads_are) (ap (λ (z : WorldOf P S H). z.scheduler.running) same) (ap (λ (z : WorldOf P S H). z.store) same) (ap (λ (z : WorldOf P S H). z.attributes) same) (λ r f. f) (λ dead. dead)
 
   pub next_but : WholeBut w t → WholeBut v t
-  next_but = but_kept w v t same_view next_touches (record { slots = ap (λ (z : ThreadsBySlot S). slot_of z.records) threads_are; tids = ap (λ (z : ThreadsBySlot S). tid_at z.records) threads_are; made = ap (λ (z : ThreadsBySlot S). z.records.made) threads_are }) (ap (λ (z : WorldOf P S H). z.scheduler.running) same) (ap (λ (z : WorldOf P S H). z.store) same) next_sound
+  next_but = but_kept w v t same_view next_touches (record { slots = ap (λ (z : ThreadsBySlot S). slot_of z.records) threads_are; tids = ap (λ (z : ThreadsBySlot S). tid_at z.records) threads_are; made = ap (λ (z : ThreadsBySlot S). z.records.made) threads_are }) (ap (λ (z : WorldOf P S H). z.scheduler.running) same) (ap (λ (z : WorldOf P S H). z.store) same) (ap (λ (z : WorldOf P S H). z.attributes) same) next_sound
 
 -- a new thread
 module _ {P S H : Type 0} (w : WorldOf P S H) (whole : Whole w) (x : ThreadsOf) (y : List (Option (Progress S))) (z : QueuesOf) (u : ℕ) (of : NewThread) (prio : IsPrio of.prio) (cancel : IsCancel of.cancel) (c : Progress S) (bare : c.blocked ≡ None) (adds : AddsThread w.threads.records x u (made_of of (w.threads.records.made + 1))) (has : table None y ≡ put (table None w.threads.progress) u (Some c)) (long : length y ≡ thread_limit) (placed : z ≡ entered queue.New of.prio u w.threads.queues) where
@@ -163,7 +163,7 @@ module _ {P S H : Type 0} (w : WorldOf P S H) (whole : Whole w) (x : ThreadsOf) 
       let begins : (h w.program).start body arg ≡ (h k.program).start body arg = ap (λ (q : P). (h q).start body arg) (sym sh.program) in
       let has_first : table None y ≡ put (table None w.threads.progress) u (Some (record { state = (h k.program).start body arg; owed = answer.None; blocked = None })) = has ∙ ap (λ (q : Progress S). put (table None w.threads.progress) u (Some q)) is ∙ ap (λ (s : S). put (table None w.threads.progress) u (Some (record { state = s; owed = answer.None; blocked = None }))) begins in
       let added = add_shows w.threads k x y u of whole.sound adds h body arg has_first sh.threads in
-      of_threads w all.threads k _ sh (subst (λ (n : ℕ). ShowsThreads all.threads (enters (n + 1) queue.New of.prio false (makes h body arg of k)).threads) (sym sh.threads.made) (enter_shows v.threads (makes h body arg of k) t u sound slot added z queue.New of.prio false placed))
+      of_threads w all.threads k _ sh (subst (λ (n : ℕ). ShowsThreads k.top all.threads (enters (n + 1) queue.New of.prio false (makes h body arg of k)).threads) (sym sh.threads.made) (enter_shows v.threads (makes h body arg of k) t u sound slot added z queue.New of.prio false placed))
 
   all_sound : IsSound all.threads
   all_sound = enter_sound v.threads sound t u slot z queue.New of.prio spawn_nowhere (prio_rank of.prio prio) placed
@@ -226,7 +226,7 @@ module _ {P S H : Type 0} (w : WorldOf P S H) (whole : Whole w) (x : ThreadsOf) 
   stored_by r false is dead = whole.stored r (ap lives (sym (entry_old r (same_fails r t is))) ∙ dead)
 
   pub spawn_whole : Whole all
-  spawn_whole = record { sound = all_sound; fits = λ i. fits_at i (i == u) refl; runner = if_some (λ r. IsKnown w.threads r) (λ r. IsSome (slot_of x r)) w.scheduler.running spawn_others whole.runner; stored = λ r. stored_by r (r == t) refl }
+  spawn_whole = record { sound = all_sound; top = whole.top ∙ sym (ap (λ (q : QueuesOf). q.top) placed); fits = λ i. fits_at i (i == u) refl; runner = if_some (λ r. IsKnown w.threads r) (λ r. IsSome (slot_of x r)) w.scheduler.running spawn_others whole.runner; stored = λ r. stored_by r (r == t) refl }
 
 -- a refused new thread
 module _ {P S H : Type 0} (w : WorldOf P S H) (x : ThreadsOf) (same : IsSame w.threads.records x) where
@@ -251,4 +251,5 @@ module _ {P S H : Type 0} (w : WorldOf P S H) (x : ThreadsOf) (same : IsSame w.t
     fits = λ u. rw same.entries (whole.fits u);
     runner = if_some (λ r. IsKnown w.threads r) (λ r. IsSome (slot_of x r)) w.scheduler.running (λ r known. rw same.slots known) whole.runner;
     stored = λ t. rw (same.slots, same.entries) (whole.stored t);
+    top = whole.top;
   }

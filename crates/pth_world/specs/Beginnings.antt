@@ -1,5 +1,5 @@
 -- The parts of a world that has no thread yet, and such a world.
-use Rattle.std.specs.Prelude.{◌≡◌, ◌<◌, List, length, Option, None}
+use Rattle.std.specs.Prelude.{◌≡◌, ◌<◌, ℕ, List, length, Option, None}
 use Rattle.pth_base.specs.Limits.{thread_limit}
 use Rattle.pth_base.specs.Program.{Functions}
 use Rattle.pth_base.specs.Table.{table}
@@ -16,8 +16,8 @@ use Rattle.pth_world.specs.Whole.{Whole}
 use Rattle.pth_world.specs.World.{WorldOf, before_main}
 
 -- parts that keep nothing yet, with room for as many threads as there may be
-pub record AreEmpty {S : Type 0} (q : QueuesOf) (y : List (Option (Progress S))) (m : MutexTable) (l : LockTables) : Type 0 where
-  pub queues : q ≡ record no_queues { room = thread_limit }
+pub record AreEmpty {S : Type 0} (top : ℕ) (q : QueuesOf) (y : List (Option (Progress S))) (m : MutexTable) (l : LockTables) : Type 0 where
+  pub queues : q ≡ record (no_queues top) { room = thread_limit }
   pub none : table None y ≡ (λ _. None)
   pub long : length y ≡ thread_limit
   pub mutexes : m ≡ no_mutexes
@@ -30,10 +30,10 @@ pub record IsBeforeMain {P S H : Type 0} (f : P → Functions S H) (g : Given P)
   pub whole : Whole w
   -- no number of a thread, an attribute object, an event or a port was given
   pub made : w.threads.records.made ≡ 0
-  pub objects : w.attributes.made ≡ 0
+  pub objects : w.attributes.objects.made ≡ 0
   pub events : w.events.made ≡ 0
   pub ports : w.store.ports.made ≡ 0
   pub count : count w.threads.records ≡ 0
-  pub queues : w.threads.queues ≡ record no_queues { room = thread_limit }
+  pub queues : w.threads.queues ≡ record (no_queues g.top) { room = thread_limit }
   -- there is a body for main
   pub bodies : 0 < (f w.program).bodies

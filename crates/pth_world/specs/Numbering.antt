@@ -30,7 +30,7 @@ one_of_each k = 1
 -- how many a world gave
 abbrev pub made : {P S H : Type 0} → WorldOf P S H → Numbers
 made w Thread = w.threads.records.made
-made w Object = w.attributes.made
+made w Object = w.attributes.objects.made
 made w Event = w.events.made
 made w Port = w.store.ports.made
 

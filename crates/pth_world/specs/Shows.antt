@@ -1,5 +1,5 @@
 -- A world shows a state of the machine.
-use Rattle.std.specs.Prelude.{◌≡◌, None, map, false}
+use Rattle.std.specs.Prelude.{◌≡◌, ℕ, None, map, false}
 use Rattle.pth_base.specs.Table.{table}
 use Rattle.pth_base.specs.Naming.{seen}
 use Rattle.pth_queue.specs.Ranking.{named_row}
@@ -16,29 +16,31 @@ use Rattle.pth_model.specs.State.{State, Control, Threads, Attributes}
 use Rattle.pth_world.specs.Store.{store_of}
 use Rattle.pth_world.specs.World.{WorldOf, ThreadsBySlot}
 
--- The threads are these under their numbers, and each queue shows the standings in order. Not shown of standings
+-- The threads are these under their numbers, each queue shows the standings in order, and the greatest base priority is that of the
+-- queues. It is that of the attribute objects too where the world is whole (`Whole`). Not shown of standings
 -- are three things:
 -- - raises of the ready queue, and those before an entry: a rank shows how many came between the two;
 -- - numbers of entries: the order of equal ranks shows which entry was earlier;
 -- - whether one entered at Top: the rank alone is shown.
 -- So a world stands for states that differ in these, and contracts are said of each of them. What they are in the states of a
 -- run, `queues_are_in_order` (`pth_model`) says.
-pub record ShowsThreads {S : Type 0} (x : ThreadsBySlot S) (k : Threads S) : Type 0 where
+pub record ShowsThreads {S : Type 0} (greatest : ℕ) (x : ThreadsBySlot S) (k : Threads S) : Type 0 where
   pub made : k.made ≡ x.records.made
   pub known : k.known ≡ seen None (slot_of x.records) (entry_at x.records)
   pub progress : k.progress ≡ seen None (slot_of x.records) (table None x.progress)
   pub standing : (q : Queue) → shown (raises_of k.raises q) (k.standing q) ≡ map (named_row (tid_at x.records)) (rows_of q x.queues)
+  pub top : greatest ≡ x.queues.top
 
 -- the attribute objects are these under their numbers
 pub record ShowsAttributes (x : AttrsOf) (k : Attributes) : Type 0 where
-  pub made : k.made ≡ x.made
+  pub made : k.made ≡ x.objects.made
   pub objects : k.objects ≡ object_of x
 
 -- the world shows this control
 pub record Shows {P S H : Type 0} (w : WorldOf P S H) (k : Control P S H) : Type 0 where
   pub program : k.program ≡ w.program
   pub shared : k.shared ≡ w.shared
-  pub threads : ShowsThreads w.threads k.threads
+  pub threads : ShowsThreads k.top w.threads k.threads
   pub attributes : ShowsAttributes w.attributes k.attributes
   pub events : k.events ≡ events_of w.events
   pub conditions : k.conditions ≡ conditions_of w.conditions

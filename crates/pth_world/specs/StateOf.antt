@@ -46,12 +46,13 @@ state_of w = record {
       entries = 0;
       raises = 0;
     };
-    attributes = record { made = w.attributes.made; objects = object_of w.attributes };
+    attributes = record { made = w.attributes.objects.made; objects = object_of w.attributes };
     events = events_of w.events;
     conditions = conditions_of w.conditions;
     barriers = barriers_of w.barriers;
     kernel = kernel_of w.kernel;
     used = table false w.used;
     scheduler = w.scheduler;
+    top = w.threads.queues.top;
   };
 }

@@ -8,10 +8,11 @@ use Rattle.pth_model.specs.declared.blocked.Blocked.{Blocked}
 use Rattle.pth_world.specs.World.{WorldOf, ThreadsBySlot}
 use Rattle.pth_world.specs.Whole.{View, view}
 
--- the others have what they had, and this one what the change makes of it
+-- the others have what they had, and this one what the change makes of it; the greatest base priority is the same
 pub record Touches {S : Type 0} (old new : ThreadsBySlot S) (t : ℕ) (change : View → View) : Type 0 where
   pub own : (u : ℕ) → slot_of old.records t ≡ Some u → view new u ≡ change (view old u)
   pub others : (u : ℕ) → tid_at old.records u ≢ t → view new u ≡ view old u
+  pub top : new.queues.top ≡ old.queues.top
 
 -- a field that says neither a thread's state nor where it stands
 abbrev pub IsAside : Change → Type 0

@@ -133,6 +133,8 @@ pub record Whole {P S H : Type 0} (w : WorldOf P S H) : Type 0 where
   pub fits : (u : ℕ) → Fits w.scheduler.running (view w.threads u)
   pub runner : IsRunner w
   pub stored : (t : ℕ) → StoresAlive w t
+  -- priorities are set up to the same greatest one as the queues have
+  pub top : w.attributes.top ≡ w.threads.queues.top
 
 -- what holds of it while thread t is changed: all but what t itself fits, and has stored
 pub record WholeBut {P S H : Type 0} (w : WorldOf P S H) (t : ℕ) : Type 0 where
@@ -140,6 +142,7 @@ pub record WholeBut {P S H : Type 0} (w : WorldOf P S H) (t : ℕ) : Type 0 wher
   pub fits : (u : ℕ) → tid_at w.threads.records u ≢ t → Fits w.scheduler.running (view w.threads u)
   pub runner : IsRunner w
   pub stored : (u : ℕ) → u ≢ t → StoresAlive w u
+  pub top : w.attributes.top ≡ w.threads.queues.top
 
 -- nobody but t runs
 abbrev pub IsAbout : Option ℕ → ℕ → Type 0

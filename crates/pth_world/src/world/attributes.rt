@@ -42,8 +42,8 @@ impl<P: Program> World<P> {
     /// An object that is bound to a thread (`pth_attr_of`): ESRCH where the thread is not in the system, EAGAIN where there are
     /// 4096 objects.
     pub fn attr_of(&mut self, t: Tid) -> Result<AttrId, Refusal>
-        requires { self.old.attributes.made < 4294967295 }
-        ensures answer { Answers (of_answer (entry_in self.old.threads t.0) (object_of self.old.attributes) self.old.attributes.made) result }
+        requires { self.old.attributes.objects.made < 4294967295 }
+        ensures answer { Answers (of_answer (entry_in self.old.threads t.0) (object_of self.old.attributes) self.old.attributes.objects.made) result }
         ensures makes { OnOk result (MakesObject self.old.attributes self.new.attributes (Bound t)) }
         ensures refused { OnErr result (self.new ≡ self.old) }
         ensures same { self.new ≡ record self.old { attributes = self.new.attributes } }
@@ -56,7 +56,7 @@ impl<P: Program> World<P> {
     /// from the thread's next entry into a queue.
     pub fn attr_set(&mut self, a: i64, v: &AttrValue) -> Result<(), Errno>
         requires { Whole self.old }
-        ensures answer { result ≡ set_answer (entry_in self.old.threads) (named (object_of self.old.attributes) a) v.now }
+        ensures answer { result ≡ set_answer self.old.attributes.top (entry_in self.old.threads) (named (object_of self.old.attributes) a) v.now }
         ensures shows { OnOk result ((k : Control P P.State P.Shared) → Shows self.old k → Shows self.new (sets_value a v.now (object k a) k)) }
         ensures frame { OnOk result (Frame self.old self.new no_numbers self.old.scheduler.running false) }
         ensures store { OnOk result (self.new.store ≡ self.old.store) }

@@ -113,8 +113,8 @@ impl<P: Program> World<P> {
     /// The rank at which a thread enters the ready queue in front of all others (`pth_pqueue_favorite_prio`).
     pub fn top(&self) -> i64
         requires sound { IsSound self.now.threads }
-        ensures top { (k : Control P P.State P.Shared) → Shows self.now k → result ≡ favour_top (queue k queue.Ready) }
-        ensures value { result ≡ favour_top self.now.threads.queues.ready }
+        ensures top { (k : Control P P.State P.Shared) → Shows self.now k → result ≡ favour_top k.top (queue k queue.Ready) }
+        ensures value { result ≡ favour_top self.now.threads.queues.top self.now.threads.queues.ready }
         ensures low { neg_ℤ (pos (2 ^ 40)) ≤ℤ result }
         ensures high { result ≤ℤ pos (2 ^ 40 + 1) }
     {

@@ -1,6 +1,6 @@
 //! The records of threads: changes, new threads, and threads that are gone.
 
-ghost use Rattle.std.specs.Prelude.{◌≡◌, ◌≢◌, ◌<◌, ◌+◌, ◌↔◌, ℕ, ℤ, Bool, false, Some, None, IfSome, IfOk, OnOk, OnErr, IsErrOf, nat_lt};
+ghost use Rattle.std.specs.Prelude.{◌≡◌, ◌≢◌, ◌<◌, ◌≤◌, ◌+◌, ◌↔◌, ℕ, ℤ, Bool, false, Some, None, IfSome, IfOk, OnOk, OnErr, IsErrOf, nat_lt};
 ghost use Rattle.pth_base.specs.Limits.{thread_limit};
 ghost use Rattle.pth_base.specs.Naming.{IsTied};
 ghost use Rattle.pth_kernel.specs.Kernel.{kernel_of};
@@ -74,19 +74,21 @@ struct Room<S> {
 }
 
 // The queues, with room for as many threads as there may be.
-fn reserved_queues(alloc: Global) -> Result<CountedQueues, OutOfMemory>
-    ensures { IfOk result (λ q. q ≡ record no_queues { room = thread_limit }) }
+fn reserved_queues(alloc: Global, top: u8) -> Result<CountedQueues, OutOfMemory>
+    requires { (5 ≤ top) × (top ≤ 20) }
+    ensures { IfOk result (λ q. q ≡ record (no_queues top) { room = thread_limit }) }
 {
-    let mut queues = CountedQueues::new(alloc);
+    let mut queues = CountedQueues::new(alloc, top);
     queues.reserve(MOST_THREADS)?;
     Ok(queues)
 }
 
 // Such parts, which keep nothing yet.
-fn make_room<S: Drop>(alloc: Global) -> Result<Room<S>, OutOfMemory>
-    ensures { IfOk result (λ r. AreEmpty r.queues r.progress (mutexes_of r.mutexes) (tables_of r.rw_locks)) }
+fn make_room<S: Drop>(alloc: Global, top: u8) -> Result<Room<S>, OutOfMemory>
+    requires { (5 ≤ top) × (top ≤ 20) }
+    ensures { IfOk result (λ r. AreEmpty top r.queues r.progress (mutexes_of r.mutexes) (tables_of r.rw_locks)) }
 {
-    let queues = reserved_queues(alloc)?;
+    let queues = reserved_queues(alloc, top)?;
     let progress = ProgressTable::new(alloc)?;
     let mutexes = Mutexes::new(alloc)?;
     let rw_locks = RwLocks::new(alloc)?;
@@ -106,14 +108,16 @@ impl<P: Program> World<P> {
         shared: P::Shared,
         kernel: Kernel,
         room: Room<P::State>,
+        top: u8,
     ) -> World<P>
         requires shared { shared ≡ (P.functions program).shared }
         requires bodies { 0 < (P.functions program).bodies }
-        requires empty { AreEmpty room.queues room.progress (mutexes_of room.mutexes) (tables_of room.rw_locks) }
-        ensures { IsBeforeMain P.functions (record { program = program; kernel = kernel_of kernel }) result }
+        requires range { (5 ≤ top) × (top ≤ 20) }
+        requires empty { AreEmpty top room.queues room.progress (mutexes_of room.mutexes) (tables_of room.rw_locks) }
+        ensures { IsBeforeMain P.functions (record { program = program; kernel = kernel_of kernel; top = top }) result }
     {
         let threads = Threads::new(alloc);
-        let attributes = Attrs::new(alloc);
+        let attributes = Attrs::new(alloc, top);
         let events = Rings::new(alloc);
         let conditions = Conds::new(alloc);
         let barriers = Barriers::new(alloc);
@@ -145,25 +149,32 @@ impl<P: Program> World<P> {
     }
 
     // The program with no threads, and with room for as many as there may be.
-    fn without_threads(alloc: Global, program: P, kernel: Kernel) -> Result<World<P>, OutOfMemory>
-        ensures { IfOk result (λ w. IsBeforeMain P.functions (record { program = program; kernel = kernel_of kernel }) w) }
+    fn without_threads(
+        alloc: Global,
+        program: P,
+        kernel: Kernel,
+        top: u8,
+    ) -> Result<World<P>, OutOfMemory>
+        requires { (5 ≤ top) × (top ≤ 20) }
+        ensures { IfOk result (λ w. IsBeforeMain P.functions (record { program = program; kernel = kernel_of kernel; top = top }) w) }
     {
         let shared = program.shared(alloc)?;
         let _some = program.bodies();
-        let room = make_room(alloc)?;
-        Ok(World::over(alloc, program, shared, kernel, room))
+        let room = make_room(alloc, top)?;
+        Ok(World::over(alloc, program, shared, kernel, room, top))
     }
 
-    /// The main thread alone, ready at rank 0 (`pth_init`), at the moment of the kernel.
-    pub fn new(alloc: Global, program: P, kernel: Kernel) -> Result<World<P>, OutOfMemory>
-        ensures stands { IfOk result (λ w. StandsFor w (start P.functions (record { program = program; kernel = kernel_of kernel }))) }
+    /// The main thread alone, ready at rank 0 (`pth_init`), at the moment of the kernel. Base priorities go from `-top` to `top`.
+    pub fn new(alloc: Global, program: P, kernel: Kernel, top: u8) -> Result<World<P>, OutOfMemory>
+        requires { (5 ≤ top) × (top ≤ 20) }
+        ensures stands { IfOk result (λ w. StandsFor w (start P.functions (record { program = program; kernel = kernel_of kernel; top = top }))) }
         ensures whole { IfOk result (λ w. Whole w) }
         ensures one { IfOk result (λ w. w.threads.records.made ≡ 1) }
-        ensures no_objects { IfOk result (λ w. w.attributes.made ≡ 0) }
+        ensures no_objects { IfOk result (λ w. w.attributes.objects.made ≡ 0) }
         ensures no_events { IfOk result (λ w. w.events.made ≡ 0) }
         ensures no_ports { IfOk result (λ w. w.store.ports.made ≡ 0) }
     {
-        let mut world = World::without_threads(alloc, program, kernel)?;
+        let mut world = World::without_threads(alloc, program, kernel, top)?;
         let main = match world.spawn(BodyId(0), 0, main_thread()) {
             Ok(main) => main,
             Err(AddErr::OutOfMemory) => return Err(OutOfMemory),

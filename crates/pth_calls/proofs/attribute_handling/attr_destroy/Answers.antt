@@ -6,4 +6,4 @@ pub returns-clause-frame : goal.returns-clause-frame
 returns-clause-frame g c =
     let changes = rw c.attrs_mut.ensures.value at c.destroy.ensures.changes in
     let refused = rw c.attrs_mut.ensures.value at c.destroy.ensures.refused in
-    kept_objects_frame c.args.w.now c.requires.whole c.destroy.new.self c.destroy.result (on_ok c.destroy.result changes (λ x. x.made)) refused
+    kept_objects_frame c.args.w.now c.requires.whole c.destroy.new.self c.destroy.result (on_ok c.destroy.result changes (λ x. (x.made, x.top))) refused

@@ -12,9 +12,10 @@ pub returns-in-Ok-clause-frame : goal.returns-in-Ok-clause-frame
 returns-in-Ok-clause-frame g c =
     let makes = rw c.attrs_mut.ensures.value at c.in-Ok.ensures.makes in
     let made = makes.made in
-    objects_frame c.args.w.now c.create.new.self (one_of Object) c.requires.whole (omega arith)
+    objects_frame c.args.w.now c.create.new.self (one_of Object) c.requires.whole makes.top (omega arith)
 
 pub returns-in-Err-clause-frame : goal.returns-in-Err-clause-frame
 returns-in-Err-clause-frame g c =
-    let made = ap (λ (y : AttrsOf). y.made) (rw c.attrs_mut.ensures.value at c.in-Err.ensures.refused) in
-    if_answered c.refused.result (objects_frame c.args.w.now c.create.new.self (one_of Object) c.requires.whole (omega arith))
+    let refused = rw c.attrs_mut.ensures.value at c.in-Err.ensures.refused in
+    let made = ap (λ (y : AttrsOf). y.objects.made) refused in
+    if_answered c.refused.result (objects_frame c.args.w.now c.create.new.self (one_of Object) c.requires.whole (ap (λ (y : AttrsOf). y.top) refused) (omega arith))

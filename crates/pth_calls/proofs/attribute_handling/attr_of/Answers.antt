@@ -12,7 +12,7 @@ pub returns-in-None-clause-frame : goal.returns-in-None-clause-frame
 returns-in-None-clause-frame g c = still_frame (one_of Object) c.args.w.now _ refl c.requires.whole
 
 pub returns-in-Ok-clause-frame : goal.returns-in-Ok-clause-frame
-returns-in-Ok-clause-frame g c = object_made_frame c.args.w.now c.requires.whole c.attr_of.new.self c.attr_of.ensures.same c.in-Ok.ensures.makes.made
+returns-in-Ok-clause-frame g c = object_made_frame c.args.w.now c.requires.whole c.attr_of.new.self c.attr_of.ensures.same c.in-Ok.ensures.makes.made c.in-Ok.ensures.makes.top
 
 pub returns-in-Err-clause-frame : goal.returns-in-Err-clause-frame
 returns-in-Err-clause-frame g c = if_answered c.refused.result (refused_frame (one_of Object) c.args.w.now c.attr_of.new.self _ refl c.requires.whole c.in-Err.ensures.refused)

@@ -1,4 +1,4 @@
-use Rattle.std.proofs.Common.{pos, refl, SFits, w64, to_z-of_z, rules}
+use Rattle.std.proofs.Common.{◌≡◌, ◌∙◌, ℕ, sym, subst, pos, refl, SFits, w64, to_z-of_z, rules}
 use Rattle.pth_base.specs.declared.answer.Answer.TheVariants.{Int}
 use Rattle.pth_model.specs.AttributeHandling.{object, sets_value}
 use Rattle.pth_threads.specs.Attributes.{set_answer}
@@ -11,9 +11,11 @@ returns-clause-answered g c =
     let answer = rw to_z-of_z at c.attr_set.ensures.answer in
     let shows = rw to_z-of_z at c.attr_set.ensures.shows in
     decided c.args.w.now c.attr_set.new.self (λ (u : Unit {0}). Int (pos 1))
-    (λ s. set_answer s.control.threads.known (object s.control c.args.a) c.args.v.now)
+    (λ s. set_answer s.control.top s.control.threads.known (object s.control c.args.a) c.args.v.now)
     (λ s. sets_value c.args.a c.args.v.now (object s.control c.args.a))
     (λ u. refl) c.attr_set.result c.done.result c.done.ensures
-    (λ s st. rw (st.control.threads.known, st.control.attributes.objects) answer)
+    (λ s st.
+    let top : s.control.top ≡ c.args.w.now.attributes.top = st.control.threads.top ∙ sym c.requires.whole.top in
+    subst (λ (n : ℕ). c.attr_set.result ≡ set_answer n s.control.threads.known (object s.control c.args.a) c.args.v.now) (sym top) (rw (st.control.threads.known, st.control.attributes.objects) answer))
     (for_states c.args.w.now c.attr_set.new.self c.attr_set.result (λ k. sets_value c.args.a c.args.v.now (object k c.args.a) k) shows)
     c.attr_set.ensures.refused c.attr_set.ensures.store

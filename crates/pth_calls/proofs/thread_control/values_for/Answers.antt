@@ -11,10 +11,10 @@ pub returns-then-attr-ne0-clause-prio : goal.returns-then-attr-ne0-clause-prio
 returns-then-attr-ne0-clause-prio g c =
     let is : to_z w64 (of_z w64 c.args.attr) ≡ c.args.attr = omega (arith, ints) in
     let w = c.args.w.now in
-    with_prio c.values.result (given_values w.threads (named (object_of w.attributes) c.args.attr) c.values.result c.requires.whole.sound (rw (is, c.attrs.ensures, c.threads.ensures) at c.values.ensures.answer) (rw (is, c.attrs.ensures) at c.values.ensures.allowed))
+    with_prio c.values.result (given_values w.attributes.top (rw c.attrs.ensures at c.values.ensures.range).1 w.threads (named (object_of w.attributes) c.args.attr) c.values.result c.requires.whole.sound (rw (is, c.attrs.ensures, c.threads.ensures) at c.values.ensures.answer) (rw (is, c.attrs.ensures) at c.values.ensures.allowed))
 
 pub returns-then-attr-ne0-clause-cancel : goal.returns-then-attr-ne0-clause-cancel
 returns-then-attr-ne0-clause-cancel g c =
     let is : to_z w64 (of_z w64 c.args.attr) ≡ c.args.attr = omega (arith, ints) in
     let w = c.args.w.now in
-    with_cancel c.values.result (given_values w.threads (named (object_of w.attributes) c.args.attr) c.values.result c.requires.whole.sound (rw (is, c.attrs.ensures, c.threads.ensures) at c.values.ensures.answer) (rw (is, c.attrs.ensures) at c.values.ensures.allowed))
+    with_cancel c.values.result (given_values w.attributes.top (rw c.attrs.ensures at c.values.ensures.range).1 w.threads (named (object_of w.attributes) c.args.attr) c.values.result c.requires.whole.sound (rw (is, c.attrs.ensures, c.threads.ensures) at c.values.ensures.answer) (rw (is, c.attrs.ensures) at c.values.ensures.allowed))

@@ -1,5 +1,7 @@
-use Rattle.std.proofs.Common.{◌∙◌, sym, map, string_bytes, ap}
-use Rattle.pth_command.specs.CommandLine.{asked_by}
+use Rattle.std.proofs.Common.{◌∙◌, ◌≤◌, sym, map, string_bytes, ap, subst}
+use Rattle.std.proofs.lemmas.Result.{IfOk-weaker}
+use Rattle.pth_base.specs.Limits.{most_steps}
+use Rattle.pth_command.specs.CommandLine.{Chooses, asked_by}
 use Rattle.pth_command.proofs.Parsed.{is_plain, is_free, taken, refused}
 use Rattle.pth_command.proofs.Ranges.{steps_within}
 use Rattle.pth_command.proofs.command_line.read_words.Goals as goal
@@ -9,9 +11,10 @@ returns-in-Ok-try_get_matches_from c =
     let app = c.in-Ok.ensures in
     let words = ap (map string_bytes) c.as_slice.ensures.value in
     let parse = c.in-Ok-try_get_matches_from.ensures in
+    let asked = ap asked_by (sym words) ∙ taken _ _ _ _ app (parse.kinds (is_free _ app)) (parse.matches (is_plain _ app)).0 c.found.ensures in
     record {
-      answers = ap asked_by (sym words) ∙ taken _ _ _ _ app (parse.kinds (is_free _ app)) (parse.matches (is_plain _ app)).0 c.found.ensures;
-      steps = steps_within _ _ parse.parsed app _ c.found.ensures;
+      answers = subst (λ o. Chooses o c.agreed.result) (sym asked) c.agreed.ensures.answers;
+      steps = IfOk-weaker c.agreed.result _ _ (λ choice same. let within = steps_within _ _ parse.parsed app _ c.found.ensures in subst (λ c. (1 ≤ c.steps) × (c.steps ≤ most_steps)) (sym same) within) c.agreed.ensures.same;
     }
 
 pub returns-clause-answers : goal.returns-clause-answers

@@ -36,7 +36,7 @@ pub returns-then-is_none-clause-gives : goal.returns-then-is_none-clause-gives
 returns-then-is_none-clause-gives g c = λ k. refl
 
 pub returns-then-is_some-clause-gives : goal.returns-then-is_some-clause-gives
-returns-then-is_some-clause-gives g c = elim [ Thread ↦ c.make_waiting.ensures.threads.made | Object ↦ ap (λ w. w.attributes.made) c.make_waiting.ensures.same | Event ↦ ap (λ w. w.events.made) c.make_waiting.ensures.same | Port ↦ ap (λ w. w.store.ports.made) c.make_waiting.ensures.same ]
+returns-then-is_some-clause-gives g c = elim [ Thread ↦ c.make_waiting.ensures.threads.made | Object ↦ ap (λ w. w.attributes.objects.made) c.make_waiting.ensures.same | Event ↦ ap (λ w. w.events.made) c.make_waiting.ensures.same | Port ↦ ap (λ w. w.store.ports.made) c.make_waiting.ensures.same ]
 
 pub returns-then-is_some-clause-store : goal.returns-then-is_some-clause-store
 returns-then-is_some-clause-store g c = ap (λ w. w.store) c.make_waiting.ensures.same
@@ -54,7 +54,7 @@ pub returns-else-is_some-clause-preferred : goal.returns-else-is_some-clause-pre
 returns-else-is_some-clause-preferred g c = ap (λ w. w.scheduler.preferred) c.put_back.ensures.same
 
 pub returns-else-is_some-clause-gives : goal.returns-else-is_some-clause-gives
-returns-else-is_some-clause-gives g c = elim [ Thread ↦ c.put_back.ensures.threads.made | Object ↦ ap (λ w. w.attributes.made) c.put_back.ensures.same | Event ↦ ap (λ w. w.events.made) c.put_back.ensures.same | Port ↦ ap (λ w. w.store.ports.made) c.put_back.ensures.same ]
+returns-else-is_some-clause-gives g c = elim [ Thread ↦ c.put_back.ensures.threads.made | Object ↦ ap (λ w. w.attributes.objects.made) c.put_back.ensures.same | Event ↦ ap (λ w. w.events.made) c.put_back.ensures.same | Port ↦ ap (λ w. w.store.ports.made) c.put_back.ensures.same ]
 
 pub returns-else-is_some-clause-store : goal.returns-else-is_some-clause-store
 returns-else-is_some-clause-store g c = ap (λ w. w.store) c.put_back.ensures.same

@@ -41,7 +41,7 @@ pub returns-clause-frame : goal.returns-clause-frame
 unfolding names_of
 returns-clause-frame g c =
     let v = c.vanish_all_but.ensures in
-    let objects = ap (λ (w : WorldOf _ _ _). w.attributes.made) v.same in
+    let objects = ap (λ (w : WorldOf _ _ _). w.attributes.objects.made) v.same in
     let ports = ap (λ (x : Store). x.ports.made) v.store in
     record {
       whole = v.whole;

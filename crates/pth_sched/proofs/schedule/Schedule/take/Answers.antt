@@ -37,7 +37,7 @@ returns-clause-going g c =
     let inside = subst (λ m. IsGoing m) (sym c.self.view_is) c.requires.going in
     let nobody = subst (λ m. m.world.scheduler.running ≡ None) (sym c.self.view_is) c.requires.nobody in
     let gave = subst (λ m. m.turn.gave ≡ None) (sym c.self.view_is) c.requires.over in
-    let dispatched : GivesNone c.ready_new.new.w c.dispatch.new.self = elim [ Thread ↦ c.dispatch.ensures.threads.made | Object ↦ ap (λ w. w.attributes.made) c.dispatch.ensures.same | Event ↦ ap (λ w. w.events.made) c.dispatch.ensures.same | Port ↦ ap (λ w. w.store.ports.made) c.dispatch.ensures.same ] in
+    let dispatched : GivesNone c.ready_new.new.w c.dispatch.new.self = elim [ Thread ↦ c.dispatch.ensures.threads.made | Object ↦ ap (λ w. w.attributes.objects.made) c.dispatch.ensures.same | Event ↦ ap (λ w. w.events.made) c.dispatch.ensures.same | Port ↦ ap (λ w. w.store.ports.made) c.dispatch.ensures.same ] in
     on_ok_weaker c.push.result (λ tells. take_going _ _ inside c.next-t.result.0 nobody c.dispatch.ensures.whole (ap (λ w. w.scheduler.running) c.dispatch.ensures.same) (ap (λ w. w.scheduler.preferred) c.dispatch.ensures.same) (λ k. dispatched k ∙ gives_rest _ _ c.ready_new.ensures.scheduler c.ready_new.ensures.made k) gave refl refl) c.push.ensures.ok
 
 pub invariant_of-self : goal.invariant_of-self

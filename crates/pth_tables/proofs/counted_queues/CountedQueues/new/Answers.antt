@@ -6,7 +6,7 @@ use Rattle.pth_tables.proofs.counted_queues.CountedQueues.new.Goals as goal
 
 pub invariant_of-result : goal.invariant_of-result
 invariant_of-result c = record {
-  counts = counts_none _ c.new.ensures;
+  counts = counts_none c.args.top _ c.new.ensures;
   room = subst (λ (k : QueuesOf). k.room ≤ length c.new-2.result.items) (sym c.new.ensures) (omega arith);
-  tells = tells_none _ _ _ c.new.ensures;
+  tells = tells_none c.args.top _ _ _ c.new.ensures;
 }

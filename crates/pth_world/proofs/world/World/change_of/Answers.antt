@@ -25,7 +25,7 @@ returns-clause-touches g c =
     subst (λ x. Touches c.args.self.now.threads x c.args.t.0 (view_changed c.args.c)) (sym threads) (change_touches _ c.requires.sound c.args.t.0 c.args.slot.0 c.requires.at _ c.args.c c.change_at.ensures.changes)
 
 pub returns-clause-but : goal.returns-clause-but
-returns-clause-but g c = but_kept c.args.self.now _ c.args.t.0 _ (returns-clause-touches g c) (search rules) (ap (λ (k : WorldOf _ _ _). k.scheduler.running) c.change_at.ensures.same) (ap (λ (k : WorldOf _ _ _). k.store) c.change_at.ensures.same) (returns-clause-sound g c)
+returns-clause-but g c = but_kept c.args.self.now _ c.args.t.0 _ (returns-clause-touches g c) (search rules) (ap (λ (k : WorldOf _ _ _). k.scheduler.running) c.change_at.ensures.same) (ap (λ (k : WorldOf _ _ _). k.store) c.change_at.ensures.same) (ap (λ (k : WorldOf _ _ _). k.attributes) c.change_at.ensures.same) (returns-clause-sound g c)
 
 pub change_at-requires-clause-used : goal.change_at-requires-clause-used
 change_at-requires-clause-used g c = used c.args.self.now.threads c.args.t.0 c.args.slot.0 c.requires.sound c.requires.at

@@ -38,6 +38,7 @@ returns-clause-whole g c =
     (subst IsSound (sym threads) c.change_of-2.ensures.sound)
     (ap (λ v. slot_of v.records) threads ∙ three.slots)
     (ap (λ (k : WorldOf _ _ _). k.store) c.name_next.ensures.same ∙ ap (λ (k : WorldOf _ _ _). k.store) c.set_running.ensures.same ∙ ap (λ (k : WorldOf _ _ _). k.store) c.change_of-2.ensures.same ∙ ap (λ (k : WorldOf _ _ _). k.store) c.change_of.ensures.same ∙ ap (λ (k : WorldOf _ _ _). k.store) c.take_from.ensures.same)
+    (ap (λ (k : WorldOf _ _ _). k.attributes) c.name_next.ensures.same ∙ ap (λ (k : WorldOf _ _ _). k.attributes) c.set_running.ensures.same ∙ ap (λ (k : WorldOf _ _ _). k.attributes) c.change_of-2.ensures.same ∙ ap (λ (k : WorldOf _ _ _). k.attributes) c.change_of.ensures.same ∙ ap (λ (k : WorldOf _ _ _). k.attributes) c.take_from.ensures.same)
     (subst (λ v. Touches w.threads v t (λ (k : View). view_changed (change.Dispatches n) (view_changed (change.State state.Running) (view_placed None k)))) (sym threads) change_two)
 
 pub returns-clause-queues : goal.returns-clause-queues

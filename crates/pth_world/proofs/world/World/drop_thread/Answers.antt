@@ -44,4 +44,7 @@ returns-clause-others g c i apart =
 
 pub returns-clause-but : goal.returns-clause-but
 returns-clause-but g c rests but =
-    gone_but c.args.self.now _ c.args.t.0 c.slot-slot.result.0 c.slot-slot.ensures.slot (returns-clause-others g c) (search rules) (returns-clause-sound g c) (search rules) (search rules) rests but
+    gone_but c.args.self.now _ c.args.t.0 c.slot-slot.result.0 c.slot-slot.ensures.slot (returns-clause-others g c) (search rules) (returns-clause-sound g c) (search rules) (search rules)
+    (ap (λ (k : WorldOf _ _ _). k.attributes) c.remove_at.ensures.same ∙ ap (λ (k : WorldOf _ _ _). k.attributes) c.take_out.ensures.same)
+    (ap (λ (k : WorldOf _ _ _). k.threads.queues.top) c.remove_at.ensures.same ∙ c.take_out.ensures.touches.top)
+    rests but

@@ -57,6 +57,7 @@ returns-clause-moves g c =
           dead_whole w c.stop_running.new.self t slot.0 c.requires.whole slot.1 search rules c.args.value
           (subst IsSound (sym threads) c.put_in.ensures.sound)
           (ap (λ (k : WorldOf _ _ _). k.store) c.stop_running.ensures.same ∙ ap (λ (k : WorldOf _ _ _). k.store) c.put_in.ensures.same ∙ ap (λ (k : WorldOf _ _ _). k.store) c.change-3.ensures.same ∙ ap (λ (k : WorldOf _ _ _). k.store) c.change-2.ensures.same ∙ ap (λ (k : WorldOf _ _ _). k.store) c.change.ensures.same ∙ ap (λ (k : WorldOf _ _ _). k.store) c.take_out.ensures.same)
+          (ap (λ (k : WorldOf _ _ _). k.attributes) c.stop_running.ensures.same ∙ ap (λ (k : WorldOf _ _ _). k.attributes) c.put_in.ensures.same ∙ ap (λ (k : WorldOf _ _ _). k.attributes) c.change-3.ensures.same ∙ ap (λ (k : WorldOf _ _ _). k.attributes) c.change-2.ensures.same ∙ ap (λ (k : WorldOf _ _ _). k.attributes) c.change.ensures.same ∙ ap (λ (k : WorldOf _ _ _). k.attributes) c.take_out.ensures.same)
           c.requires.nothing
           (ap (λ x. slot_of x.records) threads ∙ five.slots)
           (subst (λ x. Touches w.threads x t (λ (k : View). view_placed (Some queue.Dead) (view_changed (change.Value c.args.value) (view_changed (change.Suspended false) (view_changed (change.State state.Dead) (view_placed None k)))))) (sym threads) change_four);

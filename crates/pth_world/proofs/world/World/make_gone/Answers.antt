@@ -1,6 +1,7 @@
 use Rattle.std.proofs.Common.{◌∙◌, ap, sym, subst, rules}
+use Rattle.pth_queue.specs.Queues.{QueuesOf}
 use Rattle.pth_threads.specs.Threads.{slot_of}
-use Rattle.pth_world.specs.World.{WorldOf}
+use Rattle.pth_world.specs.World.{WorldOf, ThreadsBySlot}
 use Rattle.pth_world.specs.Store.{StoreOf, store_of}
 use Rattle.pth_world.specs.Sound.{IsSound}
 use Rattle.pth_world.proofs.Moves.{gone_whole, known_slot, stopped_then}
@@ -20,7 +21,7 @@ returns-clause-moves g c =
     record {
       whole =
           gone_whole w c.stop_running.new.self c.args.t.0 slot.0 c.requires.whole slot.1 search rules
-          (rw threads c.drop_thread.ensures.others) (rw threads gone) (ap (λ (k : WorldOf _ _ _). store_of k.store) c.stop_running.ensures.same ∙ c.drop_thread.ensures.store) (subst IsSound (sym threads) c.drop_thread.ensures.sound);
+          (rw threads c.drop_thread.ensures.others) (rw threads gone) (ap (λ (k : WorldOf _ _ _). store_of k.store) c.stop_running.ensures.same ∙ c.drop_thread.ensures.store) (ap (λ (k : WorldOf _ _ _). k.attributes) c.stop_running.ensures.same ∙ ap (λ (k : WorldOf _ _ _). k.attributes) c.drop_thread.ensures.same) (ap (λ (x : ThreadsBySlot _). x.queues.top) threads ∙ ap (λ (x : QueuesOf). x.top) (rw slot.1 at c.drop_thread.ensures.queues)) (subst IsSound (sym threads) c.drop_thread.ensures.sound);
       made = ap (λ x. x.records.made) threads ∙ gone.made;
       ranks = ranks_left c.args.self.now.threads c.stop_running.new.self.threads c.args.t.0 c.requires.known (search rules);
       same = stopped_then c.args.t.0 w c.drop_thread.new.self c.stop_running.new.self dropped c.stop_running.ensures.same;

@@ -16,7 +16,7 @@ returns-clause-shows g c k top sh =
     (rw to_z-of_z at c.put_ready.ensures.shows) _ top (c.take_out.ensures.shows k sh)
 
 pub returns-clause-whole : goal.returns-clause-whole
-returns-clause-whole g c = make_ready_whole c.args.self.now c.take_out.new.self c.put_ready.new.self c.args.t.0 c.requires.before.queue c.requires.whole c.requires.known c.requires.before.before c.requires.before.stands c.take_out.ensures.touches c.take_out.ensures.same c.put_ready.ensures.touches c.put_ready.ensures.threads (ap (λ (k : WorldOf _ _ _). k.scheduler.running) c.put_ready.ensures.same) (ap (λ (k : WorldOf _ _ _). k.store) c.put_ready.ensures.same) c.put_ready.ensures.sound
+returns-clause-whole g c = make_ready_whole c.args.self.now c.take_out.new.self c.put_ready.new.self c.args.t.0 c.requires.before.queue c.requires.whole c.requires.known c.requires.before.before c.requires.before.stands c.take_out.ensures.touches c.take_out.ensures.same c.put_ready.ensures.touches c.put_ready.ensures.threads (ap (λ (k : WorldOf _ _ _). k.scheduler.running) c.put_ready.ensures.same) (ap (λ (k : WorldOf _ _ _). k.store) c.put_ready.ensures.same) (ap (λ (k : WorldOf _ _ _). k.attributes) c.put_ready.ensures.same) c.put_ready.ensures.sound
 
 pub returns-clause-ranks : goal.returns-clause-ranks
 returns-clause-ranks g c low = ranks_ready c.args.self.now.threads c.put_ready.new.self.threads c.args.t.0 c.requires.known c.args.rank low search rules

@@ -22,6 +22,7 @@ returns-clause-whole g c =
     let threads = ap (λ (k : WorldOf _ _ _). k.threads) c.set_running.ensures.same in
     waits_whole c.args.self.now c.put_waiting.new.self c.args.t.0 c.requires.whole c.requires.runs rests c.put_waiting.ensures.sound
     (c.put_waiting.ensures.threads.slots ∙ ap (λ k. slot_of k.records) threads) (ap (λ (k : WorldOf _ _ _). k.store) c.put_waiting.ensures.same ∙ ap (λ (k : WorldOf _ _ _). k.store) c.set_running.ensures.same)
+    (ap (λ (k : WorldOf _ _ _). k.attributes) c.put_waiting.ensures.same ∙ ap (λ (k : WorldOf _ _ _). k.attributes) c.set_running.ensures.same)
     (subst (λ x. Touches x c.put_waiting.new.self.threads c.args.t.0 _) threads c.put_waiting.ensures.touches)
 
 pub returns-clause-stays : goal.returns-clause-stays

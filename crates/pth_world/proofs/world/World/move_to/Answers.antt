@@ -30,7 +30,7 @@ returns-clause-moves g c =
     let running = ap (λ (k : WorldOf _ _ _). k.scheduler.running) c.put_in.ensures.same ∙ ap (λ (k : WorldOf _ _ _). k.scheduler.running) c.change.ensures.same ∙ ap (λ (k : WorldOf _ _ _). k.scheduler.running) c.take_out.ensures.same in
     record {
       whole =
-          moved_whole w c.put_in.new.self t slot.0 c.args.q c.args.suspended c.requires.whole slot.1 c.requires.may change_two three.slots running (ap (λ (k : WorldOf _ _ _). k.store) c.put_in.ensures.same ∙ ap (λ (k : WorldOf _ _ _). k.store) c.change.ensures.same ∙ ap (λ (k : WorldOf _ _ _). k.store) c.take_out.ensures.same) c.put_in.ensures.sound;
+          moved_whole w c.put_in.new.self t slot.0 c.args.q c.args.suspended c.requires.whole slot.1 c.requires.may change_two three.slots running (ap (λ (k : WorldOf _ _ _). k.store) c.put_in.ensures.same ∙ ap (λ (k : WorldOf _ _ _). k.store) c.change.ensures.same ∙ ap (λ (k : WorldOf _ _ _). k.store) c.take_out.ensures.same) (ap (λ (k : WorldOf _ _ _). k.attributes) c.put_in.ensures.same ∙ ap (λ (k : WorldOf _ _ _). k.attributes) c.change.ensures.same ∙ ap (λ (k : WorldOf _ _ _). k.attributes) c.take_out.ensures.same) c.put_in.ensures.sound;
       made = three.made;
       ranks = ranks_moved_in c.args.self.now.threads c.put_in.new.self.threads c.args.t.0 c.requires.known c.args.q (search rules);
       same = threads_then w c.change.new.self c.put_in.new.self (threads_then w c.take_out.new.self c.change.new.self (threads_alone w c.take_out.new.self _ c.take_out.ensures.same) (threads_alone c.take_out.new.self c.change.new.self _ c.change.ensures.same)) (threads_alone c.change.new.self c.put_in.new.self _ c.put_in.ensures.same);

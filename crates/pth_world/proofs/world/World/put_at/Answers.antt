@@ -24,7 +24,7 @@ returns-clause-touches g c =
     enter_touches _ c.requires.sound c.args.t.0 c.args.slot.0 c.requires.at _ c.args.q c.args.rank (rw c.requires.at at c.requires.nowhere) (rw (c.queues_mut.ensures.value, to_z-of_z) at c.insert.ensures)
 
 pub returns-clause-but : goal.returns-clause-but
-returns-clause-but g c = but_kept c.args.self.now _ c.args.t.0 _ (returns-clause-touches g c) (record { slots = refl; tids = refl; made = refl }) refl refl (returns-clause-sound g c)
+returns-clause-but g c = but_kept c.args.self.now _ c.args.t.0 _ (returns-clause-touches g c) (record { slots = refl; tids = refl; made = refl }) refl refl refl (returns-clause-sound g c)
 
 pub insert-requires-clause-reserved : goal.insert-requires-clause-reserved
 insert-requires-clause-reserved g c = rw (c.queues_mut.ensures.value, c.requires.sound.room) (low c.args.self.now.threads c.args.t.0 c.args.slot.0 c.requires.sound c.requires.at)

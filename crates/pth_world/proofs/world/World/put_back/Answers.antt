@@ -25,10 +25,8 @@ returns-clause-whole g c =
     let threads = ap (λ (k : WorldOf _ _ _). k.threads) c.set_running.ensures.same in
     back_whole c.args.self.now c.put_ready_at.new.self c.args.t.0 c.requires.whole c.requires.runs rests c.put_ready_at.ensures.sound
     (c.put_ready_at.ensures.threads.slots ∙ ap (λ k. slot_of k.records) threads) (ap (λ (k : WorldOf _ _ _). k.store) c.put_ready_at.ensures.same ∙ ap (λ (k : WorldOf _ _ _). k.store) c.set_running.ensures.same)
+    (ap (λ (k : WorldOf _ _ _). k.attributes) c.put_ready_at.ensures.same ∙ ap (λ (k : WorldOf _ _ _). k.attributes) c.set_running.ensures.same)
     (subst (λ x. Touches x c.put_ready_at.new.self.threads c.args.t.0 _) threads c.put_ready_at.ensures.touches)
-
-pub returns-clause-ranks : goal.returns-clause-ranks
-returns-clause-ranks g c = ranks_back c.args.self.now.threads c.put_ready_at.new.self.threads c.args.t.0 (runner_known c.args.self.now c.args.t.0 c.requires.whole c.requires.runs) search rules
 
 pub returns-clause-stays : goal.returns-clause-stays
 returns-clause-stays g c =
@@ -47,3 +45,6 @@ returns-clause-queues g c =
 
 pub put_ready_at-requires-clause-at : goal.put_ready_at-requires-clause-at
 put_ready_at-requires-clause-at g c = ap (λ (k : WorldOf _ _ _). slot_of k.threads.records c.args.t.0) c.set_running.ensures.same ∙ c.slot-slot.ensures.slot
+
+pub returns-clause-ranks : goal.returns-clause-ranks
+returns-clause-ranks g c = ranks_back c.args.self.now.threads c.put_ready_at.new.self.threads c.args.t.0 (runner_known c.args.self.now c.args.t.0 c.requires.whole c.requires.runs) (returns-clause-queues g c)

@@ -1,4 +1,5 @@
-use Rattle.std.proofs.Common.{refl, subst, sym}
+use Rattle.std.proofs.Common.{◌∙◌, ap, refl, subst, sym}
+use Rattle.pth_queue.specs.Queues.{QueuesOf}
 use Rattle.pth_model.specs.Changes.{raises_ready}
 use Rattle.pth_world.specs.Whole.{View, Fits}
 use Rattle.pth_world.proofs.Showing.{of_threads, raise_shows}
@@ -23,6 +24,7 @@ returns-clause-whole g c whole = record {
   fits = λ u. subst (λ (k : View). Fits c.args.self.now.scheduler.running k) (sym (returns-clause-views g c u)) (whole.fits u);
   runner = whole.runner;
   stored = whole.stored;
+  top = whole.top ∙ sym (ap (λ (x : QueuesOf). x.top) (rw c.queues_mut.ensures.value at c.increase.ensures));
 }
 
 pub returns-clause-but : goal.returns-clause-but
@@ -31,6 +33,7 @@ returns-clause-but g c t but = record {
   fits = λ u apart. subst (λ (k : View). Fits c.args.self.now.scheduler.running k) (sym (returns-clause-views g c u)) (but.fits u apart);
   runner = but.runner;
   stored = but.stored;
+  top = but.top ∙ sym (ap (λ (x : QueuesOf). x.top) (rw c.queues_mut.ensures.value at c.increase.ensures));
 }
 
 pub returns-clause-stays : goal.returns-clause-stays

@@ -22,7 +22,7 @@ pub returns-clause-touches : goal.returns-clause-touches
 returns-clause-touches g c = blocked_touches _ c.requires.sound c.args.t.0 c.slot-slot.result.0 c.slot-slot.ensures.slot _ None (rw c.progress_mut.ensures.value at c.unblock.ensures.set)
 
 pub returns-clause-whole : goal.returns-clause-whole
-returns-clause-whole g c whole = progress_whole c.args.self.now _ c.args.t.0 c.slot-slot.result.0 _ whole c.slot-slot.ensures.slot (returns-clause-touches g c) (returns-clause-sound g c) refl refl refl (λ r f. unblocked_fits r _ f) (λ dead. dead)
+returns-clause-whole g c whole = progress_whole c.args.self.now _ c.args.t.0 c.slot-slot.result.0 _ whole c.slot-slot.ensures.slot (returns-clause-touches g c) (returns-clause-sound g c) refl refl refl refl (λ r f. unblocked_fits r _ f) (λ dead. dead)
 
 pub returns-clause-but : goal.returns-clause-but
-returns-clause-but g c = but_kept c.args.self.now _ c.args.t.0 _ (returns-clause-touches g c) (record { slots = refl; tids = refl; made = refl }) refl refl (returns-clause-sound g c)
+returns-clause-but g c = but_kept c.args.self.now _ c.args.t.0 _ (returns-clause-touches g c) (record { slots = refl; tids = refl; made = refl }) refl refl refl (returns-clause-sound g c)

@@ -28,4 +28,4 @@ pub returns-in-None-clause-queues : goal.returns-in-None-clause-queues
 returns-in-None-clause-queues g c = rw c.requires.at (sym (without-nowhere c.args.slot.0 _ (sym (rw c.queues.ensures at c.in-None.ensures.value))))
 
 pub returns-in-Some-clause-but : goal.returns-in-Some-clause-but
-returns-in-Some-clause-but g c = but_kept c.args.self.now _ c.args.t.0 _ (returns-in-Some-clause-touches g c) (record { slots = refl; tids = refl; made = refl }) refl refl (returns-in-Some-clause-sound g c)
+returns-in-Some-clause-but g c = but_kept c.args.self.now _ c.args.t.0 _ (returns-in-Some-clause-touches g c) (record { slots = refl; tids = refl; made = refl }) refl refl refl (returns-in-Some-clause-sound g c)
