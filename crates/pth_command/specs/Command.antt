@@ -1,4 +1,4 @@
--- The command `pth_play [--steps N] [--summary] [--upgrade] [FILE]`, as clap's description of it.
+-- The command `pth_play [--steps N] [--summary] [--upgrade] [--generate N] [FILE]`, as clap's description of it.
 use Rattle.std.specs.Prelude.{ℕ, true, [], ◌∷◌, Some, codes}
 use Rattle.pth_base.specs.Limits.{most_steps}
 use Rattle.clap.specs.Words.{App, Rule, Text, new_app, new_rule, with_rule}
@@ -32,6 +32,10 @@ summary_rule = flag_rule (codes "summary")
 abbrev pub upgrade_rule : Rule
 upgrade_rule = flag_rule (codes "upgrade")
 
+-- a workload in place of a script
+abbrev pub generate_rule : Rule
+generate_rule = record (new_rule (codes "generate")) { long = Some (codes "generate"); parser = Some (parser.Unsigned 0 18446744073709551615) }
+
 -- the name that stands for the script
 abbrev pub file_rule : Rule
 file_rule = new_rule (codes "FILE")
@@ -42,4 +46,4 @@ bare = let app = new_app (codes "pth_play") in
     record app { top = record app.top { no_binary_name = true; disable_help_flag = true } }
 
 unfoldable pub play : App
-play = with_rule (with_rule (with_rule (with_rule bare steps_rule) summary_rule) upgrade_rule) file_rule
+play = with_rule (with_rule (with_rule (with_rule (with_rule bare steps_rule) summary_rule) upgrade_rule) generate_rule) file_rule

@@ -1,5 +1,5 @@
 -- What the words of the command line ask for, by clap's definition of which words a command takes and what they say.
-use Rattle.std.specs.Prelude.{◌≡◌, ℕ, Bool, false, ◌&&◌, List, [], ◌∷◌, Option, Some, None, codes, option_map, option_and_then, unwrap_or, if◌then◌else◌, Result, Ok, Err}
+use Rattle.std.specs.Prelude.{◌≡◌, ◌≤◌, ◌==◌, ℕ, nat_lt, Bool, false, ◌&&◌, ◌||◌, is_some, List, [], ◌∷◌, Option, Some, None, codes, option_map, option_and_then, unwrap_or, if◌then◌else◌, Result, Ok, Err}
 use Rattle.std.specs.Option.{option_map_or}
 use Rattle.std.specs.Str.{bytes_eq}
 use Rattle.std.specs.Str.Parse.{digits_value, true_text, without_leading_plus}
@@ -19,6 +19,8 @@ pub record Asked : Type 0 where
   pub summary : Bool
   -- whether the text in version 2 is written and nothing is run
   pub upgrade : Bool
+  -- how many threads the workload has that stands in place of a script, if one is asked for
+  pub generate : Option ℕ
   -- the name that stands for the script
   pub file : Option Text
 
@@ -40,14 +42,25 @@ asked_in rows = record {
   steps = unwrap_or (number_under (codes "steps") rows) default_steps;
   summary = is_set (codes "summary") rows;
   upgrade = is_set (codes "upgrade") rows;
+  generate = number_under (codes "generate") rows;
   file = first_of (codes "FILE") rows;
 }
 
--- nothing if a summary of a run is asked for beside the text in version 2, for which nothing is run
-abbrev pub agreed : Asked → Option Asked
-agreed asked = if asked.upgrade && asked.summary then None else Some asked
+-- how many threads a workload has: 1 to 1,000
+abbrev pub IsWorkload : ℕ → Type 0
+IsWorkload n = (1 ≤ n) × (n ≤ 1000)
 
--- nothing if a step of the parse fails
+-- a workload is asked for that has too few threads or too many, or beside which a FILE is named
+abbrev pub is_no_workload : Option ℕ → Option Text → Bool
+is_no_workload None file = false
+is_no_workload (Some n) file = is_some file || (n == 0) || nat_lt 1000 n
+
+-- what is asked for, if it goes together: no summary of a run beside the text in version 2, for which nothing is run, and no FILE beside
+-- a workload, which stands in its place
+abbrev pub agreed : Asked → Option Asked
+agreed asked = if (asked.upgrade && asked.summary) || is_no_workload asked.generate asked.file then None else Some asked
+
+-- nothing if a step of the parse fails, or what is asked for does not go together
 abbrev pub unless_failed : Kinds → Asked → Option Asked
 unless_failed [] asked = agreed asked
 unless_failed (fault ∷ faults) asked = None
@@ -58,7 +71,7 @@ asked_by words = unless_failed (fault_of play words) (asked_in (matches_of play 
 
 -- a choice as what is asked for
 abbrev pub asked_of : Choice → Asked
-asked_of c = record { steps = c.steps; summary = c.summary; upgrade = c.upgrade; file = option_map (λ name. name.now) c.file }
+asked_of c = record { steps = c.steps; summary = c.summary; upgrade = c.upgrade; generate = c.generate; file = option_map (λ name. name.now) c.file }
 
 -- the choice is what was asked for, and `Refused` comes exactly if the words are refused, but for want of memory
 abbrev pub Chooses : Option Asked → Result Choice WordsErr → Type 0

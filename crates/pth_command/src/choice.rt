@@ -18,6 +18,8 @@ pub struct Choice<'a> {
     pub summary: bool,
     /// Whether the text in version 2 is written and nothing is run (`--upgrade`).
     pub upgrade: bool,
+    /// How many threads the workload has that stands in place of a script (`--generate`), from 1 to 1,000, if the words ask for one.
+    pub generate: Option<u64>,
     /// The name that stands for the script (FILE), as it was given.
     pub file: Option<&'a str>,
 }
@@ -31,6 +33,7 @@ pub fn found<'a>(matches: &ArgMatches<'a>) -> Choice<'a>
         steps: matches.get_one::<u64>("steps").unwrap_or(DEFAULT_STEPS),
         summary: matches.get_one::<bool>("summary").unwrap_or(false),
         upgrade: matches.get_one::<bool>("upgrade").unwrap_or(false),
+        generate: matches.get_one::<u64>("generate"),
         file: matches.get_str("FILE"),
     }
 }

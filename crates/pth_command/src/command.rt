@@ -2,7 +2,7 @@
 
 ghost use Rattle.std.specs.Prelude.{◌≡◌, IfOk, false};
 ghost use Rattle.clap.specs.Words.{app_of, rule_of};
-ghost use Rattle.pth_command.specs.Command.{bare, file_rule, flag_rule, play, steps_rule};
+ghost use Rattle.pth_command.specs.Command.{bare, file_rule, flag_rule, generate_rule, play, steps_rule};
 
 use clap::{Arg, ArgAction, Command, value_parser};
 use pth_base::limits::MOST_STEPS;
@@ -29,6 +29,15 @@ fn flag<'a>(alloc: Global, name: &'a str) -> Arg<'a>
     Arg::new(alloc, name).long(name).action(ArgAction::SetTrue)
 }
 
+fn generate<'a>(alloc: Global) -> Arg<'a>
+    ensures rule { rule_of result ≡ generate_rule }
+    ensures local { result.global ≡ false }
+{
+    Arg::new(alloc, "generate")
+        .long("generate")
+        .value_parser(value_parser!(u64))
+}
+
 fn file<'a>(alloc: Global) -> Arg<'a>
     ensures rule { rule_of result ≡ file_rule }
     ensures local { result.global ≡ false }
@@ -45,7 +54,7 @@ fn bare<'a>(alloc: Global) -> Command<'a>
         .disable_help_flag(true)
 }
 
-/// `pth_play [--steps N] [--summary] [--upgrade] [FILE]`, with no flags for help and version. It is handed the words after the
+/// `pth_play [--steps N] [--summary] [--upgrade] [--generate N] [FILE]`, with no flags for help and version. It is handed the words after the
 /// program's name.
 pub fn command<'a>(alloc: Global) -> Result<Command<'a>, AllocError>
     ensures { IfOk result (λ c. app_of c ≡ play) }
@@ -54,5 +63,6 @@ pub fn command<'a>(alloc: Global) -> Result<Command<'a>, AllocError>
         .arg(steps(alloc))?
         .arg(flag(alloc, "summary"))?
         .arg(flag(alloc, "upgrade"))?
+        .arg(generate(alloc))?
         .arg(file(alloc))
 }

@@ -1,5 +1,5 @@
 -- What reading up to a number of bytes gives, if the bytes are told.
-use Rattle.std.proofs.Common.{◌≡◌, ◌∙◌, ◌≤◌, ℕ, List, [], ◌++◌, length, take, drop, Bool, true, false, not, codes, if◌then◌else◌, option_map, Option, Some, None, Result, Ok, Err, IfSome, IfOk, IsErr, IsErrAnd, Vec, Global, MatchResult, ap, sym, refl, subst, arith, inl, inr, append-nil}
+use Rattle.std.proofs.Common.{◌≡◌, ◌∙◌, ◌≤◌, ◌+◌, ℕ, List, [], ◌++◌, length, take, drop, Bool, true, false, not, codes, if◌then◌else◌, option_map, Option, Some, None, Result, Ok, Err, IfSome, IfOk, IsErr, IsErrAnd, Vec, Global, MatchResult, ap, sym, refl, subst, arith, inl, inr, append-nil}
 use Rattle.std.specs.Borrow.{Bor}
 use Rattle.std.specs.Str.{bytes_eq}
 use Rattle.std.proofs.lemmas.List.{take_all}
@@ -11,13 +11,16 @@ use Rattle.pth_print.specs.declared.fault_line.Fault.TheVariants as fault
 use Rattle.pth_kernel.specs.Kernel.{KernelOf}
 use Rattle.pth_line.specs.Script.{Sections}
 use Rattle.pth_script.specs.Follows.{IsReadAs, IsRefusedAs}
-use Rattle.pth_script.specs.Upgrade.{IsUpgradedAs}
+use Rattle.pth_script.specs.Upgrade.{IsUpgrade, IsUpgradedAs}
 use Rattle.pth_text.specs.declared.rule.Breach.TheVariants.{Limit, Of}
 use Rattle.pth_player.specs.FaultsOfErrors.{fault_of_read, fault_of_script}
-use Rattle.pth_player.specs.Objects.{AreHeld, Inputs, LosesRead, Object, ObjectCounts, ObjectRead, ObjectStood, cut, nothing, object_named, the_file, the_input}
+use Rattle.pth_player.specs.Objects.{AreHeld, Inputs, LosesRead, Object, ObjectCounts, ObjectRead, ObjectStood, cut, nothing, object_named, object_of, the_file, the_input, the_workload}
 use Rattle.pth_script.specs.Broken.{IsRefusal}
+use Rattle.pth_command.specs.CommandLine.{IsWorkload}
+use Rattle.pth_script.specs.Generated.{generated}
 use Rattle.pth_script.specs.Limits.{text_limit}
-use Rattle.pth_player.specs.Play.{IsRead, IsUpgrade, Reads, ReadsBytes}
+use Rattle.pth_script.proofs.Generating.{generated_short}
+use Rattle.pth_player.specs.Play.{IsRead, ReadsBytes, ReadsText}
 use Rattle.pth_player.specs.Streams.{CountsRead, TakesUpTo}
 use Rattle.pth_player.specs.declared.streams.ReadFault.{ReadFault}
 use Rattle.pth_player.specs.declared.streams.ReadFault.TheVariants as read
@@ -90,6 +93,7 @@ counts_from a b c r e h = subst (λ (n : ℕ). CountsRead n c r) e h
 -- no read of an object failed that was read
 pub read_stood : (object : Object) (old new : Inputs) → ObjectRead object old new → ObjectStood object old new
 read_stood nothing old new h = tt
+read_stood (the_workload threads) old new h = tt
 read_stood the_input old new h = h.1
 read_stood (the_file name) old new h = h.1
 
@@ -104,6 +108,18 @@ pub names_none : (o : Option (Bor (List ℕ))) → ((name : Bor (List ℕ)) → 
 names_none None none = refl
 names_none (Some name) none = absurd (none name refl)
 
+-- a workload is made, and nothing is read for it
+pub named_object : (o : Option ℕ) (name : Option (List ℕ)) → ((threads : ℕ) → o ≡ Some threads → ⊥) → object_of o name ≡ object_named name
+named_object None name never = refl
+named_object (Some threads) name never = absurd (never threads refl)
+
+pub workload_bytes : (threads : ℕ) (o : Option ℕ) (name : Option (List ℕ)) (ins : Inputs) (bytes : List ℕ) → o ≡ Some threads → IfSome o IsWorkload → bytes ≡ generated threads
+    → ReadsBytes (object_of o name) ins ins bytes
+workload_bytes threads o name ins bytes is some made =
+    let few = subst (λ o. IfSome o IsWorkload) is some in
+    let whole : cut (generated threads) ≡ generated threads = take_all (text_limit + 1) (generated threads) (omega (arith, generated_short threads few.1)) in
+    subst (λ o. ReadsBytes (object_of o name) ins ins bytes) (sym is) (tt, (generated threads, refl, made ∙ sym whole))
+
 -- what was read of the bytes, or why they are refused
 pub as_read : (text : List ℕ) (r : Result (Sections × KernelOf × ℕ) ReadErr) → IsReadAs text r → MatchResult r (λ read. IsRead read text) (IsRefusedAs text)
 as_read text (Ok read) h = h
@@ -117,21 +133,21 @@ module _ {T : Type 0} (Is : T → List ℕ → Type 0) (object : Object) (old ne
   module _ (bytes seen : List ℕ) (s : Result T Fault) where
     -- what is answered of the bytes is answered of the object
     pub read_is : (r : Result T ReadErr) → ReadsBytes object old new bytes → seen ≡ bytes → MatchResult r (λ x. Is x seen) (IsRefusedAs seen)
-        → MatchResult r (λ x. s ≡ Ok x) (λ e. IsErrAnd s (λ f. f ≡ fault_of_script e)) → Reads Is object old new s
-    read_is (Ok x) h same a m = subst (Reads Is object old new) (sym m) (h.0, (h.1.0, h.1.1, subst (Is x) (same ∙ h.1.2) a))
-    read_is (Err (script.Refused line r)) h same a m = subst (Reads Is object old new) (sym (err_and s (fault_of_script (script.Refused line r)) m))
+        → MatchResult r (λ x. s ≡ Ok x) (λ e. IsErrAnd s (λ f. f ≡ fault_of_script e)) → ReadsText Is object old new s
+    read_is (Ok x) h same a m = subst (ReadsText Is object old new) (sym m) (h.0, (h.1.0, h.1.1, subst (Is x) (same ∙ h.1.2) a))
+    read_is (Err (script.Refused line r)) h same a m = subst (ReadsText Is object old new) (sym (err_and s (fault_of_script (script.Refused line r)) m))
         (h.0, (h.1.0, h.1.1, subst (λ t. IsRefusal t line (Of r)) (same ∙ h.1.2) a))
-    read_is (Err (script.TooLarge line)) h same a m = subst (Reads Is object old new) (sym (err_and s (fault_of_script (script.TooLarge line)) m))
+    read_is (Err (script.TooLarge line)) h same a m = subst (ReadsText Is object old new) (sym (err_and s (fault_of_script (script.TooLarge line)) m))
         (h.0, (h.1.0, h.1.1, subst (λ t. IsRefusal t line Limit) (same ∙ h.1.2) a))
-    read_is (Err script.OutOfMemory) h same a m = subst (Reads Is object old new) (sym (err_and s fault.OutOfMemory m)) (read_stood object old new h.0)
+    read_is (Err script.OutOfMemory) h same a m = subst (ReadsText Is object old new) (sym (err_and s fault.OutOfMemory m)) (read_stood object old new h.0)
 
   -- memory ran out while the bytes were read, or the read failed
   unread_by : (r : Result (Vec ℕ Global) ReadFault) (s : Result (Vec ℕ Global) Fault) (e : Fault) → ObjectCounts object old new r
-      → MatchResult r (λ v. s ≡ Ok v) (λ x. IsErrAnd s (λ y. y ≡ fault_of_read x)) → s ≡ Err e → Reads Is object old new (Err e)
+      → MatchResult r (λ v. s ≡ Ok v) (λ x. IsErrAnd s (λ y. y ≡ fault_of_read x)) → s ≡ Err e → ReadsText Is object old new (Err e)
   unread_by (Ok v) s e counts m is = absurd (ok_not_err s v e m is)
-  unread_by (Err read.Failed) s e counts m is = subst (λ f. Reads Is object old new (Err f)) (sym (subst (λ t. IsErrAnd t (λ y. y ≡ fault.ReadFault)) is m)) counts
-  unread_by (Err read.OutOfMemory) s e counts m is = subst (λ f. Reads Is object old new (Err f)) (sym (subst (λ t. IsErrAnd t (λ y. y ≡ fault.OutOfMemory)) is m)) counts
+  unread_by (Err read.Failed) s e counts m is = subst (λ f. ReadsText Is object old new (Err f)) (sym (subst (λ t. IsErrAnd t (λ y. y ≡ fault.ReadFault)) is m)) counts
+  unread_by (Err read.OutOfMemory) s e counts m is = subst (λ f. ReadsText Is object old new (Err f)) (sym (subst (λ t. IsErrAnd t (λ y. y ≡ fault.OutOfMemory)) is m)) counts
 
   pub unread_is : (r : Result (Vec ℕ Global) ReadFault) (s : Result (Vec ℕ Global) Fault) (e : Fault) (t : Result T Fault) → ObjectCounts object old new r
-      → MatchResult r (λ v. s ≡ Ok v) (λ x. IsErrAnd s (λ y. y ≡ fault_of_read x)) → s ≡ Err e → IsErr t → IsErrAnd t (λ y. y ≡ e) → Reads Is object old new t
-  unread_is r s e t counts m is h k = subst (Reads Is object old new) (sym (err_is t e h k)) (unread_by r s e counts m is)
+      → MatchResult r (λ v. s ≡ Ok v) (λ x. IsErrAnd s (λ y. y ≡ fault_of_read x)) → s ≡ Err e → IsErr t → IsErrAnd t (λ y. y ≡ e) → ReadsText Is object old new t
+  unread_is r s e t counts m is h k = subst (ReadsText Is object old new) (sym (err_is t e h k)) (unread_by r s e counts m is)

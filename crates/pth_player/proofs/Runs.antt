@@ -14,14 +14,14 @@ use Rattle.pth_command.specs.declared.command_line.WordsErr.{WordsErr}
 use Rattle.pth_command.specs.declared.command_line.WordsErr.TheVariants as words
 use Rattle.pth_player.specs.FaultsOfErrors.{fault_of_sink, fault_of_words}
 use Rattle.pth_player.specs.Drive.{Drives}
-use Rattle.pth_player.specs.Objects.{Inputs, Object, ObjectRead, ObjectStood, OthersUntouched, Scene, asked_object, cut, nothing, scene, the_file, the_input}
+use Rattle.pth_player.specs.Objects.{Inputs, Object, ObjectRead, ObjectStood, OthersUntouched, Scene, asked_object, cut, nothing, scene, the_file, the_input, the_workload}
 use Rattle.pth_player.specs.Output.{given_script, outcome_status, told_output, upgrade_output}
-use Rattle.pth_player.specs.Play.{IsRead, IsUpgrade, Ran, RanFor, Reads, WritesScript, done_status}
+use Rattle.pth_player.specs.Play.{IsRead, Ran, RanFor, ReadsText, WritesScript, done_status}
 use Rattle.pth_player.specs.Streams.{Received}
 use Rattle.pth_player.specs.Transcript.{WritesPiece}
 use Rattle.pth_player.specs.declared.done.Done.{Done}
 use Rattle.pth_player.specs.declared.done.Done.TheVariants as done
-use Rattle.pth_script.specs.Upgrade.{upgraded}
+use Rattle.pth_script.specs.Upgrade.{IsUpgrade, upgraded}
 use Rattle.pth_model.specs.Run.{run}
 use Rattle.pth_player.proofs.Reading.{read_stood}
 use Rattle.pth_player.proofs.Results.{err_is, ok_is, ok_not_err}
@@ -29,12 +29,14 @@ use Rattle.pth_player.proofs.Results.{err_is, ok_is, ok_not_err}
 -- nothing was touched if nothing was called
 pub others_refl : {S F : Type 0} (object : Object) (input : S) (files : F) → OthersUntouched object input input files files
 others_refl nothing input files = (refl, refl)
+others_refl (the_workload threads) input files = (refl, refl)
 others_refl the_input input files = refl
 others_refl (the_file name) input files = refl
 
 -- nothing is read of an object that is not asked
-stood_refl : (object : Object) (ins : Inputs) → ObjectStood object ins ins
+pub stood_refl : (object : Object) (ins : Inputs) → ObjectStood object ins ins
 stood_refl nothing ins = tt
+stood_refl (the_workload threads) ins = tt
 stood_refl the_input ins = refl
 stood_refl (the_file name) ins = refl
 
@@ -87,7 +89,7 @@ module _ (asked : Asked) (ins later : Inputs) (w : Received) where
   unwritten = scene later w
 
   module _ {T : Type 0} (Is : T → List ℕ → Type 0) where
-    unread_by : (e : Fault) → Reads Is (asked_object (Some asked)) ins later (Err e) → RanFor asked scene_before unwritten (Err e)
+    unread_by : (e : Fault) → ReadsText Is (asked_object (Some asked)) ins later (Err e) → RanFor asked scene_before unwritten (Err e)
     unread_by (fault.Input line breach) h = (h.0, h.1, (Appends-nil w.written, refl))
     unread_by fault.ReadFault h = (h, (Appends-nil w.written, refl))
     unread_by fault.OutOfMemory h = (h, inl (Appends-nil w.written, refl))
@@ -95,7 +97,7 @@ module _ (asked : Asked) (ins later : Inputs) (w : Received) where
     unread_by fault.WriteFault h = absurd h
 
     -- the object was not read, or it holds no script
-    pub unread : (e : Fault) (r : Result Done Fault) → Reads Is (asked_object (Some asked)) ins later (Err e) → IsErr r → IsErrAnd r (λ y. y ≡ e) → RanFor asked scene_before unwritten r
+    pub unread : (e : Fault) (r : Result Done Fault) → ReadsText Is (asked_object (Some asked)) ins later (Err e) → IsErr r → IsErrAnd r (λ y. y ≡ e) → RanFor asked scene_before unwritten r
     unread e r h some k = subst (λ y. RanFor asked scene_before unwritten y) (sym (err_is r e some k)) (unread_by e h)
 
   -- memory ran out for the machine
@@ -113,7 +115,7 @@ module _ (asked : Asked) (ins later : Inputs) (w : Received) where
     wrote read (Err sink.OutOfMemory) h = (read_stood (asked_object (Some asked)) ins later read, inr h)
 
     -- the machine of a script was driven
-    module _ (runs : asked.upgrade ≡ false) (script : Sections × KernelOf × ℕ) (h : Reads IsRead (asked_object (Some asked)) ins later (Ok script)) where
+    module _ (runs : asked.upgrade ≡ false) (script : Sections × KernelOf × ℕ) (h : ReadsText IsRead (asked_object (Some asked)) ins later (Ok script)) where
       drove_by : (r : Result Outcome SinkErr) → Drives functions_of (given_script script) asked w z r → WritesScript asked scene_before after (ran_of r)
       drove_by (Ok o) d = (
         told_output asked (run functions_of (given_script script) d.0),
@@ -128,7 +130,7 @@ module _ (asked : Asked) (ins later : Inputs) (w : Received) where
       drove r d = wrote h.0 (ran_of r) (drove_by r d)
 
     -- the text in version 2 was written
-    module _ (upgrades : asked.upgrade ≡ true) (text : List ℕ) (h : Reads IsUpgrade (asked_object (Some asked)) ins later (Ok text)) where
+    module _ (upgrades : asked.upgrade ≡ true) (text : List ℕ) (h : ReadsText IsUpgrade (asked_object (Some asked)) ins later (Ok text)) where
       wrote_by : (r : Result (Unit {0}) SinkErr) → WritesPiece w z text r → WritesScript asked scene_before after (upgraded_of r)
       wrote_by r piece = (upgrade_output (cut h.1.0), (h.1.0, h.1.1, inr (upgrades, h.1.2.0, refl)), status_of r, piece_of r (subst (λ t. WritesPiece w z t r) h.1.2.1 piece))
         where

@@ -2,6 +2,7 @@
 use Rattle.std.specs.Prelude.{◌≡◌, ◌+◌, ℕ, List, [], Option, Some, None, IfSome, Result, Ok, Err, codes, drop, take, if◌then◌else◌}
 use Rattle.std.specs.Str.{bytes_eq}
 use Rattle.pth_streams.specs.Faults.{Rose}
+use Rattle.pth_script.specs.Generated.{generated}
 use Rattle.pth_script.specs.Limits.{text_limit}
 use Rattle.pth_command.specs.CommandLine.{Asked}
 use Rattle.pth_player.specs.Streams.{Received}
@@ -41,6 +42,8 @@ scene ins out = record { ins = ins; out = out }
 
 pub data Object : Type 0 where
   nothing : Object
+  -- the script of a workload with so many threads, which is made and not read
+  the_workload : ℕ → Object
   the_input : Object
   the_file : List ℕ → Object
 
@@ -49,14 +52,20 @@ abbrev pub object_named : Option (List ℕ) → Object
 object_named None = the_input
 object_named (Some name) = if bytes_eq name (codes "-") then the_input else the_file name
 
--- the object that the words name; nothing is read if they are refused
+-- a workload, or the object under a name
+abbrev pub object_of : Option ℕ → Option (List ℕ) → Object
+object_of None name = object_named name
+object_of (Some threads) name = the_workload threads
+
+-- the object that the words ask for; nothing is read if they are refused
 abbrev pub asked_object : Option Asked → Object
 asked_object None = nothing
-asked_object (Some asked) = object_named asked.file
+asked_object (Some asked) = object_of asked.generate asked.file
 
 -- what it holds, if that is told
 abbrev pub content_of : Object → Inputs → Option (List ℕ)
 content_of nothing s = Some []
+content_of (the_workload threads) s = Some (generated threads)
 content_of the_input s = s.left
 content_of (the_file name) s = s.held name
 
@@ -66,6 +75,7 @@ content asked s = content_of (asked_object asked) s.ins
 -- one fault of it was counted
 abbrev pub ObjectRose : Object → Inputs → Inputs → Type 0
 ObjectRose nothing old new = ⊥
+ObjectRose (the_workload threads) old new = ⊥
 ObjectRose the_input old new = Rose old.faults new.faults
 ObjectRose (the_file name) old new = Rose old.file_faults new.file_faults
 
@@ -76,18 +86,21 @@ LosesRead old new = IfSome old (λ bytes. new ≡ Some (drop (text_limit + 1) by
 -- no fault of it was counted
 abbrev pub ObjectStood : Object → Inputs → Inputs → Type 0
 ObjectStood nothing old new = Unit {0}
+ObjectStood (the_workload threads) old new = Unit {0}
 ObjectStood the_input old new = new.faults ≡ old.faults
 ObjectStood (the_file name) old new = new.file_faults ≡ old.file_faults
 
 -- it lost what was read of it, and no read failed
 abbrev pub ObjectRead : Object → Inputs → Inputs → Type 0
 ObjectRead nothing old new = Unit {0}
+ObjectRead (the_workload threads) old new = Unit {0}
 ObjectRead the_input old new = LosesRead old.left new.left × (new.faults ≡ old.faults)
 ObjectRead (the_file name) old new = LosesRead (old.held name) new.file_left × (new.file_faults ≡ old.file_faults)
 
 -- what the words don't name, of the input and the files, is as it was: it was not even asked
 abbrev pub OthersUntouched : {S F : Type 0} → Object → S → S → F → F → Type 0
 OthersUntouched nothing input later files after = (later ≡ input) × (after ≡ files)
+OthersUntouched (the_workload threads) input later files after = (later ≡ input) × (after ≡ files)
 OthersUntouched the_input input later files after = after ≡ files
 OthersUntouched (the_file name) input later files after = later ≡ input
 

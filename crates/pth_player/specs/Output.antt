@@ -77,7 +77,8 @@ IsScriptOutput asked text out =
 
 -- the output for an input: that of its script, or the refusal of the first line that breaks a rule
 abbrev pub IsInputOutput : Asked → List ℕ → Output → Type 0
-IsInputOutput asked text out = IsScriptOutput asked text out ⊎ ((line : ℕ) × (b : Breach) × IsRefusal text line b × (out ≡ refusal (fault.Input line b)))
+IsInputOutput asked text out =
+    IsScriptOutput asked text out ⊎ ((line : ℕ) × (b : Breach) × IsRefusal text line b × (out ≡ refusal (fault.Input line b)))
 
 -- the output for what the words ask for, if they are not refused, and the bytes of the object that they name
 abbrev pub IsOutput : Option Asked → List ℕ → Output → Type 0

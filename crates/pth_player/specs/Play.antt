@@ -11,8 +11,7 @@ use Rattle.pth_print.specs.declared.fault_line.Fault.{Fault}
 use Rattle.pth_print.specs.declared.fault_line.Fault.TheVariants as fault
 use Rattle.pth_kernel.specs.Kernel.{KernelOf}
 use Rattle.pth_line.specs.Script.{Sections}
-use Rattle.pth_script.specs.Broken.{IsAccepted, IsRefusal}
-use Rattle.pth_script.specs.Upgrade.{upgraded}
+use Rattle.pth_script.specs.Broken.{IsRefusal}
 use Rattle.pth_text.specs.declared.rule.Breach.{Breach}
 use Rattle.pth_command.specs.CommandLine.{Asked}
 use Rattle.pth_player.specs.Objects.{AreHeld, Inputs, Object, ObjectRead, ObjectRose, ObjectStood, Scene, asked_object, content, cut, content_of}
@@ -27,21 +26,19 @@ abbrev pub ReadsBytes : Object → Inputs → Inputs → List ℕ → Type 0
 ReadsBytes object old new bytes = ObjectRead object old new × ((held : List ℕ) × AreHeld (content_of object old) held × (bytes ≡ cut held))
 
 -- what the text of the object is told to be was read of it, or why not
-abbrev pub Reads : {T : Type 0} → (T → List ℕ → Type 0) → Object → Inputs → Inputs → Result T Fault → Type 0
-Reads Is object old new (Ok read) = ObjectRead object old new × ((bytes : List ℕ) × AreHeld (content_of object old) bytes × Is read (cut bytes))
-Reads Is object old new (Err (fault.Input line breach)) =
+abbrev pub ReadsText : {T : Type 0} → (T → List ℕ → Type 0) → Object → Inputs → Inputs → Result T Fault → Type 0
+ReadsText Is object old new (Ok read) =
+    ObjectRead object old new × ((bytes : List ℕ) × AreHeld (content_of object old) bytes × Is read (cut bytes))
+ReadsText Is object old new (Err (fault.Input line breach)) =
     ObjectRead object old new × ((bytes : List ℕ) × AreHeld (content_of object old) bytes × IsRefusal (cut bytes) line breach)
-Reads Is object old new (Err fault.ReadFault) = ObjectRose object old new
-Reads Is object old new (Err fault.OutOfMemory) = ObjectStood object old new
-Reads Is object old new (Err fault.Words) = ⊥
-Reads Is object old new (Err fault.WriteFault) = ⊥
+ReadsText Is object old new (Err fault.ReadFault) = ObjectRose object old new
+ReadsText Is object old new (Err fault.OutOfMemory) = ObjectStood object old new
+ReadsText Is object old new (Err fault.Words) = ⊥
+ReadsText Is object old new (Err fault.WriteFault) = ⊥
 
--- this was read of a script's text: a script, its kernel and its greatest base priority, or the text in version 2
+-- this was read of a script's text: a script, its kernel and its greatest base priority
 abbrev pub IsRead : Sections × KernelOf × ℕ → List ℕ → Type 0
 IsRead read text = IsTheScript (given_script read) text
-
-abbrev pub IsUpgrade : List ℕ → List ℕ → Type 0
-IsUpgrade new text = IsAccepted text × (new ≡ upgraded text)
 
 -- the content is no script's text
 abbrev pub HoldsNoScript : Option Asked → Scene → Type 0
@@ -62,7 +59,8 @@ done_status done.Upgraded = 0
 
 -- the content is a script's text, and what its output has was written with this result
 abbrev pub WritesScript : Asked → Scene → Scene → Result Done SinkErr → Type 0
-WritesScript asked old new r = (out : Output) × HoldsScript asked old out × IfOk r (λ d. out.status ≡ done_status d) × WritesPiece old.out new.out out.text r
+WritesScript asked old new r =
+    (out : Output) × HoldsScript asked old out × IfOk r (λ d. out.status ≡ done_status d) × WritesPiece old.out new.out out.text r
 
 -- nothing was written, and no write failed
 abbrev pub IsUnwritten : Received → Received → Type 0
@@ -108,7 +106,7 @@ Ends (Err f) status old new = Reports f status old new
 abbrev pub IsRunStatus : ℕ → Type 0
 IsRunStatus status = (status ≡ 0) ⊎ ((status ≡ 1) ⊎ (status ≡ 6))
 
--- the status of an output: that of a run, of refused words or of a refused input
+-- the status of an output: that of a run or an upgrade, of refused words or of a refused input
 abbrev pub IsOutputStatus : ℕ → Type 0
 IsOutputStatus status = IsRunStatus status ⊎ ((status ≡ 2) ⊎ (status ≡ 3))
 
@@ -203,7 +201,7 @@ pub record Completes (call : TopCall) : Type 0 where
 abbrev pub IsAtHand : TopCall → Fault → Type 0
 IsAtHand call f = Ran call.asked call.old call.new (Err f)
 
--- what `err` received: nothing after a run, the line of the fault at hand, or a beginning of its line if memory ran out
+-- what `err` received: nothing after a run or an upgrade, the line of the fault at hand, or a beginning of its line if memory ran out
 pub record TellsFault (call : TopCall) : Type 0 where
   pub quiet : IsRunStatus call.status → IsUnwritten call.err_old call.err_new
   pub loud : IsFaultStatus call.status

@@ -1,9 +1,9 @@
 //! The words, the script and the run.
 
-ghost use Rattle.std.specs.Prelude.{◌≡◌, ◌≤◌, IfOk, Some, true, false, map, string_bytes};
+ghost use Rattle.std.specs.Prelude.{◌≡◌, ◌≤◌, IfOk, IfSome, Some, true, false, map, string_bytes};
 ghost use Rattle.pth_base.specs.Limits.{most_steps};
 ghost use Rattle.pth_line.specs.Script.{functions_of};
-ghost use Rattle.pth_command.specs.CommandLine.{asked_by, asked_of};
+ghost use Rattle.pth_command.specs.CommandLine.{IsWorkload, asked_by, asked_of};
 ghost use Rattle.pth_sched.specs.Running.{StandsAt};
 ghost use Rattle.pth_player.specs.Objects.{asked_object, inputs, scene, OthersUntouched};
 ghost use Rattle.pth_player.specs.Output.{given_script};
@@ -40,7 +40,7 @@ fn machine_of(alloc: Global, read: (Script, Kernel, u8)) -> Result<Machine<Scrip
     Machine::new(alloc, script, kernel, top)
 }
 
-// The script that the words name is run, and what they ask for of the run is written.
+// The script that the words ask for is run, and what they ask for of the run is written.
 fn run_script<S: Source, F: Files, O: Sink>(
     alloc: Global,
     choice: &Choice<'_>,
@@ -50,6 +50,7 @@ fn run_script<S: Source, F: Files, O: Sink>(
 ) -> Result<Done, Fault>
     requires runs { choice.now.upgrade ≡ false }
     requires few { choice.now.steps ≤ most_steps }
+    requires workload { IfSome choice.now.generate IsWorkload }
     ensures ran { RanFor (asked_of choice.now)
         (scene (inputs (S.left input.old) (S.faults input.old)
         (F.left files.old) (F.held files.old) (F.faults files.old))
@@ -60,7 +61,7 @@ fn run_script<S: Source, F: Files, O: Sink>(
         result }
     ensures others { OthersUntouched (asked_object (Some (asked_of choice.now))) input.old input.new files.old files.new }
 {
-    let read = read_script(alloc, choice.file, input, files)?;
+    let read = read_script(alloc, choice, input, files)?;
     let Ok(mut machine) = machine_of(alloc, read) else {
         return Err(Fault::OutOfMemory);
     };
@@ -70,7 +71,7 @@ fn run_script<S: Source, F: Files, O: Sink>(
     }
 }
 
-// The text that the words name is written in version 2.
+// The text that the words ask for is written in version 2.
 fn upgrade_script<S: Source, F: Files, O: Sink>(
     alloc: Global,
     choice: &Choice<'_>,
@@ -79,6 +80,7 @@ fn upgrade_script<S: Source, F: Files, O: Sink>(
     out: &mut O,
 ) -> Result<Done, Fault>
     requires upgrades { choice.now.upgrade ≡ true }
+    requires workload { IfSome choice.now.generate IsWorkload }
     ensures ran { RanFor (asked_of choice.now)
         (scene (inputs (S.left input.old) (S.faults input.old)
         (F.left files.old) (F.held files.old) (F.faults files.old))
@@ -89,7 +91,7 @@ fn upgrade_script<S: Source, F: Files, O: Sink>(
         result }
     ensures others { OthersUntouched (asked_object (Some (asked_of choice.now))) input.old input.new files.old files.new }
 {
-    let text = read_upgrade(alloc, choice.file, input, files)?;
+    let text = read_upgrade(alloc, choice, input, files)?;
     match write_all(out, text.as_slice()) {
         Ok(()) => Ok(Done::Upgraded),
         Err(e) => Err(fault_of_sink(e)),

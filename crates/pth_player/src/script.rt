@@ -1,16 +1,22 @@
-//! The script that the words name, with its kernel, read from the input or from a file; or its text in version 2.
+//! The script that the words ask for, with its kernel, or its text in version 2. It is read from the input or from a file, or made.
 
-ghost use Rattle.std.specs.Prelude.{◌≤◌, IfOk, option_map};
-ghost use Rattle.pth_player.specs.Objects.{inputs, object_named, ObjectCounts, OthersUntouched};
+ghost use Rattle.std.specs.Prelude.{◌≡◌, ◌≤◌, IfOk, IfSome, Some, option_map};
+ghost use Rattle.pth_command.specs.CommandLine.{IsWorkload, asked_of};
+ghost use Rattle.pth_player.specs.Objects.{asked_object, inputs, object_named, ObjectCounts, OthersUntouched};
 ghost use Rattle.pth_player.specs.Streams.{CountsRead, TakesUpTo};
-ghost use Rattle.pth_player.specs.Play.{IsRead, IsUpgrade, Reads, ReadsBytes};
+ghost use Rattle.pth_player.specs.Play.{IsRead, ReadsBytes, ReadsText};
+ghost use Rattle.pth_script.specs.Generated.{generated};
+ghost use Rattle.pth_script.specs.Upgrade.{IsUpgrade};
 
 use crate::faults::{fault_of_read, fault_of_script};
 use crate::streams::{ReadFault, read_started, read_up_to};
 use pth_base::bytes::Bytes;
+use pth_base::memory::OutOfMemory;
+use pth_command::choice::Choice;
 use pth_kernel::kernel::Kernel;
 use pth_line::script::Script;
 use pth_print::fault_line::Fault;
+use pth_script::generate::generate;
 use pth_script::limits::TEXT_LIMIT;
 use pth_script::read::read;
 use pth_script::upgrade::upgrade;
@@ -31,7 +37,7 @@ fn read_file<F: Files>(alloc: Global, name: &str, files: &mut F) -> Result<Vec<u
 
 /// The bytes that stand under a name, to their end or to the byte after the limit. Those of the input stand under no name
 /// and under `-`.
-fn read_bytes<S: Source, F: Files>(
+fn read_named<S: Source, F: Files>(
     alloc: Global,
     name: Option<&str>,
     input: &mut S,
@@ -51,35 +57,71 @@ fn read_bytes<S: Source, F: Files>(
     }
 }
 
-/// The script, the kernel and the greatest base priority that stand under a name.
+/// The script of a workload with so many threads.
+fn workload(alloc: Global, threads: u64) -> Result<Vec<u8>, OutOfMemory>
+    requires { IsWorkload threads }
+    ensures { IfOk result (λ v. v.items ≡ generated threads) }
+{
+    let text = generate(alloc, threads as u32)?;
+    Ok(Vec::from_slice(alloc, text.as_slice())?)
+}
+
+/// The bytes that the words ask for: the script of a workload, which is made, or what is read of the file or the input.
+fn read_bytes<S: Source, F: Files>(
+    alloc: Global,
+    choice: &Choice<'_>,
+    input: &mut S,
+    files: &mut F,
+) -> Result<Vec<u8>, ReadFault>
+    requires { IfSome choice.now.generate IsWorkload }
+    ensures bytes { IfOk result (λ v. ReadsBytes (asked_object (Some (asked_of choice.now)))
+        (inputs (S.left input.old) (S.faults input.old) (F.left files.old) (F.held files.old) (F.faults files.old))
+        (inputs (S.left input.new) (S.faults input.new) (F.left files.new) (F.held files.new) (F.faults files.new)) v.items) }
+    ensures counts { ObjectCounts (asked_object (Some (asked_of choice.now)))
+        (inputs (S.left input.old) (S.faults input.old) (F.left files.old) (F.held files.old) (F.faults files.old))
+        (inputs (S.left input.new) (S.faults input.new) (F.left files.new) (F.held files.new) (F.faults files.new)) result }
+    ensures others { OthersUntouched (asked_object (Some (asked_of choice.now))) input.old input.new files.old files.new }
+{
+    let Some(threads) = choice.generate else {
+        return read_named(alloc, choice.file, input, files);
+    };
+    match workload(alloc, threads) {
+        Ok(bytes) => Ok(bytes),
+        Err(OutOfMemory) => Err(ReadFault::OutOfMemory),
+    }
+}
+
+/// The script, the kernel and the greatest base priority that the words ask for.
 pub fn read_script<S: Source, F: Files>(
     alloc: Global,
-    name: Option<&str>,
+    choice: &Choice<'_>,
     input: &mut S,
     files: &mut F,
 ) -> Result<(Script, Kernel, u8), Fault>
-    ensures script { Reads IsRead (object_named (option_map (λ n. n.now) name.entry))
+    requires { IfSome choice.now.generate IsWorkload }
+    ensures script { ReadsText IsRead (asked_object (Some (asked_of choice.now)))
         (inputs (S.left input.old) (S.faults input.old) (F.left files.old) (F.held files.old) (F.faults files.old))
         (inputs (S.left input.new) (S.faults input.new) (F.left files.new) (F.held files.new) (F.faults files.new)) result }
     ensures range { IfOk result (λ read. (5 ≤ read.2) × (read.2 ≤ 20)) }
-    ensures others { OthersUntouched (object_named (option_map (λ n. n.now) name.entry)) input.old input.new files.old files.new }
+    ensures others { OthersUntouched (asked_object (Some (asked_of choice.now))) input.old input.new files.old files.new }
 {
-    let bytes = read_bytes(alloc, name, input, files).map_err(fault_of_read)?;
+    let bytes = read_bytes(alloc, choice, input, files).map_err(fault_of_read)?;
     read(alloc, &bytes).map_err(fault_of_script)
 }
 
-/// The text that stands under a name, in version 2.
+/// The text that the words ask for, in version 2.
 pub fn read_upgrade<S: Source, F: Files>(
     alloc: Global,
-    name: Option<&str>,
+    choice: &Choice<'_>,
     input: &mut S,
     files: &mut F,
 ) -> Result<Bytes, Fault>
-    ensures upgrade { Reads IsUpgrade (object_named (option_map (λ n. n.now) name.entry))
+    requires { IfSome choice.now.generate IsWorkload }
+    ensures upgrade { ReadsText IsUpgrade (asked_object (Some (asked_of choice.now)))
         (inputs (S.left input.old) (S.faults input.old) (F.left files.old) (F.held files.old) (F.faults files.old))
         (inputs (S.left input.new) (S.faults input.new) (F.left files.new) (F.held files.new) (F.faults files.new)) result }
-    ensures others { OthersUntouched (object_named (option_map (λ n. n.now) name.entry)) input.old input.new files.old files.new }
+    ensures others { OthersUntouched (asked_object (Some (asked_of choice.now))) input.old input.new files.old files.new }
 {
-    let bytes = read_bytes(alloc, name, input, files).map_err(fault_of_read)?;
+    let bytes = read_bytes(alloc, choice, input, files).map_err(fault_of_read)?;
     upgrade(alloc, &bytes).map_err(fault_of_script)
 }

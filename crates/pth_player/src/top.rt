@@ -37,14 +37,14 @@ fn finish<E: Sink>(alloc: Global, ran: Result<Done, Fault>, err: &mut E) -> u8
 /// All that the program does, over the objects that are handed in: `words` are those after the program's name, and the
 /// result is the exit status.
 ///
-/// `asked_by` says what the words ask for, and which are refused. The script is read from the file that they name, or from
-/// `input` if they name none or `-`. The transcript, the summary or the text in version 2 is written to `out`, and the line of a fault to
-/// `err`.
+/// `asked_by` says what the words ask for, and which are refused. The script is that of a workload if they ask for one. Else it is
+/// read from the file that they name, or from `input` if they name none or `-`. The transcript, the summary or the text in version 2
+/// is written to `out`, and the line of a fault to `err`.
 ///
-/// `IsOutput` says what the output is for what is asked and the bytes of the script: the text of what the script's run
-/// tells, with a status; the text of the script in version 2, if an upgrade is asked for; or a refusal. With status 0, 1, 2, 3 and 6 exactly the text of this output was written, and the
-/// status and the fault's line are the output's. It comes to another status only if the object read or `out` failed, or
-/// memory ran out. `Plays` says this and what else holds by the status, fact by fact.
+/// `IsOutput` says what the output is for what is asked and the bytes of the script: the text of what the script's run tells,
+/// with a status; the text of the script in version 2, if an upgrade is asked for; or a refusal. With status 0, 1, 2, 3 and 6
+/// exactly the text of this output was written, and the status and the fault's line are the output's. It comes to another status
+/// only if the object read or `out` failed, or memory ran out. `Plays` says this and what else holds by the status, fact by fact.
 pub fn play<S: Source, F: Files, O: Sink, E: Sink>(
     alloc: Global,
     words: &Vec<String>,

@@ -18,3 +18,4 @@ pub mod Headings
 pub mod Once
 pub mod Whole
 pub mod Upgrading
+pub mod Generating

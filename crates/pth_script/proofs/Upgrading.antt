@@ -15,7 +15,7 @@ use Rattle.pth_script.specs.Meaning.{said, parts_of, parts_of_text}
 use Rattle.pth_script.specs.RuleOrder.{first_broken}
 use Rattle.pth_script.specs.Seen.{seen_of}
 use Rattle.pth_script.specs.TextRows.{TextRow, text_rows, size_of, is_comment, range_said, is_heading, heading_length, range_of, version_1_range, above}
-use Rattle.pth_script.specs.Upgrade.{old_heading, new_heading, upgraded, StandsFor}
+use Rattle.pth_script.specs.Upgrade.{old_heading, new_heading, upgraded, StandsForTheSame}
 use Rattle.pth_script.proofs.Headings.{version_1_says}
 use Rattle.pth_script.proofs.RowRules.{first_row_rule, second_row_rule, comment_rule, said_row_rule, end_rule, long_row, not_long, line_limit_is, text_limit_is}
 use Rattle.pth_script.proofs.Runs.{AreFine, accepted, fine_row, one_more, whole_size}
@@ -149,7 +149,7 @@ module _ (tail : List ℕ) where
         ∙ (λ i. parts_of (sym (version_1_says version_1_row (text_rows tail) refl) i) (said (text_rows tail)))
         ∙ ap (λ rows. parts_of (range_of rows) (said (drop (heading_length rows) rows))) (sym old_rows)
 
-    new_stands : StandsFor old new
+    new_stands : StandsForTheSame old new
     new_stands = record { accepted = new_accepted; parts = same_parts }
 
 pub kept_text : (text : List ℕ) → bytes_eq (take (length old_heading) text) old_heading ≡ false → upgraded text ≡ text
@@ -161,12 +161,12 @@ unfolding upgraded
 headed_text text same = ap (λ b. if b then new_heading ++ drop (length old_heading) text else text) same
 
 -- an accepted text, if the new heading fits, and the same in version 2
-pub upgrade_stands : (text : List ℕ) → IsAccepted text → length text + 8 ≤ text_limit → StandsFor text (upgraded text)
+pub upgrade_stands : (text : List ℕ) → IsAccepted text → length text + 8 ≤ text_limit → StandsForTheSame text (upgraded text)
 upgrade_stands text fine small = elim (cases_Bool (bytes_eq (take (length old_heading) text) old_heading)) [
-  | inr other ↦ subst (StandsFor text) (sym (kept_text text other)) (record { accepted = fine; parts = refl })
+  | inr other ↦ subst (StandsForTheSame text) (sym (kept_text text other)) (record { accepted = fine; parts = refl })
   | inl same ↦
       let tail = drop (length old_heading) text in
       let whole : old_heading ++ tail ≡ text = ap (λ t. t ++ tail) (sym ((bytes_eq-Decides (take (length old_heading) text) old_heading).0 same)) ∙ take-append-drop (length old_heading) text in
       let fits : length (new_heading ++ tail) ≤ text_limit = omega (arith, small, ap length whole) in
-      subst (λ t. StandsFor t (upgraded text)) whole (subst (StandsFor (old_heading ++ tail)) (sym (headed_text text same)) (new_stands tail (subst IsAccepted (sym whole) fine) fits))
+      subst (λ t. StandsForTheSame t (upgraded text)) whole (subst (StandsForTheSame (old_heading ++ tail)) (sym (headed_text text same)) (new_stands tail (subst IsAccepted (sym whole) fine) fits))
 ]

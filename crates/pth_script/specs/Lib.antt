@@ -10,3 +10,4 @@ pub mod KernelDrafts
 pub mod Drafts
 pub mod Follows
 pub mod Upgrade
+pub mod Generated

@@ -17,12 +17,16 @@ new_heading = codes "pth 2\nrange 5\n"
 unfoldable pub upgraded : List ℕ → List ℕ
 upgraded text = if bytes_eq (take (length old_heading) text) old_heading then new_heading ++ drop (length old_heading) text else text
 
+-- a text is accepted, and this one is it in version 2
+abbrev pub IsUpgrade : List ℕ → List ℕ → Type 0
+IsUpgrade new text = IsAccepted text × (new ≡ upgraded text)
+
 -- an accepted text is upgraded, and another one refused as it is read
 abbrev pub IsUpgradedAs : List ℕ → Result (List ℕ) ReadErr → Type 0
-IsUpgradedAs text (Ok new) = IsAccepted text × (new ≡ upgraded text)
+IsUpgradedAs text (Ok new) = IsUpgrade new text
 IsUpgradedAs text (Err e) = IsRefusedAs text e
 
 -- a text is accepted, and has the parts of the old one: so it stands for the same script, kernel and greatest base priority
-pub record StandsFor (old new : List ℕ) : Type 0 where
+pub record StandsForTheSame (old new : List ℕ) : Type 0 where
   pub accepted : IsAccepted new
   pub parts : parts_of_text new ≡ parts_of_text old

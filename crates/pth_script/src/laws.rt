@@ -10,7 +10,10 @@ ghost use Rattle.pth_text.specs.declared.rule.Breach.{Breach as BreachOf};
 /// Every text is a script's, with a kernel and a greatest base priority, or is refused, and not both. It stands for at most one script,
 /// for at most one kernel and for one such priority, and has at most one refusal.
 pub fn every_text_has_one_meaning()
-    ensures some { (text : List ℕ) → ((script : Sections) × (kernel : Kernel) × (top : ℕ) × IsAccepted text × IsScriptOf script text × IsKernelOf kernel text × IsTopOf top text) ⊎ ((line : ℕ) × (b : BreachOf) × IsRefusal text line b) }
+    ensures some { (text : List ℕ) →
+        ((script : Sections) × (kernel : Kernel) × (top : ℕ) × IsAccepted text
+        × IsScriptOf script text × IsKernelOf kernel text × IsTopOf top text)
+        ⊎ ((line : ℕ) × (b : BreachOf) × IsRefusal text line b) }
     ensures not_both { (text : List ℕ) (line : ℕ) (b : BreachOf) → IsAccepted text → IsRefusal text line b → ⊥ }
     ensures one_script { (text : List ℕ) (s t : Sections) → IsScriptOf s text → IsScriptOf t text → s ≡ t }
     ensures one_kernel { (text : List ℕ) (k l : Kernel) → IsKernelOf k text → IsKernelOf l text → k ≡ l }

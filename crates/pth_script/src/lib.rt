@@ -9,6 +9,7 @@
 
 mod body;
 mod draft;
+pub mod generate;
 mod heading;
 mod kernel_draft;
 pub mod laws;

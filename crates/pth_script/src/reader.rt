@@ -1,6 +1,6 @@
 //! A reader of lines.
 
-ghost use Rattle.std.specs.Prelude.{◌≡◌, ◌≤◌, ℕ, List, [], drop, length, IfOk, MatchResult, Some, None, true, false};
+ghost use Rattle.std.specs.Prelude.{◌≡◌, ◌≤◌, ℕ, List, [], drop, length, IfOk, MatchResult, Some, None, false};
 ghost use Rattle.pth_script.specs.Broken.{end_breaks};
 ghost use Rattle.pth_script.specs.Drafts.{draft_parts, IsClosable, IsDraftInOrder, ComesTo};
 ghost use Rattle.pth_script.specs.Follows.{Follows, Goes, left_of};
@@ -50,7 +50,8 @@ impl Reader {
     /// A reader of no lines yet.
     pub fn new(alloc: Global) -> Reader
         ensures follows { Follows result [] }
-        ensures makes { (rows : List TextRow) → ComesTo (draft_parts result.draft) (left_of result rows) (parts_of (range_of rows) (said (drop (heading_length rows) rows))) }
+        ensures makes { (rows : List TextRow) → ComesTo (draft_parts result.draft) (left_of result rows)
+            (parts_of (range_of rows) (said (drop (heading_length rows) rows))) }
     {
         Reader {
             alloc,

@@ -2,7 +2,7 @@
 
 ghost use Rattle.std.specs.Prelude.{◌≡◌, ◌≤◌, ◌+◌, length, IfOk};
 ghost use Rattle.pth_script.specs.Limits.{text_limit};
-ghost use Rattle.pth_script.specs.Upgrade.{IsUpgradedAs, StandsFor, upgraded};
+ghost use Rattle.pth_script.specs.Upgrade.{IsUpgradedAs, StandsForTheSame, upgraded};
 
 use crate::read::{ReadErr, read};
 use pth_base::bytes::Bytes;
@@ -32,7 +32,7 @@ fn with_new_heading(alloc: Global, bytes: &[u8]) -> Result<Bytes, OutOfMemory>
 /// eight bytes more. It is refused as `read` refuses it. If the eight bytes fit, what comes is read as what the text is read as.
 pub fn upgrade(alloc: Global, bytes: &[u8]) -> Result<Bytes, ReadErr>
     ensures upgraded { IsUpgradedAs bytes.now result }
-    ensures same { length bytes.now + 8 ≤ text_limit → IfOk result (λ text. StandsFor bytes.now text) }
+    ensures same { length bytes.now + 8 ≤ text_limit → IfOk result (λ text. StandsForTheSame bytes.now text) }
 {
     read(alloc, bytes)?;
     Ok(with_new_heading(alloc, bytes)?)

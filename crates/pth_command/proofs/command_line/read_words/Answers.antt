@@ -15,6 +15,7 @@ returns-in-Ok-try_get_matches_from c =
     record {
       answers = subst (λ o. Chooses o c.agreed.result) (sym asked) c.agreed.ensures.answers;
       steps = IfOk-weaker c.agreed.result _ _ (λ choice same. let within = steps_within _ _ parse.parsed app _ c.found.ensures in subst (λ c. (1 ≤ c.steps) × (c.steps ≤ most_steps)) (sym same) within) c.agreed.ensures.same;
+      threads = c.agreed.ensures.threads;
     }
 
 pub returns-clause-answers : goal.returns-clause-answers

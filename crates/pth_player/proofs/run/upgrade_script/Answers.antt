@@ -1,9 +1,9 @@
 use Rattle.std.proofs.Common.{Ok, Err}
 use Rattle.pth_command.specs.CommandLine.{asked_of}
+use Rattle.pth_script.specs.Upgrade.{IsUpgrade}
 use Rattle.pth_player.proofs.Driving.{piece_of}
 use Rattle.pth_player.proofs.Runs.{told_as, unread, wrote_upgrade}
 use Rattle.pth_player.specs.Objects.{inputs, scene}
-use Rattle.pth_player.specs.Play.{IsUpgrade}
 use Rattle.pth_player.specs.Streams.{received}
 use Rattle.pth_player.proofs.run.upgrade_script.Goals as goal
 

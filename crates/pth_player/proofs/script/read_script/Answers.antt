@@ -1,8 +1,9 @@
-use Rattle.std.proofs.Common.{option_map}
+use Rattle.std.proofs.Common.{Some}
+use Rattle.pth_command.specs.CommandLine.{asked_of}
 use Rattle.pth_script.proofs.Headings.{IsRange}
 use Rattle.pth_player.proofs.Reading.{as_read, read_is, unread_is}
 use Rattle.pth_player.proofs.Results.{kept, ok_kept}
-use Rattle.pth_player.specs.Objects.{inputs, object_named}
+use Rattle.pth_player.specs.Objects.{asked_object, inputs}
 use Rattle.pth_player.specs.FaultsOfErrors.{fault_of_read, fault_of_script}
 use Rattle.pth_player.specs.Play.{IsRead, ReadsBytes}
 use Rattle.pth_player.proofs.script.read_script.Goals as goal
@@ -11,12 +12,12 @@ pub returns-in_err-bytes-clause-script : goal.returns-in_err-bytes-clause-script
 returns-in_err-bytes-clause-script g c =
     let old = inputs (g.S.Source.left c.args.input.now) (g.S.Source.faults c.args.input.now) (g.F.Files.left c.args.files.now) (g.F.Files.held c.args.files.now) (g.F.Files.faults c.args.files.now) in
     let new = inputs (g.S.Source.left c.read_bytes.new.input) (g.S.Source.faults c.read_bytes.new.input) (g.F.Files.left c.read_bytes.new.files) (g.F.Files.held c.read_bytes.new.files) (g.F.Files.faults c.read_bytes.new.files) in
-    unread_is IsRead (object_named (option_map (λ n. n.now) c.args.name)) old new c.read_bytes.result c.map_err.result _ c.from_residual.result c.read_bytes.ensures.counts c.map_err.ensures.cases c.in_err-bytes.was
+    unread_is IsRead (asked_object (Some (asked_of c.args.choice.now))) old new c.read_bytes.result c.map_err.result _ c.from_residual.result c.read_bytes.ensures.counts c.map_err.ensures.cases c.in_err-bytes.was
     c.from_residual.ensures.0 c.from_residual.ensures.1
 
 pub returns-clause-script : goal.returns-clause-script
 returns-clause-script g c =
-    let object = object_named (option_map (λ n. n.now) c.args.name) in
+    let object = asked_object (Some (asked_of c.args.choice.now)) in
     let old = inputs (g.S.Source.left c.args.input.now) (g.S.Source.faults c.args.input.now) (g.F.Files.left c.args.files.now) (g.F.Files.held c.args.files.now) (g.F.Files.faults c.args.files.now) in
     let new = inputs (g.S.Source.left c.read_bytes.new.input) (g.S.Source.faults c.read_bytes.new.input) (g.F.Files.left c.read_bytes.new.files) (g.F.Files.held c.read_bytes.new.files) (g.F.Files.faults c.read_bytes.new.files) in
     let taken = kept (λ v. ReadsBytes object old new v.items) fault_of_read c.read_bytes.result c.map_err.result c.in_ok-bytes.bytes c.in_ok-bytes.was c.read_bytes.ensures.bytes c.map_err.ensures.cases in
