@@ -41,7 +41,7 @@ distinct-rows : (q : Queue) (qs : QueuesOf) (rows : List Ranked) → IsOrderly q
 distinct-rows q qs rows o is = subst (λ l. Distinct (slots_of l)) is (distinct-once (rows_of q qs) (λ s. once_in q s qs o))
 
 -- the node of a slot whose row stands here
-placed : (q : Queue) (qs : QueuesOf) (front : List Ranked) (e : Ranked) (back : List Ranked) → IsOrderly qs → rows_of q qs ≡ front ++ e ∷ back → node_of e.holder qs ≡ Some (a_node (prev_at front e back) (next_at front e back) (gap_at front e))
+pub placed : (q : Queue) (qs : QueuesOf) (front : List Ranked) (e : Ranked) (back : List Ranked) → IsOrderly qs → rows_of q qs ≡ front ++ e ∷ back → node_of e.holder qs ≡ Some (a_node (prev_at front e back) (next_at front e back) (gap_at front e))
 placed q qs front e back o is =
     let d : Distinct (slots_of front ++ e.holder ∷ slots_of back) = subst Distinct (slots-append front (e ∷ back)) (distinct-rows q qs (front ++ e ∷ back) o is) in
     ap (option_and_then (λ p. node_in e.holder (rows_of p qs))) (queue_of-holds q e.holder qs o (ap (holds e.holder) is ∙ has-holds e.holder (front ++ e ∷ back) (has-middle front e back)))

@@ -1,6 +1,7 @@
 -- What a change of what is numbered makes of the attribute objects.
-use Rattle.std.proofs.Common.{◌≡◌, ◌≢◌, ℕ, ◌+◌, ℤ, pos, negsuc, ◌<ℤ◌, ◌≤ℤ◌, ◌≤◌, true, false, Option, Some, None, is_none, option_map, IfSome, IfNone, Result, Ok, Err, IfOk, OnOk, OnErr, refl, sym, ◌∙◌, ap, subst, arith, rules}
+use Rattle.std.proofs.Common.{◌≡◌, ◌≢◌, ℕ, ◌+◌, ℤ, pos, negsuc, ◌<ℤ◌, ◌≤ℤ◌, true, false, Option, Some, None, is_none, option_map, IfSome, IfNone, Result, Ok, Err, IfOk, OnOk, OnErr, refl, sym, ◌∙◌, ap, subst, arith}
 use Rattle.std.proofs.lemmas.Int.{ints}
+use Rattle.pth_base.specs.Limits.{IsGreatestPriority}
 use Rattle.pth_base.specs.Table.{put}
 use Rattle.pth_base.specs.declared.ids.Slot.{Slot}
 use Rattle.pth_numbered.specs.declared.error.AddErr.{AddErr}
@@ -166,5 +167,5 @@ pub no_objects : (x : AttrsOf) → slot_of x.objects ≡ (λ _. None) → object
 unfolding seen
 no_objects x e = rw e
 
-pub kept_none : (x : AttrsOf) → thing_at x.objects ≡ (λ _. None) → x.objects.limit ≡ attribute_limit → (5 ≤ x.top) × (x.top ≤ 20) → AreKept x
+pub kept_none : (x : AttrsOf) → thing_at x.objects ≡ (λ _. None) → x.objects.limit ≡ attribute_limit → IsGreatestPriority x.top → AreKept x
 kept_none x things limit range = record { limit = limit; range = range; allowed = λ u o h. absurd (not_some o (sym (ap (λ (f : ℕ → Option Attribute). f u) things) ∙ h)) }

@@ -2,6 +2,7 @@
 -- pth_attr_get, pth_attr_destroy).
 use Rattle.std.specs.Prelude.{◌≡◌, ℕ, ◌+◌, ◌==◌, ◌≤◌, ℤ, pos, neg_ℤ, ◌≤ℤ◌, Bool, true, false, not, ◌&&◌, if◌then◌else◌, codes, Option, Some, None, is_none, option_map, Result, Ok, Err}
 use Rattle.std.specs.Option.{ok_or}
+use Rattle.pth_base.specs.Limits.{IsGreatestPriority}
 use Rattle.pth_base.specs.Table.{put}
 use Rattle.pth_base.specs.Naming.{seen}
 use Rattle.pth_base.specs.declared.attr.AttrField.{AttrField}
@@ -296,4 +297,4 @@ MayStand top (Bound t) = Unit {0}
 pub record AreKept (x : AttrsOf) : Type 0 where
   pub limit : x.objects.limit ≡ attribute_limit
   pub allowed : (u : ℕ) (o : Attribute) → thing_at x.objects u ≡ Some o → MayStand x.top o
-  pub range : (5 ≤ x.top) × (x.top ≤ 20)
+  pub range : IsGreatestPriority x.top

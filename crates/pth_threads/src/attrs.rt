@@ -1,7 +1,7 @@
 //! The attribute objects, by their numbers.
 
 ghost use Rattle.std.specs.Prelude.{◌≡◌, ◌≢◌, ◌<◌, ◌≤◌, Some, None, OnOk, OnErr, IfSome, IfNone, option_copied};
-ghost use Rattle.pth_base.specs.Limits.{last_count};
+ghost use Rattle.pth_base.specs.Limits.{last_count, IsGreatestPriority};
 ghost use Rattle.pth_numbered.specs.Numbered.{number_at, thing_at, IsKept};
 ghost use Rattle.pth_numbered.specs.Operands.{number, named};
 ghost use Rattle.pth_threads.specs.Attributes.{object_of, known_of, first_values, create_answer, of_answer, init_answer, set_answer, get_answer, destroy_answer, values_answer, Answers, MakesObject, Exchanges, Drops, Sets, SetsThread, MayStand, AreSet, AreKept};
@@ -48,9 +48,10 @@ impl Drop for Attrs {
 }
 
 impl Attrs {
-    /// No objects, which takes no memory. Base priorities can be set from `-top` to `top`.
+    /// No objects, which takes no memory. Base priorities can be set from `-top` to `top`, the
+    /// greatest, which is from 5 to 20.
     pub fn new(alloc: Global, top: u8) -> Attrs
-        requires { (5 ≤ top) × (top ≤ 20) }
+        requires { IsGreatestPriority top }
         ensures objects { object_of result ≡ (λ _. None) }
         ensures made { result.objects.made ≡ 0 }
         ensures top { result.top ≡ top }
@@ -89,7 +90,7 @@ impl Attrs {
     fn object(&self, a: i64) -> Option<&Attribute>
         ensures object { option_copied result ≡ named (object_of self.now) a }
         ensures allowed { (x : NewThread) → named (object_of self.now) a ≡ Some (object.Free x) → AreSet self.now.top x }
-        ensures range { (5 ≤ self.now.top) × (self.now.top ≤ 20) }
+        ensures range { IsGreatestPriority self.now.top }
     {
         match self.find(a) {
             Some(slot) => Some(self.at(slot)),
@@ -220,7 +221,7 @@ impl Attrs {
     pub fn values(&self, a: i64, threads: &Threads) -> Result<NewThread, Errno>
         ensures answer { result ≡ values_answer (known_of threads.now) (named (object_of self.now) a) }
         ensures allowed { (x : NewThread) → named (object_of self.now) a ≡ Some (object.Free x) → AreSet self.now.top x }
-        ensures range { (5 ≤ self.now.top) × (self.now.top ≤ 20) }
+        ensures range { IsGreatestPriority self.now.top }
     {
         match self.object(a) {
             None => Err(Errno::EINVAL),
