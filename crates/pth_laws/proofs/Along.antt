@@ -69,9 +69,11 @@ use Rattle.pth_model.specs.Mutexes.{mutex}
 use Rattle.pth_model.specs.Barriers.{arrived_as, withdraws, withdraws_from}
 use Rattle.pth_model.specs.Resources.{handler}
 use Rattle.pth_model.specs.Standing.{Standing, left_by, is_queue, raises_of}
+use Rattle.pth_model.specs.Allowance as allowance
+use Rattle.pth_model.specs.Allowance.{Point, standing_of, waited, number_by}
 use Rattle.pth_model.specs.State.{State, Given, Scheduler, Turn, start, queue, now_of, clock_of}
 use Rattle.pth_model.specs.Transition.{Piece, Change, silent, nothing, changes, tells, tells_each, tid, controlled, where_so, ◌and◌, ◌and_then◌}
-use Rattle.pth_model.specs.Changes.{shares, uses, sets, goes_on, owing, is_blocked_by, enters, leaves_queue, raises_ready, makes, forgets, removes, adds_object, puts_object, with_threads, with_conditions, with_barriers, with_events, with_kernel, with_scheduler, moves_to, prefers, runs_now, blocked_in, blocked_of, or_nobody, entry_of, prio_of, queue_for, holders}
+use Rattle.pth_model.specs.Changes.{shares, uses, sets, goes_on, owing, is_blocked_by, enters, leaves_queue, trails, raises_ready, makes, forgets, removes, adds_object, puts_object, with_threads, with_conditions, with_barriers, with_events, with_kernel, with_scheduler, moves_to, prefers, runs_now, blocked_in, blocked_of, or_nobody, entry_of, prio_of, queue_for, holders}
 use Rattle.pth_model.specs.declared.verdict.Verdict.{Verdict}
 use Rattle.pth_model.specs.declared.verdict.Verdict.TheVariants.{Says, Yields, Blocks, Ends, Kills}
 use Rattle.pth_model.specs.Verdict.{refused, says, done, by_result, ◌when◌otherwise◌}
@@ -90,7 +92,7 @@ use Rattle.pth_model.specs.Living.{is_dead, lives}
 use Rattle.pth_model.specs.Rows.{row_of}
 use Rattle.pth_model.specs.Calls.{begun, begun_by, begun_as, blocks, gone_on, gone_on_where, canceled_by, tried_again, tried_again_by, tried_by, unless_settled, interrupted, retaken_as, retakes_where, awaits_on_where, awaits_on, gone_on_in, gone_on_by}
 use Rattle.pth_model.specs.Pass.{pass, looks, to_wake, woken, all_woken, is_ready_at, moment}
-use Rattle.pth_model.specs.Part.{rank_by, Part, Move, Take, Step, Close, Halt, part, part_by, next_part, chosen, readies, readies_all, readies_new, runs, dispatches, takes, takes_by, owes_after, steps, steps_on, steps_by, is_put_back, is_put_waiting, placed_by, is_placed, turn_ends, closes, moves, moves_by, unless_ended}
+use Rattle.pth_model.specs.Part.{rank_by, Part, Move, Take, Step, Close, Halt, part, part_by, next_part, chosen, readies, readies_all, readies_new, runs, trail_with, dispatches, takes, takes_by, owes_after, steps, steps_on, steps_by, is_put_back, is_put_waiting, placed_by, is_placed, turn_ends, closes, moves, moves_by, unless_ended}
 use Rattle.pth_model.specs.Run.{parts, run}
 use Rattle.pth_model.proofs.Walks.{named_dead}
 use Rattle.pth_laws.specs.Waits.{Names}
@@ -178,11 +180,11 @@ pub record KeptByHandlers {P S H : Type 0} (R : State P S H → Type 0) : Type 0
   pub seated : (x : ConditionTable) (s : State P S H) → KeepsSeats x s.control.conditions → R s → R (controlled (with_conditions (λ y. x)) s)
   pub told : (m : Mark) (s : State P S H) → IsToTell m s → R s → R (tells m s).state
 
--- Other places in queues, changes of records, and looks. A step puts nobody among the waiting threads, and looks at no event: these two
+-- Other places in queues, or another trail of dispatches, changes of records, and looks. A step puts nobody among the waiting threads, and looks at no event: these two
 -- are left out where not all changes are asked for.
 abbrev pub KeepsPlaces : {P S H : Type 0} → (all : Bool) → (State P S H → Type 0) → Type 0
-KeepsPlaces {P = P} {S = S} {H = H} true R = (standing : Queue → List Standing) (entries raises : ℕ) (s : State P S H) → R s → R (controlled (with_threads (λ x. record x { standing = standing; entries = entries; raises = raises })) s)
-KeepsPlaces {P = P} {S = S} {H = H} false R = (standing : Queue → List Standing) (entries raises : ℕ) (s : State P S H) → MayStand standing s → R s → R (controlled (with_threads (λ x. record x { standing = standing; entries = entries; raises = raises })) s)
+KeepsPlaces {P = P} {S = S} {H = H} true R = (standing : Queue → List Standing) (entries raises : ℕ) (trail : List Point) (s : State P S H) → R s → R (controlled (with_threads (λ x. record x { standing = standing; entries = entries; raises = raises; trail = trail })) s)
+KeepsPlaces {P = P} {S = S} {H = H} false R = (standing : Queue → List Standing) (entries raises : ℕ) (trail : List Point) (s : State P S H) → MayStand standing s → R s → R (controlled (with_threads (λ x. record x { standing = standing; entries = entries; raises = raises; trail = trail })) s)
 
 abbrev pub KeepsRecords : {P S H : Type 0} → (all : Bool) → (State P S H → Type 0) → Type 0
 KeepsRecords {P = P} {S = S} {H = H} true R = (t : ℕ) (c : change_of_record.Change) (s : State P S H) → IsPrioSafe s.control.top c → IsLifeSafe t c s → R s → R (controlled (sets t c) s)
@@ -194,7 +196,7 @@ KeepsLooks {P = P} {S = S} {H = H} false f R = Unit {0}
 
 pub record Kept {P S H : Type 0} (all : Bool) (f : P → Functions S H) (R : State P S H → Type 0) : Type 0 where
   pub handlers : KeptByHandlers R
-  -- the places in queues, what the scheduler keeps, the kernel, and what was used once
+  -- the places in queues and the trail, what the scheduler keeps, the kernel, and what was used once
   pub placed : KeepsPlaces all R
   pub scheduled : (x : Scheduler) (s : State P S H) → R s → R (controlled (with_scheduler (λ y. x)) s)
   pub timed : (x : Kernel) (s : State P S H) → R s → R (controlled (with_kernel (λ y. x)) s)
@@ -244,7 +246,7 @@ life_of_step t c s safe = tt
 kept_by_steps : {P S H : Type 0} (f : P → Functions S H) (R : State P S H → Type 0) → KeptAlong f R → KeptBySteps f R
 kept_by_steps f R kept = record {
   handlers = kept.handlers;
-  placed = λ standing entries raises s may r. kept.placed standing entries raises s r;
+  placed = λ standing entries raises trail s may r. kept.placed standing entries raises trail s r;
   scheduled = kept.scheduled;
   timed = kept.timed;
   used = kept.used;
@@ -464,7 +466,7 @@ module _ {P S H : Type 0} (f : P → Functions S H) (R : State P S H → Type 0)
   -- among the waiting threads only one enters whose state is waiting
   enters_keeps : (t : ℕ) (q : Queue) (rank : ℤ) (top : Bool) (s : State P S H) → (is_queue Waiting q ≡ true → state_of s t ≡ state.Waiting) → R s → R (controlled (enters t q rank top) s)
   unfolding enters
-  enters_keeps t q rank top s waits r = kept.placed _ _ _ s (λ u h. by_queue u (is_queue Waiting q) refl h) r
+  enters_keeps t q rank top s waits r = kept.placed _ _ _ _ s (λ u h. by_queue u (is_queue Waiting q) refl h) r
     where
       here : Standing
       here = record { tid = t; rank = rank; since = raises_of s.control.threads.raises q; entry = s.control.threads.entries; top = top }
@@ -476,11 +478,15 @@ module _ {P S H : Type 0} (f : P → Functions S H) (R : State P S H → Type 0)
 
   leaves_queue_keeps : (t : ℕ) → Stays (leaves_queue t)
   unfolding leaves_queue
-  leaves_queue_keeps t s r = kept.placed _ _ _ s (λ u h. inl (left_stands t u (s.control.threads.standing Waiting) h).0) r
+  leaves_queue_keeps t s r = kept.placed _ _ _ _ s (λ u h. inl (left_stands t u (s.control.threads.standing Waiting) h).0) r
 
   pub raises_keeps : Stays raises_ready
   unfolding raises_ready
-  raises_keeps s r = kept.placed _ _ _ s (λ u h. inl h) r
+  raises_keeps s r = kept.placed _ _ _ _ s (λ u h. inl h) r
+
+  trails_keeps : (trail : List Point) → Stays (trails trail)
+  unfolding trails
+  trails_keeps trail s r = kept.placed _ _ _ _ s (λ u h. inl h) r
 
   runs_now_keeps : (o : Option ℕ) → Stays (runs_now o)
   runs_now_keeps o s r = kept.scheduled (record s.control.scheduler { running = o }) s r
@@ -987,13 +993,16 @@ module _ {P S H : Type 0} (f : P → Functions S H) (R : State P S H → Type 0)
   unfolding dispatches runs
   taken_keeps x None s r = r
   taken_keeps x (Some t) s r =
-      let a = controlled (leaves_queue t) s in
+      let trail = trail_with t s.control in
+      let place = standing_of t (s.control.threads.standing Ready) in
+      let before = controlled (trails trail) s in
+      let a = controlled (leaves_queue t) before in
       let b = controlled (sets t (change.State state.Running)) a in
       let n = min ((or_nobody (entry_of s.control t)).dispatches + 1) last_count in
       let c = controlled (sets t (change.Dispatches n)) b in
       let d = controlled (runs_now (Some t)) c in
-      let m = mark.Dispatch (x.turns + 1) (now_of s.control) (tid t) (rank_by (place_in t (queue s.control Ready))) 0 0 in
-      kept.handlers.told m (controlled (prefers None) d) tt (prefers_keeps None d (runs_now_keeps (Some t) c (kept.set t (change.Dispatches n) b tt tt (kept.set t (change.State state.Running) a tt tt (leaves_queue_keeps t s r)))))
+      let m = mark.Dispatch (x.turns + 1) (now_of s.control) (tid t) (rank_by (place_in t (queue s.control Ready))) (number_by (waited trail) place) (number_by (allowance.allowed s.control.top trail) place) in
+      kept.handlers.told m (controlled (prefers None) d) tt (prefers_keeps None d (runs_now_keeps (Some t) c (kept.set t (change.Dispatches n) b tt tt (kept.set t (change.State state.Running) a tt tt (leaves_queue_keeps t before (trails_keeps trail s r))))))
 
   takes_keeps : (x : Turn) (s : State P S H) → R s → R (takes x s).state
   unfolding takes
@@ -1040,7 +1049,7 @@ module _ {P S H : Type 0} (f : P → Functions S H) (R : State P S H → Type 0)
 
   put_waiting_keeps : (t : ℕ) (s : State P S H) → R s → R (controlled (is_put_waiting t) s)
   unfolding is_put_waiting enters
-  put_waiting_keeps t s r = kept.placed _ _ _ (controlled (sets t (change.State state.Waiting)) s) (kept.set t (change.State state.Waiting) s tt tt r)
+  put_waiting_keeps t s r = kept.placed _ _ _ _ (controlled (sets t (change.State state.Waiting)) s) (kept.set t (change.State state.Waiting) s tt tt r)
 
   placed_keeps : (t : ℕ) (o : Option ℕ) (b : Option Blocked) (s : State P S H) → R s → R (controlled (placed_by t o b) s)
   placed_keeps t None b s r = r

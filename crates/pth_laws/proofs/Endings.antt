@@ -42,7 +42,7 @@ use Rattle.pth_laws.proofs.Awaits.{Flags, Tells, HasAwaits, flags_past, others_a
 use Rattle.pth_laws.proofs.Locked.{no_mutex, no_lock}
 use Rattle.pth_laws.proofs.Held.{out_released, out_given}
 use Rattle.pth_laws.proofs.OrderlyMarks.{value_self}
-use Rattle.pth_laws.proofs.Walk.{Walk, IsMarked, walk_tells, walk_then, walk_to}
+use Rattle.pth_laws.proofs.Walk.{Walk, IsMarkedWithin, walk_tells, walk_then, walk_to}
 use Rattle.pth_laws.proofs.Handlers.{IsRunning, run_up, block_open, handled_walk, handler_walk}
 
 -- ---- no destructor is left after the rounds that there may be
@@ -353,7 +353,7 @@ module _ {P S H : Type 0} (n t : ℕ) where
         let over : Flags = flags_past t b (told u.resources m).awaits in
         let none : Tells over t None = record { fits = over_now; calm = λ still. absurd (true_false (sym (put_here b.ended t true) ∙ still)); retakes = λ e. absurd (true_false (sym e)) } in
         let awaits_now : HasAwaits over u.control = subst (HasAwaits over) (sym w.control) (awaits_stop t (flags_past t b s.resources.awaits) over handed none (others_await t (flags_past t b s.resources.awaits) over.awaits await_stays) awaits_back) in
-        let law : IsMarked n c m = λ locked. (
+        let law : IsMarkedWithin n c m = λ locked. (
           (
             (
               run_up f n t b.ended b.canceled up made s.resources undone (so_far pushed done.round) c u w,

@@ -6,6 +6,7 @@ use Rattle.std.proofs.lemmas.List.Elements.{All-nil, All-cons, All-append, All-w
 use Rattle.std.proofs.lemmas.Bool.Decides.{nat_tests}
 use Rattle.pth_base.specs.Program.{Functions}
 use Rattle.pth_base.specs.Table.{put}
+use Rattle.pth_base.specs.declared.answer.Answer.{Answer}
 use Rattle.pth_base.specs.declared.mark.Mark.{Mark}
 use Rattle.pth_base.specs.declared.outcome.Outcome.{Outcome}
 use Rattle.pth_base.specs.declared.outcome.Outcome.TheVariants as outcome
@@ -21,12 +22,15 @@ use Rattle.pth_ring.specs.Rings.{is_claimed}
 use Rattle.pth_model.specs.EventSeats.{event_seat, condition_in}
 use Rattle.pth_model.specs.Transition.{tid}
 use Rattle.pth_model.specs.Standing.{Standing, is_queue, raises_of}
-use Rattle.pth_model.specs.State.{State, Given, Turn, start, no_turn, main, main_entry, main_standing}
+use Rattle.pth_model.specs.State.{State, Control, Given, Turn, start, no_turn, main, main_entry, main_standing}
 use Rattle.pth_model.specs.Course.{Course, followed}
+use Rattle.pth_model.specs.declared.next.Next.{Next}
+use Rattle.pth_model.specs.declared.next.Next.TheVariants.{Done}
+use Rattle.pth_model.specs.declared.next.Next.TheVariants as next
 use Rattle.pth_model.specs.declared.progress.Progress.{Progress}
 use Rattle.pth_model.specs.Changes.{blocked_in, blocked_of}
 use Rattle.pth_model.specs.Living.{lives, is_made}
-use Rattle.pth_model.specs.Part.{Step, part, part_by, next_part, next_part_by, unless_ended, is_idle}
+use Rattle.pth_model.specs.Part.{Step, Close, part, part_by, next_part, next_part_by, unless_ended, is_idle, steps_on}
 use Rattle.pth_model.specs.Resources.{Resources, HasNothing}
 use Rattle.pth_model.specs.Run.{parts, run}
 use Rattle.pth_model.proofs.Once.{shown-all}
@@ -39,14 +43,16 @@ use Rattle.pth_laws.specs.Orderly.{Orderly, key_at}
 use Rattle.pth_laws.specs.Exclusive.{Exclusive}
 use Rattle.pth_laws.specs.Initialised.{Initialised}
 use Rattle.pth_laws.specs.InOrder.{InOrder, mail}
+use Rattle.pth_laws.specs.InTime.{InTime}
 use Rattle.pth_laws.specs.Tied.{IsTiedTo}
 use Rattle.pth_laws.specs.Valid.{Lives, IsValid, IsOver}
-use Rattle.pth_laws.proofs.Living.{true_false, made_more, both, not_true, runs_alive}
+use Rattle.pth_laws.proofs.Living.{queue_to_run, IsToRun, NamesToRun, running_not_to_run, over_not_to_run, living-over, true_false, made_more, both, not_true, runs_alive}
 use Rattle.pth_laws.proofs.Going.{Going, IsSound, going_sound}
 use Rattle.pth_laws.proofs.Awaits.{Tells, flags}
 use Rattle.pth_laws.proofs.Locked.{Locked, has_some, locked_none, locked_along}
-use Rattle.pth_laws.proofs.Walk.{IsOfMade, IsLawfulOf, each_lawful, each-weaker, each-append, book-append}
-use Rattle.pth_laws.proofs.Parts.{IsSettled, PartWalk, none_some, part_walk}
+use Rattle.pth_laws.proofs.Walk.{Walk, IsOfMade, IsLawfulOf, each_lawful, each_in_time, each-weaker, each-append, book-append}
+use Rattle.pth_laws.proofs.Parts.{IsSettled, PartWalk, none_some, part_walk, step_goes}
+use Rattle.pth_laws.proofs.Steps.{AfterStep}
 use Rattle.pth_laws.proofs.Leftovers.{each_empty, unmarked_nothing}
 use Rattle.pth_laws.proofs.KeyMarks.{KeysFit, keys_fit_none, keys_fit_along}
 use Rattle.pth_laws.proofs.MailMarks.{MailFits, ports_as, mail_told, lawful_in_order}
@@ -101,6 +107,25 @@ nothing_told t = record { fits = refl; calm = λ up. refl; retakes = λ e. absur
 
 -- ---- every run
 
+not_killed : IsKilled outcome.Running → ⊥
+not_killed h = cc
+
+-- the part that comes next is a step of t
+step_next : (o : Outcome) (gave r : Option ℕ) (idle : Bool) (t : ℕ) → unless_ended o (next_part_by gave r idle) ≡ Step t → (o ≡ outcome.Running) × (gave ≡ None) × (r ≡ Some t)
+step_next outcome.Running (Some u) r idle t h = absurd (cc h)
+step_next outcome.Running None (Some u) idle t h = let same : u ≡ t = cc in (refl, refl, ap Some same)
+step_next outcome.Running None None true t h = absurd (cc h)
+step_next outcome.Running None None false t h = absurd (cc h)
+step_next o gave r idle t h = absurd (cc h)
+
+-- t closes its turn
+close_next : (o : Outcome) (gave r : Option ℕ) (idle : Bool) (t : ℕ) → unless_ended o (next_part_by gave r idle) ≡ Close t → (o ≡ outcome.Running) × (gave ≡ Some t)
+close_next outcome.Running (Some u) r idle t h = let same : u ≡ t = cc in (refl, ap Some same)
+close_next outcome.Running None (Some u) idle t h = absurd (cc h)
+close_next outcome.Running None None true t h = absurd (cc h)
+close_next outcome.Running None None false t h = absurd (cc h)
+close_next o gave r idle t h = absurd (cc h)
+
 module _ {P S H : Type 0} (f : P → Functions S H) where
   start_settled : (g : Given P) → IsSettled 1 empty_book (start f g) no_turn
   unfolding start
@@ -148,14 +173,16 @@ module _ {P S H : Type 0} (f : P → Functions S H) where
         settled = λ on. absurd (on h.1);
       }
 
+  locked_so_far : (c : Course P S H) → IsLawfulRun c → Locked (book_of empty_book c.marks).resources
+  locked_so_far c l = locked_along empty_book c.marks (each-weaker IsLawful IsExclusiveMark (λ d m h. h.1) empty_book c.marks l.law) locked_none
+
   goes_on_settled : (c : Course P S H) → (IsKilled c.turn.outcome → ⊥) → IsLawfulRun c → IsLawfulRun (followed c (part f c.turn c.state))
   goes_on_settled c on l =
       let n = c.state.control.threads.made in
       let b = book_of empty_book c.marks in
       let next = part f c.turn c.state in
       let w : PartWalk n b next = part_walk n f c.turn b c.state refl (l.settled on) in
-      let locked : Locked b.resources = locked_along empty_book c.marks (each-weaker IsLawful IsExclusiveMark (λ d m h. h.1) empty_book c.marks l.law) locked_none in
-      let law : EachMark (IsLawfulOf n) b next.marks = each_lawful n b next.marks locked w.law in
+      let law : EachMark (IsLawfulOf n) b next.marks = each_lawful n b next.marks (locked_so_far c l) w.law in
       record {
         law = each-append IsLawful empty_book c.marks next.marks l.law (each-weaker (IsLawfulOf n) IsLawful (λ d m h. h.0) b next.marks law);
         made = λ still.
@@ -179,32 +206,88 @@ module _ {P S H : Type 0} (f : P → Functions S H) where
   run_lawful g zero = record { law = tt; made = λ on. All-nil (λ m. IsOfMade (start f g).control.threads.made (thread_of m)); settled = λ on. rebased empty_book (start f g) no_turn 1 (start_settled g) }
   run_lawful g (suc i) = goes_on_by (run f g i).turn.outcome (run f g i) refl (run_lawful g i)
 
-  -- who makes a step is sound
-  pub run_sound : (g : Given P) (i t : ℕ) → next_part (run f g i).state (run f g i).turn ≡ Step t → IsSound t (run f g i).state.control
+  -- who makes a step runs, and has not given up control
+  stepping : (g : Given P) (i t : ℕ) → next_part (run f g i).state (run f g i).turn ≡ Step t → let c = run f g i in IsSettled c.state.control.threads.made (book_of empty_book c.marks) c.state c.turn × (c.turn.gave ≡ None) × (c.state.control.scheduler.running ≡ Some t)
   unfolding next_part
-  run_sound g i t next = by_outcome c.turn.outcome refl next
+  stepping g i t next =
+      let c = run f g i in
+      let x = step_next c.turn.outcome c.turn.gave c.state.control.scheduler.running (is_idle c.state.control) t next in
+      ((run_lawful g i).settled (λ killed. not_killed (sym x.0 ∙ killed)), x.1, x.2)
+
+  -- it is sound
+  pub run_sound : (g : Given P) (i t : ℕ) → next_part (run f g i).state (run f g i).turn ≡ Step t → IsSound t (run f g i).state.control
+  run_sound g i t next =
+      let c = run f g i in
+      let n = c.state.control.threads.made in
+      let ended = (book_of empty_book c.marks).ended in
+      let x = stepping g i t next in
+      let z = x.0 in
+      let going : Going n ended t c.state.control = record { living = z.living; runs = z.runs t x.2; running = x.2; preferred = z.unnamed t x.2 x.1 } in
+      going_sound n ended t c.state.control going (z.awaits t).0.retakes
+
+  -- what its step tells, and leaves
+  step_walked : (g : Given P) (i t : ℕ) → next_part (run f g i).state (run f g i).turn ≡ Step t → let c = run f g i in let n = c.state.control.threads.made in Walk n (book_of empty_book c.marks) (AfterStep n t (steps_on f t c.state).next) (steps_on f t c.state).told
+  step_walked g i t step =
+      let c = run f g i in
+      let x = stepping g i t step in
+      step_goes c.state.control.threads.made f c.turn t (book_of empty_book c.marks) c.state x.1 x.2 refl x.0
+
+  -- its step tells no dispatch, and if it goes on it still runs
+  pub run_steps : (g : Given P) (i t : ℕ) → next_part (run f g i).state (run f g i).turn ≡ Step t → let w = steps_on f t (run f g i).state in InTime w.told.marks × ((a : Answer) → w.next ≡ Done a → w.told.state.control.scheduler.running ≡ Some t)
+  run_steps g i t step =
+      let c = run f g i in
+      let n = c.state.control.threads.made in
+      let b = book_of empty_book c.marks in
+      let u = (steps_on f t c.state).told in
+      let w = step_walked g i t step in
+      (each_in_time n b u.marks (locked_so_far c (run_lawful g i)) w.law, λ a goes. (subst (λ y. AfterStep n t y (book_of b u.marks) u.state) goes w.post).left.0)
+
+  -- unless it kills the run, who is named afterwards waits to run, and it does not
+  pub run_names : (g : Given P) (i t : ℕ) → next_part (run f g i).state (run f g i).turn ≡ Step t → let w = steps_on f t (run f g i).state in (w.next ≡ next.Killed → ⊥) → NamesToRun t w.told.state.control
+  run_names g i t step on = by_next (steps_on f t c.state).next on (step_walked g i t step).post
     where
       c : Course P S H
       c = run f g i
 
-      by_part : (gave r : Option ℕ) (idle : Bool) → c.turn.gave ≡ gave → c.state.control.scheduler.running ≡ r → next_part_by gave r idle ≡ Step t → (c.turn.gave ≡ None) × (c.state.control.scheduler.running ≡ Some t)
-      by_part (Some u) r idle gave running h = absurd (cc h)
-      by_part None (Some u) idle gave running h = let same : u ≡ t = cc in (gave, running ∙ ap Some same)
-      by_part None None true gave running h = absurd (cc h)
-      by_part None None false gave running h = absurd (cc h)
+      n : ℕ
+      n = c.state.control.threads.made
 
-      by_outcome : (o : Outcome) → c.turn.outcome ≡ o → unless_ended o (next_part_by c.turn.gave c.state.control.scheduler.running (is_idle c.state.control)) ≡ Step t → IsSound t c.state.control
-      by_outcome outcome.Running goes h =
-          let x = by_part c.turn.gave c.state.control.scheduler.running (is_idle c.state.control) refl refl h in
-          let z = (run_lawful g i).settled (λ killed. on (sym goes ∙ killed)) in
-          let n = c.state.control.threads.made in
-          let ended = (book_of empty_book c.marks).ended in
-          let going : Going n ended t c.state.control = record { living = z.living; runs = z.runs t x.1; running = x.1; preferred = z.unnamed t x.1 x.0 } in
-          going_sound n ended t c.state.control going (z.awaits t).0.retakes
-        where
-          on : outcome.Running ≡ outcome.Killed → ⊥
-          on h = cc
-      by_outcome o goes h = absurd (cc h)
+      u : State P S H
+      u = (steps_on f t c.state).told.state
+
+      b : Book
+      b = book_of (book_of empty_book c.marks) (steps_on f t c.state).told.marks
+
+      nobody_named : u.control.scheduler.preferred ≡ None → (v : ℕ) → u.control.scheduler.preferred ≡ Some v → IsToRun (u.control.threads.known v)
+      nobody_named none v named = absurd (none_some v (sym none ∙ named))
+
+      by_next : (y : Next) → (y ≡ next.Killed → ⊥) → AfterStep n t y b u → NamesToRun t u.control
+      by_next (next.Done a) on h = (running_not_to_run (u.control.threads.known t) h.left.1, nobody_named h.left.2)
+      by_next (next.Yields a) on h = (running_not_to_run (u.control.threads.known t) h.left.1, h.left.2)
+      by_next next.Waits on h = (running_not_to_run (u.control.threads.known t) h.left.1, nobody_named h.left.2)
+      by_next (next.Ended v) on h = (over_not_to_run (u.control.threads.known t) (living-over n b.ended u.control.threads.made u.control.threads.known u.control.threads.standing h.living t h.gone), nobody_named h.left.1)
+      by_next next.Killed on h = absurd (on refl)
+
+  -- who gave up control and still runs does not wait to run
+  pub run_closes : (g : Given P) (i t : ℕ) → next_part (run f g i).state (run f g i).turn ≡ Close t → let k = (run f g i).state.control in (u : ℕ) → k.scheduler.running ≡ Some u → queue_to_run (k.threads.known t) ≡ None
+  unfolding next_part
+  run_closes g i t close u running = running_not_to_run (k.threads.known t) (z.runs t (by_gave (z.gave t x.1)))
+    where
+      c : Course P S H
+      c = run f g i
+
+      k : Control P S H
+      k = c.state.control
+
+      x : (c.turn.outcome ≡ outcome.Running) × (c.turn.gave ≡ Some t)
+      x = close_next c.turn.outcome c.turn.gave k.scheduler.running (is_idle k) t close
+
+      z : IsSettled k.threads.made (book_of empty_book c.marks) c.state c.turn
+      z = (run_lawful g i).settled (λ killed. not_killed (sym x.0 ∙ killed))
+
+      by_gave : (k.scheduler.running ≡ Some t) ⊎ ((k.scheduler.running ≡ None) × ((book_of empty_book c.marks).ended t ≡ true)) → k.scheduler.running ≡ Some t
+      by_gave (inl runs) = runs
+      by_gave (inr rests) = absurd (none_some u (sym rests.0 ∙ running))
 
   -- ---- what is told of every run
 
@@ -359,7 +442,7 @@ module _ {P S H : Type 0} (f : P → Functions S H) where
       s = (run f g i).state
 
       locked : Locked s.resources
-      locked = subst Locked ((run_lawful g i).settled on).resources (locked_along empty_book (run f g i).marks (each-weaker IsLawful IsExclusiveMark (λ b m h. h.1) empty_book (run f g i).marks (run_lawful g i).law) locked_none)
+      locked = subst Locked ((run_lawful g i).settled on).resources (locked_so_far (run f g i) (run_lawful g i))
 
       alive : (t : ℕ) → (HasNothing s.resources.store t → ⊥) → lives (s.control.threads.known t) ≡ true
       alive t something = by_life (lives (s.control.threads.known t)) refl

@@ -16,6 +16,9 @@ pub mod NoNotices
 pub mod Allowed
 pub mod Along
 pub mod Ranged
+pub mod Waited
+pub mod InTime
+pub mod History
 pub mod Levels
 pub mod Waiting
 pub mod Alone

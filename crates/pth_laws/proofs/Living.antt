@@ -101,6 +101,40 @@ pub runs_alive : (o : Option Entry) → (or_nobody o).state ≡ state.Running �
 runs_alive None h = absurd (cc h)
 runs_alive (Some e) h = rw h refl
 
+-- the queue where one stands that is new or ready, and not suspended
+abbrev pub run_queue : ThreadState → Bool → Option Queue
+run_queue state.New false = Some New
+run_queue state.Ready false = Some Ready
+run_queue at suspended = None
+
+abbrev pub queue_to_run : Option Entry → Option Queue
+queue_to_run None = None
+queue_to_run (Some e) = run_queue e.state e.suspended
+
+-- it waits to run
+abbrev pub IsToRun : Option Entry → Type 0
+IsToRun o = is_some (queue_to_run o) ≡ true
+
+pub to_run_lives : (o : Option Entry) → IsToRun o → lives o ≡ true
+to_run_lives None h = absurd (true_false (sym h))
+to_run_lives (Some e) h = by_state e.state h
+  where
+    by_state : (at : ThreadState) → is_some (run_queue at e.suspended) ≡ true → not (is_dead at) ≡ true
+    by_state state.Dead h = absurd (true_false (sym h))
+    by_state at h = refl
+
+pub running_not_to_run : (o : Option Entry) → (or_nobody o).state ≡ state.Running → queue_to_run o ≡ None
+running_not_to_run None h = refl
+running_not_to_run (Some e) h = ap (λ at. run_queue at e.suspended) h
+
+pub over_not_to_run : (o : Option Entry) → lives o ≡ false → queue_to_run o ≡ None
+over_not_to_run None h = refl
+over_not_to_run (Some e) h = by_state e.state h
+  where
+    by_state : (at : ThreadState) → not (is_dead at) ≡ false → run_queue at e.suspended ≡ None
+    by_state state.Dead h = refl
+    by_state at h = absurd (true_false h)
+
 -- ---- changes
 
 -- a change of a record that leaves who lives as it is
@@ -130,14 +164,17 @@ request_state b e = refl
 some_same : (c d : change_type.Change) → Some c ≡ Some d → c ≡ d
 some_same c d h = cc
 
--- a value that a program sets (pth_attr_set)
-pub set_state : (v : AttrValue) (c : change_type.Change) (e : Entry) → change_of v ≡ Some c → (changed c e).state ≡ e.state
+-- a value that a program sets (pth_attr_set) leaves the state, and whether the thread is suspended
+pub set_leaves : (v : AttrValue) (c : change_type.Change) (e : Entry) → change_of v ≡ Some c → ((changed c e).state ≡ e.state) × ((changed c e).suspended ≡ e.suspended)
 unfolding changed
-set_state (value.Prio n) c e h = rw (← some_same (change.Prio n) c h) refl
-set_state (value.Name s) c e h = rw (← some_same (change.Name s) c h) refl
-set_state (value.Joinable n) c e h = rw (← some_same _ c h) refl
-set_state (value.Cancel n) c e h = rw (← some_same _ c h) refl
-set_state v c e h = absurd (cc h)
+set_leaves (value.Prio n) c e h = rw (← some_same (change.Prio n) c h) (refl, refl)
+set_leaves (value.Name s) c e h = rw (← some_same (change.Name s) c h) (refl, refl)
+set_leaves (value.Joinable n) c e h = rw (← some_same _ c h) (refl, refl)
+set_leaves (value.Cancel n) c e h = rw (← some_same _ c h) (refl, refl)
+set_leaves v c e h = absurd (cc h)
+
+pub set_state : (v : AttrValue) (c : change_type.Change) (e : Entry) → change_of v ≡ Some c → (changed c e).state ≡ e.state
+set_state v c e h = (set_leaves v c e h).0
 
 -- by the state of a thread in the system
 lives_by : (at : ThreadState) (o : Option Entry) → is_some o ≡ true → (or_nobody o).state ≡ at → lives o ≡ not (is_dead at)
@@ -148,6 +185,10 @@ lives_by at (Some e) known same = ap (λ s. not (is_dead s)) same
 pub state_safe : (at : ThreadState) → is_dead at ≡ false → (o : Option Entry) → lives o ≡ true → (e : Entry) → o ≡ Some e → IsSafe (change.State at) e
 unfolding changed
 state_safe at up o alive e h = up ∙ sym (not_true (is_dead e.state) (sym (ap lives h) ∙ alive))
+
+-- t does not wait to run, and who is named does
+abbrev pub NamesToRun : {P S H : Type 0} → ℕ → Control P S H → Type 0
+NamesToRun t k = (queue_to_run (k.threads.known t) ≡ None) × ((v : ℕ) → k.scheduler.preferred ≡ Some v → IsToRun (k.threads.known v))
 
 module _ {P S H : Type 0} (n : ℕ) (ended : ℕ → Bool) where
   abbrev pub Living : Control P S H → Type 0

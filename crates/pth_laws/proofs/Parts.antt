@@ -24,19 +24,19 @@ use Rattle.pth_model.specs.Resources.{told}
 use Rattle.pth_model.specs.Standing.{raises_of, is_queue}
 use Rattle.pth_model.specs.State.{State, Control, Scheduler, Turn, queue}
 use Rattle.pth_model.specs.Transition.{controlled}
-use Rattle.pth_model.specs.Changes.{sets, enters, goes_on, leaves_queue, raises_ready, prio_of, blocked_of, owing, or_nobody, entry_of, holders, moves_to}
+use Rattle.pth_model.specs.Changes.{sets, enters, goes_on, leaves_queue, trails, raises_ready, prio_of, blocked_of, owing, or_nobody, entry_of, holders, moves_to}
 use Rattle.pth_model.specs.Living.{is_dead, lives, is_made}
 use Rattle.pth_model.specs.Pass.{pass, looks, waiting, is_to_wake, to_wake, woken, all_woken, is_ready_at, moment}
 use Rattle.pth_model.specs.Course.{Course}
-use Rattle.pth_model.specs.Part.{Part, next_part, next_part_by, unless_ended, is_idle, chosen, turn_after, readies, readies_all, readies_new, new_rank, runs, dispatches, takes, takes_by, owes_after, steps, steps_on, is_put_back, is_put_waiting, placed_by, is_placed, turn_ends, closes, moves, moves_by, part, part_by}
+use Rattle.pth_model.specs.Part.{Part, next_part, next_part_by, unless_ended, is_idle, chosen, turn_after, readies, readies_all, readies_new, new_rank, runs, trail_with, dispatches, takes, takes_by, owes_after, steps, steps_on, is_put_back, is_put_waiting, placed_by, is_placed, turn_ends, closes, moves, moves_by, part, part_by}
 use Rattle.pth_model.proofs.Once.{shown-all}
 use Rattle.pth_laws.proofs.Book.{Book, Closed, after, book_of}
 use Rattle.pth_laws.proofs.Laws.{EachMark}
-use Rattle.pth_laws.proofs.Living.{Living, true_false, runs_alive, state_safe, changed_lives, living-up, living-made, living-alive, living_leaves, living_sets, living_enters, living_ready}
+use Rattle.pth_laws.proofs.Living.{Living, to_run_lives, true_false, runs_alive, state_safe, changed_lives, living-up, living-made, living-alive, living_leaves, living_sets, living_enters, living_ready}
 use Rattle.pth_laws.proofs.Going.{Going}
 use Rattle.pth_laws.proofs.Awaits.{HasAwaits, Flags, flags, awaits_set, awaits_moved, awaits_enter, awaits_leave, awaits_go, awaits_look}
 use Rattle.pth_laws.proofs.Claims.{HasClaims, claims_set, claims_moved, claims_enter, claims_leave, claims_go, claims_look}
-use Rattle.pth_laws.proofs.Walk.{Walk, IsMarked, walk_then}
+use Rattle.pth_laws.proofs.Walk.{Walk, IsMarked, each_marked, walk_then}
 use Rattle.pth_laws.proofs.Steps.{AfterStep, some_number, step_walk}
 
 -- the first n numbers are of threads that were made, and of these have ended: who is left
@@ -177,9 +177,9 @@ module _ {P S H : Type 0} (n : ℕ) where
       record { resources = x.resources; closed = x.closed; made = x.made; living = x.living; claims = x.claims; awaits = x.awaits; running = x.running; preferred = x.preferred }
 
   dispatch_walk : (x : Turn) (t : ℕ) (b : Book) (s : State P S H) → x.gave ≡ None → IsUp n b.ended t → IsResting n b s → PartWalk n b (takes_by x (Some t) s)
-  unfolding dispatches runs sets leaves_queue told
+  unfolding dispatches runs trails sets leaves_queue told
   dispatch_walk x t b s none up r =
-      let k = s.control in
+      let k = trails (trail_with t s.control) s.control in
       let count = min ((or_nobody (entry_of k t)).dispatches + 1) last_count in
       let alive = alive_up b s r t up in
       let a = leaves_queue t k in
@@ -222,7 +222,7 @@ module _ {P S H : Type 0} (n : ℕ) where
       let a = controlled (moves_to m) s in
       let c = after b (mark.Moved m) in
       let w = pass_walk f c a (record { resources = r.resources; closed = refl; made = r.made; living = r.living; claims = r.claims; awaits = r.awaits; running = r.running; preferred = r.preferred }) in
-      record { law = ((λ locked. (((tt, tt), tt), tt)), w.law); post = λ on. rest_settles (book_of c (pass f a).marks) (pass f a).state x none w.post }
+      record { law = ((λ locked. (((tt, tt), tt), tt)), each_marked n c (pass f a).marks w.law); post = λ on. rest_settles (book_of c (pass f a).marks) (pass f a).state x none w.post }
 
   -- ---- a turn is closed
 
@@ -283,7 +283,7 @@ module _ {P S H : Type 0} (n : ℕ) where
   close_walk f x t b s gave made z =
       let a = controlled (turn_ends t) s in
       let w = pass_walk f b a (turn_rests x t b s gave made z) in
-      record { law = w.law; post = λ on. rest_settles (book_of b (pass f a).marks) (pass f a).state (record x { gave = None }) refl w.post }
+      record { law = each_marked n b (pass f a).marks w.law; post = λ on. rest_settles (book_of b (pass f a).marks) (pass f a).state (record x { gave = None }) refl w.post }
 
   -- ---- a step
 
@@ -322,7 +322,7 @@ module _ {P S H : Type 0} (n : ℕ) where
     awaits = awaits_owed (flags c u.resources.awaits) t (next.Yields a) u.control h.awaits;
     runs = λ v run. subst (λ (i : ℕ). (or_nobody (u.control.threads.known i)).state ≡ state.Running) (some_number t v (sym h.left.0 ∙ run)) h.left.1;
     gave = λ v g. inl (h.left.0 ∙ g);
-    preferred = h.left.2;
+    preferred = λ v named. to_run_lives (u.control.threads.known v) (h.left.2 v named);
     unnamed = λ v run g. absurd (some_none t g);
   }
   owed_settles t next.Waits c u y none h on = record {
@@ -349,14 +349,20 @@ module _ {P S H : Type 0} (n : ℕ) where
   }
   owed_settles t next.Killed c u y none h on = absurd (on refl)
 
-  step_part : (f : P → Functions S H) (x : Turn) (t : ℕ) (b : Book) (s : State P S H) → x.gave ≡ None → s.control.scheduler.running ≡ Some t → s.control.threads.made ≡ n → IsSettled n b s x → PartWalk n b (steps f x t s)
-  unfolding steps
-  step_part f x t b s none running made z =
+  -- what a step of t leaves
+  pub step_goes : (f : P → Functions S H) (x : Turn) (t : ℕ) (b : Book) (s : State P S H) → x.gave ≡ None → s.control.scheduler.running ≡ Some t → s.control.threads.made ≡ n → IsSettled n b s x → Walk n b (AfterStep n t (steps_on f t s).next) (steps_on f t s).told
+  step_goes f x t b s none running made z =
       let alive = runs_alive (s.control.threads.known t) (z.runs t running) in
       let there : is_made n t ≡ true = ap (λ m. is_made m t) (sym made) ∙ living-made n b.ended s.control.threads.made s.control.threads.known s.control.threads.standing z.living t alive in
       let going : Going n b.ended t s.control = record { living = z.living; runs = z.runs t running; running = running; preferred = z.unnamed t running none } in
-      let w = step_walk f n t there b s made z.closed (record { resources = z.resources; going = going; claims = z.claims; fits = z.awaits }) in
-      record { law = w.law; post = λ on. owed_settles t (steps_on f t s).next (book_of b (steps_on f t s).told.marks) (steps_on f t s).told.state (record x { steps = x.steps + 1 }) none w.post on }
+      step_walk f n t there b s made z.closed (record { resources = z.resources; going = going; claims = z.claims; fits = z.awaits })
+
+  step_part : (f : P → Functions S H) (x : Turn) (t : ℕ) (b : Book) (s : State P S H) → x.gave ≡ None → s.control.scheduler.running ≡ Some t → s.control.threads.made ≡ n → IsSettled n b s x → PartWalk n b (steps f x t s)
+  unfolding steps
+  step_part f x t b s none running made z =
+      let u = (steps_on f t s).told in
+      let w = step_goes f x t b s none running made z in
+      record { law = each_marked n b u.marks w.law; post = λ on. owed_settles t (steps_on f t s).next (book_of b u.marks) u.state (record x { steps = x.steps + 1 }) none w.post on }
 
   -- ---- any part
 

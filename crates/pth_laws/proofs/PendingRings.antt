@@ -367,7 +367,7 @@ module _ {P S H : Type 0} where
       seated = λ x s keeps r. r;
       told = λ m s may r. r;
     };
-    placed = λ standing entries raises s may r. (r.0, λ u w. r.1 u (elim w [ inl h ↦ may u h | inr h ↦ inr h ]));
+    placed = λ standing entries raises trail s may r. (r.0, λ u w. r.1 u (elim w [ inl h ↦ may u h | inr h ↦ inr h ]));
     scheduled = λ x s r. r;
     timed = λ x s r. r;
     used = λ o s r. r;

@@ -136,7 +136,7 @@ module _ {P S H : Type 0} where
       seated = λ x s keeps r. r;
       told = λ m s may r. r;
     };
-    placed = λ standing entries raises s r. r;
+    placed = λ standing entries raises trail s r. r;
     scheduled = λ x s r. r;
     timed = λ x s r. r;
     used = λ o s r. r;

@@ -1,5 +1,5 @@
 -- A step of a thread, walked: a call begins, or the one that blocks the thread is tried again.
-use Rattle.std.proofs.Common.{◌≡◌, ◌≢◌, ℕ, ◌==◌, ◌&&◌, ◌||◌, not, Bool, true, false, if◌then◌else◌, ℤ, pos, negsuc, List, [], ◌∷◌, Option, Some, None, option_map, is_none, refl, sym, ◌∙◌, ap, subst}
+use Rattle.std.proofs.Common.{◌≡◌, ◌≢◌, ℕ, ◌==◌, ◌&&◌, ◌||◌, not, Bool, true, false, if◌then◌else◌, ℤ, pos, negsuc, List, [], ◌∷◌, Option, Some, None, option_map, is_none, is_some, refl, sym, ◌∙◌, ap, subst}
 use Rattle.std.specs.List.{slice_get}
 use Rattle.std.proofs.lemmas.Bool.{not-false}
 use Rattle.pth_base.specs.Table.{put}
@@ -65,12 +65,12 @@ use Rattle.pth_laws.proofs.Laws.{EachMark, IsPopOrderly, IsAnswerExclusive, MayT
 use Rattle.pth_laws.specs.Orderly.{RanLast}
 use Rattle.pth_laws.specs.Clean.{event_held}
 use Rattle.pth_model.proofs.NoRounds.{begins_plainly, again_plainly}
-use Rattle.pth_laws.proofs.Living.{Living, true_false, request_state, living-up, living-made}
+use Rattle.pth_laws.proofs.Living.{Living, run_queue, IsToRun, true_false, request_state, living-up, living-made}
 use Rattle.pth_laws.proofs.Going.{IsGoing, Going, going_alive, going_set, going_removed, known_lives, set_lives}
 use Rattle.pth_laws.proofs.Awaits.{HasAwaits, Tells, AreSameBut, flags, flags_past, others_await, canceled_retakes, tells_plain, tells_calm, kills, awaits_own, awaits_past, awaits_as, awaits_none, awaits_set, awaits_removed, awaits_go, awaits_begun, awaits_block, awaits_stop, answer_awaits, wait_awaits, refusal_awaits}
 use Rattle.pth_laws.proofs.Locking.{IsVerdictExclusive, IsWaitExclusive, wait_exclusive, begins_exclusive, again_exclusive, may_take}
 use Rattle.pth_laws.proofs.Claims.{HasClaims, Holding, holding_kept, claims_go, claims_set, claims_removed, claims_block, claims_still, claims_wait_on, claims_stop, stopped_progress}
-use Rattle.pth_laws.proofs.Walk.{Walk, IsMarked, walk_tells, walk_then, walk_to, walk_finally}
+use Rattle.pth_laws.proofs.Walk.{Walk, IsMarkedWithin, walk_tells, walk_then, walk_to, walk_finally}
 use Rattle.pth_laws.proofs.Handlers.{IsRunning, handler_walk}
 use Rattle.pth_laws.proofs.Endings.{HasEnded, ending_walk, stops_seats}
 
@@ -78,7 +78,7 @@ use Rattle.pth_laws.proofs.Endings.{HasEnded, ending_walk, stops_seats}
 
 -- who runs afterwards, and who is named
 abbrev pub IsLeft : {P S H : Type 0} → ℕ → Next → Control P S H → Type 0
-IsLeft t (next.Yields a) k = (k.scheduler.running ≡ Some t) × ((or_nobody (k.threads.known t)).state ≡ state.Running) × ((u : ℕ) → k.scheduler.preferred ≡ Some u → lives (k.threads.known u) ≡ true)
+IsLeft t (next.Yields a) k = (k.scheduler.running ≡ Some t) × ((or_nobody (k.threads.known t)).state ≡ state.Running) × ((u : ℕ) → k.scheduler.preferred ≡ Some u → IsToRun (k.threads.known u))
 IsLeft t (next.Ended v) k = (k.scheduler.running ≡ None) × (k.scheduler.preferred ≡ None)
 IsLeft t x k = (k.scheduler.running ≡ Some t) × ((or_nobody (k.threads.known t)).state ≡ state.Running) × (k.scheduler.preferred ≡ None)
 
@@ -90,21 +90,17 @@ fresh_by t x closed = rw closed refl
 pub some_number : (m v : ℕ) → Some m ≡ Some v → m ≡ v
 some_number m v h = cc
 
--- whoever is new or ready lives
-may_lives : (o : Option Entry) → may_run (or_nobody o).state ≡ true → lives o ≡ true
-may_lives None h = absurd (true_false (sym h))
-may_lives (Some e) h = ap not (may_up e.state h)
+-- a yield that names a thread and is not refused names one that waits to run
+yields_to : (zero : Bool) (o : Option Entry) → zero ≡ false → (not zero && ((or_nobody o).suspended || not (may_run (or_nobody o).state))) ≡ false → IsToRun o
+yields_to true o other h = absurd (true_false other)
+yields_to false None other h = absurd (true_false h)
+yields_to false (Some e) other h = by_state e.state e.suspended h
   where
-    may_up : (at : ThreadState) → may_run at ≡ true → is_dead at ≡ false
-    may_up state.Dead h = absurd (true_false (sym h))
-    may_up at h = refl
-
--- a yield that names a thread and is not refused
-passed : (zero suspended may : Bool) → zero ≡ false → (not zero && (suspended || not may)) ≡ false → may ≡ true
-passed false false true other h = refl
-passed false false false other h = absurd (true_false h)
-passed false true may other h = absurd (true_false h)
-passed true suspended may other h = absurd (true_false other)
+    by_state : (at : ThreadState) (b : Bool) → (b || not (may_run at)) ≡ false → is_some (run_queue at b) ≡ true
+    by_state at true h = absurd (true_false h)
+    by_state state.New false h = refl
+    by_state state.Ready false h = refl
+    by_state at false h = absurd (true_false h)
 
 ran_one : (c : PushedHandler) → (with_handler c ran_nothing).handlers ≡ c ∷ []
 unfolding with_handler
@@ -457,7 +453,7 @@ module _ {P S H : Type 0} (f : P → Functions S H) (n t : ℕ) (made : is_made 
   quiet_within q a c s silent holding w =
       let none = silent.0 in
       record {
-        law = subst (EachMark (IsMarked n) c) (sym none) tt;
+        law = subst (EachMark (IsMarkedWithin n) c) (sym none) tt;
         post = (ap (book_of c) none, record { resources = w.resources ∙ sym silent.1; going = holding.0; claims = holding.1; fits = awaits_as (flags c s.resources.awaits) (flags c (a s).state.resources.awaits) (a s).state.control (λ v. record { awaits = ap (λ (k : Resources). k.awaits v) silent.1; ended = refl; canceled = refl }) holding.3 }, holding.2);
       }
 
@@ -513,16 +509,16 @@ module _ {P S H : Type 0} (f : P → Functions S H) (n t : ℕ) (made : is_made 
   kill_walk true c s idle w = answer_walk (next.Done (answer.Fail EPERM)) call.Kill (answer.Fail EPERM) c s refl tt tt (λ e u. done_stepped (answer.Fail EPERM) e u) (within_calm s.resources.awaits c s idle w) (refusing EPERM c s w)
   kill_walk false c s idle w = record { law = ((λ locked. (((within_up s.resources.awaits c s w, (within_calm s.resources.awaits c s idle w, tt)), tt), made)), tt); post = tt }
 
-  -- pth_yield: who is named lives
-  named_runs : (m : ℤ) (s : State P S H) → may_run (or_nobody (thread s.control m)).state ≡ true → lives (s.control.threads.known (number m)) ≡ true
-  named_runs (pos i) s may = may_lives (s.control.threads.known i) may
-  named_runs (negsuc i) s may = absurd (true_false (sym may))
+  -- pth_yield: who is named waits to run
+  named_runs : (m : ℤ) (s : State P S H) → IsToRun (thread s.control m) → IsToRun (s.control.threads.known (number m))
+  named_runs (pos i) s runs = runs
+  named_runs (negsuc i) s runs = absurd (true_false (sym runs))
 
-  yields_walk : (m : ℤ) (zero : Bool) (c : Book) (s : State P S H) → (zero ≡ false → lives (s.control.threads.known (number m)) ≡ true) → s.resources.awaits t ≡ false → Within c s → Walk n c (After (next.Yields (answer.Int (pos 1)))) ((changes (if zero then nothing else prefers (Some (number m))) and_then tells (mark.Answered (tid t) (call.Yield m) (answer.Int (pos 1)))) s)
-  yields_walk m true c s alive idle w =
+  yields_walk : (m : ℤ) (zero : Bool) (c : Book) (s : State P S H) → (zero ≡ false → IsToRun (s.control.threads.known (number m))) → s.resources.awaits t ≡ false → Within c s → Walk n c (After (next.Yields (answer.Int (pos 1)))) ((changes (if zero then nothing else prefers (Some (number m))) and_then tells (mark.Answered (tid t) (call.Yield m) (answer.Int (pos 1)))) s)
+  yields_walk m true c s runs idle w =
       let x = answer_walk (next.Yields (answer.Int (pos 1))) (call.Yield m) (answer.Int (pos 1)) c s refl tt tt (λ e u. yields_stepped (answer.Int (pos 1)) e u) (within_calm s.resources.awaits c s idle w) (answering (call.Yield m) (answer.Int (pos 1)) c s refl idle w) in
       record { law = x.law; post = x.post }
-  yields_walk m false c s alive idle w =
+  yields_walk m false c s runs idle w =
       let k = mark.Answered (tid t) (call.Yield m) (answer.Int (pos 1)) in
       record {
         law = ((λ locked. (((within_up s.resources.awaits c s w, (within_calm s.resources.awaits c s idle w, tt)), tt), made)), tt);
@@ -532,14 +528,14 @@ module _ {P S H : Type 0} (f : P → Functions S H) (n t : ℕ) (made : is_made 
           living = w.going.living;
           claims = w.claims;
           awaits = (answering (call.Yield m) (answer.Int (pos 1)) c s refl idle w).fits;
-          left = (w.going.running, w.going.runs, λ v named. let same : number m ≡ v = some_number (number m) v named in subst (λ (i : ℕ). lives (s.control.threads.known i) ≡ true) same (alive refl));
+          left = (w.going.running, w.going.runs, λ v named. let same : number m ≡ v = some_number (number m) v named in subst (λ (i : ℕ). IsToRun (s.control.threads.known i)) same (runs refl));
           gone = tt;
         };
       }
 
   yield_walk : (m : ℤ) (refuse : Bool) (c : Book) (s : State P S H) → (not (is_zero m) && ((or_nobody (thread s.control m)).suspended || not (may_run (or_nobody (thread s.control m)).state))) ≡ refuse → s.resources.awaits t ≡ false → Within c s → let r = begun_as f t (call.Yield m) (refused EINVAL when refuse otherwise Yields (answer.Int (pos 1)) trying changes (if is_zero m then nothing else prefers (Some (number m)))) s in Walk n c (After r.next) r.told
   yield_walk m true c s is_refused idle w = answer_walk (next.Done (answer.Fail EINVAL)) (call.Yield m) (answer.Fail EINVAL) c s refl tt tt (λ e u. done_stepped (answer.Fail EINVAL) e u) (within_calm s.resources.awaits c s idle w) (answering (call.Yield m) (answer.Fail EINVAL) c s refl idle w)
-  yield_walk m false c s is_refused idle w = yields_walk m (is_zero m) c s (λ other. named_runs m s (passed (is_zero m) (or_nobody (thread s.control m)).suspended (may_run (or_nobody (thread s.control m)).state) other is_refused)) idle w
+  yield_walk m false c s is_refused idle w = yields_walk m (is_zero m) c s (λ other. named_runs m s (yields_to (is_zero m) (thread s.control m) other is_refused)) idle w
 
   -- a handler within a call, and the call's answer
   handled_call : (k : Call) (h : HandlerId) (v : ℤ) (c : Book) (s : State P S H) → c.block ≡ Closed → ((d : Book) (u : State P S H) → (ran_by d.block t).handlers ≡ (h, v) ∷ [] → d.resources.store.cleanups t ≡ s.resources.store.cleanups t → IsPopOrderly d t k (answer.Int (pos 1))) → ((d : Book) → IsAnswerExclusive d.resources t k (answer.Int (pos 1))) → kills k ≡ false → s.resources.awaits t ≡ false → Within c s → Walk n c (After (next.Done (answer.Int (pos 1)))) ((runs_handler f t h v and_then tells (mark.Answered (tid t) k (answer.Int (pos 1)))) s)

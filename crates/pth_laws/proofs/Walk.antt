@@ -1,12 +1,15 @@
 -- A piece of the machine, walked along with what its marks say: each mark is lawful where those before it are, and of a thread that
 -- was made.
 use Rattle.std.proofs.Common.{◌≡◌, ℕ, true, List, [], ◌∷◌, ◌++◌, Option, Some, None, refl, sym, subst}
+use Rattle.std.proofs.lemmas.List.Elements.{All-nil, All-cons}
 use Rattle.pth_base.specs.declared.mark.Mark.{Mark}
+use Rattle.pth_base.specs.declared.mark.Mark.TheVariants as mark
 use Rattle.pth_model.specs.State.{State}
 use Rattle.pth_model.specs.Transition.{Transition, Piece, Last, tells, ◌and_then◌, ◌and_finally◌}
 use Rattle.pth_model.specs.Living.{is_made}
 use Rattle.pth_laws.proofs.Book.{Book, after, book_of}
 use Rattle.pth_laws.proofs.Laws.{EachMark, IsLawful}
+use Rattle.pth_laws.specs.InTime.{IsInTime, InTime}
 use Rattle.pth_laws.specs.Marks.{thread_of}
 use Rattle.pth_laws.proofs.Locked.{Locked, locked_after}
 
@@ -38,6 +41,29 @@ IsLawfulOf n b m = IsLawful b m × IsOfMade n (thread_of m)
 abbrev pub IsMarked : ℕ → Book → Mark → Type 0
 IsMarked n b m = Locked b.resources → IsLawfulOf n b m
 
+-- so is each mark within a step or a pass, and none is a dispatch
+abbrev IsToldOf : ℕ → Mark → Type 0
+IsToldOf n (mark.Dispatch turn at t rank waited allowed) = ⊥
+IsToldOf n m = IsOfMade n (thread_of m)
+
+abbrev pub IsMarkedWithin : ℕ → Book → Mark → Type 0
+IsMarkedWithin n b m = Locked b.resources → IsLawful b m × IsToldOf n m
+
+told_made : (n : ℕ) (m : Mark) → IsToldOf n m → IsOfMade n (thread_of m)
+told_made n (mark.Dispatch turn at t rank waited allowed) h = absurd h
+told_made n m h = h
+
+pub each_marked : (n : ℕ) (b : Book) (ms : List Mark) → EachMark (IsMarkedWithin n) b ms → EachMark (IsMarked n) b ms
+each_marked n b ms h = each-weaker (IsMarkedWithin n) (IsMarked n) (λ d m law locked. let now = law locked in (now.0, told_made n m now.1)) b ms h
+
+told_in_time : (n : ℕ) (m : Mark) → IsToldOf n m → IsInTime m
+told_in_time n (mark.Dispatch turn at t rank waited allowed) h = absurd h
+told_in_time n m h = tt
+
+pub each_in_time : (n : ℕ) (b : Book) (ms : List Mark) → Locked b.resources → EachMark (IsMarkedWithin n) b ms → InTime ms
+each_in_time n b [] locked h = All-nil IsInTime
+each_in_time n b (m ∷ ms) locked h = let law = h.0 locked in All-cons IsInTime m ms (told_in_time n m law.1) (each_in_time n (after b m) ms (locked_after b m law.0.1 locked) h.1)
+
 -- the marks before each one are lawful themselves
 pub each_lawful : (n : ℕ) (b : Book) (ms : List Mark) → Locked b.resources → EachMark (IsMarked n) b ms → EachMark (IsLawfulOf n) b ms
 each_lawful n b [] locked h = tt
@@ -45,11 +71,11 @@ each_lawful n b (m ∷ ms) locked h = let law = h.0 locked in (law, each_lawful 
 
 -- from a book on the marks are lawful, and Q holds of the book and the state that come of them
 pub record Walk {P S H : Type 0} (n : ℕ) (b : Book) (Q : Book → State P S H → Type 0) (x : Transition P S H) : Type 0 where
-  pub law : EachMark (IsMarked n) b x.marks
+  pub law : EachMark (IsMarkedWithin n) b x.marks
   pub post : Q (book_of b x.marks) x.state
 
 module _ {P S H : Type 0} (n : ℕ) where
-  pub walk_tells : (Q : Book → State P S H → Type 0) (b : Book) (m : Mark) (s : State P S H) → IsMarked n b m → Q (after b m) (tells m s).state → Walk n b Q (tells m s)
+  pub walk_tells : (Q : Book → State P S H → Type 0) (b : Book) (m : Mark) (s : State P S H) → IsMarkedWithin n b m → Q (after b m) (tells m s).state → Walk n b Q (tells m s)
   walk_tells Q b m s law post = record { law = (law, tt); post = post }
 
   pub walk_to : (Q R : Book → State P S H → Type 0) (b : Book) (x : Transition P S H) → ((c : Book) (s : State P S H) → Q c s → R c s) → Walk n b Q x → Walk n b R x
@@ -60,7 +86,7 @@ module _ {P S H : Type 0} (n : ℕ) where
       let x = first s in
       let v = next (book_of b x.marks) w.post in
       record {
-        law = each-append (IsMarked n) b x.marks (second x.state).marks w.law v.law;
+        law = each-append (IsMarkedWithin n) b x.marks (second x.state).marks w.law v.law;
         post = subst (λ (c : Book). R c (second x.state).state) (sym (book-append b x.marks (second x.state).marks)) v.post;
       }
 
@@ -70,6 +96,6 @@ module _ {P S H : Type 0} (n : ℕ) where
       let y = (last x.state).told in
       let v = next (book_of b x.marks) w.post in
       record {
-        law = each-append (IsMarked n) b x.marks y.marks w.law v.law;
+        law = each-append (IsMarkedWithin n) b x.marks y.marks w.law v.law;
         post = subst (λ (c : Book). R c y.state) (sym (book-append b x.marks y.marks)) v.post;
       }

@@ -235,3 +235,15 @@ a_put_answered_seven = port_made (pos 1) ∷ mark.Answered one (call.PortPut (po
 -- a kill of thread 2 takes no message away
 abbrev pub one_waiting_after_a_kill : List Mark
 one_waiting_after_a_kill = port_made (pos 1) ∷ put_at (pos 1) 7 (pos 0) ∷ done_by two call.Kill ∷ []
+
+-- ---- waits
+
+-- thread 1 is dispatched, has waited so often, and may wait so often
+abbrev pub dispatched_after : (waited allowed : ℕ) → Mark
+dispatched_after waited allowed = mark.Dispatch 1 0 one (pos 0) waited allowed
+
+abbrev pub all_dispatched_in_time : List Mark
+all_dispatched_in_time = dispatched_after 0 6 ∷ dispatched_after 2 2 ∷ []
+
+abbrev pub one_dispatched_late : List Mark
+one_dispatched_late = dispatched_after 2 2 ∷ dispatched_after 3 2 ∷ []

@@ -3,6 +3,7 @@ pub mod Orderly
 pub mod Exclusive
 pub mod Initialised
 pub mod InOrder
+pub mod InTime
 pub mod Destructors
 pub mod Valid
 pub mod Tied

@@ -8,11 +8,13 @@ ghost use Rattle.pth_laws.specs.Clean.{IsClean};
 ghost use Rattle.pth_laws.specs.Exclusive.{Exclusive};
 ghost use Rattle.pth_laws.specs.Initialised.{Initialised};
 ghost use Rattle.pth_laws.specs.InOrder.{InOrder};
+ghost use Rattle.pth_laws.specs.InTime.{InTime};
 ghost use Rattle.pth_laws.specs.Kept.{IsWaitKept};
 ghost use Rattle.pth_laws.specs.Orderly.{Orderly};
 ghost use Rattle.pth_laws.specs.Tied.{IsTiedTo};
 ghost use Rattle.pth_laws.specs.Valid.{IsValid};
 
+use crate::in_time::every_run_is_in_time;
 use crate::states::every_wait_is_kept;
 use pth_base::program::Program;
 
@@ -67,6 +69,7 @@ pub fn laws<P: Program>()
     ensures exclusive { (g : Given P) (i : ℕ) → Exclusive (run P.functions g i).marks }
     ensures initialised { (g : Given P) (i : ℕ) → Initialised (run P.functions g i).marks }
     ensures in_order { (g : Given P) (i : ℕ) → InOrder (run P.functions g i).marks }
+    ensures in_time { (g : Given P) (i : ℕ) → InTime (run P.functions g i).marks }
     ensures tied { (g : Given P) (i : ℕ) → (run P.functions g i).turn.outcome ≢ Killed
         → IsTiedTo (run P.functions g i).state (run P.functions g i).marks }
     ensures valid { (g : Given P) (i : ℕ) → (run P.functions g i).turn.outcome ≢ Killed
@@ -79,6 +82,7 @@ pub fn laws<P: Program>()
     every_run_is_exclusive::<P>();
     every_run_initialises::<P>();
     every_run_is_in_order::<P>();
+    every_run_is_in_time::<P>();
     every_run_is_tied::<P>();
     every_run_is_clean::<P>();
     every_wait_is_kept::<P>();

@@ -16,13 +16,13 @@ use Rattle.pth_model.specs.declared.progress.Progress.{Progress}
 use Rattle.pth_model.specs.Standing.{Standing, height, is_queue, raises_of}
 use Rattle.pth_model.specs.State.{State, Control, Turn, Given, start, main_standing, queue}
 use Rattle.pth_model.specs.Transition.{controlled}
-use Rattle.pth_model.specs.Changes.{sets, enters, goes_on, leaves_queue, makes, forgets, removes, queue_for, raises_ready, prio_of, holders, entry_of, or_nobody, blocked_of, blocking}
+use Rattle.pth_model.specs.Changes.{sets, enters, goes_on, leaves_queue, trails, makes, forgets, removes, queue_for, raises_ready, prio_of, holders, entry_of, or_nobody, blocked_of, blocking}
 use Rattle.pth_model.specs.ThreadControl.{spawns, suspends, resumes, returns_to}
 use Rattle.pth_model.specs.LibraryControl.{vanish_all_but}
 use Rattle.pth_model.specs.Ending.{leaves, is_dead_with}
 use Rattle.pth_model.specs.Pass.{looks, is_ready_at, woken, all_woken, pass, to_wake, moment}
 use Rattle.pth_model.specs.Course.{Course}
-use Rattle.pth_model.specs.Part.{Part, Move, Take, Step, Close, Halt, next_part, part, part_by, moves, moves_by, readies, readies_all, readies_new, is_put_back, is_put_waiting, is_placed, placed_by, closes, turn_ends, takes, takes_by, dispatches, runs, chosen, steps}
+use Rattle.pth_model.specs.Part.{Part, Move, Take, Step, Close, Halt, next_part, part, part_by, moves, moves_by, readies, readies_all, readies_new, is_put_back, is_put_waiting, is_placed, placed_by, closes, turn_ends, takes, takes_by, dispatches, runs, trail_with, chosen, steps}
 use Rattle.pth_model.specs.Run.{parts, run}
 use Rattle.pth_model.specs.Order.{IsInOrder, AreEntriesNumbered, IsTopAhead, IsFavoured, AreTopsFavoured, ShareNoEntry}
 use Rattle.pth_model.proofs.Runs.{parts-more}
@@ -60,9 +60,9 @@ module _ {P S H : Type 0} (Meant : Standing → Type 0) where
       kept_readies ts (readies t s) (All-tail (MeansNew Meant favour) t ts new) (kept_new s t favour (All-head (MeansNew Meant favour) t ts new) k)
 
   kept_dispatched : (x : Turn) (s : State P S H) (t : Option ℕ) → Kept Meant s.control → Kept Meant (takes_by x t s).state.control
-  unfolding dispatches runs sets
+  unfolding dispatches runs trails sets
   kept_dispatched x s None k = k
-  kept_dispatched x s (Some t) k = kept_leave Meant s.control t k
+  kept_dispatched x s (Some t) k = kept_leave Meant (trails (trail_with t s.control) s.control) t k
 
   abbrev AreNew : Control P S H → Type 0
   AreNew s = All (MeansNew Meant s.scheduler.favour_new) (reverse (holders (queue s New)))

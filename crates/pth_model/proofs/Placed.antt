@@ -23,7 +23,7 @@ use Rattle.pth_model.specs.declared.progress.Progress.{Progress}
 use Rattle.pth_model.specs.Standing.{Standing}
 use Rattle.pth_model.specs.State.{State, Control, Turn, Given, start, main, main_entry, main_standing, queue}
 use Rattle.pth_model.specs.Transition.{controlled}
-use Rattle.pth_model.specs.Changes.{sets, enters, goes_on, leaves_queue, makes, forgets, removes, prefers, queue_for, raises_ready, runs_now, prio_of, holders, entry_of, or_nobody, blocked_of, blocking}
+use Rattle.pth_model.specs.Changes.{sets, enters, goes_on, leaves_queue, trails, makes, forgets, removes, prefers, queue_for, raises_ready, runs_now, prio_of, holders, entry_of, or_nobody, blocked_of, blocking}
 use Rattle.pth_model.specs.ThreadControl.{spawns, suspends, resumes, returns_to}
 use Rattle.pth_model.specs.LibraryControl.{vanish_all_but}
 use Rattle.pth_model.specs.Ending.{leaves, is_dead_with, other_than, stops_running}
@@ -366,7 +366,7 @@ module _ {P S H : Type 0} where
   resting_pass f s i = resting_woken (to_wake f s) (controlled (looks f s) s) (All-filter (is_to_wake f s) (λ t. t ≤ s.control.threads.made) (waiting s.control) (rows-low s.control i.sets Waiting)) i
 
   placed_dispatched : (x : Turn) (s : State P S H) (t : ℕ) → x.gave ≡ None → t ≤ s.control.threads.made → Resting s.control → Placed (takes_by x (Some t) s).state.control x.gave
-  unfolding dispatches runs sets leaves_queue
+  unfolding dispatches runs trails sets leaves_queue
   placed_dispatched x s t none low i = record {
     seated = record {
       sets =

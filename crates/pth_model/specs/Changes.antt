@@ -16,6 +16,7 @@ use Rattle.pth_threads.specs.Threads.{changed, made_of}
 use Rattle.pth_model.specs.declared.blocked.Blocked.{Blocked}
 use Rattle.pth_model.specs.declared.progress.Progress.{Progress}
 use Rattle.pth_model.specs.Standing.{is_queue, left_by, raises_of}
+use Rattle.pth_model.specs.Allowance.{Point}
 use Rattle.pth_threads.specs.declared.attribute.Attribute.{Attribute}
 use Rattle.pth_ring.specs.Rings.{Events}
 use Rattle.pth_cond.specs.Conditions.{ConditionTable}
@@ -143,6 +144,10 @@ module _ {P S H : Type 0} where
     known = put x.known (x.made + 1) (Some (made_of of (x.made + 1)));
     progress = put x.progress (x.made + 1) (Some (record { state = (f k.program).start body arg; owed = answer.None; blocked = None }));
   }) k
+
+  -- the dispatches so far are these
+  unfoldable pub trails : List Point → transition.Change P S H
+  trails ps = with_threads (λ x. record x { trail = ps })
 
   -- t is in the system no longer, once it stands in no queue
   unfoldable pub forgets : ℕ → transition.Change P S H

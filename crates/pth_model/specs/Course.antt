@@ -1,6 +1,7 @@
 -- How far a run is.
-use Rattle.std.specs.Prelude.{List, ◌++◌}
+use Rattle.std.specs.Prelude.{◌≡◌, List, ◌++◌, length}
 use Rattle.pth_base.specs.declared.mark.Mark.{Mark}
+use Rattle.pth_model.specs.Allowance.{AreTakenReady}
 use Rattle.pth_model.specs.State.{State, Turn}
 use Rattle.pth_model.specs.Transition.{Transition}
 
@@ -18,3 +19,8 @@ module _ {P S H : Type 0} where
   -- one part after another
   abbrev pub followed : Course P S H → Course P S H → Course P S H
   followed first second = record second { marks = first.marks ++ second.marks }
+
+  -- its trail is that of its turns: each has one dispatch, of a thread that was ready
+  pub record HasHistory (c : Course P S H) : Type 0 where
+    pub taken : AreTakenReady c.state.control.threads.trail
+    pub turns : length c.state.control.threads.trail ≡ c.turn.turns

@@ -46,12 +46,12 @@ two_bodies p = record {
 -- what its run tells: three turns, the child's end, and main's
 abbrev pub its_marks : List Mark
 its_marks =
-    Dispatch 1 0 (tid 1) (pos 0) 0 0
+    Dispatch 1 0 (tid 1) (pos 0) 0 6
     ∷ Answered (tid 1) (Spawn (pos 1) (pos 9) (pos 0)) (Int (pos 2))
     ∷ Answered (tid 1) (Yield (pos 0)) (Int (pos 1))
-    ∷ Dispatch 2 1 (tid 2) (pos 1) 0 0
+    ∷ Dispatch 2 1 (tid 2) (pos 1) 0 5
     ∷ Ended (tid 2) (pos 9)
-    ∷ Dispatch 3 2 (tid 1) (pos 1) 0 0
+    ∷ Dispatch 3 2 (tid 1) (pos 1) 1 6
     ∷ Ended (tid 1) (pos 0)
     ∷ []
 
@@ -73,20 +73,20 @@ joining_bodies p = record (two_bodies p) { step = λ s h answer. record { call =
 -- t3 runs by its name, though t2 was made before it; t2 is resumed, and its end wakes main, whose join is answered its value
 abbrev pub joining_marks : List Mark
 joining_marks =
-    Dispatch 1 0 (tid 1) (pos 0) 0 0
+    Dispatch 1 0 (tid 1) (pos 0) 0 6
     ∷ Answered (tid 1) (Spawn (pos 1) (pos 0) (pos 0)) (Int (pos 2))
     ∷ Answered (tid 1) (Spawn (pos 1) (pos 0) (pos 0)) (Int (pos 3))
     ∷ Answered (tid 1) (Suspend (pos 2)) (Int (pos 1))
     ∷ Answered (tid 1) (Yield (pos 3)) (Int (pos 1))
-    ∷ Dispatch 2 1 (tid 3) (pos 1) 0 0
+    ∷ Dispatch 2 1 (tid 3) (pos 1) 0 5
     ∷ Ended (tid 3) (pos 9)
-    ∷ Dispatch 3 2 (tid 1) (pos 1) 0 0
+    ∷ Dispatch 3 2 (tid 1) (pos 1) 1 6
     ∷ Answered (tid 1) (Resume (pos 2)) (Int (pos 1))
     ∷ Waits (tid 1) (Join (pos 2))
-    ∷ Dispatch 4 3 (tid 2) (pos 5) 0 0
+    ∷ Dispatch 4 3 (tid 2) (pos 5) 0 1
     ∷ Ended (tid 2) (pos 9)
     ∷ Woke (tid 1) (pos 1)
-    ∷ Dispatch 5 4 (tid 1) (pos 1) 0 0
+    ∷ Dispatch 5 4 (tid 1) (pos 1) 0 5
     ∷ Answered (tid 1) (Join (pos 2)) (Int (pos 9))
     ∷ Ended (tid 1) (pos 0)
     ∷ []
@@ -103,11 +103,11 @@ napping_bodies p = record (two_bodies p) { step = λ s h answer. record { call =
 -- nothing is ready, so time moves to the end of the nap
 abbrev pub napping_marks : List Mark
 napping_marks =
-    Dispatch 1 0 (tid 1) (pos 0) 0 0
+    Dispatch 1 0 (tid 1) (pos 0) 0 6
     ∷ Waits (tid 1) (Nap (pos 5))
     ∷ Moved 5
     ∷ Woke (tid 1) (pos 1)
-    ∷ Dispatch 2 5 (tid 1) (pos 1) 0 0
+    ∷ Dispatch 2 5 (tid 1) (pos 1) 0 5
     ∷ Answered (tid 1) (Nap (pos 5)) (Int (pos 1))
     ∷ Ended (tid 1) (pos 0)
     ∷ []
@@ -125,12 +125,12 @@ waiting_bodies p = record (two_bodies p) { step = λ s h answer. record { call =
 -- time moves to the moment of the event, and one event of the ring has occurred
 abbrev pub waiting_marks : List Mark
 waiting_marks =
-    Dispatch 1 0 (tid 1) (pos 0) 0 0
+    Dispatch 1 0 (tid 1) (pos 0) 0 6
     ∷ Answered (tid 1) (EvTime (pos 8)) (Int (pos 1))
     ∷ Waits (tid 1) (Wait (pos 1))
     ∷ Moved 8
     ∷ Woke (tid 1) (pos 1)
-    ∷ Dispatch 2 8 (tid 1) (pos 1) 0 0
+    ∷ Dispatch 2 8 (tid 1) (pos 1) 0 5
     ∷ Answered (tid 1) (Wait (pos 1)) (Int (pos 1))
     ∷ Ended (tid 1) (pos 0)
     ∷ []
@@ -151,11 +151,11 @@ reading_bodies p = record (two_bodies p) { step = λ s h answer. record { call =
 -- time moves to the moment at which the byte comes
 abbrev pub reading_marks : List Mark
 reading_marks =
-    Dispatch 1 0 (tid 1) (pos 0) 0 0
+    Dispatch 1 0 (tid 1) (pos 0) 0 6
     ∷ Waits (tid 1) (Read (pos 3) (pos 10))
     ∷ Moved 5
     ∷ Woke (tid 1) (pos 1)
-    ∷ Dispatch 2 5 (tid 1) (pos 1) 0 0
+    ∷ Dispatch 2 5 (tid 1) (pos 1) 0 5
     ∷ Answered (tid 1) (Read (pos 3) (pos 10)) (Bytes (97 ∷ []))
     ∷ Ended (tid 1) (pos 0)
     ∷ []
@@ -199,7 +199,7 @@ one_round v =
 -- the handler runs, and then four rounds of destructors; the value that is set last is forgotten
 abbrev pub ending_marks : List Mark
 ending_marks =
-    Dispatch 1 0 (tid 1) (pos 0) 0 0
+    Dispatch 1 0 (tid 1) (pos 0) 0 6
     ∷ Answered (tid 1) (KeyCreate (Some (pos 0))) (Int (pos 0))
     ∷ Answered (tid 1) (KeyCreate (Some (pos 1))) (Int (pos 1))
     ∷ Answered (tid 1) (KeySet (pos 0) (pos 1)) (Int (pos 1))
@@ -209,3 +209,35 @@ ending_marks =
     ∷ Acted (tid 1) (act.Note (pos 5)) answer.None
     ∷ one_round (pos 1) ++ one_round (pos 3) ++ one_round (pos 3) ++ one_round (pos 3)
     ++ Ended (tid 1) (pos 0) ∷ []
+
+-- ---- waits
+
+abbrev pub spawning_call_at : ℕ → ℕ → Call
+spawning_call_at zero zero = Spawn (pos 1) (pos 0) (pos 0)
+spawning_call_at zero (suc zero) = Spawn (pos 1) (pos 0) (pos 0)
+spawning_call_at zero (suc (suc zero)) = Spawn (pos 1) (pos 0) (pos 0)
+spawning_call_at zero (suc (suc (suc n))) = Exit (pos 0)
+spawning_call_at (suc b) n = Exit (pos 9)
+
+abbrev pub spawning_bodies : ℕ → Functions Place ℕ
+spawning_bodies p = record (two_bodies p) { step = λ s h answer. record { call = spawning_call_at s.body s.gone; state = record s { gone = s.gone + 1 }; shared = h } }
+
+-- Of three new threads the last is ready at rank 5, so its grace is one dispatch; the two that stand before it have none. One of them
+-- still stands there at its second dispatch.
+abbrev pub spawning_marks : List Mark
+spawning_marks =
+    Dispatch 1 0 (tid 1) (pos 0) 0 6
+    ∷ Answered (tid 1) (Spawn (pos 1) (pos 0) (pos 0)) (Int (pos 2))
+    ∷ Answered (tid 1) (Spawn (pos 1) (pos 0) (pos 0)) (Int (pos 3))
+    ∷ Answered (tid 1) (Spawn (pos 1) (pos 0) (pos 0)) (Int (pos 4))
+    ∷ Waits (tid 1) (Exit (pos 0))
+    ∷ Dispatch 2 1 (tid 2) (pos 7) 0 0
+    ∷ Ended (tid 2) (pos 9)
+    ∷ Dispatch 3 2 (tid 3) (pos 7) 1 1
+    ∷ Ended (tid 3) (pos 9)
+    ∷ Dispatch 4 3 (tid 4) (pos 7) 2 2
+    ∷ Ended (tid 4) (pos 9)
+    ∷ Woke (tid 1) (pos 1)
+    ∷ Dispatch 5 4 (tid 1) (pos 1) 0 5
+    ∷ Ended (tid 1) (pos 0)
+    ∷ []

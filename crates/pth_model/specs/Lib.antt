@@ -2,6 +2,7 @@ pub mod Awaits
 pub mod Verdict
 pub mod Resources
 pub mod Standing
+pub mod Allowance
 pub mod State
 pub mod Transition
 pub mod Row

@@ -1,5 +1,5 @@
 -- One part of a run: time moves, a thread is taken, it makes a step, or its turn is closed.
-use Rattle.std.specs.Prelude.{ℕ, ◌+◌, ◌==◌, ◌&&◌, min, ℤ, pos, Bool, true, false, List, [], ◌∷◌, reverse, Option, Some, None, if◌then◌else◌}
+use Rattle.std.specs.Prelude.{ℕ, ◌+◌, ◌==◌, ◌&&◌, min, ℤ, pos, Bool, true, false, List, [], ◌∷◌, ◌++◌, reverse, Option, Some, None, is_some, if◌then◌else◌}
 use Rattle.pth_base.specs.Limits.{last_moment, last_count}
 use Rattle.pth_base.specs.Program.{Functions, Stepped}
 use Rattle.pth_base.specs.declared.answer.Answer.TheVariants as answer
@@ -15,9 +15,10 @@ use Rattle.pth_model.specs.declared.blocked.Blocked.{Blocked}
 use Rattle.pth_model.specs.declared.progress.Progress.{Progress}
 use Rattle.pth_model.specs.declared.next.Next.{Next}
 use Rattle.pth_model.specs.declared.next.Next.TheVariants as next
+use Rattle.pth_model.specs.Allowance.{Point, standing_of, waited, allowed, number_by}
 use Rattle.pth_model.specs.State.{State, Control, Turn, queue, main, now_of, clock_of}
 use Rattle.pth_model.specs.Transition.{Piece, Change, Last, Went, silent, nothing, controlled, changes, tells, tid, ◌and◌, ◌and_then◌, ◌and_finally◌}
-use Rattle.pth_model.specs.Changes.{sets, goes_on, owes, enters, leaves_queue, raises_ready, runs_now, prefers, moves_to, entry_of, prio_of, blocked_of, or_nobody, holders, is_empty}
+use Rattle.pth_model.specs.Changes.{sets, goes_on, owes, enters, leaves_queue, raises_ready, trails, runs_now, prefers, moves_to, entry_of, prio_of, blocked_of, or_nobody, holders, is_empty}
 use Rattle.pth_model.specs.Calls.{begun, gone_on}
 use Rattle.pth_model.specs.Pass.{pass, moment, is_ready_at}
 use Rattle.pth_model.specs.Course.{Course, within}
@@ -86,21 +87,29 @@ module _ {P S H : Type 0} where
   abbrev pub readies_new : Change P S H
   readies_new k = readies_all (reverse (holders (queue k queue.New))) k
 
-  -- t runs: it stands nowhere, its dispatches are one more, and nobody is named
+  -- the dispatches, with that of t
+  abbrev pub trail_with : ℕ → Control P S H → List Point
+  trail_with t k = k.threads.trail ++ record { ready = k.threads.standing queue.Ready; taken = t; by_name = is_some k.scheduler.preferred } ∷ []
+
+  -- t runs: its dispatch is on the trail, it stands nowhere, its dispatches are one more, and nobody is named
   unfoldable pub runs : ℕ → Change P S H
   runs t k =
       let n = (or_nobody (entry_of k t)).dispatches in
-      (leaves_queue t
+      (trails (trail_with t k)
+      and leaves_queue t
       and sets t (change.State state.Running)
       and sets t (change.Dispatches (min (n + 1) last_count))
       and runs_now (Some t)
       and prefers None) k
 
-  -- the dispatch in the turn of a number
+  -- the dispatch in the turn of a number, with how long t waited and how long it may wait
   unfoldable pub dispatches : (turn : ℕ) → ℕ → Piece P S H
   dispatches turn t s =
+      let k = s.control in
+      let place = standing_of t (k.threads.standing queue.Ready) in
       (changes (runs t)
-      and_then tells (Dispatch turn (now_of s.control) (tid t) (rank_by (place_in t (queue s.control queue.Ready))) 0 0)) s
+      and_then tells (Dispatch turn (now_of k) (tid t) (rank_by (place_in t (queue k queue.Ready)))
+      (number_by (waited (trail_with t k)) place) (number_by (allowed k.top (trail_with t k)) place))) s
 
   abbrev pub takes_by : Turn → Option ℕ → State P S H → Course P S H
   takes_by x None s = within x (silent s)

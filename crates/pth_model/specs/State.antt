@@ -20,6 +20,7 @@ use Rattle.pth_cond.specs.Barriers.{BarrierTable, no_barriers}
 use Rattle.pth_kernel.specs.Kernel.{Kernel}
 use Rattle.pth_model.specs.Resources.{Resources, no_resources}
 use Rattle.pth_model.specs.Standing.{Standing, shown, raises_of}
+use Rattle.pth_model.specs.Allowance.{Point}
 
 -- the threads, by number, and where they stand
 pub record Threads (S : Type 0) : Type 0 where
@@ -35,6 +36,8 @@ pub record Threads (S : Type 0) : Type 0 where
   pub entries : ℕ
   -- how often the ready queue was raised
   pub raises : ℕ
+  -- all dispatches so far, the earliest first
+  pub trail : List Point
 
 -- the attribute objects, by number (pth_attr_t)
 pub record Attributes : Type 0 where
@@ -151,6 +154,7 @@ start f g = record {
       standing = main_standing;
       entries = 1;
       raises = 0;
+      trail = [];
     };
     attributes = no_attributes;
     events = no_events;

@@ -2,7 +2,7 @@
 
 ghost use Rattle.std.specs.Prelude.{◌≡◌, pos};
 ghost use Rattle.pth_base.specs.declared.outcome.Outcome.TheVariants.{Ended};
-ghost use Rattle.pth_model.specs.Example.{given, two_bodies, its_marks, joining_bodies, joining_marks, napping_bodies, napping_marks, waiting_bodies, waiting_marks, given_a_byte, reading_bodies, reading_marks, ending_bodies, ending_marks};
+ghost use Rattle.pth_model.specs.Example.{given, two_bodies, its_marks, joining_bodies, joining_marks, napping_bodies, napping_marks, waiting_bodies, waiting_marks, given_a_byte, reading_bodies, reading_marks, ending_bodies, ending_marks, spawning_bodies, spawning_marks};
 ghost use Rattle.pth_model.specs.Run.{run};
 
 /// By the definitions, a main that spawns a thread, yields to it and exits gives exactly these marks, and the run ends
@@ -44,4 +44,11 @@ pub fn reading_bodies_run()
 pub fn ending_bodies_run()
     ensures marks { (run ending_bodies given 7).marks ≡ ending_marks }
     ensures outcome { (run ending_bodies given 7).turn.outcome ≡ Ended (pos 0) }
+{}
+
+/// By the definitions, a main that spawns three threads and exits sees the last of them, whose grace is one dispatch, wait for two,
+/// as it is allowed; the run ends with main's value after nineteen parts.
+pub fn spawning_bodies_run()
+    ensures marks { (run spawning_bodies given 19).marks ≡ spawning_marks }
+    ensures outcome { (run spawning_bodies given 19).turn.outcome ≡ Ended (pos 0) }
 {}

@@ -4,9 +4,10 @@ use Rattle.pth_numbered.specs.Numbered.{number_known}
 use Rattle.pth_threads.specs.Threads.{changed, made_of}
 use Rattle.pth_model.specs.Resources.{told, answer_told}
 use Rattle.pth_model.specs.Standing.{put_behind, order, shown}
+use Rattle.pth_model.specs.Allowance.{points, waited, grace, is_before, newcomers, beyond, allowed}
 use Rattle.pth_model.specs.State.{start}
 use Rattle.pth_model.specs.Transition.{tells_each}
-use Rattle.pth_model.specs.Changes.{sets, goes_on, enters, leaves_queue, raises_ready, makes, forgets}
+use Rattle.pth_model.specs.Changes.{sets, goes_on, enters, leaves_queue, trails, raises_ready, makes, forgets}
 use Rattle.pth_model.specs.ThreadControl.{suspends, resumes, joinable_dead}
 use Rattle.pth_model.specs.RingWaits.{claims, gives_back, stops_waiting}
 use Rattle.pth_model.specs.Barriers.{withdraws_from}
@@ -22,9 +23,9 @@ use Rattle.pth_model.specs.Run.{parts}
 use Rattle.pth_model.proofs.example.joining_bodies_run.Goals as goal
 
 pub returns-clause-marks : goal.returns-clause-marks
-unfolding parts start part next_part closes is_placed is_put_waiting is_put_back steps takes dispatches runs readies_all readies moves pass looks comes_for to_wake all_woken woken is_ready_at wakes gone_on tried_again may_be_canceled begun row_of is_alone withdraws_from hands_on_seat ending mutexes_had locks_held tells_each runs_each destructs next_destructor leaves is_dead_with forgets makes raises_ready leaves_queue enters goes_on claims gives_back stops_waiting sets number_known shown order put_behind put changed made_of told answer_told suspends resumes joinable_dead
+unfolding parts start part next_part closes is_placed is_put_waiting is_put_back steps takes dispatches runs trails readies_all readies moves pass looks comes_for to_wake all_woken woken is_ready_at wakes gone_on tried_again may_be_canceled begun row_of is_alone withdraws_from hands_on_seat ending mutexes_had locks_held tells_each runs_each destructs next_destructor leaves is_dead_with forgets makes raises_ready leaves_queue enters goes_on claims gives_back stops_waiting sets number_known shown order put_behind put changed made_of told answer_told suspends resumes joinable_dead points waited grace is_before newcomers beyond allowed
 returns-clause-marks c = refl
 
 pub returns-clause-outcome : goal.returns-clause-outcome
-unfolding parts start part next_part closes is_placed is_put_waiting is_put_back steps takes dispatches runs readies_all readies moves pass looks comes_for to_wake all_woken woken is_ready_at wakes gone_on tried_again may_be_canceled begun row_of is_alone withdraws_from hands_on_seat ending mutexes_had locks_held tells_each runs_each destructs next_destructor leaves is_dead_with forgets makes raises_ready leaves_queue enters goes_on claims gives_back stops_waiting sets number_known shown order put_behind put changed made_of told answer_told suspends resumes joinable_dead
+unfolding parts start part next_part closes is_placed is_put_waiting is_put_back steps takes dispatches runs trails readies_all readies moves pass looks comes_for to_wake all_woken woken is_ready_at wakes gone_on tried_again may_be_canceled begun row_of is_alone withdraws_from hands_on_seat ending mutexes_had locks_held tells_each runs_each destructs next_destructor leaves is_dead_with forgets makes raises_ready leaves_queue enters goes_on claims gives_back stops_waiting sets number_known shown order put_behind put changed made_of told answer_told suspends resumes joinable_dead points waited grace is_before newcomers beyond allowed
 returns-clause-outcome c = refl
