@@ -30,7 +30,7 @@ use Rattle.pth_threads.specs.declared.entry.Entry.{Entry}
 use Rattle.pth_world.specs.Leading.{IsAnswered, IsQuiet}
 use Rattle.pth_world.specs.Shows.{Shows}
 use Rattle.pth_world.specs.World.{WorldOf}
-use Rattle.pth_end.proofs.Answers.{passed_answered}
+use Rattle.pth_end.proofs.Answers.{passed_answered, refused_answered}
 
 pub quiet_cancellation : (t : Tid) (c : Call) (a : Answer) → facility_of c ≡ Some facility.Cancellation → IsQuiet (Answered t c a)
 unfolding told answer_told
@@ -82,6 +82,14 @@ module _ {P S H : Type 0} (w : WorldOf P S H) (t : ℕ) (n a : ℤ) (x : ℕ) (e
 
   pub stays_answered : IsTheState → x ≡ 0 → IsAnswered w w (Int a) (λ s. (cancel_state s t n).begin)
   stays_answered is none = state_answered w is (λ k sh. rw none sh) refl
+
+-- a number that is no state is refused
+out_of_range : (b : Bool) (x : ℕ) → None ≡ (if b then Some x else None) → b ≡ false
+out_of_range true x h = absurd (cc h)
+out_of_range false x h = refl
+
+pub unset_answered : {P S H : Type 0} (w : WorldOf P S H) (t : ℕ) (n : ℤ) (x : ℕ) → None ≡ (if n is_from pos 0 to pos 4 then Some x else None) → IsAnswered w w (Fail EINVAL) (λ s. (cancel_state s t n).begin)
+unset_answered w t n x none = refused_answered w EINVAL (λ s. (cancel_state s t n).begin) (λ s st. rw (out_of_range (n is_from pos 0 to pos 4) x none) refl)
 
 -- ---- another thread is canceled, or aborted
 

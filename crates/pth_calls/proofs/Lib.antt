@@ -9,3 +9,4 @@ pub mod Spawning
 pub mod Yielding
 pub mod Storing
 pub mod Canceling
+pub mod Bound

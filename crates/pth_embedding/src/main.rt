@@ -114,6 +114,28 @@ fn print_world(rt: &(impl Print + AllocGlobal), world: &World<Errand>) -> io::Re
     Ok(())
 }
 
+/// Prints how often another thread was dispatched since a thread became ready, and how often that may be; nothing if it is not ready.
+fn print_wait(rt: &(impl Print + AllocGlobal), machine: &Machine<Errand>, t: Tid) -> io::Result<()>
+    requires few { machine.now.turn.steps ≤ MOST_STEPS }
+{
+    match (machine.waited(t), machine.allowed(t)) {
+        (Some(waited), Some(allowed)) => {
+            println!(rt; "  thread {}: waited {waited}, allowed {allowed}", t.0)
+        }
+        _ => Ok(()),
+    }
+}
+
+/// Prints how long each thread waits that is ready.
+fn print_waits(rt: &(impl Print + AllocGlobal), machine: &Machine<Errand>) -> io::Result<()>
+    requires few { machine.now.turn.steps ≤ MOST_STEPS }
+{
+    for number in 1..=machine.world().threads().made() {
+        print_wait(rt, machine, Tid(number))?;
+    }
+    Ok(())
+}
+
 /// Makes a turn, and prints what it told, how many steps were made, and how the threads are then.
 fn print_turn(
     rt: &(impl Print + AllocGlobal),
@@ -132,6 +154,7 @@ fn print_turn(
     }
     println!(rt; "  {} steps", machine.steps())?;
     print_world(rt, machine.world())?;
+    print_waits(rt, machine)?;
     Ok(outcome)
 }
 

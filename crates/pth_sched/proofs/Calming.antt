@@ -11,7 +11,7 @@ use Rattle.pth_threads.specs.declared.entry.Change.TheVariants as change
 use Rattle.pth_threads.specs.declared.entry.Entry.{Entry}
 use Rattle.pth_model.specs.declared.blocked.Blocked.{Blocked}
 use Rattle.pth_model.specs.State.{Control, State, now_of, clock_of}
-use Rattle.pth_model.specs.Changes.{blocked_of, entry_of, or_nobody, sets, leaves_queue, enters, raises_ready, runs_now}
+use Rattle.pth_model.specs.Changes.{blocked_of, entry_of, or_nobody, sets, leaves_queue, enters, raises_ready, runs_now, trails}
 use Rattle.pth_model.specs.Cancellation.{is_to_cancel, may_be_canceled}
 use Rattle.pth_model.specs.Coming.{has_died}
 use Rattle.pth_model.specs.ThreadControl.{is_dead_in}
@@ -157,7 +157,7 @@ module _ {P S H : Type 0} where
         }
 
     pub runs_keeps : (t : ℕ) → KeepsCalm s (controlled (runs t) s) (λ u. u ≢ t)
-    unfolding runs leaves_queue sets
+    unfolding runs trails leaves_queue sets
     runs_keeps t =
         let known = s.control.threads.known in
         let first = put known t (option_map (changed (change.State state.Running)) (known t)) in

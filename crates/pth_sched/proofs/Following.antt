@@ -2,11 +2,12 @@
 use Rattle.std.proofs.Common.{◌≡◌, ◌≢◌, ℕ, ◌+◌, ◌<◌, ◌≤◌, List, [], ◌++◌, Bool, true, false, refl, sym, ap, ap₂, ◌∙◌, arith, append_assoc, append-nil, subst}
 use Rattle.pth_world.specs.Leading.{AllAwaitRightly}
 use Rattle.pth_laws.proofs.EveryRun.{run_valid}
+use Rattle.pth_laws.proofs.History.{run_history}
 use Rattle.pth_base.specs.Program.{Functions}
 use Rattle.pth_base.specs.declared.mark.Mark.{Mark}
 use Rattle.pth_base.specs.declared.outcome.Outcome.TheVariants.{Running, OutOfMemory, Killed}
 use Rattle.pth_kernel.specs.Kernel.{Kernel}
-use Rattle.pth_model.specs.Course.{Course}
+use Rattle.pth_model.specs.Course.{Course, HasHistory}
 use Rattle.pth_model.specs.State.{Given, Scheduler, Turn, start}
 use Rattle.pth_model.specs.Part.{part}
 use Rattle.pth_model.specs.Run.{run, stops_at, IsBetween}
@@ -49,10 +50,10 @@ module _ {P S H : Type 0} (f : P → Functions S H) (g : Given P) (halts : ℕ �
 
   -- the machine makes a part of the run
   unfoldable pub reach-more : (m v : MachineOf P S H) (old mid new : List Mark) → (r : Reaches m old mid) → halts r.part ≡ false → (run f g r.part).turn.outcome ≢ Killed
-      → ((c : Course P S H) → Stands m c → AllAwaitRightly c.state → Makes v mid new (part f c.turn c.state)) → Reaches v old new
+      → ((c : Course P S H) → Stands m c → AllAwaitRightly c.state → HasHistory c → Makes v mid new (part f c.turn c.state)) → Reaches v old new
   reach-more m v old mid new r on lives makes =
       let here = run f g r.part in
-      let made = makes here r.stands (await_rightly r.part lives) in
+      let made = makes here r.stands (await_rightly r.part lives) (run_history f g r.part) in
       record {
         part = r.part + 1;
         later = omega (arith, r.later);
@@ -124,13 +125,12 @@ lives_on to m c st on killed =
     let halt = stops_ended to m (λ runs. cc (runs, ended)) in
     cc (halt, on)
 
-pub made_less : {P S H : Type 0} (f : P → Functions S H) (m v : MachineOf P S H) (old new : List Mark) → IsSound m.world.threads → ((c : Course P S H) → Stands m c → AllAwaitRightly c.state → Makes v old new (part f c.turn c.state)) → (to : ℕ) → machine_stops to m ≡ false → left to v < left to m
-made_less {P = P} {S = S} {H = H} f m v old new sound makes to on =
+pub made_less : {P S H : Type 0} (f : P → Functions S H) (m v : MachineOf P S H) → IsSound m.world.threads → ((c : Course P S H) → Stands m c → AllAwaitRightly c.state → Stands v (part f c.turn c.state)) → (to : ℕ) → machine_stops to m ≡ false → left to v < left to m
+made_less {P = P} {S = S} {H = H} f m v sound stands to on =
     let c : Course P S H = record { state = state_of m.world; turn = m.turn; marks = [] } in
     let st : Stands m c = record { world = stands_for_state m.world sound; turn = refl; memory = still_runs to m on } in
-    let made = makes c st (state_awaits_rightly m.world) in
     let nearer = near f to c (sym (stops_is to m c st) ∙ on) in
-    rw (left_is to v (part f c.turn c.state) made.stands, left_is to m c st) nearer
+    rw (left_is to v (part f c.turn c.state) (stands c st (state_awaits_rightly m.world)), left_is to m c st) nearer
 
 -- after an outcome that ended the run a machine stays where it is
 pub stays : {P S H : Type 0} (f : P → Functions S H) (g : Given P) (to i : ℕ) (m : MachineOf P S H) (old : List Mark) → m.turn.outcome ≢ Running → StandsAt f g i m → GoesOn f g to i m old old

@@ -21,4 +21,5 @@ pub mod Times
 pub mod Turning
 pub mod Unasked
 pub mod Waiting
+pub mod Waits
 pub mod Waking

@@ -1,5 +1,5 @@
 -- The part that comes next, and what the parts of a turn make.
-use Rattle.std.proofs.Common.{◌≡◌, ◌≢◌, ℕ, ◌+◌, ◌==◌, ℤ, Bool, true, false, List, [], ◌∷◌, ◌++◌, Option, Some, None, is_some, refl, sym, ap, ◌∙◌, subst, append-nil}
+use Rattle.std.proofs.Common.{◌≡◌, ◌≢◌, ℕ, ◌+◌, ◌==◌, ◌≤◌, ℤ, Bool, true, false, List, [], ◌∷◌, ◌++◌, length, reverse, Option, Some, None, is_some, refl, sym, ap, ◌∙◌, subst, append-nil, arith}
 use Rattle.pth_base.specs.Cut.{IsCut}
 use Rattle.pth_base.specs.Program.{Functions}
 use Rattle.pth_base.specs.declared.mark.Mark.{Mark}
@@ -13,17 +13,20 @@ use Rattle.pth_model.specs.declared.next.Next.{Next}
 use Rattle.pth_model.specs.declared.next.Next.TheVariants as next
 use Rattle.pth_model.specs.declared.progress.Progress.{Progress}
 use Rattle.pth_model.specs.Calls.{gone_on}
-use Rattle.pth_model.specs.Changes.{blocked_of}
-use Rattle.pth_model.specs.Course.{Course, within}
+use Rattle.pth_model.specs.Changes.{blocked_of, enters, holders, leaves_queue, sets}
+use Rattle.pth_model.specs.Course.{Course, HasHistory, within}
 use Rattle.pth_kernel.specs.Kernel.{Kernel}
 use Rattle.pth_model.specs.State.{State, Control, Turn, main, queue, now_of}
 use Rattle.pth_model.specs.Transition.{silent, controlled, tid}
-use Rattle.pth_model.specs.Pass.{moment, pass}
-use Rattle.pth_model.specs.Part.{Part, Halt, Move, part, part_by, next_part, next_part_by, unless_ended, moves, takes, dispatches, steps, steps_by, steps_on, closes, runs, turn_ends, readies_new, chosen, rank_by, is_idle, owes_after, turn_after, gives_up, ends_run}
+use Rattle.pth_model.specs.Pass.{is_ready_at, moment, pass}
+use Rattle.pth_model.specs.Part.{Part, Halt, Move, part, part_by, next_part, next_part_by, unless_ended, moves, takes, dispatches, steps, steps_by, steps_on, closes, runs, trail_with, turn_ends, readies, readies_all, readies_new, chosen, rank_by, is_idle, owes_after, turn_after, gives_up, ends_run}
 use Rattle.pth_model.specs.Resources.{told as told_of}
 use Rattle.pth_world.proofs.Telling.{has_still}
 use Rattle.pth_world.specs.World.{WorldOf}
-use Rattle.pth_world.specs.Shows.{Shows, StandsFor}
+use Rattle.pth_base.specs.Limits.{most_steps}
+use Rattle.pth_model.specs.Allowance.{AreTakenReady, Point, standing_of, waited, number_by}
+use Rattle.pth_tables.specs.declared.waits.Turn.{Turn as Numbers}
+use Rattle.pth_world.specs.Shows.{Shows, StandsFor, IsTurnOf}
 use Rattle.pth_world.specs.Leading.{Leads}
 use Rattle.pth_sched.specs.MachineOf.{MachineOf}
 use Rattle.pth_sched.specs.Running.{Stands, Makes}
@@ -76,8 +79,32 @@ module _ {P S H : Type 0} (v : MachineOf P S H) (one two : Course P S H) (same :
   pub makes_as : (old new : List Mark) → Makes v old new one → Makes v old new two
   makes_as old new = subst (λ (x : Course P S H). Makes v old new x) (sym same)
 
+  pub stands_as : Stands v one → Stands v two
+  stands_as = subst (Stands v) (sym same)
+
   pub cut_as : (old new : List Mark) → IsCut old new one.marks → IsCut old new two.marks
   cut_as old new = subst (λ (x : Course P S H). IsCut old new x.marks) (sym same)
+
+-- threads that become ready leave the trail
+readies_trail : {P S H : Type 0} (ts : List ℕ) (k : Control P S H) → (readies_all ts k).threads.trail ≡ k.threads.trail
+unfolding readies_all readies is_ready_at leaves_queue sets enters
+readies_trail [] k = refl
+readies_trail (t ∷ ts) k = readies_trail ts (readies t k)
+
+-- a turn that is over has a step of its own
+pub turns_few : (turns steps : ℕ) → turns ≤ steps → steps ≤ most_steps → turns ≤ most_steps
+turns_few turns steps fewer few = omega (arith, fewer, few)
+
+module _ {P S H : Type 0} (m : MachineOf P S H) (c : Course P S H) (st : Stands m c) (history : HasHistory c) where
+  abbrev new : List ℕ
+  new = reverse (holders (queue c.state.control queues.New))
+
+  -- the trail after the new threads are ready is that of a run, and has a dispatch a turn
+  pub ready_history : AreTakenReady (readies_new c.state.control).threads.trail
+  ready_history = subst AreTakenReady (sym (readies_trail new c.state.control)) history.taken
+
+  pub few_turns : m.turn.turns ≤ most_steps → length (readies_new c.state.control).threads.trail ≤ most_steps
+  few_turns few = subst (λ (l : List Point). length l ≤ most_steps) (sym (readies_trail new c.state.control)) (let t : c.turn.turns ≡ m.turn.turns = ap (λ (x : Turn). x.turns) st.turn in omega (arith, few, history.turns, t))
 
 module _ {P S H : Type 0} (m : MachineOf P S H) (c : Course P S H) (st : Stands m c) where
   pub still_makes : (old : List Mark) → Makes m old old (within c.turn (silent c.state))
@@ -104,21 +131,30 @@ module _ {P S H : Type 0} (m : MachineOf P S H) (c : Course P S H) (st : Stands 
   turn_over t v shows stored = record { control = shows; store = has_still m.world v c.state stored st.world.store }
 
   -- a thread is dispatched
-  pub take_makes : (t : ℕ) (rank : ℤ) (w u : WorldOf P S H) (time : ℕ) (old new : List Mark) → Shows w (readies_new c.state.control) → Some t ≡ chosen (readies_new c.state.control).scheduler.preferred (queue (readies_new c.state.control) queues.Ready)
-      → rank ≡ rank_by (place_in t (queue (readies_new c.state.control) queues.Ready)) → time ≡ w.kernel.now → Shows u (runs t (readies_new c.state.control)) → u.store ≡ m.world.store → new ≡ old ++ Dispatch (m.turn.turns + 1) time (tid t) rank 0 0 ∷ []
-      → Makes (record { world = u; turn = record m.turn { turns = m.turn.turns + 1 } }) old new (takes c.turn c.state)
-  unfolding takes dispatches told_of
-  take_makes t rank w u time old new ready next rank_is time_is shows stored told =
-      let k = readies_new c.state.control in
-      let now : now_of k ≡ time = ap (λ (x : Kernel). x.now) ready.kernel ∙ sym time_is in
-      rw (← next) record {
-        stands = record {
-          world = record { control = shows; store = has_still m.world u c.state stored st.world.store };
-          turn = ap (λ (x : Turn). record x { turns = x.turns + 1 }) st.turn;
-          memory = st.memory;
-        };
-        tells = told ∙ ap (λ (x : Turn). old ++ Dispatch (x.turns + 1) time (tid t) rank 0 0 ∷ []) (sym st.turn) ∙ ap (λ (n : ℕ). old ++ Dispatch (c.turn.turns + 1) n (tid t) rank 0 0 ∷ []) (sym now) ∙ ap (λ (r : ℤ). old ++ Dispatch (c.turn.turns + 1) (now_of k) (tid t) r 0 0 ∷ []) rank_is;
-      }
+  module _ (t : ℕ) (w u : WorldOf P S H) (ready : Shows w (readies_new c.state.control)) (next : Some t ≡ chosen (readies_new c.state.control).scheduler.preferred (queue (readies_new c.state.control) queues.Ready)) (shows : Shows u (runs t (readies_new c.state.control))) (stored : u.store ≡ m.world.store) where
+    pub take_stands : Stands (record { world = u; turn = record m.turn { turns = m.turn.turns + 1 } }) (takes c.turn c.state)
+    unfolding takes dispatches told_of
+    take_stands = rw (← next) record {
+      world = record { control = shows; store = has_still m.world u c.state stored st.world.store };
+      turn = ap (λ (x : Turn). record x { turns = x.turns + 1 }) st.turn;
+      memory = st.memory;
+    }
+
+    pub take_makes : (rank : ℤ) (time : ℕ) (turn : Numbers) (old new : List Mark) → rank ≡ rank_by (place_in t (queue (readies_new c.state.control) queues.Ready)) → time ≡ w.kernel.now → IsTurnOf (readies_new c.state.control) t turn → new ≡ old ++ Dispatch (m.turn.turns + 1) time (tid t) rank turn.waited turn.allowed ∷ []
+        → Makes (record { world = u; turn = record m.turn { turns = m.turn.turns + 1 } }) old new (takes c.turn c.state)
+    unfolding takes dispatches told_of
+    take_makes rank time turn old new rank_is time_is numbers told =
+        let k = readies_new c.state.control in
+        let now : now_of k ≡ time = ap (λ (x : Kernel). x.now) ready.kernel ∙ sym time_is in
+        record {
+          stands = take_stands;
+          tells = rw (← next) (told
+              ∙ ap (λ (x : Turn). old ++ Dispatch (x.turns + 1) time (tid t) rank turn.waited turn.allowed ∷ []) (sym st.turn)
+              ∙ ap (λ (n : ℕ). old ++ Dispatch (c.turn.turns + 1) n (tid t) rank turn.waited turn.allowed ∷ []) (sym now)
+              ∙ ap (λ (r : ℤ). old ++ Dispatch (c.turn.turns + 1) (now_of k) (tid t) r turn.waited turn.allowed ∷ []) rank_is
+              ∙ ap (λ (n : ℕ). old ++ Dispatch (c.turn.turns + 1) (now_of k) (tid t) (rank_by (place_in t (queue k queues.Ready))) n turn.allowed ∷ []) numbers.waited
+              ∙ ap (λ (n : ℕ). old ++ Dispatch (c.turn.turns + 1) (now_of k) (tid t) (rank_by (place_in t (queue k queues.Ready))) (number_by (waited (trail_with t k)) (standing_of t (k.threads.standing queues.Ready))) n ∷ []) numbers.allowed);
+        }
 
   -- a call that was made, and what it leads to, are a step
   pub step_makes : (f : P → Functions S H) (v : MachineOf P S H) (t : ℕ) (w : WorldOf P S H) (n : Next) (old new : List Mark) → n ≡ (steps_on f t c.state).next → Leads w old new (steps_on f t c.state).told

@@ -150,9 +150,9 @@ module _ {P S H : Type 0} where
     pub shows : Shows w control
     pub same : readies_new control ≡ end
 
-  pub new_shows : (v : WorldOf P S H) (k : Control P S H) (t : ℕ) (rank : ℤ) → rank ≡ new_rank k → ((top : Bool) → Shows v (is_ready_at t rank top k)) → Shows v (readies t k)
+  pub new_shows : (v : WorldOf P S H) (k : Control P S H) (t : ℕ) (rank : ℤ) (top : Bool) → rank ≡ new_rank k → top ≡ k.scheduler.favour_new → Shows v (is_ready_at t rank top k) → Shows v (readies t k)
   unfolding readies
-  new_shows v k t rank is shows = subst (λ (r : ℤ). Shows v (is_ready_at t r k.scheduler.favour_new k)) is (shows k.scheduler.favour_new)
+  new_shows v k t rank top is favoured shows = subst (λ (r : ℤ). Shows v (is_ready_at t r k.scheduler.favour_new k)) is (subst (λ (b : Bool). Shows v (is_ready_at t rank b k)) favoured shows)
 
   pub comes_next : (w v : WorldOf P S H) (end : Control P S H) (t : ℕ) → IsSound w.threads → ((k : Control P S H) → Shows w k → Some t ≡ last_of (queue k queues.New)) → ((k : Control P S H) → Shows w k → Shows v (readies t k)) → Comes w end → Comes v end
   comes_next w v end t sound last shows c = record {

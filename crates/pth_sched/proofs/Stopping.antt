@@ -15,7 +15,7 @@ use Rattle.pth_base.specs.declared.thread.ThreadState.TheVariants as state
 use Rattle.pth_model.specs.Course.{Course}
 use Rattle.pth_kernel.specs.Kernel.{Kernel}
 use Rattle.pth_model.specs.State.{State, Control, Turn, Given, start, queue, now_of}
-use Rattle.pth_model.specs.Changes.{holders, is_empty, enters, leaves_queue, moves_to, sets}
+use Rattle.pth_model.specs.Changes.{holders, is_empty, enters, leaves_queue, moves_to, sets, trails}
 use Rattle.pth_model.specs.Pass.{looks, is_ready_at, woken, all_woken, pass, to_wake, moment}
 use Rattle.pth_model.specs.Part.{next_part, next_part_by, unless_ended, part, part_by, moves, moves_by, takes, readies, readies_all, readies_new, chosen, is_idle, steps, steps_on, closes, turn_ends, is_placed, dispatches, runs}
 use Rattle.pth_model.specs.Run.{run, stops, stops_at, stops_by, GoesTo}
@@ -136,7 +136,7 @@ module _ {P S H : Type 0} (f : P → Functions S H) where
       omega arith
 
   take_near : (to : ℕ) (x : Turn) (s : State P S H) → x.gave ≡ None → is_idle s.control ≡ false → far to (takes x s) < 3 * (to - x.steps) + 1 + 1 + time_left (now_of s.control)
-  unfolding takes dispatches runs sets leaves_queue
+  unfolding takes dispatches runs trails sets leaves_queue
   take_near to x s gave h =
       let k = readies_new s.control in
       let some = next_some k.scheduler.preferred (queue k queues.Ready) (ready_some s.control h) in

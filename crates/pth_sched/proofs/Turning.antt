@@ -8,7 +8,7 @@ use Rattle.pth_base.specs.Program.{Functions}
 use Rattle.pth_base.specs.declared.mark.Mark.{Mark}
 use Rattle.pth_base.specs.declared.outcome.Outcome.{Outcome}
 use Rattle.pth_base.specs.declared.outcome.Outcome.TheVariants.{Running, Ended, Killed, Stalled, OutOfMemory}
-use Rattle.pth_model.specs.Course.{Course}
+use Rattle.pth_model.specs.Course.{Course, HasHistory}
 use Rattle.pth_model.specs.State.{State, Given, Turn, start, queue}
 use Rattle.pth_model.specs.Pass.{moment}
 use Rattle.pth_model.specs.Part.{Part, Move, Take, Step, Close, Halt, next_part, next_part_by, unless_ended, part, part_by, moves, moves_by, takes, takes_by, readies_new, chosen, steps, closes, is_idle}
@@ -126,7 +126,7 @@ module _ {P S H : Type 0} (f : P → Functions S H) (g : Given P) (to i : ℕ) w
     turn-cut new cuts = reach-cut f g (stops_or_closed f g to i) i m old mid new r.reached goes_on lives cuts
 
     -- the machine makes a part that is no Close
-    pub turn-more : (v : MachineOf P S H) (new : List Mark) → m.turn.gave ≡ None → ((c : Course P S H) → Stands m c → AllAwaitRightly c.state → Makes v mid new (part f c.turn c.state)) → Turns v old new
+    pub turn-more : (v : MachineOf P S H) (new : List Mark) → m.turn.gave ≡ None → ((c : Course P S H) → Stands m c → AllAwaitRightly c.state → HasHistory c → Makes v mid new (part f c.turn c.state)) → Turns v old new
     unfolding reach-more
     turn-more v new none makes =
         let n = r.reached.part in
@@ -144,7 +144,7 @@ module _ {P S H : Type 0} (f : P → Functions S H) (g : Given P) (to i : ℕ) w
           let goes = running_on to m on in
           let is_over = after i n (closed f g (n + 1)) r.reached.later (closed-more n ∙ goes_close m (run f g n) r.reached.stands t goes over) in
           reach-stop f g (stops_or_closed f g to i) i v old new
-          (reach-more f g (stops_or_closed f g to i) i m v old mid new r.reached goes_on lives (λ c st right. makes_as v _ _ (part_close f m c st goes t over) mid new (makes c st)))
+          (reach-more f g (stops_or_closed f g to i) i m v old mid new r.reached goes_on lives (λ c st right history. makes_as v _ _ (part_close f m c st goes t over) mid new (makes c st)))
           (either (stops to (run f g (n + 1))) _ is_over)
 
       -- memory ends in the Close

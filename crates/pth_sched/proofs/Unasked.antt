@@ -20,7 +20,7 @@ use Rattle.pth_threads.specs.declared.entry.NewThread.{NewThread}
 use Rattle.pth_model.specs.declared.blocked.Blocked.{Blocked}
 use Rattle.pth_model.specs.State.{State, Control, Turn, Given, start, main, main_entry, queue}
 use Rattle.pth_model.specs.Transition.{controlled, ◌and◌}
-use Rattle.pth_model.specs.Changes.{sets, enters, goes_on, leaves_queue, raises_ready, makes, forgets, removes, queue_for, holders, entry_of, or_nobody, blocked_of, blocking, blocked_in, is_blocked_by}
+use Rattle.pth_model.specs.Changes.{sets, trails, enters, goes_on, leaves_queue, raises_ready, makes, forgets, removes, queue_for, holders, entry_of, or_nobody, blocked_of, blocking, blocked_in, is_blocked_by}
 use Rattle.pth_model.specs.Cancellation.{is_to_cancel, may_be_canceled}
 use Rattle.pth_model.specs.Ending.{leaves, is_dead_with, stops_running}
 use Rattle.pth_model.specs.LibraryControl.{vanish_all_but}
@@ -276,7 +276,7 @@ module _ {P S H : Type 0} where
   up_readies (t ∷ ts) k is = up_readies ts (readies t k) (up_ready t _ k.scheduler.favour_new k is)
 
   up_dispatched : (x : Turn) (o : Option ℕ) (s : State P S H) → StaysUp s.control → StaysUp (takes_by x o s).state.control
-  unfolding dispatches runs leaves_queue
+  unfolding dispatches runs trails leaves_queue sets
   up_dispatched x None s is = is
   up_dispatched x (Some t) s is =
       let ran = sets t (change.State state.Running) (leaves_queue t s.control) in

@@ -1,14 +1,18 @@
 //! A machine that runs a program.
 
-ghost use Rattle.std.specs.Prelude.{◌≡◌, ◌≢◌, ◌⊎◌, ◌≤◌, ◌+◌, ◌↔◌, ℕ, [], true, false, None, map, IfOk, OnOk, OnErr};
+ghost use Rattle.std.specs.Prelude.{◌≡◌, ◌≢◌, ◌⊎◌, ◌≤◌, ◌+◌, ◌↔◌, ℕ, [], true, false, Some, None, map, option_map, IfSome, IfOk, OnOk, OnErr};
 ghost use Rattle.pth_base.specs.Cut.{IsCut};
-ghost use Rattle.pth_base.specs.Limits.{most_steps};
+ghost use Rattle.pth_base.specs.Limits.{most_steps, IsGreatestPriority};
 ghost use Rattle.pth_kernel.specs.Kernel.{kernel_of};
-ghost use Rattle.pth_model.specs.Course.{Course, within};
+ghost use Rattle.pth_model.specs.Allowance.{allowed, standing_of, waited};
+ghost use Rattle.pth_model.specs.Course.{Course, HasHistory, within};
+ghost use Rattle.pth_queue.specs.declared.queue.Queue.TheVariants as queue;
 ghost use Rattle.pth_model.specs.State.{Given, now_of};
 ghost use Rattle.pth_model.specs.Living.{live as live_threads};
 ghost use Rattle.pth_model.specs.Part.{moves};
 ghost use Rattle.pth_model.specs.Pass.{moment, pass};
+ghost use Rattle.pth_model.specs.Run.{run};
+ghost use Rattle.pth_model.specs.Standing.{Standing};
 ghost use Rattle.pth_threads.specs.Threads.{number_of};
 ghost use Rattle.pth_world.specs.Whole.{Whole};
 ghost use Rattle.pth_sched.specs.Running.{Stands, StandsAt, Makes, MakesPart, GoesOn, BreaksOff, TurnGoesOn, TurnBreaksOff, IsAtStep, IsBetweenTurns};
@@ -55,14 +59,15 @@ impl<P: Program> Drop for Machine<P> {
 }
 
 impl<P: Program> Machine<P> {
-    /// The main thread alone, ready (`pth_init`), at the moment of the kernel. Base priorities go from `-top` to `top`.
+    /// The main thread alone, ready (`pth_init`), at the moment of the kernel. Base priorities go from `-top` to `top`, the
+    /// greatest, which is from 5 to 20.
     pub fn new(
         alloc: Global,
         program: P,
         kernel: Kernel,
         top: u8,
     ) -> Result<Machine<P>, OutOfMemory>
-        requires { (5 ≤ top) × (top ≤ 20) }
+        requires { IsGreatestPriority top }
         ensures stands { IfOk result (λ m. StandsAt P.functions (record { program = program; kernel = kernel_of kernel; top = top }) 0 m) }
         ensures steps { IfOk result (λ m. m.turn.steps ≡ 0) }
         ensures outcome { IfOk result (λ m. m.turn.outcome ≡ Outcome.Running) }
@@ -191,6 +196,33 @@ impl<P: Program> Machine<P> {
         ensures state { (c : Course P P.State P.Shared) → Stands self.now c → result ≡ c.state.control.threads.made }
     {
         u64::from(self.schedule.world().threads().made())
+    }
+
+    /// How often another thread was dispatched since a thread became ready; none if it is not ready. pth(3) has no call for it.
+    pub fn waited(&self, t: Tid) -> Option<u64>
+        requires few { self.now.turn.steps ≤ most_steps }
+        ensures value { (c : Course P P.State P.Shared) → Stands self.now c → HasHistory c
+            → result ≡ option_map (waited c.state.control.threads.trail) (standing_of t.0 (c.state.control.threads.standing queue.Ready)) }
+    {
+        if self.failed {
+            return None;
+        }
+        self.schedule.world().waited(t)
+    }
+
+    /// How often another thread may be dispatched at most before a ready thread is, as things stand; none if it is not ready. In a
+    /// run it has waited at most so often. pth(3) has no call for it.
+    pub fn allowed(&self, t: Tid) -> Option<u64>
+        requires few { self.now.turn.steps ≤ most_steps }
+        ensures value { (c : Course P P.State P.Shared) → Stands self.now c → HasHistory c
+            → result ≡ option_map (allowed c.state.control.top c.state.control.threads.trail) (standing_of t.0 (c.state.control.threads.standing queue.Ready)) }
+        ensures in_time { (g : Given P) (i : ℕ) → StandsAt P.functions g i self.now → let x = (run P.functions g i).state.control.threads in
+            IfSome result (λ n. (s : Standing) → standing_of t.0 (x.standing queue.Ready) ≡ Some s → waited x.trail s ≤ n) }
+    {
+        if self.failed {
+            return None;
+        }
+        self.schedule.world().allowed(t)
     }
 
     /// The moment, in microseconds.

@@ -56,7 +56,7 @@ fn wake<P: Program>(w: &mut World<P>, t: Tid, marks: &mut Marks) -> Result<(), O
     ensures stays { (u : ℕ) → WaitsToRun w.old.threads u → WaitsToRun w.new.threads u }
 {
     let rank = woken_rank(w, t);
-    w.make_ready(t, rank);
+    w.make_ready(t, rank, false);
     marks.push(Mark::Woke { tid: t, rank })
 }
 

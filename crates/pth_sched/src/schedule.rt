@@ -2,10 +2,10 @@
 
 ghost use Rattle.std.specs.Prelude.{◌≡◌, ◌≢◌, ◌⊎◌, ◌≤◌, ◌+◌, ◌<◌, ℕ, [], true, false, Some, None, is_some, IsSome, IfSome, IfOk, OnOk, OnErr, length};
 ghost use Rattle.pth_base.specs.Cut.{IsCut};
-ghost use Rattle.pth_base.specs.Limits.{last_moment, most_steps};
+ghost use Rattle.pth_base.specs.Limits.{last_moment, most_steps, IsGreatestPriority};
 ghost use Rattle.pth_kernel.specs.Kernel.{kernel_of};
 ghost use Rattle.pth_model.specs.Changes.{goes_on};
-ghost use Rattle.pth_model.specs.Course.{Course, within};
+ghost use Rattle.pth_model.specs.Course.{Course, HasHistory, within};
 ghost use Rattle.pth_model.specs.Part.{is_idle, owes_after, turn_after, moves, moves_by, takes, steps, closes, part};
 ghost use Rattle.pth_model.specs.Pass.{moment, pass};
 ghost use Rattle.pth_model.specs.Run.{stops as run_stops};
@@ -77,14 +77,15 @@ impl<P: Program> Drop for Schedule<P> {
 }
 
 impl<P: Program> Schedule<P> {
-    /// The main thread alone, ready (`pth_init`), at the moment of the kernel. Base priorities go from `-top` to `top`.
+    /// The main thread alone, ready (`pth_init`), at the moment of the kernel. Base priorities go from `-top` to `top`, the
+    /// greatest, which is from 5 to 20.
     pub fn new(
         alloc: Global,
         program: P,
         kernel: Kernel,
         top: u8,
     ) -> Result<Schedule<P>, OutOfMemory>
-        requires { (5 ≤ top) × (top ≤ 20) }
+        requires { IsGreatestPriority top }
         ensures stands { IfOk result (λ m. StandsAt P.functions (record { program = program; kernel = kernel_of kernel; top = top }) 0 m) }
         ensures rests { IfOk result (λ m. Rests m) }
         ensures steps { IfOk result (λ m. m.turn.steps ≡ 0) }
@@ -142,7 +143,8 @@ impl<P: Program> Schedule<P> {
         requires nobody { self.old.world.scheduler.running ≡ None }
         requires over { self.old.turn.gave ≡ None }
         requires some { 0 < length self.old.world.threads.queues.ready + length self.old.world.threads.queues.new }
-        ensures ok { OnOk result ((c : Course P P.State P.Shared) → Stands self.old c → Makes self.new marks.old marks.new (takes c.turn c.state)) }
+        ensures ok { OnOk result ((c : Course P P.State P.Shared) → Stands self.old c → HasHistory c → Makes self.new marks.old marks.new (takes c.turn c.state)) }
+        ensures stands { OnOk result ((c : Course P P.State P.Shared) → Stands self.old c → Stands self.new (takes c.turn c.state)) }
         ensures err { OnErr result ((c : Course P P.State P.Shared) → Stands self.old c → IsCut marks.old marks.new (takes c.turn c.state).marks) }
         ensures going { OnOk result (IsGoing self.new) }
         ensures ranks { OnOk result (IsRoofed self.new) }
@@ -151,15 +153,15 @@ impl<P: Program> Schedule<P> {
         ready_new(&mut self.world);
         let t = next(&self.world);
         let rank = self.world.ready_rank(t);
-        self.world.dispatch(t);
+        let turn = self.world.dispatch(t);
         self.turns += 1;
         marks.push(Mark::Dispatch {
             turn: self.turns,
             at: self.world.time(),
             tid: t,
             rank,
-            waited: 0,
-            allowed: 0,
+            waited: turn.waited,
+            allowed: turn.allowed,
         })
     }
 
@@ -336,7 +338,8 @@ impl<P: Program> Schedule<P> {
         requires goes { self.old.turn.outcome ≡ Outcome.Running }
         requires over { self.old.turn.gave ≡ None }
         requires nobody { self.old.world.scheduler.running ≡ None }
-        ensures ok { OnOk result ((c : Course P P.State P.Shared) → Stands self.old c → Makes self.new marks.old marks.new (part P.functions c.turn c.state)) }
+        ensures ok { OnOk result ((c : Course P P.State P.Shared) → Stands self.old c → HasHistory c → Makes self.new marks.old marks.new (part P.functions c.turn c.state)) }
+        ensures stands { OnOk result ((c : Course P P.State P.Shared) → Stands self.old c → Stands self.new (part P.functions c.turn c.state)) }
         ensures err { OnErr result ((c : Course P P.State P.Shared) → Stands self.old c → IsCut marks.old marks.new (part P.functions c.turn c.state).marks) }
         ensures going { OnOk result (IsGoing self.new) }
         ensures ranks { OnOk result (IsRoofed self.new) }
@@ -352,7 +355,9 @@ impl<P: Program> Schedule<P> {
     fn part(&mut self, marks: &mut Marks) -> Result<(), OutOfMemory>
         requires keeps { Keeps self.old }
         requires few { self.old.turn.steps ≤ most_steps }
-        ensures ok { OnOk result ((c : Course P P.State P.Shared) → Stands self.old c → AllAwaitRightly c.state → Makes self.new marks.old marks.new (part P.functions c.turn c.state)) }
+        ensures ok { OnOk result ((c : Course P P.State P.Shared) → Stands self.old c → AllAwaitRightly c.state → HasHistory c
+            → Makes self.new marks.old marks.new (part P.functions c.turn c.state)) }
+        ensures stands { OnOk result ((c : Course P P.State P.Shared) → Stands self.old c → AllAwaitRightly c.state → Stands self.new (part P.functions c.turn c.state)) }
         ensures err { OnErr result ((c : Course P P.State P.Shared) → Stands self.old c → AllAwaitRightly c.state → IsCut marks.old marks.new (part P.functions c.turn c.state).marks) }
         ensures going { OnOk result (IsGoing self.new) }
         ensures ranks { OnOk result (IsRoofed self.new) }

@@ -42,7 +42,7 @@ fn new_rank<P: Program>(w: &World<P>) -> i64
     requires { IsSound w.now.threads }
     ensures rank { (k : Control P P.State P.Shared) → Shows w.now k → result ≡ new_rank k }
     ensures under { (roof : ℕ) → greatest_return ≤ roof → IsUnder roof w.now.threads.queues.ready → result ≤ℤ pos (roof + 1) }
-    ensures low { neg_ℤ (pos (2 ^ 40)) ≤ℤ result }
+    ensures low { neg_ℤ (pos 20) ≤ℤ result }
 {
     if w.favour() { w.top() } else { 0 }
 }
@@ -62,7 +62,7 @@ pub fn ready_new<P: Program>(w: &mut World<P>)
 {
     while let Some(t) = w.last(Queue::New) {
         let rank = new_rank(w);
-        w.make_ready(t, rank);
+        w.make_ready(t, rank, w.favour());
     }
 }
 

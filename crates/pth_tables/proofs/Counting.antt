@@ -64,9 +64,6 @@ module _ (v : QueuesOf) (x : QueuesOf) (y : PerQueue ℕ) (counts : AreCounted x
       grown Suspended = counts Suspended
       grown Dead = counts Dead
 
-  pub counts_still : v ≡ x → AreCounted v y
-  counts_still is = subst (λ (k : QueuesOf). AreCounted k y) (sym is) counts
-
   -- every rank in a queue one more
   pub counts_raised : (q : Queue) → v ≡ with_rows q (increase (rows_of q x)) x → AreCounted v y
   counts_raised q is = subst (λ (k : QueuesOf). AreCounted k y) (sym is) (counts_same q (increase (rows_of q x)) x y (length-map (rows_of q x) raised) counts)

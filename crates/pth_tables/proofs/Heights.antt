@@ -1,11 +1,9 @@
 -- Ranks told by heights and raises, after one change.
-use Rattle.std.proofs.Common.{◌≡◌, ℕ, ◌+◌, ◌-◌, max, ◌<◌, ◌≤◌, ◌==◌, ◌||◌, ◌⊎◌, inl, inr, Bool, true, false, not, if◌then◌else◌, ℤ, pos, ◌+ℤ◌, ◌-ℤ◌, List, [], ◌∷◌, ◌++◌, length, get_or, set, replicate, refl, All, Option, Some, None, option_map, IsSomeAnd, w64, sym, ◌∙◌, ap, subst, arith, get_or-set_other, get_or-set_same}
+use Rattle.std.proofs.Common.{◌≡◌, ℕ, ◌+◌, ◌<◌, ◌≤◌, ◌==◌, ◌||◌, Bool, true, false, not, if◌then◌else◌, ℤ, pos, ◌+ℤ◌, ◌-ℤ◌, List, [], ◌∷◌, ◌++◌, length, get_or, set, replicate, refl, All, Option, Some, None, option_map, IsSomeAnd, w64, sym, ◌∙◌, ap, subst, arith, get_or-set_other, get_or-set_same}
 use Rattle.std.specs.Int.{int_wrap}
 use Rattle.std.proofs.Math.IntN.{+ℤ_assoc, -ℤ-+ℤ_cancel}
-use Rattle.std.proofs.Math.ListN.{get_or-append}
-use Rattle.std.proofs.lemmas.Bool.{cases_lt}
 use Rattle.std.proofs.lemmas.Int.{fits_signed_from_abs, ints, int_wrap_fits, int_wrap-add_left, int_wrap-add_right, int_wrap-add_same}
-use Rattle.std.proofs.lemmas.List.{get_or_past, get_or-append_right, get_or-replicate, length-replicate, length-append}
+use Rattle.std.proofs.lemmas.List.{length-replicate, length-append}
 use Rattle.std.proofs.lemmas.List.Elements.{All-nil, All-cons, All-head, All-tail, All-weaker, All-filter, All-map}
 use Rattle.pth_base.specs.Table.{table}
 use Rattle.pth_base.proofs.Tables.{same_means, same_fails}
@@ -19,8 +17,11 @@ use Rattle.pth_queue.proofs.Orders.{All-insert}
 use Rattle.pth_queue.proofs.Places.{placed, moved}
 use Rattle.pth_queue.proofs.Sets.{room-with, count-le-times, times-nowhere, holds-queue_of}
 use Rattle.pth_tables.specs.declared.counted_queues.PerQueue.{PerQueue}
+use Rattle.pth_tables.specs.Waits.{KeptWaits, waits_of}
 use Rattle.pth_tables.specs.Counted.{kept_of, with_kept, AreAlike, IsRaisedHeight, AreRaisedHeights, AreKeptBeside}
-use Rattle.pth_tables.proofs.Counting.{counts_grown, counts_still}
+use Rattle.pth_tables.proofs.Counting.{counts_grown}
+use Rattle.pth_tables.proofs.Keeping.{beside_grown}
+use Rattle.pth_tables.proofs.Slots.{table_longer}
 
 -- ---- in 64 bits
 
@@ -103,28 +104,12 @@ tells_none top x y heights is = subst (λ (k : QueuesOf). AreRaisedHeights k y h
     none Suspended = All-nil (IsRaisedHeight heights y.suspended)
     none Dead = All-nil (IsRaisedHeight heights y.dead)
 
--- heights of slots that had none
-grown : (heights : List ℤ) (n i : ℕ) → table (pos 0) heights i ≡ table (pos 0) (heights ++ replicate n (pos 0)) i
-grown heights n i = by_place (cases_lt i (length heights))
-  where
-    past : (j : ℕ) → (j < n) ⊎ (n ≤ j) → get_or (replicate n (pos 0)) j (pos 0) ≡ pos 0
-    past j h = elim h [ inl low ↦ get_or-replicate n j (pos 0) (pos 0) low | inr high ↦ get_or_past (replicate n (pos 0)) j (pos 0) (omega (arith, length-replicate n (pos 0))) ]
-
-    by_place : (i < length heights) ⊎ (length heights ≤ i) → get_or heights i (pos 0) ≡ get_or (heights ++ replicate n (pos 0)) i (pos 0)
-    by_place h = elim h [
-      | inl low ↦ sym (get_or-append heights (replicate n (pos 0)) (pos 0) i low)
-      | inr high ↦ get_or_past heights i (pos 0) high ∙ sym (get_or-append_right heights (replicate n (pos 0)) (length heights) i (pos 0) refl high ∙ past (i - length heights) (cases_lt (i - length heights) n))
-    ]
-
 module _ (v x : QueuesOf) (y : PerQueue ℤ) (heights : List ℤ) (tells : AreRaisedHeights x y heights) where
   -- more heights
   more : (n : ℕ) → AreRaisedHeights x y (heights ++ replicate n (pos 0))
   more n q =
       All-weaker (IsRaisedHeight heights (kept_of q y)) (IsRaisedHeight (heights ++ replicate n (pos 0)) (kept_of q y))
-      (λ r told. subst (λ (z : ℤ). AreAlike (z +ℤ kept_of q y) r.rank) (grown heights n r.holder) told) (rows_of q x) (tells q)
-
-  pub tells_still : (n : ℕ) → v ≡ x → AreRaisedHeights v y (heights ++ replicate n (pos 0))
-  tells_still n is = subst (λ (k : QueuesOf). AreRaisedHeights k y (heights ++ replicate n (pos 0))) (sym is) (more n)
+      (λ r told. subst (λ (f : ℕ → ℤ). AreAlike (f r.holder +ℤ kept_of q y) r.rank) (sym (table_longer heights n (pos 0))) told) (rows_of q x) (tells q)
 
   -- more slots may be used
   pub tells_grown : (n room : ℕ) → v ≡ record x { room = room } → AreRaisedHeights v y (heights ++ replicate n (pos 0))
@@ -214,22 +199,14 @@ module _ (s : ℕ) (q : Queue) (x : QueuesOf) (orderly : IsOrderly x) (stands : 
 pub room_with : (v x : QueuesOf) (q : Queue) (rows : List Ranked) (n m : ℕ) → v ≡ with_rows q rows x → x.room ≤ n → m ≡ n → v.room ≤ m
 room_with v x q rows n m is low same = let room : v.room ≡ x.room = ap (λ (k : QueuesOf). k.room) is ∙ room-with q rows x in omega arith
 
-module _ (v x : QueuesOf) (lengths : PerQueue ℕ) (raises : PerQueue ℤ) (heights now : List ℤ) (kept : AreKeptBeside x lengths raises heights) (n : ℕ) (more : now ≡ heights ++ replicate n (pos 0)) where
-  longer : length now ≡ length heights + n
-  longer = ap length more ∙ length-append heights (replicate n (pos 0)) ∙ ap (λ (m : ℕ). length heights + m) (length-replicate n (pos 0))
-
-  -- no more slots may be used, but there are heights for them
-  pub counted_still : v ≡ x → AreKeptBeside v lengths raises now
-  counted_still is = record {
-    counts = counts_still v x lengths kept.counts is;
-    room = let room = kept.room in let same : v.room ≡ x.room = ap (λ (k : QueuesOf). k.room) is in omega (arith, longer);
-    tells = subst (AreRaisedHeights v raises) (sym more) (tells_still v x raises heights kept.tells n is);
-  }
-
-  -- more slots may be used
-  pub counted_grown : (slots : ℕ) → n ≡ slots - length heights → v ≡ record x { room = max x.room slots } → AreKeptBeside v lengths raises now
-  counted_grown slots many is = record {
-    counts = counts_grown v x lengths kept.counts (max x.room slots) is;
-    room = let room = kept.room in let same : v.room ≡ max x.room slots = ap (λ (k : QueuesOf). k.room) is in omega (arith, longer);
-    tells = subst (AreRaisedHeights v raises) (sym more) (tells_grown v x raises heights kept.tells n (max x.room slots) is);
-  }
+-- More slots may be used, or as many: there is room for them.
+pub counted_grown : (v x : QueuesOf) (lengths : PerQueue ℕ) (raises : PerQueue ℤ) (heights now : List ℤ) (waits after : KeptWaits) (due : List ℕ) (n room : ℕ) → AreKeptBeside x lengths raises heights waits due → now ≡ heights ++ replicate n (pos 0) → v ≡ record x { room = room } → room ≤ length heights + n → waits_of after ≡ waits_of waits → room ≤ length after.slots → AreKeptBeside v lengths raises now after due
+counted_grown v x lengths raises heights now waits after due n room kept more is fits same low = record {
+  counts = counts_grown v x lengths kept.counts room is;
+  room = let here : v.room ≡ room = ap (λ (k : QueuesOf). k.room) is in omega (arith, longer);
+  tells = subst (AreRaisedHeights v raises) (sym more) (tells_grown v x raises heights kept.tells n room is);
+  beside = beside_grown x (waits_of waits) (length waits.slots) due kept.beside v (waits_of after) room (length after.slots) is same low;
+}
+  where
+    longer : length now ≡ length heights + n
+    longer = ap length more ∙ length-append heights (replicate n (pos 0)) ∙ ap (λ (m : ℕ). length heights + m) (length-replicate n (pos 0))

@@ -1,3 +1,16 @@
+pub mod Backwards
 pub mod Counting
+pub mod DueTables
 pub mod Heights
 pub mod Items
+pub mod TrailsCounted
+pub mod TrailsBeyond
+pub mod TrailsBefore
+pub mod TrailsAllowed
+pub mod CountsWords
+pub mod CountsReached
+pub mod CountsKept
+pub mod CountsTaken
+pub mod Keeping
+pub mod Slots
+pub mod Walks

@@ -1,12 +1,15 @@
 -- What is kept beside the queues: how many stand in each, and what tells their ranks.
-use Rattle.std.specs.Prelude.{◌≡◌, ◌≤◌, ℕ, ℤ, pos, ◌+ℤ◌, List, All, length}
+use Rattle.std.specs.Prelude.{◌≡◌, ◌≤◌, ℕ, ℤ, pos, neg_ℤ, ◌+ℤ◌, ◌≤ℤ◌, List, All, length}
 use Rattle.std.specs.Int.{w64, int_wrap}
 use Rattle.pth_base.specs.Table.{table}
 use Rattle.pth_queue.specs.declared.queue.Queue.{Queue}
 use Rattle.pth_queue.specs.declared.queue.Queue.TheVariants.{New, Ready, Waiting, Suspended, Dead}
 use Rattle.pth_queue.specs.declared.ranked.Ranked.{Ranked}
+use Rattle.pth_queue.specs.Arena.{slots_of}
 use Rattle.pth_queue.specs.Queues.{QueuesOf, rows_of}
 use Rattle.pth_tables.specs.declared.counted_queues.PerQueue.{PerQueue}
+use Rattle.pth_tables.specs.Waits.{WaitsOf, KeptWaits, waits_of}
+use Rattle.pth_tables.specs.DueTable.{IsTable}
 
 -- what is kept of one queue
 abbrev pub kept_of : {A : Type 0} → Queue → PerQueue A → A
@@ -39,8 +42,22 @@ IsRaisedHeight heights raises r = AreAlike (table (pos 0) heights r.holder +ℤ 
 abbrev pub AreRaisedHeights : QueuesOf → PerQueue ℤ → List ℤ → Type 0
 AreRaisedHeights queues raises heights = (q : Queue) → All (IsRaisedHeight heights (kept_of q raises)) (rows_of q queues)
 
-pub record AreKeptBeside (queues : QueuesOf) (lengths : PerQueue ℕ) (raises : PerQueue ℤ) (heights : List ℤ) : Type 0 where
+-- no thread is ready at a lower rank than those at which threads enter
+abbrev pub IsHigh : Ranked → Type 0
+IsHigh r = neg_ℤ (pos 20) ≤ℤ r.rank
+
+-- what holds of the waits of the ready threads, which are kept for so many slots, and of the table beside them
+pub record AreWaitsBeside (queues : QueuesOf) (x : WaitsOf) (slots : ℕ) (due : List ℕ) : Type 0 where
+  -- for each slot that may be used a wait is kept
+  pub room : queues.room ≤ slots
+  -- so no grace is more than 41
+  pub top : x.top ≡ queues.top
+  pub high : All IsHigh queues.ready
+  pub table : IsTable (slots_of queues.ready) x.dispatches x.waits due
+
+pub record AreKeptBeside (queues : QueuesOf) (lengths : PerQueue ℕ) (raises : PerQueue ℤ) (heights : List ℤ) (waits : KeptWaits) (due : List ℕ) : Type 0 where
   pub counts : AreCounted queues lengths
   -- each slot that may be used has a height
   pub room : queues.room ≤ length heights
   pub tells : AreRaisedHeights queues raises heights
+  pub beside : AreWaitsBeside queues (waits_of waits) (length waits.slots) due

@@ -18,7 +18,7 @@ use Rattle.pth_model.specs.State.{State, now_of}
 use Rattle.pth_model.specs.Coming.{descriptors_bring}
 use Rattle.pth_model.specs.Looks.{found_unasked}
 use Rattle.pth_model.specs.Transition.{controlled}
-use Rattle.pth_waits.specs.Dormant.{IsFoundPending, StaysAway, bound, deadline_in}
+use Rattle.pth_waits.specs.Dormant.{IsFoundPending, StaysAway, after_now, bound, deadline_in}
 use Rattle.pth_waits.proofs.Kernels.{IsSame, HasNoDeadline, all_still, any_still, exceptional_still, readable_still, bring_still, writeable_still}
 
 module _ {P S H : Type 0} (s : State P S H) (until : ℕ) (soon : until ≤ bound (next_time s.control.kernel)) (within : until ≤ last_moment + 1) where
@@ -68,6 +68,23 @@ descriptors_stay s until t (Retaking m o) a b c d e f g h i z is away = absurd (
 descriptors_stay s until t Nothing a b c d e f g h i z is away = λ n l x. refl
 descriptors_stay s until t (Ring r) a b c d e f g h i z is away = λ n l x. refl
 descriptors_stay s until t o a b c d e f g h i z is away = subst (λ (y : Kernel). (n : ℕ) → y.now ≤ n → n < until → descriptors_bring (advanced n y) o ≡ false) (sym is) away
+
+-- and what is told of it now
+pub descriptors_later : {P S H : Type 0} (s : State P S H) (until t : ℕ) (a : Awaits) → (a ≡ Alone → ⊥) → (a ≡ AnyDeath → ⊥) → ((n : ℤ) → a ≡ Death n → ⊥) → ((m : ℕ) → a ≡ Moment m → ⊥) → ((m : ℤ) → a ≡ Mutex m → ⊥) → ((l : ℤ) (write : Bool) → a ≡ Lock l write → ⊥) → ((x : ℤ) (round : ℕ) → a ≡ Round x round → ⊥) → ((x : ℤ) → a ≡ Notice x → ⊥) → ((m : ℤ) (o : Retake) → a ≡ Retaking m o → ⊥)
+    → (z : Kernel) → s.control.kernel ≡ z → (descriptors_bring z a ≡ false → z.now < until) → StaysAway s (after_now s.control) t a → now_of s.control < until
+descriptors_later s until t Alone a b c d e f g h i z is later away = absurd (a refl)
+descriptors_later s until t AnyDeath a b c d e f g h i z is later away = absurd (b refl)
+descriptors_later s until t (Death n) a b c d e f g h i z is later away = absurd (c n refl)
+descriptors_later s until t (Moment m) a b c d e f g h i z is later away = absurd (d m refl)
+descriptors_later s until t (Mutex m) a b c d e f g h i z is later away = absurd (e m refl)
+descriptors_later s until t (Lock l write) a b c d e f g h i z is later away = absurd (f l write refl)
+descriptors_later s until t (Round x round) a b c d e f g h i z is later away = absurd (g x round refl)
+descriptors_later s until t (Notice x) a b c d e f g h i z is later away = absurd (h x refl)
+descriptors_later s until t (Retaking m o) a b c d e f g h i z is later away = absurd (i m o refl)
+descriptors_later s until t Nothing a b c d e f g h i z is later away = subst (λ (y : Kernel). y.now < until) (sym is) (later refl)
+descriptors_later s until t (Ring r) a b c d e f g h i z is later away = subst (λ (y : Kernel). y.now < until) (sym is) (later refl)
+descriptors_later s until t o a b c d e f g h i z is later away =
+    subst (λ (y : Kernel). y.now < until) (sym is) (later (subst (λ (y : Kernel). descriptors_bring y o ≡ false) is (away (now_of s.control) (omega arith) (omega arith))))
 
 found_by : (live occurs : Bool) → live ≡ true → occurs ≡ false → (if not live then Failed else (if occurs then Occurred else Pending)) ≡ Pending
 found_by live occurs a b = rw (a, b) refl

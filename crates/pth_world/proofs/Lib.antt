@@ -1,5 +1,6 @@
 pub mod Slots
 pub mod SettingValues
+pub mod Waits
 pub mod Showing
 pub mod Conditions
 pub mod Barriers

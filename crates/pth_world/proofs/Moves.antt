@@ -39,7 +39,7 @@ pub same_twice : {S : Type 0} (u v w : ThreadsBySlot S) → SameThreads u v → 
 same_twice u v w a b = record { slots = b.slots ∙ a.slots; tids = b.tids ∙ a.tids; made = b.made ∙ a.made }
 
 -- the queues, or the programs, changed alone
-pub queues_alone : {P S H : Type 0} (w m : WorldOf P S H) → m ≡ record w { threads = record w.threads { queues = m.threads.queues } } → SameThreads w.threads m.threads
+pub queues_alone : {P S H : Type 0} (w m : WorldOf P S H) → m ≡ record w { threads = record w.threads { queues = m.threads.queues; waits = m.threads.waits } } → SameThreads w.threads m.threads
 queues_alone w m same = record { slots = ap (λ (k : WorldOf _ _ _). slot_of k.threads.records) same; tids = ap (λ (k : WorldOf _ _ _). tid_at k.threads.records) same; made = ap (λ (k : WorldOf _ _ _). k.threads.records.made) same }
 
 -- the threads changed alone
@@ -163,7 +163,7 @@ known_slot None known = absurd (cc known)
 pub is_in : {P S H : Type 0} (w : WorldOf P S H) (q : Queue) (t u : ℕ) → IsIn q w.threads t → slot_of w.threads.records t ≡ Some u → queue_of u w.threads.queues ≡ Some q
 is_in w q t u h e = subst (λ (o : Option ℕ). IfSome o (λ i. queue_of i w.threads.queues ≡ Some q)) e h
 
-pub make_ready_whole : {P S H : Type 0} (w m v : WorldOf P S H) (t : ℕ) (q : Queue) → Whole w → IsKnown w.threads t → IsBefore q → IsIn q w.threads t → Touches w.threads m.threads t (view_placed None) → m ≡ record w { threads = record w.threads { queues = m.threads.queues } } → Touches m.threads v.threads t (λ k. view_placed (Some queue.Ready) (view_changed (change.State state.Ready) k)) → SameThreads m.threads v.threads → v.scheduler.running ≡ m.scheduler.running → v.store ≡ m.store → v.attributes ≡ m.attributes → IsSound v.threads → Whole v
+pub make_ready_whole : {P S H : Type 0} (w m v : WorldOf P S H) (t : ℕ) (q : Queue) → Whole w → IsKnown w.threads t → IsBefore q → IsIn q w.threads t → Touches w.threads m.threads t (view_placed None) → m ≡ record w { threads = record w.threads { queues = m.threads.queues; waits = m.threads.waits } } → Touches m.threads v.threads t (λ k. view_placed (Some queue.Ready) (view_changed (change.State state.Ready) k)) → SameThreads m.threads v.threads → v.scheduler.running ≡ m.scheduler.running → v.store ≡ m.store → v.attributes ≡ m.attributes → IsSound v.threads → Whole v
 make_ready_whole w m v t q whole known b stands left same entered kept runs store objects sound =
     let slot = known_slot (slot_of w.threads.records t) known in
     let all = queues_alone w m same in

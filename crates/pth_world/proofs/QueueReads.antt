@@ -80,7 +80,7 @@ top_bounds top room (x ∷ xs) most o =
     (grind (arith, ints), grind (arith, ints))
 
 -- a thread stands as often as its slot
-count-named : (g : ℕ → Option ℕ) (f : ℕ → ℕ) (t u : ℕ) (xs : List Ranked) → IsTied g f → g t ≡ Some u → IsQueued f xs → count_by (is_of t) (map (named_row f) xs) ≡ count_by (is_of u) xs
+pub count-named : (g : ℕ → Option ℕ) (f : ℕ → ℕ) (t u : ℕ) (xs : List Ranked) → IsTied g f → g t ≡ Some u → IsQueued f xs → count_by (is_of t) (map (named_row f) xs) ≡ count_by (is_of u) xs
 count-named g f t u [] tied e q = refl
 count-named g f t u (x ∷ xs) tied e q =
     count-cons t (named_row f x) (map (named_row f) xs)
@@ -89,7 +89,7 @@ count-named g f t u (x ∷ xs) tied e q =
     ∙ sym (count-cons u x xs)
 
 -- who is not in the system stands in no queue
-count-unknown : (g : ℕ → Option ℕ) (f : ℕ → ℕ) (t : ℕ) (xs : List Ranked) → IsTied g f → g t ≡ None → IsQueued f xs → count_by (is_of t) (map (named_row f) xs) ≡ 0
+pub count-unknown : (g : ℕ → Option ℕ) (f : ℕ → ℕ) (t : ℕ) (xs : List Ranked) → IsTied g f → g t ≡ None → IsQueued f xs → count_by (is_of t) (map (named_row f) xs) ≡ 0
 count-unknown g f t [] tied none q = refl
 count-unknown g f t (x ∷ xs) tied none q =
     let other : (f x.holder == t) ≡ false = not_same (f x.holder) t (λ same. none_some (sym none ∙ ap g (sym same) ∙ tied.slot x.holder q.0)) in

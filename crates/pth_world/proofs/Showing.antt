@@ -1,5 +1,5 @@
 -- How a change of one part of a world is a change of the control that it shows.
-use Rattle.std.proofs.Common.{◌≡◌, ℕ, ℤ, pos, negsuc, ◌<ℤ◌, ◌+◌, Bool, false, List, map, Option, Some, None, option_map, refl, sym, ◌∙◌, ap, subst, arith, inl, inr}
+use Rattle.std.proofs.Common.{◌≡◌, ℕ, ℤ, pos, negsuc, ◌<ℤ◌, ◌+◌, Bool, false, List, map, Option, Some, None, is_some, option_map, refl, sym, ◌∙◌, ap, subst, arith, inl, inr}
 use Rattle.std.proofs.lemmas.Int.{ints}
 use Rattle.pth_numbered.specs.Operands.{named}
 use Rattle.std.proofs.lemmas.Bool.{cases_Bool}
@@ -12,7 +12,8 @@ use Rattle.pth_queue.proofs.Counts.{delete-absent}
 use Rattle.pth_queue.specs.declared.queue.Queue.{Queue}
 use Rattle.pth_queue.specs.declared.queue.Queue.TheVariants as queue
 use Rattle.pth_queue.specs.Ranking.{named_row, insert, delete, increase}
-use Rattle.pth_queue.specs.Queues.{QueuesOf, rows_of, with_rows, without, entered, IsNowhere}
+use Rattle.pth_queue.specs.Arena.{slots_of}
+use Rattle.pth_queue.specs.Queues.{QueuesOf, rows_of, queue_of, with_rows, without, entered, IsNowhere}
 use Rattle.pth_queue.proofs.Sets.{top-with}
 use Rattle.pth_queue.proofs.Names.{insert_named, delete_named, increase_named, named_added, named_dropped}
 use Rattle.pth_threads.specs.Threads.{ThreadsOf, slot_of, tid_at, entry_at, count, made_of, ChangesThread, AddsThread, RemovesThread}
@@ -22,13 +23,17 @@ use Rattle.pth_threads.specs.declared.entry.NewThread.{NewThread}
 use Rattle.pth_model.specs.declared.progress.Progress.{Progress}
 use Rattle.pth_model.specs.Standing.{is_queue}
 use Rattle.pth_model.specs.State.{Control, Threads, queue, present}
-use Rattle.pth_model.specs.Changes.{sets, goes_on, enters, leaves_queue, raises_ready, makes, forgets}
+use Rattle.pth_model.specs.Changes.{sets, goes_on, enters, leaves_queue, raises_ready, trails, makes, forgets}
+use Rattle.pth_model.specs.Part.{trail_with}
+use Rattle.pth_tables.specs.Waits.{KeptWaits, waits_of, takes_ready}
+use Rattle.pth_tables.specs.CountedOf.{waits_with, waits_without}
 use Rattle.pth_model.proofs.Queues.{is_queue_same, rows_here, rows_other, rows_without, queue-enter, queue-enter_other, queue-leave, queue-raise, queue-raise_other}
 use Rattle.pth_world.specs.World.{WorldOf, ThreadsBySlot, entry_in}
 use Rattle.pth_world.specs.Shows.{Shows, ShowsThreads}
 use Rattle.pth_world.specs.Sound.{IsSound}
 use Rattle.pth_world.proofs.Slots.{name_is}
 use Rattle.pth_world.proofs.Places.{nowhere-holds}
+use Rattle.pth_world.proofs.Waits.{add_waits, change_waits, drop_waits, enter_waits, leave_waits, raise_waits, take_waits}
 
 -- where threads alone change, what they show is what counts
 pub of_threads : {P S H : Type 0} (w : WorldOf P S H) (y : ThreadsBySlot S) (k : Control P S H) (x : Threads S) → Shows w k → ShowsThreads k.top y x → Shows (record w { threads = y }) (record k { threads = x })
@@ -64,6 +69,7 @@ module _ {P S H : Type 0} (w : ThreadsBySlot S) (k : Control P S H) where
       progress = rw ch.slots sh.progress;
       standing = λ q. rw ch.tids (sh.standing q);
       top = sh.top;
+      waits = change_waits w k sound sh x w.progress _ _ ch.slots;
     }
 
     -- how far it is
@@ -78,6 +84,7 @@ module _ {P S H : Type 0} (w : ThreadsBySlot S) (k : Control P S H) where
       progress = rw (sh.progress, is, seen_at None g (table None w.progress) t u e) (sym (seen_put None g f (table None w.progress) t u _ sound.tied e));
       standing = sh.standing;
       top = sh.top;
+      waits = change_waits w k sound sh w.records y _ _ refl;
     }
 
     -- the queues
@@ -99,22 +106,47 @@ module _ {P S H : Type 0} (w : ThreadsBySlot S) (k : Control P S H) where
       | inr other ↦ enter_other p q rank top other
     ]
 
-    pub enter_shows : (y : QueuesOf) (q : Queue) (rank : ℤ) (top : Bool) → y ≡ entered q rank u w.queues → ShowsThreads k.top (record w { queues = y }) (enters t q rank top k).threads
+    pub enter_shows : (y : QueuesOf) (z : KeptWaits) (q : Queue) (rank : ℤ) (top : Bool) → IsNowhere u w.queues → y ≡ entered q rank u w.queues → waits_of z ≡ waits_with q u rank top (waits_of w.waits)
+        → ShowsThreads k.top (record w { queues = y; waits = z }) (enters t q rank top k).threads
     unfolding enters
-    enter_shows y q rank top is = record { made = sh.made; known = sh.known; progress = sh.progress; standing = rw is (enter_rows q rank top); top = sh.top ∙ sym (ap (λ (x : QueuesOf). x.top) is ∙ top-with q _ w.queues) }
-
-    pub leave_shows : (y : QueuesOf) → y ≡ without u w.queues → ShowsThreads k.top (record w { queues = y }) (leaves_queue t k).threads
-    unfolding leaves_queue
-    leave_shows y is = record {
+    enter_shows y z q rank top nowhere is counts = record {
       made = sh.made;
       known = sh.known;
       progress = sh.progress;
-      standing = rw is (λ q.
-          queue-leave k t q
-          ∙ ap (delete t) (sh.standing q)
-          ∙ sym (delete_named g f t u (rows_of q w.queues) sound.tied e (sound.queued q))
-          ∙ ap (map (named_row f)) (sym (rows_without q u w.queues)));
+      standing = rw is (enter_rows q rank top);
+      top = sh.top ∙ sym (ap (λ (x : QueuesOf). x.top) is ∙ top-with q _ w.queues);
+      waits = λ h. enter_waits w k sound sh t u e h y z q rank top nowhere counts;
+    }
+
+    leave_rows : (q : Queue) → queue (leaves_queue t k) q ≡ map (named_row f) (rows_of q (without u w.queues))
+    leave_rows q =
+        queue-leave k t q
+        ∙ ap (delete t) (sh.standing q)
+        ∙ sym (delete_named g f t u (rows_of q w.queues) sound.tied e (sound.queued q))
+        ∙ ap (map (named_row f)) (sym (rows_without q u w.queues))
+
+    pub leave_shows : (y : QueuesOf) (z : KeptWaits) → y ≡ without u w.queues → waits_of z ≡ waits_without (queue_of u w.queues) u (waits_of w.waits) → ShowsThreads k.top (record w { queues = y; waits = z }) (leaves_queue t k).threads
+    unfolding leaves_queue
+    leave_shows y z is counts = record {
+      made = sh.made;
+      known = sh.known;
+      progress = sh.progress;
+      standing = rw is leave_rows;
       top = sh.top ∙ sym (ap (λ (x : QueuesOf). x.top) is);
+      waits = λ h. leave_waits w k sound sh t u e h y z counts;
+    }
+
+    -- a ready thread is dispatched
+    pub take_shows : (y : QueuesOf) (z : KeptWaits) → queue_of u w.queues ≡ Some queue.Ready → y ≡ without u w.queues → waits_of z ≡ takes_ready (is_some k.scheduler.preferred) (slots_of w.queues.ready) (waits_of w.waits)
+        → ShowsThreads k.top (record w { queues = y; waits = z }) (leaves_queue t (trails (trail_with t k) k)).threads
+    unfolding leaves_queue trails
+    take_shows y z at is counts = record {
+      made = sh.made;
+      known = sh.known;
+      progress = sh.progress;
+      standing = rw is leave_rows;
+      top = sh.top ∙ sym (ap (λ (x : QueuesOf). x.top) is);
+      waits = λ h. take_waits w k sound sh t u e at h y z counts;
     }
 
     -- the thread's record
@@ -134,6 +166,7 @@ module _ {P S H : Type 0} (w : ThreadsBySlot S) (k : Control P S H) where
           ∙ sym (named_dropped f u (rows_of q w.queues))
           ∙ ap (map (named_row (put f u 0))) (delete-absent u (rows_of q w.queues) (nowhere-holds u w.queues nowhere q)));
       top = sh.top;
+      waits = drop_waits w k sound sh t u x y _ _ e nowhere gone;
     }
 
   -- a thread that is not in the system
@@ -153,9 +186,16 @@ module _ {P S H : Type 0} (w : ThreadsBySlot S) (k : Control P S H) where
   raise_rows sh queue.Suspended = queue-raise_other k queue.Suspended refl ∙ sh.standing queue.Suspended
   raise_rows sh queue.Dead = queue-raise_other k queue.Dead refl ∙ sh.standing queue.Dead
 
-  pub raise_shows : (y : QueuesOf) → y ≡ with_rows queue.Ready (increase w.queues.ready) w.queues → ShowsThreads k.top w k.threads → ShowsThreads k.top (record w { queues = y }) (raises_ready k).threads
+  pub raise_shows : (y : QueuesOf) (z : KeptWaits) → IsSound w → y ≡ with_rows queue.Ready (increase w.queues.ready) w.queues → waits_of z ≡ waits_of w.waits → ShowsThreads k.top w k.threads → ShowsThreads k.top (record w { queues = y; waits = z }) (raises_ready k).threads
   unfolding raises_ready
-  raise_shows y is sh = record { made = sh.made; known = sh.known; progress = sh.progress; standing = rw is (raise_rows sh); top = sh.top ∙ sym (ap (λ (x : QueuesOf). x.top) is) }
+  raise_shows y z sound is counts sh = record {
+    made = sh.made;
+    known = sh.known;
+    progress = sh.progress;
+    standing = rw is (raise_rows sh);
+    top = sh.top ∙ sym (ap (λ (x : QueuesOf). x.top) is);
+    waits = raise_waits w k sound sh y z counts;
+  }
 
   -- a new thread
   module _ (x : ThreadsOf) (y : List (Option (Progress S))) (u : ℕ) (of : NewThread) (sound : IsSound w) (adds : AddsThread w.records x u (made_of of (w.records.made + 1))) where
@@ -167,6 +207,7 @@ module _ {P S H : Type 0} (w : ThreadsBySlot S) (k : Control P S H) where
       progress = rw (sh.progress, adds.slots, has) (sym (seen_add None g f (table None w.progress) (w.records.made + 1) u sound.tied (Some _) adds.unused));
       standing = λ q. rw adds.tids (sh.standing q ∙ sym (named_added f u (w.records.made + 1) (rows_of q w.queues) adds.unused (sound.queued q)));
       top = sh.top;
+      waits = add_waits w k sound sh x y u (made_of of (w.records.made + 1)) _ _ _ adds;
     })
 
   -- how many threads are in the system

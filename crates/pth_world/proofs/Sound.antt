@@ -26,6 +26,7 @@ use Rattle.pth_model.proofs.Queues.{rows_here, rows_other, rows_without, is_queu
 use Rattle.pth_model.specs.Standing.{is_queue}
 use Rattle.std.proofs.lemmas.Bool.{cases_Bool, cases_lt}
 use Rattle.std.proofs.Common.{inl, inr}
+use Rattle.pth_tables.specs.Waits.{KeptWaits}
 use Rattle.pth_world.specs.World.{ThreadsBySlot}
 use Rattle.pth_world.specs.Sound.{IsSound, IsBare, IsPrio, IsCancel, HasAttributes, KeepsAttributes}
 use Rattle.pth_world.proofs.Slots.{name_is, used, low, not_unused}
@@ -125,17 +126,17 @@ module _ {S : Type 0} (w : ThreadsBySlot S) (sound : IsSound w) where
       present = sound.present;
     }
 
-    queues_sound : (y : QueuesOf) → y.room ≡ w.queues.room → IsOrderly y → ((q : Queue) → IsQueued f (rows_of q y)) → IsSound (record w { queues = y })
-    queues_sound y room orderly queued = record { tied = sound.tied; fresh = sound.fresh; empty = sound.empty; bare = sound.bare; recorded = sound.recorded; queued = queued; room = room ∙ sound.room; orderly = orderly; long = sound.long; attributes = sound.attributes; present = sound.present }
+    queues_sound : (y : QueuesOf) (n : KeptWaits) → y.room ≡ w.queues.room → IsOrderly y → ((q : Queue) → IsQueued f (rows_of q y)) → IsSound (record w { queues = y; waits = n })
+    queues_sound y n room orderly queued = record { tied = sound.tied; fresh = sound.fresh; empty = sound.empty; bare = sound.bare; recorded = sound.recorded; queued = queued; room = room ∙ sound.room; orderly = orderly; long = sound.long; attributes = sound.attributes; present = sound.present }
 
     in_room : u < w.queues.room
     in_room = subst (λ (n : ℕ). u < n) (sym sound.room) (low w t u sound e)
 
-    pub enter_sound : (y : QueuesOf) (q : Queue) (rank : ℤ) → IsNowhere u w.queues → IsRank rank → y ≡ entered q rank u w.queues → IsSound (record w { queues = y })
-    enter_sound y q rank nowhere fits is = rw is (queues_sound (entered q rank u w.queues) (room-with q _ w.queues) (IsOrderly-entered q rank u w.queues sound.orderly in_room nowhere fits) (λ p. rows_kept (IsQueued f) q p _ w.queues (IsQueued-insert f (record { rank = rank; holder = u }) (rows_of q w.queues) (used w t u sound e) (sound.queued q)) sound.queued))
+    pub enter_sound : (y : QueuesOf) (n : KeptWaits) (q : Queue) (rank : ℤ) → IsNowhere u w.queues → IsRank rank → y ≡ entered q rank u w.queues → IsSound (record w { queues = y; waits = n })
+    enter_sound y n q rank nowhere fits is = rw is (queues_sound (entered q rank u w.queues) n (room-with q _ w.queues) (IsOrderly-entered q rank u w.queues sound.orderly in_room nowhere fits) (λ p. rows_kept (IsQueued f) q p _ w.queues (IsQueued-insert f (record { rank = rank; holder = u }) (rows_of q w.queues) (used w t u sound e) (sound.queued q)) sound.queued))
 
-    pub leave_sound : (y : QueuesOf) → y ≡ without u w.queues → IsSound (record w { queues = y })
-    leave_sound y is = rw is (queues_sound (without u w.queues) refl (orderly-without u w.queues sound.orderly) (λ q. rw (rows_without q u w.queues) (IsQueued-delete f u (rows_of q w.queues) (sound.queued q))))
+    pub leave_sound : (y : QueuesOf) (n : KeptWaits) → y ≡ without u w.queues → IsSound (record w { queues = y; waits = n })
+    leave_sound y n is = rw is (queues_sound (without u w.queues) n refl (orderly-without u w.queues sound.orderly) (λ q. rw (rows_without q u w.queues) (IsQueued-delete f u (rows_of q w.queues) (sound.queued q))))
 
     -- its record
     pub its_entry : (d : Entry) × (entry_at w.records u ≡ Some d)
@@ -170,8 +171,8 @@ module _ {S : Type 0} (w : ThreadsBySlot S) (sound : IsSound w) where
         same_after : {m n : ℕ} → m + 1 ≡ n + 1 → m ≡ n
         same_after h = omega arith
 
-  pub raise_sound : (y : QueuesOf) → CanRise w.queues.ready → y ≡ with_rows queue.Ready (increase w.queues.ready) w.queues → IsSound (record w { queues = y })
-  raise_sound y rise is = rw is (record { tied = sound.tied; fresh = sound.fresh; empty = sound.empty; bare = sound.bare; recorded = sound.recorded; queued = λ p. rows_kept (IsQueued f) queue.Ready p _ w.queues (IsQueued-increase f w.queues.ready (sound.queued queue.Ready)) sound.queued; room = sound.room; orderly = IsOrderly-increased queue.Ready w.queues sound.orderly rise; long = sound.long; attributes = sound.attributes; present = sound.present })
+  pub raise_sound : (y : QueuesOf) (n : KeptWaits) → CanRise w.queues.ready → y ≡ with_rows queue.Ready (increase w.queues.ready) w.queues → IsSound (record w { queues = y; waits = n })
+  raise_sound y n rise is = rw is (record { tied = sound.tied; fresh = sound.fresh; empty = sound.empty; bare = sound.bare; recorded = sound.recorded; queued = λ p. rows_kept (IsQueued f) queue.Ready p _ w.queues (IsQueued-increase f w.queues.ready (sound.queued queue.Ready)) sound.queued; room = sound.room; orderly = IsOrderly-increased queue.Ready w.queues sound.orderly rise; long = sound.long; attributes = sound.attributes; present = sound.present })
 
   pub add_sound : (x : ThreadsOf) (y : List (Option (Progress S))) (u : ℕ) (of : NewThread) (c : Progress S) → IsPrio of.prio → IsCancel of.cancel → AddsThread w.records x u (made_of of (w.records.made + 1)) → table None y ≡ put (table None w.progress) u (Some c) → length y ≡ thread_limit → IsSound (record w { records = x; progress = y })
   unfolding made_of

@@ -3,8 +3,8 @@ use Rattle.std.proofs.lemmas.Bool.{cases_lt}
 use Rattle.std.proofs.lemmas.Int.{ints}
 use Rattle.std.proofs.lemmas.List.{get_or_past, get_or-replicate, length-replicate}
 use mathlib.Core.Path.{fun_ext}
-use Rattle.std.proofs.Common.{arith, ◌≡◌, ◌<◌, ◌≤◌, ℕ, inl, inr, pos, true, false, List, length, map, replicate, IsSome, IfSome, Option, Some, None, option_map, refl, sym, ◌∙◌, ap, subst}
-use Rattle.pth_base.specs.Limits.{thread_limit}
+use Rattle.std.proofs.Common.{arith, ◌≡◌, ◌<◌, ℕ, inl, inr, pos, true, false, List, [], ◌∷◌, length, map, replicate, IsSome, IfSome, Option, Some, None, option_map, refl, sym, ◌∙◌, ap, subst}
+use Rattle.pth_base.specs.Limits.{thread_limit, IsGreatestPriority}
 use Rattle.pth_base.proofs.Namings.{none_some}
 use Rattle.pth_base.specs.Program.{Functions}
 use Rattle.pth_base.specs.Table.{put, table}
@@ -43,7 +43,13 @@ use Rattle.pth_model.specs.Resources.{Store, no_resources}
 use Rattle.pth_world.specs.Beginnings.{IsBeforeMain}
 use Rattle.pth_world.specs.Store.{store_of, stored_by, HasNothing}
 use Rattle.pth_world.specs.World.{WorldOf, ThreadsBySlot, before_main}
-use Rattle.pth_world.specs.Shows.{Shows, ShowsThreads, StandsFor}
+use Rattle.std.proofs.lemmas.List.Elements.{All-nil, All-cons, All-head}
+use Rattle.pth_world.specs.Shows.{Shows, ShowsThreads, StandsFor, IsHistory, CountsWaits}
+use Rattle.pth_model.specs.Standing.{Standing}
+use Rattle.pth_model.specs.Allowance.{has_entry, points, waited}
+use Rattle.pth_tables.specs.Waits.{WaitsOf, KeptWaits, waits_of, no_waits}
+use Rattle.pth_tables.specs.Counts.{Counts, IsCounted}
+use Rattle.pth_tables.proofs.CountsKept.{counts_start}
 use Rattle.pth_world.specs.Sound.{IsSound, IsPrio, IsCancel, HasAttributes, IsKnown}
 use Rattle.pth_world.specs.Whole.{IsBeforeReady, Newly, view, Fits, FitsEntry, Whole}
 use Rattle.pth_world.proofs.Showing.{not_known}
@@ -52,15 +58,15 @@ use Rattle.pth_lock.specs.Mutexes.{MutexTable, no_mutexes}
 use Rattle.pth_lock.specs.RwLocks.{LockTables, no_locks}
 use Rattle.pth_world.proofs.Stores.{forgets, stored_none}
 
-module _ {P S H : Type 0} (f : P → Functions S H) (program : P) (top : ℕ) (range : (5 ≤ top) × (top ≤ 20)) (t0 : ThreadsOf) (y0 : List (Option (Progress S)))
+module _ {P S H : Type 0} (f : P → Functions S H) (program : P) (top : ℕ) (range : IsGreatestPriority top) (t0 : ThreadsOf) (y0 : List (Option (Progress S)))
     (slots : slot_of t0 ≡ (λ _. None)) (tids : tid_at t0 ≡ (λ _. 0)) (entries : entry_at t0 ≡ (λ _. None)) (none_made : t0.made ≡ 0) (no_count : count t0 ≡ 0)
-    (none : table None y0 ≡ (λ _. None)) (long0 : length y0 ≡ thread_limit)
+    (none : table None y0 ≡ (λ _. None)) (long0 : length y0 ≡ thread_limit) (k0 : KeptWaits) (no_wait : waits_of k0 ≡ no_waits top)
     (a0 : AttrsOf) (no_objects : object_of a0 ≡ (λ _. None)) (no_number : a0.objects.made ≡ 0) (same_top : a0.top ≡ top)
     (e0 : RingsOf) (none_there : events_of e0 ≡ no_events) (c0 : List Condition) (no_condition : conditions_of c0 ≡ no_conditions) (b0 : List (Option Barrier)) (no_barrier : barriers_of b0 ≡ no_barriers) (kernel : KernelOf)
     (T0 : Tables) (no_key : T0 ≡ no_keys) (S0 : Stacks) (no_cleanup : S0 ≡ no_cleanups) (M0 : MutexTable) (no_mutex : M0 ≡ no_mutexes) (L0 : LockTables) (no_lock : L0 ≡ no_locks)
     (R0 : PortsOf) (no_name : names_of R0 ≡ no_names) (no_message : mail_of R0 ≡ no_mail) where
   abbrev x0 : ThreadsBySlot S
-  x0 = record { records = t0; queues = record (no_queues top) { room = thread_limit }; progress = y0 }
+  x0 = record { records = t0; queues = record (no_queues top) { room = thread_limit }; waits = k0; progress = y0 }
 
   abbrev w0 : WorldOf P S H
   w0 = record { program = program; shared = (f program).shared; threads = x0; attributes = a0; events = e0; conditions = c0; barriers = b0; kernel = kernel; store = stored_by t0 T0 S0 M0 L0 R0; used = replicate 64 false; scheduler = record { running = None; preferred = None; favour_new = true } }
@@ -114,13 +120,20 @@ module _ {P S H : Type 0} (f : P → Functions S H) (program : P) (top : ℕ) (r
   none_used_at : (i : ℕ) → table false (replicate 64 false) i ≡ false
   none_used_at i = elim (cases_lt i 64) [ inl low ↦ get_or-replicate 64 i false false low | inr high ↦ get_or_past (replicate 64 false) i false (omega (arith, length-replicate 64 false)) ]
 
+  none_wait : CountsWaits top x0 s0.threads
+  unfolding start
+  none_wait = record {
+    top = sym (ap (λ (x : WaitsOf). x.top) no_wait);
+    counts = subst (λ (x : WaitsOf). Counts (slot_of t0) x [] [] 0) (sym no_wait) (counts_start (slot_of t0) top);
+  }
+
   -- no threads, before main is made
   pub before_shows : Shows w0 s0
   unfolding seen start
   before_shows = record {
     program = refl;
     shared = refl;
-    threads = record { made = sym none_made; known = rw slots refl; progress = rw slots refl; standing = none_stand; top = refl };
+    threads = record { made = sym none_made; known = rw slots refl; progress = rw slots refl; standing = none_stand; top = refl; waits = λ h. none_wait };
     attributes = record { made = sym no_number; objects = sym no_objects };
     events = sym none_there;
     conditions = sym no_condition;
@@ -162,6 +175,25 @@ first_prio = record { low = grind (arith, ints); high = grind (arith, ints) }
 
 pub first_cancel : IsCancel first_thread.cancel
 first_cancel = record { low = omega arith; high = omega arith }
+
+-- main alone is ready, and there was no dispatch: the number of its entry tells nothing
+abbrev main_as : ℕ → Standing
+main_as entry = record { tid = 1; rank = pos 0; since = 0; entry = entry; top = false }
+
+one_counts : (slot : ℕ → Option ℕ) (x : WaitsOf) → Counts slot x [] (main_as 1 ∷ []) 2 → Counts slot x [] (main_as 0 ∷ []) 1
+unfolding points waited
+one_counts slot x c = record {
+  numbered = record { counted = All-cons (λ y. y.entry < 1) (main_as 0) [] (omega arith) (All-nil (λ y. y.entry < 1)); falling = λ i j d less low. absurd (omega (arith, less, low)) };
+  once = c.once;
+  past = λ e later. All-nil (λ p. has_entry e p.ready ≡ false);
+  dispatches = c.dispatches;
+  pending = c.pending;
+  counted = All-cons (IsCounted slot x []) (main_as 0) [] (main_counted (All-head (IsCounted slot x []) (main_as 1) [] c.counted)) (All-nil (IsCounted slot x []));
+  few = c.few;
+}
+  where
+    main_counted : IsCounted slot x [] (main_as 1) → IsCounted slot x [] (main_as 0)
+    main_counted n = record { at = n.at; has_slot = n.has_slot; since = n.since; others = n.others; lasts = λ some. absurd (omega (arith, some)); first = n.first; favoured = n.favoured; later = λ far. absurd (omega (arith, far)) }
 
 at_slot : (A B : ℕ → Type 0) (o : Option ℕ) → ((u : ℕ) → A u → B u) → IfSome o A → IfSome o B
 at_slot A B (Some u) f h = f u h
@@ -215,6 +247,11 @@ module _ {P S H : Type 0} (f : P → Functions S H) (g : Given P) where
   queue_is queue.Suspended = refl
   queue_is queue.Dead = refl
 
+  -- main has one entry less
+  starts_counted : (w : WorldOf P S H) → ShowsThreads with_ready_main.top w.threads with_ready_main.threads → IsHistory begin.threads.trail → CountsWaits begin.top w.threads begin.threads
+  unfolding start is_ready_at enters leaves_queue sets makes
+  starts_counted w sh h = let c = sh.waits h in record { top = c.top; counts = one_counts _ _ c.counts }
+
   -- then the world stands for the state from which a run starts
   pub start_stands : (w : WorldOf P S H) → Shows w with_ready_main → store_of w.store ≡ no_resources.store → StandsFor w (start f g)
   unfolding start is_ready_at enters leaves_queue sets makes
@@ -222,7 +259,7 @@ module _ {P S H : Type 0} (f : P → Functions S H) (g : Given P) where
     control = record {
       program = sh.program;
       shared = sh.shared;
-      threads = record { made = sh.threads.made; known = known_is ∙ sh.threads.known; progress = sh.threads.progress; standing = λ q. queue_is q ∙ sh.threads.standing q; top = sh.threads.top };
+      threads = record { made = sh.threads.made; known = known_is ∙ sh.threads.known; progress = sh.threads.progress; standing = λ q. queue_is q ∙ sh.threads.standing q; top = sh.threads.top; waits = λ h. starts_counted w sh.threads h };
       attributes = sh.attributes;
       events = sh.events;
       conditions = sh.conditions;

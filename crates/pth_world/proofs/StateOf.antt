@@ -1,8 +1,9 @@
 -- Every sound world shows a state.
-use Rattle.std.proofs.Common.{◌≡◌, ◌∙◌, ℕ, ℤ, ◌≤ℤ◌, int_lt, true, false, Bool, if◌then◌else◌, List, [], ◌∷◌, ◌++◌, map, reverse, AllPairs, All, refl, ap, subst, arith}
+use Rattle.std.proofs.Common.{◌≡◌, ◌∙◌, ℕ, ℤ, ◌≤ℤ◌, int_lt, true, false, Bool, if◌then◌else◌, List, [], ◌∷◌, ◌++◌, map, reverse, AllPairs, All, is_some, refl, ap, subst, arith}
 use Rattle.pth_world.specs.Leading.{AllAwaitRightly}
 use Rattle.std.proofs.lemmas.Int.{ints}
 use Rattle.std.proofs.lemmas.List.{append_assoc, append-nil, map-append, reverse-append}
+use Rattle.pth_model.specs.Allowance.{standing_of}
 use Rattle.std.proofs.lemmas.List.Elements.{All-append, All-cons, All-head, All-nil, All-tail, All-weaker}
 use Rattle.pth_queue.specs.Ranking.{named_row}
 use Rattle.pth_queue.specs.Queues.{rows_of}
@@ -78,6 +79,9 @@ module _ (name : ℕ → ℕ) where
   unfolding shown
   shows_rows q rows falls = rw (none_raised q, renamed rows, all_stand rows falls) (same_rows rows)
 
+no_history : {A : Type 0} → false ≡ true → A
+no_history e = absurd (cc e)
+
 pub stands_for_state : {P S H : Type 0} (w : WorldOf P S H) → IsSound w.threads → StandsFor w (state_of w)
 unfolding state_of
 stands_for_state w sound = record {
@@ -90,6 +94,7 @@ stands_for_state w sound = record {
       progress = refl;
       standing = λ q. shows_rows (tid_at w.threads.records) q (rows_of q w.threads.queues) (sound.orderly.each q).falling;
       top = refl;
+      waits = λ h. no_history (All-head (λ p. is_some (standing_of p.taken p.ready) ≡ true) _ [] h.taken);
     };
     attributes = record { made = refl; objects = refl };
     events = refl;

@@ -40,6 +40,7 @@ use Rattle.pth_world.specs.Whole.{view, FitsEntry, Whole, IsIn, place_for}
 use Rattle.pth_world.specs.Vanishing.{ReadsAlone, ShowsRest, Vanishing}
 use Rattle.pth_world.proofs.Slots.{name_is, used, some_is}
 use Rattle.pth_world.proofs.Places.{queue-nowhere}
+use Rattle.pth_world.proofs.Waits.{none_waits}
 use Rattle.pth_world.proofs.Showing.{not_here, not_known, no_progress}
 use Rattle.pth_world.proofs.Moves.{known_slot, is_in, runner_runs, gone_whole}
 use Rattle.pth_world.proofs.Ranks.{ranks_left, ranks_none, ranks_then}
@@ -290,6 +291,7 @@ module _ {P S H : Type 0} (w : WorldOf P S H) (t : ℕ) (whole : Whole w) (is : 
       progress = only-alone t k.threads.progress (λ i apart. sym (no_progress w.threads k i (nobody i apart) sh.threads)) ∙ sh.threads.progress;
       standing = λ q. sym (ap (map (named_row (tid_at w.threads.records))) (none q));
       top = sh.threads.top;
+      waits = none_waits w.threads k whole.sound sh.threads (none queue.Ready) (only_at t k.threads.known) (only_at t k.threads.progress);
     };
     attributes = sh.attributes;
     events = ap all_unclaimed sh.events ∙ sym unclaimed;

@@ -14,6 +14,7 @@ use Rattle.pth_threads.specs.declared.entry.Entry.{Entry}
 use Rattle.pth_model.specs.declared.progress.Progress.{Progress}
 use Rattle.pth_model.specs.declared.blocked.Blocked.{Blocked}
 use Rattle.pth_model.specs.Changes.{blocked_in, owing, blocking}
+use Rattle.pth_tables.specs.Waits.{KeptWaits}
 use Rattle.pth_world.specs.World.{ThreadsBySlot}
 use Rattle.pth_world.specs.Sound.{IsSound}
 use Rattle.pth_world.specs.Whole.{View, view}
@@ -62,23 +63,23 @@ module _ {S : Type 0} (w : ThreadsBySlot S) (sound : IsSound w) (t u : ℕ) (e :
       let a = progress_touches y (Some d) same_view is (ap (λ (h : Option Blocked). record (view w u) { blocked = h }) (same ∙ ap blocked_in (sym had))) in
       record { own = a.own; others = a.others; top = a.top }
 
-  pub enter_touches : (y : QueuesOf) (q : Queue) (rank : ℤ) → IsNowhere u w.queues → y ≡ entered q rank u w.queues → Touches w (record w { queues = y }) t (view_placed (Some q))
-  enter_touches y q rank none is = record {
-    own = at_slot (λ v. view (record w { queues = y }) v ≡ view_placed (Some q) (view w v)) (view_by _ _ _ (view_placed (Some q) (view w u)) refl (ap (queue_of u) is ∙ queue-entered u rank w.queues q none) refl);
+  pub enter_touches : (y : QueuesOf) (n : KeptWaits) (q : Queue) (rank : ℤ) → IsNowhere u w.queues → y ≡ entered q rank u w.queues → Touches w (record w { queues = y; waits = n }) t (view_placed (Some q))
+  enter_touches y n q rank none is = record {
+    own = at_slot (λ v. view (record w { queues = y; waits = n }) v ≡ view_placed (Some q) (view w v)) (view_by _ _ _ (view_placed (Some q) (view w u)) refl (ap (queue_of u) is ∙ queue-entered u rank w.queues q none) refl);
     others = λ v apart. view_by _ _ _ (view w v) refl (ap (queue_of v) is ∙ queue-entered_other u rank w.queues v q (other_slot w t u sound e v apart)) refl;
     top = ap (λ (x : QueuesOf). x.top) is ∙ top-with q _ w.queues;
   }
 
-  pub leave_touches : (y : QueuesOf) → y ≡ without u w.queues → Touches w (record w { queues = y }) t (view_placed None)
-  leave_touches y is = record {
-    own = at_slot (λ v. view (record w { queues = y }) v ≡ view_placed None (view w v)) (view_by _ _ _ (view_placed None (view w u)) refl (ap (queue_of u) is ∙ queue-without u w.queues) refl);
+  pub leave_touches : (y : QueuesOf) (n : KeptWaits) → y ≡ without u w.queues → Touches w (record w { queues = y; waits = n }) t (view_placed None)
+  leave_touches y n is = record {
+    own = at_slot (λ v. view (record w { queues = y; waits = n }) v ≡ view_placed None (view w v)) (view_by _ _ _ (view_placed None (view w u)) refl (ap (queue_of u) is ∙ queue-without u w.queues) refl);
     others = λ v apart. view_by _ _ _ (view w v) refl (ap (queue_of v) is ∙ queue-without_other u v w.queues (other_slot w t u sound e v apart)) refl;
     top = ap (λ (x : QueuesOf). x.top) is;
   }
 
 -- a raise moves nobody
-pub raise_views : {S : Type 0} (w : ThreadsBySlot S) (y : QueuesOf) → y ≡ with_rows queue.Ready (increase w.queues.ready) w.queues → (u : ℕ) → view (record w { queues = y }) u ≡ view w u
-raise_views w y is u = ap (λ (q : Option Queue). record (view w u) { place = q }) (ap (queue_of u) is ∙ queue-raised u w.queues)
+pub raise_views : {S : Type 0} (w : ThreadsBySlot S) (y : QueuesOf) (n : KeptWaits) → y ≡ with_rows queue.Ready (increase w.queues.ready) w.queues → (u : ℕ) → view (record w { queues = y; waits = n }) u ≡ view w u
+raise_views w y n is u = ap (λ (q : Option Queue). record (view w u) { place = q }) (ap (queue_of u) is ∙ queue-raised u w.queues)
 
 -- a thread that is gone leaves the others as they were
 pub drop_views : {S : Type 0} (w : ThreadsBySlot S) (x : ThreadsOf) (y : List (Option (Progress S))) (u : ℕ) → RemovesThread w.records x u → table None y ≡ put (table None w.progress) u None → (i : ℕ) → i ≢ u → view (record w { records = x; progress = y }) i ≡ view w i

@@ -22,6 +22,7 @@ use Rattle.pth_model.specs.State.{Control}
 use Rattle.pth_model.specs.Changes.{goes_on, enters, makes, owing, owed_in, blocked_in}
 use Rattle.pth_model.specs.ThreadControl.{spawns}
 use Rattle.pth_model.specs.Part.{step_of, stepping}
+use Rattle.pth_tables.specs.Waits.{KeptWaits, waits_of}
 use Rattle.pth_world.specs.World.{WorldOf, ThreadsBySlot, entry_in}
 use Rattle.pth_world.specs.Shows.{Shows, ShowsThreads}
 use Rattle.pth_world.specs.Sound.{IsSound, IsKnown, IsPrio, IsCancel, lives}
@@ -137,7 +138,7 @@ module _ {P S H : Type 0} (w v : WorldOf P S H) (t u : ℕ) (sound : IsSound w.t
   next_but = but_kept w v t same_view next_touches (record { slots = ap (λ (z : ThreadsBySlot S). slot_of z.records) threads_are; tids = ap (λ (z : ThreadsBySlot S). tid_at z.records) threads_are; made = ap (λ (z : ThreadsBySlot S). z.records.made) threads_are }) (ap (λ (z : WorldOf P S H). z.scheduler.running) same) (ap (λ (z : WorldOf P S H). z.store) same) (ap (λ (z : WorldOf P S H). z.attributes) same) next_sound
 
 -- a new thread
-module _ {P S H : Type 0} (w : WorldOf P S H) (whole : Whole w) (x : ThreadsOf) (y : List (Option (Progress S))) (z : QueuesOf) (u : ℕ) (of : NewThread) (prio : IsPrio of.prio) (cancel : IsCancel of.cancel) (c : Progress S) (bare : c.blocked ≡ None) (adds : AddsThread w.threads.records x u (made_of of (w.threads.records.made + 1))) (has : table None y ≡ put (table None w.threads.progress) u (Some c)) (long : length y ≡ thread_limit) (placed : z ≡ entered queue.New of.prio u w.threads.queues) where
+module _ {P S H : Type 0} (w : WorldOf P S H) (whole : Whole w) (x : ThreadsOf) (y : List (Option (Progress S))) (z : QueuesOf) (n : KeptWaits) (u : ℕ) (of : NewThread) (prio : IsPrio of.prio) (cancel : IsCancel of.cancel) (c : Progress S) (bare : c.blocked ≡ None) (adds : AddsThread w.threads.records x u (made_of of (w.threads.records.made + 1))) (has : table None y ≡ put (table None w.threads.progress) u (Some c)) (long : length y ≡ thread_limit) (placed : z ≡ entered queue.New of.prio u w.threads.queues) (waits : waits_of n ≡ waits_of w.threads.waits) where
   abbrev t : ℕ
   t = w.threads.records.made + 1
 
@@ -155,7 +156,7 @@ module _ {P S H : Type 0} (w : WorldOf P S H) (whole : Whole w) (x : ThreadsOf) 
   spawn_nowhere = unused-nowhere (tid_at w.threads.records) u w.threads.queues whole.sound.queued adds.unused
 
   abbrev all : WorldOf P S H
-  all = record w { threads = record w.threads { records = x; progress = y; queues = z } }
+  all = record w { threads = record w.threads { records = x; progress = y; queues = z; waits = n } }
 
   pub spawn_shows : (h : P → Functions S H) (body : ℕ) (arg : ℤ) (k : Control P S H) → c ≡ record { state = (h w.program).start body arg; owed = answer.None; blocked = None } → Shows w k → Shows all (spawns h body arg of k)
   unfolding makes enters
@@ -163,10 +164,10 @@ module _ {P S H : Type 0} (w : WorldOf P S H) (whole : Whole w) (x : ThreadsOf) 
       let begins : (h w.program).start body arg ≡ (h k.program).start body arg = ap (λ (q : P). (h q).start body arg) (sym sh.program) in
       let has_first : table None y ≡ put (table None w.threads.progress) u (Some (record { state = (h k.program).start body arg; owed = answer.None; blocked = None })) = has ∙ ap (λ (q : Progress S). put (table None w.threads.progress) u (Some q)) is ∙ ap (λ (s : S). put (table None w.threads.progress) u (Some (record { state = s; owed = answer.None; blocked = None }))) begins in
       let added = add_shows w.threads k x y u of whole.sound adds h body arg has_first sh.threads in
-      of_threads w all.threads k _ sh (subst (λ (n : ℕ). ShowsThreads k.top all.threads (enters (n + 1) queue.New of.prio false (makes h body arg of k)).threads) (sym sh.threads.made) (enter_shows v.threads (makes h body arg of k) t u sound slot added z queue.New of.prio false placed))
+      of_threads w all.threads k _ sh (subst (λ (n : ℕ). ShowsThreads k.top all.threads (enters (n + 1) queue.New of.prio false (makes h body arg of k)).threads) (sym sh.threads.made) (enter_shows v.threads (makes h body arg of k) t u sound slot added z n queue.New of.prio false spawn_nowhere placed waits))
 
   all_sound : IsSound all.threads
-  all_sound = enter_sound v.threads sound t u slot z queue.New of.prio spawn_nowhere (prio_rank of.prio prio) placed
+  all_sound = enter_sound v.threads sound t u slot z n queue.New of.prio spawn_nowhere (prio_rank of.prio prio) placed
 
   view_by : (a : Option Entry) (b : Option Queue) (d : Option Blocked) (k : View) → a ≡ k.entry → b ≡ k.place → d ≡ k.blocked → record { entry = a; place = b; blocked = d } ≡ k
   view_by a b d k p q r = rw (p, q, r) refl

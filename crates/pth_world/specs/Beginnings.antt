@@ -8,16 +8,21 @@ use Rattle.pth_lock.specs.RwLocks.{LockTables, no_locks}
 use Rattle.pth_model.specs.Resources.{no_resources}
 use Rattle.pth_model.specs.State.{Given}
 use Rattle.pth_model.specs.declared.progress.Progress.{Progress}
-use Rattle.pth_queue.specs.Queues.{QueuesOf, no_queues}
+use Rattle.pth_queue.specs.Queues.{no_queues}
+use Rattle.pth_tables.specs.CountedOf.{CountedOf, KeptQueues, counted, nothing_counted}
 use Rattle.pth_threads.specs.Threads.{count}
 use Rattle.pth_world.specs.Shows.{Shows}
 use Rattle.pth_world.specs.Store.{store_of}
 use Rattle.pth_world.specs.Whole.{Whole}
 use Rattle.pth_world.specs.World.{WorldOf, before_main}
 
+-- queues with nobody, in which as many threads may stand as there may be
+abbrev pub reserved_for : ℕ → CountedOf
+reserved_for top = record (nothing_counted top) { queues = record (no_queues top) { room = thread_limit } }
+
 -- parts that keep nothing yet, with room for as many threads as there may be
-pub record AreEmpty {S : Type 0} (top : ℕ) (q : QueuesOf) (y : List (Option (Progress S))) (m : MutexTable) (l : LockTables) : Type 0 where
-  pub queues : q ≡ record (no_queues top) { room = thread_limit }
+pub record AreEmpty {S : Type 0} (top : ℕ) (q : KeptQueues) (y : List (Option (Progress S))) (m : MutexTable) (l : LockTables) : Type 0 where
+  pub queues : counted q ≡ reserved_for top
   pub none : table None y ≡ (λ _. None)
   pub long : length y ≡ thread_limit
   pub mutexes : m ≡ no_mutexes

@@ -1,5 +1,5 @@
 -- A state that a world shows.
-use Rattle.std.specs.Prelude.{List, None, map, reverse, false}
+use Rattle.std.specs.Prelude.{List, [], ◌∷◌, None, map, reverse, false}
 use Rattle.pth_model.specs.Changes.{blocked_in}
 use Rattle.pth_model.specs.Awaits.{is_awaiting}
 use Rattle.pth_base.specs.Naming.{seen}
@@ -15,6 +15,7 @@ use Rattle.pth_cond.specs.Barriers.{barriers_of}
 use Rattle.pth_kernel.specs.Kernel.{kernel_of}
 use Rattle.pth_model.specs.Resources.{no_resources}
 use Rattle.pth_model.specs.Standing.{Standing}
+use Rattle.pth_model.specs.Allowance.{Point}
 use Rattle.pth_model.specs.State.{State}
 use Rattle.pth_world.specs.Store.{store_of}
 use Rattle.pth_world.specs.World.{WorldOf}
@@ -26,6 +27,10 @@ standing_at r = record { tid = r.holder; rank = r.rank; since = 0; entry = 0; to
 -- those who entered in the order of these rows, the latest first
 abbrev pub entered_as : List Ranked → List Standing
 entered_as rows = reverse (map standing_at rows)
+
+-- a trail of no run: nobody was ready, and nobody was taken
+abbrev pub no_trail : List Point
+no_trail = record { ready = []; taken = 0; by_name = false } ∷ []
 
 -- the state in which no queue was raised, and those who stand in each entered in its order; whom a call blocks that awaits a
 -- condition awaits one
@@ -45,6 +50,7 @@ state_of w = record {
       standing = λ q. entered_as (map (named_row (tid_at w.threads.records)) (rows_of q w.threads.queues));
       entries = 0;
       raises = 0;
+      trail = no_trail;
     };
     attributes = record { made = w.attributes.objects.made; objects = object_of w.attributes };
     events = events_of w.events;

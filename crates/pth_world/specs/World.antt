@@ -6,6 +6,7 @@ use Rattle.pth_threads.specs.Attributes.{AttrsOf}
 use Rattle.pth_threads.specs.Threads.{ThreadsOf, slot_of, entry_at}
 use Rattle.pth_threads.specs.declared.entry.Entry.{Entry}
 use Rattle.pth_queue.specs.Queues.{QueuesOf}
+use Rattle.pth_tables.specs.Waits.{KeptWaits}
 use Rattle.pth_ring.specs.Arena.{RingsOf}
 use Rattle.pth_cond.specs.Conditions.{Condition}
 use Rattle.pth_cond.specs.Barriers.{Barrier}
@@ -14,10 +15,12 @@ use Rattle.pth_model.specs.declared.progress.Progress.{Progress}
 use Rattle.pth_model.specs.State.{Control, Scheduler, Given, start}
 use Rattle.pth_world.specs.Store.{StoreOf}
 
--- the threads by slot: their records, where they stand, and how far each is in its program
+-- the threads by slot: their records, where they stand, how long they wait, and how far each is in its program
 pub record ThreadsBySlot (S : Type 0) : Type 0 where
   pub records : ThreadsOf
   pub queues : QueuesOf
+  -- how long the ready threads wait
+  pub waits : KeptWaits
   pub progress : List (Option (Progress S))
 
 -- the record of a thread, none where it is not in the system
@@ -41,4 +44,4 @@ pub record WorldOf (P S H : Type 0) : Type 0 where
 
 -- from what a run starts, before the main thread is made
 abbrev pub before_main : {P S H : Type 0} → (P → Functions S H) → Given P → Control P S H
-before_main f g = let k = (start f g).control in record k { threads = record { made = 0; known = λ t. None; progress = λ t. None; standing = λ q. []; entries = 0; raises = 0 } }
+before_main f g = let k = (start f g).control in record k { threads = record { made = 0; known = λ t. None; progress = λ t. None; standing = λ q. []; entries = 0; raises = 0; trail = [] } }

@@ -31,6 +31,7 @@ mod records;
 mod slots;
 mod store;
 mod vanishing;
+mod waits;
 
 use pth_base::ids::{Slot, Tid};
 use pth_base::program::Program;
@@ -121,7 +122,7 @@ impl<P: Program> Model for World<P> {
     ghost view = { λ w. record {
       program = w.program;
       shared = w.shared;
-      threads = record { records = w.threads; queues = w.queues; progress = w.progress };
+      threads = record { records = w.threads; queues = w.queues.queues; waits = w.queues.waits; progress = w.progress };
       attributes = w.attributes;
       events = w.events;
       conditions = w.conditions;
@@ -156,6 +157,14 @@ impl<P: Program> World<P> {
         self.queues.queues()
     }
 
+    // The queues, with what is kept for waits.
+    #[inline(always)]
+    fn counted(&self) -> &CountedQueues
+        ensures { result.now ≡ record { queues = self.now.threads.queues; waits = self.now.threads.waits } }
+    {
+        &self.queues
+    }
+
     #[inline(always)]
     fn progress(&self) -> &ProgressTable<P::State>
         ensures { result.now ≡ self.now.threads.progress }
@@ -165,8 +174,8 @@ impl<P: Program> World<P> {
 
     #[inline(always)]
     fn queues_mut(&mut self) -> &mut CountedQueues
-        ensures* writes_back { sem 𝓛 (Lends (the_row P.row P.State.row P.Shared.row P.Program) queues_row self.entry result (λ x. record self.old { threads = record self.old.threads { queues = x } })) }
-        ensures value { result.now ≡ self.old.threads.queues }
+        ensures* writes_back { sem 𝓛 (Lends (the_row P.row P.State.row P.Shared.row P.Program) queues_row self.entry result (λ x. record self.old { threads = record self.old.threads { queues = x.queues; waits = x.waits } })) }
+        ensures value { result.now ≡ record { queues = self.old.threads.queues; waits = self.old.threads.waits } }
     {
         &mut self.queues
     }

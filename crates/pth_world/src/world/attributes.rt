@@ -33,7 +33,8 @@ impl<P: Program> World<P> {
 
     /// The attribute objects, for changes that touch no thread.
     pub fn attrs_mut(&mut self) -> &mut Attrs
-        ensures* writes_back { sem 𝓛 (Lends (the_row P.row P.State.row P.Shared.row P.Program) attrs_row self.entry result (λ x. record self.old { attributes = x })) }
+        ensures* writes_back { sem 𝓛 (Lends (the_row P.row P.State.row P.Shared.row P.Program) attrs_row self.entry result
+            (λ x. record self.old { attributes = x })) }
         ensures value { result.now ≡ self.old.attributes }
     {
         &mut self.attributes
@@ -43,7 +44,8 @@ impl<P: Program> World<P> {
     /// 4096 objects.
     pub fn attr_of(&mut self, t: Tid) -> Result<AttrId, Refusal>
         requires { self.old.attributes.objects.made < 4294967295 }
-        ensures answer { Answers (of_answer (entry_in self.old.threads t.0) (object_of self.old.attributes) self.old.attributes.objects.made) result }
+        ensures answer { Answers (of_answer (entry_in self.old.threads t.0) (object_of self.old.attributes)
+            self.old.attributes.objects.made) result }
         ensures makes { OnOk result (MakesObject self.old.attributes self.new.attributes (Bound t)) }
         ensures refused { OnErr result (self.new ≡ self.old) }
         ensures same { self.new ≡ record self.old { attributes = self.new.attributes } }
@@ -56,8 +58,10 @@ impl<P: Program> World<P> {
     /// from the thread's next entry into a queue.
     pub fn attr_set(&mut self, a: i64, v: &AttrValue) -> Result<(), Errno>
         requires { Whole self.old }
-        ensures answer { result ≡ set_answer self.old.attributes.top (entry_in self.old.threads) (named (object_of self.old.attributes) a) v.now }
-        ensures shows { OnOk result ((k : Control P P.State P.Shared) → Shows self.old k → Shows self.new (sets_value a v.now (object k a) k)) }
+        ensures answer { result
+            ≡ set_answer self.old.attributes.top (entry_in self.old.threads) (named (object_of self.old.attributes) a) v.now }
+        ensures shows { OnOk result ((k : Control P P.State P.Shared) → Shows self.old k
+            → Shows self.new (sets_value a v.now (object k a) k)) }
         ensures frame { OnOk result (Frame self.old self.new no_numbers self.old.scheduler.running false) }
         ensures store { OnOk result (self.new.store ≡ self.old.store) }
         ensures refused { OnErr result (self.new ≡ self.old) }

@@ -1,9 +1,10 @@
 //! The moves of a thread between its states, each with its queue.
 
-ghost use Rattle.std.specs.Prelude.{◌≡◌, ◌≢◌, ◌+◌, ℕ, ℤ, pos, ◌≤ℤ◌, Bool, Option, Some, None, IfSome, min, true, false};
-ghost use Rattle.pth_base.specs.Limits.{last_count};
+ghost use Rattle.std.specs.Prelude.{◌≡◌, ◌≢◌, ◌≤◌, ◌+◌, length, ℕ, ℤ, pos, ◌≤ℤ◌, Option, Some, None, IfSome, min, true, false};
+ghost use Rattle.pth_base.specs.Limits.{last_count, most_steps};
 ghost use Rattle.pth_base.specs.declared.thread.ThreadState.TheVariants as state;
-ghost use Rattle.pth_queue.specs.Queues.{IsRank, entered, without};
+ghost use Rattle.pth_tables.specs.CountedOf.{IsEntryRank};
+ghost use Rattle.pth_queue.specs.Queues.{entered, without};
 ghost use Rattle.pth_queue.specs.declared.queue.Queue.TheVariants as queue;
 ghost use Rattle.pth_threads.specs.Threads.{slot_of};
 ghost use Rattle.pth_threads.specs.declared.entry.Change.TheVariants as change;
@@ -13,9 +14,10 @@ ghost use Rattle.pth_model.specs.ThreadControl.{suspends, resumes};
 ghost use Rattle.pth_model.specs.Ending.{is_dead_with, leaves, other_than, stops_running};
 ghost use Rattle.pth_model.specs.Pass.{is_ready_at};
 ghost use Rattle.pth_model.specs.Part.{is_put_back, is_put_waiting, runs};
+ghost use Rattle.pth_model.specs.Allowance.{AreTakenReady};
 ghost use Rattle.pth_world.specs.Keeps.{MovesThreads};
 ghost use Rattle.pth_world.specs.Ranks.{greatest_return, KeepsRanks, more_new};
-ghost use Rattle.pth_world.specs.Shows.{Shows};
+ghost use Rattle.pth_world.specs.Shows.{Shows, IsTurnOf};
 ghost use Rattle.pth_world.specs.Store.{store_of, HasNothing};
 ghost use Rattle.pth_world.specs.Sound.{IsSound, IsPrio, IsKnown};
 ghost use Rattle.pth_world.specs.Whole.{Whole, IsIn, IsBeforeReady, CanSuspend, MayStandIn, WaitsToRun};
@@ -28,16 +30,17 @@ use pth_base::limits::LAST_COUNT;
 use pth_base::program::Program;
 use pth_base::thread::ThreadState;
 use pth_queue::queue::Queue;
+use pth_tables::waits::Turn;
 use pth_threads::entry::Change;
 
 impl<P: Program> World<P> {
-    /// A thread that is new or waits is ready, at a rank.
-    pub fn make_ready(&mut self, t: Tid, rank: i64)
+    /// A thread that is new or waits is ready, at a rank. `top` says that it is a new thread that is favoured.
+    pub fn make_ready(&mut self, t: Tid, rank: i64, top: bool)
         requires whole { Whole self.old }
         requires known { IsKnown self.old.threads t.0 }
         requires before { IsBeforeReady self.old.threads t.0 }
-        requires rank { IsRank rank }
-        ensures shows { (k : Control P P.State P.Shared) (top : Bool) → Shows self.old k → Shows self.new (is_ready_at t.0 rank top k) }
+        requires rank { IsEntryRank rank }
+        ensures shows { (k : Control P P.State P.Shared) → Shows self.old k → Shows self.new (is_ready_at t.0 rank top k) }
         ensures whole { Whole self.new }
         ensures threads { SameThreads self.old.threads self.new.threads }
         ensures scheduler { KeepsRest self.old self.new }
@@ -46,16 +49,19 @@ impl<P: Program> World<P> {
         ensures stays { (u : ℕ) → WaitsToRun self.old.threads u → WaitsToRun self.new.threads u }
     {
         self.take_out(t);
-        self.put_ready(t, rank);
+        self.put_ready(t, rank, top);
     }
 
-    /// A ready thread is dispatched: it runs, its dispatches are one more, and nobody is named any longer.
-    pub fn dispatch(&mut self, t: Tid)
+    /// A ready thread is dispatched: it runs, its dispatches are one more, and nobody is named any longer. The answer says how often
+    /// another was dispatched in its place since it was ready, and how often at most (in dispatches).
+    pub fn dispatch(&mut self, t: Tid) -> Turn
         requires whole { Whole self.old }
         requires known { IsKnown self.old.threads t.0 }
         requires stands { IsIn queue.Ready self.old.threads t.0 }
         requires nobody { self.old.scheduler.running ≡ None }
         ensures shows { (k : Control P P.State P.Shared) → Shows self.old k → Shows self.new (runs t.0 k) }
+        ensures numbers { (k : Control P P.State P.Shared) → Shows self.old k
+            → AreTakenReady k.threads.trail → length k.threads.trail ≤ most_steps → IsTurnOf k t.0 result }
         ensures whole { Whole self.new }
         ensures threads { SameThreads self.old.threads self.new.threads }
         ensures queues { IfSome (slot_of self.old.threads.records t.0) (λ u. self.new.threads.queues ≡ without u self.old.threads.queues) }
@@ -63,12 +69,13 @@ impl<P: Program> World<P> {
         ensures same { self.new ≡ record self.old { threads = self.new.threads; scheduler = record self.old.scheduler { running = Some t.0; preferred = None } } }
     {
         let slot = self.slot(t);
-        self.take_from(t, slot);
+        let turn = self.take_ready(t, slot);
         let dispatches = self.record_of(t, slot).dispatches;
         self.change_of(t, slot, Change::State(ThreadState::Running));
         self.change_of(t, slot, Change::Dispatches(one_more(dispatches)));
         self.set_running(Some(t));
         self.name_next(None);
+        turn
     }
 
     /// The thread that runs is ready again, at its base priority.
@@ -86,7 +93,7 @@ impl<P: Program> World<P> {
         let slot = self.slot(t);
         let prio = self.prio(t, slot);
         self.set_running(None);
-        self.put_ready_at(t, slot, prio);
+        self.put_ready_at(t, slot, prio, false);
     }
 
     /// The thread that runs waits, at its base priority.
@@ -115,7 +122,7 @@ impl<P: Program> World<P> {
     {
         self.take_out(t);
         self.change(t, Change::Suspended(suspended));
-        self.put_in(t, q, 0);
+        self.put_in(t, q, 0, false);
     }
 
     /// A thread that is new, ready or waits stands among the suspended ones, at rank 0, and keeps its state (`pth_suspend`).
@@ -183,7 +190,7 @@ impl<P: Program> World<P> {
         self.change(t, Change::State(ThreadState::Dead));
         self.change(t, Change::Suspended(false));
         self.change(t, Change::Value(value));
-        self.put_in(t, Queue::Dead, 0);
+        self.put_in(t, Queue::Dead, 0, false);
         self.stop_running(t);
     }
 

@@ -1,55 +1,61 @@
 //! The queues in which threads stand.
 
-ghost use Rattle.std.specs.Prelude.{◌≡◌, ◌≢◌, ◌<◌, ℕ, Bool, Option, Some, None, IfSome};
-ghost use Rattle.pth_queue.specs.Queues.{IsNowhere, IsRank, CanRise, entered, without, with_rows};
+ghost use Rattle.std.specs.Prelude.{◌≡◌, ◌≢◌, ◌<◌, ◌≤◌, length, ℕ, Option, Some, None, IfSome};
+ghost use Rattle.pth_tables.specs.CountedOf.{IsEntryRank};
+ghost use Rattle.pth_queue.specs.Queues.{IsNowhere, CanRise, entered, without, with_rows};
 ghost use Rattle.pth_queue.specs.Ranking.{increase};
 ghost use Rattle.pth_queue.specs.declared.queue.Queue.TheVariants as queue;
 ghost use Rattle.pth_threads.specs.Threads.{slot_of};
 ghost use Rattle.pth_model.specs.State.{Control};
-ghost use Rattle.pth_model.specs.Changes.{enters, leaves_queue, raises_ready};
-ghost use Rattle.pth_world.specs.Shows.{Shows};
+ghost use Rattle.pth_model.specs.Changes.{enters, leaves_queue, raises_ready, trails};
+ghost use Rattle.pth_model.specs.Part.{trail_with};
+ghost use Rattle.pth_model.specs.Allowance.{AreTakenReady};
+ghost use Rattle.pth_base.specs.Limits.{most_steps};
+ghost use Rattle.pth_world.specs.Shows.{Shows, IsTurnOf};
 ghost use Rattle.pth_world.specs.Sound.{IsSound, IsKnown};
-ghost use Rattle.pth_world.specs.Whole.{Whole, WholeBut, WaitsToRun, view};
+ghost use Rattle.pth_world.specs.Whole.{Whole, WholeBut, IsIn, WaitsToRun, view};
 ghost use Rattle.pth_world.specs.Touches.{Touches, view_placed};
 
 use crate::world::World;
 use pth_base::ids::{Slot, Tid};
 use pth_base::program::Program;
 use pth_queue::queue::Queue;
+use pth_tables::waits::Turn;
 
 impl<P: Program> World<P> {
-    /// Puts a thread that stands nowhere into a queue at a rank, and leaves its state.
-    pub fn put_in(&mut self, t: Tid, q: Queue, rank: i64)
+    /// Puts a thread that stands nowhere into a queue at a rank, and leaves its state. `top` says that it is a new thread that is
+    /// favoured.
+    pub fn put_in(&mut self, t: Tid, q: Queue, rank: i64, top: bool)
         requires sound { IsSound self.old.threads }
         requires known { IsKnown self.old.threads t.0 }
         requires nowhere { IfSome (slot_of self.old.threads.records t.0) (λ u. IsNowhere u self.old.threads.queues) }
-        requires rank { IsRank rank }
-        ensures shows { (k : Control P P.State P.Shared) (top : Bool) → Shows self.old k → Shows self.new (enters t.0 q rank top k) }
+        requires rank { IsEntryRank rank }
+        ensures shows { (k : Control P P.State P.Shared) → Shows self.old k → Shows self.new (enters t.0 q rank top k) }
         ensures sound { IsSound self.new.threads }
         ensures touches { Touches self.old.threads self.new.threads t.0 (view_placed (Some q)) }
         ensures but { WholeBut self.old t.0 → WholeBut self.new t.0 }
         ensures queues { IfSome (slot_of self.old.threads.records t.0) (λ u. self.new.threads.queues ≡ entered q rank u self.old.threads.queues) }
-        ensures same { self.new ≡ record self.old { threads = record self.old.threads { queues = self.new.threads.queues } } }
+        ensures same { self.new ≡ record self.old { threads = record self.old.threads { queues = self.new.threads.queues; waits = self.new.threads.waits } } }
     {
         let slot = self.slot(t);
-        self.put_at(t, slot, q, rank);
+        self.put_at(t, slot, q, rank, top);
     }
 
     // Puts the thread at a slot, which stands nowhere, into a queue at a rank, and leaves its state.
     #[inline(always)]
-    pub(crate) fn put_at(&mut self, t: Tid, slot: Slot, q: Queue, rank: i64)
+    pub(crate) fn put_at(&mut self, t: Tid, slot: Slot, q: Queue, rank: i64, top: bool)
         requires sound { IsSound self.old.threads }
         requires at { slot_of self.old.threads.records t.0 ≡ Some slot.0 }
         requires nowhere { IfSome (slot_of self.old.threads.records t.0) (λ u. IsNowhere u self.old.threads.queues) }
-        requires rank { IsRank rank }
-        ensures shows { (k : Control P P.State P.Shared) (top : Bool) → Shows self.old k → Shows self.new (enters t.0 q rank top k) }
+        requires rank { IsEntryRank rank }
+        ensures shows { (k : Control P P.State P.Shared) → Shows self.old k → Shows self.new (enters t.0 q rank top k) }
         ensures sound { IsSound self.new.threads }
         ensures touches { Touches self.old.threads self.new.threads t.0 (view_placed (Some q)) }
         ensures but { WholeBut self.old t.0 → WholeBut self.new t.0 }
         ensures queues { IfSome (slot_of self.old.threads.records t.0) (λ u. self.new.threads.queues ≡ entered q rank u self.old.threads.queues) }
-        ensures same { self.new ≡ record self.old { threads = record self.old.threads { queues = self.new.threads.queues } } }
+        ensures same { self.new ≡ record self.old { threads = record self.old.threads { queues = self.new.threads.queues; waits = self.new.threads.waits } } }
     {
-        self.queues_mut().insert(q, rank, slot);
+        self.queues_mut().insert(q, rank, slot, top);
     }
 
     /// Takes a thread out of its queue, if it stands in one, and leaves its state.
@@ -61,7 +67,7 @@ impl<P: Program> World<P> {
         ensures touches { Touches self.old.threads self.new.threads t.0 (view_placed None) }
         ensures but { WholeBut self.old t.0 → WholeBut self.new t.0 }
         ensures queues { IfSome (slot_of self.old.threads.records t.0) (λ u. self.new.threads.queues ≡ without u self.old.threads.queues) }
-        ensures same { self.new ≡ record self.old { threads = record self.old.threads { queues = self.new.threads.queues } } }
+        ensures same { self.new ≡ record self.old { threads = record self.old.threads { queues = self.new.threads.queues; waits = self.new.threads.waits } } }
     {
         let slot = self.slot(t);
         self.take_from(t, slot);
@@ -77,7 +83,7 @@ impl<P: Program> World<P> {
         ensures touches { Touches self.old.threads self.new.threads t.0 (view_placed None) }
         ensures but { WholeBut self.old t.0 → WholeBut self.new t.0 }
         ensures queues { IfSome (slot_of self.old.threads.records t.0) (λ u. self.new.threads.queues ≡ without u self.old.threads.queues) }
-        ensures same { self.new ≡ record self.old { threads = record self.old.threads { queues = self.new.threads.queues } } }
+        ensures same { self.new ≡ record self.old { threads = record self.old.threads { queues = self.new.threads.queues; waits = self.new.threads.waits } } }
     {
         match self.queues().queue_of(slot) {
             Some(_) => {
@@ -85,6 +91,24 @@ impl<P: Program> World<P> {
             }
             None => {}
         }
+    }
+
+    // Takes a ready thread out of its queue as it is dispatched, and leaves its state: with the numbers of its wait.
+    #[inline(always)]
+    pub(crate) fn take_ready(&mut self, t: Tid, slot: Slot) -> Turn
+        requires sound { IsSound self.old.threads }
+        requires at { slot_of self.old.threads.records t.0 ≡ Some slot.0 }
+        requires stands { IsIn queue.Ready self.old.threads t.0 }
+        ensures shows { (k : Control P P.State P.Shared) → Shows self.old k → Shows self.new (leaves_queue t.0 (trails (trail_with t.0 k) k)) }
+        ensures numbers { (k : Control P P.State P.Shared) → Shows self.old k
+            → AreTakenReady k.threads.trail → length k.threads.trail ≤ most_steps → IsTurnOf k t.0 result }
+        ensures sound { IsSound self.new.threads }
+        ensures touches { Touches self.old.threads self.new.threads t.0 (view_placed None) }
+        ensures queues { IfSome (slot_of self.old.threads.records t.0) (λ u. self.new.threads.queues ≡ without u self.old.threads.queues) }
+        ensures same { self.new ≡ record self.old { threads = record self.old.threads { queues = self.new.threads.queues; waits = self.new.threads.waits } } }
+    {
+        let by_name = self.named().is_some();
+        self.queues_mut().dispatch(slot, by_name)
     }
 
     /// Raises every rank in the ready queue by one.

@@ -115,10 +115,10 @@ impl<P: Program> World<P> {
         requires sound { IsSound self.now.threads }
         ensures top { (k : Control P P.State P.Shared) → Shows self.now k → result ≡ favour_top k.top (queue k queue.Ready) }
         ensures value { result ≡ favour_top self.now.threads.queues.top self.now.threads.queues.ready }
-        ensures low { neg_ℤ (pos (2 ^ 40)) ≤ℤ result }
+        ensures low { neg_ℤ (pos 20) ≤ℤ result }
         ensures high { result ≤ℤ pos (2 ^ 40 + 1) }
     {
-        self.queues().favour_top(Queue::Ready)
+        self.counted().favour_top()
     }
 
     /// Whether no thread stands in a queue.

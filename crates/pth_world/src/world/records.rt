@@ -1,13 +1,14 @@
 //! The records of threads: changes, new threads, and threads that are gone.
 
-ghost use Rattle.std.specs.Prelude.{◌≡◌, ◌≢◌, ◌<◌, ◌≤◌, ◌+◌, ◌↔◌, ℕ, ℤ, Bool, false, Some, None, IfSome, IfOk, OnOk, OnErr, IsErrOf, nat_lt};
-ghost use Rattle.pth_base.specs.Limits.{thread_limit};
+ghost use Rattle.std.specs.Prelude.{◌≡◌, ◌≢◌, ◌<◌, ◌+◌, ◌↔◌, ℕ, ℤ, Bool, false, Some, None, IfSome, IfOk, OnOk, OnErr, IsErrOf, nat_lt};
+ghost use Rattle.pth_base.specs.Limits.{thread_limit, IsGreatestPriority};
 ghost use Rattle.pth_base.specs.Naming.{IsTied};
 ghost use Rattle.pth_kernel.specs.Kernel.{kernel_of};
 ghost use Rattle.pth_lock.specs.Mutexes.{mutexes_of};
 ghost use Rattle.pth_lock.specs.RwLocks.{tables_of};
 ghost use Rattle.pth_queue.specs.declared.queue.Queue.TheVariants as queue;
-ghost use Rattle.pth_queue.specs.Queues.{IsNowhere, IsRank, no_queues, entered, without};
+ghost use Rattle.pth_tables.specs.CountedOf.{IsEntryRank, counted};
+ghost use Rattle.pth_queue.specs.Queues.{IsNowhere, entered, without};
 ghost use Rattle.pth_base.specs.declared.thread.ThreadState.TheVariants as state;
 ghost use Rattle.pth_threads.specs.declared.entry.Change.TheVariants as change;
 ghost use Rattle.pth_threads.specs.Threads.{slot_of, tid_at, count, made_of, AddsThread, ChangesThread, IsCountable, IsSame, RemovesThread};
@@ -16,7 +17,7 @@ ghost use Rattle.pth_model.specs.State.{Control, start, first_thread};
 ghost use Rattle.pth_model.specs.Changes.{sets, enters, removes};
 ghost use Rattle.pth_model.specs.ThreadControl.{spawns, has_room};
 ghost use Rattle.pth_model.specs.Part.{is_put_waiting};
-ghost use Rattle.pth_world.specs.Beginnings.{AreEmpty, IsBeforeMain};
+ghost use Rattle.pth_world.specs.Beginnings.{AreEmpty, IsBeforeMain, reserved_for};
 ghost use Rattle.pth_world.specs.Numbering.{HasNumbers, no_numbers};
 ghost use Rattle.pth_world.specs.Ranks.{KeepsRanks};
 ghost use Rattle.pth_world.specs.Shows.{Shows, StandsFor};
@@ -75,8 +76,8 @@ struct Room<S> {
 
 // The queues, with room for as many threads as there may be.
 fn reserved_queues(alloc: Global, top: u8) -> Result<CountedQueues, OutOfMemory>
-    requires { (5 ≤ top) × (top ≤ 20) }
-    ensures { IfOk result (λ q. q ≡ record (no_queues top) { room = thread_limit }) }
+    requires { IsGreatestPriority top }
+    ensures { IfOk result (λ q. counted q ≡ reserved_for top) }
 {
     let mut queues = CountedQueues::new(alloc, top);
     queues.reserve(MOST_THREADS)?;
@@ -85,7 +86,7 @@ fn reserved_queues(alloc: Global, top: u8) -> Result<CountedQueues, OutOfMemory>
 
 // Such parts, which keep nothing yet.
 fn make_room<S: Drop>(alloc: Global, top: u8) -> Result<Room<S>, OutOfMemory>
-    requires { (5 ≤ top) × (top ≤ 20) }
+    requires { IsGreatestPriority top }
     ensures { IfOk result (λ r. AreEmpty top r.queues r.progress (mutexes_of r.mutexes) (tables_of r.rw_locks)) }
 {
     let queues = reserved_queues(alloc, top)?;
@@ -112,7 +113,7 @@ impl<P: Program> World<P> {
     ) -> World<P>
         requires shared { shared ≡ (P.functions program).shared }
         requires bodies { 0 < (P.functions program).bodies }
-        requires range { (5 ≤ top) × (top ≤ 20) }
+        requires range { IsGreatestPriority top }
         requires empty { AreEmpty top room.queues room.progress (mutexes_of room.mutexes) (tables_of room.rw_locks) }
         ensures { IsBeforeMain P.functions (record { program = program; kernel = kernel_of kernel; top = top }) result }
     {
@@ -155,7 +156,7 @@ impl<P: Program> World<P> {
         kernel: Kernel,
         top: u8,
     ) -> Result<World<P>, OutOfMemory>
-        requires { (5 ≤ top) × (top ≤ 20) }
+        requires { IsGreatestPriority top }
         ensures { IfOk result (λ w. IsBeforeMain P.functions (record { program = program; kernel = kernel_of kernel; top = top }) w) }
     {
         let shared = program.shared(alloc)?;
@@ -164,10 +165,12 @@ impl<P: Program> World<P> {
         Ok(World::over(alloc, program, shared, kernel, room, top))
     }
 
-    /// The main thread alone, ready at rank 0 (`pth_init`), at the moment of the kernel. Base priorities go from `-top` to `top`.
+    /// The main thread alone, ready at rank 0 (`pth_init`), at the moment of the kernel. Base priorities go from `-top` to `top`,
+    /// the greatest, which is from 5 to 20.
     pub fn new(alloc: Global, program: P, kernel: Kernel, top: u8) -> Result<World<P>, OutOfMemory>
-        requires { (5 ≤ top) × (top ≤ 20) }
-        ensures stands { IfOk result (λ w. StandsFor w (start P.functions (record { program = program; kernel = kernel_of kernel; top = top }))) }
+        requires { IsGreatestPriority top }
+        ensures stands { IfOk result (λ w. StandsFor w
+            (start P.functions (record { program = program; kernel = kernel_of kernel; top = top }))) }
         ensures whole { IfOk result (λ w. Whole w) }
         ensures one { IfOk result (λ w. w.threads.records.made ≡ 1) }
         ensures no_objects { IfOk result (λ w. w.attributes.objects.made ≡ 0) }
@@ -180,7 +183,7 @@ impl<P: Program> World<P> {
             Err(AddErr::OutOfMemory) => return Err(OutOfMemory),
             Err(AddErr::TooMany) => unreachable!(),
         };
-        world.make_ready(main, 0);
+        world.make_ready(main, 0, false);
         Ok(world)
     }
 
@@ -254,7 +257,8 @@ impl<P: Program> World<P> {
         ensures removes { RemovesThread self.old.threads.records self.new.threads.records s.0 }
         ensures store { store_of self.new.store ≡ store_without t.0 (store_of self.old.store) }
         ensures still { HasNothing (store_of self.old.store) t.0 → self.new.store ≡ self.old.store }
-        ensures same { self.new ≡ record self.old { threads = record self.old.threads { records = self.new.threads.records }; store = self.new.store } }
+        ensures same { self.new
+            ≡ record self.old { threads = record self.old.threads { records = self.new.threads.records }; store = self.new.store } }
     {
         self.mutexes.release_all(s);
         self.rw_locks.release_all(s);
@@ -269,7 +273,8 @@ impl<P: Program> World<P> {
         ensures sound { IsSound self.new.threads }
         ensures others { (u : ℕ) → tid_at self.old.threads.records u ≢ t.0 → view self.new.threads u ≡ view self.old.threads u }
         ensures but { self.old.scheduler.running ≢ Some t.0 → WholeBut self.old t.0 → WholeBut self.new t.0 }
-        ensures threads { IfSome (slot_of self.old.threads.records t.0) (λ u. RemovesThread self.old.threads.records self.new.threads.records u) }
+        ensures threads { IfSome (slot_of self.old.threads.records t.0)
+            (λ u. RemovesThread self.old.threads.records self.new.threads.records u) }
         ensures queues { IfSome (slot_of self.old.threads.records t.0) (λ u. self.new.threads.queues ≡ without u self.old.threads.queues) }
         ensures store { store_of self.new.store ≡ store_without t.0 (store_of self.old.store) }
         ensures still { HasNothing (store_of self.old.store) t.0 → self.new.store ≡ self.old.store }
@@ -326,16 +331,20 @@ impl<P: Program> World<P> {
         requires few { HasNumbers self.old }
         ensures tid { IfOk result (λ t. t.0 ≡ self.old.threads.records.made + 1) }
         ensures made { OnOk result (self.new.threads.records.made ≡ self.old.threads.records.made + 1) }
-        ensures queues { IfOk result (λ t. IfSome (slot_of self.new.threads.records t.0) (λ u. self.new.threads.queues ≡ entered queue.New of.prio u self.old.threads.queues)) }
+        ensures queues { IfOk result (λ t. IfSome (slot_of self.new.threads.records t.0)
+            (λ u. self.new.threads.queues ≡ entered queue.New of.prio u self.old.threads.queues)) }
         ensures ranks { OnOk result (KeepsRanks 1 self.old.threads self.new.threads) }
-        ensures shows { IfOk result (λ t. (k : Control P P.State P.Shared) → Shows self.old k → Shows self.new (spawns P.functions body.0 arg of k)) }
+        ensures shows { IfOk result (λ t. (k : Control P P.State P.Shared) → Shows self.old k
+            → Shows self.new (spawns P.functions body.0 arg of k)) }
         ensures whole { OnOk result (Whole self.new) }
         ensures others { OnOk result ((t : ℕ) → IsKnown self.old.threads t → IsKnown self.new.threads t) }
         ensures same { OnOk result (self.new ≡ record self.old { threads = self.new.threads }) }
         ensures too_many { IsErrOf result AddErr.TooMany ↔ (count self.old.threads.records ≡ thread_limit) }
         ensures refused { OnErr result ((k : Control P P.State P.Shared) → Shows self.old k → Shows self.new k) }
         ensures whole_still { OnErr result (Whole self.new) }
-        ensures still { OnErr result (self.new ≡ record self.old { threads = record self.old.threads { records = self.new.threads.records } } × IsSame self.old.threads.records self.new.threads.records) }
+        ensures still { OnErr result (self.new
+            ≡ record self.old { threads = record self.old.threads { records = self.new.threads.records } }
+            × IsSame self.old.threads.records self.new.threads.records) }
     {
         if self.threads().count() == MOST_THREADS {
             return Err(AddErr::TooMany);
@@ -351,45 +360,55 @@ impl<P: Program> World<P> {
                 blocked: None,
             }),
         );
-        self.queues_mut().insert(Queue::New, prio, slot);
+        self.queues_mut().insert(Queue::New, prio, slot, false);
         Ok(t)
     }
 
-    /// Makes a thread ready, and puts it into the ready queue at a rank.
-    pub fn put_ready(&mut self, t: Tid, rank: i64)
+    /// Makes a thread ready, and puts it into the ready queue at a rank. `top` says that it is a new thread that is favoured.
+    pub fn put_ready(&mut self, t: Tid, rank: i64, top: bool)
         requires sound { IsSound self.old.threads }
         requires known { IsKnown self.old.threads t.0 }
         requires nowhere { IfSome (slot_of self.old.threads.records t.0) (λ u. IsNowhere u self.old.threads.queues) }
-        requires rank { IsRank rank }
-        ensures shows { (k : Control P P.State P.Shared) (top : Bool) → Shows self.old k → Shows self.new (enters t.0 queue.Ready rank top (sets t.0 (change.State state.Ready) k)) }
+        requires rank { IsEntryRank rank }
+        ensures shows { (k : Control P P.State P.Shared) → Shows self.old k
+            → Shows self.new (enters t.0 queue.Ready rank top (sets t.0 (change.State state.Ready) k)) }
         ensures sound { IsSound self.new.threads }
-        ensures touches { Touches self.old.threads self.new.threads t.0 (λ v. view_placed (Some queue.Ready) (view_changed (change.State state.Ready) v)) }
+        ensures touches { Touches self.old.threads self.new.threads t.0
+            (λ v. view_placed (Some queue.Ready) (view_changed (change.State state.Ready) v)) }
         ensures but { WholeBut self.old t.0 → WholeBut self.new t.0 }
         ensures threads { SameThreads self.old.threads self.new.threads }
-        ensures queues { IfSome (slot_of self.old.threads.records t.0) (λ u. self.new.threads.queues ≡ entered queue.Ready rank u self.old.threads.queues) }
-        ensures same { self.new ≡ record self.old { threads = record self.old.threads { records = self.new.threads.records; queues = self.new.threads.queues } } }
+        ensures queues { IfSome (slot_of self.old.threads.records t.0)
+            (λ u. self.new.threads.queues ≡ entered queue.Ready rank u self.old.threads.queues) }
+        ensures same { self.new ≡ record self.old {
+          threads = record self.old.threads { records = self.new.threads.records; queues = self.new.threads.queues; waits = self.new.threads.waits };
+        } }
     {
         let slot = self.slot(t);
-        self.put_ready_at(t, slot, rank);
+        self.put_ready_at(t, slot, rank, top);
     }
 
     // Makes the thread at a slot ready, and puts it into the ready queue at a rank.
     #[inline(always)]
-    pub(crate) fn put_ready_at(&mut self, t: Tid, slot: Slot, rank: i64)
+    pub(crate) fn put_ready_at(&mut self, t: Tid, slot: Slot, rank: i64, top: bool)
         requires sound { IsSound self.old.threads }
         requires at { slot_of self.old.threads.records t.0 ≡ Some slot.0 }
         requires nowhere { IfSome (slot_of self.old.threads.records t.0) (λ u. IsNowhere u self.old.threads.queues) }
-        requires rank { IsRank rank }
-        ensures shows { (k : Control P P.State P.Shared) (top : Bool) → Shows self.old k → Shows self.new (enters t.0 queue.Ready rank top (sets t.0 (change.State state.Ready) k)) }
+        requires rank { IsEntryRank rank }
+        ensures shows { (k : Control P P.State P.Shared) → Shows self.old k
+            → Shows self.new (enters t.0 queue.Ready rank top (sets t.0 (change.State state.Ready) k)) }
         ensures sound { IsSound self.new.threads }
-        ensures touches { Touches self.old.threads self.new.threads t.0 (λ v. view_placed (Some queue.Ready) (view_changed (change.State state.Ready) v)) }
+        ensures touches { Touches self.old.threads self.new.threads t.0
+            (λ v. view_placed (Some queue.Ready) (view_changed (change.State state.Ready) v)) }
         ensures but { WholeBut self.old t.0 → WholeBut self.new t.0 }
         ensures threads { SameThreads self.old.threads self.new.threads }
-        ensures queues { IfSome (slot_of self.old.threads.records t.0) (λ u. self.new.threads.queues ≡ entered queue.Ready rank u self.old.threads.queues) }
-        ensures same { self.new ≡ record self.old { threads = record self.old.threads { records = self.new.threads.records; queues = self.new.threads.queues } } }
+        ensures queues { IfSome (slot_of self.old.threads.records t.0)
+            (λ u. self.new.threads.queues ≡ entered queue.Ready rank u self.old.threads.queues) }
+        ensures same { self.new ≡ record self.old {
+          threads = record self.old.threads { records = self.new.threads.records; queues = self.new.threads.queues; waits = self.new.threads.waits };
+        } }
     {
         self.change_of(t, slot, Change::State(ThreadState::Ready));
-        self.put_at(t, slot, Queue::Ready, rank);
+        self.put_at(t, slot, Queue::Ready, rank, top);
     }
 
     /// Makes a thread wait, and puts it into the waiting queue at its base priority.
@@ -399,15 +418,19 @@ impl<P: Program> World<P> {
         requires nowhere { IfSome (slot_of self.old.threads.records t.0) (λ u. IsNowhere u self.old.threads.queues) }
         ensures shows { (k : Control P P.State P.Shared) → Shows self.old k → Shows self.new (is_put_waiting t.0 k) }
         ensures sound { IsSound self.new.threads }
-        ensures touches { Touches self.old.threads self.new.threads t.0 (λ v. view_placed (Some queue.Waiting) (view_changed (change.State state.Waiting) v)) }
+        ensures touches { Touches self.old.threads self.new.threads t.0
+            (λ v. view_placed (Some queue.Waiting) (view_changed (change.State state.Waiting) v)) }
         ensures but { WholeBut self.old t.0 → WholeBut self.new t.0 }
         ensures threads { SameThreads self.old.threads self.new.threads }
-        ensures queues { IfSome (slot_of self.old.threads.records t.0) (λ u. (prio : ℤ) × IsPrio prio × (self.new.threads.queues ≡ entered queue.Waiting prio u self.old.threads.queues)) }
-        ensures same { self.new ≡ record self.old { threads = record self.old.threads { records = self.new.threads.records; queues = self.new.threads.queues } } }
+        ensures queues { IfSome (slot_of self.old.threads.records t.0)
+            (λ u. (prio : ℤ) × IsPrio prio × (self.new.threads.queues ≡ entered queue.Waiting prio u self.old.threads.queues)) }
+        ensures same { self.new ≡ record self.old {
+          threads = record self.old.threads { records = self.new.threads.records; queues = self.new.threads.queues; waits = self.new.threads.waits };
+        } }
     {
         let slot = self.slot(t);
         let prio = self.prio(t, slot);
         self.change_of(t, slot, Change::State(ThreadState::Waiting));
-        self.put_at(t, slot, Queue::Waiting, prio);
+        self.put_at(t, slot, Queue::Waiting, prio, false);
     }
 }

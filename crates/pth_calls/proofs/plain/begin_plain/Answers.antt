@@ -1,5 +1,6 @@
 use Rattle.std.proofs.Common.{◌≡◌, ap}
-use Rattle.std.proofs.lemmas.Result.{IfOk-weaker, on_ok_weaker}
+use Rattle.std.proofs.lemmas.Result.{IfOk-weaker, on_ok_weaker, on_err_weaker}
+use Rattle.pth_base.proofs.Cuts.{cut_none}
 use Rattle.pth_model.specs.declared.next.Next.TheVariants.{Done}
 use Rattle.pth_calls.proofs.Plains.{begun_answered, answered_leads}
 use Rattle.pth_calls.proofs.plain.begin_plain.Goals as goal
@@ -17,3 +18,6 @@ returns-clause-ok g c =
     on_ok_weaker c.answer_call.result (λ told s st.
     rw (begun_answered p s c.args.t.0 call a c.requires.plain (c.in_ok-answer.ensures.told.verdict s st))
     (answered_leads p s c.args.t.0 c.args.w.now c.answer.new.w call a _ _ st c.in_ok-answer.ensures.told told)) c.answer_call.ensures.ok
+
+pub returns-clause-err : goal.returns-clause-err
+returns-clause-err g c = on_err_weaker c.answer_call.result (λ same s st. cut_none _ _ _ same) c.answer_call.ensures.err

@@ -1,4 +1,6 @@
 use Rattle.std.proofs.Common.{◌≡◌, ◌∙◌, true, false, pos, List, ◌++◌, refl, sym, ap, append-nil, rules, SFits, w64, to_z-of_z}
+use Rattle.std.proofs.lemmas.Result.{err_from_is_err_and}
+use Rattle.pth_base.proofs.Cuts.{cut_none}
 use Rattle.pth_base.specs.declared.answer.Answer.TheVariants.{Int, Fail}
 use Rattle.pth_base.specs.declared.errno.Errno.TheVariants.{EINVAL}
 use Rattle.pth_base.specs.declared.mark.Mark.{Mark}
@@ -45,3 +47,8 @@ pub returns-clause-frame : goal.returns-clause-frame
 returns-clause-frame g c =
     let is : c.name_next.result ≡ true = search rules in
     rw is at c.name_next.ensures.frame
+
+pub returns-in_err-push-clause-goes : goal.returns-in_err-push-clause-goes
+returns-in_err-push-clause-goes g c =
+    let p = err_from_is_err_and c.from_residual.result c.from_residual.ensures.1 in
+    rw p.1 (record { next = tt; leads = tt; cut = λ s st. cut_none _ _ _ c.in_err-push.ensures.err })

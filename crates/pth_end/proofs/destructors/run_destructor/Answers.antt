@@ -1,5 +1,6 @@
 use Rattle.std.proofs.Common.{ap, SFits, w64, to_z-of_z, rules}
-use Rattle.std.proofs.lemmas.Result.{on_ok_weaker, on_err_weaker}
+use Rattle.std.proofs.lemmas.Result.{err_from_is_err_and, on_ok_weaker, on_err_weaker}
+use Rattle.pth_base.proofs.Cuts.{cut_none}
 use Rattle.pth_base.specs.declared.mark.Mark.TheVariants.{Destructor}
 use Rattle.pth_model.specs.Acts.{handled}
 use Rattle.pth_model.specs.Resources.{Store}
@@ -37,3 +38,8 @@ pub returns-clause-handled : goal.returns-clause-handled
 returns-clause-handled g c =
     let cleared = handled_stored c.args.w.now c.clear_key.new.self c.requires.whole c.clear_key.ensures.keeps (ap (λ (x : Store). x.cleanups) c.in_ok-clear_key.ensures.changes) in
     on_ok_weaker c.run_handler.result (λ ran. handled_then _ _ _ cleared ran) c.run_handler.ensures.handled
+
+pub returns-in_err-push-clause-err : goal.returns-in_err-push-clause-err
+returns-in_err-push-clause-err g c =
+    let p = err_from_is_err_and c.from_residual-in_err-push.result c.from_residual-in_err-push.ensures.1 in
+    rw p.1 (λ s st. cut_none _ _ _ c.in_err-push.ensures.err)

@@ -1,5 +1,6 @@
-use Rattle.std.proofs.Common.{◌≡◌, ◌∙◌, [], refl, rules, arith, SFits, w64, to_z-of_z}
+use Rattle.std.proofs.Common.{◌≡◌, ◌∙◌, [], ap, sym, refl, rules, arith, SFits, w64, to_z-of_z}
 use Rattle.pth_queue.specs.declared.queue.Queue.TheVariants as queue
+use Rattle.pth_model.specs.State.{Scheduler}
 use Rattle.pth_world.specs.Whole.{Newly}
 use Rattle.pth_sched.proofs.Keeping.{new_shorter, scheduler_first, scheduler_then}
 use Rattle.pth_sched.proofs.Readying.{rank_room, room_next, rises_none, rises_next, rises_all, some_ready, new_shows, comes_next, comes_end}
@@ -37,7 +38,7 @@ loop-t-preserved g c =
     let queues = simp to_z-of_z at c.make_ready.ensures.queues in
     let made = simp to_z-of_z at c.make_ready.ensures.shows in
     record {
-      comes = λ s st. comes_next c.loop-t.w c.make_ready.new.self _ c.in-Some.t.0 before.whole.sound c.in-Some.ensures.last (λ x k. new_shows c.make_ready.new.self x _ _ (c.new_rank-rank.ensures.rank x k) (λ top. made x top k)) (before.comes s st);
+      comes = λ s st. comes_next c.loop-t.w c.make_ready.new.self _ c.in-Some.t.0 before.whole.sound c.in-Some.ensures.last (λ x k. new_shows c.make_ready.new.self x _ _ _ (c.new_rank-rank.ensures.rank x k) (c.favour.ensures ∙ ap (λ (y : Scheduler). y.favour_new) (sym k.scheduler)) (made x k)) (before.comes s st);
       whole = c.make_ready.ensures.whole;
       scheduler = scheduler_then _ _ _ before.scheduler c.make_ready.ensures.scheduler;
       made = c.make_ready.ensures.threads.made ∙ before.made;

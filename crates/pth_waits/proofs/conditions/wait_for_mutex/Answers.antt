@@ -5,6 +5,8 @@ use Rattle.pth_world.specs.Whole.{Whole}
 use Rattle.pth_world.specs.World.{WorldOf}
 use Rattle.pth_waits.proofs.Blocking.{progress_frame}
 use Rattle.pth_waits.proofs.NoticeWaits.{blocked_goes}
+use Rattle.std.proofs.lemmas.Result.{err_from_is_err_and}
+use Rattle.pth_base.proofs.Cuts.{cut_none}
 use Rattle.pth_waits.proofs.conditions.wait_for_mutex.Goals as goal
 
 pub returns-clause-goes : goal.returns-clause-goes
@@ -15,3 +17,8 @@ pub returns-clause-frame : goal.returns-clause-frame
 returns-clause-frame g c =
     subst (λ (v : WorldOf _ _ _). Frame c.args.w.now v no_numbers (Some c.args.t.0) false) (sym c.block.ensures.same)
     (progress_frame c.args.w.now c.block.new.self.threads.progress (Some c.args.t.0) c.requires.runs (subst (λ (v : WorldOf _ _ _). Whole v) c.block.ensures.same (c.block.ensures.whole c.requires.whole refl)))
+
+pub returns-in_err-push-clause-goes : goal.returns-in_err-push-clause-goes
+returns-in_err-push-clause-goes g c =
+    let p = err_from_is_err_and c.from_residual.result c.from_residual.ensures.1 in
+    rw p.1 (record { next = tt; leads = tt; cut = λ s st. cut_none _ _ _ c.in_err-push.ensures.err })

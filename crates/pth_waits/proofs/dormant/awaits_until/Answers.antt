@@ -1,7 +1,7 @@
 use Rattle.std.proofs.Common.{◌∙◌, sym, arith, rules, SFits, w64, to_z-of_z}
 use Rattle.pth_kernel.specs.Kernel.{kernel_of}
 use Rattle.pth_model.specs.State.{now_of}
-use Rattle.pth_waits.proofs.Arrivals.{descriptors_stay}
+use Rattle.pth_waits.proofs.Arrivals.{descriptors_later, descriptors_stay}
 use Rattle.pth_waits.proofs.Dormancy.{is_not_here, later_than_now}
 use Rattle.pth_waits.proofs.Standing.{none_died, none_left}
 use Rattle.pth_waits.proofs.dormant.awaits_until.Goals as goal
@@ -50,3 +50,8 @@ returns-in-Notice-clause-later g c = λ s st away.
     let fits : SFits w64 c.in-Notice.c = search rules in
     let none = (rw c.in-Notice.is at away) (now_of s.control) (omega arith) (omega arith) in
     later_than_now c.args.w.now s.control st.control _ (c.never_unless-in-Notice.ensures.later ((rw (to_z-of_z, c.thread_in-in-Notice.ensures.tid) at c.is_noticed.ensures) s st ∙ none))
+
+pub returns-in_default-clause-later : goal.returns-in_default-clause-later
+returns-in_default-clause-later g c = λ s st away.
+    let d = c.in_default in
+    descriptors_later s c.descriptors_until.result _ c.args.awaits d.not-Alone d.not-AnyDeath d.not-Death d.not-Moment d.not-Mutex d.not-Lock d.not-Round d.not-Notice d.not-Retaking (kernel_of c.args.w.now.kernel) st.control.kernel (rw c.kernel.ensures at c.descriptors_until.ensures.later) away

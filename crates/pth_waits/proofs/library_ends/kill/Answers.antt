@@ -8,6 +8,8 @@ use Rattle.pth_world.specs.Numbering.{Thread, Object, Event, Port, no_numbers}
 use Rattle.pth_world.specs.World.{WorldOf}
 use Rattle.pth_end.proofs.Framing.{done_frame, refused_goes}
 use Rattle.pth_waits.proofs.Kills.{kill_refused, kill_ends, kill-told}
+use Rattle.std.proofs.lemmas.Result.{err_from_is_err_and}
+use Rattle.pth_base.proofs.Cuts.{cut_none}
 use Rattle.pth_waits.proofs.library_ends.kill.Goals as goal
 
 pub returns-then-t-ne-MAIN-clause-goes : goal.returns-then-t-ne-MAIN-clause-goes
@@ -50,3 +52,8 @@ returns-clause-frame g c =
       ranks = v.ranks;
       preferred = ap (λ (w : WorldOf _ _ _). w.scheduler.preferred) v.same;
     }
+
+pub returns-in_err-answer_call-clause-goes : goal.returns-in_err-answer_call-clause-goes
+returns-in_err-answer_call-clause-goes g c =
+    let p = err_from_is_err_and c.from_residual.result c.from_residual.ensures.1 in
+    rw p.1 (record { next = tt; leads = tt; cut = λ s st. cut_none _ _ _ c.in_err-answer_call.ensures.err })

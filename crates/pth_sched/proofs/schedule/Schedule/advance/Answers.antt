@@ -29,7 +29,7 @@ returns-in_err-part-clause-breaks_off g c =
     rw p.1 (λ x i st. (let r = c.loop-self.invariant.reaches x i st in reach-cut _ x _ i _ _ _ _ r (sym (c.loop-self-test.ensures.run _ r.stands)) (lives_on c.args.to _ _ r.stands (sym c.loop-self-test.ensures.stops)) c.in_err-part.ensures.err))
 
 pub loop-self-smaller : goal.loop-self-smaller
-loop-self-smaller g c = made_less g.P.Program.functions _ _ _ _ c.loop-self.invariant.keeps.going.whole.sound c.in_ok-part.ensures.ok c.args.to (sym c.loop-self-test.ensures.stops)
+loop-self-smaller g c = made_less g.P.Program.functions _ _ c.loop-self.invariant.keeps.going.whole.sound c.in_ok-part.ensures.stands c.args.to (sym c.loop-self-test.ensures.stops)
 
 pub returns-clause-rests : goal.returns-clause-rests
 returns-clause-rests g c = stop_rests c.args.to _ (sym c.loop-self-test.ensures.stops) c.loop-self.invariant.keeps

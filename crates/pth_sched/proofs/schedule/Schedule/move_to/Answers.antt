@@ -1,5 +1,6 @@
 use Rattle.std.proofs.Common.{refl, ap, sym, subst}
-use Rattle.std.proofs.lemmas.Result.{on_ok_weaker, on_err_weaker}
+use Rattle.std.proofs.lemmas.Result.{err_from_is_err_and, on_ok_weaker, on_err_weaker}
+use Rattle.pth_base.proofs.Cuts.{cut_none}
 use Rattle.pth_sched.specs.Running.{Stands, Keeps}
 use Rattle.pth_sched.proofs.Moving.{moved_keeps, moved_stands, move_makes, move_cut}
 use Rattle.pth_sched.proofs.schedule.Schedule.move_to.Goals as goal
@@ -15,6 +16,11 @@ returns-clause-ok g c =
     let inside = subst (λ m. Stands m x) (sym c.self.view_is) st in
     let moved = moved_stands c.args.moment x _ _ refl c.set_time.ensures.shows (ap (λ w. w.store) c.set_time.ensures.same) inside in
     move_makes c.args.moment x g.P.Program.functions _ _ _ (c.in_ok-push.ensures.ok) _ (makes _ moved)) c.pass.ensures.ok
+
+pub returns-in_err-push-clause-err : goal.returns-in_err-push-clause-err
+returns-in_err-push-clause-err g c =
+    let p = err_from_is_err_and c.from_residual.result c.from_residual.ensures.1 in
+    rw p.1 (λ x st. cut_none _ _ _ c.in_err-push.ensures.err)
 
 pub returns-clause-err : goal.returns-clause-err
 returns-clause-err g c =

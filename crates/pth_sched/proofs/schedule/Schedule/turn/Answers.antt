@@ -42,7 +42,7 @@ returns-in-Some-clause-breaks_off g c =
     on_err_weaker c.close.result (λ cuts x i st. close-cut _ x _ i _ _ _ (c.loop-self.invariant.turns x i st) (sym c.loop-self-test.ensures.stops) _ over _ cuts) c.close.ensures.err
 
 pub loop-self-smaller : goal.loop-self-smaller
-loop-self-smaller g c = made_less g.P.Program.functions _ _ _ _ c.loop-self.invariant.keeps.going.whole.sound c.in_ok-part.ensures.ok c.args.to (sym c.loop-self-test.ensures.stops)
+loop-self-smaller g c = made_less g.P.Program.functions _ _ c.loop-self.invariant.keeps.going.whole.sound c.in_ok-part.ensures.stands c.args.to (sym c.loop-self-test.ensures.stops)
 
 pub returns-clause-rests : goal.returns-clause-rests
 returns-clause-rests g c = stop_rests c.args.to _ (sym c.loop-self-test.ensures.stops) c.loop-self.invariant.keeps

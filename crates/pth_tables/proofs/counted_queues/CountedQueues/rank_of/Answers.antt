@@ -4,7 +4,8 @@ use Rattle.std.proofs.lemmas.Int.{wrapping_add_is}
 use Rattle.std.proofs.lemmas.List.{get_or_default}
 use Rattle.pth_base.specs.Table.{table}
 use Rattle.pth_queue.specs.declared.queue.Queue.{Queue}
-use Rattle.pth_queue.specs.Queues.{QueuesOf, queue_of, place_of}
+use Rattle.pth_queue.specs.Queues.{queue_of, place_of}
+use Rattle.pth_tables.specs.CountedOf.{KeptQueues}
 use Rattle.pth_tables.specs.Counted.{kept_of}
 use Rattle.pth_tables.proofs.Heights.{low_slot, rank_told}
 use Rattle.pth_tables.proofs.counted_queues.CountedQueues.rank_of.Goals as goal
@@ -29,5 +30,5 @@ returns c =
     let sum : int_wrap w64 (table (pos 0) heights c.args.s.0 +ℤ raises) ≡ int_wrapping_add w64 c.index.result.now c.of.result =
     ap (λ (z : ℤ). int_wrap w64 (z +ℤ raises)) here ∙ ap (λ (z : ℤ). int_wrap w64 (c.index.result.now +ℤ z)) (sym c.of.ensures) ∙ sym (wrapping_add_is w64 c.index.result.now c.of.result f g) in
     let told = rank_told c.args.s.0 c.unwrap-q.result c.self.inside.queues c.queue_of.ensures.orderly stands c.self.inside.raises heights c.self.invariant.tells in
-    subst (λ (x : QueuesOf). IsSomeAnd {T = Queue × ℤ × ℕ} (place_of c.args.s.0 x) (λ p. int_wrapping_add w64 c.index.result.now c.of.result ≡ p.1)) c.self.view_is
+    subst (λ (x : KeptQueues). IsSomeAnd {T = Queue × ℤ × ℕ} (place_of c.args.s.0 x.queues) (λ p. int_wrapping_add w64 c.index.result.now c.of.result ≡ p.1)) c.self.view_is
     (subst (λ (z : ℤ). IsSomeAnd {T = Queue × ℤ × ℕ} (place_of c.args.s.0 c.self.inside.queues) (λ p. z ≡ p.1)) sum told)

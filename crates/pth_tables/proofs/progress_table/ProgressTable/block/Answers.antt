@@ -3,7 +3,6 @@ use Rattle.pth_model.specs.declared.progress.Progress.{Progress}
 use Rattle.pth_model.specs.Changes.{blocking}
 use Rattle.pth_tables.specs.Progress.{awaited_at}
 use Rattle.pth_tables.proofs.Items.{becomes-set, becomes-some, becomes-none, kept_set}
-use Rattle.pth_tables.proofs.progress_table.ProgressTable.block.Given as given
 use Rattle.pth_tables.proofs.progress_table.ProgressTable.block.Goals as goal
 
 pub returns-in-Some-clause-set : goal.returns-in-Some-clause-set

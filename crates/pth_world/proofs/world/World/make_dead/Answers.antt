@@ -27,7 +27,7 @@ returns-clause-shows g c k sh =
     let f : SFits w64 c.args.value = search rules in
     let a = c.change-2.ensures.shows _ (c.change.ensures.shows _ (c.take_out.ensures.shows k sh)) in
     let b = (rw to_z-of_z at c.change-3.ensures.shows) _ a in
-    c.stop_running.ensures.shows _ (c.put_in.ensures.shows _ false b)
+    c.stop_running.ensures.shows _ (c.put_in.ensures.shows _ b)
 
 pub returns-clause-moves : goal.returns-clause-moves
 returns-clause-moves g c =

@@ -11,9 +11,9 @@ put_ready-requires-clause-nowhere g c = left_nowhere c.args.self.now c.take_out.
 
 pub returns-clause-shows : goal.returns-clause-shows
 unfolding is_ready_at
-returns-clause-shows g c k top sh =
+returns-clause-shows g c k sh =
     let f : SFits w64 c.args.rank = search rules in
-    (rw to_z-of_z at c.put_ready.ensures.shows) _ top (c.take_out.ensures.shows k sh)
+    (rw to_z-of_z at c.put_ready.ensures.shows) _ (c.take_out.ensures.shows k sh)
 
 pub returns-clause-whole : goal.returns-clause-whole
 returns-clause-whole g c = make_ready_whole c.args.self.now c.take_out.new.self c.put_ready.new.self c.args.t.0 c.requires.before.queue c.requires.whole c.requires.known c.requires.before.before c.requires.before.stands c.take_out.ensures.touches c.take_out.ensures.same c.put_ready.ensures.touches c.put_ready.ensures.threads (ap (λ (k : WorldOf _ _ _). k.scheduler.running) c.put_ready.ensures.same) (ap (λ (k : WorldOf _ _ _). k.store) c.put_ready.ensures.same) (ap (λ (k : WorldOf _ _ _). k.attributes) c.put_ready.ensures.same) c.put_ready.ensures.sound

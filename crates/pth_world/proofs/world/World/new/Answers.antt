@@ -1,4 +1,4 @@
-use Rattle.std.proofs.Common.{◌∙◌, ap, false, arith}
+use Rattle.std.proofs.Common.{◌∙◌, ap, arith}
 use Rattle.pth_kernel.specs.Kernel.{kernel_of}
 use Rattle.pth_world.specs.Numbering.{Thread, Object, Event, Port}
 use Rattle.pth_world.specs.Store.{store_of}
@@ -30,6 +30,6 @@ pub returns-clause-stands : goal.returns-clause-stands
 returns-clause-stands g c =
     let one = rw c.in_ok-world.ensures.made at c.in-Ok.ensures.tid in
     let shows = rw c.main_thread.ensures at (c.in-Ok.ensures.shows _ c.in_ok-world.ensures.shows) in
-    let ready = rw one at (c.make_ready.ensures.shows (with_main g.P.Program.functions (record { program = c.args.program; kernel = kernel_of c.args.kernel; top = c.args.top })) false shows) in
+    let ready = rw one at (c.make_ready.ensures.shows (with_main g.P.Program.functions (record { program = c.args.program; kernel = kernel_of c.args.kernel; top = c.args.top })) shows) in
     let none = c.make_ready.ensures.scheduler.store ∙ ap (λ (k : WorldOf _ _ _). k.store) c.in-Ok.ensures.same in
     start_stands g.P.Program.functions (record { program = c.args.program; kernel = kernel_of c.args.kernel; top = c.args.top }) _ ready (ap store_of none ∙ c.in_ok-world.ensures.store)

@@ -1,4 +1,4 @@
-use Rattle.std.proofs.Common.{◌∙◌, ap, subst, None, false, rules, SFits, w64, to_z-of_z}
+use Rattle.std.proofs.Common.{◌∙◌, ap, subst, None, SFits, w64, to_z-of_z}
 use Rattle.pth_threads.specs.Threads.{slot_of}
 use Rattle.pth_model.specs.Changes.{sets, enters, runs_now}
 use Rattle.pth_model.specs.Part.{is_put_back}
@@ -17,7 +17,7 @@ pub returns-clause-shows : goal.returns-clause-shows
 unfolding is_put_back sets enters
 returns-clause-shows g c k sh =
     let f : SFits w64 c.prio-prio.result = prio_fits _ c.prio-prio.ensures.low in
-    rw (← c.prio-prio.ensures.prio k sh) ((rw to_z-of_z at c.put_ready_at.ensures.shows) (runs_now None k) false (c.set_running.ensures.shows k sh))
+    rw (← c.prio-prio.ensures.prio k sh) ((rw to_z-of_z at c.put_ready_at.ensures.shows) (runs_now None k) (c.set_running.ensures.shows k sh))
 
 pub returns-clause-whole : goal.returns-clause-whole
 returns-clause-whole g c =

@@ -2,6 +2,6 @@ use Rattle.std.proofs.Common.{rules, SFits, w64, to_z-of_z}
 use Rattle.pth_world.proofs.world.World.put_ready.Goals as goal
 
 pub returns-clause-shows : goal.returns-clause-shows
-returns-clause-shows g c k top sh =
+returns-clause-shows g c k sh =
     let f : SFits w64 c.args.rank = search rules in
-    (rw to_z-of_z at c.put_ready_at.ensures.shows) k top sh
+    (rw to_z-of_z at c.put_ready_at.ensures.shows) k sh

@@ -7,9 +7,9 @@ use Rattle.pth_world.proofs.Moves.{two_touches}
 use Rattle.pth_world.proofs.world.World.put_ready_at.Goals as goal
 
 pub returns-clause-shows : goal.returns-clause-shows
-returns-clause-shows g c k top sh =
+returns-clause-shows g c k sh =
     let f : SFits w64 c.args.rank = search rules in
-    (rw to_z-of_z at c.put_at.ensures.shows) _ top (c.change_of.ensures.shows k sh)
+    (rw to_z-of_z at c.put_at.ensures.shows) _ (c.change_of.ensures.shows k sh)
 
 pub returns-clause-touches : goal.returns-clause-touches
 returns-clause-touches g c = two_touches c.args.self.now.threads c.change_of.new.self.threads c.put_at.new.self.threads c.args.t.0 (view_changed (change.State state.Ready)) (view_placed (Some queue.Ready)) c.change_of.ensures.threads c.change_of.ensures.touches c.put_at.ensures.touches

@@ -1,4 +1,4 @@
-use Rattle.std.proofs.Common.{◌∙◌, ◌≡◌, ℕ, ℤ, Option, Some, None, IfSome, ap, false, SFits, w64, to_z-of_z}
+use Rattle.std.proofs.Common.{◌∙◌, ◌≡◌, ℕ, ℤ, Option, Some, None, IfSome, ap, SFits, w64, to_z-of_z}
 use Rattle.pth_model.specs.Part.{is_put_waiting}
 use Rattle.pth_base.specs.declared.thread.ThreadState.TheVariants as state
 use Rattle.pth_queue.specs.Queues.{entered}
@@ -15,7 +15,7 @@ pub returns-clause-shows : goal.returns-clause-shows
 unfolding is_put_waiting
 returns-clause-shows g c k sh =
     let f : SFits w64 c.prio-prio.result = prio_fits _ c.prio-prio.ensures.low in
-    rw (← c.prio-prio.ensures.prio k sh) ((rw to_z-of_z at c.put_at.ensures.shows) _ false (c.change_of.ensures.shows k sh))
+    rw (← c.prio-prio.ensures.prio k sh) ((rw to_z-of_z at c.put_at.ensures.shows) _ (c.change_of.ensures.shows k sh))
 
 pub returns-clause-touches : goal.returns-clause-touches
 returns-clause-touches g c = two_touches c.args.self.now.threads c.change_of.new.self.threads c.put_at.new.self.threads c.args.t.0 (view_changed (change.State state.Waiting)) (view_placed (Some queue.Waiting)) c.change_of.ensures.threads c.change_of.ensures.touches c.put_at.ensures.touches

@@ -3,6 +3,7 @@ use Rattle.pth_world.specs.Numbering.{Thread}
 use Rattle.pth_world.specs.Whole.{Whole}
 use Rattle.pth_world.specs.World.{WorldOf}
 use Rattle.pth_world.proofs.Slots.{prio_fits}
+use Rattle.pth_world.proofs.Waits.{queues_in, waits_in}
 use Rattle.pth_world.proofs.Places.{unused-nowhere}
 use Rattle.pth_base.proofs.Results.{on_err}
 use Rattle.pth_world.proofs.Wholes.{same_whole, spawn_shows, spawn_whole, spawn_others, spawn_queues, spawn_ranks}
@@ -33,10 +34,11 @@ returns-clause-shows g c k sh =
     let queues = ap (λ (k : WorldOf _ _ _). k.threads.queues) c.add.ensures.same in
     let has = rw (c.progress_mut.ensures.value, progress) at c.set.ensures.set in
     let prio : SFits w64 c.args.of.prio = prio_fits _ c.requires.prio in
-    let enters = rw (c.queues_mut.ensures.value, to_z-of_z, queues) at c.insert.ensures in
+    let waits = ap (λ (k : WorldOf _ _ _). k.threads.waits) c.add.ensures.same in
+    let enters = rw (c.queues_mut.ensures.value, to_z-of_z, queues, waits) at c.insert.ensures in
     let f : SFits w64 c.args.arg = search rules in
     let is = rw to_z-of_z at c.in_ok-state.ensures in
-    rw c.add.ensures.same (spawn_shows c.args.self.now c.requires.whole c.add.new.self.threads.records c.set.new.self c.insert.new.self c.in_ok-t.slot.0 c.args.of c.requires.prio c.requires.cancel _ refl adds has c.set.ensures.long enters g.P.Program.functions c.args.body.0 c.args.arg k (rw is refl) sh)
+    rw c.add.ensures.same (spawn_shows c.args.self.now c.requires.whole c.add.new.self.threads.records c.set.new.self c.insert.new.self.queues c.insert.new.self.waits c.in_ok-t.slot.0 c.args.of c.requires.prio c.requires.cancel _ refl adds has c.set.ensures.long (ap queues_in enters) (ap waits_in enters) g.P.Program.functions c.args.body.0 c.args.arg k (rw is refl) sh)
 
 pub returns-clause-whole : goal.returns-clause-whole
 returns-clause-whole g c =
@@ -46,8 +48,9 @@ returns-clause-whole g c =
     let queues = ap (λ (k : WorldOf _ _ _). k.threads.queues) c.add.ensures.same in
     let has = rw (c.progress_mut.ensures.value, progress) at c.set.ensures.set in
     let prio : SFits w64 c.args.of.prio = prio_fits _ c.requires.prio in
-    let enters = rw (c.queues_mut.ensures.value, to_z-of_z, queues) at c.insert.ensures in
-    rw c.add.ensures.same (spawn_whole c.args.self.now c.requires.whole c.add.new.self.threads.records c.set.new.self c.insert.new.self c.in_ok-t.slot.0 c.args.of c.requires.prio c.requires.cancel _ refl adds has c.set.ensures.long enters)
+    let waits = ap (λ (k : WorldOf _ _ _). k.threads.waits) c.add.ensures.same in
+    let enters = rw (c.queues_mut.ensures.value, to_z-of_z, queues, waits) at c.insert.ensures in
+    rw c.add.ensures.same (spawn_whole c.args.self.now c.requires.whole c.add.new.self.threads.records c.set.new.self c.insert.new.self.queues c.insert.new.self.waits c.in_ok-t.slot.0 c.args.of c.requires.prio c.requires.cancel _ refl adds has c.set.ensures.long (ap queues_in enters) (ap waits_in enters))
 
 pub returns-clause-others : goal.returns-clause-others
 returns-clause-others g c =
@@ -57,8 +60,9 @@ returns-clause-others g c =
     let queues = ap (λ (k : WorldOf _ _ _). k.threads.queues) c.add.ensures.same in
     let has = rw (c.progress_mut.ensures.value, progress) at c.set.ensures.set in
     let prio : SFits w64 c.args.of.prio = prio_fits _ c.requires.prio in
-    let enters = rw (c.queues_mut.ensures.value, to_z-of_z, queues) at c.insert.ensures in
-    rw c.add.ensures.same (spawn_others c.args.self.now c.requires.whole c.add.new.self.threads.records c.set.new.self c.insert.new.self c.in_ok-t.slot.0 c.args.of c.requires.prio c.requires.cancel _ refl adds has c.set.ensures.long enters)
+    let waits = ap (λ (k : WorldOf _ _ _). k.threads.waits) c.add.ensures.same in
+    let enters = rw (c.queues_mut.ensures.value, to_z-of_z, queues, waits) at c.insert.ensures in
+    rw c.add.ensures.same (spawn_others c.args.self.now c.requires.whole c.add.new.self.threads.records c.set.new.self c.insert.new.self.queues c.insert.new.self.waits c.in_ok-t.slot.0 c.args.of c.requires.prio c.requires.cancel _ refl adds has c.set.ensures.long (ap queues_in enters) (ap waits_in enters))
 
 pub returns-clause-queues : goal.returns-clause-queues
 returns-clause-queues g c =
@@ -68,8 +72,9 @@ returns-clause-queues g c =
     let queues = ap (λ (k : WorldOf _ _ _). k.threads.queues) c.add.ensures.same in
     let has = rw (c.progress_mut.ensures.value, progress) at c.set.ensures.set in
     let prio : SFits w64 c.args.of.prio = prio_fits _ c.requires.prio in
-    let enters = rw (c.queues_mut.ensures.value, to_z-of_z, queues) at c.insert.ensures in
-    rw (c.add.ensures.same, tid) (spawn_queues c.args.self.now c.requires.whole c.add.new.self.threads.records c.set.new.self c.insert.new.self c.in_ok-t.slot.0 c.args.of c.requires.prio c.requires.cancel _ refl adds has c.set.ensures.long enters)
+    let waits = ap (λ (k : WorldOf _ _ _). k.threads.waits) c.add.ensures.same in
+    let enters = rw (c.queues_mut.ensures.value, to_z-of_z, queues, waits) at c.insert.ensures in
+    rw (c.add.ensures.same, tid) (spawn_queues c.args.self.now c.requires.whole c.add.new.self.threads.records c.set.new.self c.insert.new.self.queues c.insert.new.self.waits c.in_ok-t.slot.0 c.args.of c.requires.prio c.requires.cancel _ refl adds has c.set.ensures.long (ap queues_in enters) (ap waits_in enters))
 
 pub returns-clause-ranks : goal.returns-clause-ranks
 returns-clause-ranks g c =
@@ -79,5 +84,6 @@ returns-clause-ranks g c =
     let queues = ap (λ (k : WorldOf _ _ _). k.threads.queues) c.add.ensures.same in
     let has = rw (c.progress_mut.ensures.value, progress) at c.set.ensures.set in
     let prio : SFits w64 c.args.of.prio = prio_fits _ c.requires.prio in
-    let enters = rw (c.queues_mut.ensures.value, to_z-of_z, queues) at c.insert.ensures in
-    rw c.add.ensures.same (spawn_ranks c.args.self.now c.requires.whole c.add.new.self.threads.records c.set.new.self c.insert.new.self c.in_ok-t.slot.0 c.args.of c.requires.prio c.requires.cancel _ refl adds has c.set.ensures.long enters)
+    let waits = ap (λ (k : WorldOf _ _ _). k.threads.waits) c.add.ensures.same in
+    let enters = rw (c.queues_mut.ensures.value, to_z-of_z, queues, waits) at c.insert.ensures in
+    rw c.add.ensures.same (spawn_ranks c.args.self.now c.requires.whole c.add.new.self.threads.records c.set.new.self c.insert.new.self.queues c.insert.new.self.waits c.in_ok-t.slot.0 c.args.of c.requires.prio c.requires.cancel _ refl adds has c.set.ensures.long (ap queues_in enters) (ap waits_in enters))

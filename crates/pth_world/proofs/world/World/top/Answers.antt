@@ -3,12 +3,7 @@ use Rattle.pth_queue.specs.declared.queue.Queue.TheVariants.{Ready}
 use Rattle.pth_world.proofs.QueueReads.{top_bounds}
 use Rattle.pth_world.proofs.world.World.top.Goals as goal
 
-pub returns-clause-low : goal.returns-clause-low
-returns-clause-low g c =
-    let f : SFits w64 c.favour_top.result = search rules in
-    rw (to_z-of_z, c.favour_top.ensures, c.queues.ensures) (top_bounds _ _ _ c.requires.sound.orderly.range.1 (c.requires.sound.orderly.each Ready)).0
-
 pub returns-clause-high : goal.returns-clause-high
 returns-clause-high g c =
     let f : SFits w64 c.favour_top.result = search rules in
-    rw (to_z-of_z, c.favour_top.ensures, c.queues.ensures) (top_bounds _ _ _ c.requires.sound.orderly.range.1 (c.requires.sound.orderly.each Ready)).1
+    rw (to_z-of_z, c.favour_top.ensures.value, c.counted.ensures) (top_bounds _ _ _ c.requires.sound.orderly.range.1 (c.requires.sound.orderly.each Ready)).1
