@@ -29,12 +29,12 @@ use Rattle.clap.specs.declared.parser.matches.MatchedArg.{MatchedArg}
 use Rattle.clap.proofs.CallerLemmas.{entry_by_id, same_rules_by_id}
 use Rattle.clap.proofs.WalkLemmas.{one_text-rows}
 use Rattle.clap.proofs.ValueTestLemmas.{Accepts-accepts}
-use Rattle.pth_command.specs.Command.{default_steps, file_rule, generate_rule, play, steps_rule, summary_rule, upgrade_rule}
+use Rattle.pth_command.specs.Command.{audit_rule, default_steps, file_rule, generate_rule, play, steps_rule, summary_rule, upgrade_rule}
 use Rattle.pth_command.specs.CommandLine.{Asked, asked_in, unsigned_of}
 
 -- the rules after that of the steps
 abbrev others : List Rule
-others = summary_rule ∷ upgrade_rule ∷ generate_rule ∷ file_rule ∷ []
+others = audit_rule ∷ summary_rule ∷ upgrade_rule ∷ generate_rule ∷ file_rule ∷ []
 
 rules : play.top.rules ≡ steps_rule ∷ others
 unfolding play

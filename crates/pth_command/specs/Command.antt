@@ -1,4 +1,4 @@
--- The command `pth_play [--steps N] [--summary] [--upgrade] [--generate N] [FILE]`, as clap's description of it.
+-- The command `pth_play [--steps N] [--audit] [--summary] [--upgrade] [--generate N] [FILE]`, as clap's description of it.
 use Rattle.std.specs.Prelude.{ℕ, true, [], ◌∷◌, Some, codes}
 use Rattle.pth_base.specs.Limits.{most_steps}
 use Rattle.clap.specs.Words.{App, Rule, Text, new_app, new_rule, with_rule}
@@ -24,6 +24,10 @@ steps_rule = record (new_rule (codes "steps")) {
 abbrev pub flag_rule : Text → Rule
 flag_rule name = record (new_rule name) { long = Some name; action = Some SetTrue }
 
+-- how long a thread has waited and may wait, beside its dispatch
+abbrev pub audit_rule : Rule
+audit_rule = flag_rule (codes "audit")
+
 -- a line of counts in place of the transcript
 abbrev pub summary_rule : Rule
 summary_rule = flag_rule (codes "summary")
@@ -46,4 +50,4 @@ bare = let app = new_app (codes "pth_play") in
     record app { top = record app.top { no_binary_name = true; disable_help_flag = true } }
 
 unfoldable pub play : App
-play = with_rule (with_rule (with_rule (with_rule (with_rule bare steps_rule) summary_rule) upgrade_rule) generate_rule) file_rule
+play = with_rule (with_rule (with_rule (with_rule (with_rule (with_rule bare steps_rule) audit_rule) summary_rule) upgrade_rule) generate_rule) file_rule

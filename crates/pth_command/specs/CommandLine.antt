@@ -15,6 +15,8 @@ use Rattle.pth_command.specs.declared.command_line.WordsErr.TheVariants as words
 pub record Asked : Type 0 where
   -- how many steps a run makes at most
   pub steps : ℕ
+  -- whether a dispatch tells how long its thread has waited, and how long it may wait
+  pub audit : Bool
   -- whether a line of counts stands in place of the transcript
   pub summary : Bool
   -- whether the text in version 2 is written and nothing is run
@@ -40,6 +42,7 @@ is_set name rows = option_map_or (λ text. bytes_eq text true_text) (one_of name
 abbrev pub asked_in : List Row → Asked
 asked_in rows = record {
   steps = unwrap_or (number_under (codes "steps") rows) default_steps;
+  audit = is_set (codes "audit") rows;
   summary = is_set (codes "summary") rows;
   upgrade = is_set (codes "upgrade") rows;
   generate = number_under (codes "generate") rows;
@@ -55,10 +58,10 @@ abbrev pub is_no_workload : Option ℕ → Option Text → Bool
 is_no_workload None file = false
 is_no_workload (Some n) file = is_some file || (n == 0) || nat_lt 1000 n
 
--- what is asked for, if it goes together: no summary of a run beside the text in version 2, for which nothing is run, and no FILE beside
--- a workload, which stands in its place
+-- what is asked for, if it goes together: no audit and no summary of a run beside the text in version 2, for which nothing is run, and no
+-- FILE beside a workload, which stands in its place
 abbrev pub agreed : Asked → Option Asked
-agreed asked = if (asked.upgrade && asked.summary) || is_no_workload asked.generate asked.file then None else Some asked
+agreed asked = if (asked.upgrade && (asked.audit || asked.summary)) || is_no_workload asked.generate asked.file then None else Some asked
 
 -- nothing if a step of the parse fails, or what is asked for does not go together
 abbrev pub unless_failed : Kinds → Asked → Option Asked
@@ -71,7 +74,7 @@ asked_by words = unless_failed (fault_of play words) (asked_in (matches_of play 
 
 -- a choice as what is asked for
 abbrev pub asked_of : Choice → Asked
-asked_of c = record { steps = c.steps; summary = c.summary; upgrade = c.upgrade; generate = c.generate; file = option_map (λ name. name.now) c.file }
+asked_of c = record { steps = c.steps; audit = c.audit; summary = c.summary; upgrade = c.upgrade; generate = c.generate; file = option_map (λ name. name.now) c.file }
 
 -- the choice is what was asked for, and `Refused` comes exactly if the words are refused, but for want of memory
 abbrev pub Chooses : Option Asked → Result Choice WordsErr → Type 0

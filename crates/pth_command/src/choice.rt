@@ -14,6 +14,8 @@ const DEFAULT_STEPS: u64 = 1_000_000;
 pub struct Choice<'a> {
     /// How many steps the run makes at most (`--steps`): 1 to 1,000,000,000, and 1,000,000 if the words do not say it.
     pub steps: u64,
+    /// Whether a dispatch tells how long its thread has waited, and how long it may wait (`--audit`).
+    pub audit: bool,
     /// Whether a line of counts stands in place of the transcript (`--summary`).
     pub summary: bool,
     /// Whether the text in version 2 is written and nothing is run (`--upgrade`).
@@ -31,6 +33,7 @@ pub fn found<'a>(matches: &ArgMatches<'a>) -> Choice<'a>
     // The command has this number of steps as a default, so one is always found.
     Choice {
         steps: matches.get_one::<u64>("steps").unwrap_or(DEFAULT_STEPS),
+        audit: matches.get_one::<bool>("audit").unwrap_or(false),
         summary: matches.get_one::<bool>("summary").unwrap_or(false),
         upgrade: matches.get_one::<bool>("upgrade").unwrap_or(false),
         generate: matches.get_one::<u64>("generate"),

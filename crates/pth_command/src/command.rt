@@ -54,13 +54,14 @@ fn bare<'a>(alloc: Global) -> Command<'a>
         .disable_help_flag(true)
 }
 
-/// `pth_play [--steps N] [--summary] [--upgrade] [--generate N] [FILE]`, with no flags for help and version. It is handed the words after the
+/// `pth_play [--steps N] [--audit] [--summary] [--upgrade] [--generate N] [FILE]`, with no flags for help and version. It is handed the words after the
 /// program's name.
 pub fn command<'a>(alloc: Global) -> Result<Command<'a>, AllocError>
     ensures { IfOk result (λ c. app_of c ≡ play) }
 {
     bare(alloc)
         .arg(steps(alloc))?
+        .arg(flag(alloc, "audit"))?
         .arg(flag(alloc, "summary"))?
         .arg(flag(alloc, "upgrade"))?
         .arg(generate(alloc))?

@@ -38,7 +38,7 @@ fn agreed(choice: Choice<'_>) -> Result<Choice<'_>, WordsErr>
     ensures same { IfOk result (λ c. c ≡ choice.entry) }
     ensures threads { IfOk result (λ c. IfSome c.generate IsWorkload) }
 {
-    if choice.upgrade && choice.summary || is_no_workload(&choice) {
+    if choice.upgrade && (choice.audit || choice.summary) || is_no_workload(&choice) {
         return Err(WordsErr::Refused);
     }
     Ok(choice)

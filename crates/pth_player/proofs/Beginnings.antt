@@ -12,15 +12,15 @@ use Rattle.pth_model.specs.Course.{Course}
 use Rattle.pth_command.specs.CommandLine.{Asked}
 use Rattle.pth_player.specs.Transcript.{counts_line, ending_of, last_line, lines_of, shown_of, text_of}
 
-lines_more : (xs ys : List Mark) → lines_of (xs ++ ys) ≡ lines_of xs ++ lines_of ys
-lines_more xs ys = flat_map-append (mark_line false) xs ys
+lines_more : (audit : Bool) (xs ys : List Mark) → lines_of audit (xs ++ ys) ≡ lines_of audit xs ++ lines_of audit ys
+lines_more audit xs ys = flat_map-append (mark_line audit) xs ys
 
 pub shown_more : (asked : Asked) (xs ys : List Mark) → shown_of asked (xs ++ ys) ≡ shown_of asked xs ++ shown_of asked ys
 shown_more asked xs ys = go asked.summary
   where
-    go : (b : Bool) → (if b then [] else lines_of (xs ++ ys)) ≡ (if b then [] else lines_of xs) ++ (if b then [] else lines_of ys)
+    go : (b : Bool) → (if b then [] else lines_of asked.audit (xs ++ ys)) ≡ (if b then [] else lines_of asked.audit xs) ++ (if b then [] else lines_of asked.audit ys)
     go true = refl
-    go false = lines_more xs ys
+    go false = lines_more asked.audit xs ys
 
 in_parts : (b : Bool) (counts lines last : List ℕ) → (if b then counts else lines) ++ last ≡ (if b then [] else lines) ++ ((if b then counts else []) ++ last)
 in_parts true counts lines last = refl
@@ -28,7 +28,7 @@ in_parts false counts lines last = refl
 
 -- the text is what is written of all marks, and what is written after them
 pub text_parts : {P S H : Type 0} (asked : Asked) (c : Course P S H) → text_of asked c ≡ shown_of asked c.marks ++ ending_of asked c
-text_parts asked c = in_parts asked.summary (counts_line c) (lines_of c.marks) (last_line asked.steps c)
+text_parts asked c = in_parts asked.summary (counts_line c) (lines_of asked.audit c.marks) (last_line asked.steps c)
 
 module _ {P S H : Type 0} (f : P → Functions S H) (g : Given P) where
   -- so many parts later

@@ -72,9 +72,9 @@ within first made left n total none h few = omega arith
 spent : (first made left n total : ℕ) → first ≡ 0 → made + left ≡ first + total → n ≤ left → left - n ≡ 0 → made + n ≡ total
 spent first made left n total none h few e = omega arith
 
-none_of_none : (b : Bool) → (if b then [] else lines_of []) ≡ []
-none_of_none true = refl
-none_of_none false = refl
+none_of_none : (audit b : Bool) → (if b then [] else lines_of audit []) ≡ []
+none_of_none audit true = refl
+none_of_none audit false = refl
 
 module _ {P S H : Type 0} (f : P → Functions S H) (g : Given P) (asked : Asked) where
   -- The machine stands at a part of the run, before which the run does not stop. What was told up to there was written but
@@ -92,7 +92,7 @@ module _ {P S H : Type 0} (f : P → Functions S H) (g : Given P) (asked : Asked
   Stopped to m old new pending = (u : Underway m old new pending) × (stops to (run f g u.at) ≡ true)
 
   none_shown : shown_of asked [] ≡ []
-  none_shown = none_of_none asked.summary
+  none_shown = none_of_none asked.audit asked.summary
 
   -- where the run stops, and its output
   stop : (j : ℕ) × GoesTo f g asked.steps 0 j

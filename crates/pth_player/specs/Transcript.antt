@@ -1,5 +1,5 @@
 -- The text of a run, and what is written of it.
-use Rattle.std.specs.Prelude.{◌≡◌, ◌++◌, ℕ, List, [], Result, Ok, Err, false, flat_map, if◌then◌else◌}
+use Rattle.std.specs.Prelude.{◌≡◌, ◌++◌, ℕ, Bool, List, [], Result, Ok, Err, flat_map, if◌then◌else◌}
 use Rattle.std.specs.Io.KnownBytes.{Appends}
 use Rattle.pth_streams.specs.Faults.{Rose}
 use Rattle.pth_base.specs.declared.mark.Mark.{Mark}
@@ -13,13 +13,13 @@ use Rattle.pth_print.specs.EndLines.{end_line, summary_line}
 use Rattle.pth_command.specs.CommandLine.{Asked}
 use Rattle.pth_player.specs.Streams.{AppendsPart, AppendsPrefix, Received}
 
--- the lines of marks
-abbrev pub lines_of : List Mark → List ℕ
-lines_of marks = flat_map (mark_line false) marks
+-- the lines of marks, with what an audit tells of dispatches if one is asked for
+abbrev pub lines_of : (audit : Bool) → List Mark → List ℕ
+lines_of audit marks = flat_map (mark_line audit) marks
 
 -- what is written of marks: their lines, and nothing for a summary
 abbrev pub shown_of : Asked → List Mark → List ℕ
-shown_of asked marks = if asked.summary then [] else lines_of marks
+shown_of asked marks = if asked.summary then [] else lines_of asked.audit marks
 
 module _ {P S H : Type 0} where
   -- the line of counts: the threads ever made, the turns, the steps, and the moment
@@ -33,7 +33,7 @@ module _ {P S H : Type 0} where
   -- The text of a run that came so far: the lines of all marks and the line of the outcome. If a summary is asked for, the
   -- line of counts stands in place of the marks'.
   abbrev pub text_of : Asked → Course P S H → List ℕ
-  text_of asked c = (if asked.summary then counts_line c else lines_of c.marks) ++ last_line asked.steps c
+  text_of asked c = (if asked.summary then counts_line c else lines_of asked.audit c.marks) ++ last_line asked.steps c
 
   -- the line of counts if a summary is asked for
   abbrev pub counts_of : Asked → Course P S H → List ℕ

@@ -31,12 +31,12 @@ const MOST_MARKS: usize = 4096;
 /// How many steps are made before the marks are counted.
 const STRIDE: u64 = 4;
 
-/// Adds the lines of marks.
-fn add_lines(marks: &[Mark], text: &mut Text) -> Result<(), OutOfMemory>
-    ensures { OnOk result (text.new ≡ text.old ++ lines_of marks.now) }
+/// Adds the lines of marks, with what an audit tells of dispatches if one is asked for.
+fn add_lines(marks: &[Mark], audit: bool, text: &mut Text) -> Result<(), OutOfMemory>
+    ensures { OnOk result (text.new ≡ text.old ++ lines_of audit marks.now) }
 {
     for mark in marks {
-        mark_line(mark, false, text)?;
+        mark_line(mark, audit, text)?;
     }
     Ok(())
 }
@@ -55,7 +55,7 @@ fn write_marks<O: Sink>(
 {
     text.clear();
     if !choice.summary {
-        add_lines(marks, text)?;
+        add_lines(marks, choice.audit, text)?;
     }
     write_all(out, text.as_slice())
 }

@@ -1,7 +1,7 @@
 //! The words, the script and the run.
 
 ghost use Rattle.std.specs.Prelude.{◌≡◌, ◌≤◌, IfOk, IfSome, Some, true, false, map, string_bytes};
-ghost use Rattle.pth_base.specs.Limits.{most_steps};
+ghost use Rattle.pth_base.specs.Limits.{most_steps, IsGreatestPriority};
 ghost use Rattle.pth_line.specs.Script.{functions_of};
 ghost use Rattle.pth_command.specs.CommandLine.{IsWorkload, asked_by, asked_of};
 ghost use Rattle.pth_sched.specs.Running.{StandsAt};
@@ -32,7 +32,7 @@ const PIECE: u64 = 1000;
 
 // The machine of a script on its kernel.
 fn machine_of(alloc: Global, read: (Script, Kernel, u8)) -> Result<Machine<Script>, OutOfMemory>
-    requires { (5 ≤ read.2) × (read.2 ≤ 20) }
+    requires { IsGreatestPriority read.2 }
     ensures stands { IfOk result (λ m. StandsAt functions_of (given_script read) 0 m) }
     ensures steps { IfOk result (λ m. m.turn.steps ≡ 0) }
 {

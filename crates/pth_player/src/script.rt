@@ -1,6 +1,7 @@
 //! The script that the words ask for, with its kernel, or its text in version 2. It is read from the input or from a file, or made.
 
-ghost use Rattle.std.specs.Prelude.{◌≡◌, ◌≤◌, IfOk, IfSome, Some, option_map};
+ghost use Rattle.std.specs.Prelude.{◌≡◌, IfOk, IfSome, Some, option_map};
+ghost use Rattle.pth_base.specs.Limits.{IsGreatestPriority};
 ghost use Rattle.pth_command.specs.CommandLine.{IsWorkload, asked_of};
 ghost use Rattle.pth_player.specs.Objects.{asked_object, inputs, object_named, ObjectCounts, OthersUntouched};
 ghost use Rattle.pth_player.specs.Streams.{CountsRead, TakesUpTo};
@@ -102,7 +103,7 @@ pub fn read_script<S: Source, F: Files>(
     ensures script { ReadsText IsRead (asked_object (Some (asked_of choice.now)))
         (inputs (S.left input.old) (S.faults input.old) (F.left files.old) (F.held files.old) (F.faults files.old))
         (inputs (S.left input.new) (S.faults input.new) (F.left files.new) (F.held files.new) (F.faults files.new)) result }
-    ensures range { IfOk result (λ read. (5 ≤ read.2) × (read.2 ≤ 20)) }
+    ensures range { IfOk result (λ read. IsGreatestPriority read.2) }
     ensures others { OthersUntouched (asked_object (Some (asked_of choice.now))) input.old input.new files.old files.new }
 {
     let bytes = read_bytes(alloc, choice, input, files).map_err(fault_of_read)?;

@@ -1,6 +1,6 @@
 use Rattle.std.proofs.Common.{Some}
+use Rattle.pth_base.specs.Limits.{IsGreatestPriority}
 use Rattle.pth_command.specs.CommandLine.{asked_of}
-use Rattle.pth_script.proofs.Headings.{IsRange}
 use Rattle.pth_player.proofs.Reading.{as_read, read_is, unread_is}
 use Rattle.pth_player.proofs.Results.{kept, ok_kept}
 use Rattle.pth_player.specs.Objects.{asked_object, inputs}
@@ -24,4 +24,4 @@ returns-clause-script g c =
     read_is IsRead object old new _ _ _ c.read.result taken c.deref.ensures.value (as_read _ c.read.result c.read.ensures.read) c.map_err-2.ensures.cases
 
 pub returns-clause-range : goal.returns-clause-range
-returns-clause-range g c = ok_kept (λ read. IsRange read.2) fault_of_script c.read.result c.map_err-2.result c.read.ensures.range c.map_err-2.ensures.cases
+returns-clause-range g c = ok_kept (λ read. IsGreatestPriority read.2) fault_of_script c.read.result c.map_err-2.result c.read.ensures.range c.map_err-2.ensures.cases
