@@ -1,8 +1,9 @@
 -- The heading, as its lines are read.
-use Rattle.std.proofs.Common.{◌≡◌, ◌∙◌, ◌≤◌, ℕ, Bool, true, false, List, [], ◌∷◌, ◌++◌, Option, Some, None, IfSome, IfOk, Result, Ok, Err, refl, ap, sym, subst, arith, unwrap_or, codes, drop, if◌then◌else◌}
+use Rattle.std.proofs.Common.{◌≡◌, ◌∙◌, ℕ, Bool, true, false, List, [], ◌∷◌, ◌++◌, Option, Some, None, IfSome, IfOk, Result, Ok, Err, refl, ap, sym, subst, arith, unwrap_or, codes, drop, if◌then◌else◌}
 use Rattle.std.specs.Prelude.{reverse}
 use Rattle.std.specs.Str.{bytes_eq}
 use Rattle.std.proofs.lemmas.Slice.Eq.{bytes_eq-Decides}
+use Rattle.pth_base.specs.Limits.{IsGreatestPriority}
 use Rattle.pth_kernel.specs.Kernel.{KernelOf}
 use Rattle.pth_line.specs.Script.{Sections}
 use Rattle.pth_spelling.specs.Named.{named_in}
@@ -73,41 +74,37 @@ still_read before row range h = (below_it before row h.0, λ rest. ap range_of (
 
 -- ---- its range
 
--- from 5 to 20
-abbrev pub IsRange : ℕ → Type 0
-IsRange k = (5 ≤ k) × (k ≤ 20)
-
 abbrev AreRanges : List (List ℕ × ℕ) → Type 0
 AreRanges [] = Unit {0}
-AreRanges (row ∷ rows) = IsRange row.1 × AreRanges rows
+AreRanges (row ∷ rows) = IsGreatestPriority row.1 × AreRanges rows
 
-if_range : (b : Bool) (k : ℕ) (o : Option ℕ) → IsRange k → IfSome o IsRange → IfSome (if b then Some k else o) IsRange
+if_range : (b : Bool) (k : ℕ) (o : Option ℕ) → IsGreatestPriority k → IfSome o IsGreatestPriority → IfSome (if b then Some k else o) IsGreatestPriority
 if_range true k o h more = h
 if_range false k o h more = more
 
-named_range : (rows : List (List ℕ × ℕ)) (bytes : List ℕ) → AreRanges rows → IfSome (named_in rows bytes) IsRange
+named_range : (rows : List (List ℕ × ℕ)) (bytes : List ℕ) → AreRanges rows → IfSome (named_in rows bytes) IsGreatestPriority
 unfolding named_in
 named_range [] bytes all = tt
 named_range (row ∷ rows) bytes all = if_range (bytes_eq bytes row.0) row.1 (named_in rows bytes) all.0 (named_range rows bytes all.1)
 
-said_range : (bytes : List ℕ) → IfSome (range_said bytes) IsRange
+said_range : (bytes : List ℕ) → IfSome (range_said bytes) IsGreatestPriority
 unfolding range_said
 said_range bytes = named_range ranges bytes ((omega arith, omega arith), ((omega arith, omega arith), ((omega arith, omega arith), ((omega arith, omega arith), ((omega arith, omega arith), ((omega arith, omega arith), ((omega arith, omega arith), ((omega arith, omega arith), ((omega arith, omega arith), ((omega arith, omega arith), ((omega arith, omega arith), ((omega arith, omega arith), ((omega arith, omega arith), ((omega arith, omega arith), ((omega arith, omega arith), ((omega arith, omega arith), tt))))))))))))))))
 
-or_first : (o : Option ℕ) → IfSome o IsRange → IsRange (unwrap_or o version_1_range)
+or_first : (o : Option ℕ) → IfSome o IsGreatestPriority → IsGreatestPriority (unwrap_or o version_1_range)
 or_first (Some k) h = h
 or_first None h = (omega arith, omega arith)
 
-pub range_within : (rows : List TextRow) → IsRange (range_of rows)
+pub range_within : (rows : List TextRow) → IsGreatestPriority (range_of rows)
 range_within [] = (omega arith, omega arith)
 range_within (r ∷ []) = (omega arith, omega arith)
 range_within (r ∷ s ∷ rs) = by_version (is_version_2 r)
   where
-    by_version : (b : Bool) → IsRange (if b then unwrap_or (range_said s.bytes) version_1_range else version_1_range)
+    by_version : (b : Bool) → IsGreatestPriority (if b then unwrap_or (range_said s.bytes) version_1_range else version_1_range)
     by_version true = or_first (range_said s.bytes) (said_range s.bytes)
     by_version false = (omega arith, omega arith)
 
 -- what is read has one
-pub read_range : (text : List ℕ) (r : Result (Sections × KernelOf × ℕ) ReadErr) → IsReadAs text r → IfOk r (λ read. IsRange read.2)
-read_range text (Ok read) is = subst IsRange (sym is.3) (range_within (text_rows text))
+pub read_range : (text : List ℕ) (r : Result (Sections × KernelOf × ℕ) ReadErr) → IsReadAs text r → IfOk r (λ read. IsGreatestPriority read.2)
+read_range text (Ok read) is = subst IsGreatestPriority (sym is.3) (range_within (text_rows text))
 read_range text (Err e) is = tt

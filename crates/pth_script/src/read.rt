@@ -1,6 +1,7 @@
 //! Scripts from their text.
 
-ghost use Rattle.std.specs.Prelude.{◌≡◌, ◌≤◌, ℕ, List, [], IfOk};
+ghost use Rattle.std.specs.Prelude.{◌≡◌, ℕ, List, [], IfOk};
+ghost use Rattle.pth_base.specs.Limits.{IsGreatestPriority};
 ghost use Rattle.pth_script.specs.Drafts.{draft_parts, IsDraftInOrder};
 ghost use Rattle.pth_script.specs.Follows.{IsReadAs, Reads, breach_error};
 ghost use Rattle.pth_script.specs.TextRows.{TextRow};
@@ -65,7 +66,7 @@ fn finish(reader: Reader, line: u32) -> Result<(Script, Kernel, u8), ReadErr>
 /// text that begins with `pth 1`. It is refused at the least line that breaks a rule, for the first such rule.
 pub fn read(alloc: Global, bytes: &[u8]) -> Result<(Script, Kernel, u8), ReadErr>
     ensures read { IsReadAs bytes.now result }
-    ensures range { IfOk result (λ read. (5 ≤ read.2) × (read.2 ≤ 20)) }
+    ensures range { IfOk result (λ read. IsGreatestPriority read.2) }
 {
     let mut reader = Reader::new(alloc);
     let mut line: u32 = 1;
