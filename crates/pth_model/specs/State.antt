@@ -1,5 +1,5 @@
 -- The state of the machine: what threads have, which marks alone change, and all else, which calls change.
-use Rattle.std.specs.Prelude.{ℕ, pos, Bool, true, false, List, [], ◌∷◌, Option, Some, None, codes}
+use Rattle.std.specs.Prelude.{ℕ, pos, Bool, true, false, List, [], ◌∷◌, Option, Some, None, option_map, codes}
 use Rattle.pth_base.specs.Program.{Functions}
 use Rattle.pth_base.specs.Table.{put}
 use Rattle.pth_base.specs.declared.answer.Answer.TheVariants as answer
@@ -20,7 +20,7 @@ use Rattle.pth_cond.specs.Barriers.{BarrierTable, no_barriers}
 use Rattle.pth_kernel.specs.Kernel.{Kernel}
 use Rattle.pth_model.specs.Resources.{Resources, no_resources}
 use Rattle.pth_model.specs.Standing.{Standing, shown, raises_of}
-use Rattle.pth_model.specs.Allowance.{Point}
+use Rattle.pth_model.specs.Allowance.{Point, allowed, standing_of, waited}
 
 -- the threads, by number, and where they stand
 pub record Threads (S : Type 0) : Type 0 where
@@ -81,6 +81,13 @@ now_of k = k.kernel.now
 
 abbrev pub clock_of : {P S H : Type 0} → Control P S H → ℕ
 clock_of k = k.kernel.clock
+
+-- how often another thread was dispatched since this one became ready, and how often it may be at most; none if it is not ready
+abbrev pub wait_of : {P S H : Type 0} → Control P S H → ℕ → Option ℕ
+wait_of k t = option_map (waited k.threads.trail) (standing_of t (k.threads.standing Ready))
+
+abbrev pub allowance_of : {P S H : Type 0} → Control P S H → ℕ → Option ℕ
+allowance_of k t = option_map (allowed k.top k.threads.trail) (standing_of t (k.threads.standing Ready))
 
 -- what a run counts from turn to turn: no call sees or changes it
 pub record Turn : Type 0 where

@@ -9,8 +9,8 @@ use Rattle.pth_base.specs.Table.{put}
 use Rattle.pth_base.proofs.Tables.{put_here, put_other}
 use Rattle.pth_tables.specs.declared.waits.Wait.{Wait}
 use Rattle.pth_tables.specs.Waits.{WaitsOf, waited_by, is_due}
-use Rattle.pth_tables.specs.DueTable.{due_of, dues, cell, cells_hold, more_at, less_at, none_at, left_due, IsTable}
-use Rattle.pth_tables.proofs.Slots.{one_if, counted-alike, counted-none}
+use Rattle.pth_tables.specs.DueTable.{due_of, dues, cell, cells_hold, more_at, less_at, none_at, left_due, one_if, IsTable}
+use Rattle.pth_tables.proofs.Slots.{counted-alike, counted-none}
 
 -- two of the next 64 dispatches have two cells
 apart_cells : (d e low : ℕ) → low ≤ d → d < low + 64 → low ≤ e → e < low + 64 → d ≢ e → d % 64 ≢ e % 64

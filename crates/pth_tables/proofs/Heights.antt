@@ -17,10 +17,12 @@ use Rattle.pth_queue.proofs.Orders.{All-insert}
 use Rattle.pth_queue.proofs.Places.{placed, moved}
 use Rattle.pth_queue.proofs.Sets.{room-with, count-le-times, times-nowhere, holds-queue_of}
 use Rattle.pth_tables.specs.declared.counted_queues.PerQueue.{PerQueue}
+use Rattle.pth_tables.specs.declared.mark.Mark.{Mark}
 use Rattle.pth_tables.specs.Waits.{KeptWaits, waits_of}
 use Rattle.pth_tables.specs.Counted.{kept_of, with_kept, AreAlike, IsRaisedHeight, AreRaisedHeights, AreKeptBeside}
 use Rattle.pth_tables.proofs.Counting.{counts_grown}
 use Rattle.pth_tables.proofs.Keeping.{beside_grown}
+use Rattle.pth_tables.proofs.Places.{marked_roomy}
 use Rattle.pth_tables.proofs.Slots.{table_longer}
 
 -- ---- in 64 bits
@@ -200,12 +202,13 @@ pub room_with : (v x : QueuesOf) (q : Queue) (rows : List Ranked) (n m : ℕ) �
 room_with v x q rows n m is low same = let room : v.room ≡ x.room = ap (λ (k : QueuesOf). k.room) is ∙ room-with q rows x in omega arith
 
 -- More slots may be used, or as many: there is room for them.
-pub counted_grown : (v x : QueuesOf) (lengths : PerQueue ℕ) (raises : PerQueue ℤ) (heights now : List ℤ) (waits after : KeptWaits) (due : List ℕ) (n room : ℕ) → AreKeptBeside x lengths raises heights waits due → now ≡ heights ++ replicate n (pos 0) → v ≡ record x { room = room } → room ≤ length heights + n → waits_of after ≡ waits_of waits → room ≤ length after.slots → AreKeptBeside v lengths raises now after due
-counted_grown v x lengths raises heights now waits after due n room kept more is fits same low = record {
+pub counted_grown : (v x : QueuesOf) (lengths : PerQueue ℕ) (raises : PerQueue ℤ) (heights now : List ℤ) (waits after : KeptWaits) (due : List ℕ) (mark : Option Mark) (n room : ℕ) → AreKeptBeside x lengths raises heights waits due mark → now ≡ heights ++ replicate n (pos 0) → v ≡ record x { room = room } → room ≤ length heights + n → waits_of after ≡ waits_of waits → room ≤ length after.slots → AreKeptBeside v lengths raises now after due mark
+counted_grown v x lengths raises heights now waits after due mark n room kept more is fits same low = record {
   counts = counts_grown v x lengths kept.counts room is;
   room = let here : v.room ≡ room = ap (λ (k : QueuesOf). k.room) is in omega (arith, longer);
   tells = subst (AreRaisedHeights v raises) (sym more) (tells_grown v x raises heights kept.tells n room is);
   beside = beside_grown x (waits_of waits) (length waits.slots) due kept.beside v (waits_of after) room (length after.slots) is same low;
+  marked = marked_roomy x v mark kept.marked room is;
 }
   where
     longer : length now ≡ length heights + n

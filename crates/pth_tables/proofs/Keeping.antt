@@ -19,11 +19,11 @@ use Rattle.pth_queue.proofs.Sets.{once_in, holds-queue_of, times-nowhere, count-
 use Rattle.pth_tables.specs.declared.waits.Wait.{Wait}
 use Rattle.pth_tables.specs.Waits.{WaitsOf, KeptWaits, waits_of, no_wait, no_waits, enters_ready, leaves_ready, seen_at_top, met, dispatched, is_counting, takes_ready}
 use Rattle.pth_tables.specs.CountedOf.{IsEntryRank, waits_with, waits_without}
-use Rattle.pth_tables.specs.DueTable.{due_with, due_without, none_at, left_due, IsTable}
+use Rattle.pth_tables.specs.DueTable.{due_with, due_without, none_at, left_due, one_if, IsTable}
 use Rattle.pth_tables.specs.Counted.{IsHigh, AreWaitsBeside}
 use Rattle.pth_tables.proofs.Counting.{few_rows}
 use Rattle.pth_tables.proofs.DueTables.{table-none, table-alike, table-entered, table-left, table-taken}
-use Rattle.pth_tables.proofs.Slots.{table_longer, one_if, counted-insert, stands-insert, stands-count, count-stands, counted-delete, stands-delete, slots-increase}
+use Rattle.pth_tables.proofs.Slots.{table_longer, counted-insert, stands-insert, stands-count, count-stands, counted-delete, stands-delete, slots-increase}
 use Rattle.pth_tables.proofs.Walks.{dispatches-reached_all, top-reached_all, entered-reached_all, grace-reached_all}
 
 -- no grace goes round the table

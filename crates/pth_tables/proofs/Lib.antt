@@ -1,4 +1,4 @@
-pub mod Backwards
+pub mod Places
 pub mod Counting
 pub mod DueTables
 pub mod Heights

@@ -12,6 +12,7 @@ use Rattle.pth_queue.specs.declared.ranked.Ranked.{Ranked}
 use Rattle.pth_queue.specs.Ranking.{is_of, insert, delete, increase}
 use Rattle.pth_queue.specs.Arena.{slots_of}
 use Rattle.pth_queue.proofs.Counts.{count-cons, delete-none}
+use Rattle.pth_tables.specs.DueTable.{one_if}
 
 -- a list with more of the default is the same table
 pub table_longer : {A : Type 0} (xs : List A) (n : ℕ) (d : A) → table d (xs ++ replicate n d) ≡ table d xs
@@ -27,9 +28,6 @@ table_longer xs n d = fun_ext (λ i. by_place i (cases_lt i (length xs)))
     ]
 
 -- ---- how many slots pass a test
-
-abbrev pub one_if : Bool → ℕ
-one_if b = cond b 1 0
 
 pub counted-cons : (f : ℕ → Bool) (x : ℕ) (xs : List ℕ) → count_by f (x ∷ xs) ≡ one_if (f x) + count_by f xs
 counted-cons f x xs = sum_by-cons (λ s. cond (f s) 1 0) x xs

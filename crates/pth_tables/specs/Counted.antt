@@ -1,5 +1,5 @@
 -- What is kept beside the queues: how many stand in each, and what tells their ranks.
-use Rattle.std.specs.Prelude.{◌≡◌, ◌≤◌, ℕ, ℤ, pos, neg_ℤ, ◌+ℤ◌, ◌≤ℤ◌, List, All, length}
+use Rattle.std.specs.Prelude.{◌≡◌, ◌≤◌, ℕ, ℤ, pos, neg_ℤ, ◌+ℤ◌, ◌≤ℤ◌, List, All, length, Option}
 use Rattle.std.specs.Int.{w64, int_wrap}
 use Rattle.pth_base.specs.Table.{table}
 use Rattle.pth_queue.specs.declared.queue.Queue.{Queue}
@@ -9,7 +9,9 @@ use Rattle.pth_queue.specs.Arena.{slots_of}
 use Rattle.pth_queue.specs.Queues.{QueuesOf, rows_of}
 use Rattle.pth_tables.specs.declared.counted_queues.PerQueue.{PerQueue}
 use Rattle.pth_tables.specs.Waits.{WaitsOf, KeptWaits, waits_of}
+use Rattle.pth_tables.specs.declared.mark.Mark.{Mark}
 use Rattle.pth_tables.specs.DueTable.{IsTable}
+use Rattle.pth_tables.specs.Marks.{IsMarked}
 
 -- what is kept of one queue
 abbrev pub kept_of : {A : Type 0} → Queue → PerQueue A → A
@@ -55,9 +57,10 @@ pub record AreWaitsBeside (queues : QueuesOf) (x : WaitsOf) (slots : ℕ) (due :
   pub high : All IsHigh queues.ready
   pub table : IsTable (slots_of queues.ready) x.dispatches x.waits due
 
-pub record AreKeptBeside (queues : QueuesOf) (lengths : PerQueue ℕ) (raises : PerQueue ℤ) (heights : List ℤ) (waits : KeptWaits) (due : List ℕ) : Type 0 where
+pub record AreKeptBeside (queues : QueuesOf) (lengths : PerQueue ℕ) (raises : PerQueue ℤ) (heights : List ℤ) (waits : KeptWaits) (due : List ℕ) (mark : Option Mark) : Type 0 where
   pub counts : AreCounted queues lengths
   -- each slot that may be used has a height
   pub room : queues.room ≤ length heights
   pub tells : AreRaisedHeights queues raises heights
   pub beside : AreWaitsBeside queues (waits_of waits) (length waits.slots) due
+  pub marked : IsMarked (slots_of queues.ready) mark

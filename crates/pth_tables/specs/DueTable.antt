@@ -1,10 +1,14 @@
 -- How many of the ready threads come to the point after their grace, by dispatch, for the next 64 dispatches.
-use Rattle.std.specs.Prelude.{◌≡◌, ℕ, ◌+◌, ◌-◌, ◌%◌, ◌^◌, ◌<◌, ◌≤◌, ◌==◌, nat_le, List, length, count_by, slice_index, slice_set, if◌then◌else◌}
+use Rattle.std.specs.Prelude.{◌≡◌, ℕ, ◌+◌, ◌-◌, ◌%◌, ◌^◌, ◌<◌, ◌≤◌, ◌==◌, nat_le, Bool, List, length, count_by, slice_index, slice_set, if◌then◌else◌}
 use Rattle.pth_base.specs.Chain.{StandsIn}
 use Rattle.pth_queue.specs.declared.queue.Queue.{Queue}
 use Rattle.pth_queue.specs.declared.queue.Queue.TheVariants.{New, Ready, Waiting, Suspended, Dead}
 use Rattle.pth_tables.specs.declared.waits.Wait.{Wait}
 use Rattle.pth_tables.specs.Waits.{WaitsOf, waited_by, is_due}
+
+-- 1 if it holds, else 0
+abbrev pub one_if : Bool → ℕ
+one_if b = if b then 1 else 0
 
 -- so many dispatches come before the one at which the thread of a slot comes to the point after its grace
 abbrev pub due_of : (ℕ → Wait) → ℕ → ℕ

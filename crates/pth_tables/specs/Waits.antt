@@ -1,8 +1,9 @@
 -- What is kept for the waits of the ready threads, by slot, and its changes: nothing of a trail.
-use Rattle.std.specs.Prelude.{ℕ, suc, ◌+◌, ◌-◌, ◌%◌, ◌^◌, ◌==◌, ◌&&◌, nat_lt, nat_le, Bool, false, ℤ, List, [], ◌∷◌, if◌then◌else◌}
+use Rattle.std.specs.Prelude.{◌≡◌, ℕ, suc, ◌+◌, ◌-◌, ◌%◌, ◌^◌, ◌==◌, ◌&&◌, nat_lt, nat_le, Bool, true, false, ℤ, List, [], ◌∷◌, if◌then◌else◌}
 use Rattle.pth_base.specs.Limits.{last_count}
 use Rattle.pth_base.specs.Table.{put, table}
 use Rattle.pth_model.specs.Allowance.{grace}
+use Rattle.pth_tables.specs.declared.waits.Turn.{Turn}
 use Rattle.pth_tables.specs.declared.waits.Wait.{Wait}
 
 -- so many numbers a word holds
@@ -121,6 +122,12 @@ allowed_taken s x = if nat_lt (waited_by s x) (x.waits s).grace then (x.waits s)
 -- counts stand still after so many dispatches
 abbrev pub is_counting : WaitsOf → Bool
 is_counting x = nat_lt x.dispatches last_count
+
+-- While dispatches are counted: how long the thread of a slot waited, and how long it might, if it is dispatched now, where these
+-- slots are ready, in order.
+pub record TellsTurn (s : ℕ) (order : List ℕ) (x : WaitsOf) (turn : Turn) : Type 0 where
+  pub waited : is_counting x ≡ true → turn.waited ≡ waited_by s (met order x)
+  pub allowed : is_counting x ≡ true → turn.allowed ≡ allowed_taken s (met order x)
 
 -- a dispatch, by name or not, where these slots are ready, in order
 unfoldable pub takes_ready : Bool → List ℕ → WaitsOf → WaitsOf

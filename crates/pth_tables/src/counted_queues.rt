@@ -7,8 +7,9 @@ ghost use Rattle.pth_base.specs.Limits.{IsGreatestPriority};
 ghost use Rattle.pth_queue.specs.Ranking.{favour_top, increase};
 ghost use Rattle.pth_queue.specs.Queues.{rows_of, with_rows, queue_of, IsNowhere, place_of, CanRise};
 
+use crate::mark::Mark;
 use crate::waits::{Turn, Waits};
-use crate::{dispatching, due};
+use crate::{dispatching, due, mark};
 use pth_base::ids::Slot;
 use pth_base::memory::OutOfMemory;
 use pth_queue::queue::Queue;
@@ -82,6 +83,8 @@ pub struct CountedQueues {
     waits: Waits,
     // By dispatch modulo 64: how many of the ready threads come at it to the point after their grace.
     due: [u32; 64],
+    // Who came to it last, while the place is known.
+    mark: Option<Mark>,
 }
 
 impl Model for CountedQueues {
@@ -93,7 +96,7 @@ impl Model for CountedQueues {
 
     ghost view = { λ s. record { queues = s.queues; waits = s.waits } };
 
-    ghost invariant = { λ s. AreKeptBeside s.queues s.lengths s.raises s.heights.items s.waits s.due };
+    ghost invariant = { λ s. AreKeptBeside s.queues s.lengths s.raises s.heights.items s.waits s.due s.mark };
 }
 
 // By hand, so that letting one go is one call in each proof.
@@ -106,12 +109,13 @@ impl Drop for CountedQueues {
             heights: _,
             waits: _,
             due: _,
+            mark: _,
         } = self;
     }
 }
 
 impl CountedQueues {
-    ghost use Rattle.pth_tables.specs.Waits.{waited_by, met, allowed_by, allowed_taken, is_counting};
+    ghost use Rattle.pth_tables.specs.Waits.{waited_by, allowed_by, TellsTurn};
     ghost use Rattle.pth_tables.specs.CountedOf.{counted, nothing_counted, enters_counted, leaves_counted, takes_counted, IsEntryRank};
 
     /// Five empty queues, no dispatch, and no slot that may be used (`pth_pqueue_init`). Base priorities go up to `top`, which is from 5 to 20.
@@ -138,6 +142,7 @@ impl CountedQueues {
             heights: Vec::new(alloc),
             waits: Waits::new(alloc, top),
             due: due::nobody(),
+            mark: None,
         }
     }
 
@@ -167,6 +172,7 @@ impl CountedQueues {
         self.lengths.set(q, n + 1);
         self.heights[s.0 as usize] = rank.wrapping_sub(self.raises.of(q));
         due::enter(q, rank, s, top, &mut self.waits, &mut self.due);
+        self.mark = mark::after_entry(self.mark, &self.queues, q, s);
     }
 
     /// Takes a slot out of the queue in which it stands (`pth_pqueue_delete`). Its thread is not dispatched.
@@ -175,7 +181,8 @@ impl CountedQueues {
         ensures queue { Some result ≡ queue_of s.0 self.old.queues }
         ensures rows { counted self.new ≡ leaves_counted s.0 (counted self.old) }
     {
-        let _home = self.queues.queue_of(s);
+        let home = self.queues.queue_of(s);
+        self.mark = mark::after_leaving(self.mark, &self.queues, home, s);
         let q = self.queues.delete(s);
         let n = self.lengths.of(q);
         self.lengths.set(q, n - 1);
@@ -188,13 +195,21 @@ impl CountedQueues {
     pub fn dispatch(&mut self, s: Slot, by_name: bool) -> Turn
         requires ready { queue_of s.0 self.old.queues ≡ Some Queue.Ready }
         ensures value { counted self.new ≡ takes_counted s.0 by_name (counted self.old) }
-        ensures waited { is_counting (counted self.old).waits ≡ true → result.waited ≡ waited_by s.0 (met (slots_of self.old.queues.ready) (counted self.old).waits) }
-        ensures allowed { is_counting (counted self.old).waits ≡ true → result.allowed ≡ allowed_taken s.0 (met (slots_of self.old.queues.ready) (counted self.old).waits) }
+        ensures turn { TellsTurn s.0 (slots_of self.old.queues.ready) (counted self.old).waits result }
         ensures brief { ((counted self.old).waits.waits s.0).grace < 64 }
     {
-        let _home = self.queues.queue_of(s);
+        let home = self.queues.queue_of(s);
         let n = self.lengths.ready;
-        let turn = dispatching::take(&self.queues, &mut self.waits, &mut self.due, n, s, by_name);
+        let turn = dispatching::take(
+            &self.queues,
+            &mut self.waits,
+            &mut self.due,
+            &mut self.mark,
+            n,
+            s,
+            by_name,
+        );
+        self.mark = mark::after_leaving(self.mark, &self.queues, home, s);
         let _queue = self.queues.delete(s);
         self.lengths.ready = n - 1;
         turn

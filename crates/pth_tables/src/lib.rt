@@ -8,5 +8,6 @@
 pub mod counted_queues;
 mod dispatching;
 mod due;
+mod mark;
 pub mod progress_table;
 pub mod waits;

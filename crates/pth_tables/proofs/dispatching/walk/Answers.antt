@@ -1,49 +1,50 @@
-use Rattle.std.proofs.Common.{◌-◌, length, refl, sym, subst, ◌∙◌, arith, ap}
+use Rattle.std.proofs.Common.{◌∙◌, refl, arith}
 use Rattle.pth_queue.specs.Arena.{slots_of}
-use Rattle.pth_tables.specs.Waits.{WaitsOf, KeptWaits, waits_of}
-use Rattle.pth_tables.proofs.Walks.{walk_ends}
-use Rattle.pth_tables.proofs.Backwards.{IsAt, none_last, no_row, at_tail, above, at_low, at_met, at_past}
+use Rattle.pth_tables.specs.Waits.{waits_of}
+use Rattle.pth_tables.specs.Marks.{up_to}
+use Rattle.pth_tables.proofs.Places.{at_low, at_home}
+use Rattle.pth_tables.proofs.Walks.{at_first, settled, at_next, walk_goes_on, walk_ends}
 use Rattle.pth_tables.proofs.dispatching.walk.Goals as goal
-use Rattle.pth_tables.proofs.dispatching.walk.Goals.{then-is_due, else-is_due}
 
-pub returns-in_default-clause-value : goal.returns-in_default-clause-value
-returns-in_default-clause-value c = no_row c.args.queues.now.ready (waits_of c.args.waits.now) (none_last c.args.queues.now.ready c.in_default.ensures)
+pub places-init : goal.places-init
+places-init c = (at_first c.args.queues.now (waits_of c.args.waits.now) c.args.due c.args.from c.requires.from c.requires.some, refl)
 
-pub loop-left-init : goal.loop-left-init
-loop-left-init c = (at_tail (waits_of c.args.waits.now) c.args.queues.now.ready c.args.due c.args.count c.in-Some.tail.0 c.requires.told c.requires.counted c.in-Some.ensures, refl)
+pub settle-left-requires-clause-room : goal.settle-left-requires-clause-room
+settle-left-requires-clause-room c = let low = at_low c.args.queues.now c.requires.orderly c.places.at c.places.invariant.0.at in let long = c.places.invariant.1 in let room = c.requires.room in omega arith
 
-pub overflow_sub-i : goal.overflow_sub-i
-overflow_sub-i c = above (waits_of c.args.waits.now) c.args.queues.now c.requires.orderly c.loop-left.left c.loop-left.i c.loop-left.at.0 (waits_of c.loop-left.waits) c.loop-left.invariant.0 c.loop-left-test.true
+pub settle-left-requires-clause-some : goal.settle-left-requires-clause-some
+settle-left-requires-clause-some c = c.places.invariant.0.some
 
-pub is_due-requires : goal.is_due-requires
-is_due-requires c =
-    let low = at_low (waits_of c.args.waits.now) c.args.queues.now c.requires.orderly c.loop-left.left c.loop-left.i c.loop-left.at.0 (waits_of c.loop-left.waits) c.loop-left.invariant.0 c.loop-left-test.true in
-    let long = c.loop-left.invariant.1 in
-    let room = c.requires.room in
+pub returns-then-left-eq0-clause-value : goal.returns-then-left-eq0-clause-value
+returns-then-left-eq0-clause-value c =
+    let x = waits_of c.args.waits.now in
+    let walked = settled c.args.queues.now x c.args.from.place c.args.due c.places.left c.places.at (waits_of c.places.waits) c.places.invariant.0 c.settle-left.result (waits_of c.settle-left.new.waits) c.settle-left.ensures.left c.settle-left.ensures.value in
+    walk_ends x (up_to c.args.from.place (slots_of c.args.queues.now.ready)) c.args.due c.settle-left.result c.places.at.place (waits_of c.settle-left.new.waits) walked c.if-left-eq0.true
+
+pub before-requires : goal.before-requires
+before-requires c = rw (at_home c.args.queues.now c.requires.orderly c.places.at c.places.invariant.0.at) refl
+
+pub overflow_sub-at : goal.overflow_sub-at
+overflow_sub-at c =
+    let x = waits_of c.args.waits.now in
+    let walked = settled c.args.queues.now x c.args.from.place c.args.due c.places.left c.places.at (waits_of c.places.waits) c.places.invariant.0 c.settle-left.result (waits_of c.settle-left.new.waits) c.settle-left.ensures.left c.settle-left.ensures.value in
+    let other = c.if-left-eq0.false in
+    walk_goes_on x (up_to c.args.from.place (slots_of c.args.queues.now.ready)) c.args.due c.settle-left.result c.places.at.place (waits_of c.settle-left.new.waits) walked (omega arith) c.requires.told
+
+pub places-smaller : goal.places-smaller
+places-smaller c =
+    let x = waits_of c.args.waits.now in
+    let walked = settled c.args.queues.now x c.args.from.place c.args.due c.places.left c.places.at (waits_of c.places.waits) c.places.invariant.0 c.settle-left.result (waits_of c.settle-left.new.waits) c.settle-left.ensures.left c.settle-left.ensures.value in
+    let other = c.if-left-eq0.false in
+    let above = walk_goes_on x (up_to c.args.from.place (slots_of c.args.queues.now.ready)) c.args.due c.settle-left.result c.places.at.place (waits_of c.settle-left.new.waits) walked (omega arith) c.requires.told in
     omega arith
 
-pub reach-requires : goal.reach-requires
-reach-requires c =
-    let low = at_low (waits_of c.args.waits.now) c.args.queues.now c.requires.orderly c.loop-left.left c.loop-left.i c.loop-left.at.0 (waits_of c.loop-left.waits) c.loop-left.invariant.0 c.loop-left-test.true in
-    let long = c.loop-left.invariant.1 in
-    let room = c.requires.room in
-    omega arith
-
-pub loop-left-preserved : goal.loop-left-preserved
-loop-left-preserved c = elim c.if-is_due.branch [
-  | then-is_due w ↦ (
-    subst (λ n. IsAt (waits_of c.args.waits.now) c.args.queues.now.ready n (c.loop-left.i - 1) c.before-at.result.0 (waits_of c.if-is_due.waits)) (sym w.left-is)
-        (subst (λ (y : WaitsOf). IsAt (waits_of c.args.waits.now) c.args.queues.now.ready (c.loop-left.left - 1) (c.loop-left.i - 1) c.before-at.result.0 y) (sym (ap waits_of w.waits-is ∙ w.reach.ensures.value))
-        (at_met (waits_of c.args.waits.now) c.args.queues.now c.requires.orderly c.loop-left.left c.loop-left.i c.loop-left.at.0 (waits_of c.loop-left.waits) c.loop-left.invariant.0 c.loop-left-test.true c.before-at.result.0 c.before-at.ensures (sym c.is_due.ensures ∙ w.if-is_due.true))),
-    ap (λ (k : KeptWaits). length k.slots) w.waits-is ∙ w.reach.ensures.room ∙ c.loop-left.invariant.1,
-  )
-  | else-is_due w ↦ (
-    subst (λ n. IsAt (waits_of c.args.waits.now) c.args.queues.now.ready n (c.loop-left.i - 1) c.before-at.result.0 (waits_of c.if-is_due.waits)) (sym w.left-is)
-        (subst (λ (y : WaitsOf). IsAt (waits_of c.args.waits.now) c.args.queues.now.ready c.loop-left.left (c.loop-left.i - 1) c.before-at.result.0 y) (sym (ap waits_of w.waits-is))
-        (at_past (waits_of c.args.waits.now) c.args.queues.now c.requires.orderly c.loop-left.left c.loop-left.i c.loop-left.at.0 (waits_of c.loop-left.waits) c.loop-left.invariant.0 c.loop-left-test.true c.before-at.result.0 c.before-at.ensures (sym c.is_due.ensures ∙ w.if-is_due.false))),
-    ap (λ (k : KeptWaits). length k.slots) w.waits-is ∙ c.loop-left.invariant.1,
-  )
-]
-
-pub returns-clause-value : goal.returns-clause-value
-returns-clause-value c = walk_ends (waits_of c.args.waits.now) (slots_of c.args.queues.now.ready) c.loop-left.left c.loop-left.i (waits_of c.loop-left.waits) c.loop-left.invariant.0.walked (omega arith)
+pub places-preserved : goal.places-preserved
+places-preserved c =
+    let x = waits_of c.args.waits.now in
+    let walked = settled c.args.queues.now x c.args.from.place c.args.due c.places.left c.places.at (waits_of c.places.waits) c.places.invariant.0 c.settle-left.result (waits_of c.settle-left.new.waits) c.settle-left.ensures.left c.settle-left.ensures.value in
+    let other = c.if-left-eq0.false in
+    let above = walk_goes_on x (up_to c.args.from.place (slots_of c.args.queues.now.ready)) c.args.due c.settle-left.result c.places.at.place (waits_of c.settle-left.new.waits) walked (omega arith) c.requires.told in (
+      at_next c.args.queues.now x c.args.from.place c.args.due c.places.left c.places.at (waits_of c.places.waits) c.places.invariant.0 c.requires.orderly c.settle-left.result (waits_of c.settle-left.new.waits) _ walked (omega arith) above refl c.before-in-places.ensures,
+      c.settle-left.ensures.room ∙ c.places.invariant.1,
+    )

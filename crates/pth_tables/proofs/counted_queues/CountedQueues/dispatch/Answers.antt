@@ -9,6 +9,7 @@ use Rattle.pth_tables.proofs.Slots.{count-stands}
 use Rattle.pth_tables.proofs.Counting.{one_less, counts_without}
 use Rattle.pth_tables.proofs.Heights.{tells_without}
 use Rattle.pth_tables.proofs.Keeping.{beside_taken}
+use Rattle.pth_tables.proofs.Places.{marked_left}
 use Rattle.pth_tables.proofs.counted_queues.CountedQueues.dispatch.Goals as goal
 
 pub take-turn-requires-clause-counted : goal.take-turn-requires-clause-counted
@@ -27,6 +28,7 @@ invariant_of-self c =
       room = subst (λ (k : QueuesOf). k.room ≤ length c.self.inside.heights.items) (sym c.delete-queue.ensures.rows) c.self.invariant.room;
       tells = tells_without _ c.self.inside.queues c.self.inside.raises c.self.inside.heights.items c.self.invariant.tells c.args.s.0 c.delete-queue.ensures.rows;
       beside = beside_taken c.self.inside.queues _ _ _ c.self.invariant.beside c.queue_of-home.ensures.orderly c.args.s.0 stands _ _ _ _ c.args.by_name c.delete-queue.ensures.rows c.take-turn.ensures.value c.take-turn.ensures.room c.take-turn.ensures.table;
+      marked = marked_left c.self.inside.queues _ c.take-turn.new.mark c.take-turn.ensures.marked c.queue_of-home.ensures.orderly c.args.s.0 c.queue_of-home.result _ (sym c.queue_of-home.ensures.value) c.delete-queue.ensures.rows c.after_leaving-self-inside.ensures;
     }
 
 pub returns-clause-brief : goal.returns-clause-brief

@@ -11,4 +11,5 @@ invariant_of-result c = record {
   room = subst (λ (k : QueuesOf). k.room ≤ length c.new-2.result.items) (sym c.new.ensures) (omega arith);
   tells = tells_none c.args.top _ _ _ c.new.ensures;
   beside = beside_none c.args.top _ _ _ _ c.new.ensures c.new-3.ensures.value c.nobody.ensures;
+  marked = tt;
 }

@@ -29,7 +29,7 @@ returns-clause-shows g c k sh =
 pub returns-clause-numbers : goal.returns-clause-numbers
 returns-clause-numbers g c k sh taken few =
     turn_is c.args.self.now.threads k c.requires.sound sh.threads c.args.t.0 c.args.slot.0 c.requires.at (rw c.requires.at at c.requires.stands) taken few c.dispatch.result
-    (rw c.queues_mut.ensures.value at c.dispatch.ensures.brief) (rw c.queues_mut.ensures.value at c.dispatch.ensures.waited) (rw c.queues_mut.ensures.value at c.dispatch.ensures.allowed)
+    (rw c.queues_mut.ensures.value at c.dispatch.ensures.brief) (rw c.queues_mut.ensures.value at c.dispatch.ensures.turn.waited) (rw c.queues_mut.ensures.value at c.dispatch.ensures.turn.allowed)
 
 pub returns-clause-sound : goal.returns-clause-sound
 returns-clause-sound g c =
