@@ -1,13 +1,13 @@
 //! A machine that runs a program.
 
-ghost use Rattle.std.specs.Prelude.{◌≡◌, ◌≢◌, ◌⊎◌, ◌≤◌, ◌+◌, ◌↔◌, ℕ, [], true, false, Some, None, map, option_map, IfSome, IfOk, OnOk, OnErr};
+ghost use Rattle.std.specs.Prelude.{◌≡◌, ◌≢◌, ◌⊎◌, ◌≤◌, ◌+◌, ◌↔◌, ℕ, [], true, false, Some, None, map, IfSome, IfOk, OnOk, OnErr};
 ghost use Rattle.pth_base.specs.Cut.{IsCut};
 ghost use Rattle.pth_base.specs.Limits.{most_steps, IsGreatestPriority};
 ghost use Rattle.pth_kernel.specs.Kernel.{kernel_of};
-ghost use Rattle.pth_model.specs.Allowance.{allowed, standing_of, waited};
+ghost use Rattle.pth_model.specs.Allowance.{standing_of, waited};
 ghost use Rattle.pth_model.specs.Course.{Course, HasHistory, within};
 ghost use Rattle.pth_queue.specs.declared.queue.Queue.TheVariants as queue;
-ghost use Rattle.pth_model.specs.State.{Given, now_of};
+ghost use Rattle.pth_model.specs.State.{Given, allowance_of, now_of, wait_of};
 ghost use Rattle.pth_model.specs.Living.{live as live_threads};
 ghost use Rattle.pth_model.specs.Part.{moves};
 ghost use Rattle.pth_model.specs.Pass.{moment, pass};
@@ -202,7 +202,7 @@ impl<P: Program> Machine<P> {
     pub fn waited(&self, t: Tid) -> Option<u64>
         requires few { self.now.turn.steps ≤ most_steps }
         ensures value { (c : Course P P.State P.Shared) → Stands self.now c → HasHistory c
-            → result ≡ option_map (waited c.state.control.threads.trail) (standing_of t.0 (c.state.control.threads.standing queue.Ready)) }
+            → result ≡ wait_of c.state.control t.0 }
     {
         if self.failed {
             return None;
@@ -215,7 +215,7 @@ impl<P: Program> Machine<P> {
     pub fn allowed(&self, t: Tid) -> Option<u64>
         requires few { self.now.turn.steps ≤ most_steps }
         ensures value { (c : Course P P.State P.Shared) → Stands self.now c → HasHistory c
-            → result ≡ option_map (allowed c.state.control.top c.state.control.threads.trail) (standing_of t.0 (c.state.control.threads.standing queue.Ready)) }
+            → result ≡ allowance_of c.state.control t.0 }
         ensures in_time { (g : Given P) (i : ℕ) → StandsAt P.functions g i self.now → let x = (run P.functions g i).state.control.threads in
             IfSome result (λ n. (s : Standing) → standing_of t.0 (x.standing queue.Ready) ≡ Some s → waited x.trail s ≤ n) }
     {

@@ -39,6 +39,16 @@ pub record SameThreads {S : Type 0} (old new : ThreadsBySlot S) : Type 0 where
   pub tids : tid_at new.records ≡ tid_at old.records
   pub made : new.records.made ≡ old.records.made
 
+-- nothing is changed but the queues, and the waits beside them
+abbrev pub SameButQueues : {P S H : Type 0} → (old new : WorldOf P S H) → Type 0
+SameButQueues old new = new ≡ record old { threads = record old.threads { queues = new.threads.queues; waits = new.threads.waits } }
+
+-- nor but the records of threads
+abbrev pub SameButStates : {P S H : Type 0} → (old new : WorldOf P S H) → Type 0
+SameButStates old new = new ≡ record old {
+  threads = record old.threads { records = new.threads.records; queues = new.threads.queues; waits = new.threads.waits };
+}
+
 -- what a change of threads leaves as it was: all but the threads, the shared value, and what is kept of events
 pub record KeepsRest {P S H : Type 0} (old new : WorldOf P S H) : Type 0 where
   pub program : new.program ≡ old.program

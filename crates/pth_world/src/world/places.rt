@@ -14,7 +14,7 @@ ghost use Rattle.pth_base.specs.Limits.{most_steps};
 ghost use Rattle.pth_world.specs.Shows.{Shows, IsTurnOf};
 ghost use Rattle.pth_world.specs.Sound.{IsSound, IsKnown};
 ghost use Rattle.pth_world.specs.Whole.{Whole, WholeBut, IsIn, WaitsToRun, view};
-ghost use Rattle.pth_world.specs.Touches.{Touches, view_placed};
+ghost use Rattle.pth_world.specs.Touches.{SameButQueues, Touches, view_placed};
 
 use crate::world::World;
 use pth_base::ids::{Slot, Tid};
@@ -35,7 +35,7 @@ impl<P: Program> World<P> {
         ensures touches { Touches self.old.threads self.new.threads t.0 (view_placed (Some q)) }
         ensures but { WholeBut self.old t.0 → WholeBut self.new t.0 }
         ensures queues { IfSome (slot_of self.old.threads.records t.0) (λ u. self.new.threads.queues ≡ entered q rank u self.old.threads.queues) }
-        ensures same { self.new ≡ record self.old { threads = record self.old.threads { queues = self.new.threads.queues; waits = self.new.threads.waits } } }
+        ensures same { SameButQueues self.old self.new }
     {
         let slot = self.slot(t);
         self.put_at(t, slot, q, rank, top);
@@ -53,7 +53,7 @@ impl<P: Program> World<P> {
         ensures touches { Touches self.old.threads self.new.threads t.0 (view_placed (Some q)) }
         ensures but { WholeBut self.old t.0 → WholeBut self.new t.0 }
         ensures queues { IfSome (slot_of self.old.threads.records t.0) (λ u. self.new.threads.queues ≡ entered q rank u self.old.threads.queues) }
-        ensures same { self.new ≡ record self.old { threads = record self.old.threads { queues = self.new.threads.queues; waits = self.new.threads.waits } } }
+        ensures same { SameButQueues self.old self.new }
     {
         self.queues_mut().insert(q, rank, slot, top);
     }
@@ -67,7 +67,7 @@ impl<P: Program> World<P> {
         ensures touches { Touches self.old.threads self.new.threads t.0 (view_placed None) }
         ensures but { WholeBut self.old t.0 → WholeBut self.new t.0 }
         ensures queues { IfSome (slot_of self.old.threads.records t.0) (λ u. self.new.threads.queues ≡ without u self.old.threads.queues) }
-        ensures same { self.new ≡ record self.old { threads = record self.old.threads { queues = self.new.threads.queues; waits = self.new.threads.waits } } }
+        ensures same { SameButQueues self.old self.new }
     {
         let slot = self.slot(t);
         self.take_from(t, slot);
@@ -83,7 +83,7 @@ impl<P: Program> World<P> {
         ensures touches { Touches self.old.threads self.new.threads t.0 (view_placed None) }
         ensures but { WholeBut self.old t.0 → WholeBut self.new t.0 }
         ensures queues { IfSome (slot_of self.old.threads.records t.0) (λ u. self.new.threads.queues ≡ without u self.old.threads.queues) }
-        ensures same { self.new ≡ record self.old { threads = record self.old.threads { queues = self.new.threads.queues; waits = self.new.threads.waits } } }
+        ensures same { SameButQueues self.old self.new }
     {
         match self.queues().queue_of(slot) {
             Some(_) => {
@@ -105,7 +105,7 @@ impl<P: Program> World<P> {
         ensures sound { IsSound self.new.threads }
         ensures touches { Touches self.old.threads self.new.threads t.0 (view_placed None) }
         ensures queues { IfSome (slot_of self.old.threads.records t.0) (λ u. self.new.threads.queues ≡ without u self.old.threads.queues) }
-        ensures same { self.new ≡ record self.old { threads = record self.old.threads { queues = self.new.threads.queues; waits = self.new.threads.waits } } }
+        ensures same { SameButQueues self.old self.new }
     {
         let by_name = self.named().is_some();
         self.queues_mut().dispatch(slot, by_name)

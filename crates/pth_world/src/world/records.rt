@@ -25,7 +25,7 @@ ghost use Rattle.pth_world.specs.Store.{store_of, HasNothing};
 ghost use Rattle.pth_world.specs.Sound.{IsSound, IsKnown, IsAlive, IsPrio, IsCancel, KeepsAttributes};
 ghost use Rattle.pth_world.specs.Frame.{Frame};
 ghost use Rattle.pth_world.specs.Whole.{Whole, WholeBut, view};
-ghost use Rattle.pth_world.specs.Touches.{Touches, SameThreads, IsAside, view_changed, view_placed};
+ghost use Rattle.pth_world.specs.Touches.{IsAside, SameButStates, SameThreads, Touches, view_changed, view_placed};
 
 use crate::world::World;
 use pth_base::answer::Answer;
@@ -379,9 +379,7 @@ impl<P: Program> World<P> {
         ensures threads { SameThreads self.old.threads self.new.threads }
         ensures queues { IfSome (slot_of self.old.threads.records t.0)
             (λ u. self.new.threads.queues ≡ entered queue.Ready rank u self.old.threads.queues) }
-        ensures same { self.new ≡ record self.old {
-          threads = record self.old.threads { records = self.new.threads.records; queues = self.new.threads.queues; waits = self.new.threads.waits };
-        } }
+        ensures same { SameButStates self.old self.new }
     {
         let slot = self.slot(t);
         self.put_ready_at(t, slot, rank, top);
@@ -403,9 +401,7 @@ impl<P: Program> World<P> {
         ensures threads { SameThreads self.old.threads self.new.threads }
         ensures queues { IfSome (slot_of self.old.threads.records t.0)
             (λ u. self.new.threads.queues ≡ entered queue.Ready rank u self.old.threads.queues) }
-        ensures same { self.new ≡ record self.old {
-          threads = record self.old.threads { records = self.new.threads.records; queues = self.new.threads.queues; waits = self.new.threads.waits };
-        } }
+        ensures same { SameButStates self.old self.new }
     {
         self.change_of(t, slot, Change::State(ThreadState::Ready));
         self.put_at(t, slot, Queue::Ready, rank, top);
@@ -424,9 +420,7 @@ impl<P: Program> World<P> {
         ensures threads { SameThreads self.old.threads self.new.threads }
         ensures queues { IfSome (slot_of self.old.threads.records t.0)
             (λ u. (prio : ℤ) × IsPrio prio × (self.new.threads.queues ≡ entered queue.Waiting prio u self.old.threads.queues)) }
-        ensures same { self.new ≡ record self.old {
-          threads = record self.old.threads { records = self.new.threads.records; queues = self.new.threads.queues; waits = self.new.threads.waits };
-        } }
+        ensures same { SameButStates self.old self.new }
     {
         let slot = self.slot(t);
         let prio = self.prio(t, slot);

@@ -1,11 +1,11 @@
 //! How long the ready threads wait.
 
-ghost use Rattle.std.specs.Prelude.{◌≡◌, ◌≢◌, true, false, Option, Some, None, IfSome, option_map};
+ghost use Rattle.std.specs.Prelude.{◌≡◌, ◌≢◌, true, false, Option, Some, None, IfSome};
 ghost use Rattle.pth_queue.specs.Queues.{queue_of};
 ghost use Rattle.pth_queue.specs.declared.queue.Queue.TheVariants as queue;
 ghost use Rattle.pth_threads.specs.Threads.{slot_of};
-ghost use Rattle.pth_model.specs.Allowance.{allowed, standing_of, waited};
-ghost use Rattle.pth_model.specs.State.{Control};
+ghost use Rattle.pth_model.specs.Allowance.{standing_of};
+ghost use Rattle.pth_model.specs.State.{Control, allowance_of, wait_of};
 ghost use Rattle.pth_world.specs.Shows.{Shows, IsHistory};
 ghost use Rattle.pth_world.specs.Sound.{IsSound};
 
@@ -47,7 +47,7 @@ impl<P: Program> World<P> {
     pub fn waited(&self, t: Tid) -> Option<u64>
         requires { IsSound self.now.threads }
         ensures { (k : Control P P.State P.Shared) → Shows self.now k → IsHistory k.threads.trail
-            → result ≡ option_map (waited k.threads.trail) (standing_of t.0 (k.threads.standing queue.Ready)) }
+            → result ≡ wait_of k t.0 }
     {
         match self.ready_slot(t) {
             Some(slot) => Some(self.counted().waited(slot)),
@@ -59,7 +59,7 @@ impl<P: Program> World<P> {
     pub fn allowed(&self, t: Tid) -> Option<u64>
         requires { IsSound self.now.threads }
         ensures { (k : Control P P.State P.Shared) → Shows self.now k → IsHistory k.threads.trail
-            → result ≡ option_map (allowed k.top k.threads.trail) (standing_of t.0 (k.threads.standing queue.Ready)) }
+            → result ≡ allowance_of k t.0 }
     {
         match self.ready_slot(t) {
             Some(slot) => Some(self.counted().allowed(slot)),
