@@ -15,7 +15,6 @@ use Rattle.pth_numbered.specs.Operands.{number}
 use Rattle.pth_port.proofs.Changes.{names_made}
 use Rattle.pth_port.specs.Mail.{Mail, PortNames, port_put_answer, put_to}
 use Rattle.pth_port.specs.Ports.{PortsOf, mail_of, names_of, NumbersWithMemory}
-use Rattle.pth_store.specs.Storing.{AnswersWithMemory}
 use Rattle.pth_model.specs.Awaits.{is_await}
 use Rattle.pth_model.specs.Ports.{port_put, put_done}
 use Rattle.pth_model.specs.Resources.{Resources, Store, told, answer_told, with_ports}
@@ -34,7 +33,7 @@ use Rattle.pth_world.specs.Whole.{Whole}
 use Rattle.pth_world.specs.World.{WorldOf}
 use Rattle.pth_end.specs.Handling.{IsHandled}
 use Rattle.pth_end.specs.Saying.{SaysRefusal}
-use Rattle.pth_end.proofs.Acting.{error_answered, error_told, value_told}
+use Rattle.pth_end.proofs.Acting.{error_told, value_told}
 use Rattle.pth_end.proofs.Handled.{handled_stored}
 
 -- what a part that takes memory answers with a number

@@ -5,7 +5,6 @@ ghost use Rattle.pth_base.specs.Cut.{IsCut};
 ghost use Rattle.pth_end.specs.Handling.{IsHandled};
 ghost use Rattle.pth_model.specs.Ending.{due as due_in, next_destructor as next_of, round_limit, runs_destructor, destructs, runs_destructors};
 ghost use Rattle.pth_model.specs.State.{State};
-ghost use Rattle.pth_store.specs.Keys.{is_key};
 ghost use Rattle.pth_world.specs.Leading.{Leads};
 ghost use Rattle.pth_world.specs.Shows.{StandsFor};
 ghost use Rattle.pth_world.specs.Sound.{IsAlive};
@@ -53,7 +52,6 @@ fn next_destructor<P: Program>(w: &World<P>, t: Tid, round: Round) -> Option<Due
     requires few { round.number ≤ round_limit }
     ensures next { result ≡ next_of (store_of w.now.store).keys t.0 round }
     ensures few { IfSome result (λ d. d.round.number ≤ round_limit) }
-    ensures live { IfSome result (λ d. is_key (store_of w.now.store).keys d.key ≡ true) }
 {
     if let Some(owed) = w.first_owed(t, round.from) {
         return Some(due(round.number, owed));
@@ -74,12 +72,11 @@ fn run_destructor<P: Program>(
 ) -> Result<(), OutOfMemory>
     requires whole { Whole w.old }
     requires alive { IsAlive w.old.threads t.0 }
-    requires live { is_key (store_of w.old.store).keys due.key ≡ true }
     ensures ok { OnOk result ((s : State P P.State P.Shared) → StandsFor w.old s → Leads w.new marks.old marks.new (runs_destructor P.functions t.0 due s)) }
     ensures err { OnErr result ((s : State P P.State P.Shared) → StandsFor w.old s → IsCut marks.old marks.new (runs_destructor P.functions t.0 due s).marks) }
     ensures handled { OnOk result (IsHandled w.old w.new) }
 {
-    w.clear_key(t, due.key)?;
+    w.clear_key(t, due.key);
     marks.push(Mark::Destructor {
         tid: t,
         key: due.key,

@@ -102,6 +102,13 @@ module _ (keys : KeyList) (rows : List (List ℤ)) (h : kept keys rows) where
     unset = λ k u none. ap (λ (f : ℕ → ℕ → ℤ). f k u) is ∙ put_by (λ (v : ℤ). v ≡ pos 0) (value_at_key rows k) s (pos 0) u (λ _. refl) (λ _. h.unset k u none);
   }
 
+  pub kept-unset : (new : List (List ℤ)) (k s : ℕ) → value_at_key new ≡ put (value_at_key rows) k (put (value_at_key rows k) s (pos 0)) → kept keys new
+  kept-unset new k s is = record {
+    many = h.many;
+    unset = λ i u none. ap (λ (f : ℕ → ℕ → ℤ). f i u) is ∙ put_by (λ (f : ℕ → ℤ). f u ≡ pos 0) (value_at_key rows) k _ i
+        (λ same. put_by (λ (v : ℤ). v ≡ pos 0) (value_at_key rows k) s (pos 0) u (λ _. refl) (λ _. h.unset k u (ap (table None keys) (sym same) ∙ none))) (λ _. h.unset i u none);
+  }
+
   module _ (k : ℕ) (low : k < key_limit) where
     within : k < length keys
     within = let many = h.many in omega arith

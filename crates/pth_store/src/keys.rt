@@ -88,6 +88,13 @@ impl Keys {
         }
     }
 
+    /// The value of a slot under a key is 0 from now on, as it is while its destructor runs. It takes no memory.
+    pub fn unset(&mut self, s: Slot, k: u8)
+        ensures { tables_of self.new ≡ with_key_value s.0 k (pos 0) (tables_of self.old) }
+    {
+        clear_at(&mut self.rows, s.0 as usize, k as usize);
+    }
+
     /// All values of a slot are 0 from now on, as a thread that ends leaves them. Keys stay as they are.
     pub fn forget(&mut self, s: Slot)
         ensures { tables_of self.new ≡ forgotten s.0 (tables_of self.old) }
@@ -255,6 +262,15 @@ fn widen(row: &mut Vec<i64>, wanted: usize) -> Result<(), OutOfMemory>
         row.resize(wanted, 0)?;
     }
     Ok(())
+}
+
+// The value of a slot under a key is 0.
+fn clear_at(rows: &mut Vec<Vec<i64>>, s: usize, k: usize)
+    ensures { value_at_key (value_rows rows.new) ≡ put (value_at_key (value_rows rows.old)) k (put (value_at_key (value_rows rows.old) k) s (pos 0)) }
+{
+    if s < rows.len() {
+        clear_in(&mut rows[s], k);
+    }
 }
 
 // The values of a slot are 0.

@@ -3,7 +3,7 @@
 ghost use Rattle.std.specs.Prelude.{◌≡◌, ◌≤◌, true, pos, length, OnOk, OnErr, IfOk};
 ghost use Rattle.pth_model.specs.Resources.{store_without, with_cleanups, with_keys};
 ghost use Rattle.pth_store.specs.Cleanups.{below_top_answer, cleanup_limit, pop_answer, push_answer, top_taken, with_top};
-ghost use Rattle.pth_store.specs.Keys.{created, deleted, first_live, is_key, key_create_answer, key_delete_answer, key_get_answer, key_named, key_set_answer, with_key_value};
+ghost use Rattle.pth_store.specs.Keys.{created, deleted, first_live, key_create_answer, key_delete_answer, key_get_answer, key_named, key_set_answer, with_key_value};
 ghost use Rattle.pth_store.specs.Storing.{AnswersWithMemory};
 ghost use Rattle.pth_world.specs.Keeps.{KeepsAllButStore};
 ghost use Rattle.pth_world.specs.Sound.{IsSound, IsKnown, IsAlive};
@@ -12,7 +12,6 @@ ghost use Rattle.pth_world.specs.Store.{store_of, HasNothing};
 use crate::world::World;
 use pth_base::errno::Errno;
 use pth_base::ids::{HandlerId, Tid};
-use pth_base::memory::OutOfMemory;
 use pth_base::program::Program;
 use pth_base::refusal::Refusal;
 
@@ -121,19 +120,14 @@ impl<P: Program> World<P> {
         self.keys.first_live(slot, from)
     }
 
-    /// A thread's value under a live key is 0 from now on. After an error nothing is changed.
-    pub fn clear_key(&mut self, t: Tid, k: u8) -> Result<(), OutOfMemory>
+    /// A thread's value under a key is 0 from now on, as it is while its destructor runs.
+    pub fn clear_key(&mut self, t: Tid, k: u8)
         requires sound { IsSound self.old.threads }
         requires alive { IsAlive self.old.threads t.0 }
-        requires live { is_key (store_of self.old.store).keys k ≡ true }
-        ensures changes { OnOk result (store_of self.new.store ≡ with_keys (with_key_value t.0 k (pos 0)) (store_of self.old.store)) }
-        ensures refused { OnErr result (self.new ≡ self.old) }
+        ensures changes { store_of self.new.store ≡ with_keys (with_key_value t.0 k (pos 0)) (store_of self.old.store) }
         ensures keeps { KeepsAllButStore self.old self.new }
     {
-        match self.set_key(t, i64::from(k), 0) {
-            Ok(()) => Ok(()),
-            Err(Refusal::OutOfMemory) => Err(OutOfMemory),
-            Err(Refusal::Fail(_)) => unreachable!(),
-        }
+        let slot = self.slot(t);
+        self.keys.unset(slot, k);
     }
 }

@@ -1,9 +1,9 @@
-use Rattle.std.proofs.Common.{◌≡◌, ◌∙◌, ◌+◌, nat_lt, true, false, sym, arith}
+use Rattle.std.proofs.Common.{◌≡◌, ◌∙◌, nat_lt, true, false, sym, arith}
 use Rattle.std.proofs.lemmas.Bool.Decides.{nat_tests}
 use Rattle.pth_model.specs.Ending.{round_limit}
 use Rattle.pth_world.proofs.Stores.{alive_known}
 use Rattle.pth_world.specs.Store.{store_of}
-use Rattle.pth_end.proofs.Dues.{due_live, due_now, none_due, none_owed, due_next}
+use Rattle.pth_end.proofs.Dues.{due_now, none_due, none_owed, due_next}
 use Rattle.pth_end.proofs.destructors.next_destructor.Goals as goal
 
 pub first_owed-requires : goal.first_owed-requires
@@ -14,9 +14,6 @@ first_owed-requires-2 g c = alive_known c.args.w.now.threads c.args.t.0 c.requir
 
 pub returns-in-Some-clause-next : goal.returns-in-Some-clause-next
 returns-in-Some-clause-next g c = due_now (store_of c.args.w.now.store).keys c.args.t.0 c.args.round c.in-Some.owed c.due.result c.due.ensures (sym c.first_owed.ensures ∙ c.in-Some.is)
-
-pub returns-in-Some-clause-live : goal.returns-in-Some-clause-live
-returns-in-Some-clause-live g c = due_live (store_of c.args.w.now.store).keys c.args.t.0 c.in-Some.owed c.args.round.number c.args.round.from c.due.result c.due.ensures (sym c.first_owed.ensures ∙ c.in-Some.is)
 
 pub returns-then-round-eq-MOST_ROUNDS-clause-next : goal.returns-then-round-eq-MOST_ROUNDS-clause-next
 returns-then-round-eq-MOST_ROUNDS-clause-next g c =
@@ -32,6 +29,3 @@ pub returns-clause-next : goal.returns-clause-next
 returns-clause-next g c =
     let more : nat_lt c.args.round.number round_limit ≡ true = grind (arith, nat_tests) in
     due_next (store_of c.args.w.now.store).keys c.args.t.0 c.args.round c.in_ok-owed.owed c.due-2.result c.due-2.ensures (sym c.first_owed.ensures ∙ c.in_default.is) more (sym c.first_owed-2.ensures ∙ c.in_ok-owed.was)
-
-pub returns-clause-live : goal.returns-clause-live
-returns-clause-live g c = due_live (store_of c.args.w.now.store).keys c.args.t.0 c.in_ok-owed.owed (c.args.round.number + 1) 0 c.due-2.result c.due-2.ensures (sym c.first_owed-2.ensures ∙ c.in_ok-owed.was)

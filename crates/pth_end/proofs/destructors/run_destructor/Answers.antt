@@ -20,7 +20,7 @@ returns-clause-ok g c =
     let ran = simp to_z-of_z at c.run_handler.ensures.ok in
     on_ok_weaker c.run_handler.result (λ rest s st.
     let m = Destructor c.args.t c.args.due.key c.args.due.value in
-    let tell = destructor_tells c.args.w.now c.clear_key.new.self c.args.t c.args.due.key c.args.due.value c.in_ok-clear_key.ensures.changes in
+    let tell = destructor_tells c.args.w.now c.clear_key.new.self c.args.t c.args.due.key c.args.due.value c.clear_key.ensures.changes in
     let first = tells_leads c.args.w.now c.clear_key.new.self m s tell st (c.clear_key.ensures.keeps.shows s.control st.control) _ _ (simp to_z-of_z at c.in_ok-push.ensures.ok) in
     leads_then c.clear_key.new.self c.run_handler.new.w s (tells m) (handled g.P.Program.functions c.args.t.0 c.args.due.handler c.args.due.value) _ _ _ first (rest _ first.stands)) ran
 
@@ -30,16 +30,16 @@ returns-clause-err g c =
     let ran = simp to_z-of_z at c.run_handler.ensures.err in
     on_err_weaker c.run_handler.result (λ cut s st.
     let m = Destructor c.args.t c.args.due.key c.args.due.value in
-    let tell = destructor_tells c.args.w.now c.clear_key.new.self c.args.t c.args.due.key c.args.due.value c.in_ok-clear_key.ensures.changes in
+    let tell = destructor_tells c.args.w.now c.clear_key.new.self c.args.t c.args.due.key c.args.due.value c.clear_key.ensures.changes in
     let first = tells_leads c.args.w.now c.clear_key.new.self m s tell st (c.clear_key.ensures.keeps.shows s.control st.control) _ _ (simp to_z-of_z at c.in_ok-push.ensures.ok) in
     cut_second c.clear_key.new.self s (tells m) (handled g.P.Program.functions c.args.t.0 c.args.due.handler c.args.due.value) _ _ _ first (cut _ first.stands)) ran
 
 pub returns-clause-handled : goal.returns-clause-handled
 returns-clause-handled g c =
-    let cleared = handled_stored c.args.w.now c.clear_key.new.self c.requires.whole c.clear_key.ensures.keeps (ap (λ (x : Store). x.cleanups) c.in_ok-clear_key.ensures.changes) in
+    let cleared = handled_stored c.args.w.now c.clear_key.new.self c.requires.whole c.clear_key.ensures.keeps (ap (λ (x : Store). x.cleanups) c.clear_key.ensures.changes) in
     on_ok_weaker c.run_handler.result (λ ran. handled_then _ _ _ cleared ran) c.run_handler.ensures.handled
 
 pub returns-in_err-push-clause-err : goal.returns-in_err-push-clause-err
 returns-in_err-push-clause-err g c =
-    let p = err_from_is_err_and c.from_residual-in_err-push.result c.from_residual-in_err-push.ensures.1 in
+    let p = err_from_is_err_and c.from_residual.result c.from_residual.ensures.1 in
     rw p.1 (λ s st. cut_none _ _ _ c.in_err-push.ensures.err)
