@@ -67,6 +67,15 @@ module _ {A : Type 0} where
   unfolding number_at
   number_is x u r e = ap number_in_record e
 
+  -- a slot with no record has no number
+  pub number_none : (x : NumberedOf A) (u : ℕ) → get_or x.slots u None ≡ None → number_at x u ≡ 0
+  unfolding number_at
+  number_none x u e = ap number_in_record e
+
+  -- a slot in use is one of the slab's
+  pub below_end : (x : NumberedOf A) (u : ℕ) → number_at x u ≢ 0 → u < length x.slots
+  below_end x u used = let s : Slab (Record A) = record { slots = x.slots; vacant_key = 0; capacity = 0 } in ContainsKey-within s u (holds x u used)
+
   -- a slot whose record has a number is that thing's
   pub confirmed : (x : NumberedOf A) (n u : ℕ) (r : Record A) → IsKept x → get_or x.slots u None ≡ Some r → r.number ≡ n → slot_of x n ≡ Some u
   confirmed x n u r kept there same =
@@ -176,8 +185,11 @@ module _ {A : Type 0} where
     there : IsSome (get_or x.slots u None)
     there = rw was refl
 
+    used_x : number_at x u ≢ 0
+    used_x zero = none_some (thing_at x u) r.thing (kept.empty u zero) (thing_is x u r was)
+
     within : u < length x.slots
-    within = let s : Slab (Record A) = record { slots = x.slots; vacant_key = 0; capacity = 0 } in ContainsKey-within s u there
+    within = below_end x u used_x
 
     records_x' : record_at x' ≡ put (record_at x) u (Some (record r { thing = a }))
     records_x' = table_set x.slots u (Some (record r { thing = a })) None within
@@ -194,9 +206,6 @@ module _ {A : Type 0} where
 
     things_x' : thing_at x' ≡ put (thing_at x) u (Some a)
     things_x' = things_put x x' u _ records_x'
-
-    used_x : number_at x u ≢ 0
-    used_x zero = none_some (thing_at x u) r.thing (kept.empty u zero) (thing_is x u r was)
 
     counted_x' : number_known (by_number x') x.made ≡ count x'
     counted_x' =

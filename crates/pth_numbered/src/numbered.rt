@@ -112,6 +112,25 @@ impl<T: Drop> Numbered<T> {
         &mut self.records[s.0 as usize].thing
     }
 
+    /// The number of the thing at a slot, 0 where the slot is not in use.
+    pub fn number_in(&self, s: Slot) -> u32
+        ensures { result ≡ number_at self.now s.0 }
+    {
+        match self.records.get(s.0 as usize) {
+            Some(record) => record.number,
+            None => 0,
+        }
+    }
+
+    /// Each slot in use is below this, which is at most the limit.
+    pub fn slots_end(&self) -> u32
+        ensures past { (u : ℕ) → number_at self.now u ≢ 0 → u < result }
+        ensures most { result ≤ self.now.limit }
+    {
+        let most = self.limit as usize;
+        self.records.capacity().min(most) as u32
+    }
+
     /// Adds a thing, which has the next number and a slot that was not in use.
     pub fn add(&mut self, thing: T) -> Result<(u32, Slot), AddErr>
         requires { self.old.made < 4294967295 }

@@ -19,3 +19,5 @@ mod memory;
 mod numbered;
 #[cfg(test)]
 mod queues;
+#[cfg(test)]
+mod rings;

@@ -1,25 +1,27 @@
 -- What is asked of the places of a ring is asked of its numbers.
-use Rattle.std.proofs.Common.{◌≡◌, ◌≢◌, ◌≤◌, ◌+◌, ℕ, ◌==◌, Bool, true, false, cond, if◌then◌else◌, List, [], ◌∷◌, ◌++◌, map, reverse, count_by, find, Option, Some, None, IsSome, option_map, refl, sym, ◌∙◌, ap, ap₂, inl, inr, subst, arith}
+use Rattle.std.proofs.Common.{◌≡◌, ◌≢◌, ◌≤◌, ◌+◌, ℕ, ◌==◌, Bool, true, false, cond, if◌then◌else◌, List, [], ◌∷◌, ◌++◌, map, reverse, count_by, find, Option, Some, None, IsSome, option_map, option_and_then, refl, sym, ◌∙◌, ap, ap₂, inl, inr, subst, arith}
 use Rattle.std.specs.List.{list_any}
 use Rattle.std.proofs.lemmas.List.{reverse-append}
 use Rattle.std.proofs.lemmas.List.Sums.{sum_by-cons, count_by-le-length}
 use Rattle.std.proofs.lemmas.Bool.{cases_eq}
 use Rattle.pth_base.specs.declared.ids.EventId.{EventId}
 use Rattle.pth_base.specs.Naming.{by_slot}
-use Rattle.pth_base.specs.Chain.{StandsIn}
-use Rattle.pth_base.proofs.Namings.{none_some}
-use Rattle.pth_base.proofs.Chains.{StandsIn-turn, StandsIn-append_cases}
+use Rattle.pth_base.specs.Chain.{StandsIn, last_or}
+use Rattle.pth_base.proofs.Chains.{StandsIn-turn, StandsIn-append_cases, chain-last}
 use Rattle.pth_numbered.specs.Numbered.{thing_at, number_at, slot_of}
 use Rattle.pth_ring.specs.declared.node.Node.{Node}
-use Rattle.pth_ring.specs.Ring.{RingGoesOn, from, ring_holds, head_event, turned_once}
+use Rattle.pth_ring.specs.Ring.{RingGoesOn, from, ring_holds, head_event, last_event, turned_once}
 use Rattle.pth_ring.specs.Links.{next_place, prev_place, event_at, ring, IsLinked}
-use Rattle.pth_ring.specs.Rings.{event_limit, event_id, has_claim, has_occurred, is_settled, is_claimed, settled_in, event_after, candidates, walk_end}
+use Rattle.pth_ring.specs.Rings.{event_limit, event_id, has_claim, has_occurred, is_settled, is_claimed, settled_in, event_after, event_before, candidates, walk_end}
 use Rattle.pth_ring.specs.Arena.{RingsOf, rings_by_number, ring_of, event_of, events_of, AreLinked}
+use Rattle.pth_ring.specs.Nodes.{a_ring_node, ring_node}
+use Rattle.pth_ring.proofs.Circles.{ring-is}
+use Rattle.pth_ring.proofs.Writes.{next_id_is, prev_id_is}
 use Rattle.pth_ring.proofs.Calls.{ring-alone, ring-more}
 use Rattle.pth_ring.proofs.Flips.{flip, flip-next, flip-linked, flip-live, flip-ring}
 use Rattle.pth_ring.proofs.Going.{ring-few, on-next, goes-on}
 use Rattle.pth_ring.proofs.Named.{map-append, test_is, from_named, has_named, has-place, ring_holds-named, any-named, find-named, head_event-named, turned_once-named}
-use Rattle.pth_ring.proofs.Shown.{live, all-used, ring-at, agree}
+use Rattle.pth_ring.proofs.Shown.{live, place-used, all-used, ring-at, agree}
 
 -- the same count of the places and of their numbers
 count_named : {A : Type 0} (t : ℕ → ℕ) (f g : ℕ → A) (p : A → Bool) (xs : List ℕ) → ((v : ℕ) → StandsIn v xs → g (t v) ≡ f v) → count_by (λ y. p (g y)) (map t xs) ≡ count_by (λ y. p (f y)) xs
@@ -127,9 +129,27 @@ next-named x k u used_u =
     ∙ head_event-named (number_at x) (turned_once (ring (thing_at x) u))
     ∙ ap (option_map (number_at x)) (sym (first-next (thing_at x) u k.linked (live x k u used_u)))
 
+last_named : (t : ℕ → ℕ) (a : ℕ) (xs : List ℕ) → last_or (t a) (map t xs) ≡ t (last_or a xs)
+last_named t a [] = refl
+last_named t a (x ∷ xs) = last_named t x xs
+
+pub prev-named : (x : RingsOf) (k : AreLinked x) (u : ℕ) (used_u : number_at x u ≢ 0) → event_before (events_of x) (number_at x u) ≡ Some (number_at x (prev_place (thing_at x) u))
+prev-named x k u used_u =
+    let c = k.linked.circle u (live x k u used_u) in
+    ap last_event (ring-at x k u used_u ∙ ap (map (number_at x)) (ring-is (thing_at x) u c.0 c.1))
+    ∙ ap (λ (n : ℕ). Some n) (last_named (number_at x) u c.0 ∙ ap (number_at x) (sym (chain-last (next_place (thing_at x)) (prev_place (thing_at x)) u c.0 u c.1.links)))
+
+-- and so say the numbers in its node
+pub node-named : (x : RingsOf) (k : AreLinked x) (u : ℕ) (used_u : number_at x u ≢ 0) (n : Node) → thing_at x u ≡ Some n → ring_node (events_of x) (number_at x u) ≡ Some n.ring
+node-named x k u used_u n is =
+    let l = live x k u used_u in
+    let next : number_at x (next_place (thing_at x) u) ≡ n.ring.next.0 = sym (next_id_is x u n is ∙ k.numbered.next u l ∙ ap (λ (f : ℕ → ℕ). f (next_place (thing_at x) u)) k.named) in
+    let prev : number_at x (prev_place (thing_at x) u) ≡ n.ring.prev.0 = sym (prev_id_is x u n is ∙ k.numbered.prev u l ∙ ap (λ (f : ℕ → ℕ). f (prev_place (thing_at x) u)) k.named) in
+    ap₂ (λ (p q : Option ℕ). option_and_then (λ before. option_map (λ after. a_ring_node before after) q) p) (prev-named x k u used_u ∙ ap (λ (m : ℕ). Some m) prev) (next-named x k u used_u ∙ ap (λ (m : ℕ). Some m) next)
+
 -- ---- round a ring
 
-slot_by : (x : RingsOf) (e : ℕ) (n : ℕ) → StandsIn n (ring_of x e) → (w : ℕ) × (slot_of x e ≡ Some w)
+pub slot_by : (x : RingsOf) (e : ℕ) (n : ℕ) → StandsIn n (ring_of x e) → (w : ℕ) × (slot_of x e ≡ Some w)
 unfolding ring_of rings_by_number
 slot_by x e n h = by (slot_of x e) refl h
   where
@@ -167,6 +187,5 @@ module _ (x : RingsOf) (k : AreLinked x) (u : ℕ) (used_u : number_at x u ≢ 0
   round e h =
       let w = slot_by x e (number_at x u) h in
       let is : number_at x w.0 ≡ e = k.kept.tied.tid e w.0 w.1 in
-      let used_w : number_at x w.0 ≢ 0 = λ zero. none_some (sym k.kept.tied.zero ∙ ap (slot_of x) (sym zero ∙ is) ∙ w.1) in
       let P : ℕ → Type 0 = λ n. StandsIn (number_at x u) (ring_of x n) → RingGoesOn (ring_of x n) n (number_at x u) (number_at x (next_place (thing_at x) u)) in
-      subst P is (round_at w.0 used_w) h
+      subst P is (round_at w.0 (place-used x k e w.0 w.1)) h

@@ -100,7 +100,7 @@ pub ring-awaited : (x z : RingsOf) (now e : ℕ) → AreLinked x → number_at x
 ring-awaited x z now e k used_e kz p rings event =
     let l = ring (thing_at x) e in
     let f = event_at (thing_at x) in
-    becomes x z p (ring (thing_at x)) (each l (again now) f) (ring_awaited (number_at x e) now (events_of x)) k kz.linked rings (event ∙ awaited-each now l f)
+    becomes x z p (ring (thing_at x)) (each l (again now) f) (ring_awaited (number_at x e) now (events_of x)) k kz.linked kz.numbered rings (event ∙ awaited-each now l f)
     (sym (rings-named x))
     (each-named (slot_of x) (number_at x) k.kept.tied None l (again now) f (all-used x k e used_e)
     ∙ ap₂ (λ (m : List ℕ) (h : ℕ → Option Event). each m (again now) h) (sym (ring-at x k e used_e)) (sym (events-seen x)))

@@ -6,22 +6,23 @@ use mathlib.Core.Path.{fun_ext}
 use Rattle.pth_base.proofs.Tables.{put_here, put_other}
 use Rattle.pth_base.proofs.Lists.{put_twice}
 use Rattle.pth_base.proofs.Namings.{none_some, seen_add, seen_drop}
-use Rattle.pth_base.proofs.Chains.{stands_or_not, StandsIn-append_right}
+use Rattle.pth_base.proofs.Chains.{stands_or_not, StandsIn-append_right, closed-next, closed-prev}
 use Rattle.pth_base.specs.declared.event.EventSpec.{EventSpec}
 use Rattle.pth_base.specs.Chain.{StandsIn}
 use Rattle.pth_numbered.specs.Numbered.{IsKept, Adds, Removes, thing_at, number_at, slot_of}
 use Rattle.pth_ring.specs.declared.event.Event.{Event}
 use Rattle.pth_ring.specs.declared.node.Node.{Node}
 use Rattle.pth_ring.specs.Ring.{ring_holds, circle, rest_of}
-use Rattle.pth_ring.specs.Links.{next_place, prev_place, event_at, id_at, ring, IsLinkedRing, IsLinked}
+use Rattle.pth_ring.specs.Links.{next_place, prev_place, next_id, prev_id, event_at, id_at, ring, IsLinkedRing, IsLinked, IsNumbered}
 use Rattle.pth_ring.specs.Rings.{event_limit, Events, pending, alone, chained, concatenated, isolated, freed}
 use Rattle.pth_ring.specs.Arena.{RingsOf, rings_by_number, ring_of, event_of, events_of, AreLinked, SamePlaces, Becomes, IsMade, IsChained, IsDropped, IsFreed}
 use Rattle.pth_ring.proofs.Lists.{ring_holds-out, not_in_one}
 use Rattle.pth_ring.proofs.Turns.{circle-in, circle-out}
 use Rattle.pth_ring.proofs.Circles.{ring-is, ring-none, same-circle}
-use Rattle.pth_ring.proofs.Writes.{next_put, prev_put, id_put, event_put}
-use Rattle.pth_ring.proofs.Changes.{new-linked, new-ring, gone-linked, gone-ring}
-use Rattle.pth_ring.proofs.Calls.{turned-alone, put-circle}
+use Rattle.pth_ring.proofs.Writes.{next_put, prev_put, next_id_put, prev_id_put, id_put, event_put}
+use Rattle.pth_ring.proofs.Changes.{live-prev, new-linked, new-ring, gone-linked, gone-ring}
+use Rattle.pth_ring.proofs.Calls.{live-next, turned-alone, put-circle}
+use Rattle.pth_ring.proofs.Numbers.{numbers-changed}
 use Rattle.pth_ring.proofs.Named.{AllUsed, rings_by_number-circle, rings_by_number-grown, rings_by_number-gone}
 use Rattle.pth_ring.proofs.Shown.{rings-named, events-seen, live, used, ring-at, events_are}
 
@@ -69,7 +70,7 @@ module _ (x : ℕ → Option Node) (linked : IsLinked x) where
 pub number-new : (x mid : RingsOf) (u : ℕ) (n : Node) → Adds x mid u n → number_at mid u ≢ 0
 number-new x mid u n adds = rw (adds.numbers, put_here (number_at x) u (x.made + 1)) (let a : x.made + 1 ≢ 0 = omega arith in a)
 
-module _ (x mid y : RingsOf) (u : ℕ) (n : Node) (spec : EventSpec) (k : AreLinked x) (law : IsKept mid) (adds : Adds x mid u n) (id : n.id.0 ≡ x.made + 1) (event : n.event ≡ pending spec) (p : SamePlaces mid y) (next : next_place (thing_at y) ≡ put (next_place (thing_at mid)) u u) (prev : prev_place (thing_at y) ≡ put (prev_place (thing_at mid)) u u) (same : event_at (thing_at y) ≡ event_at (thing_at mid)) where
+module _ (x mid y : RingsOf) (u : ℕ) (n : Node) (spec : EventSpec) (k : AreLinked x) (law : IsKept mid) (adds : Adds x mid u n) (id : n.id.0 ≡ x.made + 1) (event : n.event ≡ pending spec) (p : SamePlaces mid y) (next : next_place (thing_at y) ≡ put (next_place (thing_at mid)) u u) (prev : prev_place (thing_at y) ≡ put (prev_place (thing_at mid)) u u) (next_number : next_id (thing_at y) ≡ put (next_id (thing_at mid)) u (id_at (thing_at mid) u)) (prev_number : prev_id (thing_at y) ≡ put (prev_id (thing_at mid)) u (id_at (thing_at mid) u)) (same : event_at (thing_at y) ≡ event_at (thing_at mid)) where
   abbrev m : ℕ
   m = x.made + 1
 
@@ -91,6 +92,15 @@ module _ (x mid y : RingsOf) (u : ℕ) (n : Node) (spec : EventSpec) (k : AreLin
   ids_y : id_at (thing_at y) ≡ put (id_at (thing_at x)) u m
   ids_y = p.ids ∙ id_put x mid u (Some n) adds.things ∙ ap (λ (j : ℕ). put (id_at (thing_at x)) u j) id
 
+  id_mid : id_at (thing_at mid) u ≡ m
+  id_mid = ap (λ (f : ℕ → ℕ). f u) (id_put x mid u (Some n) adds.things) ∙ put_here (id_at (thing_at x)) u n.id.0 ∙ id
+
+  next_id_y : next_id (thing_at y) ≡ put (next_id (thing_at x)) u m
+  next_id_y = next_number ∙ ap₂ (λ (f : ℕ → ℕ) (j : ℕ). put f u j) (next_id_put x mid u (Some n) adds.things) id_mid ∙ put_twice (next_id (thing_at x)) u n.ring.next.0 m
+
+  prev_id_y : prev_id (thing_at y) ≡ put (prev_id (thing_at x)) u m
+  prev_id_y = prev_number ∙ ap₂ (λ (f : ℕ → ℕ) (j : ℕ). put f u j) (prev_id_put x mid u (Some n) adds.things) id_mid ∙ put_twice (prev_id (thing_at x)) u n.ring.prev.0 m
+
   unused : event_at (thing_at x) u ≡ None
   unused = is_none (event_at (thing_at x) u) (λ h. used x k u h adds.unused)
 
@@ -100,12 +110,26 @@ module _ (x mid y : RingsOf) (u : ℕ) (n : Node) (spec : EventSpec) (k : AreLin
   kept_y : IsKept y
   kept_y = p.kept law
 
+  -- no event names a place that has none
+  away : (v : ℕ) → IsSome (event_at (thing_at x) v) → v ≢ u
+  away v h is = not_some (event_at (thing_at x) v) (ap (event_at (thing_at x)) is ∙ unused) h
+
+  numbered_y : IsNumbered (thing_at y)
+  numbered_y =
+      let f = event_at (thing_at x) in
+      let own : m ≡ put (id_at (thing_at x)) u m u = sym (put_here (id_at (thing_at x)) u m) in
+      record {
+        next = rw (event_y, ids_y, next_y, next_id_y) (numbers-changed f (id_at (thing_at x)) (next_place (thing_at x)) (next_id (thing_at x)) u u m m (Some (pending spec)) k.numbered.next (λ w apart h. away _ (live-next (thing_at x) w k.linked h)) (λ h. own));
+        prev = rw (event_y, ids_y, prev_y, prev_id_y) (numbers-changed f (id_at (thing_at x)) (prev_place (thing_at x)) (prev_id (thing_at x)) u u m m (Some (pending spec)) k.numbered.prev (λ w apart h. away _ (live-prev (thing_at x) w k.linked h)) (λ h. own));
+      }
+
   linked_y : AreLinked y
   linked_y = record {
     kept = kept_y;
     limit = p.limit ∙ adds.limit ∙ k.limit;
     named = ids_y ∙ ap (λ (f : ℕ → ℕ). put f u m) k.named ∙ sym numbers_y;
     linked = new-linked (thing_at x) (thing_at y) u (pending spec) k.linked unused low next_y prev_y event_y;
+    numbered = numbered_y;
   }
 
   new_used : AllUsed (number_at y) (u ∷ [])
@@ -164,6 +188,26 @@ module _ (x y : RingsOf) (u : ℕ) (k : AreLinked x) (used_u : number_at x u ≢
   event_z : event_at (thing_at y) ≡ put (event_at (thing_at x)) u None
   event_z = event_put x y u None gone.things
 
+  out_of : (w : ℕ) (rest : List ℕ) {v : ℕ} → IsLinkedRing (thing_at x) (w ∷ rest) → w ≢ u → v ≡ u → StandsIn v (w ∷ rest) → ⊥
+  out_of w rest c apart is h = in-one-ring (thing_at x) k.linked u w alone_u apart (subst (StandsIn u) (sym (ring-is (thing_at x) w rest c)) (subst (λ j. StandsIn j (w ∷ rest)) is h))
+
+  -- no other event names a place that stands alone
+  next_away : (w : ℕ) → w ≢ u → IsSome (event_at (thing_at x) w) → next_place (thing_at x) w ≢ u
+  next_away w apart h is =
+      let c = k.linked.circle w h in
+      out_of w c.0 c.1 apart is (closed-next (next_place (thing_at x)) (prev_place (thing_at x)) (w ∷ c.0) w c.1.links (inl refl))
+
+  prev_away : (w : ℕ) → w ≢ u → IsSome (event_at (thing_at x) w) → prev_place (thing_at x) w ≢ u
+  prev_away w apart h is =
+      let c = k.linked.circle w h in
+      out_of w c.0 c.1 apart is (closed-prev (next_place (thing_at x)) (prev_place (thing_at x)) (w ∷ c.0) w c.1.links (inl refl))
+
+  numbered_z : IsNumbered (thing_at y)
+  numbered_z = record {
+    next = rw (event_z, id_put x y u None gone.things, next_z, next_id_put x y u None gone.things) (numbers-changed (event_at (thing_at x)) (id_at (thing_at x)) (next_place (thing_at x)) (next_id (thing_at x)) u 0 0 0 None k.numbered.next next_away (λ h. cc));
+    prev = rw (event_z, id_put x y u None gone.things, prev_z, prev_id_put x y u None gone.things) (numbers-changed (event_at (thing_at x)) (id_at (thing_at x)) (prev_place (thing_at x)) (prev_id (thing_at x)) u 0 0 0 None k.numbered.prev prev_away (λ h. cc));
+  }
+
   at : slot_of x (number_at x u) ≡ Some u
   at = k.kept.tied.slot u used_u
 
@@ -174,6 +218,7 @@ module _ (x y : RingsOf) (u : ℕ) (k : AreLinked x) (used_u : number_at x u ≢
       limit = gone.limit ∙ k.limit;
       named = id_put x y u None gone.things ∙ ap (λ (f : ℕ → ℕ). put f u 0) k.named ∙ sym gone.numbers;
       linked = gone-linked (thing_at x) (thing_at y) u k.linked alone_u next_z prev_z event_z;
+      numbered = numbered_z;
     };
     numbers = gone.numbers;
     rings =

@@ -10,6 +10,7 @@ use Rattle.pth_ring.specs.Arena.{RingsOf, rings_by_number, ring_of, events_of, A
 use Rattle.pth_base.proofs.Chains.{StandsIn-append_cases}
 use Rattle.pth_ring.proofs.Lists.{ring_holds-in}
 use Rattle.pth_ring.proofs.Changes.{live-prev, joined-linked, joined-ring}
+use Rattle.pth_ring.proofs.Numbers.{spliced-numbered}
 use Rattle.pth_ring.proofs.Calls.{part-linked, part-ring, part-none, first-none, first-some, live-next}
 use Rattle.pth_ring.proofs.Named.{AllUsed, map-append, rings_by_number-circle, ring_holds-named, head_event-named, rest-named}
 use Rattle.pth_ring.proofs.Writes.{places_none}
@@ -43,6 +44,7 @@ joins x y a b k ua ub out s p =
     let rb = ring (thing_at x) b in
     becomes x y p (circle (ra ++ rb) (ring (thing_at x))) (event_at (thing_at x)) (concatenated (number_at x a) (number_at x b) (events_of x)) k
     (joined-linked (thing_at x) (thing_at y) a b k.linked la lb apart s)
+    (spliced-numbered (thing_at x) (thing_at y) a b s p.ids k.numbered)
     (joined-ring (thing_at x) (thing_at y) a b k.linked la lb apart s)
     s.event
     (circle-seen x k (ra ++ rb) (ring_of x (number_at x a) ++ ring_of x (number_at x b)) (ring (thing_at x)) (ring_of x)
@@ -79,11 +81,12 @@ module _ (x : RingsOf) (k : AreLinked x) (e : ℕ) (ue : number_at x e ≢ 0) wh
 
   -- it stood alone
   pub stays : next_place (thing_at x) e ≡ e → Becomes x x now
-  stays h = becomes x x (places_none x) _ (event_at (thing_at x)) now k k.linked (part-none (thing_at x) e k.linked (live x k e ue) h) refl parts_seen (sym (events-seen x)) refl
+  stays h = becomes x x (places_none x) _ (event_at (thing_at x)) now k k.linked k.numbered (part-none (thing_at x) e k.linked (live x k e ue) h) refl parts_seen (sym (events-seen x)) refl
 
   pub parts : (y : RingsOf) → next_place (thing_at x) e ≢ e → Splices (thing_at x) (thing_at y) e (next_place (thing_at x) e) → SamePlaces x y → Becomes x y now
   parts y n s p = becomes x y p _ (event_at (thing_at x)) now k
       (part-linked (thing_at x) e k.linked (live x k e ue) (thing_at y) n s)
+      (spliced-numbered (thing_at x) (thing_at y) e (next_place (thing_at x) e) s p.ids k.numbered)
       (part-ring (thing_at x) e k.linked (live x k e ue) (thing_at y) n s)
       s.event parts_seen (sym (events-seen x)) refl
 

@@ -7,12 +7,13 @@ use Rattle.pth_base.proofs.Namings.{seen_put}
 use Rattle.pth_base.specs.declared.ids.Tid.{Tid}
 use Rattle.pth_numbered.specs.Numbered.{Changes, thing_at, number_at, slot_of}
 use Rattle.pth_ring.specs.declared.event.Event.{Event}
+use Rattle.pth_ring.specs.declared.event.RingNode.{RingNode}
 use Rattle.pth_ring.specs.declared.node.Node.{Node}
-use Rattle.pth_ring.specs.Links.{next_place, prev_place, event_at, ring, IsLinkedRing, IsLinked}
+use Rattle.pth_ring.specs.Links.{next_place, prev_place, next_id, prev_id, event_at, ring, IsLinkedRing, IsLinked, IsNumbered}
 use Rattle.pth_ring.specs.Rings.{with_event, with_claim, ring_awaited, claimed}
 use Rattle.pth_ring.specs.Arena.{RingsOf, event_of, events_of, AreLinked, SamePlaces, Becomes, Remakes}
 use Rattle.pth_ring.proofs.Circles.{ring-is, ring-none}
-use Rattle.pth_ring.proofs.Writes.{event_is, next_kept, prev_kept, event_written, same_places}
+use Rattle.pth_ring.proofs.Writes.{event_is, next_kept, prev_kept, next_id_kept, prev_id_kept, event_written, same_places}
 use Rattle.pth_ring.proofs.Shown.{rings-named, events-seen, live, event-at, linked-still, becomes}
 
 -- the same places have events, linked alike
@@ -51,8 +52,8 @@ module _ (x z : ℕ → Option Node) (linked : IsLinked x) (s : SameLinks x z) w
 
 -- another event is written
 module _ (x y : RingsOf) (u : ℕ) (a b : Node) (g : Event → Event) (k : AreLinked x) (used_u : number_at x u ≢ 0) (was : thing_at x u ≡ Some a) (writes : Changes x y u b) where
-  written : SamePlaces x y → next_place (thing_at y) ≡ next_place (thing_at x) → prev_place (thing_at y) ≡ prev_place (thing_at x) → event_at (thing_at y) ≡ put (event_at (thing_at x)) u (Some b.event) → b.event ≡ g a.event → Remakes x y u g
-  written p next prev event is =
+  written : SamePlaces x y → next_place (thing_at y) ≡ next_place (thing_at x) → prev_place (thing_at y) ≡ prev_place (thing_at x) → next_id (thing_at y) ≡ next_id (thing_at x) → prev_id (thing_at y) ≡ prev_id (thing_at x) → event_at (thing_at y) ≡ put (event_at (thing_at x)) u (Some b.event) → b.event ≡ g a.event → Remakes x y u g
+  written p next prev next_id prev_id event is =
       let v = b.event in
       let same : SameLinks (thing_at x) (thing_at y) = record {
         next = next;
@@ -60,24 +61,29 @@ module _ (x y : RingsOf) (u : ℕ) (a b : Node) (g : Event → Event) (k : AreLi
         gone = λ w h. (let P : Option Event → Type 0 = λ o. o ≡ None in rw event (put_by P (event_at (thing_at x)) u (Some v) w (λ same. absurd (not_both (event_at (thing_at x) w) h (subst (λ (i : ℕ). IsSome (event_at (thing_at x) i)) (sym same) (live x k u used_u)))) (λ apart. h)));
         live = λ w h. (let P : Option Event → Type 0 = λ o. IsSome o in rw event (put_by P (event_at (thing_at x)) u (Some v) w (λ same. refl) (λ apart. h)));
       } in
+      let before : (w : ℕ) → IsSome (event_at (thing_at y) w) → IsSome (event_at (thing_at x) w) = was_live (thing_at x) (thing_at y) k.linked same in
+      let numbered : IsNumbered (thing_at y) = record {
+        next = λ w h. rw (p.ids, next, next_id) (k.numbered.next w (before w h));
+        prev = λ w h. rw (p.ids, prev, prev_id) (k.numbered.prev w (before w h));
+      } in
       record {
-        kept = linked-still x y p k (same_linked (thing_at x) (thing_at y) k.linked same);
+        kept = linked-still x y p k (same_linked (thing_at x) (thing_at y) k.linked same) numbered;
         places = p;
         next = next;
         rings = same_ring (thing_at x) (thing_at y) k.linked same;
         event = event ∙ ap (λ (o : Option Event). put (event_at (thing_at x)) u o) (ap Some is ∙ sym (ap (option_map g) (event_is x u a was)));
       }
 
-  pub rewritten : b.id.0 ≡ a.id.0 → b.next.0 ≡ a.next.0 → b.prev.0 ≡ a.prev.0 → b.event ≡ g a.event → Remakes x y u g
-  rewritten id next prev event =
-      written (same_places x y u a b used_u was writes id) (next_kept x y u a b used_u was writes next) (prev_kept x y u a b used_u was writes prev) (event_written x y u a b used_u was writes) event
+  pub rewritten : b.id.0 ≡ a.id.0 → b.next.0 ≡ a.next.0 → b.prev.0 ≡ a.prev.0 → b.ring ≡ a.ring → b.event ≡ g a.event → Remakes x y u g
+  rewritten id next prev ring event =
+      written (same_places x y u a b used_u was writes id) (next_kept x y u a b used_u was writes next) (prev_kept x y u a b used_u was writes prev) (next_id_kept x y u a b used_u was writes (ap (λ (r : RingNode). r.next.0) ring)) (prev_id_kept x y u a b used_u was writes (ap (λ (r : RingNode). r.prev.0) ring)) (event_written x y u a b used_u was writes) event
 
 -- by number
 pub remade : (x y : RingsOf) (u : ℕ) (g : Event → Event) → AreLinked x → number_at x u ≢ 0 → Remakes x y u g → Becomes x y (with_event g (number_at x u) (events_of x))
 remade x y u g k used_u r =
     let f = event_at (thing_at x) in
     let n = number_at x u in
-    becomes x y r.places (ring (thing_at x)) (put f u (option_map g (f u))) (with_event g n (events_of x)) k r.kept.linked r.rings r.event
+    becomes x y r.places (ring (thing_at x)) (put f u (option_map g (f u))) (with_event g n (events_of x)) k r.kept.linked r.kept.numbered r.rings r.event
     (sym (rings-named x))
     (seen_put None (slot_of x) (number_at x) f n u (option_map g (f u)) k.kept.tied (k.kept.tied.slot u used_u)
     ∙ ap (λ (h : ℕ → Option Event). put h n (option_map g (f u))) (sym (events-seen x))

@@ -4,6 +4,7 @@ pub mod Turns
 pub mod Circles
 pub mod Writes
 pub mod Changes
+pub mod Numbers
 pub mod Calls
 pub mod Named
 pub mod Shown
@@ -17,3 +18,4 @@ pub mod Kept
 pub mod Awaits
 pub mod Refusals
 pub mod Releases
+pub mod Neighbours

@@ -48,7 +48,7 @@ module _ (s : ℕ → Option ℕ) (t : ℕ → ℕ) (tied : IsTied s t) where
   before_named u (x ∷ xs) hu all =
       ap₂ (λ (b : Bool) (l : List ℕ). if b then [] else t x ∷ l) (test_is x u (all x (inl refl)) hu) (before_named u xs hu (λ v k. all v (inr k))) ∙ sym (choose_map (x == u) [] (x ∷ before u xs))
 
-  turned_named : (u : ℕ) (xs : List ℕ) → t u ≢ 0 → AllUsed t xs → turned (t u) (map t xs) ≡ map t (turned u xs)
+  pub turned_named : (u : ℕ) (xs : List ℕ) → t u ≢ 0 → AllUsed t xs → turned (t u) (map t xs) ≡ map t (turned u xs)
   unfolding turned
   turned_named u xs hu all = ap₂ (λ (a b : List ℕ). a ++ b) (from_named u xs hu all) (before_named u xs hu all) ∙ sym (map-append t (from u xs) (before u xs))
 
@@ -57,7 +57,7 @@ module _ (s : ℕ → Option ℕ) (t : ℕ → ℕ) (tied : IsTied s t) where
   has_named u (x ∷ xs) (inl k) = inl (ap t k)
   has_named u (x ∷ xs) (inr h) = inr (has_named u xs h)
 
-  named_has : (n : ℕ) (xs : List ℕ) → StandsIn n (map t xs) → (u : ℕ) × (n ≡ t u) × StandsIn u xs
+  pub named_has : (n : ℕ) (xs : List ℕ) → StandsIn n (map t xs) → (u : ℕ) × (n ≡ t u) × StandsIn u xs
   named_has n [] h = absurd h
   named_has n (x ∷ xs) (inl k) = (x, k, inl refl)
   named_has n (x ∷ xs) (inr h) = let r = named_has n xs h in (r.0, r.1, inr r.2)

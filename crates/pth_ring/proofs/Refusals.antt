@@ -197,6 +197,10 @@ none-linked x slots numbers things none made limit = record {
     low = λ u h. absurd (not_live (event_at (thing_at x) u) (no_thing x things u) h);
     circle = λ u h. absurd (not_live (event_at (thing_at x) u) (no_thing x things u) h);
   };
+  numbered = record {
+    next = λ u h. absurd (not_live (event_at (thing_at x) u) (no_thing x things u) h);
+    prev = λ u h. absurd (not_live (event_at (thing_at x) u) (no_thing x things u) h);
+  };
 }
 
 none_rings : (x : RingsOf) → slot_of x ≡ (λ _. None) → ring_of x ≡ (λ _. [])

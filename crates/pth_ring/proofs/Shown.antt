@@ -2,12 +2,12 @@
 use Rattle.std.proofs.Common.{◌≡◌, ◌≢◌, ℕ, true, List, [], ◌∷◌, map, Option, Some, None, IsSome, is_some, refl, sym, ◌∙◌, ap, subst}
 use Rattle.pth_base.specs.Naming.{by_slot, seen}
 use Rattle.pth_base.specs.Chain.{StandsIn}
-use Rattle.pth_base.proofs.Namings.{seen_at}
+use Rattle.pth_base.proofs.Namings.{none_some, seen_at}
 use Rattle.pth_numbered.specs.Numbered.{thing_at, number_at, slot_of}
 use Rattle.pth_ring.specs.declared.event.Event.{Event}
 use Rattle.pth_ring.specs.declared.node.Node.{Node}
 use Rattle.pth_ring.specs.Ring.{Begins, rest_of}
-use Rattle.pth_ring.specs.Links.{node_event, event_at, ring, IsLinked}
+use Rattle.pth_ring.specs.Links.{node_event, event_at, ring, IsLinked, IsNumbered}
 use Rattle.pth_ring.specs.Rings.{Events, is_event}
 use Rattle.pth_ring.specs.Arena.{RingsOf, rings_by_number, ring_of, event_of, events_of, AreLinked, SamePlaces, Becomes}
 use Rattle.pth_ring.proofs.Circles.{ring-is}
@@ -47,6 +47,10 @@ module _ (x : RingsOf) (k : AreLinked x) where
   pub used : (u : ℕ) → IsSome (event_at (thing_at x) u) → number_at x u ≢ 0
   unfolding event_at
   used u h zero = no_event (thing_at x u) (k.kept.empty u zero) h
+
+  -- the place of a number is in use
+  pub place-used : (n u : ℕ) → slot_of x n ≡ Some u → number_at x u ≢ 0
+  place-used n u is zero = none_some (sym k.kept.tied.zero ∙ ap (slot_of x) (sym zero ∙ k.kept.tied.tid n u is) ∙ is)
 
   -- each place of its ring is in use
   pub all-used : (u : ℕ) → number_at x u ≢ 0 → AllUsed (number_at x) (ring (thing_at x) u)
@@ -106,18 +110,19 @@ module _ (x y : RingsOf) (p : SamePlaces x y) where
       ap (λ (s : ℕ → Option ℕ). seen None s (event_at (thing_at y))) p.slots
       ∙ ap (seen None (slot_of x)) e
 
-  pub linked-still : AreLinked x → IsLinked (thing_at y) → AreLinked y
-  linked-still k linked = record {
+  pub linked-still : AreLinked x → IsLinked (thing_at y) → IsNumbered (thing_at y) → AreLinked y
+  linked-still k linked numbered = record {
     kept = p.kept k.kept;
     limit = p.limit ∙ k.limit;
     named = p.ids ∙ k.named ∙ sym p.numbers;
     linked = linked;
+    numbered = numbered;
   }
 
   -- the rings are these, and so are the events
-  pub becomes : (r : ℕ → List ℕ) (f : ℕ → Option Event) (now : Events) → AreLinked x → IsLinked (thing_at y) → ring (thing_at y) ≡ r → event_at (thing_at y) ≡ f → rings_by_number (slot_of x) (number_at x) r ≡ now.rings → seen None (slot_of x) f ≡ now.events → x.made ≡ now.made → Becomes x y now
-  becomes r f now k linked rings events rings_are events_are_these made = record {
-    kept = linked-still k linked;
+  pub becomes : (r : ℕ → List ℕ) (f : ℕ → Option Event) (now : Events) → AreLinked x → IsLinked (thing_at y) → IsNumbered (thing_at y) → ring (thing_at y) ≡ r → event_at (thing_at y) ≡ f → rings_by_number (slot_of x) (number_at x) r ≡ now.rings → seen None (slot_of x) f ≡ now.events → x.made ≡ now.made → Becomes x y now
+  becomes r f now k linked numbered rings events rings_are events_are_these made = record {
+    kept = linked-still k linked numbered;
     numbers = p.numbers;
     slots = p.slots;
     events = events_are y now (same_rings r rings ∙ rings_are) (same_events f events ∙ events_are_these) (p.made ∙ made);

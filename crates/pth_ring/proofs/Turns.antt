@@ -33,6 +33,23 @@ pub turned-is : (e : ℕ) (xs : List ℕ) (s : Split e xs) → turned e xs ≡ e
 unfolding turned
 turned-is e xs s = ap₂ (λ (a b : List ℕ). a ++ b) s.from_is s.before_is
 
+-- e does not stand before itself
+pub before-away : (e : ℕ) (xs : List ℕ) → StandsIn e (before e xs) → ⊥
+before-away e [] h = h
+before-away e (x ∷ xs) h = elim (cases_eq x e) [
+  | inl s ↦ (let t : (x == e) ≡ true = ap (λ z. z == e) s ∙ same_self e in rw t at h)
+  | inr n ↦ elim (let t : (x == e) ≡ false = not_same x e n in rw t at h) [ inl k ↦ n (sym k) | inr k ↦ before-away e xs k ]
+]
+
+split-first : (e : ℕ) (front back : List ℕ) → (StandsIn e front → ⊥) → (s : Split e (front ++ e ∷ back)) × (s.back ≡ back) × (s.front ≡ front)
+unfolding split-here split-later
+split-first e [] back out = (split-here e e back refl, refl, refl)
+split-first e (x ∷ xs) back out = let r = split-first e xs back (λ h. out (inr h)) in (split-later e x (xs ++ e ∷ back) (λ k. out (inl (sym k))) r.0, r.1, ap (λ l. x ∷ l) r.2)
+
+-- read from e on, where e does not stand in front
+pub turned-first : (e : ℕ) (front back : List ℕ) → (StandsIn e front → ⊥) → turned e (front ++ e ∷ back) ≡ e ∷ (back ++ front)
+turned-first e front back out = let s = split-first e front back out in turned-is e (front ++ e ∷ back) s.0 ∙ ap₂ (λ (a b : List ℕ). e ∷ (a ++ b)) s.1 s.2
+
 pub StandsIn-turned : (y e : ℕ) (xs : List ℕ) → StandsIn e xs → StandsIn y xs → StandsIn y (turned e xs)
 StandsIn-turned y e xs h k =
     let s = split e xs h in

@@ -9,7 +9,7 @@ use Rattle.pth_numbered.specs.Numbered.{NumberedOf, IsKept, Changes, number_know
 use Rattle.pth_numbered.proofs.Known.{number-other}
 use Rattle.pth_ring.specs.declared.event.Event.{Event}
 use Rattle.pth_ring.specs.declared.node.Node.{Node}
-use Rattle.pth_ring.specs.Links.{node_next, node_prev, node_id, node_event, next_place, prev_place, id_at, event_at}
+use Rattle.pth_ring.specs.Links.{node_next, node_prev, node_next_id, node_prev_id, node_id, node_event, next_place, prev_place, next_id, prev_id, id_at, event_at}
 use Rattle.pth_ring.specs.Arena.{RingsOf, SamePlaces}
 
 -- ---- reading
@@ -25,6 +25,14 @@ prev_is x u n h = sym (ap node_prev h)
 pub id_is : (x : RingsOf) (u : ℕ) (n : Node) → thing_at x u ≡ Some n → n.id.0 ≡ id_at (thing_at x) u
 unfolding id_at
 id_is x u n h = sym (ap node_id h)
+
+pub next_id_is : (x : RingsOf) (u : ℕ) (n : Node) → thing_at x u ≡ Some n → n.ring.next.0 ≡ next_id (thing_at x) u
+unfolding next_id
+next_id_is x u n h = sym (ap node_next_id h)
+
+pub prev_id_is : (x : RingsOf) (u : ℕ) (n : Node) → thing_at x u ≡ Some n → n.ring.prev.0 ≡ prev_id (thing_at x) u
+unfolding prev_id
+prev_id_is x u n h = sym (ap node_prev_id h)
 
 pub event_is : (x : RingsOf) (u : ℕ) (n : Node) → thing_at x u ≡ Some n → event_at (thing_at x) u ≡ Some n.event
 unfolding event_at
@@ -81,6 +89,14 @@ pub prev_put : (x y : RingsOf) (u : ℕ) (o : Option Node) → thing_at y ≡ pu
 unfolding prev_place
 prev_put x y u o e = of_node node_prev (thing_at x) (thing_at y) u o e
 
+pub next_id_put : (x y : RingsOf) (u : ℕ) (o : Option Node) → thing_at y ≡ put (thing_at x) u o → next_id (thing_at y) ≡ put (next_id (thing_at x)) u (node_next_id o)
+unfolding next_id
+next_id_put x y u o e = of_node node_next_id (thing_at x) (thing_at y) u o e
+
+pub prev_id_put : (x y : RingsOf) (u : ℕ) (o : Option Node) → thing_at y ≡ put (thing_at x) u o → prev_id (thing_at y) ≡ put (prev_id (thing_at x)) u (node_prev_id o)
+unfolding prev_id
+prev_id_put x y u o e = of_node node_prev_id (thing_at x) (thing_at y) u o e
+
 pub id_put : (x y : RingsOf) (u : ℕ) (o : Option Node) → thing_at y ≡ put (thing_at x) u o → id_at (thing_at y) ≡ put (id_at (thing_at x)) u (node_id o)
 unfolding id_at
 id_put x y u o e = of_node node_id (thing_at x) (thing_at y) u o e
@@ -97,6 +113,12 @@ module _ (x y : RingsOf) (u : ℕ) (a b : Node) (used : number_at x u ≢ 0) (wa
   pub prev_written : prev_place (thing_at y) ≡ put (prev_place (thing_at x)) u b.prev.0
   prev_written = prev_put x y u (Some b) writes.things
 
+  pub next_id_written : next_id (thing_at y) ≡ put (next_id (thing_at x)) u b.ring.next.0
+  next_id_written = next_id_put x y u (Some b) writes.things
+
+  pub prev_id_written : prev_id (thing_at y) ≡ put (prev_id (thing_at x)) u b.ring.prev.0
+  prev_id_written = prev_id_put x y u (Some b) writes.things
+
   pub event_written : event_at (thing_at y) ≡ put (event_at (thing_at x)) u (Some b.event)
   event_written = event_put x y u (Some b) writes.things
 
@@ -105,6 +127,12 @@ module _ (x y : RingsOf) (u : ℕ) (a b : Node) (used : number_at x u ≢ 0) (wa
 
   pub prev_kept : b.prev.0 ≡ a.prev.0 → prev_place (thing_at y) ≡ prev_place (thing_at x)
   prev_kept same = prev_written ∙ put_none (prev_place (thing_at x)) u b.prev.0 (sym (prev_is x u a was) ∙ sym same)
+
+  pub next_id_kept : b.ring.next.0 ≡ a.ring.next.0 → next_id (thing_at y) ≡ next_id (thing_at x)
+  next_id_kept same = next_id_written ∙ put_none (next_id (thing_at x)) u b.ring.next.0 (sym (next_id_is x u a was) ∙ sym same)
+
+  pub prev_id_kept : b.ring.prev.0 ≡ a.ring.prev.0 → prev_id (thing_at y) ≡ prev_id (thing_at x)
+  prev_id_kept same = prev_id_written ∙ put_none (prev_id (thing_at x)) u b.ring.prev.0 (sym (prev_id_is x u a was) ∙ sym same)
 
   pub event_kept : b.event ≡ a.event → event_at (thing_at y) ≡ event_at (thing_at x)
   event_kept same = event_written ∙ put_none (event_at (thing_at x)) u (Some b.event) (event_is x u a was ∙ ap (λ (v : Event). Some v) (sym same))

@@ -6,7 +6,7 @@ use Rattle.pth_base.specs.declared.event.EventSpec.{EventSpec}
 use Rattle.pth_numbered.specs.Numbered.{NumberedOf, IsKept, thing_at, number_at, slot_of}
 use Rattle.pth_ring.specs.declared.event.Event.{Event}
 use Rattle.pth_ring.specs.declared.node.Node.{Node}
-use Rattle.pth_ring.specs.Links.{next_place, event_at, id_at, ring, IsLinked}
+use Rattle.pth_ring.specs.Links.{next_place, event_at, id_at, ring, IsLinked, IsNumbered}
 use Rattle.pth_ring.specs.Rings.{Events, event_limit, alone, chained, freed}
 
 -- the nodes by place, with the numbers of their events
@@ -34,6 +34,7 @@ pub record AreLinked (x : RingsOf) : Type 0 where
   -- each node has the number of its event
   pub named : id_at (thing_at x) ≡ number_at x
   pub linked : IsLinked (thing_at x)
+  pub numbered : IsNumbered (thing_at x)
 
 -- the same numbers at the same places
 pub record SamePlaces (old new : RingsOf) : Type 0 where

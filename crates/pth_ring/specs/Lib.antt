@@ -1,5 +1,6 @@
 pub mod Ring
 pub mod Rings
 pub mod Links
+pub mod Nodes
 pub mod Arena
 pub mod Claims

@@ -14,6 +14,14 @@ abbrev pub node_prev : Option Node → ℕ
 node_prev (Some n) = n.prev.0
 node_prev None = 0
 
+abbrev pub node_next_id : Option Node → ℕ
+node_next_id (Some n) = n.ring.next.0
+node_next_id None = 0
+
+abbrev pub node_prev_id : Option Node → ℕ
+node_prev_id (Some n) = n.ring.prev.0
+node_prev_id None = 0
+
 abbrev pub node_id : Option Node → ℕ
 node_id (Some n) = n.id.0
 node_id None = 0
@@ -28,6 +36,13 @@ next_place x u = node_next (x u)
 
 unfoldable pub prev_place : (ℕ → Option Node) → ℕ → ℕ
 prev_place x u = node_prev (x u)
+
+-- the numbers of the events after and before, as the node at a place has them
+unfoldable pub next_id : (ℕ → Option Node) → ℕ → ℕ
+next_id x u = node_next_id (x u)
+
+unfoldable pub prev_id : (ℕ → Option Node) → ℕ → ℕ
+prev_id x u = node_prev_id (x u)
 
 -- the number in the node at a place, 0 where there is none
 unfoldable pub id_at : (ℕ → Option Node) → ℕ → ℕ
@@ -66,8 +81,19 @@ pub record IsLinked (x : ℕ → Option Node) : Type 0 where
   pub low : (u : ℕ) → IsSome (event_at x u) → u < event_limit
   pub circle : (u : ℕ) → IsSome (event_at x u) → (rest : List ℕ) × IsLinkedRing x (u ∷ rest)
 
+-- where there are events, these are the numbers at these places
+abbrev pub AreNumbersAt : (event : ℕ → Option Event) → (ids places numbers : ℕ → ℕ) → Type 0
+AreNumbersAt event ids places numbers = (u : ℕ) → IsSome (event u) → numbers u ≡ ids (places u)
+
+-- the numbers of the neighbours in a node are those at their places
+pub record IsNumbered (x : ℕ → Option Node) : Type 0 where
+  pub next : AreNumbersAt (event_at x) (id_at x) (next_place x) (next_id x)
+  pub prev : AreNumbersAt (event_at x) (id_at x) (prev_place x) (prev_id x)
+
 -- a and b have exchanged the ones before them
 pub record Splices (old new : ℕ → Option Node) (a b : ℕ) : Type 0 where
   pub next : next_place new ≡ put (put (next_place old) (prev_place old a) b) (prev_place old b) a
   pub prev : prev_place new ≡ put (put (prev_place old) b (prev_place old a)) a (prev_place old b)
+  pub next_id : next_id new ≡ put (put (next_id old) (prev_place old a) (id_at old b)) (prev_place old b) (id_at old a)
+  pub prev_id : prev_id new ≡ put (put (prev_id old) b (id_at old (prev_place old a))) a (id_at old (prev_place old b))
   pub event : event_at new ≡ event_at old

@@ -1,7 +1,7 @@
 -- Rings as lists: a ring is the list of its events, read from one of them on.
 use Rattle.std.specs.Prelude.{◌≡◌, ◌==◌, ℕ, Bool, if◌then◌else◌, List, [], ◌∷◌, ◌++◌, Option, Some, None}
 use Rattle.std.specs.List.{list_any}
-use Rattle.pth_base.specs.Chain.{StandsIn}
+use Rattle.pth_base.specs.Chain.{StandsIn, last_or}
 
 -- whether e stands in the list
 abbrev pub ring_holds : ℕ → List ℕ → Bool
@@ -36,6 +36,10 @@ rest_of (x ∷ xs) = xs
 abbrev pub head_event : List ℕ → Option ℕ
 head_event [] = None
 head_event (x ∷ xs) = Some x
+
+abbrev pub last_event : List ℕ → Option ℕ
+last_event [] = None
+last_event (x ∷ xs) = Some (last_or x xs)
 
 -- a ring read from behind its first on, which comes last
 abbrev pub turned_once : List ℕ → List ℕ

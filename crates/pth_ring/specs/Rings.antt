@@ -16,7 +16,7 @@ use Rattle.pth_numbered.specs.Numbered.{number_known}
 use Rattle.pth_ring.specs.declared.event.Event.{Event}
 use Rattle.pth_ring.specs.declared.event.Status.{Status}
 use Rattle.pth_ring.specs.declared.event.Status.TheVariants.{Pending, Occurred, Failed}
-use Rattle.pth_ring.specs.Ring.{ring_holds, circle, each, rest_of, head_event, turned_once}
+use Rattle.pth_ring.specs.Ring.{ring_holds, circle, each, rest_of, head_event, last_event, turned_once}
 
 -- the events by their numbers
 pub record Events : Type 0 where
@@ -116,6 +116,10 @@ settled_in x e = count_by (λ y. is_settled (x.events y)) (x.rings e)
 -- the event after it in its ring
 abbrev pub event_after : Events → ℕ → Option ℕ
 event_after x e = head_event (turned_once (x.rings e))
+
+-- the event before it in its ring
+abbrev pub event_before : Events → ℕ → Option ℕ
+event_before x e = last_event (x.rings e)
 
 -- ---- answers: the tests stand in order, and the first that holds is the answer
 

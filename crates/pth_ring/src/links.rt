@@ -6,7 +6,7 @@ ghost use Rattle.pth_ring.specs.Ring.{ring_holds, rest_of, head_event};
 ghost use Rattle.pth_ring.specs.Rings.{event_id, concatenated, isolated, ring_freed};
 ghost use Rattle.pth_ring.specs.Arena.{events_of, AreLinked, Becomes, IsMade, IsChained, IsDropped, IsFreed};
 
-use crate::event::{Event, EventSpec, Status};
+use crate::event::{Event, EventSpec, RingNode, Status};
 use crate::node::{Node, id_of, next_of, set_next, set_prev, splice};
 use pth_base::ids::{EventId, Slot};
 use pth_numbered::error::AddErr;
@@ -35,6 +35,7 @@ pub(crate) fn insert_alone(
         id,
         prev: Slot(0),
         next: Slot(0),
+        ring: RingNode { prev: id, next: id },
         event,
     })?;
     set_next(nodes, slot, slot);

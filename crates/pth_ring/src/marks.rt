@@ -95,13 +95,13 @@ fn release(nodes: &mut Numbered<Node>, e: Slot, gone: Claims)
     set_claim(nodes, e, claim);
 }
 
-// The claim on the event with a number is gone, where it is one of these.
-fn release_number(nodes: &mut Numbered<Node>, number: u32, gone: Claims)
+// The claim on the event at a place is gone, where it is one of these. Nothing changes where the place is not in use.
+fn release_place(nodes: &mut Numbered<Node>, e: Slot, gone: Claims)
     requires { AreLinked nodes.old }
-    ensures { Becomes nodes.old nodes.new (with_event (without_claims gone) number (events_of nodes.old)) }
+    ensures { Becomes nodes.old nodes.new (with_event (without_claims gone) (number_at nodes.old e.0) (events_of nodes.old)) }
 {
-    if let Some(place) = nodes.find(number) {
-        release(nodes, place, gone);
+    if nodes.number_in(e) != 0 {
+        release(nodes, e, gone);
     }
 }
 
@@ -111,8 +111,8 @@ pub(crate) fn release_all(nodes: &mut Numbered<Node>, gone: Claims)
     ensures kept { AreLinked nodes.new }
     ensures events { events_of nodes.new ≡ with_each_event (without_claims gone) (events_of nodes.old) }
 {
-    let made = nodes.made();
-    for n in 0..made {
-        release_number(nodes, n + 1, gone);
+    let end = nodes.slots_end();
+    for place in 0..end {
+        release_place(nodes, Slot(place), gone);
     }
 }

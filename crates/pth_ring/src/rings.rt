@@ -7,13 +7,14 @@ ghost use Rattle.pth_numbered.specs.Numbered.{number_at};
 ghost use Rattle.pth_base.specs.Chain.{StandsIn};
 ghost use Rattle.pth_ring.specs.Ring.{Begins, RingGoesOn, ring_holds};
 ghost use Rattle.pth_ring.specs.Rings.{kind_of, is_event, is_claimed as is_claimed_ring, settled_in, event_after, ring_refusal, concat_refusal, make_answer, chain_answer, concat_answer, isolate_answer, free_answer, claim_answer, walk_answer, status_answer, kind_answer, AnswersEvent, no_events, alone, chained, concatenated, isolated, freed, ring_freed, claimed, unclaimed, all_unclaimed, with_event, with_status, with_next_look, with_claim};
+ghost use Rattle.pth_ring.specs.Nodes.{ring_node};
 ghost use Rattle.pth_ring.specs.Arena.{events_of};
 
 use crate::event::Event;
-pub use crate::event::{EventSpec, Status};
+pub use crate::event::{EventSpec, RingNode, Status};
 use crate::links::{free_all, free_one, insert_alone, insert_before, join_rings, part};
 use crate::marks::{Claims, await_ring, release_all, set_claim, set_next_look, set_status};
-use crate::node::{Node, event_of, id_of, next_of};
+use crate::node::{Node, event_of, id_of, next_of, ring_node_of};
 use crate::rounds::{count_settled, is_claimed, is_with, walk_from};
 use pth_base::errno::Errno;
 use pth_base::ids::{EventId, Micros, Slot, Tid};
@@ -275,14 +276,14 @@ impl Rings {
         }
     }
 
-    /// The claims of a thread are gone. It goes over every number that was ever given.
+    /// The claims of a thread are gone. It goes over the places, of which there are at most 4096.
     pub fn unclaim(&mut self, t: Tid)
         ensures { events_of self.new ≡ unclaimed t.0 (events_of self.old) }
     {
         release_all(&mut self.nodes, Claims::OfThread(t));
     }
 
-    /// All claims are gone. It goes over every number that was ever given.
+    /// All claims are gone. It goes over the places, of which there are at most 4096.
     pub fn unclaim_all(&mut self)
         ensures { events_of self.new ≡ all_unclaimed (events_of self.old) }
     {
@@ -364,6 +365,15 @@ impl Rings {
         let place = self.place_of(e);
         let next = next_of(&self.nodes, place);
         id_of(&self.nodes, next)
+    }
+
+    /// The events before and after an event in its ring.
+    pub fn node(&self, e: EventId) -> &RingNode
+        requires { IsTrue (is_event (events_of self.now) e.0) }
+        ensures { ring_node (events_of self.now) e.0 ≡ Some result.now }
+    {
+        let place = self.place_of(e);
+        ring_node_of(&self.nodes, place)
     }
 
     /// The number of the event at a place.

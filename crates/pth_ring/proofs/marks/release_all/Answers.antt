@@ -3,16 +3,16 @@ use Rattle.pth_ring.specs.Claims.{without_claims}
 use Rattle.pth_ring.proofs.Releases.{released-start, released-step, released-end}
 use Rattle.pth_ring.proofs.marks.release_all.Goals as goal
 
-pub loop-n-init : goal.loop-n-init
-loop-n-init c = record { kept = c.requires; so_far = released-start c.args.nodes.now (without_claims c.args.gone) c.requires }
+pub loop-place-init : goal.loop-place-init
+loop-place-init c = record { kept = c.requires; so_far = released-start c.args.nodes.now (without_claims c.args.gone) }
 
-pub loop-n-preserved : goal.loop-n-preserved
-loop-n-preserved c = record {
-  kept = c.release_number.ensures.kept;
-  so_far = released-step _ _ _ (without_claims c.args.gone) c.loop-n.n c.loop-n.invariant.so_far c.release_number.ensures.events;
+pub loop-place-preserved : goal.loop-place-preserved
+loop-place-preserved c = record {
+  kept = c.release_place.ensures.kept;
+  so_far = released-step _ _ _ (without_claims c.args.gone) c.loop-place.place c.requires c.loop-place.invariant.so_far c.release_place.ensures;
 }
 
 pub returns-clause-events : goal.returns-clause-events
 returns-clause-events c =
-    let end : c.loop-n.n ≡ c.args.nodes.now.made = omega arith in
-    released-end c.args.nodes.now c.loop-n.nodes (without_claims c.args.gone) c.requires (rw end at c.loop-n.invariant.so_far)
+    let end : c.loop-place.place ≡ c.slots_end-end.result = omega arith in
+    released-end c.args.nodes.now c.loop-place.nodes (without_claims c.args.gone) c.loop-place.place c.requires c.loop-place.invariant.kept (rw end c.slots_end-end.ensures.past) c.loop-place.invariant.so_far

@@ -4,4 +4,4 @@ use Rattle.pth_ring.proofs.Kept.{rewritten}
 use Rattle.pth_ring.proofs.marks.set_claim.Goals as goal
 
 pub returns : goal.returns
-returns c = rewritten c.args.nodes.now _ c.args.e.0 _ _ (with_claim c.args.claim) c.requires.kept c.requires.used c.get_mut.ensures.value (c.get_mut.ensures.changes _) refl refl refl refl
+returns c = rewritten c.args.nodes.now _ c.args.e.0 _ _ (with_claim c.args.claim) c.requires.kept c.requires.used c.get_mut.ensures.value (c.get_mut.ensures.changes _) refl refl refl refl refl
