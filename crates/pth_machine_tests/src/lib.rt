@@ -1,0 +1,16 @@
+//! Tests of a machine that runs scripts to their end, by pieces and by turns. Between them it is asked how long each ready thread has
+//! waited and may wait, and what it tells is compared with its marks.
+#![tactic(auto)]
+
+#[cfg(test)]
+mod change;
+#[cfg(test)]
+mod comparison;
+#[cfg(test)]
+mod driven;
+#[cfg(test)]
+mod row;
+#[cfg(test)]
+mod runs;
+#[cfg(test)]
+mod watch;
