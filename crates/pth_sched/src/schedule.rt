@@ -332,6 +332,7 @@ impl<P: Program> Schedule<P> {
     }
 
     // The part that comes next while nobody runs: a thread is taken, or where nothing is new or ready, idle time moves on.
+    #[inline(never)]
     fn take_or_move(&mut self, marks: &mut Marks) -> Result<(), OutOfMemory>
         requires keeps { Keeps self.old }
         requires few { self.old.turn.steps ≤ most_steps }
