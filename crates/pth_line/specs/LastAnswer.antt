@@ -2,29 +2,12 @@
 use Rattle.std.specs.Prelude.{ℕ, ℤ, pos, negsuc, length, Option, Some, None, ◌-◌, ◌^◌, nat_lt, if◌then◌else◌}
 use Rattle.pth_base.specs.declared.answer.Answer.{Answer}
 use Rattle.pth_base.specs.declared.answer.Answer.TheVariants as answer
-use Rattle.pth_base.specs.declared.errno.Errno.{Errno}
-use Rattle.pth_base.specs.declared.errno.Errno.TheVariants as errno
+use Rattle.pth_base.specs.Errors.{error_number}
 use Rattle.pth_line.specs.Values.{Scope, put_register}
 use Rattle.pth_line.specs.declared.frame.Frame.{Frame}
 use Rattle.pth_line.specs.declared.frame.Owed.{Owed}
 use Rattle.pth_line.specs.declared.frame.Owed.TheVariants as owed
 use Rattle.pth_line.specs.declared.operand.Register.{Register}
-
--- the number of an error
-abbrev pub error_number : Errno → ℤ
-error_number errno.EPERM = pos 1
-error_number errno.ENOENT = pos 2
-error_number errno.ESRCH = pos 3
-error_number errno.EINTR = pos 4
-error_number errno.EIO = pos 5
-error_number errno.EBADF = pos 9
-error_number errno.EAGAIN = pos 11
-error_number errno.EACCES = pos 13
-error_number errno.EBUSY = pos 16
-error_number errno.EEXIST = pos 17
-error_number errno.EINVAL = pos 22
-error_number errno.EDEADLK = pos 35
-error_number errno.ECONNREFUSED = pos 111
 
 -- what `err` becomes
 abbrev pub error_of : Answer → ℤ

@@ -1,17 +1,16 @@
 //! Answers as numbers.
 
 ghost use Rattle.std.specs.Prelude.{◌≡◌};
-ghost use Rattle.pth_line.specs.LastAnswer.{error_number, error_of, number_of_answer, message_number};
+ghost use Rattle.pth_line.specs.LastAnswer.{error_of, number_of_answer, message_number};
 
 use pth_base::answer::Answer;
-use pth_base::errno::Errno;
 
 /// What `err` becomes.
 pub(crate) fn error_of(answer: &Answer) -> i64
     ensures { result ≡ error_of answer.now }
 {
     match answer {
-        Answer::Fail(e) => error_number(*e),
+        Answer::Fail(e) => e.number(),
         _ => 0,
     }
 }
@@ -36,11 +35,4 @@ pub(crate) fn message_number(id: u64) -> i64
     ensures { result ≡ message_number id }
 {
     i64::try_from(id).unwrap_or(i64::MAX)
-}
-
-/// The number that Linux gives an error.
-fn error_number(error: Errno) -> i64
-    ensures { result ≡ error_number error }
-{
-    error as i64
 }
