@@ -132,6 +132,7 @@ fn walk_from_tail(queues: &QueueSet, waits: &mut Waits, count: u32, due: u32) ->
 }
 
 // All that are due get their numbers: those in front from the head on, and the others from the tail on, near which they stand.
+#[inline(never)]
 fn meet_all(queues: &QueueSet, waits: &mut Waits, mark: &mut Option<Mark>, count: u32, due: u32)
     requires orderly { IsOrderly queues.now }
     requires counted { count ≡ length queues.now.ready }

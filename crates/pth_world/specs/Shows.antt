@@ -70,7 +70,7 @@ pub record Shows {P S H : Type 0} (w : WorldOf P S H) (k : Control P S H) : Type
   pub scheduler : k.scheduler ≡ w.scheduler
 
 -- The world stands for this state: it shows the control, and what threads stored. Who awaits a condition it does not show: the blocked
--- call says so, in the states of each run (`every_run_is_valid`).
+-- call says so, in the states of each run (`every_run_is_tied`: `valid`).
 pub record StandsFor {P S H : Type 0} (w : WorldOf P S H) (s : State P S H) : Type 0 where
   pub control : Shows w s.control
   pub store : s.resources.store ≡ store_of w.store
