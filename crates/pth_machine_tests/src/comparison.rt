@@ -17,3 +17,13 @@ pub fn has_ended(rt: &impl Abort, outcome: Outcome) {
 pub fn holds_of(rt: &impl Abort, tid: Tid, is_so: bool) {
     assert!(rt; is_so, "thread {}", tid.0);
 }
+
+/// The lines of a run.
+pub fn same_lines(rt: &impl Abort, told: &[u8], wanted: &str) {
+    assert_eq!(rt; told, wanted.as_bytes(), "{wanted}");
+}
+
+/// An answer of a run, counted from 0.
+pub fn tells(rt: &impl Abort, k: usize, is_so: bool) {
+    assert!(rt; is_so, "answer {k}");
+}

@@ -1,5 +1,5 @@
 //! Tests of a machine that runs scripts to their end, by pieces and by turns. Between them it is asked how long each ready thread has
-//! waited and may wait, and what it tells is compared with its marks.
+//! waited and may wait, and what it tells is compared with its marks. Programs of POSIX calls are run too.
 #![tactic(auto)]
 
 #[cfg(test)]
@@ -8,6 +8,8 @@ mod change;
 mod comparison;
 #[cfg(test)]
 mod driven;
+#[cfg(test)]
+mod posix;
 #[cfg(test)]
 mod row;
 #[cfg(test)]

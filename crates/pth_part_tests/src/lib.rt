@@ -18,6 +18,8 @@ mod memory;
 #[cfg(test)]
 mod numbered;
 #[cfg(test)]
+mod plans;
+#[cfg(test)]
 mod queues;
 #[cfg(test)]
 mod rings;

@@ -1,0 +1,5 @@
+pub mod Plan
+pub mod Laws
+pub mod PosixProgram
+pub mod Posix
+pub mod Listed
