@@ -34,7 +34,7 @@ const EINVAL: Option<i64> = Some(-22);
 
 const ETIMEDOUT: Option<i64> = Some(-1000);
 
-static ROWS: [Row; 8] = [
+static ROWS: [Row; 13] = [
     // a timed wait that its moment ends
     Row {
         bodies: &[&[
@@ -165,6 +165,175 @@ static ROWS: [Row; 8] = [
             Some(1),
         ],
     },
+    // a barrier of three: the last arrival is told apart, the first is not
+    Row {
+        bodies: &[
+            &[
+                PCall::BarrierInit { b: 0, n: 3 },
+                PCall::Create { body: 1, arg: 0 },
+                PCall::Create { body: 1, arg: 0 },
+                PCall::BarrierWait(0),
+            ],
+            &[PCall::BarrierWait(0)],
+        ],
+        lines: "turn 1 at 0 t1 rank 0\nt1 barrier_init 0 3 = 1\nt1 spawn 1 0 0 = 2\nt1 spawn 1 0 0 = 3\nt1 barrier_reach 0 waits\nturn 2 at 1 t2 rank 6\nt2 barrier_reach 0 waits\nturn 3 at 2 t3 rank 6\nt3 barrier_reach 0 = -2\nt3 ends 0\nwake t1 rank 1\nwake t2 rank 1\nturn 4 at 3 t1 rank 1\nt1 barrier_reach 0 = -1\nt1 exit 0 waits\nturn 5 at 4 t2 rank 2\nt2 barrier_reach 0 = 1\nt2 ends 0\nwake t1 rank 1\nturn 6 at 5 t1 rank 1\nt1 ends 0\n",
+        answers: &[
+            None,
+            Some(0),
+            Some(2),
+            Some(3),
+            None,
+            None,
+            Some(-1),
+            Some(0),
+            Some(0),
+        ],
+    },
+    // a thread exits with a value, which is handed to who joins it
+    Row {
+        bodies: &[
+            &[PCall::Create { body: 1, arg: 0 }, PCall::Join(2)],
+            &[PCall::Exit(7)],
+        ],
+        lines: "turn 1 at 0 t1 rank 0\nt1 spawn 1 0 0 = 2\nt1 join 2 waits\nturn 2 at 1 t2 rank 5\nt2 ends 7\nwake t1 rank 1\nturn 3 at 2 t1 rank 1\nt1 join 2 = 7\nt1 ends 0\n",
+        answers: &[None, Some(2), None, Some(7)],
+    },
+    // a mutex is recursive; a lock, states and types, handlers, a once control, and calls on threads
+    Row {
+        bodies: &[&[
+            PCall::MutexInit(0),
+            PCall::Lock(0),
+            PCall::Lock(0),
+            PCall::Unlock(0),
+            PCall::Unlock(0),
+            PCall::Unlock(0),
+            PCall::RwInit(0),
+            PCall::RdLock(0),
+            PCall::RdLock(0),
+            PCall::RwUnlock(0),
+            PCall::WrLock(0),
+            PCall::RwUnlock(0),
+            PCall::RwUnlock(0),
+            PCall::SetState(1),
+            PCall::SetState(0),
+            PCall::SetType(1),
+            PCall::SetType(0),
+            PCall::TestCancel,
+            PCall::Push { h: 0, arg: 5 },
+            PCall::Pop(1),
+            PCall::Pop(0),
+            PCall::Once { o: 0, h: 3, arg: 4 },
+            PCall::Once { o: 0, h: 3, arg: 4 },
+            PCall::Cancel(1),
+            PCall::Cancel(9),
+            PCall::Yield,
+            PCall::SelfId,
+        ]],
+        lines: "turn 1 at 0 t1 rank 0\nt1 mutex_init 0 = 1\nt1 mutex_acquire 0 0 0 = 1\nt1 mutex_acquire 0 0 0 = 1\nt1 mutex_release 0 = 1\nt1 mutex_release 0 = 1\nt1 mutex_release 0 = EDEADLK\nt1 rw_init 0 = 1\nt1 rw_acquire 0 rd 0 0 = 1\nt1 rw_acquire 0 rd 0 0 = EDEADLK\nt1 rw_release 0 = 1\nt1 rw_acquire 0 rw 0 0 = 1\nt1 rw_release 0 = 1\nt1 rw_release 0 = EDEADLK\nt1 cancel_state 0 = 1\nt1 cancel_state 2 = 1\nt1 cancel_state 0 = 2\nt1 cancel_state 1 = 2\nt1 cancel_state 0 = 1\nt1 cancel_state 3 = 1\nt1 cancel_state 0 = 3\nt1 cancel_state 1 = 3\nt1 cancel_point = 1\nt1 cleanup_push 0 5 = 1\nt1 handler 0 arg 5\nt1 cleanup_pop 1 = 1\nt1 cleanup_pop 0 = EINVAL\nt1 handler 3 arg 4\nt1 once 0 3 4 = 1\nt1 once 0 3 4 = 1\nt1 cancel 1 = EINVAL\nt1 cancel 9 = ESRCH\nt1 yield 0 = 1\nturn 2 at 1 t1 rank 0\nt1 self = 1\nt1 ends 0\n",
+        answers: &[
+            None,
+            Some(0),
+            Some(0),
+            Some(0),
+            Some(0),
+            Some(0),
+            EPERM,
+            Some(0),
+            Some(0),
+            Some(-35),
+            Some(0),
+            Some(0),
+            Some(0),
+            EPERM,
+            Some(0),
+            Some(1),
+            Some(0),
+            Some(1),
+            Some(0),
+            Some(0),
+            Some(0),
+            EINVAL,
+            Some(0),
+            Some(0),
+            EINVAL,
+            ESRCH,
+            Some(0),
+            Some(1),
+        ],
+    },
+    // two threads wait at a condition, and both are woken
+    Row {
+        bodies: &[
+            &[
+                PCall::MutexInit(0),
+                PCall::CondInit(0),
+                PCall::Create { body: 1, arg: 0 },
+                PCall::Create { body: 1, arg: 0 },
+                PCall::Yield,
+                PCall::Lock(0),
+                PCall::Broadcast(0),
+                PCall::Unlock(0),
+            ],
+            &[
+                PCall::Lock(0),
+                PCall::CondWait { c: 0, m: 0 },
+                PCall::Unlock(0),
+            ],
+        ],
+        lines: "turn 1 at 0 t1 rank 0\nt1 mutex_init 0 = 1\nt1 cond_init 0 = 1\nt1 spawn 1 0 0 = 2\nt1 spawn 1 0 0 = 3\nt1 yield 0 = 1\nturn 2 at 1 t2 rank 2\nt2 mutex_acquire 0 0 0 = 1\nt2 cond_await 0 0 0 waits\nturn 3 at 2 t3 rank 2\nt3 mutex_acquire 0 0 0 = 1\nt3 cond_await 0 0 0 waits\nturn 4 at 3 t1 rank 2\nt1 mutex_acquire 0 0 0 = 1\nt1 cond_notify 0 1 = 1\nt1 mutex_release 0 = 1\nt1 exit 0 waits\nwake t2 rank 1\nwake t3 rank 1\nturn 5 at 4 t2 rank 1\nt2 cond_await 0 0 0 = 1\nt2 mutex_release 0 = 1\nt2 ends 0\nturn 6 at 5 t3 rank 2\nt3 cond_await 0 0 0 = 1\nt3 mutex_release 0 = 1\nt3 ends 0\nwake t1 rank 1\nturn 7 at 6 t1 rank 1\nt1 ends 0\n",
+        answers: &[
+            None,
+            Some(0),
+            Some(0),
+            Some(2),
+            Some(3),
+            None,
+            Some(0),
+            None,
+            Some(0),
+            Some(0),
+            Some(0),
+            Some(0),
+            Some(0),
+            Some(0),
+            Some(0),
+            Some(0),
+            Some(0),
+        ],
+    },
+    // a thread is canceled in its timed wait, and a join is answered -1
+    Row {
+        bodies: &[
+            &[
+                PCall::MutexInit(0),
+                PCall::CondInit(0),
+                PCall::Create { body: 1, arg: 0 },
+                PCall::Yield,
+                PCall::Cancel(2),
+                PCall::Join(2),
+            ],
+            &[
+                PCall::Lock(0),
+                PCall::TimedWait {
+                    c: 0,
+                    m: 0,
+                    at: 1000,
+                },
+            ],
+        ],
+        lines: "turn 1 at 0 t1 rank 0\nt1 mutex_init 0 = 1\nt1 cond_init 0 = 1\nt1 spawn 1 0 0 = 2\nt1 yield 0 = 1\nturn 2 at 1 t2 rank 1\nt2 mutex_acquire 0 0 0 = 1\nt2 ev_time 1000 = 1\nt2 cond_await 0 0 1 waits\nturn 3 at 2 t1 rank 1\nt1 cancel 2 = 1\nt1 join 2 waits\nwake t2 rank 1\nturn 4 at 3 t2 rank 1\nt2 cond_await 0 0 1 canceled\nt2 takes mutex 0\nt2 gives mutex 0\nt2 ends -1\nwake t1 rank 1\nturn 5 at 4 t1 rank 1\nt1 join 2 = -1\nt1 ends 0\n",
+        answers: &[
+            None,
+            Some(0),
+            Some(0),
+            Some(2),
+            None,
+            Some(0),
+            Some(0),
+            Some(0),
+            Some(-1),
+        ],
+    },
     // no list is one empty list
     Row {
         bodies: &[],
@@ -214,13 +383,24 @@ fn lines_of(alloc: Global, marks: &Marks) -> Result<Text, OutOfMemory> {
     Ok(text)
 }
 
-/// Whether the steps were answered so.
+/// Whether the answer at k is this number; none is no number.
+fn is_answer(machine: &Machine<Posix<Listed>>, k: i64, answer: Option<i64>) -> bool {
+    match answer {
+        Some(n) => machine.world().check(k, n) && !machine.world().check(k, !n),
+        None => !machine.world().check(k, 0),
+    }
+}
+
+/// Whether the steps were answered so, and no more steps were.
 fn has_answers(rt: &impl Abort, machine: &Machine<Posix<Listed>>, answers: &[Option<i64>]) {
     for (k, answer) in answers.iter().enumerate() {
-        if let Some(n) = answer {
-            tells(rt, k, machine.world().check(k as i64, *n));
-        }
+        tells(rt, k, is_answer(machine, k as i64, *answer));
     }
+    tells(
+        rt,
+        answers.len(),
+        is_answer(machine, answers.len() as i64, None),
+    );
 }
 
 /// Runs a program to its end, and compares what it comes to.

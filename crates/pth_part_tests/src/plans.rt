@@ -3,10 +3,13 @@
 use crate::comparison::same_text;
 use crate::lines::lines_of;
 use pth_base::answer::Answer;
+use pth_base::bytes::Bytes;
 use pth_base::call::Call;
 use pth_base::errno::Errno;
 use pth_base::ids::{FdSet, MsgId, Tid};
 use pth_base::mark::Mark;
+use pth_base::memory::OutOfMemory;
+use pth_base::name::Name;
 use pth_posix::panswer::PAnswer;
 use pth_posix::pcall::PCall;
 use pth_posix::plan::{Planned, plan};
@@ -15,13 +18,13 @@ use std::process::Abort;
 use std::str;
 use std::test::Fail;
 
-/// Each call with what its plan says first, a call of Pth in parentheses, and then with one answer: the numbers 3, 9 and -2, none, a set,
-/// a message, and the errors ENOENT, EDEADLK, EACCES, EINTR and EBUSY.
+/// Each call with what its plan says first, a call of Pth in parentheses, and then with one answer: the numbers 3, 1, -1, -2 and 9; none,
+/// bytes, a name, sets and a message; and the errors ENOENT, EDEADLK, EACCES, EINTR and EBUSY.
 const PLANS: [(PCall, &str, &str); 43] = [
     (
         PCall::Nothing,
         "none",
-        "none none none none none none none none none none none",
+        "none none none none none none none none none none none none none none none",
     ),
     (
         PCall::Create {
@@ -29,97 +32,97 @@ const PLANS: [(PCall, &str, &str); 43] = [
             arg: i64::MAX,
         },
         "(spawn -9223372036854775808 9223372036854775807 0)",
-        "3 9 -2 none none none ENOENT EDEADLK EACCES EINTR EBUSY",
+        "3 1 -1 -2 9 none none none none none ENOENT EDEADLK EACCES EINTR EBUSY",
     ),
     (
         PCall::SelfId,
         "(self)",
-        "3 9 -2 none none none ENOENT EDEADLK EACCES EINTR EBUSY",
+        "3 1 -1 -2 9 none none none none none ENOENT EDEADLK EACCES EINTR EBUSY",
     ),
     (
         PCall::Yield,
         "(yield 0)",
-        "0 0 0 none none none ENOENT EDEADLK EACCES EINTR EBUSY",
+        "0 0 0 0 0 none none none none none ENOENT EDEADLK EACCES EINTR EBUSY",
     ),
     (
         PCall::TestCancel,
         "(cancel_point)",
-        "0 0 0 none none none ENOENT EDEADLK EACCES EINTR EBUSY",
+        "0 0 0 0 0 none none none none none ENOENT EDEADLK EACCES EINTR EBUSY",
     ),
     (
         PCall::Exit(-5),
         "(exit -5)",
-        "(exit -5) (exit -5) (exit -5) (exit -5) (exit -5) (exit -5) (exit -5) (exit -5) (exit -5) (exit -5) (exit -5)",
+        "(exit -5) (exit -5) (exit -5) (exit -5) (exit -5) (exit -5) (exit -5) (exit -5) (exit -5) (exit -5) (exit -5) (exit -5) (exit -5) (exit -5) (exit -5)",
     ),
     (
         PCall::Join(i64::MIN),
         "(join -9223372036854775808)",
-        "3 9 -2 none none none ENOENT EDEADLK EACCES EINTR EBUSY",
+        "3 1 -1 -2 9 none none none none none ENOENT EDEADLK EACCES EINTR EBUSY",
     ),
     (
         PCall::Join(0),
         "ESRCH",
-        "ESRCH ESRCH ESRCH ESRCH ESRCH ESRCH ESRCH ESRCH ESRCH ESRCH ESRCH",
+        "ESRCH ESRCH ESRCH ESRCH ESRCH ESRCH ESRCH ESRCH ESRCH ESRCH ESRCH ESRCH ESRCH ESRCH ESRCH",
     ),
     (
         PCall::Join(1),
         "(join 1)",
-        "3 9 -2 none none none ENOENT EDEADLK EACCES EINTR EBUSY",
+        "3 1 -1 -2 9 none none none none none ENOENT EDEADLK EACCES EINTR EBUSY",
     ),
     (
         PCall::Cancel(i64::MAX),
         "(cancel 9223372036854775807)",
-        "0 0 0 none none none ENOENT EDEADLK EACCES EINTR EBUSY",
+        "0 0 0 0 0 none none none none none ENOENT EDEADLK EACCES EINTR EBUSY",
     ),
     (
         PCall::SetState(0),
         "(cancel_state 0)",
-        "(cancel_state 3) none none none none none ENOENT EDEADLK EACCES EINTR EBUSY",
+        "(cancel_state 3) (cancel_state 1) none none none none none none none none ENOENT EDEADLK EACCES EINTR EBUSY",
     ),
     (
         PCall::SetState(1),
         "(cancel_state 0)",
-        "(cancel_state 4) none none none none none ENOENT EDEADLK EACCES EINTR EBUSY",
+        "(cancel_state 4) (cancel_state 2) none none none none none none none none ENOENT EDEADLK EACCES EINTR EBUSY",
     ),
     (
         PCall::SetState(2),
         "EINVAL",
-        "EINVAL EINVAL EINVAL EINVAL EINVAL EINVAL EINVAL EINVAL EINVAL EINVAL EINVAL",
+        "EINVAL EINVAL EINVAL EINVAL EINVAL EINVAL EINVAL EINVAL EINVAL EINVAL EINVAL EINVAL EINVAL EINVAL EINVAL",
     ),
     (
         PCall::SetState(-1),
         "EINVAL",
-        "EINVAL EINVAL EINVAL EINVAL EINVAL EINVAL EINVAL EINVAL EINVAL EINVAL EINVAL",
+        "EINVAL EINVAL EINVAL EINVAL EINVAL EINVAL EINVAL EINVAL EINVAL EINVAL EINVAL EINVAL EINVAL EINVAL EINVAL",
     ),
     (
         PCall::SetState(i64::MIN),
         "EINVAL",
-        "EINVAL EINVAL EINVAL EINVAL EINVAL EINVAL EINVAL EINVAL EINVAL EINVAL EINVAL",
+        "EINVAL EINVAL EINVAL EINVAL EINVAL EINVAL EINVAL EINVAL EINVAL EINVAL EINVAL EINVAL EINVAL EINVAL EINVAL",
     ),
     (
         PCall::SetType(0),
         "(cancel_state 0)",
-        "(cancel_state 1) none none none none none ENOENT EDEADLK EACCES EINTR EBUSY",
+        "(cancel_state 1) (cancel_state 1) none none none none none none none none ENOENT EDEADLK EACCES EINTR EBUSY",
     ),
     (
         PCall::SetType(1),
         "(cancel_state 0)",
-        "(cancel_state 3) none none none none none ENOENT EDEADLK EACCES EINTR EBUSY",
+        "(cancel_state 3) (cancel_state 3) none none none none none none none none ENOENT EDEADLK EACCES EINTR EBUSY",
     ),
     (
         PCall::SetType(2),
         "EINVAL",
-        "EINVAL EINVAL EINVAL EINVAL EINVAL EINVAL EINVAL EINVAL EINVAL EINVAL EINVAL",
+        "EINVAL EINVAL EINVAL EINVAL EINVAL EINVAL EINVAL EINVAL EINVAL EINVAL EINVAL EINVAL EINVAL EINVAL EINVAL",
     ),
     (
         PCall::SetType(-1),
         "EINVAL",
-        "EINVAL EINVAL EINVAL EINVAL EINVAL EINVAL EINVAL EINVAL EINVAL EINVAL EINVAL",
+        "EINVAL EINVAL EINVAL EINVAL EINVAL EINVAL EINVAL EINVAL EINVAL EINVAL EINVAL EINVAL EINVAL EINVAL EINVAL",
     ),
     (
         PCall::SetType(i64::MAX),
         "EINVAL",
-        "EINVAL EINVAL EINVAL EINVAL EINVAL EINVAL EINVAL EINVAL EINVAL EINVAL EINVAL",
+        "EINVAL EINVAL EINVAL EINVAL EINVAL EINVAL EINVAL EINVAL EINVAL EINVAL EINVAL EINVAL EINVAL EINVAL EINVAL",
     ),
     (
         PCall::Push {
@@ -127,27 +130,27 @@ const PLANS: [(PCall, &str, &str); 43] = [
             arg: i64::MIN,
         },
         "(cleanup_push 9223372036854775807 -9223372036854775808)",
-        "0 0 0 none none none ENOENT EDEADLK EACCES EINTR EBUSY",
+        "0 0 0 0 0 none none none none none ENOENT EDEADLK EACCES EINTR EBUSY",
     ),
     (
         PCall::Pop(i64::MIN),
         "(cleanup_pop -9223372036854775808)",
-        "0 0 0 none none none ENOENT EDEADLK EACCES EINTR EBUSY",
+        "0 0 0 0 0 none none none none none ENOENT EDEADLK EACCES EINTR EBUSY",
     ),
     (
         PCall::KeyCreate(None),
         "(key_create -)",
-        "3 9 -2 none none none ENOENT EDEADLK EACCES EINTR EBUSY",
+        "3 1 -1 -2 9 none none none none none ENOENT EDEADLK EACCES EINTR EBUSY",
     ),
     (
         PCall::KeyCreate(Some(i64::MAX)),
         "(key_create 9223372036854775807)",
-        "3 9 -2 none none none ENOENT EDEADLK EACCES EINTR EBUSY",
+        "3 1 -1 -2 9 none none none none none ENOENT EDEADLK EACCES EINTR EBUSY",
     ),
     (
         PCall::KeyDelete(i64::MIN),
         "(key_delete -9223372036854775808)",
-        "0 0 0 none none none EINVAL EDEADLK EACCES EINTR EBUSY",
+        "0 0 0 0 0 none none none none none EINVAL EDEADLK EACCES EINTR EBUSY",
     ),
     (
         PCall::SetSpecific {
@@ -155,12 +158,12 @@ const PLANS: [(PCall, &str, &str); 43] = [
             v: i64::MIN,
         },
         "(key_set 9223372036854775807 -9223372036854775808)",
-        "0 0 0 none none none EINVAL EDEADLK EACCES EINTR EBUSY",
+        "0 0 0 0 0 none none none none none EINVAL EDEADLK EACCES EINTR EBUSY",
     ),
     (
         PCall::GetSpecific(i64::MAX),
         "(key_get 9223372036854775807)",
-        "3 9 -2 none none none 0 EDEADLK EACCES EINTR EBUSY",
+        "3 1 -1 -2 9 none none none none none 0 EDEADLK EACCES EINTR EBUSY",
     ),
     (
         PCall::Once {
@@ -169,42 +172,42 @@ const PLANS: [(PCall, &str, &str); 43] = [
             arg: i64::MAX,
         },
         "(once 1 -9223372036854775808 9223372036854775807)",
-        "0 0 0 none none none ENOENT EDEADLK EACCES EINTR EBUSY",
+        "0 0 0 0 0 none none none none none ENOENT EDEADLK EACCES EINTR EBUSY",
     ),
     (
         PCall::MutexInit(i64::MAX),
         "(mutex_init 9223372036854775807)",
-        "0 0 0 none none none ENOENT EDEADLK EACCES EINTR EBUSY",
+        "0 0 0 0 0 none none none none none ENOENT EDEADLK EACCES EINTR EBUSY",
     ),
     (
         PCall::Lock(i64::MIN),
         "(mutex_acquire -9223372036854775808 0 0)",
-        "0 0 0 none none none ENOENT EDEADLK EACCES EINTR EBUSY",
+        "0 0 0 0 0 none none none none none ENOENT EDEADLK EACCES EINTR EBUSY",
     ),
     (
         PCall::TryLock(i64::MAX),
         "(mutex_acquire 9223372036854775807 1 0)",
-        "0 0 0 none none none ENOENT EDEADLK EACCES EINTR EBUSY",
+        "0 0 0 0 0 none none none none none ENOENT EDEADLK EACCES EINTR EBUSY",
     ),
     (
         PCall::Unlock(i64::MIN),
         "(mutex_release -9223372036854775808)",
-        "0 0 0 none none none ENOENT EPERM EPERM EINTR EBUSY",
+        "0 0 0 0 0 none none none none none ENOENT EPERM EPERM EINTR EBUSY",
     ),
     (
         PCall::CondInit(i64::MAX),
         "(cond_init 9223372036854775807)",
-        "0 0 0 none none none ENOENT EDEADLK EACCES EINTR EBUSY",
+        "0 0 0 0 0 none none none none none ENOENT EDEADLK EACCES EINTR EBUSY",
     ),
     (
         PCall::Signal(i64::MIN),
         "(cond_notify -9223372036854775808 0)",
-        "0 0 0 none none none ENOENT EDEADLK EACCES EINTR EBUSY",
+        "0 0 0 0 0 none none none none none ENOENT EDEADLK EACCES EINTR EBUSY",
     ),
     (
         PCall::Broadcast(i64::MAX),
         "(cond_notify 9223372036854775807 1)",
-        "0 0 0 none none none ENOENT EDEADLK EACCES EINTR EBUSY",
+        "0 0 0 0 0 none none none none none ENOENT EDEADLK EACCES EINTR EBUSY",
     ),
     (
         PCall::CondWait {
@@ -212,7 +215,7 @@ const PLANS: [(PCall, &str, &str); 43] = [
             m: i64::MAX,
         },
         "(cond_await -9223372036854775808 9223372036854775807 0)",
-        "0 0 0 none none none ENOENT EPERM EPERM EINTR EBUSY",
+        "0 0 0 0 0 none none none none none ENOENT EPERM EPERM EINTR EBUSY",
     ),
     (
         PCall::TimedWait {
@@ -221,27 +224,27 @@ const PLANS: [(PCall, &str, &str); 43] = [
             at: -7,
         },
         "(ev_time -7)",
-        "(cond_await 9223372036854775807 -9223372036854775808 3) (cond_await 9223372036854775807 -9223372036854775808 9) (cond_await 9223372036854775807 -9223372036854775808 -2) none none none ENOENT EDEADLK EACCES EINTR EBUSY",
+        "(cond_await 9223372036854775807 -9223372036854775808 3) (cond_await 9223372036854775807 -9223372036854775808 1) (cond_await 9223372036854775807 -9223372036854775808 -1) (cond_await 9223372036854775807 -9223372036854775808 -2) (cond_await 9223372036854775807 -9223372036854775808 9) none none none none none ENOENT EDEADLK EACCES EINTR EBUSY",
     ),
     (
         PCall::RwInit(i64::MIN),
         "(rw_init -9223372036854775808)",
-        "0 0 0 none none none ENOENT EDEADLK EACCES EINTR EBUSY",
+        "0 0 0 0 0 none none none none none ENOENT EDEADLK EACCES EINTR EBUSY",
     ),
     (
         PCall::RdLock(i64::MAX),
         "(rw_acquire 9223372036854775807 rd 0 0)",
-        "0 0 0 none none none ENOENT EDEADLK EACCES EINTR EBUSY",
+        "0 0 0 0 0 none none none none none ENOENT EDEADLK EACCES EINTR EBUSY",
     ),
     (
         PCall::WrLock(i64::MIN),
         "(rw_acquire -9223372036854775808 rw 0 0)",
-        "0 0 0 none none none ENOENT EDEADLK EACCES EINTR EBUSY",
+        "0 0 0 0 0 none none none none none ENOENT EDEADLK EACCES EINTR EBUSY",
     ),
     (
         PCall::RwUnlock(i64::MAX),
         "(rw_release 9223372036854775807)",
-        "0 0 0 none none none ENOENT EPERM EPERM EINTR EBUSY",
+        "0 0 0 0 0 none none none none none ENOENT EPERM EPERM EINTR EBUSY",
     ),
     (
         PCall::BarrierInit {
@@ -249,12 +252,12 @@ const PLANS: [(PCall, &str, &str); 43] = [
             n: i64::MAX,
         },
         "(barrier_init -9223372036854775808 9223372036854775807)",
-        "0 0 0 none none none ENOENT EDEADLK EACCES EINTR EBUSY",
+        "0 0 0 0 0 none none none none none ENOENT EDEADLK EACCES EINTR EBUSY",
     ),
     (
         PCall::BarrierWait(i64::MAX),
         "(barrier_reach 9223372036854775807)",
-        "0 0 -1 none none none ENOENT EDEADLK EACCES EINTR EBUSY",
+        "0 0 0 -1 0 none none none none none ENOENT EDEADLK EACCES EINTR EBUSY",
     ),
 ];
 
@@ -270,7 +273,7 @@ enum Got {
 }
 
 /// What plans say with several answers.
-const LISTS: [(PCall, &[Got], &str); 41] = [
+const LISTS: [(PCall, &[Got], &str); 45] = [
     (PCall::SetState(0), &[Got::Int(2), Got::Int(2)], "1"),
     (PCall::SetState(1), &[Got::Int(3), Got::Int(3)], "0"),
     (PCall::SetState(1), &[Got::Int(4), Got::Int(4)], "1"),
@@ -287,6 +290,18 @@ const LISTS: [(PCall, &[Got], &str); 41] = [
     (PCall::SetState(1), &[Got::Int(1), Got::Int(0)], "none"),
     (PCall::SetState(1), &[Got::Int(1), Got::None], "none"),
     (PCall::SetState(5), &[Got::Int(1), Got::Int(1)], "EINVAL"),
+    (
+        PCall::SetState(1),
+        &[Got::Fail(Errno::EBUSY), Got::Int(1)],
+        "EBUSY",
+    ),
+    (PCall::SetState(1), &[Got::Int(9), Got::Int(1)], "none"),
+    (
+        PCall::SetType(1),
+        &[Got::Int(0), Got::Int(1), Got::Int(1)],
+        "none",
+    ),
+    (PCall::SetType(0), &[Got::None, Got::Int(1)], "none"),
     (PCall::SetState(0), &[Got::Int(1)], "(cancel_state 1)"),
     (PCall::SetState(0), &[Got::Int(2)], "(cancel_state 1)"),
     (PCall::SetState(0), &[Got::Int(4)], "(cancel_state 3)"),
@@ -374,28 +389,47 @@ const LISTS: [(PCall, &[Got], &str); 41] = [
     ),
 ];
 
-/// The answers of the table of plans.
-const ANSWERS: [Answer; 11] = [
-    Answer::Int(3),
-    Answer::Int(9),
-    Answer::Int(-2),
-    Answer::None,
-    Answer::Sets {
+/// Adds the answers of the table that are no numbers and no errors.
+fn add_others(alloc: Global, answers: &mut Vec<Answer>) -> Result<(), OutOfMemory> {
+    answers.push(Answer::None)?;
+    answers.push(Answer::Bytes(Bytes::from_slice(alloc, b"8")?))?;
+    answers.push(Answer::Text(Name::cut("8")))?;
+    answers.push(Answer::Sets {
         count: 1,
         r: FdSet(1),
         w: FdSet(0),
         x: FdSet(0),
-    },
-    Answer::Msg {
+    })?;
+    answers.push(Answer::Msg {
         id: MsgId(1),
         value: 3,
-    },
-    Answer::Fail(Errno::ENOENT),
-    Answer::Fail(Errno::EDEADLK),
-    Answer::Fail(Errno::EACCES),
-    Answer::Fail(Errno::EINTR),
-    Answer::Fail(Errno::EBUSY),
+    })?;
+    Ok(())
+}
+
+/// The numbers and the errors of the table.
+const NUMBERS: [i64; 5] = [3, 1, -1, -2, 9];
+
+const ERRORS: [Errno; 5] = [
+    Errno::ENOENT,
+    Errno::EDEADLK,
+    Errno::EACCES,
+    Errno::EINTR,
+    Errno::EBUSY,
 ];
+
+/// The answers of the table of plans.
+fn answers(alloc: Global) -> Result<Vec<Answer>, OutOfMemory> {
+    let mut answers = Vec::new(alloc);
+    for n in NUMBERS {
+        answers.push(Answer::Int(n))?;
+    }
+    add_others(alloc, &mut answers)?;
+    for e in ERRORS {
+        answers.push(Answer::Fail(e))?;
+    }
+    Ok(answers)
+}
 
 /// Adds a call in parentheses, as a line of a run tells it.
 fn add_call(alloc: Global, call: Call, text: &mut String) -> Result<(), AllocError> {
@@ -429,9 +463,9 @@ fn add_planned(
 }
 
 /// What a plan says with one answer, for each of the table.
-fn with_one_answer(alloc: Global, call: &PCall) -> Result<String, AllocError> {
+fn with_one_answer(alloc: Global, call: &PCall, answers: &[Answer]) -> Result<String, AllocError> {
     let mut text = String::new(alloc);
-    for answer in ANSWERS.chunks(1) {
+    for answer in answers.chunks(1) {
         add_planned(alloc, call, answer, &mut text)?;
         text.push(' ')?;
     }
@@ -462,9 +496,11 @@ fn plans_are(
     alloc: Global,
     plans: &[(PCall, &str, &str)],
 ) -> Result<(), AllocError> {
+    let answers = answers(alloc).map_err(|_| AllocError)?;
     for (call, first, next) in plans {
         same_text(rt, with_answers(alloc, call, &[])?.as_str(), first);
-        same_text(rt, with_one_answer(alloc, call)?.trim_end(), next);
+        let told = with_one_answer(alloc, call, answers.as_slice())?;
+        same_text(rt, told.trim_end(), next);
     }
     Ok(())
 }

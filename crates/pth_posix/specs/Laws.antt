@@ -18,7 +18,7 @@ abbrev pub is_answered : Planned → Bool
 is_answered (Answers a) = true
 is_answered (Calls c) = false
 
--- a timed wait whose event was made, whose `cond_await` was answered EINTR, and whose event was freed
+-- a timed wait whose `ev_time` gave an event, whose `cond_await` was answered EINTR, and whose `ev_free` was answered
 abbrev pub is_timed_out : PCall → List Answer → Bool
 is_timed_out (TimedWait c m at) (answer.Int e ∷ answer.Fail EINTR ∷ freed ∷ more) = true
 is_timed_out c got = false

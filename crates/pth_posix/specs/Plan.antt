@@ -1,5 +1,5 @@
 -- Which calls of Pth a POSIX thread call makes, and what it answers.
-use Rattle.std.specs.Prelude.{ℤ, pos, negsuc, ◌+ℤ◌, ◌-ℤ◌, int_le, ◌&&◌, ◌==◌, Bool, true, false, List, [], ◌∷◌, if◌then◌else◌}
+use Rattle.std.specs.Prelude.{ℤ, pos, negsuc, ◌+ℤ◌, ◌-ℤ◌, ◌*ℤ◌, int_le, ◌&&◌, ◌==◌, Bool, true, false, List, [], ◌∷◌, if◌then◌else◌}
 use Rattle.pth_base.specs.declared.answer.Answer.{Answer}
 use Rattle.pth_base.specs.declared.answer.Answer.TheVariants as answer
 use Rattle.pth_base.specs.declared.call.Call.{Call}
@@ -12,7 +12,8 @@ use Rattle.pth_posix.specs.declared.pcall.PCall.TheVariants as pcall
 use Rattle.pth_posix.specs.declared.plan.Planned.{Planned}
 use Rattle.pth_posix.specs.declared.plan.Planned.TheVariants.{Calls, Answers}
 
--- What the answer of a call of Pth is read as. An error stays as it is, and an answer that no call of a plan has is read as none.
+-- What the answer of a call of Pth is read as. An error stays as it is, and an answer that is neither a number nor an error is read
+-- as none.
 --
 -- a number is the value
 abbrev pub value : Answer → PAnswer
@@ -26,10 +27,10 @@ zero (answer.Int n) = Value (pos 0)
 zero (answer.Fail e) = Fail e
 zero a = None
 
--- the last of a barrier's round is told apart
-abbrev pub round : Answer → PAnswer
-round (answer.Int (negsuc n)) = Value (if n == 1 then negsuc 0 else pos 0)
-round a = zero a
+-- the last of a barrier's round is told apart (PTHREAD_BARRIER_SERIAL_THREAD)
+abbrev pub barrier_answer : Answer → PAnswer
+barrier_answer (answer.Int (negsuc n)) = Value (if n == 1 then negsuc 0 else pos 0)
+barrier_answer a = zero a
 
 -- a thread that gives up what it does not have is not permitted to
 abbrev pub as_eperm : PAnswer → PAnswer
@@ -56,7 +57,7 @@ abbrev pub is_cancel_state : ℤ → Bool
 is_cancel_state n = int_le (pos 1) n && int_le n (pos 4)
 
 abbrev pub cancel_state : ℤ → ℤ → ℤ
-cancel_state state type = pos 1 +ℤ state +ℤ type +ℤ type
+cancel_state state type = pos 1 +ℤ state +ℤ pos 2 *ℤ type
 
 -- the type of POSIX in it, and the state
 abbrev pub type_in : ℤ → ℤ
@@ -74,7 +75,7 @@ is_0 (negsuc n) = false
 abbrev pub is_flag : ℤ → Bool
 is_flag n = int_le (pos 0) n && int_le n (pos 1)
 
--- what a part of the old cancel state is
+-- what a part of the old cancel state is; a number that is no cancel state is read as none
 abbrev pub old : (ℤ → ℤ) → Answer → PAnswer
 old part (answer.Int n) = if is_cancel_state n then Value (part n) else None
 old part a = value a
@@ -94,8 +95,8 @@ one c read (a ∷ more) = Answers (read a)
 abbrev pub sets : (ℤ → ℤ) → (Answer → PAnswer) → List Answer → Planned
 sets becomes read [] = Calls (call.CancelState (pos 0))
 sets becomes read (answer.Int n ∷ []) = if is_cancel_state n then Calls (call.CancelState (becomes n)) else Answers None
-sets becomes read (a ∷ []) = Answers (value a)
-sets becomes read (a ∷ b ∷ more) = Answers (read b)
+sets becomes read (answer.Int n ∷ b ∷ more) = if is_cancel_state n then Answers (read b) else Answers None
+sets becomes read (a ∷ more) = Answers (value a)
 
 -- three: an event of the moment is made and waited with, and freed whatever the wait is answered
 abbrev pub timed : ℤ → ℤ → ℤ → List Answer → Planned
@@ -142,4 +143,4 @@ plan (pcall.RdLock l) got = one (call.RwAcquire l false (pos 0) (pos 0)) zero go
 plan (pcall.WrLock l) got = one (call.RwAcquire l true (pos 0) (pos 0)) zero got
 plan (pcall.RwUnlock l) got = one (call.RwRelease l) (λ a. as_eperm (zero a)) got
 plan (pcall.BarrierInit b n) got = one (call.BarrierInit b n) zero got
-plan (pcall.BarrierWait b) got = one (call.BarrierReach b) round got
+plan (pcall.BarrierWait b) got = one (call.BarrierReach b) barrier_answer got

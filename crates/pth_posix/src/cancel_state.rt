@@ -27,7 +27,7 @@ pub(crate) fn cancel_state(state: i64, kind: i64) -> i64
     requires kind { is_flag kind ≡ true }
     ensures { result ≡ cancel_state state kind }
 {
-    1 + state + kind + kind
+    1 + state + 2 * kind
 }
 
 /// The type of POSIX in a cancel state.

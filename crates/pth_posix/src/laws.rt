@@ -14,20 +14,22 @@ ghost use Rattle.pth_posix.specs.declared.plan.Planned.TheVariants.{Calls, Answe
 
 use crate::posix_program::PosixProgram;
 
-/// No POSIX call makes more than three calls of Pth, but for an exit, which is never answered. What is answered without a call is
-/// answered so whatever was answered before.
+/// With three answers or more a plan has no call left, but that of an exit. A plan that has an answer keeps it, whatever is answered
+/// behind.
 pub fn plans_end()
     ensures ends { (c : PCall) (a b d : Answer) (more : List Answer) → is_exit c ≡ false
         → is_answered (plan c (a ∷ b ∷ d ∷ more)) ≡ true }
+    ensures kept { (c : PCall) (x : PAnswer) (got more : List Answer) → plan c got ≡ Answers x → plan c (got ++ more) ≡ Answers x }
     ensures at_once { (c : PCall) (x : PAnswer) (got : List Answer) → plan c [] ≡ Answers x → plan c got ≡ Answers x }
 {}
 
-/// A timed wait that its moment ended is one that was answered EINTR, and nothing else is answered so.
+/// A plan answers that the time is over exactly if the call is a timed wait, its `ev_time` gave an event, its `cond_await` was answered
+/// EINTR, and its `ev_free` was answered.
 pub fn timed_out_is_eintr()
     ensures { (c : PCall) (got : List Answer) → (plan c got ≡ Answers TimedOut) ↔ (is_timed_out c got ≡ true) }
 {}
 
-/// While a plan has a call, a step of the thread makes it, and changes neither the program's state nor what is shared. Once it has an
+/// If the plan has a call, a step of the thread gives it, and changes neither the program's state nor what is shared. If it has an
 /// answer, the program's own step gets this one.
 pub fn plans_are_not_interrupted<Q: PosixProgram>()
     ensures goes_on { (q : PosixFunctions Q.State Q.Shared) (p : PosixThreadOf Q.State) (h : Q.Shared) (a : Answer) (c : Call)

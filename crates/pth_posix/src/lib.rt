@@ -1,7 +1,8 @@
 //! POSIX thread calls on the thread machine.
 //!
-//! A `PosixProgram` gives POSIX calls as a `Program` gives calls of Pth. `Posix` makes it a `Program`: it equals `functions_of_posix`,
-//! so each POSIX call makes the calls of Pth of its `plan`, and is answered as the plan says. `Listed` is one whose bodies are lists.
+//! A `PosixProgram` gives POSIX calls as a `Program` gives calls of Pth. `Posix` makes a `Program` of it, which equals
+//! `functions_of_posix` as long as memory lasts: a step gives the next call of Pth that `plan` has for the POSIX call, or hands its
+//! answer to the program. `Listed` is a `PosixProgram` whose bodies are lists of calls.
 #![tactic(auto)]
 
 mod cancel_state;

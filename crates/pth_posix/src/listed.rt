@@ -21,7 +21,7 @@ const MOST_LISTS: usize = u32::MAX as usize;
 /// and exits with 0 after the last. Its argument is not looked at.
 ///
 /// Its threads share the answers that their steps got, in order, with the first of each thread, which is none. Check k holds for v if
-/// the answer at k, from 0 on, is v: an error is its number below 0, and the end of a timed wait is -1000. There are no acts.
+/// the answer at k, from 0 on, is v: an error is minus its number, and the end of a timed wait is -1000. There are no acts.
 #[derive(Drop)]
 pub struct Listed {
     alloc: Global,
@@ -88,8 +88,10 @@ impl Listed {
         ensures call { result ≡ call_at self.now place.now }
         ensures next_fits { OnSome result (place.now.call + 1 < 2 ^ 64) }
     {
-        let list = self.lists.get(place.body as usize)?;
-        list.get(place.call).copied()
+        self.lists
+            .get(place.body as usize)?
+            .get(place.call)
+            .copied()
     }
 }
 

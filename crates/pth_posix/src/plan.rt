@@ -11,15 +11,17 @@ use crate::cancel_state::{
 };
 use crate::panswer::PAnswer;
 use crate::pcall::PCall;
-use crate::reading::{as_einval, as_eperm, as_timed_out, as_value_0, round, value, zero};
+use crate::reading::{as_einval, as_eperm, as_timed_out, as_value_0, barrier_answer, value, zero};
 use pth_base::answer::Answer;
 use pth_base::call::Call;
 use pth_base::errno::Errno;
 
-/// What a plan says next: the call of Pth that is made, or the answer of the POSIX call.
+/// What comes next in a POSIX call.
 #[derive(Drop)]
 pub enum Planned {
+    /// A call of Pth is made.
     Calls(Call),
+    /// The POSIX call is answered.
     Answers(PAnswer),
 }
 
@@ -47,6 +49,7 @@ fn ask_state(flag: i64) -> Planned
 }
 
 // The first call of a plan, or an answer without one.
+#[inline(always)]
 fn first_call(call: &PCall) -> Planned
     ensures { result ≡ plan call.now [] }
 {
@@ -100,37 +103,33 @@ fn first_call(call: &PCall) -> Planned
     })
 }
 
-// The state is set as soon as the old one was answered.
+// The state is set as soon as the old cancel state was answered.
 fn set_state(state: i64, first: &Answer, more: &[Answer]) -> Planned
     ensures { result ≡ plan (pcall.SetState state) (first.now ∷ more.now) }
 {
     match (first, more) {
         _ if !is_flag(state) => Planned::Answers(PAnswer::Fail(Errno::EINVAL)),
-        (_, [set, ..]) => Planned::Answers(old_state(set)),
-        (Answer::Int(n), []) if is_cancel_state(*n) => {
-            Planned::Calls(Call::CancelState(cancel_state(state, type_in(*n))))
-        }
-        (Answer::Int(_), []) => Planned::Answers(PAnswer::None),
+        (Answer::Int(n), _) if !is_cancel_state(*n) => Planned::Answers(PAnswer::None),
+        (Answer::Int(n), []) => Planned::Calls(Call::CancelState(cancel_state(state, type_in(*n)))),
+        (Answer::Int(_), [set, ..]) => Planned::Answers(old_state(set)),
         _ => Planned::Answers(value(first)),
     }
 }
 
-// So is the type.
+// The type is set as soon as the old cancel state was answered.
 fn set_type(kind: i64, first: &Answer, more: &[Answer]) -> Planned
     ensures { result ≡ plan (pcall.SetType kind) (first.now ∷ more.now) }
 {
     match (first, more) {
         _ if !is_flag(kind) => Planned::Answers(PAnswer::Fail(Errno::EINVAL)),
-        (_, [set, ..]) => Planned::Answers(old_type(set)),
-        (Answer::Int(n), []) if is_cancel_state(*n) => {
-            Planned::Calls(Call::CancelState(cancel_state(state_in(*n), kind)))
-        }
-        (Answer::Int(_), []) => Planned::Answers(PAnswer::None),
+        (Answer::Int(n), _) if !is_cancel_state(*n) => Planned::Answers(PAnswer::None),
+        (Answer::Int(n), []) => Planned::Calls(Call::CancelState(cancel_state(state_in(*n), kind))),
+        (Answer::Int(_), [set, ..]) => Planned::Answers(old_type(set)),
         _ => Planned::Answers(value(first)),
     }
 }
 
-// A timed wait goes on once its event was made, and ends when the event was freed.
+// A timed wait goes on once its event was made, and is answered once `ev_free` was.
 fn wait_timed(c: i64, m: i64, first: &Answer, more: &[Answer]) -> Planned
     ensures { (at : ℤ) → result ≡ plan (pcall.TimedWait c m at) (first.now ∷ more.now) }
 {
@@ -154,6 +153,7 @@ fn joined(t: i64, first: &Answer) -> PAnswer
 }
 
 // What follows the first answer.
+#[inline(always)]
 fn after_first(call: &PCall, first: &Answer, more: &[Answer]) -> Planned
     ensures { result ≡ plan call.now (first.now ∷ more.now) }
 {
@@ -172,7 +172,7 @@ fn after_first(call: &PCall, first: &Answer, more: &[Answer]) -> Planned
         PCall::Unlock(_) | PCall::CondWait { .. } | PCall::RwUnlock(_) => {
             Planned::Answers(as_eperm(zero(first)))
         }
-        PCall::BarrierWait(_) => Planned::Answers(round(first)),
+        PCall::BarrierWait(_) => Planned::Answers(barrier_answer(first)),
         PCall::Yield
         | PCall::TestCancel
         | PCall::Cancel(_)
@@ -192,7 +192,9 @@ fn after_first(call: &PCall, first: &Answer, more: &[Answer]) -> Planned
     }
 }
 
-/// The next call of Pth of a POSIX call, or its answer, by the answers that its calls of Pth got so far, the earliest first.
+/// What comes next in a POSIX call: a call of Pth, or the answer. `got` has what its calls of Pth were answered so far, the earliest
+/// first.
+#[inline(always)]
 pub fn plan(call: &PCall, got: &[Answer]) -> Planned
     ensures { result ≡ plan call.now got.now }
 {

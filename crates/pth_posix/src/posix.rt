@@ -1,7 +1,9 @@
 //! A program that is written against POSIX, as a program of the machine.
 
-ghost use Rattle.std.specs.Prelude.{◌≡◌, IfOk, OnOk};
+ghost use Rattle.std.specs.Prelude.{◌≡◌, [], ◌∷◌, ◌++◌, IfOk};
+ghost use Rattle.pth_base.specs.declared.call.Call.{Call};
 ghost use Rattle.pth_posix.specs.Plan.{plan};
+ghost use Rattle.pth_posix.specs.declared.plan.Planned.TheVariants.{Calls};
 
 use crate::panswer::PAnswer;
 use crate::pcall::PCall;
@@ -15,6 +17,7 @@ use pth_base::memory::OutOfMemory;
 use pth_base::program::Program;
 use std::alloc::Global;
 use std::marker::Model;
+use std::slice;
 
 /// Where a thread stands: in its body, and in the plan of its POSIX call.
 pub struct PosixThread<S> {
@@ -45,18 +48,25 @@ impl<S: Drop> Drop for PosixThread<S> {
 impl<S: Drop> PosixThread<S> {
     ghost use Rattle.pth_posix.specs.Posix.{heard};
 
-    // A call of Pth was answered.
-    fn hear(&mut self, answer: &Answer) -> Result<(), OutOfMemory>
-        ensures { OnOk result (self.new ≡ heard answer.now self.old) }
+    // What the plan says with one answer more. The answer is kept if the plan goes on; most plans end with their first.
+    #[inline(always)]
+    fn add_answer(&mut self, answer: &Answer) -> Result<Planned, OutOfMemory>
+        ensures next { IfOk result (λ x. x ≡ plan self.old.call (self.old.got ++ answer.now ∷ [])) }
+        ensures state { self.new.state ≡ self.old.state }
+        ensures heard { IfOk result (λ x. (c : Call) → x ≡ Calls c → self.new ≡ heard answer.now self.old) }
     {
-        let answer = answer.copy()?;
-        self.got.push(answer)?;
-        Ok(())
+        if self.got.is_empty() {
+            if let Planned::Answers(given) = plan(&self.call, slice::from_ref(answer)) {
+                return Ok(Planned::Answers(given));
+            }
+        }
+        self.got.push(answer.copy()?)?;
+        Ok(plan(&self.call, self.got.as_slice()))
     }
 }
 
-/// A program that is written against POSIX, as a program of the machine: its threads make the calls of Pth that the plans of its
-/// POSIX calls have, and it gets the answers of the plans.
+/// A program that is written against POSIX, as a program of the machine. A step of a thread gives the next call of Pth that `plan` has, or
+/// hands the answer of `plan` to the program.
 #[derive(Drop)]
 pub struct Posix<Q> {
     program: Q,
@@ -73,7 +83,8 @@ impl<Q: PosixProgram> Posix<Q> {
     }
 
     // The program takes an answer, and the POSIX call that it gives begins.
-    fn ask(
+    #[inline(always)]
+    fn begin_next(
         &self,
         alloc: Global,
         thread: &mut PosixThread<Q::State>,
@@ -132,10 +143,9 @@ impl<Q: PosixProgram> Program for Posix<Q> {
         shared: &mut Q::Shared,
         answer: &Answer,
     ) -> Result<Call, OutOfMemory> {
-        thread.hear(answer)?;
-        match plan(&thread.call, thread.got.as_slice()) {
+        match thread.add_answer(answer)? {
             Planned::Calls(call) => Ok(call),
-            Planned::Answers(answer) => self.ask(alloc, thread, shared, &answer),
+            Planned::Answers(answer) => self.begin_next(alloc, thread, shared, &answer),
         }
     }
 

@@ -10,8 +10,8 @@ use pth_base::ids::{BodyId, CheckId, HandlerId};
 use pth_base::memory::OutOfMemory;
 use std::alloc::Global;
 
-/// Thread bodies that go on by steps, each of which takes the answer of a POSIX call and gives the next one. All but that is as for
-/// a `Program`.
+/// Thread bodies that go on by steps, each of which takes the answer of a POSIX call and gives the next one. Its other functions are
+/// those of a `Program`.
 ///
 /// Each function equals one of `posix_functions`; only want of memory refuses.
 pub trait PosixProgram: Drop {
@@ -50,7 +50,7 @@ pub trait PosixProgram: Drop {
         ensures { IfOk result (λ call. record { call = call; state = state.new; shared = shared.new }
             ≡ (posix_functions self.now).step state.old shared.old answer.now) };
 
-    /// Whether a check holds.
+    /// Whether a check holds. No POSIX call asks for one; `World::check` does.
     fn check(&self, check: CheckId, arg: i64, shared: &Self::Shared) -> bool
         ensures { result ≡ (posix_functions self.now).check check.0 arg shared.now };
 

@@ -1,13 +1,13 @@
 //! How the answers of calls of Pth are read.
 
 ghost use Rattle.std.specs.Prelude.{◌≡◌};
-ghost use Rattle.pth_posix.specs.Plan.{value, zero, round, as_eperm, as_einval, as_value_0, as_timed_out};
+ghost use Rattle.pth_posix.specs.Plan.{value, zero, barrier_answer, as_eperm, as_einval, as_value_0, as_timed_out};
 
 use crate::panswer::PAnswer;
 use pth_base::answer::Answer;
 use pth_base::errno::Errno;
 
-/// A number as the value.
+/// A number as the value, an error as it is, and any other answer as none.
 pub(crate) fn value(answer: &Answer) -> PAnswer
     ensures { result ≡ value answer.now }
 {
@@ -18,7 +18,7 @@ pub(crate) fn value(answer: &Answer) -> PAnswer
     }
 }
 
-/// A number as 0.
+/// A number as 0, an error as it is, and any other answer as none.
 pub(crate) fn zero(answer: &Answer) -> PAnswer
     ensures { result ≡ zero answer.now }
 {
@@ -29,9 +29,9 @@ pub(crate) fn zero(answer: &Answer) -> PAnswer
     }
 }
 
-/// A number as 0, but that of the last of a barrier's round.
-pub(crate) fn round(answer: &Answer) -> PAnswer
-    ensures { result ≡ round answer.now }
+/// The same, but -2 as -1: that of the last of a barrier's round.
+pub(crate) fn barrier_answer(answer: &Answer) -> PAnswer
+    ensures { result ≡ barrier_answer answer.now }
 {
     match answer {
         Answer::Int(-2) => PAnswer::Value(-1),
@@ -39,7 +39,7 @@ pub(crate) fn round(answer: &Answer) -> PAnswer
     }
 }
 
-/// EPERM for who gives up what it does not have.
+/// EPERM in place of EDEADLK and EACCES: a thread gives up what it does not have.
 pub(crate) fn as_eperm(answer: PAnswer) -> PAnswer
     ensures { result ≡ as_eperm answer }
 {
@@ -49,7 +49,7 @@ pub(crate) fn as_eperm(answer: PAnswer) -> PAnswer
     }
 }
 
-/// EINVAL for a key that is not live.
+/// EINVAL in place of ENOENT: a key is not live.
 pub(crate) fn as_einval(answer: PAnswer) -> PAnswer
     ensures { result ≡ as_einval answer }
 {
@@ -59,7 +59,7 @@ pub(crate) fn as_einval(answer: PAnswer) -> PAnswer
     }
 }
 
-/// The value 0 for a key that is not live.
+/// The value 0 in place of ENOENT: a key is not live.
 pub(crate) fn as_value_0(answer: PAnswer) -> PAnswer
     ensures { result ≡ as_value_0 answer }
 {
@@ -69,7 +69,7 @@ pub(crate) fn as_value_0(answer: PAnswer) -> PAnswer
     }
 }
 
-/// The end of a wait by its moment.
+/// The end of a wait by its moment in place of EINTR.
 pub(crate) fn as_timed_out(answer: PAnswer) -> PAnswer
     ensures { result ≡ as_timed_out answer }
 {
