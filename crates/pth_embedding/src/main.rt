@@ -76,6 +76,18 @@ fn wait_of(world: &World<Errand>, t: Tid, state: ThreadState) -> &'static str
     }
 }
 
+/// Prints the rank of a thread that is new, ready or waiting, and how many stand before it in its queue.
+fn print_place(rt: &(impl Print + AllocGlobal), world: &World<Errand>, t: Tid) -> io::Result<()>
+    requires { Whole world.now }
+{
+    match world.place(t) {
+        Some((Queue::New | Queue::Ready | Queue::Waiting, rank, before)) => {
+            println!(rt; "    at rank {rank}, behind {before}")
+        }
+        _ => Ok(()),
+    }
+}
+
 /// Prints the record of a thread, where it has one: it has none once it was joined.
 fn print_thread(
     rt: &(impl Print + AllocGlobal),
@@ -91,7 +103,8 @@ fn print_thread(
                 entry.state,
                 wait_of(world, entry.tid, entry.state),
                 entry.dispatches
-            )
+            )?;
+            print_place(rt, world, entry.tid)
         }
         None => println!(rt; "  thread {number}: gone"),
     }

@@ -28,3 +28,4 @@ pub mod Listings
 pub mod Locked
 pub mod Alone
 pub mod Stores
+pub mod Placed

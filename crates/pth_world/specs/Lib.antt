@@ -14,3 +14,4 @@ pub mod Frame
 pub mod Keeps
 pub mod Beginnings
 pub mod Vanishing
+pub mod Placed

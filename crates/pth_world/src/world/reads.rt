@@ -13,6 +13,7 @@ ghost use Rattle.pth_model.specs.ThreadEnds.{only, is_alone};
 ghost use Rattle.pth_numbered.specs.Operands.{named};
 ghost use Rattle.pth_world.specs.World.{entry_in};
 ghost use Rattle.pth_world.specs.Walks.{behind};
+ghost use Rattle.pth_world.specs.Placed.{place};
 ghost use Rattle.pth_world.specs.Shows.{Shows};
 ghost use Rattle.pth_world.specs.Sound.{IsSound, IsKnown, IsPrio, IsCancel};
 ghost use Rattle.pth_world.specs.Whole.{IsIn};
@@ -154,6 +155,18 @@ impl<P: Program> World<P> {
     {
         let slot = self.slot(t);
         self.thread_at(self.queues().after(slot), q)
+    }
+
+    /// The queue in which a thread stands, its rank there, and how many stand before it; none if it stands in no queue. Those before it
+    /// are counted from the head.
+    pub fn place(&self, t: Tid) -> Option<(Queue, i64, u32)>
+        requires { IsSound self.now.threads }
+        ensures { (k : Control P P.State P.Shared) → Shows self.now k → result ≡ place k t.0 }
+    {
+        match self.threads().find(t) {
+            Some(slot) => self.queues().place_of(slot),
+            None => None,
+        }
     }
 
     // Whether no other thread than t stands in a queue.
