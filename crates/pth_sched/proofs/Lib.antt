@@ -8,6 +8,7 @@ pub mod Endings
 pub mod Following
 pub mod Going
 pub mod Keeping
+pub mod Known
 pub mod Listing
 pub mod Living
 pub mod Mildness

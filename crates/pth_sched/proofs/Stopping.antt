@@ -60,7 +60,7 @@ head_some : (rows : List Ranked) → 0 < length rows → (t : ℕ) × (head_of r
 head_some [] h = absurd (omega (arith, h))
 head_some (x ∷ xs) h = (x.holder, refl)
 
-next_some : (preferred : Option ℕ) (rows : List Ranked) → 0 < length rows → (t : ℕ) × (chosen preferred rows ≡ Some t)
+pub next_some : (preferred : Option ℕ) (rows : List Ranked) → 0 < length rows → (t : ℕ) × (chosen preferred rows ≡ Some t)
 next_some (Some t) rows h = (t, refl)
 next_some None rows h = head_some rows h
 
@@ -81,7 +81,7 @@ module _ {P S H : Type 0} where
   all_some [] k h = omega (arith, h)
   all_some (t ∷ ts) k h = all_some ts (readies t k) (let some = readied_some k t in omega arith)
 
-  ready_some : (k : Control P S H) → is_idle k ≡ false → 0 < length (queue (readies_new k) queues.Ready)
+  pub ready_some : (k : Control P S H) → is_idle k ≡ false → 0 < length (queue (readies_new k) queues.Ready)
   ready_some k h =
       let new = queue k queues.New in
       let count : length (reverse (holders new)) ≡ length new = length-reverse (holders new) ∙ length-map new (λ (r : Ranked). r.holder) in
@@ -94,7 +94,7 @@ module _ {P S H : Type 0} where
   woken_scheduler [] s = refl
   woken_scheduler (t ∷ ts) s = woken_scheduler ts (woken t s).state
 
-  pass_scheduler : (f : P → Functions S H) (s : State P S H) → (pass f s).state.control.scheduler ≡ s.control.scheduler
+  pub pass_scheduler : (f : P → Functions S H) (s : State P S H) → (pass f s).state.control.scheduler ≡ s.control.scheduler
   unfolding pass looks
   pass_scheduler f s = woken_scheduler (to_wake f s) (controlled (looks f s) s)
 
@@ -103,11 +103,11 @@ module _ {P S H : Type 0} where
   woken_kernel [] s = refl
   woken_kernel (t ∷ ts) s = woken_kernel ts (woken t s).state
 
-  pass_kernel : (f : P → Functions S H) (s : State P S H) → (pass f s).state.control.kernel ≡ s.control.kernel
+  pub pass_kernel : (f : P → Functions S H) (s : State P S H) → (pass f s).state.control.kernel ≡ s.control.kernel
   unfolding pass looks
   pass_kernel f s = woken_kernel (to_wake f s) (controlled (looks f s) s)
 
-  placed_nobody : (k : Control P S H) (t : ℕ) → (turn_ends t k).scheduler.running ≡ None
+  pub placed_nobody : (k : Control P S H) (t : ℕ) → (turn_ends t k).scheduler.running ≡ None
   unfolding is_placed
   placed_nobody k t = refl
 

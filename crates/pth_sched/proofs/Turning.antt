@@ -203,7 +203,7 @@ module _ {P S H : Type 0} (f : P → Functions S H) where
   still_goes to far c on le = goes_by to far c.turn c.state (next_part c.state c.turn) on le
 
   module _ (g : Given P) where
-    next_counts : (j : ℕ) → (run f g (j + 1)).turn.steps ≡ (part f (run f g j).turn (run f g j).state).turn.steps
+    pub next_counts : (j : ℕ) → (run f g (j + 1)).turn.steps ≡ (part f (run f g j).turn (run f g j).state).turn.steps
     next_counts j = ap (λ (c : Course P S H). c.turn.steps) (parts-more f (start f g) j)
 
     counts_within : (n j : ℕ) → (run f g j).turn.steps ≤ (run f g (j + n)).turn.steps
@@ -215,7 +215,7 @@ module _ {P S H : Type 0} (f : P → Functions S H) where
         let next = next_counts (j + n) in
         subst (λ (k : ℕ). (run f g j).turn.steps ≤ (run f g k).turn.steps) (sym same) (omega arith)
 
-    counts_up : (j k : ℕ) → j ≤ k → (run f g j).turn.steps ≤ (run f g k).turn.steps
+    pub counts_up : (j k : ℕ) → j ≤ k → (run f g j).turn.steps ≤ (run f g k).turn.steps
     counts_up j k later = (let same : j + (k - j) ≡ k = omega arith in subst (λ (l : ℕ). (run f g j).turn.steps ≤ (run f g l).turn.steps) same (counts_within (k - j) j))
 
     -- a turn, and then a run to as many steps as were made or more

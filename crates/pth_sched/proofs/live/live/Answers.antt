@@ -1,11 +1,12 @@
 use Rattle.std.proofs.Common.{[], ◌∷◌, map, sym, ap, ◌∙◌, append-nil}
 use Rattle.pth_threads.specs.Threads.{number_of}
-use Rattle.pth_sched.proofs.Living.{threads-listed, live-none, living-more, living-all}
+use Rattle.pth_sched.proofs.Known.{threads-listed}
+use Rattle.pth_sched.proofs.Living.{living-none, living-more, living-all}
 use Rattle.pth_sched.proofs.live.live.Goals as goal
 use Rattle.pth_sched.proofs.live.live.Goals.{then-is_live+in_ok-push, else-is_live}
 
 pub loop-t-init : goal.loop-t-init
-loop-t-init g c = λ s st. ap (map number_of) c.new-live.ensures.items ∙ sym (live-none _ _)
+loop-t-init g c = λ s st. ap (map number_of) c.new-live.ensures.items ∙ sym (living-none c.args.w.now _ (threads-listed c.args.w.now _ _ _ c.threads.ensures c.deref-t-items.ensures.value c.in_ok-tids.ensures.listed c.in_ok-tids.ensures.rising) s c.requires st)
 
 pub loop-t-preserved : goal.loop-t-preserved
 loop-t-preserved g c = λ s st.

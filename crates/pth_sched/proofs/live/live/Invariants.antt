@@ -3,7 +3,7 @@ use Rattle.pth_threads.specs.Threads.{number_of}
 use Rattle.pth_model.specs.State.{State}
 use Rattle.pth_model.specs.Living.{live_of}
 use Rattle.pth_world.specs.Shows.{StandsFor}
-use Rattle.pth_sched.proofs.Living.{before}
+use Rattle.pth_sched.proofs.Known.{before}
 use Rattle.pth_sched.proofs.live.live.Given as goal
 
 abbrev pub invariant-loop-t : goal.invariant-loop-t
