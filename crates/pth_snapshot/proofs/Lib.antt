@@ -1,0 +1,9 @@
+pub mod Differences
+pub mod Dumped
+pub mod Finding
+pub mod Leading
+pub mod Loading
+pub mod Named
+pub mod Parts
+pub mod Rows
+pub mod Threads

@@ -1,0 +1,5 @@
+pub mod Dump
+pub mod Leading
+pub mod Loading
+pub mod Numbers
+pub mod Place
