@@ -27,3 +27,8 @@ pub fn same_lines(rt: &impl Abort, told: &[u8], wanted: &str) {
 pub fn tells(rt: &impl Abort, k: usize, is_so: bool) {
     assert!(rt; is_so, "answer {k}");
 }
+
+/// The first lines of a run.
+pub fn starts(rt: &impl Abort, told: &[u8], wanted: &[u8]) {
+    assert!(rt; told.starts_with(wanted));
+}

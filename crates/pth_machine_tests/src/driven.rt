@@ -1,6 +1,6 @@
 //! Machines of texts, driven to the end of their runs, and watched.
 
-ghost use Rattle.std.specs.Prelude.{◌≤◌};
+ghost use Rattle.std.specs.Prelude.{◌≡◌, ◌≤◌, IfOk};
 
 use crate::watch::Watch;
 use pth_base::limits::MOST_STEPS;
@@ -28,7 +28,9 @@ pub enum By {
 }
 
 /// The machine of a script.
-pub fn machine_of(alloc: Global, text: &[u8]) -> Result<Machine<Script>, ReadErr> {
+pub fn machine_of(alloc: Global, text: &[u8]) -> Result<Machine<Script>, ReadErr>
+    ensures { IfOk result (λ machine. machine.turn.outcome ≡ Outcome.Running) }
+{
     let (script, kernel, top) = read(alloc, text)?;
     Ok(Machine::new(alloc, script, kernel, top)?)
 }

@@ -1,5 +1,6 @@
 //! Tests of a machine that runs scripts to their end, by pieces and by turns. Between them it is asked how long each ready thread has
-//! waited and may wait, and what it tells is compared with its marks. Programs of POSIX calls are run too.
+//! waited and may wait, and what it tells is compared with its marks. Programs of POSIX calls are run too, and
+//! runs are saved and taken up.
 #![tactic(auto)]
 
 #[cfg(test)]
@@ -9,10 +10,16 @@ mod comparison;
 #[cfg(test)]
 mod driven;
 #[cfg(test)]
+mod places;
+#[cfg(test)]
 mod posix;
 #[cfg(test)]
 mod row;
 #[cfg(test)]
 mod runs;
+#[cfg(test)]
+mod saved_runs;
+#[cfg(test)]
+mod snapshots;
 #[cfg(test)]
 mod watch;
