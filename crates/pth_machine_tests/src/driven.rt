@@ -3,10 +3,14 @@
 ghost use Rattle.std.specs.Prelude.{◌≡◌, ◌≤◌, IfOk};
 
 use crate::watch::Watch;
+use pth_base::ids::FdSet;
 use pth_base::limits::MOST_STEPS;
 use pth_base::marks::Marks;
 use pth_base::memory::OutOfMemory;
 use pth_base::outcome::Outcome;
+use pth_base::program::Program;
+use pth_kernel::kernel::Kernel;
+use pth_kernel::trace::Trace;
 use pth_sched::machine::Machine;
 use pth_script::Script;
 use pth_script::generate::generate;
@@ -25,6 +29,20 @@ const MOST_PIECES: u32 = 100_000;
 pub enum By {
     Pieces,
     Turns,
+}
+
+/// The machine of a program, with a kernel to whose descriptors nothing comes.
+pub fn started<P: Program>(
+    rt: &impl Abort,
+    alloc: Global,
+    program: P,
+) -> Result<Machine<P>, OutOfMemory>
+    ensures { IfOk result (λ machine. machine.turn.steps ≡ 0) }
+{
+    let trace = Trace::new(alloc);
+    assert!(rt; trace.first_fault(FdSet(0)).is_none());
+    let kernel = Kernel::new(alloc, 1, FdSet(0), trace)?;
+    Machine::new(alloc, program, kernel, 5)
 }
 
 /// The machine of a script.

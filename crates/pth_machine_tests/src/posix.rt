@@ -3,15 +3,13 @@
 ghost use Rattle.std.specs.Prelude.{◌≡◌, IfOk};
 
 use crate::comparison::{has_ended, same_lines, tells};
-use pth_base::ids::FdSet;
+use crate::driven::started;
+use crate::places::add_lines;
 use pth_base::marks::Marks;
 use pth_base::memory::OutOfMemory;
-use pth_kernel::kernel::Kernel;
-use pth_kernel::trace::Trace;
 use pth_posix::listed::Listed;
 use pth_posix::pcall::PCall;
 use pth_posix::posix::Posix;
-use pth_print::mark_line::mark_line;
 use pth_sched::machine::Machine;
 use pth_text::text::Text;
 use std::alloc::Global;
@@ -351,13 +349,6 @@ fn add_body(listed: &mut Listed, calls: &[PCall]) -> Result<(), OutOfMemory> {
     Ok(())
 }
 
-/// A kernel to whose descriptors nothing comes.
-fn kernel(rt: &impl Abort, alloc: Global) -> Result<Kernel, OutOfMemory> {
-    let trace = Trace::new(alloc);
-    assert!(rt; trace.first_fault(FdSet(0)).is_none());
-    Kernel::new(alloc, 1, FdSet(0), trace)
-}
-
 /// The machine of a program.
 fn machine_of(
     rt: &impl Abort,
@@ -370,17 +361,7 @@ fn machine_of(
     for calls in bodies {
         add_body(&mut listed, calls)?;
     }
-    let kernel = kernel(rt, alloc)?;
-    Machine::new(alloc, Posix::new(listed), kernel, 5)
-}
-
-/// The lines of marks.
-fn lines_of(alloc: Global, marks: &Marks) -> Result<Text, OutOfMemory> {
-    let mut text = Text::new(alloc);
-    for mark in marks.as_slice() {
-        mark_line(mark, false, &mut text)?;
-    }
-    Ok(text)
+    started(rt, alloc, Posix::new(listed))
 }
 
 /// Whether the answer at k is this number; none is no number.
@@ -408,7 +389,8 @@ fn comes_to(rt: &impl Abort, alloc: Global, row: &Row) -> Result<(), OutOfMemory
     let mut machine = machine_of(rt, alloc, row.bodies)?;
     let mut marks = Marks::new(alloc);
     let outcome = machine.advance(1000, &mut marks);
-    let lines = lines_of(alloc, &marks)?;
+    let mut lines = Text::new(alloc);
+    add_lines(&marks, &mut lines)?;
     same_lines(rt, lines.as_slice(), row.lines);
     has_ended(rt, outcome);
     has_answers(rt, &machine, row.answers);
