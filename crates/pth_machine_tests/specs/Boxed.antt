@@ -1,5 +1,5 @@
 -- Two bodies and rules that are handed in as boxes.
-use Rattle.std.specs.Prelude.{ℕ, zero, suc, ℤ, pos, false, replicate, None}
+use Rattle.std.specs.Prelude.{ℕ, zero, suc, pos, false, replicate, None}
 use Rattle.pth_base.specs.declared.call.Call.{Call}
 use Rattle.pth_base.specs.declared.call.Call.TheVariants as call
 use Rattle.pth_bodies.specs.Bodies.{BodyFunctions, RuleFunctions}
