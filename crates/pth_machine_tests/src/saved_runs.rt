@@ -8,107 +8,107 @@ pub struct Run {
 }
 
 pub static RUNS: [Run; 52] = [
-    // row 1
+    // main exits, and waits for a thread
     Run {
         script: "pth 1\nthread 0\nspawn 1 9 0\nyield 0\nexit 0\nend\nthread 1\nexit 9\nend\n",
         places: 4,
     },
-    // row 2
+    // main joins a thread, and notes its value
     Run {
         script: "pth 1\nthread 0\na1 = spawn 1 9 0\na2 = join a1\nnote a2\nend\nthread 1\nexit a0\nend\n",
         places: 6,
     },
-    // row 3
+    // main exits at once
     Run {
         script: "pth 1\nthread 0\nexit 0\nend\n",
         places: 1,
     },
-    // row 5
+    // a thread of the least priority beside one of the greatest
     Run {
         script: "pth 1\nthread 0\na1 = attr_new\nattr_set a1 prio -5\nspawn 1 0 a1\nattr_set a1 prio 5\nspawn 1 0 a1\nlabel 1\nyield 0\ngoto 1 0 eq 0\nend\nthread 1\nlabel 1\nyield 0\ngoto 1 0 eq 0\nend\n",
         places: 200,
     },
-    // row 6
+    // a thread names another one in its yield
     Run {
         script: "pth 1\nthread 0\na1 = attr_new\nattr_set a1 prio -5\na2 = spawn 1 0 a1\nattr_set a1 prio 5\nspawn 2 a2 a1\nend\nthread 1\nyield 0\nnote 1\nend\nthread 2\nyield 0\nyield a0\nend\n",
         places: 13,
     },
-    // row 7
+    // main names a thread that naps
     Run {
         script: "pth 1\nthread 0\na1 = spawn 1 0 0\nyield 0\nyield a1\nnote 5\nend\nthread 1\nnap 10\nend\n",
         places: 10,
     },
-    // row 9 with 1
+    // new threads are favoured
     Run {
         script: "pth 1\nthread 0\nctrl favournew 1\nspawn 1 1 0\nspawn 1 2 0\nyield 0\nend\nthread 1\nnote a0\nend\n",
         places: 9,
     },
-    // row 9 with 0
+    // new threads are not favoured
     Run {
         script: "pth 1\nthread 0\nctrl favournew 0\nspawn 1 1 0\nspawn 1 2 0\nyield 0\nend\nthread 1\nnote a0\nend\n",
         places: 10,
     },
-    // row 10
+    // two reads, and the end of the input
     Run {
         script: "pth 1\nthread 0\nread 3 10\nread 3 10\nend\nkernel\nopen 3\nat 50 3 in 61626364\nat 60 3 eof\n",
         places: 7,
     },
-    // row 11
+    // a read with a ring of a moment and a descriptor
     Run {
         script: "pth 1\nthread 0\na1 = ev_time 20\na2 = ev_fd r 4\nev_concat a1 a2\nread_ev 3 10 a1\nev_status a1\nev_status a2\na3 = ev_time 0\nev_status a3\nend\nkernel\nopen 3\nopen 4\nat 50 3 in 61\n",
         places: 11,
     },
-    // row 12
+    // a thread with handlers is canceled as it waits for a ring
     Run {
         script: "pth 1\nhandler 0\nnote arg\nend\nthread 0\na1 = port_create -\na2 = spawn 1 a1 0\nyield 0\nport_put a1 7 0\ncancel a2\njoin a2\nend\nthread 1\ncleanup_push 0 1\ncleanup_push 0 2\na1 = ev_time 5000\na2 = ev_msg a0\na3 = ev_tid dead 1\nev_concat a1 a2\nev_concat a1 a3\nwait a1\nnote 99\nend\n",
         places: 17,
     },
-    // row 13
+    // a thread that waits at a condition is canceled, and takes its mutex back
     Run {
         script: "pth 1\nhandler 0\nrelease 0\nend\nthread 0\nmutex_init 0\ncond_init 0\na1 = spawn 1 0 0\nyield 0\nmutex_acquire 0 0 0\ncancel a1\nyield 0\nmutex_release 0\njoin a1\nend\nthread 1\nmutex_acquire 0 0 0\ncleanup_push 0 0\ncond_await 0 0 0\nend\n",
         places: 16,
     },
-    // row 14
+    // a thread that waits at a condition is aborted
     Run {
         script: "pth 1\nhandler 0\nrelease 0\nend\nthread 0\nmutex_init 0\ncond_init 0\na1 = spawn 1 0 0\nyield 0\nmutex_acquire 0 0 0\nabort a1\nyield 0\nmutex_release 0\njoin a1\nend\nthread 1\nmutex_acquire 0 0 0\ncleanup_push 0 0\ncond_await 0 0 0\nend\n",
         places: 13,
     },
-    // row 15
+    // a destructor sets its value again
     Run {
         script: "pth 1\nhandler 0\nsetkey 0 arg\nend\nthread 0\na1 = key_create 0\na2 = spawn 1 a1 0\njoin a2\nend\nthread 1\nkey_set a0 5\nend\n",
         places: 7,
     },
-    // row 16
+    // a thread that waits at a barrier is aborted
     Run {
         script: "pth 1\nthread 0\nbarrier_init 0 3\nbarrier_init 1 1\nbarrier_reach 1\na1 = spawn 1 0 0\nyield 0\nspawn 1 0 0\nyield 0\nabort a1\nspawn 1 0 0\nyield 0\nbarrier_reach 0\nend\nthread 1\nbarrier_reach 0\nend\n",
         places: 20,
     },
-    // row 17
+    // two threads want each other's mutex
     Run {
         script: "pth 1\nthread 0\nmutex_init 0\nmutex_init 1\nmutex_acquire 0 0 0\nspawn 1 0 0\nyield 0\nmutex_acquire 1 0 0\nend\nthread 1\nmutex_acquire 1 0 0\nmutex_acquire 0 0 0\nend\n",
         places: 9,
     },
-    // row 18
+    // workers serve the connections that main accepts
     Run {
         script: "pth 1\nthread 0\na1 = port_create jobs\nspawn 1 a1 0\nspawn 1 a1 0\nlabel 1\na2 = accept 3\nport_put a1 a2 0\nadd a3 1\ngoto 1 a3 lt 2\nend\nthread 1\na1 = ev_msg a0\nlabel 1\nwait a1\na2 = port_get a0\ngoto 1 err ne 0\na3 = read a2 100\nnap 10\nwrite a2 buf\nclose a2\nend\nkernel\nclock 1\nopen 3\nat 10 3 conn 7\nat 10 7 room 100\nat 12 7 in 6869\nat 30 3 conn 8\nat 30 8 room 1\nat 31 8 in 6f6b21\nat 60 8 room 100\n",
         places: 51,
     },
-    // row 23
+    // a port is destroyed with a message that has a port for its reply
     Run {
         script: "pth 1\nthread 0\na1 = port_create -\na2 = port_create -\nport_put a1 7 a2\nport_put a1 8 0\nport_destroy a1\nport_pending a2\nport_get a2\nport_get a2\nport_find jobs\nend\n",
         places: 10,
     },
-    // row 24
+    // two readers, and a writer beside them
     Run {
         script: "pth 1\nthread 0\nrw_init 0\nrw_acquire 0 rd 0 0\nrw_acquire 0 rd 0 0\nspawn 1 0 0\nyield 0\nrw_release 0\nrw_release 0\nend\nthread 1\nrw_acquire 0 rd 1 0\nrw_release 0\nrw_acquire 0 rw 1 0\nend\n",
         places: 12,
     },
-    // row 25
+    // descriptors that do not block, a connect, a select and a write
     Run {
         script: "pth 1\nthread 0\nfdmode 3 2\nread 3 5\nfdmode 3 1\nconnect 4\nselect 3 4 - 0\nwrite 4 hex:616263\nread 9 1\nend\nkernel\nopen 3\nopen 4\nat 0 4 up\nat 0 4 room 2\nat 9 4 room 5\n",
         places: 10,
     },
-    // row 26
+    // a once control, a suspension, and an event of a function
     Run {
         script: "pth 1\nhandler 0\nnote arg\nend\ncheck 0 v0 ge 1\nthread 0\nonce 0 0 4\nonce 0 0 5\na1 = spawn 1 0 0\nsuspend a1\nyield a1\nyield 0\nresume a1\nyield 0\nset v0 1\nend\nthread 1\na1 = ev_func 0 0 100\nwait a1\nend\n",
         places: 16,

@@ -25,7 +25,7 @@ const SCRIPT: &str =
     "pth 1\nthread 0\nmutex_init 0\nmutex_acquire 0 0 0\na4 = attr_new\nattr_set a4 prio 3\na1 = spawn 1 0 0\na2 = spawn 2 0 a4\na3 = spawn 3 0 0\nsuspend a3\nyield 0\ncancel a1\nyield a2\nnote 5\nend\nthread 1\nmutex_acquire 0 0 0\nend\nthread 2\nnap 50\nexit 4\nend\nthread 3\nexit 9\nend\nkernel\nclock 10\nopen 3\nopen 5\nat 0 3 in 616263\nat 0 3 room 7\nat 40 5 eof\n";
 
 /// A thread that main joins.
-const ROW_2: &str =
+const JOINED: &str =
     "pth 1\nthread 0\na1 = spawn 1 9 0\na2 = join a1\nnote a2\nend\nthread 1\nexit a0\nend\n";
 
 /// How a machine gets from its start to a place: by so many turns, by so many steps, or by turns and a move of idle time.
@@ -70,7 +70,7 @@ static SAVED: [Saved; 5] = [
     },
     // main waits for a new thread
     Saved {
-        script: ROW_2,
+        script: JOINED,
         at: At::Turns(1),
         text: "pthsnap 1\nsteps 2\nplace open\nnow 1\nturn 1\nfavour 1\nnamed 0\nthread 1 3 0 0 0 1 1 0 0 1 0 main\nthread 2 0 0 0 0 1 1 0 0 0 0 main.child\nend\n",
     },
@@ -180,22 +180,22 @@ static REFUSED: [Refused; 23] = [
         line: 2,
     },
     Refused {
-        script: ROW_2,
+        script: JOINED,
         text: "pthsnap 1\nsteps 2\nplace open\nnow 2\nturn 1\nfavour 1\nnamed 0\nthread 1 3 0 0 0 1 1 0 0 1 0 main\nthread 2 0 0 0 0 1 1 0 0 0 0 main.child\nend\n",
         line: 4,
     },
     Refused {
-        script: ROW_2,
+        script: JOINED,
         text: "pthsnap 1\nsteps 3\nplace open\nnow 1\nturn 1\nfavour 1\nnamed 0\nthread 1 3 0 0 0 1 1 0 0 1 0 main\nthread 2 0 0 0 0 1 1 0 0 0 0 main.child\nend\n",
         line: 4,
     },
     Refused {
-        script: ROW_2,
+        script: JOINED,
         text: "pthsnap 1\nsteps 9\nplace open\nnow 1\nturn 1\nfavour 1\nnamed 0\nthread 1 3 0 0 0 1 1 0 0 1 0 main\nthread 2 0 0 0 0 1 1 0 0 0 0 main.child\nend\n",
         line: 2,
     },
     Refused {
-        script: ROW_2,
+        script: JOINED,
         text: "pthsnap 1\nsteps 1\nplace open\nnow 1\nturn 1\nfavour 1\nnamed 0\nthread 1 3 0 0 0 1 1 0 0 1 0 main\nthread 2 0 0 0 0 1 1 0 0 0 0 main.child\nend\n",
         line: 3,
     },
