@@ -45,7 +45,7 @@ impl CallLine {
     ghost use Rattle.pth_line.specs.LineCalls.{call_in};
 
     /// The call that the line makes.
-    pub(crate) fn call(&self, frame: &Frame, cells: &Cells) -> Result<Call, OutOfMemory>
+    pub fn call(&self, frame: &Frame, cells: &Cells) -> Result<Call, OutOfMemory>
         ensures { IfOk result (λ call. call ≡ call_in (scope frame.now cells.now) self.now) }
     {
         match self {

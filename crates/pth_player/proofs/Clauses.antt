@@ -15,12 +15,15 @@ use Rattle.pth_script.specs.Broken.{IsAccepted}
 use Rattle.pth_script.proofs.Once.{not_both}
 use Rattle.pth_text.specs.declared.rule.Breach.{Breach}
 use Rattle.pth_command.specs.CommandLine.{Asked}
-use Rattle.pth_player.specs.Objects.{AreHeld, ObjectRead, ObjectRose, ObjectStood, Scene, asked_object, content, cut}
+use Rattle.pth_streams.specs.Inputs.{AreHeld}
+use Rattle.pth_streams.specs.Scene.{Scene}
+use Rattle.pth_player.specs.Objects.{ObjectRead, ObjectRose, ObjectStood, asked_object, content, cut}
 use Rattle.pth_player.specs.Output.{IsRefused, outcome_status, refusal}
-use Rattle.pth_player.specs.Play.{Completes, Ends, WritesScript, done_status, Faults, HoldsNoScript, IsAtHand, IsFaultStatus, IsOutputStatus, IsRunStatus, IsUnwritten, Plays, Ran, RanFor, ReadsWhole, RefusesInput, RefusesWords, Reports, TellsFault, TopCall, WritesFault, WritesLine, WritesOutput, WritesPart, WritesPrefix, WritesWhole}
-use Rattle.pth_player.specs.Streams.{AppendsPrefix, Received}
+use Rattle.pth_streams.specs.Pieces.{IsUnwritten, WritesLine}
+use Rattle.pth_player.specs.Play.{Completes, Ends, WritesScript, done_status, Faults, HoldsNoScript, IsAtHand, IsFaultStatus, IsOutputStatus, IsRunStatus, Plays, Ran, RanFor, ReadsWhole, RefusesInput, RefusesWords, Reports, TellsFault, TopCall, WritesFault, WritesOutput, WritesPart, WritesPrefix, WritesWhole}
+use Rattle.pth_streams.specs.Pieces.{AppendsPrefix, Received}
 use Rattle.pth_player.proofs.Outputs.{no_fault, refused_output, script_accepted, script_output, words_output}
-use Rattle.pth_player.proofs.Pieces.{all_of, none_after, part_is_prefix}
+use Rattle.pth_streams.proofs.Pieces.{all_of, none_after, part_is_prefix}
 use Rattle.pth_player.proofs.Reading.{read_stood}
 use Rattle.pth_player.proofs.Results.{always, told}
 

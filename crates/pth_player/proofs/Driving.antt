@@ -25,11 +25,12 @@ use Rattle.pth_threads.specs.Threads.{number_of}
 use Rattle.pth_command.specs.CommandLine.{Asked}
 use Rattle.pth_player.specs.Drive.{Drives}
 use Rattle.pth_player.specs.Output.{Output, IsRunOutput, told_output}
-use Rattle.pth_player.specs.Streams.{AppendsPart, AppendsPrefix, received}
-use Rattle.pth_player.specs.Transcript.{WritesPiece, counts_of, ending_of, last_line, lines_of, shown_of}
+use Rattle.pth_streams.specs.Pieces.{AppendsPart, AppendsPrefix, received}
+use Rattle.pth_streams.specs.Pieces.{WritesPiece}
+use Rattle.pth_player.specs.Transcript.{counts_of, ending_of, last_line, lines_of, shown_of}
 use Rattle.pth_player.proofs.Beginnings.{run_begins, shown_more, text_parts}
 use Rattle.pth_player.proofs.Results.{err_is}
-use Rattle.pth_player.proofs.Pieces.{none_of, part_is_prefix, part_then, prefix_then}
+use Rattle.pth_streams.proofs.Pieces.{none_of, part_is_prefix, part_then, prefix_then}
 
 true_false : true ≡ false → ⊥
 true_false h = cc

@@ -17,7 +17,7 @@ use Rattle.pth_player.specs.Output.{Output, IsOutput, IsRunOutput, IsScriptOutpu
 use Rattle.pth_command.specs.CommandLine.{Asked}
 use Rattle.pth_player.specs.Objects.{content, cut}
 use Rattle.pth_player.specs.Play.{IsOutputStatus, TopCall, WritesFault, WritesOutput}
-use Rattle.pth_player.specs.Streams.{AppendsPart}
+use Rattle.pth_streams.specs.Pieces.{AppendsPart}
 
 pub run_once : {P S H : Type 0} (f : P → Functions S H) (g : Given P) (asked : Asked) (one two : Output) → IsRunOutput f g asked one → IsRunOutput f g asked two → one ≡ two
 run_once f g asked one two a b = a.2 ∙ ap (λ (k : ℕ). told_output asked (run f g k)) (goes-once (stops_at f g asked.steps) 0 a.0 b.0 a.1 b.1) ∙ sym b.2

@@ -14,16 +14,18 @@ use Rattle.pth_script.specs.Follows.{IsReadAs, IsRefusedAs}
 use Rattle.pth_script.specs.Upgrade.{IsUpgrade, IsUpgradedAs}
 use Rattle.pth_text.specs.declared.rule.Breach.TheVariants.{Limit, Of}
 use Rattle.pth_player.specs.FaultsOfErrors.{fault_of_read, fault_of_script}
-use Rattle.pth_player.specs.Objects.{AreHeld, Inputs, LosesRead, Object, ObjectCounts, ObjectRead, ObjectStood, cut, nothing, object_named, object_of, the_file, the_input, the_workload}
+use Rattle.pth_streams.specs.Inputs.{AreHeld, Inputs}
+use Rattle.pth_player.specs.Objects.{LosesRead, Object, ObjectCounts, ObjectRead, ObjectStood, cut, nothing, object_named, object_of, the_file, the_input, the_workload}
 use Rattle.pth_script.specs.Broken.{IsRefusal}
 use Rattle.pth_command.specs.CommandLine.{IsWorkload}
 use Rattle.pth_script.specs.Generated.{generated}
 use Rattle.pth_script.specs.Limits.{text_limit}
 use Rattle.pth_script.proofs.Generating.{generated_short}
 use Rattle.pth_player.specs.Play.{IsRead, ReadsBytes, ReadsText}
-use Rattle.pth_player.specs.Streams.{CountsRead, TakesUpTo}
-use Rattle.pth_player.specs.declared.streams.ReadFault.{ReadFault}
-use Rattle.pth_player.specs.declared.streams.ReadFault.TheVariants as read
+use Rattle.pth_streams.specs.Faults.{CountsRead}
+use Rattle.pth_player.specs.Streams.{TakesUpTo}
+use Rattle.pth_streams.specs.declared.source.ReadFault.{ReadFault}
+use Rattle.pth_streams.specs.declared.source.ReadFault.TheVariants as read
 use Rattle.pth_script.specs.declared.read.ReadErr.{ReadErr}
 use Rattle.pth_script.specs.declared.read.ReadErr.TheVariants as script
 use Rattle.pth_player.proofs.Results.{err_and, err_is, ok_not_err, told}

@@ -14,11 +14,13 @@ use Rattle.pth_command.specs.declared.command_line.WordsErr.{WordsErr}
 use Rattle.pth_command.specs.declared.command_line.WordsErr.TheVariants as words
 use Rattle.pth_player.specs.FaultsOfErrors.{fault_of_sink, fault_of_words}
 use Rattle.pth_player.specs.Drive.{Drives}
-use Rattle.pth_player.specs.Objects.{Inputs, Object, ObjectRead, ObjectStood, OthersUntouched, Scene, asked_object, cut, nothing, scene, the_file, the_input, the_workload}
+use Rattle.pth_streams.specs.Inputs.{Inputs}
+use Rattle.pth_streams.specs.Scene.{Scene, scene}
+use Rattle.pth_player.specs.Objects.{Object, ObjectRead, ObjectStood, OthersUntouched, asked_object, cut, nothing, the_file, the_input, the_workload}
 use Rattle.pth_player.specs.Output.{given_script, outcome_status, told_output, upgrade_output}
 use Rattle.pth_player.specs.Play.{IsRead, Ran, RanFor, ReadsText, WritesScript, done_status}
-use Rattle.pth_player.specs.Streams.{Received}
-use Rattle.pth_player.specs.Transcript.{WritesPiece}
+use Rattle.pth_streams.specs.Pieces.{Received}
+use Rattle.pth_streams.specs.Pieces.{WritesPiece}
 use Rattle.pth_player.specs.declared.done.Done.{Done}
 use Rattle.pth_player.specs.declared.done.Done.TheVariants as done
 use Rattle.pth_script.specs.Upgrade.{IsUpgrade, upgraded}

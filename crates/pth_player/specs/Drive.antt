@@ -11,7 +11,7 @@ use Rattle.pth_model.specs.State.{Given}
 use Rattle.pth_model.specs.Run.{run, GoesTo, IsBetween}
 use Rattle.pth_command.specs.CommandLine.{Asked}
 use Rattle.pth_player.specs.Output.{Output, IsRunOutput, told_output}
-use Rattle.pth_player.specs.Streams.{AppendsPart, AppendsPrefix, Received}
+use Rattle.pth_streams.specs.Pieces.{AppendsPart, AppendsPrefix, Received}
 
 -- The run stops with this outcome, and the text of its output was written. If the sink failed a part of it was written, and
 -- one fault counted; if memory ended a beginning.

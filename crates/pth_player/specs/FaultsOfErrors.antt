@@ -8,8 +8,8 @@ use Rattle.pth_script.specs.declared.read.ReadErr.{ReadErr}
 use Rattle.pth_script.specs.declared.read.ReadErr.TheVariants as script
 use Rattle.pth_command.specs.declared.command_line.WordsErr.{WordsErr}
 use Rattle.pth_command.specs.declared.command_line.WordsErr.TheVariants as words
-use Rattle.pth_player.specs.declared.streams.ReadFault.{ReadFault}
-use Rattle.pth_player.specs.declared.streams.ReadFault.TheVariants as read
+use Rattle.pth_streams.specs.declared.source.ReadFault.{ReadFault}
+use Rattle.pth_streams.specs.declared.source.ReadFault.TheVariants as read
 
 abbrev pub fault_of_words : WordsErr → Fault
 fault_of_words words.Refused = fault.Words

@@ -2,41 +2,17 @@
 use Rattle.std.specs.Prelude.{◌≡◌, ◌+◌, ℕ, List, [], Option, Some, None, IfSome, Result, Ok, Err, codes, drop, take, if◌then◌else◌}
 use Rattle.std.specs.Str.{bytes_eq}
 use Rattle.pth_streams.specs.Faults.{Rose}
+use Rattle.pth_streams.specs.Inputs.{Inputs}
+use Rattle.pth_streams.specs.Scene.{Scene}
 use Rattle.pth_script.specs.Generated.{generated}
 use Rattle.pth_script.specs.Limits.{text_limit}
 use Rattle.pth_command.specs.CommandLine.{Asked}
-use Rattle.pth_player.specs.Streams.{Received}
-use Rattle.pth_player.specs.declared.streams.ReadFault.{ReadFault}
-use Rattle.pth_player.specs.declared.streams.ReadFault.TheVariants as read
+use Rattle.pth_streams.specs.declared.source.ReadFault.{ReadFault}
+use Rattle.pth_streams.specs.declared.source.ReadFault.TheVariants as read
 
 -- the bytes of an input as far as they are read: to the byte after those that it may have
 abbrev pub cut : List ℕ → List ℕ
 cut bytes = take (text_limit + 1) bytes
-
--- what the input and the files tell at a moment
-pub record Inputs : Type 0 where
-  pub left : Option (List ℕ)
-  pub faults : ℕ
-  pub file_left : Option (List ℕ)
-  pub held : List ℕ → Option (List ℕ)
-  pub file_faults : ℕ
-
--- and what the output tells beside them
-pub record Scene : Type 0 where
-  pub ins : Inputs
-  pub out : Received
-
-abbrev pub inputs : Option (List ℕ) → ℕ → Option (List ℕ) → (List ℕ → Option (List ℕ)) → ℕ → Inputs
-inputs left faults file_left held file_faults = record {
-  left = left;
-  faults = faults;
-  file_left = file_left;
-  held = held;
-  file_faults = file_faults;
-}
-
-abbrev pub scene : Inputs → Received → Scene
-scene ins out = record { ins = ins; out = out }
 
 -- ---- the object read
 
@@ -109,7 +85,3 @@ abbrev pub ObjectCounts : {T : Type 0} → Object → Inputs → Inputs → Resu
 ObjectCounts object old new (Ok x) = ObjectStood object old new
 ObjectCounts object old new (Err read.Failed) = ObjectRose object old new
 ObjectCounts object old new (Err read.OutOfMemory) = ObjectStood object old new
-
--- these are the bytes that the object read holds, if that is told, and some bytes if it is not
-abbrev pub AreHeld : Option (List ℕ) → List ℕ → Type 0
-AreHeld held bytes = IfSome held (λ xs. bytes ≡ xs)

@@ -14,10 +14,11 @@ use Rattle.pth_line.specs.Script.{Sections}
 use Rattle.pth_script.specs.Broken.{IsRefusal}
 use Rattle.pth_text.specs.declared.rule.Breach.{Breach}
 use Rattle.pth_command.specs.CommandLine.{Asked}
-use Rattle.pth_player.specs.Objects.{AreHeld, Inputs, Object, ObjectRead, ObjectRose, ObjectStood, Scene, asked_object, content, cut, content_of}
-use Rattle.pth_player.specs.Streams.{AppendsPart, AppendsPrefix, Received}
+use Rattle.pth_streams.specs.Inputs.{AreHeld, Inputs}
+use Rattle.pth_streams.specs.Scene.{Scene}
+use Rattle.pth_player.specs.Objects.{Object, ObjectRead, ObjectRose, ObjectStood, asked_object, content, cut, content_of}
+use Rattle.pth_streams.specs.Pieces.{AppendsPart, AppendsPrefix, IsUnwritten, Received, WritesLine, WritesPiece}
 use Rattle.pth_player.specs.Output.{Output, IsScriptOutput, IsTheOutput, IsRefused, IsTheScript, given_script, outcome_status}
-use Rattle.pth_player.specs.Transcript.{WritesPiece}
 
 -- ---- the parts of the call
 
@@ -62,10 +63,6 @@ abbrev pub WritesScript : Asked → Scene → Scene → Result Done SinkErr → 
 WritesScript asked old new r =
     (out : Output) × HoldsScript asked old out × IfOk r (λ d. out.status ≡ done_status d) × WritesPiece old.out new.out out.text r
 
--- nothing was written, and no write failed
-abbrev pub IsUnwritten : Received → Received → Type 0
-IsUnwritten old new = Appends old.written new.written [] × (new.faults ≡ old.faults)
-
 -- what was done for these words but for the line of a fault
 abbrev pub RanFor : Asked → Scene → Scene → Result Done Fault → Type 0
 RanFor asked old new (Ok d) = ObjectRead (asked_object (Some asked)) old.ins new.ins × WritesScript asked old new (Ok d)
@@ -83,11 +80,6 @@ Ran (Some asked) old new r = RanFor asked old new r
 Ran None old new (Err fault.Words) = IsUnwritten old.out new.out
 Ran None old new (Err fault.OutOfMemory) = IsUnwritten old.out new.out
 Ran None old new r = ⊥
-
--- the line was written whole, or a part of it and one fault counted
-abbrev pub WritesLine : Received → Received → List ℕ → Type 0
-WritesLine old new line =
-    (Appends old.written new.written line × (new.faults ≡ old.faults)) ⊎ (AppendsPart old.written new.written line × Rose old.faults new.faults)
 
 -- the fault is reported by its status and its line, or memory ran out for the line
 abbrev pub Reports : Fault → ℕ → Received → Received → Type 0

@@ -1,17 +1,12 @@
 -- The text of a run, and what is written of it.
-use Rattle.std.specs.Prelude.{◌≡◌, ◌++◌, ℕ, Bool, List, [], Result, Ok, Err, flat_map, if◌then◌else◌}
-use Rattle.std.specs.Io.KnownBytes.{Appends}
-use Rattle.pth_streams.specs.Faults.{Rose}
+use Rattle.std.specs.Prelude.{◌++◌, ℕ, Bool, List, [], flat_map, if◌then◌else◌}
 use Rattle.pth_base.specs.declared.mark.Mark.{Mark}
-use Rattle.pth_streams.specs.declared.sink.SinkErr.{SinkErr}
-use Rattle.pth_streams.specs.declared.sink.SinkErr.TheVariants as sink
 use Rattle.pth_model.specs.Course.{Course}
 use Rattle.pth_model.specs.Living.{live}
 use Rattle.pth_model.specs.State.{now_of}
 use Rattle.pth_print.specs.MarkLines.{mark_line}
 use Rattle.pth_print.specs.EndLines.{end_line, summary_line}
 use Rattle.pth_command.specs.CommandLine.{Asked}
-use Rattle.pth_player.specs.Streams.{AppendsPart, AppendsPrefix, Received}
 
 -- the lines of marks, with what an audit tells of dispatches if one is asked for
 abbrev pub lines_of : (audit : Bool) → List Mark → List ℕ
@@ -42,9 +37,3 @@ module _ {P S H : Type 0} where
   -- what is written after all marks
   abbrev pub ending_of : Asked → Course P S H → List ℕ
   ending_of asked c = counts_of asked c ++ last_line asked.steps c
-
--- the piece was written whole, or not the whole of it if the sink failed, or a beginning if memory ran out
-abbrev pub WritesPiece : {T : Type 0} → Received → Received → List ℕ → Result T SinkErr → Type 0
-WritesPiece old new piece (Ok x) = Appends old.written new.written piece × (new.faults ≡ old.faults)
-WritesPiece old new piece (Err sink.Failed) = AppendsPart old.written new.written piece × Rose old.faults new.faults
-WritesPiece old new piece (Err sink.OutOfMemory) = AppendsPrefix old.written new.written piece × (new.faults ≡ old.faults)

@@ -7,10 +7,10 @@ ghost use Rattle.pth_model.specs.State.{Given};
 ghost use Rattle.pth_sched.specs.Running.{GoesOn, Stands, StandsAt};
 ghost use Rattle.pth_command.specs.CommandLine.{asked_of};
 ghost use Rattle.pth_player.specs.Drive.{Drives, TellsFewer};
-ghost use Rattle.pth_player.specs.Streams.{received};
-ghost use Rattle.pth_player.specs.Transcript.{counts_of, ending_of, lines_of, shown_of, WritesPiece};
+ghost use Rattle.pth_streams.specs.Pieces.{received};
+ghost use Rattle.pth_streams.specs.Pieces.{WritesPiece};
+ghost use Rattle.pth_player.specs.Transcript.{counts_of, ending_of, lines_of, shown_of};
 
-use crate::streams::write_all;
 use pth_base::mark::Mark;
 use pth_base::marks::Marks;
 use pth_base::memory::OutOfMemory;
@@ -22,6 +22,7 @@ use pth_print::mark_line::mark_line;
 use pth_print::summary_line::summary_line;
 use pth_sched::machine::Machine;
 use pth_streams::sink::{Sink, SinkErr};
+use pth_streams::write_all::write_all;
 use pth_text::text::Text;
 use std::alloc::Global;
 

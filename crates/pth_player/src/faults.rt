@@ -3,11 +3,11 @@
 ghost use Rattle.std.specs.Prelude.{◌≡◌};
 ghost use Rattle.pth_player.specs.FaultsOfErrors.{fault_of_read, fault_of_script, fault_of_sink, fault_of_words};
 
-use crate::streams::ReadFault;
 use pth_command::command_line::WordsErr;
 use pth_print::fault_line::Fault;
 use pth_script::read::ReadErr;
 use pth_streams::sink::SinkErr;
+use pth_streams::source::ReadFault;
 use pth_text::rule::Breach;
 
 pub fn fault_of_words(e: WordsErr) -> Fault

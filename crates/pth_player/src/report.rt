@@ -1,11 +1,11 @@
 //! What is told of a fault.
 
 ghost use Rattle.pth_player.specs.Play.{Reports};
-ghost use Rattle.pth_player.specs.Streams.{received};
+ghost use Rattle.pth_streams.specs.Pieces.{received};
 
-use crate::streams::write_all;
 use pth_print::fault_line::{Fault, fault_line};
 use pth_streams::sink::{Sink, SinkErr};
+use pth_streams::write_all::write_all;
 use pth_text::text::Text;
 use std::alloc::Global;
 

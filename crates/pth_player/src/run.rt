@@ -5,16 +5,17 @@ ghost use Rattle.pth_base.specs.Limits.{most_steps, IsGreatestPriority};
 ghost use Rattle.pth_line.specs.Script.{functions_of};
 ghost use Rattle.pth_command.specs.CommandLine.{IsWorkload, asked_by, asked_of};
 ghost use Rattle.pth_sched.specs.Running.{StandsAt};
-ghost use Rattle.pth_player.specs.Objects.{asked_object, inputs, scene, OthersUntouched};
+ghost use Rattle.pth_streams.specs.Inputs.{inputs};
+ghost use Rattle.pth_streams.specs.Scene.{scene};
+ghost use Rattle.pth_player.specs.Objects.{asked_object, OthersUntouched};
 ghost use Rattle.pth_player.specs.Output.{given_script};
 ghost use Rattle.pth_player.specs.Play.{Ran, RanFor};
-ghost use Rattle.pth_player.specs.Streams.{received};
+ghost use Rattle.pth_streams.specs.Pieces.{received};
 
 use crate::done::Done;
 use crate::drive::drive;
 use crate::faults::{fault_of_sink, fault_of_words};
 use crate::script::{read_script, read_upgrade};
-use crate::streams::write_all;
 use pth_base::memory::OutOfMemory;
 use pth_command::choice::Choice;
 use pth_command::command_line::read_words;
@@ -25,6 +26,7 @@ use pth_sched::machine::Machine;
 use pth_streams::files::Files;
 use pth_streams::sink::Sink;
 use pth_streams::source::Source;
+use pth_streams::write_all::write_all;
 use std::alloc::Global;
 
 // How many steps are made between two writes.

@@ -3,14 +3,16 @@
 ghost use Rattle.std.specs.Prelude.{◌≡◌, IfOk, IfSome, Some, option_map};
 ghost use Rattle.pth_base.specs.Limits.{IsGreatestPriority};
 ghost use Rattle.pth_command.specs.CommandLine.{IsWorkload, asked_of};
-ghost use Rattle.pth_player.specs.Objects.{asked_object, inputs, object_named, ObjectCounts, OthersUntouched};
-ghost use Rattle.pth_player.specs.Streams.{CountsRead, TakesUpTo};
+ghost use Rattle.pth_streams.specs.Inputs.{inputs};
+ghost use Rattle.pth_player.specs.Objects.{asked_object, object_named, ObjectCounts, OthersUntouched};
+ghost use Rattle.pth_streams.specs.Faults.{CountsRead};
+ghost use Rattle.pth_player.specs.Streams.{TakesUpTo};
 ghost use Rattle.pth_player.specs.Play.{IsRead, ReadsBytes, ReadsText};
 ghost use Rattle.pth_script.specs.Generated.{generated};
 ghost use Rattle.pth_script.specs.Upgrade.{IsUpgrade};
 
 use crate::faults::{fault_of_read, fault_of_script};
-use crate::streams::{ReadFault, read_started, read_up_to};
+use crate::streams::{read_started, read_up_to};
 use pth_base::bytes::Bytes;
 use pth_base::memory::OutOfMemory;
 use pth_command::choice::Choice;
@@ -22,7 +24,7 @@ use pth_script::limits::TEXT_LIMIT;
 use pth_script::read::read;
 use pth_script::upgrade::upgrade;
 use pth_streams::files::Files;
-use pth_streams::source::Source;
+use pth_streams::source::{ReadFault, Source};
 use std::alloc::Global;
 
 /// The bytes of a file.

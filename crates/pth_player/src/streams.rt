@@ -1,35 +1,15 @@
-//! A source or a file read to its end, and a piece written whole.
+//! A source or a file read to its end.
 
-ghost use Rattle.std.specs.Prelude.{◌≡◌, [], IfOk, OnOk, OnErr, true};
-ghost use Rattle.std.specs.Io.KnownBytes.{Appends};
-ghost use Rattle.pth_streams.specs.Faults.{CountsSink};
-ghost use Rattle.pth_player.specs.Streams.{TakesUpTo, CountsRead, AppendsPart};
+ghost use Rattle.std.specs.Prelude.{◌≡◌, IfOk, true};
+ghost use Rattle.pth_streams.specs.Faults.{CountsRead};
+ghost use Rattle.pth_player.specs.Streams.{TakesUpTo};
 
 use pth_streams::files::Files;
-use pth_streams::sink::{Sink, SinkErr};
-use pth_streams::source::Source;
-use std::alloc::{AllocError, Global};
+use pth_streams::source::{ReadFault, Source};
+use std::alloc::Global;
 
 // How many bytes one read asks for.
 const BUFFER: usize = 4096;
-
-/// Why a source was not read to its end.
-#[derive(Clone, Copy)]
-pub enum ReadFault {
-    Failed,
-    OutOfMemory,
-}
-
-impl From<AllocError> for ReadFault {
-    ghost use Rattle.std.specs.Prelude.{◌≡◌};
-    ghost use Rattle.pth_player.specs.declared.streams.ReadFault.TheVariants as read_fault;
-
-    ghost from_gives = { λ _ e. e ≡ read_fault.OutOfMemory };
-
-    fn from(_e: AllocError) -> ReadFault {
-        ReadFault::OutOfMemory
-    }
-}
 
 /// The bytes of a source, as many as `cap` or all there are.
 pub fn read_up_to<S: Source>(
@@ -80,18 +60,4 @@ pub fn read_started<F: Files>(
         bytes.extend_from_slice(&piece[..n])?;
     }
     Ok(bytes)
-}
-
-/// Writes a piece whole, a part at a time. Nothing is written of an empty piece.
-pub fn write_all<O: Sink>(out: &mut O, bytes: &[u8]) -> Result<(), SinkErr>
-    ensures whole { OnOk result (Appends (O.written out.old) (O.written out.new) bytes.now) }
-    ensures part { OnErr result (AppendsPart (O.written out.old) (O.written out.new) bytes.now) }
-    ensures counts { CountsSink (O.faults out.old) (O.faults out.new) result }
-    ensures empty { bytes.now ≡ [] → out.new ≡ out.old }
-{
-    let mut at = 0;
-    while at < bytes.len() {
-        at += out.write(&bytes[at..])?;
-    }
-    Ok(())
 }

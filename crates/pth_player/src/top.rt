@@ -2,9 +2,11 @@
 
 ghost use Rattle.std.specs.Prelude.{◌≡◌, ◌≤◌, map, string_bytes};
 ghost use Rattle.pth_command.specs.CommandLine.{asked_by};
-ghost use Rattle.pth_player.specs.Objects.{asked_object, inputs, scene, OthersUntouched};
+ghost use Rattle.pth_streams.specs.Inputs.{inputs};
+ghost use Rattle.pth_streams.specs.Scene.{scene};
+ghost use Rattle.pth_player.specs.Objects.{asked_object, OthersUntouched};
 ghost use Rattle.pth_player.specs.Play.{Ends, Plays};
-ghost use Rattle.pth_player.specs.Streams.{received};
+ghost use Rattle.pth_streams.specs.Pieces.{received};
 
 use crate::done::Done;
 use crate::report::report_fault;

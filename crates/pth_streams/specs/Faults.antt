@@ -1,5 +1,7 @@
 -- Counts of faults, and what an answer says of the count of an object.
 use Rattle.std.specs.Prelude.{◌≡◌, ◌+◌, ◌-◌, ◌^◌, ℕ, min, Result, Ok, Err}
+use Rattle.pth_streams.specs.declared.source.ReadFault.{ReadFault}
+use Rattle.pth_streams.specs.declared.source.ReadFault.TheVariants as read
 use Rattle.pth_streams.specs.declared.sink.SinkErr.{SinkErr}
 use Rattle.pth_streams.specs.declared.sink.SinkErr.TheVariants as sink
 
@@ -17,3 +19,9 @@ abbrev pub CountsSink : {T : Type 0} → ℕ → ℕ → Result T SinkErr → Ty
 CountsSink before now (Ok x) = now ≡ before
 CountsSink before now (Err sink.Failed) = Rose before now
 CountsSink before now (Err sink.OutOfMemory) = now ≡ before
+
+-- the count of faults rises by one if a read failed, and stands still otherwise
+abbrev pub CountsRead : {T : Type 0} → ℕ → ℕ → Result T ReadFault → Type 0
+CountsRead before now (Ok x) = now ≡ before
+CountsRead before now (Err read.Failed) = Rose before now
+CountsRead before now (Err read.OutOfMemory) = now ≡ before

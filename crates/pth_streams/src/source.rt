@@ -5,12 +5,30 @@ ghost use Rattle.std.specs.Io.{ReadsAtMost};
 ghost use Rattle.std.specs.Io.KnownBytes.{ReadConsumes};
 
 use pth_base::memory::OutOfMemory;
-use std::alloc::Global;
+use std::alloc::{AllocError, Global};
 use std::marker::Model;
 
 /// An object of the outside refused a call.
 #[derive(Clone, Copy, Debug, PartialEq, Eq)]
 pub struct Failed;
+
+/// Why a source was not read to its end.
+#[derive(Clone, Copy)]
+pub enum ReadFault {
+    Failed,
+    OutOfMemory,
+}
+
+impl From<AllocError> for ReadFault {
+    ghost use Rattle.std.specs.Prelude.{◌≡◌};
+    ghost use Rattle.pth_streams.specs.declared.source.ReadFault.TheVariants as read_fault;
+
+    ghost from_gives = { λ _ e. e ≡ read_fault.OutOfMemory };
+
+    fn from(_e: AllocError) -> ReadFault {
+        ReadFault::OutOfMemory
+    }
+}
 
 /// What is read from.
 pub trait Source {

@@ -1,8 +1,9 @@
 use Rattle.std.proofs.Common.{Option, map, string_bytes, subst, sym}
 use Rattle.pth_command.specs.CommandLine.{Asked, asked_by, asked_of}
 use Rattle.pth_player.proofs.Runs.{is_asked, others_refl, ran_for, unasked}
-use Rattle.pth_player.specs.Objects.{OthersUntouched, asked_object, inputs}
-use Rattle.pth_player.specs.Streams.{received}
+use Rattle.pth_streams.specs.Inputs.{inputs}
+use Rattle.pth_player.specs.Objects.{OthersUntouched, asked_object}
+use Rattle.pth_streams.specs.Pieces.{received}
 use Rattle.pth_player.proofs.run.run.Goals as goal
 
 pub returns-in_err-choice-clause-ran : goal.returns-in_err-choice-clause-ran

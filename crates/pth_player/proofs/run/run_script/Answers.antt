@@ -2,10 +2,11 @@ use Rattle.std.proofs.Common.{Ok, Err}
 use Rattle.pth_command.specs.CommandLine.{asked_of}
 use Rattle.pth_player.proofs.Reading.{read_stood}
 use Rattle.pth_player.proofs.Runs.{drove, told_as, unmade, unread}
-use Rattle.pth_player.specs.Objects.{inputs, scene}
+use Rattle.pth_streams.specs.Inputs.{inputs}
+use Rattle.pth_streams.specs.Scene.{scene}
 use Rattle.pth_player.specs.Output.{given_script}
 use Rattle.pth_player.specs.Play.{IsRead}
-use Rattle.pth_player.specs.Streams.{received}
+use Rattle.pth_streams.specs.Pieces.{received}
 use Rattle.pth_player.proofs.run.run_script.Goals as goal
 
 pub returns-in_err-read-clause-ran : goal.returns-in_err-read-clause-ran

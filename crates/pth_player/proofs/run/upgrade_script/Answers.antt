@@ -3,8 +3,9 @@ use Rattle.pth_command.specs.CommandLine.{asked_of}
 use Rattle.pth_script.specs.Upgrade.{IsUpgrade}
 use Rattle.pth_player.proofs.Driving.{piece_of}
 use Rattle.pth_player.proofs.Runs.{told_as, unread, wrote_upgrade}
-use Rattle.pth_player.specs.Objects.{inputs, scene}
-use Rattle.pth_player.specs.Streams.{received}
+use Rattle.pth_streams.specs.Inputs.{inputs}
+use Rattle.pth_streams.specs.Scene.{scene}
+use Rattle.pth_streams.specs.Pieces.{received}
 use Rattle.pth_player.proofs.run.upgrade_script.Goals as goal
 
 pub returns-in_err-text-clause-ran : goal.returns-in_err-text-clause-ran

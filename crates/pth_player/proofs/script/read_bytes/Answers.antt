@@ -1,5 +1,6 @@
 use Rattle.std.proofs.Common.{IfOk, option_map, subst, sym}
-use Rattle.pth_player.specs.Objects.{ObjectCounts, OthersUntouched, inputs}
+use Rattle.pth_streams.specs.Inputs.{inputs}
+use Rattle.pth_player.specs.Objects.{ObjectCounts, OthersUntouched}
 use Rattle.pth_player.specs.Play.{ReadsBytes}
 use Rattle.pth_player.proofs.Reading.{named_object, workload_bytes}
 use Rattle.pth_player.proofs.Runs.{others_refl, stood_refl}

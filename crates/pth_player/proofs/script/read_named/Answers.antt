@@ -1,7 +1,8 @@
 use Rattle.std.proofs.Common.{◌≡◌, List, ℕ, codes, not, option_map, IfOk, refl, sym, subst, true, false}
 use Rattle.std.specs.Borrow.{Bor}
 use Rattle.std.specs.Str.{bytes_eq}
-use Rattle.pth_player.specs.Objects.{Object, ObjectCounts, OthersUntouched, inputs, object_named, the_input}
+use Rattle.pth_streams.specs.Inputs.{inputs}
+use Rattle.pth_player.specs.Objects.{Object, ObjectCounts, OthersUntouched, object_named, the_input}
 use Rattle.pth_player.specs.Streams.{TakesUpTo}
 use Rattle.pth_player.specs.Play.{ReadsBytes}
 use Rattle.pth_player.proofs.Reading.{file_bytes, file_counts, input_bytes, input_counts, names_file, names_input, names_none}

@@ -1,8 +1,9 @@
 use Rattle.std.proofs.Common.{map, string_bytes}
 use Rattle.pth_command.specs.CommandLine.{asked_by}
 use Rattle.pth_player.proofs.Clauses.{plays}
-use Rattle.pth_player.specs.Objects.{inputs, scene}
-use Rattle.pth_player.specs.Streams.{received}
+use Rattle.pth_streams.specs.Inputs.{inputs}
+use Rattle.pth_streams.specs.Scene.{scene}
+use Rattle.pth_streams.specs.Pieces.{received}
 use Rattle.pth_player.proofs.top.play.Goals as goal
 
 pub returns-clause-plays : goal.returns-clause-plays

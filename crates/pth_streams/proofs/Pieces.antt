@@ -4,7 +4,7 @@ use Rattle.std.proofs.lemmas.List.{take_rest, length-drop}
 use Rattle.std.proofs.Math.Seq.{take-add}
 use Rattle.std.proofs.KnownBytes.{Appends-nil, Appends-trans, Appends-kept}
 use Rattle.std.specs.Io.KnownBytes.{Appends, Keeps}
-use Rattle.pth_player.specs.Streams.{AppendsPart, AppendsPrefix, Toward}
+use Rattle.pth_streams.specs.Pieces.{AppendsPart, AppendsPrefix, Toward}
 
 -- a part of `xs[i..]`, after what stands
 pub append_rest : (a b c : Option (List ℕ)) (xs : List ℕ) (i n : ℕ) → Appends a b (take i xs) → Appends b c (take n (take (length xs - i) (drop i xs)))

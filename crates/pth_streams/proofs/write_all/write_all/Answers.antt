@@ -1,7 +1,7 @@
 use Rattle.std.proofs.Common.{◌∙◌}
-use Rattle.pth_player.proofs.Pieces.{append_rest, is_not_empty, part_at, rest_within}
+use Rattle.pth_streams.proofs.Pieces.{append_rest, is_not_empty, part_at, rest_within}
 use Rattle.pth_base.proofs.Results.{on_err}
-use Rattle.pth_player.proofs.streams.write_all.Goals as goal
+use Rattle.pth_streams.proofs.write_all.write_all.Goals as goal
 
 pub returns-in_err-at-clause-part : goal.returns-in_err-at-clause-part
 returns-in_err-at-clause-part g c =
