@@ -1,0 +1,2 @@
+pub mod LineFound
+pub mod Takings

@@ -1,0 +1,14 @@
+use Rattle.std.proofs.Common.{◌≡◌, []}
+use Rattle.pth_transcript.specs.Taking.{IsStarted, OtherStays, Takes, ahead, of_read}
+use Rattle.pth_transcript.proofs.lines.Lines.take_further.Given as goal
+
+abbrev pub invariant-loop : goal.invariant-loop
+invariant-loop g l = record {
+  started : IsStarted l.self.of_file (g.F.Files.started l.files);
+  same : l.self.of_file ≡ l.fn.self.of_file;
+  takes : Takes (ahead l.fn.self.unread (of_read l.fn.self.of_file (g.S.Source.left l.fn.input) (g.F.Files.left l.fn.files)))
+      (ahead l.self.unread (of_read l.fn.self.of_file (g.S.Source.left l.input) (g.F.Files.left l.files))) [];
+  stood : of_read l.fn.self.of_file (g.S.Source.faults l.input) (g.F.Files.faults l.files)
+      ≡ of_read l.fn.self.of_file (g.S.Source.faults l.fn.input) (g.F.Files.faults l.fn.files);
+  other : OtherStays l.fn.self.of_file l.fn.input l.input l.fn.files l.files;
+}

@@ -1,0 +1,5 @@
+pub mod Transcript
+pub mod Taking
+pub mod FaultLines
+pub mod Reading
+pub mod Threads

@@ -1,0 +1,37 @@
+-- What a reader of a transcript answers.
+use Rattle.std.specs.Prelude.{◌≡◌, ◌+◌, ◌-◌, ◌^◌, ℕ, List, min, Result, Err}
+use Rattle.pth_streams.specs.Faults.{Rose}
+use Rattle.pth_streams.specs.declared.source.ReadFault.{ReadFault}
+use Rattle.pth_streams.specs.declared.source.ReadFault.TheVariants as read
+use Rattle.pth_transcript.specs.Transcript.{ending_line, told_line}
+use Rattle.pth_transcript.specs.declared.fault.Fault.{Fault}
+use Rattle.pth_transcript.specs.declared.fault.Fault.TheVariants as fault
+use Rattle.pth_transcript.specs.declared.reader.Part.{Part}
+use Rattle.pth_transcript.specs.declared.reader.Part.TheVariants as part
+
+-- the line of a part
+abbrev pub part_line : Part → List ℕ
+part_line (part.Mark told) = told_line told
+part_line (part.Ending ending) = ending_line ending
+
+-- the number of the next line after so many, up to the last value of a `u64`
+abbrev pub next_line : ℕ → ℕ
+next_line lines = min (lines + 1) (2 ^ 64 - 1)
+
+-- the fault of a read
+abbrev pub fault_of : ReadFault → Fault
+fault_of read.Failed = fault.ReadFault
+fault_of read.OutOfMemory = fault.OutOfMemory
+
+-- after so many lines a reader comes to this fault: a line that is refused is the next one
+abbrev pub ComesTo : ℕ → Fault → Type 0
+ComesTo lines (fault.NoTranscript line) = line ≡ next_line lines
+ComesTo lines fault.ReadFault = Unit {0}
+ComesTo lines fault.OutOfMemory = Unit {0}
+ComesTo lines fault.Words = ⊥
+ComesTo lines fault.WriteFault = ⊥
+
+-- the count of faults rises by one if a read failed, and stands still otherwise
+abbrev pub CountsFault : {T : Type 0} → ℕ → ℕ → Result T Fault → Type 0
+CountsFault before now (Err fault.ReadFault) = Rose before now
+CountsFault before now r = now ≡ before

@@ -1,0 +1,69 @@
+//! Lines of marks, read.
+
+ghost use Rattle.std.specs.Prelude.{◌≡◌, ◌++◌, IfOk, IfSome, IsTrue, codes};
+ghost use Rattle.pth_transcript.specs.Transcript.{told_line};
+
+use crate::printed::is_line;
+use crate::thread::thread_mark;
+use crate::turn::{moved, turn, woke};
+use pth_base::mark::Mark;
+use pth_base::memory::OutOfMemory;
+use pth_print::mark_line::mark_line;
+use pth_text::text::Text;
+use pth_text::words::words;
+use std::alloc::Global;
+
+/// A line of a transcript: the mark that it tells, and whether it tells of a dispatch how long its thread has waited (`--audit`).
+#[derive(Drop)]
+pub struct Told {
+    pub mark: Mark,
+    pub audit: bool,
+}
+
+/// A mark whose line tells of no audit.
+fn unaudited(mark: Option<Mark>) -> Option<Told> {
+    Some(Told {
+        mark: mark?,
+        audit: false,
+    })
+}
+
+/// What the words of a line tell.
+fn told_by(alloc: Global, words: &[&[u8]]) -> Result<Option<Told>, OutOfMemory> {
+    match words {
+        [b"turn", words @ ..] => Ok(turn(words)),
+        [b"wake", words @ ..] => Ok(unaudited(woke(words))),
+        [b"idle", words @ ..] => Ok(unaudited(moved(words))),
+        _ => Ok(unaudited(thread_mark(alloc, words)?)),
+    }
+}
+
+/// What a line tells, read loosely: it may be printed otherwise.
+fn read_loosely(alloc: Global, line: &[u8]) -> Result<Option<Told>, OutOfMemory> {
+    let words = words(alloc, line)?;
+    told_by(alloc, words.as_slice())
+}
+
+/// Whether a line is printed so.
+fn is_printed(alloc: Global, told: &Told, line: &[u8]) -> Result<bool, OutOfMemory>
+    ensures { IfOk result (λ b. IsTrue b → line.now ++ codes "\n" ≡ told_line told.now) }
+{
+    let mut text = Text::new(alloc);
+    mark_line(&told.mark, told.audit, &mut text)?;
+    Ok(is_line(text.as_slice(), line))
+}
+
+/// The mark that a line tells, without its LF, and `None` if no mark of a script's run is printed so. If a dispatch does not tell
+/// how long its thread has waited, it waited 0 turns and may wait 0.
+pub fn read_line(alloc: Global, line: &[u8]) -> Result<Option<Told>, OutOfMemory>
+    ensures spelled { IfOk result (λ found. IfSome found (λ told. line.now ++ codes "\n" ≡ told_line told)) }
+{
+    let Some(told) = read_loosely(alloc, line)? else {
+        return Ok(None);
+    };
+    if is_printed(alloc, &told, line)? {
+        Ok(Some(told))
+    } else {
+        Ok(None)
+    }
+}
