@@ -1,0 +1,164 @@
+-- From what was read and judged so far to what comes of one line more.
+use Rattle.std.proofs.Common.{◌≡◌, ◌∙◌, ◌⊎◌, ◌+◌, ℕ, List, [], ◌∷◌, ◌++◌, Bool, true, false, Option, Result, Ok, Err, IsErr, IsErrAnd, length, sym, ap, refl, subst, append_assoc, append-nil, inl, inr}
+use Rattle.std.proofs.lemmas.Grind.{flat_map-append}
+use Rattle.std.proofs.lemmas.List.{length-append}
+use Rattle.pth_audit.specs.Verdicts.{BreaksFirst}
+use Rattle.pth_audit.specs.declared.verdict.AuditRule.{AuditRule}
+use Rattle.pth_base.specs.declared.mark.Mark.{Mark}
+use Rattle.pth_checker.specs.Fitting.{FitsEnding}
+use Rattle.pth_checker.specs.Hearing.{ComesTo, GoesOn, HasHeard, HasRead}
+use Rattle.pth_checker.specs.Judged.{BeginsLawfully, HoldsUpTo, HoldsVerdict}
+use Rattle.pth_checker.specs.Judging.{Judges}
+use Rattle.pth_checker.specs.declared.hearing.Hearing.{Hearing}
+use Rattle.pth_checker.specs.declared.judge.Judge.{Judge}
+use Rattle.pth_checker.specs.declared.verdict.Law.TheVariants as law
+use Rattle.pth_checker.specs.declared.verdict.Verdict.{Verdict}
+use Rattle.pth_checker.specs.declared.verdict.Verdict.TheVariants.{Lawful, Unlawful}
+use Rattle.pth_streams.specs.Inputs.{AreHeld}
+use Rattle.pth_transcript.specs.Reading.{ComesTo as ReaderComesTo, next_line, part_line}
+use Rattle.pth_transcript.specs.Taking.{Ahead, IsOver, OtherStays, Takes, ahead, of_read}
+use Rattle.pth_transcript.specs.Transcript.{ending_line, marks_of, told_line, told_lines}
+use Rattle.pth_transcript.specs.declared.ending.Ending.{Ending}
+use Rattle.pth_transcript.specs.declared.fault.Fault.{Fault}
+use Rattle.pth_transcript.specs.declared.fault.Fault.TheVariants as fault
+use Rattle.pth_transcript.specs.declared.reader.Part.{Part}
+use Rattle.pth_transcript.specs.declared.reader.Part.TheVariants as part
+use Rattle.pth_transcript.specs.declared.told.Told.{Told}
+use Rattle.pth_transcript.proofs.Takings.{front, takes_none, takes_then, whole}
+
+-- what a `?` answers
+pub err_is : {T E : Type 0} (r : Result T E) (e : E) → IsErr r → IsErrAnd r (λ x. x ≡ e) → r ≡ Err e
+err_is (Ok x) e h k = cc
+err_is (Err x) e h k = ap Err k
+
+-- ---- one line more
+
+lines_more : (told : List Told) (last : Told) → told_lines (told ++ last ∷ []) ≡ told_lines told ++ told_line last
+lines_more told last = flat_map-append told_line told (last ∷ []) ∙ ap (λ (l : List ℕ). told_lines told ++ l) (append-nil (told_line last))
+
+marks_more : (told : List Told) (last : Told) → marks_of (told ++ last ∷ []) ≡ marks_of told ++ last.mark ∷ []
+marks_more [] last = refl
+marks_more (t ∷ ts) last = ap (λ (ms : List Mark). t.mark ∷ ms) (marks_more ts last)
+
+length_more : (told : List Told) (last : Told) → length (told ++ last ∷ []) ≡ length told + 1
+length_more told last = length-append told (last ∷ [])
+
+-- ---- on the way
+
+-- nothing was read yet
+pub heard_none : (content : Option (List ℕ)) (h : Hearing) → h.reader.unread ≡ [] → h.reader.lines ≡ 0 → Judges h.judge [] → HasHeard content h content []
+heard_none content h none zero judges = record {
+  taken = subst (λ (u : List ℕ). Takes (ahead [] content) (ahead u content) []) (sym none) (takes_none (ahead [] content));
+  counted = zero;
+  judges = judges;
+}
+
+-- one line more was read
+read_more : (content left later : Option (List ℕ)) (h after : Hearing) (told : List Told) (part : Part) → HasHeard content h left told
+    → Takes (ahead h.reader.unread left) (ahead after.reader.unread later) (part_line part) → after.reader.lines ≡ h.reader.lines + 1 → after.judge ≡ h.judge
+    → HasRead content after later told part
+read_more content left later h after told part heard takes lines same = record {
+  taken = takes_then (ahead [] content) (ahead h.reader.unread left) (ahead after.reader.unread later) (told_lines told) (part_line part) heard.taken takes;
+  counted = lines ∙ ap (λ (n : ℕ). n + 1) heard.counted;
+  judges = subst (λ (j : Judge). Judges j (marks_of told)) (sym same) heard.judges;
+}
+
+-- the line that was read is that of this part
+pub read_as : (content left later : Option (List ℕ)) (h after : Hearing) (told : List Told) (found part : Part) → found ≡ part → HasHeard content h left told
+    → Takes (ahead h.reader.unread left) (ahead after.reader.unread later) (part_line found) → after.reader.lines ≡ h.reader.lines + 1 → after.judge ≡ h.judge
+    → HasRead content after later told part
+read_as content left later h after told found part is heard takes lines same =
+    subst (HasRead content after later told) is (read_more content left later h after told found heard takes lines same)
+
+-- what is read is the same object as before
+pub read_of_same : (content input file : Option (List ℕ)) (h : Hearing) (told : List Told) (part : Part) (before now : Bool) → now ≡ before
+    → HasRead content h (of_read before input file) told part → HasRead content h (of_read now input file) told part
+read_of_same content input file h told part before now same read = subst (λ (b : Bool). HasRead content h (of_read b input file) told part) (sym same) read
+
+pub heard_of_same : (content input file : Option (List ℕ)) (h : Hearing) (told : List Told) (before now : Bool) → now ≡ before
+    → HasHeard content h (of_read before input file) told → HasHeard content h (of_read now input file) told
+heard_of_same content input file h told before now same heard = subst (λ (b : Bool). HasHeard content h (of_read b input file) told) (sym same) heard
+
+-- it is the line of a lawful mark
+pub heard_more : (content left : Option (List ℕ)) (h after : Hearing) (told : List Told) (last : Told) → HasRead content h left told (part.Mark last)
+    → after.reader ≡ h.reader → Judges after.judge (marks_of told ++ last.mark ∷ []) → HasHeard content after left (told ++ last ∷ [])
+heard_more content left h after told last read same judges = record {
+  taken = subst (λ (u : List ℕ). Takes (ahead [] content) (ahead u left) (told_lines (told ++ last ∷ []))) (sym (ap (λ r. r.unread) same))
+      (subst (Takes (ahead [] content) (ahead h.reader.unread left)) (sym (lines_more told last)) read.taken);
+  counted = ap (λ r. r.lines) same ∙ read.counted ∙ sym (length_more told last);
+  judges = subst (Judges after.judge) (sym (marks_more told last)) judges;
+}
+
+-- ---- in the end
+
+-- the content begins with what was read
+begins : (content left : Option (List ℕ)) (h : Hearing) (told : List Told) (part : Part) → HasRead content h left told part
+    → (bytes : List ℕ) × (rest : List ℕ) × AreHeld content bytes × BeginsLawfully bytes told (part_line part ++ rest)
+begins content left h told part read =
+    let f = front content (ahead h.reader.unread left) (told_lines told ++ part_line part) read.taken in
+    (f.0, f.1, f.2, record { text = f.3 ∙ append_assoc (told_lines told) (part_line part) f.1; lawful = read.judges.laws.lawful })
+
+module _ (content left : Option (List ℕ)) (h : Hearing) (told : List Told) where
+  pub breaks_law : (last : Told) (rule : AuditRule) (line : ℕ) → HasRead content h left told (part.Mark last) → line ≡ h.reader.lines
+      → BreaksFirst rule (marks_of told ++ last.mark ∷ []) → HoldsVerdict content (Unlawful line (law.Marks rule))
+  breaks_law last rule line read here breaks =
+      let b = begins content left h told (part.Mark last) read in
+      (b.0, b.2, record { told = told; last = last; rest = b.1; begins = b.3; counted = here ∙ read.counted; breaks = breaks })
+
+  pub ends_unfittingly : (ending : Ending) (line : ℕ) → HasRead content h left told (part.Ending ending) → line ≡ h.reader.lines
+      → (FitsEnding (marks_of told) ending → ⊥) → HoldsVerdict content (Unlawful line law.Ending)
+  ends_unfittingly ending line read here unfitting =
+      let b = begins content left h told (part.Ending ending) read in
+      (b.0, b.2, record { told = told; ending = ending; rest = b.1; begins = b.3; counted = here ∙ read.counted; unfitting = unfitting })
+
+  pub ends_lawfully : (ending : Ending) (lines : ℕ) (end : Ahead) → HasRead content h left told (part.Ending ending) → lines ≡ h.reader.lines
+      → IsOver (ahead h.reader.unread left) end → FitsEnding (marks_of told) ending → HoldsVerdict content (Lawful lines)
+  ends_lawfully ending lines end read here over fits =
+      let w = whole content (ahead h.reader.unread left) end (told_lines told ++ ending_line ending) read.taken over in
+      (w.0, w.1, record { told = told; ending = ending; text = w.2; counted = here ∙ read.counted; lawful = read.judges.laws.lawful; fits = fits })
+
+  pub goes_past_ending : (ending : Ending) (line : ℕ) → HasRead content h left told (part.Ending ending) → line ≡ next_line h.reader.lines
+      → FitsEnding (marks_of told) ending → HoldsUpTo content line
+  goes_past_ending ending line read here fits =
+      let b = begins content left h told (part.Ending ending) read in
+      (b.0, b.2, inr (record { told = told; ending = ending; rest = b.1; begins = b.3; counted = here ∙ ap next_line read.counted; fits = fits }))
+
+  refused_at : (line : ℕ) → HasHeard content h left told → line ≡ next_line h.reader.lines → HoldsUpTo content line
+  refused_at line heard here =
+      let f = front content (ahead h.reader.unread left) (told_lines told) heard.taken in
+      (f.0, f.2, inl (record { told = told; rest = f.1; begins = record { text = f.3; lawful = heard.judges.laws.lawful }; counted = here ∙ ap next_line heard.counted }))
+
+  -- the next line could not be read
+  pub not_read : (f : Fault) → HasHeard content h left told → ReaderComesTo h.reader.lines f → ComesTo content (Err f)
+  not_read (fault.NoTranscript line) heard comes = refused_at line heard comes
+  not_read fault.ReadFault heard comes = tt
+  not_read fault.OutOfMemory heard comes = tt
+  not_read fault.Words heard comes = comes
+  not_read fault.WriteFault heard comes = comes
+
+-- a fault of a read behind the ending
+pub not_read_behind : (content : Option (List ℕ)) (f : Fault) → (f ≡ fault.ReadFault) ⊎ (f ≡ fault.OutOfMemory) → ComesTo content (Err f)
+not_read_behind content f (inl same) = subst (λ (g : Fault). ComesTo content (Err g)) (sym same) tt
+not_read_behind content f (inr same) = subst (λ (g : Fault). ComesTo content (Err g)) (sym same) tt
+
+-- what comes of a line by whether there is a verdict
+pub goes_on_as : (content left : Option (List ℕ)) (h : Hearing) (found is : Option Verdict) → found ≡ is → GoesOn content h left (Ok found) → GoesOn content h left (Ok is)
+goes_on_as content left h found is same goes = subst (λ (o : Option Verdict). GoesOn content h left (Ok o)) same goes
+
+-- a `?` goes on with the fault that it met
+pub goes_wrong : (content left : Option (List ℕ)) (h : Hearing) (r : Result (Option Verdict) Fault) (f : Fault) → IsErr r → IsErrAnd r (λ x. x ≡ f)
+    → ComesTo content (Err f) → GoesOn content h left r
+goes_wrong content left h r f err same comes = subst (GoesOn content h left) (sym (err_is r f err same)) comes
+
+-- ---- the objects
+
+-- what is not read is as it was, one time after another
+pub other_then : {S F : Type 0} (file now : Bool) (input later last : S) (files after end : F) → now ≡ file
+    → OtherStays file input later files after → OtherStays now later last after end → OtherStays file input last files end
+other_then true now input later last files after end same p q =
+    let r = subst (λ (b : Bool). OtherStays b later last after end) same q in r ∙ p
+other_then false now input later last files after end same p q =
+    let r = subst (λ (b : Bool). OtherStays b later last after end) same q in r ∙ p
+
+pub stood_then : (file now : Bool) (a b x y : ℕ) (stood : ℕ) → now ≡ file → of_read file a x ≡ stood → of_read now b y ≡ of_read now a x → of_read file b y ≡ stood
+stood_then file now a b x y stood same p q = subst (λ (f : Bool). of_read f b y ≡ of_read f a x) same q ∙ p

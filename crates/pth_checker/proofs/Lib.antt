@@ -1,0 +1,5 @@
+pub mod Rising
+pub mod Alive
+pub mod Parsed
+pub mod Heard
+pub mod Opened
