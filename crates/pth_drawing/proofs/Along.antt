@@ -1,0 +1,104 @@
+-- A transcript, drawn line by line.
+use Rattle.std.proofs.Common.{◌≡◌, ◌∙◌, ◌+◌, ℕ, List, [], ◌∷◌, ◌++◌, Option, ap, sym, subst, arith, append-nil, flat_map, length, length-append, map}
+use Rattle.std.proofs.lemmas.Grind.{flat_map-append}
+use Rattle.std.proofs.lemmas.List.{length-map, map-append}
+use Rattle.std.proofs.lemmas.List.Folds.{flat_map-map}
+use Rattle.pth_base.specs.declared.mark.Mark.{Mark as MarkOf}
+use Rattle.pth_transcript.proofs.Takings.{front, takes_none, takes_then, whole}
+use Rattle.pth_transcript.specs.Reading.{ComesTo, next_line, part_line}
+use Rattle.pth_transcript.specs.Taking.{Ahead, IsOver, Takes, ahead}
+use Rattle.pth_transcript.specs.Transcript.{ending_line, marks_of, told_line, told_lines}
+use Rattle.pth_transcript.specs.declared.ending.Ending.{Ending}
+use Rattle.pth_transcript.specs.declared.fault.Fault.{Fault}
+use Rattle.pth_transcript.specs.declared.fault.Fault.TheVariants as fault
+use Rattle.pth_transcript.specs.declared.reader.Part.{Part}
+use Rattle.pth_transcript.specs.declared.reader.Part.TheVariants as part
+use Rattle.pth_transcript.specs.declared.told.Told.{Told}
+use Rattle.pth_drawing.specs.Draw.{IsMade, StopsAt}
+use Rattle.pth_drawing.specs.Follow.{Draws}
+use Rattle.pth_drawing.specs.Taken.{HasDrawn, IsAlong}
+use Rattle.pth_drawing.specs.declared.drawing.Drawing.{Drawing}
+
+-- nothing was taken yet
+pub begins : (d : Drawing) (from turns : ℕ) (left : Option (List ℕ)) (unread : List ℕ) (lines : ℕ) → unread ≡ [] → lines ≡ 0
+    → Draws d from turns [] → IsAlong d from turns (ahead [] left) (ahead unread left) lines
+begins d from turns left unread lines none zero draws = record {
+  told = [];
+  takes = subst (λ (l : List ℕ). Takes (ahead [] left) (ahead l left) []) (sym none) (takes_none (ahead [] left));
+  draws = draws;
+  count = zero;
+}
+
+lines_more : (told : List Told) (t : Told) → told_lines told ++ told_line t ≡ told_lines (told ++ t ∷ [])
+lines_more told t = sym (flat_map-append told_line told (t ∷ []) ∙ ap (λ (l : List ℕ). told_lines told ++ l) (append-nil (told_line t)))
+
+-- the lines of marks, as lines of a transcript
+lines_of : (told : List Told) → flat_map part_line (map part.Mark told) ≡ told_lines told
+lines_of told = flat_map-map part_line part.Mark told
+
+whole_lines : (told : List Told) (e : Ending) → flat_map part_line (map part.Mark told ++ part.Ending e ∷ []) ≡ told_lines told ++ ending_line e
+whole_lines told e =
+    flat_map-append part_line (map part.Mark told) (part.Ending e ∷ [])
+    ∙ ap (λ (l : List ℕ). l ++ (ending_line e ++ [])) (lines_of told) ∙ ap (λ (l : List ℕ). told_lines told ++ l) (append-nil (ending_line e))
+
+module _ (from turns : ℕ) (a b c : Ahead) (n m : ℕ) where
+  -- one mark more is drawn
+  pub goes_on : (d e : Drawing) (p : Part) (t : Told) → IsAlong d from turns a b n → Takes b c (part_line p) → p ≡ part.Mark t → m ≡ n + 1
+      → ((marks : List MarkOf) → Draws d from turns marks → Draws e from turns (marks ++ t.mark ∷ [])) → IsAlong e from turns a c m
+  goes_on d e p t along takes is more draws =
+      let line = subst (λ (q : Part). Takes b c (part_line q)) is takes in record {
+        told = along.told ++ t ∷ [];
+        takes = subst (Takes a c) (lines_more along.told t) (takes_then a b c (told_lines along.told) (told_line t) along.takes line);
+        draws = subst (Draws e from turns) (sym (map-append (λ (t : Told). t.mark) along.told (t ∷ []))) (draws (marks_of along.told) along.draws);
+        count = let many = length-append along.told (t ∷ []) in let so_far = along.count in omega arith;
+      }
+
+  -- the line of the ending is taken behind the marks
+  pub ends : (d : Drawing) (p : Part) (e : Ending) → IsAlong d from turns a b n → Takes b c (part_line p) → p ≡ part.Ending e → m ≡ n + 1
+      → HasDrawn d from turns a c m
+  ends d p e along takes is more =
+      let line = subst (λ (q : Part). Takes b c (part_line q)) is takes in record {
+        told = along.told;
+        ending = e;
+        takes = takes_then a b c (told_lines along.told) (ending_line e) along.takes line;
+        draws = along.draws;
+        count = let so_far = along.count in omega arith;
+      }
+
+-- the reader came to a fault behind these lines
+stopped : (content : Option (List ℕ)) (c : Ahead) (lines : List Part) (n : ℕ) (f : Fault) → Takes (ahead [] content) c (flat_map part_line lines)
+    → n ≡ length lines → ComesTo n f → StopsAt content f
+stopped content c lines n (fault.NoTranscript line) takes count comes =
+    let begun = front content c (flat_map part_line lines) takes in
+    record { bytes = begun.0; held = begun.2; goes_on = record { lines = lines; rest = begun.1; whole = begun.3; number = comes ∙ ap next_line count } }
+stopped content c lines n fault.ReadFault takes count comes = tt
+stopped content c lines n fault.OutOfMemory takes count comes = tt
+stopped content c lines n fault.Words takes count comes = absurd comes
+stopped content c lines n fault.WriteFault takes count comes = absurd comes
+
+module _ (d : Drawing) (from turns : ℕ) (content : Option (List ℕ)) (c : Ahead) (n : ℕ) where
+  -- on the way
+  pub stops : (f : Fault) → IsAlong d from turns (ahead [] content) c n → ComesTo n f → StopsAt content f
+  stops f along comes =
+      stopped content c (map part.Mark along.told) n f (subst (Takes (ahead [] content) c) (sym (lines_of along.told)) along.takes)
+      (let many = length-map along.told part.Mark in let so_far = along.count in omega arith) comes
+
+  -- behind the line of the ending
+  pub stops_behind : (f : Fault) → HasDrawn d from turns (ahead [] content) c n → ComesTo n f → StopsAt content f
+  stops_behind f drawn comes =
+      stopped content c (map part.Mark drawn.told ++ part.Ending drawn.ending ∷ []) n f
+      (subst (Takes (ahead [] content) c) (sym (whole_lines drawn.told drawn.ending)) drawn.takes)
+      (let many = length-map drawn.told part.Mark in let one = length-append (map part.Mark drawn.told) (part.Ending drawn.ending ∷ []) in let so_far = drawn.count in omega arith)
+      comes
+
+  -- nothing comes behind it, so the content is a transcript, whose marks were drawn
+  pub made : {T : Type 0} (Is : List MarkOf → T → Type 0) (x : T) (e : Ahead) → HasDrawn d from turns (ahead [] content) c n → IsOver c e
+      → ((marks : List MarkOf) → Draws d from turns marks → Is marks x) → IsMade Is content x
+  made Is x e drawn over is =
+      let all = whole content c e (told_lines drawn.told ++ ending_line drawn.ending) drawn.takes over in record {
+        bytes = all.0;
+        held = all.1;
+        told = drawn.told;
+        transcript = record { ending = drawn.ending; whole = all.2 };
+        made = is (marks_of drawn.told) drawn.draws;
+      }

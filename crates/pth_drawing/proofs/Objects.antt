@@ -1,0 +1,30 @@
+-- The object that is read, and the other one.
+use Rattle.std.proofs.Common.{◌≡◌, ◌∙◌, ℕ, Bool, true, false, List, Option, refl, subst}
+use Rattle.pth_transcript.specs.Taking.{IsOver, OtherStays, Takes, ahead, of_read}
+
+-- nothing was called
+pub others_none : {S F : Type 0} (of_file : Bool) (input : S) (files : F) → OtherStays of_file input input files files
+others_none true input files = refl
+others_none false input files = refl
+
+module _ (b o : Bool) (same : b ≡ o) where
+  -- what was taken of an object was taken of the same one
+  pub taken_of : (u v text : List ℕ) (x y z w : Option (List ℕ)) → Takes (ahead u (of_read b x y)) (ahead v (of_read b z w)) text
+      → Takes (ahead u (of_read o x y)) (ahead v (of_read o z w)) text
+  taken_of u v text x y z w h = subst (λ (b : Bool). Takes (ahead u (of_read b x y)) (ahead v (of_read b z w)) text) same h
+
+  pub over_of : (u v : List ℕ) (x y z w : Option (List ℕ)) → IsOver (ahead u (of_read b x y)) (ahead v (of_read b z w))
+      → IsOver (ahead u (of_read o x y)) (ahead v (of_read o z w))
+  over_of u v x y z w h = subst (λ (b : Bool). IsOver (ahead u (of_read b x y)) (ahead v (of_read b z w))) same h
+
+  -- its count stands still
+  pub stood_of : (x y z w i j : ℕ) → of_read b z w ≡ of_read b x y → of_read o x y ≡ of_read o i j → of_read o z w ≡ of_read o i j
+  stood_of x y z w i j h before = subst (λ (b : Bool). of_read b z w ≡ of_read b x y) same h ∙ before
+
+  others_then : {S F : Type 0} (o : Bool) (i j k : S) (f g h : F) → OtherStays o i j f g → OtherStays o j k g h → OtherStays o i k f h
+  others_then true i j k f g h p q = q ∙ p
+  others_then false i j k f g h p q = q ∙ p
+
+  -- the other one was not asked, and is not
+  pub others_of : {S F : Type 0} (i j k : S) (f g h : F) → OtherStays o i j f g → OtherStays b j k g h → OtherStays o i k f h
+  others_of i j k f g h p q = others_then o i j k f g h p (subst (λ (b : Bool). OtherStays b j k g h) same q)

@@ -1,0 +1,17 @@
+use Rattle.std.proofs.Common.{◌≡◌, []}
+use Rattle.pth_transcript.specs.Taking.{IsStarted, OtherStays, ahead, of_read}
+use Rattle.pth_drawing.specs.Taken.{IsAlong}
+use Rattle.pth_drawing.proofs.run.draw_marks.Given as goal
+
+abbrev pub invariant-loop-line : goal.invariant-loop-line
+invariant-loop-line g l = record {
+  started : IsStarted l.reader.of_file (g.F.Files.started l.files);
+  same : l.reader.of_file ≡ l.initial.reader.of_file;
+  along : IsAlong l.drawing l.choice.from l.choice.turns
+      (ahead [] (of_read l.initial.reader.of_file (g.S.Source.left l.initial.input) (g.F.Files.left l.initial.files)))
+      (ahead l.reader.unread (of_read l.initial.reader.of_file (g.S.Source.left l.input) (g.F.Files.left l.files)))
+      l.reader.lines;
+  stood : of_read l.initial.reader.of_file (g.S.Source.faults l.input) (g.F.Files.faults l.files)
+      ≡ of_read l.initial.reader.of_file (g.S.Source.faults l.initial.input) (g.F.Files.faults l.initial.files);
+  other : OtherStays l.initial.reader.of_file l.initial.input l.input l.initial.files l.files;
+}

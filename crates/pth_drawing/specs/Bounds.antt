@@ -1,0 +1,25 @@
+-- Charts that lie within so many columns.
+use Rattle.std.specs.Prelude.{◌+◌, ◌<◌, ◌≤◌, ℕ, IfSome}
+use Rattle.std.specs.List.{All}
+use Rattle.pth_drawing.specs.Charts.{ChartSeen, LaneSeen}
+use Rattle.pth_drawing.specs.declared.chart.Stretch.{Stretch}
+
+-- how many columns a chart has at most
+abbrev pub most_columns : ℕ
+most_columns = 2000
+
+-- a stretch lies within so many columns
+abbrev pub IsStretchWithin : (columns : ℕ) → Stretch → Type 0
+IsStretchWithin columns s = s.first + s.columns ≤ columns
+
+-- a lane lies within so many columns
+pub record IsLaneWithin (columns : ℕ) (lane : LaneSeen) : Type 0 where
+  pub stretches : All (IsStretchWithin columns) lane.stretches
+  pub canceled : All (λ column. column < columns) lane.canceled
+  pub ended : IfSome lane.ended (λ column. column < columns)
+
+-- a chart has no more columns than may be, and all of it lies within them
+pub record IsWithinColumns (chart : ChartSeen) : Type 0 where
+  pub columns : chart.columns ≤ most_columns
+  pub lanes : All (IsLaneWithin chart.columns) chart.lanes
+  pub moments : All (λ m. m.column < chart.columns) chart.moments

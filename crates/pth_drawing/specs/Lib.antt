@@ -1,0 +1,14 @@
+pub mod Bounds
+pub mod Charts
+pub mod Draw
+pub mod Drawing
+pub mod Example
+pub mod Follow
+pub mod Picture
+pub mod States
+pub mod Svg
+pub mod Taken
+pub mod Tiling
+pub mod Tracks
+pub mod Turning
+pub mod Words

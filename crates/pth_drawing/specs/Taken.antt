@@ -1,0 +1,23 @@
+-- What was drawn of a transcript on the way through it.
+use Rattle.std.specs.Prelude.{◌≡◌, ◌+◌, ◌++◌, ℕ, List, length}
+use Rattle.pth_transcript.specs.Taking.{Ahead, Takes}
+use Rattle.pth_transcript.specs.Transcript.{ending_line, marks_of, told_lines}
+use Rattle.pth_transcript.specs.declared.ending.Ending.{Ending}
+use Rattle.pth_transcript.specs.declared.told.Told.{Told}
+use Rattle.pth_drawing.specs.Follow.{Draws}
+use Rattle.pth_drawing.specs.declared.drawing.Drawing.{Drawing}
+
+-- the marks of lines that were taken are drawn
+pub record IsAlong (d : Drawing) (from turns : ℕ) (old new : Ahead) (lines : ℕ) : Type 0 where
+  pub told : List Told
+  pub takes : Takes old new (told_lines told)
+  pub draws : Draws d from turns (marks_of told)
+  pub count : lines ≡ length told
+
+-- and the line of an ending was taken behind them
+pub record HasDrawn (d : Drawing) (from turns : ℕ) (old new : Ahead) (lines : ℕ) : Type 0 where
+  pub told : List Told
+  pub ending : Ending
+  pub takes : Takes old new (told_lines told ++ ending_line ending)
+  pub draws : Draws d from turns (marks_of told)
+  pub count : lines ≡ length told + 1

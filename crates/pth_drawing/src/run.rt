@@ -1,0 +1,221 @@
+//! The transcript read, and its picture written.
+
+ghost use Rattle.std.specs.Prelude.{◌≡◌, ◌≤◌, [], IfErr, IfOk, Some, map, string_bytes};
+ghost use Rattle.pth_streams.specs.Inputs.{inputs};
+ghost use Rattle.pth_streams.specs.Pieces.{received};
+ghost use Rattle.pth_streams.specs.Scene.{scene};
+ghost use Rattle.pth_transcript.specs.Reading.{ComesTo, CountsFault};
+ghost use Rattle.pth_transcript.specs.Taking.{IsOver, IsStarted, OtherStays, ahead, of_read};
+ghost use Rattle.pth_drawing.specs.Bounds.{most_columns};
+ghost use Rattle.pth_drawing.specs.Charts.{chart_seen};
+ghost use Rattle.pth_drawing.specs.Draw.{Makes, OthersStay, Ran, StopsAt, content_of, faults_of, picture};
+ghost use Rattle.pth_drawing.specs.Drawing.{chart};
+ghost use Rattle.pth_drawing.specs.Taken.{HasDrawn};
+ghost use Rattle.pth_drawing.specs.Words.{asked_by, asked_of};
+
+use crate::chart::Chart;
+use crate::drawing::Drawing;
+use crate::svg::add_picture;
+use crate::words::{Choice, read_words};
+use pth_base::memory::OutOfMemory;
+use pth_streams::files::Files;
+use pth_streams::sink::{Sink, SinkErr};
+use pth_streams::source::{Failed, Source};
+use pth_streams::write_all::write_all;
+use pth_text::text::Text;
+use pth_transcript::fault::Fault;
+use pth_transcript::reader::{Part, Reader};
+use std::alloc::Global;
+
+// Draws the marks up to the line of the ending.
+fn draw_marks<S: Source, F: Files>(
+    alloc: Global,
+    choice: &Choice<'_>,
+    reader: &mut Reader,
+    input: &mut S,
+    files: &mut F,
+) -> Result<Drawing, Fault>
+    requires started { IsStarted reader.old.of_file (F.started files.old) }
+    requires fresh { (reader.old.unread ≡ []) × (reader.old.lines ≡ 0) }
+    ensures started { IsStarted reader.new.of_file (F.started files.new) }
+    ensures same { reader.new.of_file ≡ reader.old.of_file }
+    ensures drawn { IfOk result (λ d. HasDrawn d choice.now.from choice.now.turns
+        (ahead [] (of_read reader.old.of_file (S.left input.old) (F.left files.old)))
+        (ahead reader.new.unread (of_read reader.old.of_file (S.left input.new) (F.left files.new)))
+        reader.new.lines) }
+    ensures fault { IfErr result
+        (StopsAt (of_read reader.old.of_file (S.left input.old) (F.left files.old))) }
+    ensures counts { CountsFault
+        (of_read reader.old.of_file (S.faults input.old) (F.faults files.old))
+        (of_read reader.old.of_file (S.faults input.new) (F.faults files.new)) result }
+    ensures other { OtherStays reader.old.of_file input.old input.new files.old files.new }
+{
+    let mut drawing = Drawing::new(alloc, choice.from, choice.turns);
+    for _line in 0..u64::MAX {
+        let Part::Mark(told) = reader.next(alloc, input, files)? else {
+            return Ok(drawing);
+        };
+        let Ok(()) = drawing.add(&told.mark) else {
+            return Err(Fault::OutOfMemory);
+        };
+    }
+    // No transcript has so many lines.
+    Err(Fault::OutOfMemory)
+}
+
+// Nothing comes behind the line of the ending.
+fn finish<S: Source, F: Files>(
+    reader: &mut Reader,
+    input: &mut S,
+    files: &mut F,
+) -> Result<(), Fault>
+    requires started { IsStarted reader.old.of_file (F.started files.old) }
+    ensures over { IfOk result (λ _. IsOver
+        (ahead reader.old.unread (of_read reader.old.of_file (S.left input.old) (F.left files.old)))
+        (ahead reader.new.unread (of_read reader.old.of_file (S.left input.new) (F.left files.new)))) }
+    ensures fault { IfErr result (ComesTo reader.old.lines) }
+    ensures counts { CountsFault
+        (of_read reader.old.of_file (S.faults input.old) (F.faults files.old))
+        (of_read reader.old.of_file (S.faults input.new) (F.faults files.new)) result }
+    ensures other { OtherStays reader.old.of_file input.old input.new files.old files.new }
+{
+    if reader.is_over(input, files)? {
+        return Ok(());
+    }
+    Err(Fault::NoTranscript {
+        line: reader.lines().saturating_add(1),
+    })
+}
+
+// The chart of the transcript that is read.
+fn chart_of<S: Source, F: Files>(
+    alloc: Global,
+    choice: &Choice<'_>,
+    reader: &mut Reader,
+    input: &mut S,
+    files: &mut F,
+) -> Result<Chart, Fault>
+    requires started { IsStarted reader.old.of_file (F.started files.old) }
+    requires fresh { (reader.old.unread ≡ []) × (reader.old.lines ≡ 0) }
+    ensures made { Makes (λ marks c. chart_seen c ≡ chart choice.now.from choice.now.turns marks)
+        (of_read reader.old.of_file (S.left input.old) (F.left files.old)) result }
+    ensures counts { CountsFault
+        (of_read reader.old.of_file (S.faults input.old) (F.faults files.old))
+        (of_read reader.old.of_file (S.faults input.new) (F.faults files.new)) result }
+    ensures other { OtherStays reader.old.of_file input.old input.new files.old files.new }
+{
+    let drawing = draw_marks(alloc, choice, reader, input, files)?;
+    finish(reader, input, files)?;
+    match drawing.chart() {
+        Ok(chart) => Ok(chart),
+        Err(OutOfMemory) => Err(Fault::OutOfMemory),
+    }
+}
+
+// The chart of the transcript that stands under the name.
+fn read_chart<S: Source, F: Files>(
+    alloc: Global,
+    choice: &Choice<'_>,
+    input: &mut S,
+    files: &mut F,
+) -> Result<Chart, Fault>
+    ensures made { Makes (λ marks c. chart_seen c ≡ chart choice.now.from choice.now.turns marks)
+        (content_of (asked_of choice.now)
+        (inputs (S.left input.old) (S.faults input.old)
+        (F.left files.old) (F.held files.old) (F.faults files.old))) result }
+    ensures counts { CountsFault
+        (faults_of (asked_of choice.now)
+        (inputs (S.left input.old) (S.faults input.old)
+        (F.left files.old) (F.held files.old) (F.faults files.old)))
+        (faults_of (asked_of choice.now)
+        (inputs (S.left input.new) (S.faults input.new)
+        (F.left files.new) (F.held files.new) (F.faults files.new))) result }
+    ensures other { OthersStay (Some (asked_of choice.now))
+        input.old input.new files.old files.new }
+{
+    match Reader::open(alloc, choice.file, files) {
+        Ok(mut reader) => chart_of(alloc, choice, &mut reader, input, files),
+        Err(Failed) => Err(Fault::ReadFault),
+    }
+}
+
+// The picture of the transcript that stands under the name.
+fn read_picture<S: Source, F: Files>(
+    alloc: Global,
+    choice: &Choice<'_>,
+    input: &mut S,
+    files: &mut F,
+) -> Result<Text, Fault>
+    requires few { choice.now.turns ≤ most_columns }
+    ensures made { Makes (λ marks t. t ≡ picture choice.now.from choice.now.turns marks)
+        (content_of (asked_of choice.now)
+        (inputs (S.left input.old) (S.faults input.old)
+        (F.left files.old) (F.held files.old) (F.faults files.old))) result }
+    ensures counts { CountsFault
+        (faults_of (asked_of choice.now)
+        (inputs (S.left input.old) (S.faults input.old)
+        (F.left files.old) (F.held files.old) (F.faults files.old)))
+        (faults_of (asked_of choice.now)
+        (inputs (S.left input.new) (S.faults input.new)
+        (F.left files.new) (F.held files.new) (F.faults files.new))) result }
+    ensures other { OthersStay (Some (asked_of choice.now))
+        input.old input.new files.old files.new }
+{
+    let chart = read_chart(alloc, choice, input, files)?;
+    let mut text = Text::new(alloc);
+    match add_picture(&chart, &mut text) {
+        Ok(()) => Ok(text),
+        Err(OutOfMemory) => Err(Fault::OutOfMemory),
+    }
+}
+
+// Writes the picture that the words ask for.
+fn write_picture<S: Source, F: Files, O: Sink>(
+    alloc: Global,
+    choice: &Choice<'_>,
+    input: &mut S,
+    files: &mut F,
+    out: &mut O,
+) -> Result<(), Fault>
+    requires few { choice.now.turns ≤ most_columns }
+    ensures ran { Ran (Some (asked_of choice.now))
+        (scene (inputs (S.left input.old) (S.faults input.old)
+        (F.left files.old) (F.held files.old) (F.faults files.old))
+        (received (O.written out.old) (O.faults out.old)))
+        (scene (inputs (S.left input.new) (S.faults input.new)
+        (F.left files.new) (F.held files.new) (F.faults files.new))
+        (received (O.written out.new) (O.faults out.new)))
+        result }
+    ensures others { OthersStay (Some (asked_of choice.now))
+        input.old input.new files.old files.new }
+{
+    let text = read_picture(alloc, choice, input, files)?;
+    match write_all(out, text.as_slice()) {
+        Ok(()) => Ok(()),
+        Err(SinkErr::Failed) => Err(Fault::WriteFault),
+        Err(SinkErr::OutOfMemory) => Err(Fault::OutOfMemory),
+    }
+}
+
+/// All that the program does, but for what it tells of a fault.
+pub(crate) fn run<S: Source, F: Files, O: Sink>(
+    alloc: Global,
+    words: &Vec<String>,
+    input: &mut S,
+    files: &mut F,
+    out: &mut O,
+) -> Result<(), Fault>
+    ensures ran { Ran (asked_by (map string_bytes words.now.items))
+        (scene (inputs (S.left input.old) (S.faults input.old)
+        (F.left files.old) (F.held files.old) (F.faults files.old))
+        (received (O.written out.old) (O.faults out.old)))
+        (scene (inputs (S.left input.new) (S.faults input.new)
+        (F.left files.new) (F.held files.new) (F.faults files.new))
+        (received (O.written out.new) (O.faults out.new)))
+        result }
+    ensures others { OthersStay (asked_by (map string_bytes words.now.items))
+        input.old input.new files.old files.new }
+{
+    let choice = read_words(alloc, words)?;
+    write_picture(alloc, &choice, input, files, out)
+}

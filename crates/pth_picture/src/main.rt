@@ -1,0 +1,33 @@
+//! The program: the words and the real objects are handed to `draw`, and its status is the exit status.
+#![tactic(auto)]
+
+use pth_drawing::{PROGRAM, draw};
+use pth_streams::arguments::arguments;
+use pth_streams::open_files::OpenFiles;
+use pth_streams::reading::Reading;
+use pth_streams::writing::Writing;
+use pth_transcript::fault::{Fault, report_fault};
+use std::process::ExitCode;
+
+fn main(rt: HostRuntime) -> ExitCode {
+    let mut err = Writing::new(rt.stderr());
+    let words = match arguments(&rt) {
+        Ok(words) => words,
+        Err(e) => {
+            let status = report_fault(rt.alloc(), PROGRAM, Fault::from(e), &mut err);
+            return ExitCode::from(status);
+        }
+    };
+    let mut input = Reading::new(rt.stdin());
+    let mut files = OpenFiles::new(&rt);
+    let mut out = Writing::new(rt.stdout());
+    let status = draw(
+        rt.alloc(),
+        &words,
+        &mut input,
+        &mut files,
+        &mut out,
+        &mut err,
+    );
+    ExitCode::from(status)
+}
