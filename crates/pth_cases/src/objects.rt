@@ -1,7 +1,8 @@
 //! Runs over objects that fail, one in each line of a file.
 //!
 //! A line `in the input: TEXT` says what the input holds from there on, and `in NAME: TEXT` what the one file is and holds
-//! (`escapes`). A line that begins with `--` is a heading. Each other line is a run. It has conditions, with a `, ` between two,
+//! (`escapes`). A line `of PROGRAM` says which program is run from there on, `pth_play` if none says it. A line that begins
+//! with `--` is a heading. Each other line is a run. It has conditions, with a `, ` between two,
 //! and then the words of the command line, each behind a `|`:
 //!
 //!     input fails at 2
@@ -12,18 +13,19 @@
 //! names never fails.
 
 use crate::escapes::unescaped;
+use crate::program::{Program, call, program_named};
 use anyhow::{Context, Result, bail};
 use pth_base::memory::OutOfMemory;
-use pth_player::play;
 use pth_streams::files::MemoryFiles;
 use pth_streams::sink::MemorySink;
 use pth_streams::source::MemorySource;
 use std::alloc::{AllocError, Global};
 use std::str;
 
-/// The objects that a run is handed.
+/// The program that is run, and the objects that it is handed.
 #[derive(Clone, Copy)]
 struct Objects<'a> {
+    program: Program,
     /// What the input holds, escaped.
     input: &'a str,
     /// The name of the file, and what it holds, escaped.
@@ -39,6 +41,7 @@ struct Objects<'a> {
 
 /// Objects that hold nothing and never fail. They have more room than a run of these files writes.
 const SURE: Objects<'static> = Objects {
+    program: Program::Play,
     input: "",
     name: "",
     file: "",
@@ -130,7 +133,8 @@ fn play_over(
 ) -> Result<Written, OutOfMemory> {
     let mut out = MemorySink::new(alloc, objects.room)?;
     let mut err = MemorySink::new(alloc, objects.error_room)?;
-    let status = play(alloc, words, input, files, &mut out, &mut err);
+    let program = objects.program;
+    let status = call(alloc, program, words, input, files, &mut out, &mut err);
     Ok(Written { status, out, err })
 }
 
@@ -165,8 +169,12 @@ fn print_line(rt: &(impl Print + AllocGlobal), held: Objects<'_>, line: &str) ->
     Ok(())
 }
 
-/// The objects after a line, which may say what one of them holds.
+/// The objects after a line, which may say what one of them holds, or which program is run.
 fn after<'a>(held: Objects<'a>, line: &'a str) -> Result<Objects<'a>> {
+    if let Some(name) = line.strip_prefix("of ") {
+        let program = program_named(name).context("no program")?;
+        return Ok(Objects { program, ..held });
+    }
     let Some(holds) = line.strip_prefix("in ") else {
         return Ok(held);
     };
@@ -174,9 +182,9 @@ fn after<'a>(held: Objects<'a>, line: &'a str) -> Result<Objects<'a>> {
     Ok(holding(held, what, text))
 }
 
-/// Whether a line is a heading, or says what an object holds.
+/// Whether a line is a heading, or says what an object holds or which program is run.
 fn is_said(line: &str) -> bool {
-    line.starts_with("--") || line.starts_with("in ")
+    line.starts_with("--") || line.starts_with("in ") || line.starts_with("of ")
 }
 
 /// Prints the runs of a file.

@@ -1,15 +1,15 @@
-//! A script played under the words of a command line.
+//! Programs that are called under the words of a command line: a script is played, and a transcript is judged or drawn.
 
+use crate::program::{Program, call};
 use anyhow::Result;
 use pth_base::memory::OutOfMemory;
-use pth_player::play;
 use pth_streams::files::SureFiles;
 use pth_streams::sink::SureSink;
 use pth_streams::source::SureSource;
 use std::alloc::{AllocError, Global};
 use std::str;
 
-/// What a run came to.
+/// What a call came to.
 #[derive(Drop)]
 pub struct Played {
     pub status: u8,
@@ -42,22 +42,33 @@ fn words_of(alloc: Global, line: &str) -> Result<Vec<String>, AllocError> {
     Ok(words)
 }
 
-/// Plays over an input that is empty.
-fn play_files(
+/// Calls a program over an input that is empty.
+fn call_files(
     alloc: Global,
+    program: Program,
     words: &Vec<String>,
     files: &mut SureFiles,
 ) -> Result<Played, OutOfMemory> {
     let mut input = SureSource::new(alloc, b"")?;
     let mut out = SureSink::new(alloc);
     let mut err = SureSink::new(alloc);
-    let status = play(alloc, words, &mut input, files, &mut out, &mut err);
+    let status = call(alloc, program, words, &mut input, files, &mut out, &mut err);
     Ok(Played { status, out, err })
+}
+
+/// Calls a program under the words of a line. The text stands under every name.
+pub fn call_on(
+    alloc: Global,
+    program: Program,
+    line: &str,
+    text: &str,
+) -> Result<Played, OutOfMemory> {
+    let words = words_of(alloc, line)?;
+    let mut files = SureFiles::new(alloc, text.as_bytes())?;
+    call_files(alloc, program, &words, &mut files)
 }
 
 /// Plays a script, which stands under every name, under the words of a line.
 pub fn play_script(alloc: Global, line: &str, script: &str) -> Result<Played, OutOfMemory> {
-    let words = words_of(alloc, line)?;
-    let mut files = SureFiles::new(alloc, script.as_bytes())?;
-    play_files(alloc, &words, &mut files)
+    call_on(alloc, Program::Play, line, script)
 }
