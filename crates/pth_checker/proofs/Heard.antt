@@ -2,6 +2,8 @@
 use Rattle.std.proofs.Common.{◌≡◌, ◌∙◌, ◌⊎◌, ◌+◌, ℕ, List, [], ◌∷◌, ◌++◌, Bool, true, false, Option, Result, Ok, Err, IsErr, IsErrAnd, length, sym, ap, refl, subst, append_assoc, append-nil, inl, inr}
 use Rattle.std.proofs.lemmas.Grind.{flat_map-append}
 use Rattle.std.proofs.lemmas.List.{length-append}
+use Rattle.std.proofs.lemmas.List.Elements.{All-nil, All-push}
+use Rattle.pth_transcript.specs.Plain.{IsPlain}
 use Rattle.pth_audit.specs.Verdicts.{BreaksFirst}
 use Rattle.pth_audit.specs.declared.verdict.AuditRule.{AuditRule}
 use Rattle.pth_base.specs.declared.mark.Mark.{Mark}
@@ -15,7 +17,7 @@ use Rattle.pth_checker.specs.declared.verdict.Law.TheVariants as law
 use Rattle.pth_checker.specs.declared.verdict.Verdict.{Verdict}
 use Rattle.pth_checker.specs.declared.verdict.Verdict.TheVariants.{Lawful, Unlawful}
 use Rattle.pth_streams.specs.Inputs.{AreHeld}
-use Rattle.pth_transcript.specs.Reading.{ComesTo as ReaderComesTo, next_line, part_line}
+use Rattle.pth_transcript.specs.Reading.{ComesTo as ReaderComesTo, IsPlainPart, next_line, part_line}
 use Rattle.pth_transcript.specs.Taking.{Ahead, IsOver, OtherStays, Takes, ahead, of_read}
 use Rattle.pth_transcript.specs.Transcript.{ending_line, marks_of, told_line, told_lines}
 use Rattle.pth_transcript.specs.declared.ending.Ending.{Ending}
@@ -49,6 +51,7 @@ length_more told last = length-append told (last ∷ [])
 pub heard_none : (content : Option (List ℕ)) (h : Hearing) → h.reader.unread ≡ [] → h.reader.lines ≡ 0 → Judges h.judge [] → HasHeard content h content []
 heard_none content h none zero judges = record {
   taken = subst (λ (u : List ℕ). Takes (ahead [] content) (ahead u content) []) (sym none) (takes_none (ahead [] content));
+  plain = All-nil IsPlain;
   counted = zero;
   judges = judges;
 }
@@ -56,9 +59,11 @@ heard_none content h none zero judges = record {
 -- one line more was read
 read_more : (content left later : Option (List ℕ)) (h after : Hearing) (told : List Told) (part : Part) → HasHeard content h left told
     → Takes (ahead h.reader.unread left) (ahead after.reader.unread later) (part_line part) → after.reader.lines ≡ h.reader.lines + 1 → after.judge ≡ h.judge
-    → HasRead content after later told part
-read_more content left later h after told part heard takes lines same = record {
+    → IsPlainPart part → HasRead content after later told part
+read_more content left later h after told part heard takes lines same plain = record {
   taken = takes_then (ahead [] content) (ahead h.reader.unread left) (ahead after.reader.unread later) (told_lines told) (part_line part) heard.taken takes;
+  plain = heard.plain;
+  part_plain = plain;
   counted = lines ∙ ap (λ (n : ℕ). n + 1) heard.counted;
   judges = subst (λ (j : Judge). Judges j (marks_of told)) (sym same) heard.judges;
 }
@@ -66,9 +71,9 @@ read_more content left later h after told part heard takes lines same = record {
 -- the line that was read is that of this part
 pub read_as : (content left later : Option (List ℕ)) (h after : Hearing) (told : List Told) (found part : Part) → found ≡ part → HasHeard content h left told
     → Takes (ahead h.reader.unread left) (ahead after.reader.unread later) (part_line found) → after.reader.lines ≡ h.reader.lines + 1 → after.judge ≡ h.judge
-    → HasRead content after later told part
-read_as content left later h after told found part is heard takes lines same =
-    subst (HasRead content after later told) is (read_more content left later h after told found heard takes lines same)
+    → IsPlainPart found → HasRead content after later told part
+read_as content left later h after told found part is heard takes lines same plain =
+    subst (HasRead content after later told) is (read_more content left later h after told found heard takes lines same plain)
 
 -- what is read is the same object as before
 pub read_of_same : (content input file : Option (List ℕ)) (h : Hearing) (told : List Told) (part : Part) (before now : Bool) → now ≡ before
@@ -85,6 +90,7 @@ pub heard_more : (content left : Option (List ℕ)) (h after : Hearing) (told : 
 heard_more content left h after told last read same judges = record {
   taken = subst (λ (u : List ℕ). Takes (ahead [] content) (ahead u left) (told_lines (told ++ last ∷ []))) (sym (ap (λ r. r.unread) same))
       (subst (Takes (ahead [] content) (ahead h.reader.unread left)) (sym (lines_more told last)) read.taken);
+  plain = All-push IsPlain told last read.plain read.part_plain;
   counted = ap (λ r. r.lines) same ∙ read.counted ∙ sym (length_more told last);
   judges = subst (Judges after.judge) (sym (marks_more told last)) judges;
 }
@@ -96,14 +102,14 @@ begins : (content left : Option (List ℕ)) (h : Hearing) (told : List Told) (pa
     → (bytes : List ℕ) × (rest : List ℕ) × AreHeld content bytes × BeginsLawfully bytes told (part_line part ++ rest)
 begins content left h told part read =
     let f = front content (ahead h.reader.unread left) (told_lines told ++ part_line part) read.taken in
-    (f.0, f.1, f.2, record { text = f.3 ∙ append_assoc (told_lines told) (part_line part) f.1; lawful = read.judges.laws.lawful })
+    (f.0, f.1, f.2, record { text = f.3 ∙ append_assoc (told_lines told) (part_line part) f.1; plain = read.plain; lawful = read.judges.laws.lawful })
 
 module _ (content left : Option (List ℕ)) (h : Hearing) (told : List Told) where
   pub breaks_law : (last : Told) (rule : AuditRule) (line : ℕ) → HasRead content h left told (part.Mark last) → line ≡ h.reader.lines
       → BreaksFirst rule (marks_of told ++ last.mark ∷ []) → HoldsVerdict content (Unlawful line (law.Marks rule))
   breaks_law last rule line read here breaks =
       let b = begins content left h told (part.Mark last) read in
-      (b.0, b.2, record { told = told; last = last; rest = b.1; begins = b.3; counted = here ∙ read.counted; breaks = breaks })
+      (b.0, b.2, record { told = told; last = last; rest = b.1; begins = b.3; plain = read.part_plain; counted = here ∙ read.counted; breaks = breaks })
 
   pub ends_unfittingly : (ending : Ending) (line : ℕ) → HasRead content h left told (part.Ending ending) → line ≡ h.reader.lines
       → (FitsEnding (marks_of told) ending → ⊥) → HoldsVerdict content (Unlawful line law.Ending)
@@ -115,7 +121,7 @@ module _ (content left : Option (List ℕ)) (h : Hearing) (told : List Told) whe
       → IsOver (ahead h.reader.unread left) end → FitsEnding (marks_of told) ending → HoldsVerdict content (Lawful lines)
   ends_lawfully ending lines end read here over fits =
       let w = whole content (ahead h.reader.unread left) end (told_lines told ++ ending_line ending) read.taken over in
-      (w.0, w.1, record { told = told; ending = ending; text = w.2; counted = here ∙ read.counted; lawful = read.judges.laws.lawful; fits = fits })
+      (w.0, w.1, record { told = told; ending = ending; text = w.2; plain = read.plain; counted = here ∙ read.counted; lawful = read.judges.laws.lawful; fits = fits })
 
   pub goes_past_ending : (ending : Ending) (line : ℕ) → HasRead content h left told (part.Ending ending) → line ≡ next_line h.reader.lines
       → FitsEnding (marks_of told) ending → HoldsUpTo content line
@@ -126,7 +132,7 @@ module _ (content left : Option (List ℕ)) (h : Hearing) (told : List Told) whe
   refused_at : (line : ℕ) → HasHeard content h left told → line ≡ next_line h.reader.lines → HoldsUpTo content line
   refused_at line heard here =
       let f = front content (ahead h.reader.unread left) (told_lines told) heard.taken in
-      (f.0, f.2, inl (record { told = told; rest = f.1; begins = record { text = f.3; lawful = heard.judges.laws.lawful }; counted = here ∙ ap next_line heard.counted }))
+      (f.0, f.2, inl (record { told = told; rest = f.1; begins = record { text = f.3; plain = heard.plain; lawful = heard.judges.laws.lawful }; counted = here ∙ ap next_line heard.counted }))
 
   -- the next line could not be read
   pub not_read : (f : Fault) → HasHeard content h left told → ReaderComesTo h.reader.lines f → ComesTo content (Err f)

@@ -4,7 +4,9 @@ use Rattle.pth_checker.specs.Judged.{HoldsUpTo, HoldsVerdict}
 use Rattle.pth_checker.specs.Judging.{Judges}
 use Rattle.pth_checker.specs.declared.hearing.Hearing.{Hearing}
 use Rattle.pth_checker.specs.declared.verdict.Verdict.{Verdict}
-use Rattle.pth_transcript.specs.Reading.{part_line}
+use Rattle.std.specs.List.{All}
+use Rattle.pth_transcript.specs.Plain.{IsPlain}
+use Rattle.pth_transcript.specs.Reading.{IsPlainPart, part_line}
 use Rattle.pth_transcript.specs.Taking.{IsStarted, Takes, ahead, is_file}
 use Rattle.pth_transcript.specs.Transcript.{marks_of, told_lines}
 use Rattle.pth_transcript.specs.declared.fault.Fault.{Fault}
@@ -24,12 +26,15 @@ IsWhole (Some name) held left = is_file (Some name) ≡ true → left ≡ held n
 -- these lines were read from the front of the content, their marks are lawful, and this is left to read
 pub record HasHeard (content : Option (List ℕ)) (h : Hearing) (left : Option (List ℕ)) (told : List Told) : Type 0 where
   pub taken : Takes (ahead [] content) (ahead h.reader.unread left) (told_lines told)
+  pub plain : All IsPlain told
   pub counted : h.reader.lines ≡ length told
   pub judges : Judges h.judge (marks_of told)
 
 -- one line more was read, and is not judged yet
 pub record HasRead (content : Option (List ℕ)) (h : Hearing) (left : Option (List ℕ)) (told : List Told) (part : Part) : Type 0 where
   pub taken : Takes (ahead [] content) (ahead h.reader.unread left) (told_lines told ++ part_line part)
+  pub plain : All IsPlain told
+  pub part_plain : IsPlainPart part
   pub counted : h.reader.lines ≡ length told + 1
   pub judges : Judges h.judge (marks_of told)
 

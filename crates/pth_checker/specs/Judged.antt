@@ -8,6 +8,8 @@ use Rattle.pth_checker.specs.declared.verdict.Law.TheVariants as law
 use Rattle.pth_checker.specs.declared.verdict.Verdict.{Verdict}
 use Rattle.pth_checker.specs.declared.verdict.Verdict.TheVariants.{Lawful, Unlawful}
 use Rattle.pth_streams.specs.Inputs.{AreHeld}
+use Rattle.std.specs.List.{All}
+use Rattle.pth_transcript.specs.Plain.{IsPlain}
 use Rattle.pth_transcript.specs.Reading.{next_line}
 use Rattle.pth_transcript.specs.Transcript.{ending_line, marks_of, told_line, told_lines}
 use Rattle.pth_transcript.specs.declared.ending.Ending.{Ending}
@@ -15,9 +17,10 @@ use Rattle.pth_transcript.specs.declared.told.Told.{Told}
 
 -- ---- the beginning of a text
 
--- the text begins with lines that tell of lawful marks, and this is behind them
+-- the text begins with lines that tell all of lawful marks, and this is behind them
 pub record BeginsLawfully (bytes : List ℕ) (told : List Told) (rest : List ℕ) : Type 0 where
   pub text : bytes ≡ told_lines told ++ rest
+  pub plain : All IsPlain told
   pub lawful : IsLawful (marks_of told)
 
 -- ---- verdicts
@@ -27,6 +30,7 @@ pub record IsLawfulText (bytes : List ℕ) (n : ℕ) : Type 0 where
   pub told : List Told
   pub ending : Ending
   pub text : bytes ≡ told_lines told ++ ending_line ending
+  pub plain : All IsPlain told
   pub counted : n ≡ length told + 1
   pub lawful : IsLawful (marks_of told)
   pub fits : FitsEnding (marks_of told) ending
@@ -37,6 +41,7 @@ pub record BreaksLaw (bytes : List ℕ) (n : ℕ) (rule : AuditRule) : Type 0 wh
   pub last : Told
   pub rest : List ℕ
   pub begins : BeginsLawfully bytes told (told_line last ++ rest)
+  pub plain : IsPlain last
   pub counted : n ≡ length told + 1
   pub breaks : BreaksFirst rule (marks_of told ++ last.mark ∷ [])
 

@@ -3,9 +3,11 @@ use Rattle.std.proofs.Common.{◌≡◌, ◌∙◌, ◌+◌, ℕ, List, [], ◌�
 use Rattle.std.proofs.lemmas.Grind.{flat_map-append}
 use Rattle.std.proofs.lemmas.List.{length-map, map-append}
 use Rattle.std.proofs.lemmas.List.Folds.{flat_map-map}
+use Rattle.std.proofs.lemmas.List.Elements.{All-nil, All-push}
+use Rattle.pth_transcript.specs.Plain.{IsPlain}
 use Rattle.pth_base.specs.declared.mark.Mark.{Mark as MarkOf}
 use Rattle.pth_transcript.proofs.Takings.{front, takes_none, takes_then, whole}
-use Rattle.pth_transcript.specs.Reading.{ComesTo, next_line, part_line}
+use Rattle.pth_transcript.specs.Reading.{ComesTo, IsPlainPart, next_line, part_line}
 use Rattle.pth_transcript.specs.Taking.{Ahead, IsOver, Takes, ahead}
 use Rattle.pth_transcript.specs.Transcript.{ending_line, marks_of, told_line, told_lines}
 use Rattle.pth_transcript.specs.declared.ending.Ending.{Ending}
@@ -25,6 +27,7 @@ pub begins : (d : Drawing) (from turns : ℕ) (left : Option (List ℕ)) (unread
 begins d from turns left unread lines none zero draws = record {
   told = [];
   takes = subst (λ (l : List ℕ). Takes (ahead [] left) (ahead l left) []) (sym none) (takes_none (ahead [] left));
+  plain = All-nil IsPlain;
   draws = draws;
   count = zero;
 }
@@ -43,12 +46,13 @@ whole_lines told e =
 
 module _ (from turns : ℕ) (a b c : Ahead) (n m : ℕ) where
   -- one mark more is drawn
-  pub goes_on : (d e : Drawing) (p : Part) (t : Told) → IsAlong d from turns a b n → Takes b c (part_line p) → p ≡ part.Mark t → m ≡ n + 1
+  pub goes_on : (d e : Drawing) (p : Part) (t : Told) → IsAlong d from turns a b n → Takes b c (part_line p) → p ≡ part.Mark t → IsPlainPart p → m ≡ n + 1
       → ((marks : List MarkOf) → Draws d from turns marks → Draws e from turns (marks ++ t.mark ∷ [])) → IsAlong e from turns a c m
-  goes_on d e p t along takes is more draws =
+  goes_on d e p t along takes is plain more draws =
       let line = subst (λ (q : Part). Takes b c (part_line q)) is takes in record {
         told = along.told ++ t ∷ [];
         takes = subst (Takes a c) (lines_more along.told t) (takes_then a b c (told_lines along.told) (told_line t) along.takes line);
+        plain = All-push IsPlain along.told t along.plain (subst IsPlainPart is plain);
         draws = subst (Draws e from turns) (sym (map-append (λ (t : Told). t.mark) along.told (t ∷ []))) (draws (marks_of along.told) along.draws);
         count = let many = length-append along.told (t ∷ []) in let so_far = along.count in omega arith;
       }
@@ -61,6 +65,7 @@ module _ (from turns : ℕ) (a b c : Ahead) (n m : ℕ) where
         told = along.told;
         ending = e;
         takes = takes_then a b c (told_lines along.told) (ending_line e) along.takes line;
+        plain = along.plain;
         draws = along.draws;
         count = let so_far = along.count in omega arith;
       }
@@ -99,6 +104,6 @@ module _ (d : Drawing) (from turns : ℕ) (content : Option (List ℕ)) (c : Ahe
         bytes = all.0;
         held = all.1;
         told = drawn.told;
-        transcript = record { ending = drawn.ending; whole = all.2 };
+        transcript = record { ending = drawn.ending; plain = drawn.plain; whole = all.2 };
         made = is (marks_of drawn.told) drawn.draws;
       }

@@ -7,6 +7,8 @@ use Rattle.pth_streams.specs.Inputs.{AreHeld, Inputs}
 use Rattle.pth_streams.specs.Pieces.{AppendsPart, AppendsPrefix, IsUnwritten, Received, WritesLine}
 use Rattle.pth_streams.specs.Scene.{Scene}
 use Rattle.pth_transcript.specs.FaultLines.{Reports, fault_line, fault_status}
+use Rattle.std.specs.List.{All}
+use Rattle.pth_transcript.specs.Plain.{IsPlain}
 use Rattle.pth_transcript.specs.Reading.{CountsFault, next_line, part_line}
 use Rattle.pth_transcript.specs.Taking.{OtherStays, content_under, is_file, of_read}
 use Rattle.pth_transcript.specs.Transcript.{ending_line, marks_of, told_lines}
@@ -29,9 +31,10 @@ picture from turns marks = picture_of (chart from turns marks)
 
 -- ---- the transcript
 
--- a text is the lines of these marks, and the line of an ending
+-- a text is the lines of these marks, which tell all of them, and the line of an ending
 pub record IsTranscript (bytes : List ℕ) (told : List Told) : Type 0 where
   pub ending : Ending
+  pub plain : All IsPlain told
   pub whole : bytes ≡ told_lines told ++ ending_line ending
 
 -- a text begins with lines of a transcript, and the one after them has this number

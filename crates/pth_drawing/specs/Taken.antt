@@ -1,5 +1,7 @@
 -- What was drawn of a transcript on the way through it.
 use Rattle.std.specs.Prelude.{◌≡◌, ◌+◌, ◌++◌, ℕ, List, length}
+use Rattle.std.specs.List.{All}
+use Rattle.pth_transcript.specs.Plain.{IsPlain}
 use Rattle.pth_transcript.specs.Taking.{Ahead, Takes}
 use Rattle.pth_transcript.specs.Transcript.{ending_line, marks_of, told_lines}
 use Rattle.pth_transcript.specs.declared.ending.Ending.{Ending}
@@ -11,6 +13,7 @@ use Rattle.pth_drawing.specs.declared.drawing.Drawing.{Drawing}
 pub record IsAlong (d : Drawing) (from turns : ℕ) (old new : Ahead) (lines : ℕ) : Type 0 where
   pub told : List Told
   pub takes : Takes old new (told_lines told)
+  pub plain : All IsPlain told
   pub draws : Draws d from turns (marks_of told)
   pub count : lines ≡ length told
 
@@ -19,5 +22,6 @@ pub record HasDrawn (d : Drawing) (from turns : ℕ) (old new : Ahead) (lines : 
   pub told : List Told
   pub ending : Ending
   pub takes : Takes old new (told_lines told ++ ending_line ending)
+  pub plain : All IsPlain told
   pub draws : Draws d from turns (marks_of told)
   pub count : lines ≡ length told + 1

@@ -1,3 +1,4 @@
+pub mod Plain
 pub mod Transcript
 pub mod Taking
 pub mod FaultLines

@@ -3,6 +3,7 @@ use Rattle.std.specs.Prelude.{◌≡◌, ◌+◌, ◌-◌, ◌^◌, ℕ, List, m
 use Rattle.pth_streams.specs.Faults.{Rose}
 use Rattle.pth_streams.specs.declared.source.ReadFault.{ReadFault}
 use Rattle.pth_streams.specs.declared.source.ReadFault.TheVariants as read
+use Rattle.pth_transcript.specs.Plain.{IsPlain}
 use Rattle.pth_transcript.specs.Transcript.{ending_line, told_line}
 use Rattle.pth_transcript.specs.declared.fault.Fault.{Fault}
 use Rattle.pth_transcript.specs.declared.fault.Fault.TheVariants as fault
@@ -13,6 +14,11 @@ use Rattle.pth_transcript.specs.declared.reader.Part.TheVariants as part
 abbrev pub part_line : Part → List ℕ
 part_line (part.Mark told) = told_line told
 part_line (part.Ending ending) = ending_line ending
+
+-- a part says no more than its line
+abbrev pub IsPlainPart : Part → Type 0
+IsPlainPart (part.Mark told) = IsPlain told
+IsPlainPart (part.Ending ending) = Unit {0}
 
 -- the number of the next line after so many, up to the last value of a `u64`
 abbrev pub next_line : ℕ → ℕ

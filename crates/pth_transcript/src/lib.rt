@@ -11,6 +11,7 @@ pub mod ending;
 pub mod fault;
 mod lines;
 mod number;
+mod plain;
 mod printed;
 pub mod reader;
 mod split;

@@ -2,7 +2,7 @@
 
 ghost use Rattle.std.specs.Prelude.{◌≡◌, ◌+◌, ◌++◌, ◌⊎◌, [], IfOk, IfSome, IfErr, codes, option_map, true, false};
 ghost use Rattle.pth_streams.specs.Faults.{Counts, CountsRead};
-ghost use Rattle.pth_transcript.specs.Reading.{ComesTo, CountsFault, fault_of, part_line};
+ghost use Rattle.pth_transcript.specs.Reading.{ComesTo, CountsFault, IsPlainPart, fault_of, part_line};
 ghost use Rattle.pth_transcript.specs.Taking.{IsOver, IsStarted, Opens, OtherStays, Takes, ahead, is_file, of_read};
 
 use crate::ending::{Ending, read_ending};
@@ -40,6 +40,7 @@ impl Model for Reader {
 // What a line tells.
 fn read_part(alloc: Global, line: &[u8]) -> Result<Option<Part>, OutOfMemory>
     ensures spelled { IfOk result (λ found. IfSome found (λ part. line.now ++ codes "\n" ≡ part_line part)) }
+    ensures plain { IfOk result (λ found. IfSome found IsPlainPart) }
 {
     if let Some(told) = read_line(alloc, line)? {
         return Ok(Some(Part::Mark(told)));
@@ -103,6 +104,7 @@ impl Reader {
         ensures started { IsStarted self.new.of_file (F.started files.new) }
         ensures same { self.new.of_file ≡ self.old.of_file }
         ensures count { self.new.lines ≡ self.old.lines }
+        ensures plain { IfOk result (λ found. IfSome found IsPlainPart) }
         ensures takes { IfOk result (λ found. IfSome found (λ part. Takes
             (ahead self.old.unread (of_read self.old.of_file (S.left input.old) (F.left files.old)))
             (ahead self.new.unread (of_read self.old.of_file (S.left input.new) (F.left files.new))) (part_line part))) }
@@ -133,6 +135,7 @@ impl Reader {
             (ahead self.old.unread (of_read self.old.of_file (S.left input.old) (F.left files.old)))
             (ahead self.new.unread (of_read self.old.of_file (S.left input.new) (F.left files.new))) (part_line part)) }
         ensures lines { IfOk result (λ _. self.new.lines ≡ self.old.lines + 1) }
+        ensures plain { IfOk result IsPlainPart }
         ensures fault { IfErr result (ComesTo self.old.lines) }
         ensures counts { CountsFault (of_read self.old.of_file (S.faults input.old) (F.faults files.old))
             (of_read self.old.of_file (S.faults input.new) (F.faults files.new)) result }

@@ -1,8 +1,10 @@
 //! Lines of marks, read.
 
 ghost use Rattle.std.specs.Prelude.{◌≡◌, ◌++◌, IfOk, IfSome, IsTrue, codes};
+ghost use Rattle.pth_transcript.specs.Plain.{IsPlain};
 ghost use Rattle.pth_transcript.specs.Transcript.{told_line};
 
+use crate::plain::is_plain;
 use crate::printed::is_line;
 use crate::thread::thread_mark;
 use crate::turn::{moved, turn, woke};
@@ -57,11 +59,12 @@ fn is_printed(alloc: Global, told: &Told, line: &[u8]) -> Result<bool, OutOfMemo
 /// how long its thread has waited, it waited 0 turns and may wait 0.
 pub fn read_line(alloc: Global, line: &[u8]) -> Result<Option<Told>, OutOfMemory>
     ensures spelled { IfOk result (λ found. IfSome found (λ told. line.now ++ codes "\n" ≡ told_line told)) }
+    ensures plain { IfOk result (λ found. IfSome found IsPlain) }
 {
     let Some(told) = read_loosely(alloc, line)? else {
         return Ok(None);
     };
-    if is_printed(alloc, &told, line)? {
+    if is_plain(told.audit, &told.mark) && is_printed(alloc, &told, line)? {
         Ok(Some(told))
     } else {
         Ok(None)

@@ -30,7 +30,7 @@ loop-line-preserved g c = record {
   started = c.in_ok-told.ensures.started;
   same = c.in_ok-told.ensures.same ∙ c.loop-line.invariant.same;
   along = goes_on _ _ _ _ _ _ _ _ _ _ _ c.loop-line.invariant.along
-      (taken_of _ _ c.loop-line.invariant.same _ _ _ _ _ _ _ c.in_ok-told.ensures.takes) c.in-Mark.is c.in_ok-told.ensures.lines
+      (taken_of _ _ c.loop-line.invariant.same _ _ _ _ _ _ _ c.in_ok-told.ensures.takes) c.in-Mark.is c.in_ok-told.ensures.plain c.in_ok-told.ensures.lines
       (λ marks h. c.in-Ok.ensures _ _ marks h);
   stood = stood_of _ _ c.loop-line.invariant.same _ _ _ _ _ _ c.in_ok-told.ensures.counts c.loop-line.invariant.stood;
   other = others_of _ _ c.loop-line.invariant.same _ _ _ _ _ _ c.loop-line.invariant.other c.in_ok-told.ensures.other;

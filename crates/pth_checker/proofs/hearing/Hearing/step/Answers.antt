@@ -12,7 +12,7 @@ returns-in_err-told-clause-goes_on g c = λ content told heard.
 pub returns-in-Mark-clause-goes_on : goal.returns-in-Mark-clause-goes_on
 returns-in-Mark-clause-goes_on g c = λ content told heard.
     c.judge_mark.ensures.goes_on content _ told
-    (read_as content _ _ c.args.self.now _ told c.in_ok-told.field-0 (part.Mark c.in-Mark.told) c.in-Mark.is heard c.in_ok-told.ensures.takes c.in_ok-told.ensures.lines refl)
+    (read_as content _ _ c.args.self.now _ told c.in_ok-told.field-0 (part.Mark c.in-Mark.told) c.in-Mark.is heard c.in_ok-told.ensures.takes c.in_ok-told.ensures.lines refl c.in_ok-told.ensures.plain)
 
 pub returns-in_err-judge_ending-in-Ending-clause-goes_on :
     goal.returns-in_err-judge_ending-in-Ending-clause-goes_on
@@ -26,7 +26,7 @@ returns-in_err-judge_ending-in-Ending-clause-goes_on g c = λ content told heard
     let left = of_read file (g.S.Source.left c.judge_ending.new.input) (g.F.Files.left c.judge_ending.new.files) in
     goes_wrong content left c.judge_ending.new.self result.result fault.field-0.0 result.ensures.0 result.ensures.1
     (fault.ensures.comes_to content told (read_of_same content input files _ told (part.Ending c.in-Ending.ending) file c.next.new.self.of_file c.in_ok-told.ensures.same
-    (read_as content before (of_read file input files) c.args.self.now _ told c.in_ok-told.field-0 (part.Ending c.in-Ending.ending) c.in-Ending.is heard c.in_ok-told.ensures.takes c.in_ok-told.ensures.lines refl)))
+    (read_as content before (of_read file input files) c.args.self.now _ told c.in_ok-told.field-0 (part.Ending c.in-Ending.ending) c.in-Ending.is heard c.in_ok-told.ensures.takes c.in_ok-told.ensures.lines refl c.in_ok-told.ensures.plain)))
 
 pub returns-in_ok-judge_ending-in-Ending-clause-goes_on :
     goal.returns-in_ok-judge_ending-in-Ending-clause-goes_on
@@ -36,4 +36,4 @@ returns-in_ok-judge_ending-in-Ending-clause-goes_on g c = λ content told heard.
     let input = g.S.Source.left c.next.new.input in
     let files = g.F.Files.left c.next.new.files in
     c.in_ok-judge_ending-in-Ending.ensures.comes_to content told (read_of_same content input files _ told (part.Ending c.in-Ending.ending) file c.next.new.self.of_file c.in_ok-told.ensures.same
-    (read_as content before (of_read file input files) c.args.self.now _ told c.in_ok-told.field-0 (part.Ending c.in-Ending.ending) c.in-Ending.is heard c.in_ok-told.ensures.takes c.in_ok-told.ensures.lines refl))
+    (read_as content before (of_read file input files) c.args.self.now _ told c.in_ok-told.field-0 (part.Ending c.in-Ending.ending) c.in-Ending.is heard c.in_ok-told.ensures.takes c.in_ok-told.ensures.lines refl c.in_ok-told.ensures.plain))
