@@ -1,7 +1,7 @@
 -- A law of marks, one mark more.
 use Rattle.std.proofs.Common.{◌≡◌, ◌⊎◌, ℕ, ◌+◌, ◌<◌, length, take, drop, get_or, arith, List, [], ◌∷◌, ◌++◌, refl, sym, ap, ap₂, ◌∙◌, subst, inl, inr}
 use Rattle.std.proofs.lemmas.List.Elements.{All-nil, All-push}
-use Rattle.std.proofs.lemmas.List.{length-append, length-take-le, get_or_push, take-append-drop, drop_more, take_more}
+use Rattle.std.proofs.lemmas.List.{length-take-le, take-append-drop, drop_more, take_more}
 use Rattle.pth_base.specs.declared.mark.Mark.{Mark}
 use Rattle.pth_laws.specs.Exclusive.{Exclusive, IsExclusiveAt}
 use Rattle.pth_laws.specs.InOrder.{IsInOrderAt, queue}
@@ -58,9 +58,6 @@ module _ (marks : List Mark) (m : Mark) (l : IsLawful marks) where
 
   exclusive_more : IsExclusiveAt marks m → Exclusive (marks ++ m ∷ [])
   exclusive_more here = everywhere_more IsExclusiveAt marks m l.exclusive here
-
-  pub is_late : (IsInTime m → ⊥) → BreaksFirst rule.InTime (marks ++ m ∷ [])
-  is_late late all = late (subst IsInTime (get_or_push marks m m (length marks) refl) (all (length marks) m (let long = length-append marks (m ∷ []) in omega arith)))
 
   pub is_disorderly : IsInTime m → (IsOrderlyAt marks m → ⊥) → BreaksFirst rule.Orderly (marks ++ m ∷ [])
   is_disorderly in_time not = (in_time_more in_time, λ all. not (everywhere_last IsOrderlyAt marks m all))

@@ -154,9 +154,6 @@ module _ (t : ℕ) where
       abbrev after : List Mark
       after = block ++ mark.Destructor u key v ∷ []
 
-      abbrev HandlersFit : Run → Type 0
-      HandlersFit y = RunFits t before after y
-
       destructor_handlers : handlers_in after ≡ x.handlers
       unfolding handlers_in
       destructor_handlers = handlers_more block (mark.Destructor u key v) ∙ append-nil (handlers_in block) ∙ f.handlers

@@ -118,10 +118,6 @@ module _ (b : ℕ → Option ℕ) (steps t : ℕ) (back : along b steps t ≡ So
   pub gone_none : IsGoneAlong b steps t 0 [] (Some t)
   gone_none = record { long = refl; gone = λ k low. absurd (omega (arith, low)); here = sym (along-none b t) }
 
-  -- the walk has not ended before
-  pub not_ended : (i : ℕ) → i < steps → along b i t ≢ None
-  not_ended i low none = (let e = sym back ∙ ended b i steps t (omega (arith, low)) none in cc e)
-
   pub gone_more : (i u : ℕ) (ts : List ℕ) (next : Option ℕ) → next ≡ b u → IsGoneAlong b steps t i ts (Some u) → IsGoneAlong b steps t (i + 1) (ts ++ u ∷ []) next
   gone_more i u ts next is g = record {
     long = length-append ts (u ∷ []) ∙ ap (λ n. n + 1) g.long;

@@ -4,6 +4,7 @@ use Rattle.std.specs.List.Sorted.{IsStrictlyIncreasing}
 use Rattle.std.proofs.lemmas.Bool.{cases_lt}
 use Rattle.std.proofs.lemmas.List.{length-map, get_or-map}
 use Rattle.std.proofs.lemmas.List.Kept.{AllPairs-from_increasing}
+use Rattle.std.proofs.lemmas.Option.{same_Some}
 use Rattle.pth_base.specs.declared.ids.Tid.{Tid}
 use Rattle.pth_base.specs.Naming.{by_slot, seen}
 use Rattle.pth_base.specs.Table.{table}
@@ -28,9 +29,6 @@ module _ (b : ℕ → Option ℕ) (ts : List ℕ) (all : (u v : ℕ) → b u ≡
   -- those before place i do not lead back
   abbrev pub NoneBack : ℕ → Type 0
   NoneBack i = (j : ℕ) → j < i → (k : ℕ) → 1 ≤ k → k ≤ length ts → along b k (get_or ts j 0) ≢ Some (get_or ts j 0)
-
-  pub none_first : NoneBack 0
-  none_first = λ j low. absurd (omega (arith, low))
 
   pub none_next : (i : ℕ) → NoneBack i → IsBack b (length ts) (get_or ts i 0) None → NoneBack (i + 1)
   none_next i before here j low = elim (cases_lt j i) [
@@ -95,8 +93,5 @@ module _ (b : ℕ → Option ℕ) (ts : List Tid) (all : (u v : ℕ) → b u ≡
   first_circle i n circle low before back gone =
       let t = (get_or ts i (tid_from 0)).0 in
       let made = circle_made b t n (map number_of circle) back.0 (length-map circle number_of ∙ gone.0) gone.1 back.2 back.3 in
-      let head : get_or (map number_of ts) i 0 ≡ get_or (map number_of circle) 0 0 = same_there i low ∙ the_same t (get_or (map number_of circle) 0 0) (sym (along-none b t) ∙ gone.1 0 back.0) in
+      let head : get_or (map number_of ts) i 0 ≡ get_or (map number_of circle) 0 0 = same_there i low ∙ same_Some t (get_or (map number_of circle) 0 0) (sym (along-none b t) ∙ gone.1 0 back.0) in
       (made, subst (IsLeast b) head (least b (map number_of ts) all rising i before))
-    where
-      the_same : (x y : ℕ) → Some x ≡ Some y → x ≡ y
-      the_same x y e = cc e

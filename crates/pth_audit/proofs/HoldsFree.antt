@@ -13,8 +13,8 @@ use Rattle.std.proofs.lemmas.List.Elements.{All-contains}
 use Rattle.std.proofs.lemmas.Map.Keys.{IsDistinct-from_sorted}
 use Rattle.std.proofs.lemmas.Map.Lookups.{exact_signed, exact_unsigned, exact_pairs}
 use Rattle.std.proofs.lemmas.Map.Views.{IfSome-lookup_from_All, All-values_from_lookup, All-from_any, Contains-from_any, tells_apart}
+use Rattle.std.proofs.lemmas.Bool.{true≢false, not-true, not_from_false}
 use Rattle.pth_base.proofs.Tables.{same_self, same_means}
-use Rattle.pth_laws.proofs.Living.{true_false, not_true}
 use Rattle.pth_audit.specs.declared.holds.Owner.{Owner}
 use Rattle.pth_audit.specs.Holds.{levels_of, has_level, is_writer, by_lock, reads_under}
 
@@ -23,17 +23,14 @@ by_bool true if_so if_not = if_so refl
 by_bool false if_so if_not = if_not refl
 
 all_fail : {X : Type 0} (p : X → Bool) (xs : List X) → list_any p xs ≡ false → All (λ x. p x ≡ false) xs
-all_fail p xs h k d low = by_bool (p (get_or xs k d)) (λ passes. absurd (true_false (sym (list_any_at p xs k d low passes) ∙ h))) (λ fails. fails)
-
-not_false : (b : Bool) → b ≡ false → not b ≡ true
-not_false b h = ap not h
+all_fail p xs h k d low = by_bool (p (get_or xs k d)) (λ passes. absurd (true≢false (sym (list_any_at p xs k d low passes) ∙ h))) (λ fails. fails)
 
 -- ---- maps
 
 pub none_in_map : {X : Type 0} (m : BTreeMap ℤ X) → IsOrdered int_cmp m → (p : X → Bool) (b : Bool) → b ≡ list_any p (values m) → Decides (not b) ((i : ℤ) → IfSome (get int_cmp m i) (λ v. p v ≡ false))
 none_in_map {X} m ordered p b is = (
-  λ h i. IfSome-lookup_from_All (λ (v : X). p v ≡ false) (eq_by_cmp int_cmp i) m.entries (all_fail p (values m) (sym is ∙ not_true b h)),
-  λ none. not_false b (is ∙ list_any_none p (values m) (All-values_from_lookup (eq_by_cmp_equiv int_cmp_total) (λ (v : X). p v ≡ false) m.entries (IsDistinct-from_sorted int_cmp _ ordered) none)),
+  λ h i. IfSome-lookup_from_All (λ (v : X). p v ≡ false) (eq_by_cmp int_cmp i) m.entries (all_fail p (values m) (sym is ∙ not-true b h)),
+  λ none. not_from_false b (is ∙ list_any_none p (values m) (All-values_from_lookup (eq_by_cmp_equiv int_cmp_total) (λ (v : X). p v ≡ false) m.entries (IsDistinct-from_sorted int_cmp _ ordered) none)),
 )
 
 -- ---- the set of readers
@@ -43,8 +40,8 @@ by_lock_total = then_total (on_total (λ (x : ℤ × ℕ). x.0) int_cmp_total) (
 
 pub none_in_set : (s : BTreeSet (ℤ × ℕ)) (p : ℤ × ℕ → Bool) (b : Bool) → b ≡ list_any p s.keys → Decides (not b) ((t : ℕ) (l : ℤ) → reads_under s t l ≡ true → p (l, t) ≡ false)
 none_in_set s p b is = (
-  λ h t l held. All-contains (λ (x : ℤ × ℕ). p x ≡ false) s.keys (l, t) (all_fail p s.keys (sym is ∙ not_true b h)) (Contains-from_any (tells_apart (exact_pairs int_cmp nat_cmp exact_signed exact_unsigned)) (l, t) s.keys held),
-  λ none. not_false b (is ∙ list_any_none p s.keys (All-from_any (eq_by_cmp_equiv by_lock_total) (λ (x : ℤ × ℕ). p x ≡ false) s.keys (λ q held. none q.1 q.0 held))),
+  λ h t l held. All-contains (λ (x : ℤ × ℕ). p x ≡ false) s.keys (l, t) (all_fail p s.keys (sym is ∙ not-true b h)) (Contains-from_any (tells_apart (exact_pairs int_cmp nat_cmp exact_signed exact_unsigned)) (l, t) s.keys held),
+  λ none. not_from_false b (is ∙ list_any_none p s.keys (All-from_any (eq_by_cmp_equiv by_lock_total) (λ (x : ℤ × ℕ). p x ≡ false) s.keys (λ q held. none q.1 q.0 held))),
 )
 
 -- ---- a thread has no level, or writes nowhere
@@ -54,7 +51,7 @@ level_none t None h = refl
 level_none t (Some v) h = by_tests (v.tid == t) v.levels h
   where
     by_tests : (b : Bool) (n : ℕ) → (b && not (n == 0)) ≡ false → (if b then n else 0) ≡ 0
-    by_tests true n h = by_bool (n == 0) (λ zero_left. same_means n 0 zero_left) (λ some. absurd (true_false (sym (ap not some) ∙ h)))
+    by_tests true n h = by_bool (n == 0) (λ zero_left. same_means n 0 zero_left) (λ some. absurd (true≢false (sym (ap not some) ∙ h)))
     by_tests false n h = refl
 
 none_level : (t : ℕ) (o : Option Owner) → levels_of t o ≡ 0 → IfSome o (λ v. has_level t v ≡ false)
@@ -83,12 +80,12 @@ writes_none t m ordered b is = Decides-like (not b) (λ f l. writer_none t (get 
 
 pub reads_none : (t : ℕ) (s : BTreeSet (ℤ × ℕ)) (b : Bool) → b ≡ list_any (λ x. x.1 == t) s.keys → Decides (not b) ((l : ℤ) → reads_under s t l ≡ false)
 reads_none t s b is = Decides-like (not b)
-    (λ f l. by_bool (reads_under s t l) (λ held. absurd (true_false (sym (same_self t) ∙ f t l held))) (λ off. off))
-    (λ f u l held. by_bool (u == t) (λ same. absurd (true_false (sym held ∙ ap (λ (v : ℕ). reads_under s v l) (same_means u t same) ∙ f l))) (λ off. off))
+    (λ f l. by_bool (reads_under s t l) (λ held. absurd (true≢false (sym (same_self t) ∙ f t l held))) (λ off. off))
+    (λ f u l held. by_bool (u == t) (λ same. absurd (true≢false (sym held ∙ ap (λ (v : ℕ). reads_under s v l) (same_means u t same) ∙ f l))) (λ off. off))
     (none_in_set s (λ x. x.1 == t) b is)
 
 pub no_reader_of : (l : ℤ) (s : BTreeSet (ℤ × ℕ)) (b : Bool) → b ≡ list_any (λ x. int_eq x.0 l) s.keys → Decides (not b) ((u : ℕ) → reads_under s u l ≡ false)
 no_reader_of l s b is = Decides-like (not b)
-    (λ f u. by_bool (reads_under s u l) (λ held. absurd (true_false (sym ((Decides-int_eq l l).1 refl) ∙ f u l held))) (λ off. off))
-    (λ f u k held. by_bool (int_eq k l) (λ same. absurd (true_false (sym held ∙ ap (λ (i : ℤ). reads_under s u i) ((Decides-int_eq k l).0 same) ∙ f u))) (λ off. off))
+    (λ f u. by_bool (reads_under s u l) (λ held. absurd (true≢false (sym ((Decides-int_eq l l).1 refl) ∙ f u l held))) (λ off. off))
+    (λ f u k held. by_bool (int_eq k l) (λ same. absurd (true≢false (sym held ∙ ap (λ (i : ℤ). reads_under s u i) ((Decides-int_eq k l).0 same) ∙ f u))) (λ off. off))
     (none_in_set s (λ x. int_eq x.0 l) b is)

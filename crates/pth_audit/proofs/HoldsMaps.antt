@@ -5,9 +5,9 @@ use Rattle.std.specs.BTreeMap.{BTreeMap, get}
 use Rattle.std.specs.Ordering.{is_eq}
 use lib.Dec.{ltb}
 use Rattle.std.proofs.lemmas.Bool.Decides.{Decides-ltb}
+use Rattle.std.proofs.lemmas.Bool.{true≢false}
 use Rattle.pth_base.proofs.Tables.{same_self, not_same, same_means, same_fails}
 use Rattle.pth_laws.specs.Marks.{is_same}
-use Rattle.pth_laws.proofs.Living.{true_false}
 use Rattle.pth_laws.proofs.Numbers.{same_number}
 use Rattle.pth_audit.specs.declared.holds.Deed.TheVariants as deed
 use Rattle.pth_audit.specs.declared.holds.Holds.{Holds}
@@ -42,7 +42,7 @@ abbrev pub IsUnwritten : Option ℕ → Type 0
 IsUnwritten w = (u : ℕ) → is_writer u w ≡ false
 
 pub somebody_writes : (w : Option ℕ) (v : ℕ) → w ≡ Some v → Decides false (IsUnwritten w)
-somebody_writes w v is = (λ h. absurd (true_false (sym h)), λ free. absurd (true_false (sym (same_self v) ∙ sym (ap (is_writer v) is) ∙ free v)))
+somebody_writes w v is = (λ h. absurd (true≢false (sym h)), λ free. absurd (true≢false (sym (same_self v) ∙ sym (ap (is_writer v) is) ∙ free v)))
 
 -- ---- tests of equal values
 
@@ -52,10 +52,10 @@ decides_by r b is = (λ h. sym is ∙ h, λ h. is ∙ h)
 -- one of two tests that are made one after the other
 pub first_passes : (x a b : Bool) → x ≡ a → x ≡ true → Decides x ((a || b) ≡ true)
 first_passes x true b is passes = decides_by x true passes
-first_passes x false b is passes = absurd (true_false (sym passes ∙ is))
+first_passes x false b is passes = absurd (true≢false (sym passes ∙ is))
 
 pub first_fails : (x y a b : Bool) → x ≡ a → x ≡ false → y ≡ b → Decides y ((a || b) ≡ true)
-first_fails x y true b is fails second = absurd (true_false (sym is ∙ fails))
+first_fails x y true b is fails second = absurd (true≢false (sym is ∙ fails))
 first_fails x y false b is fails second = decides_by y b second
 
 pub decides_some : (n m : ℕ) → n ≡ m → Decides (ltb 0 n) (0 < m)
@@ -69,8 +69,8 @@ levels_removed old new t i n zero_left gone u k = ap (levels_of u) (gone k) ∙ 
   where
     by_test : (a b : Bool) → a ≡ b → levels_of u (cond a None (get int_cmp old k)) ≡ (if b then (if t == u then n else 0) else levels_of u (get int_cmp old k))
     by_test true true e = sym (none_of (t == u) n zero_left)
-    by_test true false e = absurd (true_false e)
-    by_test false true e = absurd (true_false (sym e))
+    by_test true false e = absurd (true≢false e)
+    by_test false true e = absurd (true≢false (sym e))
     by_test false false e = refl
 
 -- ---- a level is given back

@@ -12,9 +12,6 @@ use Rattle.pth_audit.specs.Holds.{by_lock, reads_under}
 eq_nat : (x y : ℕ) → is_eq (nat_cmp x y) ≡ (x == y)
 eq_nat x y = grind (arith, nat_tests)
 
-either_way : (x y : ℕ) → (x == y) ≡ (y == x)
-either_way x y = grind (arith, nat_tests)
-
 eq_pos : (m n : ℕ) → is_eq (int_cmp (pos m) (pos n)) ≡ (n == m)
 eq_pos m n = grind (arith, nat_tests)
 

@@ -3,11 +3,11 @@ use Rattle.std.proofs.Common.{◌≡◌, ◌≢◌, ℕ, ◌+◌, ◌-◌, ◌==
 use Rattle.std.specs.BTreeMap.{get}
 use Rattle.std.specs.Ordering.{int_cmp}
 use Rattle.std.proofs.lemmas.List.Sums.{fold-append}
+use Rattle.std.proofs.lemmas.Bool.{true≢false, and_parts}
 use Rattle.pth_base.specs.declared.mark.Mark.{Mark}
 use Rattle.pth_base.proofs.Tables.{same_self, same_means}
 use Rattle.pth_laws.specs.Exclusive.{is_of, awaits, awaits_after, takes, gives, gives_up, enters, leaves, levels, writes, reads, held_after, Share, share_after, IsExclusiveAt}
 use Rattle.pth_laws.specs.Marks.{is_same, is_end_of}
-use Rattle.pth_laws.proofs.Living.{true_false, both}
 use Rattle.pth_laws.proofs.Numbers.{same_number}
 use Rattle.pth_audit.specs.declared.holds.Deed.{Deed}
 use Rattle.pth_audit.specs.declared.holds.Deed.TheVariants as deed
@@ -24,7 +24,7 @@ own t i = rw (same_int i) (same_self t)
 
 -- a mark of u and k is one of t and i only if these are the same
 same_both : (P : ℕ → ℤ → Type 0) (t u : ℕ) (i k : ℤ) → is_of t i u k ≡ true → P u k → P t i
-same_both P t u i k h x = (let (same, is) = both (is_same i k) (u == t) h in subst (λ (v : ℕ). P v i) (same_means u t is) (subst (λ (j : ℤ). P u j) (sym (same_number i k same)) x))
+same_both P t u i k h x = (let (same, is) = and_parts (is_same i k) (u == t) h in subst (λ (v : ℕ). P v i) (same_means u t is) (subst (λ (j : ℤ). P u j) (sym (same_number i k same)) x))
 
 module _ (h : Holds) where
   -- the sentences of the law, of a deed
@@ -49,7 +49,7 @@ module _ (h : Holds) where
   fair_if_said (deed.Ends t) s = (λ i. s.end_has_no_level t i (same_self t), λ l. s.end_holds_no_lock t l (same_self t))
 
   none : {A : Type 0} → false ≡ true → A
-  none e = absurd (true_false (sym e))
+  none e = absurd (true≢false (sym e))
 
   said_if_fair : (d : Deed) → IsFair h d → Said d
   said_if_fair d fair = record {

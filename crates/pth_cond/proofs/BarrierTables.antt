@@ -1,13 +1,13 @@
 -- The barriers before and after a call.
-use Rattle.std.proofs.Common.{◌≡◌, ◌≢◌, ℕ, ℤ, pos, negsuc, ◌≤ℤ◌, ◌+◌, ◌<◌, ◌≤◌, false, List, [], ◌∷◌, ◌++◌, length, get_or, set, Option, Some, None, option_map, refl, sym, ◌∙◌, ap, subst, arith, inl, inr, length-set, get_or-set_other, get_or-set_same}
+use Rattle.std.proofs.Common.{◌≡◌, ◌≢◌, ℕ, ℤ, pos, negsuc, ◌≤ℤ◌, ◌+◌, ◌<◌, ◌≤◌, false, List, [], ◌∷◌, ◌++◌, length, get_or, set, Option, Some, None, option_map, refl, sym, ◌∙◌, ap, subst, arith, inl, inr}
 use Rattle.std.proofs.lemmas.Int.{ints}
 use lib.IntN.{nat_abs}
 use Rattle.std.proofs.lemmas.List.{get_or_past, get_or_default, map_push}
 use Rattle.std.proofs.lemmas.Bool.{cases_lt}
 use Rattle.std.proofs.lemmas.Bool.Decides.{nat_tests}
+use Rattle.std.proofs.lemmas.Option.{same_Some}
 use mathlib.Core.Path.{fun_ext}
 use Rattle.pth_base.specs.Table.{put}
-use Rattle.pth_base.proofs.Tables.{put_by}
 use Rattle.pth_base.proofs.Lists.{table_set, put_none}
 use Rattle.pth_lock.specs.Objects.{object_limit, object_named}
 use Rattle.pth_cond.specs.Barriers.{Arrived, Barrier, BarrierTable, arrived_in, without_thread, late_behind, barriers_of, no_barriers, size_given, with_barrier, barrier_initialised, all_withdrawn, BarrierIsSound}
@@ -100,21 +100,6 @@ module _ (xs : BarrierList) (kept : BarriersAreKept xs) (k : ℕ) (low : k < obj
   barriers_set : (x : Option Barrier) → barriers_of (set xs k x) ≡ put (barriers_of xs) k x
   barriers_set x = table_set xs k x None within
 
-  pub kept_set : (y : Barrier) → BarrierIsSound y → BarriersAreKept (set xs k (Some y))
-  kept_set y sound = record {
-    many = length-set xs k (Some y) ∙ kept.many;
-    sound = record {
-      past = λ b high. get_or_past (set xs k (Some y)) b None (let long = length-set xs k (Some y) in let many = kept.many in omega (arith, long, many));
-      each = λ b z is. at b z (sym (ap (λ (f : BarrierTable). f b) (barriers_set (Some y))) ∙ is);
-    };
-  }
-    where
-      same : (x z : Barrier) → Some x ≡ Some z → x ≡ z
-      same x z is = cc
-
-      at : (b : ℕ) (z : Barrier) → put (barriers_of xs) k (Some y) b ≡ Some z → BarrierIsSound z
-      at b z = put_by (λ (x : Option Barrier). x ≡ Some z → BarrierIsSound z) (barriers_of xs) k (Some y) b (λ here is. subst BarrierIsSound (same y z is) sound) (λ apart is. kept.sound.each b z is)
-
   -- an operand names it
   module _ (b : ℤ) (named : k ≡ object_named b) (d : Option Barrier) where
     read : barriers_of xs k ≡ get_or xs k d
@@ -154,38 +139,6 @@ pub record IsEmptiedBelow (old new : BarrierList) (end : ℕ) : Type 0 where
   pub below : (b : ℕ) → b < end → barriers_of new b ≡ all_withdrawn (barriers_of old) b
   pub later : (b : ℕ) → end ≤ b → barriers_of new b ≡ barriers_of old b
 
-pub emptied_none_yet : (xs : BarrierList) → IsEmptiedBelow xs xs 0
-emptied_none_yet xs = record { below = λ b low. absurd (omega arith); later = λ b high. refl }
-
-module _ (old new : BarrierList) (k : ℕ) (h : IsEmptiedBelow old new k) where
-  -- the next is not initialised
-  pub emptied_past : barriers_of new k ≡ None → IsEmptiedBelow old new (k + 1)
-  emptied_past none = record {
-    below = λ b low. elim (cases_lt b k) [
-      | inl before ↦ h.below b before
-      | inr last ↦ let here : b ≡ k = omega arith in ap (barriers_of new) here ∙ none ∙ ap (option_map emptied) (sym none ∙ h.later k (omega arith) ∙ ap (barriers_of old) (sym here))
-    ];
-    later = λ b high. h.later b (omega arith);
-  }
-
-  -- nobody waits at the next
-  pub emptied_next : (y z : Barrier) → k < length new → barriers_of new k ≡ Some y → z ≡ emptied y → IsEmptiedBelow old (set new k (Some z)) (k + 1)
-  emptied_next y z low was is = record {
-    below = λ b bound. elim (cases_lt b k) [
-      | inl before ↦ let apart : b ≢ k = omega arith in get_or-set_other new k b (Some z) None apart ∙ h.below b before
-      | inr last ↦ let here : b ≡ k = omega arith in
-          ap (barriers_of (set new k (Some z))) here ∙ get_or-set_same new k (Some z) None low ∙ ap Some is
-          ∙ ap (option_map emptied) (sym was ∙ h.later k (omega arith) ∙ ap (barriers_of old) (sym here))
-    ];
-    later = λ b high. let apart : b ≢ k = omega arith in get_or-set_other new k b (Some z) None apart ∙ h.later b (omega arith);
-  }
-
-  pub emptied_all : length old ≤ k → barriers_of new ≡ all_withdrawn (barriers_of old)
-  emptied_all all = fun_ext (λ b. elim (cases_lt b k) [
-    | inl low ↦ h.below b low
-    | inr high ↦ let none : barriers_of old b ≡ None = get_or_past old b None (omega arith) in h.later b high ∙ none ∙ ap (option_map emptied) (sym none)
-  ])
-
 pub kept_emptied : (xs ys : BarrierList) → BarriersAreKept xs → length ys ≡ object_limit → barriers_of ys ≡ all_withdrawn (barriers_of xs) → BarriersAreKept ys
 kept_emptied xs ys kept long is = record {
   many = long;
@@ -198,9 +151,6 @@ kept_emptied xs ys kept long is = record {
     at : (b : ℕ) → barriers_of ys b ≡ option_map emptied (barriers_of xs b)
     at b = ap (λ (f : BarrierTable). f b) is
 
-    same : (x y : Barrier) → Some x ≡ Some y → x ≡ y
-    same x y e = cc
-
     one : (b : ℕ) (x : Option Barrier) (y : Barrier) → barriers_of xs b ≡ x → option_map emptied x ≡ Some y → BarrierIsSound y
-    one b (Some x) y was some = subst BarrierIsSound (same (emptied x) y some) (emptied_sound x (kept.sound.each b x was))
+    one b (Some x) y was some = subst BarrierIsSound (same_Some (emptied x) y some) (emptied_sound x (kept.sound.each b x was))
     one b None y was some = absurd (cc)

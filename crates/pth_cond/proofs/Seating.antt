@@ -7,13 +7,11 @@ use Rattle.std.proofs.lemmas.List.Edits.{map_over_more}
 use Rattle.std.proofs.lemmas.List.Quantifiers.{position-Some}
 use Rattle.std.proofs.lemmas.List.Sums.{sum_by-cons, sum_by-remove, sum_by_push, count_by-le-length, fails_before_first}
 use Rattle.std.proofs.lemmas.Bool.Decides.{nat_tests}
+use Rattle.std.proofs.lemmas.Bool.{true≢false, not-true}
 use Rattle.pth_cond.specs.declared.seats.Seat.{Seat}
 use Rattle.pth_cond.specs.declared.seats.Notice.TheVariants.{Unmarked, One, All}
 use Rattle.pth_cond.specs.declared.seats.Taken.{Taken}
 use Rattle.pth_cond.specs.Seats.{is_at, has_mark, marks, marks_stand_first, notice_at, with_seat, without_seat, one_notified, all_notified, notified, handed_on, is_one_at, SeatsAreKept, is_marked_at, is_mark}
-
-true_false : true ≡ false → ⊥
-true_false h = cc
 
 pub cases : {P : Type 0} (b : Bool) → (b ≡ true → P) → (b ≡ false → P) → P
 cases true whole empty = whole refl
@@ -38,7 +36,7 @@ marks_same t ts e = marks_cons t ts ∙ rw e (omega arith)
 
 none_rest : (t : Taken) (ts : List Taken) → list_any has_mark (t ∷ ts) ≡ false → (has_mark t ≡ false) × (list_any has_mark ts ≡ false)
 none_rest t ts none = cases (has_mark t)
-    (λ e. let h : true ≡ false = rw e at none in absurd (true_false h))
+    (λ e. let h : true ≡ false = rw e at none in absurd (true≢false h))
     (λ e. (e, rw e at none))
 
 none_counted : (ts : List Taken) → list_any has_mark ts ≡ false → marks ts ≡ 0
@@ -51,15 +49,11 @@ none_first (t ∷ ts) none = let rest = none_rest t ts none in rw rest.0 (ap not
 
 -- ---- the order of marks, one seat at a time
 
-not_true : (b : Bool) → not b ≡ true → b ≡ false
-not_true true h = sym h
-not_true false h = refl
-
 first_rest : (t : Taken) (ts : List Taken) → has_mark t ≡ true → marks_stand_first (t ∷ ts) ≡ true → marks_stand_first ts ≡ true
 first_rest t ts e order = rw e at order
 
 first_none : (t : Taken) (ts : List Taken) → has_mark t ≡ false → marks_stand_first (t ∷ ts) ≡ true → list_any has_mark ts ≡ false
-first_none t ts e order = not_true (list_any has_mark ts) (rw e at order)
+first_none t ts e order = not-true (list_any has_mark ts) (rw e at order)
 
 order_more : (t : Taken) (ts : List Taken) → has_mark t ≡ true → marks_stand_first ts ≡ true → marks_stand_first (t ∷ ts) ≡ true
 order_more t ts e order = rw e order
@@ -139,9 +133,6 @@ module _ (s : Seat) (n : ℕ) (ts : List Taken) (kept : SeatsAreKept n ts) (i : 
   module _ (e : has_mark (get_or ts i d) ≡ true) where
     removed_marked : marks (remove ts i) + 1 ≡ n
     removed_marked = rw e at removed
-
-    pub some_marked : 0 < n
-    some_marked = let h = removed_marked in omega arith
 
     pub kept_marked : SeatsAreKept (n - 1) (remove ts i)
     kept_marked = record { count = let h = removed_marked in omega arith; order = order_removed }
@@ -302,10 +293,6 @@ more_first : (at : Bool) (n : Notice) (o : Option Notice) (any : Bool) → is_ma
 more_first true n o any marked same = sym marked
 more_first false n o any marked same = same
 
-not_any : (b : Bool) → not b ≡ true → b ≡ false
-not_any true h = absurd (cc h)
-not_any false h = refl
-
 pub marked_first : (s : Seat) (ts : List Taken) → marks_stand_first ts ≡ true → list_any (is_at s) (take (marks ts) ts) ≡ is_marked_at (notice_at s ts)
 marked_first s [] order = refl
 marked_first s (t ∷ ts) order = by_mark (has_mark t) refl (marked_first s ts)
@@ -315,6 +302,6 @@ marked_first s (t ∷ ts) order = by_mark (has_mark t) refl (marked_first s ts)
         let others = rest (rw e at order) in
         rw (marks_more t ts e) (more_first (is_at s t) t.notice (notice_at s ts) (list_any (is_at s) (take (marks ts) ts)) e others)
     by_mark false e rest =
-        let none = not_any (list_any has_mark ts) (rw e at order) in
+        let none = not-true (list_any has_mark ts) (rw e at order) in
         let few : marks (t ∷ ts) ≡ 0 = marks_same t ts e ∙ none_counted ts none in
         rw few (sym (none_marked s (t ∷ ts) (rw e none)))

@@ -1,8 +1,8 @@
 -- The conditions before and after a call.
-use Rattle.std.proofs.Common.{◌≡◌, ℕ, suc, ◌+◌, ◌<◌, ◌≤◌, Bool, true, false, List, [], ◌∷◌, ◌++◌, length, get_or, set, map, take, drop, Some, None, Result, Ok, Err, OnOk, OnErr, refl, sym, ◌∙◌, ap, subst, option_map, is_some, inl, inr, length-set, get_or-set_same, append-nil, arith}
+use Rattle.std.proofs.Common.{◌≡◌, ℕ, suc, ◌+◌, ◌<◌, ◌≤◌, Bool, true, false, List, [], ◌∷◌, ◌++◌, length, get_or, set, map, take, drop, Some, None, Result, Ok, Err, OnOk, OnErr, refl, sym, ◌∙◌, ap, subst, option_map, is_some, inl, inr, append-nil, arith}
 use Rattle.std.proofs.lemmas.List.{get_or_past, get_or_default, get_or-map, length-map, take_all, drop_all}
 use Rattle.std.proofs.lemmas.List.Edits.{map_over_more}
-use Rattle.std.proofs.lemmas.List.Sums.{sum_by-cons, sum_by-set}
+use Rattle.std.proofs.lemmas.List.Sums.{sum_by-cons}
 use Rattle.std.proofs.lemmas.Bool.{cases_lt}
 use mathlib.Core.Path.{fun_ext}
 use Rattle.pth_base.specs.Table.{put}
@@ -11,7 +11,7 @@ use Rattle.pth_base.proofs.Lists.{table_set, put_none}
 use Rattle.pth_lock.specs.Objects.{object_limit}
 use Rattle.pth_cond.specs.declared.seats.Taken.{Taken}
 use Rattle.pth_cond.specs.Seats.{marks_stand_first}
-use Rattle.pth_cond.specs.Conditions.{Condition, ConditionTable, conditions_of, all_event_seats, event_seats_here, with_seats, no_conditions, all_left, all_seats_left, IsAnyLive, IsInOrder, ConditionsAreSound, ConditionsAreKept}
+use Rattle.pth_cond.specs.Conditions.{Condition, ConditionTable, conditions_of, all_event_seats, event_seats_here, with_seats, no_conditions, all_left, all_seats_left, IsAnyLive, IsInOrder, ConditionsAreKept}
 
 -- ---- one condition
 
@@ -92,21 +92,6 @@ module _ {live : Bool} {n : ℕ} (xs : List Condition) (kept : ConditionsAreKept
 
   pub beyond : (k : ℕ) → object_limit ≤ k → length xs ≤ k
   beyond k high = let many = kept.many in omega arith
-
-  pub unknown : (k : ℕ) → object_limit ≤ k → conditions_of xs k ≡ None
-  unknown k high = get_or_past xs k None (beyond k high)
-
-  pub sound : ConditionsAreSound (conditions_of xs)
-  sound = record { past = unknown; order = kept.order }
-
-  pub kept_initialised : (k : ℕ) (d : Condition) → k < object_limit → get_or xs k d ≡ None → ConditionsAreKept true n (set xs k (Some []))
-  kept_initialised k d low was = record {
-    many = length-set xs k (Some []) ∙ kept.many;
-    order = λ c. subst IsInOrder (sym (ap (λ (f : ConditionTable). f c) (condition_set xs k (within k low) (Some []))))
-        (put_by IsInOrder (conditions_of xs) k (Some []) c (λ here. refl) (λ apart. kept.order c));
-    live = (k, ap is_some (get_or-set_same xs k (Some []) None (within k low)));
-    count = let empty = rw was at (sum_by-set event_seats_here xs k (Some []) d (within k low)) in omega (arith, kept.count);
-  }
 
 -- ---- none is initialised
 

@@ -1,5 +1,7 @@
 -- What is known as a call is answered, or as it blocks its thread: its row said so.
 use Rattle.std.proofs.Common.{◌≡◌, ℕ, ◌+◌, ◌==◌, nat_lt, ◌&&◌, ◌||◌, not, Bool, true, false, if◌then◌else◌, ℤ, pos, length, Option, Some, None, is_none, is_some, option_map, refl, sym, ◌∙◌, ap, subst, inl, Result, Ok, Err, is_ok}
+use Rattle.std.proofs.lemmas.Bool.{true≢false, not-false}
+use Rattle.std.proofs.lemmas.Option.{none-some}
 use Rattle.pth_base.specs.Program.{Functions}
 use Rattle.pth_base.specs.declared.answer.Answer.{Answer}
 use Rattle.pth_base.specs.declared.answer.Answer.TheVariants as answer
@@ -58,7 +60,6 @@ use Rattle.pth_model.proofs.Walks.{KeptByCalls, is_common, effect_keeps, come_ke
 use Rattle.pth_laws.specs.Waits.{WaitsRightly, Names}
 use Rattle.pth_laws.proofs.Seats.{HasLeftAt}
 use Rattle.pth_model.proofs.NoRounds.{is_reaching, is_round, is_special, is_rounding, again_none, interrupted_none}
-use Rattle.pth_laws.proofs.Living.{true_false}
 use Rattle.pth_laws.proofs.Rounds.{answered_left, withdrawn_left}
 
 -- no call blocks t
@@ -87,7 +88,7 @@ IsToTell m s = Unit {0}
 
 -- who awaits nothing takes no mutex back
 pub unawaited : {P S H : Type 0} (t m : ℕ) (s : State P S H) → s.resources.awaits t ≡ false → s.resources.awaits t ≡ true → IsTaking t m s
-unawaited t m s calm awaits = absurd (true_false (sym awaits ∙ calm))
+unawaited t m s calm awaits = absurd (true≢false (sym awaits ∙ calm))
 
 -- who can take a mutex has not all levels of it, and neither has who meets a free one
 pub takes_room : (t : ℕ) (z : Mutex) → is_ok (take_answer t z) ≡ true → (levels_of t z == level_limit) ≡ false
@@ -95,13 +96,13 @@ takes_room t z h = by_tests (is_none z) (levels_of t z == level_limit) h
   where
     by_tests : (none full : Bool) → is_ok (if none then Err EINVAL else (if full then Err EAGAIN else (if is_anothers t z then Err EBUSY else Ok (tt {0})))) ≡ true → full ≡ false
     by_tests none false h = refl
-    by_tests true true h = absurd (true_false (sym h))
-    by_tests false true h = absurd (true_false (sym h))
+    by_tests true true h = absurd (true≢false (sym h))
+    by_tests false true h = absurd (true≢false (sym h))
 
 free_room : (t : ℕ) (z : Mutex) → (not (is_none z) && is_none (owner_of z)) ≡ true → (levels_of t z == level_limit) ≡ false
-free_room t None h = absurd (true_false (sym h))
+free_room t None h = absurd (true≢false (sym h))
 free_room t (Some None) h = refl
-free_room t (Some (Some o)) h = absurd (true_false (sym h))
+free_room t (Some (Some o)) h = absurd (true≢false (sym h))
 
 -- what is known of the call as it begins to block t: by a pth_cond_await, which is still to give a level of its mutex back, t awaits
 -- nothing yet
@@ -147,7 +148,7 @@ HasLeftSeat t y s = (c m e : ℤ) → blocked_of s.control t ≡ Some (record { 
 
 -- who waits by another call has none
 pub unseated : {P S H : Type 0} (t : ℕ) (y : ConditionTable) (s : State P S H) → is_awaiting (blocked_of s.control t) ≡ false → HasLeftSeat t y s
-unseated t y s none c m e now = absurd (true_false (sym (ap is_awaiting now) ∙ none))
+unseated t y s none c m e now = absurd (true≢false (sym (ap is_awaiting now) ∙ none))
 
 -- ---- verdicts
 
@@ -176,16 +177,9 @@ is_plainly_waiting (call.CondAwait c m e) = false
 is_plainly_waiting (call.BarrierReach b) = false
 is_plainly_waiting c = true
 
-no_ring_some : (e : ℤ) → None ≡ Some e → ⊥
-no_ring_some e h = cc
-
 abbrev is_joining : Call → Bool
 is_joining (call.Join n) = true
 is_joining c = false
-
-is_false : (b : Bool) → not b ≡ false → b ≡ true
-is_false true h = refl
-is_false false h = absurd (true_false h)
 
 when_answers : (e : Errno) (b : Bool) (v : Verdict) → is_blocking v ≡ false → is_blocking (refused e when b otherwise v) ≡ false
 when_answers e true v h = refl
@@ -224,23 +218,23 @@ ring_passes x e h = by_tests (is_event x e) (is_claimed x e) h
 module _ {P S H : Type 0} (t : ℕ) where
   -- where the answer is that of another call
   tells_any : (c : Call) (a : Answer) (s : State P S H) → is_taking c ≡ false → IsToTell (mark.Answered (tid t) c a) s
-  tells_any (call.MutexAcquire m v e) a s other = absurd (true_false other)
-  tells_any (call.RwAcquire l write v e) a s other = absurd (true_false other)
-  tells_any (call.CondAwait c m e) a s other = absurd (true_false other)
+  tells_any (call.MutexAcquire m v e) a s other = absurd (true≢false other)
+  tells_any (call.RwAcquire l write v e) a s other = absurd (true≢false other)
+  tells_any (call.CondAwait c m e) a s other = absurd (true≢false other)
   tells_any c a s other = tt
 
   waits_plainly : (c : Call) (a : Awaits) (s : State P S H) → is_plainly_waiting c ≡ true → MayWait t c a s
-  waits_plainly (call.Wait e) a s plain = absurd (true_false (sym plain))
-  waits_plainly (call.ReadEv f n e) a s plain = absurd (true_false (sym plain))
-  waits_plainly (call.WriteEv f bytes e) a s plain = absurd (true_false (sym plain))
-  waits_plainly (call.AcceptEv f e) a s plain = absurd (true_false (sym plain))
-  waits_plainly (call.ConnectEv f e) a s plain = absurd (true_false (sym plain))
-  waits_plainly (call.SelectEv r w x l e) a s plain = absurd (true_false (sym plain))
-  waits_plainly (call.MutexAcquire m v e) a s plain = absurd (true_false (sym plain))
-  waits_plainly (call.RwAcquire l write v e) a s plain = absurd (true_false (sym plain))
-  waits_plainly (call.CondAwait c m e) a s plain = absurd (true_false (sym plain))
-  waits_plainly (call.BarrierReach b) a s plain = absurd (true_false (sym plain))
-  waits_plainly c a s plain = record { ring = λ e h. absurd (no_ring_some e h); rightly = tt; names = tt }
+  waits_plainly (call.Wait e) a s plain = absurd (true≢false (sym plain))
+  waits_plainly (call.ReadEv f n e) a s plain = absurd (true≢false (sym plain))
+  waits_plainly (call.WriteEv f bytes e) a s plain = absurd (true≢false (sym plain))
+  waits_plainly (call.AcceptEv f e) a s plain = absurd (true≢false (sym plain))
+  waits_plainly (call.ConnectEv f e) a s plain = absurd (true≢false (sym plain))
+  waits_plainly (call.SelectEv r w x l e) a s plain = absurd (true≢false (sym plain))
+  waits_plainly (call.MutexAcquire m v e) a s plain = absurd (true≢false (sym plain))
+  waits_plainly (call.RwAcquire l write v e) a s plain = absurd (true≢false (sym plain))
+  waits_plainly (call.CondAwait c m e) a s plain = absurd (true≢false (sym plain))
+  waits_plainly (call.BarrierReach b) a s plain = absurd (true≢false (sym plain))
+  waits_plainly c a s plain = record { ring = λ e h. absurd (none-some e h); rightly = tt; names = tt }
 
   -- any verdict on a call that takes no mutex and no lock, if what is known of one that blocks is
   allowed_by : (c : Call) (v : Verdict) (s : State P S H) → is_taking c ≡ false → ((a : Awaits) → v ≡ Blocks a → IsFree t s × MayWait t c a s) → IsAllowed t c v s
@@ -252,7 +246,7 @@ module _ {P S H : Type 0} (t : ℕ) where
 
   -- one that doesn't block
   allowed_at_once : (c : Call) (v : Verdict) (s : State P S H) → is_taking c ≡ false → is_blocking v ≡ false → IsAllowed t c v s
-  allowed_at_once c v s other at_once = allowed_by c v s other (λ a blocks. absurd (true_false (sym (ap is_blocking blocks) ∙ at_once)))
+  allowed_at_once c v s other at_once = allowed_by c v s other (λ a blocks. absurd (true≢false (sym (ap is_blocking blocks) ∙ at_once)))
 
   again_by : (c : Call) (b : Blocked) (v : Verdict) (s : State P S H) → is_taking c ≡ false → ((a : Awaits) → v ≡ Blocks a → (blocked_of s.control t ≡ Some b) × Names c a) → IsAllowedAgain t c b v s
   again_by c b (Says a) s other on = tells_any c a (controlled (stops_waiting t) s) other
@@ -263,13 +257,13 @@ module _ {P S H : Type 0} (t : ℕ) where
 
   -- the ring of a call that was neither refused for it nor found claimed; u has the events of s
   ring_waits : (s u : State P S H) (c : Call) (a : Awaits) (r : Option ℤ) → ring_given c ≡ r → u.control.events ≡ s.control.events → is_no_ring s r ≡ false → is_claimed_ring s r ≡ false → Names c a → MayBegin u.resources t c → MayWait t c a u
-  ring_waits s u c a None given same there free names rightly = record { ring = λ e h. absurd (no_ring_some e (sym given ∙ h)); rightly = rightly; names = names }
+  ring_waits s u c a None given same there free names rightly = record { ring = λ e h. absurd (none-some e (sym given ∙ h)); rightly = rightly; names = names }
   ring_waits s u c a (Some i) given same there free names rightly = record { ring = λ e h. by_event e (sym given ∙ h); rightly = rightly; names = names }
     where
       by_event : (e : ℤ) → Some i ≡ Some e → (is_event u.control.events (number e) ≡ true) × (is_claimed u.control.events (number e) ≡ false)
       by_event e h =
           let here : i ≡ e = cc in (
-            ap (λ (x : Events). is_event x (number e)) same ∙ ap (λ (j : ℤ). is_event s.control.events (number j)) (sym here) ∙ is_false (is_event s.control.events (number i)) there,
+            ap (λ (x : Events). is_event x (number e)) same ∙ ap (λ (j : ℤ). is_event s.control.events (number j)) (sym here) ∙ not-false (is_event s.control.events (number i)) there,
             ap (λ (x : Events). is_claimed x (number e)) same ∙ ap (λ (j : ℤ). is_claimed s.control.events (number j)) (sym here) ∙ free,
           )
 
@@ -367,7 +361,7 @@ module _ {P S H : Type 0} (t : ℕ) where
   withdrawn_from (awaits.Round c r) s b round same =
       let here : c ≡ b = cc in
       subst (λ (i : ℤ). waits_at (where_so (waits_at s.control.barriers c t) (changes (with_barriers (withdrawn c t)) and_then tells (mark.Withdrew (tid t) (object_named c))) s).state.control.barriers i t ≡ false) here (where_left c (waits_at s.control.barriers c t) s refl)
-  withdrawn_from a s b round same = absurd (true_false (sym (ap is_round same)))
+  withdrawn_from a s b round same = absurd (true≢false (sym (ap is_round same)))
 
   pub left_ended : (s : State P S H) → HasLeft t (withdraws_from t (awaits_in (blocked_of s.control t)) s).state
   left_ended s b round now =
@@ -386,7 +380,7 @@ module _ {P S H : Type 0} where
   events_unless false g s = refl
 
 not_none : {A : Type 0} (o : Option A) → is_none o ≡ false → is_some o ≡ true
-not_none None h = absurd (true_false h)
+not_none None h = absurd (true≢false h)
 not_none (Some x) h = refl
 
 module _ {P S H : Type 0} (f : P → Functions S H) (t : ℕ) where
@@ -462,7 +456,7 @@ module _ {P S H : Type 0} (f : P → Functions S H) (t : ℕ) where
   reach_allowed : (s : State P S H) (b : ℤ) (o : Result Arrival Errno) (u : State P S H) → IsFree t u → IsAllowed t (call.BarrierReach b) (by_result (arrived_as b) o) u
   reach_allowed s b (Err e) u free = tt
   reach_allowed s b (Ok arrival.Tail) u free = tt
-  reach_allowed s b (Ok (arrival.Waits round)) u free = (free, record { ring = λ e h. absurd (no_ring_some e h); rightly = tt; names = refl })
+  reach_allowed s b (Ok (arrival.Waits round)) u free = (free, record { ring = λ e h. absurd (none-some e h); rightly = tt; names = refl })
 
   pub allowed : (s : State P S H) (c : Call) → IsFree t s → s.resources.awaits t ≡ false → is_made s.control.threads.made t ≡ true → IsAllowed t c (row_of f s t c).begin.verdict (effect_of (row_of f s t c).begin s).state
   unfolding row_of
@@ -528,11 +522,11 @@ module _ {P S H : Type 0} (f : P → Functions S H) (t : ℕ) where
   joins_here s n false true bound o h = refl
   joins_here s n false false true o h = refl
   joins_here s n false false false None h = refl
-  joins_here s n false false false (Some u) h = absurd (true_false (sym h))
+  joins_here s n false false false (Some u) h = absurd (true≢false (sym h))
 
   effect_here : (s : State P S H) (c : Call) (a : Awaits) → is_joining c ≡ false → IsHere s (((row_of f s t c).again a).effect s).state
   unfolding row_of
-  effect_here s (call.Join n) a other = absurd (true_false other)
+  effect_here s (call.Join n) a other = absurd (true≢false other)
   effect_here s (call.Ctrl x) a other = ctrl_here s x a
   effect_here s (call.EvFd goals fd) a other = make_here s (line.Fd goals fd) a
   effect_here s (call.EvSelect r w x) a other = make_here s (line.Select r w x) a
@@ -560,9 +554,9 @@ module _ {P S H : Type 0} (f : P → Functions S H) (t : ℕ) where
 
   again_names : (s : State P S H) (c : Call) (a now : Awaits) → is_taking c ≡ false → is_await c ≡ false → ((row_of f s t c).again a).verdict ≡ Blocks now → Names c now
   unfolding row_of
-  again_names s (call.MutexAcquire m v e) a now other plain blocks = absurd (true_false other)
-  again_names s (call.RwAcquire l write v e) a now other plain blocks = absurd (true_false other)
-  again_names s (call.CondAwait q m e) a now other plain blocks = absurd (true_false plain)
+  again_names s (call.MutexAcquire m v e) a now other plain blocks = absurd (true≢false other)
+  again_names s (call.RwAcquire l write v e) a now other plain blocks = absurd (true≢false other)
+  again_names s (call.CondAwait q m e) a now other plain blocks = absurd (true≢false plain)
   again_names s (call.BarrierReach b) a now other plain blocks = subst (IsRound b) (sym (round_stays s b (round_in a) now blocks)) refl
   again_names s c a now other plain blocks = tt
 
@@ -590,12 +584,12 @@ module _ {P S H : Type 0} (f : P → Functions S H) (t : ℕ) where
       again_by t c b a.verdict (effect_of a s).state other (λ now blocks. (again_here s c b.awaits (ap is_blocking blocks) ∙ at, again_names s c b.awaits now other plain blocks))
   other_again s c b true other plain at =
       let a = unless_settled true ((row_of f s t c).again b.awaits) in
-      again_by t c b a.verdict (effect_of a s).state other (λ now blocks. absurd (true_false (sym (ap is_blocking blocks) ∙ interrupted_answers ((row_of f s t c).again b.awaits).verdict)))
+      again_by t c b a.verdict (effect_of a s).state other (λ now blocks. absurd (true≢false (sym (ap is_blocking blocks) ∙ interrupted_answers ((row_of f s t c).again b.awaits).verdict)))
 
   pub allowed_again : (s : State P S H) (c : Call) (b : Blocked) (come : Bool) → is_await c ≡ false → blocked_of s.control t ≡ Some b → is_made s.control.threads.made t ≡ true → let a = unless_settled come ((row_of f s t c).again b.awaits) in IsAllowedAgain t c b a.verdict (effect_of a s).state
   unfolding row_of
   allowed_again s (call.MutexAcquire m v e) b come plain at made = mutex_again s m v e b come (is_free s m) refl at
-  allowed_again s (call.CondAwait c m e) b come plain at made = absurd (true_false plain)
+  allowed_again s (call.CondAwait c m e) b come plain at made = absurd (true≢false plain)
   allowed_again s (call.RwAcquire l write v e) b come plain at made = rw_again s l write v e b come (is_lock s l) (lets_in s write l) (holds s.resources.store.rw_locks t (object_named l)) refl refl refl at made
   allowed_again s c b come plain at made = other_again s c b come refl plain at
 
@@ -606,7 +600,7 @@ module _ {P S H : Type 0} (f : P → Functions S H) (t : ℕ) where
   pub stays_again : (s : State P S H) (c : Call) (a : Awaits) (come : Bool) (now : Awaits) → (unless_settled come ((row_of f s t c).again a)).verdict ≡ Blocks now → StaysAt c a now
   unfolding row_of
   stays_again s (call.BarrierReach b) a false now blocks = round_stays s b (round_in a) now blocks
-  stays_again s (call.BarrierReach b) a true now blocks = absurd (true_false (sym (ap is_blocking blocks) ∙ interrupted_answers (tries_round s t b (round_in a)).verdict))
+  stays_again s (call.BarrierReach b) a true now blocks = absurd (true≢false (sym (ap is_blocking blocks) ∙ interrupted_answers (tries_round s t b (round_in a)).verdict))
   stays_again s c a come now blocks = λ none. sym (ap (is_rounding true) blocks) ∙ settled_none s c a come refl none
 
   -- t's round has passed, and its arrival is answered
@@ -615,7 +609,7 @@ module _ {P S H : Type 0} (f : P → Functions S H) (t : ℕ) where
     where
       by_test : (passed : Bool) → is_blocking (tries_as s b round passed).verdict ≡ false → waits_at (effect_of (tries_as s b round passed) s).state.control.barriers b t ≡ false
       by_test true at_once = answered_left b round t s.control.barriers
-      by_test false at_once = absurd (true_false at_once)
+      by_test false at_once = absurd (true≢false at_once)
 
   -- what blocks t afterwards is the same call, if any does
   same_call : (s : State P S H) (c : Call) (b d : Blocked) (come : Bool) → blocked_of s.control t ≡ Some b → blocked_of (effect_of (unless_settled come ((row_of f s t c).again b.awaits)) s).state.control t ≡ Some d → d ≡ b
@@ -638,4 +632,4 @@ module _ {P S H : Type 0} (f : P → Functions S H) (t : ℕ) where
       reached_same x y h = cc
   left_again s c b named at at_once y round now =
       let same = same_call s c b (record { call = call.BarrierReach y; awaits = awaits.Round y round }) (has_settled s.control.events (ring_given c)) at now in
-      absurd (true_false (ap is_reaching (ap (λ (d : Blocked). d.call) same ∙ named)))
+      absurd (true≢false (ap is_reaching (ap (λ (d : Blocked). d.call) same ∙ named)))

@@ -1,6 +1,7 @@
 -- Where a thread writes under a lock none reads; and who holds a lock was made.
 use Rattle.std.proofs.Common.{◌≡◌, ◌≤◌, ℕ, zero, suc, ◌+◌, ◌==◌, ◌&&◌, ◌||◌, not, Bool, true, false, if◌then◌else◌, ℤ, pos, Option, Some, None, is_some, refl, sym, subst, ◌∙◌, ap, arith}
 use Rattle.std.proofs.lemmas.Bool.Decides.{nat_tests}
+use Rattle.std.proofs.lemmas.Bool.{true≢false, or_parts, not-true}
 use Rattle.pth_base.specs.Program.{Functions}
 use Rattle.pth_base.specs.Table.{put}
 use Rattle.pth_base.specs.declared.act.Act.TheVariants as act
@@ -32,8 +33,7 @@ use Rattle.pth_model.specs.Calls.{blocks}
 use Rattle.pth_model.specs.Pass.{looks}
 use Rattle.pth_model.specs.Run.{run}
 use Rattle.pth_laws.specs.Holders.{AreHoldersApart}
-use Rattle.pth_laws.proofs.Living.{made_more, true_false}
-use Rattle.pth_laws.proofs.Held.{neither}
+use Rattle.pth_laws.proofs.Living.{made_more}
 use Rattle.pth_laws.proofs.Counted.{IsCounted, counted_none, counted_more, counted_less, counted_below, none_passes}
 use Rattle.pth_laws.proofs.Allowed.{IsToTell}
 use Rattle.pth_laws.proofs.Along.{KeptAlong, run_keeps}
@@ -63,15 +63,11 @@ may_write : (y : LockTables) (l : ℕ) → may_enter y true l ≡ true → y.rea
 may_write y l h = by_tests (is_written y l) (y.readers l) h
   where
     by_tests : (written : Bool) (n : ℕ) → not (written || not (n == 0)) ≡ true → n ≡ 0
-    by_tests true n h = absurd (true_false (sym h))
+    by_tests true n h = absurd (true≢false (sym h))
     by_tests false n h = grind (arith, nat_tests)
 
 may_read : (y : LockTables) (l : ℕ) → may_enter y false l ≡ true → is_written y l ≡ false
-may_read y l h = by_test (is_written y l) h
-  where
-    by_test : (b : Bool) → not b ≡ true → b ≡ false
-    by_test false h = refl
-    by_test true h = absurd (true_false (sym h))
+may_read y l h = not-true (is_written y l) h
 
 abbrev one_or_none : Bool → ℕ
 one_or_none b = if b then 1 else 0
@@ -94,8 +90,8 @@ module _ (y : LockTables) (all : AreApart y) where
       subst (λ (n : ℕ). IsApart (put y.writer l (Some t) i) (y.reads i) n) (same_put y.readers l i)
       (subst (λ (r : ℕ → Bool). IsApart (put y.writer l (Some t) i) r (put y.readers l (y.readers l) i)) (same_put y.reads l i) a)
   taken_apart t false l out open_to i =
-      let counted = counted_more (y.reads l) (y.readers l) t (neither (is_one t (y.writer l)) (y.reads l t) out).1 (all l).0 in
-      let a = apart_put y l (y.writer l) (put (y.reads l) t true) (y.readers l + 1) (counted, λ h. absurd (true_false (sym h ∙ may_read y l open_to))) all i in
+      let counted = counted_more (y.reads l) (y.readers l) t (or_parts (is_one t (y.writer l)) (y.reads l t) out).1 (all l).0 in
+      let a = apart_put y l (y.writer l) (put (y.reads l) t true) (y.readers l + 1) (counted, λ h. absurd (true≢false (sym h ∙ may_read y l open_to))) all i in
       subst (λ (w : Option ℕ). IsApart w (put y.reads l (put (y.reads l) t true) i) (put y.readers l (y.readers l + 1) i)) (same_put y.writer l i) a
 
   -- a thread leaves a lock
@@ -103,7 +99,7 @@ module _ (y : LockTables) (all : AreApart y) where
   left_one t l = (counted_less (y.reads l) (y.readers l) t (all l).0, λ h. less (y.reads l t) (y.readers l) ((all l).1 (was (is_one t (y.writer l)) h)))
     where
       was : (b : Bool) → is_some (if b then None else y.writer l) ≡ true → is_some (y.writer l) ≡ true
-      was true h = absurd (true_false (sym h))
+      was true h = absurd (true≢false (sym h))
       was false h = h
 
       less : (b : Bool) (n : ℕ) → n ≡ 0 → readers_without b n ≡ 0
@@ -118,7 +114,7 @@ module _ (y : LockTables) (all : AreApart y) where
     where
       was : (b : Bool) → is_some (if b then y.writer l else None) ≡ true → is_some (y.writer l) ≡ true
       was true h = h
-      was false h = absurd (true_false (sym h))
+      was false h = absurd (true≢false (sym h))
 
       none : is_some (y.writer l) ≡ true → one_or_none (y.reads l t) ≡ 0
       none written = ap one_or_none (none_passes (y.reads l) (y.readers l) (all l).0 ((all l).1 written) t)
@@ -194,7 +190,7 @@ unmade_before : (n t : ℕ) → is_made (n + 1) t ≡ false → is_made n t ≡ 
 unmade_before n t later = by_test (is_made n t) refl
   where
     by_test : (b : Bool) → is_made n t ≡ b → is_made n t ≡ false
-    by_test true made = absurd (true_false (sym (made_more n (n + 1) t (omega arith) made) ∙ later))
+    by_test true made = absurd (true≢false (sym (made_more n (n + 1) t (omega arith) made) ∙ later))
     by_test false none = none
 
 module _ {P S H : Type 0} where
@@ -249,7 +245,7 @@ module _ {P S H : Type 0} where
 
   -- who enters a lock was made
   enters_not : (m : Mark) (s : State P S H) (u : ℕ) → IsToTell m s → is_made s.control.threads.made u ≡ false → EntersNot u m
-  enters_not (mark.Answered t (call.RwAcquire l write v e) (answer.Int n)) s u may none = λ same. true_false (sym may.made ∙ ap (is_made s.control.threads.made) (sym same) ∙ none)
+  enters_not (mark.Answered t (call.RwAcquire l write v e) (answer.Int n)) s u may none = λ same. true≢false (sym may.made ∙ ap (is_made s.control.threads.made) (sym same) ∙ none)
   enters_not m s u may none = tt
 
   made_told : (m : Mark) (s : State P S H) → IsToTell m s → AreMade s → AreMade (tells m s).state
@@ -312,7 +308,7 @@ module _ {P S H : Type 0} where
     once = λ t l h. reads_not t t l h;
     alone = λ t u l h held. by_test u t l h (is_one u (y.writer l)) refl held;
     made = λ t l held. by_made t l held (is_made n t) refl;
-    counted = λ l. counted_below (y.reads l) (y.readers l) (n + 1) (all l).0 (λ t past. (neither (is_one t (y.writer l)) (y.reads l t) (both.1 t l (past_made n t past))).1);
+    counted = λ l. counted_below (y.reads l) (y.readers l) (n + 1) (all l).0 (λ t past. (or_parts (is_one t (y.writer l)) (y.reads l t) (both.1 t l (past_made n t past))).1);
   }
     where
       y : LockTables
@@ -329,7 +325,7 @@ module _ {P S H : Type 0} where
 
       by_made : (t l : ℕ) → holds y t l ≡ true → (b : Bool) → is_made n t ≡ b → is_made n t ≡ true
       by_made t l held true made = made
-      by_made t l held false none = absurd (true_false (sym held ∙ both.1 t l none))
+      by_made t l held false none = absurd (true≢false (sym held ∙ both.1 t l none))
 
       -- nobody reads
       reads_not : (t u l : ℕ) → y.writer l ≡ Some t → y.reads l u ≡ false
@@ -337,4 +333,4 @@ module _ {P S H : Type 0} where
 
       by_test : (u t l : ℕ) → y.writer l ≡ Some t → (b : Bool) → is_one u (y.writer l) ≡ b → (is_one u (y.writer l) || y.reads l u) ≡ true → u ≡ t
       by_test u t l h true own held = sym (same_means t u (ap (is_one u) (sym h) ∙ own))
-      by_test u t l h false other held = absurd (true_false (sym held ∙ rw (other, reads_not t u l h) refl))
+      by_test u t l h false other held = absurd (true≢false (sym held ∙ rw (other, reads_not t u l h) refl))

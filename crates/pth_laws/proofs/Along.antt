@@ -1,7 +1,7 @@
 -- What every part of a run keeps of a state, by the changes and the marks of which parts are made. Beside each stands what is known as it
 -- is made.
 use Rattle.std.proofs.Common.{◌≡◌, ◌≢◌, ◌==◌, ℕ, zero, suc, ◌+◌, ◌*◌, ◌&&◌, ◌||◌, not, min, Bool, true, false, if◌then◌else◌, ℤ, pos, ◌+ℤ◌, List, [], ◌∷◌, map, reverse, ◌⊎◌, inl, inr, Option, Some, None, is_none, is_some, option_map, refl, sym, ◌∙◌, ap, subst, Result, Ok, Err, arith}
-use Rattle.std.proofs.lemmas.Bool.{not-false}
+use Rattle.std.proofs.lemmas.Bool.{not-false, true≢false}
 use Rattle.std.proofs.lemmas.Int.{ints}
 use Rattle.pth_base.specs.Limits.{last_count, last_moment}
 use Rattle.pth_base.specs.Program.{Functions}
@@ -96,7 +96,6 @@ use Rattle.pth_model.specs.Part.{rank_by, Part, Move, Take, Step, Close, Halt, p
 use Rattle.pth_model.specs.Run.{parts, run}
 use Rattle.pth_model.proofs.Walks.{named_dead}
 use Rattle.pth_laws.specs.Waits.{Names}
-use Rattle.pth_laws.proofs.Living.{true_false}
 use Rattle.pth_laws.proofs.Going.{IsSound, sound_steps}
 use Rattle.pth_laws.proofs.EveryRun.{run_sound, run_valid}
 use Rattle.pth_model.proofs.NoRounds.{is_reaching, is_special, is_rounding, begins_none, again_plainly}
@@ -285,11 +284,11 @@ left_stands t u (x ∷ xs) h = by_test (x.tid == t) refl (left_stands t u xs) h
 
 -- in the queue of a state that is not waiting none waits
 waiting_queue : (at : ThreadState) (q : Queue) → queue_for at ≡ Some q → is_queue Waiting q ≡ true → at ≡ state.Waiting
-waiting_queue state.New q same h = let here : New ≡ q = cc in absurd (true_false (sym h ∙ ap (is_queue Waiting) (sym here)))
-waiting_queue state.Ready q same h = let here : Ready ≡ q = cc in absurd (true_false (sym h ∙ ap (is_queue Waiting) (sym here)))
+waiting_queue state.New q same h = let here : New ≡ q = cc in absurd (true≢false (sym h ∙ ap (is_queue Waiting) (sym here)))
+waiting_queue state.Ready q same h = let here : Ready ≡ q = cc in absurd (true≢false (sym h ∙ ap (is_queue Waiting) (sym here)))
 waiting_queue state.Running q same h = absurd (cc same)
 waiting_queue state.Waiting q same h = refl
-waiting_queue state.Dead q same h = let here : Dead ≡ q = cc in absurd (true_false (sym h ∙ ap (is_queue Waiting) (sym here)))
+waiting_queue state.Dead q same h = let here : Dead ≡ q = cc in absurd (true≢false (sym h ∙ ap (is_queue Waiting) (sym here)))
 
 suspended_state : (b : Bool) (o : Option Entry) → (or_nobody (option_map (changed (change.Suspended b)) o)).state ≡ (or_nobody o).state
 unfolding changed
@@ -300,23 +299,23 @@ suspended_state b (Some e) = refl
 
 no_refusal : {A : Type 0} (r : Option Errno) (x : Result A Errno) (v : A → Verdict) → refuses (by_result v (unless r x)) ≡ false → r ≡ None
 no_refusal None x v h = refl
-no_refusal (Some e) x v h = absurd (true_false h)
+no_refusal (Some e) x v h = absurd (true≢false h)
 
 -- a value that is set is in its range
 set_passes : (top : ℕ) (known : ℕ → Option Entry) (o : Option Attribute) (v : AttrValue) → refuses (by_result done (set_answer top known o v)) ≡ false → is_in_range top v ≡ true
 set_passes top known o v h = by_tests (is_none o) (is_gone known o) (is_fixed v) (is_in_range top v) h
   where
     by_tests : (none gone fixed inside : Bool) → refuses (by_result done (if none then Err EINVAL else (if gone then Err ESRCH else (if fixed then Err EPERM else (if not inside then Err EINVAL else Ok tt))))) ≡ false → inside ≡ true
-    by_tests true gone fixed inside h = absurd (true_false h)
-    by_tests false true fixed inside h = absurd (true_false h)
-    by_tests false false true inside h = absurd (true_false h)
-    by_tests false false false false h = absurd (true_false h)
+    by_tests true gone fixed inside h = absurd (true≢false h)
+    by_tests false true fixed inside h = absurd (true≢false h)
+    by_tests false false true inside h = absurd (true≢false h)
+    by_tests false false false false h = absurd (true≢false h)
     by_tests false false false true h = refl
 
 -- a barrier that is initialised was not
 init_passes : (inside there : Bool) → refuses (by_result done (if not inside then Err EINVAL else (if there then Err EBUSY else Ok tt))) ≡ false → there ≡ false
-init_passes false there h = absurd (true_false h)
-init_passes true true h = absurd (true_false h)
+init_passes false there h = absurd (true≢false h)
+init_passes true true h = absurd (true≢false h)
 init_passes true false h = refl
 
 pub prio_in_range : (top : ℕ) (n : ℤ) → (n is_from least_priority top to pos top) ≡ true → IsSetPrio top n
@@ -426,20 +425,20 @@ not_retaking b other only = by_test (is_retaking b.awaits) only
   where
     by_test : (r : Bool) → (r ≡ true → is_await b.call ≡ true) → r ≡ false
     by_test false only = refl
-    by_test true only = absurd (true_false (sym (only refl) ∙ other))
+    by_test true only = absurd (true≢false (sym (only refl) ∙ other))
 
 -- t awaits, as marks tell it, exactly if a pth_cond_await blocks it
-abbrev IsCalm : {P S H : Type 0} → ℕ → State P S H → Type 0
-IsCalm t s = s.resources.awaits t ≡ is_awaiting (blocked_of s.control t)
+abbrev AwaitsAsBlocked : {P S H : Type 0} → ℕ → State P S H → Type 0
+AwaitsAsBlocked t s = s.resources.awaits t ≡ is_awaiting (blocked_of s.control t)
 
 -- a run that was killed makes no step more
 steps_unkilled : (o : Outcome) (p : Part) (t : ℕ) → unless_ended o p ≡ Step t → o ≡ outcome.Killed → ⊥
 steps_unkilled outcome.Running p t next killed = cc
 steps_unkilled o p t next killed = cc
 
-run_calm : {P S H : Type 0} (f : P → Functions S H) (g : Given P) (i t : ℕ) → next_part (run f g i).state (run f g i).turn ≡ Step t → IsCalm t (run f g i).state
+run_awaits : {P S H : Type 0} (f : P → Functions S H) (g : Given P) (i t : ℕ) → next_part (run f g i).state (run f g i).turn ≡ Step t → AwaitsAsBlocked t (run f g i).state
 unfolding next_part
-run_calm f g i t next = (run_valid f g i (λ killed. steps_unkilled (run f g i).turn.outcome _ t next killed)).awaits t
+run_awaits f g i t next = (run_valid f g i (λ killed. steps_unkilled (run f g i).turn.outcome _ t next killed)).awaits t
 
 dead_gone : (o : Option Entry) → is_dead (or_nobody o).state ≡ true → lives o ≡ false
 dead_gone None h = refl
@@ -447,8 +446,8 @@ dead_gone (Some e) h = ap not h
 
 -- a call on a thread that is there
 not_unknown : (own unknown barred : Bool) → refuses (refused EINVAL when own otherwise refused ESRCH when unknown otherwise refused EPERM when barred otherwise says 1) ≡ false → unknown ≡ false
-not_unknown true unknown barred h = absurd (true_false h)
-not_unknown false true barred h = absurd (true_false h)
+not_unknown true unknown barred h = absurd (true≢false h)
+not_unknown false true barred h = absurd (true≢false h)
 not_unknown false false barred h = refl
 
 module _ {P S H : Type 0} (f : P → Functions S H) (R : State P S H → Type 0) (kept : KeptBySteps f R) where
@@ -457,9 +456,6 @@ module _ {P S H : Type 0} (f : P → Functions S H) (R : State P S H → Type 0)
 
   abbrev Stays : Change P S H → Type 0
   Stays g = (s : State P S H) → R s → R (controlled g s)
-
-  then_keeps : (a b : Piece P S H) → Keeps a → Keeps b → Keeps (a and_then b)
-  then_keeps a b x y s r = y (a s).state (x s r)
 
   -- ---- changes of queues and records
 
@@ -507,7 +503,7 @@ module _ {P S H : Type 0} (f : P → Functions S H) (R : State P S H → Type 0)
 
   suspends_keeps : (t : ℕ) → Stays (suspends t)
   unfolding suspends
-  suspends_keeps t s r = moved_keeps t (change.Suspended true) Suspended (pos 0) false (λ a. tt) (λ a. tt) s (λ odd. absurd (true_false (sym odd))) r
+  suspends_keeps t s r = moved_keeps t (change.Suspended true) Suspended (pos 0) false (λ a. tt) (λ a. tt) s (λ odd. absurd (true≢false (sym odd))) r
 
   returns_keeps : (t : ℕ) (q : Option Queue) (s : State P S H) → queue_for (state_of s t) ≡ q → R s → R (controlled (returns_to t q) s)
   returns_keeps t None s same r = r
@@ -522,7 +518,7 @@ module _ {P S H : Type 0} (f : P → Functions S H) (R : State P S H → Type 0)
 
   ready_keeps : (t : ℕ) (rank : ℤ) (top : Bool) → Stays (is_ready_at t rank top)
   unfolding is_ready_at
-  ready_keeps t rank top s r = moved_keeps t (change.State state.Ready) Ready rank top (λ a. tt) (λ a. tt) s (λ odd. absurd (true_false (sym odd))) r
+  ready_keeps t rank top s r = moved_keeps t (change.State state.Ready) Ready rank top (λ a. tt) (λ a. tt) s (λ odd. absurd (true≢false (sym odd))) r
 
   dead_keeps : (t : ℕ) (v : ℤ) (s : State P S H) → IsFree t s → R s → R (controlled (is_dead_with t v) s)
   unfolding is_dead_with
@@ -531,7 +527,7 @@ module _ {P S H : Type 0} (f : P → Functions S H) (R : State P S H → Type 0)
       let b = controlled (sets t (change.State state.Dead)) a in
       let c = controlled (sets t (change.Suspended false)) b in
       let d = controlled (sets t (change.Value v)) c in
-      enters_keeps t Dead (pos 0) false d (λ odd. absurd (true_false (sym odd))) (kept.set t (change.Value v) c tt tt (kept.set t (change.Suspended false) b tt tt (kept.set t (change.State state.Dead) a tt (leaves_free t s free) (leaves_queue_keeps t s r))))
+      enters_keeps t Dead (pos 0) false d (λ odd. absurd (true≢false (sym odd))) (kept.set t (change.Value v) c tt tt (kept.set t (change.Suspended false) b tt tt (kept.set t (change.State state.Dead) a tt (leaves_free t s free) (leaves_queue_keeps t s r))))
 
   left_keeps : (t : ℕ) (v : ℤ) (s : State P S H) → IsFree t s → R s → R (controlled (leaves t v) s)
   unfolding leaves
@@ -544,7 +540,7 @@ module _ {P S H : Type 0} (f : P → Functions S H) (R : State P S H → Type 0)
   spawns_keep : (t b : ℕ) (v a : ℤ) (s : State P S H) → lives (s.control.threads.known (s.control.threads.made + 1)) ≡ false → R s → R (controlled (spawns f b v (or_first (values_for s.control t a))) s)
   spawns_keep t b v a s next r =
       let of = or_first (values_for s.control t a) in
-      enters_keeps (s.control.threads.made + 1) New of.prio false (controlled (makes f b v of) s) (λ odd. absurd (true_false (sym odd))) (kept.made t b v a s next r)
+      enters_keeps (s.control.threads.made + 1) New of.prio false (controlled (makes f b v of) s) (λ odd. absurd (true≢false (sym odd))) (kept.made t b v a s next r)
 
   -- ---- ends
 
@@ -736,9 +732,9 @@ module _ {P S H : Type 0} (f : P → Functions S H) (R : State P S H → Type 0)
     does_keeps s (call.Close d) free sound other e r = kept.timed _ s r
     does_keeps s (call.CondInit c) free sound other e r = kept.handlers.seated _ s (keeps_initialised c s.control.conditions (init_passes (is_object c) (is_live s.control.conditions c) e)) r
     does_keeps s (call.CondNotify c v) free sound other e r = kept.handlers.seated _ s (keeps_notified c (not (is_zero v)) s.control.conditions) r
-    does_keeps s (call.CondAwait c m i) free sound other e r = absurd (true_false other)
+    does_keeps s (call.CondAwait c m i) free sound other e r = absurd (true≢false other)
     does_keeps s (call.BarrierInit b n) free sound other e r = kept.barred (barrier_initialised b n s.control.barriers) s (fewer_initialised b n s.control.barriers) (all_initialised b n s.control.barriers (init_passes (is_object b && is_size n) (is_some (s.control.barriers (object_named b))) e)) r
-    does_keeps s (call.BarrierReach b) free sound other e r = absurd (true_false other)
+    does_keeps s (call.BarrierReach b) free sound other e r = absurd (true≢false other)
     does_keeps s (call.Join n) free sound other e r = joins_keep s (to_join s.control n) (λ u taken. sound.joins n u taken) r
     does_keeps s (call.CleanupPop v) free sound other e r = pops_keep (last_pushed f s t) (not (is_zero v)) s r
     does_keeps s (call.Once o h v) free sound other e r = once_keeps (number o) (handler h) v (not (s.control.used (number o))) s r
@@ -817,7 +813,7 @@ module _ {P S H : Type 0} (f : P → Functions S H) (R : State P S H → Type 0)
     does_again s (call.ConnectEv d x) b other sound r = kept.timed _ s r
     does_again s (call.Select i w x l) b other sound r = kept.timed _ s r
     does_again s (call.SelectEv i w x l e) b other sound r = kept.timed _ s r
-    does_again s (call.BarrierReach c) b other sound r = absurd (true_false other)
+    does_again s (call.BarrierReach c) b other sound r = absurd (true≢false other)
     does_again s (call.Join n) b other sound r = joins_keep s (to_join s.control n) (λ u taken. sound.joins n u taken) r
     does_again s c b other sound r = r
 
@@ -835,7 +831,7 @@ module _ {P S H : Type 0} (f : P → Functions S H) (R : State P S H → Type 0)
     still_keeps s (call.BarrierReach x) b sound r says_none = by_test (has_passed s.control.barriers x (round_in b)) says_none
       where
         by_test : (passed : Bool) → is_saying (rounds s x (round_in b) passed).verdict ≡ false → R (effect_of (rounds s x (round_in b) passed) s).state
-        by_test true says_none = absurd (true_false says_none)
+        by_test true says_none = absurd (true≢false says_none)
         by_test false says_none = r
     still_keeps s c b sound r says_none = come_keeps s c b (has_settled s.control.events (ring_given c)) refl sound r
 
@@ -846,7 +842,7 @@ module _ {P S H : Type 0} (f : P → Functions S H) (R : State P S H → Type 0)
       where
         by_test : (passed : Bool) → let a = rounds s x (round_in b.awaits) passed in is_blocking a.verdict ≡ false → HasLeft t (effect_of a s).state → R (controlled (stops_waiting t) (effect_of a s).state)
         by_test true at_once left = kept.stopped t (round_answered x (round_in b.awaits) t s.control.barriers) s.control.conditions s (fewer_answered x (round_in b.awaits) t s.control.barriers) (others_answered x (round_in b.awaits) t s.control.barriers) (keeps_same t s.control.conditions) left (unseated t s.control.conditions s (ap is_awaiting at ∙ ap is_await named)) r
-        by_test false at_once left = absurd (true_false at_once)
+        by_test false at_once left = absurd (true≢false at_once)
     stop_keeps s c b named other at sound r at_once =
         let come = has_settled s.control.events (ring_given c) in
         let u = (effect_of (unless_settled come ((row_of f s t c).again b.awaits)) s).state in
@@ -889,7 +885,7 @@ module _ {P S H : Type 0} (f : P → Functions S H) (R : State P S H → Type 0)
 
     -- who waits at a condition has no arrival
     awaiting_left : (s : State P S H) (c m e : ℤ) (a : Awaits) → blocked_of s.control t ≡ Some (record { call = call.CondAwait c m e; awaits = a }) → HasLeft t s
-    awaiting_left s c m e a at b round now = absurd (true_false (ap is_awaiting (sym at ∙ now)))
+    awaiting_left s c m e a at b round now = absurd (true≢false (ap is_awaiting (sym at ∙ now)))
 
     -- with its seat there
     await_ends_keeps : (c m e : ℤ) (a : Awaits) (o : Retake) (can : Bool) (y : ConditionTable) (s : State P S H) → can_take s t m ≡ can → KeepsOtherSeats t y s.control.conditions → HasLeftSeat t y s → blocked_of s.control t ≡ Some (record { call = call.CondAwait c m e; awaits = a }) → R s
@@ -927,7 +923,7 @@ module _ {P S H : Type 0} (f : P → Functions S H) (R : State P S H → Type 0)
 
     awaits_on_keeps : (c m e : ℤ) (a : Awaits) (s : State P S H) → blocked_of s.control t ≡ Some (record { call = call.CondAwait c m e; awaits = a }) → R s → R (awaits_on f t c m e a s).told.state
     awaits_on_keeps c m e (awaits.Retaking i o) s at r =
-        await_ends_keeps c m e (awaits.Retaking i o) o (can_take (controlled (stops_waiting t) s) t m) s.control.conditions s refl (keeps_same t s.control.conditions) (λ j n d now. absurd (true_false (ap (λ o. is_retaking (awaits_in o)) (sym at ∙ now)))) at r
+        await_ends_keeps c m e (awaits.Retaking i o) o (can_take (controlled (stops_waiting t) s) t m) s.control.conditions s refl (keeps_same t s.control.conditions) (λ j n d now. absurd (true≢false (ap (λ o. is_retaking (awaits_in o)) (sym at ∙ now)))) at r
     awaits_on_keeps c m e a s at r = awaits_where_keeps (may_be_canceled s.control t) (is_noticed s t c) (has_settled s.control.events (extra_ring e)) c m e a s at r
 
     -- whatever call it is
@@ -969,7 +965,7 @@ module _ {P S H : Type 0} (f : P → Functions S H) (R : State P S H → Type 0)
     owes_keeps (next.Ended v) s r = r
     owes_keeps next.Killed s r = r
 
-    step_keeps : (x : Turn) (s : State P S H) → IsSound t s.control → IsCalm t s → R s → R (steps f x t s).state
+    step_keeps : (x : Turn) (s : State P S H) → IsSound t s.control → AwaitsAsBlocked t s → R s → R (steps f x t s).state
     unfolding steps
     step_keeps x s sound calm r =
         let w = steps_on f t s in
@@ -1013,7 +1009,7 @@ module _ {P S H : Type 0} (f : P → Functions S H) (R : State P S H → Type 0)
   -- one that is put back is ready, which is no queue of waiting threads
   pub put_back_keeps : (t : ℕ) → Stays (is_put_back t)
   unfolding is_put_back
-  put_back_keeps t s r = enters_keeps t Ready (prio_of s.control t) false (controlled (sets t (change.State state.Ready)) s) (λ odd. absurd (true_false (sym odd))) (kept.set t (change.State state.Ready) s tt tt r)
+  put_back_keeps t s r = enters_keeps t Ready (prio_of s.control t) false (controlled (sets t (change.State state.Ready)) s) (λ odd. absurd (true≢false (sym odd))) (kept.set t (change.State state.Ready) s tt tt r)
 
   -- ---- a run, where passes and closed turns keep it too
 
@@ -1024,7 +1020,7 @@ module _ {P S H : Type 0} (f : P → Functions S H) (R : State P S H → Type 0)
         let a = controlled (moves_to m) s in
         passed (tells (mark.Moved m) a).state (kept.handlers.told (mark.Moved m) a tt (moves_to_keeps m s r))
 
-    part_keeps : (x : Turn) (s : State P S H) (p : Part) → ((t : ℕ) → p ≡ Step t → IsSound t s.control × IsCalm t s) → R s → R (part_by f x s p).state
+    part_keeps : (x : Turn) (s : State P S H) (p : Part) → ((t : ℕ) → p ≡ Step t → IsSound t s.control × AwaitsAsBlocked t s) → R s → R (part_by f x s p).state
     unfolding moves
     part_keeps x s Move sound r = moves_keeps x (moment f s) s r
     part_keeps x s Take sound r = takes_keeps x s r
@@ -1035,7 +1031,7 @@ module _ {P S H : Type 0} (f : P → Functions S H) (R : State P S H → Type 0)
     pub run_keeps_through : (g : Given P) → R (start f g) → (i : ℕ) → R (run f g i).state
     unfolding parts part
     run_keeps_through g begins zero = begins
-    run_keeps_through g begins (suc i) = part_keeps (run f g i).turn (run f g i).state (next_part (run f g i).state (run f g i).turn) (λ t next. (run_sound f g i t next, run_calm f g i t next)) (run_keeps_through g begins i)
+    run_keeps_through g begins (suc i) = part_keeps (run f g i).turn (run f g i).state (next_part (run f g i).state (run f g i).turn) (λ t next. (run_sound f g i t next, run_awaits f g i t next)) (run_keeps_through g begins i)
 
 -- ---- a run, where all changes keep it
 

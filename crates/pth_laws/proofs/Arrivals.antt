@@ -1,5 +1,7 @@
 -- An arrival that waits at a barrier is that of a thread that lives, whose call waits there for its round.
 use Rattle.std.proofs.Common.{◌≡◌, ◌≢◌, ℕ, ◌+◌, Bool, true, false, ℤ, ◌⊎◌, inl, inr, Option, Some, None, is_some, option_map, Ok, refl, sym, ◌∙◌, ap, subst}
+use Rattle.std.proofs.lemmas.Bool.{true≢false}
+use Rattle.std.proofs.lemmas.Option.{none-some}
 use Rattle.pth_base.specs.Program.{Functions}
 use Rattle.pth_base.specs.Table.{put}
 use Rattle.pth_base.specs.declared.call.Call.{Call}
@@ -33,7 +35,6 @@ use Rattle.pth_model.specs.Pass.{looks}
 use Rattle.pth_model.specs.Run.{run}
 use Rattle.pth_laws.specs.Clean.{has_arrived, round_held}
 use Rattle.pth_laws.specs.Valid.{Lives}
-use Rattle.pth_laws.proofs.Living.{true_false}
 use Rattle.pth_laws.proofs.Rounds.{HasFewer, arrives, none_arrived, arrived_waits}
 use Rattle.pth_laws.proofs.Allowed.{IsFree, StaysAt, HasLeft, stopped_free}
 use Rattle.pth_laws.proofs.Along.{KeptAlong, IsLifeSafe, IsGone, run_keeps}
@@ -44,23 +45,20 @@ pub record WaitsFor (b round : ℕ) (o : Option Blocked) : Type 0 where
   pub named : object_named barrier ≡ b
   pub blocked : o ≡ Some (record { call = call.BarrierReach barrier; awaits = Round barrier round })
 
-no_wait : (x : Blocked) → None ≡ Some x → ⊥
-no_wait x h = cc
-
 none_waits : (b round : ℕ) → WaitsFor b round None → ⊥
-none_waits b round w = no_wait (record { call = call.BarrierReach w.barrier; awaits = Round w.barrier round }) w.blocked
+none_waits b round w = none-some (record { call = call.BarrierReach w.barrier; awaits = Round w.barrier round }) w.blocked
 
 -- what blocks t, once this does
 pub blocks_so : {S : Type 0} (t : ℕ) (o : Option Blocked) (progress : ℕ → Option (Progress S)) → is_some (progress t) ≡ true → blocked_in (put progress t (option_map (blocking o) (progress t)) t) ≡ o
 blocks_so {S = S} t o progress there = ap blocked_in (put_here progress t (option_map (blocking o) (progress t))) ∙ by_progress (progress t) there
   where
     by_progress : (p : Option (Progress S)) → is_some p ≡ true → blocked_in (option_map (blocking o) p) ≡ o
-    by_progress None h = absurd (true_false (sym h))
+    by_progress None h = absurd (true≢false (sym h))
     by_progress (Some p) h = refl
 
 -- whom a call blocks is in the system
 blocked_there : {S : Type 0} (p : Option (Progress S)) (b : Blocked) → blocked_in p ≡ Some b → is_some p ≡ true
-blocked_there None b h = absurd (no_wait b h)
+blocked_there None b h = absurd (none-some b h)
 blocked_there (Some p) b h = refl
 
 -- whoever lives does after a change, unless it dies
@@ -70,8 +68,8 @@ is_dying c = false
 
 pub lives_on : (c : change_of_record.Change) (o : Option Entry) → is_dying c ≡ false → lives o ≡ true → lives (option_map (changed c) o) ≡ true
 unfolding changed
-lives_on c None goes alive = absurd (true_false (sym alive))
-lives_on (change.State state.Dead) (Some e) goes alive = absurd (true_false goes)
+lives_on c None goes alive = absurd (true≢false (sym alive))
+lives_on (change.State state.Dead) (Some e) goes alive = absurd (true≢false goes)
 lives_on (change.State at) (Some e) goes alive = refl
 lives_on c (Some e) goes alive = alive
 
@@ -110,7 +108,7 @@ module _ {P S H : Type 0} where
 
   arrivals_made : (f : P → Functions S H) (t b : ℕ) (v a : ℤ) (s : State P S H) → lives (s.control.threads.known (s.control.threads.made + 1)) ≡ false → AreArrivals s → AreArrivals (controlled (makes f b v (or_first (values_for s.control t a))) s)
   unfolding makes
-  arrivals_made f t b v a s next r = arrivals_apart s.control.barriers (s.control.threads.made + 1) s.control.threads.known s.control.threads.progress _ _ (λ i round h. true_false (sym (r i round (s.control.threads.made + 1) h).0 ∙ next)) r
+  arrivals_made f t b v a s next r = arrivals_apart s.control.barriers (s.control.threads.made + 1) s.control.threads.known s.control.threads.progress _ _ (λ i round h. true≢false (sym (r i round (s.control.threads.made + 1) h).0 ∙ next)) r
 
   arrivals_forgotten : (t : ℕ) (s : State P S H) → IsGone t s → AreArrivals s → AreArrivals (controlled (forgets t) s)
   unfolding forgets
@@ -118,11 +116,11 @@ module _ {P S H : Type 0} where
     where
       none : (b round : ℕ) → IsGone t s → has_arrived s.control.barriers b round t ≡ true → ⊥
       none b round (inl free) h = arrived_blocked s b round t free r h
-      none b round (inr dead) h = true_false (sym (r b round t h).0 ∙ dead)
+      none b round (inr dead) h = true≢false (sym (r b round t h).0 ∙ dead)
 
   arrivals_vanished : (t : ℕ) (s : State P S H) → AreArrivals (controlled (vanish_all_but t) s)
   unfolding vanish_all_but
-  arrivals_vanished t s b round u h = absurd (true_false (sym h ∙ none_arrived s.control.barriers b round u))
+  arrivals_vanished t s b round u h = absurd (true≢false (sym h ∙ none_arrived s.control.barriers b round u))
 
   arrivals_looked : (f : P → Functions S H) (s : State P S H) → AreArrivals s → AreArrivals (controlled (looks f s) s)
   unfolding looks
@@ -197,7 +195,7 @@ module _ {P S H : Type 0} where
       blocked_now = by_progress (s.control.threads.progress t) (blocked_there (s.control.threads.progress t) d at)
         where
           by_progress : (p : Option (Progress S)) → is_some p ≡ true → blocked_in (option_map (blocking (Some now)) p) ≡ Some now
-          by_progress None h = absurd (true_false (sym h))
+          by_progress None h = absurd (true≢false (sym h))
           by_progress (Some p) h = refl
 
       same_round : (x : ℤ) (round : ℕ) → d ≡ record { call = call.BarrierReach x; awaits = Round x round } → now ≡ record { call = call.BarrierReach x; awaits = Round x round }
@@ -226,7 +224,7 @@ module _ {P S H : Type 0} where
   arrivals_stopped t s left r = arrivals_returned (ring_held (blocked_of s.control t)) (controlled (is_blocked_by t None) s) (arrivals_goes t (blocking None) s (λ b round h. absurd (none b round h (r b round t h).1)) r)
     where
       none : (b round : ℕ) → has_arrived s.control.barriers b round t ≡ true → WaitsFor b round (blocked_of s.control t) → ⊥
-      none b round h w = true_false (sym (arrived_waits s.control.barriers w.barrier b round t w.named h) ∙ left w.barrier round w.blocked)
+      none b round h w = true≢false (sym (arrived_waits s.control.barriers w.barrier b round t w.named h) ∙ left w.barrier round w.blocked)
 
   -- ---- every run
 
@@ -234,7 +232,7 @@ module _ {P S H : Type 0} where
   arrivals_retakes : (t : ℕ) (c m e : ℤ) (a : Awaits) (o : Retake) (s : State P S H) → blocked_of s.control t ≡ Some (record { call = call.CondAwait c m e; awaits = a }) → AreArrivals s → AreArrivals (controlled (λ k. blocks t (call.CondAwait c m e) (Retaking m o) (stops_waiting t k)) s)
   arrivals_retakes t c m e a o s at r =
       let x = controlled (stops_waiting t) s in
-      let all = arrivals_stopped t s (λ b round now. absurd (true_false (ap is_awaiting (sym at ∙ now)))) r in
+      let all = arrivals_stopped t s (λ b round now. absurd (true≢false (ap is_awaiting (sym at ∙ now)))) r in
       arrivals_goes t (blocking (Some (record { call = call.CondAwait c m e; awaits = Retaking m o }))) x (λ b round h. absurd (arrived_blocked x b round t (stopped_free t s) all h)) all
 
   pub arrivals_kept : (f : P → Functions S H) → KeptAlong f AreArrivals
@@ -271,7 +269,7 @@ module _ {P S H : Type 0} where
 
   pub arrivals_start : (f : P → Functions S H) (g : Given P) → AreArrivals (start f g)
   unfolding start
-  arrivals_start f g b round u h = absurd (true_false (sym h))
+  arrivals_start f g b round u h = absurd (true≢false (sym h))
 
   pub run_arrived : (f : P → Functions S H) (g : Given P) (i b round t : ℕ) → has_arrived (run f g i).state.control.barriers b round t ≡ true → Lives (run f g i).state t × (round_held (blocked_of (run f g i).state.control t) ≡ Some (b, round))
   run_arrived f g i b round t h =

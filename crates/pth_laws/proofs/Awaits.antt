@@ -1,6 +1,7 @@
 -- Who waits at a condition: the marks tell it of exactly those whom a pth_cond_await blocks, and these live. And who was canceled: of
 -- those who have not ended, exactly who takes its mutex back for that.
 use Rattle.std.proofs.Common.{◌≡◌, ◌≢◌, ℕ, zero, suc, ◌+◌, ◌==◌, Bool, true, false, if◌then◌else◌, ℤ, pos, Option, Some, None, option_map, refl, sym, ◌∙◌, ap, subst}
+use Rattle.std.proofs.lemmas.Bool.{true≢false}
 use Rattle.pth_lock.specs.Objects.{object_named}
 use Rattle.pth_base.specs.Program.{Functions}
 use Rattle.pth_base.specs.Table.{put}
@@ -34,7 +35,7 @@ use Rattle.pth_model.specs.Pass.{looks}
 use Rattle.pth_model.specs.ThreadControl.{spawns, suspends, resumes, returns_to}
 use Rattle.pth_model.specs.Awaits.{is_await, is_awaiting, is_retaking, awaits_in, is_canceled, is_canceled_in}
 use Rattle.pth_laws.proofs.Book.{Book}
-use Rattle.pth_laws.proofs.Living.{true_false, suspended_safe}
+use Rattle.pth_laws.proofs.Living.{suspended_safe}
 use Rattle.pth_laws.proofs.Going.{set_lives}
 
 -- what marks tell of threads: who awaits, who has ended, and who was canceled
@@ -76,12 +77,12 @@ others_await t w o same u apart = record { awaits = same u apart; ended = refl; 
 
 -- who was canceled has a mutex to take back
 pub canceled_retakes : (a : Awaits) → is_retaking a ≡ false → is_canceled a ≡ false
-canceled_retakes (awaited.Retaking m o) h = absurd (true_false h)
+canceled_retakes (awaited.Retaking m o) h = absurd (true≢false h)
 canceled_retakes a h = refl
 
 not_both : (a b : Bool) → (a ≡ true → b ≡ true) → b ≡ false → a ≡ false
 not_both false b f h = refl
-not_both true b f h = absurd (true_false (sym (f refl) ∙ h))
+not_both true b f h = absurd (true≢false (sym (f refl) ∙ h))
 
 -- who awaits nothing takes no mutex back
 pub tells_plain : (w : Flags) (u : ℕ) (b : Option Blocked) → w.awaits u ≡ false → Tells w u b → is_retaking (awaits_in b) ≡ false
@@ -93,7 +94,7 @@ tells_calm w u b none up h = h.calm up ∙ canceled_retakes (awaits_in b) (tells
 
 -- nor is it where nothing blocks it
 tells_none : (w : Flags) (u : ℕ) (b : Option Blocked) → w.awaits u ≡ false → Tells w u b → Tells w u None
-tells_none w u b none h = record { fits = none; calm = λ up. tells_calm w u b none up h; retakes = λ e. absurd (true_false (sym e)) }
+tells_none w u b none h = record { fits = none; calm = λ up. tells_calm w u b none up h; retakes = λ e. absurd (true≢false (sym e)) }
 
 -- ---- threads
 
@@ -136,7 +137,7 @@ module _ {P S H : Type 0} (w : Flags) where
     where
       by_await : (b : Bool) → w.awaits u ≡ b → w.awaits u ≡ false
       by_await false h = h
-      by_await true h = absurd (true_false (sym ((has u).1 h) ∙ dead))
+      by_await true h = absurd (true≢false (sym ((has u).1 h) ∙ dead))
 
   -- another record under a number, where nothing awaits: no call blocks that thread
   renewed : (u : ℕ) (e : Option Entry) (p : Option (Progress S)) (k : Control P S H) → w.awaits u ≡ false → blocked_in p ≡ None → HasAwaits k
@@ -145,7 +146,7 @@ module _ {P S H : Type 0} (w : Flags) where
     put_by (λ (o : Option (Progress S)). Tells w v (blocked_in o)) k.threads.progress u p v
         (λ here. subst (Tells w v) (sym free) (tells_none w v (blocked_of k v) (ap w.awaits here ∙ none) (has v).0))
         (λ apart. (has v).0),
-    (λ on. put_by (λ o. lives o ≡ true) k.threads.known u e v (λ here. absurd (true_false (sym on ∙ ap w.awaits here ∙ none))) (λ apart. (has v).1 on)),
+    (λ on. put_by (λ o. lives o ≡ true) k.threads.known u e v (λ here. absurd (true≢false (sym on ∙ ap w.awaits here ∙ none))) (λ apart. (has v).1 on)),
   )
 
   pub awaits_removed : (u : ℕ) (k : Control P S H) → w.awaits u ≡ false → HasAwaits k → HasAwaits (removes u k)
@@ -159,7 +160,7 @@ module _ {P S H : Type 0} (w : Flags) where
   -- a thread that awaits nothing dies
   awaits_dead : (u : ℕ) (v : ℤ) (k : Control P S H) → w.awaits u ≡ false → HasAwaits k → HasAwaits (is_dead_with u v k)
   unfolding is_dead_with sets enters leaves_queue
-  awaits_dead u v k none has i = ((has i).0, (λ on. let apart : i ≢ u = λ same. true_false (sym on ∙ ap w.awaits same ∙ none) in ap lives (put_other _ u _ i apart ∙ put_other _ u _ i apart ∙ put_other k.threads.known u _ i apart) ∙ (has i).1 on))
+  awaits_dead u v k none has i = ((has i).0, (λ on. let apart : i ≢ u = λ same. true≢false (sym on ∙ ap w.awaits same ∙ none) in ap lives (put_other _ u _ i apart ∙ put_other _ u _ i apart ∙ put_other k.threads.known u _ i apart) ∙ (has i).1 on))
 
   pub awaits_left : (u : ℕ) (v : ℤ) (k : Control P S H) → w.awaits u ≡ false → HasAwaits k → HasAwaits (leaves u v k)
   unfolding leaves
@@ -202,7 +203,7 @@ awaits_own t w v k own alive others has u = by_same (u == t) refl
 -- t has ended, or may be canceled now
 pub awaits_past : {P S H : Type 0} (t : ℕ) (w v : Flags) (k : Control P S H) → (v.awaits t ≡ w.awaits t) × (v.ended t ≡ true) → AreSameBut t v w → HasAwaits w k → HasAwaits v k
 awaits_past t w v k own others has =
-    awaits_own t w v k (record { fits = own.0 ∙ (has t).0.fits; calm = λ up. absurd (true_false (sym own.1 ∙ up)); retakes = (has t).0.retakes }) (λ on. (has t).1 (sym own.0 ∙ on)) others has
+    awaits_own t w v k (record { fits = own.0 ∙ (has t).0.fits; calm = λ up. absurd (true≢false (sym own.1 ∙ up)); retakes = (has t).0.retakes }) (λ on. (has t).1 (sym own.0 ∙ on)) others has
 
 -- ---- another call blocks t, or none
 
@@ -258,7 +259,7 @@ module _ {P S H : Type 0} (t : ℕ) where
         put_by (λ (z : Option (Progress S)). Tells v u (blocked_in z)) k.threads.progress t (option_map (blocking None) (k.threads.progress t)) u
             (λ here. subst (λ i. Tells v i (blocked_in (option_map (blocking None) (k.threads.progress t)))) (sym here) (subst (Tells v t) (sym (by_progress (k.threads.progress t))) own))
             (λ apart. tells_as v w u (blocked_of k u) (others u apart) (has u).0),
-        (λ awaiting. let apart : u ≢ t = λ same. true_false (sym awaiting ∙ ap v.awaits same ∙ own.fits) in (has u).1 (sym (others u apart).awaits ∙ awaiting)),
+        (λ awaiting. let apart : u ≢ t = λ same. true≢false (sym awaiting ∙ ap v.awaits same ∙ own.fits) in (has u).1 (sym (others u apart).awaits ∙ awaiting)),
       )
 
 -- ---- marks
@@ -299,8 +300,8 @@ module _ (k : Resources) (t : ℕ) where
   answer_keeps (call.PortGet p) a on other = on_msg_awaits a k _ refl
   answer_keeps (call.Reply m v) a on other = on_int_awaits a k _ (λ n. refl)
   answer_keeps (call.PortDestroy p) a on other = on_int_awaits a k _ (λ n. refl)
-  answer_keeps (call.CondAwait c m e) a on other = absurd (true_false other)
-  answer_keeps call.Kill a on other = absurd (true_false on)
+  answer_keeps (call.CondAwait c m e) a on other = absurd (true≢false other)
+  answer_keeps call.Kill a on other = absurd (true≢false on)
   answer_keeps c a on other = refl
 
   -- t awaits at most by this call
@@ -312,7 +313,7 @@ module _ (k : Resources) (t : ℕ) where
     where
       by_await : (b : Bool) → k.awaits t ≡ b → k.awaits t ≡ false
       by_await false h = h
-      by_await true h = absurd (true_false (sym (needs h) ∙ none))
+      by_await true h = absurd (true≢false (sym (needs h) ∙ none))
 
   -- afterwards that of t is this, and of the others it is the same
   abbrev pub TellsAwaits : Bool → Resources → Type 0
@@ -338,7 +339,7 @@ module _ (k : Resources) (t : ℕ) where
     where
       of_await : (d : Call) → is_await d ≡ true → TellsAwaits false (answer_told k t d a)
       of_await (call.CondAwait c m e) one = took_back (object_named m) (k.awaits t) refl
-      of_await d one = absurd (true_false (sym one))
+      of_await d one = absurd (true≢false (sym one))
 
       by_await : (b : Bool) → is_await c ≡ b → TellsAwaits false (answer_told k t c a)
       by_await true one = of_await c one

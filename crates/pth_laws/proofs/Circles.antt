@@ -1,6 +1,6 @@
 -- Rings stay circles: each is read from each of its events on, and calls on the rings that no thread claims leave the others as they are.
 use Rattle.std.proofs.Common.{◌≡◌, ◌≢◌, ◌⊎◌, ℕ, ◌+◌, ◌≤◌, ◌==◌, ◌&&◌, ◌||◌, not, Bool, true, false, if◌then◌else◌, List, [], ◌∷◌, ◌++◌, Option, Some, None, is_some, option_map, refl, sym, ◌∙◌, ap, ap₂, subst, inl, inr, arith, append_assoc}
-use Rattle.std.proofs.lemmas.Bool.{cases_eq}
+use Rattle.std.proofs.lemmas.Bool.{cases_eq, true≢false, or_parts}
 use Rattle.std.specs.List.{list_any}
 use Rattle.pth_base.specs.Table.{put}
 use Rattle.pth_base.specs.declared.errno.Errno.TheVariants.{EBUSY, EINVAL}
@@ -15,8 +15,6 @@ use Rattle.pth_base.proofs.Chains.{stands_or_not, StandsIn-append_left, StandsIn
 use Rattle.pth_ring.proofs.Lists.{ring_holds-in}
 use Rattle.pth_ring.proofs.Turns.{split, turned-is, StandsIn-turned, StandsIn-unturned, circle-in, circle-out, each-in, each-out}
 use Rattle.pth_model.specs.RingWaits.{claimant, claimant_by}
-use Rattle.pth_laws.proofs.Living.{true_false}
-use Rattle.pth_laws.proofs.Held.{neither}
 use Rattle.pth_laws.proofs.Along.{Arrangement, Alone, Chained, Joined, Isolated, Freed, RingFreed, arranged, MayArrange}
 
 -- ---- lists
@@ -114,7 +112,7 @@ circles_come x y c more comes = record { here = λ e h. here_by e h (comes e); o
     here_by : (e : ℕ) → is_event y e ≡ true → Comes x y e → StandsIn e (y.rings e)
     here_by e h (inl s) = subst (StandsIn e) (sym s.ring) (c.here e (ap is_some (sym s.event) ∙ h))
     here_by e h (inr (inl s)) = subst (StandsIn e) (sym (s.turns e s.within)) (StandsIn-turned e e s.members s.within s.within)
-    here_by e h (inr (inr s)) = absurd (true_false (sym h ∙ s.no_event))
+    here_by e h (inr (inr s)) = absurd (true≢false (sym h ∙ s.no_event))
 
     own_by : (e g : ℕ) → StandsIn g (y.rings e) → Comes x y e → StandsIn e (y.rings e)
     own_by e g h (inl s) = subst (StandsIn e) (sym s.ring) (c.own e g (subst (StandsIn g) s.ring h))
@@ -147,12 +145,12 @@ has_none (Some v) h = by_claim v.claim h
   where
     by_claim : (o : Option Tid) → is_some o ≡ false → option_map (λ (t : Tid). t.0) o ≡ None
     by_claim None h = refl
-    by_claim (Some t) h = absurd (true_false h)
+    by_claim (Some t) h = absurd (true≢false h)
 
 pub none_any : (p : ℕ → Bool) (xs : List ℕ) → list_any p xs ≡ false → (e : ℕ) → StandsIn e xs → p e ≡ false
 none_any p [] h e there = absurd there
-none_any p (x ∷ xs) h e (inl same) = ap p same ∙ (neither (p x) (list_any p xs) h).0
-none_any p (x ∷ xs) h e (inr there) = none_any p xs (neither (p x) (list_any p xs) h).1 e there
+none_any p (x ∷ xs) h e (inl same) = ap p same ∙ (or_parts (p x) (list_any p xs) h).0
+none_any p (x ∷ xs) h e (inr there) = none_any p xs (or_parts (p x) (list_any p xs) h).1 e there
 
 all_none : (p : ℕ → Bool) (xs : List ℕ) → ((e : ℕ) → StandsIn e xs → p e ≡ false) → list_any p xs ≡ false
 all_none p [] none = refl
@@ -398,7 +396,7 @@ module _ (x : Events) (c : AreCircles x) where
       known = two_events x a b may
 
       out_b : StandsIn a (x.rings b) → ⊥
-      out_b h = true_false (sym (ring_holds-in a (x.rings b) h) ∙ known.2)
+      out_b h = true≢false (sym (ring_holds-in a (x.rings b) h) ∙ known.2)
 
   -- ---- every call on rings
 

@@ -1,6 +1,7 @@
 -- Who is blocked with a ring has its claim, and no ring has two claims.
 use Rattle.std.proofs.Common.{◌≡◌, ◌≢◌, ◌⊎◌, ℕ, ◌+◌, ◌≤◌, ◌==◌, Bool, true, false, if◌then◌else◌, ℤ, List, flat_map, Option, Some, None, is_some, option_map, refl, sym, ◌∙◌, ap, subst, inl, inr}
-use Rattle.std.proofs.lemmas.Bool.{cases_eq}
+use Rattle.std.proofs.lemmas.Bool.{cases_eq, true≢false}
+use Rattle.std.proofs.lemmas.Option.{none-some, same_Some}
 use Rattle.pth_base.specs.Program.{Functions}
 use Rattle.pth_base.specs.Table.{put}
 use Rattle.pth_base.specs.declared.call.Call.{Call}
@@ -36,18 +37,11 @@ use Rattle.pth_model.specs.Pass.{looks, waiting}
 use Rattle.pth_model.specs.Run.{run}
 use Rattle.pth_laws.specs.Clean.{event_held}
 use Rattle.pth_laws.specs.Rings.{AreRingsHeld}
-use Rattle.pth_laws.proofs.Living.{true_false}
 use Rattle.pth_laws.proofs.Allowed.{IsFree, MayWait, stopped_free}
 use Rattle.pth_model.proofs.NoRounds.{special_none}
 use Rattle.pth_laws.proofs.Claims.{event_given}
 use Rattle.pth_laws.proofs.Along.{KeptAlong, Arrangement, arranged, MayArrange, run_keeps}
 use Rattle.pth_laws.proofs.Circles.{AreCircles, Comes, mates, unclaimed_in, comes_by, claims_by, circles_by}
-
-pub some_same : (m n : ℕ) → Some m ≡ Some n → m ≡ n
-some_same m n h = cc
-
-pub none_some : (n : ℕ) → None ≡ Some n → ⊥
-none_some n h = cc
 
 -- the events, and what blocks each thread
 pub record Fits (x : Events) (waits : ℕ → Option ℕ) : Type 0 where
@@ -92,7 +86,7 @@ pub one_same : {A : Type 0} (p : Option Event → A) (f : Event → Event) → (
 one_same p f same a events i = put_by (λ o. p o ≡ p (events i)) events a (option_map f (events a)) i (λ here. same (events a) ∙ ap (λ (j : ℕ). p (events j)) (sym here)) (λ other. refl)
 
 new_claim : (t : ℕ) (o : Option Event) → is_some o ≡ true → claimant_by (option_map (with_claim (Some (record { 0 = t }))) o) ≡ Some t
-new_claim t None h = absurd (true_false (sym h))
+new_claim t None h = absurd (true≢false (sym h))
 new_claim t (Some v) h = refl
 
 -- t claims the ring of an event: its claim stands there, and the others are as they were
@@ -112,7 +106,7 @@ no_claim (Some v) = refl
 
 -- a claim stands at an event
 pub claimed_there : (o : Option Event) (t : ℕ) → claimant_by o ≡ Some t → is_some o ≡ true
-claimed_there None t h = absurd (none_some t h)
+claimed_there None t h = absurd (none-some t h)
 claimed_there (Some v) t h = refl
 
 -- ---- claims
@@ -135,7 +129,7 @@ module _ (x : Events) (waits : ℕ → Option ℕ) (r : Fits x waits) where
     where
       one_by : (e g t u : ℕ) → claimant x e ≡ Some t → claimant x g ≡ Some u → StandsIn g ((arranged q x).rings e) → Comes x (arranged q x) e → e ≡ g
       one_by e g t u h k within (inl same) = r.one e g t u h k (subst (StandsIn g) same.ring within)
-      one_by e g t u h k within (inr (inl fresh)) = absurd (none_some t (sym (unclaimed_in x e e fresh.free (r.circles.here e (claimed_there (x.events e) t h))) ∙ h))
+      one_by e g t u h k within (inr (inl fresh)) = absurd (none-some t (sym (unclaimed_in x e e fresh.free (r.circles.here e (claimed_there (x.events e) t h))) ∙ h))
       one_by e g t u h k within (inr (inr gone)) = absurd (subst (StandsIn g) gone.ring within)
 
   -- t, which waits for nothing, claims the ring of an event
@@ -164,7 +158,7 @@ module _ (x : Events) (waits : ℕ → Option ℕ) (r : Fits x waits) where
 
       -- nobody else has a claim in the ring of a
       alone : (e u : ℕ) → claimant x e ≡ Some u → StandsIn e (x.rings a) → ⊥
-      alone e u h within = none_some u (sym (unclaimed_in x a e free within) ∙ h)
+      alone e u h within = none-some u (sym (unclaimed_in x a e free within) ∙ h)
 
       one_by : (e g u w : ℕ) → claimant y e ≡ Some u → claimant y g ≡ Some w → StandsIn g (x.rings e) → (e ≡ a) ⊎ (e ≢ a) → (g ≡ a) ⊎ (g ≢ a) → e ≡ g
       one_by e g u w h k within (inl one) (inl two) = one ∙ sym two
@@ -185,7 +179,7 @@ module _ (x : Events) (waits : ℕ → Option ℕ) (r : Fits x waits) where
       y = with_event (with_claim None) a x
 
       was_there : (e t : ℕ) → claimant y e ≡ Some t → claimant x e ≡ Some t
-      was_there e t = put_by (λ o. claimant_by o ≡ Some t → claimant x e ≡ Some t) x.events a (option_map (with_claim None) (x.events a)) e (λ here h. absurd (none_some t (sym (no_claim (x.events a)) ∙ h))) (λ other h. h)
+      was_there e t = put_by (λ o. claimant_by o ≡ Some t → claimant x e ≡ Some t) x.events a (option_map (with_claim None) (x.events a)) e (λ here h. absurd (none-some t (sym (no_claim (x.events a)) ∙ h))) (λ other h. h)
 
   -- other threads wait, or fewer
   fits_fewer : (later : ℕ → Option ℕ) → ((u e : ℕ) → later u ≡ Some e → waits u ≡ Some e) → Fits x later
@@ -195,12 +189,12 @@ module _ (x : Events) (waits : ℕ → Option ℕ) (r : Fits x waits) where
   fits_none later none = record {
     circles = circles_as x (all_unclaimed x) refl refl (λ e. some_mapped (with_claim None) (x.events e)) r.circles;
     held = λ u e h. absurd (none u e h);
-    one = λ e g t u h k within. absurd (none_some t (sym (no_claim (x.events e)) ∙ h));
+    one = λ e g t u h k within. absurd (none-some t (sym (no_claim (x.events e)) ∙ h));
   }
 
 -- a test is what stands in a list
 pub stands : (g : ℕ) (xs : List ℕ) → ring_holds g xs ≡ true → StandsIn g xs
-stands g xs h = elim (stands_or_not g xs) [ inl k ↦ k | inr out ↦ absurd (true_false (sym h ∙ ring_holds-out g xs out)) ]
+stands g xs h = elim (stands_or_not g xs) [ inl k ↦ k | inr out ↦ absurd (true≢false (sym h ∙ ring_holds-out g xs out)) ]
 
 -- ---- states
 
@@ -218,19 +212,19 @@ module _ {P S H : Type 0} where
 
   fits_made : (f : P → Functions S H) (t b : ℕ) (v a : ℤ) (s : State P S H) → FitsIn s → FitsIn (controlled (makes f b v (or_first (values_for s.control t a))) s)
   unfolding makes
-  fits_made f t b v a s r = fits_fewer s.control.events (held_in s.control) r _ (λ u e. put_by (λ o. event_held (blocked_in o) ≡ Some e → held_in s.control u ≡ Some e) s.control.threads.progress (s.control.threads.made + 1) _ u (λ here h. absurd (none_some e h)) (λ other h. h))
+  fits_made f t b v a s r = fits_fewer s.control.events (held_in s.control) r _ (λ u e. put_by (λ o. event_held (blocked_in o) ≡ Some e → held_in s.control u ≡ Some e) s.control.threads.progress (s.control.threads.made + 1) _ u (λ here h. absurd (none-some e h)) (λ other h. h))
 
   fits_forgotten : (t : ℕ) (s : State P S H) → FitsIn s → FitsIn (controlled (forgets t) s)
   unfolding forgets
-  fits_forgotten t s r = fits_fewer s.control.events (held_in s.control) r _ (λ u e. put_by (λ o. event_held (blocked_in o) ≡ Some e → held_in s.control u ≡ Some e) s.control.threads.progress t None u (λ here h. absurd (none_some e h)) (λ other h. h))
+  fits_forgotten t s r = fits_fewer s.control.events (held_in s.control) r _ (λ u e. put_by (λ o. event_held (blocked_in o) ≡ Some e → held_in s.control u ≡ Some e) s.control.threads.progress t None u (λ here h. absurd (none-some e h)) (λ other h. h))
 
   fits_vanished : (t : ℕ) (s : State P S H) → IsFree t s → FitsIn s → FitsIn (controlled (vanish_all_but t) s)
   unfolding vanish_all_but
   fits_vanished t s free r = fits_none s.control.events (held_in s.control) r _ (λ u e h. by_number u e (u == t) refl h)
     where
       by_number : (u e : ℕ) (b : Bool) → (u == t) ≡ b → event_held (blocked_in (if b then s.control.threads.progress u else None)) ≡ Some e → ⊥
-      by_number u e false other h = none_some e h
-      by_number u e true same h = none_some e (sym (ap event_held (ap (blocked_of s.control) (same_means u t same) ∙ free)) ∙ h)
+      by_number u e false other h = none-some e h
+      by_number u e true same h = none-some e (sym (ap event_held (ap (blocked_of s.control) (same_means u t same) ∙ free)) ∙ h)
 
   -- t goes on in its program
   fits_goes : (t : ℕ) (g : Progress S → Progress S) (s : State P S H) → ((p : Progress S) → s.control.threads.progress t ≡ Some p → event_held (g p).blocked ≡ event_held p.blocked) → FitsIn s → FitsIn (controlled (goes_on t g) s)
@@ -238,7 +232,7 @@ module _ {P S H : Type 0} where
   fits_goes t g s same r = fits_fewer s.control.events (held_in s.control) r _ (λ u e. put_by (λ o. event_held (blocked_in o) ≡ Some e → held_in s.control u ≡ Some e) s.control.threads.progress t (option_map g (s.control.threads.progress t)) u (λ here h. ap (held_in s.control) here ∙ by_progress e (s.control.threads.progress t) refl h) (λ other h. h))
     where
       by_progress : (e : ℕ) (o : Option (Progress S)) → s.control.threads.progress t ≡ o → event_held (blocked_in (option_map g o)) ≡ Some e → held_in s.control t ≡ Some e
-      by_progress e None at h = absurd (none_some e h)
+      by_progress e None at h = absurd (none-some e h)
       by_progress e (Some p) at h = ap (λ o. event_held (blocked_in o)) at ∙ sym (same p at) ∙ h
 
   fits_looked : (f : P → Functions S H) (s : State P S H) → FitsIn s → FitsIn (controlled (looks f s) s)
@@ -258,13 +252,13 @@ module _ {P S H : Type 0} where
       (λ other h. inr (other, h))
     where
       by_progress : (q : Option (Progress S)) → event_held (blocked_in (option_map (blocking o) q)) ≡ Some e → event_held o ≡ Some e
-      by_progress None h = absurd (none_some e h)
+      by_progress None h = absurd (none-some e h)
       by_progress (Some p) h = h
 
   -- who waits for the ring of an event that no thread claims
   not_waiting : (s : State P S H) (a : ℕ) → is_event s.control.events a ≡ true → is_claimed s.control.events a ≡ false → FitsIn s → (u e : ℕ) → held_in s.control u ≡ Some e → e ≢ a
   not_waiting s a there free r u e h same =
-      none_some u (sym (unclaimed_in s.control.events a a free (r.circles.here a there)) ∙ ap (claimant s.control.events) (sym same) ∙ r.held u e h)
+      none-some u (sym (unclaimed_in s.control.events a a free (r.circles.here a there)) ∙ ap (claimant s.control.events) (sym same) ∙ r.held u e h)
 
   fits_blocked : (t : ℕ) (c : Call) (a : Awaits) (s : State P S H) → is_retaking a ≡ false → MayWait t c a s → FitsIn s → FitsIn (controlled (λ k. blocks t c a (claims t (ring_given c) k)) s)
   unfolding claims goes_on
@@ -280,22 +274,19 @@ module _ {P S H : Type 0} where
       by_ring None given = fits_fewer k.events (held_in k) r _ (λ u e h. by_none u e (waits_after k t (Some b) u e h))
         where
           by_none : (u e : ℕ) → ((u ≡ t) × (event_held (Some b) ≡ Some e)) ⊎ ((u ≢ t) × (held_in k u ≡ Some e)) → held_in k u ≡ Some e
-          by_none u e (inl own) = absurd (none_some e (sym (ap (option_map number) given) ∙ sym (event_given c a plain) ∙ own.1))
+          by_none u e (inl own) = absurd (none-some e (sym (ap (option_map number) given) ∙ sym (event_given c a plain) ∙ own.1))
           by_none u e (inr other) = other.1
       by_ring (Some i) given =
           let passed = may.ring i given in
           fits_claimed k.events (held_in k) r (number i) t (now_of k) passed.0 passed.1 (not_waiting s (number i) passed.0 passed.1 r) _ (λ u e h. by_some u e (waits_after k t (Some b) u e h))
         where
           by_some : (u e : ℕ) → ((u ≡ t) × (event_held (Some b) ≡ Some e)) ⊎ ((u ≢ t) × (held_in k u ≡ Some e)) → (held_in k u ≡ Some e) ⊎ ((u ≡ t) × (e ≡ number i))
-          by_some u e (inl own) = inr (own.0, sym (some_same (number i) e (sym (ap (option_map number) given) ∙ sym (event_given c a plain) ∙ own.1)))
+          by_some u e (inl own) = inr (own.0, sym (same_Some (number i) e (sym (ap (option_map number) given) ∙ sym (event_given c a plain) ∙ own.1)))
           by_some u e (inr other) = inl other.1
 
   fits_reached : (t : ℕ) (b : ℤ) (round : ℕ) (s : State P S H) → FitsIn s → FitsIn (controlled (λ k. blocks t (call.BarrierReach b) (awaits.Round b round) (with_barriers (barrier_reached b t) k)) s)
   unfolding claims
-  fits_reached t b round s r = fits_blocked t (call.BarrierReach b) (awaits.Round b round) (controlled (with_barriers (barrier_reached b t)) s) refl (record { ring = λ e h. absurd (no_ring e h); rightly = tt; names = refl }) r
-    where
-      no_ring : (e : ℤ) → None ≡ Some e → ⊥
-      no_ring e h = cc
+  fits_reached t b round s r = fits_blocked t (call.BarrierReach b) (awaits.Round b round) (controlled (with_barriers (barrier_reached b t)) s) refl (record { ring = λ e h. absurd (none-some e h); rightly = tt; names = refl }) r
 
   fits_stopped : (t : ℕ) (s : State P S H) → FitsIn s → FitsIn (controlled (stops_waiting t) s)
   unfolding stops_waiting gives_back goes_on
@@ -308,15 +299,15 @@ module _ {P S H : Type 0} where
       by_ring None held = fits_fewer k.events (held_in k) r _ (λ u e h. by_none u e (waits_after k t None u e h))
         where
           by_none : (u e : ℕ) → ((u ≡ t) × (event_held None ≡ Some e)) ⊎ ((u ≢ t) × (held_in k u ≡ Some e)) → held_in k u ≡ Some e
-          by_none u e (inl own) = absurd (none_some e own.1)
+          by_none u e (inl own) = absurd (none-some e own.1)
           by_none u e (inr other) = other.1
       by_ring (Some i) held = fits_returned k.events (held_in k) r (number i) _ (λ u e h. by_some u e (waits_after k t None u e h))
         where
           by_some : (u e : ℕ) → ((u ≡ t) × (event_held None ≡ Some e)) ⊎ ((u ≢ t) × (held_in k u ≡ Some e)) → (held_in k u ≡ Some e) × (e ≢ number i)
-          by_some u e (inl own) = absurd (none_some e own.1)
+          by_some u e (inl own) = absurd (none-some e own.1)
           by_some u e (inr other) =
               let own : claimant k.events (number i) ≡ Some t = r.held t (number i) (ap (option_map number) held) in
-              (other.1, λ same. other.0 (some_same u t (sym (r.held u e other.1) ∙ ap (claimant k.events) same ∙ own)))
+              (other.1, λ same. other.0 (same_Some u t (sym (r.held u e other.1) ∙ ap (claimant k.events) same ∙ own)))
 
   -- t waits for its mutex, and no longer for a ring
   fits_retakes : (t : ℕ) (c m e : ℤ) (o : Retake) (s : State P S H) → FitsIn s → FitsIn (controlled (λ k. blocks t (call.CondAwait c m e) (awaits.Retaking m o) (stops_waiting t k)) s)
@@ -361,8 +352,8 @@ module _ {P S H : Type 0} where
   pub fits_start : (f : P → Functions S H) (g : Given P) → FitsIn (start f g)
   unfolding start
   fits_start f g = record {
-    circles = record { here = λ e h. absurd (true_false (sym h)); own = λ e i h. absurd h; turns = λ e i h. absurd h; once = λ e. tt; low = λ e i h. absurd h };
-    held = λ t e. put_by (λ (o : Option (Progress S)). event_held (blocked_in o) ≡ Some e → claimant (start f g).control.events e ≡ Some t) (λ u. None) main _ t (λ here h. absurd (none_some e h)) (λ other h. absurd (none_some e h));
+    circles = record { here = λ e h. absurd (true≢false (sym h)); own = λ e i h. absurd h; turns = λ e i h. absurd h; once = λ e. tt; low = λ e i h. absurd h };
+    held = λ t e. put_by (λ (o : Option (Progress S)). event_held (blocked_in o) ≡ Some e → claimant (start f g).control.events e ≡ Some t) (λ u. None) main _ t (λ here h. absurd (none-some e h)) (λ other h. absurd (none-some e h));
     one = λ e i t u h k within. absurd within;
   }
 
@@ -385,4 +376,4 @@ module _ {P S H : Type 0} where
       one : (t u a b : ℕ) → claimant x a ≡ Some t → claimant x b ≡ Some u → ring_holds b (x.rings a) ≡ true → (t ≡ u) × (a ≡ b)
       one t u a b h k within =
           let same : a ≡ b = r.one a b t u h k (stands b (x.rings a) within) in
-          (some_same t u (sym h ∙ ap (claimant x) same ∙ k), same)
+          (same_Some t u (sym h ∙ ap (claimant x) same ∙ k), same)

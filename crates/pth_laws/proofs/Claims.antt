@@ -1,5 +1,7 @@
 -- Claims on rings, while a thread makes a step: each is held by a thread that lives, for the call that blocks it.
 use Rattle.std.proofs.Common.{◌≡◌, ◌≢◌, ℕ, ◌+◌, Bool, true, false, if◌then◌else◌, ℤ, pos, List, flat_map, ◌⊎◌, inl, inr, Option, Some, None, option_map, refl, sym, ◌∙◌, ap}
+use Rattle.std.proofs.lemmas.Bool.{true≢false}
+use Rattle.std.proofs.lemmas.Option.{same_Some, none-some}
 use Rattle.pth_base.specs.Program.{Functions}
 use Rattle.pth_base.specs.Table.{put}
 use Rattle.pth_base.specs.declared.call.Call.{Call}
@@ -31,15 +33,9 @@ use Rattle.pth_model.specs.Looks.{looked_at}
 use Rattle.pth_model.specs.Pass.{looks, waiting}
 use Rattle.pth_model.proofs.Walks.{KeptByCalls}
 use Rattle.pth_laws.specs.Clean.{event_held}
-use Rattle.pth_laws.proofs.Living.{true_false, set_state, request_state, suspended_safe}
+use Rattle.pth_laws.proofs.Living.{set_state, request_state, suspended_safe}
 use Rattle.pth_laws.proofs.Going.{Going, next_dead, other, joined_dead, set_lives, going_spawned, going_suspended, going_resumed, going_removed, going_set}
 use Rattle.pth_laws.proofs.Awaits.{Flags, HasAwaits, awaits_none, awaits_set, awaits_spawned, awaits_suspended, awaits_resumed, awaits_removed}
-
-some_held : (x y : ℕ) → Some x ≡ Some y → x ≡ y
-some_held x y h = cc
-
-no_held : (x : ℕ) → None ≡ Some x → ⊥
-no_held x h = cc
 
 -- whoever takes no mutex back waits for the event that its call was given
 pub event_given : (c : Call) (a : Awaits) → is_retaking a ≡ false → event_held (Some (record { call = c; awaits = a })) ≡ option_map number (ring_given c)
@@ -82,7 +78,7 @@ module _ {P S H : Type 0} where
 
   -- a thread that does not live has no claim
   unclaiming : (k : Control P S H) (u e v : ℕ) → lives (k.threads.known u) ≡ false → HasClaims k → claimant k.events e ≡ Some v → v ≢ u
-  unclaiming k u e v dead claims h same = true_false (sym (claims e v h).0 ∙ ap (λ i. lives (k.threads.known i)) same ∙ dead)
+  unclaiming k u e v dead claims h same = true≢false (sym (claims e v h).0 ∙ ap (λ i. lives (k.threads.known i)) same ∙ dead)
 
   pub claims_removed : (u : ℕ) (k : Control P S H) → lives (k.threads.known u) ≡ false → HasClaims k → HasClaims (removes u k)
   unfolding forgets leaves_queue
@@ -149,12 +145,12 @@ module _ {P S H : Type 0} (n : ℕ) (ended : ℕ → Bool) (awaits : Flags) (t :
 -- ---- events with one claim more, or less
 
 another_claim : (t u : ℕ) (o : Option Event) → claimant_by (option_map (with_claim (Some (record { 0 = t }))) o) ≡ Some u → u ≡ t
-another_claim t u None h = absurd (no_held u h)
-another_claim t u (Some v) h = sym (some_held t u h)
+another_claim t u None h = absurd (none-some u h)
+another_claim t u (Some v) h = sym (same_Some t u h)
 
 returned_claim : (u : ℕ) (o : Option Event) → claimant_by (option_map (with_claim None) o) ≡ Some u → ⊥
-returned_claim u None h = no_held u h
-returned_claim u (Some v) h = no_held u h
+returned_claim u None h = none-some u h
+returned_claim u (Some v) h = none-some u h
 
 -- a look at events changes no claim
 looked_claim : (f : Event → Event) → ((v : Event) → (f v).claim ≡ v.claim) → (es : List ℕ) (events : ℕ → Option Event) (i : ℕ) → claimant_by (each es (option_map f) events i) ≡ claimant_by (events i)
@@ -211,7 +207,7 @@ module _ {P S H : Type 0} (t : ℕ) where
 
       old : (e u : ℕ) → claimant k.events e ≡ Some u → (lives (k.threads.known u) ≡ true) × (event_held (blocked_of (goes_on t held k) u) ≡ Some e)
       old e u h =
-          let apart : u ≢ t = λ same. no_held e (sym (ap (λ i. event_held (blocked_of k i)) same ∙ ap (λ z. event_held (blocked_in z)) on ∙ ap event_held free) ∙ (has e u h).1) in
+          let apart : u ≢ t = λ same. none-some e (sym (ap (λ i. event_held (blocked_of k i)) same ∙ ap (λ z. event_held (blocked_in z)) on ∙ ap event_held free) ∙ (has e u h).1) in
           ((has e u h).0, ap event_held (apart_progress held k u apart) ∙ (has e u h).1)
 
       by_ring : (r : Option ℤ) → ring_given c ≡ r → HasClaims (blocks t c y (claims t r k))
@@ -240,11 +236,11 @@ module _ {P S H : Type 0} (t : ℕ) where
   -- no call blocks t any longer: its claim is given back
   back_apart : (r : Option ℤ) (k : Control P S H) → option_map number r ≡ event_held (blocked_of k t) → HasClaims k → (e u : ℕ) → claimant (gives_back r k).events e ≡ Some u → (claimant k.events e ≡ Some u) × (u ≢ t)
   unfolding gives_back
-  back_apart None k same has e u = λ h. (h, λ here. no_held e (same ∙ ap (λ i. event_held (blocked_of k i)) (sym here) ∙ (has e u h).1))
+  back_apart None k same has e u = λ h. (h, λ here. none-some e (same ∙ ap (λ i. event_held (blocked_of k i)) (sym here) ∙ (has e u h).1))
   back_apart (Some x) k same has e u =
       put_by (λ o. claimant_by o ≡ Some u → (claimant k.events e ≡ Some u) × (u ≢ t)) k.events.events (number x) (option_map (with_claim None) (k.events.events (number x))) e
       (λ here h. absurd (returned_claim u (k.events.events (number x)) h))
-      (λ apart h. (h, λ here. apart (sym (some_held (number x) e (same ∙ ap (λ i. event_held (blocked_of k i)) (sym here) ∙ (has e u h).1)))))
+      (λ apart h. (h, λ here. apart (sym (same_Some (number x) e (same ∙ ap (λ i. event_held (blocked_of k i)) (sym here) ∙ (has e u h).1)))))
 
   back_threads : (r : Option ℤ) (k : Control P S H) → (gives_back r k).threads ≡ k.threads
   unfolding gives_back

@@ -35,9 +35,6 @@ counted_less f many t h = by_test (f t) refl
 pub none_passes : (f : ℕ → Bool) (many : ℕ) → IsCounted f many → many ≡ 0 → (t : ℕ) → f t ≡ false
 none_passes f many h none t = none_counted f t (h.bound + t + 1) (omega arith) (h.counts (h.bound + t + 1) (omega arith) ∙ none)
 
-pub none_counts : (f : ℕ → Bool) (many : ℕ) → IsCounted f many → ((t : ℕ) → f t ≡ false) → many ≡ 0
-none_counts f many h none = sym (h.counts h.bound (omega arith)) ∙ count_none f h.bound none
-
 -- a number that does not pass is not counted
 none_more : (f : ℕ → Bool) (k : ℕ) → f k ≡ false → count_below f (suc k) ≡ count_below f k
 unfolding count_below

@@ -1,7 +1,7 @@
 -- An ending, walked: its handlers from the last pushed to the first, its destructors to the last that is due, and its mark.
 use Rattle.std.proofs.Common.{◌≡◌, ◌≢◌, ℕ, zero, suc, ◌+◌, ◌-◌, ◌*◌, ◌<◌, ◌≤◌, ◌||◌, if◌then◌else◌, cond, Bool, true, false, ℤ, negsuc, List, [], ◌∷◌, ◌++◌, map, filter, inl, inr, Option, Some, None, refl, sym, ◌∙◌, ap, ap₂, subst, arith, append_assoc, append-nil}
 use Rattle.std.specs.List.{range_with_len}
-use Rattle.std.proofs.lemmas.Bool.{cases_lt}
+use Rattle.std.proofs.lemmas.Bool.{cases_lt, true≢false}
 use Rattle.pth_base.specs.Program.{Functions}
 use Rattle.pth_base.specs.Table.{put}
 use Rattle.pth_base.specs.declared.mark.Mark.{Mark}
@@ -36,7 +36,7 @@ use Rattle.pth_laws.proofs.Book.{Book, Closed, BlockRun, after, ran_by, ran_noth
 use Rattle.pth_laws.proofs.Laws.{HasMutex, HoldsLock}
 use Rattle.pth_laws.specs.Destructors.{IsNextDue}
 use Rattle.pth_laws.proofs.NextDue.{next_is}
-use Rattle.pth_laws.proofs.Living.{IsLiving, Living, true_false, living-up, living_left}
+use Rattle.pth_laws.proofs.Living.{IsLiving, Living, living-up, living_left}
 use Rattle.pth_laws.proofs.Claims.{HasClaims, stopped_apart, claims_stop, claims_left, left_other, stopped_known}
 use Rattle.pth_laws.proofs.Awaits.{Flags, Tells, HasAwaits, flags_past, others_await, awaits_stop, awaits_left}
 use Rattle.pth_laws.proofs.Locked.{no_mutex, no_lock}
@@ -351,7 +351,7 @@ module _ {P S H : Type 0} (n t : ℕ) where
         let over_now : (told u.resources m).awaits t ≡ false = put_here u.resources.awaits t false in
         let await_stays : (i : ℕ) → i ≢ t → (told u.resources m).awaits i ≡ s.resources.awaits i = λ i apart. put_other u.resources.awaits t false i apart ∙ ap (λ (o : ℕ → Bool). o i) w.awaits in
         let over : Flags = flags_past t b (told u.resources m).awaits in
-        let none : Tells over t None = record { fits = over_now; calm = λ still. absurd (true_false (sym (put_here b.ended t true) ∙ still)); retakes = λ e. absurd (true_false (sym e)) } in
+        let none : Tells over t None = record { fits = over_now; calm = λ still. absurd (true≢false (sym (put_here b.ended t true) ∙ still)); retakes = λ e. absurd (true≢false (sym e)) } in
         let awaits_now : HasAwaits over u.control = subst (HasAwaits over) (sym w.control) (awaits_stop t (flags_past t b s.resources.awaits) over handed none (others_await t (flags_past t b s.resources.awaits) over.awaits await_stays) awaits_back) in
         let law : IsMarkedWithin n c m = λ locked. (
           (

@@ -1,5 +1,6 @@
 -- An event has a seat at its own condition alone, and while a thread claims its ring.
 use Rattle.std.proofs.Common.{◌≡◌, ◌≤◌, ◌⊎◌, ℕ, zero, suc, ◌==◌, Bool, true, false, cond, ℤ, flat_map, Option, Some, None, option_map, inl, inr, refl, sym, ◌∙◌, ap, subst, arith}
+use Rattle.std.proofs.lemmas.Option.{none-some}
 use Rattle.pth_base.specs.Chain.{StandsIn}
 use Rattle.pth_base.specs.Program.{Functions}
 use Rattle.pth_base.proofs.Chains.{stands_or_not}
@@ -23,7 +24,7 @@ use Rattle.pth_laws.proofs.Seats.{HasFewerSeats, seats_at, has_some, seats_gone,
 use Rattle.pth_laws.proofs.EventSeats.{places, AreRight, entered_apart, all_entered, fewer_left, all_gone}
 use Rattle.pth_laws.proofs.Along.{KeptAlong, Arrangement, arranged, MayArrange, run_keeps}
 use Rattle.pth_laws.proofs.Circles.{AreCircles, Comes, mates, free_mate, unclaimed_in, comes_by, claims_by}
-use Rattle.pth_laws.proofs.Claimed.{FitsIn, none_some, mapped_claim, each_same, one_same, claimed_here, claimed_elsewhere, fits_kept, fits_start}
+use Rattle.pth_laws.proofs.Claimed.{FitsIn, mapped_claim, each_same, one_same, claimed_here, claimed_elsewhere, fits_kept, fits_start}
 
 -- a claim stands in the ring of an event
 record IsClaimedIn (x : Events) (e : ℕ) : Type 0 where
@@ -48,7 +49,7 @@ its_place (Some i) c h = ap Some (same_means (object_named i) c (by_test (object
 
 -- no claim stands in a ring that no thread claims
 not_claimed : (x : Events) (e : ℕ) → is_claimed x e ≡ false → IsClaimedIn x e → ⊥
-not_claimed x e free r = none_some r.by (sym (unclaimed_in x e r.at free r.within) ∙ r.claim)
+not_claimed x e free r = none-some r.by (sym (unclaimed_in x e r.at free r.within) ∙ r.claim)
 
 -- a thread claims a ring in which a claim stands
 ring_claimed : (x : Events) (e : ℕ) → IsClaimedIn x e → is_claimed x e ≡ true
@@ -123,7 +124,7 @@ module _ (x : Events) (c : AreCircles x) (y : ConditionTable) (r : AreEventsSeat
         at = on.at;
         by = on.by;
         within = on.within;
-        claim = claimed_elsewhere x a t now on.at (λ same. none_some on.by (sym (unclaimed_in x a a free (c.here a there)) ∙ ap (claimant x) (sym same) ∙ on.claim)) ∙ on.claim;
+        claim = claimed_elsewhere x a t now on.at (λ same. none-some on.by (sym (unclaimed_in x a a free (c.here a there)) ∙ ap (claimant x) (sym same) ∙ on.claim)) ∙ on.claim;
       }
 
       old : AreEventsSeated z y

@@ -4,6 +4,8 @@ use Rattle.pth_model.specs.Awaits.{is_canceled_in}
 use Rattle.std.specs.List.{list_any}
 use Rattle.std.proofs.lemmas.List.Elements.{All-nil, All-cons, All-append, All-weaker}
 use Rattle.std.proofs.lemmas.Bool.Decides.{nat_tests}
+use Rattle.std.proofs.lemmas.Bool.{true≢false, and_parts, not-true}
+use Rattle.std.proofs.lemmas.Option.{none-some}
 use Rattle.pth_base.specs.Program.{Functions}
 use Rattle.pth_base.specs.Table.{put}
 use Rattle.pth_base.specs.declared.answer.Answer.{Answer}
@@ -46,12 +48,12 @@ use Rattle.pth_laws.specs.InOrder.{InOrder, mail}
 use Rattle.pth_laws.specs.InTime.{InTime}
 use Rattle.pth_laws.specs.Tied.{IsTiedTo}
 use Rattle.pth_laws.specs.Valid.{Lives, IsValid, IsOver}
-use Rattle.pth_laws.proofs.Living.{queue_to_run, IsToRun, NamesToRun, running_not_to_run, over_not_to_run, living-over, true_false, made_more, both, not_true, runs_alive}
+use Rattle.pth_laws.proofs.Living.{queue_to_run, IsToRun, NamesToRun, running_not_to_run, over_not_to_run, living-over, made_more, runs_alive}
 use Rattle.pth_laws.proofs.Going.{Going, IsSound, going_sound}
 use Rattle.pth_laws.proofs.Awaits.{Tells, flags}
 use Rattle.pth_laws.proofs.Locked.{Locked, has_some, locked_none, locked_along}
 use Rattle.pth_laws.proofs.Walk.{Walk, IsOfMade, IsLawfulOf, each_lawful, each_in_time, each-weaker, each-append, book-append}
-use Rattle.pth_laws.proofs.Parts.{IsSettled, PartWalk, none_some, part_walk, step_goes}
+use Rattle.pth_laws.proofs.Parts.{IsSettled, PartWalk, part_walk, step_goes}
 use Rattle.pth_laws.proofs.Steps.{AfterStep}
 use Rattle.pth_laws.proofs.Leftovers.{each_empty, unmarked_nothing}
 use Rattle.pth_laws.proofs.KeyMarks.{KeysFit, keys_fit_none, keys_fit_along}
@@ -92,18 +94,18 @@ main_over t = put_by (λ o. false ≡ (is_made 1 t && not (lives o))) (λ u. Non
     unmade (suc (suc t)) other = grind (arith, nat_tests)
 
 main_known : (t : ℕ) → is_some (put (λ u. None) main (Some main_entry) t) ≡ true → is_made 1 t ≡ true
-main_known t = put_by (λ o. is_some o ≡ true → is_made 1 t ≡ true) (λ u. None) main (Some main_entry) t (λ here h. rw here refl) (λ other h. absurd (true_false (sym h)))
+main_known t = put_by (λ o. is_some o ≡ true → is_made 1 t ≡ true) (λ u. None) main (Some main_entry) t (λ here h. rw here refl) (λ other h. absurd (true≢false (sym h)))
 
 main_stands : (q : Queue) → is_queue q Dead ≡ false → All (λ (z : Standing). lives (put (λ u. None) main (Some main_entry) z.tid) ≡ true) (main_standing q)
 main_stands Ready living = All-cons (λ (z : Standing). lives (put (λ u. None) main (Some main_entry) z.tid) ≡ true) (record { tid = main; rank = pos 0; since = 0; entry = 0; top = false }) [] (alone_lives main refl) (All-nil (λ (z : Standing). lives (put (λ u. None) main (Some main_entry) z.tid) ≡ true))
 main_stands New living = All-nil (λ (z : Standing). lives (put (λ u. None) main (Some main_entry) z.tid) ≡ true)
 main_stands Waiting living = All-nil (λ (z : Standing). lives (put (λ u. None) main (Some main_entry) z.tid) ≡ true)
 main_stands Suspended living = All-nil (λ (z : Standing). lives (put (λ u. None) main (Some main_entry) z.tid) ≡ true)
-main_stands Dead living = absurd (true_false living)
+main_stands Dead living = absurd (true≢false living)
 
 -- nothing blocks a thread, and nothing is told of it
 nothing_told : (t : ℕ) → Tells (flags empty_book (λ u. false)) t None
-nothing_told t = record { fits = refl; calm = λ up. refl; retakes = λ e. absurd (true_false (sym e)) }
+nothing_told t = record { fits = refl; calm = λ up. refl; retakes = λ e. absurd (true≢false (sym e)) }
 
 -- ---- every run
 
@@ -133,11 +135,11 @@ module _ {P S H : Type 0} (f : P → Functions S H) where
     resources = refl;
     closed = refl;
     living = record { grown = omega arith; numbered = main_known; over = main_over; stands = main_stands; dead = All-nil (λ (z : Standing). false ≡ true) };
-    claims = λ e t h. absurd (none_some t h);
-    awaits = λ t. (put_by (λ (o : Option (Progress S)). Tells (flags empty_book (λ u. false)) t (blocked_in o)) (λ u. None) main _ t (λ here. nothing_told t) (λ other. nothing_told t), (λ awaiting. absurd (true_false (sym awaiting))));
-    runs = λ t h. absurd (none_some t h);
-    gave = λ t g. absurd (none_some t g);
-    preferred = λ t h. absurd (none_some t h);
+    claims = λ e t h. absurd (none-some t h);
+    awaits = λ t. (put_by (λ (o : Option (Progress S)). Tells (flags empty_book (λ u. false)) t (blocked_in o)) (λ u. None) main _ t (λ here. nothing_told t) (λ other. nothing_told t), (λ awaiting. absurd (true≢false (sym awaiting))));
+    runs = λ t h. absurd (none-some t h);
+    gave = λ t g. absurd (none-some t g);
+    preferred = λ t h. absurd (none-some t h);
     unnamed = λ t h g. refl;
   }
 
@@ -259,7 +261,7 @@ module _ {P S H : Type 0} (f : P → Functions S H) where
       b = book_of (book_of empty_book c.marks) (steps_on f t c.state).told.marks
 
       nobody_named : u.control.scheduler.preferred ≡ None → (v : ℕ) → u.control.scheduler.preferred ≡ Some v → IsToRun (u.control.threads.known v)
-      nobody_named none v named = absurd (none_some v (sym none ∙ named))
+      nobody_named none v named = absurd (none-some v (sym none ∙ named))
 
       by_next : (y : Next) → (y ≡ next.Killed → ⊥) → AfterStep n t y b u → NamesToRun t u.control
       by_next (next.Done a) on h = (running_not_to_run (u.control.threads.known t) h.left.1, nobody_named h.left.2)
@@ -287,7 +289,7 @@ module _ {P S H : Type 0} (f : P → Functions S H) where
 
       by_gave : (k.scheduler.running ≡ Some t) ⊎ ((k.scheduler.running ≡ None) × ((book_of empty_book c.marks).ended t ≡ true)) → k.scheduler.running ≡ Some t
       by_gave (inl runs) = runs
-      by_gave (inr rests) = absurd (none_some u (sym rests.0 ∙ running))
+      by_gave (inr rests) = absurd (none-some u (sym rests.0 ∙ running))
 
   -- ---- what is told of every run
 
@@ -312,7 +314,7 @@ module _ {P S H : Type 0} (f : P → Functions S H) where
   unmade g i on t none =
       let c = run f g i in
       let n = c.state.control.threads.made in
-      All-weaker (λ m. IsOfMade n (thread_of m)) (λ m. thread_of m ≢ Some t) (λ m h same. true_false (sym (subst (IsOfMade n) same h) ∙ none)) c.marks ((run_lawful g i).made on)
+      All-weaker (λ m. IsOfMade n (thread_of m)) (λ m. thread_of m ≢ Some t) (λ m h same. true≢false (sym (subst (IsOfMade n) same h) ∙ none)) c.marks ((run_lawful g i).made on)
 
   pub run_valid : (g : Given P) (i : ℕ) → (IsKilled (run f g i).turn.outcome → ⊥) → IsValid (run f g i).state (run f g i).turn
   run_valid g i on =
@@ -328,7 +330,7 @@ module _ {P S H : Type 0} (f : P → Functions S H) where
         gave = λ t g. by_gave t (z.gave t g);
         unnamed = z.unnamed;
         awaits = λ t. (z.awaits t).0.fits;
-        empty = λ t over. subst (λ r. HasNothing r.store t) z.resources (each_empty empty_book c.marks l.law (nobody_killed g i on) (λ u h. absurd (true_false (sym h))) t (z.living.over t ∙ rw (over.made, over.gone) refl));
+        empty = λ t over. subst (λ r. HasNothing r.store t) z.resources (each_empty empty_book c.marks l.law (nobody_killed g i on) (λ u h. absurd (true≢false (sym h))) t (z.living.over t ∙ rw (over.made, over.gone) refl));
       }
     where
       by_gave : (t : ℕ) → ((run f g i).state.control.scheduler.running ≡ Some t) ⊎ (((run f g i).state.control.scheduler.running ≡ None) × ((book_of empty_book (run f g i).marks).ended t ≡ true)) → ((run f g i).state.control.scheduler.running ≡ Some t) ⊎ IsOver (run f g i).state t
@@ -336,8 +338,8 @@ module _ {P S H : Type 0} (f : P → Functions S H) where
       by_gave t (inr rests) =
           let k = (run f g i).state.control in
           let living = ((run_lawful g i).settled on).living in
-          let over = both (is_made k.threads.made t) (not (lives (k.threads.known t))) (sym (living.over t) ∙ rests.1) in
-          inr (record { made = over.0; gone = not_true (lives (k.threads.known t)) over.1 })
+          let over = and_parts (is_made k.threads.made t) (not (lives (k.threads.known t))) (sym (living.over t) ∙ rests.1) in
+          inr (record { made = over.0; gone = not-true (lives (k.threads.known t)) over.1 })
 
   -- who does not live has nothing: it is over, or was not made
   nothing_left : (g : Given P) (i : ℕ) → (IsKilled (run f g i).turn.outcome → ⊥) → (t : ℕ) → lives ((run f g i).state.control.threads.known t) ≡ false → HasNothing (run f g i).state.resources.store t
@@ -350,12 +352,12 @@ module _ {P S H : Type 0} (f : P → Functions S H) where
 
   -- who has a mutex is one thread
   same_owner : (t u : ℕ) (z : Mutex) → has t z ≡ true → has u z ≡ true → t ≡ u
-  same_owner t u None a b = absurd (true_false (sym a))
-  same_owner t u (Some None) a b = absurd (true_false (sym a))
+  same_owner t u None a b = absurd (true≢false (sym a))
+  same_owner t u (Some None) a b = absurd (true≢false (sym a))
   same_owner t u (Some (Some o)) a b = sym (same_means o.owner t a) ∙ same_means o.owner u b
 
   writes_some : (t : ℕ) (w : Option ℕ) → is_one t w ≡ true → is_some w ≡ true
-  writes_some t None h = absurd (true_false (sym h))
+  writes_some t None h = absurd (true≢false (sym h))
   writes_some t (Some v) h = refl
 
   module _ (g : Given P) (i : ℕ) (on : IsKilled (run f g i).turn.outcome → ⊥) where
@@ -431,8 +433,8 @@ module _ {P S H : Type 0} (f : P → Functions S H) where
       → ((c t : ℕ) → has_seat (run f g i).state.control.conditions c (Await (tid t)) ≡ true → Lives (run f g i).state t × (condition_held (blocked_of (run f g i).state.control t) ≡ Some c)) → ((c e : ℕ) → has_seat (run f g i).state.control.conditions c (event_seat e) ≡ true → (option_map object_named (condition_in ((run f g i).state.control.events.events e)) ≡ Some c) × (is_claimed (run f g i).state.control.events e ≡ true)) → IsClean (run f g i).state
   run_clean g i on arrivals seats event_seats = record {
     claims = ((run_lawful g i).settled on).claims;
-    mutexes = λ m t had. (alive t (λ nothing. true_false (sym had ∙ nothing.mutexes m)), locked.mutexes m (has_some t (s.resources.store.mutexes m) had));
-    locks = λ l t held. (alive t (λ nothing. true_false (sym held ∙ nothing.locks l)), locked.locks l (locked.held l t held));
+    mutexes = λ m t had. (alive t (λ nothing. true≢false (sym had ∙ nothing.mutexes m)), locked.mutexes m (has_some t (s.resources.store.mutexes m) had));
+    locks = λ l t held. (alive t (λ nothing. true≢false (sym held ∙ nothing.locks l)), locked.locks l (locked.held l t held));
     arrivals = arrivals;
     seats = seats;
     event_seats = event_seats;

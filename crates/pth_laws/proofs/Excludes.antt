@@ -4,6 +4,7 @@ use Rattle.std.specs.List.{list_any}
 use Rattle.std.proofs.Math.Bool.{or-false}
 use Rattle.std.proofs.lemmas.List.Folds.{list_any-append}
 use Rattle.std.proofs.lemmas.List.Sums.{fold-append}
+use Rattle.std.proofs.lemmas.Bool.{or_left, false_from_ne_true, true≢false, and_parts, or_parts, or_from}
 use Rattle.pth_base.specs.declared.answer.Answer.TheVariants.{Int}
 use Rattle.pth_base.specs.declared.call.Call.TheVariants as call
 use Rattle.pth_base.specs.declared.mark.Mark.{Mark}
@@ -12,23 +13,21 @@ use Rattle.pth_base.proofs.Tables.{same_means}
 use Rattle.pth_laws.specs.Marks.{is_same, thread_of}
 use Rattle.pth_laws.specs.Exclusive.{is_of, awaits_after, awaits, takes, gives, gives_up, Share, share_after, levels, enters, leaves, held_after, reads, writes, is_holder, IsExclusiveAt, Exclusive, IsExclusiveAfter}
 use Rattle.pth_laws.specs.Initialised.{initialises_mutex, initialises_lock, IsObject, IsInitialisedAt, Initialised, HaveObjects}
-use Rattle.pth_laws.proofs.Held.{neither, both_not}
-use Rattle.pth_laws.proofs.Living.{true_false, both}
 
 -- ---- one thread alone takes, or enters, at a mark
 
 taker_of : (t : ℕ) (i : ℤ) (x : Bool) (m : Mark) → takes t i x m ≡ true → thread_of m ≡ Some t
-taker_of t i x (mark.Answered u (call.MutexAcquire m v e) (Int (pos (suc zero)))) h = ap Some (same_means u.0 t (both (is_same i m) (u.0 == t) h).1)
-taker_of t i x (mark.Answered u (call.CondAwait c m e) a) h = ap Some (same_means u.0 t (both (is_same i m) (u.0 == t) (both x (is_of t i u.0 m) h).1).1)
-taker_of t i x (mark.Took u m) h = ap Some (same_means u.0 t (both (is_same i (pos m)) (u.0 == t) h).1)
-taker_of t i x m h = absurd (true_false (sym h))
+taker_of t i x (mark.Answered u (call.MutexAcquire m v e) (Int (pos (suc zero)))) h = ap Some (same_means u.0 t (and_parts (is_same i m) (u.0 == t) h).1)
+taker_of t i x (mark.Answered u (call.CondAwait c m e) a) h = ap Some (same_means u.0 t (and_parts (is_same i m) (u.0 == t) (and_parts x (is_of t i u.0 m) h).1).1)
+taker_of t i x (mark.Took u m) h = ap Some (same_means u.0 t (and_parts (is_same i (pos m)) (u.0 == t) h).1)
+taker_of t i x m h = absurd (true≢false (sym h))
 
 enterer_of : (t : ℕ) (l : ℤ) (write : Bool) (m : Mark) → enters t l write m ≡ true → thread_of m ≡ Some t
-enterer_of t l true (mark.Answered u (call.RwAcquire k true v e) (Int (pos (suc zero)))) h = ap Some (same_means u.0 t (both (is_same l k) (u.0 == t) h).1)
-enterer_of t l false (mark.Answered u (call.RwAcquire k true v e) (Int (pos (suc zero)))) h = absurd (true_false (sym h))
-enterer_of t l true (mark.Answered u (call.RwAcquire k false v e) (Int (pos (suc zero)))) h = absurd (true_false (sym h))
-enterer_of t l false (mark.Answered u (call.RwAcquire k false v e) (Int (pos (suc zero)))) h = ap Some (same_means u.0 t (both (is_same l k) (u.0 == t) h).1)
-enterer_of t l write m h = absurd (true_false (sym h))
+enterer_of t l true (mark.Answered u (call.RwAcquire k true v e) (Int (pos (suc zero)))) h = ap Some (same_means u.0 t (and_parts (is_same l k) (u.0 == t) h).1)
+enterer_of t l false (mark.Answered u (call.RwAcquire k true v e) (Int (pos (suc zero)))) h = absurd (true≢false (sym h))
+enterer_of t l true (mark.Answered u (call.RwAcquire k false v e) (Int (pos (suc zero)))) h = absurd (true≢false (sym h))
+enterer_of t l false (mark.Answered u (call.RwAcquire k false v e) (Int (pos (suc zero)))) h = ap Some (same_means u.0 t (and_parts (is_same l k) (u.0 == t) h).1)
+enterer_of t l write m h = absurd (true≢false (sym h))
 
 one_thread : (t u : ℕ) (o : Option ℕ) → o ≡ Some t → o ≡ Some u → u ≡ t
 one_thread t u o first second = cc
@@ -60,7 +59,7 @@ module _ (before : List Mark) (m : Mark) where
     where
       by_tests : (a b c : Bool) (n : ℕ) → b ≡ false → (if a then 0 else (if b then n + 1 else (if c then n - 1 else n))) ≤ n
       by_tests true b c n none = omega arith
-      by_tests false true c n none = absurd (true_false none)
+      by_tests false true c n none = absurd (true≢false none)
       by_tests false false true n none = omega arith
       by_tests false false false n none = omega arith
 
@@ -72,7 +71,7 @@ module _ (before : List Mark) (m : Mark) where
   still_out t l write none out = held_more t l write ∙ by_tests (enters t l write m) (leaves t l m) (fold (held_after t l write) false before) none out
     where
       by_tests : (a b c : Bool) → a ≡ false → c ≡ false → (if a then true else (if b then false else c)) ≡ false
-      by_tests true b c none out = absurd (true_false none)
+      by_tests true b c none out = absurd (true≢false none)
       by_tests false true c none out = refl
       by_tests false false c none out = out
 
@@ -81,8 +80,8 @@ module _ (before : List Mark) (m : Mark) where
   held_before t l write none held = by_tests (enters t l write m) (leaves t l m) (fold (held_after t l write) false before) none (sym (held_more t l write) ∙ held)
     where
       by_tests : (a b c : Bool) → a ≡ false → (if a then true else (if b then false else c)) ≡ true → c ≡ true
-      by_tests true b c none h = absurd (true_false none)
-      by_tests false true c none h = absurd (true_false (sym h))
+      by_tests true b c none h = absurd (true≢false none)
+      by_tests false true c none h = absurd (true≢false (sym h))
       by_tests false false c none h = h
 
   module _ (said : IsExclusiveAt before m) (x : IsExclusiveAfter before) where
@@ -103,11 +102,7 @@ module _ (before : List Mark) (m : Mark) where
 
     -- u neither entered nor held it
     out_after : (u : ℕ) (l : ℤ) → ((write : Bool) → enters u l write m ≡ true → ⊥) → writes u l before ≡ false → reads u l before ≡ false → is_holder u l more ≡ false
-    out_after u l none no_write no_read = both_not _ _ (still_out u l true (fails (enters u l true m) (none true)) no_write) (still_out u l false (fails (enters u l false m) (none false)) no_read)
-      where
-        fails : (p : Bool) → (p ≡ true → ⊥) → p ≡ false
-        fails true h = absurd (h refl)
-        fails false h = refl
+    out_after u l none no_write no_read = or_from _ _ (still_out u l true (false_from_ne_true (enters u l true m) (none true)) no_write) (still_out u l false (false_from_ne_true (enters u l false m) (none false)) no_read)
 
     writer_is_alone : (t u : ℕ) (l : ℤ) → writes t l more ≡ true → u ≢ t → is_holder u l more ≡ false
     writer_is_alone t u l held apart = by_bool (enters t l true m)
@@ -117,8 +112,8 @@ module _ (before : List Mark) (m : Mark) where
         (said.meets_no_writer t u l true entering) (said.writer_meets_no_reader t u l entering))
         (λ off.
         let before_that = held_before t l true off held in
-        let (no_write, no_read) = neither _ _ (x.writer_is_alone t u l before_that apart) in
-        out_after u l (λ write also. true_false (sym before_that ∙ said.meets_no_writer u t l write also)) no_write no_read)
+        let (no_write, no_read) = or_parts _ _ (x.writer_is_alone t u l before_that apart) in
+        out_after u l (λ write also. true≢false (sym before_that ∙ said.meets_no_writer u t l write also)) no_write no_read)
 
     excludes_more : IsExclusiveAfter more
     excludes_more = record { one_owner = one_owner; writer_is_alone = writer_is_alone }
@@ -147,12 +142,8 @@ in_range_more before m said x = record {
     by_last true b h first last = first refl
     by_last false b h first last = last h
 
-    or_still : (a b : Bool) → a ≡ true → (a || b) ≡ true
-    or_still true b h = refl
-    or_still false b h = absurd (true_false (sym h))
-
     still : (test : Mark → Bool) → list_any test before ≡ true → list_any test (before ++ m ∷ []) ≡ true
-    still test h = any_last test before m ∙ or_still (list_any test before) (test m) h
+    still test h = any_last test before m ∙ or_left (list_any test before) (test m) h
 
 -- ---- all marks
 
@@ -169,12 +160,12 @@ module _ (A : List Mark → Mark → Type 0) (K : List Mark → Type 0) (step : 
   kept before later said start = kept_along [] before (λ next rest m e. said next (rest ++ later) m (ap (λ (xs : List Mark). xs ++ later) e ∙ append_assoc next (m ∷ rest) later)) start
 
 pub exclusive_after : (before later : List Mark) → Exclusive (before ++ later) → IsExclusiveAfter before
-exclusive_after before later law = kept IsExclusiveAt IsExclusiveAfter excludes_more before later law (record { one_owner = λ t u i some apart. refl; writer_is_alone = λ t u l held apart. absurd (true_false (sym held)) })
+exclusive_after before later law = kept IsExclusiveAt IsExclusiveAfter excludes_more before later law (record { one_owner = λ t u i some apart. refl; writer_is_alone = λ t u l held apart. absurd (true≢false (sym held)) })
 
 pub have_objects : (before later : List Mark) → Initialised (before ++ later) → HaveObjects before
 have_objects before later law =
     let x = kept IsInitialisedAt AreInRange in_range_more before later law
-    (record { mutexes = λ i h. absurd (true_false (sym h)); locks = λ l h. absurd (true_false (sym h)); had = λ t i some. absurd (omega (arith, some)); held = λ t l write h. absurd (true_false (sym h)) }) in
+    (record { mutexes = λ i h. absurd (true≢false (sym h)); locks = λ l h. absurd (true≢false (sym h)); had = λ t i some. absurd (omega (arith, some)); held = λ t l write h. absurd (true≢false (sym h)) }) in
     record {
       had = λ t i some. x.mutexes i (x.had t i some);
       held = λ t l held. by_holder t l (writes t l before) (reads t l before) refl refl held x;

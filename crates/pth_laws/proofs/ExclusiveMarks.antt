@@ -5,6 +5,7 @@ use Rattle.std.specs.List.{list_any}
 use Rattle.std.proofs.Math.Bool.{or-false}
 use Rattle.std.proofs.lemmas.List.Folds.{list_any-append}
 use Rattle.std.proofs.lemmas.List.Sums.{fold-append}
+use Rattle.std.proofs.lemmas.Bool.{true≢false, and_parts, not-true, or_parts, false_from_ne_true}
 use Rattle.pth_base.specs.declared.act.Act.TheVariants as act
 use Rattle.pth_base.specs.declared.answer.Answer.TheVariants.{Int}
 use Rattle.pth_base.specs.declared.call.Call.TheVariants as call
@@ -20,9 +21,7 @@ use Rattle.pth_laws.specs.Exclusive.{is_of, awaits_after, awaits, takes, gives, 
 use Rattle.pth_laws.specs.Initialised.{initialises_mutex, initialises_lock, IsInitialisedAt, Initialised}
 use Rattle.pth_laws.proofs.Book.{Book, empty_book, book_of, after, is_kill}
 use Rattle.pth_laws.proofs.Counted.{counted_none}
-use Rattle.pth_laws.proofs.Held.{neither}
 use Rattle.pth_laws.proofs.Laws.{EachMark, HasNotEnded, IsNewMutex, IsNewLock, MayTake, MayEnter, HasMutex, HoldsLock, HoldsNothing, IsExclusiveMark, IsLawful}
-use Rattle.pth_laws.proofs.Living.{true_false, both, not_true}
 use Rattle.pth_laws.proofs.Locked.{Locked, has_some, locked_none, locked_after}
 use Rattle.pth_laws.proofs.Numbers.{same_number, named_object}
 use Rattle.pth_laws.proofs.OrderlyMarks.{unkilled}
@@ -40,7 +39,7 @@ record IsAt (P : ℕ → ℕ → Type 0) (t : ℕ) (i : ℤ) : Type 0 where
 -- what holds of a mark's thread and object holds of these
 at_mark : (P : ℕ → ℕ → Type 0) (t : ℕ) (i : ℤ) (u o : ℕ) (m : ℤ) → m ≡ pos o → is_of t i u m ≡ true → P u o → IsAt P t i
 at_mark P t i u o m same h p =
-    let h2 = both (is_same i m) (u == t) h in
+    let h2 = and_parts (is_same i m) (u == t) h in
     record { object = o; is = same_number i m h2.0 ∙ same; holds = subst (λ (v : ℕ). P v o) (same_means u t h2.1) p }
 
 module _ (b : Book) (locked : Locked b.resources) where
@@ -56,61 +55,56 @@ module _ (b : Book) (locked : Locked b.resources) where
 
   begins_new : (i : ℤ) (m : Mark) → initialises_mutex i m ≡ true → IsExclusiveMark b m → IsAt (λ t o. IsNewMutex k o) 0 i
   begins_new i (mark.Answered u (call.MutexInit m) (Int (pos (suc zero)))) h law = record { object = object_named m; is = same_number i m h ∙ named_object m law.1.known; holds = law.1 }
-  begins_new i m h law = absurd (true_false (sym h))
+  begins_new i m h law = absurd (true≢false (sym h))
 
   begins_lock : (l : ℤ) (m : Mark) → initialises_lock l m ≡ true → IsExclusiveMark b m → IsAt (λ t o. IsNewLock k o) 0 l
   begins_lock l (mark.Answered u (call.RwInit o) (Int (pos (suc zero)))) h law = record { object = object_named o; is = same_number l o h ∙ named_object o law.1.known; holds = law.1 }
-  begins_lock l m h law = absurd (true_false (sym h))
+  begins_lock l m h law = absurd (true≢false (sym h))
 
   taker : (t : ℕ) (i : ℤ) (m : Mark) → takes t i (k.awaits t) m ≡ true → IsExclusiveMark b m → IsAt (MayTake k) t i
   taker t i (mark.Answered u (call.MutexAcquire m v e) (Int (pos (suc zero)))) h law = at_mark (MayTake k) t i u.0 (object_named m) m (is_mutex m law.1.initialised) h law.1
   taker t i (mark.Answered u (call.CondAwait c m e) a) h law =
-      let h2 = both (k.awaits t) (is_of t i u.0 m) h in
-      let own : u.0 ≡ t = same_means u.0 t (both (is_same i m) (u.0 == t) h2.1).1 in
+      let h2 = and_parts (k.awaits t) (is_of t i u.0 m) h in
+      let own : u.0 ≡ t = same_means u.0 t (and_parts (is_same i m) (u.0 == t) h2.1).1 in
       let may = law (ap k.awaits own ∙ h2.0) in
       at_mark (MayTake k) t i u.0 (object_named m) m (is_mutex m may.initialised) h2.1 may
   taker t i (mark.Took u m) h law = at_mark (MayTake k) t i u.0 m (pos m) refl h law
-  taker t i m h law = absurd (true_false (sym h))
+  taker t i m h law = absurd (true≢false (sym h))
 
   giver : (t : ℕ) (i : ℤ) (m : Mark) → gives t i (k.awaits t) m ≡ true → IsExclusiveMark b m → IsAt (HasMutex k) t i
   giver t i (mark.Answered u (call.MutexRelease m) (Int (pos (suc zero)))) h law = at_mark (HasMutex k) t i u.0 (object_named m) m (is_mutex m (has_some u.0 (k.store.mutexes (object_named m)) law.1)) h law.1
   giver t i (mark.Acted u (act.Release m) (Int (pos (suc zero)))) h law = at_mark (HasMutex k) t i u.0 (object_named m) m (is_mutex m (has_some u.0 (k.store.mutexes (object_named m)) law.1)) h law.1
   giver t i (mark.Waits u (call.CondAwait c m e)) h law =
-      let h2 = both (not (k.awaits t)) (is_of t i u.0 m) h in
-      let own : u.0 ≡ t = same_means u.0 t (both (is_same i m) (u.0 == t) h2.1).1 in
-      let has = law (ap k.awaits own ∙ not_true _ h2.0) in
+      let h2 = and_parts (not (k.awaits t)) (is_of t i u.0 m) h in
+      let own : u.0 ≡ t = same_means u.0 t (and_parts (is_same i m) (u.0 == t) h2.1).1 in
+      let has = law (ap k.awaits own ∙ not-true _ h2.0) in
       at_mark (HasMutex k) t i u.0 (object_named m) m (is_mutex m (has_some u.0 (k.store.mutexes (object_named m)) has)) h2.1 has
-  giver t i m h law = absurd (true_false (sym h))
+  giver t i m h law = absurd (true≢false (sym h))
 
   giver_up : (t : ℕ) (i : ℤ) (m : Mark) → gives_up t i m ≡ true → IsExclusiveMark b m → IsAt (HasMutex k) t i
   giver_up t i (mark.GaveMutex u m) h law = at_mark (HasMutex k) t i u.0 m (pos m) refl h law
-  giver_up t i m h law = absurd (true_false (sym h))
+  giver_up t i m h law = absurd (true≢false (sym h))
 
   enterer : (t : ℕ) (l : ℤ) (write : Bool) (m : Mark) → enters t l write m ≡ true → IsExclusiveMark b m → IsAt (λ v o. MayEnter k v o write) t l
   enterer t l true (mark.Answered u (call.RwAcquire o true v e) (Int (pos (suc zero)))) h law = at_mark (λ v j. MayEnter k v j true) t l u.0 (object_named o) o (is_lock o law.1.initialised) h law.1
-  enterer t l false (mark.Answered u (call.RwAcquire o true v e) (Int (pos (suc zero)))) h law = absurd (true_false (sym h))
-  enterer t l true (mark.Answered u (call.RwAcquire o false v e) (Int (pos (suc zero)))) h law = absurd (true_false (sym h))
+  enterer t l false (mark.Answered u (call.RwAcquire o true v e) (Int (pos (suc zero)))) h law = absurd (true≢false (sym h))
+  enterer t l true (mark.Answered u (call.RwAcquire o false v e) (Int (pos (suc zero)))) h law = absurd (true≢false (sym h))
   enterer t l false (mark.Answered u (call.RwAcquire o false v e) (Int (pos (suc zero)))) h law = at_mark (λ v j. MayEnter k v j false) t l u.0 (object_named o) o (is_lock o law.1.initialised) h law.1
-  enterer t l write m h law = absurd (true_false (sym h))
+  enterer t l write m h law = absurd (true≢false (sym h))
 
   leaver : (t : ℕ) (l : ℤ) (m : Mark) → leaves t l m ≡ true → IsExclusiveMark b m → IsAt (HoldsLock k) t l
   leaver t l (mark.Answered u (call.RwRelease o) (Int (pos (suc zero)))) h law = at_mark (HoldsLock k) t l u.0 (object_named o) o (is_lock o (locked.held (object_named o) u.0 law.1)) h law.1
   leaver t l (mark.GaveLock u o) h law = at_mark (HoldsLock k) t l u.0 o (pos o) refl h law
-  leaver t l m h law = absurd (true_false (sym h))
+  leaver t l m h law = absurd (true≢false (sym h))
 
   ender : (t : ℕ) (m : Mark) → is_end_of t m ≡ true → IsExclusiveMark b m → HoldsNothing k t
   ender t (mark.Ended u v) h law = subst (HoldsNothing k) (same_means u.0 t h) law
-  ender t m h law = absurd (true_false (sym h))
+  ender t m h law = absurd (true≢false (sym h))
 
 -- ---- nothing is ever taken below 0
 
 negative : (P : ℕ → ℕ → Type 0) (t j : ℕ) → IsAt P t (negsuc j) → ⊥
 negative P t j at = let is : negsuc j ≡ pos at.object = at.is in cc
-
--- what fails if it would say something
-fails : (p : Bool) → (p ≡ true → ⊥) → p ≡ false
-fails true h = absurd (h refl)
-fails false h = refl
 
 -- ---- the marks before a mark fit what the book has of them
 
@@ -141,7 +135,7 @@ fits_none = record {
   low_readers = λ t l. refl;
   writers = λ t l. refl;
   low_writers = λ t l. refl;
-  sound = record { positive = λ t i had. absurd (true_false (sym had)); counted = λ l. counted_none; alone = λ l h. absurd (true_false (sym h)) };
+  sound = record { positive = λ t i had. absurd (true≢false (sym had)); counted = λ l. counted_none; alone = λ l h. absurd (true≢false (sym h)) };
   locked = locked_none;
 }
 
@@ -155,7 +149,7 @@ low_levels t i awaiting m none = by_test (gives_up t (negsuc i) m) (takes t (neg
   where
     by_test : (a b c : Bool) → b ≡ false → (if a then 0 else (if b then 0 + 1 else (if c then 0 - 1 else 0))) ≡ 0
     by_test true b c none = refl
-    by_test false true c none = absurd (true_false none)
+    by_test false true c none = absurd (true≢false none)
     by_test false false true none = refl
     by_test false false false none = refl
 
@@ -163,7 +157,7 @@ low_held : (t l : ℕ) (write : Bool) (m : Mark) → enters t (negsuc l) write m
 low_held t l write m none = by_test (enters t (negsuc l) write m) (leaves t (negsuc l) m) none
   where
     by_test : (a b : Bool) → a ≡ false → (if a then true else (if b then false else false)) ≡ false
-    by_test true b none = absurd (true_false none)
+    by_test true b none = absurd (true≢false none)
     by_test false true none = refl
     by_test false false none = refl
 
@@ -185,15 +179,15 @@ fits_after b before m on law f =
     }
   where
     none_takes : (t i : ℕ) → takes t (negsuc i) (b.resources.awaits t) m ≡ false
-    none_takes t i = fails (takes t (negsuc i) (b.resources.awaits t) m) (λ h. negative (MayTake b.resources) t i (taker b f.locked t (negsuc i) m h law))
+    none_takes t i = false_from_ne_true (takes t (negsuc i) (b.resources.awaits t) m) (λ h. negative (MayTake b.resources) t i (taker b f.locked t (negsuc i) m h law))
 
     none_enters : (t l : ℕ) (write : Bool) → enters t (negsuc l) write m ≡ false
-    none_enters t l write = fails (enters t (negsuc l) write m) (λ h. negative (λ v o. MayEnter b.resources v o write) t l (enterer b f.locked t (negsuc l) write m h law))
+    none_enters t l write = false_from_ne_true (enters t (negsuc l) write m) (λ h. negative (λ v o. MayEnter b.resources v o write) t l (enterer b f.locked t (negsuc l) write m h law))
 
 pub fits_along : (b : Book) (before ms : List Mark) → list_any is_kill ms ≡ false → EachMark IsLawful b ms → Fits b.resources before → Fits (book_of b ms).resources (before ++ ms)
 fits_along b before [] on law f = subst (Fits b.resources) (sym (append-nil before)) f
 fits_along b before (m ∷ ms) on law f =
-    let (first, rest) = neither (is_kill m) (list_any is_kill ms) on in
+    let (first, rest) = or_parts (is_kill m) (list_any is_kill ms) on in
     subst (Fits (book_of b (m ∷ ms)).resources) (append_assoc before (m ∷ []) ms) (fits_along (after b m) (before ++ m ∷ []) ms rest law.1 (fits_after b before m first law.0.1 f))
 
 -- ---- levels and holders by any number
@@ -276,21 +270,21 @@ module _ (b : Book) (before : List Mark) (f : Fits b.resources before) where
 moved_exclusive : (before : List Mark) (m : Mark) → thread_of m ≡ None → IsExclusiveAt before m × IsInitialisedAt before m
 moved_exclusive before (mark.Moved at) none = (
   record {
-    taker_is_alone = λ t u i h. absurd (true_false (sym h));
-    giver_has_level = λ t i h. absurd (true_false (sym h));
-    given_up_was_had = λ t i h. absurd (true_false (sym h));
-    meets_no_writer = λ t u l write h. absurd (true_false (sym h));
-    writer_meets_no_reader = λ t u l h. absurd (true_false (sym h));
-    leaver_holds = λ t l h. absurd (true_false (sym h));
-    end_has_no_level = λ t i h. absurd (true_false (sym h));
-    end_holds_no_lock = λ t l h. absurd (true_false (sym h));
+    taker_is_alone = λ t u i h. absurd (true≢false (sym h));
+    giver_has_level = λ t i h. absurd (true≢false (sym h));
+    given_up_was_had = λ t i h. absurd (true≢false (sym h));
+    meets_no_writer = λ t u l write h. absurd (true≢false (sym h));
+    writer_meets_no_reader = λ t u l h. absurd (true≢false (sym h));
+    leaver_holds = λ t l h. absurd (true≢false (sym h));
+    end_has_no_level = λ t i h. absurd (true≢false (sym h));
+    end_holds_no_lock = λ t l h. absurd (true≢false (sym h));
   },
   record {
-    mutex_is_new = λ i h. absurd (true_false (sym h));
-    lock_is_new = λ l h. absurd (true_false (sym h));
-    taken_was_initialised = λ t i h. absurd (true_false (sym h));
-    entered_was_initialised = λ t l write h. absurd (true_false (sym h));
-    enters_once = λ t l write h. absurd (true_false (sym h));
+    mutex_is_new = λ i h. absurd (true≢false (sym h));
+    lock_is_new = λ l h. absurd (true≢false (sym h));
+    taken_was_initialised = λ t i h. absurd (true≢false (sym h));
+    entered_was_initialised = λ t l write h. absurd (true≢false (sym h));
+    enters_once = λ t l write h. absurd (true≢false (sym h));
   },
 )
 moved_exclusive before m none = absurd cc

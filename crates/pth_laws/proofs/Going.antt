@@ -1,6 +1,7 @@
 -- While a thread makes a step: what its calls keep of who lives.
 use Rattle.std.proofs.Common.{◌≡◌, ◌≢◌, ℕ, ◌+◌, not, Bool, true, false, if◌then◌else◌, ℤ, pos, negsuc, List, [], ◌∷◌, All, Option, Some, None, is_some, option_map, refl, sym, ◌∙◌, ap, subst}
 use Rattle.std.proofs.lemmas.List.Elements.{All-head, All-filter}
+use Rattle.std.proofs.lemmas.Bool.{true≢false}
 use Rattle.pth_base.specs.Program.{Functions}
 use Rattle.pth_base.specs.declared.thread.ThreadState.TheVariants as state
 use Rattle.pth_base.proofs.Tables.{put_by, put_other}
@@ -23,7 +24,7 @@ use Rattle.pth_model.specs.ThreadControl.{spawns, suspends, resumes, returns_to,
 use Rattle.pth_model.proofs.Placed.{Seats, seats}
 use Rattle.pth_model.proofs.Once.{shown-all}
 use Rattle.pth_model.proofs.Walks.{IsOther}
-use Rattle.pth_laws.proofs.Living.{IsLiving, Living, true_false, runs_alive, living-made, living-over, changed_lives, living_sets, living_spawned, living_suspended, living_resumed, living_removed, not_next}
+use Rattle.pth_laws.proofs.Living.{IsLiving, Living, runs_alive, living-made, living-over, changed_lives, living_sets, living_spawned, living_suspended, living_resumed, living_removed, not_next}
 
 -- t was made and lives, whom a join takes does not, nor does who is made next, and only a pth_cond_await takes a mutex back
 pub record IsSound {P S H : Type 0} (t : ℕ) (k : Control P S H) : Type 0 where
@@ -40,20 +41,17 @@ pub record IsGoing (n : ℕ) (ended : ℕ → Bool) (t : ℕ) (x : Seats) : Type
   pub running : x.running ≡ Some t
   pub preferred : x.preferred ≡ None
 
-not_dead : state.Running ≡ state.Dead → ⊥
-not_dead h = cc
-
 -- who is dead in the system does not live
 dead_known : (o : Option Entry) → is_dead_in o ≡ true → lives o ≡ false
 dead_known (Some e) h = ap not h
 dead_known None h = refl
 
 pub known_lives : (o : Option Entry) → is_some o ≡ true → is_dead (or_nobody o).state ≡ false → lives o ≡ true
-known_lives None known h = absurd (true_false (sym known))
+known_lives None known h = absurd (true≢false (sym known))
 known_lives (Some e) known h = ap not h
 
 lives_known : (o : Option Entry) → lives o ≡ true → is_some o ≡ true
-lives_known None h = absurd (true_false (sym h))
+lives_known None h = absurd (true≢false (sym h))
 lives_known (Some e) h = refl
 
 -- whoever lives does after a change that leaves who lives as it is
@@ -67,7 +65,7 @@ first_holds P (t ∷ ts) u h all = let same : t ≡ u = cc in subst P same (All-
 named_dead : (known : ℕ → Option Entry) (n : ℤ) (b : Bool) (u : ℕ) → is_dead_in (named known n) ≡ b → (if b then Some (number n) else None) ≡ Some u → lives (known u) ≡ false
 named_dead known n false u dead h = absurd (cc h)
 named_dead known (pos m) true u dead h = let same : m ≡ u = cc in subst (λ i. lives (known i) ≡ false) same (dead_known (known m) dead)
-named_dead known (negsuc m) true u dead h = absurd (true_false (sym dead))
+named_dead known (negsuc m) true u dead h = absurd (true≢false (sym dead))
 
 module _ {P S H : Type 0} (n : ℕ) (ended : ℕ → Bool) (t : ℕ) where
   abbrev pub Going : Control P S H → Type 0
@@ -78,7 +76,7 @@ module _ {P S H : Type 0} (n : ℕ) (ended : ℕ → Bool) (t : ℕ) where
 
   -- who does not live is another
   pub other : (k : Control P S H) (u : ℕ) → Going k → lives (k.threads.known u) ≡ false → t ≢ u
-  other k u g dead same = true_false (sym (going_alive k g) ∙ ap (λ i. lives (k.threads.known i)) same ∙ dead)
+  other k u g dead same = true≢false (sym (going_alive k g) ∙ ap (λ i. lives (k.threads.known i)) same ∙ dead)
 
   -- whom a join takes is dead
   pub joined_dead : (k : Control P S H) (m : ℤ) (u : ℕ) → Going k → to_join k m ≡ Some u → lives (k.threads.known u) ≡ false
@@ -98,7 +96,7 @@ module _ {P S H : Type 0} (n : ℕ) (ended : ℕ → Bool) (t : ℕ) where
     where
       by_life : (b : Bool) → lives (k.threads.known (k.threads.made + 1)) ≡ b → lives (k.threads.known (k.threads.made + 1)) ≡ false
       by_life false h = h
-      by_life true h = absurd (true_false (sym (living-made n ended k.threads.made k.threads.known k.threads.standing l (k.threads.made + 1) h) ∙ not_next k.threads.made))
+      by_life true h = absurd (true≢false (sym (living-made n ended k.threads.made k.threads.known k.threads.standing l (k.threads.made + 1) h) ∙ not_next k.threads.made))
 
   pub going_sound : (k : Control P S H) → Going k → (is_retaking (awaits_in (blocked_of k t)) ≡ true → is_awaiting (blocked_of k t) ≡ true) → IsSound t k
   going_sound k g retakes = record { retakes = retakes; made = g.living.numbered t (lives_known (k.threads.known t) (going_alive k g)); alive = going_alive k g; joins = λ m u taken. joined_dead k m u g taken; next = next_dead k g.living }
@@ -171,10 +169,6 @@ module _ {P S H : Type 0} (n : ℕ) (ended : ℕ → Bool) (t : ℕ) where
     running = g.running;
     preferred = g.preferred;
   }
-
-  going_goes : (u : ℕ) (g : Progress S → Progress S) (k : Control P S H) → Going k → Going (goes_on u g k)
-  unfolding goes_on
-  going_goes u g k h = h
 
 module _ {P S H : Type 0} (t : ℕ) where
   -- what a thread has to go on with in its program, and the program's shared value, are nothing to it

@@ -1,6 +1,7 @@
 -- Who is blocked at a barrier has its arrival there, for the round that it awaits; and no thread has two arrivals at a barrier, or
 -- arrivals at two.
 use Rattle.std.proofs.Common.{◌≡◌, ◌≤◌, ℕ, ◌+◌, ◌==◌, Bool, true, false, if◌then◌else◌, ℤ, [], Option, Some, None, option_map, Ok, refl, sym, ◌∙◌, ap, subst, arith}
+use Rattle.std.proofs.lemmas.Bool.{true≢false}
 use Rattle.pth_base.specs.Program.{Functions}
 use Rattle.pth_base.specs.declared.call.Call.{Call}
 use Rattle.pth_base.specs.declared.call.Call.TheVariants as call
@@ -28,7 +29,6 @@ use Rattle.pth_model.specs.Pass.{looks}
 use Rattle.pth_model.specs.Run.{run}
 use Rattle.pth_laws.specs.Arrivals.{AllHaveArrived, AllArrivedAtOne, NoneArrivedTwice, arrivals_of}
 use Rattle.pth_laws.specs.Clean.{has_arrived, has_arrived_here}
-use Rattle.pth_laws.proofs.Living.{true_false}
 use Rattle.pth_model.proofs.NoRounds.{is_reaching, is_round, special_none, special_both}
 use Rattle.pth_laws.proofs.Rounds.{HasFewer, HasOthers, HasAll, none_counted, fewer_same, all_reached, has_reached, once_reached}
 use Rattle.pth_laws.proofs.Allowed.{IsFree, StaysAt}
@@ -60,7 +60,7 @@ own_on x y u (Some d) all own = arrives_on x y u d.call d.awaits all own
 
 -- another call blocks it
 other_arrives : (x : BarrierTable) (u : ℕ) (c : Call) (a : Awaits) → is_reaching c ≡ false → is_round a ≡ false → Arrives x u c a
-other_arrives x u (call.BarrierReach b) a other none = absurd (true_false other)
+other_arrives x u (call.BarrierReach b) a other none = absurd (true≢false other)
 other_arrives x u c a other none = none
 
 -- it waits on, for the same round
@@ -287,7 +287,7 @@ module _ {P S H : Type 0} where
         where
           same_barrier : (d : ℤ) (n : ℕ) → Round d n ≡ Round b round → d ≡ b
           same_barrier d n h = cc
-      by_call c a own h = absurd (true_false (sym (ap is_round h) ∙ own))
+      by_call c a own h = absurd (true≢false (sym (ap is_round h) ∙ own))
 
       by_blocked : (o : Option Blocked) → HasOwn x t o → awaits_in o ≡ Round b round → has_arrived x (object_named b) round t ≡ true
       by_blocked None own h = absurd (cc h)

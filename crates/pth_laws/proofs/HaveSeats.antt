@@ -1,5 +1,7 @@
 -- Who waits for the notice of a condition has its seat there, and no seat is taken twice at a condition.
 use Rattle.std.proofs.Common.{◌≡◌, ◌≢◌, ◌≤◌, ℕ, ◌+◌, ◌==◌, Bool, true, false, cond, if◌then◌else◌, ℤ, Option, Some, None, option_map, refl, sym, ◌∙◌, ap, subst, arith}
+use Rattle.std.proofs.lemmas.Bool.{true≢false}
+use Rattle.std.proofs.lemmas.Option.{same_Some}
 use Rattle.pth_base.specs.Program.{Functions}
 use Rattle.pth_base.specs.declared.call.Call.{Call}
 use Rattle.pth_base.specs.declared.call.Call.TheVariants as call
@@ -28,7 +30,6 @@ use Rattle.pth_model.specs.Pass.{looks}
 use Rattle.pth_model.specs.Run.{run}
 use Rattle.pth_laws.specs.Clean.{condition_awaited, condition_held}
 use Rattle.pth_laws.specs.Seats.{AllHaveSeats, NoneSeatedTwice}
-use Rattle.pth_laws.proofs.Living.{true_false}
 use Rattle.pth_laws.proofs.NoNotices.{is_notice}
 use Rattle.pth_laws.proofs.Seats.{seats_at}
 use Rattle.pth_laws.proofs.EventSeats.{places}
@@ -54,7 +55,7 @@ seat_on x y u (Some d) keeps own = record { plain = own.plain; seat = λ k at. l
 
 -- no notice is awaited
 no_notice : (a : Awaits) (k : ℕ) → is_notice a ≡ false → condition_awaited a ≡ Some k → ⊥
-no_notice (Notice c) k none h = true_false none
+no_notice (Notice c) k none h = true≢false none
 no_notice a k none h = cc
 
 other_seated : (y : ConditionTable) (u : ℕ) (c : Call) (a : Awaits) → is_notice a ≡ false → IsSeated y u c a
@@ -160,11 +161,8 @@ module _ {P S H : Type 0} where
       seats_blocked t (call.CondAwait c m e) (Notice c) v (by_ring (extra_ring e) y (entered_here c (seat_of t) s.control.conditions (same_self t) live))
       (seats_claimed t (extra_ring e) u (seats_keep y s (λ k w. entered_more c (seat_of t) (seat_of w) s.control.conditions k) r))
     where
-      some_is : (n k : ℕ) → Some n ≡ Some k → n ≡ k
-      some_is n k h = cc
-
       seated : (z : ConditionTable) → 1 ≤ seats_at (seat_of t) (z (object_named c)) → IsSeated z t (call.CondAwait c m e) (Notice c)
-      seated z own = record { plain = λ odd. absurd (true_false odd); seat = λ k at. subst (λ n. 1 ≤ seats_at (seat_of t) (z n)) (some_is (object_named c) k at) own }
+      seated z own = record { plain = λ odd. absurd (true≢false odd); seat = λ k at. subst (λ n. 1 ≤ seats_at (seat_of t) (z n)) (same_Some (object_named c) k at) own }
 
       by_ring : (o : Option ℤ) (y : ConditionTable) → 1 ≤ seats_at (seat_of t) (y (object_named c)) → IsSeated (controlled (claims t o) (controlled (with_conditions (λ z. y)) s)).control.conditions t (call.CondAwait c m e) (Notice c)
       by_ring None y own = seated y own

@@ -4,6 +4,8 @@ use Rattle.std.specs.List.{list_any}
 use Rattle.std.proofs.lemmas.List.Elements.{All-nil, All-push}
 use Rattle.std.proofs.lemmas.List.Sorted.{IsPermutation-reverse, list_any-IsPermutation}
 use Rattle.std.proofs.lemmas.Map.Views.{any-filter_same}
+use Rattle.std.proofs.lemmas.Bool.{true≢false}
+use Rattle.std.proofs.lemmas.Option.{none-some, same_Some}
 use Rattle.pth_base.specs.Program.{Functions}
 use Rattle.pth_base.specs.declared.attr.AttrValue.{AttrValue}
 use Rattle.pth_base.specs.declared.outcome.Outcome.{Outcome}
@@ -43,7 +45,7 @@ use Rattle.pth_model.proofs.Queues.{is_queue_self}
 use Rattle.pth_model.proofs.Sorted.{same-order}
 use Rattle.pth_model.proofs.Walks.{KeptBy, step_keeps}
 use Rattle.pth_laws.proofs.EveryRun.{run_names, run_closes}
-use Rattle.pth_laws.proofs.Living.{run_queue, queue_to_run, IsToRun, NamesToRun, set_leaves, true_false}
+use Rattle.pth_laws.proofs.Living.{run_queue, queue_to_run, IsToRun, NamesToRun, set_leaves}
 
 -- ---- one queue
 
@@ -59,16 +61,13 @@ shown_in raises t all =
     ∙ list_any-map (λ (r : Ranked). r.holder == t) (row_at raises) (order all)
     ∙ sym (list_any-IsPermutation (λ x. x.tid == t) all (order all) (same-order all))
 
-some_same : (t u : ℕ) → Some t ≡ Some u → t ≡ u
-some_same t u h = cc
-
 -- the head stands there
 head_in : (raises t : ℕ) (all : List Standing) → head_of (shown raises all) ≡ Some t → stands_in t all ≡ true
 head_in raises t all head = sym (shown_in raises t all) ∙ first_in (shown raises all) head
   where
     first_in : (rows : List Ranked) → head_of rows ≡ Some t → list_any (λ u. u == t) (holders rows) ≡ true
     first_in [] h = absurd (cc h)
-    first_in (x ∷ xs) h = rw (some_same x.holder t h, same_self t) refl
+    first_in (x ∷ xs) h = rw (same_Some x.holder t h, same_self t) refl
 
 -- and is found there
 found_in : (t : ℕ) (all : List Standing) → is_some (standing_of t all) ≡ stands_in t all
@@ -95,14 +94,8 @@ other_left t u all apart = any-filter_same (λ x. x.tid == t) (λ x. not (x.tid 
 
 -- ---- one thread's place
 
-some_none : (q : Queue) → None ≡ Some q → ⊥
-some_none q h = cc
-
 new_ready : New ≡ Ready → ⊥
 new_ready h = cc
-
-some_queue : (p q : Queue) → Some p ≡ Some q → p ≡ q
-some_queue p q h = cc
 
 -- what becomes of it by changes of its record
 
@@ -122,12 +115,12 @@ request_plain b e = refl
 
 ready_there : (o : Option Entry) (p : Queue) → queue_to_run (option_map (changed (change.State state.Ready)) o) ≡ Some p → p ≡ Ready
 unfolding changed
-ready_there None p h = absurd (some_none p h)
+ready_there None p h = absurd (none-some p h)
 ready_there (Some e) p h = by_suspended e.suspended h
   where
     by_suspended : (b : Bool) → run_queue state.Ready b ≡ Some p → p ≡ Ready
-    by_suspended true h = absurd (some_none p h)
-    by_suspended false h = sym (some_queue Ready p h)
+    by_suspended true h = absurd (none-some p h)
+    by_suspended false h = sym (same_Some Ready p h)
 
 ready_to_run : (o : Option Entry) → IsToRun o → IsToRun (option_map (changed (change.State state.Ready)) o)
 unfolding changed
@@ -142,15 +135,15 @@ ready_to_run (Some e) h = by_suspended e.state e.suspended h
 
 -- new, or ready
 to_run_there : (o : Option Entry) → IsToRun o → (queue_to_run o ≡ Some New) ⊎ (queue_to_run o ≡ Some Ready)
-to_run_there None h = absurd (true_false (sym h))
+to_run_there None h = absurd (true≢false (sym h))
 to_run_there (Some e) h = by_state e.state e.suspended h
   where
     by_state : (at : ThreadState) (b : Bool) → is_some (run_queue at b) ≡ true → (run_queue at b ≡ Some New) ⊎ (run_queue at b ≡ Some Ready)
     by_state state.New false h = inl refl
     by_state state.Ready false h = inr refl
-    by_state state.New true h = absurd (true_false (sym h))
-    by_state state.Ready true h = absurd (true_false (sym h))
-    by_state at b h = absurd (true_false (sym h))
+    by_state state.New true h = absurd (true≢false (sym h))
+    by_state state.Ready true h = absurd (true≢false (sym h))
+    by_state at b h = absurd (true≢false (sym h))
 
 waiting_nowhere : (o : Option Entry) → queue_to_run (option_map (changed (change.State state.Waiting)) o) ≡ None
 unfolding changed
@@ -180,16 +173,13 @@ running_nowhere n (Some e) = refl
 -- it is resumed into the queue of its state
 resumed_there : (o : Option Entry) (q p : Queue) → queue_for (or_nobody o).state ≡ Some q → queue_to_run (option_map (changed (change.Suspended false)) o) ≡ Some p → p ≡ q
 unfolding changed
-resumed_there None q p for h = absurd (some_none p h)
+resumed_there None q p for h = absurd (none-some p h)
 resumed_there (Some e) q p for h = by_state e.state for h
   where
     by_state : (at : ThreadState) → queue_for at ≡ Some q → run_queue at false ≡ Some p → p ≡ q
-    by_state state.New for h = sym (some_queue New p h) ∙ some_queue New q for
-    by_state state.Ready for h = sym (some_queue Ready p h) ∙ some_queue Ready q for
-    by_state at for h = absurd (some_none p h)
-
-nobody_some : (t : ℕ) → None ≡ Some t → ⊥
-nobody_some t h = cc
+    by_state state.New for h = sym (same_Some New p h) ∙ same_Some New q for
+    by_state state.Ready for h = sym (same_Some Ready p h) ∙ same_Some Ready q for
+    by_state at for h = absurd (none-some p h)
 
 -- whom a dispatch takes
 chosen_stands : (named : Option ℕ) (raises t : ℕ) (ready : List Standing) → ((v : ℕ) → named ≡ Some v → stands_in v ready ≡ true) → chosen named (shown raises ready) ≡ Some t → stands_in t ready ≡ true
@@ -205,7 +195,7 @@ module _ {P S H : Type 0} (v : ℕ) where
   queued_unless t k own other q waits = by_thread (v == t) refl
     where
       by_thread : (b : Bool) → (v == t) ≡ b → stands_in v (k.threads.standing q) ≡ true
-      by_thread true same = absurd (some_none q (sym (own (same_means v t same)) ∙ waits))
+      by_thread true same = absurd (none-some q (sym (own (same_means v t same)) ∙ waits))
       by_thread false apart = other (same_fails v t apart) q waits
 
   queued_entered : (t : ℕ) (q : Queue) (rank : ℤ) (top : Bool) (k : Control P S H) → (v ≡ t → (p : Queue) → queue_to_run (k.threads.known v) ≡ Some p → p ≡ q) → (v ≢ t → IsQueued k) → IsQueued (enters t q rank top k)
@@ -271,12 +261,12 @@ module _ {P S H : Type 0} (v : ℕ) where
       let n = k.threads.made + 1 in
       let new = Some (made_of of n) in
       queued_entered n New of.prio false (makes f b x of k)
-      (λ same p waits. sym (some_queue New p (sym (ap queue_to_run (ap (put k.threads.known n new) same ∙ put_here k.threads.known n new)) ∙ waits)))
+      (λ same p waits. sym (same_Some New p (sym (ap queue_to_run (ap (put k.threads.known n new) same ∙ put_here k.threads.known n new)) ∙ waits)))
       (λ apart q waits. h q (sym (ap queue_to_run (put_other k.threads.known n new v apart)) ∙ waits))
 
   queued_suspended : (t : ℕ) (k : Control P S H) → IsQueued k → IsQueued (suspends t k)
   unfolding suspends
-  queued_suspended t k h = queued_moved t (change.Suspended true) Suspended (pos 0) false k (λ same p waits. absurd (some_none p (sym (suspended_nowhere (k.threads.known v)) ∙ waits))) h
+  queued_suspended t k h = queued_moved t (change.Suspended true) Suspended (pos 0) false k (λ same p waits. absurd (none-some p (sym (suspended_nowhere (k.threads.known v)) ∙ waits))) h
 
   queued_returned : (t : ℕ) (o : Option Queue) (k : Control P S H) → queue_for (or_nobody (k.threads.known t)).state ≡ o → IsQueued k → IsQueued (returns_to t o k)
   queued_returned t None k for h = h
@@ -301,7 +291,7 @@ module _ {P S H : Type 0} (v : ℕ) where
       let at : v ≡ t → (sets t (change.Value x) c).threads.known v ≡ option_map (changed (change.Value x)) (option_map (changed (change.Suspended false)) (option_map (changed (change.State state.Dead)) (a.threads.known v))) =
       λ same. set_own t (change.Value x) c same ∙ ap (option_map (changed (change.Value x))) (set_own t (change.Suspended false) b same ∙ ap (option_map (changed (change.Suspended false))) (set_own t (change.State state.Dead) a same)) in
       queued_entered t Dead (pos 0) false (sets t (change.Value x) c)
-      (λ same p waits. absurd (some_none p (sym (ap queue_to_run (at same) ∙ dead_nowhere x (a.threads.known v)) ∙ waits)))
+      (λ same p waits. absurd (none-some p (sym (ap queue_to_run (at same) ∙ dead_nowhere x (a.threads.known v)) ∙ waits)))
       (λ apart. queued_other t (change.Value x) c apart (queued_other t (change.Suspended false) b apart (queued_other t (change.State state.Dead) a apart (queued_left t k apart h))))
 
   queued_gone : (t : ℕ) (x : ℤ) (k : Control P S H) → IsQueued k → IsQueued (leaves t x k)
@@ -314,14 +304,14 @@ module _ {P S H : Type 0} (v : ℕ) where
 
   queued_vanished : (t : ℕ) (k : Control P S H) → v ≢ t → IsQueued (vanish_all_but t k)
   unfolding vanish_all_but
-  queued_vanished t k apart q waits = absurd (some_none q (sym (ap (λ (b : Bool). queue_to_run (if b then k.threads.known v else None)) (not_same v t apart)) ∙ waits))
+  queued_vanished t k apart q waits = absurd (none-some q (sym (ap (λ (b : Bool). queue_to_run (if b then k.threads.known v else None)) (not_same v t apart)) ∙ waits))
 
   -- ---- a turn begins, and is closed
 
   queued_placed : (t : ℕ) (r : Option ℕ) (b : Option Blocked) (k : Control P S H) → IsQueued k → IsQueued (placed_by t r b k)
   unfolding is_put_back is_put_waiting
   queued_placed t None b k h = h
-  queued_placed t (Some r) (Some b) k h = queued_put t (change.State state.Waiting) Waiting (prio_of k t) false k (λ same p waits. absurd (some_none p (sym (waiting_nowhere (k.threads.known v)) ∙ waits))) (λ apart. h)
+  queued_placed t (Some r) (Some b) k h = queued_put t (change.State state.Waiting) Waiting (prio_of k t) false k (λ same p waits. absurd (none-some p (sym (waiting_nowhere (k.threads.known v)) ∙ waits))) (λ apart. h)
   queued_placed t (Some r) None k h = queued_put t (change.State state.Ready) Ready (prio_of k t) false k (λ same. ready_there (k.threads.known v)) (λ apart. h)
 
   queued_taken : (t : ℕ) (k : Control P S H) → IsQueued k → IsQueued (runs t k)
@@ -337,7 +327,7 @@ module _ {P S H : Type 0} (v : ℕ) where
   -- these threads become ready, v among them if it is new
   new_readied : (ts : List ℕ) (k : Control P S H) → (queue_to_run (k.threads.known v) ≡ Some New → list_any (λ u. u == v) ts ≡ true) → queue_to_run ((readies_all ts k).threads.known v) ≡ Some New → ⊥
   unfolding readies_all readies is_ready_at leaves_queue enters
-  new_readied [] k among new = true_false (sym (among new))
+  new_readied [] k among new = true≢false (sym (among new))
   new_readied (t ∷ ts) k among new = new_readied ts (readies t k) still new
     where
       ready : Control P S H
@@ -434,7 +424,7 @@ module _ {P S H : Type 0} where
   places_placed trail t (Some r) b k idle h = by_block b
     where
       kept : (o : Option Entry) (v : ℕ) → k.scheduler.preferred ≡ Some v → IsToRun (put k.threads.known t o v)
-      kept o v is = put_by IsToRun k.threads.known t o v (λ here. absurd (true_false (sym (subst (λ u. IsToRun (k.threads.known u)) here (h.named v is)) ∙ ap is_some (idle r refl)))) (λ other. h.named v is)
+      kept o v is = put_by IsToRun k.threads.known t o v (λ here. absurd (true≢false (sym (subst (λ u. IsToRun (k.threads.known u)) here (h.named v is)) ∙ ap is_some (idle r refl)))) (λ other. h.named v is)
 
       by_block : (b : Option Blocked) → HasPlaces trail (placed_by t (Some r) b k)
       by_block None = record { past = h.past; queued = λ v. queued_placed v t (Some r) None k (h.queued v); named = kept (option_map (changed (change.State state.Ready)) (k.threads.known t)) }
@@ -486,7 +476,7 @@ module _ {P S H : Type 0} where
       record {
         taken = All-push (λ p. is_some (standing_of p.taken p.ready) ≡ true) k.threads.trail point h.taken (found_in t (k.threads.standing Ready) ∙ stands t refl);
         turns = length-append k.threads.trail (point ∷ []) ∙ ap (λ n. n + 1) h.turns;
-        places = λ still. record { past = refl; queued = λ v. queued_taken v t k ((h.places on).queued v); named = λ v is. absurd (nobody_some v is) };
+        places = λ still. record { past = refl; queued = λ v. queued_taken v t k ((h.places on).queued v); named = λ v is. absurd (none-some v is) };
       }
 
   past_taken : (x : Turn) (s : State P S H) → HasPast s x → (x.outcome ≡ outcome.Killed → ⊥) → HasPast (takes x s).state (takes x s).turn
@@ -545,8 +535,8 @@ module _ {P S H : Type 0} (f : P → Functions S H) (g : Given P) where
   first_queued : (v : ℕ) → IsQueued v (start f g).control
   unfolding start
   first_queued v q waits = put_by (λ o. queue_to_run o ≡ Some q → stands_in v (main_standing q) ≡ true) (λ u. None) main (Some main_entry) v
-      (λ here w. subst (λ r. stands_in v (main_standing r) ≡ true) (some_queue Ready q w) (first_stands v (record { tid = main; rank = pos 0; since = 0; entry = 0; top = false }) [] (sym here)))
-      (λ other w. absurd (some_none q w)) waits
+      (λ here w. subst (λ r. stands_in v (main_standing r) ≡ true) (same_Some Ready q w) (first_stands v (record { tid = main; rank = pos 0; since = 0; entry = 0; top = false }) [] (sym here)))
+      (λ other w. absurd (none-some q w)) waits
 
   turns_moved : (o : Option ℕ) (s : State P S H) (x : Turn) → (moves_by f x o s).turn.turns ≡ x.turns
   turns_moved None s x = refl
@@ -606,7 +596,7 @@ module _ {P S H : Type 0} (f : P → Functions S H) (g : Given P) where
   first_past = record {
     taken = All-nil _;
     turns = refl;
-    places = λ on. record { past = refl; queued = first_queued; named = λ v is. absurd (nobody_some v is) };
+    places = λ on. record { past = refl; queued = first_queued; named = λ v is. absurd (none-some v is) };
   }
 
   run_past : (i : ℕ) → HasPastAt (run f g i)

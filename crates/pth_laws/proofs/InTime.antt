@@ -2,6 +2,7 @@
 use Rattle.std.proofs.Common.{◌≡◌, ◌≤◌, ℕ, zero, suc, ◌+◌, Bool, true, false, if◌then◌else◌, ℤ, pos, ◌+ℤ◌, ◌≤ℤ◌, List, [], ◌∷◌, reverse, Contains, Option, Some, None, option_map, refl, sym, ap, subst, arith}
 use Rattle.std.proofs.lemmas.Int.{ints}
 use Rattle.std.proofs.lemmas.List.Elements.{All-nil, All-cons, All-append}
+use Rattle.std.proofs.lemmas.Bool.{true≢false}
 use Rattle.pth_base.specs.Program.{Functions}
 use Rattle.pth_base.specs.declared.mark.Mark.TheVariants as mark
 use Rattle.pth_base.specs.declared.outcome.Outcome.{Outcome}
@@ -37,7 +38,6 @@ use Rattle.pth_model.proofs.Queues.{is_queue_same}
 use Rattle.pth_model.proofs.Walks.{KeptBy, step_keeps}
 use Rattle.pth_laws.specs.InTime.{IsInTime, InTime}
 use Rattle.pth_laws.proofs.EveryRun.{run_steps}
-use Rattle.pth_laws.proofs.Living.{true_false}
 use Rattle.pth_laws.proofs.Ranged.{run_ranged, run_top}
 use Rattle.pth_laws.proofs.Waited.{AreInTime, in_time_none, in_time_entered, in_time_left, in_time_counted, in_time_raised, in_time_open, in_time_taken, taken_in_time, ready_in_time}
 
@@ -116,7 +116,7 @@ module _ {P S H : Type 0} where
 
     time_spawned : (f : P → Functions S H) (b : ℕ) (v : ℤ) (of : NewThread) (k : Control P S H) → Keeps k → Keeps (spawns f b v of k)
     unfolding makes
-    time_spawned f b v of k h = time_enter (k.threads.made + 1) New of.prio false (makes f b v of k) (λ odd. absurd (true_false (sym odd))) h
+    time_spawned f b v of k h = time_enter (k.threads.made + 1) New of.prio false (makes f b v of k) (λ odd. absurd (true≢false (sym odd))) h
 
     time_dead : (t : ℕ) (v : ℤ) (k : Control P S H) → Keeps k → Keeps (is_dead_with t v k)
     unfolding is_dead_with sets
@@ -227,7 +227,7 @@ module _ {P S H : Type 0} where
   unfolding is_put_back is_put_waiting sets enters
   time_placed t None b k low h = (low, h)
   time_placed t (Some r) (Some b) k low h =
-      (low_set t state.Waiting k low, time_enter 0 (omega arith) t Waiting (prio_of k t) false (sets t (change.State state.Waiting) k) (λ odd. absurd (true_false (sym odd))) h)
+      (low_set t state.Waiting k low, time_enter 0 (omega arith) t Waiting (prio_of k t) false (sets t (change.State state.Waiting) k) (λ odd. absurd (true≢false (sym odd))) h)
   time_placed t (Some r) None k low h =
       (low_set t state.Ready k low, time_enter 0 (omega arith) t Ready (prio_of k t) false (sets t (change.State state.Ready) k) (λ own new. prio_low k.top (prio_of k t) (low t)) h)
 
@@ -249,7 +249,7 @@ module _ {P S H : Type 0} where
 
   -- a new thread enters at Top, or at rank 0
   time_new : (t : ℕ) (b : Bool) (k : Control P S H) → KeepsTime 0 k → KeepsTime 0 (is_ready_at t (if b then favour_top k.top (queue k Ready) else pos 0) b k)
-  time_new t true k h = time_ready 0 (omega arith) t (favour_top k.top (queue k Ready)) true k (λ odd. absurd (true_false odd)) h
+  time_new t true k h = time_ready 0 (omega arith) t (favour_top k.top (queue k Ready)) true k (λ odd. absurd (true≢false odd)) h
   time_new t false k h = time_ready 0 (omega arith) t (pos 0) false k (λ new. zero_low k.top) h
 
   time_readies : (ts : List ℕ) (k : Control P S H) → KeepsTime 0 k → KeepsTime 0 (readies_all ts k)

@@ -2,6 +2,7 @@
 use Rattle.std.proofs.Common.{◌≡◌, ◌≢◌, ◌≤◌, ℕ, ◌+◌, ◌||◌, Bool, true, false, cond, if◌then◌else◌, ℤ, List, [], ◌∷◌, Option, Some, None, is_some, option_map, refl, sym, ◌∙◌, ap, arith}
 use Rattle.std.specs.List.{list_any}
 use Rattle.std.proofs.lemmas.List.Sums.{sum_by_push}
+use Rattle.std.proofs.lemmas.Bool.{true≢false}
 use Rattle.pth_base.proofs.Tables.{put_by, put_here, not_same, same_means}
 use Rattle.pth_lock.specs.Objects.{object_named}
 use Rattle.pth_cond.specs.declared.seats.Seat.{Seat}
@@ -13,7 +14,6 @@ use Rattle.pth_cond.specs.Conditions.{Condition, ConditionTable, is_live, has_se
 use Rattle.pth_ring.specs.Rings.{Events}
 use Rattle.pth_model.specs.Conditions.{seat_of}
 use Rattle.pth_model.specs.EventSeats.{SeatChange, condition_in, event_seat, seat_changed, seats_changed}
-use Rattle.pth_laws.proofs.Living.{true_false}
 use Rattle.pth_laws.proofs.Seats.{HasFewerSeats, taken, taken_cons, one_same, notified_same, seats_at, seats_same, seats_fewer, seats_notified, seats_initialised, seats_left, seats_handed}
 use Rattle.pth_laws.proofs.EventSeats.{fewer_handed}
 
@@ -33,8 +33,8 @@ pub record KeepsOtherSeats (t : ℕ) (x y : ConditionTable) : Type 0 where
 other_seat : (w s u : Seat) → is_seat s u ≡ false → is_seat w s ≡ true → is_seat w u ≡ false
 other_seat (Await a) (Await b) (Await c) apart same = ap (λ n. is_seat (Await (record { 0 = n })) (Await c)) (same_means a.0 b.0 same) ∙ apart
 other_seat (Await a) (Await b) (Event c) apart same = refl
-other_seat (Await a) (Event b) u apart same = absurd (true_false (sym same))
-other_seat (Event a) (Await b) u apart same = absurd (true_false (sym same))
+other_seat (Await a) (Event b) u apart same = absurd (true≢false (sym same))
+other_seat (Event a) (Await b) u apart same = absurd (true≢false (sym same))
 other_seat (Event a) (Event b) (Await c) apart same = refl
 other_seat (Event a) (Event b) (Event c) apart same = ap (λ n. is_seat (Event (record { 0 = n })) (Event c)) (same_means a.0 b.0 same) ∙ apart
 
@@ -87,7 +87,7 @@ pub entered_here : (c : ℤ) (s : Seat) (x : ConditionTable) → is_seat s s ≡
 entered_here c s x own live = let same = ap (seats_at s) (put_here x (object_named c) (option_map (with_seat s) (x (object_named c)))) in let there = by_condition (x (object_named c)) live in omega (arith, same, there)
   where
     by_condition : (y : Condition) → is_some y ≡ true → 1 ≤ seats_at s (option_map (with_seat s) y)
-    by_condition None h = absurd (true_false (sym h))
+    by_condition None h = absurd (true≢false (sym h))
     by_condition (Some ts) h =
         let same = sum_by_push (λ t. cond (is_at s t) 1 0) ts (record { seat = s; notice = Unmarked }) in
         let one = ap (λ (b : Bool). cond {A = ℕ} b 1 0) own in
@@ -155,7 +155,7 @@ keeps_initialised c x free = record {
   where
     by_condition : (u : Seat) (y : Condition) → is_some y ≡ false → seats_at u y ≤ 0
     by_condition u None h = omega arith
-    by_condition u (Some ts) h = absurd (true_false h)
+    by_condition u (Some ts) h = absurd (true≢false h)
 
 pub keeps_same : (t : ℕ) (x : ConditionTable) → KeepsOtherSeats t x x
 keeps_same t x = record { fewer = seats_same x; others = λ c u apart. omega arith }

@@ -3,6 +3,8 @@ use Rattle.std.proofs.Common.{◌≡◌, ◌<◌, ◌≤◌, ℕ, zero, suc, ◌
 use Rattle.std.specs.List.{list_any}
 use Rattle.std.proofs.lemmas.Bool.Decides.{nat_tests}
 use Rattle.std.proofs.lemmas.List.Sums.{fold-append}
+use Rattle.std.proofs.lemmas.Bool.{true≢false, or_parts}
+use Rattle.std.proofs.lemmas.Option.{none-some}
 use Rattle.pth_base.specs.Table.{put}
 use Rattle.pth_base.specs.declared.act.Act.TheVariants as act
 use Rattle.pth_base.specs.declared.answer.Answer.{Answer}
@@ -23,15 +25,10 @@ use Rattle.pth_model.specs.Resources.{Resources, destructor_by, on_one, on_int, 
 use Rattle.pth_laws.specs.Destructors.{Owes as KeyOwes, NoneOwes as NoKeyOwes, IsFirst, IsNextDue, IsNoneDue}
 use Rattle.pth_laws.specs.Orderly.{key_after, key_at, value_after, value_of, Stage, is_later, Owes, NoneOwes, IsLeast, IsNext, IsNoneNext}
 use Rattle.pth_laws.proofs.Book.{Book, is_kill, empty_book, after, book_of}
-use Rattle.pth_laws.proofs.Held.{neither}
 use Rattle.pth_laws.proofs.Laws.{EachMark, IsKey, IsLawful, IsExclusiveMark, IsAnswerExclusive}
-use Rattle.pth_laws.proofs.Living.{true_false}
 
 some_is : {A : Type 0} (x : A) (o : Option A) → o ≡ Some x → is_some o ≡ true
 some_is x o h = rw h refl
-
-none_some : {A : Type 0} (x : A) → None ≡ Some x → ⊥
-none_some x h = cc
 
 -- there are the keys of 0 to 255 alone
 abbrev pub AreKnown : Tables → Type 0
@@ -78,7 +75,7 @@ module _ (t : ℕ) where
     gone i m keys low values = record {
       keys = λ j. keys j (x.keys j) ∙ at_place x.keys i None j;
       low = low;
-      known = λ j. put_by (λ o. is_some o ≡ true → j < key_limit) x.keys i None j (λ here some. absurd (true_false (sym some))) (λ other. known j);
+      known = λ j. put_by (λ o. is_some o ≡ true → j < key_limit) x.keys i None j (λ here some. absurd (true≢false (sym some))) (λ other. known j);
       values = λ j below. values j (x.values j t) ∙ (zeroed j (j == i) ∙ ap (λ (row : ℕ → ℤ). row t) (at_place x.values i (λ _. pos 0) j));
     }
       where
@@ -91,7 +88,7 @@ module _ (t : ℕ) where
     gone_past m keys low values = record {
       keys = λ j. keys j (x.keys j) ∙ put_by (λ o. x.keys j ≡ o) x.keys key_limit None j (λ here. unknown (x.keys j) (λ some. let below = known j some in absurd (omega (arith, below, here)))) (λ other. refl);
       low = low;
-      known = λ j. put_by (λ o. is_some o ≡ true → j < key_limit) x.keys key_limit None j (λ here some. absurd (true_false (sym some))) (λ other. known j);
+      known = λ j. put_by (λ o. is_some o ≡ true → j < key_limit) x.keys key_limit None j (λ here some. absurd (true≢false (sym some))) (λ other. known j);
       values = λ j below. values j (x.values j t) ∙ ap (λ (row : ℕ → ℤ). row t) (sym (put_other x.values key_limit (λ _. pos 0) j (λ here. absurd (omega (arith, below, here)))));
     }
 
@@ -170,7 +167,7 @@ module _ (t : ℕ) where
         none_either false o none = none
     answered u (call.KeySet (pos i) v) (Int (pos (suc zero))) on law = valued k.store.keys known u.0 i v (mark.Answered u (call.KeySet (pos i) v) (Int (pos 1))) (λ z o. refl) (λ j w. refl)
     answered u (call.KeySet (negsuc i) v) (Int (pos (suc zero))) on law = valued_past k.store.keys known u.0 v (mark.Answered u (call.KeySet (negsuc i) v) (Int (pos 1))) (λ z o. refl) (λ j w. refl)
-    answered u call.Kill (Int n) on law = absurd (true_false on)
+    answered u call.Kill (Int n) on law = absurd (true≢false on)
     answered u (call.CleanupPush h v) a on law = let m = mark.Answered u (call.CleanupPush h v) a in let q : Step k m = still m (λ z o. refl) (λ z v. refl) in step_one a _ m q q
     answered u (call.CleanupPop v) a on law = let m = mark.Answered u (call.CleanupPop v) a in let q : Step k m = still m (λ z o. refl) (λ z v. refl) in step_one a _ m q q
     answered u (call.MutexInit i) a on law = let m = mark.Answered u (call.MutexInit i) a in let q : Step k m = still m (λ z o. refl) (λ z v. refl) in step_int a _ m q (λ n. q)
@@ -212,7 +209,7 @@ pub record KeysFit (t : ℕ) (x : Tables) (before : List Mark) : Type 0 where
   pub values : (i : ℕ) → i < key_limit → value_of t (pos i) before ≡ x.values i t
 
 pub keys_fit_none : (t : ℕ) → KeysFit t empty_book.resources.store.keys []
-keys_fit_none t = record { keys = λ i. refl; low = λ i. refl; known = λ i some. absurd (true_false (sym some)); values = λ i below. refl }
+keys_fit_none t = record { keys = λ i. refl; low = λ i. refl; known = λ i some. absurd (true≢false (sym some)); values = λ i below. refl }
 
 pub keys_fit_after : (t : ℕ) (b : Book) (before : List Mark) (m : Mark) → is_kill m ≡ false → IsExclusiveMark b m → KeysFit t b.resources.store.keys before → KeysFit t (told b.resources m).store.keys (before ++ m ∷ [])
 keys_fit_after t b before m on law f =
@@ -227,7 +224,7 @@ keys_fit_after t b before m on law f =
 pub keys_fit_along : (t : ℕ) (b : Book) (before ms : List Mark) → list_any is_kill ms ≡ false → EachMark IsLawful b ms → KeysFit t b.resources.store.keys before → KeysFit t (book_of b ms).resources.store.keys (before ++ ms)
 keys_fit_along t b before [] on law f = subst (KeysFit t b.resources.store.keys) (sym (append-nil before)) f
 keys_fit_along t b before (m ∷ ms) on law f =
-    let (first, rest) = neither (is_kill m) (list_any is_kill ms) on in
+    let (first, rest) = or_parts (is_kill m) (list_any is_kill ms) on in
     subst (KeysFit t (book_of b (m ∷ ms)).resources.store.keys) (append_assoc before (m ∷ []) ms)
     (keys_fit_along t (after b m) (before ++ m ∷ []) ms rest law.1 (keys_fit_after t b before m first law.0.1 f))
 
@@ -281,7 +278,7 @@ module _ (t : ℕ) (x : Tables) (before : List Mark) (f : KeysFit t x before) wh
       let live : x.keys i ≡ Some (Some h) = sym (f.keys i) ∙ o.live in
       let below = f.known i (some_is (Some h) (x.keys i) live) in
       record { number = i; is = refl; below = below; owes = record { live = live; value = sym (f.values i below) ∙ o.value; set = sym (zero_unset v) ∙ o.set } }
-  owes_told (negsuc i) h v o = absurd (none_some (Some h) (sym (f.low i) ∙ o.live))
+  owes_told (negsuc i) h v o = absurd (none-some (Some h) (sym (f.low i) ∙ o.live))
 
   none_said : (from : ℕ) (last : Option ℤ) → IsLastBefore from last → NoKeyOwes x t from key_limit → NoneOwes t before last
   none_said from last is none key h v later owes =

@@ -2,6 +2,7 @@
 use Rattle.std.proofs.Common.{◌≡◌, ◌≢◌, ℕ, zero, suc, ◌==◌, Bool, true, false, if◌then◌else◌, ℤ, pos, List, [], ◌∷◌, All, Option, Some, None, refl, sym, ◌∙◌, ap, subst}
 use Rattle.std.specs.List.{list_any}
 use Rattle.std.proofs.lemmas.List.Elements.{All-head, All-tail}
+use Rattle.std.proofs.lemmas.Bool.{true≢false, or_parts}
 use Rattle.pth_base.specs.Table.{put}
 use Rattle.pth_base.specs.declared.act.Act.{Act}
 use Rattle.pth_base.specs.declared.act.Act.TheVariants as act
@@ -23,8 +24,6 @@ use Rattle.pth_model.proofs.Nothing.{NoMutex, NoLock, no_mutex_initialised, no_m
 use Rattle.pth_laws.proofs.Book.{Book, is_kill, after, book_of}
 use Rattle.pth_laws.proofs.Laws.{EachMark, HasNotEnded, IsLawful}
 use Rattle.pth_laws.specs.Marks.{thread_of}
-use Rattle.pth_laws.proofs.Held.{neither}
-use Rattle.pth_laws.proofs.Living.{true_false}
 
 -- ---- one mark
 
@@ -138,7 +137,7 @@ AreEmpty b = (t : ℕ) → b.ended t ≡ true → HasNothing b.resources.store t
 
 no_mark_of : (b : Book) (o : Option ℕ) (t : ℕ) → HasNotEnded b o → b.ended t ≡ true → o ≢ Some t
 no_mark_of b None t h over same = absurd (cc same)
-no_mark_of b (Some u) t h over same = let here : u ≡ t = cc in true_false (sym over ∙ ap b.ended (sym here) ∙ h)
+no_mark_of b (Some u) t h over same = let here : u ≡ t = cc in true≢false (sym over ∙ ap b.ended (sym here) ∙ h)
 
 after_empty : (b : Book) (m : Mark) → HasNotEnded b (thread_of m) → is_kill m ≡ false → AreEmpty b → AreEmpty (after b m)
 unfolding told
@@ -149,13 +148,13 @@ after_empty b (mark.Ended u v) h on empty t over = by_same (t == u.0) refl
     by_same false apart =
         let before : b.ended t ≡ true = sym (put_other b.ended u.0 true t (same_fails t u.0 apart)) ∙ over in
         told_nothing t b.resources (mark.Ended u v) (no_mark_of b (Some u.0) t h before) (empty t before)
-after_empty b (mark.Answered u call.Kill (answer.Int n)) h on empty t over = absurd (true_false on)
+after_empty b (mark.Answered u call.Kill (answer.Int n)) h on empty t over = absurd (true≢false on)
 after_empty b m h on empty t over = told_nothing t b.resources m (no_mark_of b (thread_of m) t h over) (empty t over)
 
 -- of a run that goes on
 pub each_empty : (b : Book) (ms : List Mark) → EachMark IsLawful b ms → list_any is_kill ms ≡ false → AreEmpty b → AreEmpty (book_of b ms)
 each_empty b [] law on empty = empty
-each_empty b (m ∷ ms) law on empty = let (first, rest) = neither (is_kill m) (list_any is_kill ms) on in each_empty (after b m) ms law.1 rest (after_empty b m law.0.0.0 first empty)
+each_empty b (m ∷ ms) law on empty = let (first, rest) = or_parts (is_kill m) (list_any is_kill ms) on in each_empty (after b m) ms law.1 rest (after_empty b m law.0.0.0 first empty)
 
 -- a thread that no mark is of has nothing more afterwards
 pub unmarked_nothing : (t : ℕ) (b : Book) (ms : List Mark) → All (λ m. thread_of m ≢ Some t) ms → HasNothing b.resources.store t → HasNothing (book_of b ms).resources.store t

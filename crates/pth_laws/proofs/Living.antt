@@ -2,6 +2,8 @@
 use Rattle.std.proofs.Common.{◌≡◌, ◌≢◌, ℕ, zero, suc, ◌+◌, ◌≤◌, ◌==◌, ◌&&◌, not, Bool, true, false, if◌then◌else◌, ℤ, pos, List, ◌∷◌, All, Option, Some, None, is_some, option_map, refl, sym, ◌∙◌, ap, subst, arith}
 use Rattle.std.proofs.lemmas.Bool.Decides.{nat_tests}
 use Rattle.std.proofs.lemmas.List.Elements.{All-cons, All-weaker, All-filter, filter_passes}
+use Rattle.std.proofs.lemmas.Bool.{not-false, true≢false, and_parts, not-true}
+use Rattle.std.proofs.lemmas.Option.{same_Some}
 use Rattle.pth_base.specs.Program.{Functions}
 use Rattle.pth_base.specs.Table.{put}
 use Rattle.pth_base.specs.declared.attr.AttrValue.{AttrValue}
@@ -28,9 +30,6 @@ use Rattle.pth_model.proofs.Queues.{is_queue_same}
 
 -- ---- one thread
 
-pub true_false : true ≡ false → ⊥
-true_false h = cc
-
 -- of the threads that were made, all but those that have ended live; n were made before
 pub record IsLiving (n : ℕ) (ended : ℕ → Bool) (made : ℕ) (known : ℕ → Option Entry) (standing : Queue → List Standing) : Type 0 where
   pub grown : n ≤ made
@@ -45,19 +44,7 @@ IsUnplaced t standing = (q : Queue) → All (λ z. (z.tid == t) ≡ false) (stan
 
 pub lives_some : (o : Option Entry) → lives o ≡ true → is_some o ≡ true
 lives_some (Some e) h = refl
-lives_some None h = absurd (true_false (sym h))
-
-pub both : (a b : Bool) → (a && b) ≡ true → (a ≡ true) × (b ≡ true)
-both true b h = (refl, h)
-both false b h = absurd (true_false (sym h))
-
-pub not_true : (b : Bool) → not b ≡ true → b ≡ false
-not_true false h = refl
-not_true true h = absurd (true_false (sym h))
-
-made_above : (n t : ℕ) → is_made n t ≡ true → t ≤ n
-made_above n zero h = absurd (true_false (sym h))
-made_above n (suc t) h = grind (arith, nat_tests)
+lives_some None h = absurd (true≢false (sym h))
 
 pub made_more : (m n t : ℕ) → m ≤ n → is_made m t ≡ true → is_made n t ≡ true
 made_more m n zero le h = h
@@ -84,15 +71,11 @@ module _ (n : ℕ) (ended : ℕ → Bool) (made : ℕ) (known : ℕ → Option E
 
   -- who has ended does not live
   pub living-over : (t : ℕ) → ended t ≡ true → lives (known t) ≡ false
-  living-over t h = not_true (lives (known t)) (both (is_made made t) (not (lives (known t))) (sym (l.over t) ∙ h)).1
+  living-over t h = not-true (lives (known t)) (and_parts (is_made made t) (not (lives (known t))) (sym (l.over t) ∙ h)).1
 
   -- and who was made and has not ended lives
   pub living-alive : (t : ℕ) → is_made made t ≡ true → ended t ≡ false → lives (known t) ≡ true
-  living-alive t there up = not_over (lives (known t)) (ap (λ b. b && not (lives (known t))) (sym there) ∙ sym (l.over t) ∙ up)
-    where
-      not_over : (b : Bool) → not b ≡ false → b ≡ true
-      not_over true h = refl
-      not_over false h = absurd (true_false h)
+  living-alive t there up = not-false (lives (known t)) (ap (λ b. b && not (lives (known t))) (sym there) ∙ sym (l.over t) ∙ up)
 
   pub living-dead : (t : ℕ) → is_some (known t) ≡ true → lives (known t) ≡ false → ended t ≡ true
   living-dead t there h = l.over t ∙ rw (h, l.numbered t there) refl
@@ -116,11 +99,11 @@ abbrev pub IsToRun : Option Entry → Type 0
 IsToRun o = is_some (queue_to_run o) ≡ true
 
 pub to_run_lives : (o : Option Entry) → IsToRun o → lives o ≡ true
-to_run_lives None h = absurd (true_false (sym h))
+to_run_lives None h = absurd (true≢false (sym h))
 to_run_lives (Some e) h = by_state e.state h
   where
     by_state : (at : ThreadState) → is_some (run_queue at e.suspended) ≡ true → not (is_dead at) ≡ true
-    by_state state.Dead h = absurd (true_false (sym h))
+    by_state state.Dead h = absurd (true≢false (sym h))
     by_state at h = refl
 
 pub running_not_to_run : (o : Option Entry) → (or_nobody o).state ≡ state.Running → queue_to_run o ≡ None
@@ -133,7 +116,7 @@ over_not_to_run (Some e) h = by_state e.state h
   where
     by_state : (at : ThreadState) → not (is_dead at) ≡ false → run_queue at e.suspended ≡ None
     by_state state.Dead h = refl
-    by_state at h = absurd (true_false h)
+    by_state at h = absurd (true≢false h)
 
 -- ---- changes
 
@@ -161,16 +144,13 @@ pub request_state : (b : Bool) (e : Entry) → (changed (change.Request b) e).st
 unfolding changed
 request_state b e = refl
 
-some_same : (c d : change_type.Change) → Some c ≡ Some d → c ≡ d
-some_same c d h = cc
-
 -- a value that a program sets (pth_attr_set) leaves the state, and whether the thread is suspended
 pub set_leaves : (v : AttrValue) (c : change_type.Change) (e : Entry) → change_of v ≡ Some c → ((changed c e).state ≡ e.state) × ((changed c e).suspended ≡ e.suspended)
 unfolding changed
-set_leaves (value.Prio n) c e h = rw (← some_same (change.Prio n) c h) (refl, refl)
-set_leaves (value.Name s) c e h = rw (← some_same (change.Name s) c h) (refl, refl)
-set_leaves (value.Joinable n) c e h = rw (← some_same _ c h) (refl, refl)
-set_leaves (value.Cancel n) c e h = rw (← some_same _ c h) (refl, refl)
+set_leaves (value.Prio n) c e h = rw (← same_Some (change.Prio n) c h) (refl, refl)
+set_leaves (value.Name s) c e h = rw (← same_Some (change.Name s) c h) (refl, refl)
+set_leaves (value.Joinable n) c e h = rw (← same_Some _ c h) (refl, refl)
+set_leaves (value.Cancel n) c e h = rw (← same_Some _ c h) (refl, refl)
 set_leaves v c e h = absurd (cc h)
 
 pub set_state : (v : AttrValue) (c : change_type.Change) (e : Entry) → change_of v ≡ Some c → (changed c e).state ≡ e.state
@@ -178,13 +158,13 @@ set_state v c e h = (set_leaves v c e h).0
 
 -- by the state of a thread in the system
 lives_by : (at : ThreadState) (o : Option Entry) → is_some o ≡ true → (or_nobody o).state ≡ at → lives o ≡ not (is_dead at)
-lives_by at None known same = absurd (true_false (sym known))
+lives_by at None known same = absurd (true≢false (sym known))
 lives_by at (Some e) known same = ap (λ s. not (is_dead s)) same
 
 -- who lives has another state than that of the dead
 pub state_safe : (at : ThreadState) → is_dead at ≡ false → (o : Option Entry) → lives o ≡ true → (e : Entry) → o ≡ Some e → IsSafe (change.State at) e
 unfolding changed
-state_safe at up o alive e h = up ∙ sym (not_true (is_dead e.state) (sym (ap lives h) ∙ alive))
+state_safe at up o alive e h = up ∙ sym (not-true (is_dead e.state) (sym (ap lives h) ∙ alive))
 
 -- t does not wait to run, and who is named does
 abbrev pub NamesToRun : {P S H : Type 0} → ℕ → Control P S H → Type 0
@@ -264,7 +244,7 @@ module _ {P S H : Type 0} (n : ℕ) (ended : ℕ → Bool) where
       let same : (t : ℕ) → lives (put k.threads.known u None t) ≡ lives (k.threads.known t) = λ t. put_by (λ o. lives o ≡ lives (k.threads.known t)) k.threads.known u None t (λ here. rw here (sym dead)) (λ other. refl) in
       record {
         grown = l.grown;
-        numbered = λ t. put_by (λ o. is_some o ≡ true → is_made k.threads.made t ≡ true) k.threads.known u None t (λ here h. absurd (true_false (sym h))) (λ other. l.numbered t);
+        numbered = λ t. put_by (λ o. is_some o ≡ true → is_made k.threads.made t ≡ true) k.threads.known u None t (λ here h. absurd (true≢false (sym h))) (λ other. l.numbered t);
         over = λ t. l.over t ∙ ap (λ b. is_made k.threads.made t && not b) (sym (same t));
         stands = λ q living. All-weaker (λ z. lives (k.threads.known z.tid) ≡ true) (λ z. lives (put k.threads.known u None z.tid) ≡ true) (λ z h. same z.tid ∙ h) (k.threads.standing q) (l.stands q living);
         dead = l.dead;
@@ -276,7 +256,7 @@ module _ {P S H : Type 0} (n : ℕ) (ended : ℕ → Bool) where
   unfolding makes made_of
   living_spawned f b v of k l =
       living_enters (k.threads.made + 1) New of.prio false (makes f b v of k)
-      ((λ living. ap lives (put_here k.threads.known (k.threads.made + 1) (Some (made_of of (k.threads.made + 1))))), λ dead. absurd (true_false (sym dead)))
+      ((λ living. ap lives (put_here k.threads.known (k.threads.made + 1) (Some (made_of of (k.threads.made + 1))))), λ dead. absurd (true≢false (sym dead)))
       (living_makes f b v of k l)
 
   -- who lives enters another queue, with a change of its record
@@ -289,14 +269,14 @@ module _ {P S H : Type 0} (n : ℕ) (ended : ℕ → Bool) where
 
   pub living_suspended : (u : ℕ) (k : Control P S H) → lives (k.threads.known u) ≡ true → Living k → Living (suspends u k)
   unfolding suspends
-  living_suspended u k alive l = living_moved u (change.Suspended true) Suspended (pos 0) false k (λ e h. suspended_safe true e) ((λ living. alive), λ dead. absurd (true_false (sym dead))) l
+  living_suspended u k alive l = living_moved u (change.Suspended true) Suspended (pos 0) false k (λ e h. suspended_safe true e) ((λ living. alive), λ dead. absurd (true≢false (sym dead))) l
 
   living_returned : (u : ℕ) (k : Control P S H) → is_some (k.threads.known u) ≡ true → Living k → (at : ThreadState) → (or_nobody (k.threads.known u)).state ≡ at → Living (returns_to u (queue_for at) k)
   living_returned u k known l state.Running same = l
-  living_returned u k known l state.Dead same = living_moved u (change.Suspended false) Dead (pos 0) false k (λ e h. suspended_safe false e) ((λ living. absurd (true_false living)), λ dead. living-dead n ended k.threads.made k.threads.known k.threads.standing l u known (lives_by state.Dead (k.threads.known u) known same)) l
-  living_returned u k known l state.New same = living_moved u (change.Suspended false) New (pos 0) false k (λ e h. suspended_safe false e) ((λ living. lives_by state.New (k.threads.known u) known same), λ dead. absurd (true_false (sym dead))) l
-  living_returned u k known l state.Ready same = living_moved u (change.Suspended false) Ready (pos 0) false k (λ e h. suspended_safe false e) ((λ living. lives_by state.Ready (k.threads.known u) known same), λ dead. absurd (true_false (sym dead))) l
-  living_returned u k known l state.Waiting same = living_moved u (change.Suspended false) Waiting (pos 0) false k (λ e h. suspended_safe false e) ((λ living. lives_by state.Waiting (k.threads.known u) known same), λ dead. absurd (true_false (sym dead))) l
+  living_returned u k known l state.Dead same = living_moved u (change.Suspended false) Dead (pos 0) false k (λ e h. suspended_safe false e) ((λ living. absurd (true≢false living)), λ dead. living-dead n ended k.threads.made k.threads.known k.threads.standing l u known (lives_by state.Dead (k.threads.known u) known same)) l
+  living_returned u k known l state.New same = living_moved u (change.Suspended false) New (pos 0) false k (λ e h. suspended_safe false e) ((λ living. lives_by state.New (k.threads.known u) known same), λ dead. absurd (true≢false (sym dead))) l
+  living_returned u k known l state.Ready same = living_moved u (change.Suspended false) Ready (pos 0) false k (λ e h. suspended_safe false e) ((λ living. lives_by state.Ready (k.threads.known u) known same), λ dead. absurd (true≢false (sym dead))) l
+  living_returned u k known l state.Waiting same = living_moved u (change.Suspended false) Waiting (pos 0) false k (λ e h. suspended_safe false e) ((λ living. lives_by state.Waiting (k.threads.known u) known same), λ dead. absurd (true≢false (sym dead))) l
 
   pub living_resumed : (u : ℕ) (k : Control P S H) → is_some (k.threads.known u) ≡ true → Living k → Living (resumes u k)
   unfolding resumes
@@ -309,13 +289,13 @@ module _ {P S H : Type 0} (n : ℕ) (ended : ℕ → Bool) where
   -- who lives is ready
   pub living_ready : (u : ℕ) (rank : ℤ) (top : Bool) (k : Control P S H) → lives (k.threads.known u) ≡ true → Living k → Living (is_ready_at u rank top k)
   unfolding is_ready_at
-  living_ready u rank top k alive l = living_moved u (change.State state.Ready) Ready rank top k (state_safe state.Ready refl (k.threads.known u) alive) ((λ living. alive), λ dead. absurd (true_false (sym dead))) l
+  living_ready u rank top k alive l = living_moved u (change.State state.Ready) Ready rank top k (state_safe state.Ready refl (k.threads.known u) alive) ((λ living. alive), λ dead. absurd (true≢false (sym dead))) l
 
   -- ---- an end
 
   pub unplaced_leaves : (t : ℕ) (k : Control P S H) → IsUnplaced t (leaves_queue t k).threads.standing
   unfolding leaves_queue
-  unplaced_leaves t k q = All-weaker (λ z. not (z.tid == t) ≡ true) (λ z. (z.tid == t) ≡ false) (λ z h. not_true (z.tid == t) h) (left_by t (k.threads.standing q)) (filter_passes (λ z. not (z.tid == t)) (k.threads.standing q))
+  unplaced_leaves t k q = All-weaker (λ z. not (z.tid == t) ≡ true) (λ z. (z.tid == t) ≡ false) (λ z h. not-true (z.tid == t) h) (left_by t (k.threads.standing q)) (filter_passes (λ z. not (z.tid == t)) (k.threads.standing q))
 
   -- t is dead, or gone: of the others all is as it was
   pub living_over : (t : ℕ) (o : Option Entry) (k : Control P S H) → is_made k.threads.made t ≡ true → lives o ≡ false → (is_some o ≡ true → is_some (k.threads.known t) ≡ true) → IsUnplaced t k.threads.standing → Living k → IsLiving n (put ended t true) k.threads.made (put k.threads.known t o) k.threads.standing
@@ -329,7 +309,7 @@ module _ {P S H : Type 0} (n : ℕ) (ended : ℕ → Bool) where
       }
     where
       All-both : (q : Queue) → is_queue q Dead ≡ false → All (λ z. lives (put k.threads.known t o z.tid) ≡ true) (k.threads.standing q)
-      All-both q living i d low = put_by (λ p. lives p ≡ true) k.threads.known t o _ (λ here. absurd (true_false (sym (ap (λ j. j == t) here ∙ same_self t) ∙ unplaced q i d low))) (λ other. l.stands q living i d low)
+      All-both q living i d low = put_by (λ p. lives p ≡ true) k.threads.known t o _ (λ here. absurd (true≢false (sym (ap (λ j. j == t) here ∙ same_self t) ∙ unplaced q i d low))) (λ other. l.stands q living i d low)
 
 changed_dead : (o : Option Entry) → lives (option_map (changed (change.State state.Dead)) o) ≡ false
 unfolding changed
@@ -351,11 +331,11 @@ module _ {P S H : Type 0} (n : ℕ) (ended : ℕ → Bool) (t : ℕ) where
       let lb : After b = living_over n ended t o a (living-made n ended k.threads.made k.threads.known k.threads.standing l t alive) (changed_dead (k.threads.known t)) (λ there. sym (changed_some (change.State state.Dead) (k.threads.known t)) ∙ there) (unplaced_leaves n ended t k) (living_leaves n ended t k l) in
       let lc : After c = living_sets n (put ended t true) t (change.Suspended false) b (λ e h. suspended_safe false e) lb in
       let ld : After d = living_sets n (put ended t true) t (change.Value v) c (λ e h. value_safe v e) lc in
-      living_enters n (put ended t true) t Dead (pos 0) false d ((λ living. absurd (true_false living)), λ dead. put_here ended t true) ld
+      living_enters n (put ended t true) t Dead (pos 0) false d ((λ living. absurd (true≢false living)), λ dead. put_here ended t true) ld
 
   living_gone : (k : Control P S H) → lives (k.threads.known t) ≡ true → Living n ended k → After (removes t k)
   unfolding forgets leaves_queue
-  living_gone k alive l = living_over n ended t None (leaves_queue t k) (living-made n ended k.threads.made k.threads.known k.threads.standing l t alive) refl (λ there. absurd (true_false (sym there))) (unplaced_leaves n ended t k) (living_leaves n ended t k l)
+  living_gone k alive l = living_over n ended t None (leaves_queue t k) (living-made n ended k.threads.made k.threads.known k.threads.standing l t alive) refl (λ there. absurd (true≢false (sym there))) (unplaced_leaves n ended t k) (living_leaves n ended t k l)
 
   -- t has ended
   pub living_left : (v : ℤ) (k : Control P S H) → lives (k.threads.known t) ≡ true → Living n ended k → After (leaves t v k)

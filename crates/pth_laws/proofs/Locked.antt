@@ -1,5 +1,6 @@
 -- Where all marks are exclusive, there are the mutexes and the locks of 0 to 63 alone, and nobody holds a lock that was not initialised.
 use Rattle.std.proofs.Common.{◌≡◌, ◌<◌, ℕ, zero, suc, ◌||◌, Bool, true, false, if◌then◌else◌, ℤ, pos, List, [], ◌∷◌, Option, Some, None, is_some, refl, sym, ◌∙◌, ap, subst}
+use Rattle.std.proofs.lemmas.Bool.{true≢false}
 use Rattle.pth_base.specs.Table.{put}
 use Rattle.pth_base.specs.declared.act.Act.TheVariants as act
 use Rattle.pth_base.specs.declared.answer.Answer.{Answer}
@@ -15,7 +16,6 @@ use Rattle.pth_lock.specs.RwLocks.{LockTables, holds, is_one, lock_initialised, 
 use Rattle.pth_model.specs.Resources.{Resources, no_resources, mutexes_of_only, locks_of_only, on_one, on_int, on_msg, told, answer_told, act_told, retaken, let_go}
 use Rattle.pth_laws.proofs.Book.{Book, after, book_of}
 use Rattle.pth_laws.proofs.Laws.{EachMark, IsAnswerExclusive, IsExclusiveMark, MayTake}
-use Rattle.pth_laws.proofs.Living.{true_false}
 use Rattle.pth_laws.proofs.Held.{out_released, out_left, out_only}
 
 pub record IsLocked (x : MutexTable) (y : LockTables) : Type 0 where
@@ -29,14 +29,14 @@ abbrev pub Locked : Resources → Type 0
 Locked k = IsLocked k.store.mutexes k.store.rw_locks
 
 pub locked_none : Locked no_resources
-locked_none = record { mutexes = λ m h. absurd (true_false (sym h)); locks = λ l h. absurd (true_false (sym h)); held = λ l u h. absurd (true_false (sym h)) }
+locked_none = record { mutexes = λ m h. absurd (true≢false (sym h)); locks = λ l h. absurd (true≢false (sym h)); held = λ l u h. absurd (true≢false (sym h)) }
 
 pub has_some : (t : ℕ) (z : Mutex) → has t z ≡ true → is_some z ≡ true
-has_some t None h = absurd (true_false (sym h))
+has_some t None h = absurd (true≢false (sym h))
 has_some t (Some o) h = refl
 
 pub others_some : (t : ℕ) (z : Mutex) → is_anothers t z ≡ true → is_some z ≡ true
-others_some t None h = absurd (true_false (sym h))
+others_some t None h = absurd (true≢false (sym h))
 others_some t (Some o) h = refl
 
 -- ---- changes of the tables
@@ -101,7 +101,7 @@ module _ (x : MutexTable) (y : LockTables) (k : IsLocked x y) where
     where
       by_test : (l u : ℕ) → holds z u l ≡ true → (b : Bool) → holds y u l ≡ b → y.initialised l ≡ true
       by_test l u h true had = k.held l u had
-      by_test l u h false had = absurd (true_false (sym h ∙ out l u had))
+      by_test l u h false had = absurd (true≢false (sym h ∙ out l u had))
 
 -- ---- marks
 

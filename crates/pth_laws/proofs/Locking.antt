@@ -2,7 +2,7 @@
 use Rattle.std.proofs.Common.{◌≡◌, ◌<◌, ◌≤◌, ℕ, zero, suc, ◌+◌, ◌-◌, ◌==◌, ◌&&◌, ◌||◌, not, nat_le, nat_lt, Bool, true, false, cond, if◌then◌else◌, ℤ, pos, List, [], ◌∷◌, length, find, Option, Some, None, is_some, is_none, is_ok, Result, Ok, Err, refl, sym, ◌∙◌, ap, arith}
 use Rattle.std.specs.List.{range_with_len}
 use Rattle.std.specs.Option.{ok_or}
-use Rattle.std.proofs.lemmas.Bool.{not-false}
+use Rattle.std.proofs.lemmas.Bool.{not-false, true≢false, and_parts, not-true, or_parts}
 use Rattle.std.proofs.lemmas.Bool.Decides.{nat_tests}
 use Rattle.pth_base.specs.Program.{Functions}
 use Rattle.pth_base.specs.declared.answer.Answer.{Answer}
@@ -35,8 +35,6 @@ use Rattle.pth_model.specs.declared.verdict.Verdict.TheVariants.{Says, Yields, B
 use Rattle.pth_model.specs.Verdict.{refused, says, done, by_result, taken_or, ◌when◌otherwise◌}
 use Rattle.pth_laws.proofs.Book.{Book}
 use Rattle.pth_laws.proofs.Laws.{IsAnswerExclusive, IsExclusiveMark, HasMutex, MayTake}
-use Rattle.pth_laws.proofs.Held.{neither}
-use Rattle.pth_laws.proofs.Living.{true_false, both, not_true}
 use Rattle.pth_model.specs.Awaits.{is_await}
 
 -- calls on mutexes, locks and ports, and the one that makes keys
@@ -76,25 +74,25 @@ wait_exclusive b t (call.CondAwait c m e) law = law
 wait_exclusive b t c law = tt
 
 some_of : {A : Type 0} (o : Option A) → is_none o ≡ false → is_some o ≡ true
-some_of None h = absurd (true_false h)
+some_of None h = absurd (true≢false h)
 some_of (Some a) h = refl
 
 -- of two tests of which not both fail, one holds
 one_of : (a b : Bool) → (not a && not b) ≡ false → (a || b) ≡ true
 one_of true b h = refl
 one_of false true h = refl
-one_of false false h = absurd (true_false h)
+one_of false false h = absurd (true≢false h)
 
 -- a mutex that nobody has is no other thread's
 free_is : (t : ℕ) (z : Mutex) → is_none (owner_of z) ≡ true → is_anothers t z ≡ false
 free_is t None h = refl
 free_is t (Some None) h = refl
-free_is t (Some (Some o)) h = absurd (true_false (sym h))
+free_is t (Some (Some o)) h = absurd (true≢false (sym h))
 
 -- one that somebody has, and no other thread, is its own
 own_is : (t : ℕ) (z : Mutex) → is_none (owner_of z) ≡ false → is_anothers t z ≡ false → has t z ≡ true
-own_is t None h other = absurd (true_false h)
-own_is t (Some None) h other = absurd (true_false h)
+own_is t None h other = absurd (true≢false h)
+own_is t (Some None) h other = absurd (true≢false h)
 own_is t (Some (Some o)) h other = not-false _ other
 
 below : (m : ℤ) → not (is_object m) ≡ false → object_named m < object_limit
@@ -118,24 +116,24 @@ free_below x i free = found_key (λ k. is_none (x.keys k)) 0 i (omega arith) fre
 
 module _ (k : Resources) (t : ℕ) where
   other_answer : (c : Call) (a : Answer) → is_locking c ≡ false → IsAnswerExclusive k t c a
-  other_answer (call.MutexInit m) a h = absurd (true_false h)
-  other_answer (call.MutexAcquire m v e) a h = absurd (true_false h)
-  other_answer (call.MutexRelease m) a h = absurd (true_false h)
-  other_answer (call.RwInit l) a h = absurd (true_false h)
-  other_answer (call.RwAcquire l write v e) a h = absurd (true_false h)
-  other_answer (call.RwRelease l) a h = absurd (true_false h)
-  other_answer (call.CondAwait c m e) a h = absurd (true_false h)
-  other_answer (call.KeyCreate x) a h = absurd (true_false h)
-  other_answer (call.PortCreate name) a h = absurd (true_false h)
-  other_answer (call.PortPut p v r) a h = absurd (true_false h)
-  other_answer (call.PortGet p) a h = absurd (true_false h)
-  other_answer (call.PortPending p) a h = absurd (true_false h)
-  other_answer (call.Reply m v) a h = absurd (true_false h)
-  other_answer (call.PortDestroy p) a h = absurd (true_false h)
+  other_answer (call.MutexInit m) a h = absurd (true≢false h)
+  other_answer (call.MutexAcquire m v e) a h = absurd (true≢false h)
+  other_answer (call.MutexRelease m) a h = absurd (true≢false h)
+  other_answer (call.RwInit l) a h = absurd (true≢false h)
+  other_answer (call.RwAcquire l write v e) a h = absurd (true≢false h)
+  other_answer (call.RwRelease l) a h = absurd (true≢false h)
+  other_answer (call.CondAwait c m e) a h = absurd (true≢false h)
+  other_answer (call.KeyCreate x) a h = absurd (true≢false h)
+  other_answer (call.PortCreate name) a h = absurd (true≢false h)
+  other_answer (call.PortPut p v r) a h = absurd (true≢false h)
+  other_answer (call.PortGet p) a h = absurd (true≢false h)
+  other_answer (call.PortPending p) a h = absurd (true≢false h)
+  other_answer (call.Reply m v) a h = absurd (true≢false h)
+  other_answer (call.PortDestroy p) a h = absurd (true≢false h)
   other_answer c a h = tt
 
   other_wait : (c : Call) → is_locking c ≡ false → IsWaitExclusive k t c
-  other_wait (call.CondAwait c m e) h = absurd (true_false h)
+  other_wait (call.CondAwait c m e) h = absurd (true≢false h)
   other_wait c h = tt
 
   -- any other call
@@ -201,18 +199,18 @@ module _ (k : Resources) (t : ℕ) where
   lock_release_exclusive l false false false held = (refl, not-false _ held)
 
   await_exclusive : (c m e : ℤ) (bad a b other claimed : Bool) → k.awaits t ≡ false → is_none (owner_of (z m)) ≡ b → is_anothers t (z m) ≡ other → IsVerdictExclusive k t (call.CondAwait c m e) (refused EINVAL when bad otherwise by_result (λ released. refused EBUSY when claimed otherwise Blocks (awaits.Notice c)) (if a then Err EINVAL else if b then Err EDEADLK else if other then Err EACCES else Ok (tt {0})))
-  await_exclusive c m e true a b other claimed idle free own = λ awaits. absurd (true_false (sym awaits ∙ idle))
-  await_exclusive c m e false true b other claimed idle free own = λ awaits. absurd (true_false (sym awaits ∙ idle))
-  await_exclusive c m e false false true other claimed idle free own = λ awaits. absurd (true_false (sym awaits ∙ idle))
-  await_exclusive c m e false false false true claimed idle free own = λ awaits. absurd (true_false (sym awaits ∙ idle))
-  await_exclusive c m e false false false false true idle free own = λ awaits. absurd (true_false (sym awaits ∙ idle))
+  await_exclusive c m e true a b other claimed idle free own = λ awaits. absurd (true≢false (sym awaits ∙ idle))
+  await_exclusive c m e false true b other claimed idle free own = λ awaits. absurd (true≢false (sym awaits ∙ idle))
+  await_exclusive c m e false false true other claimed idle free own = λ awaits. absurd (true≢false (sym awaits ∙ idle))
+  await_exclusive c m e false false false true claimed idle free own = λ awaits. absurd (true≢false (sym awaits ∙ idle))
+  await_exclusive c m e false false false false true idle free own = λ awaits. absurd (true≢false (sym awaits ∙ idle))
   await_exclusive c m e false false false false false idle free own = λ none. own_is t (z m) free own
 
   -- who can take a mutex may
   take_allowed : (m : ℤ) (a b other : Bool) → is_none (z m) ≡ a → is_anothers t (z m) ≡ other → is_ok (if a then Err EINVAL else if b then Err EAGAIN else if other then Err EBUSY else Ok (tt {0})) ≡ true → MayTake k t (object_named m)
-  take_allowed m true b other none own h = absurd (true_false (sym h))
-  take_allowed m false true other none own h = absurd (true_false (sym h))
-  take_allowed m false false true none own h = absurd (true_false (sym h))
+  take_allowed m true b other none own h = absurd (true≢false (sym h))
+  take_allowed m false true other none own h = absurd (true≢false (sym h))
+  take_allowed m false false true none own h = absurd (true≢false (sym h))
   take_allowed m false false false none own h = record { initialised = some_of (z m) none; free = own }
 
   pub may_take : (m : ℤ) → is_ok (take_answer t (z m)) ≡ true → MayTake k t (object_named m)
@@ -236,7 +234,7 @@ module _ (k : Resources) (t : ℕ) where
   put_exclusive : (p v r : ℤ) (a b : Bool) → (not (is_port q p) || not (is_zero r) && not (is_port q r)) ≡ a → IsVerdictExclusive k t (call.PortPut p v r) (by_result put_done (if a then Err EINVAL else if b then Err EAGAIN else Ok (q.made + 1)))
   put_exclusive p v r true b there = tt
   put_exclusive p v r false true there = tt
-  put_exclusive p v r false false there = let h = neither (not (is_port q p)) (not (is_zero r) && not (is_port q r)) there in (refl, record { there = not-false _ h.0; reply = one_of (is_zero r) (is_port q r) h.1 })
+  put_exclusive p v r false false there = let h = or_parts (not (is_port q p)) (not (is_zero r) && not (is_port q r)) there in (refl, record { there = not-false _ h.0; reply = one_of (is_zero r) (is_port q r) h.1 })
 
   -- and so an act of a handler
   put_act : (p v r : ℤ) (o : Result ℕ Errno) → IsVerdictExclusive k t (call.PortPut p v r) (by_result put_done o) → IsAnswerExclusive k t (call.PortPut p v r) (answer_in (by_result put_done o))
@@ -289,8 +287,8 @@ module _ {P S H : Type 0} (f : P → Functions S H) (s : State P S H) (t : ℕ) 
   -- a call is tried again
 
   acquires_again : (m v e : ℤ) (come b : Bool) (a : Piece P S H) → (not (is_none (z r t m)) && is_none (owner_of (z r t m))) ≡ b → IsVerdictExclusive r t (call.MutexAcquire m v e) (unless_settled come (record { verdict = says 1 when b otherwise Blocks (awaits.Mutex m); effect = a })).verdict
-  acquires_again m v e false true a is = let h = both _ _ is in (refl, record { initialised = some_of (z r t m) (not_true _ h.0); free = free_is t (z r t m) h.1 })
-  acquires_again m v e true true a is = let h = both _ _ is in (refl, record { initialised = some_of (z r t m) (not_true _ h.0); free = free_is t (z r t m) h.1 })
+  acquires_again m v e false true a is = let h = and_parts _ _ is in (refl, record { initialised = some_of (z r t m) (not-true _ h.0); free = free_is t (z r t m) h.1 })
+  acquires_again m v e true true a is = let h = and_parts _ _ is in (refl, record { initialised = some_of (z r t m) (not-true _ h.0); free = free_is t (z r t m) h.1 })
   acquires_again m v e false false a is = tt
   acquires_again m v e true false a is = tt
 
@@ -298,8 +296,8 @@ module _ {P S H : Type 0} (f : P → Functions S H) (s : State P S H) (t : ℕ) 
   locks = r.store.rw_locks
 
   enters_again : (l : ℤ) (write : Bool) (v e : ℤ) (come b : Bool) (a : Piece P S H) → ((locks.initialised (object_named l) && may_enter locks write (object_named l)) && not (holds locks t (object_named l))) ≡ b → IsVerdictExclusive r t (call.RwAcquire l write v e) (unless_settled come (record { verdict = says 1 when b otherwise Blocks (awaits.Lock l write); effect = a })).verdict
-  enters_again l write v e false true a is = let h = both _ _ is in let g = both _ _ h.0 in (refl, record { initialised = g.0; out = not_true _ h.1; enters = g.1 })
-  enters_again l write v e true true a is = let h = both _ _ is in let g = both _ _ h.0 in (refl, record { initialised = g.0; out = not_true _ h.1; enters = g.1 })
+  enters_again l write v e false true a is = let h = and_parts _ _ is in let g = and_parts _ _ h.0 in (refl, record { initialised = g.0; out = not-true _ h.1; enters = g.1 })
+  enters_again l write v e true true a is = let h = and_parts _ _ is in let g = and_parts _ _ h.0 in (refl, record { initialised = g.0; out = not-true _ h.1; enters = g.1 })
   enters_again l write v e false false a is = tt
   enters_again l write v e true false a is = tt
 
@@ -329,5 +327,5 @@ module _ {P S H : Type 0} (f : P → Functions S H) (s : State P S H) (t : ℕ) 
   again_exclusive (call.Reply m v) b true other = tt
   again_exclusive (call.PortDestroy p) b false other = tt
   again_exclusive (call.PortDestroy p) b true other = tt
-  again_exclusive (call.CondAwait c m e) b come other = absurd (true_false other)
+  again_exclusive (call.CondAwait c m e) b come other = absurd (true≢false other)
   again_exclusive c b come other = other_exclusive r t c (unless_settled come ((row_of f s t c).again b)).verdict refl

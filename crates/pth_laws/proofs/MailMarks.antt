@@ -1,6 +1,7 @@
 -- The messages that lawful marks tell of are those that the book has, at each port that is there. So who gets a message gets the oldest.
 use Rattle.std.proofs.Common.{◌≡◌, ◌≢◌, ℕ, zero, suc, ◌+◌, ◌*◌, ◌==◌, ◌&&◌, ◌||◌, Bool, true, false, if◌then◌else◌, ℤ, pos, negsuc, List, [], ◌∷◌, ◌++◌, length, map, fold, Option, Some, None, is_some, option_map, Ok, refl, sym, ◌∙◌, ap, ap₂, subst, arith}
 use Rattle.std.proofs.lemmas.List.{map-append, length-map}
+use Rattle.std.proofs.lemmas.Bool.{true≢false}
 use Rattle.pth_base.specs.Table.{put}
 use Rattle.pth_base.specs.declared.act.Act.TheVariants as act
 use Rattle.pth_base.specs.declared.answer.Answer.{Answer}
@@ -18,7 +19,6 @@ use Rattle.pth_laws.specs.InOrder.{port_index, reply_index, by_index, mail_after
 use Rattle.pth_laws.specs.Marks.{at_number}
 use Rattle.pth_laws.proofs.Book.{Book, empty_book, after, book_of}
 use Rattle.pth_laws.proofs.Laws.{EachMark, IsLawful, IsExclusiveMark, IsAnswerExclusive, MayPut, HasOldest, HasNoMessage, HasMessages}
-use Rattle.pth_laws.proofs.Living.{true_false}
 use Rattle.pth_laws.proofs.Prefixes.{each_at}
 
 -- ---- ports by the numbers of the marks
@@ -70,7 +70,7 @@ module _ (q r : Mail) (f : MailFits q r) where
   messages_as p = ap messages_of (f.at p) ∙ messages_map (q.at p)
 
   not_none : (p : ℕ) → is_live q p ≡ true → p ≡ 0 → ⊥
-  not_none p live here = true_false (sym live ∙ (ap (λ (i : ℕ). is_some (q.at i)) here ∙ ap is_some f.none))
+  not_none p live here = true≢false (sym live ∙ (ap (λ (i : ℕ). is_some (q.at i)) here ∙ ap is_some f.none))
 
   -- port p has other messages, or is gone
   port_changed : (p : ℕ) (ms os : Option (List Message)) → (p ≡ 0 → ms ≡ None) → os ≡ option_map (map by_index) ms → MailFits (record q { at = put q.at p ms }) (record r { at = put r.at (place p) os })

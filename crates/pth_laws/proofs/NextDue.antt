@@ -3,6 +3,7 @@ use Rattle.std.proofs.Common.{◌≡◌, ℕ, zero, suc, ◌+◌, ◌-◌, ◌<�
 use Rattle.std.specs.List.{range_with_len, slice_get, cons_option}
 use Rattle.std.proofs.lemmas.Bool.{cases_lt}
 use Rattle.std.proofs.lemmas.Bool.Decides.{nat_tests}
+use Rattle.std.proofs.lemmas.Option.{none-some, same_Some}
 use Rattle.pth_base.specs.declared.ids.HandlerId.{HandlerId}
 use Rattle.pth_store.specs.Keys.{Tables, key_limit, is_unset, owed, owed_for, first_live}
 use Rattle.pth_model.specs.declared.destructors.Due.{Due}
@@ -14,12 +15,6 @@ use Rattle.pth_laws.specs.Destructors.{Owes, NoneOwes, IsFirst, IsNextDue, IsNon
 abbrev Owed : Type 0
 Owed = ℕ × HandlerId × ℤ
 
-some_owed : (o p : Owed) → Some o ≡ Some p → o ≡ p
-some_owed o p h = cc
-
-no_owed : (o : Owed) → None ≡ Some o → ⊥
-no_owed o h = cc
-
 module _ (x : Tables) (t : ℕ) where
   abbrev At : ℕ → Owed → Type 0
   At k o = (k ≡ o.0) × Owes x t k o.1 o.2
@@ -28,16 +23,16 @@ module _ (x : Tables) (t : ℕ) where
   owes_by k (Some (Some h)) o live found = by_value (is_unset (x.values k t)) refl found
     where
       by_value : (b : Bool) → is_unset (x.values k t) ≡ b → (if b then None else Some (k, h, x.values k t)) ≡ Some o → At k o
-      by_value true unset found = absurd (no_owed o found)
-      by_value false set found = subst (At k) (some_owed (k, h, x.values k t) o found) (refl, record { live = live; value = refl; set = set })
-  owes_by k (Some None) o live found = absurd (no_owed o found)
-  owes_by k None o live found = absurd (no_owed o found)
+      by_value true unset found = absurd (none-some o found)
+      by_value false set found = subst (At k) (same_Some (k, h, x.values k t) o found) (refl, record { live = live; value = refl; set = set })
+  owes_by k (Some None) o live found = absurd (none-some o found)
+  owes_by k None o live found = absurd (none-some o found)
 
   owes_at : (k : ℕ) (o : Owed) → owed_for x t k ≡ Some o → At k o
   owes_at k o found = owes_by k (x.keys k) o refl found
 
   none_at : (k : ℕ) (h : HandlerId) (v : ℤ) → owed_for x t k ≡ None → Owes x t k h v → ⊥
-  none_at k h v none owes = no_owed (k, h, v) (sym none ∙ owed_now)
+  none_at k h v none owes = none-some (k, h, v) (sym none ∙ owed_now)
     where
       owed_now : owed_for x t k ≡ Some (k, h, v)
       owed_now = ap (λ (d : Option (Option HandlerId)). owed k d (x.values k t)) owes.live ∙ ap (owed k (Some (Some h))) owes.value ∙ ap (λ (b : Bool). if b then None else Some (k, h, v)) owes.set
@@ -51,12 +46,12 @@ module _ (x : Tables) (t : ℕ) where
     least : NoneOwes x t k o.0
 
   first_of : (n k : ℕ) (o : Owed) → slice_get (filter_map (owed_for x t) (range_with_len k n)) 0 ≡ Some o → IsFirstOwed k n o
-  first_of zero k o found = absurd (no_owed o found)
+  first_of zero k o found = absurd (none-some o found)
   first_of (suc n) k o found = by_owed (owed_for x t k) refl found (first_of n (k + 1) o)
     where
       by_owed : (p : Option Owed) → owed_for x t k ≡ p → slice_get (cons_option p (filter_map (owed_for x t) (range_with_len (k + 1) n))) 0 ≡ Some o → (slice_get (filter_map (owed_for x t) (range_with_len (k + 1) n)) 0 ≡ Some o → IsFirstOwed (k + 1) n o) → IsFirstOwed k (suc n) o
       by_owed (Some p) here found later =
-          let at : At k o = subst (At k) (some_owed p o found) (owes_at k p here) in
+          let at : At k o = subst (At k) (same_Some p o found) (owes_at k p here) in
           let same : k ≡ o.0 = at.0 in
           record { low = omega (arith, same); high = omega (arith, same); owes = subst (λ (i : ℕ). Owes x t i o.1 o.2) same at.1; least = λ i h v from below owes. absurd (omega (arith, same, from, below)) }
       by_owed None here found later =
@@ -99,12 +94,6 @@ module _ (x : Tables) (t : ℕ) where
 
   -- ---- the next one
 
-  some_due : (d e : Due) → Some d ≡ Some e → d ≡ e
-  some_due d e h = cc
-
-  no_due : (d : Due) → None ≡ Some d → ⊥
-  no_due d h = cc
-
   due_none : (d : Due) → Some d ≡ None → ⊥
   due_none d h = cc
 
@@ -115,13 +104,13 @@ module _ (x : Tables) (t : ℕ) where
       by_round : (o : Owed) (b : Bool) → nat_lt r.number round_limit ≡ b → first_live x t r.from ≡ None → first_live x t 0 ≡ Some o → (if b then Some (due (r.number + 1) o) else None) ≡ Some d → IsNextDue x t r d
       by_round o true fewer none first found =
           let below : r.number < round_limit = grind (arith, nat_tests) in
-          subst (IsNextDue x t r) (some_due (due (r.number + 1) o) d found) (inr (record { over = none_live r.from none; fewer = below; first = first_live_is 0 (r.number + 1) o first; more = refl }))
-      by_round o false fewer none first found = absurd (no_due d found)
+          subst (IsNextDue x t r) (same_Some (due (r.number + 1) o) d found) (inr (record { over = none_live r.from none; fewer = below; first = first_live_is 0 (r.number + 1) o first; more = refl }))
+      by_round o false fewer none first found = absurd (none-some d found)
 
       by_first : (o p : Option Owed) → first_live x t r.from ≡ o → first_live x t 0 ≡ p → due_by r o p ≡ Some d → IsNextDue x t r d
-      by_first (Some o) p here first found = subst (IsNextDue x t r) (some_due (due r.number o) d found) (inl (first_live_is r.from r.number o here, refl))
+      by_first (Some o) p here first found = subst (IsNextDue x t r) (same_Some (due r.number o) d found) (inl (first_live_is r.from r.number o here, refl))
       by_first None (Some o) here first found = by_round o (nat_lt r.number round_limit) refl here first found
-      by_first None None here first found = absurd (no_due d found)
+      by_first None None here first found = absurd (none-some d found)
 
   pub none_is : (r : Round) → next_destructor x t r ≡ None → IsNoneDue x t r
   unfolding next_destructor

@@ -1,5 +1,6 @@
 -- Only pth_cond_await waits for the notice of a condition.
 use Rattle.std.proofs.Common.{◌≡◌, ℕ, ℤ, nat_lt, Bool, true, false, if◌then◌else◌, Option, Some, None, Result, Ok, Err, refl, sym, ◌∙◌, ap}
+use Rattle.std.proofs.lemmas.Bool.{true≢false}
 use Rattle.pth_base.specs.Program.{Functions}
 use Rattle.pth_base.specs.declared.answer.Answer.{Answer}
 use Rattle.pth_base.specs.declared.answer.Answer.TheVariants as answer
@@ -32,7 +33,6 @@ use Rattle.pth_model.specs.Io.{trial_for, begins_waiting, tries}
 use Rattle.pth_model.specs.LibraryControl.{ctrl}
 use Rattle.pth_model.specs.Rows.{row_of}
 use Rattle.pth_model.specs.ThreadControl.{joined, join_attempt}
-use Rattle.pth_laws.proofs.Living.{true_false}
 
 abbrev pub is_notice : Awaits → Bool
 is_notice (awaits.Notice c) = true
@@ -207,7 +207,7 @@ module _ {P S H : Type 0} (f : P → Functions S H) (s : State P S H) (t : ℕ) 
   begins_unnoticed (call.RwRelease l) other = search result_none
   begins_unnoticed (call.CondInit c) other = search result_none
   begins_unnoticed (call.CondNotify c v) other = search result_none
-  begins_unnoticed (call.CondAwait c m e) other = absurd (true_false other)
+  begins_unnoticed (call.CondAwait c m e) other = absurd (true≢false other)
   begins_unnoticed (call.BarrierInit b n) other = search result_none
   begins_unnoticed (call.BarrierReach b) other = reach_none b (arrival_answer s.control.barriers b)
   begins_unnoticed (call.Usleep n) other = search when_none

@@ -2,7 +2,7 @@
 use Rattle.std.proofs.Common.{◌≡◌, ℕ, zero, suc, ◌+◌, ◌==◌, ◌&&◌, ◌||◌, nat_lt, ℤ, pos, negsuc, Bool, true, false, if◌then◌else◌, List, [], ◌∷◌, ◌++◌, fold, Option, Some, None, refl, sym, ◌∙◌, ap, ap₂, subst, append_assoc, arith}
 use Rattle.std.specs.List.{list_any, list_all}
 use Rattle.std.proofs.Math.Bool.{or-false, or_assoc}
-use Rattle.std.proofs.lemmas.Bool.{true≢false, false≢true, and_parts}
+use Rattle.std.proofs.lemmas.Bool.{true≢false, false≢true, and_parts, or_parts}
 use Rattle.std.proofs.lemmas.Bool.Decides.{nat_tests}
 use Rattle.std.proofs.lemmas.List.{append-nil}
 use Rattle.std.proofs.lemmas.List.Folds.{list_any-append}
@@ -27,7 +27,6 @@ use Rattle.pth_model.proofs.Told.{told_more}
 use Rattle.pth_laws.specs.Marks.{thread_of, is_end_of, is_cancellation_of, is_call_of, is_of_block, block_at_end, before_block}
 use Rattle.pth_laws.specs.Orderly.{pending_after, pending_handlers, handlers_in, AreHandlersFirst, Stage, first_stage, IsNext, IsSequence, IsOrderlyAt, Orderly}
 use Rattle.pth_laws.proofs.Book.{Book, BlockRun, Open, Closed, empty_book, book_of, after, is_kill, block_after, ended_after, canceled_after, ran_nothing, ran_by, is_before_destructors, is_value, with_handler, with_destructor}
-use Rattle.pth_laws.proofs.Held.{neither}
 use Rattle.pth_laws.proofs.KeyMarks.{KeysFit, StageFits, keys_fit_none, keys_fit_after, keys_fit_along, next_said, stage_said, none_next_said}
 use Rattle.pth_laws.proofs.Laws.{EachMark, HasNotEnded, IsEndOrderly, IsUncanceled, IsInItsOrder, IsOrderlyMark, IsLawful}
 use Rattle.pth_laws.proofs.NextDue.{next_is as due_next, none_is as due_none}
@@ -169,7 +168,7 @@ module _ (t : ℕ) where
   pending_along : (k : Resources) (ms : List Mark) → list_any is_kill ms ≡ false → (told_all k ms).store.cleanups t ≡ fold (pending_after t) (k.store.cleanups t) ms
   pending_along k [] on = refl
   pending_along k (m ∷ ms) on =
-      let (first, rest) = neither (is_kill m) (list_any is_kill ms) on in
+      let (first, rest) = or_parts (is_kill m) (list_any is_kill ms) on in
       pending_along (told k m) ms rest ∙ ap (λ cs. fold (pending_after t) cs ms) (pending_more k m first)
 
 -- ---- the block
@@ -375,7 +374,7 @@ module _ (t : ℕ) where
       due_more b before s r u key v ms f fits
       (λ r2 s2 fits2 due2. sequence_said (after b m) (before ++ m ∷ []) ms s2 r2 on law.1 (keys_fit_after t b before m refl law.0.1 f) fits2 due2) due
   sequence_said b before (m ∷ ms) s r on law f fits due =
-      let (first, rest) = neither (is_kill m) (list_any is_kill ms) on in
+      let (first, rest) = or_parts (is_kill m) (list_any is_kill ms) on in
       sequence_said (after b m) (before ++ m ∷ []) ms s r rest law.1 (keys_fit_after t b before m first law.0.1 f) fits due
 
 -- ---- one mark, by the marks before it
@@ -398,10 +397,10 @@ module _ (before : List Mark) where
 
   -- where a thread has not ended, nobody killed the run
   pub unkilled : (t : ℕ) → book.ended t ≡ false → list_any is_kill before ≡ false
-  unkilled t up = none_of is_kill (ends t) (λ m h. (neither (is_end_of t m) (is_kill m) h).1) before (sym (ended_is t) ∙ up)
+  unkilled t up = none_of is_kill (ends t) (λ m h. (or_parts (is_end_of t m) (is_kill m) h).1) before (sym (ended_is t) ∙ up)
 
   pub not_ended : (t : ℕ) → book.ended t ≡ false → list_any (is_end_of t) before ≡ false
-  not_ended t up = none_of (is_end_of t) (ends t) (λ m h. (neither (is_end_of t m) (is_kill m) h).0) before (sym (ended_is t) ∙ up)
+  not_ended t up = none_of (is_end_of t) (ends t) (λ m h. (or_parts (is_end_of t m) (is_kill m) h).0) before (sym (ended_is t) ∙ up)
 
   -- in a run that nobody killed a thread has ended where it has an end
   pub ended_told : (t : ℕ) → list_any is_kill before ≡ false → book.ended t ≡ list_any (is_end_of t) before
@@ -410,7 +409,7 @@ module _ (before : List Mark) where
       same : (ms : List Mark) → list_any is_kill ms ≡ false → list_any (ends t) ms ≡ list_any (is_end_of t) ms
       same [] on = refl
       same (m ∷ ms) on =
-          let (first, rest) = neither (is_kill m) (list_any is_kill ms) on in
+          let (first, rest) = or_parts (is_kill m) (list_any is_kill ms) on in
           ap₂ (λ (x y : Bool). x || y) (ap (λ (b : Bool). is_end_of t m || b) first ∙ or-false (is_end_of t m)) (same ms rest)
 
   -- where nobody killed the run
@@ -446,7 +445,7 @@ module _ (before : List Mark) where
         let b = book_of empty_book first in
         let all : EachMark IsLawful empty_book (first ++ block) = subst (EachMark IsLawful empty_book) (sym (parts t before)) law in
         let none : list_any is_kill (first ++ block) ≡ false = subst (λ (ms : List Mark). list_any is_kill ms ≡ false) (sym (parts t before)) on in
-        let (none_first, none_block) = neither (list_any is_kill first) (list_any is_kill block) (sym (list_any-append is_kill first block) ∙ none) in
+        let (none_first, none_block) = or_parts (list_any is_kill first) (list_any is_kill block) (sym (list_any-append is_kill first block) ∙ none) in
         sequence_said t b first block first_stage first_round none_block (each_later IsLawful empty_book first block all)
         (keys_fit_along t empty_book [] first none_first (each_before IsLawful empty_book first block all) (keys_fit_none t))
         (record { rounds = refl; last = refl })

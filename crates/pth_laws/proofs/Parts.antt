@@ -2,6 +2,8 @@
 use Rattle.std.proofs.Common.{◌≡◌, ℕ, ◌+◌, min, Bool, true, false, ℤ, pos, ◌+ℤ◌, List, [], ◌∷◌, reverse, All, Option, Some, None, option_map, refl, sym, ◌∙◌, ap, subst, ◌⊎◌, inl, inr}
 use Rattle.std.proofs.lemmas.List.Elements.{All-head, All-tail, All-weaker, All-filter}
 use Rattle.std.proofs.lemmas.List.Sorted.{IsPermutation-reverse, All-permutation}
+use Rattle.std.proofs.lemmas.Bool.{true≢false}
+use Rattle.std.proofs.lemmas.Option.{none-some, same_Some}
 use Rattle.pth_base.specs.Limits.{last_count}
 use Rattle.pth_base.specs.Program.{Functions}
 use Rattle.pth_base.specs.Table.{put}
@@ -32,12 +34,12 @@ use Rattle.pth_model.specs.Part.{Part, next_part, next_part_by, unless_ended, is
 use Rattle.pth_model.proofs.Once.{shown-all}
 use Rattle.pth_laws.proofs.Book.{Book, Closed, after, book_of}
 use Rattle.pth_laws.proofs.Laws.{EachMark}
-use Rattle.pth_laws.proofs.Living.{Living, to_run_lives, true_false, runs_alive, state_safe, changed_lives, living-up, living-made, living-alive, living_leaves, living_sets, living_enters, living_ready}
+use Rattle.pth_laws.proofs.Living.{Living, to_run_lives, runs_alive, state_safe, changed_lives, living-up, living-made, living-alive, living_leaves, living_sets, living_enters, living_ready}
 use Rattle.pth_laws.proofs.Going.{Going}
 use Rattle.pth_laws.proofs.Awaits.{HasAwaits, Flags, flags, awaits_set, awaits_moved, awaits_enter, awaits_leave, awaits_go, awaits_look}
 use Rattle.pth_laws.proofs.Claims.{HasClaims, claims_set, claims_moved, claims_enter, claims_leave, claims_go, claims_look}
 use Rattle.pth_laws.proofs.Walk.{Walk, IsMarked, each_marked, walk_then}
-use Rattle.pth_laws.proofs.Steps.{AfterStep, some_number, step_walk}
+use Rattle.pth_laws.proofs.Steps.{AfterStep, step_walk}
 
 -- the first n numbers are of threads that were made, and of these have ended: who is left
 abbrev pub IsUp : ℕ → (ℕ → Bool) → ℕ → Type 0
@@ -71,17 +73,14 @@ pub record PartWalk {P S H : Type 0} (n : ℕ) (b : Book) (c : Course P S H) : T
   pub law : EachMark (IsMarked n) b c.marks
   pub post : (c.turn.outcome ≡ outcome.Killed → ⊥) → IsSettled n (book_of b c.marks) c.state c.turn
 
-pub none_some : (t : ℕ) → None ≡ Some t → ⊥
-none_some t h = cc
-
 some_none : (t : ℕ) → Some t ≡ None → ⊥
 some_none t h = cc
 
 -- whom a dispatch takes
 chosen_up : (n : ℕ) (ended : ℕ → Bool) (named : Option ℕ) (rows : List Ranked) → ((t : ℕ) → named ≡ Some t → IsUp n ended t) → All (IsUp n ended) (holders rows) → (t : ℕ) → chosen named rows ≡ Some t → IsUp n ended t
 chosen_up n ended (Some u) rows up all t h = up t h
-chosen_up n ended None [] up all t h = absurd (none_some t h)
-chosen_up n ended None (x ∷ rows) up all t h = subst (IsUp n ended) (some_number x.holder t h) (All-head (IsUp n ended) x.holder (holders rows) all)
+chosen_up n ended None [] up all t h = absurd (none-some t h)
+chosen_up n ended None (x ∷ rows) up all t h = subst (IsUp n ended) (same_Some x.holder t h) (All-head (IsUp n ended) x.holder (holders rows) all)
 
 running_now : (t count : ℕ) (known : ℕ → Option Entry) → lives (known t) ≡ true → (or_nobody (put (put known t (option_map (changed (change.State state.Running)) (known t))) t (option_map (changed (change.Dispatches count)) (put known t (option_map (changed (change.State state.Running)) (known t)) t)) t)).state ≡ state.Running
 unfolding changed
@@ -91,7 +90,7 @@ running_now t count known alive =
     ∙ by_entry (known t) alive
   where
     by_entry : (o : Option Entry) → lives o ≡ true → (or_nobody (option_map (changed (change.Dispatches count)) (option_map (changed (change.State state.Running)) o))).state ≡ state.Running
-    by_entry None h = absurd (true_false (sym h))
+    by_entry None h = absurd (true≢false (sym h))
     by_entry (Some e) h = refl
 
 dispatch_safe : (count : ℕ) (e : Entry) → is_dead (changed (change.Dispatches count) e).state ≡ is_dead e.state
@@ -109,10 +108,10 @@ module _ {P S H : Type 0} (n : ℕ) where
     living = r.living;
     claims = r.claims;
     awaits = r.awaits;
-    runs = λ t h. absurd (none_some t (sym r.running ∙ h));
-    gave = λ t g. absurd (none_some t (sym none ∙ g));
+    runs = λ t h. absurd (none-some t (sym r.running ∙ h));
+    gave = λ t g. absurd (none-some t (sym none ∙ g));
     preferred = λ t h. alive_up b s r t (r.preferred t h);
-    unnamed = λ t h g. absurd (none_some t (sym r.running ∙ h));
+    unnamed = λ t h g. absurd (none-some t (sym r.running ∙ h));
   }
 
   -- who stands in a queue but that of the dead is up
@@ -193,9 +192,9 @@ module _ {P S H : Type 0} (n : ℕ) where
           living = living_sets n b.ended t (change.Dispatches count) c (λ e h. dispatch_safe count e) lc;
           claims = claims_set t (change.Dispatches count) c (λ e h. dispatch_safe count e) (claims_set t (change.State state.Running) a (state_safe state.Running refl (k.threads.known t) alive) (claims_leave t k r.claims));
           awaits = awaits_set (flags b s.resources.awaits) t (change.Dispatches count) c (λ e h. dispatch_safe count e) (awaits_set (flags b s.resources.awaits) t (change.State state.Running) a (state_safe state.Running refl (k.threads.known t) alive) (awaits_leave (flags b s.resources.awaits) t k r.awaits));
-          runs = λ u h. subst (λ (v : ℕ). (or_nobody (put (put k.threads.known t (option_map (changed (change.State state.Running)) (k.threads.known t))) t (option_map (changed (change.Dispatches count)) (put k.threads.known t (option_map (changed (change.State state.Running)) (k.threads.known t)) t)) v)).state ≡ state.Running) (some_number t u h) (running_now t count k.threads.known alive);
-          gave = λ u g. absurd (none_some u (sym none ∙ g));
-          preferred = λ u h. absurd (none_some u h);
+          runs = λ u h. subst (λ (v : ℕ). (or_nobody (put (put k.threads.known t (option_map (changed (change.State state.Running)) (k.threads.known t))) t (option_map (changed (change.Dispatches count)) (put k.threads.known t (option_map (changed (change.State state.Running)) (k.threads.known t)) t)) v)).state ≡ state.Running) (same_Some t u h) (running_now t count k.threads.known alive);
+          gave = λ u g. absurd (none-some u (sym none ∙ g));
+          preferred = λ u h. absurd (none-some u h);
           unnamed = λ u h g. refl;
         };
       }
@@ -241,7 +240,7 @@ module _ {P S H : Type 0} (n : ℕ) where
       record {
         made = refl;
         living = living_enters n ended t q (prio_of k t) false (sets t (change.State at) k)
-            ((λ h. ap lives (put_here k.threads.known t (option_map (changed (change.State at)) (k.threads.known t))) ∙ changed_lives (change.State at) (k.threads.known t) safe ∙ alive), λ dead. absurd (true_false (sym dead ∙ living)))
+            ((λ h. ap lives (put_here k.threads.known t (option_map (changed (change.State at)) (k.threads.known t))) ∙ changed_lives (change.State at) (k.threads.known t) safe ∙ alive), λ dead. absurd (true≢false (sym dead ∙ living)))
             (living_sets n ended t (change.State at) k safe l);
         claims = claims_enter t q (prio_of k t) false (sets t (change.State at) k) (claims_set t (change.State at) k safe claims);
         fits = awaits_enter awaits t q (prio_of k t) false (sets t (change.State at) k) (awaits_set awaits t (change.State at) k safe fits);
@@ -273,7 +272,7 @@ module _ {P S H : Type 0} (n : ℕ) where
     where
       by_gave : (u : ℕ) → s.control.scheduler.running ≡ Some u → (s.control.scheduler.running ≡ Some t) ⊎ ((s.control.scheduler.running ≡ None) × (b.ended t ≡ true)) → s.control.scheduler.running ≡ Some t
       by_gave u h (inl runs) = runs
-      by_gave u h (inr rests) = absurd (none_some u (sym rests.0 ∙ h))
+      by_gave u h (inr rests) = absurd (none-some u (sym rests.0 ∙ h))
 
       preferred_up : (u : ℕ) → lives (s.control.threads.known u) ≡ true → IsUp n b.ended u
       preferred_up u alive = (ap (λ m. is_made m u) (sym made) ∙ living-made n b.ended s.control.threads.made s.control.threads.known s.control.threads.standing z.living u alive, living-up n b.ended s.control.threads.made s.control.threads.known s.control.threads.standing z.living u alive)
@@ -309,9 +308,9 @@ module _ {P S H : Type 0} (n : ℕ) where
     living = h.living;
     claims = claims_owed t (next.Done a) u.control h.claims;
     awaits = awaits_owed (flags c u.resources.awaits) t (next.Done a) u.control h.awaits;
-    runs = λ v run. subst (λ (i : ℕ). (or_nobody (u.control.threads.known i)).state ≡ state.Running) (some_number t v (sym h.left.0 ∙ run)) h.left.1;
-    gave = λ v g. absurd (none_some v (sym none ∙ g));
-    preferred = λ v named. absurd (none_some v (sym h.left.2 ∙ named));
+    runs = λ v run. subst (λ (i : ℕ). (or_nobody (u.control.threads.known i)).state ≡ state.Running) (same_Some t v (sym h.left.0 ∙ run)) h.left.1;
+    gave = λ v g. absurd (none-some v (sym none ∙ g));
+    preferred = λ v named. absurd (none-some v (sym h.left.2 ∙ named));
     unnamed = λ v run g. h.left.2;
   }
   owed_settles t (next.Yields a) c u y none h on = record {
@@ -320,7 +319,7 @@ module _ {P S H : Type 0} (n : ℕ) where
     living = h.living;
     claims = claims_owed t (next.Yields a) u.control h.claims;
     awaits = awaits_owed (flags c u.resources.awaits) t (next.Yields a) u.control h.awaits;
-    runs = λ v run. subst (λ (i : ℕ). (or_nobody (u.control.threads.known i)).state ≡ state.Running) (some_number t v (sym h.left.0 ∙ run)) h.left.1;
+    runs = λ v run. subst (λ (i : ℕ). (or_nobody (u.control.threads.known i)).state ≡ state.Running) (same_Some t v (sym h.left.0 ∙ run)) h.left.1;
     gave = λ v g. inl (h.left.0 ∙ g);
     preferred = λ v named. to_run_lives (u.control.threads.known v) (h.left.2 v named);
     unnamed = λ v run g. absurd (some_none t g);
@@ -331,9 +330,9 @@ module _ {P S H : Type 0} (n : ℕ) where
     living = h.living;
     claims = claims_owed t next.Waits u.control h.claims;
     awaits = awaits_owed (flags c u.resources.awaits) t next.Waits u.control h.awaits;
-    runs = λ v run. subst (λ (i : ℕ). (or_nobody (u.control.threads.known i)).state ≡ state.Running) (some_number t v (sym h.left.0 ∙ run)) h.left.1;
+    runs = λ v run. subst (λ (i : ℕ). (or_nobody (u.control.threads.known i)).state ≡ state.Running) (same_Some t v (sym h.left.0 ∙ run)) h.left.1;
     gave = λ v g. inl (h.left.0 ∙ g);
-    preferred = λ v named. absurd (none_some v (sym h.left.2 ∙ named));
+    preferred = λ v named. absurd (none-some v (sym h.left.2 ∙ named));
     unnamed = λ v run g. h.left.2;
   }
   owed_settles t (next.Ended value) c u y none h on = record {
@@ -342,10 +341,10 @@ module _ {P S H : Type 0} (n : ℕ) where
     living = h.living;
     claims = claims_owed t (next.Ended value) u.control h.claims;
     awaits = awaits_owed (flags c u.resources.awaits) t (next.Ended value) u.control h.awaits;
-    runs = λ v run. absurd (none_some v (sym h.left.0 ∙ run));
-    gave = λ v g. inr (h.left.0, subst (λ (i : ℕ). c.ended i ≡ true) (some_number t v g) h.gone);
-    preferred = λ v named. absurd (none_some v (sym h.left.1 ∙ named));
-    unnamed = λ v run g. absurd (none_some v (sym h.left.0 ∙ run));
+    runs = λ v run. absurd (none-some v (sym h.left.0 ∙ run));
+    gave = λ v g. inr (h.left.0, subst (λ (i : ℕ). c.ended i ≡ true) (same_Some t v g) h.gone);
+    preferred = λ v named. absurd (none-some v (sym h.left.1 ∙ named));
+    unnamed = λ v run g. absurd (none-some v (sym h.left.0 ∙ run));
   }
   owed_settles t next.Killed c u y none h on = absurd (on refl)
 

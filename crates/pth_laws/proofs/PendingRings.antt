@@ -3,6 +3,8 @@ use Rattle.std.proofs.Common.{◌≡◌, ◌≢◌, ◌⊎◌, ℕ, ◌+◌, ◌
 use Rattle.std.specs.Option.{ok_or}
 use Rattle.std.proofs.lemmas.List.Concat.{flat_map-cons}
 use Rattle.std.proofs.lemmas.List.Elements.{All-nil, All-cons, All-weaker, All-contains}
+use Rattle.std.proofs.lemmas.Bool.{true≢false}
+use Rattle.std.proofs.lemmas.Option.{same_Some, none-some}
 use Rattle.pth_base.specs.Chain.{StandsIn}
 use Rattle.pth_base.specs.Program.{Functions}
 use Rattle.pth_base.specs.Table.{put}
@@ -46,12 +48,11 @@ use Rattle.pth_model.specs.Part.{closes, is_placed, is_put_waiting, placed_by, t
 use Rattle.pth_model.specs.Pass.{all_woken, comes_for, is_ready_at, is_to_wake, looks, pass, to_wake, waiting, woken}
 use Rattle.pth_model.specs.Run.{run}
 use Rattle.pth_laws.specs.Kept.{IsWaiting}
-use Rattle.pth_laws.proofs.Living.{true_false}
 use Rattle.pth_laws.proofs.Allowed.{IsFree}
 use Rattle.pth_laws.proofs.Along.{KeptAlong, KeptBySteps, Arrangement, IsStepSafe, arranged, life_of_step, left_stands, MayArrange, pass_keeps, put_back_keeps, raises_keeps, run_keeps_through, standers, state_of}
 use Rattle.pth_laws.proofs.Circles.{Comes, mates, none_any, unclaimed_in, comes_by}
 use Rattle.pth_laws.proofs.RingEvents.{run_events_there}
-use Rattle.pth_laws.proofs.Claimed.{FitsIn, claimed_there, fits_kept, fits_start, none_some, one_same, some_same, stands}
+use Rattle.pth_laws.proofs.Claimed.{FitsIn, claimed_there, fits_kept, fits_start, one_same, stands}
 
 -- no event of a ring is settled
 abbrev IsPending : Events → Option ℤ → Type 0
@@ -112,7 +113,7 @@ filter_in p (x ∷ xs) u passes h = by_test (p x) refl h (filter_in p xs u passe
     by_test : (b : Bool) → p x ≡ b → StandsIn u (x ∷ xs) → (StandsIn u xs → StandsIn u (filter p xs)) → StandsIn u (if b then x ∷ filter p xs else filter p xs)
     by_test true own (inl here) more = inl here
     by_test true own (inr h) more = inr (more h)
-    by_test false own (inl here) more = absurd (true_false (sym passes ∙ ap p here ∙ own))
+    by_test false own (inl here) more = absurd (true≢false (sym passes ∙ ap p here ∙ own))
     by_test false own (inr h) more = more h
 
 -- what stands in one of these lists
@@ -203,8 +204,8 @@ ready_waits_not None h = cc
 ready_waits_not (Some e) h = cc
 
 neither_of_three : (a b c : Bool) → (a || b || c) ≡ false → b ≡ false
-neither_of_three true b c h = absurd (true_false h)
-neither_of_three false true c h = absurd (true_false h)
+neither_of_three true b c h = absurd (true≢false h)
+neither_of_three false true c h = absurd (true≢false h)
 neither_of_three false false c h = refl
 
 module _ {P S H : Type 0} where
@@ -287,7 +288,7 @@ module _ {P S H : Type 0} where
 
           -- an event in whose ring this claim stands is claimed
           not_free : (g : ℕ) → StandsIn (number i) (x.rings g) → is_claimed x g ≡ false → ⊥
-          not_free g within free = none_some u (sym (unclaimed_in x g (number i) free within) ∙ claim)
+          not_free g within free = none-some u (sym (unclaimed_in x g (number i) free within) ∙ claim)
 
           by_event : StandsIn e (x.rings (number i)) → Comes x y e → is_settled (y.events e) ≡ false
           by_event within (inl same) = ap is_settled same.event ∙ r u w e (subst (λ (o : Option ℤ). StandsIn e (events_from x o)) (sym held) within)
@@ -434,7 +435,7 @@ module _ {P S H : Type 0} where
           let other : claimant x (number j) ≡ Some v = fits.held v (number j) (ap (option_map number) two) in
           let within : StandsIn (number j) (x.rings (number i)) = StandsIn-unturned (number j) e (x.rings (number i)) h (subst (StandsIn (number j)) (fits.circles.turns (number i) e h) (mates x fits.circles (number j) e k)) in
           let same = fits.one (number i) (number j) u v own other within in
-          some_same v u (sym other ∙ ap (claimant x) (sym same) ∙ own)
+          same_Some v u (sym other ∙ ap (claimant x) (sym same) ∙ own)
 
   -- of those that wait, whom a pass does not see holds no ring with a settled event
   abbrev LeavesPending : State P S H → Type 0
@@ -538,11 +539,11 @@ module _ {P S H : Type 0} where
 
       by_status : (v : Status) → not (is_pending v) ≡ false → v ≡ Pending
       by_status Pending h = refl
-      by_status Occurred h = absurd (true_false h)
-      by_status Failed h = absurd (true_false h)
+      by_status Occurred h = absurd (true≢false h)
+      by_status Failed h = absurd (true≢false h)
 
       by_event : (o : Option Event) → is_some o ≡ true → is_settled o ≡ false → ok_or (option_map (λ (v : Event). v.status) o) EINVAL ≡ Ok Pending
-      by_event None here still = absurd (true_false (sym here))
+      by_event None here still = absurd (true≢false (sym here))
       by_event (Some v) here still = ap Ok (by_status v.status still)
 
       by_place : IsWaiting s t → Waits s t

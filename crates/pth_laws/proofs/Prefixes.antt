@@ -1,10 +1,10 @@
 -- What holds wherever a mark stands in a list, and of the marks before it.
 use Rattle.std.proofs.Common.{◌≡◌, Bool, false, List, [], ◌∷◌, ◌++◌, refl, sym, subst, append_assoc, append-nil}
 use Rattle.std.specs.List.{list_any}
+use Rattle.std.proofs.lemmas.Bool.{or_parts, or_from}
 use Rattle.pth_base.specs.declared.mark.Mark.{Mark}
 use Rattle.pth_laws.proofs.Book.{Book, after, book_of}
 use Rattle.pth_laws.proofs.Laws.{EachMark}
-use Rattle.pth_laws.proofs.Held.{neither, both_not}
 
 module _ (A : Book → Mark → Type 0) where
   pub each_before : (b : Book) (before later : List Mark) → EachMark A b (before ++ later) → EachMark A b before
@@ -24,7 +24,7 @@ module _ (A : Book → Mark → Type 0) where
 -- if a test fails on a list, so does one that holds less often
 pub none_of : (p r : Mark → Bool) → ((m : Mark) → r m ≡ false → p m ≡ false) → (ms : List Mark) → list_any r ms ≡ false → list_any p ms ≡ false
 none_of p r f [] h = refl
-none_of p r f (m ∷ ms) h = let (first, rest) = neither (r m) (list_any r ms) h in both_not _ _ (f m first) (none_of p r f ms rest)
+none_of p r f (m ∷ ms) h = let (first, rest) = or_parts (r m) (list_any r ms) h in or_from _ _ (f m first) (none_of p r f ms rest)
 
 -- ---- sentences on a mark and the marks before it, mark by mark
 

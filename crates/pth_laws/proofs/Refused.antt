@@ -1,6 +1,7 @@
 -- Lists that laws refuse, and lists that they take.
 use Rattle.std.proofs.Common.{◌≡◌, ◌≢◌, ◌<◌, ◌≤◌, ◌⊎◌, ℕ, ◌==◌, pos, negsuc, Bool, true, false, List, [], ◌∷◌, length, nat_le, ℤ, int_le, refl, ap, sym, ◌∙◌, subst, if◌then◌else◌, inl, inr, Some, None, arith}
 use Rattle.std.specs.List.{list_any}
+use Rattle.std.proofs.lemmas.Bool.{and_parts, true≢false}
 use Rattle.pth_base.specs.declared.act.Act.TheVariants as act
 use Rattle.pth_base.specs.declared.answer.Answer.TheVariants.{Int}
 use Rattle.pth_base.specs.declared.call.Call.TheVariants as call
@@ -18,12 +19,8 @@ use Rattle.pth_laws.specs.Exclusive.{Exclusive, is_of, awaits, takes, gives, giv
 use Rattle.pth_laws.specs.Initialised.{Initialised, initialises_mutex, IsInitialisedAt}
 use Rattle.pth_laws.specs.Examples
 use Rattle.pth_laws.specs.Examples.{one, two, handler_of_number, done_by, takes_mutex, enters_it, awaits_it, with_value}
-use Rattle.pth_laws.proofs.Living.{both}
 use Rattle.pth_laws.proofs.Numbers.{same_number}
 use Rattle.pth_laws.proofs.Prefixes.{said_each}
-
-differ : true ≡ false → ⊥
-differ h = cc
 
 one_is_zero : ◌≡◌ {A = ℕ} 1 0 → ⊥
 one_is_zero h = omega (arith, h)
@@ -37,10 +34,10 @@ end_of_one = mark.Ended one (pos 0)
 -- ---- orderly
 
 pub no_answer : Orderly Examples.an_answer_after_a_cancellation → ⊥
-no_answer h = differ ((h (mark.Canceled one None ∷ []) [] (mark.Answered one call.SelfTid (Int (pos 1))) refl).no_call_after_cancellation 1 refl)
+no_answer h = true≢false ((h (mark.Canceled one None ∷ []) [] (mark.Answered one call.SelfTid (Int (pos 1))) refl).no_call_after_cancellation 1 refl)
 
 pub nothing_later : Orderly Examples.a_mark_after_the_end → ⊥
-nothing_later h = differ ((h (end_of_one ∷ []) [] (mark.Noted one (pos 3)) refl).no_mark_after_end 1 refl)
+nothing_later h = true≢false ((h (end_of_one ∷ []) [] (mark.Noted one (pos 3)) refl).no_mark_after_end 1 refl)
 
 pub none_left : Orderly Examples.a_destructor_is_left → ⊥
 unfolding before_block block_at_end IsSequence
@@ -58,13 +55,13 @@ pub none_missing : Orderly Examples.a_handler_is_missing → ⊥
 unfolding block_at_end handlers_in
 none_missing h =
     let before = pushed (pos 5) ∷ pushed (pos 6) ∷ mark.Handler one (handler_of_number 0) (pos 6) ∷ [] in
-    differ (ap (λ (cs : List PushedHandler). nat_le 2 (length cs)) (sym ((h before [] end_of_one refl).end_runs_all_pending one (pos 0) refl)))
+    true≢false (ap (λ (cs : List PushedHandler). nat_le 2 (length cs)) (sym ((h before [] end_of_one refl).end_runs_all_pending one (pos 0) refl)))
 
 pub none_missing_after_a_kill : Orderly Examples.an_end_after_a_kill → ⊥
 unfolding block_at_end handlers_in
 none_missing_after_a_kill h =
     let before = pushed (pos 5) ∷ done_by two call.Kill ∷ [] in
-    differ (ap (λ (cs : List PushedHandler). nat_le 1 (length cs)) (sym ((h before [] end_of_one refl).end_runs_all_pending one (pos 0) refl)))
+    true≢false (ap (λ (cs : List PushedHandler). nat_le 1 (length cs)) (sym ((h before [] end_of_one refl).end_runs_all_pending one (pos 0) refl)))
 
 -- the argument of the first
 first_argument : List PushedHandler → ℤ
@@ -75,27 +72,27 @@ pub not_first_out : Orderly Examples.first_in_first_out → ⊥
 unfolding block_at_end handlers_in first_argument
 not_first_out h =
     let before = pushed (pos 5) ∷ pushed (pos 6) ∷ mark.Handler one (handler_of_number 0) (pos 5) ∷ mark.Handler one (handler_of_number 0) (pos 6) ∷ [] in
-    differ (ap (λ (cs : List PushedHandler). int_le (first_argument cs) (pos 5)) ((h before [] end_of_one refl).end_runs_all_pending one (pos 0) refl))
+    true≢false (ap (λ (cs : List PushedHandler). int_le (first_argument cs) (pos 5)) ((h before [] end_of_one refl).end_runs_all_pending one (pos 0) refl))
 
 pub ends_with_minus_one : Orderly Examples.a_canceled_thread_ends_with_0 → ⊥
 ends_with_minus_one h = let value : pos 0 ≡ negsuc 0 = (h (mark.Canceled one None ∷ []) [] end_of_one refl).canceled_ends_with_minus_one one (pos 0) refl refl in cc
 
 pub pop_runs : Orderly Examples.a_pop_runs_nothing → ⊥
 unfolding block_at_end handlers_in
-pop_runs h = differ (ap (λ (cs : List PushedHandler). nat_le 1 (length cs)) (sym ((h (pushed (pos 5) ∷ []) [] (done_by one (call.CleanupPop (pos 1))) refl).pop_runs_last_pending one (pos 1) refl refl)))
+pop_runs h = true≢false (ap (λ (cs : List PushedHandler). nat_le 1 (length cs)) (sym ((h (pushed (pos 5) ∷ []) [] (done_by one (call.CleanupPop (pos 1))) refl).pop_runs_last_pending one (pos 1) refl refl)))
 
 pub handlers_first : Orderly Examples.a_handler_after_a_destructor → ⊥
 unfolding block_at_end handlers_in AreHandlersFirst
 handlers_first h =
     let before = pushed (pos 5) ∷ with_value 0 7 (mark.Destructor one 0 (pos 7) ∷ mark.Handler one (handler_of_number 0) (pos 5) ∷ []) in
-    differ (ap (λ (cs : List PushedHandler). nat_le 1 (length cs)) ((h before [] end_of_one refl).end_runs_handlers_first one (pos 0) refl))
+    true≢false (ap (λ (cs : List PushedHandler). nat_le 1 (length cs)) ((h before [] end_of_one refl).end_runs_handlers_first one (pos 0) refl))
 
 -- if thread 1 has values under keys 0 and 1, key 1 is not the least
 abbrev two_valued : List Mark
 two_valued = with_value 0 7 (with_value 1 8 [])
 
 not_least : IsLeast 1 two_valued None (pos 1) (pos 8) → ⊥
-not_least x = differ (sym (x.least (pos 0) (handler (pos 0)) (pos 7) refl (record { live = refl; value = refl; set = refl })))
+not_least x = true≢false (sym (x.least (pos 0) (handler (pos 0)) (pos 7) refl (record { live = refl; value = refl; set = refl })))
 
 pub least_first : Orderly Examples.a_later_destructor_first → ⊥
 unfolding before_block block_at_end IsSequence
@@ -109,7 +106,7 @@ least_first h =
 
 -- thread 1 has the value 7 under key 0, and no other
 other_value : IsLeast 1 (with_value 0 7 []) None (pos 0) (pos 8) → ⊥
-other_value x = differ (ap (λ (v : ℤ). int_le v (pos 7)) x.owes.value)
+other_value x = true≢false (ap (λ (v : ℤ). int_le v (pos 7)) x.owes.value)
 
 pub same_value : Orderly Examples.a_destructor_of_another_value → ⊥
 unfolding before_block block_at_end IsSequence
@@ -193,7 +190,7 @@ least_is = record {
 none_owed : (key : ℤ) (h : HandlerId) (v : ℤ) → Owes 1 destroyed key h v → ⊥
 none_owed key h v owes =
     let zero : value_of 1 key destroyed ≡ pos 0 = subst (λ (z : ℤ). value_of 1 z destroyed ≡ pos 0) (sym (live_is key h owes.live)) refl in
-    differ (ap is_zero (sym zero ∙ owes.value) ∙ owes.set)
+    true≢false (ap is_zero (sym zero ∙ owes.value) ∙ owes.set)
 
 end_at : (t : Tid) (v : ℤ) → end_of_one ≡ mark.Ended t v → one ≡ t
 end_at t v is = cc
@@ -203,7 +200,7 @@ unfolding before_block block_at_end handlers_in AreHandlersFirst IsSequence
 end_orderly = record {
   no_mark_after_end = λ t is. refl;
   no_call_after_cancellation = λ t is. refl;
-  canceled_ends_with_minus_one = λ t v is canceled. absurd (differ (sym canceled));
+  canceled_ends_with_minus_one = λ t v is canceled. absurd (true≢false (sym canceled));
   pop_runs_last_pending = λ t v is some. absurd (cc is);
   end_runs_all_pending = λ t v is. subst (λ (u : Tid). handlers_in (block_at_end u.0 destroyed) ≡ pending_handlers u.0 destroyed) (end_at t v is) refl;
   end_runs_handlers_first = λ t v is. subst (λ (u : Tid). AreHandlersFirst (block_at_end u.0 destroyed)) (end_at t v is) refl;
@@ -236,13 +233,13 @@ pub a_level_to_give : Exclusive Examples.a_release_without_a_level → ⊥
 a_level_to_give h = let some = (h (begun ∷ []) [] (done_by one (call.MutexRelease (pos 0))) refl).giver_has_level 1 (pos 0) refl in omega (arith, some)
 
 pub no_reader_beside : Exclusive Examples.a_writer_beside_a_reader → ⊥
-no_reader_beside h = differ ((h (lock_begun ∷ enters_it one false ∷ []) [] (enters_it two true) refl).writer_meets_no_reader 2 1 (pos 0) refl)
+no_reader_beside h = true≢false ((h (lock_begun ∷ enters_it one false ∷ []) [] (enters_it two true) refl).writer_meets_no_reader 2 1 (pos 0) refl)
 
 pub no_writer_beside : Exclusive Examples.a_reader_beside_a_writer → ⊥
-no_writer_beside h = differ ((h (lock_begun ∷ enters_it one true ∷ []) [] (enters_it two false) refl).meets_no_writer 2 1 (pos 0) false refl)
+no_writer_beside h = true≢false ((h (lock_begun ∷ enters_it one true ∷ []) [] (enters_it two false) refl).meets_no_writer 2 1 (pos 0) false refl)
 
 pub no_other_leaves : Exclusive Examples.a_lock_left_by_another → ⊥
-no_other_leaves h = differ (sym ((h (lock_begun ∷ enters_it one false ∷ []) [] (done_by two (call.RwRelease (pos 0))) refl).leaver_holds 2 (pos 0) refl))
+no_other_leaves h = true≢false (sym ((h (lock_begun ∷ enters_it one false ∷ []) [] (done_by two (call.RwRelease (pos 0))) refl).leaver_holds 2 (pos 0) refl))
 
 pub all_given_up : Exclusive Examples.a_release_after_all_was_given_up → ⊥
 all_given_up h = let some = (h (begun ∷ takes_mutex one (pos 0) ∷ takes_mutex one (pos 0) ∷ mark.GaveMutex one 0 ∷ []) [] (done_by one (call.MutexRelease (pos 0))) refl).giver_has_level 1 (pos 0) refl in omega (arith, some)
@@ -268,7 +265,7 @@ pub no_mutex_left : Exclusive Examples.a_mutex_at_an_end → ⊥
 no_mutex_left h = one_is_zero ((h (begun ∷ takes_mutex one (pos 0) ∷ []) [] end_of_one refl).end_has_no_level 1 (pos 0) refl)
 
 pub no_lock_left : Exclusive Examples.a_lock_at_an_end → ⊥
-no_lock_left h = differ ((h (lock_begun ∷ enters_it one false ∷ []) [] end_of_one refl).end_holds_no_lock 1 (pos 0) refl)
+no_lock_left h = true≢false ((h (lock_begun ∷ enters_it one false ∷ []) [] end_of_one refl).end_holds_no_lock 1 (pos 0) refl)
 
 pub none_left_after_a_kill : Exclusive Examples.a_kill_keeps_levels → ⊥
 none_left_after_a_kill h = one_is_zero ((h (begun ∷ takes_mutex two (pos 0) ∷ done_by one call.Kill ∷ []) [] (mark.Ended two (pos 0)) refl).end_has_no_level 2 (pos 0) refl)
@@ -292,20 +289,20 @@ exclusive_by : (before : List Mark) (m : Mark) → DoesOnly before m → IsExclu
 exclusive_by before m d = record {
   taker_is_alone = d.alone;
   giver_has_level = d.has;
-  given_up_was_had = λ t i h. absurd (differ (sym h ∙ d.gives_nothing_up t i));
+  given_up_was_had = λ t i h. absurd (true≢false (sym h ∙ d.gives_nothing_up t i));
   meets_no_writer = d.no_writer;
   writer_meets_no_reader = d.no_reader;
-  leaver_holds = λ t l h. absurd (differ (sym h ∙ d.leaves_nothing t l));
-  end_has_no_level = λ t i h. absurd (differ (sym h ∙ d.ends_nobody t));
-  end_holds_no_lock = λ t l h. absurd (differ (sym h ∙ d.ends_nobody t));
+  leaver_holds = λ t l h. absurd (true≢false (sym h ∙ d.leaves_nothing t l));
+  end_has_no_level = λ t i h. absurd (true≢false (sym h ∙ d.ends_nobody t));
+  end_holds_no_lock = λ t l h. absurd (true≢false (sym h ∙ d.ends_nobody t));
 }
 
 nothing_done : (before : List Mark) (m : Mark) → ((t : ℕ) (i : ℤ) (x : Bool) → takes t i x m ≡ false) → ((t : ℕ) (i : ℤ) (x : Bool) → gives t i x m ≡ false) → ((t : ℕ) (l : ℤ) (write : Bool) → enters t l write m ≡ false) → ((t : ℕ) (i : ℤ) → gives_up t i m ≡ false) → ((t : ℕ) (l : ℤ) → leaves t l m ≡ false) → ((t : ℕ) → is_end_of t m ≡ false) → IsExclusiveAt before m
 nothing_done before m takes gives enters up leaves ends = exclusive_by before m (record {
-  alone = λ t u i h. absurd (differ (sym h ∙ takes t i (awaits t before)));
-  has = λ t i h. absurd (differ (sym h ∙ gives t i (awaits t before)));
-  no_writer = λ t u l write h. absurd (differ (sym h ∙ enters t l write));
-  no_reader = λ t u l h. absurd (differ (sym h ∙ enters t l true));
+  alone = λ t u i h. absurd (true≢false (sym h ∙ takes t i (awaits t before)));
+  has = λ t i h. absurd (true≢false (sym h ∙ gives t i (awaits t before)));
+  no_writer = λ t u l write h. absurd (true≢false (sym h ∙ enters t l write));
+  no_reader = λ t u l h. absurd (true≢false (sym h ∙ enters t l true));
   gives_nothing_up = up;
   leaves_nothing = leaves;
   ends_nobody = ends;
@@ -317,10 +314,10 @@ begun_exclusive m before = nothing_done before (done_by one (call.MutexInit m)) 
 -- who takes a mutex of which no other thread has a level
 takes_exclusive : (t : ℕ) (m : ℤ) (before : List Mark) → ((u : ℕ) (i : ℤ) → is_of t i t m ≡ true → u ≢ t → levels u i before ≡ 0) → IsExclusiveAt before (takes_mutex (record { 0 = t }) m)
 takes_exclusive t m before none = exclusive_by before (takes_mutex (record { 0 = t }) m) (record {
-  alone = λ v u i h apart. let own : t ≡ v = same_means t v (both (is_same i m) (t == v) h).1 in none u i (subst (λ (w : ℕ). is_of w i t m ≡ true) (sym own) h) (λ same. apart (same ∙ own));
-  has = λ v i h. absurd (differ (sym h));
-  no_writer = λ v u l write h. absurd (differ (sym h));
-  no_reader = λ v u l h. absurd (differ (sym h));
+  alone = λ v u i h apart. let own : t ≡ v = same_means t v (and_parts (is_same i m) (t == v) h).1 in none u i (subst (λ (w : ℕ). is_of w i t m ≡ true) (sym own) h) (λ same. apart (same ∙ own));
+  has = λ v i h. absurd (true≢false (sym h));
+  no_writer = λ v u l write h. absurd (true≢false (sym h));
+  no_reader = λ v u l h. absurd (true≢false (sym h));
   gives_nothing_up = λ v i. refl;
   leaves_nothing = λ v l. refl;
   ends_nobody = λ v. refl;
@@ -347,10 +344,10 @@ two_taken = said_each IsExclusiveAt Examples.an_acquire_answered_two (
 -- a reader, if nobody writes
 reads_exclusive : (before : List Mark) → ((u : ℕ) (l : ℤ) → writes u l before ≡ false) → IsExclusiveAt before (enters_it one false)
 reads_exclusive before none = exclusive_by before (enters_it one false) (record {
-  alone = λ t u i h. absurd (differ (sym h));
-  has = λ t i h. absurd (differ (sym h));
+  alone = λ t u i h. absurd (true≢false (sym h));
+  has = λ t i h. absurd (true≢false (sym h));
   no_writer = λ t u l write h. none u l;
-  no_reader = λ t u l h. absurd (differ (sym h));
+  no_reader = λ t u l h. absurd (true≢false (sym h));
   gives_nothing_up = λ t i. refl;
   leaves_nothing = λ t l. refl;
   ends_nobody = λ t. refl;
@@ -369,7 +366,7 @@ pub below_taken : Exclusive Examples.two_numbers_below_zero
 below_taken = said_each IsExclusiveAt Examples.two_numbers_below_zero (
   takes_exclusive 1 (negsuc 0) [] (λ u i h apart. refl),
   (
-    takes_exclusive 2 (negsuc 1) (takes_mutex one (negsuc 0) ∷ []) (λ u i h apart. subst (λ (z : ℤ). levels u z (takes_mutex one (negsuc 0) ∷ []) ≡ 0) (sym (same_number i (negsuc 1) (both (is_same i (negsuc 1)) (2 == 2) h).0)) refl),
+    takes_exclusive 2 (negsuc 1) (takes_mutex one (negsuc 0) ∷ []) (λ u i h apart. subst (λ (z : ℤ). levels u z (takes_mutex one (negsuc 0) ∷ []) ≡ 0) (sym (same_number i (negsuc 1) (and_parts (is_same i (negsuc 1)) (2 == 2) h).0)) refl),
     tt,
   ),
 )
@@ -383,12 +380,12 @@ awaits_below = mark.Waits one (call.CondAwait (pos 0) (negsuc 0) (pos 0))
 
 awaits_exclusive : IsExclusiveAt one_below awaits_below
 awaits_exclusive = exclusive_by one_below awaits_below (record {
-  alone = λ t u i h. absurd (differ (sym h));
+  alone = λ t u i h. absurd (true≢false (sym h));
   has = λ t i h.
-      let h2 = both (is_same i (negsuc 0)) (1 == t) h in
+      let h2 = and_parts (is_same i (negsuc 0)) (1 == t) h in
       subst (λ (u : ℕ). 0 < levels u i one_below) (same_means 1 t h2.1) (subst (λ (z : ℤ). 0 < levels 1 z one_below) (sym (same_number i (negsuc 0) h2.0)) (omega arith));
-  no_writer = λ t u l write h. absurd (differ (sym h));
-  no_reader = λ t u l h. absurd (differ (sym h));
+  no_writer = λ t u l write h. absurd (true≢false (sym h));
+  no_reader = λ t u l h. absurd (true≢false (sym h));
   gives_nothing_up = λ t i. refl;
   leaves_nothing = λ t l. refl;
   ends_nobody = λ t. refl;
@@ -400,13 +397,13 @@ awaits_taken = said_each IsExclusiveAt Examples.an_await_of_a_number_below_zero 
 -- ---- initialised
 
 pub initialised_first : Initialised Examples.a_mutex_that_was_not_initialised → ⊥
-initialised_first h = differ (sym ((h [] [] (takes_mutex one (pos 0)) refl).taken_was_initialised 1 (pos 0) refl))
+initialised_first h = true≢false (sym ((h [] [] (takes_mutex one (pos 0)) refl).taken_was_initialised 1 (pos 0) refl))
 
 pub initialised_below : Initialised Examples.two_numbers_below_zero → ⊥
-initialised_below h = differ (sym ((h [] (takes_mutex two (negsuc 1) ∷ []) (takes_mutex one (negsuc 0)) refl).taken_was_initialised 1 (negsuc 0) refl))
+initialised_below h = true≢false (sym ((h [] (takes_mutex two (negsuc 1) ∷ []) (takes_mutex one (negsuc 0)) refl).taken_was_initialised 1 (negsuc 0) refl))
 
 pub initialised_once : Initialised Examples.a_mutex_is_initialised_twice → ⊥
-initialised_once h = differ (((h (begun ∷ []) [] begun refl).mutex_is_new (pos 0) refl).1)
+initialised_once h = true≢false (((h (begun ∷ []) [] begun refl).mutex_is_new (pos 0) refl).1)
 
 pub initialised_in_range : Initialised Examples.a_mutex_out_of_range → ⊥
 initialised_in_range h =
@@ -416,25 +413,25 @@ initialised_in_range h =
     omega (arith, same, below)
 
 pub enters_once : Initialised Examples.a_reader_reads_again → ⊥
-enters_once h = differ ((h (lock_begun ∷ enters_it one false ∷ []) [] (enters_it one false) refl).enters_once 1 (pos 0) false refl)
+enters_once h = true≢false ((h (lock_begun ∷ enters_it one false ∷ []) [] (enters_it one false) refl).enters_once 1 (pos 0) false refl)
 
 taken_initialised : (t : ℕ) (before : List Mark) → list_any (initialises_mutex (pos 0)) before ≡ true → IsInitialisedAt before (takes_mutex (record { 0 = t }) (pos 0))
 taken_initialised t before known = record {
-  mutex_is_new = λ i h. absurd (differ (sym h));
-  lock_is_new = λ l h. absurd (differ (sym h));
-  taken_was_initialised = λ v i h. subst (λ (z : ℤ). list_any (initialises_mutex z) before ≡ true) (sym (same_number i (pos 0) (both (is_same i (pos 0)) (t == v) h).0)) known;
-  entered_was_initialised = λ v l write h. absurd (differ (sym h));
-  enters_once = λ v l write h. absurd (differ (sym h));
+  mutex_is_new = λ i h. absurd (true≢false (sym h));
+  lock_is_new = λ l h. absurd (true≢false (sym h));
+  taken_was_initialised = λ v i h. subst (λ (z : ℤ). list_any (initialises_mutex z) before ≡ true) (sym (same_number i (pos 0) (and_parts (is_same i (pos 0)) (t == v) h).0)) known;
+  entered_was_initialised = λ v l write h. absurd (true≢false (sym h));
+  enters_once = λ v l write h. absurd (true≢false (sym h));
 }
 
 pub owners_taken : Initialised Examples.two_owners
 owners_taken = said_each IsInitialisedAt Examples.two_owners (
   record {
     mutex_is_new = λ i h. ((0, same_number i (pos 0) h, omega arith), refl);
-    lock_is_new = λ l h. absurd (differ (sym h));
-    taken_was_initialised = λ v i h. absurd (differ (sym h));
-    entered_was_initialised = λ v l write h. absurd (differ (sym h));
-    enters_once = λ v l write h. absurd (differ (sym h));
+    lock_is_new = λ l h. absurd (true≢false (sym h));
+    taken_was_initialised = λ v i h. absurd (true≢false (sym h));
+    entered_was_initialised = λ v l write h. absurd (true≢false (sym h));
+    enters_once = λ v l write h. absurd (true≢false (sym h));
   },
   (taken_initialised 1 (begun ∷ []) refl, (taken_initialised 2 (begun ∷ takes_mutex one (pos 0) ∷ []) refl, tt)),
 )

@@ -4,6 +4,7 @@ use Rattle.std.specs.List.{list_any}
 use Rattle.std.specs.Option.{ok_or}
 use Rattle.std.proofs.lemmas.List.Folds.{list_any-append}
 use Rattle.std.proofs.lemmas.List.Sums.{sum_by-cons, sum_by_push}
+use Rattle.std.proofs.lemmas.Bool.{true≢false}
 use Rattle.pth_base.proofs.Tables.{same_means, same_self, put_by, put_here}
 use Rattle.pth_base.specs.declared.errno.Errno.{Errno}
 use Rattle.pth_base.specs.declared.errno.Errno.TheVariants.{EINVAL}
@@ -13,7 +14,6 @@ use Rattle.pth_cond.specs.declared.barriers.Arrival.TheVariants.{Waits, Tail}
 use Rattle.pth_cond.specs.Barriers.{Arrived, Barrier, BarrierTable, lacks_one, waits_among, waits_here, waits_at, arrival_at, arrival_answer, with_barrier, barrier_initialised, arrived, barrier_reached, without_thread, withdrawn, made_late, late_behind, answered, round_answered, all_withdrawn}
 use Rattle.pth_laws.specs.Arrivals.{arrivals_of}
 use Rattle.pth_laws.specs.Clean.{is_of, has_arrived_here, has_arrived}
-use Rattle.pth_laws.proofs.Living.{true_false}
 
 -- ---- lists of arrivals
 
@@ -63,7 +63,7 @@ of_waits round t (a ∷ rest) h = by_test (a.round == round) (a.tid == t) (of_wa
 
 second : (x y : Bool) → (x && y) ≡ true → y ≡ true
 second true y h = h
-second false y h = absurd (true_false (sym h))
+second false y h = absurd (true≢false (sym h))
 
 or_true : (b : Bool) → (b || true) ≡ true
 or_true true = refl
@@ -167,7 +167,7 @@ fewer_answered b round t x = each_with HasFewerHere fewer_same b (λ y. record y
 })
 
 pub fewer_initialised : (b n : ℤ) (x : BarrierTable) → HasFewer (barrier_initialised b n x) x
-fewer_initialised b n x i = put_by (λ o. HasFewerHere o (x i)) x (object_named b) _ i (λ here. record { comes = λ round t h. absurd (true_false (sym h)); times = λ t. omega arith }) (λ other. fewer_same (x i))
+fewer_initialised b n x i = put_by (λ o. HasFewerHere o (x i)) x (object_named b) _ i (λ here. record { comes = λ round t h. absurd (true≢false (sym h)); times = λ t. omega arith }) (λ other. fewer_same (x i))
 
 pub others_withdrawn : (b : ℤ) (t : ℕ) (x : BarrierTable) → HasOthers t (withdrawn b t x) x
 others_withdrawn b t x n r u apart = each_with (λ o p. has_arrived_here r u p ≡ true → has_arrived_here r u o ≡ true) (λ o h. h) b (λ y. record y { arrivals = without_thread t y.arrivals }) x (λ y same h. without_others r t u apart y.arrivals h) n
@@ -180,8 +180,8 @@ pub all_initialised : (b n : ℤ) (x : BarrierTable) → is_some (x (object_name
 all_initialised b n x new i r u = put_by (λ o. has_arrived_here r u (x i) ≡ true → has_arrived_here r u o ≡ true) x (object_named b) _ i (λ here h. absurd (none_here (x (object_named b)) new (ap (λ j. has_arrived_here r u (x j)) (sym here) ∙ h))) (λ other h. h)
   where
     none_here : (o : Option Barrier) → is_some o ≡ false → has_arrived_here r u o ≡ true → ⊥
-    none_here None new h = true_false (sym h)
-    none_here (Some y) new h = true_false new
+    none_here None new h = true≢false (sym h)
+    none_here (Some y) new h = true≢false new
 
 same_arrival : (x y : Arrival) (o : Result Arrival Errno) → o ≡ Ok x → o ≡ Ok y → x ≡ y
 same_arrival x y o one two = cc
@@ -263,8 +263,8 @@ arrives b t round x waits n r u =
     by_own : (y : Barrier) (same own old : Bool) → (y.round == r) ≡ same → (t == u) ≡ own → has_arrived_here r u (Some y) ≡ old → y.round ≡ round → (old || ((same && own) || false)) ≡ true → ((r ≡ round) × (u ≡ t)) ⊎ (old ≡ true)
     by_own y same own true is_same is_own is_old number h = inr refl
     by_own y true true false is_same is_own is_old number h = inl (sym (same_means y.round r is_same) ∙ number, sym (same_means t u is_own))
-    by_own y true false false is_same is_own is_old number h = absurd (true_false (sym h))
-    by_own y false own false is_same is_own is_old number h = absurd (true_false (sym h))
+    by_own y true false false is_same is_own is_old number h = absurd (true≢false (sym h))
+    by_own y false own false is_same is_own is_old number h = absurd (true≢false (sym h))
 
     by_lack : (y : Barrier) (lack : Bool) → (if lack then Tail else Waits y.round) ≡ Waits round → has_arrived_here r u (Some (if lack then record y { round = y.round + 1 } else record y { arrivals = y.arrivals ++ (record { tid = t; round = y.round; late = false } ∷ []) })) ≡ true → ((r ≡ round) × (u ≡ t)) ⊎ (has_arrived_here r u (Some y) ≡ true)
     by_lack y true same h = absurd (cc same)
@@ -273,7 +273,7 @@ arrives b t round x waits n r u =
         by_own y (y.round == r) (t == u) (has_arrived_here r u (Some y)) refl refl refl number (sym (list_any-append (is_of r u) y.arrivals (record { tid = t; round = y.round; late = false } ∷ [])) ∙ h)
 
     by_barrier : (o : Option Barrier) → x (object_named b) ≡ o → has_arrived_here r u (option_map (arrived t) o) ≡ true → ((r ≡ round) × (u ≡ t)) ⊎ (has_arrived_here r u (x (object_named b)) ≡ true)
-    by_barrier None same h = absurd (true_false (sym h))
+    by_barrier None same h = absurd (true≢false (sym h))
     by_barrier (Some y) same h = back y same (by_lack y (lacks_one y) (comes_to b x y (Waits round) same waits) h)
       where
         back : (y : Barrier) → x (object_named b) ≡ Some y → ((r ≡ round) × (u ≡ t)) ⊎ (has_arrived_here r u (Some y) ≡ true) → ((r ≡ round) × (u ≡ t)) ⊎ (has_arrived_here r u (x (object_named b)) ≡ true)

@@ -1,5 +1,7 @@
 -- Whoever has a seat at a condition lives, and a pth_cond_await blocks it, which waits for that condition's notice.
 use Rattle.std.proofs.Common.{◌≡◌, ◌≢◌, ◌≤◌, ℕ, zero, suc, ◌+◌, ◌==◌, Bool, true, false, cond, ℤ, Option, Some, None, is_some, option_map, inl, inr, refl, sym, ◌∙◌, ap, subst, arith}
+use Rattle.std.proofs.lemmas.Bool.{true≢false}
+use Rattle.std.proofs.lemmas.Option.{none-some}
 use Rattle.pth_base.specs.Program.{Functions}
 use Rattle.pth_base.specs.Table.{put}
 use Rattle.pth_base.specs.declared.call.Call.{Call}
@@ -35,7 +37,6 @@ use Rattle.pth_model.specs.Pass.{looks}
 use Rattle.pth_model.specs.Run.{run}
 use Rattle.pth_laws.specs.Clean.{condition_held}
 use Rattle.pth_laws.specs.Valid.{Lives}
-use Rattle.pth_laws.proofs.Living.{true_false}
 use Rattle.pth_laws.proofs.Seats.{HasFewerSeats, HasLeftAt, seats_at, has_some, seats_gone, entered_other, entered_by}
 use Rattle.pth_laws.proofs.EventSeats.{entered_apart, fewer_left}
 use Rattle.pth_laws.proofs.Allowed.{IsFree, HasLeftSeat, stopped_free}
@@ -50,14 +51,11 @@ pub record AwaitsAt (c : ℕ) (o : Option Blocked) : Type 0 where
   pub named : object_named condition ≡ c
   pub blocked : o ≡ Some (record { call = call.CondAwait condition mutex ring; awaits = Notice condition })
 
-no_await : (x : Blocked) → None ≡ Some x → ⊥
-no_await x h = cc
-
 none_awaits : (c : ℕ) → AwaitsAt c None → ⊥
-none_awaits c w = no_await (record { call = call.CondAwait w.condition w.mutex w.ring; awaits = Notice w.condition }) w.blocked
+none_awaits c w = none-some (record { call = call.CondAwait w.condition w.mutex w.ring; awaits = Notice w.condition }) w.blocked
 
 other_awaits : (c : ℕ) (o : Option Blocked) → is_awaiting o ≡ false → AwaitsAt c o → ⊥
-other_awaits c o none w = true_false (sym (ap is_awaiting w.blocked) ∙ none)
+other_awaits c o none w = true≢false (sym (ap is_awaiting w.blocked) ∙ none)
 
 -- t has a seat at a condition
 abbrev HasSeat : ConditionTable → (c t : ℕ) → Type 0
@@ -106,7 +104,7 @@ module _ {P S H : Type 0} where
 
   seated_made : (f : P → Functions S H) (t b : ℕ) (v a : ℤ) (s : State P S H) → lives (s.control.threads.known (s.control.threads.made + 1)) ≡ false → AreSeated s → AreSeated (controlled (makes f b v (or_first (values_for s.control t a))) s)
   unfolding makes
-  seated_made f t b v a s next r = (seats_apart s.control.conditions (s.control.threads.made + 1) s.control.threads.known s.control.threads.progress _ _ (λ c h. true_false (sym (r.0 c (s.control.threads.made + 1) h).0 ∙ next)) r.0, r.1)
+  seated_made f t b v a s next r = (seats_apart s.control.conditions (s.control.threads.made + 1) s.control.threads.known s.control.threads.progress _ _ (λ c h. true≢false (sym (r.0 c (s.control.threads.made + 1) h).0 ∙ next)) r.0, r.1)
 
   seated_forgotten : (t : ℕ) (s : State P S H) → IsGone t s → AreSeated s → AreSeated (controlled (forgets t) s)
   unfolding forgets
@@ -114,7 +112,7 @@ module _ {P S H : Type 0} where
     where
       none : (c : ℕ) → IsGone t s → HasSeat s.control.conditions c t → ⊥
       none c (inl free) h = seated_blocked s c t free r.0 h
-      none c (inr dead) h = true_false (sym (r.0 c t h).0 ∙ dead)
+      none c (inr dead) h = true≢false (sym (r.0 c t h).0 ∙ dead)
 
   seated_vanished : (t : ℕ) (s : State P S H) → AreSeated (controlled (vanish_all_but t) s)
   unfolding vanish_all_but

@@ -2,6 +2,7 @@
 use Rattle.std.proofs.Common.{◌≡◌, ◌≢◌, ◌≤◌, ℕ, ◌+◌, ◌-◌, count_by, ◌||◌, Bool, true, false, cond, if◌then◌else◌, ℤ, List, [], ◌∷◌, Some, None, option_map, refl, sym, ◌∙◌, ap, arith}
 use Rattle.std.specs.List.{list_any}
 use Rattle.std.proofs.lemmas.List.Sums.{sum_by-cons, sum_by_push}
+use Rattle.std.proofs.lemmas.Bool.{true≢false}
 use Rattle.pth_base.proofs.Tables.{put_by, put_here, put_other}
 use Rattle.pth_lock.specs.Objects.{object_named}
 use Rattle.pth_cond.specs.declared.seats.Seat.{Seat}
@@ -9,7 +10,6 @@ use Rattle.pth_cond.specs.declared.seats.Notice.TheVariants.{Unmarked, One, All}
 use Rattle.pth_cond.specs.declared.seats.Taken.{Taken}
 use Rattle.pth_cond.specs.Seats.{is_seat, is_at, is_one_at, notice_at, has_mark, with_seat, without_seat, one_notified, all_notified, notified, handed_on}
 use Rattle.pth_cond.specs.Conditions.{Condition, ConditionTable, has_seat_here, has_seat, with_seats, cond_initialised, seat_entered, seat_left, seat_handed_on, cond_notified, all_left, all_seats_left}
-use Rattle.pth_laws.proofs.Living.{true_false}
 
 -- how often a seat is among these
 abbrev pub taken : Seat → List Taken → ℕ
@@ -19,7 +19,7 @@ pub taken_cons : (s : Seat) (t : Taken) (ts : List Taken) → taken s (t ∷ ts)
 taken_cons s t ts = sum_by-cons (λ x. cond (is_at s x) 1 0) t ts
 
 any_taken : (s : Seat) (ts : List Taken) → list_any (is_at s) ts ≡ true → 1 ≤ taken s ts
-any_taken s [] h = absurd (true_false (sym h))
+any_taken s [] h = absurd (true≢false (sym h))
 any_taken s (t ∷ ts) h = by_test (is_at s t) (taken_cons s t ts) (any_taken s ts) h
   where
     by_test : (b : Bool) → taken s (t ∷ ts) ≡ cond b 1 0 + taken s ts → (list_any (is_at s) ts ≡ true → 1 ≤ taken s ts) → (b || list_any (is_at s) ts) ≡ true → 1 ≤ taken s (t ∷ ts)
@@ -93,7 +93,7 @@ pub has_some : (x : ConditionTable) (c : ℕ) (s : Seat) → has_seat x c s ≡ 
 has_some x c s h = by_condition (x c) h
   where
     by_condition : (y : Condition) → has_seat_here s y ≡ true → 1 ≤ seats_at s y
-    by_condition None h = absurd (true_false (sym h))
+    by_condition None h = absurd (true≢false (sym h))
     by_condition (Some ts) h = any_taken s ts h
 
 fewer_with : (k : ℕ) (change : List Taken → List Taken) (x : ConditionTable) → ((u : Seat) (ts : List Taken) → taken u (change ts) ≤ taken u ts) → HasFewerSeats (with_seats k change x) x

@@ -1,7 +1,7 @@
 -- What one exclusive mark does to mutexes and locks is what its sentence says of each thread: its levels, and what it holds.
 use Rattle.std.proofs.Common.{◌≡◌, ◌≢◌, ◌<◌, ℕ, zero, suc, ◌+◌, ◌-◌, ◌==◌, ◌&&◌, ◌||◌, not, Bool, true, false, if◌then◌else◌, ℤ, pos, negsuc, Option, Some, None, is_some, refl, sym, ◌∙◌, ap, subst, arith}
 use Rattle.std.proofs.Math.Bool.{or-false}
-use Rattle.std.proofs.lemmas.Bool.{not-false}
+use Rattle.std.proofs.lemmas.Bool.{not-false, and_left, true≢false, not-true, or_parts}
 use Rattle.pth_base.specs.Table.{put}
 use Rattle.pth_base.specs.declared.act.Act.TheVariants as act
 use Rattle.pth_base.specs.declared.answer.Answer.{Answer}
@@ -22,8 +22,6 @@ use Rattle.pth_laws.specs.Marks.{is_same}
 use Rattle.pth_laws.specs.Exclusive.{Share, levels_after, awaits_after, held_after}
 use Rattle.pth_laws.specs.Initialised.{initialises_mutex, initialises_lock}
 use Rattle.pth_laws.proofs.Counted.{IsCounted, counted_more, counted_less, none_passes}
-use Rattle.pth_laws.proofs.Held.{neither}
-use Rattle.pth_laws.proofs.Living.{true_false, not_true}
 use Rattle.pth_laws.proofs.Locked.{Locked, has_some}
 use Rattle.pth_laws.proofs.OrderlyMarks.{same_either_way, or_true}
 
@@ -31,7 +29,7 @@ use Rattle.pth_laws.proofs.OrderlyMarks.{same_either_way, or_true}
 
 no_levels : (t : ℕ) (z : Mutex) → is_some z ≡ false → levels_of t z ≡ 0
 no_levels t None h = refl
-no_levels t (Some o) h = absurd (true_false h)
+no_levels t (Some o) h = absurd (true≢false h)
 
 -- who has none has no level
 pub not_had : (t : ℕ) (z : Mutex) → has t z ≡ false → levels_of t z ≡ 0
@@ -76,7 +74,7 @@ with_positive : (t u n : ℕ) → HasLevel t (mutex_with u n)
 with_positive t u n = by_test (n == 0) refl
   where
     by_test : (b : Bool) → (n == 0) ≡ b → HasLevel t (if b then free_mutex else Some (Some (record { owner = u; levels = n })))
-    by_test true h had = absurd (true_false (sym had))
+    by_test true h had = absurd (true≢false (sym had))
     by_test false h had = let some : n ≢ 0 = same_fails n 0 h in rw had (omega arith)
 
 -- ---- places of a table
@@ -126,17 +124,13 @@ flag_of f u t i o b is = by_test (u == t) refl
 no_flag : (f : ℕ → Bool) (u t : ℕ) (q : Bool) → f u ≡ false → (f t && (q && (u == t))) ≡ false
 no_flag f u t q is = by_test (u == t) refl
   where
-    unset : (p q : Bool) → p ≡ false → (p && q) ≡ false
-    unset true q h = absurd (true_false h)
-    unset false q h = refl
-
     apart : (p q : Bool) → (p && (q && false)) ≡ false
     apart true true = refl
     apart true false = refl
     apart false q = refl
 
     by_test : (c : Bool) → (u == t) ≡ c → (f t && (q && c)) ≡ false
-    by_test true same = unset (f t) (q && true) (ap f (sym (same_means u t same)) ∙ is)
+    by_test true same = and_left (f t) (q && true) (ap f (sym (same_means u t same)) ∙ is)
     by_test false other = apart (f t) q
 
 -- ---- the writer of a lock
@@ -157,7 +151,7 @@ writer_left u t w = by_test (u == t) (is_one u w) refl refl
 
 pub no_writer : (w : Option ℕ) (t : ℕ) → is_some w ≡ false → is_one t w ≡ false
 no_writer None t h = refl
-no_writer (Some v) t h = absurd (true_false h)
+no_writer (Some v) t h = absurd (true≢false h)
 
 -- ---- steps
 
@@ -174,19 +168,15 @@ pub record IsSound (x : MutexTable) (y : LockTables) : Type 0 where
 -- a lock that lets in who writes, or who reads
 module _ (y : LockTables) (l : ℕ) (counted : IsCounted (y.reads l) (y.readers l)) where
   pub entry_free : (write : Bool) → may_enter y write l ≡ true → is_written y l ≡ false
-  entry_free true h = (neither (is_written y l) (is_read y l) (not_true _ h)).0
-  entry_free false h = not_true _ h
+  entry_free true h = (or_parts (is_written y l) (is_read y l) (not-true _ h)).0
+  entry_free false h = not-true _ h
 
   pub entry_alone : may_enter y true l ≡ true → (u : ℕ) → y.reads l u ≡ false
-  entry_alone h = none_passes (y.reads l) (y.readers l) counted (same_means (y.readers l) 0 (no_reader (y.readers l == 0) (neither (is_written y l) (is_read y l) (not_true _ h)).1))
-    where
-      no_reader : (b : Bool) → not b ≡ false → b ≡ true
-      no_reader true h = refl
-      no_reader false h = absurd (true_false h)
+  entry_alone h = none_passes (y.reads l) (y.readers l) counted (same_means (y.readers l) 0 (not-false (y.readers l == 0) (or_parts (is_written y l) (is_read y l) (not-true _ h)).1))
 
 -- u leaves a lock
 left_alone : (u : ℕ) (w : Option ℕ) (r : ℕ → Bool) → IsAlone w r → IsAlone (without_slot u w) (put r u false)
-left_alone u None r alone h v = absurd (true_false (sym h))
+left_alone u None r alone h v = absurd (true≢false (sym h))
 left_alone u (Some o) r alone h v = put_by (λ (b : Bool). b ≡ false) r u false v (λ same. refl) (λ apart. alone refl v)
 
 module _ (k : Resources) where
@@ -276,7 +266,7 @@ module _ (k : Resources) where
       levels = λ t i. put_by (λ (z : Mutex). levels_of t (mutexes i) ≡ levels_of t z) mutexes o free_mutex i (λ here. no_levels t (mutexes i) (ap (λ j. is_some (mutexes j)) here ∙ new)) (λ other. refl);
       awaits = λ t. refl;
       known = λ i. put_test (λ (b : Bool) (z : Mutex). (is_some (mutexes i) || b) ≡ is_some z) mutexes o free_mutex i (λ here. or_true (is_some (mutexes i))) (λ other. or-false (is_some (mutexes i)));
-      positive = λ t i. put_by (HasLevel t) mutexes o free_mutex i (λ here had. absurd (true_false (sym had))) (λ other. sound.positive t i);
+      positive = λ t i. put_by (HasLevel t) mutexes o free_mutex i (λ here had. absurd (true≢false (sym had))) (λ other. sound.positive t i);
     }
 
     -- u awaits as it did
@@ -340,8 +330,8 @@ module _ (k : Resources) where
     ends_locks : (u : Tid) (v : ℤ) → ((l : ℕ) → holds locks u.0 l ≡ false) → LockStep (locks_left u.0 locks) (mark.Ended u v)
     ends_locks u v none = record {
       known = λ l. or-false (locks.initialised l);
-      reads = λ t l. put_by (λ (b : Bool). locks.reads l t ≡ b) (locks.reads l) u.0 false t (λ here. ap (locks.reads l) here ∙ (neither _ _ (none l)).1) (λ other. refl);
-      writes = λ t l. ap (is_one t) (sym (ap (λ (b : Bool). if b then None else locks.writer l) (neither _ _ (none l)).0));
+      reads = λ t l. put_by (λ (b : Bool). locks.reads l t ≡ b) (locks.reads l) u.0 false t (λ here. ap (locks.reads l) here ∙ (or_parts _ _ (none l)).1) (λ other. refl);
+      writes = λ t l. ap (is_one t) (sym (ap (λ (b : Bool). if b then None else locks.writer l) (or_parts _ _ (none l)).0));
       counted = λ l. counted_less (locks.reads l) (locks.readers l) u.0 (sound.counted l);
       alone = λ l. left_alone u.0 (locks.writer l) (locks.reads l) (sound.alone l);
     }
@@ -375,7 +365,7 @@ module _ (k : Resources) where
       reads = λ t i. put_test (λ (b : Bool) (r : ℕ → Bool). (if b && (u.0 == t) then true else locks.reads i t) ≡ r t) locks.reads o (put (locks.reads o) u.0 true) i (λ here. ap (λ j. if u.0 == t then true else locks.reads j t) here ∙ flag_set (locks.reads o) u.0 t true) (λ other. refl);
       writes = λ t i. refl;
       counted = λ i. put_both IsCounted locks.reads locks.readers o (put (locks.reads o) u.0 true) (locks.readers o + 1) i (λ here. counted_more (locks.reads o) (locks.readers o) u.0 out (sound.counted o)) (λ other. sound.counted i);
-      alone = λ i. put_by (λ (r : ℕ → Bool). IsAlone (locks.writer i) r) locks.reads o (put (locks.reads o) u.0 true) i (λ here h t. absurd (true_false (sym h ∙ ap (is_written locks) here ∙ free))) (λ other. sound.alone i);
+      alone = λ i. put_by (λ (r : ℕ → Bool). IsAlone (locks.writer i) r) locks.reads o (put (locks.reads o) u.0 true) i (λ here h t. absurd (true≢false (sym h ∙ ap (is_written locks) here ∙ free))) (λ other. sound.alone i);
     }
 
     left_so : (u o : ℕ) (m : Mark) → ((t i : ℕ) (w b : Bool) → held_after t (pos i) w b m ≡ (if (i == o) && (u == t) then false else b)) → ((i : ℕ) → initialises_lock (pos i) m ≡ false) → LockStep (lock_released u o locks) m
@@ -412,13 +402,13 @@ module _ (k : Resources) where
     answered u (call.RwInit (pos o)) (Int n) on law = let m = mark.Answered u (call.RwInit (pos o)) (Int (pos 1)) in by_one u (call.RwInit (pos o)) n law.0 (mutexes_still m (λ t i x. refl) (λ t b. refl) (λ i. refl), lock_begun u o)
     answered u (call.RwInit (negsuc o)) (Int n) on law = let below = law.1.known in absurd (omega (arith, below))
     answered u (call.RwAcquire (pos o) true v e) (Int n) on law = let m = mark.Answered u (call.RwAcquire (pos o) true v e) (Int (pos 1)) in by_one u (call.RwAcquire (pos o) true v e) n law.0 (mutexes_still m (λ t i x. refl) (λ t b. refl) (λ i. refl), written_so u o v e (unwritten u.0 o true law.1) (entry_alone locks o (sound.counted o) law.1.enters))
-    answered u (call.RwAcquire (pos o) false v e) (Int n) on law = let m = mark.Answered u (call.RwAcquire (pos o) false v e) (Int (pos 1)) in by_one u (call.RwAcquire (pos o) false v e) n law.0 (mutexes_still m (λ t i x. refl) (λ t b. refl) (λ i. refl), read_so u o v e (unwritten u.0 o false law.1) (neither _ _ law.1.out).1)
+    answered u (call.RwAcquire (pos o) false v e) (Int n) on law = let m = mark.Answered u (call.RwAcquire (pos o) false v e) (Int (pos 1)) in by_one u (call.RwAcquire (pos o) false v e) n law.0 (mutexes_still m (λ t i x. refl) (λ t b. refl) (λ i. refl), read_so u o v e (unwritten u.0 o false law.1) (or_parts _ _ law.1.out).1)
     answered u (call.RwAcquire (negsuc o) true v e) (Int n) on law = absurd (no_lock o law.1.initialised)
     answered u (call.RwAcquire (negsuc o) false v e) (Int n) on law = absurd (no_lock o law.1.initialised)
     answered u (call.RwRelease (pos o)) (Int n) on law = let m = mark.Answered u (call.RwRelease (pos o)) (Int (pos 1)) in by_one u (call.RwRelease (pos o)) n law.0 (mutexes_still m (λ t i x. refl) (λ t b. refl) (λ i. refl), left_so u.0 o m (λ t i w b. refl) (λ i. refl))
     answered u (call.RwRelease (negsuc o)) (Int n) on law = absurd (no_lock o (locked.held (object_named (negsuc o)) u.0 law.1))
     answered u (call.CondAwait c m e) a on law = answers_await u c m e a (k.awaits u.0) refl law
-    answered u call.Kill (Int n) on law = absurd (true_false on)
+    answered u call.Kill (Int n) on law = absurd (true≢false on)
     answered u (call.CleanupPush h v) a on law = let m = mark.Answered u (call.CleanupPush h v) a in let q : Step k m = quiet m (λ t i x. refl) (λ t b. refl) (λ i. refl) (λ t l w b. refl) (λ l. refl) in step_one a _ m q q
     answered u (call.CleanupPop v) a on law = let m = mark.Answered u (call.CleanupPop v) a in let q : Step k m = quiet m (λ t i x. refl) (λ t b. refl) (λ i. refl) (λ t l w b. refl) (λ l. refl) in step_one a _ m q q
     answered u (call.KeyCreate h) a on law = let m = mark.Answered u (call.KeyCreate h) a in let q : Step k m = quiet m (λ t i x. refl) (λ t b. refl) (λ i. refl) (λ t l w b. refl) (λ l. refl) in step_int a _ m q (λ n. q)

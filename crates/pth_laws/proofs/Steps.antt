@@ -1,7 +1,8 @@
 -- A step of a thread, walked: a call begins, or the one that blocks the thread is tried again.
 use Rattle.std.proofs.Common.{◌≡◌, ◌≢◌, ℕ, ◌==◌, ◌&&◌, ◌||◌, not, Bool, true, false, if◌then◌else◌, ℤ, pos, negsuc, List, [], ◌∷◌, Option, Some, None, option_map, is_none, is_some, refl, sym, ◌∙◌, ap, subst}
 use Rattle.std.specs.List.{slice_get}
-use Rattle.std.proofs.lemmas.Bool.{not-false}
+use Rattle.std.proofs.lemmas.Bool.{not-false, true≢false}
+use Rattle.std.proofs.lemmas.Option.{same_Some}
 use Rattle.pth_base.specs.Table.{put}
 use Rattle.pth_base.specs.Program.{Functions, Stepped}
 use Rattle.pth_base.specs.declared.answer.Answer.{Answer}
@@ -65,7 +66,7 @@ use Rattle.pth_laws.proofs.Laws.{EachMark, IsPopOrderly, IsAnswerExclusive, MayT
 use Rattle.pth_laws.specs.Orderly.{RanLast}
 use Rattle.pth_laws.specs.Clean.{event_held}
 use Rattle.pth_model.proofs.NoRounds.{begins_plainly, again_plainly}
-use Rattle.pth_laws.proofs.Living.{Living, run_queue, IsToRun, true_false, request_state, living-up, living-made}
+use Rattle.pth_laws.proofs.Living.{Living, run_queue, IsToRun, request_state, living-up, living-made}
 use Rattle.pth_laws.proofs.Going.{IsGoing, Going, going_alive, going_set, going_removed, known_lives, set_lives}
 use Rattle.pth_laws.proofs.Awaits.{HasAwaits, Tells, AreSameBut, flags, flags_past, others_await, canceled_retakes, tells_plain, tells_calm, kills, awaits_own, awaits_past, awaits_as, awaits_none, awaits_set, awaits_removed, awaits_go, awaits_begun, awaits_block, awaits_stop, answer_awaits, wait_awaits, refusal_awaits}
 use Rattle.pth_laws.proofs.Locking.{IsVerdictExclusive, IsWaitExclusive, wait_exclusive, begins_exclusive, again_exclusive, may_take}
@@ -87,20 +88,17 @@ fresh_by : (t : ℕ) (x : Block) → x ≡ Closed → ran_by x t ≡ ran_nothing
 unfolding ran_by
 fresh_by t x closed = rw closed refl
 
-pub some_number : (m v : ℕ) → Some m ≡ Some v → m ≡ v
-some_number m v h = cc
-
 -- a yield that names a thread and is not refused names one that waits to run
 yields_to : (zero : Bool) (o : Option Entry) → zero ≡ false → (not zero && ((or_nobody o).suspended || not (may_run (or_nobody o).state))) ≡ false → IsToRun o
-yields_to true o other h = absurd (true_false other)
-yields_to false None other h = absurd (true_false h)
+yields_to true o other h = absurd (true≢false other)
+yields_to false None other h = absurd (true≢false h)
 yields_to false (Some e) other h = by_state e.state e.suspended h
   where
     by_state : (at : ThreadState) (b : Bool) → (b || not (may_run at)) ≡ false → is_some (run_queue at b) ≡ true
-    by_state at true h = absurd (true_false h)
+    by_state at true h = absurd (true≢false h)
     by_state state.New false h = refl
     by_state state.Ready false h = refl
-    by_state at false h = absurd (true_false h)
+    by_state at false h = absurd (true≢false h)
 
 ran_one : (c : PushedHandler) → (with_handler c ran_nothing).handlers ≡ c ∷ []
 unfolding with_handler
@@ -155,7 +153,7 @@ is_quiet call.CancelPoint = false
 is_quiet c = true
 
 no_pop : (b : Book) (t : ℕ) (c : Call) (a : Answer) → is_quiet c ≡ true → IsPopOrderly b t c a
-no_pop b t (call.CleanupPop v) a quiet = absurd (true_false (sym quiet))
+no_pop b t (call.CleanupPop v) a quiet = absurd (true≢false (sym quiet))
 no_pop b t c a quiet = tt
 
 -- calls on another thread
@@ -165,20 +163,20 @@ is_asking (call.Abort n) = true
 is_asking c = false
 
 asking_pops : (t : ℕ) (b : Book) (c : Call) → is_asking c ≡ true → IsPopOrderly b t c (answer.Int (pos 1))
-asking_pops t b (call.CleanupPop v) asking = absurd (true_false (sym asking))
+asking_pops t b (call.CleanupPop v) asking = absurd (true≢false (sym asking))
 asking_pops t b c asking = tt
 
 asking_exclusive : (t : ℕ) (b : Book) (c : Call) (a : Answer) → is_asking c ≡ true → IsAnswerExclusive b.resources t c a
 asking_exclusive t b (call.Cancel n) a asking = tt
 asking_exclusive t b (call.Abort n) a asking = tt
-asking_exclusive t b c a asking = absurd (true_false (sym asking))
+asking_exclusive t b c a asking = absurd (true≢false (sym asking))
 
 asking_on : (c : Call) → is_asking c ≡ true → kills c ≡ false
-asking_on call.Kill asking = absurd (true_false (sym asking))
+asking_on call.Kill asking = absurd (true≢false (sym asking))
 asking_on c asking = refl
 
 asking_fails : (t : ℕ) (b : Book) (c : Call) (e : Errno) → is_asking c ≡ true → IsPopOrderly b t c (answer.Fail e)
-asking_fails t b (call.CleanupPop v) e asking = absurd (true_false (sym asking))
+asking_fails t b (call.CleanupPop v) e asking = absurd (true≢false (sym asking))
 asking_fails t b c e asking = tt
 
 joinable_state : (e : Entry) → (changed (change.Joinable false) e).state ≡ e.state
@@ -192,7 +190,7 @@ cancel_state_same e = refl
 -- one of two holds neither
 or_none : (a b : Bool) → (a || b) ≡ false → b ≡ false
 or_none false b h = h
-or_none true b h = absurd (true_false h)
+or_none true b h = absurd (true≢false h)
 
 dead_lives : (o : Option Entry) → is_dead (or_nobody o).state ≡ true → lives o ≡ false
 dead_lives None h = refl
@@ -225,11 +223,11 @@ module _ {P S H : Type 0} where
   module _ (f : P → Functions S H) (t : ℕ) (s : State P S H) where
     effect_silent : (c : Call) → is_quiet c ≡ true → IsSilent (row_of f s t c).begin.effect s
     unfolding row_of
-    effect_silent (call.CleanupPop v) quiet = absurd (true_false (sym quiet))
-    effect_silent (call.Once o h v) quiet = absurd (true_false (sym quiet))
-    effect_silent (call.Cancel n) quiet = absurd (true_false (sym quiet))
-    effect_silent (call.Abort n) quiet = absurd (true_false (sym quiet))
-    effect_silent call.CancelPoint quiet = absurd (true_false (sym quiet))
+    effect_silent (call.CleanupPop v) quiet = absurd (true≢false (sym quiet))
+    effect_silent (call.Once o h v) quiet = absurd (true≢false (sym quiet))
+    effect_silent (call.Cancel n) quiet = absurd (true≢false (sym quiet))
+    effect_silent (call.Abort n) quiet = absurd (true≢false (sym quiet))
+    effect_silent call.CancelPoint quiet = absurd (true≢false (sym quiet))
     effect_silent (call.Ctrl x) quiet = ctrl_silent s s x
     effect_silent (call.EvFd goals fd) quiet = made_silent (spec_of (line.Fd goals fd)) _ _ s
     effect_silent (call.EvTime m) quiet = made_silent (spec_of (line.Time m)) _ _ s
@@ -306,7 +304,7 @@ module _ {P S H : Type 0} (f : P → Functions S H) (n t : ℕ) (made : is_made 
 
   -- a call that is not pth_kill ends nobody by its answer
   on_goes : (e : ℕ → Bool) (k : Call) (a : Answer) → kills k ≡ false → ended_after e (mark.Answered (tid t) k a) ≡ e
-  on_goes e call.Kill a on = absurd (true_false on)
+  on_goes e call.Kill a on = absurd (true≢false on)
   on_goes e k a on = refl
 
   answer_walk : (x : Next) (k : Call) (a : Answer) (c : Book) (u : State P S H) → ended_after c.ended (mark.Answered (tid t) k a) ≡ c.ended → IsPopOrderly c t k a → IsAnswerExclusive c.resources t k a → ((d : Book) (v : State P S H) → d.block ≡ Closed → Within d v → After x d v) → c.canceled t ≡ false → Telling (mark.Answered (tid t) k a) c u
@@ -334,7 +332,7 @@ module _ {P S H : Type 0} (f : P → Functions S H) (n t : ℕ) (made : is_made 
   answering : (k : Call) (a : Answer) (c : Book) (u : State P S H) → kills k ≡ false → u.resources.awaits t ≡ false → Within c u → Telling (mark.Answered (tid t) k a) c u
   unfolding told
   answering k a c u on idle w =
-      let tells = answer_awaits u.resources t k a on (λ awaits. absurd (true_false (sym awaits ∙ idle))) in
+      let tells = answer_awaits u.resources t k a on (λ awaits. absurd (true≢false (sym awaits ∙ idle))) in
       let o = (answer_told u.resources t k a).awaits in
       fits_told o c u (λ v. by_same v (v == t) refl tells.0 tells.1) w
     where
@@ -386,7 +384,7 @@ module _ {P S H : Type 0} (f : P → Functions S H) (n t : ℕ) (made : is_made 
       (ending_walk n t f v c u (going_alive n c.ended t u.control w.going) w.going.living w.claims w.fits made value w.resources fresh)
 
   end_walk : (v : ℤ) (c : Book) (u : State P S H) → ran_by c.block t ≡ ran_nothing → u.resources.awaits t ≡ false → Within c u → Walk n c (After (next.Ended v)) (ending f t v u)
-  end_walk v c u fresh idle w = last_walk v c u fresh (λ h. absurd (true_false (sym h ∙ within_calm u.resources.awaits c u idle w))) (leaving u.resources.awaits c u w)
+  end_walk v c u fresh idle w = last_walk v c u fresh (λ h. absurd (true≢false (sym h ∙ within_calm u.resources.awaits c u idle w))) (leaving u.resources.awaits c u w)
 
   -- t takes a request up in a call
   requested : (c : Book) (u : State P S H) (k : Option Call) → Within c u → IsLeaving n t (after c (mark.Canceled (tid t) k)) u.resources.awaits (controlled (sets t (change.Request false)) u)
@@ -471,9 +469,9 @@ module _ {P S H : Type 0} (f : P → Functions S H) (n t : ℕ) (made : is_made 
   blocks_telling k y p c u on free plain w =
       let alive = going_alive n c.ended t u.control w.going in
       let idle = idle_in c u p on free w in
-      let tells = wait_awaits u.resources t k (λ awaits. absurd (true_false (sym awaits ∙ idle))) in
+      let tells = wait_awaits u.resources t k (λ awaits. absurd (true≢false (sym awaits ∙ idle))) in
       let o = (wait_told u.resources t k).awaits in
-      let own : Tells (flags c o) t (Some (record { call = k; awaits = y })) = record { fits = tells.0; calm = λ up. within_calm u.resources.awaits c u idle w ∙ sym (canceled_retakes y plain); retakes = λ e. absurd (true_false (sym e ∙ plain)) } in
+      let own : Tells (flags c o) t (Some (record { call = k; awaits = y })) = record { fits = tells.0; calm = λ up. within_calm u.resources.awaits c u idle w ∙ sym (canceled_retakes y plain); retakes = λ e. absurd (true≢false (sym e ∙ plain)) } in
       change_within (λ j. blocks t k y (claims t (ring_given k) j)) o c u (going_blocks c.ended k y u w.going) (claims_block t k y u.control p on free alive plain w.claims)
       (awaits_begun t (flags c u.resources.awaits) (flags c o) k y (ring_given k) u.control p on own alive (others_await t (flags c u.resources.awaits) o tells.1) w.fits) w
 
@@ -491,7 +489,7 @@ module _ {P S H : Type 0} (f : P → Functions S H) (n t : ℕ) (made : is_made 
       answer_walk next.Killed k a c s (on_goes c.ended k a goes) (no_pop c t k a quiet) exclusive (λ e u closed within. tt) (within_calm s.resources.awaits c s (idle_in c s p on free w) w) (answering k a c s goes (idle_in c s p on free w) w)
 
   not_killing : (k : Call) → is_common k ≡ true → kills k ≡ false
-  not_killing call.Kill common = absurd (true_false (sym common))
+  not_killing call.Kill common = absurd (true≢false (sym common))
   not_killing k common = refl
 
   -- a call that names nobody, runs no handler and does not kill
@@ -512,7 +510,7 @@ module _ {P S H : Type 0} (f : P → Functions S H) (n t : ℕ) (made : is_made 
   -- pth_yield: who is named waits to run
   named_runs : (m : ℤ) (s : State P S H) → IsToRun (thread s.control m) → IsToRun (s.control.threads.known (number m))
   named_runs (pos i) s runs = runs
-  named_runs (negsuc i) s runs = absurd (true_false (sym runs))
+  named_runs (negsuc i) s runs = absurd (true≢false (sym runs))
 
   yields_walk : (m : ℤ) (zero : Bool) (c : Book) (s : State P S H) → (zero ≡ false → IsToRun (s.control.threads.known (number m))) → s.resources.awaits t ≡ false → Within c s → Walk n c (After (next.Yields (answer.Int (pos 1)))) ((changes (if zero then nothing else prefers (Some (number m))) and_then tells (mark.Answered (tid t) (call.Yield m) (answer.Int (pos 1)))) s)
   yields_walk m true c s runs idle w =
@@ -528,7 +526,7 @@ module _ {P S H : Type 0} (f : P → Functions S H) (n t : ℕ) (made : is_made 
           living = w.going.living;
           claims = w.claims;
           awaits = (answering (call.Yield m) (answer.Int (pos 1)) c s refl idle w).fits;
-          left = (w.going.running, w.going.runs, λ v named. let same : number m ≡ v = some_number (number m) v named in subst (λ (i : ℕ). IsToRun (s.control.threads.known i)) same (runs refl));
+          left = (w.going.running, w.going.runs, λ v named. let same : number m ≡ v = same_Some (number m) v named in subst (λ (i : ℕ). IsToRun (s.control.threads.known i)) same (runs refl));
           gone = tt;
         };
       }
@@ -560,7 +558,7 @@ module _ {P S H : Type 0} (f : P → Functions S H) (n t : ℕ) (made : is_made 
   -- pth_cleanup_pop
   popped_walk : (v : ℤ) (run : Bool) (p : PushedHandler) (c : Book) (s : State P S H) → not (is_zero v) ≡ run → pop_answer s.resources.store.cleanups t ≡ Some p → c.block ≡ Closed → s.resources.awaits t ≡ false → Within c s → Walk n c (After (next.Done (answer.Int (pos 1)))) ((where_so run (runs_pushed f t (Some p)) and_then tells (mark.Answered (tid t) (call.CleanupPop v) (answer.Int (pos 1)))) s)
   popped_walk v false p c s runs last closed idle w =
-      let x = answer_walk (next.Done (answer.Int (pos 1))) (call.CleanupPop v) (answer.Int (pos 1)) c s refl (λ other. absurd (true_false (sym (ap not other) ∙ runs))) tt (λ e u. done_stepped (answer.Int (pos 1)) e u) (within_calm s.resources.awaits c s idle w) (answering (call.CleanupPop v) (answer.Int (pos 1)) c s refl idle w) in
+      let x = answer_walk (next.Done (answer.Int (pos 1))) (call.CleanupPop v) (answer.Int (pos 1)) c s refl (λ other. absurd (true≢false (sym (ap not other) ∙ runs))) tt (λ e u. done_stepped (answer.Int (pos 1)) e u) (within_calm s.resources.awaits c s idle w) (answering (call.CleanupPop v) (answer.Int (pos 1)) c s refl idle w) in
       record { law = x.law; post = x.post }
   popped_walk v true p c s runs last closed idle w =
       handled_call (call.CleanupPop v) p.0 p.1 c s closed
@@ -699,7 +697,7 @@ module _ {P S H : Type 0} (f : P → Functions S H) (n t : ℕ) (made : is_made 
   answers_walk x k a c u pop exclusive by leaves calm w =
       let tells = answer_awaits u.resources t k a pop.1 by in
       let o = (answer_told u.resources t k a).awaits in
-      let own : Tells (flags c o) t None = record { fits = tells.0; calm = λ up. calm; retakes = λ e. absurd (true_false (sym e)) } in
+      let own : Tells (flags c o) t None = record { fits = tells.0; calm = λ up. calm; retakes = λ e. absurd (true≢false (sym e)) } in
       let y = answer_walk x k a c (controlled (stops_waiting t) u) (on_goes c.ended k a pop.1) pop.0 exclusive leaves calm
       (change_within (stops_waiting t) o c u (going_stops c.ended u w.going) (claims_stop t u.control w.claims) (awaits_stop t (flags c u.resources.awaits) (flags c o) u.control own (others_await t (flags c u.resources.awaits) o tells.1) w.fits) w) in
       record { law = y.law; post = y.post }
@@ -713,7 +711,7 @@ module _ {P S H : Type 0} (f : P → Functions S H) (n t : ℕ) (made : is_made 
       idle = idle_by d p c u on blocked other w
 
       by : u.resources.awaits t ≡ true → is_await d.call ≡ true
-      by awaits = absurd (true_false (sym awaits ∙ idle))
+      by awaits = absurd (true≢false (sym awaits ∙ idle))
 
       calm : c.canceled t ≡ false
       calm = within_calm u.resources.awaits c u idle w
@@ -726,7 +724,7 @@ module _ {P S H : Type 0} (f : P → Functions S H) (n t : ℕ) (made : is_made 
           let g : Change P S H = is_blocked_by t (Some now) in
           let tells = wait_awaits u.resources t d.call by in
           let o = (wait_told u.resources t d.call).awaits in
-          let own : Tells (flags c o) t (Some now) = record { fits = tells.0; calm = λ up. calm ∙ sym (canceled_retakes y (plain y refl)); retakes = λ e. absurd (true_false (sym e ∙ plain y refl)) } in
+          let own : Tells (flags c o) t (Some now) = record { fits = tells.0; calm = λ up. calm ∙ sym (canceled_retakes y (plain y refl)); retakes = λ e. absurd (true≢false (sym e ∙ plain y refl)) } in
           let x = wait_walk d.call c (controlled g u) exclusive calm
           (change_within g o c u (going_waits_on c.ended (Some now) u w.going) (claims_wait_on t d y u.control p on blocked was (plain y refl) w.claims)
           (awaits_block t (flags c u.resources.awaits) (flags c o) (Some now) u.control p on own (λ awaiting. going_alive n c.ended t u.control w.going) (others_await t (flags c u.resources.awaits) o tells.1) w.fits) w) in
@@ -737,8 +735,8 @@ module _ {P S H : Type 0} (f : P → Functions S H) (n t : ℕ) (made : is_made 
   -- a pop and a kill never wait, and would wait on
   again_pops : (s : State P S H) (d : Awaits) (c : Book) (k : Call) → is_blocking (unless_settled (has_settled s.control.events (ring_given k)) ((row_of f s t k).again d)).verdict ≡ false → (a : Answer) → IsPopOrderly c t k a × (kills k ≡ false)
   unfolding row_of
-  again_pops s d c (call.CleanupPop v) h a = absurd (true_false h)
-  again_pops s d c call.Kill h a = absurd (true_false h)
+  again_pops s d c (call.CleanupPop v) h a = absurd (true≢false h)
+  again_pops s d c call.Kill h a = absurd (true≢false h)
   again_pops s d c k h a = (tt, refl)
 
   come_silent : (s : State P S H) (k : Call) (d : Awaits) (come : Bool) → IsSilent (effect_of (unless_settled come ((row_of f s t k).again d))) s
@@ -775,9 +773,6 @@ module _ {P S H : Type 0} (f : P → Functions S H) (n t : ℕ) (made : is_made 
   unfolding goes_on
   stepped_made x k = refl
 
-  none_blocked : (d : Blocked) → None ≡ Some d → ⊥
-  none_blocked d h = cc
-
   stepped_progress : (x : Stepped S H) (k : Control P S H) (p : Progress S) → k.threads.progress t ≡ Some p → (stepping t x k).threads.progress t ≡ Some (record p { state = x.state; owed = answer.None })
   unfolding goes_on
   stepped_progress x k p on = put_here k.threads.progress t _ ∙ ap (option_map (λ (y : Progress S). record y { state = x.state; owed = answer.None })) on
@@ -798,7 +793,7 @@ module _ {P S H : Type 0} (f : P → Functions S H) (n t : ℕ) (made : is_made 
   stopped_leaving c s w =
       let past = flags_past t c s.resources.awaits in
       let now = flags_past t c (put s.resources.awaits t false) in
-      let own : Tells now t None = record { fits = put_here s.resources.awaits t false; calm = λ up. absurd (true_false (sym (put_here c.ended t true) ∙ up)); retakes = λ e. absurd (true_false (sym e)) } in
+      let own : Tells now t None = record { fits = put_here s.resources.awaits t false; calm = λ up. absurd (true≢false (sym (put_here c.ended t true) ∙ up)); retakes = λ e. absurd (true≢false (sym e)) } in
       record {
         resources = w.resources;
         going = going_stops c.ended s w.going;
@@ -829,12 +824,12 @@ module _ {P S H : Type 0} (f : P → Functions S H) (n t : ℕ) (made : is_made 
       answered a calm =
           let tells = answer_awaits u.resources t k a refl (λ by. refl) in
           let o = (answer_told u.resources t k a).awaits in
-          let own : Tells (flags c o) t None = record { fits = tells.0; calm = λ up. calm; retakes = λ e. absurd (true_false (sym e)) } in
+          let own : Tells (flags c o) t None = record { fits = tells.0; calm = λ up. calm; retakes = λ e. absurd (true≢false (sym e)) } in
           answer_walk (next.Done a) k a c u refl tt (λ by. may) (λ d s. done_stepped a d s) calm (record {
             resources = w.resources;
             going = w.going;
             claims = w.claims;
-            fits = awaits_own t (flags_past t c (put u.resources.awaits t false)) (flags c o) u.control (subst (Tells (flags c o) t) (sym free) own) (λ awaits. absurd (true_false (sym awaits ∙ tells.0))) (stopped_others c u o tells.1) w.fits;
+            fits = awaits_own t (flags_past t c (put u.resources.awaits t false)) (flags c o) u.control (subst (Tells (flags c o) t) (sym free) own) (λ awaits. absurd (true≢false (sym awaits ∙ tells.0))) (stopped_others c u o tells.1) w.fits;
           })
 
       by_reason : (o : Retake) → c.canceled t ≡ is_canceled (awaits.Retaking m o) → Walk n c (After (retaken_as f t k m o u).next) (retaken_as f t k m o u).told
@@ -894,7 +889,7 @@ module _ {P S H : Type 0} (f : P → Functions S H) (n t : ℕ) (made : is_made 
       let k = call.CondAwait q m e in
       let tells = wait_awaits s.resources t k (λ by. refl) in
       let o = (wait_told s.resources t k).awaits in
-      wait_walk k c s (λ idle. absurd (true_false (sym (ap (λ (r : Resources). r.awaits t) w.resources ∙ awaiting) ∙ idle))) calm (record {
+      wait_walk k c s (λ idle. absurd (true≢false (sym (ap (λ (r : Resources). r.awaits t) w.resources ∙ awaiting) ∙ idle))) calm (record {
         resources = w.resources;
         going = w.going;
         claims = w.claims;

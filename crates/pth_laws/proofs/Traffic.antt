@@ -5,6 +5,7 @@ use Rattle.std.proofs.Math.Bool.{and-true, and-false}
 use Rattle.std.proofs.lemmas.Bool.Decides.{nat_tests}
 use Rattle.std.proofs.lemmas.List.{drop-append-le, drop-drop, length-append, length-drop}
 use Rattle.std.proofs.lemmas.List.Sums.{sum_by-cons, sum_by-append}
+use Rattle.std.proofs.lemmas.Bool.{true≢false, and_parts}
 use mathlib.Core.Path.{fun_ext}
 use Rattle.pth_base.specs.Table.{put}
 use Rattle.pth_base.specs.declared.act.Act.TheVariants as act
@@ -18,7 +19,6 @@ use Rattle.pth_numbered.specs.Operands.{number}
 use Rattle.pth_port.specs.Mail.{Mail, Message, is_live, messages_of, no_mail, with_port, put_to, sent, got, replied, sent_back, closed_port}
 use Rattle.pth_laws.specs.InOrder.{port_index, reply_index, mail_after, queue, IsOldest, IsInOrderAt, InOrder, one_if, sent_as_reply, sent_to, begins_anew, takes_of, Traffic, arrives_at, traffic_after, left, InOrderAsSent, is_get_of, AreGotNoMoreThanSent}
 use Rattle.pth_laws.specs.Marks.{is_same}
-use Rattle.pth_laws.proofs.Living.{true_false, both}
 use Rattle.pth_laws.proofs.Numbers.{same_number}
 
 -- ---- lists
@@ -32,7 +32,7 @@ none_there true = refl
 none_there false = refl
 
 one_not_there : (b c : Bool) (m : Message) → (b && c) ≡ false → there b (one_if c m) ≡ []
-one_not_there true true m h = absurd (true_false h)
+one_not_there true true m h = absurd (true≢false h)
 one_not_there true false m h = refl
 one_not_there false c m h = refl
 
@@ -103,7 +103,7 @@ module _ (i : ℕ) where
       by_test : (b : Bool) → (is_live q j && may_reply r q) ≡ b → at_port i (if b then sent j (next_message v r q) (record q { made = q.made + 1 }) else q) ≡ at_port i q ++ there (is_live q i) (one_if ((j == i) && may_reply r q) (next_message v r q))
       by_test true h =
           queue_sent j (next_message v r q) (record q { made = q.made + 1 })
-          ∙ ap (λ (b : Bool). at_port i q ++ there (is_live q i) (one_if b (next_message v r q))) (sym (only_if_both (j == i) (may_reply r q) (both (is_live q j) (may_reply r q) h).1))
+          ∙ ap (λ (b : Bool). at_port i q ++ there (is_live q i) (one_if b (next_message v r q))) (sym (only_if_both (j == i) (may_reply r q) (and_parts (is_live q j) (may_reply r q) h).1))
       by_test false h = none_more (at_port i q) _ (one_not_there (is_live q i) ((j == i) && may_reply r q) (next_message v r q) (put_nowhere j q (may_reply r q) h))
 
   queue_replied : (v : ℤ) (o : Option Message) (q : Mail) → at_port i (replied v o q) ≡ at_port i q ++ there (is_live q i) (sent_as_reply i v o)
@@ -165,10 +165,10 @@ module _ (i : ℕ) where
 
   anew : (begins live : Bool) (rest arrives : List Message) → begins ≡ true → [] ≡ after_mark begins live rest arrives
   anew true live rest arrives h = refl
-  anew false live rest arrives h = absurd (true_false (sym h))
+  anew false live rest arrives h = absurd (true≢false (sym h))
 
   goes_on : (begins live : Bool) (rest arrives queue : List Message) → begins ≡ false → queue ≡ rest ++ there live arrives → queue ≡ after_mark begins live rest arrives
-  goes_on true live rest arrives queue h is = absurd (true_false h)
+  goes_on true live rest arrives queue h is = absurd (true≢false h)
   goes_on false true rest arrives queue h is = is
   goes_on false false rest arrives queue h is = is
 
@@ -222,8 +222,8 @@ module _ (i : ℕ) where
     within : x.taken ≤ length x.since
 
   takes_some : (q : Mail) (m : Mark) → takes_of i q m ≡ true → nat_lt 0 (length (at_port i q)) ≡ true
-  takes_some q (mark.Answered t (call.PortGet p) (Msg id v)) takes = (both (port_index p == i) (nat_lt 0 (length (at_port i q))) takes).1
-  takes_some q m takes = absurd (true_false (sym takes))
+  takes_some q (mark.Answered t (call.PortGet p) (Msg id v)) takes = (and_parts (port_index p == i) (nat_lt 0 (length (at_port i q))) takes).1
+  takes_some q m takes = absurd (true≢false (sym takes))
 
   abbrev traffic_by : Mail → Traffic → List Message → (begins takes : Bool) → Traffic
   traffic_by q x arrives begins takes = record { mail = q; since = if begins then [] else x.since ++ arrives; taken = if begins then 0 else (if takes then x.taken + 1 else x.taken); ever = x.ever ++ arrives }
@@ -322,7 +322,7 @@ module _ (p : ℤ) (n : ℕ) where
     where
       by_test : (b : Bool) → (is_same p k && (id.0 == n)) ≡ b → cond b 1 0 + count (if (port_index k == i) && nat_lt 0 (length (at_port i q)) then drop 1 (at_port i q) else at_port i q) ≤ count (at_port i q)
       by_test true is =
-          let parts = both (is_same p k) (id.0 == n) is in
+          let parts = and_parts (is_same p k) (id.0 == n) is in
           let port : port_index k ≡ i = ap port_index (sym (same_number p k parts.0)) in
           let here : (port_index k == i) ≡ true = ap (λ (j : ℕ). j == i) port ∙ same_self i in
           let oldest : IsOldest id.0 v (at_port i q) = subst (λ (j : ℕ). IsOldest id.0 v (at_port j q)) port (h.got_is_oldest t k id v refl) in
@@ -331,7 +331,7 @@ module _ (p : ℤ) (n : ℕ) where
   count_remains q m h = omega arith
 
   anew_gets_none : (q : Mail) (m : Mark) → begins_anew i q m ≡ true → is_get_of p n m ≡ false
-  anew_gets_none q (mark.Answered t (call.PortGet k) (Msg id v)) h = absurd (true_false (sym h))
+  anew_gets_none q (mark.Answered t (call.PortGet k) (Msg id v)) h = absurd (true≢false (sym h))
   anew_gets_none q m h = refl
 
   -- gets are at most as many as went there, without those that wait

@@ -2,6 +2,8 @@
 -- fewer levels of its mutex than it may have.
 use Rattle.std.proofs.Common.{◌≡◌, ◌≢◌, ◌<◌, ◌≤◌, ℕ, zero, suc, ◌+◌, ◌-◌, ◌==◌, ◌&&◌, not, Bool, true, false, if◌then◌else◌, ℤ, pos, Option, Some, None, is_some, is_none, option_map, refl, sym, subst, ◌∙◌, ap, inr, Ok, Err, is_ok, arith}
 use Rattle.std.proofs.lemmas.Bool.Decides.{nat_tests}
+use Rattle.std.proofs.lemmas.Bool.{true≢false, or_parts, or_from}
+use Rattle.std.proofs.lemmas.Option.{none-some}
 use Rattle.pth_base.specs.Program.{Functions}
 use Rattle.pth_base.specs.Table.{put}
 use Rattle.pth_base.specs.declared.act.Act.TheVariants as act
@@ -42,8 +44,7 @@ use Rattle.pth_model.specs.Pass.{looks}
 use Rattle.pth_model.specs.Calls.{blocks}
 use Rattle.pth_model.specs.Run.{run}
 use Rattle.pth_laws.specs.Waits.{WaitsRightly, Names, AllWaitRightly, AsksNoMore, AllAskNoMore}
-use Rattle.pth_laws.proofs.Living.{true_false}
-use Rattle.pth_laws.proofs.Held.{neither, both_not, out_released, out_left, out_only}
+use Rattle.pth_laws.proofs.Held.{out_released, out_left, out_only}
 use Rattle.pth_laws.proofs.Allowed.{IsTaking, IsToTell, MayBegin, MayWait}
 use Rattle.pth_laws.proofs.Along.{KeptAlong, is_placing, run_keeps}
 use Rattle.pth_laws.proofs.Levels.{IsWithin, TakesWithin, told_within, levels_with}
@@ -98,15 +99,15 @@ module _ (u : ℕ) (x : MutexTable) (y : LockTables) where
     mutexes = λ m h. h;
     locks = λ i h. h;
     out = λ i h.
-        let was = neither (is_one u (y.writer i)) (y.reads i u) h in
-        both_not _ _ (put_by (λ o. is_one u o ≡ false) y.writer l (Some t) i (λ here. not_same t u (λ same. apart (sym same))) (λ other. was.0)) was.1;
+        let was = or_parts (is_one u (y.writer i)) (y.reads i u) h in
+        or_from _ _ (put_by (λ o. is_one u o ≡ false) y.writer l (Some t) i (λ here. not_same t u (λ same. apart (sym same))) (λ other. was.0)) was.1;
   }
   stays_taken t false l apart = record {
     mutexes = λ m h. h;
     locks = λ i h. h;
     out = λ i h.
-        let was = neither (is_one u (y.writer i)) (y.reads i u) h in
-        both_not _ _ was.0 (put_by (λ (r : ℕ → Bool). r u ≡ false) y.reads l (put (y.reads l) t true) i
+        let was = or_parts (is_one u (y.writer i)) (y.reads i u) h in
+        or_from _ _ was.0 (put_by (λ (r : ℕ → Bool). r u ≡ false) y.reads l (put (y.reads l) t true) i
         (λ here. put_by (λ (b : Bool). b ≡ false) (y.reads l) t true u (λ same. absurd (apart same)) (λ other. ap (λ (j : ℕ). y.reads j u) (sym here) ∙ was.1))
         (λ other. was.1));
   }
@@ -201,7 +202,7 @@ rightly_stays u k j c stays fewer h = tt
 
 -- by another call than a pth_cond_await, the same is known as it begins to block
 begins_rightly : (k : Resources) (t : ℕ) (c : Call) → is_placing c ≡ false → MayBegin k t c → WaitsRightly k t c
-begins_rightly k t (call.CondAwait c m e) other h = absurd (true_false other)
+begins_rightly k t (call.CondAwait c m e) other h = absurd (true≢false other)
 begins_rightly k t c other h = h
 
 -- no thread has more levels of a mutex than it may have
@@ -226,7 +227,7 @@ let_go_rightly t k c m e levels may = by_test (k.awaits t) may.1
     few = let all = levels t i in omega (arith, all)
 
     by_test : (b : Bool) → b ≡ false → WaitsRightly (if b then k else let_go k t i) t (call.CondAwait c m e)
-    by_test true on = absurd (true_false on)
+    by_test true on = absurd (true≢false on)
     by_test false off =
         let here = put_here k.store.mutexes i (mutex_with t (n - 1)) in
         let less = levels_with t t (n - 1) (n - 1) (λ same. omega arith) in
@@ -236,31 +237,28 @@ abbrev Rightly : Resources → ℕ → Option Blocked → Type 0
 Rightly k t None = Unit {0}
 Rightly k t (Some b) = Names b.call b.awaits × WaitsRightly k t b.call
 
-none_blocked : (b : Blocked) → None ≡ Some b → ⊥
-none_blocked b h = cc
-
 -- ---- what rows ask of it
 
 free_there : (o : Mutex) → is_some o ≡ true → (not (is_none o) && is_none (owner_of o)) ≡ is_none (owner_of o)
-free_there None h = absurd (true_false (sym h))
+free_there None h = absurd (true≢false (sym h))
 free_there (Some o) h = refl
 
 let_in_there : (known lets held : Bool) → known ≡ true → held ≡ false → ((known && lets) && not held) ≡ lets
 let_in_there true true false a b = refl
 let_in_there true false false a b = refl
-let_in_there known lets true a b = absurd (true_false b)
-let_in_there false lets held a b = absurd (true_false (sym a))
+let_in_there known lets true a b = absurd (true≢false b)
+let_in_there false lets held a b = absurd (true≢false (sym a))
 
 -- a mutex of which a thread has not all levels
 takes_there : (t : ℕ) (z : Mutex) → is_some z ≡ true → levels_of t z < level_limit → is_ok (take_answer t z) ≡ not (is_anothers t z)
-takes_there t None h few = absurd (true_false (sym h))
+takes_there t None h few = absurd (true≢false (sym h))
 takes_there t (Some o) h few = by_tests (levels_of t (Some o) == level_limit) (is_anothers t (Some o)) (below (levels_of t (Some o)) level_limit few)
   where
     below : (n limit : ℕ) → n < limit → (n == limit) ≡ false
     below n limit few = grind (arith, nat_tests)
 
     by_tests : (full others : Bool) → full ≡ false → is_ok (if full then Err EAGAIN else (if others then Err EBUSY else Ok (tt {0}))) ≡ not others
-    by_tests true others room = absurd (true_false room)
+    by_tests true others room = absurd (true≢false room)
     by_tests false true room = refl
     by_tests false false room = refl
 
@@ -323,7 +321,7 @@ module _ {P S H : Type 0} where
 
   -- who is blocked enters no lock
   enters_not : (m : Mark) (s : State P S H) (u : ℕ) (b : Blocked) → IsToTell m s → blocked_of s.control u ≡ Some b → EntersNot u m
-  enters_not (mark.Answered t (call.RwAcquire l write v e) (answer.Int n)) s u b may at = λ same. none_blocked b (sym may.free ∙ ap (blocked_of s.control) (sym same) ∙ at)
+  enters_not (mark.Answered t (call.RwAcquire l write v e) (answer.Int n)) s u b may at = λ same. none-some b (sym may.free ∙ ap (blocked_of s.control) (sym same) ∙ at)
   enters_not m s u b may at = tt
 
   -- a mark that takes a mutex is told of one who takes it
@@ -335,7 +333,7 @@ module _ {P S H : Type 0} where
 
   -- who is blocked takes no mutex
   takes_not : (m : Mark) (s : State P S H) (u : ℕ) (b : Blocked) → IsToTell m s → blocked_of s.control u ≡ Some b → TakesWithin u (levels_in u s.resources) s.resources (λ i. omega arith) m
-  takes_not m s u b may at = may_take m s u (levels_in u s.resources) (λ i. omega arith) (λ t i takes same. absurd (none_blocked b (sym takes.free ∙ ap (blocked_of s.control) same ∙ at))) may
+  takes_not m s u b may at = may_take m s u (levels_in u s.resources) (λ i. omega arith) (λ t i takes same. absurd (none-some b (sym takes.free ∙ ap (blocked_of s.control) same ∙ at))) may
 
   rightly_told : (m : Mark) (s : State P S H) → IsToTell m s → AreRightly s → AreRightly (tells m s).state
   rightly_told m s may r u = by_blocked (blocked_of s.control u) refl (r u)

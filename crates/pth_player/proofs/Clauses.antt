@@ -83,9 +83,6 @@ module _ (old new : Scene) (status : ℕ) (w x : Received) where
   abbrev Nothing : Type 0
   Nothing = (status ≡ 2) ⊎ ((status ≡ 3) ⊎ (status ≡ 4))
 
-  not_nothing : Nothing → status ≢ 7
-  not_nothing h e = grind arith
-
   other : (f : Fault) → Reports f status w x → (k : ℕ) → k ≢ fault_status f → k ≢ 7 → status ≡ k → ⊥
   other f = not_status f status w x
 

@@ -1,6 +1,6 @@
 -- What a drive has written of a run.
 use Rattle.std.proofs.Common.{◌≡◌, ◌≢◌, ◌∙◌, ◌+◌, ◌-◌, ◌⊎◌, ◌<◌, ◌≤◌, ℕ, List, [], ◌++◌, Option, Result, Ok, Err, IsErr, IsErrAnd, OnOk, OnErr, ap, ap₂, sym, refl, subst, append-nil, append_assoc, arith, inl, inr, map, min, Bool, true, false, if◌then◌else◌}
-use Rattle.std.proofs.lemmas.Bool.{cases_lt}
+use Rattle.std.proofs.lemmas.Bool.{cases_lt, true≢false}
 use Rattle.std.proofs.KnownBytes.{Appends-nil, Appends-trans}
 use Rattle.std.specs.Io.KnownBytes.{Appends}
 use Rattle.pth_streams.specs.Faults.{CountsSink, Rose}
@@ -31,9 +31,6 @@ use Rattle.pth_player.specs.Transcript.{counts_of, ending_of, last_line, lines_o
 use Rattle.pth_player.proofs.Beginnings.{run_begins, shown_more, text_parts}
 use Rattle.pth_player.proofs.Results.{err_is}
 use Rattle.pth_streams.proofs.Pieces.{none_of, part_is_prefix, part_then, prefix_then}
-
-true_false : true ≡ false → ⊥
-true_false h = cc
 
 -- a fault that comes after none
 rose_later : (a b c : ℕ) → b ≡ a → Rose b c → Rose a c
@@ -180,7 +177,7 @@ module _ {P S H : Type 0} (f : P → Functions S H) (g : Given P) (asked : Asked
     -- the run's output goes on after these lines
     goes_further : (pending : List Mark) (u : Underway m a b pending) → (rest : List ℕ) × (shown_of asked u.done ++ (shown_of asked pending ++ rest) ≡ whole.text)
     goes_further pending u = elim (cases_lt stop.0 u.at) [
-      | inl low ↦ absurd (true_false (sym stop.1.here ∙ u.going stop.0 low))
+      | inl low ↦ absurd (true≢false (sym stop.1.here ∙ u.going stop.0 low))
       | inr high ↦
           let t = run_begins f g asked u.at stop.0 (omega (arith, high)) in
           (t.0, sym (append_assoc (shown_of asked u.done) (shown_of asked pending) t.0) ∙ ap (λ (l : List ℕ). l ++ t.0) (lines_all pending u) ∙ t.1)

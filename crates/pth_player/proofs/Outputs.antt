@@ -1,7 +1,6 @@
 -- What the output is, and that there is one alone.
-use Rattle.std.proofs.Common.{◌≡◌, ◌∙◌, ℕ, true, false, List, Option, Some, None, IfSome, ap, sym, refl, subst, inl, inr}
-use Rattle.std.proofs.lemmas.Bool.{cases_Bool}
-use Rattle.std.specs.Io.KnownBytes.{Appends}
+use Rattle.std.proofs.Common.{◌≡◌, ◌∙◌, ℕ, List, Option, Some, None, ap, sym, refl, subst, inl, inr}
+use Rattle.std.proofs.lemmas.Bool.{cases_Bool, true≢false}
 use Rattle.pth_base.specs.Program.{Functions}
 use Rattle.pth_model.specs.State.{Given}
 use Rattle.pth_model.specs.Run.{run, stops_at}
@@ -13,11 +12,9 @@ use Rattle.pth_text.specs.declared.rule.Breach.{Breach}
 use Rattle.pth_sched.proofs.Stopping.{run_stops}
 use Rattle.pth_script.proofs.Whole.{accepted_or_refused, script_of}
 use Rattle.pth_script.proofs.Once.{not_both, one_script, one_kernel, one_top, same_breach, same_line}
-use Rattle.pth_player.specs.Output.{Output, IsOutput, IsRunOutput, IsScriptOutput, IsTheOutput, IsTheScript, refusal, told_output, upgrade_output}
+use Rattle.pth_player.specs.Output.{Output, IsRunOutput, IsScriptOutput, IsTheOutput, IsTheScript, refusal, told_output, upgrade_output}
 use Rattle.pth_command.specs.CommandLine.{Asked}
-use Rattle.pth_player.specs.Objects.{content, cut}
-use Rattle.pth_player.specs.Play.{IsOutputStatus, TopCall, WritesFault, WritesOutput}
-use Rattle.pth_streams.specs.Pieces.{AppendsPart}
+use Rattle.pth_player.specs.Objects.{cut}
 
 pub run_once : {P S H : Type 0} (f : P → Functions S H) (g : Given P) (asked : Asked) (one two : Output) → IsRunOutput f g asked one → IsRunOutput f g asked two → one ≡ two
 run_once f g asked one two a b = a.2 ∙ ap (λ (k : ℕ). told_output asked (run f g k)) (goes-once (stops_at f g asked.steps) 0 a.0 b.0 a.1 b.1) ∙ sym b.2
@@ -54,15 +51,12 @@ one_given text a b x y = λ i. record {
   top = one_top text a.top b.top x.3 y.3 i;
 }
 
-true_false : true ≡ false → ⊥
-true_false h = cc
-
 -- a script has one output
 one_output : (asked : Asked) (text : List ℕ) (one two : Output) → IsScriptOutput asked text one → IsScriptOutput asked text two → one ≡ two
 one_output asked text one two (inl a) (inl b) =
     run_once functions_of b.1 asked one two (subst (λ (g : Given Sections). IsRunOutput functions_of g asked one) (one_given text a.1 b.1 a.2 b.2) a.3) b.3
-one_output asked text one two (inl a) (inr b) = absurd (true_false (sym b.0 ∙ a.0))
-one_output asked text one two (inr a) (inl b) = absurd (true_false (sym a.0 ∙ b.0))
+one_output asked text one two (inl a) (inr b) = absurd (true≢false (sym b.0 ∙ a.0))
+one_output asked text one two (inr a) (inl b) = absurd (true≢false (sym a.0 ∙ b.0))
 one_output asked text one two (inr a) (inr b) = a.2 ∙ sym b.2
 
 -- and it is that of the input
@@ -93,24 +87,3 @@ output_of (Some asked) bytes = elim (accepted_or_refused (cut bytes)) [
   | inl accepted ↦ let out = script_output_of asked (cut bytes) accepted in (out.0, script_output asked bytes out.0 out.1)
   | inr refused ↦ (refusal (fault.Input refused.0 refused.1), refused_output asked bytes refused.0 refused.1 refused.2)
 ]
-
--- if the content is told, and for every output that it has: this is the status, this text was appended, and this fault's line was written
-pub exactly : (call : TopCall) (bytes : List ℕ) (out : Output) → WritesOutput call → content call.asked call.old ≡ Some bytes → IsOutput call.asked bytes out → IsOutputStatus call.status
-    → (call.status ≡ out.status) × Appends call.old.out.written call.new.out.written out.text × WritesFault call.err_old call.err_new out.fault
-exactly call bytes out writes held is s =
-    let h = writes.whole s in
-    let same : h.0 ≡ bytes = subst (λ (o : Option (List ℕ)). IfSome o (λ xs. h.0 ≡ xs)) held h.1 in
-    let one : out ≡ h.2 = h.3.1 out (subst (λ (b : List ℕ). IsOutput call.asked b out) (sym same) is) in (
-      h.4 ∙ ap (λ (o : Output). o.status) (sym one),
-      subst (λ (o : Output). Appends call.old.out.written call.new.out.written o.text) (sym one) h.5,
-      subst (λ (o : Output). WritesFault call.err_old call.err_new o.fault) (sym one) h.6,
-    )
-
--- and with status 5 a beginning of this text was appended, and not the whole
-pub partly : (call : TopCall) (bytes : List ℕ) (out : Output) → WritesOutput call → content call.asked call.old ≡ Some bytes → IsOutput call.asked bytes out → call.status ≡ 5
-    → AppendsPart call.old.out.written call.new.out.written out.text
-partly call bytes out writes held is s =
-    let h = writes.part s in
-    let same : h.0 ≡ bytes = subst (λ (o : Option (List ℕ)). IfSome o (λ xs. h.0 ≡ xs)) held h.1 in
-    let one : out ≡ h.2 = h.3.1 out (subst (λ (b : List ℕ). IsOutput call.asked b out) (sym same) is) in
-    subst (λ (o : Output). AppendsPart call.old.out.written call.new.out.written o.text) (sym one) h.4

@@ -1,6 +1,6 @@
 -- A piece of a run, made stride by stride.
 use Rattle.std.proofs.Common.{◌≡◌, ◌∙◌, ◌+◌, ◌-◌, ◌<◌, ◌≤◌, ℕ, zero, suc, Bool, true, false, List, ◌++◌, length, ap, sym, refl, arith, inl, inr, length-append}
-use Rattle.std.proofs.lemmas.Bool.{cases_lt}
+use Rattle.std.proofs.lemmas.Bool.{cases_lt, true≢false}
 use Rattle.std.proofs.lemmas.List.{append_cancel_left}
 use Rattle.pth_base.specs.Program.{Functions}
 use Rattle.pth_base.specs.declared.mark.Mark.{Mark}
@@ -13,9 +13,6 @@ use Rattle.pth_sched.proofs.Cutting.{goes_joined}
 use Rattle.pth_player.specs.Drive.{TellsFewer}
 use Rattle.pth_player.proofs.Beginnings.{told_to}
 
-true_false : true ≡ false → ⊥
-true_false h = cc
-
 -- a machine that goes on for n steps and is still running, and then for k steps, goes on for n + k
 pub strides_joined : {P S H : Type 0} (f : P → Functions S H) (m t u : MachineOf P S H) (n k : ℕ) (a b c : List Mark)
     → ((g : Given P) (i : ℕ) → StandsAt f g i m → GoesOn f g (m.turn.steps + n) i t a b) → t.turn.steps ≡ m.turn.steps + n
@@ -27,7 +24,7 @@ strides_joined f m t u n k a b c before made next g i stands =
 
 -- some steps are left while it is not over
 pub still_some : (left : ℕ) (over : Bool) → (left ≡ 0 → over ≡ true) → over ≡ false → 1 ≤ left
-still_some zero over last going = absurd (true_false (sym (last refl) ∙ going))
+still_some zero over last going = absurd (true≢false (sym (last refl) ∙ going))
 still_some (suc n) over last going = omega arith
 
 -- ---- how much was told
@@ -36,7 +33,7 @@ module _ {P S H : Type 0} (f : P → Functions S H) (g : Given P) where
   -- a run to fewer steps stops no later
   stops_before : (to far i j k : ℕ) → to ≤ far → GoesTo f g to i j → GoesTo f g far i k → j ≤ k
   stops_before to far i j k le a b = elim (cases_lt k j) [
-    | inl low ↦ absurd (true_false (sym b.here ∙ stops-later to far (run f g k) le (a.first k b.later low)))
+    | inl low ↦ absurd (true≢false (sym b.here ∙ stops-later to far (run f g k) le (a.first k b.later low)))
     | inr high ↦ high
   ]
 

@@ -63,11 +63,6 @@ module _ (f g : Letters) where
 
 -- ---- one more message, which stands behind the last
 
--- what is queued nowhere here is no part of the line
-pub apart_free : (f : Letters) (p last m k n : ℕ) → (IsQueued p (f m) → ⊥) → IsLine f p last k n → IsApart f m k n
-apart_free f p last m zero n free line = tt
-apart_free f p last m (suc k) n free line = (λ is. free (subst (λ (i : ℕ). IsQueued p (f i)) is line.0), apart_free f p last m k (next_of (f n)) free line.3)
-
 module _ (f g : Letters) (p last m : ℕ) (others : (j : ℕ) → IsQueued p (f j) → j ≢ last → g j ≡ f j) (free : IsQueued p (f m) → ⊥) (here : IsQueued p (g m)) (there : IsQueued p (g last)) (same : message_of last (g last) ≡ message_of last (f last)) (next : next_of (g last) ≡ m) where
   behind : (n : ℕ) → n ≡ last → next_of (g n) ≡ m
   behind n is = ap (λ (i : ℕ). next_of (g i)) is ∙ next

@@ -2,7 +2,7 @@
 use Rattle.std.proofs.Common.{◌≡◌, ◌≢◌, ℕ, ℤ, pos, negsuc, ◌+◌, ◌==◌, Bool, true, false, not, ◌&&◌, ◌||◌, List, [], ◌∷◌, ◌++◌, length, Option, Some, None, IsSome, is_some, IfSome, IfNone, if◌then◌else◌, option_map, Result, Ok, Err, refl, sym, ◌∙◌, ap, ap₂, subst, add-one}
 use Rattle.std.proofs.lemmas.Option.{same_Some}
 use Rattle.pth_base.specs.Table.{put}
-use Rattle.pth_base.proofs.Tables.{put_is, put_by, put_here, put_other, same_means, same_fails, not_same, same_self}
+use Rattle.pth_base.proofs.Tables.{put_is, put_by, put_here, put_other, same_means, same_fails, not_same}
 use Rattle.pth_base.proofs.Lists.{put_none, put_twice}
 use Rattle.pth_base.specs.declared.ids.PortId.{PortId}
 use Rattle.pth_base.specs.declared.errno.Errno.{Errno}
@@ -137,19 +137,6 @@ back_done q closed m apart =
     ap (sent m.reply k) (held_twice q k)
     ∙ sym (ap (λ (b : Bool). if b then without_held m.number q else sent m.reply k (without_held m.number q)) (not_same m.reply closed apart))
 
-pub back_closed : (q : Mail) (closed : ℕ) (m : Message) → m.reply ≡ closed → without_held m.number q ≡ gone_on closed m q
-back_closed q closed m is =
-    let k : Message = record m { reply = 0 } in
-    sym (ap (λ (b : Bool). if b then without_held m.number q else sent m.reply k (without_held m.number q)) (ap (λ (i : ℕ). i == closed) is ∙ same_self closed))
-
--- it ceases where the port for its reply is not live
-pub back_gone : (q : Mail) (closed : ℕ) (m : Message) → is_live q m.reply ≡ false → without_held m.number q ≡ gone_on closed m q
-back_gone q closed m gone = by_test (m.reply == closed)
-  where
-    by_test : (b : Bool) → without_held m.number q ≡ (if b then without_held m.number q else sent m.reply (record m { reply = 0 }) (without_held m.number q))
-    by_test true = refl
-    by_test false = sym (ap (λ (b : Bool). record (without_held m.number q) { at = if b then put q.at m.reply (Some (messages_of (q.at m.reply) ++ (record m { reply = 0 }) ∷ [])) else q.at }) gone)
-
 -- ---- the messages of a port go on, one after another
 
 abbrev Queues : Type 0
@@ -244,7 +231,3 @@ goes_by q r p m (Some (k ∷ ks)) was is none went =
 
 pub goes : (q r : Mail) (p : ℕ) (m : Message) → Some m ≡ first_message (messages_of (q.at p)) → q.kept m.number ≡ None → r ≡ gone_on p m (first_held p (messages_of (q.at p)) q) → Goes q r p
 goes q r p m is none went = goes_by q r p m (q.at p) refl is none went
-
-pub no_first : (ms : List Message) → None ≡ first_message ms → ms ≡ []
-no_first [] none = refl
-no_first (m ∷ ms) none = absurd (cc none)

@@ -154,11 +154,6 @@ module _ (x : PortsOf) (kept : PortsAreKept x) (m : BTreeMap ℕ Port) (ordered 
 
 -- ---- a port comes
 
--- what is the same name
-same_name : (name : List ℕ) (o : Option (List ℕ)) → has_name name o ≡ true → o ≡ Some name
-same_name name (Some other) named = ap Some (sym ((bytes_eq-Decides name other).0 named))
-same_name name None named = absurd (cc named)
-
 module _ (x : PortsOf) (kept : PortsAreKept x) where
   not_found : (o : Option ℕ) → is_some o ≡ false → o ≡ None
   not_found (Some p) none = absurd (cc none)

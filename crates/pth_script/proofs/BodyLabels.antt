@@ -1,5 +1,5 @@
 -- The labels of a body, and what one more line does to the places after them.
-use Rattle.std.proofs.Common.{◌≡◌, ℕ, suc, ◌+◌, ℤ, Bool, true, false, ◌||◌, cond, List, [], ◌∷◌, ◌++◌, length, Option, Some, None, IfSome, is_some, option_map, refl, sym, ◌∙◌, ap, append_assoc, add-one}
+use Rattle.std.proofs.Common.{◌≡◌, ℕ, suc, ◌+◌, ℤ, Bool, true, false, ◌||◌, cond, List, [], ◌∷◌, ◌++◌, length, Option, Some, None, IfSome, is_some, option_map, refl, sym, ◌∙◌, ap, add-one}
 use Rattle.std.specs.Option.{option_or, option_copied}
 use Rattle.std.specs.Borrow.{Bor}
 use Rattle.std.specs.Ordering.{int_cmp, int_eq}
@@ -15,16 +15,6 @@ use Rattle.pth_script.specs.Labels.{somes, label_in, goto_in, one_or_none, label
 use Rattle.pth_script.specs.Bodies.{IsIndexed, Marks}
 
 -- ---- lists of lines
-
-pub labels_append : (xs ys : List Line) → labels_in (xs ++ ys) ≡ labels_in xs ++ labels_in ys
-unfolding labels_in
-labels_append [] ys = refl
-labels_append (l ∷ xs) ys = ap (λ (ns : List ℤ). one_or_none (label_in l) ++ ns) (labels_append xs ys) ∙ sym (append_assoc (one_or_none (label_in l)) (labels_in xs) (labels_in ys))
-
-pub gotos_append : (xs ys : List Line) → gotos_in (xs ++ ys) ≡ gotos_in xs ++ gotos_in ys
-unfolding gotos_in
-gotos_append [] ys = refl
-gotos_append (l ∷ xs) ys = ap (λ (ns : List ℤ). one_or_none (goto_in l) ++ ns) (gotos_append xs ys) ∙ sym (append_assoc (one_or_none (goto_in l)) (gotos_in xs) (gotos_in ys))
 
 -- a test of each label that a `goto` names, line by line
 pub all_gotos : (p : ℤ → Bool) (ls : List Line) → list_all p (gotos_in ls) ≡ list_all (λ l. list_all p (one_or_none (goto_in l))) ls

@@ -1,6 +1,7 @@
 -- What the keyword of a line that was read may be.
 use Rattle.std.proofs.Common.{◌≡◌, ℕ, suc, ℤ, Bool, true, false, cond, List, [], ◌∷◌, ◌++◌, Option, Some, None, refl, ap, sym, subst, ◌∙◌, append-nil}
-use Rattle.std.specs.Prelude.{is_some, option_map, option_and_then, unwrap_or}
+use Rattle.std.specs.Prelude.{is_some, option_map, option_and_then}
+use Rattle.std.proofs.lemmas.Option.{same_Some}
 use Rattle.pth_grammar.specs.CallLines.{call_line}
 use Rattle.pth_spelling.specs.Keywords.{begins, keyword_of}
 use Rattle.pth_grammar.specs.LineMeanings.{numbered, line_of, line_by, plain_line, answered_line, act_of, act_by}
@@ -70,13 +71,10 @@ plain k n l i p a b = record {
 abbrev pub NoLabel : Line → Type 0
 NoLabel l = (label_in l ≡ None) × (goto_in l ≡ None)
 
-from_some : {R : Type 0} (x y : R) → Some x ≡ Some y → x ≡ y
-from_some x y e = ap (λ o. unwrap_or o x) e
-
 -- what holds of each line that is built holds of the line that is read
 module _ {R : Type 0} (P : R → Type 0) where
   by1 : {A : Type 0} (build : A → R) (o : Option A) (l : R) → ((x : A) → P (build x)) → option_map build o ≡ Some l → P l
-  by1 build (Some x) l p e = subst P (from_some (build x) l e) (p x)
+  by1 build (Some x) l p e = subst P (same_Some (build x) l e) (p x)
   by1 build None l p e = absurd (cc)
 
   by_then : {A : Type 0} (next : A → Option R) (o : Option A) (l : R) → ((x : A) → next x ≡ Some l → P l) → option_and_then next o ≡ Some l → P l
@@ -101,7 +99,7 @@ no_label k n l i p h = plain k n l i p h.0 h.1
 
 label_key : (o : Option ℤ) (l : Line) → option_map (λ k. line.Label k) o ≡ Some l → IsLine (Some key.Label) o l
 label_key None l e = absurd (cc)
-label_key (Some k) l e = subst (λ m. IsLine (Some key.Label) (Some k) m) (from_some (line.Label k) l e) (record { inner = inner _ refl refl refl refl refl refl refl; label = λ m e. (refl, e); past = λ s i. record s { lines = suc s.lines; labels = s.labels ++ k ∷ []; gotos = sym (append-nil s.gotos) i } })
+label_key (Some k) l e = subst (λ m. IsLine (Some key.Label) (Some k) m) (same_Some (line.Label k) l e) (record { inner = inner _ refl refl refl refl refl refl refl; label = λ m e. (refl, e); past = λ s i. record s { lines = suc s.lines; labels = s.labels ++ k ∷ []; gotos = sym (append-nil s.gotos) i } })
 
 goto_key : (o : Option ℤ) (ws : List (List ℕ)) (l : Line) → option_and_then (λ k. read3 operand_of relation_of operand_of (λ x r y. line.Goto k 0 x r y) ws) o ≡ Some l → IsLine (Some key.Goto) o l
 goto_key None ws l e = absurd (cc)

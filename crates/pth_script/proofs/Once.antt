@@ -1,6 +1,7 @@
 -- A text has one refusal, or it is accepted and stands for one script.
 use Rattle.std.proofs.Common.{◌≡◌, ◌<◌, ℕ, List, [], ◌∷◌, Option, Some, None, map, refl, ap, sym, ◌∙◌, inl, inr}
 use Rattle.std.proofs.lemmas.Bool.{cases_order}
+use Rattle.std.proofs.lemmas.Option.{same_Some}
 use Rattle.pth_kernel.specs.Kernel.{Kernel, started}
 use Rattle.pth_line.specs.Script.{Sections}
 use Rattle.pth_script.specs.Broken.{broken, IsAccepted, IsRefusal}
@@ -23,11 +24,8 @@ same_line text i j b c r s = elim (cases_order i j) [
   | inr h ↦ elim h [ inl below ↦ absurd (not_below text i j b c r s below) | inr over ↦ absurd (not_below text j i c b s r over) ]
 ]
 
-from_some : (b c : Breach) → Some b ≡ Some c → b ≡ c
-from_some b c e = cc
-
 pub same_breach : (text : List ℕ) (i j : ℕ) (b c : Breach) → IsRefusal text i b → IsRefusal text j c → b ≡ c
-same_breach text i j b c r s = from_some b c (sym r.first ∙ ap (λ k. first_broken (broken text k)) (same_line text i j b c r s) ∙ s.first)
+same_breach text i j b c r s = same_Some b c (sym r.first ∙ ap (λ k. first_broken (broken text k)) (same_line text i j b c r s) ∙ s.first)
 
 pub not_both : (text : List ℕ) (i : ℕ) (b : Breach) → IsAccepted text → IsRefusal text i b → ⊥
 not_both text i b a r = some_not_none (first_broken (broken text i)) b r.first (a i r.from r.within)
@@ -63,13 +61,10 @@ one_script text s t h k = λ i. record {
 
 -- ---- kernels
 
-same_number : (m n : ℕ) → Some m ≡ Some n → m ≡ n
-same_number m n e = cc
-
 pub one_kernel : (text : List ℕ) (k l : Kernel) → IsKernelOf k text → IsKernelOf l text → k ≡ l
 one_kernel text k l h g =
-    let clock = same_number h.0 g.0 (h.3 ∙ sym g.3) in
-    let live = same_number h.1 g.1 (h.4 ∙ sym g.4) in
+    let clock = same_Some h.0 g.0 (h.3 ∙ sym g.3) in
+    let live = same_Some h.1 g.1 (h.4 ∙ sym g.4) in
     let trace = one_list h.2 g.2 (h.5 ∙ sym g.5) in
     h.6 ∙ (λ i. started (clock i) (live i) (trace i)) ∙ sym g.6
 

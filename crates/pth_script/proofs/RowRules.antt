@@ -1,7 +1,7 @@
 -- Which rule a line breaks first, by where it stands.
-use Rattle.std.proofs.Common.{◌≡◌, ◌≤◌, ◌<◌, ◌==◌, ℕ, nat_lt, Bool, true, false, cond, not, ◌||◌, List, [], ◌∷◌, length, Some, None, refl, ap, ◌∙◌, arith}
+use Rattle.std.proofs.Common.{◌≡◌, ◌≤◌, ◌<◌, ◌==◌, Bool, true, false, cond, not, ◌||◌, List, [], ◌∷◌, length, Some, None, refl, ap, ◌∙◌}
 use Rattle.std.specs.Prelude.{is_none}
-use Rattle.std.proofs.lemmas.Bool.Decides.{nat_tests}
+use Rattle.std.proofs.lemmas.Bool.{or_parts, or_from, or_right, le-ltb, lt-ltb, or_left}
 use Rattle.pth_text.specs.LineWords.{words_of}
 use Rattle.pth_text.specs.declared.rule.Rule.TheVariants as rule
 use Rattle.pth_script.specs.TextRows.{TextRow, is_comment, is_version_1, is_version_2, range_said, is_first, is_second, is_heading, above, size_of}
@@ -23,13 +23,9 @@ or_true : (b : Bool) → (b || true) ≡ true
 or_true true = refl
 or_true false = refl
 
-both_false : (a b : Bool) → (a || b) ≡ false → (a ≡ false) × (b ≡ false)
-both_false true b h = absurd (cc)
-both_false false b h = (refl, h)
-
 -- below the heading stand neither its first line nor its second
 outside : (before : List TextRow) → is_heading before ≡ false → (is_first before ≡ false) × (is_second before ≡ false)
-outside before h = both_false (is_first before) (is_second before) h
+outside before h = or_parts (is_first before) (is_second before) h
 
 pub first_row_rule : (before : List TextRow) (row : TextRow) → is_first before ≡ true → first_broken (λ b. row_breaks b before row) ≡ cond (is_long before row) (Some Limit) (cond (not row.ended) (Some (Of rule.Cut)) (cond (not (is_version_1 row || is_version_2 row)) (Some (Of rule.Header)) None))
 unfolding first_broken row_breaks says_wrong
@@ -76,15 +72,8 @@ end_below before h =
 
 -- ---- limits
 
-short_by : (a b : Bool) → a ≡ false → b ≡ false → (a || b) ≡ false
-short_by true b h g = absurd (cc)
-short_by false b h g = g
-
-lt_no : (m n : ℕ) → n ≤ m → nat_lt m n ≡ false
-lt_no m n h = grind (arith, nat_tests)
-
 pub not_long : (before : List TextRow) (row : TextRow) → size_of (row ∷ before) ≤ text_limit → length row.bytes ≤ line_limit → is_long before row ≡ false
-not_long before row s l = short_by _ _ (lt_no _ _ s) (lt_no _ _ l)
+not_long before row s l = or_from _ _ (le-ltb _ _ s) (le-ltb _ _ l)
 
 pub line_limit_is : line_limit ≡ 8192
 unfolding line_limit
@@ -94,19 +83,8 @@ pub text_limit_is : text_limit ≡ 16777216
 unfolding text_limit
 text_limit_is = refl
 
-lt_is : (m n : ℕ) → m < n → nat_lt m n ≡ true
-lt_is m n h = grind (arith, nat_tests)
-
-long_by : (a b : Bool) → b ≡ true → (a || b) ≡ true
-long_by true b h = refl
-long_by false b h = h
-
 pub too_long : (before : List TextRow) (row : TextRow) → line_limit < length row.bytes → is_long before row ≡ true
-too_long before row h = long_by _ _ (lt_is _ _ h)
-
-first_by : (a b : Bool) → b ≡ true → (b || a) ≡ true
-first_by a true h = refl
-first_by a false h = absurd (cc)
+too_long before row h = or_right _ _ (lt-ltb _ _ h)
 
 pub beyond : (before : List TextRow) (row : TextRow) → text_limit < size_of (row ∷ before) → is_long before row ≡ true
-beyond before row h = first_by _ _ (lt_is _ _ h)
+beyond before row h = or_left _ _ (lt-ltb _ _ h)

@@ -1,7 +1,8 @@
 -- A line that breaks no rule, and what it makes of a draft.
 use Rattle.std.proofs.Common.{◌≡◌, ◌<◌, ◌+◌, ℕ, ℤ, true, false, List, [], ◌∷◌, ◌++◌, length, Option, Some, None, refl, ap, sym, subst, ◌∙◌, arith}
-use Rattle.std.specs.Prelude.{nat_le, is_some, IfSome, OnOk, Result, Ok, Err}
+use Rattle.std.specs.Prelude.{nat_le, is_some, IfSome}
 use Rattle.std.proofs.lemmas.Bool.Decides.{nat_tests}
+use Rattle.std.proofs.lemmas.Bool.{true≢false}
 use Rattle.pth_spelling.specs.Keywords.{begins}
 use Rattle.pth_grammar.specs.LineMeanings.{numbered, line_of, act_of, check_of}
 use Rattle.pth_grammar.specs.Shapes.{words_fault}
@@ -29,9 +30,6 @@ below_limit most m n e h = grind (arith, nat_tests)
 not_body : (s : Section) → in_body s ≡ false → s ≡ sec.Body → ⊥
 not_body sec.Body h e = absurd (cc)
 not_body _ h e = absurd (cc)
-
-true_not_false : true ≡ false → ⊥
-true_not_false e = absurd (cc)
 
 few_by : (k : Option Keyword) (s : Seen) → is_end k ≡ false → passes_limit sec.Handler k s ≡ false → s.lines < act_limit
 few_by (Some key.End) s e h = absurd (cc)
@@ -81,19 +79,19 @@ pub record OpensBody (k : Option Keyword) : Type 0 where
 
 opening_by : (k : Keyword) → OpensBody (Some k) → is_some (opening_forms k) ≡ true → k ≡ key.Thread
 opening_by key.Thread o a = refl
-opening_by key.Handler o a = absurd (true_not_false o.handler)
-opening_by key.Check o a = absurd (true_not_false o.check)
-opening_by key.Kernel o a = absurd (true_not_false o.kernel)
+opening_by key.Handler o a = absurd (true≢false o.handler)
+opening_by key.Check o a = absurd (true≢false o.check)
+opening_by key.Kernel o a = absurd (true≢false o.kernel)
 opening_by _ o a = absurd (cc)
 
 later_by : (s : Section) (k : Keyword) → OpensBody (Some k) → is_some (may_open s k) ≡ true → k ≡ key.Thread
 later_by sec.Handlers k o a = opening_by k o a
 later_by sec.Checks key.Thread o a = refl
-later_by sec.Checks key.Check o a = absurd (true_not_false o.check)
-later_by sec.Checks key.Kernel o a = absurd (true_not_false o.kernel)
+later_by sec.Checks key.Check o a = absurd (true≢false o.check)
+later_by sec.Checks key.Kernel o a = absurd (true≢false o.kernel)
 later_by sec.Checks _ o a = absurd (cc)
 later_by sec.Bodies key.Thread o a = refl
-later_by sec.Bodies key.Kernel o a = absurd (true_not_false o.kernel)
+later_by sec.Bodies key.Kernel o a = absurd (true≢false o.kernel)
 later_by sec.Bodies _ o a = absurd (cc)
 later_by sec.Handler k o a = absurd (cc)
 later_by sec.Body k o a = absurd (cc)
@@ -187,9 +185,3 @@ module _ (d : DraftParts) (ws : List (List ℕ)) (kept : IsDraftInOrder d) where
 
     pub check_is_read : begins ws ≡ Some key.Check → check_of ws ≡ None → ⊥
     check_is_read e n = not_none (check_of ws) (check_readable d.section ws none.words e) n
-
--- ---- answers
-
-pub on_ok : {A E : Type 0} {P Q : Type 0} (r : Result A E) → (P → Q) → OnOk r P → OnOk r Q
-on_ok (Ok x) f p = f p
-on_ok (Err e) f p = p

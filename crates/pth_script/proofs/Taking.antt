@@ -1,7 +1,7 @@
 -- What one line more makes of a draft.
 use Rattle.std.proofs.Common.{◌≡◌, ◌≤◌, ◌<◌, ℕ, suc, ◌+◌, true, false, List, [], ◌∷◌, ◌++◌, length, Option, Some, None, refl, ap, sym, ◌∙◌, arith, append_assoc, append-nil, length-append}
 use Rattle.std.specs.Prelude.{map, reverse}
-use Rattle.std.proofs.lemmas.List.{map_push}
+use Rattle.std.proofs.lemmas.List.{map_push, length_push}
 use Rattle.std.proofs.lemmas.List.Elements.{All-append, All-cons, All-nil}
 use Rattle.pth_spelling.specs.Keywords.{begins}
 use Rattle.pth_grammar.specs.LineMeanings.{numbered, line_of, act_of, check_of}
@@ -44,9 +44,6 @@ read_more xs x read e = map_push (λ y. Some y) xs x ∙ ap (λ r. somes xs ++ r
 
 one_more_of : {A : Type 0} (n : ℕ) (xs : List A) (x : A) → n + length (xs ++ x ∷ []) ≡ suc (n + length xs)
 one_more_of n xs x = omega (arith, length-append xs (x ∷ []))
-
-ended : {A : Type 0} (xs : List A) (x : A) → length (xs ++ x ∷ []) ≡ length xs + 1
-ended xs x = length-append xs (x ∷ [])
 
 labels_more : (ls : List Line) (l : Line) → labels_in (ls ++ l ∷ []) ≡ labels_in ls ++ one_or_none (label_in l)
 unfolding labels_in
@@ -93,7 +90,7 @@ module _ (hs : Handlers) (cs : List Check) (bs : Bodies) (acts : List ActLine) (
       let d = draft sec.Handler hs cs bs acts ls kd in
       let none : ls ≡ [] = kept.no_lines refl in
       record {
-        seen = (λ i. record (opened sec.Handlers (seen_of_draft d)) { handlers = ended hs acts i; lines = 0 + length (none i); labels = labels_in (none i); gotos = gotos_in (none i) }) ∙ sym (past_by ws (seen_of_draft d) _ e refl refl);
+        seen = (λ i. record (opened sec.Handlers (seen_of_draft d)) { handlers = length_push hs acts i; lines = 0 + length (none i); labels = labels_in (none i); gotos = gotos_in (none i) }) ∙ sym (past_by ws (seen_of_draft d) _ e refl refl);
         kept = record { no_acts = λ h. refl; no_lines = kept.no_lines; few_acts = omega arith; short_handlers = All-append (λ (t : List ActLine). length t ≤ act_limit) hs (acts ∷ []) kept.short_handlers (All-cons (λ (t : List ActLine). length t ≤ act_limit) acts [] kept.few_acts (All-nil (λ (t : List ActLine). length t ≤ act_limit))); few_handlers = omega (arith, length-append hs (acts ∷ []), kept.few_handlers); few_bodies = kept.few_bodies; no_clock = kept.no_clock; no_entries = kept.no_entries; kernel = kept.kernel };
         makes = λ rest parts m. let past = kernel_past ws rest kd parts (outside_by ws _ e refl refl refl) (kernel_comes d (ws ∷ rest) parts m) in record {
           handlers = ap (λ t. t ++ rest_of_sections is_handler act_of false [] rest) (map_push somes hs acts) ∙ append_assoc (map somes hs) (somes acts ∷ []) (rest_of_sections is_handler act_of false [] rest) ∙ ap (λ t. map somes hs ++ t) (sym (rest_end is_handler act_of (somes acts) ws rest (ap is_end e) (ap is_handler e))) ∙ m.handlers;
@@ -130,7 +127,7 @@ module _ (hs : Handlers) (cs : List Check) (bs : Bodies) (acts : List ActLine) (
       let d = draft sec.Body hs cs bs acts ls kd in
       let none : acts ≡ [] = kept.no_acts refl in
       record {
-        seen = (λ i. record (opened sec.Bodies (seen_of_draft d)) { bodies = ended bs body i; lines = length (none i) + 0 }) ∙ sym (past_by ws (seen_of_draft d) _ e refl refl);
+        seen = (λ i. record (opened sec.Bodies (seen_of_draft d)) { bodies = length_push bs body i; lines = length (none i) + 0 }) ∙ sym (past_by ws (seen_of_draft d) _ e refl refl);
         kept = record { no_acts = kept.no_acts; no_lines = λ h. refl; few_acts = kept.few_acts; short_handlers = kept.short_handlers; few_handlers = kept.few_handlers; few_bodies = omega (arith, length-append bs (body ∷ []), kept.few_bodies); no_clock = kept.no_clock; no_entries = kept.no_entries; kernel = kept.kernel };
         makes = λ rest parts m. let past = kernel_past ws rest kd parts (outside_by ws _ e refl refl refl) (kernel_comes d (ws ∷ rest) parts m) in record {
           handlers = ap (λ t. map somes hs ++ t) (sym (rest_past is_handler act_of (somes acts) (somes acts) ws rest (ap is_handler e))) ∙ m.handlers;
@@ -241,7 +238,7 @@ module _ (hs : Handlers) (cs : List Check) (bs : Bodies) (acts : List ActLine) (
       check_taken c g e =
           let d = draft s hs cs bs acts ls kd in
           record {
-            seen = (λ i. record (seen_in sec.Checks kd i) { checks = ended cs c i }) ∙ sym (ap {A = Seen} (λ t. record t { checks = t.checks + 1 }) (shut sec.Checks)) ∙ sym (past_by ws (seen_of_draft d) _ e refl refl);
+            seen = (λ i. record (seen_in sec.Checks kd i) { checks = length_push cs c i }) ∙ sym (ap {A = Seen} (λ t. record t { checks = t.checks + 1 }) (shut sec.Checks)) ∙ sym (past_by ws (seen_of_draft d) _ e refl refl);
             kept = record { no_acts = λ h. no_acts; no_lines = λ h. no_lines; few_acts = kept.few_acts; short_handlers = kept.short_handlers; few_handlers = few_handlers; few_bodies = few; no_clock = λ h. no_clock; no_entries = λ h. no_entries; kernel = kept.kernel };
             makes = λ rest parts m. let past = kernel_past ws rest kd parts (outside_by ws _ e refl refl refl) (kernel_comes d (ws ∷ rest) parts m) in record {
               handlers = ap (λ t. map somes hs ++ t) (sym (rest_past is_handler act_of (somes acts) (somes acts) ws rest (ap is_handler e))) ∙ ap (λ b. map somes hs ++ rest_of_sections is_handler act_of b (somes acts) (ws ∷ rest)) (sym no_handler) ∙ m.handlers;

@@ -1,8 +1,9 @@
 use Rattle.std.proofs.Common.{◌≡◌, ◌∙◌, ap, sym, subst}
+use Rattle.std.proofs.lemmas.Result.{on_ok_weaker}
 use Rattle.pth_spelling.specs.Texts.{texts}
 use Rattle.pth_script.specs.Drafts.{draft_parts, Takes, handler_closed}
 use Rattle.pth_script.specs.Seen.{is_end}
-use Rattle.pth_script.proofs.Taken.{act_line_taken, handler_end_taken, act_is_read, on_ok}
+use Rattle.pth_script.proofs.Taken.{act_line_taken, handler_end_taken, act_is_read}
 use Rattle.pth_script.proofs.draft.Draft.take_act.Goals as goal
 
 pub returns-then-is_end : goal.returns-then-is_end
@@ -10,7 +11,7 @@ returns-then-is_end c =
     let ws = texts c.args.words.now in
     let d = draft_parts c.args.self.now in
     let e = ap is_end (sym c.begins.ensures) ∙ sym c.is_end.ensures ∙ c.if-is_end.true in
-    on_ok c.close_handler.result (λ (h : draft_parts c.close_handler.new.self ≡ handler_closed d). subst (λ p. Takes d p ws) (sym h) (handler_end_taken d ws c.requires.kept c.requires.section e)) c.close_handler.ensures
+    on_ok_weaker c.close_handler.result (λ (h : draft_parts c.close_handler.new.self ≡ handler_closed d). subst (λ p. Takes d p ws) (sym h) (handler_end_taken d ws c.requires.kept c.requires.section e)) c.close_handler.ensures
 
 pub returns-in_ok-push : goal.returns-in_ok-push
 returns-in_ok-push c =

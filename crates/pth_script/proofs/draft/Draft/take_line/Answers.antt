@@ -1,8 +1,9 @@
 use Rattle.std.proofs.Common.{◌∙◌, ap, sym, subst}
+use Rattle.std.proofs.lemmas.Result.{on_ok_weaker}
 use Rattle.pth_spelling.specs.Texts.{texts}
 use Rattle.pth_script.specs.Drafts.{draft_parts, Takes, IsClosed}
 use Rattle.pth_script.specs.Seen.{is_end}
-use Rattle.pth_script.proofs.Taken.{body_line_taken, body_end_taken, line_is_read, new_label, on_ok}
+use Rattle.pth_script.proofs.Taken.{body_line_taken, body_end_taken, line_is_read, new_label}
 use Rattle.pth_script.proofs.draft.Draft.take_line.Goals as goal
 
 pub returns-then-is_end : goal.returns-then-is_end
@@ -10,7 +11,7 @@ returns-then-is_end c =
     let ws = texts c.args.words.now in
     let d = draft_parts c.args.self.now in
     let e = ap is_end (sym c.begins.ensures) ∙ sym c.is_end.ensures ∙ c.if-is_end.true in
-    on_ok c.close_body.result (λ (h : IsClosed d (draft_parts c.close_body.new.self)). body_end_taken d ws c.requires.kept c.requires.section (draft_parts c.close_body.new.self) h e) c.close_body.ensures
+    on_ok_weaker c.close_body.result (λ (h : IsClosed d (draft_parts c.close_body.new.self)). body_end_taken d ws c.requires.kept c.requires.section (draft_parts c.close_body.new.self) h e) c.close_body.ensures
 
 pub push-requires : goal.push-requires
 push-requires c = new_label (draft_parts c.args.self.now) (texts c.args.words.now) c.requires.kept c.requires.section c.in-Some.line c.requires.fine (sym c.in_ok-line.ensures ∙ c.in-Some.is)
